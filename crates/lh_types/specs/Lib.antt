@@ -1,0 +1,9 @@
+pub mod Types
+pub mod TypeOf
+pub mod TypeSize
+pub mod Same
+pub mod Kind
+pub mod Faults
+pub mod Values
+pub mod ValueOf
+pub mod ValueSize

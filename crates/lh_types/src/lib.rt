@@ -1,0 +1,7 @@
+//! Types, values, bits and operations of the language, and the lists that every layer uses.
+#![tactic(auto)]
+
+pub mod list;
+pub mod op;
+pub mod ty;
+pub mod val;

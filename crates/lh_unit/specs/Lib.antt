@@ -1,0 +1,4 @@
+pub mod Names
+pub mod UnitNames
+pub mod Contents
+pub mod Lexemes

@@ -1,0 +1,6 @@
+//! Units and instructions: names, instructions by ids, tokens, and what a file means.
+#![tactic(auto)]
+
+pub mod inst;
+pub mod name;
+pub mod token;
