@@ -2,3 +2,4 @@ pub mod Names
 pub mod UnitNames
 pub mod Contents
 pub mod Lexemes
+pub mod Tokens
