@@ -3,3 +3,8 @@ pub mod UnitNames
 pub mod Contents
 pub mod Lexemes
 pub mod Tokens
+pub mod Marks
+pub mod Pieces
+pub mod CanonTypes
+pub mod CanonWords
+pub mod Canon
