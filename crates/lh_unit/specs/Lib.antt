@@ -2,3 +2,11 @@ pub mod Names
 pub mod UnitNames
 pub mod Contents
 pub mod Lexemes
+pub mod Table
+pub mod TableCalls
+pub mod TableOf
+pub mod Within
+pub mod Naming
+pub mod Arena
+pub mod ArenaOf
+pub mod Builders
