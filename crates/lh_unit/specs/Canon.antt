@@ -5,8 +5,8 @@ use Rattle.lh_types.specs.declared.op.Op.{Op}
 use Rattle.lh_types.specs.declared.op.Op.TheVariants as op
 use Rattle.lh_unit.specs.Contents.{OperandText, TriggerText, EdgeText, InstText, LineText, BlockText, ArgText, UnitText, ItemText, const_text, pure_text, var_text, ld_text, st_text, sig_text, prb_text, drv_text, reg_text, child_text, call_text, phi_text, br_text, branch_text, wait_text, halt_text, ret_text, unit_text, declare_text}
 use Rattle.lh_unit.specs.Lexemes.{word, global, local, arrow}
-use Rattle.lh_unit.specs.Marks.{open_brace, close_brace, colon, equals, comma}
-use Rattle.lh_unit.specs.Pieces.{Piece, token, space, render, ◌␣◌, ◌⸴◌, commas, mark, keyword, number, percent, in_parens, in_brackets, in_braces}
+use Rattle.lh_unit.specs.Marks.{open_brace, close_brace, colon, equals}
+use Rattle.lh_unit.specs.Pieces.{Piece, token, space, render, ◌␣◌, ◌⸴◌, commas, behind_commas, mark, keyword, number, percent, in_parens, in_brackets, in_braces}
 use Rattle.lh_unit.specs.CanonTypes.{type_pieces, row_pieces, const_pieces}
 use Rattle.lh_unit.specs.CanonWords.{op_word, op_numbers, mode_word}
 use Rattle.lh_unit.specs.declared.name.UnitName.{UnitName}
@@ -43,11 +43,6 @@ trigger t = in_brackets (percent t.value ⸴ token (word (mode_word t.mode)) ∷
 abbrev pub edge : EdgeText → List Piece
 edge e = in_brackets (percent e.value ⸴ percent e.block)
 
--- , %s for each signal
-abbrev pub sensed : List (List ℕ) → List Piece
-sensed [] = []
-sensed (s ∷ more) = token comma ∷ space ∷ token (local s) ∷ sensed more
-
 abbrev pub operation : Op → List OperandText → List Piece
 -- [D %a, %b]
 operation op.Array args = in_brackets (operands args)
@@ -56,7 +51,7 @@ operation (op.Repeat n) args = in_brackets (number n ␣ keyword "x" ␣ operand
 -- {D1 %a, D2 %b}
 operation op.Tuple args = in_braces (operands args)
 -- op D %a, %b, k
-operation o args = token (word (op_word o)) ∷ [] ␣ commas (map operand args ++ map number (op_numbers o))
+operation o args = token (word (op_word o)) ∷ [] ␣ operands args ++ behind_commas (map number (op_numbers o))
 
 -- an instruction
 abbrev pub inst_pieces : InstText → List Piece
@@ -77,7 +72,7 @@ inst_pieces (prb_text s) = keyword "prb" ␣ operand s
 -- drv S %s, %v after %d if %c
 inst_pieces (drv_text s v d c) = keyword "drv" ␣ operand s ⸴ percent v ␣ keyword "after" ␣ percent d ++ maybe (codes "if") c
 -- reg S %q, [%v, mode %t if %g after %d]
-inst_pieces (reg_text q ts) = keyword "reg" ␣ commas (operand q ∷ map trigger ts)
+inst_pieces (reg_text q ts) = keyword "reg" ␣ operand q ++ behind_commas (map trigger ts)
 -- inst @u (?%a) -> (?%b)
 inst_pieces (child_text u a b) = keyword "inst" ␣ unit_name_pieces u ␣ in_parens (operands a) ␣ mark arrow ␣ in_parens (operands b)
 -- call R @f (?%a)
@@ -89,7 +84,7 @@ inst_pieces (br_text b) = keyword "br" ␣ percent b
 -- br %c, %f, %t
 inst_pieces (branch_text c f t) = keyword "br" ␣ percent c ⸴ percent f ⸴ percent t
 -- wait %b for %d, %s1, %s2
-inst_pieces (wait_text b d ss) = keyword "wait" ␣ percent b ++ maybe (codes "for") d ++ sensed ss
+inst_pieces (wait_text b d ss) = keyword "wait" ␣ percent b ++ maybe (codes "for") d ++ behind_commas (map percent ss)
 -- halt
 inst_pieces halt_text = keyword "halt"
 -- ret

@@ -3,8 +3,8 @@ use Rattle.std.specs.Prelude.{ℕ, ◌%◌, ◌/◌, nat_eq, List, [], ◌∷◌
 use Rattle.lh_types.specs.Types.{TypeTree, TypeRow, int_type, time_type, void_type, array_type, tuple_type, signal_type, pointer_type, no_types, more_types}
 use Rattle.lh_types.specs.Values.{Datum, int_value, time_value, array_value, tuple_value}
 use Rattle.lh_unit.specs.Lexemes.{word}
-use Rattle.lh_unit.specs.Marks.{dollar, star}
-use Rattle.lh_unit.specs.Pieces.{Piece, token, space, ◌␣◌, ◌⸴◌, mark, keyword, number, in_brackets, in_braces}
+use Rattle.lh_unit.specs.Marks.{comma, dollar, star}
+use Rattle.lh_unit.specs.Pieces.{Piece, token, space, ◌␣◌, mark, keyword, number, in_brackets, in_braces}
 
 abbrev mutual
   -- a type
@@ -27,8 +27,12 @@ abbrev mutual
   -- the types of a row by comma
   pub row_pieces : TypeRow → List Piece
   row_pieces no_types = []
-  row_pieces (more_types t no_types) = type_pieces t
-  row_pieces (more_types t (more_types u r)) = type_pieces t ⸴ row_pieces (more_types u r)
+  row_pieces (more_types t r) = type_pieces t ++ row_behind r
+
+  -- a comma and one space before each type of a row
+  pub row_behind : TypeRow → List Piece
+  row_behind no_types = []
+  row_behind (more_types t r) = token comma ∷ space ∷ type_pieces t ++ row_behind r
 
 -- a number of femtoseconds, in the largest unit in which it is whole
 abbrev pub time_text : ℕ → List ℕ

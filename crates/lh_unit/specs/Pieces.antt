@@ -66,11 +66,15 @@ infixr 60 ◌⸴◌
 abbrev pub ◌⸴◌ : List Piece → List Piece → List Piece
 a ⸴ b = a ++ token comma ∷ space ∷ b
 
--- the parts of a list by comma
+-- a comma and one space before each part
+abbrev pub behind_commas : List (List Piece) → List Piece
+behind_commas [] = []
+behind_commas (a ∷ more) = token comma ∷ space ∷ a ++ behind_commas more
+
+-- the parts of a list, with a comma and one space between them
 abbrev pub commas : List (List Piece) → List Piece
 commas [] = []
-commas (a ∷ []) = a
-commas (a ∷ b ∷ more) = a ⸴ commas (b ∷ more)
+commas (a ∷ more) = a ++ behind_commas more
 
 abbrev pub mark : Lexeme → List Piece
 mark t = token t ∷ []
