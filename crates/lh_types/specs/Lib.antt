@@ -7,3 +7,7 @@ pub mod Faults
 pub mod Values
 pub mod ValueOf
 pub mod ValueSize
+pub mod Bits
+pub mod Apply
+pub mod Wish
+pub mod History

@@ -3,5 +3,6 @@
 
 pub mod list;
 pub mod op;
+pub mod part;
 pub mod ty;
 pub mod val;
