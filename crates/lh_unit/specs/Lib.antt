@@ -2,3 +2,12 @@ pub mod Names
 pub mod UnitNames
 pub mod Contents
 pub mod Lexemes
+pub mod Held
+pub mod Typing
+pub mod Effects
+pub mod Activation
+pub mod Hierarchy
+pub mod Pass
+pub mod Design
+pub mod World
+pub mod Trace
