@@ -11,3 +11,4 @@ pub mod Pass
 pub mod Design
 pub mod World
 pub mod Trace
+pub mod Laws

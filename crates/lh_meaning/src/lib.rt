@@ -1,0 +1,10 @@
+//! Laws on what a file means: each is the contract of a function that does nothing.
+#![tactic(auto)]
+
+ghost use Rattle.lh_unit.specs.Laws.{OneActivation};
+
+/// There is at most one activation.
+pub fn one_activation()
+    ensures { OneActivation }
+{
+}
