@@ -1,2 +1,4 @@
 pub mod Samples
 pub mod SampleTraces
+pub mod Instants
+pub mod Activations
