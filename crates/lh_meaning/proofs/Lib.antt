@@ -1,5 +1,6 @@
 pub mod Samples
 pub mod SampleTraces
 pub mod Instants
-pub mod Activations
+pub mod ActivationsLaw
 pub mod Late
+pub mod ValuesLaw

@@ -1,7 +1,7 @@
 //! Laws on what a file means: each is the contract of a function that does nothing.
 #![tactic(auto)]
 
-ghost use Rattle.lh_unit.specs.Laws.{OneActivation};
+ghost use Rattle.lh_meaning.specs.Activations.{OneActivation};
 
 /// There is at most one activation.
 pub fn one_activation()

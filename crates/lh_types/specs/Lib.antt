@@ -8,6 +8,8 @@ pub mod Values
 pub mod ValueOf
 pub mod ValueSize
 pub mod Bits
+pub mod Parts
+pub mod ApplyInt
 pub mod Apply
 pub mod Wish
 pub mod History

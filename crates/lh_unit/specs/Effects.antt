@@ -6,7 +6,8 @@ use Rattle.lh_time.specs.declared.Delay.{Delay}
 use Rattle.lh_time.specs.Due.{due_of}
 use Rattle.lh_types.specs.Types.{TypeTree, signal_type}
 use Rattle.lh_types.specs.Values.{Datum}
-use Rattle.lh_types.specs.Bits.{value_bits, value_from_bits, range_of}
+use Rattle.lh_types.specs.Bits.{value_bits, value_from_bits}
+use Rattle.lh_types.specs.Parts.{range_of}
 use Rattle.lh_types.specs.Apply.{apply}
 use Rattle.lh_types.specs.Wish.{Wish, with_drive}
 use Rattle.lh_types.specs.declared.op.Op.{Op}

@@ -11,4 +11,3 @@ pub mod Pass
 pub mod Design
 pub mod World
 pub mod Trace
-pub mod Laws

@@ -1,4 +1,4 @@
--- What holds of the definitions.
+-- An activation is what its computing form finds, and there is at most one.
 use Rattle.std.specs.Prelude.{◌≡◌, ◌↔◌, ℕ, Option, Some, None}
 use Rattle.lh_unit.specs.Contents.{UnitText}
 use Rattle.lh_unit.specs.Activation.{Scene, ProcessState, Activated, IsActivation, activate}

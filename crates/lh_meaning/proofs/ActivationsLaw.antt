@@ -3,7 +3,7 @@ use Rattle.std.proofs.Common.{◌≡◌, ◌↔◌, ℕ, zero, suc, ◌+◌, ◌
 use Rattle.std.specs.Option.{option_and_then}
 use Rattle.lh_unit.specs.Contents.{UnitText}
 use Rattle.lh_unit.specs.Activation.{Scene, Control, Point, Next, goes, ends, no_step, Activated, ProcessState, step, went, run, control_at, start_point, activate, LeadsTo, IsActivation}
-use Rattle.lh_unit.specs.Laws.{ActivationComputes, RunawayComputes, OneActivation}
+use Rattle.lh_meaning.specs.Activations.{ActivationComputes, RunawayComputes, OneActivation}
 
 module _ (s : Scene) where
   -- fewer than n points lead from p to the end
