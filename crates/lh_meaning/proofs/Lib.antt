@@ -4,3 +4,5 @@ pub mod Instants
 pub mod ActivationsLaw
 pub mod Late
 pub mod ValuesLaw
+pub mod Simulation
+pub mod Worlds
