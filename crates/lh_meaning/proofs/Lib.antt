@@ -6,3 +6,5 @@ pub mod Late
 pub mod ValuesLaw
 pub mod Simulation
 pub mod Worlds
+pub mod Widths
+pub mod ReplacingLaw

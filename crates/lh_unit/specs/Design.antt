@@ -153,12 +153,16 @@ abbrev pub top_signals : List ArgText → List SignalText
 top_signals [] = []
 top_signals (a ∷ more) = record { name = a.name; ty = carried_type a.ty; initial = zeros (carried_type a.ty) } ∷ top_signals more
 
+-- no instance yet, and the top's own arguments as signals
+abbrev pub only_signals : List SignalText → Design
+only_signals ss = record { instances = []; signals = numbered 0 0 ss; init = initial_bits ss }
+
 -- the design of a top: its own arguments are the first signals
 unfoldable pub design_of : (depth : ℕ) → List Entry → (top : UnitName) → Design
-design_of zero table top = record { instances = []; signals = []; init = [] }
+design_of zero table top = only_signals []
 design_of (suc k) table top =
     visited (visit k table) None top (hierarchy_in table top) (signal_ranges 0 (top_signals (hierarchy_in table top).args))
-      (record { instances = []; signals = numbered 0 0 (top_signals (hierarchy_in table top).args); init = initial_bits (top_signals (hierarchy_in table top).args) })
+      (only_signals (top_signals (hierarchy_in table top).args))
 
 -- the first of the refusals, in their order
 abbrev pub refusal_by : (function : Bool) → (cycle : Option UnitName) → (deep instances bits : Bool) → Option Refusal
