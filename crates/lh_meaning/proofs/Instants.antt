@@ -2,9 +2,9 @@
 use Rattle.std.proofs.Common.{◌≡◌, ℕ, ◌+◌, ◌^◌, Bool, true, false, not, nat_lt, nat_eq, if◌then◌else◌, refl, ap, sym, ◌∙◌, Option, Some, None, IfSome, arith}
 use Rattle.std.specs.declared.cmp.Ordering.{Ordering}
 use Rattle.std.specs.declared.cmp.Ordering.TheVariants.{Less, Equal, Greater}
-use Rattle.std.specs.Ordering.{is_lt, is_le, ordering_then, ordering_reverse, nat_cmp}
+use Rattle.std.specs.Ordering.{is_lt, is_le, is_gt, ordering_then, ordering_reverse, nat_cmp}
 use Rattle.std.specs.Cmp.{IsTotalOrder}
-use Rattle.std.proofs.lemmas.Cmp.{then_total, on_total, nat_cmp_total, tied_itself}
+use Rattle.std.proofs.lemmas.Cmp.{then_total, on_total, nat_cmp_total, tied_itself, upto}
 use Rattle.std.proofs.lemmas.Bool.Decides.{nat_tests}
 use Rattle.lh_time.specs.declared.Instant.{Instant}
 use Rattle.lh_time.specs.declared.Delay.{Delay}
@@ -54,3 +54,34 @@ due_later t d = by_fs (nat_lt 0 d.fs) refl
     by_fs : (b : Bool) → nat_lt 0 d.fs ≡ b → IfSome (if b then if_fits (t.fs + d.fs) (instant (t.fs + d.fs) d.delta d.eps) else (if nat_lt 0 d.delta then if_fits (t.delta + d.delta) (instant t.fs (t.delta + d.delta) d.eps) else (if nat_lt 0 d.eps then if_fits (t.eps + d.eps) (instant t.fs t.delta (t.eps + d.eps)) else if_fits (t.delta + 1) (instant t.fs (t.delta + 1) 0)))) (λ u. instant_lt t u ≡ true)
     by_fs true h = fits_later _ t _ (rw (cmp_add t.fs d.fs h) refl)
     by_fs false h = at_delta (nat_lt 0 d.delta) refl
+
+le_of : (o : Ordering) → is_gt o ≡ false → is_le o ≡ true
+le_of Less h = refl
+le_of Equal h = refl
+le_of Greater h = cc
+
+not_gt_of : (o : Ordering) → is_le o ≡ true → is_gt o ≡ false
+not_gt_of Less h = refl
+not_gt_of Equal h = refl
+not_gt_of Greater h = cc
+
+lt_is_le : (o : Ordering) → is_lt o ≡ true → is_le o ≡ true
+lt_is_le Less h = refl
+lt_is_le Equal h = cc
+lt_is_le Greater h = cc
+
+pub le_self : (a : Instant) → instant_le a a ≡ true
+le_self a = ap is_le (tied_itself instant_total a)
+
+pub le_trans : (a b c : Instant) → instant_le a b ≡ true → instant_le b c ≡ true → instant_le a c ≡ true
+le_trans a b c h k = le_of (instant_cmp a c) (upto instant_total a b c (not_gt_of (instant_cmp a b) h) (not_gt_of (instant_cmp b c) k))
+
+pub lt_le : (a b : Instant) → instant_lt a b ≡ true → instant_le a b ≡ true
+lt_le a b h = lt_is_le (instant_cmp a b) h
+
+back : (b : Bool) → not b ≡ false → b ≡ true
+back true h = refl
+back false h = cc
+
+pub not_lt_le : (a b : Instant) → instant_lt b a ≡ false → instant_le a b ≡ true
+not_lt_le a b h = back (instant_le a b) (sym (lt_not_le b a) ∙ h)

@@ -8,3 +8,5 @@ pub mod Simulation
 pub mod Worlds
 pub mod Widths
 pub mod ReplacingLaw
+pub mod NextLaw
+pub mod TraceLaw

@@ -1,3 +1,4 @@
 pub mod Activations
 pub mod Values
 pub mod Replacing
+pub mod Frames

@@ -1,13 +1,13 @@
 -- A frame: who is woken, what each instance does, the next world, and the next instant.
-use Rattle.std.specs.Prelude.{ℕ, zero, suc, ◌+◌, List, [], ◌∷◌, ◌++◌, map, unwrap_or, slice_get, Bool, true, false, not, ◌&&◌, ◌||◌, Option, Some, None, if◌then◌else◌}
+use Rattle.std.specs.Prelude.{ℕ, zero, suc, ◌+◌, List, [], ◌∷◌, ◌++◌, map, unwrap_or, slice_get, Bool, true, false, not, ◌&&◌, ◌||◌, Option, Some, None, if◌then◌else◌, ◌≡◌, ◌⊎◌}
 use Rattle.std.specs.Option.{option_map_or}
 use Rattle.std.specs.List.{list_any}
 use Rattle.std.specs.Ordering.{is_eq}
 use Rattle.lh_time.specs.declared.Instant.{Instant}
-use Rattle.lh_time.specs.Order.{instant_cmp}
+use Rattle.lh_time.specs.Order.{instant_cmp, instant_lt, instant_le}
 use Rattle.lh_time.specs.Due.{instant}
 use Rattle.lh_types.specs.Wish.{Wish, no_wish}
-use Rattle.lh_types.specs.History.{Made, claims, bits_at, sooner, if_later, soonest_due}
+use Rattle.lh_types.specs.History.{Made, Claim, claims, bits_at, sooner, if_later, soonest_due}
 use Rattle.lh_types.specs.declared.part.Range.{Range}
 use Rattle.lh_unit.specs.declared.name.UnitName.{UnitName}
 use Rattle.lh_unit.specs.declared.inst.UnitKind.{UnitKind}
@@ -176,12 +176,31 @@ world_after w t done = record { init = w.init; last = Some t; states = afters do
 abbrev pub next_world : (bound : ℕ) → List ItemText → Design → World → Instant → World
 next_world bound items d w t = world_after w t (acts bound items d w t)
 
+-- a wish is due at this instant
+abbrev pub IsDueIn : List Claim → Instant → Type 0
+IsDueIn [] u = ⊥
+IsDueIn (c ∷ more) u = (c.due ≡ u) ⊎ IsDueIn more u
+
+-- an instance wakes by itself at this instant
+abbrev pub WakesIn : List State → Instant → Type 0
+WakesIn [] u = ⊥
+WakesIn (s ∷ more) u = (wake_of s ≡ Some u) ⊎ WakesIn more u
+
+-- it is later than `t`, and a wish is due or a process wakes
+abbrev pub ComesAfter : Instant → List Made → List State → Instant → Type 0
+ComesAfter t history states u = (instant_lt t u ≡ true) × (IsDueIn (claims history) u ⊎ WakesIn states u)
+
+-- The next instant after `t`: the least that comes, and none where none comes.
+abbrev pub IsNext : Instant → List Made → List State → Option Instant → Type 0
+IsNext t history states None = (u : Instant) → ¬ ComesAfter t history states u
+IsNext t history states (Some u) = ComesAfter t history states u × ((v : Instant) → ComesAfter t history states v → instant_le u v ≡ true)
+
 -- the soonest wake time after `t`
 abbrev pub soonest_wake : Instant → List State → Option Instant
 soonest_wake t [] = None
 soonest_wake t (s ∷ more) = sooner (if_later t (wake_of s)) (soonest_wake t more)
 
--- The next instant: the first one, or the least due instant or wake time after the last frame.
+-- The same, computed; before the first frame it is the first instant.
 abbrev pub instant_after : Option Instant → List Made → List State → Option Instant
 instant_after None history states = Some (instant 0 0 0)
 instant_after (Some t) history states = sooner (soonest_due t (claims history)) (soonest_wake t states)
