@@ -6,10 +6,11 @@ use Rattle.lh_unit.specs.declared.inst.UnitKind.{UnitKind}
 use Rattle.lh_unit.specs.declared.inst.UnitKind.TheVariants as kind
 use Rattle.lh_unit.specs.UnitNames.{same_unit_name}
 use Rattle.lh_unit.specs.Contents.{UnitText, ItemText, unit_text, declare_text, new_unit}
-use Rattle.lh_unit.specs.Activation.{is_function, functions}
+use Rattle.lh_unit.specs.Named.{is_function, unit_named}
+use Rattle.lh_unit.specs.Activation.{functions}
 use Rattle.lh_unit.specs.Hierarchy.{Instance, Hierarchy, Entry, hierarchy_by, hierarchy_of, hierarchies, hierarchy_named}
 use Rattle.lh_unit.specs.Design.{Design, Elaborated, refused, built, hierarchy_or, hierarchy_in, elab_of}
-use Rattle.lh_unit.specs.World.{State, start_by, start, wake_of, Rules, rules_of, unit_named, unit_of, starts, first_world}
+use Rattle.lh_unit.specs.World.{State, start_by, start, wake_of, Rules, rules_of, unit_of, starts, first_world}
 use Rattle.lh_unit.specs.Trace.{ran, shown_from, trace_by}
 use Rattle.lh_meaning.specs.Replacing.{Seen, answers, answers_to, HasWidths, MayStand, Replaced, ReplacedSameTrace}
 use Rattle.lh_meaning.proofs.Simulation.{Alike}

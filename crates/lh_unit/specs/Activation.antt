@@ -12,6 +12,7 @@ use Rattle.lh_unit.specs.declared.inst.UnitKind.{UnitKind}
 use Rattle.lh_unit.specs.declared.inst.UnitKind.TheVariants as kind
 use Rattle.lh_unit.specs.UnitNames.{same_unit_name}
 use Rattle.lh_unit.specs.Contents.{OperandText, EdgeText, InstText, const_text, pure_text, var_text, ld_text, st_text, sig_text, prb_text, drv_text, reg_text, child_text, call_text, phi_text, br_text, branch_text, wait_text, halt_text, ret_text, LineText, BlockText, ArgText, UnitText, ItemText, unit_text, declare_text, is_result_name, same_name}
+use Rattle.lh_unit.specs.Named.{block_of, function_named, is_assert, is_function, label_or}
 use Rattle.lh_unit.specs.Held.{Held, datum_held, cell_held, part_held, Env, nothing_held, with_held, with_result, with_args, data_at, datum_at, delay_at, cell_at, parts_at, test_at}
 use Rattle.lh_unit.specs.Effects.{operated, probed, driven}
 
@@ -63,11 +64,6 @@ pub data Next : Type 0 where
   ends : Activated → Next
   no_step : Next
 
--- the block of this label
-abbrev pub block_of : List ℕ → List BlockText → Option BlockText
-block_of n [] = None
-block_of n (b ∷ more) = if is_result_name n b.label then Some b else block_of n more
-
 -- the operand that a `phi` names for an edge from this block
 abbrev pub edge_from : List ℕ → List EdgeText → Option (List ℕ)
 edge_from block [] = None
@@ -91,10 +87,6 @@ abbrev pub entered : UnitText → Env → (from to : List ℕ) → Option Contro
 entered u e from to =
     option_and_then (λ b. option_map (λ e'. record { unit = u; block = to; rest = b.lines; held = e' }) (phis_taken from e b.lines)) (block_of to u.blocks)
 
-abbrev pub label_or : Option (List ℕ) → List ℕ
-label_or None = []
-label_or (Some n) = n
-
 abbrev pub at_first : UnitText → Env → List BlockText → Option Control
 at_first u e [] = None
 at_first u e (b ∷ more) = Some (record { unit = u; block = label_or b.label; rest = b.lines; held = e })
@@ -102,15 +94,6 @@ at_first u e (b ∷ more) = Some (record { unit = u; block = label_or b.label; r
 -- the entry block of a unit
 abbrev pub entry : UnitText → Env → Option Control
 entry u e = at_first u e u.blocks
-
--- the function of this name
-abbrev pub function_named : UnitName → List UnitText → Option UnitText
-function_named n [] = None
-function_named n (u ∷ more) = if same_unit_name u.name n then Some u else function_named n more
-
--- `@llhd.assert`
-abbrev pub is_assert : UnitName → Bool
-is_assert n = nat_eq n.sigil 64 && same_name n.name (codes "llhd.assert")
 
 -- at most this many calls are open at any time
 abbrev pub max_calls : ℕ
@@ -260,10 +243,6 @@ run (suc n) s p = went (step s p) (run n s)
 
 unfoldable pub activate : (bound : ℕ) → Scene → UnitText → ProcessState → Option Activated
 activate bound s u p = option_and_then (λ c. run bound s (start_point c)) (control_at u p)
-
-abbrev pub is_function : UnitKind → Bool
-is_function kind.Func = true
-is_function _ = false
 
 -- the functions of a module
 abbrev pub functions : List ItemText → List UnitText

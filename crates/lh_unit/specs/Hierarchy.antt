@@ -12,7 +12,7 @@ use Rattle.lh_unit.specs.UnitNames.{same_unit_name}
 use Rattle.lh_unit.specs.Contents.{OperandText, InstText, const_text, pure_text, sig_text, child_text, prb_text, LineText, BlockText, ArgText, UnitText, ItemText, unit_text, declare_text}
 use Rattle.lh_unit.specs.Held.{Held, datum_held, part_held, Env, nothing_held, with_result, with_args, datum_at, part_at}
 use Rattle.lh_unit.specs.Effects.{operated}
-use Rattle.lh_unit.specs.Activation.{label_or, is_function}
+use Rattle.lh_unit.specs.Named.{label_or}
 
 -- an instance of a unit: its number's parent, and the bits of its arguments and of its own signals
 pub record Instance : Type 0 where

@@ -2,6 +2,7 @@ pub mod Names
 pub mod UnitNames
 pub mod Contents
 pub mod Lexemes
+pub mod Named
 pub mod Held
 pub mod Typing
 pub mod Effects
@@ -11,3 +12,7 @@ pub mod Pass
 pub mod Design
 pub mod World
 pub mod Trace
+pub mod Kinds
+pub mod TypingRows
+pub mod Places
+pub mod WellFormed

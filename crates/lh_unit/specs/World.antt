@@ -14,6 +14,7 @@ use Rattle.lh_unit.specs.declared.inst.UnitKind.{UnitKind}
 use Rattle.lh_unit.specs.declared.inst.UnitKind.TheVariants as kind
 use Rattle.lh_unit.specs.UnitNames.{same_unit_name}
 use Rattle.lh_unit.specs.Contents.{UnitText, ItemText, unit_text, declare_text, new_unit}
+use Rattle.lh_unit.specs.Named.{unit_named}
 use Rattle.lh_unit.specs.Held.{part_held, nothing_held, with_args}
 use Rattle.lh_unit.specs.Activation.{Scene, Stand, is_new, waits, halted, ProcessState, Activated, activate, functions}
 use Rattle.lh_unit.specs.Hierarchy.{Instance}
@@ -24,12 +25,6 @@ use Rattle.lh_unit.specs.Design.{Design}
 pub data State : Type 0 where
   of_process : ProcessState → State
   of_entity : (memory : Option (List Bool)) → State
-
--- the unit of this name
-abbrev pub unit_named : UnitName → List ItemText → Option UnitText
-unit_named n [] = None
-unit_named n (declare_text d ∷ more) = unit_named n more
-unit_named n (unit_text u ∷ more) = if same_unit_name u.name n then Some u else unit_named n more
 
 -- the unit of an instance, an empty entity where there is none
 abbrev pub unit_of : List ItemText → UnitName → UnitText
