@@ -10,3 +10,4 @@ pub mod Widths
 pub mod ReplacingLaw
 pub mod NextLaw
 pub mod TraceLaw
+pub mod SampleFaults

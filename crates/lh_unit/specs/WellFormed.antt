@@ -232,34 +232,40 @@ LacksIn _ u p i = SomeValueLacks u p (values_named i)
 abbrev pub LacksDefinition : UnitText → Place → Type 0
 LacksDefinition u p = LacksIn u.kind u p p.line.inst
 
--- an instruction has one of the faults 1, 5 and 6
-abbrev pub blocks_paths : List ItemText → UnitText → Place → Bool
-blocks_paths items u p = is_undefined items u p.line.inst || ends_wrong u p || phi_is_wrong u p p.line.inst
-
--- fault 7 is asked only in a unit without these
-abbrev pub has_paths : List ItemText → UnitText → Bool
-has_paths items u = not (list_any (blocks_paths items u) (places u))
-
 -- an instruction of a module
 pub record Site : Type 0 where
   pub unit : UnitText
   pub place : Place
 
+-- the instructions of a module in file order
 abbrev pub sites : List ItemText → List Site
 sites [] = []
 sites (unit_text u ∷ more) = map (λ p. record { unit = u; place = p }) (places u) ++ sites more
 sites (declare_text d ∷ more) = sites more
 
+-- an instruction has a fault that asks for no path
+abbrev pub has_local : List ItemText → Site → FaultKind → Bool
+has_local items s undefined = is_undefined items s.unit s.place.line.inst
+has_local items s wrong_kind = is_wrong_kind items s.unit s.place.line.inst
+has_local items s wrong_type = is_wrong_type items s.unit s.place.line.inst
+has_local items s not_here = not (is_allowed s.unit.kind s.place.line.inst)
+has_local items s no_terminator = ends_wrong s.unit s.place
+has_local items s phi_edges = phi_is_wrong s.unit s.place s.place.line.inst
+has_local items s not_defined = false
+has_local items s arguments = arguments_differ items s.unit s.place.line.inst
+
+-- one of the faults 1, 5 and 6, after which paths are not asked for
+abbrev pub hides_paths : List ItemText → Site → Bool
+hides_paths items s = has_local items s undefined || has_local items s no_terminator || has_local items s phi_edges
+
+-- a unit in which no instruction hides the paths
+abbrev pub has_paths : List ItemText → UnitText → Bool
+has_paths items u = not (list_any (λ p. hides_paths items (record { unit = u; place = p })) (places u))
+
 -- an instruction has a fault
 abbrev pub HasFault : List ItemText → Site → FaultKind → Type 0
-HasFault items s undefined = is_undefined items s.unit s.place.line.inst ≡ true
-HasFault items s wrong_kind = is_wrong_kind items s.unit s.place.line.inst ≡ true
-HasFault items s wrong_type = is_wrong_type items s.unit s.place.line.inst ≡ true
-HasFault items s not_here = is_allowed s.unit.kind s.place.line.inst ≡ false
-HasFault items s no_terminator = ends_wrong s.unit s.place ≡ true
-HasFault items s phi_edges = phi_is_wrong s.unit s.place s.place.line.inst ≡ true
 HasFault items s not_defined = (has_paths items s.unit ≡ true) × LacksDefinition s.unit s.place
-HasFault items s arguments = arguments_differ items s.unit s.place.line.inst ≡ true
+HasFault items s k = has_local items s k ≡ true
 
 -- none of these instructions has a fault
 abbrev pub NoneHasFault : List ItemText → List Site → Type 0
