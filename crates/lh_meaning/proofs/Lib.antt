@@ -11,3 +11,4 @@ pub mod ReplacingLaw
 pub mod NextLaw
 pub mod TraceLaw
 pub mod SampleFaults
+pub mod Accumulator
