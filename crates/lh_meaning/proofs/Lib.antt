@@ -2,6 +2,7 @@ pub mod Samples
 pub mod SampleTraces
 pub mod Instants
 pub mod ActivationsLaw
+pub mod WishKept
 pub mod Late
 pub mod ValuesLaw
 pub mod Simulation

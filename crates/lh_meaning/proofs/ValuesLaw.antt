@@ -1,16 +1,17 @@
 -- The value of a bit, by the set of entries.
-use Rattle.std.proofs.Common.{◌≡◌, ◌↔◌, ℕ, ◌+◌, List, [], ◌∷◌, Bool, true, false, not, ◌&&◌, nat_eq, if◌then◌else◌, refl, ap, sym, ◌∙◌, Option, Some, None, arith, ◌⊎◌, inl, inr, ⊎_elim}
+use Rattle.std.proofs.Common.{◌≡◌, ◌↔◌, ℕ, zero, suc, ◌+◌, length, List, [], ◌∷◌, Bool, true, false, not, ◌&&◌, nat_eq, if◌then◌else◌, refl, ap, sym, ◌∙◌, subst, Option, Some, None, arith, ◌⊎◌, inl, inr, ⊎_elim}
 use Rattle.std.specs.declared.cmp.Ordering.{Ordering}
 use Rattle.std.specs.declared.cmp.Ordering.TheVariants.{Less, Equal, Greater}
 use Rattle.std.specs.Ordering.{is_le, is_gt, ordering_reverse}
 use Rattle.std.specs.Option.{option_map_or}
+use Rattle.std.specs.List.{slice_get}
 use Rattle.std.specs.Cmp.{IsTotalOrder}
 use Rattle.std.proofs.lemmas.Cmp.{then_total, on_total, nat_cmp_total, tied_itself, upto}
 use Rattle.std.proofs.lemmas.Bool.Decides.{nat_tests}
 use Rattle.lh_time.specs.declared.Instant.{Instant}
 use Rattle.lh_time.specs.Order.{instant_le}
 use Rattle.lh_types.specs.History.{Made, Claim, claims, claim_cmp, is_due_by, greater, greatest_from, value_by, values_by, bits_at, IsAmong, IsGreatest, HasValue}
-use Rattle.lh_meaning.specs.Values.{OneEach, SameDueBy, ValueComputes, OneValue, ValueOfDue, BitsOfDue}
+use Rattle.lh_meaning.specs.Values.{OneEach, SameDueBy, ValueComputes, OneValue, ValueOfDue, BitsOfDue, BitsHaveValues, AsManyBits}
 use Rattle.lh_meaning.proofs.Instants.{instant_total}
 
 claim_total : IsTotalOrder claim_cmp
@@ -167,3 +168,23 @@ values_of_due xs ys t o e k (b ∷ more) =
 pub bits_of_due : BitsOfDue
 unfolding bits_at
 bits_of_due h k init t o e = values_of_due (claims h) (claims k) t o e 0 init
+
+as_many : (all : List Claim) (t : Instant) (k : ℕ) (init : List Bool) → length (values_by all t k init) ≡ length init
+as_many all t k [] = refl
+as_many all t k (b ∷ more) = ap (λ n. suc n) (as_many all t (k + 1) more)
+
+pub as_many_bits : AsManyBits
+unfolding bits_at
+as_many_bits h init t = as_many (claims h) t 0 init
+
+value_at : (all : List Claim) (t : Instant) (k : ℕ) (init : List Bool) (j : ℕ) (b : Bool) → slice_get init j ≡ Some b → slice_get (values_by all t k init) j ≡ Some (value_by all b (k + j) t)
+value_at all t k [] j b h = absurd cc
+value_at all t k (c ∷ more) zero b h = let e : c ≡ b = cc in let z : k + 0 ≡ k = omega arith in rw (z, e) refl
+value_at all t k (c ∷ more) (suc j) b h = let e : k + 1 + j ≡ k + suc j = omega arith in rw (← e) (value_at all t (k + 1) more j b h)
+
+pub bits_have_values : BitsHaveValues
+unfolding bits_at
+bits_have_values h init t k b e =
+    let P : ℕ → Type 0 = λ j. slice_get (values_by (claims h) t 0 init) k ≡ Some (value_by (claims h) b j t) in
+    let z : 0 + k ≡ k = omega arith in
+    (value_by (claims h) b k t, subst P z (value_at (claims h) t 0 init k b e), value_computes (claims h) b k t)

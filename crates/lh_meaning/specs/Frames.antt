@@ -5,7 +5,7 @@ use Rattle.lh_types.specs.History.{Made, bits_at}
 use Rattle.lh_unit.specs.declared.name.UnitName.{UnitName}
 use Rattle.lh_unit.specs.Contents.{ItemText}
 use Rattle.lh_unit.specs.Design.{Design}
-use Rattle.lh_unit.specs.World.{State, World, next_world, bits_by, IsNext, instant_after}
+use Rattle.lh_unit.specs.World.{State, World, next_world, bits_of, IsNext, instant_after}
 use Rattle.lh_unit.specs.Trace.{Frame, steps, Run, Trace, refuses, ran, trace_within, SameTraceWithin}
 
 -- The next instant is later than the present one, and nothing comes before it.
@@ -15,7 +15,7 @@ NextComputes = (t : Instant) (history : List Made) (states : List State) → IsN
 -- After a frame the bits of the last frame are those that it had: what is wished in it is due later.
 abbrev pub BitsStay : Type 0
 BitsStay = (bound : ℕ) (items : List ItemText) (d : Design) (w : World) (t : Instant) →
-    bits_by (next_world bound items d w t).history (next_world bound items d w t).init (next_world bound items d w t).last ≡ bits_at w.history w.init t
+    bits_of (next_world bound items d w t) ≡ bits_at w.history w.init t
 
 -- a run is whole, or it is cut and the other has one more frame
 abbrev pub HasOneMore : Run → Run → Type 0

@@ -1,5 +1,5 @@
 -- The value of a bit is a matter of the set of entries that are due by then.
-use Rattle.std.specs.Prelude.{◌≡◌, ◌↔◌, ℕ, List, Bool, true}
+use Rattle.std.specs.Prelude.{◌≡◌, ◌↔◌, ℕ, List, length, slice_get, Bool, true, Some}
 use Rattle.std.specs.declared.cmp.Ordering.TheVariants.{Equal}
 use Rattle.lh_time.specs.declared.Instant.{Instant}
 use Rattle.lh_types.specs.History.{Made, Claim, claims, claim_cmp, is_due_by, IsAmong, HasValue, value_by, bits_at}
@@ -26,3 +26,11 @@ ValueOfDue = (xs ys : List Claim) (initial : Bool) (bit : ℕ) (t : Instant) →
 
 abbrev pub BitsOfDue : Type 0
 BitsOfDue = (h k : List Made) (initial : List Bool) (t : Instant) → OneEach (claims h) → ((bit : ℕ) → SameDueBy bit t (claims h) (claims k)) → bits_at h initial t ≡ bits_at k initial t
+
+-- Each of the bits at an instant has the value that its entries give it, and there are as many as there were at first.
+abbrev pub BitsHaveValues : Type 0
+BitsHaveValues = (h : List Made) (initial : List Bool) (t : Instant) (k : ℕ) (b : Bool) → slice_get initial k ≡ Some b →
+    (v : Bool) × (slice_get (bits_at h initial t) k ≡ Some v) × HasValue (claims h) b k t v
+
+abbrev pub AsManyBits : Type 0
+AsManyBits = (h : List Made) (initial : List Bool) (t : Instant) → length (bits_at h initial t) ≡ length initial

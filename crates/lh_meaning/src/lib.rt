@@ -2,7 +2,7 @@
 #![tactic(auto)]
 
 ghost use Rattle.lh_meaning.specs.Activations.{ActivationComputes, RunawayComputes, OneActivation};
-ghost use Rattle.lh_meaning.specs.Values.{ValueComputes, OneValue, ValueOfDue, BitsOfDue};
+ghost use Rattle.lh_meaning.specs.Values.{ValueComputes, OneValue, ValueOfDue, BitsOfDue, BitsHaveValues, AsManyBits};
 ghost use Rattle.lh_meaning.specs.Frames.{NextComputes, BitsStay, TraceIsPrefix, TraceIsWithin, EqualSameTrace, SameTraceTurns, SameTraceLinks};
 ghost use Rattle.lh_meaning.specs.Replacing.{ReplacedSameTrace};
 
@@ -21,7 +21,9 @@ pub fn value_law()
     ensures computes { ValueComputes }
     ensures one { OneValue }
     ensures due { ValueOfDue }
-    ensures bits { BitsOfDue }
+    ensures bits_of_due { BitsOfDue }
+    ensures bits { BitsHaveValues }
+    ensures as_many { AsManyBits }
 {
 }
 

@@ -138,6 +138,10 @@ abbrev pub bits_by : List Made → (init : List Bool) → Option Instant → Lis
 bits_by history init None = init
 bits_by history init (Some t) = bits_at history init t
 
+-- the bits of the last frame of a world
+abbrev pub bits_of : World → List Bool
+bits_of w = bits_by w.history w.init w.last
+
 -- what each instance does in the frame at `t`
 abbrev pub acts_of : Rules → List ItemText → (last : Option Instant) → (old now : List Bool) → Instant → List Instance → List State → List Act
 acts_of r items last old now t [] states = []
@@ -149,7 +153,7 @@ rules_of bound items = record { bound = bound; functions = functions items }
 
 unfoldable pub acts : (bound : ℕ) → List ItemText → Design → World → Instant → List Act
 acts bound items d w t =
-    acts_of (rules_of bound items) items w.last (bits_by w.history w.init w.last) (bits_at w.history w.init t) t d.instances w.states
+    acts_of (rules_of bound items) items w.last (bits_of w) (bits_at w.history w.init t) t d.instances w.states
 
 -- a wish that is not empty is kept, with its origin
 abbrev pub kept : Instant → (instance : ℕ) → Wish → List Made
