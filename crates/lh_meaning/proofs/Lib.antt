@@ -13,3 +13,4 @@ pub mod NextLaw
 pub mod TraceLaw
 pub mod SampleFaults
 pub mod Accumulator
+pub mod WishesLaw

@@ -2,3 +2,4 @@ pub mod Activations
 pub mod Values
 pub mod Replacing
 pub mod Frames
+pub mod Wishes
