@@ -85,3 +85,21 @@ back false h = cc
 
 pub not_lt_le : (a b : Instant) → instant_lt b a ≡ false → instant_le a b ≡ true
 not_lt_le a b h = back (instant_le a b) (sym (lt_not_le b a) ∙ h)
+
+pub le_lt : (a b c : Instant) → instant_le a b ≡ true → instant_lt b c ≡ true → instant_lt a c ≡ true
+le_lt a b c h k = lt_not_le a c ∙ at (instant_le c a) refl
+  where
+    no_both : instant_le c b ≡ true → ⊥
+    no_both e = absurd (clash (sym k ∙ lt_not_le b c ∙ ap not e))
+      where
+        clash : true ≡ false → ⊥
+        clash z = cc
+    at : (x : Bool) → instant_le c a ≡ x → not x ≡ true
+    at true e = absurd (no_both (le_trans c a b e h))
+    at false e = refl
+
+pub lt_self : (a : Instant) → instant_lt a a ≡ true → ⊥
+lt_self a h = clash (sym h ∙ lt_not_le a a ∙ ap not (le_self a))
+  where
+    clash : true ≡ false → ⊥
+    clash z = cc

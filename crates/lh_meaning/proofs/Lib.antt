@@ -14,3 +14,5 @@ pub mod TraceLaw
 pub mod SampleFaults
 pub mod Accumulator
 pub mod WishesLaw
+pub mod HistoryLaw
+pub mod FirstFaultLaw

@@ -16,7 +16,7 @@ use Rattle.lh_meaning.proofs.Instants.{instant_total}
 pub due_bit_total : IsTotalOrder due_bit_cmp
 due_bit_total = then_total (on_total (λ (k : DueBit). k.due) instant_total) (on_total (λ (k : DueBit). k.bit) nat_cmp_total)
 
-due_bit_self : (k : DueBit) → due_bit_cmp k k ≡ Equal
+pub due_bit_self : (k : DueBit) → due_bit_cmp k k ≡ Equal
 due_bit_self k = tied_itself due_bit_total k
 
 below_trans : (a b : DueBit) (es : Wish) → due_bit_cmp a b ≡ Less → IsBelow b es → IsBelow a es
@@ -51,7 +51,7 @@ abbrev due_bit : Instant → ℕ → DueBit
 due_bit t i = record { due = t; bit = i }
 
 -- keys that compare as equal are one
-nat_one : (a b : ℕ) → nat_cmp a b ≡ Equal → a ≡ b
+pub nat_one : (a b : ℕ) → nat_cmp a b ≡ Equal → a ≡ b
 nat_one a b h = at (nat_lt a b) (nat_eq a b) refl h
   where
     same : (a b : ℕ) → (nat_eq a b) ≡ true → a ≡ b
@@ -61,7 +61,7 @@ nat_one a b h = at (nat_lt a b) (nat_eq a b) refl h
     at false true e q = same a b e
     at false false e q = cc
 
-then_equal : (a b : Ordering) → ordering_then a b ≡ Equal → (a ≡ Equal) × (b ≡ Equal)
+pub then_equal : (a b : Ordering) → ordering_then a b ≡ Equal → (a ≡ Equal) × (b ≡ Equal)
 then_equal Less b h = cc
 then_equal Equal b h = (refl, h)
 then_equal Greater b h = cc

@@ -12,7 +12,8 @@ use Rattle.lh_unit.specs.World.{State, start, wake_of, Act, act, Rules, rules_of
 use Rattle.lh_unit.specs.Trace.{Outcome, Frame, Run, least_runaway, outcomes_of, frame_of, goes_on, at_bound, follows, run_at, run_from}
 use Rattle.lh_meaning.specs.Replacing.{Answer, answer_of}
 use Rattle.lh_meaning.proofs.Instants.{lt_not_le}
-use Rattle.lh_meaning.proofs.Late.{AreLate, act_late}
+use Rattle.lh_meaning.specs.Wishes.{IsLate}
+use Rattle.lh_meaning.proofs.Late.{act_late}
 use Rattle.lh_meaning.proofs.Simulation.{Matches, Alike, alike_keeps}
 
 -- entries that are due after t
@@ -24,11 +25,11 @@ late_append : (t : Instant) (xs ys : List Claim) → AllLate t xs → AllLate t 
 late_append t [] ys a b = b
 late_append t (x ∷ xs) ys a b = (a.0, late_append t xs ys a.1 b)
 
-claims_late : (t made : Instant) (i : ℕ) (w : Wish) → AreLate t w → AllLate t (claims_of made i w)
+claims_late : (t made : Instant) (i : ℕ) (w : Wish) → IsLate t w → AllLate t (claims_of made i w)
 claims_late t made i [] a = tt
 claims_late t made i (e ∷ more) a = (a.0, claims_late t made i more a.1)
 
-kept_late : (t : Instant) (i : ℕ) (w : Wish) → AreLate t w → AllLate t (claims (kept t i w))
+kept_late : (t : Instant) (i : ℕ) (w : Wish) → IsLate t w → AllLate t (claims (kept t i w))
 kept_late t i [] a = tt
 kept_late t i (e ∷ more) a = late_append t (claims_of t i (e ∷ more)) [] (claims_late t t i (e ∷ more) a) tt
 

@@ -3,3 +3,4 @@ pub mod Values
 pub mod Replacing
 pub mod Frames
 pub mod Wishes
+pub mod FirstFault

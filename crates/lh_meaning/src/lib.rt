@@ -3,6 +3,8 @@
 
 ghost use Rattle.lh_meaning.specs.Activations.{ActivationComputes, RunawayComputes, OneActivation};
 ghost use Rattle.lh_meaning.specs.Values.{ValueComputes, OneValue, ValueOfDue, BitsOfDue, BitsHaveValues, AsManyBits};
+ghost use Rattle.lh_meaning.specs.Wishes.{WishExt, LaterDriveReplaces, ActsInOrder, HistoryIsMap};
+ghost use Rattle.lh_meaning.specs.FirstFault.{OneFirstFault, FaultlessHasNone};
 ghost use Rattle.lh_meaning.specs.Frames.{NextComputes, BitsStay, TraceIsPrefix, TraceIsWithin, EqualSameTrace, SameTraceTurns, SameTraceLinks};
 ghost use Rattle.lh_meaning.specs.Replacing.{ReplacedSameTrace};
 
@@ -24,6 +26,28 @@ pub fn value_law()
     ensures bits_of_due { BitsOfDue }
     ensures bits { BitsHaveValues }
     ensures as_many { AsManyBits }
+{
+}
+
+/// A wish is a map: two that give the same are one, and a later drive replaces an earlier one of the
+/// same bits at the same instant. What an instance wishes in a frame is due later.
+pub fn wish_law()
+    ensures ext { WishExt }
+    ensures replaces { LaterDriveReplaces }
+    ensures acts { ActsInOrder }
+{
+}
+
+/// No two entries of a history that the frames of a design come to compete, so each bit has one value.
+pub fn history_law()
+    ensures { HistoryIsMap }
+{
+}
+
+/// A module has at most one first fault, and none where no instruction has a fault.
+pub fn first_fault_law()
+    ensures one { OneFirstFault }
+    ensures none { FaultlessHasNone }
 {
 }
 
