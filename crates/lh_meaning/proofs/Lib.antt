@@ -16,3 +16,7 @@ pub mod Accumulator
 pub mod WishesLaw
 pub mod HistoryLaw
 pub mod FirstFaultLaw
+pub mod BitSets
+pub mod Standing
+pub mod CombLaw
+pub mod EdgeLaw
