@@ -20,3 +20,4 @@ pub mod BitSets
 pub mod Standing
 pub mod CombLaw
 pub mod EdgeLaw
+pub mod MayStandLaw
