@@ -21,3 +21,4 @@ pub mod Standing
 pub mod CombLaw
 pub mod EdgeLaw
 pub mod MayStandLaw
+pub mod Buffer
