@@ -1,9 +1,9 @@
 -- An accumulator with its testbench, as processes and as entities, and its trace.
-use Rattle.std.specs.Prelude.{◌≡◌, ℕ, List, [], ◌∷◌, ◌++◌, map, Bool, true, false, Option, Some, None, codes, refl}
+use Rattle.std.specs.Prelude.{◌≡◌, ℕ, List, [], ◌∷◌, true, Option, Some, None, codes, refl}
 use Rattle.std.specs.Fmt.{digits}
 use Rattle.lh_time.specs.Due.{instant}
-use Rattle.lh_types.specs.Types.{TypeTree, int_type, time_type, void_type, signal_type, pointer_type}
-use Rattle.lh_types.specs.Values.{Datum, int_value, array_value}
+use Rattle.lh_types.specs.Types.{TypeTree, int_type, void_type, signal_type, pointer_type}
+use Rattle.lh_types.specs.Values.{Datum, int_value}
 use Rattle.lh_types.specs.Apply.{apply}
 use Rattle.lh_types.specs.ApplyInt.{integer_row, row_width}
 use Rattle.lh_types.specs.History.{bits_at}
@@ -16,7 +16,7 @@ use Rattle.lh_unit.specs.Activation.{activate}
 use Rattle.lh_unit.specs.Pass.{pass, probes}
 use Rattle.lh_unit.specs.Design.{Signal, visit, design_of, refusal_of}
 use Rattle.lh_unit.specs.World.{acts}
-use Rattle.lh_unit.specs.Trace.{Outcome, Frame, End, quiet, Run, Shown, Trace, ran, trace}
+use Rattle.lh_unit.specs.Trace.{Outcome, Frame, quiet, Run, Shown, ran, trace}
 use Rattle.lh_meaning.proofs.Samples.{global, line, bare, typed, bit, bit_signal, input, output, entity, process, block, delay}
 
 abbrev word : TypeTree
@@ -72,85 +72,88 @@ comb_args = input (codes "q") word_signal ∷ input (codes "x") word_signal ∷ 
 abbrev ff_process : ItemText
 ff_process = process (codes "acc_ff") ff_args (
     block (codes "init") (
-      line (codes "clk0") (prb_text (bit_at (codes "clk")))
-      ∷ bare (wait_text (codes "check") None (codes "clk" ∷ []))
-      ∷ [])
+    line (codes "clk0") (prb_text (bit_at (codes "clk")))
+    ∷ bare (wait_text (codes "check") None (codes "clk" ∷ []))
+    ∷ [])
     ∷ block (codes "check") (
-      line (codes "clk1") (prb_text (bit_at (codes "clk")))
-      ∷ line (codes "chg") (binary op.Neq bit (codes "clk0") (codes "clk1"))
-      ∷ line (codes "posedge") (binary op.And bit (codes "chg") (codes "clk1"))
-      ∷ bare (branch_text (codes "posedge") (codes "init") (codes "event"))
-      ∷ [])
+    line (codes "clk1") (prb_text (bit_at (codes "clk")))
+    ∷ line (codes "chg") (binary op.Neq bit (codes "clk0") (codes "clk1"))
+    ∷ line (codes "posedge") (binary op.And bit (codes "chg") (codes "clk1"))
+    ∷ bare (branch_text (codes "posedge") (codes "init") (codes "event"))
+    ∷ [])
     ∷ block (codes "event") (
-      line (codes "dp") (prb_text (word_at (codes "d")))
-      ∷ line (codes "delay") (const_text (delay 0 1 0))
-      ∷ drives word_signal (codes "q") (codes "dp") (codes "delay")
-      ∷ bare (br_text (codes "init"))
-      ∷ [])
+    line (codes "dp") (prb_text (word_at (codes "d")))
+    ∷ line (codes "delay") (const_text (delay 0 1 0))
+    ∷ drives word_signal (codes "q") (codes "dp") (codes "delay")
+    ∷ bare (br_text (codes "init"))
+    ∷ [])
     ∷ [])
 
 abbrev comb_process : ItemText
 comb_process = process (codes "acc_comb") comb_args (
     block (codes "entry") (
-      line (codes "qp") (prb_text (word_at (codes "q")))
-      ∷ line (codes "enp") (prb_text (bit_at (codes "en")))
-      ∷ line (codes "delay") (const_text (delay 0 1 0))
-      ∷ drives word_signal (codes "d") (codes "qp") (codes "delay")
-      ∷ bare (branch_text (codes "enp") (codes "final") (codes "enabled"))
-      ∷ [])
+    line (codes "qp") (prb_text (word_at (codes "q")))
+    ∷ line (codes "enp") (prb_text (bit_at (codes "en")))
+    ∷ line (codes "delay") (const_text (delay 0 1 0))
+    ∷ drives word_signal (codes "d") (codes "qp") (codes "delay")
+    ∷ bare (branch_text (codes "enp") (codes "final") (codes "enabled"))
+    ∷ [])
     ∷ block (codes "enabled") (
-      line (codes "xp") (prb_text (word_at (codes "x")))
-      ∷ line (codes "sum") (binary op.Add word (codes "qp") (codes "xp"))
-      ∷ drives word_signal (codes "d") (codes "sum") (codes "delay")
-      ∷ bare (br_text (codes "final"))
-      ∷ [])
+    line (codes "xp") (prb_text (word_at (codes "x")))
+    ∷ line (codes "sum") (binary op.Add word (codes "qp") (codes "xp"))
+    ∷ drives word_signal (codes "d") (codes "sum") (codes "delay")
+    ∷ bare (br_text (codes "final"))
+    ∷ [])
     ∷ block (codes "final") (bare (wait_text (codes "entry") None (codes "q" ∷ codes "x" ∷ codes "en" ∷ [])) ∷ [])
     ∷ [])
 
 abbrev initial : ItemText
 initial = process (codes "acc_tb_initial") (input (codes "q") word_signal ∷ output (codes "clk") bit_signal ∷ output (codes "x") word_signal ∷ output (codes "en") bit_signal ∷ []) (
     block (codes "entry") (
-      line (codes "bit0") (const_text (int_value 1 0))
-      ∷ line (codes "bit1") (const_text (int_value 1 1))
-      ∷ line (codes "zero") (const_text (int_value 32 0))
-      ∷ line (codes "one") (const_text (int_value 32 1))
-      ∷ line (codes "del1") (const_text (delay 1000000 0 0))
-      ∷ line (codes "del2") (const_text (delay 2000000 0 0))
-      ∷ line (codes "i") (var_text (typed word (codes "zero")))
-      ∷ drives bit_signal (codes "en") (codes "bit1") (codes "del2")
-      ∷ bare (br_text (codes "loop"))
-      ∷ [])
+    line (codes "bit0") (const_text (int_value 1 0))
+    ∷ line (codes "bit1") (const_text (int_value 1 1))
+    ∷ line (codes "zero") (const_text (int_value 32 0))
+    ∷ line (codes "one") (const_text (int_value 32 1))
+    ∷ line (codes "del1") (const_text (delay 1000000 0 0))
+    ∷ line (codes "del2") (const_text (delay 2000000 0 0))
+    ∷ line (codes "i") (var_text (typed word (codes "zero")))
+    ∷ drives bit_signal (codes "en") (codes "bit1") (codes "del2")
+    ∷ bare (br_text (codes "loop"))
+    ∷ [])
     ∷ block (codes "loop") (
-      line (codes "ip") (ld_text (typed (pointer_type word) (codes "i")))
-      ∷ drives word_signal (codes "x") (codes "ip") (codes "del2")
-      ∷ drives bit_signal (codes "clk") (codes "bit1") (codes "del1")
-      ∷ drives bit_signal (codes "clk") (codes "bit0") (codes "del2")
-      ∷ bare (wait_text (codes "next") (Some (codes "del2")) [])
-      ∷ [])
+    line (codes "ip") (ld_text (typed (pointer_type word) (codes "i")))
+    ∷ drives word_signal (codes "x") (codes "ip") (codes "del2")
+    ∷ drives bit_signal (codes "clk") (codes "bit1") (codes "del1")
+    ∷ drives bit_signal (codes "clk") (codes "bit0") (codes "del2")
+    ∷ bare (wait_text (codes "next") (Some (codes "del2")) [])
+    ∷ [])
     ∷ block (codes "next") (
-      line (codes "qp") (prb_text (word_at (codes "q")))
-      ∷ bare (call_text (global (codes "acc_tb_check")) void_type (typed word (codes "ip") ∷ typed word (codes "qp") ∷ []))
-      ∷ line (codes "in") (binary op.Add word (codes "ip") (codes "one"))
-      ∷ bare (st_text (typed (pointer_type word) (codes "i")) (codes "in"))
-      ∷ line (codes "cont") (binary op.Ult word (codes "ip") (codes "one"))
-      ∷ bare (branch_text (codes "cont") (codes "end") (codes "loop"))
-      ∷ [])
+    line (codes "qp") (prb_text (word_at (codes "q")))
+    ∷ bare (call_text (global (codes "acc_tb_check")) void_type (typed word (codes "ip") ∷ typed word (codes "qp") ∷ []))
+    ∷ line (codes "in") (binary op.Add word (codes "ip") (codes "one"))
+    ∷ bare (st_text (typed (pointer_type word) (codes "i")) (codes "in"))
+    ∷ line (codes "cont") (binary op.Ult word (codes "ip") (codes "one"))
+    ∷ bare (branch_text (codes "cont") (codes "end") (codes "loop"))
+    ∷ [])
     ∷ block (codes "end") (bare halt_text ∷ [])
     ∷ [])
 
 abbrev check : ItemText
 check = unit_text (record {
-  kind = kind.Func; name = global (codes "acc_tb_check"); args = input (codes "i") word ∷ input (codes "q") word ∷ []; result = Some void_type;
+  kind = kind.Func;
+  name = global (codes "acc_tb_check");
+  args = input (codes "i") word ∷ input (codes "q") word ∷ [];
+  result = Some void_type;
   blocks = block (codes "entry") (
-    line (codes "one") (const_text (int_value 32 1))
-    ∷ line (codes "two") (const_text (int_value 32 2))
-    ∷ line (codes "dec") (binary op.Sub word (codes "i") (codes "one"))
-    ∷ line (codes "prod") (binary op.Umul word (codes "i") (codes "dec"))
-    ∷ line (codes "sum") (binary op.Udiv word (codes "prod") (codes "two"))
-    ∷ line (codes "ok") (binary op.Eq word (codes "q") (codes "sum"))
-    ∷ bare (call_text (global (codes "llhd.assert")) void_type (typed bit (codes "ok") ∷ []))
-    ∷ bare (ret_text None)
-    ∷ []) ∷ [];
+      line (codes "one") (const_text (int_value 32 1))
+      ∷ line (codes "two") (const_text (int_value 32 2))
+      ∷ line (codes "dec") (binary op.Sub word (codes "i") (codes "one"))
+      ∷ line (codes "prod") (binary op.Umul word (codes "i") (codes "dec"))
+      ∷ line (codes "sum") (binary op.Udiv word (codes "prod") (codes "two"))
+      ∷ line (codes "ok") (binary op.Eq word (codes "q") (codes "sum"))
+      ∷ bare (call_text (global (codes "llhd.assert")) void_type (typed bit (codes "ok") ∷ []))
+      ∷ bare (ret_text None)
+      ∷ []) ∷ [];
 })
 
 abbrev pub as_processes : List ItemText
@@ -206,17 +209,17 @@ passes = record { instance = 4; passed = true } ∷ []
 abbrev the_run : Run
 the_run = record {
   frames =
-    frame 0 0 (values 0 0 0 0 0) []
-    ∷ frame 0 1 (values 0 0 0 0 0) []
-    ∷ frame 1000000 0 (values 1 0 0 0 0) []
-    ∷ frame 1000000 1 (values 1 0 0 0 0) []
-    ∷ frame 2000000 0 (values 0 1 0 0 0) passes
-    ∷ frame 2000000 1 (values 0 1 0 0 0) []
-    ∷ frame 3000000 0 (values 1 1 0 0 0) []
-    ∷ frame 3000000 1 (values 1 1 0 0 0) []
-    ∷ frame 4000000 0 (values 0 1 1 0 0) passes
-    ∷ frame 4000000 1 (values 0 1 1 0 1) []
-    ∷ [];
+      frame 0 0 (values 0 0 0 0 0) []
+      ∷ frame 0 1 (values 0 0 0 0 0) []
+      ∷ frame 1000000 0 (values 1 0 0 0 0) []
+      ∷ frame 1000000 1 (values 1 0 0 0 0) []
+      ∷ frame 2000000 0 (values 0 1 0 0 0) passes
+      ∷ frame 2000000 1 (values 0 1 0 0 0) []
+      ∷ frame 3000000 0 (values 1 1 0 0 0) []
+      ∷ frame 3000000 1 (values 1 1 0 0 0) []
+      ∷ frame 4000000 0 (values 0 1 1 0 0) passes
+      ∷ frame 4000000 1 (values 0 1 1 0 1) []
+      ∷ [];
   end = quiet;
 }
 

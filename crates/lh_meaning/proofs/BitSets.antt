@@ -1,5 +1,5 @@
 -- Sets of bits, as lists of their numbers.
-use Rattle.std.proofs.Common.{◌≡◌, ℕ, List, [], ◌∷◌, map, Bool, true, false, not, ◌&&◌, ◌||◌, ◌==◌, refl, ap, sym, ◌∙◌, subst, arith}
+use Rattle.std.proofs.Common.{◌≡◌, ℕ, List, [], ◌∷◌, map, Bool, true, false, not, ◌&&◌, ◌||◌, ◌==◌, refl, ap, sym, ◌∙◌, arith}
 use Rattle.std.specs.List.{list_any}
 use Rattle.std.proofs.lemmas.Bool.Decides.{nat_tests}
 use Rattle.lh_unit.specs.World.{bit_at, bit_differs}
@@ -28,6 +28,7 @@ any_of p (x ∷ xs) h = at (p x) refl h (any_of p xs)
   where
     here : (x : ℕ) → (x == x) ≡ true
     here x = grind (arith, nat_tests)
+
     at : (b : Bool) → p x ≡ b → (b || list_any p xs) ≡ true → (list_any p xs ≡ true → (a : ℕ) × (has xs a ≡ true) × (p a ≡ true)) → (a : ℕ) × (has (x ∷ xs) a ≡ true) × (p a ≡ true)
     at true e h' ih = (x, ap (λ b. b || has xs x) (here x), e)
     at false e h' ih = let r = ih h' in (r.0, more (x == r.0) r.1, r.2)
@@ -42,6 +43,7 @@ any_from p (x ∷ xs) a h q = at (x == a) refl h (λ h'. any_from p xs a h' q)
   where
     is : (x == a) ≡ true → x ≡ a
     is e = grind (arith, nat_tests)
+
     at : (b : Bool) → (x == a) ≡ b → (b || has xs a) ≡ true → (has xs a ≡ true → list_any p xs ≡ true) → (p x || list_any p xs) ≡ true
     at true e h' ih = ap (λ b. b || list_any p xs) (ap p (is e) ∙ q)
     at false e h' ih = more (p x) (ih h')
@@ -86,6 +88,7 @@ none_of p xs h a k = at (p a) refl
   where
     clash : false ≡ true → ⊥
     clash e = cc
+
     at : (b : Bool) → p a ≡ b → p a ≡ false
     at true e = absurd (clash (sym h ∙ any_from p xs a k e))
     at false e = e

@@ -1,21 +1,20 @@
 -- That an entity may stand for a process: a buffer.
-use Rattle.std.proofs.Common.{◌≡◌, ◌≤◌, ℕ, List, [], ◌∷◌, map, Bool, true, false, refl, ap, sym, ◌∙◌, Option, Some, None, arith, inr}
+use Rattle.std.proofs.Common.{◌≡◌, ◌≤◌, List, [], ◌∷◌, map, Bool, refl, Option, Some, None, arith, inr}
 use Rattle.std.specs.Prelude.{codes}
 use Rattle.lh_time.specs.declared.Instant.{Instant}
 use Rattle.lh_time.specs.Due.{due_of}
-use Rattle.lh_types.specs.Values.{Datum}
 use Rattle.lh_types.specs.Bits.{value_bits, value_from_bits}
 use Rattle.lh_types.specs.Wish.{Wish, no_wish, with_drive}
 use Rattle.lh_types.specs.declared.part.Range.{Range}
 use Rattle.lh_unit.specs.declared.inst.UnitKind.TheVariants as kind
-use Rattle.lh_unit.specs.Contents.{const_text, prb_text, drv_text, wait_text, LineText, ArgText, UnitText, ItemText, unit_text}
-use Rattle.lh_unit.specs.Held.{Held, datum_held, part_held, Env, with_held, bits_in}
-use Rattle.lh_unit.specs.Activation.{Scene, ProcessState, Control, Activated, control_at, start_point, run, activate}
-use Rattle.lh_unit.specs.Hierarchy.{Instance, hierarchy_of}
+use Rattle.lh_unit.specs.Contents.{const_text, prb_text, drv_text, wait_text, ArgText, UnitText, unit_text}
+use Rattle.lh_unit.specs.Held.{datum_held, part_held, Env, with_held, bits_in}
+use Rattle.lh_unit.specs.Activation.{Control, Activated, start_point, run, activate}
+use Rattle.lh_unit.specs.Hierarchy.{Instance}
 use Rattle.lh_unit.specs.Pass.{pass, probes}
 use Rattle.lh_unit.specs.World.{Rules, rules_of}
 use Rattle.lh_unit.specs.Trace.{SameTrace}
-use Rattle.lh_meaning.specs.Replacing.{HasWidths, MayStand}
+use Rattle.lh_meaning.specs.Replacing.{MayStand}
 use Rattle.lh_meaning.proofs.Samples.{global, line, bare, typed, bit, bit_signal, input, output, block, delay}
 use Rattle.lh_meaning.proofs.ActivationsLaw.{run_enough}
 use Rattle.lh_meaning.proofs.Standing.{scene, fresh, waiting_at, EndsAt, sensed, CombFor}
@@ -27,25 +26,31 @@ args = input (codes "x") bit_signal ∷ output (codes "q") bit_signal ∷ []
 
 abbrev as_process : UnitText
 as_process = record {
-  kind = kind.Proc; name = global (codes "buffer"); args = args; result = None;
+  kind = kind.Proc;
+  name = global (codes "buffer");
+  args = args;
+  result = None;
   blocks = block (codes "entry") (
-    line (codes "xp") (prb_text (typed bit_signal (codes "x")))
-    ∷ line (codes "d") (const_text (delay 1000000 0 0))
-    ∷ bare (drv_text (typed bit_signal (codes "q")) (codes "xp") (codes "d") None)
-    ∷ bare (wait_text (codes "entry") None (codes "x" ∷ []))
-    ∷ []) ∷ [];
+      line (codes "xp") (prb_text (typed bit_signal (codes "x")))
+      ∷ line (codes "d") (const_text (delay 1000000 0 0))
+      ∷ bare (drv_text (typed bit_signal (codes "q")) (codes "xp") (codes "d") None)
+      ∷ bare (wait_text (codes "entry") None (codes "x" ∷ []))
+      ∷ []) ∷ [];
 }
 
 abbrev as_entity : UnitText
 as_entity = record {
-  kind = kind.Entity; name = global (codes "buffer"); args = args; result = None;
+  kind = kind.Entity;
+  name = global (codes "buffer");
+  args = args;
+  result = None;
   blocks = record {
     label = None;
     lines =
-      line (codes "v0") (prb_text (typed bit_signal (codes "x")))
-      ∷ line (codes "v1") (const_text (delay 1000000 0 0))
-      ∷ bare (drv_text (typed bit_signal (codes "q")) (codes "v0") (codes "v1") None)
-      ∷ [];
+        line (codes "v0") (prb_text (typed bit_signal (codes "x")))
+        ∷ line (codes "v1") (const_text (delay 1000000 0 0))
+        ∷ bare (drv_text (typed bit_signal (codes "q")) (codes "v0") (codes "v1") None)
+        ∷ [];
   } ∷ [];
 }
 
@@ -61,13 +66,15 @@ Holds x q e = (e (codes "x") ≡ Some (part_held x)) × (e (codes "q") ≡ Some 
 
 abbrev at_entry : Env → Control
 at_entry e = record {
-  unit = as_process; block = codes "entry"; held = e;
+  unit = as_process;
+  block = codes "entry";
+  held = e;
   rest =
-    line (codes "xp") (prb_text (typed bit_signal (codes "x")))
-    ∷ line (codes "d") (const_text (delay 1000000 0 0))
-    ∷ bare (drv_text (typed bit_signal (codes "q")) (codes "xp") (codes "d") None)
-    ∷ bare (wait_text (codes "entry") None (codes "x" ∷ []))
-    ∷ [];
+      line (codes "xp") (prb_text (typed bit_signal (codes "x")))
+      ∷ line (codes "d") (const_text (delay 1000000 0 0))
+      ∷ bare (drv_text (typed bit_signal (codes "q")) (codes "xp") (codes "d") None)
+      ∷ bare (wait_text (codes "entry") None (codes "x" ∷ []))
+      ∷ [];
 }
 
 module _ (r : Rules) (enough : 4 ≤ r.bound) (x q : Range) where
@@ -103,13 +110,17 @@ module _ (r : Rules) (enough : 4 ≤ r.bound) (x q : Range) where
 
   later_ends : (now : List Bool) (t : Instant) (i : Instance) (memory : Option (List Bool)) (held : Env) (on : List Range) → i.args ≡ x ∷ q ∷ [] → Holds x q held
       → EndsAt (Holds x q) (codes "entry") (codes "entry") (sensed as_entity i) (pass as_entity i.args i.sigs now memory t).wish
-          (activate r.bound (scene r now t) as_process (waiting_at (codes "entry") (codes "entry") on held))
+      (activate r.bound (scene r now t) as_process (waiting_at (codes "entry") (codes "entry") on held))
   later_ends now t i memory held on e h = rw (waiting_so now t held on h, e, pass_so now t i.sigs memory, senses_so i.sigs)
       (record { held = after x now held; parts = x ∷ []; known = h; same_parts = λ k. refl; is = refl })
 
   buffer_for : (i : Instance) → i.args ≡ x ∷ q ∷ [] → CombFor r as_process as_entity i
   buffer_for i e = record {
-    is_process = refl; is_entity = refl; block = codes "entry"; to = codes "entry"; holds = Holds x q;
+    is_process = refl;
+    is_entity = refl;
+    block = codes "entry";
+    to = codes "entry";
+    holds = Holds x q;
     first = λ now t memory. first_ends now t i memory e;
     later = λ now t memory held on h. later_ends now t i memory held on e h;
   }

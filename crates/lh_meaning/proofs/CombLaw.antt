@@ -1,5 +1,5 @@
 -- An entity that gives the same as a process on all values may stand for it.
-use Rattle.std.proofs.Common.{◌≡◌, ℕ, List, [], ◌∷◌, Bool, true, false, ◌||◌, refl, ap, sym, ◌∙◌, subst, Option, Some, None}
+use Rattle.std.proofs.Common.{◌≡◌, List, Bool, true, false, ◌||◌, refl, ap, Option, Some, None}
 use Rattle.std.specs.List.{list_any}
 use Rattle.lh_time.specs.declared.Instant.{Instant}
 use Rattle.lh_types.specs.declared.part.Range.{Range}
@@ -8,8 +8,7 @@ use Rattle.lh_unit.specs.Held.{Env}
 use Rattle.lh_unit.specs.Activation.{ProcessState, activate}
 use Rattle.lh_unit.specs.Hierarchy.{Instance}
 use Rattle.lh_unit.specs.Pass.{pass}
-use Rattle.lh_unit.specs.World.{State, of_process, of_entity, start_by, start, wake_of, Act, act, act_if, runs, rests, acts_by, reacts_by, bit_numbers, bit_differs, Rules}
-use Rattle.lh_meaning.specs.Replacing.{answer_of}
+use Rattle.lh_unit.specs.World.{State, of_process, of_entity, start_by, act, act_if, acts_by, reacts_by, bit_numbers, bit_differs, Rules}
 use Rattle.lh_meaning.proofs.BitSets.{SameSet, same_any}
 use Rattle.lh_meaning.proofs.Standing.{scene, fresh, waiting_at, EndsAt, sensed, CombFor}
 use Rattle.lh_meaning.proofs.Simulation.{Matches, Simulation}
@@ -49,7 +48,7 @@ module _ (r : Rules) (x y : UnitText) (i : Instance) (c : CombFor r x y i) where
   comb_keeps None old now t a b h = rw (h.0, h.1) (both_run now t (fresh x i) None (c.first now t None))
   comb_keeps (Some l) old now t a b h =
       rw (h.process, h.entity, same_any (bit_differs old now) (bit_numbers h.on) (sensed y i) h.same_parts)
-        (both_or_none (list_any (bit_differs old now) (sensed y i) || false) now t h.held h.on h.memory h.known h.same_parts)
+      (both_or_none (list_any (bit_differs old now) (sensed y i) || false) now t h.held h.on h.memory h.known h.same_parts)
 
   pub comb_simulation : Simulation r x y i
   comb_simulation = record {

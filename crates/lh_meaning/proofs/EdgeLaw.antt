@@ -1,16 +1,16 @@
 -- An entity whose registers give at every edge what a process gives may stand for it.
-use Rattle.std.proofs.Common.{◌≡◌, ℕ, List, [], ◌∷◌, Bool, true, false, not, ◌&&◌, ◌||◌, if◌then◌else◌, refl, ap, sym, ◌∙◌, subst, Option, Some, None}
+use Rattle.std.proofs.Common.{◌≡◌, ℕ, List, [], Bool, true, false, not, ◌&&◌, ◌||◌, if◌then◌else◌, refl, ap, sym, ◌∙◌, Option, Some, None}
 use Rattle.std.specs.List.{list_any}
 use Rattle.lh_time.specs.declared.Instant.{Instant}
 use Rattle.lh_types.specs.Wish.{Wish, no_wish}
 use Rattle.lh_types.specs.declared.part.Range.{Range}
 use Rattle.lh_unit.specs.Contents.{UnitText}
 use Rattle.lh_unit.specs.Held.{Env}
-use Rattle.lh_unit.specs.Activation.{ProcessState, activate}
+use Rattle.lh_unit.specs.Activation.{activate}
 use Rattle.lh_unit.specs.Hierarchy.{Instance}
 use Rattle.lh_unit.specs.Pass.{pass}
-use Rattle.lh_unit.specs.World.{State, of_process, of_entity, start_by, start, wake_of, Act, act, act_if, runs, rests, acts_by, reacts_by, bit_numbers, bit_at, bit_differs, Rules}
-use Rattle.lh_meaning.specs.Replacing.{Answer, answer_of}
+use Rattle.lh_unit.specs.World.{State, of_process, of_entity, start_by, Act, act, act_if, runs, bit_numbers, bit_at, bit_differs, Rules}
+use Rattle.lh_meaning.specs.Replacing.{answer_of}
 use Rattle.lh_meaning.proofs.BitSets.{has, SameSet, IsWithin, bits_read, same_any, any_within, any_agree, read_agree, none_of, not_differ}
 use Rattle.lh_meaning.proofs.Standing.{scene, fresh, waiting_at, EndsAt, sensed, EdgeFor}
 use Rattle.lh_meaning.proofs.Simulation.{Matches, Simulation}
@@ -129,9 +129,9 @@ module _ (r : Rules) (x y : UnitText) (i : Instance) (c : EdgeFor r x y i) where
   edge_keeps None old now t a b h = rw (h.0, h.1) (first_frame now t)
   edge_keeps (Some l) old now t a b h =
       rw (h.process.is, h.entity, or_false (list_any (bit_differs old now) (bit_numbers h.process.parts)), or_false (list_any (bit_differs old now) (sensed y i)), same_any (bit_differs old now) (bit_numbers h.process.parts) c.on h.process.same_parts)
-        (joined now _ _ (wish_at h.past now t)
-          (process_does h.past old now t h.process.same_bits h.process.held h.process.parts h.process.stands h.process.same_parts (list_any (bit_differs old now) c.on) refl)
-          (entity_does h.past old now t h.process.same_bits (list_any (bit_differs old now) (sensed y i)) refl))
+      (joined now _ _ (wish_at h.past now t)
+      (process_does h.past old now t h.process.same_bits h.process.held h.process.parts h.process.stands h.process.same_parts (list_any (bit_differs old now) c.on) refl)
+      (entity_does h.past old now t h.process.same_bits (list_any (bit_differs old now) (sensed y i)) refl))
 
   pub edge_simulation : Simulation r x y i
   edge_simulation = record {

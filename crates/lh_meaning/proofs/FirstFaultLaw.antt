@@ -1,9 +1,8 @@
 -- A module has at most one first fault.
-use Rattle.std.proofs.Common.{◌≡◌, ◌<◌, ◌⊎◌, inl, inr, ⊎_elim, ℕ, List, [], ◌∷◌, ◌++◌, Bool, true, false, nat_eq, nat_lt, if◌then◌else◌, refl, ap, sym, ◌∙◌, subst, arith}
+use Rattle.std.proofs.Common.{◌≡◌, ◌<◌, ℕ, List, [], ◌∷◌, ◌++◌, Bool, true, false, nat_eq, nat_lt, if◌then◌else◌, refl, ap, sym, ◌∙◌, subst, arith}
 use Rattle.std.proofs.lemmas.Bool.Decides.{nat_tests}
-use Rattle.lh_unit.specs.declared.name.UnitName.{UnitName}
 use Rattle.lh_unit.specs.Contents.{ItemText}
-use Rattle.lh_unit.specs.WellFormed.{FaultKind, undefined, wrong_kind, wrong_type, not_here, no_terminator, phi_edges, not_defined, arguments, number_of, Site, sites, HasFault, NoneHasFault, IsFirstFault, IsFaultless}
+use Rattle.lh_unit.specs.WellFormed.{FaultKind, undefined, wrong_kind, wrong_type, not_here, no_terminator, phi_edges, not_defined, arguments, number_of, Site, HasFault, NoneHasFault}
 use Rattle.lh_meaning.specs.FirstFault.{OneFirstFault, FaultlessHasNone}
 
 -- each number is that of one fault
@@ -31,8 +30,10 @@ same_lowest items s k l hk hl lk ll = at (nat_lt (number_of k) (number_of l)) (n
   where
     below : (m n : ℕ) → nat_lt m n ≡ true → m < n
     below m n h = grind (arith, nat_tests)
+
     level : (m n : ℕ) → nat_lt m n ≡ false → nat_lt n m ≡ false → m ≡ n
     level m n h g = grind (arith, nat_tests)
+
     at : (x y : Bool) → nat_lt (number_of k) (number_of l) ≡ x → nat_lt (number_of l) (number_of k) ≡ y → k ≡ l
     at true y e f = absurd (ll k (below _ _ e) hk)
     at false true e f = absurd (lk l (below _ _ f) hl)
@@ -59,11 +60,12 @@ same_site items (x ∷ xs) (y ∷ ys) s t ss ts k l e hk hl n m = same_site item
 
 pub one_first_fault : OneFirstFault
 one_first_fault items u v i j k l a b =
-    let e : a.site ≡ b.site = same_site items a.before b.before a.site b.site a.after b.after k l (sym a.all ∙ b.all) a.has b.has a.none_before b.none_before in
-    ( sym a.in_unit ∙ ap (λ (s : Site). s.unit.name) e ∙ b.in_unit
-    , sym a.at_inst ∙ ap (λ (s : Site). s.place.number) e ∙ b.at_inst
-    , (let P : Site → Type 0 = λ z. HasFault items z k in let Q : Site → Type 0 = λ z. (j : FaultKind) → number_of j < number_of k → ¬ HasFault items z j in
-       same_lowest items b.site k l (subst P e a.has) b.has (subst Q e a.lowest) b.lowest))
+    let e : a.site ≡ b.site = same_site items a.before b.before a.site b.site a.after b.after k l (sym a.all ∙ b.all) a.has b.has a.none_before b.none_before in (
+      sym a.in_unit ∙ ap (λ (s : Site). s.unit.name) e ∙ b.in_unit,
+      sym a.at_inst ∙ ap (λ (s : Site). s.place.number) e ∙ b.at_inst,
+      (let P : Site → Type 0 = λ z. HasFault items z k in let Q : Site → Type 0 = λ z. (j : FaultKind) → number_of j < number_of k → ¬ HasFault items z j in
+          same_lowest items b.site k l (subst P e a.has) b.has (subst Q e a.lowest) b.lowest),
+    )
 
 pub faultless_has_none : FaultlessHasNone
 faultless_has_none items u i k f a = let P : List Site → Type 0 = λ z. NoneHasFault items z in not_among items a.before a.site a.after k a.has (subst P a.all f)

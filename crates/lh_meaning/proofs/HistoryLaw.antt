@@ -1,17 +1,16 @@
 -- No two entries of a history compete.
-use Rattle.std.proofs.Common.{◌≡◌, ◌≤◌, ◌⊎◌, inl, inr, ⊎_elim, ℕ, ◌+◌, List, [], ◌∷◌, ◌++◌, Bool, true, false, refl, ap, sym, ◌∙◌, subst, Option, Some, None, arith}
-use Rattle.std.specs.declared.cmp.Ordering.{Ordering}
-use Rattle.std.specs.declared.cmp.Ordering.TheVariants.{Less, Equal, Greater}
+use Rattle.std.proofs.Common.{◌≡◌, ◌≤◌, ◌⊎◌, inl, inr, ⊎_elim, ℕ, ◌+◌, List, [], ◌∷◌, ◌++◌, Bool, true, refl, ap, sym, ◌∙◌, subst, Option, Some, None, arith}
+use Rattle.std.specs.declared.cmp.Ordering.TheVariants.{Less, Equal}
 use Rattle.lh_time.specs.declared.Instant.{Instant}
-use Rattle.lh_time.specs.Order.{instant_cmp, instant_lt, instant_le}
+use Rattle.lh_time.specs.Order.{instant_lt, instant_le}
 use Rattle.lh_types.specs.Wish.{DueBit, due_bit_cmp, Wish}
 use Rattle.lh_types.specs.History.{Made, Claim, claims, claims_of, claim_cmp, IsAmong, bits_at}
-use Rattle.lh_unit.specs.Contents.{UnitText, ItemText}
+use Rattle.lh_unit.specs.Contents.{ItemText}
 use Rattle.lh_unit.specs.Hierarchy.{Instance}
 use Rattle.lh_unit.specs.Design.{Design}
-use Rattle.lh_unit.specs.World.{State, Act, act, Rules, rules_of, unit_of, World, first_world, bits_of, acts_of, acts, kept, made_by, next_world, instant_after, next_instant, IsNext}
+use Rattle.lh_unit.specs.World.{State, Act, Rules, rules_of, unit_of, World, bits_of, acts_of, acts, kept, made_by, next_world, instant_after, next_instant, IsNext}
 use Rattle.lh_meaning.specs.Values.{OneEach}
-use Rattle.lh_meaning.specs.Wishes.{IsBelow, IsInOrder, IsLate, ActsInOrder, Reached, at_first, after_frame, HistoryIsMap}
+use Rattle.lh_meaning.specs.Wishes.{IsBelow, IsInOrder, ActsInOrder, Reached, at_first, after_frame, HistoryIsMap}
 use Rattle.lh_meaning.proofs.Instants.{le_self, lt_le, le_lt, lt_self}
 use Rattle.lh_meaning.proofs.WishesLaw.{in_order-insert, nat_one, then_equal, instant_one, due_bit_self}
 use Rattle.lh_meaning.proofs.WishKept.{WishProperty, act_keeps}
@@ -67,7 +66,8 @@ record Origin (made : Instant) (i : ℕ) (w : Wish) (c : Claim) : Type 0 where
 origin_of : (made : Instant) (i : ℕ) (w : Wish) (c : Claim) → IsAmong c (claims_of made i w) → Origin made i w c
 origin_of made i [] c h = absurd h
 origin_of made i (e ∷ more) c (inl p) = record {
-  when = ap (λ (d : Claim). d.made) (sym p); who = ap (λ (d : Claim). d.instance) (sym p);
+  when = ap (λ (d : Claim). d.made) (sym p);
+  who = ap (λ (d : Claim). d.instance) (sym p);
   entry = inl (ap (λ (d : Claim). d.due) p, ap (λ (d : Claim). d.bit) p, ap (λ (d : Claim). d.value) p);
 }
 origin_of made i (e ∷ more) c (inr h) = let o = origin_of made i more c h in record { when = o.when; who = o.who; entry = inr o.entry }
@@ -109,10 +109,11 @@ one_in_frame : (t : Instant) (k : ℕ) (done : List Act) (c d : Claim) → AllIn
     → c.bit ≡ d.bit → c.due ≡ d.due → c.instance ≡ d.instance → c.value ≡ d.value
 one_in_frame t k [] c d o h j b u i = absurd h
 one_in_frame t k (a ∷ more) c d o h j b u i = at (among_made (kept t k a.wish) (made_by t (k + 1) more) c h) (among_made (kept t k a.wish) (made_by t (k + 1) more) d j)
-      (λ x y. one_in_frame t (k + 1) more c d o.1 x y b u i)
+    (λ x y. one_in_frame t (k + 1) more c d o.1 x y b u i)
   where
     moved : IsEntry d.due d.bit d.value a.wish → IsEntry c.due c.bit d.value a.wish
     moved e = rw (b, u) e
+
     at : IsAmong c (claims (kept t k a.wish)) ⊎ IsAmong c (claims (made_by t (k + 1) more)) → IsAmong d (claims (kept t k a.wish)) ⊎ IsAmong d (claims (made_by t (k + 1) more))
         → (IsAmong c (claims (made_by t (k + 1) more)) → IsAmong d (claims (made_by t (k + 1) more)) → c.value ≡ d.value) → c.value ≡ d.value
     at (inl x) (inl y) ih =
@@ -151,8 +152,10 @@ later_than w t (Some l) e n c m = le_lt c.made l t m (after (instant_after (Some
   where
     same : (u : Instant) → Some u ≡ Some t → u ≡ t
     same u z = cc
+
     none : None ≡ Some t → ⊥
     none z = cc
+
     after : (x : Option Instant) → IsNext l w.history w.states x → x ≡ Some t → instant_lt l t ≡ true
     after None i z = absurd (none z)
     after (Some u) i z = ap (instant_lt l) (sym (same u z)) ∙ i.0.0
@@ -167,13 +170,17 @@ module _ (bound : ℕ) (items : List ItemText) (d : Design) where
     where
       split : (c : Claim) → IsAmong c (claims (w.history ++ made_by t 0 (acts bound items d w t))) → IsAmong c (claims w.history) ⊎ IsAmong c (claims (made_by t 0 (acts bound items d w t)))
       split c x = among_made w.history (made_by t 0 (acts bound items d w t)) c x
+
       before : (c : Claim) → IsAmong c (claims w.history) → instant_lt c.made t ≡ true
       before c x = later_than w t w.last refl n c (s.past c x)
+
       past_at : (c : Claim) → IsAmong c (claims w.history) ⊎ IsAmong c (claims (made_by t 0 (acts bound items d w t))) → instant_le c.made t ≡ true
       past_at c (inl x) = lt_le c.made t (before c x)
       past_at c (inr x) = let f = from_frame t 0 (acts bound items d w t) c x in ap (λ m. instant_le m t) f.when ∙ le_self t
+
       apart : (c e : Claim) → IsAmong c (claims w.history) → IsAmong e (claims (made_by t 0 (acts bound items d w t))) → c.made ≡ e.made → ⊥
       apart c e x y m = let f = from_frame t 0 (acts bound items d w t) e y in lt_self t (ap (λ u. instant_lt u t) (sym (m ∙ f.when)) ∙ before c x)
+
       at : (c e : Claim) → IsAmong c (claims w.history) ⊎ IsAmong c (claims (made_by t 0 (acts bound items d w t))) → IsAmong e (claims w.history) ⊎ IsAmong e (claims (made_by t 0 (acts bound items d w t)))
           → c.bit ≡ e.bit → Level c e → claim_cmp c e ≡ Equal → c.value ≡ e.value
       at c e (inl x) (inl y) b l z = s.one c e x y b z

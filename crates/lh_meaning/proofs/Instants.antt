@@ -1,8 +1,8 @@
 -- The order of instants.
-use Rattle.std.proofs.Common.{◌≡◌, ℕ, ◌+◌, ◌^◌, Bool, true, false, not, nat_lt, nat_eq, if◌then◌else◌, refl, ap, sym, ◌∙◌, Option, Some, None, IfSome, arith}
+use Rattle.std.proofs.Common.{◌≡◌, ℕ, ◌+◌, ◌^◌, Bool, true, false, not, nat_lt, if◌then◌else◌, refl, ap, sym, ◌∙◌, Some, None, IfSome, arith}
 use Rattle.std.specs.declared.cmp.Ordering.{Ordering}
 use Rattle.std.specs.declared.cmp.Ordering.TheVariants.{Less, Equal, Greater}
-use Rattle.std.specs.Ordering.{is_lt, is_le, is_gt, ordering_then, ordering_reverse, nat_cmp}
+use Rattle.std.specs.Ordering.{is_lt, is_le, is_gt, ordering_reverse, nat_cmp}
 use Rattle.std.specs.Cmp.{IsTotalOrder}
 use Rattle.std.proofs.lemmas.Cmp.{then_total, on_total, nat_cmp_total, tied_itself, upto}
 use Rattle.std.proofs.lemmas.Bool.Decides.{nat_tests}
@@ -94,6 +94,7 @@ le_lt a b c h k = lt_not_le a c ∙ at (instant_le c a) refl
       where
         clash : true ≡ false → ⊥
         clash z = cc
+
     at : (x : Bool) → instant_le c a ≡ x → not x ≡ true
     at true e = absurd (no_both (le_trans c a b e h))
     at false e = refl

@@ -1,9 +1,9 @@
 -- The next instant is the least that comes.
-use Rattle.std.proofs.Common.{◌≡◌, ℕ, List, [], ◌∷◌, Bool, true, false, if◌then◌else◌, refl, ap, sym, ◌∙◌, subst, Option, Some, None, ◌⊎◌, inl, inr, ⊎_elim}
+use Rattle.std.proofs.Common.{◌≡◌, List, [], ◌∷◌, Bool, true, false, if◌then◌else◌, refl, ap, sym, ◌∙◌, Option, Some, None, ◌⊎◌, inl, inr, ⊎_elim}
 use Rattle.lh_time.specs.declared.Instant.{Instant}
 use Rattle.lh_time.specs.Order.{instant_lt, instant_le}
 use Rattle.lh_types.specs.History.{Made, Claim, claims, sooner, if_later, soonest_due}
-use Rattle.lh_unit.specs.World.{State, wake_of, IsDueIn, WakesIn, ComesAfter, IsNext, soonest_wake, instant_after}
+use Rattle.lh_unit.specs.World.{State, wake_of, IsDueIn, WakesIn, IsNext, soonest_wake}
 use Rattle.lh_meaning.specs.Frames.{NextComputes}
 use Rattle.lh_meaning.proofs.Instants.{le_self, le_trans, lt_le, not_lt_le}
 
@@ -46,6 +46,7 @@ module _ (t : Instant) where
     where
       same : (u : Instant) → Some x ≡ Some u → x ≡ u
       same u e = cc
+
       at : (k : Bool) → instant_lt t x ≡ k → IsLeast (λ u. Some x ≡ Some u) (if k then Some x else None)
       at true k = (k, refl, λ v h e. ap (instant_le x) (sym (same v e)) ∙ le_self x)
       at false k = λ u h e. no_true (instant_lt t x) k (ap (instant_lt t) (same u e) ∙ h)

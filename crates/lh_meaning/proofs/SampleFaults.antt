@@ -1,15 +1,15 @@
 -- The faults of small files.
-use Rattle.std.proofs.Common.{◌≡◌, ◌<◌, ◌⊎◌, inl, inr, ℕ, List, [], ◌∷◌, ◌++◌, map, filter, Bool, true, false, not, ◌||◌, refl, ap, sym, ◌∙◌, Option, Some, None, arith}
+use Rattle.std.proofs.Common.{◌≡◌, ◌<◌, ◌⊎◌, inl, inr, ℕ, List, [], ◌∷◌, ◌++◌, map, filter, Bool, true, false, ◌||◌, refl, ap, sym, ◌∙◌, Some, None, arith}
 use Rattle.std.specs.Prelude.{codes}
 use Rattle.std.specs.List.{list_any}
-use Rattle.lh_types.specs.Types.{TypeTree, int_type, time_type, void_type}
+use Rattle.lh_types.specs.Types.{TypeTree, int_type, void_type}
 use Rattle.lh_types.specs.Values.{int_value}
 use Rattle.lh_types.specs.declared.op.Op.TheVariants as op
 use Rattle.lh_unit.specs.declared.inst.UnitKind.TheVariants as kind
-use Rattle.lh_unit.specs.Contents.{EdgeText, InstText, const_text, pure_text, sig_text, prb_text, wait_text, halt_text, call_text, child_text, phi_text, br_text, branch_text, ret_text, LineText, BlockText, UnitText, ItemText, unit_text, lines_define}
-use Rattle.lh_unit.specs.Places.{Place, IsPath}
-use Rattle.lh_unit.specs.WellFormed.{FaultKind, undefined, wrong_kind, wrong_type, not_here, no_terminator, phi_edges, not_defined, arguments, number_of, has_local, Lacks, LacksOnEdge, SomeEdgeLacks, Site, sites, HasFault, IsFirstFault, IsFaultless}
-use Rattle.lh_meaning.proofs.Samples.{global, line, bare, typed, input, bit, bit_signal, byte_signal, block, entity, process}
+use Rattle.lh_unit.specs.Contents.{InstText, const_text, pure_text, sig_text, prb_text, halt_text, call_text, phi_text, br_text, branch_text, ret_text, LineText, BlockText, UnitText, ItemText, unit_text, lines_define}
+use Rattle.lh_unit.specs.Places.{Place}
+use Rattle.lh_unit.specs.WellFormed.{FaultKind, undefined, wrong_kind, wrong_type, not_here, no_terminator, phi_edges, not_defined, arguments, number_of, has_local, Lacks, SomeEdgeLacks, Site, sites, HasFault, IsFirstFault, IsFaultless}
+use Rattle.lh_meaning.proofs.Samples.{global, line, bare, typed, input, bit, bit_signal, block, entity, process}
 
 abbrev all_kinds : List FaultKind
 all_kinds = undefined ∷ wrong_kind ∷ wrong_type ∷ not_here ∷ no_terminator ∷ phi_edges ∷ arguments ∷ []
@@ -128,9 +128,10 @@ one_way_fault =
       at_inst = refl;
       has = (refl, inl (refl, record { earlier = entry ∷ []; path = (refl, refl, refl); not_before = refl; not_earlier = refl }));
       lowest = none_below one_way_items fourth refl;
-      none_before =
-        ( none_of one_way_items first refl (λ h. arg_stands h.1)
-        , (none_of one_way_items second refl (λ h. h.1), (none_of one_way_items third refl (λ h. h.1), tt)));
+      none_before = (
+        none_of one_way_items first refl (λ h. arg_stands h.1),
+        (none_of one_way_items second refl (λ h. h.1), (none_of one_way_items third refl (λ h. h.1), tt)),
+      );
     }
 
 -- The same with a value on either way.
@@ -160,19 +161,31 @@ defined_there : (n : List ℕ) (x y : BlockText) → lines_define n x.lines ≡ 
 defined_there n x y d e h = clash _ h (ap (λ (b : BlockText). lines_define n b.lines) (sym e) ∙ d)
 
 pub both_ways_faultless : IsFaultless both_ways_items
-both_ways_faultless =
-    ( none_of both_ways_items (site both_ways (place 1 true entry_with_o [] const_o (branches ∷ []))) refl (λ h. h.1)
-    , ( none_of both_ways_items (site both_ways (place 2 true entry_with_o (const_o ∷ []) branches [])) refl (λ h. arg_stands h.1)
-    , ( none_of both_ways_items (site both_ways (place 3 false on_a [] const_x (to_b ∷ []))) refl (λ h. h.1)
-    , ( none_of both_ways_items (site both_ways (place 4 false on_a (const_x ∷ []) to_b [])) refl (λ h. h.1)
-    , ( none_of both_ways_items (site both_ways (place 5 false merging [] merges (returns_value (codes "y") ∷ []))) refl (λ h. operands h.1)
-    , ( none_of both_ways_items (site both_ways (place 6 false merging (merges ∷ []) (returns_value (codes "y")) [])) refl (λ h. above h.1)
-    , tt))))))
+both_ways_faultless = (
+  none_of both_ways_items (site both_ways (place 1 true entry_with_o [] const_o (branches ∷ []))) refl (λ h. h.1),
+  (
+    none_of both_ways_items (site both_ways (place 2 true entry_with_o (const_o ∷ []) branches [])) refl (λ h. arg_stands h.1),
+    (
+      none_of both_ways_items (site both_ways (place 3 false on_a [] const_x (to_b ∷ []))) refl (λ h. h.1),
+      (
+        none_of both_ways_items (site both_ways (place 4 false on_a (const_x ∷ []) to_b [])) refl (λ h. h.1),
+        (
+          none_of both_ways_items (site both_ways (place 5 false merging [] merges (returns_value (codes "y") ∷ []))) refl (λ h. operands h.1),
+          (
+            none_of both_ways_items (site both_ways (place 6 false merging (merges ∷ []) (returns_value (codes "y")) [])) refl (λ h. above h.1),
+            tt,
+          ),
+        ),
+      ),
+    ),
+  ),
+)
   where
     operands : SomeEdgeLacks both_ways (codes "b") (record { value = codes "o"; block = codes "entry" } ∷ record { value = codes "x"; block = codes "a" } ∷ []) → ⊥
     operands (inl h) = defined_there (codes "o") entry_with_o h.1.last refl (same_block _ _ h.1.named) h.1.lacks.not_before
     operands (inr (inl h)) = defined_there (codes "x") on_a h.1.last refl (same_block _ _ h.1.named) h.1.lacks.not_before
     operands (inr (inr h)) = h
+
     above : ((false ≡ false) × Lacks both_ways (codes "y") merging (merges ∷ [])) ⊎ ⊥ → ⊥
     above (inl h) = clash true h.1.not_before refl
     above (inr h) = h
@@ -216,13 +229,13 @@ assertion_of_none = refl
 
 -- the operand of a signal depends on a probe
 pub probed_signal : local_numbers (entity (codes "t") (input (codes "s") bit_signal ∷ []) (
-      line (codes "a") (prb_text (typed bit_signal (codes "s"))) ∷ line (codes "b") (sum (codes "a") (codes "a")) ∷ line (codes "c") (sig_text (typed bit (codes "b"))) ∷ []) ∷ [])
+    line (codes "a") (prb_text (typed bit_signal (codes "s"))) ∷ line (codes "b") (sum (codes "a") (codes "a")) ∷ line (codes "c") (sig_text (typed bit (codes "b"))) ∷ []) ∷ [])
     ≡ [] ∷ [] ∷ (2 ∷ []) ∷ []
 probed_signal = refl
 
 -- a phi that does not name its predecessor
 pub phi_of_none : local_numbers (process (codes "p") [] (
-      block (codes "entry") (line (codes "a") (const_text (int_value 1 1)) ∷ bare (br_text (codes "next")) ∷ [])
-      ∷ block (codes "next") (line (codes "b") (phi_text bit (record { value = codes "a"; block = codes "next" } ∷ [])) ∷ bare halt_text ∷ []) ∷ []) ∷ [])
+    block (codes "entry") (line (codes "a") (const_text (int_value 1 1)) ∷ bare (br_text (codes "next")) ∷ [])
+    ∷ block (codes "next") (line (codes "b") (phi_text bit (record { value = codes "a"; block = codes "next" } ∷ [])) ∷ bare halt_text ∷ []) ∷ []) ∷ [])
     ≡ [] ∷ [] ∷ (6 ∷ []) ∷ [] ∷ []
 phi_of_none = refl

@@ -1,9 +1,9 @@
 -- The traces of small files, computed.
-use Rattle.std.specs.Prelude.{◌≡◌, ℕ, List, [], ◌∷◌, map, Bool, true, false, Option, Some, None, codes, refl}
+use Rattle.std.specs.Prelude.{◌≡◌, ℕ, List, [], ◌∷◌, map, Bool, false, Some, None, codes, refl}
 use Rattle.std.specs.Fmt.{digits}
 use Rattle.lh_time.specs.Due.{instant}
 use Rattle.lh_types.specs.Types.{int_type}
-use Rattle.lh_types.specs.Values.{Datum, int_value}
+use Rattle.lh_types.specs.Values.{int_value}
 use Rattle.lh_types.specs.Wish.{DueBit}
 use Rattle.lh_types.specs.declared.part.Range.{Range}
 use Rattle.lh_types.specs.History.{bits_at}
@@ -11,7 +11,7 @@ use Rattle.lh_unit.specs.Activation.{activate}
 use Rattle.lh_unit.specs.Pass.{pass, probes}
 use Rattle.lh_unit.specs.Design.{Signal, visit, design_of, refusal_of}
 use Rattle.lh_unit.specs.World.{acts}
-use Rattle.lh_unit.specs.Trace.{Outcome, Frame, End, quiet, steps, runaway, Run, Shown, Trace, refuses, ran, trace}
+use Rattle.lh_unit.specs.Trace.{Frame, End, quiet, steps, runaway, Run, Shown, ran, trace}
 use Rattle.lh_unit.specs.declared.inst.Mode.TheVariants.{Rise, High}
 use Rattle.lh_meaning.proofs.Samples.{global, one_drive, two_drivers, high_from_start, rises_later, waits_for, zero_delay, failing, endless, five_delays}
 
@@ -27,9 +27,9 @@ one_bit = record { instance = 0; name = codes "a"; ty = int_type 1; lo = 0 } ∷
 pub one_drive_whole : trace one_drive (global (codes "t")) 9 ≡
     ran top_only one_bit (record {
       frames =
-        record { at = instant 0 0 0; values = int_value 1 0 ∷ []; outcomes = [] }
-        ∷ record { at = instant 1000000 0 0; values = int_value 1 1 ∷ []; outcomes = [] }
-        ∷ [];
+          record { at = instant 0 0 0; values = int_value 1 0 ∷ []; outcomes = [] }
+          ∷ record { at = instant 1000000 0 0; values = int_value 1 1 ∷ []; outcomes = [] }
+          ∷ [];
       end = quiet;
     })
 unfolding activate pass probes visit design_of refusal_of bits_at acts
@@ -53,7 +53,7 @@ signal_of n width lo = record { instance = 0; name = n; ty = int_type width; lo 
 -- of two drives that are due at one instant and were made at one instant, that of the greater instance counts
 pub two_drivers_trace : trace two_drivers (global (codes "t")) 9 ≡
     ran (record { label = codes "t"; parent = None } ∷ record { label = codes "r_1"; parent = Some 0 } ∷ record { label = codes "p_2"; parent = Some 0 } ∷ [])
-      (signal_of (codes "s") 8 0 ∷ []) (ended quiet (frame 0 0 0 8 (0 ∷ []) ∷ frame 1000000 0 0 8 (1 ∷ []) ∷ []))
+    (signal_of (codes "s") 8 0 ∷ []) (ended quiet (frame 0 0 0 8 (0 ∷ []) ∷ frame 1000000 0 0 8 (1 ∷ []) ∷ []))
 unfolding activate pass probes visit design_of refusal_of bits_at acts digits
 two_drivers_trace = refl
 
@@ -77,7 +77,7 @@ edge_fires = refl
 
 pub waits_for_trace : trace waits_for (global (codes "p")) 9 ≡
     ran (record { label = codes "p"; parent = None } ∷ []) (signal_of (codes "q") 1 0 ∷ [])
-      (ended quiet (frame 0 0 0 1 (0 ∷ []) ∷ frame 1000000 0 0 1 (0 ∷ []) ∷ frame 2000000 0 0 1 (1 ∷ []) ∷ []))
+    (ended quiet (frame 0 0 0 1 (0 ∷ []) ∷ frame 1000000 0 0 1 (0 ∷ []) ∷ frame 2000000 0 0 1 (1 ∷ []) ∷ []))
 unfolding activate pass probes visit design_of refusal_of bits_at acts
 waits_for_trace = refl
 

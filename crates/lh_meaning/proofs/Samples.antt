@@ -1,14 +1,12 @@
 -- Small files, as contents.
-use Rattle.std.specs.Prelude.{ℕ, List, [], ◌∷◌, ◌++◌, map, Bool, true, false, Option, Some, None, codes}
-use Rattle.lh_time.specs.declared.Delay.{Delay}
-use Rattle.lh_types.specs.Types.{TypeTree, int_type, time_type, void_type, signal_type}
+use Rattle.std.specs.Prelude.{ℕ, List, [], ◌∷◌, ◌++◌, map, true, false, Some, None, codes}
+use Rattle.lh_types.specs.Types.{TypeTree, int_type, void_type, signal_type}
 use Rattle.lh_types.specs.Values.{Datum, int_value, time_value}
 use Rattle.lh_unit.specs.declared.name.UnitName.{UnitName}
-use Rattle.lh_unit.specs.declared.inst.UnitKind.{UnitKind}
 use Rattle.lh_unit.specs.declared.inst.UnitKind.TheVariants as kind
 use Rattle.lh_unit.specs.declared.inst.Mode.{Mode}
-use Rattle.lh_unit.specs.declared.inst.Mode.TheVariants.{Rise, Fall, Both, High, Low}
-use Rattle.lh_unit.specs.Contents.{OperandText, TriggerText, InstText, const_text, sig_text, drv_text, prb_text, reg_text, child_text, call_text, wait_text, halt_text, ret_text, LineText, BlockText, ArgText, UnitText, ItemText, unit_text}
+use Rattle.lh_unit.specs.declared.inst.Mode.TheVariants.{Rise}
+use Rattle.lh_unit.specs.Contents.{OperandText, InstText, const_text, sig_text, drv_text, prb_text, reg_text, child_text, call_text, wait_text, halt_text, ret_text, LineText, BlockText, ArgText, UnitText, ItemText, unit_text}
 
 abbrev pub global : List ℕ → UnitName
 global n = record { sigil = 64; name = n }
@@ -63,11 +61,11 @@ one_drive = entity (codes "t") [] (
 abbrev pub one_byte : List ℕ → ℕ → ItemText
 one_byte n v = process n (output (codes "s") byte_signal ∷ []) (
     block (codes "entry") (
-      line (codes "v") (const_text (int_value 8 v))
-      ∷ line (codes "d") (const_text (delay 1000000 0 0))
-      ∷ bare (drv_text (typed byte_signal (codes "s")) (codes "v") (codes "d") None)
-      ∷ bare halt_text
-      ∷ [])
+    line (codes "v") (const_text (int_value 8 v))
+    ∷ line (codes "d") (const_text (delay 1000000 0 0))
+    ∷ bare (drv_text (typed byte_signal (codes "s")) (codes "v") (codes "d") None)
+    ∷ bare halt_text
+    ∷ [])
     ∷ [])
 
 abbrev pub connected : List ℕ → List (List ℕ) → LineText
@@ -78,11 +76,11 @@ two_drivers =
     one_byte (codes "p") 1
     ∷ one_byte (codes "r") 2
     ∷ entity (codes "t") [] (
-        line (codes "z") (const_text (int_value 8 0))
-        ∷ line (codes "s") (sig_text (typed (int_type 8) (codes "z")))
-        ∷ connected (codes "r") (codes "s" ∷ [])
-        ∷ connected (codes "p") (codes "s" ∷ [])
-        ∷ [])
+    line (codes "z") (const_text (int_value 8 0))
+    ∷ line (codes "s") (sig_text (typed (int_type 8) (codes "z")))
+    ∷ connected (codes "r") (codes "s" ∷ [])
+    ∷ connected (codes "p") (codes "s" ∷ [])
+    ∷ [])
     ∷ []
 
 -- a register with one trigger
@@ -117,14 +115,14 @@ rises_later = entity (codes "t") [] (
 abbrev pub waits_for : List ItemText
 waits_for = process (codes "p") (output (codes "q") bit_signal ∷ []) (
     block (codes "entry") (
-      line (codes "o") (const_text (int_value 1 1))
-      ∷ line (codes "d") (const_text (delay 1000000 0 0))
-      ∷ bare (wait_text (codes "next") (Some (codes "d")) [])
-      ∷ [])
+    line (codes "o") (const_text (int_value 1 1))
+    ∷ line (codes "d") (const_text (delay 1000000 0 0))
+    ∷ bare (wait_text (codes "next") (Some (codes "d")) [])
+    ∷ [])
     ∷ block (codes "next") (
-      bare (drv_text (typed bit_signal (codes "q")) (codes "o") (codes "d") None)
-      ∷ bare halt_text
-      ∷ [])
+    bare (drv_text (typed bit_signal (codes "q")) (codes "o") (codes "d") None)
+    ∷ bare halt_text
+    ∷ [])
     ∷ []) ∷ []
 
 -- a drive with the zero delay
@@ -141,21 +139,24 @@ zero_delay = entity (codes "t") [] (
 abbrev pub failing : List ItemText
 failing = process (codes "p") [] (
     block (codes "entry") (
-      line (codes "z") (const_text (int_value 1 0))
-      ∷ bare (call_text (global (codes "llhd.assert")) void_type (typed bit (codes "z") ∷ []))
-      ∷ bare halt_text
-      ∷ [])
+    line (codes "z") (const_text (int_value 1 0))
+    ∷ bare (call_text (global (codes "llhd.assert")) void_type (typed bit (codes "z") ∷ []))
+    ∷ bare halt_text
+    ∷ [])
     ∷ []) ∷ []
 
 -- a function that calls itself without end
 abbrev pub endless : List ItemText
 endless =
     unit_text (record {
-      kind = kind.Func; name = global (codes "f"); args = []; result = Some void_type;
+      kind = kind.Func;
+      name = global (codes "f");
+      args = [];
+      result = Some void_type;
       blocks = block (codes "entry") (bare (call_text (global (codes "f")) void_type []) ∷ bare (ret_text None) ∷ []) ∷ [];
     })
     ∷ process (codes "p") [] (
-      block (codes "entry") (bare (call_text (global (codes "f")) void_type []) ∷ bare (wait_text (codes "entry") None []) ∷ []) ∷ [])
+    block (codes "entry") (bare (call_text (global (codes "f")) void_type []) ∷ bare (wait_text (codes "entry") None []) ∷ []) ∷ [])
     ∷ []
 
 -- five drives with five delays
@@ -165,10 +166,13 @@ delayed s d v =
 
 abbrev pub five_delays : UnitText
 five_delays = record {
-  kind = kind.Entity; name = global (codes "t"); args = []; result = None;
+  kind = kind.Entity;
+  name = global (codes "t");
+  args = [];
+  result = None;
   blocks = record {
     label = None;
     lines = line (codes "z") (const_text (int_value 1 0)) ∷ delayed (codes "a") (codes "d0") (delay 0 0 0) ++ delayed (codes "b") (codes "d1") (delay 0 1 0)
-      ++ delayed (codes "c") (codes "d2") (delay 0 1 4) ++ delayed (codes "d") (codes "d3") (delay 0 0 1) ++ delayed (codes "e") (codes "d4") (delay 1000000 2 3);
+        ++ delayed (codes "c") (codes "d2") (delay 0 1 4) ++ delayed (codes "d") (codes "d3") (delay 0 0 1) ++ delayed (codes "e") (codes "d4") (delay 1000000 2 3);
   } ∷ [];
 }

@@ -1,5 +1,5 @@
 -- Units that show the same, and a relation that shows that they do.
-use Rattle.std.proofs.Common.{◌≡◌, ℕ, List, [], ◌∷◌, Bool, refl, ap, sym, ◌∙◌, Option, Some, None}
+use Rattle.std.proofs.Common.{◌≡◌, List, [], ◌∷◌, Bool, refl, ap, Option, Some, None}
 use Rattle.lh_time.specs.declared.Instant.{Instant}
 use Rattle.lh_unit.specs.Contents.{UnitText}
 use Rattle.lh_unit.specs.Hierarchy.{Instance}
@@ -25,7 +25,7 @@ module _ (r : Rules) (x y : UnitText) (i : Instance) (sim : Simulation r x y i) 
       let m : Matches (sim.R (Some f.at) f.now) (act r last old f.now f.at x i a) (act r last old f.now f.at y i b) = sim.keeps last old f.now f.at a b h in
       let here : answer_of (act r last old f.now f.at x i a) ≡ answer_of (act r last old f.now f.at y i b) = m.answer in
       let rest : answers r x i (Some f.at) f.now (act r last old f.now f.at x i a).after more ≡ answers r y i (Some f.at) f.now (act r last old f.now f.at y i b).after more
-          = answers_from more (Some f.at) f.now _ _ m.after in
+      = answers_from more (Some f.at) f.now _ _ m.after in
       cc
 
   -- units in such a relation show the same in all frames

@@ -1,5 +1,5 @@
 -- Under which conditions an entity may stand for a process: where it gives the same on all values, or at every edge.
-use Rattle.std.proofs.Common.{◌≡◌, ℕ, List, [], ◌∷◌, map, Bool, true, false, refl, Option, Some, None}
+use Rattle.std.proofs.Common.{◌≡◌, ℕ, List, [], map, Bool, true, false, Option, Some, None}
 use Rattle.std.specs.List.{list_any}
 use Rattle.lh_time.specs.declared.Instant.{Instant}
 use Rattle.lh_types.specs.Wish.{Wish, no_wish}
@@ -7,7 +7,7 @@ use Rattle.lh_types.specs.declared.part.Range.{Range}
 use Rattle.lh_unit.specs.declared.inst.UnitKind.TheVariants as kind
 use Rattle.lh_unit.specs.Contents.{UnitText}
 use Rattle.lh_unit.specs.Held.{Env, part_held, nothing_held, with_args}
-use Rattle.lh_unit.specs.Activation.{Scene, Stand, is_new, waits, ProcessState, Activated, activate}
+use Rattle.lh_unit.specs.Activation.{Scene, is_new, waits, ProcessState, Activated, activate}
 use Rattle.lh_unit.specs.Hierarchy.{Instance}
 use Rattle.lh_unit.specs.Pass.{pass, probes}
 use Rattle.lh_unit.specs.World.{bit_numbers, bit_differs, Rules}

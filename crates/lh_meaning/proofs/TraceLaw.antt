@@ -1,11 +1,11 @@
 -- Prefixes of a trace, and modules of one trace.
-use Rattle.std.proofs.Common.{◌≡◌, ℕ, zero, suc, ◌+◌, ◌≤◌, List, [], ◌∷◌, ◌++◌, length, refl, ap, sym, ◌∙◌, Option, Some, None, ◌⊎◌, inl, inr, arith, add-one}
+use Rattle.std.proofs.Common.{ℕ, zero, suc, ◌+◌, ◌≤◌, List, [], ◌∷◌, length, refl, ap, sym, ◌∙◌, Option, Some, None, inl, inr, arith, add-one}
 use Rattle.lh_time.specs.declared.Instant.{Instant}
 use Rattle.lh_types.specs.History.{bits_at}
 use Rattle.lh_unit.specs.Contents.{ItemText}
 use Rattle.lh_unit.specs.Design.{Design, Elaborated, refused, built, elab}
-use Rattle.lh_unit.specs.World.{World, Act, acts, first_world, world_after, next_instant}
-use Rattle.lh_unit.specs.Trace.{Frame, steps, Run, ran, least_runaway, frame_of, before, goes_on, at_bound, follows, run_at, run_from, shown_from, trace_by, trace_within}
+use Rattle.lh_unit.specs.World.{World, acts, first_world, world_after, next_instant}
+use Rattle.lh_unit.specs.Trace.{Frame, steps, Run, least_runaway, frame_of, before, goes_on, at_bound, run_at, run_from, trace_by, trace_within}
 use Rattle.lh_meaning.specs.Frames.{HasOneMore, TraceHasOneMore, TraceIsPrefix, frame_count, TraceIsWithin, BitsStay, EqualSameTrace, SameTraceTurns, SameTraceLinks}
 use Rattle.lh_meaning.proofs.Worlds.{bits_stay}
 

@@ -1,5 +1,5 @@
 -- The value of a bit, by the set of entries.
-use Rattle.std.proofs.Common.{◌≡◌, ◌↔◌, ℕ, zero, suc, ◌+◌, length, List, [], ◌∷◌, Bool, true, false, not, ◌&&◌, nat_eq, if◌then◌else◌, refl, ap, sym, ◌∙◌, subst, Option, Some, None, arith, ◌⊎◌, inl, inr, ⊎_elim}
+use Rattle.std.proofs.Common.{◌≡◌, ℕ, zero, suc, ◌+◌, length, List, [], ◌∷◌, Bool, true, false, ◌&&◌, nat_eq, if◌then◌else◌, refl, ap, sym, ◌∙◌, subst, Option, Some, None, arith, ◌⊎◌, inl, inr, ⊎_elim}
 use Rattle.std.specs.declared.cmp.Ordering.{Ordering}
 use Rattle.std.specs.declared.cmp.Ordering.TheVariants.{Less, Equal, Greater}
 use Rattle.std.specs.Ordering.{is_le, is_gt, ordering_reverse}
@@ -10,7 +10,7 @@ use Rattle.std.proofs.lemmas.Cmp.{then_total, on_total, nat_cmp_total, tied_itse
 use Rattle.std.proofs.lemmas.Bool.Decides.{nat_tests}
 use Rattle.lh_time.specs.declared.Instant.{Instant}
 use Rattle.lh_time.specs.Order.{instant_le}
-use Rattle.lh_types.specs.History.{Made, Claim, claims, claim_cmp, is_due_by, greater, greatest_from, value_by, values_by, bits_at, IsAmong, IsGreatest, HasValue}
+use Rattle.lh_types.specs.History.{Claim, claims, claim_cmp, is_due_by, greater, greatest_from, value_by, values_by, bits_at, IsAmong, HasValue}
 use Rattle.lh_meaning.specs.Values.{OneEach, SameDueBy, ValueComputes, OneValue, ValueOfDue, BitsOfDue, BitsHaveValues, AsManyBits}
 use Rattle.lh_meaning.proofs.Instants.{instant_total}
 
@@ -110,6 +110,7 @@ value_from cs init bit t (Some c) h = inl (c, record { among = origin.0; is_due 
   where
     clash : None ≡ Some c → ⊥
     clash z = cc
+
     origin : IsAmong c cs × (is_due_by bit t c ≡ true)
     origin = ⊎_elim (λ p. absurd (clash p)) (λ q. q) h.from
 
@@ -131,6 +132,7 @@ due_bit bit t c h = at (nat_eq c.bit bit) refl h
   where
     same : (a b : ℕ) → nat_eq a b ≡ true → a ≡ b
     same a b h = grind (arith, nat_tests)
+
     at : (b : Bool) → (nat_eq c.bit bit) ≡ b → (b && instant_le c.due t) ≡ true → c.bit ≡ bit
     at true e k = same _ _ e
     at false e k = cc
@@ -139,7 +141,7 @@ due_bit bit t c h = at (nat_eq c.bit bit) refl h
 pub one_value : OneValue
 one_value cs init bit t v w o (inl a) (inl b) =
     a.2 ∙ o a.0 b.0 a.1.among b.1.among (due_bit bit t a.0 a.1.is_due ∙ sym (due_bit bit t b.0 b.1.is_due))
-      (level (claim_cmp a.0 b.0) (b.1.greatest a.0 a.1.among a.1.is_due) (ap is_gt (sym (claim_total.antisymm b.0 a.0)) ∙ a.1.greatest b.0 b.1.among b.1.is_due)) ∙ sym b.2
+    (level (claim_cmp a.0 b.0) (b.1.greatest a.0 a.1.among a.1.is_due) (ap is_gt (sym (claim_total.antisymm b.0 a.0)) ∙ a.1.greatest b.0 b.1.among b.1.is_due)) ∙ sym b.2
 one_value cs init bit t v w o (inl a) (inr b) = absurd (no_two _ a.1.is_due (b.0 a.0 a.1.among))
 one_value cs init bit t v w o (inr a) (inl b) = absurd (no_two _ b.1.is_due (a.0 b.0 b.1.among))
 one_value cs init bit t v w o (inr a) (inr b) = a.1 ∙ sym b.1

@@ -1,11 +1,11 @@
 -- The instances of a design have arguments and signals of the widths of their types.
-use Rattle.std.proofs.Common.{◌≡◌, ℕ, zero, suc, ◌+◌, List, [], ◌∷◌, ◌++◌, map, length, Bool, true, false, refl, ap, sym, ◌∙◌, Option, Some, None}
+use Rattle.std.proofs.Common.{◌≡◌, ℕ, zero, suc, ◌+◌, List, [], ◌∷◌, ◌++◌, map, length, refl, ap, ◌∙◌, Option, Some, None}
 use Rattle.lh_types.specs.Types.{TypeTree, int_type, time_type, void_type, array_type, tuple_type, signal_type, pointer_type, bit_count}
 use Rattle.lh_types.specs.declared.part.Range.{Range}
 use Rattle.lh_unit.specs.declared.name.UnitName.{UnitName}
 use Rattle.lh_unit.specs.Contents.{ArgText}
 use Rattle.lh_unit.specs.Hierarchy.{Instance, SignalText, Child, Hierarchy, Entry, hierarchy_named}
-use Rattle.lh_unit.specs.Design.{Design, Refusal, Elaborated, refused, built, hierarchy_in, max_nesting, arg_ranges, signal_ranges, numbered, initial_bits, with_instance, visit_all, visited, visit, carried_type, top_signals, only_signals, design_of, refusal_of, elaborated, elab_named, elab_of}
+use Rattle.lh_unit.specs.Design.{Design, Refusal, Elaborated, refused, built, hierarchy_in, max_nesting, arg_ranges, signal_ranges, with_instance, visit_all, visited, visit, carried_type, top_signals, only_signals, design_of, refusal_of, elaborated, elab_named, elab_of}
 use Rattle.lh_meaning.specs.Replacing.{HasWidths}
 
 -- each instance has the widths of its unit
@@ -55,7 +55,7 @@ module _ (table : List Entry) where
       → AllWidths table d.instances → AllWidths table (visited visit parent n (hierarchy_in table n) args d).instances
   visited_keeps visit k parent n args d e a =
       all_keep (visit (length d.instances)) (k (length d.instances)) ((hierarchy_in table n).children args (signal_ranges (length d.init) (hierarchy_in table n).signals)) (with_instance parent n (hierarchy_in table n) args d)
-        (widths_append table d.instances _ a (record { args = e; sigs = signal_widths (length d.init) (hierarchy_in table n).signals }))
+      (widths_append table d.instances _ a (record { args = e; sigs = signal_widths (length d.init) (hierarchy_in table n).signals }))
 
   visit_keeps : (k : ℕ) (parent : ℕ) → Keeps (visit k table parent)
   unfolding visit
@@ -79,6 +79,7 @@ module _ (table : List Entry) where
       by_refusal : (o : Option Refusal) → BuiltWidths (elaborated o (design_of max_nesting table top))
       by_refusal None = design_widths max_nesting top
       by_refusal (Some r) = tt
+
       by_name : (o : Option Hierarchy) → BuiltWidths (elab_named table top o)
       by_name None = tt
       by_name (Some h) = by_refusal (refusal_of table top h)

@@ -1,10 +1,6 @@
 -- What holds of every wish that an instance makes.
-use Rattle.std.proofs.Common.{◌≡◌, ℕ, ◌+◌, zero, suc, List, [], ◌∷◌, ◌++◌, length, Bool, true, false, not, ◌&&◌, ◌||◌, nat_lt, if◌then◌else◌, refl, ap, sym, ◌∙◌, Option, Some, None, IfSome, unwrap_or}
-use Rattle.std.specs.declared.cmp.Ordering.{Ordering}
-use Rattle.std.specs.declared.cmp.Ordering.TheVariants.{Less, Equal, Greater}
-use Rattle.std.specs.Ordering.{match_ordering}
-use Rattle.std.specs.Option.{option_and_then, option_map}
-use Rattle.std.specs.BTreeMap.{insert_entry}
+use Rattle.std.proofs.Common.{◌≡◌, ℕ, ◌+◌, zero, suc, List, [], ◌∷◌, length, Bool, true, false, not, ◌&&◌, nat_lt, if◌then◌else◌, Option, Some, None, IfSome, unwrap_or}
+use Rattle.std.specs.Option.{option_and_then}
 use Rattle.lh_time.specs.declared.Instant.{Instant}
 use Rattle.lh_time.specs.declared.Delay.{Delay}
 use Rattle.lh_time.specs.Order.{instant_lt}
@@ -17,10 +13,10 @@ use Rattle.lh_unit.specs.Contents.{OperandText, TriggerText, InstText, const_tex
 use Rattle.lh_unit.specs.Named.{is_assert, function_named}
 use Rattle.lh_unit.specs.Held.{Held, Env, datum_at, data_at, delay_at, part_at}
 use Rattle.lh_unit.specs.Effects.{condition_at, drive_due, drive_when, driven}
-use Rattle.lh_unit.specs.Activation.{Scene, Stand, ProcessState, Control, Caller, Point, Activated, Next, goes, ends, no_step, max_calls, gives, jumps, wishes, tells, stores, opens, returns, returns_value, returns_nothing, ends_at, executes, asserted, called, steps_by, step, control_at, start_point, went, run, activate}
+use Rattle.lh_unit.specs.Activation.{Scene, Stand, ProcessState, Control, Caller, Point, Activated, Next, goes, ends, no_step, max_calls, gives, jumps, wishes, tells, stores, opens, returns_value, returns_nothing, ends_at, executes, asserted, called, steps_by, step, control_at, start_point, went, run, activate}
 use Rattle.lh_unit.specs.Hierarchy.{Instance, lines_of, parts_of}
 use Rattle.lh_unit.specs.Pass.{Passed, fires, stored, delay_of, triggers_from, passes, pass_from, pass}
-use Rattle.lh_unit.specs.World.{State, of_process, of_entity, Act, act, act_if, runs, rests, acts_by, reacts_by, woken, Rules}
+use Rattle.lh_unit.specs.World.{State, of_process, of_entity, act, act_if, acts_by, woken, Rules}
 use Rattle.lh_meaning.proofs.Instants.{due_later}
 
 -- a property of wishes that holds of none, and is kept by each bit that is due after t

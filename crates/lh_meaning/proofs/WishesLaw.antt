@@ -1,5 +1,5 @@
 -- Wishes are one where they give the same everywhere; a part that is driven twice is as driven the second time.
-use Rattle.std.proofs.Common.{◌≡◌, ℕ, ◌+◌, List, [], ◌∷◌, length, Bool, true, false, not, nat_lt, nat_eq, if◌then◌else◌, refl, ap, sym, ◌∙◌, subst, Option, Some, None, arith, ◌||◌}
+use Rattle.std.proofs.Common.{◌≡◌, ℕ, ◌+◌, List, [], ◌∷◌, length, Bool, true, false, nat_lt, nat_eq, if◌then◌else◌, refl, ap, sym, ◌∙◌, Option, Some, None, arith, ◌||◌}
 use Rattle.std.specs.declared.cmp.Ordering.{Ordering}
 use Rattle.std.specs.declared.cmp.Ordering.TheVariants.{Less, Equal, Greater}
 use Rattle.std.specs.Ordering.{is_eq, ordering_then, ordering_reverse, nat_cmp, match_ordering}
@@ -9,7 +9,7 @@ use Rattle.std.proofs.lemmas.Cmp.{then_total, on_total, nat_cmp_total, tied_itse
 use Rattle.std.proofs.lemmas.Bool.Decides.{nat_tests}
 use Rattle.lh_time.specs.declared.Instant.{Instant}
 use Rattle.lh_time.specs.Order.{instant_cmp}
-use Rattle.lh_types.specs.Wish.{DueBit, due_bit_cmp, Wish, with_bit, with_bits, with_drive}
+use Rattle.lh_types.specs.Wish.{DueBit, due_bit_cmp, Wish, with_bit, with_bits}
 use Rattle.lh_meaning.specs.Wishes.{look, IsBelow, IsInOrder, WishExt, LaterDriveReplaces}
 use Rattle.lh_meaning.proofs.Instants.{instant_total}
 
@@ -56,6 +56,7 @@ nat_one a b h = at (nat_lt a b) (nat_eq a b) refl h
   where
     same : (a b : ℕ) → (nat_eq a b) ≡ true → a ≡ b
     same a b h = grind (arith, nat_tests)
+
     at : (x y : Bool) → (nat_eq a b) ≡ y → if x then Less else (if y then Equal else Greater) ≡ Equal → a ≡ b
     at true y e q = cc
     at false true e q = same a b e
@@ -137,6 +138,7 @@ wish_ext (x ∷ xs) (y ∷ ys) a b h = at (due_bit_cmp x.0 y.0) refl (wish_ext x
   where
     clash : {v : Bool} → Some v ≡ None → ⊥
     clash z = cc
+
     at : (o : Ordering) → due_bit_cmp x.0 y.0 ≡ o → (((k : DueBit) → look k xs ≡ look k ys) → xs ≡ ys) → x ∷ xs ≡ y ∷ ys
     at Less p ih = absurd (clash (sym (look_head x xs) ∙ h x.0 ∙ look_below x.0 (y ∷ ys) (p, below_trans x.0 y.0 ys p b.0)))
     at Greater p ih = absurd (clash (sym (look_head y ys) ∙ sym (h y.0) ∙ look_below y.0 (x ∷ xs) (turned x.0 y.0 p, below_trans y.0 x.0 xs (turned x.0 y.0 p) a.0)))
@@ -144,12 +146,16 @@ wish_ext (x ∷ xs) (y ∷ ys) a b h = at (due_bit_cmp x.0 y.0) refl (wish_ext x
       where
         joined : (j k : DueBit) (v w : Bool) (us vs : Wish) → j ≡ k → v ≡ w → us ≡ vs → (j, v) ∷ us ≡ (k, w) ∷ vs
         joined j k v w us vs p q r = cc
+
         same_key : x.0 ≡ y.0
         same_key = due_bit_one x.0 y.0 p
+
         some_one : (v w : Bool) → Some v ≡ Some w → v ≡ w
         some_one v w q = cc
+
         same_value : x.1 ≡ y.1
         same_value = some_one x.1 y.1 (sym (look_head x xs) ∙ h x.0 ∙ ap (λ k. look k (y ∷ ys)) same_key ∙ look_head y ys)
+
         tails : (k : DueBit) → look k xs ≡ look k ys
         tails k = tail_at (is_eq (due_bit_cmp k x.0)) refl
           where

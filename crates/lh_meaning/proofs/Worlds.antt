@@ -1,16 +1,16 @@
 -- Two modules on one design whose instances are alike one by one run the same.
-use Rattle.std.proofs.Common.{◌≡◌, ℕ, zero, suc, ◌+◌, List, [], ◌∷◌, ◌++◌, map, Bool, true, false, not, ◌&&◌, nat_eq, if◌then◌else◌, refl, ap, sym, ◌∙◌, Option, Some, None, append_assoc}
+use Rattle.std.proofs.Common.{◌≡◌, ℕ, zero, suc, ◌+◌, List, [], ◌∷◌, ◌++◌, Bool, true, false, not, ◌&&◌, nat_eq, if◌then◌else◌, refl, ap, sym, ◌∙◌, Option, Some, None, append_assoc}
 use Rattle.std.specs.Option.{option_map_or}
 use Rattle.lh_time.specs.declared.Instant.{Instant}
 use Rattle.lh_time.specs.Order.{instant_lt, instant_le}
 use Rattle.lh_types.specs.Wish.{Wish}
-use Rattle.lh_types.specs.History.{Made, Claim, claims, claims_of, is_due_by, greater, greatest_from, value_by, values_by, bits_at, sooner, if_later, soonest_due}
-use Rattle.lh_unit.specs.Contents.{UnitText, ItemText}
+use Rattle.lh_types.specs.History.{Made, Claim, claims, claims_of, is_due_by, greater, greatest_from, value_by, values_by, bits_at, sooner, soonest_due}
+use Rattle.lh_unit.specs.Contents.{ItemText}
 use Rattle.lh_unit.specs.Hierarchy.{Instance}
-use Rattle.lh_unit.specs.Design.{Design, Signal}
-use Rattle.lh_unit.specs.World.{State, start, wake_of, Act, act, Rules, rules_of, unit_of, starts, World, first_world, bits_by, acts_of, acts, kept, made_by, afters, world_after, next_world, soonest_wake, instant_after, next_instant}
-use Rattle.lh_unit.specs.Trace.{Outcome, Frame, Run, least_runaway, outcomes_of, frame_of, goes_on, at_bound, follows, run_at, run_from}
-use Rattle.lh_meaning.specs.Replacing.{Answer, answer_of}
+use Rattle.lh_unit.specs.Design.{Design}
+use Rattle.lh_unit.specs.World.{State, wake_of, Act, Rules, rules_of, unit_of, World, bits_by, acts_of, acts, kept, made_by, afters, next_world, soonest_wake, instant_after, next_instant}
+use Rattle.lh_unit.specs.Trace.{Run, least_runaway, outcomes_of, frame_of, goes_on, at_bound, run_at, run_from}
+use Rattle.lh_meaning.specs.Replacing.{Answer}
 use Rattle.lh_meaning.proofs.Instants.{lt_not_le}
 use Rattle.lh_meaning.specs.Wishes.{IsLate}
 use Rattle.lh_meaning.proofs.Late.{act_late}
@@ -71,7 +71,7 @@ unfolding bits_at acts
 bits_stay bound items d w t =
     ap (λ cs. values_by cs t 0 w.init) (claims-append w.history (made_by t 0 (acts bound items d w t)))
     ∙ values_append_late t (claims w.history) (claims (made_by t 0 (acts bound items d w t)))
-        (made_late (rules_of bound items) items w.last (bits_by w.history w.init w.last) (bits_at w.history w.init t) t 0 d.instances w.states) 0 w.init
+    (made_late (rules_of bound items) items w.last (bits_by w.history w.init w.last) (bits_at w.history w.init t) t 0 d.instances w.states) 0 w.init
 
 module _ (r : Rules) (m m' : List ItemText) where
   -- the instances are alike, one by one

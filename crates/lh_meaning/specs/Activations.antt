@@ -1,5 +1,5 @@
 -- An activation is what its computing form finds, and there is at most one.
-use Rattle.std.specs.Prelude.{◌≡◌, ◌↔◌, ℕ, Option, Some, None}
+use Rattle.std.specs.Prelude.{◌≡◌, ◌↔◌, ℕ, Some, None}
 use Rattle.lh_unit.specs.Contents.{UnitText}
 use Rattle.lh_unit.specs.Activation.{Scene, ProcessState, Activated, IsActivation, activate}
 

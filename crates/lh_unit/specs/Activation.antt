@@ -1,19 +1,14 @@
 -- Functions and processes: executing one instruction, and an activation.
-use Rattle.std.specs.Prelude.{◌≡◌, ◌↔◌, ◌<◌, ℕ, zero, suc, ◌&&◌, nat_eq, nat_lt, List, [], ◌∷◌, ◌++◌, length, map, filter, Bool, true, false, if◌then◌else◌, Option, Some, None, codes}
+use Rattle.std.specs.Prelude.{◌≡◌, ◌<◌, ℕ, zero, suc, nat_lt, List, [], ◌∷◌, ◌++◌, length, map, Bool, true, false, if◌then◌else◌, Option, Some, None}
 use Rattle.std.specs.Option.{option_and_then, option_map}
 use Rattle.lh_time.specs.declared.Instant.{Instant}
-use Rattle.lh_time.specs.declared.Delay.{Delay}
 use Rattle.lh_time.specs.Due.{due_of}
 use Rattle.lh_types.specs.Values.{Datum}
 use Rattle.lh_types.specs.Wish.{Wish, no_wish}
 use Rattle.lh_types.specs.declared.part.Range.{Range}
-use Rattle.lh_unit.specs.declared.name.UnitName.{UnitName}
-use Rattle.lh_unit.specs.declared.inst.UnitKind.{UnitKind}
-use Rattle.lh_unit.specs.declared.inst.UnitKind.TheVariants as kind
-use Rattle.lh_unit.specs.UnitNames.{same_unit_name}
-use Rattle.lh_unit.specs.Contents.{OperandText, EdgeText, InstText, const_text, pure_text, var_text, ld_text, st_text, sig_text, prb_text, drv_text, reg_text, child_text, call_text, phi_text, br_text, branch_text, wait_text, halt_text, ret_text, LineText, BlockText, ArgText, UnitText, ItemText, unit_text, declare_text, is_result_name, same_name}
+use Rattle.lh_unit.specs.Contents.{OperandText, EdgeText, InstText, const_text, pure_text, var_text, ld_text, st_text, sig_text, prb_text, drv_text, reg_text, child_text, call_text, phi_text, br_text, branch_text, wait_text, halt_text, ret_text, LineText, BlockText, UnitText, ItemText, unit_text, declare_text, same_name}
 use Rattle.lh_unit.specs.Named.{block_of, function_named, is_assert, is_function, label_or}
-use Rattle.lh_unit.specs.Held.{Held, datum_held, cell_held, part_held, Env, nothing_held, with_held, with_result, with_args, data_at, datum_at, delay_at, cell_at, parts_at, test_at}
+use Rattle.lh_unit.specs.Held.{Held, datum_held, cell_held, Env, nothing_held, with_held, with_result, with_args, data_at, datum_at, delay_at, cell_at, parts_at, test_at}
 use Rattle.lh_unit.specs.Effects.{operated, probed, driven}
 
 -- what an activation sees: the functions of the module, the bits of all signals, and the instant

@@ -1,7 +1,6 @@
 -- Elaboration: the instances and signals of a top unit, or why it has no design.
-use Rattle.std.specs.Prelude.{ℕ, zero, suc, ◌+◌, List, [], ◌∷◌, ◌++◌, length, sum_by, map, Bool, true, false, ◌||◌, nat_lt, if◌then◌else◌, Option, Some, None, codes}
+use Rattle.std.specs.Prelude.{ℕ, zero, suc, ◌+◌, List, [], ◌∷◌, ◌++◌, length, sum_by, map, Bool, true, false, nat_lt, Option, Some, None, codes}
 use Rattle.std.specs.List.{list_any}
-use Rattle.std.specs.Option.{option_map_or}
 use Rattle.std.specs.Fmt.{decimal}
 use Rattle.lh_types.specs.Types.{TypeTree, signal_type, bit_count}
 use Rattle.lh_types.specs.declared.part.Range.{Range}
@@ -162,7 +161,7 @@ unfoldable pub design_of : (depth : ℕ) → List Entry → (top : UnitName) →
 design_of zero table top = only_signals []
 design_of (suc k) table top =
     visited (visit k table) None top (hierarchy_in table top) (signal_ranges 0 (top_signals (hierarchy_in table top).args))
-      (only_signals (top_signals (hierarchy_in table top).args))
+    (only_signals (top_signals (hierarchy_in table top).args))
 
 -- the first of the refusals, in their order
 abbrev pub refusal_by : (function : Bool) → (cycle : Option UnitName) → (deep instances bits : Bool) → Option Refusal
@@ -176,7 +175,7 @@ refusal_by false None false false false = None
 unfoldable pub refusal_of : List Entry → (top : UnitName) → Hierarchy → Option Refusal
 refusal_of table top h =
     refusal_by h.function (cycle_from (length table) table [] top) (nests_deeper max_nesting table top)
-      (nat_lt max_instances (instance_count max_nesting table top)) (nat_lt max_bits (arg_bits h.args + bits_below max_nesting table top))
+    (nat_lt max_instances (instance_count max_nesting table top)) (nat_lt max_bits (arg_bits h.args + bits_below max_nesting table top))
 
 abbrev pub elaborated : Option Refusal → Design → Elaborated
 elaborated None d = built d

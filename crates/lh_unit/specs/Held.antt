@@ -1,8 +1,8 @@
 -- What a unit holds under the names of its values.
-use Rattle.std.specs.Prelude.{ℕ, ◌+◌, List, [], ◌∷◌, Bool, true, false, not, nat_eq, if◌then◌else◌, Option, Some, None, take, drop}
+use Rattle.std.specs.Prelude.{ℕ, List, [], ◌∷◌, Bool, not, nat_eq, if◌then◌else◌, Option, Some, None, take, drop}
 use Rattle.std.specs.Option.{option_and_then}
 use Rattle.lh_time.specs.declared.Delay.{Delay}
-use Rattle.lh_types.specs.Values.{Datum, int_value, time_value, array_value, tuple_value}
+use Rattle.lh_types.specs.Values.{Datum, int_value, time_value}
 use Rattle.lh_types.specs.declared.part.Range.{Range}
 use Rattle.lh_unit.specs.Contents.{OperandText, ArgText, same_name}
 

@@ -1,6 +1,6 @@
 -- The four kinds of values, and of which kind each operand of an instruction must be.
 use Rattle.std.specs.Prelude.{ℕ, List, [], ◌∷◌, ◌++◌, map, Bool, true, false, if◌then◌else◌, Option, Some, None}
-use Rattle.std.specs.Option.{option_and_then, option_map_or}
+use Rattle.std.specs.Option.{option_and_then}
 use Rattle.lh_types.specs.Types.{TypeTree, int_type, time_type, void_type, array_type, tuple_type, signal_type, pointer_type}
 use Rattle.lh_types.specs.Faults.{is_data}
 use Rattle.lh_types.specs.declared.op.Op.{Op}

@@ -1,5 +1,5 @@
 -- Entities: one pass over the text.
-use Rattle.std.specs.Prelude.{ℕ, ◌+◌, List, [], ◌∷◌, ◌++◌, length, slice_get, Bool, true, false, not, ◌&&◌, ◌||◌, if◌then◌else◌, unwrap_or, Option, Some, None}
+use Rattle.std.specs.Prelude.{ℕ, List, [], ◌∷◌, ◌++◌, length, slice_get, Bool, false, not, ◌&&◌, ◌||◌, if◌then◌else◌, unwrap_or, Option, Some, None}
 use Rattle.std.specs.Option.{option_and_then}
 use Rattle.lh_time.specs.declared.Instant.{Instant}
 use Rattle.lh_time.specs.declared.Delay.{Delay}
@@ -8,7 +8,7 @@ use Rattle.lh_types.specs.declared.part.Range.{Range}
 use Rattle.lh_unit.specs.declared.inst.Mode.{Mode}
 use Rattle.lh_unit.specs.declared.inst.Mode.TheVariants.{Rise, Fall, Both, High, Low}
 use Rattle.lh_unit.specs.Contents.{OperandText, TriggerText, InstText, const_text, pure_text, prb_text, drv_text, reg_text, LineText, UnitText}
-use Rattle.lh_unit.specs.Held.{Held, datum_held, Env, datum_at, delay_at, part_at, test_at}
+use Rattle.lh_unit.specs.Held.{datum_held, Env, datum_at, delay_at, part_at, test_at}
 use Rattle.lh_unit.specs.Effects.{operated, probed, driven, condition_at, drive_due}
 use Rattle.lh_unit.specs.Hierarchy.{lines_of, parts_of, if_held, static_held, probed_parts}
 
@@ -53,7 +53,7 @@ abbrev pub triggers_from : (memory : Option (List Bool)) → Instant → Operand
 triggers_from memory t to fired p [] = p
 triggers_from memory t to fired p (g ∷ more) =
     triggers_from memory t to (fired || fires memory p g)
-      (record { held = p.held; seen = p.seen ++ trigger_now p.held g ∷ []; wish = if not fired && fires memory p g then stored t to g p else p.wish }) more
+    (record { held = p.held; seen = p.seen ++ trigger_now p.held g ∷ []; wish = if not fired && fires memory p g then stored t to g p else p.wish }) more
 
 -- one line of an entity; `sig` and `inst` do nothing in a pass
 abbrev pub passes : UnitText → (now : List Bool) → (memory : Option (List Bool)) → Instant → InstText → Option (List ℕ) → Passed → Passed

@@ -1,5 +1,5 @@
 -- Where an instruction stands, and by which paths of blocks it is reached.
-use Rattle.std.specs.Prelude.{◌≡◌, ℕ, ◌+◌, List, [], ◌∷◌, ◌++◌, length, Bool, true, false, ◌||◌, if◌then◌else◌, Option, Some, None}
+use Rattle.std.specs.Prelude.{◌≡◌, ℕ, ◌+◌, List, [], ◌∷◌, ◌++◌, length, Bool, true, false, Option, Some, None}
 use Rattle.std.specs.List.{list_any}
 use Rattle.lh_unit.specs.Contents.{InstText, br_text, branch_text, wait_text, halt_text, ret_text, LineText, BlockText, UnitText, same_name}
 use Rattle.lh_unit.specs.Named.{block_of, label_or}

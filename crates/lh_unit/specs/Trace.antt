@@ -1,7 +1,7 @@
 -- Frames, the trace of a top up to a bound, and when two modules have the same trace.
-use Rattle.std.specs.Prelude.{◌≡◌, ℕ, zero, suc, ◌+◌, List, [], ◌∷◌, ◌++◌, map, Bool, true, false, if◌then◌else◌, Option, Some, None}
+use Rattle.std.specs.Prelude.{◌≡◌, ℕ, zero, suc, ◌+◌, List, [], ◌∷◌, ◌++◌, map, Bool, if◌then◌else◌, Option, Some, None}
 use Rattle.lh_time.specs.declared.Instant.{Instant}
-use Rattle.lh_types.specs.Types.{TypeTree, bit_count}
+use Rattle.lh_types.specs.Types.{bit_count}
 use Rattle.lh_types.specs.Values.{Datum}
 use Rattle.lh_types.specs.Bits.{value_from_bits}
 use Rattle.lh_types.specs.History.{bits_at}

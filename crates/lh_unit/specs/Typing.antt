@@ -1,12 +1,12 @@
 -- The type of a value, read from its own line.
-use Rattle.std.specs.Prelude.{ℕ, ◌+◌, List, [], ◌∷◌, length, Bool, true, false, ◌||◌, Option, Some, None, if◌then◌else◌}
+use Rattle.std.specs.Prelude.{ℕ, List, [], ◌∷◌, length, Bool, ◌||◌, Option, Some, None, if◌then◌else◌}
 use Rattle.std.specs.Option.{option_and_then, option_map}
-use Rattle.lh_types.specs.Types.{TypeTree, TypeRow, int_type, time_type, void_type, array_type, tuple_type, signal_type, pointer_type, no_types, more_types}
-use Rattle.lh_types.specs.Values.{Datum, int_value, time_value, array_value, tuple_value}
+use Rattle.lh_types.specs.Types.{TypeTree, TypeRow, int_type, time_type, array_type, tuple_type, signal_type, pointer_type, no_types, more_types}
+use Rattle.lh_types.specs.Values.{Datum, int_value, time_value}
 use Rattle.lh_types.specs.Faults.{is_data, is_time}
 use Rattle.lh_types.specs.declared.op.Op.{Op}
 use Rattle.lh_types.specs.declared.op.Op.TheVariants as op
-use Rattle.lh_unit.specs.Contents.{OperandText, InstText, const_text, pure_text, var_text, ld_text, st_text, sig_text, prb_text, drv_text, reg_text, child_text, call_text, phi_text, br_text, branch_text, wait_text, halt_text, ret_text, LineText, BlockText, ArgText, UnitText, is_result_name, same_name}
+use Rattle.lh_unit.specs.Contents.{OperandText, InstText, const_text, pure_text, var_text, ld_text, sig_text, prb_text, call_text, phi_text, LineText, BlockText, ArgText, UnitText, is_result_name, same_name}
 
 -- whether it is a data type or time
 abbrev pub is_value_type : TypeTree → Bool

@@ -1,8 +1,8 @@
 -- The types of the operands of each instruction.
-use Rattle.std.specs.Prelude.{ℕ, List, [], ◌∷◌, Bool, true, false, ◌&&◌, if◌then◌else◌, Option, Some, None}
+use Rattle.std.specs.Prelude.{ℕ, List, [], ◌∷◌, Bool, true, false, ◌&&◌, Option, Some, None}
 use Rattle.std.specs.List.{list_all}
 use Rattle.std.specs.Option.{option_and_then, option_map, option_map_or}
-use Rattle.lh_types.specs.Types.{TypeTree, int_type, time_type, void_type, array_type, tuple_type, signal_type, pointer_type, same_type}
+use Rattle.lh_types.specs.Types.{TypeTree, int_type, time_type, void_type, array_type, signal_type, same_type}
 use Rattle.lh_types.specs.Faults.{is_data}
 use Rattle.lh_types.specs.Parts.{step_part}
 use Rattle.lh_types.specs.declared.op.Op.{Op}

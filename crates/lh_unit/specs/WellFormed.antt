@@ -1,8 +1,8 @@
 -- The faults of instructions, and the first fault of a module.
-use Rattle.std.specs.Prelude.{◌≡◌, ◌<◌, ◌⊎◌, ℕ, zero, suc, ◌+◌, nat_eq, List, [], ◌∷◌, ◌++◌, length, map, filter, count_by, Bool, true, false, not, ◌&&◌, ◌||◌, if◌then◌else◌, Option, Some, None}
+use Rattle.std.specs.Prelude.{◌≡◌, ◌<◌, ◌⊎◌, ℕ, zero, suc, nat_eq, List, [], ◌∷◌, ◌++◌, length, map, filter, count_by, Bool, true, false, not, ◌&&◌, ◌||◌, if◌then◌else◌, Option, Some, None}
 use Rattle.std.specs.List.{list_any, list_all}
-use Rattle.std.specs.Option.{option_and_then, option_map_or}
-use Rattle.lh_types.specs.Types.{TypeTree, int_type, void_type, signal_type, same_type}
+use Rattle.std.specs.Option.{option_map_or}
+use Rattle.lh_types.specs.Types.{void_type, same_type}
 use Rattle.lh_types.specs.declared.op.Op.{Op}
 use Rattle.lh_types.specs.declared.op.Op.TheVariants as op
 use Rattle.lh_unit.specs.declared.name.UnitName.{UnitName}
@@ -11,7 +11,7 @@ use Rattle.lh_unit.specs.declared.inst.UnitKind.TheVariants as kind
 use Rattle.lh_unit.specs.Contents.{OperandText, EdgeText, InstText, const_text, pure_text, var_text, ld_text, st_text, sig_text, prb_text, drv_text, reg_text, child_text, call_text, phi_text, br_text, branch_text, wait_text, halt_text, ret_text, LineText, BlockText, ArgText, UnitText, ItemText, unit_text, declare_text, defines_unit, defines_value, defines_label, args_define, blocks_define, lines_define, same_name}
 use Rattle.lh_unit.specs.Named.{unit_named, block_of, is_assert, is_function, label_or}
 use Rattle.lh_unit.specs.Typing.{inst_giving, first_type}
-use Rattle.lh_unit.specs.Kinds.{Kind, Need, Use, uses, takes, value_kind}
+use Rattle.lh_unit.specs.Kinds.{Use, uses, takes, value_kind}
 use Rattle.lh_unit.specs.TypingRows.{has_type, bit, is_signal, types_fit}
 use Rattle.lh_unit.specs.Places.{Place, places, is_terminator, leads_to, has_edge, IsPath}
 

@@ -1,5 +1,5 @@
 -- A frame: who is woken, what each instance does, the next world, and the next instant.
-use Rattle.std.specs.Prelude.{ℕ, zero, suc, ◌+◌, List, [], ◌∷◌, ◌++◌, map, unwrap_or, slice_get, Bool, true, false, not, ◌&&◌, ◌||◌, Option, Some, None, if◌then◌else◌, ◌≡◌, ◌⊎◌}
+use Rattle.std.specs.Prelude.{ℕ, zero, suc, ◌+◌, List, [], ◌∷◌, ◌++◌, map, unwrap_or, slice_get, Bool, true, false, not, ◌&&◌, ◌||◌, Option, Some, None, ◌≡◌, ◌⊎◌}
 use Rattle.std.specs.Option.{option_map_or}
 use Rattle.std.specs.List.{list_any}
 use Rattle.std.specs.Ordering.{is_eq}
@@ -12,11 +12,10 @@ use Rattle.lh_types.specs.declared.part.Range.{Range}
 use Rattle.lh_unit.specs.declared.name.UnitName.{UnitName}
 use Rattle.lh_unit.specs.declared.inst.UnitKind.{UnitKind}
 use Rattle.lh_unit.specs.declared.inst.UnitKind.TheVariants as kind
-use Rattle.lh_unit.specs.UnitNames.{same_unit_name}
-use Rattle.lh_unit.specs.Contents.{UnitText, ItemText, unit_text, declare_text, new_unit}
+use Rattle.lh_unit.specs.Contents.{UnitText, ItemText, new_unit}
 use Rattle.lh_unit.specs.Named.{unit_named}
 use Rattle.lh_unit.specs.Held.{part_held, nothing_held, with_args}
-use Rattle.lh_unit.specs.Activation.{Scene, Stand, is_new, waits, halted, ProcessState, Activated, activate, functions}
+use Rattle.lh_unit.specs.Activation.{Stand, is_new, waits, halted, ProcessState, Activated, activate, functions}
 use Rattle.lh_unit.specs.Hierarchy.{Instance}
 use Rattle.lh_unit.specs.Pass.{Passed, pass, probes}
 use Rattle.lh_unit.specs.Design.{Design}
