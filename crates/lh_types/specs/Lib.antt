@@ -12,3 +12,5 @@ pub mod Bits
 pub mod Parts
 pub mod Raised
 pub mod PlaceOf
+pub mod SameValue
+pub mod SameValueLaws

@@ -8,3 +8,4 @@ pub mod part;
 pub mod tally;
 pub mod ty;
 pub mod val;
+pub mod writes;
