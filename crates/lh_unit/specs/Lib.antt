@@ -2,6 +2,7 @@ pub mod Names
 pub mod UnitNames
 pub mod Contents
 pub mod Lexemes
+pub mod Tokens
 pub mod Lines
 pub mod Numerals
 pub mod SpellsTypes
