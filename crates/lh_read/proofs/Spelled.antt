@@ -62,7 +62,7 @@ unit_name_at-again n t ts s = elim s [
       | inr h ↦ ap (λ x. unit_name_at (x ∷ ts)) h.1 ∙ (λ i. Some (record { sigil = sym h.0 i; name = n.name }, ts))
     ]
 
-punct_at-inv : (b : ℕ) (ts us : List Lexeme) → punct_at b ts ≡ Some us → ts ≡ punct b ∷ us
+pub punct_at-inv : (b : ℕ) (ts us : List Lexeme) → punct_at b ts ≡ Some us → ts ≡ punct b ∷ us
 punct_at-inv b (punct c ∷ ts) us p = let g = guard (nat_eq c b) ts us p in let h : nat_eq c b ≡ true = g.0 in let e : c ≡ b = grind (arith, common_steps) in λ i. punct (e i) ∷ g.1 i
 punct_at-inv b _ us p = cc
 

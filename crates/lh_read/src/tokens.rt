@@ -112,6 +112,16 @@ impl<'a> Tokens<'a> {
         Tokens { line, tokens }
     }
 
+    /// The same tokens again.
+    pub fn copy(&self) -> Tokens<'a>
+        ensures { result ≡ self.now }
+    {
+        Tokens {
+            line: self.line,
+            tokens: self.tokens,
+        }
+    }
+
     /// The first token, and those behind it.
     pub fn first(&self) -> Option<(Lex<'a>, Tokens<'a>)>
         ensures { option_map (λ r. (lexeme_of r.0, r.1)) result ≡ first_at self.now }
