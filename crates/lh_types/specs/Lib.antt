@@ -7,3 +7,8 @@ pub mod Faults
 pub mod Values
 pub mod ValueOf
 pub mod ValueSize
+pub mod Fits
+pub mod Bits
+pub mod Parts
+pub mod Raised
+pub mod PlaceOf
