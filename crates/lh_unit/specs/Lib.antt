@@ -2,3 +2,9 @@ pub mod Names
 pub mod UnitNames
 pub mod Contents
 pub mod Lexemes
+pub mod Tokens
+pub mod Lines
+pub mod Numerals
+pub mod SpellsTypes
+pub mod Spells
+pub mod Reads
