@@ -8,3 +8,16 @@ pub mod Numerals
 pub mod SpellsTypes
 pub mod Spells
 pub mod Reads
+pub mod Marks
+pub mod Pieces
+pub mod CanonTypes
+pub mod CanonWords
+pub mod Canon
+pub mod Table
+pub mod TableCalls
+pub mod TableOf
+pub mod Within
+pub mod Naming
+pub mod Arena
+pub mod ArenaOf
+pub mod Builders
