@@ -7,3 +7,7 @@ pub mod Faults
 pub mod Values
 pub mod ValueOf
 pub mod ValueSize
+pub mod Fits
+pub mod ApplyInt
+pub mod Apply
+pub mod ApplyTypes

@@ -1,0 +1,9 @@
+//! The operations of the language: every row of the table, total and exact.
+#![tactic(auto)]
+
+pub mod integers;
+mod signs;
+mod words;
+
+pub use integers::apply_int;
+pub use lh_types::op::Op;
