@@ -1,2 +1,4 @@
+pub mod RowLemmas
 pub mod WordLemmas
+pub mod ShiftLemmas
 pub mod SignLemmas

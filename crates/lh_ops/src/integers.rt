@@ -9,6 +9,7 @@ use lh_types::op::Op;
 /// The value of a row from `Not` to `Uge` on the integers `a` and `b` of `width` bits, without memory.
 ///
 /// `Not` and `Neg` have the one operand `a`. A comparison gives 0 or 1; every other row gives an integer of `width` bits.
+#[tactic(auto, using(crate::proofs::WordLemmas::wrapped_minus, crate::proofs::WordLemmas::wrapped_neg), unfolding(lh_types::specs::ApplyInt::integer_row))]
 pub fn apply_int(op: &Op, width: u32, a: u128, b: u128) -> u128
     requires row { IsIntegerRow op.now }
     requires width { (1 ≤ width) × (width ≤ 128) }

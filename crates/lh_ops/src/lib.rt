@@ -2,6 +2,8 @@
 #![tactic(auto)]
 
 pub mod integers;
+mod parts;
+mod shifts;
 mod signs;
 mod words;
 

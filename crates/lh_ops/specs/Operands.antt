@@ -1,0 +1,20 @@
+-- What the code reads of an operand.
+use Rattle.std.specs.Prelude.{◌≡◌, ℕ, List, []}
+use Rattle.lh_types.specs.Values.{Datum, int_value, time_value, array_value, tuple_value}
+use Rattle.lh_types.specs.Apply.{parts_of}
+
+-- the width of an integer
+abbrev pub width_of : Datum → ℕ
+width_of (int_value n a) = n
+width_of _ = 0
+
+-- the number that an integer is
+abbrev pub number_of : Datum → ℕ
+number_of (int_value n a) = a
+number_of _ = 0
+
+-- the parts of an array or struct
+abbrev pub parts_within : Datum → List Datum
+parts_within (array_value vs) = parts_of vs
+parts_within (tuple_value vs) = parts_of vs
+parts_within _ = []
