@@ -1,3 +1,5 @@
+pub mod FitLemmas
+pub mod EqualLemmas
 pub mod RowLemmas
 pub mod WordLemmas
 pub mod ShiftLemmas

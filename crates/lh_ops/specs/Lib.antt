@@ -1,2 +1,2 @@
-pub mod Signs
 pub mod Operands
+pub mod Signs

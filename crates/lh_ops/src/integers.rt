@@ -1,6 +1,6 @@
 //! The rows on integers of one width.
 ghost use Rattle.std.specs.Prelude.{◌≡◌, ◌-◌, ◌^◌, ◌<◌, ◌≤◌};
-ghost use Rattle.lh_types.specs.ApplyInt.{integer_row, IsIntegerRow};
+ghost use Rattle.lh_types.specs.ApplyInt.{integer_row, row_width, IsIntegerRow};
 
 use crate::signs::{signed_less, signed_modulo, signed_quotient, signed_remainder};
 use crate::words::{difference, ones, product, quotient, remainder, sum};
@@ -41,5 +41,18 @@ pub fn apply_int(op: &Op, width: u32, a: u128, b: u128) -> u128
         Op::Ule => (a <= b) as u128,
         Op::Uge => (b <= a) as u128,
         _ => unreachable!(),
+    }
+}
+
+/// How many bits the value of such a row has: one where it compares, else as many as the operands.
+#[tactic(auto, unfolding(lh_types::specs::ApplyInt::row_width))]
+pub fn result_width(op: &Op, width: u32) -> u32
+    ensures { result ≡ row_width op.now width }
+{
+    match op {
+        Op::Eq | Op::Neq => 1,
+        Op::Slt | Op::Sgt | Op::Sle | Op::Sge => 1,
+        Op::Ult | Op::Ugt | Op::Ule | Op::Uge => 1,
+        _ => width,
     }
 }

@@ -2,7 +2,9 @@
 #![tactic(auto)]
 
 pub mod integers;
+mod equal;
 mod parts;
+mod rows;
 mod shifts;
 mod signs;
 mod words;

@@ -3,6 +3,7 @@ use Rattle.std.specs.Prelude.{◌≡◌, ℕ, ◌+◌, ◌≤◌, ◌<◌, List,
 use Rattle.lh_types.specs.Types.{TypeTree, TypeRow, int_type, array_type, tuple_type, no_types, more_types, row_of, AreData}
 use Rattle.lh_types.specs.Values.{Datum, data_row}
 use Rattle.lh_types.specs.Fits.{FitsRow}
+use Rattle.lh_types.specs.ApplyInt.{IsIntegerRow}
 use Rattle.lh_types.specs.declared.op.Op.{Op}
 use Rattle.lh_types.specs.declared.op.Op.TheVariants.{Not, Neg, Eq, Neq, Slt, Sgt, Sle, Sge, Ult, Ugt, Ule, Uge, Shl, Shr, Mux, Extf, Exts, Insf, Inss, Array, Repeat, Tuple}
 
@@ -68,6 +69,12 @@ RowType Array ts r = (t : TypeTree) × (0 < length ts) × (ts ≡ replicate (len
 RowType (Repeat n) ts r = (t : TypeTree) × (ts ≡ t ∷ []) × (0 < n) × (r ≡ array_type n t)
 RowType Tuple ts r = (0 < length ts) × (r ≡ tuple_type (row_of ts))
 RowType _ ts r = TwoIntegers ts r
+
+-- the rows that take integers of one width alone
+abbrev pub TakesIntegers : Op → Type 0
+TakesIntegers Eq = ⊥
+TakesIntegers Neq = ⊥
+TakesIntegers op = IsIntegerRow op
 
 -- the arguments fit the row: they are of data types that the row takes
 pub record FitsOp (op : Op) (vs : List Datum) : Type 0 where

@@ -1,0 +1,88 @@
+//! The rows on values that are no integers of one width: comparison, shifts, and the parts of arrays and structs.
+ghost use Rattle.std.specs.Prelude.{◌≡◌, ◌+◌, ◌^◌, ◌<◌, ◌≤◌, ◌++◌, length, map, drop, take, slice_set, IfOk};
+ghost use Rattle.lh_types.specs.Values.{int_value, array_value, data_row};
+ghost use Rattle.lh_types.specs.ValueOf.{datum_of};
+ghost use Rattle.lh_types.specs.ApplyInt.{integer_row, row_width, IsIntegerRow, moved_up, moved_down};
+ghost use Rattle.lh_types.specs.Apply.{integer_result, shifted, selected, field_at, slice_at, with_field, with_slice};
+ghost use Rattle.lh_types.specs.ApplyTypes.{FitsOp, TakesIntegers};
+
+use crate::integers::{apply_int, result_width};
+use crate::parts::{copies, number, parts, width};
+use crate::shifts::{bits_at, shift_down, shift_up, with_bits};
+use lh_types::op::Op;
+use lh_types::ty::NoMemory;
+use lh_types::val::{Val, ValList};
+use std::alloc::Global;
+
+/// The integer that a row from `Not` to `Uge` gives.
+fn integer(op: &Op, width: u32, a: u128, b: u128) -> Val
+    requires row { IsIntegerRow op.now }
+    requires width { (1 ≤ width) × (width ≤ 128) }
+    requires fits { (a < 2 ^ width) × (b < 2 ^ width) }
+    ensures { datum_of result ≡ int_value (row_width op.now width) (integer_row op.now width a b) }
+{
+    Val::Int {
+        width: result_width(op, width),
+        bits: apply_int(op, width, a, b),
+    }
+}
+
+/// A row that takes integers of one width.
+#[tactic(auto, using(crate::proofs::FitLemmas::integer_args))]
+pub(crate) fn integers(op: &Op, args: &[Val]) -> Val
+    requires row { TakesIntegers op.now }
+    requires fits { FitsOp op.now (map datum_of args.now) }
+    ensures { datum_of result ≡ integer_result op.now (map datum_of args.now) }
+{
+    let of = width(&args[0]);
+    let a = number(&args[0]);
+    if args.len() == 1 {
+        return integer(op, of, a, 0);
+    }
+    integer(op, of, a, number(&args[1]))
+}
+
+/// The funnel shift up of a base, what comes in, and an amount that is cut to the width.
+pub(crate) fn shl(args: &[Val]) -> Val
+    requires { FitsOp Op.Shl (map datum_of args.now) }
+    ensures { datum_of result ≡ shifted moved_up (map datum_of args.now) }
+{
+    let width = width(&args[0]);
+    let by = number(&args[2]).min(width as u128) as u32;
+    Val::Int {
+        width,
+        bits: shift_up(width, number(&args[0]), number(&args[1]), by),
+    }
+}
+
+/// The funnel shift down of a base, what comes in, and an amount that is cut to the width.
+pub(crate) fn shr(args: &[Val]) -> Val
+    requires { FitsOp Op.Shr (map datum_of args.now) }
+    ensures { datum_of result ≡ shifted moved_down (map datum_of args.now) }
+{
+    let width = width(&args[0]);
+    let by = number(&args[2]).min(width as u128) as u32;
+    Val::Int {
+        width,
+        bits: shift_down(width, number(&args[0]), number(&args[1]), by),
+    }
+}
+
+/// The element that the selector names; past the end, the last element.
+pub(crate) fn mux(args: &[Val]) -> Result<Val, NoMemory>
+    requires { FitsOp Op.Mux (map datum_of args.now) }
+    ensures { IfOk result (λ v. datum_of v ≡ selected (map datum_of args.now)) }
+{
+    let elements = parts(&args[0]);
+    let last = elements.len() - 1;
+    let at = number(&args[1]).min(last as u128) as usize;
+    elements[at].copy()
+}
+
+/// Element or field `k`.
+pub(crate) fn extf(args: &[Val], k: u32) -> Result<Val, NoMemory>
+    requires { FitsOp (Op.Extf k) (map datum_of args.now) }
+    ensures { IfOk result (λ v. datum_of v ≡ field_at k (map datum_of args.now)) }
+{
+    parts(&args[0])[k as usize].copy()
+}
