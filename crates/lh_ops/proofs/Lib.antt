@@ -1,3 +1,4 @@
+pub mod ArgLemmas
 pub mod FitLemmas
 pub mod EqualLemmas
 pub mod RowLemmas

@@ -1,5 +1,5 @@
 //! Values by their parts: accessors, and lists of copies.
-ghost use Rattle.std.specs.Prelude.{◌≡◌, ◌+◌, ◌<◌, ◌≤◌, ◌++◌, map, length, replicate, slice_set, IfOk, OnOk};
+ghost use Rattle.std.specs.Prelude.{◌≡◌, ◌+◌, ◌<◌, ◌≤◌, ◌++◌, map, length, take, drop, replicate, slice_set, IfOk, OnOk};
 ghost use Rattle.lh_types.specs.ValueOf.{datum_of};
 ghost use Rattle.lh_ops.specs.Operands.{width_of, number_of, parts_within};
 
@@ -67,5 +67,36 @@ pub(crate) fn repeats(alloc: Global, v: &Val, n: u32) -> Result<ValList, NoMemor
         let v = v.copy()?;
         list.push(v)?;
     }
+    Ok(list)
+}
+
+/// Copies of values, with `new` in place of the one at `k`.
+#[tactic(auto, using(crate::proofs::RowLemmas::edits))]
+pub(crate) fn with_part(alloc: Global, from: &[Val], k: usize, new: &Val) -> Result<ValList, NoMemory>
+    requires { k < length from.now }
+    ensures { IfOk result (λ vs. vs ≡ slice_set (map datum_of from.now) k (datum_of new.now)) }
+{
+    let mut list = copies(alloc, &from[..k])?;
+    let new = new.copy()?;
+    list.push(new)?;
+    append(&mut list, &from[k + 1..])?;
+    Ok(list)
+}
+
+/// Copies of values, with `new` in place of those from `at` up to `to`.
+#[tactic(auto, using(crate::proofs::RowLemmas::edits))]
+pub(crate) fn with_parts(
+    alloc: Global,
+    from: &[Val],
+    new: &[Val],
+    at: usize,
+    to: usize,
+) -> Result<ValList, NoMemory>
+    requires { (at ≤ to) × (to ≤ length from.now) }
+    ensures { IfOk result (λ vs. vs ≡ take at (map datum_of from.now) ++ map datum_of new.now ++ drop to (map datum_of from.now)) }
+{
+    let mut list = copies(alloc, &from[..at])?;
+    append(&mut list, new)?;
+    append(&mut list, &from[to..])?;
     Ok(list)
 }

@@ -1,5 +1,5 @@
 //! The rows on values that are no integers of one width: comparison, shifts, and the parts of arrays and structs.
-ghost use Rattle.std.specs.Prelude.{◌≡◌, ◌+◌, ◌^◌, ◌<◌, ◌≤◌, ◌++◌, length, map, drop, take, slice_set, IfOk};
+ghost use Rattle.std.specs.Prelude.{◌≡◌, ◌+◌, ◌^◌, ◌<◌, ◌≤◌, ◌++◌, length, map, drop, take, IfOk};
 ghost use Rattle.lh_types.specs.Values.{int_value, array_value, data_row};
 ghost use Rattle.lh_types.specs.ValueOf.{datum_of};
 ghost use Rattle.lh_types.specs.ApplyInt.{integer_row, row_width, IsIntegerRow, moved_up, moved_down};
@@ -7,11 +7,11 @@ ghost use Rattle.lh_types.specs.Apply.{integer_result, shifted, selected, field_
 ghost use Rattle.lh_types.specs.ApplyTypes.{FitsOp, TakesIntegers};
 
 use crate::integers::{apply_int, result_width};
-use crate::parts::{copies, number, parts, width};
+use crate::parts::{copies, number, parts, width, with_part, with_parts};
 use crate::shifts::{bits_at, shift_down, shift_up, with_bits};
 use lh_types::op::Op;
 use lh_types::ty::NoMemory;
-use lh_types::val::{Val, ValList};
+use lh_types::val::Val;
 use std::alloc::Global;
 
 /// The integer that a row from `Not` to `Uge` gives.
@@ -34,8 +34,8 @@ pub(crate) fn integers(op: &Op, args: &[Val]) -> Val
     requires fits { FitsOp op.now (map datum_of args.now) }
     ensures { datum_of result ≡ integer_result op.now (map datum_of args.now) }
 {
-    let of = width(&args[0]);
-    let a = number(&args[0]);
+    let first = &args[0];
+    let (of, a) = (width(first), number(first));
     if args.len() == 1 {
         return integer(op, of, a, 0);
     }
@@ -84,5 +84,63 @@ pub(crate) fn extf(args: &[Val], k: u32) -> Result<Val, NoMemory>
     requires { FitsOp (Op.Extf k) (map datum_of args.now) }
     ensures { IfOk result (λ v. datum_of v ≡ field_at k (map datum_of args.now)) }
 {
-    parts(&args[0])[k as usize].copy()
+    let part = &parts(&args[0])[k as usize];
+    part.copy()
+}
+
+/// The `len` bits or elements from `at`.
+pub(crate) fn exts(alloc: Global, args: &[Val], at: u32, len: u32) -> Result<Val, NoMemory>
+    requires { FitsOp (Op.Exts at len) (map datum_of args.now) }
+    ensures { IfOk result (λ v. datum_of v ≡ slice_at at len (map datum_of args.now)) }
+{
+    match &args[0] {
+        Val::Int { bits, .. } => Ok(Val::Int {
+            width: len,
+            bits: bits_at(*bits, at, len),
+        }),
+        Val::Array(elements) => {
+            let part = &elements.as_slice()[at as usize..at as usize + len as usize];
+            Ok(Val::Array(copies(alloc, part)?))
+        }
+        _ => unreachable!(),
+    }
+}
+
+/// The whole with element or field `k` replaced.
+pub(crate) fn insf(alloc: Global, args: &[Val], k: u32) -> Result<Val, NoMemory>
+    requires { FitsOp (Op.Insf k) (map datum_of args.now) }
+    ensures { IfOk result (λ v. datum_of v ≡ with_field k (map datum_of args.now)) }
+{
+    let new = &args[1];
+    match &args[0] {
+        Val::Array(elements) => {
+            let whole = with_part(alloc, elements.as_slice(), k as usize, new)?;
+            Ok(Val::Array(whole))
+        }
+        Val::Tuple(fields) => {
+            let whole = with_part(alloc, fields.as_slice(), k as usize, new)?;
+            Ok(Val::Tuple(whole))
+        }
+        _ => unreachable!(),
+    }
+}
+
+/// The whole with the `len` bits or elements from `at` replaced.
+pub(crate) fn inss(alloc: Global, args: &[Val], at: u32, len: u32) -> Result<Val, NoMemory>
+    requires { FitsOp (Op.Inss at len) (map datum_of args.now) }
+    ensures { IfOk result (λ v. datum_of v ≡ with_slice at len (map datum_of args.now)) }
+{
+    let new = &args[1];
+    match &args[0] {
+        Val::Int { width, bits } => Ok(Val::Int {
+            width: *width,
+            bits: with_bits(*width, *bits, number(new), at, len),
+        }),
+        Val::Array(elements) => {
+            let (from, to) = (at as usize, at as usize + len as usize);
+            let whole = with_parts(alloc, elements.as_slice(), parts(new), from, to)?;
+            Ok(Val::Array(whole))
+        }
+        _ => unreachable!(),
+    }
 }
