@@ -1,17 +1,19 @@
 -- Arguments as the code reads them.
-use Rattle.std.proofs.Common.{◌≡◌, ◌≢◌, ℕ, zero, suc, ◌+◌, ◌-◌, ◌*◌, ◌^◌, ◌≤◌, ◌<◌, List, [], ◌∷◌, ◌++◌, length, map, get_or, take, drop, set, Option, Some, None, refl, sym, ap, ◌∙◌, subst, arith, inl, inr, ◌⊎◌}
-use Rattle.std.specs.Prelude.{slice_get}
+use Rattle.std.proofs.Common.{◌≡◌, ◌≢◌, ℕ, zero, suc, ◌+◌, ◌-◌, ◌*◌, ◌^◌, ◌≤◌, ◌<◌, List, [], ◌∷◌, ◌++◌, length, map, get_or, take, drop, set, Option, Some, None, Bool, true, false, ◌&&◌, leb, ltb, refl, sym, ap, ◌∙◌, subst, arith, inl, inr, ◌⊎◌}
+use Rattle.std.specs.Prelude.{option_map}
+use Rattle.std.proofs.lemmas.Bool.{ltb-true, leb-true, and_parts}
 use Rattle.std.proofs.lemmas.List.{length-map, get_or-map, take-map, drop-map}
-use Rattle.lh_types.specs.Types.{TypeTree, TypeRow, int_type, time_type, void_type, array_type, tuple_type, signal_type, pointer_type, no_types, more_types, row_of}
+use Rattle.lh_types.specs.Types.{TypeTree, TypeRow, int_type, time_type, array_type, tuple_type, no_types, more_types, row_of, bit_count}
 use Rattle.lh_types.specs.Values.{Datum, DatumRow, int_value, time_value, array_value, tuple_value, no_values, more_values, data_row}
 use Rattle.lh_types.specs.ValueOf.{datum_of}
 use Rattle.lh_types.specs.Fits.{FitsType, FitsRow, PartsFit, part_count}
-use Rattle.lh_types.specs.Apply.{parts_of, no_value}
-use Rattle.lh_types.specs.ApplyTypes.{FitsOp, RowType, fields_of, HasField, HasSlice, Shifts}
-use Rattle.lh_types.specs.declared.op.Op.TheVariants.{Shl, Shr, Mux, Extf, Exts, Insf, Inss}
+use Rattle.lh_types.specs.Parts.{Part, parts_of, part_at, with_part, part_if, part_beyond, step_part, field_part}
+use Rattle.lh_types.specs.Apply.{no_value, field_at, slice_at, with_field, with_slice}
+use Rattle.lh_types.specs.ApplyTypes.{FitsOp, HasPart, Shifts}
+use Rattle.lh_types.specs.declared.part.Step.TheVariants.{Field, Slice}
+use Rattle.lh_types.specs.declared.op.Op.TheVariants.{Shl, Shr, Extf, Exts, Insf, Inss}
 use Rattle.lh_types.specs.declared.val.Val.{Val}
 use Rattle.lh_ops.specs.Operands.{width_of, number_of, parts_within}
-use Rattle.lh_types.specs.Apply.{field_at, slice_at, with_field, with_slice}
 use Rattle.lh_ops.proofs.FitLemmas.{IntegerArgs, one_arg, two_args}
 use Rattle.lh_ops.proofs.RowLemmas.{parts_of-data_row}
 
@@ -71,32 +73,56 @@ module _ (xs : List Val) (v w : Val) (of a b : ℕ) (args : IntegerArgs (map dat
 
 -- ---- parts
 
-parts_count : (r : DatumRow) → length (parts_of r) ≡ part_count r
+pub parts_count : (r : DatumRow) → length (parts_of r) ≡ part_count r
 parts_count no_values = refl
 parts_count (more_values v r) = omega (arith, parts_count r)
 
-fields_count : (r : DatumRow) (ts : TypeRow) → FitsRow r ts → length (parts_of r) ≡ length (fields_of ts)
-fields_count no_values no_types f = refl
-fields_count no_values (more_types t ts) f = absurd f
-fields_count (more_values v r) no_types f = absurd f
-fields_count (more_values v r) (more_types t ts) f = ap suc (fields_count r ts f.1)
+-- what a step leads to, where it fits
+there : (b : Bool) (lo : ℕ) (t r : TypeTree) → option_map (λ p. p.of) (part_if b lo t) ≡ Some r → (b ≡ true) × (t ≡ r)
+there true lo t r e = (refl, cc)
+there false lo t r e = cc
 
-found_within : (ts : List TypeTree) (k : ℕ) (p : TypeTree) → slice_get ts k ≡ Some p → k < length ts
-found_within [] k p e = cc
-found_within (t ∷ ts) zero p e = omega arith
-found_within (t ∷ ts) (suc k) p e = omega (arith, found_within ts k p e)
+pub element_part : (n : ℕ) (t : TypeTree) (k : ℕ) (r : TypeTree) → HasPart (array_type n t) (Field k) r → (k < n) × (t ≡ r)
+element_part n t k r h = let e = there (ltb k n) (k * bit_count t) t r h in (ltb-true k n e.0, e.1)
 
--- a part that the type has is there
-pub field_within : (x : Datum) (t : TypeTree) (k : ℕ) (p : TypeTree) → FitsType x t → HasField t k p → k < length (parts_within x)
-field_within (int_value n a) (int_type m) k p f h = absurd h
-field_within (time_value d) time_type k p f h = absurd h
-field_within (array_value r) (array_type n t) k p f h = omega (arith, parts_count r, f.0, h.0)
-field_within (tuple_value r) (tuple_type ts) k p f h = omega (arith, fields_count r ts f, found_within (fields_of ts) k p h)
-field_within _ _ k p f h = absurd f
+pub bits_part : (w o n : ℕ) (r : TypeTree) → HasPart (int_type w) (Slice o n) r → (1 ≤ n) × (o + n ≤ w) × (int_type n ≡ r)
+bits_part w o n r h = let e = there (leb 1 n && leb (o + n) w) o (int_type n) r h in let b = and_parts (leb 1 n) (leb (o + n) w) e.0 in (leb-true 1 n b.0, leb-true (o + n) w b.1, e.1)
 
-pub slice_within : (r : DatumRow) (t : TypeTree) (o n : ℕ) (p : TypeTree) → FitsType (array_value r) t → HasSlice t o n p → o + n ≤ length (parts_of r)
-slice_within r (array_type m t) o n p f h = omega (arith, parts_count r, f.0, h.1)
-slice_within r _ o n p f h = absurd f
+pub elements_part : (m : ℕ) (t : TypeTree) (o n : ℕ) (r : TypeTree) → HasPart (array_type m t) (Slice o n) r → (1 ≤ n) × (o + n ≤ m) × (array_type n t ≡ r)
+elements_part m t o n r h = let e = there (leb 1 n && leb (o + n) m) (o * bit_count t) (array_type n t) r h in let b = and_parts (leb 1 n) (leb (o + n) m) e.0 in (leb-true 1 n b.0, leb-true (o + n) m b.1, e.1)
+
+-- a value of the type is a value of an equal type
+pub as_type : (x : Datum) (t r : TypeTree) → FitsType x t → t ≡ r → FitsType x r
+as_type x t r f e = let F : TypeTree → Type 0 = FitsType x in subst F e f
+
+beyond_of : (b : ℕ) (o : Option Part) → option_map (λ p. p.of) (option_map (part_beyond b) o) ≡ option_map (λ p. p.of) o
+beyond_of b None = refl
+beyond_of b (Some p) = refl
+
+-- field k of a struct is there, and of its type
+pub field_fits : (vs : DatumRow) (ts : TypeRow) (k : ℕ) (r : TypeTree) (d : Datum) → FitsRow vs ts → HasPart (tuple_type ts) (Field k) r → (k < length (parts_of vs)) × FitsType (get_or (parts_of vs) k d) r
+field_fits no_values no_types k r d f h = cc
+field_fits no_values (more_types t ts) k r d f h = absurd f
+field_fits (more_values v vs) no_types k r d f h = absurd f
+field_fits (more_values v vs) (more_types t ts) zero r d f h = (omega arith, as_type v t r f.0 cc)
+field_fits (more_values v vs) (more_types t ts) (suc k) r d f h = let i = field_fits vs ts k r d f.1 (sym (beyond_of (bit_count t) (field_part ts k)) ∙ h) in (omega (arith, i.0), i.1)
+
+-- element k of an array is there, and of its type
+pub element_fits : (vs : DatumRow) (t : TypeTree) (k : ℕ) (d : Datum) → PartsFit vs t → k < length (parts_of vs) → FitsType (get_or (parts_of vs) k d) t
+element_fits no_values t k d f h = absurd (omega arith)
+element_fits (more_values v vs) t zero d f h = f.0
+element_fits (more_values v vs) t (suc k) d f h = element_fits vs t k d f.1 (omega arith)
+
+pub field_within : (x : Datum) (t : TypeTree) (k : ℕ) (r : TypeTree) → FitsType x t → HasPart t (Field k) r → k < length (parts_within x)
+field_within (int_value n a) (int_type m) k r f h = cc
+field_within (time_value d) time_type k r f h = cc
+field_within (array_value vs) (array_type n t) k r f h = let e = element_part n t k r h in omega (arith, parts_count vs, f.0, e.0)
+field_within (tuple_value vs) (tuple_type ts) k r f h = (field_fits vs ts k r no_value f h).0
+field_within _ _ k r f h = absurd f
+
+pub slice_within : (vs : DatumRow) (t : TypeTree) (o n : ℕ) (r : TypeTree) → FitsType (array_value vs) t → HasPart t (Slice o n) r → o + n ≤ length (parts_of vs)
+slice_within vs (array_type m t) o n r f h = let e = elements_part m t o n r h in omega (arith, parts_count vs, f.0, e.1)
+slice_within vs _ o n r f h = absurd f
 
 -- ---- one and two arguments
 
@@ -128,11 +154,11 @@ module _ (xs : List Val) (ts : List TypeTree) (t u : TypeTree) (v w : Val) (fits
 length_of : (items : List Val) (ds : List Datum) → map datum_of items ≡ ds → length items ≡ length ds
 length_of items ds e = sym (length-map items datum_of) ∙ ap length e
 
-field_is : (x : Datum) (k : ℕ) → field_at k (x ∷ []) ≡ get_or (parts_within x) k no_value
-field_is (int_value n a) k = refl
-field_is (time_value d) k = refl
-field_is (array_value r) k = refl
-field_is (tuple_value r) k = refl
+field_is : (x : Datum) (k : ℕ) → k < length (parts_within x) → part_at x (Field k) ≡ get_or (parts_within x) k no_value
+field_is (int_value n a) k h = absurd (omega arith)
+field_is (time_value d) k h = absurd (omega arith)
+field_is (array_value r) k h = refl
+field_is (tuple_value r) k h = refl
 
 module _ (xs : List Val) (v : Val) (k : ℕ) (items : List Val) (args : FitsOp (Extf k) (map datum_of xs)) (v_is : v ≡ get_or xs 0 v) (items_are : map datum_of items ≡ parts_within (datum_of v)) where
   pub extf_within : k < length items
@@ -140,8 +166,9 @@ module _ (xs : List Val) (v : Val) (k : ℕ) (items : List Val) (args : FitsOp (
 
   pub extf_is : (part : Val) → part ≡ get_or items k part → datum_of part ≡ field_at k (map datum_of xs)
   extf_is part p =
+      let parts_within_k = field_within (datum_of v) args.row.0 k args.gives (only_fits xs args.types args.row.0 v args.values_fit args.row.1 v_is) args.row.2 in
       let e = ap (λ ds. field_at k ds) (only_arg xs args.types args.row.0 v args.values_fit args.row.1 v_is) in
-      sym (e ∙ field_is (datum_of v) k ∙ ap (λ ds. get_or ds k no_value) (sym items_are) ∙ get_or-map datum_of items k part no_value extf_within ∙ ap datum_of (sym p))
+      sym (e ∙ field_is (datum_of v) k parts_within_k ∙ ap (λ ds. get_or ds k no_value) (sym items_are) ∙ get_or-map datum_of items k part no_value extf_within ∙ ap datum_of (sym p))
 
 module _ (xs : List Val) (v : Val) (o n : ℕ) (items : List Val) (r : List Datum) (args : FitsOp (Exts o n) (map datum_of xs)) (v_is : v ≡ get_or xs 0 v) (array : datum_of v ≡ array_value (data_row r)) (items_are : map datum_of items ≡ r) where
   pub exts_within : o + n ≤ length items
@@ -155,3 +182,61 @@ module _ (xs : List Val) (v : Val) (o n : ℕ) (items : List Val) (r : List Datu
       let e = only_arg xs args.types args.row.0 v args.values_fit args.row.1 v_is ∙ ap (λ x. x ∷ []) array in
       let c : o + n - o ≡ n = omega arith in
       rw (e, p, parts_of-data_row r, ← items_are, c) (simp (take-map, drop-map))
+
+-- ---- the whole with a part replaced
+
+insf_length : (xs : List Val) (ts : List TypeTree) (t u : TypeTree) → FitsRow (data_row (map datum_of xs)) (row_of ts) → ts ≡ t ∷ u ∷ [] → 1 < length xs
+insf_length xs ts t u f e = omega (arith, args_length xs ts f, ap length e)
+
+pub insf_two : (xs : List Val) (k : ℕ) → FitsOp (Insf k) (map datum_of xs) → 1 < length xs
+insf_two xs k f = insf_length xs f.types f.gives f.row.0 f.values_fit f.row.1
+
+pub inss_two : (xs : List Val) (o n : ℕ) → FitsOp (Inss o n) (map datum_of xs) → 1 < length xs
+inss_two xs o n f = insf_length xs f.types f.gives f.row.0 f.values_fit f.row.1
+
+module _ (xs : List Val) (v w : Val) (k : ℕ) (items : List Val) (r : List Datum) (args : FitsOp (Insf k) (map datum_of xs)) (v_is : v ≡ get_or xs 0 v) (w_is : w ≡ get_or xs 1 w) (items_are : map datum_of items ≡ r) where
+  whole_fits : FitsType (datum_of v) args.gives
+  whole_fits = fits_first xs args.types args.gives args.row.0 v w args.values_fit args.row.1 v_is w_is
+
+  two : map datum_of xs ≡ datum_of v ∷ datum_of w ∷ []
+  two = both_args xs args.types args.gives args.row.0 v w args.values_fit args.row.1 v_is w_is
+
+  pub insf_within : parts_within (datum_of v) ≡ parts_of (data_row r) → k < length items
+  insf_within e = omega (arith, length_of items r items_are, ap length (parts_of-data_row r), ap length e, field_within (datum_of v) args.gives k args.row.0 whole_fits args.row.2)
+
+  pub insf_array : (whole : List Datum) → datum_of v ≡ array_value (data_row r) → whole ≡ set (map datum_of items) k (datum_of w) → array_value (data_row whole) ≡ with_field k (map datum_of xs)
+  insf_array whole array e = rw (two, array, e, items_are, parts_of-data_row r) refl
+
+  pub insf_tuple : (whole : List Datum) → datum_of v ≡ tuple_value (data_row r) → whole ≡ set (map datum_of items) k (datum_of w) → tuple_value (data_row whole) ≡ with_field k (map datum_of xs)
+  insf_tuple whole tuple e = rw (two, tuple, e, items_are, parts_of-data_row r) refl
+
+-- an array in which n elements are replaced, and the array of n elements
+array_of : (w : Datum) (t : TypeTree) (n : ℕ) → FitsType w (array_type n t) → (r : DatumRow) × (w ≡ array_value r)
+array_of (array_value r) t n f = (r, refl)
+array_of (int_value m a) t n f = absurd f
+array_of (time_value d) t n f = absurd f
+array_of (tuple_value r) t n f = absurd f
+
+new_elements : (x y : Datum) (r : DatumRow) (t u : TypeTree) (o n : ℕ) → x ≡ array_value r → FitsType x t → FitsType y u → HasPart t (Slice o n) u → (s : DatumRow) × (y ≡ array_value s)
+new_elements (array_value vs) y r (array_type m t) u o n e f g h = array_of y t n (as_type y u (array_type n t) g (sym (elements_part m t o n u h).2))
+new_elements (array_value vs) y r _ u o n e f g h = absurd f
+new_elements _ y r t u o n e f g h = cc
+
+module _ (xs : List Val) (v w : Val) (o n : ℕ) (items new : List Val) (r : List Datum) (args : FitsOp (Inss o n) (map datum_of xs)) (v_is : v ≡ get_or xs 0 v) (w_is : w ≡ get_or xs 1 w) (array : datum_of v ≡ array_value (data_row r)) (items_are : map datum_of items ≡ r) (new_are : map datum_of new ≡ parts_within (datum_of w)) where
+  old_fits : FitsType (datum_of v) args.gives
+  old_fits = fits_first xs args.types args.gives args.row.0 v w args.values_fit args.row.1 v_is w_is
+
+  new_fits : FitsType (datum_of w) args.row.0
+  new_fits = fits_second xs args.types args.gives args.row.0 v w args.values_fit args.row.1 v_is w_is
+
+  pub inss_within : (o ≤ o + n) × (o + n ≤ length items)
+  inss_within =
+      let w = slice_within (data_row r) args.gives o n args.row.0 (type_at _ _ args.gives old_fits array) args.row.2 in
+      (omega arith, omega (arith, w, length_of items r items_are, ap length (parts_of-data_row r)))
+
+  pub inss_array : (whole : List Datum) → whole ≡ take o (map datum_of items) ++ map datum_of new ++ drop (o + n) (map datum_of items) → array_value (data_row whole) ≡ with_slice o n (map datum_of xs)
+  inss_array whole e =
+      let two = both_args xs args.types args.gives args.row.0 v w args.values_fit args.row.1 v_is w_is in
+      let s = new_elements (datum_of v) (datum_of w) (data_row r) args.gives args.row.0 o n array old_fits new_fits args.row.2 in
+      let parts : map datum_of new ≡ parts_of s.0 = new_are ∙ ap parts_within s.1 in
+      rw (two, array, s.1, e, items_are, parts, parts_of-data_row r) refl

@@ -4,8 +4,8 @@ use Rattle.std.proofs.lemmas.Nat.{pow_pos}
 use Rattle.lh_types.specs.Types.{TypeTree, TypeRow, int_type, time_type, void_type, array_type, tuple_type, signal_type, pointer_type, no_types, more_types, row_of, AreData, IsData}
 use Rattle.lh_types.specs.Values.{Datum, DatumRow, int_value, time_value, array_value, tuple_value, no_values, more_values, data_row}
 use Rattle.lh_types.specs.Fits.{FitsType, FitsRow, PartsFit, part_count}
-use Rattle.lh_types.specs.Apply.{parts_of}
-use Rattle.lh_types.specs.ApplyTypes.{FitsOp, RowType, fields_of, HasField, HasSlice, OneInteger, TwoIntegers, ComparesIntegers, TakesIntegers}
+use Rattle.lh_types.specs.Parts.{parts_of}
+use Rattle.lh_types.specs.ApplyTypes.{FitsOp, RowType, OneInteger, TwoIntegers, ComparesIntegers, TakesIntegers}
 use Rattle.lh_types.specs.declared.op.Op.{Op}
 use Rattle.lh_types.specs.declared.op.Op.TheVariants.{Not, Neg, Add, Sub, Umul, Smul, Udiv, Sdiv, Umod, Smod, Urem, Srem, And, Or, Xor, Eq, Neq, Slt, Sgt, Sle, Sge, Ult, Ugt, Ule, Uge, Shl, Shr, Mux, Extf, Exts, Insf, Inss, Array, Repeat, Tuple}
 

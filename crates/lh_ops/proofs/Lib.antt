@@ -1,6 +1,5 @@
 pub mod ArgLemmas
 pub mod FitLemmas
-pub mod EqualLemmas
 pub mod RowLemmas
 pub mod WordLemmas
 pub mod ShiftLemmas

@@ -2,7 +2,7 @@
 use Rattle.std.proofs.Common.{◌≡◌, List, [], ◌∷◌, refl, ap}
 use Rattle.std.proofs.lemmas.List.{set_split, take-map, drop-map, map-append, append_assoc}
 use Rattle.lh_types.specs.Values.{Datum, data_row}
-use Rattle.lh_types.specs.Apply.{parts_of}
+use Rattle.lh_types.specs.Parts.{parts_of}
 
 pub parts_of-data_row : (ds : List Datum) → parts_of (data_row ds) ≡ ds
 parts_of-data_row [] = refl

@@ -3,7 +3,8 @@ use Rattle.std.proofs.Common.{◌≡◌, ℕ, ◌+◌, ◌-◌, ◌*◌, ◌/◌
 use Rattle.std.proofs.lemmas.Nat.{pow_pos, pow-add, mod-pow-add, shl-shr, shl_whole, or_shifted, shr_below, shr_split, mod_below, mul-le}
 use Rattle.std.proofs.Math.Nat.{mul-mod_left}
 use lib.Pow.{pow_mono}
-use Rattle.lh_types.specs.ApplyInt.{moved_up, moved_down, bits_from, bits_replaced}
+use Rattle.lh_types.specs.ApplyInt.{moved_up, moved_down}
+use Rattle.lh_ops.specs.Operands.{bits_from, bits_replaced}
 
 -- to move up and cut is to cut and move up
 scaled_mod : (x j k : ℕ) → (x * 2 ^ k) % 2 ^ (j + k) ≡ (x % 2 ^ j) * 2 ^ k

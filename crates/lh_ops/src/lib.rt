@@ -2,7 +2,6 @@
 #![tactic(auto)]
 
 pub mod integers;
-mod equal;
 mod parts;
 mod rows;
 mod shifts;

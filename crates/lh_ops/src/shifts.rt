@@ -1,6 +1,7 @@
 //! Funnel shifts, and the bits within a word.
 ghost use Rattle.std.specs.Prelude.{◌≡◌, ◌+◌, ◌^◌, ◌<◌, ◌≤◌};
-ghost use Rattle.lh_types.specs.ApplyInt.{moved_up, moved_down, bits_from, bits_replaced};
+ghost use Rattle.lh_types.specs.ApplyInt.{moved_up, moved_down};
+ghost use Rattle.lh_ops.specs.Operands.{bits_from, bits_replaced};
 
 use crate::words::cut;
 

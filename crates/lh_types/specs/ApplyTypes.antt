@@ -1,28 +1,18 @@
 -- Which operands a row takes, and the type of what it gives.
-use Rattle.std.specs.Prelude.{◌≡◌, ℕ, ◌+◌, ◌≤◌, ◌<◌, List, [], ◌∷◌, length, replicate, slice_get, Option, Some}
+use Rattle.std.specs.Prelude.{◌≡◌, ℕ, ◌+◌, ◌≤◌, ◌<◌, List, [], ◌∷◌, length, replicate, option_map, Some}
 use Rattle.lh_types.specs.Types.{TypeTree, TypeRow, int_type, array_type, tuple_type, no_types, more_types, row_of, AreData}
 use Rattle.lh_types.specs.Values.{Datum, data_row}
 use Rattle.lh_types.specs.Fits.{FitsRow}
+use Rattle.lh_types.specs.Parts.{step_part}
+use Rattle.lh_types.specs.declared.part.Step.{Step}
+use Rattle.lh_types.specs.declared.part.Step.TheVariants.{Field, Slice}
 use Rattle.lh_types.specs.ApplyInt.{IsIntegerRow}
 use Rattle.lh_types.specs.declared.op.Op.{Op}
 use Rattle.lh_types.specs.declared.op.Op.TheVariants.{Not, Neg, Eq, Neq, Slt, Sgt, Sle, Sge, Ult, Ugt, Ule, Uge, Shl, Shr, Mux, Extf, Exts, Insf, Inss, Array, Repeat, Tuple}
 
--- the fields of a struct in order
-abbrev pub fields_of : TypeRow → List TypeTree
-fields_of no_types = []
-fields_of (more_types t ts) = t ∷ fields_of ts
-
--- p is the type of element or field k
-abbrev pub HasField : TypeTree → ℕ → TypeTree → Type 0
-HasField (array_type n t) k p = (k < n) × (p ≡ t)
-HasField (tuple_type ts) k p = slice_get (fields_of ts) k ≡ Some p
-HasField _ k p = ⊥
-
--- p is the type of the n bits or elements from o
-abbrev pub HasSlice : TypeTree → ℕ → ℕ → TypeTree → Type 0
-HasSlice (int_type w) o n p = (1 ≤ n) × (o + n ≤ w) × (p ≡ int_type n)
-HasSlice (array_type w t) o n p = (1 ≤ n) × (o + n ≤ w) × (p ≡ array_type n t)
-HasSlice _ o n p = ⊥
+-- r is the type of the part of t that the step leads to
+abbrev pub HasPart : TypeTree → Step → TypeTree → Type 0
+HasPart t s r = option_map (λ p. p.of) (step_part t s) ≡ Some r
 
 -- one integer, and a result of its type
 abbrev pub OneInteger : List TypeTree → TypeTree → Type 0
@@ -61,10 +51,10 @@ RowType Uge ts r = ComparesIntegers ts r
 RowType Shl ts r = Shifts ts r
 RowType Shr ts r = Shifts ts r
 RowType Mux ts r = (n w : ℕ) × (ts ≡ array_type n r ∷ int_type w ∷ [])
-RowType (Extf k) ts r = (t : TypeTree) × (ts ≡ t ∷ []) × HasField t k r
-RowType (Exts o n) ts r = (t : TypeTree) × (ts ≡ t ∷ []) × HasSlice t o n r
-RowType (Insf k) ts r = (p : TypeTree) × (ts ≡ r ∷ p ∷ []) × HasField r k p
-RowType (Inss o n) ts r = (p : TypeTree) × (ts ≡ r ∷ p ∷ []) × HasSlice r o n p
+RowType (Extf k) ts r = (t : TypeTree) × (ts ≡ t ∷ []) × HasPart t (Field k) r
+RowType (Exts o n) ts r = (t : TypeTree) × (ts ≡ t ∷ []) × HasPart t (Slice o n) r
+RowType (Insf k) ts r = (p : TypeTree) × (ts ≡ r ∷ p ∷ []) × HasPart r (Field k) p
+RowType (Inss o n) ts r = (p : TypeTree) × (ts ≡ r ∷ p ∷ []) × HasPart r (Slice o n) p
 RowType Array ts r = (t : TypeTree) × (0 < length ts) × (ts ≡ replicate (length ts) t) × (r ≡ array_type (length ts) t)
 RowType (Repeat n) ts r = (t : TypeTree) × (ts ≡ t ∷ []) × (0 < n) × (r ≡ array_type n t)
 RowType Tuple ts r = (0 < length ts) × (r ≡ tuple_type (row_of ts))

@@ -1,6 +1,6 @@
 -- When a value is of a type.
 use Rattle.std.specs.Prelude.{◌≡◌, ℕ, ◌^◌, ◌<◌, ◌+◌}
-use Rattle.lh_types.specs.Types.{TypeTree, TypeRow, int_type, time_type, array_type, tuple_type, no_types, more_types}
+use Rattle.lh_types.specs.Types.{TypeTree, TypeRow, int_type, time_type, array_type, tuple_type, no_types, more_types, IsData}
 use Rattle.lh_types.specs.Values.{Datum, DatumRow, int_value, time_value, array_value, tuple_value, no_values, more_values}
 
 -- how many parts a row has
@@ -27,3 +27,9 @@ abbrev mutual
   FitsRow no_values no_types = Unit {0}
   FitsRow (more_values v vs) (more_types t ts) = FitsType v t × FitsRow vs ts
   FitsRow _ _ = ⊥
+
+-- it is a value of some data type
+pub record FitsData (v : Datum) : Type 0 where
+  pub of : TypeTree
+  pub is_data : IsData of
+  pub fits : FitsType v of

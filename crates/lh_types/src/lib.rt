@@ -1,7 +1,11 @@
 //! Types, values, bits and operations of the language, and the lists that every layer uses.
 #![tactic(auto)]
 
+pub mod bits;
 pub mod list;
 pub mod op;
+pub mod part;
+pub mod tally;
 pub mod ty;
 pub mod val;
+pub mod writes;
