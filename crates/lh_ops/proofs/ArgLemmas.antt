@@ -11,7 +11,8 @@ use Rattle.lh_types.specs.Parts.{Part, parts_of, part_at, with_part, part_if, pa
 use Rattle.lh_types.specs.Apply.{no_value, field_at, slice_at, with_field, with_slice}
 use Rattle.lh_types.specs.ApplyTypes.{FitsOp, HasPart, Shifts}
 use Rattle.lh_types.specs.declared.part.Step.TheVariants.{Field, Slice}
-use Rattle.lh_types.specs.declared.op.Op.TheVariants.{Shl, Shr, Extf, Exts, Insf, Inss}
+use Rattle.lh_types.specs.declared.op.Op.{Op}
+use Rattle.lh_types.specs.declared.op.Op.TheVariants.{Eq, Neq, Shl, Shr, Extf, Exts, Insf, Inss, Repeat}
 use Rattle.lh_types.specs.declared.val.Val.{Val}
 use Rattle.lh_ops.specs.Operands.{width_of, number_of, parts_within}
 use Rattle.lh_ops.proofs.FitLemmas.{IntegerArgs, one_arg, two_args}
@@ -240,3 +241,26 @@ module _ (xs : List Val) (v w : Val) (o n : ℕ) (items new : List Val) (r : Lis
       let s = new_elements (datum_of v) (datum_of w) (data_row r) args.gives args.row.0 o n array old_fits new_fits args.row.2 in
       let parts : map datum_of new ≡ parts_of s.0 = new_are ∙ ap parts_within s.1 in
       rw (two, array, s.1, e, items_are, parts, parts_of-data_row r) refl
+
+-- ---- eq, neq and repeat
+
+fits_row : (op o : Op) (vs : List Datum) → op ≡ o → FitsOp op vs → FitsOp o vs
+fits_row op o vs e f = let F : Op → Type 0 = λ op. FitsOp op vs in subst F e f
+
+eq_two : (xs : List Val) → FitsOp Eq (map datum_of xs) → length xs ≡ 2
+eq_two xs f = args_length xs f.types f.values_fit ∙ ap length f.row.1
+
+neq_two : (xs : List Val) → FitsOp Neq (map datum_of xs) → length xs ≡ 2
+neq_two xs f = args_length xs f.types f.values_fit ∙ ap length f.row.1
+
+repeat_one : (xs : List Val) (n : ℕ) → FitsOp (Repeat n) (map datum_of xs) → length xs ≡ 1
+repeat_one xs n f = args_length xs f.types f.values_fit ∙ ap length f.row.1
+
+pub eq_length : (op : Op) (xs : List Val) → op ≡ Eq → FitsOp op (map datum_of xs) → length xs ≡ 2
+eq_length op xs e f = eq_two xs (fits_row op Eq _ e f)
+
+pub neq_length : (op : Op) (xs : List Val) → op ≡ Neq → FitsOp op (map datum_of xs) → length xs ≡ 2
+neq_length op xs e f = neq_two xs (fits_row op Neq _ e f)
+
+pub repeat_length : (op : Op) (xs : List Val) (n : ℕ) → op ≡ Repeat n → FitsOp op (map datum_of xs) → length xs ≡ 1
+repeat_length op xs n e f = repeat_one xs n (fits_row op (Repeat n) _ e f)

@@ -6,7 +6,9 @@ mod parts;
 mod rows;
 mod shifts;
 mod signs;
+pub mod values;
 mod words;
 
 pub use integers::apply_int;
 pub use lh_types::op::Op;
+pub use values::apply;

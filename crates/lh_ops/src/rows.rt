@@ -1,13 +1,13 @@
 //! The rows on values that are no integers of one width: comparison, shifts, and the parts of arrays and structs.
 ghost use Rattle.std.specs.Prelude.{◌≡◌, ◌+◌, ◌^◌, ◌<◌, ◌≤◌, ◌++◌, length, map, drop, take, IfOk};
-ghost use Rattle.lh_types.specs.Values.{int_value, array_value, data_row};
+ghost use Rattle.lh_types.specs.Values.{int_value, array_value, tuple_value, data_row};
 ghost use Rattle.lh_types.specs.ValueOf.{datum_of};
 ghost use Rattle.lh_types.specs.ApplyInt.{integer_row, row_width, IsIntegerRow, moved_up, moved_down};
-ghost use Rattle.lh_types.specs.Apply.{integer_result, shifted, selected, field_at, slice_at, with_field, with_slice};
+ghost use Rattle.lh_types.specs.Apply.{bit_value, equality, integer_result, repeated, shifted, selected, field_at, slice_at, with_field, with_slice};
 ghost use Rattle.lh_types.specs.ApplyTypes.{FitsOp, TakesIntegers};
 
 use crate::integers::{apply_int, result_width};
-use crate::parts::{copies, number, parts, width, with_part, with_parts};
+use crate::parts::{copies, number, parts, repeats, width, with_part, with_parts};
 use crate::shifts::{bits_at, shift_down, shift_up, with_bits};
 use lh_types::op::Op;
 use lh_types::ty::NoMemory;
@@ -40,6 +40,24 @@ pub(crate) fn integers(op: &Op, args: &[Val]) -> Val
         return integer(op, of, a, 0);
     }
     integer(op, of, a, number(&args[1]))
+}
+
+/// A truth value as an integer of one bit.
+pub(crate) fn truth(holds: bool) -> Val
+    ensures { datum_of result ≡ bit_value holds }
+{
+    Val::Int {
+        width: 1,
+        bits: holds as u128,
+    }
+}
+
+/// Whether the two values are equal, part by part.
+pub(crate) fn equal(args: &[Val]) -> bool
+    requires { length args.now ≡ 2 }
+    ensures { result ≡ equality (map datum_of args.now) }
+{
+    args[0] == args[1]
 }
 
 /// The funnel shift up of a base, what comes in, and an amount that is cut to the width.
@@ -143,4 +161,26 @@ pub(crate) fn inss(alloc: Global, args: &[Val], at: u32, len: u32) -> Result<Val
         }
         _ => unreachable!(),
     }
+}
+
+/// The array of the values in order.
+pub(crate) fn array(alloc: Global, args: &[Val]) -> Result<Val, NoMemory>
+    ensures { IfOk result (λ v. datum_of v ≡ array_value (data_row (map datum_of args.now))) }
+{
+    Ok(Val::Array(copies(alloc, args)?))
+}
+
+/// The array of `n` copies of the one value.
+pub(crate) fn repeat(alloc: Global, args: &[Val], n: u32) -> Result<Val, NoMemory>
+    requires { length args.now ≡ 1 }
+    ensures { IfOk result (λ v. datum_of v ≡ repeated n (map datum_of args.now)) }
+{
+    Ok(Val::Array(repeats(alloc, &args[0], n)?))
+}
+
+/// The struct of the values in order.
+pub(crate) fn tuple(alloc: Global, args: &[Val]) -> Result<Val, NoMemory>
+    ensures { IfOk result (λ v. datum_of v ≡ tuple_value (data_row (map datum_of args.now))) }
+{
+    Ok(Val::Tuple(copies(alloc, args)?))
 }
