@@ -127,7 +127,7 @@ slice_within vs _ o n r f h = absurd f
 
 -- ---- one and two arguments
 
-fits_as : (vs : List Datum) (ts us : List TypeTree) → FitsRow (data_row vs) (row_of ts) → ts ≡ us → FitsRow (data_row vs) (row_of us)
+pub fits_as : (vs : List Datum) (ts us : List TypeTree) → FitsRow (data_row vs) (row_of ts) → ts ≡ us → FitsRow (data_row vs) (row_of us)
 fits_as vs ts us f e = let F : List TypeTree → Type 0 = λ ts. FitsRow (data_row vs) (row_of ts) in subst F e f
 
 type_at : (x y : Datum) (t : TypeTree) → FitsType x t → x ≡ y → FitsType y t

@@ -1,3 +1,5 @@
+pub mod BooleanLemmas
+pub mod TypeLemmas
 pub mod ArgLemmas
 pub mod FitLemmas
 pub mod RowLemmas

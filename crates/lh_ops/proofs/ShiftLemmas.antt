@@ -7,7 +7,7 @@ use Rattle.lh_types.specs.ApplyInt.{moved_up, moved_down}
 use Rattle.lh_ops.specs.Operands.{bits_from, bits_replaced}
 
 -- to move up and cut is to cut and move up
-scaled_mod : (x j k : ℕ) → (x * 2 ^ k) % 2 ^ (j + k) ≡ (x % 2 ^ j) * 2 ^ k
+pub scaled_mod : (x j k : ℕ) → (x * 2 ^ k) % 2 ^ (j + k) ≡ (x % 2 ^ j) * 2 ^ k
 scaled_mod x j k =
     let e = mod-pow-add (x * 2 ^ k) j k in
     let f : x * 2 ^ k / 2 ^ k ≡ x = shl-shr x k in

@@ -2,6 +2,7 @@
 #![tactic(auto)]
 
 pub mod integers;
+pub mod laws;
 mod parts;
 mod rows;
 mod shifts;
