@@ -96,7 +96,7 @@ elements_part m t o n r h = let e = there (leb 1 n && leb (o + n) m) (o * bit_co
 pub as_type : (x : Datum) (t r : TypeTree) → FitsType x t → t ≡ r → FitsType x r
 as_type x t r f e = let F : TypeTree → Type 0 = FitsType x in subst F e f
 
-beyond_of : (b : ℕ) (o : Option Part) → option_map (λ p. p.of) (option_map (part_beyond b) o) ≡ option_map (λ p. p.of) o
+pub beyond_of : (b : ℕ) (o : Option Part) → option_map (λ p. p.of) (option_map (part_beyond b) o) ≡ option_map (λ p. p.of) o
 beyond_of b None = refl
 beyond_of b (Some p) = refl
 
