@@ -1,3 +1,5 @@
+pub mod IntegerLemmas
+pub mod Worked
 pub mod BooleanLemmas
 pub mod TypeLemmas
 pub mod ArgLemmas

@@ -3,10 +3,11 @@ use Rattle.std.specs.Prelude.{◌≡◌, ℕ, ◌-◌, ◌^◌, ◌<◌, ◌≤�
 use Rattle.lh_types.specs.Types.{TypeTree, row_of, AreData}
 use Rattle.lh_types.specs.Values.{Datum, int_value, array_value, data_row}
 use Rattle.lh_types.specs.Fits.{FitsType, FitsRow}
+use Rattle.lh_types.specs.ApplyInt.{IsIntegerRow, integer_row, row_width}
 use Rattle.lh_types.specs.Apply.{apply, bit_value}
 use Rattle.lh_types.specs.ApplyTypes.{RowType}
 use Rattle.lh_types.specs.declared.op.Op.{Op}
-use Rattle.lh_types.specs.declared.op.Op.TheVariants.{Not, And, Or, Xor, Eq, Neq, Mux}
+use Rattle.lh_types.specs.declared.op.Op.TheVariants.{Not, Neg, And, Or, Xor, Eq, Neq, Mux}
 
 -- on operands of the types that a row takes, the value is of the type that the row gives
 abbrev pub ResultsFit : Type 0
@@ -61,3 +62,13 @@ pub record EqualityTells : Type 0 where
 -- mux of two values by one bit is a choice
 abbrev pub MuxChooses : Type 0
 MuxChooses = (c : Bool) (zero one : Datum) → apply Mux (array_value (data_row (zero ∷ one ∷ [])) ∷ bit_value c ∷ []) ≡ (if c then one else zero)
+
+-- the operands of a row from not to uge: not and neg take the first alone
+abbrev pub integer_operands : Op → Datum → Datum → List Datum
+integer_operands Not v w = v ∷ []
+integer_operands Neg v w = v ∷ []
+integer_operands op v w = v ∷ w ∷ []
+
+-- on integers of one width, eq and neq among them, every such row is the one over whole numbers
+abbrev pub IntegerRows : Type 0
+IntegerRows = (op : Op) (n a b : ℕ) → IsIntegerRow op → apply op (integer_operands op (int_value n a) (int_value n b)) ≡ int_value (row_width op n) (integer_row op n a b)

@@ -1,5 +1,6 @@
 //! Laws of the operations, each the contract of a function that does nothing.
-ghost use Rattle.lh_ops.specs.Laws.{ResultsFit, OneResultType, BitsAreBoolean, WordsAreBoolean, EqualityTells, MuxChooses};
+ghost use Rattle.lh_ops.specs.Laws.{ResultsFit, OneResultType, BitsAreBoolean, WordsAreBoolean, EqualityTells, MuxChooses, IntegerRows};
+ghost use Rattle.lh_ops.specs.Vectors.{WorkedRows};
 
 /// The value of an operation on arguments that fit is of the row's type.
 pub fn results_fit()
@@ -34,5 +35,17 @@ pub fn equality_tells()
 /// `mux` of two values by one bit gives the first for 0 and the second for 1.
 pub fn mux_chooses()
     ensures { MuxChooses }
+{
+}
+
+/// On integers of one width, the rows from `Not` to `Uge` are those that `apply_int` computes.
+pub fn integer_rows()
+    ensures { IntegerRows }
+{
+}
+
+/// Rows worked by hand, on 8 and on 128 bits.
+pub fn worked_rows()
+    ensures { WorkedRows }
 {
 }

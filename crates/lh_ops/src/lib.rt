@@ -13,3 +13,6 @@ mod words;
 pub use integers::apply_int;
 pub use lh_types::op::Op;
 pub use values::apply;
+
+#[cfg(test)]
+mod tests;
