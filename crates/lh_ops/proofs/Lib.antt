@@ -1,3 +1,4 @@
+pub mod TestLemmas
 pub mod IntegerLemmas
 pub mod Worked
 pub mod BooleanLemmas

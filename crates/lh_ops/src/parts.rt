@@ -71,7 +71,12 @@ pub(crate) fn repeats(alloc: Global, v: &Val, n: u32) -> Result<ValList, NoMemor
 }
 
 /// Copies of values, with `new` in place of the one at `k`.
-pub(crate) fn with_part(alloc: Global, from: &[Val], k: usize, new: &Val) -> Result<ValList, NoMemory>
+pub(crate) fn with_part(
+    alloc: Global,
+    from: &[Val],
+    k: usize,
+    new: &Val,
+) -> Result<ValList, NoMemory>
     requires { k < length from.now }
     ensures { IfOk result (λ vs. vs ≡ slice_set (map datum_of from.now) k (datum_of new.now)) }
 {

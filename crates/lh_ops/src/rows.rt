@@ -1,10 +1,11 @@
-//! The rows on values that are no integers of one width: comparison, shifts, and the parts of arrays and structs.
-ghost use Rattle.std.specs.Prelude.{◌≡◌, ◌+◌, ◌^◌, ◌<◌, ◌≤◌, ◌++◌, length, map, drop, take, IfOk};
+//! The rows on values: integers of one width, equality, shifts, and the parts of arrays and structs.
+ghost use Rattle.std.specs.Prelude.{◌≡◌, ◌+◌, ◌^◌, ◌<◌, ◌≤◌, length, map, min, IfOk};
 ghost use Rattle.lh_types.specs.Values.{int_value, array_value, tuple_value, data_row};
 ghost use Rattle.lh_types.specs.ValueOf.{datum_of};
 ghost use Rattle.lh_types.specs.ApplyInt.{integer_row, row_width, IsIntegerRow, moved_up, moved_down};
 ghost use Rattle.lh_types.specs.Apply.{bit_value, equality, integer_result, repeated, shifted, selected, field_at, slice_at, with_field, with_slice};
 ghost use Rattle.lh_types.specs.ApplyTypes.{FitsOp, TakesIntegers};
+ghost use Rattle.lh_ops.specs.Operands.{number_of};
 
 use crate::integers::{apply_int, result_width};
 use crate::parts::{copies, number, parts, repeats, width, with_part, with_parts};
@@ -60,13 +61,20 @@ pub(crate) fn equal(args: &[Val]) -> bool
     args[0] == args[1]
 }
 
+/// The amount of a shift, cut to the width.
+fn cut_amount(amount: &Val, width: u32) -> u32
+    ensures { result ≡ min (number_of (datum_of amount.now)) width }
+{
+    number(amount).min(width as u128) as u32
+}
+
 /// The funnel shift up of a base, what comes in, and an amount that is cut to the width.
 pub(crate) fn shl(args: &[Val]) -> Val
     requires { FitsOp Op.Shl (map datum_of args.now) }
     ensures { datum_of result ≡ shifted moved_up (map datum_of args.now) }
 {
     let width = width(&args[0]);
-    let by = number(&args[2]).min(width as u128) as u32;
+    let by = cut_amount(&args[2], width);
     Val::Int {
         width,
         bits: shift_up(width, number(&args[0]), number(&args[1]), by),
@@ -79,7 +87,7 @@ pub(crate) fn shr(args: &[Val]) -> Val
     ensures { datum_of result ≡ shifted moved_down (map datum_of args.now) }
 {
     let width = width(&args[0]);
-    let by = number(&args[2]).min(width as u128) as u32;
+    let by = cut_amount(&args[2], width);
     Val::Int {
         width,
         bits: shift_down(width, number(&args[0]), number(&args[1]), by),

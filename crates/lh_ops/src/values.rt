@@ -4,7 +4,9 @@ ghost use Rattle.lh_types.specs.ValueOf.{datum_of};
 ghost use Rattle.lh_types.specs.Apply as Rows;
 ghost use Rattle.lh_types.specs.ApplyTypes.{FitsOp};
 
-use crate::rows::{array, equal, extf, exts, insf, inss, integers, mux, repeat, shl, shr, truth, tuple};
+use crate::rows::{
+    array, equal, extf, exts, insf, inss, integers, mux, repeat, shl, shr, truth, tuple,
+};
 use lh_types::op::Op;
 use lh_types::ty::NoMemory;
 use lh_types::val::Val;
