@@ -14,3 +14,6 @@ pub mod Raised
 pub mod PlaceOf
 pub mod SameValue
 pub mod SameValueLaws
+pub mod ApplyInt
+pub mod Apply
+pub mod ApplyTypes
