@@ -1,33 +1,16 @@
 -- The operations of the language on values: one row for each, total.
-use Rattle.std.specs.Prelude.{◌≡◌, ℕ, ◌+◌, ◌-◌, min, Bool, true, false, not, ◌&&◌, ◌==◌, if◌then◌else◌, List, [], ◌∷◌, ◌++◌, length, take, drop, replicate, slice_set, slice_index_or}
-use Rattle.lh_time.specs.declared.Delay.{Delay}
-use Rattle.lh_types.specs.Values.{Datum, DatumRow, int_value, time_value, array_value, tuple_value, no_values, more_values, data_row}
-use Rattle.lh_types.specs.ApplyInt.{integer_row, row_width, truth, moved_up, moved_down, bits_from, bits_replaced}
+use Rattle.std.specs.Prelude.{ℕ, ◌-◌, min, Bool, false, not, List, [], ◌∷◌, length, replicate, slice_index_or}
+use Rattle.lh_types.specs.Values.{Datum, int_value, array_value, tuple_value, data_row}
+use Rattle.lh_types.specs.SameValue.{same_datum}
+use Rattle.lh_types.specs.Parts.{parts_of, part_at, with_part}
+use Rattle.lh_types.specs.ApplyInt.{integer_row, row_width, truth, moved_up, moved_down}
+use Rattle.lh_types.specs.declared.part.Step.TheVariants.{Field, Slice}
 use Rattle.lh_types.specs.declared.op.Op.{Op}
 use Rattle.lh_types.specs.declared.op.Op.TheVariants.{Eq, Neq, Shl, Shr, Mux, Extf, Exts, Insf, Inss, Array, Repeat, Tuple}
 
--- the parts of a row in order
-abbrev pub parts_of : DatumRow → List Datum
-parts_of no_values = []
-parts_of (more_values v vs) = v ∷ parts_of vs
-
 -- what an operation gives on arguments that no row has
 abbrev pub no_value : Datum
-no_value = int_value 1 0
-
--- whether two values are equal, part by part
-abbrev mutual
-  pub same_datum : Datum → Datum → Bool
-  same_datum (int_value n a) (int_value m b) = (n == m) && (a == b)
-  same_datum (time_value d) (time_value e) = (d.fs == e.fs) && ((d.delta == e.delta) && (d.eps == e.eps))
-  same_datum (array_value vs) (array_value ws) = same_parts vs ws
-  same_datum (tuple_value vs) (tuple_value ws) = same_parts vs ws
-  same_datum _ _ = false
-
-  pub same_parts : DatumRow → DatumRow → Bool
-  same_parts no_values no_values = true
-  same_parts (more_values v vs) (more_values w ws) = same_datum v w && same_parts vs ws
-  same_parts _ _ = false
+no_value = int_value 0 0
 
 -- an integer of one bit
 abbrev pub bit_value : Bool → Datum
@@ -56,26 +39,22 @@ selected _ = no_value
 
 -- extf: element or field k
 abbrev pub field_at : ℕ → List Datum → Datum
-field_at k (array_value vs ∷ []) = slice_index_or (parts_of vs) k no_value
-field_at k (tuple_value vs ∷ []) = slice_index_or (parts_of vs) k no_value
+field_at k (v ∷ []) = part_at v (Field k)
 field_at k _ = no_value
 
 -- exts: n bits or elements from o
 abbrev pub slice_at : ℕ → ℕ → List Datum → Datum
-slice_at o n (int_value w a ∷ []) = int_value n (bits_from a o n)
-slice_at o n (array_value vs ∷ []) = array_value (data_row (take n (drop o (parts_of vs))))
+slice_at o n (v ∷ []) = part_at v (Slice o n)
 slice_at o n _ = no_value
 
 -- insf: the whole with element or field k replaced
 abbrev pub with_field : ℕ → List Datum → Datum
-with_field k (array_value vs ∷ v ∷ []) = array_value (data_row (slice_set (parts_of vs) k v))
-with_field k (tuple_value vs ∷ v ∷ []) = tuple_value (data_row (slice_set (parts_of vs) k v))
+with_field k (v ∷ w ∷ []) = with_part v (Field k) w
 with_field k _ = no_value
 
 -- inss: the whole with n bits or elements from o replaced
 abbrev pub with_slice : ℕ → ℕ → List Datum → Datum
-with_slice o n (int_value w a ∷ int_value m v ∷ []) = int_value w (bits_replaced a v o n)
-with_slice o n (array_value vs ∷ array_value ws ∷ []) = array_value (data_row (take o (parts_of vs) ++ parts_of ws ++ drop (o + n) (parts_of vs)))
+with_slice o n (v ∷ w ∷ []) = with_part v (Slice o n) w
 with_slice o n _ = no_value
 
 -- the array of n copies

@@ -89,11 +89,3 @@ moved_up n b h k = (b * 2 ^ k) % 2 ^ n + h / 2 ^ (n - k)
 -- funnel shift down: b moved down k places, the top k bits from the low k bits of h in order
 abbrev pub moved_down : ℕ → ℕ → ℕ → ℕ → ℕ
 moved_down n b h k = (h % 2 ^ k) * 2 ^ (n - k) + b / 2 ^ k
-
--- the n bits of a from bit o
-abbrev pub bits_from : ℕ → ℕ → ℕ → ℕ
-bits_from a o n = a / 2 ^ o % 2 ^ n
-
--- a with the n bits from bit o replaced by v
-abbrev pub bits_replaced : ℕ → ℕ → ℕ → ℕ → ℕ
-bits_replaced a v o n = a / 2 ^ (o + n) * 2 ^ (o + n) + v * 2 ^ o + a % 2 ^ o

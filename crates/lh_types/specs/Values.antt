@@ -40,7 +40,8 @@ abbrev mutual
   codes_of no_values = gnil
   codes_of (more_values v vs) = gcons (code v) (codes_of vs)
 
-same_delay : (d e : Delay) → d.fs ≡ e.fs → d.delta ≡ e.delta → d.eps ≡ e.eps → time_value d ≡ time_value e
+-- two delays with the same fields are one
+pub same_delay : (d e : Delay) → d.fs ≡ e.fs → d.delta ≡ e.delta → d.eps ≡ e.eps → time_value d ≡ time_value e
 same_delay d e p q r = λ i. time_value (record { fs = p i; delta = q i; eps = r i })
 
 mutual

@@ -1,8 +1,12 @@
 //! Types, values, bits and operations of the language, and the lists that every layer uses.
 #![tactic(auto)]
 
+pub mod bits;
+pub mod layout;
 pub mod list;
 pub mod op;
 pub mod part;
+pub mod tally;
 pub mod ty;
 pub mod val;
+pub mod writes;

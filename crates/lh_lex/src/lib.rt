@@ -1,0 +1,162 @@
+//! The tokens of one line, taken longest first.
+#![tactic(auto)]
+
+ghost use Rattle.std.specs.Prelude.{◌≡◌, ◌≤◌, ◌+◌, IfOk, IfErr, length, map, drop, Some, Result, Ok};
+ghost use Rattle.lh_unit.specs.Names.{is_name_byte};
+ghost use Rattle.lh_unit.specs.Lexemes.{lexemes, run_len, is_white as white_byte, begins, is_comment, is_punct};
+ghost use Rattle.lh_unit.specs.Tokens.{tokens, first_token, named, lexeme_at, AreTokensOf, Covers};
+ghost use Rattle.lh_lex.specs.Faults.{NamesFault, Refuses};
+
+use lh_types::list::ListOf;
+pub use lh_unit::token::{Token, TokenKind, TokenList};
+use std::alloc::Global;
+
+/// Why a line has no tokens.
+#[derive(Clone, Copy, Debug, PartialEq, Eq)]
+pub enum LexFault {
+    /// No token takes the byte at this place of the line (the first byte is at 0), or it is the 256th byte of a name.
+    BadByte(u32),
+    /// Memory ran out.
+    OutOfMemory,
+}
+
+fn is_name(b: u8) -> bool
+    ensures { result ≡ is_name_byte b }
+{
+    matches!(b, b'0'..=b'9' | b'A'..=b'Z' | b'a'..=b'z' | b'_' | b'.')
+}
+
+fn is_white(b: u8) -> bool
+    ensures { result ≡ white_byte b }
+{
+    matches!(b, b' ' | b'\t' | b'\r')
+}
+
+fn is_mark(b: u8) -> bool
+    ensures { result ≡ is_punct b }
+{
+    matches!(
+        b,
+        b'(' | b')' | b'{' | b'}' | b'[' | b']' | b',' | b':' | b'$' | b'*' | b'='
+    )
+}
+
+fn begins_with(bytes: &[u8], b: u8) -> bool
+    ensures { result ≡ begins b bytes.now }
+{
+    match bytes.first() {
+        Some(first) => *first == b,
+        None => false,
+    }
+}
+
+/// Whether a comment begins with `b`, before `more`.
+fn begins_comment(b: u8, more: &[u8]) -> bool
+    ensures { result ≡ is_comment b more.now }
+{
+    b == b';' || (b == b'/' && begins_with(more, b'/'))
+}
+
+/// How many name bytes stand in front.
+fn name_len(bytes: &[u8]) -> usize
+    ensures value { result ≡ run_len bytes.now }
+    ensures within { result ≤ length bytes.now }
+{
+    let mut len = 0;
+    while len < bytes.len() && is_name(bytes[len]) {
+        len += 1;
+    }
+    len
+}
+
+/// A sigil's token before this many name bytes.
+fn sigil(kind: TokenKind, len: usize) -> Result<(TokenKind, usize), usize>
+    ensures { result ≡ named kind len }
+{
+    if len == 0 {
+        return Err(0);
+    }
+    if len < 256 { Ok((kind, len)) } else { Err(256) }
+}
+
+/// The token that begins with `b`, and how many of the bytes after it it takes; or how far behind `b` the first
+/// bad byte stands.
+#[tactic(auto, unfolding(lh_unit::specs::Tokens::first_token))]
+fn first(b: u8, more: &[u8]) -> Result<(TokenKind, usize), usize>
+    ensures token { result ≡ first_token b more.now }
+    ensures within { IfOk result (λ p. p.1 ≤ length more.now) }
+    ensures bad { IfErr result (λ n. n ≤ length more.now) }
+{
+    if is_name(b) {
+        return Ok((TokenKind::Word, name_len(more)));
+    }
+    if b == b'@' {
+        return sigil(TokenKind::Global, name_len(more));
+    }
+    if b == b'%' {
+        return sigil(TokenKind::Local, name_len(more));
+    }
+    if b == b'-' && begins_with(more, b'>') {
+        return Ok((TokenKind::Arrow, 1));
+    }
+    if b == b'-' {
+        return Ok((TokenKind::Minus, 0));
+    }
+    if is_mark(b) {
+        return Ok((TokenKind::Punct(b), 0));
+    }
+    Err(0)
+}
+
+/// The tokens of a line as their definition gives them.
+fn scan(alloc: Global, text: &[u8]) -> Result<TokenList, LexFault>
+    requires { length text.now ≤ 67108864 }
+    ensures ok { IfOk result (λ ts. tokens text.now ≡ Ok ts) }
+    ensures fault { IfErr result (λ e. NamesFault e text.now) }
+{
+    let mut found = ListOf::new(alloc);
+    let mut at = 0u32;
+    let mut rest = text;
+    while let Some((b, more)) = rest.split_first() {
+        if is_white(*b) {
+            rest = more;
+            at += 1;
+            continue;
+        }
+        if begins_comment(*b, more) {
+            return Ok(found);
+        }
+        match first(*b, more) {
+            Ok((kind, len)) => {
+                let to = at + 1 + len as u32;
+                if found.push(Token { kind, from: at, to }).is_err() {
+                    return Err(LexFault::OutOfMemory);
+                }
+                rest = &more[len..];
+                at = to;
+            }
+            Err(n) => return Err(LexFault::BadByte(at + n as u32)),
+        }
+    }
+    Ok(found)
+}
+
+/// The tokens of a line: words, names behind `@` or `%`, `->`, `-` and the single marks, each the longest that its
+/// first byte begins. Space, tab and carriage return are white, and `;` or `//` begins a comment.
+///
+/// `BadByte` names the first byte that no token takes, or the 256th byte of a name. `OutOfMemory` says nothing of
+/// the line. The time is linear in the line, and each token takes 12 bytes.
+pub fn line(alloc: Global, text: &[u8]) -> Result<TokenList, LexFault>
+    requires { length text.now ≤ 67108864 }
+    ensures ok { IfOk result (λ ts. tokens text.now ≡ Ok ts) }
+    ensures lexed { IfOk result (λ ts. lexemes text.now ≡ Some (map (lexeme_at text.now) ts)) }
+    ensures spelled { IfOk result (AreTokensOf text.now) }
+    ensures covered { IfOk result (Covers text.now 0) }
+    ensures fault { IfErr result (λ e. NamesFault e text.now) }
+    ensures refused { IfErr result (λ e. Refuses e text.now) }
+{
+    scan(alloc, text)
+}
+
+#[cfg(test)]
+mod tests;

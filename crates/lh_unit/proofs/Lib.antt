@@ -1,0 +1,4 @@
+pub mod Lexing
+mod LexRows
+mod CanonRows
+pub mod Rendering
