@@ -17,3 +17,5 @@ pub mod SameValueLaws
 pub mod ApplyInt
 pub mod Apply
 pub mod ApplyTypes
+pub mod Wish
+pub mod History

@@ -21,3 +21,17 @@ pub mod Naming
 pub mod Arena
 pub mod ArenaOf
 pub mod Builders
+pub mod Named
+pub mod Held
+pub mod Typing
+pub mod Effects
+pub mod Activation
+pub mod Hierarchy
+pub mod Pass
+pub mod Design
+pub mod World
+pub mod Trace
+pub mod Kinds
+pub mod TypingRows
+pub mod Places
+pub mod WellFormed
