@@ -14,3 +14,4 @@ pub mod Raised
 pub mod PlaceOf
 pub mod SameValue
 pub mod SameValueLaws
+pub mod Laws
