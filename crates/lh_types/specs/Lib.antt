@@ -19,3 +19,4 @@ pub mod Apply
 pub mod ApplyTypes
 pub mod Wish
 pub mod History
+pub mod Laws
