@@ -43,3 +43,12 @@ module _ (xs ys : List Datum) (vs ws : List Val) (i : ℕ) (v w : Val) (s : Same
     lengths = s.lengths;
     rest = same_parts-here ∙ ap (λ b. b && same_parts (data_row (drop (i + 1) (map datum_of vs))) (data_row (drop (i + 1) (map datum_of ws)))) y;
   }
+
+-- an element of a row of values is smaller than the row
+datum_count-get_or : (vs : List Val) (i : ℕ) (d : Val) → i < length vs → datum_count (datum_of (get_or vs i d)) < datum_count_row (data_row (map datum_of vs))
+datum_count-get_or [] i d h = absurd (omega arith)
+datum_count-get_or (v ∷ vs) zero d h = omega arith
+datum_count-get_or (v ∷ vs) (suc i) d h = omega (arith, datum_count-get_or vs i d (omega arith))
+
+pub part-datum_count : (all : List Datum) (vs : List Val) (i : ℕ) (v : Val) → map datum_of vs ≡ all → i < length vs → v ≡ get_or vs i v → datum_count (datum_of v) < datum_count_row (data_row all)
+part-datum_count all vs i v w h e = omega (arith, datum_count-get_or vs i v h, ap (λ x. datum_count (datum_of x)) e, ap (λ xs. datum_count_row (data_row xs)) w)

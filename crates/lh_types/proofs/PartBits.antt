@@ -24,7 +24,7 @@ use Rattle.lh_types.proofs.ValueBits.{length-value_bits, length-row_bits}
 bits_within-mid : (A B C : List Bool) (lo len : ℕ) → length A ≡ lo → length B ≡ len → bits_within lo len (A ++ (B ++ C)) ≡ B
 bits_within-mid A B C lo len a b = ap (take len) (drop_at A (B ++ C) lo a) ∙ take_at B C len b
 
-bits_with-mid : (A B C new : List Bool) (lo : ℕ) → length A ≡ lo → length new ≡ length B → bits_with lo new (A ++ (B ++ C)) ≡ A ++ (new ++ C)
+pub bits_with-mid : (A B C new : List Bool) (lo : ℕ) → length A ≡ lo → length new ≡ length B → bits_with lo new (A ++ (B ++ C)) ≡ A ++ (new ++ C)
 bits_with-mid A B C new lo a b =
     let front : take lo (A ++ (B ++ C)) ≡ A = take_at A (B ++ C) lo a in
     let joined : A ++ (B ++ C) ≡ (A ++ B) ++ C = sym (append_assoc A B C) in

@@ -97,7 +97,8 @@ step_part-within (pointer_type t) s p h e = absurd h
 step_part-within (int_type n) (Field k) p h e = absurd (none-some _ e)
 step_part-within (tuple_type ts) (Slice at len) p h e = absurd (none-some _ e)
 
-part_beyond-zero : (o : Option Part) → option_map (part_beyond 0) o ≡ o
+-- no bits further on
+pub part_beyond-zero : (o : Option Part) → option_map (part_beyond 0) o ≡ o
 part_beyond-zero None = refl
 part_beyond-zero (Some p) = let e : 0 + p.lo ≡ p.lo = omega arith in ap (λ n. Some (record { lo = n; of = p.of })) e
 

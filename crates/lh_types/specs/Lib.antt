@@ -14,6 +14,7 @@ pub mod Raised
 pub mod PlaceOf
 pub mod SameValue
 pub mod SameValueLaws
+pub mod Laws
 pub mod ApplyInt
 pub mod Apply
 pub mod ApplyTypes

@@ -48,7 +48,7 @@ fn append_number(width: u32, number: u128, to: &mut Vec<bool>) -> Result<(), NoM
     ensures { OnOk result (to.new.items ≡ to.old.items ++ number_bits width number) }
 {
     let mut rest = number;
-    for _ in 0..width {
+    for _bit in 0..width {
         to.push(rest % 2 == 1)?;
         rest /= 2;
     }
@@ -96,11 +96,9 @@ fn elements_at(alloc: Global, n: u32, of: &Ty, b: &[bool], lo: usize) -> Result<
 {
     let size = bits(of) as usize;
     let mut to = ValList::new(alloc);
-    let mut at = lo;
-    for _ in 0..n {
-        let element = value_at(alloc, of, b, at)?;
+    for i in 0..n {
+        let element = value_at(alloc, of, b, lo + i as usize * size)?;
         to.push(element)?;
-        at += size;
     }
     Ok(to)
 }
@@ -128,8 +126,8 @@ fn number_at(b: &[bool], lo: usize, width: u32) -> u128
     ensures { result ≡ bits_number (take width (drop lo b.now)) }
 {
     let mut number = 0;
-    for bit in b[lo..lo + width as usize].iter().rev() {
-        number = number * 2 + *bit as u128;
+    for i in (0..width as usize).rev() {
+        number = number * 2 + b[lo + i] as u128;
     }
     number
 }

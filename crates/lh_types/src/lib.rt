@@ -2,6 +2,7 @@
 #![tactic(auto)]
 
 pub mod bits;
+pub mod laws;
 pub mod layout;
 pub mod list;
 pub mod op;
