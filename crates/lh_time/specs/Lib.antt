@@ -1,0 +1,3 @@
+pub mod Order
+pub mod Due
+pub mod Laws

@@ -1,7 +1,15 @@
 //! Types, values, bits and operations of the language, and the lists that every layer uses.
 #![tactic(auto)]
 
+pub mod bits;
+pub mod laws;
+pub mod layout;
 pub mod list;
 pub mod op;
+pub mod part;
+pub mod tally;
+#[cfg(test)]
+mod tests;
 pub mod ty;
 pub mod val;
+pub mod writes;

@@ -1,27 +1,68 @@
-// Types, as trees with limits.
-ghost use Rattle.std.specs.Prelude.{◌≡◌, ◌↔◌, ◌≤◌, ◌<◌, ◌+◌, ◌*◌, [], ◌∷◌, ◌++◌, length, IfOk, OnOk, OnErr, IfErr, IsOk, IsTrue};
-ghost use Rattle.lh_types.specs.Types.{TypeTree, int_type, time_type, void_type, array_type, tuple_type, signal_type, pointer_type, IsData, IsLimited, bit_count, depth_of, row_of, same_type, same_row};
+//! Types as trees, with the limits of the language kept by every type.
+ghost use Rattle.std.specs.Prelude.{◌≡◌, ◌<◌, ◌^◌, ◌+◌, [], ◌∷◌, ◌++◌, length, nat_lt, ◌||◌, ◌≤◌, IfOk, OnOk, OnErr, IsTrue};
+ghost use Rattle.lh_types.specs.Types.{int_type, time_type, void_type, array_type, tuple_type, signal_type, pointer_type, IsData, AreData, IsLimited, bit_count, bit_count_row, depth_of, depth_of_row, row_of, same_type, same_row};
 ghost use Rattle.lh_types.specs.Kind.{type_of_kind};
-ghost use Rattle.lh_types.specs.Faults.{is_data, all_data, array_fault, tuple_fault, signal_fault, Makes};
+ghost use Rattle.lh_types.specs.Faults.{is_data, is_time, all_data, int_fault, array_fault, tuple_fault, signal_fault, pointer_fault, made, Makes};
+ghost use Rattle.lh_types.specs.declared.ty.TyFault.TheVariants.{OutOfMemory};
 
-use std::alloc::Global;
+use std::alloc::{AllocError, AllocFailed, Global};
 use std::marker::Model;
+use thiserror::Error;
 
 /// Memory ran out.
-#[derive(Clone, Copy, Debug, PartialEq, Eq)]
+#[derive(Clone, Copy, Debug, PartialEq, Eq, Error)]
+#[error("out of memory")]
 pub struct NoMemory;
 
-#[derive(Clone, Copy, Debug, PartialEq, Eq)]
+impl From<AllocError> for NoMemory {
+    fn from(_: AllocError) -> NoMemory {
+        NoMemory
+    }
+}
+
+impl<T: Drop> From<AllocFailed<T>> for NoMemory {
+    fn from(_: AllocFailed<T>) -> NoMemory {
+        NoMemory
+    }
+}
+
+/// Why there is no such type: the first that holds, in the order `WidthRange`, `Empty`, `WrongPart`,
+/// `TooDeep`, `TooManyBits`, and after them `OutOfMemory`.
+#[derive(Clone, Copy, Debug, PartialEq, Eq, Error)]
 pub enum TyFault {
+    /// The width of an integer is 0 or above 128.
+    #[error("an integer has 1 to 128 bits")]
     WidthRange,
+    /// A data type has more than 65,536 bits.
+    #[error("a data type has at most 65536 bits")]
     TooManyBits,
+    /// A data type nests more than 16 deep.
+    #[error("a data type nests at most 16 deep")]
     TooDeep,
+    /// An array has no element, or a struct no field.
+    #[error("an array or struct has at least one part")]
     Empty,
+    /// A part is of a kind that may not stand there.
+    #[error("a part is of the wrong kind")]
     WrongPart,
+    /// Memory ran out.
+    #[error("out of memory")]
     OutOfMemory,
 }
 
-/// A type.
+impl From<NoMemory> for TyFault {
+    ghost from_gives = { λ _ e. e ≡ OutOfMemory };
+
+    fn from(_: NoMemory) -> TyFault {
+        TyFault::OutOfMemory
+    }
+}
+
+/// A type of the language, within its limits.
+///
+/// A data type is an integer, an array or a struct; arrays and structs hold data types only. It has
+/// at most 65,536 bits and nests at most 16 deep, where an integer has depth 1. A signal carries a
+/// data type, and a pointer points to a data type or time.
 #[cycle(ty)]
 #[derive(Drop)]
 pub struct Ty {
@@ -47,14 +88,22 @@ pub struct TyList {
     list: Vec<Ty>,
 }
 
-/// A type, one level of it.
+/// One level of a type.
+#[derive(Clone, Copy)]
 pub enum TyKind<'a> {
+    /// `iN`, with its width in bits.
     Int(u32),
+    /// `time`.
     Time,
+    /// `void`.
     Void,
+    /// `[N x T]`, with the number of elements.
     Array(u32, &'a Ty),
+    /// `{T1, T2}`.
     Tuple(&'a TyList),
+    /// `T$`.
     Signal(&'a Ty),
+    /// `T*`.
     Pointer(&'a Ty),
 }
 
@@ -98,6 +147,7 @@ impl Model for TyList {
 }
 
 impl TyList {
+    /// An empty list, which takes no memory yet.
     pub fn new(alloc: Global) -> TyList
         ensures { result ≡ [] }
     {
@@ -106,18 +156,35 @@ impl TyList {
         }
     }
 
+    /// The list of these types, without memory.
+    pub fn from_vec(list: Vec<Ty>) -> TyList
+        ensures { result ≡ list.items }
+    {
+        TyList { list }
+    }
+
+    /// The types, without memory.
+    pub fn into_vec(self) -> Vec<Ty>
+        ensures { result.items ≡ self }
+    {
+        self.list
+    }
+
+    /// How many types there are.
     pub fn len(&self) -> usize
         ensures { result ≡ length self.now }
     {
         self.list.len()
     }
 
+    /// The types in order.
     pub fn as_slice(&self) -> &[Ty]
         ensures { result.now ≡ self.now }
     {
         self.list.as_slice()
     }
 
+    /// Adds a type at the end; for want of memory the list stays as it was.
     pub fn push(&mut self, x: Ty) -> Result<(), NoMemory>
         ensures ok { OnOk result (self.new ≡ self.old ++ x ∷ []) }
         ensures err { OnErr result (self.new ≡ self.old) }
@@ -130,11 +197,9 @@ impl TyList {
 }
 
 impl Ty {
-    /// An integer type.
+    /// The integer type of this width in bits; `WidthRange` at 0 and above 128.
     pub fn int(width: u32) -> Result<Ty, TyFault>
-        ensures ok { IfOk result (λ t. (t ≡ int_type width) × (1 ≤ width) × (width ≤ 128)) }
-        ensures fits { (1 ≤ width) × (width ≤ 128) → IsOk result }
-        ensures fault { IfErr result (λ e. e ≡ TyFault.WidthRange) }
+        ensures { result ≡ made (int_fault width) (int_type width) }
     {
         if width == 0 || width > 128 {
             return Err(TyFault::WidthRange);
@@ -144,16 +209,88 @@ impl Ty {
         })
     }
 
+    /// The type of delays.
     pub fn time() -> Ty
         ensures { result ≡ time_type }
     {
         Ty { node: Node::Time }
     }
 
+    /// The type of a function without a result.
     pub fn void() -> Ty
         ensures { result ≡ void_type }
     {
         Ty { node: Node::Void }
+    }
+
+    /// The array of `len` elements; each `TyFault` but `WidthRange`, the first that holds.
+    pub fn array(alloc: Global, len: u32, of: Ty) -> Result<Ty, TyFault>
+        ensures { Makes result (array_fault len of) (array_type len of) }
+    {
+        if len == 0 {
+            return Err(TyFault::Empty);
+        }
+        if !carries_data(&of) {
+            return Err(TyFault::WrongPart);
+        }
+        if depth(&of) + 1 > 16 {
+            return Err(TyFault::TooDeep);
+        }
+        if len as u64 * bits(&of) as u64 > 65536 {
+            return Err(TyFault::TooManyBits);
+        }
+        let of = boxed(alloc, of)?;
+        Ok(Ty {
+            node: Node::Array(len, of),
+        })
+    }
+
+    /// The struct of these fields; each `TyFault` but `WidthRange`, the first that holds. It takes no
+    /// memory.
+    pub fn tuple(fields: TyList) -> Result<Ty, TyFault>
+        ensures { result ≡ made (tuple_fault (row_of fields)) (tuple_type (row_of fields)) }
+    {
+        if fields.len() == 0 {
+            return Err(TyFault::Empty);
+        }
+        if !all_carry_data(&fields) {
+            return Err(TyFault::WrongPart);
+        }
+        if depth_of_fields(&fields) + 1 > 16 {
+            return Err(TyFault::TooDeep);
+        }
+        if have_too_many_bits(&fields) {
+            return Err(TyFault::TooManyBits);
+        }
+        Ok(Ty {
+            node: Node::Tuple(fields),
+        })
+    }
+
+    /// The signal that carries this type; `WrongPart` where it is no data type.
+    pub fn signal(alloc: Global, of: Ty) -> Result<Ty, TyFault>
+        ensures { Makes result (signal_fault of) (signal_type of) }
+    {
+        if !carries_data(&of) {
+            return Err(TyFault::WrongPart);
+        }
+        let of = boxed(alloc, of)?;
+        Ok(Ty {
+            node: Node::Signal(of),
+        })
+    }
+
+    /// The pointer to this type; `WrongPart` where it is neither a data type nor time.
+    pub fn pointer(alloc: Global, of: Ty) -> Result<Ty, TyFault>
+        ensures { Makes result (pointer_fault of) (pointer_type of) }
+    {
+        if !may_be_pointed_to(&of) {
+            return Err(TyFault::WrongPart);
+        }
+        let of = boxed(alloc, of)?;
+        Ok(Ty {
+            node: Node::Pointer(of),
+        })
     }
 
     /// One level of the type.
@@ -173,9 +310,19 @@ impl Ty {
     }
 }
 
+fn boxed(alloc: Global, t: Ty) -> Result<Box<Ty>, NoMemory>
+    ensures { IfOk result (λ b. b.value ≡ t) }
+{
+    match Box::new(alloc, t) {
+        Ok(b) => Ok(b),
+        Err(_) => Err(NoMemory),
+    }
+}
+
 /// Whether it is a data type.
 pub fn carries_data(t: &Ty) -> bool
     ensures test { result ≡ is_data t.now }
+    ensures data { IsTrue result → IsData t.now }
     ensures limited { IsLimited t.now }
 {
     match &t.node {
@@ -184,7 +331,32 @@ pub fn carries_data(t: &Ty) -> bool
     }
 }
 
-/// How many bits a value has.
+/// Whether a pointer may point to it: a data type or time.
+fn may_be_pointed_to(t: &Ty) -> bool
+    ensures test { result ≡ (is_data t.now || is_time t.now) }
+    ensures limited { IsLimited t.now }
+{
+    match &t.node {
+        Node::Int(_) | Node::Array(_, _) | Node::Tuple(_) | Node::Time => true,
+        Node::Void | Node::Signal(_) | Node::Pointer(_) => false,
+    }
+}
+
+/// Whether all are data types.
+fn all_carry_data(fields: &TyList) -> bool
+    ensures test { result ≡ all_data (row_of fields.now) }
+    ensures data { IsTrue result → AreData (row_of fields.now) }
+{
+    for field in fields.as_slice() {
+        if !carries_data(field) {
+            return false;
+        }
+    }
+    true
+}
+
+/// How many bits a value of a data type has.
+#[cycle(bits)]
 pub fn bits(t: &Ty) -> u32
     requires { IsData t.now }
     ensures { result ≡ bit_count t.now }
@@ -192,41 +364,65 @@ pub fn bits(t: &Ty) -> u32
     match t.kind() {
         TyKind::Int(n) => n,
         TyKind::Array(n, of) => n * bits(of),
-        TyKind::Tuple(fields) => {
-            let mut sum = 0;
-            for field in fields.as_slice() {
-                sum += bits(field);
-            }
-            sum
-        }
+        TyKind::Tuple(fields) => bits_of_fields(fields),
         _ => unreachable!(),
     }
 }
 
-impl Ty {
-    /// A signal of a data type.
-    pub fn signal(alloc: Global, of: Ty) -> Result<Ty, TyFault>
-        ensures { Makes result (signal_fault of) (signal_type of) }
-    {
-        if !carries_data(&of) {
-            return Err(TyFault::WrongPart);
+/// How many bits the values of these data types have together.
+#[cycle(bits)]
+pub(crate) fn bits_of_fields(fields: &TyList) -> u32
+    requires data { AreData (row_of fields.now) }
+    requires narrow { bit_count_row (row_of fields.now) ≤ 65536 }
+    ensures { result ≡ bit_count_row (row_of fields.now) }
+{
+    let mut sum = 0;
+    for field in fields.as_slice() {
+        sum += bits(field);
+    }
+    sum
+}
+
+/// Whether the values of these data types have more than 65,536 bits together.
+fn have_too_many_bits(fields: &TyList) -> bool
+    requires { AreData (row_of fields.now) }
+    ensures { result ≡ nat_lt 65536 (bit_count_row (row_of fields.now)) }
+{
+    let mut sum = 0;
+    for field in fields.as_slice() {
+        sum += bits(field);
+        if sum > 65536 {
+            return true;
         }
-        match Box::new(alloc, of) {
-            Ok(of) => Ok(Ty {
-                node: Node::Signal(of),
-            }),
-            Err(_) => Err(TyFault::OutOfMemory),
-        }
+    }
+    false
+}
+
+/// How deep a data type nests; an integer has depth 1.
+#[cycle(depth)]
+fn depth(t: &Ty) -> u32
+    requires { IsData t.now }
+    ensures { result ≡ depth_of t.now }
+{
+    match t.kind() {
+        TyKind::Int(_) => 1,
+        TyKind::Array(_, of) => depth(of) + 1,
+        TyKind::Tuple(fields) => depth_of_fields(fields) + 1,
+        _ => unreachable!(),
     }
 }
 
-fn boxed(alloc: Global, t: Ty) -> Result<Box<Ty>, NoMemory>
-    ensures { IfOk result (λ b. b.value ≡ t) }
+/// How deep the deepest of these data types nests, and 0 where there is none.
+#[cycle(depth)]
+fn depth_of_fields(fields: &TyList) -> u32
+    requires { AreData (row_of fields.now) }
+    ensures { result ≡ depth_of_row (row_of fields.now) }
 {
-    match Box::new(alloc, t) {
-        Ok(b) => Ok(b),
-        Err(_) => Err(NoMemory),
+    let mut most = 0;
+    for field in fields.as_slice() {
+        most = most.max(depth(field));
     }
+    most
 }
 
 impl Ty {
@@ -339,50 +535,4 @@ fn same_fields(ts: &TyList, us: &TyList) -> bool
         }
     }
     true
-}
-
-/// How deep a type nests.
-#[cycle(deep)]
-fn depth(t: &Ty) -> u32
-    requires { IsData t.now }
-    ensures { result ≡ depth_of t.now }
-{
-    match t.kind() {
-        TyKind::Int(_) => 1,
-        TyKind::Array(_, of) => depth(of) + 1,
-        TyKind::Tuple(fields) => {
-            let mut most = 0;
-            for field in fields.as_slice() {
-                most = most.max(depth(field));
-            }
-            most + 1
-        }
-        _ => unreachable!(),
-    }
-}
-
-impl Ty {
-    /// An array of this many.
-    pub fn array(alloc: Global, len: u32, of: Ty) -> Result<Ty, TyFault>
-        ensures { Makes result (array_fault len of) (array_type len of) }
-    {
-        if len == 0 {
-            return Err(TyFault::Empty);
-        }
-        if !carries_data(&of) {
-            return Err(TyFault::WrongPart);
-        }
-        if depth(&of) + 1 > 16 {
-            return Err(TyFault::TooDeep);
-        }
-        if len as u64 * bits(&of) as u64 > 65536 {
-            return Err(TyFault::TooManyBits);
-        }
-        match Box::new(alloc, of) {
-            Ok(of) => Ok(Ty {
-                node: Node::Array(len, of),
-            }),
-            Err(_) => Err(TyFault::OutOfMemory),
-        }
-    }
 }

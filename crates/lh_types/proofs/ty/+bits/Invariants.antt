@@ -1,8 +1,5 @@
-use Rattle.lh_types.proofs.Rows.{RowAt}
+use Rattle.lh_types.proofs.Rows.{SumAt}
 use Rattle.lh_types.proofs.ty.+bits.Given as goal
 
-abbrev pub decreases-bits : goal.decreases-bits
-decreases-bits l = goal.size-bits l
-
-abbrev pub invariant-loop-field : goal.invariant-loop-field
-invariant-loop-field l = RowAt l.fn.t l.field-items l.field-index l.sum
+abbrev pub invariant-bits_of_fields-loop-field : goal.invariant-bits_of_fields-loop-field
+invariant-bits_of_fields-loop-field l = SumAt l.fn.fields l.field-items l.field-index l.sum

@@ -1,0 +1,5 @@
+pub mod Rows
+pub mod Spelled
+pub mod Texts
+pub mod Digits
+pub mod Lists

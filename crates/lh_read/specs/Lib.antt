@@ -1,0 +1,5 @@
+pub mod Pieces
+pub mod Types
+pub mod Items
+pub mod Steps
+pub mod SyntaxOf

@@ -1,0 +1,7 @@
+//! Reads the text of a file into a module.
+#![tactic(auto)]
+
+pub mod list;
+pub mod numbers;
+pub mod tokens;
+pub mod types;

@@ -1,0 +1,48 @@
+//! Lists by comma.
+ghost use Rattle.std.specs.Prelude.{◌≡◌, ◌<◌, ◌+◌, IfOk, IfSome, length, List, Option, Some};
+ghost use Rattle.lh_unit.specs.Lexemes.{Lexeme};
+ghost use Rattle.lh_read.specs.Pieces.{parts_at, list_at};
+
+use crate::tokens::Tokens;
+use lh_types::list::ListOf;
+use lh_types::ty::NoMemory;
+use std::alloc::Global;
+
+/// What may be a part of a list.
+pub trait Part<'a>: Sized + Drop {
+    ghost part_at: { List Lexeme → Option (Self × List Lexeme) };
+
+    /// The part in front, and what follows it.
+    fn part(alloc: Global, tokens: &Tokens<'a>) -> Result<Option<(Self, Tokens<'a>)>, NoMemory>
+        ensures { IfOk result (λ r. r ≡ part_at tokens.now) };
+
+    ghost shorter: { (ts : List Lexeme) → (a : Self) → (us : List Lexeme) → part_at ts ≡ Some (a, us) → length us < length ts };
+}
+
+/// Parts by comma before a closing mark, or none, and what follows them.
+pub fn list<'a, P: Part<'a>>(alloc: Global, tokens: &Tokens<'a>, close: u8) -> Result<Option<(ListOf<P>, Tokens<'a>)>, NoMemory>
+    ensures { IfOk result (λ r. r ≡ list_at P.part_at close tokens.now) }
+{
+    if tokens.punct(close).is_some() {
+        return Ok(Some((ListOf::new(alloc), tokens.copy())));
+    }
+    parts(alloc, tokens)
+}
+
+/// One or more parts by comma.
+fn parts<'a, P: Part<'a>>(alloc: Global, tokens: &Tokens<'a>) -> Result<Option<(ListOf<P>, Tokens<'a>)>, NoMemory>
+    ensures { IfOk result (λ r. r ≡ parts_at P.part_at (length tokens.now) tokens.now) }
+{
+    let mut parts = ListOf::new(alloc);
+    let mut rest = tokens.copy();
+    loop {
+        let Some((part, more)) = P::part(alloc, &rest)? else {
+            return Ok(None);
+        };
+        parts.push(part)?;
+        match more.punct(b',') {
+            Some(next) => rest = next,
+            None => return Ok(Some((parts, more))),
+        }
+    }
+}
