@@ -1,2 +1,10 @@
 pub mod Lists
 pub mod Tables
+pub mod Within
+pub mod Arenas
+pub mod Texts
+pub mod Defined
+pub mod ContentsLemmas
+pub mod BuilderLemmas
+pub mod ItemLemmas
+pub mod Writes
