@@ -63,11 +63,14 @@ IsArena-with_table a u t o h k = record {
   where
     here : (v : ℕ) → v ≡ u → table_at (with_table a u t) v ≡ t
     here v e = ap (table_at (with_table a u t)) e ∙ table_at-same a u t h
+
     count : unit_count (with_table a u t) ≡ unit_count a
     count = length-set a.units u t
+
     tables : (v : ℕ) → v < length a.units → Same v u → IsTable (table_at (with_table a u t) v)
     tables v w (same e) = subst IsTable (sym (here v e)) k.table
     tables v w (other e) = subst IsTable (sym (table_at-other a u v t e)) (o.tables v w)
+
     placed : (v i : ℕ) (l : Line) → slice_get (table_at (with_table a u t) v).lines i ≡ Some l → Same v u → InstPlaced (with_table a u t) v l.inst
     placed v i l e (same p) =
         let q : slice_get t.lines i ≡ Some l = ap (λ (x : Table). slice_get x.lines i) (sym (here v p)) ∙ e in
@@ -75,11 +78,14 @@ IsArena-with_table a u t o h k = record {
     placed v i l e (other p) =
         let q : slice_get (table_at a v).lines i ≡ Some l = ap (λ (x : Table). slice_get x.lines i) (sym (table_at-other a u v t p)) ∙ e in
         subst (λ n. InstWithin (sizes_of n (table_at (with_table a u t) v)) l.inst) (sym count) (subst (λ (x : Table). InstWithin (sizes_of (unit_count a) x) l.inst) (sym (table_at-other a u v t p)) (o.placed v i l q))
+
     kinds : (v : ℕ) → Same v u → kind_at (with_table a u t) v ≡ kind_at a v
     kinds v (same e) = ap (λ (x : Table). x.kind) (here v e) ∙ k.kind_stays ∙ sym (ap (kind_at a) e)
     kinds v (other e) = ap (λ (x : Table). x.kind) (table_at-other a u v t e)
+
     begun_there : (v : UnitId) → IsSome (kind_at a v.0) → Same v.0 u → IsSome (kind_at (with_table a u t) v.0)
     begun_there v s d = subst IsSome (sym (kinds v.0 d)) s
+
     begun_here : (v : UnitId) → IsSome (kind_at (with_table a u t) v.0) → Same v.0 u → IsSome (kind_at a v.0)
     begun_here v s d = subst IsSome (kinds v.0 d) s
 
@@ -116,6 +122,7 @@ Keeps-with_value n t name room o p = by (has_name t.values name) (IsTable-with_v
   where
     made : Bool → Table
     made b = if b then t else record t { values = t.values ++ name ∷ [] }
+
     by : (b : Bool) → IsTable (if b then t else record t { values = t.values ++ name ∷ [] }) → length t.values ≤ length (if b then t else record t { values = t.values ++ name ∷ [] }).values → Keeps n t (if b then t else record t { values = t.values ++ name ∷ [] })
     by true i l = Keeps-refl n t o p
     by false i l = record { table = i; kind_stays = refl; placed = LinesPlaced-more n n t (record t { values = t.values ++ name ∷ [] }) (omega arith) l (omega arith) refl p }
@@ -194,13 +201,17 @@ IsArena-begun a u t o h e w k x = record {
   where
     now : Arena
     now = record a { units = set a.units u.0 t; items = a.items ++ item.Unit u ∷ [] }
+
     here : (v : ℕ) → v ≡ u.0 → get_or (set a.units u.0 t) v no_table ≡ t
     here v q = ap (λ n. get_or (set a.units u.0 t) n no_table) q ∙ table_at-same a u.0 t h
+
     count : length (set a.units u.0 t) ≡ unit_count a
     count = length-set a.units u.0 t
+
     tables : (v : ℕ) → v < length a.units → Same v u.0 → IsTable (get_or (set a.units u.0 t) v no_table)
     tables v q (same r) = subst IsTable (sym (here v r)) w
     tables v q (other r) = subst IsTable (sym (table_at-other a u.0 v t r)) (o.tables v q)
+
     placed : (v i : ℕ) (l : Line) → slice_get (get_or (set a.units u.0 t) v no_table).lines i ≡ Some l → Same v u.0 → InstWithin (sizes_of (length (set a.units u.0 t)) (get_or (set a.units u.0 t) v no_table)) l.inst
     placed v i l q (same r) =
         let z : slice_get t.lines i ≡ Some l = ap (λ (y : Table). slice_get y.lines i) (sym (here v r)) ∙ q in
@@ -208,21 +219,26 @@ IsArena-begun a u t o h e w k x = record {
     placed v i l q (other r) =
         let z : slice_get (table_at a v).lines i ≡ Some l = ap (λ (y : Table). slice_get y.lines i) (sym (table_at-other a u.0 v t r)) ∙ q in
         subst (λ n. InstWithin (sizes_of n (get_or (set a.units u.0 t) v no_table)) l.inst) (sym count) (subst (λ (y : Table). InstWithin (sizes_of (unit_count a) y) l.inst) (sym (table_at-other a u.0 v t r)) (o.placed v i l z))
+
     inside : (v : UnitId) {i : ℕ} → Pushed a.items (item.Unit u) (item.Unit v) i → v.0 < length a.units
     inside v {i} (old l q) = o.items_within i v q
     inside v {i} (new l q) = omega (arith, h, ap (λ z. z.0) (unit_inj u v q))
+
     started : (v : UnitId) {i : ℕ} → Pushed a.items (item.Unit u) (item.Unit v) i → Same v.0 u.0 → IsSome (get_or (set a.units u.0 t) v.0 no_table).kind
     started v {i} p (same r) = subst IsSome (sym (ap (λ z. z.kind) (here v.0 r))) k
     started v {i} (old l q) (other r) = subst IsSome (sym (ap (λ z. z.kind) (table_at-other a u.0 v.0 t r))) (o.items_begun i v q)
     started v {i} (new l q) (other r) = absurd (r (sym (ap (λ z. z.0) (unit_inj u v q))))
+
     -- the unit was no item before
     fresh : (i : ℕ) (v : UnitId) → slice_get a.items i ≡ Some (item.Unit v) → u ≡ v → ⊥
     fresh i v q r = none_some (kind_at a v.0) (sym (ap (λ z. kind_at a z.0) r) ∙ e) (o.items_begun i v q)
+
     distinct : (i j : ℕ) (v : UnitId) → Pushed a.items (item.Unit u) (item.Unit v) i → Pushed a.items (item.Unit u) (item.Unit v) j → i ≡ j
     distinct i j v (old l p) (old m q) = o.items_distinct i j v p q
     distinct i j v (old l p) (new m q) = absurd (fresh i v p (unit_inj u v q))
     distinct i j v (new l p) (old m q) = absurd (fresh j v q (unit_inj u v p))
     distinct i j v (new l p) (new m q) = l ∙ sym m
+
     defined : (v : UnitId) → v.0 < length a.units → IsSome (get_or (set a.units u.0 t) v.0 no_table).kind → Same v.0 u.0 → (i : ℕ) × (slice_get (a.items ++ item.Unit u ∷ []) i ≡ Some (item.Unit v))
     defined v q s (same r) = (length a.items, slice_get-push a.items (item.Unit u) (length a.items) refl ∙ ap (λ z. Some (item.Unit z)) (sym (λ i. record { 0 = r i })))
     defined v q s (other r) = let d = o.items_defined v q (subst IsSome (ap (λ z. z.kind) (table_at-other a u.0 v.0 t r)) s) in (d.0, slice_get-push_before a.items (item.Unit u) d.0 (slice_get_within a.items d.0 (item.Unit v) d.1) ∙ d.1)
@@ -299,8 +315,8 @@ IsArena-with_unit a n o f room = record {
   names_distinct = AllDistinct-push a.names n o.names_distinct (not_there a.names n f);
   tables = λ v w. subst IsTable (sym (table_at-unit a n v)) (tables v (place (length a.units) v));
   placed = λ v i l e. subst (λ (t : Table). InstWithin (sizes_of (unit_count (with_unit a n)) t) l.inst) (sym (table_at-unit a n v))
-    (LinesPlaced-more (unit_count a) (unit_count (with_unit a n)) (table_at a v) (table_at a v) (omega (arith, length-append a.units (no_table ∷ []))) (omega arith) (omega arith) refl (o.placed v) i l
-        (ap (λ (t : Table). slice_get t.lines i) (sym (table_at-unit a n v)) ∙ e));
+      (LinesPlaced-more (unit_count a) (unit_count (with_unit a n)) (table_at a v) (table_at a v) (omega (arith, length-append a.units (no_table ∷ []))) (omega arith) (omega arith) refl (o.placed v) i l
+      (ap (λ (t : Table). slice_get t.lines i) (sym (table_at-unit a n v)) ∙ e));
   items_within = λ i v e. omega (arith, o.items_within i v e, length-append a.units (no_table ∷ []));
   items_begun = λ i v e. subst IsSome (sym (ap (λ (t : Table). t.kind) (table_at-unit a n v.0))) (o.items_begun i v e);
   items_distinct = o.items_distinct;
@@ -311,6 +327,7 @@ IsArena-with_unit a n o f room = record {
     tables v (before h) = o.tables v h
     tables v (at h) = subst IsTable (sym (get_or_past a.units v no_table (omega (arith, h)))) IsTable-none
     tables v (past h) = subst IsTable (sym (get_or_past a.units v no_table (omega (arith, h)))) IsTable-none
+
     defined : (v : UnitId) → Place (length a.units) v.0 → IsSome (kind_at a v.0) → (i : ℕ) × (slice_get a.items i ≡ Some (item.Unit v))
     defined v (before h) s = o.items_defined v h s
     defined v (at h) s = absurd (none_some (kind_at a v.0) (ap (λ (t : Table). t.kind) (get_or_past a.units v.0 no_table (omega (arith, h)))) s)

@@ -146,11 +146,12 @@ module _ (a : Arena) (u : ℕ) (t : Table) (n : List ℕ) (o : IsTable t) (p : L
     where
       f : Naming
       f = naming_of (unit_name_at a) new_label
+
       bodies : table_text (naming_of (unit_name_at a) new_label) (unit_name_at a u) new_label ≡ table_text (naming_of (unit_name_at a) new_label) (unit_name_at a u) t
       bodies =
           let e : map (block_text f new_label) t.blocks ≡ map (block_text f t) t.blocks = map-ext (block_text f new_label) (block_text f t) t.blocks (λ b.
-              let s : insts_at new_label b.0 ≡ insts_at t b.0 = insts_at-more t n b.0 in
-              λ i. record { label = label_text f t.kind b; lines = map (λ (k : InstId). line_text f (line_at t k.0)) (s i) }) in
+          let s : insts_at new_label b.0 ≡ insts_at t b.0 = insts_at-more t n b.0 in
+          λ i. record { label = label_text f t.kind b; lines = map (λ (k : InstId). line_text f (line_at t k.0)) (s i) }) in
           λ i. record { kind = kind_text t.kind; name = unit_name_at a u; args = map (arg_text f) t.args; result = t.result; blocks = e i }
 
   -- what is asked of a table that is looked into
@@ -193,18 +194,20 @@ Finds-with_table a u t h g m e = record {
 -- a name that is looked up in the unit u
 pub FindsValue-with_table : (r : Result ValueId NoMemory) (a : Arena) (u : UnitId) (t : Table) (n : List ℕ) → IsArena a → u.0 < unit_count a → FindsValueIn r (table_at a u.0) t n → FindsValue r a (with_table a u.0 t) u n
 FindsValue-with_table (Ok v) a u t n o h f =
-    let l : Looked a u.0 (table_at a u.0) n (o.tables u.0 h) (o.placed u.0) t = subst (Looked a u.0 (table_at a u.0) n (o.tables u.0 h) (o.placed u.0)) (sym f.table) (looked-value a u.0 (table_at a u.0) n (o.tables u.0 h) (o.placed u.0)) in
-    (Finds-with_table a u.0 t h l.grown l.at_most l.says,
-    subst (λ (s : Table). v.0 < length s.values) (sym (table_at-same a u.0 t h)) f.within,
-    ap (λ (s : Table). get_or s.values v.0 []) (table_at-same a u.0 t h) ∙ get_or_from_slice_get t.values v.0 n [] f.named)
+    let l : Looked a u.0 (table_at a u.0) n (o.tables u.0 h) (o.placed u.0) t = subst (Looked a u.0 (table_at a u.0) n (o.tables u.0 h) (o.placed u.0)) (sym f.table) (looked-value a u.0 (table_at a u.0) n (o.tables u.0 h) (o.placed u.0)) in (
+      Finds-with_table a u.0 t h l.grown l.at_most l.says,
+      subst (λ (s : Table). v.0 < length s.values) (sym (table_at-same a u.0 t h)) f.within,
+      ap (λ (s : Table). get_or s.values v.0 []) (table_at-same a u.0 t h) ∙ get_or_from_slice_get t.values v.0 n [] f.named,
+    )
 FindsValue-with_table (Err e) a u t n o h f = with_table-old a u.0 t f
 
 pub FindsLabel-with_table : (r : Result BlockId NoMemory) (a : Arena) (u : UnitId) (t : Table) (n : List ℕ) → IsArena a → u.0 < unit_count a → FindsLabelIn r (table_at a u.0) t n → FindsLabel r a (with_table a u.0 t) u n
 FindsLabel-with_table (Ok v) a u t n o h f =
-    let l : Looked a u.0 (table_at a u.0) n (o.tables u.0 h) (o.placed u.0) t = subst (Looked a u.0 (table_at a u.0) n (o.tables u.0 h) (o.placed u.0)) (sym f.table) (looked-label a u.0 (table_at a u.0) n (o.tables u.0 h) (o.placed u.0)) in
-    (Finds-with_table a u.0 t h l.grown l.at_most l.says,
-    subst (λ (s : Table). v.0 < length s.labels) (sym (table_at-same a u.0 t h)) f.within,
-    ap (λ (s : Table). get_or s.labels v.0 []) (table_at-same a u.0 t h) ∙ get_or_from_slice_get t.labels v.0 n [] f.named)
+    let l : Looked a u.0 (table_at a u.0) n (o.tables u.0 h) (o.placed u.0) t = subst (Looked a u.0 (table_at a u.0) n (o.tables u.0 h) (o.placed u.0)) (sym f.table) (looked-label a u.0 (table_at a u.0) n (o.tables u.0 h) (o.placed u.0)) in (
+      Finds-with_table a u.0 t h l.grown l.at_most l.says,
+      subst (λ (s : Table). v.0 < length s.labels) (sym (table_at-same a u.0 t h)) f.within,
+      ap (λ (s : Table). get_or s.labels v.0 []) (table_at-same a u.0 t h) ∙ get_or_from_slice_get t.labels v.0 n [] f.named,
+    )
 FindsLabel-with_table (Err e) a u t n o h f = with_table-old a u.0 t f
 
 -- the open unit is changed by f
@@ -245,9 +248,11 @@ module _ (a : Arena) (u : UnitId) (o : IsArena a) (p : IsOpen a u) where
   labelled b c s h e = open-of a u (λ x. defines_label (label_name_at a u.0 b) x ≡ c) p (defines_label-ids (unit_name_at a) (unit_name_at a u.0) (table_at a u.0) b (o.tables u.0 here) s h ∙ e)
 
   pub AddsBlock-with_table : (r : Result (Unit {0}) UnitFault) (s : Table) (b : BlockId) → HasBlocks (kind_at a u.0) → b.0 < length (table_at a u.0).labels → TakesBlock r (table_at a u.0) s b → AddsBlock r a (with_table a u.0 s) u (label_name_at a u.0 b.0)
-  AddsBlock-with_table (Ok _) s b k h f = (labelled b.0 false k h f.0,
-      subst (λ s. Says a (with_table a u.0 s) u (change_last (text.with_block (label_name_at a u.0 b.0)) (contents a))) (sym f.1)
-      (Says-with_table a u (with_block (table_at a u.0) b) (text.with_block (label_name_at a u.0 b.0)) o p refl refl (text-with_block a u.0 (table_at a u.0) b (o.tables u.0 here) k h f.0)))
+  AddsBlock-with_table (Ok _) s b k h f = (
+    labelled b.0 false k h f.0,
+    subst (λ s. Says a (with_table a u.0 s) u (change_last (text.with_block (label_name_at a u.0 b.0)) (contents a))) (sym f.1)
+        (Says-with_table a u (with_block (table_at a u.0) b) (text.with_block (label_name_at a u.0 b.0)) o p refl refl (text-with_block a u.0 (table_at a u.0) b (o.tables u.0 here) k h f.0)),
+  )
   AddsBlock-with_table (Err fault.UnitTooLarge) s b k h f = f
   AddsBlock-with_table (Err fault.DuplicateName) s b k h f = (labelled b.0 true k h f.0, with_table-old a u.0 s f.1)
   AddsBlock-with_table (Err fault.OutOfMemory) s b k h f = (labelled b.0 false k h f.0, with_table-old a u.0 s f.1)
@@ -268,10 +273,12 @@ module _ (a : Arena) (u : UnitId) (o : IsArena a) (p : IsOpen a u) where
   }
 
   pub AddsLine-with_table : (r : Result InstId UnitFault) (s : Table) (v : Option ValueId) (i : Inst) → ResultWithin (length (table_at a u.0).values) v → 0 < length (table_at a u.0).blocks → TakesLine r (table_at a u.0) s v i → AddsLine r a (with_table a u.0 s) u (line_text_at a u.0 v i)
-  AddsLine-with_table (Ok id) s v i w h f = (has_room v i w f.0 f.1,
-      subst (λ s. Says a (with_table a u.0 s) u (change_last (text.with_line (line_text_at a u.0 v i)) (contents a))) (sym f.3)
-      (Says-with_table a u (with_line (table_at a u.0) v i) (text.with_line (line_text_at a u.0 v i)) o p refl refl (text-with_line a u.0 (table_at a u.0) v i (o.tables u.0 here) h)),
-      f.2)
+  AddsLine-with_table (Ok id) s v i w h f = (
+    has_room v i w f.0 f.1,
+    subst (λ s. Says a (with_table a u.0 s) u (change_last (text.with_line (line_text_at a u.0 v i)) (contents a))) (sym f.3)
+        (Says-with_table a u (with_line (table_at a u.0) v i) (text.with_line (line_text_at a u.0 v i)) o p refl refl (text-with_line a u.0 (table_at a u.0) v i (o.tables u.0 here) h)),
+    f.2,
+  )
   AddsLine-with_table (Err fault.UnitTooLarge) s v i w h f = (open-of a u (λ x. line_count x.blocks ≡ 65536) p (counted ∙ f.0), with_table-old a u.0 s f.1)
   AddsLine-with_table (Err fault.DuplicateName) s v i w h f = (has_twice v i w f.0 f.1, with_table-old a u.0 s f.2)
   AddsLine-with_table (Err fault.OutOfMemory) s v i w h f = (has_room v i w f.0 f.1, with_table-old a u.0 s f.2)

@@ -91,8 +91,10 @@ contents-with_table a u t f o p e =
         let l : i < length p.0 = slice_get_within p.0 i (item.Unit v) q in
         let x : slice_get a.items i ≡ Some (item.Unit u) = ap (λ z. slice_get z i) p.1 ∙ slice_get-push_before p.0 (item.Unit u) i l ∙ q ∙ ap (λ z. Some (item.Unit z)) w in
         let z : i ≡ length p.0 = o.items_distinct i (length p.0) u x (open-item a u p) in omega (arith, z, l)
+
     others : map (item_text_at (with_table a u.0 t)) p.0 ≡ map (item_text_at a) p.0
     others = map-same (item_text_at (with_table a u.0 t)) (item_text_at a) p.0 (λ i x q. item_text-other a (with_table a u.0 t) x (λ v r. unit_text-table a u.0 v.0 t (apart_from i v (q ∙ ap Some r))))
+
     last : unit_text_at (with_table a u.0 t) u.0 ≡ f (unit_text_at a u.0)
     last = unit_text-table_same a u.0 t (open-within a u o p) ∙ e
 
@@ -108,17 +110,20 @@ pub text-with_block : (a : Arena) (u : ℕ) (t : Table) (b : BlockId) → IsTabl
     → text_with a u (with_block t b) ≡ text.with_block (get_or t.labels b.0 []) (text_with a u t)
 text-with_block a u t b o h w n =
     let e : map (block_text f (with_block t b)) (t.blocks ++ b ∷ []) ≡ map (block_text f t) t.blocks ++ record { label = Some (get_or t.labels b.0 []); lines = [] } ∷ [] =
-        map-append (block_text f (with_block t b)) t.blocks (b ∷ []) ∙ (λ i. others i ++ last i ∷ []) in
+    map-append (block_text f (with_block t b)) t.blocks (b ∷ []) ∙ (λ i. others i ++ last i ∷ []) in
     λ i. record { kind = kind_text t.kind; name = unit_name_at a u; args = map (arg_text f) t.args; result = t.result; blocks = e i }
   where
     f : Naming
     f = naming_of (unit_name_at a) t
+
     others : map (block_text (naming_of (unit_name_at a) t) (with_block t b)) t.blocks ≡ map (block_text (naming_of (unit_name_at a) t) t) t.blocks
     others = map-same (block_text f (with_block t b)) (block_text f t) t.blocks (λ i x q.
         let s : insts_at (with_block t b) x.0 ≡ insts_at t x.0 = insts_at-written t b.0 x.0 (Some []) (apart t.blocks b.0 n i x q) in
         λ j. record { label = label_text f t.kind x; lines = map (λ (i : InstId). line_text f (line_at t i.0)) (s j) })
+
     none : insts_at (with_block t b) b.0 ≡ []
     none = ap (λ x. unwrap_or x []) (get_or-set_same t.bodies b.0 (Some []) None (omega (arith, w, o.enough_bodies)))
+
     last : block_text (naming_of (unit_name_at a) t) (with_block t b) b ≡ record { label = Some (get_or t.labels b.0 []); lines = [] }
     last = let l : label_text f t.kind b ≡ Some (get_or t.labels b.0 []) = label_text-named f t.kind b h in
         λ j. record { label = l j; lines = map (λ (i : InstId). line_text f (line_at t i.0)) (none j) }
@@ -127,42 +132,51 @@ pub text-with_line : (a : Arena) (u : ℕ) (t : Table) (r : Option ValueId) (i :
     → text_with a u (with_line t r i) ≡ text.with_line (line_text (naming_of (unit_name_at a) t) record { result = r; inst = i }) (text_with a u t)
 text-with_line a u t r i o h =
     let e : map (block_text f now) t.blocks ≡ line_at_end (line_text f line) (map (block_text f t) t.blocks) =
-        ap (map (block_text f now)) s.1 ∙ map-append (block_text f now) s.0 (last_block t ∷ []) ∙ (λ j. others j ++ last j ∷ [])
-        ∙ sym (ap (λ bs. line_at_end (line_text f line) (map (block_text f t) bs)) s.1
-            ∙ ap (line_at_end (line_text f line)) (map-append (block_text f t) s.0 (last_block t ∷ []))
-            ∙ line_at_end-push (line_text f line) (map (block_text f t) s.0) (block_text f t (last_block t))) in
+    ap (map (block_text f now)) s.1 ∙ map-append (block_text f now) s.0 (last_block t ∷ []) ∙ (λ j. others j ++ last j ∷ [])
+    ∙ sym (ap (λ bs. line_at_end (line_text f line) (map (block_text f t) bs)) s.1
+    ∙ ap (line_at_end (line_text f line)) (map-append (block_text f t) s.0 (last_block t ∷ []))
+    ∙ line_at_end-push (line_text f line) (map (block_text f t) s.0) (block_text f t (last_block t))) in
     λ j. record { kind = kind_text t.kind; name = unit_name_at a u; args = map (arg_text f) t.args; result = t.result; blocks = e j }
   where
     f : Naming
     f = naming_of (unit_name_at a) t
+
     line : Line
     line = record { result = r; inst = i }
+
     now : Table
     now = with_line t r i
+
     b : ℕ
     b = (last_block t).0
+
     s : (front : List BlockId) × (t.blocks ≡ front ++ last_block t ∷ [])
     s = last-split t h
+
     -- the lines before stay
     before_it : (x : BlockId) (j : ℕ) → slice_get t.blocks j ≡ Some x → map (λ (k : InstId). line_text f (line_at now k.0)) (insts_at t x.0) ≡ map (λ (k : InstId). line_text f (line_at t k.0)) (insts_at t x.0)
     before_it x j q = map-each (λ (k : InstId). k.0 < length t.lines) (λ (k : InstId). line_text f (line_at now k.0)) (λ (k : InstId). line_text f (line_at t k.0)) (insts_at t x.0)
         (λ k w. ap (line_text f) (get_or_append_left t.lines (line ∷ []) no_line k.0 w)) (insts-within t o j x q)
+
     in_front : (j : ℕ) (x : BlockId) → slice_get s.0 j ≡ Some x → slice_get t.blocks j ≡ Some x
     in_front j x q = ap (λ z. slice_get z j) s.1 ∙ slice_get-push_before s.0 (last_block t) j (slice_get_within s.0 j x q) ∙ q
+
     others : map (block_text f now) s.0 ≡ map (block_text f t) s.0
     others = map-same (block_text f now) (block_text f t) s.0 (λ j x q.
         let w : insts_at now x.0 ≡ insts_at t x.0 = insts_at-written t b x.0 (Some (insts_at t b ++ record { 0 = length t.lines } ∷ [])) (front-apart t s.0 o s.1 j x q) in
         let l : map (λ (k : InstId). line_text f (line_at now k.0)) (insts_at now x.0) ≡ map (λ (k : InstId). line_text f (line_at t k.0)) (insts_at t x.0) =
-            ap (map (λ (k : InstId). line_text f (line_at now k.0))) w ∙ before_it x j (in_front j x q) in
+        ap (map (λ (k : InstId). line_text f (line_at now k.0))) w ∙ before_it x j (in_front j x q) in
         λ n. record { label = label_text f t.kind x; lines = l n })
+
     at_last : slice_get t.blocks (length s.0) ≡ Some (last_block t)
     at_last = ap (λ z. slice_get z (length s.0)) s.1 ∙ slice_get-push s.0 (last_block t) (length s.0) refl
+
     last : block_text f now (last_block t) ≡ record (block_text f t (last_block t)) { lines = (block_text f t (last_block t)).lines ++ line_text f line ∷ [] }
     last =
         let w : insts_at now b ≡ insts_at t b ++ record { 0 = length t.lines } ∷ [] = ap (λ x. unwrap_or x []) (get_or-set_same t.bodies b (Some (insts_at t b ++ record { 0 = length t.lines } ∷ [])) None (last-within t o h)) in
         let n : get_or (t.lines ++ line ∷ []) (length t.lines) no_line ≡ line = get_or_push t.lines line no_line (length t.lines) refl in
         let l : map (λ (k : InstId). line_text f (line_at now k.0)) (insts_at now b) ≡ map (λ (k : InstId). line_text f (line_at t k.0)) (insts_at t b) ++ line_text f line ∷ [] =
-            ap (map (λ (k : InstId). line_text f (line_at now k.0))) w
-            ∙ map-append (λ (k : InstId). line_text f (line_at now k.0)) (insts_at t b) (record { 0 = length t.lines } ∷ [])
-            ∙ (λ m. before_it (last_block t) (length s.0) at_last m ++ line_text f (n m) ∷ []) in
+        ap (map (λ (k : InstId). line_text f (line_at now k.0))) w
+        ∙ map-append (λ (k : InstId). line_text f (line_at now k.0)) (insts_at t b) (record { 0 = length t.lines } ∷ [])
+        ∙ (λ m. before_it (last_block t) (length s.0) at_last m ++ line_text f (n m) ∷ []) in
         λ m. record { label = label_text f t.kind (last_block t); lines = l m }

@@ -56,7 +56,7 @@ lines_by_id g all k (l ∷ ls) h =
     let n : k ≡ k + 0 = omega arith in
     let p : get_or all k no_line ≡ l = ap (λ m. get_or all m no_line) n ∙ h 0 (omega arith) in
     let r : map (λ (i : InstId). g (get_or all i.0 no_line)) (ids_from (k + 1) ls) ≡ map g ls =
-        lines_by_id g all (k + 1) ls (λ j w. let m : k + 1 + j ≡ k + suc j = omega arith in ap (λ x. get_or all x no_line) m ∙ h (suc j) (omega (arith, w))) in
+    lines_by_id g all (k + 1) ls (λ j w. let m : k + 1 + j ≡ k + suc j = omega arith in ap (λ x. get_or all x no_line) m ∙ h (suc j) (omega (arith, w))) in
     λ i. g (p i) ∷ r i
 
 pub flat_lines : (f : Naming) (t : Table) → IsTable t → flat (map (λ (b : BlockText). b.lines) (map (block_text f t) t.blocks)) ≡ map (line_text f) t.lines
@@ -88,7 +88,7 @@ pub defines_value-ids : (units : ℕ → UnitName) (n : UnitName) (t : Table) (v
 defines_value-ids units n t v o h =
     let p : args_define (get_or t.values v []) (map (arg_text (naming_of units t)) t.args) ≡ is_arg t.args v = arg-ids units t o v t.args h o.args_within in
     let q : blocks_define (get_or t.values v []) (map (block_text (naming_of units t) t) t.blocks) ≡ is_made t.lines v =
-        blocks_define-flat (get_or t.values v []) (map (block_text (naming_of units t) t) t.blocks) ∙ ap (lines_define (get_or t.values v [])) (flat_lines (naming_of units t) t o) ∙ line-ids units t o v t.lines h o.results_within in
+    blocks_define-flat (get_or t.values v []) (map (block_text (naming_of units t) t) t.blocks) ∙ ap (lines_define (get_or t.values v [])) (flat_lines (naming_of units t) t o) ∙ line-ids units t o v t.lines h o.results_within in
     λ i. p i || q i
 
 pub defines_result-ids : (units : ℕ → UnitName) (n : UnitName) (t : Table) (r : Option ValueId) → IsTable t → ResultWithin (length t.values) r → defines_result (maybe_text (naming_of units t) r) (table_text (naming_of units t) n t) ≡ result_defined t r
@@ -113,9 +113,10 @@ defines_label-ids units n t b o h w = by t.blocks (blocks-within t.kind t h o.fi
   where
     f : Naming
     f = naming_of units t
+
     by : (bs : List BlockId) → BlocksWithin (length t.labels) bs → defines_label_in (get_or t.labels b []) (map (block_text (naming_of units t) t) bs) ≡ is_block bs b
     by [] v = refl
     by (x ∷ bs) v =
         let p : is_result_name (get_or t.labels b []) (label_text (naming_of units t) t.kind x) ≡ nat_eq x.0 b =
-            ap (is_result_name (get_or t.labels b [])) (label_text-named (naming_of units t) t.kind x h) ∙ same_name-ids t.labels x.0 b o.labels_distinct v.0 w in
+        ap (is_result_name (get_or t.labels b [])) (label_text-named (naming_of units t) t.kind x h) ∙ same_name-ids t.labels x.0 b o.labels_distinct v.0 w in
         let r : defines_label_in (get_or t.labels b []) (map (block_text (naming_of units t) t) bs) ≡ is_block bs b = by bs v.1 in λ i. p i || r i

@@ -64,8 +64,8 @@ apart a u o e i v p q = none_some (kind_at a u.0) e (subst (λ n. IsSome (kind_a
 pub defines-missing : (a : Arena) (u : UnitId) → IsArena a → u.0 < unit_count a → kind_at a u.0 ≡ None → defines_unit (unit_name_at a u.0) (contents a) ≡ false
 defines-missing a u o h e = defines-none a (unit_name_at a u.0) a.items (λ i v p. not_true (same_unit_name (unit_name_at a v.0) (unit_name_at a u.0)) (λ q.
     apart a u o e i v p (o.names_distinct v.0 u.0 (unit_name_at a u.0)
-        (name_there a v.0 o (o.items_within i v p) ∙ ap Some (same_unit_name-is (unit_name_at a v.0) (unit_name_at a u.0) q))
-        (name_there a u.0 o h))))
+    (name_there a v.0 o (o.items_within i v p) ∙ ap Some (same_unit_name-is (unit_name_at a v.0) (unit_name_at a u.0) q))
+    (name_there a u.0 o h))))
 
 -- a unit that is begun has nothing in it
 text-begun : (a : Arena) (u : ℕ) (t : Table) (k : UnitKind) → t.kind ≡ None → IsTable t → text_with a u (begun t k) ≡ new_unit (unit_name_at a u) k
@@ -75,8 +75,8 @@ text-begun a u t kind.Entity e o =
     let m = missing t e o in
     let n : insts_at (begun t kind.Entity) 0 ≡ [] = ap (λ x. unwrap_or x []) (get_or-set_same (t.bodies ++ None ∷ []) 0 (Some []) None (omega (arith, length-append t.bodies (None ∷ [])))) in
     let b : map (block_text (naming_of (unit_name_at a) t) (begun t kind.Entity)) (t.blocks ++ entity_block ∷ []) ≡ record { label = None; lines = [] } ∷ [] =
-        ap (λ bs. map (block_text (naming_of (unit_name_at a) t) (begun t kind.Entity)) (bs ++ entity_block ∷ [])) m.2
-        ∙ (λ i. record { label = None; lines = map (λ (j : InstId). line_text (naming_of (unit_name_at a) t) (line_at t j.0)) (n i) } ∷ []) in
+    ap (λ bs. map (block_text (naming_of (unit_name_at a) t) (begun t kind.Entity)) (bs ++ entity_block ∷ [])) m.2
+    ∙ (λ i. record { label = None; lines = map (λ (j : InstId). line_text (naming_of (unit_name_at a) t) (line_at t j.0)) (n i) } ∷ []) in
     λ i. record { kind = kind.Entity; name = unit_name_at a u; args = map (arg_text (naming_of (unit_name_at a) t)) (m.0 i); result = m.1 i; blocks = b i }
 
 contents-begun : (a : Arena) (u : UnitId) (k : UnitKind) → IsArena a → u.0 < unit_count a → kind_at a u.0 ≡ None
@@ -85,8 +85,10 @@ contents-begun a u k o h e = map-append (item_text_at now) a.items (item.Unit u 
   where
     now : Arena
     now = with_begun a u (begun (table_at a u.0) k)
+
     others : map (item_text_at now) a.items ≡ map (item_text_at a) a.items
     others = map-same (item_text_at now) (item_text_at a) a.items (λ i x p. item_text-other a now x (λ v r. unit_text-table a u.0 v.0 (begun (table_at a u.0) k) (apart a u o e i v (p ∙ ap Some r))))
+
     last : unit_text_at now u.0 ≡ new_unit (unit_name_at a u.0) k
     last = unit_text-table_same a u.0 (begun (table_at a u.0) k) h ∙ text-begun a u.0 (table_at a u.0) k e (o.tables u.0 h)
 
@@ -102,15 +104,19 @@ begun-labels t kind.Entity = refl
 
 pub Says-begun : (a b : Arena) (u : UnitId) (k : UnitKind) → IsArena a → u.0 < unit_count a → kind_at a u.0 ≡ None → b ≡ with_begun a u (begun (table_at a u.0) k)
     → (defines_unit (unit_name_at a u.0) (contents a) ≡ false) × Says a b u (contents a ++ unit_text (new_unit (unit_name_at a u.0) k) ∷ [])
-Says-begun a b u k o h e w = (defines-missing a u o h e, subst (λ b. Says a b u (contents a ++ unit_text (new_unit (unit_name_at a u.0) k) ∷ [])) (sym w) record {
-  says = contents-begun a u k o h e;
-  is_open = (a.items, refl);
-  entries = KeepsEntries-by a now (omega (arith, length-set a.units u.0 t)) (λ v w. refl) (each_table Grown Grown-refl a u.0 t h (Grown-same (table_at a u.0) t (begun-values (table_at a u.0) k) (begun-labels (table_at a u.0) k)));
-  few = HasAtMost-same a now (omega (arith, length-set a.units u.0 t)) (each_table (AtMost 0) (AtMost-refl 0) a u.0 t h (AtMost-same (table_at a u.0) t (begun-values (table_at a u.0) k) (begun-labels (table_at a u.0) k)));
-})
+Says-begun a b u k o h e w = (
+  defines-missing a u o h e,
+  subst (λ b. Says a b u (contents a ++ unit_text (new_unit (unit_name_at a u.0) k) ∷ [])) (sym w) record {
+    says = contents-begun a u k o h e;
+    is_open = (a.items, refl);
+    entries = KeepsEntries-by a now (omega (arith, length-set a.units u.0 t)) (λ v w. refl) (each_table Grown Grown-refl a u.0 t h (Grown-same (table_at a u.0) t (begun-values (table_at a u.0) k) (begun-labels (table_at a u.0) k)));
+    few = HasAtMost-same a now (omega (arith, length-set a.units u.0 t)) (each_table (AtMost 0) (AtMost-refl 0) a u.0 t h (AtMost-same (table_at a u.0) t (begun-values (table_at a u.0) k) (begun-labels (table_at a u.0) k)));
+  },
+)
   where
     t : Table
     t = begun (table_at a u.0) k
+
     now : Arena
     now = with_begun a u t
 
@@ -120,14 +126,16 @@ contents-with_unit a n o = map-same (item_text_at now) (item_text_at a) a.items 
   where
     now : Arena
     now = with_unit a n
+
     name : (v : ℕ) → v < unit_count a → unit_name_at now v ≡ unit_name_at a v
     name v h = get_or_append_left a.names (n ∷ []) no_unit_name v (omega (arith, h, o.long))
+
     by : (v : ℕ) → v < unit_count a → unit_text_at now v ≡ unit_text_at a v
     by v h =
         ap (λ t. table_text (naming_of (unit_name_at now) t) (unit_name_at now v) t) (table_at-unit a n v)
         ∙ ap (λ m. table_text (naming_of (unit_name_at now) (table_at a v)) m (table_at a v)) (name v h)
         ∙ table_text-same (unit_count a) (naming_of (unit_name_at now) (table_at a v)) (naming_of (unit_name_at a) (table_at a v)) (unit_name_at a v) (table_at a v)
-            record { units = name; values = λ k w. refl; labels = λ k w. refl } (o.tables v h) (o.placed v)
+        record { units = name; values = λ k w. refl; labels = λ k w. refl } (o.tables v h) (o.placed v)
 
 Finds-refl : (a : Arena) → Finds a a
 Finds-refl a = record {
@@ -157,16 +165,18 @@ added-unit a b n m e f g h p =
 
 pub added-FindsUnit : (a b : Arena) (n m : UnitName) (i : ℕ) → m ≡ n → b ≡ with_unit a n → IsArena a → i < length b.names → (k : UnitName) × (slice_get b.names i ≡ Some k) × (same_unit_name m k ≡ true) → FindsUnit (Ok (record { 0 = i })) a b n
 added-FindsUnit a b n m i e f o w s = (
-    subst (Finds a) (sym f) (Finds-with_unit a n o),
-    omega (arith, w, ap (λ z. length z.names) f, ap (λ z. length z.units) f, o.long, length-append a.names (n ∷ []), length-append a.units (no_table ∷ [])),
-    get_or_from_slice_get b.names i n no_unit_name (s.1 ∙ ap Some (sym (same_unit_name-is m s.0 s.2) ∙ e)))
+  subst (Finds a) (sym f) (Finds-with_unit a n o),
+  omega (arith, w, ap (λ z. length z.names) f, ap (λ z. length z.units) f, o.long, length-append a.names (n ∷ []), length-append a.units (no_table ∷ [])),
+  get_or_from_slice_get b.names i n no_unit_name (s.1 ∙ ap Some (sym (same_unit_name-is m s.0 s.2) ∙ e)),
+)
 
 -- one more declaration
 pub AddsDeclare-by : (r : Result (Unit {0}) NoMemory) (a : Arena) (d : Declare) (items : List Item) → OnOk r (items ≡ a.items ++ item.Declare d ∷ []) → OnErr r (items ≡ a.items) → AddsDeclare r a (record a { items = items }) d
 AddsDeclare-by (Ok _) a d items f g = subst (λ l. AddsDeclare (Ok tt) a (record a { items = l }) d) (sym f) (
-    map-append (item_text_at a) a.items (item.Declare d ∷ []),
-    KeepsEntries-by a (record a { items = a.items ++ item.Declare d ∷ [] }) (omega arith) (λ v h. refl) (λ v. Grown-refl (table_at a v)),
-    λ n w. record { units = w.units; values = w.values; labels = w.labels })
+  map-append (item_text_at a) a.items (item.Declare d ∷ []),
+  KeepsEntries-by a (record a { items = a.items ++ item.Declare d ∷ [] }) (omega arith) (λ v h. refl) (λ v. Grown-refl (table_at a v)),
+  λ n w. record { units = w.units; values = w.values; labels = w.labels },
+)
 AddsDeclare-by (Err e) a d items f g = λ i. record a { items = g i }
 
 pub IsArena-item : (r : Result (Unit {0}) NoMemory) (a : Arena) (d : Declare) (items : List Item) → OnOk r (items ≡ a.items ++ item.Declare d ∷ []) → OnErr r (items ≡ a.items) → IsArena a → IsArena (record a { items = items })

@@ -79,10 +79,10 @@ pub data Pushed {X : Type 0} (xs : List X) (y m : X) (k : ℕ) : Type 0 where
 
 pub pushed : {X : Type 0} (xs : List X) (y m : X) (k : ℕ) → slice_get (xs ++ y ∷ []) k ≡ Some m → Pushed xs y m k
 pushed xs y m k p = elim (place (length xs) k) [
-    before h ↦ old h (sym (slice_get-push_before xs y k h) ∙ p)
+  | before h ↦ old h (sym (slice_get-push_before xs y k h) ∙ p)
   | at h ↦ new h (some_inj y m (sym (slice_get-push xs y k h) ∙ p))
   | past h ↦ absurd (slice_get-gone xs y m k h p)
-  ]
+]
 
 -- one more default at the end changes no read
 pub get_or-push_default : {X : Type 0} (xs : List X) (d : X) (k : ℕ) → get_or (xs ++ d ∷ []) k d ≡ get_or xs k d

@@ -8,7 +8,7 @@ use Rattle.std.proofs.lemmas.Grind.{common_steps}
 use Rattle.indexmap.specs.IndexSet.{insert_key}
 use lib.Pointwise.{pointwise, bytes_decides}
 use Rattle.lh_types.specs.Types.{TypeTree, void_type}
-use Rattle.lh_unit.specs.Table.{Table, Flags, IsTable, FitsKind, HasBlocks, AllDistinct, ArgsWithin, ResultWithin, ResultsWithin, BlocksWithin, entity_block, flat, ids_from, insts_at, is_arg, is_made, is_result, is_block, is_defined, marked, no_table}
+use Rattle.lh_unit.specs.Table.{Table, Flags, IsTable, FitsKind, HasBlocks, AllDistinct, ArgsWithin, ResultWithin, ResultsWithin, BlocksWithin, entity_block, flat, ids_from, insts_at, is_arg, is_made, is_result, is_block, is_defined, result_defined, marked, flag_of, no_table}
 use Rattle.lh_unit.specs.TableCalls.{has_name, with_value, with_label, begun, with_arg, with_result, with_block, with_line, last_block, NamesValue, NamesLabel}
 use Rattle.lh_unit.specs.declared.inst.UnitKind.{UnitKind}
 use Rattle.lh_unit.specs.declared.inst.UnitKind.TheVariants as kind
@@ -191,10 +191,13 @@ IsTable-entity t e o = record {
     one : (i : ℕ) (k : BlockId) → slice_get (entity_block ∷ []) i ≡ Some k → i ≡ 0
     one zero k p = refl
     one (suc i) k p = cc
+
     first : get_or (set (t.bodies ++ None ∷ []) 0 (Some [])) 0 None ≡ Some []
     first = get_or-set_same (t.bodies ++ None ∷ []) 0 (Some []) None (omega (arith, length-append t.bodies (None ∷ [])))
+
     none : (b : ℕ) → is_some (get_or t.bodies b None) ≡ false
     none b = o.blocks_stand b ∙ ap (λ bs. is_block bs b) (missing t e o).2
+
     stand : (b : ℕ) → Same b 0 → is_some (get_or (set (t.bodies ++ None ∷ []) 0 (Some [])) b None) ≡ is_block (entity_block ∷ []) b
     stand b (same p) = subst (λ n. is_some (get_or (set (t.bodies ++ None ∷ []) 0 (Some [])) n None) ≡ is_block (entity_block ∷ []) n) (sym p) (ap is_some first)
     stand b (other p) = ap is_some (get_or-set_other (t.bodies ++ None ∷ []) 0 b (Some []) None p ∙ get_or-push_default t.bodies None b) ∙ none b ∙ sym (or_false (nat_eq 0 b) ∙ nat_eq-other 0 b (λ q. p (sym q)))
@@ -295,15 +298,19 @@ IsTable-with_block t b s h a o = record {
   where
     now : BlockId → List InstId
     now x = insts_at (with_block t b) x.0
+
     room : b.0 < length t.bodies
     room = omega (arith, h, o.enough_bodies)
+
     stand : (k : ℕ) → Same k b.0 → is_some (get_or (set t.bodies b.0 (Some [])) k None) ≡ is_block (t.blocks ++ b ∷ []) k
     stand k (same e) = subst (λ n. is_some (get_or (set t.bodies b.0 (Some [])) n None) ≡ is_block (t.blocks ++ b ∷ []) n) (sym e)
         (ap is_some (get_or-set_same t.bodies b.0 (Some []) None room) ∙ sym (is_block-push t.blocks b b.0 ∙ ap (λ c. is_block t.blocks b.0 || c) (nat_eq-refl b.0) ∙ or_true (is_block t.blocks b.0)))
     stand k (other e) = ap is_some (get_or-set_other t.bodies b.0 k (Some []) None e) ∙ o.blocks_stand k
         ∙ sym (is_block-push t.blocks b k ∙ ap (λ c. is_block t.blocks k || c) (nat_eq-other b.0 k (λ q. e (sym q))) ∙ or_false (is_block t.blocks k))
+
     others : map now t.blocks ≡ map (λ x. insts_at t x.0) t.blocks
     others = map-same now (λ x. insts_at t x.0) t.blocks (λ i x p. insts_at-written t b.0 x.0 (Some []) (apart t.blocks b.0 a i x p))
+
     last : now b ≡ []
     last = ap (λ x. unwrap_or x []) (get_or-set_same t.bodies b.0 (Some []) None room)
 
@@ -321,6 +328,7 @@ stands-within t b o e = by (place (length t.bodies) b)
     gone : length t.bodies ≤ b → ⊥
     gone h = let p : is_some (get_or t.bodies b None) ≡ false = ap is_some (get_or_past t.bodies b None h) in
         let q : is_some (get_or t.bodies b None) ≡ true = o.blocks_stand b ∙ e in cc
+
     by : Place (length t.bodies) b → b < length t.bodies
     by (before h) = h
     by (at h) = absurd (gone (omega (arith, h)))
@@ -357,28 +365,39 @@ IsTable-with_line t r i h w few o = record {
   where
     line : Line
     line = record { result = r; inst = i }
+
     b : ℕ
     b = (last_block t).0
+
     id : InstId
     id = record { 0 = length t.lines }
+
     longer : List InstId
     longer = insts_at t (last_block t).0 ++ record { 0 = length t.lines } ∷ []
+
     old : BlockId → List InstId
     old x = insts_at t x.0
+
     now : BlockId → List InstId
     now x = insts_at (with_line t r i) x.0
+
     s : (front : List BlockId) × (t.blocks ≡ front ++ last_block t ∷ [])
     s = last-split t h
+
     stand : (k : ℕ) → Same k b → is_some (get_or (set t.bodies b (Some longer)) k None) ≡ is_block t.blocks k
     stand k (same e) = subst (λ n. is_some (get_or (set t.bodies b (Some longer)) n None) ≡ is_block t.blocks n) (sym e)
         (ap is_some (get_or-set_same t.bodies b (Some longer) None (last-within t o h)) ∙ sym (last-stands t h))
     stand k (other e) = ap is_some (get_or-set_other t.bodies b k (Some longer) None e) ∙ o.blocks_stand k
+
     others : map now s.0 ≡ map old s.0
     others = map-same now old s.0 (λ j x p. insts_at-written t b x.0 (Some longer) (front-apart t s.0 o s.1 j x p))
+
     last : now (last_block t) ≡ longer
     last = ap (λ x. unwrap_or x []) (get_or-set_same t.bodies b (Some longer) None (last-within t o h))
+
     before_it : flat (map old s.0) ++ (insts_at t b ++ []) ≡ ids_from 0 t.lines
     before_it = sym (flat-append (map old s.0) (insts_at t b ∷ [])) ∙ sym (ap flat (map-append old s.0 (last_block t ∷ []))) ∙ sym (ap (λ bs. flat (map old bs)) s.1) ∙ o.in_order
+
     ordered : flat (map old s.0) ++ (longer ++ []) ≡ ids_from 0 (t.lines ++ line ∷ [])
     ordered =
         ap (λ l. flat (map old s.0) ++ l) (append-nil longer)
@@ -485,3 +504,21 @@ pub flag-told : (t : Table) (flags : List Bool) (k : ℕ) (b : Bool) → Flags t
 flag-told t flags k b f h e =
     let l : k < length flags = omega (arith, h, f.long) in
     some_inj (is_defined t k) b (sym (f.right k h) ∙ slice_get-get_or flags k b l ∙ ap Some (sym e))
+
+-- the block that was read last, and its body
+pub last-read : (t : Table) (b : BlockId) → 0 < length t.blocks → b ≡ get_or t.blocks (length t.blocks - 1) b → b ≡ last_block t
+last-read t b h e = get_or_read t.blocks (length t.blocks - 1) b (omega (arith, h)) e entity_block
+
+pub last-body : (t : Table) → IsTable t → 0 < length t.blocks → IsSome (get_or t.bodies (last_block t).0 None)
+last-body t o h = o.blocks_stand (last_block t).0 ∙ last-stands t h
+
+pub flag-of-told : (t : Table) (flags : List Bool) (v : Option ValueId) → Flags t flags → ResultWithin (length t.values) v → flag_of flags v ≡ result_defined t v
+flag-of-told t flags None f h = refl
+flag-of-told t flags (Some v) f h = some_inj (get_or flags v.0 false) (is_defined t v.0) (sym (slice_get-get_or flags v.0 false (omega (arith, h, f.long))) ∙ f.right v.0 h)
+
+-- the lines and bodies that were written
+pub line-laid : (t : Table) (b : BlockId) (lines : List Line) (bodies : List (Option (List InstId))) (r : Option ValueId) (i : Inst) → b ≡ last_block t → lines ≡ t.lines ++ record { result = r; inst = i } ∷ []
+    → bodies ≡ set t.bodies b.0 (Some (unwrap_or (get_or t.bodies b.0 None) [] ++ record { 0 = length t.lines } ∷ [])) → record t { lines = lines; bodies = bodies } ≡ with_line t r i
+line-laid t b lines bodies r i e l d =
+    let w : bodies ≡ (with_line t r i).bodies = d ∙ ap (λ (x : BlockId). set t.bodies x.0 (Some (unwrap_or (get_or t.bodies x.0 None) [] ++ record { 0 = length t.lines } ∷ []))) e in
+    λ j. record t { lines = l j; bodies = w j }

@@ -152,6 +152,6 @@ table_text-same n f g name t e o p =
     block j b q =
         let l : label_text f t.kind b ≡ label_text g t.kind b = label-same (sizes_of n t) f g e t.kind t refl o.fits_kind j b q in
         let ls : map (λ i. line_text f (line_at t i.0)) (insts_at t b.0) ≡ map (λ i. line_text g (line_at t i.0)) (insts_at t b.0) =
-            map-each (λ (i : InstId). i.0 < length t.lines) (λ i. line_text f (line_at t i.0)) (λ i. line_text g (line_at t i.0)) (insts_at t b.0)
-                (λ i h. line-same (sizes_of n t) f g e t i.0 h o.results_within p) (insts-within t o j b q) in
+        map-each (λ (i : InstId). i.0 < length t.lines) (λ i. line_text f (line_at t i.0)) (λ i. line_text g (line_at t i.0)) (insts_at t b.0)
+        (λ i h. line-same (sizes_of n t) f g e t i.0 h o.results_within p) (insts-within t o j b q) in
         λ i. record { label = l i; lines = ls i }

@@ -14,7 +14,7 @@ written c =
     let h : c.args.unit.0 < length (arena_of c.self.inside).units = open-within (arena_of c.self.inside) c.args.unit c.self.invariant p in
     let w : c.args.value.0 < value_count (arena_of c.self.inside) c.args.unit.0 = subst (λ (a : Arena). c.args.value.0 < value_count a c.args.unit.0) (sym c.self.view_is) c.requires.within in
     arg-written (arena_of c.self.inside) c.args.unit c.index_mut-table.result.now c.add_arg.new.self c.self.invariant h c.index_mut-table.ensures.value
-        c.add_arg.result record { value = c.args.value; ty = c.args.ty; output = c.args.output } p w c.add_arg.ensures
+    c.add_arg.result record { value = c.args.value; ty = c.args.ty; output = c.args.output } p w c.add_arg.ensures
 
 pub invariant_of-self : goal.invariant_of-self
 invariant_of-self c = (written c).0

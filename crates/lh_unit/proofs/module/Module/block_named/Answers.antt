@@ -11,7 +11,7 @@ written c =
     let h : c.args.unit.0 < length (arena_of c.self.inside).units = search rules in
     let room : label_count (arena_of c.self.inside) c.args.unit.0 < 2 ^ 32 - 1 = subst (λ (a : Arena). label_count a c.args.unit.0 < 2 ^ 32 - 1) (sym c.self.view_is) c.requires.room in
     label-written (arena_of c.self.inside) c.args.unit c.index_mut-table.result.now c.block_named.new.self c.self.invariant h c.index_mut-table.ensures.value
-        c.block_named.result c.args.name.now room c.block_named.ensures
+    c.block_named.result c.args.name.now room c.block_named.ensures
 
 pub invariant_of-self : goal.invariant_of-self
 invariant_of-self c = (written c).0

@@ -11,7 +11,7 @@ written c =
     let h : c.args.unit.0 < length (arena_of c.self.inside).units = search rules in
     let room : value_count (arena_of c.self.inside) c.args.unit.0 < 2 ^ 32 - 1 = subst (λ (a : Arena). value_count a c.args.unit.0 < 2 ^ 32 - 1) (sym c.self.view_is) c.requires.room in
     value-written (arena_of c.self.inside) c.args.unit c.index_mut-table.result.now c.value_named.new.self c.self.invariant h c.index_mut-table.ensures.value
-        c.value_named.result c.args.name.now room c.value_named.ensures
+    c.value_named.result c.args.name.now room c.value_named.ensures
 
 pub invariant_of-self : goal.invariant_of-self
 invariant_of-self c = (written c).0
