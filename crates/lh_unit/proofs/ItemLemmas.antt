@@ -207,8 +207,8 @@ begun-lines t kind.Entity = refl
 pub IsArena-begins : (a b : Arena) (u : UnitId) (k : UnitKind) → IsArena a → u.0 < unit_count a → kind_at a u.0 ≡ None → b ≡ with_begun a u (begun (table_at a u.0) k) → IsArena b
 IsArena-begins a b u k o h e w = subst IsArena (sym w) (IsArena-begun a u t o h e (IsTable-begun (table_at a u.0) k e (o.tables u.0 h)) (begun-some (table_at a u.0) k)
     (LinesPlaced-more (unit_count a) (unit_count a) (table_at a u.0) t (omega arith)
-        (omega (arith, ap (λ x. length x) (begun-values (table_at a u.0) k))) (omega (arith, ap (λ x. length x) (begun-labels (table_at a u.0) k)))
-        (begun-lines (table_at a u.0) k) (o.placed u.0)))
+    (omega (arith, ap (λ x. length x) (begun-values (table_at a u.0) k))) (omega (arith, ap (λ x. length x) (begun-labels (table_at a u.0) k)))
+    (begun-lines (table_at a u.0) k) (o.placed u.0)))
   where
     t : Table
     t = begun (table_at a u.0) k

@@ -10,8 +10,11 @@ use Rattle.lh_unit.proofs.module.Module.begin_unit.Goals as goal
 pub returns-then-is_some : goal.returns-then-is_some
 returns-then-is_some c =
     let h : c.args.unit.0 < length (arena_of c.self.inside).units = search rules in
-    rw (← c.self.view_is) (defines-begun (arena_of c.self.inside) c.args.unit c.self.invariant h
-        (kind-told (arena_of c.self.inside) c.args.unit.0 c.index.result.now _ h c.index.ensures (ap is_some (sym c.kind.ensures) ∙ sym c.is_some.ensures ∙ c.if-is_some.true)), refl)
+    rw (← c.self.view_is) (
+      defines-begun (arena_of c.self.inside) c.args.unit c.self.invariant h
+          (kind-told (arena_of c.self.inside) c.args.unit.0 c.index.result.now _ h c.index.ensures (ap is_some (sym c.kind.ensures) ∙ sym c.is_some.ensures ∙ c.if-is_some.true)),
+      refl,
+    )
 
 pub returns-then-is_err : goal.returns-then-is_err
 returns-then-is_err c =
@@ -24,8 +27,10 @@ returns-then-is_err-2 c =
     let h : c.args.unit.0 < length (arena_of c.self.inside).units = search rules in
     let n : kind_at (arena_of c.self.inside) c.args.unit.0 ≡ None = none-told (arena_of c.self.inside) c.args.unit.0 c.index.result.now h c.index.ensures (ap is_some (sym c.kind.ensures) ∙ sym c.is_some.ensures ∙ c.if-is_some.false) in
     let b : c.begin.new.self ≡ c.index_mut-table.result.now = search rules in
-    rw (← c.self.view_is) (defines-missing (arena_of c.self.inside) c.args.unit c.self.invariant h n,
-        unchanged (arena_of c.self.inside) c.args.unit.0 c.index_mut-table.result.now c.begin.new.self c.reserve.new.self.items h c.index_mut-table.ensures.value b c.reserve.ensures.items)
+    rw (← c.self.view_is) (
+      defines-missing (arena_of c.self.inside) c.args.unit c.self.invariant h n,
+      unchanged (arena_of c.self.inside) c.args.unit.0 c.index_mut-table.result.now c.begin.new.self c.reserve.new.self.items h c.index_mut-table.ensures.value b c.reserve.ensures.items,
+    )
 
 began_now : (c : goal.After-put_item) → (record (arena_of c.self.inside) { units = (arena_of record { names = c.self.inside.names; units = with_item c.self.inside.units c.args.unit.0 c.begin.new.self; items = c.put_item.new.items }).units; items = c.put_item.new.items.items }) ≡ with_begun (arena_of c.self.inside) c.args.unit (begun (table_at (arena_of c.self.inside) c.args.unit.0) c.args.kind)
 began_now c =
