@@ -1,5 +1,5 @@
 -- Arguments as the code reads them.
-use Rattle.std.proofs.Common.{◌≡◌, ◌≢◌, ℕ, zero, suc, ◌+◌, ◌-◌, ◌*◌, ◌^◌, ◌≤◌, ◌<◌, List, [], ◌∷◌, ◌++◌, length, map, get_or, take, drop, set, Option, Some, None, Bool, true, false, ◌&&◌, leb, ltb, refl, sym, ap, ◌∙◌, subst, arith, inl, inr, ◌⊎◌}
+use Rattle.std.proofs.Common.{◌≡◌, ◌≢◌, ℕ, zero, suc, ◌+◌, ◌-◌, ◌*◌, ◌^◌, ◌≤◌, ◌<◌, List, [], ◌∷◌, ◌++◌, length, map, get_or, take, drop, set, Option, Some, None, Bool, true, false, ◌&&◌, leb, ltb, refl, sym, ap, ◌∙◌, subst, arith, inl, inr}
 use Rattle.std.specs.Prelude.{option_map}
 use Rattle.std.proofs.lemmas.Bool.{ltb-true, leb-true, and_parts}
 use Rattle.std.proofs.lemmas.List.{length-map, get_or-map, take-map, drop-map}
@@ -7,7 +7,7 @@ use Rattle.lh_types.specs.Types.{TypeTree, TypeRow, int_type, time_type, array_t
 use Rattle.lh_types.specs.Values.{Datum, DatumRow, int_value, time_value, array_value, tuple_value, no_values, more_values, data_row}
 use Rattle.lh_types.specs.ValueOf.{datum_of}
 use Rattle.lh_types.specs.Fits.{FitsType, FitsRow, PartsFit, part_count}
-use Rattle.lh_types.specs.Parts.{Part, parts_of, part_at, with_part, part_if, part_beyond, step_part, field_part}
+use Rattle.lh_types.specs.Parts.{Part, parts_of, part_at, part_if, part_beyond, field_part}
 use Rattle.lh_types.specs.Apply.{no_value, field_at, slice_at, with_field, with_slice}
 use Rattle.lh_types.specs.ApplyTypes.{FitsOp, HasPart, Shifts}
 use Rattle.lh_types.specs.declared.part.Step.TheVariants.{Field, Slice}

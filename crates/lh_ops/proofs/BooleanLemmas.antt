@@ -1,15 +1,15 @@
 -- The Boolean laws of the operations.
-use Rattle.std.proofs.Common.{◌≡◌, ℕ, zero, suc, ◌+◌, ◌-◌, ◌*◌, ◌^◌, ◌≤◌, ◌<◌, List, [], ◌∷◌, Bool, true, false, not, refl, sym, ap, ◌∙◌, arith, bit_and, bit_or}
-use Rattle.std.proofs.lemmas.Nat.{pow_pos, and_mask, and_comm, or_comm, and-not, or_disjoint, or_lt, le_or_r, and_assoc, and_le_l}
+use Rattle.std.proofs.Common.{◌≡◌, ℕ, zero, suc, ◌-◌, ◌^◌, ◌<◌, [], ◌∷◌, Bool, true, false, not, refl, sym, ap, ◌∙◌, arith, bit_and, bit_or}
+use Rattle.std.proofs.lemmas.Nat.{pow_pos, and_mask, and_comm, or_comm, and-not, or_disjoint, or_lt, le_or_r, and_assoc}
 use Rattle.std.proofs.Math.Nat.{mod-eq_of_lt}
 use Rattle.std.specs.Int.Bits.{and_self, or_self, and_zero_r, or_zero_r}
-use Rattle.lh_types.specs.Values.{Datum, DatumRow, int_value, time_value, array_value, tuple_value, no_values, more_values, data_row}
+use Rattle.lh_types.specs.Values.{Datum, int_value}
 use Rattle.lh_types.specs.SameValue.{same_datum}
 use Rattle.lh_types.specs.SameValueLaws.{same_datum-is, same_datum-refl}
-use Rattle.lh_types.specs.ApplyInt.{integer_row, row_width, truth}
+use Rattle.lh_types.specs.ApplyInt.{integer_row, row_width}
 use Rattle.lh_types.specs.Apply.{apply, bit_value}
-use Rattle.lh_types.specs.declared.op.Op.TheVariants.{Not, And, Or, Xor, Eq, Neq, Mux}
-use Rattle.lh_ops.specs.Laws.{BitRows, BitsAreBoolean, WordRows, WordsAreBoolean, EqualityTells, MuxChooses, ones}
+use Rattle.lh_types.specs.declared.op.Op.TheVariants.{Not, And, Or, Eq, Neq}
+use Rattle.lh_ops.specs.Laws.{BitRows, BitsAreBoolean, WordRows, WordsAreBoolean, EqualityTells, MuxChooses}
 
 bit_rows : (x y : Bool) → BitRows x y
 unfolding apply integer_row row_width

@@ -1,12 +1,10 @@
 -- The integer rows of the table on values.
-use Rattle.std.proofs.Common.{◌≡◌, ℕ, Bool, true, false, not, ◌&&◌, eqb, refl, ap}
+use Rattle.std.proofs.Common.{◌≡◌, ℕ, Bool, not, ◌&&◌, eqb, refl, ap}
 use Rattle.std.proofs.lemmas.Bool.{eq-eqb}
-use Rattle.lh_types.specs.Values.{int_value}
-use Rattle.lh_types.specs.ApplyInt.{IsIntegerRow, integer_row, row_width}
+use Rattle.lh_types.specs.ApplyInt.{integer_row, row_width}
 use Rattle.lh_types.specs.Apply.{apply, bit_value}
-use Rattle.lh_types.specs.declared.op.Op.{Op}
 use Rattle.lh_types.specs.declared.op.Op.TheVariants.{Not, Neg, Eq, Neq, Shl, Shr, Mux, Extf, Exts, Insf, Inss, Array, Repeat, Tuple}
-use Rattle.lh_ops.specs.Laws.{IntegerRows, integer_operands}
+use Rattle.lh_ops.specs.Laws.{IntegerRows}
 
 same_width : (n : ℕ) (b : Bool) → (eqb n n && b) ≡ b
 same_width n b = rw (eq-eqb n n refl) refl

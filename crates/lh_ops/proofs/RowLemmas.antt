@@ -1,5 +1,5 @@
 -- Rows of values, and lists that are put together from copies.
-use Rattle.std.proofs.Common.{◌≡◌, ℕ, ◌+◌, ◌-◌, ◌<◌, List, [], ◌∷◌, ◌++◌, length, map, take, drop, set, refl, sym, ap, ◌∙◌, arith, add-one}
+use Rattle.std.proofs.Common.{◌≡◌, ℕ, ◌+◌, ◌-◌, ◌<◌, List, [], ◌∷◌, ◌++◌, length, map, take, drop, set, refl, ap, ◌∙◌, arith, add-one}
 use Rattle.std.proofs.lemmas.List.{set_split, take-map, drop-map, append_assoc, take_rest, length-map}
 use Rattle.lh_types.specs.Values.{Datum, data_row}
 use Rattle.lh_types.specs.ValueOf.{datum_of}

@@ -1,5 +1,5 @@
 -- Words in two's complement, by sign and absolute value.
-use Rattle.std.proofs.Common.{◌≡◌, ℕ, zero, suc, ◌+◌, ◌-◌, ◌*◌, ◌/◌, ◌%◌, ◌^◌, ◌≤◌, ◌<◌, refl, sym, ap, ◌∙◌, subst, arith, add-one, Bool, true, false, not, ◌⊎◌, inl, inr, eqb, leb, ltb, cond, ℤ, pos, negsuc, neg_ℤ, ◌-ℤ◌, unsigned_abs, int_lt, int_div, int_rem}
+use Rattle.std.proofs.Common.{◌≡◌, ℕ, zero, suc, ◌+◌, ◌-◌, ◌*◌, ◌/◌, ◌%◌, ◌^◌, ◌≤◌, ◌<◌, refl, sym, ap, ◌∙◌, arith, add-one, Bool, true, false, not, ◌⊎◌, inl, inr, eqb, leb, ltb, pos, neg_ℤ, ◌-ℤ◌, unsigned_abs}
 use Rattle.std.proofs.lemmas.Bool.{lt-ltb, le-ltb, le-leb, lt-leb, leb-true, leb-false, cases_lt, eq-eqb, ne_eqb}
 use Rattle.std.proofs.lemmas.Nat.{pow_pos, le-div, div_below, mod_below}
 use Rattle.std.proofs.lemmas.Int.{ints}
@@ -7,7 +7,6 @@ use Rattle.std.proofs.Math.Nat.{zero-mod, mod-eq_of_lt, mod_self, suc-mod, pos_o
 use Rattle.std.specs.Int.{int_rem_euclid}
 use Rattle.lh_types.specs.ApplyInt.{signed, wrapped, int_mod, divided}
 use Rattle.lh_ops.specs.Signs.{with_sign, has_sign}
-use Rattle.lh_ops.proofs.WordLemmas.{wrapped_neg}
 
 -- ---- the sign bit
 

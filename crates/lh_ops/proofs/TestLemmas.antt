@@ -1,8 +1,8 @@
 -- Arguments of the tests fit their rows.
-use Rattle.std.proofs.Common.{◌≡◌, ℕ, ◌≤◌, ◌<◌, ◌^◌, List, [], ◌∷◌, refl, arith}
-use Rattle.lh_types.specs.Types.{TypeTree, int_type, array_type, row_of, AreData, IsData}
+use Rattle.std.proofs.Common.{ℕ, ◌≤◌, ◌<◌, ◌^◌, [], ◌∷◌, refl, arith}
+use Rattle.lh_types.specs.Types.{int_type, array_type, IsData}
 use Rattle.lh_types.specs.Values.{Datum, int_value, array_value, data_row}
-use Rattle.lh_types.specs.Fits.{FitsType, FitsRow}
+use Rattle.lh_types.specs.Fits.{FitsType}
 use Rattle.lh_types.specs.ApplyTypes.{FitsOp}
 use Rattle.lh_types.specs.declared.op.Op.{Op}
 use Rattle.lh_types.specs.declared.op.Op.TheVariants.{Eq, Shl, Shr, Mux, Extf, Exts, Insf, Inss, Array, Repeat}

@@ -1,15 +1,15 @@
 -- The value of an operation is of the row's type.
-use Rattle.std.proofs.Common.{◌≡◌, ℕ, zero, suc, ◌+◌, ◌-◌, ◌*◌, ◌/◌, ◌%◌, ◌^◌, ◌≤◌, ◌<◌, min, List, [], ◌∷◌, ◌++◌, length, get_or, take, drop, set, replicate, Bool, true, false, not, cond, eqb, ℤ, pos, negsuc, neg_ℤ, ◌-ℤ◌, refl, sym, ap, ◌∙◌, subst, arith, bit_and, bit_or, bit_xor, inl, inr}
+use Rattle.std.proofs.Common.{◌≡◌, ℕ, zero, suc, ◌+◌, ◌-◌, ◌*◌, ◌/◌, ◌%◌, ◌^◌, ◌≤◌, ◌<◌, min, List, [], ◌∷◌, ◌++◌, length, take, drop, set, replicate, Bool, true, false, cond, eqb, ℤ, pos, negsuc, neg_ℤ, ◌-ℤ◌, refl, sym, ap, ◌∙◌, subst, arith}
 use Rattle.std.proofs.lemmas.Nat.{pow_pos, pow-add, mod_below, and_le_l, or_lt, xor_lt, shr_below, mul-add-lt}
 use Rattle.std.proofs.lemmas.List.{length-take-le, length-drop, length-append, length-set, length-replicate}
 use Rattle.std.proofs.Math.Nat.{div-le_self, mod-le}
-use Rattle.lh_types.specs.Types.{TypeTree, TypeRow, int_type, time_type, array_type, tuple_type, no_types, more_types, row_of, AreData, IsData, bit_count}
+use Rattle.lh_types.specs.Types.{TypeTree, TypeRow, int_type, time_type, array_type, tuple_type, no_types, more_types, row_of, AreData, bit_count}
 use Rattle.lh_types.specs.Values.{Datum, DatumRow, int_value, time_value, array_value, tuple_value, no_values, more_values, data_row}
 use Rattle.lh_types.specs.Fits.{FitsType, FitsRow, PartsFit, part_count}
 use Rattle.lh_types.specs.Parts.{parts_of, part_at, with_part, field_part}
 use Rattle.lh_types.specs.ApplyInt.{integer_row, row_width, truth, divided, wrapped, moved_up, moved_down}
 use Rattle.lh_types.specs.Apply.{apply, bit_value, no_value, integer_result, shifted, selected, repeated, field_at, slice_at, with_field, with_slice}
-use Rattle.lh_types.specs.ApplyTypes.{FitsOp, RowType, HasPart, TakesIntegers, OneInteger, TwoIntegers, ComparesIntegers, ComparesValues, Shifts}
+use Rattle.lh_types.specs.ApplyTypes.{HasPart}
 use Rattle.lh_types.specs.declared.part.Step.TheVariants.{Field, Slice}
 use Rattle.lh_types.specs.declared.op.Op.{Op}
 use Rattle.lh_types.specs.declared.op.Op.TheVariants.{Not, Neg, Add, Sub, Umul, Smul, Udiv, Sdiv, Umod, Smod, Urem, Srem, And, Or, Xor, Eq, Neq, Slt, Sgt, Sle, Sge, Ult, Ugt, Ule, Uge, Shl, Shr, Mux, Extf, Exts, Insf, Inss, Array, Repeat, Tuple}

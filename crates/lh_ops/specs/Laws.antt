@@ -1,5 +1,5 @@
 -- Laws of the operations, for the crates that compute with them.
-use Rattle.std.specs.Prelude.{◌≡◌, ℕ, ◌-◌, ◌^◌, ◌<◌, ◌≤◌, Bool, true, not, ◌&&◌, ◌||◌, if◌then◌else◌, List, [], ◌∷◌}
+use Rattle.std.specs.Prelude.{◌≡◌, ℕ, ◌-◌, ◌^◌, ◌<◌, Bool, true, not, ◌&&◌, ◌||◌, if◌then◌else◌, List, [], ◌∷◌}
 use Rattle.lh_types.specs.Types.{TypeTree, row_of, AreData}
 use Rattle.lh_types.specs.Values.{Datum, int_value, array_value, data_row}
 use Rattle.lh_types.specs.Fits.{FitsType, FitsRow}

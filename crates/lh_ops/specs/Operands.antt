@@ -1,5 +1,5 @@
 -- What the code reads of an operand, and how it puts a word together.
-use Rattle.std.specs.Prelude.{◌≡◌, ℕ, ◌+◌, ◌*◌, ◌/◌, ◌%◌, ◌^◌, List, []}
+use Rattle.std.specs.Prelude.{ℕ, ◌+◌, ◌*◌, ◌/◌, ◌%◌, ◌^◌, List, []}
 use Rattle.lh_types.specs.Values.{Datum, int_value, array_value, tuple_value}
 use Rattle.lh_types.specs.Parts.{parts_of}
 

@@ -1,5 +1,5 @@
 -- Whole numbers by sign and absolute value.
-use Rattle.std.specs.Prelude.{◌≡◌, ℕ, ◌-◌, ◌^◌, Bool, true, false, not, nat_le, ◌==◌, if◌then◌else◌, ℤ, pos, neg_ℤ}
+use Rattle.std.specs.Prelude.{ℕ, ◌-◌, ◌^◌, Bool, true, false, nat_le, ℤ, pos, neg_ℤ}
 
 -- the whole number of this absolute value, below zero where the sign is set
 abbrev pub with_sign : Bool → ℕ → ℤ

@@ -1,6 +1,6 @@
 -- Worked rows, computed from the definition.
-use Rattle.std.specs.Prelude.{◌≡◌, ℕ, ◌-◌, ◌^◌, List, [], ◌∷◌}
-use Rattle.lh_types.specs.Values.{Datum, int_value, array_value, data_row}
+use Rattle.std.specs.Prelude.{◌≡◌, ℕ, ◌-◌, ◌^◌, [], ◌∷◌}
+use Rattle.lh_types.specs.Values.{int_value, array_value, data_row}
 use Rattle.lh_types.specs.Apply.{apply}
 use Rattle.lh_types.specs.declared.op.Op.{Op}
 use Rattle.lh_types.specs.declared.op.Op.TheVariants.{Add, Umul, Udiv, Sdiv, Srem, Smod, Shl, Shr, Mux}

@@ -1,7 +1,7 @@
 -- Rows of values, walked by an index.
-use Rattle.std.proofs.Common.{◌≡◌, ℕ, ◌+◌, ◌<◌, ◌≤◌, zero, suc, List, [], ◌∷◌, ◌++◌, length, get_or, drop, map, ◌≢◌, ◌&&◌, true, false, refl, ap, sym, ◌∙◌, subst, add-one, drop-cons, arith}
+use Rattle.std.proofs.Common.{◌≡◌, ℕ, ◌+◌, ◌<◌, zero, suc, List, [], ◌∷◌, length, get_or, drop, map, ◌≢◌, ◌&&◌, true, false, refl, ap, sym, ◌∙◌, add-one, drop-cons, arith}
 use Rattle.std.proofs.lemmas.List.{get_or-map, length-map}
-use Rattle.lh_types.specs.Values.{Datum, DatumRow, more_values, no_values, data_row, datum_count, datum_count_row}
+use Rattle.lh_types.specs.Values.{Datum, more_values, data_row, datum_count, datum_count_row}
 use Rattle.lh_types.specs.ValueOf.{datum_of}
 use Rattle.lh_types.specs.declared.val.Val.{Val}
 use Rattle.lh_types.specs.SameValue.{same_datum, same_parts}

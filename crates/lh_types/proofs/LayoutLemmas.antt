@@ -1,10 +1,10 @@
 -- Walks along the parts of a value and along bits.
-use Rattle.std.proofs.Common.{◌≡◌, ℕ, ◌+◌, ◌-◌, ◌*◌, ◌/◌, ◌%◌, ◌^◌, ◌<◌, ◌≤◌, zero, suc, Bool, true, false, nat_eq, List, [], ◌∷◌, ◌++◌, length, get_or, take, drop, map, refl, ap, sym, ◌∙◌, subst, append_assoc, arith}
+use Rattle.std.proofs.Common.{◌≡◌, ℕ, ◌+◌, ◌-◌, ◌*◌, ◌/◌, ◌%◌, ◌^◌, ◌<◌, ◌≤◌, suc, Bool, true, false, nat_eq, List, [], ◌∷◌, ◌++◌, length, get_or, take, drop, map, refl, ap, sym, ◌∙◌, append_assoc, arith}
 use Rattle.std.proofs.lemmas.Nat.{row_fits}
 use mir.Val.{bool_byte}
 use Rattle.std.proofs.Math.Nat.{pow-le-pow_right}
-use Rattle.std.proofs.lemmas.List.{length-drop, length-take, drop-drop, drop_more, drop_all, length-take-le, append-nil}
-use Rattle.lh_types.specs.Types.{TypeTree, TypeRow, more_types, row_of, bit_count, bit_count_row, IsData, AreData}
+use Rattle.std.proofs.lemmas.List.{length-drop, length-take, drop-drop, drop_more, drop_all}
+use Rattle.lh_types.specs.Types.{TypeTree, more_types, row_of, bit_count, bit_count_row, IsData, AreData}
 use Rattle.lh_types.specs.Values.{Datum, DatumRow, no_values, more_values, data_row}
 use Rattle.lh_types.specs.ValueOf.{datum_of}
 use Rattle.lh_types.specs.Bits.{value_bits, row_bits, number_bits, bits_number, value_from_bits, row_from_bits, repeat_parts}
@@ -44,7 +44,7 @@ ElementsAt-next t n lo b i to next v d h k w e g =
     let here : value_from_bits t (take (bit_count t) (drop (lo + i * bit_count t) b)) ≡ v = value_from_bits-take t d (drop (lo + i * bit_count t) b) (omega (arith, length-drop (lo + i * bit_count t) b, inside)) ∙ sym e in
     let further : drop (bit_count t) (drop (lo + i * bit_count t) b) ≡ drop (lo + (i + 1) * bit_count t) b = drop-drop (bit_count t) (lo + i * bit_count t) b ∙ ap (λ m. drop m b) (let s : lo + i * bit_count t + bit_count t ≡ lo + (i + 1) * bit_count t = omega arith in s) in
     let step : repeat_parts (n - i) (value_from_bits t) (bit_count t) (drop (lo + i * bit_count t) b) ≡ more_values v (repeat_parts (n - (i + 1)) (value_from_bits t) (bit_count t) (drop (lo + (i + 1) * bit_count t) b)) =
-      ap (λ m. repeat_parts m (value_from_bits t) (bit_count t) (drop (lo + i * bit_count t) b)) left ∙ ap (λ x. more_values x (repeat_parts (n - (i + 1)) (value_from_bits t) (bit_count t) (drop (bit_count t) (drop (lo + i * bit_count t) b)))) here ∙ ap (λ bs. more_values v (repeat_parts (n - (i + 1)) (value_from_bits t) (bit_count t) bs)) further in
+    ap (λ m. repeat_parts m (value_from_bits t) (bit_count t) (drop (lo + i * bit_count t) b)) left ∙ ap (λ x. more_values x (repeat_parts (n - (i + 1)) (value_from_bits t) (bit_count t) (drop (bit_count t) (drop (lo + i * bit_count t) b)))) here ∙ ap (λ bs. more_values v (repeat_parts (n - (i + 1)) (value_from_bits t) (bit_count t) bs)) further in
     record { rest = ap (λ vs. before_row vs (repeat_parts (n - (i + 1)) (value_from_bits t) (bit_count t) (drop (lo + (i + 1) * bit_count t) b))) g ∙ before_row-push to v _ ∙ sym (ap (before_row to) step) ∙ w.rest }
 
 pub ElementsAt-end : (t : TypeTree) (n lo : ℕ) (b : List Bool) (i : ℕ) (to : List Datum) → ElementsAt t n lo b i to → n ≤ i → data_row to ≡ repeat_parts n (value_from_bits t) (bit_count t) (drop lo b)
@@ -64,7 +64,7 @@ FieldsAt-next all xs lo b i at to_at to next x v w h e f g j =
     let row : row_of (drop i xs) ≡ more_types x (row_of (drop (i + 1) xs)) = row_of-drop xs i x h ∙ ap (λ t. more_types t (row_of (drop (i + 1) xs))) (sym e) in
     let here : value_from_bits x (take (bit_count x) (drop at b)) ≡ v = value_from_bits-take x d.0 (drop at b) (omega (arith, length-drop at b, w.inside, bits)) ∙ sym f in
     let step : row_from_bits (row_of (drop i xs)) (drop at b) ≡ more_values v (row_from_bits (row_of (drop (i + 1) xs)) (drop to_at b)) =
-      ap (λ r. row_from_bits r (drop at b)) row ∙ ap (λ y. more_values y (row_from_bits (row_of (drop (i + 1) xs)) (drop (bit_count x) (drop at b)))) here ∙ ap (λ bs. more_values v (row_from_bits (row_of (drop (i + 1) xs)) bs)) (drop-drop (bit_count x) at b ∙ ap (λ m. drop m b) (sym j)) in
+    ap (λ r. row_from_bits r (drop at b)) row ∙ ap (λ y. more_values y (row_from_bits (row_of (drop (i + 1) xs)) (drop (bit_count x) (drop at b)))) here ∙ ap (λ bs. more_values v (row_from_bits (row_of (drop (i + 1) xs)) bs)) (drop-drop (bit_count x) at b ∙ ap (λ m. drop m b) (sym j)) in
     record {
       whole = w.whole;
       data_left = d.1;

@@ -1,19 +1,17 @@
 -- The bits of a part of a value, and those of a value with a part replaced.
-use Rattle.std.proofs.Common.{◌≡◌, ℕ, ◌+◌, ◌-◌, ◌*◌, ◌/◌, ◌%◌, ◌^◌, ◌<◌, ◌≤◌, zero, suc, Bool, true, false, ◌&&◌, nat_lt, nat_le, List, [], ◌∷◌, ◌++◌, length, get_or, set, take, drop, Option, Some, None, refl, ap, sym, ◌∙◌, subst, add-one, append_assoc, arith}
+use Rattle.std.proofs.Common.{◌≡◌, ℕ, ◌+◌, ◌-◌, ◌*◌, ◌/◌, ◌%◌, ◌^◌, ◌<◌, ◌≤◌, zero, suc, Bool, List, [], ◌∷◌, ◌++◌, length, get_or, set, take, drop, Some, refl, ap, sym, ◌∙◌, subst, add-one, append_assoc, arith}
 use Rattle.std.specs.List.{flat_map}
-use Rattle.std.specs.Option.{option_map}
 use Rattle.std.proofs.Math.Nat.{suc-mul, mod-eq_of_lt}
-use Rattle.std.proofs.Math.Seq.{take-add}
-use Rattle.std.proofs.lemmas.List.{length-append, length-take, length-drop, take_at, drop_at, set_split, take-append-drop, drop-drop, drop_more, length-take-le, set-get_or}
+use Rattle.std.proofs.lemmas.List.{length-append, length-drop, take_at, drop_at, set_split, take-append-drop, drop-drop, drop_more, length-take-le}
 use Rattle.std.proofs.lemmas.List.Concat.{flat_map-append}
-use Rattle.std.proofs.lemmas.Nat.{shr-shr, shr_below, shr_split, pow-add, pow_pos, shr_high, mod_low, mod_below, mul-add-lt}
-use Rattle.std.proofs.lemmas.Option.{same_Some, none-some, cond_some}
+use Rattle.std.proofs.lemmas.Nat.{shr-shr, shr_below, pow-add, pow_pos, shr_high, mod_low, mod_below, mul-add-lt}
+use Rattle.std.proofs.lemmas.Option.{same_Some, none-some}
 use Rattle.std.proofs.lemmas.Bool.Decides.{nat_tests}
-use Rattle.lh_types.specs.Types.{TypeTree, TypeRow, int_type, time_type, void_type, array_type, tuple_type, signal_type, pointer_type, no_types, more_types, bit_count, bit_count_row, IsData, AreData}
+use Rattle.lh_types.specs.Types.{TypeTree, TypeRow, int_type, time_type, array_type, tuple_type, no_types, more_types, bit_count}
 use Rattle.lh_types.specs.Values.{Datum, DatumRow, int_value, time_value, array_value, tuple_value, no_values, more_values, data_row}
 use Rattle.lh_types.specs.Fits.{FitsType, PartsFit, FitsRow, part_count}
 use Rattle.lh_types.specs.Bits.{value_bits, row_bits, number_bits}
-use Rattle.lh_types.specs.Parts.{Part, part_beyond, part_if, field_part, step_part, bits_within, bits_with, parts_of, part_at, with_part}
+use Rattle.lh_types.specs.Parts.{Part, field_part, step_part, bits_within, bits_with, parts_of, part_at, with_part}
 use Rattle.lh_types.specs.declared.part.Step.{Step}
 use Rattle.lh_types.specs.declared.part.Step.TheVariants.{Field, Slice}
 use Rattle.lh_types.proofs.NumberBits.{length-number_bits, number_bits-add, number_bits-mod}
@@ -95,12 +93,12 @@ StandsAt-field no_values no_types k p h e = absurd (none-some _ e)
 StandsAt-field (more_values v vs) (more_types t ts) zero p h e = subst (StandsAt (v ∷ parts_of vs) 0) (same_Some _ _ e) (record { there = omega arith; starts = refl; fits = h.0 })
 StandsAt-field (more_values v vs) (more_types t ts) (suc k) p h e =
     part_beyond-holds (StandsAt (v ∷ parts_of vs) (suc k)) (bit_count t) (field_part ts k) p e (λ q g.
-      let s = StandsAt-field vs ts k q h.1 g in
-      record {
-        there = omega (arith, s.there);
-        starts = omega (arith, length-append (value_bits v) (flat_map value_bits (take k (parts_of vs))), length-value_bits v t h.0, s.starts);
-        fits = s.fits;
-      })
+    let s = StandsAt-field vs ts k q h.1 g in
+    record {
+      there = omega (arith, s.there);
+      starts = omega (arith, length-append (value_bits v) (flat_map value_bits (take k (parts_of vs))), length-value_bits v t h.0, s.starts);
+      fits = s.fits;
+    })
 StandsAt-field _ _ k p h e = absurd h
 
 -- a row with one part replaced by another of the type
@@ -162,13 +160,14 @@ module _ (xs : List Datum) (t : TypeTree) (at len : ℕ) (h : PartsFit (data_row
   bits_with-slice ws f l =
       let same : length (flat_map value_bits ws) ≡ length (flat_map value_bits (take len (drop at xs))) = length-flat_map-fit t ws f ∙ ap (λ n. n * bit_count t) l ∙ sym slice_len in
       let split : flat_map value_bits (take at xs ++ ws ++ drop (at + len) xs) ≡ flat_map value_bits (take at xs) ++ (flat_map value_bits ws ++ flat_map value_bits (drop (at + len) xs)) =
-        flat_map-append value_bits (take at xs ++ ws) (drop (at + len) xs) ∙ ap (λ ys. ys ++ flat_map value_bits (drop (at + len) xs)) (flat_map-append value_bits (take at xs) ws) ∙ append_assoc (flat_map value_bits (take at xs)) (flat_map value_bits ws) (flat_map value_bits (drop (at + len) xs)) in
+      flat_map-append value_bits (take at xs ++ ws) (drop (at + len) xs) ∙ ap (λ ys. ys ++ flat_map value_bits (drop (at + len) xs)) (flat_map-append value_bits (take at xs) ws) ∙ append_assoc (flat_map value_bits (take at xs)) (flat_map value_bits ws) (flat_map value_bits (drop (at + len) xs)) in
       split ∙ sym (ap (bits_with (at * bit_count t) (flat_map value_bits ws)) slice_split ∙ bits_with-mid _ _ _ (flat_map value_bits ws) (at * bit_count t) front_len same)
 
   fits_with-slice : (ws : List Datum) → PartsFit (data_row ws) t → length ws ≡ len → (length (take at xs ++ ws ++ drop (at + len) xs) ≡ length xs) × PartsFit (data_row (take at xs ++ ws ++ drop (at + len) xs)) t
-  fits_with-slice ws f l =
-      (omega (arith, length-append (take at xs ++ ws) (drop (at + len) xs), length-append (take at xs) ws, length-take-le at xs (omega arith), length-drop (at + len) xs, l),
-       AllFit-append t (take at xs ++ ws) (drop (at + len) xs) (AllFit-append t (take at xs) ws (AllFit-take t at xs h) f) (AllFit-drop t (at + len) xs h))
+  fits_with-slice ws f l = (
+    omega (arith, length-append (take at xs ++ ws) (drop (at + len) xs), length-append (take at xs) ws, length-take-le at xs (omega arith), length-drop (at + len) xs, l),
+    AllFit-append t (take at xs ++ ws) (drop (at + len) xs) (AllFit-append t (take at xs) ws (AllFit-take t at xs h) f) (AllFit-drop t (at + len) xs h),
+  )
 
 -- some bits of an integer
 module _ (w b at len : ℕ) (inside : at + len ≤ w) where
@@ -200,7 +199,7 @@ module _ (w b at len : ℕ) (inside : at + len ≤ w) where
         let high : x / 2 ^ at / 2 ^ len ≡ b / 2 ^ at / 2 ^ len = ap (λ k. k / 2 ^ len) up ∙ shr_high _ len c fits in
         let e : w ≡ at + (len + (w - (at + len))) = omega arith in
         let split : number_bits w x ≡ number_bits at x ++ (number_bits len (x / 2 ^ at) ++ number_bits (w - (at + len)) (x / 2 ^ at / 2 ^ len)) =
-          ap (λ k. number_bits k x) e ∙ number_bits-add at (len + (w - (at + len))) x ∙ ap (λ bs. number_bits at x ++ bs) (number_bits-add len (w - (at + len)) (x / 2 ^ at)) in
+        ap (λ k. number_bits k x) e ∙ number_bits-add at (len + (w - (at + len))) x ∙ ap (λ bs. number_bits at x ++ bs) (number_bits-add len (w - (at + len)) (x / 2 ^ at)) in
         let lows : number_bits at x ≡ number_bits at b = number_bits-mod at x b low in
         let mids : number_bits len (x / 2 ^ at) ≡ number_bits len c = number_bits-mod len (x / 2 ^ at) c mid in
         let same : length (number_bits len c) ≡ length (number_bits len (b / 2 ^ at)) = length-number_bits len c ∙ sym (length-number_bits len (b / 2 ^ at)) in
@@ -234,22 +233,22 @@ fits_row vs t h = subst (λ r. PartsFit r t) (sym (data_row-parts_of vs)) h
 pub part_at-IsPart : (v : Datum) (t : TypeTree) (s : Step) (p : Part) → FitsType v t → step_part t s ≡ Some p → IsPart v (part_at v s) p
 part_at-IsPart (array_value vs) (array_type n t) (Field k) p h e =
     part_if-holds (IsPart (array_value vs) (part_at (array_value vs) (Field k))) _ _ t p e (λ b.
-      let lt : k < part_count vs = let l : k < n = grind (arith, nat_tests) in omega (arith, h.0, l) in
-      IsPart-placed (array_value vs) vs k (record { lo = k * bit_count t; of = t }) refl (StandsAt-element vs t k h.1 lt))
+    let lt : k < part_count vs = let l : k < n = grind (arith, nat_tests) in omega (arith, h.0, l) in
+    IsPart-placed (array_value vs) vs k (record { lo = k * bit_count t; of = t }) refl (StandsAt-element vs t k h.1 lt))
 part_at-IsPart (tuple_value vs) (tuple_type ts) (Field k) p h e = IsPart-placed (tuple_value vs) vs k p refl (StandsAt-field vs ts k p h e)
 part_at-IsPart (int_value w b) (int_type n) (Slice at len) p h e =
     part_if-holds (IsPart (int_value w b) (part_at (int_value w b) (Slice at len))) _ _ (int_type len) p e (λ g.
-      let f = slice_facts len at n g in
-      record { fits = (refl, mod_below (b / 2 ^ at) (2 ^ len) (pow_pos len)); bits = bits_of-number_slice w b at len (omega (arith, f.1, h.0)) })
+    let f = slice_facts len at n g in
+    record { fits = (refl, mod_below (b / 2 ^ at) (2 ^ len) (pow_pos len)); bits = bits_of-number_slice w b at len (omega (arith, f.1, h.0)) })
 part_at-IsPart (array_value vs) (array_type n t) (Slice at len) p h e =
     part_if-holds (IsPart (array_value vs) (part_at (array_value vs) (Slice at len))) _ _ (array_type len t) p e (λ g.
-      let f = slice_facts len at n g in
-      let inside : at + len ≤ length (parts_of vs) = omega (arith, f.1, h.0, length-parts_of vs) in
-      let all = fits_row vs t h.1 in
-      record {
-        fits = (part_count-data_row (take len (drop at (parts_of vs))) ∙ length-slice (parts_of vs) t at len all inside, slice_fits (parts_of vs) t at len all inside);
-        bits = row_bits-data_row (take len (drop at (parts_of vs))) ∙ bits_of-slice (parts_of vs) t at len all inside ∙ ap (bits_within (at * bit_count t) (len * bit_count t)) (sym (row_bits-parts_of vs));
-      })
+    let f = slice_facts len at n g in
+    let inside : at + len ≤ length (parts_of vs) = omega (arith, f.1, h.0, length-parts_of vs) in
+    let all = fits_row vs t h.1 in
+    record {
+      fits = (part_count-data_row (take len (drop at (parts_of vs))) ∙ length-slice (parts_of vs) t at len all inside, slice_fits (parts_of vs) t at len all inside);
+      bits = row_bits-data_row (take len (drop at (parts_of vs))) ∙ bits_of-slice (parts_of vs) t at len all inside ∙ ap (bits_within (at * bit_count t) (len * bit_count t)) (sym (row_bits-parts_of vs));
+    })
 part_at-IsPart (int_value w b) (int_type n) (Field k) p h e = absurd (none-some _ e)
 part_at-IsPart (tuple_value vs) (tuple_type ts) (Slice at len) p h e = absurd (none-some _ e)
 part_at-IsPart (time_value d) time_type s p h e = absurd (none-some _ e)
@@ -266,33 +265,33 @@ with_placed vs k p w s f = row_bits-data_row (set (parts_of vs) k w) ∙ bits_wi
 pub with_part-IsWith : (v : Datum) (t : TypeTree) (s : Step) (p : Part) (w : Datum) → FitsType v t → step_part t s ≡ Some p → FitsType w p.of → IsWith v t w (with_part v s w) p
 with_part-IsWith (array_value vs) (array_type n t) (Field k) p w h e f =
     part_if-holds (λ q. FitsType w q.of → IsWith (array_value vs) (array_type n t) w (with_part (array_value vs) (Field k) w) q) _ _ t p e (λ b i.
-      let lt : k < part_count vs = let l : k < n = grind (arith, nat_tests) in omega (arith, h.0, l) in
-      let r = PartsFit-set vs t k w h.1 i in
-      record { fits = (r.0 ∙ h.0, r.1); bits = with_placed vs k (record { lo = k * bit_count t; of = t }) w (StandsAt-element vs t k h.1 lt) i }) f
+    let lt : k < part_count vs = let l : k < n = grind (arith, nat_tests) in omega (arith, h.0, l) in
+    let r = PartsFit-set vs t k w h.1 i in
+    record { fits = (r.0 ∙ h.0, r.1); bits = with_placed vs k (record { lo = k * bit_count t; of = t }) w (StandsAt-element vs t k h.1 lt) i }) f
 with_part-IsWith (tuple_value vs) (tuple_type ts) (Field k) p w h e f = record { fits = FitsRow-set vs ts k p w h e f; bits = with_placed vs k p w (StandsAt-field vs ts k p h e) f }
 with_part-IsWith (int_value m b) (int_type n) (Slice at len) p (int_value l c) h e f =
     part_if-holds (λ q. FitsType (int_value l c) q.of → IsWith (int_value m b) (int_type n) (int_value l c) (with_part (int_value m b) (Slice at len) (int_value l c)) q) _ _ (int_type len) p e (λ g i.
-      let k = slice_facts len at n g in
-      let inside : at + len ≤ m = omega (arith, k.1, h.0) in
-      let below : b < 2 ^ m = subst (λ j. b < 2 ^ j) (sym h.0) h.1 in
-      let x = b / 2 ^ (at + len) * 2 ^ (at + len) + c * 2 ^ at + b % 2 ^ at in
-      record {
-        fits = (h.0, subst (λ j. x < 2 ^ j) h.0 (below-number_slice m b at len inside c x i.1 refl below));
-        bits = bits_with-number_slice m b at len inside c x i.1 refl ∙ ap (λ j. bits_with at (number_bits j c) (number_bits m b)) (sym i.0);
-      }) f
+    let k = slice_facts len at n g in
+    let inside : at + len ≤ m = omega (arith, k.1, h.0) in
+    let below : b < 2 ^ m = subst (λ j. b < 2 ^ j) (sym h.0) h.1 in
+    let x = b / 2 ^ (at + len) * 2 ^ (at + len) + c * 2 ^ at + b % 2 ^ at in
+    record {
+      fits = (h.0, subst (λ j. x < 2 ^ j) h.0 (below-number_slice m b at len inside c x i.1 refl below));
+      bits = bits_with-number_slice m b at len inside c x i.1 refl ∙ ap (λ j. bits_with at (number_bits j c) (number_bits m b)) (sym i.0);
+    }) f
 with_part-IsWith (array_value vs) (array_type n t) (Slice at len) p (array_value ws) h e f =
     part_if-holds (λ q. FitsType (array_value ws) q.of → IsWith (array_value vs) (array_type n t) (array_value ws) (with_part (array_value vs) (Slice at len) (array_value ws)) q) _ _ (array_type len t) p e (λ g i.
-      let k = slice_facts len at n g in
-      let inside : at + len ≤ length (parts_of vs) = omega (arith, k.1, h.0, length-parts_of vs) in
-      let all = fits_row vs t h.1 in
-      let new = fits_row ws t i.1 in
-      let same : length (parts_of ws) ≡ len = length-parts_of ws ∙ i.0 in
-      let r = fits_with-slice (parts_of vs) t at len all inside (parts_of ws) new same in
-      let xs = take at (parts_of vs) ++ parts_of ws ++ drop (at + len) (parts_of vs) in
-      record {
-        fits = (part_count-data_row (take at (parts_of vs) ++ parts_of ws ++ drop (at + len) (parts_of vs)) ∙ r.0 ∙ length-parts_of vs ∙ h.0, r.1);
-        bits = row_bits-data_row (take at (parts_of vs) ++ parts_of ws ++ drop (at + len) (parts_of vs)) ∙ bits_with-slice (parts_of vs) t at len all inside (parts_of ws) new same ∙ ap (bits_with (at * bit_count t) (flat_map value_bits (parts_of ws))) (sym (row_bits-parts_of vs)) ∙ ap (λ bs. bits_with (at * bit_count t) bs (row_bits vs)) (sym (row_bits-parts_of ws));
-      }) f
+    let k = slice_facts len at n g in
+    let inside : at + len ≤ length (parts_of vs) = omega (arith, k.1, h.0, length-parts_of vs) in
+    let all = fits_row vs t h.1 in
+    let new = fits_row ws t i.1 in
+    let same : length (parts_of ws) ≡ len = length-parts_of ws ∙ i.0 in
+    let r = fits_with-slice (parts_of vs) t at len all inside (parts_of ws) new same in
+    let xs = take at (parts_of vs) ++ parts_of ws ++ drop (at + len) (parts_of vs) in
+    record {
+      fits = (part_count-data_row (take at (parts_of vs) ++ parts_of ws ++ drop (at + len) (parts_of vs)) ∙ r.0 ∙ length-parts_of vs ∙ h.0, r.1);
+      bits = row_bits-data_row (take at (parts_of vs) ++ parts_of ws ++ drop (at + len) (parts_of vs)) ∙ bits_with-slice (parts_of vs) t at len all inside (parts_of ws) new same ∙ ap (bits_with (at * bit_count t) (flat_map value_bits (parts_of ws))) (sym (row_bits-parts_of vs)) ∙ ap (λ bs. bits_with (at * bit_count t) bs (row_bits vs)) (sym (row_bits-parts_of ws));
+    }) f
 with_part-IsWith (int_value m b) (int_type n) (Slice at len) p w h e f = absurd (part_if-holds (λ q. FitsType w q.of → ⊥) _ _ (int_type len) p e (λ g i. i) f)
 with_part-IsWith (array_value vs) (array_type n t) (Slice at len) p w h e f = absurd (part_if-holds (λ q. FitsType w q.of → ⊥) _ _ (array_type len t) p e (λ g i. i) f)
 with_part-IsWith (int_value m b) (int_type n) (Field k) p w h e f = absurd (none-some _ e)

@@ -1,5 +1,5 @@
 -- Parts of types, step by step.
-use Rattle.std.proofs.Common.{◌≡◌, ℕ, ◌+◌, ◌-◌, ◌*◌, ◌<◌, ◌≤◌, zero, suc, Bool, true, false, ◌&&◌, nat_lt, nat_le, List, [], ◌∷◌, length, get_or, drop, refl, ap, sym, ◌∙◌, subst, arith, Option, Some, None, add_assoc}
+use Rattle.std.proofs.Common.{◌≡◌, ℕ, ◌+◌, ◌-◌, ◌*◌, ◌<◌, ◌≤◌, zero, suc, Bool, true, false, ◌&&◌, nat_lt, nat_le, List, length, get_or, drop, refl, ap, sym, ◌∙◌, subst, arith, Option, Some, None, add_assoc}
 use Rattle.std.specs.Option.{option_map, option_and_then}
 use Rattle.std.proofs.lemmas.List.{drop_all, drop_more}
 use Rattle.std.proofs.lemmas.Nat.{mul-le, row_fits}
@@ -84,12 +84,12 @@ step_part-within (int_type n) (Slice at len) p h e =
     part_if-holds (Within n) _ _ (int_type len) p e (λ b. let f = slice_facts len at n b in record { is_data = (f.0, omega (arith, f.1)); inside = f.1 })
 step_part-within (array_type n t) (Slice at len) p h e =
     part_if-holds (Within (n * bit_count t)) _ _ (array_type len t) p e (λ b.
-      let f = slice_facts len at n b in
-      let w = bit_count t in
-      record {
-        is_data = (h.0, f.0, omega (arith, f.1), omega (arith, mul-le len (bit_count t) n (bit_count t) (omega (arith, f.1)) (omega arith)), h.4);
-        inside = omega (arith, mul-le (at + len) (bit_count t) n (bit_count t) f.1 (omega arith));
-      })
+    let f = slice_facts len at n b in
+    let w = bit_count t in
+    record {
+      is_data = (h.0, f.0, omega (arith, f.1), omega (arith, mul-le len (bit_count t) n (bit_count t) (omega (arith, f.1)) (omega arith)), h.4);
+      inside = omega (arith, mul-le (at + len) (bit_count t) n (bit_count t) f.1 (omega arith));
+    })
 step_part-within time_type s p h e = absurd h
 step_part-within void_type s p h e = absurd h
 step_part-within (signal_type t) s p h e = absurd h

@@ -1,7 +1,7 @@
 -- A struct of an array of structs, with its bits and parts worked out by hand.
-use Rattle.std.proofs.Common.{◌≡◌, ℕ, List, [], ◌∷◌, Some, None, true, false, length, refl}
+use Rattle.std.proofs.Common.{◌≡◌, [], ◌∷◌, Some, None, true, false, refl}
 use Rattle.lh_types.specs.Types.{TypeTree, int_type, array_type, tuple_type, row_of, bit_count, depth_of}
-use Rattle.lh_types.specs.Values.{Datum, int_value, array_value, tuple_value, data_row}
+use Rattle.lh_types.specs.Values.{int_value, tuple_value, data_row}
 use Rattle.lh_types.specs.Bits.{value_bits, value_from_bits}
 use Rattle.lh_types.specs.Parts.{range_of, part_at, with_part}
 use Rattle.lh_types.specs.declared.part.Step.TheVariants.{Field, Slice}

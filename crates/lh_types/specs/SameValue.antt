@@ -13,6 +13,7 @@ abbrev mutual
   same_datum (tuple_value vs) (tuple_value ws) = same_parts vs ws
   same_datum _ _ = false
 
+  -- each the same as its partner
   pub same_parts : DatumRow → DatumRow → Bool
   same_parts no_values no_values = true
   same_parts (more_values v vs) (more_values w ws) = same_datum v w && same_parts vs ws

@@ -1,15 +1,13 @@
 -- The test of two values is equality.
-use Rattle.std.specs.Prelude.{◌≡◌, ℕ, Bool, true, false, ◌&&◌, nat_eq, refl}
+use Rattle.std.specs.Prelude.{◌≡◌, ℕ, true, ◌&&◌, nat_eq, refl}
 use Rattle.std.specs.Cmp.{IsEquivalence}
 use Rattle.std.proofs.Common.{arith, ap}
 use Rattle.std.proofs.lemmas.Grind.{common_steps}
 use Rattle.std.proofs.lemmas.Cmp.{on_equiv}
-use Rattle.lh_time.specs.declared.Delay.{Delay}
 use Rattle.lh_types.specs.Values.{Datum, DatumRow, int_value, time_value, array_value, tuple_value, no_values, more_values, same_delay}
 use Rattle.lh_types.specs.ValueOf.{datum_of}
 use Rattle.lh_types.specs.SameValue.{same_datum, same_parts, same_val}
 use Rattle.lh_types.specs.Same.{and_both, test_equiv}
-use Rattle.lh_types.specs.declared.val.Val.{Val}
 
 nat_eq-is : (m n : ℕ) → nat_eq m n ≡ true → m ≡ n
 nat_eq-is m n p = grind (arith, common_steps)

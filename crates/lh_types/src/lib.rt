@@ -8,6 +8,8 @@ pub mod list;
 pub mod op;
 pub mod part;
 pub mod tally;
+#[cfg(test)]
+mod tests;
 pub mod ty;
 pub mod val;
 pub mod writes;

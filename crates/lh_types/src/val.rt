@@ -164,7 +164,8 @@ impl Val {
         ensures { result ≡ same_datum (datum_of self.now) (datum_of other.now) }
     {
         match (self, other) {
-            (Val::Int { width, bits }, Val::Int { width: w, bits: b }) => *width == *w && *bits == *b,
+            (Val::Int { width, bits }, Val::Int { width: w, bits: b }) => *width == *w
+                && *bits == *b,
             (Val::Time(d), Val::Time(e)) => *d == *e,
             (Val::Array(vs), Val::Array(ws)) => same_values(vs, ws),
             (Val::Tuple(vs), Val::Tuple(ws)) => same_values(vs, ws),

@@ -5,12 +5,18 @@ use Rattle.std.proofs.lemmas.Grind.{common_steps}
 use Rattle.lh_unit.specs.Names.{is_name_byte, all_name_bytes, IsName}
 use Rattle.lh_unit.specs.Lexemes.{Lexeme, word, global, local, arrow, minus, punct, lexemes, lexemes_after, front, first_lexeme, run_len, fits_name, is_white, is_comment, is_punct, begins}
 use Rattle.lh_unit.specs.Pieces.{Piece, token, space, lexeme_bytes, render, lexemes_in, IsLexeme, IsSpaced, takes_more, begins_with_word}
+use Rattle.lh_unit.specs.Canon.{text_of}
 
 -- the bytes of lines joined
 pub render-append : (a b : List Piece) → render (a ++ b) ≡ render a ++ render b
 render-append [] b = refl
 render-append (token t ∷ a) b = ap (λ l. lexeme_bytes t ++ l) (render-append a b) ∙ sym (append_assoc (lexeme_bytes t) (render a) (render b))
 render-append (space ∷ a) b = ap (λ l. 32 ∷ l) (render-append a b)
+
+-- the text of lines joined
+pub text_of-append : (a b : List (List Piece)) → text_of (a ++ b) ≡ text_of a ++ text_of b
+text_of-append [] b = refl
+text_of-append (l ∷ a) b = ap (λ t. render l ++ 10 ∷ t) (text_of-append a b) ∙ sym (append_assoc (render l) (10 ∷ text_of a) (text_of b))
 
 -- skipping k bytes
 lexemes_after-drop : (k : ℕ) (bs : List ℕ) → lexemes_after k bs ≡ lexemes_after 0 (drop k bs)

@@ -3,8 +3,8 @@ use Rattle.std.specs.Prelude.{◌≡◌, ℕ, ◌+◌, ◌^◌, ◌≤◌, ◌<�
 use Rattle.lh_types.specs.Types.{TypeTree}
 use Rattle.lh_unit.specs.Contents.{ItemText, UnitText, InstText, unit_text, declare_text, last_unit}
 use Rattle.lh_unit.specs.Table.{Table, no_table, line_at, insts_at, IsTable, AllDistinct}
-use Rattle.lh_unit.specs.Within.{Sizes, InstWithin}
-use Rattle.lh_unit.specs.Naming.{Naming, inst_text, table_text}
+use Rattle.lh_unit.specs.Within.{Sizes, sizes_of, InstWithin}
+use Rattle.lh_unit.specs.Naming.{Naming, naming_of, inst_text, table_text}
 use Rattle.lh_unit.specs.declared.name.UnitName.{UnitName}
 use Rattle.lh_unit.specs.declared.inst.UnitId.{UnitId}
 use Rattle.lh_unit.specs.declared.inst.BlockId.{BlockId}
@@ -84,12 +84,12 @@ inst_at a u i = (line_at (table_at a u) i).inst
 abbrev pub result_at : Arena → ℕ → ℕ → Option ValueId
 result_at a u i = (line_at (table_at a u) i).result
 
--- the names that ids of the unit u stand for
+-- the names that ids of the unit u stand for, and how many ids there are
 abbrev pub naming : Arena → ℕ → Naming
-naming a u = record { unit_name = unit_name_at a; value_name = value_name_at a u; label_name = label_name_at a u }
+naming a u = naming_of (unit_name_at a) (table_at a u)
 
 abbrev pub sizes : Arena → ℕ → Sizes
-sizes a u = record { units = unit_count a; values = value_count a u; labels = label_count a u }
+sizes a u = sizes_of (unit_count a) (table_at a u)
 
 -- the text of an instruction of the unit u
 abbrev pub inst_text_at : Arena → ℕ → Inst → InstText

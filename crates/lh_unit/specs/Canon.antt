@@ -1,5 +1,5 @@
 -- The canonical text of a file, one case for each spelling of the language.
-use Rattle.std.specs.Prelude.{ℕ, nat_eq, not, Bool, List, [], ◌∷◌, ◌++◌, map, filter, Option, Some, None, if◌then◌else◌, codes}
+use Rattle.std.specs.Prelude.{ℕ, nat_eq, not, Bool, true, false, List, [], ◌∷◌, ◌++◌, map, filter, Option, Some, None, if◌then◌else◌, codes}
 use Rattle.lh_types.specs.Types.{TypeTree, row_of}
 use Rattle.lh_types.specs.declared.op.Op.{Op}
 use Rattle.lh_types.specs.declared.op.Op.TheVariants as op
@@ -92,10 +92,14 @@ inst_pieces (ret_text None) = keyword "ret"
 -- ret V %v
 inst_pieces (ret_text (Some v)) = keyword "ret" ␣ operand v
 
--- four spaces, `%r = ` before what gives a value, and the instruction
+-- `%r = ` before what gives a value
+abbrev pub assigned : Option (List ℕ) → List Piece
+assigned None = []
+assigned (Some r) = percent r ␣ mark equals ␣ []
+
+-- an instruction, behind four spaces and what it is assigned to
 abbrev pub line_pieces : Option (List ℕ) → InstText → List Piece
-line_pieces None i = space ∷ space ∷ space ∷ space ∷ inst_pieces i
-line_pieces (Some r) i = space ∷ space ∷ space ∷ space ∷ percent r ␣ mark equals ␣ inst_pieces i
+line_pieces r i = space ∷ space ∷ space ∷ space ∷ assigned r ++ inst_pieces i
 
 abbrev pub inst_line : LineText → List Piece
 inst_line l = line_pieces l.result l.inst
@@ -119,15 +123,18 @@ argument a = type_pieces a.ty ␣ percent a.name
 abbrev pub arguments : List ArgText → List Piece
 arguments args = commas (map argument args)
 
-abbrev pub inputs_of : List ArgText → List ArgText
-inputs_of args = filter (λ a. not a.output) args
+-- whether an argument is an output, or whether it is none
+abbrev pub on_side : Bool → ArgText → Bool
+on_side true a = a.output
+on_side false a = not a.output
 
-abbrev pub outputs_of : List ArgText → List ArgText
-outputs_of args = filter (λ a. a.output) args
+-- the outputs among arguments, or the others
+abbrev pub side_of : Bool → List ArgText → List ArgText
+side_of output args = filter (on_side output) args
 
 -- (S1 %a1) -> (S2 %a2) {
 abbrev pub ports : List ArgText → List Piece
-ports args = in_parens (arguments (inputs_of args)) ␣ mark arrow ␣ in_parens (arguments (outputs_of args)) ␣ mark open_brace
+ports args = in_parens (arguments (side_of false args)) ␣ mark arrow ␣ in_parens (arguments (side_of true args)) ␣ mark open_brace
 
 -- R {
 abbrev pub result_pieces : Option TypeTree → List Piece

@@ -1,5 +1,6 @@
 -- Every id that an instruction holds is an entry.
-use Rattle.std.specs.Prelude.{ℕ, ◌<◌, List, [], ◌∷◌, Option, Some, None}
+use Rattle.std.specs.Prelude.{ℕ, ◌<◌, List, [], ◌∷◌, length, Option, Some, None}
+use Rattle.lh_unit.specs.Table.{Table}
 use Rattle.lh_unit.specs.declared.inst.Typed.{Typed}
 use Rattle.lh_unit.specs.declared.inst.RegTrigger.{RegTrigger}
 use Rattle.lh_unit.specs.declared.inst.PhiEdge.{PhiEdge}
@@ -12,6 +13,10 @@ pub record Sizes : Type 0 where
   pub units : ℕ
   pub values : ℕ
   pub labels : ℕ
+
+-- the sizes of a unit with this table, in a module with n units
+abbrev pub sizes_of : ℕ → Table → Sizes
+sizes_of n t = record { units = n; values = length t.values; labels = length t.labels }
 
 -- each item of a list
 abbrev pub Each : {X : Type 0} → (X → Type 0) → List X → Type 0

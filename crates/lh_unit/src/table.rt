@@ -183,17 +183,17 @@ impl UnitTable {
     {
         let id = self.lines.len();
         if id >= 65536 {
-            return Err(UnitFault::UnitTooLarge);
+            return refuse(inst, UnitFault::UnitTooLarge);
         }
         if is_marked(&self.flags, value) {
-            return Err(UnitFault::DuplicateName);
+            return refuse(inst, UnitFault::DuplicateName);
         }
         if self.lines.reserve(1).is_err() {
-            return Err(UnitFault::OutOfMemory);
+            return refuse(inst, UnitFault::OutOfMemory);
         }
         let last = self.blocks[self.blocks.len() - 1];
-        if push_id(&mut self.bodies[last.0 as usize], InstId(id as u32)).is_err() {
-            return Err(UnitFault::OutOfMemory);
+        if push_id(&mut self.bodies, last, InstId(id as u32)).is_err() {
+            return refuse(inst, UnitFault::OutOfMemory);
         }
         push_line(
             &mut self.lines,
@@ -323,7 +323,16 @@ fn push_arg(args: &mut Vec<Arg>, arg: Arg) -> Result<(), NoMemory>
 }
 
 // Adds an instruction to the body of a block that stands.
-fn push_id(body: &mut Option<InstIdList>, id: InstId) -> Result<(), NoMemory>
+fn push_id(bodies: &mut Vec<Option<InstIdList>>, block: BlockId, id: InstId) -> Result<(), NoMemory>
+    requires within { block.0 < length bodies.old.items }
+    requires stands { IsSome (slice_index_or bodies.old.items block.0 None) }
+    ensures ok { OnOk result (bodies.new.items ≡ slice_set bodies.old.items block.0 (Some (unwrap_or (slice_index_or bodies.old.items block.0 None) [] ++ id ∷ []))) }
+    ensures err { OnErr result (bodies.new.items ≡ bodies.old.items) }
+{
+    push_to(&mut bodies[block.0 as usize], id)
+}
+
+fn push_to(body: &mut Option<InstIdList>, id: InstId) -> Result<(), NoMemory>
     requires { IsSome body.old }
     ensures ok { OnOk result (body.new ≡ Some (unwrap_or body.old [] ++ id ∷ [])) }
     ensures err { OnErr result (body.new ≡ body.old) }
@@ -332,6 +341,14 @@ fn push_id(body: &mut Option<InstIdList>, id: InstId) -> Result<(), NoMemory>
         Some(list) => list.push(id),
         None => unreachable!(),
     }
+}
+
+// Drops an instruction that is not taken; on its own, since a drop has a case for each kind of instruction.
+fn refuse(inst: Inst, fault: UnitFault) -> Result<InstId, UnitFault>
+    ensures { result ≡ Err fault }
+{
+    drop(inst);
+    Err(fault)
 }
 
 // Adds a line where memory was reserved for it.

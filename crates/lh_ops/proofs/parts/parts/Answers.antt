@@ -1,6 +1,3 @@
-use Rattle.std.proofs.Common.{◌≡◌, ◌∙◌, sym, ap}
-use Rattle.lh_types.specs.ValueOf.{datum_of}
-use Rattle.lh_ops.specs.Operands.{parts_within}
 use Rattle.lh_ops.proofs.RowLemmas.{parts_of-data_row}
 use Rattle.lh_ops.proofs.parts.parts.Goals as goal
 

@@ -1,5 +1,4 @@
-use Rattle.std.proofs.Common.{◌≡◌, ◌∙◌, sym, arith, true}
-use Rattle.lh_ops.specs.Signs.{has_sign}
+use Rattle.std.proofs.Common.{◌∙◌, sym}
 use Rattle.lh_ops.proofs.SignLemmas.{negated_abs}
 use Rattle.lh_ops.proofs.signs.magnitude.Goals as goal
 

@@ -1,4 +1,3 @@
-use Rattle.std.proofs.Common.{arith}
 use Rattle.lh_ops.proofs.TestLemmas.{wide_shift_fits}
 use Rattle.lh_ops.proofs.tests.shift_of_words.Goals as goal
 
