@@ -1,7 +1,7 @@
 -- Frames, the trace of a top up to a bound, and when two modules have the same trace.
 use Rattle.std.specs.Prelude.{◌≡◌, ℕ, zero, suc, ◌+◌, List, [], ◌∷◌, ◌++◌, map, Bool, if◌then◌else◌, Option, Some, None}
 use Rattle.lh_time.specs.declared.Instant.{Instant}
-use Rattle.lh_types.specs.Types.{bit_count}
+use Rattle.lh_types.specs.Types.{TypeTree, bit_count}
 use Rattle.lh_types.specs.Values.{Datum}
 use Rattle.lh_types.specs.Bits.{value_from_bits}
 use Rattle.lh_types.specs.History.{bits_at}
@@ -39,10 +39,19 @@ pub record Shown : Type 0 where
   pub label : List ℕ
   pub parent : Option ℕ
 
+-- a signal as the trace shows it
+pub record ShownSignal : Type 0 where
+  pub instance : ℕ
+  pub name : List ℕ
+  pub ty : TypeTree
+
+abbrev pub shown_signal : Signal → ShownSignal
+shown_signal s = record { instance = s.instance; name = s.name; ty = s.ty }
+
 -- the refusal of elaboration, or the instances, the signals and the run
 pub data Trace : Type 0 where
   refuses : Refusal → Trace
-  ran : (instances : List Shown) → (signals : List Signal) → Run → Trace
+  ran : (instances : List Shown) → (signals : List ShownSignal) → Run → Trace
 
 -- the least instance that ran away, the first of these having this number
 abbrev pub least_runaway : ℕ → List Act → Option ℕ
@@ -98,7 +107,7 @@ shown_from k (i ∷ more) = record { label = instance_label k i; parent = i.pare
 -- the trace of a module that elaborates so
 abbrev pub trace_by : (bound : ℕ) → List ItemText → (n : ℕ) → Elaborated → Trace
 trace_by bound items n (refused r) = refuses r
-trace_by bound items n (built d) = ran (shown_from 0 d.instances) d.signals (run_from bound items d n (first_world items d))
+trace_by bound items n (built d) = ran (shown_from 0 d.instances) (map shown_signal d.signals) (run_from bound items d n (first_world items d))
 
 -- the same under any bound on the instructions of an activation
 abbrev pub trace_within : (bound : ℕ) → List ItemText → (top : UnitName) → (n : ℕ) → Trace
