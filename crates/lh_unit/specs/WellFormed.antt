@@ -9,6 +9,8 @@ use Rattle.lh_unit.specs.declared.name.UnitName.{UnitName}
 use Rattle.lh_unit.specs.declared.inst.UnitKind.{UnitKind}
 use Rattle.lh_unit.specs.declared.inst.UnitKind.TheVariants as kind
 use Rattle.lh_unit.specs.Contents.{OperandText, EdgeText, InstText, const_text, pure_text, var_text, ld_text, st_text, sig_text, prb_text, drv_text, reg_text, child_text, call_text, phi_text, br_text, branch_text, wait_text, halt_text, ret_text, LineText, BlockText, ArgText, UnitText, ItemText, unit_text, declare_text, defines_unit, defines_value, defines_label, args_define, blocks_define, lines_define, same_name}
+use Rattle.lh_unit.specs.Reads.{Reads}
+use Rattle.lh_unit.specs.Canon.{canon}
 use Rattle.lh_unit.specs.Named.{unit_named, block_of, is_assert, is_function, label_or}
 use Rattle.lh_unit.specs.Typing.{inst_giving, first_type}
 use Rattle.lh_unit.specs.Kinds.{Use, uses, takes, value_kind}
@@ -299,6 +301,14 @@ pub record IsFirstFault (items : List ItemText) (unit : UnitName) (inst : ℕ) (
   pub lowest : (j : FaultKind) → number_of j < number_of k → ¬ HasFault items site j
   pub none_before : NoneHasFault items before
 
--- No instruction has a fault. A module is well formed where this holds and it is spelled.
+-- no instruction has a fault
 abbrev pub IsFaultless : List ItemText → Type 0
 IsFaultless items = NoneHasFault items (sites items)
+
+-- its canonical text reads as this module
+abbrev pub IsSpelled : List ItemText → Type 0
+IsSpelled items = Reads (canon items) items
+
+-- A module is well formed where it is spelled and no instruction has a fault.
+abbrev pub IsWellFormed : List ItemText → Type 0
+IsWellFormed items = IsSpelled items × IsFaultless items
