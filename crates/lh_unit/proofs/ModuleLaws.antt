@@ -1,7 +1,8 @@
 -- What callers may cite of a module: entries stay, names tell ids apart, the open unit is the last item.
 use Rattle.std.proofs.Common.{◌≡◌, ℕ, ◌+◌, ◌<◌, ◌≤◌, zero, suc, true, List, [], ◌∷◌, ◌++◌, length, map, Option, Some, None, IsSome, IsSomeAnd, slice_get, refl, ap, sym, ◌∙◌, subst, arith}
 use Rattle.std.proofs.lemmas.Option.{slice_get-get_or}
-use Rattle.lh_unit.specs.Contents.{UnitText, last_unit}
+use Rattle.lh_unit.specs.Contents.{ItemText, UnitText, BlockText, LineText, unit_text, declare_text, last_unit, change_last, line_at_end}
+use Rattle.lh_unit.specs.Builders.{Says}
 use Rattle.lh_unit.specs.Table.{Table, IsTable, AllDistinct, is_block, insts_at}
 use Rattle.lh_unit.specs.Within.{Sizes, Each, ValueWithin, MaybeWithin, OperandWithin, TriggerWithin, EdgeWithin, InstWithin}
 use Rattle.lh_unit.specs.Naming.{value_text, maybe_text, operand_text, trigger_text, edge_text}
@@ -140,3 +141,41 @@ block-within a u i b o h p = stands-within (table_at a u) b.0 (o.tables u h) (is
 
 pub block_insts-within : (a : Arena) (u i : ℕ) (b : BlockId) → IsArena a → u < unit_count a → slice_get (blocks_at a u) i ≡ Some b → Each (λ (x : InstId). x.0 < inst_count a u) (block_insts_at a u b.0)
 block_insts-within a u i b o h p = insts-within (table_at a u) (o.tables u h) i b p
+
+-- the last unit of contents that were changed or grew
+pub last_unit-append : (items : List ItemText) (t : UnitText) → last_unit (items ++ unit_text t ∷ []) ≡ Some t
+last_unit-append items t = contents_lemmas.last_unit-push items t
+
+last_unit-cons : (x : ItemText) (items : List ItemText) (t : UnitText) → last_unit items ≡ Some t → last_unit (x ∷ items) ≡ Some t
+last_unit-cons x [] t e = cc
+last_unit-cons (unit_text x) (y ∷ items) t e = e
+last_unit-cons (declare_text x) (y ∷ items) t e = e
+
+pub last_unit-change_last : (f : UnitText → UnitText) (items : List ItemText) (t : UnitText) → last_unit items ≡ Some t → last_unit (change_last f items) ≡ Some (f t)
+last_unit-change_last f [] t e = cc
+last_unit-change_last f (unit_text x ∷ []) t e = let q : x ≡ t = cc in ap (λ z. Some (f z)) q
+last_unit-change_last f (declare_text d ∷ []) t e = cc
+last_unit-change_last f (unit_text x ∷ y ∷ items) t e = last_unit-cons (unit_text x) (change_last f (y ∷ items)) (f t) (last_unit-change_last f (y ∷ items) t e)
+last_unit-change_last f (declare_text x ∷ y ∷ items) t e = last_unit-cons (declare_text x) (change_last f (y ∷ items)) (f t) (last_unit-change_last f (y ∷ items) t e)
+
+-- what holds of the open unit after a call
+of_some : (o : Option UnitText) (P : UnitText → Type 0) → IsSomeAnd o P → (t : UnitText) × (o ≡ Some t) × P t
+of_some None P h = absurd h
+of_some (Some t) P h = (t, refl, h)
+
+pub OfOpen-change : (a b : Arena) (u : UnitId) (f : UnitText → UnitText) (P : UnitText → Type 0) → Says a b u (change_last f (contents a)) → OfOpen a (λ t. P (f t)) → OfOpen b P
+OfOpen-change a b u f P s h =
+    let t = of_some (last_unit (contents a)) (λ t. P (f t)) h in
+    OfOpen-from b P (f t.0) (ap last_unit s.says ∙ last_unit-change_last f (contents a) t.0 t.1) t.2
+
+pub OfOpen-grows : (a b : Arena) (P : UnitText → Type 0) → Grows a b → OfOpen a P → OfOpen b P
+OfOpen-grows a b P g h = subst (λ o. IsSomeAnd o P) (sym (ap last_unit g.says)) h
+
+pub OfOpen-begun : (a b : Arena) (u : UnitId) (t : UnitText) (P : UnitText → Type 0) → Says a b u (contents a ++ unit_text t ∷ []) → P t → OfOpen b P
+OfOpen-begun a b u t P s h = OfOpen-from b P t (ap last_unit s.says ∙ last_unit-append (contents a) t) h
+
+-- a line adds no block
+pub length-line_at_end : (l : LineText) (bs : List BlockText) → length (line_at_end l bs) ≡ length bs
+length-line_at_end l [] = refl
+length-line_at_end l (b ∷ []) = refl
+length-line_at_end l (b ∷ c ∷ bs) = ap suc (length-line_at_end l (c ∷ bs))
