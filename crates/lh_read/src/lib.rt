@@ -3,5 +3,6 @@
 
 pub mod list;
 pub mod numbers;
+pub mod syntax;
 pub mod tokens;
 pub mod types;
