@@ -3,3 +3,4 @@ pub mod Spelled
 pub mod Texts
 pub mod Digits
 pub mod Lists
+pub mod Halves

@@ -18,7 +18,7 @@ use Rattle.lh_unit.specs.declared.inst.UnitKind.TheVariants as kind
 use Rattle.lh_read.specs.Pieces.{◌>>=◌, word_at, any_word_at, local_at, unit_name_at, punct_at, arrow_at, minus_at, end_at, small, small_number, front_part, comma_or_end, part_then, parts_at, empty_or, list_at}
 use Rattle.lh_read.specs.Types.{width_of, int_width, int_at, signal_at}
 use Rattle.lh_read.specs.Shorter.{bind_some}
-use Rattle.lh_read.specs.Items.{param_at, params_at, gap_at, brace_at, ports_at, header_at, positive_bits, negative_bits, integer_at, const_at, sig_at, after_word, value_at, result_at, mark_at, item_at}
+use Rattle.lh_read.specs.Items.{param_at, params_at, gap_at, brace_at, ports_at, header_at, positive_bits, negative_bits, last_number_at, integer_or, integer_at, const_at, sig_at, after_word, value_at, result_at, mark_at, item_at}
 
 guard : {A : Type 0} (b : Bool) (x y : A) → (if b then Some x else None) ≡ Some y → (b ≡ true) × (x ≡ y)
 guard true x y p = (refl, cc)
@@ -314,25 +314,25 @@ negative-sound n (Some k) b p =
     within : (x y : ℕ) → nat_le x y ≡ true → x ≤ y
     within x y t = grind (arith, common_steps)
 
-integer_at-plain : (n : ℕ) (ts : List Lexeme) (b : ℕ) → (any_word_at ts >>= λ w. (end_at w.1 >>= λ _. positive_bits n (small_number w.0))) ≡ Some b → SpellsInteger n b ts
-integer_at-plain n ts b p =
-    let a = bind_some (any_word_at ts) _ b p in
-    let e = bind_some (end_at a.0.1) _ b a.2 in
-    let s = positive-sound n (small_number a.0.0) b e.2 in
-    inl (a.0.0, any_word_at-inv ts a.0 a.1 ∙ ap (λ l. word a.0.0 ∷ l) (end_at-inv a.0.1 e.0 e.1), small-inv (number_of a.0.0) b s.0, s.1)
+last_number_at-inv : (ts : List Lexeme) (k : ℕ) → last_number_at ts ≡ Some k → (w : List ℕ) × (ts ≡ word w ∷ []) × (number_of w ≡ Some k)
+last_number_at-inv ts k p =
+    let a = bind_some (any_word_at ts) _ k p in
+    let e = bind_some (end_at a.0.1) _ k a.2 in
+    (a.0.0, any_word_at-inv ts a.0 a.1 ∙ ap (λ l. word a.0.0 ∷ l) (end_at-inv a.0.1 e.0 e.1), small-inv (number_of a.0.0) k e.2)
 
-integer_at-minus : (n : ℕ) (ts : List Lexeme) (b : ℕ) → (any_word_at ts >>= λ w. (end_at w.1 >>= λ _. negative_bits n (small_number w.0))) ≡ Some b → SpellsInteger n b (minus ∷ ts)
-integer_at-minus n ts b p =
-    let a = bind_some (any_word_at ts) _ b p in
-    let e = bind_some (end_at a.0.1) _ b a.2 in
-    let s = negative-sound n (small_number a.0.0) b e.2 in
-    inr (a.0.0, s.0, ap (λ l. minus ∷ l) (any_word_at-inv ts a.0 a.1 ∙ ap (λ l. word a.0.0 ∷ l) (end_at-inv a.0.1 e.0 e.1)), small-inv (number_of a.0.0) s.0 s.1, s.2, s.3)
+minus_at-inv : (ts us : List Lexeme) → minus_at ts ≡ Some us → ts ≡ minus ∷ us
+minus_at-inv (minus ∷ ts) us p = cc
+minus_at-inv _ us p = cc
 
 integer_at-sound : (n : ℕ) (ts : List Lexeme) (b : ℕ) → integer_at n ts ≡ Some b → SpellsInteger n b ts
 unfolding integer_at
-integer_at-sound n (minus ∷ ts) b p = integer_at-minus n ts b p
-integer_at-sound n (word w ∷ ts) b p = integer_at-plain n (word w ∷ ts) b p
-integer_at-sound n _ b p = cc
+integer_at-sound n ts b p = by (minus_at ts) refl p
+  where
+    by : (o : Option (List Lexeme)) → minus_at ts ≡ o → integer_or n ts o ≡ Some b → SpellsInteger n b ts
+    by None e q = let s = positive-sound n (last_number_at ts) b q in let w = last_number_at-inv ts b s.0 in inl (w.0, w.1, w.2, s.1)
+    by (Some us) e q =
+        let s = negative-sound n (last_number_at us) b q in let w = last_number_at-inv us s.0 s.1 in
+        inr (w.0, s.0, minus_at-inv ts us e ∙ ap (λ l. minus ∷ l) w.1, w.2, s.2, s.3)
 
 positive-again : (n b : ℕ) → n ≤ 128 → b < 2 ^ n → positive_bits n (small (Some b)) ≡ Some b
 positive-again n b h l =

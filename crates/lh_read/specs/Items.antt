@@ -61,16 +61,20 @@ abbrev pub negative_bits : ℕ → Option ℕ → Option ℕ
 negative_bits n None = None
 negative_bits n (Some k) = if nat_le k (2 ^ (n - 1)) then Some ((2 ^ n - k) % (2 ^ n)) else None
 
+-- the number that ends the line
+abbrev pub last_number_at : List Lexeme → Option ℕ
+last_number_at ts = do
+  w ← any_word_at ts
+  _ ← end_at w.1
+  small_number w.0
+
+abbrev pub integer_or : ℕ → List Lexeme → Option (List Lexeme) → Option ℕ
+integer_or n ts None = positive_bits n (last_number_at ts)
+integer_or n ts (Some us) = negative_bits n (last_number_at us)
+
 -- the bits of a constant of n bits
 unfoldable pub integer_at : ℕ → List Lexeme → Option ℕ
-integer_at n (minus ∷ ts) = do
-  w ← any_word_at ts
-  _ ← end_at w.1
-  negative_bits n (small_number w.0)
-integer_at n ts = do
-  w ← any_word_at ts
-  _ ← end_at w.1
-  positive_bits n (small_number w.0)
+integer_at n ts = integer_or n ts (minus_at ts)
 
 unfoldable pub const_at : List Lexeme → Option InstText
 const_at ts = do

@@ -3,6 +3,7 @@
 
 pub mod list;
 pub mod numbers;
+pub mod parse;
 pub mod syntax;
 pub mod tokens;
 pub mod types;
