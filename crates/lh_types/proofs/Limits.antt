@@ -1,9 +1,9 @@
 -- The limits of data types, and of rows of them.
-use Rattle.std.proofs.Common.{◌≡◌, ℕ, ◌+◌, ◌*◌, ◌<◌, ◌≤◌, List, [], ◌∷◌, length, ◌≢◌, ◌&&◌, true, false, nat_lt, None, refl, arith}
+use Rattle.std.proofs.Common.{◌≡◌, ◌+◌, ◌<◌, ◌≤◌, List, [], ◌∷◌, length, ◌≢◌, true, false, nat_lt, None, refl, arith}
 use Rattle.std.proofs.lemmas.Nat.{mul-le}
 use Rattle.std.proofs.lemmas.Bool.Decides.{nat_tests}
-use Rattle.lh_types.specs.Faults.{is_data, all_data, tuple_fault}
-use Rattle.lh_types.specs.Types.{TypeTree, TypeRow, int_type, time_type, void_type, array_type, tuple_type, signal_type, pointer_type, no_types, more_types, row_of, AreData, IsData, IsLimited, bit_count, bit_count_row, depth_of, depth_of_row}
+use Rattle.lh_types.specs.Faults.{all_data, tuple_fault}
+use Rattle.lh_types.specs.Types.{TypeTree, TypeRow, int_type, time_type, void_type, array_type, tuple_type, signal_type, pointer_type, no_types, more_types, row_of, AreData, IsData, bit_count, bit_count_row, depth_of, depth_of_row}
 
 -- a data type has at least one bit
 pub one_le-bit_count : (t : TypeTree) → IsData t → 1 ≤ bit_count t

@@ -1,5 +1,5 @@
 -- Parts of types, step by step.
-use Rattle.std.proofs.Common.{◌≡◌, ℕ, ◌+◌, ◌-◌, ◌*◌, ◌<◌, ◌≤◌, zero, suc, Bool, true, false, ◌&&◌, nat_lt, nat_le, List, [], ◌∷◌, length, get_or, drop, refl, ap, sym, ◌∙◌, subst, arith, Option, Some, None, add_assoc}
+use Rattle.std.proofs.Common.{◌≡◌, ℕ, ◌+◌, ◌-◌, ◌*◌, ◌<◌, ◌≤◌, zero, suc, Bool, true, false, ◌&&◌, nat_lt, nat_le, List, length, get_or, drop, refl, ap, sym, ◌∙◌, subst, arith, Option, Some, None, add_assoc}
 use Rattle.std.specs.Option.{option_map, option_and_then}
 use Rattle.std.proofs.lemmas.List.{drop_all, drop_more}
 use Rattle.std.proofs.lemmas.Nat.{mul-le, row_fits}
@@ -56,38 +56,40 @@ pub record Within (bits : ℕ) (p : Part) : Type 0 where
   pub is_data : IsData p.of
   pub inside : p.lo + bit_count p.of ≤ bits
 
-within_if : (b : Bool) (bits lo : ℕ) (t : TypeTree) (p : Part) → part_if b lo t ≡ Some p → (b ≡ true → IsData t) → (b ≡ true → lo + bit_count t ≤ bits) → Within bits p
-within_if true bits lo t p e d h = let q : record { lo = lo; of = t } ≡ p = same_Some _ _ e in subst (Within bits) q (record { is_data = d refl; inside = h refl })
-within_if false bits lo t p e d h = absurd (none-some _ e)
+-- what holds of a part where the test holds
+pub part_if-holds : (P : Part → Type 0) (b : Bool) (lo : ℕ) (t : TypeTree) (p : Part) → part_if b lo t ≡ Some p → (b ≡ true → P (record { lo = lo; of = t })) → P p
+part_if-holds P true lo t p e h = subst P (same_Some _ _ e) (h refl)
+part_if-holds P false lo t p e h = absurd (none-some _ e)
 
-within_beyond : (n bits : ℕ) (o : Option Part) (p : Part) → option_map (part_beyond n) o ≡ Some p → ((q : Part) → o ≡ Some q → Within bits q) → Within (n + bits) p
-within_beyond n bits None p e f = absurd (none-some _ e)
-within_beyond n bits (Some q) p e f =
-    let w = f q refl in
-    subst (Within (n + bits)) (same_Some _ _ e) (record { is_data = w.is_data; inside = omega (arith, w.inside) })
-
-Within-le : (m n : ℕ) (p : Part) → Within m p → m ≤ n → Within n p
-Within-le m n p w h = record { is_data = w.is_data; inside = omega (arith, w.inside) }
+-- what holds of each part further on
+pub part_beyond-holds : (P : Part → Type 0) (n : ℕ) (o : Option Part) (p : Part) → option_map (part_beyond n) o ≡ Some p → ((q : Part) → o ≡ Some q → P (part_beyond n q)) → P p
+part_beyond-holds P n None p e h = absurd (none-some _ e)
+part_beyond-holds P n (Some q) p e h = subst P (same_Some _ _ e) (h q refl)
 
 field_part-within : (ts : TypeRow) (k : ℕ) (p : Part) → AreData ts → field_part ts k ≡ Some p → Within (bit_count_row ts) p
 field_part-within no_types k p h e = absurd (none-some _ e)
 field_part-within (more_types t ts) zero p h e = subst (Within (bit_count t + bit_count_row ts)) (same_Some _ _ e) (record { is_data = h.0; inside = omega arith })
-field_part-within (more_types t ts) (suc k) p h e = within_beyond (bit_count t) (bit_count_row ts) (field_part ts k) p e (λ q g. field_part-within ts k q h.1 g)
+field_part-within (more_types t ts) (suc k) p h e =
+    part_beyond-holds (Within (bit_count t + bit_count_row ts)) (bit_count t) (field_part ts k) p e (λ q g. let w = field_part-within ts k q h.1 g in record { is_data = w.is_data; inside = omega (arith, w.inside) })
 
-slice_facts : (len at n : ℕ) → (nat_le 1 len && nat_le (at + len) n) ≡ true → (1 ≤ len) × (at + len ≤ n)
+pub slice_facts : (len at n : ℕ) → (nat_le 1 len && nat_le (at + len) n) ≡ true → (1 ≤ len) × (at + len ≤ n)
 slice_facts len at n h = let b = and_both (nat_le 1 len) (nat_le (at + len) n) h in (let x = b.0 in grind (arith, nat_tests), let y = b.1 in grind (arith, nat_tests))
 
 -- the part that a step leads to lies within the whole
 pub step_part-within : (t : TypeTree) (s : Step) (p : Part) → IsData t → step_part t s ≡ Some p → Within (bit_count t) p
 step_part-within (array_type n t) (Field k) p h e =
-    within_if (nat_lt k n) _ _ t p e (λ _. h.0) (λ b. let lt : k < n = grind (arith, nat_tests) in row_fits k (bit_count t) n (bit_count t) lt (omega arith))
+    part_if-holds (Within (n * bit_count t)) (nat_lt k n) _ t p e (λ b. let lt : k < n = grind (arith, nat_tests) in record { is_data = h.0; inside = row_fits k (bit_count t) n (bit_count t) lt (omega arith) })
 step_part-within (tuple_type ts) (Field k) p h e = field_part-within ts k p h.0 e
 step_part-within (int_type n) (Slice at len) p h e =
-    within_if _ _ _ (int_type len) p e (λ b. let f = slice_facts len at n b in (f.0, omega (arith, f.1))) (λ b. let f = slice_facts len at n b in f.1)
+    part_if-holds (Within n) _ _ (int_type len) p e (λ b. let f = slice_facts len at n b in record { is_data = (f.0, omega (arith, f.1)); inside = f.1 })
 step_part-within (array_type n t) (Slice at len) p h e =
-    within_if _ _ _ (array_type len t) p e
-    (λ b. let f = slice_facts len at n b in (h.0, f.0, omega (arith, f.1), omega (arith, mul-le len (bit_count t) n (bit_count t) (omega (arith, f.1)) (omega arith)), h.4))
-    (λ b. let f = slice_facts len at n b in omega (arith, mul-le (at + len) (bit_count t) n (bit_count t) f.1 (omega arith)))
+    part_if-holds (Within (n * bit_count t)) _ _ (array_type len t) p e (λ b.
+    let f = slice_facts len at n b in
+    let w = bit_count t in
+    record {
+      is_data = (h.0, f.0, omega (arith, f.1), omega (arith, mul-le len (bit_count t) n (bit_count t) (omega (arith, f.1)) (omega arith)), h.4);
+      inside = omega (arith, mul-le (at + len) (bit_count t) n (bit_count t) f.1 (omega arith));
+    })
 step_part-within time_type s p h e = absurd h
 step_part-within void_type s p h e = absurd h
 step_part-within (signal_type t) s p h e = absurd h
@@ -95,7 +97,8 @@ step_part-within (pointer_type t) s p h e = absurd h
 step_part-within (int_type n) (Field k) p h e = absurd (none-some _ e)
 step_part-within (tuple_type ts) (Slice at len) p h e = absurd (none-some _ e)
 
-part_beyond-zero : (o : Option Part) → option_map (part_beyond 0) o ≡ o
+-- no bits further on
+pub part_beyond-zero : (o : Option Part) → option_map (part_beyond 0) o ≡ o
 part_beyond-zero None = refl
 part_beyond-zero (Some p) = let e : 0 + p.lo ≡ p.lo = omega arith in ap (λ n. Some (record { lo = n; of = p.of })) e
 

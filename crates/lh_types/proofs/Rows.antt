@@ -1,7 +1,7 @@
 -- Rows of types, walked by an index.
 use Rattle.std.proofs.Common.{◌≡◌, ℕ, ◌+◌, ◌<◌, ◌≤◌, zero, suc, List, [], ◌∷◌, length, get_or, drop, max, ◌≢◌, ◌&&◌, true, false, refl, ap, sym, ◌∙◌, subst, add-one, drop-cons, arith}
 use Rattle.lh_types.specs.Faults.{is_data, all_data}
-use Rattle.lh_types.specs.Types.{TypeTree, TypeRow, more_types, row_of, node_count, node_count_row, AreData, IsData, bit_count, bit_count_row, depth_of, depth_of_row, same_type, same_row}
+use Rattle.lh_types.specs.Types.{TypeTree, more_types, row_of, node_count, node_count_row, AreData, IsData, bit_count, bit_count_row, depth_of, depth_of_row, same_type, same_row}
 
 pub row_of-drop : (xs : List TypeTree) (i : ℕ) (d : TypeTree) → i < length xs → row_of (drop i xs) ≡ more_types (get_or xs i d) (row_of (drop (i + 1) xs))
 row_of-drop xs i d h = rw (add-one, drop-cons xs i d) refl

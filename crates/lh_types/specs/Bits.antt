@@ -1,5 +1,5 @@
 -- The bits of a value, and the value that bits are.
-use Rattle.std.specs.Prelude.{◌≡◌, ℕ, ◌+◌, ◌*◌, ◌/◌, ◌%◌, Bool, true, false, nat_eq, List, [], ◌∷◌, ◌++◌, take, drop}
+use Rattle.std.specs.Prelude.{ℕ, ◌+◌, ◌*◌, ◌/◌, ◌%◌, Bool, true, false, nat_eq, List, [], ◌∷◌, ◌++◌, take, drop}
 use Rattle.std.proofs.Common.{zero, suc}
 use Rattle.lh_types.specs.Types.{TypeTree, TypeRow, int_type, time_type, void_type, array_type, tuple_type, signal_type, pointer_type, no_types, more_types, bit_count}
 use Rattle.lh_types.specs.Values.{Datum, DatumRow, int_value, time_value, array_value, tuple_value, no_values, more_values}
@@ -23,6 +23,7 @@ abbrev mutual
   value_bits (array_value vs) = row_bits vs
   value_bits (tuple_value vs) = row_bits vs
 
+  -- the bits of each in order
   pub row_bits : DatumRow → List Bool
   row_bits no_values = []
   row_bits (more_values v vs) = value_bits v ++ row_bits vs
@@ -43,6 +44,7 @@ abbrev mutual
   value_from_bits (signal_type t) bs = value_from_bits t bs
   value_from_bits (pointer_type t) bs = int_value 0 0
 
+  -- the values of these types that stand one after the other at the front of the bits
   pub row_from_bits : TypeRow → List Bool → DatumRow
   row_from_bits no_types bs = no_values
   row_from_bits (more_types t ts) bs = more_values (value_from_bits t (take (bit_count t) bs)) (row_from_bits ts (drop (bit_count t) bs))

@@ -1,6 +1,6 @@
 -- Which fault a constructor of types answers.
 use Rattle.std.specs.Prelude.{◌≡◌, ℕ, ◌+◌, ◌*◌, Bool, true, false, not, ◌&&◌, ◌||◌, nat_eq, nat_lt, if◌then◌else◌, Option, Some, None, Result, Ok, Err}
-use Rattle.lh_types.specs.Types.{TypeTree, TypeRow, int_type, time_type, array_type, tuple_type, signal_type, pointer_type, no_types, more_types, bit_count, depth_of, bit_count_row, depth_of_row, IsLimited, IsData}
+use Rattle.lh_types.specs.Types.{TypeTree, TypeRow, int_type, time_type, array_type, tuple_type, no_types, more_types, bit_count, depth_of, bit_count_row, depth_of_row}
 use Rattle.lh_types.specs.declared.ty.TyFault.{TyFault}
 use Rattle.lh_types.specs.declared.ty.TyFault.TheVariants.{WidthRange, TooManyBits, TooDeep, Empty, WrongPart, OutOfMemory}
 
@@ -21,6 +21,7 @@ abbrev pub all_data : TypeRow → Bool
 all_data no_types = true
 all_data (more_types t ts) = is_data t && all_data ts
 
+-- whether there is none
 abbrev pub is_empty_row : TypeRow → Bool
 is_empty_row no_types = true
 is_empty_row _ = false

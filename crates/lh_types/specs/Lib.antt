@@ -12,3 +12,11 @@ pub mod Bits
 pub mod Parts
 pub mod Raised
 pub mod PlaceOf
+pub mod SameValue
+pub mod SameValueLaws
+pub mod Laws
+pub mod ApplyInt
+pub mod Apply
+pub mod ApplyTypes
+pub mod Wish
+pub mod History

@@ -1,5 +1,5 @@
 -- The parts of a data type: where they start, of which type they are, and their values.
-use Rattle.std.specs.Prelude.{◌≡◌, ℕ, ◌+◌, ◌-◌, ◌*◌, ◌/◌, ◌%◌, ◌^◌, Bool, true, false, ◌&&◌, nat_lt, nat_le, if◌then◌else◌, List, [], ◌∷◌, ◌++◌, length, take, drop, slice_set, slice_index_or, Option, Some, None, option_map, option_and_then}
+use Rattle.std.specs.Prelude.{ℕ, ◌+◌, ◌*◌, ◌/◌, ◌%◌, ◌^◌, Bool, ◌&&◌, nat_lt, nat_le, if◌then◌else◌, List, [], ◌∷◌, ◌++◌, length, take, drop, slice_set, slice_index_or, Option, Some, None, option_map, option_and_then}
 use Rattle.std.proofs.Common.{zero, suc}
 use Rattle.lh_types.specs.Types.{TypeTree, TypeRow, int_type, array_type, tuple_type, no_types, more_types, bit_count}
 use Rattle.lh_types.specs.Values.{Datum, DatumRow, int_value, array_value, tuple_value, no_values, more_values, data_row}
@@ -75,3 +75,13 @@ with_part (tuple_value vs) (Field k) v = tuple_value (data_row (slice_set (parts
 with_part (int_value w b) (Slice at len) (int_value n c) = int_value w (b / 2 ^ (at + len) * 2 ^ (at + len) + c * 2 ^ at + b % 2 ^ at)
 with_part (array_value vs) (Slice at len) (array_value ws) = array_value (data_row (take at (parts_of vs) ++ parts_of ws ++ drop (at + len) (parts_of vs)))
 with_part v _ _ = v
+
+-- the part of a value that steps lead to, one after the other
+abbrev pub part_along : Datum → List Step → Datum
+part_along v [] = v
+part_along v (s ∷ ss) = part_along (part_at v s) ss
+
+-- the value with the part that steps lead to replaced
+abbrev pub with_part_along : Datum → List Step → Datum → Datum
+with_part_along v [] w = w
+with_part_along v (s ∷ ss) w = with_part v s (with_part_along (part_at v s) ss w)

@@ -1,10 +1,9 @@
 -- What the node of a type is seen as.
-use Rattle.std.specs.Prelude.{◌≡◌, ℕ, ◌+◌, ◌≤◌, max, List, [], ◌∷◌}
-use Rattle.std.proofs.Common.{arith}
 use Rattle.lh_types.specs.Types.{TypeTree, int_type, time_type, void_type, array_type, tuple_type, signal_type, pointer_type, row_of}
 use Rattle.lh_types.specs.declared.ty.Node.{Node}
 use Rattle.lh_types.specs.declared.ty.Node.TheVariants.{Int, Time, Void, Array, Tuple, Signal, Pointer}
 
+-- the type, by its node
 abbrev pub type_of_node : Node → TypeTree
 type_of_node (Int n) = int_type n
 type_of_node Time = time_type

@@ -1,9 +1,9 @@
 -- A type of the language as contracts see it, with its bits, its depth and its limits.
 use Rattle.std.specs.Prelude.{◌≡◌, ℕ, ◌+◌, ◌*◌, ◌^◌, ◌≤◌, ◌<◌, max, List, [], ◌∷◌, Bool, true, false, ◌&&◌, nat_eq, refl}
-use Rattle.std.proofs.Common.{ap, sym, subst}
-use base.Stored.{Gv, gnil, gnum, gcons, num, Coded}
+use base.Stored.{Gv, gnil, gnum, gcons, Coded}
 
 mutual
+  -- `iN`, `time`, `void`, `[N x T]`, `{T1, T2}`, `T$` and `T*`
   pub data TypeTree : Type 0 where
     int_type : ℕ → TypeTree
     time_type : TypeTree
@@ -13,11 +13,12 @@ mutual
     signal_type : TypeTree → TypeTree
     pointer_type : TypeTree → TypeTree
 
+  -- the fields of a struct in order
   pub data TypeRow : Type 0 where
     no_types : TypeRow
     more_types : TypeTree → TypeRow → TypeRow
 
--- the row of a list, and the list of a row
+-- the fields of a list in order
 abbrev pub row_of : List TypeTree → TypeRow
 row_of [] = no_types
 row_of (t ∷ ts) = more_types t (row_of ts)
@@ -38,6 +39,7 @@ abbrev mutual
   bit_count_row (more_types t r) = bit_count t + bit_count_row r
 
 abbrev mutual
+  -- how deep a type nests: 1 for an integer, and 1 more than the deepest part of an array or struct
   pub depth_of : TypeTree → ℕ
   depth_of (int_type n) = 1
   depth_of time_type = 1
@@ -51,8 +53,9 @@ abbrev mutual
   depth_of_row no_types = 0
   depth_of_row (more_types t r) = max (depth_of t) (depth_of_row r)
 
--- a data type within its limits, and a row of such
 abbrev mutual
+  -- a data type within its limits: an integer of 1 to 128 bits, or an array or struct of data types
+  -- with at least one part, at most 65,536 bits, and a depth of at most 16
   pub IsData : TypeTree → Type 0
   IsData (int_type n) = (1 ≤ n) × (n ≤ 128)
   IsData time_type = ⊥
@@ -62,6 +65,7 @@ abbrev mutual
   IsData (signal_type t) = ⊥
   IsData (pointer_type t) = ⊥
 
+  -- each is a data type within its limits
   pub AreData : TypeRow → Type 0
   AreData no_types = Unit {0}
   AreData (more_types t r) = IsData t × AreData r
@@ -71,7 +75,7 @@ abbrev pub IsTime : TypeTree → Type 0
 IsTime time_type = Unit {0}
 IsTime _ = ⊥
 
--- a type of the language
+-- a type of the language: a signal carries a data type, and a pointer points to a data type or time
 abbrev pub IsLimited : TypeTree → Type 0
 IsLimited time_type = Unit {0}
 IsLimited void_type = Unit {0}
@@ -96,6 +100,7 @@ abbrev mutual
   node_count_row (more_types t r) = node_count t + node_count_row r + 1
 
 abbrev mutual
+  -- a type as stored data, which tells any two apart
   code : TypeTree → Gv
   code (int_type n) = gcons (gnum 0) (gnum n)
   code time_type = gcons (gnum 1) gnil

@@ -1,8 +1,8 @@
 -- The parts of a value weigh less than the value.
-use Rattle.std.specs.Prelude.{◌≡◌, ℕ, ◌+◌, ◌≤◌, max, List, [], ◌∷◌, map}
+use Rattle.std.specs.Prelude.{◌≤◌, max, List, [], ◌∷◌, map}
 use Rattle.std.proofs.Common.{arith}
 use denote.Param.Weighed.{most}
-use Rattle.lh_types.specs.Values.{Datum, datum_count, datum_count_row, data_row}
+use Rattle.lh_types.specs.Values.{datum_count, datum_count_row, data_row}
 use Rattle.lh_types.specs.ValueOf.{datum_of}
 use Rattle.lh_types.specs.declared.val.Val.{Val}
 use Rattle.lh_types.specs.declared.val.Val.TheVariants.{Int, Time, Array, Tuple}

@@ -4,21 +4,25 @@ use base.Stored.{Gv, gnil, gnum, gcons, Coded}
 use Rattle.lh_time.specs.declared.Delay.{Delay}
 
 mutual
+  -- an integer by its width and its bits as a number, a time, an array, or a struct
   pub data Datum : Type 0 where
     int_value : ℕ → ℕ → Datum
     time_value : Delay → Datum
     array_value : DatumRow → Datum
     tuple_value : DatumRow → Datum
 
+  -- the elements or fields in order
   pub data DatumRow : Type 0 where
     no_values : DatumRow
     more_values : Datum → DatumRow → DatumRow
 
+-- the values of a list in order
 abbrev pub data_row : List Datum → DatumRow
 data_row [] = no_values
 data_row (v ∷ vs) = more_values v (data_row vs)
 
 abbrev mutual
+  -- how many nodes it has, for recursions
   pub datum_count : Datum → ℕ
   datum_count (int_value w b) = 1
   datum_count (time_value d) = 1
@@ -30,6 +34,7 @@ abbrev mutual
   datum_count_row (more_values v vs) = datum_count v + datum_count_row vs + 1
 
 abbrev mutual
+  -- a value as stored data, which tells any two apart
   code : Datum → Gv
   code (int_value w b) = gcons (gnum 0) (gcons (gnum w) (gnum b))
   code (time_value d) = gcons (gnum 1) (gcons (gnum d.fs) (gcons (gnum d.delta) (gnum d.eps)))
@@ -40,7 +45,8 @@ abbrev mutual
   codes_of no_values = gnil
   codes_of (more_values v vs) = gcons (code v) (codes_of vs)
 
-same_delay : (d e : Delay) → d.fs ≡ e.fs → d.delta ≡ e.delta → d.eps ≡ e.eps → time_value d ≡ time_value e
+-- two delays with the same fields are one
+pub same_delay : (d e : Delay) → d.fs ≡ e.fs → d.delta ≡ e.delta → d.eps ≡ e.eps → time_value d ≡ time_value e
 same_delay d e p q r = λ i. time_value (record { fs = p i; delta = q i; eps = r i })
 
 mutual

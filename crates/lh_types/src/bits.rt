@@ -1,5 +1,5 @@
 //! Lists of truth values: the bits of signals and values.
-ghost use Rattle.std.specs.Prelude.{◌≡◌, ◌<◌, length, replicate, false, Some, IfOk, slice_get, slice_set};
+ghost use Rattle.std.specs.Prelude.{◌≡◌, ◌<◌, ◌^◌, length, vec_len, replicate, false, Some, IfOk, slice_get, slice_set};
 
 use crate::ty::NoMemory;
 use std::alloc::Global;
@@ -30,6 +30,21 @@ impl Bits {
             Ok(bits) => Ok(Bits { bits }),
             Err(_) => Err(NoMemory),
         }
+    }
+
+    /// These bits, without memory.
+    pub(crate) fn from_vec(bits: Vec<bool>) -> Bits
+        requires { vec_len bits < 2 ^ 32 }
+        ensures { result ≡ bits.items }
+    {
+        Bits { bits }
+    }
+
+    /// The bits in order.
+    pub(crate) fn as_slice(&self) -> &[bool]
+        ensures { result.now ≡ self.now }
+    {
+        self.bits.as_slice()
     }
 
     /// How many bits there are.

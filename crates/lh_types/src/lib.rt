@@ -2,9 +2,14 @@
 #![tactic(auto)]
 
 pub mod bits;
+pub mod laws;
+pub mod layout;
 pub mod list;
 pub mod op;
 pub mod part;
 pub mod tally;
+#[cfg(test)]
+mod tests;
 pub mod ty;
 pub mod val;
+pub mod writes;

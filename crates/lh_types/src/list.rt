@@ -76,3 +76,6 @@ pub type ByteList = ListOf<u8>;
 
 /// A list of texts.
 pub type TextList = ListOf<ByteList>;
+
+/// A list of truth values.
+pub type BoolList = ListOf<bool>;

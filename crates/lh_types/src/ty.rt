@@ -322,6 +322,7 @@ fn boxed(alloc: Global, t: Ty) -> Result<Box<Ty>, NoMemory>
 /// Whether it is a data type.
 pub fn carries_data(t: &Ty) -> bool
     ensures test { result ≡ is_data t.now }
+    ensures data { IsTrue result → IsData t.now }
     ensures limited { IsLimited t.now }
 {
     match &t.node {

@@ -1,7 +1,8 @@
-// DatumRow.
-ghost use Rattle.std.specs.Prelude.{◌≡◌, ◌≤◌, ◌<◌, ◌+◌, [], ◌∷◌, ◌++◌, length, map, IfOk, OnOk, OnErr};
-ghost use Rattle.lh_types.specs.Values.{Datum, int_value};
+//! Values of the language.
+ghost use Rattle.std.specs.Prelude.{◌≡◌, [], ◌∷◌, ◌++◌, length, map, IfOk, OnOk, OnErr};
+ghost use Rattle.lh_types.specs.Values.{data_row};
 ghost use Rattle.lh_types.specs.ValueOf.{datum_of};
+ghost use Rattle.lh_types.specs.SameValue.{same_datum, same_parts};
 
 use crate::ty::NoMemory;
 use lh_time::Delay;
@@ -9,6 +10,9 @@ use std::alloc::Global;
 use std::marker::Model;
 
 /// A value.
+///
+/// A clause that speaks of a value of a type says that it fits the type: the bits of an integer are
+/// below 2^width, and an array or struct has a value of the right type for each of its parts.
 #[cycle(val)]
 #[derive(Drop)]
 pub enum Val {
@@ -46,6 +50,7 @@ impl Model for ValList {
 }
 
 impl ValList {
+    /// An empty list, which takes no memory yet.
     pub fn new(alloc: Global) -> ValList
         ensures { result ≡ [] }
     {
@@ -54,12 +59,35 @@ impl ValList {
         }
     }
 
+    /// The list of these values, without memory.
+    pub fn from_vec(list: Vec<Val>) -> ValList
+        ensures { result ≡ map datum_of list.items }
+    {
+        ValList { list }
+    }
+
+    /// The values, without memory.
+    pub fn into_vec(self) -> Vec<Val>
+        ensures { map datum_of result.items ≡ self }
+    {
+        self.list
+    }
+
+    /// How many values there are.
+    pub fn len(&self) -> usize
+        ensures { result ≡ length self.now }
+    {
+        self.list.len()
+    }
+
+    /// The values in order.
     pub fn as_slice(&self) -> &[Val]
         ensures { map datum_of result.now ≡ self.now }
     {
         self.list.as_slice()
     }
 
+    /// Adds a value at the end; for want of memory the list stays as it was.
     pub fn push(&mut self, x: Val) -> Result<(), NoMemory>
         ensures ok { OnOk result (self.new ≡ self.old ++ datum_of x ∷ []) }
         ensures err { OnErr result (self.new ≡ self.old) }
@@ -108,4 +136,56 @@ impl ValList {
         }
         Ok(to)
     }
+}
+
+impl PartialEq for Val {
+    ghost use Rattle.std.specs.Cmp.{partial_equiv_from_equiv};
+    ghost use Rattle.lh_types.specs.SameValue.{same_val};
+    ghost use Rattle.lh_types.specs.SameValueLaws.{same_val_equiv};
+
+    ghost eq = { same_val };
+
+    ghost laws = { partial_equiv_from_equiv same_val_equiv };
+
+    fn eq(&self, other: &Val) -> bool {
+        self.same(other)
+    }
+}
+
+impl Eq for Val {
+    ghost use Rattle.lh_types.specs.SameValueLaws.{same_val_equiv};
+
+    ghost laws = { same_val_equiv };
+}
+
+impl Val {
+    #[cycle(same_val)]
+    fn same(&self, other: &Val) -> bool
+        ensures { result ≡ same_datum (datum_of self.now) (datum_of other.now) }
+    {
+        match (self, other) {
+            (Val::Int { width, bits }, Val::Int { width: w, bits: b }) => *width == *w
+                && *bits == *b,
+            (Val::Time(d), Val::Time(e)) => *d == *e,
+            (Val::Array(vs), Val::Array(ws)) => same_values(vs, ws),
+            (Val::Tuple(vs), Val::Tuple(ws)) => same_values(vs, ws),
+            _ => false,
+        }
+    }
+}
+
+#[cycle(same_val)]
+fn same_values(vs: &ValList, ws: &ValList) -> bool
+    ensures { result ≡ same_parts (data_row vs.now) (data_row ws.now) }
+{
+    let (vs, ws) = (vs.list.as_slice(), ws.list.as_slice());
+    if vs.len() != ws.len() {
+        return false;
+    }
+    for (i, v) in vs.iter().enumerate() {
+        if !v.same(&ws[i]) {
+            return false;
+        }
+    }
+    true
 }

@@ -42,16 +42,16 @@ sigil k name b (suc n) bs h = rw (above_zero n, not_zero n) (sigil_test k name (
 -- by the tests of the first byte
 by_tests : (name g l dash more mark : Bool) (b n : ℕ) (bs : List ℕ) →
     (if name then Some (word (b ∷ take n bs), n)
-     else if g then (if fits_name n then Some (global (take n bs), n) else None)
-     else if l then (if fits_name n then Some (local (take n bs), n) else None)
-     else if dash then (if more then Some (arrow, 1) else Some (minus, 0))
-     else if mark then Some (punct b, 0) else None)
+    else if g then (if fits_name n then Some (global (take n bs), n) else None)
+    else if l then (if fits_name n then Some (local (take n bs), n) else None)
+    else if dash then (if more then Some (arrow, 1) else Some (minus, 0))
+    else if mark then Some (punct b, 0) else None)
     ≡ lexeme_of_first
     (if name then Ok (kind.Word, n)
-     else if g then named kind.Global n
-     else if l then named kind.Local n
-     else if dash then (if more then Ok (kind.Arrow, 1) else Ok (kind.Minus, 0))
-     else if mark then Ok (kind.Punct b, 0) else Err 0) b bs
+    else if g then named kind.Global n
+    else if l then named kind.Local n
+    else if dash then (if more then Ok (kind.Arrow, 1) else Ok (kind.Minus, 0))
+    else if mark then Ok (kind.Punct b, 0) else Err 0) b bs
 unfolding lexeme_of_first
 by_tests true g l dash more mark b n bs = refl
 by_tests false true l dash more mark b n bs = sigil kind.Global global b n bs (λ c. refl)
@@ -74,7 +74,7 @@ lexemes-step : (text : List ℕ) (at b : ℕ) (bs : List ℕ) (w c : Bool) (r : 
     → drop at text ≡ b ∷ bs → ((k : ℕ) → lexemes_after k bs ≡ lexemes_of text (tokens_after (at + 1) k bs))
     → (if w then lexemes_after 0 bs else if c then Some [] else elim (lexeme_of_first r b bs) [ None ↦ None | Some p ↦ front p.0 (lexemes_after p.1 bs) ])
     ≡ lexemes_of text (if w then tokens_after (at + 1) 0 bs else if c then Ok [] else elim r [
-      Ok p ↦ front_token (record { kind = p.0; from = at; to = at + 1 + p.1 }) (tokens_after (at + 1) p.1 bs)
+      | Ok p ↦ front_token (record { kind = p.0; from = at; to = at + 1 + p.1 }) (tokens_after (at + 1) p.1 bs)
       | Err n ↦ Err (at + n)
     ])
 unfolding lexeme_of_first
@@ -121,9 +121,9 @@ named-ok : (k : TokenKind) (n : ℕ) (p : TokenKind × ℕ) → named k n ≡ Ok
 named-ok k zero p e = cc
 named-ok k (suc n) p e = few (nat_lt (suc n) 256) refl (rw (not_zero n) at e)
   where
-  few : (t : Bool) → nat_lt (suc n) 256 ≡ t → IsOkOf (if t then Ok (k, suc n) else Err 256) p → ((k, suc n) ≡ p) × (1 ≤ suc n) × (suc n ≤ 255)
-  few true l f = (cc, omega arith, grind (arith, common_steps))
-  few false l f = cc
+    few : (t : Bool) → nat_lt (suc n) 256 ≡ t → IsOkOf (if t then Ok (k, suc n) else Err 256) p → ((k, suc n) ≡ p) × (1 ≤ suc n) × (suc n ≤ 255)
+    few true l f = (cc, omega arith, grind (arith, common_steps))
+    few false l f = cc
 
 run_name : (n : ℕ) (bs : List ℕ) → n ≡ run_len bs → 1 ≤ n → n ≤ 255 → IsName (take n bs)
 run_name n bs e l h =
@@ -147,10 +147,10 @@ takes_arrow b (c ∷ bs) e f =
 takes_by_tests : (name g l dash more mark : Bool) (b n : ℕ) (bs : List ℕ) (p : TokenKind × ℕ)
     → is_name_byte b ≡ name → nat_eq b 64 ≡ g → nat_eq b 37 ≡ l → nat_eq b 45 ≡ dash → begins 62 bs ≡ more → is_punct b ≡ mark → n ≡ run_len bs
     → (if name then Ok (kind.Word, n)
-       else if g then named kind.Global n
-       else if l then named kind.Local n
-       else if dash then (if more then Ok (kind.Arrow, 1) else Ok (kind.Minus, 0))
-       else if mark then Ok (kind.Punct b, 0) else Err 0) ≡ Ok p
+    else if g then named kind.Global n
+    else if l then named kind.Local n
+    else if dash then (if more then Ok (kind.Arrow, 1) else Ok (kind.Minus, 0))
+    else if mark then Ok (kind.Punct b, 0) else Err 0) ≡ Ok p
     → Takes b bs p
 takes_by_tests true g l dash more mark b n bs p na ga la da mo ma r e =
     let q : (kind.Word, run_len bs) ≡ p = cc in
@@ -207,7 +207,7 @@ found_step : (text : List ℕ) (at b : ℕ) (bs : List ℕ) (ts : List Token) (w
     → drop at text ≡ b ∷ bs → is_white b ≡ w → is_comment b bs ≡ c → first_token b bs ≡ r
     → ((k : ℕ) (us : List Token) → k ≤ length bs → tokens_after (at + 1) k bs ≡ Ok us → Found text (at + 1 + k) us)
     → (if w then tokens_after (at + 1) 0 bs else if c then Ok [] else elim r [
-      Ok p ↦ front_token (record { kind = p.0; from = at; to = at + 1 + p.1 }) (tokens_after (at + 1) p.1 bs)
+      | Ok p ↦ front_token (record { kind = p.0; from = at; to = at + 1 + p.1 }) (tokens_after (at + 1) p.1 bs)
       | Err n ↦ Err (at + n)
     ]) ≡ Ok ts
     → Found text at ts

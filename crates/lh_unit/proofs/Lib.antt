@@ -1,2 +1,14 @@
 pub mod Lexing
 mod LexRows
+mod CanonRows
+pub mod Rendering
+pub mod Lists
+pub mod Tables
+pub mod Within
+pub mod Arenas
+pub mod Texts
+pub mod Defined
+pub mod ContentsLemmas
+pub mod BuilderLemmas
+pub mod ItemLemmas
+pub mod Writes

@@ -32,7 +32,7 @@ tokens_after at zero (b ∷ bs) =
     if is_white b then tokens_after (at + 1) 0 bs
     else if is_comment b bs then Ok []
     else elim (first_token b bs) [
-      Ok p ↦ front_token (record { kind = p.0; from = at; to = at + 1 + p.1 }) (tokens_after (at + 1) p.1 bs)
+      | Ok p ↦ front_token (record { kind = p.0; from = at; to = at + 1 + p.1 }) (tokens_after (at + 1) p.1 bs)
       | Err n ↦ Err (at + n)
     ]
 

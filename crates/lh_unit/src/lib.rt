@@ -2,5 +2,7 @@
 #![tactic(auto)]
 
 pub mod inst;
+pub mod module;
 pub mod name;
+mod table;
 pub mod token;

@@ -1,6 +1,6 @@
 use Rattle.std.proofs.Common.{arith, refl, sym}
 use Rattle.lh_types.proofs.Limits.{bit_count-le}
-use Rattle.lh_types.proofs.PartLemmas.{StepsAt, StepsAt-next}
+use Rattle.lh_types.proofs.PartLemmas.{StepsAt-next}
 use Rattle.lh_types.proofs.part.range_of.Goals as goal
 
 pub overflow_add-part : goal.overflow_add-part

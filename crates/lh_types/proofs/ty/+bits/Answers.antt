@@ -1,5 +1,4 @@
 use Rattle.std.proofs.Common.{arith}
-use Rattle.lh_types.proofs.Limits.{bit_count-le}
 use Rattle.lh_types.proofs.Rows.{part-node_count, AreData-split}
 use Rattle.lh_types.proofs.ty.+bits.Goals as goal
 

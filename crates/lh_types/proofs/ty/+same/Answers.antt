@@ -1,5 +1,4 @@
-use Rattle.std.proofs.Common.{arith, ◌≡◌, ◌<◌, ◌≢◌, length, sym, ap, ◌∙◌}
-use Rattle.lh_types.specs.Types.{node_count}
+use Rattle.std.proofs.Common.{◌≡◌, ◌≢◌, length, sym, ap, ◌∙◌}
 use Rattle.lh_types.proofs.Rows.{same_row-lengths}
 use Rattle.lh_types.proofs.ty.+same.Goals as goal
 

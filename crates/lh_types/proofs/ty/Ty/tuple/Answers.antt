@@ -1,7 +1,6 @@
-use Rattle.std.proofs.Common.{◌≡◌, ◌+◌, ◌≤◌, false, nat_lt, None, refl, sym, ◌∙◌, arith}
+use Rattle.std.proofs.Common.{◌≡◌, ◌+◌, ◌≤◌, false, nat_lt, refl, sym, ◌∙◌, arith}
 use Rattle.std.proofs.lemmas.Bool.Decides.{nat_tests}
 use Rattle.lh_types.specs.Types.{AreData, row_of, bit_count_row, depth_of_row}
-use Rattle.lh_types.specs.Faults.{made, tuple_fault}
 use Rattle.lh_types.proofs.Limits.{depth_of_row-le, one_le-bit_count_row, tuple_fault-none}
 use Rattle.lh_types.proofs.ty.Ty.tuple.Goals as goal
 

@@ -1,0 +1,232 @@
+-- An accumulator with its testbench, as processes and as entities, and its trace.
+use Rattle.std.specs.Prelude.{◌≡◌, ℕ, List, [], ◌∷◌, true, Option, Some, None, codes, refl}
+use Rattle.std.specs.Fmt.{digits}
+use Rattle.lh_time.specs.Due.{instant}
+use Rattle.lh_types.specs.Types.{TypeTree, int_type, void_type, signal_type, pointer_type}
+use Rattle.lh_types.specs.Values.{Datum, int_value}
+use Rattle.lh_types.specs.Apply.{apply}
+use Rattle.lh_types.specs.ApplyInt.{integer_row, row_width}
+use Rattle.lh_types.specs.History.{bits_at}
+use Rattle.lh_types.specs.declared.op.Op.{Op}
+use Rattle.lh_types.specs.declared.op.Op.TheVariants as op
+use Rattle.lh_unit.specs.declared.inst.UnitKind.TheVariants as kind
+use Rattle.lh_unit.specs.declared.inst.Mode.TheVariants.{Rise}
+use Rattle.lh_unit.specs.Contents.{OperandText, InstText, const_text, pure_text, var_text, ld_text, st_text, sig_text, prb_text, drv_text, reg_text, child_text, call_text, br_text, branch_text, wait_text, halt_text, ret_text, LineText, ArgText, ItemText, unit_text}
+use Rattle.lh_unit.specs.Activation.{activate}
+use Rattle.lh_unit.specs.Pass.{pass, probes}
+use Rattle.lh_unit.specs.Design.{Signal, visit, design_of, refusal_of}
+use Rattle.lh_unit.specs.World.{acts}
+use Rattle.lh_unit.specs.Trace.{Outcome, Frame, quiet, Run, Shown, ran, trace}
+use Rattle.lh_meaning.proofs.Samples.{global, line, bare, typed, bit, bit_signal, input, output, entity, process, block, delay}
+
+abbrev word : TypeTree
+word = int_type 32
+
+abbrev word_signal : TypeTree
+word_signal = signal_type word
+
+abbrev name : List ℕ → OperandText
+name n = record { value = n; ty = None }
+
+abbrev binary : Op → TypeTree → List ℕ → List ℕ → InstText
+binary o t x y = pure_text o (typed t x ∷ name y ∷ [])
+
+abbrev drives : TypeTree → List ℕ → List ℕ → List ℕ → LineText
+drives t to value after = bare (drv_text (typed t to) value after None)
+
+abbrev instance : List ℕ → (inputs outputs : List OperandText) → LineText
+instance u inputs outputs = bare (child_text (global u) inputs outputs)
+
+abbrev bit_at : List ℕ → OperandText
+bit_at = typed bit_signal
+
+abbrev word_at : List ℕ → OperandText
+word_at = typed word_signal
+
+abbrev testbench : ItemText
+testbench = entity (codes "acc_tb") [] (
+    line (codes "zero0") (const_text (int_value 1 0))
+    ∷ line (codes "zero1") (const_text (int_value 32 0))
+    ∷ line (codes "clk") (sig_text (typed bit (codes "zero0")))
+    ∷ line (codes "en") (sig_text (typed bit (codes "zero0")))
+    ∷ line (codes "x") (sig_text (typed word (codes "zero1")))
+    ∷ line (codes "q") (sig_text (typed word (codes "zero1")))
+    ∷ instance (codes "acc") (bit_at (codes "clk") ∷ word_at (codes "x") ∷ bit_at (codes "en") ∷ []) (word_at (codes "q") ∷ [])
+    ∷ instance (codes "acc_tb_initial") (word_at (codes "q") ∷ []) (bit_at (codes "clk") ∷ word_at (codes "x") ∷ bit_at (codes "en") ∷ [])
+    ∷ [])
+
+abbrev accumulator : ItemText
+accumulator = entity (codes "acc") (input (codes "clk") bit_signal ∷ input (codes "x") word_signal ∷ input (codes "en") bit_signal ∷ output (codes "q") word_signal ∷ []) (
+    line (codes "zero") (const_text (int_value 32 0))
+    ∷ line (codes "d") (sig_text (typed word (codes "zero")))
+    ∷ instance (codes "acc_ff") (bit_at (codes "clk") ∷ word_at (codes "d") ∷ []) (word_at (codes "q") ∷ [])
+    ∷ instance (codes "acc_comb") (word_at (codes "q") ∷ word_at (codes "x") ∷ bit_at (codes "en") ∷ []) (word_at (codes "d") ∷ [])
+    ∷ [])
+
+abbrev ff_args : List ArgText
+ff_args = input (codes "clk") bit_signal ∷ input (codes "d") word_signal ∷ output (codes "q") word_signal ∷ []
+
+abbrev comb_args : List ArgText
+comb_args = input (codes "q") word_signal ∷ input (codes "x") word_signal ∷ input (codes "en") bit_signal ∷ output (codes "d") word_signal ∷ []
+
+abbrev ff_process : ItemText
+ff_process = process (codes "acc_ff") ff_args (
+    block (codes "init") (
+    line (codes "clk0") (prb_text (bit_at (codes "clk")))
+    ∷ bare (wait_text (codes "check") None (codes "clk" ∷ []))
+    ∷ [])
+    ∷ block (codes "check") (
+    line (codes "clk1") (prb_text (bit_at (codes "clk")))
+    ∷ line (codes "chg") (binary op.Neq bit (codes "clk0") (codes "clk1"))
+    ∷ line (codes "posedge") (binary op.And bit (codes "chg") (codes "clk1"))
+    ∷ bare (branch_text (codes "posedge") (codes "init") (codes "event"))
+    ∷ [])
+    ∷ block (codes "event") (
+    line (codes "dp") (prb_text (word_at (codes "d")))
+    ∷ line (codes "delay") (const_text (delay 0 1 0))
+    ∷ drives word_signal (codes "q") (codes "dp") (codes "delay")
+    ∷ bare (br_text (codes "init"))
+    ∷ [])
+    ∷ [])
+
+abbrev comb_process : ItemText
+comb_process = process (codes "acc_comb") comb_args (
+    block (codes "entry") (
+    line (codes "qp") (prb_text (word_at (codes "q")))
+    ∷ line (codes "enp") (prb_text (bit_at (codes "en")))
+    ∷ line (codes "delay") (const_text (delay 0 1 0))
+    ∷ drives word_signal (codes "d") (codes "qp") (codes "delay")
+    ∷ bare (branch_text (codes "enp") (codes "final") (codes "enabled"))
+    ∷ [])
+    ∷ block (codes "enabled") (
+    line (codes "xp") (prb_text (word_at (codes "x")))
+    ∷ line (codes "sum") (binary op.Add word (codes "qp") (codes "xp"))
+    ∷ drives word_signal (codes "d") (codes "sum") (codes "delay")
+    ∷ bare (br_text (codes "final"))
+    ∷ [])
+    ∷ block (codes "final") (bare (wait_text (codes "entry") None (codes "q" ∷ codes "x" ∷ codes "en" ∷ [])) ∷ [])
+    ∷ [])
+
+abbrev initial : ItemText
+initial = process (codes "acc_tb_initial") (input (codes "q") word_signal ∷ output (codes "clk") bit_signal ∷ output (codes "x") word_signal ∷ output (codes "en") bit_signal ∷ []) (
+    block (codes "entry") (
+    line (codes "bit0") (const_text (int_value 1 0))
+    ∷ line (codes "bit1") (const_text (int_value 1 1))
+    ∷ line (codes "zero") (const_text (int_value 32 0))
+    ∷ line (codes "one") (const_text (int_value 32 1))
+    ∷ line (codes "del1") (const_text (delay 1000000 0 0))
+    ∷ line (codes "del2") (const_text (delay 2000000 0 0))
+    ∷ line (codes "i") (var_text (typed word (codes "zero")))
+    ∷ drives bit_signal (codes "en") (codes "bit1") (codes "del2")
+    ∷ bare (br_text (codes "loop"))
+    ∷ [])
+    ∷ block (codes "loop") (
+    line (codes "ip") (ld_text (typed (pointer_type word) (codes "i")))
+    ∷ drives word_signal (codes "x") (codes "ip") (codes "del2")
+    ∷ drives bit_signal (codes "clk") (codes "bit1") (codes "del1")
+    ∷ drives bit_signal (codes "clk") (codes "bit0") (codes "del2")
+    ∷ bare (wait_text (codes "next") (Some (codes "del2")) [])
+    ∷ [])
+    ∷ block (codes "next") (
+    line (codes "qp") (prb_text (word_at (codes "q")))
+    ∷ bare (call_text (global (codes "acc_tb_check")) void_type (typed word (codes "ip") ∷ typed word (codes "qp") ∷ []))
+    ∷ line (codes "in") (binary op.Add word (codes "ip") (codes "one"))
+    ∷ bare (st_text (typed (pointer_type word) (codes "i")) (codes "in"))
+    ∷ line (codes "cont") (binary op.Ult word (codes "ip") (codes "one"))
+    ∷ bare (branch_text (codes "cont") (codes "end") (codes "loop"))
+    ∷ [])
+    ∷ block (codes "end") (bare halt_text ∷ [])
+    ∷ [])
+
+abbrev check : ItemText
+check = unit_text (record {
+  kind = kind.Func;
+  name = global (codes "acc_tb_check");
+  args = input (codes "i") word ∷ input (codes "q") word ∷ [];
+  result = Some void_type;
+  blocks = block (codes "entry") (
+      line (codes "one") (const_text (int_value 32 1))
+      ∷ line (codes "two") (const_text (int_value 32 2))
+      ∷ line (codes "dec") (binary op.Sub word (codes "i") (codes "one"))
+      ∷ line (codes "prod") (binary op.Umul word (codes "i") (codes "dec"))
+      ∷ line (codes "sum") (binary op.Udiv word (codes "prod") (codes "two"))
+      ∷ line (codes "ok") (binary op.Eq word (codes "q") (codes "sum"))
+      ∷ bare (call_text (global (codes "llhd.assert")) void_type (typed bit (codes "ok") ∷ []))
+      ∷ bare (ret_text None)
+      ∷ []) ∷ [];
+})
+
+abbrev pub as_processes : List ItemText
+as_processes = testbench ∷ accumulator ∷ ff_process ∷ comb_process ∷ initial ∷ check ∷ []
+
+-- the entities that may stand for the two processes
+abbrev ff_entity : ItemText
+ff_entity = entity (codes "acc_ff") ff_args (
+    line (codes "v0") (prb_text (word_at (codes "d")))
+    ∷ line (codes "v1") (prb_text (bit_at (codes "clk")))
+    ∷ line (codes "v2") (const_text (delay 0 1 0))
+    ∷ bare (reg_text (word_at (codes "q")) (record { value = codes "v0"; mode = Rise; trigger = codes "v1"; gate = None; after = Some (codes "v2") } ∷ []))
+    ∷ [])
+
+abbrev comb_entity : ItemText
+comb_entity = entity (codes "acc_comb") comb_args (
+    line (codes "v0") (prb_text (word_at (codes "q")))
+    ∷ line (codes "v1") (prb_text (word_at (codes "x")))
+    ∷ line (codes "v2") (prb_text (bit_at (codes "en")))
+    ∷ line (codes "v3") (binary op.Add word (codes "v0") (codes "v1"))
+    ∷ line (codes "v4") (pure_text op.Array (typed word (codes "v0") ∷ name (codes "v3") ∷ []))
+    ∷ line (codes "v5") (pure_text op.Mux (typed word (codes "v4") ∷ name (codes "v2") ∷ []))
+    ∷ line (codes "v6") (const_text (delay 0 1 0))
+    ∷ drives word_signal (codes "d") (codes "v5") (codes "v6")
+    ∷ [])
+
+abbrev pub as_entities : List ItemText
+as_entities = testbench ∷ accumulator ∷ ff_entity ∷ comb_entity ∷ initial ∷ check ∷ []
+
+abbrev shown : List ℕ → Option ℕ → Shown
+shown n p = record { label = n; parent = p }
+
+abbrev the_instances : List Shown
+the_instances =
+    shown (codes "acc_tb") None ∷ shown (codes "acc_1") (Some 0) ∷ shown (codes "acc_ff_2") (Some 1) ∷ shown (codes "acc_comb_3") (Some 1)
+    ∷ shown (codes "acc_tb_initial_4") (Some 0) ∷ []
+
+abbrev signal : ℕ → List ℕ → ℕ → ℕ → Signal
+signal i n width lo = record { instance = i; name = n; ty = int_type width; lo = lo }
+
+abbrev the_signals : List Signal
+the_signals = signal 0 (codes "clk") 1 0 ∷ signal 0 (codes "en") 1 1 ∷ signal 0 (codes "x") 32 2 ∷ signal 0 (codes "q") 32 34 ∷ signal 1 (codes "d") 32 66 ∷ []
+
+abbrev values : (clk en x q d : ℕ) → List Datum
+values clk en x q d = int_value 1 clk ∷ int_value 1 en ∷ int_value 32 x ∷ int_value 32 q ∷ int_value 32 d ∷ []
+
+abbrev frame : (fs delta : ℕ) → List Datum → List Outcome → Frame
+frame fs delta vs os = record { at = instant fs delta 0; values = vs; outcomes = os }
+
+abbrev passes : List Outcome
+passes = record { instance = 4; passed = true } ∷ []
+
+abbrev the_run : Run
+the_run = record {
+  frames =
+      frame 0 0 (values 0 0 0 0 0) []
+      ∷ frame 0 1 (values 0 0 0 0 0) []
+      ∷ frame 1000000 0 (values 1 0 0 0 0) []
+      ∷ frame 1000000 1 (values 1 0 0 0 0) []
+      ∷ frame 2000000 0 (values 0 1 0 0 0) passes
+      ∷ frame 2000000 1 (values 0 1 0 0 0) []
+      ∷ frame 3000000 0 (values 1 1 0 0 0) []
+      ∷ frame 3000000 1 (values 1 1 0 0 0) []
+      ∷ frame 4000000 0 (values 0 1 1 0 0) passes
+      ∷ frame 4000000 1 (values 0 1 1 0 1) []
+      ∷ [];
+  end = quiet;
+}
+
+pub processes_trace : trace as_processes (global (codes "acc_tb")) 20 ≡ ran the_instances the_signals the_run
+unfolding activate pass probes visit design_of refusal_of bits_at acts digits apply integer_row row_width
+processes_trace = refl
+
+pub entities_trace : trace as_entities (global (codes "acc_tb")) 20 ≡ ran the_instances the_signals the_run
+unfolding activate pass probes visit design_of refusal_of bits_at acts digits apply integer_row row_width
+entities_trace = refl

@@ -1,0 +1,135 @@
+-- A module whose units are replaced by units that may stand for them has the same trace.
+use Rattle.std.proofs.Common.{◌≡◌, ℕ, List, [], ◌∷◌, Bool, true, false, if◌then◌else◌, unwrap_or, refl, ap, sym, ◌∙◌, subst, Some, None, ◌⊎◌, inl, inr}
+use Rattle.lh_unit.specs.declared.name.UnitName.{UnitName}
+use Rattle.lh_unit.specs.declared.inst.UnitKind.{UnitKind}
+use Rattle.lh_unit.specs.declared.inst.UnitKind.TheVariants as kind
+use Rattle.lh_unit.specs.UnitNames.{same_unit_name}
+use Rattle.lh_unit.specs.Contents.{UnitText, ItemText, unit_text, declare_text, new_unit}
+use Rattle.lh_unit.specs.Named.{is_function, unit_named}
+use Rattle.lh_unit.specs.Activation.{functions}
+use Rattle.lh_unit.specs.Hierarchy.{Instance, Hierarchy, hierarchy_by, hierarchy_of, hierarchies, hierarchy_named}
+use Rattle.lh_unit.specs.Design.{Elaborated, refused, built, hierarchy_or, hierarchy_in, elab_of}
+use Rattle.lh_unit.specs.World.{State, start_by, start, wake_of, Rules, rules_of, unit_of, starts, first_world}
+use Rattle.lh_unit.specs.Trace.{ran, shown_from, trace_by}
+use Rattle.lh_meaning.specs.Replacing.{Seen, answers, HasWidths, MayStand, Replaced, ReplacedSameTrace}
+use Rattle.lh_meaning.proofs.Simulation.{Alike}
+use Rattle.lh_meaning.proofs.Worlds.{Related, same_run}
+use Rattle.lh_meaning.proofs.Widths.{AllWidths, BuiltWidths, elab_widths}
+
+function_by : (k : UnitKind) (u : UnitText) → (hierarchy_by k u).function ≡ is_function k
+function_by kind.Entity u = refl
+function_by kind.Proc u = refl
+function_by kind.Func u = refl
+
+abbrev Stands : Rules → UnitText → UnitText → Type 0
+Stands r x y = (x ≡ y) ⊎ MayStand r x y
+
+stands_name : (r : Rules) (x y : UnitText) → Stands r x y → x.name ≡ y.name
+stands_name r x y (inl e) = ap (λ (u : UnitText). u.name) e
+stands_name r x y (inr s) = s.name
+
+stands_hierarchy : (r : Rules) (x y : UnitText) → Stands r x y → hierarchy_of x ≡ hierarchy_of y
+stands_hierarchy r x y (inl e) = ap hierarchy_of e
+stands_hierarchy r x y (inr s) = s.hierarchy
+
+-- the functions are the same
+no_function : (u : UnitText) (us : List UnitText) → (hierarchy_of u).function ≡ false → (if is_function u.kind then u ∷ us else us) ≡ us
+no_function u us h = at (is_function u.kind) (sym (function_by u.kind u) ∙ h)
+  where
+    at : (b : Bool) → b ≡ false → (if b then u ∷ us else us) ≡ us
+    at true e = cc
+    at false e = refl
+
+same_if_function : (r : Rules) (x y : UnitText) (us : List UnitText) → Stands r x y → (if is_function x.kind then x ∷ us else us) ≡ (if is_function y.kind then y ∷ us else us)
+same_if_function r x y us (inl e) = ap (λ (u : UnitText). if is_function u.kind then u ∷ us else us) e
+same_if_function r x y us (inr s) = no_function x us s.no_function ∙ sym (no_function y us (sym (ap (λ (h : Hierarchy). h.function) s.hierarchy) ∙ s.no_function))
+
+same_functions : (r : Rules) (m m' : List ItemText) → Replaced r m m' → functions m ≡ functions m'
+same_functions r [] [] h = refl
+same_functions r (unit_text x ∷ xs) (unit_text y ∷ ys) h =
+    ap (λ us. if is_function x.kind then x ∷ us else us) (same_functions r xs ys h.1) ∙ same_if_function r x y (functions ys) h.0
+same_functions r (declare_text d ∷ xs) (declare_text e ∷ ys) h = same_functions r xs ys h
+same_functions r [] (y ∷ ys) h = absurd h
+same_functions r (unit_text x ∷ xs) [] h = absurd h
+same_functions r (declare_text d ∷ xs) [] h = absurd h
+same_functions r (unit_text x ∷ xs) (declare_text e ∷ ys) h = absurd h
+same_functions r (declare_text d ∷ xs) (unit_text y ∷ ys) h = absurd h
+
+-- and so is what elaboration reads
+same_hierarchies : (r : Rules) (m m' : List ItemText) → Replaced r m m' → hierarchies m ≡ hierarchies m'
+same_hierarchies r [] [] h = refl
+same_hierarchies r (unit_text x ∷ xs) (unit_text y ∷ ys) h =
+    let n : x.name ≡ y.name = stands_name r x y h.0 in
+    let e : hierarchy_of x ≡ hierarchy_of y = stands_hierarchy r x y h.0 in
+    let ih : hierarchies xs ≡ hierarchies ys = same_hierarchies r xs ys h.1 in
+    cc
+same_hierarchies r (declare_text d ∷ xs) (declare_text e ∷ ys) h = same_hierarchies r xs ys h
+same_hierarchies r [] (y ∷ ys) h = absurd h
+same_hierarchies r (unit_text x ∷ xs) [] h = absurd h
+same_hierarchies r (declare_text d ∷ xs) [] h = absurd h
+same_hierarchies r (unit_text x ∷ xs) (declare_text e ∷ ys) h = absurd h
+same_hierarchies r (declare_text d ∷ xs) (unit_text y ∷ ys) h = absurd h
+
+-- units of one name stand for each other
+units_stand : (r : Rules) (n : UnitName) (m m' : List ItemText) → Replaced r m m' → Stands r (unit_of m n) (unit_of m' n)
+units_stand r n [] [] h = inl refl
+units_stand r n (unit_text x ∷ xs) (unit_text y ∷ ys) h =
+    at (same_unit_name x.name n) (same_unit_name y.name n) (ap (λ k. same_unit_name k n) (stands_name r x y h.0)) (units_stand r n xs ys h.1)
+  where
+    at : (b c : Bool) → b ≡ c → Stands r (unit_of xs n) (unit_of ys n)
+        → Stands r (unwrap_or (if b then Some x else unit_named n xs) (new_unit n kind.Entity)) (unwrap_or (if c then Some y else unit_named n ys) (new_unit n kind.Entity))
+    at true true e ih = h.0
+    at false false e ih = ih
+    at true false e ih = cc
+    at false true e ih = cc
+units_stand r n (declare_text d ∷ xs) (declare_text e ∷ ys) h = units_stand r n xs ys h
+units_stand r n [] (y ∷ ys) h = absurd h
+units_stand r n (unit_text x ∷ xs) [] h = absurd h
+units_stand r n (declare_text d ∷ xs) [] h = absurd h
+units_stand r n (unit_text x ∷ xs) (declare_text e ∷ ys) h = absurd h
+units_stand r n (declare_text d ∷ xs) (unit_text y ∷ ys) h = absurd h
+
+-- what elaboration reads of a unit is that of the unit of this name
+hierarchy_of-unit : (n : UnitName) (m : List ItemText) → hierarchy_of (unit_of m n) ≡ hierarchy_in (hierarchies m) n
+hierarchy_of-unit n [] = refl
+hierarchy_of-unit n (unit_text x ∷ xs) = at (same_unit_name x.name n) (hierarchy_of-unit n xs)
+  where
+    at : (b : Bool) → hierarchy_of (unit_of xs n) ≡ hierarchy_in (hierarchies xs) n
+        → hierarchy_of (unwrap_or (if b then Some x else unit_named n xs) (new_unit n kind.Entity)) ≡ hierarchy_or (if b then Some (hierarchy_of x) else hierarchy_named n (hierarchies xs))
+    at true ih = refl
+    at false ih = ih
+hierarchy_of-unit n (declare_text d ∷ xs) = hierarchy_of-unit n xs
+
+wake_by : (k : UnitKind) (u : UnitText) (i : Instance) → wake_of (start_by k u i) ≡ None
+wake_by kind.Entity u i = refl
+wake_by kind.Proc u i = refl
+wake_by kind.Func u i = refl
+
+-- before the first frame there are no earlier bits to look at
+any_bits : (r : Rules) (u : UnitText) (i : Instance) (old : List Bool) (s : State) (frames : List Seen) → answers r u i None old s frames ≡ answers r u i None [] s frames
+any_bits r u i old s [] = refl
+any_bits r u i old s (f ∷ more) = refl
+
+alike_start : (r : Rules) (x y : UnitText) (i : Instance) (old : List Bool) → HasWidths (hierarchy_of x) i → Stands r x y → Alike r x y i None old (start x i) (start y i)
+alike_start r x y i old w (inl e) = let P : UnitText → Type 0 = λ z. Alike r x z i None old (start x i) (start z i) in subst P e (record { wake = refl; shows = λ frames. refl })
+alike_start r x y i old w (inr s) = record {
+  wake = wake_by x.kind x i ∙ sym (wake_by y.kind y i);
+  shows = λ frames. any_bits r x i old (start x i) frames ∙ s.alike i w frames ∙ sym (any_bits r y i old (start y i) frames);
+}
+
+starts_related : (r : Rules) (m m' : List ItemText) → Replaced r m m' → (old : List Bool) (is : List Instance) → AllWidths (hierarchies m) is → Related r m m' None old is (starts m is) (starts m' is)
+starts_related r m m' h old [] w = refl
+starts_related r m m' h old (i ∷ more) w =
+    (alike_start r (unit_of m i.unit) (unit_of m' i.unit) i old (rw (hierarchy_of-unit i.unit m) w.0) (units_stand r i.unit m m' h), starts_related r m m' h old more w.1)
+
+same_trace_by : (bound : ℕ) (m m' : List ItemText) → Replaced (rules_of bound m) m m' → (n : ℕ) (e : Elaborated) → BuiltWidths (hierarchies m) e → trace_by bound m n e ≡ trace_by bound m' n e
+same_trace_by bound m m' h n (refused r) w = refl
+same_trace_by bound m m' h n (built d) w =
+    ap (ran (shown_from 0 d.instances) d.signals)
+    (same_run bound m m' d (ap (λ fs. record { bound = bound; functions = fs }) (sym (same_functions (rules_of bound m) m m' h))) n (first_world m d) (first_world m' d)
+    (record { init = refl; last = refl; history = refl; states = starts_related (rules_of bound m) m m' h d.init d.instances w }))
+
+pub replaced_same_trace : ReplacedSameTrace
+replaced_same_trace bound m m' h top n =
+    same_trace_by bound m m' h n (elab_of (hierarchies m) top) (elab_widths (hierarchies m) top)
+    ∙ ap (λ table. trace_by bound m' n (elab_of table top)) (same_hierarchies (rules_of bound m) m m' h)

@@ -1,0 +1,74 @@
+-- Under which conditions an entity may stand for a process: where it gives the same on all values, or at every edge.
+use Rattle.std.proofs.Common.{◌≡◌, ℕ, List, [], map, Bool, true, false, Option, Some, None}
+use Rattle.std.specs.List.{list_any}
+use Rattle.lh_time.specs.declared.Instant.{Instant}
+use Rattle.lh_types.specs.Wish.{Wish, no_wish}
+use Rattle.lh_types.specs.declared.part.Range.{Range}
+use Rattle.lh_unit.specs.declared.inst.UnitKind.TheVariants as kind
+use Rattle.lh_unit.specs.Contents.{UnitText}
+use Rattle.lh_unit.specs.Held.{Env, part_held, nothing_held, with_args}
+use Rattle.lh_unit.specs.Activation.{Scene, is_new, waits, ProcessState, Activated, activate}
+use Rattle.lh_unit.specs.Hierarchy.{Instance}
+use Rattle.lh_unit.specs.Pass.{pass, probes}
+use Rattle.lh_unit.specs.World.{bit_numbers, bit_differs, Rules}
+use Rattle.lh_meaning.proofs.BitSets.{SameSet, IsWithin, bits_read}
+
+abbrev pub scene : Rules → (now : List Bool) → Instant → Scene
+scene r now t = record { functions = r.functions; now = now; at = t }
+
+-- a process before its first activation
+abbrev pub fresh : UnitText → Instance → ProcessState
+fresh x i = record { stand = is_new; held = with_args nothing_held x.args (map part_held i.args) }
+
+-- a process that waits without time
+abbrev pub waiting_at : (block to : List ℕ) → (on : List Range) → Env → ProcessState
+waiting_at block to on e = record { stand = waits block to on None; held = e }
+
+-- An activation that ends at the `wait` of a block, without time, on these bits. It gives this wish and no outcome, and what is held then has a property.
+pub record EndsAt (holds : Env → Type 0) (block to : List ℕ) (on : List ℕ) (wish : Wish) (done : Option Activated) : Type 0 where
+  pub held : Env
+  pub parts : List Range
+  pub known : holds held
+  pub same_parts : SameSet (bit_numbers parts) on
+  pub is : done ≡ Some (record { state = waiting_at block to parts held; wish = wish; outcomes = [] })
+
+-- the bits that an entity senses
+abbrev pub sensed : UnitText → Instance → List ℕ
+sensed y i = bit_numbers (probes y i.args i.sigs)
+
+-- The entity senses what the process waits for, and its pass gives on all values the wish that the process's activation gives.
+pub record CombFor (r : Rules) (x y : UnitText) (i : Instance) : Type 1 where
+  pub is_process : x.kind ≡ kind.Proc
+  pub is_entity : y.kind ≡ kind.Entity
+  pub block : List ℕ
+  pub to : List ℕ
+  pub holds : Env → Type 0
+  pub first : (now : List Bool) (t : Instant) (memory : Option (List Bool)) →
+      EndsAt holds block to (sensed y i) (pass y i.args i.sigs now memory t).wish (activate r.bound (scene r now t) x (fresh x i))
+  pub later : (now : List Bool) (t : Instant) (memory : Option (List Bool)) (e : Env) (on : List Range) → holds e →
+      EndsAt holds block to (sensed y i) (pass y i.args i.sigs now memory t).wish (activate r.bound (scene r now t) x (waiting_at block to on e))
+
+-- The entity remembers the bits of the triggers. Where one of them changes, its registers give the wish that the process gives with the bits of its last activation, `past`, and the present ones; at no other run do they give anything.
+-- `stands past e` says that the process holds what an activation at `past` leaves.
+pub record EdgeFor (r : Rules) (x y : UnitText) (i : Instance) : Type 1 where
+  pub is_process : x.kind ≡ kind.Proc
+  pub is_entity : y.kind ≡ kind.Entity
+  pub block : List ℕ
+  pub to : List ℕ
+  pub on : List ℕ
+  pub triggers : List ℕ
+  pub rows : (past now : List Bool) → Instant → Wish
+  pub stands : List Bool → Env → Type 0
+  -- the process
+  pub first : (now : List Bool) (t : Instant) → EndsAt (stands now) block to on no_wish (activate r.bound (scene r now t) x (fresh x i))
+  pub later : (past now : List Bool) (t : Instant) (e : Env) (parts : List Range) → stands past e →
+      EndsAt (stands now) block to on (rows past now t) (activate r.bound (scene r now t) x (waiting_at block to parts e))
+  -- the triggers
+  pub waited : IsWithin triggers on
+  pub probed : IsWithin triggers (sensed y i)
+  pub rows_rest : (past now : List Bool) (t : Instant) → list_any (bit_differs past now) triggers ≡ false → rows past now t ≡ no_wish
+  -- the entity
+  pub keeps : (now : List Bool) (t : Instant) (memory : Option (List Bool)) → (pass y i.args i.sigs now memory t).seen ≡ bits_read now triggers
+  pub first_rests : (now : List Bool) (t : Instant) → (pass y i.args i.sigs now None t).wish ≡ no_wish
+  pub fires : (past now : List Bool) (t : Instant) → list_any (bit_differs past now) triggers ≡ true → (pass y i.args i.sigs now (Some (bits_read past triggers)) t).wish ≡ rows past now t
+  pub rests : (past now : List Bool) (t : Instant) → list_any (bit_differs past now) triggers ≡ false → (pass y i.args i.sigs now (Some (bits_read past triggers)) t).wish ≡ no_wish

@@ -1,0 +1,58 @@
+-- When a unit may stand for another, and a module whose units are replaced so.
+use Rattle.std.specs.Prelude.{◌≡◌, ◌⊎◌, ℕ, List, [], ◌∷◌, map, Bool, false, Option, Some, None}
+use Rattle.lh_time.specs.declared.Instant.{Instant}
+use Rattle.lh_types.specs.Types.{bit_count}
+use Rattle.lh_types.specs.Wish.{Wish}
+use Rattle.lh_types.specs.declared.part.Range.{Range}
+use Rattle.lh_unit.specs.Contents.{ArgText, UnitText, ItemText, unit_text, declare_text}
+use Rattle.lh_unit.specs.Hierarchy.{Instance, SignalText, Hierarchy, hierarchy_of}
+use Rattle.lh_unit.specs.World.{State, start, wake_of, Act, act, Rules, rules_of}
+use Rattle.lh_unit.specs.Trace.{SameTraceWithin}
+
+-- what an instance shows of itself in a frame: its wish, its outcomes, whether it ran away, and when it will wake by itself
+pub record Answer : Type 0 where
+  pub wish : Wish
+  pub outcomes : List Bool
+  pub ran_away : Bool
+  pub wake : Option Instant
+
+abbrev pub answer_of : Act → Answer
+answer_of a = record { wish = a.wish; outcomes = a.outcomes; ran_away = a.ran_away; wake = wake_of a.after }
+
+-- what an instance sees of a frame: the instant, and the bits of all signals
+pub record Seen : Type 0 where
+  pub at : Instant
+  pub now : List Bool
+
+-- what it shows in frames that follow each other, from a state after a frame at `last` with the bits `old`
+abbrev pub answers : Rules → UnitText → Instance → (last : Option Instant) → (old : List Bool) → State → List Seen → List Answer
+answers r u i last old s [] = []
+answers r u i last old s (f ∷ more) =
+    answer_of (act r last old f.now f.at u i s) ∷ answers r u i (Some f.at) f.now (act r last old f.now f.at u i s).after more
+
+-- what it shows from the start on
+abbrev pub answers_to : Rules → UnitText → Instance → List Seen → List Answer
+answers_to r u i frames = answers r u i None [] (start u i) frames
+
+-- the arguments and signals of an instance have the widths of their types
+pub record HasWidths (h : Hierarchy) (i : Instance) : Type 0 where
+  pub args : map (λ (r : Range). r.len) i.args ≡ map (λ (a : ArgText). bit_count a.ty) h.args
+  pub sigs : map (λ (r : Range). r.len) i.sigs ≡ map (λ (s : SignalText). bit_count s.ty) h.signals
+
+-- The second unit may stand for the first: to elaboration they are one, neither is a function, and whatever an instance sees, both show the same.
+pub record MayStand (r : Rules) (x y : UnitText) : Type 0 where
+  pub name : x.name ≡ y.name
+  pub hierarchy : hierarchy_of x ≡ hierarchy_of y
+  pub no_function : (hierarchy_of x).function ≡ false
+  pub alike : (i : Instance) → HasWidths (hierarchy_of x) i → (frames : List Seen) → answers_to r x i frames ≡ answers_to r y i frames
+
+-- Item by item the second module has the same unit, or one that may stand for it; what is declared does not matter.
+abbrev pub Replaced : Rules → List ItemText → List ItemText → Type 0
+Replaced r [] [] = Unit {0}
+Replaced r (unit_text x ∷ xs) (unit_text y ∷ ys) = ((x ≡ y) ⊎ MayStand r x y) × Replaced r xs ys
+Replaced r (declare_text d ∷ xs) (declare_text e ∷ ys) = Replaced r xs ys
+Replaced r _ _ = ⊥
+
+-- Any number of units may be replaced at once: the trace is the same, for every top and every number of frames.
+abbrev pub ReplacedSameTrace : Type 0
+ReplacedSameTrace = (bound : ℕ) (m m' : List ItemText) → Replaced (rules_of bound m) m m' → SameTraceWithin bound m m'

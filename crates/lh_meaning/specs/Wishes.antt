@@ -1,0 +1,55 @@
+-- Wishes as maps.
+use Rattle.std.specs.Prelude.{◌≡◌, ℕ, List, [], ◌∷◌, length, Bool, true, if◌then◌else◌, Option, Some, None}
+use Rattle.std.specs.declared.cmp.Ordering.TheVariants.{Less}
+use Rattle.std.specs.Ordering.{is_eq}
+use Rattle.lh_time.specs.declared.Instant.{Instant}
+use Rattle.lh_time.specs.Order.{instant_lt}
+use Rattle.lh_types.specs.Wish.{DueBit, due_bit_cmp, Wish, with_drive}
+use Rattle.lh_types.specs.History.{claims}
+use Rattle.lh_unit.specs.Contents.{UnitText, ItemText}
+use Rattle.lh_unit.specs.Hierarchy.{Instance}
+use Rattle.lh_unit.specs.Design.{Design}
+use Rattle.lh_unit.specs.World.{State, act, Rules, World, first_world, next_world, next_instant}
+use Rattle.lh_meaning.specs.Values.{OneEach}
+
+-- what a wish gives for a bit at an instant
+abbrev pub look : DueBit → Wish → Option Bool
+look k [] = None
+look k (e ∷ more) = if is_eq (due_bit_cmp k e.0) then Some e.1 else look k more
+
+-- its entries stand in strictly rising order
+abbrev pub IsBelow : DueBit → Wish → Type 0
+IsBelow k [] = Unit {0}
+IsBelow k (e ∷ more) = (due_bit_cmp k e.0 ≡ Less) × IsBelow k more
+
+abbrev pub IsInOrder : Wish → Type 0
+IsInOrder [] = Unit {0}
+IsInOrder (e ∷ more) = IsBelow e.0 more × IsInOrder more
+
+-- each entry is due after t
+abbrev pub IsLate : Instant → Wish → Type 0
+IsLate t [] = Unit {0}
+IsLate t (e ∷ more) = (instant_lt t e.0.due ≡ true) × IsLate t more
+
+-- Wishes that give the same everywhere are one.
+abbrev pub WishExt : Type 0
+WishExt = (v w : Wish) → IsInOrder v → IsInOrder w → ((k : DueBit) → look k v ≡ look k w) → v ≡ w
+
+-- A drive replaces an earlier one of the same bits at the same instant.
+abbrev pub LaterDriveReplaces : Type 0
+LaterDriveReplaces = (w : Wish) (due : Option Instant) (lo : ℕ) (xs ys : List Bool) → IsInOrder w → length xs ≡ length ys →
+    with_drive (with_drive w due lo xs) due lo ys ≡ with_drive w due lo ys
+
+-- What an instance wishes in a frame is in order, and due later.
+abbrev pub ActsInOrder : Type 0
+ActsInOrder = (r : Rules) (last : Option Instant) (old now : List Bool) (t : Instant) (u : UnitText) (i : Instance) (s : State) →
+    IsInOrder (act r last old now t u i s).wish × IsLate t (act r last old now t u i s).wish
+
+-- the worlds that the frames of a design come to
+pub data Reached (bound : ℕ) (items : List ItemText) (d : Design) : World → Type 0 where
+  at_first : Reached bound items d (first_world items d)
+  after_frame : (w : World) (t : Instant) → Reached bound items d w → next_instant w ≡ Some t → Reached bound items d (next_world bound items d w t)
+
+-- In each of these no two entries of the history compete.
+abbrev pub HistoryIsMap : Type 0
+HistoryIsMap = (bound : ℕ) (items : List ItemText) (d : Design) (w : World) → Reached bound items d w → OneEach (claims w.history)

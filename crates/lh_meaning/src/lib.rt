@@ -1,0 +1,76 @@
+//! Laws on what a file means. Each is the contract of a function that does nothing, so that other crates can cite it.
+#![tactic(auto)]
+
+ghost use Rattle.lh_meaning.specs.Activations.{ActivationComputes, RunawayComputes, OneActivation};
+ghost use Rattle.lh_meaning.specs.Values.{ValueComputes, OneValue, ValueOfDue, BitsOfDue, BitsHaveValues, AsManyBits};
+ghost use Rattle.lh_meaning.specs.Wishes.{WishExt, LaterDriveReplaces, ActsInOrder, HistoryIsMap};
+ghost use Rattle.lh_meaning.specs.FirstFault.{OneFirstFault, FaultlessHasNone};
+ghost use Rattle.lh_meaning.specs.Frames.{NextComputes, BitsStay, TraceIsPrefix, TraceIsWithin, EqualSameTrace, SameTraceTurns, SameTraceLinks};
+ghost use Rattle.lh_meaning.specs.Replacing.{ReplacedSameTrace};
+
+/// An activation is a list of executed instructions. The computing form finds it, there is at most
+/// one, and a runaway is where there is none.
+pub fn activation_law()
+    ensures computes { ActivationComputes }
+    ensures runaway { RunawayComputes }
+    ensures one { OneActivation }
+{}
+
+/// The value of a bit at an instant is that of the greatest entry due by then. It depends on the set
+/// of these entries alone: not on the order of the wishes, and on none that is due later.
+pub fn value_law()
+    ensures computes { ValueComputes }
+    ensures one { OneValue }
+    ensures due { ValueOfDue }
+    ensures bits_of_due { BitsOfDue }
+    ensures bits { BitsHaveValues }
+    ensures as_many { AsManyBits }
+{}
+
+/// A wish is a map: two that give the same are one, and a later drive replaces an earlier one of the
+/// same bits at the same instant. What an instance wishes in a frame is due later.
+pub fn wish_law()
+    ensures ext { WishExt }
+    ensures replaces { LaterDriveReplaces }
+    ensures acts { ActsInOrder }
+{}
+
+/// No two entries of a history that the frames of a design come to compete, so each bit has one value.
+pub fn history_law()
+    ensures { HistoryIsMap }
+{}
+
+/// A module has at most one first fault, and none where no instruction has a fault.
+pub fn first_fault_law()
+    ensures one { OneFirstFault }
+    ensures none { FaultlessHasNone }
+{}
+
+/// The next instant is the least later one at which a wish is due or a process wakes by itself.
+pub fn next_law()
+    ensures { NextComputes }
+{}
+
+/// What is wished in a frame is due later, so the bits of the last frame are those by the history.
+pub fn frame_law()
+    ensures { BitsStay }
+{}
+
+/// The trace up to n frames has at most n, and is a prefix of the trace up to n + 1.
+pub fn trace_law()
+    ensures prefix { TraceIsPrefix }
+    ensures within { TraceIsWithin }
+{}
+
+/// Having the same trace is an equivalence, and equal contents have it.
+pub fn same_trace_law()
+    ensures equal { EqualSameTrace }
+    ensures turns { SameTraceTurns }
+    ensures links { SameTraceLinks }
+{}
+
+/// A module in which any number of units are replaced, item by item, by units that may stand for
+/// them has the same trace, for every top unit and every number of frames.
+pub fn replaced_law()
+    ensures { ReplacedSameTrace }
+{}

@@ -1,0 +1,11 @@
+pub mod TestLemmas
+pub mod IntegerLemmas
+pub mod Worked
+pub mod BooleanLemmas
+pub mod TypeLemmas
+pub mod ArgLemmas
+pub mod FitLemmas
+pub mod RowLemmas
+pub mod WordLemmas
+pub mod ShiftLemmas
+pub mod SignLemmas

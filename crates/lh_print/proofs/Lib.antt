@@ -1,0 +1,3 @@
+pub mod Joined
+pub mod Placing
+pub mod Sides

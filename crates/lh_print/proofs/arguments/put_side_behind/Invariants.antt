@@ -1,0 +1,9 @@
+use Rattle.std.proofs.Common.{◌≡◌, ◌++◌, drop, map}
+use Rattle.lh_unit.specs.Arena.{naming}
+use Rattle.lh_unit.specs.Naming.{arg_text}
+use Rattle.lh_unit.specs.Pieces.{render, behind_commas}
+use Rattle.lh_unit.specs.Canon.{argument, side_of}
+use Rattle.lh_print.proofs.arguments.put_side_behind.Given as goal
+
+abbrev pub invariant-loop-arg : goal.invariant-loop-arg
+invariant-loop-arg l = l.out.items ++ render (behind_commas (map argument (side_of l.output (map (arg_text (naming l.module l.unit.0)) (drop l.arg-index l.args))))) ≡ l.initial.out.items ++ render (behind_commas (map argument (side_of l.output (map (arg_text (naming l.module l.unit.0)) l.args))))

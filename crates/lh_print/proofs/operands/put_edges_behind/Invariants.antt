@@ -1,0 +1,9 @@
+use Rattle.std.proofs.Common.{◌≡◌, ◌++◌, drop, map}
+use Rattle.lh_unit.specs.Arena.{naming}
+use Rattle.lh_unit.specs.Naming.{edge_text}
+use Rattle.lh_unit.specs.Pieces.{render, behind_commas}
+use Rattle.lh_unit.specs.Canon.{edge}
+use Rattle.lh_print.proofs.operands.put_edges_behind.Given as goal
+
+abbrev pub invariant-loop-e : goal.invariant-loop-e
+invariant-loop-e l = l.out.items ++ render (behind_commas (map edge (map (edge_text (naming l.module l.unit.0)) (drop l.e-index l.edges)))) ≡ l.initial.out.items ++ render (behind_commas (map edge (map (edge_text (naming l.module l.unit.0)) l.edges)))

@@ -1,0 +1,31 @@
+//! The canonical text of a module.
+#![tactic(auto)]
+
+ghost use Rattle.std.specs.Prelude.{◌≡◌, IfOk};
+ghost use Rattle.lh_unit.specs.Arena.{contents};
+ghost use Rattle.lh_unit.specs.Canon.{canon};
+
+mod arguments;
+mod insts;
+mod names;
+mod operands;
+mod text;
+mod types;
+mod units;
+mod values;
+mod words;
+
+use lh_types::ty::NoMemory;
+use lh_unit::module::Module;
+use std::alloc::Global;
+/// The canonical text of a module: its items in file order, one line each, as the language reference spells them.
+///
+/// Integers are unsigned, times stand in the largest unit in which they are whole, and a type that may be left out
+/// stands where the module has it. The only error is want of memory.
+pub fn print(alloc: Global, module: &Module) -> Result<Vec<u8>, NoMemory>
+    ensures { IfOk result (λ v. v.items ≡ canon (contents module.now)) }
+{
+    let mut out = Vec::new(alloc);
+    units::put_items(&mut out, module)?;
+    Ok(out)
+}

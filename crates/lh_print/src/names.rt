@@ -1,0 +1,81 @@
+//! Names of units, values and labels.
+#![tactic(auto, using(crate::proofs::Joined::steps))]
+
+ghost use Rattle.std.specs.Prelude.{◌≡◌, ◌<◌, ◌++◌, OnOk};
+ghost use Rattle.lh_unit.specs.Arena.{unit_count, value_count, label_count, value_name_at, label_name_at, naming, sizes, unit_name_at};
+ghost use Rattle.lh_unit.specs.Naming.{maybe_text};
+ghost use Rattle.lh_unit.specs.Within.{MaybeWithin};
+ghost use Rattle.lh_unit.specs.Pieces.{render};
+ghost use Rattle.lh_unit.specs.Canon.{unit_name_pieces, maybe};
+
+use crate::text::put;
+use lh_types::ty::NoMemory;
+use lh_unit::inst::{BlockId, UnitId, ValueId};
+use lh_unit::module::Module;
+use lh_unit::name::UnitName;
+
+/// Writes the name of a unit.
+pub fn put_unit_name(out: &mut Vec<u8>, name: &UnitName) -> Result<(), NoMemory>
+    ensures { OnOk result (out.new.items ≡ out.old.items ++ render (unit_name_pieces name.now)) }
+{
+    if name.sigil == b'@' {
+        put(out, b"@")?;
+        return put(out, name.name.as_bytes());
+    }
+    put(out, b"%")?;
+    put(out, name.name.as_bytes())
+}
+
+/// Writes a text, and then the name of a value.
+pub fn put_value(
+    out: &mut Vec<u8>,
+    before: &[u8],
+    module: &Module,
+    unit: UnitId,
+    value: ValueId,
+) -> Result<(), NoMemory>
+    requires unit { unit.0 < unit_count module.now }
+    requires value { value.0 < value_count module.now unit.0 }
+    ensures { OnOk result (out.new.items ≡ out.old.items ++ (before.now ++ value_name_at module.now unit.0 value.0)) }
+{
+    put(out, before)?;
+    put(out, module.value_name(unit, value).as_bytes())
+}
+
+/// Writes a text, and then the name of a label.
+pub fn put_label(
+    out: &mut Vec<u8>,
+    before: &[u8],
+    module: &Module,
+    unit: UnitId,
+    block: BlockId,
+) -> Result<(), NoMemory>
+    requires unit { unit.0 < unit_count module.now }
+    requires block { block.0 < label_count module.now unit.0 }
+    ensures { OnOk result (out.new.items ≡ out.old.items ++ (before.now ++ label_name_at module.now unit.0 block.0)) }
+{
+    put(out, before)?;
+    put(out, module.block_name(unit, block).as_bytes())
+}
+
+/// Writes a word and a value, such as ` if %c`, where there is a value.
+pub fn put_maybe(
+    out: &mut Vec<u8>,
+    word: &[u8],
+    module: &Module,
+    unit: UnitId,
+    value: Option<ValueId>,
+) -> Result<(), NoMemory>
+    requires unit { unit.0 < unit_count module.now }
+    requires value { MaybeWithin (sizes module.now unit.0) value }
+    ensures { OnOk result (out.new.items ≡ out.old.items ++ render (maybe word.now (maybe_text (naming module.now unit.0) value))) }
+{
+    match value {
+        None => Ok(()),
+        Some(value) => {
+            put(out, b" ")?;
+            put(out, word)?;
+            put_value(out, b" %", module, unit, value)
+        }
+    }
+}

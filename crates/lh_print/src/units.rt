@@ -1,0 +1,214 @@
+//! Items and their lines.
+#![tactic(auto, using(crate::proofs::Joined::steps))]
+
+ghost use Rattle.std.specs.Prelude.{◌≡◌, ◌<◌, ◌++◌, ◌∷◌, [], map, OnOk};
+ghost use Rattle.lh_unit.specs.Contents.{unit_text};
+ghost use Rattle.lh_unit.specs.Table.{line_at};
+ghost use Rattle.lh_unit.specs.Naming.{maybe_text, line_text, label_text, block_text};
+ghost use Rattle.lh_unit.specs.Within.{Each, MaybeWithin};
+ghost use Rattle.lh_unit.specs.Arena.{unit_count, value_count, inst_count, naming, sizes, table_at, kind_at, blocks_at, unit_text_at, item_text_at, contents};
+ghost use Rattle.lh_unit.specs.Pieces.{render};
+ghost use Rattle.lh_unit.specs.Canon.{assigned, inst_line, label_lines, block_lines, blocks_lines, header, declaration, item_lines, text_of, canon};
+ghost use Rattle.lh_print.specs.Placed.{IsInstOf, IsLabelled, IsBlockOf, IsItemOf};
+
+use crate::arguments::{put_ports, put_signature};
+use crate::insts::put_inst;
+use crate::names::{put_label, put_unit_name, put_value};
+use crate::text::put;
+use crate::types::{put_type, put_types};
+use lh_types::ty::NoMemory;
+use lh_unit::inst::{BlockId, Declare, InstId, Item, UnitId, UnitKind, ValueId};
+use lh_unit::module::Module;
+
+/// Writes `%r = ` where there is a result.
+fn put_assigned(
+    out: &mut Vec<u8>,
+    module: &Module,
+    unit: UnitId,
+    value: Option<ValueId>,
+) -> Result<(), NoMemory>
+    requires unit { unit.0 < unit_count module.now }
+    requires value { MaybeWithin (sizes module.now unit.0) value }
+    ensures { OnOk result (out.new.items ≡ out.old.items ++ render (assigned (maybe_text (naming module.now unit.0) value))) }
+{
+    match value {
+        None => Ok(()),
+        Some(value) => {
+            put_value(out, b"%", module, unit, value)?;
+            put(out, b" = ")
+        }
+    }
+}
+
+/// Writes the line of an instruction.
+fn put_line(out: &mut Vec<u8>, module: &Module, unit: UnitId, inst: InstId) -> Result<(), NoMemory>
+    requires unit { unit.0 < unit_count module.now }
+    requires inst { IsInstOf module.now unit.0 inst }
+    ensures { OnOk result (out.new.items ≡ out.old.items ++ text_of (inst_line (line_text (naming module.now unit.0) (line_at (table_at module.now unit.0) inst.0)) ∷ [])) }
+{
+    put(out, b"    ")?;
+    put_assigned(out, module, unit, module.result_of(unit, inst))?;
+    put_inst(out, module, unit, module.inst(unit, inst))?;
+    put(out, b"\n")
+}
+
+/// Writes the lines of instructions.
+fn put_lines(
+    out: &mut Vec<u8>,
+    module: &Module,
+    unit: UnitId,
+    insts: &[InstId],
+) -> Result<(), NoMemory>
+    requires unit { unit.0 < unit_count module.now }
+    requires insts { Each (IsInstOf module.now unit.0) insts.now }
+    ensures { OnOk result (out.new.items ≡ out.old.items ++ text_of (map inst_line (map (λ i. line_text (naming module.now unit.0) (line_at (table_at module.now unit.0) i.0)) insts.now))) }
+{
+    for inst in insts {
+        put_line(out, module, unit, *inst)?;
+    }
+    Ok(())
+}
+
+/// Writes the line of a label; an entity's block has none.
+fn put_label_line(
+    out: &mut Vec<u8>,
+    module: &Module,
+    unit: UnitId,
+    block: BlockId,
+) -> Result<(), NoMemory>
+    requires unit { unit.0 < unit_count module.now }
+    requires labelled { IsLabelled module.now unit.0 (kind_at module.now unit.0) block }
+    ensures { OnOk result (out.new.items ≡ out.old.items ++ text_of (label_lines (label_text (naming module.now unit.0) (kind_at module.now unit.0) block))) }
+{
+    match module.kind(unit) {
+        Some(UnitKind::Entity) => Ok(()),
+        None | Some(UnitKind::Func) | Some(UnitKind::Proc) => {
+            put_label(out, b"", module, unit, block)?;
+            put(out, b":\n")
+        }
+    }
+}
+
+/// Writes the lines of a block.
+fn put_block(
+    out: &mut Vec<u8>,
+    module: &Module,
+    unit: UnitId,
+    block: BlockId,
+) -> Result<(), NoMemory>
+    requires unit { unit.0 < unit_count module.now }
+    requires block { IsBlockOf module.now unit.0 block }
+    ensures { OnOk result (out.new.items ≡ out.old.items ++ text_of (block_lines (block_text (naming module.now unit.0) (table_at module.now unit.0) block))) }
+{
+    put_label_line(out, module, unit, block)?;
+    put_lines(out, module, unit, module.insts(unit, block))
+}
+
+/// Writes the lines of blocks.
+fn put_blocks(
+    out: &mut Vec<u8>,
+    module: &Module,
+    unit: UnitId,
+    blocks: &[BlockId],
+) -> Result<(), NoMemory>
+    requires unit { unit.0 < unit_count module.now }
+    requires blocks { Each (IsBlockOf module.now unit.0) blocks.now }
+    ensures { OnOk result (out.new.items ≡ out.old.items ++ text_of (blocks_lines (map (block_text (naming module.now unit.0) (table_at module.now unit.0)) blocks.now))) }
+{
+    for block in blocks {
+        put_block(out, module, unit, *block)?;
+    }
+    Ok(())
+}
+
+/// Writes the first line of a unit, without its end.
+fn put_header(out: &mut Vec<u8>, module: &Module, unit: UnitId) -> Result<(), NoMemory>
+    requires { unit.0 < unit_count module.now }
+    ensures { let u = unit_text_at module.now unit.0 in OnOk result (out.new.items ≡ out.old.items ++ render (header u.kind u.name u.args u.result)) }
+{
+    match module.kind(unit) {
+        None | Some(UnitKind::Func) => {
+            put(out, b"func ")?;
+            put_unit_name(out, module.unit_name(unit))?;
+            put_signature(out, module, unit)
+        }
+        Some(UnitKind::Proc) => {
+            put(out, b"proc ")?;
+            put_unit_name(out, module.unit_name(unit))?;
+            put_ports(out, module, unit)
+        }
+        Some(UnitKind::Entity) => {
+            put(out, b"entity ")?;
+            put_unit_name(out, module.unit_name(unit))?;
+            put_ports(out, module, unit)
+        }
+    }
+}
+
+/// Writes the lines of a unit.
+fn put_unit(out: &mut Vec<u8>, module: &Module, unit: UnitId) -> Result<(), NoMemory>
+    requires { unit.0 < unit_count module.now }
+    ensures { OnOk result (out.new.items ≡ out.old.items ++ text_of (item_lines (unit_text (unit_text_at module.now unit.0)))) }
+{
+    put_header(out, module, unit)?;
+    put(out, b"\n")?;
+    put_blocks(out, module, unit, module.blocks(unit))?;
+    put(out, b"}\n")
+}
+
+/// Writes a declaration, without the end of its line.
+fn put_declaration(out: &mut Vec<u8>, declare: &Declare) -> Result<(), NoMemory>
+    ensures { OnOk result (out.new.items ≡ out.old.items ++ render (declaration declare.now)) }
+{
+    match declare {
+        Declare::Func {
+            name,
+            params,
+            result,
+        } => {
+            put(out, b"declare ")?;
+            put_unit_name(out, name)?;
+            put(out, b" (")?;
+            put_types(out, params.as_slice())?;
+            put(out, b") ")?;
+            put_type(out, result)
+        }
+        Declare::Unit {
+            name,
+            inputs,
+            outputs,
+        } => {
+            put(out, b"declare ")?;
+            put_unit_name(out, name)?;
+            put(out, b" (")?;
+            put_types(out, inputs.as_slice())?;
+            put(out, b") -> (")?;
+            put_types(out, outputs.as_slice())?;
+            put(out, b")")
+        }
+    }
+}
+
+/// Writes the lines of an item.
+fn put_item(out: &mut Vec<u8>, module: &Module, item: &Item) -> Result<(), NoMemory>
+    requires { IsItemOf module.now item.now }
+    ensures { OnOk result (out.new.items ≡ out.old.items ++ text_of (item_lines (item_text_at module.now item.now))) }
+{
+    match item {
+        Item::Unit(unit) => put_unit(out, module, *unit),
+        Item::Declare(declare) => {
+            put_declaration(out, declare)?;
+            put(out, b"\n")
+        }
+    }
+}
+
+/// Writes the canonical text of a module.
+pub fn put_items(out: &mut Vec<u8>, module: &Module) -> Result<(), NoMemory>
+    ensures { OnOk result (out.new.items ≡ out.old.items ++ canon (contents module.now)) }
+{
+    for item in module.items() {
+        put_item(out, module, item)?;
+    }
+    Ok(())
+}

@@ -1,0 +1,38 @@
+-- What an activation wishes: at which instant which bit of the signals becomes which.
+use Rattle.std.specs.Prelude.{ℕ, ◌+◌, List, [], ◌∷◌, Bool, Option, Some, None}
+use Rattle.std.specs.declared.cmp.Ordering.{Ordering}
+use Rattle.std.specs.Ordering.{nat_cmp, ordering_then}
+use Rattle.std.specs.BTreeMap.{insert_entry}
+use Rattle.lh_time.specs.declared.Instant.{Instant}
+use Rattle.lh_time.specs.Order.{instant_cmp}
+
+-- a bit of the signals at an instant
+pub record DueBit : Type 0 where
+  pub due : Instant
+  pub bit : ℕ
+
+-- by instant, then by bit
+abbrev pub due_bit_cmp : DueBit → DueBit → Ordering
+due_bit_cmp a b = ordering_then (instant_cmp a.due b.due) (nat_cmp a.bit b.bit)
+
+-- a map from these to bits, as the list of its entries in order
+abbrev pub Wish : Type 0
+Wish = List (DueBit × Bool)
+
+-- nothing is wished
+abbrev pub no_wish : Wish
+no_wish = []
+
+-- one more bit; it replaces one that was wished before for this instant
+abbrev pub with_bit : Wish → Instant → ℕ → Bool → Wish
+with_bit w due bit b = insert_entry due_bit_cmp w (record { due = due; bit = bit }) b
+
+-- bits in a row, from a lowest one on
+abbrev pub with_bits : Wish → Instant → ℕ → List Bool → Wish
+with_bits w due lo [] = w
+with_bits w due lo (b ∷ bs) = with_bits (with_bit w due lo b) due (lo + 1) bs
+
+-- a drive; where it has no due instant it adds nothing
+abbrev pub with_drive : Wish → Option Instant → ℕ → List Bool → Wish
+with_drive w None lo bs = w
+with_drive w (Some due) lo bs = with_bits w due lo bs

@@ -1,0 +1,284 @@
+-- What the calls on one unit do to the module.
+use Rattle.std.proofs.Common.{◌≡◌, ◌≢◌, ℕ, ◌+◌, ◌-◌, ◌^◌, ◌<◌, ◌≤◌, zero, suc, Bool, true, false, List, [], ◌∷◌, ◌++◌, length, map, get_or, set, if◌then◌else◌, Option, Some, None, IsSome, IsSomeAnd, is_some, Result, Ok, Err, unwrap_or, slice_get, position, refl, ap, sym, ◌∙◌, subst, arith, length-append, length-set}
+use Rattle.std.specs.List.{list_any}
+use Rattle.std.proofs.lemmas.List.{map-append, get_or-set_same, get_or-set_other, get_or_append_left, get_or_push, get_or_read, length-map, set-get_or}
+use Rattle.std.proofs.lemmas.Option.{slice_get-get_or, slice_get_within, get_or_from_slice_get}
+use Rattle.indexmap.specs.IndexSet.{insert_key}
+use Rattle.lh_types.specs.Types.{TypeTree, void_type}
+use Rattle.lh_types.specs.declared.ty.NoMemory.{NoMemory}
+use Rattle.lh_unit.specs.Contents as text
+use Rattle.lh_unit.specs.Contents.{ItemText, UnitText, BlockText, LineText, ArgText, unit_text, declare_text, new_unit, change_last, defines_unit, defines_value, defines_label, line_count}
+use Rattle.lh_unit.specs.UnitNames.{same_unit_name}
+use Rattle.lh_unit.specs.Table.{Table, IsTable, HasBlocks, ResultWithin, no_table, entity_block, is_block, is_defined, result_defined, insts_at, line_at}
+use Rattle.lh_unit.specs.TableCalls.{has_name, with_value, with_label, begun, with_arg, with_result, with_block, with_line, last_block, NamesValue, NamesLabel, FindsValueIn, FindsLabelIn, Begins, TakesArg, TakesBlock, TakesLine}
+use Rattle.lh_unit.specs.Within.{Sizes, sizes_of, MaybeWithin, InstWithin}
+use Rattle.lh_unit.specs.Naming.{Naming, naming_of, maybe_text, line_text, arg_text, label_text, block_text, kind_text, table_text}
+use Rattle.lh_unit.specs.Arena.{Arena, IsArena, IsOpen, OfOpen, KeepsEntries, Grows, HasAtMost, InstPlaced, contents, item_text_at, unit_text_at, naming, table_at, kind_at, unit_count, value_count, label_count, unit_name_at, value_name_at, label_name_at, no_unit_name}
+use Rattle.lh_unit.specs.Builders.{Finds, FindsUnit, FindsValue, FindsLabel, Says, BeginsUnit, AddsArg, SetsResult, AddsBlock, AddsLine, AddsDeclare, HasRoom, HasTwice, HasLabels, line_text_at}
+use Rattle.lh_unit.specs.declared.name.UnitName.{UnitName}
+use Rattle.lh_unit.specs.declared.inst.UnitId.{UnitId}
+use Rattle.lh_unit.specs.declared.inst.ValueId.{ValueId}
+use Rattle.lh_unit.specs.declared.inst.BlockId.{BlockId}
+use Rattle.lh_unit.specs.declared.inst.InstId.{InstId}
+use Rattle.lh_unit.specs.declared.inst.UnitKind.{UnitKind}
+use Rattle.lh_unit.specs.declared.inst.UnitKind.TheVariants as kind
+use Rattle.lh_unit.specs.declared.inst.UnitFault.{UnitFault}
+use Rattle.lh_unit.specs.declared.inst.UnitFault.TheVariants as fault
+use Rattle.lh_unit.specs.declared.inst.Inst.{Inst}
+use Rattle.lh_unit.specs.declared.inst.Arg.{Arg}
+use Rattle.lh_unit.specs.declared.inst.Declare.{Declare}
+use Rattle.lh_unit.specs.declared.inst.Item.{Item}
+use Rattle.lh_unit.specs.declared.inst.Item.TheVariants as item
+use Rattle.lh_unit.specs.declared.table.Line.{Line}
+use Rattle.lh_unit.proofs.Lists.{Same, same, other, same_or, map-ext, map-same, not_true, or_true, get_or-push_default, slice_get-push, slice_get-push_before, key_found}
+use Rattle.lh_unit.proofs.Tables.{insts_at-more, missing}
+use Rattle.lh_unit.proofs.Arenas.{with_table, with_unit, table_at-same, table_at-other, table_at-unit, same_unit_name-is, same_unit_name-refl, open-within, open-begun, open-item, LinesPlaced, not_there}
+use Rattle.lh_unit.proofs.Texts.{Agree, table_text-same}
+use Rattle.lh_unit.proofs.Defined.{line_count-ids, defines_value-ids, defines_result-ids, defines_label-ids}
+use Rattle.lh_unit.proofs.ContentsLemmas.{text_with, open-of, of-open, contents-with_table, unit_text-table, unit_text-table_same, item_text-other, text-with_arg, text-with_result, text-with_block, text-with_line}
+
+-- a table with the entries of another and maybe more
+pub record Grown (t u : Table) : Type 0 where
+  pub values : length t.values ≤ length u.values
+  pub labels : length t.labels ≤ length u.labels
+  pub value_names : (k : ℕ) → k < length t.values → get_or u.values k [] ≡ get_or t.values k []
+  pub label_names : (k : ℕ) → k < length t.labels → get_or u.labels k [] ≡ get_or t.labels k []
+
+-- and with at most k more
+pub record AtMost (k : ℕ) (t u : Table) : Type 0 where
+  pub values : length u.values ≤ length t.values + k
+  pub labels : length u.labels ≤ length t.labels + k
+
+pub Grown-refl : (t : Table) → Grown t t
+Grown-refl t = record { values = omega arith; labels = omega arith; value_names = λ k h. refl; label_names = λ k h. refl }
+
+pub AtMost-refl : (k : ℕ) (t : Table) → AtMost k t t
+AtMost-refl k t = record { values = omega arith; labels = omega arith }
+
+pub Grown-same : (t u : Table) → u.values ≡ t.values → u.labels ≡ t.labels → Grown t u
+Grown-same t u v l = record {
+  values = omega (arith, ap (λ x. length x) v);
+  labels = omega (arith, ap (λ x. length x) l);
+  value_names = λ k h. ap (λ x. get_or x k []) v;
+  label_names = λ k h. ap (λ x. get_or x k []) l;
+}
+
+pub AtMost-same : (t u : Table) → u.values ≡ t.values → u.labels ≡ t.labels → AtMost 0 t u
+AtMost-same t u v l = record { values = omega (arith, ap (λ x. length x) v); labels = omega (arith, ap (λ x. length x) l) }
+
+-- a relation of tables holds of all where it holds of the one that is written
+pub each_table : (R : Table → Table → Type 0) → ((t : Table) → R t t) → (a : Arena) (u : ℕ) (t : Table) → u < unit_count a → R (table_at a u) t → (v : ℕ) → R (table_at a v) (table_at (with_table a u t) v)
+each_table R r a u t h w v = by (same_or v u)
+  where
+    by : Same v u → R (table_at a v) (table_at (with_table a u t) v)
+    by (same e) = subst (λ n. R (table_at a n) (table_at (with_table a u t) n)) (sym e) (subst (R (table_at a u)) (sym (table_at-same a u t h)) w)
+    by (other e) = subst (R (table_at a v)) (sym (table_at-other a u v t e)) (r (table_at a v))
+
+pub KeepsEntries-by : (a b : Arena) → unit_count a ≤ unit_count b → ((u : ℕ) → u < unit_count a → unit_name_at b u ≡ unit_name_at a u) → ((v : ℕ) → Grown (table_at a v) (table_at b v)) → KeepsEntries a b
+KeepsEntries-by a b h n g = record {
+  units = h;
+  values = λ u. (g u).values;
+  labels = λ u. (g u).labels;
+  unit_names = n;
+  value_names = λ u v w. (g u).value_names v w;
+  label_names = λ u v w. (g u).label_names v w;
+}
+
+pub HasAtMost-by : (k : ℕ) (a b : Arena) → unit_count b ≤ unit_count a + k → ((v : ℕ) → AtMost k (table_at a v) (table_at b v)) → (n : ℕ) → HasAtMost n a → HasAtMost (n + k) b
+HasAtMost-by k a b h g n w = record {
+  units = omega (arith, h, w.units);
+  values = λ u. omega (arith, (g u).values, w.values u);
+  labels = λ u. omega (arith, (g u).labels, w.labels u);
+}
+
+pub HasAtMost-same : (a b : Arena) → unit_count b ≤ unit_count a → ((v : ℕ) → AtMost 0 (table_at a v) (table_at b v)) → (n : ℕ) → HasAtMost n a → HasAtMost n b
+HasAtMost-same a b h g n w = record {
+  units = omega (arith, h, w.units);
+  values = λ u. omega (arith, (g u).values, w.values u);
+  labels = λ u. omega (arith, (g u).labels, w.labels u);
+}
+
+-- writing what stands there changes nothing
+with_table-same : (a : Arena) (u : ℕ) → with_table a u (table_at a u) ≡ a
+with_table-same a u = λ i. record a { units = set-get_or a.units u no_table i }
+
+pub with_table-old : (a : Arena) (u : ℕ) (t : Table) → t ≡ table_at a u → with_table a u t ≡ a
+with_table-old a u t e = ap (with_table a u) e ∙ with_table-same a u
+
+-- a table with one more name says the same
+module _ (a : Arena) (u : ℕ) (t : Table) (n : List ℕ) (o : IsTable t) (p : LinesPlaced (unit_count a) t) where
+  abbrev new_value : Table
+  new_value = record t { values = t.values ++ n ∷ [] }
+
+  abbrev new_label : Table
+  new_label = record t { labels = t.labels ++ n ∷ []; bodies = t.bodies ++ None ∷ [] }
+
+  Grown-value : Grown t (record t { values = t.values ++ n ∷ [] })
+  Grown-value = record {
+    values = omega (arith, length-append t.values (n ∷ []));
+    labels = omega arith;
+    value_names = λ k h. get_or_append_left t.values (n ∷ []) [] k h;
+    label_names = λ k h. refl;
+  }
+
+  Grown-label : Grown t (record t { labels = t.labels ++ n ∷ []; bodies = t.bodies ++ None ∷ [] })
+  Grown-label = record {
+    values = omega arith;
+    labels = omega (arith, length-append t.labels (n ∷ []));
+    value_names = λ k h. refl;
+    label_names = λ k h. get_or_append_left t.labels (n ∷ []) [] k h;
+  }
+
+  AtMost-value : AtMost 1 t (record t { values = t.values ++ n ∷ [] })
+  AtMost-value = record { values = omega (arith, length-append t.values (n ∷ [])); labels = omega arith }
+
+  AtMost-label : AtMost 1 t (record t { labels = t.labels ++ n ∷ []; bodies = t.bodies ++ None ∷ [] })
+  AtMost-label = record { values = omega arith; labels = omega (arith, length-append t.labels (n ∷ [])) }
+
+  agree : (v : Table) → Grown t v → Agree (sizes_of (unit_count a) t) (naming_of (unit_name_at a) v) (naming_of (unit_name_at a) t)
+  agree v g = record { units = λ k h. refl; values = g.value_names; labels = g.label_names }
+
+  says-value : text_with a u (record t { values = t.values ++ n ∷ [] }) ≡ text_with a u t
+  says-value = table_text-same (unit_count a) (naming_of (unit_name_at a) new_value) (naming_of (unit_name_at a) t) (unit_name_at a u) t (agree new_value Grown-value) o p
+
+  says-label : text_with a u (record t { labels = t.labels ++ n ∷ []; bodies = t.bodies ++ None ∷ [] }) ≡ text_with a u t
+  says-label = bodies ∙ table_text-same (unit_count a) (naming_of (unit_name_at a) new_label) (naming_of (unit_name_at a) t) (unit_name_at a u) t (agree new_label Grown-label) o p
+    where
+      f : Naming
+      f = naming_of (unit_name_at a) new_label
+
+      bodies : table_text (naming_of (unit_name_at a) new_label) (unit_name_at a u) new_label ≡ table_text (naming_of (unit_name_at a) new_label) (unit_name_at a u) t
+      bodies =
+          let e : map (block_text f new_label) t.blocks ≡ map (block_text f t) t.blocks = map-ext (block_text f new_label) (block_text f t) t.blocks (λ b.
+          let s : insts_at new_label b.0 ≡ insts_at t b.0 = insts_at-more t n b.0 in
+          λ i. record { label = label_text f t.kind b; lines = map (λ (k : InstId). line_text f (line_at t k.0)) (s i) }) in
+          λ i. record { kind = kind_text t.kind; name = unit_name_at a u; args = map (arg_text f) t.args; result = t.result; blocks = e i }
+
+  -- what is asked of a table that is looked into
+  pub record Looked (v : Table) : Type 0 where
+    pub grown : Grown t v
+    pub at_most : AtMost 1 t v
+    pub says : text_with a u v ≡ text_with a u t
+
+  pub looked-value : Looked (with_value t n)
+  looked-value = by (has_name t.values n)
+    where
+      by : (b : Bool) → Looked (if b then t else record t { values = t.values ++ n ∷ [] })
+      by true = record { grown = Grown-refl t; at_most = AtMost-refl 1 t; says = refl }
+      by false = record { grown = Grown-value; at_most = AtMost-value; says = says-value }
+
+  pub looked-label : Looked (with_label t n)
+  looked-label = by (has_name t.labels n)
+    where
+      by : (b : Bool) → Looked (if b then t else record t { labels = t.labels ++ n ∷ []; bodies = t.bodies ++ None ∷ [] })
+      by true = record { grown = Grown-refl t; at_most = AtMost-refl 1 t; says = refl }
+      by false = record { grown = Grown-label; at_most = AtMost-label; says = says-label }
+
+contents-same : (a : Arena) (u : ℕ) (t : Table) → u < unit_count a → text_with a u t ≡ unit_text_at a u → contents (with_table a u t) ≡ contents a
+contents-same a u t h e = map-ext (item_text_at (with_table a u t)) (item_text_at a) a.items (λ i. item_text-other a (with_table a u t) i (λ v r. by v.0 (same_or v.0 u)))
+  where
+    by : (v : ℕ) → Same v u → unit_text_at (with_table a u t) v ≡ unit_text_at a v
+    by v (same r) = ap (unit_text_at (with_table a u t)) r ∙ unit_text-table_same a u t h ∙ e ∙ sym (ap (unit_text_at a) r)
+    by v (other r) = unit_text-table a u v t r
+
+Finds-with_table : (a : Arena) (u : ℕ) (t : Table) → u < unit_count a → Grown (table_at a u) t → AtMost 1 (table_at a u) t → text_with a u t ≡ unit_text_at a u → Finds a (with_table a u t)
+Finds-with_table a u t h g m e = record {
+  grows = record {
+    entries = KeepsEntries-by a (with_table a u t) (omega (arith, length-set a.units u t)) (λ v w. refl) (each_table Grown Grown-refl a u t h g);
+    open_stays = λ v p. p;
+    says = contents-same a u t h e;
+  };
+  few = HasAtMost-by 1 a (with_table a u t) (omega (arith, length-set a.units u t)) (each_table (AtMost 1) (AtMost-refl 1) a u t h m);
+}
+
+-- a name that is looked up in the unit u
+pub FindsValue-with_table : (r : Result ValueId NoMemory) (a : Arena) (u : UnitId) (t : Table) (n : List ℕ) → IsArena a → u.0 < unit_count a → FindsValueIn r (table_at a u.0) t n → FindsValue r a (with_table a u.0 t) u n
+FindsValue-with_table (Ok v) a u t n o h f =
+    let l : Looked a u.0 (table_at a u.0) n (o.tables u.0 h) (o.placed u.0) t = subst (Looked a u.0 (table_at a u.0) n (o.tables u.0 h) (o.placed u.0)) (sym f.table) (looked-value a u.0 (table_at a u.0) n (o.tables u.0 h) (o.placed u.0)) in (
+      Finds-with_table a u.0 t h l.grown l.at_most l.says,
+      subst (λ (s : Table). v.0 < length s.values) (sym (table_at-same a u.0 t h)) f.within,
+      ap (λ (s : Table). get_or s.values v.0 []) (table_at-same a u.0 t h) ∙ get_or_from_slice_get t.values v.0 n [] f.named,
+    )
+FindsValue-with_table (Err e) a u t n o h f = with_table-old a u.0 t f
+
+pub FindsLabel-with_table : (r : Result BlockId NoMemory) (a : Arena) (u : UnitId) (t : Table) (n : List ℕ) → IsArena a → u.0 < unit_count a → FindsLabelIn r (table_at a u.0) t n → FindsLabel r a (with_table a u.0 t) u n
+FindsLabel-with_table (Ok v) a u t n o h f =
+    let l : Looked a u.0 (table_at a u.0) n (o.tables u.0 h) (o.placed u.0) t = subst (Looked a u.0 (table_at a u.0) n (o.tables u.0 h) (o.placed u.0)) (sym f.table) (looked-label a u.0 (table_at a u.0) n (o.tables u.0 h) (o.placed u.0)) in (
+      Finds-with_table a u.0 t h l.grown l.at_most l.says,
+      subst (λ (s : Table). v.0 < length s.labels) (sym (table_at-same a u.0 t h)) f.within,
+      ap (λ (s : Table). get_or s.labels v.0 []) (table_at-same a u.0 t h) ∙ get_or_from_slice_get t.labels v.0 n [] f.named,
+    )
+FindsLabel-with_table (Err e) a u t n o h f = with_table-old a u.0 t f
+
+-- the open unit is changed by f
+Says-with_table : (a : Arena) (u : UnitId) (t : Table) (f : UnitText → UnitText) → IsArena a → IsOpen a u → t.values ≡ (table_at a u.0).values → t.labels ≡ (table_at a u.0).labels → text_with a u.0 t ≡ f (unit_text_at a u.0) → Says a (with_table a u.0 t) u (change_last f (contents a))
+Says-with_table a u t f o p v l e = record {
+  says = contents-with_table a u t f o p e;
+  is_open = p;
+  entries = KeepsEntries-by a (with_table a u.0 t) (omega (arith, length-set a.units u.0 t)) (λ w h. refl) (each_table Grown Grown-refl a u.0 t (open-within a u o p) (Grown-same (table_at a u.0) t v l));
+  few = HasAtMost-same a (with_table a u.0 t) (omega (arith, length-set a.units u.0 t)) (each_table (AtMost 0) (AtMost-refl 0) a u.0 t (open-within a u o p) (AtMost-same (table_at a u.0) t v l));
+}
+
+-- the calls on the open unit
+module _ (a : Arena) (u : UnitId) (o : IsArena a) (p : IsOpen a u) where
+  t : Table
+  t = table_at a u.0
+
+  here : u.0 < unit_count a
+  here = open-within a u o p
+
+  defines : (v : ℕ) (b : Bool) → v < length (table_at a u.0).values → is_defined (table_at a u.0) v ≡ b → OfOpen a (λ x. defines_value (value_name_at a u.0 v) x ≡ b)
+  defines v b h e = open-of a u (λ x. defines_value (value_name_at a u.0 v) x ≡ b) p (defines_value-ids (unit_name_at a) (unit_name_at a u.0) (table_at a u.0) v (o.tables u.0 here) h ∙ e)
+
+  says-arg : (x : Arg) (s : Table) → s ≡ with_arg (table_at a u.0) x → Says a (with_table a u.0 s) u (change_last (text.with_arg (arg_text (naming a u.0) x)) (contents a))
+  says-arg x s e = subst (λ s. Says a (with_table a u.0 s) u (change_last (text.with_arg (arg_text (naming a u.0) x)) (contents a))) (sym e)
+      (Says-with_table a u (with_arg (table_at a u.0) x) (text.with_arg (arg_text (naming a u.0) x)) o p refl refl (text-with_arg a u.0 (table_at a u.0) x))
+
+  pub AddsArg-with_table : (r : Result (Unit {0}) UnitFault) (s : Table) (x : Arg) → x.value.0 < length (table_at a u.0).values → TakesArg r (table_at a u.0) s x → AddsArg r a (with_table a u.0 s) u (arg_text (naming a u.0) x)
+  AddsArg-with_table (Ok _) s x h f = (defines x.value.0 false h f.0, says-arg x s f.1)
+  AddsArg-with_table (Err fault.UnitTooLarge) s x h f = f
+  AddsArg-with_table (Err fault.DuplicateName) s x h f = (defines x.value.0 true h f.0, with_table-old a u.0 s f.1)
+  AddsArg-with_table (Err fault.OutOfMemory) s x h f = (defines x.value.0 false h f.0, with_table-old a u.0 s f.1)
+
+  pub SetsResult-with_table : (s : Table) (ty : TypeTree) → s ≡ with_result (table_at a u.0) ty → SetsResult a (with_table a u.0 s) u ty
+  SetsResult-with_table s ty e = subst (λ s. SetsResult a (with_table a u.0 s) u ty) (sym e)
+      (Says-with_table a u (with_result (table_at a u.0) ty) (text.with_result ty) o p refl refl (text-with_result a u.0 (table_at a u.0) ty))
+
+  labelled : (b : ℕ) (c : Bool) → HasBlocks (kind_at a u.0) → b < length (table_at a u.0).labels → is_block (table_at a u.0).blocks b ≡ c → OfOpen a (λ x. defines_label (label_name_at a u.0 b) x ≡ c)
+  labelled b c s h e = open-of a u (λ x. defines_label (label_name_at a u.0 b) x ≡ c) p (defines_label-ids (unit_name_at a) (unit_name_at a u.0) (table_at a u.0) b (o.tables u.0 here) s h ∙ e)
+
+  pub AddsBlock-with_table : (r : Result (Unit {0}) UnitFault) (s : Table) (b : BlockId) → HasBlocks (kind_at a u.0) → b.0 < length (table_at a u.0).labels → TakesBlock r (table_at a u.0) s b → AddsBlock r a (with_table a u.0 s) u (label_name_at a u.0 b.0)
+  AddsBlock-with_table (Ok _) s b k h f = (
+    labelled b.0 false k h f.0,
+    subst (λ s. Says a (with_table a u.0 s) u (change_last (text.with_block (label_name_at a u.0 b.0)) (contents a))) (sym f.1)
+        (Says-with_table a u (with_block (table_at a u.0) b) (text.with_block (label_name_at a u.0 b.0)) o p refl refl (text-with_block a u.0 (table_at a u.0) b (o.tables u.0 here) k h f.0)),
+  )
+  AddsBlock-with_table (Err fault.UnitTooLarge) s b k h f = f
+  AddsBlock-with_table (Err fault.DuplicateName) s b k h f = (labelled b.0 true k h f.0, with_table-old a u.0 s f.1)
+  AddsBlock-with_table (Err fault.OutOfMemory) s b k h f = (labelled b.0 false k h f.0, with_table-old a u.0 s f.1)
+
+  counted : line_count (unit_text_at a u.0).blocks ≡ length (table_at a u.0).lines
+  counted = line_count-ids (naming a u.0) (unit_name_at a u.0) (table_at a u.0) (o.tables u.0 here)
+
+  has_room : (v : Option ValueId) (i : Inst) → ResultWithin (length (table_at a u.0).values) v → length (table_at a u.0).lines < 65536 → result_defined (table_at a u.0) v ≡ false → OfOpen a (HasRoom (line_text_at a u.0 v i))
+  has_room v i w h e = open-of a u (HasRoom (line_text_at a u.0 v i)) p record {
+    small = omega (arith, h, counted);
+    undefined = defines_result-ids (unit_name_at a) (unit_name_at a u.0) (table_at a u.0) v (o.tables u.0 here) w ∙ e;
+  }
+
+  has_twice : (v : Option ValueId) (i : Inst) → ResultWithin (length (table_at a u.0).values) v → length (table_at a u.0).lines < 65536 → result_defined (table_at a u.0) v ≡ true → OfOpen a (HasTwice (line_text_at a u.0 v i))
+  has_twice v i w h e = open-of a u (HasTwice (line_text_at a u.0 v i)) p record {
+    small = omega (arith, h, counted);
+    twice = defines_result-ids (unit_name_at a) (unit_name_at a u.0) (table_at a u.0) v (o.tables u.0 here) w ∙ e;
+  }
+
+  pub AddsLine-with_table : (r : Result InstId UnitFault) (s : Table) (v : Option ValueId) (i : Inst) → ResultWithin (length (table_at a u.0).values) v → 0 < length (table_at a u.0).blocks → TakesLine r (table_at a u.0) s v i → AddsLine r a (with_table a u.0 s) u (line_text_at a u.0 v i)
+  AddsLine-with_table (Ok id) s v i w h f = (
+    has_room v i w f.0 f.1,
+    subst (λ s. Says a (with_table a u.0 s) u (change_last (text.with_line (line_text_at a u.0 v i)) (contents a))) (sym f.3)
+        (Says-with_table a u (with_line (table_at a u.0) v i) (text.with_line (line_text_at a u.0 v i)) o p refl refl (text-with_line a u.0 (table_at a u.0) v i (o.tables u.0 here) h)),
+    f.2,
+  )
+  AddsLine-with_table (Err fault.UnitTooLarge) s v i w h f = (open-of a u (λ x. line_count x.blocks ≡ 65536) p (counted ∙ f.0), with_table-old a u.0 s f.1)
+  AddsLine-with_table (Err fault.DuplicateName) s v i w h f = (has_twice v i w f.0 f.1, with_table-old a u.0 s f.2)
+  AddsLine-with_table (Err fault.OutOfMemory) s v i w h f = (has_room v i w f.0 f.1, with_table-old a u.0 s f.2)

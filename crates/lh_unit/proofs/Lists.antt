@@ -1,0 +1,172 @@
+-- Lists with one more item, distinct keys, maps and lists of lists.
+use Rattle.std.proofs.Common.{◌≡◌, ◌≢◌, ℕ, ◌+◌, ◌-◌, ◌<◌, ◌≤◌, zero, suc, Bool, true, false, ◌||◌, nat_eq, List, [], ◌∷◌, ◌++◌, length, map, take, get_or, set, Option, Some, None, slice_get, position, refl, ap, sym, ◌∙◌, subst, arith, length-append, append_assoc}
+use Rattle.std.specs.List.{list_any}
+use Rattle.std.proofs.lemmas.Option.{slice_get-get_or, slice_get_past}
+use Rattle.std.proofs.lemmas.List.Quantifiers.{position-Some}
+use Rattle.std.proofs.lemmas.List.{map-append}
+use Rattle.std.proofs.Math.Seq.{take-append_seam}
+use Rattle.std.proofs.lemmas.Grind.{common_steps}
+use Rattle.lh_unit.specs.Table.{AllDistinct, flat}
+use Rattle.lh_unit.specs.Within.{Each}
+
+-- where an index lies
+pub data Place (n k : ℕ) : Type 0 where
+  before : k < n → Place n k
+  at : k ≡ n → Place n k
+  past : n < k → Place n k
+
+pub place : (n k : ℕ) → Place n k
+place zero zero = at refl
+place zero (suc k) = past (omega arith)
+place (suc n) zero = before (omega arith)
+place (suc n) (suc k) = elim (place n k) [ before h ↦ before (omega (arith, h)) | at h ↦ at (ap suc h) | past h ↦ past (omega (arith, h)) ]
+
+-- two numbers are one or not
+pub data Same (a b : ℕ) : Type 0 where
+  same : a ≡ b → Same a b
+  other : a ≢ b → Same a b
+
+pub same_or : (a b : ℕ) → Same a b
+same_or a b = elim (place b a) [ before h ↦ other (λ e. omega (arith, h, e)) | at h ↦ same h | past h ↦ other (λ e. omega (arith, h, e)) ]
+
+pub nat_eq-refl : (a : ℕ) → nat_eq a a ≡ true
+nat_eq-refl a = grind (arith, common_steps)
+
+pub nat_eq-other : (a b : ℕ) → (a ≡ b → ⊥) → nat_eq a b ≡ false
+nat_eq-other a b h = grind (arith, common_steps)
+
+pub nat_eq-is : (a b : ℕ) → nat_eq a b ≡ true → a ≡ b
+nat_eq-is a b h = grind (arith, common_steps)
+
+pub or_false : (b : Bool) → (b || false) ≡ b
+or_false true = refl
+or_false false = refl
+
+pub or_true : (b : Bool) → (b || true) ≡ true
+or_true true = refl
+or_true false = refl
+
+pub or-assoc : (a b c : Bool) → ((a || b) || c) ≡ (a || (b || c))
+or-assoc true b c = refl
+or-assoc false b c = refl
+
+pub not_true : (b : Bool) → (b ≡ true → ⊥) → b ≡ false
+not_true true h = absurd (h refl)
+not_true false h = refl
+
+pub some_inj : {X : Type 0} (x y : X) → Some x ≡ Some y → x ≡ y
+some_inj x y p = cc
+
+-- the last item of a list, and the others
+pub slice_get-push : {X : Type 0} (xs : List X) (y : X) (k : ℕ) → k ≡ length xs → slice_get (xs ++ y ∷ []) k ≡ Some y
+slice_get-push [] y zero e = refl
+slice_get-push [] y (suc k) e = cc
+slice_get-push (x ∷ xs) y zero e = cc
+slice_get-push (x ∷ xs) y (suc k) e = slice_get-push xs y k (omega arith)
+
+pub slice_get-push_before : {X : Type 0} (xs : List X) (y : X) (k : ℕ) → k < length xs → slice_get (xs ++ y ∷ []) k ≡ slice_get xs k
+slice_get-push_before [] y k h = absurd (omega arith)
+slice_get-push_before (x ∷ xs) y zero h = refl
+slice_get-push_before (x ∷ xs) y (suc k) h = slice_get-push_before xs y k (omega arith)
+
+pub slice_get-gone : {X : Type 0} (xs : List X) (y m : X) (k : ℕ) → length xs < k → slice_get (xs ++ y ∷ []) k ≡ Some m → ⊥
+slice_get-gone xs y m k h p = let e : slice_get (xs ++ y ∷ []) k ≡ None = slice_get_past (xs ++ y ∷ []) k (omega (arith, length-append xs (y ∷ []))) in cc
+
+-- what is at an index of a list with one more item
+pub data Pushed {X : Type 0} (xs : List X) (y m : X) (k : ℕ) : Type 0 where
+  old : k < length xs → slice_get xs k ≡ Some m → Pushed xs y m k
+  new : k ≡ length xs → y ≡ m → Pushed xs y m k
+
+pub pushed : {X : Type 0} (xs : List X) (y m : X) (k : ℕ) → slice_get (xs ++ y ∷ []) k ≡ Some m → Pushed xs y m k
+pushed xs y m k p = elim (place (length xs) k) [
+  | before h ↦ old h (sym (slice_get-push_before xs y k h) ∙ p)
+  | at h ↦ new h (some_inj y m (sym (slice_get-push xs y k h) ∙ p))
+  | past h ↦ absurd (slice_get-gone xs y m k h p)
+]
+
+-- one more default at the end changes no read
+pub get_or-push_default : {X : Type 0} (xs : List X) (d : X) (k : ℕ) → get_or (xs ++ d ∷ []) k d ≡ get_or xs k d
+get_or-push_default [] d zero = refl
+get_or-push_default [] d (suc k) = refl
+get_or-push_default (x ∷ xs) d zero = refl
+get_or-push_default (x ∷ xs) d (suc k) = get_or-push_default xs d k
+
+-- a list that is not empty is what comes before its last item, and that item
+pub front_last : {X : Type 0} (xs : List X) (d : X) (n : ℕ) → length xs ≡ suc n → (front : List X) × (xs ≡ front ++ get_or xs n d ∷ [])
+front_last [] d n h = absurd (omega arith)
+front_last (x ∷ []) d zero h = ([], refl)
+front_last (x ∷ []) d (suc n) h = absurd (omega arith)
+front_last (x ∷ y ∷ xs) d zero h = absurd (omega arith)
+front_last (x ∷ y ∷ xs) d (suc n) h = let r = front_last (y ∷ xs) d n (omega arith) in (x ∷ r.0, ap (λ l. x ∷ l) r.1)
+
+pub AllDistinct-push : {K : Type 0} (ks : List K) (k : K) → AllDistinct ks → ((i : ℕ) → slice_get ks i ≡ Some k → ⊥) → AllDistinct (ks ++ k ∷ [])
+AllDistinct-push ks k d a i j m p q = by (pushed ks k m i p) (pushed ks k m j q)
+  where
+    by : Pushed ks k m i → Pushed ks k m j → i ≡ j
+    by (old h e) (old g f) = d i j m e f
+    by (old h e) (new g f) = absurd (a i (e ∙ ap Some (sym f)))
+    by (new h e) (old g f) = absurd (a j (f ∙ ap Some (sym e)))
+    by (new h e) (new g f) = h ∙ sym g
+
+-- keys whose test is equality
+module _ {K : Type 0} (E : K → K → Bool) (is : (x y : K) → E x y ≡ true → x ≡ y) (itself : (x : K) → E x x ≡ true) where
+  pub key_found : (ks : List K) (k : K) (i : ℕ) → Some i ≡ position (E k) ks → (i < length ks) × (slice_get ks i ≡ Some k)
+  key_found ks k i p = let s = position-Some (E k) ks i k (sym p) in (s.0, slice_get-get_or ks i k s.0 ∙ ap Some (sym (is k (get_or ks i k) s.1)))
+
+  pub other_keys : (ks : List K) (k : K) (i : ℕ) → false ≡ list_any (E k) ks → slice_get ks i ≡ Some k → ⊥
+  other_keys [] k i a e = cc
+  other_keys (x ∷ ks) k zero a e = let d : x ≡ k = cc in let f : E k x ≡ true = ap (E k) d ∙ itself k in cc
+  other_keys (x ∷ ks) k (suc i) a e = other_keys ks k i (rest (E k x) (list_any (E k) ks) a) e
+    where
+      rest : (b c : Bool) → false ≡ (b || c) → false ≡ c
+      rest false c p = p
+      rest true c p = cc
+
+-- maps of functions that agree
+pub map-ext : {X Y : Type 0} (f g : X → Y) (xs : List X) → ((x : X) → f x ≡ g x) → map f xs ≡ map g xs
+map-ext f g [] h = refl
+map-ext f g (x ∷ xs) h = let e : f x ≡ g x = h x in let r : map f xs ≡ map g xs = map-ext f g xs h in λ i. e i ∷ r i
+
+pub map-same : {X Y : Type 0} (f g : X → Y) (xs : List X) → ((i : ℕ) (x : X) → slice_get xs i ≡ Some x → f x ≡ g x) → map f xs ≡ map g xs
+map-same f g [] h = refl
+map-same f g (x ∷ xs) h = let e : f x ≡ g x = h 0 x refl in let r : map f xs ≡ map g xs = map-same f g xs (λ i y p. h (suc i) y p) in λ i. e i ∷ r i
+
+pub map-each : {X Y : Type 0} (P : X → Type 0) (f g : X → Y) (xs : List X) → ((x : X) → P x → f x ≡ g x) → Each P xs → map f xs ≡ map g xs
+map-each P f g [] h w = refl
+map-each P f g (x ∷ xs) h w = let e : f x ≡ g x = h x w.0 in let r : map f xs ≡ map g xs = map-each P f g xs h w.1 in λ i. e i ∷ r i
+
+pub map-map : {X Y Z : Type 0} (f : Y → Z) (g : X → Y) (xs : List X) → map f (map g xs) ≡ map (λ x. f (g x)) xs
+map-map f g [] = refl
+map-map f g (x ∷ xs) = ap (λ l. f (g x) ∷ l) (map-map f g xs)
+
+pub Each-append : {X : Type 0} (P : X → Type 0) (xs ys : List X) → Each P xs → Each P ys → Each P (xs ++ ys)
+Each-append P [] ys w v = v
+Each-append P (x ∷ xs) ys w v = (w.0, Each-append P xs ys w.1 v)
+
+pub Each-left : {X : Type 0} (P : X → Type 0) (xs ys : List X) → Each P (xs ++ ys) → Each P xs
+Each-left P [] ys w = tt
+Each-left P (x ∷ xs) ys w = (w.0, Each-left P xs ys w.1)
+
+pub Each-right : {X : Type 0} (P : X → Type 0) (xs ys : List X) → Each P (xs ++ ys) → Each P ys
+Each-right P [] ys w = w
+Each-right P (x ∷ xs) ys w = Each-right P xs ys w.1
+
+-- lists of lists
+pub flat-append : {X : Type 0} (xs ys : List (List X)) → flat (xs ++ ys) ≡ flat xs ++ flat ys
+flat-append [] ys = refl
+flat-append (x ∷ xs) ys = ap (λ l. x ++ l) (flat-append xs ys) ∙ sym (append_assoc x (flat xs) (flat ys))
+
+pub map-flat : {X Y : Type 0} (f : X → Y) (xs : List (List X)) → map f (flat xs) ≡ flat (map (map f) xs)
+map-flat f [] = refl
+map-flat f (x ∷ xs) = map-append f x (flat xs) ∙ ap (λ l. map f x ++ l) (map-flat f xs)
+
+pub Each-part : {X Y : Type 0} (P : Y → Type 0) (g : X → List Y) (xs : List X) (i : ℕ) (x : X) → slice_get xs i ≡ Some x → Each P (flat (map g xs)) → Each P (g x)
+Each-part P g [] i x p w = cc
+Each-part P g (y ∷ xs) zero x p w = let e : y ≡ x = cc in subst (λ z. Each P (g z)) e (Each-left P (g y) (flat (map g xs)) w)
+Each-part P g (y ∷ xs) (suc i) x p w = Each-part P g xs i x p (Each-right P (g y) (flat (map g xs)) w)
+
+-- a push that is taken back
+pub popped : {X : Type 0} (xs ys zs : List X) (y : X) → ys ≡ xs ++ y ∷ [] → zs ≡ take (length ys - 1) ys → zs ≡ xs
+popped xs ys zs y e f =
+    let n : length ys - 1 ≡ length xs = omega (arith, ap (λ l. length l) e, length-append xs (y ∷ [])) in
+    f ∙ ap (λ k. take k ys) n ∙ ap (take (length xs)) e ∙ take-append_seam xs (y ∷ [])

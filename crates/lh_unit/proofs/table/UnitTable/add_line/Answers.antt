@@ -1,0 +1,51 @@
+use Rattle.std.proofs.Common.{rules, ◌≡◌, ◌<◌, ◌-◌, ◌++◌, ◌∷◌, [], Option, Some, None, IsSome, List, false, get_or, set, unwrap_or, length, refl, sym, ◌∙◌, ap, subst}
+use Rattle.lh_unit.specs.Table.{Table, IsTable, Flags, ResultWithin, result_defined}
+use Rattle.lh_unit.specs.TableCalls.{with_line, last_block}
+use Rattle.lh_unit.specs.TableOf.{table_of}
+use Rattle.lh_unit.specs.declared.inst.InstId.{InstId}
+use Rattle.lh_unit.specs.declared.table.Line.{Line}
+use Rattle.lh_unit.proofs.Tables.{last-read, last-body, last-within, flag-of-told, line-laid, IsTable-with_line, Flags-same, Flags-with_line}
+use Rattle.lh_unit.proofs.table.UnitTable.add_line.Goals as goal
+
+pub push_id-requires-clause-within : goal.push_id-requires-clause-within
+push_id-requires-clause-within c =
+    let t : Table = table_of c.self.inside in
+    let b : 0 < length (table_of c.self.inside).blocks = search rules in
+    let n : c.len.result ≡ length (table_of c.self.inside).blocks = search rules in
+    let l : c.index-last.result.now ≡ last_block (table_of c.self.inside) = last-read (table_of c.self.inside) c.index-last.result.now b (c.index-last.ensures ∙ ap (λ k. get_or c.self.inside.blocks.items (k - 1) c.index-last.result.now) n) in
+    subst (λ k. k.0 < length c.self.inside.bodies.items) (sym l) (last-within (table_of c.self.inside) c.self.invariant.0 b)
+
+pub push_id-requires-clause-stands : goal.push_id-requires-clause-stands
+push_id-requires-clause-stands c =
+    let b : 0 < length (table_of c.self.inside).blocks = search rules in
+    let n : c.len.result ≡ length (table_of c.self.inside).blocks = search rules in
+    let l : c.index-last.result.now ≡ last_block (table_of c.self.inside) = last-read (table_of c.self.inside) c.index-last.result.now b (c.index-last.ensures ∙ ap (λ k. get_or c.self.inside.blocks.items (k - 1) c.index-last.result.now) n) in
+    subst (λ k. IsSome (get_or c.self.inside.bodies.items k.0 None)) (sym l) (last-body (table_of c.self.inside) c.self.invariant.0 b)
+
+laid : (c : goal.After-mark) → (record (table_of c.self.inside) { lines = c.push_line.new.lines.items; bodies = c.push_id.new.bodies.items }) ≡ with_line (table_of c.self.inside) c.args.value c.args.inst
+laid c =
+    let b : 0 < length (table_of c.self.inside).blocks = search rules in
+    let n : c.len.result ≡ length (table_of c.self.inside).blocks = search rules in
+    let l : c.index-last.result.now ≡ last_block (table_of c.self.inside) = last-read (table_of c.self.inside) c.index-last.result.now b (c.index-last.ensures ∙ ap (λ k. get_or c.self.inside.blocks.items (k - 1) c.index-last.result.now) n) in
+    let e : c.push_line.new.lines.items ≡ c.self.inside.lines.items ++ record { result = c.args.value; inst = c.args.inst } ∷ [] = search rules in
+    let m : c.len-id.result ≡ length c.self.inside.lines.items = search rules in
+    let d : c.push_id.new.bodies.items ≡ set c.self.inside.bodies.items c.index-last.result.now.0 (Some (unwrap_or (get_or c.self.inside.bodies.items c.index-last.result.now.0 None) [] ++ record { 0 = c.len-id.result } ∷ [])) = search rules in
+    line-laid (table_of c.self.inside) c.index-last.result.now c.push_line.new.lines.items c.push_id.new.bodies.items c.args.value c.args.inst l e
+    (d ∙ ap (λ k. set c.self.inside.bodies.items c.index-last.result.now.0 (Some (unwrap_or (get_or c.self.inside.bodies.items c.index-last.result.now.0 None) [] ++ record { 0 = k } ∷ []))) m)
+
+pub invariant_of-self-2 : goal.invariant_of-self-2
+invariant_of-self-2 c =
+    let b : 0 < length (table_of c.self.inside).blocks = search rules in
+    let w : ResultWithin (length (table_of c.self.inside).values) c.args.value = subst (λ (t : Table). ResultWithin (length t.values) c.args.value) (sym c.self.view_is) c.requires.within in
+    let few : length (table_of c.self.inside).lines < 65536 = search rules in (
+      subst IsTable (sym (laid c)) (IsTable-with_line (table_of c.self.inside) c.args.value c.args.inst b w few c.self.invariant.0),
+      subst (λ (t : Table). Flags t c.mark.new.flags.items) (sym (laid c)) (subst (Flags (with_line (table_of c.self.inside) c.args.value c.args.inst)) (sym c.mark.ensures) (Flags-with_line (table_of c.self.inside) c.self.inside.flags.items c.args.value c.args.inst w c.self.invariant.1)),
+    )
+
+pub returns : goal.returns
+returns c =
+    let w : ResultWithin (length (table_of c.self.inside).values) c.args.value = subst (λ (t : Table). ResultWithin (length t.values) c.args.value) (sym c.self.view_is) c.requires.within in
+    let few : length (table_of c.self.inside).lines < 65536 = search rules in
+    let m : c.len-id.result ≡ length (table_of c.self.inside).lines = search rules in
+    let n : result_defined (table_of c.self.inside) c.args.value ≡ false = sym (flag-of-told (table_of c.self.inside) c.self.inside.flags.items c.args.value c.self.invariant.1 w) ∙ sym c.is_marked.ensures ∙ c.if-is_marked.false in
+    rw (← c.self.view_is) (few, n, m, laid c)

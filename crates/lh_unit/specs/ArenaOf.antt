@@ -1,0 +1,6 @@
+-- What the fields of a module are seen as.
+use Rattle.lh_unit.specs.Arena.{Arena, IsArena}
+use Rattle.lh_unit.specs.declared.module.Module.TheInside.{Inside}
+
+abbrev pub arena_of : Inside → Arena
+arena_of m = record { names = m.names.keys; units = m.units.items; items = m.items.items }

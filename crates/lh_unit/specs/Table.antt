@@ -1,0 +1,143 @@
+-- A unit as the arena keeps it: names, arguments, blocks and instructions by ids.
+use Rattle.std.specs.Prelude.{◌≡◌, ℕ, ◌+◌, ◌^◌, ◌≤◌, ◌<◌, Bool, true, false, ◌||◌, nat_eq, List, [], ◌∷◌, ◌++◌, length, map, Option, Some, None, IsSome, is_some, unwrap_or, slice_get, slice_index_or, slice_set}
+use Rattle.lh_types.specs.Types.{TypeTree, void_type}
+use Rattle.lh_unit.specs.declared.inst.UnitKind.{UnitKind}
+use Rattle.lh_unit.specs.declared.inst.UnitKind.TheVariants as kind
+use Rattle.lh_unit.specs.declared.inst.BlockId.{BlockId}
+use Rattle.lh_unit.specs.declared.inst.InstId.{InstId}
+use Rattle.lh_unit.specs.declared.inst.ValueId.{ValueId}
+use Rattle.lh_unit.specs.declared.inst.Inst.{Inst}
+use Rattle.lh_unit.specs.declared.inst.Inst.TheVariants.{Halt}
+use Rattle.lh_unit.specs.declared.inst.Arg.{Arg}
+use Rattle.lh_unit.specs.declared.table.Line.{Line}
+
+-- the names of values and labels by their ids; the blocks in file order; of each block that stands, its instructions; the instructions in file order
+pub record Table : Type 0 where
+  pub kind : Option UnitKind
+  pub values : List (List ℕ)
+  pub labels : List (List ℕ)
+  pub args : List Arg
+  pub result : Option TypeTree
+  pub blocks : List BlockId
+  pub bodies : List (Option (List InstId))
+  pub lines : List Line
+
+-- a unit that is Missing, with no entries
+abbrev pub no_table : Table
+no_table = record { kind = None; values = []; labels = []; args = []; result = None; blocks = []; bodies = []; lines = [] }
+
+abbrev pub no_line : Line
+no_line = record { result = None; inst = Halt }
+
+-- the instruction i, with its result
+abbrev pub line_at : Table → ℕ → Line
+line_at t i = slice_index_or t.lines i no_line
+
+-- the instructions of the block b, in order
+abbrev pub insts_at : Table → ℕ → List InstId
+insts_at t b = unwrap_or (slice_index_or t.bodies b None) []
+
+-- whether an argument is the value k
+abbrev pub is_arg : List Arg → ℕ → Bool
+is_arg [] k = false
+is_arg (a ∷ more) k = nat_eq a.value.0 k || is_arg more k
+
+abbrev pub is_result : Option ValueId → ℕ → Bool
+is_result None k = false
+is_result (Some v) k = nat_eq v.0 k
+
+-- whether the value k is the result of an instruction
+abbrev pub is_made : List Line → ℕ → Bool
+is_made [] k = false
+is_made (l ∷ ls) k = is_result l.result k || is_made ls k
+
+-- whether the value k is defined
+abbrev pub is_defined : Table → ℕ → Bool
+is_defined t k = is_arg t.args k || is_made t.lines k
+
+abbrev pub result_defined : Table → Option ValueId → Bool
+result_defined t None = false
+result_defined t (Some v) = is_defined t v.0
+
+-- whether the block k stands in the unit
+abbrev pub is_block : List BlockId → ℕ → Bool
+is_block [] k = false
+is_block (b ∷ more) k = nat_eq b.0 k || is_block more k
+
+-- no key stands twice
+abbrev pub AllDistinct : {K : Type 0} → List K → Type 0
+AllDistinct {K} ks = (i j : ℕ) (k : K) → slice_get ks i ≡ Some k → slice_get ks j ≡ Some k → i ≡ j
+
+-- the lists, one after another
+abbrev pub flat : {X : Type 0} → List (List X) → List X
+flat [] = []
+flat (xs ∷ more) = xs ++ flat more
+
+-- n ids from k on
+abbrev pub ids_from : ℕ → List Line → List InstId
+ids_from k [] = []
+ids_from k (l ∷ ls) = record { 0 = k } ∷ ids_from (k + 1) ls
+
+abbrev pub ArgsWithin : ℕ → List Arg → Type 0
+ArgsWithin n [] = Unit {0}
+ArgsWithin n (a ∷ more) = (a.value.0 < n) × ArgsWithin n more
+
+abbrev pub ResultWithin : ℕ → Option ValueId → Type 0
+ResultWithin n None = Unit {0}
+ResultWithin n (Some v) = v.0 < n
+
+abbrev pub ResultsWithin : ℕ → List Line → Type 0
+ResultsWithin n [] = Unit {0}
+ResultsWithin n (l ∷ ls) = ResultWithin n l.result × ResultsWithin n ls
+
+abbrev pub BlocksWithin : ℕ → List BlockId → Type 0
+BlocksWithin n [] = Unit {0}
+BlocksWithin n (b ∷ more) = (b.0 < n) × BlocksWithin n more
+
+-- the entity's one block
+abbrev pub entity_block : BlockId
+entity_block = record { 0 = 0 }
+
+-- what each kind of unit has: one that is Missing has nothing, only a function has a result type, an entity has one block
+abbrev pub FitsKind : Option UnitKind → Table → Type 0
+FitsKind None t = (t.args ≡ []) × (t.result ≡ None) × (t.blocks ≡ [])
+FitsKind (Some kind.Func) t = IsSome t.result × BlocksWithin (length t.labels) t.blocks
+FitsKind (Some kind.Proc) t = (t.result ≡ None) × BlocksWithin (length t.labels) t.blocks
+FitsKind (Some kind.Entity) t = (t.result ≡ None) × (t.blocks ≡ entity_block ∷ [])
+
+-- a function or a process, whose blocks have labels
+abbrev pub HasBlocks : Option UnitKind → Type 0
+HasBlocks None = ⊥
+HasBlocks (Some kind.Func) = Unit {0}
+HasBlocks (Some kind.Proc) = Unit {0}
+HasBlocks (Some kind.Entity) = ⊥
+
+-- a table in order
+pub record IsTable (t : Table) : Type 0 where
+  pub values_distinct : AllDistinct t.values
+  pub labels_distinct : AllDistinct t.labels
+  pub args_within : ArgsWithin (length t.values) t.args
+  pub results_within : ResultsWithin (length t.values) t.lines
+  pub fits_kind : FitsKind t.kind t
+  pub blocks_distinct : AllDistinct t.blocks
+  pub enough_bodies : length t.labels ≤ length t.bodies
+  pub blocks_stand : (b : ℕ) → is_some (slice_index_or t.bodies b None) ≡ is_block t.blocks b
+  pub in_order : flat (map (λ b. insts_at t b.0) t.blocks) ≡ ids_from 0 t.lines
+  pub few : length t.lines ≤ 65536
+  pub few_values : length t.values < 2 ^ 32
+  pub few_labels : length t.labels < 2 ^ 32
+
+-- the flags say which values are defined
+pub record Flags (t : Table) (flags : List Bool) : Type 0 where
+  pub long : length flags ≡ length t.values
+  pub right : (k : ℕ) → k < length t.values → slice_get flags k ≡ Some (is_defined t k)
+
+-- the flags, with the result of an instruction set
+abbrev pub marked : List Bool → Option ValueId → List Bool
+marked flags None = flags
+marked flags (Some v) = slice_set flags v.0 true
+
+-- whether the flag of a result is set
+abbrev pub flag_of : List Bool → Option ValueId → Bool
+flag_of flags None = false
+flag_of flags (Some v) = slice_index_or flags v.0 false

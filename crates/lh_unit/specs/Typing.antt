@@ -1,0 +1,104 @@
+-- The type of a value, read from its own line.
+use Rattle.std.specs.Prelude.{ℕ, List, [], ◌∷◌, length, Bool, ◌||◌, Option, Some, None, if◌then◌else◌}
+use Rattle.std.specs.Option.{option_and_then, option_map}
+use Rattle.lh_types.specs.Types.{TypeTree, TypeRow, int_type, time_type, array_type, tuple_type, signal_type, pointer_type, no_types, more_types}
+use Rattle.lh_types.specs.Values.{Datum, int_value, time_value}
+use Rattle.lh_types.specs.Faults.{is_data, is_time}
+use Rattle.lh_types.specs.declared.op.Op.{Op}
+use Rattle.lh_types.specs.declared.op.Op.TheVariants as op
+use Rattle.lh_unit.specs.Contents.{OperandText, InstText, const_text, pure_text, var_text, ld_text, sig_text, prb_text, call_text, phi_text, LineText, BlockText, ArgText, UnitText, is_result_name, same_name}
+
+-- whether it is a data type or time
+abbrev pub is_value_type : TypeTree → Bool
+is_value_type t = is_data t || is_time t
+
+-- a type that a value may have
+abbrev pub if_value_type : TypeTree → Option TypeTree
+if_value_type t = if is_value_type t then Some t else None
+
+-- the type of a pointer, and of a signal
+abbrev pub pointer_to : TypeTree → Option TypeTree
+pointer_to t = if is_value_type t then Some (pointer_type t) else None
+
+abbrev pub signal_of : TypeTree → Option TypeTree
+signal_of t = if is_data t then Some (signal_type t) else None
+
+-- what a pointer points to, and what a signal carries
+abbrev pub pointed : TypeTree → Option TypeTree
+pointed (pointer_type t) = Some t
+pointed _ = None
+
+abbrev pub carried : TypeTree → Option TypeTree
+carried (signal_type t) = Some t
+carried _ = None
+
+-- a constant is an integer or a time
+abbrev pub constant_type : Datum → Option TypeTree
+constant_type (int_value width bits) = Some (int_type width)
+constant_type (time_value d) = Some time_type
+constant_type _ = None
+
+-- the type that is written before the first operand
+abbrev pub first_type : List OperandText → Option TypeTree
+first_type [] = None
+first_type (o ∷ more) = o.ty
+
+abbrev pub with_type : Option TypeTree → Option TypeRow → Option TypeRow
+with_type (Some t) (Some r) = Some (more_types t r)
+with_type _ _ = None
+
+-- the types that are written before the operands, where each has one
+abbrev pub written_types : List OperandText → Option TypeRow
+written_types [] = Some no_types
+written_types (o ∷ more) = with_type o.ty (written_types more)
+
+-- an operation gives a value of the type that is written first; a comparison gives a bit
+abbrev pub operation_type : Op → List OperandText → Option TypeTree
+operation_type op.Eq args = Some (int_type 1)
+operation_type op.Neq args = Some (int_type 1)
+operation_type op.Slt args = Some (int_type 1)
+operation_type op.Sgt args = Some (int_type 1)
+operation_type op.Sle args = Some (int_type 1)
+operation_type op.Sge args = Some (int_type 1)
+operation_type op.Ult args = Some (int_type 1)
+operation_type op.Ugt args = Some (int_type 1)
+operation_type op.Ule args = Some (int_type 1)
+operation_type op.Uge args = Some (int_type 1)
+operation_type op.Array args = option_map (array_type (length args)) (first_type args)
+operation_type (op.Repeat n) args = option_map (array_type n) (first_type args)
+operation_type op.Tuple args = option_map tuple_type (written_types args)
+operation_type _ args = first_type args
+
+-- the type of what an instruction gives, where it gives something that has a type
+abbrev pub result_type : InstText → Option TypeTree
+result_type (const_text d) = constant_type d
+result_type (pure_text o args) = operation_type o args
+result_type (var_text a) = option_and_then pointer_to a.ty
+result_type (ld_text p) = option_and_then pointed p.ty
+result_type (sig_text a) = option_and_then signal_of a.ty
+result_type (prb_text s) = option_and_then carried s.ty
+result_type (call_text f result args) = if_value_type result
+result_type (phi_text ty edges) = if_value_type ty
+result_type _ = None
+
+-- the instruction of these lines that gives the value of this name
+abbrev pub line_giving : List ℕ → List LineText → Option InstText
+line_giving n [] = None
+line_giving n (l ∷ more) = if is_result_name n l.result then Some l.inst else line_giving n more
+
+abbrev pub or_else : {A : Type 0} → Option A → Option A → Option A
+or_else (Some x) o = Some x
+or_else None o = o
+
+abbrev pub inst_giving : List ℕ → List BlockText → Option InstText
+inst_giving n [] = None
+inst_giving n (b ∷ more) = or_else (line_giving n b.lines) (inst_giving n more)
+
+-- the argument of this name
+abbrev pub arg_named : List ℕ → List ArgText → Option ArgText
+arg_named n [] = None
+arg_named n (a ∷ more) = if same_name a.name n then Some a else arg_named n more
+
+-- the type of the value of this name in a unit
+abbrev pub value_type : UnitText → List ℕ → Option TypeTree
+value_type u n = or_else (option_map (λ a. a.ty) (arg_named n u.args)) (option_and_then result_type (inst_giving n u.blocks))

@@ -1,0 +1,207 @@
+-- A frame: who is woken, what each instance does, the next world, and the next instant.
+use Rattle.std.specs.Prelude.{ℕ, zero, suc, ◌+◌, List, [], ◌∷◌, ◌++◌, map, unwrap_or, slice_get, Bool, true, false, not, ◌&&◌, ◌||◌, Option, Some, None, ◌≡◌, ◌⊎◌}
+use Rattle.std.specs.Option.{option_map_or}
+use Rattle.std.specs.List.{list_any}
+use Rattle.std.specs.Ordering.{is_eq}
+use Rattle.lh_time.specs.declared.Instant.{Instant}
+use Rattle.lh_time.specs.Order.{instant_cmp, instant_lt, instant_le}
+use Rattle.lh_time.specs.Due.{instant}
+use Rattle.lh_types.specs.Wish.{Wish, no_wish}
+use Rattle.lh_types.specs.History.{Made, Claim, claims, bits_at, sooner, if_later, soonest_due}
+use Rattle.lh_types.specs.declared.part.Range.{Range}
+use Rattle.lh_unit.specs.declared.name.UnitName.{UnitName}
+use Rattle.lh_unit.specs.declared.inst.UnitKind.{UnitKind}
+use Rattle.lh_unit.specs.declared.inst.UnitKind.TheVariants as kind
+use Rattle.lh_unit.specs.Contents.{UnitText, ItemText, new_unit}
+use Rattle.lh_unit.specs.Named.{unit_named}
+use Rattle.lh_unit.specs.Held.{part_held, nothing_held, with_args}
+use Rattle.lh_unit.specs.Activation.{Stand, is_new, waits, halted, ProcessState, Activated, activate, functions}
+use Rattle.lh_unit.specs.Hierarchy.{Instance}
+use Rattle.lh_unit.specs.Pass.{Passed, pass, probes}
+use Rattle.lh_unit.specs.Design.{Design}
+
+-- the state of an instance: of a process, or what an entity has seen of its triggers at its last run
+pub data State : Type 0 where
+  of_process : ProcessState → State
+  of_entity : (memory : Option (List Bool)) → State
+
+-- the unit of an instance, an empty entity where there is none
+abbrev pub unit_of : List ItemText → UnitName → UnitText
+unit_of items n = unwrap_or (unit_named n items) (new_unit n kind.Entity)
+
+-- an instance as it begins: a process holds its arguments, an entity has not run
+abbrev pub start_by : UnitKind → UnitText → Instance → State
+start_by kind.Entity u i = of_entity None
+start_by _ u i = of_process (record { stand = is_new; held = with_args nothing_held u.args (map part_held i.args) })
+
+abbrev pub start : UnitText → Instance → State
+start u i = start_by u.kind u i
+
+-- the parts that it senses: those that a process waits on, or that an entity probes
+abbrev pub waited : Stand → List Range
+waited is_new = []
+waited (waits block to on wake) = on
+waited halted = []
+
+abbrev pub senses : UnitText → Instance → State → List Range
+senses u i (of_process p) = waited p.stand
+senses u i (of_entity memory) = probes u i.args i.sigs
+
+-- when it wakes by itself
+abbrev pub wake_at : Stand → Option Instant
+wake_at is_new = None
+wake_at (waits block to on wake) = wake
+wake_at halted = None
+
+abbrev pub wake_of : State → Option Instant
+wake_of (of_process p) = wake_at p.stand
+wake_of (of_entity memory) = None
+
+-- the bits of parts, by number
+abbrev pub bits_from : (lo len : ℕ) → List ℕ
+bits_from lo zero = []
+bits_from lo (suc n) = lo ∷ bits_from (lo + 1) n
+
+abbrev pub bit_numbers : List Range → List ℕ
+bit_numbers [] = []
+bit_numbers (r ∷ more) = bits_from r.lo r.len ++ bit_numbers more
+
+abbrev pub bit_at : List Bool → ℕ → Bool
+bit_at bits k = unwrap_or (slice_get bits k) false
+
+-- the bit differs from the frame before
+abbrev pub bit_differs : (old now : List Bool) → ℕ → Bool
+bit_differs old now k = (bit_at old k && not (bit_at now k)) || (not (bit_at old k) && bit_at now k)
+
+abbrev pub is_at : Instant → Instant → Bool
+is_at t u = is_eq (instant_cmp t u)
+
+-- Woken at `t`: at the first instant always; at a later one, `last` being the instant of the frame before and `old` its bits, where a bit that is sensed differs, or the wake time has come.
+abbrev pub woken : (last : Option Instant) → (old now : List Bool) → Instant → UnitText → Instance → State → Bool
+woken None old now t u i state = true
+woken (Some last) old now t u i state =
+    list_any (bit_differs old now) (bit_numbers (senses u i state)) || option_map_or (is_at t) (wake_of state) false
+
+-- what an instance does in a frame: the state after it, its wish, whether each assertion passed, and whether it ran away
+pub record Act : Type 0 where
+  pub after : State
+  pub wish : Wish
+  pub outcomes : List Bool
+  pub ran_away : Bool
+
+-- it is not woken
+abbrev pub rests : State → Act
+rests state = record { after = state; wish = no_wish; outcomes = []; ran_away = false }
+
+-- an activation, or a runaway where there is none
+abbrev pub acts_by : ProcessState → Option Activated → Act
+acts_by p None = record { after = of_process p; wish = no_wish; outcomes = []; ran_away = true }
+acts_by p (Some d) = record { after = of_process d.state; wish = d.wish; outcomes = d.outcomes; ran_away = false }
+
+-- a pass
+abbrev pub reacts_by : Passed → Act
+reacts_by p = record { after = of_entity (Some p.seen); wish = p.wish; outcomes = []; ran_away = false }
+
+-- what never changes: the bound on an activation's instructions, and the module
+pub record Rules : Type 0 where
+  pub bound : ℕ
+  pub functions : List UnitText
+
+abbrev pub runs : Rules → (now : List Bool) → Instant → UnitText → Instance → State → Act
+runs r now t u i (of_process p) = acts_by p (activate r.bound (record { functions = r.functions; now = now; at = t }) u p)
+runs r now t u i (of_entity memory) = reacts_by (pass u i.args i.sigs now memory t)
+
+abbrev pub act_if : (is_woken : Bool) → Rules → (now : List Bool) → Instant → UnitText → Instance → State → Act
+act_if true r now t u i state = runs r now t u i state
+act_if false r now t u i state = rests state
+
+abbrev pub act : Rules → (last : Option Instant) → (old now : List Bool) → Instant → UnitText → Instance → State → Act
+act r last old now t u i state = act_if (woken last old now t u i state) r now t u i state
+
+-- The world between two frames: the bits that the signals begin with, the instant of the last frame, the state of each instance, and all wishes made.
+pub record World : Type 0 where
+  pub init : List Bool
+  pub last : Option Instant
+  pub states : List State
+  pub history : List Made
+
+abbrev pub starts : List ItemText → List Instance → List State
+starts items [] = []
+starts items (i ∷ more) = start (unit_of items i.unit) i ∷ starts items more
+
+abbrev pub first_world : List ItemText → Design → World
+first_world items d = record { init = d.init; last = None; states = starts items d.instances; history = [] }
+
+-- the bits of the last frame, before the first the initial ones
+abbrev pub bits_by : List Made → (init : List Bool) → Option Instant → List Bool
+bits_by history init None = init
+bits_by history init (Some t) = bits_at history init t
+
+-- the bits of the last frame of a world
+abbrev pub bits_of : World → List Bool
+bits_of w = bits_by w.history w.init w.last
+
+-- what each instance does in the frame at `t`
+abbrev pub acts_of : Rules → List ItemText → (last : Option Instant) → (old now : List Bool) → Instant → List Instance → List State → List Act
+acts_of r items last old now t [] states = []
+acts_of r items last old now t (i ∷ more) [] = []
+acts_of r items last old now t (i ∷ more) (s ∷ states) = act r last old now t (unit_of items i.unit) i s ∷ acts_of r items last old now t more states
+
+abbrev pub rules_of : (bound : ℕ) → List ItemText → Rules
+rules_of bound items = record { bound = bound; functions = functions items }
+
+unfoldable pub acts : (bound : ℕ) → List ItemText → Design → World → Instant → List Act
+acts bound items d w t =
+    acts_of (rules_of bound items) items w.last (bits_of w) (bits_at w.history w.init t) t d.instances w.states
+
+-- a wish that is not empty is kept, with its origin
+abbrev pub kept : Instant → (instance : ℕ) → Wish → List Made
+kept t i [] = []
+kept t i (e ∷ more) = record { made = t; instance = i; wish = e ∷ more } ∷ []
+
+abbrev pub made_by : Instant → (instance : ℕ) → List Act → List Made
+made_by t i [] = []
+made_by t i (a ∷ more) = kept t i a.wish ++ made_by t (i + 1) more
+
+abbrev pub afters : List Act → List State
+afters [] = []
+afters (a ∷ more) = a.after ∷ afters more
+
+-- the world after a frame at `t` in which the instances do this
+abbrev pub world_after : World → Instant → List Act → World
+world_after w t done = record { init = w.init; last = Some t; states = afters done; history = w.history ++ made_by t 0 done }
+
+abbrev pub next_world : (bound : ℕ) → List ItemText → Design → World → Instant → World
+next_world bound items d w t = world_after w t (acts bound items d w t)
+
+-- a wish is due at this instant
+abbrev pub IsDueIn : List Claim → Instant → Type 0
+IsDueIn [] u = ⊥
+IsDueIn (c ∷ more) u = (c.due ≡ u) ⊎ IsDueIn more u
+
+-- an instance wakes by itself at this instant
+abbrev pub WakesIn : List State → Instant → Type 0
+WakesIn [] u = ⊥
+WakesIn (s ∷ more) u = (wake_of s ≡ Some u) ⊎ WakesIn more u
+
+-- it is later than `t`, and a wish is due or a process wakes
+abbrev pub ComesAfter : Instant → List Made → List State → Instant → Type 0
+ComesAfter t history states u = (instant_lt t u ≡ true) × (IsDueIn (claims history) u ⊎ WakesIn states u)
+
+-- The next instant after `t`: the least that comes, and none where none comes.
+abbrev pub IsNext : Instant → List Made → List State → Option Instant → Type 0
+IsNext t history states None = (u : Instant) → ¬ ComesAfter t history states u
+IsNext t history states (Some u) = ComesAfter t history states u × ((v : Instant) → ComesAfter t history states v → instant_le u v ≡ true)
+
+-- the soonest wake time after `t`
+abbrev pub soonest_wake : Instant → List State → Option Instant
+soonest_wake t [] = None
+soonest_wake t (s ∷ more) = sooner (if_later t (wake_of s)) (soonest_wake t more)
+
+-- The same, computed; before the first frame it is the first instant.
+abbrev pub instant_after : Option Instant → List Made → List State → Option Instant
+instant_after None history states = Some (instant 0 0 0)
+instant_after (Some t) history states = sooner (soonest_due t (claims history)) (soonest_wake t states)
+
+abbrev pub next_instant : World → Option Instant
+next_instant w = instant_after w.last w.history w.states

@@ -1,0 +1,381 @@
+//! One unit of the arena.
+ghost use Rattle.std.specs.Prelude.{◌≡◌, ◌≤◌, ◌<◌, ◌+◌, ◌-◌, ◌^◌, [], ◌∷◌, ◌++◌, length, take, slice_set, slice_index_or, unwrap_or, vec_len, vec_capacity, IsSome, OnOk, OnErr};
+ghost use Rattle.std.specs.Option.{option_copied};
+ghost use Rattle.lh_unit.specs.Table.{no_table, entity_block, ResultWithin, HasBlocks, marked, flag_of, line_at, insts_at};
+ghost use Rattle.lh_unit.specs.TableCalls.{FindsValueIn, FindsLabelIn, Begins, TakesArg, TakesBlock, TakesLine, with_result};
+
+use crate::inst::{Arg, BlockId, Inst, InstId, UnitFault, UnitKind, ValueId};
+use crate::name::Name;
+use indexmap::IndexSet;
+use lh_types::list::ListOf;
+use lh_types::ty::{NoMemory, Ty};
+use std::alloc::Global;
+use std::marker::Model;
+
+/// An instruction and its result.
+#[derive(Drop)]
+pub struct Line {
+    pub result: Option<ValueId>,
+    pub inst: Inst,
+}
+
+/// The instructions of a block, in order.
+type InstIdList = ListOf<InstId>;
+
+/// The entries of a unit by ids, and what is defined of them.
+#[derive(Drop)]
+pub struct UnitTable {
+    kind: Option<UnitKind>,
+    values: IndexSet<Name>,
+    // For each value, whether an argument or an instruction defines it.
+    flags: Vec<bool>,
+    labels: IndexSet<Name>,
+    // By the ids of blocks; none where no block of this label was added.
+    bodies: Vec<Option<InstIdList>>,
+    blocks: Vec<BlockId>,
+    args: Vec<Arg>,
+    result: Option<Ty>,
+    lines: Vec<Line>,
+}
+
+impl Model for UnitTable {
+    ghost use Rattle.std.specs.Coded.{codes};
+    ghost use Rattle.lh_types.specs.Types.{type_coded};
+    ghost use Rattle.lh_types.specs.Values.{datum_coded};
+    ghost use Rattle.lh_unit.specs.Table.{Table};
+
+    ghost Value = { Table };
+
+    ghost coded = { Prim.hlevel (codes, type_coded, datum_coded) };
+
+    ghost use Rattle.lh_unit.specs.TableOf.{table_of, InOrder};
+
+    ghost view = { table_of };
+
+    ghost invariant = { InOrder };
+}
+
+impl UnitTable {
+    /// A unit that is Missing, with no entries.
+    pub fn new(alloc: Global) -> UnitTable
+        ensures { result ≡ no_table }
+    {
+        UnitTable {
+            kind: None,
+            values: IndexSet::new(alloc),
+            flags: Vec::new(alloc),
+            labels: IndexSet::new(alloc),
+            bodies: Vec::new(alloc),
+            blocks: Vec::new(alloc),
+            args: Vec::new(alloc),
+            result: None,
+            lines: Vec::new(alloc),
+        }
+    }
+
+    /// The value of this name, which is Missing where the name is new.
+    pub fn value_named(&mut self, name: &Name) -> Result<ValueId, NoMemory>
+        requires { length self.old.values < 2 ^ 32 - 1 }
+        ensures { FindsValueIn result self.old self.new name.now }
+    {
+        if let Some(i) = self.values.get_index_of(name) {
+            return Ok(ValueId(i as u32));
+        }
+        let name = name.copy()?;
+        if self.flags.push(false).is_err() {
+            return Err(NoMemory);
+        }
+        if let Ok((i, _)) = self.values.insert_full(name) {
+            return Ok(ValueId(i as u32));
+        }
+        self.flags.pop();
+        Err(NoMemory)
+    }
+
+    /// The label of this name, which is Missing where the name is new.
+    pub fn block_named(&mut self, name: &Name) -> Result<BlockId, NoMemory>
+        requires { length self.old.labels < 2 ^ 32 - 1 }
+        ensures { FindsLabelIn result self.old self.new name.now }
+    {
+        if let Some(i) = self.labels.get_index_of(name) {
+            return Ok(BlockId(i as u32));
+        }
+        let name = name.copy()?;
+        if push_body(&mut self.bodies).is_err() {
+            return Err(NoMemory);
+        }
+        if let Ok((i, _)) = self.labels.insert_full(name) {
+            return Ok(BlockId(i as u32));
+        }
+        pop_body(&mut self.bodies);
+        Err(NoMemory)
+    }
+
+    /// Begins the unit as its header does: the result of a function is `void`, and an entity has its one block.
+    pub fn begin(&mut self, kind: UnitKind) -> Result<(), NoMemory>
+        requires { self.old.kind ≡ None }
+        ensures { Begins result self.old self.new kind }
+    {
+        match kind {
+            UnitKind::Func => {
+                self.result = Some(Ty::void());
+                self.kind = Some(kind);
+                Ok(())
+            }
+            UnitKind::Proc => {
+                self.kind = Some(kind);
+                Ok(())
+            }
+            UnitKind::Entity => {
+                begin_block(&mut self.blocks, &mut self.bodies)?;
+                self.kind = Some(kind);
+                Ok(())
+            }
+        }
+    }
+
+    /// Adds an argument at the end.
+    pub fn add_arg(&mut self, value: ValueId, ty: Ty, output: bool) -> Result<(), UnitFault>
+        requires begun { IsSome self.old.kind }
+        requires within { value.0 < length self.old.values }
+        ensures { TakesArg result self.old self.new (record { value = value; ty = ty; output = output }) }
+    {
+        if self.flags[value.0 as usize] {
+            return Err(UnitFault::DuplicateName);
+        }
+        if push_arg(&mut self.args, Arg { value, ty, output }).is_err() {
+            return Err(UnitFault::OutOfMemory);
+        }
+        self.flags[value.0 as usize] = true;
+        Ok(())
+    }
+
+    /// Sets the result type of a function.
+    pub fn set_result(&mut self, ty: Ty)
+        requires { self.old.kind ≡ Some UnitKind.Func }
+        ensures { self.new ≡ with_result self.old ty }
+    {
+        self.result = Some(ty);
+    }
+
+    /// Adds a block at the end, with no instructions.
+    pub fn add_block(&mut self, block: BlockId) -> Result<(), UnitFault>
+        requires labels { HasBlocks self.old.kind }
+        requires within { block.0 < length self.old.labels }
+        ensures { TakesBlock result self.old self.new block }
+    {
+        if self.bodies[block.0 as usize].is_some() {
+            return Err(UnitFault::DuplicateName);
+        }
+        if self.blocks.push(block).is_err() {
+            return Err(UnitFault::OutOfMemory);
+        }
+        let alloc = *self.blocks.allocator();
+        self.bodies[block.0 as usize] = Some(ListOf::new(alloc));
+        Ok(())
+    }
+
+    /// Adds an instruction at the end of the last block.
+    pub fn add_line(&mut self, value: Option<ValueId>, inst: Inst) -> Result<InstId, UnitFault>
+        requires begun { 0 < length self.old.blocks }
+        requires within { ResultWithin (length self.old.values) value }
+        ensures { TakesLine result self.old self.new value inst }
+    {
+        let id = self.lines.len();
+        if id >= 65536 {
+            return refuse(inst, UnitFault::UnitTooLarge);
+        }
+        if is_marked(&self.flags, value) {
+            return refuse(inst, UnitFault::DuplicateName);
+        }
+        if self.lines.reserve(1).is_err() {
+            return refuse(inst, UnitFault::OutOfMemory);
+        }
+        let last = self.blocks[self.blocks.len() - 1];
+        if push_id(&mut self.bodies, last, InstId(id as u32)).is_err() {
+            return refuse(inst, UnitFault::OutOfMemory);
+        }
+        push_line(
+            &mut self.lines,
+            Line {
+                result: value,
+                inst,
+            },
+        );
+        mark(&mut self.flags, value);
+        Ok(InstId(id as u32))
+    }
+
+    pub fn kind(&self) -> Option<UnitKind>
+        ensures { result ≡ self.now.kind }
+    {
+        self.kind
+    }
+
+    pub fn args(&self) -> &[Arg]
+        ensures { result.now ≡ self.now.args }
+    {
+        self.args.as_slice()
+    }
+
+    pub fn result(&self) -> Option<&Ty>
+        ensures { option_copied result ≡ self.now.result }
+    {
+        self.result.as_ref()
+    }
+
+    pub fn blocks(&self) -> &[BlockId]
+        ensures { result.now ≡ self.now.blocks }
+    {
+        self.blocks.as_slice()
+    }
+
+    pub fn insts(&self, block: BlockId) -> &[InstId]
+        requires { block.0 < length self.now.bodies }
+        ensures { result.now ≡ insts_at self.now block.0 }
+    {
+        match &self.bodies[block.0 as usize] {
+            Some(list) => list.as_slice(),
+            None => &[],
+        }
+    }
+
+    pub fn line(&self, inst: InstId) -> &Line
+        requires { inst.0 < length self.now.lines }
+        ensures { result.now ≡ line_at self.now inst.0 }
+    {
+        &self.lines[inst.0 as usize]
+    }
+
+    pub fn values(&self) -> usize
+        ensures { result ≡ length self.now.values }
+    {
+        self.values.len()
+    }
+
+    pub fn labels(&self) -> usize
+        ensures { result ≡ length self.now.labels }
+    {
+        self.labels.len()
+    }
+
+    pub fn value_name(&self, value: ValueId) -> &Name
+        requires { value.0 < length self.now.values }
+        ensures { result.now ≡ slice_index_or self.now.values value.0 [] }
+    {
+        &self.values.as_slice()[value.0 as usize]
+    }
+
+    pub fn block_name(&self, block: BlockId) -> &Name
+        requires { block.0 < length self.now.labels }
+        ensures { result.now ≡ slice_index_or self.now.labels block.0 [] }
+    {
+        &self.labels.as_slice()[block.0 as usize]
+    }
+}
+
+fn push_body(bodies: &mut Vec<Option<InstIdList>>) -> Result<(), NoMemory>
+    ensures ok { OnOk result (bodies.new.items ≡ bodies.old.items ++ None ∷ []) }
+    ensures err { OnErr result (bodies.new.items ≡ bodies.old.items) }
+{
+    match bodies.push(None) {
+        Ok(()) => Ok(()),
+        Err(_) => Err(NoMemory),
+    }
+}
+
+// Takes back the body that was pushed last.
+fn pop_body(bodies: &mut Vec<Option<InstIdList>>)
+    ensures { bodies.new.items ≡ take (length bodies.old.items - 1) bodies.old.items }
+{
+    bodies.pop();
+}
+
+// The one block of an entity, with no instructions.
+fn begin_block(
+    blocks: &mut Vec<BlockId>,
+    bodies: &mut Vec<Option<InstIdList>>,
+) -> Result<(), NoMemory>
+    ensures ok_blocks { OnOk result (blocks.new.items ≡ blocks.old.items ++ entity_block ∷ []) }
+    ensures ok_bodies { OnOk result (bodies.new.items ≡ slice_set (bodies.old.items ++ None ∷ []) 0 (Some [])) }
+    ensures err_blocks { OnErr result (blocks.new.items ≡ blocks.old.items) }
+    ensures err_bodies { OnErr result (bodies.new.items ≡ bodies.old.items) }
+{
+    if blocks.reserve(1).is_err() {
+        return Err(NoMemory);
+    }
+    push_body(bodies)?;
+    bodies[0] = Some(ListOf::new(*blocks.allocator()));
+    if blocks.push(BlockId(0)).is_err() {
+        unreachable!();
+    }
+    Ok(())
+}
+
+fn push_arg(args: &mut Vec<Arg>, arg: Arg) -> Result<(), NoMemory>
+    ensures ok { OnOk result (args.new.items ≡ args.old.items ++ arg ∷ []) }
+    ensures err { OnErr result (args.new.items ≡ args.old.items) }
+{
+    match args.push(arg) {
+        Ok(()) => Ok(()),
+        Err(_) => Err(NoMemory),
+    }
+}
+
+// Adds an instruction to the body of a block that stands.
+fn push_id(bodies: &mut Vec<Option<InstIdList>>, block: BlockId, id: InstId) -> Result<(), NoMemory>
+    requires within { block.0 < length bodies.old.items }
+    requires stands { IsSome (slice_index_or bodies.old.items block.0 None) }
+    ensures ok { OnOk result (bodies.new.items ≡ slice_set bodies.old.items block.0 (Some (unwrap_or (slice_index_or bodies.old.items block.0 None) [] ++ id ∷ []))) }
+    ensures err { OnErr result (bodies.new.items ≡ bodies.old.items) }
+{
+    push_to(&mut bodies[block.0 as usize], id)
+}
+
+fn push_to(body: &mut Option<InstIdList>, id: InstId) -> Result<(), NoMemory>
+    requires { IsSome body.old }
+    ensures ok { OnOk result (body.new ≡ Some (unwrap_or body.old [] ++ id ∷ [])) }
+    ensures err { OnErr result (body.new ≡ body.old) }
+{
+    match body {
+        Some(list) => list.push(id),
+        None => unreachable!(),
+    }
+}
+
+// Drops an instruction that is not taken; on its own, since a drop has a case for each kind of instruction.
+fn refuse(inst: Inst, fault: UnitFault) -> Result<InstId, UnitFault>
+    ensures { result ≡ Err fault }
+{
+    drop(inst);
+    Err(fault)
+}
+
+// Adds a line where memory was reserved for it.
+fn push_line(lines: &mut Vec<Line>, line: Line)
+    requires { vec_len lines.old < vec_capacity lines.old }
+    ensures { lines.new.items ≡ lines.old.items ++ line ∷ [] }
+{
+    if lines.push(line).is_err() {
+        unreachable!();
+    }
+}
+
+fn is_marked(flags: &Vec<bool>, value: Option<ValueId>) -> bool
+    requires { ResultWithin (length flags.now.items) value }
+    ensures { result ≡ flag_of flags.now.items value }
+{
+    match value {
+        Some(v) => flags[v.0 as usize],
+        None => false,
+    }
+}
+
+fn mark(flags: &mut Vec<bool>, value: Option<ValueId>)
+    requires { ResultWithin (length flags.old.items) value }
+    ensures { flags.new.items ≡ marked flags.old.items value }
+{
+    if let Some(v) = value {
+        flags[v.0 as usize] = true;
+    }
+}

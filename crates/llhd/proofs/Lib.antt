@@ -1,0 +1,4 @@
+pub mod Writes
+pub mod Checks
+pub mod Results
+pub mod Accounts

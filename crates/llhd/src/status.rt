@@ -1,0 +1,145 @@
+//! How a run ends: its statuses, their codes, and the line of each.
+ghost use Rattle.std.specs.Prelude.{◌≡◌, ◌≤◌, ◌++◌, codes, decimal};
+ghost use Rattle.llhd.specs.StatusLines.{refusal_line, status_line, status_code};
+ghost use Rattle.llhd.specs.Account.{use_of, Puts};
+ghost use Rattle.llhd.specs.Check.{source_status, text_status};
+ghost use Rattle.llhd.specs.declared.status.Status.TheVariants.{WriteFault, OutOfMemory};
+
+use itoa::Buffer;
+use lh_io::stream::{Failed, Sink};
+use lh_io::whole::{ReadAllFault, write_all};
+use lh_read::TextFault;
+use lh_types::ty::NoMemory;
+
+const USAGE: &[u8] =
+    b"usage: llhd check | lower | simulate --top NAME --steps N [--vcd] [--watch TITLE ...] | selftest N\n";
+
+/// Why a file is refused. Lines are counted from 1.
+#[derive(Clone, Copy, Debug, PartialEq, Eq)]
+pub enum Refusal {
+    /// The line spells nothing in its place.
+    Syntax(u32),
+    /// The line is the 65,537th instruction of its unit.
+    UnitTooLarge(u32),
+    /// The line defines a name that is defined already.
+    DuplicateName(u32),
+}
+
+/// How a run ends.
+#[derive(Debug, Drop, PartialEq, Eq)]
+pub enum Status {
+    /// The words have no form.
+    Usage,
+    /// A read of the source failed.
+    ReadFault,
+    /// More than 67,108,864 bytes came.
+    SourceTooLong,
+    /// The file has a fault.
+    Refused(Refusal),
+    /// A write failed before the status line.
+    WriteFault,
+    /// The command was carried out.
+    Done,
+    /// Memory ran out.
+    OutOfMemory,
+}
+
+impl From<ReadAllFault> for Status {
+    ghost from_gives = { λ fault status. status ≡ source_status fault };
+
+    fn from(fault: ReadAllFault) -> Status {
+        match fault {
+            ReadAllFault::ReadFault => Status::ReadFault,
+            ReadAllFault::TooLong => Status::SourceTooLong,
+            ReadAllFault::OutOfMemory => Status::OutOfMemory,
+        }
+    }
+}
+
+impl From<TextFault> for Status {
+    ghost from_gives = { λ fault status. status ≡ text_status fault };
+
+    fn from(fault: TextFault) -> Status {
+        match fault {
+            TextFault::Syntax(line) => Status::Refused(Refusal::Syntax(line)),
+            TextFault::UnitTooLarge(line) => Status::Refused(Refusal::UnitTooLarge(line)),
+            TextFault::DuplicateName(line) => Status::Refused(Refusal::DuplicateName(line)),
+            TextFault::OutOfMemory => Status::OutOfMemory,
+        }
+    }
+}
+
+impl From<NoMemory> for Status {
+    ghost from_gives = { λ _ status. status ≡ OutOfMemory };
+
+    fn from(_fault: NoMemory) -> Status {
+        Status::OutOfMemory
+    }
+}
+
+impl From<Failed> for Status {
+    ghost from_gives = { λ _ status. status ≡ WriteFault };
+
+    fn from(_fault: Failed) -> Status {
+        Status::WriteFault
+    }
+}
+
+// Writes the status line of a fault in a line of the file.
+fn write_line_fault<L: Sink>(log: &mut L, line: u32, text: &[u8]) -> Result<(), Failed>
+    ensures puts { Puts result (use_of (L.written log.old) (L.written log.new) (L.faults log.old) (L.faults log.new)) (codes "line " ++ decimal line ++ text.now) }
+    ensures never_fall { L.faults log.old ≤ L.faults log.new }
+{
+    write_all(log, b"line ")?;
+    let mut digits = Buffer::new();
+    write_all(log, digits.format(line).as_bytes())?;
+    write_all(log, text)
+}
+
+impl Refusal {
+    /// Writes the status line of a refusal.
+    fn write_line<L: Sink>(&self, log: &mut L) -> Result<(), Failed>
+        ensures puts { Puts result (use_of (L.written log.old) (L.written log.new) (L.faults log.old) (L.faults log.new)) (refusal_line self.now) }
+        ensures never_fall { L.faults log.old ≤ L.faults log.new }
+    {
+        match self {
+            Refusal::Syntax(line) => write_line_fault(log, *line, b": syntax\n"),
+            Refusal::UnitTooLarge(line) => write_line_fault(log, *line, b": unit too large\n"),
+            Refusal::DuplicateName(line) => write_line_fault(log, *line, b": duplicate name\n"),
+        }
+    }
+}
+
+impl Status {
+    /// The exit code of the program.
+    pub fn code(&self) -> u8
+        ensures { result ≡ status_code self.now }
+    {
+        match self {
+            Status::Done => 0,
+            Status::Refused(_) => 1,
+            Status::Usage => 2,
+            Status::ReadFault => 3,
+            Status::WriteFault => 4,
+            Status::OutOfMemory => 5,
+            Status::SourceTooLong => 6,
+        }
+    }
+
+    /// Writes the status line, without memory. `Done` has none.
+    #[tactic(auto, using(crate::proofs::Writes::Puts_of))]
+    pub fn write_line<L: Sink>(&self, log: &mut L) -> Result<(), Failed>
+        ensures puts { Puts result (use_of (L.written log.old) (L.written log.new) (L.faults log.old) (L.faults log.new)) (status_line self.now) }
+        ensures never_fall { L.faults log.old ≤ L.faults log.new }
+    {
+        match self {
+            Status::Usage => write_all(log, USAGE),
+            Status::ReadFault => write_all(log, b"read fault\n"),
+            Status::SourceTooLong => write_all(log, b"source too long\n"),
+            Status::Refused(why) => why.write_line(log),
+            Status::WriteFault => write_all(log, b"write fault\n"),
+            Status::Done => Ok(()),
+            Status::OutOfMemory => write_all(log, b"out of memory\n"),
+        }
+    }
+}
