@@ -4,3 +4,6 @@ pub mod Items
 pub mod Shorter
 pub mod Steps
 pub mod SyntaxOf
+pub mod FaultOf
+pub mod Building
+pub mod Reading

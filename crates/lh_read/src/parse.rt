@@ -10,7 +10,6 @@ use crate::tokens::{Lex, NameText, Tokens};
 use crate::types::{int, int_type};
 use lh_types::ty::NoMemory;
 use lh_types::val::Val;
-use lh_unit::inst::UnitKind;
 use std::alloc::Global;
 
 /// What follows `) -> (`.
@@ -66,11 +65,7 @@ fn header<'a>(alloc: Global, tokens: &Tokens<'a>) -> Result<Option<LineSyntax<'a
     let Some(ports) = ports(alloc, &rest)? else {
         return Ok(None);
     };
-    Ok(Some(LineSyntax::Header {
-        kind: UnitKind::Entity,
-        name,
-        ports,
-    }))
+    Ok(Some(LineSyntax::Entity { name, ports }))
 }
 
 /// The bits of a constant of this width.

@@ -8,7 +8,6 @@ use crate::types::signal;
 use lh_types::list::ListOf;
 use lh_types::ty::{NoMemory, Ty};
 use lh_types::val::Val;
-use lh_unit::inst::UnitKind;
 use std::alloc::Global;
 use std::marker::Model;
 
@@ -29,6 +28,20 @@ impl<'a> Model for Param<'a> {
     ghost coded = { Prim.hlevel (codes, type_coded) };
 
     ghost view = { λ a. record { ty = a.ty; name = a.name } };
+}
+
+impl<'a> Param<'a> {
+    pub fn ty(&self) -> &Ty
+        ensures { result.now ≡ self.now.ty }
+    {
+        &self.ty
+    }
+
+    pub fn name(&self) -> &NameText<'a>
+        ensures { result.now ≡ self.now.name }
+    {
+        &self.name
+    }
 }
 
 impl<'a> Part<'a> for Param<'a> {
@@ -77,9 +90,8 @@ pub enum InstSyntax<'a> {
 pub enum LineSyntax<'a> {
     /// Nothing, or only a comment.
     Empty,
-    /// The head of a unit.
-    Header {
-        kind: UnitKind,
+    /// The head of an entity.
+    Entity {
         name: UnitNameText<'a>,
         ports: Ports<'a>,
     },

@@ -3,7 +3,8 @@ use Rattle.std.specs.Prelude.{◌≡◌, ℕ, ◌-◌, ◌%◌, ◌^◌, ◌<◌
 use Rattle.lh_types.specs.Types.{TypeTree, int_type, signal_type}
 use Rattle.lh_types.specs.Values.{Datum, int_value}
 use Rattle.lh_unit.specs.Contents.{ArgText, InstText, LineText, const_text, sig_text}
-use Rattle.lh_unit.specs.Lexemes.{Lexeme, word, global, local, arrow, minus, punct}
+use Rattle.lh_unit.specs.Lexemes.{Lexeme, word, global, local, arrow, minus}
+use Rattle.lh_unit.specs.Marks.{open_paren, close_paren, open_brace, close_brace, comma, equals}
 use Rattle.lh_unit.specs.Numerals.{number_of}
 use Rattle.lh_unit.specs.SpellsTypes.{SpellsType}
 use Rattle.lh_unit.specs.declared.name.UnitName.{UnitName}
@@ -21,28 +22,6 @@ pub data LineItem : Type 0 where
   inst_item : LineText → LineItem
   -- the end of a unit
   close_item : LineItem
-
--- the punctuation of the language by name
-abbrev pub open_paren : Lexeme
-open_paren = punct 40
-
-abbrev pub close_paren : Lexeme
-close_paren = punct 41
-
-abbrev pub comma : Lexeme
-comma = punct 44
-
-abbrev pub equals : Lexeme
-equals = punct 61
-
-abbrev pub dollar : Lexeme
-dollar = punct 36
-
-abbrev pub open_brace : Lexeme
-open_brace = punct 123
-
-abbrev pub close_brace : Lexeme
-close_brace = punct 125
 
 -- the name of a unit begins with `@` or `%`
 abbrev pub SpellsUnitName : UnitName → Lexeme → Type 0
