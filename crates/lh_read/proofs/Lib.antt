@@ -3,3 +3,12 @@ pub mod Spelled
 pub mod Texts
 pub mod Digits
 pub mod Lists
+pub mod Halves
+pub mod LastUnit
+pub mod Stepping
+pub mod Readers
+pub mod Lines
+pub mod Args
+pub mod Headers
+pub mod Splitting
+pub mod Progress

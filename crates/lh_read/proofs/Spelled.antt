@@ -1,5 +1,5 @@
 -- What is found in the tokens of a line is spelled so, and what is spelled so is found.
-use Rattle.std.proofs.Common.{◌≡◌, ◌≢◌, ℕ, ◌+◌, ◌-◌, ◌<◌, ◌≤◌, zero, suc, Bool, true, false, List, [], ◌∷◌, ◌++◌, length, Option, Some, None, nat_eq, nat_lt, nat_le, refl, ap, sym, ◌∙◌, subst, arith, inl, inr, ◌⊎◌, lit<}
+use Rattle.std.proofs.Common.{◌≡◌, ◌≢◌, ℕ, ◌+◌, ◌-◌, ◌<◌, ◌≤◌, zero, suc, Bool, true, false, List, [], ◌∷◌, ◌++◌, length, map, Option, Some, None, nat_eq, nat_lt, nat_le, refl, ap, sym, ◌∙◌, subst, arith, inl, inr, ◌⊎◌, lit<}
 use Rattle.std.specs.Prelude.{codes, if◌then◌else◌, ◌&&◌, ◌%◌, ◌^◌}
 use Rattle.std.specs.Cmp.Lexicographic.{same_text}
 use Rattle.std.proofs.lemmas.Grind.{common_steps}
@@ -11,17 +11,14 @@ use Rattle.lh_unit.specs.Contents.{ArgText, OperandText, InstText, LineText, con
 use Rattle.lh_unit.specs.Lexemes.{Lexeme, word, global, local, arrow, minus, punct}
 use Rattle.lh_unit.specs.Numerals.{number_of}
 use Rattle.lh_unit.specs.SpellsTypes.{SpellsType}
-use Rattle.lh_unit.specs.Spells.{LineItem, empty_item, header_item, declare_item, label_item, inst_item, close_item, Spells, SpellsHeader, SpellsLine, SpellsValue, SpellsInteger, SpellsPorts, SpellsSignalArg, SpellsList, SpellsParts, SpellsUnitName}
+use Rattle.lh_unit.specs.Spells.{LineItem, empty_item, header_item, declare_item, label_item, inst_item, close_item, Spells, SpellsHeader, SpellsLine, SpellsValue, SpellsInteger, TypedName, IsSignal, SpellsSignal, input_of, output_of, SpellsPorts, SpellsList, SpellsParts, SpellsUnitName}
 use Rattle.lh_unit.specs.declared.name.UnitName.{UnitName}
 use Rattle.lh_unit.specs.declared.inst.UnitKind.{UnitKind}
 use Rattle.lh_unit.specs.declared.inst.UnitKind.TheVariants as kind
 use Rattle.lh_read.specs.Pieces.{◌>>=◌, word_at, any_word_at, local_at, unit_name_at, punct_at, arrow_at, minus_at, end_at, small, small_number, front_part, comma_or_end, part_then, parts_at, empty_or, list_at}
 use Rattle.lh_read.specs.Types.{width_of, int_width, int_at, signal_at}
-use Rattle.lh_read.specs.Items.{arg_at, args_at, ports_at, header_at, positive_bits, negative_bits, integer_at, const_at, sig_at, after_word, value_at, result_at, mark_at, item_at}
-
-pub bind_some : {A B : Type 0} (o : Option A) (f : A → Option B) (y : B) → (o >>= f) ≡ Some y → (x : A) × (o ≡ Some x) × (f x ≡ Some y)
-bind_some None f y p = cc
-bind_some (Some x) f y p = (x, refl, p)
+use Rattle.lh_read.specs.Shorter.{bind_some}
+use Rattle.lh_read.specs.Items.{param_at, params_at, gap_at, brace_at, ports_at, header_at, positive_bits, negative_bits, last_number_at, integer_or, integer_at, const_at, sig_at, after_word, value_at, result_at, mark_at, item_at}
 
 guard : {A : Type 0} (b : Bool) (x y : A) → (if b then Some x else None) ≡ Some y → (b ≡ true) × (x ≡ y)
 guard true x y p = (refl, cc)
@@ -179,7 +176,7 @@ int_at-again n ts us s =
     let e : int_width (105 ∷ s.0.0) ≡ Some n = ap (λ o. width_of (small o)) s.0.2 ∙ ap width_of (small-below n (omega (arith, s.1.1))) ∙ width-again n s.1.0 s.1.1 in
     ap int_at s.0.1 ∙ ap (λ o. o >>= λ m. Some (m, us)) e
 
-pub signal_at-sound : (ts : List Lexeme) (r : TypeTree × List Lexeme) → signal_at ts ≡ Some r → SpellsType r.0 ts r.1 × ((of : TypeTree) × (r.0 ≡ signal_type of))
+pub signal_at-sound : (ts : List Lexeme) (r : TypeTree × List Lexeme) → signal_at ts ≡ Some r → IsSignal r.0 × SpellsType r.0 ts r.1
 unfolding signal_at
 signal_at-sound ts r p =
     let a = bind_some (int_at ts) _ r p in
@@ -188,91 +185,96 @@ signal_at-sound ts r p =
     let s = int_at-sound ts a.0 a.1 in
     let t = subst (SpellsType (int_type a.0.0) ts) (punct_at-inv 36 a.0.1 b.0 b.1) s in
     let u : SpellsType (signal_type (int_type a.0.0)) ts b.0 = (t.0, t.1) in
-    (subst (λ x. SpellsType x.0 ts x.1) e u, (int_type a.0.0, ap (λ x. x.0) (sym e)))
+    subst (λ x. IsSignal x.0 × SpellsType x.0 ts x.1) e (tt, u)
 
-pub signal_at-again : (t : TypeTree) (ts us : List Lexeme) → SpellsType (signal_type t) ts us → signal_at ts ≡ Some (signal_type t, us)
+pub signal_at-again : (t : TypeTree) (ts us : List Lexeme) → IsSignal t → SpellsType t ts us → signal_at ts ≡ Some (t, us)
 unfolding signal_at
-signal_at-again (int_type n) ts us s =
-    let i : SpellsType (int_type n) ts (punct 36 ∷ us) = (s.0, s.1) in
-    ap (λ o. o >>= λ m. (punct_at 36 m.1 >>= λ vs. Some (signal_type (int_type m.0), vs))) (int_at-again n ts (punct 36 ∷ us) i)
-signal_at-again (signal_type t) ts us s = absurd s.1
-signal_at-again _ ts us s = absurd s.0
+signal_at-again (signal_type (int_type n)) ts us i s =
+    let w : SpellsType (int_type n) ts (punct 36 ∷ us) = (s.0, s.1) in
+    ap (λ o. o >>= λ m. (punct_at 36 m.1 >>= λ vs. Some (signal_type (int_type m.0), vs))) (int_at-again n ts (punct 36 ∷ us) w)
+signal_at-again (signal_type (signal_type t)) ts us i s = absurd s.1
+signal_at-again (signal_type t) ts us i s = absurd s.0
+signal_at-again _ ts us i s = absurd i
+
+-- a spelling of a signal takes a word and more
+signal_first : (t : TypeTree) (ts us : List Lexeme) → IsSignal t → SpellsType t ts us → (w : List ℕ) × (ts ≡ word w ∷ punct 36 ∷ us)
+signal_first (signal_type (int_type n)) ts us i s = (105 ∷ s.0.0, s.0.1)
+signal_first (signal_type (signal_type t)) ts us i s = absurd s.1
+signal_first (signal_type t) ts us i s = absurd s.0
+signal_first _ ts us i s = absurd i
 
 -- arguments
-arg_at-sound : (output : Bool) (ts : List Lexeme) (r : ArgText × List Lexeme) → arg_at output ts ≡ Some r → SpellsSignalArg output r.0 ts r.1
-unfolding arg_at
-arg_at-sound output ts r p =
+param_at-sound : (ts : List Lexeme) (r : TypedName × List Lexeme) → param_at ts ≡ Some r → SpellsSignal r.0 ts r.1
+unfolding param_at
+param_at-sound ts r p =
     let a = bind_some (signal_at ts) _ r p in
     let b = bind_some (local_at a.0.1) _ r a.2 in
     let s = signal_at-sound ts a.0 a.1 in
-    let e : (record { name = b.0.0; ty = a.0.0; output = output }, b.0.1) ≡ r = cc in
-    let t = subst (SpellsType a.0.0 ts) (local_at-inv a.0.1 b.0 b.1) s.0 in
-    let u : SpellsSignalArg output (record { name = b.0.0; ty = a.0.0; output = output }) ts b.0.1 = record { of = s.1.0; is_signal = s.1.1; typed = t; side = refl } in
-    subst (λ x. SpellsSignalArg output x.0 ts x.1) e u
+    let e : (record { ty = a.0.0; name = b.0.0 }, b.0.1) ≡ r = cc in
+    let t = subst (SpellsType a.0.0 ts) (local_at-inv a.0.1 b.0 b.1) s.1 in
+    subst (λ x. SpellsSignal x.0 ts x.1) e (s.0, t)
 
-arg_at-again : (output : Bool) (a : ArgText) (ts us : List Lexeme) → SpellsSignalArg output a ts us → arg_at output ts ≡ Some (a, us)
-unfolding arg_at
-arg_at-again output a ts us s =
-    let t : SpellsType (signal_type s.of) ts (local a.name ∷ us) = subst (λ x. SpellsType x ts (local a.name ∷ us)) s.is_signal s.typed in
-    ap (λ o. o >>= λ x. (local_at x.1 >>= λ n. Some (record { name = n.0; ty = x.0; output = output }, n.1))) (signal_at-again s.of ts (local a.name ∷ us) t)
-    ∙ (λ i. Some (record { name = a.name; ty = sym s.is_signal i; output = sym s.side i }, us))
+param_at-again : (a : TypedName) (ts us : List Lexeme) → SpellsSignal a ts us → param_at ts ≡ Some (a, us)
+unfolding param_at
+param_at-again a ts us s =
+    ap (λ o. o >>= λ x. (local_at x.1 >>= λ n. Some (record { ty = x.0; name = n.0 }, n.1))) (signal_at-again a.ty ts (local a.name ∷ us) s.0 s.1)
 
--- a spelling of a signal takes a word and more
-signal_first : (t : TypeTree) (ts us : List Lexeme) → SpellsType (signal_type t) ts us → (w : List ℕ) × (ts ≡ word w ∷ punct 36 ∷ us)
-signal_first (int_type n) ts us s = (105 ∷ s.0.0, s.0.1)
-signal_first (signal_type t) ts us s = absurd s.1
-signal_first _ ts us s = absurd s.0
+param_first : (a : TypedName) (ts us : List Lexeme) → SpellsSignal a ts us → (w : List ℕ) × (ts ≡ word w ∷ punct 36 ∷ local a.name ∷ us)
+param_first a ts us s = signal_first a.ty ts (local a.name ∷ us) s.0 s.1
 
-arg_first : (output : Bool) (a : ArgText) (ts us : List Lexeme) → SpellsSignalArg output a ts us → (w : List ℕ) × (ts ≡ word w ∷ punct 36 ∷ local a.name ∷ us)
-arg_first output a ts us s = signal_first s.of ts (local a.name ∷ us) (subst (λ x. SpellsType x ts (local a.name ∷ us)) s.is_signal s.typed)
+param_shorter : (a : TypedName) (ts us : List Lexeme) → SpellsSignal a ts us → length us < length ts
+param_shorter a ts us s = let f = param_first a ts us s in omega (arith, ap length f.1)
 
-arg_shorter : (output : Bool) (a : ArgText) (ts us : List Lexeme) → SpellsSignalArg output a ts us → length us < length ts
-arg_shorter output a ts us s = let f = arg_first output a ts us s in omega (arith, ap length f.1)
+param_begins : (c : ℕ) (a : TypedName) (ts us : List Lexeme) → SpellsSignal a ts us → punct_at c ts ≡ None
+param_begins c a ts us s = let f = param_first a ts us s in ap (punct_at c) f.1
 
-arg_begins : (output : Bool) (c : ℕ) (a : ArgText) (ts us : List Lexeme) → SpellsSignalArg output a ts us → punct_at c ts ≡ None
-arg_begins output c a ts us s = let f = arg_first output a ts us s in ap (punct_at c) f.1
+params_at-sound : (ts : List Lexeme) (r : List TypedName × List Lexeme) → params_at ts ≡ Some r → SpellsList SpellsSignal r.0 ts r.1
+params_at-sound ts r p = list_at-sound param_at SpellsSignal param_at-sound 41 ts r p
 
-args_at-sound : (output : Bool) (ts : List Lexeme) (r : List ArgText × List Lexeme) → args_at output ts ≡ Some r → SpellsList (SpellsSignalArg output) r.0 ts r.1
-args_at-sound output ts r p = list_at-sound (arg_at output) (SpellsSignalArg output) (arg_at-sound output) 41 ts r p
+params_at-again : (xs : List TypedName) (ts us more : List Lexeme) → SpellsList SpellsSignal xs ts us → us ≡ punct 41 ∷ more → params_at ts ≡ Some (xs, us)
+params_at-again xs ts us more s e = list_at-again param_at SpellsSignal param_at-again param_shorter 41 refl refl (param_begins 41) xs ts us more s e
 
-args_at-again : (output : Bool) (xs : List ArgText) (ts us more : List Lexeme) → SpellsList (SpellsSignalArg output) xs ts us → us ≡ punct 41 ∷ more → args_at output ts ≡ Some (xs, us)
-args_at-again output xs ts us more s e = list_at-again (arg_at output) (SpellsSignalArg output) (arg_at-again output) (arg_shorter output) 41 refl refl (arg_begins output 41) xs ts us more s e
+gap_at-inv : (ts us : List Lexeme) → gap_at ts ≡ Some us → ts ≡ punct 41 ∷ arrow ∷ punct 40 ∷ us
+unfolding gap_at
+gap_at-inv ts us p =
+    let a = bind_some (punct_at 41 ts) _ us p in
+    let b = bind_some (arrow_at a.0) _ us a.2 in
+    punct_at-inv 41 ts a.0 a.1 ∙ ap (λ l. punct 41 ∷ l) (arrow_at-inv a.0 b.0 b.1 ∙ ap (λ l. arrow ∷ l) (punct_at-inv 40 b.0 us b.2))
+
+brace_at-inv : (ts : List Lexeme) (u : Unit {0}) → brace_at ts ≡ Some u → ts ≡ punct 41 ∷ punct 123 ∷ []
+unfolding brace_at
+brace_at-inv ts u p =
+    let a = bind_some (punct_at 41 ts) _ u p in
+    let b = bind_some (punct_at 123 a.0) _ u a.2 in
+    punct_at-inv 41 ts a.0 a.1 ∙ ap (λ l. punct 41 ∷ l) (punct_at-inv 123 a.0 b.0 b.1 ∙ ap (λ l. punct 123 ∷ l) (end_at-inv b.0 u b.2))
 
 ports_at-sound : (ts : List Lexeme) (args : List ArgText) → ports_at ts ≡ Some args → SpellsPorts args ts
 unfolding ports_at
 ports_at-sound ts args p =
     let a = bind_some (punct_at 40 ts) _ args p in
-    let b = bind_some (args_at false a.0) _ args a.2 in
-    let c = bind_some (punct_at 41 b.0.1) _ args b.2 in
-    let d = bind_some (arrow_at c.0) _ args c.2 in
-    let e = bind_some (punct_at 40 d.0) _ args d.2 in
-    let f = bind_some (args_at true e.0) _ args e.2 in
-    let g = bind_some (punct_at 41 f.0.1) _ args f.2 in
-    let h = bind_some (punct_at 123 g.0) _ args g.2 in
-    let i = bind_some (end_at h.0) _ args h.2 in
+    let b = bind_some (params_at a.0) _ args a.2 in
+    let c = bind_some (gap_at b.0.1) _ args b.2 in
+    let d = bind_some (params_at c.0) _ args c.2 in
+    let e = bind_some (brace_at d.0.1) _ args d.2 in
     record {
       inputs = b.0.0;
-      outputs = f.0.0;
-      together = let e : b.0.0 ++ f.0.0 ≡ args = some_inj (b.0.0 ++ f.0.0) args i.2 in sym e;
+      outputs = d.0.0;
+      together = sym (some_inj (map input_of b.0.0 ++ map output_of d.0.0) args e.2);
       first = a.0;
-      second = e.0;
+      second = c.0;
       opened = punct_at-inv 40 ts a.0 a.1;
-      spelled_inputs = subst (SpellsList (SpellsSignalArg false) b.0.0 a.0)
-          (punct_at-inv 41 b.0.1 c.0 c.1 ∙ ap (λ l. punct 41 ∷ l) (arrow_at-inv c.0 d.0 d.1 ∙ ap (λ l. arrow ∷ l) (punct_at-inv 40 d.0 e.0 e.1)))
-          (args_at-sound false a.0 b.0 b.1);
-      spelled_outputs = subst (SpellsList (SpellsSignalArg true) f.0.0 e.0)
-          (punct_at-inv 41 f.0.1 g.0 g.1 ∙ ap (λ l. punct 41 ∷ l) (punct_at-inv 123 g.0 h.0 h.1 ∙ ap (λ l. punct 123 ∷ l) (end_at-inv h.0 i.0 i.1)))
-          (args_at-sound true e.0 f.0 f.1);
+      spelled_inputs = subst (SpellsList SpellsSignal b.0.0 a.0) (gap_at-inv b.0.1 c.0 c.1) (params_at-sound a.0 b.0 b.1);
+      spelled_outputs = subst (SpellsList SpellsSignal d.0.0 c.0) (brace_at-inv d.0.1 e.0 e.1) (params_at-sound c.0 d.0 d.1);
     }
 
 ports_at-again : (args : List ArgText) (ts : List Lexeme) → SpellsPorts args ts → ports_at ts ≡ Some args
-unfolding ports_at
+unfolding ports_at gap_at brace_at
 ports_at-again args ts s =
     ap ports_at s.opened
-    ∙ ap (λ o. o >>= λ ins. (punct_at 41 ins.1 >>= λ b. (arrow_at b >>= λ c. (punct_at 40 c >>= λ d. (args_at true d >>= λ outs. (punct_at 41 outs.1 >>= λ e. (punct_at 123 e >>= λ f. (end_at f >>= λ _. Some (ins.0 ++ outs.0)))))))))
-        (args_at-again false s.inputs s.first (punct 41 ∷ arrow ∷ punct 40 ∷ s.second) (arrow ∷ punct 40 ∷ s.second) s.spelled_inputs refl)
-    ∙ ap (λ o. o >>= λ outs. (punct_at 41 outs.1 >>= λ e. (punct_at 123 e >>= λ f. (end_at f >>= λ _. Some (s.inputs ++ outs.0)))))
-        (args_at-again true s.outputs s.second (punct 41 ∷ punct 123 ∷ []) (punct 123 ∷ []) s.spelled_outputs refl)
+    ∙ ap (λ o. o >>= λ ins. (gap_at ins.1 >>= λ b. (params_at b >>= λ outs. (brace_at outs.1 >>= λ _. Some (map input_of ins.0 ++ map output_of outs.0)))))
+        (params_at-again s.inputs s.first (punct 41 ∷ arrow ∷ punct 40 ∷ s.second) (arrow ∷ punct 40 ∷ s.second) s.spelled_inputs refl)
+    ∙ ap (λ o. o >>= λ outs. (brace_at outs.1 >>= λ _. Some (map input_of s.inputs ++ map output_of outs.0)))
+        (params_at-again s.outputs s.second (punct 41 ∷ punct 123 ∷ []) (punct 123 ∷ []) s.spelled_outputs refl)
     ∙ ap Some (sym s.together)
 
 pub header_at-sound : (ts : List Lexeme) (i : LineItem) → header_at ts ≡ Some i → Spells ts i
@@ -312,25 +314,25 @@ negative-sound n (Some k) b p =
     within : (x y : ℕ) → nat_le x y ≡ true → x ≤ y
     within x y t = grind (arith, common_steps)
 
-integer_at-plain : (n : ℕ) (ts : List Lexeme) (b : ℕ) → (any_word_at ts >>= λ w. (end_at w.1 >>= λ _. positive_bits n (small_number w.0))) ≡ Some b → SpellsInteger n b ts
-integer_at-plain n ts b p =
-    let a = bind_some (any_word_at ts) _ b p in
-    let e = bind_some (end_at a.0.1) _ b a.2 in
-    let s = positive-sound n (small_number a.0.0) b e.2 in
-    inl (a.0.0, any_word_at-inv ts a.0 a.1 ∙ ap (λ l. word a.0.0 ∷ l) (end_at-inv a.0.1 e.0 e.1), small-inv (number_of a.0.0) b s.0, s.1)
+last_number_at-inv : (ts : List Lexeme) (k : ℕ) → last_number_at ts ≡ Some k → (w : List ℕ) × (ts ≡ word w ∷ []) × (number_of w ≡ Some k)
+last_number_at-inv ts k p =
+    let a = bind_some (any_word_at ts) _ k p in
+    let e = bind_some (end_at a.0.1) _ k a.2 in
+    (a.0.0, any_word_at-inv ts a.0 a.1 ∙ ap (λ l. word a.0.0 ∷ l) (end_at-inv a.0.1 e.0 e.1), small-inv (number_of a.0.0) k e.2)
 
-integer_at-minus : (n : ℕ) (ts : List Lexeme) (b : ℕ) → (any_word_at ts >>= λ w. (end_at w.1 >>= λ _. negative_bits n (small_number w.0))) ≡ Some b → SpellsInteger n b (minus ∷ ts)
-integer_at-minus n ts b p =
-    let a = bind_some (any_word_at ts) _ b p in
-    let e = bind_some (end_at a.0.1) _ b a.2 in
-    let s = negative-sound n (small_number a.0.0) b e.2 in
-    inr (a.0.0, s.0, ap (λ l. minus ∷ l) (any_word_at-inv ts a.0 a.1 ∙ ap (λ l. word a.0.0 ∷ l) (end_at-inv a.0.1 e.0 e.1)), small-inv (number_of a.0.0) s.0 s.1, s.2, s.3)
+minus_at-inv : (ts us : List Lexeme) → minus_at ts ≡ Some us → ts ≡ minus ∷ us
+minus_at-inv (minus ∷ ts) us p = cc
+minus_at-inv _ us p = cc
 
 integer_at-sound : (n : ℕ) (ts : List Lexeme) (b : ℕ) → integer_at n ts ≡ Some b → SpellsInteger n b ts
 unfolding integer_at
-integer_at-sound n (minus ∷ ts) b p = integer_at-minus n ts b p
-integer_at-sound n (word w ∷ ts) b p = integer_at-plain n (word w ∷ ts) b p
-integer_at-sound n _ b p = cc
+integer_at-sound n ts b p = by (minus_at ts) refl p
+  where
+    by : (o : Option (List Lexeme)) → minus_at ts ≡ o → integer_or n ts o ≡ Some b → SpellsInteger n b ts
+    by None e q = let s = positive-sound n (last_number_at ts) b q in let w = last_number_at-inv ts b s.0 in inl (w.0, w.1, w.2, s.1)
+    by (Some us) e q =
+        let s = negative-sound n (last_number_at us) b q in let w = last_number_at-inv us s.0 s.1 in
+        inr (w.0, s.0, minus_at-inv ts us e ∙ ap (λ l. minus ∷ l) w.1, w.2, s.2, s.3)
 
 positive-again : (n b : ℕ) → n ≤ 128 → b < 2 ^ n → positive_bits n (small (Some b)) ≡ Some b
 positive-again n b h l =

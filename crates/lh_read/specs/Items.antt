@@ -1,38 +1,48 @@
 -- What the tokens of a line say.
-use Rattle.std.specs.Prelude.{◌≡◌, ℕ, ◌-◌, ◌%◌, ◌^◌, Bool, true, false, nat_eq, nat_lt, nat_le, List, [], ◌∷◌, ◌++◌, Option, Some, None, if◌then◌else◌, codes}
+use Rattle.std.specs.Prelude.{◌≡◌, ℕ, ◌-◌, ◌%◌, ◌^◌, Bool, nat_eq, nat_lt, nat_le, List, [], ◌∷◌, ◌++◌, map, Option, Some, None, if◌then◌else◌, codes}
 use Rattle.lh_types.specs.Types.{int_type}
 use Rattle.lh_types.specs.Values.{int_value}
 use Rattle.lh_unit.specs.Contents.{ArgText, InstText, LineText, const_text, sig_text}
 use Rattle.lh_unit.specs.Lexemes.{Lexeme, word, global, local, arrow, minus, punct}
-use Rattle.lh_unit.specs.Spells.{LineItem, empty_item, header_item, inst_item, close_item}
+use Rattle.lh_unit.specs.Spells.{TypedName, input_of, output_of, LineItem, empty_item, header_item, inst_item, close_item}
 use Rattle.lh_unit.specs.declared.name.UnitName.{UnitName}
 use Rattle.lh_unit.specs.declared.inst.UnitKind.TheVariants as kind
 use Rattle.lh_read.specs.Pieces.{◌>>=◌, first_at, word_at, any_word_at, local_at, unit_name_at, punct_at, arrow_at, minus_at, end_at, small_number, list_at}
 use Rattle.lh_read.specs.Types.{int_at, signal_at}
 
--- an argument that is a signal
-unfoldable pub arg_at : Bool → List Lexeme → Option (ArgText × List Lexeme)
-arg_at output ts = do
+-- a signal and its name
+unfoldable pub param_at : List Lexeme → Option (TypedName × List Lexeme)
+param_at ts = do
   t ← signal_at ts
   n ← local_at t.1
-  Some (record { name = n.0; ty = t.0; output = output }, n.1)
+  Some (record { ty = t.0; name = n.0 }, n.1)
 
-abbrev pub args_at : Bool → List Lexeme → Option (List ArgText × List Lexeme)
-args_at output ts = list_at (arg_at output) 41 ts
+abbrev pub params_at : List Lexeme → Option (List TypedName × List Lexeme)
+params_at ts = list_at param_at 41 ts
+
+-- `) -> (`
+unfoldable pub gap_at : List Lexeme → Option (List Lexeme)
+gap_at ts = do
+  a ← punct_at 41 ts
+  b ← arrow_at a
+  punct_at 40 b
+
+-- `) {` at the end of a line
+unfoldable pub brace_at : List Lexeme → Option (Unit {0})
+brace_at ts = do
+  a ← punct_at 41 ts
+  b ← punct_at 123 a
+  end_at b
 
 -- what follows the name of an entity
 unfoldable pub ports_at : List Lexeme → Option (List ArgText)
 ports_at ts = do
   a ← punct_at 40 ts
-  ins ← args_at false a
-  b ← punct_at 41 ins.1
-  c ← arrow_at b
-  d ← punct_at 40 c
-  outs ← args_at true d
-  e ← punct_at 41 outs.1
-  f ← punct_at 123 e
-  _ ← end_at f
-  Some (ins.0 ++ outs.0)
+  ins ← params_at a
+  b ← gap_at ins.1
+  outs ← params_at b
+  _ ← brace_at outs.1
+  Some (map input_of ins.0 ++ map output_of outs.0)
 
 unfoldable pub header_at : List Lexeme → Option LineItem
 header_at ts = do
@@ -51,16 +61,20 @@ abbrev pub negative_bits : ℕ → Option ℕ → Option ℕ
 negative_bits n None = None
 negative_bits n (Some k) = if nat_le k (2 ^ (n - 1)) then Some ((2 ^ n - k) % (2 ^ n)) else None
 
+-- the number that ends the line
+abbrev pub last_number_at : List Lexeme → Option ℕ
+last_number_at ts = do
+  w ← any_word_at ts
+  _ ← end_at w.1
+  small_number w.0
+
+abbrev pub integer_or : ℕ → List Lexeme → Option (List Lexeme) → Option ℕ
+integer_or n ts None = positive_bits n (last_number_at ts)
+integer_or n ts (Some us) = negative_bits n (last_number_at us)
+
 -- the bits of a constant of n bits
 unfoldable pub integer_at : ℕ → List Lexeme → Option ℕ
-integer_at n (minus ∷ ts) = do
-  w ← any_word_at ts
-  _ ← end_at w.1
-  negative_bits n (small_number w.0)
-integer_at n ts = do
-  w ← any_word_at ts
-  _ ← end_at w.1
-  positive_bits n (small_number w.0)
+integer_at n ts = integer_or n ts (minus_at ts)
 
 unfoldable pub const_at : List Lexeme → Option InstText
 const_at ts = do

@@ -1,5 +1,9 @@
 pub mod Pieces
 pub mod Types
 pub mod Items
+pub mod Shorter
 pub mod Steps
 pub mod SyntaxOf
+pub mod FaultOf
+pub mod Building
+pub mod Reading

@@ -2,6 +2,7 @@
 ghost use Rattle.std.specs.Prelude.{◌≡◌, ◌<◌, ◌≤◌, map, option_map, length, List, IfOk};
 ghost use Rattle.lh_unit.specs.Names.{IsName};
 ghost use Rattle.lh_unit.specs.Tokens.{lexeme_at, IsTokenOf, AreTokensOf};
+ghost use Rattle.lh_unit.specs.Reads.{is_assert};
 ghost use Rattle.lh_read.specs.Pieces.{first_at, word_at, any_word_at, local_at, unit_name_at, punct_at, arrow_at, minus_at, end_at};
 ghost use Rattle.lh_read.specs.SyntaxOf.{lexeme_of, unit_name_of};
 
@@ -45,6 +46,13 @@ pub struct UnitNameText<'a> {
 }
 
 impl UnitNameText<'_> {
+    /// Whether it is `@llhd.assert`.
+    pub fn is_assert(&self) -> bool
+        ensures { result ≡ is_assert (unit_name_of self.now) }
+    {
+        self.sigil == b'@' && self.name.bytes == b"llhd.assert".as_slice()
+    }
+
     /// The name, in memory of its own.
     pub fn to_unit_name(&self, alloc: Global) -> Result<UnitName, NoMemory>
         ensures { IfOk result (λ n. n ≡ unit_name_of self.now) }

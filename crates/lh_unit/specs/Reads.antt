@@ -90,10 +90,10 @@ abbrev pub too_large : State → LineItem → Bool
 too_large s (inst_item l) = is_full (last_unit s.items)
 too_large s _ = false
 
--- whether two arguments have one name
-abbrev pub args_repeat : List ArgText → Bool
-args_repeat [] = false
-args_repeat (a ∷ more) = args_define a.name more || args_repeat more
+-- whether one of the arguments has the name of an earlier one; `seen` are those before
+abbrev pub args_repeat : (seen : List ArgText) → List ArgText → Bool
+args_repeat seen [] = false
+args_repeat seen (a ∷ more) = args_define a.name seen || args_repeat (seen ++ a ∷ []) more
 
 -- `@llhd.assert`, which is there without a definition
 abbrev pub is_assert : UnitName → Bool
@@ -109,7 +109,7 @@ label_again n None = false
 
 -- whether the item defines a name of a unit, value or label that is defined
 abbrev pub defines_again : State → LineItem → Bool
-defines_again s (header_item k n args r) = defines_unit n s.items || is_assert n || args_repeat args
+defines_again s (header_item k n args r) = defines_unit n s.items || is_assert n || args_repeat [] args
 defines_again s (label_item n) = label_again n (last_unit s.items)
 defines_again s (inst_item l) = value_again l.result (last_unit s.items)
 defines_again s _ = false

@@ -1,9 +1,10 @@
 -- What the tokens of one line spell, one case for each spelling of the language.
-use Rattle.std.specs.Prelude.{◌≡◌, ℕ, ◌-◌, ◌%◌, ◌^◌, ◌<◌, ◌≤◌, Bool, true, false, List, [], ◌∷◌, ◌++◌, Option, Some, None, ◌⊎◌, codes}
-use Rattle.lh_types.specs.Types.{TypeTree, int_type, signal_type, IsData}
+use Rattle.std.specs.Prelude.{◌≡◌, ℕ, ◌-◌, ◌%◌, ◌^◌, ◌<◌, ◌≤◌, Bool, true, false, List, [], ◌∷◌, ◌++◌, map, Option, Some, None, ◌⊎◌, codes}
+use Rattle.lh_types.specs.Types.{TypeTree, int_type, signal_type}
 use Rattle.lh_types.specs.Values.{Datum, int_value}
-use Rattle.lh_unit.specs.Contents.{ArgText, OperandText, InstText, LineText, const_text, sig_text}
-use Rattle.lh_unit.specs.Lexemes.{Lexeme, word, global, local, arrow, minus, punct}
+use Rattle.lh_unit.specs.Contents.{ArgText, InstText, LineText, const_text, sig_text}
+use Rattle.lh_unit.specs.Lexemes.{Lexeme, word, global, local, arrow, minus}
+use Rattle.lh_unit.specs.Marks.{open_paren, close_paren, open_brace, close_brace, comma, equals}
 use Rattle.lh_unit.specs.Numerals.{number_of}
 use Rattle.lh_unit.specs.SpellsTypes.{SpellsType}
 use Rattle.lh_unit.specs.declared.name.UnitName.{UnitName}
@@ -22,28 +23,6 @@ pub data LineItem : Type 0 where
   -- the end of a unit
   close_item : LineItem
 
--- the punctuation of the language by name
-abbrev pub open_paren : Lexeme
-open_paren = punct 40
-
-abbrev pub close_paren : Lexeme
-close_paren = punct 41
-
-abbrev pub comma : Lexeme
-comma = punct 44
-
-abbrev pub equals : Lexeme
-equals = punct 61
-
-abbrev pub dollar : Lexeme
-dollar = punct 36
-
-abbrev pub open_brace : Lexeme
-open_brace = punct 123
-
-abbrev pub close_brace : Lexeme
-close_brace = punct 125
-
 -- the name of a unit begins with `@` or `%`
 abbrev pub SpellsUnitName : UnitName → Lexeme → Type 0
 SpellsUnitName n t = ((n.sigil ≡ 64) × (t ≡ global n.name)) ⊎ ((n.sigil ≡ 37) × (t ≡ local n.name))
@@ -59,23 +38,35 @@ abbrev pub SpellsList : {A : Type 0} → (A → List Lexeme → List Lexeme → 
 SpellsList P [] ts more = ts ≡ more
 SpellsList P (a ∷ rest) ts more = SpellsParts P (a ∷ rest) ts more
 
--- `S %a`, an argument that is a signal, and then the tokens `more`
-pub record SpellsSignalArg (output : Bool) (a : ArgText) (ts more : List Lexeme) : Type 0 where
-  pub of : TypeTree
-  pub is_signal : a.ty ≡ signal_type of
-  pub typed : SpellsType a.ty ts (local a.name ∷ more)
-  pub side : a.output ≡ output
+-- a name with the type that is written before it
+pub record TypedName : Type 0 where
+  pub ty : TypeTree
+  pub name : List ℕ
+
+abbrev pub IsSignal : TypeTree → Type 0
+IsSignal (signal_type t) = Unit {0}
+IsSignal _ = ⊥
+
+-- `S %a`, and then the tokens `more`
+abbrev pub SpellsSignal : TypedName → List Lexeme → List Lexeme → Type 0
+SpellsSignal a ts more = IsSignal a.ty × SpellsType a.ty ts (local a.name ∷ more)
+
+abbrev pub input_of : TypedName → ArgText
+input_of a = record { name = a.name; ty = a.ty; output = false }
+
+abbrev pub output_of : TypedName → ArgText
+output_of a = record { name = a.name; ty = a.ty; output = true }
 
 -- `(S1 %a1, ..) -> (S2 %a2, ..) {`
 pub record SpellsPorts (args : List ArgText) (ts : List Lexeme) : Type 0 where
-  pub inputs : List ArgText
-  pub outputs : List ArgText
-  pub together : args ≡ inputs ++ outputs
+  pub inputs : List TypedName
+  pub outputs : List TypedName
+  pub together : args ≡ map input_of inputs ++ map output_of outputs
   pub first : List Lexeme
   pub second : List Lexeme
   pub opened : ts ≡ open_paren ∷ first
-  pub spelled_inputs : SpellsList (SpellsSignalArg false) inputs first (close_paren ∷ arrow ∷ open_paren ∷ second)
-  pub spelled_outputs : SpellsList (SpellsSignalArg true) outputs second (close_paren ∷ open_brace ∷ [])
+  pub spelled_inputs : SpellsList SpellsSignal inputs first (close_paren ∷ arrow ∷ open_paren ∷ second)
+  pub spelled_outputs : SpellsList SpellsSignal outputs second (close_paren ∷ open_brace ∷ [])
 
 -- the head of a unit: its kind, its name and what follows
 abbrev pub SpellsHeader : UnitKind → UnitName → List ArgText → Option TypeTree → List Lexeme → Type 0

@@ -1,7 +1,8 @@
 -- How types are spelled.
 use Rattle.std.specs.Prelude.{◌≡◌, ℕ, List, [], ◌∷◌, Some}
 use Rattle.lh_types.specs.Types.{TypeTree, int_type, signal_type, IsLimited}
-use Rattle.lh_unit.specs.Lexemes.{Lexeme, word, punct}
+use Rattle.lh_unit.specs.Lexemes.{Lexeme, word}
+use Rattle.lh_unit.specs.Marks.{dollar}
 use Rattle.lh_unit.specs.Numerals.{number_of}
 
 -- the tokens spell the type, whatever its size, and the tokens `more` follow
@@ -9,7 +10,7 @@ abbrev pub SpellsTree : TypeTree → List Lexeme → List Lexeme → Type 0
 -- `iN`
 SpellsTree (int_type n) ts more = (w : List ℕ) × (ts ≡ word (105 ∷ w) ∷ more) × (number_of w ≡ Some n)
 -- `T$`
-SpellsTree (signal_type t) ts more = SpellsTree t ts (punct 36 ∷ more)
+SpellsTree (signal_type t) ts more = SpellsTree t ts (dollar ∷ more)
 SpellsTree _ ts more = ⊥
 
 -- the tokens spell a type within its limits, and the tokens `more` follow

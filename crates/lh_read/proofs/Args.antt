@@ -1,0 +1,169 @@
+-- Arguments, one after another.
+use Rattle.std.proofs.Common.{◌≡◌, ℕ, ◌+◌, ◌<◌, ◌≤◌, Bool, true, false, ◌||◌, List, [], ◌∷◌, ◌++◌, length, map, take, drop, get_or, Option, Some, None, Result, Ok, Err, IsSomeAnd, IsErrAnd, refl, ap, sym, ◌∙◌, subst, inl, inr, ◌⊎◌, arith, add-one}
+use Rattle.std.specs.Prelude.{⊤}
+use Rattle.std.proofs.Math.Seq.{take-suc}
+use Rattle.std.proofs.lemmas.List.{map-append, take-append-drop}
+use Rattle.lh_types.specs.Types.{TypeTree}
+use Rattle.lh_unit.specs.Contents.{ArgText, UnitText, ItemText, unit_text, new_unit, last_unit, change_last, with_arg, defines_value}
+use Rattle.lh_unit.specs.Spells.{TypedName}
+use Rattle.lh_unit.specs.Arena.{Arena, OfOpen, IsOpen, contents, unit_count}
+use Rattle.lh_unit.specs.Builders.{Finds, Says, AddsArg}
+use Rattle.lh_unit.specs.declared.inst.UnitId.{UnitId}
+use Rattle.lh_unit.specs.declared.name.UnitName.{UnitName}
+use Rattle.lh_unit.specs.declared.inst.UnitKind.{UnitKind}
+use Rattle.lh_unit.specs.declared.inst.UnitFault.{UnitFault}
+use Rattle.lh_unit.specs.declared.inst.UnitFault.TheVariants as fault
+use Rattle.lh_read.specs.declared.build.LineFault.{LineFault}
+use Rattle.lh_read.specs.declared.build.LineFault.TheVariants as line
+use Rattle.lh_read.specs.SyntaxOf.{arg_of}
+use Rattle.lh_read.specs.FaultOf.{fault_of}
+use Rattle.lh_read.specs.Building.{Begins, AddsArgs, Heads, with_args, args_again}
+use Rattle.lh_read.proofs.LastUnit.{last_unit-push, change_last-push, last_unit-is, last_unit-has, last_unit-change, change_last-twice, change_last-none, with_args-none, with_args-push, with_args-both, args_again-push, args_again-both}
+
+-- the arguments so far are added
+pub record At (old now : Arena) (u : UnitId) (done : List ArgText) : Type 0 where
+  pub within : u.0 < unit_count now
+  pub is_open : IsOpen now u
+  pub says : contents now ≡ change_last (with_args done) (contents old)
+  pub fresh : OfOpen old (λ t. args_again t done ≡ false)
+
+pub At-start : (old : Arena) (u : UnitId) → u.0 < unit_count old → IsOpen old u → OfOpen old (λ _. ⊤) → At old old u []
+At-start old u w o b =
+    let t = last_unit-is (last_unit (contents old)) b in
+    record {
+      within = w;
+      is_open = o;
+      says = sym (change_last-none (with_args []) (contents old) t.0 t.1 (with_args-none t.0));
+      fresh = last_unit-has (λ x. args_again x [] ≡ false) (last_unit (contents old)) t.0 t.1 refl;
+    }
+
+-- the unit to which the next argument is added
+next_unit : (old now : Arena) (u : UnitId) (done : List ArgText) (P : UnitText → Type 0) → At old now u done → OfOpen now P → (t : UnitText) × (last_unit (contents old) ≡ Some t) × P (with_args done t) × (args_again t done ≡ false)
+next_unit old now u done P a h =
+    let t = last_unit-is (last_unit (contents old)) a.fresh in
+    let e : last_unit (contents now) ≡ Some (with_args done t.0) = ap last_unit a.says ∙ last_unit-change (with_args done) (contents old) t.0 t.1 in
+    (t.0, t.1, subst (λ o. IsSomeAnd o P) e h, t.2)
+
+-- nothing but entries is new in mid
+pub At-grown : (old now mid : Arena) (u : UnitId) (done : List ArgText) → At old now u done → Finds now mid → At old mid u done
+At-grown old now mid u done a f = record {
+  within = omega (arith, a.within, f.grows.entries.units);
+  is_open = f.grows.open_stays u a.is_open;
+  says = f.grows.says ∙ a.says;
+  fresh = a.fresh;
+}
+
+pub At-next : (old now new : Arena) (u : UnitId) (done : List ArgText) (a : ArgText) → At old now u done → OfOpen now (λ t. defines_value a.name t ≡ false) → Says now new u (change_last (with_arg a) (contents now))
+    → At old new u (done ++ a ∷ [])
+At-next old now new u done a w h s =
+    let t = next_unit old now u done (λ t. defines_value a.name t ≡ false) w h in
+    record {
+      within = omega (arith, w.within, s.entries.units);
+      is_open = s.is_open;
+      says = s.says ∙ ap (change_last (with_arg a)) w.says ∙ change_last-twice (with_args done) (with_arg a) (with_args (done ++ a ∷ [])) (contents old) t.0 t.1 (with_args-push done a t.0);
+      fresh = last_unit-has (λ x. args_again x (done ++ a ∷ []) ≡ false) (last_unit (contents old)) t.0 t.1
+          (args_again-push done a t.0 ∙ ap (λ b. b || defines_value a.name (with_args done t.0)) t.3 ∙ t.2);
+    }
+
+same_last : (o : Option UnitText) (x y : UnitText) → o ≡ Some x → o ≡ Some y → x ≡ y
+same_last o x y p q = cc
+
+or_true : (a : Bool) → (a || true) ≡ true
+or_true true = refl
+or_true false = refl
+
+-- an argument that is refused
+pub At-again : (old now : Arena) (u : UnitId) (done : List ArgText) (a : ArgText) (more : List ArgText) → At old now u done → OfOpen now (λ t. defines_value a.name t ≡ true)
+    → OfOpen old (λ t. args_again t ((done ++ a ∷ []) ++ more) ≡ true)
+At-again old now u done a more w h =
+    let t = next_unit old now u done (λ t. defines_value a.name t ≡ true) w h in
+    last_unit-has (λ x. args_again x ((done ++ a ∷ []) ++ more) ≡ true) (last_unit (contents old)) t.0 t.1
+        (args_again-both (done ++ a ∷ []) more t.0
+        ∙ ap (λ b. b || args_again (with_args (done ++ a ∷ []) t.0) more) (args_again-push done a t.0 ∙ ap (λ b. args_again t.0 done || b) t.2 ∙ or_true (args_again t.0 done)))
+
+-- the parameters up to the next one
+pub done_next : (output : Bool) (ps : List TypedName) (i : ℕ) (p : TypedName) → i < length ps → p ≡ get_or ps i p → map (arg_of output) (take (i + 1) ps) ≡ map (arg_of output) (take i ps) ++ arg_of output p ∷ []
+done_next output ps i p h e =
+    ap (λ n. map (arg_of output) (take n ps)) (add-one i) ∙ ap (map (arg_of output)) (take-suc ps i p h) ∙ map-append (arg_of output) (take i ps) (get_or ps i p ∷ [])
+    ∙ ap (λ q. map (arg_of output) (take i ps) ++ arg_of output q ∷ []) (sym e)
+
+-- all parameters, as those up to the next one and the others
+pub done_rest : (output : Bool) (ps : List TypedName) (i : ℕ) → map (arg_of output) ps ≡ map (arg_of output) (take i ps) ++ map (arg_of output) (drop i ps)
+done_rest output ps i = ap (map (arg_of output)) (sym (take-append-drop i ps)) ∙ map-append (arg_of output) (take i ps) (drop i ps)
+
+pub args-refused : (old mid new : Arena) (u : UnitId) (done : List ArgText) (a b : ArgText) (all more : List ArgText) (f : UnitFault) → At old mid u done → b ≡ a → all ≡ (done ++ a ∷ []) ++ more → AddsArg (Err f) mid new u b
+    → AddsArgs (Err (fault_of f)) old new u all
+args-refused old mid new u done a b all more fault.UnitTooLarge w e l h = absurd h
+args-refused old mid new u done a b all more fault.DuplicateName w e l h =
+    subst (λ xs. OfOpen old (λ t. args_again t xs ≡ true)) (sym l) (At-again old mid u done a more w (subst (λ x. OfOpen mid (λ t. defines_value x.name t ≡ true)) e h.0))
+args-refused old mid new u done a b all more fault.OutOfMemory w e l h = tt
+
+-- a fault that is passed on
+pub adds-err : (r : Result (Unit {0}) LineFault) (f : LineFault) (old new : Arena) (u : UnitId) (args : List ArgText) → IsErrAnd r (λ e. e ≡ f) → AddsArgs (Err f) old new u args → AddsArgs r old new u args
+adds-err (Ok x) f old new u args h w = absurd h
+adds-err (Err e) f old new u args h w = subst (λ x. AddsArgs (Err x) old new u args) (sym h) w
+
+-- arguments, and then more of them
+pub adds-both : (r : Result (Unit {0}) LineFault) (old mid new : Arena) (u : UnitId) (xs ys : List ArgText) → AddsArgs (Ok tt) old mid u xs → AddsArgs r mid new u ys → AddsArgs r old new u (xs ++ ys)
+adds-both (Ok _) old mid new u xs ys a b =
+    let t = last_unit-is (last_unit (contents old)) a.0 in
+    let v = last_unit-is (last_unit (contents mid)) b.0 in
+    let e : last_unit (contents mid) ≡ Some (with_args xs t.0) = ap last_unit a.1 ∙ last_unit-change (with_args xs) (contents old) t.0 t.1 in
+    let same : v.0 ≡ with_args xs t.0 = same_last (last_unit (contents mid)) v.0 (with_args xs t.0) v.1 e in
+    (last_unit-has (λ x. args_again x (xs ++ ys) ≡ false) (last_unit (contents old)) t.0 t.1
+        (args_again-both xs ys t.0 ∙ ap (λ b. b || args_again (with_args xs t.0) ys) t.2 ∙ ap (λ x. args_again x ys) (sym same) ∙ v.2),
+     b.1 ∙ ap (change_last (with_args ys)) a.1 ∙ change_last-twice (with_args xs) (with_args ys) (with_args (xs ++ ys)) (contents old) t.0 t.1 (with_args-both xs ys t.0),
+     b.2, b.3)
+adds-both (Err line.Syntax) old mid new u xs ys a b =
+    let t = last_unit-is (last_unit (contents old)) a.0 in
+    let v = last_unit-is (last_unit (contents mid)) b in
+    let e : last_unit (contents mid) ≡ Some (with_args xs t.0) = ap last_unit a.1 ∙ last_unit-change (with_args xs) (contents old) t.0 t.1 in
+    let same : v.0 ≡ with_args xs t.0 = same_last (last_unit (contents mid)) v.0 (with_args xs t.0) v.1 e in
+    last_unit-has (λ x. args_again x (xs ++ ys) ≡ true) (last_unit (contents old)) t.0 t.1
+        (args_again-both xs ys t.0 ∙ ap (λ b. args_again t.0 xs || b) (ap (λ x. args_again x ys) (sym same) ∙ v.2) ∙ or_true (args_again t.0 xs))
+adds-both (Err line.OutOfMemory) old mid new u xs ys a b = tt
+adds-both (Err line.UnitTooLarge) old mid new u xs ys a b = absurd b
+adds-both (Err line.DuplicateName) old mid new u xs ys a b = absurd b
+
+pub adds-first : (e : LineFault) (old new : Arena) (u : UnitId) (xs ys : List ArgText) → AddsArgs (Err e) old new u xs → AddsArgs (Err e) old new u (xs ++ ys)
+adds-first line.Syntax old new u xs ys a =
+    let t = last_unit-is (last_unit (contents old)) a in
+    last_unit-has (λ x. args_again x (xs ++ ys) ≡ true) (last_unit (contents old)) t.0 t.1 (args_again-both xs ys t.0 ∙ ap (λ b. b || args_again (with_args xs t.0) ys) t.2)
+adds-first line.OutOfMemory old new u xs ys a = tt
+adds-first line.UnitTooLarge old new u xs ys a = absurd a
+adds-first line.DuplicateName old new u xs ys a = absurd a
+
+-- there is still an open unit
+pub adds-begun : (old new : Arena) (u : UnitId) (xs : List ArgText) → AddsArgs (Ok tt) old new u xs → OfOpen new (λ _. ⊤)
+adds-begun old new u xs a =
+    let t = last_unit-is (last_unit (contents old)) a.0 in
+    last_unit-has (λ _. ⊤) (last_unit (contents new)) (with_args xs t.0) (ap last_unit a.1 ∙ last_unit-change (with_args xs) (contents old) t.0 t.1) tt
+
+-- the unit that was just begun
+begun_unit : (items : List ItemText) (x t : UnitText) → last_unit (items ++ unit_text x ∷ []) ≡ Some t → t ≡ x
+begun_unit items x t e = same_last (last_unit (items ++ unit_text x ∷ [])) t x e (last_unit-push items x)
+
+pub begun-open : (u : UnitId) (old new : Arena) (n : UnitName) (k : UnitKind) → Begins (Ok u) old new n k → OfOpen new (λ _. ⊤)
+begun-open u old new n k b = last_unit-has (λ _. ⊤) (last_unit (contents new)) (new_unit n k) (ap last_unit b.1 ∙ last_unit-push (contents old) (new_unit n k)) tt
+
+-- what holds of the unit that was just begun
+of_begun : (u : UnitId) (old mid : Arena) (n : UnitName) (k : UnitKind) (P : UnitText → Type 0) → Begins (Ok u) old mid n k → OfOpen mid P → P (new_unit n k)
+of_begun u old mid n k P b h =
+    let t = last_unit-is (last_unit (contents mid)) h in
+    subst P (begun_unit (contents old) (new_unit n k) t.0 (ap last_unit (sym b.1) ∙ t.1)) t.2
+
+pub heads-ok : (u : UnitId) (old mid new : Arena) (n : UnitName) (k : UnitKind) (args : List ArgText) → Begins (Ok u) old mid n k → AddsArgs (Ok tt) mid new u args → Heads (Ok u) old new n k args
+heads-ok u old mid new n k args b a =
+    (b.0, of_begun u old mid n k (λ t. args_again t args ≡ false) b a.0,
+     a.1 ∙ ap (change_last (with_args args)) b.1 ∙ change_last-push (with_args args) (contents old) (new_unit n k),
+     a.2, a.3)
+
+pub heads-err : (e : LineFault) (u : UnitId) (old mid new : Arena) (n : UnitName) (k : UnitKind) (args : List ArgText) → Begins (Ok u) old mid n k → AddsArgs (Err e) mid new u args → Heads (Err e) old new n k args
+heads-err line.Syntax u old mid new n k args b a = inr (of_begun u old mid n k (λ t. args_again t args ≡ true) b a)
+heads-err line.OutOfMemory u old mid new n k args b a = tt
+heads-err line.UnitTooLarge u old mid new n k args b a = absurd a
+heads-err line.DuplicateName u old mid new n k args b a = absurd a
+
+pub heads-passed : (r : Result UnitId LineFault) (e : LineFault) (old new : Arena) (n : UnitName) (k : UnitKind) (args : List ArgText) → IsErrAnd r (λ x. x ≡ e) → Heads (Err e) old new n k args → Heads r old new n k args
+heads-passed (Ok x) e old new n k args h w = absurd h
+heads-passed (Err x) e old new n k args h w = subst (λ y. Heads (Err y) old new n k args) (sym h) w

@@ -1,0 +1,53 @@
+-- What reading a text answers.
+use Rattle.std.specs.Prelude.{◌≡◌, ℕ, List, Result, Ok, Err, ◌⊎◌}
+use Rattle.lh_unit.specs.Contents.{ItemText}
+use Rattle.lh_unit.specs.Arena.{Arena, contents}
+use Rattle.lh_unit.specs.Reads.{BadKind, syntax, unit_too_large, duplicate_name, Reads, FirstBad}
+use Rattle.lh_read.specs.declared.build.LineFault.{LineFault}
+use Rattle.lh_read.specs.declared.build.LineFault.TheVariants as line
+use Rattle.lh_read.specs.declared.read.TextFault.{TextFault}
+use Rattle.lh_read.specs.declared.read.TextFault.TheVariants.{Syntax, UnitTooLarge, DuplicateName, OutOfMemory}
+
+-- the module with these contents, or want of memory
+abbrev pub Gives : Result Arena TextFault → List ItemText → Type 0
+Gives (Ok m) items = contents m ≡ items
+Gives (Err OutOfMemory) items = Unit {0}
+Gives (Err _) items = ⊥
+
+-- the fault names the first faulty line of the text; want of memory names none
+abbrev pub Names : TextFault → List ℕ → Type 0
+Names (Syntax n) text = FirstBad text n syntax
+Names (UnitTooLarge n) text = FirstBad text n unit_too_large
+Names (DuplicateName n) text = FirstBad text n duplicate_name
+Names OutOfMemory text = Unit {0}
+
+-- the answer is what was found, unless memory ran out
+abbrev pub Answers : Result Arena TextFault → Result (List ItemText) (ℕ × BadKind) → Type 0
+Answers (Ok m) found = found ≡ Ok (contents m)
+Answers (Err (Syntax n)) found = found ≡ Err (n, syntax)
+Answers (Err (UnitTooLarge n)) found = found ≡ Err (n, unit_too_large)
+Answers (Err (DuplicateName n)) found = found ≡ Err (n, duplicate_name)
+Answers (Err OutOfMemory) found = Unit {0}
+
+-- the text reads as exactly these items, and has no faulty line
+pub record ReadsOnlyAs (text : List ℕ) (items : List ItemText) : Type 0 where
+  pub reads : Reads text items
+  pub only : (others : List ItemText) → Reads text others → others ≡ items
+  pub no_fault : (n : ℕ) → (why : BadKind) → FirstBad text n why → ⊥
+
+-- the text has exactly this first faulty line, and reads as nothing
+pub record HasFirstBad (text : List ℕ) (n : ℕ) (why : BadKind) : Type 0 where
+  pub bad : FirstBad text n why
+  pub only : (m : ℕ) → (other : BadKind) → FirstBad text m other → (m ≡ n) × (other ≡ why)
+  pub no_items : (items : List ItemText) → Reads text items → ⊥
+
+-- every text reads as exactly one list of items or has exactly one first faulty line, and never both
+abbrev pub ReadsOrIsBad : List ℕ → Type 0
+ReadsOrIsBad text = ((items : List ItemText) × ReadsOnlyAs text items) ⊎ ((n : ℕ) × (why : BadKind) × HasFirstBad text n why)
+
+-- a fault of the line n
+abbrev pub text_fault : ℕ → LineFault → TextFault
+text_fault n line.Syntax = Syntax n
+text_fault n line.UnitTooLarge = UnitTooLarge n
+text_fault n line.DuplicateName = DuplicateName n
+text_fault n line.OutOfMemory = OutOfMemory
