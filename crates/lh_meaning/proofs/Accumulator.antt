@@ -14,9 +14,9 @@ use Rattle.lh_unit.specs.declared.inst.Mode.TheVariants.{Rise}
 use Rattle.lh_unit.specs.Contents.{OperandText, InstText, const_text, pure_text, var_text, ld_text, st_text, sig_text, prb_text, drv_text, reg_text, child_text, call_text, br_text, branch_text, wait_text, halt_text, ret_text, LineText, ArgText, ItemText, unit_text}
 use Rattle.lh_unit.specs.Activation.{activate}
 use Rattle.lh_unit.specs.Pass.{pass, probes}
-use Rattle.lh_unit.specs.Design.{Signal, visit, design_of, refusal_of}
+use Rattle.lh_unit.specs.Design.{visit, design_of, refusal_of}
 use Rattle.lh_unit.specs.World.{acts}
-use Rattle.lh_unit.specs.Trace.{Outcome, Frame, quiet, Run, Shown, ran, trace}
+use Rattle.lh_unit.specs.Trace.{Outcome, Frame, quiet, Run, Shown, ShownSignal, ran, trace}
 use Rattle.lh_meaning.proofs.Samples.{global, line, bare, typed, bit, bit_signal, input, output, entity, process, block, delay}
 
 abbrev word : TypeTree
@@ -191,11 +191,11 @@ the_instances =
     shown (codes "acc_tb") None ∷ shown (codes "acc_1") (Some 0) ∷ shown (codes "acc_ff_2") (Some 1) ∷ shown (codes "acc_comb_3") (Some 1)
     ∷ shown (codes "acc_tb_initial_4") (Some 0) ∷ []
 
-abbrev signal : ℕ → List ℕ → ℕ → ℕ → Signal
-signal i n width lo = record { instance = i; name = n; ty = int_type width; lo = lo }
+abbrev signal : ℕ → List ℕ → ℕ → ShownSignal
+signal i n width = record { instance = i; name = n; ty = int_type width }
 
-abbrev the_signals : List Signal
-the_signals = signal 0 (codes "clk") 1 0 ∷ signal 0 (codes "en") 1 1 ∷ signal 0 (codes "x") 32 2 ∷ signal 0 (codes "q") 32 34 ∷ signal 1 (codes "d") 32 66 ∷ []
+abbrev the_signals : List ShownSignal
+the_signals = signal 0 (codes "clk") 1 ∷ signal 0 (codes "en") 1 ∷ signal 0 (codes "x") 32 ∷ signal 0 (codes "q") 32 ∷ signal 1 (codes "d") 32 ∷ []
 
 abbrev values : (clk en x q d : ℕ) → List Datum
 values clk en x q d = int_value 1 clk ∷ int_value 1 en ∷ int_value 32 x ∷ int_value 32 q ∷ int_value 32 d ∷ []

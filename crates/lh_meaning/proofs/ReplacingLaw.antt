@@ -1,5 +1,5 @@
 -- A module whose units are replaced by units that may stand for them has the same trace.
-use Rattle.std.proofs.Common.{◌≡◌, ℕ, List, [], ◌∷◌, Bool, true, false, if◌then◌else◌, unwrap_or, refl, ap, sym, ◌∙◌, subst, Some, None, ◌⊎◌, inl, inr}
+use Rattle.std.proofs.Common.{◌≡◌, ℕ, List, [], ◌∷◌, Bool, true, false, if◌then◌else◌, unwrap_or, refl, ap, sym, ◌∙◌, subst, Some, None, ◌⊎◌, inl, inr, map}
 use Rattle.lh_unit.specs.declared.name.UnitName.{UnitName}
 use Rattle.lh_unit.specs.declared.inst.UnitKind.{UnitKind}
 use Rattle.lh_unit.specs.declared.inst.UnitKind.TheVariants as kind
@@ -10,7 +10,7 @@ use Rattle.lh_unit.specs.Activation.{functions}
 use Rattle.lh_unit.specs.Hierarchy.{Instance, Hierarchy, hierarchy_by, hierarchy_of, hierarchies, hierarchy_named}
 use Rattle.lh_unit.specs.Design.{Elaborated, refused, built, hierarchy_or, hierarchy_in, elab_of}
 use Rattle.lh_unit.specs.World.{State, start_by, start, wake_of, Rules, rules_of, unit_of, starts, first_world}
-use Rattle.lh_unit.specs.Trace.{ran, shown_from, trace_by}
+use Rattle.lh_unit.specs.Trace.{ran, shown_from, shown_signal, trace_by}
 use Rattle.lh_meaning.specs.Replacing.{Seen, answers, HasWidths, MayStand, Replaced, ReplacedSameTrace}
 use Rattle.lh_meaning.proofs.Simulation.{Alike}
 use Rattle.lh_meaning.proofs.Worlds.{Related, same_run}
@@ -125,7 +125,7 @@ starts_related r m m' h old (i ∷ more) w =
 same_trace_by : (bound : ℕ) (m m' : List ItemText) → Replaced (rules_of bound m) m m' → (n : ℕ) (e : Elaborated) → BuiltWidths (hierarchies m) e → trace_by bound m n e ≡ trace_by bound m' n e
 same_trace_by bound m m' h n (refused r) w = refl
 same_trace_by bound m m' h n (built d) w =
-    ap (ran (shown_from 0 d.instances) d.signals)
+    ap (ran (shown_from 0 d.instances) (map shown_signal d.signals))
     (same_run bound m m' d (ap (λ fs. record { bound = bound; functions = fs }) (sym (same_functions (rules_of bound m) m m' h))) n (first_world m d) (first_world m' d)
     (record { init = refl; last = refl; history = refl; states = starts_related (rules_of bound m) m m' h d.init d.instances w }))
 

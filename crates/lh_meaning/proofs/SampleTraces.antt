@@ -9,9 +9,9 @@ use Rattle.lh_types.specs.declared.part.Range.{Range}
 use Rattle.lh_types.specs.History.{bits_at}
 use Rattle.lh_unit.specs.Activation.{activate}
 use Rattle.lh_unit.specs.Pass.{pass, probes}
-use Rattle.lh_unit.specs.Design.{Signal, visit, design_of, refusal_of}
+use Rattle.lh_unit.specs.Design.{visit, design_of, refusal_of}
 use Rattle.lh_unit.specs.World.{acts}
-use Rattle.lh_unit.specs.Trace.{Frame, End, quiet, steps, runaway, Run, Shown, ran, trace}
+use Rattle.lh_unit.specs.Trace.{Frame, End, quiet, steps, runaway, Run, Shown, ShownSignal, ran, trace}
 use Rattle.lh_unit.specs.declared.inst.Mode.TheVariants.{Rise, High}
 use Rattle.lh_meaning.proofs.Samples.{global, one_drive, two_drivers, high_from_start, rises_later, waits_for, zero_delay, failing, endless, five_delays}
 
@@ -21,8 +21,8 @@ bit_range k = record { lo = k; len = 1 }
 abbrev top_only : List Shown
 top_only = record { label = codes "t"; parent = None } ∷ []
 
-abbrev one_bit : List Signal
-one_bit = record { instance = 0; name = codes "a"; ty = int_type 1; lo = 0 } ∷ []
+abbrev one_bit : List ShownSignal
+one_bit = record { instance = 0; name = codes "a"; ty = int_type 1 } ∷ []
 
 pub one_drive_whole : trace one_drive (global (codes "t")) 9 ≡
     ran top_only one_bit (record {
@@ -47,18 +47,18 @@ frame fs delta eps width vs = record { at = instant fs delta eps; values = map (
 abbrev ended : End → List Frame → Run
 ended e fs = record { frames = fs; end = e }
 
-abbrev signal_of : List ℕ → ℕ → ℕ → Signal
-signal_of n width lo = record { instance = 0; name = n; ty = int_type width; lo = lo }
+abbrev signal_of : List ℕ → ℕ → ShownSignal
+signal_of n width = record { instance = 0; name = n; ty = int_type width }
 
 -- of two drives that are due at one instant and were made at one instant, that of the greater instance counts
 pub two_drivers_trace : trace two_drivers (global (codes "t")) 9 ≡
     ran (record { label = codes "t"; parent = None } ∷ record { label = codes "r_1"; parent = Some 0 } ∷ record { label = codes "p_2"; parent = Some 0 } ∷ [])
-    (signal_of (codes "s") 8 0 ∷ []) (ended quiet (frame 0 0 0 8 (0 ∷ []) ∷ frame 1000000 0 0 8 (1 ∷ []) ∷ []))
+    (signal_of (codes "s") 8 ∷ []) (ended quiet (frame 0 0 0 8 (0 ∷ []) ∷ frame 1000000 0 0 8 (1 ∷ []) ∷ []))
 unfolding activate pass probes visit design_of refusal_of bits_at acts digits
 two_drivers_trace = refl
 
-abbrev c_and_q : List Signal
-c_and_q = signal_of (codes "c") 1 0 ∷ signal_of (codes "q") 1 1 ∷ []
+abbrev c_and_q : List ShownSignal
+c_and_q = signal_of (codes "c") 1 ∷ signal_of (codes "q") 1 ∷ []
 
 -- a register does not fire on its first run, where it looks for an edge
 pub first_run_rests : trace (high_from_start Rise) (global (codes "t")) 9 ≡ ran top_only c_and_q (ended quiet (frame 0 0 0 1 (1 ∷ 0 ∷ []) ∷ []))
@@ -76,7 +76,7 @@ unfolding activate pass probes visit design_of refusal_of bits_at acts
 edge_fires = refl
 
 pub waits_for_trace : trace waits_for (global (codes "p")) 9 ≡
-    ran (record { label = codes "p"; parent = None } ∷ []) (signal_of (codes "q") 1 0 ∷ [])
+    ran (record { label = codes "p"; parent = None } ∷ []) (signal_of (codes "q") 1 ∷ [])
     (ended quiet (frame 0 0 0 1 (0 ∷ []) ∷ frame 1000000 0 0 1 (0 ∷ []) ∷ frame 2000000 0 0 1 (1 ∷ []) ∷ []))
 unfolding activate pass probes visit design_of refusal_of bits_at acts
 waits_for_trace = refl

@@ -1,6 +1,6 @@
 -- Which operands a row takes, and the type of what it gives.
-use Rattle.std.specs.Prelude.{◌≡◌, ℕ, ◌+◌, ◌≤◌, ◌<◌, List, [], ◌∷◌, length, replicate, option_map, Some}
-use Rattle.lh_types.specs.Types.{TypeTree, TypeRow, int_type, array_type, tuple_type, no_types, more_types, row_of, AreData}
+use Rattle.std.specs.Prelude.{◌≡◌, ℕ, ◌<◌, List, [], ◌∷◌, length, replicate, option_map, Some}
+use Rattle.lh_types.specs.Types.{TypeTree, int_type, array_type, tuple_type, row_of, AreData}
 use Rattle.lh_types.specs.Values.{Datum, data_row}
 use Rattle.lh_types.specs.Fits.{FitsRow}
 use Rattle.lh_types.specs.Parts.{step_part}

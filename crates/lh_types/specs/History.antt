@@ -65,6 +65,7 @@ abbrev pub greatest_from : ℕ → Instant → Option Claim → List Claim → O
 greatest_from bit t before [] = before
 greatest_from bit t before (c ∷ more) = greatest_from bit t (if is_due_by bit t c then Some (greater before c) else before) more
 
+-- the value of a bit at t, by the greatest entry
 abbrev pub value_by : List Claim → (initial : Bool) → (bit : ℕ) → Instant → Bool
 value_by all initial bit t = option_map_or (λ c. c.value) (greatest_from bit t None all) initial
 

@@ -102,7 +102,7 @@ HasAtMost-same a b h g n w = record {
 with_table-same : (a : Arena) (u : ℕ) → with_table a u (table_at a u) ≡ a
 with_table-same a u = λ i. record a { units = set-get_or a.units u no_table i }
 
-with_table-old : (a : Arena) (u : ℕ) (t : Table) → t ≡ table_at a u → with_table a u t ≡ a
+pub with_table-old : (a : Arena) (u : ℕ) (t : Table) → t ≡ table_at a u → with_table a u t ≡ a
 with_table-old a u t e = ap (with_table a u) e ∙ with_table-same a u
 
 -- a table with one more name says the same

@@ -26,11 +26,11 @@ use Rattle.lh_unit.specs.declared.inst.Declare.{Declare}
 use Rattle.lh_unit.specs.declared.inst.Item.{Item}
 use Rattle.lh_unit.specs.declared.inst.Item.TheVariants as item
 use Rattle.lh_unit.proofs.Lists.{Same, same, other, same_or, map-same, not_true, or_true, key_found}
-use Rattle.lh_unit.proofs.Tables.{missing}
-use Rattle.lh_unit.proofs.Arenas.{with_table, with_unit, table_at-same, table_at-other, table_at-unit, same_unit_name-is, same_unit_name-refl, none_some, IsArena-declared}
+use Rattle.lh_unit.proofs.Tables.{missing, IsTable-begun}
+use Rattle.lh_unit.proofs.Arenas.{with_table, with_unit, table_at-same, table_at-other, table_at-unit, same_unit_name-is, same_unit_name-refl, none_some, IsArena-declared, IsArena-begun, LinesPlaced-more}
 use Rattle.lh_unit.proofs.Texts.{Agree, table_text-same}
 use Rattle.lh_unit.proofs.ContentsLemmas.{text_with, item_text-other, unit_text-table, unit_text-table_same}
-use Rattle.lh_unit.proofs.BuilderLemmas.{Grown, Grown-refl, Grown-same, AtMost, AtMost-refl, AtMost-same, KeepsEntries-by, HasAtMost-by, HasAtMost-same, each_table}
+use Rattle.lh_unit.proofs.BuilderLemmas.{Grown, Grown-refl, Grown-same, AtMost, AtMost-refl, AtMost-same, KeepsEntries-by, HasAtMost-by, HasAtMost-same, each_table, with_table-old}
 
 -- the arena with a unit that is begun, whose table is then t
 abbrev pub with_begun : Arena → UnitId → Table → Arena
@@ -182,3 +182,46 @@ AddsDeclare-by (Err e) a d items f g = λ i. record a { items = g i }
 pub IsArena-item : (r : Result (Unit {0}) NoMemory) (a : Arena) (d : Declare) (items : List Item) → OnOk r (items ≡ a.items ++ item.Declare d ∷ []) → OnErr r (items ≡ a.items) → IsArena a → IsArena (record a { items = items })
 IsArena-item (Ok _) a d items f g o = subst (λ l. IsArena (record a { items = l })) (sym f) (IsArena-declared a d o)
 IsArena-item (Err e) a d items f g o = subst (λ l. IsArena (record a { items = l })) (sym g) o
+
+-- what the table of a unit told of its kind
+pub kind-told : (a : Arena) (u : ℕ) (s : Table) (b : Bool) → u < unit_count a → s ≡ get_or a.units u s → is_some s.kind ≡ b → is_some (kind_at a u) ≡ b
+kind-told a u s b h e f = ap (λ (t : Table). is_some t.kind) (sym (get_or_read a.units u s h e no_table)) ∙ f
+
+pub none-told : (a : Arena) (u : ℕ) (s : Table) → u < unit_count a → s ≡ get_or a.units u s → is_some s.kind ≡ false → kind_at a u ≡ None
+none-told a u s h e f = not_some (kind_at a u) (kind-told a u s false h e f)
+  where
+    not_some : {X : Type 0} (o : Option X) → is_some o ≡ false → o ≡ None
+    not_some None p = refl
+    not_some (Some x) p = cc
+
+begun-some : (t : Table) (k : UnitKind) → IsSome (begun t k).kind
+begun-some t kind.Func = refl
+begun-some t kind.Proc = refl
+begun-some t kind.Entity = refl
+
+begun-lines : (t : Table) (k : UnitKind) → (begun t k).lines ≡ t.lines
+begun-lines t kind.Func = refl
+begun-lines t kind.Proc = refl
+begun-lines t kind.Entity = refl
+
+pub IsArena-begins : (a b : Arena) (u : UnitId) (k : UnitKind) → IsArena a → u.0 < unit_count a → kind_at a u.0 ≡ None → b ≡ with_begun a u (begun (table_at a u.0) k) → IsArena b
+IsArena-begins a b u k o h e w = subst IsArena (sym w) (IsArena-begun a u t o h e (IsTable-begun (table_at a u.0) k e (o.tables u.0 h)) (begun-some (table_at a u.0) k)
+    (LinesPlaced-more (unit_count a) (unit_count a) (table_at a u.0) t (omega arith)
+    (omega (arith, ap (λ x. length x) (begun-values (table_at a u.0) k))) (omega (arith, ap (λ x. length x) (begun-labels (table_at a u.0) k)))
+    (begun-lines (table_at a u.0) k) (o.placed u.0)))
+  where
+    t : Table
+    t = begun (table_at a u.0) k
+
+-- names, units and items after a unit is begun
+pub began : (a : Arena) (u : UnitId) (k : UnitKind) (s t : Table) (items : List Item) → u.0 < unit_count a → s ≡ get_or a.units u.0 s → t ≡ begun s k → items ≡ a.items ++ item.Unit u ∷ []
+    → record a { units = set a.units u.0 t; items = items } ≡ with_begun a u (begun (table_at a u.0) k)
+began a u k s t items h e f g =
+    let w : t ≡ begun (table_at a u.0) k = f ∙ ap (λ x. begun x k) (get_or_read a.units u.0 s h e no_table) in
+    λ i. record a { units = set a.units u.0 (w i); items = g i }
+
+-- a call that refused left the module as it was
+pub unchanged : (a : Arena) (u : ℕ) (s t : Table) (items : List Item) → u < unit_count a → s ≡ get_or a.units u s → t ≡ s → items ≡ a.items → record a { units = set a.units u t; items = items } ≡ a
+unchanged a u s t items h e f g =
+    let w : with_table a u t ≡ a = with_table-old a u t (f ∙ get_or_read a.units u s h e no_table) in
+    λ i. record (w i) { items = g i }

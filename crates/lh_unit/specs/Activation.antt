@@ -64,10 +64,12 @@ abbrev pub edge_from : List ℕ → List EdgeText → Option (List ℕ)
 edge_from block [] = None
 edge_from block (e ∷ more) = if same_name e.block block then Some e.value else edge_from block more
 
+-- the value under the result's name, where each is there
 abbrev pub result_put : Option (List ℕ) → Option Datum → Option Env → Option Env
 result_put n (Some v) (Some e) = Some (with_result e n (datum_held v))
 result_put n _ _ = None
 
+-- the value of one `phi` for the edge from a block; other instructions take none
 abbrev pub phi_taken : (from : List ℕ) → (before : Env) → InstText → Option (List ℕ) → Option Env → Option Env
 phi_taken from before (phi_text ty edges) result e = result_put result (option_and_then (datum_at before) (edge_from from edges)) e
 phi_taken from before _ result e = e
@@ -82,6 +84,7 @@ abbrev pub entered : UnitText → Env → (from to : List ℕ) → Option Contro
 entered u e from to =
     option_and_then (λ b. option_map (λ e'. record { unit = u; block = to; rest = b.lines; held = e' }) (phis_taken from e b.lines)) (block_of to u.blocks)
 
+-- the first of these blocks
 abbrev pub at_first : UnitText → Env → List BlockText → Option Control
 at_first u e [] = None
 at_first u e (b ∷ more) = Some (record { unit = u; block = label_or b.label; rest = b.lines; held = e })
@@ -104,10 +107,12 @@ abbrev pub jumps : Point → Option Control → Next
 jumps p None = no_step
 jumps p (Some c) = goes (record p { control = c })
 
+-- the point goes on with this wish
 abbrev pub wishes : Point → Option Wish → Next
 wishes p None = no_step
 wishes p (Some w) = goes (record p { wish = w })
 
+-- the point goes on with one more outcome
 abbrev pub tells : Point → Option Bool → Next
 tells p None = no_step
 tells p (Some passed) = goes (record p { outcomes = p.outcomes ++ passed ∷ [] })
@@ -140,11 +145,13 @@ abbrev pub returns : Point → Env → List Caller → Next
 returns p e [] = no_step
 returns p e (c ∷ more) = goes (record p { control = record c.control { held = e }; callers = more })
 
+-- the value becomes the result of the call
 abbrev pub returns_value : Point → Option Datum → List Caller → Next
 returns_value p None callers = no_step
 returns_value p v [] = no_step
 returns_value p (Some v) (c ∷ more) = returns p (with_result c.control.held c.result (datum_held v)) (c ∷ more)
 
+-- the call gives nothing
 abbrev pub returns_nothing : Point → List Caller → Next
 returns_nothing p [] = no_step
 returns_nothing p (c ∷ more) = returns p c.control.held (c ∷ more)
@@ -165,6 +172,7 @@ abbrev pub wake_at : Instant → Env → Option (List ℕ) → Option (Option In
 wake_at t e None = Some None
 wake_at t e (Some d) = option_map (due_of t) (delay_at e d)
 
+-- waiting at a block for its target, where the parts and the time are there
 abbrev pub waiting : (block to : List ℕ) → Option (List Range) → Option (Option Instant) → Option Stand
 waiting block to (Some on) (Some wake) = Some (waits block to on wake)
 waiting block to _ _ = None
@@ -193,6 +201,7 @@ executes s (sig_text a) result p = no_step
 executes s (reg_text to triggers) result p = no_step
 executes s (child_text u inputs outputs) result p = no_step
 
+-- executing the first of the instructions that are still to come
 abbrev pub steps_by : Scene → Point → List LineText → Next
 steps_by s p [] = no_step
 steps_by s p (l ∷ rest) = executes s l.inst l.result (record p { control = record p.control { rest = rest } })
@@ -212,9 +221,11 @@ control_from u e is_new = entry u e
 control_from u e (waits block to on wake) = entered u e block to
 control_from u e halted = None
 
+-- where the next activation of a process begins
 abbrev pub control_at : UnitText → ProcessState → Option Control
 control_at u p = control_from u p.held p.stand
 
+-- the point at which an activation begins
 abbrev pub start_point : Control → Point
 start_point c = record { control = c; callers = []; wish = no_wish; outcomes = [] }
 
@@ -232,10 +243,12 @@ went (goes p) more = more p
 went (ends done) more = Some done
 went no_step more = None
 
+-- the end to which at most this many executed instructions lead
 abbrev pub run : ℕ → Scene → Point → Option Activated
 run zero s p = None
 run (suc n) s p = went (step s p) (run n s)
 
+-- the activation of a process, where there is one
 unfoldable pub activate : (bound : ℕ) → Scene → UnitText → ProcessState → Option Activated
 activate bound s u p = option_and_then (λ c. run bound s (start_point c)) (control_at u p)
 

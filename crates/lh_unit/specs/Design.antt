@@ -32,6 +32,7 @@ pub data Refusal : Type 0 where
   too_many_instances : Refusal
   too_many_bits : Refusal
 
+-- a design, or why there is none
 pub data Elaborated : Type 0 where
   refused : Refusal → Elaborated
   built : Design → Elaborated
@@ -40,10 +41,12 @@ pub data Elaborated : Type 0 where
 abbrev pub no_hierarchy : Hierarchy
 no_hierarchy = record { function = false; args = []; signals = []; children = λ args sigs. [] }
 
+-- what is read of a unit, if it is there
 abbrev pub hierarchy_or : Option Hierarchy → Hierarchy
 hierarchy_or None = no_hierarchy
 hierarchy_or (Some h) = h
 
+-- what is read of the unit of this name
 abbrev pub hierarchy_in : List Entry → UnitName → Hierarchy
 hierarchy_in table n = hierarchy_or (hierarchy_named n table)
 
@@ -51,6 +54,7 @@ hierarchy_in table n = hierarchy_or (hierarchy_named n table)
 abbrev pub targets : Hierarchy → List UnitName
 targets h = map (λ (c : Child). c.unit) (h.children [] [])
 
+-- it is one of these names
 abbrev pub is_one_of : List UnitName → UnitName → Bool
 is_one_of names n = list_any (λ m. same_unit_name m n) names
 
@@ -90,9 +94,11 @@ bits_below (suc k) table n =
 abbrev pub max_nesting : ℕ
 max_nesting = 64
 
+-- at most this many instances there are
 abbrev pub max_instances : ℕ
 max_instances = 65536
 
+-- at most this many bits they have
 abbrev pub max_bits : ℕ
 max_bits = 16777216
 
@@ -116,6 +122,7 @@ abbrev pub numbered : (instance lo : ℕ) → List SignalText → List Signal
 numbered instance lo [] = []
 numbered instance lo (s ∷ more) = record { instance = instance; name = s.name; ty = s.ty; lo = lo } ∷ numbered instance (lo + bit_count s.ty) more
 
+-- the bits that signals begin with, in order
 abbrev pub initial_bits : List SignalText → List Bool
 initial_bits [] = []
 initial_bits (s ∷ more) = s.initial ++ initial_bits more
@@ -138,11 +145,13 @@ abbrev pub visited : (visit : ℕ → Child → Design → Design) → (parent :
 visited visit parent n h args d =
     visit_all (visit (length d.instances)) (h.children args (signal_ranges (length d.init) h.signals)) (with_instance parent n h args d)
 
+-- a visit of an instance in the instance of a number
 unfoldable pub visit : (depth : ℕ) → List Entry → (parent : ℕ) → Child → Design → Design
 visit zero table parent c d = d
 visit (suc k) table parent c d =
     visited (visit k table) (Some parent) c.unit (hierarchy_in table c.unit) (arg_ranges (hierarchy_in table c.unit).args c.lows) d
 
+-- the type that a signal carries
 abbrev pub carried_type : TypeTree → TypeTree
 carried_type (signal_type t) = t
 carried_type t = t
@@ -172,15 +181,18 @@ refusal_by false None false true bits = Some too_many_instances
 refusal_by false None false false true = Some too_many_bits
 refusal_by false None false false false = None
 
+-- the first refusal of a top, if there is one
 unfoldable pub refusal_of : List Entry → (top : UnitName) → Hierarchy → Option Refusal
 refusal_of table top h =
     refusal_by h.function (cycle_from (length table) table [] top) (nests_deeper max_nesting table top)
     (nat_lt max_instances (instance_count max_nesting table top)) (nat_lt max_bits (arg_bits h.args + bits_below max_nesting table top))
 
+-- the design, where nothing refuses it
 abbrev pub elaborated : Option Refusal → Design → Elaborated
 elaborated None d = built d
 elaborated (Some r) d = refused r
 
+-- the design of a top, where there is a unit of its name
 abbrev pub elab_named : List Entry → (top : UnitName) → Option Hierarchy → Elaborated
 elab_named table top None = refused top_missing
 elab_named table top (Some h) = elaborated (refusal_of table top h) (design_of max_nesting table top)
@@ -198,5 +210,6 @@ abbrev pub label_by : Option ℕ → (number : ℕ) → (name : List ℕ) → Li
 label_by None number name = name
 label_by (Some parent) number name = name ++ codes "_" ++ decimal number
 
+-- the label of the instance of a number
 abbrev pub instance_label : (number : ℕ) → Instance → List ℕ
 instance_label number i = label_by i.parent number i.unit.name

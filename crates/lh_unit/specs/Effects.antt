@@ -29,6 +29,7 @@ step_of _ = None
 abbrev pub within : Range → Range → Range
 within whole r = record { lo = whole.lo + r.lo; len = r.len }
 
+-- the part of a signal of this type that a step leads to
 abbrev pub stepped : Option TypeTree → Option Range → Option Step → Option Held
 stepped (Some (signal_type t)) (Some r) (Some s) = option_map (λ q. part_held (within r q)) (range_of t (s ∷ []))
 stepped _ _ _ = None
@@ -42,6 +43,7 @@ signal_part u e o _ = None
 abbrev pub operated : UnitText → Env → Op → List OperandText → Option Held
 operated u e o args = or_else (option_map (λ ds. datum_held (apply o ds)) (data_at e args)) (signal_part u e o args)
 
+-- the value that the bits of a part have
 abbrev pub read_bits : List Bool → Option TypeTree → Option Range → Option Held
 read_bits now (Some t) (Some r) = Some (datum_held (value_from_bits t (bits_in now r)))
 read_bits now _ _ = None
@@ -55,10 +57,12 @@ abbrev pub condition_at : Env → Option (List ℕ) → Option Bool
 condition_at e None = Some true
 condition_at e (Some c) = test_at e c
 
+-- the wish with one more drive, where its part, its value and its delay are there
 abbrev pub drive_due : Instant → Wish → Option Range → Option Datum → Option Delay → Option Wish
 drive_due t w (Some r) (Some v) (Some d) = Some (with_drive w (due_of t d) r.lo (value_bits v))
 drive_due t w _ _ _ = None
 
+-- a drive under a condition
 abbrev pub drive_when : Option Bool → Wish → Option Wish → Option Wish
 drive_when (Some true) w driven = driven
 drive_when (Some false) w driven = Some w

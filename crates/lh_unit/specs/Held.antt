@@ -16,6 +16,7 @@ pub data Held : Type 0 where
 abbrev pub Env : Type 0
 Env = List ℕ → Option Held
 
+-- nothing is held under any name
 abbrev pub nothing_held : Env
 nothing_held n = None
 
@@ -28,18 +29,22 @@ abbrev pub with_result : Env → Option (List ℕ) → Held → Env
 with_result e None h = e
 with_result e (Some n) h = with_held e n h
 
+-- the data value or time that is held
 abbrev pub as_datum : Held → Option Datum
 as_datum (datum_held d) = Some d
 as_datum _ = None
 
+-- what is stored in the variable that is held
 abbrev pub as_cell : Held → Option Datum
 as_cell (cell_held d) = Some d
 as_cell _ = None
 
+-- the part of the signals that is held
 abbrev pub as_part : Held → Option Range
 as_part (part_held r) = Some r
 as_part _ = None
 
+-- the delay that a value is
 abbrev pub as_delay : Datum → Option Delay
 as_delay (time_value d) = Some d
 as_delay _ = None
@@ -53,18 +58,23 @@ as_test _ = None
 abbrev pub datum_at : Env → List ℕ → Option Datum
 datum_at e n = option_and_then as_datum (e n)
 
+-- what is stored in the variable of this name
 abbrev pub cell_at : Env → List ℕ → Option Datum
 cell_at e n = option_and_then as_cell (e n)
 
+-- the part of the signals that is held under this name
 abbrev pub part_at : Env → List ℕ → Option Range
 part_at e n = option_and_then as_part (e n)
 
+-- the delay that is held under this name
 abbrev pub delay_at : Env → List ℕ → Option Delay
 delay_at e n = option_and_then as_delay (datum_at e n)
 
+-- whether the value that is held under this name is not 0
 abbrev pub test_at : Env → List ℕ → Option Bool
 test_at e n = option_and_then as_test (datum_at e n)
 
+-- one more in front, where each is there
 abbrev pub front : {A : Type 0} → Option A → Option (List A) → Option (List A)
 front (Some x) (Some xs) = Some (x ∷ xs)
 front _ _ = None

@@ -25,6 +25,7 @@ abbrev pub lines_of : List BlockText → List LineText
 lines_of [] = []
 lines_of (b ∷ more) = b.lines ++ lines_of more
 
+-- one more name, where the instruction is a `sig`
 abbrev pub name_if_signal : InstText → Option (List ℕ) → List (Option (List ℕ)) → List (Option (List ℕ))
 name_if_signal (sig_text a) n more = n ∷ more
 name_if_signal _ n more = more
@@ -44,6 +45,7 @@ with_parts e (n ∷ more) (r ∷ rs) = with_parts (with_result e n (part_held r)
 abbrev pub parts_of : UnitText → (args sigs : List Range) → Env
 parts_of u args sigs = with_parts (with_args nothing_held u.args (map part_held args)) (signal_names (lines_of u.blocks)) sigs
 
+-- this held under a name, where it is there
 abbrev pub if_held : Env → Option (List ℕ) → Option Held → Env
 if_held e n None = e
 if_held e n (Some h) = with_result e n h
@@ -59,9 +61,11 @@ abbrev pub static_from : UnitText → Env → List LineText → Env
 static_from u e [] = e
 static_from u e (l ∷ more) = static_from u (if_held e l.result (static_of u e l.inst)) more
 
+-- what a unit holds without any probe, where its arguments and signals have these bits
 abbrev pub static_held : UnitText → (args sigs : List Range) → Env
 static_held u args sigs = static_from u (parts_of u args sigs) (lines_of u.blocks)
 
+-- one more part, where the instruction is a `prb`
 abbrev pub part_if_probe : Env → InstText → List Range → List Range
 part_if_probe e (prb_text s) more = option_map_or (λ r. r ∷ more) (part_at e s.value) more
 part_if_probe e _ more = more
@@ -77,6 +81,7 @@ pub record SignalText : Type 0 where
   pub ty : TypeTree
   pub initial : List Bool
 
+-- the written type, which every `sig` has
 abbrev pub type_or_void : Option TypeTree → TypeTree
 type_or_void None = void_type
 type_or_void (Some t) = t
@@ -85,6 +90,7 @@ type_or_void (Some t) = t
 abbrev pub zeros : TypeTree → List Bool
 zeros t = replicate (bit_count t) false
 
+-- one more signal, where the instruction is a `sig`
 abbrev pub signal_if : Env → InstText → Option (List ℕ) → List SignalText → List SignalText
 signal_if e (sig_text a) n more =
     record { name = label_or n; ty = type_or_void a.ty; initial = option_map_or value_bits (datum_at e a.value) (zeros (type_or_void a.ty)) } ∷ more
@@ -100,10 +106,12 @@ pub record Child : Type 0 where
   pub unit : UnitName
   pub lows : List ℕ
 
+-- the lowest bits of the parts that operands name
 abbrev pub lows_of : Env → List OperandText → List ℕ
 lows_of e [] = []
 lows_of e (o ∷ more) = option_map_or (λ r. r.lo) (part_at e o.value) 0 ∷ lows_of e more
 
+-- one more instance, where the instruction is an `inst`
 abbrev pub child_if : Env → InstText → List Child → List Child
 child_if e (child_text u inputs outputs) more = record { unit = u; lows = lows_of e (inputs ++ outputs) } ∷ more
 child_if e _ more = more
@@ -132,6 +140,7 @@ hierarchy_by kind.Entity u = record {
 hierarchy_by kind.Proc u = record { function = false; args = u.args; signals = []; children = λ args sigs. [] }
 hierarchy_by kind.Func u = record { function = true; args = u.args; signals = []; children = λ args sigs. [] }
 
+-- what elaboration reads of a unit
 abbrev pub hierarchy_of : UnitText → Hierarchy
 hierarchy_of u = hierarchy_by u.kind u
 
@@ -140,11 +149,13 @@ pub record Entry : Type 0 where
   pub name : UnitName
   pub hierarchy : Hierarchy
 
+-- what elaboration reads of a module
 abbrev pub hierarchies : List ItemText → List Entry
 hierarchies [] = []
 hierarchies (unit_text u ∷ more) = record { name = u.name; hierarchy = hierarchy_of u } ∷ hierarchies more
 hierarchies (declare_text d ∷ more) = hierarchies more
 
+-- what elaboration reads of the unit of this name
 abbrev pub hierarchy_named : UnitName → List Entry → Option Hierarchy
 hierarchy_named n [] = None
 hierarchy_named n (x ∷ more) = if same_unit_name x.name n then Some x.hierarchy else hierarchy_named n more

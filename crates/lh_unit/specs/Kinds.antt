@@ -8,6 +8,7 @@ use Rattle.lh_types.specs.declared.op.Op.TheVariants as op
 use Rattle.lh_unit.specs.Contents.{OperandText, TriggerText, EdgeText, InstText, const_text, pure_text, var_text, ld_text, st_text, sig_text, prb_text, drv_text, reg_text, child_text, call_text, phi_text, br_text, branch_text, wait_text, halt_text, ret_text, UnitText}
 use Rattle.lh_unit.specs.Typing.{or_else, first_type, result_type, arg_named, inst_giving}
 
+-- the four kinds
 pub data Kind : Type 0 where
   a_datum : Kind
   a_time : Kind
@@ -43,6 +44,7 @@ pub data Need : Type 0 where
   data_or_time_needed : Need
   data_or_signal_needed : Need
 
+-- a place takes a value of this kind
 abbrev pub takes : Need → Kind → Bool
 takes data_needed a_datum = true
 takes time_needed a_time = true
@@ -59,12 +61,15 @@ pub record Use : Type 0 where
   pub value : List ℕ
   pub need : Need
 
+-- an operand of a place
 abbrev pub used : Need → List ℕ → Use
 used need n = record { value = n; need = need }
 
+-- operands whose places take the same
 abbrev pub all_used : Need → List OperandText → List Use
 all_used need os = map (λ (o : OperandText). used need o.value) os
 
+-- an operand that may be absent
 abbrev pub maybe_used : Need → Option (List ℕ) → List Use
 maybe_used need None = []
 maybe_used need (Some n) = used need n ∷ []
@@ -75,11 +80,13 @@ step_need (Some (signal_type t)) = signal_needed
 step_need (Some t) = if is_data t then data_needed else data_or_signal_needed
 step_need None = data_or_signal_needed
 
+-- the operands of an operation
 abbrev pub operation_uses : Op → List OperandText → List Use
 operation_uses (op.Extf k) args = all_used (step_need (first_type args)) args
 operation_uses (op.Exts at len) args = all_used (step_need (first_type args)) args
 operation_uses _ args = all_used data_needed args
 
+-- the operands of a register's triggers
 abbrev pub trigger_uses : List TriggerText → List Use
 trigger_uses [] = []
 trigger_uses (g ∷ more) =

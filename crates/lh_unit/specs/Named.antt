@@ -26,10 +26,12 @@ function_named n (u ∷ more) = if same_unit_name u.name n then Some u else func
 abbrev pub is_assert : UnitName → Bool
 is_assert n = nat_eq n.sigil 64 && same_name n.name (codes "llhd.assert")
 
+-- a function, and neither a process nor an entity
 abbrev pub is_function : UnitKind → Bool
 is_function kind.Func = true
 is_function _ = false
 
+-- a label; an entity's one block has none
 abbrev pub label_or : Option (List ℕ) → List ℕ
 label_or None = []
 label_or (Some n) = n

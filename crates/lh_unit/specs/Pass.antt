@@ -64,6 +64,7 @@ passes u now memory t (drv_text to value after cond) result p = record p { wish 
 passes u now memory t (reg_text to triggers) result p = triggers_from memory t to false p triggers
 passes u now memory t _ result p = p
 
+-- the lines, one after the other
 abbrev pub pass_from : UnitText → (now : List Bool) → (memory : Option (List Bool)) → Instant → Passed → List LineText → Passed
 pass_from u now memory t p [] = p
 pass_from u now memory t p (l ∷ more) = pass_from u now memory t (passes u now memory t l.inst l.result p) more

@@ -13,11 +13,13 @@ pub record Place : Type 0 where
   pub line : LineText
   pub after : List LineText
 
+-- the places of the rest of a block, the first of them having this number
 abbrev pub places_in : (number : ℕ) → (in_entry : Bool) → BlockText → (before rest : List LineText) → List Place
 places_in k e b before [] = []
 places_in k e b before (l ∷ rest) =
     record { number = k; in_entry = e; block = b; before = before; line = l; after = rest } ∷ places_in (k + 1) e b (before ++ l ∷ []) rest
 
+-- the places of blocks, the first of them having this number
 abbrev pub places_from : (number : ℕ) → (in_entry : Bool) → List BlockText → List Place
 places_from k e [] = []
 places_from k e (b ∷ more) = places_in k e b [] b.lines ++ places_from (k + length b.lines) false more

@@ -1,7 +1,7 @@
 -- Frames, the trace of a top up to a bound, and when two modules have the same trace.
 use Rattle.std.specs.Prelude.{◌≡◌, ℕ, zero, suc, ◌+◌, List, [], ◌∷◌, ◌++◌, map, Bool, if◌then◌else◌, Option, Some, None}
 use Rattle.lh_time.specs.declared.Instant.{Instant}
-use Rattle.lh_types.specs.Types.{bit_count}
+use Rattle.lh_types.specs.Types.{TypeTree, bit_count}
 use Rattle.lh_types.specs.Values.{Datum}
 use Rattle.lh_types.specs.Bits.{value_from_bits}
 use Rattle.lh_types.specs.History.{bits_at}
@@ -23,6 +23,7 @@ pub record Frame : Type 0 where
   pub values : List Datum
   pub outcomes : List Outcome
 
+-- how a run ends: nothing is to come, the bound on frames was reached, or an instance ran away
 pub data End : Type 0 where
   quiet : End
   steps : End
@@ -38,9 +39,19 @@ pub record Shown : Type 0 where
   pub label : List ℕ
   pub parent : Option ℕ
 
+-- a signal as the trace shows it
+pub record ShownSignal : Type 0 where
+  pub instance : ℕ
+  pub name : List ℕ
+  pub ty : TypeTree
+
+abbrev pub shown_signal : Signal → ShownSignal
+shown_signal s = record { instance = s.instance; name = s.name; ty = s.ty }
+
+-- the refusal of elaboration, or the instances, the signals and the run
 pub data Trace : Type 0 where
   refuses : Refusal → Trace
-  ran : (instances : List Shown) → (signals : List Signal) → Run → Trace
+  ran : (instances : List Shown) → (signals : List ShownSignal) → Run → Trace
 
 -- the least instance that ran away, the first of these having this number
 abbrev pub least_runaway : ℕ → List Act → Option ℕ
@@ -56,6 +67,7 @@ outcomes_of i (a ∷ more) = if a.ran_away then [] else map (λ passed. record {
 abbrev pub signal_value : List Bool → Signal → Datum
 signal_value bits s = value_from_bits s.ty (bits_in bits (record { lo = s.lo; len = bit_count s.ty }))
 
+-- the frame at `t` in which the instances do this
 abbrev pub frame_of : List Signal → Instant → (bits : List Bool) → List Act → Frame
 frame_of signals t bits done = record { at = t; values = map (signal_value bits) signals; outcomes = outcomes_of 0 done }
 
@@ -77,6 +89,7 @@ at_bound (Some t) = record { frames = []; end = steps }
 abbrev pub follows : Design → World → Instant → List Act → (World → Run) → Run
 follows d w t done more = goes_on (frame_of d.signals t (bits_at w.history w.init t) done) (least_runaway 0 done) (more (world_after w t done))
 
+-- the frames from the one at the next instant on
 abbrev pub run_at : (bound : ℕ) → List ItemText → Design → World → Option Instant → (World → Run) → Run
 run_at bound items d w None more = record { frames = []; end = quiet }
 run_at bound items d w (Some t) more = follows d w t (acts bound items d w t) more
@@ -91,9 +104,10 @@ abbrev pub shown_from : ℕ → List Instance → List Shown
 shown_from k [] = []
 shown_from k (i ∷ more) = record { label = instance_label k i; parent = i.parent } ∷ shown_from (k + 1) more
 
+-- the trace of a module that elaborates so
 abbrev pub trace_by : (bound : ℕ) → List ItemText → (n : ℕ) → Elaborated → Trace
 trace_by bound items n (refused r) = refuses r
-trace_by bound items n (built d) = ran (shown_from 0 d.instances) d.signals (run_from bound items d n (first_world items d))
+trace_by bound items n (built d) = ran (shown_from 0 d.instances) (map shown_signal d.signals) (run_from bound items d n (first_world items d))
 
 -- the same under any bound on the instructions of an activation
 abbrev pub trace_within : (bound : ℕ) → List ItemText → (top : UnitName) → (n : ℕ) → Trace
@@ -111,5 +125,6 @@ trace = trace_within max_instructions
 abbrev pub SameTraceWithin : (bound : ℕ) → List ItemText → List ItemText → Type 0
 SameTraceWithin bound m m' = (top : UnitName) (n : ℕ) → trace_within bound m top n ≡ trace_within bound m' top n
 
+-- for every top and every number of frames, with the bound of the language
 abbrev pub SameTrace : List ItemText → List ItemText → Type 0
 SameTrace = SameTraceWithin max_instructions

@@ -20,6 +20,7 @@ if_value_type t = if is_value_type t then Some t else None
 abbrev pub pointer_to : TypeTree → Option TypeTree
 pointer_to t = if is_value_type t then Some (pointer_type t) else None
 
+-- the type of a signal that carries this one
 abbrev pub signal_of : TypeTree → Option TypeTree
 signal_of t = if is_data t then Some (signal_type t) else None
 
@@ -28,6 +29,7 @@ abbrev pub pointed : TypeTree → Option TypeTree
 pointed (pointer_type t) = Some t
 pointed _ = None
 
+-- what a signal carries
 abbrev pub carried : TypeTree → Option TypeTree
 carried (signal_type t) = Some t
 carried _ = None
@@ -43,6 +45,7 @@ abbrev pub first_type : List OperandText → Option TypeTree
 first_type [] = None
 first_type (o ∷ more) = o.ty
 
+-- one more type in front, where each is there
 abbrev pub with_type : Option TypeTree → Option TypeRow → Option TypeRow
 with_type (Some t) (Some r) = Some (more_types t r)
 with_type _ _ = None
@@ -86,10 +89,12 @@ abbrev pub line_giving : List ℕ → List LineText → Option InstText
 line_giving n [] = None
 line_giving n (l ∷ more) = if is_result_name n l.result then Some l.inst else line_giving n more
 
+-- the first, or else the second
 abbrev pub or_else : {A : Type 0} → Option A → Option A → Option A
 or_else (Some x) o = Some x
 or_else None o = o
 
+-- the same among the blocks of a unit
 abbrev pub inst_giving : List ℕ → List BlockText → Option InstText
 inst_giving n [] = None
 inst_giving n (b ∷ more) = or_else (line_giving n b.lines) (inst_giving n more)

@@ -21,6 +21,7 @@ abbrev pub has_some_type : UnitText → Option TypeTree → List ℕ → Bool
 has_some_type u None n = false
 has_some_type u (Some t) n = has_type u t n
 
+-- an operand that may be absent has this type
 abbrev pub may_have_type : UnitText → TypeTree → Option (List ℕ) → Bool
 may_have_type u t None = true
 may_have_type u t (Some n) = has_type u t n
@@ -29,6 +30,7 @@ may_have_type u t (Some n) = has_type u t n
 abbrev pub agrees : UnitText → OperandText → Bool
 agrees u o = option_map_or (λ t. has_type u t o.value) o.ty true
 
+-- each operand agrees with what is written before it
 abbrev pub all_agree : UnitText → List OperandText → Bool
 all_agree u os = list_all (agrees u) os
 
@@ -41,10 +43,12 @@ abbrev pub is_integer : TypeTree → Bool
 is_integer (int_type n) = true
 is_integer _ = false
 
+-- an array whose elements have this type
 abbrev pub is_array_of : TypeTree → TypeTree → Bool
 is_array_of t (array_type n s) = same_type s t
 is_array_of t _ = false
 
+-- the type of the value of this name passes a test
 abbrev pub type_satisfies : UnitText → (TypeTree → Bool) → List ℕ → Bool
 type_satisfies u test n = option_map_or test (value_type u n) false
 
@@ -64,6 +68,7 @@ pub data OperationRow : Type 0 where
   elements : OperationRow
   fields : OperationRow
 
+-- the row of an operation
 abbrev pub operation_row : Op → OperationRow
 operation_row op.Eq = alike
 operation_row op.Neq = alike
@@ -91,20 +96,25 @@ row_fits u elements t args = is_data t && all_have u t args
 row_fits u fields t args = list_all (λ (o : OperandText). option_map_or is_data o.ty false && agrees u o) args
 row_fits u _ t args = false
 
+-- the operands fit the row, by the type that is written first
 abbrev pub operation_fits : UnitText → OperationRow → Option TypeTree → List OperandText → Bool
 operation_fits u row None args = false
 operation_fits u row (Some t) args = row_fits u row t args
 
+-- the type of a truth value
 abbrev pub bit : TypeTree
 bit = int_type 1
 
+-- the type of what is driven
 abbrev pub driven_type : OperandText → Option TypeTree
 driven_type to = option_and_then carried to.ty
 
+-- a trigger fits its register
 abbrev pub trigger_fits : UnitText → OperandText → TriggerText → Bool
 trigger_fits u to g =
     has_some_type u (driven_type to) g.value && has_type u bit g.trigger && may_have_type u bit g.gate && may_have_type u time_type g.after
 
+-- the type of what is stored
 abbrev pub stored_type : OperandText → Option TypeTree
 stored_type to = option_and_then pointed to.ty
 
@@ -112,13 +122,16 @@ stored_type to = option_and_then pointed to.ty
 abbrev pub written_fits : UnitText → (TypeTree → Bool) → OperandText → Bool
 written_fits u test o = option_map_or (λ t. test t && has_type u t o.value) o.ty false
 
+-- there is a type
 abbrev pub is_some_type : Option TypeTree → Bool
 is_some_type None = false
 is_some_type (Some t) = true
 
+-- a pointer
 abbrev pub is_pointer : TypeTree → Bool
 is_pointer t = is_some_type (pointed t)
 
+-- a signal
 abbrev pub is_signal : TypeTree → Bool
 is_signal t = is_some_type (carried t)
 

@@ -9,6 +9,8 @@ use Rattle.lh_unit.specs.declared.name.UnitName.{UnitName}
 use Rattle.lh_unit.specs.declared.inst.UnitKind.{UnitKind}
 use Rattle.lh_unit.specs.declared.inst.UnitKind.TheVariants as kind
 use Rattle.lh_unit.specs.Contents.{OperandText, EdgeText, InstText, const_text, pure_text, var_text, ld_text, st_text, sig_text, prb_text, drv_text, reg_text, child_text, call_text, phi_text, br_text, branch_text, wait_text, halt_text, ret_text, LineText, BlockText, ArgText, UnitText, ItemText, unit_text, declare_text, defines_unit, defines_value, defines_label, args_define, blocks_define, lines_define, same_name}
+use Rattle.lh_unit.specs.Reads.{Reads}
+use Rattle.lh_unit.specs.Canon.{canon}
 use Rattle.lh_unit.specs.Named.{unit_named, block_of, is_assert, is_function, label_or}
 use Rattle.lh_unit.specs.Typing.{inst_giving, first_type}
 use Rattle.lh_unit.specs.Kinds.{Use, uses, takes, value_kind}
@@ -26,6 +28,7 @@ pub data FaultKind : Type 0 where
   not_defined : FaultKind
   arguments : FaultKind
 
+-- the number of a fault
 abbrev pub number_of : FaultKind → ℕ
 number_of undefined = 1
 number_of wrong_kind = 2
@@ -40,10 +43,12 @@ number_of arguments = 8
 abbrev pub values_named : InstText → List (List ℕ)
 values_named i = map (λ (x : Use). x.value) (uses i)
 
+-- the labels that an instruction names
 abbrev pub labels_named : InstText → List (List ℕ)
 labels_named (phi_text ty edges) = map (λ (e : EdgeText). e.block) edges
 labels_named i = leads_to i
 
+-- the units that an instruction names
 abbrev pub units_named : InstText → List UnitName
 units_named (child_text u inputs outputs) = u ∷ []
 units_named (call_text f result args) = f ∷ []
@@ -69,6 +74,7 @@ has_wrong_kind u x = option_map_or (λ k. not (takes x.need k)) (value_kind u x.
 abbrev pub has_no_kind : UnitText → Use → Bool
 has_no_kind u x = option_map_or (λ k. false) (value_kind u x.value) true
 
+-- an instruction is a `prb`, or one of its operands comes from one
 abbrev pub comes_from_probe : (List ℕ → Bool) → InstText → Bool
 comes_from_probe further (prb_text s) = true
 comes_from_probe further i = list_any further (values_named i)
@@ -82,6 +88,7 @@ depends_on_probe (suc k) u n = option_map_or (comes_from_probe (depends_on_probe
 abbrev pub is_function_name : List ItemText → UnitName → Bool
 is_function_name items n = option_map_or (λ (v : UnitText). is_function v.kind) (unit_named n items) false || is_assert n
 
+-- `inst` names a function, or `call` names none
 abbrev pub names_wrong_unit : List ItemText → InstText → Bool
 names_wrong_unit items (child_text v inputs outputs) = is_function_name items v
 names_wrong_unit items (call_text f result args) = not (is_function_name items f)
@@ -107,13 +114,16 @@ result_fits items _ = true
 abbrev pub is_wrong_type : List ItemText → UnitText → InstText → Bool
 is_wrong_type items u i = is_asked u i && (list_any (has_no_kind u) (uses i) || not (types_fit u i) || not (result_fits items i))
 
+-- the unit is a function
 abbrev pub in_function : UnitKind → Bool
 in_function k = is_function k
 
+-- the unit is a process
 abbrev pub in_process : UnitKind → Bool
 in_process kind.Proc = true
 in_process _ = false
 
+-- the unit is an entity
 abbrev pub in_entity : UnitKind → Bool
 in_entity kind.Entity = true
 in_entity _ = false
@@ -144,6 +154,7 @@ is_allowed k (wait_text to after signals) = in_process k
 is_allowed k halt_text = in_process k
 is_allowed k (ret_text o) = in_function k
 
+-- there are no instructions
 abbrev pub is_empty : List LineText → Bool
 is_empty [] = true
 is_empty (l ∷ more) = false
@@ -152,6 +163,7 @@ is_empty (l ∷ more) = false
 abbrev pub ends_wrong : UnitText → Place → Bool
 ends_wrong u p = not (in_entity u.kind) && not (if is_empty p.after then is_terminator p.line.inst else not (is_terminator p.line.inst))
 
+-- the instruction is a `phi`
 abbrev pub is_phi : InstText → Bool
 is_phi (phi_text ty edges) = true
 is_phi _ = false
@@ -176,9 +188,11 @@ arguments_fit u [] [] = true
 arguments_fit u (o ∷ os) (a ∷ more) = has_type u a.ty o.value && arguments_fit u os more
 arguments_fit u _ _ = false
 
+-- the parameters that are inputs
 abbrev pub inputs_of : List ArgText → List ArgText
 inputs_of args = filter (λ (a : ArgText). not a.output) args
 
+-- the parameters that are outputs
 abbrev pub outputs_of : List ArgText → List ArgText
 outputs_of args = filter (λ (a : ArgText). a.output) args
 
@@ -186,6 +200,7 @@ outputs_of args = filter (λ (a : ArgText). a.output) args
 abbrev pub assert_args : List ArgText
 assert_args = record { name = []; ty = bit; output = false } ∷ []
 
+-- the parameters of a unit, if it is there
 abbrev pub args_of : List ItemText → UnitName → Option (List ArgText)
 args_of items n = if is_assert n then Some assert_args else option_map_or (λ (v : UnitText). Some v.args) (unit_named n items) None
 
@@ -215,6 +230,7 @@ abbrev pub SomeEdgeLacks : UnitText → (to : List ℕ) → List EdgeText → Ty
 SomeEdgeLacks u to [] = ⊥
 SomeEdgeLacks u to (e ∷ more) = ((args_define e.value u.args ≡ false) × LacksOnEdge u to e) ⊎ SomeEdgeLacks u to more
 
+-- one of these values is no argument, and its definition does not stand on some path to the place
 abbrev pub SomeValueLacks : UnitText → Place → List (List ℕ) → Type 0
 SomeValueLacks u p [] = ⊥
 SomeValueLacks u p (n ∷ more) = ((args_define n u.args ≡ false) × Lacks u n p.block p.before) ⊎ SomeValueLacks u p more
@@ -223,6 +239,7 @@ SomeValueLacks u p (n ∷ more) = ((args_define n u.args ≡ false) × Lacks u n
 abbrev pub stands_later : UnitText → Place → List ℕ → Bool
 stands_later u p n = not (args_define n u.args || lines_define n p.before)
 
+-- some operand is not defined, by the kind of the unit
 abbrev pub LacksIn : UnitKind → UnitText → Place → InstText → Type 0
 LacksIn kind.Entity u p i = list_any (stands_later u p) (values_named i) ≡ true
 LacksIn _ u p (phi_text ty edges) = SomeEdgeLacks u (label_or p.block.label) edges
@@ -284,6 +301,14 @@ pub record IsFirstFault (items : List ItemText) (unit : UnitName) (inst : ℕ) (
   pub lowest : (j : FaultKind) → number_of j < number_of k → ¬ HasFault items site j
   pub none_before : NoneHasFault items before
 
--- No instruction has a fault. A module is well formed where this holds and it is spelled.
+-- no instruction has a fault
 abbrev pub IsFaultless : List ItemText → Type 0
 IsFaultless items = NoneHasFault items (sites items)
+
+-- its canonical text reads as this module
+abbrev pub IsSpelled : List ItemText → Type 0
+IsSpelled items = Reads (canon items) items
+
+-- A module is well formed where it is spelled and no instruction has a fault.
+abbrev pub IsWellFormed : List ItemText → Type 0
+IsWellFormed items = IsSpelled items × IsFaultless items

@@ -34,6 +34,7 @@ abbrev pub start_by : UnitKind → UnitText → Instance → State
 start_by kind.Entity u i = of_entity None
 start_by _ u i = of_process (record { stand = is_new; held = with_args nothing_held u.args (map part_held i.args) })
 
+-- an instance as it begins
 abbrev pub start : UnitText → Instance → State
 start u i = start_by u.kind u i
 
@@ -43,6 +44,7 @@ waited is_new = []
 waited (waits block to on wake) = on
 waited halted = []
 
+-- the parts that an instance senses
 abbrev pub senses : UnitText → Instance → State → List Range
 senses u i (of_process p) = waited p.stand
 senses u i (of_entity memory) = probes u i.args i.sigs
@@ -53,6 +55,7 @@ wake_at is_new = None
 wake_at (waits block to on wake) = wake
 wake_at halted = None
 
+-- when an instance wakes by itself
 abbrev pub wake_of : State → Option Instant
 wake_of (of_process p) = wake_at p.stand
 wake_of (of_entity memory) = None
@@ -62,10 +65,12 @@ abbrev pub bits_from : (lo len : ℕ) → List ℕ
 bits_from lo zero = []
 bits_from lo (suc n) = lo ∷ bits_from (lo + 1) n
 
+-- the numbers of the bits of parts
 abbrev pub bit_numbers : List Range → List ℕ
 bit_numbers [] = []
 bit_numbers (r ∷ more) = bits_from r.lo r.len ++ bit_numbers more
 
+-- the bit of a number
 abbrev pub bit_at : List Bool → ℕ → Bool
 bit_at bits k = unwrap_or (slice_get bits k) false
 
@@ -73,6 +78,7 @@ bit_at bits k = unwrap_or (slice_get bits k) false
 abbrev pub bit_differs : (old now : List Bool) → ℕ → Bool
 bit_differs old now k = (bit_at old k && not (bit_at now k)) || (not (bit_at old k) && bit_at now k)
 
+-- the two instants are one
 abbrev pub is_at : Instant → Instant → Bool
 is_at t u = is_eq (instant_cmp t u)
 
@@ -107,14 +113,17 @@ pub record Rules : Type 0 where
   pub bound : ℕ
   pub functions : List UnitText
 
+-- what an instance does where it is woken
 abbrev pub runs : Rules → (now : List Bool) → Instant → UnitText → Instance → State → Act
 runs r now t u i (of_process p) = acts_by p (activate r.bound (record { functions = r.functions; now = now; at = t }) u p)
 runs r now t u i (of_entity memory) = reacts_by (pass u i.args i.sigs now memory t)
 
+-- what an instance does, woken or not
 abbrev pub act_if : (is_woken : Bool) → Rules → (now : List Bool) → Instant → UnitText → Instance → State → Act
 act_if true r now t u i state = runs r now t u i state
 act_if false r now t u i state = rests state
 
+-- what an instance does in the frame at `t`
 abbrev pub act : Rules → (last : Option Instant) → (old now : List Bool) → Instant → UnitText → Instance → State → Act
 act r last old now t u i state = act_if (woken last old now t u i state) r now t u i state
 
@@ -125,10 +134,12 @@ pub record World : Type 0 where
   pub states : List State
   pub history : List Made
 
+-- the states in which instances begin
 abbrev pub starts : List ItemText → List Instance → List State
 starts items [] = []
 starts items (i ∷ more) = start (unit_of items i.unit) i ∷ starts items more
 
+-- the world before the first frame
 abbrev pub first_world : List ItemText → Design → World
 first_world items d = record { init = d.init; last = None; states = starts items d.instances; history = [] }
 
@@ -147,9 +158,11 @@ acts_of r items last old now t [] states = []
 acts_of r items last old now t (i ∷ more) [] = []
 acts_of r items last old now t (i ∷ more) (s ∷ states) = act r last old now t (unit_of items i.unit) i s ∷ acts_of r items last old now t more states
 
+-- the rules of a module
 abbrev pub rules_of : (bound : ℕ) → List ItemText → Rules
 rules_of bound items = record { bound = bound; functions = functions items }
 
+-- what the instances of a world do in the frame at `t`
 unfoldable pub acts : (bound : ℕ) → List ItemText → Design → World → Instant → List Act
 acts bound items d w t =
     acts_of (rules_of bound items) items w.last (bits_of w) (bits_at w.history w.init t) t d.instances w.states
@@ -159,10 +172,12 @@ abbrev pub kept : Instant → (instance : ℕ) → Wish → List Made
 kept t i [] = []
 kept t i (e ∷ more) = record { made = t; instance = i; wish = e ∷ more } ∷ []
 
+-- the wishes of a frame, by instance
 abbrev pub made_by : Instant → (instance : ℕ) → List Act → List Made
 made_by t i [] = []
 made_by t i (a ∷ more) = kept t i a.wish ++ made_by t (i + 1) more
 
+-- the states after a frame
 abbrev pub afters : List Act → List State
 afters [] = []
 afters (a ∷ more) = a.after ∷ afters more
@@ -171,6 +186,7 @@ afters (a ∷ more) = a.after ∷ afters more
 abbrev pub world_after : World → Instant → List Act → World
 world_after w t done = record { init = w.init; last = Some t; states = afters done; history = w.history ++ made_by t 0 done }
 
+-- the world after the frame at `t`
 abbrev pub next_world : (bound : ℕ) → List ItemText → Design → World → Instant → World
 next_world bound items d w t = world_after w t (acts bound items d w t)
 
@@ -203,5 +219,6 @@ abbrev pub instant_after : Option Instant → List Made → List State → Optio
 instant_after None history states = Some (instant 0 0 0)
 instant_after (Some t) history states = sooner (soonest_due t (claims history)) (soonest_wake t states)
 
+-- the next instant of a world
 abbrev pub next_instant : World → Option Instant
 next_instant w = instant_after w.last w.history w.states

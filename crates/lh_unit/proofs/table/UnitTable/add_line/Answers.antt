@@ -31,15 +31,16 @@ laid c =
     let m : c.len-id.result ≡ length c.self.inside.lines.items = search rules in
     let d : c.push_id.new.bodies.items ≡ set c.self.inside.bodies.items c.index-last.result.now.0 (Some (unwrap_or (get_or c.self.inside.bodies.items c.index-last.result.now.0 None) [] ++ record { 0 = c.len-id.result } ∷ [])) = search rules in
     line-laid (table_of c.self.inside) c.index-last.result.now c.push_line.new.lines.items c.push_id.new.bodies.items c.args.value c.args.inst l e
-        (d ∙ ap (λ k. set c.self.inside.bodies.items c.index-last.result.now.0 (Some (unwrap_or (get_or c.self.inside.bodies.items c.index-last.result.now.0 None) [] ++ record { 0 = k } ∷ []))) m)
+    (d ∙ ap (λ k. set c.self.inside.bodies.items c.index-last.result.now.0 (Some (unwrap_or (get_or c.self.inside.bodies.items c.index-last.result.now.0 None) [] ++ record { 0 = k } ∷ []))) m)
 
 pub invariant_of-self-2 : goal.invariant_of-self-2
 invariant_of-self-2 c =
     let b : 0 < length (table_of c.self.inside).blocks = search rules in
     let w : ResultWithin (length (table_of c.self.inside).values) c.args.value = subst (λ (t : Table). ResultWithin (length t.values) c.args.value) (sym c.self.view_is) c.requires.within in
-    let few : length (table_of c.self.inside).lines < 65536 = search rules in
-    (subst IsTable (sym (laid c)) (IsTable-with_line (table_of c.self.inside) c.args.value c.args.inst b w few c.self.invariant.0),
-    subst (λ (t : Table). Flags t c.mark.new.flags.items) (sym (laid c)) (subst (Flags (with_line (table_of c.self.inside) c.args.value c.args.inst)) (sym c.mark.ensures) (Flags-with_line (table_of c.self.inside) c.self.inside.flags.items c.args.value c.args.inst w c.self.invariant.1)))
+    let few : length (table_of c.self.inside).lines < 65536 = search rules in (
+      subst IsTable (sym (laid c)) (IsTable-with_line (table_of c.self.inside) c.args.value c.args.inst b w few c.self.invariant.0),
+      subst (λ (t : Table). Flags t c.mark.new.flags.items) (sym (laid c)) (subst (Flags (with_line (table_of c.self.inside) c.args.value c.args.inst)) (sym c.mark.ensures) (Flags-with_line (table_of c.self.inside) c.self.inside.flags.items c.args.value c.args.inst w c.self.invariant.1)),
+    )
 
 pub returns : goal.returns
 returns c =
