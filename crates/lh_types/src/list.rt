@@ -1,5 +1,5 @@
 //! One list type for every layer: contracts see it as the list of its items.
-ghost use Rattle.std.specs.Prelude.{◌≡◌, [], ◌∷◌, ◌++◌, length, OnOk, OnErr};
+ghost use Rattle.std.specs.Prelude.{◌≡◌, [], ◌∷◌, ◌++◌, length, IfOk, OnOk, OnErr};
 
 use crate::ty::NoMemory;
 use std::alloc::Global;
@@ -55,6 +55,23 @@ impl<T> ListOf<T> {
         ensures { result.now ≡ self.now }
     {
         self.items.as_slice()
+    }
+
+    /// The allocator that the list was made with.
+    pub fn allocator(&self) -> Global {
+        *self.items.allocator()
+    }
+}
+
+impl<T: Copy> ListOf<T> {
+    /// An equal list.
+    pub fn copy(&self) -> Result<ListOf<T>, NoMemory>
+        ensures { IfOk result (λ list. list ≡ self.now) }
+    {
+        match Vec::from_slice(*self.items.allocator(), self.items.as_slice()) {
+            Ok(items) => Ok(ListOf { items }),
+            Err(_) => Err(NoMemory),
+        }
     }
 }
 

@@ -12,3 +12,4 @@ pub mod ContentsLemmas
 pub mod BuilderLemmas
 pub mod ItemLemmas
 pub mod Writes
+pub mod ModuleLaws

@@ -28,17 +28,17 @@ pub record Agree (s : Sizes) (f g : Naming) : Type 0 where
   pub labels : (k : ℕ) → k < s.labels → f.label_name k ≡ g.label_name k
 
 module _ (s : Sizes) (f g : Naming) (e : Agree s f g) where
-  value-same : (v : ValueId) → ValueWithin s v → value_text f v ≡ value_text g v
+  pub value-same : (v : ValueId) → ValueWithin s v → value_text f v ≡ value_text g v
   value-same v h = e.values v.0 h
 
   pub maybe-same : (v : Option ValueId) → MaybeWithin s v → maybe_text f v ≡ maybe_text g v
   maybe-same None h = refl
   maybe-same (Some v) h = ap Some (value-same v h)
 
-  operand-same : (t : Typed) → OperandWithin s t → operand_text f t ≡ operand_text g t
+  pub operand-same : (t : Typed) → OperandWithin s t → operand_text f t ≡ operand_text g t
   operand-same t h = let p : value_text f t.value ≡ value_text g t.value = value-same t.value h in λ i. record { value = p i; ty = t.ty }
 
-  trigger-same : (t : RegTrigger) → TriggerWithin s t → trigger_text f t ≡ trigger_text g t
+  pub trigger-same : (t : RegTrigger) → TriggerWithin s t → trigger_text f t ≡ trigger_text g t
   trigger-same t h =
       let p : value_text f t.value ≡ value_text g t.value = value-same t.value h.0 in
       let q : value_text f t.trigger ≡ value_text g t.trigger = value-same t.trigger h.1 in
@@ -46,13 +46,13 @@ module _ (s : Sizes) (f g : Naming) (e : Agree s f g) where
       let d : maybe_text f t.after ≡ maybe_text g t.after = maybe-same t.after h.3 in
       λ i. record { value = p i; mode = t.mode; trigger = q i; gate = r i; after = d i }
 
-  edge-same : (x : PhiEdge) → EdgeWithin s x → edge_text f x ≡ edge_text g x
+  pub edge-same : (x : PhiEdge) → EdgeWithin s x → edge_text f x ≡ edge_text g x
   edge-same x h =
       let p : value_text f x.value ≡ value_text g x.value = value-same x.value h.0 in
       let q : f.label_name x.block.0 ≡ g.label_name x.block.0 = e.labels x.block.0 h.1 in
       λ i. record { value = p i; block = q i }
 
-  operands-same : (ts : List Typed) → Each (OperandWithin s) ts → map (operand_text f) ts ≡ map (operand_text g) ts
+  pub operands-same : (ts : List Typed) → Each (OperandWithin s) ts → map (operand_text f) ts ≡ map (operand_text g) ts
   operands-same ts h = map-each (OperandWithin s) (operand_text f) (operand_text g) ts operand-same h
 
   pub inst-same : (i : Inst) → InstWithin s i → inst_text f i ≡ inst_text g i

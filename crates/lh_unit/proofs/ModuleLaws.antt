@@ -1,0 +1,142 @@
+-- What callers may cite of a module: entries stay, names tell ids apart, the open unit is the last item.
+use Rattle.std.proofs.Common.{◌≡◌, ℕ, ◌+◌, ◌<◌, ◌≤◌, zero, suc, true, List, [], ◌∷◌, ◌++◌, length, map, Option, Some, None, IsSome, IsSomeAnd, slice_get, refl, ap, sym, ◌∙◌, subst, arith}
+use Rattle.std.proofs.lemmas.Option.{slice_get-get_or}
+use Rattle.lh_unit.specs.Contents.{UnitText, last_unit}
+use Rattle.lh_unit.specs.Table.{Table, IsTable, AllDistinct, is_block, insts_at}
+use Rattle.lh_unit.specs.Within.{Sizes, Each, ValueWithin, MaybeWithin, OperandWithin, TriggerWithin, EdgeWithin, InstWithin}
+use Rattle.lh_unit.specs.Naming.{value_text, maybe_text, operand_text, trigger_text, edge_text}
+use Rattle.lh_unit.specs.Arena.{Arena, IsArena, InstPlaced, IsOpen, OfOpen, KeepsEntries, Grows, contents, naming, sizes, unit_text_at, inst_text_at, kind_at, table_at, blocks_at, block_insts_at, unit_count, value_count, label_count, block_count, inst_count, unit_name_at, value_name_at, label_name_at, no_unit_name}
+use Rattle.lh_unit.specs.declared.name.UnitName.{UnitName}
+use Rattle.lh_unit.specs.declared.inst.UnitId.{UnitId}
+use Rattle.lh_unit.specs.declared.inst.ValueId.{ValueId}
+use Rattle.lh_unit.specs.declared.inst.BlockId.{BlockId}
+use Rattle.lh_unit.specs.declared.inst.InstId.{InstId}
+use Rattle.lh_unit.specs.declared.inst.Typed.{Typed}
+use Rattle.lh_unit.specs.declared.inst.RegTrigger.{RegTrigger}
+use Rattle.lh_unit.specs.declared.inst.PhiEdge.{PhiEdge}
+use Rattle.lh_unit.specs.declared.inst.Inst.{Inst}
+use Rattle.lh_unit.proofs.Tables.{is_block-at, stands-within}
+use Rattle.lh_unit.proofs.Within.{InstWithin-more, OperandWithin-more, TriggerWithin-more, EdgeWithin-more, MaybeWithin-more, Each-more}
+use Rattle.lh_unit.proofs.Arenas as arenas
+use Rattle.lh_unit.proofs.Texts.{Agree, inst-same, operand-same, trigger-same, edge-same, maybe-same, value-same, insts-within}
+use Rattle.lh_unit.proofs.ContentsLemmas as contents_lemmas
+
+-- entries that stay
+pub KeepsEntries-refl : (a : Arena) → KeepsEntries a a
+KeepsEntries-refl a = record { units = omega arith; values = λ u. omega arith; labels = λ u. omega arith; unit_names = λ u h. refl; value_names = λ u v h. refl; label_names = λ u b h. refl }
+
+pub KeepsEntries-trans : (a b c : Arena) → KeepsEntries a b → KeepsEntries b c → KeepsEntries a c
+KeepsEntries-trans a b c p q = record {
+  units = omega (arith, p.units, q.units);
+  values = λ u. omega (arith, p.values u, q.values u);
+  labels = λ u. omega (arith, p.labels u, q.labels u);
+  unit_names = λ u h. q.unit_names u (omega (arith, h, p.units)) ∙ p.unit_names u h;
+  value_names = λ u v h. q.value_names u v (omega (arith, h, p.values u)) ∙ p.value_names u v h;
+  label_names = λ u v h. q.label_names u v (omega (arith, h, p.labels u)) ∙ p.label_names u v h;
+}
+
+pub Grows-refl : (a : Arena) → Grows a a
+Grows-refl a = record { entries = KeepsEntries-refl a; open_stays = λ u p. p; says = refl }
+
+pub Grows-trans : (a b c : Arena) → Grows a b → Grows b c → Grows a c
+Grows-trans a b c p q = record {
+  entries = KeepsEntries-trans a b c p.entries q.entries;
+  open_stays = λ u o. q.open_stays u (p.open_stays u o);
+  says = q.says ∙ p.says;
+}
+
+-- what is in place stays in place
+module _ (a b : Arena) (u : ℕ) (k : KeepsEntries a b) where
+  pub ValueWithin-keeps : (v : ValueId) → ValueWithin (sizes a u) v → ValueWithin (sizes b u) v
+  ValueWithin-keeps v h = omega (arith, h, k.values u)
+
+  pub MaybeWithin-keeps : (v : Option ValueId) → MaybeWithin (sizes a u) v → MaybeWithin (sizes b u) v
+  MaybeWithin-keeps v h = MaybeWithin-more (sizes a u) (sizes b u) k.units (k.values u) (k.labels u) v h
+
+  pub OperandWithin-keeps : (t : Typed) → OperandWithin (sizes a u) t → OperandWithin (sizes b u) t
+  OperandWithin-keeps t h = OperandWithin-more (sizes a u) (sizes b u) k.units (k.values u) (k.labels u) t h
+
+  pub TriggerWithin-keeps : (t : RegTrigger) → TriggerWithin (sizes a u) t → TriggerWithin (sizes b u) t
+  TriggerWithin-keeps t h = TriggerWithin-more (sizes a u) (sizes b u) k.units (k.values u) (k.labels u) t h
+
+  pub EdgeWithin-keeps : (e : PhiEdge) → EdgeWithin (sizes a u) e → EdgeWithin (sizes b u) e
+  EdgeWithin-keeps e h = EdgeWithin-more (sizes a u) (sizes b u) k.units (k.values u) (k.labels u) e h
+
+  pub InstPlaced-keeps : (i : Inst) → InstPlaced a u i → InstPlaced b u i
+  InstPlaced-keeps i h = InstWithin-more (sizes a u) (sizes b u) i k.units (k.values u) (k.labels u) h
+
+  -- and says the same
+  pub naming-agrees : Agree (sizes a u) (naming b u) (naming a u)
+  naming-agrees = record { units = k.unit_names; values = k.value_names u; labels = k.label_names u }
+
+  pub value_text-keeps : (v : ValueId) → ValueWithin (sizes a u) v → value_text (naming b u) v ≡ value_text (naming a u) v
+  value_text-keeps v h = value-same (sizes a u) (naming b u) (naming a u) naming-agrees v h
+
+  pub maybe_text-keeps : (v : Option ValueId) → MaybeWithin (sizes a u) v → maybe_text (naming b u) v ≡ maybe_text (naming a u) v
+  maybe_text-keeps v h = maybe-same (sizes a u) (naming b u) (naming a u) naming-agrees v h
+
+  pub operand_text-keeps : (t : Typed) → OperandWithin (sizes a u) t → operand_text (naming b u) t ≡ operand_text (naming a u) t
+  operand_text-keeps t h = operand-same (sizes a u) (naming b u) (naming a u) naming-agrees t h
+
+  pub trigger_text-keeps : (t : RegTrigger) → TriggerWithin (sizes a u) t → trigger_text (naming b u) t ≡ trigger_text (naming a u) t
+  trigger_text-keeps t h = trigger-same (sizes a u) (naming b u) (naming a u) naming-agrees t h
+
+  pub edge_text-keeps : (e : PhiEdge) → EdgeWithin (sizes a u) e → edge_text (naming b u) e ≡ edge_text (naming a u) e
+  edge_text-keeps e h = edge-same (sizes a u) (naming b u) (naming a u) naming-agrees e h
+
+  pub inst_text_at-keeps : (i : Inst) → InstPlaced a u i → inst_text_at b u i ≡ inst_text_at a u i
+  inst_text_at-keeps i h = inst-same (sizes a u) (naming b u) (naming a u) naming-agrees i h
+
+pub InstPlaced-grows : (a b : Arena) (u : ℕ) (i : Inst) → Grows a b → InstPlaced a u i → InstPlaced b u i
+InstPlaced-grows a b u i g h = InstPlaced-keeps a b u g.entries i h
+
+pub inst_text_at-grows : (a b : Arena) (u : ℕ) (i : Inst) → Grows a b → InstPlaced a u i → inst_text_at b u i ≡ inst_text_at a u i
+inst_text_at-grows a b u i g h = inst_text_at-keeps a b u g.entries i h
+
+-- one more item of a list that is in place
+pub Each-push : {X : Type 0} (P : X → Type 0) (xs : List X) (x : X) → Each P xs → P x → Each P (xs ++ x ∷ [])
+Each-push P [] x w h = (h, tt)
+Each-push P (y ∷ xs) x w h = (w.0, Each-push P xs x w.1 h)
+
+pub Each-map : {X : Type 0} (P Q : X → Type 0) (xs : List X) → ((x : X) → P x → Q x) → Each P xs → Each Q xs
+Each-map P Q xs h w = Each-more P Q xs h w
+
+-- names tell ids apart
+pub unit-by_name : (a : Arena) (u v : ℕ) → IsArena a → u < unit_count a → v < unit_count a → unit_name_at a u ≡ unit_name_at a v → u ≡ v
+unit-by_name a u v o h g e =
+    let l : u < length a.names = omega (arith, h, o.long) in
+    let m : v < length a.names = omega (arith, g, o.long) in
+    o.names_distinct u v (unit_name_at a v) (slice_get-get_or a.names u no_unit_name l ∙ ap Some e) (slice_get-get_or a.names v no_unit_name m)
+
+pub value-by_name : (a : Arena) (u v w : ℕ) → IsArena a → u < unit_count a → v < value_count a u → w < value_count a u → value_name_at a u v ≡ value_name_at a u w → v ≡ w
+value-by_name a u v w o h p q e = (o.tables u h).values_distinct v w (value_name_at a u w) (slice_get-get_or (table_at a u).values v [] p ∙ ap Some e) (slice_get-get_or (table_at a u).values w [] q)
+
+pub label-by_name : (a : Arena) (u v w : ℕ) → IsArena a → u < unit_count a → v < label_count a u → w < label_count a u → label_name_at a u v ≡ label_name_at a u w → v ≡ w
+label-by_name a u v w o h p q e = (o.tables u h).labels_distinct v w (label_name_at a u w) (slice_get-get_or (table_at a u).labels v [] p ∙ ap Some e) (slice_get-get_or (table_at a u).labels w [] q)
+
+-- the open unit is the last item, has an entry and is begun
+pub open-text : (a : Arena) (u : UnitId) → IsOpen a u → last_unit (contents a) ≡ Some (unit_text_at a u.0)
+open-text a u p = contents_lemmas.open-text a u p
+
+pub open-within : (a : Arena) (u : UnitId) → IsArena a → IsOpen a u → u.0 < unit_count a
+open-within a u o p = arenas.open-within a u o p
+
+pub open-begun : (a : Arena) (u : UnitId) → IsArena a → IsOpen a u → IsSome (kind_at a u.0)
+open-begun a u o p = arenas.open-begun a u o p
+
+-- what holds of the open unit's text, and what is known of the last unit of the contents
+pub OfOpen-is : (a : Arena) (P : UnitText → Type 0) (t : UnitText) → last_unit (contents a) ≡ Some t → OfOpen a P → P t
+OfOpen-is a P t e h = subst (λ o. IsSomeAnd o P) e h
+
+pub OfOpen-from : (a : Arena) (P : UnitText → Type 0) (t : UnitText) → last_unit (contents a) ≡ Some t → P t → OfOpen a P
+OfOpen-from a P t e h = subst (λ o. IsSomeAnd o P) (sym e) h
+
+-- the ids of a unit's blocks and instructions are within
+pub label-is_block : (a : Arena) (u b : ℕ) → IsArena a → u < unit_count a → b < label_count a u → b < block_count a u
+label-is_block a u b o h w = omega (arith, w, (o.tables u h).enough_bodies)
+
+pub block-within : (a : Arena) (u i : ℕ) (b : BlockId) → IsArena a → u < unit_count a → slice_get (blocks_at a u) i ≡ Some b → b.0 < block_count a u
+block-within a u i b o h p = stands-within (table_at a u) b.0 (o.tables u h) (is_block-at (blocks_at a u) i b p)
+
+pub block_insts-within : (a : Arena) (u i : ℕ) (b : BlockId) → IsArena a → u < unit_count a → slice_get (blocks_at a u) i ≡ Some b → Each (λ (x : InstId). x.0 < inst_count a u) (block_insts_at a u b.0)
+block_insts-within a u i b o h p = insts-within (table_at a u) (o.tables u h) i b p
