@@ -29,3 +29,6 @@ pub fn print(alloc: Global, module: &Module) -> Result<Vec<u8>, NoMemory>
     units::put_items(&mut out, module)?;
     Ok(out)
 }
+
+#[cfg(test)]
+mod tests;
