@@ -22,3 +22,4 @@ pub mod CombLaw
 pub mod EdgeLaw
 pub mod MayStandLaw
 pub mod Buffer
+pub mod SampleParts
