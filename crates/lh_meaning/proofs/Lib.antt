@@ -23,3 +23,4 @@ pub mod EdgeLaw
 pub mod MayStandLaw
 pub mod Buffer
 pub mod SampleParts
+pub mod FlipFlop
