@@ -22,3 +22,5 @@ pub mod CombLaw
 pub mod EdgeLaw
 pub mod MayStandLaw
 pub mod Buffer
+pub mod SampleParts
+pub mod FlipFlop
