@@ -1,4 +1,5 @@
 pub mod Writes
 pub mod Checks
+pub mod Readings
 pub mod Results
 pub mod Accounts

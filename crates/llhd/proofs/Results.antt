@@ -4,7 +4,7 @@ use Rattle.std.proofs.lemmas.Bool.{cases_lt}
 use Rattle.lh_unit.specs.Contents.{ItemText}
 use Rattle.lh_unit.specs.Reads.{BadKind, syntax, unit_too_large, duplicate_name, Reads, FirstBad}
 use Rattle.lh_unit.specs.Canon.{canon}
-use Rattle.lh_unit.proofs.ReadsLaws.{FirstBad-or-Reads, Reads-not-FirstBad, Reads-unique, FirstBad-unique}
+use Rattle.llhd.proofs.Readings.{FirstBad-or-Reads, Reads-not-FirstBad, Reads-unique, FirstBad-unique}
 use Rattle.llhd.specs.Commands.{Asks, HasNoForm}
 use Rattle.llhd.specs.Result.{source_limit, IsRefusedFor, Makes, IsResult, usage, source_too_long, refused, done}
 use Rattle.llhd.specs.Account.{HasOneResult}
