@@ -58,21 +58,27 @@ event_lines =
 
 abbrev as_process : UnitText
 as_process = record {
-  kind = kind.Proc; name = global (codes "ff"); args = args; result = None;
+  kind = kind.Proc;
+  name = global (codes "ff");
+  args = args;
+  result = None;
   blocks = block (codes "init") init_lines ∷ block (codes "check") check_lines ∷ block (codes "event") event_lines ∷ [];
 }
 
 abbrev as_entity : UnitText
 as_entity = record {
-  kind = kind.Entity; name = global (codes "ff"); args = args; result = None;
+  kind = kind.Entity;
+  name = global (codes "ff");
+  args = args;
+  result = None;
   blocks = record {
     label = None;
     lines =
-      line (codes "v0") (prb_text (typed bit_signal (codes "d")))
-      ∷ line (codes "v1") (prb_text (typed bit_signal (codes "clk")))
-      ∷ line (codes "v2") (const_text (delay 0 1 0))
-      ∷ bare (reg_text (typed bit_signal (codes "q")) (record { value = codes "v0"; mode = Rise; trigger = codes "v1"; gate = None; after = Some (codes "v2") } ∷ []))
-      ∷ [];
+        line (codes "v0") (prb_text (typed bit_signal (codes "d")))
+        ∷ line (codes "v1") (prb_text (typed bit_signal (codes "clk")))
+        ∷ line (codes "v2") (const_text (delay 0 1 0))
+        ∷ bare (reg_text (typed bit_signal (codes "q")) (record { value = codes "v0"; mode = Rise; trigger = codes "v1"; gate = None; after = Some (codes "v2") } ∷ []))
+        ∷ [];
   } ∷ [];
 }
 
@@ -147,10 +153,12 @@ module _ (r : Rules) (enough : 10 ≤ r.bound) (c k o : Range) (c1 : c.len ≡ 1
       clk_of true n = s.clk
       clk_of false true = s.clk
       clk_of false false = s.clk
+
       d_of : (p n : Bool) → through now e p n (codes "d") ≡ Some (part_held k)
       d_of true n = s.d
       d_of false true = s.d
       d_of false false = s.d
+
       q_of : (p n : Bool) → through now e p n (codes "q") ≡ Some (part_held o)
       q_of true n = s.q
       q_of false true = s.q
@@ -205,8 +213,10 @@ module _ (r : Rules) (enough : 10 ≤ r.bound) (c k o : Range) (c1 : c.len ≡ 1
       → EndsAt (Stands c k o now) (codes "init") (codes "check") (c.lo ∷ []) no_wish (activate r.bound (scene r now t) as_process (fresh as_process i))
   unfolding activate
   first_ends now t i e = rw e (record {
-    held = with_held given (codes "clk0") (datum_held (int_value 1 (number (bit_at now c.lo)))); parts = c ∷ [];
-    known = record { clk = refl; d = refl; q = refl; clk0 = refl }; same_parts = one_part;
+    held = with_held given (codes "clk0") (datum_held (int_value 1 (number (bit_at now c.lo))));
+    parts = c ∷ [];
+    known = record { clk = refl; d = refl; q = refl; clk0 = refl };
+    same_parts = one_part;
     is = runs_from now t 2 (at_init given) _ (omega arith) (from_init now t given (bit_at now c.lo) refl (number_in now c c1));
   })
 
@@ -214,8 +224,10 @@ module _ (r : Rules) (enough : 10 ≤ r.bound) (c k o : Range) (c1 : c.len ≡ 1
       → EndsAt (Stands c k o now) (codes "init") (codes "check") (c.lo ∷ []) (rows past now t) (activate r.bound (scene r now t) as_process (waiting_at (codes "init") (codes "check") parts e))
   unfolding activate
   later_ends past now t e parts s = record {
-    held = with_held (through now e (bit_at past c.lo) (bit_at now c.lo)) (codes "clk0") (datum_held (int_value 1 (number (bit_at now c.lo)))); parts = c ∷ [];
-    known = stands_then now e (bit_at past c.lo) past s; same_parts = one_part;
+    held = with_held (through now e (bit_at past c.lo) (bit_at now c.lo)) (codes "clk0") (datum_held (int_value 1 (number (bit_at now c.lo))));
+    parts = c ∷ [];
+    known = stands_then now e (bit_at past c.lo) past s;
+    same_parts = one_part;
     is = runs_from now t 10 (at_check e) _ (omega arith) (from_check now t e (bit_at past c.lo) (bit_at now c.lo) s.clk s.d s.q s.clk0 (number_in now c c1));
   }
 
@@ -225,7 +237,12 @@ module _ (r : Rules) (enough : 10 ≤ r.bound) (c k o : Range) (c1 : c.len ≡ 1
 
   flip_flop_for : (i : Instance) → i.args ≡ c ∷ k ∷ o ∷ [] → k.len ≡ 1 → EdgeFor r as_process as_entity i
   flip_flop_for i e k1 = record {
-    is_process = refl; is_entity = refl; block = codes "init"; to = codes "check"; on = c.lo ∷ []; triggers = c.lo ∷ [];
+    is_process = refl;
+    is_entity = refl;
+    block = codes "init";
+    to = codes "check";
+    on = c.lo ∷ [];
+    triggers = c.lo ∷ [];
     rows = rows;
     stands = Stands c k o;
     first = λ now t. first_ends now t i e;

@@ -120,8 +120,7 @@ fn read_exact(alloc: Global, text: &[u8]) -> Result<Module, TextFault>
 /// Every text reads as exactly one list of items, or has exactly one first faulty line, and never both.
 pub fn reading_law()
     ensures { (text : List ℕ) → ReadsOrIsBad text }
-{
-}
+{}
 
 #[cfg(test)]
 mod tests;
