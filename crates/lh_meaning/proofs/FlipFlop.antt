@@ -1,7 +1,6 @@
 -- That an entity with a register may stand for a process that looks for an edge: a flip-flop.
-use Rattle.std.proofs.Common.{◌≡◌, ◌≤◌, ℕ, zero, suc, List, [], ◌∷◌, map, take, drop, length, Bool, true, false, not, ◌&&◌, ◌||◌, nat_eq, if◌then◌else◌, unwrap_or, refl, ap, sym, ◌∙◌, subst, Option, Some, None, arith, inr}
+use Rattle.std.proofs.Common.{◌≡◌, ◌≤◌, ℕ, zero, suc, List, [], ◌∷◌, map, take, drop, Bool, true, false, not, ◌&&◌, ◌||◌, nat_eq, if◌then◌else◌, refl, ap, ◌∙◌, Option, Some, None, arith, inr}
 use Rattle.std.specs.Prelude.{codes}
-use Rattle.std.specs.List.{slice_get, list_any}
 use Rattle.lh_time.specs.declared.Instant.{Instant}
 use Rattle.lh_time.specs.Due.{due_of}
 use Rattle.lh_types.specs.Values.{Datum, int_value}
@@ -13,18 +12,18 @@ use Rattle.lh_types.specs.declared.part.Range.{Range}
 use Rattle.lh_types.specs.declared.op.Op.TheVariants as op
 use Rattle.lh_unit.specs.declared.inst.UnitKind.TheVariants as kind
 use Rattle.lh_unit.specs.declared.inst.Mode.TheVariants.{Rise}
-use Rattle.lh_unit.specs.Contents.{OperandText, const_text, pure_text, prb_text, drv_text, reg_text, br_text, branch_text, wait_text, LineText, BlockText, ArgText, UnitText, ItemText, unit_text}
-use Rattle.lh_unit.specs.Held.{Held, datum_held, part_held, Env, nothing_held, with_held, with_args, bits_in}
+use Rattle.lh_unit.specs.Contents.{OperandText, const_text, pure_text, prb_text, drv_text, reg_text, br_text, branch_text, wait_text, LineText, ArgText, UnitText, unit_text}
+use Rattle.lh_unit.specs.Held.{datum_held, part_held, Env, nothing_held, with_held, with_args, bits_in}
 use Rattle.lh_unit.specs.Activation.{Activated, Control, start_point, run, activate}
 use Rattle.lh_unit.specs.Hierarchy.{Instance}
 use Rattle.lh_unit.specs.Pass.{pass, probes}
-use Rattle.lh_unit.specs.World.{Rules, rules_of, bit_at, bit_differs, bit_numbers}
+use Rattle.lh_unit.specs.World.{Rules, rules_of, bit_at, bit_numbers}
 use Rattle.lh_unit.specs.Trace.{SameTrace}
-use Rattle.lh_meaning.specs.Replacing.{HasWidths, MayStand}
+use Rattle.lh_meaning.specs.Replacing.{MayStand}
 use Rattle.lh_meaning.proofs.Samples.{global, line, bare, typed, bit, bit_signal, input, output, block, delay}
 use Rattle.lh_meaning.proofs.ActivationsLaw.{run_enough}
-use Rattle.lh_meaning.proofs.BitSets.{has, SameSet, IsWithin, bits_read}
-use Rattle.lh_meaning.proofs.Standing.{scene, fresh, waiting_at, EndsAt, sensed, EdgeFor}
+use Rattle.lh_meaning.proofs.BitSets.{SameSet, bits_read}
+use Rattle.lh_meaning.proofs.Standing.{scene, fresh, waiting_at, EndsAt, EdgeFor}
 use Rattle.lh_meaning.proofs.MayStandLaw.{edge_may_stand}
 use Rattle.lh_meaning.proofs.ReplacingLaw.{replaced_same_trace}
 
@@ -58,21 +57,27 @@ event_lines =
 
 abbrev as_process : UnitText
 as_process = record {
-  kind = kind.Proc; name = global (codes "ff"); args = args; result = None;
+  kind = kind.Proc;
+  name = global (codes "ff");
+  args = args;
+  result = None;
   blocks = block (codes "init") init_lines ∷ block (codes "check") check_lines ∷ block (codes "event") event_lines ∷ [];
 }
 
 abbrev as_entity : UnitText
 as_entity = record {
-  kind = kind.Entity; name = global (codes "ff"); args = args; result = None;
+  kind = kind.Entity;
+  name = global (codes "ff");
+  args = args;
+  result = None;
   blocks = record {
     label = None;
     lines =
-      line (codes "v0") (prb_text (typed bit_signal (codes "d")))
-      ∷ line (codes "v1") (prb_text (typed bit_signal (codes "clk")))
-      ∷ line (codes "v2") (const_text (delay 0 1 0))
-      ∷ bare (reg_text (typed bit_signal (codes "q")) (record { value = codes "v0"; mode = Rise; trigger = codes "v1"; gate = None; after = Some (codes "v2") } ∷ []))
-      ∷ [];
+        line (codes "v0") (prb_text (typed bit_signal (codes "d")))
+        ∷ line (codes "v1") (prb_text (typed bit_signal (codes "clk")))
+        ∷ line (codes "v2") (const_text (delay 0 1 0))
+        ∷ bare (reg_text (typed bit_signal (codes "q")) (record { value = codes "v0"; mode = Rise; trigger = codes "v1"; gate = None; after = Some (codes "v2") } ∷ []))
+        ∷ [];
   } ∷ [];
 }
 
@@ -147,10 +152,12 @@ module _ (r : Rules) (enough : 10 ≤ r.bound) (c k o : Range) (c1 : c.len ≡ 1
       clk_of true n = s.clk
       clk_of false true = s.clk
       clk_of false false = s.clk
+
       d_of : (p n : Bool) → through now e p n (codes "d") ≡ Some (part_held k)
       d_of true n = s.d
       d_of false true = s.d
       d_of false false = s.d
+
       q_of : (p n : Bool) → through now e p n (codes "q") ≡ Some (part_held o)
       q_of true n = s.q
       q_of false true = s.q
@@ -205,8 +212,10 @@ module _ (r : Rules) (enough : 10 ≤ r.bound) (c k o : Range) (c1 : c.len ≡ 1
       → EndsAt (Stands c k o now) (codes "init") (codes "check") (c.lo ∷ []) no_wish (activate r.bound (scene r now t) as_process (fresh as_process i))
   unfolding activate
   first_ends now t i e = rw e (record {
-    held = with_held given (codes "clk0") (datum_held (int_value 1 (number (bit_at now c.lo)))); parts = c ∷ [];
-    known = record { clk = refl; d = refl; q = refl; clk0 = refl }; same_parts = one_part;
+    held = with_held given (codes "clk0") (datum_held (int_value 1 (number (bit_at now c.lo))));
+    parts = c ∷ [];
+    known = record { clk = refl; d = refl; q = refl; clk0 = refl };
+    same_parts = one_part;
     is = runs_from now t 2 (at_init given) _ (omega arith) (from_init now t given (bit_at now c.lo) refl (number_in now c c1));
   })
 
@@ -214,8 +223,10 @@ module _ (r : Rules) (enough : 10 ≤ r.bound) (c k o : Range) (c1 : c.len ≡ 1
       → EndsAt (Stands c k o now) (codes "init") (codes "check") (c.lo ∷ []) (rows past now t) (activate r.bound (scene r now t) as_process (waiting_at (codes "init") (codes "check") parts e))
   unfolding activate
   later_ends past now t e parts s = record {
-    held = with_held (through now e (bit_at past c.lo) (bit_at now c.lo)) (codes "clk0") (datum_held (int_value 1 (number (bit_at now c.lo)))); parts = c ∷ [];
-    known = stands_then now e (bit_at past c.lo) past s; same_parts = one_part;
+    held = with_held (through now e (bit_at past c.lo) (bit_at now c.lo)) (codes "clk0") (datum_held (int_value 1 (number (bit_at now c.lo))));
+    parts = c ∷ [];
+    known = stands_then now e (bit_at past c.lo) past s;
+    same_parts = one_part;
     is = runs_from now t 10 (at_check e) _ (omega arith) (from_check now t e (bit_at past c.lo) (bit_at now c.lo) s.clk s.d s.q s.clk0 (number_in now c c1));
   }
 
@@ -225,7 +236,12 @@ module _ (r : Rules) (enough : 10 ≤ r.bound) (c k o : Range) (c1 : c.len ≡ 1
 
   flip_flop_for : (i : Instance) → i.args ≡ c ∷ k ∷ o ∷ [] → k.len ≡ 1 → EdgeFor r as_process as_entity i
   flip_flop_for i e k1 = record {
-    is_process = refl; is_entity = refl; block = codes "init"; to = codes "check"; on = c.lo ∷ []; triggers = c.lo ∷ [];
+    is_process = refl;
+    is_entity = refl;
+    block = codes "init";
+    to = codes "check";
+    on = c.lo ∷ [];
+    triggers = c.lo ∷ [];
     rows = rows;
     stands = Stands c k o;
     first = λ now t. first_ends now t i e;

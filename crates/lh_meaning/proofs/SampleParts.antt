@@ -1,5 +1,5 @@
 -- Small files with edges of blocks, calls, parts of signals and registers, and their traces.
-use Rattle.std.specs.Prelude.{◌≡◌, ℕ, List, [], ◌∷◌, map, Bool, true, false, Option, Some, None, codes, refl}
+use Rattle.std.specs.Prelude.{◌≡◌, ℕ, List, [], ◌∷◌, Some, None, codes, refl}
 use Rattle.std.specs.Fmt.{digits}
 use Rattle.lh_time.specs.Due.{instant}
 use Rattle.lh_types.specs.Types.{TypeTree, int_type, tuple_type, signal_type, row_of}
@@ -9,8 +9,8 @@ use Rattle.lh_types.specs.ApplyInt.{integer_row, row_width}
 use Rattle.lh_types.specs.History.{bits_at}
 use Rattle.lh_types.specs.declared.op.Op.TheVariants as op
 use Rattle.lh_unit.specs.declared.inst.UnitKind.TheVariants as kind
-use Rattle.lh_unit.specs.declared.inst.Mode.TheVariants.{Rise, Both, High, Low}
-use Rattle.lh_unit.specs.Contents.{OperandText, const_text, pure_text, sig_text, prb_text, drv_text, reg_text, child_text, call_text, phi_text, br_text, wait_text, halt_text, ret_text, LineText, ItemText, unit_text}
+use Rattle.lh_unit.specs.declared.inst.Mode.TheVariants.{Rise, Both, Low}
+use Rattle.lh_unit.specs.Contents.{OperandText, const_text, pure_text, sig_text, prb_text, drv_text, reg_text, child_text, call_text, phi_text, br_text, wait_text, halt_text, ret_text, ItemText, unit_text}
 use Rattle.lh_unit.specs.Activation.{activate}
 use Rattle.lh_unit.specs.Pass.{pass, probes}
 use Rattle.lh_unit.specs.Design.{visit, design_of, refusal_of}
@@ -40,18 +40,18 @@ signal n t = record { instance = 0; name = n; ty = t }
 abbrev swapping : List ItemText
 swapping = process (codes "p") (output (codes "q") byte_signal ∷ []) (
     block (codes "entry") (
-      line (codes "a") (const_text (int_value 8 1))
-      ∷ line (codes "b") (const_text (int_value 8 2))
-      ∷ line (codes "z") (const_text (delay 0 0 0))
-      ∷ line (codes "d") (const_text (delay 1000000 0 0))
-      ∷ bare (br_text (codes "loop"))
-      ∷ [])
+    line (codes "a") (const_text (int_value 8 1))
+    ∷ line (codes "b") (const_text (int_value 8 2))
+    ∷ line (codes "z") (const_text (delay 0 0 0))
+    ∷ line (codes "d") (const_text (delay 1000000 0 0))
+    ∷ bare (br_text (codes "loop"))
+    ∷ [])
     ∷ block (codes "loop") (
-      line (codes "x") (phi_text byte (record { value = codes "a"; block = codes "entry" } ∷ record { value = codes "y"; block = codes "loop" } ∷ []))
-      ∷ line (codes "y") (phi_text byte (record { value = codes "b"; block = codes "entry" } ∷ record { value = codes "x"; block = codes "loop" } ∷ []))
-      ∷ bare (drv_text (typed byte_signal (codes "q")) (codes "x") (codes "z") None)
-      ∷ bare (wait_text (codes "loop") (Some (codes "d")) [])
-      ∷ [])
+    line (codes "x") (phi_text byte (record { value = codes "a"; block = codes "entry" } ∷ record { value = codes "y"; block = codes "loop" } ∷ []))
+    ∷ line (codes "y") (phi_text byte (record { value = codes "b"; block = codes "entry" } ∷ record { value = codes "x"; block = codes "loop" } ∷ []))
+    ∷ bare (drv_text (typed byte_signal (codes "q")) (codes "x") (codes "z") None)
+    ∷ bare (wait_text (codes "loop") (Some (codes "d")) [])
+    ∷ [])
     ∷ []) ∷ []
 
 abbrev byte_of : ℕ → List Datum
@@ -66,23 +66,26 @@ swapping_trace = refl
 abbrev calling : List ItemText
 calling =
     unit_text (record {
-      kind = kind.Func; name = global (codes "f"); args = input (codes "a") byte ∷ input (codes "b") byte ∷ []; result = Some byte;
+      kind = kind.Func;
+      name = global (codes "f");
+      args = input (codes "a") byte ∷ input (codes "b") byte ∷ [];
+      result = Some byte;
       blocks = block (codes "entry") (
-        line (codes "x") (pure_text op.Sub (typed byte (codes "a") ∷ name (codes "b") ∷ []))
-        ∷ bare (ret_text (Some (typed byte (codes "x"))))
-        ∷ []) ∷ [];
+          line (codes "x") (pure_text op.Sub (typed byte (codes "a") ∷ name (codes "b") ∷ []))
+          ∷ bare (ret_text (Some (typed byte (codes "x"))))
+          ∷ []) ∷ [];
     })
     ∷ process (codes "p") (output (codes "q") byte_signal ∷ []) (
-      block (codes "entry") (
-        line (codes "x") (const_text (int_value 8 9))
-        ∷ line (codes "b") (const_text (int_value 8 4))
-        ∷ line (codes "z") (const_text (delay 0 0 0))
-        ∷ line (codes "r") (call_text (global (codes "f")) byte (typed byte (codes "x") ∷ typed byte (codes "b") ∷ []))
-        ∷ line (codes "s") (pure_text op.Add (typed byte (codes "r") ∷ name (codes "x") ∷ []))
-        ∷ bare (drv_text (typed byte_signal (codes "q")) (codes "s") (codes "z") None)
-        ∷ bare halt_text
-        ∷ [])
-      ∷ [])
+    block (codes "entry") (
+    line (codes "x") (const_text (int_value 8 9))
+    ∷ line (codes "b") (const_text (int_value 8 4))
+    ∷ line (codes "z") (const_text (delay 0 0 0))
+    ∷ line (codes "r") (call_text (global (codes "f")) byte (typed byte (codes "x") ∷ typed byte (codes "b") ∷ []))
+    ∷ line (codes "s") (pure_text op.Add (typed byte (codes "r") ∷ name (codes "x") ∷ []))
+    ∷ bare (drv_text (typed byte_signal (codes "q")) (codes "s") (codes "z") None)
+    ∷ bare halt_text
+    ∷ [])
+    ∷ [])
     ∷ []
 
 pub calling_trace : trace calling (global (codes "p")) 6 ≡ ran (top (codes "p")) (signal (codes "q") byte ∷ []) (ended quiet (frame 0 0 (byte_of 0) ∷ frame 0 1 (byte_of 14) ∷ []))
@@ -96,22 +99,22 @@ pair = tuple_type (row_of (int_type 4 ∷ byte ∷ []))
 abbrev parts : List ItemText
 parts =
     entity (codes "t") [] (
-      line (codes "n") (const_text (int_value 4 5))
-      ∷ line (codes "b") (const_text (int_value 8 255))
-      ∷ line (codes "v") (pure_text op.Tuple (typed (int_type 4) (codes "n") ∷ typed byte (codes "b") ∷ []))
-      ∷ line (codes "s") (sig_text (typed pair (codes "v")))
-      ∷ line (codes "f") (pure_text (op.Extf 1) (typed byte_signal (codes "s") ∷ []))
-      ∷ bare (child_text (global (codes "u")) [] (typed byte_signal (codes "f") ∷ []))
-      ∷ [])
+    line (codes "n") (const_text (int_value 4 5))
+    ∷ line (codes "b") (const_text (int_value 8 255))
+    ∷ line (codes "v") (pure_text op.Tuple (typed (int_type 4) (codes "n") ∷ typed byte (codes "b") ∷ []))
+    ∷ line (codes "s") (sig_text (typed pair (codes "v")))
+    ∷ line (codes "f") (pure_text (op.Extf 1) (typed byte_signal (codes "s") ∷ []))
+    ∷ bare (child_text (global (codes "u")) [] (typed byte_signal (codes "f") ∷ []))
+    ∷ [])
     ∷ process (codes "u") (output (codes "w") byte_signal ∷ []) (
-      block (codes "entry") (
-        line (codes "g") (pure_text (op.Exts 2 3) (typed (signal_type (int_type 3)) (codes "w") ∷ []))
-        ∷ line (codes "k") (const_text (int_value 3 2))
-        ∷ line (codes "d") (const_text (delay 5 0 0))
-        ∷ bare (drv_text (typed (signal_type (int_type 3)) (codes "g")) (codes "k") (codes "d") None)
-        ∷ bare halt_text
-        ∷ [])
-      ∷ [])
+    block (codes "entry") (
+    line (codes "g") (pure_text (op.Exts 2 3) (typed (signal_type (int_type 3)) (codes "w") ∷ []))
+    ∷ line (codes "k") (const_text (int_value 3 2))
+    ∷ line (codes "d") (const_text (delay 5 0 0))
+    ∷ bare (drv_text (typed (signal_type (int_type 3)) (codes "g")) (codes "k") (codes "d") None)
+    ∷ bare halt_text
+    ∷ [])
+    ∷ [])
     ∷ []
 
 abbrev pair_of : ℕ → ℕ → List Datum
@@ -137,10 +140,10 @@ clocked = entity (codes "t") [] (
     ∷ line (codes "cn") (pure_text op.Not (typed bit (codes "cp") ∷ []))
     ∷ bare (drv_text (typed bit_signal (codes "c")) (codes "cn") (codes "d") None)
     ∷ bare (reg_text (typed byte_signal (codes "q")) (
-        record { value = codes "one"; mode = Rise; trigger = codes "cp"; gate = Some (codes "z"); after = None }
-        ∷ record { value = codes "two"; mode = Both; trigger = codes "cp"; gate = Some (codes "cp"); after = None }
-        ∷ record { value = codes "one"; mode = Low; trigger = codes "cp"; gate = None; after = None }
-        ∷ []))
+    record { value = codes "one"; mode = Rise; trigger = codes "cp"; gate = Some (codes "z"); after = None }
+    ∷ record { value = codes "two"; mode = Both; trigger = codes "cp"; gate = Some (codes "cp"); after = None }
+    ∷ record { value = codes "one"; mode = Low; trigger = codes "cp"; gate = None; after = None }
+    ∷ []))
     ∷ []) ∷ []
 
 abbrev at_clock : ℕ → ℕ → List Datum
