@@ -24,3 +24,4 @@ pub mod MayStandLaw
 pub mod Buffer
 pub mod SampleParts
 pub mod FlipFlop
+pub mod DefinedLaw
