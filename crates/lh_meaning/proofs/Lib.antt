@@ -25,3 +25,4 @@ pub mod Buffer
 pub mod SampleParts
 pub mod FlipFlop
 pub mod DefinedLaw
+pub mod ProbesLaw
