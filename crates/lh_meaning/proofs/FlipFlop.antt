@@ -1,7 +1,6 @@
 -- That an entity with a register may stand for a process that looks for an edge: a flip-flop.
-use Rattle.std.proofs.Common.{◌≡◌, ◌≤◌, ℕ, zero, suc, List, [], ◌∷◌, map, take, drop, length, Bool, true, false, not, ◌&&◌, ◌||◌, nat_eq, if◌then◌else◌, unwrap_or, refl, ap, sym, ◌∙◌, subst, Option, Some, None, arith, inr}
+use Rattle.std.proofs.Common.{◌≡◌, ◌≤◌, ℕ, zero, suc, List, [], ◌∷◌, map, take, drop, Bool, true, false, not, ◌&&◌, ◌||◌, nat_eq, if◌then◌else◌, refl, ap, ◌∙◌, Option, Some, None, arith, inr}
 use Rattle.std.specs.Prelude.{codes}
-use Rattle.std.specs.List.{slice_get, list_any}
 use Rattle.lh_time.specs.declared.Instant.{Instant}
 use Rattle.lh_time.specs.Due.{due_of}
 use Rattle.lh_types.specs.Values.{Datum, int_value}
@@ -13,18 +12,18 @@ use Rattle.lh_types.specs.declared.part.Range.{Range}
 use Rattle.lh_types.specs.declared.op.Op.TheVariants as op
 use Rattle.lh_unit.specs.declared.inst.UnitKind.TheVariants as kind
 use Rattle.lh_unit.specs.declared.inst.Mode.TheVariants.{Rise}
-use Rattle.lh_unit.specs.Contents.{OperandText, const_text, pure_text, prb_text, drv_text, reg_text, br_text, branch_text, wait_text, LineText, BlockText, ArgText, UnitText, ItemText, unit_text}
-use Rattle.lh_unit.specs.Held.{Held, datum_held, part_held, Env, nothing_held, with_held, with_args, bits_in}
+use Rattle.lh_unit.specs.Contents.{OperandText, const_text, pure_text, prb_text, drv_text, reg_text, br_text, branch_text, wait_text, LineText, ArgText, UnitText, unit_text}
+use Rattle.lh_unit.specs.Held.{datum_held, part_held, Env, nothing_held, with_held, with_args, bits_in}
 use Rattle.lh_unit.specs.Activation.{Activated, Control, start_point, run, activate}
 use Rattle.lh_unit.specs.Hierarchy.{Instance}
 use Rattle.lh_unit.specs.Pass.{pass, probes}
-use Rattle.lh_unit.specs.World.{Rules, rules_of, bit_at, bit_differs, bit_numbers}
+use Rattle.lh_unit.specs.World.{Rules, rules_of, bit_at, bit_numbers}
 use Rattle.lh_unit.specs.Trace.{SameTrace}
-use Rattle.lh_meaning.specs.Replacing.{HasWidths, MayStand}
+use Rattle.lh_meaning.specs.Replacing.{MayStand}
 use Rattle.lh_meaning.proofs.Samples.{global, line, bare, typed, bit, bit_signal, input, output, block, delay}
 use Rattle.lh_meaning.proofs.ActivationsLaw.{run_enough}
-use Rattle.lh_meaning.proofs.BitSets.{has, SameSet, IsWithin, bits_read}
-use Rattle.lh_meaning.proofs.Standing.{scene, fresh, waiting_at, EndsAt, sensed, EdgeFor}
+use Rattle.lh_meaning.proofs.BitSets.{SameSet, bits_read}
+use Rattle.lh_meaning.proofs.Standing.{scene, fresh, waiting_at, EndsAt, EdgeFor}
 use Rattle.lh_meaning.proofs.MayStandLaw.{edge_may_stand}
 use Rattle.lh_meaning.proofs.ReplacingLaw.{replaced_same_trace}
 

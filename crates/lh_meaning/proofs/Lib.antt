@@ -24,3 +24,5 @@ pub mod MayStandLaw
 pub mod Buffer
 pub mod SampleParts
 pub mod FlipFlop
+pub mod DefinedLaw
+pub mod ProbesLaw

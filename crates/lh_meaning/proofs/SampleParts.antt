@@ -1,5 +1,5 @@
 -- Small files with edges of blocks, calls, parts of signals and registers, and their traces.
-use Rattle.std.specs.Prelude.{◌≡◌, ℕ, List, [], ◌∷◌, map, Bool, true, false, Option, Some, None, codes, refl}
+use Rattle.std.specs.Prelude.{◌≡◌, ℕ, List, [], ◌∷◌, Some, None, codes, refl}
 use Rattle.std.specs.Fmt.{digits}
 use Rattle.lh_time.specs.Due.{instant}
 use Rattle.lh_types.specs.Types.{TypeTree, int_type, tuple_type, signal_type, row_of}
@@ -9,8 +9,8 @@ use Rattle.lh_types.specs.ApplyInt.{integer_row, row_width}
 use Rattle.lh_types.specs.History.{bits_at}
 use Rattle.lh_types.specs.declared.op.Op.TheVariants as op
 use Rattle.lh_unit.specs.declared.inst.UnitKind.TheVariants as kind
-use Rattle.lh_unit.specs.declared.inst.Mode.TheVariants.{Rise, Both, High, Low}
-use Rattle.lh_unit.specs.Contents.{OperandText, const_text, pure_text, sig_text, prb_text, drv_text, reg_text, child_text, call_text, phi_text, br_text, wait_text, halt_text, ret_text, LineText, ItemText, unit_text}
+use Rattle.lh_unit.specs.declared.inst.Mode.TheVariants.{Rise, Both, Low}
+use Rattle.lh_unit.specs.Contents.{OperandText, const_text, pure_text, sig_text, prb_text, drv_text, reg_text, child_text, call_text, phi_text, br_text, wait_text, halt_text, ret_text, ItemText, unit_text}
 use Rattle.lh_unit.specs.Activation.{activate}
 use Rattle.lh_unit.specs.Pass.{pass, probes}
 use Rattle.lh_unit.specs.Design.{visit, design_of, refusal_of}

@@ -4,3 +4,4 @@ pub mod Replacing
 pub mod Frames
 pub mod Wishes
 pub mod FirstFault
+pub mod Probes

@@ -6,6 +6,7 @@ ghost use Rattle.lh_meaning.specs.Values.{ValueComputes, OneValue, ValueOfDue, B
 ghost use Rattle.lh_meaning.specs.Wishes.{WishExt, LaterDriveReplaces, ActsInOrder, HistoryIsMap};
 ghost use Rattle.lh_meaning.specs.FirstFault.{OneFirstFault, FaultlessHasNone};
 ghost use Rattle.lh_meaning.specs.Frames.{NextComputes, BitsStay, TraceIsPrefix, TraceIsWithin, EqualSameTrace, SameTraceTurns, SameTraceLinks};
+ghost use Rattle.lh_meaning.specs.Probes.{ReadValuesFit};
 ghost use Rattle.lh_meaning.specs.Replacing.{ReplacedSameTrace};
 
 /// An activation is a list of executed instructions. The computing form finds it, there is at most
@@ -44,6 +45,11 @@ pub fn history_law()
 pub fn first_fault_law()
     ensures one { OneFirstFault }
     ensures none { FaultlessHasNone }
+{}
+
+/// A value that is read from bits is of the type, whatever the bits are: so what a probe gives is always of its type.
+pub fn probe_law()
+    ensures { ReadValuesFit }
 {}
 
 /// The next instant is the least later one at which a wish is due or a process wakes by itself.
