@@ -79,7 +79,7 @@ pub record Account (words : List (List ℕ)) (bytes : List ℕ) (ended : Status)
   pub log_prefix : IsPrefix parts.log_part log_text
   pub in_order : (parts.out_part ≡ out_text) ⊎ (parts.log_part ≡ [])
   pub line_prefix : IsPrefix parts.line (status_line ended)
-  pub line_whole : (Faulted log → ⊥) → parts.line ≡ status_line ended
+  pub line_whole : ¬ Faulted log → parts.line ≡ status_line ended
   pub out_gained : Gained out parts.out_part
   pub log_gained : Gained log (parts.log_part ++ parts.line)
   pub log_faults : (log.was_faults ≤ parts.log_faults) × (parts.log_faults ≤ log.faults)

@@ -66,7 +66,7 @@ pub fn run<S: Source, O: Sink, L: Sink>(
     // The result by the words and the bytes of the source, and what came to the sinks.
     ensures account { OfSource (S.left src.old) (λ bytes. Account words.now bytes result (use_of (O.written out.old) (O.written out.new) (O.faults out.old) (O.faults out.new)) (use_of (L.written log.old) (L.written log.new) (L.faults log.old) (L.faults log.new))) }
     ensures one_result { (bytes : List ℕ) → HasOneResult words.now bytes }
-    ensures complete { IfSome (S.left src.old) (λ bytes. (Rose (S.faults src.old) (S.faults src.new) → ⊥) → (Rose (O.faults out.old) (O.faults out.new) → ⊥) → (Rose (L.faults log.old) (L.faults log.new) → ⊥) → IsResultOrNoMemory words.now bytes result) }
+    ensures complete { IfSome (S.left src.old) (λ bytes. ¬ Rose (S.faults src.old) (S.faults src.new) → ¬ Rose (O.faults out.old) (O.faults out.new) → ¬ Rose (L.faults log.old) (L.faults log.new) → IsResultOrNoMemory words.now bytes result) }
 
     // Usage comes by the words alone, with nothing read.
     ensures usage { (result ≡ Status.Usage) ↔ HasNoForm words.now }
