@@ -78,8 +78,8 @@ pub At-again : (old now : Arena) (u : UnitId) (done : List ArgText) (a : ArgText
 At-again old now u done a more w h =
     let t = next_unit old now u done (λ t. defines_value a.name t ≡ true) w h in
     last_unit-has (λ x. args_again x ((done ++ a ∷ []) ++ more) ≡ true) (last_unit (contents old)) t.0 t.1
-        (args_again-both (done ++ a ∷ []) more t.0
-        ∙ ap (λ b. b || args_again (with_args (done ++ a ∷ []) t.0) more) (args_again-push done a t.0 ∙ ap (λ b. args_again t.0 done || b) t.2 ∙ or_true (args_again t.0 done)))
+    (args_again-both (done ++ a ∷ []) more t.0
+    ∙ ap (λ b. b || args_again (with_args (done ++ a ∷ []) t.0) more) (args_again-push done a t.0 ∙ ap (λ b. args_again t.0 done || b) t.2 ∙ or_true (args_again t.0 done)))
 
 -- the parameters up to the next one
 pub done_next : (output : Bool) (ps : List TypedName) (i : ℕ) (p : TypedName) → i < length ps → p ≡ get_or ps i p → map (arg_of output) (take (i + 1) ps) ≡ map (arg_of output) (take i ps) ++ arg_of output p ∷ []
@@ -109,18 +109,20 @@ adds-both (Ok _) old mid new u xs ys a b =
     let t = last_unit-is (last_unit (contents old)) a.0 in
     let v = last_unit-is (last_unit (contents mid)) b.0 in
     let e : last_unit (contents mid) ≡ Some (with_args xs t.0) = ap last_unit a.1 ∙ last_unit-change (with_args xs) (contents old) t.0 t.1 in
-    let same : v.0 ≡ with_args xs t.0 = same_last (last_unit (contents mid)) v.0 (with_args xs t.0) v.1 e in
-    (last_unit-has (λ x. args_again x (xs ++ ys) ≡ false) (last_unit (contents old)) t.0 t.1
-        (args_again-both xs ys t.0 ∙ ap (λ b. b || args_again (with_args xs t.0) ys) t.2 ∙ ap (λ x. args_again x ys) (sym same) ∙ v.2),
-     b.1 ∙ ap (change_last (with_args ys)) a.1 ∙ change_last-twice (with_args xs) (with_args ys) (with_args (xs ++ ys)) (contents old) t.0 t.1 (with_args-both xs ys t.0),
-     b.2, b.3)
+    let same : v.0 ≡ with_args xs t.0 = same_last (last_unit (contents mid)) v.0 (with_args xs t.0) v.1 e in (
+      last_unit-has (λ x. args_again x (xs ++ ys) ≡ false) (last_unit (contents old)) t.0 t.1
+          (args_again-both xs ys t.0 ∙ ap (λ b. b || args_again (with_args xs t.0) ys) t.2 ∙ ap (λ x. args_again x ys) (sym same) ∙ v.2),
+      b.1 ∙ ap (change_last (with_args ys)) a.1 ∙ change_last-twice (with_args xs) (with_args ys) (with_args (xs ++ ys)) (contents old) t.0 t.1 (with_args-both xs ys t.0),
+      b.2,
+      b.3,
+    )
 adds-both (Err line.Syntax) old mid new u xs ys a b =
     let t = last_unit-is (last_unit (contents old)) a.0 in
     let v = last_unit-is (last_unit (contents mid)) b in
     let e : last_unit (contents mid) ≡ Some (with_args xs t.0) = ap last_unit a.1 ∙ last_unit-change (with_args xs) (contents old) t.0 t.1 in
     let same : v.0 ≡ with_args xs t.0 = same_last (last_unit (contents mid)) v.0 (with_args xs t.0) v.1 e in
     last_unit-has (λ x. args_again x (xs ++ ys) ≡ true) (last_unit (contents old)) t.0 t.1
-        (args_again-both xs ys t.0 ∙ ap (λ b. args_again t.0 xs || b) (ap (λ x. args_again x ys) (sym same) ∙ v.2) ∙ or_true (args_again t.0 xs))
+    (args_again-both xs ys t.0 ∙ ap (λ b. args_again t.0 xs || b) (ap (λ x. args_again x ys) (sym same) ∙ v.2) ∙ or_true (args_again t.0 xs))
 adds-both (Err line.OutOfMemory) old mid new u xs ys a b = tt
 adds-both (Err line.UnitTooLarge) old mid new u xs ys a b = absurd b
 adds-both (Err line.DuplicateName) old mid new u xs ys a b = absurd b
@@ -153,10 +155,13 @@ of_begun u old mid n k P b h =
     subst P (begun_unit (contents old) (new_unit n k) t.0 (ap last_unit (sym b.1) ∙ t.1)) t.2
 
 pub heads-ok : (u : UnitId) (old mid new : Arena) (n : UnitName) (k : UnitKind) (args : List ArgText) → Begins (Ok u) old mid n k → AddsArgs (Ok tt) mid new u args → Heads (Ok u) old new n k args
-heads-ok u old mid new n k args b a =
-    (b.0, of_begun u old mid n k (λ t. args_again t args ≡ false) b a.0,
-     a.1 ∙ ap (change_last (with_args args)) b.1 ∙ change_last-push (with_args args) (contents old) (new_unit n k),
-     a.2, a.3)
+heads-ok u old mid new n k args b a = (
+  b.0,
+  of_begun u old mid n k (λ t. args_again t args ≡ false) b a.0,
+  a.1 ∙ ap (change_last (with_args args)) b.1 ∙ change_last-push (with_args args) (contents old) (new_unit n k),
+  a.2,
+  a.3,
+)
 
 pub heads-err : (e : LineFault) (u : UnitId) (old mid new : Arena) (n : UnitName) (k : UnitKind) (args : List ArgText) → Begins (Ok u) old mid n k → AddsArgs (Err e) mid new u args → Heads (Err e) old new n k args
 heads-err line.Syntax u old mid new n k args b a = inr (of_begun u old mid n k (λ t. args_again t args ≡ true) b a)

@@ -7,8 +7,8 @@ use Rattle.lh_unit.specs.Reads.{State, start, BadKind, syntax, Reads, FirstBad}
 use Rattle.lh_read.specs.declared.build.LineFault.{LineFault}
 use Rattle.lh_read.specs.declared.build.LineFault.TheVariants as line
 use Rattle.lh_read.specs.declared.build.Reader.{Reader}
-use Rattle.lh_read.specs.declared.read.TextFault.{TextFault}
-use Rattle.lh_read.specs.declared.read.TextFault.TheVariants.{Syntax, UnitTooLarge, DuplicateName, OutOfMemory}
+use Rattle.lh_read.specs.declared.TextFault.{TextFault}
+use Rattle.lh_read.specs.declared.TextFault.TheVariants.{Syntax, UnitTooLarge, DuplicateName, OutOfMemory}
 use Rattle.lh_read.specs.Steps.{step_line, or_fault, at_end, read_lines, read_of}
 use Rattle.lh_read.specs.Building.{IsInOrder, Steps, state_of}
 use Rattle.lh_read.specs.Reading.{Gives, Names, Answers, ReadsOnlyAs, HasFirstBad, ReadsOrIsBad, text_fault}
@@ -85,13 +85,20 @@ pub reads-or_bad : (text : List ℕ) → ReadsOrIsBad text
 reads-or_bad text = by (read_of text) refl
   where
     by : (o : Result (List ItemText) (ℕ × BadKind)) → read_of text ≡ o → ReadsOrIsBad text
-    by (Ok items) e = inl (items, record {
-      reads = read_of-sound text items e;
-      only = λ others w. ok_inj (read_of text) others items (read_of-again text others w) e;
-      no_fault = λ n why w. not_both (read_of text) items (n, why) e (fault-read_of text n why w);
-    })
-    by (Err f) e = inr (f.0, f.1, record {
-      bad = read_of-fault text f.0 f.1 e;
-      only = λ m other w. let g = err_inj (read_of text) (m, other) f (fault-read_of text m other w) e in (ap (λ x. x.0) g, ap (λ x. x.1) g);
-      no_items = λ items w. not_both (read_of text) items f (read_of-again text items w) e;
-    })
+    by (Ok items) e = inl (
+      items,
+      record {
+        reads = read_of-sound text items e;
+        only = λ others w. ok_inj (read_of text) others items (read_of-again text others w) e;
+        no_fault = λ n why w. not_both (read_of text) items (n, why) e (fault-read_of text n why w);
+      },
+    )
+    by (Err f) e = inr (
+      f.0,
+      f.1,
+      record {
+        bad = read_of-fault text f.0 f.1 e;
+        only = λ m other w. let g = err_inj (read_of text) (m, other) f (fault-read_of text m other w) e in (ap (λ x. x.0) g, ap (λ x. x.1) g);
+        no_items = λ items w. not_both (read_of text) items f (read_of-again text items w) e;
+      },
+    )

@@ -55,9 +55,9 @@ unit_name_at-sound _ r p = cc
 
 unit_name_at-again : (n : UnitName) (t : Lexeme) (ts : List Lexeme) → SpellsUnitName n t → unit_name_at (t ∷ ts) ≡ Some (n, ts)
 unit_name_at-again n t ts s = elim s [
-      inl h ↦ ap (λ x. unit_name_at (x ∷ ts)) h.1 ∙ (λ i. Some (record { sigil = sym h.0 i; name = n.name }, ts))
-      | inr h ↦ ap (λ x. unit_name_at (x ∷ ts)) h.1 ∙ (λ i. Some (record { sigil = sym h.0 i; name = n.name }, ts))
-    ]
+  | inl h ↦ ap (λ x. unit_name_at (x ∷ ts)) h.1 ∙ (λ i. Some (record { sigil = sym h.0 i; name = n.name }, ts))
+  | inr h ↦ ap (λ x. unit_name_at (x ∷ ts)) h.1 ∙ (λ i. Some (record { sigil = sym h.0 i; name = n.name }, ts))
+]
 
 pub punct_at-inv : (b : ℕ) (ts us : List Lexeme) → punct_at b ts ≡ Some us → ts ≡ punct b ∷ us
 punct_at-inv b (punct c ∷ ts) us p = let g = guard (nat_eq c b) ts us p in let h : nat_eq c b ≡ true = g.0 in let e : c ≡ b = grind (arith, common_steps) in λ i. punct (e i) ∷ g.1 i
@@ -95,12 +95,14 @@ module _ {A : Type 0} (p : List Lexeme → Option (A × List Lexeme)) (P : A →
             let y : SpellsParts P (b ∷ bs) us vs = s us (b ∷ bs, vs) h in
             let z : SpellsParts P (a.0 ∷ b ∷ bs) ts vs = (us, x, y) in
             subst (SpellsParts P r.0 ts) w (subst (λ l. SpellsParts P l ts vs) e z)
+
         comma : (a : A × List Lexeme) → p ts ≡ Some a → (o : Option (List Lexeme)) → punct_at 44 a.1 ≡ o → comma_or_end (parts_at p k) a.0 a.1 o ≡ Some r
             → ((vs : List Lexeme) (q : List A × List Lexeme) → parts_at p k vs ≡ Some q → SpellsParts P q.0 vs q.1) → SpellsParts P r.0 ts r.1
         comma a f None g q s =
             let e : (a.0 ∷ []) ≡ r.0 = cc in let w : a.1 ≡ r.1 = cc in
             subst (SpellsParts P r.0 ts) w (subst (λ l. SpellsParts P l ts a.1) e (sound ts a f))
         comma a f (Some us) g q s = more a us f g (parts_at p k us) refl q s
+
         first : (o : Option (A × List Lexeme)) → p ts ≡ o → part_then (parts_at p k) o ≡ Some r
             → ((vs : List Lexeme) (q : List A × List Lexeme) → parts_at p k vs ≡ Some q → SpellsParts P q.0 vs q.1) → SpellsParts P r.0 ts r.1
         first None f q s = cc
@@ -112,6 +114,7 @@ module _ {A : Type 0} (p : List Lexeme → Option (A × List Lexeme)) (P : A →
         of_parts : (xs : List A) (us : List Lexeme) → SpellsParts P xs ts us → SpellsList P xs ts us
         of_parts [] us s = absurd s
         of_parts (x ∷ xs) us s = s
+
         by : (o : Option (List Lexeme)) → empty_or ts (parts_at p (length ts) ts) o ≡ Some r → SpellsList P r.0 ts r.1
         by None q = of_parts r.0 r.1 (parts_at-sound (length ts) ts r q)
         by (Some us) q = let f : [] ≡ r.0 = cc in let g : ts ≡ r.1 = cc in subst (λ l. SpellsList P l ts r.1) f g
@@ -272,9 +275,9 @@ unfolding ports_at gap_at brace_at
 ports_at-again args ts s =
     ap ports_at s.opened
     ∙ ap (λ o. o >>= λ ins. (gap_at ins.1 >>= λ b. (params_at b >>= λ outs. (brace_at outs.1 >>= λ _. Some (map input_of ins.0 ++ map output_of outs.0)))))
-        (params_at-again s.inputs s.first (punct 41 ∷ arrow ∷ punct 40 ∷ s.second) (arrow ∷ punct 40 ∷ s.second) s.spelled_inputs refl)
+    (params_at-again s.inputs s.first (punct 41 ∷ arrow ∷ punct 40 ∷ s.second) (arrow ∷ punct 40 ∷ s.second) s.spelled_inputs refl)
     ∙ ap (λ o. o >>= λ outs. (brace_at outs.1 >>= λ _. Some (map input_of s.inputs ++ map output_of outs.0)))
-        (params_at-again s.outputs s.second (punct 41 ∷ punct 123 ∷ []) (punct 123 ∷ []) s.spelled_outputs refl)
+    (params_at-again s.outputs s.second (punct 41 ∷ punct 123 ∷ []) (punct 123 ∷ []) s.spelled_outputs refl)
     ∙ ap Some (sym s.together)
 
 pub header_at-sound : (ts : List Lexeme) (i : LineItem) → header_at ts ≡ Some i → Spells ts i
@@ -356,9 +359,9 @@ negative-again n k h l =
 integer_at-again : (n b : ℕ) (ts : List Lexeme) → n ≤ 128 → SpellsInteger n b ts → integer_at n ts ≡ Some b
 unfolding integer_at
 integer_at-again n b ts h s = elim s [
-      inl p ↦ ap (integer_at n) p.1 ∙ ap (λ o. positive_bits n (small o)) p.2 ∙ positive-again n b h p.3
-      | inr p ↦ ap (integer_at n) p.2 ∙ ap (λ o. negative_bits n (small o)) p.3 ∙ negative-again n p.1 h p.4 ∙ ap Some (sym p.5)
-    ]
+  | inl p ↦ ap (integer_at n) p.1 ∙ ap (λ o. positive_bits n (small o)) p.2 ∙ positive-again n b h p.3
+  | inr p ↦ ap (integer_at n) p.2 ∙ ap (λ o. negative_bits n (small o)) p.3 ∙ negative-again n p.1 h p.4 ∙ ap Some (sym p.5)
+]
 
 -- instructions
 const_at-sound : (ts us : List Lexeme) (i : InstText) → ts ≡ word (codes "const") ∷ us → const_at us ≡ Some i → SpellsValue i ts
@@ -388,6 +391,7 @@ value_at-sound ts i p = by_const (word_at (codes "const") ts) refl p
     by_sig : (o : Option (List Lexeme)) → word_at (codes "sig") ts ≡ o → after_word o sig_at None ≡ Some i → SpellsValue i ts
     by_sig None e q = cc
     by_sig (Some us) e q = sig_at-sound ts us i (word_at-inv (codes "sig") ts us e) q
+
     by_const : (o : Option (List Lexeme)) → word_at (codes "const") ts ≡ o → after_word o const_at (after_word (word_at (codes "sig") ts) sig_at None) ≡ Some i → SpellsValue i ts
     by_const None e q = by_sig (word_at (codes "sig") ts) refl q
     by_const (Some us) e q = const_at-sound ts us i (word_at-inv (codes "const") ts us e) q

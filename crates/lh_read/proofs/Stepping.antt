@@ -101,7 +101,7 @@ pub header-taken : (items : List ItemText) (k : UnitKind) (n : UnitName) (args :
     → step (closed items) (header_item k n args None) ≡ Ok (opened (items ++ unit_text (with_args args (new_unit n k)) ∷ []))
 header-taken items k n args d a r =
     step-ok (closed items) (header_item k n args None) refl refl
-        (ap (λ b. (b || is_assert n) || args_repeat [] args) d ∙ ap (λ b. b || args_repeat [] args) a ∙ (sym (repeats n k args) ∙ r))
+    (ap (λ b. (b || is_assert n) || args_repeat [] args) d ∙ ap (λ b. b || args_repeat [] args) a ∙ (sym (repeats n k args) ∙ r))
     ∙ ap (λ u. Ok (opened (items ++ unit_text u ∷ []))) (headed n k args)
 
 -- instructions
@@ -122,8 +122,8 @@ pub inst-taken : (items : List ItemText) (t : UnitText) (l : LineText) → last_
     → step (opened items) (inst_item l) ≡ Ok (opened (change_last (with_line l) items))
 inst-taken items t l e k c d =
     step-ok (opened items) (inst_item l) (ap (λ p. may_stand p (inst_item l)) (place-entity items t e k))
-        (ap is_full e ∙ not_full (line_count t.blocks) c)
-        (ap (value_again l.result) e ∙ again-result l.result t ∙ d)
+    (ap is_full e ∙ not_full (line_count t.blocks) c)
+    (ap (value_again l.result) e ∙ again-result l.result t ∙ d)
 
 pub inst-large : (items : List ItemText) (t : UnitText) (l : LineText) → last_unit items ≡ Some t → line_count t.blocks ≡ 65536 → step (opened items) (inst_item l) ≡ Err syntax
 inst-large items t l e c = step-large (opened items) (inst_item l) (ap is_full e ∙ full (line_count t.blocks) c)

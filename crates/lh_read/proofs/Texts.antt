@@ -50,6 +50,7 @@ step_line-sound s l t p = lexed (lexemes l) refl p
     said ts e None f q = cc
     said ts e (Some i) f q = let w = step-sound s i t q in
         record { tokens = ts; lexed = e; item = i; spelled = item_at-sound ts i f; stands = w.stands; has_room = w.has_room; is_new = w.is_new; becomes = w.becomes }
+
     lexed : (o : Option (List Lexeme)) → lexemes l ≡ o → step_item s (item_of o) ≡ Ok t → Takes s l t
     lexed None e q = cc
     lexed (Some ts) e q = said ts e (item_at ts) refl q

@@ -34,7 +34,6 @@ impl From<NoMemory> for LineFault {
 
     ghost from_gives = { λ _ e. e ≡ OutOfMemory };
 
-
     fn from(_: NoMemory) -> LineFault {
         LineFault::OutOfMemory
     }
@@ -57,7 +56,12 @@ impl From<UnitFault> for LineFault {
 }
 
 /// The value of this name in a unit.
-fn value_named(alloc: Global, module: &mut Module, unit: UnitId, name: &NameText) -> Result<ValueId, NoMemory>
+fn value_named(
+    alloc: Global,
+    module: &mut Module,
+    unit: UnitId,
+    name: &NameText,
+) -> Result<ValueId, NoMemory>
     requires { unit.0 < unit_count module.old }
     ensures { FindsValue result module.old module.new unit name.now }
 {
@@ -70,7 +74,12 @@ fn value_named(alloc: Global, module: &mut Module, unit: UnitId, name: &NameText
 }
 
 /// Begins a unit.
-fn begin(alloc: Global, module: &mut Module, name: &UnitNameText, kind: UnitKind) -> Result<UnitId, LineFault>
+fn begin(
+    alloc: Global,
+    module: &mut Module,
+    name: &UnitNameText,
+    kind: UnitKind,
+) -> Result<UnitId, LineFault>
     ensures { Begins result module.old module.new (unit_name_of name.now) kind }
 {
     // A text of 64 MiB has fewer names than there are ids.
@@ -84,7 +93,13 @@ fn begin(alloc: Global, module: &mut Module, name: &UnitNameText, kind: UnitKind
 }
 
 /// Adds arguments to the open unit.
-fn add_args(alloc: Global, module: &mut Module, unit: UnitId, params: &[Param], output: bool) -> Result<(), LineFault>
+fn add_args(
+    alloc: Global,
+    module: &mut Module,
+    unit: UnitId,
+    params: &[Param],
+    output: bool,
+) -> Result<(), LineFault>
     requires within { unit.0 < unit_count module.old }
     requires opened { IsOpen module.old unit }
     requires begun { OfOpen module.old (λ _. ⊤) }
@@ -99,7 +114,12 @@ fn add_args(alloc: Global, module: &mut Module, unit: UnitId, params: &[Param], 
 }
 
 /// Adds the arguments of an entity to the open unit.
-fn add_ports(alloc: Global, module: &mut Module, unit: UnitId, ports: &Ports) -> Result<(), LineFault>
+fn add_ports(
+    alloc: Global,
+    module: &mut Module,
+    unit: UnitId,
+    ports: &Ports,
+) -> Result<(), LineFault>
     requires within { unit.0 < unit_count module.old }
     requires opened { IsOpen module.old unit }
     requires begun { OfOpen module.old (λ _. ⊤) }
@@ -110,7 +130,13 @@ fn add_ports(alloc: Global, module: &mut Module, unit: UnitId, ports: &Ports) ->
 }
 
 /// Begins a unit with its arguments.
-fn head(alloc: Global, module: &mut Module, name: &UnitNameText, kind: UnitKind, ports: &Ports) -> Result<UnitId, LineFault>
+fn head(
+    alloc: Global,
+    module: &mut Module,
+    name: &UnitNameText,
+    kind: UnitKind,
+    ports: &Ports,
+) -> Result<UnitId, LineFault>
     ensures { Heads result module.old module.new (unit_name_of name.now) kind (ports_of ports.now) }
 {
     let unit = begin(alloc, module, name, kind)?;
@@ -126,7 +152,12 @@ pub struct Reader {
 }
 
 /// The operand, with an id in place of its name.
-fn operand(alloc: Global, module: &mut Module, unit: UnitId, operand: Operand) -> Result<Typed, NoMemory>
+fn operand(
+    alloc: Global,
+    module: &mut Module,
+    unit: UnitId,
+    operand: Operand,
+) -> Result<Typed, NoMemory>
     requires { unit.0 < unit_count module.old }
     ensures { IfOk result (λ t. OperandPlaced module.old module.new unit t (operand_of operand.entry)) }
 {
@@ -138,7 +169,12 @@ fn operand(alloc: Global, module: &mut Module, unit: UnitId, operand: Operand) -
 }
 
 /// The instruction, with ids in place of names.
-fn instruction(alloc: Global, module: &mut Module, unit: UnitId, inst: InstSyntax) -> Result<Inst, NoMemory>
+fn instruction(
+    alloc: Global,
+    module: &mut Module,
+    unit: UnitId,
+    inst: InstSyntax,
+) -> Result<Inst, NoMemory>
     requires { unit.0 < unit_count module.old }
     ensures { IfOk result (λ i. InstPlacedAs module.old module.new unit i (inst_of inst.entry)) }
 {
@@ -149,7 +185,12 @@ fn instruction(alloc: Global, module: &mut Module, unit: UnitId, inst: InstSynta
 }
 
 /// The result, with an id in place of its name.
-fn result_named(alloc: Global, module: &mut Module, unit: UnitId, name: Option<NameText>) -> Result<Option<ValueId>, NoMemory>
+fn result_named(
+    alloc: Global,
+    module: &mut Module,
+    unit: UnitId,
+    name: Option<NameText>,
+) -> Result<Option<ValueId>, NoMemory>
     requires { unit.0 < unit_count module.old }
     ensures { IfOk result (λ r. ResultPlaced module.old module.new unit r name.entry) }
 {
@@ -185,7 +226,12 @@ impl Reader {
         }
     }
 
-    fn take_entity(&mut self, alloc: Global, name: &UnitNameText, ports: &Ports) -> Result<(), LineFault>
+    fn take_entity(
+        &mut self,
+        alloc: Global,
+        name: &UnitNameText,
+        ports: &Ports,
+    ) -> Result<(), LineFault>
         requires { IsInOrder self.old }
         ensures step { Steps result (step (state_of self.old) (header_item UnitKind.Entity (unit_name_of name.now) (ports_of ports.now) None)) (state_of self.new) }
         ensures order { OnOk result (IsInOrder self.new) }
@@ -201,7 +247,12 @@ impl Reader {
         Ok(())
     }
 
-    fn take_inst(&mut self, alloc: Global, name: Option<NameText>, inst: InstSyntax) -> Result<(), LineFault>
+    fn take_inst(
+        &mut self,
+        alloc: Global,
+        name: Option<NameText>,
+        inst: InstSyntax,
+    ) -> Result<(), LineFault>
         requires { IsInOrder self.old }
         ensures step { Steps result (step (state_of self.old) (inst_item (record { result = name.entry; inst = inst_of inst.entry }))) (state_of self.new) }
         ensures order { OnOk result (IsInOrder self.new) }

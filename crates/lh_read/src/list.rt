@@ -20,7 +20,11 @@ pub trait Part<'a>: Sized + Drop {
 }
 
 /// Parts by comma before a closing mark, or none, and what follows them.
-pub fn list<'a, P: Part<'a>>(alloc: Global, tokens: &Tokens<'a>, close: u8) -> Result<Option<(ListOf<P>, Tokens<'a>)>, NoMemory>
+pub fn list<'a, P: Part<'a>>(
+    alloc: Global,
+    tokens: &Tokens<'a>,
+    close: u8,
+) -> Result<Option<(ListOf<P>, Tokens<'a>)>, NoMemory>
     ensures { IfOk result (λ r. r ≡ list_at P.part_at close tokens.now) }
 {
     if tokens.punct(close).is_some() {
@@ -30,7 +34,10 @@ pub fn list<'a, P: Part<'a>>(alloc: Global, tokens: &Tokens<'a>, close: u8) -> R
 }
 
 /// One or more parts by comma.
-fn parts<'a, P: Part<'a>>(alloc: Global, tokens: &Tokens<'a>) -> Result<Option<(ListOf<P>, Tokens<'a>)>, NoMemory>
+fn parts<'a, P: Part<'a>>(
+    alloc: Global,
+    tokens: &Tokens<'a>,
+) -> Result<Option<(ListOf<P>, Tokens<'a>)>, NoMemory>
     ensures { IfOk result (λ r. r ≡ parts_at P.part_at (length tokens.now) tokens.now) }
 {
     let mut parts = ListOf::new(alloc);

@@ -74,7 +74,11 @@ fn positive(width: u32, k: u128) -> Option<u128>
     requires high { width ≤ 128 }
     ensures { result ≡ positive_bits width (Some k) }
 {
-    if width == 128 || k < 1 << width { Some(k) } else { None }
+    if width == 128 || k < 1 << width {
+        Some(k)
+    } else {
+        None
+    }
 }
 
 /// Half of the number of values of this width.

@@ -51,7 +51,10 @@ impl<'a> Part<'a> for Param<'a> {
     ghost part_at = { param_at };
 
     #[tactic(auto, unfolding(crate::specs::Items::param_at))]
-    fn part(alloc: Global, tokens: &Tokens<'a>) -> Result<Option<(Param<'a>, Tokens<'a>)>, NoMemory> {
+    fn part(
+        alloc: Global,
+        tokens: &Tokens<'a>,
+    ) -> Result<Option<(Param<'a>, Tokens<'a>)>, NoMemory> {
         let Some((ty, rest)) = signal(alloc, tokens)? else {
             return Ok(None);
         };

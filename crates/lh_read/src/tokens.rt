@@ -219,6 +219,10 @@ impl<'a> Tokens<'a> {
     pub fn end(&self) -> Option<()>
         ensures { result ≡ end_at self.now }
     {
-        if self.tokens.is_empty() { Some(()) } else { None }
+        if self.tokens.is_empty() {
+            Some(())
+        } else {
+            None
+        }
     }
 }

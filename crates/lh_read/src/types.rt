@@ -18,7 +18,11 @@ fn int_width(word: &[u8]) -> Option<u32>
         return None;
     }
     let n = number(digits)?;
-    if 1 <= n && n <= 128 { Some(n as u32) } else { None }
+    if 1 <= n && n <= 128 {
+        Some(n as u32)
+    } else {
+        None
+    }
 }
 
 /// The width of the type `iN` in front, and what follows it.

@@ -18,8 +18,8 @@ returns-in_err-add_arg c =
     let same : arg_text (naming mid c.args.unit.0) (record { value = c.in_ok-value.value; ty = c.in_ok-ty.ty; output = c.args.output }) ≡ f p = λ j. record { name = name j; ty = ty j; output = c.args.output } in
     let all : map f ps ≡ (map f (take i ps) ++ f p ∷ []) ++ map f (drop (i + 1) ps) = done_rest c.args.output ps (i + 1) ∙ ap (λ xs. xs ++ map f (drop (i + 1) ps)) (done_next c.args.output ps i p c.loop-param-test.true c.param-item.is) in
     adds-err c.from_residual-in_err-add_arg.result (fault_of e) c.args.module.now c.add_arg.new.self c.args.unit (map f ps) c.from_residual-in_err-add_arg.ensures.1
-        (args-refused c.args.module.now mid c.add_arg.new.self c.args.unit (map f (take i ps)) (f p) _ (map f ps) (map f (drop (i + 1) ps)) e
-            (At-grown c.args.module.now c.loop-param.module mid c.args.unit _ c.loop-param.invariant c.in_ok-value.ensures.0) same all c.in_err-add_arg.ensures)
+    (args-refused c.args.module.now mid c.add_arg.new.self c.args.unit (map f (take i ps)) (f p) _ (map f ps) (map f (drop (i + 1) ps)) e
+    (At-grown c.args.module.now c.loop-param.module mid c.args.unit _ c.loop-param.invariant c.in_ok-value.ensures.0) same all c.in_err-add_arg.ensures)
 
 pub loop-param-preserved : goal.loop-param-preserved
 loop-param-preserved c =
@@ -30,5 +30,5 @@ loop-param-preserved c =
     let same : given ≡ f p = λ j. record { name = name j; ty = ty j; output = c.args.output } in
     let done : map f (take i ps) ++ given ∷ [] ≡ map f (take (i + 1) ps) = ap (λ a. map f (take i ps) ++ a ∷ []) same ∙ sym (done_next c.args.output ps i p c.loop-param-test.true c.param-item.is) in
     subst (At c.args.module.now c.add_arg.new.self c.args.unit) done
-        (At-next c.args.module.now mid c.add_arg.new.self c.args.unit (map f (take i ps)) given
-            (At-grown c.args.module.now c.loop-param.module mid c.args.unit _ c.loop-param.invariant c.in_ok-value.ensures.0) c.in_ok-add_arg.ensures.0 c.in_ok-add_arg.ensures.1)
+    (At-next c.args.module.now mid c.add_arg.new.self c.args.unit (map f (take i ps)) given
+    (At-grown c.args.module.now c.loop-param.module mid c.args.unit _ c.loop-param.invariant c.in_ok-value.ensures.0) c.in_ok-add_arg.ensures.0 c.in_ok-add_arg.ensures.1)

@@ -10,7 +10,7 @@ returns-in_err-add_args c =
     let p = c.args.ports.now in let e = c.in_err-add_args.field-0.0 in
     let w = subst (λ xs. AddsArgs (Err e) c.args.module.now c.add_args.new.module c.args.unit (map input_of xs)) c.as_slice.ensures c.in_err-add_args.ensures in
     adds-err c.from_residual.result e c.args.module.now c.add_args.new.module c.args.unit (ports_of p) c.from_residual.ensures.1
-        (adds-first e c.args.module.now c.add_args.new.module c.args.unit (map input_of p.inputs) (map output_of p.outputs) w)
+    (adds-first e c.args.module.now c.add_args.new.module c.args.unit (map input_of p.inputs) (map output_of p.outputs) w)
 
 pub add_args-requires-2-clause-begun : goal.add_args-requires-2-clause-begun
 add_args-requires-2-clause-begun c = adds-begun c.args.module.now c.add_args.new.module c.args.unit _ c.in_ok-add_args.ensures

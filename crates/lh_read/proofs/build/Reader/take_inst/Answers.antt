@@ -9,7 +9,7 @@ use Rattle.lh_read.specs.FaultOf.{fault_of}
 use Rattle.lh_read.specs.Building.{InUnit}
 use Rattle.lh_read.proofs.Stepping.{inst-outside}
 use Rattle.lh_read.proofs.Readers.{state-closed, state-open}
-use Rattle.lh_read.proofs.Lines.{line-asked, grown, line-taken, line-refused, line-in_unit, steps-err}
+use Rattle.lh_read.proofs.Adding.{line-asked, grown, line-taken, line-refused, line-in_unit, steps-err}
 use Rattle.lh_read.proofs.build.Reader.take_inst.Goals as goal
 
 pub returns-in_default-clause-step : goal.returns-in_default-clause-step
@@ -20,7 +20,7 @@ returns-in_err-add_inst-clause-step c =
     let a = line-asked c.args.self.now c.in-Some.unit c.result_named.new.module c.instruction.new.module c.in_ok-value.value c.in_ok-inst.inst c.args.name (inst_of c.args.inst) c.requires c.in-Some.is c.in_ok-value.ensures c.in_ok-inst.ensures in
     let f = c.in_err-add_inst.field-0.0 in
     steps-err c.from_residual-in_err-add_inst.result (fault_of f) _ _ c.from_residual-in_err-add_inst.ensures.1
-        (line-refused c.args.self.now c.in-Some.unit c.instruction.new.module c.add_inst.new.self _ _ f _ a c.in_err-add_inst.ensures)
+    (line-refused c.args.self.now c.in-Some.unit c.instruction.new.module c.add_inst.new.self _ _ f _ a c.in_err-add_inst.ensures)
 
 pub returns-clause-step : goal.returns-clause-step
 returns-clause-step c =
