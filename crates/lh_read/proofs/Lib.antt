@@ -7,7 +7,7 @@ pub mod Halves
 pub mod LastUnit
 pub mod Stepping
 pub mod Readers
-pub mod Lines
+pub mod Adding
 pub mod Args
 pub mod Headers
 pub mod Splitting

@@ -7,8 +7,8 @@ use Rattle.lh_unit.specs.Reads.{State, start, BadKind, syntax, Reads, FirstBad}
 use Rattle.lh_read.specs.declared.build.LineFault.{LineFault}
 use Rattle.lh_read.specs.declared.build.LineFault.TheVariants as line
 use Rattle.lh_read.specs.declared.build.Reader.{Reader}
-use Rattle.lh_read.specs.declared.read.TextFault.{TextFault}
-use Rattle.lh_read.specs.declared.read.TextFault.TheVariants.{Syntax, UnitTooLarge, DuplicateName, OutOfMemory}
+use Rattle.lh_read.specs.declared.TextFault.{TextFault}
+use Rattle.lh_read.specs.declared.TextFault.TheVariants.{Syntax, UnitTooLarge, DuplicateName, OutOfMemory}
 use Rattle.lh_read.specs.Steps.{step_line, or_fault, at_end, read_lines, read_of}
 use Rattle.lh_read.specs.Building.{IsInOrder, Steps, state_of}
 use Rattle.lh_read.specs.Reading.{Gives, Names, Answers, ReadsOnlyAs, HasFirstBad, ReadsOrIsBad, text_fault}

@@ -5,8 +5,8 @@ use Rattle.lh_unit.specs.Arena.{Arena, contents}
 use Rattle.lh_unit.specs.Reads.{BadKind, syntax, unit_too_large, duplicate_name, Reads, FirstBad}
 use Rattle.lh_read.specs.declared.build.LineFault.{LineFault}
 use Rattle.lh_read.specs.declared.build.LineFault.TheVariants as line
-use Rattle.lh_read.specs.declared.read.TextFault.{TextFault}
-use Rattle.lh_read.specs.declared.read.TextFault.TheVariants.{Syntax, UnitTooLarge, DuplicateName, OutOfMemory}
+use Rattle.lh_read.specs.declared.TextFault.{TextFault}
+use Rattle.lh_read.specs.declared.TextFault.TheVariants.{Syntax, UnitTooLarge, DuplicateName, OutOfMemory}
 
 -- the module with these contents, or want of memory
 abbrev pub Gives : Result Arena TextFault → List ItemText → Type 0

@@ -1,11 +1,96 @@
 //! Reads the text of a file into a module.
+//!
+//! `read` goes line by line: the tokens of a line, what they say, and the module that takes it.
 #![tactic(auto)]
 
-pub mod build;
-pub mod list;
-pub mod numbers;
-pub mod parse;
-pub mod read;
-pub mod syntax;
-pub mod tokens;
-pub mod types;
+ghost use Rattle.std.specs.Prelude.{◌≡◌, ◌≤◌, ℕ, List, length, IfOk, IfErr};
+ghost use Rattle.lh_unit.specs.Contents.{ItemText};
+ghost use Rattle.lh_unit.specs.Arena.{contents};
+ghost use Rattle.lh_unit.specs.Reads.{Reads};
+ghost use Rattle.lh_read.specs.Steps.{read_of};
+ghost use Rattle.lh_read.specs.Reading.{Gives, Names, Answers, ReadsOrIsBad, text_fault};
+
+mod build;
+mod lines;
+mod list;
+mod numbers;
+mod parse;
+mod syntax;
+mod tokens;
+mod types;
+
+use crate::build::{LineFault, Reader};
+use crate::lines::{next_line, read_line};
+use lh_unit::module::Module;
+use std::alloc::Global;
+
+/// Why a text is not read: its first faulty line, counted from 1, with its first fault.
+#[derive(Clone, Copy, Debug, PartialEq, Eq)]
+pub enum TextFault {
+    /// The line spells nothing in its place; or it is the line after the last, and a unit is open there.
+    Syntax(u32),
+    /// The line is the 65,537th instruction of its unit.
+    UnitTooLarge(u32),
+    /// The line defines a name that is defined.
+    DuplicateName(u32),
+    /// Memory ran out.
+    OutOfMemory,
+}
+
+/// A fault of the line of this number.
+fn fault_at(number: u32, fault: LineFault) -> TextFault
+    ensures { result ≡ text_fault number fault }
+{
+    match fault {
+        LineFault::Syntax => TextFault::Syntax(number),
+        LineFault::UnitTooLarge => TextFault::UnitTooLarge(number),
+        LineFault::DuplicateName => TextFault::DuplicateName(number),
+        LineFault::OutOfMemory => TextFault::OutOfMemory,
+    }
+}
+
+/// Reads the text of a file into a module, in a time and a memory that grow as its length.
+///
+/// A file is a list of lines, each ended by byte 10, and each line says at most one item. The answer is the module of
+/// these items, or the first faulty line; `OutOfMemory` says nothing of the text.
+pub fn read(alloc: Global, text: &[u8]) -> Result<Module, TextFault>
+    requires { length text.now ≤ 67108864 }
+    // What is read reads so.
+    ensures ok { IfOk result (λ m. Reads text.now (contents m)) }
+    // What reads is read, unless memory runs out.
+    ensures only { (items : List ItemText) → Reads text.now items → Gives result items }
+    // A fault names the first faulty line.
+    ensures fault { IfErr result (λ e. Names e text.now) }
+{
+    read_exact(alloc, text)
+}
+
+/// Reads the text of a file as its definition computes it.
+fn read_exact(alloc: Global, text: &[u8]) -> Result<Module, TextFault>
+    requires { length text.now ≤ 67108864 }
+    ensures { Answers result (read_of text.now) }
+{
+    let mut reader = Reader::new(alloc);
+    let mut rest = text;
+    let mut number: u32 = 1;
+    while !rest.is_empty() {
+        let (first, more) = next_line(rest);
+        if let Err(fault) = read_line(alloc, &mut reader, first) {
+            return Err(fault_at(number, fault));
+        }
+        rest = more;
+        number += 1;
+    }
+    match reader.open {
+        Some(_) => Err(TextFault::Syntax(number)),
+        None => Ok(reader.module),
+    }
+}
+
+/// Every text reads as exactly one list of items, or has exactly one first faulty line, and never both.
+pub fn reading_law()
+    ensures { (text : List ℕ) → ReadsOrIsBad text }
+{}
+
+#[cfg(test)]
+mod tests;

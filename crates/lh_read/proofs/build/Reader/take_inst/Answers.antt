@@ -9,7 +9,7 @@ use Rattle.lh_read.specs.FaultOf.{fault_of}
 use Rattle.lh_read.specs.Building.{InUnit}
 use Rattle.lh_read.proofs.Stepping.{inst-outside}
 use Rattle.lh_read.proofs.Readers.{state-closed, state-open}
-use Rattle.lh_read.proofs.Lines.{line-asked, grown, line-taken, line-refused, line-in_unit, steps-err}
+use Rattle.lh_read.proofs.Adding.{line-asked, grown, line-taken, line-refused, line-in_unit, steps-err}
 use Rattle.lh_read.proofs.build.Reader.take_inst.Goals as goal
 
 pub returns-in_default-clause-step : goal.returns-in_default-clause-step

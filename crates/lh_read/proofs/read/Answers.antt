@@ -1,5 +1,5 @@
 use Rattle.lh_read.proofs.Progress.{told-ok, told-only, told-fault}
-use Rattle.lh_read.proofs.read.read.Goals as goal
+use Rattle.lh_read.proofs.read.Goals as goal
 
 pub returns-clause-ok : goal.returns-clause-ok
 returns-clause-ok c = told-ok c.read_exact.result c.args.text.now c.read_exact.ensures

@@ -1,5 +1,5 @@
 use Rattle.lh_read.proofs.Splitting.{lines-Some, lines-None}
-use Rattle.lh_read.proofs.read.next_line.Goals as goal
+use Rattle.lh_read.proofs.lines.next_line.Goals as goal
 
 pub returns-in-Some-clause-lines : goal.returns-in-Some-clause-lines
 returns-in-Some-clause-lines c = lines-Some c.args.text.now c.in-Some.i c.in-Some.ensures

@@ -1,6 +1,6 @@
 use Rattle.std.proofs.Common.{length}
 use Rattle.lh_read.proofs.Progress.{At}
-use Rattle.lh_read.proofs.read.read_exact.Given as goal
+use Rattle.lh_read.proofs.read_exact.Given as goal
 
 abbrev pub invariant-loop-rest : goal.invariant-loop-rest
 invariant-loop-rest l = At l.text l.rest l.number l.reader

@@ -1,5 +1,5 @@
 use Rattle.lh_read.proofs.Progress.{reads-or_bad}
-use Rattle.lh_read.proofs.read.reading_law.Goals as goal
+use Rattle.lh_read.proofs.reading_law.Goals as goal
 
 pub returns : goal.returns
 returns c = reads-or_bad

@@ -1,0 +1,50 @@
+//! The lines of a text, one after another.
+ghost use Rattle.std.specs.Prelude.{◌≡◌, ◌≤◌, ◌<◌, ◌==◌, ◌∷◌, length, position, OnOk};
+ghost use Rattle.lh_unit.specs.Lines.{lines_of};
+ghost use Rattle.lh_read.specs.Steps.{step_line};
+ghost use Rattle.lh_read.specs.Building.{IsInOrder, Steps, state_of};
+
+use crate::build::{LineFault, Reader};
+use crate::parse::item;
+use crate::tokens::Tokens;
+use lh_lex::{LexFault, line};
+use std::alloc::Global;
+
+/// Where the first line ends.
+fn newline(text: &[u8]) -> Option<usize>
+    ensures { result ≡ position (λ b. b == 10) text.now }
+{
+    text.iter().position(|b| *b == b'\n')
+}
+
+/// The first line without its end, and what follows it.
+pub fn next_line(text: &[u8]) -> (&[u8], &[u8])
+    requires { 0 < length text.now }
+    ensures lines { lines_of text.now ≡ result.0.now ∷ lines_of result.1.now }
+    ensures shorter { length result.1.now < length text.now }
+    ensures within { length result.0.now ≤ length text.now }
+{
+    match newline(text) {
+        Some(i) => (&text[..i], &text[i + 1..]),
+        None => (text, &text[text.len()..]),
+    }
+}
+
+/// Reads one line.
+#[tactic(auto, unfolding(crate::specs::Steps::step_line))]
+pub fn read_line(alloc: Global, reader: &mut Reader, text: &[u8]) -> Result<(), LineFault>
+    requires short { length text.now ≤ 67108864 }
+    requires order { IsInOrder reader.old }
+    ensures step { Steps result (step_line (state_of reader.old) text.now) (state_of reader.new) }
+    ensures order { OnOk result (IsInOrder reader.new) }
+{
+    let tokens = match line(alloc, text) {
+        Ok(tokens) => tokens,
+        Err(LexFault::BadByte(_)) => return Err(LineFault::Syntax),
+        Err(LexFault::OutOfMemory) => return Err(LineFault::OutOfMemory),
+    };
+    match item(alloc, &Tokens::new(text, tokens.as_slice()))? {
+        Some(said) => reader.take(alloc, said),
+        None => Err(LineFault::Syntax),
+    }
+}
