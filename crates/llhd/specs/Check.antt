@@ -2,8 +2,8 @@
 use Rattle.std.specs.Prelude.{ℕ, ◌≤◌, ◌<◌, List, [], Result, Ok, Err, length}
 use Rattle.lh_io.specs.declared.whole.ReadAllFault.{ReadAllFault}
 use Rattle.lh_io.specs.declared.whole.ReadAllFault.TheVariants as whole
-use Rattle.lh_read.specs.declared.read.TextFault.{TextFault}
-use Rattle.lh_read.specs.declared.read.TextFault.TheVariants as text
+use Rattle.lh_read.specs.declared.TextFault.{TextFault}
+use Rattle.lh_read.specs.declared.TextFault.TheVariants as text
 use Rattle.lh_unit.specs.Contents.{ItemText}
 use Rattle.lh_unit.specs.Reads.{Reads}
 use Rattle.lh_unit.specs.Canon.{canon}

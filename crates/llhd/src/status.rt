@@ -8,7 +8,7 @@ ghost use Rattle.llhd.specs.declared.status.Status.TheVariants.{WriteFault, OutO
 use itoa::Buffer;
 use lh_io::stream::{Failed, Sink};
 use lh_io::whole::{ReadAllFault, write_all};
-use lh_read::read::TextFault;
+use lh_read::TextFault;
 use lh_types::ty::NoMemory;
 
 const USAGE: &[u8] =

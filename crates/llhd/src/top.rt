@@ -11,7 +11,7 @@ use crate::status::Status;
 use lh_io::stream::{Sink, Source};
 use lh_io::whole::{read_all, write_all};
 use lh_print::print;
-use lh_read::read::read;
+use lh_read::read;
 use lh_types::list::TextList;
 use std::alloc::Global;
 
