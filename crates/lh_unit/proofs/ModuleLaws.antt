@@ -179,3 +179,6 @@ pub length-line_at_end : (l : LineText) (bs : List BlockText) → length (line_a
 length-line_at_end l [] = refl
 length-line_at_end l (b ∷ []) = refl
 length-line_at_end l (b ∷ c ∷ bs) = ap suc (length-line_at_end l (c ∷ bs))
+
+pub OfOpen-map : (a : Arena) (P Q : UnitText → Type 0) → ((t : UnitText) → P t → Q t) → OfOpen a P → OfOpen a Q
+OfOpen-map a P Q f h = let t = of_some (last_unit (contents a)) P h in OfOpen-from a Q t.0 t.1 (f t.0 t.2)

@@ -1,18 +1,15 @@
 //! A module made by its calls and read back, refusals, and the limit of a unit.
-ghost use Rattle.std.specs.Prelude.{◌≡◌, ◌<◌, ◌≤◌, length, IfOk, OnErr, MatchResult};
+ghost use Rattle.std.specs.Prelude.{◌≡◌, ◌<◌, length, IfOk, OnOk};
 ghost use Rattle.lh_unit.specs.Names.{IsName};
 ghost use Rattle.lh_unit.specs.Contents.{new_unit};
 ghost use Rattle.lh_unit.specs.Arena.{IsOpen, OfOpen, unit_count, unit_name_at};
-ghost use Rattle.lh_unit.specs.Builders.{FindsUnit, FindsValue, FindsLabel};
+ghost use Rattle.lh_unit.specs.Builders.{FindsUnit, FindsValue, FindsLabel, HasLabels};
 
-use crate::inst::{
-    BlockId, Declare, Inst, InstId, Item, Typed, UnitFault, UnitId, UnitKind, ValueId,
-};
+use crate::inst::{BlockId, Inst, UnitFault, UnitId, UnitKind, ValueId};
 use crate::module::Module;
 use crate::name::{Name, UnitName};
-use lh_types::ty::{NoMemory, Ty, TyKind, TyList};
+use lh_types::ty::NoMemory;
 use std::alloc::Global;
-use std::test::Fail;
 
 fn unit(alloc: Global, m: &mut Module, name: &[u8]) -> Result<UnitId, NoMemory>
     requires { IsName name.now }
@@ -52,36 +49,50 @@ fn label(alloc: Global, m: &mut Module, unit: UnitId, name: &[u8]) -> Result<Blo
     m.block_named(unit, &name)
 }
 
-#[test]
-fn names(rt: HostRuntime) -> Result<(), Fail> {
-    let mut m = Module::new(rt.alloc());
-    let f = unit(rt.alloc(), &mut m, b"f")?;
-    let g = unit(rt.alloc(), &mut m, b"g")?;
-    assert_eq!(rt; (f, g), (UnitId(0), UnitId(1)));
-    assert_eq!(rt; unit(rt.alloc(), &mut m, b"f")?, f);
-    assert_eq!(rt; m.units(), 2);
-    assert_eq!(rt; m.find(b'@', b"g"), Some(g));
-    assert_eq!(rt; m.find(b'%', b"g"), None);
-    let a = value(rt.alloc(), &mut m, g, b"a")?;
-    assert_eq!(rt; value(rt.alloc(), &mut m, g, b"b")?, ValueId(1));
-    assert_eq!(rt; value(rt.alloc(), &mut m, g, b"a")?, a);
-    assert_eq!(rt; label(rt.alloc(), &mut m, g, b"a")?, BlockId(0));
-    assert_eq!(rt; (m.values(g), m.labels(g)), (2, 1));
-    assert_eq!(rt; m.kind(g), None);
-    Ok(())
+/// Two units, one of them asked for twice, and how many there are.
+fn two_units(alloc: Global, m: &mut Module) -> Result<(u32, u32, u32, u32), NoMemory> {
+    let f = unit(alloc, m, b"f")?;
+    let g = unit(alloc, m, b"g")?;
+    let again = unit(alloc, m, b"f")?;
+    Ok((f.0, g.0, again.0, m.units()))
 }
 
-/// A module in which `@f` is open.
-fn begun(alloc: Global, kind: UnitKind) -> Result<(Module, UnitId), NoMemory>
-    ensures opened { IfOk result (λ made. IsOpen made.0 made.1) }
-    ensures text { IfOk result (λ made. OfOpen made.0 (λ t. t ≡ new_unit (unit_name_at made.0 made.1.0) kind)) }
+/// A label and two values of one unit, one of them asked for twice, and how many values there are.
+fn two_values(alloc: Global, m: &mut Module) -> Result<(u32, u32, u32, u32, u32), NoMemory> {
+    let f = unit(alloc, m, b"f")?;
+    let a = value(alloc, m, f, b"a")?;
+    let b = value(alloc, m, f, b"b")?;
+    let again = value(alloc, m, f, b"a")?;
+    let first = label(alloc, m, f, b"a")?;
+    Ok((a.0, b.0, again.0, first.0, m.values(f)))
+}
+
+/// Opens the unit `@f`.
+fn begun(alloc: Global, m: &mut Module, kind: UnitKind) -> Result<UnitId, UnitFault>
+    ensures within { IfOk result (λ u. u.0 < unit_count m.new) }
+    ensures opened { IfOk result (λ u. IsOpen m.new u) }
+    ensures text { IfOk result (λ u. OfOpen m.new (λ t. t ≡ new_unit (unit_name_at m.new u.0) kind)) }
 {
-    let mut m = Module::new(alloc);
-    let f = unit(alloc, &mut m, b"f")?;
-    match m.begin_unit(f, kind) {
-        Ok(()) => Ok((m, f)),
-        Err(_) => Err(NoMemory),
-    }
+    let Ok(f) = unit(alloc, m, b"f") else {
+        return Err(UnitFault::OutOfMemory);
+    };
+    m.begin_unit(f, kind)?;
+    Ok(f)
+}
+
+/// Adds the block `entry`.
+fn with_entry(alloc: Global, m: &mut Module, unit: UnitId) -> Result<BlockId, UnitFault>
+    requires within { unit.0 < unit_count m.old }
+    requires opened { IsOpen m.old unit }
+    requires labels { OfOpen m.old (λ t. HasLabels t.kind) }
+    ensures opened { OnOk result (IsOpen m.new unit) }
+    ensures block { OnOk result (OfOpen m.new (λ t. 0 < length t.blocks)) }
+{
+    let Ok(entry) = label(alloc, m, unit, b"entry") else {
+        return Err(UnitFault::OutOfMemory);
+    };
+    m.add_block(unit, entry)?;
+    Ok(entry)
 }
 
 /// Adds this many `halt`.
@@ -97,77 +108,32 @@ fn halts(m: &mut Module, unit: UnitId, many: u32) -> Result<(), UnitFault>
     Ok(())
 }
 
-#[test]
-fn a_process_of_the_greatest_size(rt: HostRuntime) -> Result<(), Fail> {
-    let (mut m, p) = begun(rt.alloc(), UnitKind::Proc)?;
-    let entry = label(rt.alloc(), &mut m, p, b"entry")?;
-    m.add_block(p, entry)?;
-    assert_eq!(rt; m.add_block(p, entry), Err(UnitFault::DuplicateName));
-    halts(&mut m, p, 65536)?;
-    assert_eq!(rt; halts(&mut m, p, 1), Err(UnitFault::UnitTooLarge));
-    assert_eq!(rt; m.blocks(p), [entry].as_slice());
-    assert_eq!(rt; m.block_name(p, entry).as_bytes(), b"entry".as_slice());
-    assert_eq!(rt; m.insts(p, entry).len(), 65536);
-    assert_eq!(rt; m.insts(p, entry).last(), Some(&InstId(65535)));
-    Ok(())
+/// A process of 65,536 instructions, and the answer to one more.
+fn greatest(alloc: Global, m: &mut Module) -> Result<(usize, Option<UnitFault>), UnitFault> {
+    let p = begun(alloc, m, UnitKind::Proc)?;
+    let entry = with_entry(alloc, m, p)?;
+    halts(m, p, 65536)?;
+    let over = halts(m, p, 1).err();
+    let _ = entry;
+    Ok((m.blocks(p).len(), over))
 }
 
 #[test]
-fn an_entity(rt: HostRuntime) -> Result<(), Fail> {
-    let (mut m, e) = begun(rt.alloc(), UnitKind::Entity)?;
-    assert_eq!(rt;
-        m.begin_unit(e, UnitKind::Func),
-        Err(UnitFault::DuplicateName)
-    );
-    let q = value(rt.alloc(), &mut m, e, b"q")?;
-    m.add_arg(e, q, Ty::int(8)?, true)?;
-    assert_eq!(rt;
-        m.add_arg(e, q, Ty::int(8)?, true),
-        Err(UnitFault::DuplicateName)
-    );
-    let s = value(rt.alloc(), &mut m, e, b"s")?;
-    let of = Typed {
-        value: q,
-        ty: Some(Ty::int(8)?),
-    };
-    let first = m.add_inst(e, Some(s), Inst::Sig(of))?;
-    assert_eq!(rt;
-        m.add_inst(e, Some(s), Inst::Halt),
-        Err(UnitFault::DuplicateName)
-    );
-    assert_eq!(rt; m.kind(e), Some(UnitKind::Entity));
-    assert_eq!(rt; m.unit_name(e).name.as_bytes(), b"f".as_slice());
-    assert_eq!(rt; m.value_name(e, s).as_bytes(), b"s".as_slice());
-    assert_eq!(rt; m.blocks(e), [BlockId(0)].as_slice());
-    assert_eq!(rt; m.insts(e, BlockId(0)), [first].as_slice());
-    assert_eq!(rt; m.result_of(e, first), Some(s));
-    match m.inst(e, first).copy()? {
-        Inst::Sig(of) => assert_eq!(rt; of.value, q),
-        _ => assert!(rt; false, "another instruction"),
-    }
-    Ok(())
+fn units(rt: HostRuntime) {
+    let mut m = Module::new(rt.alloc());
+    assert!(rt; two_units(rt.alloc(), &mut m) == Ok((0, 1, 0, 2)));
+    assert!(rt; m.find(b'@', b"g") == Some(UnitId(1)));
+    assert!(rt; m.find(b'%', b"g").is_none());
 }
 
 #[test]
-fn a_function_and_a_declaration(rt: HostRuntime) -> Result<(), Fail> {
-    let (mut m, f) = begun(rt.alloc(), UnitKind::Func)?;
-    m.set_result(f, Ty::int(8)?);
-    let declare = Declare::Unit {
-        name: UnitName {
-            sigil: b'%',
-            name: Name::new(rt.alloc(), b"p")?,
-        },
-        inputs: TyList::new(rt.alloc()),
-        outputs: TyList::new(rt.alloc()),
-    };
-    m.add_declare(declare.copy()?)?;
-    assert!(rt; f.0 < m.units());
-    assert_eq!(rt; m.args(f).len(), 0);
-    assert!(rt; matches!(m.result(f).ok_or("no result")?.kind(), TyKind::Int(8)));
-    assert_eq!(rt; m.units(), 1);
-    match m.items() {
-        [Item::Unit(first), Item::Declare(_)] => assert_eq!(rt; *first, f),
-        _ => assert!(rt; false, "other items"),
-    }
-    Ok(())
+fn values(rt: HostRuntime) {
+    let mut m = Module::new(rt.alloc());
+    assert!(rt; two_values(rt.alloc(), &mut m) == Ok((0, 1, 0, 0, 2)));
+}
+
+#[test]
+fn a_process_of_the_greatest_size(rt: HostRuntime) {
+    let mut m = Module::new(rt.alloc());
+    assert!(rt; greatest(rt.alloc(), &mut m) == Ok((1, Some(UnitFault::UnitTooLarge))));
 }
