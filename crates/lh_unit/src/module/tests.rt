@@ -108,13 +108,15 @@ fn halts(m: &mut Module, unit: UnitId, many: u32) -> Result<(), UnitFault>
     Ok(())
 }
 
-/// A process of 65,536 instructions, and the answer to one more.
+/// The number of blocks of a process of 65,536 instructions, and the answer to one more.
 fn greatest(alloc: Global, m: &mut Module) -> Result<(usize, Option<UnitFault>), UnitFault> {
     let p = begun(alloc, m, UnitKind::Proc)?;
-    let entry = with_entry(alloc, m, p)?;
+    with_entry(alloc, m, p)?;
     halts(m, p, 65536)?;
     let over = halts(m, p, 1).err();
-    let _ = entry;
+    if p.0 >= m.units() {
+        return Err(UnitFault::OutOfMemory);
+    }
     Ok((m.blocks(p).len(), over))
 }
 

@@ -10,5 +10,5 @@ pub returns-clause-block : goal.returns-clause-block
 returns-clause-block c =
     OfOpen-change c.label.new.m c.add_block.new.self c.args.unit (text.with_block (label_name_at c.label.new.m c.args.unit.0 c.in-Ok.entry.0)) (λ t. 0 < length t.blocks) c.in_ok-add_block.ensures.1
     (OfOpen-map c.label.new.m (λ t. HasLabels t.kind) (λ t. 0 < length (text.with_block (label_name_at c.label.new.m c.args.unit.0 c.in-Ok.entry.0) t).blocks)
-        (λ t h. omega (arith, length-append {A = BlockText}))
-        (OfOpen-grows c.args.m.now c.label.new.m (λ t. HasLabels t.kind) c.in-Ok.ensures.0.grows c.requires.labels))
+    (λ t h. omega (arith, length-append {A = BlockText}))
+    (OfOpen-grows c.args.m.now c.label.new.m (λ t. HasLabels t.kind) c.in-Ok.ensures.0.grows c.requires.labels))
