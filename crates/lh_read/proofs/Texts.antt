@@ -31,7 +31,7 @@ step-again : (s : State) (i : LineItem) (t : State) → StepIs s i t → step s 
 unfolding step
 step-again s i t w = rw (w.stands, w.has_room, w.is_new) (ap Ok (sym w.becomes))
 
--- in this order of work every fault is one of syntax
+-- every fault is one of syntax
 step-fault : (s : State) (i : LineItem) (e : BadKind) → step s i ≡ Err e → e ≡ syntax
 unfolding step
 step-fault s i e p = by (may_stand (place_of s) i) (too_large s i) (defines_again s i) p

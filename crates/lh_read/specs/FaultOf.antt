@@ -1,4 +1,4 @@
--- The fault of a line that the module refuses; in this order of work each is one of syntax.
+-- The fault of a line that the module refuses: each is one of syntax.
 use Rattle.lh_unit.specs.declared.inst.UnitFault.{UnitFault}
 use Rattle.lh_unit.specs.declared.inst.UnitFault.TheVariants as unit
 use Rattle.lh_read.specs.declared.build.LineFault.{LineFault}

@@ -39,7 +39,7 @@ impl From<NoMemory> for LineFault {
     }
 }
 
-/// In this order of work each refusal of the module is a fault of syntax.
+/// Each refusal of the module is a fault of syntax.
 impl From<UnitFault> for LineFault {
     ghost use Rattle.std.specs.Prelude.{◌≡◌};
     ghost use Rattle.lh_read.specs.FaultOf.{fault_of};
@@ -65,7 +65,7 @@ fn value_named(
     requires { unit.0 < unit_count module.old }
     ensures { FindsValue result module.old module.new unit name.now }
 {
-    // A text of 64 MiB has fewer names than there are ids.
+    // Never so in a text of 64 MiB, which has fewer names than there are ids.
     if module.values(unit) == u32::MAX {
         return Err(NoMemory);
     }
@@ -82,7 +82,7 @@ fn begin(
 ) -> Result<UnitId, LineFault>
     ensures { Begins result module.old module.new (unit_name_of name.now) kind }
 {
-    // A text of 64 MiB has fewer names than there are ids.
+    // Never so in a text of 64 MiB, which has fewer names than there are ids.
     if module.units() == u32::MAX {
         return Err(LineFault::OutOfMemory);
     }
