@@ -114,13 +114,17 @@ defines_again s (label_item n) = label_again n (last_unit s.items)
 defines_again s (inst_item l) = value_again l.result (last_unit s.items)
 defines_again s _ = false
 
--- the line says this item, and in this state the item is without fault and leads to that state
-pub record Takes (s : State) (line : List ℕ) (t : State) : Type 0 where
+-- the line spells this item, which may stand in this place
+pub record Says (s : State) (line : List ℕ) (item : LineItem) : Type 0 where
   pub tokens : List Lexeme
   pub lexed : lexemes line ≡ Some tokens
-  pub item : LineItem
   pub spelled : Spells tokens item
   pub stands : may_stand (place_of s) item ≡ true
+
+-- the line says an item that is without fault in this state, and the item leads to that state
+pub record Takes (s : State) (line : List ℕ) (t : State) : Type 0 where
+  pub item : LineItem
+  pub said : Says s line item
   pub has_room : too_large s item ≡ false
   pub is_new : defines_again s item ≡ false
   pub becomes : t ≡ after s item
@@ -143,10 +147,11 @@ pub data BadKind : Type 0 where
   unit_too_large : BadKind
   duplicate_name : BadKind
 
--- the line is faulty in this state
+-- The line is faulty in this state: it says nothing; or an instruction that its unit has no room for; or else a name that is defined.
 abbrev pub IsBad : State → List ℕ → BadKind → Type 0
-IsBad s line syntax = (t : State) → Takes s line t → ⊥
-IsBad s line _ = ⊥
+IsBad s line syntax = (i : LineItem) → Says s line i → ⊥
+IsBad s line unit_too_large = (i : LineItem) × Says s line i × (too_large s i ≡ true)
+IsBad s line duplicate_name = (i : LineItem) × Says s line i × (too_large s i ≡ false) × (defines_again s i ≡ true)
 
 -- of these lines, the first of which has the number n, line k is the first faulty one; a unit that is open at the end is a fault of the line after the last
 abbrev pub FirstBadFrom : List (List ℕ) → ℕ → State → ℕ → BadKind → Type 0
