@@ -1,0 +1,5 @@
+mod Numerals
+mod Spacing
+mod Written
+mod Again
+mod Types
