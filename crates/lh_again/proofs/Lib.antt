@@ -3,3 +3,5 @@ mod Spacing
 mod Written
 mod Again
 mod Types
+mod Numbers
+mod Operands

@@ -11,7 +11,7 @@ first_only space a b = refl
 first_only (token (word w)) a b = refl
 first_only (token t) a b = refl
 
-and_false : (t : Bool) → (t && false) ≡ false
+pub and_false : (t : Bool) → (t && false) ≡ false
 and_false true = refl
 and_false false = refl
 
