@@ -5,3 +5,9 @@ mod Again
 mod Types
 mod Numbers
 mod Operands
+mod Operations
+mod Insts
+mod Headers
+mod Items
+mod TextLines
+mod Walks

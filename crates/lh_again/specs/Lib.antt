@@ -1,1 +1,2 @@
+pub mod ItemLines
 pub mod Laws
