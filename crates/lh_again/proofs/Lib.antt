@@ -11,3 +11,5 @@ mod Headers
 mod Items
 mod TextLines
 mod Walks
+mod Steps
+mod Readings

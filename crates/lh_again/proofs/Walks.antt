@@ -21,22 +21,22 @@ use Rattle.lh_again.proofs.Operations.{Whole}
 use Rattle.lh_again.proofs.Items.{item-again}
 
 -- the lines of items, the last of which is still open
-abbrev open_lines : List ItemText → List (List Piece)
+abbrev pub open_lines : List ItemText → List (List Piece)
 open_lines [] = []
 open_lines (unit_text u ∷ []) = header u.kind u.name u.args u.result ∷ blocks_lines u.blocks
 open_lines (declare_text d ∷ []) = declaration d ∷ []
 open_lines (i ∷ j ∷ more) = item_lines i ++ open_lines (j ∷ more)
 
 -- the lines of what is read so far
-abbrev lines_in : State → List (List Piece)
+abbrev pub lines_in : State → List (List Piece)
 lines_in s = if s.inside then open_lines s.items else canon_lines s.items
 
 -- joining
-canon_lines-append : (a b : List ItemText) → canon_lines (a ++ b) ≡ canon_lines a ++ canon_lines b
+pub canon_lines-append : (a b : List ItemText) → canon_lines (a ++ b) ≡ canon_lines a ++ canon_lines b
 canon_lines-append [] b = refl
 canon_lines-append (i ∷ a) b = ap (λ q. item_lines i ++ q) (canon_lines-append a b) ∙ sym (append_assoc (item_lines i) (canon_lines a) (canon_lines b))
 
-open_lines-push : (a : List ItemText) (u : UnitText) → open_lines (a ++ unit_text u ∷ []) ≡ canon_lines a ++ (header u.kind u.name u.args u.result ∷ blocks_lines u.blocks)
+pub open_lines-push : (a : List ItemText) (u : UnitText) → open_lines (a ++ unit_text u ∷ []) ≡ canon_lines a ++ (header u.kind u.name u.args u.result ∷ blocks_lines u.blocks)
 open_lines-push [] u = refl
 open_lines-push (i ∷ []) u = ap (λ q. q ++ (header u.kind u.name u.args u.result ∷ blocks_lines u.blocks)) (sym (append-nil (item_lines i)))
 open_lines-push (i ∷ j ∷ a) u = ap (λ q. item_lines i ++ q) (open_lines-push (j ∷ a) u) ∙ sym (append_assoc (item_lines i) (canon_lines (j ∷ a)) (header u.kind u.name u.args u.result ∷ blocks_lines u.blocks))
@@ -50,7 +50,7 @@ map-append [] b = refl
 map-append (x ∷ a) b = ap (λ q. inst_line x ∷ q) (map-append a b)
 
 -- there is a block
-abbrev HasBlock : List BlockText → Type 0
+abbrev pub HasBlock : List BlockText → Type 0
 HasBlock [] = ⊥
 HasBlock (b ∷ bs) = Unit {0}
 
@@ -58,13 +58,13 @@ HasBlock (b ∷ bs) = Unit {0}
 block-line : (b : BlockText) (l : LineText) → block_lines (record b { lines = b.lines ++ l ∷ [] }) ≡ block_lines b ++ inst_line l ∷ []
 block-line b l = ap (λ q. label_lines b.label ++ q) (map-append b.lines (l ∷ [])) ∙ sym (append_assoc (label_lines b.label) (map inst_line b.lines) (inst_line l ∷ []))
 
-blocks-line : (l : LineText) (bs : List BlockText) → HasBlock bs → blocks_lines (line_at_end l bs) ≡ blocks_lines bs ++ inst_line l ∷ []
+pub blocks-line : (l : LineText) (bs : List BlockText) → HasBlock bs → blocks_lines (line_at_end l bs) ≡ blocks_lines bs ++ inst_line l ∷ []
 blocks-line l [] h = absurd h
 blocks-line l (b ∷ []) h = append-nil (block_lines (record b { lines = b.lines ++ l ∷ [] })) ∙ block-line b l ∙ ap (λ q. q ++ inst_line l ∷ []) (sym (append-nil (block_lines b)))
 blocks-line l (b ∷ c ∷ bs) h = ap (λ q. block_lines b ++ q) (blocks-line l (c ∷ bs) tt) ∙ sym (append_assoc (block_lines b) (blocks_lines (c ∷ bs)) (inst_line l ∷ []))
 
 -- one more line in the last unit
-grows : (f : UnitText → UnitText) (l : List Piece) (u : UnitText) → (header (f u).kind (f u).name (f u).args (f u).result ∷ blocks_lines (f u).blocks ≡ (header u.kind u.name u.args u.result ∷ blocks_lines u.blocks) ++ l ∷ [])
+pub grows : (f : UnitText → UnitText) (l : List Piece) (u : UnitText) → (header (f u).kind (f u).name (f u).args (f u).result ∷ blocks_lines (f u).blocks ≡ (header u.kind u.name u.args u.result ∷ blocks_lines u.blocks) ++ l ∷ [])
     → (items : List ItemText) → last_unit items ≡ Some u → open_lines (change_last f items) ≡ open_lines items ++ l ∷ []
 grows f l u e [] h = absurd cc
 grows f l u e (unit_text v ∷ []) h =
@@ -75,18 +75,18 @@ grows f l u e (i ∷ unit_text v ∷ []) h = ap (λ q. item_lines i ++ q) (grows
 grows f l u e (i ∷ declare_text d ∷ []) h = absurd cc
 grows f l u e (i ∷ j ∷ k ∷ more) h = ap (λ q. item_lines i ++ q) (grows f l u e (j ∷ k ∷ more) h) ∙ sym (append_assoc (item_lines i) (open_lines (j ∷ k ∷ more)) (l ∷ []))
 
-label-line : (n : List ℕ) (u : UnitText) → blocks_lines (with_block n u).blocks ≡ blocks_lines u.blocks ++ item_line (label_item n) ∷ []
+pub label-line : (n : List ℕ) (u : UnitText) → blocks_lines (with_block n u).blocks ≡ blocks_lines u.blocks ++ item_line (label_item n) ∷ []
 label-line n u = blocks_lines-append u.blocks (record { label = Some n; lines = [] } ∷ [])
 
 -- the closing line
-closes : (u : UnitText) (items : List ItemText) → last_unit items ≡ Some u → canon_lines items ≡ open_lines items ++ mark close_brace ∷ []
+pub closes : (u : UnitText) (items : List ItemText) → last_unit items ≡ Some u → canon_lines items ≡ open_lines items ++ mark close_brace ∷ []
 closes u [] h = absurd cc
 closes u (unit_text v ∷ []) h = append-nil (item_lines (unit_text v))
 closes u (declare_text d ∷ []) h = absurd cc
 closes u (i ∷ j ∷ more) h = ap (λ q. item_lines i ++ q) (closes u (j ∷ more) h) ∙ sym (append_assoc (item_lines i) (open_lines (j ∷ more)) (mark close_brace ∷ []))
 
 -- without an open unit
-not_open : (items : List ItemText) → last_unit items ≡ None → open_lines items ≡ canon_lines items
+pub not_open : (items : List ItemText) → last_unit items ≡ None → open_lines items ≡ canon_lines items
 not_open [] h = refl
 not_open (unit_text v ∷ []) h = absurd cc
 not_open (declare_text d ∷ []) h = refl

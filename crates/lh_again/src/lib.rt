@@ -1,9 +1,15 @@
 //! Laws on reading what is printed. Each is the contract of a function that does nothing, so that other crates can cite it.
 #![tactic(auto)]
 
-ghost use Rattle.lh_again.specs.Laws.{EveryReadingIsSpelled};
+ghost use Rattle.lh_again.specs.Laws.{EveryReadingIsSpelled, CanonHasItsLines, CanonHasItsTokens};
 
 /// What any text reads as, its canonical text reads as too.
 pub fn canonical_text_reads_back()
     ensures { EveryReadingIsSpelled }
+{}
+
+/// A canonical text has the canonical lines as its lines, and each has the tokens that it is made of.
+pub fn canonical_text_has_its_lines()
+    ensures lines { CanonHasItsLines }
+    ensures tokens { CanonHasItsTokens }
 {}
