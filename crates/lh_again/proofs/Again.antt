@@ -1,12 +1,12 @@
 -- What is spelled, spelled again by the pieces of a canonical line.
-use Rattle.std.proofs.Common.{◌≡◌, ℕ, Bool, true, false, List, [], ◌∷◌, ◌++◌, map, Option, Some, None, refl, ap, sym, ◌∙◌, subst, arith, append_assoc}
+use Rattle.std.proofs.Common.{◌≡◌, ℕ, true, List, [], ◌∷◌, ◌++◌, map, refl, sym, subst, append_assoc}
 use Rattle.std.proofs.lemmas.List.{append-nil}
-use Rattle.lh_unit.specs.Lexemes.{Lexeme, word, punct, is_punct}
+use Rattle.lh_unit.specs.Lexemes.{Lexeme, punct, is_punct}
 use Rattle.lh_unit.specs.Marks.{comma}
 use Rattle.lh_unit.specs.Pieces.{Piece, token, space, IsLexeme, IsSpaced, lexemes_in, commas, behind_commas}
 use Rattle.lh_unit.specs.Within.{Each}
 use Rattle.lh_unit.specs.SpellsParts.{SpellsParts, SpellsList, SpellsBehind}
-use Rattle.lh_again.proofs.Spacing.{spaced-append, spaced-space, spaced-comma, spaced-enclosed}
+use Rattle.lh_again.proofs.Spacing.{spaced-comma, spaced-enclosed}
 
 -- the pieces are spaced and spell what S says, whatever follows them
 pub record Stands (S : List Lexeme → List Lexeme → Type 0) (ps : List Piece) : Type 0 where
@@ -41,7 +41,6 @@ again-nothing ts more l e = record { left = subst (Each IsLexeme) e l; stands = 
 
 module _ {A : Type 0} (P : A → List Lexeme → List Lexeme → Type 0) (pieces : A → List Piece)
     (part : (a : A) (ts more : List Lexeme) → Each IsLexeme ts → P a ts more → Again (P a) (pieces a) more) where
-
   two_parts : (a b : A) (xs : List A) (more : List Lexeme) → Stands (P a) (pieces a) → Stands (SpellsParts P (b ∷ xs)) (commas (map pieces (b ∷ xs))) → Stands (SpellsParts P (a ∷ b ∷ xs)) (commas (map pieces (a ∷ b ∷ xs)))
   two_parts a b xs more r s =
       record {

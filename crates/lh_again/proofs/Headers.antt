@@ -1,26 +1,26 @@
 -- Headers and declarations, spelled again.
-use Rattle.std.proofs.Common.{◌≡◌, ℕ, ◌≤◌, ◌⊎◌, inl, inr, Bool, true, false, ◌&&◌, List, [], ◌∷◌, ◌++◌, map, filter, Option, Some, None, refl, ap, sym, ◌∙◌, subst, arith}
+use Rattle.std.proofs.Common.{◌≡◌, true, false, List, [], ◌∷◌, ◌++◌, map, Option, Some, None, refl, ap, sym, ◌∙◌, subst}
 use Rattle.std.specs.Prelude.{codes}
-use Rattle.lh_types.specs.Types.{TypeTree, row_of}
+use Rattle.lh_types.specs.Types.{TypeTree}
 use Rattle.lh_unit.specs.Contents.{ArgText}
-use Rattle.lh_unit.specs.Lexemes.{Lexeme, word, local, arrow}
+use Rattle.lh_unit.specs.Lexemes.{Lexeme, word, arrow}
 use Rattle.lh_unit.specs.Marks.{open_paren, close_paren, open_brace}
-use Rattle.lh_unit.specs.Pieces.{Piece, token, space, IsLexeme, IsSpaced, takes_more, lexemes_in, mark, keyword, commas, in_parens, ◌␣◌}
-use Rattle.lh_unit.specs.CanonTypes.{type_pieces, row_pieces}
+use Rattle.lh_unit.specs.Pieces.{Piece, token, space, IsLexeme, takes_more, lexemes_in, mark, commas, in_parens, ◌␣◌}
+use Rattle.lh_unit.specs.CanonTypes.{type_pieces}
 use Rattle.lh_unit.specs.Canon.{typed_pieces, argument, arguments, side_of, ports, result_pieces, header, types, declaration}
 use Rattle.lh_unit.specs.Within.{Each}
 use Rattle.lh_unit.specs.SpellsTypes.{SpellsType, SpellsValueType, SpellsSignalType}
-use Rattle.lh_unit.specs.SpellsParts.{SpellsUnitName, SpellsList, SpellsTyped}
+use Rattle.lh_unit.specs.SpellsParts.{SpellsList, SpellsTyped}
 use Rattle.lh_unit.specs.Spells.{TypedName, SpellsParam, SpellsPort, input_of, output_of, SpellsParams, SpellsPorts, SpellsHeader, SpellsDeclare}
 use Rattle.lh_unit.specs.declared.name.UnitName.{UnitName}
 use Rattle.lh_unit.specs.declared.inst.UnitKind.{UnitKind}
 use Rattle.lh_unit.specs.declared.inst.UnitKind.TheVariants as kind
 use Rattle.lh_unit.specs.declared.inst.Declare.{Declare}
 use Rattle.lh_unit.specs.declared.inst.Declare.TheVariants as declare
-use Rattle.lh_again.proofs.Spacing.{and_false, spaced-append, spaced-space, spaced-enclosed, word-lexeme}
+use Rattle.lh_again.proofs.Spacing.{and_false, spaced-append, spaced-space, spaced-enclosed}
 use Rattle.lh_again.proofs.Again.{Stands, Again, at_end, again-map, list-again}
 use Rattle.lh_again.proofs.Types.{type-again, row_pieces-list}
-use Rattle.lh_again.proofs.Operands.{unit_lexeme, UnitStands, unit-again, typed-again}
+use Rattle.lh_again.proofs.Operands.{unit_lexeme, unit-again, typed-again}
 use Rattle.lh_again.proofs.Operations.{Whole}
 use Rattle.lh_again.proofs.Insts.{parens}
 
@@ -157,7 +157,14 @@ declare-again (declare.Unit n xs ys) ts l h =
     let t : Stands (SpellsList SpellsSignalType ys) (types ys) = subst (Stands (SpellsList SpellsSignalType ys)) (sym (row_pieces-list ys)) b.stands in
     let end = space ∷ token arrow ∷ space ∷ in_parens (types ys) in
     record {
-      spaced = (k.0, refl, (u.written, and_false (takes_more (unit_lexeme n)),
-          spaced-append (in_parens (types xs)) end (spaced-enclosed 40 41 (types xs) refl refl s.spaced) (tt, refl, spaced-enclosed 40 41 (types ys) refl refl t.spaced) refl));
+      spaced = (
+        k.0,
+        refl,
+        (
+          u.written,
+          and_false (takes_more (unit_lexeme n)),
+          spaced-append (in_parens (types xs)) end (spaced-enclosed 40 41 (types xs) refl refl s.spaced) (tt, refl, spaced-enclosed 40 41 (types ys) refl refl t.spaced) refl,
+        ),
+      );
       spelled = (unit_lexeme n, lexemes_in ((types xs ++ mark close_paren) ++ end), lexemes_in (types ys ++ mark close_paren), refl, u.spelled, parens (SpellsList SpellsSignalType xs) (types xs) end s, t.spelled (mark close_paren));
     }

@@ -1,26 +1,24 @@
 -- Instructions, spelled again.
-use Rattle.std.proofs.Common.{◌≡◌, ℕ, ◌^◌, ◌<◌, ◌≤◌, ◌⊎◌, inl, inr, Bool, true, false, ◌&&◌, List, [], ◌∷◌, ◌++◌, map, length, decimal, Option, Some, None, refl, ap, sym, ◌∙◌, subst, arith, append_assoc}
+use Rattle.std.proofs.Common.{◌≡◌, ℕ, ◌≤◌, inl, inr, false, List, [], ◌∷◌, ◌++◌, map, Option, Some, None, refl, sym, subst}
 use Rattle.std.specs.Prelude.{codes}
 use Rattle.lh_types.specs.Types.{TypeTree, int_type}
 use Rattle.lh_types.specs.Values.{Datum, int_value, time_value, array_value, tuple_value}
-use Rattle.lh_time.specs.declared.Delay.{Delay}
 use Rattle.lh_unit.specs.Names.{IsName}
 use Rattle.lh_unit.specs.Contents.{OperandText, TriggerText, EdgeText, InstText, const_text, pure_text, var_text, ld_text, st_text, sig_text, prb_text, drv_text, reg_text, child_text, call_text, phi_text, br_text, branch_text, wait_text, halt_text, ret_text}
 use Rattle.lh_unit.specs.Lexemes.{Lexeme, word, local, arrow}
 use Rattle.lh_unit.specs.Marks.{open_paren, close_paren, comma, equals}
-use Rattle.lh_unit.specs.Pieces.{Piece, token, space, IsLexeme, IsSpaced, begins_with_word, takes_more, lexemes_in, mark, number, keyword, percent, commas, behind_commas, in_parens, ◌␣◌, ◌⸴◌}
+use Rattle.lh_unit.specs.Pieces.{Piece, token, space, IsLexeme, begins_with_word, takes_more, lexemes_in, mark, number, keyword, percent, commas, behind_commas, in_parens, ◌␣◌}
 use Rattle.lh_unit.specs.CanonTypes.{type_pieces, time_pieces}
 use Rattle.lh_unit.specs.Canon.{operand, operands, maybe, trigger, edge, inst_pieces, line_pieces}
 use Rattle.lh_unit.specs.Within.{Each}
-use Rattle.lh_unit.specs.SpellsTypes.{SpellsType}
-use Rattle.lh_unit.specs.SpellsParts.{SpellsUnitName, SpellsParts, SpellsList, SpellsBehind, SpellsLocal, SpellsOperand, SpellsMaybe, SpellsTrigger, SpellsEdge, SpellsWithType}
-use Rattle.lh_unit.specs.SpellsInst.{SpellsDelay, SpellsWordTyped, SpellsInst, SpellsLine, gives_value}
+use Rattle.lh_unit.specs.SpellsParts.{SpellsParts, SpellsList, SpellsBehind, SpellsLocal, SpellsOperand, SpellsMaybe, SpellsTrigger, SpellsEdge}
+use Rattle.lh_unit.specs.SpellsInst.{SpellsDelay, SpellsWordTyped, SpellsInst, SpellsLine}
 use Rattle.lh_unit.specs.declared.name.UnitName.{UnitName}
 use Rattle.lh_again.proofs.Spacing.{and_false, spaced-append, spaced-space, spaced-comma, spaced-enclosed, word-lexeme}
 use Rattle.lh_again.proofs.Again.{Stands, Again, at_end, joined, parts-again, list-again, behind-again}
 use Rattle.lh_again.proofs.Types.{type-again}
 use Rattle.lh_again.proofs.Numbers.{integer-again, time-again}
-use Rattle.lh_again.proofs.Operands.{unit_lexeme, UnitStands, unit-again, local-again, operand-again, with_type-again, some-stands, maybe-again, maybe-begins, maybe-alone, trigger-again, edge-again}
+use Rattle.lh_again.proofs.Operands.{unit_lexeme, unit-again, local-again, operand-again, with_type-again, some-stands, maybe-again, maybe-begins, maybe-alone, trigger-again, edge-again}
 use Rattle.lh_again.proofs.Operations.{Whole, pure-again}
 
 behind-begins : (ps : List (List Piece)) → begins_with_word (behind_commas ps) ≡ false
@@ -113,8 +111,15 @@ child-again u xs ys ts l h =
     let b = list-again SpellsOperand operand operand-again ys h.2 (close_paren ∷ []) a.left.1.1.1 h.6 in
     let end = space ∷ token arrow ∷ space ∷ in_parens (operands ys) in
     record {
-      spaced = (k.0, refl, (n.written, and_false (takes_more (unit_lexeme u)),
-          spaced-append (in_parens (operands xs)) end (spaced-enclosed 40 41 (operands xs) refl refl a.stands.spaced) (tt, refl, spaced-enclosed 40 41 (operands ys) refl refl b.stands.spaced) refl));
+      spaced = (
+        k.0,
+        refl,
+        (
+          n.written,
+          and_false (takes_more (unit_lexeme u)),
+          spaced-append (in_parens (operands xs)) end (spaced-enclosed 40 41 (operands xs) refl refl a.stands.spaced) (tt, refl, spaced-enclosed 40 41 (operands ys) refl refl b.stands.spaced) refl,
+        ),
+      );
       spelled = (unit_lexeme u, lexemes_in ((operands xs ++ mark close_paren) ++ end), lexemes_in (operands ys ++ mark close_paren), refl, n.spelled, parens (SpellsList SpellsOperand xs) (operands xs) end a.stands, b.stands.spelled (mark close_paren));
     }
 

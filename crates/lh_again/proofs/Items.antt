@@ -1,9 +1,9 @@
 -- What a line says, its canonical line says too.
-use Rattle.std.proofs.Common.{◌≡◌, ℕ, ◌≤◌, ◌⊎◌, inl, inr, List, [], ◌∷◌, length, Option, Some, None, refl, subst}
+use Rattle.std.proofs.Common.{ℕ, inl, inr, List, [], ◌∷◌, refl, subst}
 use Rattle.lh_unit.specs.Names.{IsName}
 use Rattle.lh_unit.specs.Lexemes.{Lexeme, word, local}
 use Rattle.lh_unit.specs.Marks.{colon}
-use Rattle.lh_unit.specs.Pieces.{Piece, token, IsLexeme}
+use Rattle.lh_unit.specs.Pieces.{IsLexeme}
 use Rattle.lh_unit.specs.Within.{Each}
 use Rattle.lh_unit.specs.Spells.{LineItem, empty_item, header_item, declare_item, label_item, inst_item, close_item, SpellsLabel, Spells}
 use Rattle.lh_again.specs.ItemLines.{item_line}

@@ -1,5 +1,5 @@
 -- Numbers, constants and times, spelled again.
-use Rattle.std.proofs.Common.{◌≡◌, ℕ, ◌+◌, ◌-◌, ◌*◌, ◌/◌, ◌%◌, ◌^◌, ◌<◌, ◌≤◌, ◌⊎◌, inl, inr, Bool, true, false, ◌&&◌, List, [], ◌∷◌, ◌++◌, length, Option, Some, None, if◌then◌else◌, nat_eq, decimal, refl, ap, sym, ◌∙◌, subst, arith, length-append}
+use Rattle.std.proofs.Common.{◌≡◌, ℕ, ◌-◌, ◌*◌, ◌/◌, ◌%◌, ◌^◌, ◌<◌, ◌≤◌, inl, inr, Bool, true, false, List, [], ◌∷◌, ◌++◌, length, Some, if◌then◌else◌, nat_eq, decimal, refl, sym, ◌∙◌, subst, arith, length-append}
 use Rattle.std.specs.Prelude.{codes}
 use Rattle.std.proofs.lemmas.Grind.{common_steps}
 use Rattle.std.proofs.Math.Pow.{pow_mono, pow_pos}
@@ -7,7 +7,6 @@ use Rattle.std.proofs.Math.Nat.{mod-lt}
 use Rattle.lh_time.specs.declared.Delay.{Delay}
 use Rattle.lh_unit.specs.Names.{is_name_byte, all_name_bytes}
 use Rattle.lh_unit.specs.Lexemes.{Lexeme, word}
-use Rattle.lh_unit.specs.Numerals.{number_of}
 use Rattle.lh_unit.specs.Pieces.{Piece, token, space, IsLexeme, IsSpaced, begins_with_word, lexemes_in, number}
 use Rattle.lh_unit.specs.CanonTypes.{time_text, steps_pieces, time_pieces}
 use Rattle.lh_unit.specs.Within.{Each}
@@ -97,9 +96,10 @@ time-again d ts h =
     let a = steps_pieces-stands 100 d.delta refl (steps-below 100 d.delta h.1 h.2 h.5) in
     let b = steps_pieces-stands 101 d.eps refl (steps-below 101 d.eps h.2 [] h.6) in
     let nb : begins_with_word (steps_pieces d.eps 101) ≡ false = last_begins d.eps in
-    let n : begins_with_word (steps_pieces d.delta 100 ++ steps_pieces d.eps 101) ≡ false = a.begins (steps_pieces d.eps 101) nb in
-    ((time_text d.fs, lexemes_in (steps_pieces d.delta 100 ++ steps_pieces d.eps 101), lexemes_in (steps_pieces d.eps 101), refl, t.spelled, a.stands.spelled (steps_pieces d.eps 101), at_end (SpellsSteps 101 d.eps) (steps_pieces d.eps 101) b.stands),
-        (t.written, n, spaced-append (steps_pieces d.delta 100) (steps_pieces d.eps 101) a.stands.spaced b.stands.spaced nb))
+    let n : begins_with_word (steps_pieces d.delta 100 ++ steps_pieces d.eps 101) ≡ false = a.begins (steps_pieces d.eps 101) nb in (
+      (time_text d.fs, lexemes_in (steps_pieces d.delta 100 ++ steps_pieces d.eps 101), lexemes_in (steps_pieces d.eps 101), refl, t.spelled, a.stands.spelled (steps_pieces d.eps 101), at_end (SpellsSteps 101 d.eps) (steps_pieces d.eps 101) b.stands),
+      (t.written, n, spaced-append (steps_pieces d.delta 100) (steps_pieces d.eps 101) a.stands.spaced b.stands.spaced nb),
+    )
   where
     last_begins : (n : ℕ) → begins_with_word (steps_pieces n 101) ≡ false
     last_begins n = elim (nat_eq n 0) as (λ t. begins_with_word (if t then [] else space ∷ token (word (decimal n ++ 101 ∷ [])) ∷ []) ≡ false) [ true ↦ refl | false ↦ refl ]

@@ -1,5 +1,5 @@
 -- Names and operands, spelled again.
-use Rattle.std.proofs.Common.{◌≡◌, ℕ, ◌⊎◌, inl, inr, Bool, true, false, ◌&&◌, List, [], ◌∷◌, ◌++◌, map, Option, Some, None, if◌then◌else◌, nat_eq, refl, ap, sym, ◌∙◌, subst, arith, append_assoc}
+use Rattle.std.proofs.Common.{◌≡◌, ℕ, inl, inr, true, false, List, [], ◌∷◌, ◌++◌, Option, Some, None, if◌then◌else◌, nat_eq, refl, sym, ◌∙◌, subst, append_assoc}
 use Rattle.std.specs.Prelude.{codes}
 use Rattle.std.proofs.lemmas.List.{append-nil}
 use Rattle.lh_types.specs.Types.{TypeTree}
@@ -7,17 +7,17 @@ use Rattle.lh_unit.specs.Names.{IsName}
 use Rattle.lh_unit.specs.Contents.{OperandText, TriggerText, EdgeText}
 use Rattle.lh_unit.specs.Lexemes.{Lexeme, word, global, local}
 use Rattle.lh_unit.specs.Marks.{open_bracket, close_bracket, comma}
-use Rattle.lh_unit.specs.Pieces.{Piece, token, space, IsLexeme, IsSpaced, begins_with_word, lexemes_in, percent, mark, commas, ◌⸴◌}
+use Rattle.lh_unit.specs.Pieces.{Piece, token, space, IsLexeme, begins_with_word, lexemes_in, percent, mark, ◌⸴◌}
 use Rattle.lh_unit.specs.CanonTypes.{type_pieces}
 use Rattle.lh_unit.specs.CanonWords.{mode_word}
-use Rattle.lh_unit.specs.Canon.{unit_name_pieces, typed_pieces, operand, operands, maybe, trigger, edge}
+use Rattle.lh_unit.specs.Canon.{typed_pieces, operand, operands, maybe, trigger, edge}
 use Rattle.lh_unit.specs.Within.{Each}
 use Rattle.lh_unit.specs.SpellsTypes.{SpellsType}
 use Rattle.lh_unit.specs.SpellsParts.{SpellsUnitName, SpellsLocal, SpellsTyped, SpellsOperand, SpellsBare, SpellsWithType, SpellsMaybe, SpellsTrigger, SpellsEdge}
 use Rattle.lh_unit.specs.SpellsInst.{Column, typed, bare, free, SpellsColumn, SpellsColumns}
 use Rattle.lh_unit.specs.declared.name.UnitName.{UnitName}
 use Rattle.lh_again.proofs.Spacing.{spaced-append, spaced-space, spaced-comma, spaced-enclosed, word-lexeme}
-use Rattle.lh_again.proofs.Again.{Stands, Again, joined, again-map, again-nothing, stands-nothing}
+use Rattle.lh_again.proofs.Again.{Stands, Again, joined, again-map, again-nothing}
 use Rattle.lh_again.proofs.Types.{type-again}
 
 -- the name of a unit, as it is written
@@ -124,10 +124,14 @@ trigger-stands g v m t a b =
     record {
       spaced = spaced-enclosed 91 93 (percent g.value ⸴ (token (word (mode_word g.mode)) ∷ space ∷ token (local g.trigger) ∷ (gate ++ after))) refl refl
           (v, refl, (refl, refl, (m, refl, (t, first, spaced-append gate after a.spaced b.spaced (maybe-alone (codes "after") g.after)))));
-      spelled = λ rest. (lexemes_in (((gate ++ after) ++ mark close_bracket) ++ rest), lexemes_in (after ++ token close_bracket ∷ rest), refl,
-          subst (λ q. SpellsMaybe (codes "if") g.gate (lexemes_in q) (lexemes_in (after ++ token close_bracket ∷ rest)))
-              (sym (append_assoc (gate ++ after) (mark close_bracket) rest ∙ append_assoc gate after (token close_bracket ∷ rest))) (a.spelled (after ++ token close_bracket ∷ rest)),
-          b.spelled (token close_bracket ∷ rest));
+      spelled = λ rest. (
+        lexemes_in (((gate ++ after) ++ mark close_bracket) ++ rest),
+        lexemes_in (after ++ token close_bracket ∷ rest),
+        refl,
+        subst (λ q. SpellsMaybe (codes "if") g.gate (lexemes_in q) (lexemes_in (after ++ token close_bracket ∷ rest)))
+            (sym (append_assoc (gate ++ after) (mark close_bracket) rest ∙ append_assoc gate after (token close_bracket ∷ rest))) (a.spelled (after ++ token close_bracket ∷ rest)),
+        b.spelled (token close_bracket ∷ rest),
+      );
     }
 
 -- a trigger of a register

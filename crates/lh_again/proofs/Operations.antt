@@ -1,25 +1,22 @@
 -- Operations, spelled again.
-use Rattle.std.proofs.Common.{◌≡◌, ℕ, ◌^◌, ◌<◌, ◌≤◌, ◌⊎◌, inl, inr, Bool, true, false, List, [], ◌∷◌, ◌++◌, map, length, decimal, Option, Some, None, refl, ap, sym, ◌∙◌, subst, arith, append_assoc}
+use Rattle.std.proofs.Common.{◌≡◌, ℕ, ◌^◌, ◌<◌, inl, false, List, [], ◌∷◌, ◌++◌, map, decimal, refl, sym, subst, arith, append_assoc}
 use Rattle.std.specs.Prelude.{codes}
 use Rattle.std.proofs.lemmas.List.{append-nil}
-use Rattle.lh_types.specs.Types.{TypeTree, array_type, IsLimited}
 use Rattle.lh_types.specs.declared.op.Op.{Op}
 use Rattle.lh_types.specs.declared.op.Op.TheVariants as op
 use Rattle.lh_unit.specs.Contents.{OperandText}
-use Rattle.lh_unit.specs.Lexemes.{Lexeme, word, local}
+use Rattle.lh_unit.specs.Lexemes.{Lexeme, word}
 use Rattle.lh_unit.specs.Marks.{open_bracket, close_bracket, open_brace, close_brace}
-use Rattle.lh_unit.specs.Numerals.{number_of}
-use Rattle.lh_unit.specs.Pieces.{Piece, token, space, IsLexeme, IsSpaced, begins_with_word, lexemes_in, mark, number, keyword, commas, behind_commas, ◌␣◌}
+use Rattle.lh_unit.specs.Pieces.{Piece, token, IsLexeme, IsSpaced, begins_with_word, lexemes_in, mark, number, keyword, behind_commas, ◌␣◌}
 use Rattle.lh_unit.specs.CanonWords.{op_word, op_numbers}
 use Rattle.lh_unit.specs.Canon.{operand, operands, operation}
 use Rattle.lh_unit.specs.Within.{Each}
-use Rattle.lh_unit.specs.SpellsTypes.{SpellsType}
 use Rattle.lh_unit.specs.SpellsNumbers.{SpellsNumber}
-use Rattle.lh_unit.specs.SpellsParts.{SpellsParts, SpellsBehind, SpellsOperand, SpellsBare, SpellsWithType}
-use Rattle.lh_unit.specs.SpellsInst.{columns, SpellsColumns, IsOpWord, SpellsWordOp, SpellsPure}
+use Rattle.lh_unit.specs.SpellsParts.{SpellsBehind, SpellsOperand, SpellsBare, SpellsWithType}
+use Rattle.lh_unit.specs.SpellsInst.{columns, IsOpWord, SpellsWordOp, SpellsPure}
 use Rattle.lh_again.proofs.Numerals.{number_of-decimal}
-use Rattle.lh_again.proofs.Spacing.{spaced-append, spaced-space, spaced-enclosed, word-lexeme}
-use Rattle.lh_again.proofs.Again.{Stands, Again, at_end, parts-again, behind-again}
+use Rattle.lh_again.proofs.Spacing.{spaced-append, spaced-enclosed, word-lexeme}
+use Rattle.lh_again.proofs.Again.{Stands, at_end, parts-again, behind-again}
 use Rattle.lh_again.proofs.Types.{number-lexeme}
 use Rattle.lh_again.proofs.Numbers.{number-again}
 use Rattle.lh_again.proofs.Operands.{operand-again, bare-again, with_type-again, columns-again, typed_operand, operand_typed}
@@ -64,7 +61,7 @@ array-again o rest ts l h =
     let behind = behind_commas (map operand rest) in
     let end = behind ++ mark close_bracket in
     let front : SpellsOperand o (lexemes_in ((operand o ++ behind) ++ mark close_bracket)) (lexemes_in end) =
-        subst (λ q. SpellsOperand o (lexemes_in q) (lexemes_in end)) (sym (append_assoc (operand o) behind (mark close_bracket))) (a.stands.spelled end) in
+    subst (λ q. SpellsOperand o (lexemes_in q) (lexemes_in end)) (sym (append_assoc (operand o) behind (mark close_bracket))) (a.stands.spelled end) in
     record {
       spaced = spaced-enclosed 91 93 (operands (o ∷ rest)) refl refl (spaced-append (operand o) behind a.stands.spaced b.stands.spaced (behind-begins (map operand rest)));
       spelled = (h.0, lexemes_in ((operand o ++ behind) ++ mark close_bracket), lexemes_in end, refl, h.4, operand_typed o h.0 _ _ h.4 front, b.stands.spelled (mark close_bracket), h.7);

@@ -1,15 +1,13 @@
 -- What a text reads as is spelled.
-use Rattle.std.proofs.Common.{◌≡◌, ℕ, Bool, true, false, List, [], ◌∷◌, ◌++◌, map, Option, Some, None, refl, ap, sym, ◌∙◌, subst, append_assoc}
+use Rattle.std.proofs.Common.{◌≡◌, ℕ, false, List, [], ◌∷◌, ◌++◌, map, refl, ap, sym, ◌∙◌, subst, append_assoc}
 use Rattle.std.proofs.lemmas.List.{append-nil}
 use Rattle.lh_unit.specs.Contents.{ItemText}
-use Rattle.lh_unit.specs.Lexemes.{Lexeme}
 use Rattle.lh_unit.specs.Lines.{lines_of}
 use Rattle.lh_unit.specs.Pieces.{Piece, render, IsSpaced, lexemes_in}
 use Rattle.lh_unit.specs.Canon.{canon, canon_lines}
 use Rattle.lh_unit.specs.Within.{Each}
-use Rattle.lh_unit.specs.Spells.{LineItem, empty_item, header_item, declare_item, label_item, inst_item, close_item, Spells}
-use Rattle.lh_unit.specs.Reads.{State, after, Says, Takes, Walk, start, Reads}
-use Rattle.lh_unit.specs.WellFormed.{IsSpelled}
+use Rattle.lh_unit.specs.Spells.{LineItem, empty_item, Spells}
+use Rattle.lh_unit.specs.Reads.{State, after, Takes, Walk, start, Reads}
 use Rattle.lh_unit.proofs.Rendering.{lexemes-render}
 use Rattle.lh_again.specs.ItemLines.{item_line}
 use Rattle.lh_again.specs.Laws.{EveryReadingIsSpelled, CanonHasItsLines, HasItsTokens, CanonHasItsTokens}

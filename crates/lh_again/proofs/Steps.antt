@@ -1,8 +1,8 @@
 -- Each item adds its canonical line to those of what is read so far.
-use Rattle.std.proofs.Common.{◌≡◌, ℕ, ◌≤◌, Bool, true, false, List, [], ◌∷◌, ◌++◌, Option, Some, None, if◌then◌else◌, refl, ap, sym, ◌∙◌, subst}
+use Rattle.std.proofs.Common.{◌≡◌, ℕ, Bool, true, false, List, [], ◌∷◌, ◌++◌, Option, Some, None, if◌then◌else◌, refl, ap, sym, ◌∙◌, subst}
 use Rattle.std.proofs.lemmas.List.{append-nil}
 use Rattle.lh_types.specs.Types.{TypeTree}
-use Rattle.lh_unit.specs.Contents.{ArgText, LineText, BlockText, UnitText, ItemText, unit_text, declare_text, change_last, last_unit, with_block, with_line, line_at_end}
+use Rattle.lh_unit.specs.Contents.{ArgText, LineText, BlockText, UnitText, ItemText, declare_text, last_unit, with_block, with_line, line_at_end}
 use Rattle.lh_unit.specs.Lexemes.{Lexeme}
 use Rattle.lh_unit.specs.Marks.{close_brace}
 use Rattle.lh_unit.specs.Pieces.{Piece, mark}

@@ -1,7 +1,7 @@
 -- The lines of a text that is made of spaced lines.
-use Rattle.std.proofs.Common.{◌≡◌, ℕ, ◌≤◌, Bool, true, false, ◌&&◌, List, [], ◌∷◌, ◌++◌, map, nat_eq, if◌then◌else◌, refl, ap, sym, ◌∙◌, subst, arith}
+use Rattle.std.proofs.Common.{◌≡◌, ℕ, Bool, true, false, ◌&&◌, List, [], ◌∷◌, ◌++◌, map, nat_eq, refl, ap, ◌∙◌, arith}
 use Rattle.std.proofs.lemmas.Grind.{common_steps}
-use Rattle.lh_unit.specs.Names.{is_name_byte, all_name_bytes, IsName}
+use Rattle.lh_unit.specs.Names.{is_name_byte, all_name_bytes}
 use Rattle.lh_unit.specs.Lexemes.{Lexeme, word, global, local, arrow, minus, punct, is_punct}
 use Rattle.lh_unit.specs.Lines.{lines_of, add_front}
 use Rattle.lh_unit.specs.Pieces.{Piece, token, space, lexeme_bytes, render, IsLexeme, IsSpaced}

@@ -1,13 +1,12 @@
 -- A type within its limits, spelled again.
-use Rattle.std.proofs.Common.{◌≡◌, ℕ, ◌^◌, ◌<◌, ◌≤◌, Bool, true, false, List, [], ◌∷◌, ◌++◌, map, decimal, refl, ap, sym, ◌∙◌, subst, arith, append_assoc}
+use Rattle.std.proofs.Common.{◌≡◌, ℕ, ◌^◌, ◌<◌, ◌≤◌, true, List, [], ◌∷◌, ◌++◌, map, decimal, refl, ap, sym, subst, arith}
 use Rattle.std.specs.Prelude.{codes}
 use Rattle.std.proofs.lemmas.List.{append-nil}
 use Rattle.lh_types.specs.Types.{TypeTree, TypeRow, int_type, time_type, void_type, array_type, tuple_type, signal_type, pointer_type, no_types, more_types, row_of, IsData, AreData, IsLimited, bit_count_row}
 use Rattle.lh_unit.specs.Names.{all_name_bytes}
-use Rattle.lh_unit.specs.Lexemes.{Lexeme, word, punct}
-use Rattle.lh_unit.specs.Marks.{open_bracket, close_bracket, open_brace, close_brace, comma, dollar, star}
-use Rattle.lh_unit.specs.Numerals.{number_of}
-use Rattle.lh_unit.specs.Pieces.{Piece, token, space, IsLexeme, IsSpaced, lexemes_in, mark, number, keyword, commas, behind_commas, in_brackets, in_braces, ◌␣◌}
+use Rattle.lh_unit.specs.Lexemes.{Lexeme, word}
+use Rattle.lh_unit.specs.Marks.{close_bracket, close_brace, comma, dollar, star}
+use Rattle.lh_unit.specs.Pieces.{token, space, IsLexeme, lexemes_in, mark, number, keyword, commas, behind_commas, ◌␣◌}
 use Rattle.lh_unit.specs.CanonTypes.{type_pieces, row_pieces, row_behind}
 use Rattle.lh_unit.specs.Within.{Each}
 use Rattle.lh_unit.specs.SpellsTypes.{SpellsTree, SpellsRow, SpellsType}
@@ -37,16 +36,24 @@ array-stands : (n : ℕ) (t : TypeTree) → n < 10 ^ 64 → Stands (SpellsTree t
 array-stands n t h s =
     record {
       spaced = spaced-enclosed 91 93 (number n ␣ keyword "x" ␣ type_pieces t) refl refl (number-lexeme n h, refl, (word-lexeme (codes "x") refl, refl, s.spaced));
-      spelled = λ rest. (decimal n, lexemes_in ((type_pieces t ++ mark close_bracket) ++ rest), refl, number_of-decimal n h,
-          joined (λ ts more. SpellsTree t ts (close_bracket ∷ more)) (type_pieces t) (mark close_bracket) rest (s.spelled (token close_bracket ∷ rest)));
+      spelled = λ rest. (
+        decimal n,
+        lexemes_in ((type_pieces t ++ mark close_bracket) ++ rest),
+        refl,
+        number_of-decimal n h,
+        joined (λ ts more. SpellsTree t ts (close_bracket ∷ more)) (type_pieces t) (mark close_bracket) rest (s.spelled (token close_bracket ∷ rest)),
+      );
     }
 
 tuple-stands : (r : TypeRow) → Stands (SpellsRow r) (row_pieces r) → Stands (SpellsTree (tuple_type r)) (type_pieces (tuple_type r))
 tuple-stands r s =
     record {
       spaced = spaced-enclosed 123 125 (row_pieces r) refl refl s.spaced;
-      spelled = λ rest. (lexemes_in ((row_pieces r ++ mark close_brace) ++ rest), refl,
-          joined (λ ts more. SpellsRow r ts (close_brace ∷ more)) (row_pieces r) (mark close_brace) rest (s.spelled (token close_brace ∷ rest)));
+      spelled = λ rest. (
+        lexemes_in ((row_pieces r ++ mark close_brace) ++ rest),
+        refl,
+        joined (λ ts more. SpellsRow r ts (close_brace ∷ more)) (row_pieces r) (mark close_brace) rest (s.spelled (token close_brace ∷ rest)),
+      );
     }
 
 signal-stands : (t : TypeTree) → Stands (SpellsTree t) (type_pieces t) → Stands (SpellsTree (signal_type t)) (type_pieces (signal_type t))

@@ -1,24 +1,13 @@
 -- The canonical lines of what is read lead through the same states.
-use Rattle.std.proofs.Common.{◌≡◌, ℕ, ◌+◌, ◌<◌, ◌≤◌, Bool, true, false, List, [], ◌∷◌, ◌++◌, map, length, Option, Some, None, if◌then◌else◌, refl, ap, sym, ◌∙◌, subst, arith, append_assoc}
+use Rattle.std.proofs.Common.{◌≡◌, ℕ, List, [], ◌∷◌, ◌++◌, map, Some, None, if◌then◌else◌, refl, ap, sym, ◌∙◌, subst, append_assoc}
 use Rattle.std.proofs.lemmas.List.{append-nil}
-use Rattle.std.specs.Prelude.{codes}
-use Rattle.lh_types.specs.Types.{TypeTree}
-use Rattle.lh_unit.specs.Contents.{ArgText, LineText, BlockText, UnitText, ItemText, unit_text, declare_text, new_unit, change_last, last_unit, with_block, with_line, line_at_end}
-use Rattle.lh_unit.specs.Lexemes.{Lexeme, lexemes}
+use Rattle.lh_unit.specs.Contents.{LineText, BlockText, UnitText, ItemText, unit_text, declare_text, change_last, last_unit, with_block, line_at_end}
 use Rattle.lh_unit.specs.Marks.{close_brace}
-use Rattle.lh_unit.specs.Pieces.{Piece, mark, render, IsSpaced, lexemes_in}
+use Rattle.lh_unit.specs.Pieces.{Piece, mark}
 use Rattle.lh_unit.specs.Canon.{header, declaration, inst_line, label_lines, block_lines, blocks_lines, item_lines, canon_lines}
-use Rattle.lh_unit.specs.Within.{Each}
-use Rattle.lh_unit.specs.Spells.{LineItem, empty_item, header_item, declare_item, label_item, inst_item, close_item, Spells}
-use Rattle.lh_unit.specs.Reads.{State, Place, outside, in_entity, before_labels, in_empty_block, in_block, place_after, place_in, place_in_last, place_of, may_stand, headed_unit, after, Says, Takes, Walk}
-use Rattle.lh_unit.specs.declared.name.UnitName.{UnitName}
-use Rattle.lh_unit.specs.declared.inst.UnitKind.{UnitKind}
-use Rattle.lh_unit.specs.declared.inst.UnitKind.TheVariants as kind
-use Rattle.lh_unit.proofs.Rendering.{lexemes-render}
+use Rattle.lh_unit.specs.Spells.{label_item}
+use Rattle.lh_unit.specs.Reads.{State}
 use Rattle.lh_again.specs.ItemLines.{item_line}
-use Rattle.lh_again.proofs.Written.{written}
-use Rattle.lh_again.proofs.Operations.{Whole}
-use Rattle.lh_again.proofs.Items.{item-again}
 
 -- the lines of items, the last of which is still open
 abbrev pub open_lines : List ItemText → List (List Piece)

@@ -4,7 +4,7 @@ use Rattle.lh_unit.specs.Canon.{canon, canon_lines}
 use Rattle.lh_unit.specs.Contents.{ItemText}
 use Rattle.lh_unit.specs.Lexemes.{lexemes}
 use Rattle.lh_unit.specs.Lines.{lines_of}
-use Rattle.lh_unit.specs.Pieces.{Piece, IsSpaced, render, lexemes_in}
+use Rattle.lh_unit.specs.Pieces.{Piece, render, lexemes_in}
 use Rattle.lh_unit.specs.Reads.{Reads}
 use Rattle.lh_unit.specs.WellFormed.{IsSpelled}
 use Rattle.lh_unit.specs.Within.{Each}
