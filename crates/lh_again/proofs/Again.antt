@@ -18,6 +18,11 @@ pub record Again (S : List Lexeme → List Lexeme → Type 0) (ps : List Piece) 
   pub left : Each IsLexeme more
   pub stands : Stands S ps
 
+-- the tokens of a whole line are spaced and spell what S says
+pub record Whole (S : List Lexeme → Type 0) (ps : List Piece) : Type 0 where
+  pub spaced : IsSpaced ps
+  pub spelled : S (lexemes_in ps)
+
 -- at the end of a line
 pub at_end : (S : List Lexeme → List Lexeme → Type 0) (ps : List Piece) → Stands S ps → S (lexemes_in ps) []
 at_end S ps a = subst (λ q. S (lexemes_in q) []) (append-nil ps) (a.spelled [])

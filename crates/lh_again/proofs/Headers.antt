@@ -18,10 +18,9 @@ use Rattle.lh_unit.specs.declared.inst.UnitKind.TheVariants as kind
 use Rattle.lh_unit.specs.declared.inst.Declare.{Declare}
 use Rattle.lh_unit.specs.declared.inst.Declare.TheVariants as declare
 use Rattle.lh_again.proofs.Spacing.{and_false, spaced-append, spaced-space, spaced-enclosed}
-use Rattle.lh_again.proofs.Again.{Stands, Again, at_end, again-map, list-again}
+use Rattle.lh_again.proofs.Again.{Whole, Stands, Again, at_end, again-map, list-again}
 use Rattle.lh_again.proofs.Types.{type-again, row_pieces-list}
 use Rattle.lh_again.proofs.Operands.{unit_lexeme, unit-again, typed-again}
-use Rattle.lh_again.proofs.Operations.{Whole}
 use Rattle.lh_again.proofs.Insts.{parens}
 
 abbrev typed_name : TypedName → List Piece

@@ -15,15 +15,11 @@ use Rattle.lh_unit.specs.SpellsParts.{SpellsParts, SpellsList, SpellsBehind, Spe
 use Rattle.lh_unit.specs.SpellsInst.{SpellsDelay, SpellsWordTyped, SpellsInst, SpellsLine}
 use Rattle.lh_unit.specs.declared.name.UnitName.{UnitName}
 use Rattle.lh_again.proofs.Spacing.{and_false, spaced-append, spaced-space, spaced-comma, spaced-enclosed, word-lexeme}
-use Rattle.lh_again.proofs.Again.{Stands, Again, at_end, joined, parts-again, list-again, behind-again}
+use Rattle.lh_again.proofs.Again.{Whole, Stands, Again, at_end, joined, parts-again, list-again, behind-again}
 use Rattle.lh_again.proofs.Types.{type-again}
 use Rattle.lh_again.proofs.Numbers.{integer-again, time-again}
 use Rattle.lh_again.proofs.Operands.{unit_lexeme, unit-again, local-again, operand-again, with_type-again, some-stands, maybe-again, maybe-begins, maybe-alone, trigger-again, edge-again}
-use Rattle.lh_again.proofs.Operations.{Whole, pure-again}
-
-behind-begins : (ps : List (List Piece)) → begins_with_word (behind_commas ps) ≡ false
-behind-begins [] = refl
-behind-begins (p ∷ ps) = refl
+use Rattle.lh_again.proofs.Operations.{behind-begins, pure-again}
 
 -- a list in parentheses, and what follows
 pub parens : (S : List Lexeme → List Lexeme → Type 0) (ps rest : List Piece) → Stands S ps → S (lexemes_in ((ps ++ mark close_paren) ++ rest)) (close_paren ∷ lexemes_in rest)

@@ -7,7 +7,7 @@ use Rattle.lh_unit.specs.Pieces.{IsLexeme}
 use Rattle.lh_unit.specs.Within.{Each}
 use Rattle.lh_unit.specs.Spells.{LineItem, empty_item, header_item, declare_item, label_item, inst_item, close_item, SpellsLabel, Spells}
 use Rattle.lh_again.specs.ItemLines.{item_line}
-use Rattle.lh_again.proofs.Operations.{Whole}
+use Rattle.lh_again.proofs.Again.{Whole}
 use Rattle.lh_again.proofs.Insts.{line-again}
 use Rattle.lh_again.proofs.Headers.{header-again, declare-again}
 

@@ -1,15 +1,15 @@
-mod Numerals
-mod Spacing
-mod Written
-mod Again
-mod Types
-mod Numbers
-mod Operands
-mod Operations
-mod Insts
-mod Headers
-mod Items
-mod TextLines
-mod Walks
-mod Steps
-mod Readings
+pub mod Numerals
+pub mod Spacing
+pub mod Written
+pub mod Again
+pub mod Types
+pub mod Numbers
+pub mod Operands
+pub mod Operations
+pub mod Insts
+pub mod Headers
+pub mod Items
+pub mod TextLines
+pub mod Walks
+pub mod Steps
+pub mod Readings

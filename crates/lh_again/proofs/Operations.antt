@@ -16,15 +16,10 @@ use Rattle.lh_unit.specs.SpellsParts.{SpellsBehind, SpellsOperand, SpellsBare, S
 use Rattle.lh_unit.specs.SpellsInst.{columns, IsOpWord, SpellsWordOp, SpellsPure}
 use Rattle.lh_again.proofs.Numerals.{number_of-decimal}
 use Rattle.lh_again.proofs.Spacing.{spaced-append, spaced-enclosed, word-lexeme}
-use Rattle.lh_again.proofs.Again.{Stands, at_end, parts-again, behind-again}
+use Rattle.lh_again.proofs.Again.{Whole, Stands, at_end, parts-again, behind-again}
 use Rattle.lh_again.proofs.Types.{number-lexeme}
 use Rattle.lh_again.proofs.Numbers.{number-again}
 use Rattle.lh_again.proofs.Operands.{operand-again, bare-again, with_type-again, columns-again, typed_operand, operand_typed}
-
--- a line's tokens spell what S says, and stand spaced
-pub record Whole (S : List Lexeme → Type 0) (ps : List Piece) : Type 0 where
-  pub spaced : IsSpaced ps
-  pub spelled : S (lexemes_in ps)
 
 word-is : (o : Op) → IsOpWord o (op_word o)
 word-is op.Umul = inl refl
@@ -35,7 +30,7 @@ word-written op.Umul w h i = word-lexeme (codes "umul") refl
 word-written o w h i = subst (λ v. IsLexeme (word v)) h i
 
 -- what stands behind a comma begins with no word
-behind-begins : (ps : List (List Piece)) → begins_with_word (behind_commas ps) ≡ false
+pub behind-begins : (ps : List (List Piece)) → begins_with_word (behind_commas ps) ≡ false
 behind-begins [] = refl
 behind-begins (p ∷ ps) = refl
 

@@ -12,7 +12,7 @@ use Rattle.lh_unit.proofs.Rendering.{lexemes-render}
 use Rattle.lh_again.specs.ItemLines.{item_line}
 use Rattle.lh_again.specs.Laws.{EveryReadingIsSpelled, CanonHasItsLines, HasItsTokens, CanonHasItsTokens}
 use Rattle.lh_again.proofs.Written.{written}
-use Rattle.lh_again.proofs.Operations.{Whole}
+use Rattle.lh_again.proofs.Again.{Whole}
 use Rattle.lh_again.proofs.Items.{item-again}
 use Rattle.lh_again.proofs.TextLines.{lines_of-text}
 use Rattle.lh_again.proofs.Walks.{lines_in}

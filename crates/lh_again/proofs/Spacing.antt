@@ -34,7 +34,8 @@ spaced-comma a b h k = spaced-append a (token comma ∷ space ∷ b) h (refl, re
 pub spaced-enclosed : (before behind : ℕ) (ps : List Piece) → is_punct before ≡ true → is_punct behind ≡ true → IsSpaced ps → IsSpaced (token (punct before) ∷ ps ++ token (punct behind) ∷ [])
 spaced-enclosed before behind ps o c h = (o, refl, spaced-append ps (token (punct behind) ∷ []) h (c, refl, tt) refl)
 
-and_parts : (a b : Bool) → (a && b) ≡ true → (a ≡ true) × (b ≡ true)
+-- both of two tests
+pub and_parts : (a b : Bool) → (a && b) ≡ true → (a ≡ true) × (b ≡ true)
 and_parts true b p = (refl, p)
 and_parts false b p = absurd cc
 

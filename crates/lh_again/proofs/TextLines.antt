@@ -7,6 +7,7 @@ use Rattle.lh_unit.specs.Lines.{lines_of, add_front}
 use Rattle.lh_unit.specs.Pieces.{Piece, token, space, lexeme_bytes, render, IsLexeme, IsSpaced}
 use Rattle.lh_unit.specs.Canon.{text_of}
 use Rattle.lh_unit.specs.Within.{Each}
+use Rattle.lh_again.proofs.Spacing.{and_parts}
 
 -- no byte ends the line
 abbrev IsOneLine : List ℕ → Type 0
@@ -17,10 +18,6 @@ one_line-append : (a b : List ℕ) → IsOneLine a → IsOneLine b → IsOneLine
 one_line-append [] b h k = k
 one_line-append (x ∷ a) b h k = (h.0, one_line-append a b h.1 k)
 
-parted : (a b : Bool) → (a && b) ≡ true → (a ≡ true) × (b ≡ true)
-parted true b p = (refl, p)
-parted false b p = absurd cc
-
 name_byte : (b : ℕ) → is_name_byte b ≡ true → nat_eq b 10 ≡ false
 name_byte b h = grind (arith, common_steps)
 
@@ -29,7 +26,7 @@ mark_byte b h = grind (arith, common_steps)
 
 names-one_line : (bs : List ℕ) → all_name_bytes bs ≡ true → IsOneLine bs
 names-one_line [] h = tt
-names-one_line (b ∷ bs) h = let p = parted (is_name_byte b) (all_name_bytes bs) h in (name_byte b p.0, names-one_line bs p.1)
+names-one_line (b ∷ bs) h = let p = and_parts (is_name_byte b) (all_name_bytes bs) h in (name_byte b p.0, names-one_line bs p.1)
 
 lexeme-one_line : (t : Lexeme) → IsLexeme t → IsOneLine (lexeme_bytes t)
 lexeme-one_line (word w) h = names-one_line w h.1
