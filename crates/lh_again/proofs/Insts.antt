@@ -1,5 +1,5 @@
 -- Instructions, spelled again.
-use Rattle.std.proofs.Common.{◌≡◌, ℕ, ◌≤◌, inl, inr, false, List, [], ◌∷◌, ◌++◌, map, Option, Some, None, refl, sym, subst}
+use Rattle.std.proofs.Common.{ℕ, ◌≤◌, inl, inr, List, [], ◌∷◌, ◌++◌, map, Option, Some, None, refl, sym, subst}
 use Rattle.std.specs.Prelude.{codes}
 use Rattle.lh_types.specs.Types.{TypeTree, int_type}
 use Rattle.lh_types.specs.Values.{Datum, int_value, time_value, array_value, tuple_value}
@@ -7,7 +7,7 @@ use Rattle.lh_unit.specs.Names.{IsName}
 use Rattle.lh_unit.specs.Contents.{OperandText, TriggerText, EdgeText, InstText, const_text, pure_text, var_text, ld_text, st_text, sig_text, prb_text, drv_text, reg_text, child_text, call_text, phi_text, br_text, branch_text, wait_text, halt_text, ret_text}
 use Rattle.lh_unit.specs.Lexemes.{Lexeme, word, local, arrow}
 use Rattle.lh_unit.specs.Marks.{open_paren, close_paren, comma, equals}
-use Rattle.lh_unit.specs.Pieces.{Piece, token, space, IsLexeme, begins_with_word, takes_more, lexemes_in, mark, number, keyword, percent, commas, behind_commas, in_parens, ◌␣◌}
+use Rattle.lh_unit.specs.Pieces.{Piece, token, space, IsLexeme, takes_more, lexemes_in, mark, number, keyword, percent, commas, behind_commas, in_parens, ◌␣◌}
 use Rattle.lh_unit.specs.CanonTypes.{type_pieces, time_pieces}
 use Rattle.lh_unit.specs.Canon.{operand, operands, maybe, trigger, edge, inst_pieces, line_pieces}
 use Rattle.lh_unit.specs.Within.{Each}

@@ -13,3 +13,6 @@ pub mod TextLines
 pub mod Walks
 pub mod Steps
 pub mod Readings
+pub mod Units
+pub mod Apart
+pub mod Together

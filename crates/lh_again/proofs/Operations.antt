@@ -7,7 +7,7 @@ use Rattle.lh_types.specs.declared.op.Op.TheVariants as op
 use Rattle.lh_unit.specs.Contents.{OperandText}
 use Rattle.lh_unit.specs.Lexemes.{Lexeme, word}
 use Rattle.lh_unit.specs.Marks.{open_bracket, close_bracket, open_brace, close_brace}
-use Rattle.lh_unit.specs.Pieces.{Piece, token, IsLexeme, IsSpaced, begins_with_word, lexemes_in, mark, number, keyword, behind_commas, ◌␣◌}
+use Rattle.lh_unit.specs.Pieces.{Piece, token, IsLexeme, begins_with_word, lexemes_in, mark, number, keyword, behind_commas, ◌␣◌}
 use Rattle.lh_unit.specs.CanonWords.{op_word, op_numbers}
 use Rattle.lh_unit.specs.Canon.{operand, operands, operation}
 use Rattle.lh_unit.specs.Within.{Each}

@@ -7,7 +7,8 @@ use Rattle.lh_unit.specs.Pieces.{Piece, render, IsSpaced, lexemes_in}
 use Rattle.lh_unit.specs.Canon.{canon, canon_lines}
 use Rattle.lh_unit.specs.Within.{Each}
 use Rattle.lh_unit.specs.Spells.{LineItem, empty_item, Spells}
-use Rattle.lh_unit.specs.Reads.{State, after, Takes, Walk, start, Reads}
+use Rattle.lh_unit.specs.Reads.{State, after, Takes, Walk, start}
+use Rattle.lh_unit.specs.WellFormed.{IsSpelled}
 use Rattle.lh_unit.proofs.Rendering.{lexemes-render}
 use Rattle.lh_again.specs.ItemLines.{item_line}
 use Rattle.lh_again.specs.Laws.{EveryReadingIsSpelled, CanonHasItsLines, HasItsTokens, CanonHasItsTokens}
@@ -55,7 +56,8 @@ lined (l ∷ ls) s t w r =
     let n : Ready w.0 = subst Ready (sym k.becomes) d.ready in
     taken s w.0 t l k d a (lined ls w.0 t w.2 n)
 
-abbrev read_to : List ItemText → State
+-- the state after the last line
+abbrev pub read_to : List ItemText → State
 read_to items = record { items = items; inside = false }
 
 -- the canonical lines of what is read
@@ -63,23 +65,27 @@ record Readable (items : List ItemText) : Type 0 where
   spaced : Each IsSpaced (canon_lines items)
   walk : Walk (map render (canon_lines items)) start (read_to items)
 
-readable : (text : List ℕ) (items : List ItemText) → Reads text items → Readable items
-readable text items w =
-    let r = lined (lines_of text) start (read_to items) w tt in
+readable : (ls : List (List ℕ)) (items : List ItemText) → Walk ls start (read_to items) → Readable items
+readable ls items w =
+    let r = lined ls start (read_to items) w tt in
     let e : r.more ≡ canon_lines items = sym r.adds in
     record { spaced = subst (Each IsSpaced) e r.spaced; walk = subst (λ q. Walk (map render q) start (read_to items)) e r.walk }
 
-pub every_reading_is_spelled : EveryReadingIsSpelled
-every_reading_is_spelled text items w =
-    let r = readable text items w in
+-- what any lines lead to is spelled
+pub walked-spelled : (ls : List (List ℕ)) (items : List ItemText) → Walk ls start (read_to items) → IsSpelled items
+walked-spelled ls items w =
+    let r = readable ls items w in
     subst (λ q. Walk q start (read_to items)) (sym (lines_of-text (canon_lines items) r.spaced)) r.walk
 
+pub every_reading_is_spelled : EveryReadingIsSpelled
+every_reading_is_spelled text items w = walked-spelled (lines_of text) items w
+
 pub canon_has_its_lines : CanonHasItsLines
-canon_has_its_lines items h = lines_of-text (canon_lines items) (readable (canon items) items h).spaced
+canon_has_its_lines items h = lines_of-text (canon_lines items) (readable (lines_of (canon items)) items h).spaced
 
 each-tokens : (ls : List (List Piece)) → Each IsSpaced ls → Each HasItsTokens ls
 each-tokens [] h = tt
 each-tokens (l ∷ ls) h = (lexemes-render l h.0, each-tokens ls h.1)
 
 pub canon_has_its_tokens : CanonHasItsTokens
-canon_has_its_tokens items h = each-tokens (canon_lines items) (readable (canon items) items h).spaced
+canon_has_its_tokens items h = each-tokens (canon_lines items) (readable (lines_of (canon items)) items h).spaced

@@ -40,7 +40,7 @@ find s false o e f = is_outside (rw e refl) (rw e refl)
 find s true None e f = is_outside (rw (e, f) refl) (rw e (not_open s.items f))
 find s true (Some u) e f = is_inside u e f (rw (e, f) refl)
 
-abbrev IsIn : Place → Type 0
+abbrev pub IsIn : Place → Type 0
 IsIn outside = ⊥
 IsIn _ = Unit {0}
 
@@ -49,19 +49,19 @@ after-in [] = tt
 after-in (b ∷ []) = elim (has_lines b.lines) as (λ t. IsIn (if t then in_block else in_empty_block)) [ true ↦ tt | false ↦ tt ]
 after-in (b ∷ c ∷ more) = after-in (c ∷ more)
 
-unit-in : (k : UnitKind) (bs : List BlockText) → IsIn (place_in k bs)
+pub unit-in : (k : UnitKind) (bs : List BlockText) → IsIn (place_in k bs)
 unit-in kind.Entity bs = tt
 unit-in kind.Func bs = after-in bs
 unit-in kind.Proc bs = after-in bs
 
-no_header : (p : Place) (k : UnitKind) (n : UnitName) (args : List ArgText) (r : Option TypeTree) → IsIn p → may_stand p (header_item k n args r) ≡ true → ⊥
+pub no_header : (p : Place) (k : UnitKind) (n : UnitName) (args : List ArgText) (r : Option TypeTree) → IsIn p → may_stand p (header_item k n args r) ≡ true → ⊥
 no_header outside k n args r i h = i
 no_header in_entity k n args r i h = cc
 no_header before_labels k n args r i h = cc
 no_header in_empty_block k n args r i h = cc
 no_header in_block k n args r i h = cc
 
-no_declare : (p : Place) (d : Declare) → IsIn p → may_stand p (declare_item d) ≡ true → ⊥
+pub no_declare : (p : Place) (d : Declare) → IsIn p → may_stand p (declare_item d) ≡ true → ⊥
 no_declare outside d i h = i
 no_declare in_entity d i h = cc
 no_declare before_labels d i h = cc

@@ -1,5 +1,5 @@
 -- The lines of a text that is made of spaced lines.
-use Rattle.std.proofs.Common.{◌≡◌, ℕ, Bool, true, false, ◌&&◌, List, [], ◌∷◌, ◌++◌, map, nat_eq, refl, ap, ◌∙◌, arith}
+use Rattle.std.proofs.Common.{◌≡◌, ℕ, true, false, List, [], ◌∷◌, ◌++◌, map, nat_eq, refl, ap, ◌∙◌, arith}
 use Rattle.std.proofs.lemmas.Grind.{common_steps}
 use Rattle.lh_unit.specs.Names.{is_name_byte, all_name_bytes}
 use Rattle.lh_unit.specs.Lexemes.{Lexeme, word, global, local, arrow, minus, punct, is_punct}

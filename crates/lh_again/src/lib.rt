@@ -1,7 +1,7 @@
 //! Laws on reading what is printed. Each is the contract of a function that does nothing, so that other crates can cite it.
 #![tactic(auto)]
 
-ghost use Rattle.lh_again.specs.Laws.{EveryReadingIsSpelled, CanonHasItsLines, CanonHasItsTokens};
+ghost use Rattle.lh_again.specs.Laws.{EveryReadingIsSpelled, CanonHasItsLines, CanonHasItsTokens, SpelledApart, SpelledTogether};
 
 /// What any text reads as, its canonical text reads as too.
 pub fn canonical_text_reads_back()
@@ -12,4 +12,11 @@ pub fn canonical_text_reads_back()
 pub fn canonical_text_has_its_lines()
     ensures lines { CanonHasItsLines }
     ensures tokens { CanonHasItsTokens }
+{}
+
+/// A module is spelled where each of its items alone is and no two units have one name. So a unit may be
+/// put in the place of another of its name.
+pub fn modules_are_spelled_by_items()
+    ensures apart { SpelledApart }
+    ensures together { SpelledTogether }
 {}
