@@ -33,7 +33,7 @@ alone : (i : ItemText) → Reached (read_to (i ∷ [])) → IsSpelledAlone i
 alone i r = walked-spelled r.lines (i ∷ []) r.walk
 
 -- a unit that is still open, behind these items
-abbrev opened : List ItemText → UnitText → State
+abbrev pub opened : List ItemText → UnitText → State
 opened front u = record { items = front ++ unit_text u ∷ []; inside = true }
 
 each-push : (items : List ItemText) (i : ItemText) → Each IsSpelledAlone items → IsSpelledAlone i → Each IsSpelledAlone (items ++ i ∷ [])

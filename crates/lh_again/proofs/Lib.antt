@@ -16,3 +16,4 @@ pub mod Readings
 pub mod Units
 pub mod Apart
 pub mod Together
+pub mod Printing

@@ -1,2 +1,3 @@
 pub mod ItemLines
+pub mod Printable
 pub mod Laws

@@ -1,7 +1,7 @@
 //! Laws on reading what is printed. Each is the contract of a function that does nothing, so that other crates can cite it.
 #![tactic(auto)]
 
-ghost use Rattle.lh_again.specs.Laws.{EveryReadingIsSpelled, CanonHasItsLines, CanonHasItsTokens, SpelledApart, SpelledTogether};
+ghost use Rattle.lh_again.specs.Laws.{EveryReadingIsSpelled, CanonHasItsLines, CanonHasItsTokens, PrintableIsSpelled, SpelledApart, SpelledTogether};
 
 /// What any text reads as, its canonical text reads as too.
 pub fn canonical_text_reads_back()
@@ -12,6 +12,12 @@ pub fn canonical_text_reads_back()
 pub fn canonical_text_has_its_lines()
     ensures lines { CanonHasItsLines }
     ensures tokens { CanonHasItsTokens }
+{}
+
+/// A unit of the shape of its kind, with lines that can be printed, new names and no more instructions than
+/// the limit, is spelled as the only item of a module.
+pub fn printable_units_are_spelled()
+    ensures { PrintableIsSpelled }
 {}
 
 /// A module is spelled where each of its items alone is and no two units have one name. So a unit may be
