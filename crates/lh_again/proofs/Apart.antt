@@ -57,10 +57,10 @@ Kept false items = Closed items
 Kept true items = Open items
 
 -- what a line says and that it has no fault
-record Fine (s : State) (l : List ℕ) (i : LineItem) : Type 0 where
-  said : Says s l i
-  has_room : too_large s i ≡ false
-  is_new : defines_again s i ≡ false
+pub record Fine (s : State) (l : List ℕ) (i : LineItem) : Type 0 where
+  pub said : Says s l i
+  pub has_room : too_large s i ≡ false
+  pub is_new : defines_again s i ≡ false
 
 spells : (s : State) (l : List ℕ) (i : LineItem) (f : Fine s l i) → Spells f.said.tokens i
 spells s l i f = f.said.spelled
@@ -105,7 +105,7 @@ declare-kept items l d c f =
     (each-push items (declare_text d) c.0 (alone (declare_text d) (record { lines = l ∷ []; walk = (read_to (declare_text d ∷ []), t, refl) })), repeat-declare [] items d c.1)
 
 -- what stands at an open unit does so where the unit is alone
-alone-stands : (front : List ItemText) (u : UnitText) (i : LineItem) → may_stand (place_of (opened front u)) i ≡ true → may_stand (place_in u.kind u.blocks) i ≡ true
+pub alone-stands : (front : List ItemText) (u : UnitText) (i : LineItem) → may_stand (place_of (opened front u)) i ≡ true → may_stand (place_in u.kind u.blocks) i ≡ true
 alone-stands front u i h = subst (λ o. may_stand (place_in_last o) i ≡ true) (last_unit-push front u) h
 
 label-kept : (front : List ItemText) (u : UnitText) (l : List ℕ) (n : List ℕ) → Each IsSpelledAlone front → units_repeat [] (front ++ unit_text u ∷ []) ≡ false → Reached (opened [] u) → Fine (opened front u) l (label_item n) → Open (change_last (with_block n) (front ++ unit_text u ∷ []))

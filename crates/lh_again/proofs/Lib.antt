@@ -17,3 +17,4 @@ pub mod Units
 pub mod Apart
 pub mod Together
 pub mod Printing
+pub mod Printed

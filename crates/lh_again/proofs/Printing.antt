@@ -1,23 +1,23 @@
 -- A unit that can be printed is spelled.
-use Rattle.std.proofs.Common.{◌≡◌, ℕ, ◌+◌, ◌<◌, ◌≤◌, Bool, true, false, ◌||◌, List, [], ◌∷◌, ◌++◌, length, nat_eq, Option, Some, None, if◌then◌else◌, refl, ap, sym, ◌∙◌, subst, arith, append_assoc, length-append}
+use Rattle.std.proofs.Common.{◌≡◌, ℕ, ◌+◌, ◌<◌, ◌≤◌, true, false, ◌||◌, List, [], ◌∷◌, ◌++◌, length, nat_eq, Option, Some, None, if◌then◌else◌, refl, ap, sym, ◌∙◌, subst, arith, append_assoc, length-append}
 use Rattle.std.proofs.lemmas.List.{append-nil}
 use Rattle.std.proofs.lemmas.Grind.{common_steps}
 use Rattle.lh_types.specs.Types.{TypeTree}
-use Rattle.lh_unit.specs.Contents.{ArgText, LineText, BlockText, UnitText, ItemText, unit_text, line_at_end, with_block, with_line, line_count, args_define, lines_define, blocks_define, is_result_name, defines_label_in}
+use Rattle.lh_unit.specs.Contents.{ArgText, LineText, BlockText, UnitText, unit_text, declare_text, line_at_end, line_count, args_define, lines_define, blocks_define, is_result_name, defines_label_in}
 use Rattle.lh_unit.specs.Lexemes.{Lexeme}
-use Rattle.lh_unit.specs.Marks.{close_brace}
-use Rattle.lh_unit.specs.Pieces.{mark, render, IsSpaced, lexemes_in}
-use Rattle.lh_unit.specs.Spells.{LineItem, header_item, label_item, inst_item, close_item, SpellsHeader, Spells}
-use Rattle.lh_unit.specs.Reads.{State, has_lines, in_entity, in_block, in_empty_block, place_after, place_in, place_of, may_stand, headed_unit, after, is_full, too_large, args_repeat, is_assert, value_again, defines_again, most_lines, Says, Takes, Walk, start}
+use Rattle.lh_unit.specs.Pieces.{render, lexemes_in}
+use Rattle.lh_unit.specs.Spells.{LineItem, header_item, declare_item, label_item, inst_item, close_item, SpellsHeader}
+use Rattle.lh_unit.specs.Reads.{State, has_lines, in_block, in_empty_block, place_after, place_in, place_of, may_stand, headed_unit, after, too_large, args_repeat, is_assert, value_again, defines_again, most_lines, Takes, Walk, start}
 use Rattle.lh_unit.specs.Within.{Each}
 use Rattle.lh_unit.specs.declared.name.UnitName.{UnitName}
 use Rattle.lh_unit.specs.declared.inst.UnitKind.{UnitKind}
 use Rattle.lh_unit.specs.declared.inst.UnitKind.TheVariants as kind
-use Rattle.lh_unit.proofs.Lists.{or-assoc, or_false}
+use Rattle.lh_unit.specs.declared.inst.Declare.{Declare}
+use Rattle.lh_unit.proofs.Lists.{or-assoc}
 use Rattle.lh_unit.proofs.Rendering.{lexemes-render}
 use Rattle.lh_again.specs.ItemLines.{item_line}
 use Rattle.lh_again.specs.Laws.{PrintableIsSpelled}
-use Rattle.lh_again.specs.Printable.{HasLine, HasInstLine, HasLabelLine, IsLabelled, HasShape, all_lines, result_repeats, results_repeat, label_repeats, labels_repeat, IsPrintable}
+use Rattle.lh_again.specs.Printable.{HasLine, HasInstLine, HasLabelLine, IsLabelled, all_lines, result_repeats, results_repeat, label_repeats, labels_repeat, IsPrintable}
 use Rattle.lh_again.proofs.Apart.{opened, walk-append}
 use Rattle.lh_again.proofs.Readings.{read_to, walked-spelled}
 use Rattle.lh_again.proofs.Units.{either-false}
@@ -52,10 +52,10 @@ pass s i p =
     in
     record { lines = render (item_line i) ∷ []; walk = (after s i, t, refl) }
 
-abbrev unit_of : UnitKind → UnitName → List ArgText → Option TypeTree → List BlockText → UnitText
+abbrev pub unit_of : UnitKind → UnitName → List ArgText → Option TypeTree → List BlockText → UnitText
 unit_of k n args r bs = record { kind = k; name = n; args = args; result = r; blocks = bs }
 
-abbrev block : Option (List ℕ) → List LineText → BlockText
+abbrev pub block : Option (List ℕ) → List LineText → BlockText
 block label lines = record { label = label; lines = lines }
 
 -- one more line at the end of the last block
@@ -64,7 +64,7 @@ line_at_end-last l [] b = refl
 line_at_end-last l (c ∷ []) b = refl
 line_at_end-last l (c ∷ d ∷ done) b = ap (λ q. c ∷ q) (line_at_end-last l (d ∷ done) b)
 
-line_count-last : (done : List BlockText) (b : BlockText) → line_count (done ++ b ∷ []) ≡ line_count done + length b.lines
+pub line_count-last : (done : List BlockText) (b : BlockText) → line_count (done ++ b ∷ []) ≡ line_count done + length b.lines
 line_count-last [] b = omega arith
 line_count-last (c ∷ done) b = let e = line_count-last done b in omega arith
 
@@ -72,11 +72,11 @@ lines_define-append : (n : List ℕ) (xs ys : List LineText) → lines_define n 
 lines_define-append n [] ys = refl
 lines_define-append n (x ∷ xs) ys = ap (λ q. is_result_name n x.result || q) (lines_define-append n xs ys) ∙ sym (or-assoc (is_result_name n x.result) (lines_define n xs) (lines_define n ys))
 
-blocks_define-lines : (n : List ℕ) (bs : List BlockText) → blocks_define n bs ≡ lines_define n (all_lines bs)
+pub blocks_define-lines : (n : List ℕ) (bs : List BlockText) → blocks_define n bs ≡ lines_define n (all_lines bs)
 blocks_define-lines n [] = refl
 blocks_define-lines n (b ∷ bs) = ap (λ q. lines_define n b.lines || q) (blocks_define-lines n bs) ∙ sym (lines_define-append n b.lines (all_lines bs))
 
-all_lines-last : (done : List BlockText) (b : BlockText) → all_lines (done ++ b ∷ []) ≡ all_lines done ++ b.lines
+pub all_lines-last : (done : List BlockText) (b : BlockText) → all_lines (done ++ b ∷ []) ≡ all_lines done ++ b.lines
 all_lines-last [] b = append-nil b.lines
 all_lines-last (c ∷ done) b = ap (λ q. c.lines ++ q) (all_lines-last done b) ∙ sym (append_assoc c.lines (all_lines done) b.lines)
 
@@ -120,11 +120,11 @@ full-after b [] h = let e : has_lines b.lines ≡ true = h.0.1 in rw e refl
 full-after b (c ∷ bs) h = full-after c bs h.1
 
 -- the blocks of a unit that has only its header
-abbrev start_blocks : UnitKind → List BlockText
+abbrev pub start_blocks : UnitKind → List BlockText
 start_blocks kind.Entity = block None [] ∷ []
 start_blocks _ = []
 
-headed-start : (k : UnitKind) (n : UnitName) (args : List ArgText) (r : Option TypeTree) (ts : List Lexeme) → SpellsHeader k n args r ts → headed_unit k n args r ≡ unit_of k n args r (start_blocks k)
+pub headed-start : (k : UnitKind) (n : UnitName) (args : List ArgText) (r : Option TypeTree) (ts : List Lexeme) → SpellsHeader k n args r ts → headed_unit k n args r ≡ unit_of k n args r (start_blocks k)
 headed-start kind.Func n args (Some r) ts h = refl
 headed-start kind.Proc n args None ts h = refl
 headed-start kind.Entity n args None ts h = refl
@@ -221,5 +221,9 @@ printable-way k n args r bs p =
     on start (with_blocks k n args r (start_blocks k)) (read_to (unit_text (unit_of k n args r bs) ∷ [])) (header-way k n args r p.headed p.no_assert p.new_args)
     (on (with_blocks k n args r (start_blocks k)) (with_blocks k n args r bs) (read_to (unit_text (unit_of k n args r bs) ∷ [])) b.way (close-way k n args r bs b.ends))
 
+declare-way : (d : Declare) → HasLine (declare_item d) → Way start (read_to (declare_text d ∷ []))
+declare-way d h = pass start (declare_item d) (record { line = h; stands = refl; has_room = refl; is_new = refl })
+
 pub printable_is_spelled : PrintableIsSpelled
-printable_is_spelled u p = let w = printable-way u.kind u.name u.args u.result u.blocks p in walked-spelled w.lines (unit_text u ∷ []) w.walk
+printable_is_spelled (unit_text u) p = let w = printable-way u.kind u.name u.args u.result u.blocks p in walked-spelled w.lines (unit_text u ∷ []) w.walk
+printable_is_spelled (declare_text d) h = let w = declare-way d h in walked-spelled w.lines (declare_text d ∷ []) w.walk

@@ -73,7 +73,7 @@ block_after : (bs : List BlockText) (l : LineText) → may_stand (place_after bs
 block_after [] l h = cc
 block_after (b ∷ bs) l h = tt
 
-block_in : (k : UnitKind) (bs : List BlockText) (l : LineText) → BlockIn k bs → may_stand (place_in k bs) (inst_item l) ≡ true → HasBlock bs
+pub block_in : (k : UnitKind) (bs : List BlockText) (l : LineText) → BlockIn k bs → may_stand (place_in k bs) (inst_item l) ≡ true → HasBlock bs
 block_in kind.Entity bs l b h = b
 block_in kind.Func bs l b h = block_after bs l h
 block_in kind.Proc bs l b h = block_after bs l h

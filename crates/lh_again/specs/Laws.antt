@@ -1,14 +1,14 @@
 -- What holds of the canonical text of what is read.
 use Rattle.std.specs.Prelude.{[], ◌∷◌, ◌++◌, Bool, false, ◌||◌, ◌≡◌, ℕ, List, map, Some}
 use Rattle.lh_unit.specs.Canon.{canon, canon_lines}
-use Rattle.lh_unit.specs.Contents.{UnitText, ItemText, unit_text, declare_text, defines_unit}
+use Rattle.lh_unit.specs.Contents.{ItemText, unit_text, declare_text, defines_unit}
 use Rattle.lh_unit.specs.Lexemes.{lexemes}
 use Rattle.lh_unit.specs.Lines.{lines_of}
 use Rattle.lh_unit.specs.Pieces.{Piece, render, lexemes_in}
 use Rattle.lh_unit.specs.Reads.{Reads}
 use Rattle.lh_unit.specs.WellFormed.{IsSpelled}
 use Rattle.lh_unit.specs.Within.{Each}
-use Rattle.lh_again.specs.Printable.{IsPrintable}
+use Rattle.lh_again.specs.Printable.{IsPrintableItem}
 
 -- what a text reads as, its canonical text reads as too
 abbrev pub EveryReadingIsSpelled : Type 0
@@ -44,6 +44,10 @@ SpelledApart = (items : List ItemText) → IsSpelled items → Each IsSpelledAlo
 abbrev pub SpelledTogether : Type 0
 SpelledTogether = (items : List ItemText) → Each IsSpelledAlone items → units_repeat [] items ≡ false → IsSpelled items
 
--- a unit that can be printed is spelled alone
+-- an item that can be printed is spelled alone
 abbrev pub PrintableIsSpelled : Type 0
-PrintableIsSpelled = (u : UnitText) → IsPrintable u → IsSpelledAlone (unit_text u)
+PrintableIsSpelled = (i : ItemText) → IsPrintableItem i → IsSpelledAlone i
+
+-- an item that is spelled alone can be printed
+abbrev pub SpelledIsPrintable : Type 0
+SpelledIsPrintable = (i : ItemText) → IsSpelledAlone i → IsPrintableItem i

@@ -1,8 +1,8 @@
 -- When a unit can be printed so that it reads back.
 use Rattle.std.specs.Prelude.{◌≡◌, ℕ, ◌≤◌, Bool, true, false, ◌||◌, List, [], ◌∷◌, ◌++◌, Option, Some, None}
-use Rattle.lh_unit.specs.Contents.{ArgText, LineText, BlockText, UnitText, args_define, lines_define, defines_label_in, line_count}
+use Rattle.lh_unit.specs.Contents.{ArgText, LineText, BlockText, UnitText, ItemText, unit_text, declare_text, args_define, lines_define, defines_label_in, line_count}
 use Rattle.lh_unit.specs.Pieces.{IsSpaced, lexemes_in}
-use Rattle.lh_unit.specs.Spells.{LineItem, header_item, label_item, inst_item, Spells}
+use Rattle.lh_unit.specs.Spells.{LineItem, header_item, declare_item, label_item, inst_item, Spells}
 use Rattle.lh_unit.specs.Reads.{has_lines, args_repeat, is_assert, most_lines}
 use Rattle.lh_unit.specs.Within.{Each}
 use Rattle.lh_unit.specs.declared.inst.UnitKind.{UnitKind}
@@ -66,3 +66,8 @@ pub record IsPrintable (u : UnitText) : Type 0 where
   pub new_labels : labels_repeat [] u.blocks ≡ false
   pub new_results : results_repeat u.args [] (all_lines u.blocks) ≡ false
   pub fits : line_count u.blocks ≤ most_lines
+
+-- an item that can be printed: such a unit, or a declaration with such a line
+abbrev pub IsPrintableItem : ItemText → Type 0
+IsPrintableItem (unit_text u) = IsPrintable u
+IsPrintableItem (declare_text d) = HasLine (declare_item d)

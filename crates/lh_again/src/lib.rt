@@ -1,7 +1,7 @@
 //! Laws on reading what is printed. Each is the contract of a function that does nothing, so that other crates can cite it.
 #![tactic(auto)]
 
-ghost use Rattle.lh_again.specs.Laws.{EveryReadingIsSpelled, CanonHasItsLines, CanonHasItsTokens, PrintableIsSpelled, SpelledApart, SpelledTogether};
+ghost use Rattle.lh_again.specs.Laws.{EveryReadingIsSpelled, CanonHasItsLines, CanonHasItsTokens, PrintableIsSpelled, SpelledIsPrintable, SpelledApart, SpelledTogether};
 
 /// What any text reads as, its canonical text reads as too.
 pub fn canonical_text_reads_back()
@@ -14,10 +14,11 @@ pub fn canonical_text_has_its_lines()
     ensures tokens { CanonHasItsTokens }
 {}
 
-/// A unit of the shape of its kind, with lines that can be printed, new names and no more instructions than
-/// the limit, is spelled as the only item of a module.
-pub fn printable_units_are_spelled()
-    ensures { PrintableIsSpelled }
+/// An item is spelled as the only one of its module exactly where it can be printed: its lines spell it, and
+/// a unit has the shape of its kind, no name twice, and no more instructions than the limit.
+pub fn printable_items_are_spelled()
+    ensures spelled { PrintableIsSpelled }
+    ensures printable { SpelledIsPrintable }
 {}
 
 /// A module is spelled where each of its items alone is and no two units have one name. So a unit may be
