@@ -1,0 +1,3 @@
+pub mod ItemLines
+pub mod Printable
+pub mod Laws
