@@ -1,0 +1,143 @@
+//! Flows of each shape, and questions on them. A value is lacking only where a route without it is there.
+ghost use Rattle.std.specs.Prelude.{◌≡◌, ◌<◌, length, All, IfOk};
+ghost use Rattle.lh_flow.specs.Routes.{LeadsWithin};
+
+use crate::ask::{Ask, first_lacking};
+use crate::flow::Block;
+use lh_types::list::ListOf;
+use lh_types::ty::NoMemory;
+use std::alloc::Global;
+
+/// The blocks to which a block leads, and the values that it gives.
+#[derive(Clone, Copy)]
+struct Row<'a> {
+    leads: &'a [u32],
+    gives: &'a [u32],
+}
+
+/// The numbers that are below a limit.
+fn below(alloc: Global, numbers: &[u32], limit: usize) -> Result<ListOf<u32>, NoMemory>
+    ensures { IfOk result (λ list. All (λ n. n < limit) list) }
+{
+    let mut list = ListOf::new(alloc);
+    for n in numbers {
+        if (*n as usize) < limit {
+            list.push(*n)?;
+        }
+    }
+    Ok(list)
+}
+
+/// The flow of these rows.
+fn flow(alloc: Global, rows: &[Row]) -> Result<Vec<Block>, NoMemory>
+    ensures within { IfOk result (λ flow. LeadsWithin flow.items) }
+    ensures counted { IfOk result (λ flow. length flow.items ≡ length rows.now) }
+{
+    let mut flow = Vec::new(alloc);
+    for row in rows {
+        let leads = below(alloc, row.leads, rows.len())?;
+        let gives = below(alloc, row.gives, usize::MAX)?;
+        flow.push(Block { leads, gives })?;
+    }
+    Ok(flow)
+}
+
+/// The answer to these questions on the flow of these rows.
+fn first(alloc: Global, rows: &[Row], asks: &[Ask]) -> Result<Option<usize>, NoMemory> {
+    let flow = flow(alloc, rows)?;
+    if !are_within(asks, rows.len()) {
+        return Err(NoMemory);
+    }
+    first_lacking(alloc, flow.as_slice(), asks)
+}
+
+fn are_within(asks: &[Ask], limit: usize) -> bool
+    ensures { result ≡ true → All (λ ask. ask.block < limit) asks.now }
+{
+    for ask in asks {
+        if ask.block as usize >= limit {
+            return false;
+        }
+    }
+    true
+}
+
+fn row<'a>(leads: &'a [u32], gives: &'a [u32]) -> Row<'a> {
+    Row { leads, gives }
+}
+
+/// Asks at the start of a block.
+fn start(block: u32, value: u32) -> Ask {
+    Ask {
+        block,
+        at_end: false,
+        value,
+    }
+}
+
+/// Asks at the end of a block.
+fn end(block: u32, value: u32) -> Ask {
+    Ask {
+        block,
+        at_end: true,
+        value,
+    }
+}
+
+#[test]
+fn a_straight_line(rt: HostRuntime) {
+    let rows = [row(&[1], &[7]), row(&[2], &[]), row(&[], &[8])];
+    let given = [end(0, 7), start(1, 7), start(2, 7), end(2, 7), end(2, 8)];
+    assert!(rt; first(rt.alloc(), &rows, &given) == Ok(None));
+    assert!(rt; first(rt.alloc(), &rows, &[start(0, 7)]) == Ok(Some(0)));
+    assert!(rt; first(rt.alloc(), &rows, &[end(2, 7), start(2, 8)]) == Ok(Some(1)));
+}
+
+#[test]
+fn one_arm_of_two(rt: HostRuntime) {
+    let rows = [
+        row(&[1, 2], &[4]),
+        row(&[3], &[5]),
+        row(&[3], &[]),
+        row(&[], &[]),
+    ];
+    assert!(rt; first(rt.alloc(), &rows, &[end(1, 5), start(3, 4), start(3, 5)]) == Ok(Some(2)));
+    assert!(rt; first(rt.alloc(), &rows, &[end(2, 5)]) == Ok(Some(0)));
+}
+
+#[test]
+fn a_block_that_leads_to_itself(rt: HostRuntime) {
+    let rows = [row(&[1], &[]), row(&[1, 2], &[3]), row(&[], &[])];
+    assert!(rt; first(rt.alloc(), &rows, &[end(1, 3), start(2, 3), start(1, 3)]) == Ok(Some(2)));
+}
+
+#[test]
+fn a_loop(rt: HostRuntime) {
+    let rows = [
+        row(&[2], &[]),
+        row(&[2, 3], &[9]),
+        row(&[1], &[6]),
+        row(&[], &[]),
+    ];
+    assert!(rt; first(rt.alloc(), &rows, &[start(3, 9), start(1, 6), start(2, 9)]) == Ok(Some(2)));
+    assert!(rt; first(rt.alloc(), &rows, &[start(2, 6)]) == Ok(Some(0)));
+}
+
+#[test]
+fn a_block_that_no_route_reaches(rt: HostRuntime) {
+    let rows = [row(&[1], &[4]), row(&[], &[]), row(&[1, 2], &[])];
+    assert!(rt; first(rt.alloc(), &rows, &[start(2, 4), end(2, 9), start(1, 4)]) == Ok(None));
+}
+
+#[test]
+fn questions_on_values_far_apart(rt: HostRuntime) {
+    let rows = [row(&[1], &[64, 4_000_000_000]), row(&[], &[])];
+    let asks = [
+        start(1, 4_000_000_000),
+        start(1, 64),
+        start(1, 4_000_000_001),
+        start(1, 63),
+    ];
+    assert!(rt; first(rt.alloc(), &rows, &asks) == Ok(Some(2)));
+    assert!(rt; first(rt.alloc(), &rows, &asks[..2]) == Ok(None));
+}
