@@ -1,5 +1,5 @@
 //! Flows of each shape, and questions on them. A value is lacking only where a route without it is there.
-ghost use Rattle.std.specs.Prelude.{◌≡◌, ◌<◌, length, All, IfOk};
+ghost use Rattle.std.specs.Prelude.{◌≡◌, ◌<◌, true, length, All, IfOk};
 ghost use Rattle.lh_flow.specs.Routes.{LeadsWithin};
 
 use crate::ask::{Ask, first_lacking};
@@ -13,6 +13,12 @@ use std::alloc::Global;
 struct Row<'a> {
     leads: &'a [u32],
     gives: &'a [u32],
+}
+
+impl<'a> Row<'a> {
+    fn new(leads: &'a [u32], gives: &'a [u32]) -> Row<'a> {
+        Row { leads, gives }
+    }
 }
 
 /// The numbers that are below a limit.
@@ -62,10 +68,6 @@ fn are_within(asks: &[Ask], limit: usize) -> bool
     true
 }
 
-fn row<'a>(leads: &'a [u32], gives: &'a [u32]) -> Row<'a> {
-    Row { leads, gives }
-}
-
 /// Asks at the start of a block.
 fn start(block: u32, value: u32) -> Ask {
     Ask {
@@ -86,7 +88,11 @@ fn end(block: u32, value: u32) -> Ask {
 
 #[test]
 fn a_straight_line(rt: HostRuntime) {
-    let rows = [row(&[1], &[7]), row(&[2], &[]), row(&[], &[8])];
+    let rows = [
+        Row::new(&[1], &[7]),
+        Row::new(&[2], &[]),
+        Row::new(&[], &[8]),
+    ];
     let given = [end(0, 7), start(1, 7), start(2, 7), end(2, 7), end(2, 8)];
     assert!(rt; first(rt.alloc(), &rows, &given) == Ok(None));
     assert!(rt; first(rt.alloc(), &rows, &[start(0, 7)]) == Ok(Some(0)));
@@ -96,10 +102,10 @@ fn a_straight_line(rt: HostRuntime) {
 #[test]
 fn one_arm_of_two(rt: HostRuntime) {
     let rows = [
-        row(&[1, 2], &[4]),
-        row(&[3], &[5]),
-        row(&[3], &[]),
-        row(&[], &[]),
+        Row::new(&[1, 2], &[4]),
+        Row::new(&[3], &[5]),
+        Row::new(&[3], &[]),
+        Row::new(&[], &[]),
     ];
     assert!(rt; first(rt.alloc(), &rows, &[end(1, 5), start(3, 4), start(3, 5)]) == Ok(Some(2)));
     assert!(rt; first(rt.alloc(), &rows, &[end(2, 5)]) == Ok(Some(0)));
@@ -107,17 +113,21 @@ fn one_arm_of_two(rt: HostRuntime) {
 
 #[test]
 fn a_block_that_leads_to_itself(rt: HostRuntime) {
-    let rows = [row(&[1], &[]), row(&[1, 2], &[3]), row(&[], &[])];
+    let rows = [
+        Row::new(&[1], &[]),
+        Row::new(&[1, 2], &[3]),
+        Row::new(&[], &[]),
+    ];
     assert!(rt; first(rt.alloc(), &rows, &[end(1, 3), start(2, 3), start(1, 3)]) == Ok(Some(2)));
 }
 
 #[test]
 fn a_loop(rt: HostRuntime) {
     let rows = [
-        row(&[2], &[]),
-        row(&[2, 3], &[9]),
-        row(&[1], &[6]),
-        row(&[], &[]),
+        Row::new(&[2], &[]),
+        Row::new(&[2, 3], &[9]),
+        Row::new(&[1], &[6]),
+        Row::new(&[], &[]),
     ];
     assert!(rt; first(rt.alloc(), &rows, &[start(3, 9), start(1, 6), start(2, 9)]) == Ok(Some(2)));
     assert!(rt; first(rt.alloc(), &rows, &[start(2, 6)]) == Ok(Some(0)));
@@ -125,13 +135,17 @@ fn a_loop(rt: HostRuntime) {
 
 #[test]
 fn a_block_that_no_route_reaches(rt: HostRuntime) {
-    let rows = [row(&[1], &[4]), row(&[], &[]), row(&[1, 2], &[])];
+    let rows = [
+        Row::new(&[1], &[4]),
+        Row::new(&[], &[]),
+        Row::new(&[1, 2], &[]),
+    ];
     assert!(rt; first(rt.alloc(), &rows, &[start(2, 4), end(2, 9), start(1, 4)]) == Ok(None));
 }
 
 #[test]
 fn questions_on_values_far_apart(rt: HostRuntime) {
-    let rows = [row(&[1], &[64, 4_000_000_000]), row(&[], &[])];
+    let rows = [Row::new(&[1], &[64, 4_000_000_000]), Row::new(&[], &[])];
     let asks = [
         start(1, 4_000_000_000),
         start(1, 64),
