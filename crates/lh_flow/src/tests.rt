@@ -48,6 +48,41 @@ fn flow(alloc: Global, rows: &[Row]) -> Result<Vec<Block>, NoMemory>
     Ok(flow)
 }
 
+/// A flow of 20,000 blocks, each of which leads to the next and back, and gives three values.
+fn long_flow(alloc: Global) -> Result<Vec<Block>, NoMemory>
+    ensures within { IfOk result (λ flow. LeadsWithin flow.items) }
+    ensures counted { IfOk result (λ flow. length flow.items ≡ 20000) }
+{
+    let mut flow = Vec::new(alloc);
+    for b in 0..20_000u32 {
+        let leads = below(alloc, &[b + 1, b * 7919 % (b + 1)], 20_000)?;
+        let gives = below(alloc, &[3 * b, 3 * b + 1, 3 * b + 2], usize::MAX)?;
+        flow.push(Block { leads, gives })?;
+    }
+    Ok(flow)
+}
+
+/// Six questions on each of these blocks but the first, each on a value of an earlier block.
+fn long_asks(alloc: Global) -> Result<Vec<Ask>, NoMemory> {
+    let mut asks = Vec::new(alloc);
+    for b in 1..20_000u32 {
+        for k in 1..7u32 {
+            asks.push(start(b, 3 * b * k / 7))?;
+        }
+    }
+    Ok(asks)
+}
+
+/// The answer to many questions on a long flow.
+fn first_of_many(alloc: Global) -> Result<Option<usize>, NoMemory> {
+    let flow = long_flow(alloc)?;
+    let asks = long_asks(alloc)?;
+    if !are_within(asks.as_slice(), 20_000) {
+        return Err(NoMemory);
+    }
+    first_lacking(alloc, flow.as_slice(), asks.as_slice())
+}
+
 /// The answer to these questions on the flow of these rows.
 fn first(alloc: Global, rows: &[Row], asks: &[Ask]) -> Result<Option<usize>, NoMemory> {
     let flow = flow(alloc, rows)?;
@@ -154,4 +189,9 @@ fn questions_on_values_far_apart(rt: HostRuntime) {
     ];
     assert!(rt; first(rt.alloc(), &rows, &asks) == Ok(Some(2)));
     assert!(rt; first(rt.alloc(), &rows, &asks[..2]) == Ok(None));
+}
+
+#[test]
+fn a_long_flow(rt: HostRuntime) {
+    assert!(rt; first_of_many(rt.alloc()) == Ok(None));
 }
