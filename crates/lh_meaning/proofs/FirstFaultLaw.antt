@@ -20,7 +20,7 @@ kind_of-number_of phi_edges = refl
 kind_of-number_of not_defined = refl
 kind_of-number_of arguments = refl
 
-same_number : (k l : FaultKind) → number_of k ≡ number_of l → k ≡ l
+pub same_number : (k l : FaultKind) → number_of k ≡ number_of l → k ≡ l
 same_number k l e = sym (kind_of-number_of k) ∙ ap kind_of e ∙ kind_of-number_of l
 
 -- two lowest faults of an instruction are one

@@ -26,3 +26,6 @@ pub mod SampleParts
 pub mod FlipFlop
 pub mod DefinedLaw
 pub mod ProbesLaw
+pub mod Labelled
+pub mod Routes
+pub mod FirstFaultFound

@@ -4,7 +4,7 @@
 ghost use Rattle.lh_meaning.specs.Activations.{ActivationComputes, RunawayComputes, OneActivation};
 ghost use Rattle.lh_meaning.specs.Values.{ValueComputes, OneValue, ValueOfDue, BitsOfDue, BitsHaveValues, AsManyBits};
 ghost use Rattle.lh_meaning.specs.Wishes.{WishExt, LaterDriveReplaces, ActsInOrder, HistoryIsMap};
-ghost use Rattle.lh_meaning.specs.FirstFault.{OneFirstFault, FaultlessHasNone};
+ghost use Rattle.lh_meaning.specs.FirstFault.{OneFirstFault, FaultlessHasNone, FaultlessOrFaulty};
 ghost use Rattle.lh_meaning.specs.Frames.{NextComputes, BitsStay, TraceIsPrefix, TraceIsWithin, EqualSameTrace, SameTraceTurns, SameTraceLinks};
 ghost use Rattle.lh_meaning.specs.Probes.{ReadValuesFit};
 ghost use Rattle.lh_meaning.specs.Replacing.{ReplacedSameTrace};
@@ -41,10 +41,12 @@ pub fn history_law()
     ensures { HistoryIsMap }
 {}
 
-/// A module has at most one first fault, and none where no instruction has a fault.
+/// A module has at most one first fault, and none where no instruction has a fault. What a text reads
+/// as has one, or no instruction of it has a fault.
 pub fn first_fault_law()
     ensures one { OneFirstFault }
     ensures none { FaultlessHasNone }
+    ensures found { FaultlessOrFaulty }
 {}
 
 /// A value that is read from bits is of the type, whatever the bits are: so what a probe gives is always of its type.
