@@ -1,0 +1,5 @@
+pub mod Routes
+pub mod Asks
+pub mod Words
+pub mod Searches
+pub mod Groups

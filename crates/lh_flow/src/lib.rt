@@ -1,0 +1,7 @@
+//! Whether values are given on every route through the blocks of a unit: a flow, and questions on it.
+#![tactic(auto)]
+
+pub mod ask;
+pub mod flow;
+mod group;
+mod search;
