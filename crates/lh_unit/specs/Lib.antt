@@ -38,3 +38,4 @@ pub mod Kinds
 pub mod TypingRows
 pub mod Places
 pub mod WellFormed
+pub mod ById
