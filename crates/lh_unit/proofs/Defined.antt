@@ -33,17 +33,17 @@ module _ (units : ℕ → UnitName) (t : Table) (o : IsTable t) where
   name : ℕ → List ℕ
   name v = get_or t.values v []
 
-  arg-ids : (v : ℕ) (xs : List Arg) → v < length t.values → ArgsWithin (length t.values) xs → args_define (get_or t.values v []) (map (arg_text (naming_of units t)) xs) ≡ is_arg xs v
+  pub arg-ids : (v : ℕ) (xs : List Arg) → v < length t.values → ArgsWithin (length t.values) xs → args_define (get_or t.values v []) (map (arg_text (naming_of units t)) xs) ≡ is_arg xs v
   arg-ids v [] h w = refl
   arg-ids v (a ∷ xs) h w =
       let p : same_name (get_or t.values a.value.0 []) (get_or t.values v []) ≡ nat_eq a.value.0 v = same_name-ids t.values a.value.0 v o.values_distinct w.0 h in
       let r : args_define (get_or t.values v []) (map (arg_text (naming_of units t)) xs) ≡ is_arg xs v = arg-ids v xs h w.1 in λ i. p i || r i
 
-  result-ids : (v : ℕ) (r : Option ValueId) → v < length t.values → ResultWithin (length t.values) r → is_result_name (get_or t.values v []) (maybe_text (naming_of units t) r) ≡ is_result r v
+  pub result-ids : (v : ℕ) (r : Option ValueId) → v < length t.values → ResultWithin (length t.values) r → is_result_name (get_or t.values v []) (maybe_text (naming_of units t) r) ≡ is_result r v
   result-ids v None h w = refl
   result-ids v (Some x) h w = same_name-ids t.values x.0 v o.values_distinct w h
 
-  line-ids : (v : ℕ) (ls : List Line) → v < length t.values → ResultsWithin (length t.values) ls → lines_define (get_or t.values v []) (map (line_text (naming_of units t)) ls) ≡ is_made ls v
+  pub line-ids : (v : ℕ) (ls : List Line) → v < length t.values → ResultsWithin (length t.values) ls → lines_define (get_or t.values v []) (map (line_text (naming_of units t)) ls) ≡ is_made ls v
   line-ids v [] h w = refl
   line-ids v (l ∷ ls) h w =
       let p : is_result_name (get_or t.values v []) (maybe_text (naming_of units t) l.result) ≡ is_result l.result v = result-ids v l.result h w.0 in
@@ -71,7 +71,7 @@ lines_define-append : (n : List ℕ) (xs ys : List LineText) → lines_define n 
 lines_define-append n [] ys = refl
 lines_define-append n (x ∷ xs) ys = ap (λ b. is_result_name n x.result || b) (lines_define-append n xs ys) ∙ sym (or-assoc (is_result_name n x.result) (lines_define n xs) (lines_define n ys))
 
-blocks_define-flat : (n : List ℕ) (bs : List BlockText) → blocks_define n bs ≡ lines_define n (flat (map (λ (b : BlockText). b.lines) bs))
+pub blocks_define-flat : (n : List ℕ) (bs : List BlockText) → blocks_define n bs ≡ lines_define n (flat (map (λ (b : BlockText). b.lines) bs))
 blocks_define-flat n [] = refl
 blocks_define-flat n (b ∷ bs) = ap (λ c. lines_define n b.lines || c) (blocks_define-flat n bs) ∙ sym (lines_define-append n b.lines (flat (map (λ (x : BlockText). x.lines) bs)))
 
@@ -102,7 +102,7 @@ label_text-named f (Some kind.Func) b h = refl
 label_text-named f (Some kind.Proc) b h = refl
 label_text-named f (Some kind.Entity) b h = absurd h
 
-blocks-within : (k : Option UnitKind) (t : Table) → HasBlocks k → FitsKind k t → BlocksWithin (length t.labels) t.blocks
+pub blocks-within : (k : Option UnitKind) (t : Table) → HasBlocks k → FitsKind k t → BlocksWithin (length t.labels) t.blocks
 blocks-within None t h f = absurd h
 blocks-within (Some kind.Func) t h f = f.1
 blocks-within (Some kind.Proc) t h f = f.1

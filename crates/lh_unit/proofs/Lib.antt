@@ -13,3 +13,6 @@ pub mod BuilderLemmas
 pub mod ItemLemmas
 pub mod Writes
 pub mod ModuleLaws
+pub mod ById
+pub mod ByIdInsts
+pub mod ByIdPlaces

@@ -35,3 +35,4 @@ pub mod Kinds
 pub mod TypingRows
 pub mod Places
 pub mod WellFormed
+pub mod ById
