@@ -1,11 +1,12 @@
 -- What is asked of one operand.
-use Rattle.std.specs.Prelude.{ℕ, List, Bool, true, false, not, ◌&&◌, ◌||◌, if◌then◌else◌}
+use Rattle.std.specs.Prelude.{ℕ, List, [], ◌∷◌, Option, Some, None, Bool, true, false, not, ◌&&◌, ◌||◌, if◌then◌else◌}
 use Rattle.std.specs.List.{list_any}
 use Rattle.std.specs.Option.{option_map_or}
-use Rattle.lh_types.specs.Types.{TypeTree}
+use Rattle.lh_types.specs.Types.{TypeTree, TypeRow}
+use Rattle.lh_unit.specs.Typing.{with_type}
 use Rattle.lh_types.specs.Faults.{is_data}
 use Rattle.lh_unit.specs.Contents.{OperandText, EdgeText, InstText, ArgText, UnitText, ItemText, defines_value, defines_label, defines_unit}
-use Rattle.lh_unit.specs.Named.{is_assert}
+use Rattle.lh_unit.specs.Named.{is_assert, is_function}
 use Rattle.lh_unit.specs.Kinds.{Use}
 use Rattle.lh_unit.specs.declared.inst.UnitKind.{UnitKind}
 use Rattle.lh_unit.specs.Places.{is_terminator}
@@ -50,3 +51,13 @@ abbrev pub on_side : Side → ArgText → Bool
 on_side Inputs a = not a.output
 on_side Outputs a = a.output
 on_side All a = true
+
+-- types in front of a row, where it is there
+abbrev pub rows_joined : List TypeTree → Option TypeRow → Option TypeRow
+rows_joined [] r = r
+rows_joined (t ∷ more) r = with_type (Some t) (rows_joined more r)
+
+-- a function, and neither another unit nor none
+abbrev pub is_function_kind : Option UnitKind → Bool
+is_function_kind None = false
+is_function_kind (Some k) = is_function k

@@ -1,6 +1,6 @@
 //! Fault 8: the arguments of `inst` and `call` differ from the parameters of the unit. And the result type that a
 //! `call` writes, which fault 3 asks.
-ghost use Rattle.std.specs.Prelude.{◌≡◌, ◌<◌, List, not, map, filter};
+ghost use Rattle.std.specs.Prelude.{◌≡◌, ◌<◌, [], List, not, map, filter};
 ghost use Rattle.lh_unit.specs.Contents.{OperandText, call_text, child_text};
 ghost use Rattle.lh_unit.specs.Naming.{Naming, operand_text, arg_text, inst_text};
 ghost use Rattle.lh_unit.specs.Within.{Each, OperandWithin, InstWithin};
@@ -11,7 +11,7 @@ ghost use Rattle.lh_verify.specs.Told.{IsScope, items_in, text_in, naming_in, si
 use crate::operands::{has_bit, has_type};
 use crate::scope::Scope;
 use crate::types::is_void;
-use crate::units::is_assert;
+use crate::units::{is_assert, is_defined};
 use lh_types::ty::Ty;
 use lh_unit::inst::{Arg, Inst, Typed, UnitId};
 
@@ -48,7 +48,17 @@ fn side_fits(scope: &Scope<'_>, args: &[Typed], params: &[Arg], side: Side) -> b
             }
         }
     }
-    rest.is_empty()
+    fits_nothing(scope, rest)
+}
+
+/// Whether there are no arguments, as there are no parameters.
+fn fits_nothing(scope: &Scope<'_>, args: &[Typed]) -> bool
+    ensures { result ≡ arguments_fit (text_in scope.now) (map (operand_text (naming_in scope.now)) args.now) [] }
+{
+    match args.split_first() {
+        None => true,
+        Some(_) => false,
+    }
 }
 
 /// Whether arguments fit the one parameter of `@llhd.assert`.
@@ -57,9 +67,14 @@ fn fits_assert(scope: &Scope<'_>, args: &[Typed]) -> bool
     requires within { Each (OperandWithin (sizes_in scope.now)) args.now }
     ensures { result ≡ arguments_fit (text_in scope.now) (map (operand_text (naming_in scope.now)) args.now) assert_args }
 {
-    match args {
-        [arg] => has_bit(scope, arg.value),
-        _ => false,
+    match args.split_first() {
+        None => false,
+        Some((arg, more)) => {
+            if !has_bit(scope, arg.value) {
+                return false;
+            }
+            fits_nothing(scope, more)
+        }
     }
 }
 
@@ -72,9 +87,12 @@ fn ports_fit(scope: &Scope<'_>, unit: UnitId, inputs: &[Typed], outputs: &[Typed
     ensures { let f = naming_in scope.now in not result ≡ text_arguments_differ (items_in scope.now) (text_in scope.now) (child_text (f.unit_name unit.0) (map (operand_text f) inputs.now) (map (operand_text f) outputs.now)) }
 {
     if is_assert(scope.module.unit_name(unit)) {
-        return fits_assert(scope, inputs) && outputs.is_empty();
+        if !fits_assert(scope, inputs) {
+            return false;
+        }
+        return fits_nothing(scope, outputs);
     }
-    if scope.module.kind(unit).is_none() {
+    if !is_defined(scope, unit) {
         return true;
     }
     let params = scope.module.args(unit);
@@ -94,10 +112,11 @@ fn call_fits(scope: &Scope<'_>, unit: UnitId, ty: &Ty, args: &[Typed]) -> bool
     if is_assert(scope.module.unit_name(unit)) {
         return fits_assert(scope, args);
     }
-    if scope.module.kind(unit).is_none() {
+    if !is_defined(scope, unit) {
         return true;
     }
-    side_fits(scope, args, scope.module.args(unit), Side::All)
+    let params = scope.module.args(unit);
+    side_fits(scope, args, params, Side::All)
 }
 
 /// Whether the arguments of an instruction differ from the parameters of the unit that it names.

@@ -1,7 +1,7 @@
 //! The type and the kind of what an instruction gives.
-ghost use Rattle.std.specs.Prelude.{◌≡◌, Option, length, map, option_map, IfOk};
+ghost use Rattle.std.specs.Prelude.{◌≡◌, Option, map, option_map, IfOk};
 ghost use Rattle.std.specs.Option.{option_copied, option_and_then};
-ghost use Rattle.lh_types.specs.Types.{TypeTree, row_of};
+ghost use Rattle.lh_types.specs.Types.{TypeTree, int_type, row_of};
 ghost use Rattle.lh_types.specs.Kind.{type_of_kind};
 ghost use Rattle.lh_types.specs.ValueOf.{datum_of};
 ghost use Rattle.lh_types.specs.Faults.{Makes};
@@ -40,30 +40,38 @@ fn constant_type(value: &Val) -> Result<Option<Ty>, NoMemory>
     }
 }
 
+/// The array of this many elements of a type, if there is such a type.
+fn array_of(alloc: Global, len: usize, of: &Ty) -> Result<Option<Ty>, NoMemory>
+    ensures { IfOk result (λ o. o ≡ array_made len of.now) }
+{
+    if !carries_data(of) {
+        return Ok(None);
+    }
+    if len > 65536 {
+        return Ok(None);
+    }
+    let of = of.copy()?;
+    made(Ty::array(alloc, len as u32, of))
+}
+
 /// The array of this many elements of the type that is written before the first operand.
-fn array_type(alloc: Global, len: u32, args: &[Typed]) -> Result<Option<Ty>, NoMemory>
+fn array_type(alloc: Global, len: usize, args: &[Typed]) -> Result<Option<Ty>, NoMemory>
     ensures { (f : Naming) → IfOk result (λ o. o ≡ option_and_then (array_made len) (texts_first (map (operand_text f) args.now))) }
 {
     match args.split_first() {
         None => Ok(None),
         Some((first, _)) => match &first.ty {
             None => Ok(None),
-            Some(of) => {
-                let of = of.copy()?;
-                made(Ty::array(alloc, len, of))
-            }
+            Some(of) => array_of(alloc, len, of),
         },
     }
 }
 
-/// The array that holds the operands.
-fn array_of(alloc: Global, args: &[Typed]) -> Result<Option<Ty>, NoMemory>
-    ensures { (f : Naming) → IfOk result (λ o. o ≡ option_and_then (array_made (length args.now)) (texts_first (map (operand_text f) args.now))) }
+/// The type of a truth value, which a comparison gives.
+fn bit_type() -> Result<Option<Ty>, NoMemory>
+    ensures { IfOk result (λ o. o ≡ Some (int_type 1)) }
 {
-    if args.len() > 65536 {
-        return Ok(None);
-    }
-    array_type(alloc, args.len() as u32, args)
+    made(Ty::int(1))
 }
 
 /// The types that are written before the operands, where each has one.
@@ -123,9 +131,9 @@ fn operation_type(alloc: Global, op: Op, args: &[Typed]) -> Result<Option<Ty>, N
         | Op::Ult
         | Op::Ugt
         | Op::Ule
-        | Op::Uge => made(Ty::int(1)),
-        Op::Array => array_of(alloc, args),
-        Op::Repeat(n) => array_type(alloc, n, args),
+        | Op::Uge => bit_type(),
+        Op::Array => array_type(alloc, args.len(), args),
+        Op::Repeat(n) => array_type(alloc, n as usize, args),
         Op::Tuple => struct_of(alloc, args),
         _ => first_type(args),
     }

@@ -1,5 +1,5 @@
 //! The places of the instructions of a unit, in file order.
-ghost use Rattle.std.specs.Prelude.{◌≡◌, ◌<◌, ◌++◌, true, false, IfOk, OnOk};
+ghost use Rattle.std.specs.Prelude.{◌≡◌, ◌<◌, ◌++◌, ◌||◌, true, false, IfOk, OnOk};
 ghost use Rattle.lh_unit.specs.Arena.{table_at, unit_count, block_insts_at};
 ghost use Rattle.lh_unit.specs.Within.{Each};
 ghost use Rattle.lh_verify.specs.Placed.{IsInstOf, IsBlockOf};
@@ -91,17 +91,17 @@ fn put_insts(
             after_other,
             last: k + 1 == insts.len(),
         })?;
-        after_other = after_other || is_other(module.inst(unit, *inst));
+        after_other = is_behind_other(after_other, module.inst(unit, *inst));
     }
     Ok(())
 }
 
-/// Whether an instruction is no `phi`.
-fn is_other(inst: &Inst) -> bool
-    ensures { result ≡ inst_is_other inst.now }
+/// Whether what follows an instruction stands behind one that is no `phi`.
+fn is_behind_other(after_other: bool, inst: &Inst) -> bool
+    ensures { result ≡ (after_other || inst_is_other inst.now) }
 {
     match inst {
-        Inst::Phi { .. } => false,
+        Inst::Phi { .. } => after_other,
         _ => true,
     }
 }

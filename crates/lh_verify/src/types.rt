@@ -136,10 +136,11 @@ fn is_array(ty: TyKind<'_>, len: u32, of: &Ty) -> bool
 fn is_field_type(fields: &TyList, k: u32, ty: &Ty) -> bool
     ensures { result ≡ is_part (field_part (row_of fields.now) k) ty.now }
 {
-    match fields.as_slice().get(k as usize) {
-        Some(field) => *ty == *field,
-        None => false,
+    let fields = fields.as_slice();
+    if k as usize >= fields.len() {
+        return false;
     }
+    *ty == fields[k as usize]
 }
 
 /// Whether the part that a step leads to has this type; the part of a signal is a signal.
