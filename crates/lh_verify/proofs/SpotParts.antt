@@ -1,6 +1,8 @@
 -- The places of a unit, one by one.
-use Rattle.std.proofs.Common.{◌≡◌, ℕ, ◌+◌, ◌<◌, ◌≤◌, zero, suc, Bool, true, false, ◌||◌, List, [], ◌∷◌, ◌++◌, length, get_or, drop, refl, ap, sym, ◌∙◌, append_assoc, arith}
-use Rattle.std.specs.Prelude.{nat_eq}
+use Rattle.std.proofs.Common.{◌≡◌, ℕ, ◌+◌, ◌-◌, ◌<◌, ◌≤◌, zero, suc, Bool, true, false, ◌||◌, List, [], ◌∷◌, ◌++◌, length, get_or, drop, refl, ap, sym, ◌∙◌, append_assoc, arith}
+use Rattle.std.specs.Prelude.{nat_eq, slice_get, Option, Some}
+use Rattle.std.proofs.lemmas.Option.{slice_get_within}
+use Rattle.lh_unit.specs.ById.{blocks_led_to, last_led_to}
 use Rattle.std.proofs.lemmas.Grind.{common_steps}
 use Rattle.lh_unit.specs.Table.{Table, line_at, insts_at}
 use Rattle.lh_unit.specs.declared.inst.BlockId.{BlockId}
@@ -47,3 +49,14 @@ blocks-step t e bs k d old new all h n a =
     ∙ append_assoc old (spots_in t e (get_or bs k d) false (insts_at t (get_or bs k d).0)) (spots_from t false (drop (k + 1) bs))
     ∙ ap (λ l. old ++ spots_from t e l) (sym (drop-get_or bs k d h))
     ∙ a
+
+-- the last instruction says where its block leads
+last-of : (t : Table) (is : List InstId) (n : ℕ) (x : InstId) → suc n ≡ length is → slice_get is n ≡ Some x → blocks_led_to (line_at t x.0).inst ≡ last_led_to t is
+last-of t [] n x l e = cc
+last-of t (i ∷ []) zero x l e = let q : i ≡ x = cc in ap (λ (z : InstId). blocks_led_to (line_at t z.0).inst) (sym q)
+last-of t (i ∷ []) (suc n) x l e = absurd (omega arith)
+last-of t (i ∷ j ∷ is) zero x l e = absurd (omega arith)
+last-of t (i ∷ j ∷ is) (suc n) x l e = last-of t (j ∷ is) n x (omega arith) e
+
+pub last-led : (t : Table) (is : List InstId) (x : InstId) → slice_get is (length is - 1) ≡ Some x → blocks_led_to (line_at t x.0).inst ≡ last_led_to t is
+last-led t is x e = last-of t is (length is - 1) x (omega (arith, slice_get_within is (length is - 1) x e)) e

@@ -7,6 +7,8 @@ mod fits;
 mod kinds;
 mod operands;
 mod operations;
+mod phis;
+mod place;
 mod results;
 mod scope;
 mod spots;

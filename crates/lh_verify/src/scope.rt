@@ -3,7 +3,7 @@ ghost use Rattle.std.specs.Prelude.{◌≡◌, ◌<◌, option_map};
 ghost use Rattle.std.specs.Option.{option_copied};
 
 use lh_types::ty::Ty;
-use lh_unit::inst::{BlockId, UnitId, ValueId};
+use lh_unit::inst::{BlockId, Inst, InstId, UnitId, UnitKind, ValueId};
 use lh_unit::module::Module;
 
 /// The four kinds of values.
@@ -33,6 +33,8 @@ pub struct Scope<'a> {
     pub unit: UnitId,
     /// By the ids of values.
     pub facts: &'a [Fact],
+    /// By the ids of values, whether it comes from a `prb`.
+    pub probed: &'a [bool],
     /// By the ids of labels, whether a block has this label.
     pub labels: &'a [bool],
 }
@@ -43,7 +45,9 @@ impl Scope<'_> {
     ghost use Rattle.lh_unit.specs.Kinds.{value_kind};
     ghost use Rattle.lh_unit.specs.Naming.{value_text};
     ghost use Rattle.lh_unit.specs.Within.{ValueWithin};
-    ghost use Rattle.lh_verify.specs.Told.{IsScope, Told, kind_as, text_in, naming_in, sizes_in};
+    ghost use Rattle.lh_unit.specs.Within.{InstWithin};
+    ghost use Rattle.lh_unit.specs.Arena.{inst_count, inst_at};
+    ghost use Rattle.lh_verify.specs.Told.{IsScope, Told, kind_as, from_probe, text_in, naming_in, sizes_in};
 
     /// What is known of a value.
     fn fact(&self, value: ValueId) -> &Fact
@@ -96,5 +100,35 @@ impl Scope<'_> {
         ensures { result ≡ defines_label ((naming_in self.now).label_name block.0) (text_in self.now) }
     {
         self.labels[block.0 as usize]
+    }
+
+    /// Whether a value comes from a `prb`.
+    pub fn comes_from_probe(&self, value: ValueId) -> bool
+        requires scope { IsScope self.now }
+        requires within { ValueWithin (sizes_in self.now) value }
+        ensures { result ≡ from_probe (text_in self.now) (value_text (naming_in self.now) value) }
+    {
+        self.probed[value.0 as usize]
+    }
+
+    /// The kind of the unit.
+    pub fn kind(&self) -> UnitKind
+        requires { IsScope self.now }
+        ensures { result ≡ (text_in self.now).kind }
+    {
+        match self.module.kind(self.unit) {
+            Some(kind) => kind,
+            None => UnitKind::Func,
+        }
+    }
+
+    /// An instruction of the unit.
+    pub fn inst(&self, inst: InstId) -> &Inst
+        requires scope { IsScope self.now }
+        requires within { inst.0 < inst_count self.now.module.now self.now.unit.0 }
+        ensures inst { result.now ≡ inst_at self.now.module.now self.now.unit.0 inst.0 }
+        ensures placed { InstWithin (sizes_in self.now) result.now }
+    {
+        self.module.inst(self.unit, inst)
     }
 }
