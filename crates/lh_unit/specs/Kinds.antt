@@ -80,6 +80,11 @@ step_need (Some (signal_type t)) = signal_needed
 step_need (Some t) = if is_data t then data_needed else data_or_signal_needed
 step_need None = data_or_signal_needed
 
+-- `sig` is of data; under a written `time` a time is of the right kind too, since there the type is wrong
+abbrev pub initial_need : Option TypeTree → Need
+initial_need (Some time_type) = data_or_time_needed
+initial_need _ = data_needed
+
 -- the operands of an operation
 abbrev pub operation_uses : Op → List OperandText → List Use
 operation_uses (op.Extf k) args = all_used (step_need (first_type args)) args
@@ -99,7 +104,7 @@ uses (pure_text o args) = operation_uses o args
 uses (var_text a) = used data_or_time_needed a.value ∷ []
 uses (ld_text p) = used pointer_needed p.value ∷ []
 uses (st_text to value) = used pointer_needed to.value ∷ used data_or_time_needed value ∷ []
-uses (sig_text a) = used data_needed a.value ∷ []
+uses (sig_text a) = used (initial_need a.ty) a.value ∷ []
 uses (prb_text s) = used signal_needed s.value ∷ []
 uses (drv_text to value after cond) = used signal_needed to.value ∷ used data_needed value ∷ used time_needed after ∷ maybe_used data_needed cond
 uses (reg_text to triggers) = used signal_needed to.value ∷ trigger_uses triggers

@@ -3,7 +3,8 @@ use Rattle.std.specs.Prelude.{ℕ, List, [], ◌∷◌, length, Bool, ◌||◌, 
 use Rattle.std.specs.Option.{option_and_then, option_map}
 use Rattle.lh_types.specs.Types.{TypeTree, TypeRow, int_type, time_type, array_type, tuple_type, signal_type, pointer_type, no_types, more_types}
 use Rattle.lh_types.specs.Values.{Datum, int_value, time_value}
-use Rattle.lh_types.specs.Faults.{is_data, is_time}
+use Rattle.lh_types.specs.Faults.{is_data, is_time, int_fault, array_fault, tuple_fault}
+use Rattle.lh_types.specs.declared.ty.TyFault.{TyFault}
 use Rattle.lh_types.specs.declared.op.Op.{Op}
 use Rattle.lh_types.specs.declared.op.Op.TheVariants as op
 use Rattle.lh_unit.specs.Contents.{OperandText, InstText, const_text, pure_text, var_text, ld_text, sig_text, prb_text, call_text, phi_text, LineText, BlockText, ArgText, UnitText, is_result_name, same_name}
@@ -34,9 +35,21 @@ abbrev pub carried : TypeTree → Option TypeTree
 carried (signal_type t) = Some t
 carried _ = None
 
+-- a type, where nothing is wrong with it
+abbrev pub if_made : Option TyFault → TypeTree → Option TypeTree
+if_made None t = Some t
+if_made (Some e) t = None
+
+-- an array of this many elements, and a struct of these fields, where the language has it
+abbrev pub array_made : ℕ → TypeTree → Option TypeTree
+array_made n t = if_made (array_fault n t) (array_type n t)
+
+abbrev pub tuple_made : TypeRow → Option TypeTree
+tuple_made r = if_made (tuple_fault r) (tuple_type r)
+
 -- a constant is an integer or a time
 abbrev pub constant_type : Datum → Option TypeTree
-constant_type (int_value width bits) = Some (int_type width)
+constant_type (int_value width bits) = if_made (int_fault width) (int_type width)
 constant_type (time_value d) = Some time_type
 constant_type _ = None
 
@@ -67,9 +80,9 @@ operation_type op.Ult args = Some (int_type 1)
 operation_type op.Ugt args = Some (int_type 1)
 operation_type op.Ule args = Some (int_type 1)
 operation_type op.Uge args = Some (int_type 1)
-operation_type op.Array args = option_map (array_type (length args)) (first_type args)
-operation_type (op.Repeat n) args = option_map (array_type n) (first_type args)
-operation_type op.Tuple args = option_map tuple_type (written_types args)
+operation_type op.Array args = option_and_then (array_made (length args)) (first_type args)
+operation_type (op.Repeat n) args = option_and_then (array_made n) (first_type args)
+operation_type op.Tuple args = option_and_then tuple_made (written_types args)
 operation_type _ args = first_type args
 
 -- the type of what an instruction gives, where it gives something that has a type

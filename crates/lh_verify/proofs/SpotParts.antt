@@ -1,0 +1,62 @@
+-- The places of a unit, one by one.
+use Rattle.std.proofs.Common.{◌≡◌, ℕ, ◌+◌, ◌-◌, ◌<◌, ◌≤◌, zero, suc, Bool, true, false, ◌||◌, List, [], ◌∷◌, ◌++◌, length, get_or, drop, refl, ap, sym, ◌∙◌, append_assoc, arith}
+use Rattle.std.specs.Prelude.{nat_eq, slice_get, Option, Some}
+use Rattle.std.proofs.lemmas.Option.{slice_get_within}
+use Rattle.lh_unit.specs.ById.{blocks_led_to, last_led_to}
+use Rattle.std.proofs.lemmas.Grind.{common_steps}
+use Rattle.lh_unit.specs.Table.{Table, line_at, insts_at}
+use Rattle.lh_unit.specs.declared.inst.BlockId.{BlockId}
+use Rattle.lh_unit.specs.declared.inst.InstId.{InstId}
+use Rattle.lh_verify.specs.declared.spots.Spot.{Spot}
+use Rattle.lh_verify.specs.Spots.{is_other, is_empty, spots_in, spots_from}
+use Rattle.lh_verify.proofs.Lists.{drop-get_or}
+
+suc-eq : (a b : ℕ) → nat_eq (suc a) (suc b) ≡ nat_eq a b
+suc-eq a b = grind (arith, common_steps)
+
+-- the last is that behind which none is left
+pub last-empty : (is : List InstId) (k : ℕ) → k < length is → nat_eq (k + 1) (length is) ≡ is_empty (drop (k + 1) is)
+last-empty [] k h = absurd (omega arith)
+last-empty (i ∷ []) zero h = refl
+last-empty (i ∷ j ∷ is) zero h = grind (arith, common_steps)
+last-empty (i ∷ is) (suc k) h =
+    let e : suc k + 1 ≡ suc (k + 1) = omega arith in
+    ap (λ m. nat_eq m (suc (length is))) e
+    ∙ suc-eq (k + 1) (length is)
+    ∙ last-empty is k (omega arith)
+    ∙ ap (λ m. is_empty (drop m (i ∷ is))) (sym e)
+
+-- one more place
+pub spots-step : (t : Table) (e : Bool) (b : BlockId) (other : Bool) (is : List InstId) (k : ℕ) (d : InstId) (old new all : List Spot) (last : Bool) → k < length is → last ≡ is_empty (drop (k + 1) is)
+    → new ≡ old ++ record { inst = get_or is k d; block = b; in_entry = e; after_other = other; last = last } ∷ []
+    → old ++ spots_in t e b other (drop k is) ≡ all
+    → new ++ spots_in t e b (other || is_other (line_at t (get_or is k d).0).inst) (drop (k + 1) is) ≡ all
+spots-step t e b other is k d old new all last h w n a =
+    let more = spots_in t e b (other || is_other (line_at t (get_or is k d).0).inst) (drop (k + 1) is) in
+    ap (λ l. l ++ more) n
+    ∙ append_assoc old (record { inst = get_or is k d; block = b; in_entry = e; after_other = other; last = last } ∷ []) more
+    ∙ ap (λ x. old ++ (record { inst = get_or is k d; block = b; in_entry = e; after_other = other; last = x } ∷ more)) w
+    ∙ ap (λ l. old ++ spots_in t e b other l) (sym (drop-get_or is k d h))
+    ∙ a
+
+-- the places of one more block
+pub blocks-step : (t : Table) (e : Bool) (bs : List BlockId) (k : ℕ) (d : BlockId) (old new all : List Spot) → k < length bs
+    → new ≡ old ++ spots_in t e (get_or bs k d) false (insts_at t (get_or bs k d).0)
+    → old ++ spots_from t e (drop k bs) ≡ all
+    → new ++ spots_from t false (drop (k + 1) bs) ≡ all
+blocks-step t e bs k d old new all h n a =
+    ap (λ l. l ++ spots_from t false (drop (k + 1) bs)) n
+    ∙ append_assoc old (spots_in t e (get_or bs k d) false (insts_at t (get_or bs k d).0)) (spots_from t false (drop (k + 1) bs))
+    ∙ ap (λ l. old ++ spots_from t e l) (sym (drop-get_or bs k d h))
+    ∙ a
+
+-- the last instruction says where its block leads
+last-of : (t : Table) (is : List InstId) (n : ℕ) (x : InstId) → suc n ≡ length is → slice_get is n ≡ Some x → blocks_led_to (line_at t x.0).inst ≡ last_led_to t is
+last-of t [] n x l e = cc
+last-of t (i ∷ []) zero x l e = let q : i ≡ x = cc in ap (λ (z : InstId). blocks_led_to (line_at t z.0).inst) (sym q)
+last-of t (i ∷ []) (suc n) x l e = absurd (omega arith)
+last-of t (i ∷ j ∷ is) zero x l e = absurd (omega arith)
+last-of t (i ∷ j ∷ is) (suc n) x l e = last-of t (j ∷ is) n x (omega arith) e
+
+pub last-led : (t : Table) (is : List InstId) (x : InstId) → slice_get is (length is - 1) ≡ Some x → blocks_led_to (line_at t x.0).inst ≡ last_led_to t is
+last-led t is x e = last-of t is (length is - 1) x (omega (arith, slice_get_within is (length is - 1) x e)) e

@@ -1,0 +1,13 @@
+use Rattle.std.proofs.Common.{◌≡◌, List, subst, sym}
+use Rattle.std.proofs.lemmas.Result.{IfOk-weaker}
+use Rattle.lh_unit.specs.Within.{Each}
+use Rattle.lh_verify.specs.declared.uses.Use.{Use}
+use Rattle.lh_verify.specs.Operands.{UseWithin}
+use Rattle.lh_verify.specs.Told.{sizes_in}
+use Rattle.lh_verify.specs.Uses.{uses_of}
+use Rattle.lh_verify.proofs.Places.{uses-within}
+use Rattle.lh_verify.proofs.place.operands_of.Goals as goal
+
+pub returns : goal.returns
+returns c = IfOk-weaker c.uses.result (λ list. list ≡ uses_of c.args.inst.now) (λ list. (list ≡ uses_of c.args.inst.now) × Each (UseWithin (sizes_in c.args.scope.now)) list)
+    (λ list e. (e, subst (Each (UseWithin (sizes_in c.args.scope.now))) (sym e) (uses-within (sizes_in c.args.scope.now) c.args.inst.now c.requires))) c.uses.ensures

@@ -1,0 +1,9 @@
+pub mod Asks
+pub mod Faults
+pub mod Operands
+pub mod Parts
+pub mod PhisById
+pub mod Placed
+pub mod Spots
+pub mod Told
+pub mod Uses

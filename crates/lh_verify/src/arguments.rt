@@ -1,0 +1,168 @@
+//! Fault 8: the arguments of `inst` and `call` differ from the parameters of the unit. And the result type that a
+//! `call` writes, which fault 3 asks.
+ghost use Rattle.std.specs.Prelude.{◌≡◌, ◌<◌, [], List, not, map, filter};
+ghost use Rattle.lh_unit.specs.Contents.{OperandText, call_text, child_text};
+ghost use Rattle.lh_unit.specs.Naming.{Naming, operand_text, arg_text, inst_text};
+ghost use Rattle.lh_unit.specs.Within.{Each, OperandWithin, InstWithin};
+ghost use Rattle.lh_unit.specs.WellFormed.{result_fits as text_result_fits, arguments_fit, arguments_differ as text_arguments_differ, assert_args};
+ghost use Rattle.lh_verify.specs.Asks.{on_side};
+ghost use Rattle.lh_verify.specs.Told.{IsScope, items_in, text_in, naming_in, sizes_in};
+
+use crate::operands::{has_bit, has_type};
+use crate::scope::Scope;
+use crate::types::is_void;
+use crate::units::{is_assert, is_defined};
+use lh_types::ty::Ty;
+use lh_unit::inst::{Arg, Inst, Typed, UnitId};
+
+/// The parameters among which an argument stands.
+#[derive(Clone, Copy)]
+enum Side {
+    Inputs,
+    Outputs,
+    All,
+}
+
+fn is_on(side: Side, param: &Arg) -> bool
+    ensures { (f : Naming) → result ≡ on_side side (arg_text f param.now) }
+{
+    match side {
+        Side::Inputs => !param.output,
+        Side::Outputs => param.output,
+        Side::All => true,
+    }
+}
+
+/// Whether arguments are as many as the parameters of one side, and of their types.
+fn side_fits(scope: &Scope<'_>, args: &[Typed], params: &[Arg], side: Side) -> bool
+    requires scope { IsScope scope.now }
+    requires within { Each (OperandWithin (sizes_in scope.now)) args.now }
+    ensures { (f : Naming) → result ≡ arguments_fit (text_in scope.now) (map (operand_text (naming_in scope.now)) args.now) (filter (on_side side) (map (arg_text f) params.now)) }
+{
+    let mut rest = args;
+    for param in params {
+        if is_on(side, param) {
+            match rest.split_first() {
+                Some((arg, more)) if has_type(scope, arg.value, &param.ty) => rest = more,
+                _ => return false,
+            }
+        }
+    }
+    fits_nothing(scope, rest)
+}
+
+/// Whether there are no arguments, as there are no parameters.
+fn fits_nothing(scope: &Scope<'_>, args: &[Typed]) -> bool
+    ensures { result ≡ arguments_fit (text_in scope.now) (map (operand_text (naming_in scope.now)) args.now) [] }
+{
+    match args.split_first() {
+        None => true,
+        Some(_) => false,
+    }
+}
+
+/// Whether arguments fit the one parameter of `@llhd.assert`.
+fn fits_assert(scope: &Scope<'_>, args: &[Typed]) -> bool
+    requires scope { IsScope scope.now }
+    requires within { Each (OperandWithin (sizes_in scope.now)) args.now }
+    ensures { result ≡ arguments_fit (text_in scope.now) (map (operand_text (naming_in scope.now)) args.now) assert_args }
+{
+    match args.split_first() {
+        None => false,
+        Some((arg, more)) => {
+            if !has_bit(scope, arg.value) {
+                return false;
+            }
+            fits_nothing(scope, more)
+        }
+    }
+}
+
+/// Whether the arguments of `inst` fit the inputs and outputs of a unit, where it is defined.
+fn ports_fit(scope: &Scope<'_>, unit: UnitId, inputs: &[Typed], outputs: &[Typed]) -> bool
+    requires scope { IsScope scope.now }
+    requires unit { unit.0 < (sizes_in scope.now).units }
+    requires inputs { Each (OperandWithin (sizes_in scope.now)) inputs.now }
+    requires outputs { Each (OperandWithin (sizes_in scope.now)) outputs.now }
+    ensures { let f = naming_in scope.now in not result ≡ text_arguments_differ (items_in scope.now) (text_in scope.now) (child_text (f.unit_name unit.0) (map (operand_text f) inputs.now) (map (operand_text f) outputs.now)) }
+{
+    if is_assert(scope.module.unit_name(unit)) {
+        if !fits_assert(scope, inputs) {
+            return false;
+        }
+        return fits_nothing(scope, outputs);
+    }
+    if !is_defined(scope, unit) {
+        return true;
+    }
+    let params = scope.module.args(unit);
+    if !side_fits(scope, inputs, params, Side::Inputs) {
+        return false;
+    }
+    side_fits(scope, outputs, params, Side::Outputs)
+}
+
+/// Whether the arguments of `call` fit the parameters of a unit, where it is defined.
+fn call_fits(scope: &Scope<'_>, unit: UnitId, ty: &Ty, args: &[Typed]) -> bool
+    requires scope { IsScope scope.now }
+    requires unit { unit.0 < (sizes_in scope.now).units }
+    requires args { Each (OperandWithin (sizes_in scope.now)) args.now }
+    ensures { let f = naming_in scope.now in not result ≡ text_arguments_differ (items_in scope.now) (text_in scope.now) (call_text (f.unit_name unit.0) ty.now (map (operand_text f) args.now)) }
+{
+    if is_assert(scope.module.unit_name(unit)) {
+        return fits_assert(scope, args);
+    }
+    if !is_defined(scope, unit) {
+        return true;
+    }
+    let params = scope.module.args(unit);
+    side_fits(scope, args, params, Side::All)
+}
+
+/// Whether the arguments of an instruction differ from the parameters of the unit that it names.
+pub fn arguments_differ(scope: &Scope<'_>, inst: &Inst) -> bool
+    requires scope { IsScope scope.now }
+    requires within { InstWithin (sizes_in scope.now) inst.now }
+    ensures { result ≡ text_arguments_differ (items_in scope.now) (text_in scope.now) (inst_text (naming_in scope.now) inst.now) }
+{
+    match inst {
+        Inst::Child {
+            unit,
+            inputs,
+            outputs,
+        } => !ports_fit(scope, *unit, inputs.as_slice(), outputs.as_slice()),
+        Inst::Call { unit, result, args } => !call_fits(scope, *unit, result, args.as_slice()),
+        _ => false,
+    }
+}
+
+/// Whether the type that a `call` writes is the result of the function, where it is defined.
+fn call_result_fits(scope: &Scope<'_>, unit: UnitId, ty: &Ty) -> bool
+    requires scope { IsScope scope.now }
+    requires unit { unit.0 < (sizes_in scope.now).units }
+    ensures { (args : List OperandText) → result ≡ text_result_fits (items_in scope.now) (call_text ((naming_in scope.now).unit_name unit.0) ty.now args) }
+{
+    if is_assert(scope.module.unit_name(unit)) {
+        return is_void(ty.kind());
+    }
+    match scope.module.result(unit) {
+        Some(of) => *ty == *of,
+        None => true,
+    }
+}
+
+/// Whether the type that a `call` writes is the result of the function; true of any other instruction.
+pub fn result_fits(scope: &Scope<'_>, inst: &Inst) -> bool
+    requires scope { IsScope scope.now }
+    requires within { InstWithin (sizes_in scope.now) inst.now }
+    ensures { result ≡ text_result_fits (items_in scope.now) (inst_text (naming_in scope.now) inst.now) }
+{
+    match inst {
+        Inst::Call {
+            unit,
+            result,
+            args: _,
+        } => call_result_fits(scope, *unit, result),
+        _ => true,
+    }
+}

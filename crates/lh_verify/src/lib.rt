@@ -1,0 +1,18 @@
+//! Which instruction of a module is faulty first, and by which of the eight faults.
+#![tactic(auto, using(crate::proofs::Lists::steps))]
+
+mod allowed;
+mod arguments;
+mod fits;
+mod kinds;
+mod operands;
+mod operations;
+mod phis;
+mod place;
+mod results;
+mod scope;
+mod spots;
+mod types;
+mod undefined;
+mod units;
+mod uses;
