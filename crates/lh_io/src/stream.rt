@@ -6,8 +6,11 @@ ghost use Rattle.std.specs.Prelude.{◌≡◌, ◌≤◌, ◌<◌, ◌++◌, ℕ
 ghost use Rattle.lh_types.specs.Raised.{raised};
 ghost use Rattle.lh_io.specs.Streams.{Rose, FillsFront, Appends};
 
+use thiserror::Error;
+
 /// A read or a write failed. The count of faults of the source or the sink rose.
-#[derive(Clone, Copy, Debug, PartialEq, Eq)]
+#[derive(Clone, Copy, Debug, PartialEq, Eq, Error)]
+#[error("a read or a write failed")]
 pub struct Failed;
 
 /// Where bytes come from.

@@ -5,6 +5,7 @@ ghost use Rattle.lh_io.specs.Whole.{IsCountWithin, Takes};
 
 use crate::stream::{Failed, Sink, Source};
 use std::alloc::Global;
+use thiserror::Error;
 
 /// Writes the whole text, in as many writes as the sink needs, without memory.
 ///
@@ -24,13 +25,16 @@ pub fn write_all<K: Sink>(sink: &mut K, text: &[u8]) -> Result<(), Failed>
 }
 
 /// Why a source was not read to its end.
-#[derive(Clone, Copy, Debug, PartialEq, Eq)]
+#[derive(Clone, Copy, Debug, PartialEq, Eq, Error)]
 pub enum ReadAllFault {
     /// A read failed; the source's count of faults rose.
+    #[error("a read failed")]
     ReadFault,
     /// One byte more than the limit came.
+    #[error("more bytes came than the limit")]
     TooLong,
     /// Memory ran out.
+    #[error("out of memory")]
     OutOfMemory,
 }
 

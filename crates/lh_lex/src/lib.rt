@@ -10,13 +10,16 @@ ghost use Rattle.lh_lex.specs.Faults.{NamesFault, Refuses};
 use lh_types::list::ListOf;
 pub use lh_unit::token::{Token, TokenKind, TokenList};
 use std::alloc::Global;
+use thiserror::Error;
 
 /// Why a line has no tokens.
-#[derive(Clone, Copy, Debug, PartialEq, Eq)]
+#[derive(Clone, Copy, Debug, PartialEq, Eq, Error)]
 pub enum LexFault {
     /// No token takes the byte at this place of the line (the first byte is at 0), or it is the 256th byte of a name.
+    #[error("no token takes the byte at {0}")]
     BadByte(u32),
     /// Memory ran out.
+    #[error("out of memory")]
     OutOfMemory,
 }
 

@@ -1,35 +1,31 @@
 -- An arena stays in order under changes of one unit, a new unit and a new item.
-use Rattle.std.proofs.Common.{◌≡◌, ◌≢◌, ℕ, ◌+◌, ◌-◌, ◌^◌, ◌<◌, ◌≤◌, zero, suc, Bool, true, false, List, [], ◌∷◌, ◌++◌, length, get_or, set, map, if◌then◌else◌, Option, Some, None, IsSome, is_some, slice_get, position, nat_eq, ◌&&◌, Result, Ok, Err, refl, ap, sym, ◌∙◌, subst, arith, length-append, length-set}
-use Rattle.std.proofs.lemmas.List.{get_or-set_same, get_or-set_other, get_or_append_left, get_or_push, get_or_past, get_or_read, set-get_or}
-use Rattle.std.proofs.lemmas.Option.{slice_get-get_or, slice_get_within, get_or_from_slice_get}
+use Rattle.std.proofs.Common.{◌≡◌, ◌≢◌, ℕ, ◌-◌, ◌^◌, ◌<◌, ◌≤◌, Bool, true, false, List, [], ◌∷◌, ◌++◌, length, get_or, set, if◌then◌else◌, Option, Some, None, IsSome, slice_get, nat_eq, ◌&&◌, Result, Ok, Err, refl, ap, sym, ◌∙◌, subst, arith, length-append, length-set}
+use Rattle.std.proofs.lemmas.List.{get_or-set_same, get_or-set_other, get_or_past, get_or_read}
+use Rattle.std.proofs.lemmas.Option.{slice_get_within}
 use Rattle.std.specs.List.{list_any}
-use Rattle.std.proofs.lemmas.Grind.{common_steps}
-use Rattle.indexmap.specs.IndexSet.{insert_key}
-use lib.Pointwise.{pointwise, bytes_decides}
+use lib.Pointwise.{pointwise}
 use Rattle.lh_types.specs.Types.{TypeTree}
 use Rattle.lh_types.specs.declared.ty.NoMemory.{NoMemory}
 use Rattle.lh_unit.specs.UnitNames.{same_unit_name}
-use Rattle.lh_unit.specs.Table.{Table, IsTable, AllDistinct, ResultWithin, HasBlocks, no_table, is_block}
-use Rattle.lh_unit.specs.TableCalls.{has_name, with_value, with_label, begun, with_arg, with_result, with_block, with_line, last_block, NamesValue, NamesLabel, FindsValueIn, FindsLabelIn, Begins, TakesArg, TakesBlock, TakesLine}
-use Rattle.lh_unit.specs.Within.{Sizes, sizes_of, InstWithin}
-use Rattle.lh_unit.specs.Arena.{Arena, IsArena, InstPlaced, IsOpen, table_at, kind_at, unit_count, value_count, label_count, unit_name_at, no_unit_name}
+use Rattle.lh_unit.specs.Table.{Table, IsTable, ResultWithin, HasBlocks, no_table}
+use Rattle.lh_unit.specs.TableCalls.{has_name, with_value, with_label, with_result, with_line, FindsValueIn, FindsLabelIn, TakesArg, TakesBlock, TakesLine}
+use Rattle.lh_unit.specs.Within.{sizes_of, InstWithin}
+use Rattle.lh_unit.specs.Arena.{Arena, IsArena, InstPlaced, IsOpen, table_at, kind_at, unit_count}
 use Rattle.lh_unit.specs.declared.name.UnitName.{UnitName}
 use Rattle.lh_unit.specs.declared.inst.UnitId.{UnitId}
 use Rattle.lh_unit.specs.declared.inst.ValueId.{ValueId}
 use Rattle.lh_unit.specs.declared.inst.BlockId.{BlockId}
 use Rattle.lh_unit.specs.declared.inst.InstId.{InstId}
-use Rattle.lh_unit.specs.declared.inst.UnitKind.{UnitKind}
 use Rattle.lh_unit.specs.declared.inst.UnitKind.TheVariants as kind
 use Rattle.lh_unit.specs.declared.inst.UnitFault.{UnitFault}
 use Rattle.lh_unit.specs.declared.inst.UnitFault.TheVariants as fault
 use Rattle.lh_unit.specs.declared.inst.Inst.{Inst}
 use Rattle.lh_unit.specs.declared.inst.Arg.{Arg}
 use Rattle.lh_unit.specs.declared.inst.Declare.{Declare}
-use Rattle.lh_unit.specs.declared.inst.Item.{Item}
 use Rattle.lh_unit.specs.declared.inst.Item.TheVariants as item
 use Rattle.lh_unit.specs.declared.table.Line.{Line}
-use Rattle.lh_unit.proofs.Lists.{Place, before, at, past, place, Same, same, other, same_or, Pushed, old, new, pushed, slice_get-push, slice_get-push_before, get_or-push_default, AllDistinct-push, key_found, other_keys, nat_eq-is, nat_eq-refl}
-use Rattle.lh_unit.proofs.Tables.{IsTable-with_value, IsTable-with_label, IsTable-begun, IsTable-with_arg, IsTable-with_result, IsTable-with_block, IsTable-with_line, same_name-is, same_name-refl}
+use Rattle.lh_unit.proofs.Lists.{Place, before, at, past, place, Same, same, other, same_or, Pushed, old, new, pushed, slice_get-push, slice_get-push_before, get_or-push_default, AllDistinct-push, other_keys, nat_eq-is, nat_eq-refl}
+use Rattle.lh_unit.proofs.Tables.{IsTable-with_value, IsTable-with_label, IsTable-with_arg, IsTable-with_result, IsTable-with_block, IsTable-with_line, same_name-is, same_name-refl}
 use Rattle.lh_unit.proofs.Within.{InstWithin-more}
 
 -- the arena with another table for the unit u

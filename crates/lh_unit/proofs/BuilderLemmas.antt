@@ -1,41 +1,31 @@
 -- What the calls on one unit do to the module.
-use Rattle.std.proofs.Common.{◌≡◌, ◌≢◌, ℕ, ◌+◌, ◌-◌, ◌^◌, ◌<◌, ◌≤◌, zero, suc, Bool, true, false, List, [], ◌∷◌, ◌++◌, length, map, get_or, set, if◌then◌else◌, Option, Some, None, IsSome, IsSomeAnd, is_some, Result, Ok, Err, unwrap_or, slice_get, position, refl, ap, sym, ◌∙◌, subst, arith, length-append, length-set}
-use Rattle.std.specs.List.{list_any}
-use Rattle.std.proofs.lemmas.List.{map-append, get_or-set_same, get_or-set_other, get_or_append_left, get_or_push, get_or_read, length-map, set-get_or}
-use Rattle.std.proofs.lemmas.Option.{slice_get-get_or, slice_get_within, get_or_from_slice_get}
-use Rattle.indexmap.specs.IndexSet.{insert_key}
-use Rattle.lh_types.specs.Types.{TypeTree, void_type}
+use Rattle.std.proofs.Common.{◌≡◌, ℕ, ◌+◌, ◌<◌, ◌≤◌, Bool, true, false, List, [], ◌∷◌, ◌++◌, length, map, get_or, if◌then◌else◌, Option, None, Result, Ok, Err, refl, ap, sym, ◌∙◌, subst, arith, length-append, length-set}
+use Rattle.std.proofs.lemmas.List.{get_or_append_left, set-get_or}
+use Rattle.std.proofs.lemmas.Option.{get_or_from_slice_get}
+use Rattle.lh_types.specs.Types.{TypeTree}
 use Rattle.lh_types.specs.declared.ty.NoMemory.{NoMemory}
 use Rattle.lh_unit.specs.Contents as text
 use Rattle.lh_unit.specs.Contents.{ItemText, UnitText, BlockText, LineText, ArgText, unit_text, declare_text, new_unit, change_last, defines_unit, defines_value, defines_label, line_count}
-use Rattle.lh_unit.specs.UnitNames.{same_unit_name}
-use Rattle.lh_unit.specs.Table.{Table, IsTable, HasBlocks, ResultWithin, no_table, entity_block, is_block, is_defined, result_defined, insts_at, line_at}
-use Rattle.lh_unit.specs.TableCalls.{has_name, with_value, with_label, begun, with_arg, with_result, with_block, with_line, last_block, NamesValue, NamesLabel, FindsValueIn, FindsLabelIn, Begins, TakesArg, TakesBlock, TakesLine}
-use Rattle.lh_unit.specs.Within.{Sizes, sizes_of, MaybeWithin, InstWithin}
-use Rattle.lh_unit.specs.Naming.{Naming, naming_of, maybe_text, line_text, arg_text, label_text, block_text, kind_text, table_text}
-use Rattle.lh_unit.specs.Arena.{Arena, IsArena, IsOpen, OfOpen, KeepsEntries, Grows, HasAtMost, InstPlaced, contents, item_text_at, unit_text_at, naming, table_at, kind_at, unit_count, value_count, label_count, unit_name_at, value_name_at, label_name_at, no_unit_name}
-use Rattle.lh_unit.specs.Builders.{Finds, FindsUnit, FindsValue, FindsLabel, Says, BeginsUnit, AddsArg, SetsResult, AddsBlock, AddsLine, AddsDeclare, HasRoom, HasTwice, HasLabels, line_text_at}
-use Rattle.lh_unit.specs.declared.name.UnitName.{UnitName}
+use Rattle.lh_unit.specs.Table.{Table, IsTable, HasBlocks, ResultWithin, no_table, is_block, is_defined, result_defined, insts_at, line_at}
+use Rattle.lh_unit.specs.TableCalls.{has_name, with_value, with_label, with_arg, with_result, with_block, with_line, FindsValueIn, FindsLabelIn, TakesArg, TakesBlock, TakesLine}
+use Rattle.lh_unit.specs.Within.{sizes_of}
+use Rattle.lh_unit.specs.Naming.{Naming, naming_of, line_text, arg_text, label_text, block_text, kind_text, table_text}
+use Rattle.lh_unit.specs.Arena.{Arena, IsArena, IsOpen, OfOpen, KeepsEntries, HasAtMost, contents, item_text_at, unit_text_at, naming, table_at, kind_at, unit_count, unit_name_at, value_name_at, label_name_at}
+use Rattle.lh_unit.specs.Builders.{Finds, FindsValue, FindsLabel, Says, AddsArg, SetsResult, AddsBlock, AddsLine, HasRoom, HasTwice, line_text_at}
 use Rattle.lh_unit.specs.declared.inst.UnitId.{UnitId}
 use Rattle.lh_unit.specs.declared.inst.ValueId.{ValueId}
 use Rattle.lh_unit.specs.declared.inst.BlockId.{BlockId}
 use Rattle.lh_unit.specs.declared.inst.InstId.{InstId}
-use Rattle.lh_unit.specs.declared.inst.UnitKind.{UnitKind}
-use Rattle.lh_unit.specs.declared.inst.UnitKind.TheVariants as kind
 use Rattle.lh_unit.specs.declared.inst.UnitFault.{UnitFault}
 use Rattle.lh_unit.specs.declared.inst.UnitFault.TheVariants as fault
 use Rattle.lh_unit.specs.declared.inst.Inst.{Inst}
 use Rattle.lh_unit.specs.declared.inst.Arg.{Arg}
-use Rattle.lh_unit.specs.declared.inst.Declare.{Declare}
-use Rattle.lh_unit.specs.declared.inst.Item.{Item}
-use Rattle.lh_unit.specs.declared.inst.Item.TheVariants as item
-use Rattle.lh_unit.specs.declared.table.Line.{Line}
-use Rattle.lh_unit.proofs.Lists.{Same, same, other, same_or, map-ext, map-same, not_true, or_true, get_or-push_default, slice_get-push, slice_get-push_before, key_found}
-use Rattle.lh_unit.proofs.Tables.{insts_at-more, missing}
-use Rattle.lh_unit.proofs.Arenas.{with_table, with_unit, table_at-same, table_at-other, table_at-unit, same_unit_name-is, same_unit_name-refl, open-within, open-begun, open-item, LinesPlaced, not_there}
+use Rattle.lh_unit.proofs.Lists.{Same, same, other, same_or, map-ext}
+use Rattle.lh_unit.proofs.Tables.{insts_at-more}
+use Rattle.lh_unit.proofs.Arenas.{with_table, table_at-same, table_at-other, open-within, LinesPlaced}
 use Rattle.lh_unit.proofs.Texts.{Agree, table_text-same}
 use Rattle.lh_unit.proofs.Defined.{line_count-ids, defines_value-ids, defines_result-ids, defines_label-ids}
-use Rattle.lh_unit.proofs.ContentsLemmas.{text_with, open-of, of-open, contents-with_table, unit_text-table, unit_text-table_same, item_text-other, text-with_arg, text-with_result, text-with_block, text-with_line}
+use Rattle.lh_unit.proofs.ContentsLemmas.{text_with, open-of, contents-with_table, unit_text-table, unit_text-table_same, item_text-other, text-with_arg, text-with_result, text-with_block, text-with_line}
 
 -- a table with the entries of another and maybe more
 pub record Grown (t u : Table) : Type 0 where

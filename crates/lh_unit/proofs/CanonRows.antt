@@ -1,13 +1,13 @@
 -- Canonical lines, computed from the definition.
-use Rattle.std.proofs.Common.{◌≡◌, ℕ, Bool, true, false, List, [], ◌∷◌, ◌++◌, Option, Some, None, refl}
+use Rattle.std.proofs.Common.{◌≡◌, ℕ, Bool, true, false, List, [], ◌∷◌, ◌++◌, Some, None, refl}
 use Rattle.std.specs.Prelude.{codes}
 use Rattle.std.specs.Fmt.{digits}
 use Prim.Native.String.{String}
 use Rattle.lh_types.specs.Types.{TypeTree, int_type, time_type, void_type, array_type, tuple_type, signal_type, pointer_type, no_types, more_types}
 use Rattle.lh_types.specs.Values.{int_value, time_value}
 use Rattle.lh_types.specs.declared.op.Op.TheVariants as op
-use Rattle.lh_unit.specs.Contents.{OperandText, InstText, LineText, ArgText, ItemText, const_text, pure_text, var_text, ld_text, st_text, sig_text, prb_text, drv_text, reg_text, child_text, call_text, phi_text, br_text, branch_text, wait_text, halt_text, ret_text, unit_text, declare_text}
-use Rattle.lh_unit.specs.Pieces.{render, ◌␣◌}
+use Rattle.lh_unit.specs.Contents.{OperandText, InstText, ArgText, const_text, pure_text, st_text, sig_text, prb_text, drv_text, reg_text, child_text, call_text, phi_text, br_text, branch_text, wait_text, halt_text, ret_text, unit_text, declare_text}
+use Rattle.lh_unit.specs.Pieces.{render}
 use Rattle.lh_unit.specs.CanonTypes.{type_pieces, time_text}
 use Rattle.lh_unit.specs.Canon.{line_pieces, canon, header, declaration}
 use Rattle.lh_unit.specs.declared.name.UnitName.{UnitName}

@@ -1,34 +1,27 @@
 -- The contents under the calls that build a module.
-use Rattle.std.proofs.Common.{◌≡◌, ◌≢◌, ℕ, ◌+◌, ◌-◌, ◌^◌, ◌<◌, ◌≤◌, zero, suc, Bool, true, false, ◌||◌, List, [], ◌∷◌, ◌++◌, length, map, get_or, set, if◌then◌else◌, Option, Some, None, IsSome, IsSomeAnd, is_some, Result, Ok, Err, unwrap_or, slice_get, refl, ap, sym, ◌∙◌, subst, arith, length-append, length-set}
-use Rattle.std.proofs.lemmas.List.{map-append, get_or-set_same, get_or-set_other, get_or_append_left, get_or_push, length-map, set-get_or}
-use Rattle.std.proofs.lemmas.Option.{slice_get-get_or, slice_get_within, get_or_from_slice_get}
-use Rattle.lh_types.specs.Types.{TypeTree, void_type}
+use Rattle.std.proofs.Common.{◌≡◌, ◌≢◌, ℕ, ◌<◌, false, List, [], ◌∷◌, ◌++◌, length, map, get_or, Option, Some, None, IsSomeAnd, unwrap_or, slice_get, refl, ap, sym, ◌∙◌, subst, arith}
+use Rattle.std.proofs.lemmas.List.{map-append, get_or-set_same, get_or_append_left, get_or_push}
+use Rattle.std.proofs.lemmas.Option.{slice_get_within}
+use Rattle.lh_types.specs.Types.{TypeTree}
 use Rattle.lh_unit.specs.Contents as text
 use Rattle.lh_unit.specs.Contents.{ItemText, UnitText, BlockText, LineText, ArgText, unit_text, declare_text, new_unit, change_last, last_unit, line_at_end, defines_unit, same_name}
-use Rattle.lh_unit.specs.UnitNames.{same_unit_name}
-use Rattle.lh_unit.specs.Table.{Table, IsTable, HasBlocks, no_table, entity_block, is_block, insts_at, line_at, no_line}
-use Rattle.lh_unit.specs.TableCalls.{has_name, with_value, with_label, begun, with_arg, with_result, with_block, with_line, last_block}
-use Rattle.lh_unit.specs.Within.{Sizes, sizes_of, Each, InstWithin}
-use Rattle.lh_unit.specs.Naming.{Naming, naming_of, value_text, maybe_text, inst_text, line_text, arg_text, label_text, block_text, kind_text, table_text}
-use Rattle.lh_unit.specs.Arena.{Arena, IsArena, IsOpen, OfOpen, KeepsEntries, Grows, HasAtMost, contents, item_text_at, unit_text_at, naming, table_at, kind_at, unit_count, value_count, label_count, unit_name_at, value_name_at, label_name_at, no_unit_name, inst_text_at}
-use Rattle.lh_unit.specs.Builders.{Finds, Says, line_text_at}
-use Rattle.lh_unit.specs.declared.name.UnitName.{UnitName}
+use Rattle.lh_unit.specs.Table.{Table, IsTable, HasBlocks, is_block, insts_at, line_at, no_line}
+use Rattle.lh_unit.specs.TableCalls.{with_arg, with_result, with_block, with_line, last_block}
+use Rattle.lh_unit.specs.Naming.{Naming, naming_of, line_text, arg_text, label_text, block_text, kind_text, table_text}
+use Rattle.lh_unit.specs.Arena.{Arena, IsArena, IsOpen, OfOpen, contents, item_text_at, unit_text_at, unit_count, unit_name_at}
 use Rattle.lh_unit.specs.declared.inst.UnitId.{UnitId}
 use Rattle.lh_unit.specs.declared.inst.ValueId.{ValueId}
 use Rattle.lh_unit.specs.declared.inst.BlockId.{BlockId}
 use Rattle.lh_unit.specs.declared.inst.InstId.{InstId}
-use Rattle.lh_unit.specs.declared.inst.UnitKind.{UnitKind}
-use Rattle.lh_unit.specs.declared.inst.UnitKind.TheVariants as kind
 use Rattle.lh_unit.specs.declared.inst.Inst.{Inst}
 use Rattle.lh_unit.specs.declared.inst.Arg.{Arg}
-use Rattle.lh_unit.specs.declared.inst.Declare.{Declare}
 use Rattle.lh_unit.specs.declared.inst.Item.{Item}
 use Rattle.lh_unit.specs.declared.inst.Item.TheVariants as item
 use Rattle.lh_unit.specs.declared.table.Line.{Line}
-use Rattle.lh_unit.proofs.Lists.{Same, same, other, same_or, map-same, map-each, slice_get-push, slice_get-push_before, or_true, not_true, get_or-push_default}
-use Rattle.lh_unit.proofs.Tables.{last-split, front-apart, insts_at-written, last-within, apart, missing}
-use Rattle.lh_unit.proofs.Arenas.{with_table, with_unit, table_at-same, table_at-other, table_at-unit, same_unit_name-is, same_unit_name-refl, open-within, open-item}
-use Rattle.lh_unit.proofs.Texts.{Agree, table_text-same, insts-within}
+use Rattle.lh_unit.proofs.Lists.{map-same, map-each, slice_get-push, slice_get-push_before}
+use Rattle.lh_unit.proofs.Tables.{last-split, front-apart, insts_at-written, last-within, apart}
+use Rattle.lh_unit.proofs.Arenas.{with_table, table_at-same, table_at-other, open-within, open-item}
+use Rattle.lh_unit.proofs.Texts.{insts-within}
 use Rattle.lh_unit.proofs.Defined.{label_text-named}
 
 -- the text of the unit u, were its table t

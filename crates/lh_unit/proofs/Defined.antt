@@ -1,10 +1,10 @@
 -- What is defined by names is what is defined by ids.
-use Rattle.std.proofs.Common.{◌≡◌, ◌≢◌, ℕ, ◌+◌, ◌<◌, ◌≤◌, zero, suc, Bool, true, false, ◌||◌, nat_eq, List, [], ◌∷◌, ◌++◌, length, map, get_or, Option, Some, None, IsSome, slice_get, refl, ap, sym, ◌∙◌, subst, arith, length-append}
-use Rattle.std.proofs.lemmas.List.{map-append, length-map}
+use Rattle.std.proofs.Common.{◌≡◌, ℕ, ◌+◌, ◌<◌, suc, ◌||◌, nat_eq, List, [], ◌∷◌, ◌++◌, length, map, get_or, Option, Some, None, refl, ap, sym, ◌∙◌, arith, length-append}
+use Rattle.std.proofs.lemmas.List.{length-map}
 use Rattle.std.proofs.lemmas.Option.{slice_get-get_or}
-use Rattle.lh_unit.specs.Contents.{LineText, BlockText, ArgText, UnitText, same_name, is_result_name, lines_define, blocks_define, args_define, defines_value, defines_label_in, defines_label, line_count}
+use Rattle.lh_unit.specs.Contents.{LineText, BlockText, same_name, is_result_name, lines_define, blocks_define, args_define, defines_value, defines_label_in, defines_label, line_count}
 use Rattle.lh_unit.specs.Table.{Table, IsTable, AllDistinct, FitsKind, HasBlocks, ArgsWithin, BlocksWithin, ResultWithin, ResultsWithin, is_arg, is_result, is_made, is_defined, is_block, result_defined, line_at, no_line, insts_at, flat, ids_from}
-use Rattle.lh_unit.specs.Naming.{Naming, naming_of, value_text, maybe_text, line_text, arg_text, label_text, block_text, table_text}
+use Rattle.lh_unit.specs.Naming.{Naming, naming_of, maybe_text, line_text, arg_text, label_text, block_text, table_text}
 use Rattle.lh_unit.specs.Builders.{defines_result}
 use Rattle.lh_unit.specs.declared.name.UnitName.{UnitName}
 use Rattle.lh_unit.specs.declared.inst.UnitKind.{UnitKind}

@@ -1,34 +1,30 @@
 -- Units that are looked up and begun, and declarations.
-use Rattle.std.proofs.Common.{◌≡◌, ◌≢◌, ℕ, ◌+◌, ◌-◌, ◌^◌, ◌<◌, ◌≤◌, zero, suc, Bool, true, false, ◌||◌, List, [], ◌∷◌, ◌++◌, length, map, get_or, set, Option, Some, None, IsSome, is_some, Result, Ok, Err, OnOk, OnErr, unwrap_or, slice_get, position, refl, ap, sym, ◌∙◌, subst, arith, length-append, length-set}
+use Rattle.std.proofs.Common.{◌≡◌, ◌≢◌, ℕ, ◌<◌, zero, suc, Bool, true, false, ◌||◌, List, [], ◌∷◌, ◌++◌, length, map, get_or, set, Option, Some, None, IsSome, is_some, Result, Ok, Err, OnOk, OnErr, unwrap_or, slice_get, position, refl, ap, sym, ◌∙◌, subst, arith, length-append, length-set}
 use Rattle.std.specs.List.{list_any}
 use Rattle.std.proofs.lemmas.List.{map-append, get_or-set_same, get_or_append_left, get_or_read}
-use Rattle.std.proofs.lemmas.Option.{slice_get-get_or, slice_get_within, get_or_from_slice_get}
+use Rattle.std.proofs.lemmas.Option.{slice_get-get_or, get_or_from_slice_get}
 use Rattle.indexmap.specs.IndexSet.{insert_key}
-use Rattle.lh_types.specs.Types.{TypeTree, void_type}
+use Rattle.lh_types.specs.Types.{void_type}
 use Rattle.lh_types.specs.declared.ty.NoMemory.{NoMemory}
-use Rattle.lh_unit.specs.Contents.{ItemText, UnitText, BlockText, unit_text, declare_text, new_unit, defines_unit}
+use Rattle.lh_unit.specs.Contents.{unit_text, new_unit, defines_unit}
 use Rattle.lh_unit.specs.UnitNames.{same_unit_name}
 use Rattle.lh_unit.specs.Table.{Table, IsTable, no_table, entity_block, insts_at, line_at}
 use Rattle.lh_unit.specs.TableCalls.{begun}
-use Rattle.lh_unit.specs.Within.{sizes_of, InstWithin}
-use Rattle.lh_unit.specs.Naming.{Naming, naming_of, line_text, arg_text, block_text, kind_text, table_text}
-use Rattle.lh_unit.specs.Arena.{Arena, IsArena, IsOpen, KeepsEntries, Grows, HasAtMost, contents, item_text_at, unit_text_at, naming, table_at, kind_at, unit_count, unit_name_at, no_unit_name}
-use Rattle.lh_unit.specs.Builders.{Finds, FindsUnit, Says, BeginsUnit, AddsDeclare}
+use Rattle.lh_unit.specs.Naming.{naming_of, line_text, arg_text, block_text, table_text}
+use Rattle.lh_unit.specs.Arena.{Arena, IsArena, contents, item_text_at, unit_text_at, table_at, kind_at, unit_count, unit_name_at, no_unit_name}
+use Rattle.lh_unit.specs.Builders.{Finds, FindsUnit, Says, AddsDeclare}
 use Rattle.lh_unit.specs.declared.name.UnitName.{UnitName}
 use Rattle.lh_unit.specs.declared.inst.UnitId.{UnitId}
-use Rattle.lh_unit.specs.declared.inst.BlockId.{BlockId}
 use Rattle.lh_unit.specs.declared.inst.InstId.{InstId}
 use Rattle.lh_unit.specs.declared.inst.UnitKind.{UnitKind}
 use Rattle.lh_unit.specs.declared.inst.UnitKind.TheVariants as kind
-use Rattle.lh_unit.specs.declared.inst.UnitFault.{UnitFault}
-use Rattle.lh_unit.specs.declared.inst.UnitFault.TheVariants as fault
 use Rattle.lh_unit.specs.declared.inst.Declare.{Declare}
 use Rattle.lh_unit.specs.declared.inst.Item.{Item}
 use Rattle.lh_unit.specs.declared.inst.Item.TheVariants as item
-use Rattle.lh_unit.proofs.Lists.{Same, same, other, same_or, map-same, not_true, or_true, key_found}
+use Rattle.lh_unit.proofs.Lists.{map-same, not_true, or_true, key_found}
 use Rattle.lh_unit.proofs.Tables.{missing, IsTable-begun}
-use Rattle.lh_unit.proofs.Arenas.{with_table, with_unit, table_at-same, table_at-other, table_at-unit, same_unit_name-is, same_unit_name-refl, none_some, IsArena-declared, IsArena-begun, LinesPlaced-more}
-use Rattle.lh_unit.proofs.Texts.{Agree, table_text-same}
+use Rattle.lh_unit.proofs.Arenas.{with_table, with_unit, table_at-unit, same_unit_name-is, same_unit_name-refl, none_some, IsArena-declared, IsArena-begun, LinesPlaced-more}
+use Rattle.lh_unit.proofs.Texts.{table_text-same}
 use Rattle.lh_unit.proofs.ContentsLemmas.{text_with, item_text-other, unit_text-table, unit_text-table_same}
 use Rattle.lh_unit.proofs.BuilderLemmas.{Grown, Grown-refl, Grown-same, AtMost, AtMost-refl, AtMost-same, KeepsEntries-by, HasAtMost-by, HasAtMost-same, each_table, with_table-old}
 

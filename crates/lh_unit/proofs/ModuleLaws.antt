@@ -1,13 +1,11 @@
 -- What callers may cite of a module: entries stay, names tell ids apart, the open unit is the last item.
-use Rattle.std.proofs.Common.{◌≡◌, ℕ, ◌+◌, ◌<◌, ◌≤◌, zero, suc, true, List, [], ◌∷◌, ◌++◌, length, map, Option, Some, None, IsSome, IsSomeAnd, slice_get, refl, ap, sym, ◌∙◌, subst, arith}
+use Rattle.std.proofs.Common.{◌≡◌, ℕ, ◌<◌, suc, List, [], ◌∷◌, ◌++◌, length, Option, Some, None, IsSome, IsSomeAnd, slice_get, refl, ap, sym, ◌∙◌, subst, arith}
 use Rattle.std.proofs.lemmas.Option.{slice_get-get_or}
 use Rattle.lh_unit.specs.Contents.{ItemText, UnitText, BlockText, LineText, unit_text, declare_text, last_unit, change_last, line_at_end}
 use Rattle.lh_unit.specs.Builders.{Says}
-use Rattle.lh_unit.specs.Table.{Table, IsTable, AllDistinct, is_block, insts_at}
-use Rattle.lh_unit.specs.Within.{Sizes, Each, ValueWithin, MaybeWithin, OperandWithin, TriggerWithin, EdgeWithin, InstWithin}
+use Rattle.lh_unit.specs.Within.{Each, ValueWithin, MaybeWithin, OperandWithin, TriggerWithin, EdgeWithin}
 use Rattle.lh_unit.specs.Naming.{value_text, maybe_text, operand_text, trigger_text, edge_text}
 use Rattle.lh_unit.specs.Arena.{Arena, IsArena, InstPlaced, IsOpen, OfOpen, KeepsEntries, Grows, contents, naming, sizes, unit_text_at, inst_text_at, kind_at, table_at, blocks_at, block_insts_at, unit_count, value_count, label_count, block_count, inst_count, unit_name_at, value_name_at, label_name_at, no_unit_name}
-use Rattle.lh_unit.specs.declared.name.UnitName.{UnitName}
 use Rattle.lh_unit.specs.declared.inst.UnitId.{UnitId}
 use Rattle.lh_unit.specs.declared.inst.ValueId.{ValueId}
 use Rattle.lh_unit.specs.declared.inst.BlockId.{BlockId}

@@ -1,10 +1,10 @@
 -- The tokens of a written line are its pieces' tokens.
-use Rattle.std.proofs.Common.{◌≡◌, ℕ, ◌+◌, ◌<◌, ◌≤◌, zero, suc, Bool, true, false, ◌&&◌, ◌||◌, ◌⊎◌, inl, inr, List, [], ◌∷◌, ◌++◌, length, take, drop, Option, Some, None, if◌then◌else◌, nat_eq, nat_lt, refl, ap, sym, ◌∙◌, subst, arith, append_assoc}
+use Rattle.std.proofs.Common.{◌≡◌, ℕ, ◌≤◌, zero, suc, Bool, true, false, ◌&&◌, ◌||◌, ◌⊎◌, inl, inr, List, [], ◌∷◌, ◌++◌, length, take, drop, Some, nat_eq, refl, ap, sym, ◌∙◌, subst, arith, append_assoc}
 use Rattle.std.proofs.lemmas.List.{take_at, drop_at}
 use Rattle.std.proofs.lemmas.Grind.{common_steps}
 use Rattle.lh_unit.specs.Names.{is_name_byte, all_name_bytes, IsName}
 use Rattle.lh_unit.specs.Lexemes.{Lexeme, word, global, local, arrow, minus, punct, lexemes, lexemes_after, front, first_lexeme, run_len, fits_name, is_white, is_comment, is_punct, begins}
-use Rattle.lh_unit.specs.Pieces.{Piece, token, space, lexeme_bytes, render, lexemes_in, IsLexeme, IsSpaced, takes_more, begins_with_word}
+use Rattle.lh_unit.specs.Pieces.{Piece, token, space, lexeme_bytes, render, lexemes_in, IsSpaced, begins_with_word}
 use Rattle.lh_unit.specs.Canon.{text_of}
 
 -- the bytes of lines joined

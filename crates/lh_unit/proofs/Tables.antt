@@ -1,14 +1,13 @@
 -- A unit's table stays in order under its calls.
 use Rattle.std.proofs.Common.{◌≡◌, ◌≢◌, ℕ, ◌+◌, ◌-◌, ◌^◌, ◌<◌, ◌≤◌, zero, suc, Bool, true, false, ◌||◌, nat_eq, if◌then◌else◌, List, [], ◌∷◌, ◌++◌, length, map, get_or, set, Option, Some, None, IsSome, is_some, unwrap_or, slice_get, position, refl, ap, sym, ◌∙◌, subst, arith, length-append, length-set, append_assoc, zero-add}
-use Rattle.std.specs.List.{list_any}
 use Rattle.std.specs.Cmp.Lexicographic.{same_text}
 use Rattle.std.proofs.lemmas.Option.{slice_get-get_or, slice_get_within}
 use Rattle.std.proofs.lemmas.List.{append-nil, map-append, get_or-set_same, get_or-set_other, get_or_past, get_or_read}
 use Rattle.std.proofs.lemmas.Grind.{common_steps}
 use Rattle.indexmap.specs.IndexSet.{insert_key}
 use lib.Pointwise.{pointwise, bytes_decides}
-use Rattle.lh_types.specs.Types.{TypeTree, void_type}
-use Rattle.lh_unit.specs.Table.{Table, Flags, IsTable, FitsKind, HasBlocks, AllDistinct, ArgsWithin, ResultWithin, ResultsWithin, BlocksWithin, entity_block, flat, ids_from, insts_at, is_arg, is_made, is_result, is_block, is_defined, result_defined, marked, flag_of, no_table}
+use Rattle.lh_types.specs.Types.{TypeTree}
+use Rattle.lh_unit.specs.Table.{Table, Flags, IsTable, FitsKind, HasBlocks, ArgsWithin, ResultWithin, ResultsWithin, BlocksWithin, entity_block, flat, ids_from, insts_at, is_arg, is_made, is_result, is_block, is_defined, result_defined, marked, flag_of}
 use Rattle.lh_unit.specs.TableCalls.{has_name, with_value, with_label, begun, with_arg, with_result, with_block, with_line, last_block, NamesValue, NamesLabel}
 use Rattle.lh_unit.specs.declared.inst.UnitKind.{UnitKind}
 use Rattle.lh_unit.specs.declared.inst.UnitKind.TheVariants as kind
@@ -18,7 +17,7 @@ use Rattle.lh_unit.specs.declared.inst.ValueId.{ValueId}
 use Rattle.lh_unit.specs.declared.inst.Inst.{Inst}
 use Rattle.lh_unit.specs.declared.inst.Arg.{Arg}
 use Rattle.lh_unit.specs.declared.table.Line.{Line}
-use Rattle.lh_unit.proofs.Lists.{Place, before, at, past, place, Same, same, other, same_or, nat_eq-refl, nat_eq-other, or_false, or_true, or-assoc, slice_get-push, slice_get-push_before, get_or-push_default, front_last, AllDistinct-push, other_keys, key_found, map-ext, map-same, flat-append, Pushed, pushed, some_inj}
+use Rattle.lh_unit.proofs.Lists.{Place, before, at, past, place, Same, same, other, same_or, nat_eq-refl, nat_eq-other, or_false, or_true, or-assoc, slice_get-push, slice_get-push_before, get_or-push_default, front_last, AllDistinct-push, other_keys, key_found, map-ext, map-same, flat-append, some_inj}
 
 -- the test of two names is equality
 pub same_name-is : (x y : List ℕ) → pointwise nat_eq x y ≡ true → x ≡ y

@@ -1,10 +1,9 @@
 -- The text of a unit depends only on the names of the ids that it holds.
-use Rattle.std.proofs.Common.{◌≡◌, ℕ, ◌+◌, ◌<◌, ◌≤◌, zero, suc, List, [], ◌∷◌, ◌++◌, length, map, get_or, Option, Some, None, slice_get, refl, ap, sym, ◌∙◌, subst, arith, zero-add}
-use Rattle.lh_types.specs.ValueOf.{datum_of}
-use Rattle.lh_unit.specs.Contents.{OperandText, TriggerText, EdgeText, LineText, BlockText, ArgText, UnitText, InstText, pure_text, var_text, ld_text, st_text, sig_text, prb_text, drv_text, reg_text, child_text, call_text, phi_text, br_text, branch_text, wait_text, ret_text}
-use Rattle.lh_unit.specs.Table.{Table, IsTable, FitsKind, ArgsWithin, BlocksWithin, ResultWithin, ResultsWithin, line_at, no_line, insts_at, flat, ids_from}
+use Rattle.std.proofs.Common.{◌≡◌, ℕ, ◌+◌, ◌<◌, zero, suc, List, [], ◌∷◌, length, map, Option, Some, None, slice_get, refl, ap, sym, ◌∙◌, subst, arith, zero-add}
+use Rattle.lh_unit.specs.Contents.{pure_text, var_text, ld_text, st_text, sig_text, prb_text, drv_text, reg_text, child_text, call_text, phi_text, br_text, branch_text, wait_text, ret_text}
+use Rattle.lh_unit.specs.Table.{Table, IsTable, FitsKind, ArgsWithin, BlocksWithin, ResultWithin, ResultsWithin, line_at, no_line, insts_at, ids_from}
 use Rattle.lh_unit.specs.Within.{Sizes, sizes_of, Each, ValueWithin, MaybeWithin, OperandWithin, TriggerWithin, EdgeWithin, InstWithin}
-use Rattle.lh_unit.specs.Naming.{Naming, naming_of, value_text, maybe_text, operand_text, trigger_text, edge_text, inst_text, line_text, arg_text, label_text, block_text, kind_text, table_text}
+use Rattle.lh_unit.specs.Naming.{Naming, value_text, maybe_text, operand_text, trigger_text, edge_text, inst_text, line_text, arg_text, label_text, block_text, kind_text, table_text}
 use Rattle.lh_unit.specs.declared.name.UnitName.{UnitName}
 use Rattle.lh_unit.specs.declared.inst.UnitKind.{UnitKind}
 use Rattle.lh_unit.specs.declared.inst.UnitKind.TheVariants as kind
@@ -18,7 +17,7 @@ use Rattle.lh_unit.specs.declared.inst.Inst.{Inst}
 use Rattle.lh_unit.specs.declared.inst.Inst.TheVariants as inst
 use Rattle.lh_unit.specs.declared.inst.Arg.{Arg}
 use Rattle.lh_unit.specs.declared.table.Line.{Line}
-use Rattle.std.proofs.lemmas.Option.{slice_get-get_or, get_or_from_slice_get}
+use Rattle.std.proofs.lemmas.Option.{slice_get-get_or}
 use Rattle.lh_unit.proofs.Lists.{map-each, map-same, Each-part}
 
 -- two namings that agree on all ids within the sizes

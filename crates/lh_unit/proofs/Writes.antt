@@ -1,9 +1,8 @@
 -- One unit of a module was read and written: the module stays in order, and says what the call promises.
-use Rattle.std.proofs.Common.{◌≡◌, ℕ, ◌-◌, ◌^◌, ◌<◌, List, length, map, get_or, Option, Some, None, IsSome, Result, Ok, Err, refl, ap, sym, ◌∙◌, subst, arith}
+use Rattle.std.proofs.Common.{◌≡◌, ℕ, ◌-◌, ◌^◌, ◌<◌, List, length, get_or, Option, Some, None, IsSome, Result, ap, ◌∙◌, subst, arith}
 use Rattle.std.proofs.lemmas.List.{get_or_read, length-map}
 use Rattle.lh_types.specs.Types.{TypeTree}
 use Rattle.lh_types.specs.declared.ty.NoMemory.{NoMemory}
-use Rattle.lh_unit.specs.Contents.{UnitText}
 use Rattle.lh_unit.specs.Table.{Table, HasBlocks, ResultWithin, no_table}
 use Rattle.lh_unit.specs.TableCalls.{FindsValueIn, FindsLabelIn, TakesArg, TakesBlock, TakesLine, with_result}
 use Rattle.lh_unit.specs.Within.{MaybeWithin}
@@ -19,7 +18,7 @@ use Rattle.lh_unit.specs.declared.inst.UnitKind.TheVariants as kind
 use Rattle.lh_unit.specs.declared.inst.UnitFault.{UnitFault}
 use Rattle.lh_unit.specs.declared.inst.Inst.{Inst}
 use Rattle.lh_unit.specs.declared.inst.Arg.{Arg}
-use Rattle.lh_unit.proofs.Arenas.{with_table, IsArena-with_table, FindsValueIn-Keeps, FindsLabelIn-Keeps, TakesArg-Keeps, with_result-Keeps, TakesBlock-Keeps, TakesLine-Keeps, open-within, open-begun}
+use Rattle.lh_unit.proofs.Arenas.{with_table, IsArena-with_table, FindsValueIn-Keeps, FindsLabelIn-Keeps, TakesArg-Keeps, with_result-Keeps, TakesBlock-Keeps, TakesLine-Keeps, open-begun}
 use Rattle.lh_unit.proofs.ContentsLemmas.{of-open}
 use Rattle.lh_unit.proofs.BuilderLemmas.{FindsValue-with_table, FindsLabel-with_table, AddsArg-with_table, SetsResult-with_table, AddsBlock-with_table, AddsLine-with_table}
 

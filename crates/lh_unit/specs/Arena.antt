@@ -1,5 +1,5 @@
 -- A module as contracts see it: its units by ids, and its items in file order.
-use Rattle.std.specs.Prelude.{◌≡◌, ℕ, ◌+◌, ◌^◌, ◌≤◌, ◌<◌, List, [], ◌∷◌, ◌++◌, length, map, Option, Some, None, IsSome, IsSomeAnd, slice_get, slice_index_or, slice_set}
+use Rattle.std.specs.Prelude.{◌≡◌, ℕ, ◌^◌, ◌≤◌, ◌<◌, List, [], ◌∷◌, ◌++◌, length, map, Option, Some, IsSome, IsSomeAnd, slice_get, slice_index_or}
 use Rattle.lh_types.specs.Types.{TypeTree}
 use Rattle.lh_unit.specs.Contents.{ItemText, UnitText, InstText, unit_text, declare_text, last_unit}
 use Rattle.lh_unit.specs.Table.{Table, no_table, line_at, insts_at, IsTable, AllDistinct}

@@ -1,5 +1,5 @@
 -- What the fields of a module are seen as.
-use Rattle.lh_unit.specs.Arena.{Arena, IsArena}
+use Rattle.lh_unit.specs.Arena.{Arena}
 use Rattle.lh_unit.specs.declared.module.Module.TheInside.{Inside}
 
 abbrev pub arena_of : Inside → Arena

@@ -1,5 +1,5 @@
 -- What each call that builds a module answers, and what it does to the contents.
-use Rattle.std.specs.Prelude.{◌≡◌, ℕ, ◌+◌, ◌≤◌, ◌<◌, Bool, true, false, List, [], ◌∷◌, ◌++◌, Option, Some, None, Result, Ok, Err}
+use Rattle.std.specs.Prelude.{◌≡◌, ℕ, ◌+◌, ◌<◌, Bool, true, false, List, [], ◌∷◌, ◌++◌, Option, Some, None, Result, Ok, Err}
 use Rattle.lh_types.specs.Types.{TypeTree}
 use Rattle.lh_types.specs.declared.ty.NoMemory.{NoMemory}
 use Rattle.lh_unit.specs.Contents.{ItemText, UnitText, LineText, ArgText, unit_text, declare_text, new_unit, change_last, with_arg, with_result, with_block, with_line, line_count, defines_unit, defines_value, defines_label}

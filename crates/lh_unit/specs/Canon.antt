@@ -3,7 +3,7 @@ use Rattle.std.specs.Prelude.{ℕ, nat_eq, not, Bool, true, false, List, [], ◌
 use Rattle.lh_types.specs.Types.{TypeTree, row_of}
 use Rattle.lh_types.specs.declared.op.Op.{Op}
 use Rattle.lh_types.specs.declared.op.Op.TheVariants as op
-use Rattle.lh_unit.specs.Contents.{OperandText, TriggerText, EdgeText, InstText, LineText, BlockText, ArgText, UnitText, ItemText, const_text, pure_text, var_text, ld_text, st_text, sig_text, prb_text, drv_text, reg_text, child_text, call_text, phi_text, br_text, branch_text, wait_text, halt_text, ret_text, unit_text, declare_text}
+use Rattle.lh_unit.specs.Contents.{OperandText, TriggerText, EdgeText, InstText, LineText, BlockText, ArgText, ItemText, const_text, pure_text, var_text, ld_text, st_text, sig_text, prb_text, drv_text, reg_text, child_text, call_text, phi_text, br_text, branch_text, wait_text, halt_text, ret_text, unit_text, declare_text}
 use Rattle.lh_unit.specs.Lexemes.{word, global, local, arrow}
 use Rattle.lh_unit.specs.Marks.{open_brace, close_brace, colon, equals}
 use Rattle.lh_unit.specs.Pieces.{Piece, token, space, render, ◌␣◌, ◌⸴◌, commas, behind_commas, mark, keyword, number, percent, in_parens, in_brackets, in_braces}

@@ -1,5 +1,5 @@
 -- What a file says, with names in place of ids: the items in file order.
-use Rattle.std.specs.Prelude.{◌≡◌, ℕ, ◌+◌, Bool, true, false, ◌||◌, List, [], ◌∷◌, ◌++◌, length, Option, Some, None}
+use Rattle.std.specs.Prelude.{ℕ, ◌+◌, Bool, false, ◌||◌, List, [], ◌∷◌, ◌++◌, length, Option, Some, None}
 use lib.Pointwise.{pointwise}
 use Rattle.std.specs.Prelude.{◌==◌}
 use Rattle.lh_types.specs.Types.{TypeTree, void_type}
@@ -11,7 +11,6 @@ use Rattle.lh_unit.specs.declared.inst.UnitKind.{UnitKind}
 use Rattle.lh_unit.specs.declared.inst.UnitKind.TheVariants as kind
 use Rattle.lh_unit.specs.declared.inst.Mode.{Mode}
 use Rattle.lh_unit.specs.declared.inst.Declare.{Declare}
-use Rattle.lh_unit.specs.declared.inst.Declare.TheVariants as declare
 
 -- an operand, with the type that is written directly before it
 pub record OperandText : Type 0 where

@@ -1,5 +1,5 @@
 -- The tokens of a line, taken longest first, each with its text.
-use Rattle.std.specs.Prelude.{◌≡◌, ℕ, ◌+◌, Bool, true, false, ◌&&◌, ◌||◌, nat_eq, nat_lt, nat_le, List, [], ◌∷◌, ◌++◌, length, take, Option, Some, None, if◌then◌else◌}
+use Rattle.std.specs.Prelude.{ℕ, ◌+◌, Bool, false, ◌&&◌, ◌||◌, nat_eq, nat_lt, List, [], ◌∷◌, take, Option, Some, None, if◌then◌else◌}
 use Rattle.std.proofs.Common.{zero, suc}
 use Rattle.lh_unit.specs.Names.{is_name_byte}
 

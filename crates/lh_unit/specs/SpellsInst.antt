@@ -1,10 +1,10 @@
 -- How instructions are spelled: one case for each spelling of the language.
-use Rattle.std.specs.Prelude.{◌≡◌, ℕ, ◌<◌, Bool, true, false, not, List, [], ◌∷◌, length, Option, Some, None, ◌⊎◌, codes}
+use Rattle.std.specs.Prelude.{◌≡◌, ℕ, Bool, true, false, not, List, [], ◌∷◌, length, Option, Some, None, ◌⊎◌, codes}
 use Rattle.lh_types.specs.Types.{TypeTree, int_type, void_type, array_type, tuple_type, IsLimited, row_of}
-use Rattle.lh_types.specs.Values.{Datum, int_value, time_value}
+use Rattle.lh_types.specs.Values.{int_value, time_value}
 use Rattle.lh_types.specs.declared.op.Op.{Op}
 use Rattle.lh_types.specs.declared.op.Op.TheVariants as op
-use Rattle.lh_unit.specs.Contents.{OperandText, InstText, LineText, const_text, pure_text, var_text, ld_text, st_text, sig_text, prb_text, drv_text, reg_text, child_text, call_text, phi_text, br_text, branch_text, wait_text, halt_text, ret_text}
+use Rattle.lh_unit.specs.Contents.{OperandText, InstText, const_text, pure_text, var_text, ld_text, st_text, sig_text, prb_text, drv_text, reg_text, child_text, call_text, phi_text, br_text, branch_text, wait_text, halt_text, ret_text}
 use Rattle.lh_unit.specs.Lexemes.{Lexeme, word, local, arrow}
 use Rattle.lh_unit.specs.Marks.{open_paren, close_paren, open_bracket, close_bracket, open_brace, close_brace, comma, equals}
 use Rattle.lh_unit.specs.Numerals.{number_of}

@@ -1,5 +1,5 @@
 -- How types are spelled.
-use Rattle.std.specs.Prelude.{◌≡◌, ℕ, List, [], ◌∷◌, Some, codes}
+use Rattle.std.specs.Prelude.{◌≡◌, ℕ, List, ◌∷◌, Some, codes}
 use Rattle.lh_types.specs.Types.{TypeTree, TypeRow, int_type, time_type, void_type, array_type, tuple_type, signal_type, pointer_type, no_types, more_types, IsLimited}
 use Rattle.lh_unit.specs.Lexemes.{Lexeme, word}
 use Rattle.lh_unit.specs.Marks.{open_bracket, close_bracket, open_brace, close_brace, comma, dollar, star}

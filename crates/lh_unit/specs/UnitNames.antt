@@ -1,5 +1,5 @@
 -- When two names of units are one.
-use Rattle.std.specs.Prelude.{ℕ, Bool, ◌==◌}
+use Rattle.std.specs.Prelude.{Bool, ◌==◌}
 use Rattle.std.specs.Ordering.{on, eq_of_both}
 use lib.Pointwise.{pointwise}
 use Rattle.lh_unit.specs.declared.name.UnitName.{UnitName}

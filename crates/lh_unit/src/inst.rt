@@ -4,6 +4,7 @@ use lh_types::list::ListOf;
 use lh_types::op::Op;
 use lh_types::ty::{Ty, TyList};
 use lh_types::val::Val;
+use thiserror::Error;
 
 /// A unit of a module.
 #[derive(Clone, Copy, Debug, PartialEq, Eq)]
@@ -181,13 +182,16 @@ pub enum Item {
 }
 
 /// Why a builder refuses; the module is then unchanged.
-#[derive(Clone, Copy, Debug, PartialEq, Eq)]
+#[derive(Clone, Copy, Debug, PartialEq, Eq, Error)]
 pub enum UnitFault {
     /// It would be the 65,537th instruction of its unit.
+    #[error("a unit has at most 65536 instructions")]
     UnitTooLarge,
     /// The unit, value or label is defined already.
+    #[error("the name is defined already")]
     DuplicateName,
     /// Memory ran out.
+    #[error("out of memory")]
     OutOfMemory,
 }
 

@@ -8,7 +8,7 @@ use std::hash::{Hash, Hasher};
 use std::marker::Model;
 
 /// A name, 1 to 255 name bytes.
-#[derive(Drop)]
+#[derive(Debug, Drop)]
 pub struct Name {
     bytes: Vec<u8>,
 }
@@ -91,7 +91,7 @@ impl Name {
 }
 
 /// The name of a unit.
-#[derive(Drop)]
+#[derive(Debug, Drop)]
 pub struct UnitName {
     pub sigil: u8,
     pub name: Name,

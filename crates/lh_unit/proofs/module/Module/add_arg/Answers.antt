@@ -1,9 +1,8 @@
-use Rattle.std.proofs.Common.{rules, ◌<◌, length, sym, subst}
+use Rattle.std.proofs.Common.{◌<◌, length, sym, subst}
 use Rattle.lh_unit.specs.Naming.{arg_text}
 use Rattle.lh_unit.specs.Arena.{Arena, IsArena, IsOpen, naming, value_count}
 use Rattle.lh_unit.specs.ArenaOf.{arena_of}
 use Rattle.lh_unit.specs.Builders.{AddsArg}
-use Rattle.lh_unit.specs.declared.inst.Arg.{Arg}
 use Rattle.lh_unit.proofs.Arenas.{with_table, open-within}
 use Rattle.lh_unit.proofs.Writes.{arg-written}
 use Rattle.lh_unit.proofs.module.Module.add_arg.Goals as goal

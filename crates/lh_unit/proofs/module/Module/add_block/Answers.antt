@@ -1,4 +1,4 @@
-use Rattle.std.proofs.Common.{◌≡◌, ◌<◌, length, sym, subst}
+use Rattle.std.proofs.Common.{◌<◌, length, sym, subst}
 use Rattle.lh_unit.specs.Table.{Table, HasBlocks}
 use Rattle.lh_unit.specs.Arena.{Arena, IsArena, IsOpen, OfOpen, kind_at, label_count, label_name_at}
 use Rattle.lh_unit.specs.ArenaOf.{arena_of}

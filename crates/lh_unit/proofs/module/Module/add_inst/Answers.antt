@@ -1,4 +1,4 @@
-use Rattle.std.proofs.Common.{◌≡◌, ◌<◌, length, sym, subst}
+use Rattle.std.proofs.Common.{◌<◌, length, sym, subst}
 use Rattle.lh_unit.specs.Table.{Table, ResultWithin}
 use Rattle.lh_unit.specs.Within.{MaybeWithin}
 use Rattle.lh_unit.specs.Arena.{Arena, IsArena, IsOpen, OfOpen, InstPlaced, sizes, table_at, value_count}

@@ -1,7 +1,7 @@
 use Rattle.std.proofs.Common.{rules, ◌≡◌, ◌<◌, ◌++◌, ◌∷◌, [], None, is_some, length, refl, sym, ap, ◌∙◌}
 use Rattle.std.specs.Vec.{with_item}
 use Rattle.lh_unit.specs.TableCalls.{begun}
-use Rattle.lh_unit.specs.Arena.{Arena, table_at, kind_at}
+use Rattle.lh_unit.specs.Arena.{table_at, kind_at}
 use Rattle.lh_unit.specs.ArenaOf.{arena_of}
 use Rattle.lh_unit.specs.declared.inst.Item.TheVariants as item
 use Rattle.lh_unit.proofs.ItemLemmas.{Says-begun, defines-begun, defines-missing, kind-told, none-told, IsArena-begins, with_begun, began, unchanged}

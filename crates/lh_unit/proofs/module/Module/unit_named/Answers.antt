@@ -1,4 +1,4 @@
-use Rattle.std.proofs.Common.{rules, ◌≡◌, ◌<◌, ◌-◌, ◌^◌, ◌++◌, ◌∷◌, [], length, refl, sym, subst}
+use Rattle.std.proofs.Common.{rules, ◌≡◌, ◌<◌, ◌-◌, ◌^◌, ◌++◌, ◌∷◌, [], refl, sym, subst}
 use Rattle.lh_unit.specs.Table.{no_table}
 use Rattle.lh_unit.specs.Arena.{Arena, IsArena, unit_count}
 use Rattle.lh_unit.specs.ArenaOf.{arena_of}

@@ -1,4 +1,4 @@
-use Rattle.std.proofs.Common.{rules, ◌≡◌, ◌<◌, ◌-◌, ◌^◌, length, sym, subst}
+use Rattle.std.proofs.Common.{rules, ◌<◌, ◌-◌, ◌^◌, length, sym, subst}
 use Rattle.lh_unit.specs.Arena.{Arena, IsArena, value_count}
 use Rattle.lh_unit.specs.ArenaOf.{arena_of}
 use Rattle.lh_unit.specs.Builders.{FindsValue}

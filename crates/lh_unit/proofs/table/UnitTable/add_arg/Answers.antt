@@ -1,5 +1,5 @@
-use Rattle.std.proofs.Common.{rules, ◌≡◌, ◌<◌, ◌++◌, ◌∷◌, [], IsSome, false, true, set, length, refl, sym, ◌∙◌, subst, ap}
-use Rattle.lh_unit.specs.Table.{Table, IsTable, is_defined}
+use Rattle.std.proofs.Common.{rules, ◌≡◌, ◌<◌, ◌++◌, ◌∷◌, [], IsSome, false, length, refl, sym, ◌∙◌, subst, ap}
+use Rattle.lh_unit.specs.Table.{Table, is_defined}
 use Rattle.lh_unit.specs.TableCalls.{with_arg}
 use Rattle.lh_unit.specs.TableOf.{table_of}
 use Rattle.lh_unit.specs.declared.inst.Arg.{Arg}

@@ -1,5 +1,5 @@
-use Rattle.std.proofs.Common.{rules, ◌≡◌, ◌<◌, false, is_some, length, refl, sym, ◌∙◌, subst}
-use Rattle.lh_unit.specs.Table.{Table, HasBlocks, IsTable, is_block}
+use Rattle.std.proofs.Common.{rules, ◌≡◌, ◌<◌, false, length, refl, sym, ◌∙◌, subst}
+use Rattle.lh_unit.specs.Table.{Table, HasBlocks, is_block}
 use Rattle.lh_unit.specs.TableCalls.{with_block}
 use Rattle.lh_unit.specs.TableOf.{table_of}
 use Rattle.lh_unit.proofs.Tables.{IsTable-with_block, IsTable-by, Flags-same, not_block}

@@ -1,10 +1,8 @@
-use Rattle.std.proofs.Common.{rules, ◌≡◌, ◌<◌, ◌-◌, ◌++◌, ◌∷◌, [], Option, Some, None, IsSome, List, false, get_or, set, unwrap_or, length, refl, sym, ◌∙◌, ap, subst}
+use Rattle.std.proofs.Common.{rules, ◌≡◌, ◌<◌, ◌-◌, ◌++◌, ◌∷◌, [], Some, None, IsSome, false, get_or, set, unwrap_or, length, sym, ◌∙◌, ap, subst}
 use Rattle.lh_unit.specs.Table.{Table, IsTable, Flags, ResultWithin, result_defined}
 use Rattle.lh_unit.specs.TableCalls.{with_line, last_block}
 use Rattle.lh_unit.specs.TableOf.{table_of}
-use Rattle.lh_unit.specs.declared.inst.InstId.{InstId}
-use Rattle.lh_unit.specs.declared.table.Line.{Line}
-use Rattle.lh_unit.proofs.Tables.{last-read, last-body, last-within, flag-of-told, line-laid, IsTable-with_line, Flags-same, Flags-with_line}
+use Rattle.lh_unit.proofs.Tables.{last-read, last-body, last-within, flag-of-told, line-laid, IsTable-with_line, Flags-with_line}
 use Rattle.lh_unit.proofs.table.UnitTable.add_line.Goals as goal
 
 pub push_id-requires-clause-within : goal.push_id-requires-clause-within

@@ -1,5 +1,4 @@
-use Rattle.std.proofs.Common.{rules, ◌≡◌, ◌<◌, ◌-◌, ◌^◌, ◌++◌, ◌∷◌, [], None, false, length, take, refl, sym}
-use Rattle.lh_unit.specs.Table.{Table, IsTable}
+use Rattle.std.proofs.Common.{rules, ◌≡◌, ◌<◌, ◌-◌, ◌^◌, ◌++◌, ◌∷◌, [], None, length, refl, sym}
 use Rattle.lh_unit.specs.TableOf.{table_of}
 use Rattle.lh_unit.proofs.Lists.{popped}
 use Rattle.lh_unit.proofs.Tables.{found-NamesLabel, inserted, IsTable-by, IsTable-new_label, Flags-same}

@@ -1,5 +1,4 @@
 use Rattle.std.proofs.Common.{rules, ◌≡◌, ◌<◌, ◌-◌, ◌^◌, ◌++◌, ◌∷◌, [], false, length, refl, sym}
-use Rattle.lh_unit.specs.Table.{Table, IsTable}
 use Rattle.lh_unit.specs.TableOf.{table_of}
 use Rattle.lh_unit.proofs.Tables.{found-NamesValue, inserted, IsTable-by, IsTable-new_value, Flags-same, Flags-new_value}
 use Rattle.lh_unit.proofs.table.UnitTable.value_named.Goals as goal
