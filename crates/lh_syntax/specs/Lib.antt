@@ -1,0 +1,2 @@
+pub mod SyntaxOf
+pub mod SpelledBy

@@ -1,0 +1,20 @@
+//! From the tokens of a line to what it says.
+#![tactic(auto)]
+
+ghost use Rattle.std.specs.Prelude.{IfOk, option_map};
+ghost use Rattle.lh_syntax.specs.SpelledBy.{SpelledBy};
+ghost use Rattle.lh_syntax.specs.SyntaxOf.{item_of};
+
+pub mod syntax;
+
+use crate::syntax::LineSyntax;
+use lh_scan::tokens::Tokens;
+use lh_types::ty::NoMemory;
+use std::alloc::Global;
+
+/// What the tokens of a line say, if they spell anything.
+pub fn item<'a>(alloc: Global, tokens: &Tokens<'a>) -> Result<Option<LineSyntax<'a>>, NoMemory>
+    ensures { IfOk result (λ r. SpelledBy tokens.now (option_map item_of r)) }
+{
+    Err(NoMemory)
+}
