@@ -1,6 +1,6 @@
 use Rattle.std.proofs.Common.{length}
-use Rattle.lh_read.proofs.Lists.{At}
-use Rattle.lh_read.proofs.list.parts.Given as goal
+use Rattle.lh_scan.proofs.Lists.{At}
+use Rattle.lh_scan.proofs.list.parts.Given as goal
 
 abbrev pub invariant-loop-parts : goal.invariant-loop-parts
 invariant-loop-parts g l = At g.P.Part.part_at l.tokens l.rest l.parts

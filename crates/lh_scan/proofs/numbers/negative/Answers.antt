@@ -1,7 +1,7 @@
 use Rattle.std.proofs.Common.{◌≡◌, ◌-◌, ◌+◌, ◌≤◌, Some, arith, sym, ◌∙◌, ap, subst}
 use Rattle.std.specs.Prelude.{◌^◌}
-use Rattle.lh_read.proofs.Halves.{negative-some}
-use Rattle.lh_read.proofs.parse.negative.Goals as goal
+use Rattle.lh_scan.proofs.Halves.{negative-some}
+use Rattle.lh_scan.proofs.numbers.negative.Goals as goal
 
 pub returns : goal.returns
 returns c =

@@ -3,7 +3,7 @@ use Rattle.std.proofs.Common.{◌≡◌, ℕ, ◌+◌, ◌-◌, ◌*◌, ◌<◌
 use Rattle.std.specs.Prelude.{◌^◌, ◌%◌}
 use Rattle.std.proofs.Math.Nat.{mod-eq_of_lt, two-pow-succ}
 use Rattle.std.proofs.lemmas.Grind.{common_steps}
-use Rattle.lh_read.specs.Items.{negative_bits}
+use Rattle.lh_scan.specs.Numbers.{negative_bits}
 
 two_halves : (n : ℕ) → 1 ≤ n → 2 ^ n ≡ 2 ^ (n - 1) + 2 ^ (n - 1)
 two_halves zero h = absurd (omega arith)

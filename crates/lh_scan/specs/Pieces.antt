@@ -49,6 +49,11 @@ abbrev pub end_at : List Lexeme → Option (Unit {0})
 end_at [] = Some tt
 end_at _ = None
 
+-- a number, where it is below a bound
+abbrev pub below : ℕ → Option ℕ → Option ℕ
+below b None = None
+below b (Some n) = if nat_lt n b then Some n else None
+
 -- a number, where it is below 2 ^ 128
 abbrev pub small : Option ℕ → Option ℕ
 small None = None
@@ -83,3 +88,11 @@ empty_or ts o None = o
 -- parts by comma before a closing mark, or none
 abbrev pub list_at : {A : Type 0} → (List Lexeme → Option (A × List Lexeme)) → ℕ → List Lexeme → Option (List A × List Lexeme)
 list_at p close ts = empty_or ts (parts_at p (length ts) ts) (punct_at close ts)
+
+abbrev pub behind_or : {A : Type 0} → (List Lexeme → Option (A × List Lexeme)) → List Lexeme → Option (List Lexeme) → Option (List A × List Lexeme)
+behind_or p ts None = Some ([], ts)
+behind_or p ts (Some us) = parts_at p (length us) us
+
+-- a comma before each part, or nothing
+abbrev pub behind_at : {A : Type 0} → (List Lexeme → Option (A × List Lexeme)) → List Lexeme → Option (List A × List Lexeme)
+behind_at p ts = behind_or p ts (punct_at 44 ts)

@@ -1,7 +1,7 @@
 use Rattle.std.proofs.Common.{◌≡◌, ◌<◌, ◌∷◌, ◌++◌, [], Some, None, sym, ◌∙◌, ap, subst, length, rules}
-use Rattle.lh_read.specs.Pieces.{punct_at, parts_at}
-use Rattle.lh_read.proofs.Lists.{At, At-next, At-end}
-use Rattle.lh_read.proofs.list.parts.Goals as goal
+use Rattle.lh_scan.specs.Pieces.{punct_at, parts_at}
+use Rattle.lh_scan.proofs.Lists.{At, At-next, At-end}
+use Rattle.lh_scan.proofs.list.parts.Goals as goal
 
 pub loop-parts-preserved : goal.loop-parts-preserved
 loop-parts-preserved g c =

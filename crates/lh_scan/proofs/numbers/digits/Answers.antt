@@ -1,8 +1,8 @@
 use Rattle.std.proofs.Common.{arith, ◌≤◌, ◌<◌, ◌+◌, ◌*◌, ◌-◌, get_or, drop, length, sym, ◌∙◌, ap}
 use Rattle.std.specs.Prelude.{◌^◌}
-use Rattle.lh_read.specs.Pieces.{small}
-use Rattle.lh_read.proofs.Digits.{small-past, digit_step}
-use Rattle.lh_read.proofs.numbers.digits.Goals as goal
+use Rattle.lh_scan.specs.Pieces.{small}
+use Rattle.lh_scan.proofs.Digits.{small-past, digit_step}
+use Rattle.lh_scan.proofs.numbers.digits.Goals as goal
 
 pub returns-then-n-d : goal.returns-then-n-d
 returns-then-n-d c =

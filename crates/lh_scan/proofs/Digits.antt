@@ -3,7 +3,7 @@ use Rattle.std.proofs.Common.{◌≡◌, ℕ, ◌+◌, ◌-◌, ◌*◌, ◌<◌
 use Rattle.std.specs.Prelude.{◌^◌, if◌then◌else◌, ◌&&◌}
 use Rattle.std.proofs.lemmas.Grind.{common_steps}
 use Rattle.lh_unit.specs.Numerals.{is_digit, digits_from}
-use Rattle.lh_read.specs.Pieces.{small}
+use Rattle.lh_scan.specs.Pieces.{small}
 
 -- digits never make a number smaller
 grows : (bs : List ℕ) (n m : ℕ) → digits_from n bs ≡ Some m → n ≤ m

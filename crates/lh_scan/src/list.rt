@@ -1,7 +1,7 @@
 //! Lists by comma.
 ghost use Rattle.std.specs.Prelude.{◌≡◌, ◌<◌, ◌+◌, IfOk, IfSome, length, List, Option, Some};
 ghost use Rattle.lh_unit.specs.Lexemes.{Lexeme};
-ghost use Rattle.lh_read.specs.Pieces.{parts_at, list_at};
+ghost use Rattle.lh_scan.specs.Pieces.{parts_at, list_at, behind_at};
 
 use crate::tokens::Tokens;
 use lh_types::list::ListOf;
@@ -12,7 +12,7 @@ use std::alloc::Global;
 pub trait Part<'a>: Sized + Drop {
     ghost part_at: { List Lexeme → Option (Self × List Lexeme) };
 
-    /// The part in front, and what follows it.
+    /// The part in front, and what follows it; `None` where none begins so.
     fn part(alloc: Global, tokens: &Tokens<'a>) -> Result<Option<(Self, Tokens<'a>)>, NoMemory>
         ensures { IfOk result (λ r. r ≡ part_at tokens.now) };
 
@@ -20,6 +20,8 @@ pub trait Part<'a>: Sized + Drop {
 }
 
 /// Parts by comma before a closing mark, or none, and what follows them.
+///
+/// The mark is not taken; that it stands there is looked for only before the first part.
 pub fn list<'a, P: Part<'a>>(
     alloc: Global,
     tokens: &Tokens<'a>,
@@ -33,8 +35,21 @@ pub fn list<'a, P: Part<'a>>(
     parts(alloc, tokens)
 }
 
-/// One or more parts by comma.
-fn parts<'a, P: Part<'a>>(
+/// Parts with a comma before each, or none, and what follows them.
+pub fn behind<'a, P: Part<'a>>(
+    alloc: Global,
+    tokens: &Tokens<'a>,
+) -> Result<Option<(ListOf<P>, Tokens<'a>)>, NoMemory>
+    ensures { IfOk result (λ r. r ≡ behind_at P.part_at tokens.now) }
+{
+    match tokens.punct(b',') {
+        Some(rest) => parts(alloc, &rest),
+        None => Ok(Some((ListOf::new(alloc), tokens.copy()))),
+    }
+}
+
+/// One or more parts by comma, and what follows them.
+pub fn parts<'a, P: Part<'a>>(
     alloc: Global,
     tokens: &Tokens<'a>,
 ) -> Result<Option<(ListOf<P>, Tokens<'a>)>, NoMemory>

@@ -3,8 +3,8 @@ ghost use Rattle.std.specs.Prelude.{◌≡◌, ◌<◌, ◌≤◌, map, option_m
 ghost use Rattle.lh_unit.specs.Names.{IsName};
 ghost use Rattle.lh_unit.specs.Tokens.{lexeme_at, IsTokenOf, AreTokensOf};
 ghost use Rattle.lh_unit.specs.Reads.{is_assert};
-ghost use Rattle.lh_read.specs.Pieces.{first_at, word_at, any_word_at, local_at, unit_name_at, punct_at, arrow_at, minus_at, end_at};
-ghost use Rattle.lh_read.specs.SyntaxOf.{lexeme_of, unit_name_of};
+ghost use Rattle.lh_scan.specs.Pieces.{first_at, word_at, any_word_at, local_at, unit_name_at, punct_at, arrow_at, minus_at, end_at};
+ghost use Rattle.lh_scan.specs.LexemeOf.{lexeme_of, unit_name_of};
 
 use lh_types::ty::NoMemory;
 use lh_unit::name::{Name, UnitName};

@@ -1,0 +1,5 @@
+pub mod Pieces
+pub mod Digits
+pub mod Halves
+pub mod Lists
+pub mod SpelledLists
