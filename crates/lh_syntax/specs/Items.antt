@@ -1,24 +1,26 @@
 -- What the tokens of a line say.
-use Rattle.std.specs.Prelude.{◌≡◌, ℕ, Bool, nat_eq, nat_le, List, [], ◌∷◌, length, Option, Some, None, if◌then◌else◌}
+use Rattle.std.specs.Prelude.{◌≡◌, ℕ, Bool, nat_eq, List, [], ◌∷◌, Option, Some, None, if◌then◌else◌}
 use Rattle.lh_unit.specs.Contents.{InstText, LineText}
 use Rattle.lh_unit.specs.Lexemes.{Lexeme, word, local, punct}
 use Rattle.lh_unit.specs.Spells.{LineItem, empty_item, label_item, inst_item, close_item}
 use Rattle.lh_unit.specs.SpellsInst.{gives_value, may_stand_alone}
-use Rattle.lh_scan.specs.Pieces.{◌>>=◌, punct_at, end_at}
+use Rattle.lh_scan.specs.Pieces.{◌>>=◌, name_at, punct_at, end_at}
 use Rattle.lh_syntax.specs.Words.{head_of}
 use Rattle.lh_syntax.specs.Insts.{worded_at, inst_at}
-use Rattle.lh_syntax.specs.Headers.{head_at}
+use Rattle.lh_syntax.specs.Headers.{item_when, head_at}
 use Rattle.lh_syntax.specs.declared.words.Head.{Head}
 
--- an item, where a condition holds
-abbrev pub item_when : Bool → LineItem → Option LineItem
-item_when b i = if b then Some i else None
-
--- a label whose colon ends the line
+-- `:` and the end of the line behind a name
 unfoldable pub label_at : List ℕ → List Lexeme → Option LineItem
 label_at n ts = do
   _ ← end_at ts
-  item_when (nat_le (length n) 255) (label_item n)
+  Some (label_item n)
+
+-- a word as a label, where `us` follows its colon
+unfoldable pub word_label_at : (ts us : List Lexeme) → Option LineItem
+word_label_at ts us = do
+  n ← name_at ts
+  label_at n.0 us
 
 -- an instruction behind `%r`
 unfoldable pub assigned_at : List ℕ → List Lexeme → Option LineItem
@@ -42,7 +44,7 @@ local_or r ts (Some us) = label_at r us
 local_or r ts None = assigned_at r ts
 
 abbrev pub word_or : List ℕ → List Lexeme → Option (List Lexeme) → Option LineItem
-word_or w ts (Some us) = label_at w us
+word_or w ts (Some us) = word_label_at (word w ∷ ts) us
 word_or w ts None = head_or w ts (head_of w)
 
 -- the end of a unit

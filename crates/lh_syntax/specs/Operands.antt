@@ -41,22 +41,31 @@ one_at ts = do
   a ← typed_at ts
   Some (a.0 ∷ [], a.1)
 
+-- `, %a`
+abbrev pub next_bare_at : List Lexeme → Option (Operand × List Lexeme)
+next_bare_at ts = do
+  us ← punct_at 44 ts
+  bare_at us
+
+-- `, ?%a`
+abbrev pub next_free_at : List Lexeme → Option (Operand × List Lexeme)
+next_free_at ts = do
+  us ← punct_at 44 ts
+  free_at us
+
 -- `D %a, %b`
 unfoldable pub two_at : List Lexeme → Option (List Operand × List Lexeme)
 two_at ts = do
   a ← typed_at ts
-  us ← punct_at 44 a.1
-  b ← bare_at us
+  b ← next_bare_at a.1
   Some (a.0 ∷ b.0 ∷ [], b.1)
 
 -- `D %b, ?%h, ?%n`
 unfoldable pub shift_at : List Lexeme → Option (List Operand × List Lexeme)
 shift_at ts = do
   b ← typed_at ts
-  us ← punct_at 44 b.1
-  h ← free_at us
-  vs ← punct_at 44 h.1
-  n ← free_at vs
+  h ← next_free_at b.1
+  n ← next_free_at h.1
   Some (b.0 ∷ h.0 ∷ n.0 ∷ [], n.1)
 
 -- the operands of an operation

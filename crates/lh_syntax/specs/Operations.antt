@@ -73,6 +73,10 @@ abbrev pub fits_array : ℕ → Option TypeTree → Bool
 fits_array n None = false
 fits_array n (Some t) = nat_lt n (2 ^ 32) && is_none (array_fault n t)
 
+-- the array of so many of an operand
+abbrev pub repeated_of : ℕ → Operand → Option InstText
+repeated_of n o = when (fits_array n o.ty) (pure_text (op.Repeat n) (operand_of o ∷ []))
+
 -- `N x D %a]`
 unfoldable pub repeat_at : List Lexeme → Option InstText
 repeat_at ts = do
@@ -80,7 +84,7 @@ repeat_at ts = do
   us ← word_at (codes "x") n.1
   o ← typed_at us
   _ ← last_mark_at 93 o.1
-  when (fits_array n.0 o.0.ty) (pure_text (op.Repeat n.0) (operand_of o.0 ∷ []))
+  repeated_of n.0 o.0
 
 abbrev pub is_bare : Operand → Bool
 is_bare o = is_none o.ty

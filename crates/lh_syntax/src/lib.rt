@@ -5,7 +5,9 @@ ghost use Rattle.std.specs.Prelude.{IfOk, option_map};
 ghost use Rattle.lh_syntax.specs.SpelledBy.{SpelledBy};
 ghost use Rattle.lh_syntax.specs.SyntaxOf.{item_of};
 
+mod operands;
 pub mod syntax;
+mod words;
 
 use crate::syntax::LineSyntax;
 use lh_scan::tokens::Tokens;
