@@ -2,4 +2,8 @@ pub mod Pieces
 pub mod Digits
 pub mod Halves
 pub mod Lists
+pub mod Runs
+pub mod DataTypes
 pub mod SpelledLists
+pub mod SpelledNumbers
+pub mod SpelledTypes

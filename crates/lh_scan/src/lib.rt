@@ -8,4 +8,3 @@ pub mod numbers;
 pub mod times;
 pub mod tokens;
 pub mod types;
-

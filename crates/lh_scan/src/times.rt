@@ -1,5 +1,6 @@
 //! Times at the end of a line.
-ghost use Rattle.std.specs.Prelude.{◌≡◌, ◌≤◌, ◌<◌, ◌^◌, length, option_map};
+ghost use Rattle.std.specs.Prelude.{◌≡◌, ◌≤◌, ◌<◌, ◌^◌, IfSome, length, option_map};
+ghost use Rattle.lh_unit.specs.Numerals.{is_digit as is_digit_byte};
 ghost use Rattle.lh_scan.specs.Pieces.{below};
 ghost use Rattle.lh_scan.specs.Times.{digit_run, unit_places, all_zero, next_digit, shifted, with_unit, pointed, femtoseconds as femtoseconds_in, before_last as before_last_in, steps_at, time_at};
 
@@ -18,14 +19,18 @@ fn digits(text: &[u8]) -> usize
     ensures count { result ≡ digit_run text.now }
     ensures within { result ≤ length text.now }
 {
-    let mut n = 0;
-    for b in text {
-        if *b < b'0' || *b > b'9' {
-            return n;
+    for (i, b) in text.iter().enumerate() {
+        if !is_digit(*b) {
+            return i;
         }
-        n += 1;
     }
-    n
+    text.len()
+}
+
+fn is_digit(b: u8) -> bool
+    ensures { result ≡ is_digit_byte b }
+{
+    b'0' <= b && b <= b'9'
 }
 
 /// How many places behind the point a unit has, where the last one is a femtosecond.
@@ -63,12 +68,13 @@ fn only_zeros(text: &[u8]) -> bool
 
 /// The next digit behind the point, and those behind it; 0 behind the last.
 fn next(text: &[u8]) -> Option<(u128, &[u8])>
-    ensures { option_map (λ r. (r.0, r.1.now)) result ≡ next_digit text.now }
+    ensures value { option_map (λ r. (r.0, r.1.now)) result ≡ next_digit text.now }
+    ensures small { IfSome result (λ r. r.0 ≤ 9) }
 {
     let Some((first, rest)) = text.split_first() else {
         return Some((0, text));
     };
-    if *first < b'0' || *first > b'9' {
+    if !is_digit(*first) {
         return None;
     }
     Some((u128::from(*first - b'0'), rest))
@@ -136,7 +142,10 @@ fn before_last(last: u8, word: &[u8]) -> Option<&[u8]>
     ensures { option_map (λ r. r.now) result ≡ before_last_in last word.now }
 {
     let len = word.len();
-    if len == 0 || word[len - 1] != last {
+    if len == 0 {
+        return None;
+    }
+    if word[len - 1] != last {
         return None;
     }
     Some(&word[..len - 1])

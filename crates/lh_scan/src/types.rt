@@ -6,7 +6,7 @@ ghost use Rattle.lh_types.specs.Types.{TypeTree, int_type as int_tree, tuple_typ
 ghost use Rattle.lh_types.specs.Faults.{tuple_fault, signal_fault, pointer_fault, Makes};
 ghost use Rattle.lh_types.specs.declared.ty.TyFault.{TyFault};
 ghost use Rattle.lh_scan.specs.Pieces.{parts_at};
-ghost use Rattle.lh_scan.specs.Types.{faultless, followed, int_width as width_in, int_before, array_in, tuple_in, data_at, base_at, suffix_at, type_at};
+ghost use Rattle.lh_scan.specs.Types.{faultless, followed, int_width as width_in, int_before, marked_in, array_in, tuple_in, data_at, base_at, suffix_at, type_at};
 
 use crate::numbers::{count, number};
 use crate::tokens::{Lex, Tokens};
@@ -91,10 +91,28 @@ fn data<'a>(
     };
     match first {
         Lex::Word(word) => Ok(int_type(word, rest)),
-        Lex::Punct(b'[') => array(alloc, deep - 1, &rest),
-        Lex::Punct(b'{') => tuple(alloc, deep - 1, &rest),
+        Lex::Punct(mark) => marked(alloc, deep - 1, mark, &rest),
         _ => Ok(None),
     }
+}
+
+/// What a bracket or a brace begins, and what follows it.
+#[cycle(data)]
+fn marked<'a>(
+    alloc: Global,
+    deep: u32,
+    mark: u8,
+    tokens: &Tokens<'a>,
+) -> Result<Option<(Ty, Tokens<'a>)>, NoMemory>
+    ensures { IfOk result (λ r. r ≡ marked_in (data_at deep) mark tokens.now) }
+{
+    if mark == b'[' {
+        return array(alloc, deep, tokens);
+    }
+    if mark == b'{' {
+        return tuple(alloc, deep, tokens);
+    }
+    Ok(None)
 }
 
 /// `N x T]`, and what follows it.
@@ -185,11 +203,7 @@ fn base<'a>(alloc: Global, tokens: &Tokens<'a>) -> Result<Option<(Ty, Tokens<'a>
 }
 
 /// The signal of a type, and what follows it.
-fn signal<'a>(
-    alloc: Global,
-    of: Ty,
-    rest: Tokens<'a>,
-) -> Result<Option<(Ty, Tokens<'a>)>, NoMemory>
+fn signal<'a>(alloc: Global, of: Ty, rest: Tokens<'a>) -> Result<Option<(Ty, Tokens<'a>)>, NoMemory>
     ensures { IfOk result (λ r. r ≡ followed (faultless (signal_fault of) (signal_type of)) rest.entry) }
 {
     let Some(ty) = faultless_type(Ty::signal(alloc, of))? else {

@@ -6,11 +6,14 @@ use Rattle.lh_scan.proofs.types.+data.Given as goal
 abbrev pub decreases-data : goal.decreases-data
 decreases-data l = 4 * l.deep
 
+abbrev pub decreases-marked : goal.decreases-marked
+decreases-marked l = 4 * l.deep + 3
+
 abbrev pub decreases-array : goal.decreases-array
-decreases-array l = 4 * l.deep + 3
+decreases-array l = 4 * l.deep + 2
 
 abbrev pub decreases-tuple : goal.decreases-tuple
-decreases-tuple l = 4 * l.deep + 3
+decreases-tuple l = 4 * l.deep + 2
 
 abbrev pub decreases-fields : goal.decreases-fields
 decreases-fields l = 4 * l.deep + 1
