@@ -1,7 +1,7 @@
 -- The instructions, behind `%r = ` where that stands.
 use Rattle.std.specs.Prelude.{◌≡◌, ℕ, Bool, true, false, nat_eq, List, [], ◌∷◌, length, map, Option, Some, None, if◌then◌else◌, codes}
 use Rattle.lh_types.specs.Types.{TypeTree, int_type, time_type}
-use Rattle.lh_types.specs.Values.{int_value, time_value}
+use Rattle.lh_types.specs.Values.{Datum, int_value, time_value}
 use Rattle.lh_unit.specs.Contents.{InstText, LineText, const_text, var_text, ld_text, st_text, sig_text, prb_text, drv_text, reg_text, child_text, call_text, phi_text, br_text, branch_text, wait_text, halt_text, ret_text}
 use Rattle.lh_unit.specs.Lexemes.{Lexeme, word, punct}
 use Rattle.lh_unit.specs.SpellsInst.{gives_value, may_stand_alone}
@@ -17,21 +17,22 @@ use Rattle.lh_syntax.specs.declared.syntax.Operand.{Operand}
 use Rattle.lh_syntax.specs.declared.words.Form.{Form}
 use Rattle.lh_syntax.specs.declared.words.Form.TheVariants as form
 
--- a constant of this type
-abbrev pub constant_of : TypeTree → List Lexeme → Option InstText
-constant_of (int_type n) ts = do
+-- the constant of this type that ends the line
+abbrev pub constant_at : TypeTree → List Lexeme → Option Datum
+constant_at (int_type n) ts = do
   b ← integer_at n ts
-  Some (const_text (int_value n b))
-constant_of time_type ts = do
+  Some (int_value n b)
+constant_at time_type ts = do
   d ← time_at ts
-  Some (const_text (time_value d))
-constant_of _ ts = None
+  Some (time_value d)
+constant_at _ ts = None
 
 -- behind `const`
 unfoldable pub const_at : List Lexeme → Option InstText
 const_at ts = do
   t ← type_at ts
-  constant_of t.0 t.1
+  d ← constant_at t.0 t.1
+  Some (const_text d)
 
 -- `T %a` at the end of the line
 unfoldable pub last_typed_at : List Lexeme → Option Operand

@@ -43,9 +43,17 @@ abbrev pub local_or : List ℕ → List Lexeme → Option (List Lexeme) → Opti
 local_or r ts (Some us) = label_at r us
 local_or r ts None = assigned_at r ts
 
-abbrev pub word_or : List ℕ → List Lexeme → Option (List Lexeme) → Option LineItem
-word_or w ts (Some us) = word_label_at (word w ∷ ts) us
-word_or w ts None = head_or w ts (head_of w)
+-- behind `%r`
+abbrev pub behind_local_at : List ℕ → List Lexeme → Option LineItem
+behind_local_at r ts = local_or r ts (punct_at 58 ts)
+
+abbrev pub word_or : List ℕ → (all rest : List Lexeme) → Option (List Lexeme) → Option LineItem
+word_or w all rest (Some us) = word_label_at all us
+word_or w all rest None = head_or w rest (head_of w)
+
+-- behind the first word
+abbrev pub behind_word_at : List ℕ → (all rest : List Lexeme) → Option LineItem
+behind_word_at w all rest = word_or w all rest (punct_at 58 rest)
 
 -- the end of a unit
 unfoldable pub close_at : ℕ → List Lexeme → Option LineItem
@@ -54,7 +62,7 @@ close_at b ts = if nat_eq b 125 then (end_at ts >>= λ _. Some close_item) else 
 -- the item that the tokens spell
 unfoldable pub item_at : List Lexeme → Option LineItem
 item_at [] = Some empty_item
-item_at (local r ∷ ts) = local_or r ts (punct_at 58 ts)
-item_at (word w ∷ ts) = word_or w ts (punct_at 58 ts)
+item_at (local r ∷ ts) = behind_local_at r ts
+item_at (word w ∷ ts) = behind_word_at w (word w ∷ ts) ts
 item_at (punct b ∷ ts) = close_at b ts
 item_at _ = None

@@ -63,8 +63,18 @@ trigger_rest-shorter ts r p =
     let d = bind_some (maybe_at (codes "after") g.0.1) _ r g.2 in
     let z = bind_some (punct_at 93 d.0.1) _ r d.2 in
     let e : z.0 ≡ r.1 = cc in
-    omega (arith, punct_at-shorter 91 ts a.0 a.1, local_at-shorter a.0 v.0 v.1, punct_at-shorter 44 v.0.1 b.0 b.1, any_word_at-shorter b.0 w.0 w.1, local_at-shorter w.0.1 t.0 t.1,
-      maybe_at-shorter (codes "if") t.0.1 g.0 g.1, maybe_at-shorter (codes "after") g.0.1 d.0 d.1, punct_at-shorter 93 d.0.1 z.0 z.1, ap length e)
+    omega (
+      arith,
+      punct_at-shorter 91 ts a.0 a.1,
+      local_at-shorter a.0 v.0 v.1,
+      punct_at-shorter 44 v.0.1 b.0 b.1,
+      any_word_at-shorter b.0 w.0 w.1,
+      local_at-shorter w.0.1 t.0 t.1,
+      maybe_at-shorter (codes "if") t.0.1 g.0 g.1,
+      maybe_at-shorter (codes "after") g.0.1 d.0 d.1,
+      punct_at-shorter 93 d.0.1 z.0 z.1,
+      ap length e,
+    )
 
 pub trigger_at-shorter : (ts : List Lexeme) (a : Trigger) (us : List Lexeme) → trigger_at ts ≡ Some (a, us) → length us < length ts
 trigger_at-shorter ts a us p = trigger_rest-shorter ts (a, us) p

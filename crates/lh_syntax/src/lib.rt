@@ -5,7 +5,12 @@ ghost use Rattle.std.specs.Prelude.{IfOk, option_map};
 ghost use Rattle.lh_syntax.specs.SpelledBy.{SpelledBy};
 ghost use Rattle.lh_syntax.specs.SyntaxOf.{item_of};
 
+mod brackets;
+mod headers;
+mod insts;
+mod line;
 mod operands;
+mod operations;
 pub mod syntax;
 mod words;
 

@@ -3,7 +3,7 @@ ghost use Rattle.std.specs.Prelude.{◌≡◌, IfOk};
 ghost use Rattle.lh_syntax.specs.Operands.{typed_at, bare_at, free_at, one_at, next_bare_at, next_free_at, two_at, shift_at, columns_at, maybe_at, trigger_at, edge_at, param_at};
 
 use crate::syntax::{Edge, Operand, Param, Trigger};
-use crate::words::{find_mode, Columns};
+use crate::words::{Columns, find_mode};
 use lh_scan::list::Part;
 use lh_scan::tokens::{NameText, Tokens};
 use lh_scan::types::ty;
@@ -160,10 +160,7 @@ pub fn columns<'a>(
 
 /// A word and `%a`, or nothing; and what follows.
 #[tactic(auto, unfolding(crate::specs::Operands::maybe_at))]
-pub fn maybe<'a>(
-    keyword: &[u8],
-    tokens: &Tokens<'a>,
-) -> Option<(Option<NameText<'a>>, Tokens<'a>)>
+pub fn maybe<'a>(keyword: &[u8], tokens: &Tokens<'a>) -> Option<(Option<NameText<'a>>, Tokens<'a>)>
     ensures { result ≡ maybe_at keyword.now tokens.now }
 {
     match tokens.word(keyword) {
