@@ -69,12 +69,12 @@ all_data-yes : (r : TypeRow) → AreData r → all_data r ≡ true
 all_data-yes no_types h = refl
 all_data-yes (more_types t r) h = rw (is_data-yes t h.0, all_data-yes r h.1) refl
 
-array-sound : (n : ℕ) (t : TypeTree) → IsData t → n < 2 ^ 32 → array_fault n t ≡ None → IsData (array_type n t)
+pub array-sound : (n : ℕ) (t : TypeTree) → IsData t → n < 2 ^ 32 → array_fault n t ≡ None → IsData (array_type n t)
 array-sound n t d h e =
     let f = four_none (nat_eq n 0) (is_data t) (nat_lt 16 (depth_of t + 1)) (nat_lt 65536 (n * bit_count t)) _ _ _ _ e in
     (d, not_zero n f.0, h, not_below 65536 (n * bit_count t) f.3, not_below 16 (depth_of t + 1) f.2)
 
-array-again : (n : ℕ) (t : TypeTree) → IsData (array_type n t) → array_fault n t ≡ None
+pub array-again : (n : ℕ) (t : TypeTree) → IsData (array_type n t) → array_fault n t ≡ None
 array-again n t h =
     let a = above_zero n h.1 in let b = is_data-yes t h.0 in let c = at_most 16 (depth_of t + 1) h.4 in let d = at_most 65536 (n * bit_count t) h.3 in
     rw (a, b, c, d) refl
@@ -87,12 +87,12 @@ not_empty : (r : TypeRow) → 0 < bit_count_row r → is_empty_row r ≡ false
 not_empty no_types h = absurd (omega (arith, h))
 not_empty (more_types t r) h = refl
 
-tuple-sound : (r : TypeRow) → AreData r → tuple_fault r ≡ None → IsData (tuple_type r)
+pub tuple-sound : (r : TypeRow) → AreData r → tuple_fault r ≡ None → IsData (tuple_type r)
 tuple-sound r d e =
     let f = four_none (is_empty_row r) (all_data r) (nat_lt 16 (depth_of_row r + 1)) (nat_lt 65536 (bit_count_row r)) _ _ _ _ e in
     (d, some_bits r d f.0, not_below 65536 (bit_count_row r) f.3, not_below 16 (depth_of_row r + 1) f.2)
 
-tuple-again : (r : TypeRow) → IsData (tuple_type r) → tuple_fault r ≡ None
+pub tuple-again : (r : TypeRow) → IsData (tuple_type r) → tuple_fault r ≡ None
 tuple-again r h =
     let a = not_empty r h.1 in let b = all_data-yes r h.0 in let c = at_most 16 (depth_of_row r + 1) h.3 in let d = at_most 65536 (bit_count_row r) h.2 in
     rw (a, b, c, d) refl
@@ -261,13 +261,13 @@ pub data_at-again : (k : ℕ) (t : TypeTree) (ts us : List Lexeme) → depth_of 
 data_at-again k t ts us h s = data_deep-again k t ts us (h, s)
 
 -- a type before `$` or `*`
-data_limited : (t : TypeTree) → IsData t → IsLimited t
+pub data_limited : (t : TypeTree) → IsData t → IsLimited t
 data_limited (int_type n) h = h
 data_limited (array_type n t) h = h
 data_limited (tuple_type r) h = h
 data_limited _ h = absurd h
 
-limited_data : (t : TypeTree) → is_data t ≡ true → IsLimited t → IsData t
+pub limited_data : (t : TypeTree) → is_data t ≡ true → IsLimited t → IsData t
 limited_data (int_type n) e h = h
 limited_data (array_type n t) e h = h
 limited_data (tuple_type r) e h = h

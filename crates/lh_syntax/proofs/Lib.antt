@@ -1,0 +1,3 @@
+pub mod SpelledWords
+pub mod TypeBegins
+pub mod SpelledOperands
