@@ -39,7 +39,7 @@ made_again : (o : Option TyFault) (t : TypeTree) (ts : List Lexeme) → o ≡ No
 made_again o t ts e = ap (λ x. followed (faultless x t) ts) e
 
 -- four tests for a fault, one after another
-four_none : (a b c d : Bool) (w x y z : TyFault) → (if a then Some w else (if not b then Some x else (if c then Some y else (if d then Some z else None)))) ≡ None → (a ≡ false) × (b ≡ true) × (c ≡ false) × (d ≡ false)
+pub four_none : (a b c d : Bool) (w x y z : TyFault) → (if a then Some w else (if not b then Some x else (if c then Some y else (if d then Some z else None)))) ≡ None → (a ≡ false) × (b ≡ true) × (c ≡ false) × (d ≡ false)
 four_none true b c d w x y z p = cc
 four_none false false c d w x y z p = cc
 four_none false true true d w x y z p = cc
@@ -65,7 +65,7 @@ is_data-yes (array_type n t) h = refl
 is_data-yes (tuple_type r) h = refl
 is_data-yes _ h = absurd h
 
-all_data-yes : (r : TypeRow) → AreData r → all_data r ≡ true
+pub all_data-yes : (r : TypeRow) → AreData r → all_data r ≡ true
 all_data-yes no_types h = refl
 all_data-yes (more_types t r) h = rw (is_data-yes t h.0, all_data-yes r h.1) refl
 

@@ -59,10 +59,10 @@ unfolding bare_at
 bare_at-again o ts us s = ap bare_at s.1 ∙ (λ j. Some (record { value = o.value; ty = sym s.0 j }, us))
 
 -- `?T %a`
-bare_free : (o : OperandText) (ts us : List Lexeme) → SpellsBare o ts us → SpellsOperand o ts us
+pub bare_free : (o : OperandText) (ts us : List Lexeme) → SpellsBare o ts us → SpellsOperand o ts us
 bare_free o ts us s = subst (λ ty. SpellsTyped ty o.value ts us) (sym s.0) s.1
 
-typed_free : (o : OperandText) (ts us : List Lexeme) → SpellsWithType o ts us → SpellsOperand o ts us
+pub typed_free : (o : OperandText) (ts us : List Lexeme) → SpellsWithType o ts us → SpellsOperand o ts us
 typed_free o ts us s = subst (λ ty. SpellsTyped ty o.value ts us) (sym s.1) s.2
 
 pub free_at-sound : (ts : List Lexeme) (r : Operand × List Lexeme) → free_at ts ≡ Some r → SpellsOperand (operand_of r.0) ts r.1
@@ -197,10 +197,10 @@ trigger_at-sound ts r p =
     let s : SpellsTrigger (record { value = v.0.0; mode = m.0; trigger = t.0.0; gate = g.0.0; after = d.0.0 }) ts z.0 = (t.0.1, g.0.1, e, maybe_at-sound (codes "if") t.0.1 g.0 g.1, f) in
     subst (λ (x : Trigger × List Lexeme). SpellsTrigger (trigger_of x.0) ts x.1) (some_inj _ r z.2) s
   where
-    opened : (ts as : List Lexeme) → ts ≡ punct 91 ∷ as → (v : List ℕ) (vs : List Lexeme) → as ≡ local v ∷ vs → (bs : List Lexeme) → vs ≡ punct 44 ∷ bs
+    opened : (ts rest : List Lexeme) → ts ≡ punct 91 ∷ rest → (v : List ℕ) (vs : List Lexeme) → rest ≡ local v ∷ vs → (bs : List Lexeme) → vs ≡ punct 44 ∷ bs
         → (w : List ℕ) (ws : List Lexeme) → bs ≡ word w ∷ ws → (m : List ℕ) → w ≡ m → (t : List ℕ) (us : List Lexeme) → ws ≡ local t ∷ us
         → ts ≡ punct 91 ∷ local v ∷ punct 44 ∷ word m ∷ local t ∷ us
-    opened ts as p v vs q bs r w ws x m y t us z =
+    opened ts rest p v vs q bs r w ws x m y t us z =
         p ∙ ap (λ l. punct 91 ∷ l) (q ∙ ap (λ l. local v ∷ l) (r ∙ ap (λ l. punct 44 ∷ l) (x ∙ (λ j. word (y j) ∷ z j))))
 
 -- what follows the gate is not another one
