@@ -6,3 +6,4 @@ pub mod SpelledOperations
 pub mod OperandLists
 pub mod SpelledBrackets
 pub mod SpelledInsts
+pub mod InstsAgain
