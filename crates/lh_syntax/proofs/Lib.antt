@@ -7,3 +7,5 @@ pub mod OperandLists
 pub mod SpelledBrackets
 pub mod SpelledInsts
 pub mod InstsAgain
+pub mod SpelledHeaders
+pub mod SpelledItems

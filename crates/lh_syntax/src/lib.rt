@@ -14,14 +14,16 @@ mod operations;
 pub mod syntax;
 mod words;
 
+use crate::line::line_item;
 use crate::syntax::LineSyntax;
 use lh_scan::tokens::Tokens;
 use lh_types::ty::NoMemory;
 use std::alloc::Global;
 
-/// What the tokens of a line say, if they spell anything.
+/// What the tokens of a line say, with names where they stand in the line: the one item that they spell, or `None` where
+/// they spell none. The answer speaks of this line alone, and not of where it may stand.
 pub fn item<'a>(alloc: Global, tokens: &Tokens<'a>) -> Result<Option<LineSyntax<'a>>, NoMemory>
     ensures { IfOk result (λ r. SpelledBy tokens.now (option_map item_of r)) }
 {
-    Err(NoMemory)
+    line_item(alloc, tokens)
 }
