@@ -9,3 +9,4 @@ pub mod SpelledInsts
 pub mod InstsAgain
 pub mod SpelledHeaders
 pub mod SpelledItems
+pub mod Fields

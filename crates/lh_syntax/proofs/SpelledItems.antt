@@ -134,15 +134,19 @@ line-again (Some r) i ts s =
     ∙ ap (λ o. o >>= λ x. item_when (gives_value x) (inst_item (record { result = Some r; inst = x }))) (inst_at-again i s.0 s.3)
     ∙ ap (λ b. item_when b (inst_item (record { result = Some r; inst = i }))) s.2
 
-label-again : (n : List ℕ) (ts : List Lexeme) → SpellsLabel n ts → item_at ts ≡ Some (label_item n)
-unfolding item_at label_at word_label_at name_at
-label-again n ts s = elim s [
-  | inl p ↦ ap item_at p.0 ∙ ap (λ b. ((if b then Some n else None) >>= λ m. Some (m, punct 58 ∷ [])) >>= λ x. (end_at [] >>= λ _. Some (label_item x.0))) (within (length n) 255 p.1)
-  | inr p ↦ ap item_at p
-]
+name-again : (n : List ℕ) (us : List Lexeme) → length n ≤ 255 → name_at (word n ∷ us) ≡ Some (n, us)
+unfolding name_at
+name-again n us h = let e : nat_le (length n) 255 ≡ true = within (length n) 255 h in rw e refl
   where
     within : (x y : ℕ) → x ≤ y → nat_le x y ≡ true
     within x y t = grind (arith, common_steps)
+
+label-again : (n : List ℕ) (ts : List Lexeme) → SpellsLabel n ts → item_at ts ≡ Some (label_item n)
+unfolding item_at label_at word_label_at
+label-again n ts s = elim s [
+  | inl p ↦ ap item_at p.0 ∙ ap (λ o. o >>= λ x. label_at x.0 []) (name-again n (punct 58 ∷ []) p.1)
+  | inr p ↦ ap item_at p
+]
 
 pub item_at-again : (ts : List Lexeme) (i : LineItem) → Spells ts i → item_at ts ≡ Some i
 unfolding item_at close_at
