@@ -7,3 +7,5 @@ pub mod DataTypes
 pub mod SpelledLists
 pub mod SpelledNumbers
 pub mod SpelledTypes
+pub mod Decimals
+pub mod SpelledTimes
