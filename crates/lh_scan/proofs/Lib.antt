@@ -6,6 +6,7 @@ pub mod Runs
 pub mod DataTypes
 pub mod SpelledLists
 pub mod SpelledNumbers
+pub mod TypeFaults
 pub mod SpelledTypes
 pub mod Decimals
 pub mod SpelledTimes

@@ -7,7 +7,8 @@ use lib.Pointwise.{pointwise}
 use Rattle.lh_unit.specs.Lexemes.{Lexeme, word, global, local, arrow, minus, punct}
 use Rattle.lh_unit.specs.SpellsParts.{SpellsUnitName}
 use Rattle.lh_unit.specs.declared.name.UnitName.{UnitName}
-use Rattle.lh_scan.specs.Pieces.{word_at, any_word_at, local_at, unit_name_at, punct_at, arrow_at, minus_at, end_at, below, small}
+use Rattle.lh_scan.specs.Shorter.{bind_some}
+use Rattle.lh_scan.specs.Pieces.{◌>>=◌, word_at, any_word_at, local_at, named_in, name_at, unit_name_at, punct_at, arrow_at, minus_at, end_at, below, small}
 
 pub guard : {A : Type 0} (b : Bool) (x y : A) → (if b then Some x else None) ≡ Some y → (b ≡ true) × (x ≡ y)
 guard true x y p = (refl, cc)
@@ -83,3 +84,20 @@ below-inv b (Some m) n p =
 
 pub below-again : (b n : ℕ) → n < b → below b (Some n) ≡ Some n
 below-again b n h = let e : nat_lt n b ≡ true = grind (arith, common_steps) in rw e refl
+
+-- a word as a name
+pub name_at-inv : (ts : List Lexeme) (r : List ℕ × List Lexeme) → name_at ts ≡ Some r → (ts ≡ word r.0 ∷ r.1) × (length r.0 ≤ 255)
+unfolding name_at
+name_at-inv (word w ∷ ts) r p =
+    let a = bind_some (named_in (word w)) _ r p in
+    let g = guard (nat_le (length w) 255) w a.0 a.1 in
+    let t : nat_le (length w) 255 ≡ true = g.0 in
+    let l : length w ≤ 255 = grind (arith, common_steps) in
+    let e : w ≡ r.0 = g.1 ∙ (cc (a.2)) in
+    let f : ts ≡ r.1 = cc (a.2) in
+    ((λ i. word (e i) ∷ f i), subst (λ x. length x ≤ 255) e l)
+name_at-inv _ r p = cc
+
+pub name_at-again : (w : List ℕ) (ts : List Lexeme) → length w ≤ 255 → name_at (word w ∷ ts) ≡ Some (w, ts)
+unfolding name_at
+name_at-again w ts h = let e : nat_le (length w) 255 ≡ true = grind (arith, common_steps) in rw e refl

@@ -1,5 +1,5 @@
 -- The small pieces that a line is read by: each takes tokens from the front and gives what is left.
-use Rattle.std.specs.Prelude.{◌≡◌, ℕ, ◌+◌, ◌^◌, Bool, true, false, nat_eq, nat_lt, List, [], ◌∷◌, length, Option, Some, None, if◌then◌else◌}
+use Rattle.std.specs.Prelude.{◌≡◌, ℕ, ◌+◌, ◌^◌, Bool, true, false, nat_eq, nat_lt, nat_le, List, [], ◌∷◌, length, Option, Some, None, if◌then◌else◌}
 use Rattle.std.proofs.Common.{zero, suc}
 use lib.Pointwise.{pointwise}
 use Rattle.lh_unit.specs.Lexemes.{Lexeme, word, global, local, arrow, minus, punct}
@@ -27,6 +27,18 @@ any_word_at _ = None
 abbrev pub local_at : List Lexeme → Option (List ℕ × List Lexeme)
 local_at (local x ∷ ts) = Some (x, ts)
 local_at _ = None
+
+-- a word that is no longer than a name
+abbrev pub named_in : Lexeme → Option (List ℕ)
+named_in (word w) = if nat_le (length w) 255 then Some w else None
+named_in _ = None
+
+-- a word as a name, and what follows it
+unfoldable pub name_at : List Lexeme → Option (List ℕ × List Lexeme)
+name_at [] = None
+name_at (t ∷ ts) = do
+  n ← named_in t
+  Some (n, ts)
 
 abbrev pub unit_name_at : List Lexeme → Option (UnitName × List Lexeme)
 unit_name_at (global x ∷ ts) = Some (record { sigil = 64; name = x }, ts)

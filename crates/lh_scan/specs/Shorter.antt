@@ -126,3 +126,10 @@ type_at-shorter ts r e = let a = bind_some (base_at ts) _ r e in by a.0 (base_at
     by t h (Some us) v f g q = omega (arith, punct_at-shorter 36 t.1 us f, ap length (followed-rest _ us r q))
     by t h None (Some us) f g q = omega (arith, punct_at-shorter 42 t.1 us g, ap length (followed-rest _ us r q))
     by t h None None f g q = let w : t.1 ≡ r.1 = cc in omega (arith, ap length w)
+
+-- as parts of lists
+pub local_part-shorter : (ts : List Lexeme) (a : List ℕ) (us : List Lexeme) → local_at ts ≡ Some (a, us) → length us < length ts
+local_part-shorter ts a us p = local_at-shorter ts (a, us) p
+
+pub type_part-shorter : (ts : List Lexeme) (a : TypeTree) (us : List Lexeme) → type_at ts ≡ Some (a, us) → length us < length ts
+type_part-shorter ts a us p = type_at-shorter ts (a, us) p

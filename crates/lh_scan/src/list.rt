@@ -3,9 +3,10 @@ ghost use Rattle.std.specs.Prelude.{◌≡◌, ◌<◌, ◌+◌, IfOk, IfSome, l
 ghost use Rattle.lh_unit.specs.Lexemes.{Lexeme};
 ghost use Rattle.lh_scan.specs.Pieces.{parts_at, list_at, behind_at};
 
-use crate::tokens::Tokens;
+use crate::tokens::{NameText, Tokens};
+use crate::types::ty;
 use lh_types::list::ListOf;
-use lh_types::ty::NoMemory;
+use lh_types::ty::{NoMemory, Ty};
 use std::alloc::Global;
 
 /// What may be a part of a list.
@@ -67,4 +68,35 @@ pub fn parts<'a, P: Part<'a>>(
             None => return Ok(Some((parts, more))),
         }
     }
+}
+
+/// A name behind `%`.
+impl<'a> Part<'a> for NameText<'a> {
+    ghost use Rattle.lh_scan.specs.Pieces.{local_at};
+    ghost use Rattle.lh_scan.specs.Shorter.{local_part-shorter};
+
+    ghost part_at = { local_at };
+
+    fn part(
+        alloc: Global,
+        tokens: &Tokens<'a>,
+    ) -> Result<Option<(NameText<'a>, Tokens<'a>)>, NoMemory> {
+        Ok(tokens.local())
+    }
+
+    ghost shorter = { local_part-shorter };
+}
+
+/// A type.
+impl<'a> Part<'a> for Ty {
+    ghost use Rattle.lh_scan.specs.Types.{type_at};
+    ghost use Rattle.lh_scan.specs.Shorter.{type_part-shorter};
+
+    ghost part_at = { type_at };
+
+    fn part(alloc: Global, tokens: &Tokens<'a>) -> Result<Option<(Ty, Tokens<'a>)>, NoMemory> {
+        ty(alloc, tokens)
+    }
+
+    ghost shorter = { type_part-shorter };
 }

@@ -3,7 +3,7 @@ ghost use Rattle.std.specs.Prelude.{◌≡◌, ◌<◌, ◌≤◌, map, option_m
 ghost use Rattle.lh_unit.specs.Names.{IsName};
 ghost use Rattle.lh_unit.specs.Tokens.{lexeme_at, IsTokenOf, AreTokensOf};
 ghost use Rattle.lh_unit.specs.Reads.{is_assert};
-ghost use Rattle.lh_scan.specs.Pieces.{first_at, word_at, any_word_at, local_at, unit_name_at, punct_at, arrow_at, minus_at, end_at};
+ghost use Rattle.lh_scan.specs.Pieces.{first_at, word_at, any_word_at, local_at, named_in, name_at, unit_name_at, punct_at, arrow_at, minus_at, end_at};
 ghost use Rattle.lh_scan.specs.LexemeOf.{lexeme_of, unit_name_of};
 
 use lh_types::ty::NoMemory;
@@ -92,6 +92,21 @@ fn text_of<'a>(line: &'a [u8], token: Token) -> Lex<'a>
     }
 }
 
+/// The name that a word is, where it is no longer than one.
+fn named<'a>(line: &'a [u8], token: Token) -> Option<NameText<'a>>
+    requires { IsTokenOf line.now token }
+    ensures { result ≡ named_in (lexeme_at line.now token) }
+{
+    let TokenKind::Word = token.kind else {
+        return None;
+    };
+    let bytes = &line[token.from as usize..token.to as usize];
+    if bytes.len() > 255 {
+        return None;
+    }
+    Some(NameText { bytes })
+}
+
 /// The tokens of a line that are left, in order.
 #[derive(Drop)]
 pub struct Tokens<'a> {
@@ -171,6 +186,20 @@ impl<'a> Tokens<'a> {
             Lex::Local(name) => Some((name, rest)),
             _ => None,
         }
+    }
+
+    /// A word that is no longer than a name, as a name, and what follows it.
+    #[tactic(auto, unfolding(crate::specs::Pieces::name_at))]
+    pub fn name(&self) -> Option<(NameText<'a>, Tokens<'a>)>
+        ensures { result ≡ name_at self.now }
+    {
+        let (token, tokens) = self.tokens.split_first()?;
+        let rest = Tokens {
+            line: self.line,
+            tokens,
+        };
+        let name = named(self.line, *token)?;
+        Some((name, rest))
     }
 
     /// The name of a unit, and what follows it.
