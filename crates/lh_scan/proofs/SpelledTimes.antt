@@ -1,5 +1,5 @@
 -- Times: what is found is spelled so, and what is spelled so is found.
-use Rattle.std.proofs.Common.{◌≡◌, ◌≢◌, ℕ, ◌+◌, ◌-◌, ◌*◌, ◌<◌, ◌≤◌, zero, suc, Bool, true, false, List, [], ◌∷◌, ◌++◌, length, take, drop, Option, Some, None, nat_eq, nat_lt, refl, ap, sym, ◌∙◌, subst, arith, inl, inr, append_assoc}
+use Rattle.std.proofs.Common.{◌≡◌, ℕ, ◌*◌, ◌<◌, ◌≤◌, Bool, true, false, List, [], ◌∷◌, ◌++◌, length, take, drop, Option, Some, None, nat_eq, refl, ap, sym, ◌∙◌, subst, arith, inl, inr, append_assoc}
 use Rattle.std.specs.Prelude.{◌^◌, if◌then◌else◌, ◌&&◌, option_map, codes}
 use Rattle.std.specs.Cmp.Lexicographic.{same_text}
 use Rattle.std.proofs.Math.Seq.{take-append_seam, drop-append_seam}
@@ -9,8 +9,8 @@ use lib.Pointwise.{pointwise}
 use Rattle.lh_time.specs.declared.Delay.{Delay}
 use Rattle.lh_unit.specs.Names.{same_bytes}
 use Rattle.lh_unit.specs.Lexemes.{Lexeme, word, global, local, arrow, minus, punct}
-use Rattle.lh_unit.specs.Numerals.{is_digit, digits_from, number_of}
-use Rattle.lh_unit.specs.SpellsNumbers.{unit_scale, SpellsDecimal, SpellsFemtoseconds, SpellsSteps, SpellsTime}
+use Rattle.lh_unit.specs.Numerals.{is_digit, number_of}
+use Rattle.lh_unit.specs.SpellsNumbers.{unit_scale, SpellsFemtoseconds, SpellsSteps, SpellsTime}
 use Rattle.lh_scan.specs.Pieces.{◌>>=◌, any_word_at, end_at, below, small, small_number}
 use Rattle.lh_scan.specs.Times.{digit_run, unit_places, shifted, with_unit, pointed, femtoseconds, before_last, counted, steps_or, steps_at, time_at}
 use Rattle.lh_scan.specs.Shorter.{bind_some}

@@ -1,9 +1,9 @@
 -- Types: what is found is spelled so, and what is spelled so is found.
-use Rattle.std.proofs.Common.{◌≡◌, ◌≢◌, ℕ, ◌+◌, ◌-◌, ◌*◌, ◌<◌, ◌≤◌, zero, suc, Bool, true, false, List, [], ◌∷◌, length, Option, Some, None, nat_eq, nat_lt, nat_le, refl, ap, sym, ◌∙◌, subst, arith}
-use Rattle.std.specs.Prelude.{if◌then◌else◌, ◌&&◌, ◌||◌, ◌^◌, not, codes}
+use Rattle.std.proofs.Common.{◌≡◌, ℕ, ◌<◌, ◌≤◌, zero, suc, Bool, true, false, List, [], ◌∷◌, length, Option, Some, None, nat_eq, nat_le, refl, ap, sym, ◌∙◌, subst, arith}
+use Rattle.std.specs.Prelude.{if◌then◌else◌, ◌&&◌, ◌||◌, not, codes}
 use Rattle.std.proofs.lemmas.Grind.{common_steps}
-use Rattle.lh_types.specs.Types.{TypeTree, TypeRow, int_type, time_type, void_type, array_type, tuple_type, signal_type, pointer_type, no_types, more_types, row_of, bit_count, bit_count_row, depth_of, depth_of_row, IsData, AreData, IsLimited}
-use Rattle.lh_types.specs.Faults.{is_data, is_time, all_data, is_empty_row, array_fault, tuple_fault, signal_fault, pointer_fault}
+use Rattle.lh_types.specs.Types.{TypeTree, TypeRow, int_type, time_type, void_type, array_type, tuple_type, signal_type, pointer_type, no_types, more_types, row_of, depth_of, depth_of_row, IsData, AreData, IsLimited}
+use Rattle.lh_types.specs.Faults.{is_data, is_time, array_fault, tuple_fault, signal_fault, pointer_fault}
 use Rattle.lh_types.specs.declared.ty.TyFault.{TyFault}
 use Rattle.lh_types.specs.declared.ty.TyFault.TheVariants.{WrongPart}
 use Rattle.lh_types.proofs.Limits.{depth_of-le}

@@ -10,7 +10,7 @@ use crate::types::ty;
 use lh_lex::line;
 use lh_time::Delay;
 use lh_types::list::ListOf;
-use lh_types::ty::NoMemory;
+use lh_types::ty::{NoMemory, Ty};
 use lh_unit::token::TokenList;
 use std::alloc::Global;
 
@@ -30,9 +30,13 @@ fn is_type(alloc: Global, text: &[u8]) -> Result<bool, NoMemory>
 {
     let tokens = lexed(alloc, text)?;
     let tokens = Tokens::new(text, tokens.as_slice());
-    match ty(alloc, &tokens)? {
-        Some((_, rest)) => Ok(rest.end().is_some()),
-        None => Ok(false),
+    Ok(is_whole(ty(alloc, &tokens)?))
+}
+
+fn is_whole(found: Option<(Ty, Tokens)>) -> bool {
+    match found {
+        Some((_ty, rest)) => rest.end().is_some(),
+        None => false,
     }
 }
 
