@@ -1,7 +1,7 @@
 -- Data types, level by level.
-use Rattle.std.proofs.Common.{◌≡◌, ◌≢◌, ℕ, ◌+◌, ◌-◌, ◌<◌, ◌≤◌, zero, suc, List, [], ◌∷◌, length, Option, Some, None, refl, ap, sym, ◌∙◌, arith}
+use Rattle.std.proofs.Common.{◌≡◌, ◌≢◌, ℕ, ◌-◌, ◌<◌, zero, suc, List, [], ◌∷◌, length, Option, Some, None, refl, ap, ◌∙◌, arith}
 use Rattle.lh_types.specs.Types.{TypeTree}
-use Rattle.lh_unit.specs.Lexemes.{Lexeme, word, global, local, arrow, minus, punct}
+use Rattle.lh_unit.specs.Lexemes.{Lexeme}
 use denote.Bor.{Bor}
 use Rattle.lh_scan.specs.declared.tokens.Lex.{Lex}
 use Rattle.lh_scan.specs.declared.tokens.Lex.TheVariants as lex

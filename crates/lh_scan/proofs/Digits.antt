@@ -1,6 +1,6 @@
 -- Digits, one after another.
-use Rattle.std.proofs.Common.{◌≡◌, ℕ, ◌+◌, ◌-◌, ◌*◌, ◌<◌, ◌≤◌, zero, suc, Bool, true, false, List, [], ◌∷◌, length, get_or, drop, Option, Some, None, nat_lt, nat_le, refl, ap, sym, ◌∙◌, subst, arith, drop-cons, add-one}
-use Rattle.std.specs.Prelude.{◌^◌, if◌then◌else◌, ◌&&◌}
+use Rattle.std.proofs.Common.{◌≡◌, ℕ, ◌+◌, ◌-◌, ◌*◌, ◌<◌, ◌≤◌, Bool, true, false, List, [], ◌∷◌, length, get_or, drop, Option, Some, None, nat_lt, refl, arith, drop-cons, add-one}
+use Rattle.std.specs.Prelude.{◌^◌, if◌then◌else◌}
 use Rattle.std.proofs.lemmas.Grind.{common_steps}
 use Rattle.lh_unit.specs.Numerals.{is_digit, digits_from}
 use Rattle.lh_scan.specs.Pieces.{small}

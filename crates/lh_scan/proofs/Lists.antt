@@ -1,6 +1,6 @@
 -- A list by comma, part after part.
 use Rattle.std.proofs.Common.{◌≡◌, ℕ, ◌+◌, ◌-◌, ◌<◌, ◌≤◌, zero, suc, List, [], ◌∷◌, ◌++◌, length, Option, Some, None, refl, ap, sym, ◌∙◌, arith, append_assoc, length-append}
-use Rattle.lh_unit.specs.Lexemes.{Lexeme, punct}
+use Rattle.lh_unit.specs.Lexemes.{Lexeme}
 use Rattle.lh_scan.specs.Pieces.{punct_at, front_part, comma_or_end, part_then, parts_at}
 use Rattle.lh_scan.proofs.Pieces.{punct_at-inv}
 

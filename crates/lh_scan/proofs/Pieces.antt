@@ -1,5 +1,5 @@
 -- The pieces of a line: what is found in front of the tokens stands there.
-use Rattle.std.proofs.Common.{◌≡◌, ℕ, ◌+◌, ◌-◌, ◌<◌, ◌≤◌, zero, suc, Bool, true, false, List, [], ◌∷◌, length, Option, Some, None, nat_eq, nat_lt, nat_le, refl, ap, sym, ◌∙◌, subst, arith, inl, inr}
+use Rattle.std.proofs.Common.{◌≡◌, ℕ, ◌<◌, ◌≤◌, Bool, true, false, List, [], ◌∷◌, length, Option, Some, None, nat_eq, nat_lt, nat_le, refl, ap, sym, ◌∙◌, subst, arith, inl, inr}
 use Rattle.std.specs.Prelude.{if◌then◌else◌, ◌&&◌, ◌^◌}
 use Rattle.std.specs.Cmp.Lexicographic.{same_text}
 use Rattle.std.proofs.lemmas.Grind.{common_steps}
@@ -7,7 +7,8 @@ use lib.Pointwise.{pointwise}
 use Rattle.lh_unit.specs.Lexemes.{Lexeme, word, global, local, arrow, minus, punct}
 use Rattle.lh_unit.specs.SpellsParts.{SpellsUnitName}
 use Rattle.lh_unit.specs.declared.name.UnitName.{UnitName}
-use Rattle.lh_scan.specs.Pieces.{word_at, any_word_at, local_at, unit_name_at, punct_at, arrow_at, minus_at, end_at, below, small}
+use Rattle.lh_scan.specs.Shorter.{bind_some}
+use Rattle.lh_scan.specs.Pieces.{word_at, any_word_at, local_at, named_in, name_at, unit_name_at, punct_at, arrow_at, minus_at, end_at, below, small}
 
 pub guard : {A : Type 0} (b : Bool) (x y : A) → (if b then Some x else None) ≡ Some y → (b ≡ true) × (x ≡ y)
 guard true x y p = (refl, cc)
@@ -24,6 +25,16 @@ some_inj x y p = cc
 pub word_at-inv : (w : List ℕ) (ts us : List Lexeme) → word_at w ts ≡ Some us → ts ≡ word w ∷ us
 word_at-inv w (word x ∷ ts) us p = let g = guard (pointwise nat_eq x w) ts us p in let e : x ≡ w = same_text x w (sym g.0) in λ i. word (e i) ∷ g.1 i
 word_at-inv w _ us p = cc
+
+same_word : (w : List ℕ) → pointwise nat_eq w w ≡ true
+same_word [] = refl
+same_word (b ∷ bs) = let e : nat_eq b b ≡ true = same b in let f = same_word bs in rw (e, f) refl
+  where
+    same : (x : ℕ) → nat_eq x x ≡ true
+    same x = grind (arith, common_steps)
+
+pub word_at-again : (w : List ℕ) (ts : List Lexeme) → word_at w (word w ∷ ts) ≡ Some ts
+word_at-again w ts = let e = same_word w in rw e refl
 
 pub any_word_at-inv : (ts : List Lexeme) (r : List ℕ × List Lexeme) → any_word_at ts ≡ Some r → ts ≡ word r.0 ∷ r.1
 any_word_at-inv (word x ∷ ts) r p = cc
@@ -51,6 +62,9 @@ unit_name_at-again n t ts s = elim s [
 pub punct_at-inv : (b : ℕ) (ts us : List Lexeme) → punct_at b ts ≡ Some us → ts ≡ punct b ∷ us
 punct_at-inv b (punct c ∷ ts) us p = let g = guard (nat_eq c b) ts us p in let h : nat_eq c b ≡ true = g.0 in let e : c ≡ b = grind (arith, common_steps) in λ i. punct (e i) ∷ g.1 i
 punct_at-inv b _ us p = cc
+
+pub punct_at-again : (b : ℕ) (ts : List Lexeme) → punct_at b (punct b ∷ ts) ≡ Some ts
+punct_at-again b ts = let e : nat_eq b b ≡ true = grind (arith, common_steps) in rw e refl
 
 pub arrow_at-inv : (ts us : List Lexeme) → arrow_at ts ≡ Some us → ts ≡ arrow ∷ us
 arrow_at-inv (arrow ∷ ts) us p = cc
@@ -83,3 +97,20 @@ below-inv b (Some m) n p =
 
 pub below-again : (b n : ℕ) → n < b → below b (Some n) ≡ Some n
 below-again b n h = let e : nat_lt n b ≡ true = grind (arith, common_steps) in rw e refl
+
+-- a word as a name
+pub name_at-inv : (ts : List Lexeme) (r : List ℕ × List Lexeme) → name_at ts ≡ Some r → (ts ≡ word r.0 ∷ r.1) × (length r.0 ≤ 255)
+unfolding name_at
+name_at-inv (word w ∷ ts) r p =
+    let a = bind_some (named_in (word w)) _ r p in
+    let g = guard (nat_le (length w) 255) w a.0 a.1 in
+    let t : nat_le (length w) 255 ≡ true = g.0 in
+    let l : length w ≤ 255 = grind (arith, common_steps) in
+    let e : w ≡ r.0 = g.1 ∙ (cc (a.2)) in
+    let f : ts ≡ r.1 = cc (a.2) in
+    ((λ i. word (e i) ∷ f i), subst (λ x. length x ≤ 255) e l)
+name_at-inv _ r p = cc
+
+pub name_at-again : (w : List ℕ) (ts : List Lexeme) → length w ≤ 255 → name_at (word w ∷ ts) ≡ Some (w, ts)
+unfolding name_at
+name_at-again w ts h = let e : nat_le (length w) 255 ≡ true = grind (arith, common_steps) in rw e refl

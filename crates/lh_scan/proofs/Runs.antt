@@ -1,6 +1,6 @@
 -- Runs of digits, and the last byte of a word.
-use Rattle.std.proofs.Common.{◌≡◌, ◌≢◌, ℕ, ◌+◌, ◌-◌, ◌*◌, ◌<◌, ◌≤◌, zero, suc, Bool, true, false, List, [], ◌∷◌, length, get_or, take, drop, Option, Some, None, nat_eq, nat_lt, refl, ap, sym, ◌∙◌, subst, arith, drop-cons, add-one}
-use Rattle.std.specs.Prelude.{◌^◌, if◌then◌else◌, ◌&&◌, option_map}
+use Rattle.std.proofs.Common.{◌≡◌, ◌≢◌, ℕ, ◌+◌, ◌-◌, ◌*◌, ◌<◌, ◌≤◌, zero, suc, Bool, true, false, List, [], ◌∷◌, length, get_or, take, drop, Option, Some, None, nat_eq, nat_lt, refl, ap, ◌∙◌, arith, drop-cons}
+use Rattle.std.specs.Prelude.{◌^◌, if◌then◌else◌, option_map}
 use Rattle.std.proofs.lemmas.Grind.{common_steps}
 use Rattle.lh_unit.specs.Numerals.{is_digit}
 use Rattle.lh_scan.specs.Pieces.{◌>>=◌, below}

@@ -1,5 +1,5 @@
 -- Lists by comma: what is found is spelled so, and what is spelled so is found.
-use Rattle.std.proofs.Common.{◌≡◌, ℕ, ◌+◌, ◌-◌, ◌<◌, ◌≤◌, zero, suc, Bool, true, false, List, [], ◌∷◌, length, Option, Some, None, nat_eq, refl, ap, sym, ◌∙◌, subst, arith}
+use Rattle.std.proofs.Common.{◌≡◌, ℕ, ◌<◌, ◌≤◌, zero, suc, true, false, List, [], ◌∷◌, length, Option, Some, None, nat_eq, refl, ap, ◌∙◌, subst, arith}
 use Rattle.lh_unit.specs.Lexemes.{Lexeme, punct}
 use Rattle.lh_unit.specs.SpellsParts.{SpellsParts, SpellsList, SpellsBehind}
 use Rattle.lh_scan.specs.Pieces.{punct_at, front_part, comma_or_end, part_then, parts_at, empty_or, list_at, behind_or, behind_at}

@@ -1,5 +1,5 @@
 -- Numbers in front of the tokens, and integer constants at the end of a line.
-use Rattle.std.specs.Prelude.{◌≡◌, ℕ, ◌-◌, ◌%◌, ◌^◌, nat_lt, nat_le, List, Option, Some, None, if◌then◌else◌}
+use Rattle.std.specs.Prelude.{ℕ, ◌-◌, ◌%◌, ◌^◌, nat_lt, nat_le, List, Option, Some, None, if◌then◌else◌}
 use Rattle.lh_unit.specs.Lexemes.{Lexeme}
 use Rattle.lh_scan.specs.Pieces.{◌>>=◌, any_word_at, minus_at, end_at, below, small_number}
 

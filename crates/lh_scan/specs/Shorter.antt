@@ -1,5 +1,5 @@
 -- What is found in front of the tokens takes some of them.
-use Rattle.std.specs.Prelude.{◌≡◌, ℕ, ◌<◌, Bool, true, false, nat_eq, nat_lt, List, [], ◌∷◌, length, Option, Some, None, if◌then◌else◌, refl, codes, ◌^◌}
+use Rattle.std.specs.Prelude.{◌≡◌, ℕ, ◌<◌, Bool, true, false, nat_eq, List, ◌∷◌, length, Option, Some, None, if◌then◌else◌, refl, codes, ◌^◌}
 use Rattle.std.proofs.Common.{arith, ap, zero, suc}
 use lib.Pointwise.{pointwise}
 use Rattle.lh_types.specs.Types.{TypeTree, array_type, tuple_type, row_of}
@@ -7,7 +7,7 @@ use Rattle.lh_types.specs.Faults.{array_fault, tuple_fault}
 use Rattle.lh_unit.specs.Lexemes.{Lexeme, word, local, punct}
 use Rattle.lh_scan.specs.Pieces.{◌>>=◌, word_at, any_word_at, local_at, punct_at, below, small_number, front_part, comma_or_end, part_then, parts_at}
 use Rattle.lh_scan.specs.Numbers.{number_at}
-use Rattle.lh_scan.specs.Types.{faultless, followed, int_width, int_before, array_in, tuple_in, marked_in, data_in, data_at, base_or, base_at, suffix_or, suffix_at, type_at}
+use Rattle.lh_scan.specs.Types.{faultless, followed, int_width, int_before, array_in, tuple_in, data_in, data_at, base_or, base_at, suffix_or, suffix_at, type_at}
 
 -- where a chain finds something, so does its first step
 pub bind_some : {A B : Type 0} (o : Option A) (f : A → Option B) (y : B) → (o >>= f) ≡ Some y → (x : A) × (o ≡ Some x) × (f x ≡ Some y)

@@ -1,10 +1,10 @@
 -- A time at the end of a line: one word of a number and a unit, and behind it `Nd` and `Ne` or not.
-use Rattle.std.specs.Prelude.{◌≡◌, ℕ, ◌+◌, ◌-◌, ◌*◌, ◌^◌, Bool, true, ◌&&◌, nat_eq, List, [], ◌∷◌, take, drop, option_map, Option, Some, None, if◌then◌else◌, codes}
+use Rattle.std.specs.Prelude.{ℕ, ◌+◌, ◌-◌, ◌*◌, ◌^◌, Bool, true, ◌&&◌, nat_eq, List, [], ◌∷◌, take, drop, option_map, Option, Some, None, if◌then◌else◌, codes}
 use Rattle.std.proofs.Common.{zero, suc}
 use lib.Pointwise.{pointwise}
 use Rattle.lh_time.specs.declared.Delay.{Delay}
 use Rattle.lh_unit.specs.Lexemes.{Lexeme, word}
-use Rattle.lh_unit.specs.Numerals.{is_digit, number_of}
+use Rattle.lh_unit.specs.Numerals.{is_digit}
 use Rattle.lh_scan.specs.Pieces.{◌>>=◌, any_word_at, end_at, below, small_number}
 
 -- how many digits stand in front

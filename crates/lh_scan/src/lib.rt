@@ -5,6 +5,8 @@
 
 pub mod list;
 pub mod numbers;
+#[cfg(test)]
+mod tests;
 pub mod times;
 pub mod tokens;
 pub mod types;

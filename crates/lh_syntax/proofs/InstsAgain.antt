@@ -19,6 +19,7 @@ use Rattle.lh_scan.proofs.Pieces.{unit_name_at-again}
 use Rattle.lh_scan.specs.Shorter.{local_at-shorter}
 use Rattle.lh_scan.proofs.SpelledNumbers.{integer_at-again}
 use Rattle.lh_scan.proofs.SpelledTimes.{time_at-again}
+use Rattle.lh_scan.proofs.TypeStarts.{none_at-type, punct_at-type}
 use Rattle.lh_scan.proofs.SpelledTypes.{type_at-again}
 use Rattle.lh_scan.proofs.SpelledLists.{parts_at-again, behind_at-again}
 use Rattle.lh_syntax.specs.SyntaxOf.{operand_of, operands_of, trigger_of, edge_of}
@@ -34,7 +35,6 @@ use Rattle.lh_syntax.proofs.OperandLists.{operand_list-again}
 use Rattle.lh_syntax.proofs.SpelledEach.{parts_unmapped}
 use Rattle.lh_syntax.proofs.SpelledOperations.{word_op-again}
 use Rattle.lh_syntax.proofs.SpelledBrackets.{bracket_at-repeat, bracket_at-array, tuple_at-again}
-use Rattle.lh_syntax.proofs.TypeBegins.{tree-begins, no_end, no_mark}
 
 -- constants
 integer_begins : (n b : ℕ) (ts : List Lexeme) → SpellsInteger n b ts → no_suffix ts ≡ true
@@ -177,7 +177,7 @@ wait-again b d ns us vs s t =
 ret-again : (o : OperandText) (ts : List Lexeme) → SpellsWithType o ts [] → ret_at ts ≡ Some (ret_text (Some o))
 unfolding ret_at
 ret-again o ts s =
-    ap (ret_or ts) (no_end ts (tree-begins s.0 ts (local o.value ∷ []) s.2.0))
+    ap (ret_or ts) (none_at-type end_at (λ w l. refl) (λ l. refl) (λ l. refl) (λ l. refl) (λ l. refl) s.0 ts (local o.value ∷ []) s.2.0)
     ∙ ap (λ x. x >>= λ a. Some (ret_text (Some (operand_of a)))) (last_typed-again o ts s)
 
 var-again : (o : OperandText) (ts : List Lexeme) → SpellsWithType o ts [] → var_at ts ≡ Some (var_text o)
@@ -210,7 +210,7 @@ pub record StandsAlone (i : InstText) (ts : List Lexeme) : Type 0 where
   pub no_colon : punct_at 58 rest ≡ None
 
 typed_no_colon : (o : OperandText) (ts us : List Lexeme) → SpellsWithType o ts us → punct_at 58 ts ≡ None
-typed_no_colon o ts us s = no_mark 58 refl refl ts (tree-begins s.0 ts (local o.value ∷ us) s.2.0)
+typed_no_colon o ts us s = punct_at-type 58 refl refl s.0 ts (local o.value ∷ us) s.2.0
 
 name_no_colon : (u : UnitName) (name : Lexeme) (us : List Lexeme) → SpellsUnitName u name → punct_at 58 (name ∷ us) ≡ None
 name_no_colon u name us n = elim n [ inl p ↦ ap (λ t. punct_at 58 (t ∷ us)) p.1 | inr p ↦ ap (λ t. punct_at 58 (t ∷ us)) p.1 ]
@@ -225,7 +225,7 @@ stands_alone (reg_text p gs) ts h s =
 stands_alone (child_text u ins outs) ts h s =
     record { keyword = codes "inst"; rest = s.0 ∷ punct 40 ∷ s.1; is = s.3; found = child-again u ins outs s.0 s.1 s.2 s.4 s.5 s.6; no_head = refl; no_colon = name_no_colon u s.0 (punct 40 ∷ s.1) s.4 }
 stands_alone (call_text f t os) ts h s =
-    record { keyword = codes "call"; rest = s.1; is = s.3; found = call-again f t os s.0 s.1 s.2 s.4 s.5 s.6; no_head = refl; no_colon = no_mark 58 refl refl s.1 (tree-begins t s.1 (s.0 ∷ punct 40 ∷ s.2) s.4.0) }
+    record { keyword = codes "call"; rest = s.1; is = s.3; found = call-again f t os s.0 s.1 s.2 s.4 s.5 s.6; no_head = refl; no_colon = punct_at-type 58 refl refl t s.1 (s.0 ∷ punct 40 ∷ s.2) s.4.0 }
 stands_alone (br_text b) ts h s = record { keyword = codes "br"; rest = local b ∷ []; is = s; found = refl; no_head = refl; no_colon = refl }
 stands_alone (branch_text c z o) ts h s = record { keyword = codes "br"; rest = local c ∷ punct 44 ∷ local z ∷ punct 44 ∷ local o ∷ []; is = s; found = refl; no_head = refl; no_colon = refl }
 stands_alone (wait_text b d ns) ts h s = record { keyword = codes "wait"; rest = local b ∷ s.0; is = s.2; found = wait-again b d ns s.0 s.1 s.3 s.4; no_head = refl; no_colon = refl }

@@ -1,5 +1,4 @@
 pub mod SpelledWords
-pub mod TypeBegins
 pub mod SpelledOperands
 pub mod SpelledEach
 pub mod SpelledOperations

@@ -5,6 +5,7 @@ use Rattle.lh_unit.specs.Contents.{OperandText}
 use Rattle.lh_unit.specs.Lexemes.{Lexeme, local, punct}
 use Rattle.lh_unit.specs.SpellsParts.{SpellsTyped, SpellsOperand, SpellsParts, SpellsList}
 use Rattle.lh_scan.specs.Pieces.{punct_at, parts_at, list_at}
+use Rattle.lh_scan.proofs.TypeStarts.{punct_at-type}
 use Rattle.lh_scan.proofs.SpelledLists.{parts_at-sound, parts_at-again, list_at-sound, list_at-again}
 use Rattle.lh_syntax.specs.SyntaxOf.{operand_of, operands_of}
 use Rattle.lh_syntax.specs.Shorter.{free_at-shorter}
@@ -12,7 +13,6 @@ use Rattle.lh_syntax.specs.Operands.{free_at}
 use Rattle.lh_syntax.specs.declared.syntax.Operand.{Operand}
 use Rattle.lh_syntax.proofs.SpelledOperands.{operand_as, operands_as, operands_as-of, free_at-sound, free_at-again}
 use Rattle.lh_syntax.proofs.SpelledEach.{parts_mapped, list_mapped, parts_unmapped, list_unmapped}
-use Rattle.lh_syntax.proofs.TypeBegins.{tree-begins, no_mark}
 
 -- an operand as the program holds it is spelled
 abbrev pub SpellsFree : Operand → List Lexeme → List Lexeme → Type 0
@@ -27,7 +27,7 @@ shorter a ts us s = free_at-shorter ts a us (again a ts us s)
 -- no operand begins with a closing parenthesis
 no_close : (ty : Option TypeTree) (n : List ℕ) (ts us : List Lexeme) → SpellsTyped ty n ts us → punct_at 41 ts ≡ None
 no_close None n ts us s = ap (punct_at 41) s
-no_close (Some t) n ts us s = no_mark 41 refl refl ts (tree-begins t ts (local n ∷ us) s.0)
+no_close (Some t) n ts us s = punct_at-type 41 refl refl t ts (local n ∷ us) s.0
 
 pub operand_parts-sound : (k : ℕ) (ts : List Lexeme) (r : List Operand × List Lexeme) → parts_at free_at k ts ≡ Some r → SpellsParts SpellsOperand (operands_of r.0) ts r.1
 operand_parts-sound k ts r p = parts_mapped operand_of SpellsOperand r.0 ts r.1 (parts_at-sound free_at SpellsFree free_at-sound k ts r p)

@@ -18,14 +18,14 @@ use Rattle.lh_scan.specs.Numbers.{number_at}
 use Rattle.lh_scan.specs.Shorter.{bind_some}
 use Rattle.lh_scan.proofs.Pieces.{guard, both, some_inj, word_at-inv, punct_at-inv, end_at-inv}
 use Rattle.lh_scan.proofs.SpelledNumbers.{number_at-sound, number_at-again}
-use Rattle.lh_scan.proofs.SpelledTypes.{array-sound, array-again, tuple-sound, tuple-again, limited_data, all_data-yes, four_none}
+use Rattle.lh_scan.proofs.TypeStarts.{number_at-type}
+use Rattle.lh_scan.proofs.TypeFaults.{array-again, tuple-sound, tuple-again, limited_data, four_none, array-limited}
 use Rattle.lh_syntax.specs.SyntaxOf.{operand_of, operands_of}
 use Rattle.lh_syntax.specs.Operands.{or_else, typed_at, free_at}
 use Rattle.lh_syntax.specs.Operations.{last_mark_at, when, fits_array, repeated_of, repeat_at, is_bare, all_bare, element_of, array_at, bracket_at, fields_of, fits_tuple, tuple_at}
 use Rattle.lh_syntax.specs.declared.syntax.Operand.{Operand}
 use Rattle.lh_syntax.proofs.SpelledOperands.{operand_as, operands_as, operands_as-of, typed_at-sound, typed_at-again, bare_free, typed_free}
 use Rattle.lh_syntax.proofs.OperandLists.{operand_parts-sound, operand_parts-again}
-use Rattle.lh_syntax.proofs.TypeBegins.{tree-begins, no_number}
 
 pub last_mark-sound : (b : ℕ) (ts : List Lexeme) (u : Unit {0}) → last_mark_at b ts ≡ Some u → ts ≡ punct b ∷ []
 unfolding last_mark_at
@@ -45,11 +45,6 @@ fits-sound n (Some t) h = let b = both (nat_lt n (2 ^ 32)) (is_none (array_fault
   where
     lt : (x y : ℕ) → nat_lt x y ≡ true → x < y
     lt x y e = grind (arith, common_steps)
-
-array-limited : (n : ℕ) (t : TypeTree) → IsLimited t → n < 2 ^ 32 → array_fault n t ≡ None → IsLimited (array_type n t)
-array-limited n t l h e =
-    let f = four_none (nat_eq n 0) (is_data t) (nat_lt 16 (depth_of t + 1)) (nat_lt 65536 (n * bit_count t)) _ _ _ _ e in
-    array-sound n t (limited_data t f.1 l) h e
 
 fits-again : (n : ℕ) (t : TypeTree) → IsLimited (array_type n t) → fits_array n (Some t) ≡ true
 fits-again n t l = let a : nat_lt n (2 ^ 32) ≡ true = lt n (2 ^ 32) l.2 in let b = array-again n t l in rw (a, b) refl
@@ -183,7 +178,7 @@ pub bracket_at-array : (o : OperandText) (rest : List OperandText) (ts vs : List
     → IsLimited (array_type (length (o ∷ rest)) t) → bracket_at ts ≡ Some (pure_text op.Array (o ∷ rest))
 unfolding bracket_at repeat_at
 bracket_at-array o rest ts vs t e s b l =
-    let h : repeat_at ts ≡ None = ap (λ x. x >>= λ k. (word_at (codes "x") k.1 >>= λ vs. (typed_at vs >>= λ a. (last_mark_at 93 a.1 >>= λ _. repeated_of k.0 a.0)))) (no_number ts (tree-begins t ts (local o.value ∷ vs) s.0)) in
+    let h : repeat_at ts ≡ None = ap (λ x. x >>= λ k. (word_at (codes "x") k.1 >>= λ vs. (typed_at vs >>= λ a. (last_mark_at 93 a.1 >>= λ _. repeated_of k.0 a.0)))) (number_at-type t ts (local o.value ∷ vs) s.0) in
     ap (λ x. or_else x (array_at ts)) h ∙ array_at-again o rest ts vs t e s b l
 
 -- `D1 %a, D2 %b}`

@@ -16,6 +16,7 @@ use Rattle.lh_scan.specs.Pieces.{◌>>=◌, unit_name_at, punct_at, arrow_at, en
 use Rattle.lh_scan.specs.Types.{type_at, no_suffix}
 use Rattle.lh_scan.specs.Shorter.{bind_some, type_at-shorter}
 use Rattle.lh_scan.proofs.Pieces.{guard, both, some_inj, unit_name_at-sound, unit_name_at-again, punct_at-inv, arrow_at-inv, end_at-inv}
+use Rattle.lh_scan.proofs.TypeStarts.{punct_at-type, arrow_at-type}
 use Rattle.lh_scan.proofs.SpelledTypes.{type_at-sound, type_at-again, tree-shorter}
 use Rattle.lh_scan.proofs.SpelledLists.{list_at-sound, list_at-again}
 use Rattle.lh_syntax.specs.Words.{head_of}
@@ -27,7 +28,6 @@ use Rattle.lh_syntax.specs.declared.words.Head.TheVariants as head
 use Rattle.lh_syntax.proofs.SpelledWords.{head_word, head_of-sound}
 use Rattle.lh_syntax.proofs.SpelledOperands.{param_at-sound, param_at-again}
 use Rattle.lh_syntax.proofs.SpelledEach.{list_with, list_each, list_without}
-use Rattle.lh_syntax.proofs.TypeBegins.{tree-begins, no_arrow, no_mark}
 
 -- kinds of types
 value-shown : (t : TypeTree) → is_value_type t ≡ true → IsValueType t
@@ -96,7 +96,7 @@ unfolding params_at
 params-again xs us vs s =
     ap (λ x. x >>= λ r. (punct_at 41 r.1 >>= λ b. Some (r.0, b)))
     (list_at-again param_at SpellsNamed param_at-again (λ a ts ws t. param_at-shorter ts a ws (param_at-again a ts ws t)) 41 refl refl
-    (λ a ts ws t. no_mark 41 refl refl ts (tree-begins a.ty ts (local a.name ∷ ws) t.0)) xs us (punct 41 ∷ vs) vs s refl)
+    (λ a ts ws t. punct_at-type 41 refl refl a.ty ts (local a.name ∷ ws) t.0) xs us (punct 41 ∷ vs) vs s refl)
 
 -- types
 types-sound : (ts : List Lexeme) (r : List TypeTree × List Lexeme) → types_at ts ≡ Some r → InParens SpellsType r.0 ts r.1
@@ -123,7 +123,7 @@ unfolding types_at
 types-again xs us vs s =
     ap (λ x. x >>= λ r. (punct_at 41 r.1 >>= λ b. Some (r.0, b)))
     (list_at-again type_at (λ t ts ws. SpellsType t ts ws × (no_suffix ws ≡ true)) (λ t ts ws w. type_at-again t ts ws w.0 w.1) (λ t ts ws w. tree-shorter t ts ws w.0.0) 41 refl refl
-    (λ t ts ws w. no_mark 41 refl refl ts (tree-begins t ts ws w.0.0)) xs us (punct 41 ∷ vs) vs (whole_list xs us (punct 41 ∷ vs) refl s) refl)
+    (λ t ts ws w. punct_at-type 41 refl refl t ts ws w.0.0) xs us (punct 41 ∷ vs) vs (whole_list xs us (punct 41 ∷ vs) refl s) refl)
 
 -- functions
 func-sound : (n : UnitName) (ts : List Lexeme) (i : LineItem) → func_at n ts ≡ Some i → (name : Lexeme) → SpellsUnitName n name → Spells (word (codes "func") ∷ name ∷ ts) i
@@ -257,7 +257,7 @@ declare-again (declare.Func n ps r) ts s =
         and_true (each is_value_type ps) (is_result_type r) (list_each SpellsType IsValueType is_value_type value-tested ps s.1 (punct 41 ∷ s.2) s.5) (result-tested r s.7) in
     let f : declare_at n (punct 40 ∷ s.1) ≡ Some (declare_item (declare.Func n ps r)) =
         ap (λ x. x >>= λ a. declare_or n a.0 a.1 (arrow_at a.1)) (types-again ps s.1 s.2 (list_without SpellsType IsValueType is_value_type ps s.1 (punct 41 ∷ s.2) s.5))
-        ∙ ap (declare_or n ps s.2) (no_arrow s.2 (tree-begins r s.2 [] s.6.0))
+        ∙ ap (declare_or n ps s.2) (arrow_at-type r s.2 [] s.6.0)
         ∙ ap (λ x. x >>= λ t. (end_at t.1 >>= λ _. item_when (each is_value_type ps && is_result_type t.0) (declare_item (declare.Func n ps t.0)))) (type_at-again r s.2 [] s.6 refl)
         ∙ ap (λ b. item_when b (declare_item (declare.Func n ps r))) e in
     (n, s.0, punct 40 ∷ s.1, s.3, s.4, f)

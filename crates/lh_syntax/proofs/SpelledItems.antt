@@ -10,7 +10,7 @@ use Rattle.lh_unit.specs.SpellsInst.{gives_value, may_stand_alone, SpellsLine}
 use Rattle.lh_unit.specs.Spells.{LineItem, empty_item, header_item, declare_item, label_item, inst_item, close_item, Spells, SpellsLabel}
 use Rattle.lh_scan.specs.Pieces.{◌>>=◌, name_at, punct_at, end_at}
 use Rattle.lh_scan.specs.Shorter.{bind_some}
-use Rattle.lh_scan.proofs.Pieces.{guard, some_inj, punct_at-inv, end_at-inv}
+use Rattle.lh_scan.proofs.Pieces.{guard, some_inj, name_at-inv, name_at-again, punct_at-inv, end_at-inv}
 use Rattle.lh_syntax.specs.SpelledBy.{SpelledBy}
 use Rattle.lh_syntax.specs.SyntaxOf.{item_of}
 use Rattle.lh_syntax.specs.Words.{head_of}
@@ -34,24 +34,15 @@ local_label-sound n ts us i e p =
     let q : Spells (local n ∷ ts) (label_item n) = inr (ap (λ l. local n ∷ l) (e ∙ ap (λ l. punct 58 ∷ l) a.0)) in
     subst (Spells (local n ∷ ts)) a.1 q
 
-name-inv : (w : List ℕ) (ts : List Lexeme) (r : List ℕ × List Lexeme) → name_at (word w ∷ ts) ≡ Some r → (w ≡ r.0) × (length w ≤ 255)
-unfolding name_at
-name-inv w ts r p =
-    let a = bind_some (if nat_le (length w) 255 then Some w else None) _ r p in
-    let g = guard (nat_le (length w) 255) w a.0 a.1 in
-    (g.1 ∙ ap (λ x. x.0) (some_inj (a.0, ts) r a.2), within (length w) 255 g.0)
-  where
-    within : (x y : ℕ) → nat_le x y ≡ true → x ≤ y
-    within x y t = grind (arith, common_steps)
-
 word_label-sound : (w : List ℕ) (ts us : List Lexeme) (i : LineItem) → ts ≡ punct 58 ∷ us → word_label_at (word w ∷ ts) us ≡ Some i → Spells (word w ∷ ts) i
 unfolding word_label_at
 word_label-sound w ts us i e p =
     let r = bind_some (name_at (word w ∷ ts)) _ i p in
-    let n = name-inv w ts r.0 r.1 in
+    let n = name_at-inv (word w ∷ ts) r.0 r.1 in
     let a = label-inv r.0.0 us i r.2 in
-    let q : Spells (word w ∷ ts) (label_item w) = inl (ap (λ l. word w ∷ l) (e ∙ ap (λ l. punct 58 ∷ l) a.0), n.1) in
-    subst (Spells (word w ∷ ts)) (ap label_item n.0 ∙ a.1) q
+    let f : ts ≡ r.0.1 = cc (n.0) in
+    let q : Spells (word w ∷ ts) (label_item r.0.0) = inl (n.0 ∙ ap (λ l. word r.0.0 ∷ l) (sym f ∙ e ∙ ap (λ l. punct 58 ∷ l) a.0), n.1) in
+    subst (Spells (word w ∷ ts)) a.1 q
 
 -- instructions
 assigned-sound : (r : List ℕ) (ts : List Lexeme) (i : LineItem) → assigned_at r ts ≡ Some i → Spells (local r ∷ ts) i
@@ -134,17 +125,10 @@ line-again (Some r) i ts s =
     ∙ ap (λ o. o >>= λ x. item_when (gives_value x) (inst_item (record { result = Some r; inst = x }))) (inst_at-again i s.0 s.3)
     ∙ ap (λ b. item_when b (inst_item (record { result = Some r; inst = i }))) s.2
 
-name-again : (n : List ℕ) (us : List Lexeme) → length n ≤ 255 → name_at (word n ∷ us) ≡ Some (n, us)
-unfolding name_at
-name-again n us h = let e : nat_le (length n) 255 ≡ true = within (length n) 255 h in rw e refl
-  where
-    within : (x y : ℕ) → x ≤ y → nat_le x y ≡ true
-    within x y t = grind (arith, common_steps)
-
 label-again : (n : List ℕ) (ts : List Lexeme) → SpellsLabel n ts → item_at ts ≡ Some (label_item n)
 unfolding item_at label_at word_label_at
 label-again n ts s = elim s [
-  | inl p ↦ ap item_at p.0 ∙ ap (λ o. o >>= λ x. label_at x.0 []) (name-again n (punct 58 ∷ []) p.1)
+  | inl p ↦ ap item_at p.0 ∙ ap (λ o. o >>= λ x. label_at x.0 []) (name_at-again n (punct 58 ∷ []) p.1)
   | inr p ↦ ap item_at p
 ]
 

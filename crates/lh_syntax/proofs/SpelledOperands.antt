@@ -14,6 +14,7 @@ use Rattle.lh_scan.specs.Pieces.{◌>>=◌, word_at, any_word_at, local_at, punc
 use Rattle.lh_scan.specs.Shorter.{bind_some}
 use Rattle.lh_scan.specs.Types.{type_at}
 use Rattle.lh_scan.proofs.Pieces.{some_inj, word_at-inv, any_word_at-inv, local_at-inv, punct_at-inv}
+use Rattle.lh_scan.proofs.TypeStarts.{local_at-type}
 use Rattle.lh_scan.proofs.SpelledTypes.{type_at-sound, type_at-again}
 use Rattle.lh_syntax.specs.SyntaxOf.{operand_of, operands_of, trigger_of, edge_of}
 use Rattle.lh_syntax.specs.Words.{mode_of}
@@ -24,7 +25,6 @@ use Rattle.lh_syntax.specs.declared.syntax.Edge.{Edge}
 use Rattle.lh_syntax.specs.declared.words.Columns.{Columns}
 use Rattle.lh_syntax.specs.declared.words.Columns.TheVariants as written
 use Rattle.lh_syntax.proofs.SpelledWords.{mode_of-sound, mode_of-again, columns_of}
-use Rattle.lh_syntax.proofs.TypeBegins.{tree-begins, no_local}
 
 -- an operand as the program holds it
 abbrev pub operand_as : OperandText → Operand
@@ -77,7 +77,7 @@ free_again : (ty : Option TypeTree) (n : List ℕ) (ts us : List Lexeme) → Spe
 unfolding free_at bare_at
 free_again None n ts us s = ap free_at s
 free_again (Some t) n ts us s =
-    let h : bare_at ts ≡ None = ap (λ o. o >>= λ x. Some (record { value = x.0; ty = None }, x.1)) (no_local ts (tree-begins t ts (local n ∷ us) s.0)) in
+    let h : bare_at ts ≡ None = ap (λ o. o >>= λ x. Some (record { value = x.0; ty = None }, x.1)) (local_at-type t ts (local n ∷ us) s.0) in
     ap (λ o. or_else o (typed_at ts)) h ∙ typed_at-again (record { value = n; ty = Some t }) ts us (t, refl, s)
 
 pub free_at-again : (o : OperandText) (ts us : List Lexeme) → SpellsOperand o ts us → free_at ts ≡ Some (operand_as o, us)

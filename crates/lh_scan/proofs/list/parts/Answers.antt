@@ -1,5 +1,4 @@
-use Rattle.std.proofs.Common.{◌≡◌, ◌<◌, ◌∷◌, ◌++◌, [], Some, None, sym, ◌∙◌, ap, subst, length, rules}
-use Rattle.lh_scan.specs.Pieces.{punct_at, parts_at}
+use Rattle.std.proofs.Common.{◌≡◌, ◌<◌, Some, sym, ◌∙◌, ap, subst, length, rules}
 use Rattle.lh_scan.proofs.Lists.{At, At-next, At-end}
 use Rattle.lh_scan.proofs.list.parts.Goals as goal
 

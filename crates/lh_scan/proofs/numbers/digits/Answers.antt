@@ -1,4 +1,4 @@
-use Rattle.std.proofs.Common.{arith, ◌≤◌, ◌<◌, ◌+◌, ◌*◌, ◌-◌, get_or, drop, length, sym, ◌∙◌, ap}
+use Rattle.std.proofs.Common.{arith, ◌≤◌, ◌+◌, ◌*◌, ◌-◌, get_or, drop, sym, ◌∙◌, ap}
 use Rattle.std.specs.Prelude.{◌^◌}
 use Rattle.lh_scan.specs.Pieces.{small}
 use Rattle.lh_scan.proofs.Digits.{small-past, digit_step}

@@ -1,4 +1,4 @@
-use Rattle.std.proofs.Common.{◌≡◌, ◌-◌, ◌+◌, ◌≤◌, Some, arith, sym, ◌∙◌, ap, subst}
+use Rattle.std.proofs.Common.{◌-◌, ◌+◌, ◌≤◌, Some, arith, sym, ◌∙◌, ap}
 use Rattle.std.specs.Prelude.{◌^◌}
 use Rattle.lh_scan.proofs.Halves.{negative-some}
 use Rattle.lh_scan.proofs.numbers.negative.Goals as goal

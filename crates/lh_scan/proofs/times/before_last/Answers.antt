@@ -1,4 +1,4 @@
-use Rattle.std.proofs.Common.{◌≡◌, sym}
+use Rattle.std.proofs.Common.{sym}
 use Rattle.lh_scan.proofs.Runs.{before_last-none, before_last-other, before_last-same}
 use Rattle.lh_scan.proofs.times.before_last.Goals as goal
 

@@ -1,4 +1,4 @@
-use Rattle.std.proofs.Common.{arith, sym, ◌∙◌}
+use Rattle.std.proofs.Common.{sym, ◌∙◌}
 use Rattle.lh_scan.proofs.Runs.{zeros-stop}
 use Rattle.lh_scan.proofs.times.only_zeros.Goals as goal
 

@@ -1,8 +1,7 @@
-use Rattle.std.proofs.Common.{◌≡◌, ◌<◌, ◌-◌, ◌∷◌, ◌++◌, [], Some, None, sym, ◌∙◌, ap, subst, length, rules}
+use Rattle.std.proofs.Common.{◌≡◌, ◌<◌, ◌-◌, ◌∷◌, Some, sym, ◌∙◌, ap, subst, length, rules}
 use Rattle.std.specs.Prelude.{IfOk}
 use Rattle.lh_unit.specs.Lexemes.{word, punct}
 use Rattle.lh_scan.specs.LexemeOf.{lexeme_of}
-use Rattle.lh_scan.specs.Pieces.{punct_at, parts_at}
 use Rattle.lh_scan.specs.Types.{data_at, data_in}
 use Rattle.lh_scan.specs.Shorter.{data_at-shorter}
 use Rattle.lh_scan.proofs.Lists.{At, At-next, At-end}
