@@ -162,9 +162,9 @@ array_at-again : (o : OperandText) (rest : List OperandText) (ts vs : List Lexem
 unfolding array_at last_mark_at
 array_at-again o rest ts vs t e s b l =
     let f : fits_array (length (operands_as (o ∷ rest))) (element_of (operands_as (o ∷ rest))) ≡ true =
-        ap (λ c. fits_array (length (operands_as (o ∷ rest))) (if c then o.ty else None)) (rest_bare rest vs (punct 93 ∷ []) b)
-        ∙ ap (fits_array (length (operands_as (o ∷ rest)))) e
-        ∙ ap (λ k. fits_array k (Some t)) (length_as (o ∷ rest)) ∙ fits-again (length (o ∷ rest)) t l in
+    ap (λ c. fits_array (length (operands_as (o ∷ rest))) (if c then o.ty else None)) (rest_bare rest vs (punct 93 ∷ []) b)
+    ∙ ap (fits_array (length (operands_as (o ∷ rest)))) e
+    ∙ ap (λ k. fits_array k (Some t)) (length_as (o ∷ rest)) ∙ fits-again (length (o ∷ rest)) t l in
     ap (λ x. x >>= λ r. (last_mark_at 93 r.1 >>= λ _. when (fits_array (length r.0) (element_of r.0)) (pure_text op.Array (operands_of r.0)))) (operand_parts-again (o ∷ rest) ts (punct 93 ∷ []) (whole o rest ts vs (punct 93 ∷ []) t e s b) refl)
     ∙ ap (λ c. when c (pure_text op.Array (operands_of (operands_as (o ∷ rest))))) f
     ∙ ap (λ os. Some (pure_text op.Array os)) (operands_as-of (o ∷ rest))

@@ -108,7 +108,6 @@ types-sound ts r p =
     let s = subst (SpellsList SpellsType b.0.0 a.0) (punct_at-inv 41 b.0.1 c.0 c.1) (list_at-sound type_at SpellsType type_at-sound 41 a.0 b.0 b.1) in
     subst (λ (x : List TypeTree × List Lexeme). InParens SpellsType x.0 ts x.1) (some_inj (b.0.0, c.0) r c.2) (record { first = a.0; opened = punct_at-inv 40 ts a.0 a.1; spelled = s })
 
-
 whole_parts : (xs : List TypeTree) (ts us : List Lexeme) → no_suffix us ≡ true → SpellsParts SpellsType xs ts us → SpellsParts (λ t vs ws. SpellsType t vs ws × (no_suffix ws ≡ true)) xs ts us
 whole_parts [] ts us h s = s
 whole_parts (x ∷ []) ts us h s = (s, h)
@@ -138,7 +137,7 @@ func-sound n ts i p name m =
     let s = subst (SpellsType t.0.0 a.0.1) (brace-inv t.0.1 b.0 b.1) (type_at-sound a.0.1 t.0 t.1) in
     let v = list_with SpellsNamed (λ q. IsValueType q.ty) (λ q. is_value_type q.ty) (λ q e. value-shown q.ty e) a.0.0 x.first (punct 41 ∷ a.0.1) h.0 x.spelled in
     let r : SpellsParams (map input_of a.0.0) t.0.0 ts =
-        record { params = a.0.0; together = refl; first = x.first; second = a.0.1; opened = x.opened; spelled_params = v; spelled_result = s; fits = result-shown t.0.0 h.1 } in
+    record { params = a.0.0; together = refl; first = x.first; second = a.0.1; opened = x.opened; spelled_params = v; spelled_result = s; fits = result-shown t.0.0 h.1 } in
     let q : Spells (word (codes "func") ∷ name ∷ ts) (header_item kind.Func n (map input_of a.0.0) (Some t.0.0)) = (name, ts, refl, m, r) in
     subst (Spells (word (codes "func") ∷ name ∷ ts)) g.1 q
 
@@ -146,7 +145,7 @@ func-again : (n : UnitName) (args : List ArgText) (t : TypeTree) (ts : List Lexe
 unfolding func_at brace_at
 func-again n args t ts s =
     let e : are_values s.params && is_result_type t ≡ true =
-        and_true (are_values s.params) (is_result_type t) (list_each SpellsNamed (λ q. IsValueType q.ty) (λ q. is_value_type q.ty) (λ q h. value-tested q.ty h) s.params s.first (punct 41 ∷ s.second) s.spelled_params) (result-tested t s.fits) in
+    and_true (are_values s.params) (is_result_type t) (list_each SpellsNamed (λ q. IsValueType q.ty) (λ q. is_value_type q.ty) (λ q h. value-tested q.ty h) s.params s.first (punct 41 ∷ s.second) s.spelled_params) (result-tested t s.fits) in
     ap (func_at n) s.opened
     ∙ ap (λ x. x >>= λ a. (type_at a.1 >>= λ y. (brace_at y.1 >>= λ _. item_when (are_values a.0 && is_result_type y.0) (header_item kind.Func n (map input_of a.0) (Some y.0)))))
     (params-again s.params s.first s.second (list_without SpellsNamed (λ q. IsValueType q.ty) (λ q. is_value_type q.ty) s.params s.first (punct 41 ∷ s.second) s.spelled_params))
@@ -194,7 +193,7 @@ ports-again : (args : List ArgText) (ts : List Lexeme) → SpellsPorts args ts �
 unfolding ports_at brace_at
 ports-again args ts s =
     let e : are_ports s.inputs && are_ports s.outputs ≡ true =
-        and_true (are_ports s.inputs) (are_ports s.outputs) (are_ports-again s.inputs s.first (punct 41 ∷ arrow ∷ punct 40 ∷ s.second) s.spelled_inputs) (are_ports-again s.outputs s.second (punct 41 ∷ punct 123 ∷ []) s.spelled_outputs) in
+    and_true (are_ports s.inputs) (are_ports s.outputs) (are_ports-again s.inputs s.first (punct 41 ∷ arrow ∷ punct 40 ∷ s.second) s.spelled_inputs) (are_ports-again s.outputs s.second (punct 41 ∷ punct 123 ∷ []) s.spelled_outputs) in
     ap ports_at s.opened
     ∙ ap (λ x. x >>= λ a. (arrow_at a.1 >>= λ b. (params_at b >>= λ c. (brace_at c.1 >>= λ _. ports_when (are_ports a.0 && are_ports c.0) a.0 c.0))))
     (params-again s.inputs s.first (arrow ∷ punct 40 ∷ s.second) (ports_named s.inputs s.first (punct 41 ∷ arrow ∷ punct 40 ∷ s.second) s.spelled_inputs))
@@ -254,20 +253,20 @@ declare-again : (d : Declare) (ts : List Lexeme) → SpellsDeclare d ts → (n :
 unfolding declare_at declare_func_at declare_unit_at
 declare-again (declare.Func n ps r) ts s =
     let e : each is_value_type ps && is_result_type r ≡ true =
-        and_true (each is_value_type ps) (is_result_type r) (list_each SpellsType IsValueType is_value_type value-tested ps s.1 (punct 41 ∷ s.2) s.5) (result-tested r s.7) in
+    and_true (each is_value_type ps) (is_result_type r) (list_each SpellsType IsValueType is_value_type value-tested ps s.1 (punct 41 ∷ s.2) s.5) (result-tested r s.7) in
     let f : declare_at n (punct 40 ∷ s.1) ≡ Some (declare_item (declare.Func n ps r)) =
-        ap (λ x. x >>= λ a. declare_or n a.0 a.1 (arrow_at a.1)) (types-again ps s.1 s.2 (list_without SpellsType IsValueType is_value_type ps s.1 (punct 41 ∷ s.2) s.5))
-        ∙ ap (declare_or n ps s.2) (arrow_at-type r s.2 [] s.6.0)
-        ∙ ap (λ x. x >>= λ t. (end_at t.1 >>= λ _. item_when (each is_value_type ps && is_result_type t.0) (declare_item (declare.Func n ps t.0)))) (type_at-again r s.2 [] s.6 refl)
-        ∙ ap (λ b. item_when b (declare_item (declare.Func n ps r))) e in
+    ap (λ x. x >>= λ a. declare_or n a.0 a.1 (arrow_at a.1)) (types-again ps s.1 s.2 (list_without SpellsType IsValueType is_value_type ps s.1 (punct 41 ∷ s.2) s.5))
+    ∙ ap (declare_or n ps s.2) (arrow_at-type r s.2 [] s.6.0)
+    ∙ ap (λ x. x >>= λ t. (end_at t.1 >>= λ _. item_when (each is_value_type ps && is_result_type t.0) (declare_item (declare.Func n ps t.0)))) (type_at-again r s.2 [] s.6 refl)
+    ∙ ap (λ b. item_when b (declare_item (declare.Func n ps r))) e in
     (n, s.0, punct 40 ∷ s.1, s.3, s.4, f)
 declare-again (declare.Unit n ins outs) ts s =
     let e : each is_signal ins && each is_signal outs ≡ true =
-        and_true (each is_signal ins) (each is_signal outs) (list_each SpellsType IsSignal is_signal signal-tested ins s.1 (punct 41 ∷ arrow ∷ punct 40 ∷ s.2) s.5) (list_each SpellsType IsSignal is_signal signal-tested outs s.2 (punct 41 ∷ []) s.6) in
+    and_true (each is_signal ins) (each is_signal outs) (list_each SpellsType IsSignal is_signal signal-tested ins s.1 (punct 41 ∷ arrow ∷ punct 40 ∷ s.2) s.5) (list_each SpellsType IsSignal is_signal signal-tested outs s.2 (punct 41 ∷ []) s.6) in
     let f : declare_at n (punct 40 ∷ s.1) ≡ Some (declare_item (declare.Unit n ins outs)) =
-        ap (λ x. x >>= λ a. declare_or n a.0 a.1 (arrow_at a.1)) (types-again ins s.1 (arrow ∷ punct 40 ∷ s.2) (list_without SpellsType IsSignal is_signal ins s.1 (punct 41 ∷ arrow ∷ punct 40 ∷ s.2) s.5))
-        ∙ ap (λ x. x >>= λ a. (end_at a.1 >>= λ _. item_when (each is_signal ins && each is_signal a.0) (declare_item (declare.Unit n ins a.0)))) (types-again outs s.2 [] (list_without SpellsType IsSignal is_signal outs s.2 (punct 41 ∷ []) s.6))
-        ∙ ap (λ b. item_when b (declare_item (declare.Unit n ins outs))) e in
+    ap (λ x. x >>= λ a. declare_or n a.0 a.1 (arrow_at a.1)) (types-again ins s.1 (arrow ∷ punct 40 ∷ s.2) (list_without SpellsType IsSignal is_signal ins s.1 (punct 41 ∷ arrow ∷ punct 40 ∷ s.2) s.5))
+    ∙ ap (λ x. x >>= λ a. (end_at a.1 >>= λ _. item_when (each is_signal ins && each is_signal a.0) (declare_item (declare.Unit n ins a.0)))) (types-again outs s.2 [] (list_without SpellsType IsSignal is_signal outs s.2 (punct 41 ∷ []) s.6))
+    ∙ ap (λ b. item_when b (declare_item (declare.Unit n ins outs))) e in
     (n, s.0, punct 40 ∷ s.1, s.3, s.4, f)
 
 -- a line that begins with one of these words

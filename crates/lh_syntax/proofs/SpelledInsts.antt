@@ -236,7 +236,7 @@ branch_at-sound b us ts i e p =
     let c = bind_some (punct_at 44 f.0.1) _ i f.2 in
     let d = bind_some (last_local_at c.0) _ i c.2 in
     let q : SpellsInst (branch_text b f.0.0 d.0) (word (codes "br") ∷ us) = ap (λ l. word (codes "br") ∷ l) (e ∙ ap (λ l. local b ∷ l) (punct_at-inv 44 ts a.0 a.1 ∙ ap (λ l. punct 44 ∷ l) (local_at-inv a.0 f.0 f.1
-        ∙ ap (λ l. local f.0.0 ∷ l) (punct_at-inv 44 f.0.1 c.0 c.1 ∙ ap (λ l. punct 44 ∷ l) (last_local-inv c.0 d.0 d.1))))) in
+    ∙ ap (λ l. local f.0.0 ∷ l) (punct_at-inv 44 f.0.1 c.0 c.1 ∙ ap (λ l. punct 44 ∷ l) (last_local-inv c.0 d.0 d.1))))) in
     subst (λ x. SpellsInst x (word (codes "br") ∷ us)) (some_inj (branch_text b f.0.0 d.0) i d.2) q
 
 br_at-sound : (ts : List Lexeme) (i : InstText) → br_at ts ≡ Some i → SpellsInst i (word (codes "br") ∷ ts)

@@ -192,7 +192,7 @@ trigger_at-sound ts r p =
     let d = bind_some (maybe_at (codes "after") g.0.1) _ r g.2 in
     let z = bind_some (punct_at 93 d.0.1) _ r d.2 in
     let e = opened ts a.0 (punct_at-inv 91 ts a.0 a.1) v.0.0 v.0.1 (local_at-inv a.0 v.0 v.1) b.0 (punct_at-inv 44 v.0.1 b.0 b.1)
-        w.0.0 w.0.1 (any_word_at-inv b.0 w.0 w.1) (mode_word m.0) (mode_of-sound w.0.0 m.0 m.1) t.0.0 t.0.1 (local_at-inv w.0.1 t.0 t.1) in
+    w.0.0 w.0.1 (any_word_at-inv b.0 w.0 w.1) (mode_word m.0) (mode_of-sound w.0.0 m.0 m.1) t.0.0 t.0.1 (local_at-inv w.0.1 t.0 t.1) in
     let f = subst (SpellsMaybe (codes "after") d.0.0 g.0.1) (punct_at-inv 93 d.0.1 z.0 z.1) (maybe_at-sound (codes "after") g.0.1 d.0 d.1) in
     let s : SpellsTrigger (record { value = v.0.0; mode = m.0; trigger = t.0.0; gate = g.0.0; after = d.0.0 }) ts z.0 = (t.0.1, g.0.1, e, maybe_at-sound (codes "if") t.0.1 g.0 g.1, f) in
     subst (λ (x : Trigger × List Lexeme). SpellsTrigger (trigger_of x.0) ts x.1) (some_inj _ r z.2) s
@@ -232,8 +232,8 @@ edge_at-sound ts r p =
     let l = bind_some (local_at b.0) _ r b.2 in
     let z = bind_some (punct_at 93 l.0.1) _ r l.2 in
     let s : SpellsEdge (record { value = v.0.0; block = l.0.0 }) ts z.0 =
-        punct_at-inv 91 ts a.0 a.1 ∙ ap (λ x. punct 91 ∷ x) (local_at-inv a.0 v.0 v.1 ∙ ap (λ x. local v.0.0 ∷ x) (punct_at-inv 44 v.0.1 b.0 b.1
-        ∙ ap (λ x. punct 44 ∷ x) (local_at-inv b.0 l.0 l.1 ∙ ap (λ x. local l.0.0 ∷ x) (punct_at-inv 93 l.0.1 z.0 z.1)))) in
+    punct_at-inv 91 ts a.0 a.1 ∙ ap (λ x. punct 91 ∷ x) (local_at-inv a.0 v.0 v.1 ∙ ap (λ x. local v.0.0 ∷ x) (punct_at-inv 44 v.0.1 b.0 b.1
+    ∙ ap (λ x. punct 44 ∷ x) (local_at-inv b.0 l.0 l.1 ∙ ap (λ x. local l.0.0 ∷ x) (punct_at-inv 93 l.0.1 z.0 z.1)))) in
     subst (λ (x : Edge × List Lexeme). SpellsEdge (edge_of x.0) ts x.1) (some_inj _ r z.2) s
 
 -- an edge as the program holds it

@@ -99,56 +99,151 @@ row o c h w e = record { word = w; has = h; columns = e }
 
 -- each row of the table says so
 form_rows-say : EachRow IsFormRow form_rows
-form_rows-say =
-    (refl,
-    (row op.Not written.One tt refl refl,
-    (row op.Neg written.One tt refl refl,
-    (row op.Add written.Two tt refl refl,
-    (row op.Sub written.Two tt refl refl,
-    (row op.Umul written.Two tt (inl refl) refl,
-    (record { word = inr refl; has = tt; columns = refl },
-    (row op.Smul written.Two tt refl refl,
-    (row op.Udiv written.Two tt refl refl,
-    (row op.Sdiv written.Two tt refl refl,
-    (row op.Umod written.Two tt refl refl,
-    (row op.Smod written.Two tt refl refl,
-    (row op.Urem written.Two tt refl refl,
-    (row op.Srem written.Two tt refl refl,
-    (row op.And written.Two tt refl refl,
-    (row op.Or written.Two tt refl refl,
-    (row op.Xor written.Two tt refl refl,
-    (row op.Eq written.Two tt refl refl,
-    (row op.Neq written.Two tt refl refl,
-    (row op.Slt written.Two tt refl refl,
-    (row op.Sgt written.Two tt refl refl,
-    (row op.Sle written.Two tt refl refl,
-    (row op.Sge written.Two tt refl refl,
-    (row op.Ult written.Two tt refl refl,
-    (row op.Ugt written.Two tt refl refl,
-    (row op.Ule written.Two tt refl refl,
-    (row op.Uge written.Two tt refl refl,
-    (row op.Shl written.Shift tt refl refl,
-    (row op.Shr written.Shift tt refl refl,
-    (row op.Mux written.Two tt refl refl,
-    (row (op.Extf 0) written.One tt refl refl,
-    (row (op.Exts 0 0) written.One tt refl refl,
-    (row (op.Insf 0) written.Two tt refl refl,
-    (row (op.Inss 0 0) written.Two tt refl refl,
-    (refl,
-    (refl,
-    (refl,
-    (refl,
-    (refl,
-    (refl,
-    (refl,
-    (refl,
-    (refl,
-    (refl,
-    (refl,
-    (refl,
-    (refl,
-    (refl,
-    tt))))))))))))))))))))))))))))))))))))))))))))))))
+form_rows-say = (
+  refl,
+  (
+    row op.Not written.One tt refl refl,
+    (
+      row op.Neg written.One tt refl refl,
+      (
+        row op.Add written.Two tt refl refl,
+        (
+          row op.Sub written.Two tt refl refl,
+          (
+            row op.Umul written.Two tt (inl refl) refl,
+            (
+              record { word = inr refl; has = tt; columns = refl },
+              (
+                row op.Smul written.Two tt refl refl,
+                (
+                  row op.Udiv written.Two tt refl refl,
+                  (
+                    row op.Sdiv written.Two tt refl refl,
+                    (
+                      row op.Umod written.Two tt refl refl,
+                      (
+                        row op.Smod written.Two tt refl refl,
+                        (
+                          row op.Urem written.Two tt refl refl,
+                          (
+                            row op.Srem written.Two tt refl refl,
+                            (
+                              row op.And written.Two tt refl refl,
+                              (
+                                row op.Or written.Two tt refl refl,
+                                (
+                                  row op.Xor written.Two tt refl refl,
+                                  (
+                                    row op.Eq written.Two tt refl refl,
+                                    (
+                                      row op.Neq written.Two tt refl refl,
+                                      (
+                                        row op.Slt written.Two tt refl refl,
+                                        (
+                                          row op.Sgt written.Two tt refl refl,
+                                          (
+                                            row op.Sle written.Two tt refl refl,
+                                            (
+                                              row op.Sge written.Two tt refl refl,
+                                              (
+                                                row op.Ult written.Two tt refl refl,
+                                                (
+                                                  row op.Ugt written.Two tt refl refl,
+                                                  (
+                                                    row op.Ule written.Two tt refl refl,
+                                                    (
+                                                      row op.Uge written.Two tt refl refl,
+                                                      (
+                                                        row op.Shl written.Shift tt refl refl,
+                                                        (
+                                                          row op.Shr written.Shift tt refl refl,
+                                                          (
+                                                            row op.Mux written.Two tt refl refl,
+                                                            (
+                                                              row (op.Extf 0) written.One tt refl refl,
+                                                              (
+                                                                row (op.Exts 0 0) written.One tt refl refl,
+                                                                (
+                                                                  row (op.Insf 0) written.Two tt refl refl,
+                                                                  (
+                                                                    row (op.Inss 0 0) written.Two tt refl refl,
+                                                                    (
+                                                                      refl,
+                                                                      (
+                                                                        refl,
+                                                                        (
+                                                                          refl,
+                                                                          (
+                                                                            refl,
+                                                                            (
+                                                                              refl,
+                                                                              (
+                                                                                refl,
+                                                                                (
+                                                                                  refl,
+                                                                                  (
+                                                                                    refl,
+                                                                                    (
+                                                                                      refl,
+                                                                                      (
+                                                                                        refl,
+                                                                                        (
+                                                                                          refl,
+                                                                                          (
+                                                                                            refl,
+                                                                                            (
+                                                                                              refl,
+                                                                                              (
+                                                                                                refl,
+                                                                                                tt,
+                                                                                              ),
+                                                                                            ),
+                                                                                          ),
+                                                                                        ),
+                                                                                      ),
+                                                                                    ),
+                                                                                  ),
+                                                                                ),
+                                                                              ),
+                                                                            ),
+                                                                          ),
+                                                                        ),
+                                                                      ),
+                                                                    ),
+                                                                  ),
+                                                                ),
+                                                              ),
+                                                            ),
+                                                          ),
+                                                        ),
+                                                      ),
+                                                    ),
+                                                  ),
+                                                ),
+                                              ),
+                                            ),
+                                          ),
+                                        ),
+                                      ),
+                                    ),
+                                  ),
+                                ),
+                              ),
+                            ),
+                          ),
+                        ),
+                      ),
+                    ),
+                  ),
+                ),
+              ),
+            ),
+          ),
+        ),
+      ),
+    ),
+  ),
+)
 
 pub form_of-sound : (w : List ℕ) (f : Form) → form_of w ≡ Some f → IsFormRow w f
 unfolding form_of

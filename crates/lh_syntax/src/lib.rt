@@ -12,6 +12,8 @@ mod line;
 mod operands;
 mod operations;
 pub mod syntax;
+#[cfg(test)]
+mod tests;
 mod words;
 
 use crate::line::line_item;
