@@ -1,59 +1,50 @@
--- A list by comma, part after part.
-use Rattle.std.proofs.Common.{◌≡◌, ℕ, ◌+◌, ◌-◌, ◌<◌, ◌≤◌, zero, suc, List, [], ◌∷◌, ◌++◌, length, Option, Some, None, refl, ap, sym, ◌∙◌, arith, append_assoc, length-append}
-use Rattle.lh_unit.specs.Lexemes.{Lexeme, punct}
-use Rattle.lh_read.specs.Pieces.{punct_at, front_part, comma_or_end, part_then, parts_at}
-use Rattle.lh_read.proofs.Spelled.{punct_at-inv}
+-- A list whose parts are given ids one after another.
+use Rattle.std.proofs.Common.{◌≡◌, ℕ, ◌+◌, ◌<◌, List, [], ◌∷◌, ◌++◌, length, map, take, get_or, refl, ap, sym, ◌∙◌, subst, arith, add-one}
+use Rattle.std.proofs.Math.Seq.{take-suc}
+use Rattle.std.proofs.lemmas.List.{map-append}
+use Rattle.lh_unit.specs.Naming.{Naming, value_text, operand_text, trigger_text, edge_text}
+use Rattle.lh_unit.specs.Within.{Sizes, Each, ValueWithin, OperandWithin, TriggerWithin, EdgeWithin}
+use Rattle.lh_unit.specs.Arena.{Arena, Grows, KeepsEntries, naming, sizes}
+use Rattle.lh_unit.specs.declared.inst.UnitId.{UnitId}
+use Rattle.lh_unit.proofs.ModuleLaws.{Grows-refl, Grows-trans, Each-push, Each-map, ValueWithin-keeps, OperandWithin-keeps, TriggerWithin-keeps, EdgeWithin-keeps, value_text-keeps, operand_text-keeps, trigger_text-keeps, edge_text-keeps}
+use Rattle.lh_read.specs.Placing.{Placed, AllPlaced}
 
--- the parts found so far in front of what is found yet
-abbrev pub fronts : {A : Type 0} → List A → Option (List A × List Lexeme) → Option (List A × List Lexeme)
-fronts xs None = None
-fronts xs (Some r) = Some (xs ++ r.0, r.1)
+-- what is in place stays in place and says the same as entries are added
+pub record Keeps {X T : Type 0} (W : Sizes → X → Type 0) (text : Naming → X → T) : Type 0 where
+  pub within : (a b : Arena) (u : ℕ) (k : KeepsEntries a b) (x : X) → W (sizes a u) x → W (sizes b u) x
+  pub says : (a b : Arena) (u : ℕ) (k : KeepsEntries a b) (x : X) → W (sizes a u) x → text (naming b u) x ≡ text (naming a u) x
 
-fronts-none : {A : Type 0} (o : Option (List A × List Lexeme)) → fronts [] o ≡ o
-fronts-none None = refl
-fronts-none (Some r) = refl
+pub values-keep : Keeps ValueWithin value_text
+values-keep = record { within = ValueWithin-keeps; says = value_text-keeps }
 
-fronts-push : {A : Type 0} (xs : List A) (a : A) (o : Option (List A × List Lexeme)) → fronts (xs ++ a ∷ []) o ≡ fronts xs (front_part a o)
-fronts-push xs a None = refl
-fronts-push xs a (Some r) = ap (λ l. Some (l, r.1)) (append_assoc xs (a ∷ []) r.0)
+pub operands-keep : Keeps OperandWithin operand_text
+operands-keep = record { within = OperandWithin-keeps; says = operand_text-keeps }
 
-module _ {A : Type 0} (p : List Lexeme → Option (A × List Lexeme)) where
-  -- how far the list is read
-  pub record At (all rest : List Lexeme) (xs : List A) : Type 0 where
-    pub is : fronts xs (parts_at p (length all - length xs) rest) ≡ parts_at p (length all) all
-    pub few : length rest + length xs ≤ length all
+pub triggers-keep : Keeps TriggerWithin trigger_text
+triggers-keep = record { within = TriggerWithin-keeps; says = trigger_text-keeps }
 
-  pub At-start : (all : List Lexeme) → At all all []
-  At-start all = let e : length all - 0 ≡ length all = omega arith in record { is = fronts-none (parts_at p (length all - 0) all) ∙ ap (λ k. parts_at p k all) e; few = omega arith }
+pub edges-keep : Keeps EdgeWithin edge_text
+edges-keep = record { within = EdgeWithin-keeps; says = edge_text-keeps }
 
-  parts_at-one : (k : ℕ) (ts : List Lexeme) → 1 ≤ k → parts_at p k ts ≡ part_then (parts_at p (k - 1)) (p ts)
-  parts_at-one zero ts h = absurd (omega arith)
-  parts_at-one (suc k) ts h = let e : suc k - 1 ≡ k = omega arith in rw e refl
+-- the list up to the next item
+pub next_item : {Y : Type 0} (ys : List Y) (i : ℕ) (y : Y) → i < length ys → y ≡ get_or ys i y → take (i + 1) ys ≡ take i ys ++ y ∷ []
+next_item ys i y h e = ap (λ n. take n ys) (add-one i) ∙ take-suc ys i y h ∙ ap (λ z. take i ys ++ z ∷ []) (sym e)
 
-  parts_at-nothing : (k : ℕ) (ts : List Lexeme) → p ts ≡ None → parts_at p k ts ≡ None
-  parts_at-nothing zero ts e = refl
-  parts_at-nothing (suc k) ts e = ap (part_then (parts_at p k)) e
+pub next_said : {T Y : Type 0} (said : Y → T) (ys : List Y) (i : ℕ) (y : Y) → i < length ys → y ≡ get_or ys i y → map said (take (i + 1) ys) ≡ map said (take i ys) ++ said y ∷ []
+next_said said ys i y h e = ap (map said) (next_item ys i y h e) ∙ map-append said (take i ys) (y ∷ [])
 
-  pub At-none : (all rest : List Lexeme) (xs : List A) → At all rest xs → p rest ≡ None → parts_at p (length all) all ≡ None
-  At-none all rest xs w e = sym w.is ∙ ap (fronts xs) (parts_at-nothing (length all - length xs) rest e)
+module _ {X T : Type 0} {W : Sizes → X → Type 0} {text : Naming → X → T} (keeps : Keeps W text) where
+  still : (a b : Arena) (u : ℕ) (xs : List X) → KeepsEntries a b → Each (W (sizes a u)) xs → map (text (naming b u)) xs ≡ map (text (naming a u)) xs
+  still a b u [] k h = refl
+  still a b u (x ∷ xs) k h = λ i. keeps.says a b u k x h.0 i ∷ still a b u xs k h.1 i
 
-  -- one more part is found
-  more_found : (all rest more : List Lexeme) (xs : List A) (a : A) → At all rest xs → p rest ≡ Some (a, more) → length more < length rest
-      → fronts xs (comma_or_end (parts_at p (length all - length xs - 1)) a more (punct_at 44 more)) ≡ parts_at p (length all) all
-  more_found all rest more xs a w e l =
-      let h : 1 ≤ length all - length xs = omega (arith, w.few) in
-      sym (ap (fronts xs) (parts_at-one (length all - length xs) rest h ∙ ap (part_then (parts_at p (length all - length xs - 1))) e)) ∙ w.is
-
-  pub At-next : (all rest more next : List Lexeme) (xs : List A) (a : A) → At all rest xs → p rest ≡ Some (a, more) → length more < length rest → punct_at 44 more ≡ Some next → At all next (xs ++ a ∷ [])
-  At-next all rest more next xs a w e l c =
-      let n : length (xs ++ a ∷ []) ≡ length xs + 1 = length-append xs (a ∷ []) in
-      let k : length all - length (xs ++ a ∷ []) ≡ length all - length xs - 1 = omega (arith, n) in
+  -- one part more
+  pub next-placed : (a b c : Arena) (u : UnitId) (xs zs : List X) (x : X) (ts us : List T) (t : T) → AllPlaced W text a b u xs ts → Placed W text b c u x t → zs ≡ xs ++ x ∷ [] → us ≡ ts ++ t ∷ [] → AllPlaced W text a c u zs us
+  next-placed a b c u xs zs x ts us t p q z e =
+      let k = q.grows.entries in
       record {
-        is = ap (λ j. fronts (xs ++ a ∷ []) (parts_at p j next)) k ∙ fronts-push xs a (parts_at p (length all - length xs - 1) next)
-            ∙ ap (λ o. fronts xs (comma_or_end (parts_at p (length all - length xs - 1)) a more o)) (sym c) ∙ more_found all rest more xs a w e l;
-        few = omega (arith, n, w.few, l, ap length (punct_at-inv 44 more next c));
+        grows = Grows-trans a b c p.grows q.grows;
+        within = subst (Each (W (sizes c u.0))) (sym z) (Each-push (W (sizes c u.0)) xs x (Each-map (W (sizes b u.0)) (W (sizes c u.0)) xs (keeps.within b c u.0 k) p.within) q.within);
+        says = ap (map (text (naming c u.0))) z ∙ map-append (text (naming c u.0)) xs (x ∷ [])
+            ∙ (λ j. (still b c u.0 xs k p.within ∙ p.says) j ++ q.says j ∷ []) ∙ sym e;
       }
-
-  pub At-end : (all rest more : List Lexeme) (xs : List A) (a : A) → At all rest xs → p rest ≡ Some (a, more) → length more < length rest → punct_at 44 more ≡ None → parts_at p (length all) all ≡ Some (xs ++ a ∷ [], more)
-  At-end all rest more xs a w e l c =
-      sym (ap (λ o. fronts xs (comma_or_end (parts_at p (length all - length xs - 1)) a more o)) (sym c) ∙ more_found all rest more xs a w e l)
