@@ -6,7 +6,7 @@ use Rattle.lh_unit.specs.Naming.{maybe_text}
 use Rattle.lh_unit.specs.Arena.{Arena, Grows, OfOpen, contents, naming, label_name_at}
 use Rattle.lh_unit.specs.Builders.{defines_result, line_text_at, HasRoom, Says, AddsLine, AddsBlock}
 use Rattle.lh_unit.specs.Spells.{label_item, inst_item, close_item}
-use Rattle.lh_unit.specs.Reads.{State, may_stand, is_full, value_again, label_again, BadKind, syntax, unit_too_large, duplicate_name}
+use Rattle.lh_unit.specs.Reads.{State, place_of, may_stand, is_full, value_again, label_again, BadKind, syntax, unit_too_large, duplicate_name}
 use Rattle.lh_unit.specs.declared.inst.UnitId.{UnitId}
 use Rattle.lh_unit.specs.declared.inst.BlockId.{BlockId}
 use Rattle.lh_unit.specs.declared.inst.ValueId.{ValueId}
@@ -40,7 +40,7 @@ full n h = grind (arith, common_steps)
 
 -- an instruction in this place, of the unit u
 module _ (a : Arena) (p : Place) (u : UnitId) (l : LineText) (w : InPlace a p) (e : block_unit p ≡ Some u) where
-  stands : may_stand _ (inst_item l) ≡ true
+  stands : may_stand (place_of (state_at a p)) (inst_item l) ≡ true
   stands = ap (λ q. may_stand q (inst_item l)) (place-is a p w) ∙ inst-stands p l u e
 
   room : (t : UnitText) → last_unit (contents a) ≡ Some t → line_count t.blocks < 65536 → is_full (last_unit (contents a)) ≡ false
@@ -101,7 +101,7 @@ inst-outside r l o e = step-misplaced (state_of r) (inst_item l) (ap (λ q. may_
 
 -- a label in this place, of the unit u
 module _ (a : Arena) (p : Place) (u : UnitId) (n : List ℕ) (w : InPlace a p) (e : label_unit p ≡ Some u) where
-  label_stands : may_stand _ (label_item n) ≡ true
+  label_stands : may_stand (place_of (state_at a p)) (label_item n) ≡ true
   label_stands = ap (λ q. may_stand q (label_item n)) (place-is a p w) ∙ label-stands p n u e
 
   block-taken : (b : Arena) → OfOpen a (λ t. defines_label n t ≡ false) → Says a b u (change_last (with_block n) (contents a)) → step (state_at a p) (label_item n) ≡ Ok (state_at b (InEmptyBlock u))

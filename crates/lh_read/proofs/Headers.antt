@@ -5,7 +5,7 @@ use Rattle.lh_unit.specs.Contents.{ArgText, last_unit, defines_unit}
 use Rattle.lh_unit.specs.Arena.{Arena, contents}
 use Rattle.lh_unit.specs.Builders.{AddsDeclare}
 use Rattle.lh_unit.specs.Spells.{header_item, declare_item}
-use Rattle.lh_unit.specs.Reads.{State, may_stand, defines_again, args_repeat, is_assert, headed_unit, syntax, duplicate_name}
+use Rattle.lh_unit.specs.Reads.{State, place_of, may_stand, defines_again, args_repeat, is_assert, headed_unit, syntax, duplicate_name}
 use Rattle.lh_unit.specs.declared.name.UnitName.{UnitName}
 use Rattle.lh_unit.specs.declared.inst.UnitId.{UnitId}
 use Rattle.lh_unit.specs.declared.inst.UnitKind.{UnitKind}
@@ -31,7 +31,7 @@ module _ (a : Arena) (p : Place) (w : InPlace a p) (k : UnitKind) (n : UnitName)
   pub header-inside : is_inside p ≡ true → step (state_at a p) (header_item k n args r) ≡ Err syntax
   header-inside e = step-misplaced (state_at a p) (header_item k n args r) (ap (λ q. may_stand q (header_item k n args r)) (place-is a p w) ∙ header-stands p k n args r true e)
 
-  stands : is_inside p ≡ false → may_stand _ (header_item k n args r) ≡ true
+  stands : is_inside p ≡ false → may_stand (place_of (state_at a p)) (header_item k n args r) ≡ true
   stands e = ap (λ q. may_stand q (header_item k n args r)) (place-is a p w) ∙ header-stands p k n args r false e
 
   again : is_inside p ≡ false → defines_again (state_at a p) (header_item k n args r) ≡ true → step (state_at a p) (header_item k n args r) ≡ Err duplicate_name

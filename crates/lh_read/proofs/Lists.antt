@@ -1,13 +1,18 @@
--- A list whose parts are given ids one after another.
-use Rattle.std.proofs.Common.{◌≡◌, ℕ, ◌+◌, ◌<◌, List, [], ◌∷◌, ◌++◌, length, map, take, get_or, refl, ap, sym, ◌∙◌, subst, arith, add-one}
+-- Parts of an instruction that are given ids one after another.
+use Rattle.std.proofs.Common.{◌≡◌, ℕ, ◌+◌, ◌<◌, List, [], ◌∷◌, ◌++◌, length, map, take, get_or, Ok, refl, ap, sym, ◌∙◌, subst, arith, add-one}
 use Rattle.std.proofs.Math.Seq.{take-suc}
 use Rattle.std.proofs.lemmas.List.{map-append}
 use Rattle.lh_unit.specs.Naming.{Naming, value_text, operand_text, trigger_text, edge_text}
 use Rattle.lh_unit.specs.Within.{Sizes, Each, ValueWithin, OperandWithin, TriggerWithin, EdgeWithin}
 use Rattle.lh_unit.specs.Arena.{Arena, Grows, KeepsEntries, naming, sizes}
+use Rattle.lh_unit.specs.Contents.{OperandText, child_text}
+use Rattle.lh_unit.specs.Builders.{FindsUnit}
+use Rattle.lh_unit.specs.declared.name.UnitName.{UnitName}
 use Rattle.lh_unit.specs.declared.inst.UnitId.{UnitId}
-use Rattle.lh_unit.proofs.ModuleLaws.{Grows-refl, Grows-trans, Each-push, Each-map, ValueWithin-keeps, OperandWithin-keeps, TriggerWithin-keeps, EdgeWithin-keeps, value_text-keeps, operand_text-keeps, trigger_text-keeps, edge_text-keeps}
-use Rattle.lh_read.specs.Placing.{Placed, AllPlaced}
+use Rattle.lh_unit.specs.declared.inst.Typed.{Typed}
+use Rattle.lh_unit.specs.declared.inst.Inst.TheVariants as inst
+use Rattle.lh_unit.proofs.ModuleLaws.{KeepsEntries-trans, Grows-trans, Each-push, Each-map, ValueWithin-keeps, OperandWithin-keeps, TriggerWithin-keeps, EdgeWithin-keeps, value_text-keeps, operand_text-keeps, trigger_text-keeps, edge_text-keeps}
+use Rattle.lh_read.specs.Placing.{Placed, AllPlaced, OperandsPlaced, InstPlacedAs}
 
 -- what is in place stays in place and says the same as entries are added
 pub record Keeps {X T : Type 0} (W : Sizes → X → Type 0) (text : Naming → X → T) : Type 0 where
@@ -48,3 +53,18 @@ module _ {X T : Type 0} {W : Sizes → X → Type 0} {text : Naming → X → T}
         says = ap (map (text (naming c u.0))) z ∙ map-append (text (naming c u.0)) xs (x ∷ [])
             ∙ (λ j. (still b c u.0 xs k p.within ∙ p.says) j ++ q.says j ∷ []) ∙ sym e;
       }
+
+-- an `inst`, whose unit is found before its operands
+pub child-placed : (a b c d : Arena) (u f : UnitId) (ins outs : List Typed) (n : UnitName) (ss rs : List OperandText) → FindsUnit (Ok f) a b n → OperandsPlaced b c u ins ss → OperandsPlaced c d u outs rs
+    → InstPlacedAs a d u (inst.Child f ins outs) (child_text n ss rs)
+child-placed a b c d u f ins outs n ss rs p q r =
+    let k = KeepsEntries-trans b c d q.grows.entries r.grows.entries in
+    record {
+      grows = Grows-trans a b d p.0.grows (Grows-trans b c d q.grows r.grows);
+      within = (
+        omega (arith, p.1, k.units),
+        Each-map (OperandWithin (sizes c u.0)) (OperandWithin (sizes d u.0)) ins (operands-keep.within c d u.0 r.grows.entries) q.within,
+        r.within,
+      );
+      says = λ i. child_text ((k.unit_names f.0 p.1 ∙ p.2) i) ((still operands-keep c d u.0 ins r.grows.entries q.within ∙ q.says) i) (r.says i);
+    }

@@ -104,7 +104,6 @@ pub record CanTake (a : Arena) (u : UnitId) (P : UnitText → Type 0) : Type 0 w
   pub opened : IsOpen a u
   pub text : OfOpen a P
 
-
 can_take : (a : Arena) (u v : UnitId) (p : reads.Place) (P : UnitText → Type 0) → ((t : UnitText) → Has p t → P t) → Some v ≡ Some u → InUnit a v p → CanTake a u P
 can_take a u v p P f e w =
     let g : v ≡ u = cc in

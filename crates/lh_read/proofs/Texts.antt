@@ -104,16 +104,16 @@ walk-once (l ∷ ls) s t u v w = walk-once ls w.0 t u (subst (λ m. Walk ls m t)
 walk-bad : (ls : List (List ℕ)) (n : ℕ) (s : State) (items : List ItemText) (k : ℕ) (why : BadKind) → Walk ls s (closed items) → FirstBadFrom ls n s k why → ⊥
 walk-bad [] n s items k why w b = apart s.inside b.0 (ap (λ x. x.inside) w)
 walk-bad (l ∷ ls) n s items k why w b = elim b [
-  inl f ↦ bad-taken s w.0 l why f.1 w.1
+  | inl f ↦ bad-taken s w.0 l why f.1 w.1
   | inr f ↦ walk-bad ls (n + 1) f.0 items k why (subst (λ m. Walk ls m (closed items)) (taken-once s w.0 f.0 l w.1 f.1) w.2) f.2
 ]
 
 first-once : (ls : List (List ℕ)) (n : ℕ) (s : State) (k m : ℕ) (e f : BadKind) → FirstBadFrom ls n s k e → FirstBadFrom ls n s m f → (m ≡ k) × (f ≡ e)
 first-once [] n s k m e f b c = (c.1 ∙ sym b.1, c.2 ∙ sym b.2)
 first-once (l ∷ ls) n s k m e f b c = elim b [
-  inl x ↦ elim c [ inl y ↦ (y.0 ∙ sym x.0, bad-once s l f e y.1 x.1) | inr y ↦ absurd (bad-taken s y.0 l e x.1 y.1) ]
+  | inl x ↦ elim c [ inl y ↦ (y.0 ∙ sym x.0, bad-once s l f e y.1 x.1) | inr y ↦ absurd (bad-taken s y.0 l e x.1 y.1) ]
   | inr x ↦ elim c [
-    inl y ↦ absurd (bad-taken s x.0 l f y.1 x.1)
+    | inl y ↦ absurd (bad-taken s x.0 l f y.1 x.1)
     | inr y ↦ first-once ls (n + 1) x.0 k m e f x.2 (subst (λ t. FirstBadFrom ls (n + 1) t m f) (taken-once s y.0 x.0 l y.1 x.1) y.2)
   ]
 ]
@@ -133,7 +133,7 @@ next-decided l ls n s t w (inr b) = inr (b.0, b.1, inr (t, w, b.2))
 lines-decided : (ls : List (List ℕ)) (n : ℕ) (s : State) → AllDecided ls n s
 lines-decided [] n s = end-decided n s s.inside refl
 lines-decided (l ∷ ls) n s = elim (line-decided s l) [
-  inl t ↦ next-decided l ls n s t.0 t.1 (lines-decided ls (n + 1) t.0)
+  | inl t ↦ next-decided l ls n s t.0 t.1 (lines-decided ls (n + 1) t.0)
   | inr b ↦ inr (n, b.0, inl (refl, b.1))
 ]
 

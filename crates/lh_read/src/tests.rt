@@ -116,11 +116,17 @@ fn refuses_a_name_that_is_defined(rt: HostRuntime) {
     let value = b"entity @t (i1$ %a) -> () {\n%a = const i8 0\n}\n";
     assert_eq!(rt; fault(rt.alloc(), value), Some(TextFault::DuplicateName(2)));
     let argument = b"proc @t (i1$ %a) -> (i1$ %a) {\n";
-    assert_eq!(rt; fault(rt.alloc(), argument), Some(TextFault::DuplicateName(1)));
+    assert_eq!(rt;
+        fault(rt.alloc(), argument),
+        Some(TextFault::DuplicateName(1))
+    );
     let label = b"proc @p () -> () {\na:\nbr %a\na:\nhalt\n}\n";
     assert_eq!(rt; fault(rt.alloc(), label), Some(TextFault::DuplicateName(4)));
     let assertion = b"func @llhd.assert (i1 %a) void {\n";
-    assert_eq!(rt; fault(rt.alloc(), assertion), Some(TextFault::DuplicateName(1)));
+    assert_eq!(rt;
+        fault(rt.alloc(), assertion),
+        Some(TextFault::DuplicateName(1))
+    );
     let declared = b"declare @t () void\ndeclare @t () void\nfunc @t () void {\na:\nret\n}\n";
     assert_eq!(rt; units(rt.alloc(), declared), Ok(1));
 }

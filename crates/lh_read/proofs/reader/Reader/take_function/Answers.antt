@@ -1,7 +1,8 @@
-use Rattle.std.proofs.Common.{map, Some, sym, ◌∙◌}
+use Rattle.std.proofs.Common.{map, Some, Ok, sym, ap, subst, ◌∙◌}
 use Rattle.lh_unit.specs.Spells.{input_of}
 use Rattle.lh_unit.specs.declared.inst.UnitKind.TheVariants as kind
 use Rattle.lh_scan.specs.LexemeOf.{unit_name_of}
+use Rattle.lh_read.specs.InOrder.{state_at, InPlace}
 use Rattle.lh_read.proofs.Headers.{header-inside, header-assert, head-taken, head-refused, head-placed}
 use Rattle.lh_read.proofs.reader.Reader.take_function.Goals as goal
 
@@ -22,6 +23,8 @@ pub returns-clause-step : goal.returns-clause-step
 returns-clause-step c =
     head-taken c.args.self.now.module c.args.self.now.place c.requires kind.Func (unit_name_of c.args.name.now) (map input_of c.args.params.now) (Some c.args.result_type) c.in_ok-unit.unit c.begin_function.new.m
     (sym c.is_inside.ensures ∙ c.if-is_inside.false) (sym c.is_assert.ensures ∙ c.if-is_assert.false) c.in_ok-unit.ensures
+    ∙ ap (λ q. Ok (state_at c.begin_function.new.m q)) (sym c.behind_header-self.ensures)
 
 pub returns-clause-order : goal.returns-clause-order
-returns-clause-order c = head-placed c.args.self.now.module c.args.self.now.place c.requires kind.Func (unit_name_of c.args.name.now) (map input_of c.args.params.now) (Some c.args.result_type) c.in_ok-unit.unit c.begin_function.new.m c.in_ok-unit.ensures
+returns-clause-order c = subst (InPlace c.begin_function.new.m) (sym c.behind_header-self.ensures)
+    (head-placed c.args.self.now.module c.args.self.now.place c.requires kind.Func (unit_name_of c.args.name.now) (map input_of c.args.params.now) (Some c.args.result_type) c.in_ok-unit.unit c.begin_function.new.m c.in_ok-unit.ensures)
