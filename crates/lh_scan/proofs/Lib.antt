@@ -1,0 +1,12 @@
+pub mod Pieces
+pub mod Digits
+pub mod Halves
+pub mod Lists
+pub mod Runs
+pub mod DataTypes
+pub mod SpelledLists
+pub mod SpelledNumbers
+pub mod TypeFaults
+pub mod SpelledTypes
+pub mod Decimals
+pub mod SpelledTimes
