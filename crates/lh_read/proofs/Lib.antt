@@ -3,6 +3,8 @@ pub mod LastUnit
 pub mod Splitting
 pub mod Stepping
 pub mod Texts
+pub mod Computed
+mod Rows
 pub mod Progress
 pub mod PlaceLaws
 pub mod Lists

@@ -1,14 +1,14 @@
--- Every line is taken or faulty, in one way only; and so is every text.
+-- A line is taken or is faulty in one way only, and so is a text.
 use Rattle.std.proofs.Common.{◌≡◌, ℕ, ◌+◌, Bool, true, false, List, [], ◌∷◌, Option, Some, None, Result, Ok, Err, refl, ap, sym, ◌∙◌, subst, inl, inr, ◌⊎◌}
 use Rattle.lh_unit.specs.Contents.{ItemText}
 use Rattle.lh_unit.specs.Lexemes.{Lexeme, lexemes}
 use Rattle.lh_unit.specs.Lines.{lines_of}
 use Rattle.lh_unit.specs.Spells.{LineItem, Spells}
 use Rattle.lh_unit.specs.Reads.{State, start, place_of, may_stand, too_large, defines_again, after, Says, Takes, Walk, Reads, BadKind, syntax, unit_too_large, duplicate_name, IsBad, FirstBadFrom, FirstBad}
+use Rattle.lh_syntax.specs.Items.{item_at}
 use Rattle.lh_syntax.specs.SpelledBy.{SpelledBy}
 use Rattle.lh_read.specs.Steps.{step}
-use Rattle.lh_read.specs.Reading.{ReadsOnlyAs, HasFirstBad, ReadsOrIsBad}
-use Rattle.lh_read.proofs.Tokens.{spelled as one_item}
+use Rattle.lh_read.proofs.Tokens.{spelled_by}
 use Rattle.lh_read.proofs.Stepping.{IsFree, step-free, HasFault, step-fault}
 
 -- no unit is open at the end of these items
@@ -47,28 +47,9 @@ no_tokens l ts p q = cc
 pub unlexed-line : (s : State) (l : List ℕ) → lexemes l ≡ None → IsBad s l syntax
 unlexed-line s l e = λ j v. no_tokens l v.tokens e v.lexed
 
--- a line is taken or faulty
-abbrev Decided : State → List ℕ → Type 0
-Decided s l = ((t : State) × Takes s l t) ⊎ ((why : BadKind) × IsBad s l why)
-
-line-decided : (s : State) (l : List ℕ) → Decided s l
-line-decided s l = lexed (lexemes l) refl
-  where
-    stepped : (ts : List Lexeme) (i : LineItem) → lexemes l ≡ Some ts → SpelledBy ts (Some i) → (r : Result State BadKind) → step s i ≡ r → Decided s l
-    stepped ts i e w (Ok t) p = inl (t, taken-line s t l ts i e w p)
-    stepped ts i e w (Err why) p = inr (why, bad-line s l ts i why e w p)
-
-    spelled : (ts : List Lexeme) → lexemes l ≡ Some ts → (o : Option LineItem) → SpelledBy ts o → Decided s l
-    spelled ts e None w = inr (syntax, unspelled-line s l ts e w)
-    spelled ts e (Some i) w = stepped ts i e w (step s i) refl
-
-    lexed : (o : Option (List Lexeme)) → lexemes l ≡ o → Decided s l
-    lexed None e = inr (syntax, unlexed-line s l e)
-    lexed (Some ts) e = let o = one_item ts in spelled ts e o.0 o.1
-
 -- tokens spell one item
 spells-once : (ts : List Lexeme) (i j : LineItem) → Spells ts i → Spells ts j → i ≡ j
-spells-once ts i j v w = let o = one_item ts in by o.0 o.1
+spells-once ts i j v w = by (item_at ts) (spelled_by ts)
   where
     by : (o : Option LineItem) → SpelledBy ts o → i ≡ j
     by None s = absurd (s i v)
@@ -118,42 +99,11 @@ first-once (l ∷ ls) n s k m e f b c = elim b [
   ]
 ]
 
--- these lines lead to the end of a text, or one of them is the first faulty one
-abbrev AllDecided : List (List ℕ) → ℕ → State → Type 0
-AllDecided ls n s = ((items : List ItemText) × Walk ls s (closed items)) ⊎ ((k : ℕ) × (why : BadKind) × FirstBadFrom ls n s k why)
-
-end-decided : (n : ℕ) (s : State) (b : Bool) → s.inside ≡ b → AllDecided [] n s
-end-decided n s true e = inr (n, syntax, (e, refl, refl))
-end-decided n s false e = inl (s.items, λ i. record { items = s.items; inside = e i })
-
-next-decided : (l : List ℕ) (ls : List (List ℕ)) (n : ℕ) (s t : State) → Takes s l t → AllDecided ls (n + 1) t → AllDecided (l ∷ ls) n s
-next-decided l ls n s t w (inl v) = inl (v.0, (t, w, v.1))
-next-decided l ls n s t w (inr b) = inr (b.0, b.1, inr (t, w, b.2))
-
-lines-decided : (ls : List (List ℕ)) (n : ℕ) (s : State) → AllDecided ls n s
-lines-decided [] n s = end-decided n s s.inside refl
-lines-decided (l ∷ ls) n s = elim (line-decided s l) [
-  | inl t ↦ next-decided l ls n s t.0 t.1 (lines-decided ls (n + 1) t.0)
-  | inr b ↦ inr (n, b.0, inl (refl, b.1))
-]
-
 pub reads-once : (text : List ℕ) (items others : List ItemText) → Reads text items → Reads text others → others ≡ items
 reads-once text items others v w = ap (λ s. s.items) (walk-once (lines_of text) start (closed others) (closed items) w v)
 
 pub reads-bad : (text : List ℕ) (items : List ItemText) (k : ℕ) (why : BadKind) → Reads text items → FirstBad text k why → ⊥
 reads-bad text items k why w b = walk-bad (lines_of text) 1 start items k why w b
 
--- every text reads or is faulty, and never both
-pub reads-or_bad : (text : List ℕ) → ReadsOrIsBad text
-reads-or_bad text = by (lines-decided (lines_of text) 1 start)
-  where
-    by : (((items : List ItemText) × Reads text items) ⊎ ((k : ℕ) × (why : BadKind) × FirstBad text k why)) → ReadsOrIsBad text
-    by (inl w) = inl (
-      w.0,
-      record { reads = w.1; only = λ others v. reads-once text w.0 others w.1 v; no_fault = λ k why b. reads-bad text w.0 k why w.1 b },
-    )
-    by (inr b) = inr (
-      b.0,
-      b.1,
-      record { bad = b.2; only = λ m other c. first-once (lines_of text) 1 start b.0 m b.1 other b.2 c; no_items = λ items w. reads-bad text items b.0 b.1 w b.2 },
-    )
+pub first_bad-once : (text : List ℕ) (k m : ℕ) (e f : BadKind) → FirstBad text k e → FirstBad text m f → (m ≡ k) × (f ≡ e)
+first_bad-once text k m e f b c = first-once (lines_of text) 1 start k m e f b c
