@@ -1,4 +1,4 @@
-use Rattle.std.proofs.Common.{◌≡◌, ◌++◌, map, Ok, Err, sym, ◌∙◌, ap, subst}
+use Rattle.std.proofs.Common.{map, Ok, Err, subst}
 use Rattle.lh_unit.specs.Spells.{input_of, output_of}
 use Rattle.lh_syntax.specs.SyntaxOf.{ports_of}
 use Rattle.lh_read.specs.Building.{AddsArgs}

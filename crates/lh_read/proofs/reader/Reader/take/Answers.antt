@@ -1,4 +1,4 @@
-use Rattle.std.proofs.Common.{sym, ◌∙◌, ap}
+use Rattle.std.proofs.Common.{◌∙◌, ap}
 use Rattle.lh_syntax.specs.SyntaxOf.{item_of}
 use Rattle.lh_read.specs.Steps.{step}
 use Rattle.lh_read.specs.InOrder.{state_of}
