@@ -7,6 +7,7 @@ pub mod DataTypes
 pub mod SpelledLists
 pub mod SpelledNumbers
 pub mod TypeFaults
+pub mod TypeStarts
 pub mod SpelledTypes
 pub mod Decimals
 pub mod SpelledTimes

@@ -26,6 +26,16 @@ pub word_at-inv : (w : List ℕ) (ts us : List Lexeme) → word_at w ts ≡ Some
 word_at-inv w (word x ∷ ts) us p = let g = guard (pointwise nat_eq x w) ts us p in let e : x ≡ w = same_text x w (sym g.0) in λ i. word (e i) ∷ g.1 i
 word_at-inv w _ us p = cc
 
+same_word : (w : List ℕ) → pointwise nat_eq w w ≡ true
+same_word [] = refl
+same_word (b ∷ bs) = let e : nat_eq b b ≡ true = same b in let f = same_word bs in rw (e, f) refl
+  where
+    same : (x : ℕ) → nat_eq x x ≡ true
+    same x = grind (arith, common_steps)
+
+pub word_at-again : (w : List ℕ) (ts : List Lexeme) → word_at w (word w ∷ ts) ≡ Some ts
+word_at-again w ts = let e = same_word w in rw e refl
+
 pub any_word_at-inv : (ts : List Lexeme) (r : List ℕ × List Lexeme) → any_word_at ts ≡ Some r → ts ≡ word r.0 ∷ r.1
 any_word_at-inv (word x ∷ ts) r p = cc
 any_word_at-inv _ r p = cc
@@ -52,6 +62,9 @@ unit_name_at-again n t ts s = elim s [
 pub punct_at-inv : (b : ℕ) (ts us : List Lexeme) → punct_at b ts ≡ Some us → ts ≡ punct b ∷ us
 punct_at-inv b (punct c ∷ ts) us p = let g = guard (nat_eq c b) ts us p in let h : nat_eq c b ≡ true = g.0 in let e : c ≡ b = grind (arith, common_steps) in λ i. punct (e i) ∷ g.1 i
 punct_at-inv b _ us p = cc
+
+pub punct_at-again : (b : ℕ) (ts : List Lexeme) → punct_at b (punct b ∷ ts) ≡ Some ts
+punct_at-again b ts = let e : nat_eq b b ≡ true = grind (arith, common_steps) in rw e refl
 
 pub arrow_at-inv : (ts us : List Lexeme) → arrow_at ts ≡ Some us → ts ≡ arrow ∷ us
 arrow_at-inv (arrow ∷ ts) us p = cc

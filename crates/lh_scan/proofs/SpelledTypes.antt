@@ -16,7 +16,7 @@ use Rattle.lh_scan.specs.Numbers.{number_at}
 use Rattle.lh_scan.specs.Types.{faultless, followed, width_of, int_width, int_before, array_in, tuple_in, marked_in, data_in, data_at, base_or, base_at, suffix_or, suffix_at, type_at, no_suffix}
 use Rattle.lh_scan.specs.Shorter.{bind_some}
 use Rattle.lh_scan.proofs.Pieces.{guard, both, word_at-inv, punct_at-inv, small-inv, small-below}
-use Rattle.lh_scan.proofs.TypeFaults.{is_data-yes, array-sound, array-again, tuple-sound, tuple-again, data_limited, limited_data, fault_none, pointed_limited, pointed_data}
+pub use Rattle.lh_scan.proofs.TypeFaults.{four_none, is_data-yes, all_data-yes, array-sound, array-again, tuple-sound, tuple-again, data_limited, limited_data, fault_none, pointed_limited, pointed_data}
 use Rattle.lh_scan.proofs.SpelledNumbers.{number_at-sound, number_at-again}
 use Rattle.lh_scan.proofs.SpelledLists.{parts_at-sound, parts_at-again}
 

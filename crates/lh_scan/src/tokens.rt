@@ -41,7 +41,9 @@ impl NameText<'_> {
 /// The name of a unit where it stands in the line.
 #[derive(Drop)]
 pub struct UnitNameText<'a> {
+    /// `@` or `%`, as a byte.
     pub sigil: u8,
+    /// The name behind it.
     pub name: NameText<'a>,
 }
 
@@ -68,11 +70,17 @@ impl UnitNameText<'_> {
 /// One token with its text.
 #[derive(Drop)]
 pub enum Lex<'a> {
+    /// A run of name bytes.
     Word(&'a [u8]),
+    /// A name behind `@`.
     Global(NameText<'a>),
+    /// A name behind `%`.
     Local(NameText<'a>),
+    /// `->`
     Arrow,
+    /// `-`
     Minus,
+    /// One of `( ) { } [ ] , : $ * =`, as a byte.
     Punct(u8),
 }
 

@@ -1,0 +1,436 @@
+//! The instructions, behind `%r = ` where that stands.
+ghost use Rattle.std.specs.Prelude.{◌≡◌, IfOk, option_map, map, length};
+ghost use Rattle.lh_types.specs.ValueOf.{datum_of};
+ghost use Rattle.lh_scan.specs.LexemeOf.{unit_name_of};
+ghost use Rattle.lh_syntax.specs.SyntaxOf.{inst_of};
+ghost use Rattle.lh_syntax.specs.Insts.{constant_at, const_at, last_typed_at, last_local_at, var_at, ld_at, sig_at, prb_at, target_at, st_at, after_at, if_after_at, delay_at, drv_at, reg_at, operands_at, child_at, call_at, phi_at, branch_at, br_at, wait_at, halt_at, ret_at, form_at, worded_at, marked_at, inst_at};
+
+use crate::brackets::{bracket, tuple};
+use crate::operands::{OperandsAt, maybe, typed};
+use crate::operations::word_op;
+use crate::syntax::{InstSyntax, Operand};
+use crate::words::{Form, find_form};
+use lh_scan::list::{behind, list, parts};
+use lh_scan::numbers::integer;
+use lh_scan::times::time;
+use lh_scan::tokens::{Lex, NameText, Tokens};
+use lh_scan::types::ty;
+use lh_types::ty::{NoMemory, Ty, TyKind};
+use lh_types::val::Val;
+use std::alloc::Global;
+
+/// An instruction, where the tokens spell one.
+pub type InstAt<'a> = Result<Option<InstSyntax<'a>>, NoMemory>;
+
+/// The constant of this type that ends the line.
+fn constant(of: &Ty, tokens: &Tokens) -> Option<Val>
+    ensures { option_map datum_of result ≡ constant_at of.now tokens.now }
+{
+    match of.kind() {
+        TyKind::Int(width) => {
+            let bits = integer(width, tokens)?;
+            Some(Val::Int { width, bits })
+        }
+        TyKind::Time => Some(Val::Time(time(tokens)?)),
+        _ => None,
+    }
+}
+
+/// Behind `const`.
+#[tactic(auto, unfolding(crate::specs::Insts::const_at))]
+fn const_inst<'a>(alloc: Global, tokens: &Tokens<'a>) -> InstAt<'a>
+    ensures { IfOk result (λ r. option_map inst_of r ≡ const_at tokens.now) }
+{
+    let Some((of, rest)) = ty(alloc, tokens)? else {
+        return Ok(None);
+    };
+    let Some(value) = constant(&of, &rest) else {
+        return Ok(None);
+    };
+    Ok(Some(InstSyntax::Const(value)))
+}
+
+/// `T %a` at the end of the line.
+#[tactic(auto, unfolding(crate::specs::Insts::last_typed_at))]
+fn last_typed<'a>(alloc: Global, tokens: &Tokens<'a>) -> Result<Option<Operand<'a>>, NoMemory>
+    ensures { IfOk result (λ r. r ≡ last_typed_at tokens.now) }
+{
+    let Some((operand, rest)) = typed(alloc, tokens)? else {
+        return Ok(None);
+    };
+    if rest.end().is_none() {
+        return Ok(None);
+    }
+    Ok(Some(operand))
+}
+
+/// `%a` at the end of the line.
+#[tactic(auto, unfolding(crate::specs::Insts::last_local_at))]
+fn last_local<'a>(tokens: &Tokens<'a>) -> Option<NameText<'a>>
+    ensures { result ≡ last_local_at tokens.now }
+{
+    let (name, rest) = tokens.local()?;
+    rest.end()?;
+    Some(name)
+}
+
+/// Behind `var`.
+#[tactic(auto, unfolding(crate::specs::Insts::var_at))]
+fn var<'a>(alloc: Global, tokens: &Tokens<'a>) -> InstAt<'a>
+    ensures { IfOk result (λ r. option_map inst_of r ≡ var_at tokens.now) }
+{
+    let Some(operand) = last_typed(alloc, tokens)? else {
+        return Ok(None);
+    };
+    Ok(Some(InstSyntax::Var(operand)))
+}
+
+/// Behind `ld`.
+#[tactic(auto, unfolding(crate::specs::Insts::ld_at))]
+fn ld<'a>(alloc: Global, tokens: &Tokens<'a>) -> InstAt<'a>
+    ensures { IfOk result (λ r. option_map inst_of r ≡ ld_at tokens.now) }
+{
+    let Some(operand) = last_typed(alloc, tokens)? else {
+        return Ok(None);
+    };
+    Ok(Some(InstSyntax::Ld(operand)))
+}
+
+/// Behind `sig`.
+#[tactic(auto, unfolding(crate::specs::Insts::sig_at))]
+fn sig<'a>(alloc: Global, tokens: &Tokens<'a>) -> InstAt<'a>
+    ensures { IfOk result (λ r. option_map inst_of r ≡ sig_at tokens.now) }
+{
+    let Some(operand) = last_typed(alloc, tokens)? else {
+        return Ok(None);
+    };
+    Ok(Some(InstSyntax::Sig(operand)))
+}
+
+/// Behind `prb`.
+#[tactic(auto, unfolding(crate::specs::Insts::prb_at))]
+fn prb<'a>(alloc: Global, tokens: &Tokens<'a>) -> InstAt<'a>
+    ensures { IfOk result (λ r. option_map inst_of r ≡ prb_at tokens.now) }
+{
+    let Some(operand) = last_typed(alloc, tokens)? else {
+        return Ok(None);
+    };
+    Ok(Some(InstSyntax::Prb(operand)))
+}
+
+/// `T %a,`, and what follows it.
+#[tactic(auto, unfolding(crate::specs::Insts::target_at))]
+fn target<'a>(
+    alloc: Global,
+    tokens: &Tokens<'a>,
+) -> Result<Option<(Operand<'a>, Tokens<'a>)>, NoMemory>
+    ensures { IfOk result (λ r. r ≡ target_at tokens.now) }
+{
+    let Some((operand, rest)) = typed(alloc, tokens)? else {
+        return Ok(None);
+    };
+    let Some(rest) = rest.punct(b',') else {
+        return Ok(None);
+    };
+    Ok(Some((operand, rest)))
+}
+
+/// Behind `st`.
+#[tactic(auto, unfolding(crate::specs::Insts::st_at))]
+fn st<'a>(alloc: Global, tokens: &Tokens<'a>) -> InstAt<'a>
+    ensures { IfOk result (λ r. option_map inst_of r ≡ st_at tokens.now) }
+{
+    let Some((to, rest)) = target(alloc, tokens)? else {
+        return Ok(None);
+    };
+    let Some(value) = last_local(&rest) else {
+        return Ok(None);
+    };
+    Ok(Some(InstSyntax::St { to, value }))
+}
+
+/// `%d if %c`, where `if %c` may be absent.
+#[tactic(auto, unfolding(crate::specs::Insts::after_at))]
+fn after<'a>(tokens: &Tokens<'a>) -> Option<(NameText<'a>, Option<NameText<'a>>)>
+    ensures { result ≡ after_at tokens.now }
+{
+    let (after, rest) = tokens.local()?;
+    let (cond, rest) = maybe(b"if", &rest)?;
+    rest.end()?;
+    Some((after, cond))
+}
+
+/// `if %c after %d`
+#[tactic(auto, unfolding(crate::specs::Insts::if_after_at))]
+fn if_after<'a>(tokens: &Tokens<'a>) -> Option<(NameText<'a>, Option<NameText<'a>>)>
+    ensures { result ≡ if_after_at tokens.now }
+{
+    let (cond, rest) = tokens.word(b"if")?.local()?;
+    let rest = rest.word(b"after")?;
+    let after = last_local(&rest)?;
+    Some((after, Some(cond)))
+}
+
+/// The delay and the condition of a drive: `after %d if %c`, `, %d if %c` or `if %c after %d`.
+#[tactic(auto, unfolding(crate::specs::Insts::delay_at))]
+fn delay<'a>(tokens: &Tokens<'a>) -> Option<(NameText<'a>, Option<NameText<'a>>)>
+    ensures { result ≡ delay_at tokens.now }
+{
+    if let Some(rest) = tokens.word(b"after") {
+        return after(&rest);
+    }
+    if let Some(rest) = tokens.punct(b',') {
+        return after(&rest);
+    }
+    if_after(tokens)
+}
+
+/// Behind `drv`.
+#[tactic(auto, unfolding(crate::specs::Insts::drv_at))]
+fn drv<'a>(alloc: Global, tokens: &Tokens<'a>) -> InstAt<'a>
+    ensures { IfOk result (λ r. option_map inst_of r ≡ drv_at tokens.now) }
+{
+    let Some((to, rest)) = target(alloc, tokens)? else {
+        return Ok(None);
+    };
+    let Some((value, rest)) = rest.local() else {
+        return Ok(None);
+    };
+    let Some((after, cond)) = delay(&rest) else {
+        return Ok(None);
+    };
+    Ok(Some(InstSyntax::Drv {
+        to,
+        value,
+        after,
+        cond,
+    }))
+}
+
+/// Behind `reg`.
+#[tactic(auto, unfolding(crate::specs::Insts::reg_at))]
+fn reg<'a>(alloc: Global, tokens: &Tokens<'a>) -> InstAt<'a>
+    ensures { IfOk result (λ r. option_map inst_of r ≡ reg_at tokens.now) }
+{
+    let Some((to, rest)) = target(alloc, tokens)? else {
+        return Ok(None);
+    };
+    let Some((triggers, rest)) = parts(alloc, &rest)? else {
+        return Ok(None);
+    };
+    if rest.end().is_none() {
+        return Ok(None);
+    }
+    Ok(Some(InstSyntax::Reg { to, triggers }))
+}
+
+/// Operands in parentheses, and what follows them.
+#[tactic(auto, unfolding(crate::specs::Insts::operands_at))]
+fn operands<'a>(alloc: Global, tokens: &Tokens<'a>) -> Result<OperandsAt<'a>, NoMemory>
+    ensures { IfOk result (λ r. r ≡ operands_at tokens.now) }
+{
+    let Some(rest) = tokens.punct(b'(') else {
+        return Ok(None);
+    };
+    let Some((operands, rest)) = list(alloc, &rest, b')')? else {
+        return Ok(None);
+    };
+    let Some(rest) = rest.punct(b')') else {
+        return Ok(None);
+    };
+    Ok(Some((operands, rest)))
+}
+
+/// Behind `inst`.
+#[tactic(auto, unfolding(crate::specs::Insts::child_at))]
+fn child<'a>(alloc: Global, tokens: &Tokens<'a>) -> InstAt<'a>
+    ensures { IfOk result (λ r. option_map inst_of r ≡ child_at tokens.now) }
+{
+    let Some((unit, rest)) = tokens.unit_name() else {
+        return Ok(None);
+    };
+    let Some((inputs, rest)) = operands(alloc, &rest)? else {
+        return Ok(None);
+    };
+    let Some(rest) = rest.arrow() else {
+        return Ok(None);
+    };
+    let Some((outputs, rest)) = operands(alloc, &rest)? else {
+        return Ok(None);
+    };
+    if rest.end().is_none() {
+        return Ok(None);
+    }
+    Ok(Some(InstSyntax::Child {
+        unit,
+        inputs,
+        outputs,
+    }))
+}
+
+/// Behind `call`.
+#[tactic(auto, unfolding(crate::specs::Insts::call_at))]
+fn call<'a>(alloc: Global, tokens: &Tokens<'a>) -> InstAt<'a>
+    ensures { IfOk result (λ r. option_map inst_of r ≡ call_at tokens.now) }
+{
+    let Some((result, rest)) = ty(alloc, tokens)? else {
+        return Ok(None);
+    };
+    let Some((unit, rest)) = rest.unit_name() else {
+        return Ok(None);
+    };
+    let Some((args, rest)) = operands(alloc, &rest)? else {
+        return Ok(None);
+    };
+    if rest.end().is_none() {
+        return Ok(None);
+    }
+    Ok(Some(InstSyntax::Call { unit, result, args }))
+}
+
+/// Behind `phi`.
+#[tactic(auto, unfolding(crate::specs::Insts::phi_at))]
+fn phi<'a>(alloc: Global, tokens: &Tokens<'a>) -> InstAt<'a>
+    ensures { IfOk result (λ r. option_map inst_of r ≡ phi_at tokens.now) }
+{
+    let Some((ty, rest)) = ty(alloc, tokens)? else {
+        return Ok(None);
+    };
+    let Some((edges, rest)) = parts(alloc, &rest)? else {
+        return Ok(None);
+    };
+    if rest.end().is_none() {
+        return Ok(None);
+    }
+    Ok(Some(InstSyntax::Phi { ty, edges }))
+}
+
+/// `, %f, %t`, behind a condition.
+#[tactic(auto, unfolding(crate::specs::Insts::branch_at))]
+fn branch<'a>(cond: NameText<'a>, tokens: &Tokens<'a>) -> Option<InstSyntax<'a>>
+    ensures { option_map inst_of result ≡ branch_at cond.entry tokens.now }
+{
+    let (zero, rest) = tokens.punct(b',')?.local()?;
+    let rest = rest.punct(b',')?;
+    let one = last_local(&rest)?;
+    Some(InstSyntax::Branch { cond, zero, one })
+}
+
+/// Behind `br`.
+#[tactic(auto, unfolding(crate::specs::Insts::br_at))]
+fn br<'a>(tokens: &Tokens<'a>) -> Option<InstSyntax<'a>>
+    ensures { option_map inst_of result ≡ br_at tokens.now }
+{
+    let (name, rest) = tokens.local()?;
+    if rest.end().is_some() {
+        return Some(InstSyntax::Br(name));
+    }
+    branch(name, &rest)
+}
+
+/// Behind `wait`.
+#[tactic(auto, unfolding(crate::specs::Insts::wait_at))]
+fn wait<'a>(alloc: Global, tokens: &Tokens<'a>) -> InstAt<'a>
+    ensures { IfOk result (λ r. option_map inst_of r ≡ wait_at tokens.now) }
+{
+    let Some((to, rest)) = tokens.local() else {
+        return Ok(None);
+    };
+    let Some((after, rest)) = maybe(b"for", &rest) else {
+        return Ok(None);
+    };
+    let Some((signals, rest)) = behind(alloc, &rest)? else {
+        return Ok(None);
+    };
+    if rest.end().is_none() {
+        return Ok(None);
+    }
+    Ok(Some(InstSyntax::Wait { to, after, signals }))
+}
+
+/// Behind `halt`.
+#[tactic(auto, unfolding(crate::specs::Insts::halt_at))]
+fn halt<'a>(tokens: &Tokens) -> Option<InstSyntax<'a>>
+    ensures { option_map inst_of result ≡ halt_at tokens.now }
+{
+    tokens.end()?;
+    Some(InstSyntax::Halt)
+}
+
+/// Behind `ret`.
+#[tactic(auto, unfolding(crate::specs::Insts::ret_at))]
+fn ret<'a>(alloc: Global, tokens: &Tokens<'a>) -> InstAt<'a>
+    ensures { IfOk result (λ r. option_map inst_of r ≡ ret_at tokens.now) }
+{
+    if tokens.end().is_some() {
+        return Ok(Some(InstSyntax::Ret(None)));
+    }
+    let Some(value) = last_typed(alloc, tokens)? else {
+        return Ok(None);
+    };
+    Ok(Some(InstSyntax::Ret(Some(value))))
+}
+
+/// What a word begins, behind it.
+fn formed<'a>(alloc: Global, form: Form, tokens: &Tokens<'a>) -> InstAt<'a>
+    ensures { IfOk result (λ r. option_map inst_of r ≡ form_at form tokens.now) }
+{
+    match form {
+        Form::Const => const_inst(alloc, tokens),
+        Form::Op(op, columns) => word_op(alloc, op, columns, tokens),
+        Form::Var => var(alloc, tokens),
+        Form::Ld => ld(alloc, tokens),
+        Form::St => st(alloc, tokens),
+        Form::Sig => sig(alloc, tokens),
+        Form::Prb => prb(alloc, tokens),
+        Form::Drv => drv(alloc, tokens),
+        Form::Reg => reg(alloc, tokens),
+        Form::Child => child(alloc, tokens),
+        Form::Call => call(alloc, tokens),
+        Form::Phi => phi(alloc, tokens),
+        Form::Br => Ok(br(tokens)),
+        Form::Wait => wait(alloc, tokens),
+        Form::Halt => Ok(halt(tokens)),
+        Form::Ret => ret(alloc, tokens),
+    }
+}
+
+/// An instruction that begins with this word, behind it.
+#[tactic(auto, unfolding(crate::specs::Insts::worded_at))]
+pub fn worded<'a>(alloc: Global, word: &[u8], tokens: &Tokens<'a>) -> InstAt<'a>
+    ensures { IfOk result (λ r. option_map inst_of r ≡ worded_at word.now tokens.now) }
+{
+    let Some(form) = find_form(word) else {
+        return Ok(None);
+    };
+    formed(alloc, form, tokens)
+}
+
+/// An instruction that begins with this mark, behind it.
+#[tactic(auto, unfolding(crate::specs::Insts::marked_at))]
+fn marked<'a>(alloc: Global, mark: u8, tokens: &Tokens<'a>) -> InstAt<'a>
+    ensures { IfOk result (λ r. option_map inst_of r ≡ marked_at mark tokens.now) }
+{
+    if mark == b'[' {
+        return bracket(alloc, tokens);
+    }
+    if mark == b'{' {
+        return tuple(alloc, tokens);
+    }
+    Ok(None)
+}
+
+/// The instruction that the tokens spell.
+#[tactic(auto, unfolding(crate::specs::Insts::inst_at))]
+pub fn inst<'a>(alloc: Global, tokens: &Tokens<'a>) -> InstAt<'a>
+    ensures { IfOk result (λ r. option_map inst_of r ≡ inst_at tokens.now) }
+{
+    let Some((first, rest)) = tokens.first() else {
+        return Ok(None);
+    };
+    match first {
+        Lex::Word(word) => worded(alloc, word, &rest),
+        Lex::Punct(mark) => marked(alloc, mark, &rest),
+        _ => Ok(None),
+    }
+}

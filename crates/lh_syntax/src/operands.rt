@@ -1,0 +1,261 @@
+//! The operands in front of the tokens, and the other parts of which lists are made.
+ghost use Rattle.std.specs.Prelude.{◌≡◌, IfOk};
+ghost use Rattle.lh_syntax.specs.Operands.{typed_at, bare_at, free_at, one_at, next_bare_at, next_free_at, two_at, shift_at, columns_at, maybe_at, trigger_at, edge_at, param_at};
+
+use crate::syntax::{Edge, Operand, Param, Trigger};
+use crate::words::{Columns, find_mode};
+use lh_scan::list::Part;
+use lh_scan::tokens::{NameText, Tokens};
+use lh_scan::types::ty;
+use lh_types::list::ListOf;
+use lh_types::ty::NoMemory;
+use std::alloc::Global;
+
+/// Operands, and what follows them.
+pub type OperandsAt<'a> = Option<(ListOf<Operand<'a>>, Tokens<'a>)>;
+
+/// `T %a`, and what follows it.
+#[tactic(auto, unfolding(crate::specs::Operands::typed_at))]
+pub fn typed<'a>(
+    alloc: Global,
+    tokens: &Tokens<'a>,
+) -> Result<Option<(Operand<'a>, Tokens<'a>)>, NoMemory>
+    ensures { IfOk result (λ r. r ≡ typed_at tokens.now) }
+{
+    let Some((ty, rest)) = ty(alloc, tokens)? else {
+        return Ok(None);
+    };
+    let Some((value, rest)) = rest.local() else {
+        return Ok(None);
+    };
+    let ty = Some(ty);
+    Ok(Some((Operand { value, ty }, rest)))
+}
+
+/// `%a`, and what follows it.
+#[tactic(auto, unfolding(crate::specs::Operands::bare_at))]
+pub fn bare<'a>(tokens: &Tokens<'a>) -> Option<(Operand<'a>, Tokens<'a>)>
+    ensures { result ≡ bare_at tokens.now }
+{
+    let (value, rest) = tokens.local()?;
+    Some((Operand { value, ty: None }, rest))
+}
+
+/// `?T %a`, and what follows it.
+#[tactic(auto, unfolding(crate::specs::Operands::free_at))]
+pub fn free<'a>(
+    alloc: Global,
+    tokens: &Tokens<'a>,
+) -> Result<Option<(Operand<'a>, Tokens<'a>)>, NoMemory>
+    ensures { IfOk result (λ r. r ≡ free_at tokens.now) }
+{
+    if let Some(operand) = bare(tokens) {
+        return Ok(Some(operand));
+    }
+    typed(alloc, tokens)
+}
+
+impl<'a> Part<'a> for Operand<'a> {
+    ghost use Rattle.lh_syntax.specs.Operands.{free_at};
+    ghost use Rattle.lh_syntax.specs.Shorter.{free_at-shorter};
+
+    ghost part_at = { free_at };
+
+    fn part(
+        alloc: Global,
+        tokens: &Tokens<'a>,
+    ) -> Result<Option<(Operand<'a>, Tokens<'a>)>, NoMemory> {
+        free(alloc, tokens)
+    }
+
+    ghost shorter = { free_at-shorter };
+}
+
+/// `D %a`, and what follows it.
+#[tactic(auto, unfolding(crate::specs::Operands::one_at))]
+fn one<'a>(alloc: Global, tokens: &Tokens<'a>) -> Result<OperandsAt<'a>, NoMemory>
+    ensures { IfOk result (λ r. r ≡ one_at tokens.now) }
+{
+    let Some((a, rest)) = typed(alloc, tokens)? else {
+        return Ok(None);
+    };
+    let mut operands = ListOf::new(alloc);
+    operands.push(a)?;
+    Ok(Some((operands, rest)))
+}
+
+/// `, %a`, and what follows it.
+fn next_bare<'a>(tokens: &Tokens<'a>) -> Option<(Operand<'a>, Tokens<'a>)>
+    ensures { result ≡ next_bare_at tokens.now }
+{
+    let rest = tokens.punct(b',')?;
+    bare(&rest)
+}
+
+/// `D %a, %b`, and what follows it.
+#[tactic(auto, unfolding(crate::specs::Operands::two_at))]
+fn two<'a>(alloc: Global, tokens: &Tokens<'a>) -> Result<OperandsAt<'a>, NoMemory>
+    ensures { IfOk result (λ r. r ≡ two_at tokens.now) }
+{
+    let Some((a, rest)) = typed(alloc, tokens)? else {
+        return Ok(None);
+    };
+    let Some((b, rest)) = next_bare(&rest) else {
+        return Ok(None);
+    };
+    let mut operands = ListOf::new(alloc);
+    operands.push(a)?;
+    operands.push(b)?;
+    Ok(Some((operands, rest)))
+}
+
+/// `, ?%a`, and what follows it.
+fn next_free<'a>(
+    alloc: Global,
+    tokens: &Tokens<'a>,
+) -> Result<Option<(Operand<'a>, Tokens<'a>)>, NoMemory>
+    ensures { IfOk result (λ r. r ≡ next_free_at tokens.now) }
+{
+    let Some(rest) = tokens.punct(b',') else {
+        return Ok(None);
+    };
+    free(alloc, &rest)
+}
+
+/// `D %b, ?%h, ?%n`, and what follows it.
+#[tactic(auto, unfolding(crate::specs::Operands::shift_at))]
+fn shift<'a>(alloc: Global, tokens: &Tokens<'a>) -> Result<OperandsAt<'a>, NoMemory>
+    ensures { IfOk result (λ r. r ≡ shift_at tokens.now) }
+{
+    let Some((base, rest)) = typed(alloc, tokens)? else {
+        return Ok(None);
+    };
+    let Some((hidden, rest)) = next_free(alloc, &rest)? else {
+        return Ok(None);
+    };
+    let Some((amount, rest)) = next_free(alloc, &rest)? else {
+        return Ok(None);
+    };
+    let mut operands = ListOf::new(alloc);
+    operands.push(base)?;
+    operands.push(hidden)?;
+    operands.push(amount)?;
+    Ok(Some((operands, rest)))
+}
+
+/// The operands of an operation, and what follows them.
+pub fn columns<'a>(
+    alloc: Global,
+    columns: Columns,
+    tokens: &Tokens<'a>,
+) -> Result<OperandsAt<'a>, NoMemory>
+    ensures { IfOk result (λ r. r ≡ columns_at columns tokens.now) }
+{
+    match columns {
+        Columns::One => one(alloc, tokens),
+        Columns::Two => two(alloc, tokens),
+        Columns::Shift => shift(alloc, tokens),
+    }
+}
+
+/// A word and `%a`, or nothing; and what follows.
+#[tactic(auto, unfolding(crate::specs::Operands::maybe_at))]
+pub fn maybe<'a>(keyword: &[u8], tokens: &Tokens<'a>) -> Option<(Option<NameText<'a>>, Tokens<'a>)>
+    ensures { result ≡ maybe_at keyword.now tokens.now }
+{
+    match tokens.word(keyword) {
+        None => Some((None, tokens.copy())),
+        Some(rest) => {
+            let (name, rest) = rest.local()?;
+            Some((Some(name), rest))
+        }
+    }
+}
+
+/// `[%v, mode %t if %g after %d]`, and what follows it.
+#[tactic(auto, unfolding(crate::specs::Operands::trigger_at))]
+fn trigger<'a>(tokens: &Tokens<'a>) -> Option<(Trigger<'a>, Tokens<'a>)>
+    ensures { result ≡ trigger_at tokens.now }
+{
+    let (value, rest) = tokens.punct(b'[')?.local()?;
+    let (word, rest) = rest.punct(b',')?.any_word()?;
+    let mode = find_mode(word)?;
+    let (trigger, rest) = rest.local()?;
+    let (gate, rest) = maybe(b"if", &rest)?;
+    let (after, rest) = maybe(b"after", &rest)?;
+    let rest = rest.punct(b']')?;
+    let trigger = Trigger {
+        value,
+        mode,
+        trigger,
+        gate,
+        after,
+    };
+    Some((trigger, rest))
+}
+
+impl<'a> Part<'a> for Trigger<'a> {
+    ghost use Rattle.lh_syntax.specs.Operands.{trigger_at};
+    ghost use Rattle.lh_syntax.specs.Shorter.{trigger_at-shorter};
+
+    ghost part_at = { trigger_at };
+
+    fn part(
+        alloc: Global,
+        tokens: &Tokens<'a>,
+    ) -> Result<Option<(Trigger<'a>, Tokens<'a>)>, NoMemory> {
+        Ok(trigger(tokens))
+    }
+
+    ghost shorter = { trigger_at-shorter };
+}
+
+/// `[%v, %b]`, and what follows it.
+#[tactic(auto, unfolding(crate::specs::Operands::edge_at))]
+fn edge<'a>(tokens: &Tokens<'a>) -> Option<(Edge<'a>, Tokens<'a>)>
+    ensures { result ≡ edge_at tokens.now }
+{
+    let (value, rest) = tokens.punct(b'[')?.local()?;
+    let (block, rest) = rest.punct(b',')?.local()?;
+    let rest = rest.punct(b']')?;
+    Some((Edge { value, block }, rest))
+}
+
+impl<'a> Part<'a> for Edge<'a> {
+    ghost use Rattle.lh_syntax.specs.Operands.{edge_at};
+    ghost use Rattle.lh_syntax.specs.Shorter.{edge_at-shorter};
+
+    ghost part_at = { edge_at };
+
+    fn part(
+        alloc: Global,
+        tokens: &Tokens<'a>,
+    ) -> Result<Option<(Edge<'a>, Tokens<'a>)>, NoMemory> {
+        Ok(edge(tokens))
+    }
+
+    ghost shorter = { edge_at-shorter };
+}
+
+impl<'a> Part<'a> for Param<'a> {
+    ghost use Rattle.lh_syntax.specs.Operands.{param_at};
+    ghost use Rattle.lh_syntax.specs.Shorter.{param_at-shorter};
+
+    ghost part_at = { param_at };
+
+    #[tactic(auto, unfolding(crate::specs::Operands::param_at))]
+    fn part(
+        alloc: Global,
+        tokens: &Tokens<'a>,
+    ) -> Result<Option<(Param<'a>, Tokens<'a>)>, NoMemory> {
+        let Some((ty, rest)) = ty(alloc, tokens)? else {
+            return Ok(None);
+        };
+        let Some((name, rest)) = rest.local() else {
+            return Ok(None);
+        };
+        Ok(Some((Param { ty, name }, rest)))
+    }
+
+    ghost shorter = { param_at-shorter };
+}
