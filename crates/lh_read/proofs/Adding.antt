@@ -1,93 +1,145 @@
--- One more instruction in the open unit.
-use Rattle.std.proofs.Common.{◌≡◌, ℕ, ◌+◌, ◌<◌, ◌≤◌, Bool, true, false, List, [], ◌∷◌, ◌++◌, length, Option, Some, None, Result, Ok, Err, IsSomeAnd, IsErrAnd, is_some, refl, ap, sym, ◌∙◌, subst, arith}
-use Rattle.std.specs.Option.{ForSome}
-use Rattle.lh_unit.specs.Contents.{UnitText, BlockText, LineText, ItemText, InstText, last_unit, change_last, with_line, line_at_end, line_count}
+-- One more instruction or block in the open unit, and its end.
+use Rattle.std.proofs.Common.{◌≡◌, ℕ, ◌+◌, ◌<◌, Bool, true, false, List, [], ◌∷◌, ◌++◌, Option, Some, None, Result, Ok, Err, IsErrAnd, nat_eq, refl, ap, sym, ◌∙◌, subst, arith}
+use Rattle.std.proofs.lemmas.Grind.{common_steps}
+use Rattle.lh_unit.specs.Contents.{UnitText, LineText, InstText, last_unit, change_last, with_block, with_line, line_count, defines_label}
 use Rattle.lh_unit.specs.Naming.{maybe_text}
-use Rattle.lh_unit.specs.Within.{MaybeWithin}
-use Rattle.lh_unit.specs.Arena.{Arena, Grows, OfOpen, IsOpen, contents, naming, sizes, unit_count}
-use Rattle.lh_unit.specs.Builders.{line_text_at, AddsLine, HasRoom, HasTwice, Says}
-use Rattle.lh_unit.specs.Spells.{inst_item}
-use Rattle.lh_unit.specs.Reads.{State, BadKind}
+use Rattle.lh_unit.specs.Arena.{Arena, Grows, OfOpen, contents, naming, label_name_at}
+use Rattle.lh_unit.specs.Builders.{defines_result, line_text_at, HasRoom, Says, AddsLine, AddsBlock}
+use Rattle.lh_unit.specs.Spells.{label_item, inst_item, close_item}
+use Rattle.lh_unit.specs.Reads.{State, place_of, may_stand, is_full, value_again, label_again, BadKind, syntax, unit_too_large, duplicate_name}
 use Rattle.lh_unit.specs.declared.inst.UnitId.{UnitId}
+use Rattle.lh_unit.specs.declared.inst.BlockId.{BlockId}
 use Rattle.lh_unit.specs.declared.inst.ValueId.{ValueId}
 use Rattle.lh_unit.specs.declared.inst.Inst.{Inst}
 use Rattle.lh_unit.specs.declared.inst.UnitFault.{UnitFault}
 use Rattle.lh_unit.specs.declared.inst.UnitFault.TheVariants as fault
-use Rattle.lh_read.specs.declared.build.LineFault.{LineFault}
-use Rattle.lh_read.specs.declared.build.Reader.{Reader}
-use Rattle.lh_read.specs.Steps.{step}
+use Rattle.lh_unit.proofs.ModuleLaws.{Grows-trans, maybe_text-keeps}
+use Rattle.lh_read.specs.declared.faults.LineFault.{LineFault}
+use Rattle.lh_read.specs.declared.places.Place.{Place}
+use Rattle.lh_read.specs.declared.places.Place.TheVariants.{Outside, InEmptyBlock}
+use Rattle.lh_read.specs.declared.reader.Reader.{Reader}
 use Rattle.lh_read.specs.FaultOf.{fault_of}
-use Rattle.lh_read.specs.Building.{IsEntity, InUnit, IsInOrder, ResultPlaced, InstPlacedAs, Steps, state_of}
-use Rattle.lh_read.proofs.LastUnit.{last_unit-is, last_unit-has, last_unit-change}
-use Rattle.lh_read.proofs.Stepping.{opened, inst-taken, inst-large, inst-again}
-use Rattle.lh_read.proofs.Readers.{state-open, open_entity}
+use Rattle.lh_read.specs.Places.{block_unit, label_unit, may_close, behind_inst}
+use Rattle.lh_read.specs.Placing.{MaybePlaced, LabelPlaced, InstPlacedAs}
+use Rattle.lh_read.specs.InOrder.{state_at, state_of, InPlace, IsInOrder}
+use Rattle.lh_read.specs.Steps.{step}
+use Rattle.lh_read.specs.Building.{Steps}
+use Rattle.lh_read.proofs.LastUnit.{last_unit-is}
+use Rattle.lh_read.proofs.Stepping.{step-ok, step-misplaced, step-large, step-again}
+use Rattle.lh_read.proofs.PlaceLaws.{place-is, place-grows, state-grows, inst-stands, inst-misplaced, inside-line, behind-line, label-stands, label-misplaced, behind-block, close-stands}
 
--- a result keeps its name
-pub result-grows : (old new : Arena) (u : UnitId) (r : Option ValueId) → Grows old new → MaybeWithin (sizes old u.0) r → maybe_text (naming new u.0) r ≡ maybe_text (naming old u.0) r
-result-grows old new u None g w = refl
-result-grows old new u (Some v) g w = ap Some (g.entries.value_names u.0 v.0 w)
+again-result : (r : Option (List ℕ)) (t : UnitText) → value_again r (Some t) ≡ defines_result r t
+again-result None t = refl
+again-result (Some n) t = refl
 
--- what the module is asked to add to the open unit of the reader
+not_full : (n : ℕ) → n < 65536 → nat_eq n 65536 ≡ false
+not_full n h = grind (arith, common_steps)
+
+full : (n : ℕ) → n ≡ 65536 → nat_eq n 65536 ≡ true
+full n h = grind (arith, common_steps)
+
+-- an instruction in this place, of the unit u
+module _ (a : Arena) (p : Place) (u : UnitId) (l : LineText) (w : InPlace a p) (e : block_unit p ≡ Some u) where
+  stands : may_stand (place_of (state_at a p)) (inst_item l) ≡ true
+  stands = ap (λ q. may_stand q (inst_item l)) (place-is a p w) ∙ inst-stands p l u e
+
+  room : (t : UnitText) → last_unit (contents a) ≡ Some t → line_count t.blocks < 65536 → is_full (last_unit (contents a)) ≡ false
+  room t f h = ap is_full f ∙ not_full (line_count t.blocks) h
+
+  line-taken : (b : Arena) → OfOpen a (HasRoom l) → Says a b u (change_last (with_line l) (contents a)) → step (state_at a p) (inst_item l) ≡ Ok (state_at b (behind_inst p))
+  line-taken b h s =
+      let t = last_unit-is (last_unit (contents a)) h in
+      step-ok (state_at a p) (inst_item l) stands (room t.0 t.1 t.2.small) (ap (value_again l.result) t.1 ∙ again-result l.result t.0 ∙ t.2.undefined)
+      ∙ (λ i. Ok (record { items = sym s.says i; inside = sym (inside-line p u e) i }))
+
+  line-refused : (f : UnitFault) (b : Arena) (s : State) → AddsLine (Err f) a b u l → Steps (Err (fault_of f)) (step (state_at a p) (inst_item l)) s
+  line-refused fault.UnitTooLarge b s h =
+      let t = last_unit-is (last_unit (contents a)) h.0 in
+      step-large (state_at a p) (inst_item l) stands (ap is_full t.1 ∙ full (line_count t.0.blocks) t.2)
+  line-refused fault.DuplicateName b s h =
+      let t = last_unit-is (last_unit (contents a)) h.0 in
+      step-again (state_at a p) (inst_item l) stands (room t.0 t.1 t.2.small) (ap (value_again l.result) t.1 ∙ again-result l.result t.0 ∙ t.2.twice)
+  line-refused fault.OutOfMemory b s h = tt
+
+-- what the module is asked to add to the open unit of a reader
 pub record Asks (r : Reader) (u : UnitId) (now : Arena) (l said : LineText) : Type 0 where
-  pub order : IsInOrder r
-  pub is_open : r.open ≡ Some u
-  pub stays : contents now ≡ contents r.module
+  pub placed : InPlace now r.place
+  pub unit : block_unit r.place ≡ Some u
+  pub grows : Grows r.module now
   pub line : l ≡ said
 
-asked : (r : Reader) (u : UnitId) (now : Arena) (l said : LineText) → Asks r u now l said → (t : UnitText) × (last_unit (contents now) ≡ Some t) × IsEntity t
-asked r u now l said a = let t = open_entity r u a.order a.is_open in (t.0, ap last_unit a.stays ∙ t.1, t.2)
-
-state : (r : Reader) (u : UnitId) (now : Arena) (l said : LineText) → Asks r u now l said → state_of r ≡ opened (contents now)
-state r u now l said a = state-open r u a.is_open ∙ ap opened (sym a.stays)
-
-same_last : (xs : List ItemText) (t v : UnitText) → last_unit xs ≡ Some t → last_unit xs ≡ Some v → v ≡ t
-same_last xs t v p q = cc
-
-pub line-taken : (r : Reader) (u : UnitId) (now new : Arena) (l said : LineText) → Asks r u now l said → OfOpen now (HasRoom l) → contents new ≡ change_last (with_line l) (contents now)
-    → step (state_of r) (inst_item said) ≡ Ok (opened (contents new))
-line-taken r u now new l said a h s =
-    let t = asked r u now l said a in let v = last_unit-is (last_unit (contents now)) h in
-    let e = same_last (contents now) t.0 v.0 t.1 v.1 in
-    let k : v.0.kind ≡ _ = ap (λ x. x.kind) e ∙ t.2.entity in
-    ap (λ x. step x (inst_item said)) (state r u now l said a) ∙ ap (λ x. step (opened (contents now)) (inst_item x)) (sym a.line)
-    ∙ inst-taken (contents now) v.0 l v.1 k v.2.small v.2.undefined ∙ ap (λ x. Ok (opened x)) (sym s)
-
-pub line-refused : (r : Reader) (u : UnitId) (now new : Arena) (l said : LineText) (f : UnitFault) (s : State) → Asks r u now l said → AddsLine (Err f) now new u l → Steps (Err (fault_of f)) (step (state_of r) (inst_item said)) s
-line-refused r u now new l said fault.UnitTooLarge s a w =
-    let v = last_unit-is (last_unit (contents now)) w.0 in
-    ap (λ x. step x (inst_item said)) (state r u now l said a) ∙ ap (λ x. step (opened (contents now)) (inst_item x)) (sym a.line) ∙ inst-large (contents now) v.0 l v.1 v.2
-line-refused r u now new l said fault.DuplicateName s a w =
-    let v = last_unit-is (last_unit (contents now)) w.0 in
-    ap (λ x. step x (inst_item said)) (state r u now l said a) ∙ ap (λ x. step (opened (contents now)) (inst_item x)) (sym a.line) ∙ inst-again (contents now) v.0 l v.1 v.2.twice
-line-refused r u now new l said fault.OutOfMemory s a w = tt
-
-more_blocks : (l : LineText) (bs : List BlockText) → 0 < length bs → 0 < length (line_at_end l bs)
-more_blocks l [] h = h
-more_blocks l (b ∷ []) h = h
-more_blocks l (b ∷ c ∷ bs) h = omega arith
-
-pub line-in_unit : (r : Reader) (u : UnitId) (now new : Arena) (l said : LineText) → Asks r u now l said → u.0 < unit_count now → Says now new u (change_last (with_line l) (contents now)) → InUnit new u
-line-in_unit r u now new l said a w s =
-    let t = asked r u now l said a in
-    record {
-      within = omega (arith, w, s.entries.units);
-      opened = s.is_open;
-      entity = last_unit-has IsEntity (last_unit (contents new)) (with_line l t.0) (ap last_unit s.says ∙ last_unit-change (with_line l) (contents now) t.0 t.1)
-          (record { entity = t.2.entity; block = more_blocks l t.0.blocks t.2.block });
-    }
-
--- the line that the module is asked to add says what was read
-pub line-asked : (r : Reader) (u : UnitId) (mid now : Arena) (v : Option ValueId) (i : Inst) (name : Option (List ℕ)) (said : InstText) → IsInOrder r → r.open ≡ Some u
-    → ResultPlaced r.module mid u v name → InstPlacedAs mid now u i said → Asks r u now (line_text_at now u.0 v i) (record { result = name; inst = said })
+pub line-asked : (r : Reader) (u : UnitId) (mid now : Arena) (v : Option ValueId) (i : Inst) (name : Option (List ℕ)) (said : InstText) → IsInOrder r → block_unit r.place ≡ Some u
+    → MaybePlaced r.module mid u v name → InstPlacedAs mid now u i said → Asks r u now (line_text_at now u.0 v i) (record { result = name; inst = said })
 line-asked r u mid now v i name said o e p q =
-    let n = result-grows mid now u v q.grows p.within ∙ p.says in
-    record { order = o; is_open = e; stays = q.grows.says ∙ p.grows.says; line = λ j. record { result = n j; inst = q.says j } }
+    let g = Grows-trans r.module mid now p.grows q.grows in
+    let n : maybe_text (naming now u.0) v ≡ name = maybe_text-keeps mid now u.0 q.grows.entries v p.within ∙ p.says in
+    record { placed = place-grows r.module now r.place g o; unit = e; grows = g; line = λ j. record { result = n j; inst = q.says j } }
 
-pub grown : (r : Reader) (u : UnitId) (mid now : Arena) (v : Option ValueId) (i : Inst) (name : Option (List ℕ)) (said : InstText) → IsInOrder r → r.open ≡ Some u
-    → ResultPlaced r.module mid u v name → InstPlacedAs mid now u i said → u.0 < unit_count now
-grown r u mid now v i name said o e p q = omega (arith, (o u e).within, p.grows.entries.units, q.grows.entries.units)
+asked : (r : Reader) (u : UnitId) (now : Arena) (l said : LineText) → Asks r u now l said → step (state_of r) (inst_item said) ≡ step (state_at now r.place) (inst_item l)
+asked r u now l said a = ap (λ s. step s (inst_item said)) (state-grows r.module now r.place a.grows) ∙ ap (λ x. step (state_at now r.place) (inst_item x)) (sym a.line)
+
+pub inst-taken : (r : Reader) (u : UnitId) (now new : Arena) (l said : LineText) → Asks r u now l said → OfOpen now (HasRoom l) → Says now new u (change_last (with_line l) (contents now))
+    → step (state_of r) (inst_item said) ≡ Ok (state_at new (behind_inst r.place))
+inst-taken r u now new l said a h s = asked r u now l said a ∙ line-taken now r.place u l a.placed a.unit new h s
+
+pub inst-placed : (r : Reader) (u : UnitId) (now new : Arena) (l said : LineText) → Asks r u now l said → Says now new u (change_last (with_line l) (contents now)) → InPlace new (behind_inst r.place)
+inst-placed r u now new l said a s = behind-line now new r.place u l a.placed a.unit s
 
 -- a fault that is passed on
-pub steps-err : (r : Result (Unit {0}) LineFault) (f : LineFault) (o : Result State BadKind) (s : State) → IsErrAnd r (λ e. e ≡ f) → Steps (Err f) o s → Steps r o s
-steps-err (Ok x) f o s h w = absurd h
-steps-err (Err e) f o s h w = subst (λ x. Steps (Err x) o s) (sym h) w
+pub steps-err : (o : Result (Unit {0}) LineFault) (f : LineFault) (x : Result State BadKind) (s : State) → IsErrAnd o (λ e. e ≡ f) → Steps (Err f) x s → Steps o x s
+steps-err (Ok _) f x s h w = absurd h
+steps-err (Err e) f x s h w = subst (λ y. Steps (Err y) x s) (sym h) w
+
+pub inst-refused : (o : Result (Unit {0}) LineFault) (r : Reader) (u : UnitId) (now new : Arena) (l said : LineText) (f : UnitFault) (s : State) → Asks r u now l said → AddsLine (Err f) now new u l → IsErrAnd o (λ e. e ≡ fault_of f)
+    → Steps o (step (state_of r) (inst_item said)) s
+inst-refused o r u now new l said f s a h w =
+    steps-err o (fault_of f) (step (state_of r) (inst_item said)) s w
+    (subst (λ x. Steps (Err (fault_of f)) x s) (sym (asked r u now l said a)) (line-refused now r.place u l a.placed a.unit f new s h))
+
+pub inst-outside : (r : Reader) (l : LineText) → IsInOrder r → block_unit r.place ≡ None → step (state_of r) (inst_item l) ≡ Err syntax
+inst-outside r l o e = step-misplaced (state_of r) (inst_item l) (ap (λ q. may_stand q (inst_item l)) (place-is r.module r.place o) ∙ inst-misplaced r.place l e)
+
+-- a label in this place, of the unit u
+module _ (a : Arena) (p : Place) (u : UnitId) (n : List ℕ) (w : InPlace a p) (e : label_unit p ≡ Some u) where
+  label_stands : may_stand (place_of (state_at a p)) (label_item n) ≡ true
+  label_stands = ap (λ q. may_stand q (label_item n)) (place-is a p w) ∙ label-stands p n u e
+
+  block-taken : (b : Arena) → OfOpen a (λ t. defines_label n t ≡ false) → Says a b u (change_last (with_block n) (contents a)) → step (state_at a p) (label_item n) ≡ Ok (state_at b (InEmptyBlock u))
+  block-taken b h s =
+      let t = last_unit-is (last_unit (contents a)) h in
+      step-ok (state_at a p) (label_item n) label_stands refl (ap (label_again n) t.1 ∙ t.2) ∙ (λ i. Ok (record { items = sym s.says i; inside = true }))
+
+  block-refused : (f : UnitFault) (b : Arena) (s : State) → AddsBlock (Err f) a b u n → Steps (Err (fault_of f)) (step (state_at a p) (label_item n)) s
+  block-refused fault.UnitTooLarge b s h = absurd h
+  block-refused fault.DuplicateName b s h =
+      let t = last_unit-is (last_unit (contents a)) h.0 in
+      step-again (state_at a p) (label_item n) label_stands refl (ap (label_again n) t.1 ∙ t.2)
+  block-refused fault.OutOfMemory b s h = tt
+
+-- a label that was given an id
+label-same : (r : Reader) (u : UnitId) (now : Arena) (b : BlockId) (n : List ℕ) → LabelPlaced r.module now u b n → step (state_of r) (label_item n) ≡ step (state_at now r.place) (label_item (label_name_at now u.0 b.0))
+label-same r u now b n q = ap (λ s. step s (label_item n)) (state-grows r.module now r.place q.grows) ∙ ap (λ x. step (state_at now r.place) (label_item x)) (sym q.says)
+
+pub label-taken : (r : Reader) (u : UnitId) (now new : Arena) (b : BlockId) (n : List ℕ) → IsInOrder r → label_unit r.place ≡ Some u → LabelPlaced r.module now u b n → AddsBlock (Ok tt) now new u (label_name_at now u.0 b.0)
+    → step (state_of r) (label_item n) ≡ Ok (state_at new (InEmptyBlock u))
+label-taken r u now new b n o e q h = label-same r u now b n q ∙ block-taken now r.place u (label_name_at now u.0 b.0) (place-grows r.module now r.place q.grows o) e new h.0 h.1
+
+pub label-placed : (r : Reader) (u : UnitId) (now new : Arena) (b : BlockId) (n : List ℕ) → IsInOrder r → label_unit r.place ≡ Some u → LabelPlaced r.module now u b n → AddsBlock (Ok tt) now new u (label_name_at now u.0 b.0)
+    → InPlace new (InEmptyBlock u)
+label-placed r u now new b n o e q h = behind-block now new r.place u (label_name_at now u.0 b.0) (place-grows r.module now r.place q.grows o) e h.1
+
+pub label-refused : (x : Result (Unit {0}) LineFault) (r : Reader) (u : UnitId) (now new : Arena) (b : BlockId) (n : List ℕ) (f : UnitFault) (s : State) → IsInOrder r → label_unit r.place ≡ Some u → LabelPlaced r.module now u b n
+    → AddsBlock (Err f) now new u (label_name_at now u.0 b.0) → IsErrAnd x (λ y. y ≡ fault_of f) → Steps x (step (state_of r) (label_item n)) s
+label-refused x r u now new b n f s o e q h w =
+    steps-err x (fault_of f) (step (state_of r) (label_item n)) s w
+    (subst (λ y. Steps (Err (fault_of f)) y s) (sym (label-same r u now b n q)) (block-refused now r.place u (label_name_at now u.0 b.0) (place-grows r.module now r.place q.grows o) e f new s h))
+
+pub label-outside : (r : Reader) (n : List ℕ) → IsInOrder r → label_unit r.place ≡ None → step (state_of r) (label_item n) ≡ Err syntax
+label-outside r n o e = step-misplaced (state_of r) (label_item n) (ap (λ q. may_stand q (label_item n)) (place-is r.module r.place o) ∙ label-misplaced r.place n e)
+
+-- the end of a unit
+pub close-misplaced : (r : Reader) → IsInOrder r → may_close r.place ≡ false → step (state_of r) close_item ≡ Err syntax
+close-misplaced r o e = step-misplaced (state_of r) close_item (ap (λ q. may_stand q close_item) (place-is r.module r.place o) ∙ close-stands r.place ∙ e)
+
+pub close-taken : (r : Reader) → IsInOrder r → may_close r.place ≡ true → step (state_of r) close_item ≡ Ok (state_at r.module Outside)
+close-taken r o e = step-ok (state_of r) close_item (ap (λ q. may_stand q close_item) (place-is r.module r.place o) ∙ close-stands r.place ∙ e) refl refl

@@ -4,21 +4,22 @@ use Rattle.std.specs.Prelude.{⊤}
 use Rattle.std.proofs.Math.Seq.{take-suc}
 use Rattle.std.proofs.lemmas.List.{map-append, take-append-drop}
 use Rattle.lh_types.specs.Types.{TypeTree}
-use Rattle.lh_unit.specs.Contents.{ArgText, UnitText, ItemText, unit_text, new_unit, last_unit, change_last, with_arg, defines_value}
+use Rattle.lh_unit.specs.Contents.{ArgText, UnitText, ItemText, unit_text, new_unit, last_unit, change_last, with_arg, with_result, defines_value, blocks_define}
 use Rattle.lh_unit.specs.Spells.{TypedName}
-use Rattle.lh_unit.specs.Arena.{Arena, OfOpen, IsOpen, contents, unit_count}
-use Rattle.lh_unit.specs.Builders.{Finds, Says, AddsArg}
+use Rattle.lh_unit.specs.Arena.{Arena, Grows, OfOpen, IsOpen, contents, unit_count}
+use Rattle.lh_unit.specs.Builders.{Says, AddsArg, SetsResult}
+use Rattle.lh_unit.specs.Reads.{headed_unit, args_repeat}
 use Rattle.lh_unit.specs.declared.inst.UnitId.{UnitId}
 use Rattle.lh_unit.specs.declared.name.UnitName.{UnitName}
 use Rattle.lh_unit.specs.declared.inst.UnitKind.{UnitKind}
+use Rattle.lh_unit.specs.declared.inst.UnitKind.TheVariants as kind
 use Rattle.lh_unit.specs.declared.inst.UnitFault.{UnitFault}
 use Rattle.lh_unit.specs.declared.inst.UnitFault.TheVariants as fault
-use Rattle.lh_read.specs.declared.build.LineFault.{LineFault}
-use Rattle.lh_read.specs.declared.build.LineFault.TheVariants as line
-use Rattle.lh_read.specs.SyntaxOf.{arg_of}
+use Rattle.lh_read.specs.declared.faults.LineFault.{LineFault}
+use Rattle.lh_read.specs.declared.faults.LineFault.TheVariants as line
 use Rattle.lh_read.specs.FaultOf.{fault_of}
-use Rattle.lh_read.specs.Building.{Begins, AddsArgs, Heads, with_args, args_again}
-use Rattle.lh_read.proofs.LastUnit.{last_unit-push, change_last-push, last_unit-is, last_unit-has, last_unit-change, change_last-twice, change_last-none, with_args-none, with_args-push, with_args-both, args_again-push, args_again-both}
+use Rattle.lh_read.specs.Building.{arg_of, Begins, AddsArgs, Heads, with_args, args_again}
+use Rattle.lh_read.proofs.LastUnit.{last_unit-push, change_last-push, last_unit-is, last_unit-has, last_unit-change, change_last-twice, change_last-none, with_args-none, with_args-push, with_args-both, args_again-push, args_again-both, args_again-repeat}
 
 -- the arguments so far are added
 pub record At (old now : Arena) (u : UnitId) (done : List ArgText) : Type 0 where
@@ -45,11 +46,11 @@ next_unit old now u done P a h =
     (t.0, t.1, subst (λ o. IsSomeAnd o P) e h, t.2)
 
 -- nothing but entries is new in mid
-pub At-grown : (old now mid : Arena) (u : UnitId) (done : List ArgText) → At old now u done → Finds now mid → At old mid u done
+pub At-grown : (old now mid : Arena) (u : UnitId) (done : List ArgText) → At old now u done → Grows now mid → At old mid u done
 At-grown old now mid u done a f = record {
-  within = omega (arith, a.within, f.grows.entries.units);
-  is_open = f.grows.open_stays u a.is_open;
-  says = f.grows.says ∙ a.says;
+  within = omega (arith, a.within, f.entries.units);
+  is_open = f.open_stays u a.is_open;
+  says = f.says ∙ a.says;
   fresh = a.fresh;
 }
 
@@ -116,7 +117,7 @@ adds-both (Ok _) old mid new u xs ys a b =
       b.2,
       b.3,
     )
-adds-both (Err line.Syntax) old mid new u xs ys a b =
+adds-both (Err line.DuplicateName) old mid new u xs ys a b =
     let t = last_unit-is (last_unit (contents old)) a.0 in
     let v = last_unit-is (last_unit (contents mid)) b in
     let e : last_unit (contents mid) ≡ Some (with_args xs t.0) = ap last_unit a.1 ∙ last_unit-change (with_args xs) (contents old) t.0 t.1 in
@@ -125,15 +126,15 @@ adds-both (Err line.Syntax) old mid new u xs ys a b =
     (args_again-both xs ys t.0 ∙ ap (λ b. args_again t.0 xs || b) (ap (λ x. args_again x ys) (sym same) ∙ v.2) ∙ or_true (args_again t.0 xs))
 adds-both (Err line.OutOfMemory) old mid new u xs ys a b = tt
 adds-both (Err line.UnitTooLarge) old mid new u xs ys a b = absurd b
-adds-both (Err line.DuplicateName) old mid new u xs ys a b = absurd b
+adds-both (Err line.Syntax) old mid new u xs ys a b = absurd b
 
 pub adds-first : (e : LineFault) (old new : Arena) (u : UnitId) (xs ys : List ArgText) → AddsArgs (Err e) old new u xs → AddsArgs (Err e) old new u (xs ++ ys)
-adds-first line.Syntax old new u xs ys a =
+adds-first line.DuplicateName old new u xs ys a =
     let t = last_unit-is (last_unit (contents old)) a in
     last_unit-has (λ x. args_again x (xs ++ ys) ≡ true) (last_unit (contents old)) t.0 t.1 (args_again-both xs ys t.0 ∙ ap (λ b. b || args_again (with_args xs t.0) ys) t.2)
 adds-first line.OutOfMemory old new u xs ys a = tt
 adds-first line.UnitTooLarge old new u xs ys a = absurd a
-adds-first line.DuplicateName old new u xs ys a = absurd a
+adds-first line.Syntax old new u xs ys a = absurd a
 
 -- there is still an open unit
 pub adds-begun : (old new : Arena) (u : UnitId) (xs : List ArgText) → AddsArgs (Ok tt) old new u xs → OfOpen new (λ _. ⊤)
@@ -154,21 +155,65 @@ of_begun u old mid n k P b h =
     let t = last_unit-is (last_unit (contents mid)) h in
     subst P (begun_unit (contents old) (new_unit n k) t.0 (ap last_unit (sym b.1) ∙ t.1)) t.2
 
-pub heads-ok : (u : UnitId) (old mid new : Arena) (n : UnitName) (k : UnitKind) (args : List ArgText) → Begins (Ok u) old mid n k → AddsArgs (Ok tt) mid new u args → Heads (Ok u) old new n k args
+-- in a unit that was just begun only the arguments define values
+no_blocks : (n : UnitName) (k : UnitKind) (m : List ℕ) → blocks_define m (new_unit n k).blocks ≡ false
+no_blocks n kind.Func m = refl
+no_blocks n kind.Proc m = refl
+no_blocks n kind.Entity m = refl
+
+no_args : (n : UnitName) (k : UnitKind) → (new_unit n k).args ≡ []
+no_args n kind.Func = refl
+no_args n kind.Proc = refl
+no_args n kind.Entity = refl
+
+repeats : (n : UnitName) (k : UnitKind) (args : List ArgText) → args_again (new_unit n k) args ≡ args_repeat [] args
+repeats n k args = args_again-repeat args (new_unit n k) (no_blocks n k) ∙ ap (λ seen. args_repeat seen args) (no_args n k)
+
+headed : (n : UnitName) (k : UnitKind) (args : List ArgText) → with_args args (new_unit n k) ≡ headed_unit k n args None
+headed n kind.Func args = refl
+headed n kind.Proc args = refl
+headed n kind.Entity args = refl
+
+-- what is said once the arguments are added
+args_said : (u : UnitId) (old mid new : Arena) (n : UnitName) (k : UnitKind) (args : List ArgText) → Begins (Ok u) old mid n k → AddsArgs (Ok tt) mid new u args
+    → contents new ≡ contents old ++ unit_text (with_args args (new_unit n k)) ∷ []
+args_said u old mid new n k args b a = a.1 ∙ ap (change_last (with_args args)) b.1 ∙ change_last-push (with_args args) (contents old) (new_unit n k)
+
+fresh_args : (u : UnitId) (old mid new : Arena) (n : UnitName) (k : UnitKind) (args : List ArgText) → Begins (Ok u) old mid n k → AddsArgs (Ok tt) mid new u args → args_repeat [] args ≡ false
+fresh_args u old mid new n k args b a = sym (repeats n k args) ∙ of_begun u old mid n k (λ t. args_again t args ≡ false) b a.0
+
+pub heads-ok : (u : UnitId) (old mid new : Arena) (n : UnitName) (k : UnitKind) (args : List ArgText) → Begins (Ok u) old mid n k → AddsArgs (Ok tt) mid new u args → Heads (Ok u) old new n k args None
 heads-ok u old mid new n k args b a = (
   b.0,
-  of_begun u old mid n k (λ t. args_again t args ≡ false) b a.0,
-  a.1 ∙ ap (change_last (with_args args)) b.1 ∙ change_last-push (with_args args) (contents old) (new_unit n k),
+  fresh_args u old mid new n k args b a,
+  args_said u old mid new n k args b a ∙ ap (λ t. contents old ++ unit_text t ∷ []) (headed n k args),
   a.2,
   a.3,
 )
 
-pub heads-err : (e : LineFault) (u : UnitId) (old mid new : Arena) (n : UnitName) (k : UnitKind) (args : List ArgText) → Begins (Ok u) old mid n k → AddsArgs (Err e) mid new u args → Heads (Err e) old new n k args
-heads-err line.Syntax u old mid new n k args b a = inr (of_begun u old mid n k (λ t. args_again t args ≡ true) b a)
-heads-err line.OutOfMemory u old mid new n k args b a = tt
-heads-err line.UnitTooLarge u old mid new n k args b a = absurd a
-heads-err line.DuplicateName u old mid new n k args b a = absurd a
+-- a function has its result from then on
+pub is_function : (u : UnitId) (old mid new : Arena) (n : UnitName) (args : List ArgText) → Begins (Ok u) old mid n kind.Func → AddsArgs (Ok tt) mid new u args → OfOpen new (λ t. t.kind ≡ kind.Func)
+is_function u old mid new n args b a =
+    last_unit-has (λ t. t.kind ≡ kind.Func) (last_unit (contents new)) (with_args args (new_unit n kind.Func))
+    (ap last_unit (args_said u old mid new n kind.Func args b a) ∙ last_unit-push (contents old) (with_args args (new_unit n kind.Func))) refl
 
-pub heads-passed : (r : Result UnitId LineFault) (e : LineFault) (old new : Arena) (n : UnitName) (k : UnitKind) (args : List ArgText) → IsErrAnd r (λ x. x ≡ e) → Heads (Err e) old new n k args → Heads r old new n k args
-heads-passed (Ok x) e old new n k args h w = absurd h
-heads-passed (Err x) e old new n k args h w = subst (λ y. Heads (Err y) old new n k args) (sym h) w
+pub heads-function : (u : UnitId) (old mid now new : Arena) (n : UnitName) (args : List ArgText) (ty : TypeTree) → Begins (Ok u) old mid n kind.Func → AddsArgs (Ok tt) mid now u args → SetsResult now new u ty
+    → Heads (Ok u) old new n kind.Func args (Some ty)
+heads-function u old mid now new n args ty b a s = (
+  b.0,
+  fresh_args u old mid now n kind.Func args b a,
+  s.says ∙ ap (change_last (with_result ty)) (args_said u old mid now n kind.Func args b a) ∙ change_last-push (with_result ty) (contents old) (with_args args (new_unit n kind.Func)),
+  s.is_open,
+  omega (arith, a.3, s.entries.units),
+)
+
+pub heads-err : (e : LineFault) (u : UnitId) (old mid new after : Arena) (n : UnitName) (k : UnitKind) (args : List ArgText) (r : Option TypeTree) → Begins (Ok u) old mid n k → AddsArgs (Err e) mid new u args
+    → Heads (Err e) old after n k args r
+heads-err line.DuplicateName u old mid new after n k args r b a = inr (sym (repeats n k args) ∙ of_begun u old mid n k (λ t. args_again t args ≡ true) b a)
+heads-err line.OutOfMemory u old mid new after n k args r b a = tt
+heads-err line.UnitTooLarge u old mid new after n k args r b a = absurd a
+heads-err line.Syntax u old mid new after n k args r b a = absurd a
+
+pub heads-passed : (o : Result UnitId LineFault) (e : LineFault) (old new : Arena) (n : UnitName) (k : UnitKind) (args : List ArgText) (r : Option TypeTree) → IsErrAnd o (λ x. x ≡ e) → Heads (Err e) old new n k args r → Heads o old new n k args r
+heads-passed (Ok x) e old new n k args r h w = absurd h
+heads-passed (Err x) e old new n k args r h w = subst (λ y. Heads (Err y) old new n k args r) (sym h) w

@@ -1,42 +1,82 @@
--- A header that is taken or refused.
-use Rattle.std.proofs.Common.{◌≡◌, ℕ, ◌+◌, ◌<◌, ◌≤◌, Bool, true, false, List, [], ◌∷◌, ◌++◌, length, Option, Some, None, Result, Ok, Err, IsErrAnd, refl, ap, sym, ◌∙◌, subst, inl, inr, ◌⊎◌, arith}
-use Rattle.lh_unit.specs.Contents.{ArgText, UnitText, last_unit, new_unit}
+-- A header or a declaration that is taken or refused.
+use Rattle.std.proofs.Common.{◌≡◌, ℕ, ◌+◌, ◌<◌, Bool, true, false, ◌||◌, List, [], ◌∷◌, ◌++◌, Option, Some, None, Result, Ok, Err, IsErrAnd, refl, ap, sym, ◌∙◌, subst, inl, inr}
+use Rattle.lh_types.specs.Types.{TypeTree}
+use Rattle.lh_unit.specs.Contents.{ArgText, last_unit, defines_unit}
 use Rattle.lh_unit.specs.Arena.{Arena, contents}
-use Rattle.lh_unit.specs.Spells.{header_item}
-use Rattle.lh_unit.specs.Reads.{State, is_assert}
+use Rattle.lh_unit.specs.Builders.{AddsDeclare}
+use Rattle.lh_unit.specs.Spells.{header_item, declare_item}
+use Rattle.lh_unit.specs.Reads.{State, place_of, may_stand, defines_again, args_repeat, is_assert, headed_unit, syntax, duplicate_name}
 use Rattle.lh_unit.specs.declared.name.UnitName.{UnitName}
 use Rattle.lh_unit.specs.declared.inst.UnitId.{UnitId}
 use Rattle.lh_unit.specs.declared.inst.UnitKind.{UnitKind}
-use Rattle.lh_unit.specs.declared.inst.UnitKind.TheVariants as kind
-use Rattle.lh_read.specs.declared.build.LineFault.{LineFault}
-use Rattle.lh_read.specs.declared.build.LineFault.TheVariants as line
-use Rattle.lh_read.specs.declared.build.Reader.{Reader}
+use Rattle.lh_unit.specs.declared.inst.Declare.{Declare}
+use Rattle.lh_read.specs.declared.faults.LineFault.{LineFault}
+use Rattle.lh_read.specs.declared.faults.LineFault.TheVariants as line
+use Rattle.lh_read.specs.declared.places.Place.{Place}
+use Rattle.lh_read.specs.declared.places.Place.TheVariants.{Outside, InEntity, BeforeLabels, InEmptyBlock, InBlock}
+use Rattle.lh_read.specs.Places.{is_inside, behind_header}
+use Rattle.lh_read.specs.InOrder.{state_at, InPlace}
 use Rattle.lh_read.specs.Steps.{step}
-use Rattle.lh_read.specs.Building.{IsEntity, InUnit, Heads, Steps, state_of, with_args}
-use Rattle.lh_read.proofs.LastUnit.{last_unit-push, last_unit-has}
-use Rattle.lh_read.proofs.Stepping.{opened, header-taken, header-defined, header-repeated}
-use Rattle.lh_read.proofs.Readers.{state-closed}
+use Rattle.lh_read.specs.Building.{Heads, Steps}
+use Rattle.lh_read.proofs.LastUnit.{last_unit-push}
+use Rattle.lh_read.proofs.Stepping.{step-ok, step-misplaced, step-again}
+use Rattle.lh_read.proofs.PlaceLaws.{place-is, header-stands, declare-stands, behind-head, inside-head}
 
-pub head-taken : (r : Reader) (u : UnitId) (new : Arena) (n : UnitName) (k : UnitKind) (args : List ArgText) → r.open ≡ None → is_assert n ≡ false → Heads (Ok u) r.module new n k args
-    → step (state_of r) (header_item k n args None) ≡ Ok (opened (contents new))
-head-taken r u new n k args e a h =
-    ap (λ s. step s (header_item k n args None)) (state-closed r e) ∙ header-taken (contents r.module) k n args h.0 a h.1 ∙ ap (λ x. Ok (opened x)) (sym h.2)
+or_true : (a : Bool) → (a || true) ≡ true
+or_true true = refl
+or_true false = refl
 
-pub head-refused : (r : Reader) (f : LineFault) (o : Result (Unit {0}) LineFault) (new : Arena) (n : UnitName) (k : UnitKind) (args : List ArgText) (s : State) → Heads (Err f) r.module new n k args → IsErrAnd o (λ e. e ≡ f)
-    → Steps o (step (state_of r) (header_item k n args None)) s
-head-refused r f (Ok x) new n k args s h w = absurd w
-head-refused r f (Err e) new n k args s h w = subst (λ x. Steps (Err x) (step (state_of r) (header_item k n args None)) s) (sym w) (by f h)
-  where
-    by : (g : LineFault) → Heads (Err g) r.module new n k args → Steps (Err g) (step (state_of r) (header_item k n args None)) s
-    by line.Syntax p = elim p [ inl d ↦ header-defined (state_of r) k n args None d | inr d ↦ header-repeated (state_of r) k n args None d ]
-    by line.OutOfMemory p = tt
-    by line.UnitTooLarge p = absurd p
-    by line.DuplicateName p = absurd p
+-- a header in this place
+module _ (a : Arena) (p : Place) (w : InPlace a p) (k : UnitKind) (n : UnitName) (args : List ArgText) (r : Option TypeTree) where
+  pub header-inside : is_inside p ≡ true → step (state_at a p) (header_item k n args r) ≡ Err syntax
+  header-inside e = step-misplaced (state_at a p) (header_item k n args r) (ap (λ q. may_stand q (header_item k n args r)) (place-is a p w) ∙ header-stands p k n args r true e)
 
-pub head-in_unit : (u : UnitId) (old new : Arena) (n : UnitName) (args : List ArgText) → Heads (Ok u) old new n kind.Entity args → InUnit new u
-head-in_unit u old new n args h = record {
-  within = h.4;
-  opened = h.3;
-  entity = last_unit-has IsEntity (last_unit (contents new)) (with_args args (new_unit n kind.Entity)) (ap last_unit h.2 ∙ last_unit-push (contents old) (with_args args (new_unit n kind.Entity)))
-      (record { entity = refl; block = omega arith });
-}
+  stands : is_inside p ≡ false → may_stand (place_of (state_at a p)) (header_item k n args r) ≡ true
+  stands e = ap (λ q. may_stand q (header_item k n args r)) (place-is a p w) ∙ header-stands p k n args r false e
+
+  again : is_inside p ≡ false → defines_again (state_at a p) (header_item k n args r) ≡ true → step (state_at a p) (header_item k n args r) ≡ Err duplicate_name
+  again e d = step-again (state_at a p) (header_item k n args r) (stands e) refl d
+
+  pub header-assert : is_inside p ≡ false → is_assert n ≡ true → step (state_at a p) (header_item k n args r) ≡ Err duplicate_name
+  header-assert e d = again e (ap (λ b. (defines_unit n (contents a) || b) || args_repeat [] args) d ∙ ap (λ b. b || args_repeat [] args) (or_true (defines_unit n (contents a))))
+
+  defined : is_inside p ≡ false → defines_unit n (contents a) ≡ true → step (state_at a p) (header_item k n args r) ≡ Err duplicate_name
+  defined e d = again e (ap (λ b. (b || is_assert n) || args_repeat [] args) d)
+
+  repeated : is_inside p ≡ false → args_repeat [] args ≡ true → step (state_at a p) (header_item k n args r) ≡ Err duplicate_name
+  repeated e d = again e (ap (λ b. (defines_unit n (contents a) || is_assert n) || b) d ∙ or_true (defines_unit n (contents a) || is_assert n))
+
+  pub head-taken : (u : UnitId) (b : Arena) → is_inside p ≡ false → is_assert n ≡ false → Heads (Ok u) a b n k args r → step (state_at a p) (header_item k n args r) ≡ Ok (state_at b (behind_header k u))
+  head-taken u b e f h =
+      step-ok (state_at a p) (header_item k n args r) (stands e) refl
+      (ap (λ x. (x || is_assert n) || args_repeat [] args) h.0 ∙ ap (λ x. x || args_repeat [] args) f ∙ h.1)
+      ∙ (λ i. Ok (record { items = sym h.2 i; inside = sym (inside-head k u) i }))
+
+  refused : (f : LineFault) (b : Arena) (s : State) → is_inside p ≡ false → Heads (Err f) a b n k args r → Steps (Err f) (step (state_at a p) (header_item k n args r)) s
+  refused line.DuplicateName b s e h = elim h [ inl d ↦ defined e d | inr d ↦ repeated e d ]
+  refused line.OutOfMemory b s e h = tt
+  refused line.UnitTooLarge b s e h = absurd h
+  refused line.Syntax b s e h = absurd h
+
+  pub head-refused : (o : Result (Unit {0}) LineFault) (f : LineFault) (b : Arena) (s : State) → is_inside p ≡ false → Heads (Err f) a b n k args r → IsErrAnd o (λ x. x ≡ f) → Steps o (step (state_at a p) (header_item k n args r)) s
+  head-refused (Ok x) f b s e h v = absurd v
+  head-refused (Err x) f b s e h v = subst (λ y. Steps (Err y) (step (state_at a p) (header_item k n args r)) s) (sym v) (refused f b s e h)
+
+  pub head-placed : (u : UnitId) (b : Arena) → Heads (Ok u) a b n k args r → InPlace b (behind_header k u)
+  head-placed u b h = behind-head b u k n args r h.4 h.3 (ap last_unit h.2 ∙ last_unit-push (contents a) (headed_unit k n args r))
+
+-- a declaration in this place
+pub declare-inside : (a : Arena) (p : Place) (d : Declare) → InPlace a p → is_inside p ≡ true → step (state_at a p) (declare_item d) ≡ Err syntax
+declare-inside a p d w e = step-misplaced (state_at a p) (declare_item d) (ap (λ q. may_stand q (declare_item d)) (place-is a p w) ∙ declare-stands p d true e)
+
+pub declare-taken : (a b : Arena) (p : Place) (d : Declare) → InPlace a p → is_inside p ≡ false → AddsDeclare (Ok tt) a b d → step (state_at a p) (declare_item d) ≡ Ok (state_at b p)
+declare-taken a b p d w e h =
+    step-ok (state_at a p) (declare_item d) (ap (λ q. may_stand q (declare_item d)) (place-is a p w) ∙ declare-stands p d false e) refl refl
+    ∙ (λ i. Ok (record { items = sym h.0 i; inside = sym e i }))
+
+pub outside-placed : (a : Arena) (p : Place) → is_inside p ≡ false → InPlace a p
+outside-placed a Outside e = tt
+outside-placed a (InEntity u) e = cc
+outside-placed a (BeforeLabels u) e = cc
+outside-placed a (InEmptyBlock u) e = cc
+outside-placed a (InBlock u) e = cc

@@ -1,14 +1,13 @@
-pub mod Rows
-pub mod Spelled
-pub mod Texts
-pub mod Digits
-pub mod Lists
-pub mod Halves
+pub mod Tokens
 pub mod LastUnit
+pub mod Splitting
 pub mod Stepping
-pub mod Readers
-pub mod Adding
+pub mod Texts
+pub mod Computed
+mod Rows
+pub mod Progress
+pub mod PlaceLaws
+pub mod Lists
 pub mod Args
 pub mod Headers
-pub mod Splitting
-pub mod Progress
+pub mod Adding

@@ -1,104 +1,88 @@
 -- How far a text is read.
-use Rattle.std.proofs.Common.{◌≡◌, ℕ, ◌+◌, ◌<◌, ◌≤◌, List, [], ◌∷◌, length, Option, Some, None, Result, Ok, Err, IfOk, IfErr, is_some, true, refl, ap, sym, ◌∙◌, subst, inl, inr, ◌⊎◌, arith}
+use Rattle.std.proofs.Common.{Some, ◌≡◌, ℕ, ◌+◌, ◌<◌, ◌≤◌, List, [], ◌∷◌, length, Result, Ok, Err, IfOk, IfErr, true, false, refl, ap, sym, ◌∙◌, subst, inl, inr, arith}
 use Rattle.lh_unit.specs.Contents.{ItemText}
+use Rattle.lh_unit.specs.Lexemes.{Lexeme, lexemes}
 use Rattle.lh_unit.specs.Lines.{lines_of}
+use Rattle.lh_unit.specs.Spells.{LineItem}
 use Rattle.lh_unit.specs.Arena.{Arena, contents}
-use Rattle.lh_unit.specs.Reads.{State, start, BadKind, syntax, Reads, FirstBad}
-use Rattle.lh_read.specs.declared.build.LineFault.{LineFault}
-use Rattle.lh_read.specs.declared.build.LineFault.TheVariants as line
-use Rattle.lh_read.specs.declared.build.Reader.{Reader}
+use Rattle.lh_unit.specs.Reads.{State, start, Takes, Walk, BadKind, syntax, unit_too_large, duplicate_name, IsBad, FirstBadFrom, Reads, FirstBad}
+use Rattle.lh_syntax.specs.SpelledBy.{SpelledBy}
+use Rattle.lh_read.specs.declared.faults.LineFault.{LineFault}
+use Rattle.lh_read.specs.declared.faults.LineFault.TheVariants as line
+use Rattle.lh_read.specs.declared.places.Place.{Place}
+use Rattle.lh_read.specs.declared.reader.Reader.{Reader}
 use Rattle.lh_read.specs.declared.TextFault.{TextFault}
 use Rattle.lh_read.specs.declared.TextFault.TheVariants.{Syntax, UnitTooLarge, DuplicateName, OutOfMemory}
-use Rattle.lh_read.specs.Steps.{step_line, or_fault, at_end, read_lines, read_of}
-use Rattle.lh_read.specs.Building.{IsInOrder, Steps, state_of}
-use Rattle.lh_read.specs.Reading.{Gives, Names, Answers, ReadsOnlyAs, HasFirstBad, ReadsOrIsBad, text_fault}
-use Rattle.lh_read.proofs.Texts.{read_of-sound, read_of-again, read_of-fault, fault-read_of}
+use Rattle.lh_read.specs.Places.{is_inside}
+use Rattle.lh_read.specs.InOrder.{IsInOrder, state_of}
+use Rattle.lh_read.specs.Steps.{step}
+use Rattle.lh_read.specs.Building.{Steps, TakesOrIsBad}
+use Rattle.lh_read.specs.Reading.{Gives, Names, Answers, text_fault}
+use Rattle.lh_read.proofs.Texts.{closed, taken-line, bad-line, unspelled-line, unlexed-line, reads-once, reads-bad}
 
--- the lines before this number are read
+-- what is answered of a line that says an item
+pub line-steps : (o : Result (Unit {0}) LineFault) (s t : State) (l : List ℕ) (ts us : List Lexeme) (i : LineItem) → lexemes l ≡ Some ts → us ≡ ts → SpelledBy us (Some i) → Steps o (step s i) t → TakesOrIsBad o s l t
+line-steps (Ok _) s t l ts us i e f w p = taken-line s t l us i (e ∙ ap Some (sym f)) w p
+line-steps (Err line.Syntax) s t l ts us i e f w p = bad-line s l us i syntax (e ∙ ap Some (sym f)) w p
+line-steps (Err line.UnitTooLarge) s t l ts us i e f w p = bad-line s l us i unit_too_large (e ∙ ap Some (sym f)) w p
+line-steps (Err line.DuplicateName) s t l ts us i e f w p = bad-line s l us i duplicate_name (e ∙ ap Some (sym f)) w p
+line-steps (Err line.OutOfMemory) s t l ts us i e f w p = tt
+
+-- the lines before this number are read: what follows from here is what the text reads as
 pub record At (text rest : List ℕ) (number : ℕ) (r : Reader) : Type 0 where
-  pub is : read_lines (lines_of rest) number (state_of r) ≡ read_of text
+  pub reads : (items : List ItemText) → Walk (lines_of rest) (state_of r) (closed items) → Reads text items
+  pub bad : (k : ℕ) (why : BadKind) → FirstBadFrom (lines_of rest) number (state_of r) k why → FirstBad text k why
   pub order : IsInOrder r
   pub counted : 1 ≤ number
   pub short : number + length rest ≤ length text + 1
 
 pub At-start : (text : List ℕ) (r : Reader) → state_of r ≡ start → IsInOrder r → At text text 1 r
-At-start text r s o = record { is = ap (read_lines (lines_of text) 1) s; order = o; counted = omega arith; short = omega arith }
+At-start text r s o = record {
+  reads = λ items w. subst (λ x. Walk (lines_of text) x (closed items)) s w;
+  bad = λ k why b. subst (λ x. FirstBadFrom (lines_of text) 1 x k why) s b;
+  order = o;
+  counted = omega arith;
+  short = omega arith;
+}
 
 pub At-next : (text rest first more : List ℕ) (number : ℕ) (r q : Reader) → At text rest number r → lines_of rest ≡ first ∷ lines_of more → length more < length rest
-    → step_line (state_of r) first ≡ Ok (state_of q) → IsInOrder q → At text more (number + 1) q
-At-next text rest first more number r q a l s e o = record {
-  is =
-      let g : read_lines (first ∷ lines_of more) number (state_of r) ≡ read_lines (lines_of more) (number + 1) (state_of q) = ap (λ x. or_fault number x (λ t. read_lines (lines_of more) (number + 1) t)) e in
-      sym g ∙ ap (λ ls. read_lines ls number (state_of r)) (sym l) ∙ a.is;
+    → Takes (state_of r) first (state_of q) → IsInOrder q → At text more (number + 1) q
+At-next text rest first more number r q a l s t o = record {
+  reads = λ items w. a.reads items (subst (λ ls. Walk ls (state_of r) (closed items)) (sym l) (state_of q, t, w));
+  bad = λ k why b. a.bad k why (subst (λ ls. FirstBadFrom ls number (state_of r) k why) (sym l) (inr (state_of q, t, b)));
   order = o;
   counted = omega arith;
   short = omega (arith, a.short);
 }
 
-stopped : (text rest first more : List ℕ) (number : ℕ) (r : Reader) (why : BadKind) → At text rest number r → lines_of rest ≡ first ∷ lines_of more → step_line (state_of r) first ≡ Err why → read_of text ≡ Err (number, why)
-stopped text rest first more number r why a l e =
-    let g : read_lines (first ∷ lines_of more) number (state_of r) ≡ Err (number, why) = ap (λ x. or_fault number x (λ t. read_lines (lines_of more) (number + 1) t)) e in
-    sym a.is ∙ ap (λ ls. read_lines ls number (state_of r)) l ∙ g
+stopped : (text rest first more : List ℕ) (number : ℕ) (r : Reader) (why : BadKind) → At text rest number r → lines_of rest ≡ first ∷ lines_of more → IsBad (state_of r) first why → FirstBad text number why
+stopped text rest first more number r why a l b = a.bad number why (subst (λ ls. FirstBadFrom ls number (state_of r) number why) (sym l) (inl (refl, b)))
 
-pub At-fault : (text rest first more : List ℕ) (number : ℕ) (r : Reader) (f : LineFault) (s : State) → At text rest number r → lines_of rest ≡ first ∷ lines_of more → Steps (Err f) (step_line (state_of r) first) s → Answers (Err (text_fault number f)) (read_of text)
-At-fault text rest first more number r line.Syntax s a l e = stopped text rest first more number r _ a l e
-At-fault text rest first more number r line.UnitTooLarge s a l e = stopped text rest first more number r _ a l e
-At-fault text rest first more number r line.DuplicateName s a l e = stopped text rest first more number r _ a l e
-At-fault text rest first more number r line.OutOfMemory s a l e = tt
+pub At-fault : (text rest first more : List ℕ) (number : ℕ) (r : Reader) (f : LineFault) (s : State) → At text rest number r → lines_of rest ≡ first ∷ lines_of more → TakesOrIsBad (Err f) (state_of r) first s → Answers (Err (text_fault number f)) text
+At-fault text rest first more number r line.Syntax s a l b = stopped text rest first more number r syntax a l b
+At-fault text rest first more number r line.UnitTooLarge s a l b = stopped text rest first more number r unit_too_large a l b
+At-fault text rest first more number r line.DuplicateName s a l b = stopped text rest first more number r duplicate_name a l b
+At-fault text rest first more number r line.OutOfMemory s a l b = tt
 
-pub At-end : (text rest : List ℕ) (number : ℕ) (r : Reader) → At text rest number r → rest ≡ [] → r.open ≡ None → read_of text ≡ Ok (contents r.module)
-At-end text rest number r a e o = sym a.is ∙ ap (λ t. read_lines (lines_of t) number (state_of r)) e ∙ ap (λ x. at_end (is_some x) number (contents r.module)) o
+pub At-end : (text rest : List ℕ) (number : ℕ) (r : Reader) → At text rest number r → rest ≡ [] → is_inside r.place ≡ false → Reads text (contents r.module)
+At-end text rest number r a e o =
+    a.reads (contents r.module) (subst (λ t. Walk (lines_of t) (state_of r) (closed (contents r.module))) (sym e) (λ i. record { items = contents r.module; inside = o i }))
 
-pub At-open : (text rest : List ℕ) (number : ℕ) (r : Reader) → At text rest number r → rest ≡ [] → is_some r.open ≡ true → read_of text ≡ Err (number, syntax)
-At-open text rest number r a e o = sym a.is ∙ ap (λ t. read_lines (lines_of t) number (state_of r)) e ∙ ap (λ x. at_end x number (contents r.module)) o
+pub At-open : (text rest : List ℕ) (number : ℕ) (r : Reader) → At text rest number r → rest ≡ [] → is_inside r.place ≡ true → FirstBad text number syntax
+At-open text rest number r a e o = a.bad number syntax (subst (λ t. FirstBadFrom (lines_of t) number (state_of r) number syntax) (sym e) (o, refl, refl))
 
 -- what the caller is told
-pub told-ok : (r : Result Arena TextFault) (text : List ℕ) → Answers r (read_of text) → IfOk r (λ m. Reads text (contents m))
-told-ok (Ok m) text a = read_of-sound text (contents m) a
+pub told-ok : (r : Result Arena TextFault) (text : List ℕ) → Answers r text → IfOk r (λ m. Reads text (contents m))
+told-ok (Ok m) text a = a
 told-ok (Err e) text a = tt
 
-ok_inj : (o : Result (List ItemText) (ℕ × BadKind)) (x y : List ItemText) → o ≡ Ok x → o ≡ Ok y → x ≡ y
-ok_inj o x y p q = cc
-
-not_both : (o : Result (List ItemText) (ℕ × BadKind)) (x : List ItemText) (y : ℕ × BadKind) → o ≡ Ok x → o ≡ Err y → ⊥
-not_both o x y p q = cc
-
-pub told-only : (r : Result Arena TextFault) (text : List ℕ) → Answers r (read_of text) → (items : List ItemText) → Reads text items → Gives r items
-told-only (Ok m) text a items w = ok_inj (read_of text) (contents m) items a (read_of-again text items w)
-told-only (Err (Syntax n)) text a items w = not_both (read_of text) items _ (read_of-again text items w) a
-told-only (Err (UnitTooLarge n)) text a items w = not_both (read_of text) items _ (read_of-again text items w) a
-told-only (Err (DuplicateName n)) text a items w = not_both (read_of text) items _ (read_of-again text items w) a
+pub told-only : (r : Result Arena TextFault) (text : List ℕ) → Answers r text → (items : List ItemText) → Reads text items → Gives r items
+told-only (Ok m) text a items w = reads-once text items (contents m) w a
+told-only (Err (Syntax n)) text a items w = reads-bad text items n syntax w a
+told-only (Err (UnitTooLarge n)) text a items w = reads-bad text items n unit_too_large w a
+told-only (Err (DuplicateName n)) text a items w = reads-bad text items n duplicate_name w a
 told-only (Err OutOfMemory) text a items w = tt
 
-pub told-fault : (r : Result Arena TextFault) (text : List ℕ) → Answers r (read_of text) → IfErr r (λ e. Names e text)
+pub told-fault : (r : Result Arena TextFault) (text : List ℕ) → Answers r text → IfErr r (λ e. Names e text)
 told-fault (Ok m) text a = tt
-told-fault (Err (Syntax n)) text a = read_of-fault text n _ a
-told-fault (Err (UnitTooLarge n)) text a = read_of-fault text n _ a
-told-fault (Err (DuplicateName n)) text a = read_of-fault text n _ a
-told-fault (Err OutOfMemory) text a = tt
-
-err_inj : (o : Result (List ItemText) (ℕ × BadKind)) (x y : ℕ × BadKind) → o ≡ Err x → o ≡ Err y → x ≡ y
-err_inj o x y p q = cc
-
--- every text reads or is bad
-pub reads-or_bad : (text : List ℕ) → ReadsOrIsBad text
-reads-or_bad text = by (read_of text) refl
-  where
-    by : (o : Result (List ItemText) (ℕ × BadKind)) → read_of text ≡ o → ReadsOrIsBad text
-    by (Ok items) e = inl (
-      items,
-      record {
-        reads = read_of-sound text items e;
-        only = λ others w. ok_inj (read_of text) others items (read_of-again text others w) e;
-        no_fault = λ n why w. not_both (read_of text) items (n, why) e (fault-read_of text n why w);
-      },
-    )
-    by (Err f) e = inr (
-      f.0,
-      f.1,
-      record {
-        bad = read_of-fault text f.0 f.1 e;
-        only = λ m other w. let g = err_inj (read_of text) (m, other) f (fault-read_of text m other w) e in (ap (λ x. x.0) g, ap (λ x. x.1) g);
-        no_items = λ items w. not_both (read_of text) items f (read_of-again text items w) e;
-      },
-    )
+told-fault (Err e) text a = a

@@ -1,9 +1,7 @@
-pub mod Pieces
-pub mod Types
-pub mod Items
-pub mod Shorter
-pub mod Steps
-pub mod SyntaxOf
 pub mod FaultOf
+pub mod Steps
+pub mod Places
+pub mod Placing
+pub mod InOrder
 pub mod Building
 pub mod Reading

@@ -3,8 +3,8 @@ use Rattle.std.specs.Prelude.{◌≡◌, ℕ, List, Result, Ok, Err, ◌⊎◌}
 use Rattle.lh_unit.specs.Contents.{ItemText}
 use Rattle.lh_unit.specs.Arena.{Arena, contents}
 use Rattle.lh_unit.specs.Reads.{BadKind, syntax, unit_too_large, duplicate_name, Reads, FirstBad}
-use Rattle.lh_read.specs.declared.build.LineFault.{LineFault}
-use Rattle.lh_read.specs.declared.build.LineFault.TheVariants as line
+use Rattle.lh_read.specs.declared.faults.LineFault.{LineFault}
+use Rattle.lh_read.specs.declared.faults.LineFault.TheVariants as line
 use Rattle.lh_read.specs.declared.TextFault.{TextFault}
 use Rattle.lh_read.specs.declared.TextFault.TheVariants.{Syntax, UnitTooLarge, DuplicateName, OutOfMemory}
 
@@ -21,13 +21,10 @@ Names (UnitTooLarge n) text = FirstBad text n unit_too_large
 Names (DuplicateName n) text = FirstBad text n duplicate_name
 Names OutOfMemory text = Unit {0}
 
--- the answer is what was found, unless memory ran out
-abbrev pub Answers : Result Arena TextFault → Result (List ItemText) (ℕ × BadKind) → Type 0
-Answers (Ok m) found = found ≡ Ok (contents m)
-Answers (Err (Syntax n)) found = found ≡ Err (n, syntax)
-Answers (Err (UnitTooLarge n)) found = found ≡ Err (n, unit_too_large)
-Answers (Err (DuplicateName n)) found = found ≡ Err (n, duplicate_name)
-Answers (Err OutOfMemory) found = Unit {0}
+-- the text reads as the module says, or its first faulty line is named; of want of memory nothing is said
+abbrev pub Answers : Result Arena TextFault → List ℕ → Type 0
+Answers (Ok m) text = Reads text (contents m)
+Answers (Err e) text = Names e text
 
 -- the text reads as exactly these items, and has no faulty line
 pub record ReadsOnlyAs (text : List ℕ) (items : List ItemText) : Type 0 where

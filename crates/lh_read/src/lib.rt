@@ -7,20 +7,19 @@ ghost use Rattle.std.specs.Prelude.{◌≡◌, ◌≤◌, ℕ, List, length, IfO
 ghost use Rattle.lh_unit.specs.Contents.{ItemText};
 ghost use Rattle.lh_unit.specs.Arena.{contents};
 ghost use Rattle.lh_unit.specs.Reads.{Reads};
-ghost use Rattle.lh_read.specs.Steps.{read_of};
 ghost use Rattle.lh_read.specs.Reading.{Gives, Names, Answers, ReadsOrIsBad, text_fault};
 
-mod build;
+mod faults;
+mod ids;
+mod insts;
 mod lines;
-mod list;
-mod numbers;
-mod parse;
-mod syntax;
-mod tokens;
-mod types;
+mod places;
+mod reader;
+mod units;
 
-use crate::build::{LineFault, Reader};
+use crate::faults::LineFault;
 use crate::lines::{next_line, read_line};
+use crate::reader::Reader;
 use lh_unit::module::Module;
 use std::alloc::Global;
 
@@ -65,10 +64,10 @@ pub fn read(alloc: Global, text: &[u8]) -> Result<Module, TextFault>
     read_exact(alloc, text)
 }
 
-/// Reads the text of a file as its definition computes it.
+/// Reads the text of a file, or names its first faulty line.
 fn read_exact(alloc: Global, text: &[u8]) -> Result<Module, TextFault>
     requires { length text.now ≤ 67108864 }
-    ensures { Answers result (read_of text.now) }
+    ensures { Answers result text.now }
 {
     let mut reader = Reader::new(alloc);
     let mut rest = text;
@@ -81,10 +80,10 @@ fn read_exact(alloc: Global, text: &[u8]) -> Result<Module, TextFault>
         rest = more;
         number += 1;
     }
-    match reader.open {
-        Some(_) => Err(TextFault::Syntax(number)),
-        None => Ok(reader.module),
+    if reader.place.is_inside() {
+        return Err(TextFault::Syntax(number));
     }
+    Ok(reader.module)
 }
 
 /// Every text reads as exactly one list of items, or has exactly one first faulty line, and never both.

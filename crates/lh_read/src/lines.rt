@@ -1,13 +1,14 @@
 //! The lines of a text, one after another.
 ghost use Rattle.std.specs.Prelude.{◌≡◌, ◌≤◌, ◌<◌, ◌==◌, ◌∷◌, length, position, OnOk};
 ghost use Rattle.lh_unit.specs.Lines.{lines_of};
-ghost use Rattle.lh_read.specs.Steps.{step_line};
-ghost use Rattle.lh_read.specs.Building.{IsInOrder, Steps, state_of};
+ghost use Rattle.lh_read.specs.Building.{TakesOrIsBad};
+ghost use Rattle.lh_read.specs.InOrder.{IsInOrder, state_of};
 
-use crate::build::{LineFault, Reader};
-use crate::parse::item;
-use crate::tokens::Tokens;
+use crate::faults::LineFault;
+use crate::reader::Reader;
 use lh_lex::{LexFault, line};
+use lh_scan::tokens::Tokens;
+use lh_syntax::item;
 use std::alloc::Global;
 
 /// Where the first line ends.
@@ -31,11 +32,10 @@ pub fn next_line(text: &[u8]) -> (&[u8], &[u8])
 }
 
 /// Reads one line.
-#[tactic(auto, unfolding(crate::specs::Steps::step_line))]
 pub fn read_line(alloc: Global, reader: &mut Reader, text: &[u8]) -> Result<(), LineFault>
     requires short { length text.now ≤ 67108864 }
     requires order { IsInOrder reader.old }
-    ensures step { Steps result (step_line (state_of reader.old) text.now) (state_of reader.new) }
+    ensures step { TakesOrIsBad result (state_of reader.old) text.now (state_of reader.new) }
     ensures order { OnOk result (IsInOrder reader.new) }
 {
     let tokens = match line(alloc, text) {

@@ -1,4 +1,4 @@
-use Rattle.lh_read.proofs.Progress.{reads-or_bad}
+use Rattle.lh_read.proofs.Computed.{reads-or_bad}
 use Rattle.lh_read.proofs.reading_law.Goals as goal
 
 pub returns : goal.returns

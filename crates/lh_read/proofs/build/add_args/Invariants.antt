@@ -1,7 +1,0 @@
-use Rattle.std.proofs.Common.{map, take}
-use Rattle.lh_read.specs.SyntaxOf.{arg_of}
-use Rattle.lh_read.proofs.Args.{At}
-use Rattle.lh_read.proofs.build.add_args.Given as goal
-
-abbrev pub invariant-loop-param : goal.invariant-loop-param
-invariant-loop-param l = At l.fn.module l.module l.unit (map (arg_of l.output) (take l.param-index l.params))

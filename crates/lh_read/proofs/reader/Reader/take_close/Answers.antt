@@ -1,0 +1,9 @@
+use Rattle.std.proofs.Common.{sym}
+use Rattle.lh_read.proofs.Adding.{close-misplaced, close-taken}
+use Rattle.lh_read.proofs.reader.Reader.take_close.Goals as goal
+
+pub returns-then-not-may_close-clause-step : goal.returns-then-not-may_close-clause-step
+returns-then-not-may_close-clause-step c = close-misplaced c.args.self.now c.requires (sym c.if-not-may_close.ensures)
+
+pub returns-clause-step : goal.returns-clause-step
+returns-clause-step c = close-taken c.args.self.now c.requires (sym c.if-not-may_close.ensures)

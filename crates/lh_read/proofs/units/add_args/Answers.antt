@@ -1,0 +1,34 @@
+use Rattle.std.proofs.Common.{◌≡◌, ◌+◌, ◌++◌, ◌∷◌, [], map, take, drop, sym, ◌∙◌, ap, subst}
+use Rattle.lh_unit.specs.Contents.{ArgText}
+use Rattle.lh_unit.specs.Naming.{arg_text}
+use Rattle.lh_unit.specs.Arena.{naming}
+use Rattle.lh_read.specs.Building.{arg_of}
+use Rattle.lh_read.specs.FaultOf.{fault_of}
+use Rattle.lh_read.proofs.Args.{At, At-start, At-grown, At-next, args-refused, adds-err, done_next, done_rest}
+use Rattle.lh_read.proofs.units.add_args.Goals as goal
+
+pub loop-param-init : goal.loop-param-init
+loop-param-init c = At-start c.args.m.now c.args.unit c.requires.within c.requires.opened c.requires.begun
+
+pub returns-in_err-add_arg : goal.returns-in_err-add_arg
+returns-in_err-add_arg c =
+    let p = c.param-item.result in let i = c.loop-param.param-index in let mid = c.value_id.new.m in
+    let f = arg_of c.args.output in let ps = c.args.params.now in let e = c.in_err-add_arg.field-0.0 in
+    let name = c.in_ok-value.ensures.says ∙ c.name.ensures in let ty = c.in_ok-ty.ensures ∙ c.ty.ensures in
+    let same : arg_text (naming mid c.args.unit.0) (record { value = c.in_ok-value.value; ty = c.in_ok-ty.ty; output = c.args.output }) ≡ f p = λ j. record { name = name j; ty = ty j; output = c.args.output } in
+    let all : map f ps ≡ (map f (take i ps) ++ f p ∷ []) ++ map f (drop (i + 1) ps) = done_rest c.args.output ps (i + 1) ∙ ap (λ xs. xs ++ map f (drop (i + 1) ps)) (done_next c.args.output ps i p c.loop-param-test.true c.param-item.is) in
+    adds-err c.from_residual-in_err-add_arg.result (fault_of e) c.args.m.now c.add_arg.new.self c.args.unit (map f ps) c.from_residual-in_err-add_arg.ensures.1
+    (args-refused c.args.m.now mid c.add_arg.new.self c.args.unit (map f (take i ps)) (f p) _ (map f ps) (map f (drop (i + 1) ps)) e
+    (At-grown c.args.m.now c.loop-param.m mid c.args.unit _ c.loop-param.invariant c.in_ok-value.ensures.grows) same all c.in_err-add_arg.ensures)
+
+pub loop-param-preserved : goal.loop-param-preserved
+loop-param-preserved c =
+    let p = c.param-item.result in let i = c.loop-param.param-index in let mid = c.value_id.new.m in
+    let f = arg_of c.args.output in let ps = c.args.params.now in
+    let name = c.in_ok-value.ensures.says ∙ c.name.ensures in let ty = c.in_ok-ty.ensures ∙ c.ty.ensures in
+    let given : ArgText = arg_text (naming mid c.args.unit.0) (record { value = c.in_ok-value.value; ty = c.in_ok-ty.ty; output = c.args.output }) in
+    let same : given ≡ f p = λ j. record { name = name j; ty = ty j; output = c.args.output } in
+    let done : map f (take i ps) ++ given ∷ [] ≡ map f (take (i + 1) ps) = ap (λ a. map f (take i ps) ++ a ∷ []) same ∙ sym (done_next c.args.output ps i p c.loop-param-test.true c.param-item.is) in
+    subst (At c.args.m.now c.add_arg.new.self c.args.unit) done
+    (At-next c.args.m.now mid c.add_arg.new.self c.args.unit (map f (take i ps)) given
+    (At-grown c.args.m.now c.loop-param.m mid c.args.unit _ c.loop-param.invariant c.in_ok-value.ensures.grows) c.in_ok-add_arg.ensures.0 c.in_ok-add_arg.ensures.1)

@@ -1,0 +1,215 @@
+//! Ids in place of names: each name of a line has an entry in the module, which is made where there is none.
+//!
+//! Each call answers `NoMemory` only for want of memory; the module then says what it said.
+ghost use Rattle.std.specs.Prelude.{◌≡◌, ◌<◌, map, IfOk};
+ghost use Rattle.lh_unit.specs.Arena.{unit_count};
+ghost use Rattle.lh_unit.specs.Builders.{FindsUnit};
+ghost use Rattle.lh_scan.specs.LexemeOf.{unit_name_of};
+ghost use Rattle.lh_syntax.specs.SyntaxOf.{operand_of, operands_of, trigger_of, edge_of};
+ghost use Rattle.lh_read.specs.Placing.{ValuePlaced, MaybePlaced, LabelPlaced, OperandPlaced, TriggerPlaced, EdgePlaced, OperandsPlaced, TriggersPlaced, EdgesPlaced, SignalsPlaced};
+
+use lh_scan::tokens::{NameText, UnitNameText};
+use lh_syntax::syntax::{Edge, Operand, Trigger};
+use lh_types::list::ListOf;
+use lh_types::ty::{NoMemory, Ty};
+use lh_unit::inst::{
+    BlockId, PhiEdge, PhiEdgeList, RegTrigger, RegTriggerList, Typed, TypedList, UnitId, ValueId,
+    ValueIdList,
+};
+use lh_unit::module::Module;
+use std::alloc::Global;
+
+/// The unit of this name.
+pub fn unit_id(alloc: Global, m: &mut Module, name: &UnitNameText) -> Result<UnitId, NoMemory>
+    ensures { FindsUnit result m.old m.new (unit_name_of name.now) }
+{
+    // Never so in a text of 64 MiB, which has fewer names than there are ids.
+    if m.units() == u32::MAX {
+        return Err(NoMemory);
+    }
+    let name = name.to_unit_name(alloc)?;
+    m.unit_named(&name)
+}
+
+/// The value of this name in a unit.
+pub fn value_id(
+    alloc: Global,
+    m: &mut Module,
+    unit: UnitId,
+    name: &NameText,
+) -> Result<ValueId, NoMemory>
+    requires { unit.0 < unit_count m.old }
+    ensures { IfOk result (λ v. ValuePlaced m.old m.new unit v name.now) }
+{
+    // Never so in a text of 64 MiB, which has fewer names than there are ids.
+    if m.values(unit) == u32::MAX {
+        return Err(NoMemory);
+    }
+    let name = name.to_name(alloc)?;
+    m.value_named(unit, &name)
+}
+
+/// The label of this name in a unit.
+pub fn label_id(
+    alloc: Global,
+    m: &mut Module,
+    unit: UnitId,
+    name: &NameText,
+) -> Result<BlockId, NoMemory>
+    requires { unit.0 < unit_count m.old }
+    ensures { IfOk result (λ b. LabelPlaced m.old m.new unit b name.now) }
+{
+    // Never so in a text of 64 MiB, which has fewer names than there are ids.
+    if m.labels(unit) == u32::MAX {
+        return Err(NoMemory);
+    }
+    let name = name.to_name(alloc)?;
+    m.block_named(unit, &name)
+}
+
+/// The value of this name, if there is a name.
+pub fn maybe_id(
+    alloc: Global,
+    m: &mut Module,
+    unit: UnitId,
+    name: &Option<NameText>,
+) -> Result<Option<ValueId>, NoMemory>
+    requires { unit.0 < unit_count m.old }
+    ensures { IfOk result (λ v. MaybePlaced m.old m.new unit v name.now) }
+{
+    match name {
+        Some(name) => Ok(Some(value_id(alloc, m, unit, name)?)),
+        None => Ok(None),
+    }
+}
+
+/// An equal type, if there is one.
+fn copy_type(ty: &Option<Ty>) -> Result<Option<Ty>, NoMemory>
+    ensures { IfOk result (λ t. t ≡ ty.now) }
+{
+    match ty {
+        Some(ty) => Ok(Some(ty.copy()?)),
+        None => Ok(None),
+    }
+}
+
+/// The operand.
+pub fn operand(
+    alloc: Global,
+    m: &mut Module,
+    unit: UnitId,
+    from: &Operand,
+) -> Result<Typed, NoMemory>
+    requires { unit.0 < unit_count m.old }
+    ensures { IfOk result (λ t. OperandPlaced m.old m.new unit t (operand_of from.now)) }
+{
+    let value = value_id(alloc, m, unit, &from.value)?;
+    let ty = copy_type(&from.ty)?;
+    Ok(Typed { value, ty })
+}
+
+/// The trigger of a register.
+fn trigger(
+    alloc: Global,
+    m: &mut Module,
+    unit: UnitId,
+    from: &Trigger,
+) -> Result<RegTrigger, NoMemory>
+    requires { unit.0 < unit_count m.old }
+    ensures { IfOk result (λ t. TriggerPlaced m.old m.new unit t (trigger_of from.now)) }
+{
+    let value = value_id(alloc, m, unit, &from.value)?;
+    let mode = from.mode;
+    let trigger = value_id(alloc, m, unit, &from.trigger)?;
+    let gate = maybe_id(alloc, m, unit, &from.gate)?;
+    let after = maybe_id(alloc, m, unit, &from.after)?;
+    Ok(RegTrigger {
+        value,
+        mode,
+        trigger,
+        gate,
+        after,
+    })
+}
+
+/// The edge of a `phi`.
+fn edge(alloc: Global, m: &mut Module, unit: UnitId, from: &Edge) -> Result<PhiEdge, NoMemory>
+    requires { unit.0 < unit_count m.old }
+    ensures { IfOk result (λ e. EdgePlaced m.old m.new unit e (edge_of from.now)) }
+{
+    let value = value_id(alloc, m, unit, &from.value)?;
+    let block = label_id(alloc, m, unit, &from.block)?;
+    Ok(PhiEdge { value, block })
+}
+
+/// The operands.
+pub fn operands(
+    alloc: Global,
+    m: &mut Module,
+    unit: UnitId,
+    from: &[Operand],
+) -> Result<TypedList, NoMemory>
+    requires { unit.0 < unit_count m.old }
+    ensures { IfOk result (λ list. OperandsPlaced m.old m.new unit list (operands_of from.now)) }
+{
+    let mut to = ListOf::new(alloc);
+    for one in from {
+        let placed = operand(alloc, m, unit, one)?;
+        to.push(placed)?;
+    }
+    Ok(to)
+}
+
+/// The triggers of a register.
+pub fn triggers(
+    alloc: Global,
+    m: &mut Module,
+    unit: UnitId,
+    from: &[Trigger],
+) -> Result<RegTriggerList, NoMemory>
+    requires { unit.0 < unit_count m.old }
+    ensures { IfOk result (λ list. TriggersPlaced m.old m.new unit list (map trigger_of from.now)) }
+{
+    let mut to = ListOf::new(alloc);
+    for one in from {
+        let placed = trigger(alloc, m, unit, one)?;
+        to.push(placed)?;
+    }
+    Ok(to)
+}
+
+/// The edges of a `phi`.
+pub fn edges(
+    alloc: Global,
+    m: &mut Module,
+    unit: UnitId,
+    from: &[Edge],
+) -> Result<PhiEdgeList, NoMemory>
+    requires { unit.0 < unit_count m.old }
+    ensures { IfOk result (λ list. EdgesPlaced m.old m.new unit list (map edge_of from.now)) }
+{
+    let mut to = ListOf::new(alloc);
+    for one in from {
+        let placed = edge(alloc, m, unit, one)?;
+        to.push(placed)?;
+    }
+    Ok(to)
+}
+
+/// The signals that a `wait` names.
+pub fn signals(
+    alloc: Global,
+    m: &mut Module,
+    unit: UnitId,
+    from: &[NameText],
+) -> Result<ValueIdList, NoMemory>
+    requires { unit.0 < unit_count m.old }
+    ensures { IfOk result (λ list. SignalsPlaced m.old m.new unit list from.now) }
+{
+    let mut to = ListOf::new(alloc);
+    for one in from {
+        let placed = value_id(alloc, m, unit, one)?;
+        to.push(placed)?;
+    }
+    Ok(to)
+}

@@ -1,0 +1,212 @@
+//! A module, built line by line.
+ghost use Rattle.std.specs.Prelude.{◌≡◌, map, None, Some, OnOk, IfOk};
+ghost use Rattle.lh_unit.specs.Spells.{input_of, header_item, declare_item, label_item, inst_item, close_item};
+ghost use Rattle.lh_unit.specs.Reads.{start};
+ghost use Rattle.lh_scan.specs.LexemeOf.{unit_name_of};
+ghost use Rattle.lh_syntax.specs.SyntaxOf.{ports_of, inst_of, item_of};
+ghost use Rattle.lh_read.specs.Steps.{step};
+ghost use Rattle.lh_read.specs.Building.{Steps};
+ghost use Rattle.lh_read.specs.InOrder.{state_of, IsInOrder};
+
+use crate::faults::LineFault;
+use crate::ids::{label_id, maybe_id};
+use crate::insts::instruction;
+use crate::places::Place;
+use crate::units::{begin_function, begin_with_ports};
+use lh_scan::tokens::{NameText, UnitNameText};
+use lh_syntax::syntax::{InstSyntax, LineSyntax, Param, Ports};
+use lh_types::ty::{NoMemory, Ty, TyList};
+use lh_unit::inst::{Declare, UnitKind};
+use lh_unit::module::Module;
+use std::alloc::Global;
+
+/// The declaration of a function.
+fn declare_function(
+    alloc: Global,
+    name: &UnitNameText,
+    params: TyList,
+    result_type: Ty,
+) -> Result<Declare, NoMemory>
+    ensures { IfOk result (λ d. d ≡ Declare.Func (unit_name_of name.now) params result_type) }
+{
+    let name = name.to_unit_name(alloc)?;
+    Ok(Declare::Func {
+        name,
+        params,
+        result: result_type,
+    })
+}
+
+/// The declaration of an entity or process.
+fn declare_unit(
+    alloc: Global,
+    name: &UnitNameText,
+    inputs: TyList,
+    outputs: TyList,
+) -> Result<Declare, NoMemory>
+    ensures { IfOk result (λ d. d ≡ Declare.Unit (unit_name_of name.now) inputs outputs) }
+{
+    let name = name.to_unit_name(alloc)?;
+    Ok(Declare::Unit {
+        name,
+        inputs,
+        outputs,
+    })
+}
+
+/// A module as far as it is read, and the place in which the next line stands.
+#[derive(Drop)]
+pub struct Reader {
+    pub module: Module,
+    pub place: Place,
+}
+
+impl Reader {
+    /// A reader of a file, before its first line.
+    pub fn new(alloc: Global) -> Reader
+        ensures start { state_of result ≡ start }
+        ensures order { IsInOrder result }
+    {
+        Reader {
+            module: Module::new(alloc),
+            place: Place::Outside,
+        }
+    }
+
+    /// Takes what the next line says. After a fault the reader is of no more use.
+    pub fn take(&mut self, alloc: Global, line: LineSyntax) -> Result<(), LineFault>
+        requires { IsInOrder self.old }
+        ensures step { Steps result (step (state_of self.old) (item_of line.entry)) (state_of self.new) }
+        ensures order { OnOk result (IsInOrder self.new) }
+    {
+        match line {
+            LineSyntax::Empty => Ok(()),
+            LineSyntax::Func {
+                name,
+                params,
+                result,
+            } => self.take_function(alloc, &name, params.as_slice(), result),
+            LineSyntax::Proc { name, ports } => {
+                self.take_unit(alloc, UnitKind::Proc, &name, &ports)
+            }
+            LineSyntax::Entity { name, ports } => {
+                self.take_unit(alloc, UnitKind::Entity, &name, &ports)
+            }
+            LineSyntax::DeclareFunc {
+                name,
+                params,
+                result,
+            } => self.take_declare(declare_function(alloc, &name, params, result)?),
+            LineSyntax::DeclareUnit {
+                name,
+                inputs,
+                outputs,
+            } => self.take_declare(declare_unit(alloc, &name, inputs, outputs)?),
+            LineSyntax::Label(name) => self.take_label(alloc, &name),
+            LineSyntax::Inst { result, inst } => self.take_inst(alloc, &result, inst),
+            LineSyntax::Close => self.take_close(),
+        }
+    }
+
+    fn take_function(
+        &mut self,
+        alloc: Global,
+        name: &UnitNameText,
+        params: &[Param],
+        result_type: Ty,
+    ) -> Result<(), LineFault>
+        requires { IsInOrder self.old }
+        ensures step { Steps result (step (state_of self.old) (header_item UnitKind.Func (unit_name_of name.now) (map input_of params.now) (Some result_type))) (state_of self.new) }
+        ensures order { OnOk result (IsInOrder self.new) }
+    {
+        if self.place.is_inside() {
+            return Err(LineFault::Syntax);
+        }
+        if name.is_assert() {
+            return Err(LineFault::DuplicateName);
+        }
+        let unit = begin_function(alloc, &mut self.module, name, params, result_type)?;
+        self.place = Place::behind_header(UnitKind::Func, unit);
+        Ok(())
+    }
+
+    fn take_unit(
+        &mut self,
+        alloc: Global,
+        kind: UnitKind,
+        name: &UnitNameText,
+        ports: &Ports,
+    ) -> Result<(), LineFault>
+        requires { IsInOrder self.old }
+        ensures step { Steps result (step (state_of self.old) (header_item kind (unit_name_of name.now) (ports_of ports.now) None)) (state_of self.new) }
+        ensures order { OnOk result (IsInOrder self.new) }
+    {
+        if self.place.is_inside() {
+            return Err(LineFault::Syntax);
+        }
+        if name.is_assert() {
+            return Err(LineFault::DuplicateName);
+        }
+        let unit = begin_with_ports(alloc, &mut self.module, kind, name, ports)?;
+        self.place = Place::behind_header(kind, unit);
+        Ok(())
+    }
+
+    fn take_declare(&mut self, declare: Declare) -> Result<(), LineFault>
+        requires { IsInOrder self.old }
+        ensures step { Steps result (step (state_of self.old) (declare_item declare)) (state_of self.new) }
+        ensures order { OnOk result (IsInOrder self.new) }
+    {
+        if self.place.is_inside() {
+            return Err(LineFault::Syntax);
+        }
+        self.module.add_declare(declare)?;
+        Ok(())
+    }
+
+    fn take_label(&mut self, alloc: Global, name: &NameText) -> Result<(), LineFault>
+        requires { IsInOrder self.old }
+        ensures step { Steps result (step (state_of self.old) (label_item name.now)) (state_of self.new) }
+        ensures order { OnOk result (IsInOrder self.new) }
+    {
+        let Some(unit) = self.place.label_unit() else {
+            return Err(LineFault::Syntax);
+        };
+        let block = label_id(alloc, &mut self.module, unit, name)?;
+        self.module.add_block(unit, block)?;
+        self.place = Place::InEmptyBlock(unit);
+        Ok(())
+    }
+
+    fn take_inst(
+        &mut self,
+        alloc: Global,
+        name: &Option<NameText>,
+        inst: InstSyntax,
+    ) -> Result<(), LineFault>
+        requires { IsInOrder self.old }
+        ensures step { Steps result (step (state_of self.old) (inst_item (record { result = name.now; inst = inst_of inst.entry }))) (state_of self.new) }
+        ensures order { OnOk result (IsInOrder self.new) }
+    {
+        let Some(unit) = self.place.block_unit() else {
+            return Err(LineFault::Syntax);
+        };
+        let value = maybe_id(alloc, &mut self.module, unit, name)?;
+        let inst = instruction(alloc, &mut self.module, unit, inst)?;
+        self.module.add_inst(unit, value, inst)?;
+        self.place = self.place.behind_inst();
+        Ok(())
+    }
+
+    fn take_close(&mut self) -> Result<(), LineFault>
+        requires { IsInOrder self.old }
+        ensures step { Steps result (step (state_of self.old) close_item) (state_of self.new) }
+        ensures order { OnOk result (IsInOrder self.new) }
+    {
+        if !self.place.may_close() {
+            return Err(LineFault::Syntax);
+        }
+        self.place = Place::Outside;
+        Ok(())
+    }
+}
