@@ -23,87 +23,87 @@ use lh_unit::module::Module;
 /// Writes `st V* %p, %v`.
 fn put_store(
     out: &mut Vec<u8>,
-    module: &Module,
+    m: &Module,
     unit: UnitId,
     to: &Typed,
     value: ValueId,
 ) -> Result<(), NoMemory>
-    requires unit { unit.0 < unit_count module.now }
-    requires to { OperandWithin (sizes module.now unit.0) to.now }
-    requires value { ValueWithin (sizes module.now unit.0) value }
-    ensures { let f = naming module.now unit.0 in OnOk result (out.new.items ≡ out.old.items ++ render (inst_pieces (st_text (operand_text f to.now) (value_text f value)))) }
+    requires unit { unit.0 < unit_count m.now }
+    requires to { OperandWithin (sizes m.now unit.0) to.now }
+    requires value { ValueWithin (sizes m.now unit.0) value }
+    ensures { let f = naming m.now unit.0 in OnOk result (out.new.items ≡ out.old.items ++ render (inst_pieces (st_text (operand_text f to.now) (value_text f value)))) }
 {
-    put_operand(out, b"st ", module, unit, to)?;
-    put_value(out, b", %", module, unit, value)
+    put_operand(out, b"st ", m, unit, to)?;
+    put_value(out, b", %", m, unit, value)
 }
 
 /// Writes `, %v after %d`.
 fn put_delayed(
     out: &mut Vec<u8>,
-    module: &Module,
+    m: &Module,
     unit: UnitId,
     value: ValueId,
     after: ValueId,
 ) -> Result<(), NoMemory>
-    requires unit { unit.0 < unit_count module.now }
-    requires value { ValueWithin (sizes module.now unit.0) value }
-    requires after { ValueWithin (sizes module.now unit.0) after }
-    ensures { let f = naming module.now unit.0 in OnOk result (out.new.items ≡ out.old.items ++ render ([] ⸴ percent (value_text f value) ␣ keyword "after" ␣ percent (value_text f after))) }
+    requires unit { unit.0 < unit_count m.now }
+    requires value { ValueWithin (sizes m.now unit.0) value }
+    requires after { ValueWithin (sizes m.now unit.0) after }
+    ensures { let f = naming m.now unit.0 in OnOk result (out.new.items ≡ out.old.items ++ render ([] ⸴ percent (value_text f value) ␣ keyword "after" ␣ percent (value_text f after))) }
 {
-    put_value(out, b", %", module, unit, value)?;
-    put_value(out, b" after %", module, unit, after)
+    put_value(out, b", %", m, unit, value)?;
+    put_value(out, b" after %", m, unit, after)
 }
 
 /// Writes `drv S %s, %v after %d if %c`.
 fn put_drive(
     out: &mut Vec<u8>,
-    module: &Module,
+    m: &Module,
     unit: UnitId,
     to: &Typed,
     value: ValueId,
     after: ValueId,
     cond: Option<ValueId>,
 ) -> Result<(), NoMemory>
-    requires unit { unit.0 < unit_count module.now }
-    requires to { OperandWithin (sizes module.now unit.0) to.now }
-    requires value { ValueWithin (sizes module.now unit.0) value }
-    requires after { ValueWithin (sizes module.now unit.0) after }
-    requires cond { MaybeWithin (sizes module.now unit.0) cond }
-    ensures { let f = naming module.now unit.0 in OnOk result (out.new.items ≡ out.old.items ++ render (inst_pieces (drv_text (operand_text f to.now) (value_text f value) (value_text f after) (maybe_text f cond)))) }
+    requires unit { unit.0 < unit_count m.now }
+    requires to { OperandWithin (sizes m.now unit.0) to.now }
+    requires value { ValueWithin (sizes m.now unit.0) value }
+    requires after { ValueWithin (sizes m.now unit.0) after }
+    requires cond { MaybeWithin (sizes m.now unit.0) cond }
+    ensures { let f = naming m.now unit.0 in OnOk result (out.new.items ≡ out.old.items ++ render (inst_pieces (drv_text (operand_text f to.now) (value_text f value) (value_text f after) (maybe_text f cond)))) }
 {
-    put_operand(out, b"drv ", module, unit, to)?;
-    put_delayed(out, module, unit, value, after)?;
-    put_maybe(out, b"if", module, unit, cond)
+    put_operand(out, b"drv ", m, unit, to)?;
+    put_delayed(out, m, unit, value, after)?;
+    put_maybe(out, b"if", m, unit, cond)
 }
 
 /// Writes an instruction, without its result.
 pub fn put_inst(
     out: &mut Vec<u8>,
-    module: &Module,
+    m: &Module,
     unit: UnitId,
     inst: &Inst,
 ) -> Result<(), NoMemory>
-    requires unit { unit.0 < unit_count module.now }
-    requires placed { InstPlaced module.now unit.0 inst.now }
-    ensures { OnOk result (out.new.items ≡ out.old.items ++ render (inst_pieces (inst_text_at module.now unit.0 inst.now))) }
+    requires unit { unit.0 < unit_count m.now }
+    requires placed { InstPlaced m.now unit.0 inst.now }
+    ensures { OnOk result (out.new.items ≡ out.old.items ++ render (inst_pieces (inst_text_at m.now unit.0 inst.now))) }
 {
     match inst {
         Inst::Const(value) => put_const(out, value),
-        Inst::Pure { op, args } => put_operation(out, module, unit, *op, args.as_slice()),
-        Inst::Var(a) => put_operand(out, b"var ", module, unit, a),
-        Inst::Ld(p) => put_operand(out, b"ld ", module, unit, p),
-        Inst::St { to, value } => put_store(out, module, unit, to, *value),
-        Inst::Sig(a) => put_operand(out, b"sig ", module, unit, a),
-        Inst::Prb(s) => put_operand(out, b"prb ", module, unit, s),
+        Inst::Pure { op, args } => put_operation(out, m, unit, *op, args.as_slice()),
+        Inst::Var(a) => put_operand(out, b"var ", m, unit, a),
+        Inst::Ld(p) => put_operand(out, b"ld ", m, unit, p),
+        Inst::St { to, value } => put_store(out, m, unit, to, *value),
+        Inst::Sig(a) => put_operand(out, b"sig ", m, unit, a),
+        Inst::Prb(s) => put_operand(out, b"prb ", m, unit, s),
         Inst::Drv {
             to,
             value,
             after,
             cond,
-        } => put_drive(out, module, unit, to, *value, *after, *cond),
+        } => put_drive(out, m, unit, to, *value, *after, *cond),
         Inst::Reg { to, triggers } => {
-            put_operand(out, b"reg ", module, unit, to)?;
-            put_triggers_behind(out, module, unit, triggers.as_slice())
+            put_operand(out, b"reg ", m, unit, to)?;
+            put_triggers_behind(out, m, unit, triggers.as_slice())
         }
         Inst::Child {
             unit: child,
@@ -111,11 +111,11 @@ pub fn put_inst(
             outputs,
         } => {
             put(out, b"inst ")?;
-            put_unit_name(out, module.unit_name(*child))?;
+            put_unit_name(out, m.unit_name(*child))?;
             put(out, b" (")?;
-            put_operands(out, module, unit, inputs.as_slice())?;
+            put_operands(out, m, unit, inputs.as_slice())?;
             put(out, b") -> (")?;
-            put_operands(out, module, unit, outputs.as_slice())?;
+            put_operands(out, m, unit, outputs.as_slice())?;
             put(out, b")")
         }
         Inst::Call {
@@ -126,30 +126,30 @@ pub fn put_inst(
             put(out, b"call ")?;
             put_type(out, result)?;
             put(out, b" ")?;
-            put_unit_name(out, module.unit_name(*callee))?;
+            put_unit_name(out, m.unit_name(*callee))?;
             put(out, b" (")?;
-            put_operands(out, module, unit, args.as_slice())?;
+            put_operands(out, m, unit, args.as_slice())?;
             put(out, b")")
         }
         Inst::Phi { ty, edges } => {
             put(out, b"phi ")?;
             put_type(out, ty)?;
             put(out, b" ")?;
-            put_edges(out, module, unit, edges.as_slice())
+            put_edges(out, m, unit, edges.as_slice())
         }
-        Inst::Br(to) => put_label(out, b"br %", module, unit, *to),
+        Inst::Br(to) => put_label(out, b"br %", m, unit, *to),
         Inst::Branch { cond, zero, one } => {
-            put_value(out, b"br %", module, unit, *cond)?;
-            put_label(out, b", %", module, unit, *zero)?;
-            put_label(out, b", %", module, unit, *one)
+            put_value(out, b"br %", m, unit, *cond)?;
+            put_label(out, b", %", m, unit, *zero)?;
+            put_label(out, b", %", m, unit, *one)
         }
         Inst::Wait { to, after, signals } => {
-            put_label(out, b"wait %", module, unit, *to)?;
-            put_maybe(out, b"for", module, unit, *after)?;
-            put_signals_behind(out, module, unit, signals.as_slice())
+            put_label(out, b"wait %", m, unit, *to)?;
+            put_maybe(out, b"for", m, unit, *after)?;
+            put_signals_behind(out, m, unit, signals.as_slice())
         }
         Inst::Halt => put(out, b"halt"),
         Inst::Ret(None) => put(out, b"ret"),
-        Inst::Ret(Some(v)) => put_operand(out, b"ret ", module, unit, v),
+        Inst::Ret(Some(v)) => put_operand(out, b"ret ", m, unit, v),
     }
 }

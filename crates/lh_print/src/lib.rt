@@ -22,11 +22,11 @@ use std::alloc::Global;
 ///
 /// Integers are unsigned, times stand in the largest unit in which they are whole, and a type that may be left out
 /// stands where the module has it. The only error is want of memory.
-pub fn print(alloc: Global, module: &Module) -> Result<Vec<u8>, NoMemory>
-    ensures { IfOk result (λ v. v.items ≡ canon (contents module.now)) }
+pub fn print(alloc: Global, m: &Module) -> Result<Vec<u8>, NoMemory>
+    ensures { IfOk result (λ v. v.items ≡ canon (contents m.now)) }
 {
     let mut out = Vec::new(alloc);
-    units::put_items(&mut out, module)?;
+    units::put_items(&mut out, m)?;
     Ok(out)
 }
 

@@ -30,52 +30,52 @@ pub fn put_unit_name(out: &mut Vec<u8>, name: &UnitName) -> Result<(), NoMemory>
 pub fn put_value(
     out: &mut Vec<u8>,
     before: &[u8],
-    module: &Module,
+    m: &Module,
     unit: UnitId,
     value: ValueId,
 ) -> Result<(), NoMemory>
-    requires unit { unit.0 < unit_count module.now }
-    requires value { value.0 < value_count module.now unit.0 }
-    ensures { OnOk result (out.new.items ≡ out.old.items ++ (before.now ++ value_name_at module.now unit.0 value.0)) }
+    requires unit { unit.0 < unit_count m.now }
+    requires value { value.0 < value_count m.now unit.0 }
+    ensures { OnOk result (out.new.items ≡ out.old.items ++ (before.now ++ value_name_at m.now unit.0 value.0)) }
 {
     put(out, before)?;
-    put(out, module.value_name(unit, value).as_bytes())
+    put(out, m.value_name(unit, value).as_bytes())
 }
 
 /// Writes a text, and then the name of a label.
 pub fn put_label(
     out: &mut Vec<u8>,
     before: &[u8],
-    module: &Module,
+    m: &Module,
     unit: UnitId,
     block: BlockId,
 ) -> Result<(), NoMemory>
-    requires unit { unit.0 < unit_count module.now }
-    requires block { block.0 < label_count module.now unit.0 }
-    ensures { OnOk result (out.new.items ≡ out.old.items ++ (before.now ++ label_name_at module.now unit.0 block.0)) }
+    requires unit { unit.0 < unit_count m.now }
+    requires block { block.0 < label_count m.now unit.0 }
+    ensures { OnOk result (out.new.items ≡ out.old.items ++ (before.now ++ label_name_at m.now unit.0 block.0)) }
 {
     put(out, before)?;
-    put(out, module.block_name(unit, block).as_bytes())
+    put(out, m.block_name(unit, block).as_bytes())
 }
 
 /// Writes a word and a value, such as ` if %c`, where there is a value.
 pub fn put_maybe(
     out: &mut Vec<u8>,
     word: &[u8],
-    module: &Module,
+    m: &Module,
     unit: UnitId,
     value: Option<ValueId>,
 ) -> Result<(), NoMemory>
-    requires unit { unit.0 < unit_count module.now }
-    requires value { MaybeWithin (sizes module.now unit.0) value }
-    ensures { OnOk result (out.new.items ≡ out.old.items ++ render (maybe word.now (maybe_text (naming module.now unit.0) value))) }
+    requires unit { unit.0 < unit_count m.now }
+    requires value { MaybeWithin (sizes m.now unit.0) value }
+    ensures { OnOk result (out.new.items ≡ out.old.items ++ render (maybe word.now (maybe_text (naming m.now unit.0) value))) }
 {
     match value {
         None => Ok(()),
         Some(value) => {
             put(out, b" ")?;
             put(out, word)?;
-            put_value(out, b" %", module, unit, value)
+            put_value(out, b" %", m, unit, value)
         }
     }
 }

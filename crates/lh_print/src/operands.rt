@@ -21,19 +21,19 @@ use lh_unit::module::Module;
 /// Writes an operand with the type that it has.
 fn put_typed(
     out: &mut Vec<u8>,
-    module: &Module,
+    m: &Module,
     unit: UnitId,
     typed: &Typed,
 ) -> Result<(), NoMemory>
-    requires unit { unit.0 < unit_count module.now }
-    requires placed { OperandWithin (sizes module.now unit.0) typed.now }
-    ensures { OnOk result (out.new.items ≡ out.old.items ++ render (operand (operand_text (naming module.now unit.0) typed.now))) }
+    requires unit { unit.0 < unit_count m.now }
+    requires placed { OperandWithin (sizes m.now unit.0) typed.now }
+    ensures { OnOk result (out.new.items ≡ out.old.items ++ render (operand (operand_text (naming m.now unit.0) typed.now))) }
 {
     match &typed.ty {
-        None => put_value(out, b"%", module, unit, typed.value),
+        None => put_value(out, b"%", m, unit, typed.value),
         Some(ty) => {
             put_type(out, ty)?;
-            put_value(out, b" %", module, unit, typed.value)
+            put_value(out, b" %", m, unit, typed.value)
         }
     }
 }
@@ -42,50 +42,50 @@ fn put_typed(
 pub fn put_operand(
     out: &mut Vec<u8>,
     before: &[u8],
-    module: &Module,
+    m: &Module,
     unit: UnitId,
     typed: &Typed,
 ) -> Result<(), NoMemory>
-    requires unit { unit.0 < unit_count module.now }
-    requires placed { OperandWithin (sizes module.now unit.0) typed.now }
-    ensures { OnOk result (out.new.items ≡ out.old.items ++ (before.now ++ render (operand (operand_text (naming module.now unit.0) typed.now)))) }
+    requires unit { unit.0 < unit_count m.now }
+    requires placed { OperandWithin (sizes m.now unit.0) typed.now }
+    ensures { OnOk result (out.new.items ≡ out.old.items ++ (before.now ++ render (operand (operand_text (naming m.now unit.0) typed.now)))) }
 {
     put(out, before)?;
-    put_typed(out, module, unit, typed)
+    put_typed(out, m, unit, typed)
 }
 
 /// Writes operands, with a comma and a space between them.
 pub fn put_operands(
     out: &mut Vec<u8>,
-    module: &Module,
+    m: &Module,
     unit: UnitId,
     args: &[Typed],
 ) -> Result<(), NoMemory>
-    requires unit { unit.0 < unit_count module.now }
-    requires placed { Each (OperandWithin (sizes module.now unit.0)) args.now }
-    ensures { OnOk result (out.new.items ≡ out.old.items ++ render (operands (map (operand_text (naming module.now unit.0)) args.now))) }
+    requires unit { unit.0 < unit_count m.now }
+    requires placed { Each (OperandWithin (sizes m.now unit.0)) args.now }
+    ensures { OnOk result (out.new.items ≡ out.old.items ++ render (operands (map (operand_text (naming m.now unit.0)) args.now))) }
 {
     match args.split_first() {
         None => Ok(()),
         Some((first, rest)) => {
-            put_operand(out, b"", module, unit, first)?;
-            put_operands_behind(out, module, unit, rest)
+            put_operand(out, b"", m, unit, first)?;
+            put_operands_behind(out, m, unit, rest)
         }
     }
 }
 
 fn put_operands_behind(
     out: &mut Vec<u8>,
-    module: &Module,
+    m: &Module,
     unit: UnitId,
     args: &[Typed],
 ) -> Result<(), NoMemory>
-    requires unit { unit.0 < unit_count module.now }
-    requires placed { Each (OperandWithin (sizes module.now unit.0)) args.now }
-    ensures { OnOk result (out.new.items ≡ out.old.items ++ render (behind_commas (map operand (map (operand_text (naming module.now unit.0)) args.now)))) }
+    requires unit { unit.0 < unit_count m.now }
+    requires placed { Each (OperandWithin (sizes m.now unit.0)) args.now }
+    ensures { OnOk result (out.new.items ≡ out.old.items ++ render (behind_commas (map operand (map (operand_text (naming m.now unit.0)) args.now)))) }
 {
     for typed in args {
-        put_operand(out, b", ", module, unit, typed)?;
+        put_operand(out, b", ", m, unit, typed)?;
     }
     Ok(())
 }
@@ -93,16 +93,16 @@ fn put_operands_behind(
 /// Writes signals, with a comma and a space before each.
 pub fn put_signals_behind(
     out: &mut Vec<u8>,
-    module: &Module,
+    m: &Module,
     unit: UnitId,
     signals: &[ValueId],
 ) -> Result<(), NoMemory>
-    requires unit { unit.0 < unit_count module.now }
-    requires placed { Each (ValueWithin (sizes module.now unit.0)) signals.now }
-    ensures { OnOk result (out.new.items ≡ out.old.items ++ render (behind_commas (map percent (map (value_text (naming module.now unit.0)) signals.now)))) }
+    requires unit { unit.0 < unit_count m.now }
+    requires placed { Each (ValueWithin (sizes m.now unit.0)) signals.now }
+    ensures { OnOk result (out.new.items ≡ out.old.items ++ render (behind_commas (map percent (map (value_text (naming m.now unit.0)) signals.now)))) }
 {
     for signal in signals {
-        put_value(out, b", %", module, unit, *signal)?;
+        put_value(out, b", %", m, unit, *signal)?;
     }
     Ok(())
 }
@@ -110,36 +110,36 @@ pub fn put_signals_behind(
 /// Writes a trigger of a register behind a comma.
 fn put_trigger(
     out: &mut Vec<u8>,
-    module: &Module,
+    m: &Module,
     unit: UnitId,
     t: &RegTrigger,
 ) -> Result<(), NoMemory>
-    requires unit { unit.0 < unit_count module.now }
-    requires placed { TriggerWithin (sizes module.now unit.0) t.now }
-    ensures { OnOk result (out.new.items ≡ out.old.items ++ (44 ∷ 32 ∷ render (trigger (trigger_text (naming module.now unit.0) t.now)))) }
+    requires unit { unit.0 < unit_count m.now }
+    requires placed { TriggerWithin (sizes m.now unit.0) t.now }
+    ensures { OnOk result (out.new.items ≡ out.old.items ++ (44 ∷ 32 ∷ render (trigger (trigger_text (naming m.now unit.0) t.now)))) }
 {
-    put_value(out, b", [%", module, unit, t.value)?;
+    put_value(out, b", [%", m, unit, t.value)?;
     put(out, b", ")?;
     put(out, mode_word(t.mode))?;
-    put_value(out, b" %", module, unit, t.trigger)?;
-    put_maybe(out, b"if", module, unit, t.gate)?;
-    put_maybe(out, b"after", module, unit, t.after)?;
+    put_value(out, b" %", m, unit, t.trigger)?;
+    put_maybe(out, b"if", m, unit, t.gate)?;
+    put_maybe(out, b"after", m, unit, t.after)?;
     put(out, b"]")
 }
 
 /// Writes the triggers of a register, with a comma and a space before each.
 pub fn put_triggers_behind(
     out: &mut Vec<u8>,
-    module: &Module,
+    m: &Module,
     unit: UnitId,
     triggers: &[RegTrigger],
 ) -> Result<(), NoMemory>
-    requires unit { unit.0 < unit_count module.now }
-    requires placed { Each (TriggerWithin (sizes module.now unit.0)) triggers.now }
-    ensures { OnOk result (out.new.items ≡ out.old.items ++ render (behind_commas (map trigger (map (trigger_text (naming module.now unit.0)) triggers.now)))) }
+    requires unit { unit.0 < unit_count m.now }
+    requires placed { Each (TriggerWithin (sizes m.now unit.0)) triggers.now }
+    ensures { OnOk result (out.new.items ≡ out.old.items ++ render (behind_commas (map trigger (map (trigger_text (naming m.now unit.0)) triggers.now)))) }
 {
     for t in triggers {
-        put_trigger(out, module, unit, t)?;
+        put_trigger(out, m, unit, t)?;
     }
     Ok(())
 }
@@ -148,52 +148,52 @@ pub fn put_triggers_behind(
 fn put_edge(
     out: &mut Vec<u8>,
     before: &[u8],
-    module: &Module,
+    m: &Module,
     unit: UnitId,
     e: &PhiEdge,
 ) -> Result<(), NoMemory>
-    requires unit { unit.0 < unit_count module.now }
-    requires placed { EdgeWithin (sizes module.now unit.0) e.now }
-    ensures { OnOk result (out.new.items ≡ out.old.items ++ (before.now ++ render (edge (edge_text (naming module.now unit.0) e.now)))) }
+    requires unit { unit.0 < unit_count m.now }
+    requires placed { EdgeWithin (sizes m.now unit.0) e.now }
+    ensures { OnOk result (out.new.items ≡ out.old.items ++ (before.now ++ render (edge (edge_text (naming m.now unit.0) e.now)))) }
 {
     put(out, before)?;
-    put_value(out, b"[%", module, unit, e.value)?;
-    put_label(out, b", %", module, unit, e.block)?;
+    put_value(out, b"[%", m, unit, e.value)?;
+    put_label(out, b", %", m, unit, e.block)?;
     put(out, b"]")
 }
 
 /// Writes the edges of a `phi`, with a comma and a space between them.
 pub fn put_edges(
     out: &mut Vec<u8>,
-    module: &Module,
+    m: &Module,
     unit: UnitId,
     edges: &[PhiEdge],
 ) -> Result<(), NoMemory>
-    requires unit { unit.0 < unit_count module.now }
-    requires placed { Each (EdgeWithin (sizes module.now unit.0)) edges.now }
-    ensures { OnOk result (out.new.items ≡ out.old.items ++ render (commas (map edge (map (edge_text (naming module.now unit.0)) edges.now)))) }
+    requires unit { unit.0 < unit_count m.now }
+    requires placed { Each (EdgeWithin (sizes m.now unit.0)) edges.now }
+    ensures { OnOk result (out.new.items ≡ out.old.items ++ render (commas (map edge (map (edge_text (naming m.now unit.0)) edges.now)))) }
 {
     match edges.split_first() {
         None => Ok(()),
         Some((first, rest)) => {
-            put_edge(out, b"", module, unit, first)?;
-            put_edges_behind(out, module, unit, rest)
+            put_edge(out, b"", m, unit, first)?;
+            put_edges_behind(out, m, unit, rest)
         }
     }
 }
 
 fn put_edges_behind(
     out: &mut Vec<u8>,
-    module: &Module,
+    m: &Module,
     unit: UnitId,
     edges: &[PhiEdge],
 ) -> Result<(), NoMemory>
-    requires unit { unit.0 < unit_count module.now }
-    requires placed { Each (EdgeWithin (sizes module.now unit.0)) edges.now }
-    ensures { OnOk result (out.new.items ≡ out.old.items ++ render (behind_commas (map edge (map (edge_text (naming module.now unit.0)) edges.now)))) }
+    requires unit { unit.0 < unit_count m.now }
+    requires placed { Each (EdgeWithin (sizes m.now unit.0)) edges.now }
+    ensures { OnOk result (out.new.items ≡ out.old.items ++ render (behind_commas (map edge (map (edge_text (naming m.now unit.0)) edges.now)))) }
 {
     for e in edges {
-        put_edge(out, b", ", module, unit, e)?;
+        put_edge(out, b", ", m, unit, e)?;
     }
     Ok(())
 }
@@ -224,57 +224,57 @@ fn put_numbers_behind(out: &mut Vec<u8>, op: Op) -> Result<(), NoMemory>
 fn put_bracketed(
     out: &mut Vec<u8>,
     begin: &[u8],
-    module: &Module,
+    m: &Module,
     unit: UnitId,
     args: &[Typed],
     end: &[u8],
 ) -> Result<(), NoMemory>
-    requires unit { unit.0 < unit_count module.now }
-    requires placed { Each (OperandWithin (sizes module.now unit.0)) args.now }
-    ensures { OnOk result (out.new.items ≡ out.old.items ++ (begin.now ++ (render (operands (map (operand_text (naming module.now unit.0)) args.now)) ++ end.now))) }
+    requires unit { unit.0 < unit_count m.now }
+    requires placed { Each (OperandWithin (sizes m.now unit.0)) args.now }
+    ensures { OnOk result (out.new.items ≡ out.old.items ++ (begin.now ++ (render (operands (map (operand_text (naming m.now unit.0)) args.now)) ++ end.now))) }
 {
     put(out, begin)?;
-    put_operands(out, module, unit, args)?;
+    put_operands(out, m, unit, args)?;
     put(out, end)
 }
 
 /// Writes an operation that has a word.
 fn put_worded(
     out: &mut Vec<u8>,
-    module: &Module,
+    m: &Module,
     unit: UnitId,
     op: Op,
     args: &[Typed],
 ) -> Result<(), NoMemory>
-    requires unit { unit.0 < unit_count module.now }
-    requires placed { Each (OperandWithin (sizes module.now unit.0)) args.now }
-    ensures { OnOk result (out.new.items ≡ out.old.items ++ (word_of_op op ++ (32 ∷ (render (operands (map (operand_text (naming module.now unit.0)) args.now)) ++ render (behind_commas (map number (op_numbers op))))))) }
+    requires unit { unit.0 < unit_count m.now }
+    requires placed { Each (OperandWithin (sizes m.now unit.0)) args.now }
+    ensures { OnOk result (out.new.items ≡ out.old.items ++ (word_of_op op ++ (32 ∷ (render (operands (map (operand_text (naming m.now unit.0)) args.now)) ++ render (behind_commas (map number (op_numbers op))))))) }
 {
     put(out, op_word(op))?;
-    put_bracketed(out, b" ", module, unit, args, b"")?;
+    put_bracketed(out, b" ", m, unit, args, b"")?;
     put_numbers_behind(out, op)
 }
 
 /// Writes an operation on values or on parts of signals.
 pub fn put_operation(
     out: &mut Vec<u8>,
-    module: &Module,
+    m: &Module,
     unit: UnitId,
     op: Op,
     args: &[Typed],
 ) -> Result<(), NoMemory>
-    requires unit { unit.0 < unit_count module.now }
-    requires placed { Each (OperandWithin (sizes module.now unit.0)) args.now }
-    ensures { OnOk result (out.new.items ≡ out.old.items ++ render (operation op (map (operand_text (naming module.now unit.0)) args.now))) }
+    requires unit { unit.0 < unit_count m.now }
+    requires placed { Each (OperandWithin (sizes m.now unit.0)) args.now }
+    ensures { OnOk result (out.new.items ≡ out.old.items ++ render (operation op (map (operand_text (naming m.now unit.0)) args.now))) }
 {
     match op {
-        Op::Array => put_bracketed(out, b"[", module, unit, args, b"]"),
-        Op::Tuple => put_bracketed(out, b"{", module, unit, args, b"}"),
+        Op::Array => put_bracketed(out, b"[", m, unit, args, b"]"),
+        Op::Tuple => put_bracketed(out, b"{", m, unit, args, b"}"),
         Op::Repeat(n) => {
             put(out, b"[")?;
             put_number(out, u128::from(n))?;
-            put_bracketed(out, b" x ", module, unit, args, b"]")
+            put_bracketed(out, b" x ", m, unit, args, b"]")
         }
-        _ => put_worded(out, module, unit, op, args),
+        _ => put_worded(out, m, unit, op, args),
     }
 }

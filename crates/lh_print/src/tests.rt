@@ -85,13 +85,13 @@ fn constants_have_these_texts(rt: HostRuntime) {
 }
 
 fn two_items(alloc: Global) -> Result<Vec<u8>, NoMemory> {
-    let mut module = Module::new(alloc);
+    let mut m = Module::new(alloc);
     let entity = UnitName {
         sigil: b'%',
         name: Name::new(alloc, b"e")?,
     };
-    let unit = module.unit_named(&entity)?;
-    if module.begin_unit(unit, UnitKind::Entity).is_err() {
+    let unit = m.unit_named(&entity)?;
+    if m.begin_unit(unit, UnitKind::Entity).is_err() {
         return Err(NoMemory);
     }
     let mut params = TyList::new(alloc);
@@ -105,12 +105,12 @@ fn two_items(alloc: Global) -> Result<Vec<u8>, NoMemory> {
         sigil: b'@',
         name: Name::new(alloc, b"f.1")?,
     };
-    module.add_declare(Declare::Func {
+    m.add_declare(Declare::Func {
         name: function,
         params,
         result: Ty::void(),
     })?;
-    print(alloc, &module)
+    print(alloc, &m)
 }
 
 #[test]

@@ -23,48 +23,48 @@ use lh_unit::module::Module;
 /// Writes `%r = ` where there is a result.
 fn put_assigned(
     out: &mut Vec<u8>,
-    module: &Module,
+    m: &Module,
     unit: UnitId,
     value: Option<ValueId>,
 ) -> Result<(), NoMemory>
-    requires unit { unit.0 < unit_count module.now }
-    requires value { MaybeWithin (sizes module.now unit.0) value }
-    ensures { OnOk result (out.new.items ≡ out.old.items ++ render (assigned (maybe_text (naming module.now unit.0) value))) }
+    requires unit { unit.0 < unit_count m.now }
+    requires value { MaybeWithin (sizes m.now unit.0) value }
+    ensures { OnOk result (out.new.items ≡ out.old.items ++ render (assigned (maybe_text (naming m.now unit.0) value))) }
 {
     match value {
         None => Ok(()),
         Some(value) => {
-            put_value(out, b"%", module, unit, value)?;
+            put_value(out, b"%", m, unit, value)?;
             put(out, b" = ")
         }
     }
 }
 
 /// Writes the line of an instruction.
-fn put_line(out: &mut Vec<u8>, module: &Module, unit: UnitId, inst: InstId) -> Result<(), NoMemory>
-    requires unit { unit.0 < unit_count module.now }
-    requires inst { IsInstOf module.now unit.0 inst }
-    ensures { OnOk result (out.new.items ≡ out.old.items ++ text_of (inst_line (line_text (naming module.now unit.0) (line_at (table_at module.now unit.0) inst.0)) ∷ [])) }
+fn put_line(out: &mut Vec<u8>, m: &Module, unit: UnitId, inst: InstId) -> Result<(), NoMemory>
+    requires unit { unit.0 < unit_count m.now }
+    requires inst { IsInstOf m.now unit.0 inst }
+    ensures { OnOk result (out.new.items ≡ out.old.items ++ text_of (inst_line (line_text (naming m.now unit.0) (line_at (table_at m.now unit.0) inst.0)) ∷ [])) }
 {
     put(out, b"    ")?;
-    put_assigned(out, module, unit, module.result_of(unit, inst))?;
-    put_inst(out, module, unit, module.inst(unit, inst))?;
+    put_assigned(out, m, unit, m.result_of(unit, inst))?;
+    put_inst(out, m, unit, m.inst(unit, inst))?;
     put(out, b"\n")
 }
 
 /// Writes the lines of instructions.
 fn put_lines(
     out: &mut Vec<u8>,
-    module: &Module,
+    m: &Module,
     unit: UnitId,
     insts: &[InstId],
 ) -> Result<(), NoMemory>
-    requires unit { unit.0 < unit_count module.now }
-    requires insts { Each (IsInstOf module.now unit.0) insts.now }
-    ensures { OnOk result (out.new.items ≡ out.old.items ++ text_of (map inst_line (map (λ i. line_text (naming module.now unit.0) (line_at (table_at module.now unit.0) i.0)) insts.now))) }
+    requires unit { unit.0 < unit_count m.now }
+    requires insts { Each (IsInstOf m.now unit.0) insts.now }
+    ensures { OnOk result (out.new.items ≡ out.old.items ++ text_of (map inst_line (map (λ i. line_text (naming m.now unit.0) (line_at (table_at m.now unit.0) i.0)) insts.now))) }
 {
     for inst in insts {
-        put_line(out, module, unit, *inst)?;
+        put_line(out, m, unit, *inst)?;
     }
     Ok(())
 }
@@ -72,18 +72,18 @@ fn put_lines(
 /// Writes the line of a label; an entity's block has none.
 fn put_label_line(
     out: &mut Vec<u8>,
-    module: &Module,
+    m: &Module,
     unit: UnitId,
     block: BlockId,
 ) -> Result<(), NoMemory>
-    requires unit { unit.0 < unit_count module.now }
-    requires labelled { IsLabelled module.now unit.0 (kind_at module.now unit.0) block }
-    ensures { OnOk result (out.new.items ≡ out.old.items ++ text_of (label_lines (label_text (naming module.now unit.0) (kind_at module.now unit.0) block))) }
+    requires unit { unit.0 < unit_count m.now }
+    requires labelled { IsLabelled m.now unit.0 (kind_at m.now unit.0) block }
+    ensures { OnOk result (out.new.items ≡ out.old.items ++ text_of (label_lines (label_text (naming m.now unit.0) (kind_at m.now unit.0) block))) }
 {
-    match module.kind(unit) {
+    match m.kind(unit) {
         Some(UnitKind::Entity) => Ok(()),
         None | Some(UnitKind::Func) | Some(UnitKind::Proc) => {
-            put_label(out, b"", module, unit, block)?;
+            put_label(out, b"", m, unit, block)?;
             put(out, b":\n")
         }
     }
@@ -92,67 +92,67 @@ fn put_label_line(
 /// Writes the lines of a block.
 fn put_block(
     out: &mut Vec<u8>,
-    module: &Module,
+    m: &Module,
     unit: UnitId,
     block: BlockId,
 ) -> Result<(), NoMemory>
-    requires unit { unit.0 < unit_count module.now }
-    requires block { IsBlockOf module.now unit.0 block }
-    ensures { OnOk result (out.new.items ≡ out.old.items ++ text_of (block_lines (block_text (naming module.now unit.0) (table_at module.now unit.0) block))) }
+    requires unit { unit.0 < unit_count m.now }
+    requires block { IsBlockOf m.now unit.0 block }
+    ensures { OnOk result (out.new.items ≡ out.old.items ++ text_of (block_lines (block_text (naming m.now unit.0) (table_at m.now unit.0) block))) }
 {
-    put_label_line(out, module, unit, block)?;
-    put_lines(out, module, unit, module.insts(unit, block))
+    put_label_line(out, m, unit, block)?;
+    put_lines(out, m, unit, m.insts(unit, block))
 }
 
 /// Writes the lines of blocks.
 fn put_blocks(
     out: &mut Vec<u8>,
-    module: &Module,
+    m: &Module,
     unit: UnitId,
     blocks: &[BlockId],
 ) -> Result<(), NoMemory>
-    requires unit { unit.0 < unit_count module.now }
-    requires blocks { Each (IsBlockOf module.now unit.0) blocks.now }
-    ensures { OnOk result (out.new.items ≡ out.old.items ++ text_of (blocks_lines (map (block_text (naming module.now unit.0) (table_at module.now unit.0)) blocks.now))) }
+    requires unit { unit.0 < unit_count m.now }
+    requires blocks { Each (IsBlockOf m.now unit.0) blocks.now }
+    ensures { OnOk result (out.new.items ≡ out.old.items ++ text_of (blocks_lines (map (block_text (naming m.now unit.0) (table_at m.now unit.0)) blocks.now))) }
 {
     for block in blocks {
-        put_block(out, module, unit, *block)?;
+        put_block(out, m, unit, *block)?;
     }
     Ok(())
 }
 
 /// Writes the first line of a unit, without its end.
-fn put_header(out: &mut Vec<u8>, module: &Module, unit: UnitId) -> Result<(), NoMemory>
-    requires { unit.0 < unit_count module.now }
-    ensures { let u = unit_text_at module.now unit.0 in OnOk result (out.new.items ≡ out.old.items ++ render (header u.kind u.name u.args u.result)) }
+fn put_header(out: &mut Vec<u8>, m: &Module, unit: UnitId) -> Result<(), NoMemory>
+    requires { unit.0 < unit_count m.now }
+    ensures { let u = unit_text_at m.now unit.0 in OnOk result (out.new.items ≡ out.old.items ++ render (header u.kind u.name u.args u.result)) }
 {
-    match module.kind(unit) {
+    match m.kind(unit) {
         None | Some(UnitKind::Func) => {
             put(out, b"func ")?;
-            put_unit_name(out, module.unit_name(unit))?;
-            put_signature(out, module, unit)
+            put_unit_name(out, m.unit_name(unit))?;
+            put_signature(out, m, unit)
         }
         Some(UnitKind::Proc) => {
             put(out, b"proc ")?;
-            put_unit_name(out, module.unit_name(unit))?;
-            put_ports(out, module, unit)
+            put_unit_name(out, m.unit_name(unit))?;
+            put_ports(out, m, unit)
         }
         Some(UnitKind::Entity) => {
             put(out, b"entity ")?;
-            put_unit_name(out, module.unit_name(unit))?;
-            put_ports(out, module, unit)
+            put_unit_name(out, m.unit_name(unit))?;
+            put_ports(out, m, unit)
         }
     }
 }
 
 /// Writes the lines of a unit.
-fn put_unit(out: &mut Vec<u8>, module: &Module, unit: UnitId) -> Result<(), NoMemory>
-    requires { unit.0 < unit_count module.now }
-    ensures { OnOk result (out.new.items ≡ out.old.items ++ text_of (item_lines (unit_text (unit_text_at module.now unit.0)))) }
+fn put_unit(out: &mut Vec<u8>, m: &Module, unit: UnitId) -> Result<(), NoMemory>
+    requires { unit.0 < unit_count m.now }
+    ensures { OnOk result (out.new.items ≡ out.old.items ++ text_of (item_lines (unit_text (unit_text_at m.now unit.0)))) }
 {
-    put_header(out, module, unit)?;
+    put_header(out, m, unit)?;
     put(out, b"\n")?;
-    put_blocks(out, module, unit, module.blocks(unit))?;
+    put_blocks(out, m, unit, m.blocks(unit))?;
     put(out, b"}\n")
 }
 
@@ -190,12 +190,12 @@ fn put_declaration(out: &mut Vec<u8>, declare: &Declare) -> Result<(), NoMemory>
 }
 
 /// Writes the lines of an item.
-fn put_item(out: &mut Vec<u8>, module: &Module, item: &Item) -> Result<(), NoMemory>
-    requires { IsItemOf module.now item.now }
-    ensures { OnOk result (out.new.items ≡ out.old.items ++ text_of (item_lines (item_text_at module.now item.now))) }
+fn put_item(out: &mut Vec<u8>, m: &Module, item: &Item) -> Result<(), NoMemory>
+    requires { IsItemOf m.now item.now }
+    ensures { OnOk result (out.new.items ≡ out.old.items ++ text_of (item_lines (item_text_at m.now item.now))) }
 {
     match item {
-        Item::Unit(unit) => put_unit(out, module, *unit),
+        Item::Unit(unit) => put_unit(out, m, *unit),
         Item::Declare(declare) => {
             put_declaration(out, declare)?;
             put(out, b"\n")
@@ -204,11 +204,11 @@ fn put_item(out: &mut Vec<u8>, module: &Module, item: &Item) -> Result<(), NoMem
 }
 
 /// Writes the canonical text of a module.
-pub fn put_items(out: &mut Vec<u8>, module: &Module) -> Result<(), NoMemory>
-    ensures { OnOk result (out.new.items ≡ out.old.items ++ canon (contents module.now)) }
+pub fn put_items(out: &mut Vec<u8>, m: &Module) -> Result<(), NoMemory>
+    ensures { OnOk result (out.new.items ≡ out.old.items ++ canon (contents m.now)) }
 {
-    for item in module.items() {
-        put_item(out, module, item)?;
+    for item in m.items() {
+        put_item(out, m, item)?;
     }
     Ok(())
 }

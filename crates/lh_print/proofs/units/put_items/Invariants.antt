@@ -4,4 +4,4 @@ use Rattle.lh_unit.specs.Canon.{canon}
 use Rattle.lh_print.proofs.units.put_items.Given as goal
 
 abbrev pub invariant-loop-item : goal.invariant-loop-item
-invariant-loop-item l = (l.out.items ++ canon (map (item_text_at l.module) (drop l.item-index l.item-items)) ≡ l.initial.out.items ++ canon (contents l.module)) × (l.item-items ≡ l.module.items)
+invariant-loop-item l = (l.out.items ++ canon (map (item_text_at l.m) (drop l.item-index l.item-items)) ≡ l.initial.out.items ++ canon (contents l.m)) × (l.item-items ≡ l.m.items)
