@@ -33,12 +33,7 @@ fn put_argument(
 }
 
 /// Writes arguments, with a comma and a space between them.
-fn put_arguments(
-    out: &mut Vec<u8>,
-    m: &Module,
-    unit: UnitId,
-    args: &[Arg],
-) -> Result<(), NoMemory>
+fn put_arguments(out: &mut Vec<u8>, m: &Module, unit: UnitId, args: &[Arg]) -> Result<(), NoMemory>
     requires unit { unit.0 < unit_count m.now }
     requires placed { ArgsWithin (value_count m.now unit.0) args.now }
     ensures { OnOk result (out.new.items ≡ out.old.items ++ render (arguments (map (arg_text (naming m.now unit.0)) args.now))) }

@@ -77,12 +77,7 @@ fn put_drive(
 }
 
 /// Writes an instruction, without its result.
-pub fn put_inst(
-    out: &mut Vec<u8>,
-    m: &Module,
-    unit: UnitId,
-    inst: &Inst,
-) -> Result<(), NoMemory>
+pub fn put_inst(out: &mut Vec<u8>, m: &Module, unit: UnitId, inst: &Inst) -> Result<(), NoMemory>
     requires unit { unit.0 < unit_count m.now }
     requires placed { InstPlaced m.now unit.0 inst.now }
     ensures { OnOk result (out.new.items ≡ out.old.items ++ render (inst_pieces (inst_text_at m.now unit.0 inst.now))) }

@@ -19,12 +19,7 @@ use lh_unit::inst::{PhiEdge, RegTrigger, Typed, UnitId, ValueId};
 use lh_unit::module::Module;
 
 /// Writes an operand with the type that it has.
-fn put_typed(
-    out: &mut Vec<u8>,
-    m: &Module,
-    unit: UnitId,
-    typed: &Typed,
-) -> Result<(), NoMemory>
+fn put_typed(out: &mut Vec<u8>, m: &Module, unit: UnitId, typed: &Typed) -> Result<(), NoMemory>
     requires unit { unit.0 < unit_count m.now }
     requires placed { OperandWithin (sizes m.now unit.0) typed.now }
     ensures { OnOk result (out.new.items ≡ out.old.items ++ render (operand (operand_text (naming m.now unit.0) typed.now))) }
@@ -108,12 +103,7 @@ pub fn put_signals_behind(
 }
 
 /// Writes a trigger of a register behind a comma.
-fn put_trigger(
-    out: &mut Vec<u8>,
-    m: &Module,
-    unit: UnitId,
-    t: &RegTrigger,
-) -> Result<(), NoMemory>
+fn put_trigger(out: &mut Vec<u8>, m: &Module, unit: UnitId, t: &RegTrigger) -> Result<(), NoMemory>
     requires unit { unit.0 < unit_count m.now }
     requires placed { TriggerWithin (sizes m.now unit.0) t.now }
     ensures { OnOk result (out.new.items ≡ out.old.items ++ (44 ∷ 32 ∷ render (trigger (trigger_text (naming m.now unit.0) t.now)))) }

@@ -53,12 +53,7 @@ fn put_line(out: &mut Vec<u8>, m: &Module, unit: UnitId, inst: InstId) -> Result
 }
 
 /// Writes the lines of instructions.
-fn put_lines(
-    out: &mut Vec<u8>,
-    m: &Module,
-    unit: UnitId,
-    insts: &[InstId],
-) -> Result<(), NoMemory>
+fn put_lines(out: &mut Vec<u8>, m: &Module, unit: UnitId, insts: &[InstId]) -> Result<(), NoMemory>
     requires unit { unit.0 < unit_count m.now }
     requires insts { Each (IsInstOf m.now unit.0) insts.now }
     ensures { OnOk result (out.new.items ≡ out.old.items ++ text_of (map inst_line (map (λ i. line_text (naming m.now unit.0) (line_at (table_at m.now unit.0) i.0)) insts.now))) }
@@ -90,12 +85,7 @@ fn put_label_line(
 }
 
 /// Writes the lines of a block.
-fn put_block(
-    out: &mut Vec<u8>,
-    m: &Module,
-    unit: UnitId,
-    block: BlockId,
-) -> Result<(), NoMemory>
+fn put_block(out: &mut Vec<u8>, m: &Module, unit: UnitId, block: BlockId) -> Result<(), NoMemory>
     requires unit { unit.0 < unit_count m.now }
     requires block { IsBlockOf m.now unit.0 block }
     ensures { OnOk result (out.new.items ≡ out.old.items ++ text_of (block_lines (block_text (naming m.now unit.0) (table_at m.now unit.0) block))) }
