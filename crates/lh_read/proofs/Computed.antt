@@ -7,9 +7,9 @@ use Rattle.lh_unit.specs.Spells.{LineItem}
 use Rattle.lh_unit.specs.Reads.{State, start, Takes, Walk, BadKind, syntax, IsBad, FirstBadFrom, Reads, FirstBad}
 use Rattle.lh_syntax.specs.Items.{item_at}
 use Rattle.lh_syntax.specs.SpelledBy.{SpelledBy}
+use Rattle.lh_syntax.proofs.SpelledItems.{spelled_by}
 use Rattle.lh_read.specs.Steps.{step}
 use Rattle.lh_read.specs.Reading.{ReadsOrIsBad}
-use Rattle.lh_read.proofs.Tokens.{spelled_by}
 use Rattle.lh_read.proofs.Texts.{closed, taken-line, bad-line, unspelled-line, unlexed-line, reads-once, reads-bad, first_bad-once}
 
 abbrev pub step_item : State → Option LineItem → Result State BadKind
@@ -60,7 +60,7 @@ line-answered s l = lexed (lexemes l) refl
 
     lexed : (o : Option (List Lexeme)) → lexemes l ≡ o → Answered s l (step_item s (item_of o))
     lexed None e = unlexed-line s l e
-    lexed (Some ts) e = spelled ts e (item_at ts) (spelled_by ts)
+    lexed (Some ts) e = spelled ts e (item_at ts) (spelled_by ts (item_at ts) refl)
 
 -- these lines lead to the end of a text, or one of them is the first faulty one
 abbrev AllAnswered : List (List ℕ) → ℕ → State → Result (List ItemText) (ℕ × BadKind) → Type 0

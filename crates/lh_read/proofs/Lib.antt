@@ -1,4 +1,3 @@
-pub mod Tokens
 pub mod LastUnit
 pub mod Splitting
 pub mod Stepping

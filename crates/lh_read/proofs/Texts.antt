@@ -7,8 +7,8 @@ use Rattle.lh_unit.specs.Spells.{LineItem, Spells}
 use Rattle.lh_unit.specs.Reads.{State, start, place_of, may_stand, too_large, defines_again, after, Says, Takes, Walk, Reads, BadKind, syntax, unit_too_large, duplicate_name, IsBad, FirstBadFrom, FirstBad}
 use Rattle.lh_syntax.specs.Items.{item_at}
 use Rattle.lh_syntax.specs.SpelledBy.{SpelledBy}
+use Rattle.lh_syntax.proofs.SpelledItems.{spelled_by}
 use Rattle.lh_read.specs.Steps.{step}
-use Rattle.lh_read.proofs.Tokens.{spelled_by}
 use Rattle.lh_read.proofs.Stepping.{IsFree, step-free, HasFault, step-fault}
 
 -- no unit is open at the end of these items
@@ -49,7 +49,7 @@ unlexed-line s l e = λ j v. no_tokens l v.tokens e v.lexed
 
 -- tokens spell one item
 spells-once : (ts : List Lexeme) (i j : LineItem) → Spells ts i → Spells ts j → i ≡ j
-spells-once ts i j v w = by (item_at ts) (spelled_by ts)
+spells-once ts i j v w = by (item_at ts) (spelled_by ts (item_at ts) refl)
   where
     by : (o : Option LineItem) → SpelledBy ts o → i ≡ j
     by None s = absurd (s i v)
