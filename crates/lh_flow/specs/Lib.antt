@@ -3,3 +3,4 @@ pub mod Asks
 pub mod Words
 pub mod Searches
 pub mod Groups
+pub mod Laws

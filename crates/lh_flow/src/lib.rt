@@ -4,4 +4,7 @@
 pub mod ask;
 pub mod flow;
 mod group;
+pub mod laws;
 mod search;
+#[cfg(test)]
+mod tests;
