@@ -7,3 +7,4 @@ pub mod Meaning
 pub mod Units
 pub mod Bounds
 pub mod Steps
+pub mod Exact
