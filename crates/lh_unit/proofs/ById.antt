@@ -1,34 +1,27 @@
 -- What is asked of names in a unit is what is asked of ids.
-use Rattle.std.proofs.Common.{◌≡◌, ◌≢◌, ℕ, ◌+◌, ◌<◌, ◌≤◌, zero, suc, Bool, true, false, ◌||◌, nat_eq, if◌then◌else◌, List, [], ◌∷◌, ◌++◌, length, map, get_or, Option, Some, None, IsSome, is_some, slice_get, refl, ap, sym, ◌∙◌, subst, arith}
+use Rattle.std.proofs.Common.{◌≡◌, ℕ, ◌<◌, zero, suc, Bool, true, false, ◌||◌, nat_eq, if◌then◌else◌, List, [], ◌∷◌, ◌++◌, map, get_or, Option, Some, None, IsSome, is_some, slice_get, refl, ap, sym, ◌∙◌}
 use Rattle.std.specs.Option.{option_map}
-use Rattle.std.proofs.lemmas.Option.{slice_get-get_or}
 use Rattle.lh_unit.specs.UnitNames.{same_unit_name}
-use Rattle.lh_unit.specs.Contents.{InstText, LineText, BlockText, ArgText, UnitText, ItemText, same_name, is_result_name, lines_define, blocks_define, args_define, defines_value, defines_label, defines_label_in, defines_unit}
+use Rattle.lh_unit.specs.Contents.{LineText, BlockText, same_name, is_result_name, lines_define, blocks_define, args_define, defines_value, defines_label, defines_unit}
 use Rattle.lh_unit.specs.Named.{unit_named, block_of}
 use Rattle.lh_unit.specs.Typing.{or_else, line_giving, inst_giving, arg_named}
-use Rattle.lh_unit.specs.Table.{Table, IsTable, HasBlocks, FitsKind, ArgsWithin, BlocksWithin, ResultWithin, ResultsWithin, is_arg, is_result, is_made, is_defined, is_block, line_at, no_line, insts_at, flat}
-use Rattle.lh_unit.specs.Within.{Each}
-use Rattle.lh_unit.specs.Naming.{Naming, naming_of, inst_text, line_text, arg_text, label_text, block_text, maybe_text}
-use Rattle.lh_unit.specs.Arena.{Arena, IsArena, contents, item_text_at, unit_text_at, naming, table_at, kind_at, args_at, blocks_at, unit_count, value_count, label_count, inst_count, unit_name_at, value_name_at, label_name_at, no_unit_name}
+use Rattle.lh_unit.specs.Table.{HasBlocks, ArgsWithin, BlocksWithin, ResultWithin, ResultsWithin, is_arg, is_result, is_made, is_defined, is_block, line_at, no_line, insts_at, flat}
+use Rattle.lh_unit.specs.Naming.{inst_text, line_text, arg_text, label_text, block_text, maybe_text}
+use Rattle.lh_unit.specs.Arena.{Arena, IsArena, contents, item_text_at, unit_text_at, naming, table_at, kind_at, args_at, blocks_at, unit_count, value_count, label_count, unit_name_at, value_name_at, label_name_at}
 use Rattle.lh_unit.specs.ById.{arg_being, inst_making, insts_make, blocks_make, is_item, inst_line}
-use Rattle.lh_unit.specs.declared.name.UnitName.{UnitName}
 use Rattle.lh_unit.specs.declared.inst.UnitId.{UnitId}
 use Rattle.lh_unit.specs.declared.inst.UnitKind.{UnitKind}
-use Rattle.lh_unit.specs.declared.inst.UnitKind.TheVariants as kind
 use Rattle.lh_unit.specs.declared.inst.BlockId.{BlockId}
 use Rattle.lh_unit.specs.declared.inst.InstId.{InstId}
 use Rattle.lh_unit.specs.declared.inst.ValueId.{ValueId}
-use Rattle.lh_unit.specs.declared.inst.Inst.{Inst}
 use Rattle.lh_unit.specs.declared.inst.Arg.{Arg}
 use Rattle.lh_unit.specs.declared.inst.Item.{Item}
 use Rattle.lh_unit.specs.declared.inst.Item.TheVariants as item
 use Rattle.lh_unit.specs.declared.table.Line.{Line}
 use Rattle.lh_unit.proofs.Lists.{Same, same, other, same_or, nat_eq-refl, nat_eq-other, nat_eq-is, not_true, or_true}
-use Rattle.lh_unit.proofs.Tables.{is_block-at, stands-within}
 use Rattle.lh_unit.proofs.Arenas.{same_unit_name-is, same_unit_name-refl}
-use Rattle.lh_unit.proofs.Texts.{insts-within}
 use Rattle.lh_unit.proofs.Defined.{same_name-ids, arg-ids, result-ids, line-ids, flat_lines, blocks_define-flat, defines_value-ids, defines_label-ids, label_text-named, blocks-within}
-use Rattle.lh_unit.proofs.ModuleLaws.{unit-by_name, block_insts-within}
+use Rattle.lh_unit.proofs.ModuleLaws.{unit-by_name}
 
 -- the first that fits, where the others are alike
 choose : {X : Type 0} (c d : Bool) (x y : X) (r : Option X) → (c ≡ true → x ≡ y) → r ≡ (if d then Some y else None) → (if c then Some x else r) ≡ (if (c || d) then Some y else None)

@@ -1,22 +1,20 @@
 -- What instructions and blocks name, by ids.
-use Rattle.std.proofs.Common.{◌≡◌, ℕ, ◌+◌, ◌<◌, ◌≤◌, zero, suc, Bool, true, false, ◌||◌, nat_eq, List, [], ◌∷◌, ◌++◌, length, map, get_or, Option, Some, None, slice_get, refl, ap, sym, ◌∙◌, subst, arith}
+use Rattle.std.proofs.Common.{◌≡◌, ℕ, ◌<◌, ◌||◌, nat_eq, List, [], ◌∷◌, ◌++◌, map, Option, Some, None, slice_get, refl, ap, sym, ◌∙◌}
 use Rattle.std.specs.List.{list_any}
 use Rattle.std.proofs.lemmas.List.{map-append}
 use Rattle.std.proofs.lemmas.Option.{slice_get-get_or}
 use Rattle.lh_types.specs.declared.op.Op.{Op}
 use Rattle.lh_types.specs.declared.op.Op.TheVariants as op
-use Rattle.lh_unit.specs.UnitNames.{same_unit_name}
-use Rattle.lh_unit.specs.Contents.{OperandText, TriggerText, EdgeText, InstText, LineText, BlockText, UnitText, same_name}
-use Rattle.lh_unit.specs.Kinds.{Use, Need, used, uses, all_used, maybe_used, trigger_uses, operation_uses, step_need, data_needed, time_needed, signal_needed, data_or_time_needed}
+use Rattle.lh_unit.specs.Contents.{EdgeText, same_name}
+use Rattle.lh_unit.specs.Kinds.{Use, Need, used, all_used, maybe_used, trigger_uses, operation_uses, step_need, data_needed, time_needed, signal_needed, data_or_time_needed}
 use Rattle.lh_unit.specs.Typing.{first_type}
-use Rattle.lh_unit.specs.WellFormed.{values_named, labels_named, units_named, is_phi}
+use Rattle.lh_unit.specs.WellFormed.{values_named, labels_named, units_named}
 use Rattle.lh_unit.specs.Places.{leads_to, is_terminator, last_leads_to, has_edge}
-use Rattle.lh_unit.specs.Table.{Table, IsTable, is_block, line_at, no_line, insts_at}
-use Rattle.lh_unit.specs.Within.{Each, EdgeWithin, InstWithin}
+use Rattle.lh_unit.specs.Table.{Table, is_block, line_at, no_line}
+use Rattle.lh_unit.specs.Within.{Each}
 use Rattle.lh_unit.specs.Naming.{Naming, inst_text, operand_text, trigger_text, edge_text, value_text, maybe_text, block_text}
-use Rattle.lh_unit.specs.Arena.{Arena, IsArena, InstPlaced, unit_text_at, naming, sizes, table_at, inst_at, unit_count, value_count, label_count, inst_count, unit_name_at, value_name_at, label_name_at, block_insts_at, blocks_at}
+use Rattle.lh_unit.specs.Arena.{Arena, IsArena, InstPlaced, naming, table_at, inst_at, unit_count, label_count, inst_count, label_name_at, block_insts_at, blocks_at}
 use Rattle.lh_unit.specs.ById.{operand_ids, maybe_id, trigger_ids, values_used, blocks_led_to, blocks_named, unit_ids, ends_block, last_led_to, successors, inst_line}
-use Rattle.lh_unit.specs.declared.name.UnitName.{UnitName}
 use Rattle.lh_unit.specs.declared.inst.UnitId.{UnitId}
 use Rattle.lh_unit.specs.declared.inst.BlockId.{BlockId}
 use Rattle.lh_unit.specs.declared.inst.InstId.{InstId}
@@ -26,7 +24,7 @@ use Rattle.lh_unit.specs.declared.inst.RegTrigger.{RegTrigger}
 use Rattle.lh_unit.specs.declared.inst.PhiEdge.{PhiEdge}
 use Rattle.lh_unit.specs.declared.inst.Inst.{Inst}
 use Rattle.lh_unit.specs.declared.inst.Inst.TheVariants as inst
-use Rattle.lh_unit.proofs.Lists.{map-map, map-ext}
+use Rattle.lh_unit.proofs.Lists.{map-map}
 use Rattle.lh_unit.proofs.ModuleLaws.{block_insts-within}
 use Rattle.lh_unit.proofs.ById.{same_label-by_id}
 

@@ -1,14 +1,12 @@
 -- The places of a unit and of a module, by ids, in file order.
-use Rattle.std.proofs.Common.{◌≡◌, ℕ, ◌+◌, ◌<◌, ◌≤◌, zero, suc, Bool, true, false, nat_eq, List, [], ◌∷◌, ◌++◌, length, map, get_or, Option, Some, None, slice_get, refl, ap, sym, ◌∙◌, subst, arith, append_assoc}
+use Rattle.std.proofs.Common.{◌≡◌, ℕ, ◌+◌, ◌<◌, zero, suc, Bool, true, false, nat_eq, List, [], ◌∷◌, ◌++◌, length, map, Some, slice_get, refl, ap, sym, ◌∙◌, subst, arith, append_assoc}
 use Rattle.std.proofs.lemmas.List.{map-append, length-map}
-use Rattle.lh_unit.specs.Contents.{LineText, BlockText, UnitText}
 use Rattle.lh_unit.specs.Places.{Place, places, places_in, places_from}
 use Rattle.lh_unit.specs.WellFormed.{Site, sites}
 use Rattle.lh_unit.specs.Table.{Table, IsTable, insts_at, flat, ids_from}
-use Rattle.lh_unit.specs.Naming.{Naming, naming_of, block_text, table_text}
-use Rattle.lh_unit.specs.Arena.{Arena, IsArena, contents, item_text_at, unit_text_at, naming, table_at, unit_count, unit_name_at}
+use Rattle.lh_unit.specs.Naming.{Naming, block_text}
+use Rattle.lh_unit.specs.Arena.{Arena, contents, item_text_at, unit_text_at, naming, table_at}
 use Rattle.lh_unit.specs.ById.{Spot, spots, spots_in, spots_from, inst_line, place_text, site_text, sites_at}
-use Rattle.lh_unit.specs.declared.name.UnitName.{UnitName}
 use Rattle.lh_unit.specs.declared.inst.BlockId.{BlockId}
 use Rattle.lh_unit.specs.declared.inst.InstId.{InstId}
 use Rattle.lh_unit.specs.declared.inst.Item.{Item}

@@ -1,6 +1,6 @@
 -- The same questions over ids as over names: operands, labels, definitions and places.
 use Rattle.std.specs.Prelude.{ℕ, ◌+◌, Bool, true, false, ◌||◌, nat_eq, List, [], ◌∷◌, ◌++◌, length, map, Option, Some, None, if◌then◌else◌}
-use Rattle.lh_unit.specs.Contents.{LineText, ItemText}
+use Rattle.lh_unit.specs.Contents.{LineText}
 use Rattle.lh_unit.specs.Table.{Table, line_at, insts_at, is_result}
 use Rattle.lh_unit.specs.Naming.{Naming, line_text, block_text}
 use Rattle.lh_unit.specs.Arena.{Arena, table_at, naming, unit_text_at}
