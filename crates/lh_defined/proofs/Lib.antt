@@ -1,8 +1,10 @@
 pub mod Lists
+pub mod Within
 pub mod Routes
 pub mod Paths
-pub mod Within
-pub mod Asks
+pub mod Asking
 pub mod Meaning
 pub mod Units
+pub mod Bounds
 pub mod Steps
+pub mod Exact

@@ -1,3 +1,4 @@
 pub mod Lacking
 pub mod Flowing
 pub mod Asking
+pub mod Laws

@@ -26,12 +26,21 @@ fn put_used(out: &mut Vec<ValueId>, inst: &Inst) -> Result<(), NoMemory>
         Inst::St { to, value } => put_two(out, to.value, *value),
         Inst::Sig(typed) => put(out, typed.value),
         Inst::Prb(typed) => put(out, typed.value),
-        Inst::Drv { to, value, after, cond } => put_drive(out, to.value, *value, *after, *cond),
+        Inst::Drv {
+            to,
+            value,
+            after,
+            cond,
+        } => put_drive(out, to.value, *value, *after, *cond),
         Inst::Reg { to, triggers } => {
             put(out, to.value)?;
             put_triggers(out, triggers.as_slice())
         }
-        Inst::Child { inputs, outputs, .. } => {
+        Inst::Child {
+            inputs,
+            outputs,
+            ..
+        } => {
             put_operands(out, inputs.as_slice())?;
             put_operands(out, outputs.as_slice())
         }
