@@ -1,7 +1,9 @@
-//! Laws on reading what is printed. Each is the contract of a function that does nothing, so that other crates can cite it.
+//! Reading what is printed: two calls, and laws, each the contract of a function that does nothing, so that other crates can cite it.
 #![tactic(auto)]
 
 ghost use Rattle.lh_again.specs.Laws.{EveryReadingIsSpelled, CanonHasItsLines, CanonHasItsTokens, PrintableIsSpelled, SpelledIsPrintable, SpelledApart, SpelledTogether};
+
+pub mod calls;
 
 /// What any text reads as, its canonical text reads as too.
 pub fn canonical_text_reads_back()
@@ -27,3 +29,6 @@ pub fn modules_are_spelled_by_items()
     ensures apart { SpelledApart }
     ensures together { SpelledTogether }
 {}
+
+#[cfg(test)]
+mod tests;

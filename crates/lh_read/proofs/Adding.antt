@@ -1,12 +1,12 @@
 -- One more instruction or block in the open unit, and its end.
-use Rattle.std.proofs.Common.{◌≡◌, ℕ, ◌+◌, ◌<◌, Bool, true, false, List, [], ◌∷◌, ◌++◌, Option, Some, None, Result, Ok, Err, IsErrAnd, nat_eq, refl, ap, sym, ◌∙◌, subst, arith}
+use Rattle.std.proofs.Common.{◌≡◌, ℕ, ◌<◌, true, false, List, Option, Some, None, Result, Ok, Err, IsErrAnd, nat_eq, refl, ap, sym, ◌∙◌, subst, arith}
 use Rattle.std.proofs.lemmas.Grind.{common_steps}
 use Rattle.lh_unit.specs.Contents.{UnitText, LineText, InstText, last_unit, change_last, with_block, with_line, line_count, defines_label}
 use Rattle.lh_unit.specs.Naming.{maybe_text}
 use Rattle.lh_unit.specs.Arena.{Arena, Grows, OfOpen, contents, naming, label_name_at}
 use Rattle.lh_unit.specs.Builders.{defines_result, line_text_at, HasRoom, Says, AddsLine, AddsBlock}
 use Rattle.lh_unit.specs.Spells.{label_item, inst_item, close_item}
-use Rattle.lh_unit.specs.Reads.{State, place_of, may_stand, is_full, value_again, label_again, BadKind, syntax, unit_too_large, duplicate_name}
+use Rattle.lh_unit.specs.Reads.{State, place_of, may_stand, is_full, value_again, label_again, BadKind, syntax}
 use Rattle.lh_unit.specs.declared.inst.UnitId.{UnitId}
 use Rattle.lh_unit.specs.declared.inst.BlockId.{BlockId}
 use Rattle.lh_unit.specs.declared.inst.ValueId.{ValueId}

@@ -1,6 +1,6 @@
 -- The last item of a file, changed and changed again.
-use Rattle.std.proofs.Common.{◌≡◌, ℕ, ◌+◌, ◌<◌, zero, suc, Bool, true, false, ◌||◌, List, [], ◌∷◌, ◌++◌, length, Option, Some, None, IsSomeAnd, option_map, refl, ap, sym, ◌∙◌, subst, arith, append_assoc, append-nil}
-use Rattle.lh_unit.specs.Contents.{ArgText, UnitText, BlockText, LineText, ItemText, unit_text, declare_text, change_last, last_unit, with_arg, with_line, line_at_end, args_define, blocks_define, defines_value}
+use Rattle.std.proofs.Common.{◌≡◌, ℕ, Bool, true, false, ◌||◌, List, [], ◌∷◌, ◌++◌, Option, Some, None, IsSomeAnd, refl, ap, sym, ◌∙◌, subst, append_assoc, append-nil}
+use Rattle.lh_unit.specs.Contents.{ArgText, UnitText, ItemText, unit_text, declare_text, change_last, last_unit, with_arg, args_define, blocks_define, defines_value}
 use Rattle.lh_unit.specs.Reads.{args_repeat}
 use Rattle.lh_read.specs.Building.{with_args, args_again}
 

@@ -4,7 +4,7 @@ use Rattle.std.proofs.Math.Seq.{take-suc}
 use Rattle.std.proofs.lemmas.List.{map-append}
 use Rattle.lh_unit.specs.Naming.{Naming, value_text, operand_text, trigger_text, edge_text}
 use Rattle.lh_unit.specs.Within.{Sizes, Each, ValueWithin, OperandWithin, TriggerWithin, EdgeWithin}
-use Rattle.lh_unit.specs.Arena.{Arena, Grows, KeepsEntries, naming, sizes}
+use Rattle.lh_unit.specs.Arena.{Arena, KeepsEntries, naming, sizes}
 use Rattle.lh_unit.specs.Contents.{OperandText, child_text}
 use Rattle.lh_unit.specs.Builders.{FindsUnit}
 use Rattle.lh_unit.specs.declared.name.UnitName.{UnitName}

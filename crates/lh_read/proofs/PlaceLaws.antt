@@ -1,8 +1,8 @@
 -- The place of a line behind an item, and what may stand in a place.
-use Rattle.std.proofs.Common.{◌≡◌, ℕ, ◌+◌, ◌<◌, Bool, true, false, List, [], ◌∷◌, ◌++◌, length, Option, Some, None, IsSomeAnd, refl, ap, sym, ◌∙◌, subst, arith}
+use Rattle.std.proofs.Common.{◌≡◌, ℕ, ◌<◌, Bool, true, false, List, [], ◌∷◌, ◌++◌, length, Option, Some, None, IsSomeAnd, refl, ap, sym, ◌∙◌, subst, arith}
 use Rattle.std.specs.Prelude.{if◌then◌else◌}
 use Rattle.lh_types.specs.Types.{TypeTree}
-use Rattle.lh_unit.specs.Contents.{ArgText, UnitText, BlockText, LineText, ItemText, new_unit, last_unit, change_last, with_block, with_line, line_at_end}
+use Rattle.lh_unit.specs.Contents.{ArgText, UnitText, BlockText, LineText, last_unit, change_last, with_block, with_line, line_at_end}
 use Rattle.lh_unit.specs.Arena.{Arena, Grows, IsOpen, OfOpen, contents, unit_count}
 use Rattle.lh_unit.specs.Builders.{HasLabels, Says}
 use Rattle.lh_unit.specs.Spells.{header_item, declare_item, label_item, inst_item, close_item}

@@ -9,7 +9,6 @@ use Rattle.lh_unit.specs.Reads.{State, start, Takes, Walk, BadKind, syntax, unit
 use Rattle.lh_syntax.specs.SpelledBy.{SpelledBy}
 use Rattle.lh_read.specs.declared.faults.LineFault.{LineFault}
 use Rattle.lh_read.specs.declared.faults.LineFault.TheVariants as line
-use Rattle.lh_read.specs.declared.places.Place.{Place}
 use Rattle.lh_read.specs.declared.reader.Reader.{Reader}
 use Rattle.lh_read.specs.declared.TextFault.{TextFault}
 use Rattle.lh_read.specs.declared.TextFault.TheVariants.{Syntax, UnitTooLarge, DuplicateName, OutOfMemory}
@@ -18,7 +17,7 @@ use Rattle.lh_read.specs.InOrder.{IsInOrder, state_of}
 use Rattle.lh_read.specs.Steps.{step}
 use Rattle.lh_read.specs.Building.{Steps, TakesOrIsBad}
 use Rattle.lh_read.specs.Reading.{Gives, Names, Answers, text_fault}
-use Rattle.lh_read.proofs.Texts.{closed, taken-line, bad-line, unspelled-line, unlexed-line, reads-once, reads-bad}
+use Rattle.lh_read.proofs.Texts.{closed, taken-line, bad-line, reads-once, reads-bad}
 
 -- what is answered of a line that says an item
 pub line-steps : (o : Result (Unit {0}) LineFault) (s t : State) (l : List ℕ) (ts us : List Lexeme) (i : LineItem) → lexemes l ≡ Some ts → us ≡ ts → SpelledBy us (Some i) → Steps o (step s i) t → TakesOrIsBad o s l t

@@ -3,17 +3,16 @@ use Rattle.std.proofs.Common.{ℕ, List, [], ◌∷◌, ◌++◌, Option, Some, 
 use Rattle.std.specs.Prelude.{codes}
 use Rattle.lh_types.specs.Types.{TypeTree, int_type, signal_type}
 use Rattle.lh_types.specs.Values.{int_value}
-use Rattle.lh_types.specs.declared.op.Op.TheVariants as op
-use Rattle.lh_unit.specs.Contents.{ArgText, BlockText, ItemText, unit_text, declare_text, LineText, InstText, const_text, sig_text, br_text, wait_text, halt_text, ret_text}
+use Rattle.lh_unit.specs.Contents.{ArgText, BlockText, ItemText, unit_text, declare_text, LineText, InstText, const_text, sig_text, br_text, wait_text, ret_text}
 use Rattle.lh_unit.specs.Lexemes.{first_lexeme}
 use Rattle.lh_unit.specs.Reads.{Reads, FirstBad, syntax, duplicate_name}
 use Rattle.lh_unit.specs.declared.inst.UnitKind.{UnitKind}
 use Rattle.lh_unit.specs.declared.inst.UnitKind.TheVariants as kind
 use Rattle.lh_unit.specs.declared.inst.Declare.TheVariants as declare
-use Rattle.lh_syntax.specs.Headers.{params_at, types_at, brace_at, func_at, ports_at, unit_at, declare_func_at, declare_unit_at, declare_at, head_at}
-use Rattle.lh_syntax.specs.Insts.{const_at, last_typed_at, last_local_at, sig_at, operands_at, br_at, wait_at, halt_at, ret_at, worded_at, inst_at}
+use Rattle.lh_syntax.specs.Headers.{params_at, types_at, brace_at, func_at, ports_at, unit_at, declare_func_at, declare_at, head_at}
+use Rattle.lh_syntax.specs.Insts.{const_at, last_typed_at, last_local_at, sig_at, br_at, wait_at, halt_at, ret_at, worded_at, inst_at}
 use Rattle.lh_syntax.specs.Items.{label_at, word_label_at, assigned_at, alone_at, close_at, item_at}
-use Rattle.lh_syntax.specs.Operands.{typed_at, free_at, maybe_at, param_at}
+use Rattle.lh_syntax.specs.Operands.{typed_at, maybe_at, param_at}
 use Rattle.lh_syntax.specs.Words.{head_of, form_of}
 use Rattle.lh_scan.specs.Numbers.{integer_at}
 use Rattle.lh_scan.specs.Pieces.{name_at}

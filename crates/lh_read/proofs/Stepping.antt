@@ -1,5 +1,5 @@
 -- What a step answers, test by test.
-use Rattle.std.proofs.Common.{◌≡◌, Bool, true, false, not, Result, Ok, Err, refl, ap, sym, ◌∙◌, subst}
+use Rattle.std.proofs.Common.{◌≡◌, Bool, true, false, not, Result, Ok, Err, refl, subst}
 use Rattle.std.specs.Prelude.{if◌then◌else◌}
 use Rattle.lh_unit.specs.Spells.{LineItem, empty_item}
 use Rattle.lh_unit.specs.Reads.{State, Place, outside, in_entity, before_labels, in_empty_block, in_block, place_of, may_stand, too_large, defines_again, after, BadKind, syntax, unit_too_large, duplicate_name}

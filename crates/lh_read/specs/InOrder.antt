@@ -1,5 +1,5 @@
 -- A reader in order: its place is that of the text that it has read.
-use Rattle.std.specs.Prelude.{◌≡◌, ℕ, ◌<◌, length}
+use Rattle.std.specs.Prelude.{◌≡◌, ◌<◌, length}
 use Rattle.lh_unit.specs.Contents.{UnitText}
 use Rattle.lh_unit.specs.Arena.{Arena, IsOpen, OfOpen, contents, unit_count}
 use Rattle.lh_unit.specs.Builders.{HasLabels}

@@ -1,5 +1,5 @@
 -- Ids in place of names.
-use Rattle.std.specs.Prelude.{◌≡◌, ℕ, ◌<◌, List, map, Option, Some, None}
+use Rattle.std.specs.Prelude.{◌≡◌, ℕ, ◌<◌, List, map, Option}
 use Rattle.lh_unit.specs.Contents.{OperandText, TriggerText, EdgeText, InstText}
 use Rattle.lh_unit.specs.Arena.{Arena, Grows, naming, sizes}
 use Rattle.lh_unit.specs.Naming.{Naming, value_text, maybe_text, operand_text, trigger_text, edge_text, inst_text}

@@ -3,16 +3,17 @@
 //! Each call answers `NoMemory` only for want of memory; the module then says what it said.
 ghost use Rattle.std.specs.Prelude.{◌<◌, map, IfOk};
 ghost use Rattle.lh_unit.specs.Arena.{unit_count};
-ghost use Rattle.lh_unit.specs.Contents.{st_text, drv_text, reg_text, child_text, call_text, branch_text, wait_text, ret_text};
+ghost use Rattle.lh_unit.specs.Contents.{pure_text, st_text, drv_text, reg_text, child_text, call_text, phi_text, branch_text, wait_text, ret_text};
 ghost use Rattle.lh_scan.specs.LexemeOf.{unit_name_of};
-ghost use Rattle.lh_syntax.specs.SyntaxOf.{operand_of, maybe_operand_of, operands_of, trigger_of, inst_of};
+ghost use Rattle.lh_syntax.specs.SyntaxOf.{operand_of, maybe_operand_of, operands_of, trigger_of, edge_of, inst_of};
 ghost use Rattle.lh_read.specs.Placing.{InstPlacedAs};
 
 use crate::ids::{
     edges, label_id, maybe_id, operand, operands, signals, triggers, unit_id, value_id,
 };
 use lh_scan::tokens::{NameText, UnitNameText};
-use lh_syntax::syntax::{InstSyntax, Operand, Trigger};
+use lh_syntax::syntax::{Edge, InstSyntax, Operand, Trigger};
+use lh_types::op::Op;
 use lh_types::ty::{NoMemory, Ty};
 use lh_unit::inst::{Inst, UnitId};
 use lh_unit::module::Module;
@@ -30,10 +31,7 @@ pub fn instruction(
 {
     match inst {
         InstSyntax::Const(value) => Ok(Inst::Const(value)),
-        InstSyntax::Pure { op, args } => Ok(Inst::Pure {
-            op,
-            args: operands(alloc, m, unit, args.as_slice())?,
-        }),
+        InstSyntax::Pure { op, args } => pure(alloc, m, unit, op, args.as_slice()),
         InstSyntax::Var(of) => Ok(Inst::Var(operand(alloc, m, unit, &of)?)),
         InstSyntax::Ld(of) => Ok(Inst::Ld(operand(alloc, m, unit, &of)?)),
         InstSyntax::St { to, value } => st(alloc, m, unit, &to, &value),
@@ -45,10 +43,7 @@ pub fn instruction(
             after,
             cond,
         } => drv(alloc, m, unit, &to, &value, &after, &cond),
-        InstSyntax::Reg {
-            to,
-            triggers: looked,
-        } => reg(alloc, m, unit, &to, looked.as_slice()),
+        InstSyntax::Reg { to, triggers: by } => reg(alloc, m, unit, &to, by.as_slice()),
         InstSyntax::Child {
             unit: name,
             inputs,
@@ -59,10 +54,7 @@ pub fn instruction(
             result,
             args,
         } => call(alloc, m, unit, &name, result, args.as_slice()),
-        InstSyntax::Phi { ty, edges: from } => Ok(Inst::Phi {
-            ty,
-            edges: edges(alloc, m, unit, from.as_slice())?,
-        }),
+        InstSyntax::Phi { ty, edges: from } => phi(alloc, m, unit, ty, from.as_slice()),
         InstSyntax::Br(to) => Ok(Inst::Br(label_id(alloc, m, unit, &to)?)),
         InstSyntax::Branch { cond, zero, one } => branch(alloc, m, unit, &cond, &zero, &one),
         InstSyntax::Wait {
@@ -73,6 +65,20 @@ pub fn instruction(
         InstSyntax::Halt => Ok(Inst::Halt),
         InstSyntax::Ret(of) => ret(alloc, m, unit, &of),
     }
+}
+
+fn pure(
+    alloc: Global,
+    m: &mut Module,
+    unit: UnitId,
+    op: Op,
+    args: &[Operand],
+) -> Result<Inst, NoMemory>
+    requires { unit.0 < unit_count m.old }
+    ensures { IfOk result (λ i. InstPlacedAs m.old m.new unit i (pure_text op (operands_of args.now))) }
+{
+    let args = operands(alloc, m, unit, args)?;
+    Ok(Inst::Pure { op, args })
 }
 
 fn st(
@@ -119,13 +125,13 @@ fn reg(
     m: &mut Module,
     unit: UnitId,
     to: &Operand,
-    looked: &[Trigger],
+    by: &[Trigger],
 ) -> Result<Inst, NoMemory>
     requires { unit.0 < unit_count m.old }
-    ensures { IfOk result (λ i. InstPlacedAs m.old m.new unit i (reg_text (operand_of to.now) (map trigger_of looked.now))) }
+    ensures { IfOk result (λ i. InstPlacedAs m.old m.new unit i (reg_text (operand_of to.now) (map trigger_of by.now))) }
 {
     let to = operand(alloc, m, unit, to)?;
-    let triggers = triggers(alloc, m, unit, looked)?;
+    let triggers = triggers(alloc, m, unit, by)?;
     Ok(Inst::Reg { to, triggers })
 }
 
@@ -168,6 +174,14 @@ fn call(
         result: ty,
         args,
     })
+}
+
+fn phi(alloc: Global, m: &mut Module, unit: UnitId, ty: Ty, from: &[Edge]) -> Result<Inst, NoMemory>
+    requires { unit.0 < unit_count m.old }
+    ensures { IfOk result (λ i. InstPlacedAs m.old m.new unit i (phi_text ty (map edge_of from.now))) }
+{
+    let edges = edges(alloc, m, unit, from)?;
+    Ok(Inst::Phi { ty, edges })
 }
 
 fn branch(

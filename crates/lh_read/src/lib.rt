@@ -22,17 +22,22 @@ use crate::lines::{next_line, read_line};
 use crate::reader::Reader;
 use lh_unit::module::Module;
 use std::alloc::Global;
+use thiserror::Error;
 
 /// Why a text is not read: its first faulty line, counted from 1, with its first fault.
-#[derive(Clone, Copy, Debug, PartialEq, Eq)]
+#[derive(Clone, Copy, Debug, PartialEq, Eq, Error)]
 pub enum TextFault {
     /// The line spells nothing in its place; or it is the line after the last, and a unit is open there.
+    #[error("line {0}: syntax")]
     Syntax(u32),
     /// The line is the 65,537th instruction of its unit.
+    #[error("line {0}: unit too large")]
     UnitTooLarge(u32),
     /// The line defines a name that is defined.
+    #[error("line {0}: duplicate name")]
     DuplicateName(u32),
     /// Memory ran out.
+    #[error("out of memory")]
     OutOfMemory,
 }
 

@@ -1,19 +1,19 @@
 -- The instructions: what is spelled so is found.
-use Rattle.std.proofs.Common.{◌≡◌, ℕ, ◌<◌, ◌≤◌, Bool, true, false, List, [], ◌∷◌, length, map, Option, Some, None, nat_eq, refl, ap, sym, ◌∙◌, subst, arith, inl, inr, ◌⊎◌}
-use Rattle.std.specs.Prelude.{codes, if◌then◌else◌}
+use Rattle.std.proofs.Common.{◌≡◌, ℕ, true, List, [], ◌∷◌, length, map, Option, Some, None, refl, ap, sym, ◌∙◌, subst, arith, inl, inr}
+use Rattle.std.specs.Prelude.{codes}
 use Rattle.lh_time.specs.declared.Delay.{Delay}
 use Rattle.lh_types.specs.Types.{TypeTree, int_type, time_type}
-use Rattle.lh_types.specs.Values.{Datum, int_value, time_value, array_value, tuple_value}
+use Rattle.lh_types.specs.Values.{int_value, time_value, array_value, tuple_value}
 use Rattle.lh_types.specs.declared.op.Op.{Op}
 use Rattle.lh_types.specs.declared.op.Op.TheVariants as op
 use Rattle.lh_unit.specs.Contents.{OperandText, EdgeText, TriggerText, InstText, const_text, pure_text, var_text, ld_text, st_text, sig_text, prb_text, drv_text, reg_text, child_text, call_text, phi_text, br_text, branch_text, wait_text, halt_text, ret_text}
-use Rattle.lh_unit.specs.Lexemes.{Lexeme, word, global, local, arrow, minus, punct}
+use Rattle.lh_unit.specs.Lexemes.{Lexeme, word, local, arrow, punct}
 use Rattle.lh_unit.specs.SpellsTypes.{SpellsType}
 use Rattle.lh_unit.specs.SpellsNumbers.{SpellsInteger, SpellsTime}
 use Rattle.lh_unit.specs.SpellsParts.{SpellsUnitName, SpellsOperand, SpellsWithType, SpellsMaybe, SpellsParts, SpellsList, SpellsBehind, SpellsLocal, SpellsTrigger, SpellsEdge}
-use Rattle.lh_unit.specs.SpellsInst.{SpellsDelay, SpellsWordOp, SpellsPure, SpellsInst, may_stand_alone}
+use Rattle.lh_unit.specs.SpellsInst.{SpellsDelay, SpellsPure, SpellsInst, may_stand_alone}
 use Rattle.lh_unit.specs.declared.name.UnitName.{UnitName}
-use Rattle.lh_scan.specs.Pieces.{◌>>=◌, word_at, local_at, unit_name_at, punct_at, arrow_at, end_at, parts_at, list_at, behind_at}
+use Rattle.lh_scan.specs.Pieces.{◌>>=◌, word_at, local_at, unit_name_at, punct_at, arrow_at, end_at, parts_at, behind_at}
 use Rattle.lh_scan.specs.Types.{no_suffix}
 use Rattle.lh_scan.proofs.Pieces.{unit_name_at-again}
 use Rattle.lh_scan.specs.Shorter.{local_at-shorter}
@@ -25,9 +25,8 @@ use Rattle.lh_scan.proofs.SpelledLists.{parts_at-again, behind_at-again}
 use Rattle.lh_syntax.specs.SyntaxOf.{operand_of, operands_of, trigger_of, edge_of}
 use Rattle.lh_syntax.specs.Words.{head_of, form_of}
 use Rattle.lh_syntax.specs.Shorter.{trigger_at-shorter, edge_at-shorter}
-use Rattle.lh_syntax.specs.Operands.{typed_at, free_at, maybe_at, trigger_at, edge_at}
-use Rattle.lh_syntax.specs.Insts.{constant_at, const_at, last_typed_at, last_local_at, var_at, ld_at, sig_at, prb_at, target_at, st_at, after_at, if_after_at, delay_or, delay_at, drv_at, reg_at, operands_at, child_at, call_at, phi_at, branch_at, br_or, br_at, wait_at, halt_at, ret_or, ret_at, form_at, worded_at, marked_at, inst_at}
-use Rattle.lh_syntax.specs.declared.syntax.Operand.{Operand}
+use Rattle.lh_syntax.specs.Operands.{trigger_at, edge_at}
+use Rattle.lh_syntax.specs.Insts.{constant_at, const_at, last_typed_at, last_local_at, var_at, ld_at, sig_at, prb_at, target_at, st_at, after_at, if_after_at, delay_at, drv_at, reg_at, operands_at, child_at, call_at, phi_at, branch_at, br_at, wait_at, halt_at, ret_or, ret_at, worded_at, marked_at, inst_at}
 use Rattle.lh_syntax.specs.declared.syntax.Trigger.{Trigger}
 use Rattle.lh_syntax.specs.declared.syntax.Edge.{Edge}
 use Rattle.lh_syntax.proofs.SpelledOperands.{operand_as, operands_as, operands_as-of, typed_at-again, maybe_at-again, trigger_as, trigger_at-again, edge_as, edge_at-again}

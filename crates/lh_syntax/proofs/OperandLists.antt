@@ -1,5 +1,5 @@
 -- Lists of operands: what is found is spelled so, and what is spelled so is found.
-use Rattle.std.proofs.Common.{◌≡◌, ℕ, ◌<◌, ◌≤◌, List, [], ◌∷◌, length, map, Option, Some, None, refl, ap, sym, ◌∙◌, subst, arith}
+use Rattle.std.proofs.Common.{◌≡◌, ℕ, ◌<◌, List, ◌∷◌, length, Option, Some, None, refl, ap, sym, subst, arith}
 use Rattle.lh_types.specs.Types.{TypeTree}
 use Rattle.lh_unit.specs.Contents.{OperandText}
 use Rattle.lh_unit.specs.Lexemes.{Lexeme, local, punct}
@@ -11,7 +11,7 @@ use Rattle.lh_syntax.specs.SyntaxOf.{operand_of, operands_of}
 use Rattle.lh_syntax.specs.Shorter.{free_at-shorter}
 use Rattle.lh_syntax.specs.Operands.{free_at}
 use Rattle.lh_syntax.specs.declared.syntax.Operand.{Operand}
-use Rattle.lh_syntax.proofs.SpelledOperands.{operand_as, operands_as, operands_as-of, free_at-sound, free_at-again}
+use Rattle.lh_syntax.proofs.SpelledOperands.{operands_as, operands_as-of, free_at-sound, free_at-again}
 use Rattle.lh_syntax.proofs.SpelledEach.{parts_mapped, list_mapped, parts_unmapped, list_unmapped}
 
 -- an operand as the program holds it is spelled

@@ -1,19 +1,18 @@
 -- Arrays and structs: what is found is spelled so, and what is spelled so is found.
-use Rattle.std.proofs.Common.{◌≡◌, ℕ, ◌<◌, ◌≤◌, ◌*◌, ◌+◌, Bool, true, false, List, [], ◌∷◌, length, map, Option, Some, None, nat_eq, nat_lt, refl, ap, sym, ◌∙◌, subst, arith}
-use Rattle.std.specs.Prelude.{not, ◌&&◌, ◌^◌, is_none, if◌then◌else◌, codes}
+use Rattle.std.proofs.Common.{◌≡◌, ℕ, ◌<◌, ◌+◌, Bool, true, false, List, [], ◌∷◌, length, Option, Some, None, nat_lt, refl, ap, sym, ◌∙◌, subst, arith}
+use Rattle.std.specs.Prelude.{◌&&◌, ◌^◌, is_none, if◌then◌else◌, codes}
 use Rattle.std.proofs.lemmas.Grind.{common_steps}
-use Rattle.lh_types.specs.Types.{TypeTree, TypeRow, time_type, void_type, array_type, tuple_type, IsData, AreData, IsLimited, row_of, no_types, more_types, bit_count, depth_of, bit_count_row, depth_of_row}
+use Rattle.lh_types.specs.Types.{TypeTree, TypeRow, array_type, tuple_type, AreData, IsLimited, row_of, bit_count_row, depth_of_row}
 use Rattle.lh_types.specs.Faults.{is_data, all_data, is_empty_row, array_fault, tuple_fault}
 use Rattle.lh_types.specs.declared.ty.TyFault.{TyFault}
-use Rattle.lh_types.specs.declared.op.Op.{Op}
 use Rattle.lh_types.specs.declared.op.Op.TheVariants as op
 use Rattle.lh_unit.specs.Contents.{OperandText, InstText, pure_text}
 use Rattle.lh_unit.specs.Lexemes.{Lexeme, word, local, punct}
 use Rattle.lh_unit.specs.Numerals.{number_of}
 use Rattle.lh_unit.specs.SpellsTypes.{SpellsType}
 use Rattle.lh_unit.specs.SpellsParts.{SpellsTyped, SpellsOperand, SpellsBare, SpellsWithType, SpellsParts, SpellsBehind}
-use Rattle.lh_unit.specs.SpellsInst.{SpellsPure, SpellsInst, written_types}
-use Rattle.lh_scan.specs.Pieces.{◌>>=◌, word_at, punct_at, end_at, parts_at}
+use Rattle.lh_unit.specs.SpellsInst.{SpellsInst, written_types}
+use Rattle.lh_scan.specs.Pieces.{◌>>=◌, word_at, punct_at, parts_at}
 use Rattle.lh_scan.specs.Numbers.{number_at}
 use Rattle.lh_scan.specs.Shorter.{bind_some}
 use Rattle.lh_scan.proofs.Pieces.{guard, both, some_inj, word_at-inv, punct_at-inv, end_at-inv}
@@ -22,9 +21,9 @@ use Rattle.lh_scan.proofs.TypeStarts.{number_at-type}
 use Rattle.lh_scan.proofs.TypeFaults.{array-again, tuple-sound, tuple-again, limited_data, four_none, array-limited}
 use Rattle.lh_syntax.specs.SyntaxOf.{operand_of, operands_of}
 use Rattle.lh_syntax.specs.Operands.{or_else, typed_at, free_at}
-use Rattle.lh_syntax.specs.Operations.{last_mark_at, when, fits_array, repeated_of, repeat_at, is_bare, all_bare, element_of, array_at, bracket_at, fields_of, fits_tuple, tuple_at}
+use Rattle.lh_syntax.specs.Operations.{last_mark_at, when, fits_array, repeated_of, repeat_at, all_bare, element_of, array_at, bracket_at, fields_of, fits_tuple, tuple_at}
 use Rattle.lh_syntax.specs.declared.syntax.Operand.{Operand}
-use Rattle.lh_syntax.proofs.SpelledOperands.{operand_as, operands_as, operands_as-of, typed_at-sound, typed_at-again, bare_free, typed_free}
+use Rattle.lh_syntax.proofs.SpelledOperands.{operands_as, operands_as-of, typed_at-sound, typed_at-again, bare_free, typed_free}
 use Rattle.lh_syntax.proofs.OperandLists.{operand_parts-sound, operand_parts-again}
 
 pub last_mark-sound : (b : ℕ) (ts : List Lexeme) (u : Unit {0}) → last_mark_at b ts ≡ Some u → ts ≡ punct b ∷ []

@@ -1,7 +1,7 @@
 -- Lists whose parts are seen through a map, and lists whose parts all pass a test.
-use Rattle.std.proofs.Common.{◌≡◌, ℕ, Bool, true, false, List, [], ◌∷◌, map, refl, ap, sym, ◌∙◌, subst}
-use Rattle.std.specs.Prelude.{◌&&◌, if◌then◌else◌}
-use Rattle.lh_unit.specs.Lexemes.{Lexeme, punct}
+use Rattle.std.proofs.Common.{◌≡◌, Bool, true, false, List, [], ◌∷◌, map, refl}
+use Rattle.std.specs.Prelude.{◌&&◌}
+use Rattle.lh_unit.specs.Lexemes.{Lexeme}
 use Rattle.lh_unit.specs.SpellsParts.{SpellsParts, SpellsList}
 use Rattle.lh_scan.proofs.Pieces.{both}
 use Rattle.lh_syntax.specs.Headers.{each}

@@ -1,11 +1,11 @@
 -- The heads of units and declarations: what is found is spelled so, and what is spelled so is found.
-use Rattle.std.proofs.Common.{◌≡◌, ℕ, ◌<◌, Bool, true, false, List, [], ◌∷◌, ◌++◌, length, map, Option, Some, None, nat_eq, refl, ap, sym, ◌∙◌, subst, arith, inl, inr, ◌⊎◌}
-use Rattle.std.specs.Prelude.{◌&&◌, codes, if◌then◌else◌}
-use Rattle.lh_types.specs.Types.{TypeTree, int_type, time_type, void_type, array_type, tuple_type, signal_type, pointer_type}
+use Rattle.std.proofs.Common.{◌≡◌, ℕ, Bool, true, false, List, [], ◌∷◌, ◌++◌, map, Option, Some, None, refl, ap, sym, ◌∙◌, subst, inl, inr}
+use Rattle.std.specs.Prelude.{◌&&◌, codes}
+use Rattle.lh_types.specs.Types.{TypeTree, void_type, signal_type, pointer_type}
 use Rattle.lh_unit.specs.Contents.{ArgText}
-use Rattle.lh_unit.specs.Lexemes.{Lexeme, word, global, local, arrow, punct}
-use Rattle.lh_unit.specs.Spells.{TypedName, SpellsParam, SpellsPort, input_of, output_of, LineItem, header_item, declare_item, Spells, SpellsParams, SpellsPorts, SpellsHeader, SpellsDeclare}
-use Rattle.lh_unit.specs.SpellsTypes.{SpellsType, IsValueType, IsResultType, IsSignal, SpellsValueType, SpellsSignalType}
+use Rattle.lh_unit.specs.Lexemes.{Lexeme, word, local, arrow, punct}
+use Rattle.lh_unit.specs.Spells.{TypedName, SpellsPort, input_of, output_of, LineItem, header_item, declare_item, Spells, SpellsParams, SpellsPorts, SpellsHeader, SpellsDeclare}
+use Rattle.lh_unit.specs.SpellsTypes.{SpellsType, IsValueType, IsResultType, IsSignal}
 use Rattle.lh_unit.specs.SpellsParts.{SpellsUnitName, SpellsParts, SpellsList}
 use Rattle.lh_unit.specs.declared.name.UnitName.{UnitName}
 use Rattle.lh_unit.specs.declared.inst.UnitKind.{UnitKind}
@@ -14,7 +14,7 @@ use Rattle.lh_unit.specs.declared.inst.Declare.{Declare}
 use Rattle.lh_unit.specs.declared.inst.Declare.TheVariants as declare
 use Rattle.lh_scan.specs.Pieces.{◌>>=◌, unit_name_at, punct_at, arrow_at, end_at, list_at}
 use Rattle.lh_scan.specs.Types.{type_at, no_suffix}
-use Rattle.lh_scan.specs.Shorter.{bind_some, type_at-shorter}
+use Rattle.lh_scan.specs.Shorter.{bind_some}
 use Rattle.lh_scan.proofs.Pieces.{guard, both, some_inj, unit_name_at-sound, unit_name_at-again, punct_at-inv, arrow_at-inv, end_at-inv}
 use Rattle.lh_scan.proofs.TypeStarts.{punct_at-type, arrow_at-type}
 use Rattle.lh_scan.proofs.SpelledTypes.{type_at-sound, type_at-again, tree-shorter}

@@ -1,16 +1,15 @@
 -- The instructions: what is found is spelled so.
-use Rattle.std.proofs.Common.{◌≡◌, ℕ, Bool, true, false, List, [], ◌∷◌, length, map, Option, Some, None, nat_eq, refl, ap, sym, ◌∙◌, subst, arith, inl, inr, ◌⊎◌}
+use Rattle.std.proofs.Common.{◌≡◌, ℕ, Bool, true, false, List, [], ◌∷◌, length, map, Option, Some, None, nat_eq, refl, ap, sym, ◌∙◌, subst, arith, inl, inr}
 use Rattle.std.specs.Prelude.{codes, if◌then◌else◌}
 use Rattle.std.proofs.lemmas.Grind.{common_steps}
-use Rattle.lh_time.specs.declared.Delay.{Delay}
 use Rattle.lh_types.specs.Types.{TypeTree, int_type, time_type}
 use Rattle.lh_types.specs.Values.{Datum, int_value, time_value}
-use Rattle.lh_unit.specs.Contents.{OperandText, EdgeText, TriggerText, InstText, const_text, var_text, ld_text, st_text, sig_text, prb_text, drv_text, reg_text, child_text, call_text, phi_text, br_text, branch_text, wait_text, halt_text, ret_text}
-use Rattle.lh_unit.specs.Lexemes.{Lexeme, word, global, local, arrow, minus, punct}
+use Rattle.lh_unit.specs.Contents.{InstText, const_text, var_text, ld_text, st_text, sig_text, prb_text, drv_text, reg_text, child_text, call_text, phi_text, br_text, branch_text, wait_text, halt_text, ret_text}
+use Rattle.lh_unit.specs.Lexemes.{Lexeme, word, local, arrow, punct}
 use Rattle.lh_unit.specs.SpellsTypes.{SpellsType}
 use Rattle.lh_unit.specs.SpellsParts.{SpellsOperand, SpellsWithType, SpellsMaybe, SpellsParts, SpellsList, SpellsBehind, SpellsLocal, SpellsTrigger, SpellsEdge}
 use Rattle.lh_unit.specs.SpellsInst.{SpellsDelay, SpellsInst}
-use Rattle.lh_scan.specs.Pieces.{◌>>=◌, word_at, local_at, unit_name_at, punct_at, arrow_at, end_at, parts_at, list_at, behind_at}
+use Rattle.lh_scan.specs.Pieces.{word_at, local_at, unit_name_at, punct_at, arrow_at, end_at, parts_at, list_at, behind_at}
 use Rattle.lh_scan.specs.Numbers.{integer_at}
 use Rattle.lh_scan.specs.Times.{time_at}
 use Rattle.lh_scan.specs.Types.{type_at}
@@ -23,7 +22,7 @@ use Rattle.lh_scan.proofs.SpelledLists.{parts_at-sound, behind_at-sound}
 use Rattle.lh_syntax.specs.SyntaxOf.{operand_of, operands_of, trigger_of, edge_of}
 use Rattle.lh_syntax.specs.Words.{form_of}
 use Rattle.lh_syntax.specs.Operands.{typed_at, free_at, maybe_at, trigger_at, edge_at}
-use Rattle.lh_syntax.specs.Operations.{word_op_at, bracket_at, tuple_at}
+use Rattle.lh_syntax.specs.Operations.{bracket_at, tuple_at}
 use Rattle.lh_syntax.specs.Insts.{constant_at, const_at, last_typed_at, last_local_at, var_at, ld_at, sig_at, prb_at, target_at, st_at, after_at, if_after_at, delay_or, delay_at, drv_at, reg_at, operands_at, child_at, call_at, phi_at, branch_at, br_or, br_at, wait_at, halt_at, ret_or, ret_at, form_at, worded_at, marked_at, inst_at}
 use Rattle.lh_syntax.specs.declared.syntax.Operand.{Operand}
 use Rattle.lh_syntax.specs.declared.syntax.Trigger.{Trigger}

@@ -1,11 +1,10 @@
 -- What is found in the tokens of a line is spelled so, and what is spelled so is found: so a line spells at most one item.
-use Rattle.std.proofs.Common.{◌≡◌, ℕ, ◌≤◌, Bool, true, false, List, [], ◌∷◌, length, Option, Some, None, nat_eq, nat_le, refl, ap, sym, ◌∙◌, subst, arith, inl, inr, ◌⊎◌}
-use Rattle.std.specs.Prelude.{codes, if◌then◌else◌, option_map, Result, Ok, Err, IfOk}
+use Rattle.std.proofs.Common.{◌≡◌, ℕ, Bool, true, false, List, [], ◌∷◌, Option, Some, None, nat_eq, refl, ap, sym, ◌∙◌, subst, arith, inl, inr}
+use Rattle.std.specs.Prelude.{if◌then◌else◌, option_map, Result, Ok, Err, IfOk}
 use Rattle.std.proofs.lemmas.Grind.{common_steps}
 use Rattle.lh_types.specs.declared.ty.NoMemory.{NoMemory}
-use Rattle.lh_types.specs.Types.{TypeTree}
-use Rattle.lh_unit.specs.Contents.{InstText, LineText}
-use Rattle.lh_unit.specs.Lexemes.{Lexeme, word, global, local, arrow, minus, punct}
+use Rattle.lh_unit.specs.Contents.{InstText}
+use Rattle.lh_unit.specs.Lexemes.{Lexeme, word, local, punct}
 use Rattle.lh_unit.specs.SpellsInst.{gives_value, may_stand_alone, SpellsLine}
 use Rattle.lh_unit.specs.Spells.{LineItem, empty_item, header_item, declare_item, label_item, inst_item, close_item, Spells, SpellsLabel}
 use Rattle.lh_scan.specs.Pieces.{◌>>=◌, name_at, punct_at, end_at}
@@ -15,12 +14,12 @@ use Rattle.lh_syntax.specs.SpelledBy.{SpelledBy}
 use Rattle.lh_syntax.specs.SyntaxOf.{item_of}
 use Rattle.lh_syntax.specs.Words.{head_of}
 use Rattle.lh_syntax.specs.Insts.{worded_at, inst_at}
-use Rattle.lh_syntax.specs.Headers.{item_when, head_at}
+use Rattle.lh_syntax.specs.Headers.{item_when}
 use Rattle.lh_syntax.specs.Items.{label_at, word_label_at, assigned_at, alone_at, head_or, local_or, word_or, close_at, item_at}
 use Rattle.lh_syntax.specs.declared.words.Head.{Head}
 use Rattle.lh_syntax.specs.declared.syntax.LineSyntax.{LineSyntax}
 use Rattle.lh_syntax.proofs.SpelledInsts.{worded_at-sound, inst_at-sound}
-use Rattle.lh_syntax.proofs.InstsAgain.{StandsAlone, stands_alone, inst_at-again}
+use Rattle.lh_syntax.proofs.InstsAgain.{stands_alone, inst_at-again}
 use Rattle.lh_syntax.proofs.SpelledHeaders.{head_at-sound, IsHead, header-again, declared-again}
 
 -- a label

@@ -1,5 +1,5 @@
 -- The operations that have a word: what is found is spelled so, and what is spelled so is found.
-use Rattle.std.proofs.Common.{◌≡◌, ℕ, List, [], ◌∷◌, Option, Some, None, refl, ap, sym, ◌∙◌, subst, inl, inr, ◌⊎◌}
+use Rattle.std.proofs.Common.{◌≡◌, ℕ, List, [], ◌∷◌, Some, refl, ap, sym, ◌∙◌, subst}
 use Rattle.lh_types.specs.declared.op.Op.{Op}
 use Rattle.lh_types.specs.declared.op.Op.TheVariants as op
 use Rattle.lh_unit.specs.Contents.{OperandText, InstText, pure_text}
@@ -7,20 +7,17 @@ use Rattle.lh_unit.specs.CanonWords.{op_numbers}
 use Rattle.lh_unit.specs.Lexemes.{Lexeme, word, punct}
 use Rattle.lh_unit.specs.SpellsNumbers.{SpellsNumber}
 use Rattle.lh_unit.specs.SpellsParts.{SpellsBehind}
-use Rattle.lh_unit.specs.SpellsInst.{columns, SpellsColumns, IsOpWord, SpellsWordOp, SpellsPure, SpellsInst}
+use Rattle.lh_unit.specs.SpellsInst.{columns, SpellsColumns, IsOpWord, SpellsPure, SpellsInst}
 use Rattle.lh_scan.specs.Pieces.{◌>>=◌, punct_at, end_at}
-use Rattle.lh_scan.specs.Numbers.{number_at}
 use Rattle.lh_scan.specs.Shorter.{bind_some}
 use Rattle.lh_scan.proofs.Pieces.{some_inj, punct_at-inv, end_at-inv}
 use Rattle.lh_scan.proofs.SpelledNumbers.{number_at-sound, number_at-again}
 use Rattle.lh_syntax.specs.SyntaxOf.{operands_of}
-use Rattle.lh_syntax.specs.Words.{form_of}
 use Rattle.lh_syntax.specs.Operands.{columns_at}
 use Rattle.lh_syntax.specs.Operations.{behind_number_at, one_number_at, two_numbers_at, numbered_at, word_op_at}
 use Rattle.lh_syntax.specs.Insts.{form_at, worded_at}
-use Rattle.lh_syntax.specs.declared.syntax.Operand.{Operand}
 use Rattle.lh_syntax.specs.declared.words.Columns.{Columns}
-use Rattle.lh_syntax.proofs.SpelledWords.{HasWord, columns_of, IsOpRow, unnumbered, written_as, columns-written, op_found}
+use Rattle.lh_syntax.proofs.SpelledWords.{HasWord, IsOpRow, unnumbered, written_as, columns-written, op_found}
 use Rattle.lh_syntax.proofs.SpelledOperands.{columns_at-sound, columns_at-again, operands_as, operands_as-of}
 
 behind_number-sound : (ts : List Lexeme) (r : ℕ × List Lexeme) → behind_number_at ts ≡ Some r → (us : List Lexeme) × (ts ≡ punct 44 ∷ us) × SpellsNumber r.0 us r.1

@@ -1,5 +1,5 @@
 -- The tables of words: what stands beside a word is what it begins, and each word is found.
-use Rattle.std.proofs.Common.{◌≡◌, ℕ, Bool, true, false, List, [], ◌∷◌, Option, Some, None, nat_eq, refl, ap, sym, ◌∙◌, subst, inl, inr, ◌⊎◌}
+use Rattle.std.proofs.Common.{◌≡◌, ℕ, Bool, true, false, List, [], ◌∷◌, Some, nat_eq, refl, ap, sym, subst, inl, inr}
 use Rattle.std.specs.Prelude.{codes, if◌then◌else◌}
 use Rattle.std.specs.Cmp.Lexicographic.{same_text}
 use lib.Pointwise.{pointwise}

@@ -1,17 +1,16 @@
 -- The instructions, behind `%r = ` where that stands.
-use Rattle.std.specs.Prelude.{◌≡◌, ℕ, Bool, true, false, nat_eq, List, [], ◌∷◌, length, map, Option, Some, None, if◌then◌else◌, codes}
+use Rattle.std.specs.Prelude.{ℕ, nat_eq, List, ◌∷◌, length, map, Option, Some, None, if◌then◌else◌, codes}
 use Rattle.lh_types.specs.Types.{TypeTree, int_type, time_type}
 use Rattle.lh_types.specs.Values.{Datum, int_value, time_value}
-use Rattle.lh_unit.specs.Contents.{InstText, LineText, const_text, var_text, ld_text, st_text, sig_text, prb_text, drv_text, reg_text, child_text, call_text, phi_text, br_text, branch_text, wait_text, halt_text, ret_text}
+use Rattle.lh_unit.specs.Contents.{InstText, const_text, var_text, ld_text, st_text, sig_text, prb_text, drv_text, reg_text, child_text, call_text, phi_text, br_text, branch_text, wait_text, halt_text, ret_text}
 use Rattle.lh_unit.specs.Lexemes.{Lexeme, word, punct}
-use Rattle.lh_unit.specs.SpellsInst.{gives_value, may_stand_alone}
 use Rattle.lh_scan.specs.Pieces.{◌>>=◌, word_at, local_at, unit_name_at, punct_at, arrow_at, end_at, parts_at, list_at, behind_at}
 use Rattle.lh_scan.specs.Numbers.{integer_at}
 use Rattle.lh_scan.specs.Times.{time_at}
 use Rattle.lh_scan.specs.Types.{type_at}
 use Rattle.lh_syntax.specs.SyntaxOf.{operand_of, operands_of, trigger_of, edge_of}
 use Rattle.lh_syntax.specs.Words.{form_of}
-use Rattle.lh_syntax.specs.Operands.{or_else, typed_at, free_at, maybe_at, trigger_at, edge_at}
+use Rattle.lh_syntax.specs.Operands.{typed_at, free_at, maybe_at, trigger_at, edge_at}
 use Rattle.lh_syntax.specs.Operations.{word_op_at, bracket_at, tuple_at}
 use Rattle.lh_syntax.specs.declared.syntax.Operand.{Operand}
 use Rattle.lh_syntax.specs.declared.words.Form.{Form}

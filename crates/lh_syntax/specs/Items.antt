@@ -1,6 +1,5 @@
 -- What the tokens of a line say.
-use Rattle.std.specs.Prelude.{◌≡◌, ℕ, Bool, nat_eq, List, [], ◌∷◌, Option, Some, None, if◌then◌else◌}
-use Rattle.lh_unit.specs.Contents.{InstText, LineText}
+use Rattle.std.specs.Prelude.{ℕ, nat_eq, List, [], ◌∷◌, Option, Some, None, if◌then◌else◌}
 use Rattle.lh_unit.specs.Lexemes.{Lexeme, word, local, punct}
 use Rattle.lh_unit.specs.Spells.{LineItem, empty_item, label_item, inst_item, close_item}
 use Rattle.lh_unit.specs.SpellsInst.{gives_value, may_stand_alone}

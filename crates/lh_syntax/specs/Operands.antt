@@ -1,7 +1,5 @@
 -- The operands in front of the tokens, and the other parts of which lists are made.
-use Rattle.std.specs.Prelude.{◌≡◌, ℕ, Bool, true, ◌&&◌, List, [], ◌∷◌, map, Option, Some, None, is_none, if◌then◌else◌, codes}
-use Rattle.lh_types.specs.Types.{TypeTree}
-use Rattle.lh_unit.specs.Contents.{OperandText}
+use Rattle.std.specs.Prelude.{ℕ, List, [], ◌∷◌, Option, Some, None, codes}
 use Rattle.lh_unit.specs.Lexemes.{Lexeme}
 use Rattle.lh_unit.specs.Spells.{TypedName}
 use Rattle.lh_scan.specs.Pieces.{◌>>=◌, word_at, any_word_at, local_at, punct_at}

@@ -1,5 +1,5 @@
 -- The operations: by words, and by brackets.
-use Rattle.std.specs.Prelude.{◌≡◌, ℕ, ◌^◌, Bool, true, false, ◌&&◌, nat_lt, List, [], ◌∷◌, length, map, Option, Some, None, is_none, if◌then◌else◌, codes}
+use Rattle.std.specs.Prelude.{ℕ, ◌^◌, Bool, true, false, ◌&&◌, nat_lt, List, [], ◌∷◌, length, Option, Some, None, is_none, if◌then◌else◌, codes}
 use Rattle.lh_types.specs.Types.{TypeTree, row_of}
 use Rattle.lh_types.specs.Faults.{array_fault, tuple_fault}
 use Rattle.lh_types.specs.declared.op.Op.{Op}

@@ -1,9 +1,9 @@
 -- What is found as a part of a list takes some of the tokens.
-use Rattle.std.specs.Prelude.{◌≡◌, ℕ, ◌<◌, ◌≤◌, List, [], ◌∷◌, length, Option, Some, None, codes, refl}
+use Rattle.std.specs.Prelude.{◌≡◌, ℕ, ◌<◌, ◌≤◌, List, length, Option, Some, None, codes, refl}
 use Rattle.std.proofs.Common.{arith, ap, subst}
 use Rattle.lh_unit.specs.Lexemes.{Lexeme}
 use Rattle.lh_unit.specs.Spells.{TypedName}
-use Rattle.lh_scan.specs.Pieces.{◌>>=◌, word_at, any_word_at, local_at, punct_at}
+use Rattle.lh_scan.specs.Pieces.{word_at, any_word_at, local_at, punct_at}
 use Rattle.lh_scan.specs.Types.{type_at}
 use Rattle.lh_scan.specs.Shorter.{bind_some, word_at-shorter, any_word_at-shorter, local_at-shorter, punct_at-shorter, type_at-shorter}
 use Rattle.lh_syntax.specs.Words.{mode_of}

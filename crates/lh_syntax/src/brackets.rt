@@ -1,7 +1,5 @@
 //! Arrays and structs, which brackets spell.
 ghost use Rattle.std.specs.Prelude.{◌≡◌, IfOk, option_map, length, Some};
-ghost use Rattle.lh_types.specs.Types.{row_of};
-ghost use Rattle.lh_types.specs.Faults.{tuple_fault};
 ghost use Rattle.lh_syntax.specs.SyntaxOf.{inst_of};
 ghost use Rattle.lh_syntax.specs.Operations.{last_mark_at, fits_array, repeated_of, repeat_at, all_bare, element_of, array_at, bracket_at, fields_of, fits_tuple, tuple_at};
 

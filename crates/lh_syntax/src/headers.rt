@@ -1,8 +1,8 @@
 //! The heads of units, and units that are defined elsewhere.
-ghost use Rattle.std.specs.Prelude.{◌≡◌, ◌&&◌, IfOk, option_map, map};
+ghost use Rattle.std.specs.Prelude.{◌≡◌, IfOk, option_map};
 ghost use Rattle.lh_scan.specs.LexemeOf.{unit_name_of};
 ghost use Rattle.lh_syntax.specs.SyntaxOf.{ports_of, item_of};
-ghost use Rattle.lh_syntax.specs.Headers.{is_value_type as value_type, is_result_type as result_type, is_signal as signal, each, are_values, are_ports, params_at, types_at, brace_at, func_at, ports_at, unit_at, declare_func_at, declare_unit_at, declare_at, named_at, head_at};
+ghost use Rattle.lh_syntax.specs.Headers.{is_value_type as value_type, is_result_type as result_type, is_signal as signal, each, are_values, are_ports, params_at, types_at, brace_at, func_at, ports_at, unit_at, declare_func_at, declare_unit_at, declare_at, head_at};
 ghost use Rattle.lh_unit.specs.declared.inst.UnitKind.TheVariants as kind;
 
 use crate::syntax::{LineSyntax, Param, Ports};

@@ -1,7 +1,6 @@
 //! The instructions, behind `%r = ` where that stands.
-ghost use Rattle.std.specs.Prelude.{◌≡◌, IfOk, option_map, map, length};
+ghost use Rattle.std.specs.Prelude.{◌≡◌, IfOk, option_map};
 ghost use Rattle.lh_types.specs.ValueOf.{datum_of};
-ghost use Rattle.lh_scan.specs.LexemeOf.{unit_name_of};
 ghost use Rattle.lh_syntax.specs.SyntaxOf.{inst_of};
 ghost use Rattle.lh_syntax.specs.Insts.{constant_at, const_at, last_typed_at, last_local_at, var_at, ld_at, sig_at, prb_at, target_at, st_at, after_at, if_after_at, delay_at, drv_at, reg_at, operands_at, child_at, call_at, phi_at, branch_at, br_at, wait_at, halt_at, ret_at, form_at, worded_at, marked_at, inst_at};
 

@@ -3,10 +3,8 @@ ghost use Rattle.std.specs.Prelude.{◌≤◌, length, IfOk};
 ghost use Rattle.lh_unit.specs.Tokens.{AreTokensOf};
 
 use crate::item;
-use crate::syntax::{InstSyntax, LineSyntax};
 use lh_lex::line as lex;
 use lh_scan::tokens::Tokens;
-use lh_types::op::Op;
 use lh_types::ty::NoMemory;
 use lh_unit::token::TokenList;
 use std::alloc::Global;
@@ -111,39 +109,4 @@ fn labels_have_at_most_255_bytes(rt: HostRuntime) {
     text[256] = b':';
     assert_eq!(rt; spells(rt.alloc(), &text), Ok(false));
     assert_eq!(rt; spells(rt.alloc(), &text[1..]), Ok(true));
-}
-
-/// The operation that the line spells.
-fn operation(alloc: Global, text: &[u8]) -> Result<Option<Op>, NoMemory>
-    requires { length text.now ≤ 67108864 }
-{
-    let tokens = lexed(alloc, text)?;
-    match item(alloc, &Tokens::new(text, tokens.as_slice()))? {
-        Some(
-            LineSyntax::Inst {
-                inst: InstSyntax::Pure { op, args: _args },
-                result: _result,
-            },
-        ) => Ok(Some(op)),
-        _ => Ok(None),
-    }
-}
-
-#[test]
-fn operations(rt: HostRuntime) {
-    let table: [(&[u8], Option<Op>); 6] = [
-        (b"%r = mul i8 %a, %b", Some(Op::Umul)),
-        (
-            b"%r = inss i8 %x, %v, 2, 4",
-            Some(Op::Inss { at: 2, len: 4 }),
-        ),
-        (b"%r = extf i8 %x, 7", Some(Op::Extf(7))),
-        (b"%r = [3 x i8 %a]", Some(Op::Repeat(3))),
-        (b"%r = [i8 %a]", Some(Op::Array)),
-        (b"%r = var i8 %a", None),
-    ];
-    for (text, want) in table {
-        assert!(rt; text.len() < 100);
-        assert_eq!(rt; operation(rt.alloc(), text), Ok(want));
-    }
 }
