@@ -1,4 +1,7 @@
 //! Runs in memory: each status, and each call of the source and of the sinks failing in turn.
+mod samples;
+mod spellings;
+
 use super::run;
 use lh_io::memory::{MemSink, MemSource};
 use lh_types::list::{ByteList, TextList};
