@@ -188,7 +188,15 @@ entry:\n\
 
 #[test]
 fn each_sample_is_its_own_canonical_text(rt: HostRuntime) -> Result<(), Fail> {
-    let samples = [ACCUMULATOR, ASYNCHRONOUS_RESET, BLINK, CONSTANT, LOOP, OVERLAPPING_DRIVES, RECURSION];
+    let samples = [
+        ACCUMULATOR,
+        ASYNCHRONOUS_RESET,
+        BLINK,
+        CONSTANT,
+        LOOP,
+        OVERLAPPING_DRIVES,
+        RECURSION,
+    ];
     for (k, text) in samples.iter().enumerate() {
         let printed = reprinted(rt.alloc(), *text)?;
         assert!(rt; printed.as_deref() == Some(*text), "sample {k}");
