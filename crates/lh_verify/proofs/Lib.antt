@@ -1,3 +1,4 @@
+pub mod KnowingSteps
 pub mod Lists
 pub mod Named
 pub mod OtherUnits

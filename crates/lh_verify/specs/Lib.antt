@@ -1,5 +1,6 @@
 pub mod Asks
 pub mod Faults
+pub mod Knowing
 pub mod Operands
 pub mod Parts
 pub mod PhisById

@@ -3,6 +3,7 @@
 
 mod allowed;
 mod arguments;
+mod facts;
 mod fits;
 mod kinds;
 mod operands;
