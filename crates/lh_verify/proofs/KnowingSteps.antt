@@ -1,6 +1,7 @@
 -- What is known of values, one argument or one instruction more.
 use Rattle.std.proofs.Common.{◌≡◌, ◌≢◌, ℕ, ◌+◌, ◌<◌, ◌≤◌, zero, suc, Bool, true, false, ◌||◌, nat_eq, if◌then◌else◌, List, [], ◌∷◌, ◌++◌, length, get_or, set, take, replicate, Option, Some, None, is_some, slice_get, refl, ap, sym, ◌∙◌, subst, arith}
 use Rattle.std.specs.Option.{option_map, option_and_then}
+use Rattle.std.specs.Prelude.{Result, Ok, Err, OnOk}
 use Rattle.std.proofs.lemmas.Option.{slice_get-get_or, slice_get_within}
 use Rattle.std.proofs.Math.ListN.{length-set}
 use Rattle.std.proofs.lemmas.Grind.{common_steps}
@@ -17,15 +18,15 @@ use Rattle.lh_unit.specs.declared.table.Line.{Line}
 use Rattle.lh_unit.proofs.Lists.{Same, same, other, same_or, nat_eq-refl, nat_eq-other, or_false, or_true, some_inj}
 use Rattle.lh_verify.specs.declared.scope.Fact.{Fact}
 use Rattle.lh_verify.specs.Told.{kind_as}
-use Rattle.lh_verify.specs.Knowing.{Known, Knows, GivenBy, GivenArg, Tells, TellsAt, TellsArg, Marks, blank, arg_kind, arg_type, line_kind, line_type}
+use Rattle.lh_verify.specs.Knowing.{Known, Knows, GivenBy, GivenArg, Tells, TellsArg, Marks, blank, arg_kind, arg_type, line_kind, line_type}
 
 -- a write at one place
-get-set-same : {X : Type 0} → (xs : List X) (k : ℕ) (y : X) → k < length xs → slice_get (set xs k y) k ≡ Some y
+pub get-set-same : {X : Type 0} → (xs : List X) (k : ℕ) (y : X) → k < length xs → slice_get (set xs k y) k ≡ Some y
 get-set-same [] k y h = absurd (omega arith)
 get-set-same (x ∷ xs) zero y h = refl
 get-set-same (x ∷ xs) (suc k) y h = get-set-same xs k y (omega arith)
 
-get-set-other : {X : Type 0} → (xs : List X) (k v : ℕ) (y : X) → (k ≡ v → ⊥) → slice_get (set xs k y) v ≡ slice_get xs v
+pub get-set-other : {X : Type 0} → (xs : List X) (k v : ℕ) (y : X) → (k ≡ v → ⊥) → slice_get (set xs k y) v ≡ slice_get xs v
 get-set-other [] k v y h = refl
 get-set-other (x ∷ xs) zero zero y h = absurd (h refl)
 get-set-other (x ∷ xs) zero (suc v) y h = refl
@@ -39,51 +40,51 @@ or_else-none (Some x) = refl
 
 making-more : (ls : List Line) (l : Line) (v : ℕ) → inst_making (ls ++ l ∷ []) v ≡ or_else (inst_making ls v) (if is_result l.result v then Some l.inst else None)
 making-more [] l v = refl
-making-more (x ∷ ls) l v = by (is_result x.result v)
+making-more (x ∷ ls) l v = by (is_result x.result v) (making-more ls l v)
   where
-    by : (c : Bool) → (if c then Some x.inst else inst_making (ls ++ l ∷ []) v) ≡ or_else (if c then Some x.inst else inst_making ls v) (if is_result l.result v then Some l.inst else None)
-    by true = refl
-    by false = making-more ls l v
+    by : (c : Bool) → inst_making (ls ++ l ∷ []) v ≡ or_else (inst_making ls v) (if is_result l.result v then Some l.inst else None) → (if c then Some x.inst else inst_making (ls ++ l ∷ []) v) ≡ or_else (if c then Some x.inst else inst_making ls v) (if is_result l.result v then Some l.inst else None)
+    by true r = refl
+    by false r = r
 
 made-more : (ls : List Line) (l : Line) (v : ℕ) → is_made (ls ++ l ∷ []) v ≡ (is_made ls v || is_result l.result v)
 made-more [] l v = or_false (is_result l.result v)
-made-more (x ∷ ls) l v = by (is_result x.result v)
+made-more (x ∷ ls) l v = by (is_result x.result v) (made-more ls l v)
   where
-    by : (c : Bool) → (c || is_made (ls ++ l ∷ []) v) ≡ ((c || is_made ls v) || is_result l.result v)
-    by true = refl
-    by false = made-more ls l v
+    by : (c : Bool) → is_made (ls ++ l ∷ []) v ≡ (is_made ls v || is_result l.result v) → (c || is_made (ls ++ l ∷ []) v) ≡ ((c || is_made ls v) || is_result l.result v)
+    by true r = refl
+    by false r = r
 
 making-made : (ls : List Line) (v : ℕ) → is_some (inst_making ls v) ≡ is_made ls v
 making-made [] v = refl
-making-made (x ∷ ls) v = by (is_result x.result v)
+making-made (x ∷ ls) v = by (is_result x.result v) (making-made ls v)
   where
-    by : (c : Bool) → is_some (if c then Some x.inst else inst_making ls v) ≡ (c || is_made ls v)
-    by true = refl
-    by false = making-made ls v
+    by : (c : Bool) → is_some (inst_making ls v) ≡ is_made ls v → is_some (if c then Some x.inst else inst_making ls v) ≡ (c || is_made ls v)
+    by true r = refl
+    by false r = r
 
 being-more : (xs : List Arg) (a : Arg) (v : ℕ) → arg_being (xs ++ a ∷ []) v ≡ or_else (arg_being xs v) (if nat_eq a.value.0 v then Some a else None)
 being-more [] a v = refl
-being-more (x ∷ xs) a v = by (nat_eq x.value.0 v)
+being-more (x ∷ xs) a v = by (nat_eq x.value.0 v) (being-more xs a v)
   where
-    by : (c : Bool) → (if c then Some x else arg_being (xs ++ a ∷ []) v) ≡ or_else (if c then Some x else arg_being xs v) (if nat_eq a.value.0 v then Some a else None)
-    by true = refl
-    by false = being-more xs a v
+    by : (c : Bool) → arg_being (xs ++ a ∷ []) v ≡ or_else (arg_being xs v) (if nat_eq a.value.0 v then Some a else None) → (if c then Some x else arg_being (xs ++ a ∷ []) v) ≡ or_else (if c then Some x else arg_being xs v) (if nat_eq a.value.0 v then Some a else None)
+    by true r = refl
+    by false r = r
 
 arg-more : (xs : List Arg) (a : Arg) (v : ℕ) → is_arg (xs ++ a ∷ []) v ≡ (is_arg xs v || nat_eq a.value.0 v)
 arg-more [] a v = or_false (nat_eq a.value.0 v)
-arg-more (x ∷ xs) a v = by (nat_eq x.value.0 v)
+arg-more (x ∷ xs) a v = by (nat_eq x.value.0 v) (arg-more xs a v)
   where
-    by : (c : Bool) → (c || is_arg (xs ++ a ∷ []) v) ≡ ((c || is_arg xs v) || nat_eq a.value.0 v)
-    by true = refl
-    by false = arg-more xs a v
+    by : (c : Bool) → is_arg (xs ++ a ∷ []) v ≡ (is_arg xs v || nat_eq a.value.0 v) → (c || is_arg (xs ++ a ∷ []) v) ≡ ((c || is_arg xs v) || nat_eq a.value.0 v)
+    by true r = refl
+    by false r = r
 
 being-arg : (xs : List Arg) (v : ℕ) → is_some (arg_being xs v) ≡ is_arg xs v
 being-arg [] v = refl
-being-arg (x ∷ xs) v = by (nat_eq x.value.0 v)
+being-arg (x ∷ xs) v = by (nat_eq x.value.0 v) (being-arg xs v)
   where
-    by : (c : Bool) → is_some (if c then Some x else arg_being xs v) ≡ (c || is_arg xs v)
-    by true = refl
-    by false = being-arg xs v
+    by : (c : Bool) → is_some (arg_being xs v) ≡ is_arg xs v → is_some (if c then Some x else arg_being xs v) ≡ (c || is_arg xs v)
+    by true r = refl
+    by false r = r
 
 is-none : {X : Type 0} → (o : Option X) → is_some o ≡ false → o ≡ None
 is-none None h = refl
@@ -139,7 +140,7 @@ replicate-blank (suc n) (suc v) x e = replicate-blank n v x e
 known-blank : (f : Naming) (v : ℕ) → Known f [] [] v blank
 known-blank f v = record { defined = refl; kind = refl; ty = refl }
 
-length-replicate : {X : Type 0} → (n : ℕ) (x : X) → length (replicate n x) ≡ n
+pub length-replicate : {X : Type 0} → (n : ℕ) (x : X) → length (replicate n x) ≡ n
 length-replicate zero x = refl
 length-replicate (suc n) x = ap suc (length-replicate n x)
 
@@ -150,10 +151,10 @@ knows-nothing n f facts e = record {
 }
 
 -- one more instruction, with a result
-pub knows-told : (n : ℕ) (f : Naming) (ls : List Line) (l : Line) (w : ValueId) (old new : List Fact) → Knows n f [] ls old → l.result ≡ Some w → w.0 < n → TellsAt w.0 f l.inst old new → Knows n f [] (ls ++ l ∷ []) new
-knows-told n f ls l w old new k r h t = record {
-    long = ap length t.is ∙ length-set old w.0 t.fact ∙ k.long;
-    known = λ v x g. by v x (same_or w.0 v) (sym (ap (λ xs. slice_get xs v) t.is) ∙ g);
+pub knows-told : (n : ℕ) (f : Naming) (ls : List Line) (l : Line) (w : ValueId) (old new : List Fact) (fact d : Fact) → Knows n f [] ls old → l.result ≡ Some w → w.0 < n → Tells (get_or old w.0 d).defined f l.inst (get_or old w.0 d) fact → new ≡ set old w.0 fact → Knows n f [] (ls ++ l ∷ []) new
+knows-told n f ls l w old new fact d k r h t is = record {
+    long = ap length is ∙ length-set old w.0 fact ∙ k.long;
+    known = λ v x g. by v x (same_or w.0 v) (sym (ap (λ xs. slice_get xs v) is) ∙ g);
   }
   where
     within : w.0 < length old
@@ -162,12 +163,12 @@ knows-told n f ls l w old new k r h t = record {
     gives : (v : ℕ) → is_result l.result v ≡ nat_eq w.0 v
     gives v = ap (λ o. is_result o v) r
 
-    by : (v : ℕ) (x : Fact) → Same w.0 v → slice_get (set old w.0 t.fact) v ≡ Some x → Known f [] (ls ++ l ∷ []) v x
-    by v x (other d) g = line-other f ls l v x (gives v ∙ nat_eq-other w.0 v d) (k.known v x (sym (get-set-other old w.0 v t.fact d) ∙ g))
+    by : (v : ℕ) (x : Fact) → Same w.0 v → slice_get (set old w.0 fact) v ≡ Some x → Known f [] (ls ++ l ∷ []) v x
+    by v x (other p) g = line-other f ls l v x (gives v ∙ nat_eq-other w.0 v p) (k.known v x (sym (get-set-other old w.0 v fact p) ∙ g))
     by v x (same e) g =
-        let q : t.fact ≡ x = some_inj t.fact x (sym (get-set-same old w.0 t.fact within) ∙ ap (slice_get (set old w.0 t.fact)) e ∙ g) in
-        let p : Known f [] ls w.0 (get_or old w.0 blank) = k.known w.0 (get_or old w.0 blank) (slice_get-get_or old w.0 blank within) in
-        let z : Known f [] (ls ++ l ∷ []) w.0 t.fact = line-told f ls l w.0 (get_or old w.0 blank) t.fact (get_or old w.0 blank).defined refl t.told (gives w.0 ∙ nat_eq-refl w.0) p in
+        let q : fact ≡ x = some_inj fact x (sym (get-set-same old w.0 fact within) ∙ ap (slice_get (set old w.0 fact)) e ∙ g) in
+        let p : Known f [] ls w.0 (get_or old w.0 d) = k.known w.0 (get_or old w.0 d) (slice_get-get_or old w.0 d within) in
+        let z : Known f [] (ls ++ l ∷ []) w.0 fact = line-told f ls l w.0 (get_or old w.0 d) fact (get_or old w.0 d).defined refl t (gives w.0 ∙ nat_eq-refl w.0) p in
         subst (λ (u : ℕ). Known f [] (ls ++ l ∷ []) u x) e (subst (Known f [] (ls ++ l ∷ []) w.0) q z)
 
 -- one more instruction, with no result
@@ -211,8 +212,8 @@ arg-told : (f : Naming) (xs : List Arg) (a : Arg) (ls : List Line) (v : ℕ) (ol
 arg-told f xs a ls v old new true d t r k = subst (Known f (xs ++ a ∷ []) ls v) (sym t) (arg-again f xs a ls v old (sym d) k)
 arg-told f xs a ls v old new false d t r k = arg-first f xs a ls v old new r (sym d) t k
 
-pub knows-arg : (n : ℕ) (f : Naming) (xs : List Arg) (a : Arg) (ls : List Line) (old new : List Fact) (seen : List Bool) (fact : Fact) (b : Bool) → Knows n f xs ls old → Marks xs n seen → a.value.0 < n → slice_get seen a.value.0 ≡ Some b → TellsArg b a (get_or old a.value.0 blank) fact → new ≡ set old a.value.0 fact → Knows n f (xs ++ a ∷ []) ls new
-knows-arg n f xs a ls old new seen fact b k m h s t w = record {
+pub knows-arg : (n : ℕ) (f : Naming) (xs : List Arg) (a : Arg) (ls : List Line) (old new : List Fact) (seen : List Bool) (fact d : Fact) (b : Bool) → Knows n f xs ls old → Marks xs n seen → a.value.0 < n → slice_get seen a.value.0 ≡ Some b → TellsArg b a (get_or old a.value.0 d) fact → new ≡ set old a.value.0 fact → Knows n f (xs ++ a ∷ []) ls new
+knows-arg n f xs a ls old new seen fact d b k m h s t w = record {
     long = ap length w ∙ length-set old a.value.0 fact ∙ k.long;
     known = λ v x g. by v x (same_or a.value.0 v) (sym (ap (λ l. slice_get l v) w) ∙ g);
   }
@@ -221,11 +222,11 @@ knows-arg n f xs a ls old new seen fact b k m h s t w = record {
     within = omega (arith, h, k.long)
 
     by : (v : ℕ) (x : Fact) → Same a.value.0 v → slice_get (set old a.value.0 fact) v ≡ Some x → Known f (xs ++ a ∷ []) ls v x
-    by v x (other d) g = arg-other f xs a ls v x (nat_eq-other a.value.0 v d) (k.known v x (sym (get-set-other old a.value.0 v fact d) ∙ g))
+    by v x (other p) g = arg-other f xs a ls v x (nat_eq-other a.value.0 v p) (k.known v x (sym (get-set-other old a.value.0 v fact p) ∙ g))
     by v x (same e) g =
         let q : fact ≡ x = some_inj fact x (sym (get-set-same old a.value.0 fact within) ∙ ap (slice_get (set old a.value.0 fact)) e ∙ g) in
-        let p : Known f xs ls a.value.0 (get_or old a.value.0 blank) = k.known a.value.0 (get_or old a.value.0 blank) (slice_get-get_or old a.value.0 blank within) in
-        let z : Known f (xs ++ a ∷ []) ls a.value.0 fact = arg-told f xs a ls a.value.0 (get_or old a.value.0 blank) fact b (m.marked a.value.0 b s) t (nat_eq-refl a.value.0) p in
+        let p : Known f xs ls a.value.0 (get_or old a.value.0 d) = k.known a.value.0 (get_or old a.value.0 d) (slice_get-get_or old a.value.0 d within) in
+        let z : Known f (xs ++ a ∷ []) ls a.value.0 fact = arg-told f xs a ls a.value.0 (get_or old a.value.0 d) fact b (m.marked a.value.0 b s) t (nat_eq-refl a.value.0) p in
         subst (λ (u : ℕ). Known f (xs ++ a ∷ []) ls u x) e (subst (Known f (xs ++ a ∷ []) ls a.value.0) q z)
 
 pub marks-arg : (n : ℕ) (xs : List Arg) (a : Arg) (seen new : List Bool) → Marks xs n seen → a.value.0 < n → new ≡ set seen a.value.0 true → Marks (xs ++ a ∷ []) n new
@@ -243,7 +244,7 @@ marks-arg n xs a seen new m h w = record {
         let q : true ≡ b = some_inj true b (sym (get-set-same seen a.value.0 true within) ∙ ap (slice_get (set seen a.value.0 true)) e ∙ g) in
         sym q ∙ sym (arg-more xs a v ∙ ap (λ c. is_arg xs v || c) (sym (ap (λ u. nat_eq u v) (sym e)) ∙ nat_eq-refl v) ∙ or_true (is_arg xs v))
 
-replicate-false : (n v : ℕ) (b : Bool) → slice_get (replicate n false) v ≡ Some b → b ≡ false
+pub replicate-false : (n v : ℕ) (b : Bool) → slice_get (replicate n false) v ≡ Some b → b ≡ false
 replicate-false zero v b e = cc
 replicate-false (suc n) zero b e = sym (some_inj false b e)
 replicate-false (suc n) (suc v) b e = replicate-false n v b e
@@ -253,3 +254,29 @@ marks-none n seen e = record {
   long = ap length e ∙ length-replicate n false;
   marked = λ v b g. replicate-false n v b (sym (ap (λ l. slice_get l v) e) ∙ g);
 }
+
+-- what follows where a call succeeded
+pub on-ok : {A E : Type 0} → (r : Result A E) (P Q : Type 0) → (P → Q) → OnOk r P → OnOk r Q
+on-ok (Ok x) P Q g h = g h
+on-ok (Err e) P Q g h = tt
+
+taken : {X : Type 0} → (xs : List X) (i : ℕ) (d : X) → i < length xs → take i xs ++ get_or xs i d ∷ [] ≡ take (i + 1) xs
+taken xs i d h = grind (arith, common_steps)
+
+-- one more item of a list, and all of them
+pub take-item : {X : Type 0} → (xs : List X) (i : ℕ) (x : X) → i < length xs → x ≡ get_or xs i x → take i xs ++ x ∷ [] ≡ take (i + 1) xs
+take-item xs i x h e = ap (λ y. take i xs ++ y ∷ []) e ∙ taken xs i x h
+
+pub take-line : (ls : List Line) (i : ℕ) (d : Line) → i < length ls → take i ls ++ get_or ls i d ∷ [] ≡ take (i + 1) ls
+take-line ls i d h = grind (arith, common_steps)
+
+pub take-all : {X : Type 0} → (xs : List X) (i : ℕ) → length xs ≤ i → take i xs ≡ xs
+take-all xs i h = grind (arith, common_steps)
+
+front : {X : Type 0} → (xs ys : List X) → take (length xs) (xs ++ ys) ≡ xs
+front [] ys = grind (arith, common_steps)
+front (x ∷ xs) ys = ap (λ l. x ∷ l) (front xs ys)
+
+-- what was written back
+pub written-back : {X : Type 0} → (new rest : List X) (n : ℕ) → length new ≡ n → take n (new ++ rest) ≡ new
+written-back new rest n e = ap (λ k. take k (new ++ rest)) (sym e) ∙ front new rest

@@ -1,5 +1,5 @@
 -- What is known of the values of a unit after some of its arguments and instructions.
-use Rattle.std.specs.Prelude.{◌≡◌, ℕ, List, [], ◌∷◌, length, Bool, true, false, ◌||◌, Option, Some, None, option_map, slice_get, slice_set, slice_index_or}
+use Rattle.std.specs.Prelude.{◌≡◌, ℕ, List, [], ◌∷◌, length, Bool, true, false, ◌||◌, Option, Some, None, option_map, slice_get}
 use Rattle.std.specs.Option.{option_and_then}
 use Rattle.lh_types.specs.Types.{TypeTree}
 use Rattle.lh_unit.specs.Naming.{Naming, inst_text}
@@ -67,9 +67,3 @@ pub record Marks (args : List Arg) (n : ℕ) (seen : List Bool) : Type 0 where
 -- nothing is known of a value
 abbrev pub blank : Fact
 blank = record { defined = false; kind = None; ty = None }
-
--- the value v was told by an instruction, and all others stay
-pub record TellsAt (v : ℕ) (f : Naming) (i : Inst) (old new : List Fact) : Type 0 where
-  pub fact : Fact
-  pub is : new ≡ slice_set old v fact
-  pub told : Tells (slice_index_or old v blank).defined f i (slice_index_or old v blank) fact

@@ -1,12 +1,12 @@
 //! What is known of the values of a unit, from the arguments and the instructions that give them.
-ghost use Rattle.std.specs.Prelude.{◌≡◌, ◌<◌, ◌++◌, ◌∷◌, [], List, false, replicate, option_map, vec_len, IfOk, OnOk};
+ghost use Rattle.std.specs.Prelude.{◌≡◌, ◌<◌, ◌++◌, ◌∷◌, [], List, false, length, replicate, option_map, IfOk, OnOk};
 ghost use Rattle.lh_unit.specs.Naming.{Naming};
-ghost use Rattle.lh_unit.specs.Table.{ArgsWithin};
+ghost use Rattle.lh_unit.specs.Table.{ArgsWithin, line_at};
 ghost use Rattle.lh_unit.specs.Typing.{or_else};
 ghost use Rattle.lh_unit.specs.declared.table.Line.{Line};
 ghost use Rattle.lh_unit.specs.Arena.{unit_count, value_count, inst_count, table_at, args_at, naming};
 ghost use Rattle.lh_verify.specs.Told.{kind_as};
-ghost use Rattle.lh_verify.specs.Knowing.{Knows, Tells, TellsAt, TellsArg, blank};
+ghost use Rattle.lh_verify.specs.Knowing.{Knows, Marks, Tells, TellsArg, blank};
 
 use crate::results::{kind_of, result_kind, result_type};
 use crate::scope::{Fact, Kind};
@@ -28,10 +28,28 @@ pub fn facts(
 {
     let values = module.values(unit);
     let mut facts = no_facts(alloc, values)?;
-    tell_insts(alloc, &mut facts, module, unit, insts)?;
     let mut seen = no_marks(alloc, values)?;
-    tell_args(&mut facts, &mut seen, module.args(unit))?;
+    tell_all(alloc, &mut facts, &mut seen, module, unit, insts)?;
     Ok(facts)
+}
+
+/// Tells what the instructions and the arguments give.
+fn tell_all(
+    alloc: Global,
+    facts: &mut [Fact],
+    seen: &mut [bool],
+    module: &Module,
+    unit: UnitId,
+    insts: u32,
+) -> Result<(), NoMemory>
+    requires unit { unit.0 < unit_count module.now }
+    requires insts { insts ≡ inst_count module.now unit.0 }
+    requires old { facts.old ≡ replicate (value_count module.now unit.0) blank }
+    requires marks { seen.old ≡ replicate (value_count module.now unit.0) false }
+    ensures { OnOk result (Knows (value_count module.now unit.0) (naming module.now unit.0) (args_at module.now unit.0) (table_at module.now unit.0).lines facts.new) }
+{
+    tell_insts(alloc, facts, module, unit, insts)?;
+    tell_args(facts, seen, module.args(unit))
 }
 
 /// Values of which nothing is known.
@@ -75,34 +93,41 @@ pub fn no_marks(alloc: Global, values: u32) -> Result<Vec<bool>, NoMemory>
 /// Tells the results of all instructions; of two that give one value, the first tells.
 fn tell_insts(
     alloc: Global,
-    facts: &mut Vec<Fact>,
+    facts: &mut [Fact],
     module: &Module,
     unit: UnitId,
     insts: u32,
 ) -> Result<(), NoMemory>
     requires unit { unit.0 < unit_count module.now }
     requires insts { insts ≡ inst_count module.now unit.0 }
-    requires old { facts.old.items ≡ replicate (value_count module.now unit.0) blank }
-    ensures { OnOk result (Knows (value_count module.now unit.0) (naming module.now unit.0) [] (table_at module.now unit.0).lines facts.new.items) }
+    requires old { facts.old ≡ replicate (value_count module.now unit.0) blank }
+    ensures { OnOk result (Knows (value_count module.now unit.0) (naming module.now unit.0) [] (table_at module.now unit.0).lines facts.new) }
 {
     for i in 0..insts {
-        if let Some(value) = module.result_of(unit, InstId(i)) {
-            tell_result(alloc, facts, value, module.inst(unit, InstId(i)))?;
-        }
+        tell_inst(alloc, facts, module, unit, InstId(i))?;
     }
     Ok(())
 }
 
-fn tell_result(
+fn tell_inst(
     alloc: Global,
-    facts: &mut Vec<Fact>,
-    value: ValueId,
-    inst: &Inst,
+    facts: &mut [Fact],
+    module: &Module,
+    unit: UnitId,
+    inst: InstId,
 ) -> Result<(), NoMemory>
-    requires { value.0 < vec_len facts.old }
-    ensures { (f : Naming) → OnOk result (TellsAt value.0 f inst.now facts.old.items facts.new.items) }
+    requires unit { unit.0 < unit_count module.now }
+    requires inst { inst.0 < inst_count module.now unit.0 }
+    requires long { length facts.old ≡ value_count module.now unit.0 }
+    ensures { (ls : List Line) → Knows (value_count module.now unit.0) (naming module.now unit.0) [] ls facts.old → OnOk result (Knows (value_count module.now unit.0) (naming module.now unit.0) [] (ls ++ line_at (table_at module.now unit.0) inst.0 ∷ []) facts.new) }
 {
-    tell(alloc, &mut facts[value.0 as usize], inst)
+    match module.result_of(unit, inst) {
+        None => Ok(()),
+        Some(value) => {
+            let place = value.0 as usize;
+            tell(alloc, &mut facts[place], module.inst(unit, inst))
+        }
+    }
 }
 
 fn tell(alloc: Global, fact: &mut Fact, inst: &Inst) -> Result<(), NoMemory>
@@ -119,16 +144,26 @@ fn tell(alloc: Global, fact: &mut Fact, inst: &Inst) -> Result<(), NoMemory>
 }
 
 /// Tells the arguments, over what the instructions told; of two that are one value, the first tells.
-fn tell_args(facts: &mut Vec<Fact>, seen: &mut Vec<bool>, args: &[Arg]) -> Result<(), NoMemory>
-    requires within { ArgsWithin (vec_len facts.old) args.now }
-    requires marks { seen.old.items ≡ replicate (vec_len facts.old) false }
-    ensures { (f : Naming) (lines : List Line) → Knows (vec_len facts.old) f [] lines facts.old.items → OnOk result (Knows (vec_len facts.old) f args.now lines facts.new.items) }
+fn tell_args(facts: &mut [Fact], seen: &mut [bool], args: &[Arg]) -> Result<(), NoMemory>
+    requires within { ArgsWithin (length facts.old) args.now }
+    requires marks { seen.old ≡ replicate (length facts.old) false }
+    ensures { (f : Naming) (lines : List Line) → Knows (length facts.old) f [] lines facts.old → OnOk result (Knows (length facts.old) f args.now lines facts.new) }
 {
     for arg in args {
-        let value = arg.value.0 as usize;
-        tell_arg(&mut facts[value], seen[value], arg)?;
-        seen[value] = true;
+        tell_arg_at(facts, seen, arg)?;
     }
+    Ok(())
+}
+
+fn tell_arg_at(facts: &mut [Fact], seen: &mut [bool], arg: &Arg) -> Result<(), NoMemory>
+    requires within { arg.now.value.0 < length facts.old }
+    requires marks { length seen.old ≡ length facts.old }
+    ensures marks { (args : List Arg) → Marks args (length facts.old) seen.old → OnOk result (Marks (args ++ arg.now ∷ []) (length facts.old) seen.new) }
+    ensures facts { (f : Naming) (args : List Arg) (lines : List Line) → Marks args (length facts.old) seen.old → Knows (length facts.old) f args lines facts.old → OnOk result (Knows (length facts.old) f (args ++ arg.now ∷ []) lines facts.new) }
+{
+    let value = arg.value.0 as usize;
+    tell_arg(&mut facts[value], seen[value], arg)?;
+    seen[value] = true;
     Ok(())
 }
 
