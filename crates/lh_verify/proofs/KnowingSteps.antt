@@ -153,9 +153,9 @@ knows-nothing n f facts e = record {
 -- one more instruction, with a result
 pub knows-told : (n : ℕ) (f : Naming) (ls : List Line) (l : Line) (w : ValueId) (old new : List Fact) (fact d : Fact) → Knows n f [] ls old → l.result ≡ Some w → w.0 < n → Tells (get_or old w.0 d).defined f l.inst (get_or old w.0 d) fact → new ≡ set old w.0 fact → Knows n f [] (ls ++ l ∷ []) new
 knows-told n f ls l w old new fact d k r h t is = record {
-    long = ap length is ∙ length-set old w.0 fact ∙ k.long;
-    known = λ v x g. by v x (same_or w.0 v) (sym (ap (λ xs. slice_get xs v) is) ∙ g);
-  }
+  long = ap length is ∙ length-set old w.0 fact ∙ k.long;
+  known = λ v x g. by v x (same_or w.0 v) (sym (ap (λ xs. slice_get xs v) is) ∙ g);
+}
   where
     within : w.0 < length old
     within = omega (arith, h, k.long)
@@ -214,9 +214,9 @@ arg-told f xs a ls v old new false d t r k = arg-first f xs a ls v old new r (sy
 
 pub knows-arg : (n : ℕ) (f : Naming) (xs : List Arg) (a : Arg) (ls : List Line) (old new : List Fact) (seen : List Bool) (fact d : Fact) (b : Bool) → Knows n f xs ls old → Marks xs n seen → a.value.0 < n → slice_get seen a.value.0 ≡ Some b → TellsArg b a (get_or old a.value.0 d) fact → new ≡ set old a.value.0 fact → Knows n f (xs ++ a ∷ []) ls new
 knows-arg n f xs a ls old new seen fact d b k m h s t w = record {
-    long = ap length w ∙ length-set old a.value.0 fact ∙ k.long;
-    known = λ v x g. by v x (same_or a.value.0 v) (sym (ap (λ l. slice_get l v) w) ∙ g);
-  }
+  long = ap length w ∙ length-set old a.value.0 fact ∙ k.long;
+  known = λ v x g. by v x (same_or a.value.0 v) (sym (ap (λ l. slice_get l v) w) ∙ g);
+}
   where
     within : a.value.0 < length old
     within = omega (arith, h, k.long)
@@ -231,9 +231,9 @@ knows-arg n f xs a ls old new seen fact d b k m h s t w = record {
 
 pub marks-arg : (n : ℕ) (xs : List Arg) (a : Arg) (seen new : List Bool) → Marks xs n seen → a.value.0 < n → new ≡ set seen a.value.0 true → Marks (xs ++ a ∷ []) n new
 marks-arg n xs a seen new m h w = record {
-    long = ap length w ∙ length-set seen a.value.0 true ∙ m.long;
-    marked = λ v b g. by v b (same_or a.value.0 v) (sym (ap (λ l. slice_get l v) w) ∙ g);
-  }
+  long = ap length w ∙ length-set seen a.value.0 true ∙ m.long;
+  marked = λ v b g. by v b (same_or a.value.0 v) (sym (ap (λ l. slice_get l v) w) ∙ g);
+}
   where
     within : a.value.0 < length seen
     within = omega (arith, h, m.long)
@@ -260,7 +260,7 @@ pub on-ok : {A E : Type 0} → (r : Result A E) (P Q : Type 0) → (P → Q) →
 on-ok (Ok x) P Q g h = g h
 on-ok (Err e) P Q g h = tt
 
-taken : {X : Type 0} → (xs : List X) (i : ℕ) (d : X) → i < length xs → take i xs ++ get_or xs i d ∷ [] ≡ take (i + 1) xs
+pub taken : {X : Type 0} → (xs : List X) (i : ℕ) (d : X) → i < length xs → take i xs ++ get_or xs i d ∷ [] ≡ take (i + 1) xs
 taken xs i d h = grind (arith, common_steps)
 
 -- one more item of a list, and all of them

@@ -1,5 +1,6 @@
 pub mod KnowingSteps
 pub mod Lists
+pub mod MarkingSteps
 pub mod Named
 pub mod OtherUnits
 pub mod Places

@@ -1,6 +1,7 @@
 pub mod Asks
 pub mod Faults
 pub mod Knowing
+pub mod Marking
 pub mod Operands
 pub mod Parts
 pub mod PhisById

@@ -18,9 +18,9 @@ loop-arg-preserved c =
     record {
       marks = subst (λ l. M l (length c.args.facts.now)) t (subst (λ n. M (take c.loop-arg.arg-index c.args.args.now ++ x ∷ []) n) e (c.in_ok-tell_arg_at.ensures.marks (take c.loop-arg.arg-index c.args.args.now) m));
       knows = λ f lines k.
-        let K : List Arg → ℕ → Type 0 = λ l n. Knows n f l lines c.tell_arg_at.new.facts in
-        let old : Knows (length c.loop-arg.facts) f (take c.loop-arg.arg-index c.args.args.now) lines c.loop-arg.facts = subst (λ (n : ℕ). Knows n f (take c.loop-arg.arg-index c.args.args.now) lines c.loop-arg.facts) (sym e) (c.loop-arg.invariant.knows f lines k) in
-        subst (λ l. K l (length c.args.facts.now)) t (subst (λ n. K (take c.loop-arg.arg-index c.args.args.now ++ x ∷ []) n) e (c.in_ok-tell_arg_at.ensures.facts f (take c.loop-arg.arg-index c.args.args.now) lines m old));
+          let K : List Arg → ℕ → Type 0 = λ l n. Knows n f l lines c.tell_arg_at.new.facts in
+          let old : Knows (length c.loop-arg.facts) f (take c.loop-arg.arg-index c.args.args.now) lines c.loop-arg.facts = subst (λ (n : ℕ). Knows n f (take c.loop-arg.arg-index c.args.args.now) lines c.loop-arg.facts) (sym e) (c.loop-arg.invariant.knows f lines k) in
+          subst (λ l. K l (length c.args.facts.now)) t (subst (λ n. K (take c.loop-arg.arg-index c.args.args.now ++ x ∷ []) n) e (c.in_ok-tell_arg_at.ensures.facts f (take c.loop-arg.arg-index c.args.args.now) lines m old));
     }
 
 pub returns : goal.returns

@@ -25,5 +25,5 @@ returns-in-Some c = λ ls k.
     let l = line_at (table_at c.args.module.now c.args.unit.0) c.args.inst.0 in
     on-ok c.tell.result _ _
     (λ t. knows-told (value_count c.args.module.now c.args.unit.0) f ls l c.in-Some.value c.args.facts.now _ c.tell.new.fact c.index-facts-place.result k (sym c.result_of.ensures.value ∙ c.in-Some.is) h
-        (let old = get_or c.args.facts.now c.in-Some.value.0 c.index-facts-place.result in subst (λ (i : Inst). Tells old.defined f i old c.tell.new.fact) c.inst.ensures.inst t) refl)
+    (let old = get_or c.args.facts.now c.in-Some.value.0 c.index-facts-place.result in subst (λ (i : Inst). Tells old.defined f i old c.tell.new.fact) c.inst.ensures.inst t) refl)
     (c.tell.ensures f)
