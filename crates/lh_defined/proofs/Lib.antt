@@ -1,0 +1,9 @@
+pub mod Lists
+pub mod Within
+pub mod Routes
+pub mod Paths
+pub mod Asking
+pub mod Meaning
+pub mod Units
+pub mod Bounds
+pub mod Steps

@@ -1,0 +1,7 @@
+pub mod Bits
+pub mod Keeping
+pub mod Spreading
+pub mod Searching
+pub mod Routing
+pub mod Answering
+pub mod EveryRoute

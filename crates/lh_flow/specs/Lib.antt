@@ -1,0 +1,6 @@
+pub mod Routes
+pub mod Asks
+pub mod Words
+pub mod Searches
+pub mod Groups
+pub mod Laws

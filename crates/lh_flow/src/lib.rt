@@ -1,0 +1,10 @@
+//! Whether values are given on every route through the blocks of a unit: a flow, and questions on it.
+#![tactic(auto)]
+
+pub mod ask;
+pub mod flow;
+mod group;
+pub mod laws;
+mod search;
+#[cfg(test)]
+mod tests;
