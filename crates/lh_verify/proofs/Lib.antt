@@ -1,9 +1,11 @@
 pub mod KnowingSteps
 pub mod Lists
+pub mod Lowest
 pub mod MarkingSteps
 pub mod Named
 pub mod OtherUnits
 pub mod Places
+pub mod PlacesById
 pub mod Placing
 pub mod SpotParts
 pub mod TypeParts

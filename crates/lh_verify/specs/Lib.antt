@@ -1,3 +1,4 @@
+pub mod Answering
 pub mod Asks
 pub mod Faults
 pub mod Knowing
@@ -7,5 +8,7 @@ pub mod Parts
 pub mod PhisById
 pub mod Placed
 pub mod Spots
+pub mod SpotsWithin
 pub mod Told
 pub mod Uses
+pub mod Verifying

@@ -17,5 +17,7 @@ mod scope;
 mod spots;
 mod types;
 mod undefined;
+mod unit;
 mod units;
 mod uses;
+pub mod verify;
