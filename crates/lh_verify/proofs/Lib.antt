@@ -1,3 +1,4 @@
+pub mod FirstFaults
 pub mod KnowingSteps
 pub mod Lists
 pub mod Lowest
@@ -7,6 +8,8 @@ pub mod OtherUnits
 pub mod Places
 pub mod PlacesById
 pub mod Placing
+pub mod ScopeIs
 pub mod SpotParts
 pub mod TypeParts
+pub mod UnitPlaces
 pub mod UsesText

@@ -45,6 +45,7 @@ pub record FirstLacks (u : UnitText) (i : InstId) : Type 0 where
   pub after : List Place
   pub split : places u ≡ before ++ place ∷ after
   pub holds : LacksDefinition u place
+  pub none_before : Each (λ p. ¬ LacksDefinition u p) before
   pub at : place.number ≡ i.0 + 1
 
 -- which instruction is the first that lacks a definition, if paths are asked for and there is one

@@ -1,7 +1,7 @@
 //! The first faulty instruction of a unit.
 ghost use Rattle.std.specs.Prelude.{◌≡◌, ◌<◌, IsSome, IfOk};
 ghost use Rattle.std.specs.List.{list_any};
-ghost use Rattle.lh_unit.specs.Arena.{unit_count, kind_at, inst_count, table_at, contents, unit_text_at};
+ghost use Rattle.lh_unit.specs.Arena.{IsArena, unit_count, kind_at, inst_count, table_at, contents, unit_text_at};
 ghost use Rattle.lh_unit.specs.Within.{Each};
 ghost use Rattle.lh_verify.specs.Answering.{Finds, LacksFirst, first_at as first_fault_at, is_at as lacks_at, found_or};
 ghost use Rattle.lh_verify.specs.Faults.{hides_paths as spot_hides_paths};
@@ -51,6 +51,7 @@ pub fn first_fault(alloc: Global, module: &Module, unit: UnitId) -> Result<Optio
 
 /// The same, where what there is to know of the unit is known.
 fn first_in(alloc: Global, scope: &Scope<'_>, places: &[Spot]) -> Result<Option<Found>, NoMemory>
+    requires sound { IsArena scope.now.module.now }
     requires scope { IsScope scope.now }
     requires begun { IsSome (kind_at scope.now.module.now scope.now.unit.0) }
     requires places { places.now ≡ spots_of (table_at scope.now.module.now scope.now.unit.0) }
@@ -67,6 +68,7 @@ fn first_lacking(
     scope: &Scope<'_>,
     places: &[Spot],
 ) -> Result<Option<InstId>, NoMemory>
+    requires sound { IsArena scope.now.module.now }
     requires scope { IsScope scope.now }
     requires begun { IsSome (kind_at scope.now.module.now scope.now.unit.0) }
     requires places { places.now ≡ spots_of (table_at scope.now.module.now scope.now.unit.0) }
