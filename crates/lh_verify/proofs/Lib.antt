@@ -1,8 +1,10 @@
+pub mod FirstAt
 pub mod FirstFaults
 pub mod KnowingSteps
 pub mod Lists
 pub mod Lowest
 pub mod MarkingSteps
+pub mod ModuleFaults
 pub mod Named
 pub mod OtherUnits
 pub mod Places

@@ -1,7 +1,7 @@
 -- The faults of a place by ids are those of its text.
-use Rattle.std.proofs.Common.{◌≡◌, ℕ, ◌+◌, ◌<◌, zero, suc, Bool, true, false, not, ◌&&◌, ◌||◌, nat_eq, if◌then◌else◌, List, [], ◌∷◌, ◌++◌, length, map, Option, Some, None, slice_get, refl, ap, sym, ◌∙◌, subst, arith}
+use Rattle.std.proofs.Common.{◌≡◌, ℕ, ◌+◌, ◌<◌, zero, suc, Bool, true, false, not, ◌&&◌, ◌||◌, nat_eq, if◌then◌else◌, cond, List, [], ◌∷◌, ◌++◌, length, map, Option, Some, None, slice_get, refl, ap, sym, ◌∙◌, subst, arith}
 use Rattle.std.specs.Prelude.{count_by}
-use Rattle.std.specs.List.{list_any, list_all}
+use Rattle.std.specs.List.{list_any, list_all, fold}
 use Rattle.std.proofs.lemmas.List.Folds.{list_any-append}
 use Rattle.std.proofs.lemmas.List.{map-append}
 use Rattle.lh_unit.specs.Contents.{EdgeText, LineText, BlockText, UnitText, same_name}
@@ -104,12 +104,15 @@ blocks-of n (Some kind.Entity) t j b e h w s = absurd h
 
 module _ (a : Arena) (u : ℕ) (o : IsArena a) (h : u < unit_count a) (k : HasBlocks (kind_at a u)) where
   -- how many edges name a block
+  counts : (b : BlockId) → b.0 < label_count a u → (n : ℕ) (es : List PhiEdge) → Each (EdgeWithin (sizes a u)) es
+      → fold (λ (k : ℕ) (x : EdgeText). k + cond (same_name x.block (label_name_at a u b.0)) 1 0) n (map (edge_text (naming a u)) es) ≡ fold (λ (k : ℕ) (x : PhiEdge). k + cond (nat_eq x.block.0 b.0) 1 0) n es
+  counts b l n [] w = refl
+  counts b l n (e ∷ es) w =
+      ap (λ c. fold (λ (k : ℕ) (x : EdgeText). k + cond (same_name x.block (label_name_at a u b.0)) 1 0) (n + cond c 1 0) (map (edge_text (naming a u)) es)) (same_label-by_id a u o h e.block.0 b.0 w.0.1 l)
+      ∙ counts b l (n + cond (nat_eq e.block.0 b.0) 1 0) es w.1
+
   naming-is : (b : BlockId) → b.0 < label_count a u → (es : List PhiEdge) → Each (EdgeWithin (sizes a u)) es → wf.edges_naming (label_name_at a u b.0) (map (edge_text (naming a u)) es) ≡ phis.edges_naming b es
-  naming-is b l [] w = refl
-  naming-is b l (e ∷ es) w =
-      let q : same_name (label_name_at a u e.block.0) (label_name_at a u b.0) ≡ nat_eq e.block.0 b.0 = same_label-by_id a u o h e.block.0 b.0 w.0.1 l in
-      let r : wf.edges_naming (label_name_at a u b.0) (map (edge_text (naming a u)) es) ≡ phis.edges_naming b es = naming-is b l es w.1 in
-      cc
+  naming-is b l es w = counts b l 0 es w
 
   -- each predecessor is named once
   once-is : (to : BlockId) → to.0 < label_count a u → (es : List PhiEdge) → Each (EdgeWithin (sizes a u)) es → (bs : List BlockId) → ((j : ℕ) (b : BlockId) → slice_get bs j ≡ Some b → (i : ℕ) × (slice_get (blocks_at a u) i ≡ Some b))

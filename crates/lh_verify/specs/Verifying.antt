@@ -1,7 +1,7 @@
 -- What is said of a module that was verified.
-use Rattle.std.specs.Prelude.{◌≡◌, ℕ, ◌+◌, ◌<◌, List, Option, Some, None, Result, Ok, Err}
+use Rattle.std.specs.Prelude.{◌≡◌, ℕ, ◌+◌, ◌<◌, List, Option, Some, None, IsSome, Result, Ok, Err}
 use Rattle.lh_unit.specs.WellFormed.{FaultKind, number_of, Site, NoneHasFault, IsFirstFault, IsFaultless}
-use Rattle.lh_unit.specs.Arena.{Arena, contents, unit_name_at, unit_text_at, unit_count}
+use Rattle.lh_unit.specs.Arena.{Arena, contents, unit_name_at, unit_text_at, unit_count, kind_at}
 use Rattle.lh_unit.specs.declared.inst.UnitId.{UnitId}
 use Rattle.lh_unit.specs.declared.inst.Item.{Item}
 use Rattle.lh_unit.specs.declared.inst.Item.TheVariants as item
@@ -43,6 +43,11 @@ SaysOfUnit a u (Some f) = UnitFault a u f
 abbrev pub SaysOfItem : Arena → Item → Option Fault → Type 0
 SaysOfItem a (item.Unit u) f = SaysOfUnit a u f
 SaysOfItem a (item.Declare d) f = f ≡ None
+
+-- the unit of an item is begun
+abbrev pub ItemBegun : Arena → Item → Type 0
+ItemBegun a (item.Unit u) = IsSome (kind_at a u.0)
+ItemBegun a (item.Declare d) = Unit {0}
 
 -- what is found in a unit, as a fault of the module
 abbrev pub named_fault : UnitId → Option Found → Option Fault

@@ -4,7 +4,7 @@ ghost use Rattle.lh_unit.specs.Arena.{contents};
 ghost use Rattle.lh_unit.specs.WellFormed.{IsFaultless};
 ghost use Rattle.lh_verify.specs.Answering.{IsFew};
 ghost use Rattle.lh_verify.specs.Placed.{IsItemOf};
-ghost use Rattle.lh_verify.specs.Verifying.{Verifies, Says, SaysOfItem, named_fault};
+ghost use Rattle.lh_verify.specs.Verifying.{Verifies, Says, SaysOfItem, ItemBegun, named_fault};
 
 use crate::unit::{Found, first_fault};
 use lh_types::ty::NoMemory;
@@ -109,7 +109,8 @@ fn find(alloc: Global, module: &Module) -> Result<Option<Fault>, NoMemory>
 
 /// The first fault of an item, if there is one.
 fn find_in(alloc: Global, module: &Module, item: &Item) -> Result<Option<Fault>, NoMemory>
-    requires { IsItemOf module.now item.now }
+    requires placed { IsItemOf module.now item.now }
+    requires begun { ItemBegun module.now item.now }
     ensures { IfOk result (λ fault. SaysOfItem module.now item.now fault) }
 {
     match item {
