@@ -50,9 +50,9 @@ unit-first a xs i u f w p h e n d =
     let pre : List Site = sites (map (item_text_at a) (take i xs)) in
     let post : List Site = sites (map (item_text_at a) (drop (i + 1) xs)) in
     let z : sites (contents a) ≡ pre ++ (unit_sites (unit_text_at a u.0) ++ post) =
-        ap (λ l. sites (map (item_text_at a) l)) (w ∙ cut xs i ∙ ap (λ l. take i xs ++ l) (drop-item xs i (item.Unit u) h e))
-        ∙ ap sites (map-append (item_text_at a) (take i xs) (item.Unit u ∷ drop (i + 1) xs))
-        ∙ sites-append (map (item_text_at a) (take i xs)) (map (item_text_at a) (item.Unit u ∷ drop (i + 1) xs)) in
+    ap (λ l. sites (map (item_text_at a) l)) (w ∙ cut xs i ∙ ap (λ l. take i xs ++ l) (drop-item xs i (item.Unit u) h e))
+    ∙ ap sites (map-append (item_text_at a) (take i xs) (item.Unit u ∷ drop (i + 1) xs))
+    ∙ sites-append (map (item_text_at a) (take i xs)) (map (item_text_at a) (item.Unit u ∷ drop (i + 1) xs)) in
     record {
       within = subst (λ (v : UnitId). v.0 < unit_count a) (sym d.unit) p;
       kind = d.kind;

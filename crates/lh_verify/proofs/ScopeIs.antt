@@ -63,17 +63,17 @@ module _ (a : Arena) (u : ℕ) (o : IsArena a) (h : u < unit_count a) where
   kind-is : (v : ℕ) → v < value_count a u → value_kind (unit_text_at a u) (value_name_at a u v) ≡ or_else (option_and_then (λ (x : Arg). kind_of x.ty) (arg_being (args_at a u) v)) (option_and_then (λ (i : Inst). result_kind (inst_text (naming a u) i)) (inst_making (table_at a u).lines v))
   kind-is v w =
       let p : option_and_then (λ (x : ArgText). kind_of x.ty) (arg_named (value_name_at a u v) (unit_text_at a u).args) ≡ option_and_then (λ (x : Arg). kind_of x.ty) (arg_being (args_at a u) v) =
-          ap (option_and_then (λ (x : ArgText). kind_of x.ty)) (arg_named-by_id a u o h v w) ∙ arg-kind-text (naming a u) (arg_being (args_at a u) v) in
+      ap (option_and_then (λ (x : ArgText). kind_of x.ty)) (arg_named-by_id a u o h v w) ∙ arg-kind-text (naming a u) (arg_being (args_at a u) v) in
       let q : option_and_then result_kind (inst_giving (value_name_at a u v) (unit_text_at a u).blocks) ≡ option_and_then (λ (i : Inst). result_kind (inst_text (naming a u) i)) (inst_making (table_at a u).lines v) =
-          ap (option_and_then result_kind) (inst_giving-by_id a u o h v w) ∙ inst-kind-text (naming a u) (inst_making (table_at a u).lines v) in
+      ap (option_and_then result_kind) (inst_giving-by_id a u o h v w) ∙ inst-kind-text (naming a u) (inst_making (table_at a u).lines v) in
       λ i. or_else (p i) (q i)
 
   type-is : (v : ℕ) → v < value_count a u → value_type (unit_text_at a u) (value_name_at a u v) ≡ or_else (option_map (λ (x : Arg). x.ty) (arg_being (args_at a u) v)) (option_and_then (λ (i : Inst). result_type (inst_text (naming a u) i)) (inst_making (table_at a u).lines v))
   type-is v w =
       let p : option_map (λ (x : ArgText). x.ty) (arg_named (value_name_at a u v) (unit_text_at a u).args) ≡ option_map (λ (x : Arg). x.ty) (arg_being (args_at a u) v) =
-          ap (option_map (λ (x : ArgText). x.ty)) (arg_named-by_id a u o h v w) ∙ arg-type-text (naming a u) (arg_being (args_at a u) v) in
+      ap (option_map (λ (x : ArgText). x.ty)) (arg_named-by_id a u o h v w) ∙ arg-type-text (naming a u) (arg_being (args_at a u) v) in
       let q : option_and_then result_type (inst_giving (value_name_at a u v) (unit_text_at a u).blocks) ≡ option_and_then (λ (i : Inst). result_type (inst_text (naming a u) i)) (inst_making (table_at a u).lines v) =
-          ap (option_and_then result_type) (inst_giving-by_id a u o h v w) ∙ inst-type-text (naming a u) (inst_making (table_at a u).lines v) in
+      ap (option_and_then result_type) (inst_giving-by_id a u o h v w) ∙ inst-type-text (naming a u) (inst_making (table_at a u).lines v) in
       λ i. or_else (p i) (q i)
 
   pub told-of : (v : ℕ) (x : Fact) → v < value_count a u → Known (naming a u) (args_at a u) (table_at a u).lines v x → Told (unit_text_at a u) (value_name_at a u v) x

@@ -89,8 +89,8 @@ module _ (s : Scope) (o : IsArena s.module.now) (h : s.unit.0 < unit_count s.mod
       let t = table_at s.module.now s.unit.0 in
       let m : Numbered 0 (places (text_in s)) = subst (Numbered 0) (sym places-in) (numbered 0 (byid.spots t) (λ j p g. let r = spot-at t j p (o.tables s.unit.0 h) g in omega (arith, r.0))) in
       let a : AllMatch s (items_in s) (text_in s) (places (text_in s)) xs =
-          subst (λ (ps : List Place). AllMatch s (items_in s) (text_in s) ps xs) (sym places-in)
-          (subst (AllMatch s (items_in s) (text_in s) (map (place_text (naming_in s) t) (byid.spots t))) (spots-map t ∙ sym e) (all-match (byid.spots t) spot-here)) in
+      subst (λ (ps : List Place). AllMatch s (items_in s) (text_in s) ps xs) (sym places-in)
+      (subst (AllMatch s (items_in s) (text_in s) (map (place_text (naming_in s) t) (byid.spots t))) (spots-map t ∙ sym e) (all-match (byid.spots t) spot-here)) in
       let few : inst_count s.module.now s.unit.0 ≤ 65536 = (o.tables s.unit.0 h).few in
       conclude found
       (λ f g. omega (arith, within-first (inst_count s.module.now s.unit.0) lacks xs f w (sym q ∙ g), few))
