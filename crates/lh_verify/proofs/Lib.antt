@@ -1,8 +1,17 @@
+pub mod FirstAt
+pub mod FirstFaults
+pub mod KnowingSteps
 pub mod Lists
+pub mod Lowest
+pub mod MarkingSteps
+pub mod ModuleFaults
 pub mod Named
 pub mod OtherUnits
 pub mod Places
+pub mod PlacesById
 pub mod Placing
+pub mod ScopeIs
 pub mod SpotParts
 pub mod TypeParts
+pub mod UnitPlaces
 pub mod UsesText

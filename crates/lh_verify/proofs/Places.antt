@@ -143,3 +143,6 @@ pub first-left : (a b d r : Bool) → b ≡ false → d ≡ false → r ≡ a �
 first-left true true d r e g h = cc
 first-left true false d r e g h = h
 first-left false b d r e g h = h ∙ sym (ap (λ x. x || d) e ∙ g)
+
+pub hides-by-phi : (s : Scope) (x : Spot) (k : UnitKind) (i : Inst) → k ≡ (text_in s).kind → i ≡ inst_in s x → phi_is_wrong (table_at s.module.now s.unit.0) x i ≡ true → true ≡ hides_paths s x
+hides-by-phi s x k i e g h = last-holds (is_undefined (items_in s) (text_in s) (inst_text (naming_in s) i)) (ends_wrong k x.last (inst_text (naming_in s) i)) (phi_is_wrong (table_at s.module.now s.unit.0) x i) h ∙ sym (hides-parts s x k i e g)

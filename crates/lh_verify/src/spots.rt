@@ -1,6 +1,6 @@
 //! The places of the instructions of a unit, in file order.
 ghost use Rattle.std.specs.Prelude.{◌≡◌, ◌<◌, ◌++◌, ◌||◌, true, false, IfOk, OnOk};
-ghost use Rattle.lh_unit.specs.Arena.{table_at, unit_count, block_insts_at};
+ghost use Rattle.lh_unit.specs.Arena.{IsArena, table_at, unit_count, block_insts_at};
 ghost use Rattle.lh_unit.specs.Within.{Each};
 ghost use Rattle.lh_verify.specs.Placed.{IsInstOf, IsBlockOf};
 ghost use Rattle.lh_verify.specs.Spots.{is_other as inst_is_other, spots_in, spots_from, spots_of};
@@ -30,7 +30,8 @@ pub type SpotList = ListOf<Spot>;
 /// The places of a unit, in file order.
 pub fn spots(alloc: Global, module: &Module, unit: UnitId) -> Result<SpotList, NoMemory>
     requires { unit.0 < unit_count module.now }
-    ensures { IfOk result (λ list. list ≡ spots_of (table_at module.now unit.0)) }
+    ensures places { IfOk result (λ list. list ≡ spots_of (table_at module.now unit.0)) }
+    ensures sound { IsArena module.now }
 {
     let mut list = SpotList::new(alloc);
     put_blocks(&mut list, module, unit, module.blocks(unit))?;

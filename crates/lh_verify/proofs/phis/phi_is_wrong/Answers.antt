@@ -5,4 +5,4 @@ use Rattle.lh_verify.proofs.Placing.{blocks-placed}
 use Rattle.lh_verify.proofs.phis.phi_is_wrong.Goals as goal
 
 pub names_predecessors-requires-clause-blocks : goal.names_predecessors-requires-clause-blocks
-names_predecessors-requires-clause-blocks c = subst (Each (IsBlockOf c.args.module.now c.args.unit.0)) (sym c.blocks-all.ensures.blocks) (blocks-placed c.args.module.now c.args.unit.0 c.blocks-all.ensures.sound c.requires)
+names_predecessors-requires-clause-blocks c = subst (Each (IsBlockOf c.args.module.now c.args.unit.0)) (sym c.blocks-all.ensures.blocks) (blocks-placed c.args.module.now c.args.unit.0 c.blocks-all.ensures.sound c.requires.unit)

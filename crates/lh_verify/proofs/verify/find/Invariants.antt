@@ -1,0 +1,10 @@
+use Rattle.std.proofs.Common.{◌≡◌, map, take}
+use Rattle.lh_unit.specs.WellFormed.{NoneHasFault, sites}
+use Rattle.lh_unit.specs.Arena.{contents, item_text_at}
+use Rattle.lh_verify.proofs.verify.find.Given as goal
+
+abbrev pub invariant-loop-item : goal.invariant-loop-item
+invariant-loop-item l = record {
+  items : l.item-items ≡ l.module.items;
+  none : NoneHasFault (contents l.module) (sites (map (item_text_at l.module) (take l.item-index l.item-items)));
+}

@@ -1,0 +1,52 @@
+//! Which labels of a unit have a block.
+ghost use Rattle.std.specs.Prelude.{◌≡◌, ◌<◌, length, replicate, false, IfOk};
+ghost use Rattle.lh_unit.specs.Table.{BlocksWithin};
+ghost use Rattle.lh_unit.specs.Arena.{unit_count, label_count};
+ghost use Rattle.lh_verify.specs.Marking.{BlockMarks, Stands, has_labels as kind_has_labels};
+
+use crate::facts::no_marks;
+use lh_types::ty::NoMemory;
+use lh_unit::inst::{BlockId, UnitId, UnitKind};
+use lh_unit::module::Module;
+use std::alloc::Global;
+
+/// By the ids of labels, whether a block of the unit has the label. In an entity none has.
+pub fn labels(alloc: Global, module: &Module, unit: UnitId) -> Result<Vec<bool>, NoMemory>
+    requires { unit.0 < unit_count module.now }
+    ensures { IfOk result (λ marks. Stands module.now unit.0 marks.items) }
+{
+    let mut marks = no_marks(alloc, module.labels(unit))?;
+    mark_labels(&mut marks, module, unit);
+    Ok(marks)
+}
+
+fn mark_labels(marks: &mut [bool], module: &Module, unit: UnitId)
+    requires unit { unit.0 < unit_count module.now }
+    requires marks { marks.old ≡ replicate (label_count module.now unit.0) false }
+    ensures { Stands module.now unit.0 marks.new }
+{
+    if !has_labels(module.kind(unit)) {
+        return;
+    }
+    mark_blocks(marks, module.blocks(unit));
+}
+
+/// Whether the blocks of a unit of this kind have labels.
+fn has_labels(kind: Option<UnitKind>) -> bool
+    ensures { result ≡ kind_has_labels kind }
+{
+    match kind {
+        Some(UnitKind::Func) | Some(UnitKind::Proc) => true,
+        Some(UnitKind::Entity) | None => false,
+    }
+}
+
+fn mark_blocks(marks: &mut [bool], blocks: &[BlockId])
+    requires within { BlocksWithin (length marks.old) blocks.now }
+    requires marks { marks.old ≡ replicate (length marks.old) false }
+    ensures { BlockMarks blocks.now (length marks.old) marks.new }
+{
+    for block in blocks {
+        marks[block.0 as usize] = true;
+    }
+}

@@ -1,0 +1,145 @@
+//! Which values of a unit come from a `prb`.
+ghost use Rattle.std.specs.Prelude.{◌≡◌, ◌<◌, ◌+◌, ◌∷◌, List, length, replicate, false, slice_index_or, IfOk, OnOk, IsTrue};
+ghost use Rattle.std.specs.List.{list_any};
+ghost use Rattle.lh_unit.specs.Table.{line_at};
+ghost use Rattle.lh_unit.specs.Arena.{unit_count, value_count, inst_count, table_at};
+ghost use Rattle.lh_unit.specs.declared.table.Line.{Line};
+ghost use Rattle.lh_verify.specs.Marking.{Reaches, Advances, comes_from as inst_comes_from};
+
+use crate::facts::no_marks;
+use crate::uses::{Use, uses};
+use lh_types::ty::NoMemory;
+use lh_unit::inst::{Inst, InstId, UnitId, ValueId};
+use lh_unit::module::Module;
+use std::alloc::Global;
+
+/// By the ids of values, whether the value comes from a `prb` by its operands, in a unit with this many instructions.
+///
+/// In each round the values that come from it by one instruction more are marked, until no value is added.
+pub fn probed(
+    alloc: Global,
+    module: &Module,
+    unit: UnitId,
+    insts: u32,
+) -> Result<Vec<bool>, NoMemory>
+    requires unit { unit.0 < unit_count module.now }
+    requires insts { insts ≡ inst_count module.now unit.0 }
+    ensures { IfOk result (λ marks. Reaches module.now unit.0 (inst_count module.now unit.0 + 1) marks.items) }
+{
+    let mut marks = no_marks(alloc, module.values(unit))?;
+    for _ in 0..insts + 1 {
+        let next = round(alloc, module, unit, insts, &marks)?;
+        if are_same(&marks, &next) {
+            return Ok(next);
+        }
+        marks = next;
+    }
+    Ok(marks)
+}
+
+/// Whether marks are the same.
+fn are_same(marks: &[bool], other: &[bool]) -> bool
+    requires { length marks.now ≡ length other.now }
+    ensures { IsTrue result → marks.now ≡ other.now }
+{
+    for (i, mark) in marks.iter().enumerate() {
+        if *mark != other[i] {
+            return false;
+        }
+    }
+    true
+}
+
+/// One round: the values of which the instruction is a `prb` or has a marked operand.
+fn round(
+    alloc: Global,
+    module: &Module,
+    unit: UnitId,
+    insts: u32,
+    marks: &[bool],
+) -> Result<Vec<bool>, NoMemory>
+    requires unit { unit.0 < unit_count module.now }
+    requires insts { insts ≡ inst_count module.now unit.0 }
+    requires long { length marks.now ≡ value_count module.now unit.0 }
+    ensures { IfOk result (λ next. Advances (table_at module.now unit.0).lines marks.now (value_count module.now unit.0) next.items) }
+{
+    let mut next = no_marks(alloc, module.values(unit))?;
+    mark_insts(alloc, module, unit, insts, marks, &mut next)?;
+    Ok(next)
+}
+
+/// Marks the results of all instructions; of two that give one value, the first decides.
+fn mark_insts(
+    alloc: Global,
+    module: &Module,
+    unit: UnitId,
+    insts: u32,
+    marks: &[bool],
+    next: &mut [bool],
+) -> Result<(), NoMemory>
+    requires unit { unit.0 < unit_count module.now }
+    requires insts { insts ≡ inst_count module.now unit.0 }
+    requires long { length marks.now ≡ value_count module.now unit.0 }
+    requires next { next.old ≡ replicate (value_count module.now unit.0) false }
+    ensures { OnOk result (Advances (table_at module.now unit.0).lines marks.now (value_count module.now unit.0) next.new) }
+{
+    for i in (0..insts).rev() {
+        mark_inst(alloc, module, unit, InstId(i), marks, next)?;
+    }
+    Ok(())
+}
+
+fn mark_inst(
+    alloc: Global,
+    module: &Module,
+    unit: UnitId,
+    inst: InstId,
+    marks: &[bool],
+    next: &mut [bool],
+) -> Result<(), NoMemory>
+    requires unit { unit.0 < unit_count module.now }
+    requires inst { inst.0 < inst_count module.now unit.0 }
+    requires long { length marks.now ≡ value_count module.now unit.0 }
+    requires next { length next.old ≡ value_count module.now unit.0 }
+    ensures { (ls : List Line) → Advances ls marks.now (value_count module.now unit.0) next.old → OnOk result (Advances (line_at (table_at module.now unit.0) inst.0 ∷ ls) marks.now (value_count module.now unit.0) next.new) }
+{
+    match module.result_of(unit, inst) {
+        None => Ok(()),
+        Some(value) => {
+            let place = value.0 as usize;
+            next[place] = comes_from(alloc, marks, module.inst(unit, inst))?;
+            Ok(())
+        }
+    }
+}
+
+/// Whether an instruction is a `prb`, or one of its operands is marked.
+fn comes_from(alloc: Global, marks: &[bool], inst: &Inst) -> Result<bool, NoMemory>
+    ensures { IfOk result (λ b. b ≡ inst_comes_from marks.now inst.now) }
+{
+    if let Inst::Prb(_) = inst {
+        return Ok(true);
+    }
+    let list = uses(alloc, inst)?;
+    Ok(any_is_marked(marks, list.as_slice()))
+}
+
+fn any_is_marked(marks: &[bool], operands: &[Use]) -> bool
+    ensures { result ≡ list_any (λ x. slice_index_or marks.now x.value.0 false) operands.now }
+{
+    for operand in operands {
+        if is_marked(marks, operand.value) {
+            return true;
+        }
+    }
+    false
+}
+
+fn is_marked(marks: &[bool], value: ValueId) -> bool
+    ensures { result ≡ slice_index_or marks.now value.0 false }
+{
+    match marks.get(value.0 as usize) {
+        Some(mark) => *mark,
+        None => false,
+    }
+}

@@ -1,0 +1,131 @@
+//! The first faulty instruction of a unit.
+ghost use Rattle.std.specs.Prelude.{◌≡◌, ◌<◌, IsSome, IfOk};
+ghost use Rattle.std.specs.List.{list_any};
+ghost use Rattle.lh_unit.specs.Arena.{IsArena, unit_count, kind_at, inst_count, table_at, contents, unit_text_at};
+ghost use Rattle.lh_unit.specs.Within.{Each};
+ghost use Rattle.lh_verify.specs.Answering.{Finds, LacksFirst, first_at as first_fault_at, is_at as lacks_at, found_or};
+ghost use Rattle.lh_verify.specs.Faults.{hides_paths as spot_hides_paths};
+ghost use Rattle.lh_verify.specs.Spots.{spots_of};
+ghost use Rattle.lh_verify.specs.Told.{IsScope, items_in, text_in};
+ghost use Rattle.lh_verify.specs.SpotsWithin.{SpotWithin};
+
+use crate::facts::facts;
+use crate::labels::labels;
+use crate::place::{hides_paths, lowest};
+use crate::probes::probed;
+use crate::scope::Scope;
+use crate::spots::{Spot, spots};
+use lh_defined::{DefinedFault, defined};
+use lh_types::ty::NoMemory;
+use lh_unit::inst::{InstId, UnitId};
+use lh_unit::module::Module;
+use std::alloc::Global;
+
+/// A faulty instruction, and the number of its lowest fault.
+#[derive(Clone, Copy, Debug)]
+pub struct Found {
+    pub inst: InstId,
+    pub number: u8,
+}
+
+/// The first faulty instruction of a defined unit, if there is one.
+pub fn first_fault(alloc: Global, module: &Module, unit: UnitId) -> Result<Option<Found>, NoMemory>
+    requires unit { unit.0 < unit_count module.now }
+    requires begun { IsSome (kind_at module.now unit.0) }
+    ensures { IfOk result (λ found. Finds (contents module.now) (unit_text_at module.now unit.0) found) }
+{
+    let list = spots(alloc, module, unit)?;
+    let insts = list.len() as u32;
+    let known = facts(alloc, module, unit, insts)?;
+    let from_probe = probed(alloc, module, unit, insts)?;
+    let standing = labels(alloc, module, unit)?;
+    let scope = Scope {
+        module,
+        unit,
+        facts: known.as_slice(),
+        probed: from_probe.as_slice(),
+        labels: standing.as_slice(),
+    };
+    first_in(alloc, &scope, list.as_slice())
+}
+
+/// The same, where what there is to know of the unit is known.
+fn first_in(alloc: Global, scope: &Scope<'_>, places: &[Spot]) -> Result<Option<Found>, NoMemory>
+    requires sound { IsArena scope.now.module.now }
+    requires scope { IsScope scope.now }
+    requires begun { IsSome (kind_at scope.now.module.now scope.now.unit.0) }
+    requires places { places.now ≡ spots_of (table_at scope.now.module.now scope.now.unit.0) }
+    requires within { Each (SpotWithin (inst_count scope.now.module.now scope.now.unit.0)) places.now }
+    ensures { IfOk result (λ found. Finds (items_in scope.now) (text_in scope.now) found) }
+{
+    let lacks = first_lacking(alloc, scope, places)?;
+    first_at(alloc, scope, places, lacks)
+}
+
+/// The first instruction with fault 7, where it is asked for.
+fn first_lacking(
+    alloc: Global,
+    scope: &Scope<'_>,
+    places: &[Spot],
+) -> Result<Option<InstId>, NoMemory>
+    requires sound { IsArena scope.now.module.now }
+    requires scope { IsScope scope.now }
+    requires begun { IsSome (kind_at scope.now.module.now scope.now.unit.0) }
+    requires places { places.now ≡ spots_of (table_at scope.now.module.now scope.now.unit.0) }
+    requires within { Each (SpotWithin (inst_count scope.now.module.now scope.now.unit.0)) places.now }
+    ensures { IfOk result (λ lacks. LacksFirst (items_in scope.now) (text_in scope.now) lacks) }
+{
+    if any_hides_paths(alloc, scope, places)? {
+        return Ok(None);
+    }
+    match defined(alloc, scope.module, scope.unit) {
+        Ok(()) => Ok(None),
+        Err(DefinedFault::NotDefined { inst, value: _ }) => Ok(Some(inst)),
+        Err(DefinedFault::OutOfMemory) => Err(NoMemory),
+    }
+}
+
+/// Whether some instruction has one of the faults after which paths are not asked for.
+fn any_hides_paths(alloc: Global, scope: &Scope<'_>, places: &[Spot]) -> Result<bool, NoMemory>
+    requires scope { IsScope scope.now }
+    requires within { Each (SpotWithin (inst_count scope.now.module.now scope.now.unit.0)) places.now }
+    ensures { IfOk result (λ b. b ≡ list_any (spot_hides_paths scope.now) places.now) }
+{
+    for place in places {
+        if hides_paths(alloc, scope, *place)? {
+            return Ok(true);
+        }
+    }
+    Ok(false)
+}
+
+/// The first of these instructions that has a fault, where it is known which is the first with fault 7.
+fn first_at(
+    alloc: Global,
+    scope: &Scope<'_>,
+    places: &[Spot],
+    lacks: Option<InstId>,
+) -> Result<Option<Found>, NoMemory>
+    requires scope { IsScope scope.now }
+    requires within { Each (SpotWithin (inst_count scope.now.module.now scope.now.unit.0)) places.now }
+    ensures { IfOk result (λ found. found ≡ first_fault_at scope.now lacks places.now) }
+{
+    for place in places {
+        if let Some(number) = lowest(alloc, scope, *place, is_at(lacks, *place))? {
+            return Ok(Some(Found {
+                inst: place.inst,
+                number,
+            }));
+        }
+    }
+    Ok(None)
+}
+
+fn is_at(lacks: Option<InstId>, place: Spot) -> bool
+    ensures { result ≡ lacks_at lacks place }
+{
+    match lacks {
+        Some(inst) => inst.0 == place.inst.0,
+        None => false,
+    }
+}

@@ -1,0 +1,137 @@
+//! The first fault of a module, and modules that have none.
+ghost use Rattle.std.specs.Prelude.{◌≡◌, IfOk};
+ghost use Rattle.lh_unit.specs.Arena.{contents};
+ghost use Rattle.lh_unit.specs.WellFormed.{IsFaultless};
+ghost use Rattle.lh_verify.specs.Answering.{IsFew};
+ghost use Rattle.lh_verify.specs.Placed.{IsItemOf};
+ghost use Rattle.lh_verify.specs.Verifying.{Verifies, Says, SaysOfItem, ItemBegun, named_fault};
+
+use crate::unit::{Found, first_fault};
+use lh_types::ty::NoMemory;
+use lh_unit::inst::{Item, UnitId};
+use lh_unit::module::Module;
+use std::alloc::Global;
+use std::marker::Model;
+
+/// A faulty instruction: its unit, its number in the unit from 1, and the number of its lowest fault, from 1 to 8.
+#[derive(Clone, Copy, Debug, PartialEq, Eq)]
+pub struct Fault {
+    pub unit: UnitId,
+    pub inst: u32,
+    pub number: u8,
+}
+
+/// Why a module was not verified.
+#[derive(Clone, Copy, Debug, PartialEq, Eq)]
+pub enum VerifyCause {
+    /// The first faulty instruction in file order, with its lowest fault.
+    Invalid(Fault),
+    /// Memory ran out.
+    OutOfMemory,
+}
+
+/// A module that was not verified, as it was handed in, and why.
+#[derive(Drop)]
+pub struct VerifyFault {
+    pub module: Module,
+    pub cause: VerifyCause,
+}
+
+/// A module of which no instruction has a fault.
+#[derive(Drop)]
+pub struct Verified {
+    module: Module,
+}
+
+impl Model for Verified {
+    ghost use Rattle.std.specs.Coded.{codes};
+    ghost use Rattle.lh_types.specs.Types.{type_coded};
+    ghost use Rattle.lh_types.specs.Values.{datum_coded};
+    ghost use Rattle.lh_unit.specs.Arena.{Arena, contents};
+    ghost use Rattle.lh_unit.specs.WellFormed.{IsFaultless};
+
+    ghost Value = { Arena };
+
+    ghost coded = { Prim.hlevel (codes, type_coded, datum_coded) };
+
+    ghost view = { λ v. v.module };
+
+    ghost invariant = { λ v. IsFaultless (contents v.module) };
+}
+
+impl Verified {
+    /// The module.
+    pub fn module(&self) -> &Module
+        ensures module { result.now ≡ self.now }
+        ensures faultless { IsFaultless (contents self.now) }
+    {
+        &self.module
+    }
+
+    /// The module, without memory.
+    pub fn into_module(self) -> Module
+        ensures module { result ≡ self }
+        ensures faultless { IsFaultless (contents self) }
+    {
+        self.module
+    }
+}
+
+/// Verifies a module: `Ok` exactly where no instruction has a fault, and else `Invalid` with the first faulty
+/// instruction in file order and its lowest fault. An error hands the module back as it was.
+pub fn verify(alloc: Global, m: Module) -> Result<Verified, VerifyFault>
+    ensures { Verifies result m }
+{
+    match find(alloc, &m) {
+        Ok(None) => Ok(Verified { module: m }),
+        Ok(Some(fault)) => Err(VerifyFault {
+            module: m,
+            cause: VerifyCause::Invalid(fault),
+        }),
+        Err(NoMemory) => Err(VerifyFault {
+            module: m,
+            cause: VerifyCause::OutOfMemory,
+        }),
+    }
+}
+
+/// The first fault of a module, if there is one.
+fn find(alloc: Global, module: &Module) -> Result<Option<Fault>, NoMemory>
+    ensures { IfOk result (λ fault. Says module.now fault) }
+{
+    for item in module.items() {
+        if let Some(fault) = find_in(alloc, module, item)? {
+            return Ok(Some(fault));
+        }
+    }
+    Ok(None)
+}
+
+/// The first fault of an item, if there is one.
+fn find_in(alloc: Global, module: &Module, item: &Item) -> Result<Option<Fault>, NoMemory>
+    requires placed { IsItemOf module.now item.now }
+    requires begun { ItemBegun module.now item.now }
+    ensures { IfOk result (λ fault. SaysOfItem module.now item.now fault) }
+{
+    match item {
+        Item::Declare(_) => Ok(None),
+        Item::Unit(unit) => {
+            let found = first_fault(alloc, module, *unit)?;
+            Ok(fault_of(*unit, found))
+        }
+    }
+}
+
+fn fault_of(unit: UnitId, found: Option<Found>) -> Option<Fault>
+    requires { IsFew found }
+    ensures { result ≡ named_fault unit found }
+{
+    match found {
+        Some(found) => Some(Fault {
+            unit,
+            inst: found.inst.0 + 1,
+            number: found.number,
+        }),
+        None => None,
+    }
+}
