@@ -214,7 +214,7 @@ const REFUSED: [(&[u8], &[u8]); 12] = [
 const ACCEPTED: [&[u8]; 7] = [
     b"declare @f (i8) i8\n",
     // A declaration is compared with nothing, and it takes no name.
-    b"declare @f (i8) -> (i8)\nfunc @f () void {\nb:\nret\n}\nfunc @g () void {\nb:\ncall void @f ()\nret\n}\n",
+    b"declare @f (i8$) -> (i8$)\nfunc @f () void {\nb:\nret\n}\nfunc @g () void {\nb:\ncall void @f ()\nret\n}\n",
     b"declare @llhd.assert (i8) void\nfunc @f (i1 %c) void {\nb:\ncall void @llhd.assert (i1 %c)\nret\n}\n",
     b"func @f (i1 %c) void {\nb:\ncall void %llhd.assert ()\ncall void @llhd.assert (%c)\nret\n}\nfunc %llhd.assert () void {\nb:\nret\n}\n",
     // A unit may be named before its text, and may name itself.
