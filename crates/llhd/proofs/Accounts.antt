@@ -63,10 +63,10 @@ by_lines words bytes SourceTooLong out log (asks, (long, gained)) l rises =
     account_of words bytes SourceTooLong SourceTooLong [] [] [] out log l (source_too_long Check asks long) (whole_prefix []) gained rises (refl, refl, refl)
 by_lines words bytes (Refused why) out log (asks, (few, bad, gained)) l rises =
     account_of words bytes (Refused why) (Refused why) [] [] [] out log l (refused Check why asks few bad) (whole_prefix []) gained rises (refl, refl, refl)
-by_lines words bytes WriteFault out log (asks, (file, few, reads, off)) l rises =
-    account_of words bytes WriteFault Done (canon file) [] off.part out log l (done Check file (canon file) [] asks few reads (refl, refl)) (off.is_prefix.rest, off.is_prefix.split) off.gained rises (inl (off.is_prefix, off.rose))
-by_lines words bytes Done out log (asks, (file, few, reads, gained)) l rises =
-    account_of words bytes Done Done (canon file) [] (canon file) out log l (done Check file (canon file) [] asks few reads (refl, refl)) (whole_prefix (canon file)) gained rises (refl, refl, refl)
+by_lines words bytes WriteFault out log (asks, (file, few, reads, sound, off)) l rises =
+    account_of words bytes WriteFault Done (canon file) [] off.part out log l (done Check file (canon file) [] asks few reads sound (refl, refl)) (off.is_prefix.rest, off.is_prefix.split) off.gained rises (inl (off.is_prefix, off.rose))
+by_lines words bytes Done out log (asks, (file, few, reads, sound, gained)) l rises =
+    account_of words bytes Done Done (canon file) [] (canon file) out log l (done Check file (canon file) [] asks few reads sound (refl, refl)) (whole_prefix (canon file)) gained rises (refl, refl, refl)
 by_lines words bytes OutOfMemory out log (asks, gained) l rises =
     let one = HasOneResult-check words bytes asks in
     account_of words bytes OutOfMemory one.status one.out one.log [] out log l one.result (one.out, refl) gained rises tt

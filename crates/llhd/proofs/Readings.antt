@@ -3,7 +3,7 @@ use Rattle.std.proofs.Common.{◌≡◌, ℕ, List, ◌⊎◌, inl, inr, sym, �
 use Rattle.lh_unit.specs.Contents.{ItemText}
 use Rattle.lh_unit.specs.Reads.{BadKind, Reads, FirstBad}
 use Rattle.lh_read.specs.Reading.{ReadsOrIsBad}
-use Rattle.lh_read.proofs.Progress.{reads-or_bad}
+use Rattle.lh_read.proofs.Computed.{reads-or_bad}
 
 by_law : (text : List ℕ) → ReadsOrIsBad text → ((line : ℕ) × (kind : BadKind) × FirstBad text line kind) ⊎ ((file : List ItemText) × Reads text file)
 by_law text (inl (file, one)) = inr (file, one.reads)

@@ -59,3 +59,19 @@ BreaksOff_second was mid now was_faults mid_faults faults a b first le off = rec
 pub Puts_second : (r : Result (Unit {0}) Failed) (was mid now : Option (List ℕ)) (was_faults mid_faults faults : ℕ) (a b : List ℕ) → Appends was mid a → was_faults ≤ mid_faults → Puts r (use_of mid now mid_faults faults) b → Puts r (use_of was now was_faults faults) (a ++ b)
 Puts_second (Ok _) was mid now was_faults mid_faults faults a b first le puts = Appends_more was mid now a b first puts
 Puts_second (Err _) was mid now was_faults mid_faults faults a b first le puts = BreaksOff_second was mid now was_faults mid_faults faults a b first le puts
+
+-- texts may be grouped anew
+pub Puts_regrouped : (r : Result (Unit {0}) Failed) (u : Use) (a b c : List ℕ) → Puts r u (a ++ (b ++ c)) → Puts r u (a ++ b ++ c)
+Puts_regrouped r u a b c puts =
+    let P : List ℕ → Type 0 = λ t. Puts r u t in
+    subst P (sym (append_assoc a b c)) puts
+
+-- the same text
+pub Puts_same : (r : Result (Unit {0}) Failed) (u : Use) (text again : List ℕ) → text ≡ again → Puts r u text → Puts r u again
+Puts_same r u text again same puts =
+    let P : List ℕ → Type 0 = λ t. Puts r u t in
+    subst P same puts
+
+-- what rises twice rises
+pub rises_twice : (a b c : ℕ) → a ≤ b → b ≤ c → a ≤ c
+rises_twice a b c ab bc = omega arith

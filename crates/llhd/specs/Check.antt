@@ -7,11 +7,12 @@ use Rattle.lh_read.specs.declared.TextFault.TheVariants as text
 use Rattle.lh_unit.specs.Contents.{ItemText}
 use Rattle.lh_unit.specs.Reads.{Reads}
 use Rattle.lh_unit.specs.Canon.{canon}
+use Rattle.lh_unit.specs.WellFormed.{IsFaultless}
 use Rattle.llhd.specs.Commands.{Asks, HasNoForm}
 use Rattle.llhd.specs.declared.command.Command.TheVariants.{Check}
-use Rattle.llhd.specs.Result.{source_limit, IsRefusedFor}
+use Rattle.llhd.specs.Result.{source_limit, HasFirstFault, IsRefusedFor}
 use Rattle.llhd.specs.Account.{Use, Gained, BreaksOff}
-use Rattle.llhd.specs.declared.status.Refusal.TheVariants.{Syntax, UnitTooLarge, DuplicateName}
+use Rattle.llhd.specs.declared.status.Refusal.TheVariants.{Syntax, UnitTooLarge, DuplicateName, Invalid}
 use Rattle.llhd.specs.declared.status.Status.{Status}
 use Rattle.llhd.specs.declared.status.Status.TheVariants.{Usage, ReadFault, SourceTooLong, Refused, WriteFault, Done, OutOfMemory}
 
@@ -33,9 +34,15 @@ abbrev pub ended : Result (Unit {0}) Status → Status
 ended (Ok _) = Done
 ended (Err status) = status
 
--- the bytes are few enough and read as a file with this property
+-- the bytes are few enough and read as a well-formed file with this property
 abbrev pub OfFile : List ℕ → (List ItemText → Type 0) → Type 0
-OfFile bytes P = (file : List ItemText) × (length bytes ≤ source_limit) × Reads bytes file × P file
+OfFile bytes P = (file : List ItemText) × (length bytes ≤ source_limit) × Reads bytes file × IsFaultless file × P file
+
+-- the status of a file with a fault names its first one; want of memory says nothing
+abbrev pub IsFaultStatus : Status → List ItemText → Type 0
+IsFaultStatus (Refused (Invalid unit inst number)) file = HasFirstFault file unit inst number
+IsFaultStatus OutOfMemory file = Unit {0}
+IsFaultStatus _ file = ⊥
 
 -- what check leaves of the output, by how it ends
 abbrev pub ChecksTo : Status → List ℕ → Use → Type 0

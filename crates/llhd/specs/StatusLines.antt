@@ -1,14 +1,31 @@
 -- The line that a status writes to the log.
-use Rattle.std.specs.Prelude.{ℕ, List, [], ◌++◌, codes, decimal}
+use Rattle.std.specs.Prelude.{ℕ, nat_eq, List, [], ◌∷◌, ◌++◌, if◌then◌else◌, codes, decimal}
+use Rattle.lh_unit.specs.declared.name.UnitName.{UnitName}
 use Rattle.llhd.specs.declared.status.Refusal.{Refusal}
-use Rattle.llhd.specs.declared.status.Refusal.TheVariants.{Syntax, UnitTooLarge, DuplicateName}
+use Rattle.llhd.specs.declared.status.Refusal.TheVariants.{Syntax, UnitTooLarge, DuplicateName, Invalid}
 use Rattle.llhd.specs.declared.status.Status.{Status}
 use Rattle.llhd.specs.declared.status.Status.TheVariants.{Usage, ReadFault, SourceTooLong, Refused, WriteFault, Done, OutOfMemory}
+
+-- the name of a fault by its number, between a space and the end of the line
+abbrev pub name_of_fault : ℕ → List ℕ
+name_of_fault n =
+    if nat_eq n 1 then codes " Undefined\n"
+    else if nat_eq n 2 then codes " WrongKind\n"
+    else if nat_eq n 3 then codes " WrongType\n"
+    else if nat_eq n 4 then codes " NotHere\n"
+    else if nat_eq n 5 then codes " NoTerminator\n"
+    else if nat_eq n 6 then codes " PhiEdges\n"
+    else if nat_eq n 7 then codes " NotDefined\n" else codes " Arguments\n"
+
+-- the line of a faulty instruction
+abbrev pub inst_line : UnitName → (inst number : ℕ) → List ℕ
+inst_line u inst number = (codes "unit " ++ u.sigil ∷ u.name) ++ (codes " instruction " ++ decimal inst ++ codes ": ") ++ decimal number ++ name_of_fault number
 
 abbrev pub refusal_line : Refusal → List ℕ
 refusal_line (Syntax line) = codes "line " ++ decimal line ++ codes ": syntax\n"
 refusal_line (UnitTooLarge line) = codes "line " ++ decimal line ++ codes ": unit too large\n"
 refusal_line (DuplicateName line) = codes "line " ++ decimal line ++ codes ": duplicate name\n"
+refusal_line (Invalid u inst number) = inst_line u inst number
 
 -- Done has none
 abbrev pub status_line : Status → List ℕ

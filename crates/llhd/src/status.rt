@@ -1,6 +1,6 @@
 //! How a run ends: its statuses, their codes, and the line of each.
-ghost use Rattle.std.specs.Prelude.{◌≡◌, ◌≤◌, ◌++◌, codes, decimal};
-ghost use Rattle.llhd.specs.StatusLines.{refusal_line, status_line, status_code};
+ghost use Rattle.std.specs.Prelude.{◌≡◌, ◌≤◌, ◌∷◌, ◌++◌, codes, decimal};
+ghost use Rattle.llhd.specs.StatusLines.{name_of_fault, inst_line, refusal_line, status_line, status_code};
 ghost use Rattle.llhd.specs.Account.{use_of, Puts};
 ghost use Rattle.llhd.specs.Check.{source_status, text_status};
 ghost use Rattle.llhd.specs.declared.status.Status.TheVariants.{WriteFault, OutOfMemory};
@@ -10,12 +10,13 @@ use lh_io::stream::{Failed, Sink};
 use lh_io::whole::{ReadAllFault, write_all};
 use lh_read::TextFault;
 use lh_types::ty::NoMemory;
+use lh_unit::name::UnitName;
 
 const USAGE: &[u8] =
     b"usage: llhd check | lower | simulate --top NAME --steps N [--vcd] [--watch TITLE ...] | selftest N\n";
 
-/// Why a file is refused. Lines are counted from 1.
-#[derive(Clone, Copy, Debug, PartialEq, Eq)]
+/// Why a file is refused. Lines, and the instructions of a unit, are counted from 1.
+#[derive(Debug, Drop, PartialEq, Eq)]
 pub enum Refusal {
     /// The line spells nothing in its place.
     Syntax(u32),
@@ -23,6 +24,12 @@ pub enum Refusal {
     UnitTooLarge(u32),
     /// The line defines a name that is defined already.
     DuplicateName(u32),
+    /// The instruction is the first faulty one, and this is the number of its lowest fault.
+    Invalid {
+        unit: UnitName,
+        inst: u32,
+        number: u8,
+    },
 }
 
 /// How a run ends.
@@ -85,15 +92,73 @@ impl From<Failed> for Status {
     }
 }
 
-// Writes the status line of a fault in a line of the file.
-fn write_line_fault<L: Sink>(log: &mut L, line: u32, text: &[u8]) -> Result<(), Failed>
-    ensures puts { Puts result (use_of (L.written log.old) (L.written log.new) (L.faults log.old) (L.faults log.new)) (codes "line " ++ decimal line ++ text.now) }
+// Writes three texts, one behind the other.
+fn write_three<L: Sink>(
+    log: &mut L,
+    first: &[u8],
+    second: &[u8],
+    third: &[u8],
+) -> Result<(), Failed>
+    ensures puts { Puts result (use_of (L.written log.old) (L.written log.new) (L.faults log.old) (L.faults log.new)) (first.now ++ second.now ++ third.now) }
     ensures never_fall { L.faults log.old ≤ L.faults log.new }
 {
-    write_all(log, b"line ")?;
+    write_all(log, first)?;
+    write_all(log, second)?;
+    write_all(log, third)
+}
+
+// Writes a number between two texts.
+fn write_number<L: Sink>(
+    log: &mut L,
+    before: &[u8],
+    number: u32,
+    behind: &[u8],
+) -> Result<(), Failed>
+    ensures puts { Puts result (use_of (L.written log.old) (L.written log.new) (L.faults log.old) (L.faults log.new)) (before.now ++ decimal number ++ behind.now) }
+    ensures never_fall { L.faults log.old ≤ L.faults log.new }
+{
     let mut digits = Buffer::new();
-    write_all(log, digits.format(line).as_bytes())?;
-    write_all(log, text)
+    write_three(log, before, digits.format(number).as_bytes(), behind)
+}
+
+// Writes the unit of a faulty instruction.
+fn write_unit<L: Sink>(log: &mut L, unit: &UnitName) -> Result<(), Failed>
+    ensures puts { Puts result (use_of (L.written log.old) (L.written log.new) (L.faults log.old) (L.faults log.new)) (codes "unit " ++ unit.now.sigil ∷ unit.now.name) }
+    ensures never_fall { L.faults log.old ≤ L.faults log.new }
+{
+    let sigil = [unit.sigil];
+    write_three(log, b"unit ", &sigil, unit.name.as_bytes())
+}
+
+// The name of a fault by its number, which ends the line.
+fn fault_name(number: u8) -> &'static [u8]
+    ensures { result.now ≡ name_of_fault number }
+{
+    match number {
+        1 => b" Undefined\n",
+        2 => b" WrongKind\n",
+        3 => b" WrongType\n",
+        4 => b" NotHere\n",
+        5 => b" NoTerminator\n",
+        6 => b" PhiEdges\n",
+        7 => b" NotDefined\n",
+        _ => b" Arguments\n",
+    }
+}
+
+// Writes the status line of a faulty instruction.
+fn write_inst_fault<L: Sink>(
+    log: &mut L,
+    unit: &UnitName,
+    inst: u32,
+    number: u8,
+) -> Result<(), Failed>
+    ensures puts { Puts result (use_of (L.written log.old) (L.written log.new) (L.faults log.old) (L.faults log.new)) (inst_line unit.now inst number) }
+    ensures never_fall { L.faults log.old ≤ L.faults log.new }
+{
+    write_unit(log, unit)?;
+    write_number(log, b" instruction ", inst, b": ")?;
+    write_number(log, b"", number as u32, fault_name(number))
 }
 
 impl Refusal {
@@ -103,9 +168,20 @@ impl Refusal {
         ensures never_fall { L.faults log.old ≤ L.faults log.new }
     {
         match self {
-            Refusal::Syntax(line) => write_line_fault(log, *line, b": syntax\n"),
-            Refusal::UnitTooLarge(line) => write_line_fault(log, *line, b": unit too large\n"),
-            Refusal::DuplicateName(line) => write_line_fault(log, *line, b": duplicate name\n"),
+            Refusal::Syntax(line) => write_number(log, b"line ", *line, b": syntax\n"),
+            Refusal::UnitTooLarge(line) => write_number(
+                log,
+                b"line ",
+                *line,
+                b": unit too large\n",
+            ),
+            Refusal::DuplicateName(line) => write_number(
+                log,
+                b"line ",
+                *line,
+                b": duplicate name\n",
+            ),
+            Refusal::Invalid { unit, inst, number } => write_inst_fault(log, unit, *inst, *number),
         }
     }
 }

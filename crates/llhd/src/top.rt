@@ -4,19 +4,41 @@ ghost use Rattle.lh_io.specs.Streams.{Rose};
 ghost use Rattle.lh_io.specs.Whole.{Takes};
 ghost use Rattle.llhd.specs.Commands.{HasNoForm};
 ghost use Rattle.llhd.specs.Account.{use_of, OfSource, IsCountFor, IsReadToEnd, Account, HasOneResult, IsResultOrNoMemory};
-ghost use Rattle.llhd.specs.Check.{ChecksTo, Performs, ended};
+ghost use Rattle.lh_unit.specs.Arena.{contents};
+ghost use Rattle.lh_verify.specs.Verifying.{HasCause};
+ghost use Rattle.llhd.specs.Check.{IsFaultStatus, ChecksTo, Performs, ended};
 
 use crate::command::{Command, command_of};
-use crate::status::Status;
+use crate::status::{Refusal, Status};
 use lh_io::stream::{Sink, Source};
 use lh_io::whole::{read_all, write_all};
 use lh_print::print;
 use lh_read::read;
 use lh_types::list::TextList;
+use lh_types::ty::NoMemory;
+use lh_verify::verify::{VerifyCause, VerifyFault, verify};
 use std::alloc::Global;
 
 /// How many bytes a source may give.
 const SOURCE_LIMIT: usize = 67_108_864;
+
+// The status of a module that is not well formed.
+fn refused(fault: VerifyFault) -> Status
+    requires { HasCause fault.cause fault.«module» }
+    ensures { IsFaultStatus result (contents fault.«module») }
+{
+    match fault.cause {
+        VerifyCause::Invalid(first) => match fault.module.unit_name(first.unit).copy() {
+            Ok(unit) => Status::Refused(Refusal::Invalid {
+                unit,
+                inst: first.inst,
+                number: first.number,
+            }),
+            Err(NoMemory) => Status::OutOfMemory,
+        },
+        VerifyCause::OutOfMemory => Status::OutOfMemory,
+    }
+}
 
 // Reads a file and writes its canonical text.
 fn check<S: Source, O: Sink>(alloc: Global, src: &mut S, out: &mut O) -> Result<(), Status>
@@ -27,7 +49,11 @@ fn check<S: Source, O: Sink>(alloc: Global, src: &mut S, out: &mut O) -> Result<
 {
     let bytes = read_all(alloc, src, SOURCE_LIMIT)?;
     let module = read(alloc, &bytes)?;
-    let text = print(alloc, &module)?;
+    let verified = match verify(alloc, module) {
+        Ok(verified) => verified,
+        Err(fault) => return Err(refused(fault)),
+    };
+    let text = print(alloc, verified.module())?;
     write_all(out, &text)?;
     Ok(())
 }

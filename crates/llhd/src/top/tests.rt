@@ -1,4 +1,5 @@
 //! Runs in memory: each status, and each call of the source and of the sinks failing in turn.
+mod faulty;
 mod samples;
 mod spellings;
 
@@ -44,7 +45,7 @@ fn words_of(alloc: Global, words: &[&[u8]]) -> Result<TextList, Fail> {
 
 fn sink(alloc: Global, fail: u64) -> Result<MemSink, Fail> {
     let fails = Vec::from_slice(alloc, &[fail])?;
-    Ok(MemSink::new(alloc, 200, PIECE, fails)?)
+    Ok(MemSink::new(alloc, 1_000, PIECE, fails)?)
 }
 
 fn run_with(alloc: Global, words: &[&[u8]], text: &[u8], faults: Faults) -> Result<Left, Fail> {

@@ -182,8 +182,8 @@ const FILES: [(&[u8], &[u8]); 8] = [
     (b"\n \n;\n//", b""),
 ];
 
-// Lines that are nearly right, in a block of a process.
-const NEARLY: [&[u8]; 174] = [
+// Lines of values that are nearly right, in a block of a process.
+const NEARLY_VALUES: [&[u8]; 91] = [
     b"%x = const i8",
     b"%x = const i8 256",
     b"%x = const i8 -129",
@@ -275,6 +275,10 @@ const NEARLY: [&[u8]; 174] = [
     b"%x = insf i8 %a, i8 %b, 1",
     b"%x = insf i8 %a, 1",
     b"%x = inss i8 %a, %b, 1",
+];
+
+// The same for the lines of other instructions, labels and braces.
+const NEARLY: [&[u8]; 83] = [
     b"%x = var %a",
     b"var i8 %a",
     b"%x = ld %p",
@@ -424,11 +428,25 @@ fn each_file_has_its_canonical_form(rt: HostRuntime) -> Result<(), Fail> {
 }
 
 #[test]
+fn values_that_are_nearly_right_are_refused(rt: HostRuntime) -> Result<(), Fail> {
+    for (k, line) in NEARLY_VALUES.iter().enumerate() {
+        let text = in_a_process(rt.alloc(), b"", *line)?;
+        assert!(rt; syntax_fault(rt.alloc(), &text) == Some(3), "row {k}");
+    }
+    Ok(())
+}
+
+#[test]
 fn lines_that_are_nearly_right_are_refused(rt: HostRuntime) -> Result<(), Fail> {
     for (k, line) in NEARLY.iter().enumerate() {
         let text = in_a_process(rt.alloc(), b"", *line)?;
         assert!(rt; syntax_fault(rt.alloc(), &text) == Some(3), "row {k}");
     }
+    Ok(())
+}
+
+#[test]
+fn items_that_are_nearly_right_are_refused(rt: HostRuntime) -> Result<(), Fail> {
     for (k, line) in NEARLY_ITEMS.iter().enumerate() {
         assert!(rt; syntax_fault(rt.alloc(), *line) == Some(1), "row {k}");
     }
