@@ -1,5 +1,5 @@
 -- Tests of lists, and of two and more at once.
-use Rattle.std.proofs.Common.{◌≡◌, ℕ, List, [], ◌∷◌, map, Bool, true, false, not, ◌&&◌, ◌||◌, refl, sym, subst}
+use Rattle.std.proofs.Common.{◌≡◌, List, [], ◌∷◌, map, Bool, true, false, not, ◌&&◌, ◌||◌, refl, sym, subst}
 use Rattle.std.specs.List.{list_any, list_all}
 use Rattle.lh_unit.specs.Within.{Each}
 

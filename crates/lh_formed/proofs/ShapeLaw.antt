@@ -1,15 +1,15 @@
 -- The shape of a unit of a module without a fault.
-use Rattle.std.proofs.Common.{◌≡◌, ℕ, ◌+◌, List, [], ◌∷◌, ◌++◌, length, map, Bool, true, false, not, ◌&&◌, ◌||◌, nat_eq, if◌then◌else◌, Option, Some, None, refl, ap, sym, ◌∙◌, subst, arith}
+use Rattle.std.proofs.Common.{◌≡◌, ℕ, ◌+◌, List, [], ◌∷◌, ◌++◌, length, map, Bool, true, false, not, ◌&&◌, ◌||◌, nat_eq, if◌then◌else◌, Some, refl, sym, subst, arith}
 use Rattle.std.proofs.lemmas.Grind.{common_steps}
-use Rattle.std.specs.List.{list_any, list_all}
-use Rattle.lh_unit.specs.Contents.{EdgeText, InstText, phi_text, LineText, BlockText, UnitText, ItemText, unit_text, declare_text, is_result_name, defines_label_in, defines_label, defines_value, defines_unit}
+use Rattle.std.specs.List.{list_any}
+use Rattle.lh_unit.specs.Contents.{InstText, phi_text, LineText, BlockText, UnitText, ItemText, unit_text, declare_text, is_result_name, defines_label_in, defines_label, defines_value, defines_unit}
 use Rattle.lh_unit.specs.Named.{block_of, label_or, is_assert}
 use Rattle.lh_unit.specs.Places.{Place, places_in, places_from, places, is_terminator, has_edge}
 use Rattle.lh_unit.specs.Within.{Each}
-use Rattle.lh_unit.specs.WellFormed.{undefined, not_here, no_terminator, phi_edges, Site, sites, values_named, labels_named, units_named, is_undefined, is_allowed, in_entity, is_empty, ends_wrong, is_phi, edges_naming, names_predecessors, phi_is_wrong, has_local, NoneHasFault, IsFaultless}
+use Rattle.lh_unit.specs.WellFormed.{undefined, not_here, no_terminator, phi_edges, Site, sites, values_named, labels_named, units_named, is_undefined, is_allowed, in_entity, is_empty, ends_wrong, is_phi, edges_naming, names_predecessors, phi_is_wrong, NoneHasFault}
 use Rattle.lh_formed.specs.Shape.{EndsRight, TerminatorsEnd, EndsOnce, EachUnit, BlocksEndOnce, LabelsAreBlocks, PhiIsRight, PhisAreRight, AllAllowed}
 use Rattle.lh_formed.proofs.Bools.{no, on, not_true, not_false, none_of_three, none_passes, each_passes, each_so}
-use Rattle.lh_formed.proofs.Sound.{Sound, site_in, none-append, at_site}
+use Rattle.lh_formed.proofs.Sound.{site_in, none-append, at_site}
 
 abbrev IsNil : List LineText → Type 0
 IsNil [] = Unit {0}

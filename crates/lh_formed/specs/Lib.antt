@@ -1,2 +1,5 @@
 pub mod Sites
+pub mod Operands
+pub mod Defined
+pub mod Calls
 pub mod Shape

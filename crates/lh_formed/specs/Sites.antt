@@ -1,7 +1,6 @@
 -- What holds at each instruction of a module without a fault.
-use Rattle.std.specs.Prelude.{◌≡◌, List, Contains}
-use Rattle.lh_types.specs.Types.{TypeTree}
-use Rattle.lh_unit.specs.Contents.{ItemText, UnitText}
+use Rattle.std.specs.Prelude.{List, Contains}
+use Rattle.lh_unit.specs.Contents.{ItemText}
 use Rattle.lh_unit.specs.WellFormed.{Site, sites, IsFaultless}
 
 -- No instruction of the module has a fault, and this is one of its instructions: then this holds of it.

@@ -1,0 +1,6 @@
+use Rattle.lh_formed.proofs.OperandsLaw.{operands_are_defined, operands_are_taken, types_fit_all}
+use Rattle.lh_formed.proofs.RowsLaw.{rows_are}
+use Rattle.lh_formed.proofs.operand_law.Goals as goal
+
+pub returns : goal.returns
+returns c = record { defined = operands_are_defined; kinds = operands_are_taken; fit = types_fit_all; rows = rows_are }
