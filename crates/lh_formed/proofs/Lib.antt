@@ -6,3 +6,6 @@ pub mod CallsLaw
 pub mod OperandsLaw
 pub mod RowsLaw
 pub mod DefinedLaw
+pub mod PartsLaw
+pub mod ResultsLaw
+pub mod ValuesLaw

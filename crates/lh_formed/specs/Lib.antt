@@ -3,3 +3,5 @@ pub mod Operands
 pub mod Defined
 pub mod Calls
 pub mod Shape
+pub mod Parts
+pub mod Results

@@ -1,9 +1,12 @@
-//! Laws of a module in which no instruction has a fault. Each is the contract of a function that does nothing, so that other crates can cite it.
+//! Laws of a module in which no instruction has a fault. Each is the contract of a function that does
+//! nothing, so that other crates can cite it.
 #![tactic(auto)]
 
 ghost use Rattle.lh_formed.specs.Operands.{OperandsAreDefined, OperandsAreTaken, TypesFit, RowsAre};
 ghost use Rattle.lh_formed.specs.Defined.{AllThere};
 ghost use Rattle.lh_formed.specs.Calls.{CallsAreRight};
+ghost use Rattle.lh_formed.specs.Parts.{PartsAreThere, PartsHaveRanges};
+ghost use Rattle.lh_formed.specs.Results.{ResultsHaveTypes, ValuesHaveTypes};
 ghost use Rattle.lh_formed.specs.Shape.{TerminatorsEnd, BlocksEndOnce, LabelsAreBlocks, PhisAreRight, AllAllowed};
 
 /// The values that an instruction names are defined in its unit, they are of the kinds that their
@@ -25,6 +28,20 @@ pub fn defined_law()
 /// the arguments are as many as the parameters and of their types, and the result fits.
 pub fn call_law()
     ensures { CallsAreRight }
+{}
+
+/// `extf` and `exts` of data and of a signal, and `insf` and `inss` of data, have their part, which is
+/// of the type that is taken or put; and a step that has a part leads to its bits.
+pub fn part_law()
+    ensures there { PartsAreThere }
+    ensures ranges { PartsHaveRanges }
+{}
+
+/// What an instruction gives has the type that its row says, and so has the value of its name, where
+/// that is defined once.
+pub fn result_law()
+    ensures types { ResultsHaveTypes }
+    ensures values { ValuesHaveTypes }
 {}
 
 /// In functions and processes a block ends with its one terminator, labels name blocks of the unit, a
