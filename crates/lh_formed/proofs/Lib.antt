@@ -9,3 +9,5 @@ pub mod DefinedLaw
 pub mod PartsLaw
 pub mod ResultsLaw
 pub mod ValuesLaw
+pub mod KindsLaw
+pub mod WithinLaw

@@ -42,7 +42,7 @@ block_ends items u h k e b before (l ∷ m ∷ more) n =
       block_ends items u h (k + 1) e b (before ++ l ∷ []) (m ∷ more) n.1,
     )
 
-none-places : (items : List ItemText) (u : UnitText) (ps qs : List Place) → NoneHasFault items (map (site_in u) (ps ++ qs)) → NoneHasFault items (map (site_in u) ps) × NoneHasFault items (map (site_in u) qs)
+pub none-places : (items : List ItemText) (u : UnitText) (ps qs : List Place) → NoneHasFault items (map (site_in u) (ps ++ qs)) → NoneHasFault items (map (site_in u) ps) × NoneHasFault items (map (site_in u) qs)
 none-places items u [] qs n = (tt, n)
 none-places items u (p ∷ ps) qs n = let r = none-places items u ps qs n.1 in ((n.0, r.0), r.1)
 

@@ -7,12 +7,13 @@ use Rattle.lh_unit.specs.Places.{Place, places}
 use Rattle.lh_unit.specs.WellFormed.{FaultKind, undefined, no_terminator, phi_edges, Site, sites, has_local, hides_paths, has_paths, HasFault, NoneHasFault, IsFaultless}
 use Rattle.lh_formed.proofs.Bools.{not_true}
 
+abbrev pub site_in : UnitText → Place → Site
+site_in u p = record { unit = u; place = p }
+
 pub record Sound (items : List ItemText) (s : Site) : Type 0 where
   pub none : (k : FaultKind) → ¬ HasFault items s k
   pub paths : has_paths items s.unit ≡ true
-
-abbrev pub site_in : UnitText → Place → Site
-site_in u p = record { unit = u; place = p }
+  pub others : NoneHasFault items (map (site_in s.unit) (places s.unit))
 
 pub none-append : (items : List ItemText) (xs ys : List Site) → NoneHasFault items (xs ++ ys) → NoneHasFault items xs × NoneHasFault items ys
 none-append items [] ys n = (tt, n)
@@ -31,15 +32,15 @@ unit_paths : (items : List ItemText) (u : UnitText) (ps : List Place) → NoneHa
 unit_paths items u [] n = refl
 unit_paths items u (p ∷ ps) n = ap (λ b. b || list_any (λ q. hides_paths items (site_in u q)) ps) (hides_none items (site_in u p) n.0) ∙ unit_paths items u ps n.1
 
-all_sound : (items : List ItemText) (u : UnitText) → has_paths items u ≡ true → (ps : List Place) → NoneHasFault items (map (site_in u) ps) → (more : List Site) → All (Sound items) more → All (Sound items) (map (site_in u) ps ++ more)
-all_sound items u e [] n more a = a
-all_sound items u e (p ∷ ps) n more a = All-cons (Sound items) (site_in u p) (map (site_in u) ps ++ more) (record { none = n.0; paths = e }) (all_sound items u e ps n.1 more a)
+all_sound : (items : List ItemText) (u : UnitText) → has_paths items u ≡ true → NoneHasFault items (map (site_in u) (places u)) → (ps : List Place) → NoneHasFault items (map (site_in u) ps) → (more : List Site) → All (Sound items) more → All (Sound items) (map (site_in u) ps ++ more)
+all_sound items u e w [] n more a = a
+all_sound items u e w (p ∷ ps) n more a = All-cons (Sound items) (site_in u p) (map (site_in u) ps ++ more) (record { none = n.0; paths = e; others = w }) (all_sound items u e w ps n.1 more a)
 
 sites_sound : (items xs : List ItemText) → NoneHasFault items (sites xs) → All (Sound items) (sites xs)
 sites_sound items [] n = All-nil (Sound items)
 sites_sound items (unit_text u ∷ more) n =
     let r = none-append items (map (site_in u) (places u)) (sites more) n in
-    all_sound items u (ap not (unit_paths items u (places u) r.0)) (places u) r.0 (sites more) (sites_sound items more r.1)
+    all_sound items u (ap not (unit_paths items u (places u) r.0)) r.0 (places u) r.0 (sites more) (sites_sound items more r.1)
 sites_sound items (declare_text d ∷ more) n = sites_sound items more n
 
 pub at_site : (items : List ItemText) (s : Site) → IsFaultless items → Contains (sites items) s → Sound items s

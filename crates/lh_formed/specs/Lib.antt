@@ -5,3 +5,4 @@ pub mod Calls
 pub mod Shape
 pub mod Parts
 pub mod Results
+pub mod KindsOf

@@ -1,6 +1,6 @@
 -- The steps of `extf`, `exts`, `insf` and `inss` lead to parts.
-use Rattle.std.specs.Prelude.{◌≡◌, List, [], ◌∷◌, true, Some}
-use Rattle.lh_types.specs.Types.{TypeTree, signal_type}
+use Rattle.std.specs.Prelude.{◌≡◌, ◌≤◌, ◌+◌, List, [], ◌∷◌, true, Some}
+use Rattle.lh_types.specs.Types.{TypeTree, signal_type, bit_count}
 use Rattle.lh_types.specs.Faults.{is_data}
 use Rattle.lh_types.specs.Parts.{Part, step_part, part_range, range_of}
 use Rattle.lh_types.specs.declared.part.Step.{Step}
@@ -53,3 +53,7 @@ PartsAreThere = AtEachSite (λ items s. HasPart s.unit s.place.line.inst)
 -- Where there is a part, the step leads to its bits.
 abbrev pub PartsHaveRanges : Type 0
 PartsHaveRanges = (t : TypeTree) (s : Step) (p : Part) → step_part t s ≡ Some p → range_of t (s ∷ []) ≡ Some (part_range p)
+
+-- The bits of a part lie within those of the whole.
+abbrev pub PartsLieWithin : Type 0
+PartsLieWithin = (t : TypeTree) (s : Step) (p : Part) → step_part t s ≡ Some p → p.lo + bit_count p.of ≤ bit_count t

@@ -3,19 +3,22 @@
 #![tactic(auto)]
 
 ghost use Rattle.lh_formed.specs.Operands.{OperandsAreDefined, OperandsAreTaken, TypesFit, RowsAre};
+ghost use Rattle.lh_formed.specs.KindsOf.{OperandsHaveTypes};
 ghost use Rattle.lh_formed.specs.Defined.{AllThere};
 ghost use Rattle.lh_formed.specs.Calls.{CallsAreRight};
-ghost use Rattle.lh_formed.specs.Parts.{PartsAreThere, PartsHaveRanges};
+ghost use Rattle.lh_formed.specs.Parts.{PartsAreThere, PartsHaveRanges, PartsLieWithin};
 ghost use Rattle.lh_formed.specs.Results.{ResultsHaveTypes, ValuesHaveTypes};
 ghost use Rattle.lh_formed.specs.Shape.{TerminatorsEnd, BlocksEndOnce, LabelsAreBlocks, PhisAreRight, AllAllowed};
 
 /// The values that an instruction names are defined in its unit, they are of the kinds that their
-/// places take, and their types fit the row: in words, row by row.
+/// places take, and their types fit the row: in words, row by row. Where no argument of the unit is
+/// void, each of them has a type, of its kind.
 pub fn operand_law()
     ensures defined { OperandsAreDefined }
     ensures kinds { OperandsAreTaken }
     ensures fit { TypesFit }
     ensures rows { RowsAre }
+    ensures types { OperandsHaveTypes }
 {}
 
 /// Where control stands at an instruction, each value that it names is an argument or has been given
@@ -31,10 +34,12 @@ pub fn call_law()
 {}
 
 /// `extf` and `exts` of data and of a signal, and `insf` and `inss` of data, have their part, which is
-/// of the type that is taken or put; and a step that has a part leads to its bits.
+/// of the type that is taken or put. A step that has a part leads to its bits, which lie within those
+/// of the whole.
 pub fn part_law()
     ensures there { PartsAreThere }
     ensures ranges { PartsHaveRanges }
+    ensures within { PartsLieWithin }
 {}
 
 /// What an instruction gives has the type that its row says, and so has the value of its name, where
