@@ -1,0 +1,13 @@
+pub mod Bools
+pub mod Sound
+pub mod ShapeLaw
+pub mod TypesOf
+pub mod CallsLaw
+pub mod OperandsLaw
+pub mod RowsLaw
+pub mod DefinedLaw
+pub mod PartsLaw
+pub mod ResultsLaw
+pub mod ValuesLaw
+pub mod KindsLaw
+pub mod WithinLaw
