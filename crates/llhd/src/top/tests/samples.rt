@@ -1,5 +1,8 @@
 //! The sample files: each is its own canonical text; and what is left of one that is cut off.
 use super::spellings::{in_an_entity, reprinted, syntax_fault};
+use super::words_of;
+use crate::top::run;
+use lh_io::memory::{MemSink, MemSource};
 use std::test::Fail;
 
 const ACCUMULATOR: &[u8] = b"entity @acc_tb () -> () {\n\
@@ -200,6 +203,30 @@ fn each_sample_is_its_own_canonical_text(rt: HostRuntime) -> Result<(), Fail> {
     for (k, text) in samples.iter().enumerate() {
         let printed = reprinted(rt.alloc(), *text)?;
         assert!(rt; printed.as_deref() == Some(*text), "sample {k}");
+    }
+    Ok(())
+}
+
+#[test]
+fn each_sample_is_well_formed(rt: HostRuntime) -> Result<(), Fail> {
+    let samples = [
+        ACCUMULATOR,
+        ASYNCHRONOUS_RESET,
+        BLINK,
+        CONSTANT,
+        LOOP,
+        OVERLAPPING_DRIVES,
+        RECURSION,
+    ];
+    for (k, text) in samples.iter().enumerate() {
+        let words = words_of(rt.alloc(), &[b"check"])?;
+        let bytes = Vec::from_slice(rt.alloc(), *text)?;
+        let mut src = MemSource::new(bytes, 1000, Vec::new(rt.alloc()));
+        let mut out = MemSink::new(rt.alloc(), 4000, 1000, Vec::new(rt.alloc()))?;
+        let mut log = MemSink::new(rt.alloc(), 100, 100, Vec::new(rt.alloc()))?;
+        let status = run(rt.alloc(), &words, &mut src, &mut out, &mut log);
+        assert_eq!(rt; status.code(), 0, "sample {k}");
+        assert!(rt; out.written() == *text, "sample {k}");
     }
     Ok(())
 }
