@@ -29,6 +29,3 @@ pub fn modules_are_spelled_by_items()
     ensures apart { SpelledApart }
     ensures together { SpelledTogether }
 {}
-
-#[cfg(test)]
-mod tests;
