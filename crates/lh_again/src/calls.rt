@@ -1,7 +1,9 @@
 //! Printing and reading again, by the calls.
-ghost use Rattle.std.specs.Prelude.{◌≡◌, ◌≤◌, length, IfOk, IfErr};
+ghost use Rattle.std.specs.Prelude.{◌≡◌, ◌≤◌, List, length, IfOk, IfErr};
+ghost use Rattle.lh_unit.specs.Contents.{ItemText};
 ghost use Rattle.lh_unit.specs.Arena.{contents};
 ghost use Rattle.lh_unit.specs.Canon.{canon};
+ghost use Rattle.lh_unit.specs.Reads.{Reads};
 ghost use Rattle.lh_unit.specs.WellFormed.{IsSpelled};
 ghost use Rattle.lh_read.specs.Reading.{Gives, Names};
 
@@ -13,6 +15,8 @@ use std::alloc::Global;
 /// Reads a text, as `read` does: the module that it answers is spelled, so that its canonical text reads as it.
 pub fn read_spelled(alloc: Global, text: &[u8]) -> Result<Module, TextFault>
     requires { length text.now ≤ 67108864 }
+    ensures ok { IfOk result (λ m. Reads text.now (contents m)) }
+    ensures only { (items : List ItemText) → Reads text.now items → Gives result items }
     ensures spelled { IfOk result (λ m. IsSpelled (contents m)) }
     ensures fault { IfErr result (λ e. Names e text.now) }
 {
@@ -30,3 +34,6 @@ pub fn print_and_read(alloc: Global, m: &Module) -> Result<Module, TextFault>
         Err(_) => Err(TextFault::OutOfMemory),
     }
 }
+
+#[cfg(test)]
+mod tests;
