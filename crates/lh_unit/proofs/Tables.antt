@@ -43,6 +43,12 @@ BlocksWithin-more : (n m : ℕ) (xs : List BlockId) → n ≤ m → BlocksWithin
 BlocksWithin-more n m [] h w = tt
 BlocksWithin-more n m (b ∷ xs) h w = (omega (arith, w.0), BlocksWithin-more n m xs h w.1)
 
+-- the block at an index
+pub BlocksWithin-at : (n : ℕ) (bs : List BlockId) (j : ℕ) (b : BlockId) → slice_get bs j ≡ Some b → BlocksWithin n bs → b.0 < n
+BlocksWithin-at n [] j b p w = cc
+BlocksWithin-at n (x ∷ bs) zero b p w = let q : x ≡ b = cc in subst (λ (y : BlockId). y.0 < n) q w.0
+BlocksWithin-at n (x ∷ bs) (suc j) b p w = BlocksWithin-at n bs j b p w.1
+
 -- one more item
 ArgsWithin-push : (n : ℕ) (xs : List Arg) (a : Arg) → ArgsWithin n xs → a.value.0 < n → ArgsWithin n (xs ++ a ∷ [])
 ArgsWithin-push n [] a w h = (h, tt)
