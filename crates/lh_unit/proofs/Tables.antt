@@ -62,11 +62,11 @@ BlocksWithin-push : (n : ℕ) (xs : List BlockId) (b : BlockId) → BlocksWithin
 BlocksWithin-push n [] b w h = (h, tt)
 BlocksWithin-push n (x ∷ xs) b w h = (w.0, BlocksWithin-push n xs b w.1 h)
 
-is_arg-push : (xs : List Arg) (a : Arg) (k : ℕ) → is_arg (xs ++ a ∷ []) k ≡ (is_arg xs k || nat_eq a.value.0 k)
+pub is_arg-push : (xs : List Arg) (a : Arg) (k : ℕ) → is_arg (xs ++ a ∷ []) k ≡ (is_arg xs k || nat_eq a.value.0 k)
 is_arg-push [] a k = or_false (nat_eq a.value.0 k)
 is_arg-push (x ∷ xs) a k = ap (λ b. nat_eq x.value.0 k || b) (is_arg-push xs a k) ∙ sym (or-assoc (nat_eq x.value.0 k) (is_arg xs k) (nat_eq a.value.0 k))
 
-is_made-push : (xs : List Line) (l : Line) (k : ℕ) → is_made (xs ++ l ∷ []) k ≡ (is_made xs k || is_result l.result k)
+pub is_made-push : (xs : List Line) (l : Line) (k : ℕ) → is_made (xs ++ l ∷ []) k ≡ (is_made xs k || is_result l.result k)
 is_made-push [] l k = or_false (is_result l.result k)
 is_made-push (x ∷ xs) l k = ap (λ b. is_result x.result k || b) (is_made-push xs l k) ∙ sym (or-assoc (is_result x.result k) (is_made xs k) (is_result l.result k))
 
