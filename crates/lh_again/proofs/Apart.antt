@@ -1,5 +1,6 @@
 -- Each item of a module that is spelled is spelled alone.
 use Rattle.std.proofs.Common.{◌≡◌, ℕ, Bool, true, false, ◌||◌, List, [], ◌∷◌, ◌++◌, Option, refl, sym, ◌∙◌, subst}
+use Rattle.std.proofs.lemmas.Bool.{or_parts}
 use Rattle.lh_types.specs.Types.{TypeTree}
 use Rattle.lh_unit.specs.Contents.{ArgText, LineText, UnitText, ItemText, unit_text, declare_text, change_last, with_block, with_line, defines_unit}
 use Rattle.lh_unit.specs.Lines.{lines_of}
@@ -14,7 +15,7 @@ use Rattle.lh_unit.proofs.ContentsLemmas.{last_unit-push, change_last-push}
 use Rattle.lh_again.specs.Laws.{IsSpelledAlone, units_repeat, SpelledApart}
 use Rattle.lh_again.proofs.Readings.{read_to, walked-spelled}
 use Rattle.lh_again.proofs.Steps.{unit-in, no_header, no_declare}
-use Rattle.lh_again.proofs.Units.{either-false, repeat-unit, repeat-declare, repeat-same, headed-name}
+use Rattle.lh_again.proofs.Units.{repeat-unit, repeat-declare, repeat-same, headed-name}
 
 -- one line more
 pub walk-append : (a b : List (List ℕ)) (s m t : State) → Walk a s m → Walk b m t → Walk (a ++ b) s t
@@ -71,8 +72,8 @@ takes-fine s l i f = record { item = i; said = f.said; has_room = f.has_room; is
 header-kept : (items : List ItemText) (l : List ℕ) (k : UnitKind) (n : UnitName) (args : List ArgText) (r : Option TypeTree) → Closed items → Fine (read_to items) l (header_item k n args r) → Open (items ++ unit_text (headed_unit k n args r) ∷ [])
 header-kept items l k n args r c f =
     let u = headed_unit k n args r in
-    let a = either-false (defines_unit n items || is_assert n) (args_repeat [] args) f.is_new in
-    let b = either-false (defines_unit n items) (is_assert n) a.0 in
+    let a = or_parts (defines_unit n items || is_assert n) (args_repeat [] args) f.is_new in
+    let b = or_parts (defines_unit n items) (is_assert n) a.0 in
     let d : is_assert n ≡ false = b.1 in
     let e : args_repeat [] args ≡ false = a.1 in
     let t : Takes start l (opened [] u) = record {

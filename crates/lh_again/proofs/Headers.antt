@@ -1,6 +1,7 @@
 -- Headers and declarations, spelled again.
 use Rattle.std.proofs.Common.{◌≡◌, true, false, List, [], ◌∷◌, ◌++◌, map, Option, Some, None, refl, ap, sym, ◌∙◌, subst}
 use Rattle.std.specs.Prelude.{codes}
+use Rattle.std.proofs.Math.Bool.{and-false}
 use Rattle.lh_types.specs.Types.{TypeTree}
 use Rattle.lh_unit.specs.Contents.{ArgText}
 use Rattle.lh_unit.specs.Lexemes.{Lexeme, word, arrow}
@@ -17,7 +18,7 @@ use Rattle.lh_unit.specs.declared.inst.UnitKind.{UnitKind}
 use Rattle.lh_unit.specs.declared.inst.UnitKind.TheVariants as kind
 use Rattle.lh_unit.specs.declared.inst.Declare.{Declare}
 use Rattle.lh_unit.specs.declared.inst.Declare.TheVariants as declare
-use Rattle.lh_again.proofs.Spacing.{and_false, spaced-append, spaced-space, spaced-enclosed}
+use Rattle.lh_again.proofs.Spacing.{spaced-append, spaced-space, spaced-enclosed}
 use Rattle.lh_again.proofs.Again.{Whole, Stands, Again, at_end, again-map, list-again}
 use Rattle.lh_again.proofs.Types.{type-again, row_pieces-list}
 use Rattle.lh_again.proofs.Operands.{unit_lexeme, unit-again, typed-again}
@@ -119,17 +120,17 @@ header-again kind.Func n args (Some r) ts l h =
     let k : Each IsLexeme (word (codes "func") ∷ h.0 ∷ h.1) = subst (Each IsLexeme) h.2 l in
     let u = unit-again n h.0 k.1.0 h.3 in
     let p = params-again args r h.1 k.1.1 h.4 in
-    record { spaced = (k.0, refl, (u.written, and_false (takes_more (unit_lexeme n)), p.spaced)); spelled = (unit_lexeme n, _, refl, u.spelled, p.spelled) }
+    record { spaced = (k.0, refl, (u.written, and-false (takes_more (unit_lexeme n)), p.spaced)); spelled = (unit_lexeme n, _, refl, u.spelled, p.spelled) }
 header-again kind.Proc n args None ts l h =
     let k : Each IsLexeme (word (codes "proc") ∷ h.0 ∷ h.1) = subst (Each IsLexeme) h.2 l in
     let u = unit-again n h.0 k.1.0 h.3 in
     let p = ports-again args h.1 k.1.1 h.4 in
-    record { spaced = (k.0, refl, (u.written, and_false (takes_more (unit_lexeme n)), p.spaced)); spelled = (unit_lexeme n, lexemes_in (ports args), refl, u.spelled, p.spelled) }
+    record { spaced = (k.0, refl, (u.written, and-false (takes_more (unit_lexeme n)), p.spaced)); spelled = (unit_lexeme n, lexemes_in (ports args), refl, u.spelled, p.spelled) }
 header-again kind.Entity n args None ts l h =
     let k : Each IsLexeme (word (codes "entity") ∷ h.0 ∷ h.1) = subst (Each IsLexeme) h.2 l in
     let u = unit-again n h.0 k.1.0 h.3 in
     let p = ports-again args h.1 k.1.1 h.4 in
-    record { spaced = (k.0, refl, (u.written, and_false (takes_more (unit_lexeme n)), p.spaced)); spelled = (unit_lexeme n, lexemes_in (ports args), refl, u.spelled, p.spelled) }
+    record { spaced = (k.0, refl, (u.written, and-false (takes_more (unit_lexeme n)), p.spaced)); spelled = (unit_lexeme n, lexemes_in (ports args), refl, u.spelled, p.spelled) }
 header-again kind.Func n args None ts l h = absurd h
 header-again kind.Proc n args (Some r) ts l h = absurd h
 header-again kind.Entity n args (Some r) ts l h = absurd h
@@ -144,7 +145,7 @@ declare-again (declare.Func n ps r) ts l h =
     let s : Stands (SpellsList SpellsValueType ps) (types ps) = subst (Stands (SpellsList SpellsValueType ps)) (sym (row_pieces-list ps)) a.stands in
     let end = space ∷ type_pieces r in
     record {
-      spaced = (k.0, refl, (u.written, and_false (takes_more (unit_lexeme n)), spaced-append (in_parens (types ps)) end (spaced-enclosed 40 41 (types ps) refl refl s.spaced) b.stands.spaced refl));
+      spaced = (k.0, refl, (u.written, and-false (takes_more (unit_lexeme n)), spaced-append (in_parens (types ps)) end (spaced-enclosed 40 41 (types ps) refl refl s.spaced) b.stands.spaced refl));
       spelled = (unit_lexeme n, lexemes_in ((types ps ++ mark close_paren) ++ end), lexemes_in end, refl, u.spelled, parens (SpellsList SpellsValueType ps) (types ps) end s, at_end (SpellsType r) (type_pieces r) b.stands, h.7);
     }
 declare-again (declare.Unit n xs ys) ts l h =
@@ -161,7 +162,7 @@ declare-again (declare.Unit n xs ys) ts l h =
         refl,
         (
           u.written,
-          and_false (takes_more (unit_lexeme n)),
+          and-false (takes_more (unit_lexeme n)),
           spaced-append (in_parens (types xs)) end (spaced-enclosed 40 41 (types xs) refl refl s.spaced) (tt, refl, spaced-enclosed 40 41 (types ys) refl refl t.spaced) refl,
         ),
       );

@@ -1,6 +1,7 @@
 -- Instructions, spelled again.
 use Rattle.std.proofs.Common.{ℕ, ◌≤◌, inl, inr, List, [], ◌∷◌, ◌++◌, map, Option, Some, None, refl, sym, subst}
 use Rattle.std.specs.Prelude.{codes}
+use Rattle.std.proofs.Math.Bool.{and-false}
 use Rattle.lh_types.specs.Types.{TypeTree, int_type}
 use Rattle.lh_types.specs.Values.{Datum, int_value, time_value, array_value, tuple_value}
 use Rattle.lh_unit.specs.Names.{IsName}
@@ -14,7 +15,7 @@ use Rattle.lh_unit.specs.Within.{Each}
 use Rattle.lh_unit.specs.SpellsParts.{SpellsParts, SpellsList, SpellsBehind, SpellsLocal, SpellsOperand, SpellsMaybe, SpellsTrigger, SpellsEdge}
 use Rattle.lh_unit.specs.SpellsInst.{SpellsDelay, SpellsWordTyped, SpellsInst, SpellsLine}
 use Rattle.lh_unit.specs.declared.name.UnitName.{UnitName}
-use Rattle.lh_again.proofs.Spacing.{and_false, spaced-append, spaced-space, spaced-comma, spaced-enclosed, word-lexeme}
+use Rattle.lh_again.proofs.Spacing.{spaced-append, spaced-space, spaced-comma, spaced-enclosed, word-lexeme}
 use Rattle.lh_again.proofs.Again.{Whole, Stands, Again, at_end, joined, parts-again, list-again, behind-again}
 use Rattle.lh_again.proofs.Types.{type-again}
 use Rattle.lh_again.proofs.Numbers.{integer-again, time-again}
@@ -112,7 +113,7 @@ child-again u xs ys ts l h =
         refl,
         (
           n.written,
-          and_false (takes_more (unit_lexeme u)),
+          and-false (takes_more (unit_lexeme u)),
           spaced-append (in_parens (operands xs)) end (spaced-enclosed 40 41 (operands xs) refl refl a.stands.spaced) (tt, refl, spaced-enclosed 40 41 (operands ys) refl refl b.stands.spaced) refl,
         ),
       );
@@ -127,7 +128,7 @@ call-again f r xs ts l h =
     let b = list-again SpellsOperand operand operand-again xs h.2 (close_paren ∷ []) a.left.1.1 h.6 in
     let end = token (unit_lexeme f) ∷ space ∷ in_parens (operands xs) in
     record {
-      spaced = (k.0, refl, spaced-space (type_pieces r) end a.stands.spaced (n.written, and_false (takes_more (unit_lexeme f)), spaced-enclosed 40 41 (operands xs) refl refl b.stands.spaced));
+      spaced = (k.0, refl, spaced-space (type_pieces r) end a.stands.spaced (n.written, and-false (takes_more (unit_lexeme f)), spaced-enclosed 40 41 (operands xs) refl refl b.stands.spaced));
       spelled = (unit_lexeme f, lexemes_in (type_pieces r ␣ end), lexemes_in (operands xs ++ mark close_paren), refl, a.stands.spelled (space ∷ end), n.spelled, b.stands.spelled (mark close_paren));
     }
 

@@ -2,6 +2,7 @@
 use Rattle.std.proofs.Common.{◌≡◌, ℕ, ◌+◌, ◌≤◌, Bool, true, false, ◌||◌, List, [], ◌∷◌, ◌++◌, nat_eq, Option, Some, None, if◌then◌else◌, refl, ap, sym, ◌∙◌, subst, arith, append_assoc, length-append}
 use Rattle.std.proofs.lemmas.List.{append-nil}
 use Rattle.std.proofs.lemmas.Grind.{common_steps}
+use Rattle.std.proofs.lemmas.Bool.{or_parts}
 use Rattle.lh_types.specs.Types.{TypeTree}
 use Rattle.lh_unit.specs.Contents.{ArgText, LineText, BlockText, UnitText, ItemText, unit_text, declare_text, line_at_end, with_block, with_line, line_count, args_define, defines_unit, defines_label_in}
 use Rattle.lh_unit.specs.Canon.{canon}
@@ -21,13 +22,9 @@ use Rattle.lh_again.proofs.Items.{item-again}
 use Rattle.lh_again.proofs.Printing.{unit_of, block, start_blocks, headed-start, all_lines-last, line_count-last, blocks_define-lines}
 use Rattle.lh_again.proofs.Readings.{read_to}
 use Rattle.lh_again.proofs.Steps.{block_in, unit-in, no_header, no_declare}
-use Rattle.lh_again.proofs.Units.{either-false}
 use Rattle.lh_again.proofs.Walks.{HasBlock}
 use Rattle.lh_again.proofs.Written.{written}
-
-each-append : {A : Type 0} (P : A → Type 0) (xs : List A) (x : A) → Each P xs → P x → Each P (xs ++ x ∷ [])
-each-append P [] x h k = (k, tt)
-each-append P (y ∷ xs) x h k = (h.0, each-append P xs x h.1 k)
+use Rattle.lh_unit.proofs.ModuleLaws.{Each-push}
 
 -- blocks of which each but the last has an instruction
 abbrev PartLabelled : List BlockText → Type 0
@@ -76,7 +73,7 @@ shape-label kind.Proc n bs h m p = labelled-label n bs h m p
 labels-push : (seen bs : List BlockText) (n : List ℕ) → labels_repeat seen bs ≡ false → defines_label_in n (seen ++ bs) ≡ false → labels_repeat seen (bs ++ block (Some n) [] ∷ []) ≡ false
 labels-push seen [] n h k = or_false (defines_label_in n seen) ∙ subst (λ q. defines_label_in n q ≡ false) (append-nil seen) k
 labels-push seen (b ∷ bs) n h k =
-    let p = either-false (label_repeats seen b.label) (labels_repeat (seen ++ b ∷ []) bs) h in
+    let p = or_parts (label_repeats seen b.label) (labels_repeat (seen ++ b ∷ []) bs) h in
     let e : label_repeats seen b.label ≡ false = p.0 in
     rw e (labels-push (seen ++ b ∷ []) bs n p.1 (subst (λ q. defines_label_in n q ≡ false) (sym (append_assoc seen (b ∷ []) bs)) k))
 
@@ -134,7 +131,7 @@ shape-block kind.Proc l bs m p = block_in kind.Proc bs l tt m
 results-push : (args : List ArgText) (seen xs : List LineText) (l : LineText) → results_repeat args seen xs ≡ false → result_repeats args (seen ++ xs) l.result ≡ false → results_repeat args seen (xs ++ l ∷ []) ≡ false
 results-push args seen [] l h k = or_false (result_repeats args seen l.result) ∙ subst (λ q. result_repeats args q l.result ≡ false) (append-nil seen) k
 results-push args seen (x ∷ xs) l h k =
-    let p = either-false (result_repeats args seen x.result) (results_repeat args (seen ++ x ∷ []) xs) h in
+    let p = or_parts (result_repeats args seen x.result) (results_repeat args (seen ++ x ∷ []) xs) h in
     let e : result_repeats args seen x.result ≡ false = p.0 in
     rw e (results-push args (seen ++ x ∷ []) xs l p.1 (subst (λ q. result_repeats args q l.result ≡ false) (sym (append_assoc seen (x ∷ []) xs)) k))
 
@@ -152,7 +149,7 @@ part-inst u l h m c d p =
     record {
       headed = p.headed;
       shaped = shape-end u.kind l u.blocks p.shaped;
-      lines = subst (Each HasInstLine) e (each-append HasInstLine (all_lines u.blocks) l p.lines h);
+      lines = subst (Each HasInstLine) e (Each-push HasInstLine (all_lines u.blocks) l p.lines h);
       no_assert = p.no_assert;
       new_args = p.new_args;
       new_labels = labels-end l [] u.blocks ∙ p.new_labels;
@@ -199,8 +196,8 @@ has_line s l i f = let a = item-again i f.said.tokens (written l f.said.tokens f
 
 header-kept : (items : List ItemText) (l : List ℕ) (k : UnitKind) (n : UnitName) (args : List ArgText) (r : Option TypeTree) → Each IsPrintableItem items → Fine (read_to items) l (header_item k n args r) → OpenPart (items ++ unit_text (headed_unit k n args r) ∷ [])
 header-kept items l k n args r c f =
-    let a = either-false (defines_unit n items || is_assert n) (args_repeat [] args) f.is_new in
-    let b = either-false (defines_unit n items) (is_assert n) a.0 in
+    let a = or_parts (defines_unit n items || is_assert n) (args_repeat [] args) f.is_new in
+    let b = or_parts (defines_unit n items) (is_assert n) a.0 in
     record {
       front = items;
       unit = headed_unit k n args r;
@@ -212,7 +209,7 @@ header-kept items l k n args r c f =
 closed-kept : (items : List ItemText) (l : List ℕ) (i : LineItem) → Each IsPrintableItem items → Fine (read_to items) l i → Kept (after (read_to items) i).inside (after (read_to items) i).items
 closed-kept items l empty_item c f = c
 closed-kept items l (header_item k n args r) c f = header-kept items l k n args r c f
-closed-kept items l (declare_item d) c f = each-append IsPrintableItem items (declare_text d) c (has_line (read_to items) l (declare_item d) f)
+closed-kept items l (declare_item d) c f = Each-push IsPrintableItem items (declare_text d) c (has_line (read_to items) l (declare_item d) f)
 closed-kept items l (label_item n) c f = let e : may_stand outside (label_item n) ≡ true = f.said.stands in absurd cc
 closed-kept items l (inst_item x) c f = let e : may_stand outside (inst_item x) ≡ true = f.said.stands in absurd cc
 closed-kept items l close_item c f = let e : may_stand outside close_item ≡ true = f.said.stands in absurd cc
@@ -237,7 +234,7 @@ open-kept front u l (inst_item x) c p f =
       each = c;
       part = part-inst u x (has_line (opened front u) l (inst_item x) f) (alone-stands front u (inst_item x) f.said.stands) (subst (λ o. is_full o ≡ false) (last_unit-push front u) f.has_room) (subst (λ o. value_again x.result o ≡ false) (last_unit-push front u) f.is_new) p;
     }
-open-kept front u l close_item c p f = each-append IsPrintableItem front (unit_text u) c (part-close u (alone-stands front u close_item f.said.stands) p)
+open-kept front u l close_item c p f = Each-push IsPrintableItem front (unit_text u) c (part-close u (alone-stands front u close_item f.said.stands) p)
 
 kept-by : (inside : Bool) (items : List ItemText) (l : List ℕ) (i : LineItem) → Kept inside items → Fine (record { items = items; inside = inside }) l i
     → Kept (after (record { items = items; inside = inside }) i).inside (after (record { items = items; inside = inside }) i).items

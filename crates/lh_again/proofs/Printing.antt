@@ -2,6 +2,7 @@
 use Rattle.std.proofs.Common.{◌≡◌, ℕ, ◌+◌, ◌<◌, ◌≤◌, true, false, ◌||◌, List, [], ◌∷◌, ◌++◌, length, nat_eq, Option, Some, None, if◌then◌else◌, refl, ap, sym, ◌∙◌, subst, arith, append_assoc, length-append}
 use Rattle.std.proofs.lemmas.List.{append-nil}
 use Rattle.std.proofs.lemmas.Grind.{common_steps}
+use Rattle.std.proofs.lemmas.Bool.{or_parts}
 use Rattle.lh_types.specs.Types.{TypeTree}
 use Rattle.lh_unit.specs.Contents.{ArgText, LineText, BlockText, UnitText, unit_text, declare_text, line_at_end, line_count, args_define, lines_define, blocks_define, is_result_name, defines_label_in}
 use Rattle.lh_unit.specs.Lexemes.{Lexeme}
@@ -20,7 +21,7 @@ use Rattle.lh_again.specs.Laws.{PrintableIsSpelled}
 use Rattle.lh_again.specs.Printable.{HasLine, HasInstLine, HasLabelLine, IsLabelled, all_lines, result_repeats, results_repeat, label_repeats, labels_repeat, IsPrintable}
 use Rattle.lh_again.proofs.Apart.{opened, walk-append}
 use Rattle.lh_again.proofs.Readings.{read_to, walked-spelled}
-use Rattle.lh_again.proofs.Units.{either-false}
+use Rattle.lh_unit.proofs.Defined.{lines_define-append}
 
 -- some lines lead from one state to another
 record Way (s t : State) : Type 0 where
@@ -68,10 +69,6 @@ pub line_count-last : (done : List BlockText) (b : BlockText) → line_count (do
 line_count-last [] b = omega arith
 line_count-last (c ∷ done) b = let e = line_count-last done b in omega arith
 
-lines_define-append : (n : List ℕ) (xs ys : List LineText) → lines_define n (xs ++ ys) ≡ (lines_define n xs || lines_define n ys)
-lines_define-append n [] ys = refl
-lines_define-append n (x ∷ xs) ys = ap (λ q. is_result_name n x.result || q) (lines_define-append n xs ys) ∙ sym (or-assoc (is_result_name n x.result) (lines_define n xs) (lines_define n ys))
-
 pub blocks_define-lines : (n : List ℕ) (bs : List BlockText) → blocks_define n bs ≡ lines_define n (all_lines bs)
 blocks_define-lines n [] = refl
 blocks_define-lines n (b ∷ bs) = ap (λ q. lines_define n b.lines || q) (blocks_define-lines n bs) ∙ sym (lines_define-append n b.lines (all_lines bs))
@@ -110,7 +107,7 @@ each-split (x ∷ xs) ys h = let p = each-split xs ys h.1 in ((h.0, p.0), p.1)
 results-split : (args : List ArgText) (seen xs ys : List LineText) → results_repeat args seen (xs ++ ys) ≡ false → (results_repeat args seen xs ≡ false) × (results_repeat args (seen ++ xs) ys ≡ false)
 results-split args seen [] ys h = (refl, subst (λ q. results_repeat args q ys ≡ false) (sym (append-nil seen)) h)
 results-split args seen (x ∷ xs) ys h =
-    let p = either-false (result_repeats args seen x.result) (results_repeat args (seen ++ x ∷ []) (xs ++ ys)) h in
+    let p = or_parts (result_repeats args seen x.result) (results_repeat args (seen ++ x ∷ []) (xs ++ ys)) h in
     let e : result_repeats args seen x.result ≡ false = p.0 in
     let q = results-split args (seen ++ x ∷ []) xs ys p.1 in
     (rw e q.0, subst (λ z. results_repeat args z ys ≡ false) (append_assoc seen (x ∷ []) xs) q.1)
@@ -150,7 +147,7 @@ module _ (k : UnitKind) (n : UnitName) (args : List ArgText) (r : Option TypeTre
       → Way (with_blocks (done ++ block label seen ∷ [])) (with_blocks (done ++ block label (seen ++ rest) ∷ []))
   insts-way done label seen [] h c v = subst (λ q. Way (with_blocks (done ++ block label seen ∷ [])) (with_blocks (done ++ block label q ∷ []))) (sym (append-nil seen)) (here (with_blocks (done ++ block label seen ∷ [])))
   insts-way done label seen (l ∷ rest) h c v =
-      let w = either-false (result_repeats args (all_lines done ++ seen) l.result) (results_repeat args ((all_lines done ++ seen) ++ l ∷ []) rest) v in
+      let w = or_parts (result_repeats args (all_lines done ++ seen) l.result) (results_repeat args ((all_lines done ++ seen) ++ l ∷ []) rest) v in
       let m : results_repeat args (all_lines done ++ (seen ++ l ∷ [])) rest ≡ false = subst (λ q. results_repeat args q rest ≡ false) (append_assoc (all_lines done) seen (l ∷ [])) w.1 in
       let a = inst-way done (block label seen) l h.0 (omega arith) w.0 in
       let b = insts-way done label (seen ++ l ∷ []) rest h.1 (omega (arith, length-append seen (l ∷ []))) m in
@@ -172,7 +169,7 @@ module _ (k : UnitKind) (n : UnitName) (args : List ArgText) (r : Option TypeTre
   blocks-way f done [] h w m c d v = subst (λ q. Way (with_blocks done) (with_blocks q)) (sym (append-nil done)) (here (with_blocks done))
   blocks-way f done (b ∷ rest) h w m c d v =
       let ws = each-split b.lines (all_lines rest) w in
-      let ds = either-false (label_repeats done b.label) (labels_repeat (done ++ b ∷ []) rest) d in
+      let ds = or_parts (label_repeats done b.label) (labels_repeat (done ++ b ∷ []) rest) d in
       let vs = results-split args (all_lines done) b.lines (all_lines rest) v in
       let e : line_count (done ++ b ∷ []) ≡ line_count done + length b.lines = line_count-last done b in
       let x = block-way done b.label b.lines h.0.0 ws.0 m (omega arith) ds.0 vs.0 in

@@ -1,6 +1,8 @@
 -- How spaced lines are joined.
 use Rattle.std.proofs.Common.{◌≡◌, ℕ, Bool, true, false, ◌&&◌, List, [], ◌∷◌, ◌++◌, length, nat_le, refl, subst, arith}
 use Rattle.std.proofs.lemmas.Grind.{common_steps}
+use Rattle.std.proofs.Math.Bool.{and-false}
+use Rattle.std.proofs.lemmas.Bool.{and_parts}
 use Rattle.lh_unit.specs.Names.{all_name_bytes}
 use Rattle.lh_unit.specs.Lexemes.{Lexeme, word, punct, is_punct}
 use Rattle.lh_unit.specs.Marks.{comma}
@@ -11,12 +13,8 @@ first_only space a b = refl
 first_only (token (word w)) a b = refl
 first_only (token t) a b = refl
 
-pub and_false : (t : Bool) → (t && false) ≡ false
-and_false true = refl
-and_false false = refl
-
 junction : (t : Lexeme) (a b : List Piece) → (takes_more t && begins_with_word a) ≡ false → begins_with_word b ≡ false → (takes_more t && begins_with_word (a ++ b)) ≡ false
-junction t [] b h w = rw w (and_false (takes_more t))
+junction t [] b h w = rw w (and-false (takes_more t))
 junction t (p ∷ a) b h w = subst (λ q. (takes_more t && q) ≡ false) (first_only p a (a ++ b)) h
 
 -- a spaced line behind another, where it begins with no word
@@ -33,11 +31,6 @@ spaced-comma a b h k = spaced-append a (token comma ∷ space ∷ b) h (refl, re
 
 pub spaced-enclosed : (before behind : ℕ) (ps : List Piece) → is_punct before ≡ true → is_punct behind ≡ true → IsSpaced ps → IsSpaced (token (punct before) ∷ ps ++ token (punct behind) ∷ [])
 spaced-enclosed before behind ps o c h = (o, refl, spaced-append ps (token (punct behind) ∷ []) h (c, refl, tt) refl)
-
--- both of two tests
-pub and_parts : (a b : Bool) → (a && b) ≡ true → (a ≡ true) × (b ≡ true)
-and_parts true b p = (refl, p)
-and_parts false b p = absurd cc
 
 -- a word that the test takes can be written
 pub word-lexeme : (w : List ℕ) → (nat_le 1 (length w) && all_name_bytes w) ≡ true → IsLexeme (word w)

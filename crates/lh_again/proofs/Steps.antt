@@ -13,7 +13,8 @@ use Rattle.lh_unit.specs.declared.name.UnitName.{UnitName}
 use Rattle.lh_unit.specs.declared.inst.UnitKind.{UnitKind}
 use Rattle.lh_unit.specs.declared.inst.UnitKind.TheVariants as kind
 use Rattle.lh_unit.specs.declared.inst.Declare.{Declare}
-use Rattle.lh_unit.proofs.ModuleLaws.{last_unit-append, last_unit-change_last}
+use Rattle.lh_unit.proofs.ContentsLemmas.{last_unit-push}
+use Rattle.lh_unit.proofs.ModuleLaws.{last_unit-change_last}
 use Rattle.lh_again.specs.ItemLines.{item_line}
 use Rattle.lh_again.proofs.Walks.{open_lines, lines_in, canon_lines-append, open_lines-push, HasBlock, blocks-line, grows, label-line, closes, not_open}
 
@@ -134,7 +135,7 @@ header-step s k n args r ts h l =
     let u = headed_unit k n args r in
     record {
       adds = open_lines-push s.items u ∙ ap (λ q. canon_lines s.items ++ q) (headed-lines k n args r ts h) ∙ ap (λ q. q ++ header k n args r ∷ []) (sym l);
-      ready = subst LastReady (sym (last_unit-append s.items u)) (headed-ready k n args r);
+      ready = subst LastReady (sym (last_unit-push s.items u)) (headed-ready k n args r);
     }
 
 declare-step : (s : State) (d : Declare) → lines_in s ≡ canon_lines s.items → Step s (declare_item d)

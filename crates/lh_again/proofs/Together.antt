@@ -1,6 +1,7 @@
 -- Items that are spelled alone are spelled together, where no two units have one name.
 use Rattle.std.proofs.Common.{◌≡◌, ℕ, Bool, true, false, ◌||◌, List, [], ◌∷◌, ◌++◌, refl, ap, sym, ◌∙◌, subst, append_assoc}
 use Rattle.std.proofs.lemmas.List.{append-nil}
+use Rattle.std.proofs.lemmas.Bool.{or_parts, or_left, or_right}
 use Rattle.lh_unit.specs.Contents.{UnitText, ItemText, unit_text, declare_text, change_last, last_unit, with_block, with_line, defines_unit}
 use Rattle.lh_unit.specs.UnitNames.{same_unit_name}
 use Rattle.lh_unit.specs.Lines.{lines_of}
@@ -14,13 +15,13 @@ use Rattle.lh_unit.proofs.ContentsLemmas.{last_unit-push, change_last-push}
 use Rattle.lh_again.specs.Laws.{IsSpelledAlone, units_repeat, SpelledTogether}
 use Rattle.lh_again.proofs.Readings.{read_to, walked-spelled}
 use Rattle.lh_again.proofs.Apart.{walk-append}
-use Rattle.lh_again.proofs.Units.{either-false, or-left, or-right, defines_unit-append, defines_unit-change, headed-name}
+use Rattle.lh_again.proofs.Units.{defines_unit-append, defines_unit-change, headed-name}
 
 -- the unit names of items stay
 names-step : (n : UnitName) (s : State) (i : LineItem) → defines_unit n s.items ≡ true → defines_unit n (after s i).items ≡ true
 names-step n s empty_item h = h
-names-step n s (header_item k m args r) h = defines_unit-append n s.items (unit_text (headed_unit k m args r) ∷ []) ∙ or-left (defines_unit n s.items) _ h
-names-step n s (declare_item d) h = defines_unit-append n s.items (declare_text d ∷ []) ∙ or-left (defines_unit n s.items) _ h
+names-step n s (header_item k m args r) h = defines_unit-append n s.items (unit_text (headed_unit k m args r) ∷ []) ∙ or_left (defines_unit n s.items) _ h
+names-step n s (declare_item d) h = defines_unit-append n s.items (declare_text d ∷ []) ∙ or_left (defines_unit n s.items) _ h
 names-step n s (label_item m) h = defines_unit-change n (with_block m) (λ u. refl) s.items ∙ h
 names-step n s (inst_item x) h = defines_unit-change n (with_line x) (λ u. refl) s.items ∙ h
 names-step n s close_item h = h
@@ -134,7 +135,7 @@ apart-by : (a : List ItemText) (s m : State) (i : LineItem) → m ≡ after s i 
 apart-by a s m empty_item e f = tt
 apart-by a s m (header_item k n args r) e f =
     f n (ap (λ q. defines_unit n q.items) e ∙ defines_unit-append n s.items (unit_text (headed_unit k n args r) ∷ [])
-    ∙ or-right (defines_unit n s.items) _ (ap (λ q. same_unit_name q n || false) (headed-name k n args r) ∙ or-left (same_unit_name n n) false (same_unit_name-refl n)))
+    ∙ or_right (defines_unit n s.items) _ (ap (λ q. same_unit_name q n || false) (headed-name k n args r) ∙ or_left (same_unit_name n n) false (same_unit_name-refl n)))
 apart-by a s m (declare_item d) e f = tt
 apart-by a s m (label_item n) e f = tt
 apart-by a s m (inst_item x) e f = tt
@@ -155,12 +156,12 @@ item-apart a (declare_text d) more h n e = absurd cc
 item-apart a (unit_text u) more h n e = same (same_unit_name u.name n) refl e
   where
     same : (t : Bool) → same_unit_name u.name n ≡ t → (t || false) ≡ true → defines_unit n a ≡ false
-    same true q e = subst (λ m. defines_unit m a ≡ false) (same_unit_name-is u.name n q) (either-false (defines_unit u.name a) (units_repeat (a ++ unit_text u ∷ []) more) h).0
+    same true q e = subst (λ m. defines_unit m a ≡ false) (same_unit_name-is u.name n q) (or_parts (defines_unit u.name a) (units_repeat (a ++ unit_text u ∷ []) more) h).0
     same false q e = absurd cc
 
 rest-apart : (a : List ItemText) (i : ItemText) (more : List ItemText) → units_repeat a (i ∷ more) ≡ false → units_repeat (a ++ i ∷ []) more ≡ false
 rest-apart a (declare_text d) more h = h
-rest-apart a (unit_text u) more h = (either-false (defines_unit u.name a) (units_repeat (a ++ unit_text u ∷ []) more) h).1
+rest-apart a (unit_text u) more h = (or_parts (defines_unit u.name a) (units_repeat (a ++ unit_text u ∷ []) more) h).1
 
 -- some lines lead from one list of items to another
 record Leads (a b : List ItemText) : Type 0 where

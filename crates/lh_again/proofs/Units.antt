@@ -1,6 +1,7 @@
 -- Which units items define.
 use Rattle.std.proofs.Common.{◌≡◌, Bool, true, false, ◌||◌, List, [], ◌∷◌, ◌++◌, Option, Some, None, refl, ap, sym, ◌∙◌, subst, append_assoc}
 use Rattle.std.proofs.lemmas.List.{append-nil}
+use Rattle.std.proofs.lemmas.Bool.{or_parts}
 use Rattle.lh_types.specs.Types.{TypeTree}
 use Rattle.lh_unit.specs.Contents.{ArgText, UnitText, ItemText, unit_text, declare_text, change_last, defines_unit}
 use Rattle.lh_unit.specs.UnitNames.{same_unit_name}
@@ -11,18 +12,6 @@ use Rattle.lh_unit.specs.declared.inst.UnitKind.TheVariants as kind
 use Rattle.lh_unit.specs.declared.inst.Declare.{Declare}
 use Rattle.lh_unit.proofs.Lists.{or-assoc, or_false}
 use Rattle.lh_again.specs.Laws.{units_repeat}
-
-pub either-false : (a b : Bool) → (a || b) ≡ false → (a ≡ false) × (b ≡ false)
-either-false true b h = absurd cc
-either-false false b h = (refl, h)
-
-pub or-left : (a b : Bool) → a ≡ true → (a || b) ≡ true
-or-left true b h = refl
-or-left false b h = absurd cc
-
-pub or-right : (a b : Bool) → b ≡ true → (a || b) ≡ true
-or-right true b h = refl
-or-right false b h = h
 
 pub defines_unit-append : (n : UnitName) (a b : List ItemText) → defines_unit n (a ++ b) ≡ (defines_unit n a || defines_unit n b)
 defines_unit-append n [] b = refl
@@ -40,7 +29,7 @@ defines_unit-change n f k (declare_text d ∷ j ∷ more) = defines_unit-change 
 pub repeat-unit : (seen items : List ItemText) (u : UnitText) → units_repeat seen items ≡ false → defines_unit u.name (seen ++ items) ≡ false → units_repeat seen (items ++ unit_text u ∷ []) ≡ false
 repeat-unit seen [] u h k = or_false (defines_unit u.name seen) ∙ subst (λ q. defines_unit u.name q ≡ false) (append-nil seen) k
 repeat-unit seen (unit_text v ∷ items) u h k =
-    let p = either-false (defines_unit v.name seen) (units_repeat (seen ++ unit_text v ∷ []) items) h in
+    let p = or_parts (defines_unit v.name seen) (units_repeat (seen ++ unit_text v ∷ []) items) h in
     let e : defines_unit v.name seen ≡ false = p.0 in
     rw e (repeat-unit (seen ++ unit_text v ∷ []) items u p.1 (subst (λ q. defines_unit u.name q ≡ false) (sym (append_assoc seen (unit_text v ∷ []) items)) k))
 repeat-unit seen (declare_text d ∷ items) u h k =
@@ -49,7 +38,7 @@ repeat-unit seen (declare_text d ∷ items) u h k =
 pub repeat-declare : (seen items : List ItemText) (d : Declare) → units_repeat seen items ≡ false → units_repeat seen (items ++ declare_text d ∷ []) ≡ false
 repeat-declare seen [] d h = refl
 repeat-declare seen (unit_text v ∷ items) d h =
-    let p = either-false (defines_unit v.name seen) (units_repeat (seen ++ unit_text v ∷ []) items) h in
+    let p = or_parts (defines_unit v.name seen) (units_repeat (seen ++ unit_text v ∷ []) items) h in
     let e : defines_unit v.name seen ≡ false = p.0 in
     rw e (repeat-declare (seen ++ unit_text v ∷ []) items d p.1)
 repeat-declare seen (declare_text x ∷ items) d h = repeat-declare (seen ++ declare_text x ∷ []) items d h

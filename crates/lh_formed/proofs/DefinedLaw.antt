@@ -1,6 +1,7 @@
 -- Each operand of an instruction without a fault is given on every path to it.
 use Rattle.std.proofs.Common.{◌≡◌, ◌⊎◌, inl, inr, ℕ, List, [], ◌∷◌, Bool, true, false, ◌||◌, refl, ◌∙◌}
 use Rattle.std.specs.List.{list_any}
+use Rattle.std.proofs.lemmas.Bool.{false_from_ne_true, not-false}
 use Rattle.lh_unit.specs.declared.inst.UnitKind.{UnitKind}
 use Rattle.lh_unit.specs.declared.inst.UnitKind.TheVariants as kind
 use Rattle.lh_unit.specs.Contents.{EdgeText, InstText, phi_text, LineText, BlockText, UnitText, lines_define, blocks_define, args_define}
@@ -9,8 +10,9 @@ use Rattle.lh_unit.specs.Places.{Place}
 use Rattle.lh_unit.specs.Within.{Each}
 use Rattle.lh_unit.specs.WellFormed.{not_defined, values_named, Lacks, SomeEdgeLacks, SomeValueLacks, stands_later, LacksIn}
 use Rattle.lh_formed.specs.Defined.{IsGiven, IsThere, IsThereOnEdge, IsEarlier, OperandsThere, AllThere}
-use Rattle.lh_formed.proofs.Bools.{not_true, not_false, none_passes, each_so}
+use Rattle.lh_formed.proofs.Bools.{none_passes}
 use Rattle.lh_formed.proofs.Sound.{at_site}
+use Rattle.lh_unit.proofs.Within.{Each-more}
 
 -- what is not lacking on a path is given on it
 given : (u : UnitText) (b : BlockText) (before : List LineText) (n : List ℕ) → ¬ Lacks u n b before → IsGiven u b before n
@@ -38,7 +40,7 @@ edges_given u to (e ∷ more) k =
     (λ last named edge. there u last last.lines e.value (λ l. k (inl (l.0, record { last = last; named = named; edge = edge; lacks = l.1 }))), edges_given u to more (λ l. k (inr l)))
 
 earlier_of : (u : UnitText) (p : Place) (n : List ℕ) → stands_later u p n ≡ false → IsEarlier u p.before n
-earlier_of u p n h = at (args_define n u.args) (lines_define n p.before) refl refl (not_false (args_define n u.args || lines_define n p.before) h)
+earlier_of u p n h = at (args_define n u.args) (lines_define n p.before) refl refl (not-false (args_define n u.args || lines_define n p.before) h)
   where
     at : (x y : Bool) → args_define n u.args ≡ x → lines_define n p.before ≡ y → (x || y) ≡ true → IsEarlier u p.before n
     at true y a b g = inl a
@@ -47,8 +49,8 @@ earlier_of u p n h = at (args_define n u.args) (lines_define n p.before) refl re
 
 all_earlier : (u : UnitText) (p : Place) (i : InstText) → ¬ (list_any (stands_later u p) (values_named i) ≡ true) → Each (IsEarlier u p.before) (values_named i)
 all_earlier u p i k =
-    each_so (λ n. stands_later u p n ≡ false) (IsEarlier u p.before) (earlier_of u p) (values_named i)
-    (none_passes (stands_later u p) (values_named i) (not_true (list_any (stands_later u p) (values_named i)) k))
+    Each-more (λ n. stands_later u p n ≡ false) (IsEarlier u p.before) (values_named i) (earlier_of u p)
+    (none_passes (stands_later u p) (values_named i) (false_from_ne_true (list_any (stands_later u p) (values_named i)) k))
 
 operands_there : (k : UnitKind) (u : UnitText) (p : Place) (i : InstText) → ¬ LacksIn k u p i → OperandsThere k u p i
 operands_there kind.Entity u p i n = all_earlier u p i n

@@ -1,6 +1,7 @@
 -- Each operand of an instruction without a fault has a type of its kind.
 use Rattle.std.proofs.Common.{◌≡◌, ℕ, ◌+◌, List, [], ◌∷◌, ◌++◌, length, map, Bool, true, false, if◌then◌else◌, Option, Some, None, refl, ap, sym, ◌∙◌, subst}
 use Rattle.std.specs.Option.{option_map, option_and_then}
+use Rattle.std.proofs.lemmas.Bool.{not-false}
 use Rattle.lh_types.specs.Types.{TypeTree, signal_type, pointer_type}
 use Rattle.lh_unit.specs.Contents.{InstText, var_text, sig_text, LineText, BlockText, ArgText, UnitText, ItemText, same_name, is_result_name}
 use Rattle.lh_unit.specs.Typing.{or_else, result_type, line_giving, inst_giving, arg_named, value_type}
@@ -11,12 +12,12 @@ use Rattle.lh_unit.specs.Within.{Each}
 use Rattle.lh_unit.specs.WellFormed.{Site, has_paths, NoneHasFault}
 use Rattle.lh_formed.specs.Results.{Gives}
 use Rattle.lh_formed.specs.KindsOf.{ArgsHaveKinds, HasTypeOfKind, OperandsHaveTypes}
-use Rattle.lh_formed.proofs.Bools.{not_false, each_so}
 use Rattle.lh_formed.proofs.Sound.{Sound, site_in, at_site}
 use Rattle.lh_formed.proofs.ShapeLaw.{none-places}
 use Rattle.lh_formed.proofs.OperandsLaw.{types_right, operands_are_taken}
 use Rattle.lh_formed.proofs.RowsLaw.{row_is}
 use Rattle.lh_formed.proofs.ResultsLaw.{gives}
+use Rattle.lh_unit.proofs.Within.{Each-more}
 
 abbrev IsSome : {A : Type 0} → Option A → Type 0
 IsSome None = ⊥
@@ -31,7 +32,7 @@ lines_give items u q w k e b before [] n = tt
 lines_give items u q w k e b before (l ∷ rest) n =
     let s : Site = site_in u (record { number = k; in_entry = e; block = b; before = before; line = l; after = rest }) in
     let f : Sound items s = record { none = n.0; paths = q; others = w } in
-    (gives u l.inst (row_is u l.inst (not_false (types_fit u l.inst) (types_right items s f).1)), lines_give items u q w (k + 1) e b (before ++ l ∷ []) rest n.1)
+    (gives u l.inst (row_is u l.inst (not-false (types_fit u l.inst) (types_right items s f).1)), lines_give items u q w (k + 1) e b (before ++ l ∷ []) rest n.1)
 
 blocks_give : (items : List ItemText) (u : UnitText) → has_paths items u ≡ true → NoneHasFault items (map (site_in u) (places u)) → (k : ℕ) (e : Bool) (bs : List BlockText) → NoneHasFault items (map (site_in u) (places_from k e bs)) → Each (λ (b : BlockText). Each (λ (l : LineText). Gives l.inst) b.lines) bs
 blocks_give items u q w k e [] n = tt
@@ -93,5 +94,5 @@ pub operands_have_types : OperandsHaveTypes
 operands_have_types items s f c args =
     let u = s.unit in let a = at_site items s f c in
     let g = blocks_give items u a.paths a.others 1 true u.blocks a.others in
-    each_so (λ (x : Use). (k : Kind) × (value_kind u x.value ≡ Some k) × (takes x.need k ≡ true)) (HasTypeOfKind u)
-    (λ x h. let v = value_typed u x.value h.0 args g h.1 in (v.0, h.0, v.1, v.2, h.2)) (uses s.place.line.inst) (operands_are_taken items s f c)
+    Each-more (λ (x : Use). (k : Kind) × (value_kind u x.value ≡ Some k) × (takes x.need k ≡ true)) (HasTypeOfKind u)
+    (uses s.place.line.inst) (λ x h. let v = value_typed u x.value h.0 args g h.1 in (v.0, h.0, v.1, v.2, h.2)) (operands_are_taken items s f c)

@@ -1,6 +1,7 @@
 -- The steps of an instruction without a fault lead to parts.
 use Rattle.std.proofs.Common.{◌≡◌, ℕ, ◌+◌, List, [], ◌∷◌, true, Option, Some, None, refl, ap, sym, ◌∙◌, subst, arith}
 use Rattle.std.specs.Option.{option_map, option_and_then}
+use Rattle.std.proofs.lemmas.Bool.{false≢true}
 use Rattle.lh_types.specs.Types.{TypeTree, signal_type, bit_count}
 use Rattle.lh_types.specs.Faults.{is_data}
 use Rattle.lh_types.specs.Parts.{Part, part_beyond, step_part, part_of, part_range}
@@ -11,7 +12,6 @@ use Rattle.lh_unit.specs.Typing.{first_type}
 use Rattle.lh_unit.specs.TypingRows.{part_type, OperationRow, takes_part, puts_part, operation_row}
 use Rattle.lh_formed.specs.Operands.{IsOf, OperationIs, RowIs}
 use Rattle.lh_formed.specs.Parts.{LeadsTo, PartIs, HasPart, PartsAreThere, PartsHaveRanges}
-use Rattle.lh_formed.proofs.Bools.{no}
 use Rattle.lh_formed.proofs.RowsLaw.{rows_are}
 
 abbrev IsThere : Option TypeTree → Type 0
@@ -27,7 +27,7 @@ leads s (signal_type t) of h = mapped signal_type (step_part t s) of h
 leads s t of h = mapped (λ x. x) (step_part t s) of h
 
 data_part : (s : Step) (t of : TypeTree) → is_data t ≡ true → LeadsTo s t of → (p : Part) × (step_part t s ≡ Some p) × (of ≡ p.of)
-data_part s (signal_type t) of d h = absurd (no d)
+data_part s (signal_type t) of d h = absurd (false≢true d)
 data_part s t of d h = h
 
 part_is : (u : UnitText) (r : OperationRow) (t : TypeTree) (args : List OperandText) → first_type args ≡ Some t → OperationIs u r t args → PartIs u r args

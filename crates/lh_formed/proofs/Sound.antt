@@ -2,10 +2,10 @@
 use Rattle.std.proofs.Common.{◌≡◌, List, [], ◌∷◌, ◌++◌, map, Bool, true, false, not, ◌||◌, refl, ap, ◌∙◌}
 use Rattle.std.specs.List.{list_any, All, Contains}
 use Rattle.std.proofs.lemmas.List.Elements.{All-nil, All-cons, All-contains}
+use Rattle.std.proofs.lemmas.Bool.{false_from_ne_true}
 use Rattle.lh_unit.specs.Contents.{UnitText, ItemText, unit_text, declare_text}
 use Rattle.lh_unit.specs.Places.{Place, places}
 use Rattle.lh_unit.specs.WellFormed.{FaultKind, undefined, no_terminator, phi_edges, Site, sites, has_local, hides_paths, has_paths, HasFault, NoneHasFault, IsFaultless}
-use Rattle.lh_formed.proofs.Bools.{not_true}
 
 abbrev pub site_in : UnitText → Place → Site
 site_in u p = record { unit = u; place = p }
@@ -20,7 +20,7 @@ none-append items [] ys n = (tt, n)
 none-append items (x ∷ xs) ys n = let r = none-append items xs ys n.1 in ((n.0, r.0), r.1)
 
 hides_none : (items : List ItemText) (s : Site) → ((k : FaultKind) → ¬ HasFault items s k) → hides_paths items s ≡ false
-hides_none items s n = at (has_local items s undefined) (has_local items s no_terminator) (has_local items s phi_edges) (not_true (has_local items s undefined) (n undefined)) (not_true (has_local items s no_terminator) (n no_terminator)) (not_true (has_local items s phi_edges) (n phi_edges))
+hides_none items s n = at (has_local items s undefined) (has_local items s no_terminator) (has_local items s phi_edges) (false_from_ne_true (has_local items s undefined) (n undefined)) (false_from_ne_true (has_local items s no_terminator) (n no_terminator)) (false_from_ne_true (has_local items s phi_edges) (n phi_edges))
   where
     at : (a b c : Bool) → a ≡ false → b ≡ false → c ≡ false → (a || b || c) ≡ false
     at false false false p q r = refl

@@ -3,26 +3,18 @@ use Rattle.std.proofs.Common.{◌≡◌, ℕ, ◌+◌, List, [], ◌∷◌, ◌+
 use Rattle.std.specs.List.{All}
 use Rattle.std.specs.Option.{option_map, option_and_then}
 use Rattle.std.proofs.lemmas.List.Elements.{All-nil, All-cons, All-contains}
+use Rattle.std.proofs.lemmas.Bool.{false≢true, or_parts, or_left, or_right}
 use Rattle.lh_unit.specs.Contents.{InstText, LineText, BlockText, ArgText, UnitText, ItemText, unit_text, declare_text, same_name, is_result_name, lines_define, blocks_define, args_define}
 use Rattle.lh_unit.specs.Typing.{or_else, result_type, line_giving, inst_giving, arg_named}
 use Rattle.lh_unit.specs.Places.{Place, places_in, places_from}
 use Rattle.lh_unit.specs.Within.{Each}
 use Rattle.lh_unit.specs.WellFormed.{Site, sites}
 use Rattle.lh_formed.specs.Results.{ValuesHaveTypes}
-use Rattle.lh_formed.proofs.Bools.{no, neither}
 use Rattle.lh_formed.proofs.Sound.{site_in}
 
 -- what an instruction gives is defined in its unit
 abbrev IsDefined : Site → Type 0
 IsDefined s = (n : List ℕ) → is_result_name n s.place.line.result ≡ true → blocks_define n s.unit.blocks ≡ true
-
-or_right : (a b : Bool) → b ≡ true → (a || b) ≡ true
-or_right true b h = refl
-or_right false b h = h
-
-or_left : (a b : Bool) → a ≡ true → (a || b) ≡ true
-or_left true b h = refl
-or_left false b h = absurd (no h)
 
 -- of the lines of the rest of a block, where what they define is defined in the unit
 lines_defined : (u : UnitText) (k : ℕ) (e : Bool) (b : BlockText) (before rest : List LineText) → ((n : List ℕ) → lines_define n rest ≡ true → blocks_define n u.blocks ≡ true)
@@ -59,11 +51,11 @@ AllGive n i ls = Each (λ (l : LineText). is_result_name n l.result ≡ true →
 line_none : (n : List ℕ) (ls : List LineText) → lines_define n ls ≡ false → line_giving n ls ≡ None
 line_none n [] h = refl
 line_none n (l ∷ more) h =
-    let b = neither (is_result_name n l.result) (lines_define n more) h in
+    let b = or_parts (is_result_name n l.result) (lines_define n more) h in
     ap (λ x. if x then Some l.inst else line_giving n more) b.0 ∙ line_none n more b.1
 
 line_some : (n : List ℕ) (i : InstText) (ls : List LineText) → lines_define n ls ≡ true → AllGive n i ls → line_giving n ls ≡ Some i
-line_some n i [] h g = absurd (no h)
+line_some n i [] h g = absurd (false≢true h)
 line_some n i (l ∷ more) h g = at (is_result_name n l.result) refl h (λ d. line_some n i more d g.1)
   where
     at : (x : Bool) → is_result_name n l.result ≡ x → (x || lines_define n more) ≡ true → (lines_define n more ≡ true → line_giving n more ≡ Some i) → (if x then Some l.inst else line_giving n more) ≡ Some i
@@ -71,7 +63,7 @@ line_some n i (l ∷ more) h g = at (is_result_name n l.result) refl h (λ d. li
     at false e d r = r d
 
 inst_some : (n : List ℕ) (i : InstText) (bs : List BlockText) → blocks_define n bs ≡ true → Each (λ (b : BlockText). AllGive n i b.lines) bs → inst_giving n bs ≡ Some i
-inst_some n i [] h g = absurd (no h)
+inst_some n i [] h g = absurd (false≢true h)
 inst_some n i (b ∷ more) h g = at (lines_define n b.lines) refl h (λ d. inst_some n i more d g.1)
   where
     at : (x : Bool) → lines_define n b.lines ≡ x → (x || blocks_define n more) ≡ true → (blocks_define n more ≡ true → inst_giving n more ≡ Some i) → or_else (line_giving n b.lines) (inst_giving n more) ≡ Some i
@@ -81,7 +73,7 @@ inst_some n i (b ∷ more) h g = at (lines_define n b.lines) refl h (λ d. inst_
 arg_none : (n : List ℕ) (args : List ArgText) → args_define n args ≡ false → arg_named n args ≡ None
 arg_none n [] h = refl
 arg_none n (a ∷ more) h =
-    let b = neither (same_name a.name n) (args_define n more) h in
+    let b = or_parts (same_name a.name n) (args_define n more) h in
     ap (λ x. if x then Some a else arg_named n more) b.0 ∙ arg_none n more b.1
 
 pub values_have_types : ValuesHaveTypes

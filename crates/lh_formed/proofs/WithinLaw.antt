@@ -2,11 +2,11 @@
 use Rattle.std.proofs.Common.{◌≡◌, ℕ, zero, suc, ◌+◌, ◌*◌, ◌≤◌, Bool, true, false, ◌&&◌, nat_lt, nat_le, Option, Some, None, refl, sym, subst, arith, mul-le-mul_left}
 use Rattle.std.proofs.lemmas.Bool.Decides.{nat_tests}
 use Rattle.std.specs.Option.{option_map}
+use Rattle.std.proofs.lemmas.Bool.{and_parts}
 use Rattle.lh_types.specs.Types.{TypeTree, TypeRow, int_type, array_type, tuple_type, no_types, more_types, bit_count, bit_count_row}
 use Rattle.lh_types.specs.Parts.{Part, part_beyond, part_if, field_part}
 use Rattle.lh_types.specs.declared.part.Step.TheVariants.{Field, Slice}
 use Rattle.lh_formed.specs.Parts.{PartsLieWithin}
-use Rattle.lh_formed.proofs.Bools.{both}
 
 abbrev IsSome : Option Part → Type 0
 IsSome None = ⊥
@@ -49,7 +49,7 @@ field_within (more_types t ts) (suc k) p h = at (field_part ts k) (field_within 
 pub parts_lie_within : PartsLieWithin
 parts_lie_within (array_type n t) (Field k) p h = chosen (nat_lt k n) (k * bit_count t) t (n * bit_count t) p (element_within k n (bit_count t)) h
 parts_lie_within (tuple_type ts) (Field k) p h = field_within ts k p h
-parts_lie_within (int_type n) (Slice at len) p h = chosen (nat_le 1 len && nat_le (at + len) n) at (int_type len) n p (λ b. bits_within_it at len n (both (nat_le 1 len) (nat_le (at + len) n) b).1) h
+parts_lie_within (int_type n) (Slice at len) p h = chosen (nat_le 1 len && nat_le (at + len) n) at (int_type len) n p (λ b. bits_within_it at len n (and_parts (nat_le 1 len) (nat_le (at + len) n) b).1) h
 parts_lie_within (array_type n t) (Slice at len) p h =
-    chosen (nat_le 1 len && nat_le (at + len) n) (at * bit_count t) (array_type len t) (n * bit_count t) p (λ b. slice_within at len n (bit_count t) (both (nat_le 1 len) (nat_le (at + len) n) b).1) h
+    chosen (nat_le 1 len && nat_le (at + len) n) (at * bit_count t) (array_type len t) (n * bit_count t) p (λ b. slice_within at len n (bit_count t) (and_parts (nat_le 1 len) (nat_le (at + len) n) b).1) h
 parts_lie_within _ _ p h = absurd (subst IsSome (sym h) tt)

@@ -1,9 +1,9 @@
 -- The arguments of one side, one by one.
-use Rattle.std.proofs.Common.{◌≡◌, ℕ, Bool, true, false, List, [], ◌∷◌, ◌++◌, map, refl, ap, sym, ◌∙◌, append_assoc, if◌then◌else◌}
+use Rattle.std.proofs.Common.{◌≡◌, Bool, true, false, List, [], ◌∷◌, ◌++◌, map, refl, ap, sym}
 use Rattle.std.proofs.lemmas.List.{append-nil}
 use Rattle.lh_unit.specs.Contents.{ArgText}
 use Rattle.lh_unit.specs.Marks.{comma}
-use Rattle.lh_unit.specs.Pieces.{Piece, token, space, behind_commas}
+use Rattle.lh_unit.specs.Pieces.{token, space, behind_commas}
 use Rattle.lh_unit.specs.Canon.{argument, on_side, side_of}
 
 -- an argument of this side

@@ -9,7 +9,7 @@ ghost use Rattle.lh_unit.specs.Within.{Each, MaybeWithin};
 ghost use Rattle.lh_unit.specs.Arena.{unit_count, value_count, inst_count, naming, sizes, table_at, kind_at, blocks_at, unit_text_at, item_text_at, contents};
 ghost use Rattle.lh_unit.specs.Pieces.{render};
 ghost use Rattle.lh_unit.specs.Canon.{assigned, inst_line, label_lines, block_lines, blocks_lines, header, declaration, item_lines, text_of, canon};
-ghost use Rattle.lh_print.specs.Placed.{IsInstOf, IsLabelled, IsBlockOf, IsItemOf};
+ghost use Rattle.lh_unit.specs.Placed.{IsInstOf, IsLabelled, IsBlockOf, IsItemOf};
 
 use crate::arguments::{put_ports, put_signature};
 use crate::insts::put_inst;

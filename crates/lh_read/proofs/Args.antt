@@ -3,6 +3,7 @@ use Rattle.std.proofs.Common.{◌≡◌, ℕ, ◌+◌, ◌<◌, Bool, true, fals
 use Rattle.std.specs.Prelude.{⊤}
 use Rattle.std.proofs.Math.Seq.{take-suc}
 use Rattle.std.proofs.lemmas.List.{map-append, take-append-drop}
+use Rattle.std.proofs.Math.Bool.{or-true}
 use Rattle.lh_types.specs.Types.{TypeTree}
 use Rattle.lh_unit.specs.Contents.{ArgText, UnitText, ItemText, unit_text, new_unit, last_unit, change_last, with_arg, with_result, defines_value, blocks_define}
 use Rattle.lh_unit.specs.Spells.{TypedName}
@@ -19,7 +20,9 @@ use Rattle.lh_read.specs.declared.faults.LineFault.{LineFault}
 use Rattle.lh_read.specs.declared.faults.LineFault.TheVariants as line
 use Rattle.lh_read.specs.FaultOf.{fault_of}
 use Rattle.lh_read.specs.Building.{arg_of, Begins, AddsArgs, Heads, with_args, args_again}
-use Rattle.lh_read.proofs.LastUnit.{last_unit-push, change_last-push, last_unit-is, last_unit-has, last_unit-change, change_last-twice, change_last-none, with_args-none, with_args-push, with_args-both, args_again-push, args_again-both, args_again-repeat}
+use Rattle.lh_read.proofs.LastUnit.{last_unit-is, last_unit-has, change_last-twice, change_last-none, with_args-none, with_args-push, with_args-both, args_again-push, args_again-both, args_again-repeat}
+use Rattle.lh_unit.proofs.ContentsLemmas.{last_unit-push, change_last-push}
+use Rattle.lh_unit.proofs.ModuleLaws.{last_unit-change_last}
 
 -- the arguments so far are added
 pub record At (old now : Arena) (u : UnitId) (done : List ArgText) : Type 0 where
@@ -42,7 +45,7 @@ At-start old u w o b =
 next_unit : (old now : Arena) (u : UnitId) (done : List ArgText) (P : UnitText → Type 0) → At old now u done → OfOpen now P → (t : UnitText) × (last_unit (contents old) ≡ Some t) × P (with_args done t) × (args_again t done ≡ false)
 next_unit old now u done P a h =
     let t = last_unit-is (last_unit (contents old)) a.fresh in
-    let e : last_unit (contents now) ≡ Some (with_args done t.0) = ap last_unit a.says ∙ last_unit-change (with_args done) (contents old) t.0 t.1 in
+    let e : last_unit (contents now) ≡ Some (with_args done t.0) = ap last_unit a.says ∙ last_unit-change_last (with_args done) (contents old) t.0 t.1 in
     (t.0, t.1, subst (λ o. IsSomeAnd o P) e h, t.2)
 
 -- nothing but entries is new in mid
@@ -69,10 +72,6 @@ At-next old now new u done a w h s =
 same_last : (o : Option UnitText) (x y : UnitText) → o ≡ Some x → o ≡ Some y → x ≡ y
 same_last o x y p q = cc
 
-or_true : (a : Bool) → (a || true) ≡ true
-or_true true = refl
-or_true false = refl
-
 -- an argument that is refused
 pub At-again : (old now : Arena) (u : UnitId) (done : List ArgText) (a : ArgText) (more : List ArgText) → At old now u done → OfOpen now (λ t. defines_value a.name t ≡ true)
     → OfOpen old (λ t. args_again t ((done ++ a ∷ []) ++ more) ≡ true)
@@ -80,7 +79,7 @@ At-again old now u done a more w h =
     let t = next_unit old now u done (λ t. defines_value a.name t ≡ true) w h in
     last_unit-has (λ x. args_again x ((done ++ a ∷ []) ++ more) ≡ true) (last_unit (contents old)) t.0 t.1
     (args_again-both (done ++ a ∷ []) more t.0
-    ∙ ap (λ b. b || args_again (with_args (done ++ a ∷ []) t.0) more) (args_again-push done a t.0 ∙ ap (λ b. args_again t.0 done || b) t.2 ∙ or_true (args_again t.0 done)))
+    ∙ ap (λ b. b || args_again (with_args (done ++ a ∷ []) t.0) more) (args_again-push done a t.0 ∙ ap (λ b. args_again t.0 done || b) t.2 ∙ or-true (args_again t.0 done)))
 
 -- the parameters up to the next one
 pub done_next : (output : Bool) (ps : List TypedName) (i : ℕ) (p : TypedName) → i < length ps → p ≡ get_or ps i p → map (arg_of output) (take (i + 1) ps) ≡ map (arg_of output) (take i ps) ++ arg_of output p ∷ []
@@ -109,7 +108,7 @@ pub adds-both : (r : Result (Unit {0}) LineFault) (old mid new : Arena) (u : Uni
 adds-both (Ok _) old mid new u xs ys a b =
     let t = last_unit-is (last_unit (contents old)) a.0 in
     let v = last_unit-is (last_unit (contents mid)) b.0 in
-    let e : last_unit (contents mid) ≡ Some (with_args xs t.0) = ap last_unit a.1 ∙ last_unit-change (with_args xs) (contents old) t.0 t.1 in
+    let e : last_unit (contents mid) ≡ Some (with_args xs t.0) = ap last_unit a.1 ∙ last_unit-change_last (with_args xs) (contents old) t.0 t.1 in
     let same : v.0 ≡ with_args xs t.0 = same_last (last_unit (contents mid)) v.0 (with_args xs t.0) v.1 e in (
       last_unit-has (λ x. args_again x (xs ++ ys) ≡ false) (last_unit (contents old)) t.0 t.1
           (args_again-both xs ys t.0 ∙ ap (λ b. b || args_again (with_args xs t.0) ys) t.2 ∙ ap (λ x. args_again x ys) (sym same) ∙ v.2),
@@ -120,10 +119,10 @@ adds-both (Ok _) old mid new u xs ys a b =
 adds-both (Err line.DuplicateName) old mid new u xs ys a b =
     let t = last_unit-is (last_unit (contents old)) a.0 in
     let v = last_unit-is (last_unit (contents mid)) b in
-    let e : last_unit (contents mid) ≡ Some (with_args xs t.0) = ap last_unit a.1 ∙ last_unit-change (with_args xs) (contents old) t.0 t.1 in
+    let e : last_unit (contents mid) ≡ Some (with_args xs t.0) = ap last_unit a.1 ∙ last_unit-change_last (with_args xs) (contents old) t.0 t.1 in
     let same : v.0 ≡ with_args xs t.0 = same_last (last_unit (contents mid)) v.0 (with_args xs t.0) v.1 e in
     last_unit-has (λ x. args_again x (xs ++ ys) ≡ true) (last_unit (contents old)) t.0 t.1
-    (args_again-both xs ys t.0 ∙ ap (λ b. args_again t.0 xs || b) (ap (λ x. args_again x ys) (sym same) ∙ v.2) ∙ or_true (args_again t.0 xs))
+    (args_again-both xs ys t.0 ∙ ap (λ b. args_again t.0 xs || b) (ap (λ x. args_again x ys) (sym same) ∙ v.2) ∙ or-true (args_again t.0 xs))
 adds-both (Err line.OutOfMemory) old mid new u xs ys a b = tt
 adds-both (Err line.UnitTooLarge) old mid new u xs ys a b = absurd b
 adds-both (Err line.Syntax) old mid new u xs ys a b = absurd b
@@ -140,7 +139,7 @@ adds-first line.Syntax old new u xs ys a = absurd a
 pub adds-begun : (old new : Arena) (u : UnitId) (xs : List ArgText) → AddsArgs (Ok tt) old new u xs → OfOpen new (λ _. ⊤)
 adds-begun old new u xs a =
     let t = last_unit-is (last_unit (contents old)) a.0 in
-    last_unit-has (λ _. ⊤) (last_unit (contents new)) (with_args xs t.0) (ap last_unit a.1 ∙ last_unit-change (with_args xs) (contents old) t.0 t.1) tt
+    last_unit-has (λ _. ⊤) (last_unit (contents new)) (with_args xs t.0) (ap last_unit a.1 ∙ last_unit-change_last (with_args xs) (contents old) t.0 t.1) tt
 
 -- the unit that was just begun
 begun_unit : (items : List ItemText) (x t : UnitText) → last_unit (items ++ unit_text x ∷ []) ≡ Some t → t ≡ x

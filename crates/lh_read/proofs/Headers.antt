@@ -1,5 +1,6 @@
 -- A header or a declaration that is taken or refused.
-use Rattle.std.proofs.Common.{◌≡◌, Bool, true, false, ◌||◌, List, [], Option, Result, Ok, Err, IsErrAnd, refl, ap, sym, ◌∙◌, subst, inl, inr}
+use Rattle.std.proofs.Common.{◌≡◌, true, false, ◌||◌, List, [], Option, Result, Ok, Err, IsErrAnd, refl, ap, sym, ◌∙◌, subst, inl, inr}
+use Rattle.std.proofs.Math.Bool.{or-true}
 use Rattle.lh_types.specs.Types.{TypeTree}
 use Rattle.lh_unit.specs.Contents.{ArgText, last_unit, defines_unit}
 use Rattle.lh_unit.specs.Arena.{Arena, contents}
@@ -18,13 +19,9 @@ use Rattle.lh_read.specs.Places.{is_inside, behind_header}
 use Rattle.lh_read.specs.InOrder.{state_at, InPlace}
 use Rattle.lh_read.specs.Steps.{step}
 use Rattle.lh_read.specs.Building.{Heads, Steps}
-use Rattle.lh_read.proofs.LastUnit.{last_unit-push}
 use Rattle.lh_read.proofs.Stepping.{step-ok, step-misplaced, step-again}
 use Rattle.lh_read.proofs.PlaceLaws.{place-is, header-stands, declare-stands, behind-head, inside-head}
-
-or_true : (a : Bool) → (a || true) ≡ true
-or_true true = refl
-or_true false = refl
+use Rattle.lh_unit.proofs.ContentsLemmas.{last_unit-push}
 
 -- a header in this place
 module _ (a : Arena) (p : Place) (w : InPlace a p) (k : UnitKind) (n : UnitName) (args : List ArgText) (r : Option TypeTree) where
@@ -38,13 +35,13 @@ module _ (a : Arena) (p : Place) (w : InPlace a p) (k : UnitKind) (n : UnitName)
   again e d = step-again (state_at a p) (header_item k n args r) (stands e) refl d
 
   pub header-assert : is_inside p ≡ false → is_assert n ≡ true → step (state_at a p) (header_item k n args r) ≡ Err duplicate_name
-  header-assert e d = again e (ap (λ b. (defines_unit n (contents a) || b) || args_repeat [] args) d ∙ ap (λ b. b || args_repeat [] args) (or_true (defines_unit n (contents a))))
+  header-assert e d = again e (ap (λ b. (defines_unit n (contents a) || b) || args_repeat [] args) d ∙ ap (λ b. b || args_repeat [] args) (or-true (defines_unit n (contents a))))
 
   defined : is_inside p ≡ false → defines_unit n (contents a) ≡ true → step (state_at a p) (header_item k n args r) ≡ Err duplicate_name
   defined e d = again e (ap (λ b. (b || is_assert n) || args_repeat [] args) d)
 
   repeated : is_inside p ≡ false → args_repeat [] args ≡ true → step (state_at a p) (header_item k n args r) ≡ Err duplicate_name
-  repeated e d = again e (ap (λ b. (defines_unit n (contents a) || is_assert n) || b) d ∙ or_true (defines_unit n (contents a) || is_assert n))
+  repeated e d = again e (ap (λ b. (defines_unit n (contents a) || is_assert n) || b) d ∙ or-true (defines_unit n (contents a) || is_assert n))
 
   pub head-taken : (u : UnitId) (b : Arena) → is_inside p ≡ false → is_assert n ≡ false → Heads (Ok u) a b n k args r → step (state_at a p) (header_item k n args r) ≡ Ok (state_at b (behind_header k u))
   head-taken u b e f h =

@@ -1,22 +1,10 @@
 -- The last item of a file, changed and changed again.
-use Rattle.std.proofs.Common.{◌≡◌, ℕ, Bool, true, false, ◌||◌, List, [], ◌∷◌, ◌++◌, Option, Some, None, IsSomeAnd, refl, ap, sym, ◌∙◌, subst, append_assoc, append-nil}
+use Rattle.std.proofs.Common.{◌≡◌, ℕ, false, ◌||◌, List, [], ◌∷◌, ◌++◌, Option, Some, None, IsSomeAnd, refl, ap, sym, ◌∙◌, subst, append_assoc, append-nil}
+use Rattle.std.proofs.Math.Bool.{or_assoc, or-false}
 use Rattle.lh_unit.specs.Contents.{ArgText, UnitText, ItemText, unit_text, declare_text, change_last, last_unit, with_arg, args_define, blocks_define, defines_value}
 use Rattle.lh_unit.specs.Reads.{args_repeat}
 use Rattle.lh_read.specs.Building.{with_args, args_again}
-
-pub last_unit-push : (xs : List ItemText) (x : UnitText) → last_unit (xs ++ unit_text x ∷ []) ≡ Some x
-last_unit-push [] x = refl
-last_unit-push (unit_text y ∷ []) x = refl
-last_unit-push (declare_text y ∷ []) x = refl
-last_unit-push (unit_text y ∷ z ∷ xs) x = last_unit-push (z ∷ xs) x
-last_unit-push (declare_text y ∷ z ∷ xs) x = last_unit-push (z ∷ xs) x
-
-pub change_last-push : (f : UnitText → UnitText) (xs : List ItemText) (x : UnitText) → change_last f (xs ++ unit_text x ∷ []) ≡ xs ++ unit_text (f x) ∷ []
-change_last-push f [] x = refl
-change_last-push f (unit_text y ∷ []) x = refl
-change_last-push f (declare_text y ∷ []) x = refl
-change_last-push f (unit_text y ∷ z ∷ xs) x = ap (λ l. unit_text y ∷ l) (change_last-push f (z ∷ xs) x)
-change_last-push f (declare_text y ∷ z ∷ xs) x = ap (λ l. declare_text y ∷ l) (change_last-push f (z ∷ xs) x)
+use Rattle.lh_unit.proofs.ContentsLemmas.{change_last-push}
 
 -- the last unit and what stands before it
 last_unit-split : (xs : List ItemText) (t : UnitText) → last_unit xs ≡ Some t → (before : List ItemText) × (xs ≡ before ++ unit_text t ∷ [])
@@ -25,11 +13,6 @@ last_unit-split (unit_text u ∷ []) t e = let g : u ≡ t = cc in ([], ap (λ x
 last_unit-split (declare_text d ∷ []) t e = cc
 last_unit-split (unit_text u ∷ i ∷ more) t e = let s = last_unit-split (i ∷ more) t e in (unit_text u ∷ s.0, ap (λ l. unit_text u ∷ l) s.1)
 last_unit-split (declare_text d ∷ i ∷ more) t e = let s = last_unit-split (i ∷ more) t e in (declare_text d ∷ s.0, ap (λ l. declare_text d ∷ l) s.1)
-
--- the change of the last unit is seen
-pub last_unit-change : (f : UnitText → UnitText) (xs : List ItemText) (t : UnitText) → last_unit xs ≡ Some t → last_unit (change_last f xs) ≡ Some (f t)
-last_unit-change f xs t e = let s = last_unit-split xs t e in
-    ap (λ l. last_unit (change_last f l)) s.1 ∙ ap last_unit (change_last-push f s.0 t) ∙ last_unit-push s.0 (f t)
 
 -- two changes are one
 pub change_last-twice : (f g h : UnitText → UnitText) (xs : List ItemText) (t : UnitText) → last_unit xs ≡ Some t → g (f t) ≡ h t → change_last g (change_last f xs) ≡ change_last h xs
@@ -63,26 +46,18 @@ with_args-both xs ys t = λ i. record t { args = append_assoc t.args xs ys i }
 with_args-cons : (a : ArgText) (xs : List ArgText) (t : UnitText) → with_args xs (with_arg a t) ≡ with_args (a ∷ xs) t
 with_args-cons a xs t = λ i. record t { args = append_assoc t.args (a ∷ []) xs i }
 
-or_assoc : (a b c : Bool) → (a || (b || c)) ≡ ((a || b) || c)
-or_assoc true b c = refl
-or_assoc false b c = refl
-
-or_none : (a : Bool) → (a || false) ≡ a
-or_none true = refl
-or_none false = refl
-
 pub args_again-both : (xs ys : List ArgText) (t : UnitText) → args_again t (xs ++ ys) ≡ (args_again t xs || args_again (with_args xs t) ys)
 args_again-both [] ys t = ap (λ u. args_again u ys) (sym (with_args-none t))
 args_again-both (a ∷ xs) ys t =
     ap (λ b. defines_value a.name t || b) (args_again-both xs ys (with_arg a t) ∙ ap (λ u. args_again (with_arg a t) xs || args_again u ys) (with_args-cons a xs t))
-    ∙ or_assoc (defines_value a.name t) (args_again (with_arg a t) xs) (args_again (with_args (a ∷ xs) t) ys)
+    ∙ sym (or_assoc (defines_value a.name t) (args_again (with_arg a t) xs) (args_again (with_args (a ∷ xs) t) ys))
 
 pub args_again-push : (xs : List ArgText) (a : ArgText) (t : UnitText) → args_again t (xs ++ a ∷ []) ≡ (args_again t xs || defines_value a.name (with_args xs t))
-args_again-push xs a t = args_again-both xs (a ∷ []) t ∙ ap (λ b. args_again t xs || b) (or_none (defines_value a.name (with_args xs t)))
+args_again-push xs a t = args_again-both xs (a ∷ []) t ∙ ap (λ b. args_again t xs || b) (or-false (defines_value a.name (with_args xs t)))
 
 -- in a unit without instructions only the arguments define values
 pub args_again-repeat : (xs : List ArgText) (t : UnitText) → ((n : List ℕ) → blocks_define n t.blocks ≡ false) → args_again t xs ≡ args_repeat t.args xs
 args_again-repeat [] t h = refl
 args_again-repeat (a ∷ xs) t h =
-    let e : defines_value a.name t ≡ args_define a.name t.args = ap (λ b. args_define a.name t.args || b) (h a.name) ∙ or_none (args_define a.name t.args) in
+    let e : defines_value a.name t ≡ args_define a.name t.args = ap (λ b. args_define a.name t.args || b) (h a.name) ∙ or-false (args_define a.name t.args) in
     ap (λ b. b || args_again (with_arg a t) xs) e ∙ ap (λ b. args_define a.name t.args || b) (args_again-repeat xs (with_arg a t) h)

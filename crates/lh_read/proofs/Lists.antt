@@ -11,8 +11,9 @@ use Rattle.lh_unit.specs.declared.name.UnitName.{UnitName}
 use Rattle.lh_unit.specs.declared.inst.UnitId.{UnitId}
 use Rattle.lh_unit.specs.declared.inst.Typed.{Typed}
 use Rattle.lh_unit.specs.declared.inst.Inst.TheVariants as inst
-use Rattle.lh_unit.proofs.ModuleLaws.{KeepsEntries-trans, Grows-trans, Each-push, Each-map, ValueWithin-keeps, OperandWithin-keeps, TriggerWithin-keeps, EdgeWithin-keeps, value_text-keeps, operand_text-keeps, trigger_text-keeps, edge_text-keeps}
+use Rattle.lh_unit.proofs.ModuleLaws.{KeepsEntries-trans, Grows-trans, Each-push, ValueWithin-keeps, OperandWithin-keeps, TriggerWithin-keeps, EdgeWithin-keeps, value_text-keeps, operand_text-keeps, trigger_text-keeps, edge_text-keeps}
 use Rattle.lh_read.specs.Placing.{Placed, AllPlaced, OperandsPlaced, InstPlacedAs}
+use Rattle.lh_unit.proofs.Within.{Each-more}
 
 -- what is in place stays in place and says the same as entries are added
 pub record Keeps {X T : Type 0} (W : Sizes → X → Type 0) (text : Naming → X → T) : Type 0 where
@@ -49,7 +50,7 @@ module _ {X T : Type 0} {W : Sizes → X → Type 0} {text : Naming → X → T}
       let k = q.grows.entries in
       record {
         grows = Grows-trans a b c p.grows q.grows;
-        within = subst (Each (W (sizes c u.0))) (sym z) (Each-push (W (sizes c u.0)) xs x (Each-map (W (sizes b u.0)) (W (sizes c u.0)) xs (keeps.within b c u.0 k) p.within) q.within);
+        within = subst (Each (W (sizes c u.0))) (sym z) (Each-push (W (sizes c u.0)) xs x (Each-more (W (sizes b u.0)) (W (sizes c u.0)) xs (keeps.within b c u.0 k) p.within) q.within);
         says = ap (map (text (naming c u.0))) z ∙ map-append (text (naming c u.0)) xs (x ∷ [])
             ∙ (λ j. (still b c u.0 xs k p.within ∙ p.says) j ++ q.says j ∷ []) ∙ sym e;
       }
@@ -63,7 +64,7 @@ child-placed a b c d u f ins outs n ss rs p q r =
       grows = Grows-trans a b d p.0.grows (Grows-trans b c d q.grows r.grows);
       within = (
         omega (arith, p.1, k.units),
-        Each-map (OperandWithin (sizes c u.0)) (OperandWithin (sizes d u.0)) ins (operands-keep.within c d u.0 r.grows.entries) q.within,
+        Each-more (OperandWithin (sizes c u.0)) (OperandWithin (sizes d u.0)) ins (operands-keep.within c d u.0 r.grows.entries) q.within,
         r.within,
       );
       says = λ i. child_text ((k.unit_names f.0 p.1 ∙ p.2) i) ((still operands-keep c d u.0 ins r.grows.entries q.within ∙ q.says) i) (r.says i);

@@ -17,7 +17,8 @@ use Rattle.lh_read.specs.declared.places.Place.{Place}
 use Rattle.lh_read.specs.declared.places.Place.TheVariants.{Outside, InEntity, BeforeLabels, InEmptyBlock, InBlock}
 use Rattle.lh_read.specs.Places.{place_held, is_inside, block_unit, label_unit, may_close, behind_header, behind_inst}
 use Rattle.lh_read.specs.InOrder.{state_at, Has, EndsIn, InUnit, InPlace}
-use Rattle.lh_read.proofs.LastUnit.{last_unit-is, last_unit-has, last_unit-change}
+use Rattle.lh_read.proofs.LastUnit.{last_unit-is, last_unit-has}
+use Rattle.lh_unit.proofs.ModuleLaws.{last_unit-change_last}
 
 -- what may stand in the place that is held
 pub header-stands : (p : Place) (k : UnitKind) (n : UnitName) (args : List ArgText) (r : Option TypeTree) (b : Bool) → is_inside p ≡ b → may_stand (place_held p) (header_item k n args r) ≡ (if b then false else true)
@@ -162,7 +163,7 @@ behind a b u v p q f g e w s =
     record {
       within = omega (arith, w.within, s.entries.units);
       opened = subst (IsOpen b) same s.is_open;
-      text = last_unit-has (EndsIn q) (last_unit (contents b)) (f t.0) (ap last_unit s.says ∙ last_unit-change f (contents a) t.0 t.1) (g t.0 t.2);
+      text = last_unit-has (EndsIn q) (last_unit (contents b)) (f t.0) (ap last_unit s.says ∙ last_unit-change_last f (contents a) t.0 t.1) (g t.0 t.2);
     }
 
 in_entity-line : (l : LineText) (t : UnitText) → EndsIn in_entity t → EndsIn in_entity (with_line l t)

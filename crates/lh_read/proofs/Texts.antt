@@ -1,5 +1,6 @@
 -- A line is taken or is faulty in one way only, and so is a text.
-use Rattle.std.proofs.Common.{◌≡◌, ℕ, ◌+◌, Bool, true, false, List, [], ◌∷◌, Option, Some, None, Ok, Err, refl, ap, sym, ◌∙◌, subst, inl, inr}
+use Rattle.std.proofs.Common.{◌≡◌, ℕ, ◌+◌, false, List, [], ◌∷◌, Option, Some, None, Ok, Err, refl, ap, sym, ◌∙◌, subst, inl, inr}
+use Rattle.std.proofs.lemmas.Bool.{both_ways}
 use Rattle.lh_unit.specs.Contents.{ItemText}
 use Rattle.lh_unit.specs.Lexemes.{Lexeme, lexemes}
 use Rattle.lh_unit.specs.Lines.{lines_of}
@@ -27,14 +28,11 @@ same_tokens l ts us p q = cc
 said-spelled : (s : State) (l : List ℕ) (ts : List Lexeme) (j : LineItem) → lexemes l ≡ Some ts → Says s l j → Spells ts j
 said-spelled s l ts j e w = subst (λ us. Spells us j) (same_tokens l ts w.tokens e w.lexed) w.spelled
 
-apart : (b : Bool) → b ≡ true → b ≡ false → ⊥
-apart b p q = cc
-
 pub bad-line : (s : State) (l : List ℕ) (ts : List Lexeme) (i : LineItem) (why : BadKind) → lexemes l ≡ Some ts → SpelledBy ts (Some i) → step s i ≡ Err why → IsBad s l why
 bad-line s l ts i why e w p = by why (step-fault s i why p)
   where
     by : (b : BadKind) → HasFault s i b → IsBad s l b
-    by syntax f = λ j v. apart (may_stand (place_of s) i) (ap (may_stand (place_of s)) (sym (w.1 j (said-spelled s l ts j e v))) ∙ v.stands) f
+    by syntax f = λ j v. both_ways (may_stand (place_of s) i) f (ap (may_stand (place_of s)) (sym (w.1 j (said-spelled s l ts j e v))) ∙ v.stands)
     by unit_too_large f = (i, record { tokens = ts; lexed = e; spelled = w.0; stands = f.0 }, f.1)
     by duplicate_name f = (i, record { tokens = ts; lexed = e; spelled = w.0; stands = f.0 }, f.1, f.2)
 
@@ -63,8 +61,8 @@ taken-once s t u l v w = v.becomes ∙ ap (after s) (said-once s l v.item w.item
 
 bad-taken : (s t : State) (l : List ℕ) (why : BadKind) → IsBad s l why → Takes s l t → ⊥
 bad-taken s t l syntax b w = b w.item w.said
-bad-taken s t l unit_too_large b w = apart (too_large s b.0) b.2 (ap (too_large s) (said-once s l b.0 w.item b.1 w.said) ∙ w.has_room)
-bad-taken s t l duplicate_name b w = apart (defines_again s b.0) b.3 (ap (defines_again s) (said-once s l b.0 w.item b.1 w.said) ∙ w.is_new)
+bad-taken s t l unit_too_large b w = both_ways (too_large s b.0) (ap (too_large s) (said-once s l b.0 w.item b.1 w.said) ∙ w.has_room) b.2
+bad-taken s t l duplicate_name b w = both_ways (defines_again s b.0) (ap (defines_again s) (said-once s l b.0 w.item b.1 w.said) ∙ w.is_new) b.3
 
 bad-once : (s : State) (l : List ℕ) (e f : BadKind) → IsBad s l e → IsBad s l f → e ≡ f
 bad-once s l syntax syntax b c = refl
@@ -72,9 +70,9 @@ bad-once s l syntax unit_too_large b c = absurd (b c.0 c.1)
 bad-once s l syntax duplicate_name b c = absurd (b c.0 c.1)
 bad-once s l unit_too_large syntax b c = absurd (c b.0 b.1)
 bad-once s l unit_too_large unit_too_large b c = refl
-bad-once s l unit_too_large duplicate_name b c = absurd (apart (too_large s b.0) b.2 (ap (too_large s) (said-once s l b.0 c.0 b.1 c.1) ∙ c.2))
+bad-once s l unit_too_large duplicate_name b c = absurd (both_ways (too_large s b.0) (ap (too_large s) (said-once s l b.0 c.0 b.1 c.1) ∙ c.2) b.2)
 bad-once s l duplicate_name syntax b c = absurd (c b.0 b.1)
-bad-once s l duplicate_name unit_too_large b c = absurd (apart (too_large s c.0) c.2 (ap (too_large s) (said-once s l c.0 b.0 c.1 b.1) ∙ b.2))
+bad-once s l duplicate_name unit_too_large b c = absurd (both_ways (too_large s c.0) (ap (too_large s) (said-once s l c.0 b.0 c.1 b.1) ∙ b.2) c.2)
 bad-once s l duplicate_name duplicate_name b c = refl
 
 -- line after line
@@ -83,7 +81,7 @@ walk-once [] s t u v w = sym v ∙ w
 walk-once (l ∷ ls) s t u v w = walk-once ls w.0 t u (subst (λ m. Walk ls m t) (taken-once s v.0 w.0 l v.1 w.1) v.2) w.2
 
 walk-bad : (ls : List (List ℕ)) (n : ℕ) (s : State) (items : List ItemText) (k : ℕ) (why : BadKind) → Walk ls s (closed items) → FirstBadFrom ls n s k why → ⊥
-walk-bad [] n s items k why w b = apart s.inside b.0 (ap (λ x. x.inside) w)
+walk-bad [] n s items k why w b = both_ways s.inside (ap (λ x. x.inside) w) b.0
 walk-bad (l ∷ ls) n s items k why w b = elim b [
   | inl f ↦ bad-taken s w.0 l why f.1 w.1
   | inr f ↦ walk-bad ls (n + 1) f.0 items k why (subst (λ m. Walk ls m (closed items)) (taken-once s w.0 f.0 l w.1 f.1) w.2) f.2

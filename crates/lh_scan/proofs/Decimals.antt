@@ -3,11 +3,11 @@ use Rattle.std.proofs.Common.{◌≡◌, ℕ, ◌+◌, ◌-◌, ◌*◌, ◌<◌
 use Rattle.std.specs.Prelude.{◌^◌, if◌then◌else◌}
 use Rattle.std.proofs.Math.Nat.{pow-suc, one-le-pow, mul-le-mul_right}
 use Rattle.std.proofs.lemmas.Grind.{common_steps}
+use Rattle.std.proofs.lemmas.Bool.{and_parts}
 use Rattle.lh_unit.specs.Numerals.{is_digit, digits_from, number_of}
 use Rattle.lh_scan.specs.Pieces.{◌>>=◌}
 use Rattle.lh_scan.specs.Times.{digit_run, all_zero, shifted}
 use Rattle.lh_scan.specs.Shorter.{bind_some}
-use Rattle.lh_scan.proofs.Pieces.{both}
 
 -- one text of digits behind another
 pub digits-append : (xs ys : List ℕ) (n : ℕ) → digits_from n (xs ++ ys) ≡ (digits_from n xs >>= λ m. digits_from m ys)
@@ -57,7 +57,7 @@ run-le (b ∷ bs) = by (is_digit b) (run-le bs)
 zeros-digits : (bs : List ℕ) (n : ℕ) → all_zero bs ≡ true → digits_from n bs ≡ Some (n * 10 ^ length bs)
 zeros-digits [] n e = let q : n ≡ n * 1 = omega arith in ap Some q
 zeros-digits (b ∷ bs) n e =
-    let t = both (nat_eq b 48) (all_zero bs) e in
+    let t = and_parts (nat_eq b 48) (all_zero bs) e in
     let q : nat_eq b 48 ≡ true = t.0 in
     let f : b ≡ 48 = grind (arith, common_steps) in
     let v : (n * 10 + 0) * 10 ^ length bs ≡ n * 10 ^ suc (length bs) = omega (arith, ap (λ x. n * x) (pow-suc 10 (length bs))) in
@@ -79,7 +79,7 @@ both_zero (suc d) l r h e = absurd (omega (arith, e))
 
 rest_step : (n m b l : ℕ) (bs : List ℕ) → is_digit b ≡ true → (r : Rest (n * 10 + (b - 48)) m bs) → l ≡ 10 ^ length bs → Rest n m (b ∷ bs)
 rest_step n m b l bs d r e =
-    let t = both (nat_le 48 b) (nat_le b 57) d in
+    let t = and_parts (nat_le 48 b) (nat_le b 57) d in
     let lo : nat_le 48 b ≡ true = t.0 in let hi : nat_le b 57 ≡ true = t.1 in
     let lo_b : 48 ≤ b = grind (arith, common_steps) in let hi_b : b ≤ 57 = grind (arith, common_steps) in
     let p = pow-suc 10 (length bs) in

@@ -1,40 +1,24 @@
 -- The pieces of a line: what is found in front of the tokens stands there.
-use Rattle.std.proofs.Common.{◌≡◌, ℕ, ◌<◌, ◌≤◌, Bool, true, false, List, [], ◌∷◌, length, Option, Some, None, nat_eq, nat_lt, nat_le, refl, ap, sym, ◌∙◌, subst, arith, inl, inr}
-use Rattle.std.specs.Prelude.{if◌then◌else◌, ◌&&◌, ◌^◌}
+use Rattle.std.proofs.Common.{◌≡◌, ℕ, ◌<◌, ◌≤◌, true, List, [], ◌∷◌, length, Option, Some, None, nat_eq, nat_lt, nat_le, refl, ap, sym, ◌∙◌, subst, arith, inl, inr}
+use Rattle.std.specs.Prelude.{◌^◌}
 use Rattle.std.specs.Cmp.Lexicographic.{same_text}
 use Rattle.std.proofs.lemmas.Grind.{common_steps}
+use Rattle.std.proofs.lemmas.Option.{cond_some}
 use lib.Pointwise.{pointwise}
 use Rattle.lh_unit.specs.Lexemes.{Lexeme, word, global, local, arrow, minus, punct}
 use Rattle.lh_unit.specs.SpellsParts.{SpellsUnitName}
 use Rattle.lh_unit.specs.declared.name.UnitName.{UnitName}
 use Rattle.lh_scan.specs.Shorter.{bind_some}
 use Rattle.lh_scan.specs.Pieces.{word_at, any_word_at, local_at, named_in, name_at, unit_name_at, punct_at, arrow_at, minus_at, end_at, below, small}
-
-pub guard : {A : Type 0} (b : Bool) (x y : A) → (if b then Some x else None) ≡ Some y → (b ≡ true) × (x ≡ y)
-guard true x y p = (refl, cc)
-guard false x y p = cc
-
-pub both : (a b : Bool) → a && b ≡ true → (a ≡ true) × (b ≡ true)
-both true b p = (refl, p)
-both false b p = cc
-
-pub some_inj : {A : Type 0} (x y : A) → Some x ≡ Some y → x ≡ y
-some_inj x y p = cc
+use Rattle.lh_unit.proofs.Tables.{same_name-refl}
 
 -- the pieces
 pub word_at-inv : (w : List ℕ) (ts us : List Lexeme) → word_at w ts ≡ Some us → ts ≡ word w ∷ us
-word_at-inv w (word x ∷ ts) us p = let g = guard (pointwise nat_eq x w) ts us p in let e : x ≡ w = same_text x w (sym g.0) in λ i. word (e i) ∷ g.1 i
+word_at-inv w (word x ∷ ts) us p = let g = cond_some (pointwise nat_eq x w) ts us p in let e : x ≡ w = same_text x w (sym g.0) in λ i. word (e i) ∷ g.1 i
 word_at-inv w _ us p = cc
 
-same_word : (w : List ℕ) → pointwise nat_eq w w ≡ true
-same_word [] = refl
-same_word (b ∷ bs) = let e : nat_eq b b ≡ true = same b in let f = same_word bs in rw (e, f) refl
-  where
-    same : (x : ℕ) → nat_eq x x ≡ true
-    same x = grind (arith, common_steps)
-
 pub word_at-again : (w : List ℕ) (ts : List Lexeme) → word_at w (word w ∷ ts) ≡ Some ts
-word_at-again w ts = let e = same_word w in rw e refl
+word_at-again w ts = let e = same_name-refl w in rw e refl
 
 pub any_word_at-inv : (ts : List Lexeme) (r : List ℕ × List Lexeme) → any_word_at ts ≡ Some r → ts ≡ word r.0 ∷ r.1
 any_word_at-inv (word x ∷ ts) r p = cc
@@ -60,7 +44,7 @@ unit_name_at-again n t ts s = elim s [
 ]
 
 pub punct_at-inv : (b : ℕ) (ts us : List Lexeme) → punct_at b ts ≡ Some us → ts ≡ punct b ∷ us
-punct_at-inv b (punct c ∷ ts) us p = let g = guard (nat_eq c b) ts us p in let h : nat_eq c b ≡ true = g.0 in let e : c ≡ b = grind (arith, common_steps) in λ i. punct (e i) ∷ g.1 i
+punct_at-inv b (punct c ∷ ts) us p = let g = cond_some (nat_eq c b) ts us p in let h : nat_eq c b ≡ true = g.0 in let e : c ≡ b = grind (arith, common_steps) in λ i. punct (e i) ∷ g.1 i
 punct_at-inv b _ us p = cc
 
 pub punct_at-again : (b : ℕ) (ts : List Lexeme) → punct_at b (punct b ∷ ts) ≡ Some ts
@@ -76,7 +60,7 @@ end_at-inv _ u p = cc
 
 pub small-inv : (o : Option ℕ) (n : ℕ) → small o ≡ Some n → o ≡ Some n
 small-inv None n p = cc
-small-inv (Some m) n p = ap Some (guard (nat_lt m (2 ^ 128)) m n p).1
+small-inv (Some m) n p = ap Some (cond_some (nat_lt m (2 ^ 128)) m n p).1
 
 pub small-below : (n : ℕ) → n < 2 ^ 128 → small (Some n) ≡ Some n
 small-below n h = let e : nat_lt n (2 ^ 128) ≡ true = grind (arith, common_steps) in rw e refl
@@ -89,7 +73,7 @@ minus_at-inv _ us p = cc
 pub below-inv : (b : ℕ) (o : Option ℕ) (n : ℕ) → below b o ≡ Some n → (o ≡ Some n) × (n < b)
 below-inv b None n p = cc
 below-inv b (Some m) n p =
-    let g = guard (nat_lt m b) m n p in let t : nat_lt m b ≡ true = g.0 in let l : m < b = lt m b t in
+    let g = cond_some (nat_lt m b) m n p in let t : nat_lt m b ≡ true = g.0 in let l : m < b = lt m b t in
     (ap Some g.1, subst (λ x. x < b) g.1 l)
   where
     lt : (x y : ℕ) → nat_lt x y ≡ true → x < y
@@ -103,7 +87,7 @@ pub name_at-inv : (ts : List Lexeme) (r : List ℕ × List Lexeme) → name_at t
 unfolding name_at
 name_at-inv (word w ∷ ts) r p =
     let a = bind_some (named_in (word w)) _ r p in
-    let g = guard (nat_le (length w) 255) w a.0 a.1 in
+    let g = cond_some (nat_le (length w) 255) w a.0 a.1 in
     let t : nat_le (length w) 255 ≡ true = g.0 in
     let l : length w ≤ 255 = grind (arith, common_steps) in
     let e : w ≡ r.0 = g.1 ∙ (cc (a.2)) in

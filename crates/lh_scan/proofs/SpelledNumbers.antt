@@ -3,13 +3,14 @@ use Rattle.std.proofs.Common.{◌≡◌, ℕ, ◌-◌, ◌<◌, ◌≤◌, true,
 use Rattle.std.specs.Prelude.{◌%◌, ◌^◌}
 use Rattle.std.proofs.lemmas.Grind.{common_steps}
 use Rattle.std.proofs.Math.Pow.{pow_mono}
+use Rattle.std.proofs.lemmas.Option.{cond_some}
 use Rattle.lh_unit.specs.Lexemes.{Lexeme, word, minus}
 use Rattle.lh_unit.specs.Numerals.{number_of}
 use Rattle.lh_unit.specs.SpellsNumbers.{SpellsNumber, SpellsInteger}
 use Rattle.lh_scan.specs.Pieces.{◌>>=◌, any_word_at, minus_at, end_at, below, small, small_number}
 use Rattle.lh_scan.specs.Numbers.{number_at, positive_bits, negative_bits, last_number_at, integer_or, integer_at}
 use Rattle.lh_scan.specs.Shorter.{bind_some}
-use Rattle.lh_scan.proofs.Pieces.{guard, any_word_at-inv, end_at-inv, minus_at-inv, below-inv, below-again, small-inv, small-below}
+use Rattle.lh_scan.proofs.Pieces.{any_word_at-inv, end_at-inv, minus_at-inv, below-inv, below-again, small-inv, small-below}
 
 pub number_at-sound : (ts : List Lexeme) (r : ℕ × List Lexeme) → number_at ts ≡ Some r → SpellsNumber r.0 ts r.1
 unfolding number_at
@@ -33,7 +34,7 @@ number_at-again n ts us s =
 positive-sound : (n : ℕ) (o : Option ℕ) (b : ℕ) → positive_bits n o ≡ Some b → (o ≡ Some b) × (b < 2 ^ n)
 positive-sound n None b p = cc
 positive-sound n (Some k) b p =
-    let g = guard (nat_lt k (2 ^ n)) k b p in let t : nat_lt k (2 ^ n) ≡ true = g.0 in let l : k < 2 ^ n = below k (2 ^ n) t in
+    let g = cond_some (nat_lt k (2 ^ n)) k b p in let t : nat_lt k (2 ^ n) ≡ true = g.0 in let l : k < 2 ^ n = below k (2 ^ n) t in
     (ap Some g.1, subst (λ x. x < 2 ^ n) g.1 l)
   where
     below : (x y : ℕ) → nat_lt x y ≡ true → x < y
@@ -42,7 +43,7 @@ positive-sound n (Some k) b p =
 negative-sound : (n : ℕ) (o : Option ℕ) (b : ℕ) → negative_bits n o ≡ Some b → (k : ℕ) × (o ≡ Some k) × (k ≤ 2 ^ (n - 1)) × (b ≡ (2 ^ n - k) % (2 ^ n))
 negative-sound n None b p = cc
 negative-sound n (Some k) b p =
-    let g = guard (nat_le k (2 ^ (n - 1))) ((2 ^ n - k) % (2 ^ n)) b p in let t : nat_le k (2 ^ (n - 1)) ≡ true = g.0 in
+    let g = cond_some (nat_le k (2 ^ (n - 1))) ((2 ^ n - k) % (2 ^ n)) b p in let t : nat_le k (2 ^ (n - 1)) ≡ true = g.0 in
     (k, refl, within k (2 ^ (n - 1)) t, sym g.1)
   where
     within : (x y : ℕ) → nat_le x y ≡ true → x ≤ y

@@ -2,6 +2,8 @@
 use Rattle.std.proofs.Common.{◌≡◌, ℕ, ◌<◌, ◌≤◌, zero, suc, Bool, true, false, List, [], ◌∷◌, length, Option, Some, None, nat_eq, nat_le, refl, ap, sym, ◌∙◌, subst, arith}
 use Rattle.std.specs.Prelude.{if◌then◌else◌, ◌&&◌, ◌||◌, not, codes}
 use Rattle.std.proofs.lemmas.Grind.{common_steps}
+use Rattle.std.proofs.lemmas.Option.{cond_some}
+use Rattle.std.proofs.lemmas.Bool.{and_parts}
 use Rattle.lh_types.specs.Types.{TypeTree, TypeRow, int_type, time_type, void_type, array_type, tuple_type, signal_type, pointer_type, no_types, more_types, row_of, depth_of, depth_of_row, IsData, AreData, IsLimited}
 use Rattle.lh_types.specs.Faults.{is_data, is_time, array_fault, tuple_fault, signal_fault, pointer_fault}
 use Rattle.lh_types.specs.declared.ty.TyFault.{TyFault}
@@ -15,7 +17,7 @@ use Rattle.lh_scan.specs.Pieces.{◌>>=◌, word_at, punct_at, small, small_numb
 use Rattle.lh_scan.specs.Numbers.{number_at}
 use Rattle.lh_scan.specs.Types.{faultless, followed, width_of, int_width, int_before, array_in, tuple_in, marked_in, data_in, data_at, base_or, base_at, suffix_or, suffix_at, type_at, no_suffix}
 use Rattle.lh_scan.specs.Shorter.{bind_some}
-use Rattle.lh_scan.proofs.Pieces.{guard, both, word_at-inv, punct_at-inv, small-inv, small-below}
+use Rattle.lh_scan.proofs.Pieces.{word_at-inv, punct_at-inv, small-inv, small-below}
 pub use Rattle.lh_scan.proofs.TypeFaults.{four_none, is_data-yes, all_data-yes, array-sound, array-again, tuple-sound, tuple-again, data_limited, limited_data, fault_none, pointed_limited, pointed_data}
 use Rattle.lh_scan.proofs.SpelledNumbers.{number_at-sound, number_at-again}
 use Rattle.lh_scan.proofs.SpelledLists.{parts_at-sound, parts_at-again}
@@ -43,7 +45,7 @@ made_again o t ts e = ap (λ x. followed (faultless x t) ts) e
 width-sound : (o : Option ℕ) (n : ℕ) → width_of o ≡ Some n → (o ≡ Some n) × (1 ≤ n) × (n ≤ 128)
 width-sound None n p = cc
 width-sound (Some m) n p =
-    let g = guard (nat_le 1 m && nat_le m 128) m n p in let b = both (nat_le 1 m) (nat_le m 128) g.0 in let l : nat_le 1 m ≡ true = b.0 in let u : nat_le m 128 ≡ true = b.1 in
+    let g = cond_some (nat_le 1 m && nat_le m 128) m n p in let b = and_parts (nat_le 1 m) (nat_le m 128) g.0 in let l : nat_le 1 m ≡ true = b.0 in let u : nat_le m 128 ≡ true = b.1 in
     let lo : 1 ≤ m = grind (arith, common_steps) in let hi : m ≤ 128 = grind (arith, common_steps) in
     (ap Some g.1, subst (λ x. 1 ≤ x) g.1 lo, subst (λ x. x ≤ 128) g.1 hi)
 

@@ -2,11 +2,11 @@
 use Rattle.std.proofs.Common.{◌≡◌, ℕ, ◌+◌, ◌*◌, ◌<◌, ◌≤◌, Bool, true, false, List, [], ◌∷◌, Some, None, nat_eq, nat_lt, refl, arith}
 use Rattle.std.specs.Prelude.{if◌then◌else◌, ◌||◌, ◌^◌, not}
 use Rattle.std.proofs.lemmas.Grind.{common_steps}
+use Rattle.std.proofs.lemmas.Bool.{and_parts}
 use Rattle.lh_types.specs.Types.{TypeTree, TypeRow, int_type, time_type, array_type, tuple_type, pointer_type, no_types, more_types, row_of, bit_count, bit_count_row, depth_of, depth_of_row, IsData, AreData, IsLimited}
 use Rattle.lh_types.specs.Faults.{is_data, is_time, all_data, is_empty_row, array_fault, tuple_fault}
 use Rattle.lh_types.specs.declared.ty.TyFault.{TyFault}
 use Rattle.lh_types.proofs.Limits.{one_le-bit_count}
-use Rattle.lh_scan.proofs.Pieces.{both}
 
 -- four tests for a fault, one after another
 pub four_none : (a b c d : Bool) (w x y z : TyFault) → (if a then Some w else (if not b then Some x else (if c then Some y else (if d then Some z else None)))) ≡ None → (a ≡ false) × (b ≡ true) × (c ≡ false) × (d ≡ false)
@@ -109,7 +109,7 @@ AreLimited (t ∷ ts) = IsLimited t × AreLimited ts
 
 limited_row : (ts : List TypeTree) → AreLimited ts → all_data (row_of ts) ≡ true → AreData (row_of ts)
 limited_row [] l e = tt
-limited_row (t ∷ ts) l e = let f = both (is_data t) (all_data (row_of ts)) e in (limited_data t f.0 l.0, limited_row ts l.1 f.1)
+limited_row (t ∷ ts) l e = let f = and_parts (is_data t) (all_data (row_of ts)) e in (limited_data t f.0 l.0, limited_row ts l.1 f.1)
 
 pub tuple-limited : (ts : List TypeTree) → AreLimited ts → tuple_fault (row_of ts) ≡ None → IsLimited (tuple_type (row_of ts))
 tuple-limited ts l e =

@@ -211,7 +211,7 @@ pub record StandsAlone (i : InstText) (ts : List Lexeme) : Type 0 where
 typed_no_colon : (o : OperandText) (ts us : List Lexeme) → SpellsWithType o ts us → punct_at 58 ts ≡ None
 typed_no_colon o ts us s = punct_at-type 58 refl refl s.0 ts (local o.value ∷ us) s.2.0
 
-name_no_colon : (u : UnitName) (name : Lexeme) (us : List Lexeme) → SpellsUnitName u name → punct_at 58 (name ∷ us) ≡ None
+pub name_no_colon : (u : UnitName) (name : Lexeme) (us : List Lexeme) → SpellsUnitName u name → punct_at 58 (name ∷ us) ≡ None
 name_no_colon u name us n = elim n [ inl p ↦ ap (λ t. punct_at 58 (t ∷ us)) p.1 | inr p ↦ ap (λ t. punct_at 58 (t ∷ us)) p.1 ]
 
 pub stands_alone : (i : InstText) (ts : List Lexeme) → may_stand_alone i ≡ true → SpellsInst i ts → StandsAlone i ts

@@ -2,6 +2,8 @@
 use Rattle.std.proofs.Common.{◌≡◌, ℕ, ◌<◌, ◌+◌, Bool, true, false, List, [], ◌∷◌, length, Option, Some, None, nat_lt, refl, ap, sym, ◌∙◌, subst, arith}
 use Rattle.std.specs.Prelude.{◌&&◌, ◌^◌, is_none, if◌then◌else◌, codes}
 use Rattle.std.proofs.lemmas.Grind.{common_steps}
+use Rattle.std.proofs.lemmas.Option.{cond_some, same_Some}
+use Rattle.std.proofs.lemmas.Bool.{and_parts}
 use Rattle.lh_types.specs.Types.{TypeTree, TypeRow, array_type, tuple_type, AreData, IsLimited, row_of, bit_count_row, depth_of_row}
 use Rattle.lh_types.specs.Faults.{is_data, all_data, is_empty_row, array_fault, tuple_fault}
 use Rattle.lh_types.specs.declared.ty.TyFault.{TyFault}
@@ -15,7 +17,7 @@ use Rattle.lh_unit.specs.SpellsInst.{SpellsInst, written_types}
 use Rattle.lh_scan.specs.Pieces.{◌>>=◌, word_at, punct_at, parts_at}
 use Rattle.lh_scan.specs.Numbers.{number_at}
 use Rattle.lh_scan.specs.Shorter.{bind_some}
-use Rattle.lh_scan.proofs.Pieces.{guard, both, some_inj, word_at-inv, punct_at-inv, end_at-inv}
+use Rattle.lh_scan.proofs.Pieces.{word_at-inv, punct_at-inv, end_at-inv}
 use Rattle.lh_scan.proofs.SpelledNumbers.{number_at-sound, number_at-again}
 use Rattle.lh_scan.proofs.TypeStarts.{number_at-type}
 use Rattle.lh_scan.proofs.TypeFaults.{array-again, tuple-sound, tuple-again, limited_data, four_none, array-limited}
@@ -31,7 +33,7 @@ unfolding last_mark_at
 last_mark-sound b ts u p = let a = bind_some (punct_at b ts) _ u p in punct_at-inv b ts a.0 a.1 ∙ ap (λ l. punct b ∷ l) (end_at-inv a.0 u a.2)
 
 when-inv : (b : Bool) (i j : InstText) → when b i ≡ Some j → (b ≡ true) × (i ≡ j)
-when-inv b i j p = guard b i j p
+when-inv b i j p = cond_some b i j p
 
 -- the limits of arrays
 none_inv : (o : Option TyFault) → is_none o ≡ true → o ≡ None
@@ -40,7 +42,7 @@ none_inv (Some n) h = cc
 
 fits-sound : (n : ℕ) (o : Option TypeTree) → fits_array n o ≡ true → (t : TypeTree) × (o ≡ Some t) × (n < 2 ^ 32) × (array_fault n t ≡ None)
 fits-sound n None h = cc
-fits-sound n (Some t) h = let b = both (nat_lt n (2 ^ 32)) (is_none (array_fault n t)) h in (t, refl, lt n (2 ^ 32) b.0, none_inv (array_fault n t) b.1)
+fits-sound n (Some t) h = let b = and_parts (nat_lt n (2 ^ 32)) (is_none (array_fault n t)) h in (t, refl, lt n (2 ^ 32) b.0, none_inv (array_fault n t) b.1)
   where
     lt : (x y : ℕ) → nat_lt x y ≡ true → x < y
     lt x y e = grind (arith, common_steps)
@@ -88,9 +90,9 @@ no_type (Some t) h = cc
 
 bare_parts : (xs : List Operand) (ts us : List Lexeme) → all_bare xs ≡ true → SpellsParts SpellsOperand (operands_of xs) ts us → SpellsParts SpellsBare (operands_of xs) ts us
 bare_parts [] ts us h s = absurd s
-bare_parts (x ∷ []) ts us h s = let e = no_type x.ty (both (is_none x.ty) true h).0 in (e, subst (λ ty. SpellsTyped ty x.value ts us) e s)
+bare_parts (x ∷ []) ts us h s = let e = no_type x.ty (and_parts (is_none x.ty) true h).0 in (e, subst (λ ty. SpellsTyped ty x.value ts us) e s)
 bare_parts (x ∷ y ∷ xs) ts us h s =
-    let b = both (is_none x.ty) (all_bare (y ∷ xs)) h in let e = no_type x.ty b.0 in
+    let b = and_parts (is_none x.ty) (all_bare (y ∷ xs)) h in let e = no_type x.ty b.0 in
     (s.0, (e, subst (λ ty. SpellsTyped ty x.value ts (punct 44 ∷ s.0)) e s.1), bare_parts (y ∷ xs) s.0 us b.1 s.2)
 
 first_rest : (o : Operand) (rest : List Operand) (ts us : List Lexeme) (t : TypeTree) → o.ty ≡ Some t → all_bare rest ≡ true → SpellsParts SpellsOperand (operands_of (o ∷ rest)) ts us
@@ -131,7 +133,7 @@ unfolding bracket_at
 bracket_at-sound ts i p = by (repeat_at ts) refl p
   where
     by : (o : Option InstText) → repeat_at ts ≡ o → or_else o (array_at ts) ≡ Some i → SpellsInst i (punct 91 ∷ ts)
-    by (Some x) e q = subst (λ y. SpellsInst y (punct 91 ∷ ts)) (some_inj x i q) (repeat_at-sound ts x e)
+    by (Some x) e q = subst (λ y. SpellsInst y (punct 91 ∷ ts)) (same_Some x i q) (repeat_at-sound ts x e)
     by None e q = array_at-sound ts i q
 
 free_parts : (os : List OperandText) (ts us : List Lexeme) → SpellsParts SpellsBare os ts us → SpellsParts SpellsOperand os ts us
@@ -198,18 +200,18 @@ fields-sound [] fs ts us p s = absurd s
 fields-sound (o ∷ []) fs ts us p s =
     let a = bind_some o.ty _ fs p in
     let f = field_type o a.0 ts us a.1 s in
-    subst (λ l. AreFields (o ∷ []) l ts us) (some_inj (a.0 ∷ []) fs a.2)
-    (record { spelled = (a.0, a.1, f); written = written-some o.ty a.0 [] a.1; data_types = λ h. (limited_data a.0 (both (is_data a.0) true h).0 f.1, tt) })
+    subst (λ l. AreFields (o ∷ []) l ts us) (same_Some (a.0 ∷ []) fs a.2)
+    (record { spelled = (a.0, a.1, f); written = written-some o.ty a.0 [] a.1; data_types = λ h. (limited_data a.0 (and_parts (is_data a.0) true h).0 f.1, tt) })
 fields-sound (o ∷ x ∷ os) fs ts us p s =
     let a = bind_some o.ty _ fs p in
     let b = bind_some (fields_of (x ∷ os)) _ fs a.2 in
     let f = field_type o a.0 ts (punct 44 ∷ s.0) a.1 s.1 in
     let r = fields-sound (x ∷ os) b.0 s.0 us b.1 s.2 in
-    subst (λ l. AreFields (o ∷ x ∷ os) l ts us) (some_inj (a.0 ∷ b.0) fs b.2)
+    subst (λ l. AreFields (o ∷ x ∷ os) l ts us) (same_Some (a.0 ∷ b.0) fs b.2)
     (record {
       spelled = (s.0, (a.0, a.1, f), r.spelled);
       written = written-some o.ty a.0 (written_types (operands_of (x ∷ os))) a.1 ∙ ap (λ l. a.0 ∷ l) r.written;
-      data_types = λ h. let d = both (is_data a.0) (all_data (row_of b.0)) h in (limited_data a.0 d.0 f.1, r.data_types d.1);
+      data_types = λ h. let d = and_parts (is_data a.0) (all_data (row_of b.0)) h in (limited_data a.0 d.0 f.1, r.data_types d.1);
     })
 
 tuple_data : (r : TypeRow) → tuple_fault r ≡ None → all_data r ≡ true

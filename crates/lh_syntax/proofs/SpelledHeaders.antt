@@ -1,6 +1,8 @@
 -- The heads of units and declarations: what is found is spelled so, and what is spelled so is found.
-use Rattle.std.proofs.Common.{◌≡◌, ℕ, Bool, true, false, List, [], ◌∷◌, ◌++◌, map, Option, Some, None, refl, ap, sym, ◌∙◌, subst, inl, inr}
+use Rattle.std.proofs.Common.{◌≡◌, ℕ, Bool, true, false, List, [], ◌∷◌, ◌++◌, map, Option, Some, None, refl, ap, sym, ◌∙◌, subst}
 use Rattle.std.specs.Prelude.{◌&&◌, codes}
+use Rattle.std.proofs.lemmas.Option.{cond_some, same_Some}
+use Rattle.std.proofs.lemmas.Bool.{and_parts, and_from}
 use Rattle.lh_types.specs.Types.{TypeTree, void_type, signal_type, pointer_type}
 use Rattle.lh_unit.specs.Contents.{ArgText}
 use Rattle.lh_unit.specs.Lexemes.{Lexeme, word, local, arrow, punct}
@@ -15,7 +17,7 @@ use Rattle.lh_unit.specs.declared.inst.Declare.TheVariants as declare
 use Rattle.lh_scan.specs.Pieces.{◌>>=◌, unit_name_at, punct_at, arrow_at, end_at, list_at}
 use Rattle.lh_scan.specs.Types.{type_at, no_suffix}
 use Rattle.lh_scan.specs.Shorter.{bind_some}
-use Rattle.lh_scan.proofs.Pieces.{guard, both, some_inj, unit_name_at-sound, unit_name_at-again, punct_at-inv, arrow_at-inv, end_at-inv}
+use Rattle.lh_scan.proofs.Pieces.{unit_name_at-sound, unit_name_at-again, punct_at-inv, arrow_at-inv, end_at-inv}
 use Rattle.lh_scan.proofs.TypeStarts.{punct_at-type, arrow_at-type}
 use Rattle.lh_scan.proofs.SpelledTypes.{type_at-sound, type_at-again, tree-shorter}
 use Rattle.lh_scan.proofs.SpelledLists.{list_at-sound, list_at-again}
@@ -28,6 +30,7 @@ use Rattle.lh_syntax.specs.declared.words.Head.TheVariants as head
 use Rattle.lh_syntax.proofs.SpelledWords.{head_word, head_of-sound}
 use Rattle.lh_syntax.proofs.SpelledOperands.{param_at-sound, param_at-again}
 use Rattle.lh_syntax.proofs.SpelledEach.{list_with, list_each, list_without}
+use Rattle.lh_syntax.proofs.InstsAgain.{name_no_colon}
 
 -- kinds of types
 value-shown : (t : TypeTree) → is_value_type t ≡ true → IsValueType t
@@ -60,12 +63,8 @@ signal-tested : (t : TypeTree) → IsSignal t → is_signal t ≡ true
 signal-tested (signal_type t) h = refl
 signal-tested _ h = absurd h
 
-and_true : (a b : Bool) → a ≡ true → b ≡ true → a && b ≡ true
-and_true true b e f = f
-and_true false b e f = e
-
 item_when-inv : (b : Bool) (i j : LineItem) → item_when b i ≡ Some j → (b ≡ true) × (i ≡ j)
-item_when-inv b i j p = guard b i j p
+item_when-inv b i j p = cond_some b i j p
 
 -- `{` at the end of the line
 brace-inv : (ts : List Lexeme) (u : Unit {0}) → brace_at ts ≡ Some u → ts ≡ punct 123 ∷ []
@@ -89,7 +88,7 @@ params-sound ts r p =
     let b = bind_some (list_at param_at 41 a.0) _ r a.2 in
     let c = bind_some (punct_at 41 b.0.1) _ r b.2 in
     let s = subst (SpellsList SpellsNamed b.0.0 a.0) (punct_at-inv 41 b.0.1 c.0 c.1) (list_at-sound param_at SpellsNamed param_at-sound 41 a.0 b.0 b.1) in
-    subst (λ (x : List TypedName × List Lexeme). InParens SpellsNamed x.0 ts x.1) (some_inj (b.0.0, c.0) r c.2) (record { first = a.0; opened = punct_at-inv 40 ts a.0 a.1; spelled = s })
+    subst (λ (x : List TypedName × List Lexeme). InParens SpellsNamed x.0 ts x.1) (same_Some (b.0.0, c.0) r c.2) (record { first = a.0; opened = punct_at-inv 40 ts a.0 a.1; spelled = s })
 
 params-again : (xs : List TypedName) (us vs : List Lexeme) → SpellsList SpellsNamed xs us (punct 41 ∷ vs) → params_at (punct 40 ∷ us) ≡ Some (xs, vs)
 unfolding params_at
@@ -106,7 +105,7 @@ types-sound ts r p =
     let b = bind_some (list_at type_at 41 a.0) _ r a.2 in
     let c = bind_some (punct_at 41 b.0.1) _ r b.2 in
     let s = subst (SpellsList SpellsType b.0.0 a.0) (punct_at-inv 41 b.0.1 c.0 c.1) (list_at-sound type_at SpellsType type_at-sound 41 a.0 b.0 b.1) in
-    subst (λ (x : List TypeTree × List Lexeme). InParens SpellsType x.0 ts x.1) (some_inj (b.0.0, c.0) r c.2) (record { first = a.0; opened = punct_at-inv 40 ts a.0 a.1; spelled = s })
+    subst (λ (x : List TypeTree × List Lexeme). InParens SpellsType x.0 ts x.1) (same_Some (b.0.0, c.0) r c.2) (record { first = a.0; opened = punct_at-inv 40 ts a.0 a.1; spelled = s })
 
 whole_parts : (xs : List TypeTree) (ts us : List Lexeme) → no_suffix us ≡ true → SpellsParts SpellsType xs ts us → SpellsParts (λ t vs ws. SpellsType t vs ws × (no_suffix ws ≡ true)) xs ts us
 whole_parts [] ts us h s = s
@@ -132,7 +131,7 @@ func-sound n ts i p name m =
     let t = bind_some (type_at a.0.1) _ i a.2 in
     let b = bind_some (brace_at t.0.1) _ i t.2 in
     let g = item_when-inv (are_values a.0.0 && is_result_type t.0.0) (header_item kind.Func n (map input_of a.0.0) (Some t.0.0)) i b.2 in
-    let h = both (are_values a.0.0) (is_result_type t.0.0) g.0 in
+    let h = and_parts (are_values a.0.0) (is_result_type t.0.0) g.0 in
     let x = params-sound ts a.0 a.1 in
     let s = subst (SpellsType t.0.0 a.0.1) (brace-inv t.0.1 b.0 b.1) (type_at-sound a.0.1 t.0 t.1) in
     let v = list_with SpellsNamed (λ q. IsValueType q.ty) (λ q. is_value_type q.ty) (λ q e. value-shown q.ty e) a.0.0 x.first (punct 41 ∷ a.0.1) h.0 x.spelled in
@@ -145,7 +144,7 @@ func-again : (n : UnitName) (args : List ArgText) (t : TypeTree) (ts : List Lexe
 unfolding func_at brace_at
 func-again n args t ts s =
     let e : are_values s.params && is_result_type t ≡ true =
-    and_true (are_values s.params) (is_result_type t) (list_each SpellsNamed (λ q. IsValueType q.ty) (λ q. is_value_type q.ty) (λ q h. value-tested q.ty h) s.params s.first (punct 41 ∷ s.second) s.spelled_params) (result-tested t s.fits) in
+    and_from (are_values s.params) (is_result_type t) (list_each SpellsNamed (λ q. IsValueType q.ty) (λ q. is_value_type q.ty) (λ q h. value-tested q.ty h) s.params s.first (punct 41 ∷ s.second) s.spelled_params) (result-tested t s.fits) in
     ap (func_at n) s.opened
     ∙ ap (λ x. x >>= λ a. (type_at a.1 >>= λ y. (brace_at y.1 >>= λ _. item_when (are_values a.0 && is_result_type y.0) (header_item kind.Func n (map input_of a.0) (Some y.0)))))
     (params-again s.params s.first s.second (list_without SpellsNamed (λ q. IsValueType q.ty) (λ q. is_value_type q.ty) s.params s.first (punct 41 ∷ s.second) s.spelled_params))
@@ -156,7 +155,7 @@ func-again n args t ts s =
 
 -- processes and entities
 ports_when-inv : (b : Bool) (ins outs : List TypedName) (args : List ArgText) → ports_when b ins outs ≡ Some args → (b ≡ true) × (map input_of ins ++ map output_of outs ≡ args)
-ports_when-inv true ins outs args p = (refl, some_inj _ args p)
+ports_when-inv true ins outs args p = (refl, same_Some _ args p)
 ports_when-inv false ins outs args p = cc
 
 ports-sound : (ts : List Lexeme) (args : List ArgText) → ports_at ts ≡ Some args → SpellsPorts args ts
@@ -167,7 +166,7 @@ ports-sound ts args p =
     let c = bind_some (params_at b.0) _ args b.2 in
     let d = bind_some (brace_at c.0.1) _ args c.2 in
     let g = ports_when-inv (are_ports a.0.0 && are_ports c.0.0) a.0.0 c.0.0 args d.2 in
-    let h = both (are_ports a.0.0) (are_ports c.0.0) g.0 in
+    let h = and_parts (are_ports a.0.0) (are_ports c.0.0) g.0 in
     let x = params-sound ts a.0 a.1 in
     let y = params-sound b.0 c.0 c.1 in
     let s = subst (λ l. SpellsList SpellsNamed a.0.0 x.first (punct 41 ∷ l)) (arrow_at-inv a.0.1 b.0 b.1 ∙ ap (λ l. arrow ∷ l) y.opened) x.spelled in
@@ -193,7 +192,7 @@ ports-again : (args : List ArgText) (ts : List Lexeme) → SpellsPorts args ts �
 unfolding ports_at brace_at
 ports-again args ts s =
     let e : are_ports s.inputs && are_ports s.outputs ≡ true =
-    and_true (are_ports s.inputs) (are_ports s.outputs) (are_ports-again s.inputs s.first (punct 41 ∷ arrow ∷ punct 40 ∷ s.second) s.spelled_inputs) (are_ports-again s.outputs s.second (punct 41 ∷ punct 123 ∷ []) s.spelled_outputs) in
+    and_from (are_ports s.inputs) (are_ports s.outputs) (are_ports-again s.inputs s.first (punct 41 ∷ arrow ∷ punct 40 ∷ s.second) s.spelled_inputs) (are_ports-again s.outputs s.second (punct 41 ∷ punct 123 ∷ []) s.spelled_outputs) in
     ap ports_at s.opened
     ∙ ap (λ x. x >>= λ a. (arrow_at a.1 >>= λ b. (params_at b >>= λ c. (brace_at c.1 >>= λ _. ports_when (are_ports a.0 && are_ports c.0) a.0 c.0))))
     (params-again s.inputs s.first (arrow ∷ punct 40 ∷ s.second) (ports_named s.inputs s.first (punct 41 ∷ arrow ∷ punct 40 ∷ s.second) s.spelled_inputs))
@@ -204,7 +203,7 @@ ports-again args ts s =
 
 unit-inv : (k : UnitKind) (n : UnitName) (ts : List Lexeme) (i : LineItem) → unit_at k n ts ≡ Some i → (args : List ArgText) × SpellsPorts args ts × (header_item k n args None ≡ i)
 unfolding unit_at
-unit-inv k n ts i p = let a = bind_some (ports_at ts) _ i p in (a.0, ports-sound ts a.0 a.1, some_inj (header_item k n a.0 None) i a.2)
+unit-inv k n ts i p = let a = bind_some (ports_at ts) _ i p in (a.0, ports-sound ts a.0 a.1, same_Some (header_item k n a.0 None) i a.2)
 
 unit-again : (k : UnitKind) (n : UnitName) (args : List ArgText) (ts : List Lexeme) → SpellsPorts args ts → unit_at k n ts ≡ Some (header_item k n args None)
 unfolding unit_at
@@ -217,7 +216,7 @@ declare_func-sound n ps us ts i p x name m =
     let t = bind_some (type_at us) _ i p in
     let b = bind_some (end_at t.0.1) _ i t.2 in
     let g = item_when-inv (each is_value_type ps && is_result_type t.0.0) (declare_item (declare.Func n ps t.0.0)) i b.2 in
-    let h = both (each is_value_type ps) (is_result_type t.0.0) g.0 in
+    let h = and_parts (each is_value_type ps) (is_result_type t.0.0) g.0 in
     let s = subst (SpellsType t.0.0 us) (end_at-inv t.0.1 b.0 b.1) (type_at-sound us t.0 t.1) in
     let v = list_with SpellsType IsValueType is_value_type value-shown ps x.first (punct 41 ∷ us) h.0 x.spelled in
     let e = ap (λ l. word (codes "declare") ∷ name ∷ l) x.opened in
@@ -231,7 +230,7 @@ declare_unit-sound n ins us vs ts i p f x name m =
     let a = bind_some (types_at vs) _ i p in
     let b = bind_some (end_at a.0.1) _ i a.2 in
     let g = item_when-inv (each is_signal ins && each is_signal a.0.0) (declare_item (declare.Unit n ins a.0.0)) i b.2 in
-    let h = both (each is_signal ins) (each is_signal a.0.0) g.0 in
+    let h = and_parts (each is_signal ins) (each is_signal a.0.0) g.0 in
     let y = types-sound vs a.0 a.1 in
     let s = subst (λ l. SpellsList SpellsType ins x.first (punct 41 ∷ l)) (f ∙ ap (λ l. arrow ∷ l) y.opened) x.spelled in
     let t = subst (λ l. SpellsList SpellsType a.0.0 y.first (punct 41 ∷ l)) (end_at-inv a.0.1 b.0 b.1) y.spelled in
@@ -253,7 +252,7 @@ declare-again : (d : Declare) (ts : List Lexeme) → SpellsDeclare d ts → (n :
 unfolding declare_at declare_func_at declare_unit_at
 declare-again (declare.Func n ps r) ts s =
     let e : each is_value_type ps && is_result_type r ≡ true =
-    and_true (each is_value_type ps) (is_result_type r) (list_each SpellsType IsValueType is_value_type value-tested ps s.1 (punct 41 ∷ s.2) s.5) (result-tested r s.7) in
+    and_from (each is_value_type ps) (is_result_type r) (list_each SpellsType IsValueType is_value_type value-tested ps s.1 (punct 41 ∷ s.2) s.5) (result-tested r s.7) in
     let f : declare_at n (punct 40 ∷ s.1) ≡ Some (declare_item (declare.Func n ps r)) =
     ap (λ x. x >>= λ a. declare_or n a.0 a.1 (arrow_at a.1)) (types-again ps s.1 s.2 (list_without SpellsType IsValueType is_value_type ps s.1 (punct 41 ∷ s.2) s.5))
     ∙ ap (declare_or n ps s.2) (arrow_at-type r s.2 [] s.6.0)
@@ -262,7 +261,7 @@ declare-again (declare.Func n ps r) ts s =
     (n, s.0, punct 40 ∷ s.1, s.3, s.4, f)
 declare-again (declare.Unit n ins outs) ts s =
     let e : each is_signal ins && each is_signal outs ≡ true =
-    and_true (each is_signal ins) (each is_signal outs) (list_each SpellsType IsSignal is_signal signal-tested ins s.1 (punct 41 ∷ arrow ∷ punct 40 ∷ s.2) s.5) (list_each SpellsType IsSignal is_signal signal-tested outs s.2 (punct 41 ∷ []) s.6) in
+    and_from (each is_signal ins) (each is_signal outs) (list_each SpellsType IsSignal is_signal signal-tested ins s.1 (punct 41 ∷ arrow ∷ punct 40 ∷ s.2) s.5) (list_each SpellsType IsSignal is_signal signal-tested outs s.2 (punct 41 ∷ []) s.6) in
     let f : declare_at n (punct 40 ∷ s.1) ≡ Some (declare_item (declare.Unit n ins outs)) =
     ap (λ x. x >>= λ a. declare_or n a.0 a.1 (arrow_at a.1)) (types-again ins s.1 (arrow ∷ punct 40 ∷ s.2) (list_without SpellsType IsSignal is_signal ins s.1 (punct 41 ∷ arrow ∷ punct 40 ∷ s.2) s.5))
     ∙ ap (λ x. x >>= λ a. (end_at a.1 >>= λ _. item_when (each is_signal ins && each is_signal a.0) (declare_item (declare.Unit n ins a.0)))) (types-again outs s.2 [] (list_without SpellsType IsSignal is_signal outs s.2 (punct 41 ∷ []) s.6))
@@ -298,9 +297,6 @@ pub record IsHead (i : LineItem) (ts : List Lexeme) : Type 0 where
   pub known : head_of keyword ≡ Some head
   pub found : head_at head rest ≡ Some i
   pub no_colon : punct_at 58 rest ≡ None
-
-name_no_colon : (n : UnitName) (name : Lexeme) (us : List Lexeme) → SpellsUnitName n name → punct_at 58 (name ∷ us) ≡ None
-name_no_colon n name us m = elim m [ inl p ↦ ap (λ t. punct_at 58 (t ∷ us)) p.1 | inr p ↦ ap (λ t. punct_at 58 (t ∷ us)) p.1 ]
 
 named-again : (h : Head) (n : UnitName) (name : Lexeme) (us : List Lexeme) (i : LineItem) → SpellsUnitName n name → named_at h n us ≡ Some i → head_at h (name ∷ us) ≡ Some i
 unfolding head_at

@@ -2,6 +2,7 @@
 use Rattle.std.proofs.Common.{◌≡◌, ℕ, Bool, true, false, List, [], ◌∷◌, Option, Some, None, nat_eq, refl, ap, sym, ◌∙◌, subst, arith, inl, inr}
 use Rattle.std.specs.Prelude.{if◌then◌else◌, option_map, Result, Ok, Err, IfOk}
 use Rattle.std.proofs.lemmas.Grind.{common_steps}
+use Rattle.std.proofs.lemmas.Option.{cond_some, same_Some}
 use Rattle.lh_types.specs.declared.ty.NoMemory.{NoMemory}
 use Rattle.lh_unit.specs.Contents.{InstText}
 use Rattle.lh_unit.specs.Lexemes.{Lexeme, word, local, punct}
@@ -9,7 +10,7 @@ use Rattle.lh_unit.specs.SpellsInst.{gives_value, may_stand_alone, SpellsLine}
 use Rattle.lh_unit.specs.Spells.{LineItem, empty_item, header_item, declare_item, label_item, inst_item, close_item, Spells, SpellsLabel}
 use Rattle.lh_scan.specs.Pieces.{◌>>=◌, name_at, punct_at, end_at}
 use Rattle.lh_scan.specs.Shorter.{bind_some}
-use Rattle.lh_scan.proofs.Pieces.{guard, some_inj, name_at-inv, name_at-again, punct_at-inv, end_at-inv}
+use Rattle.lh_scan.proofs.Pieces.{name_at-inv, name_at-again, punct_at-inv, end_at-inv}
 use Rattle.lh_syntax.specs.SpelledBy.{SpelledBy}
 use Rattle.lh_syntax.specs.SyntaxOf.{item_of}
 use Rattle.lh_syntax.specs.Words.{head_of}
@@ -25,7 +26,7 @@ use Rattle.lh_syntax.proofs.SpelledHeaders.{head_at-sound, IsHead, header-again,
 -- a label
 label-inv : (n : List ℕ) (ts : List Lexeme) (i : LineItem) → label_at n ts ≡ Some i → (ts ≡ []) × (label_item n ≡ i)
 unfolding label_at
-label-inv n ts i p = let a = bind_some (end_at ts) _ i p in (end_at-inv ts a.0 a.1, some_inj (label_item n) i a.2)
+label-inv n ts i p = let a = bind_some (end_at ts) _ i p in (end_at-inv ts a.0 a.1, same_Some (label_item n) i a.2)
 
 local_label-sound : (n : List ℕ) (ts us : List Lexeme) (i : LineItem) → ts ≡ punct 58 ∷ us → label_at n us ≡ Some i → Spells (local n ∷ ts) i
 local_label-sound n ts us i e p =
@@ -49,7 +50,7 @@ unfolding assigned_at
 assigned-sound r ts i p =
     let a = bind_some (punct_at 61 ts) _ i p in
     let b = bind_some (inst_at a.0) _ i a.2 in
-    let g = guard (gives_value b.0) (inst_item (record { result = Some r; inst = b.0 })) i b.2 in
+    let g = cond_some (gives_value b.0) (inst_item (record { result = Some r; inst = b.0 })) i b.2 in
     let q : Spells (local r ∷ ts) (inst_item (record { result = Some r; inst = b.0 })) = (a.0, ap (λ l. local r ∷ l) (punct_at-inv 61 ts a.0 a.1), g.0, inst_at-sound a.0 b.0 b.1) in
     subst (Spells (local r ∷ ts)) g.1 q
 
@@ -57,7 +58,7 @@ alone-sound : (w : List ℕ) (ts : List Lexeme) (i : LineItem) → alone_at w ts
 unfolding alone_at
 alone-sound w ts i p =
     let a = bind_some (worded_at w ts) _ i p in
-    let g = guard (may_stand_alone a.0) (inst_item (record { result = None; inst = a.0 })) i a.2 in
+    let g = cond_some (may_stand_alone a.0) (inst_item (record { result = None; inst = a.0 })) i a.2 in
     let q : Spells (word w ∷ ts) (inst_item (record { result = None; inst = a.0 })) = (g.0, worded_at-sound w ts a.0 a.1) in
     subst (Spells (word w ∷ ts)) g.1 q
 
@@ -90,12 +91,12 @@ close-sound b ts i p = by (nat_eq b 125) refl p
     by true e q =
         let a = bind_some (end_at ts) _ i q in let f = is b 125 e in let g = end_at-inv ts a.0 a.1 in
         let s : Spells (punct b ∷ ts) close_item = λ j. punct (f j) ∷ g j in
-        subst (Spells (punct b ∷ ts)) (some_inj close_item i a.2) s
+        subst (Spells (punct b ∷ ts)) (same_Some close_item i a.2) s
     by false e q = cc
 
 pub item_at-sound : (ts : List Lexeme) (i : LineItem) → item_at ts ≡ Some i → Spells ts i
 unfolding item_at
-item_at-sound [] i p = subst (Spells []) (some_inj empty_item i p) refl
+item_at-sound [] i p = subst (Spells []) (same_Some empty_item i p) refl
 item_at-sound (local r ∷ ts) i p = behind_local-sound r ts i p
 item_at-sound (word w ∷ ts) i p = behind_word-sound w ts i p
 item_at-sound (punct b ∷ ts) i p = close-sound b ts i p
@@ -143,7 +144,7 @@ item_at-again ts close_item s = ap item_at s
 -- what is found is spelled by the tokens, and it alone
 pub spelled_by : (ts : List Lexeme) (o : Option LineItem) → o ≡ item_at ts → SpelledBy ts o
 spelled_by ts None e = λ j s. let f : None ≡ Some j = e ∙ item_at-again ts j s in cc
-spelled_by ts (Some i) e = (item_at-sound ts i (sym e), λ j s. some_inj j i (sym (item_at-again ts j s) ∙ sym e))
+spelled_by ts (Some i) e = (item_at-sound ts i (sym e), λ j s. same_Some j i (sym (item_at-again ts j s) ∙ sym e))
 
 pub line_spelled_by : (ts : List Lexeme) (r : Result (Option LineSyntax) NoMemory) → IfOk r (λ o. option_map item_of o ≡ item_at ts) → IfOk r (λ o. SpelledBy ts (option_map item_of o))
 line_spelled_by ts (Ok o) h = spelled_by ts (option_map item_of o) h

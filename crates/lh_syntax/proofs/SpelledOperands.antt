@@ -1,6 +1,7 @@
 -- Operands and the other parts of lists: what is found is spelled so, and what is spelled so is found.
 use Rattle.std.proofs.Common.{◌≡◌, ℕ, true, List, [], ◌∷◌, Option, Some, None, nat_eq, refl, ap, sym, ◌∙◌, subst}
 use Rattle.std.specs.Prelude.{codes, if◌then◌else◌}
+use Rattle.std.proofs.lemmas.Option.{same_Some}
 use lib.Pointwise.{pointwise}
 use Rattle.lh_types.specs.Types.{TypeTree}
 use Rattle.lh_unit.specs.Contents.{OperandText, TriggerText, EdgeText}
@@ -13,7 +14,7 @@ use Rattle.lh_unit.specs.SpellsInst.{SpellsColumns}
 use Rattle.lh_scan.specs.Pieces.{◌>>=◌, word_at, any_word_at, local_at, punct_at}
 use Rattle.lh_scan.specs.Shorter.{bind_some}
 use Rattle.lh_scan.specs.Types.{type_at}
-use Rattle.lh_scan.proofs.Pieces.{some_inj, word_at-inv, any_word_at-inv, local_at-inv, punct_at-inv}
+use Rattle.lh_scan.proofs.Pieces.{word_at-inv, any_word_at-inv, local_at-inv, punct_at-inv}
 use Rattle.lh_scan.proofs.TypeStarts.{local_at-type}
 use Rattle.lh_scan.proofs.SpelledTypes.{type_at-sound, type_at-again}
 use Rattle.lh_syntax.specs.SyntaxOf.{operand_of, operands_of, trigger_of, edge_of}
@@ -38,7 +39,7 @@ typed_at-sound ts r p =
     let b = bind_some (local_at a.0.1) _ r a.2 in
     let s = subst (SpellsType a.0.0 ts) (local_at-inv a.0.1 b.0 b.1) (type_at-sound ts a.0 a.1) in
     let t : SpellsWithType (record { value = b.0.0; ty = Some a.0.0 }) ts b.0.1 = (a.0.0, refl, s) in
-    subst (λ (x : Operand × List Lexeme). SpellsWithType (operand_of x.0) ts x.1) (some_inj _ r b.2) t
+    subst (λ (x : Operand × List Lexeme). SpellsWithType (operand_of x.0) ts x.1) (same_Some _ r b.2) t
 
 pub typed_at-again : (o : OperandText) (ts us : List Lexeme) → SpellsWithType o ts us → typed_at ts ≡ Some (operand_as o, us)
 unfolding typed_at
@@ -52,7 +53,7 @@ unfolding bare_at
 bare_at-sound ts r p =
     let b = bind_some (local_at ts) _ r p in
     let t : SpellsBare (record { value = b.0.0; ty = None }) ts b.0.1 = (refl, local_at-inv ts b.0 b.1) in
-    subst (λ (x : Operand × List Lexeme). SpellsBare (operand_of x.0) ts x.1) (some_inj _ r b.2) t
+    subst (λ (x : Operand × List Lexeme). SpellsBare (operand_of x.0) ts x.1) (same_Some _ r b.2) t
 
 bare_at-again : (o : OperandText) (ts us : List Lexeme) → SpellsBare o ts us → bare_at ts ≡ Some (operand_as o, us)
 unfolding bare_at
@@ -70,7 +71,7 @@ unfolding free_at
 free_at-sound ts r p = by (bare_at ts) refl p
   where
     by : (o : Option (Operand × List Lexeme)) → bare_at ts ≡ o → or_else o (typed_at ts) ≡ Some r → SpellsOperand (operand_of r.0) ts r.1
-    by (Some x) e q = subst (λ (y : Operand × List Lexeme). SpellsOperand (operand_of y.0) ts y.1) (some_inj x r q) (bare_free (operand_of x.0) ts x.1 (bare_at-sound ts x e))
+    by (Some x) e q = subst (λ (y : Operand × List Lexeme). SpellsOperand (operand_of y.0) ts y.1) (same_Some x r q) (bare_free (operand_of x.0) ts x.1 (bare_at-sound ts x e))
     by None e q = typed_free (operand_of r.0) ts r.1 (typed_at-sound ts r q)
 
 free_again : (ty : Option TypeTree) (n : List ℕ) (ts us : List Lexeme) → SpellsTyped ty n ts us → free_at ts ≡ Some (record { value = n; ty = ty }, us)
@@ -96,7 +97,7 @@ unfolding one_at
 one_at-sound ts r p =
     let a = bind_some (typed_at ts) _ r p in
     let t : SpellsColumns (columns_of written.One) (operands_of (a.0.0 ∷ [])) ts a.0.1 = typed_at-sound ts a.0 a.1 in
-    subst (λ (x : List Operand × List Lexeme). SpellsColumns (columns_of written.One) (operands_of x.0) ts x.1) (some_inj _ r a.2) t
+    subst (λ (x : List Operand × List Lexeme). SpellsColumns (columns_of written.One) (operands_of x.0) ts x.1) (same_Some _ r a.2) t
 
 two_at-sound : (ts : List Lexeme) (r : List Operand × List Lexeme) → two_at ts ≡ Some r → SpellsColumns (columns_of written.Two) (operands_of r.0) ts r.1
 unfolding two_at
@@ -106,7 +107,7 @@ two_at-sound ts r p =
     let n = next_bare-sound a.0.1 b.0 b.1 in
     let f = subst (SpellsWithType (operand_of a.0.0) ts) n.1 (typed_at-sound ts a.0 a.1) in
     let t : SpellsColumns (columns_of written.Two) (operands_of (a.0.0 ∷ b.0.0 ∷ [])) ts b.0.1 = (n.0, f, n.2) in
-    subst (λ (x : List Operand × List Lexeme). SpellsColumns (columns_of written.Two) (operands_of x.0) ts x.1) (some_inj _ r b.2) t
+    subst (λ (x : List Operand × List Lexeme). SpellsColumns (columns_of written.Two) (operands_of x.0) ts x.1) (same_Some _ r b.2) t
 
 shift_at-sound : (ts : List Lexeme) (r : List Operand × List Lexeme) → shift_at ts ≡ Some r → SpellsColumns (columns_of written.Shift) (operands_of r.0) ts r.1
 unfolding shift_at
@@ -119,7 +120,7 @@ shift_at-sound ts r p =
     let f = subst (SpellsWithType (operand_of a.0.0) ts) m.1 (typed_at-sound ts a.0 a.1) in
     let g = subst (SpellsOperand (operand_of b.0.0) m.0) n.1 m.2 in
     let t : SpellsColumns (columns_of written.Shift) (operands_of (a.0.0 ∷ b.0.0 ∷ c.0.0 ∷ [])) ts c.0.1 = (m.0, f, (n.0, g, n.2)) in
-    subst (λ (x : List Operand × List Lexeme). SpellsColumns (columns_of written.Shift) (operands_of x.0) ts x.1) (some_inj _ r c.2) t
+    subst (λ (x : List Operand × List Lexeme). SpellsColumns (columns_of written.Shift) (operands_of x.0) ts x.1) (same_Some _ r c.2) t
 
 pub columns_at-sound : (c : Columns) (ts : List Lexeme) (r : List Operand × List Lexeme) → columns_at c ts ≡ Some r → SpellsColumns (columns_of c) (operands_of r.0) ts r.1
 columns_at-sound written.One ts r p = one_at-sound ts r p
@@ -167,11 +168,11 @@ unfolding maybe_at
 maybe_at-sound keyword ts r p = by (word_at keyword ts) refl p
   where
     by : (o : Option (List Lexeme)) → word_at keyword ts ≡ o → maybe_or ts o ≡ Some r → SpellsMaybe keyword r.0 ts r.1
-    by None e q = subst (λ (x : Option (List ℕ) × List Lexeme). SpellsMaybe keyword x.0 ts x.1) (some_inj (None, ts) r q) refl
+    by None e q = subst (λ (x : Option (List ℕ) × List Lexeme). SpellsMaybe keyword x.0 ts x.1) (same_Some (None, ts) r q) refl
     by (Some us) e q =
         let b = bind_some (local_at us) _ r q in
         let t : SpellsMaybe keyword (Some b.0.0) ts b.0.1 = word_at-inv keyword ts us e ∙ ap (λ l. word keyword ∷ l) (local_at-inv us b.0 b.1) in
-        subst (λ (x : Option (List ℕ) × List Lexeme). SpellsMaybe keyword x.0 ts x.1) (some_inj _ r b.2) t
+        subst (λ (x : Option (List ℕ) × List Lexeme). SpellsMaybe keyword x.0 ts x.1) (same_Some _ r b.2) t
 
 pub maybe_at-again : (keyword : List ℕ) → pointwise nat_eq keyword keyword ≡ true → (o : Option (List ℕ)) (ts us : List Lexeme) → SpellsMaybe keyword o ts us → word_at keyword us ≡ None → maybe_at keyword ts ≡ Some (o, us)
 unfolding maybe_at
@@ -195,7 +196,7 @@ trigger_at-sound ts r p =
     w.0.0 w.0.1 (any_word_at-inv b.0 w.0 w.1) (mode_word m.0) (mode_of-sound w.0.0 m.0 m.1) t.0.0 t.0.1 (local_at-inv w.0.1 t.0 t.1) in
     let f = subst (SpellsMaybe (codes "after") d.0.0 g.0.1) (punct_at-inv 93 d.0.1 z.0 z.1) (maybe_at-sound (codes "after") g.0.1 d.0 d.1) in
     let s : SpellsTrigger (record { value = v.0.0; mode = m.0; trigger = t.0.0; gate = g.0.0; after = d.0.0 }) ts z.0 = (t.0.1, g.0.1, e, maybe_at-sound (codes "if") t.0.1 g.0 g.1, f) in
-    subst (λ (x : Trigger × List Lexeme). SpellsTrigger (trigger_of x.0) ts x.1) (some_inj _ r z.2) s
+    subst (λ (x : Trigger × List Lexeme). SpellsTrigger (trigger_of x.0) ts x.1) (same_Some _ r z.2) s
   where
     opened : (ts rest : List Lexeme) → ts ≡ punct 91 ∷ rest → (v : List ℕ) (vs : List Lexeme) → rest ≡ local v ∷ vs → (bs : List Lexeme) → vs ≡ punct 44 ∷ bs
         → (w : List ℕ) (ws : List Lexeme) → bs ≡ word w ∷ ws → (m : List ℕ) → w ≡ m → (t : List ℕ) (us : List Lexeme) → ws ≡ local t ∷ us
@@ -234,7 +235,7 @@ edge_at-sound ts r p =
     let s : SpellsEdge (record { value = v.0.0; block = l.0.0 }) ts z.0 =
     punct_at-inv 91 ts a.0 a.1 ∙ ap (λ x. punct 91 ∷ x) (local_at-inv a.0 v.0 v.1 ∙ ap (λ x. local v.0.0 ∷ x) (punct_at-inv 44 v.0.1 b.0 b.1
     ∙ ap (λ x. punct 44 ∷ x) (local_at-inv b.0 l.0 l.1 ∙ ap (λ x. local l.0.0 ∷ x) (punct_at-inv 93 l.0.1 z.0 z.1)))) in
-    subst (λ (x : Edge × List Lexeme). SpellsEdge (edge_of x.0) ts x.1) (some_inj _ r z.2) s
+    subst (λ (x : Edge × List Lexeme). SpellsEdge (edge_of x.0) ts x.1) (same_Some _ r z.2) s
 
 -- an edge as the program holds it
 abbrev pub edge_as : EdgeText → Edge
@@ -251,7 +252,7 @@ param_at-sound ts r p =
     let a = bind_some (type_at ts) _ r p in
     let b = bind_some (local_at a.0.1) _ r a.2 in
     let s = subst (SpellsType a.0.0 ts) (local_at-inv a.0.1 b.0 b.1) (type_at-sound ts a.0 a.1) in
-    subst (λ (x : TypedName × List Lexeme). SpellsType x.0.ty ts (local x.0.name ∷ x.1)) (some_inj (record { ty = a.0.0; name = b.0.0 }, b.0.1) r b.2) s
+    subst (λ (x : TypedName × List Lexeme). SpellsType x.0.ty ts (local x.0.name ∷ x.1)) (same_Some (record { ty = a.0.0; name = b.0.0 }, b.0.1) r b.2) s
 
 pub param_at-again : (a : TypedName) (ts us : List Lexeme) → SpellsType a.ty ts (local a.name ∷ us) → param_at ts ≡ Some (a, us)
 unfolding param_at

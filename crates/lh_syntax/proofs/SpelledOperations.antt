@@ -1,5 +1,6 @@
 -- The operations that have a word: what is found is spelled so, and what is spelled so is found.
 use Rattle.std.proofs.Common.{◌≡◌, ℕ, List, [], ◌∷◌, Some, refl, ap, sym, ◌∙◌, subst}
+use Rattle.std.proofs.lemmas.Option.{same_Some}
 use Rattle.lh_types.specs.declared.op.Op.{Op}
 use Rattle.lh_types.specs.declared.op.Op.TheVariants as op
 use Rattle.lh_unit.specs.Contents.{OperandText, InstText, pure_text}
@@ -10,7 +11,7 @@ use Rattle.lh_unit.specs.SpellsParts.{SpellsBehind}
 use Rattle.lh_unit.specs.SpellsInst.{columns, SpellsColumns, IsOpWord, SpellsPure, SpellsInst}
 use Rattle.lh_scan.specs.Pieces.{◌>>=◌, punct_at, end_at}
 use Rattle.lh_scan.specs.Shorter.{bind_some}
-use Rattle.lh_scan.proofs.Pieces.{some_inj, punct_at-inv, end_at-inv}
+use Rattle.lh_scan.proofs.Pieces.{punct_at-inv, end_at-inv}
 use Rattle.lh_scan.proofs.SpelledNumbers.{number_at-sound, number_at-again}
 use Rattle.lh_syntax.specs.SyntaxOf.{operands_of}
 use Rattle.lh_syntax.specs.Operands.{columns_at}
@@ -31,7 +32,7 @@ one_number-sound ts k p =
     let b = bind_some (end_at a.0.1) _ k a.2 in
     let n = behind_number-sound ts a.0 a.1 in
     let s = subst (SpellsNumber a.0.0 n.0) (end_at-inv a.0.1 b.0 b.1) n.2 in
-    (n.0, n.1, subst (λ x. SpellsNumber x n.0 []) (some_inj a.0.0 k b.2) s)
+    (n.0, n.1, subst (λ x. SpellsNumber x n.0 []) (same_Some a.0.0 k b.2) s)
 
 two_numbers-sound : (ts : List Lexeme) (r : ℕ × ℕ) → two_numbers_at ts ≡ Some r → SpellsBehind SpellsNumber (r.0 ∷ r.1 ∷ []) ts []
 unfolding two_numbers_at
@@ -42,28 +43,28 @@ two_numbers-sound ts r p =
     let m = one_number-sound a.0.1 b.0 b.1 in
     let f = subst (SpellsNumber a.0.0 n.0) m.1 n.2 in
     let s : SpellsBehind SpellsNumber (a.0.0 ∷ b.0 ∷ []) ts [] = (n.0, n.1, (m.0, f, m.2)) in
-    subst (λ (x : ℕ × ℕ). SpellsBehind SpellsNumber (x.0 ∷ x.1 ∷ []) ts []) (some_inj (a.0.0, b.0) r b.2) s
+    subst (λ (x : ℕ × ℕ). SpellsBehind SpellsNumber (x.0 ∷ x.1 ∷ []) ts []) (same_Some (a.0.0, b.0) r b.2) s
 
 -- the operation with its numbers is spelled, where its word and its operands stand before them
 numbered-sound : (o p : Op) (w : List ℕ) (args : List OperandText) (us vs : List Lexeme) → HasWord o → IsOpWord o w → SpellsColumns (columns o) args us vs → numbered_at o vs ≡ Some p → SpellsPure p args (word w ∷ us)
 numbered-sound (op.Extf k) p w args us vs h e s q =
     let a = bind_some (one_number_at vs) _ p q in
-    subst (λ x. SpellsPure x args (word w ∷ us)) (some_inj (op.Extf a.0) p a.2) (w, us, vs, refl, e, s, one_number-sound vs a.0 a.1)
+    subst (λ x. SpellsPure x args (word w ∷ us)) (same_Some (op.Extf a.0) p a.2) (w, us, vs, refl, e, s, one_number-sound vs a.0 a.1)
 numbered-sound (op.Insf k) p w args us vs h e s q =
     let a = bind_some (one_number_at vs) _ p q in
-    subst (λ x. SpellsPure x args (word w ∷ us)) (some_inj (op.Insf a.0) p a.2) (w, us, vs, refl, e, s, one_number-sound vs a.0 a.1)
+    subst (λ x. SpellsPure x args (word w ∷ us)) (same_Some (op.Insf a.0) p a.2) (w, us, vs, refl, e, s, one_number-sound vs a.0 a.1)
 numbered-sound (op.Exts at len) p w args us vs h e s q =
     let a = bind_some (two_numbers_at vs) _ p q in
-    subst (λ x. SpellsPure x args (word w ∷ us)) (some_inj (op.Exts a.0.0 a.0.1) p a.2) (w, us, vs, refl, e, s, two_numbers-sound vs a.0 a.1)
+    subst (λ x. SpellsPure x args (word w ∷ us)) (same_Some (op.Exts a.0.0 a.0.1) p a.2) (w, us, vs, refl, e, s, two_numbers-sound vs a.0 a.1)
 numbered-sound (op.Inss at len) p w args us vs h e s q =
     let a = bind_some (two_numbers_at vs) _ p q in
-    subst (λ x. SpellsPure x args (word w ∷ us)) (some_inj (op.Inss a.0.0 a.0.1) p a.2) (w, us, vs, refl, e, s, two_numbers-sound vs a.0 a.1)
+    subst (λ x. SpellsPure x args (word w ∷ us)) (same_Some (op.Inss a.0.0 a.0.1) p a.2) (w, us, vs, refl, e, s, two_numbers-sound vs a.0 a.1)
 numbered-sound op.Array p w args us vs h e s q = absurd h
 numbered-sound (op.Repeat n) p w args us vs h e s q = absurd h
 numbered-sound op.Tuple p w args us vs h e s q = absurd h
 numbered-sound o p w args us vs h e s q =
     let a = bind_some (end_at vs) _ p q in
-    subst (λ x. SpellsPure x args (word w ∷ us)) (some_inj o p a.2) (w, us, vs, refl, e, s, end_at-inv vs a.0 a.1)
+    subst (λ x. SpellsPure x args (word w ∷ us)) (same_Some o p a.2) (w, us, vs, refl, e, s, end_at-inv vs a.0 a.1)
 
 pub word_op-sound : (o : Op) (c : Columns) (w : List ℕ) (ts : List Lexeme) (i : InstText) → IsOpRow w o c → word_op_at o c ts ≡ Some i → SpellsInst i (word w ∷ ts)
 unfolding word_op_at
@@ -71,7 +72,7 @@ word_op-sound o c w ts i row p =
     let a = bind_some (columns_at c ts) _ i p in
     let b = bind_some (numbered_at o a.0.1) _ i a.2 in
     let s = subst (λ l. SpellsColumns l (operands_of a.0.0) ts a.0.1) (sym row.columns) (columns_at-sound c ts a.0 a.1) in
-    subst (λ x. SpellsInst x (word w ∷ ts)) (some_inj (pure_text b.0 (operands_of a.0.0)) i b.2) (numbered-sound o b.0 w (operands_of a.0.0) ts a.0.1 row.has row.word s b.1)
+    subst (λ x. SpellsInst x (word w ∷ ts)) (same_Some (pure_text b.0 (operands_of a.0.0)) i b.2) (numbered-sound o b.0 w (operands_of a.0.0) ts a.0.1 row.has row.word s b.1)
 
 one_number-again : (k : ℕ) (ts : List Lexeme) → SpellsBehind SpellsNumber (k ∷ []) ts [] → one_number_at ts ≡ Some k
 unfolding one_number_at behind_number_at

@@ -2,6 +2,7 @@
 use Rattle.std.proofs.Common.{◌≡◌, ℕ, Bool, true, false, List, [], ◌∷◌, Some, nat_eq, refl, ap, sym, subst, inl, inr}
 use Rattle.std.specs.Prelude.{codes, if◌then◌else◌}
 use Rattle.std.specs.Cmp.Lexicographic.{same_text}
+use Rattle.std.proofs.lemmas.Option.{same_Some}
 use lib.Pointwise.{pointwise}
 use Rattle.lh_types.specs.declared.op.Op.{Op}
 use Rattle.lh_types.specs.declared.op.Op.TheVariants as op
@@ -9,7 +10,6 @@ use Rattle.lh_unit.specs.declared.inst.Mode.{Mode}
 use Rattle.lh_unit.specs.declared.inst.Mode.TheVariants as mode
 use Rattle.lh_unit.specs.CanonWords.{op_word, mode_word}
 use Rattle.lh_unit.specs.SpellsInst.{Column, typed, bare, free, columns, IsOpWord}
-use Rattle.lh_scan.proofs.Pieces.{some_inj}
 use Rattle.lh_syntax.specs.Words.{found, head_rows, form_rows, mode_rows, head_of, form_of, mode_of}
 use Rattle.lh_syntax.specs.declared.words.Head.{Head}
 use Rattle.lh_syntax.specs.declared.words.Head.TheVariants as head
@@ -28,7 +28,7 @@ found-each P [] w x h e = cc
 found-each P (r ∷ rows) w x h e = by (pointwise nat_eq r.0 w) refl e (found-each P rows w x h.1)
   where
     by : (b : Bool) → pointwise nat_eq r.0 w ≡ b → (if b then Some r.1 else found rows w) ≡ Some x → (found rows w ≡ Some x → P w x) → P w x
-    by true f q k = subst (P w) (some_inj r.1 x q) (subst (λ v. P v r.1) (same_text r.0 w (sym f)) h.0)
+    by true f q k = subst (P w) (same_Some r.1 x q) (subst (λ v. P v r.1) (same_text r.0 w (sym f)) h.0)
     by false f q k = k q
 
 -- the word of a register's mode

@@ -1,6 +1,7 @@
 -- What is found as a part of a list takes some of the tokens.
 use Rattle.std.specs.Prelude.{◌≡◌, ℕ, ◌<◌, ◌≤◌, List, length, Option, Some, None, codes, refl}
 use Rattle.std.proofs.Common.{arith, ap, subst}
+use Rattle.std.proofs.lemmas.Option.{same_Some}
 use Rattle.lh_unit.specs.Lexemes.{Lexeme}
 use Rattle.lh_unit.specs.Spells.{TypedName}
 use Rattle.lh_scan.specs.Pieces.{word_at, any_word_at, local_at, punct_at}
@@ -50,9 +51,6 @@ maybe_at-shorter keyword ts r p = by (word_at keyword ts) refl p
         let f : b.0.1 ≡ r.1 = cc in
         omega (arith, word_at-shorter keyword ts us e, local_at-shorter us b.0 b.1, ap length f)
 
-some_is : {A : Type 0} (x y : A) → Some x ≡ Some y → x ≡ y
-some_is x y p = cc
-
 -- eight steps down, of which two may stand still
 down8 : (a b c d e f g h i : ℕ) → b < a → c < b → d < c → e < d → f < e → g ≤ f → h ≤ g → i < h → i < a
 down8 a b c d e f g h i p q r s t u v w = omega arith
@@ -72,7 +70,7 @@ trigger_rest-shorter ts r p =
     let g = bind_some (maybe_at (codes "if") t.0.1) _ r t.2 in
     let d = bind_some (maybe_at (codes "after") g.0.1) _ r g.2 in
     let z = bind_some (punct_at 93 d.0.1) _ r d.2 in
-    subst (λ (x : Trigger × List Lexeme). length x.1 < length ts) (some_is _ r z.2)
+    subst (λ (x : Trigger × List Lexeme). length x.1 < length ts) (same_Some _ r z.2)
     (down8 (length ts) (length a.0) (length v.0.1) (length b.0) (length w.0.1) (length t.0.1) (length g.0.1) (length d.0.1) (length z.0)
     (punct_at-shorter 91 ts a.0 a.1) (local_at-shorter a.0 v.0 v.1) (punct_at-shorter 44 v.0.1 b.0 b.1) (any_word_at-shorter b.0 w.0 w.1) (local_at-shorter w.0.1 t.0 t.1)
     (maybe_at-shorter (codes "if") t.0.1 g.0 g.1) (maybe_at-shorter (codes "after") g.0.1 d.0 d.1) (punct_at-shorter 93 d.0.1 z.0 z.1))
@@ -88,7 +86,7 @@ edge_rest-shorter ts r p =
     let b = bind_some (punct_at 44 v.0.1) _ r v.2 in
     let l = bind_some (local_at b.0) _ r b.2 in
     let z = bind_some (punct_at 93 l.0.1) _ r l.2 in
-    subst (λ (x : Edge × List Lexeme). length x.1 < length ts) (some_is _ r z.2)
+    subst (λ (x : Edge × List Lexeme). length x.1 < length ts) (same_Some _ r z.2)
     (down5 (length ts) (length a.0) (length v.0.1) (length b.0) (length l.0.1) (length z.0)
     (punct_at-shorter 91 ts a.0 a.1) (local_at-shorter a.0 v.0 v.1) (punct_at-shorter 44 v.0.1 b.0 b.1) (local_at-shorter b.0 l.0 l.1) (punct_at-shorter 93 l.0.1 z.0 z.1))
 

@@ -1,8 +1,9 @@
 -- An arena stays in order under changes of one unit, a new unit and a new item.
-use Rattle.std.proofs.Common.{◌≡◌, ◌≢◌, ℕ, ◌-◌, ◌^◌, ◌<◌, ◌≤◌, Bool, true, false, List, [], ◌∷◌, ◌++◌, length, get_or, set, if◌then◌else◌, Option, Some, None, IsSome, slice_get, nat_eq, ◌&&◌, Result, Ok, Err, refl, ap, sym, ◌∙◌, subst, arith, length-append, length-set}
+use Rattle.std.proofs.Common.{◌≡◌, ◌≢◌, ℕ, ◌-◌, ◌^◌, ◌<◌, ◌≤◌, Bool, true, false, List, [], ◌∷◌, ◌++◌, length, get_or, set, if◌then◌else◌, Option, Some, None, IsSome, slice_get, nat_eq, Result, Ok, Err, refl, ap, sym, ◌∙◌, subst, arith, length-append, length-set}
 use Rattle.std.proofs.lemmas.List.{get_or-set_same, get_or-set_other, get_or_past, get_or_read}
 use Rattle.std.proofs.lemmas.Option.{slice_get_within}
 use Rattle.std.specs.List.{list_any}
+use Rattle.std.proofs.lemmas.Bool.{and_parts}
 use lib.Pointwise.{pointwise}
 use Rattle.lh_types.specs.Types.{TypeTree}
 use Rattle.lh_types.specs.declared.ty.NoMemory.{NoMemory}
@@ -289,14 +290,10 @@ IsTable-none = record {
 -- the test of two names of units is equality
 pub same_unit_name-is : (x y : UnitName) → same_unit_name x y ≡ true → x ≡ y
 same_unit_name-is x y p =
-    let b = both (nat_eq x.sigil y.sigil) (pointwise nat_eq x.name y.name) p in
+    let b = and_parts (nat_eq x.sigil y.sigil) (pointwise nat_eq x.name y.name) p in
     let e : x.sigil ≡ y.sigil = nat_eq-is x.sigil y.sigil b.0 in
     let f : x.name ≡ y.name = same_name-is x.name y.name b.1 in
     λ i. record { sigil = e i; name = f i }
-  where
-    both : (b c : Bool) → (b && c) ≡ true → (b ≡ true) × (c ≡ true)
-    both true c q = (refl, q)
-    both false c q = (q, cc)
 
 pub same_unit_name-refl : (x : UnitName) → same_unit_name x x ≡ true
 same_unit_name-refl x = rw (nat_eq-refl x.sigil) (same_name-refl x.name)

@@ -1,8 +1,8 @@
 -- What instructions and blocks name, by ids.
-use Rattle.std.proofs.Common.{◌≡◌, ℕ, ◌<◌, ◌||◌, nat_eq, List, [], ◌∷◌, ◌++◌, map, Option, Some, None, slice_get, refl, ap, sym, ◌∙◌}
+use Rattle.std.proofs.Common.{◌≡◌, ℕ, ◌-◌, ◌<◌, zero, suc, ◌||◌, nat_eq, List, [], ◌∷◌, ◌++◌, length, map, Option, Some, None, slice_get, refl, ap, sym, ◌∙◌, arith}
 use Rattle.std.specs.List.{list_any}
 use Rattle.std.proofs.lemmas.List.{map-append}
-use Rattle.std.proofs.lemmas.Option.{slice_get-get_or}
+use Rattle.std.proofs.lemmas.Option.{slice_get-get_or, slice_get_within}
 use Rattle.lh_types.specs.declared.op.Op.{Op}
 use Rattle.lh_types.specs.declared.op.Op.TheVariants as op
 use Rattle.lh_unit.specs.Contents.{EdgeText, same_name}
@@ -148,6 +148,17 @@ pub last_led_to-within : (a : Arena) (u : ℕ) (is : List InstId) → IsArena a 
 last_led_to-within a u [] o w = tt
 last_led_to-within a u (i ∷ []) o w = led_to-within a u (inst_at a u i.0) (o.placed u i.0 (line_at (table_at a u) i.0) (slice_get-get_or (table_at a u).lines i.0 no_line w.0))
 last_led_to-within a u (i ∷ j ∷ is) o w = last_led_to-within a u (j ∷ is) o w.1
+
+-- the last instruction says where its block leads
+last-of : (t : Table) (is : List InstId) (n : ℕ) (x : InstId) → suc n ≡ length is → slice_get is n ≡ Some x → blocks_led_to (line_at t x.0).inst ≡ last_led_to t is
+last-of t [] n x l e = cc
+last-of t (i ∷ []) zero x l e = let q : i ≡ x = cc in ap (λ (z : InstId). blocks_led_to (line_at t z.0).inst) (sym q)
+last-of t (i ∷ []) (suc n) x l e = absurd (omega arith)
+last-of t (i ∷ j ∷ is) zero x l e = absurd (omega arith)
+last-of t (i ∷ j ∷ is) (suc n) x l e = last-of t (j ∷ is) n x (omega arith) e
+
+pub last-led : (t : Table) (is : List InstId) (x : InstId) → slice_get is (length is - 1) ≡ Some x → blocks_led_to (line_at t x.0).inst ≡ last_led_to t is
+last-led t is x e = last-of t is (length is - 1) x (omega (arith, slice_get_within is (length is - 1) x e)) e
 
 module _ (a : Arena) (u : ℕ) (o : IsArena a) (h : u < unit_count a) where
   among-labels : (bs : List BlockId) (c : ℕ) → c < label_count a u → Each (λ (b : BlockId). b.0 < label_count a u) bs → list_any (λ m. same_name m (label_name_at a u c)) (map (λ (b : BlockId). label_name_at a u b.0) bs) ≡ is_block bs c

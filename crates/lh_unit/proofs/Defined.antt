@@ -67,7 +67,7 @@ flat_lines f t o =
     ∙ ap (map (λ (i : InstId). line_text f (line_at t i.0))) o.in_order
     ∙ lines_by_id (line_text f) t.lines 0 t.lines (λ j w. let m : 0 + j ≡ j = omega arith in ap (λ x. get_or t.lines x no_line) m)
 
-lines_define-append : (n : List ℕ) (xs ys : List LineText) → lines_define n (xs ++ ys) ≡ (lines_define n xs || lines_define n ys)
+pub lines_define-append : (n : List ℕ) (xs ys : List LineText) → lines_define n (xs ++ ys) ≡ (lines_define n xs || lines_define n ys)
 lines_define-append n [] ys = refl
 lines_define-append n (x ∷ xs) ys = ap (λ b. is_result_name n x.result || b) (lines_define-append n xs ys) ∙ sym (or-assoc (is_result_name n x.result) (lines_define n xs) (lines_define n ys))
 

@@ -16,3 +16,4 @@ pub mod ModuleLaws
 pub mod ById
 pub mod ByIdInsts
 pub mod ByIdPlaces
+pub mod Placing

@@ -1,13 +1,17 @@
 -- Lists with one more item, distinct keys, maps and lists of lists.
-use Rattle.std.proofs.Common.{◌≡◌, ◌≢◌, ℕ, ◌-◌, ◌<◌, zero, suc, Bool, true, false, ◌||◌, nat_eq, List, [], ◌∷◌, ◌++◌, length, map, take, get_or, Some, None, slice_get, position, refl, ap, sym, ◌∙◌, subst, arith, length-append, append_assoc}
+use Rattle.std.proofs.Common.{◌≡◌, ◌≢◌, ℕ, ◌+◌, ◌-◌, ◌<◌, zero, suc, Bool, true, false, ◌||◌, nat_eq, List, [], ◌∷◌, ◌++◌, length, map, take, drop, get_or, Option, Some, None, is_some, slice_get, position, refl, ap, sym, ◌∙◌, subst, arith, length-append, append_assoc}
 use Rattle.std.specs.List.{list_any}
 use Rattle.std.proofs.lemmas.Option.{slice_get-get_or, slice_get_past}
 use Rattle.std.proofs.lemmas.List.Quantifiers.{position-Some}
-use Rattle.std.proofs.lemmas.List.{map-append}
+use Rattle.std.proofs.lemmas.List.{map-append, drop_more}
 use Rattle.std.proofs.Math.Seq.{take-append_seam}
 use Rattle.std.proofs.lemmas.Grind.{common_steps}
 use Rattle.lh_unit.specs.Table.{AllDistinct, flat}
 use Rattle.lh_unit.specs.Within.{Each}
+-- std's laws of tests and of equal options
+pub use Rattle.std.proofs.Math.Bool.{or-false as or_false, or-true as or_true, or_assoc as or-assoc}
+pub use Rattle.std.proofs.lemmas.Bool.{false_from_ne_true as not_true, ne_eqb as nat_eq-other, eqb-true as nat_eq-is}
+pub use Rattle.std.proofs.lemmas.Option.{same_Some as some_inj}
 
 -- where an index lies
 pub data Place (n k : ℕ) : Type 0 where
@@ -32,30 +36,8 @@ same_or a b = elim (place b a) [ before h ↦ other (λ e. omega (arith, h, e)) 
 pub nat_eq-refl : (a : ℕ) → nat_eq a a ≡ true
 nat_eq-refl a = grind (arith, common_steps)
 
-pub nat_eq-other : (a b : ℕ) → (a ≡ b → ⊥) → nat_eq a b ≡ false
-nat_eq-other a b h = grind (arith, common_steps)
-
-pub nat_eq-is : (a b : ℕ) → nat_eq a b ≡ true → a ≡ b
-nat_eq-is a b h = grind (arith, common_steps)
-
-pub or_false : (b : Bool) → (b || false) ≡ b
-or_false true = refl
-or_false false = refl
-
-pub or_true : (b : Bool) → (b || true) ≡ true
-or_true true = refl
-or_true false = refl
-
-pub or-assoc : (a b c : Bool) → ((a || b) || c) ≡ (a || (b || c))
-or-assoc true b c = refl
-or-assoc false b c = refl
-
-pub not_true : (b : Bool) → (b ≡ true → ⊥) → b ≡ false
-not_true true h = absurd (h refl)
-not_true false h = refl
-
-pub some_inj : {X : Type 0} (x y : X) → Some x ≡ Some y → x ≡ y
-some_inj x y p = cc
+pub nat_eq-next : (a b : ℕ) → nat_eq (a + 1) (b + 1) ≡ nat_eq a b
+nat_eq-next a b = grind (arith, common_steps)
 
 -- the last item of a list, and the others
 pub slice_get-push : {X : Type 0} (xs : List X) (y : X) (k : ℕ) → k ≡ length xs → slice_get (xs ++ y ∷ []) k ≡ Some y
@@ -98,6 +80,17 @@ front_last (x ∷ []) d zero h = ([], refl)
 front_last (x ∷ []) d (suc n) h = absurd (omega arith)
 front_last (x ∷ y ∷ xs) d zero h = absurd (omega arith)
 front_last (x ∷ y ∷ xs) d (suc n) h = let r = front_last (y ∷ xs) d n (omega arith) in (x ∷ r.0, ap (λ l. x ∷ l) r.1)
+
+-- the item at an index, and those behind it
+pub drop-item : {X : Type 0} (xs : List X) (i : ℕ) (x : X) → i < length xs → x ≡ get_or xs i x → drop i xs ≡ x ∷ drop (i + 1) xs
+drop-item xs i x h e = drop_more xs i x h ∙ ap (λ y. y ∷ drop (i + 1) xs) (sym e)
+
+-- where something is read, the list goes on
+pub some-within : {X : Type 0} (xs : List (Option X)) (k : ℕ) → is_some (get_or xs k None) ≡ true → k < length xs
+some-within [] zero h = absurd cc
+some-within [] (suc k) h = absurd cc
+some-within (x ∷ xs) zero h = omega arith
+some-within (x ∷ xs) (suc k) h = omega (arith, some-within xs k h)
 
 pub AllDistinct-push : {K : Type 0} (ks : List K) (k : K) → AllDistinct ks → ((i : ℕ) → slice_get ks i ≡ Some k → ⊥) → AllDistinct (ks ++ k ∷ [])
 AllDistinct-push ks k d a i j m p q = by (pushed ks k m i p) (pushed ks k m j q)
@@ -151,6 +144,20 @@ pub Each-right : {X : Type 0} (P : X → Type 0) (xs ys : List X) → Each P (xs
 Each-right P [] ys w = w
 Each-right P (x ∷ xs) ys w = Each-right P xs ys w.1
 
+-- what holds of each item holds of the one at an index
+pub Each-at : {X : Type 0} (P : X → Type 0) (xs : List X) (i : ℕ) (d : X) → Each P xs → i < length xs → P (get_or xs i d)
+Each-at P [] i d w h = absurd (omega arith)
+Each-at P (x ∷ xs) zero d w h = w.0
+Each-at P (x ∷ xs) (suc i) d w h = Each-at P xs i d w.1 (omega arith)
+
+pub Each-item : {X : Type 0} (P : X → Type 0) (xs : List X) (i : ℕ) (x : X) → Each P xs → i < length xs → x ≡ get_or xs i x → P x
+Each-item P xs i x w h e = subst P (sym e) (Each-at P xs i x w h)
+
+pub Each-get : {X : Type 0} (P : X → Type 0) (xs : List X) (i : ℕ) (x : X) → Each P xs → slice_get xs i ≡ Some x → P x
+Each-get P [] i x w e = cc
+Each-get P (y ∷ xs) zero x w e = let q : y ≡ x = cc in subst P q w.0
+Each-get P (y ∷ xs) (suc i) x w e = Each-get P xs i x w.1 e
+
 -- lists of lists
 pub flat-append : {X : Type 0} (xs ys : List (List X)) → flat (xs ++ ys) ≡ flat xs ++ flat ys
 flat-append [] ys = refl
@@ -164,6 +171,10 @@ pub Each-part : {X Y : Type 0} (P : Y → Type 0) (g : X → List Y) (xs : List 
 Each-part P g [] i x p w = cc
 Each-part P g (y ∷ xs) zero x p w = let e : y ≡ x = cc in subst (λ z. Each P (g z)) e (Each-left P (g y) (flat (map g xs)) w)
 Each-part P g (y ∷ xs) (suc i) x p w = Each-part P g xs i x p (Each-right P (g y) (flat (map g xs)) w)
+
+pub Each-flat : {X Y : Type 0} (P : Y → Type 0) (g : X → List Y) (xs : List X) → Each P (flat (map g xs)) → Each (λ x. Each P (g x)) xs
+Each-flat P g [] w = tt
+Each-flat P g (x ∷ xs) w = (Each-left P (g x) (flat (map g xs)) w, Each-flat P g xs (Each-right P (g x) (flat (map g xs)) w))
 
 -- a push that is taken back
 pub popped : {X : Type 0} (xs ys zs : List X) (y : X) → ys ≡ xs ++ y ∷ [] → zs ≡ take (length ys - 1) ys → zs ≡ xs

@@ -1,11 +1,11 @@
--- What callers may cite of a module: entries stay, names tell ids apart, the open unit is the last item.
-use Rattle.std.proofs.Common.{◌≡◌, ℕ, ◌<◌, suc, List, [], ◌∷◌, ◌++◌, length, Option, Some, None, IsSome, IsSomeAnd, slice_get, refl, ap, sym, ◌∙◌, subst, arith}
+-- What callers may cite of a module: entries stay, names tell ids apart, what holds of the open unit.
+use Rattle.std.proofs.Common.{◌≡◌, ℕ, ◌<◌, suc, List, [], ◌∷◌, ◌++◌, length, Option, Some, None, IsSomeAnd, slice_get, refl, ap, sym, ◌∙◌, subst, arith}
 use Rattle.std.proofs.lemmas.Option.{slice_get-get_or}
 use Rattle.lh_unit.specs.Contents.{ItemText, UnitText, BlockText, LineText, unit_text, declare_text, last_unit, change_last, line_at_end}
 use Rattle.lh_unit.specs.Builders.{Says}
 use Rattle.lh_unit.specs.Within.{Each, ValueWithin, MaybeWithin, OperandWithin, TriggerWithin, EdgeWithin}
 use Rattle.lh_unit.specs.Naming.{value_text, maybe_text, operand_text, trigger_text, edge_text}
-use Rattle.lh_unit.specs.Arena.{Arena, IsArena, InstPlaced, IsOpen, OfOpen, KeepsEntries, Grows, contents, naming, sizes, unit_text_at, inst_text_at, kind_at, table_at, blocks_at, block_insts_at, unit_count, value_count, label_count, block_count, inst_count, unit_name_at, value_name_at, label_name_at, no_unit_name}
+use Rattle.lh_unit.specs.Arena.{Arena, IsArena, InstPlaced, OfOpen, KeepsEntries, Grows, contents, naming, sizes, inst_text_at, table_at, blocks_at, block_insts_at, unit_count, value_count, label_count, block_count, inst_count, unit_name_at, value_name_at, label_name_at, no_unit_name}
 use Rattle.lh_unit.specs.declared.inst.UnitId.{UnitId}
 use Rattle.lh_unit.specs.declared.inst.ValueId.{ValueId}
 use Rattle.lh_unit.specs.declared.inst.BlockId.{BlockId}
@@ -15,10 +15,11 @@ use Rattle.lh_unit.specs.declared.inst.RegTrigger.{RegTrigger}
 use Rattle.lh_unit.specs.declared.inst.PhiEdge.{PhiEdge}
 use Rattle.lh_unit.specs.declared.inst.Inst.{Inst}
 use Rattle.lh_unit.proofs.Tables.{is_block-at, stands-within}
-use Rattle.lh_unit.proofs.Within.{InstWithin-more, OperandWithin-more, TriggerWithin-more, EdgeWithin-more, MaybeWithin-more, Each-more}
-use Rattle.lh_unit.proofs.Arenas as arenas
+use Rattle.lh_unit.proofs.Within.{InstWithin-more, OperandWithin-more, TriggerWithin-more, EdgeWithin-more, MaybeWithin-more}
 use Rattle.lh_unit.proofs.Texts.{Agree, inst-same, operand-same, trigger-same, edge-same, maybe-same, value-same, insts-within}
-use Rattle.lh_unit.proofs.ContentsLemmas as contents_lemmas
+use Rattle.lh_unit.proofs.ContentsLemmas.{last_unit-push}
+pub use Rattle.lh_unit.proofs.Within.{Each-more as Each-map}
+pub use Rattle.lh_unit.proofs.ContentsLemmas.{last_unit-push as last_unit-append}
 
 -- entries that stay
 pub KeepsEntries-refl : (a : Arena) → KeepsEntries a a
@@ -97,9 +98,6 @@ pub Each-push : {X : Type 0} (P : X → Type 0) (xs : List X) (x : X) → Each P
 Each-push P [] x w h = (h, tt)
 Each-push P (y ∷ xs) x w h = (w.0, Each-push P xs x w.1 h)
 
-pub Each-map : {X : Type 0} (P Q : X → Type 0) (xs : List X) → ((x : X) → P x → Q x) → Each P xs → Each Q xs
-Each-map P Q xs h w = Each-more P Q xs h w
-
 -- names tell ids apart
 pub unit-by_name : (a : Arena) (u v : ℕ) → IsArena a → u < unit_count a → v < unit_count a → unit_name_at a u ≡ unit_name_at a v → u ≡ v
 unit-by_name a u v o h g e =
@@ -112,16 +110,6 @@ value-by_name a u v w o h p q e = (o.tables u h).values_distinct v w (value_name
 
 pub label-by_name : (a : Arena) (u v w : ℕ) → IsArena a → u < unit_count a → v < label_count a u → w < label_count a u → label_name_at a u v ≡ label_name_at a u w → v ≡ w
 label-by_name a u v w o h p q e = (o.tables u h).labels_distinct v w (label_name_at a u w) (slice_get-get_or (table_at a u).labels v [] p ∙ ap Some e) (slice_get-get_or (table_at a u).labels w [] q)
-
--- the open unit is the last item, has an entry and is begun
-pub open-text : (a : Arena) (u : UnitId) → IsOpen a u → last_unit (contents a) ≡ Some (unit_text_at a u.0)
-open-text a u p = contents_lemmas.open-text a u p
-
-pub open-within : (a : Arena) (u : UnitId) → IsArena a → IsOpen a u → u.0 < unit_count a
-open-within a u o p = arenas.open-within a u o p
-
-pub open-begun : (a : Arena) (u : UnitId) → IsArena a → IsOpen a u → IsSome (kind_at a u.0)
-open-begun a u o p = arenas.open-begun a u o p
 
 -- what holds of the open unit's text, and what is known of the last unit of the contents
 pub OfOpen-is : (a : Arena) (P : UnitText → Type 0) (t : UnitText) → last_unit (contents a) ≡ Some t → OfOpen a P → P t
@@ -140,10 +128,7 @@ block-within a u i b o h p = stands-within (table_at a u) b.0 (o.tables u h) (is
 pub block_insts-within : (a : Arena) (u i : ℕ) (b : BlockId) → IsArena a → u < unit_count a → slice_get (blocks_at a u) i ≡ Some b → Each (λ (x : InstId). x.0 < inst_count a u) (block_insts_at a u b.0)
 block_insts-within a u i b o h p = insts-within (table_at a u) (o.tables u h) i b p
 
--- the last unit of contents that were changed or grew
-pub last_unit-append : (items : List ItemText) (t : UnitText) → last_unit (items ++ unit_text t ∷ []) ≡ Some t
-last_unit-append items t = contents_lemmas.last_unit-push items t
-
+-- the last unit of contents that were changed
 last_unit-cons : (x : ItemText) (items : List ItemText) (t : UnitText) → last_unit items ≡ Some t → last_unit (x ∷ items) ≡ Some t
 last_unit-cons x [] t e = cc
 last_unit-cons (unit_text x) (y ∷ items) t e = e
@@ -170,7 +155,7 @@ pub OfOpen-grows : (a b : Arena) (P : UnitText → Type 0) → Grows a b → OfO
 OfOpen-grows a b P g h = subst (λ o. IsSomeAnd o P) (sym (ap last_unit g.says)) h
 
 pub OfOpen-begun : (a b : Arena) (u : UnitId) (t : UnitText) (P : UnitText → Type 0) → Says a b u (contents a ++ unit_text t ∷ []) → P t → OfOpen b P
-OfOpen-begun a b u t P s h = OfOpen-from b P t (ap last_unit s.says ∙ last_unit-append (contents a) t) h
+OfOpen-begun a b u t P s h = OfOpen-from b P t (ap last_unit s.says ∙ last_unit-push (contents a) t) h
 
 -- a line adds no block
 pub length-line_at_end : (l : LineText) (bs : List BlockText) → length (line_at_end l bs) ≡ length bs

@@ -1,5 +1,6 @@
 -- The tokens of a written line are its pieces' tokens.
-use Rattle.std.proofs.Common.{◌≡◌, ℕ, ◌≤◌, zero, suc, Bool, true, false, ◌&&◌, ◌||◌, ◌⊎◌, inl, inr, List, [], ◌∷◌, ◌++◌, length, take, drop, Some, nat_eq, refl, ap, sym, ◌∙◌, subst, arith, append_assoc}
+use Rattle.std.proofs.Common.{◌≡◌, ℕ, ◌≤◌, zero, suc, true, false, inl, inr, List, [], ◌∷◌, ◌++◌, length, take, drop, Some, nat_eq, refl, ap, sym, ◌∙◌, subst, arith, append_assoc}
+use Rattle.std.proofs.lemmas.Bool.{and_parts, or_cases}
 use Rattle.std.proofs.lemmas.List.{take_at, drop_at}
 use Rattle.std.proofs.lemmas.Grind.{common_steps}
 use Rattle.lh_unit.specs.Names.{is_name_byte, all_name_bytes, IsName}
@@ -24,10 +25,6 @@ lexemes_after-drop zero bs = refl
 lexemes_after-drop (suc k) [] = refl
 lexemes_after-drop (suc k) (b ∷ bs) = lexemes_after-drop k bs
 
-both : (a b : Bool) → (a && b) ≡ true → (a ≡ true) × (b ≡ true)
-both true b p = (refl, p)
-both false b p = (p, cc)
-
 -- no name byte stands in front
 abbrev StopsName : List ℕ → Type 0
 StopsName [] = Unit {0}
@@ -39,7 +36,7 @@ run_len-stops (b ∷ bs) h = rw h refl
 
 run_len-name : (n r : List ℕ) → all_name_bytes n ≡ true → StopsName r → run_len (n ++ r) ≡ length n
 run_len-name [] r h s = run_len-stops r s
-run_len-name (b ∷ n) r h s = let p = both (is_name_byte b) (all_name_bytes n) h in let e : is_name_byte b ≡ true = p.0 in rw e (omega (arith, run_len-name n r p.1 s))
+run_len-name (b ∷ n) r h s = let p = and_parts (is_name_byte b) (all_name_bytes n) h in let e : is_name_byte b ≡ true = p.0 in rw e (omega (arith, run_len-name n r p.1 s))
 
 fits : (k : ℕ) → 1 ≤ k → k ≤ 255 → fits_name k ≡ true
 fits k l h = grind (arith, common_steps)
@@ -69,44 +66,40 @@ name_byte-plain b bs h =
     let f : nat_eq b 47 ≡ false = grind (arith, common_steps) in
     (grind (arith, common_steps), rw (e, f) refl)
 
-either : (a b : Bool) → (a || b) ≡ true → (a ≡ true) ⊎ (b ≡ true)
-either true b p = inl refl
-either false b p = inr p
-
 same_byte : (P : ℕ → Type 0) (b c : ℕ) → nat_eq b c ≡ true → P c → P b
 same_byte P b c e p = let q : c ≡ b = grind (arith, common_steps) in subst P q p
 
 -- a mark is one of eleven
 by_mark : (P : ℕ → Type 0) → P 40 → P 41 → P 123 → P 125 → P 91 → P 93 → P 44 → P 58 → P 36 → P 42 → P 61 → (b : ℕ) → is_punct b ≡ true → P b
 by_mark P p40 p41 p123 p125 p91 p93 p44 p58 p36 p42 p61 b h =
-    elim (either _ (nat_eq b 61) h) [
+    elim (or_cases _ (nat_eq b 61) h) [
       | inr e ↦ same_byte P b 61 e p61
       | inl h ↦
-          elim (either _ (nat_eq b 42) h) [
+          elim (or_cases _ (nat_eq b 42) h) [
             | inr e ↦ same_byte P b 42 e p42
             | inl h ↦
-                elim (either _ (nat_eq b 36) h) [
+                elim (or_cases _ (nat_eq b 36) h) [
                   | inr e ↦ same_byte P b 36 e p36
                   | inl h ↦
-                      elim (either _ (nat_eq b 58) h) [
+                      elim (or_cases _ (nat_eq b 58) h) [
                         | inr e ↦ same_byte P b 58 e p58
                         | inl h ↦
-                            elim (either _ (nat_eq b 44) h) [
+                            elim (or_cases _ (nat_eq b 44) h) [
                               | inr e ↦ same_byte P b 44 e p44
                               | inl h ↦
-                                  elim (either _ (nat_eq b 93) h) [
+                                  elim (or_cases _ (nat_eq b 93) h) [
                                     | inr e ↦ same_byte P b 93 e p93
                                     | inl h ↦
-                                        elim (either _ (nat_eq b 91) h) [
+                                        elim (or_cases _ (nat_eq b 91) h) [
                                           | inr e ↦ same_byte P b 91 e p91
                                           | inl h ↦
-                                              elim (either _ (nat_eq b 125) h) [
+                                              elim (or_cases _ (nat_eq b 125) h) [
                                                 | inr e ↦ same_byte P b 125 e p125
                                                 | inl h ↦
-                                                    elim (either _ (nat_eq b 123) h) [
+                                                    elim (or_cases _ (nat_eq b 123) h) [
                                                       | inr e ↦ same_byte P b 123 e p123
                                                       | inl h ↦
-                                                          elim (either (nat_eq b 40) (nat_eq b 41) h) [ inr e ↦ same_byte P b 41 e p41 | inl e ↦ same_byte P b 40 e p40 ]
+                                                          elim (or_cases (nat_eq b 40) (nat_eq b 41) h) [ inr e ↦ same_byte P b 41 e p41 | inl e ↦ same_byte P b 40 e p40 ]
                                                     ]
                                               ]
                                         ]
@@ -127,7 +120,7 @@ takes-punct b r h = by_mark (λ c. TakesFirst (punct c) (c ∷ r) r) (one 40 ref
 takes-word : (b : ℕ) (w r : List ℕ) → all_name_bytes (b ∷ w) ≡ true → StopsName r → TakesFirst (word (b ∷ w)) (b ∷ (w ++ r)) r
 unfolding first_lexeme
 takes-word b w r h s =
-    let p = both (is_name_byte b) (all_name_bytes w) h in
+    let p = and_parts (is_name_byte b) (all_name_bytes w) h in
     let n : is_name_byte b ≡ true = p.0 in
     let e : run_len (w ++ r) ≡ length w = run_len-name w r p.1 s in
     let g : take (length w) (w ++ r) ≡ w = take_at w r (length w) refl in
@@ -162,7 +155,7 @@ no_arrow_head : (ps : List Piece) → IsSpaced ps → begins 62 (render ps) ≡ 
 no_arrow_head [] h = refl
 no_arrow_head (space ∷ ps) h = refl
 no_arrow_head (token (word []) ∷ ps) h = let l : 1 ≤ 0 = h.0.0 in absurd (omega arith)
-no_arrow_head (token (word (b ∷ w)) ∷ ps) h = let n : is_name_byte b ≡ true = (both (is_name_byte b) (all_name_bytes w) h.0.1).0 in grind (arith, common_steps)
+no_arrow_head (token (word (b ∷ w)) ∷ ps) h = let n : is_name_byte b ≡ true = (and_parts (is_name_byte b) (all_name_bytes w) h.0.1).0 in grind (arith, common_steps)
 no_arrow_head (token (global n) ∷ ps) h = refl
 no_arrow_head (token (local n) ∷ ps) h = refl
 no_arrow_head (token arrow ∷ ps) h = refl

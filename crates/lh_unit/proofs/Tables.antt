@@ -43,6 +43,12 @@ BlocksWithin-more : (n m : ℕ) (xs : List BlockId) → n ≤ m → BlocksWithin
 BlocksWithin-more n m [] h w = tt
 BlocksWithin-more n m (b ∷ xs) h w = (omega (arith, w.0), BlocksWithin-more n m xs h w.1)
 
+-- the block at an index
+pub BlocksWithin-at : (n : ℕ) (bs : List BlockId) (j : ℕ) (b : BlockId) → slice_get bs j ≡ Some b → BlocksWithin n bs → b.0 < n
+BlocksWithin-at n [] j b p w = cc
+BlocksWithin-at n (x ∷ bs) zero b p w = let q : x ≡ b = cc in subst (λ (y : BlockId). y.0 < n) q w.0
+BlocksWithin-at n (x ∷ bs) (suc j) b p w = BlocksWithin-at n bs j b p w.1
+
 -- one more item
 ArgsWithin-push : (n : ℕ) (xs : List Arg) (a : Arg) → ArgsWithin n xs → a.value.0 < n → ArgsWithin n (xs ++ a ∷ [])
 ArgsWithin-push n [] a w h = (h, tt)
@@ -56,11 +62,11 @@ BlocksWithin-push : (n : ℕ) (xs : List BlockId) (b : BlockId) → BlocksWithin
 BlocksWithin-push n [] b w h = (h, tt)
 BlocksWithin-push n (x ∷ xs) b w h = (w.0, BlocksWithin-push n xs b w.1 h)
 
-is_arg-push : (xs : List Arg) (a : Arg) (k : ℕ) → is_arg (xs ++ a ∷ []) k ≡ (is_arg xs k || nat_eq a.value.0 k)
+pub is_arg-push : (xs : List Arg) (a : Arg) (k : ℕ) → is_arg (xs ++ a ∷ []) k ≡ (is_arg xs k || nat_eq a.value.0 k)
 is_arg-push [] a k = or_false (nat_eq a.value.0 k)
 is_arg-push (x ∷ xs) a k = ap (λ b. nat_eq x.value.0 k || b) (is_arg-push xs a k) ∙ sym (or-assoc (nat_eq x.value.0 k) (is_arg xs k) (nat_eq a.value.0 k))
 
-is_made-push : (xs : List Line) (l : Line) (k : ℕ) → is_made (xs ++ l ∷ []) k ≡ (is_made xs k || is_result l.result k)
+pub is_made-push : (xs : List Line) (l : Line) (k : ℕ) → is_made (xs ++ l ∷ []) k ≡ (is_made xs k || is_result l.result k)
 is_made-push [] l k = or_false (is_result l.result k)
 is_made-push (x ∷ xs) l k = ap (λ b. is_result x.result k || b) (is_made-push xs l k) ∙ sym (or-assoc (is_result x.result k) (is_made xs k) (is_result l.result k))
 

@@ -1,7 +1,7 @@
 -- The text of a unit depends only on the names of the ids that it holds.
-use Rattle.std.proofs.Common.{◌≡◌, ℕ, ◌+◌, ◌<◌, zero, suc, List, [], ◌∷◌, length, map, Option, Some, None, slice_get, refl, ap, sym, ◌∙◌, subst, arith, zero-add}
+use Rattle.std.proofs.Common.{◌≡◌, ℕ, ◌+◌, ◌<◌, ◌≤◌, zero, suc, List, [], ◌∷◌, length, map, Option, Some, None, slice_get, refl, ap, sym, ◌∙◌, subst, arith}
 use Rattle.lh_unit.specs.Contents.{pure_text, var_text, ld_text, st_text, sig_text, prb_text, drv_text, reg_text, child_text, call_text, phi_text, br_text, branch_text, wait_text, ret_text}
-use Rattle.lh_unit.specs.Table.{Table, IsTable, FitsKind, ArgsWithin, BlocksWithin, ResultWithin, ResultsWithin, line_at, no_line, insts_at, ids_from}
+use Rattle.lh_unit.specs.Table.{Table, IsTable, FitsKind, ArgsWithin, ResultWithin, ResultsWithin, line_at, no_line, insts_at, ids_from}
 use Rattle.lh_unit.specs.Within.{Sizes, sizes_of, Each, ValueWithin, MaybeWithin, OperandWithin, TriggerWithin, EdgeWithin, InstWithin}
 use Rattle.lh_unit.specs.Naming.{Naming, value_text, maybe_text, operand_text, trigger_text, edge_text, inst_text, line_text, arg_text, label_text, block_text, kind_text, table_text}
 use Rattle.lh_unit.specs.declared.name.UnitName.{UnitName}
@@ -19,6 +19,7 @@ use Rattle.lh_unit.specs.declared.inst.Arg.{Arg}
 use Rattle.lh_unit.specs.declared.table.Line.{Line}
 use Rattle.std.proofs.lemmas.Option.{slice_get-get_or}
 use Rattle.lh_unit.proofs.Lists.{map-each, map-same, Each-part}
+use Rattle.lh_unit.proofs.Tables.{BlocksWithin-at}
 
 -- two namings that agree on all ids within the sizes
 pub record Agree (s : Sizes) (f g : Naming) : Type 0 where
@@ -118,26 +119,19 @@ module _ (s : Sizes) (f g : Naming) (e : Agree s f g) where
       λ j. record { result = r j; inst = n j }
 
 -- the ids of the instructions are within
-ids-within : (k : ℕ) (ls : List Line) → Each (λ i. i.0 < k + length ls) (ids_from k ls)
-ids-within k [] = tt
-ids-within k (l ∷ ls) =
-    let e : k + 1 + length ls ≡ k + length (l ∷ ls) = omega arith in
-    (omega arith, subst (λ n. Each (λ (i : InstId). i.0 < n) (ids_from (k + 1) ls)) e (ids-within (k + 1) ls))
+pub ids-within : (n k : ℕ) (ls : List Line) → k + length ls ≤ n → Each (λ (i : InstId). i.0 < n) (ids_from k ls)
+ids-within n k [] h = tt
+ids-within n k (l ∷ ls) h = (omega arith, ids-within n (k + 1) ls (omega arith))
 
 pub insts-within : (t : Table) → IsTable t → (j : ℕ) (b : BlockId) → slice_get t.blocks j ≡ Some b → Each (λ i. i.0 < length t.lines) (insts_at t b.0)
 insts-within t o j b p = Each-part (λ (i : InstId). i.0 < length t.lines) (λ (x : BlockId). insts_at t x.0) t.blocks j b p
-    (subst (Each (λ (i : InstId). i.0 < length t.lines)) (sym o.in_order) (subst (λ n. Each (λ (i : InstId). i.0 < n) (ids_from 0 t.lines)) (zero-add (length t.lines)) (ids-within 0 t.lines)))
+    (subst (Each (λ (i : InstId). i.0 < length t.lines)) (sym o.in_order) (ids-within (length t.lines) 0 t.lines (omega arith)))
 
 -- the label of a block of the unit
-block_within : (n : ℕ) (bs : List BlockId) (j : ℕ) (b : BlockId) → slice_get bs j ≡ Some b → BlocksWithin n bs → b.0 < n
-block_within n [] j b p w = cc
-block_within n (x ∷ bs) zero b p w = let q : x ≡ b = cc in subst (λ (y : BlockId). y.0 < n) q w.0
-block_within n (x ∷ bs) (suc j) b p w = block_within n bs j b p w.1
-
 label-same : (s : Sizes) (f g : Naming) → Agree s f g → (k : Option UnitKind) (t : Table) → s.labels ≡ length t.labels → FitsKind k t → (j : ℕ) (b : BlockId) → slice_get t.blocks j ≡ Some b → label_text f k b ≡ label_text g k b
 label-same s f g e None t n w j b p = let z : slice_get [] j ≡ Some b = ap (λ bs. slice_get bs j) (sym w.2) ∙ p in cc
-label-same s f g e (Some kind.Func) t n w j b p = ap Some (e.labels b.0 (omega (arith, n, block_within (length t.labels) t.blocks j b p w.1)))
-label-same s f g e (Some kind.Proc) t n w j b p = ap Some (e.labels b.0 (omega (arith, n, block_within (length t.labels) t.blocks j b p w.1)))
+label-same s f g e (Some kind.Func) t n w j b p = ap Some (e.labels b.0 (omega (arith, n, BlocksWithin-at (length t.labels) t.blocks j b p w.1)))
+label-same s f g e (Some kind.Proc) t n w j b p = ap Some (e.labels b.0 (omega (arith, n, BlocksWithin-at (length t.labels) t.blocks j b p w.1)))
 label-same s f g e (Some kind.Entity) t n w j b p = refl
 
 -- the text of a unit under two namings

@@ -23,6 +23,7 @@ pub mod Within
 pub mod Naming
 pub mod Arena
 pub mod ArenaOf
+pub mod Placed
 pub mod Builders
 pub mod Named
 pub mod Held

@@ -3,8 +3,9 @@ use Rattle.lh_unit.specs.Arena.{naming, value_count}
 use Rattle.lh_unit.specs.Naming.{arg_text}
 use Rattle.lh_unit.specs.Pieces.{behind_commas}
 use Rattle.lh_unit.specs.Canon.{argument, side_of}
-use Rattle.lh_print.proofs.Joined.{drop-item, part_step}
-use Rattle.lh_print.proofs.Placing.{args-item}
+use Rattle.lh_unit.proofs.Lists.{drop-item}
+use Rattle.lh_print.proofs.Joined.{part_step}
+use Rattle.lh_unit.proofs.Placing.{args-item}
 use Rattle.lh_print.proofs.Sides.{side_of-parts}
 use Rattle.lh_print.proofs.arguments.put_side_behind.Goals as goal
 

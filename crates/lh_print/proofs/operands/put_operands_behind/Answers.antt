@@ -4,11 +4,12 @@ use Rattle.lh_unit.specs.Naming.{operand_text}
 use Rattle.lh_unit.specs.Within.{OperandWithin}
 use Rattle.lh_unit.specs.Pieces.{behind_commas}
 use Rattle.lh_unit.specs.Canon.{operand}
-use Rattle.lh_print.proofs.Joined.{drop-item, each-item, behind_step}
+use Rattle.lh_unit.proofs.Lists.{drop-item, Each-item}
+use Rattle.lh_print.proofs.Joined.{behind_step}
 use Rattle.lh_print.proofs.operands.put_operands_behind.Goals as goal
 
 pub loop-typed-preserved : goal.loop-typed-preserved
 loop-typed-preserved c = behind_step _ _ _ (operand (operand_text (naming c.args.m.now c.args.unit.0) c.typed-item.result)) _ _ (ap (λ l. behind_commas (map operand (map (operand_text (naming c.args.m.now c.args.unit.0)) l))) (drop-item c.args.args.now c.loop-typed.typed-index c.typed-item.result c.loop-typed-test.true c.typed-item.is)) c.in_ok-put_operand.ensures c.loop-typed.invariant
 
 pub put_operand-requires-clause-placed : goal.put_operand-requires-clause-placed
-put_operand-requires-clause-placed c = each-item (OperandWithin (sizes c.args.m.now c.args.unit.0)) c.args.args.now c.loop-typed.typed-index c.typed-item.result c.requires.placed c.loop-typed-test.true c.typed-item.is
+put_operand-requires-clause-placed c = Each-item (OperandWithin (sizes c.args.m.now c.args.unit.0)) c.args.args.now c.loop-typed.typed-index c.typed-item.result c.requires.placed c.loop-typed-test.true c.typed-item.is

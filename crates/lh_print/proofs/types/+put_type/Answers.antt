@@ -1,8 +1,9 @@
-use Rattle.std.proofs.Common.{arith, ◌<◌, ◌+◌, ◌≡◌, ap}
+use Rattle.std.proofs.Common.{arith, ◌<◌, ap}
 use Rattle.lh_types.specs.Types.{row_of, node_count, node_count_row}
 use Rattle.lh_types.proofs.Rows.{node_count-get_or}
 use Rattle.lh_unit.specs.CanonTypes.{type_pieces, row_behind}
-use Rattle.lh_print.proofs.Joined.{drop-item, behind_step, two}
+use Rattle.lh_unit.proofs.Lists.{drop-item}
+use Rattle.lh_print.proofs.Joined.{behind_step, two}
 use Rattle.lh_print.proofs.types.+put_type.Goals as goal
 
 pub put_types_behind-loop-t-preserved : goal.put_types_behind-loop-t-preserved

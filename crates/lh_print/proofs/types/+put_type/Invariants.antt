@@ -1,4 +1,4 @@
-use Rattle.std.proofs.Common.{◌≡◌, ◌++◌, drop, max}
+use Rattle.std.proofs.Common.{◌≡◌, ◌++◌, drop}
 use Rattle.lh_types.specs.Types.{row_of, node_count, node_count_row}
 use Rattle.lh_unit.specs.Pieces.{render}
 use Rattle.lh_unit.specs.CanonTypes.{row_behind}

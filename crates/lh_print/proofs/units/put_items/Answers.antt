@@ -1,7 +1,8 @@
-use Rattle.std.proofs.Common.{map, ap, subst, sym}
+use Rattle.std.proofs.Common.{map, ap}
 use Rattle.lh_unit.specs.Arena.{item_text_at}
 use Rattle.lh_unit.specs.Canon.{canon_lines, item_lines}
-use Rattle.lh_print.proofs.Joined.{drop-item, line_step}
+use Rattle.lh_unit.proofs.Lists.{drop-item}
+use Rattle.lh_print.proofs.Joined.{line_step}
 use Rattle.lh_print.proofs.units.put_items.Goals as goal
 
 pub loop-item-preserved : goal.loop-item-preserved

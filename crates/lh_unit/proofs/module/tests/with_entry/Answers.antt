@@ -1,4 +1,4 @@
-use Rattle.std.proofs.Common.{◌+◌, ◌<◌, [], ◌∷◌, None, length, arith, length-append}
+use Rattle.std.proofs.Common.{◌<◌, length, arith, length-append}
 use Rattle.lh_unit.specs.Contents as text
 use Rattle.lh_unit.specs.Contents.{BlockText}
 use Rattle.lh_unit.specs.Arena.{label_name_at}

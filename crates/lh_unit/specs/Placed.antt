@@ -1,4 +1,4 @@
--- What is in place when a unit is written.
+-- What is in place in a unit.
 use Rattle.std.specs.Prelude.{ℕ, ◌<◌, Option, Some, None}
 use Rattle.lh_unit.specs.Arena.{Arena, unit_count, label_count, block_count, inst_count, kind_at, block_insts_at}
 use Rattle.lh_unit.specs.Within.{Each}
