@@ -1,0 +1,4 @@
+pub mod Order
+pub mod Storage
+pub mod Bucketing
+pub mod Putting
