@@ -47,7 +47,7 @@ link_time x y (z ∷ zs) e = ap (λ f. if nat_eq (time z) f then Some z.key else
 pub linked_behind : (s t : Slab Linked) (front : List Held) (y x : Held) (back : List Held) → AreLinked s (front ++ y ∷ back) → get t y.key ≡ Some (record { wish = y.wish; next = Some x.key })
     → get t x.key ≡ Some (record { wish = x.wish; next = link y back }) → time x ≡ time y → Agrees s t front → Agrees s t back → AreLinked t (front ++ y ∷ x ∷ back)
 linked_behind s t [] y x back l g h e a b =
-    (g ∙ ap (λ n. Some (record { wish = y.wish; next = n })) (sym (on x.key (time x) (time y) e)), h ∙ ap (λ n. Some (record { wish = x.wish; next = n })) (link_time y x back (sym e)), linked_same s t back l.1 b)
+    (g ∙ ap (λ n. Some (record { wish = y.wish; next = n })) (sym (on x.key (time x) (time y) e)), (h ∙ ap (λ n. Some (record { wish = x.wish; next = n })) (link_time y x back (sym e)), linked_same s t back l.1 b))
   where
     on : (k a b : ℕ) → a ≡ b → (if nat_eq a b then Some k else None) ≡ Some k
     on k a b e = rw (eq-eqb a b e) refl

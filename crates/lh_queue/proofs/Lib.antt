@@ -2,3 +2,4 @@ pub mod Order
 pub mod Storage
 pub mod Bucketing
 pub mod Putting
+pub mod Writing

@@ -1,6 +1,9 @@
 -- A wish that is put at its place is stored with the others.
-use Rattle.std.proofs.Common.{◌≡◌, ◌≢◌, ◌≤◌, ◌<◌, ◌⊎◌, inl, inr, ⊎_elim, ℕ, ◌+◌, ◌-◌, min, List, [], ◌∷◌, ◌++◌, length, Option, Some, None, IsSome, is_some, get_or, set, refl, ap, sym, ◌∙◌, subst, arith}
+use Rattle.std.proofs.Common.{◌≡◌, ◌≢◌, ◌≤◌, ◌<◌, ◌⊎◌, inl, inr, ⊎_elim, ℕ, ◌+◌, ◌-◌, min, List, [], ◌∷◌, ◌++◌, length, Option, Some, None, IsSome, is_some, get_or, set, count_by, cond, zero, suc, if◌then◌else◌, nat_eq, refl, ap, sym, ◌∙◌, subst, arith}
 use Rattle.std.specs.List.{insert}
+use Rattle.std.proofs.lemmas.Bool.{eq-eqb, ne_eqb}
+use Rattle.std.proofs.lemmas.List.Sums.{sum_by-cons}
+use Rattle.slab.proofs.SlabLemmas.{Updates-with_value}
 use Rattle.std.proofs.lemmas.List.{append_assoc, length-append}
 use Rattle.slab.specs.Slab.{Slab, get, slab_len, Updates, with_value}
 use Rattle.lh_queue.specs.declared.queue.Linked.{Linked}
@@ -10,7 +13,7 @@ use Rattle.lh_queue.specs.Held.{Held, is_before, IsBeforeAll, NoneHas, KeysDiffe
 use Rattle.lh_queue.specs.Buckets.{time, link, bucket, buckets_after, buckets_of}
 use Rattle.lh_queue.specs.Stored.{AreLinked, IsStored, spare_by}
 use Rattle.lh_queue.specs.Places.{AreEarlier, AreLater, AllBefore, GoesAlone, GoesFirst, GoesAfter}
-use Rattle.lh_queue.proofs.Storage.{Agrees, agrees_but, agrees_two}
+use Rattle.lh_queue.proofs.Storage.{Agrees, agrees_but, agrees_two, linked_back}
 use Rattle.lh_queue.proofs.Order.{order_insert, with_held_between, none_inserted, keys_insert, once_insert, none_front, none_back, others_lack}
 use Rattle.lh_queue.proofs.Bucketing.{StartsFrom, starts_later, linked_between, linked_behind, after_later, buckets_append, buckets_behind, insert_at, set_at, get_at, before_earlier, before_later}
 
@@ -144,4 +147,64 @@ module _ (s t : Slab Linked) (buckets bs : List Bucket) (w : Wish) (key : ℕ) w
   at_after : (r : Slab Linked) (front : List Held) (y : Held) (back : List Held) → IsStored s buckets (front ++ y ∷ back) → time y ≡ w.due.fs → AllBefore (front ++ y ∷ []) w → IsBeforeAll w back
       → NamesOnce w.bits → get s key ≡ None → Updates s r key (Some (record { wish = w; next = link y back })) → slab_len r ≡ slab_len s + 1 → Updates r t y.key (Some (record { wish = y.wish; next = Some key })) → slab_len t ≡ slab_len r → bs ≡ buckets
       → Puts t bs (front ++ y ∷ back) key w
-  at_after r front y back i q a z o g u n v m b = ?
+  at_after r front y back i q a z o g u n v m b =
+      let free = free_key s (front ++ y ∷ back) key i.linked g in
+      let lacks = others_lack front y back i.keys in
+      let apart = (none_back key front (y ∷ back) free).0 in
+      let x : Held = record { key = key; wish = w } in
+      let both : (j : ℕ) → j ≢ key → j ≢ y.key → get t j ≡ get s j = λ j d e. v.others j e ∙ u.others j d in
+      let joined : (zs : List Held) → (front ++ y ∷ []) ++ zs ≡ front ++ y ∷ zs = λ zs. append_assoc front (y ∷ []) zs in
+      let linked : AreLinked t (front ++ y ∷ x ∷ back) = linked_behind s t front y x back i.linked v.changed (v.others key (λ e. apart (sym e)) ∙ u.changed) (sym q)
+          (agrees_two s t key y.key front both (none_front key front (y ∷ back) free) lacks.0) (agrees_two s t key y.key back both (none_back key front (y ∷ back) free).1 lacks.1) in
+      let R : List Held → Type 0 = λ xs. IsStored s buckets xs in
+      let N : List Held → Type 0 = λ xs. NoneHas key xs in
+      let L : List Held → Type 0 = λ xs. AreLinked t xs in
+      let Q : List Held → Type 0 = λ xs. Puts t bs xs key w in
+      let still : (k : ℕ) → NoneHas k ((front ++ y ∷ []) ++ x ∷ back) → get t k ≡ None = λ k h.
+          let p = none_inserted k (front ++ y ∷ []) x back h in
+          let K : List Held → Type 0 = λ xs. NoneHas k xs in
+          let lack = subst K (joined back) p.1 in
+          both k (λ e. p.0 (sym e)) (λ e. (none_back k front (y ∷ back) lack).0 (sym e)) ∙ i.vacant k lack in
+      subst Q (joined back) (subst N (sym (joined back)) free, put_between s t buckets bs (front ++ y ∷ []) x back (subst R (sym (joined back)) i) (subst N (sym (joined back)) free)
+          (subst L (sym (joined (x ∷ back))) linked) still (b ∙ i.buckets_are ∙ sym (buckets_behind front y x back (sym q)) ∙ ap buckets_of (sym (joined (x ∷ back)))) a z o (m ∙ n))
+
+count_set : (xs : List (Option Linked)) (k : ℕ) (l : Linked) → IsSome (get_or xs k None) → count_by is_some (set xs k (Some l)) ≡ count_by is_some xs
+count_set [] k l h = cc
+count_set (None ∷ xs) zero l h = cc
+count_set (Some m ∷ xs) zero l h = omega (arith, sum_by-cons (λ (o : Option Linked). cond (is_some o) 1 0) (Some m) xs, sum_by-cons (λ (o : Option Linked). cond (is_some o) 1 0) (Some l) xs)
+count_set (o ∷ xs) (suc k) l h = omega (arith, count_set xs k l h, sum_by-cons (λ (o : Option Linked). cond (is_some o) 1 0) o xs, sum_by-cons (λ (o : Option Linked). cond (is_some o) 1 0) o (set xs k (Some l)))
+
+-- the slab after the wish is put in, and after its key is noted at the one before it
+pub put_after : (s r : Slab Linked) (buckets bs : List Bucket) (w : Wish) (key k : ℕ) (held : List Held) (l d : Linked) → IsStored s buckets held → GoesAfter held w k → NamesOnce w.bits → get s key ≡ None
+    → get s k ≡ Some l → Updates s r key (Some (record { wish = w; next = l.next })) → slab_len r ≡ slab_len s + 1 → get r k ≡ Some d → bs ≡ buckets
+    → Puts (with_value r k (record { wish = d.wish; next = Some key })) bs held key w
+put_after s r buckets bs w key k held l d i p o g l_is u n d_is b =
+    let R : List Held → Type 0 = λ xs. IsStored s buckets xs in
+    let j = subst R p.split i in
+    let free = free_key s (p.front ++ p.near ∷ p.back) key j.linked g in
+    let apart : p.near.key ≢ key = (none_back key p.front (p.near ∷ p.back) free).0 in
+    let here : get s k ≡ Some (record { wish = p.near.wish; next = link p.near p.back }) = ap (get s) (sym p.key) ∙ (linked_back s p.front (p.near ∷ p.back) j.linked).0 in
+    let l_same : l ≡ record { wish = p.near.wish; next = link p.near p.back } = some_same _ _ (sym l_is ∙ here) in
+    let d_same : d ≡ record { wish = p.near.wish; next = link p.near p.back } = some_same _ _ (sym d_is ∙ u.others k (λ e. apart (p.key ∙ e)) ∙ here) in
+    let value : Linked = record { wish = d.wish; next = Some key } in
+    let wish : d.wish ≡ p.near.wish = ap (λ (m : Linked). m.wish) d_same in
+    let present : IsSome (get r k) = ap is_some d_is in
+    let U : Wish → Type 0 = λ v. Updates r (with_value r k value) k (Some (record { wish = v; next = Some key })) in
+    let V : ℕ → Type 0 = λ m. Updates r (with_value r k value) m (Some (record { wish = p.near.wish; next = Some key })) in
+    let W : Option ℕ → Type 0 = λ m. Updates s r key (Some (record { wish = w; next = m })) in
+    let Q : List Held → Type 0 = λ xs. Puts (with_value r k value) bs xs key w in
+    subst Q (sym p.split) (at_after s (with_value r k value) buckets bs w key r p.front p.near p.back j p.same p.after p.before o g
+        (subst W (ap (λ (m : Linked). m.next) l_same) u) n (subst V (sym p.key) (subst U wish (Updates-with_value r k value present))) (count_set r.slots k value present) b)
+  where
+    some_same : (m n : Linked) → Some m ≡ Some n → m ≡ n
+    some_same m n z = cc
+
+pub near_there : (s : Slab Linked) (buckets : List Bucket) (w : Wish) (k : ℕ) (held : List Held) → IsStored s buckets held → GoesAfter held w k → IsSome (get s k)
+near_there s buckets w k held i p =
+    let R : List Held → Type 0 = λ xs. IsStored s buckets xs in
+    let j = subst R p.split i in
+    ap (λ m. is_some (get s m)) (sym p.key) ∙ ap is_some (linked_back s p.front (p.near ∷ p.back) j.linked).0
+
+-- one place less is left
+pub spare_put : (a b c d x y z u : ℕ) → x ≡ a → y ≡ b + 1 → z ≡ c → u ≤ d + 1 → min (a - b) (c - d) ≤ min (x - y) (z - u) + 1
+spare_put a b c d x y z u p q r h = omega arith

@@ -1,13 +1,27 @@
-use Rattle.std.proofs.Common.{◌≡◌, ap, arith}
+use Rattle.std.proofs.Common.{◌≡◌, ◌≤◌, ◌<◌, ◌+◌, ap, length, arith, sym}
+use Rattle.slab.specs.Slab.{slab_len}
+use Rattle.lh_queue.specs.Held.{Waiting}
+use Rattle.lh_queue.specs.Stored.{spare_by}
 use Rattle.lh_queue.proofs.Storage.{stored, seen}
-use Rattle.lh_queue.proofs.Putting.{place_within, put_alone}
+use Rattle.lh_queue.proofs.Putting.{place_within, put_alone, spare_put}
 use Rattle.lh_queue.proofs.queue.Queue.put_alone.Goals as goal
 
 pub insert-requires : goal.insert-requires
-insert-requires c = ?
+insert-requires c =
+    let s = stored c.self.inside.links c.self.inside.buckets.items _ c.args.self.now c.self.invariant c.self.view_is in
+    let h = place_within c.self.inside.links c.self.inside.links c.self.inside.buckets.items c.self.inside.buckets.items c.args.w 0 c.args.k c.args.self.now.held s c.requires.place in
+    omega (arith, h, c.self.inside.buckets.ok.0)
 
 pub invariant_of-self : goal.invariant_of-self
-invariant_of-self c = ?
+invariant_of-self c =
+    let s = stored c.self.inside.links c.self.inside.buckets.items _ c.args.self.now c.self.invariant c.self.view_is in
+    let e = c.insert_reserved-first.ensures in
+    let p = put_alone c.self.inside.links c.insert_reserved-first.new.self c.self.inside.buckets.items c.insert.new.self.items c.args.w c.insert_reserved-first.result c.args.k c.args.self.now.held s c.requires.place c.requires.once e.was_vacant e.updates e.len c.in-Ok.ensures.items in
+    (_, p.1)
 
 pub returns : goal.returns
-returns c = ?
+returns c =
+    let s = stored c.self.inside.links c.self.inside.buckets.items _ c.args.self.now c.self.invariant c.self.view_is in
+    let e = c.insert_reserved-first.ensures in
+    let p = put_alone c.self.inside.links c.insert_reserved-first.new.self c.self.inside.buckets.items c.insert.new.self.items c.args.w c.insert_reserved-first.result c.args.k c.args.self.now.held s c.requires.place c.requires.once e.was_vacant e.updates e.len c.in-Ok.ensures.items in
+    record { key = c.insert_reserved-first.result; free = p.0; held = seen _ _ _ p.1; spare = ? }
