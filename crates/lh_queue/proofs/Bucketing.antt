@@ -112,7 +112,7 @@ get_at [] b y d = refl
 get_at (z ∷ zs) b y d = get_at zs b y d
 
 -- by their times
-fs_first : (a b : Wish) → a.due.fs < b.due.fs → is_before a b ≡ true
+pub fs_first : (a b : Wish) → a.due.fs < b.due.fs → is_before a b ≡ true
 fs_first a b h = rw (lt-ltb a.due.fs b.due.fs h) refl
 
 pub before_earlier : (front : List Held) (w : Wish) → AreEarlier w.due.fs front → AllBefore front w

@@ -3,3 +3,4 @@ pub mod Storage
 pub mod Bucketing
 pub mod Putting
 pub mod Writing
+pub mod Placing

@@ -168,7 +168,7 @@ module _ (s t : Slab Linked) (buckets bs : List Bucket) (w : Wish) (key : ℕ) w
       subst Q (joined back) (subst N (sym (joined back)) free, put_between s t buckets bs (front ++ y ∷ []) x back (subst R (sym (joined back)) i) (subst N (sym (joined back)) free)
           (subst L (sym (joined (x ∷ back))) linked) still (b ∙ i.buckets_are ∙ sym (buckets_behind front y x back (sym q)) ∙ ap buckets_of (sym (joined (x ∷ back)))) a z o (m ∙ n))
 
-count_set : (xs : List (Option Linked)) (k : ℕ) (l : Linked) → IsSome (get_or xs k None) → count_by is_some (set xs k (Some l)) ≡ count_by is_some xs
+pub count_set : (xs : List (Option Linked)) (k : ℕ) (l : Linked) → IsSome (get_or xs k None) → count_by is_some (set xs k (Some l)) ≡ count_by is_some xs
 count_set [] k l h = cc
 count_set (None ∷ xs) zero l h = cc
 count_set (Some m ∷ xs) zero l h = omega (arith, sum_by-cons (λ (o : Option Linked). cond (is_some o) 1 0) (Some m) xs, sum_by-cons (λ (o : Option Linked). cond (is_some o) 1 0) (Some l) xs)

@@ -104,3 +104,8 @@ pub record IsPut (old new : Waiting) (w : Wish) : Type 0 where
   pub free : NoneHas key old.held
   pub held : new.held ≡ with_held old.held (record { key = key; wish = w })
   pub spare : old.spare ≤ new.spare + 1
+
+-- those behind the wish of a key
+abbrev pub behind : List Held → ℕ → List Held
+behind [] k = []
+behind (x ∷ more) k = if nat_eq x.key k then more else behind more k

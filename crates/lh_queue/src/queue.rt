@@ -224,7 +224,9 @@ impl Queue {
 
     /// The number of the first bucket that is not of an earlier time.
     fn first_from(&self, fs: u64) -> usize
-        ensures { result ≡ earlier fs (buckets_of self.now.held) }
+        ensures number { result ≡ earlier fs (buckets_of self.now.held) }
+        ensures order { AreInOrder self.now.held }
+        ensures keys { KeysDiffer self.now.held }
     {
         self.buckets.partition_point(|bucket| bucket.fs < fs)
     }
@@ -275,6 +277,8 @@ impl Queue {
     /// From a wish of the same bucket that comes before a wish, the last such.
     fn last_before(&self, first: usize, w: &Wish) -> usize
         requires apart { NoneCompetes w.now self.now.held }
+        requires order { AreInOrder self.now.held }
+        requires keys { KeysDiffer self.now.held }
         requires starts { IsBehind self.now.held w.now first }
         ensures { GoesAfter self.now.held w.now result }
     {
