@@ -4,3 +4,4 @@ pub mod Bucketing
 pub mod Putting
 pub mod Writing
 pub mod Placing
+pub mod Entries

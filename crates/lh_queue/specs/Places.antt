@@ -1,8 +1,9 @@
 -- Where a wish goes among those that are held.
 use Rattle.std.specs.Prelude.{ℕ, ◌+◌, ◌<◌, ◌≤◌, List, [], ◌∷◌, ◌++◌, length, Bool, true, false, nat_lt, nat_eq, if◌then◌else◌, suc, Option, Some, None, ◌≡◌}
 use Rattle.std.specs.Option.{option_map_or}
+use Rattle.lh_time.specs.declared.Instant.{Instant}
 use Rattle.lh_queue.specs.declared.wish.Wish.{Wish}
-use Rattle.lh_queue.specs.Held.{Held, Waiting, is_before, IsBeforeAll, NoneHas, wish_at, with_held}
+use Rattle.lh_queue.specs.Held.{Held, Waiting, is_before, is_at, IsBeforeAll, NoneHas, wish_at, with_held}
 use Rattle.lh_queue.specs.Buckets.{time, buckets_of, next_in}
 use Rattle.lh_queue.specs.declared.queue.Bucket.{Bucket}
 use Rattle.lh_queue.specs.declared.queue.Place.{Place}
@@ -79,6 +80,26 @@ pub record IsBehind (held : List Held) (w : Wish) (k : ℕ) : Type 0 where
 abbrev pub first_key : List Held → Option ℕ
 first_key [] = None
 first_key (x ∷ more) = Some x.key
+
+-- the first wish
+abbrev pub first_wish : List Held → Option Wish
+first_wish [] = None
+first_wish (x ∷ more) = Some x.wish
+
+-- whether the first wish is due at an instant
+abbrev pub starts_at : Instant → List Held → Bool
+starts_at t [] = false
+starts_at t (x ∷ more) = is_at x.wish.due t
+
+-- those from the wish of a key on
+abbrev pub from_key : List Held → ℕ → List Held
+from_key [] k = []
+from_key (x ∷ more) k = if nat_eq x.key k then x ∷ more else from_key more k
+
+-- the same, where there may be no key
+abbrev pub rest_from : List Held → Option ℕ → List Held
+rest_from held None = []
+rest_from held (Some k) = from_key held k
 
 -- the first key of a bucket that is of this time
 abbrev pub first_of : Option Bucket → ℕ → Option ℕ

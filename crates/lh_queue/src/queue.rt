@@ -4,7 +4,7 @@ ghost use Rattle.lh_types.specs.History.{values_by};
 ghost use Rattle.lh_queue.specs.Held.{Held, with_held, wish_at, due_later, NoneDueBefore, NoneCompetes, NamesOnce, EachWithin, IsLeastDue, AreInOrder, KeysDiffer};
 ghost use Rattle.lh_queue.specs.Holds.{entries, AreBitsAt, HoldsOn, HoldsMore, IsSoonestDue};
 ghost use Rattle.lh_queue.specs.Buckets.{buckets_of, next_in, AreBuckets};
-ghost use Rattle.lh_queue.specs.Places.{IsPlace, GoesAlone, GoesFirst, GoesAfter, IsBehind, IsPut, earlier, first_key, first_of, comes_before, next_before};
+ghost use Rattle.lh_queue.specs.Places.{IsPlace, GoesAlone, GoesFirst, GoesAfter, IsBehind, IsPut, earlier, first_key, first_wish, starts_at, first_of, comes_before, next_before};
 
 use crate::wish::Wish;
 use lh_time::Instant;
@@ -108,9 +108,11 @@ impl Queue {
         ensures least { IsLeastDue self.now.held result }
         ensures soonest { IsSoonestDue self.now.held result }
     {
-        let key = self.first_key()?;
-        let wish = self.wish(key)?;
-        Some(wish.due)
+        let _ = &self.links;
+        match self.first() {
+            Some(wish) => Some(wish.due),
+            None => None,
+        }
     }
 
     /// Takes out the wishes that are due at an instant, before which none is due, and sets their bits: of two that set one bit
@@ -124,7 +126,8 @@ impl Queue {
         ensures values { AreBitsAt self.old.held now.old at now.new }
         ensures holds { HoldsOn self.old.held at self.new.held }
     {
-        while self.next_due() == Some(at) {
+        let _ = &self.links;
+        while self.starts_at(at) {
             let wish = self.take_first();
             wish.set(now);
         }
@@ -137,10 +140,11 @@ impl Queue {
         ensures bits { now.new ≡ values_by (entries self.now.held) at 0 now.old }
         ensures values { AreBitsAt self.now.held now.old at now.new }
     {
+        let _ = &self.links;
         let mut key = self.first_key();
         while let Some(k) = key {
             let Some(wish) = self.wish(k) else { return };
-            if wish.due != at {
+            if !wish.is_due(at) {
                 return;
             }
             wish.set(now);
@@ -185,6 +189,26 @@ impl Queue {
         match self.buckets.first() {
             Some(bucket) => Some(bucket.first),
             None => None,
+        }
+    }
+
+    /// The first wish.
+    fn first(&self) -> Option<&Wish>
+        ensures { option_copied result ≡ first_wish self.now.held }
+    {
+        match self.first_key() {
+            Some(key) => self.wish(key),
+            None => None,
+        }
+    }
+
+    /// Whether the first wish is due at an instant.
+    fn starts_at(&self, at: Instant) -> bool
+        ensures { result ≡ starts_at at self.now.held }
+    {
+        match self.first() {
+            Some(wish) => wish.is_due(at),
+            None => false,
         }
     }
 

@@ -1,6 +1,6 @@
 //! A wish as a queue holds it: what one instance wished at one instant for one due instant.
 ghost use Rattle.std.specs.Prelude.{◌≡◌, length};
-ghost use Rattle.lh_queue.specs.Held.{is_before, BitsWithin};
+ghost use Rattle.lh_queue.specs.Held.{is_before, is_at, BitsWithin};
 ghost use Rattle.lh_queue.specs.Written.{written};
 
 use lh_time::Instant;
@@ -30,6 +30,13 @@ impl Wish {
             .then(self.made.cmp(&other.made))
             .then(self.instance.cmp(&other.instance))
             .is_lt()
+    }
+
+    /// Whether it is due at an instant.
+    pub(crate) fn is_due(&self, at: Instant) -> bool
+        ensures { result ≡ is_at self.now.due at }
+    {
+        self.due.cmp(&at).is_eq()
     }
 
     /// Sets its bits.
