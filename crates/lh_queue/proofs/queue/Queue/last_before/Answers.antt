@@ -14,4 +14,4 @@ loop-next-smaller c =
     omega (arith, f.less)
 
 pub returns : goal.returns
-returns c = ?
+returns c = goes_after c.args.self.now.held c.args.w.now c.requires.order c.requires.keys c.requires.apart c.loop-next.key c.loop-next.invariant (sym c.in_default.ensures)
