@@ -6,8 +6,10 @@ use Rattle.std.specs.Ordering.{is_lt, is_le, is_eq, is_gt, ordering_then, orderi
 use Rattle.std.specs.Option.{option_map_or}
 use Rattle.std.proofs.lemmas.Cmp.{tied_itself}
 use Rattle.std.proofs.lemmas.Bool.{eqb-true, eq-eqb, ne_eqb, eqb-false}
+use Rattle.std.proofs.lemmas.Bool.Decides.{nat_tests}
 use Rattle.lh_time.specs.declared.Instant.{Instant}
 use Rattle.lh_time.specs.Order.{instant_cmp, instant_lt, instant_le}
+use Rattle.lh_time.specs.Due.{instant}
 use Rattle.lh_time.proofs.OrderLemmas.{instant_cmp_total, instant_lt-not_le, instant_le-lt, instant_lt-le_lt}
 use Rattle.lh_types.specs.History.{Claim, claim_cmp, is_due_by, greater, greatest_from, value_by, values_by}
 use Rattle.lh_queue.specs.declared.wish.Wish.{Wish}
@@ -191,7 +193,7 @@ lt_le_trans a b c h k = at (instant_le c a) refl
     at true e = absurd (clash (sym (instant_lt-le_lt c a b e h) ∙ instant_lt-not_le c b ∙ ap not k))
     at false e = instant_lt-not_le a c ∙ ap not e
 
-all_later : (t : Instant) (w : Wish) (xs : List Held) → instant_lt t w.due ≡ true → IsBeforeAll w xs → EachLater t xs
+pub all_later : (t : Instant) (w : Wish) (xs : List Held) → instant_lt t w.due ≡ true → IsBeforeAll w xs → EachLater t xs
 all_later t w [] h b = tt
 all_later t w (x ∷ more) h b = (lt_le_trans t w.due x.wish.due h (due_upto w x.wish b.0), all_later t w more h b.1)
 
@@ -209,3 +211,35 @@ not_due_later t x more o le n =
 pub not_started : (t : Instant) (held : List Held) → AreInOrder held → NoneDueBefore t held → starts_at t held ≡ false → EachLater t held
 not_started t [] o d n = tt
 not_started t (x ∷ more) o d n = not_due_later t x more o d.0 n
+
+nat_one : (a b : ℕ) → nat_cmp a b ≡ Equal → a ≡ b
+nat_one a b h = grind (arith, nat_tests)
+
+then_equal : (o p : Ordering) → ordering_then o p ≡ Equal → (o ≡ Equal) × (p ≡ Equal)
+then_equal Less p h = absurd (clash h)
+  where
+    clash : Less ≡ Equal → ⊥
+    clash z = cc
+then_equal Equal p h = (refl, h)
+then_equal Greater p h = absurd (clash h)
+  where
+    clash : Greater ≡ Equal → ⊥
+    clash z = cc
+
+-- instants that compare as equal are one
+pub instant_one : (a b : Instant) → instant_cmp a b ≡ Equal → a ≡ b
+instant_one a b h =
+    let p = then_equal (nat_cmp a.fs b.fs) (ordering_then (nat_cmp a.delta b.delta) (nat_cmp a.eps b.eps)) h in
+    let q = then_equal (nat_cmp a.delta b.delta) (nat_cmp a.eps b.eps) p.1 in
+    same a.fs a.delta a.eps b.fs b.delta b.eps (nat_one a.fs b.fs p.0) (nat_one a.delta b.delta q.0) (nat_one a.eps b.eps q.1)
+  where
+    same : (f d e g i j : ℕ) → f ≡ g → d ≡ i → e ≡ j → instant f d e ≡ instant g i j
+    same f d e g i j x y z = cc
+
+is_equal : (o : Ordering) → is_eq o ≡ true → o ≡ Equal
+is_equal Less h = cc
+is_equal Equal h = refl
+is_equal Greater h = cc
+
+pub at_one : (a b : Instant) → is_at a b ≡ true → a ≡ b
+at_one a b h = instant_one a b (is_equal (instant_cmp a b) h)

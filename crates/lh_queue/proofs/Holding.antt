@@ -1,5 +1,5 @@
 -- The bits at an instant by the held wishes are those by the history, and the soonest held wish is the soonest of all.
-use Rattle.std.proofs.Common.{◌≡◌, ◌≢◌, ◌⊎◌, inl, inr, ⊎_elim, ℕ, ◌+◌, List, [], ◌∷◌, ◌++◌, Bool, true, false, not, ◌&&◌, nat_eq, if◌then◌else◌, Option, Some, None, refl, ap, sym, ◌∙◌, subst}
+use Rattle.std.proofs.Common.{◌≡◌, ◌≢◌, ◌⊎◌, inl, inr, ⊎_elim, ℕ, ◌+◌, List, [], ◌∷◌, ◌++◌, Bool, true, false, not, ◌&&◌, nat_eq, if◌then◌else◌, Option, Some, None, IfSome, refl, ap, sym, ◌∙◌, subst}
 use Rattle.std.specs.declared.cmp.Ordering.{Ordering}
 use Rattle.std.specs.declared.cmp.Ordering.TheVariants.{Less, Equal, Greater}
 use Rattle.std.specs.Ordering.{is_lt, is_le, is_gt, is_eq, ordering_then, ordering_reverse, nat_cmp}
@@ -11,11 +11,12 @@ use Rattle.lh_time.specs.Order.{instant_cmp, instant_lt, instant_le}
 use Rattle.lh_time.proofs.OrderLemmas.{instant_cmp_total, instant_lt-not_le, instant_le-lt, instant_lt-le_lt}
 use Rattle.lh_types.specs.History.{Made, Claim, claims, claim_cmp, is_due_by, greatest_from, greater, value_by, values_by, bits_at, IsAmong, sooner, if_later, soonest_due}
 use Rattle.lh_queue.specs.declared.wish.Wish.{Wish}
-use Rattle.lh_queue.specs.Held.{Held, AreInOrder, EachNamesOnce, EachNames, IsBeforeAll}
+use Rattle.lh_queue.specs.Held.{Held, AreInOrder, EachNamesOnce, EachNames, IsBeforeAll, NoneDueBefore, IsLeastDue}
 use Rattle.lh_queue.specs.Holds.{entries_of, wish_entries, entries, IsAfter, IsFrom, HoldsFor, bits_after, AreBitsAt, IsSoonestDue}
+use Rattle.lh_queue.specs.Places.{first_wish}
 use Rattle.lh_queue.proofs.Found.{claim_total, Finds, Result, found}
 use Rattle.lh_queue.proofs.Among.{one_each, among_left, among_parts, origin}
-use Rattle.lh_queue.proofs.Entries.{lt_le_trans, due_upto, late_not_le}
+use Rattle.lh_queue.proofs.Entries.{lt_le_trans, due_upto, late_not_le, instant_one}
 
 no_both : (b : Bool) → b ≡ true → b ≡ false → ⊥
 no_both true h k = cc
@@ -145,7 +146,7 @@ module _ (held : List Held) (cs : List Claim) (last : Option Instant) (t : Insta
               unless true z = refl
               unless false z = cc
 
-  pub value_held : value_by (entries held) (value_after cs b bit last) bit t ≡ value_by cs b bit t
+  value_held : value_by (entries held) (value_after cs b bit last) bit t ≡ value_by cs b bit t
   value_held = at (greatest_from bit t None (entries held)) (found bit t (entries held) None)
     where
       at : (r : Option Claim) → Result bit t None (entries held) r → option_map_or (λ (d : Claim). d.value) r (value_after cs b bit last) ≡ value_by cs b bit t
@@ -184,3 +185,114 @@ pub bits_held : (held : List Held) (old : List Bool) (t : Instant) (new : List B
 unfolding bits_at
 bits_held held old t new o n e history initial last h f b =
     e ∙ ap (values_by (entries held) t 0) (b ∙ bits_after_is history initial last) ∙ values_held held (claims history) last t o n h f 0 initial
+
+-- the soonest due instant
+at_least : (last t : Instant) (all : List Claim) → ((d : Claim) → IsAmong d all → instant_lt last d.due ≡ true → instant_le t d.due ≡ true) → IfSome (soonest_due last all) (λ u. instant_le t u ≡ true)
+at_least last t [] h = tt
+at_least last t (x ∷ more) h = at (instant_lt last x.due) refl (at_least last t more (λ d m. h d (inr m)))
+  where
+    both : (s : Option Instant) → instant_le t x.due ≡ true → IfSome s (λ u. instant_le t u ≡ true) → IfSome (sooner (Some x.due) s) (λ u. instant_le t u ≡ true)
+    both None p q = p
+    both (Some u) p q = elim (instant_lt u x.due) as (λ b. instant_le t (if b then u else x.due) ≡ true) [ true ↦ q | false ↦ p ]
+
+    at : (b : Bool) → instant_lt last x.due ≡ b → IfSome (soonest_due last more) (λ u. instant_le t u ≡ true) → IfSome (sooner (if b then Some x.due else None) (soonest_due last more)) (λ u. instant_le t u ≡ true)
+    at true e ih = both (soonest_due last more) (h x (inl refl) e) ih
+    at false e ih = ih
+
+soonest_none : (last : Instant) (all : List Claim) → ((d : Claim) → IsAmong d all → instant_lt last d.due ≡ true → ⊥) → soonest_due last all ≡ None
+soonest_none last [] h = refl
+soonest_none last (x ∷ more) h = at (instant_lt last x.due) refl (soonest_none last more (λ d m. h d (inr m)))
+  where
+    at : (b : Bool) → instant_lt last x.due ≡ b → soonest_due last more ≡ None → sooner (if b then Some x.due else None) (soonest_due last more) ≡ None
+    at true e ih = absurd (h x (inl refl) e)
+    at false e ih = ih
+
+not_sooner : (t u : Instant) → instant_le t u ≡ true → instant_lt u t ≡ false
+not_sooner t u h = instant_lt-not_le u t ∙ ap not h
+
+equal_of : (o : Ordering) → is_le o ≡ true → is_lt o ≡ false → o ≡ Equal
+equal_of Less h k = cc
+equal_of Equal h k = refl
+equal_of Greater h k = cc
+
+soonest_is : (last t : Instant) (all : List Claim) (c : Claim) → IsAmong c all → c.due ≡ t → instant_lt last t ≡ true → ((d : Claim) → IsAmong d all → instant_lt last d.due ≡ true → instant_le t d.due ≡ true) → soonest_due last all ≡ Some t
+soonest_is last t [] c m e l h = absurd m
+soonest_is last t (x ∷ more) c (inl p) e l h = at (instant_lt last x.due) (ap (instant_lt last) here ∙ l) (at_least last t more (λ d m. h d (inr m)))
+  where
+    here : x.due ≡ t
+    here = ap (λ (d : Claim). d.due) p ∙ e
+
+    with_rest : (s : Option Instant) → IfSome s (λ u. instant_le t u ≡ true) → sooner (Some x.due) s ≡ Some t
+    with_rest None q = ap Some here
+    with_rest (Some u) q = ap (λ b. Some (if b then u else x.due)) (ap (instant_lt u) here ∙ not_sooner t u q) ∙ ap Some here
+
+    at : (b : Bool) → b ≡ true → IfSome (soonest_due last more) (λ u. instant_le t u ≡ true) → sooner (if b then Some x.due else None) (soonest_due last more) ≡ Some t
+    at true k q = with_rest (soonest_due last more) q
+    at false k q = absurd (no_both false k refl)
+soonest_is last t (x ∷ more) c (inr m) e l h = at (instant_lt last x.due) refl (soonest_is last t more c m e l (λ d n. h d (inr n)))
+  where
+    beside : (b : Bool) → instant_lt t x.due ≡ b → instant_le t x.due ≡ true → Some (if b then t else x.due) ≡ Some t
+    beside true e k = refl
+    beside false e k = ap Some (sym (instant_one t x.due (equal_of (instant_cmp t x.due) k e)))
+
+    at : (b : Bool) → instant_lt last x.due ≡ b → soonest_due last more ≡ Some t → sooner (if b then Some x.due else None) (soonest_due last more) ≡ Some t
+    at true k ih = ap (sooner (Some x.due)) ih ∙ beside (instant_lt t x.due) refl (h x (inl refl) k)
+    at false k ih = ih
+
+-- each entry of wishes in order is due no earlier than the first
+due_from_first : (w : Wish) (more : List Held) (d : Claim) → IsBeforeAll w more → IsAmong d (entries more) → instant_le w.due d.due ≡ true
+due_from_first w [] d b m = absurd m
+due_from_first w (y ∷ ys) d b m = ⊎_elim
+    (λ l. let o = origin y.wish.due y.wish.made y.wish.instance y.wish.bits d l in ap (instant_le w.due) o.when ∙ due_upto w y.wish b.0)
+    (λ l. due_from_first w ys d b.1 l) (among_parts (wish_entries y.wish) (entries ys) d m)
+
+le_self : (t : Instant) → instant_le t t ≡ true
+le_self t = ap is_le (tied_itself instant_cmp_total t)
+
+pub soonest_first : (held : List Held) (w : Wish) → AreInOrder held → Some w ≡ first_wish held → IsSoonestDue held (Some w.due)
+soonest_first [] w o e all last h n = absurd (clash e)
+  where
+    clash : Some w ≡ None → ⊥
+    clash z = cc
+soonest_first (x ∷ more) w o e all last h n = ap (λ (v : Wish). Some v.due) (same w x.wish e) ∙ sym (by x.wish.bits refl)
+  where
+    same : (a b : Wish) → Some a ≡ Some b → a ≡ b
+    same a b z = cc
+
+    upto : (d : Claim) → IsAmong d all → instant_lt last d.due ≡ true → instant_le x.wish.due d.due ≡ true
+    upto d m l = ⊎_elim
+        (λ k. let q = origin x.wish.due x.wish.made x.wish.instance x.wish.bits d k in ap (instant_le x.wish.due) q.when ∙ le_self x.wish.due)
+        (λ k. due_from_first x.wish more d o.0 k)
+        (among_parts (wish_entries x.wish) (entries more) d ((h.due d).1 (m, l)))
+
+    by : (es : List (ℕ × Bool)) → x.wish.bits ≡ es → soonest_due last all ≡ Some x.wish.due
+    by [] b = absurd (n.0 b)
+    by (v ∷ vs) b =
+        let c : Claim = record { due = x.wish.due; made = x.wish.made; instance = x.wish.instance; bit = v.0; value = v.1 } in
+        let P : List (ℕ × Bool) → Type 0 = λ es. IsAmong c (entries_of x.wish.due x.wish.made x.wish.instance es) in
+        let there : IsAmong c (entries (x ∷ more)) = among_left (wish_entries x.wish) (entries more) c (subst P (sym b) (inl refl)) in
+        let p = (h.due c).0 there in
+        soonest_is last x.wish.due all c p.0 refl p.1 upto
+
+pub soonest_no : (held : List Held) → None ≡ first_wish held → IsSoonestDue held None
+soonest_no [] e all last h n = sym (soonest_none last all (λ d m l. (h.due d).1 (m, l)))
+soonest_no (x ∷ more) e all last h n = absurd (clash e)
+  where
+    clash : None ≡ Some x.wish → ⊥
+    clash z = cc
+
+none_before : (w : Wish) (xs : List Held) → IsBeforeAll w xs → NoneDueBefore w.due xs
+none_before w [] b = tt
+none_before w (y ∷ ys) b = (due_upto w y.wish b.0, none_before w ys b.1)
+
+pub least_first : (held : List Held) (w : Wish) → AreInOrder held → Some w ≡ first_wish held → IsLeastDue held (Some w.due)
+least_first [] w o e = absurd (clash e)
+  where
+    clash : Some w ≡ None → ⊥
+    clash z = cc
+least_first (x ∷ more) w o e =
+    let P : Wish → Type 0 = λ v. IsLeastDue (x ∷ more) (Some v.due) in
+    subst P (sym (same w x.wish e)) (inl refl, (le_self x.wish.due, none_before x.wish more o.0))
+  where
+    same : (a b : Wish) → Some a ≡ Some b → a ≡ b
+    same a b z = cc

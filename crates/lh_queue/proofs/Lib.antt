@@ -8,3 +8,4 @@ pub mod Entries
 pub mod Found
 pub mod Among
 pub mod Holding
+pub mod Taking
