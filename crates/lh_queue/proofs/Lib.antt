@@ -9,3 +9,4 @@ pub mod Found
 pub mod Among
 pub mod Holding
 pub mod Taking
+pub mod Leading
