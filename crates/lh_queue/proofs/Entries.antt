@@ -212,10 +212,10 @@ pub not_started : (t : Instant) (held : List Held) → AreInOrder held → NoneD
 not_started t [] o d n = tt
 not_started t (x ∷ more) o d n = not_due_later t x more o d.0 n
 
-nat_one : (a b : ℕ) → nat_cmp a b ≡ Equal → a ≡ b
+pub nat_one : (a b : ℕ) → nat_cmp a b ≡ Equal → a ≡ b
 nat_one a b h = grind (arith, nat_tests)
 
-then_equal : (o p : Ordering) → ordering_then o p ≡ Equal → (o ≡ Equal) × (p ≡ Equal)
+pub then_equal : (o p : Ordering) → ordering_then o p ≡ Equal → (o ≡ Equal) × (p ≡ Equal)
 then_equal Less p h = absurd (clash h)
   where
     clash : Less ≡ Equal → ⊥

@@ -80,7 +80,7 @@ same_tests true b f g = sym (f refl)
 same_tests false true f g = g refl
 same_tests false false f g = refl
 
-le_trans : (a b c : Instant) → instant_le a b ≡ true → instant_le b c ≡ true → instant_le a c ≡ true
+pub le_trans : (a b c : Instant) → instant_le a b ≡ true → instant_le b c ≡ true → instant_le a c ≡ true
 le_trans a b c h k = at (instant_le a c) refl
   where
     turn : (x : Bool) → x ≡ false → not x ≡ true

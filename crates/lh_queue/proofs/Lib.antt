@@ -10,3 +10,4 @@ pub mod Among
 pub mod Holding
 pub mod Taking
 pub mod Leading
+pub mod Keeping

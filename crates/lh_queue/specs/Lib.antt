@@ -4,3 +4,4 @@ pub mod Buckets
 pub mod Written
 pub mod Stored
 pub mod Places
+pub mod Laws

@@ -6,6 +6,9 @@ ghost use Rattle.lh_queue.specs.Holds.{entries, AreBitsAt, HoldsOn, HoldsMore, I
 ghost use Rattle.lh_queue.specs.Buckets.{buckets_of, next_in, AreBuckets};
 ghost use Rattle.lh_queue.specs.Places.{IsPlace, GoesAlone, GoesFirst, GoesAfter, IsBehind, IsPut, earlier, first_key, first_wish, starts_at, first_of, comes_before, next_before};
 
+#[cfg(test)]
+mod tests;
+
 use crate::wish::Wish;
 use lh_time::Instant;
 use lh_types::bits::Bits;
