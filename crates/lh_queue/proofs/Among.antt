@@ -163,3 +163,7 @@ holds_on old new t e all last h f =
     after : (l : Option Instant) (c : Claim) → IsFrom l t → instant_lt t c.due ≡ true → IsAfter l c.due
     after None c g k = tt
     after (Some l) c g k = instant_lt-le_lt l t c.due g k
+
+-- where nothing was wished, nothing is held
+pub holds_nothing : (held : List Held) → held ≡ [] → HoldsFor held [] None
+holds_nothing held e = let P : List Held → Type 0 = λ xs. HoldsFor xs [] None in subst P (sym e) (record { due = λ c. (λ k. absurd k, λ k. absurd k.0) })

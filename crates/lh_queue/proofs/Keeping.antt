@@ -77,6 +77,6 @@ different_apart w x d e =
     by d (instant_one w.due x.due p.0) (instant_one w.made x.made q.0) (nat_one w.instance x.instance q.1)
   where
     by : (w.due ≢ x.due) ⊎ (w.made ≢ x.made) ⊎ (w.instance ≢ x.instance) → w.due ≡ x.due → w.made ≡ x.made → w.instance ≡ x.instance → ⊥
-    by (inl (inl n)) a b c = n a
-    by (inl (inr n)) a b c = n b
-    by (inr n) a b c = n c
+    by (inl n) a b c = n a
+    by (inr (inl n)) a b c = n b
+    by (inr (inr n)) a b c = n c

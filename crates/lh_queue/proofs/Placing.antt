@@ -1,15 +1,15 @@
 -- The place of a wish among those that are held.
-use Rattle.std.proofs.Common.{◌≡◌, ◌≢◌, ◌≤◌, ◌<◌, ◌⊎◌, inl, inr, ⊎_elim, ℕ, zero, suc, ◌+◌, List, [], ◌∷◌, ◌++◌, length, Bool, true, false, if◌then◌else◌, nat_eq, nat_lt, Option, Some, None, IsSome, is_some, slice_get, get_or, refl, ap, sym, ◌∙◌, subst, arith}
+use Rattle.std.proofs.Common.{◌≡◌, ◌≢◌, ◌≤◌, ◌<◌, ◌⊎◌, inl, inr, ⊎_elim, ℕ, zero, suc, ◌+◌, List, [], ◌∷◌, ◌++◌, length, Bool, true, false, if◌then◌else◌, nat_eq, nat_lt, ◌&&◌, Option, Some, None, IsSome, is_some, slice_get, get_or, refl, ap, sym, ◌∙◌, subst, arith}
 use Rattle.std.specs.Option.{option_map_or}
 use Rattle.std.specs.List.Sorted.{IsPartitionedBy, IsPartitionPoint}
-use Rattle.std.proofs.lemmas.Bool.{eqb-true, eq-eqb, ne_eqb, eqb-false, lt-ltb, le-ltb, ltb-true, cases_lt, cases_eq}
+use Rattle.std.proofs.lemmas.Bool.{eqb-true, eq-eqb, ne_eqb, eqb-false, lt-ltb, le-ltb, ltb-true, cases_lt, cases_eq, and_parts}
 use Rattle.std.proofs.lemmas.List.{append_assoc}
 use Rattle.lh_queue.specs.declared.queue.Bucket.{Bucket}
 use Rattle.lh_queue.specs.declared.wish.Wish.{Wish}
 use Rattle.lh_queue.specs.Held.{Held, is_before, IsBeforeAll, AreInOrder, NoneHas, KeysDiffer, NoneCompetes, wish_at}
 use Rattle.lh_queue.specs.Buckets.{time, link, next_in, bucket, buckets_after, buckets_of, AreAbove, TimesRise}
-use Rattle.lh_queue.specs.Places.{AreEarlier, AreLater, AllBefore, earlier, first_of, comes_before, if_before, next_before, behind, GoesAlone, GoesFirst, GoesAfter, IsBehind}
-use Rattle.lh_queue.proofs.Order.{before_not, before_or, before_all, others_lack, order_back, competes_back}
+use Rattle.lh_queue.specs.Places.{AreEarlier, AreLater, AllBefore, earlier, first_of, comes_before, if_before, next_before, is_near, behind, GoesAlone, GoesFirst, GoesAfter, IsBehind}
+use Rattle.lh_queue.proofs.Order.{before_trans, before_not, before_or, before_all, others_lack, order_back, competes_back}
 use Rattle.lh_queue.proofs.Bucketing.{StartsFrom, buckets_append, fs_first, before_earlier}
 
 -- each is due at a time or later
@@ -358,3 +358,54 @@ module _ (held : List Held) (w : Wish) (o : AreInOrder held) (u : KeysDiffer hel
     after = p.after;
     before = last_at k p p.back refl (ap (if_before held w) (sym (next_of_behind k p)) ∙ h);
   }
+
+-- the wish of a key stands somewhere
+record Stands (held : List Held) (k : ℕ) (w : Wish) : Type 0 where
+  front : List Held
+  here : Held
+  back : List Held
+  split : held ≡ front ++ here ∷ back
+  key : here.key ≡ k
+  wish : here.wish ≡ w
+
+stands : (held : List Held) (k : ℕ) (w : Wish) → wish_at held k ≡ Some w → Stands held k w
+stands [] k w h = absurd (clash h)
+  where
+    clash : None ≡ Some w → ⊥
+    clash z = cc
+stands (x ∷ more) k w h = at (nat_eq x.key k) refl h (stands more k w)
+  where
+    same : (a b : Wish) → Some a ≡ Some b → a ≡ b
+    same a b z = cc
+
+    at : (b : Bool) → nat_eq x.key k ≡ b → (if b then Some x.wish else wish_at more k) ≡ Some w → (wish_at more k ≡ Some w → Stands more k w) → Stands (x ∷ more) k w
+    at true e z ih = record { front = []; here = x; back = more; split = refl; key = eqb-true x.key k e; wish = same x.wish w z }
+    at false e z ih = let p = ih z in record { front = x ∷ p.front; here = p.here; back = p.back; split = ap (λ xs. x ∷ xs) p.split; key = p.key; wish = p.wish }
+
+all_before : (front : List Held) (y : Held) (back : List Held) (w : Wish) → AreInOrder (front ++ y ∷ back) → is_before y.wish w ≡ true → AllBefore front w
+all_before [] y back w o b = tt
+all_before (z ∷ zs) y back w o b = (before_trans z.wish y.wish w (before_one z.wish zs y back o.0) b, all_before zs y back w o.1 b)
+  where
+    before_one : (v : Wish) (zs : List Held) (y : Held) (back : List Held) → IsBeforeAll v (zs ++ y ∷ back) → is_before v y.wish ≡ true
+    before_one v [] y back h = h.0
+    before_one v (u ∷ us) y back h = before_one v us y back h.1
+
+pub near_behind : (held : List Held) (w : Wish) (k : ℕ) → AreInOrder held → is_near held k w ≡ true → IsBehind held w k
+near_behind held w k o h = at (wish_at held k) refl h
+  where
+    at : (r : Option Wish) → wish_at held k ≡ r → option_map_or (λ (x : Wish). nat_eq x.due.fs w.due.fs && is_before x w) r false ≡ true → IsBehind held w k
+    at None e z = cc
+    at (Some x) e z =
+        let p = stands held k x e in
+        let q : (nat_eq x.due.fs w.due.fs ≡ true) × (is_before x w ≡ true) = and_parts _ _ z in
+        let b : is_before p.here.wish w ≡ true = ap (λ (v : Wish). is_before v w) p.wish ∙ q.1 in
+        let P : List Held → Type 0 = AreInOrder in
+        record {
+          front = p.front;
+          near = p.here;
+          back = p.back;
+          split = p.split;
+          key = p.key;
+          same = ap (λ (v : Wish). v.due.fs) p.wish ∙ eqb-true x.due.fs w.due.fs q.0;
+          after = all_before_append p.front p.here w (all_before p.front p.here p.back w (subst P p.split o) b) b;
+        }

@@ -1,5 +1,5 @@
 -- Where a wish goes among those that are held.
-use Rattle.std.specs.Prelude.{ℕ, ◌+◌, ◌<◌, ◌≤◌, List, [], ◌∷◌, ◌++◌, length, Bool, true, false, nat_lt, nat_eq, if◌then◌else◌, suc, Option, Some, None, ◌≡◌}
+use Rattle.std.specs.Prelude.{ℕ, ◌+◌, ◌<◌, ◌≤◌, List, [], ◌∷◌, ◌++◌, length, Bool, true, false, nat_lt, nat_eq, ◌&&◌, if◌then◌else◌, suc, Option, Some, None, ◌≡◌}
 use Rattle.std.specs.Option.{option_map_or}
 use Rattle.lh_time.specs.declared.Instant.{Instant}
 use Rattle.lh_queue.specs.declared.wish.Wish.{Wish}
@@ -64,7 +64,7 @@ pub record GoesAfter (held : List Held) (w : Wish) (k : ℕ) : Type 0 where
 abbrev pub IsPlace : List Held → Wish → Place → Type 0
 IsPlace held w (Alone k) = GoesAlone held w k
 IsPlace held w (First k) = GoesFirst held w k
-IsPlace held w (After k) = GoesAfter held w k
+IsPlace held w (After k near) = GoesAfter held w near
 
 -- the wish of a key is in the bucket of a wish, and comes before it
 pub record IsBehind (held : List Held) (w : Wish) (k : ℕ) : Type 0 where
@@ -109,6 +109,10 @@ first_of (Some b) fs = if nat_eq b.fs fs then Some b.first else None
 -- whether the wish of a key comes before a wish
 abbrev pub comes_before : List Held → ℕ → Wish → Bool
 comes_before held k w = option_map_or (λ x. is_before x w) (wish_at held k) false
+
+-- whether the wish of a key is due at the physical time of a wish, and comes before it
+abbrev pub is_near : List Held → ℕ → Wish → Bool
+is_near held k w = option_map_or (λ x. nat_eq x.due.fs w.due.fs && is_before x w) (wish_at held k) false
 
 -- a key, where its wish comes before a wish
 abbrev pub if_before : List Held → Wish → Option ℕ → Option ℕ

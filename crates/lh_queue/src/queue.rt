@@ -1,14 +1,15 @@
 //! A queue of wishes in buckets, a bucket for each physical time, with the wishes themselves in a slab.
-ghost use Rattle.std.specs.Prelude.{◌≡◌, ◌≢◌, ◌≤◌, ◌<◌, ◌+◌, ◌∷◌, ℕ, [], length, IsSome, OnOk, slice_get, option_copied};
+ghost use Rattle.std.specs.Prelude.{◌≡◌, ◌≢◌, ◌≤◌, ◌<◌, ◌+◌, ◌∷◌, ℕ, [], length, IsSome, None, OnOk, slice_get, option_copied};
 ghost use Rattle.lh_types.specs.History.{values_by};
 ghost use Rattle.lh_queue.specs.Held.{Held, with_held, wish_at, due_later, NoneDueBefore, NoneCompetes, NamesOnce, EachWithin, IsLeastDue, AreInOrder, KeysDiffer};
-ghost use Rattle.lh_queue.specs.Holds.{entries, AreBitsAt, HoldsOn, HoldsMore, IsSoonestDue};
+ghost use Rattle.lh_queue.specs.Holds.{entries, HoldsFor, AreBitsAt, HoldsOn, HoldsMore, IsSoonestDue};
 ghost use Rattle.lh_queue.specs.Buckets.{buckets_of, next_in, AreBuckets};
-ghost use Rattle.lh_queue.specs.Places.{IsPlace, GoesAlone, GoesFirst, GoesAfter, IsBehind, IsPut, earlier, first_key, first_wish, starts_at, first_of, comes_before, next_before};
+ghost use Rattle.lh_queue.specs.Places.{IsPlace, GoesAlone, GoesFirst, GoesAfter, IsBehind, IsPut, earlier, first_key, first_wish, starts_at, first_of, comes_before, next_before, is_near};
 
 #[cfg(test)]
 mod tests;
 
+use crate::hints::Hints;
 use crate::wish::Wish;
 use lh_time::Instant;
 use lh_types::bits::Bits;
@@ -33,12 +34,13 @@ struct Linked {
     next: Option<usize>,
 }
 
-/// Where a wish goes: alone into a new bucket of this number, first into the bucket of this number, or behind the wish of this key.
+/// Where a wish goes: alone into a new bucket of this number, first into the bucket of this number, or in the bucket of the
+/// first number behind the wish of the key that stands second.
 #[derive(Clone, Copy)]
 enum Place {
     Alone(usize),
     First(usize),
-    After(usize),
+    After(usize, usize),
 }
 
 /// The wishes that are still due.
@@ -50,6 +52,7 @@ pub struct Queue {
     links: Slab<Linked>,
     // The times rise.
     buckets: Vec<Bucket>,
+    hints: Hints,
 }
 
 impl Model for Queue {
@@ -71,11 +74,13 @@ impl Model for Queue {
 impl Queue {
     /// An empty queue, which takes no memory yet.
     pub fn new(alloc: Global) -> Queue
-        ensures { result.held ≡ [] }
+        ensures held { result.held ≡ [] }
+        ensures holds { HoldsFor result.held [] None }
     {
         Queue {
             links: Slab::new(alloc),
             buckets: Vec::new(alloc),
+            hints: Hints::new(alloc),
         }
     }
 
@@ -87,6 +92,7 @@ impl Queue {
     {
         self.links.reserve(n)?;
         self.buckets.reserve(n)?;
+        self.hints.make_room(n)?;
         Ok(())
     }
 
@@ -102,7 +108,7 @@ impl Queue {
         match self.place(&w) {
             Place::Alone(k) => self.put_alone(k, w),
             Place::First(k) => self.put_first(k, w),
-            Place::After(key) => self.put_after(key, w),
+            Place::After(k, near) => self.put_after(k, near, w),
         }
     }
 
@@ -226,6 +232,7 @@ impl Queue {
             Some(key) => self.buckets[0].first = key,
             None => {
                 self.buckets.remove(0);
+                self.hints.remove_first();
             }
         }
         linked.wish
@@ -241,7 +248,8 @@ impl Queue {
             None => Place::Alone(k),
             Some(first) => {
                 if self.comes_before(first, w) {
-                    Place::After(self.last_before(first, w))
+                    let near = self.near(k, first, w);
+                    Place::After(k, self.last_before(near, w))
                 } else {
                     Place::First(k)
                 }
@@ -301,6 +309,35 @@ impl Queue {
         }
     }
 
+    /// Whether the wish of this key is due at the physical time of a wish, and comes before it.
+    fn is_near(&self, key: usize, w: &Wish) -> bool
+        ensures { result ≡ is_near self.now.held key w.now }
+    {
+        match self.wish(key) {
+            Some(wish) => wish.due.fs == w.due.fs && wish.is_before(w),
+            None => false,
+        }
+    }
+
+    /// The wish that was put last into the bucket of this number, where it comes before a wish, and else the bucket's first.
+    fn near(&self, k: usize, first: usize, w: &Wish) -> usize
+        requires order { AreInOrder self.now.held }
+        requires keys { KeysDiffer self.now.held }
+        requires starts { IsBehind self.now.held w.now first }
+        ensures { IsBehind self.now.held w.now result }
+    {
+        match self.hints.get(k) {
+            Some(key) => {
+                if self.is_near(key, w) {
+                    key
+                } else {
+                    first
+                }
+            }
+            None => first,
+        }
+    }
+
     /// From a wish of the same bucket that comes before a wish, the last such.
     fn last_before(&self, first: usize, w: &Wish) -> usize
         requires apart { NoneCompetes w.now self.now.held }
@@ -329,7 +366,7 @@ impl Queue {
             next: None,
         });
         match self.buckets.insert(k, Bucket { fs, first }) {
-            Ok(()) => {}
+            Ok(()) => self.hints.insert(k, first),
             Err(_) => unreachable!(),
         }
     }
@@ -346,8 +383,8 @@ impl Queue {
         self.buckets[k].first = key;
     }
 
-    /// Puts a wish behind the wish of this key.
-    fn put_after(&mut self, near: usize, w: Wish)
+    /// Puts a wish into the bucket of this number behind the wish of this key.
+    fn put_after(&mut self, k: usize, near: usize, w: Wish)
         requires room { 0 < self.old.spare }
         requires place { GoesAfter self.old.held w near }
         requires once { NamesOnce w.bits }
@@ -356,5 +393,6 @@ impl Queue {
         let next = self.links[near].next;
         let key = self.links.insert_reserved(Linked { wish: w, next });
         self.links[near].next = Some(key);
+        self.hints.note(k, key);
     }
 }

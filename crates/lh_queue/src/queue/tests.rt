@@ -1,6 +1,7 @@
 //! A queue through puts, looks and takes, and its buckets.
 ghost use Rattle.std.specs.Prelude.{◌≡◌, ◌<◌, ◌∷◌, [], true, IfOk, OnOk};
-ghost use Rattle.lh_queue.specs.Held.{EachWithin, BitsWithin, NamesOnce, NoneCompetes, NoneDueBefore};
+ghost use Rattle.std.specs.Ordering.{is_eq};
+ghost use Rattle.lh_queue.specs.Held.{wish_cmp, EachWithin, BitsWithin, NamesOnce, NoneCompetes, NoneDueBefore};
 
 use crate::queue::{Bucket, Queue};
 use crate::wish::Wish;
@@ -43,13 +44,24 @@ fn wish(
     })
 }
 
+/// Whether two wishes have the same due instant, made instant and instance.
+fn compete(w: &Wish, x: &Wish) -> bool
+    ensures { result ≡ is_eq (wish_cmp w.now x.now) }
+{
+    w.due
+        .cmp(&x.due)
+        .then(w.made.cmp(&x.made))
+        .then(w.instance.cmp(&x.instance))
+        .is_eq()
+}
+
 impl Queue {
     /// Whether no held wish has the due instant, made instant and instance of a wish.
     fn is_apart(&self, w: &Wish) -> bool
         ensures { result ≡ true → NoneCompetes w.now self.now.held }
     {
         for (_, linked) in self.links.iter() {
-            if !linked.wish.is_before(w) && !w.is_before(&linked.wish) {
+            if compete(w, &linked.wish) {
                 return false;
             }
         }
