@@ -11,3 +11,4 @@ pub mod Holding
 pub mod Taking
 pub mod Leading
 pub mod Keeping
+pub mod Apart

@@ -1,6 +1,7 @@
 //! A queue through puts, looks and takes, and its buckets.
 ghost use Rattle.std.specs.Prelude.{◌≡◌, ◌<◌, ◌∷◌, [], true, IfOk, OnOk};
 ghost use Rattle.std.specs.Ordering.{is_eq};
+ghost use Rattle.lh_time.specs.Order.{instant_le};
 ghost use Rattle.lh_queue.specs.Held.{wish_cmp, EachWithin, BitsWithin, NamesOnce, NoneCompetes, NoneDueBefore};
 
 use crate::queue::{Bucket, Queue};
@@ -83,12 +84,19 @@ fn put(queue: &mut Queue, w: Wish) -> Result<(), NoMemory>
     Ok(())
 }
 
+/// Whether an instant is no later than another one.
+fn is_upto(a: Instant, b: Instant) -> bool
+    ensures { result ≡ instant_le a b }
+{
+    a.cmp(&b).is_le()
+}
+
 /// Whether no held wish is due before an instant.
 fn starts_from(queue: &Queue, at: Instant) -> bool
     ensures { result ≡ true → NoneDueBefore at queue.now.held }
 {
     match queue.next_due() {
-        Some(due) => at.cmp(&due).is_le(),
+        Some(due) => is_upto(at, due),
         None => true,
     }
 }
