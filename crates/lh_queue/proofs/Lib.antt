@@ -1,0 +1,14 @@
+pub mod Order
+pub mod Storage
+pub mod Bucketing
+pub mod Putting
+pub mod Writing
+pub mod Placing
+pub mod Entries
+pub mod Found
+pub mod Among
+pub mod Holding
+pub mod Taking
+pub mod Leading
+pub mod Keeping
+pub mod Apart

@@ -1,0 +1,398 @@
+//! A queue of wishes in buckets, a bucket for each physical time, with the wishes themselves in a slab.
+ghost use Rattle.std.specs.Prelude.{◌≡◌, ◌≢◌, ◌≤◌, ◌<◌, ◌+◌, ◌∷◌, ℕ, [], length, IsSome, None, OnOk, slice_get, option_copied};
+ghost use Rattle.lh_types.specs.History.{values_by};
+ghost use Rattle.lh_queue.specs.Held.{Held, with_held, wish_at, due_later, NoneDueBefore, NoneCompetes, NamesOnce, EachWithin, IsLeastDue, AreInOrder, KeysDiffer};
+ghost use Rattle.lh_queue.specs.Holds.{entries, HoldsFor, AreBitsAt, HoldsOn, HoldsMore, IsSoonestDue};
+ghost use Rattle.lh_queue.specs.Buckets.{buckets_of, next_in, AreBuckets};
+ghost use Rattle.lh_queue.specs.Places.{IsPlace, GoesAlone, GoesFirst, GoesAfter, IsBehind, IsPut, earlier, first_key, first_wish, starts_at, first_of, comes_before, next_before, is_near};
+
+#[cfg(test)]
+mod tests;
+
+use crate::hints::Hints;
+use crate::wish::Wish;
+use lh_time::Instant;
+use lh_types::bits::Bits;
+use lh_types::ty::NoMemory;
+use slab::Slab;
+use std::alloc::Global;
+use std::marker::Model;
+
+/// A physical time at which wishes are due, and the first of them.
+#[derive(Clone, Copy, Debug, PartialEq, Eq)]
+pub struct Bucket {
+    /// The time, in femtoseconds.
+    pub fs: u64,
+    /// The key of the first wish that is due then, by due instant, made instant and instance.
+    pub first: usize,
+}
+
+/// A wish and the key of the next one of its bucket.
+#[derive(Drop)]
+struct Linked {
+    wish: Wish,
+    next: Option<usize>,
+}
+
+/// Where a wish goes: alone into a new bucket of this number, first into the bucket of this number, or in the bucket of the
+/// first number behind the wish of the key that stands second.
+#[derive(Clone, Copy)]
+enum Place {
+    Alone(usize),
+    First(usize),
+    After(usize, usize),
+}
+
+/// The wishes that are still due.
+///
+/// Each has a key, which it keeps as long as it is held. Contracts see a queue as the list of its keys and wishes in order of
+/// the wishes, and as the number of wishes that it takes without memory.
+#[derive(Drop)]
+pub struct Queue {
+    links: Slab<Linked>,
+    // The times rise.
+    buckets: Vec<Bucket>,
+    hints: Hints,
+}
+
+impl Model for Queue {
+    ghost use Rattle.std.specs.Prelude.{length, vec_capacity};
+    ghost use Rattle.lh_queue.specs.Held.{Waiting};
+
+    ghost Value = { Waiting };
+
+    ghost use Rattle.lh_queue.specs.Stored.{held_by, spare_by, StoresSome};
+
+    ghost view = { λ q. record {
+      held = held_by q.links q.buckets.items;
+      spare = spare_by q.links (length q.buckets.items) (vec_capacity q.buckets);
+    } };
+
+    ghost invariant = { λ q. StoresSome q.links q.buckets.items };
+}
+
+impl Queue {
+    /// An empty queue, which takes no memory yet.
+    pub fn new(alloc: Global) -> Queue
+        ensures held { result.held ≡ [] }
+        ensures holds { HoldsFor result.held [] None }
+    {
+        Queue {
+            links: Slab::new(alloc),
+            buckets: Vec::new(alloc),
+            hints: Hints::new(alloc),
+        }
+    }
+
+    /// Makes room, so that `n` more wishes can be put without memory. Whatever it answers, the wishes, their keys and the buckets stay.
+    pub fn reserve(&mut self, n: usize) -> Result<(), NoMemory>
+        ensures ok { OnOk result (n ≤ self.new.spare) }
+        ensures held { self.new.held ≡ self.old.held }
+        ensures spare { self.old.spare ≤ self.new.spare }
+    {
+        self.links.reserve(n)?;
+        self.buckets.reserve(n)?;
+        self.hints.make_room(n)?;
+        Ok(())
+    }
+
+    /// Adds a wish under a key that no held wish has; every other wish keeps its key. It takes no memory.
+    pub fn put(&mut self, w: Wish)
+        requires room { 0 < self.old.spare }
+        requires apart { NoneCompetes w self.old.held }
+        requires once { NamesOnce w.bits }
+        ensures adds { (key : ℕ) × (wish_at self.old.held key ≡ None) × (self.new.held ≡ with_held self.old.held (record { key = key; wish = w })) }
+        ensures spare { self.old.spare ≤ self.new.spare + 1 }
+        ensures holds { HoldsMore self.old.held w self.new.held }
+    {
+        match self.place(&w) {
+            Place::Alone(k) => self.put_alone(k, w),
+            Place::First(k) => self.put_first(k, w),
+            Place::After(k, near) => self.put_after(k, near, w),
+        }
+    }
+
+    /// The least instant at which a held wish is due; `None` exactly where no wish is held.
+    pub fn next_due(&self) -> Option<Instant>
+        ensures least { IsLeastDue self.now.held result }
+        ensures soonest { IsSoonestDue self.now.held result }
+    {
+        let _ = &self.links;
+        match self.first() {
+            Some(wish) => Some(wish.due),
+            None => None,
+        }
+    }
+
+    /// Takes out the wishes that are due at an instant, before which none is due, and sets their bits: of two that set one bit
+    /// the one made later, and of these the one of the greater instance, decides. Every other wish keeps its key.
+    pub fn take_due(&mut self, at: Instant, now: &mut Bits)
+        requires due { NoneDueBefore at self.old.held }
+        requires within { EachWithin (length now.old) self.old.held }
+        ensures left { self.new.held ≡ due_later at self.old.held }
+        ensures spare { self.old.spare ≤ self.new.spare }
+        ensures bits { now.new ≡ values_by (entries self.old.held) at 0 now.old }
+        ensures values { AreBitsAt self.old.held now.old at now.new }
+        ensures holds { HoldsOn self.old.held at self.new.held }
+    {
+        let _ = &self.links;
+        while self.starts_at(at) {
+            let wish = self.take_first();
+            wish.set(now);
+        }
+    }
+
+    /// Sets the bits that taking out the wishes due at an instant would set, and leaves the queue as it is.
+    pub fn look_due(&self, at: Instant, now: &mut Bits)
+        requires due { NoneDueBefore at self.now.held }
+        requires within { EachWithin (length now.old) self.now.held }
+        ensures bits { now.new ≡ values_by (entries self.now.held) at 0 now.old }
+        ensures values { AreBitsAt self.now.held now.old at now.new }
+    {
+        let _ = &self.links;
+        let mut key = self.first_key();
+        while let Some(k) = key {
+            let Some(wish) = self.wish(k) else { return };
+            if !wish.is_due(at) {
+                return;
+            }
+            wish.set(now);
+            key = self.next_key(k);
+        }
+    }
+
+    /// The buckets: their times rise strictly, and are exactly the physical times at which held wishes are due. From the first
+    /// key of each, by `next_key`, come the keys of exactly the wishes due at its time, each once, by due instant, made instant
+    /// and instance.
+    pub fn buckets(&self) -> &[Bucket]
+        ensures list { result.now ≡ buckets_of self.now.held }
+        ensures lead { AreBuckets self.now.held result.now }
+        ensures order { AreInOrder self.now.held }
+        ensures keys { KeysDiffer self.now.held }
+    {
+        self.buckets.as_slice()
+    }
+
+    /// The held wish of a key; `None` exactly where no held wish has the key.
+    pub fn wish(&self, key: usize) -> Option<&Wish>
+        ensures { option_copied result ≡ wish_at self.now.held key }
+    {
+        match self.links.get(key) {
+            Some(linked) => Some(&linked.wish),
+            None => None,
+        }
+    }
+
+    /// The key of the wish that comes next in the bucket of the held wish of this key; `None` exactly where there is no further one.
+    pub fn next_key(&self, key: usize) -> Option<usize>
+        requires { IsSome (wish_at self.now.held key) }
+        ensures { result ≡ next_in self.now.held key }
+    {
+        self.links[key].next
+    }
+
+    /// The key of the first wish.
+    fn first_key(&self) -> Option<usize>
+        ensures { result ≡ first_key self.now.held }
+    {
+        match self.buckets.first() {
+            Some(bucket) => Some(bucket.first),
+            None => None,
+        }
+    }
+
+    /// The first wish.
+    fn first(&self) -> Option<&Wish>
+        ensures { option_copied result ≡ first_wish self.now.held }
+    {
+        match self.first_key() {
+            Some(key) => self.wish(key),
+            None => None,
+        }
+    }
+
+    /// Whether the first wish is due at an instant.
+    fn starts_at(&self, at: Instant) -> bool
+        ensures { result ≡ starts_at at self.now.held }
+    {
+        match self.first() {
+            Some(wish) => wish.is_due(at),
+            None => false,
+        }
+    }
+
+    /// Takes out the first wish.
+    fn take_first(&mut self) -> Wish
+        requires { self.old.held ≢ [] }
+        ensures held { (key : ℕ) × (self.old.held ≡ (record { key = key; wish = result }) ∷ self.new.held) }
+        ensures spare { self.old.spare ≤ self.new.spare }
+    {
+        let linked = self.links.remove(self.buckets[0].first);
+        match linked.next {
+            Some(key) => self.buckets[0].first = key,
+            None => {
+                self.buckets.remove(0);
+                self.hints.remove_first();
+            }
+        }
+        linked.wish
+    }
+
+    /// Where a wish goes.
+    fn place(&self, w: &Wish) -> Place
+        requires { NoneCompetes w.now self.now.held }
+        ensures { IsPlace self.now.held w.now result }
+    {
+        let k = self.first_from(w.due.fs);
+        match self.first_of(k, w.due.fs) {
+            None => Place::Alone(k),
+            Some(first) => {
+                if self.comes_before(first, w) {
+                    let near = self.near(k, first, w);
+                    Place::After(k, self.last_before(near, w))
+                } else {
+                    Place::First(k)
+                }
+            }
+        }
+    }
+
+    /// The number of the first bucket that is not of an earlier time.
+    fn first_from(&self, fs: u64) -> usize
+        ensures number { result ≡ earlier fs (buckets_of self.now.held) }
+        ensures order { AreInOrder self.now.held }
+        ensures keys { KeysDiffer self.now.held }
+    {
+        self.buckets.partition_point(|bucket| bucket.fs < fs)
+    }
+
+    /// The first key of the bucket of this number, where it is of this time.
+    fn first_of(&self, k: usize, fs: u64) -> Option<usize>
+        ensures { result ≡ first_of (slice_get (buckets_of self.now.held) k) fs }
+    {
+        match self.buckets.get(k) {
+            None => None,
+            Some(bucket) => {
+                if bucket.fs == fs {
+                    Some(bucket.first)
+                } else {
+                    None
+                }
+            }
+        }
+    }
+
+    /// Whether the wish of this key comes before a wish.
+    fn comes_before(&self, key: usize, w: &Wish) -> bool
+        ensures { result ≡ comes_before self.now.held key w.now }
+    {
+        match self.wish(key) {
+            Some(wish) => wish.is_before(w),
+            None => false,
+        }
+    }
+
+    /// The key of the wish that comes next in the bucket, where it comes before a wish.
+    fn next_before(&self, key: usize, w: &Wish) -> Option<usize>
+        requires { IsSome (wish_at self.now.held key) }
+        ensures { result ≡ next_before self.now.held key w.now }
+    {
+        match self.next_key(key) {
+            None => None,
+            Some(next) => {
+                if self.comes_before(next, w) {
+                    Some(next)
+                } else {
+                    None
+                }
+            }
+        }
+    }
+
+    /// Whether the wish of this key is due at the physical time of a wish, and comes before it.
+    fn is_near(&self, key: usize, w: &Wish) -> bool
+        ensures { result ≡ is_near self.now.held key w.now }
+    {
+        match self.wish(key) {
+            Some(wish) => wish.due.fs == w.due.fs && wish.is_before(w),
+            None => false,
+        }
+    }
+
+    /// The wish that was put last into the bucket of this number, where it comes before a wish, and else the bucket's first.
+    fn near(&self, k: usize, first: usize, w: &Wish) -> usize
+        requires order { AreInOrder self.now.held }
+        requires keys { KeysDiffer self.now.held }
+        requires starts { IsBehind self.now.held w.now first }
+        ensures { IsBehind self.now.held w.now result }
+    {
+        match self.hints.get(k) {
+            Some(key) => {
+                if self.is_near(key, w) {
+                    key
+                } else {
+                    first
+                }
+            }
+            None => first,
+        }
+    }
+
+    /// From a wish of the same bucket that comes before a wish, the last such.
+    fn last_before(&self, first: usize, w: &Wish) -> usize
+        requires apart { NoneCompetes w.now self.now.held }
+        requires order { AreInOrder self.now.held }
+        requires keys { KeysDiffer self.now.held }
+        requires starts { IsBehind self.now.held w.now first }
+        ensures { GoesAfter self.now.held w.now result }
+    {
+        let mut key = first;
+        while let Some(next) = self.next_before(key, w) {
+            key = next;
+        }
+        key
+    }
+
+    /// Puts a wish alone into a new bucket of this number.
+    fn put_alone(&mut self, k: usize, w: Wish)
+        requires room { 0 < self.old.spare }
+        requires place { GoesAlone self.old.held w k }
+        requires once { NamesOnce w.bits }
+        ensures { IsPut self.old self.new w }
+    {
+        let fs = w.due.fs;
+        let first = self.links.insert_reserved(Linked {
+            wish: w,
+            next: None,
+        });
+        match self.buckets.insert(k, Bucket { fs, first }) {
+            Ok(()) => self.hints.insert(k, first),
+            Err(_) => unreachable!(),
+        }
+    }
+
+    /// Puts a wish first into the bucket of this number.
+    fn put_first(&mut self, k: usize, w: Wish)
+        requires room { 0 < self.old.spare }
+        requires place { GoesFirst self.old.held w k }
+        requires once { NamesOnce w.bits }
+        ensures { IsPut self.old self.new w }
+    {
+        let next = Some(self.buckets[k].first);
+        let key = self.links.insert_reserved(Linked { wish: w, next });
+        self.buckets[k].first = key;
+    }
+
+    /// Puts a wish into the bucket of this number behind the wish of this key.
+    fn put_after(&mut self, k: usize, near: usize, w: Wish)
+        requires room { 0 < self.old.spare }
+        requires place { GoesAfter self.old.held w near }
+        requires once { NamesOnce w.bits }
+        ensures { IsPut self.old self.new w }
+    {
+        let next = self.links[near].next;
+        let key = self.links.insert_reserved(Linked { wish: w, next });
+        self.links[near].next = Some(key);
+        self.hints.note(k, key);
+    }
+}

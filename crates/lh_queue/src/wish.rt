@@ -1,0 +1,52 @@
+//! A wish as a queue holds it: what one instance wished at one instant for one due instant.
+ghost use Rattle.std.specs.Prelude.{◌≡◌, length};
+ghost use Rattle.lh_queue.specs.Held.{is_before, is_at, BitsWithin};
+ghost use Rattle.lh_queue.specs.Written.{written};
+
+use lh_time::Instant;
+use lh_types::bits::Bits;
+use lh_types::writes::BitWrites;
+
+/// The part of an instance's wish that is due at one instant: these bits of the signals become so.
+#[derive(Drop)]
+pub struct Wish {
+    /// The instant at which the instance wished it.
+    pub made: Instant,
+    /// The number of the instance.
+    pub instance: u32,
+    /// The instant at which it is due.
+    pub due: Instant,
+    /// The signal bits with what they become.
+    pub bits: BitWrites,
+}
+
+impl Wish {
+    /// Whether it comes before another one: by due instant, then made instant, then instance.
+    pub(crate) fn is_before(&self, other: &Wish) -> bool
+        ensures { result ≡ is_before self.now other.now }
+    {
+        self.due
+            .cmp(&other.due)
+            .then(self.made.cmp(&other.made))
+            .then(self.instance.cmp(&other.instance))
+            .is_lt()
+    }
+
+    /// Whether it is due at an instant.
+    pub(crate) fn is_due(&self, at: Instant) -> bool
+        ensures { result ≡ is_at self.now.due at }
+    {
+        self.due.cmp(&at).is_eq()
+    }
+
+    /// Sets its bits.
+    pub(crate) fn set(&self, now: &mut Bits)
+        requires { BitsWithin (length now.old) self.now.bits }
+        ensures { now.new ≡ written self.now.bits now.old }
+    {
+        for k in 0..self.bits.len() {
+            let (bit, value) = self.bits.get(k);
+            now.set(bit, value);
+        }
+    }
+}
