@@ -4,7 +4,7 @@ use Rattle.std.proofs.lemmas.List.{append-nil}
 use Rattle.std.proofs.lemmas.Grind.{common_steps}
 use Rattle.std.proofs.lemmas.Bool.{or_parts}
 use Rattle.lh_types.specs.Types.{TypeTree}
-use Rattle.lh_unit.specs.Contents.{ArgText, LineText, BlockText, UnitText, unit_text, declare_text, line_at_end, line_count, args_define, lines_define, blocks_define, is_result_name, defines_label_in}
+use Rattle.lh_unit.specs.Contents.{ArgText, LineText, BlockText, UnitText, unit_text, declare_text, line_at_end, line_count, args_define, lines_define, blocks_define, defines_label_in}
 use Rattle.lh_unit.specs.Lexemes.{Lexeme}
 use Rattle.lh_unit.specs.Pieces.{render, lexemes_in}
 use Rattle.lh_unit.specs.Spells.{LineItem, header_item, declare_item, label_item, inst_item, close_item, SpellsHeader}
@@ -14,7 +14,6 @@ use Rattle.lh_unit.specs.declared.name.UnitName.{UnitName}
 use Rattle.lh_unit.specs.declared.inst.UnitKind.{UnitKind}
 use Rattle.lh_unit.specs.declared.inst.UnitKind.TheVariants as kind
 use Rattle.lh_unit.specs.declared.inst.Declare.{Declare}
-use Rattle.lh_unit.proofs.Lists.{or-assoc}
 use Rattle.lh_unit.proofs.Rendering.{lexemes-render}
 use Rattle.lh_again.specs.ItemLines.{item_line}
 use Rattle.lh_again.specs.Laws.{PrintableIsSpelled}

@@ -1,32 +1,22 @@
 -- What is defined on every path to a place is held there, and each operand is: how this goes on from line to line, and from block to block.
 use Rattle.std.proofs.Common.{◌≡◌, ◌⊎◌, inl, inr, ℕ, List, [], ◌∷◌, ◌++◌, Bool, true, false, ◌||◌, if◌then◌else◌, refl, ap, ◌∙◌, Option, Some, None}
 use Rattle.std.specs.Option.{option_and_then}
+use Rattle.std.proofs.Math.Bool.{or-false}
 use Rattle.lh_types.specs.Values.{Datum}
-use Rattle.lh_unit.specs.Contents.{EdgeText, InstText, const_text, pure_text, var_text, ld_text, st_text, sig_text, prb_text, drv_text, reg_text, child_text, call_text, phi_text, br_text, branch_text, wait_text, halt_text, ret_text, LineText, BlockText, UnitText, same_name, is_result_name, lines_define, blocks_define, args_define, defines_value}
+use Rattle.lh_unit.specs.Contents.{EdgeText, InstText, const_text, pure_text, var_text, ld_text, st_text, sig_text, prb_text, drv_text, reg_text, child_text, call_text, phi_text, br_text, branch_text, wait_text, halt_text, ret_text, LineText, BlockText, UnitText, same_name, is_result_name, blocks_define, args_define, defines_value}
 use Rattle.lh_unit.specs.Named.{block_of, label_or}
 use Rattle.lh_unit.specs.Held.{Held, datum_held, Env, with_held, datum_at}
 use Rattle.lh_unit.specs.Activation.{edge_from, phi_taken, phis_taken}
 use Rattle.lh_unit.specs.Places.{Place, has_edge}
 use Rattle.lh_unit.specs.WellFormed.{Lacks, SomeEdgeLacks, SomeValueLacks}
-
-or_false : (b : Bool) → (b || false) ≡ b
-or_false true = refl
-or_false false = refl
-
-lines_define-append : (n : List ℕ) (xs ys : List LineText) → lines_define n (xs ++ ys) ≡ (lines_define n xs || lines_define n ys)
-lines_define-append n [] ys = refl
-lines_define-append n (x ∷ xs) ys = ap (λ b. is_result_name n x.result || b) (lines_define-append n xs ys) ∙ or_assoc (is_result_name n x.result) (lines_define n xs) (lines_define n ys)
-  where
-    or_assoc : (a b c : Bool) → (a || (b || c)) ≡ ((a || b) || c)
-    or_assoc true b c = refl
-    or_assoc false b c = refl
+use Rattle.lh_unit.proofs.Defined.{lines_define-append}
 
 -- a definition that does not stand before a line that gives another value does not stand after it
 pub lacks_after : (u : UnitText) (n : List ℕ) (b : BlockText) (before : List LineText) (l : LineText) → is_result_name n l.result ≡ false → Lacks u n b before → Lacks u n b (before ++ l ∷ [])
 lacks_after u n b before l e k = record {
   earlier = k.earlier;
   path = k.path;
-  not_before = lines_define-append n before (l ∷ []) ∙ ap (λ x. x || (is_result_name n l.result || false)) k.not_before ∙ or_false (is_result_name n l.result) ∙ e;
+  not_before = lines_define-append n before (l ∷ []) ∙ ap (λ x. x || (is_result_name n l.result || false)) k.not_before ∙ or-false (is_result_name n l.result) ∙ e;
   not_earlier = k.not_earlier;
 }
 

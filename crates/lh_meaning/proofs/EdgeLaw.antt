@@ -1,6 +1,7 @@
 -- An entity whose registers give at every edge what a process gives may stand for it.
 use Rattle.std.proofs.Common.{◌≡◌, ℕ, List, [], Bool, true, false, not, ◌&&◌, ◌||◌, if◌then◌else◌, refl, ap, sym, ◌∙◌, Option, Some, None}
 use Rattle.std.specs.List.{list_any}
+use Rattle.std.proofs.Math.Bool.{or-false}
 use Rattle.lh_time.specs.declared.Instant.{Instant}
 use Rattle.lh_types.specs.Wish.{Wish, no_wish}
 use Rattle.lh_types.specs.declared.part.Range.{Range}
@@ -121,14 +122,10 @@ module _ (r : Rules) (x y : UnitText) (i : Instance) (c : EdgeFor r x y i) where
         };
       })
 
-  or_false : (b : Bool) → (b || false) ≡ b
-  or_false true = refl
-  or_false false = refl
-
   edge_keeps : (last : Option Instant) (old now : List Bool) (t : Instant) (a b : State) → EdgeRelated last old a b → Matches (Both now) (act r last old now t x i a) (act r last old now t y i b)
   edge_keeps None old now t a b h = rw (h.0, h.1) (first_frame now t)
   edge_keeps (Some l) old now t a b h =
-      rw (h.process.is, h.entity, or_false (list_any (bit_differs old now) (bit_numbers h.process.parts)), or_false (list_any (bit_differs old now) (sensed y i)), same_any (bit_differs old now) (bit_numbers h.process.parts) c.on h.process.same_parts)
+      rw (h.process.is, h.entity, or-false (list_any (bit_differs old now) (bit_numbers h.process.parts)), or-false (list_any (bit_differs old now) (sensed y i)), same_any (bit_differs old now) (bit_numbers h.process.parts) c.on h.process.same_parts)
       (joined now _ _ (wish_at h.past now t)
       (process_does h.past old now t h.process.same_bits h.process.held h.process.parts h.process.stands h.process.same_parts (list_any (bit_differs old now) c.on) refl)
       (entity_does h.past old now t h.process.same_bits (list_any (bit_differs old now) (sensed y i)) refl))

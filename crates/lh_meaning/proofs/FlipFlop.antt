@@ -1,6 +1,8 @@
 -- That an entity with a register may stand for a process that looks for an edge: a flip-flop.
 use Rattle.std.proofs.Common.{◌≡◌, ◌≤◌, ℕ, zero, suc, List, [], ◌∷◌, map, take, drop, Bool, true, false, not, ◌&&◌, ◌||◌, nat_eq, if◌then◌else◌, refl, ap, ◌∙◌, Option, Some, None, arith, inr}
 use Rattle.std.specs.Prelude.{codes}
+use Rattle.std.proofs.Math.Bool.{and-true}
+use Rattle.std.proofs.lemmas.Bool.{or_right}
 use Rattle.lh_time.specs.declared.Instant.{Instant}
 use Rattle.lh_time.specs.Due.{due_of}
 use Rattle.lh_types.specs.Values.{Datum, int_value}
@@ -177,11 +179,7 @@ module _ (r : Rules) (enough : 10 ≤ r.bound) (c k o : Range) (c1 : c.len ≡ 1
   clock_now now = ap (λ n. not (nat_eq n 0)) (number_in now c c1) ∙ test_of (bit_at now c.lo)
 
   wish_if : (w : Wish) (p b n : Bool) → b ≡ n → (if (not p && b) && true then w else no_wish) ≡ (if rose p n then w else no_wish)
-  wish_if w p b n e = ap (λ x. if (not p && x) && true then w else no_wish) e ∙ ap (λ x. if x then w else no_wish) (and_true (not p && n))
-    where
-      and_true : (x : Bool) → (x && true) ≡ x
-      and_true true = refl
-      and_true false = refl
+  wish_if w p b n e = ap (λ x. if (not p && x) && true then w else no_wish) e ∙ ap (λ x. if x then w else no_wish) (and-true (not p && n))
 
   pass_wish : (past now : List Bool) (t : Instant) (sigs : List Range) → (pass as_entity (c ∷ k ∷ o ∷ []) sigs now (Some (bits_read past (c.lo ∷ []))) t).wish ≡ rows past now t
   unfolding pass
@@ -230,10 +228,6 @@ module _ (r : Rules) (enough : 10 ≤ r.bound) (c k o : Range) (c1 : c.len ≡ 1
     is = runs_from now t 10 (at_check e) _ (omega arith) (from_check now t e (bit_at past c.lo) (bit_at now c.lo) s.clk s.d s.q s.clk0 (number_in now c c1));
   }
 
-  or_more : (x y : Bool) → y ≡ true → (x || y) ≡ true
-  or_more true y h = refl
-  or_more false y h = h
-
   flip_flop_for : (i : Instance) → i.args ≡ c ∷ k ∷ o ∷ [] → k.len ≡ 1 → EdgeFor r as_process as_entity i
   flip_flop_for i e k1 = record {
     is_process = refl;
@@ -247,7 +241,7 @@ module _ (r : Rules) (enough : 10 ≤ r.bound) (c k o : Range) (c1 : c.len ≡ 1
     first = λ now t. first_ends now t i e;
     later = later_ends;
     waited = λ a h. h;
-    probed = rw (e, senses_both i.sigs, k1, c1) (λ a h. or_more _ _ h);
+    probed = rw (e, senses_both i.sigs, k1, c1) (λ a h. or_right _ _ h);
     rows_rest = λ past now t h. rows_if (the_drive k o now t) (bit_at past c.lo) (bit_at now c.lo) h;
     keeps = λ now t memory. rw e (pass_seen now t i.sigs memory);
     first_rests = λ now t. rw e (pass_first now t i.sigs);

@@ -11,12 +11,13 @@ use Rattle.lh_unit.specs.Design.{Design}
 use Rattle.lh_unit.specs.World.{State, Act, Rules, rules_of, unit_of, World, bits_of, acts_of, acts, kept, made_by, next_world, instant_after, next_instant, IsNext}
 use Rattle.lh_meaning.specs.Values.{OneEach}
 use Rattle.lh_meaning.specs.Wishes.{IsBelow, IsInOrder, ActsInOrder, Reached, at_first, after_frame, HistoryIsMap}
-use Rattle.lh_meaning.proofs.Instants.{le_self, lt_le, le_lt, lt_self}
+use Rattle.lh_meaning.proofs.Instants.{le_self, lt_self}
 use Rattle.lh_meaning.proofs.WishesLaw.{in_order-insert, nat_one, then_equal, instant_one, due_bit_self}
 use Rattle.lh_meaning.proofs.WishKept.{WishProperty, act_keeps}
 use Rattle.lh_meaning.proofs.Late.{act_late}
 use Rattle.lh_meaning.proofs.Worlds.{claims-append}
 use Rattle.lh_meaning.proofs.NextLaw.{next_computes}
+use Rattle.lh_time.proofs.OrderLemmas.{instant_le-lt, instant_lt-le_lt}
 
 in_order : (t : Instant) → WishProperty t
 in_order t = record { holds = IsInOrder; nothing = tt; more = λ w due bit b h a. in_order-insert (record { due = due; bit = bit }) b w a }
@@ -148,7 +149,7 @@ record Sound (w : World) : Type 0 where
 
 later_than : (w : World) (t : Instant) (o : Option Instant) → w.last ≡ o → next_instant w ≡ Some t → (c : Claim) → MadeBy o c → instant_lt c.made t ≡ true
 later_than w t None e n c m = absurd m
-later_than w t (Some l) e n c m = le_lt c.made l t m (after (instant_after (Some l) w.history w.states) (next_computes l w.history w.states) (ap (λ x. instant_after x w.history w.states) (sym e) ∙ n))
+later_than w t (Some l) e n c m = instant_lt-le_lt c.made l t m (after (instant_after (Some l) w.history w.states) (next_computes l w.history w.states) (ap (λ x. instant_after x w.history w.states) (sym e) ∙ n))
   where
     same : (u : Instant) → Some u ≡ Some t → u ≡ t
     same u z = cc
@@ -175,7 +176,7 @@ module _ (bound : ℕ) (items : List ItemText) (d : Design) where
       before c x = later_than w t w.last refl n c (s.past c x)
 
       past_at : (c : Claim) → IsAmong c (claims w.history) ⊎ IsAmong c (claims (made_by t 0 (acts bound items d w t))) → instant_le c.made t ≡ true
-      past_at c (inl x) = lt_le c.made t (before c x)
+      past_at c (inl x) = instant_le-lt c.made t (before c x)
       past_at c (inr x) = let f = from_frame t 0 (acts bound items d w t) c x in ap (λ m. instant_le m t) f.when ∙ le_self t
 
       apart : (c e : Claim) → IsAmong c (claims w.history) → IsAmong e (claims (made_by t 0 (acts bound items d w t))) → c.made ≡ e.made → ⊥

@@ -1,6 +1,7 @@
 -- What a text reads as: in each function and process the labels of the blocks are different.
 use Rattle.std.proofs.Common.{◌≡◌, ℕ, List, [], ◌∷◌, ◌++◌, Bool, true, false, ◌||◌, refl, ap, sym, ◌∙◌, subst, Option, Some, None, ◌⊎◌, inl, inr}
 use Rattle.std.specs.Prelude.{if◌then◌else◌}
+use Rattle.std.proofs.lemmas.Bool.{or_parts}
 use Rattle.lh_types.specs.Types.{TypeTree}
 use Rattle.lh_unit.specs.Contents.{ArgText, LineText, BlockText, UnitText, ItemText, unit_text, declare_text, change_last, last_unit, with_block, with_line, line_at_end, same_name, is_result_name, defines_label_in}
 use Rattle.lh_unit.specs.Named.{block_of, label_or}
@@ -32,15 +33,11 @@ abbrev pub In : {A : Type 0} → A → List A → Type 0
 In x [] = ⊥
 In x (y ∷ ys) = (x ≡ y) ⊎ In x ys
 
-pub or_is_false : (a b : Bool) → (a || b) ≡ false → (a ≡ false) × (b ≡ false)
-or_is_false true b p = cc
-or_is_false false b p = (refl, p)
-
 -- the labels that stand in blocks with a block more
 defines-append : (n : List ℕ) (bs cs : List BlockText) → defines_label_in n bs ≡ false → defines_label_in n cs ≡ false → defines_label_in n (bs ++ cs) ≡ false
 defines-append n [] cs p q = q
 defines-append n (b ∷ bs) cs p q =
-    let o = or_is_false (is_result_name n b.label) (defines_label_in n bs) p in
+    let o = or_parts (is_result_name n b.label) (defines_label_in n bs) p in
     ap (λ x. x || defines_label_in n (bs ++ cs)) o.0 ∙ defines-append n bs cs o.1 q
 
 other_name : (m n : List ℕ) → same_name m n ≡ false → same_name n m ≡ false
@@ -54,7 +51,7 @@ pub block-labelled : (n : List ℕ) (bs : List BlockText) → AllLabelled bs →
 block-labelled n [] a d = (n, refl, refl, tt)
 block-labelled n (b ∷ bs) a d =
     let m : List ℕ = a.0 in
-    let o = or_is_false (is_result_name n b.label) (defines_label_in n bs) d in
+    let o = or_parts (is_result_name n b.label) (defines_label_in n bs) d in
     let f : same_name m n ≡ false = ap (is_result_name n) (sym a.1) ∙ o.0 in
     let g : (same_name n m || false) ≡ false = ap (λ x. x || false) (other_name m n f) in
     (m, a.1, defines-append m bs (record { label = Some n; lines = [] } ∷ []) a.2 g, block-labelled n bs a.3 o.1)

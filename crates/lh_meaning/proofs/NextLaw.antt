@@ -1,11 +1,13 @@
 -- The next instant is the least that comes.
 use Rattle.std.proofs.Common.{◌≡◌, List, [], ◌∷◌, Bool, true, false, if◌then◌else◌, refl, ap, sym, ◌∙◌, Option, Some, None, ◌⊎◌, inl, inr, ⊎_elim}
+use Rattle.std.proofs.lemmas.Bool.{both_ways}
 use Rattle.lh_time.specs.declared.Instant.{Instant}
 use Rattle.lh_time.specs.Order.{instant_lt, instant_le}
 use Rattle.lh_types.specs.History.{Made, Claim, claims, sooner, if_later, soonest_due}
 use Rattle.lh_unit.specs.World.{State, wake_of, IsDueIn, WakesIn, IsNext, soonest_wake}
 use Rattle.lh_meaning.specs.Frames.{NextComputes}
-use Rattle.lh_meaning.proofs.Instants.{le_self, le_trans, lt_le, not_lt_le}
+use Rattle.lh_meaning.proofs.Instants.{le_self, le_trans, not_lt_le}
+use Rattle.lh_time.proofs.OrderLemmas.{instant_le-lt}
 
 module _ (t : Instant) where
   -- the least of the instants after t that have a property
@@ -20,18 +22,15 @@ module _ (t : Instant) where
   least_or P Q (Some a) (Some b) p q = at (instant_lt b a) refl
     where
       at : (k : Bool) → instant_lt b a ≡ k → IsLeast (λ u. P u ⊎ Q u) (Some (if k then b else a))
-      at true k = (q.0, inr q.1, λ v h e. ⊎_elim (λ x. le_trans b a v (lt_le b a k) (p.2 v h x)) (q.2 v h) e)
+      at true k = (q.0, inr q.1, λ v h e. ⊎_elim (λ x. le_trans b a v (instant_le-lt b a k) (p.2 v h x)) (q.2 v h) e)
       at false k = (p.0, inl p.1, λ v h e. ⊎_elim (p.2 v h) (λ x. le_trans a b v (not_lt_le a b k) (q.2 v h x)) e)
-
-  no_true : (b : Bool) → b ≡ false → b ≡ true → ⊥
-  no_true b h k = cc
 
   least_one : (x : Instant) → IsLeast (λ u. x ≡ u) (if_later t (Some x))
   least_one x = at (instant_lt t x) refl
     where
       at : (k : Bool) → instant_lt t x ≡ k → IsLeast (λ u. x ≡ u) (if k then Some x else None)
       at true k = (k, refl, λ v h e. ap (instant_le x) (sym e) ∙ le_self x)
-      at false k = λ u h e. no_true (instant_lt t x) k (ap (instant_lt t) e ∙ h)
+      at false k = λ u h e. both_ways (instant_lt t x) k (ap (instant_lt t) e ∙ h)
 
   least_due : (cs : List Claim) → IsLeast (IsDueIn cs) (soonest_due t cs)
   least_due [] = λ u h e. absurd e
@@ -49,7 +48,7 @@ module _ (t : Instant) where
 
       at : (k : Bool) → instant_lt t x ≡ k → IsLeast (λ u. Some x ≡ Some u) (if k then Some x else None)
       at true k = (k, refl, λ v h e. ap (instant_le x) (sym (same v e)) ∙ le_self x)
-      at false k = λ u h e. no_true (instant_lt t x) k (ap (instant_lt t) (same u e) ∙ h)
+      at false k = λ u h e. both_ways (instant_lt t x) k (ap (instant_lt t) (same u e) ∙ h)
 
   least_wake : (ss : List State) → IsLeast (WakesIn ss) (soonest_wake t ss)
   least_wake [] = λ u h e. absurd e

@@ -1,6 +1,6 @@
 -- A value that is read from bits is of the type.
-use Rattle.std.proofs.Common.{◌≡◌, ◌<◌, ◌≤◌, ℕ, zero, suc, ◌+◌, ◌*◌, ◌^◌, List, [], ◌∷◌, take, drop, length, Bool, true, false, refl, ap, sym, ◌∙◌, arith, add-one}
-use Rattle.lh_types.specs.Types.{TypeTree, TypeRow, int_type, time_type, void_type, array_type, tuple_type, signal_type, pointer_type, no_types, more_types, bit_count, IsData, AreData}
+use Rattle.std.proofs.Common.{◌≡◌, ◌<◌, ℕ, zero, suc, ◌+◌, ◌*◌, ◌^◌, List, [], ◌∷◌, take, drop, Bool, true, false, refl, ap, ◌∙◌, arith, add-one}
+use Rattle.lh_types.specs.Types.{TypeTree, TypeRow, int_type, time_type, void_type, array_type, tuple_type, signal_type, pointer_type, no_types, more_types, bit_count, AreData}
 use Rattle.lh_types.specs.Values.{Datum}
 use Rattle.lh_types.specs.Fits.{part_count, FitsType, PartsFit, FitsRow}
 use Rattle.lh_types.specs.Bits.{bits_number, repeat_parts, value_from_bits, row_from_bits}

@@ -1,20 +1,13 @@
 -- Whether some path of blocks to a place lacks a definition can be told, block by block.
 use Rattle.std.proofs.Common.{◌≡◌, ℕ, List, [], ◌∷◌, Bool, true, false, ◌||◌, ◌&&◌, refl, ap, sym, ◌∙◌, subst, Option, Some, None, ◌⊎◌, inl, inr}
 use Rattle.std.specs.Prelude.{not}
+use Rattle.std.proofs.lemmas.Bool.{and_parts, not-true, or_parts}
 use Rattle.lh_unit.specs.Contents.{LineText, BlockText, UnitText, same_name, lines_define, blocks_define}
 use Rattle.lh_unit.specs.Named.{block_of, label_or}
 use Rattle.lh_unit.specs.Places.{has_edge, entry_of, IsPath}
 use Rattle.lh_unit.specs.WellFormed.{Lacks}
 use Rattle.lh_unit.proofs.Tables.{same_name-is, same_name-refl}
 use Rattle.lh_meaning.proofs.Labelled.{In, AllLabelled, own_block, block_of-in}
-
-and_true : (a b : Bool) → a && b ≡ true → (a ≡ true) × (b ≡ true)
-and_true true b p = (refl, p)
-and_true false b p = cc
-
-not_true : (a : Bool) → not a ≡ true → a ≡ false
-not_true true p = cc
-not_true false p = refl
 
 -- one way or the other
 abbrev pub Told : Type 0 → Type 0
@@ -88,14 +81,10 @@ module _ (u : UnitText) (n : List ℕ) where
   passes-is : (c b : BlockText) → has_edge c (label_or b.label) ≡ true → lines_define n c.lines ≡ false → passes c b ≡ true
   passes-is c b p q = rw (p, q) refl
 
-  both_false : (a b : Bool) → (a || b) ≡ false → (a ≡ false) × (b ≡ false)
-  both_false true b p = cc
-  both_false false b p = (refl, p)
-
   reached : (e b : BlockText) (earlier : List BlockText) → entry_of u.blocks ≡ Some e → IsPath u (b ∷ earlier) → blocks_define n earlier ≡ false → (b ≡ e) ⊎ Reaches passes u.blocks e b
   reached e b [] q p d = let f : Some b ≡ Some e = sym p ∙ q in inl cc
   reached e b (c ∷ more) q p d =
-      let o = both_false (lines_define n c.lines) (blocks_define n more) d in
+      let o = or_parts (lines_define n c.lines) (blocks_define n more) d in
       at (passes-is c b p.0 o.0) (reached e c more q p.2 o.1)
     where
       at : passes c b ≡ true → (c ≡ e) ⊎ Reaches passes u.blocks e c → (b ≡ e) ⊎ Reaches passes u.blocks e b
@@ -105,12 +94,12 @@ module _ (u : UnitText) (n : List ℕ) where
   module _ (a : AllLabelled u.blocks) where
     walked : (e b : BlockText) (ms : List BlockText) → entry_of u.blocks ≡ Some e → In b u.blocks → Over passes u.blocks e ms b → PathWithout b
     walked e b [] q i o =
-        let t = and_true (has_edge e (label_or b.label)) (not (lines_define n e.lines)) o in
-        (e ∷ [], (t.0, own_block u.blocks b a i, q), ap (λ x. x || false) (not_true (lines_define n e.lines) t.1))
+        let t = and_parts (has_edge e (label_or b.label)) (not (lines_define n e.lines)) o in
+        (e ∷ [], (t.0, own_block u.blocks b a i, q), ap (λ x. x || false) (not-true (lines_define n e.lines) t.1))
     walked e b (m ∷ ms) q i o =
-        let t = and_true (has_edge m (label_or b.label)) (not (lines_define n m.lines)) o.1 in
+        let t = and_parts (has_edge m (label_or b.label)) (not (lines_define n m.lines)) o.1 in
         let w : PathWithout m = walked e m ms q o.0 o.2 in
-        (m ∷ w.0, (t.0, own_block u.blocks b a i, w.1), ap (λ x. x || blocks_define n w.0) (not_true (lines_define n m.lines) t.1) ∙ w.2)
+        (m ∷ w.0, (t.0, own_block u.blocks b a i, w.1), ap (λ x. x || blocks_define n w.0) (not-true (lines_define n m.lines) t.1) ∙ w.2)
 
     -- one block of the unit is another where their labels are one
     same_block-told : (b c : BlockText) → In b u.blocks → In c u.blocks → Told (b ≡ c)

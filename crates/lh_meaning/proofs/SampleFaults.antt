@@ -2,6 +2,7 @@
 use Rattle.std.proofs.Common.{◌≡◌, ◌<◌, ◌⊎◌, inl, inr, ℕ, List, [], ◌∷◌, ◌++◌, map, filter, Bool, true, false, ◌||◌, refl, ap, sym, ◌∙◌, Some, None, arith}
 use Rattle.std.specs.Prelude.{codes}
 use Rattle.std.specs.List.{list_any}
+use Rattle.std.proofs.lemmas.Bool.{both_ways as clash}
 use Rattle.lh_types.specs.Types.{TypeTree, int_type, void_type}
 use Rattle.lh_types.specs.Values.{int_value}
 use Rattle.lh_types.specs.declared.op.Op.TheVariants as op
@@ -17,9 +18,6 @@ all_kinds = undefined ∷ wrong_kind ∷ wrong_type ∷ not_here ∷ no_terminat
 -- the numbers of the faults of each instruction that ask for no path
 abbrev local_numbers : List ItemText → List (List ℕ)
 local_numbers items = map (λ s. map number_of (filter (has_local items s) all_kinds)) (sites items)
-
-clash : (b : Bool) → b ≡ false → b ≡ true → ⊥
-clash b h k = cc
 
 abbrev AreFalse : (FaultKind → Bool) → List FaultKind → Type 0
 AreFalse p [] = Unit {0}

@@ -8,24 +8,21 @@ use Rattle.std.specs.List.{slice_get}
 use Rattle.std.specs.Cmp.{IsTotalOrder}
 use Rattle.std.proofs.lemmas.Cmp.{then_total, on_total, nat_cmp_total, tied_itself, upto}
 use Rattle.std.proofs.lemmas.Bool.Decides.{nat_tests}
+use Rattle.std.proofs.lemmas.Bool.{both_ways}
 use Rattle.lh_time.specs.declared.Instant.{Instant}
 use Rattle.lh_time.specs.Order.{instant_le}
 use Rattle.lh_types.specs.History.{Claim, claims, claim_cmp, is_due_by, greater, greatest_from, value_by, values_by, bits_at, IsAmong, HasValue}
 use Rattle.lh_meaning.specs.Values.{OneEach, SameDueBy, ValueComputes, OneValue, ValueOfDue, BitsOfDue, BitsHaveValues, AsManyBits}
-use Rattle.lh_meaning.proofs.Instants.{instant_total}
+use Rattle.lh_time.proofs.OrderLemmas.{instant_cmp_total}
+use Rattle.lh_meaning.proofs.Instants.{le_not_gt}
 
 claim_total : IsTotalOrder claim_cmp
-claim_total = then_total (on_total (λ (c : Claim). c.due) instant_total) (then_total (on_total (λ (c : Claim). c.made) instant_total) (on_total (λ (c : Claim). c.instance) nat_cmp_total))
+claim_total = then_total (on_total (λ (c : Claim). c.due) instant_cmp_total) (then_total (on_total (λ (c : Claim). c.made) instant_cmp_total) (on_total (λ (c : Claim). c.instance) nat_cmp_total))
 
 not_above_self : (c : Claim) → is_gt (claim_cmp c c) ≡ false
 not_above_self c = ap is_gt (tied_itself claim_total c)
 
 -- the greater of two is above neither
-le_not_gt : (o : Ordering) → is_le o ≡ true → is_gt o ≡ false
-le_not_gt Less h = refl
-le_not_gt Equal h = refl
-le_not_gt Greater h = cc
-
 not_le_back : (o : Ordering) → is_le o ≡ false → is_gt (ordering_reverse o) ≡ false
 not_le_back Less h = cc
 not_le_back Equal h = cc
@@ -123,10 +120,6 @@ level Less h k = cc
 level Equal h k = refl
 level Greater h k = cc
 
-no_two : (b : Bool) → b ≡ true → b ≡ false → ⊥
-no_two true h k = cc
-no_two false h k = cc
-
 due_bit : (bit : ℕ) (t : Instant) (c : Claim) → is_due_by bit t c ≡ true → c.bit ≡ bit
 due_bit bit t c h = at (nat_eq c.bit bit) refl h
   where
@@ -142,8 +135,8 @@ pub one_value : OneValue
 one_value cs init bit t v w o (inl a) (inl b) =
     a.2 ∙ o a.0 b.0 a.1.among b.1.among (due_bit bit t a.0 a.1.is_due ∙ sym (due_bit bit t b.0 b.1.is_due))
     (level (claim_cmp a.0 b.0) (b.1.greatest a.0 a.1.among a.1.is_due) (ap is_gt (sym (claim_total.antisymm b.0 a.0)) ∙ a.1.greatest b.0 b.1.among b.1.is_due)) ∙ sym b.2
-one_value cs init bit t v w o (inl a) (inr b) = absurd (no_two _ a.1.is_due (b.0 a.0 a.1.among))
-one_value cs init bit t v w o (inr a) (inl b) = absurd (no_two _ b.1.is_due (a.0 b.0 b.1.among))
+one_value cs init bit t v w o (inl a) (inr b) = absurd (both_ways _ (b.0 a.0 a.1.among) a.1.is_due)
+one_value cs init bit t v w o (inr a) (inl b) = absurd (both_ways _ (a.0 b.0 b.1.among) b.1.is_due)
 one_value cs init bit t v w o (inr a) (inr b) = a.1 ∙ sym b.1
 
 not_due : (bit : ℕ) (t : Instant) (xs ys : List Claim) → SameDueBy bit t xs ys → ((d : Claim) → IsAmong d ys → is_due_by bit t d ≡ false) → (d : Claim) → IsAmong d xs → is_due_by bit t d ≡ false

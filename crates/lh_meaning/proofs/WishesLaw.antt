@@ -7,14 +7,15 @@ use Rattle.std.specs.BTreeMap.{insert_entry}
 use Rattle.std.specs.Cmp.{IsTotalOrder}
 use Rattle.std.proofs.lemmas.Cmp.{then_total, on_total, nat_cmp_total, tied_itself}
 use Rattle.std.proofs.lemmas.Bool.Decides.{nat_tests}
+use Rattle.std.proofs.lemmas.Option.{same_Some}
 use Rattle.lh_time.specs.declared.Instant.{Instant}
 use Rattle.lh_time.specs.Order.{instant_cmp}
 use Rattle.lh_types.specs.Wish.{DueBit, due_bit_cmp, Wish, with_bit, with_bits}
 use Rattle.lh_meaning.specs.Wishes.{look, IsBelow, IsInOrder, WishExt, LaterDriveReplaces}
-use Rattle.lh_meaning.proofs.Instants.{instant_total}
+use Rattle.lh_time.proofs.OrderLemmas.{instant_cmp_total}
 
 pub due_bit_total : IsTotalOrder due_bit_cmp
-due_bit_total = then_total (on_total (λ (k : DueBit). k.due) instant_total) (on_total (λ (k : DueBit). k.bit) nat_cmp_total)
+due_bit_total = then_total (on_total (λ (k : DueBit). k.due) instant_cmp_total) (on_total (λ (k : DueBit). k.bit) nat_cmp_total)
 
 pub due_bit_self : (k : DueBit) → due_bit_cmp k k ≡ Equal
 due_bit_self k = tied_itself due_bit_total k
@@ -150,11 +151,8 @@ wish_ext (x ∷ xs) (y ∷ ys) a b h = at (due_bit_cmp x.0 y.0) refl (wish_ext x
         same_key : x.0 ≡ y.0
         same_key = due_bit_one x.0 y.0 p
 
-        some_one : (v w : Bool) → Some v ≡ Some w → v ≡ w
-        some_one v w q = cc
-
         same_value : x.1 ≡ y.1
-        same_value = some_one x.1 y.1 (sym (look_head x xs) ∙ h x.0 ∙ ap (λ k. look k (y ∷ ys)) same_key ∙ look_head y ys)
+        same_value = same_Some x.1 y.1 (sym (look_head x xs) ∙ h x.0 ∙ ap (λ k. look k (y ∷ ys)) same_key ∙ look_head y ys)
 
         tails : (k : DueBit) → look k xs ≡ look k ys
         tails k = tail_at (is_eq (due_bit_cmp k x.0)) refl

@@ -11,10 +11,10 @@ use Rattle.lh_unit.specs.Design.{Design}
 use Rattle.lh_unit.specs.World.{State, wake_of, Act, Rules, rules_of, unit_of, World, bits_by, acts_of, acts, kept, made_by, afters, next_world, soonest_wake, instant_after, next_instant}
 use Rattle.lh_unit.specs.Trace.{Run, least_runaway, outcomes_of, frame_of, goes_on, at_bound, run_at, run_from}
 use Rattle.lh_meaning.specs.Replacing.{Answer}
-use Rattle.lh_meaning.proofs.Instants.{lt_not_le}
 use Rattle.lh_meaning.specs.Wishes.{IsLate}
 use Rattle.lh_meaning.proofs.Late.{act_late}
 use Rattle.lh_meaning.proofs.Simulation.{Matches, Alike, alike_keeps}
+use Rattle.lh_time.proofs.OrderLemmas.{instant_lt-not_le}
 
 -- entries that are due after t
 abbrev AllLate : Instant → List Claim → Type 0
@@ -45,7 +45,7 @@ made_late r items last old now t k (i ∷ is) (s ∷ ss) =
 
 -- what is due later does not count
 not_due : (bit : ℕ) (t : Instant) (c : Claim) → instant_lt t c.due ≡ true → is_due_by bit t c ≡ false
-not_due bit t c h = at (nat_eq c.bit bit) (instant_le c.due t) (sym (lt_not_le t c.due) ∙ h)
+not_due bit t c h = at (nat_eq c.bit bit) (instant_le c.due t) (sym (instant_lt-not_le t c.due) ∙ h)
   where
     at : (b d : Bool) → not d ≡ true → (b && d) ≡ false
     at true true e = cc

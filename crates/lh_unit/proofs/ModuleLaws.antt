@@ -18,8 +18,6 @@ use Rattle.lh_unit.proofs.Tables.{is_block-at, stands-within}
 use Rattle.lh_unit.proofs.Within.{InstWithin-more, OperandWithin-more, TriggerWithin-more, EdgeWithin-more, MaybeWithin-more}
 use Rattle.lh_unit.proofs.Texts.{Agree, inst-same, operand-same, trigger-same, edge-same, maybe-same, value-same, insts-within}
 use Rattle.lh_unit.proofs.ContentsLemmas.{last_unit-push}
-pub use Rattle.lh_unit.proofs.Within.{Each-more as Each-map}
-pub use Rattle.lh_unit.proofs.ContentsLemmas.{last_unit-push as last_unit-append}
 
 -- entries that stay
 pub KeepsEntries-refl : (a : Arena) → KeepsEntries a a
