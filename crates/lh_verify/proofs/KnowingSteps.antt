@@ -1,24 +1,22 @@
 -- What is known of values, one argument or one instruction more.
-use Rattle.std.proofs.Common.{◌≡◌, ◌≢◌, ℕ, ◌+◌, ◌<◌, ◌≤◌, zero, suc, Bool, true, false, ◌||◌, nat_eq, if◌then◌else◌, List, [], ◌∷◌, ◌++◌, length, get_or, set, take, replicate, Option, Some, None, is_some, slice_get, refl, ap, sym, ◌∙◌, subst, arith}
+use Rattle.std.proofs.Common.{◌≡◌, ℕ, ◌+◌, ◌<◌, ◌≤◌, zero, suc, Bool, true, false, ◌||◌, nat_eq, if◌then◌else◌, List, [], ◌∷◌, ◌++◌, length, get_or, set, take, replicate, Option, Some, None, is_some, slice_get, refl, ap, sym, ◌∙◌, subst, arith}
 use Rattle.std.specs.Option.{option_map, option_and_then}
 use Rattle.std.specs.Prelude.{Result, Ok, Err, OnOk}
-use Rattle.std.proofs.lemmas.Option.{slice_get-get_or, slice_get_within}
+use Rattle.std.proofs.lemmas.Option.{slice_get-get_or}
 use Rattle.std.proofs.Math.ListN.{length-set}
 use Rattle.std.proofs.lemmas.Grind.{common_steps}
-use Rattle.lh_types.specs.Types.{TypeTree}
 use Rattle.lh_unit.specs.Naming.{Naming, inst_text}
 use Rattle.lh_unit.specs.Table.{is_arg, is_made, is_result}
 use Rattle.lh_unit.specs.ById.{arg_being, inst_making}
 use Rattle.lh_unit.specs.Typing.{or_else, result_type}
-use Rattle.lh_unit.specs.Kinds.{Kind, kind_of, result_kind}
+use Rattle.lh_unit.specs.Kinds.{kind_of, result_kind}
 use Rattle.lh_unit.specs.declared.inst.ValueId.{ValueId}
 use Rattle.lh_unit.specs.declared.inst.Arg.{Arg}
 use Rattle.lh_unit.specs.declared.inst.Inst.{Inst}
 use Rattle.lh_unit.specs.declared.table.Line.{Line}
 use Rattle.lh_unit.proofs.Lists.{Same, same, other, same_or, nat_eq-refl, nat_eq-other, or_false, or_true, some_inj}
 use Rattle.lh_verify.specs.declared.scope.Fact.{Fact}
-use Rattle.lh_verify.specs.Told.{kind_as}
-use Rattle.lh_verify.specs.Knowing.{Known, Knows, GivenBy, GivenArg, Tells, TellsArg, Marks, blank, arg_kind, arg_type, line_kind, line_type}
+use Rattle.lh_verify.specs.Knowing.{Known, Knows, GivenBy, GivenArg, Tells, TellsArg, Marks, blank, line_kind, line_type}
 
 -- a write at one place
 pub get-set-same : {X : Type 0} → (xs : List X) (k : ℕ) (y : X) → k < length xs → slice_get (set xs k y) k ≡ Some y

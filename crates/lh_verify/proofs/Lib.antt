@@ -7,6 +7,7 @@ pub mod MarkingSteps
 pub mod ModuleFaults
 pub mod Named
 pub mod OtherUnits
+pub mod PhiSteps
 pub mod Places
 pub mod PlacesById
 pub mod Placing

@@ -2,7 +2,7 @@
 use Rattle.std.proofs.Common.{◌≡◌, List, [], ◌∷◌, Bool, true, false, not, ◌||◌, map, refl, ap, sym, ◌∙◌}
 use Rattle.std.specs.List.{list_any}
 use Rattle.lh_types.specs.Types.{TypeTree}
-use Rattle.lh_unit.specs.Contents.{EdgeText, InstText, UnitText, ItemText, defines_value, defines_label, phi_text}
+use Rattle.lh_unit.specs.Contents.{EdgeText, UnitText, ItemText, defines_value, defines_label, phi_text}
 use Rattle.lh_unit.specs.Kinds as kinds
 use Rattle.lh_unit.specs.Naming.{Naming, inst_text}
 use Rattle.lh_unit.specs.WellFormed.{is_undefined, values_named}

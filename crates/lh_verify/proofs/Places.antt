@@ -1,15 +1,15 @@
 -- The faults of an instruction at its place, part by part.
-use Rattle.std.proofs.Common.{◌≡◌, ℕ, suc, length, Bool, true, false, not, ◌&&◌, ◌||◌, if◌then◌else◌, List, [], ◌∷◌, ◌++◌, map, Option, Some, None, refl, ap, sym, ◌∙◌, subst}
+use Rattle.std.proofs.Common.{◌≡◌, ℕ, suc, length, Bool, true, false, not, ◌&&◌, ◌||◌, if◌then◌else◌, List, [], ◌∷◌, ◌++◌, map, Option, Some, None, refl, ap, sym, ◌∙◌}
 use Rattle.std.specs.Option.{option_map}
 use Rattle.std.specs.List.{list_any}
-use Rattle.lh_unit.specs.Contents.{UnitText, ItemText, InstText}
+use Rattle.lh_unit.specs.Contents.{UnitText, ItemText}
 use Rattle.lh_unit.specs.Typing.{or_else}
 use Rattle.lh_unit.specs.TypingRows.{types_fit}
 use Rattle.lh_unit.specs.Naming.{Naming, inst_text, kind_text}
 use Rattle.lh_unit.specs.Within.{Sizes, Each, OperandWithin, ValueWithin, MaybeWithin, TriggerWithin, EdgeWithin, InstWithin}
 use Rattle.lh_unit.specs.Arena.{InstPlaced, kind_at, table_at}
 use Rattle.lh_unit.specs.Places.{places}
-use Rattle.lh_unit.specs.WellFormed.{FaultKind, number_of, undefined, wrong_kind, wrong_type, not_here, no_terminator, phi_edges, not_defined, arguments, is_undefined, is_wrong_kind, is_wrong_type, is_asked, has_wrong_kind, has_no_kind, names_wrong_unit, probes_for_signal, result_fits, is_allowed, arguments_differ, depends_on_probe}
+use Rattle.lh_unit.specs.WellFormed.{number_of, undefined, wrong_kind, wrong_type, not_here, no_terminator, phi_edges, not_defined, arguments, is_undefined, is_wrong_kind, is_wrong_type, is_asked, has_wrong_kind, has_no_kind, names_wrong_unit, probes_for_signal, result_fits, depends_on_probe}
 use Rattle.lh_unit.specs.declared.inst.UnitKind.{UnitKind}
 use Rattle.lh_unit.specs.declared.inst.ValueId.{ValueId}
 use Rattle.lh_unit.specs.declared.inst.Typed.{Typed}
@@ -143,6 +143,3 @@ pub first-left : (a b d r : Bool) → b ≡ false → d ≡ false → r ≡ a �
 first-left true true d r e g h = cc
 first-left true false d r e g h = h
 first-left false b d r e g h = h ∙ sym (ap (λ x. x || d) e ∙ g)
-
-pub hides-by-phi : (s : Scope) (x : Spot) (k : UnitKind) (i : Inst) → k ≡ (text_in s).kind → i ≡ inst_in s x → phi_is_wrong (table_at s.module.now s.unit.0) x i ≡ true → true ≡ hides_paths s x
-hides-by-phi s x k i e g h = last-holds (is_undefined (items_in s) (text_in s) (inst_text (naming_in s) i)) (ends_wrong k x.last (inst_text (naming_in s) i)) (phi_is_wrong (table_at s.module.now s.unit.0) x i) h ∙ sym (hides-parts s x k i e g)

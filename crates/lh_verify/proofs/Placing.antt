@@ -1,9 +1,9 @@
 -- What is in place in an arena in order.
-use Rattle.std.proofs.Common.{◌≡◌, ℕ, ◌+◌, ◌<◌, ◌≤◌, zero, suc, Bool, true, false, ◌||◌, nat_eq, List, [], ◌∷◌, ◌++◌, length, get_or, map, Option, Some, None, is_some, refl, ap, sym, ◌∙◌, subst, arith}
-use Rattle.std.specs.Prelude.{slice_index_or, slice_get}
+use Rattle.std.proofs.Common.{◌≡◌, ℕ, ◌+◌, ◌<◌, ◌≤◌, zero, suc, Bool, true, false, ◌||◌, nat_eq, List, [], ◌∷◌, ◌++◌, length, get_or, map, Option, Some, None, is_some, refl, sym, ◌∙◌, subst, arith}
+use Rattle.std.specs.Prelude.{slice_get}
 use Rattle.std.proofs.lemmas.Option.{slice_get_read}
 use Rattle.std.proofs.lemmas.Grind.{common_steps}
-use Rattle.lh_unit.specs.Table.{Table, no_line, line_at, insts_at, is_block, flat, ids_from, ArgsWithin, ResultWithin, ResultsWithin, BlocksWithin, FitsKind, IsTable}
+use Rattle.lh_unit.specs.Table.{no_line, is_block, flat, ids_from, ArgsWithin, ResultWithin, ResultsWithin, BlocksWithin, FitsKind, IsTable}
 use Rattle.lh_unit.specs.Within.{Sizes, Each, MaybeWithin}
 use Rattle.lh_unit.specs.Arena.{Arena, IsArena, unit_count, value_count, label_count, block_count, inst_count, table_at, kind_at, blocks_at, block_insts_at, result_at, sizes}
 use Rattle.lh_unit.specs.declared.inst.UnitKind.{UnitKind}

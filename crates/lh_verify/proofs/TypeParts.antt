@@ -1,11 +1,11 @@
 -- Fields of structs, rows of types, and arrays that no type is.
-use Rattle.std.proofs.Common.{◌≡◌, ℕ, ◌+◌, ◌*◌, ◌<◌, ◌≤◌, zero, suc, Bool, true, false, List, [], ◌∷◌, ◌++◌, map, length, get_or, Option, Some, None, refl, ap, sym, ◌∙◌, subst, arith, mul-le-mul_left}
+use Rattle.std.proofs.Common.{◌≡◌, ℕ, ◌+◌, ◌*◌, ◌<◌, ◌≤◌, zero, suc, Bool, true, false, List, [], ◌∷◌, ◌++◌, map, length, get_or, Option, Some, None, refl, ap, ◌∙◌, arith, mul-le-mul_left}
 use Rattle.std.specs.Prelude.{nat_lt, nat_eq, if◌then◌else◌}
 use Rattle.std.proofs.Common.{not, ◌⊎◌, inl, inr, drop}
 use Rattle.std.proofs.lemmas.Grind.{common_steps}
-use Rattle.std.specs.Option.{option_and_then, option_map}
-use Rattle.lh_types.specs.Types.{TypeTree, TypeRow, int_type, time_type, void_type, array_type, tuple_type, signal_type, pointer_type, no_types, more_types, row_of, same_type, IsData, bit_count, depth_of}
-use Rattle.lh_types.specs.Faults.{is_data, array_fault}
+use Rattle.std.specs.Option.{option_map}
+use Rattle.lh_types.specs.Types.{TypeTree, TypeRow, int_type, time_type, void_type, array_type, tuple_type, signal_type, pointer_type, no_types, row_of, same_type, IsData, bit_count, depth_of}
+use Rattle.lh_types.specs.Faults.{is_data}
 use Rattle.lh_types.specs.declared.ty.TyFault.{TyFault}
 use Rattle.lh_types.specs.declared.ty.TyFault.TheVariants.{TooManyBits, TooDeep, Empty, WrongPart}
 use Rattle.lh_types.specs.Parts.{Part, field_part, part_beyond}

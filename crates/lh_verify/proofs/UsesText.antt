@@ -1,6 +1,5 @@
 -- The operands by ids are the operands by names.
-use Rattle.std.proofs.Common.{◌≡◌, List, [], ◌∷◌, ◌++◌, map, Option, Some, None, refl, ap, sym, ◌∙◌, arith}
-use Rattle.std.proofs.lemmas.Grind.{common_steps}
+use Rattle.std.proofs.Common.{◌≡◌, List, [], ◌∷◌, ◌++◌, map, Option, Some, None, refl, ap, ◌∙◌}
 use Rattle.std.proofs.lemmas.List.{map-append}
 use Rattle.lh_types.specs.Types.{TypeTree, int_type, time_type, void_type, array_type, tuple_type, signal_type, pointer_type}
 use Rattle.lh_types.specs.declared.op.Op.{Op}
@@ -12,13 +11,12 @@ use Rattle.lh_unit.specs.declared.inst.PhiEdge.{PhiEdge}
 use Rattle.lh_unit.specs.declared.inst.Inst.{Inst}
 use Rattle.lh_unit.specs.declared.inst.Inst.TheVariants as inst
 use Rattle.lh_unit.specs.Naming.{Naming, value_text, maybe_text, operand_text, trigger_text, edge_text, inst_text}
-use Rattle.lh_unit.specs.Contents.{OperandText, EdgeText}
+use Rattle.lh_unit.specs.Contents.{EdgeText}
 use Rattle.lh_unit.specs.Typing as typing
 use Rattle.lh_unit.specs.Kinds as kinds
 use Rattle.lh_verify.specs.declared.uses.Need.{Need}
-use Rattle.lh_verify.specs.declared.uses.Need.TheVariants.{Data, Time, Signal, Pointer, DataOrTime, DataOrSignal}
-use Rattle.lh_verify.specs.declared.uses.Use.{Use}
-use Rattle.lh_verify.specs.Uses.{need_as, use_text, used, all_used, values_used, maybe_used, step_need, initial_need, first_type, operation_need, trigger_uses, triggers_uses, edges_used, uses_of}
+use Rattle.lh_verify.specs.declared.uses.Need.TheVariants.{Data, Time, Signal, DataOrTime}
+use Rattle.lh_verify.specs.Uses.{need_as, use_text, all_used, values_used, maybe_used, step_need, initial_need, first_type, operation_need, trigger_uses, triggers_uses, edges_used, uses_of}
 
 all-text : (f : Naming) (n : Need) (os : List Typed) → map (use_text f) (all_used n os) ≡ kinds.all_used (need_as n) (map (operand_text f) os)
 all-text f n [] = refl

@@ -1,5 +1,6 @@
 pub mod Answering
 pub mod Asks
+pub mod Counting
 pub mod Faults
 pub mod Knowing
 pub mod Marking
@@ -7,6 +8,7 @@ pub mod Operands
 pub mod Parts
 pub mod PhisById
 pub mod Placed
+pub mod Predecessors
 pub mod Spots
 pub mod SpotsWithin
 pub mod Told

@@ -1,5 +1,6 @@
 -- What is known of the values of a unit, and the unit that it is known of.
-use Rattle.std.specs.Prelude.{◌≡◌, ℕ, suc, ◌<◌, List, length, Bool, Some, option_map, slice_get}
+use Rattle.std.specs.Prelude.{◌≡◌, ℕ, suc, ◌<◌, List, length, Bool, true, false, Some, option_map, slice_get}
+use Rattle.std.specs.List.{list_any}
 use Rattle.lh_unit.specs.Contents.{UnitText, ItemText, defines_value, defines_label}
 use Rattle.lh_unit.specs.Typing.{value_type}
 use Rattle.lh_unit.specs.Kinds as kinds
@@ -8,9 +9,12 @@ use Rattle.lh_unit.specs.Places.{places}
 use Rattle.lh_unit.specs.WellFormed.{depends_on_probe}
 use Rattle.lh_unit.specs.Naming.{Naming, value_text}
 use Rattle.lh_unit.specs.Within.{Sizes}
-use Rattle.lh_unit.specs.Arena.{naming, sizes, unit_text_at, unit_count, contents}
+use Rattle.lh_unit.specs.Arena.{naming, sizes, table_at, unit_text_at, unit_count, contents}
 use Rattle.lh_unit.specs.declared.inst.ValueId.{ValueId}
 use Rattle.lh_unit.specs.declared.inst.BlockId.{BlockId}
+use Rattle.lh_unit.specs.declared.inst.Inst.{Inst}
+use Rattle.lh_unit.specs.declared.inst.Inst.TheVariants as inst
+use Rattle.lh_unit.specs.declared.table.Line.{Line}
 use Rattle.lh_verify.specs.declared.scope.Kind.{Kind}
 use Rattle.lh_verify.specs.declared.scope.Kind.TheVariants.{Datum, Time, Signal, Pointer}
 use Rattle.lh_verify.specs.declared.scope.Fact.{Fact}
@@ -46,7 +50,24 @@ sizes_in s = sizes s.module.now s.unit.0
 unfoldable pub items_in : Scope → List ItemText
 items_in s = contents s.module.now
 
--- each value and each label of the unit has an entry, which says what is so
+-- an instruction is a `sig`
+abbrev pub is_sig : Inst → Bool
+is_sig (inst.Sig a) = true
+is_sig _ = false
+
+-- one of these instructions is a `sig`
+abbrev pub any_sig : List Line → Bool
+any_sig lines = list_any (λ (l : Line). is_sig l.inst) lines
+
+-- the unit has a `sig`
+abbrev pub has_sig : Scope → Bool
+has_sig s = any_sig (table_at s.module.now s.unit.0).lines
+
+-- where an instruction is a `sig`, the unit has one
+abbrev pub HasItsSig : Scope → Inst → Type 0
+HasItsSig s i = is_sig i ≡ true → has_sig s ≡ true
+
+-- each value and each label of the unit has an entry, which says what is so; which values come from a `prb`, only in a unit with a `sig`
 pub record IsScope (s : Scope) : Type 0 where
   pub unit : s.unit.0 < unit_count s.module.now
   pub long : length s.facts.now ≡ (sizes_in s).values
@@ -54,4 +75,4 @@ pub record IsScope (s : Scope) : Type 0 where
   pub long_labels : length s.labels.now ≡ (sizes_in s).labels
   pub told_labels : (b : BlockId) (x : Bool) → slice_get s.labels.now b.0 ≡ Some x → x ≡ defines_label ((naming_in s).label_name b.0) (text_in s)
   pub long_probed : length s.probed.now ≡ (sizes_in s).values
-  pub told_probed : (v : ValueId) (x : Bool) → slice_get s.probed.now v.0 ≡ Some x → x ≡ from_probe (text_in s) (value_text (naming_in s) v)
+  pub told_probed : has_sig s ≡ true → (v : ValueId) (x : Bool) → slice_get s.probed.now v.0 ≡ Some x → x ≡ from_probe (text_in s) (value_text (naming_in s) v)

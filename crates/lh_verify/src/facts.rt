@@ -1,4 +1,6 @@
 //! What is known of the values of a unit, from the arguments and the instructions that give them.
+#![tactic(auto, using(crate::proofs::Lists::steps))]
+
 ghost use Rattle.std.specs.Prelude.{◌≡◌, ◌<◌, ◌++◌, ◌∷◌, [], List, false, length, replicate, option_map, IfOk, OnOk};
 ghost use Rattle.lh_unit.specs.Naming.{Naming};
 ghost use Rattle.lh_unit.specs.Table.{ArgsWithin, line_at};
@@ -16,20 +18,15 @@ use lh_unit::module::Module;
 use std::alloc::Global;
 
 /// What is known of the values of a unit with this many instructions.
-pub fn facts(
-    alloc: Global,
-    module: &Module,
-    unit: UnitId,
-    insts: u32,
-) -> Result<Vec<Fact>, NoMemory>
-    requires unit { unit.0 < unit_count module.now }
-    requires insts { insts ≡ inst_count module.now unit.0 }
-    ensures { IfOk result (λ facts. Knows (value_count module.now unit.0) (naming module.now unit.0) (args_at module.now unit.0) (table_at module.now unit.0).lines facts.items) }
+pub fn facts(alloc: Global, m: &Module, unit: UnitId, insts: u32) -> Result<Vec<Fact>, NoMemory>
+    requires unit { unit.0 < unit_count m.now }
+    requires insts { insts ≡ inst_count m.now unit.0 }
+    ensures { IfOk result (λ facts. Knows (value_count m.now unit.0) (naming m.now unit.0) (args_at m.now unit.0) (table_at m.now unit.0).lines facts.items) }
 {
-    let values = module.values(unit);
+    let values = m.values(unit);
     let mut facts = no_facts(alloc, values)?;
     let mut seen = no_marks(alloc, values)?;
-    tell_all(alloc, &mut facts, &mut seen, module, unit, insts)?;
+    tell_all(alloc, &mut facts, &mut seen, m, unit, insts)?;
     Ok(facts)
 }
 
@@ -38,18 +35,18 @@ fn tell_all(
     alloc: Global,
     facts: &mut [Fact],
     seen: &mut [bool],
-    module: &Module,
+    m: &Module,
     unit: UnitId,
     insts: u32,
 ) -> Result<(), NoMemory>
-    requires unit { unit.0 < unit_count module.now }
-    requires insts { insts ≡ inst_count module.now unit.0 }
-    requires old { facts.old ≡ replicate (value_count module.now unit.0) blank }
-    requires marks { seen.old ≡ replicate (value_count module.now unit.0) false }
-    ensures { OnOk result (Knows (value_count module.now unit.0) (naming module.now unit.0) (args_at module.now unit.0) (table_at module.now unit.0).lines facts.new) }
+    requires unit { unit.0 < unit_count m.now }
+    requires insts { insts ≡ inst_count m.now unit.0 }
+    requires old { facts.old ≡ replicate (value_count m.now unit.0) blank }
+    requires marks { seen.old ≡ replicate (value_count m.now unit.0) false }
+    ensures { OnOk result (Knows (value_count m.now unit.0) (naming m.now unit.0) (args_at m.now unit.0) (table_at m.now unit.0).lines facts.new) }
 {
-    tell_insts(alloc, facts, module, unit, insts)?;
-    tell_args(facts, seen, module.args(unit))
+    tell_insts(alloc, facts, m, unit, insts)?;
+    tell_args(facts, seen, m.args(unit))
 }
 
 /// Values of which nothing is known.
@@ -94,17 +91,17 @@ pub fn no_marks(alloc: Global, values: u32) -> Result<Vec<bool>, NoMemory>
 fn tell_insts(
     alloc: Global,
     facts: &mut [Fact],
-    module: &Module,
+    m: &Module,
     unit: UnitId,
     insts: u32,
 ) -> Result<(), NoMemory>
-    requires unit { unit.0 < unit_count module.now }
-    requires insts { insts ≡ inst_count module.now unit.0 }
-    requires old { facts.old ≡ replicate (value_count module.now unit.0) blank }
-    ensures { OnOk result (Knows (value_count module.now unit.0) (naming module.now unit.0) [] (table_at module.now unit.0).lines facts.new) }
+    requires unit { unit.0 < unit_count m.now }
+    requires insts { insts ≡ inst_count m.now unit.0 }
+    requires old { facts.old ≡ replicate (value_count m.now unit.0) blank }
+    ensures { OnOk result (Knows (value_count m.now unit.0) (naming m.now unit.0) [] (table_at m.now unit.0).lines facts.new) }
 {
     for i in 0..insts {
-        tell_inst(alloc, facts, module, unit, InstId(i))?;
+        tell_inst(alloc, facts, m, unit, InstId(i))?;
     }
     Ok(())
 }
@@ -112,20 +109,20 @@ fn tell_insts(
 fn tell_inst(
     alloc: Global,
     facts: &mut [Fact],
-    module: &Module,
+    m: &Module,
     unit: UnitId,
     inst: InstId,
 ) -> Result<(), NoMemory>
-    requires unit { unit.0 < unit_count module.now }
-    requires inst { inst.0 < inst_count module.now unit.0 }
-    requires long { length facts.old ≡ value_count module.now unit.0 }
-    ensures { (ls : List Line) → Knows (value_count module.now unit.0) (naming module.now unit.0) [] ls facts.old → OnOk result (Knows (value_count module.now unit.0) (naming module.now unit.0) [] (ls ++ line_at (table_at module.now unit.0) inst.0 ∷ []) facts.new) }
+    requires unit { unit.0 < unit_count m.now }
+    requires inst { inst.0 < inst_count m.now unit.0 }
+    requires long { length facts.old ≡ value_count m.now unit.0 }
+    ensures { (ls : List Line) → Knows (value_count m.now unit.0) (naming m.now unit.0) [] ls facts.old → OnOk result (Knows (value_count m.now unit.0) (naming m.now unit.0) [] (ls ++ line_at (table_at m.now unit.0) inst.0 ∷ []) facts.new) }
 {
-    match module.result_of(unit, inst) {
+    match m.result_of(unit, inst) {
         None => Ok(()),
         Some(value) => {
             let place = value.0 as usize;
-            tell(alloc, &mut facts[place], module.inst(unit, inst))
+            tell(alloc, &mut facts[place], m.inst(unit, inst))
         }
     }
 }

@@ -1,5 +1,5 @@
 //! Which instruction of a module is faulty first, and by which of the eight faults.
-#![tactic(auto, using(crate::proofs::Lists::steps))]
+#![tactic(auto)]
 
 mod allowed;
 mod arguments;
@@ -11,6 +11,7 @@ mod operands;
 mod operations;
 mod phis;
 mod place;
+mod predecessors;
 mod probes;
 mod results;
 mod scope;

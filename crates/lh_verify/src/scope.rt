@@ -33,13 +33,14 @@ pub struct Scope<'a> {
     pub unit: UnitId,
     /// By the ids of values.
     pub facts: &'a [Fact],
-    /// By the ids of values, whether it comes from a `prb`.
+    /// By the ids of values, whether it comes from a `prb`; in a unit without a `sig` nothing asks, and it says nothing.
     pub probed: &'a [bool],
     /// By the ids of labels, whether a block has this label.
     pub labels: &'a [bool],
 }
 
 impl Scope<'_> {
+    ghost use Rattle.std.specs.Prelude.{true};
     ghost use Rattle.lh_unit.specs.Contents.{defines_value, defines_label};
     ghost use Rattle.lh_unit.specs.Typing.{value_type};
     ghost use Rattle.lh_unit.specs.Kinds.{value_kind};
@@ -47,7 +48,7 @@ impl Scope<'_> {
     ghost use Rattle.lh_unit.specs.Within.{ValueWithin};
     ghost use Rattle.lh_unit.specs.Within.{InstWithin};
     ghost use Rattle.lh_unit.specs.Arena.{inst_count, inst_at};
-    ghost use Rattle.lh_verify.specs.Told.{IsScope, Told, kind_as, from_probe, text_in, naming_in, sizes_in};
+    ghost use Rattle.lh_verify.specs.Told.{IsScope, Told, HasItsSig, has_sig, kind_as, from_probe, text_in, naming_in, sizes_in};
 
     /// What is known of a value.
     fn fact(&self, value: ValueId) -> &Fact
@@ -102,9 +103,10 @@ impl Scope<'_> {
         self.labels[block.0 as usize]
     }
 
-    /// Whether a value comes from a `prb`.
+    /// Whether a value comes from a `prb`, in a unit with a `sig`.
     pub fn comes_from_probe(&self, value: ValueId) -> bool
         requires scope { IsScope self.now }
+        requires sig { has_sig self.now ≡ true }
         requires within { ValueWithin (sizes_in self.now) value }
         ensures { result ≡ from_probe (text_in self.now) (value_text (naming_in self.now) value) }
     {
@@ -128,6 +130,7 @@ impl Scope<'_> {
         requires within { inst.0 < inst_count self.now.module.now self.now.unit.0 }
         ensures inst { result.now ≡ inst_at self.now.module.now self.now.unit.0 inst.0 }
         ensures placed { InstWithin (sizes_in self.now) result.now }
+        ensures sig { HasItsSig self.now result.now }
     {
         self.module.inst(self.unit, inst)
     }

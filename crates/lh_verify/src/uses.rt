@@ -1,4 +1,6 @@
 //! The operands of an instruction, and of which kind each must be.
+#![tactic(auto, using(crate::proofs::Lists::steps))]
+
 ghost use Rattle.std.specs.Prelude.{◌≡◌, ◌++◌, ◌∷◌, [], IfOk, OnOk};
 ghost use Rattle.lh_types.specs.Kind.{type_of_kind};
 ghost use Rattle.lh_verify.specs.Uses.{first_type, uses_of, used, all_used, values_used, maybe_used, edges_used, trigger_uses, triggers_uses, operation_need as need_of_operation, step_need as need_of_step, initial_need as need_of_initial};

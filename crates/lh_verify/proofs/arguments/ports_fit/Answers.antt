@@ -1,6 +1,4 @@
 use Rattle.std.proofs.Common.{◌&&◌, map, ap, sym, ◌∙◌}
-use Rattle.std.specs.Prelude.{filter}
-use Rattle.lh_unit.specs.Contents.{ArgText}
 use Rattle.lh_unit.specs.Named.{is_assert}
 use Rattle.lh_unit.specs.Naming.{operand_text, arg_text}
 use Rattle.lh_unit.specs.Arena.{naming, args_at}

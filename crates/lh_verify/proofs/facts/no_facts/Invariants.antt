@@ -1,4 +1,4 @@
-use Rattle.std.proofs.Common.{◌≡◌, replicate, false}
+use Rattle.std.proofs.Common.{◌≡◌, replicate}
 use Rattle.lh_verify.specs.Knowing.{blank}
 use Rattle.lh_verify.proofs.facts.no_facts.Given as goal
 

@@ -1,7 +1,7 @@
 use Rattle.std.proofs.Common.{◌≡◌, ℕ, ◌+◌, ◌++◌, ◌∷◌, [], List, length, take, subst, sym, arith}
 use Rattle.lh_unit.specs.declared.inst.Arg.{Arg}
 use Rattle.lh_verify.specs.Knowing.{Knows, Marks}
-use Rattle.lh_verify.proofs.KnowingSteps.{take-item, take-all, marks-none, knows-arg}
+use Rattle.lh_verify.proofs.KnowingSteps.{take-item, take-all}
 use Rattle.lh_verify.proofs.Placing.{args-item}
 use Rattle.lh_verify.proofs.facts.tell_args.Goals as goal
 

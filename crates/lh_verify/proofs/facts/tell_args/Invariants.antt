@@ -1,4 +1,4 @@
-use Rattle.std.proofs.Common.{◌≡◌, [], take, List, length}
+use Rattle.std.proofs.Common.{[], take, List, length}
 use Rattle.lh_unit.specs.Naming.{Naming}
 use Rattle.lh_unit.specs.declared.table.Line.{Line}
 use Rattle.lh_verify.specs.Knowing.{Knows, Marks}

@@ -1,4 +1,4 @@
-use Rattle.std.proofs.Common.{◌≡◌, ℕ, length, map, subst, sym}
+use Rattle.std.proofs.Common.{◌≡◌, ℕ, map, subst, sym}
 use Rattle.std.specs.Prelude.{IfOk}
 use Rattle.std.specs.Option.{option_and_then}
 use Rattle.std.proofs.lemmas.List.{length-map}

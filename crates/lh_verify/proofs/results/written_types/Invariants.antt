@@ -1,6 +1,4 @@
-use Rattle.std.proofs.Common.{◌≡◌, ◌++◌, map, drop, Option, Some, None}
-use Rattle.std.specs.Option.{option_map}
-use Rattle.lh_types.specs.Types.{row_of}
+use Rattle.std.proofs.Common.{◌≡◌, map, drop}
 use Rattle.lh_unit.specs.Naming.{Naming, operand_text}
 use Rattle.lh_unit.specs.Typing.{written_types}
 use Rattle.lh_verify.specs.Asks.{rows_joined}

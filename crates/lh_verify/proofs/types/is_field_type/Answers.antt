@@ -1,5 +1,5 @@
-use Rattle.std.proofs.Common.{ap, sym, ◌∙◌, subst, ◌<◌, ◌≤◌, length, List}
-use Rattle.lh_types.specs.Types.{TypeTree, row_of, same_type}
+use Rattle.std.proofs.Common.{ap, sym, ◌∙◌}
+use Rattle.lh_types.specs.Types.{row_of, same_type}
 use Rattle.lh_types.specs.Parts.{field_part}
 use Rattle.lh_verify.specs.Parts.{is_part}
 use Rattle.lh_verify.proofs.TypeParts.{field-type, no-field}

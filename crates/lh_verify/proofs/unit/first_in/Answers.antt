@@ -1,4 +1,4 @@
-use Rattle.std.proofs.Common.{◌≡◌, Option}
+use Rattle.std.proofs.Common.{◌≡◌}
 use Rattle.std.proofs.lemmas.Result.{IfOk-weaker}
 use Rattle.lh_verify.specs.Answering.{Finds, first_at}
 use Rattle.lh_verify.specs.Told.{items_in, text_in}

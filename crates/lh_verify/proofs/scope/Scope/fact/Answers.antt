@@ -1,6 +1,5 @@
 use Rattle.std.proofs.Common.{ℕ, ◌<◌, subst, sym}
 use Rattle.std.proofs.lemmas.Option.{slice_get-get_or}
-use Rattle.lh_unit.specs.Within.{Sizes, ValueWithin}
 use Rattle.lh_verify.proofs.scope.Scope.fact.Goals as goal
 
 pub returns : goal.returns
