@@ -11,7 +11,7 @@ use Rattle.lh_verify.specs.Answering.{FirstIn, LacksFirst, is_at, found_or, firs
 use Rattle.lh_verify.specs.Faults.{has_fault, lowest}
 use Rattle.lh_verify.specs.declared.unit.Found.{Found}
 use Rattle.lh_verify.specs.declared.spots.Spot.{Spot}
-use Rattle.lh_verify.specs.declared.scope.Scope.{Scope}
+use Rattle.lh_typing.specs.declared.scope.Scope.{Scope}
 use Rattle.lh_verify.proofs.Lowest.{IsLowest, of_eight, lowest-some, lowest-none}
 
 -- sites that are numbered one by one from k + 1

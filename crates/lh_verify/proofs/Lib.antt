@@ -1,7 +1,5 @@
 pub mod FirstAt
 pub mod FirstFaults
-pub mod KnowingSteps
-pub mod Lists
 pub mod Lowest
 pub mod MarkingSteps
 pub mod ModuleFaults
@@ -13,6 +11,4 @@ pub mod PlacesById
 pub mod Placing
 pub mod ScopeIs
 pub mod SpotParts
-pub mod TypeParts
 pub mod UnitPlaces
-pub mod UsesText

@@ -21,14 +21,14 @@ use Rattle.lh_unit.specs.declared.inst.Inst.TheVariants as inst
 use Rattle.lh_unit.specs.declared.table.Line.{Line}
 use Rattle.lh_unit.proofs.Lists.{Same, same, other, same_or, nat_eq-refl, nat_eq-other, or_false, or_true, some_inj}
 use Rattle.lh_unit.proofs.ById.{defines_label-by_id, inst_giving-by_id}
-use Rattle.lh_verify.specs.declared.uses.Use.{Use}
+use Rattle.lh_typing.specs.declared.uses.Use.{Use}
 use Rattle.lh_verify.specs.Operands.{UseWithin}
-use Rattle.lh_verify.specs.Uses.{use_text, uses_of}
+use Rattle.lh_typing.specs.Uses.{use_text, uses_of}
 use Rattle.lh_verify.specs.Marking.{BlockMarks, Stands, has_labels, comes_from, Reaches, Advances}
-use Rattle.lh_verify.proofs.Lists.{drop-get_or}
-use Rattle.lh_verify.proofs.UsesText.{uses-text}
+use Rattle.lh_typing.proofs.Lists.{drop-get_or}
+use Rattle.lh_typing.proofs.UsesText.{uses-text}
 use Rattle.lh_verify.proofs.Places.{uses-within}
-use Rattle.lh_verify.proofs.KnowingSteps.{get-set-same, get-set-other, replicate-false, length-replicate}
+use Rattle.lh_typing.proofs.KnowingSteps.{get-set-same, get-set-other, replicate-false, length-replicate}
 
 -- marks of blocks
 block-more : (bs : List BlockId) (c : BlockId) (b : ℕ) → is_block (bs ++ c ∷ []) b ≡ (is_block bs b || nat_eq c.0 b)

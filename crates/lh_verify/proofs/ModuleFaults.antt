@@ -13,8 +13,8 @@ use Rattle.lh_verify.specs.declared.verify.Fault.{Fault}
 use Rattle.lh_verify.specs.Answering.{Finds, IsFew, unit_sites}
 use Rattle.lh_verify.specs.Placed.{IsItemOf}
 use Rattle.lh_verify.specs.Verifying.{NamesFault, UnitFault, SaysOfUnit, SaysOfItem, ItemBegun, named_fault}
-use Rattle.lh_verify.proofs.KnowingSteps.{take-item}
-use Rattle.lh_verify.proofs.Lists.{drop-item}
+use Rattle.lh_typing.proofs.KnowingSteps.{take-item}
+use Rattle.lh_typing.proofs.Lists.{drop-item}
 
 sites-append : (xs ys : List ItemText) → sites (xs ++ ys) ≡ sites xs ++ sites ys
 sites-append [] ys = refl

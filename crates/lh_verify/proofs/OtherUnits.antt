@@ -13,8 +13,8 @@ use Rattle.lh_unit.specs.declared.inst.UnitKind.{UnitKind}
 use Rattle.lh_unit.proofs.ById.{defines_unit-by_id, unit_named-by_id}
 use Rattle.lh_verify.specs.Asks.{is_function_kind, on_side}
 use Rattle.lh_verify.specs.declared.arguments.Side.TheVariants.{All}
-use Rattle.lh_verify.specs.Told.{text_in, naming_in, sizes_in, items_in}
-use Rattle.lh_verify.specs.declared.scope.Scope.{Scope}
+use Rattle.lh_typing.specs.Told.{text_in, naming_in, sizes_in, items_in}
+use Rattle.lh_typing.specs.declared.scope.Scope.{Scope}
 
 pub unit-within : (s : Scope) (v : ℕ) → v < (sizes_in s).units → v < unit_count s.module.now
 unfolding sizes_in
@@ -23,10 +23,6 @@ unit-within s v h = h
 pub unit-name : (s : Scope) (v : ℕ) → (naming_in s).unit_name v ≡ unit_name_at s.module.now v
 unfolding naming_in
 unit-name s v = refl
-
-pub result-in : (s : Scope) → result_type_at s.module.now s.unit.0 ≡ (text_in s).result
-unfolding text_in
-result-in s = refl
 
 pub defined-in : (s : Scope) (v : ℕ) → IsArena s.module.now → v < (sizes_in s).units → defines_unit ((naming_in s).unit_name v) (items_in s) ≡ is_some (kind_at s.module.now v)
 unfolding naming_in sizes_in items_in

@@ -17,26 +17,18 @@ use Rattle.lh_unit.specs.declared.inst.RegTrigger.{RegTrigger}
 use Rattle.lh_unit.specs.declared.inst.PhiEdge.{PhiEdge}
 use Rattle.lh_unit.specs.declared.inst.Inst.{Inst}
 use Rattle.lh_unit.specs.declared.inst.Inst.TheVariants as inst
-use Rattle.lh_verify.specs.declared.uses.Need.{Need}
-use Rattle.lh_verify.specs.declared.uses.Need.TheVariants.{Data, Time, Signal, DataOrTime}
-use Rattle.lh_verify.specs.declared.uses.Use.{Use}
-use Rattle.lh_verify.specs.declared.scope.Scope.{Scope}
+use Rattle.lh_typing.specs.declared.uses.Need.{Need}
+use Rattle.lh_typing.specs.declared.uses.Need.TheVariants.{Data, Time, Signal, DataOrTime}
+use Rattle.lh_typing.specs.declared.uses.Use.{Use}
+use Rattle.lh_typing.specs.declared.scope.Scope.{Scope}
 use Rattle.lh_verify.specs.declared.spots.Spot.{Spot}
 use Rattle.lh_verify.specs.Asks.{ends_wrong}
 use Rattle.lh_verify.specs.Faults.{inst_in, text_of, has_fault, first_of, lowest, hides_paths, lowest_of_operands, lowest_of_place}
 use Rattle.lh_verify.specs.Operands.{UseWithin}
 use Rattle.lh_verify.specs.PhisById.{phi_is_wrong}
-use Rattle.lh_verify.specs.Told.{text_in, naming_in, sizes_in, items_in, from_probe}
-use Rattle.lh_verify.specs.Uses.{use_text, uses_of, all_used, values_used, maybe_used, edges_used, trigger_uses, triggers_uses, operation_need}
-use Rattle.lh_verify.proofs.UsesText.{uses-text}
-
-pub kind-in : (s : Scope) → kind_text (kind_at s.module.now s.unit.0) ≡ (text_in s).kind
-unfolding text_in
-kind-in s = refl
-
-pub placed-in : (s : Scope) (i : Inst) → InstPlaced s.module.now s.unit.0 i → InstWithin (sizes_in s) i
-unfolding sizes_in
-placed-in s i h = h
+use Rattle.lh_typing.specs.Told.{text_in, naming_in, sizes_in, items_in, from_probe}
+use Rattle.lh_typing.specs.Uses.{use_text, uses_of, all_used, values_used, maybe_used, edges_used, trigger_uses, triggers_uses, operation_need}
+use Rattle.lh_typing.proofs.UsesText.{uses-text}
 
 pub from-probe-is : (t : UnitText) (n : List ℕ) → from_probe t n ≡ depends_on_probe (suc (length (places t))) t n
 unfolding from_probe

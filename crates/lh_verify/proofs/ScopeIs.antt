@@ -23,11 +23,11 @@ use Rattle.lh_unit.specs.declared.inst.Inst.{Inst}
 use Rattle.lh_unit.specs.declared.table.Line.{Line}
 use Rattle.lh_unit.proofs.ById.{defines_value-by_id, arg_named-by_id, inst_giving-by_id}
 use Rattle.lh_unit.proofs.ByIdPlaces.{places-by_id, spots-insts}
-use Rattle.lh_verify.specs.declared.scope.Scope.{Scope}
-use Rattle.lh_verify.specs.declared.scope.Fact.{Fact}
-use Rattle.lh_verify.specs.Knowing.{Known, Knows}
+use Rattle.lh_typing.specs.declared.scope.Scope.{Scope}
+use Rattle.lh_typing.specs.declared.scope.Fact.{Fact}
+use Rattle.lh_typing.specs.Knowing.{Known, Knows}
 use Rattle.lh_verify.specs.Marking.{IsProbed, Stands}
-use Rattle.lh_verify.specs.Told.{IsScope, Told, text_in, naming_in, sizes_in, from_probe}
+use Rattle.lh_typing.specs.Told.{IsScope, Told, text_in, naming_in, sizes_in, from_probe}
 
 length-ids : (k : ℕ) (ls : List Line) → length (ids_from k ls) ≡ length ls
 length-ids k [] = refl

@@ -9,7 +9,7 @@ use Rattle.lh_unit.specs.declared.inst.BlockId.{BlockId}
 use Rattle.lh_unit.specs.declared.inst.InstId.{InstId}
 use Rattle.lh_verify.specs.declared.spots.Spot.{Spot}
 use Rattle.lh_verify.specs.Spots.{is_other, is_empty, spots_in, spots_from}
-use Rattle.lh_verify.proofs.Lists.{drop-get_or}
+use Rattle.lh_typing.proofs.Lists.{drop-get_or}
 
 suc-eq : (a b : ℕ) → nat_eq (suc a) (suc b) ≡ nat_eq a b
 suc-eq a b = grind (arith, common_steps)

@@ -19,14 +19,6 @@ use Rattle.lh_verify.specs.declared.arguments.Side.TheVariants.{Inputs, Outputs,
 abbrev pub names_nothing : UnitText → Use → Bool
 names_nothing t x = not (defines_value x.value t)
 
--- a data type is written before a field of a struct, and it is the field's
-abbrev pub field_fits : UnitText → OperandText → Bool
-field_fits t o = option_map_or is_data o.ty false && agrees t o
-
--- the operand of a `phi` has its type
-abbrev pub edge_fits : UnitText → TypeTree → EdgeText → Bool
-edge_fits t ty e = has_type t ty e.value
-
 -- in a function or process, the last of its block and no terminator, or a terminator and not the last
 abbrev pub ends_wrong : UnitKind → (last : Bool) → InstText → Bool
 ends_wrong k last i = not (in_entity k) && not (if last then is_terminator i else not (is_terminator i))
@@ -51,11 +43,6 @@ abbrev pub on_side : Side → ArgText → Bool
 on_side Inputs a = not a.output
 on_side Outputs a = a.output
 on_side All a = true
-
--- types in front of a row, where it is there
-abbrev pub rows_joined : List TypeTree → Option TypeRow → Option TypeRow
-rows_joined [] r = r
-rows_joined (t ∷ more) r = with_type (Some t) (rows_joined more r)
 
 -- a function, and neither another unit nor none
 abbrev pub is_function_kind : Option UnitKind → Bool

@@ -13,9 +13,9 @@ use Rattle.lh_unit.specs.declared.inst.BlockId.{BlockId}
 use Rattle.lh_unit.specs.declared.inst.Inst.{Inst}
 use Rattle.lh_unit.specs.declared.inst.Inst.TheVariants as inst
 use Rattle.lh_unit.specs.declared.table.Line.{Line}
-use Rattle.lh_verify.specs.declared.uses.Use.{Use}
-use Rattle.lh_verify.specs.Told.{any_sig}
-use Rattle.lh_verify.specs.Uses.{uses_of}
+use Rattle.lh_typing.specs.declared.uses.Use.{Use}
+use Rattle.lh_typing.specs.Told.{any_sig}
+use Rattle.lh_typing.specs.Uses.{uses_of}
 
 -- the marks say which of these are blocks
 pub record BlockMarks (blocks : List BlockId) (n : ℕ) (marks : List Bool) : Type 0 where

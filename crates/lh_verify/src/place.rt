@@ -6,22 +6,21 @@ ghost use Rattle.lh_unit.specs.Within.{Each, InstWithin};
 ghost use Rattle.lh_unit.specs.WellFormed.{is_asked as text_is_asked, is_wrong_kind as text_is_wrong_kind, is_wrong_type as text_is_wrong_type, names_wrong_unit as text_names_wrong_unit, probes_for_signal as text_probes_for_signal, number_of};
 ghost use Rattle.lh_verify.specs.Operands.{UseWithin};
 ghost use Rattle.lh_verify.specs.PhisById.{phi_is_wrong, wrong_phi_at};
-ghost use Rattle.lh_verify.specs.Told.{IsScope, HasItsSig, text_in, naming_in, sizes_in, items_in};
-ghost use Rattle.lh_verify.specs.Uses.{uses_of};
-ghost use Rattle.lh_unit.specs.Named.{is_function as kind_is_function};
+ghost use Rattle.lh_typing.specs.Told.{IsScope, HasItsSig, text_in, naming_in, sizes_in, items_in};
+ghost use Rattle.lh_typing.specs.Uses.{uses_of};
 ghost use Rattle.lh_verify.specs.Faults.{lowest_of_operands, lowest_of_place, lowest as lowest_fault, hides_paths as spot_hides_paths};
 
-use crate::allowed::{ends_wrong, is_allowed};
+use crate::allowed::{ends_wrong, in_function, is_allowed};
 use crate::arguments::{arguments_differ, result_fits};
-use crate::fits::types_fit;
+use lh_typing::types_fit;
 use crate::kinds::{any_has_no_kind, any_has_wrong_kind};
-use crate::scope::Scope;
+use lh_typing::scope::Scope;
 use crate::spots::Spot;
 use crate::undefined::is_undefined;
 use crate::units::names_function;
-use crate::uses::{Use, UseList, uses};
+use lh_typing::uses::{Use, UseList, uses};
 use lh_types::ty::NoMemory;
-use lh_unit::inst::{Inst, UnitKind};
+use lh_unit::inst::Inst;
 use std::alloc::Global;
 
 /// Whether kinds and types are asked: those of a `ret` only in a function.
@@ -30,17 +29,8 @@ fn is_asked(scope: &Scope<'_>, inst: &Inst) -> bool
     ensures { result ≡ text_is_asked (text_in scope.now) (inst_text (naming_in scope.now) inst.now) }
 {
     match inst {
-        Inst::Ret(None) | Inst::Ret(Some(_)) => is_function(scope.kind()),
+        Inst::Ret(None) | Inst::Ret(Some(_)) => in_function(scope.kind()),
         _ => true,
-    }
-}
-
-fn is_function(kind: UnitKind) -> bool
-    ensures { result ≡ kind_is_function kind }
-{
-    match kind {
-        UnitKind::Func => true,
-        UnitKind::Proc | UnitKind::Entity => false,
     }
 }
 

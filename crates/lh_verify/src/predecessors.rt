@@ -1,6 +1,4 @@
 //! Which blocks have an edge to a label.
-#![tactic(auto, using(crate::proofs::Lists::steps))]
-
 ghost use Rattle.std.specs.Prelude.{◌≡◌, ◌<◌, ◌++◌, ◌∷◌, [], List, length, replicate, IfOk, OnOk};
 ghost use Rattle.lh_unit.specs.Arena.{unit_count, label_count, table_at, blocks_at};
 ghost use Rattle.lh_unit.specs.ById.{blocks_led_to};

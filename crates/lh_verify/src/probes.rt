@@ -5,10 +5,10 @@ ghost use Rattle.lh_unit.specs.Table.{line_at};
 ghost use Rattle.lh_unit.specs.Arena.{unit_count, value_count, inst_count, table_at};
 ghost use Rattle.lh_unit.specs.declared.table.Line.{Line};
 ghost use Rattle.lh_verify.specs.Marking.{IsProbed, Reaches, Advances, comes_from as inst_comes_from};
-ghost use Rattle.lh_verify.specs.Told.{any_sig, is_sig as inst_is_sig};
+ghost use Rattle.lh_typing.specs.Told.{any_sig, is_sig as inst_is_sig};
 
-use crate::facts::no_marks;
-use crate::uses::{Use, uses};
+use lh_typing::facts::no_marks;
+use lh_typing::uses::{Use, uses};
 use lh_types::ty::NoMemory;
 use lh_unit::inst::{Inst, InstId, UnitId, ValueId};
 use lh_unit::module::Module;

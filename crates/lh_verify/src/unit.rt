@@ -7,15 +7,15 @@ ghost use Rattle.lh_verify.specs.Answering.{Finds, LacksFirst, first_at as first
 ghost use Rattle.lh_verify.specs.Faults.{hides_paths as spot_hides_paths};
 ghost use Rattle.lh_verify.specs.PhisById.{wrong_phi_at};
 ghost use Rattle.lh_verify.specs.Spots.{spots_of};
-ghost use Rattle.lh_verify.specs.Told.{IsScope, items_in, text_in};
+ghost use Rattle.lh_typing.specs.Told.{IsScope, items_in, text_in};
 ghost use Rattle.lh_verify.specs.SpotsWithin.{SpotWithin};
 
-use crate::facts::facts;
+use lh_typing::facts::facts;
 use crate::labels::labels;
 use crate::phis::wrong_phis;
 use crate::place::{hides_paths, lowest};
 use crate::probes::probed;
-use crate::scope::Scope;
+use lh_typing::scope::Scope;
 use crate::spots::{Spot, spots};
 use lh_defined::{DefinedFault, defined};
 use lh_types::ty::NoMemory;

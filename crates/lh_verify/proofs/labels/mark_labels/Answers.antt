@@ -2,7 +2,7 @@ use Rattle.std.proofs.Common.{◌≡◌, ℕ, List, false, length, ap, sym, ◌�
 use Rattle.lh_unit.specs.Arena.{label_count, blocks_at}
 use Rattle.lh_unit.specs.declared.inst.BlockId.{BlockId}
 use Rattle.lh_verify.specs.Marking.{BlockMarks, has_labels}
-use Rattle.lh_verify.proofs.KnowingSteps.{length-replicate}
+use Rattle.lh_typing.proofs.KnowingSteps.{length-replicate}
 use Rattle.lh_verify.proofs.MarkingSteps.{stands-none, stands-blocks}
 use Rattle.lh_verify.proofs.labels.mark_labels.Goals as goal
 

@@ -3,7 +3,7 @@ use Rattle.lh_unit.specs.Table.{no_line}
 use Rattle.lh_unit.specs.Arena.{table_at, value_count}
 use Rattle.lh_unit.specs.declared.table.Line.{Line}
 use Rattle.lh_verify.specs.Marking.{Advances}
-use Rattle.lh_verify.proofs.Lists.{drop-end}
+use Rattle.lh_typing.proofs.Lists.{drop-end}
 use Rattle.lh_verify.proofs.MarkingSteps.{advance-none, drop-before}
 use Rattle.lh_verify.proofs.probes.mark_insts.Goals as goal
 

@@ -1,11 +1,11 @@
 use Rattle.std.proofs.Common.{◌≡◌, List, length, ap, sym, ◌∙◌, subst, arith}
 use Rattle.lh_unit.specs.Within.{Each}
 use Rattle.lh_unit.specs.Arena.{naming, args_at, table_at, value_count, inst_count}
-use Rattle.lh_verify.specs.declared.scope.Fact.{Fact}
-use Rattle.lh_verify.specs.Knowing.{Knows}
+use Rattle.lh_typing.specs.declared.scope.Fact.{Fact}
+use Rattle.lh_typing.specs.Knowing.{Knows}
 use Rattle.lh_verify.specs.Marking.{IsProbed, Stands}
 use Rattle.lh_verify.specs.SpotsWithin.{SpotWithin}
-use Rattle.lh_verify.specs.Told.{items_in, text_in}
+use Rattle.lh_typing.specs.Told.{items_in, text_in}
 use Rattle.lh_verify.proofs.ScopeIs.{scope-is, length-spots, spots-within}
 use Rattle.lh_verify.proofs.unit.first_fault.Goals as goal
 
