@@ -1,7 +1,7 @@
 //! The operands of instructions with what each must be, and the type and the kind of what instructions give.
-use super::*;
 use crate::results::{result_kind, result_type};
 use crate::scope::Kind;
+use crate::types::{is_signal, is_void};
 use crate::uses::{Need, Use, uses};
 use lh_types::list::ListOf;
 use lh_types::op::Op;
@@ -65,51 +65,90 @@ fn gives(alloc: Global, inst: &Inst, ty: Option<Ty>, kind: Option<Kind>) -> bool
     }
 }
 
-#[test]
-fn operands_with_what_each_must_be(rt: HostRuntime) {
-    let alloc = rt.alloc();
+/// Whether an operation on two operands of a type has these.
+fn operation_takes(alloc: Global, op: Op, ty: Option<Ty>, wanted: &[(u32, Need)]) -> bool {
+    match operation(alloc, op, ty) {
+        Some(inst) => takes(alloc, &inst, wanted),
+        None => false,
+    }
+}
+
+/// Whether an operation on two operands of a type gives this type.
+fn operation_gives(alloc: Global, op: Op, ty: Option<Ty>, wanted: Option<Ty>) -> bool {
+    match operation(alloc, op, ty) {
+        Some(inst) => gives(alloc, &inst, wanted, Some(Kind::Datum)),
+        None => false,
+    }
+}
+
+fn drive_takes(alloc: Global, wanted: &[(u32, Need)]) -> bool {
     let drive = Inst::Drv {
         to: operand(0, signal(alloc, 8)),
         value: ValueId(1),
         after: ValueId(2),
         cond: Some(ValueId(3)),
     };
-    let wanted = [
-        (0, Need::Signal),
-        (1, Need::Data),
-        (2, Need::Time),
-        (3, Need::Data),
-    ];
-    assert!(rt; takes(alloc, &drive, &wanted));
-    let of_time = Inst::Sig(operand(4, Some(Ty::time())));
-    assert!(rt; takes(alloc, &of_time, &[(4, Need::DataOrTime)]));
-    assert!(rt; takes(alloc, &Inst::Halt, &[]));
-    match operation(alloc, Op::Extf(0), signal(alloc, 8)) {
-        Some(part) => assert!(rt; takes(alloc, &part, &[(0, Need::Signal), (1, Need::Signal)])),
-        None => assert!(rt; false),
-    }
+    takes(alloc, &drive, wanted)
+}
+
+const DRIVEN: [(u32, Need); 4] = [
+    (0, Need::Signal),
+    (1, Need::Data),
+    (2, Need::Time),
+    (3, Need::Data),
+];
+
+#[test]
+fn operands_of_a_drive(rt: HostRuntime) {
+    assert!(rt; drive_takes(rt.alloc(), &DRIVEN));
 }
 
 #[test]
-fn what_instructions_give(rt: HostRuntime) {
-    let alloc = rt.alloc();
-    let new = Inst::Sig(operand(0, integer(8)));
-    assert!(rt; gives(alloc, &new, signal(alloc, 8), Some(Kind::Signal)));
-    let read = Inst::Prb(operand(0, signal(alloc, 8)));
-    assert!(rt; gives(alloc, &read, integer(8), Some(Kind::Datum)));
-    assert!(rt; gives(alloc, &Inst::Halt, None, None));
-    match operation(alloc, Op::Eq, integer(8)) {
-        Some(equal) => assert!(rt; gives(alloc, &equal, integer(1), Some(Kind::Datum))),
-        None => assert!(rt; false),
-    }
+fn parts_of_a_signal_are_of_signals(rt: HostRuntime) {
+    let wanted = [(0, Need::Signal), (1, Need::Signal)];
+    let of = signal(rt.alloc(), 8);
+    assert!(rt; operation_takes(rt.alloc(), Op::Extf(0), of, &wanted));
 }
 
 #[test]
-fn which_types_are_signals_and_which_is_nothing(rt: HostRuntime) {
-    let alloc = rt.alloc();
+fn a_comparison_gives_one_bit(rt: HostRuntime) {
+    assert!(rt; operation_gives(rt.alloc(), Op::Eq, integer(8), integer(1)));
+}
+
+#[test]
+fn an_addition_gives_the_type_of_its_operands(rt: HostRuntime) {
+    assert!(rt; operation_gives(rt.alloc(), Op::Add, integer(8), integer(8)));
+}
+
+fn new_signal_gives(alloc: Global, width: u32) -> bool {
+    let new = Inst::Sig(operand(0, integer(width)));
+    gives(alloc, &new, signal(alloc, width), Some(Kind::Signal))
+}
+
+#[test]
+fn a_new_signal_carries_its_value(rt: HostRuntime) {
+    assert!(rt; new_signal_gives(rt.alloc(), 8));
+}
+
+fn probe_gives(alloc: Global, width: u32) -> bool {
+    let read = Inst::Prb(operand(0, signal(alloc, width)));
+    gives(alloc, &read, integer(width), Some(Kind::Datum))
+}
+
+#[test]
+fn a_probe_gives_what_the_signal_carries(rt: HostRuntime) {
+    assert!(rt; probe_gives(rt.alloc(), 8));
+}
+
+fn is_told_a_signal(alloc: Global) -> bool {
     match signal(alloc, 1) {
-        Some(ty) => assert!(rt; is_signal(ty.kind()) && !is_void(ty.kind())),
-        None => assert!(rt; false),
+        Some(ty) => is_signal(ty.kind()) && !is_void(ty.kind()),
+        None => false,
     }
+}
+
+#[test]
+fn signals_and_nothing_are_told_apart(rt: HostRuntime) {
+    assert!(rt; is_told_a_signal(rt.alloc()));
     assert!(rt; is_void(Ty::void().kind()) && !is_signal(Ty::void().kind()));
 }
