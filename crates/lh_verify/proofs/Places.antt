@@ -5,9 +5,9 @@ use Rattle.std.specs.List.{list_any}
 use Rattle.lh_unit.specs.Contents.{UnitText, ItemText}
 use Rattle.lh_unit.specs.Typing.{or_else}
 use Rattle.lh_unit.specs.TypingRows.{types_fit}
-use Rattle.lh_unit.specs.Naming.{Naming, inst_text, kind_text}
+use Rattle.lh_unit.specs.Naming.{Naming, inst_text}
 use Rattle.lh_unit.specs.Within.{Sizes, Each, OperandWithin, ValueWithin, MaybeWithin, TriggerWithin, EdgeWithin, InstWithin}
-use Rattle.lh_unit.specs.Arena.{InstPlaced, kind_at, table_at}
+use Rattle.lh_unit.specs.Arena.{table_at}
 use Rattle.lh_unit.specs.Places.{places}
 use Rattle.lh_unit.specs.WellFormed.{number_of, undefined, wrong_kind, wrong_type, not_here, no_terminator, phi_edges, not_defined, arguments, is_undefined, is_wrong_kind, is_wrong_type, is_asked, has_wrong_kind, has_no_kind, names_wrong_unit, probes_for_signal, result_fits, depends_on_probe}
 use Rattle.lh_unit.specs.declared.inst.UnitKind.{UnitKind}
@@ -26,7 +26,7 @@ use Rattle.lh_verify.specs.Asks.{ends_wrong}
 use Rattle.lh_verify.specs.Faults.{inst_in, text_of, has_fault, first_of, lowest, hides_paths, lowest_of_operands, lowest_of_place}
 use Rattle.lh_verify.specs.Operands.{UseWithin}
 use Rattle.lh_verify.specs.PhisById.{phi_is_wrong}
-use Rattle.lh_typing.specs.Told.{text_in, naming_in, sizes_in, items_in, from_probe}
+use Rattle.lh_typing.specs.Told.{text_in, naming_in, items_in, from_probe}
 use Rattle.lh_typing.specs.Uses.{use_text, uses_of, all_used, values_used, maybe_used, edges_used, trigger_uses, triggers_uses, operation_need}
 use Rattle.lh_typing.proofs.UsesText.{uses-text}
 

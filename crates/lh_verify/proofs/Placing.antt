@@ -3,15 +3,13 @@ use Rattle.std.proofs.Common.{◌≡◌, ℕ, ◌+◌, ◌<◌, ◌≤◌, zero,
 use Rattle.std.specs.Prelude.{slice_get}
 use Rattle.std.proofs.lemmas.Option.{slice_get_read}
 use Rattle.std.proofs.lemmas.Grind.{common_steps}
-use Rattle.lh_unit.specs.Table.{no_line, is_block, flat, ids_from, ArgsWithin, ResultWithin, ResultsWithin, BlocksWithin, FitsKind, IsTable}
-use Rattle.lh_unit.specs.Within.{Sizes, Each, MaybeWithin}
-use Rattle.lh_unit.specs.Arena.{Arena, IsArena, unit_count, value_count, label_count, block_count, inst_count, table_at, kind_at, blocks_at, block_insts_at, result_at, sizes}
+use Rattle.lh_unit.specs.Table.{is_block, flat, ids_from, BlocksWithin, FitsKind, IsTable}
+use Rattle.lh_unit.specs.Within.{Each}
+use Rattle.lh_unit.specs.Arena.{Arena, IsArena, unit_count, label_count, block_count, inst_count, table_at, kind_at, blocks_at, block_insts_at}
 use Rattle.lh_unit.specs.declared.inst.UnitKind.{UnitKind}
 use Rattle.lh_unit.specs.declared.inst.UnitKind.TheVariants as kind
 use Rattle.lh_unit.specs.declared.inst.BlockId.{BlockId}
 use Rattle.lh_unit.specs.declared.inst.InstId.{InstId}
-use Rattle.lh_unit.specs.declared.inst.ValueId.{ValueId}
-use Rattle.lh_unit.specs.declared.inst.Arg.{Arg}
 use Rattle.lh_unit.specs.declared.inst.Item.{Item}
 use Rattle.lh_unit.specs.declared.inst.Item.TheVariants as item
 use Rattle.lh_unit.specs.declared.table.Line.{Line}

@@ -1,17 +1,12 @@
 -- What is asked of one operand.
-use Rattle.std.specs.Prelude.{ℕ, List, [], ◌∷◌, Option, Some, None, Bool, true, false, not, ◌&&◌, ◌||◌, if◌then◌else◌}
+use Rattle.std.specs.Prelude.{ℕ, List, Option, Some, None, Bool, true, false, not, ◌&&◌, ◌||◌, if◌then◌else◌}
 use Rattle.std.specs.List.{list_any}
-use Rattle.std.specs.Option.{option_map_or}
-use Rattle.lh_types.specs.Types.{TypeTree, TypeRow}
-use Rattle.lh_unit.specs.Typing.{with_type}
-use Rattle.lh_types.specs.Faults.{is_data}
-use Rattle.lh_unit.specs.Contents.{OperandText, EdgeText, InstText, ArgText, UnitText, ItemText, defines_value, defines_label, defines_unit}
+use Rattle.lh_unit.specs.Contents.{EdgeText, InstText, ArgText, UnitText, ItemText, defines_value, defines_label, defines_unit}
 use Rattle.lh_unit.specs.Named.{is_assert, is_function}
 use Rattle.lh_unit.specs.Kinds.{Use}
 use Rattle.lh_unit.specs.declared.inst.UnitKind.{UnitKind}
 use Rattle.lh_unit.specs.Places.{is_terminator}
 use Rattle.lh_unit.specs.WellFormed.{in_entity, labels_named, units_named}
-use Rattle.lh_unit.specs.TypingRows.{has_type, agrees}
 use Rattle.lh_verify.specs.declared.arguments.Side.{Side}
 use Rattle.lh_verify.specs.declared.arguments.Side.TheVariants.{Inputs, Outputs, All}
 

@@ -10,9 +10,9 @@ ghost use Rattle.lh_unit.specs.Naming.{operand_text, inst_text};
 ghost use Rattle.lh_typing.specs.Told.{naming_in};
 ghost use Rattle.lh_verify.specs.Asks.{ends_wrong as asks_ends_wrong};
 
-use lh_typing::scope::Scope;
-use lh_typing::is_signal;
 use lh_types::op::Op;
+use lh_typing::is_signal;
+use lh_typing::scope::Scope;
 use lh_unit::inst::{Inst, Typed, UnitKind};
 
 /// Whether a unit of this kind is a function.

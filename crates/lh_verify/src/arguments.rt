@@ -8,11 +8,10 @@ ghost use Rattle.lh_unit.specs.WellFormed.{result_fits as text_result_fits, argu
 ghost use Rattle.lh_verify.specs.Asks.{on_side};
 ghost use Rattle.lh_typing.specs.Told.{IsScope, items_in, text_in, naming_in, sizes_in};
 
-use lh_typing::{has_bit, has_type};
-use lh_typing::scope::Scope;
-use lh_typing::is_void;
 use crate::units::{is_assert, is_defined};
 use lh_types::ty::Ty;
+use lh_typing::scope::Scope;
+use lh_typing::{has_bit, has_type, is_void};
 use lh_unit::inst::{Arg, Inst, Typed, UnitId};
 
 /// The parameters among which an argument stands.

@@ -4,8 +4,8 @@ ghost use Rattle.lh_unit.specs.Table.{BlocksWithin};
 ghost use Rattle.lh_unit.specs.Arena.{unit_count, label_count};
 ghost use Rattle.lh_verify.specs.Marking.{BlockMarks, Stands, has_labels as kind_has_labels};
 
-use lh_typing::facts::no_marks;
 use lh_types::ty::NoMemory;
+use lh_typing::facts::no_marks;
 use lh_unit::inst::{BlockId, UnitId, UnitKind};
 use lh_unit::module::Module;
 use std::alloc::Global;

@@ -12,14 +12,14 @@ ghost use Rattle.lh_verify.specs.Faults.{lowest_of_operands, lowest_of_place, lo
 
 use crate::allowed::{ends_wrong, in_function, is_allowed};
 use crate::arguments::{arguments_differ, result_fits};
-use lh_typing::types_fit;
 use crate::kinds::{any_has_no_kind, any_has_wrong_kind};
-use lh_typing::scope::Scope;
 use crate::spots::Spot;
 use crate::undefined::is_undefined;
 use crate::units::names_function;
-use lh_typing::uses::{Use, UseList, uses};
 use lh_types::ty::NoMemory;
+use lh_typing::scope::Scope;
+use lh_typing::types_fit;
+use lh_typing::uses::{Use, UseList, uses};
 use lh_unit::inst::Inst;
 use std::alloc::Global;
 

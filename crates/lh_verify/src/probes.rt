@@ -7,9 +7,9 @@ ghost use Rattle.lh_unit.specs.declared.table.Line.{Line};
 ghost use Rattle.lh_verify.specs.Marking.{IsProbed, Reaches, Advances, comes_from as inst_comes_from};
 ghost use Rattle.lh_typing.specs.Told.{any_sig, is_sig as inst_is_sig};
 
+use lh_types::ty::NoMemory;
 use lh_typing::facts::no_marks;
 use lh_typing::uses::{Use, uses};
-use lh_types::ty::NoMemory;
 use lh_unit::inst::{Inst, InstId, UnitId, ValueId};
 use lh_unit::module::Module;
 use std::alloc::Global;

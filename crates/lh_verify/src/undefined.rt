@@ -10,8 +10,8 @@ ghost use Rattle.lh_typing.specs.Told.{IsScope, items_in, text_in, naming_in, si
 ghost use Rattle.lh_typing.specs.Uses.{uses_of};
 
 use crate::kinds::any_names_nothing;
-use lh_typing::scope::Scope;
 use crate::units::is_missing;
+use lh_typing::scope::Scope;
 use lh_typing::uses::Use;
 use lh_unit::inst::{BlockId, Inst, PhiEdge};
 

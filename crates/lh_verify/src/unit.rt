@@ -10,15 +10,15 @@ ghost use Rattle.lh_verify.specs.Spots.{spots_of};
 ghost use Rattle.lh_typing.specs.Told.{IsScope, items_in, text_in};
 ghost use Rattle.lh_verify.specs.SpotsWithin.{SpotWithin};
 
-use lh_typing::facts::facts;
 use crate::labels::labels;
 use crate::phis::wrong_phis;
 use crate::place::{hides_paths, lowest};
 use crate::probes::probed;
-use lh_typing::scope::Scope;
 use crate::spots::{Spot, spots};
 use lh_defined::{DefinedFault, defined};
 use lh_types::ty::NoMemory;
+use lh_typing::facts::facts;
+use lh_typing::scope::Scope;
 use lh_unit::inst::{InstId, UnitId};
 use lh_unit::module::Module;
 use std::alloc::Global;
