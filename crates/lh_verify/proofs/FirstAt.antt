@@ -1,14 +1,14 @@
 -- The first faulty place, at a step of a loop over the places.
-use Rattle.std.proofs.Common.{◌≡◌, Bool, ℕ, ◌+◌, ◌<◌, ◌≤◌, List, [], ◌∷◌, length, get_or, drop, Option, Some, None, refl, ap, sym, ◌∙◌}
+use Rattle.std.proofs.Common.{◌≡◌, Bool, ℕ, ◌+◌, ◌<◌, List, length, get_or, drop, Option, Some, None, refl, ap, sym, ◌∙◌}
 use Rattle.std.specs.Option.{option_map}
 use Rattle.lh_unit.specs.WellFormed.{FaultKind, number_of}
 use Rattle.lh_unit.specs.declared.inst.InstId.{InstId}
-use Rattle.lh_verify.specs.declared.scope.Scope.{Scope}
+use Rattle.lh_typing.specs.declared.scope.Scope.{Scope}
 use Rattle.lh_verify.specs.declared.spots.Spot.{Spot}
 use Rattle.lh_verify.specs.declared.unit.Found.{Found}
 use Rattle.lh_verify.specs.Answering.{is_at, found_or, first_at}
 use Rattle.lh_verify.specs.Faults.{lowest}
-use Rattle.lh_verify.proofs.Lists.{drop-get_or, drop-end}
+use Rattle.lh_typing.proofs.Lists.{drop-get_or}
 
 found-number : (x : Spot) (k : Option FaultKind) (n : ℕ) (more : Option Found) → Some n ≡ option_map number_of k → Some (record { inst = x.inst; number = n }) ≡ found_or x k more
 found-number x None n more e = absurd cc

@@ -1,5 +1,5 @@
 -- The first faulty instruction of a unit, from what its places say by ids.
-use Rattle.std.proofs.Common.{◌≡◌, ℕ, ◌+◌, ◌<◌, ◌⊎◌, inl, inr, zero, suc, Bool, true, false, ◌||◌, not, nat_eq, if◌then◌else◌, List, [], ◌∷◌, ◌++◌, length, map, Option, Some, None, slice_get, refl, ap, sym, ◌∙◌, subst, arith}
+use Rattle.std.proofs.Common.{◌≡◌, ℕ, ◌+◌, ◌<◌, ◌⊎◌, inl, inr, Bool, true, false, nat_eq, List, [], ◌∷◌, ◌++◌, length, map, Option, Some, None, refl, ap, sym, ◌∙◌, subst, arith}
 use Rattle.std.specs.Option.{option_map}
 use Rattle.std.proofs.lemmas.Grind.{common_steps}
 use Rattle.lh_unit.specs.Contents.{UnitText, ItemText}
@@ -7,11 +7,11 @@ use Rattle.lh_unit.specs.Within.{Each}
 use Rattle.lh_unit.specs.Places.{Place, places}
 use Rattle.lh_unit.specs.WellFormed.{FaultKind, number_of, undefined, wrong_kind, wrong_type, not_here, no_terminator, phi_edges, not_defined, arguments, Site, HasFault, NoneHasFault, LacksDefinition, has_local, has_paths}
 use Rattle.lh_unit.specs.declared.inst.InstId.{InstId}
-use Rattle.lh_verify.specs.Answering.{FirstIn, FirstLacks, LacksFirst, is_at, found_or, first_at}
+use Rattle.lh_verify.specs.Answering.{FirstIn, LacksFirst, is_at, found_or, first_at}
 use Rattle.lh_verify.specs.Faults.{has_fault, lowest}
 use Rattle.lh_verify.specs.declared.unit.Found.{Found}
 use Rattle.lh_verify.specs.declared.spots.Spot.{Spot}
-use Rattle.lh_verify.specs.declared.scope.Scope.{Scope}
+use Rattle.lh_typing.specs.declared.scope.Scope.{Scope}
 use Rattle.lh_verify.proofs.Lowest.{IsLowest, of_eight, lowest-some, lowest-none}
 
 -- sites that are numbered one by one from k + 1

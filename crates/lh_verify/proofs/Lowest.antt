@@ -1,5 +1,5 @@
 -- The lowest fault of an instruction, from its eight tests.
-use Rattle.std.proofs.Common.{◌≡◌, ℕ, ◌<◌, Bool, true, false, Option, Some, None, refl, ap, sym, ◌∙◌, subst, arith}
+use Rattle.std.proofs.Common.{◌≡◌, ◌<◌, Bool, true, false, Option, Some, None, refl, subst, arith}
 use Rattle.lh_unit.specs.WellFormed.{FaultKind, number_of, undefined, wrong_kind, wrong_type, not_here, no_terminator, phi_edges, not_defined, arguments}
 use Rattle.lh_unit.proofs.Lists.{some_inj}
 use Rattle.lh_verify.specs.Faults.{first_of}

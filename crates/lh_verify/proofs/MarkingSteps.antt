@@ -4,15 +4,14 @@ use Rattle.std.specs.List.{list_any}
 use Rattle.std.specs.Option.{option_map, option_map_or}
 use Rattle.std.proofs.lemmas.Option.{slice_get-get_or, slice_get_within}
 use Rattle.std.proofs.Math.ListN.{length-set}
-use Rattle.lh_unit.specs.Contents.{InstText, LineText, BlockText, UnitText, defines_label, defines_label_in, is_result_name}
-use Rattle.lh_unit.specs.Typing.{inst_giving}
+use Rattle.lh_unit.specs.Contents.{defines_label_in, is_result_name}
 use Rattle.lh_unit.specs.Kinds as kinds
 use Rattle.lh_unit.specs.Naming.{Naming, value_text, inst_text, block_text, label_text}
 use Rattle.lh_unit.specs.Within.{Sizes, Each, ValueWithin, InstWithin}
-use Rattle.lh_unit.specs.Table.{Table, IsTable, HasBlocks, FitsKind, BlocksWithin, is_block, is_result}
+use Rattle.lh_unit.specs.Table.{Table, HasBlocks, FitsKind, BlocksWithin, is_block, is_result}
 use Rattle.lh_unit.specs.ById.{inst_making}
 use Rattle.lh_unit.specs.WellFormed.{values_named, comes_from_probe, depends_on_probe}
-use Rattle.lh_unit.specs.Arena.{Arena, IsArena, InstPlaced, naming, sizes, table_at, kind_at, blocks_at, unit_text_at, unit_count, value_count, label_count, value_name_at, label_name_at}
+use Rattle.lh_unit.specs.Arena.{Arena, IsArena, naming, sizes, table_at, kind_at, blocks_at, unit_text_at, unit_count, value_count, label_count, label_name_at}
 use Rattle.lh_unit.specs.declared.inst.UnitKind.{UnitKind}
 use Rattle.lh_unit.specs.declared.inst.UnitKind.TheVariants as kind
 use Rattle.lh_unit.specs.declared.inst.ValueId.{ValueId}
@@ -22,14 +21,14 @@ use Rattle.lh_unit.specs.declared.inst.Inst.TheVariants as inst
 use Rattle.lh_unit.specs.declared.table.Line.{Line}
 use Rattle.lh_unit.proofs.Lists.{Same, same, other, same_or, nat_eq-refl, nat_eq-other, or_false, or_true, some_inj}
 use Rattle.lh_unit.proofs.ById.{defines_label-by_id, inst_giving-by_id}
-use Rattle.lh_verify.specs.declared.uses.Use.{Use}
+use Rattle.lh_typing.specs.declared.uses.Use.{Use}
 use Rattle.lh_verify.specs.Operands.{UseWithin}
-use Rattle.lh_verify.specs.Uses.{use_text, uses_of}
+use Rattle.lh_typing.specs.Uses.{use_text, uses_of}
 use Rattle.lh_verify.specs.Marking.{BlockMarks, Stands, has_labels, comes_from, Reaches, Advances}
-use Rattle.lh_verify.proofs.Lists.{drop-get_or}
-use Rattle.lh_verify.proofs.UsesText.{uses-text}
+use Rattle.lh_typing.proofs.Lists.{drop-get_or}
+use Rattle.lh_typing.proofs.UsesText.{uses-text}
 use Rattle.lh_verify.proofs.Places.{uses-within}
-use Rattle.lh_verify.proofs.KnowingSteps.{get-set-same, get-set-other, replicate-false, length-replicate}
+use Rattle.lh_typing.proofs.KnowingSteps.{get-set-same, get-set-other, replicate-false, length-replicate}
 
 -- marks of blocks
 block-more : (bs : List BlockId) (c : BlockId) (b : ℕ) → is_block (bs ++ c ∷ []) b ≡ (is_block bs b || nat_eq c.0 b)

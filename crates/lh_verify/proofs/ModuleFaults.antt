@@ -1,21 +1,20 @@
 -- The first fault of a module, from those of its units.
-use Rattle.std.proofs.Common.{◌≡◌, ℕ, ◌+◌, ◌<◌, zero, suc, List, [], ◌∷◌, ◌++◌, length, map, take, drop, get_or, Option, Some, None, IsSome, slice_get, refl, ap, sym, ◌∙◌, subst, append_assoc}
-use Rattle.std.proofs.lemmas.List.{append-nil, map-append}
+use Rattle.std.proofs.Common.{◌≡◌, ℕ, ◌+◌, ◌<◌, zero, suc, List, [], ◌∷◌, ◌++◌, length, map, take, drop, get_or, Option, Some, None, slice_get, refl, ap, sym, ◌∙◌, subst, append_assoc}
+use Rattle.std.proofs.lemmas.List.{map-append}
 use Rattle.std.proofs.lemmas.Option.{slice_get_read}
 use Rattle.lh_unit.specs.Contents.{UnitText, ItemText, unit_text, declare_text}
-use Rattle.lh_unit.specs.Places.{Place, places}
-use Rattle.lh_unit.specs.WellFormed.{FaultKind, Site, sites, NoneHasFault, IsFirstFault}
-use Rattle.lh_unit.specs.Arena.{Arena, IsArena, contents, item_text_at, unit_text_at, unit_name_at, kind_at, unit_count}
+use Rattle.lh_unit.specs.WellFormed.{Site, sites, NoneHasFault}
+use Rattle.lh_unit.specs.Arena.{Arena, IsArena, contents, item_text_at, unit_text_at, unit_name_at, unit_count}
 use Rattle.lh_unit.specs.declared.inst.UnitId.{UnitId}
 use Rattle.lh_unit.specs.declared.inst.Item.{Item}
 use Rattle.lh_unit.specs.declared.inst.Item.TheVariants as item
 use Rattle.lh_verify.specs.declared.unit.Found.{Found}
 use Rattle.lh_verify.specs.declared.verify.Fault.{Fault}
-use Rattle.lh_verify.specs.Answering.{FirstIn, Finds, IsFew, unit_sites}
+use Rattle.lh_verify.specs.Answering.{Finds, IsFew, unit_sites}
 use Rattle.lh_verify.specs.Placed.{IsItemOf}
 use Rattle.lh_verify.specs.Verifying.{NamesFault, UnitFault, SaysOfUnit, SaysOfItem, ItemBegun, named_fault}
-use Rattle.lh_verify.proofs.KnowingSteps.{take-item}
-use Rattle.lh_verify.proofs.Lists.{drop-item}
+use Rattle.lh_typing.proofs.KnowingSteps.{take-item}
+use Rattle.lh_typing.proofs.Lists.{drop-item}
 
 sites-append : (xs ys : List ItemText) → sites (xs ++ ys) ≡ sites xs ++ sites ys
 sites-append [] ys = refl

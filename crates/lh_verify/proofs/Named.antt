@@ -2,15 +2,15 @@
 use Rattle.std.proofs.Common.{◌≡◌, List, [], ◌∷◌, Bool, true, false, not, ◌||◌, map, refl, ap, sym, ◌∙◌}
 use Rattle.std.specs.List.{list_any}
 use Rattle.lh_types.specs.Types.{TypeTree}
-use Rattle.lh_unit.specs.Contents.{EdgeText, InstText, UnitText, ItemText, defines_value, defines_label, phi_text}
+use Rattle.lh_unit.specs.Contents.{EdgeText, UnitText, ItemText, defines_value, defines_label, phi_text}
 use Rattle.lh_unit.specs.Kinds as kinds
 use Rattle.lh_unit.specs.Naming.{Naming, inst_text}
 use Rattle.lh_unit.specs.WellFormed.{is_undefined, values_named}
 use Rattle.lh_unit.specs.declared.inst.Inst.{Inst}
 use Rattle.lh_verify.specs.Asks.{names_nothing, edge_is_missing, label_is_missing_in, unit_is_missing_in}
-use Rattle.lh_verify.specs.declared.uses.Use.{Use}
-use Rattle.lh_verify.specs.Uses.{use_text, uses_of}
-use Rattle.lh_verify.proofs.UsesText.{uses-text}
+use Rattle.lh_typing.specs.declared.uses.Use.{Use}
+use Rattle.lh_typing.specs.Uses.{use_text, uses_of}
+use Rattle.lh_typing.proofs.UsesText.{uses-text}
 
 edges-missing : (t : UnitText) (es : List EdgeText) → list_any (edge_is_missing t) es ≡ list_any (λ n. not (defines_label n t)) (map (λ (e : EdgeText). e.block) es)
 edges-missing t [] = refl

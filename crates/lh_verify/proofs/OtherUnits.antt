@@ -1,20 +1,20 @@
 -- The units of a module that the instructions of a unit name.
-use Rattle.std.proofs.Common.{◌≡◌, ◌≢◌, ℕ, ◌<◌, Bool, true, false, not, ◌&&◌, ◌||◌, if◌then◌else◌, List, [], ◌∷◌, map, Option, Some, None, is_some, refl, ap, sym, ◌∙◌, subst}
+use Rattle.std.proofs.Common.{◌≡◌, ℕ, ◌<◌, Bool, true, false, not, ◌&&◌, ◌||◌, if◌then◌else◌, List, [], ◌∷◌, map, Option, Some, None, is_some, refl, ap, sym, ◌∙◌, subst}
 use Rattle.std.specs.Prelude.{filter}
 use Rattle.std.specs.Option.{option_map_or}
-use Rattle.lh_types.specs.Types.{TypeTree, void_type, same_type}
-use Rattle.lh_unit.specs.Contents.{OperandText, ArgText, UnitText, ItemText, defines_unit}
+use Rattle.lh_types.specs.Types.{TypeTree, same_type}
+use Rattle.lh_unit.specs.Contents.{ArgText, UnitText, defines_unit}
 use Rattle.lh_unit.specs.Named.{unit_named, is_assert, is_function}
 use Rattle.lh_unit.specs.Naming.{arg_text, kind_text}
-use Rattle.lh_unit.specs.Table.{FitsKind, IsTable}
-use Rattle.lh_unit.specs.Arena.{Arena, IsArena, contents, unit_text_at, naming, table_at, kind_at, args_at, result_type_at, unit_count, unit_name_at}
-use Rattle.lh_unit.specs.WellFormed.{is_function_name, args_of, assert_args, arguments_fit, inputs_of, outputs_of}
+use Rattle.lh_unit.specs.Table.{FitsKind}
+use Rattle.lh_unit.specs.Arena.{Arena, IsArena, unit_text_at, naming, table_at, kind_at, args_at, result_type_at, unit_count, unit_name_at}
+use Rattle.lh_unit.specs.WellFormed.{is_function_name, args_of, assert_args}
 use Rattle.lh_unit.specs.declared.inst.UnitKind.{UnitKind}
 use Rattle.lh_unit.proofs.ById.{defines_unit-by_id, unit_named-by_id}
 use Rattle.lh_verify.specs.Asks.{is_function_kind, on_side}
 use Rattle.lh_verify.specs.declared.arguments.Side.TheVariants.{All}
-use Rattle.lh_verify.specs.Told.{IsScope, text_in, naming_in, sizes_in, items_in}
-use Rattle.lh_verify.specs.declared.scope.Scope.{Scope}
+use Rattle.lh_typing.specs.Told.{naming_in, sizes_in, items_in}
+use Rattle.lh_typing.specs.declared.scope.Scope.{Scope}
 
 pub unit-within : (s : Scope) (v : ℕ) → v < (sizes_in s).units → v < unit_count s.module.now
 unfolding sizes_in
@@ -23,10 +23,6 @@ unit-within s v h = h
 pub unit-name : (s : Scope) (v : ℕ) → (naming_in s).unit_name v ≡ unit_name_at s.module.now v
 unfolding naming_in
 unit-name s v = refl
-
-pub result-in : (s : Scope) → result_type_at s.module.now s.unit.0 ≡ (text_in s).result
-unfolding text_in
-result-in s = refl
 
 pub defined-in : (s : Scope) (v : ℕ) → IsArena s.module.now → v < (sizes_in s).units → defines_unit ((naming_in s).unit_name v) (items_in s) ≡ is_some (kind_at s.module.now v)
 unfolding naming_in sizes_in items_in

@@ -1,15 +1,15 @@
 -- The faults of an instruction at its place, part by part.
-use Rattle.std.proofs.Common.{◌≡◌, ℕ, suc, length, Bool, true, false, not, ◌&&◌, ◌||◌, if◌then◌else◌, List, [], ◌∷◌, ◌++◌, map, Option, Some, None, refl, ap, sym, ◌∙◌, subst}
+use Rattle.std.proofs.Common.{◌≡◌, ℕ, suc, length, Bool, true, false, not, ◌&&◌, ◌||◌, if◌then◌else◌, List, [], ◌∷◌, ◌++◌, map, Option, Some, None, refl, ap, sym, ◌∙◌}
 use Rattle.std.specs.Option.{option_map}
 use Rattle.std.specs.List.{list_any}
-use Rattle.lh_unit.specs.Contents.{UnitText, ItemText, InstText}
+use Rattle.lh_unit.specs.Contents.{UnitText, ItemText}
 use Rattle.lh_unit.specs.Typing.{or_else}
 use Rattle.lh_unit.specs.TypingRows.{types_fit}
-use Rattle.lh_unit.specs.Naming.{Naming, inst_text, kind_text}
+use Rattle.lh_unit.specs.Naming.{Naming, inst_text}
 use Rattle.lh_unit.specs.Within.{Sizes, Each, OperandWithin, ValueWithin, MaybeWithin, TriggerWithin, EdgeWithin, InstWithin}
-use Rattle.lh_unit.specs.Arena.{InstPlaced, kind_at, table_at}
+use Rattle.lh_unit.specs.Arena.{table_at}
 use Rattle.lh_unit.specs.Places.{places}
-use Rattle.lh_unit.specs.WellFormed.{FaultKind, number_of, undefined, wrong_kind, wrong_type, not_here, no_terminator, phi_edges, not_defined, arguments, is_undefined, is_wrong_kind, is_wrong_type, is_asked, has_wrong_kind, has_no_kind, names_wrong_unit, probes_for_signal, result_fits, is_allowed, arguments_differ, depends_on_probe}
+use Rattle.lh_unit.specs.WellFormed.{number_of, undefined, wrong_kind, wrong_type, not_here, no_terminator, phi_edges, not_defined, arguments, is_undefined, is_wrong_kind, is_wrong_type, is_asked, has_wrong_kind, has_no_kind, names_wrong_unit, probes_for_signal, result_fits, depends_on_probe}
 use Rattle.lh_unit.specs.declared.inst.UnitKind.{UnitKind}
 use Rattle.lh_unit.specs.declared.inst.ValueId.{ValueId}
 use Rattle.lh_unit.specs.declared.inst.Typed.{Typed}
@@ -17,26 +17,18 @@ use Rattle.lh_unit.specs.declared.inst.RegTrigger.{RegTrigger}
 use Rattle.lh_unit.specs.declared.inst.PhiEdge.{PhiEdge}
 use Rattle.lh_unit.specs.declared.inst.Inst.{Inst}
 use Rattle.lh_unit.specs.declared.inst.Inst.TheVariants as inst
-use Rattle.lh_verify.specs.declared.uses.Need.{Need}
-use Rattle.lh_verify.specs.declared.uses.Need.TheVariants.{Data, Time, Signal, DataOrTime}
-use Rattle.lh_verify.specs.declared.uses.Use.{Use}
-use Rattle.lh_verify.specs.declared.scope.Scope.{Scope}
+use Rattle.lh_typing.specs.declared.uses.Need.{Need}
+use Rattle.lh_typing.specs.declared.uses.Need.TheVariants.{Data, Time, Signal, DataOrTime}
+use Rattle.lh_typing.specs.declared.uses.Use.{Use}
+use Rattle.lh_typing.specs.declared.scope.Scope.{Scope}
 use Rattle.lh_verify.specs.declared.spots.Spot.{Spot}
 use Rattle.lh_verify.specs.Asks.{ends_wrong}
 use Rattle.lh_verify.specs.Faults.{inst_in, text_of, has_fault, first_of, lowest, hides_paths, lowest_of_operands, lowest_of_place}
 use Rattle.lh_verify.specs.Operands.{UseWithin}
 use Rattle.lh_verify.specs.PhisById.{phi_is_wrong}
-use Rattle.lh_verify.specs.Told.{text_in, naming_in, sizes_in, items_in, from_probe}
-use Rattle.lh_verify.specs.Uses.{use_text, uses_of, all_used, values_used, maybe_used, edges_used, trigger_uses, triggers_uses, operation_need}
-use Rattle.lh_verify.proofs.UsesText.{uses-text}
-
-pub kind-in : (s : Scope) → kind_text (kind_at s.module.now s.unit.0) ≡ (text_in s).kind
-unfolding text_in
-kind-in s = refl
-
-pub placed-in : (s : Scope) (i : Inst) → InstPlaced s.module.now s.unit.0 i → InstWithin (sizes_in s) i
-unfolding sizes_in
-placed-in s i h = h
+use Rattle.lh_typing.specs.Told.{text_in, naming_in, items_in, from_probe}
+use Rattle.lh_typing.specs.Uses.{use_text, uses_of, all_used, values_used, maybe_used, edges_used, trigger_uses, triggers_uses, operation_need}
+use Rattle.lh_typing.proofs.UsesText.{uses-text}
 
 pub from-probe-is : (t : UnitText) (n : List ℕ) → from_probe t n ≡ depends_on_probe (suc (length (places t))) t n
 unfolding from_probe
@@ -143,6 +135,3 @@ pub first-left : (a b d r : Bool) → b ≡ false → d ≡ false → r ≡ a �
 first-left true true d r e g h = cc
 first-left true false d r e g h = h
 first-left false b d r e g h = h ∙ sym (ap (λ x. x || d) e ∙ g)
-
-pub hides-by-phi : (s : Scope) (x : Spot) (k : UnitKind) (i : Inst) → k ≡ (text_in s).kind → i ≡ inst_in s x → phi_is_wrong (table_at s.module.now s.unit.0) x i ≡ true → true ≡ hides_paths s x
-hides-by-phi s x k i e g h = last-holds (is_undefined (items_in s) (text_in s) (inst_text (naming_in s) i)) (ends_wrong k x.last (inst_text (naming_in s) i)) (phi_is_wrong (table_at s.module.now s.unit.0) x i) h ∙ sym (hides-parts s x k i e g)

@@ -1,16 +1,15 @@
 -- The faults of a place by ids are those of its text.
-use Rattle.std.proofs.Common.{◌≡◌, ℕ, ◌+◌, ◌<◌, zero, suc, Bool, true, false, not, ◌&&◌, ◌||◌, nat_eq, if◌then◌else◌, cond, List, [], ◌∷◌, ◌++◌, length, map, Option, Some, None, slice_get, refl, ap, sym, ◌∙◌, subst, arith}
-use Rattle.std.specs.Prelude.{count_by}
+use Rattle.std.proofs.Common.{◌≡◌, ℕ, ◌+◌, ◌<◌, zero, suc, Bool, true, false, not, ◌&&◌, ◌||◌, nat_eq, cond, List, [], ◌∷◌, ◌++◌, length, map, Option, Some, None, slice_get, refl, ap, sym, ◌∙◌, subst}
 use Rattle.std.specs.List.{list_any, list_all, fold}
 use Rattle.std.proofs.lemmas.List.Folds.{list_any-append}
 use Rattle.std.proofs.lemmas.List.{map-append}
-use Rattle.lh_unit.specs.Contents.{EdgeText, LineText, BlockText, UnitText, same_name}
+use Rattle.lh_unit.specs.Contents.{EdgeText, LineText, BlockText, same_name}
 use Rattle.lh_unit.specs.Named.{label_or}
-use Rattle.lh_unit.specs.Places.{is_terminator, has_edge}
+use Rattle.lh_unit.specs.Places.{has_edge}
 use Rattle.lh_unit.specs.Naming.{Naming, inst_text, edge_text, block_text, label_text}
-use Rattle.lh_unit.specs.Within.{Each, EdgeWithin, InstWithin}
-use Rattle.lh_unit.specs.Table.{Table, IsTable, HasBlocks, FitsKind, BlocksWithin, is_block, line_at, insts_at, entity_block}
-use Rattle.lh_unit.specs.Arena.{Arena, IsArena, InstPlaced, naming, sizes, table_at, kind_at, blocks_at, unit_text_at, unit_count, label_count, label_name_at, inst_at}
+use Rattle.lh_unit.specs.Within.{Each, EdgeWithin}
+use Rattle.lh_unit.specs.Table.{Table, HasBlocks, FitsKind, BlocksWithin, is_block, line_at, insts_at, entity_block}
+use Rattle.lh_unit.specs.Arena.{Arena, IsArena, InstPlaced, naming, sizes, table_at, kind_at, blocks_at, unit_text_at, unit_count, label_count, label_name_at}
 use Rattle.lh_unit.specs.ById.{inst_line, place_text, successors}
 use Rattle.lh_unit.specs.ById as byid
 use Rattle.lh_unit.specs.WellFormed as wf

@@ -1,12 +1,11 @@
 -- What is known of a unit, as the tests of its instructions ask it.
-use Rattle.std.proofs.Common.{◌≡◌, ℕ, ◌+◌, ◌<◌, ◌≤◌, suc, Bool, ◌||◌, List, [], ◌∷◌, length, map, Option, Some, None, slice_get, refl, ap, sym, ◌∙◌, subst, arith}
+use Rattle.std.proofs.Common.{◌≡◌, ℕ, ◌+◌, ◌<◌, ◌≤◌, suc, List, [], ◌∷◌, length, map, Option, Some, None, refl, ap, sym, ◌∙◌, subst, arith}
 use Rattle.std.specs.Option.{option_map, option_and_then}
 use Rattle.std.proofs.lemmas.Option.{slice_get_within}
 use Rattle.std.proofs.lemmas.List.{length-map}
-use Rattle.lh_types.specs.Types.{TypeTree}
-use Rattle.lh_unit.specs.Contents.{InstText, ArgText, UnitText, defines_value}
+use Rattle.lh_unit.specs.Contents.{ArgText}
 use Rattle.lh_unit.specs.Typing.{or_else, result_type, arg_named, inst_giving, value_type}
-use Rattle.lh_unit.specs.Kinds.{Kind, kind_of, result_kind, value_kind}
+use Rattle.lh_unit.specs.Kinds.{kind_of, result_kind, value_kind}
 use Rattle.lh_unit.specs.Places.{places}
 use Rattle.lh_unit.specs.Naming.{Naming, inst_text, arg_text}
 use Rattle.lh_unit.specs.Table.{Table, ids_from}
@@ -24,11 +23,11 @@ use Rattle.lh_unit.specs.declared.inst.Inst.{Inst}
 use Rattle.lh_unit.specs.declared.table.Line.{Line}
 use Rattle.lh_unit.proofs.ById.{defines_value-by_id, arg_named-by_id, inst_giving-by_id}
 use Rattle.lh_unit.proofs.ByIdPlaces.{places-by_id, spots-insts}
-use Rattle.lh_verify.specs.declared.scope.Scope.{Scope}
-use Rattle.lh_verify.specs.declared.scope.Fact.{Fact}
-use Rattle.lh_verify.specs.Knowing.{Known, Knows}
-use Rattle.lh_verify.specs.Marking.{Reaches, Stands}
-use Rattle.lh_verify.specs.Told.{IsScope, Told, text_in, naming_in, sizes_in, from_probe, kind_as}
+use Rattle.lh_typing.specs.declared.scope.Scope.{Scope}
+use Rattle.lh_typing.specs.declared.scope.Fact.{Fact}
+use Rattle.lh_typing.specs.Knowing.{Known, Knows}
+use Rattle.lh_verify.specs.Marking.{IsProbed, Stands}
+use Rattle.lh_typing.specs.Told.{IsScope, Told, text_in, naming_in, sizes_in, from_probe}
 
 length-ids : (k : ℕ) (ls : List Line) → length (ids_from k ls) ≡ length ls
 length-ids k [] = refl
@@ -83,7 +82,7 @@ module _ (a : Arena) (u : ℕ) (o : IsArena a) (h : u < unit_count a) where
     ty = k.ty ∙ sym (type-is v w);
   }
 
-pub scope-is : (s : Scope) → IsArena s.module.now → s.unit.0 < unit_count s.module.now → Knows (value_count s.module.now s.unit.0) (naming s.module.now s.unit.0) (args_at s.module.now s.unit.0) (table_at s.module.now s.unit.0).lines s.facts.now → Reaches s.module.now s.unit.0 (inst_count s.module.now s.unit.0 + 1) s.probed.now → Stands s.module.now s.unit.0 s.labels.now → IsScope s
+pub scope-is : (s : Scope) → IsArena s.module.now → s.unit.0 < unit_count s.module.now → Knows (value_count s.module.now s.unit.0) (naming s.module.now s.unit.0) (args_at s.module.now s.unit.0) (table_at s.module.now s.unit.0).lines s.facts.now → IsProbed s.module.now s.unit.0 s.probed.now → Stands s.module.now s.unit.0 s.labels.now → IsScope s
 unfolding text_in naming_in sizes_in from_probe
 scope-is s o h k r st =
     let e : inst_count s.module.now s.unit.0 + 1 ≡ suc (length (places (unit_text_at s.module.now s.unit.0))) = omega (arith, length-places s.module.now s.unit.0 o h) in
@@ -94,7 +93,7 @@ scope-is s o h k r st =
       long_labels = st.long;
       told_labels = λ b x g. st.marked b.0 x g;
       long_probed = r.long;
-      told_probed = λ v x g. r.marked v.0 x g ∙ ap (λ n. depends_on_probe n (unit_text_at s.module.now s.unit.0) (value_name_at s.module.now s.unit.0 v.0)) e;
+      told_probed = λ q v x g. (r.reached q).marked v.0 x g ∙ ap (λ n. depends_on_probe n (unit_text_at s.module.now s.unit.0) (value_name_at s.module.now s.unit.0 v.0)) e;
     }
 
 ids-within : (n k : ℕ) (ls : List Line) → k + length ls ≤ n → Each (λ (i : InstId). i.0 < n) (ids_from k ls)

@@ -1,6 +1,6 @@
 -- The places of a unit, one by one.
-use Rattle.std.proofs.Common.{◌≡◌, ℕ, ◌+◌, ◌-◌, ◌<◌, ◌≤◌, zero, suc, Bool, true, false, ◌||◌, List, [], ◌∷◌, ◌++◌, length, get_or, drop, refl, ap, sym, ◌∙◌, append_assoc, arith}
-use Rattle.std.specs.Prelude.{nat_eq, slice_get, Option, Some}
+use Rattle.std.proofs.Common.{◌≡◌, ℕ, ◌+◌, ◌-◌, ◌<◌, zero, suc, Bool, false, ◌||◌, List, [], ◌∷◌, ◌++◌, length, get_or, drop, refl, ap, sym, ◌∙◌, append_assoc, arith}
+use Rattle.std.specs.Prelude.{nat_eq, slice_get, Some}
 use Rattle.std.proofs.lemmas.Option.{slice_get_within}
 use Rattle.lh_unit.specs.ById.{blocks_led_to, last_led_to}
 use Rattle.std.proofs.lemmas.Grind.{common_steps}
@@ -9,7 +9,7 @@ use Rattle.lh_unit.specs.declared.inst.BlockId.{BlockId}
 use Rattle.lh_unit.specs.declared.inst.InstId.{InstId}
 use Rattle.lh_verify.specs.declared.spots.Spot.{Spot}
 use Rattle.lh_verify.specs.Spots.{is_other, is_empty, spots_in, spots_from}
-use Rattle.lh_verify.proofs.Lists.{drop-get_or}
+use Rattle.lh_typing.proofs.Lists.{drop-get_or}
 
 suc-eq : (a b : ℕ) → nat_eq (suc a) (suc b) ≡ nat_eq a b
 suc-eq a b = grind (arith, common_steps)

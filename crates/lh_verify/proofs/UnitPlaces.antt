@@ -1,35 +1,32 @@
 -- The places of a unit and what is known of it, all together.
-use Rattle.std.proofs.Common.{◌≡◌, ℕ, ◌+◌, ◌<◌, ◌≤◌, zero, suc, Bool, true, false, not, ◌&&◌, ◌||◌, if◌then◌else◌, List, [], ◌∷◌, ◌++◌, length, map, get_or, Option, Some, None, slice_get, refl, ap, sym, ◌∙◌, subst, arith}
+use Rattle.std.proofs.Common.{◌≡◌, ℕ, ◌+◌, ◌<◌, ◌≤◌, zero, suc, true, false, not, ◌&&◌, ◌||◌, if◌then◌else◌, List, [], ◌∷◌, map, get_or, Option, Some, None, slice_get, refl, ap, sym, ◌∙◌, subst, arith}
 use Rattle.std.specs.List.{list_any}
 use Rattle.lh_unit.specs.WellFormed as wf
 use Rattle.lh_defined.specs.Lacking.{AllDefined, IsNotDefined}
-use Rattle.lh_unit.specs.Contents.{InstText, ArgText, UnitText, ItemText, defines_value}
-use Rattle.lh_unit.specs.Typing.{or_else, result_type, arg_named, inst_giving}
-use Rattle.lh_unit.specs.Kinds.{Kind, kind_of, result_kind}
+use Rattle.lh_unit.specs.Contents.{InstText}
 use Rattle.lh_unit.specs.Places.{Place, places, is_terminator}
-use Rattle.lh_unit.specs.Naming.{Naming, inst_text, arg_text, value_text}
-use Rattle.lh_unit.specs.Within.{Sizes, Each}
-use Rattle.lh_unit.specs.Table.{Table, IsTable, no_line, line_at}
+use Rattle.lh_unit.specs.Naming.{inst_text}
+use Rattle.lh_unit.specs.Within.{Each}
+use Rattle.lh_unit.specs.Table.{no_line}
 use Rattle.lh_unit.specs.declared.table.Line.{Line}
 use Rattle.lh_unit.proofs.Lists.{some_inj}
-use Rattle.lh_unit.specs.Arena.{Arena, IsArena, InstPlaced, contents, naming, table_at, kind_at, unit_text_at, unit_count, inst_count, inst_at}
+use Rattle.lh_unit.specs.Arena.{IsArena, InstPlaced, naming, table_at, unit_text_at, unit_count, inst_count, inst_at}
 use Rattle.lh_unit.specs.ById.{inst_line, place_text, arg_being, inst_making}
 use Rattle.lh_unit.specs.ById as byid
 use Rattle.lh_unit.specs.WellFormed.{FaultKind, number_of, undefined, wrong_kind, wrong_type, not_here, no_terminator, phi_edges, not_defined, arguments, has_local, in_entity, has_paths}
 use Rattle.lh_unit.specs.declared.inst.InstId.{InstId}
-use Rattle.lh_unit.specs.declared.inst.Arg.{Arg}
 use Rattle.lh_unit.specs.declared.inst.Inst.{Inst}
 use Rattle.lh_unit.proofs.ByIdPlaces.{InUnit, places-by_id, spot-at}
-use Rattle.lh_verify.specs.declared.scope.Scope.{Scope}
+use Rattle.lh_typing.specs.declared.scope.Scope.{Scope}
 use Rattle.lh_verify.specs.declared.spots.Spot.{Spot}
 use Rattle.lh_verify.specs.declared.unit.Found.{Found}
 use Rattle.lh_verify.specs.Answering.{Finds, FirstLacks, LacksFirst, is_at, found_or, first_at}
 use Rattle.lh_verify.specs.Faults.{has_fault, lowest, hides_paths, text_of}
 use Rattle.lh_verify.specs.Spots.{spots_of}
 use Rattle.lh_verify.specs.SpotsWithin.{SpotWithin}
-use Rattle.lh_verify.specs.Told.{IsScope, text_in, naming_in, items_in}
+use Rattle.lh_typing.specs.Told.{text_in, naming_in, items_in}
 use Rattle.lh_verify.proofs.PlacesById.{spot_of, spots-map, empty-is, phi-is}
-use Rattle.lh_verify.proofs.FirstFaults.{Numbered, AllMatch, Matches, FindsAmong, finds, lacking}
+use Rattle.lh_verify.proofs.FirstFaults.{Numbered, AllMatch, FindsAmong, finds, lacking}
 
 -- each instruction of a unit is in place
 any-placed : (P : Inst → Type 0) (ls : List Line) → ((j : ℕ) (l : Line) → slice_get ls j ≡ Some l → P l.inst) → P no_line.inst → (i : ℕ) → P (get_or ls i no_line).inst

@@ -1,11 +1,11 @@
 -- The first fault of a list of instructions, of a unit, and of a module.
-use Rattle.std.specs.Prelude.{◌≡◌, ℕ, ◌+◌, ◌<◌, List, [], ◌∷◌, ◌++◌, map, Bool, true, false, nat_eq, Option, Some, None}
+use Rattle.std.specs.Prelude.{◌≡◌, ◌+◌, ◌<◌, List, [], ◌∷◌, ◌++◌, map, Bool, true, false, nat_eq, Option, Some, None}
 use Rattle.lh_unit.specs.Contents.{UnitText, ItemText}
 use Rattle.lh_unit.specs.Within.{Each}
 use Rattle.lh_unit.specs.Places.{Place, places}
-use Rattle.lh_unit.specs.WellFormed.{FaultKind, number_of, not_defined, Site, HasFault, NoneHasFault, has_paths, LacksDefinition}
+use Rattle.lh_unit.specs.WellFormed.{FaultKind, number_of, Site, HasFault, NoneHasFault, has_paths, LacksDefinition}
 use Rattle.lh_unit.specs.declared.inst.InstId.{InstId}
-use Rattle.lh_verify.specs.declared.scope.Scope.{Scope}
+use Rattle.lh_typing.specs.declared.scope.Scope.{Scope}
 use Rattle.lh_verify.specs.declared.spots.Spot.{Spot}
 use Rattle.lh_verify.specs.declared.unit.Found.{Found}
 use Rattle.lh_verify.specs.Faults.{lowest}

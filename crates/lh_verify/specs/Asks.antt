@@ -1,31 +1,18 @@
 -- What is asked of one operand.
-use Rattle.std.specs.Prelude.{ℕ, List, [], ◌∷◌, Option, Some, None, Bool, true, false, not, ◌&&◌, ◌||◌, if◌then◌else◌}
+use Rattle.std.specs.Prelude.{ℕ, List, Option, Some, None, Bool, true, false, not, ◌&&◌, ◌||◌, if◌then◌else◌}
 use Rattle.std.specs.List.{list_any}
-use Rattle.std.specs.Option.{option_map_or}
-use Rattle.lh_types.specs.Types.{TypeTree, TypeRow}
-use Rattle.lh_unit.specs.Typing.{with_type}
-use Rattle.lh_types.specs.Faults.{is_data}
-use Rattle.lh_unit.specs.Contents.{OperandText, EdgeText, InstText, ArgText, UnitText, ItemText, defines_value, defines_label, defines_unit}
+use Rattle.lh_unit.specs.Contents.{EdgeText, InstText, ArgText, UnitText, ItemText, defines_value, defines_label, defines_unit}
 use Rattle.lh_unit.specs.Named.{is_assert, is_function}
 use Rattle.lh_unit.specs.Kinds.{Use}
 use Rattle.lh_unit.specs.declared.inst.UnitKind.{UnitKind}
 use Rattle.lh_unit.specs.Places.{is_terminator}
 use Rattle.lh_unit.specs.WellFormed.{in_entity, labels_named, units_named}
-use Rattle.lh_unit.specs.TypingRows.{has_type, agrees}
 use Rattle.lh_verify.specs.declared.arguments.Side.{Side}
 use Rattle.lh_verify.specs.declared.arguments.Side.TheVariants.{Inputs, Outputs, All}
 
 -- the value of an operand is defined nowhere in the unit
 abbrev pub names_nothing : UnitText → Use → Bool
 names_nothing t x = not (defines_value x.value t)
-
--- a data type is written before a field of a struct, and it is the field's
-abbrev pub field_fits : UnitText → OperandText → Bool
-field_fits t o = option_map_or is_data o.ty false && agrees t o
-
--- the operand of a `phi` has its type
-abbrev pub edge_fits : UnitText → TypeTree → EdgeText → Bool
-edge_fits t ty e = has_type t ty e.value
 
 -- in a function or process, the last of its block and no terminator, or a terminator and not the last
 abbrev pub ends_wrong : UnitKind → (last : Bool) → InstText → Bool
@@ -51,11 +38,6 @@ abbrev pub on_side : Side → ArgText → Bool
 on_side Inputs a = not a.output
 on_side Outputs a = a.output
 on_side All a = true
-
--- types in front of a row, where it is there
-abbrev pub rows_joined : List TypeTree → Option TypeRow → Option TypeRow
-rows_joined [] r = r
-rows_joined (t ∷ more) r = with_type (Some t) (rows_joined more r)
 
 -- a function, and neither another unit nor none
 abbrev pub is_function_kind : Option UnitKind → Bool

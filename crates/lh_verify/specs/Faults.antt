@@ -5,11 +5,11 @@ use Rattle.lh_unit.specs.Naming.{inst_text}
 use Rattle.lh_unit.specs.Arena.{inst_at, table_at}
 use Rattle.lh_unit.specs.WellFormed.{FaultKind, undefined, wrong_kind, wrong_type, not_here, no_terminator, phi_edges, not_defined, arguments, is_undefined, is_wrong_kind, is_wrong_type, is_allowed, arguments_differ}
 use Rattle.lh_unit.specs.declared.inst.Inst.{Inst}
-use Rattle.lh_verify.specs.declared.scope.Scope.{Scope}
+use Rattle.lh_typing.specs.declared.scope.Scope.{Scope}
 use Rattle.lh_verify.specs.declared.spots.Spot.{Spot}
 use Rattle.lh_verify.specs.Asks.{ends_wrong}
-use Rattle.lh_verify.specs.PhisById.{phi_is_wrong}
-use Rattle.lh_verify.specs.Told.{text_in, naming_in, items_in}
+use Rattle.lh_verify.specs.PhisById.{phi_is_wrong, wrong_phi_at}
+use Rattle.lh_typing.specs.Told.{text_in, naming_in, items_in}
 
 -- the instruction at a place, and its text
 abbrev pub inst_in : Scope → Spot → Inst
@@ -25,7 +25,7 @@ has_fault s x wrong_kind = is_wrong_kind (items_in s) (text_in s) (text_of s x)
 has_fault s x wrong_type = is_wrong_type (items_in s) (text_in s) (text_of s x)
 has_fault s x not_here = not (is_allowed (text_in s).kind (text_of s x))
 has_fault s x no_terminator = ends_wrong (text_in s).kind x.last (text_of s x)
-has_fault s x phi_edges = phi_is_wrong (table_at s.module.now s.unit.0) x (inst_in s x)
+has_fault s x phi_edges = wrong_phi_at (table_at s.module.now s.unit.0) x
 has_fault s x not_defined = false
 has_fault s x arguments = arguments_differ (items_in s) (text_in s) (text_of s x)
 

@@ -1,14 +1,12 @@
 pub mod Answering
 pub mod Asks
+pub mod Counting
 pub mod Faults
-pub mod Knowing
 pub mod Marking
 pub mod Operands
-pub mod Parts
 pub mod PhisById
 pub mod Placed
+pub mod Predecessors
 pub mod Spots
 pub mod SpotsWithin
-pub mod Told
-pub mod Uses
 pub mod Verifying

@@ -1,20 +1,21 @@
 -- Marks of the labels and of the values of a unit.
-use Rattle.std.specs.Prelude.{◌≡◌, ℕ, suc, List, length, Bool, true, false, Option, Some, None, slice_get, slice_index_or}
+use Rattle.std.specs.Prelude.{◌≡◌, ℕ, ◌+◌, List, length, Bool, true, false, Option, Some, None, slice_get, slice_index_or}
 use Rattle.std.specs.List.{list_any}
 use Rattle.std.specs.Option.{option_map_or}
-use Rattle.lh_unit.specs.Contents.{UnitText, defines_label}
+use Rattle.lh_unit.specs.Contents.{defines_label}
 use Rattle.lh_unit.specs.WellFormed.{depends_on_probe}
 use Rattle.lh_unit.specs.Table.{is_block}
 use Rattle.lh_unit.specs.ById.{inst_making}
-use Rattle.lh_unit.specs.Arena.{Arena, unit_text_at, label_count, value_count, label_name_at, value_name_at}
+use Rattle.lh_unit.specs.Arena.{Arena, table_at, unit_text_at, label_count, value_count, inst_count, label_name_at, value_name_at}
 use Rattle.lh_unit.specs.declared.inst.UnitKind.{UnitKind}
 use Rattle.lh_unit.specs.declared.inst.UnitKind.TheVariants as kind
 use Rattle.lh_unit.specs.declared.inst.BlockId.{BlockId}
 use Rattle.lh_unit.specs.declared.inst.Inst.{Inst}
 use Rattle.lh_unit.specs.declared.inst.Inst.TheVariants as inst
 use Rattle.lh_unit.specs.declared.table.Line.{Line}
-use Rattle.lh_verify.specs.declared.uses.Use.{Use}
-use Rattle.lh_verify.specs.Uses.{uses_of}
+use Rattle.lh_typing.specs.declared.uses.Use.{Use}
+use Rattle.lh_typing.specs.Told.{any_sig}
+use Rattle.lh_typing.specs.Uses.{uses_of}
 
 -- the marks say which of these are blocks
 pub record BlockMarks (blocks : List BlockId) (n : ℕ) (marks : List Bool) : Type 0 where
@@ -47,3 +48,8 @@ pub record Reaches (a : Arena) (u k : ℕ) (marks : List Bool) : Type 0 where
 pub record Advances (lines : List Line) (old : List Bool) (n : ℕ) (marks : List Bool) : Type 0 where
   pub long : length marks ≡ n
   pub marked : (v : ℕ) (x : Bool) → slice_get marks v ≡ Some x → x ≡ option_map_or (comes_from old) (inst_making lines v) false
+
+-- in a unit with a `sig`, the marks say which values come from a `prb`
+pub record IsProbed (a : Arena) (u : ℕ) (marks : List Bool) : Type 0 where
+  pub long : length marks ≡ value_count a u
+  pub reached : any_sig (table_at a u).lines ≡ true → Reaches a u (inst_count a u + 1) marks

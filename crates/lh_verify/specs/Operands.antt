@@ -1,6 +1,6 @@
 -- The operands of an instruction are in place.
-use Rattle.lh_unit.specs.Within.{Sizes, Each, ValueWithin}
-use Rattle.lh_verify.specs.declared.uses.Use.{Use}
+use Rattle.lh_unit.specs.Within.{Sizes, ValueWithin}
+use Rattle.lh_typing.specs.declared.uses.Use.{Use}
 
 -- the value of an operand has an entry
 abbrev pub UseWithin : Sizes → Use → Type 0

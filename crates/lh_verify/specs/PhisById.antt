@@ -1,7 +1,7 @@
 -- The rule of a `phi` by ids.
 use Rattle.std.specs.Prelude.{ℕ, List, Bool, false, not, ◌||◌, nat_eq, count_by}
 use Rattle.std.specs.List.{list_all}
-use Rattle.lh_unit.specs.Table.{Table, is_block}
+use Rattle.lh_unit.specs.Table.{Table, is_block, line_at}
 use Rattle.lh_unit.specs.ById.{successors}
 use Rattle.lh_unit.specs.declared.inst.BlockId.{BlockId}
 use Rattle.lh_unit.specs.declared.inst.PhiEdge.{PhiEdge}
@@ -25,3 +25,7 @@ names_predecessors t to edges blocks = list_all (named_once t to edges) blocks
 abbrev pub phi_is_wrong : Table → Spot → Inst → Bool
 phi_is_wrong t s (inst.Phi ty edges) = (s.after_other || s.in_entry) || not (names_predecessors t s.block edges t.blocks)
 phi_is_wrong t s _ = false
+
+-- the instruction at a place is such a `phi`
+abbrev pub wrong_phi_at : Table → Spot → Bool
+wrong_phi_at t s = phi_is_wrong t s (line_at t s.inst.0).inst

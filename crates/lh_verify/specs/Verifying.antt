@@ -1,5 +1,5 @@
 -- What is said of a module that was verified.
-use Rattle.std.specs.Prelude.{◌≡◌, ℕ, ◌+◌, ◌<◌, List, Option, Some, None, IsSome, Result, Ok, Err}
+use Rattle.std.specs.Prelude.{◌≡◌, ◌+◌, ◌<◌, Option, Some, None, IsSome, Result, Ok, Err}
 use Rattle.lh_unit.specs.WellFormed.{FaultKind, number_of, Site, NoneHasFault, IsFirstFault, IsFaultless}
 use Rattle.lh_unit.specs.Arena.{Arena, contents, unit_name_at, unit_text_at, unit_count, kind_at}
 use Rattle.lh_unit.specs.declared.inst.UnitId.{UnitId}

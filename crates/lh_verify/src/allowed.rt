@@ -7,15 +7,16 @@ ghost use Rattle.lh_unit.specs.TypingRows.{is_signal as test_signal};
 ghost use Rattle.lh_unit.specs.Places.{is_terminator as text_is_terminator};
 ghost use Rattle.lh_unit.specs.WellFormed.{in_function as kind_in_function, in_process as kind_in_process, in_entity as kind_in_entity, takes_signal_part as text_takes_signal_part, is_allowed as text_is_allowed};
 ghost use Rattle.lh_unit.specs.Naming.{operand_text, inst_text};
-ghost use Rattle.lh_verify.specs.Told.{naming_in};
+ghost use Rattle.lh_typing.specs.Told.{naming_in};
 ghost use Rattle.lh_verify.specs.Asks.{ends_wrong as asks_ends_wrong};
 
-use crate::scope::Scope;
-use crate::types::is_signal;
 use lh_types::op::Op;
+use lh_typing::is_signal;
+use lh_typing::scope::Scope;
 use lh_unit::inst::{Inst, Typed, UnitKind};
 
-fn in_function(kind: UnitKind) -> bool
+/// Whether a unit of this kind is a function.
+pub fn in_function(kind: UnitKind) -> bool
     ensures { result ≡ kind_in_function kind }
 {
     match kind {

@@ -6,13 +6,12 @@ ghost use Rattle.lh_unit.specs.Naming.{Naming, operand_text, arg_text, inst_text
 ghost use Rattle.lh_unit.specs.Within.{Each, OperandWithin, InstWithin};
 ghost use Rattle.lh_unit.specs.WellFormed.{result_fits as text_result_fits, arguments_fit, arguments_differ as text_arguments_differ, assert_args};
 ghost use Rattle.lh_verify.specs.Asks.{on_side};
-ghost use Rattle.lh_verify.specs.Told.{IsScope, items_in, text_in, naming_in, sizes_in};
+ghost use Rattle.lh_typing.specs.Told.{IsScope, items_in, text_in, naming_in, sizes_in};
 
-use crate::operands::{has_bit, has_type};
-use crate::scope::Scope;
-use crate::types::is_void;
 use crate::units::{is_assert, is_defined};
 use lh_types::ty::Ty;
+use lh_typing::scope::Scope;
+use lh_typing::{has_bit, has_type, is_void};
 use lh_unit::inst::{Arg, Inst, Typed, UnitId};
 
 /// The parameters among which an argument stands.

@@ -6,11 +6,11 @@ ghost use Rattle.lh_unit.specs.WellFormed.{has_wrong_kind as use_has_wrong_kind,
 ghost use Rattle.lh_unit.specs.Within.{Each};
 ghost use Rattle.lh_verify.specs.Asks.{names_nothing as use_names_nothing};
 ghost use Rattle.lh_verify.specs.Operands.{UseWithin};
-ghost use Rattle.lh_verify.specs.Told.{IsScope, kind_as, text_in, naming_in, sizes_in};
-ghost use Rattle.lh_verify.specs.Uses.{use_text, need_as};
+ghost use Rattle.lh_typing.specs.Told.{IsScope, kind_as, text_in, naming_in, sizes_in};
+ghost use Rattle.lh_typing.specs.Uses.{use_text, need_as};
 
-use crate::scope::{Kind, Scope};
-use crate::uses::{Need, Use};
+use lh_typing::scope::{Kind, Scope};
+use lh_typing::uses::{Need, Use};
 
 /// Whether a place takes a value of this kind.
 fn takes(need: Need, kind: Kind) -> bool

@@ -4,31 +4,31 @@ ghost use Rattle.lh_unit.specs.Table.{BlocksWithin};
 ghost use Rattle.lh_unit.specs.Arena.{unit_count, label_count};
 ghost use Rattle.lh_verify.specs.Marking.{BlockMarks, Stands, has_labels as kind_has_labels};
 
-use crate::facts::no_marks;
 use lh_types::ty::NoMemory;
+use lh_typing::facts::no_marks;
 use lh_unit::inst::{BlockId, UnitId, UnitKind};
 use lh_unit::module::Module;
 use std::alloc::Global;
 
 /// By the ids of labels, whether a block of the unit has the label. In an entity none has.
-pub fn labels(alloc: Global, module: &Module, unit: UnitId) -> Result<Vec<bool>, NoMemory>
-    requires { unit.0 < unit_count module.now }
-    ensures { IfOk result (λ marks. Stands module.now unit.0 marks.items) }
+pub fn labels(alloc: Global, m: &Module, unit: UnitId) -> Result<Vec<bool>, NoMemory>
+    requires { unit.0 < unit_count m.now }
+    ensures { IfOk result (λ marks. Stands m.now unit.0 marks.items) }
 {
-    let mut marks = no_marks(alloc, module.labels(unit))?;
-    mark_labels(&mut marks, module, unit);
+    let mut marks = no_marks(alloc, m.labels(unit))?;
+    mark_labels(&mut marks, m, unit);
     Ok(marks)
 }
 
-fn mark_labels(marks: &mut [bool], module: &Module, unit: UnitId)
-    requires unit { unit.0 < unit_count module.now }
-    requires marks { marks.old ≡ replicate (label_count module.now unit.0) false }
-    ensures { Stands module.now unit.0 marks.new }
+fn mark_labels(marks: &mut [bool], m: &Module, unit: UnitId)
+    requires unit { unit.0 < unit_count m.now }
+    requires marks { marks.old ≡ replicate (label_count m.now unit.0) false }
+    ensures { Stands m.now unit.0 marks.new }
 {
-    if !has_labels(module.kind(unit)) {
+    if !has_labels(m.kind(unit)) {
         return;
     }
-    mark_blocks(marks, module.blocks(unit));
+    mark_blocks(marks, m.blocks(unit));
 }
 
 /// Whether the blocks of a unit of this kind have labels.

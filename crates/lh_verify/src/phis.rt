@@ -1,103 +1,159 @@
 //! Fault 6: where a `phi` stands, and which blocks its edges name.
-ghost use Rattle.std.specs.Prelude.{◌≡◌, ◌<◌, nat_eq};
-ghost use Rattle.lh_unit.specs.Table.{is_block};
+ghost use Rattle.std.specs.Prelude.{◌≡◌, ◌<◌, [], map, length, replicate, slice_index_or, IfOk};
 ghost use Rattle.lh_unit.specs.Within.{Each};
-ghost use Rattle.lh_unit.specs.Arena.{unit_count, table_at};
-ghost use Rattle.lh_unit.specs.ById.{blocks_led_to, successors};
-ghost use Rattle.lh_verify.specs.Placed.{IsBlockOf};
-ghost use Rattle.lh_verify.specs.PhisById.{edges_naming as count_of_edges, named_once as once_named, names_predecessors as all_named, phi_is_wrong as wrong_phi};
+ghost use Rattle.lh_unit.specs.Table.{Table};
+ghost use Rattle.lh_unit.specs.Arena.{unit_count, label_count, inst_count, table_at, blocks_at};
+ghost use Rattle.lh_unit.specs.declared.inst.PhiEdge.{PhiEdge};
+ghost use Rattle.lh_verify.specs.Counting.{Counts, EdgesWithin, all_named_once};
+ghost use Rattle.lh_verify.specs.PhisById.{phi_is_wrong as wrong_phi, wrong_phi_at};
+ghost use Rattle.lh_verify.specs.Predecessors.{IsPredecessors};
+ghost use Rattle.lh_verify.specs.SpotsWithin.{SpotWithin};
 
+use crate::predecessors::{BlockList, predecessors};
 use crate::spots::Spot;
+use lh_types::ty::NoMemory;
 use lh_unit::inst::{BlockId, Inst, PhiEdge, UnitId};
 use lh_unit::module::Module;
+use std::alloc::Global;
 
-/// How many edges of a `phi` name a block.
-fn edges_naming(edges: &[PhiEdge], block: BlockId) -> usize
-    ensures { result ≡ count_of_edges block edges.now }
-{
-    edges.iter().filter(|edge| edge.block.0 == block.0).count()
-}
-
-/// Whether an instruction may lead to a block.
-fn leads_to(inst: &Inst, to: BlockId) -> bool
-    ensures { result ≡ is_block (blocks_led_to inst.now) to.0 }
-{
-    match inst {
-        Inst::Br(block) => block.0 == to.0,
-        Inst::Branch { cond: _, zero, one } => zero.0 == to.0 || one.0 == to.0,
-        Inst::Wait {
-            to: block,
-            after: _,
-            signals: _,
-        } => block.0 == to.0,
-        _ => false,
-    }
-}
-
-/// Whether a block has an edge to another.
-fn has_edge(module: &Module, unit: UnitId, from: BlockId, to: BlockId) -> bool
-    requires unit { unit.0 < unit_count module.now }
-    requires from { IsBlockOf module.now unit.0 from }
-    ensures { result ≡ is_block (successors (table_at module.now unit.0) from) to.0 }
-{
-    match module.insts(unit, from).last() {
-        Some(last) => leads_to(module.inst(unit, *last), to),
-        None => false,
-    }
-}
-
-/// Whether a block is no predecessor of another, or is named by one edge.
-fn is_named_once(
-    module: &Module,
+/// By the places of a unit, whether the instruction there is a `phi` that stands after another kind of instruction, or in
+/// the entry block, or does not name each predecessor of its block once.
+///
+/// Work grows with the number of labels, of places, and of the edges of all `phi`.
+pub fn wrong_phis(
+    alloc: Global,
+    m: &Module,
     unit: UnitId,
-    to: BlockId,
-    edges: &[PhiEdge],
-    block: BlockId,
-) -> bool
-    requires unit { unit.0 < unit_count module.now }
-    requires block { IsBlockOf module.now unit.0 block }
-    ensures { result ≡ once_named (table_at module.now unit.0) to edges.now block }
+    places: &[Spot],
+) -> Result<Vec<bool>, NoMemory>
+    requires unit { unit.0 < unit_count m.now }
+    requires within { Each (SpotWithin (inst_count m.now unit.0)) places.now }
+    ensures { IfOk result (λ wrong. wrong.items ≡ map (wrong_phi_at (table_at m.now unit.0)) places.now) }
 {
-    if !has_edge(module, unit, block, to) {
-        return true;
-    }
-    edges_naming(edges, block) == 1
+    let rows = predecessors(alloc, m, unit)?;
+    let mut counts = no_counts(alloc, m.labels(unit))?;
+    test_places(alloc, &rows, &mut counts, m, unit, places)
 }
 
-/// Whether each predecessor of a block is named by one edge.
-fn names_predecessors(
-    module: &Module,
-    unit: UnitId,
-    to: BlockId,
-    edges: &[PhiEdge],
-    blocks: &[BlockId],
-) -> bool
-    requires unit { unit.0 < unit_count module.now }
-    requires blocks { Each (IsBlockOf module.now unit.0) blocks.now }
-    ensures { result ≡ all_named (table_at module.now unit.0) to edges.now blocks.now }
+/// Counts of which each is zero.
+fn no_counts(alloc: Global, labels: u32) -> Result<Vec<usize>, NoMemory>
+    ensures { IfOk result (λ counts. counts.items ≡ replicate labels 0) }
 {
-    for block in blocks {
-        if !is_named_once(module, unit, to, edges, *block) {
-            return false;
+    let mut counts = Vec::new(alloc);
+    for _ in 0..labels {
+        if counts.push(0).is_err() {
+            return Err(NoMemory);
         }
     }
-    true
+    Ok(counts)
 }
 
-/// Whether an instruction is a `phi` that stands after another kind of instruction, or in the entry block, or does not
-/// name each predecessor of its block once.
-pub fn phi_is_wrong(module: &Module, unit: UnitId, spot: Spot, inst: &Inst) -> bool
-    requires unit { unit.0 < unit_count module.now }
-    ensures { result ≡ wrong_phi (table_at module.now unit.0) spot inst.now }
+fn test_places(
+    alloc: Global,
+    rows: &[BlockList],
+    counts: &mut [usize],
+    m: &Module,
+    unit: UnitId,
+    places: &[Spot],
+) -> Result<Vec<bool>, NoMemory>
+    requires unit { unit.0 < unit_count m.now }
+    requires within { Each (SpotWithin (inst_count m.now unit.0)) places.now }
+    requires rows { IsPredecessors (table_at m.now unit.0) (blocks_at m.now unit.0) (label_count m.now unit.0) rows.now }
+    requires counts { Counts (label_count m.now unit.0) [] counts.old }
+    ensures { IfOk result (λ wrong. wrong.items ≡ map (wrong_phi_at (table_at m.now unit.0)) places.now) }
+{
+    let mut wrong = Vec::new(alloc);
+    for place in places {
+        let is_wrong = phi_is_wrong(rows, counts, *place, m.inst(unit, place.inst));
+        if wrong.push(is_wrong).is_err() {
+            return Err(NoMemory);
+        }
+    }
+    Ok(wrong)
+}
+
+/// Whether an instruction is a `phi` with fault 6, where `rows` are the predecessors of each label, and no edge is counted
+/// yet or afterwards.
+fn phi_is_wrong(rows: &[BlockList], counts: &mut [usize], spot: Spot, inst: &Inst) -> bool
+    requires within { EdgesWithin (length counts.old) inst.now }
+    requires counts { Counts (length counts.old) [] counts.old }
+    ensures wrong { (t : Table) → IsPredecessors t t.blocks (length rows.now) rows.now → result ≡ wrong_phi t spot inst.now }
+    ensures counts { Counts (length counts.old) [] counts.new }
 {
     match inst {
         Inst::Phi { ty: _, edges } => {
             if spot.after_other || spot.in_entry {
                 return true;
             }
-            let all = module.blocks(unit);
-            !names_predecessors(module, unit, spot.block, edges.as_slice(), all)
+            !are_named_once(blocks_in(rows, spot.block), counts, edges.as_slice())
         }
         _ => false,
+    }
+}
+
+/// The predecessors of a block.
+fn blocks_in(rows: &[BlockList], block: BlockId) -> &[BlockId]
+    ensures { result.now ≡ slice_index_or rows.now block.0 [] }
+{
+    match rows.get(block.0 as usize) {
+        Some(blocks) => blocks.as_slice(),
+        None => &[],
+    }
+}
+
+/// Whether each of these blocks is named by one edge.
+fn are_named_once(blocks: &[BlockId], counts: &mut [usize], edges: &[PhiEdge]) -> bool
+    requires within { Each (λ (e : PhiEdge). e.block.0 < length counts.old) edges.now }
+    requires counts { Counts (length counts.old) [] counts.old }
+    ensures once { result ≡ all_named_once edges.now blocks.now }
+    ensures counts { Counts (length counts.old) [] counts.new }
+{
+    count(counts, edges);
+    let once = all_counted_once(counts, blocks, edges);
+    forget(counts, edges);
+    once
+}
+
+/// Counts the edges by the ids of the labels that they name.
+fn count(counts: &mut [usize], edges: &[PhiEdge])
+    requires within { Each (λ (e : PhiEdge). e.block.0 < length counts.old) edges.now }
+    requires counts { Counts (length counts.old) [] counts.old }
+    ensures { Counts (length counts.old) edges.now counts.new }
+{
+    for edge in edges {
+        counts[edge.block.0 as usize] += 1;
+    }
+}
+
+/// Whether the edges that name each of these blocks were counted as one.
+fn all_counted_once(counts: &[usize], blocks: &[BlockId], edges: &[PhiEdge]) -> bool
+    requires { Counts (length counts.now) edges.now counts.now }
+    ensures { result ≡ all_named_once edges.now blocks.now }
+{
+    for block in blocks {
+        if count_of(counts, *block) != 1 {
+            return false;
+        }
+    }
+    true
+}
+
+fn count_of(counts: &[usize], block: BlockId) -> usize
+    ensures { result ≡ slice_index_or counts.now block.0 0 }
+{
+    match counts.get(block.0 as usize) {
+        Some(count) => *count,
+        None => 0,
+    }
+}
+
+/// Takes the edges off again, so that the next `phi` finds no count.
+fn forget(counts: &mut [usize], edges: &[PhiEdge])
+    requires within { Each (λ (e : PhiEdge). e.block.0 < length counts.old) edges.now }
+    requires counts { Counts (length counts.old) edges.now counts.old }
+    ensures { Counts (length counts.old) [] counts.new }
+{
+    for edge in edges {
+        counts[edge.block.0 as usize] -= 1;
     }
 }

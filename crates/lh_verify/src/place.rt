@@ -1,27 +1,26 @@
 //! The faults of an instruction at its place.
 ghost use Rattle.std.specs.Prelude.{◌≡◌, ◌<◌, option_map, IfOk};
-ghost use Rattle.lh_unit.specs.Arena.{inst_count};
+ghost use Rattle.lh_unit.specs.Arena.{inst_count, table_at};
 ghost use Rattle.lh_unit.specs.Naming.{inst_text};
 ghost use Rattle.lh_unit.specs.Within.{Each, InstWithin};
 ghost use Rattle.lh_unit.specs.WellFormed.{is_asked as text_is_asked, is_wrong_kind as text_is_wrong_kind, is_wrong_type as text_is_wrong_type, names_wrong_unit as text_names_wrong_unit, probes_for_signal as text_probes_for_signal, number_of};
 ghost use Rattle.lh_verify.specs.Operands.{UseWithin};
-ghost use Rattle.lh_verify.specs.Told.{IsScope, text_in, naming_in, sizes_in, items_in};
-ghost use Rattle.lh_verify.specs.Uses.{uses_of};
-ghost use Rattle.lh_unit.specs.Named.{is_function as kind_is_function};
+ghost use Rattle.lh_verify.specs.PhisById.{phi_is_wrong, wrong_phi_at};
+ghost use Rattle.lh_typing.specs.Told.{IsScope, HasItsSig, text_in, naming_in, sizes_in, items_in};
+ghost use Rattle.lh_typing.specs.Uses.{uses_of};
 ghost use Rattle.lh_verify.specs.Faults.{lowest_of_operands, lowest_of_place, lowest as lowest_fault, hides_paths as spot_hides_paths};
 
-use crate::allowed::{ends_wrong, is_allowed};
+use crate::allowed::{ends_wrong, in_function, is_allowed};
 use crate::arguments::{arguments_differ, result_fits};
-use crate::fits::types_fit;
 use crate::kinds::{any_has_no_kind, any_has_wrong_kind};
-use crate::phis::phi_is_wrong;
-use crate::scope::Scope;
 use crate::spots::Spot;
 use crate::undefined::is_undefined;
 use crate::units::names_function;
-use crate::uses::{Use, UseList, uses};
 use lh_types::ty::NoMemory;
-use lh_unit::inst::{Inst, UnitKind};
+use lh_typing::scope::Scope;
+use lh_typing::types_fit;
+use lh_typing::uses::{Use, UseList, uses};
+use lh_unit::inst::Inst;
 use std::alloc::Global;
 
 /// Whether kinds and types are asked: those of a `ret` only in a function.
@@ -30,17 +29,8 @@ fn is_asked(scope: &Scope<'_>, inst: &Inst) -> bool
     ensures { result ≡ text_is_asked (text_in scope.now) (inst_text (naming_in scope.now) inst.now) }
 {
     match inst {
-        Inst::Ret(None) | Inst::Ret(Some(_)) => is_function(scope.kind()),
+        Inst::Ret(None) | Inst::Ret(Some(_)) => in_function(scope.kind()),
         _ => true,
-    }
-}
-
-fn is_function(kind: UnitKind) -> bool
-    ensures { result ≡ kind_is_function kind }
-{
-    match kind {
-        UnitKind::Func => true,
-        UnitKind::Proc | UnitKind::Entity => false,
     }
 }
 
@@ -69,6 +59,7 @@ fn names_wrong_unit(scope: &Scope<'_>, inst: &Inst) -> bool
 fn probes_for_signal(scope: &Scope<'_>, inst: &Inst) -> bool
     requires scope { IsScope scope.now }
     requires within { InstWithin (sizes_in scope.now) inst.now }
+    requires sig { HasItsSig scope.now inst.now }
     ensures { result ≡ text_probes_for_signal (text_in scope.now) (inst_text (naming_in scope.now) inst.now) }
 {
     match inst {
@@ -81,6 +72,7 @@ fn probes_for_signal(scope: &Scope<'_>, inst: &Inst) -> bool
 fn is_wrong_kind(scope: &Scope<'_>, inst: &Inst, operands: &[Use]) -> bool
     requires scope { IsScope scope.now }
     requires within { InstWithin (sizes_in scope.now) inst.now }
+    requires sig { HasItsSig scope.now inst.now }
     requires operands { operands.now ≡ uses_of inst.now }
     requires operands_within { Each (UseWithin (sizes_in scope.now)) operands.now }
     ensures { result ≡ text_is_wrong_kind (items_in scope.now) (text_in scope.now) (inst_text (naming_in scope.now) inst.now) }
@@ -129,6 +121,7 @@ fn operands_of(alloc: Global, scope: &Scope<'_>, inst: &Inst) -> Result<UseList,
 fn operand_fault(alloc: Global, scope: &Scope<'_>, inst: &Inst) -> Result<Option<u8>, NoMemory>
     requires scope { IsScope scope.now }
     requires within { InstWithin (sizes_in scope.now) inst.now }
+    requires sig { HasItsSig scope.now inst.now }
     ensures { IfOk result (λ n. n ≡ lowest_of_operands (items_in scope.now) (text_in scope.now) (inst_text (naming_in scope.now) inst.now)) }
 {
     let list = operands_of(alloc, scope, inst)?;
@@ -145,10 +138,17 @@ fn operand_fault(alloc: Global, scope: &Scope<'_>, inst: &Inst) -> Result<Option
     Ok(None)
 }
 
-/// Faults 4 to 8 of an instruction, where it is known whether it has fault 7: the lowest.
-fn place_fault(scope: &Scope<'_>, spot: Spot, inst: &Inst, lacks: bool) -> Option<u8>
+/// Faults 4 to 8 of an instruction, where it is known whether it has the faults 6 and 7: the lowest.
+fn place_fault(
+    scope: &Scope<'_>,
+    spot: Spot,
+    inst: &Inst,
+    wrong_phi: bool,
+    lacks: bool,
+) -> Option<u8>
     requires scope { IsScope scope.now }
     requires within { InstWithin (sizes_in scope.now) inst.now }
+    requires phi { wrong_phi ≡ phi_is_wrong (table_at scope.now.module.now scope.now.unit.0) spot inst.now }
     ensures { result ≡ lowest_of_place scope.now spot inst.now lacks }
 {
     let kind = scope.kind();
@@ -158,7 +158,7 @@ fn place_fault(scope: &Scope<'_>, spot: Spot, inst: &Inst, lacks: bool) -> Optio
     if ends_wrong(scope, kind, inst, spot.last) {
         return Some(5);
     }
-    if phi_is_wrong(scope.module, scope.unit, spot, inst) {
+    if wrong_phi {
         return Some(6);
     }
     if lacks {
@@ -170,35 +170,44 @@ fn place_fault(scope: &Scope<'_>, spot: Spot, inst: &Inst, lacks: bool) -> Optio
     None
 }
 
-/// The number of the lowest fault of the instruction at a place, where it is known whether it has fault 7.
+/// The number of the lowest fault of the instruction at a place, where it is known whether it has the faults 6 and 7.
 pub fn lowest(
     alloc: Global,
     scope: &Scope<'_>,
     spot: Spot,
+    wrong_phi: bool,
     lacks: bool,
 ) -> Result<Option<u8>, NoMemory>
     requires scope { IsScope scope.now }
     requires within { spot.inst.0 < inst_count scope.now.module.now scope.now.unit.0 }
+    requires phi { wrong_phi ≡ wrong_phi_at (table_at scope.now.module.now scope.now.unit.0) spot }
     ensures { IfOk result (λ n. n ≡ option_map number_of (lowest_fault scope.now spot lacks)) }
 {
     let inst = scope.inst(spot.inst);
     match operand_fault(alloc, scope, inst)? {
         Some(number) => Ok(Some(number)),
-        None => Ok(place_fault(scope, spot, inst, lacks)),
+        None => Ok(place_fault(scope, spot, inst, wrong_phi, lacks)),
     }
 }
 
-/// Whether the instruction at a place has one of the faults 1, 5 and 6, after which paths are not asked for.
-pub fn hides_paths(alloc: Global, scope: &Scope<'_>, spot: Spot) -> Result<bool, NoMemory>
+/// Whether the instruction at a place has one of the faults 1, 5 and 6, after which paths are not asked for, where it is
+/// known whether it has fault 6.
+pub fn hides_paths(
+    alloc: Global,
+    scope: &Scope<'_>,
+    spot: Spot,
+    wrong_phi: bool,
+) -> Result<bool, NoMemory>
     requires scope { IsScope scope.now }
     requires within { spot.inst.0 < inst_count scope.now.module.now scope.now.unit.0 }
+    requires phi { wrong_phi ≡ wrong_phi_at (table_at scope.now.module.now scope.now.unit.0) spot }
     ensures { IfOk result (λ b. b ≡ spot_hides_paths scope.now spot) }
 {
-    let inst = scope.inst(spot.inst);
-    if ends_wrong(scope, scope.kind(), inst, spot.last) {
+    if wrong_phi {
         return Ok(true);
     }
-    if phi_is_wrong(scope.module, scope.unit, spot, inst) {
+    let inst = scope.inst(spot.inst);
+    if ends_wrong(scope, scope.kind(), inst, spot.last) {
         return Ok(true);
     }
     let list = operands_of(alloc, scope, inst)?;

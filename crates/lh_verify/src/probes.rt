@@ -4,31 +4,61 @@ ghost use Rattle.std.specs.List.{list_any};
 ghost use Rattle.lh_unit.specs.Table.{line_at};
 ghost use Rattle.lh_unit.specs.Arena.{unit_count, value_count, inst_count, table_at};
 ghost use Rattle.lh_unit.specs.declared.table.Line.{Line};
-ghost use Rattle.lh_verify.specs.Marking.{Reaches, Advances, comes_from as inst_comes_from};
+ghost use Rattle.lh_verify.specs.Marking.{IsProbed, Reaches, Advances, comes_from as inst_comes_from};
+ghost use Rattle.lh_typing.specs.Told.{any_sig, is_sig as inst_is_sig};
 
-use crate::facts::no_marks;
-use crate::uses::{Use, uses};
 use lh_types::ty::NoMemory;
+use lh_typing::facts::no_marks;
+use lh_typing::uses::{Use, uses};
 use lh_unit::inst::{Inst, InstId, UnitId, ValueId};
 use lh_unit::module::Module;
 use std::alloc::Global;
 
-/// By the ids of values, whether the value comes from a `prb` by its operands, in a unit with this many instructions.
-///
-/// In each round the values that come from it by one instruction more are marked, until no value is added.
-pub fn probed(
-    alloc: Global,
-    module: &Module,
-    unit: UnitId,
-    insts: u32,
-) -> Result<Vec<bool>, NoMemory>
-    requires unit { unit.0 < unit_count module.now }
-    requires insts { insts ≡ inst_count module.now unit.0 }
-    ensures { IfOk result (λ marks. Reaches module.now unit.0 (inst_count module.now unit.0 + 1) marks.items) }
+/// In a unit that has a `sig` and this many instructions: by the ids of values, whether the value comes from a `prb` by its
+/// operands. Of a unit without a `sig`, where nothing asks, the marks say nothing.
+pub fn probed(alloc: Global, m: &Module, unit: UnitId, insts: u32) -> Result<Vec<bool>, NoMemory>
+    requires unit { unit.0 < unit_count m.now }
+    requires insts { insts ≡ inst_count m.now unit.0 }
+    ensures { IfOk result (λ marks. IsProbed m.now unit.0 marks.items) }
 {
-    let mut marks = no_marks(alloc, module.values(unit))?;
+    if has_sig(m, unit, insts) {
+        return rounds(alloc, m, unit, insts);
+    }
+    no_marks(alloc, m.values(unit))
+}
+
+/// Whether one of the instructions of a unit is a `sig`.
+fn has_sig(m: &Module, unit: UnitId, insts: u32) -> bool
+    requires unit { unit.0 < unit_count m.now }
+    requires insts { insts ≡ inst_count m.now unit.0 }
+    ensures { result ≡ any_sig (table_at m.now unit.0).lines }
+{
+    for i in 0..insts {
+        if is_sig(m.inst(unit, InstId(i))) {
+            return true;
+        }
+    }
+    false
+}
+
+fn is_sig(inst: &Inst) -> bool
+    ensures { result ≡ inst_is_sig inst.now }
+{
+    match inst {
+        Inst::Sig(_) => true,
+        _ => false,
+    }
+}
+
+/// In each round the values that come from a `prb` by one instruction more are marked, until no value is added.
+fn rounds(alloc: Global, m: &Module, unit: UnitId, insts: u32) -> Result<Vec<bool>, NoMemory>
+    requires unit { unit.0 < unit_count m.now }
+    requires insts { insts ≡ inst_count m.now unit.0 }
+    ensures { IfOk result (λ marks. Reaches m.now unit.0 (inst_count m.now unit.0 + 1) marks.items) }
+{
+    let mut marks = no_marks(alloc, m.values(unit))?;
     for _ in 0..insts + 1 {
-        let next = round(alloc, module, unit, insts, &marks)?;
+        let next = round(alloc, m, unit, insts, &marks)?;
         if are_same(&marks, &next) {
             return Ok(next);
         }
@@ -53,61 +83,61 @@ fn are_same(marks: &[bool], other: &[bool]) -> bool
 /// One round: the values of which the instruction is a `prb` or has a marked operand.
 fn round(
     alloc: Global,
-    module: &Module,
+    m: &Module,
     unit: UnitId,
     insts: u32,
     marks: &[bool],
 ) -> Result<Vec<bool>, NoMemory>
-    requires unit { unit.0 < unit_count module.now }
-    requires insts { insts ≡ inst_count module.now unit.0 }
-    requires long { length marks.now ≡ value_count module.now unit.0 }
-    ensures { IfOk result (λ next. Advances (table_at module.now unit.0).lines marks.now (value_count module.now unit.0) next.items) }
+    requires unit { unit.0 < unit_count m.now }
+    requires insts { insts ≡ inst_count m.now unit.0 }
+    requires long { length marks.now ≡ value_count m.now unit.0 }
+    ensures { IfOk result (λ next. Advances (table_at m.now unit.0).lines marks.now (value_count m.now unit.0) next.items) }
 {
-    let mut next = no_marks(alloc, module.values(unit))?;
-    mark_insts(alloc, module, unit, insts, marks, &mut next)?;
+    let mut next = no_marks(alloc, m.values(unit))?;
+    mark_insts(alloc, m, unit, insts, marks, &mut next)?;
     Ok(next)
 }
 
 /// Marks the results of all instructions; of two that give one value, the first decides.
 fn mark_insts(
     alloc: Global,
-    module: &Module,
+    m: &Module,
     unit: UnitId,
     insts: u32,
     marks: &[bool],
     next: &mut [bool],
 ) -> Result<(), NoMemory>
-    requires unit { unit.0 < unit_count module.now }
-    requires insts { insts ≡ inst_count module.now unit.0 }
-    requires long { length marks.now ≡ value_count module.now unit.0 }
-    requires next { next.old ≡ replicate (value_count module.now unit.0) false }
-    ensures { OnOk result (Advances (table_at module.now unit.0).lines marks.now (value_count module.now unit.0) next.new) }
+    requires unit { unit.0 < unit_count m.now }
+    requires insts { insts ≡ inst_count m.now unit.0 }
+    requires long { length marks.now ≡ value_count m.now unit.0 }
+    requires next { next.old ≡ replicate (value_count m.now unit.0) false }
+    ensures { OnOk result (Advances (table_at m.now unit.0).lines marks.now (value_count m.now unit.0) next.new) }
 {
     for i in (0..insts).rev() {
-        mark_inst(alloc, module, unit, InstId(i), marks, next)?;
+        mark_inst(alloc, m, unit, InstId(i), marks, next)?;
     }
     Ok(())
 }
 
 fn mark_inst(
     alloc: Global,
-    module: &Module,
+    m: &Module,
     unit: UnitId,
     inst: InstId,
     marks: &[bool],
     next: &mut [bool],
 ) -> Result<(), NoMemory>
-    requires unit { unit.0 < unit_count module.now }
-    requires inst { inst.0 < inst_count module.now unit.0 }
-    requires long { length marks.now ≡ value_count module.now unit.0 }
-    requires next { length next.old ≡ value_count module.now unit.0 }
-    ensures { (ls : List Line) → Advances ls marks.now (value_count module.now unit.0) next.old → OnOk result (Advances (line_at (table_at module.now unit.0) inst.0 ∷ ls) marks.now (value_count module.now unit.0) next.new) }
+    requires unit { unit.0 < unit_count m.now }
+    requires inst { inst.0 < inst_count m.now unit.0 }
+    requires long { length marks.now ≡ value_count m.now unit.0 }
+    requires next { length next.old ≡ value_count m.now unit.0 }
+    ensures { (ls : List Line) → Advances ls marks.now (value_count m.now unit.0) next.old → OnOk result (Advances (line_at (table_at m.now unit.0) inst.0 ∷ ls) marks.now (value_count m.now unit.0) next.new) }
 {
-    match module.result_of(unit, inst) {
+    match m.result_of(unit, inst) {
         None => Ok(()),
         Some(value) => {
             let place = value.0 as usize;
-            next[place] = comes_from(alloc, marks, module.inst(unit, inst))?;
+            next[place] = comes_from(alloc, marks, m.inst(unit, inst))?;
             Ok(())
         }
     }

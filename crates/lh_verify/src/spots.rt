@@ -1,4 +1,6 @@
 //! The places of the instructions of a unit, in file order.
+#![tactic(auto, using(lh_typing::proofs::Lists::steps))]
+
 ghost use Rattle.std.specs.Prelude.{◌≡◌, ◌<◌, ◌++◌, ◌||◌, true, false, IfOk, OnOk};
 ghost use Rattle.lh_unit.specs.Arena.{IsArena, table_at, unit_count, block_insts_at};
 ghost use Rattle.lh_unit.specs.Within.{Each};
@@ -28,29 +30,29 @@ pub struct Spot {
 pub type SpotList = ListOf<Spot>;
 
 /// The places of a unit, in file order.
-pub fn spots(alloc: Global, module: &Module, unit: UnitId) -> Result<SpotList, NoMemory>
-    requires { unit.0 < unit_count module.now }
-    ensures places { IfOk result (λ list. list ≡ spots_of (table_at module.now unit.0)) }
-    ensures sound { IsArena module.now }
+pub fn spots(alloc: Global, m: &Module, unit: UnitId) -> Result<SpotList, NoMemory>
+    requires { unit.0 < unit_count m.now }
+    ensures places { IfOk result (λ list. list ≡ spots_of (table_at m.now unit.0)) }
+    ensures sound { IsArena m.now }
 {
     let mut list = SpotList::new(alloc);
-    put_blocks(&mut list, module, unit, module.blocks(unit))?;
+    put_blocks(&mut list, m, unit, m.blocks(unit))?;
     Ok(list)
 }
 
 fn put_blocks(
     list: &mut SpotList,
-    module: &Module,
+    m: &Module,
     unit: UnitId,
     blocks: &[BlockId],
 ) -> Result<(), NoMemory>
-    requires unit { unit.0 < unit_count module.now }
-    requires blocks { Each (IsBlockOf module.now unit.0) blocks.now }
-    ensures { OnOk result (list.new ≡ list.old ++ spots_from (table_at module.now unit.0) true blocks.now) }
+    requires unit { unit.0 < unit_count m.now }
+    requires blocks { Each (IsBlockOf m.now unit.0) blocks.now }
+    ensures { OnOk result (list.new ≡ list.old ++ spots_from (table_at m.now unit.0) true blocks.now) }
 {
     let mut in_entry = true;
     for block in blocks {
-        put_block(list, module, unit, *block, in_entry)?;
+        put_block(list, m, unit, *block, in_entry)?;
         in_entry = false;
     }
     Ok(())
@@ -58,30 +60,30 @@ fn put_blocks(
 
 fn put_block(
     list: &mut SpotList,
-    module: &Module,
+    m: &Module,
     unit: UnitId,
     block: BlockId,
     in_entry: bool,
 ) -> Result<(), NoMemory>
-    requires unit { unit.0 < unit_count module.now }
-    requires block { IsBlockOf module.now unit.0 block }
-    ensures { OnOk result (list.new ≡ list.old ++ spots_in (table_at module.now unit.0) in_entry block false (block_insts_at module.now unit.0 block.0)) }
+    requires unit { unit.0 < unit_count m.now }
+    requires block { IsBlockOf m.now unit.0 block }
+    ensures { OnOk result (list.new ≡ list.old ++ spots_in (table_at m.now unit.0) in_entry block false (block_insts_at m.now unit.0 block.0)) }
 {
-    let insts = module.insts(unit, block);
-    put_insts(list, module, unit, block, in_entry, insts)
+    let insts = m.insts(unit, block);
+    put_insts(list, m, unit, block, in_entry, insts)
 }
 
 fn put_insts(
     list: &mut SpotList,
-    module: &Module,
+    m: &Module,
     unit: UnitId,
     block: BlockId,
     in_entry: bool,
     insts: &[InstId],
 ) -> Result<(), NoMemory>
-    requires unit { unit.0 < unit_count module.now }
-    requires insts { Each (IsInstOf module.now unit.0) insts.now }
-    ensures { OnOk result (list.new ≡ list.old ++ spots_in (table_at module.now unit.0) in_entry block false insts.now) }
+    requires unit { unit.0 < unit_count m.now }
+    requires insts { Each (IsInstOf m.now unit.0) insts.now }
+    ensures { OnOk result (list.new ≡ list.old ++ spots_in (table_at m.now unit.0) in_entry block false insts.now) }
 {
     let mut after_other = false;
     for (k, inst) in insts.iter().enumerate() {
@@ -92,7 +94,7 @@ fn put_insts(
             after_other,
             last: k + 1 == insts.len(),
         })?;
-        after_other = is_behind_other(after_other, module.inst(unit, *inst));
+        after_other = is_behind_other(after_other, m.inst(unit, *inst));
     }
     Ok(())
 }

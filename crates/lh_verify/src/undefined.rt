@@ -6,13 +6,13 @@ ghost use Rattle.lh_unit.specs.Within.{Each, EdgeWithin, InstWithin};
 ghost use Rattle.lh_unit.specs.WellFormed.{is_undefined as text_is_undefined};
 ghost use Rattle.lh_verify.specs.Asks.{label_is_missing as name_is_missing, edge_is_missing, label_is_missing_in, unit_is_missing_in};
 ghost use Rattle.lh_verify.specs.Operands.{UseWithin};
-ghost use Rattle.lh_verify.specs.Told.{IsScope, items_in, text_in, naming_in, sizes_in};
-ghost use Rattle.lh_verify.specs.Uses.{uses_of};
+ghost use Rattle.lh_typing.specs.Told.{IsScope, items_in, text_in, naming_in, sizes_in};
+ghost use Rattle.lh_typing.specs.Uses.{uses_of};
 
 use crate::kinds::any_names_nothing;
-use crate::scope::Scope;
 use crate::units::is_missing;
-use crate::uses::Use;
+use lh_typing::scope::Scope;
+use lh_typing::uses::Use;
 use lh_unit::inst::{BlockId, Inst, PhiEdge};
 
 /// Whether no block of the unit has a label.

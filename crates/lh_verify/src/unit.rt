@@ -1,22 +1,24 @@
 //! The first faulty instruction of a unit.
-ghost use Rattle.std.specs.Prelude.{◌≡◌, ◌<◌, IsSome, IfOk};
+ghost use Rattle.std.specs.Prelude.{◌≡◌, ◌<◌, map, IsSome, IfOk};
 ghost use Rattle.std.specs.List.{list_any};
 ghost use Rattle.lh_unit.specs.Arena.{IsArena, unit_count, kind_at, inst_count, table_at, contents, unit_text_at};
 ghost use Rattle.lh_unit.specs.Within.{Each};
 ghost use Rattle.lh_verify.specs.Answering.{Finds, LacksFirst, first_at as first_fault_at, is_at as lacks_at, found_or};
 ghost use Rattle.lh_verify.specs.Faults.{hides_paths as spot_hides_paths};
+ghost use Rattle.lh_verify.specs.PhisById.{wrong_phi_at};
 ghost use Rattle.lh_verify.specs.Spots.{spots_of};
-ghost use Rattle.lh_verify.specs.Told.{IsScope, items_in, text_in};
+ghost use Rattle.lh_typing.specs.Told.{IsScope, items_in, text_in};
 ghost use Rattle.lh_verify.specs.SpotsWithin.{SpotWithin};
 
-use crate::facts::facts;
 use crate::labels::labels;
+use crate::phis::wrong_phis;
 use crate::place::{hides_paths, lowest};
 use crate::probes::probed;
-use crate::scope::Scope;
 use crate::spots::{Spot, spots};
 use lh_defined::{DefinedFault, defined};
 use lh_types::ty::NoMemory;
+use lh_typing::facts::facts;
+use lh_typing::scope::Scope;
 use lh_unit::inst::{InstId, UnitId};
 use lh_unit::module::Module;
 use std::alloc::Global;
@@ -29,37 +31,44 @@ pub struct Found {
 }
 
 /// The first faulty instruction of a defined unit, if there is one.
-pub fn first_fault(alloc: Global, module: &Module, unit: UnitId) -> Result<Option<Found>, NoMemory>
-    requires unit { unit.0 < unit_count module.now }
-    requires begun { IsSome (kind_at module.now unit.0) }
-    ensures { IfOk result (λ found. Finds (contents module.now) (unit_text_at module.now unit.0) found) }
+pub fn first_fault(alloc: Global, m: &Module, unit: UnitId) -> Result<Option<Found>, NoMemory>
+    requires unit { unit.0 < unit_count m.now }
+    requires begun { IsSome (kind_at m.now unit.0) }
+    ensures { IfOk result (λ found. Finds (contents m.now) (unit_text_at m.now unit.0) found) }
 {
-    let list = spots(alloc, module, unit)?;
+    let list = spots(alloc, m, unit)?;
     let insts = list.len() as u32;
-    let known = facts(alloc, module, unit, insts)?;
-    let from_probe = probed(alloc, module, unit, insts)?;
-    let standing = labels(alloc, module, unit)?;
+    let known = facts(alloc, m, unit, insts)?;
+    let from_probe = probed(alloc, m, unit, insts)?;
+    let standing = labels(alloc, m, unit)?;
+    let wrong = wrong_phis(alloc, m, unit, list.as_slice())?;
     let scope = Scope {
-        module,
+        module: m,
         unit,
         facts: known.as_slice(),
         probed: from_probe.as_slice(),
         labels: standing.as_slice(),
     };
-    first_in(alloc, &scope, list.as_slice())
+    first_in(alloc, &scope, list.as_slice(), &wrong)
 }
 
-/// The same, where what there is to know of the unit is known.
-fn first_in(alloc: Global, scope: &Scope<'_>, places: &[Spot]) -> Result<Option<Found>, NoMemory>
+/// The same, where what there is to know of the unit is known, and by its places which is a `phi` with fault 6.
+fn first_in(
+    alloc: Global,
+    scope: &Scope<'_>,
+    places: &[Spot],
+    wrong_phis: &[bool],
+) -> Result<Option<Found>, NoMemory>
     requires sound { IsArena scope.now.module.now }
     requires scope { IsScope scope.now }
     requires begun { IsSome (kind_at scope.now.module.now scope.now.unit.0) }
     requires places { places.now ≡ spots_of (table_at scope.now.module.now scope.now.unit.0) }
     requires within { Each (SpotWithin (inst_count scope.now.module.now scope.now.unit.0)) places.now }
+    requires wrong { wrong_phis.now ≡ map (wrong_phi_at (table_at scope.now.module.now scope.now.unit.0)) places.now }
     ensures { IfOk result (λ found. Finds (items_in scope.now) (text_in scope.now) found) }
 {
-    let lacks = first_lacking(alloc, scope, places)?;
-    first_at(alloc, scope, places, lacks)
+    let lacks = first_lacking(alloc, scope, places, wrong_phis)?;
+    first_at(alloc, scope, places, wrong_phis, lacks)
 }
 
 /// The first instruction with fault 7, where it is asked for.
@@ -67,15 +76,17 @@ fn first_lacking(
     alloc: Global,
     scope: &Scope<'_>,
     places: &[Spot],
+    wrong_phis: &[bool],
 ) -> Result<Option<InstId>, NoMemory>
     requires sound { IsArena scope.now.module.now }
     requires scope { IsScope scope.now }
     requires begun { IsSome (kind_at scope.now.module.now scope.now.unit.0) }
     requires places { places.now ≡ spots_of (table_at scope.now.module.now scope.now.unit.0) }
     requires within { Each (SpotWithin (inst_count scope.now.module.now scope.now.unit.0)) places.now }
+    requires wrong { wrong_phis.now ≡ map (wrong_phi_at (table_at scope.now.module.now scope.now.unit.0)) places.now }
     ensures { IfOk result (λ lacks. LacksFirst (items_in scope.now) (text_in scope.now) lacks) }
 {
-    if any_hides_paths(alloc, scope, places)? {
+    if any_hides_paths(alloc, scope, places, wrong_phis)? {
         return Ok(None);
     }
     match defined(alloc, scope.module, scope.unit) {
@@ -86,13 +97,19 @@ fn first_lacking(
 }
 
 /// Whether some instruction has one of the faults after which paths are not asked for.
-fn any_hides_paths(alloc: Global, scope: &Scope<'_>, places: &[Spot]) -> Result<bool, NoMemory>
+fn any_hides_paths(
+    alloc: Global,
+    scope: &Scope<'_>,
+    places: &[Spot],
+    wrong_phis: &[bool],
+) -> Result<bool, NoMemory>
     requires scope { IsScope scope.now }
     requires within { Each (SpotWithin (inst_count scope.now.module.now scope.now.unit.0)) places.now }
+    requires wrong { wrong_phis.now ≡ map (wrong_phi_at (table_at scope.now.module.now scope.now.unit.0)) places.now }
     ensures { IfOk result (λ b. b ≡ list_any (spot_hides_paths scope.now) places.now) }
 {
-    for place in places {
-        if hides_paths(alloc, scope, *place)? {
+    for (k, place) in places.iter().enumerate() {
+        if hides_paths(alloc, scope, *place, wrong_phis[k])? {
             return Ok(true);
         }
     }
@@ -104,14 +121,17 @@ fn first_at(
     alloc: Global,
     scope: &Scope<'_>,
     places: &[Spot],
+    wrong_phis: &[bool],
     lacks: Option<InstId>,
 ) -> Result<Option<Found>, NoMemory>
     requires scope { IsScope scope.now }
     requires within { Each (SpotWithin (inst_count scope.now.module.now scope.now.unit.0)) places.now }
+    requires wrong { wrong_phis.now ≡ map (wrong_phi_at (table_at scope.now.module.now scope.now.unit.0)) places.now }
     ensures { IfOk result (λ found. found ≡ first_fault_at scope.now lacks places.now) }
 {
-    for place in places {
-        if let Some(number) = lowest(alloc, scope, *place, is_at(lacks, *place))? {
+    for (k, place) in places.iter().enumerate() {
+        let is_lacking = is_at(lacks, *place);
+        if let Some(number) = lowest(alloc, scope, *place, wrong_phis[k], is_lacking)? {
             return Ok(Some(Found {
                 inst: place.inst,
                 number,

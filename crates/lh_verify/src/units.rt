@@ -6,9 +6,9 @@ ghost use Rattle.lh_unit.specs.Contents.{defines_unit};
 ghost use Rattle.lh_unit.specs.Named.{is_assert as name_is_assert};
 ghost use Rattle.lh_unit.specs.WellFormed.{is_function_name};
 ghost use Rattle.lh_verify.specs.Asks.{is_function_kind};
-ghost use Rattle.lh_verify.specs.Told.{IsScope, items_in, naming_in, sizes_in};
+ghost use Rattle.lh_typing.specs.Told.{IsScope, items_in, naming_in, sizes_in};
 
-use crate::scope::Scope;
+use lh_typing::scope::Scope;
 use lh_unit::inst::{UnitId, UnitKind};
 use lh_unit::name::UnitName;
 

@@ -96,11 +96,11 @@ pub fn verify(alloc: Global, m: Module) -> Result<Verified, VerifyFault>
 }
 
 /// The first fault of a module, if there is one.
-fn find(alloc: Global, module: &Module) -> Result<Option<Fault>, NoMemory>
-    ensures { IfOk result (λ fault. Says module.now fault) }
+fn find(alloc: Global, m: &Module) -> Result<Option<Fault>, NoMemory>
+    ensures { IfOk result (λ fault. Says m.now fault) }
 {
-    for item in module.items() {
-        if let Some(fault) = find_in(alloc, module, item)? {
+    for item in m.items() {
+        if let Some(fault) = find_in(alloc, m, item)? {
             return Ok(Some(fault));
         }
     }
@@ -108,15 +108,15 @@ fn find(alloc: Global, module: &Module) -> Result<Option<Fault>, NoMemory>
 }
 
 /// The first fault of an item, if there is one.
-fn find_in(alloc: Global, module: &Module, item: &Item) -> Result<Option<Fault>, NoMemory>
-    requires placed { IsItemOf module.now item.now }
-    requires begun { ItemBegun module.now item.now }
-    ensures { IfOk result (λ fault. SaysOfItem module.now item.now fault) }
+fn find_in(alloc: Global, m: &Module, item: &Item) -> Result<Option<Fault>, NoMemory>
+    requires placed { IsItemOf m.now item.now }
+    requires begun { ItemBegun m.now item.now }
+    ensures { IfOk result (λ fault. SaysOfItem m.now item.now fault) }
 {
     match item {
         Item::Declare(_) => Ok(None),
         Item::Unit(unit) => {
-            let found = first_fault(alloc, module, *unit)?;
+            let found = first_fault(alloc, m, *unit)?;
             Ok(fault_of(*unit, found))
         }
     }

@@ -4,7 +4,7 @@ use Rattle.lh_unit.specs.Named.{is_assert}
 use Rattle.lh_unit.specs.Naming.{operand_text, arg_text}
 use Rattle.lh_unit.specs.Arena.{naming, args_at}
 use Rattle.lh_unit.specs.WellFormed.{arguments_fit, assert_args}
-use Rattle.lh_verify.specs.Told.{text_in, naming_in}
+use Rattle.lh_typing.specs.Told.{text_in, naming_in}
 use Rattle.lh_verify.specs.Asks.{on_side}
 use Rattle.lh_verify.specs.declared.arguments.Side.TheVariants.{All}
 use Rattle.lh_verify.proofs.OtherUnits.{unit-within, unit-name, args-assert, differ-some, differ-none, params-in, no-params, all-on}

@@ -1,7 +1,7 @@
 use Rattle.std.proofs.Common.{List, true, set, get_or, length, take, subst, arith}
 use Rattle.lh_unit.specs.declared.inst.BlockId.{BlockId}
 use Rattle.lh_verify.specs.Marking.{BlockMarks}
-use Rattle.lh_verify.proofs.KnowingSteps.{taken, take-all}
+use Rattle.lh_typing.proofs.KnowingSteps.{taken, take-all}
 use Rattle.lh_verify.proofs.MarkingSteps.{blocks-none, blocks-more, blocks-item}
 use Rattle.lh_verify.proofs.labels.mark_blocks.Goals as goal
 

@@ -1,7 +1,7 @@
 use Rattle.std.proofs.Common.{◌≡◌, false, drop}
 use Rattle.std.specs.Prelude.{slice_index_or}
 use Rattle.std.specs.List.{list_any}
-use Rattle.lh_verify.specs.declared.uses.Use.{Use}
+use Rattle.lh_typing.specs.declared.uses.Use.{Use}
 use Rattle.lh_verify.proofs.probes.any_is_marked.Given as goal
 
 abbrev pub invariant-loop-operand : goal.invariant-loop-operand

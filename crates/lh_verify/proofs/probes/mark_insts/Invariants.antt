@@ -4,4 +4,4 @@ use Rattle.lh_verify.specs.Marking.{Advances}
 use Rattle.lh_verify.proofs.probes.mark_insts.Given as goal
 
 abbrev pub invariant-loop-i : goal.invariant-loop-i
-invariant-loop-i l = Advances (drop l.i (table_at l.module l.unit.0).lines) l.marks (value_count l.module l.unit.0) l.next
+invariant-loop-i l = Advances (drop l.i (table_at l.m l.unit.0).lines) l.marks (value_count l.m l.unit.0) l.next

@@ -5,4 +5,4 @@ use Rattle.lh_verify.proofs.Placing.{blocks-placed}
 use Rattle.lh_verify.proofs.spots.spots.Goals as goal
 
 pub put_blocks-requires-clause-blocks : goal.put_blocks-requires-clause-blocks
-put_blocks-requires-clause-blocks c = subst (Each (IsBlockOf c.args.module.now c.args.unit.0)) (sym c.blocks-2.ensures.blocks) (blocks-placed c.args.module.now c.args.unit.0 c.blocks-2.ensures.sound c.requires)
+put_blocks-requires-clause-blocks c = subst (Each (IsBlockOf c.args.m.now c.args.unit.0)) (sym c.blocks-2.ensures.blocks) (blocks-placed c.args.m.now c.args.unit.0 c.blocks-2.ensures.sound c.requires)

@@ -2,7 +2,7 @@ use Rattle.std.proofs.Common.{map, ap, sym, ◌∙◌}
 use Rattle.std.specs.List.{list_any}
 use Rattle.lh_unit.specs.Naming.{edge_text, inst_text}
 use Rattle.lh_verify.specs.Asks.{edge_is_missing, label_is_missing_in}
-use Rattle.lh_verify.specs.Told.{naming_in, text_in}
+use Rattle.lh_typing.specs.Told.{naming_in, text_in}
 use Rattle.lh_verify.proofs.Named.{edges-named}
 use Rattle.lh_verify.proofs.undefined.names_missing_label.Goals as goal
 

@@ -2,5 +2,5 @@ use Rattle.std.proofs.Common.{◌≡◌, drop}
 use Rattle.lh_verify.specs.Answering.{first_at}
 use Rattle.lh_verify.proofs.unit.first_at.Given as goal
 
-abbrev pub invariant-loop-place : goal.invariant-loop-place
-invariant-loop-place l = first_at l.scope l.lacks (drop l.place-index l.places) ≡ first_at l.scope l.lacks l.places
+abbrev pub invariant-loop-k : goal.invariant-loop-k
+invariant-loop-k l = first_at l.scope l.lacks (drop l.k l.places) ≡ first_at l.scope l.lacks l.places

@@ -1,38 +1,39 @@
-use Rattle.std.proofs.Common.{◌≡◌, ℕ, ◌+◌, ◌<◌, ◌^◌, List, length, ap, sym, ◌∙◌, subst, arith}
-use Rattle.std.proofs.lemmas.Result.{IfOk-weaker}
+use Rattle.std.proofs.Common.{◌≡◌, List, length, ap, sym, ◌∙◌, subst, arith}
 use Rattle.lh_unit.specs.Within.{Each}
 use Rattle.lh_unit.specs.Arena.{naming, args_at, table_at, value_count, inst_count}
-use Rattle.lh_verify.specs.declared.scope.Fact.{Fact}
-use Rattle.lh_verify.specs.declared.spots.Spot.{Spot}
-use Rattle.lh_verify.specs.Knowing.{Knows}
-use Rattle.lh_verify.specs.Marking.{Reaches, Stands}
+use Rattle.lh_typing.specs.declared.scope.Fact.{Fact}
+use Rattle.lh_typing.specs.Knowing.{Knows}
+use Rattle.lh_verify.specs.Marking.{IsProbed, Stands}
 use Rattle.lh_verify.specs.SpotsWithin.{SpotWithin}
-use Rattle.lh_verify.specs.Told.{items_in, text_in}
+use Rattle.lh_typing.specs.Told.{items_in, text_in}
 use Rattle.lh_verify.proofs.ScopeIs.{scope-is, length-spots, spots-within}
 use Rattle.lh_verify.proofs.unit.first_fault.Goals as goal
 
 pub overflow_cast-insts : goal.overflow_cast-insts
 overflow_cast-insts c =
-    let n : c.len-insts.result ≡ inst_count c.args.module.now c.args.unit.0 = c.len-insts.ensures ∙ ap length c.in_ok-list.ensures.places ∙ length-spots c.args.module.now c.args.unit.0 c.in_ok-list.ensures.sound c.requires.unit in
+    let n : c.len-insts.result ≡ inst_count c.args.m.now c.args.unit.0 = c.len-insts.ensures ∙ ap length c.in_ok-list.ensures.places ∙ length-spots c.args.m.now c.args.unit.0 c.in_ok-list.ensures.sound c.requires.unit in
     omega (arith, n, (c.in_ok-list.ensures.sound.tables c.args.unit.0 c.requires.unit).few)
 
 pub facts-requires-clause-insts : goal.facts-requires-clause-insts
-facts-requires-clause-insts c = c.len-insts.ensures ∙ ap length c.in_ok-list.ensures.places ∙ length-spots c.args.module.now c.args.unit.0 c.in_ok-list.ensures.sound c.requires.unit
+facts-requires-clause-insts c = c.len-insts.ensures ∙ ap length c.in_ok-list.ensures.places ∙ length-spots c.args.m.now c.args.unit.0 c.in_ok-list.ensures.sound c.requires.unit
 
 pub probed-requires-clause-insts : goal.probed-requires-clause-insts
-probed-requires-clause-insts c = c.len-insts.ensures ∙ ap length c.in_ok-list.ensures.places ∙ length-spots c.args.module.now c.args.unit.0 c.in_ok-list.ensures.sound c.requires.unit
+probed-requires-clause-insts c = c.len-insts.ensures ∙ ap length c.in_ok-list.ensures.places ∙ length-spots c.args.m.now c.args.unit.0 c.in_ok-list.ensures.sound c.requires.unit
+
+pub wrong_phis-requires-clause-within : goal.wrong_phis-requires-clause-within
+wrong_phis-requires-clause-within c = subst (Each (SpotWithin (inst_count c.args.m.now c.args.unit.0))) (sym (c.as_slice.ensures ∙ c.in_ok-list.ensures.places)) (spots-within c.args.m.now c.args.unit.0 c.in_ok-list.ensures.sound c.requires.unit)
 
 pub first_in-requires-clause-scope : goal.first_in-requires-clause-scope
 first_in-requires-clause-scope c =
-    let a = c.args.module.now in
+    let a = c.args.m.now in
     let u = c.args.unit.0 in
     scope-is _ c.in_ok-list.ensures.sound c.requires.unit
-    (subst (λ (l : List Fact). Knows (value_count a u) (naming a u) (args_at a u) (table_at a u).lines l) (sym c.as_slice.ensures.value) c.in_ok-known.ensures)
-    (subst (Reaches a u (inst_count a u + 1)) (sym c.as_slice-2.ensures.value) c.in_ok-from_probe.ensures)
-    (subst (Stands a u) (sym c.as_slice-3.ensures.value) c.in_ok-standing.ensures)
+    (subst (λ (l : List Fact). Knows (value_count a u) (naming a u) (args_at a u) (table_at a u).lines l) (sym c.as_slice-2.ensures.value) c.in_ok-known.ensures)
+    (subst (IsProbed a u) (sym c.as_slice-3.ensures.value) c.in_ok-from_probe.ensures)
+    (subst (Stands a u) (sym c.as_slice-4.ensures.value) c.in_ok-standing.ensures)
 
 pub first_in-requires-clause-within : goal.first_in-requires-clause-within
-first_in-requires-clause-within c = subst (Each (SpotWithin (inst_count c.args.module.now c.args.unit.0))) (sym (c.as_slice-4.ensures ∙ c.in_ok-list.ensures.places)) (spots-within c.args.module.now c.args.unit.0 c.in_ok-list.ensures.sound c.requires.unit)
+first_in-requires-clause-within c = subst (Each (SpotWithin (inst_count c.args.m.now c.args.unit.0))) (sym (c.as_slice-5.ensures ∙ c.in_ok-list.ensures.places)) (spots-within c.args.m.now c.args.unit.0 c.in_ok-list.ensures.sound c.requires.unit)
 
 pub returns : goal.returns
 unfolding items_in text_in

@@ -1,7 +1,7 @@
-use Rattle.std.proofs.Common.{◌≡◌, Option}
+use Rattle.std.proofs.Common.{◌≡◌}
 use Rattle.std.proofs.lemmas.Result.{IfOk-weaker}
 use Rattle.lh_verify.specs.Answering.{Finds, first_at}
-use Rattle.lh_verify.specs.Told.{items_in, text_in}
+use Rattle.lh_typing.specs.Told.{items_in, text_in}
 use Rattle.lh_verify.proofs.UnitPlaces.{unit-law}
 use Rattle.lh_verify.proofs.unit.first_in.Goals as goal
 

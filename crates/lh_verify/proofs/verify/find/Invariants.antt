@@ -5,6 +5,6 @@ use Rattle.lh_verify.proofs.verify.find.Given as goal
 
 abbrev pub invariant-loop-item : goal.invariant-loop-item
 invariant-loop-item l = record {
-  items : l.item-items ≡ l.module.items;
-  none : NoneHasFault (contents l.module) (sites (map (item_text_at l.module) (take l.item-index l.item-items)));
+  items : l.item-items ≡ l.m.items;
+  none : NoneHasFault (contents l.m) (sites (map (item_text_at l.m) (take l.item-index l.item-items)));
 }

@@ -1,0 +1,6 @@
+pub mod Entries
+pub mod KnowingSteps
+pub mod Lists
+pub mod ScopeParts
+pub mod TypeParts
+pub mod UsesText

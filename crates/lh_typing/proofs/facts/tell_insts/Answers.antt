@@ -1,0 +1,12 @@
+use Rattle.std.proofs.Common.{[], take, List, subst, arith}
+use Rattle.lh_unit.specs.Table.{no_line}
+use Rattle.lh_unit.specs.Arena.{naming, table_at, value_count}
+use Rattle.lh_unit.specs.declared.table.Line.{Line}
+use Rattle.lh_typing.specs.Knowing.{Knows}
+use Rattle.lh_typing.proofs.KnowingSteps.{take-line}
+use Rattle.lh_typing.proofs.facts.tell_insts.Goals as goal
+
+pub loop-i-preserved : goal.loop-i-preserved
+loop-i-preserved c =
+    let ls = (table_at c.args.m.now c.args.unit.0).lines in
+    subst (λ (l : List Line). Knows (value_count c.args.m.now c.args.unit.0) (naming c.args.m.now c.args.unit.0) [] l c.tell_inst.new.facts) (take-line ls c.loop-i.i no_line (omega (arith, c.loop-i-test.true, c.requires.insts))) (c.in_ok-tell_inst.ensures (take c.loop-i.i ls) c.loop-i.invariant)

@@ -1,0 +1,21 @@
+-- What a row asks of the type of one operand.
+use Rattle.std.specs.Prelude.{List, [], ◌∷◌, Option, Some, Bool, false, ◌&&◌}
+use Rattle.std.specs.Option.{option_map_or}
+use Rattle.lh_types.specs.Types.{TypeTree, TypeRow}
+use Rattle.lh_types.specs.Faults.{is_data}
+use Rattle.lh_unit.specs.Typing.{with_type}
+use Rattle.lh_unit.specs.Contents.{OperandText, EdgeText, UnitText}
+use Rattle.lh_unit.specs.TypingRows.{has_type, agrees}
+
+-- a data type is written before a field of a struct, and it is the field's
+abbrev pub field_fits : UnitText → OperandText → Bool
+field_fits t o = option_map_or is_data o.ty false && agrees t o
+
+-- the operand of a `phi` has its type
+abbrev pub edge_fits : UnitText → TypeTree → EdgeText → Bool
+edge_fits t ty e = has_type t ty e.value
+
+-- types in front of a row, where it is there
+abbrev pub rows_joined : List TypeTree → Option TypeRow → Option TypeRow
+rows_joined [] r = r
+rows_joined (t ∷ more) r = with_type (Some t) (rows_joined more r)

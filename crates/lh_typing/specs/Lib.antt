@@ -1,0 +1,5 @@
+pub mod Fitting
+pub mod Knowing
+pub mod Parts
+pub mod Told
+pub mod Uses

@@ -1,0 +1,151 @@
+//! The rows of the operations, by the type that is written first.
+ghost use Rattle.std.specs.Prelude.{◌≡◌, map};
+ghost use Rattle.std.specs.List.{list_all};
+ghost use Rattle.lh_unit.specs.Naming.{operand_text};
+ghost use Rattle.lh_unit.specs.Typing.{first_type};
+ghost use Rattle.lh_unit.specs.TypingRows.{shifts, selects, takes_part as row_takes_part, puts_part as row_puts_part, operation_row, row_fits as text_row_fits, operation_fits as text_operation_fits};
+ghost use Rattle.lh_unit.specs.Within.{Each, OperandWithin};
+ghost use Rattle.lh_typing.specs.Fitting.{field_fits as text_field_fits};
+ghost use Rattle.lh_typing.specs.Told.{IsScope, text_in, naming_in, sizes_in};
+
+use crate::operands::{agrees, all_have, has_and_agrees, has_array_of, has_integer, has_type};
+use crate::scope::Scope;
+use crate::types::{is_integer, is_part_of};
+use lh_types::op::Op;
+use lh_types::part::Step;
+use lh_types::ty::{Ty, carries_data};
+use lh_unit::inst::Typed;
+
+/// Whether the operands fit the row of their operation.
+pub fn operation_fits(scope: &Scope<'_>, op: Op, args: &[Typed]) -> bool
+    requires scope { IsScope scope.now }
+    requires within { Each (OperandWithin (sizes_in scope.now)) args.now }
+    ensures { let os = map (operand_text (naming_in scope.now)) args.now in result ≡ text_operation_fits (text_in scope.now) (operation_row op) (first_type os) os }
+{
+    match args.split_first() {
+        None => false,
+        Some((first, _)) => match &first.ty {
+            None => false,
+            Some(ty) => row_fits(scope, op, ty, args),
+        },
+    }
+}
+
+/// The same, by the type that is written first.
+fn row_fits(scope: &Scope<'_>, op: Op, ty: &Ty, args: &[Typed]) -> bool
+    requires scope { IsScope scope.now }
+    requires within { Each (OperandWithin (sizes_in scope.now)) args.now }
+    ensures { result ≡ text_row_fits (text_in scope.now) (operation_row op) ty.now (map (operand_text (naming_in scope.now)) args.now) }
+{
+    match op {
+        Op::Eq | Op::Neq | Op::Array | Op::Repeat(_) => {
+            carries_data(ty) && all_have(scope, ty, args)
+        }
+        Op::Shl | Op::Shr => shift_fits(scope, ty, args),
+        Op::Mux => mux_fits(scope, ty, args),
+        Op::Extf(k) => part_fits(scope, Step::Field(k), ty, args),
+        Op::Exts { at, len } => part_fits(scope, Step::Slice { at, len }, ty, args),
+        Op::Insf(k) => insertion_fits(scope, Step::Field(k), ty, args),
+        Op::Inss { at, len } => insertion_fits(scope, Step::Slice { at, len }, ty, args),
+        Op::Tuple => fields_fit(scope, args),
+        _ => is_integer(ty.kind()) && all_have(scope, ty, args),
+    }
+}
+
+/// `shl` and `shr`: the first two operands of the type, the third an integer.
+fn shift_fits(scope: &Scope<'_>, ty: &Ty, args: &[Typed]) -> bool
+    requires scope { IsScope scope.now }
+    requires within { Each (OperandWithin (sizes_in scope.now)) args.now }
+    ensures { result ≡ text_row_fits (text_in scope.now) shifts ty.now (map (operand_text (naming_in scope.now)) args.now) }
+{
+    match args {
+        [base, hidden, amount] => {
+            if !is_integer(ty.kind()) || !has_and_agrees(scope, ty, base) {
+                return false;
+            }
+            if !has_and_agrees(scope, ty, hidden) {
+                return false;
+            }
+            has_integer(scope, amount.value) && agrees(scope, amount)
+        }
+        _ => false,
+    }
+}
+
+/// `mux`: an array of the type, and an integer.
+fn mux_fits(scope: &Scope<'_>, ty: &Ty, args: &[Typed]) -> bool
+    requires scope { IsScope scope.now }
+    requires within { Each (OperandWithin (sizes_in scope.now)) args.now }
+    ensures { result ≡ text_row_fits (text_in scope.now) selects ty.now (map (operand_text (naming_in scope.now)) args.now) }
+{
+    match args {
+        [array, selector] => {
+            if !carries_data(ty) || !has_array_of(scope, array.value, ty) {
+                return false;
+            }
+            has_integer(scope, selector.value)
+        }
+        _ => false,
+    }
+}
+
+/// `extf` and `exts`: the part of the operand has the type.
+fn part_fits(scope: &Scope<'_>, step: Step, ty: &Ty, args: &[Typed]) -> bool
+    requires scope { IsScope scope.now }
+    requires within { Each (OperandWithin (sizes_in scope.now)) args.now }
+    ensures { result ≡ text_row_fits (text_in scope.now) (row_takes_part step) ty.now (map (operand_text (naming_in scope.now)) args.now) }
+{
+    match args {
+        [whole] => match scope.type_of(whole.value) {
+            Some(of) => is_part_of(of.kind(), step, ty),
+            None => false,
+        },
+        _ => false,
+    }
+}
+
+/// `insf` and `inss`: the first operand has the type, and the second that of the part.
+fn insertion_fits(scope: &Scope<'_>, step: Step, ty: &Ty, args: &[Typed]) -> bool
+    requires scope { IsScope scope.now }
+    requires within { Each (OperandWithin (sizes_in scope.now)) args.now }
+    ensures { result ≡ text_row_fits (text_in scope.now) (row_puts_part step) ty.now (map (operand_text (naming_in scope.now)) args.now) }
+{
+    match args {
+        [whole, part] => {
+            if !carries_data(ty) || !has_type(scope, whole.value, ty) {
+                return false;
+            }
+            match scope.type_of(part.value) {
+                Some(of) => is_part_of(ty.kind(), step, of),
+                None => false,
+            }
+        }
+        _ => false,
+    }
+}
+
+/// A field of a struct: a data type is written before it, and it has the type.
+fn field_fits(scope: &Scope<'_>, operand: &Typed) -> bool
+    requires scope { IsScope scope.now }
+    requires within { OperandWithin (sizes_in scope.now) operand.now }
+    ensures { result ≡ text_field_fits (text_in scope.now) (operand_text (naming_in scope.now) operand.now) }
+{
+    match &operand.ty {
+        Some(ty) => carries_data(ty) && has_type(scope, operand.value, ty),
+        None => false,
+    }
+}
+
+/// A struct: each field fits.
+fn fields_fit(scope: &Scope<'_>, args: &[Typed]) -> bool
+    requires scope { IsScope scope.now }
+    requires within { Each (OperandWithin (sizes_in scope.now)) args.now }
+    ensures { result ≡ list_all (text_field_fits (text_in scope.now)) (map (operand_text (naming_in scope.now)) args.now) }
+{
+    for operand in args {
+        if !field_fits(scope, operand) {
+            return false;
+        }
+    }
+    true
+}

@@ -1,7 +1,0 @@
-use Rattle.std.proofs.Common.{◌≡◌, [], take}
-use Rattle.lh_unit.specs.Arena.{naming, table_at, value_count}
-use Rattle.lh_verify.specs.Knowing.{Knows}
-use Rattle.lh_verify.proofs.facts.tell_insts.Given as goal
-
-abbrev pub invariant-loop-i : goal.invariant-loop-i
-invariant-loop-i l = Knows (value_count l.module l.unit.0) (naming l.module l.unit.0) [] (take l.i (table_at l.module l.unit.0).lines) l.facts
