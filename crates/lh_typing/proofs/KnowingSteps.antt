@@ -17,6 +17,7 @@ use Rattle.lh_unit.specs.declared.table.Line.{Line}
 use Rattle.lh_unit.proofs.Lists.{Same, same, other, same_or, nat_eq-refl, nat_eq-other, or_false, or_true, some_inj}
 use Rattle.lh_typing.specs.declared.scope.Fact.{Fact}
 use Rattle.lh_typing.specs.Knowing.{Known, Knows, GivenBy, GivenArg, Tells, TellsArg, Marks, blank, line_kind, line_type}
+use Rattle.lh_unit.proofs.Tables.{is_made-push, is_arg-push}
 
 -- a write at one place
 pub get-set-same : {X : Type 0} → (xs : List X) (k : ℕ) (y : X) → k < length xs → slice_get (set xs k y) k ≡ Some y
@@ -44,14 +45,6 @@ making-more (x ∷ ls) l v = by (is_result x.result v) (making-more ls l v)
     by true r = refl
     by false r = r
 
-made-more : (ls : List Line) (l : Line) (v : ℕ) → is_made (ls ++ l ∷ []) v ≡ (is_made ls v || is_result l.result v)
-made-more [] l v = or_false (is_result l.result v)
-made-more (x ∷ ls) l v = by (is_result x.result v) (made-more ls l v)
-  where
-    by : (c : Bool) → is_made (ls ++ l ∷ []) v ≡ (is_made ls v || is_result l.result v) → (c || is_made (ls ++ l ∷ []) v) ≡ ((c || is_made ls v) || is_result l.result v)
-    by true r = refl
-    by false r = r
-
 making-made : (ls : List Line) (v : ℕ) → is_some (inst_making ls v) ≡ is_made ls v
 making-made [] v = refl
 making-made (x ∷ ls) v = by (is_result x.result v) (making-made ls v)
@@ -65,14 +58,6 @@ being-more [] a v = refl
 being-more (x ∷ xs) a v = by (nat_eq x.value.0 v) (being-more xs a v)
   where
     by : (c : Bool) → arg_being (xs ++ a ∷ []) v ≡ or_else (arg_being xs v) (if nat_eq a.value.0 v then Some a else None) → (if c then Some x else arg_being (xs ++ a ∷ []) v) ≡ or_else (if c then Some x else arg_being xs v) (if nat_eq a.value.0 v then Some a else None)
-    by true r = refl
-    by false r = r
-
-arg-more : (xs : List Arg) (a : Arg) (v : ℕ) → is_arg (xs ++ a ∷ []) v ≡ (is_arg xs v || nat_eq a.value.0 v)
-arg-more [] a v = or_false (nat_eq a.value.0 v)
-arg-more (x ∷ xs) a v = by (nat_eq x.value.0 v) (arg-more xs a v)
-  where
-    by : (c : Bool) → is_arg (xs ++ a ∷ []) v ≡ (is_arg xs v || nat_eq a.value.0 v) → (c || is_arg (xs ++ a ∷ []) v) ≡ ((c || is_arg xs v) || nat_eq a.value.0 v)
     by true r = refl
     by false r = r
 
@@ -99,7 +84,7 @@ module _ (f : Naming) (ls : List Line) (l : Line) (v : ℕ) where
   line-other x h k =
       let m : inst_making (ls ++ l ∷ []) v ≡ inst_making ls v = making-more ls l v ∙ ap (λ b. or_else (inst_making ls v) (if b then Some l.inst else None)) h ∙ or_else-none (inst_making ls v) in
       record {
-        defined = k.defined ∙ sym (made-more ls l v ∙ ap (λ b. is_made ls v || b) h ∙ or_false (is_made ls v));
+        defined = k.defined ∙ sym (is_made-push ls l v ∙ ap (λ b. is_made ls v || b) h ∙ or_false (is_made ls v));
         kind = k.kind ∙ sym (ap (option_and_then (λ (i : Inst). result_kind (inst_text f i))) m);
         ty = k.ty ∙ sym (ap (option_and_then (λ (i : Inst). result_type (inst_text f i))) m);
       }
@@ -109,7 +94,7 @@ module _ (f : Naming) (ls : List Line) (l : Line) (v : ℕ) where
   line-again x h k =
       let m : inst_making (ls ++ l ∷ []) v ≡ inst_making ls v = making-more ls l v ∙ kept (inst_making ls v) (if is_result l.result v then Some l.inst else None) (making-made ls v ∙ h) in
       record {
-        defined = k.defined ∙ h ∙ sym (made-more ls l v ∙ ap (λ b. b || is_result l.result v) h);
+        defined = k.defined ∙ h ∙ sym (is_made-push ls l v ∙ ap (λ b. b || is_result l.result v) h);
         kind = k.kind ∙ sym (ap (option_and_then (λ (i : Inst). result_kind (inst_text f i))) m);
         ty = k.ty ∙ sym (ap (option_and_then (λ (i : Inst). result_type (inst_text f i))) m);
       }
@@ -119,7 +104,7 @@ module _ (f : Naming) (ls : List Line) (l : Line) (v : ℕ) where
   line-first x r h g =
       let m : inst_making (ls ++ l ∷ []) v ≡ Some l.inst = making-more ls l v ∙ ap (λ o. or_else o (if is_result l.result v then Some l.inst else None)) (is-none (inst_making ls v) (making-made ls v ∙ h)) ∙ ap (λ b. if b then Some l.inst else None) r in
       record {
-        defined = g.defined ∙ sym (made-more ls l v ∙ ap (λ b. b || is_result l.result v) h ∙ r);
+        defined = g.defined ∙ sym (is_made-push ls l v ∙ ap (λ b. b || is_result l.result v) h ∙ r);
         kind = g.kind ∙ sym (ap (option_and_then (λ (i : Inst). result_kind (inst_text f i))) m);
         ty = g.ty ∙ sym (ap (option_and_then (λ (i : Inst). result_type (inst_text f i))) m);
       }
@@ -182,7 +167,7 @@ module _ (f : Naming) (xs : List Arg) (a : Arg) (ls : List Line) (v : ℕ) where
   arg-other x h k =
       let m : arg_being (xs ++ a ∷ []) v ≡ arg_being xs v = being-more xs a v ∙ ap (λ b. or_else (arg_being xs v) (if b then Some a else None)) h ∙ or_else-none (arg_being xs v) in
       record {
-        defined = k.defined ∙ sym (ap (λ b. b || is_made ls v) (arg-more xs a v ∙ ap (λ b. is_arg xs v || b) h ∙ or_false (is_arg xs v)));
+        defined = k.defined ∙ sym (ap (λ b. b || is_made ls v) (is_arg-push xs a v ∙ ap (λ b. is_arg xs v || b) h ∙ or_false (is_arg xs v)));
         kind = k.kind ∙ sym (ap (λ o. or_else (option_and_then (λ (y : Arg). kind_of y.ty) o) (line_kind f ls v)) m);
         ty = k.ty ∙ sym (ap (λ o. or_else (option_map (λ (y : Arg). y.ty) o) (line_type f ls v)) m);
       }
@@ -191,7 +176,7 @@ module _ (f : Naming) (xs : List Arg) (a : Arg) (ls : List Line) (v : ℕ) where
   arg-again x h k =
       let m : arg_being (xs ++ a ∷ []) v ≡ arg_being xs v = being-more xs a v ∙ kept (arg_being xs v) (if nat_eq a.value.0 v then Some a else None) (being-arg xs v ∙ h) in
       record {
-        defined = k.defined ∙ ap (λ b. b || is_made ls v) (h ∙ sym (arg-more xs a v ∙ ap (λ b. b || nat_eq a.value.0 v) h));
+        defined = k.defined ∙ ap (λ b. b || is_made ls v) (h ∙ sym (is_arg-push xs a v ∙ ap (λ b. b || nat_eq a.value.0 v) h));
         kind = k.kind ∙ sym (ap (λ o. or_else (option_and_then (λ (y : Arg). kind_of y.ty) o) (line_kind f ls v)) m);
         ty = k.ty ∙ sym (ap (λ o. or_else (option_map (λ (y : Arg). y.ty) o) (line_type f ls v)) m);
       }
@@ -201,7 +186,7 @@ module _ (f : Naming) (xs : List Arg) (a : Arg) (ls : List Line) (v : ℕ) where
       let z : arg_being xs v ≡ None = is-none (arg_being xs v) (being-arg xs v ∙ h) in
       let m : arg_being (xs ++ a ∷ []) v ≡ Some a = being-more xs a v ∙ ap (λ o. or_else o (if nat_eq a.value.0 v then Some a else None)) z ∙ ap (λ b. if b then Some a else None) r in
       record {
-        defined = g.defined ∙ sym (ap (λ b. b || is_made ls v) (arg-more xs a v ∙ ap (λ b. b || nat_eq a.value.0 v) h ∙ r));
+        defined = g.defined ∙ sym (ap (λ b. b || is_made ls v) (is_arg-push xs a v ∙ ap (λ b. b || nat_eq a.value.0 v) h ∙ r));
         kind = g.kind ∙ ap (or_else (kind_of a.ty)) (k.kind ∙ ap (λ o. or_else (option_and_then (λ (y : Arg). kind_of y.ty) o) (line_kind f ls v)) z) ∙ sym (ap (λ o. or_else (option_and_then (λ (y : Arg). kind_of y.ty) o) (line_kind f ls v)) m);
         ty = g.ty ∙ sym (ap (λ o. or_else (option_map (λ (y : Arg). y.ty) o) (line_type f ls v)) m);
       }
@@ -237,10 +222,10 @@ marks-arg n xs a seen new m h w = record {
     within = omega (arith, h, m.long)
 
     by : (v : ℕ) (b : Bool) → Same a.value.0 v → slice_get (set seen a.value.0 true) v ≡ Some b → b ≡ is_arg (xs ++ a ∷ []) v
-    by v b (other d) g = m.marked v b (sym (get-set-other seen a.value.0 v true d) ∙ g) ∙ sym (arg-more xs a v ∙ ap (λ c. is_arg xs v || c) (nat_eq-other a.value.0 v d) ∙ or_false (is_arg xs v))
+    by v b (other d) g = m.marked v b (sym (get-set-other seen a.value.0 v true d) ∙ g) ∙ sym (is_arg-push xs a v ∙ ap (λ c. is_arg xs v || c) (nat_eq-other a.value.0 v d) ∙ or_false (is_arg xs v))
     by v b (same e) g =
         let q : true ≡ b = some_inj true b (sym (get-set-same seen a.value.0 true within) ∙ ap (slice_get (set seen a.value.0 true)) e ∙ g) in
-        sym q ∙ sym (arg-more xs a v ∙ ap (λ c. is_arg xs v || c) (sym (ap (λ u. nat_eq u v) (sym e)) ∙ nat_eq-refl v) ∙ or_true (is_arg xs v))
+        sym q ∙ sym (is_arg-push xs a v ∙ ap (λ c. is_arg xs v || c) (sym (ap (λ u. nat_eq u v) (sym e)) ∙ nat_eq-refl v) ∙ or_true (is_arg xs v))
 
 pub replicate-false : (n v : ℕ) (b : Bool) → slice_get (replicate n false) v ≡ Some b → b ≡ false
 replicate-false zero v b e = cc

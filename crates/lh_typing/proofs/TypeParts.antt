@@ -12,7 +12,9 @@ use Rattle.lh_types.specs.Parts.{Part, field_part, part_beyond}
 use Rattle.lh_unit.specs.Typing.{array_made, if_made, with_type, written_types}
 use Rattle.lh_unit.specs.Naming.{Naming, operand_text}
 use Rattle.lh_unit.specs.declared.inst.Typed.{Typed}
-use Rattle.lh_typing.proofs.Lists.{drop-item, drop-end}
+use Rattle.std.proofs.lemmas.List.{drop_all}
+use Rattle.lh_unit.proofs.Lists.{drop-item}
+use Rattle.lh_types.proofs.Limits.{one_le-bit_count}
 use Rattle.lh_typing.specs.Fitting.{rows_joined}
 use Rattle.lh_typing.specs.Parts.{is_part}
 
@@ -52,7 +54,7 @@ pub written-some : (f : Naming) (xs : List Typed) (i : ℕ) (x : Typed) (t : Typ
 written-some f xs i x t h e n = ap (λ l. written_types (map (operand_text f) l)) (drop-item xs i x h e) ∙ ap (λ o. with_type o (written_types (map (operand_text f) (drop (i + 1) xs)))) n
 
 pub written-end : (f : Naming) (xs : List Typed) (i : ℕ) → length xs ≤ i → written_types (map (operand_text f) (drop i xs)) ≡ Some no_types
-written-end f xs i h = ap (λ l. written_types (map (operand_text f) l)) (drop-end xs i h)
+written-end f xs i h = ap (λ l. written_types (map (operand_text f) l)) (drop_all i xs h)
 
 -- no array of what is no data, and of too many
 no-array : (a b d e : Bool) (w x y z : TyFault) (t : TypeTree) → (b ≡ true) ⊎ (e ≡ true) → None ≡ if_made (if a then Some w else (if b then Some x else (if d then Some y else (if e then Some z else None)))) t
@@ -69,18 +71,9 @@ not-data n t h = no-array (nat_eq n 0) (not (is_data t)) (nat_lt 16 (depth_of t 
 mul-le-mul : (n a b : ℕ) → a ≤ b → n * a ≤ n * b
 mul-le-mul n a b h = mul-le-mul_left n h
 
-some-bits : (t : TypeTree) → IsData t → 1 ≤ bit_count t
-some-bits (int_type n) h = h.0
-some-bits time_type h = absurd h
-some-bits void_type h = absurd h
-some-bits (array_type n t) h = let p : 1 ≤ bit_count t = some-bits t h.0 in let q : 1 ≤ n = h.1 in grind (arith, mul-le-mul n 1 (bit_count t) p)
-some-bits (tuple_type r) h = h.1
-some-bits (signal_type t) h = absurd h
-some-bits (pointer_type t) h = absurd h
-
 pub too-many : (n : ℕ) (t : TypeTree) → IsData t → 65536 < n → None ≡ array_made n t
 too-many n t d h =
-    let p : 1 ≤ bit_count t = some-bits t d in
+    let p : 1 ≤ bit_count t = one_le-bit_count t d in
     let q : n * 1 ≤ n * bit_count t = mul-le-mul n 1 (bit_count t) p in
     let r : nat_lt 65536 (n * bit_count t) ≡ true = above (n * bit_count t) (omega (arith, q)) in
     no-array (nat_eq n 0) (not (is_data t)) (nat_lt 16 (depth_of t + 1)) (nat_lt 65536 (n * bit_count t)) Empty WrongPart TooDeep TooManyBits (array_type n t) (inr r)

@@ -13,6 +13,7 @@ use Rattle.lh_verify.specs.declared.unit.Found.{Found}
 use Rattle.lh_verify.specs.declared.spots.Spot.{Spot}
 use Rattle.lh_typing.specs.declared.scope.Scope.{Scope}
 use Rattle.lh_verify.proofs.Lowest.{IsLowest, of_eight, lowest-some, lowest-none}
+use Rattle.lh_unit.proofs.Lists.{nat_eq-refl, nat_eq-next}
 
 -- sites that are numbered one by one from k + 1
 abbrev pub Numbered : ℕ → List Place → Type 0
@@ -33,14 +34,11 @@ number-at : (k : ℕ) (before : List Place) (p : Place) (after : List Place) →
 number-at k [] p after n = omega (arith, n.0)
 number-at k (x ∷ before) p after n = omega (arith, number-at (k + 1) before p after n.1)
 
-same-number : (n : ℕ) → nat_eq n n ≡ true
-same-number n = grind (arith, common_steps)
-
 other-number : (n m : ℕ) → m < n → nat_eq n m ≡ false
 other-number n m h = grind (arith, common_steps)
 
 lacking-some : (u : UnitText) (paths : Bool) (k n : ℕ) (before : List Place) (p : Place) (after : List Place) → paths ≡ true → Numbered k (before ++ p ∷ after) → p.number ≡ n → Each (λ q. ¬ LacksDefinition u q) before → LacksDefinition u p → LackingOn u paths (Some n) (before ++ p ∷ after)
-lacking-some u paths k n [] p after e m q b l = inl (ap (nat_eq n) q ∙ same-number n, e, l)
+lacking-some u paths k n [] p after e m q b l = inl (ap (nat_eq n) q ∙ nat_eq-refl n, e, l)
 lacking-some u paths k n (x ∷ before) p after e m q b l =
     let z : x.number < n = omega (arith, m.0, number-at (k + 1) before p after m.1, q) in
     inr (other-number n x.number z, (λ r. b.0 r.1), lacking-some u paths (k + 1) n before p after e m.1 q b.1 l)
@@ -88,9 +86,6 @@ abbrev pub AllMatch : Scope → List ItemText → UnitText → List Place → Li
 AllMatch s items u [] [] = Unit {0}
 AllMatch s items u (p ∷ ps) (x ∷ xs) = Matches s items u p x × AllMatch s items u ps xs
 AllMatch s items u _ _ = ⊥
-
-one-more : (a b : ℕ) → nat_eq (a + 1) (b + 1) ≡ nat_eq a b
-one-more a b = grind (arith, common_steps)
 
 module _ (s : Scope) (items : List ItemText) (u : UnitText) where
   abbrev test : Spot → Bool → FaultKind → Bool
@@ -169,7 +164,7 @@ module _ (s : Scope) (items : List ItemText) (u : UnitText) where
 
   head : (lacks : Option InstId) (p : Place) (ps : List Place) (x : Spot) → p.number ≡ x.inst.0 + 1 → LackingOn u (has_paths items u) (option_map (λ (i : InstId). i.0 + 1) lacks) (p ∷ ps) → Head lacks p ps x
   head None p ps x n l = record { lacking = λ e. absurd cc; defined = λ e. l.0; rest = λ e. l.1 }
-  head (Some i) p ps x n l = head-some i p ps x (ap (nat_eq (i.0 + 1)) n ∙ one-more i.0 x.inst.0) l
+  head (Some i) p ps x n l = head-some i p ps x (ap (nat_eq (i.0 + 1)) n ∙ nat_eq-next i.0 x.inst.0) l
 
   -- the first of the places that has a fault
   pub finds : (lacks : Option InstId) (ps : List Place) (xs : List Spot) → AllMatch s items u ps xs → LackingOn u (has_paths items u) (option_map (λ (i : InstId). i.0 + 1) lacks) ps → FindsAmong items u ps (first_at s lacks xs)

@@ -8,7 +8,6 @@ pub mod OtherUnits
 pub mod PhiSteps
 pub mod Places
 pub mod PlacesById
-pub mod Placing
 pub mod ScopeIs
 pub mod SpotParts
 pub mod UnitPlaces

@@ -25,19 +25,11 @@ use Rattle.lh_typing.specs.declared.uses.Use.{Use}
 use Rattle.lh_verify.specs.Operands.{UseWithin}
 use Rattle.lh_typing.specs.Uses.{use_text, uses_of}
 use Rattle.lh_verify.specs.Marking.{BlockMarks, Stands, has_labels, comes_from, Reaches, Advances}
-use Rattle.lh_typing.proofs.Lists.{drop-get_or}
+use Rattle.std.proofs.lemmas.List.{drop_more}
 use Rattle.lh_typing.proofs.UsesText.{uses-text}
 use Rattle.lh_verify.proofs.Places.{uses-within}
 use Rattle.lh_typing.proofs.KnowingSteps.{get-set-same, get-set-other, replicate-false, length-replicate}
-
--- marks of blocks
-block-more : (bs : List BlockId) (c : BlockId) (b : ℕ) → is_block (bs ++ c ∷ []) b ≡ (is_block bs b || nat_eq c.0 b)
-block-more [] c b = or_false (nat_eq c.0 b)
-block-more (x ∷ bs) c b = by (nat_eq x.0 b) (block-more bs c b)
-  where
-    by : (d : Bool) → is_block (bs ++ c ∷ []) b ≡ (is_block bs b || nat_eq c.0 b) → (d || is_block (bs ++ c ∷ []) b) ≡ ((d || is_block bs b) || nat_eq c.0 b)
-    by true r = refl
-    by false r = r
+use Rattle.lh_unit.proofs.Tables.{is_block-push}
 
 pub blocks-none : (n : ℕ) (marks : List Bool) → marks ≡ replicate n false → BlockMarks [] n marks
 blocks-none n marks e = record {
@@ -55,10 +47,10 @@ blocks-more n bs c marks m h = record {
     within = omega (arith, h, m.long)
 
     by : (b : ℕ) (x : Bool) → Same c.0 b → slice_get (set marks c.0 true) b ≡ Some x → x ≡ is_block (bs ++ c ∷ []) b
-    by b x (other d) g = m.marked b x (sym (get-set-other marks c.0 b true d) ∙ g) ∙ sym (block-more bs c b ∙ ap (λ z. is_block bs b || z) (nat_eq-other c.0 b d) ∙ or_false (is_block bs b))
+    by b x (other d) g = m.marked b x (sym (get-set-other marks c.0 b true d) ∙ g) ∙ sym (is_block-push bs c b ∙ ap (λ z. is_block bs b || z) (nat_eq-other c.0 b d) ∙ or_false (is_block bs b))
     by b x (same e) g =
         sym (some_inj true x (sym (get-set-same marks c.0 true within) ∙ ap (slice_get (set marks c.0 true)) e ∙ g))
-        ∙ sym (block-more bs c b ∙ ap (λ z. is_block bs b || z) (sym (ap (λ u. nat_eq u b) (sym e)) ∙ nat_eq-refl b) ∙ or_true (is_block bs b))
+        ∙ sym (is_block-push bs c b ∙ ap (λ z. is_block bs b || z) (sym (ap (λ u. nat_eq u b) (sym e)) ∙ nat_eq-refl b) ∙ or_true (is_block bs b))
 
 -- where blocks have labels, and where none has
 labelled : (k : Option UnitKind) → has_labels k ≡ true → HasBlocks k
@@ -194,4 +186,4 @@ blocks-item n (b ∷ bs) zero d p h = p.0
 blocks-item n (b ∷ bs) (suc i) d p h = blocks-item n bs i d p.1 (omega arith)
 
 pub drop-before : (ls : List Line) (i : ℕ) (d : Line) → 0 < i → i ≤ length ls → get_or ls (i - 1) d ∷ drop i ls ≡ drop (i - 1) ls
-drop-before ls i d p h = let e : (i - 1) + 1 ≡ i = omega arith in ap (λ k. get_or ls (i - 1) d ∷ drop k ls) (sym e) ∙ sym (drop-get_or ls (i - 1) d (omega arith))
+drop-before ls i d p h = let e : (i - 1) + 1 ≡ i = omega arith in ap (λ k. get_or ls (i - 1) d ∷ drop k ls) (sym e) ∙ sym (drop_more ls (i - 1) d (omega arith))

@@ -11,10 +11,11 @@ use Rattle.lh_unit.specs.declared.inst.Item.TheVariants as item
 use Rattle.lh_verify.specs.declared.unit.Found.{Found}
 use Rattle.lh_verify.specs.declared.verify.Fault.{Fault}
 use Rattle.lh_verify.specs.Answering.{Finds, IsFew, unit_sites}
-use Rattle.lh_verify.specs.Placed.{IsItemOf}
+use Rattle.lh_unit.specs.Placed.{IsItemOf}
 use Rattle.lh_verify.specs.Verifying.{NamesFault, UnitFault, SaysOfUnit, SaysOfItem, ItemBegun, named_fault}
 use Rattle.lh_typing.proofs.KnowingSteps.{take-item}
-use Rattle.lh_typing.proofs.Lists.{drop-item}
+use Rattle.lh_unit.proofs.Lists.{drop-item}
+use Rattle.lh_unit.proofs.Placing.{item-within}
 
 sites-append : (xs ys : List ItemText) → sites (xs ++ ys) ≡ sites xs ++ sites ys
 sites-append [] ys = refl
@@ -90,9 +91,5 @@ begun a i (item.Declare d) o e = tt
 pub item-begun : (a : Arena) (xs : List Item) (i : ℕ) (x : Item) → IsArena a → xs ≡ a.items → i < length xs → x ≡ get_or xs i x → ItemBegun a x
 item-begun a xs i x o w h e = begun a i x o (ap (λ l. slice_get l i) (sym w) ∙ slice_get_read xs (length xs) i x refl h e)
 
-placed : (a : Arena) (i : ℕ) (x : Item) → IsArena a → slice_get a.items i ≡ Some x → IsItemOf a x
-placed a i (item.Unit u) o e = o.items_within i u e
-placed a i (item.Declare d) o e = tt
-
 pub item-is : (a : Arena) (xs : List Item) (i : ℕ) (x : Item) → IsArena a → xs ≡ a.items → i < length xs → x ≡ get_or xs i x → IsItemOf a x
-item-is a xs i x o w h e = placed a i x o (ap (λ l. slice_get l i) (sym w) ∙ slice_get_read xs (length xs) i x refl h e)
+item-is a xs i x o w h e = item-within a i x o (ap (λ l. slice_get l i) (sym w) ∙ slice_get_read xs (length xs) i x refl h e)

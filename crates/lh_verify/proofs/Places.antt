@@ -29,15 +29,11 @@ use Rattle.lh_verify.specs.PhisById.{phi_is_wrong}
 use Rattle.lh_typing.specs.Told.{text_in, naming_in, items_in, from_probe}
 use Rattle.lh_typing.specs.Uses.{use_text, uses_of, all_used, values_used, maybe_used, edges_used, trigger_uses, triggers_uses, operation_need}
 use Rattle.lh_typing.proofs.UsesText.{uses-text}
+use Rattle.lh_unit.proofs.Lists.{Each-append}
 
 pub from-probe-is : (t : UnitText) (n : List ℕ) → from_probe t n ≡ depends_on_probe (suc (length (places t))) t n
 unfolding from_probe
 from-probe-is t n = refl
-
--- the operands of an instruction in place are in place
-each-append : {X : Type 0} → (P : X → Type 0) (xs ys : List X) → Each P xs → Each P ys → Each P (xs ++ ys)
-each-append P [] ys h k = k
-each-append P (x ∷ xs) ys h k = (h.0, each-append P xs ys h.1 k)
 
 all-within : (s : Sizes) (n : Need) (os : List Typed) → Each (OperandWithin s) os → Each (UseWithin s) (all_used n os)
 all-within s n [] h = tt
@@ -58,8 +54,8 @@ edges-within s (e ∷ es) h = (h.0.0, edges-within s es h.1)
 triggers-within : (s : Sizes) (gs : List RegTrigger) → Each (TriggerWithin s) gs → Each (UseWithin s) (triggers_uses gs)
 triggers-within s [] h = tt
 triggers-within s (g ∷ gs) h =
-    each-append (UseWithin s) (trigger_uses g) (triggers_uses gs)
-    (h.0.0, (h.0.1, each-append (UseWithin s) (maybe_used Data g.gate) (maybe_used Time g.after) (maybe-within s Data g.gate h.0.2) (maybe-within s Time g.after h.0.3)))
+    Each-append (UseWithin s) (trigger_uses g) (triggers_uses gs)
+    (h.0.0, (h.0.1, Each-append (UseWithin s) (maybe_used Data g.gate) (maybe_used Time g.after) (maybe-within s Data g.gate h.0.2) (maybe-within s Time g.after h.0.3)))
     (triggers-within s gs h.1)
 
 pub uses-within : (s : Sizes) (i : Inst) → InstWithin s i → Each (UseWithin s) (uses_of i)
@@ -72,12 +68,12 @@ uses-within s (inst.Sig a) h = (h, tt)
 uses-within s (inst.Prb a) h = (h, tt)
 uses-within s (inst.Drv to value after cond) h = (h.0, (h.1, (h.2, maybe-within s Data cond h.3)))
 uses-within s (inst.Reg to triggers) h = (h.0, triggers-within s triggers h.1)
-uses-within s (inst.Child u inputs outputs) h = each-append (UseWithin s) (all_used Signal inputs) (all_used Signal outputs) (all-within s Signal inputs h.1) (all-within s Signal outputs h.2)
+uses-within s (inst.Child u inputs outputs) h = Each-append (UseWithin s) (all_used Signal inputs) (all_used Signal outputs) (all-within s Signal inputs h.1) (all-within s Signal outputs h.2)
 uses-within s (inst.Call u result args) h = all-within s DataOrTime args h.1
 uses-within s (inst.Phi ty edges) h = edges-within s edges h
 uses-within s (inst.Br to) h = tt
 uses-within s (inst.Branch cond zero one) h = (h.0, tt)
-uses-within s (inst.Wait to after signals) h = each-append (UseWithin s) (maybe_used Time after) (values_used Signal signals) (maybe-within s Time after h.1) (values-within s Signal signals h.2)
+uses-within s (inst.Wait to after signals) h = Each-append (UseWithin s) (maybe_used Time after) (values_used Signal signals) (maybe-within s Time after h.1) (values-within s Signal signals h.2)
 uses-within s inst.Halt h = tt
 uses-within s (inst.Ret None) h = tt
 uses-within s (inst.Ret (Some o)) h = (h, tt)

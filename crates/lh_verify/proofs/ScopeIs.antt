@@ -28,6 +28,7 @@ use Rattle.lh_typing.specs.declared.scope.Fact.{Fact}
 use Rattle.lh_typing.specs.Knowing.{Known, Knows}
 use Rattle.lh_verify.specs.Marking.{IsProbed, Stands}
 use Rattle.lh_typing.specs.Told.{IsScope, Told, text_in, naming_in, sizes_in, from_probe}
+use Rattle.lh_unit.proofs.Texts.{ids-within}
 
 length-ids : (k : ℕ) (ls : List Line) → length (ids_from k ls) ≡ length ls
 length-ids k [] = refl
@@ -95,10 +96,6 @@ scope-is s o h k r st =
       long_probed = r.long;
       told_probed = λ q v x g. (r.reached q).marked v.0 x g ∙ ap (λ n. depends_on_probe n (unit_text_at s.module.now s.unit.0) (value_name_at s.module.now s.unit.0 v.0)) e;
     }
-
-ids-within : (n k : ℕ) (ls : List Line) → k + length ls ≤ n → Each (λ (i : InstId). i.0 < n) (ids_from k ls)
-ids-within n k [] h = tt
-ids-within n k (l ∷ ls) h = (omega arith, ids-within n (k + 1) ls (omega arith))
 
 spots-each : (t : Table) (n : ℕ) (ps : List byid.Spot) → Each (λ (i : InstId). i.0 < n) (map (λ (p : byid.Spot). p.inst) ps) → Each (SpotWithin n) (map (spot_of t) ps)
 spots-each t n [] h = tt

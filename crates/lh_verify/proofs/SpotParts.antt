@@ -9,7 +9,7 @@ use Rattle.lh_unit.specs.declared.inst.BlockId.{BlockId}
 use Rattle.lh_unit.specs.declared.inst.InstId.{InstId}
 use Rattle.lh_verify.specs.declared.spots.Spot.{Spot}
 use Rattle.lh_verify.specs.Spots.{is_other, is_empty, spots_in, spots_from}
-use Rattle.lh_typing.proofs.Lists.{drop-get_or}
+use Rattle.std.proofs.lemmas.List.{drop_more}
 
 suc-eq : (a b : ℕ) → nat_eq (suc a) (suc b) ≡ nat_eq a b
 suc-eq a b = grind (arith, common_steps)
@@ -36,7 +36,7 @@ spots-step t e b other is k d old new all last h w n a =
     ap (λ l. l ++ more) n
     ∙ append_assoc old (record { inst = get_or is k d; block = b; in_entry = e; after_other = other; last = last } ∷ []) more
     ∙ ap (λ x. old ++ (record { inst = get_or is k d; block = b; in_entry = e; after_other = other; last = x } ∷ more)) w
-    ∙ ap (λ l. old ++ spots_in t e b other l) (sym (drop-get_or is k d h))
+    ∙ ap (λ l. old ++ spots_in t e b other l) (sym (drop_more is k d h))
     ∙ a
 
 -- the places of one more block
@@ -47,16 +47,6 @@ pub blocks-step : (t : Table) (e : Bool) (bs : List BlockId) (k : ℕ) (d : Bloc
 blocks-step t e bs k d old new all h n a =
     ap (λ l. l ++ spots_from t false (drop (k + 1) bs)) n
     ∙ append_assoc old (spots_in t e (get_or bs k d) false (insts_at t (get_or bs k d).0)) (spots_from t false (drop (k + 1) bs))
-    ∙ ap (λ l. old ++ spots_from t e l) (sym (drop-get_or bs k d h))
+    ∙ ap (λ l. old ++ spots_from t e l) (sym (drop_more bs k d h))
     ∙ a
 
--- the last instruction says where its block leads
-last-of : (t : Table) (is : List InstId) (n : ℕ) (x : InstId) → suc n ≡ length is → slice_get is n ≡ Some x → blocks_led_to (line_at t x.0).inst ≡ last_led_to t is
-last-of t [] n x l e = cc
-last-of t (i ∷ []) zero x l e = let q : i ≡ x = cc in ap (λ (z : InstId). blocks_led_to (line_at t z.0).inst) (sym q)
-last-of t (i ∷ []) (suc n) x l e = absurd (omega arith)
-last-of t (i ∷ j ∷ is) zero x l e = absurd (omega arith)
-last-of t (i ∷ j ∷ is) (suc n) x l e = last-of t (j ∷ is) n x (omega arith) e
-
-pub last-led : (t : Table) (is : List InstId) (x : InstId) → slice_get is (length is - 1) ≡ Some x → blocks_led_to (line_at t x.0).inst ≡ last_led_to t is
-last-led t is x e = last-of t is (length is - 1) x (omega (arith, slice_get_within is (length is - 1) x e)) e

@@ -5,7 +5,6 @@ pub mod Faults
 pub mod Marking
 pub mod Operands
 pub mod PhisById
-pub mod Placed
 pub mod Predecessors
 pub mod Spots
 pub mod SpotsWithin

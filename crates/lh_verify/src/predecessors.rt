@@ -4,7 +4,7 @@ ghost use Rattle.lh_unit.specs.Arena.{unit_count, label_count, table_at, blocks_
 ghost use Rattle.lh_unit.specs.ById.{blocks_led_to};
 ghost use Rattle.lh_unit.specs.Within.{Each};
 ghost use Rattle.lh_unit.specs.declared.inst.BlockId.{BlockId};
-ghost use Rattle.lh_verify.specs.Placed.{IsBlockOf};
+ghost use Rattle.lh_unit.specs.Placed.{IsBlockOf};
 ghost use Rattle.lh_verify.specs.Predecessors.{IsPredecessors, Adds};
 
 use lh_types::list::ListOf;

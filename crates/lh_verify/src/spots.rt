@@ -4,7 +4,7 @@
 ghost use Rattle.std.specs.Prelude.{◌≡◌, ◌<◌, ◌++◌, ◌||◌, true, false, IfOk, OnOk};
 ghost use Rattle.lh_unit.specs.Arena.{IsArena, table_at, unit_count, block_insts_at};
 ghost use Rattle.lh_unit.specs.Within.{Each};
-ghost use Rattle.lh_verify.specs.Placed.{IsInstOf, IsBlockOf};
+ghost use Rattle.lh_unit.specs.Placed.{IsInstOf, IsBlockOf};
 ghost use Rattle.lh_verify.specs.Spots.{is_other as inst_is_other, spots_in, spots_from, spots_of};
 
 use lh_types::list::ListOf;

@@ -3,7 +3,7 @@ ghost use Rattle.std.specs.Prelude.{◌≡◌, IfOk};
 ghost use Rattle.lh_unit.specs.Arena.{contents};
 ghost use Rattle.lh_unit.specs.WellFormed.{IsFaultless};
 ghost use Rattle.lh_verify.specs.Answering.{IsFew};
-ghost use Rattle.lh_verify.specs.Placed.{IsItemOf};
+ghost use Rattle.lh_unit.specs.Placed.{IsItemOf};
 ghost use Rattle.lh_verify.specs.Verifying.{Verifies, Says, SaysOfItem, ItemBegun, named_fault};
 
 use crate::unit::{Found, first_fault};

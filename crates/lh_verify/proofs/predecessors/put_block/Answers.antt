@@ -3,7 +3,7 @@ use Rattle.lh_unit.specs.Arena.{table_at, label_count}
 use Rattle.lh_unit.specs.ById.{blocks_led_to, last_led_to}
 use Rattle.lh_typing.proofs.KnowingSteps.{on-ok}
 use Rattle.lh_verify.proofs.PhiSteps.{one-more}
-use Rattle.lh_verify.proofs.SpotParts.{last-led}
+use Rattle.lh_unit.proofs.ByIdInsts.{last-led}
 use Rattle.lh_verify.proofs.predecessors.put_block.Goals as goal
 
 pub returns-in-Some : goal.returns-in-Some

@@ -3,14 +3,14 @@ use Rattle.lh_unit.specs.Table.{no_line}
 use Rattle.lh_unit.specs.Arena.{table_at, value_count}
 use Rattle.lh_unit.specs.declared.table.Line.{Line}
 use Rattle.lh_verify.specs.Marking.{Advances}
-use Rattle.lh_typing.proofs.Lists.{drop-end}
+use Rattle.std.proofs.lemmas.List.{drop_all}
 use Rattle.lh_verify.proofs.MarkingSteps.{advance-none, drop-before}
 use Rattle.lh_verify.proofs.probes.mark_insts.Goals as goal
 
 pub loop-i-init : goal.loop-i-init
 loop-i-init c =
     let ls = (table_at c.args.m.now c.args.unit.0).lines in
-    subst (λ (l : List Line). Advances l c.args.marks.now (value_count c.args.m.now c.args.unit.0) c.args.next.now) (sym (drop-end ls c.args.insts (omega (arith, c.requires.insts)))) (advance-none c.args.marks.now c.args.next.now (value_count c.args.m.now c.args.unit.0) c.requires.next)
+    subst (λ (l : List Line). Advances l c.args.marks.now (value_count c.args.m.now c.args.unit.0) c.args.next.now) (sym (drop_all c.args.insts ls (omega (arith, c.requires.insts)))) (advance-none c.args.marks.now c.args.next.now (value_count c.args.m.now c.args.unit.0) c.requires.next)
 
 pub loop-i-preserved : goal.loop-i-preserved
 loop-i-preserved c =
