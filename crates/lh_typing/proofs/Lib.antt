@@ -1,4 +1,3 @@
-pub mod Entries
 pub mod KnowingSteps
 pub mod Lists
 pub mod ScopeParts

@@ -2,7 +2,6 @@
 use Rattle.std.proofs.Common.{◌≡◌, ℕ, ◌+◌, ◌<◌, ◌≤◌, zero, suc, Bool, true, false, ◌&&◌, ◌||◌, List, [], ◌∷◌, ◌++◌, length, get_or, drop, map, refl, ap, sym, ◌∙◌, subst, append_assoc, add-one, drop-cons, arith}
 use Rattle.std.specs.List.{list_any, list_all}
 use Rattle.std.proofs.lemmas.List.{append-nil, length-map, drop_all}
-use Rattle.std.proofs.lemmas.Grind.{common_steps}
 use Rattle.lh_unit.proofs.Lists.{drop-item}
 
 -- lists one after another

@@ -4,7 +4,7 @@ use Rattle.std.specs.Prelude.{nat_lt, nat_eq, if◌then◌else◌}
 use Rattle.std.proofs.Common.{not, ◌⊎◌, inl, inr, drop}
 use Rattle.std.proofs.lemmas.Grind.{common_steps}
 use Rattle.std.specs.Option.{option_map}
-use Rattle.lh_types.specs.Types.{TypeTree, TypeRow, int_type, time_type, void_type, array_type, tuple_type, signal_type, pointer_type, no_types, row_of, same_type, IsData, bit_count, depth_of}
+use Rattle.lh_types.specs.Types.{TypeTree, TypeRow, array_type, no_types, row_of, same_type, IsData, bit_count, depth_of}
 use Rattle.lh_types.specs.Faults.{is_data}
 use Rattle.lh_types.specs.declared.ty.TyFault.{TyFault}
 use Rattle.lh_types.specs.declared.ty.TyFault.TheVariants.{TooManyBits, TooDeep, Empty, WrongPart}

@@ -1,8 +1,6 @@
 -- The places of a unit, one by one.
-use Rattle.std.proofs.Common.{◌≡◌, ℕ, ◌+◌, ◌-◌, ◌<◌, zero, suc, Bool, false, ◌||◌, List, [], ◌∷◌, ◌++◌, length, get_or, drop, refl, ap, sym, ◌∙◌, append_assoc, arith}
-use Rattle.std.specs.Prelude.{nat_eq, slice_get, Some}
-use Rattle.std.proofs.lemmas.Option.{slice_get_within}
-use Rattle.lh_unit.specs.ById.{blocks_led_to, last_led_to}
+use Rattle.std.proofs.Common.{◌≡◌, ℕ, ◌+◌, ◌<◌, zero, suc, Bool, false, ◌||◌, List, [], ◌∷◌, ◌++◌, length, get_or, drop, refl, ap, sym, ◌∙◌, append_assoc, arith}
+use Rattle.std.specs.Prelude.{nat_eq}
 use Rattle.std.proofs.lemmas.Grind.{common_steps}
 use Rattle.lh_unit.specs.Table.{Table, line_at, insts_at}
 use Rattle.lh_unit.specs.declared.inst.BlockId.{BlockId}

@@ -5,7 +5,7 @@ use Rattle.lh_unit.specs.Arena.{naming, sizes, table_at, value_count}
 use Rattle.lh_unit.specs.declared.inst.Inst.{Inst}
 use Rattle.lh_typing.specs.Knowing.{Tells}
 use Rattle.lh_typing.proofs.KnowingSteps.{knows-told, knows-more, on-ok}
-use Rattle.lh_typing.proofs.Entries.{result-placed}
+use Rattle.lh_unit.proofs.Placing.{result-placed}
 use Rattle.lh_typing.proofs.facts.tell_inst.Goals as goal
 
 pub bounds-facts-place : goal.bounds-facts-place
