@@ -43,11 +43,12 @@ Leads all None (x ∷ more) = ⊥
 Leads all (Some k) [] = ⊥
 Leads all (Some k) (x ∷ more) = (x.key ≡ k) × Leads all (next_in all k) more
 
--- the times rise strictly
+-- all times are above this one
 abbrev pub AreAbove : ℕ → List Bucket → Type 0
 AreAbove fs [] = Unit {0}
 AreAbove fs (b ∷ more) = (fs < b.fs) × AreAbove fs more
 
+-- the times rise strictly
 abbrev pub TimesRise : List Bucket → Type 0
 TimesRise [] = Unit {0}
 TimesRise (b ∷ more) = AreAbove b.fs more × TimesRise more

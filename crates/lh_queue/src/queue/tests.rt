@@ -56,18 +56,16 @@ fn compete(w: &Wish, x: &Wish) -> bool
         .is_eq()
 }
 
-impl Queue {
-    /// Whether no held wish has the due instant, made instant and instance of a wish.
-    fn is_apart(&self, w: &Wish) -> bool
-        ensures { result ≡ true → NoneCompetes w.now self.now.held }
-    {
-        for (_, linked) in self.links.iter() {
-            if compete(w, &linked.wish) {
-                return false;
-            }
+/// Whether no held wish has the due instant, made instant and instance of a wish.
+fn is_apart(queue: &Queue, w: &Wish) -> bool
+    ensures { result ≡ true → NoneCompetes w.now queue.now.held }
+{
+    for (_, linked) in queue.links.iter() {
+        if compete(w, &linked.wish) {
+            return false;
         }
-        true
     }
+    true
 }
 
 /// Puts a wish, where none like it is held.
@@ -78,7 +76,7 @@ fn put(queue: &mut Queue, w: Wish) -> Result<(), NoMemory>
     ensures { EachWithin 8 queue.new.held }
 {
     queue.reserve(1)?;
-    if queue.is_apart(&w) {
+    if is_apart(queue, &w) {
         queue.put(w);
     }
     Ok(())
