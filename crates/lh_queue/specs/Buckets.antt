@@ -1,5 +1,5 @@
 -- The buckets of held wishes: a bucket for each physical time, and in it the wishes due then, each leading to the next.
-use Rattle.std.specs.Prelude.{ℕ, ◌<◌, List, [], ◌∷◌, Bool, nat_eq, if◌then◌else◌, Option, Some, None, ◌≡◌, ◌⊎◌, ◌↔◌}
+use Rattle.std.specs.Prelude.{ℕ, ◌<◌, List, [], ◌∷◌, nat_eq, if◌then◌else◌, Option, Some, None, ◌≡◌, ◌⊎◌, ◌↔◌}
 use Rattle.lh_queue.specs.Held.{Held}
 use Rattle.lh_queue.specs.declared.queue.Bucket.{Bucket}
 

@@ -2,7 +2,7 @@
 use Rattle.std.specs.Prelude.{ℕ, List, [], ◌∷◌, ◌++◌, Bool, true, Option, Some, None, ◌≡◌, ◌↔◌}
 use Rattle.lh_time.specs.declared.Instant.{Instant}
 use Rattle.lh_time.specs.Order.{instant_lt, instant_le}
-use Rattle.lh_types.specs.History.{Made, Claim, claims, IsAmong, values_by, bits_at, soonest_due}
+use Rattle.lh_types.specs.History.{Made, Claim, claims, IsAmong, bits_at, soonest_due}
 use Rattle.lh_queue.specs.declared.wish.Wish.{Wish}
 use Rattle.lh_queue.specs.Held.{Held, EachNames}
 

@@ -339,13 +339,7 @@ impl Queue {
         ensures { IsBehind self.now.held w.now result }
     {
         match self.hints.get(k) {
-            Some(key) => {
-                if self.is_near(key, w) {
-                    key
-                } else {
-                    first
-                }
-            }
+            Some(key) => { if self.is_near(key, w) { key } else { first } }
             None => first,
         }
     }

@@ -5,9 +5,12 @@ use Rattle.lh_queue.proofs.queue.tests.is_apart.Goals as goal
 
 pub loop-linked-init : goal.loop-linked-init
 loop-linked-init c =
-    let s = stored c.queue.inside.links c.queue.inside.buckets.items _ c.args.queue.now c.queue.invariant c.queue.view_is in
-    (tt, tt, λ k x e. left_at_first c.args.w.now c.queue.inside.links c.into_iter-linked-iterator.result k x (c.into_iter-linked-iterator.ensures.into_iter_gives ∙ c.iter-linked-items.ensures.rest)
-        (wish_by c.queue.inside.links c.args.queue.now.held k s.linked (s.vacant k) ∙ e))
+    let s = stored c.queue.inside.links c.queue.inside.buckets.items _ c.args.queue.now c.queue.invariant c.queue.view_is in (
+      tt,
+      tt,
+      λ k x e. left_at_first c.args.w.now c.queue.inside.links c.into_iter-linked-iterator.result k x (c.into_iter-linked-iterator.ensures.into_iter_gives ∙ c.iter-linked-items.ensures.rest)
+          (wish_by c.queue.inside.links c.args.queue.now.held k s.linked (s.vacant k) ∙ e),
+    )
 
 pub loop-linked-preserved : goal.loop-linked-preserved
 loop-linked-preserved c =
