@@ -1,9 +1,8 @@
 -- The entries of held wishes, one by one.
-use Rattle.std.proofs.Common.{◌≡◌, ◌≢◌, ◌⊎◌, inl, inr, ⊎_elim, ◌↔◌, ℕ, List, [], ◌∷◌, ◌++◌, Bool, true, false, if◌then◌else◌, Option, Some, None, refl, ap, sym, ◌∙◌, subst}
+use Rattle.std.proofs.Common.{◌≡◌, ◌⊎◌, inl, inr, ⊎_elim, ℕ, List, [], ◌∷◌, ◌++◌, Bool, true, false, if◌then◌else◌, Option, Some, None, refl, ap, sym, ◌∙◌, subst}
 use Rattle.std.specs.declared.cmp.Ordering.TheVariants.{Less, Equal}
-use Rattle.std.specs.Ordering.{is_lt}
 use Rattle.lh_time.specs.declared.Instant.{Instant}
-use Rattle.lh_time.specs.Order.{instant_lt, instant_le}
+use Rattle.lh_time.specs.Order.{instant_lt}
 use Rattle.lh_time.proofs.OrderLemmas.{instant_lt-le_lt}
 use Rattle.lh_types.specs.History.{Claim, claim_cmp, IsAmong}
 use Rattle.lh_queue.specs.declared.wish.Wish.{Wish}
@@ -116,7 +115,7 @@ holds_more old new x e all last h a =
     subst P (sym e) (record {
       due = λ c. (
         λ k. ⊎_elim (λ l. let p = (h.due c).0 l in (among_left all (wish_entries x.wish) c p.0, p.1)) (λ l. (among_right all (wish_entries x.wish) c l, after c l)) (more_to old x c k),
-        λ k. more_from old x c (⊎_elim (λ l. inl ((h.due c).1 (l, k.1))) inr (among_parts all (wish_entries x.wish) c k.0))
+        λ k. more_from old x c (⊎_elim (λ l. inl ((h.due c).1 (l, k.1))) inr (among_parts all (wish_entries x.wish) c k.0)),
       );
     })
   where
@@ -156,7 +155,7 @@ holds_on old new t e all last h f =
     subst P (sym e) (record {
       due = λ c. (
         λ k. let p = later_to t old c k in (((h.due c).0 p.0).0, p.1),
-        λ k. later_from t old c ((h.due c).1 (k.0, after last c f k.1)) k.1
+        λ k. later_from t old c ((h.due c).1 (k.0, after last c f k.1)) k.1,
       );
     })
   where

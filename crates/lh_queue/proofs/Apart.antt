@@ -1,9 +1,9 @@
 -- Where no wish in the slab competes with a wish, none that is held does.
-use Rattle.std.proofs.Common.{◌≡◌, ◌≢◌, ◌⊎◌, inl, inr, ⊎_elim, ℕ, List, [], ◌∷◌, Bool, false, Option, Some, None, option_map, Contains, refl, ap, sym, ◌∙◌, subst, arith}
+use Rattle.std.proofs.Common.{◌≡◌, ◌≢◌, ◌⊎◌, inl, inr, ⊎_elim, ℕ, List, [], ◌∷◌, false, Option, Some, None, option_map, Contains, refl, ap, sym, ◌∙◌, subst, arith}
 use Rattle.std.specs.declared.cmp.Ordering.{Ordering}
 use Rattle.std.specs.declared.cmp.Ordering.TheVariants.{Less, Equal, Greater}
 use Rattle.std.specs.Ordering.{is_eq}
-use Rattle.std.proofs.lemmas.Bool.{eq-eqb, ne_eqb, cases_eq}
+use Rattle.std.proofs.lemmas.Bool.{eq-eqb, ne_eqb}
 use Rattle.slab.specs.Slab.{Slab, get, entries}
 use Rattle.slab.proofs.SlabLemmas.{Contains-cons_cases, Contains-entries}
 use Rattle.lh_queue.specs.declared.queue.Linked.{Linked}
@@ -41,9 +41,9 @@ left_on w items rest key l k x e c (inl n) = inl n
 left_on w items rest key l k x e c (inr (n, m)) =
     let P : List (ℕ × Linked) → Type 0 = λ is. Contains is (k, record { wish = x; next = n }) in
     ⊎_elim
-        (λ p. inl (not_equal (wish_cmp w x) (ap (λ (i : ℕ × Linked). is_eq (wish_cmp w i.1.wish)) (sym p) ∙ c)))
-        (λ q. inr (n, q))
-        (Contains-cons_cases (key, l) (k, record { wish = x; next = n }) rest (subst P e m))
+    (λ p. inl (not_equal (wish_cmp w x) (ap (λ (i : ℕ × Linked). is_eq (wish_cmp w i.1.wish)) (sym p) ∙ c)))
+    (λ q. inr (n, q))
+    (Contains-cons_cases (key, l) (k, record { wish = x; next = n }) rest (subst P e m))
 
 pub left_out : (w : Wish) (items : List (ℕ × Linked)) (k : ℕ) (x : Wish) → items ≡ [] → IsLeft w items k x → wish_cmp w x ≢ Equal
 left_out w items k x e (inl n) = n
@@ -54,7 +54,7 @@ left_out w items k x e (inr (n, m)) =
 
 pub apart_all : (w : Wish) (held : List Held) → KeysDiffer held → ((k : ℕ) (x : Wish) → wish_at held k ≡ Some x → wish_cmp w x ≢ Equal) → NoneCompetes w held
 apart_all w [] u h = tt
-apart_all w (x ∷ more) u h = (h x.key x.wish (rw (eq-eqb x.key x.key refl) refl), apart_all w more u.1 (λ k y e. h k y (rw (ne_eqb x.key k (λ q. clash y (sym e ∙ ap (wish_at more) (sym q) ∙ lacks_at more x.key u.0)))  e)))
+apart_all w (x ∷ more) u h = (h x.key x.wish (rw (eq-eqb x.key x.key refl) refl), apart_all w more u.1 (λ k y e. h k y (rw (ne_eqb x.key k (λ q. clash y (sym e ∙ ap (wish_at more) (sym q) ∙ lacks_at more x.key u.0))) e)))
   where
     clash : (y : Wish) → Some y ≡ None → ⊥
     clash y z = cc

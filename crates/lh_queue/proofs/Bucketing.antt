@@ -1,15 +1,14 @@
 -- The buckets and chains with one wish more.
-use Rattle.std.proofs.Common.{◌≡◌, ◌≢◌, ◌≤◌, ◌<◌, ◌⊎◌, inl, inr, ⊎_elim, ℕ, zero, suc, ◌+◌, List, [], ◌∷◌, ◌++◌, length, Bool, true, false, if◌then◌else◌, nat_eq, nat_lt, Option, Some, None, IsSome, is_some, slice_get, get_or, set, refl, ap, sym, ◌∙◌, subst, arith}
+use Rattle.std.proofs.Common.{◌≡◌, ◌≤◌, ◌<◌, ℕ, List, [], ◌∷◌, ◌++◌, length, Bool, true, false, if◌then◌else◌, nat_eq, Some, None, get_or, set, refl, ap, sym, ◌∙◌, arith}
 use Rattle.std.specs.List.{insert}
-use Rattle.std.proofs.lemmas.Bool.{eqb-true, eq-eqb, ne_eqb, eqb-false, lt-ltb, le-ltb, cases_lt, cases_eq}
-use Rattle.slab.specs.Slab.{Slab, get, slab_len, Updates}
+use Rattle.std.proofs.lemmas.Bool.{eqb-true, eq-eqb, ne_eqb, lt-ltb}
+use Rattle.slab.specs.Slab.{Slab, get}
 use Rattle.lh_queue.specs.declared.queue.Linked.{Linked}
-use Rattle.lh_queue.specs.declared.queue.Bucket.{Bucket}
 use Rattle.lh_queue.specs.declared.wish.Wish.{Wish}
-use Rattle.lh_queue.specs.Held.{Held, is_before, IsBeforeAll, NoneHas}
+use Rattle.lh_queue.specs.Held.{Held, is_before, IsBeforeAll}
 use Rattle.lh_queue.specs.Buckets.{time, link, bucket, buckets_after, buckets_of}
 use Rattle.lh_queue.specs.Stored.{AreLinked}
-use Rattle.lh_queue.specs.Places.{AreEarlier, AreLater, AllBefore, earlier}
+use Rattle.lh_queue.specs.Places.{AreEarlier, AreLater, AllBefore}
 use Rattle.lh_queue.proofs.Storage.{Agrees, linked_same}
 
 -- what follows starts at a time or later

@@ -1,20 +1,20 @@
 -- What a wish that is due sets, and what wishes that are due later do not.
-use Rattle.std.proofs.Common.{◌≡◌, ◌≢◌, ◌≤◌, ◌<◌, ◌⊎◌, inl, inr, ⊎_elim, ℕ, zero, suc, ◌+◌, List, [], ◌∷◌, ◌++◌, length, Bool, true, false, not, ◌&&◌, if◌then◌else◌, nat_eq, Option, Some, None, set, refl, ap, sym, ◌∙◌, subst, arith}
+use Rattle.std.proofs.Common.{◌≡◌, ◌<◌, ℕ, zero, suc, ◌+◌, List, [], ◌∷◌, ◌++◌, Bool, true, false, not, ◌&&◌, if◌then◌else◌, nat_eq, Option, Some, None, set, refl, ap, sym, ◌∙◌, arith}
 use Rattle.std.specs.declared.cmp.Ordering.{Ordering}
 use Rattle.std.specs.declared.cmp.Ordering.TheVariants.{Less, Equal, Greater}
-use Rattle.std.specs.Ordering.{is_lt, is_le, is_eq, is_gt, ordering_then, ordering_reverse, nat_cmp}
+use Rattle.std.specs.Ordering.{is_lt, is_le, is_eq, ordering_then, ordering_reverse, nat_cmp}
 use Rattle.std.specs.Option.{option_map_or}
 use Rattle.std.proofs.lemmas.Cmp.{tied_itself}
-use Rattle.std.proofs.lemmas.Bool.{eqb-true, eq-eqb, ne_eqb, eqb-false}
+use Rattle.std.proofs.lemmas.Bool.{eq-eqb, ne_eqb}
 use Rattle.std.proofs.lemmas.Bool.Decides.{nat_tests}
 use Rattle.lh_time.specs.declared.Instant.{Instant}
 use Rattle.lh_time.specs.Order.{instant_cmp, instant_lt, instant_le}
 use Rattle.lh_time.specs.Due.{instant}
-use Rattle.lh_time.proofs.OrderLemmas.{instant_cmp_total, instant_lt-not_le, instant_le-lt, instant_lt-le_lt}
+use Rattle.lh_time.proofs.OrderLemmas.{instant_cmp_total, instant_lt-not_le, instant_lt-le_lt}
 use Rattle.lh_types.specs.History.{Claim, claim_cmp, is_due_by, greater, greatest_from, value_by, values_by}
 use Rattle.lh_queue.specs.declared.wish.Wish.{Wish}
 use Rattle.lh_queue.specs.Held.{Held, wish_cmp, is_before, is_at, IsBeforeAll, AreInOrder, NoneDueBefore, due_later}
-use Rattle.lh_queue.specs.Holds.{entries_of, wish_entries, entries}
+use Rattle.lh_queue.specs.Holds.{entries_of, entries}
 use Rattle.lh_queue.specs.Written.{written}
 use Rattle.lh_queue.specs.Places.{starts_at}
 use Rattle.lh_queue.proofs.Order.{wish_total}
@@ -51,7 +51,6 @@ values_late t cs a k (b ∷ more) = rw (greatest_late k t None cs a, values_late
 abbrev pub UptoAll : Claim → List Claim → Type 0
 UptoAll c [] = Unit {0}
 UptoAll c (d ∷ more) = (is_le (claim_cmp c d) ≡ true) × UptoAll c more
-
 
 steady : (bit : ℕ) (t : Instant) (c : Claim) (cs : List Claim) (x y : Bool) → option_map_or (λ (d : Claim). d.value) (greatest_from bit t (Some c) cs) x ≡ option_map_or (λ (d : Claim). d.value) (greatest_from bit t (Some c) cs) y
 steady bit t c [] x y = refl

@@ -1,17 +1,17 @@
 -- The bits at an instant by the held wishes are those by the history, and the soonest held wish is the soonest of all.
-use Rattle.std.proofs.Common.{◌≡◌, ◌≢◌, ◌⊎◌, inl, inr, ⊎_elim, ℕ, ◌+◌, List, [], ◌∷◌, ◌++◌, Bool, true, false, not, ◌&&◌, nat_eq, if◌then◌else◌, Option, Some, None, IfSome, refl, ap, sym, ◌∙◌, subst}
+use Rattle.std.proofs.Common.{◌≡◌, ◌⊎◌, inl, inr, ⊎_elim, ℕ, ◌+◌, List, [], ◌∷◌, Bool, true, false, not, ◌&&◌, nat_eq, if◌then◌else◌, Option, Some, None, IfSome, refl, ap, sym, ◌∙◌, subst}
 use Rattle.std.specs.declared.cmp.Ordering.{Ordering}
 use Rattle.std.specs.declared.cmp.Ordering.TheVariants.{Less, Equal, Greater}
-use Rattle.std.specs.Ordering.{is_lt, is_le, is_gt, is_eq, ordering_then, ordering_reverse, nat_cmp}
+use Rattle.std.specs.Ordering.{is_lt, is_le, is_gt, ordering_then, ordering_reverse, nat_cmp}
 use Rattle.std.specs.Option.{option_map_or}
 use Rattle.std.proofs.lemmas.Bool.{eqb-true, eq-eqb}
 use Rattle.std.proofs.lemmas.Cmp.{tied_itself}
 use Rattle.lh_time.specs.declared.Instant.{Instant}
 use Rattle.lh_time.specs.Order.{instant_cmp, instant_lt, instant_le}
-use Rattle.lh_time.proofs.OrderLemmas.{instant_cmp_total, instant_lt-not_le, instant_le-lt, instant_lt-le_lt}
-use Rattle.lh_types.specs.History.{Made, Claim, claims, claim_cmp, is_due_by, greatest_from, greater, value_by, values_by, bits_at, IsAmong, sooner, if_later, soonest_due}
+use Rattle.lh_time.proofs.OrderLemmas.{instant_cmp_total, instant_lt-not_le}
+use Rattle.lh_types.specs.History.{Made, Claim, claims, claim_cmp, is_due_by, greatest_from, greater, value_by, values_by, bits_at, IsAmong, sooner, soonest_due}
 use Rattle.lh_queue.specs.declared.wish.Wish.{Wish}
-use Rattle.lh_queue.specs.Held.{Held, AreInOrder, EachNamesOnce, EachNames, IsBeforeAll, NoneDueBefore, IsLeastDue}
+use Rattle.lh_queue.specs.Held.{Held, AreInOrder, EachNamesOnce, IsBeforeAll, NoneDueBefore, IsLeastDue}
 use Rattle.lh_queue.specs.Holds.{entries_of, wish_entries, entries, IsAfter, IsFrom, HoldsFor, bits_after, AreBitsAt, IsSoonestDue}
 use Rattle.lh_queue.specs.Places.{first_wish}
 use Rattle.lh_queue.proofs.Found.{claim_total, Finds, Result, found}

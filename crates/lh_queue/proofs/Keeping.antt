@@ -1,11 +1,8 @@
 -- What of held wishes stays where one is put, and where those that are due are taken.
-use Rattle.std.proofs.Common.{◌≡◌, ◌≢◌, ◌⊎◌, inl, inr, ⊎_elim, ℕ, List, [], ◌∷◌, Bool, true, false, not, if◌then◌else◌, refl, ap, sym, ◌∙◌}
-use Rattle.std.specs.declared.cmp.Ordering.TheVariants.{Equal}
+use Rattle.std.proofs.Common.{◌≡◌, ◌≢◌, ◌⊎◌, inl, inr, [], ◌∷◌, Bool, true, false, if◌then◌else◌}
 use Rattle.std.specs.Ordering.{nat_cmp, ordering_then}
-use Rattle.lh_time.specs.declared.Instant.{Instant}
-use Rattle.lh_time.specs.Order.{instant_cmp, instant_lt, instant_le}
-use Rattle.lh_queue.specs.declared.wish.Wish.{Wish}
-use Rattle.lh_queue.specs.Held.{Held, wish_cmp, is_before, with_held, due_later, NoneCompetes, NoneDueBefore, BitsWithin, EachWithin, EachNames}
+use Rattle.lh_time.specs.Order.{instant_cmp, instant_lt}
+use Rattle.lh_queue.specs.Held.{is_before, with_held, due_later, NoneCompetes, NoneDueBefore, EachWithin, EachNames}
 use Rattle.lh_queue.specs.Laws.{MoreWithin, MoreNames, MoreApart, MoreDue, LaterWithin, LaterNames, LaterApart, SoonerDue, DifferentApart}
 use Rattle.lh_queue.proofs.Entries.{then_equal, nat_one, instant_one}
 use Rattle.lh_queue.proofs.Holding.{le_trans}

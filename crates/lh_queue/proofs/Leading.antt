@@ -1,5 +1,5 @@
 -- The buckets lead to the held wishes.
-use Rattle.std.proofs.Common.{◌≡◌, ◌≢◌, ◌≤◌, ◌<◌, ◌⊎◌, inl, inr, ⊎_elim, ◌↔◌, ℕ, ◌+◌, List, [], ◌∷◌, ◌++◌, Bool, true, false, if◌then◌else◌, nat_eq, Option, Some, None, refl, ap, sym, ◌∙◌, subst, arith}
+use Rattle.std.proofs.Common.{◌≡◌, ◌≢◌, ◌≤◌, ◌<◌, ◌⊎◌, inl, inr, ⊎_elim, ◌↔◌, ℕ, List, [], ◌∷◌, Bool, true, false, if◌then◌else◌, nat_eq, Option, Some, None, refl, ap, sym, ◌∙◌, subst, arith}
 use Rattle.std.proofs.lemmas.Bool.{eqb-true, eq-eqb, ne_eqb, eqb-false}
 use Rattle.lh_queue.specs.declared.queue.Bucket.{Bucket}
 use Rattle.lh_queue.specs.Held.{Held, AreInOrder, NoneHas, KeysDiffer}
@@ -15,10 +15,12 @@ after_exact g fs (x ∷ more) = at (nat_eq (time x) g) refl (after_exact g fs mo
         → (g ≡ fs) ⊎ HasTime fs (if b then buckets_after g more else bucket x ∷ buckets_after (time x) more) ↔ (g ≡ fs) ⊎ IsDueWithin fs (x ∷ more)
     at true e ih jh = (
       λ h. ⊎_elim inl (λ k. inr (inr k)) (ih.0 h),
-      λ h. ⊎_elim inl (λ k. ⊎_elim (λ q. inl (sym (eqb-true (time x) g e) ∙ q)) (λ q. ih.1 (inr q)) k) h)
+      λ h. ⊎_elim inl (λ k. ⊎_elim (λ q. inl (sym (eqb-true (time x) g e) ∙ q)) (λ q. ih.1 (inr q)) k) h,
+    )
     at false e ih jh = (
       λ h. ⊎_elim inl (λ k. inr (jh.0 k)) h,
-      λ h. ⊎_elim inl (λ k. inr (jh.1 k)) h)
+      λ h. ⊎_elim inl (λ k. inr (jh.1 k)) h,
+    )
 
 exact : (held : List Held) (fs : ℕ) → HasTime fs (buckets_of held) ↔ IsDueWithin fs held
 exact [] fs = (λ h. h, λ h. h)
@@ -97,9 +99,10 @@ follows_back all k (x ∷ more) n rest f h = (h x.key n.0 ∙ f.0, follows_back 
 follows_all : (held : List Held) → KeysDiffer held → Follows held held
 unfolding Follows
 follows_all [] u = tt
-follows_all (x ∷ more) u =
-    (ap (λ b. if b then link x more else next_in more x.key) (eq-eqb x.key x.key refl),
-    follows_back (x ∷ more) x more u.0 more (follows_all more u.1) (λ j n. ap (λ b. if b then link x more else next_in more j) (ne_eqb x.key j (λ e. n (sym e)))))
+follows_all (x ∷ more) u = (
+  ap (λ b. if b then link x more else next_in more x.key) (eq-eqb x.key x.key refl),
+  follows_back (x ∷ more) x more u.0 more (follows_all more u.1) (λ j n. ap (λ b. if b then link x more else next_in more j) (ne_eqb x.key j (λ e. n (sym e)))),
+)
 
 each_leads : (held : List Held) → AreInOrder held → KeysDiffer held → EachLeads held (buckets_of held)
 unfolding Follows SameWithin

@@ -1,8 +1,8 @@
 -- The place of a wish among those that are held.
-use Rattle.std.proofs.Common.{◌≡◌, ◌≢◌, ◌≤◌, ◌<◌, ◌⊎◌, inl, inr, ⊎_elim, ℕ, zero, suc, ◌+◌, List, [], ◌∷◌, ◌++◌, length, Bool, true, false, if◌then◌else◌, nat_eq, nat_lt, ◌&&◌, Option, Some, None, IsSome, is_some, slice_get, get_or, refl, ap, sym, ◌∙◌, subst, arith}
+use Rattle.std.proofs.Common.{◌≡◌, ◌≢◌, ◌≤◌, ◌<◌, ⊎_elim, ℕ, zero, suc, List, [], ◌∷◌, ◌++◌, length, Bool, true, false, if◌then◌else◌, nat_eq, nat_lt, ◌&&◌, Option, Some, None, IsSome, is_some, slice_get, get_or, refl, ap, sym, ◌∙◌, subst, arith}
 use Rattle.std.specs.Option.{option_map_or}
-use Rattle.std.specs.List.Sorted.{IsPartitionedBy, IsPartitionPoint}
-use Rattle.std.proofs.lemmas.Bool.{eqb-true, eq-eqb, ne_eqb, eqb-false, lt-ltb, le-ltb, ltb-true, cases_lt, cases_eq, and_parts}
+use Rattle.std.specs.List.Sorted.{IsPartitionedBy}
+use Rattle.std.proofs.lemmas.Bool.{eqb-true, eq-eqb, ne_eqb, eqb-false, lt-ltb, le-ltb, ltb-true, cases_lt, and_parts}
 use Rattle.std.proofs.lemmas.List.{append_assoc}
 use Rattle.lh_queue.specs.declared.queue.Bucket.{Bucket}
 use Rattle.lh_queue.specs.declared.wish.Wish.{Wish}

@@ -1,5 +1,5 @@
 -- A wish that is put at its place is stored with the others.
-use Rattle.std.proofs.Common.{◌≡◌, ◌≢◌, ◌≤◌, ◌<◌, ◌⊎◌, inl, inr, ⊎_elim, ℕ, ◌+◌, ◌-◌, min, List, [], ◌∷◌, ◌++◌, length, Option, Some, None, IsSome, is_some, get_or, set, count_by, cond, zero, suc, if◌then◌else◌, nat_eq, refl, ap, sym, ◌∙◌, subst, arith}
+use Rattle.std.proofs.Common.{◌≡◌, ◌≢◌, ◌≤◌, ◌<◌, ℕ, ◌+◌, ◌-◌, min, List, [], ◌∷◌, ◌++◌, length, Option, Some, None, IsSome, is_some, get_or, set, count_by, cond, zero, suc, if◌then◌else◌, nat_eq, refl, ap, sym, ◌∙◌, subst, arith}
 use Rattle.std.specs.List.{insert}
 use Rattle.std.proofs.lemmas.Bool.{eq-eqb, ne_eqb}
 use Rattle.std.proofs.lemmas.List.Sums.{sum_by-cons}
@@ -9,13 +9,13 @@ use Rattle.slab.specs.Slab.{Slab, get, slab_len, Updates, with_value}
 use Rattle.lh_queue.specs.declared.queue.Linked.{Linked}
 use Rattle.lh_queue.specs.declared.queue.Bucket.{Bucket}
 use Rattle.lh_queue.specs.declared.wish.Wish.{Wish}
-use Rattle.lh_queue.specs.Held.{Held, is_before, IsBeforeAll, NoneHas, KeysDiffer, NamesOnce, with_held}
+use Rattle.lh_queue.specs.Held.{Held, IsBeforeAll, NoneHas, NamesOnce, with_held}
 use Rattle.lh_queue.specs.Buckets.{time, link, bucket, buckets_after, buckets_of}
-use Rattle.lh_queue.specs.Stored.{AreLinked, IsStored, spare_by}
+use Rattle.lh_queue.specs.Stored.{AreLinked, IsStored}
 use Rattle.lh_queue.specs.Places.{AreEarlier, AreLater, AllBefore, GoesAlone, GoesFirst, GoesAfter}
-use Rattle.lh_queue.proofs.Storage.{Agrees, agrees_but, agrees_two, linked_back}
+use Rattle.lh_queue.proofs.Storage.{agrees_but, agrees_two, linked_back}
 use Rattle.lh_queue.proofs.Order.{order_insert, with_held_between, none_inserted, keys_insert, once_insert, none_front, none_back, others_lack}
-use Rattle.lh_queue.proofs.Bucketing.{StartsFrom, starts_later, linked_between, linked_behind, after_later, buckets_append, buckets_behind, insert_at, set_at, get_at, before_earlier, before_later}
+use Rattle.lh_queue.proofs.Bucketing.{starts_later, linked_between, linked_behind, after_later, buckets_append, buckets_behind, insert_at, set_at, get_at, before_earlier, before_later}
 
 -- a wish is put under a free key, and stored with the others
 abbrev pub Puts : Slab Linked → List Bucket → List Held → ℕ → Wish → Type 0
@@ -63,14 +63,16 @@ module _ (s t : Slab Linked) (buckets bs : List Bucket) (w : Wish) (key : ℕ) w
       let x : Held = record { key = key; wish = w } in
       let none : link x back ≡ None = alone back l in
       let laid : bs ≡ buckets_of (front ++ x ∷ back) =
-          b ∙ ap (λ cs. insert cs k (bucket x)) (i.buckets_are ∙ buckets_append w.due.fs front back e from)
-          ∙ ap (λ m. insert (buckets_of front ++ buckets_of back) m (bucket x)) (sym p)
-          ∙ insert_at (buckets_of front) (buckets_of back) (bucket x)
-          ∙ ap (λ cs. buckets_of front ++ bucket x ∷ cs) (sym (later back l))
-          ∙ sym (buckets_append w.due.fs front (x ∷ back) e (omega arith)) in
-      (free, put_between s t buckets bs front x back i free
-          (linked_between s t w.due.fs front x back i.linked (agrees_but s t key (front ++ back) u.others free) (u.changed ∙ ap (λ m. Some (record { wish = w; next = m })) (sym none)) e refl from)
-          (vacant_still s t buckets front x back i u.others) laid (before_earlier front w e) (before_later back w l) o n)
+      b ∙ ap (λ cs. insert cs k (bucket x)) (i.buckets_are ∙ buckets_append w.due.fs front back e from)
+      ∙ ap (λ m. insert (buckets_of front ++ buckets_of back) m (bucket x)) (sym p)
+      ∙ insert_at (buckets_of front) (buckets_of back) (bucket x)
+      ∙ ap (λ cs. buckets_of front ++ bucket x ∷ cs) (sym (later back l))
+      ∙ sym (buckets_append w.due.fs front (x ∷ back) e (omega arith)) in (
+        free,
+        put_between s t buckets bs front x back i free
+            (linked_between s t w.due.fs front x back i.linked (agrees_but s t key (front ++ back) u.others free) (u.changed ∙ ap (λ m. Some (record { wish = w; next = m })) (sym none)) e refl from)
+            (vacant_still s t buckets front x back i u.others) laid (before_earlier front w e) (before_later back w l) o n,
+      )
     where
       alone : (ys : List Held) → AreLater w.due.fs ys → link (record { key = key; wish = w }) ys ≡ None
       alone [] h = refl
@@ -98,15 +100,17 @@ module _ (s t : Slab Linked) (buckets bs : List Bucket) (w : Wish) (key : ℕ) w
       let from : w.due.fs ≤ time y = omega (arith, q) in
       let x : Held = record { key = key; wish = w } in
       let laid : bs ≡ buckets_of (front ++ x ∷ y ∷ back) =
-          b ∙ ap (λ m. set buckets k (record { fs = m; first = key })) f
-          ∙ ap (λ cs. set cs k (bucket x)) (i.buckets_are ∙ buckets_append w.due.fs front (y ∷ back) e from)
-          ∙ ap (λ m. set (buckets_of front ++ buckets_of (y ∷ back)) m (bucket x)) (sym p)
-          ∙ set_at (buckets_of front) (buckets_after (time y) back) (bucket y) (bucket x)
-          ∙ ap (λ cs. buckets_of front ++ bucket x ∷ cs) (skip (time y) w.due.fs q)
-          ∙ sym (buckets_append w.due.fs front (x ∷ y ∷ back) e (omega arith)) in
-      (free, put_between s t buckets bs front x (y ∷ back) i free
-          (linked_between s t w.due.fs front x (y ∷ back) i.linked (agrees_but s t key (front ++ y ∷ back) u.others free) (u.changed ∙ ap (λ m. Some (record { wish = w; next = m })) (sym (on (time y) w.due.fs q))) e refl from)
-          (vacant_still s t buckets front x (y ∷ back) i u.others) laid (before_earlier front w e) z o n)
+      b ∙ ap (λ m. set buckets k (record { fs = m; first = key })) f
+      ∙ ap (λ cs. set cs k (bucket x)) (i.buckets_are ∙ buckets_append w.due.fs front (y ∷ back) e from)
+      ∙ ap (λ m. set (buckets_of front ++ buckets_of (y ∷ back)) m (bucket x)) (sym p)
+      ∙ set_at (buckets_of front) (buckets_after (time y) back) (bucket y) (bucket x)
+      ∙ ap (λ cs. buckets_of front ++ bucket x ∷ cs) (skip (time y) w.due.fs q)
+      ∙ sym (buckets_append w.due.fs front (x ∷ y ∷ back) e (omega arith)) in (
+        free,
+        put_between s t buckets bs front x (y ∷ back) i free
+            (linked_between s t w.due.fs front x (y ∷ back) i.linked (agrees_but s t key (front ++ y ∷ back) u.others free) (u.changed ∙ ap (λ m. Some (record { wish = w; next = m })) (sym (on (time y) w.due.fs q))) e refl from)
+            (vacant_still s t buckets front x (y ∷ back) i u.others) laid (before_earlier front w e) z o n,
+      )
     where
       on : (a b : ℕ) → a ≡ b → (if nat_eq a b then Some y.key else None) ≡ Some y.key
       on a b e = rw (eq-eqb a b e) refl
@@ -155,18 +159,21 @@ module _ (s t : Slab Linked) (buckets bs : List Bucket) (w : Wish) (key : ℕ) w
       let both : (j : ℕ) → j ≢ key → j ≢ y.key → get t j ≡ get s j = λ j d e. v.others j e ∙ u.others j d in
       let joined : (zs : List Held) → (front ++ y ∷ []) ++ zs ≡ front ++ y ∷ zs = λ zs. append_assoc front (y ∷ []) zs in
       let linked : AreLinked t (front ++ y ∷ x ∷ back) = linked_behind s t front y x back i.linked v.changed (v.others key (λ e. apart (sym e)) ∙ u.changed) (sym q)
-          (agrees_two s t key y.key front both (none_front key front (y ∷ back) free) lacks.0) (agrees_two s t key y.key back both (none_back key front (y ∷ back) free).1 lacks.1) in
+      (agrees_two s t key y.key front both (none_front key front (y ∷ back) free) lacks.0) (agrees_two s t key y.key back both (none_back key front (y ∷ back) free).1 lacks.1) in
       let R : List Held → Type 0 = λ xs. IsStored s buckets xs in
       let N : List Held → Type 0 = λ xs. NoneHas key xs in
       let L : List Held → Type 0 = λ xs. AreLinked t xs in
       let Q : List Held → Type 0 = λ xs. Puts t bs xs key w in
       let still : (k : ℕ) → NoneHas k ((front ++ y ∷ []) ++ x ∷ back) → get t k ≡ None = λ k h.
-          let p = none_inserted k (front ++ y ∷ []) x back h in
-          let K : List Held → Type 0 = λ xs. NoneHas k xs in
-          let lack = subst K (joined back) p.1 in
-          both k (λ e. p.0 (sym e)) (λ e. (none_back k front (y ∷ back) lack).0 (sym e)) ∙ i.vacant k lack in
-      subst Q (joined back) (subst N (sym (joined back)) free, put_between s t buckets bs (front ++ y ∷ []) x back (subst R (sym (joined back)) i) (subst N (sym (joined back)) free)
-          (subst L (sym (joined (x ∷ back))) linked) still (b ∙ i.buckets_are ∙ sym (buckets_behind front y x back (sym q)) ∙ ap buckets_of (sym (joined (x ∷ back)))) a z o (m ∙ n))
+      let p = none_inserted k (front ++ y ∷ []) x back h in
+      let K : List Held → Type 0 = λ xs. NoneHas k xs in
+      let lack = subst K (joined back) p.1 in
+      both k (λ e. p.0 (sym e)) (λ e. (none_back k front (y ∷ back) lack).0 (sym e)) ∙ i.vacant k lack in
+      subst Q (joined back) (
+        subst N (sym (joined back)) free,
+        put_between s t buckets bs (front ++ y ∷ []) x back (subst R (sym (joined back)) i) (subst N (sym (joined back)) free)
+            (subst L (sym (joined (x ∷ back))) linked) still (b ∙ i.buckets_are ∙ sym (buckets_behind front y x back (sym q)) ∙ ap buckets_of (sym (joined (x ∷ back)))) a z o (m ∙ n),
+      )
 
 pub count_set : (xs : List (Option Linked)) (k : ℕ) (l : Linked) → IsSome (get_or xs k None) → count_by is_some (set xs k (Some l)) ≡ count_by is_some xs
 count_set [] k l h = cc
@@ -194,7 +201,7 @@ put_after s r buckets bs w key k held l d i p o g l_is u n d_is b =
     let W : Option ℕ → Type 0 = λ m. Updates s r key (Some (record { wish = w; next = m })) in
     let Q : List Held → Type 0 = λ xs. Puts (with_value r k value) bs xs key w in
     subst Q (sym p.split) (at_after s (with_value r k value) buckets bs w key r p.front p.near p.back j p.same p.after p.before o g
-        (subst W (ap (λ (m : Linked). m.next) l_same) u) n (subst V (sym p.key) (subst U wish (Updates-with_value r k value present))) (count_set r.slots k value present) b)
+    (subst W (ap (λ (m : Linked). m.next) l_same) u) n (subst V (sym p.key) (subst U wish (Updates-with_value r k value present))) (count_set r.slots k value present) b)
   where
     some_same : (m n : Linked) → Some m ≡ Some n → m ≡ n
     some_same m n z = cc

@@ -1,13 +1,13 @@
 -- What is stored is what the keys and buckets lead to, and where one more or one less is stored.
-use Rattle.std.proofs.Common.{◌≡◌, ◌≢◌, ◌≤◌, ◌<◌, ◌⊎◌, inl, inr, ⊎_elim, ℕ, zero, suc, ◌+◌, List, [], ◌∷◌, ◌++◌, length, Bool, true, false, if◌then◌else◌, nat_eq, Option, Some, None, IsSome, is_some, option_map, slice_get, slice_index_or, count_by, get_or, set, refl, ap, sym, ◌∙◌, subst, arith}
+use Rattle.std.proofs.Common.{◌≡◌, ◌≢◌, ◌≤◌, ◌<◌, ⊎_elim, ℕ, zero, suc, ◌+◌, List, [], ◌∷◌, ◌++◌, length, Bool, true, false, if◌then◌else◌, nat_eq, Option, Some, None, IsSome, is_some, option_map, slice_get, slice_index_or, count_by, get_or, set, refl, ap, sym, ◌∙◌, subst, arith}
 use Rattle.std.specs.List.{remove}
-use Rattle.std.proofs.lemmas.Bool.{eqb-true, eq-eqb, ne_eqb, eqb-false}
+use Rattle.std.proofs.lemmas.Bool.{eqb-true, ne_eqb, eqb-false}
 use Rattle.std.proofs.lemmas.Bool.{cases_eq}
 use Rattle.slab.specs.Slab.{Slab, get, slab_len, Updates}
 use Rattle.lh_queue.specs.declared.queue.Linked.{Linked}
 use Rattle.lh_queue.specs.declared.queue.Bucket.{Bucket}
 use Rattle.lh_queue.specs.declared.wish.Wish.{Wish}
-use Rattle.lh_queue.specs.Held.{Held, Waiting, NoneHas, KeysDiffer, wish_at}
+use Rattle.lh_queue.specs.Held.{Held, Waiting, NoneHas, wish_at}
 use Rattle.lh_queue.specs.Buckets.{time, link, next_in, bucket, buckets_after, buckets_of}
 use Rattle.lh_queue.specs.Places.{first_key}
 use Rattle.lh_queue.specs.Stored.{chain, linked_from, chains_from, held_by, AreLinked, IsStored, StoresSome}
@@ -265,7 +265,7 @@ taken_on s t buckets (x ∷ more) b d l key i h e g u n k f =
     let at : link x more ≡ Some key = sym o.next ∙ k in
     let fs : d.fs ≡ time x = ap (λ (c : Bucket). c.fs) (first_bucket s buckets x more d i f) in
     let now : set buckets 0 (record { fs = d.fs; first = key }) ≡ record { fs = time x; first = key } ∷ buckets_after (time x) more =
-        ap (λ bs. set bs 0 (record { fs = d.fs; first = key })) i.buckets_are ∙ ap (λ f. record { fs = f; first = key } ∷ buckets_after (time x) more) fs in
+    ap (λ bs. set bs 0 (record { fs = d.fs; first = key })) i.buckets_are ∙ ap (λ f. record { fs = f; first = key } ∷ buckets_after (time x) more) fs in
     (x.key, more, stored_rest s t _ x more buckets i o.updates n (now ∙ sym (popped_on x more key at)), held_first x more l.wish o.wish)
 
 pub taken_out : (s t : Slab Linked) (buckets bs : List Bucket) (held : List Held) (b : Bucket) (l : Linked) → IsStored s buckets held → held ≢ [] → b ≡ get_or buckets 0 b → get s b.first ≡ Some l

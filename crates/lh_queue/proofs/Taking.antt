@@ -1,20 +1,18 @@
 -- A step of taking the wishes that are due, and of looking at them.
-use Rattle.std.proofs.Common.{◌≡◌, ◌≢◌, ◌≤◌, ◌<◌, ◌⊎◌, inl, inr, ⊎_elim, ℕ, suc, ◌+◌, List, [], ◌∷◌, ◌++◌, length, Bool, true, false, if◌then◌else◌, nat_eq, Option, Some, None, IsSome, is_some, set, refl, ap, sym, ◌∙◌, subst, arith}
-use Rattle.std.specs.declared.cmp.Ordering.TheVariants.{Less}
-use Rattle.std.specs.Ordering.{is_lt}
-use Rattle.std.proofs.lemmas.Bool.{eqb-true, eq-eqb, ne_eqb, eqb-false, lt-ltb}
+use Rattle.std.proofs.Common.{◌≡◌, ◌≢◌, ◌≤◌, ◌<◌, ℕ, suc, List, [], ◌∷◌, length, Bool, true, false, if◌then◌else◌, nat_eq, Some, None, set, refl, ap, sym, ◌∙◌, subst, arith}
+use Rattle.std.proofs.lemmas.Bool.{eq-eqb, ne_eqb, eqb-false, lt-ltb}
 use Rattle.std.proofs.lemmas.List.{length-set}
 use Rattle.lh_time.specs.declared.Instant.{Instant}
-use Rattle.lh_time.specs.Order.{instant_cmp, instant_lt, instant_le}
+use Rattle.lh_time.specs.Order.{instant_lt, instant_le}
 use Rattle.lh_types.specs.History.{values_by}
 use Rattle.lh_queue.specs.declared.wish.Wish.{Wish}
-use Rattle.lh_queue.specs.Held.{Held, is_before, is_at, AreInOrder, NoneHas, KeysDiffer, NoneDueBefore, EachWithin, BitsWithin, due_later, wish_at}
+use Rattle.lh_queue.specs.Held.{Held, is_at, AreInOrder, NoneHas, KeysDiffer, NoneDueBefore, EachWithin, BitsWithin, due_later, wish_at}
 use Rattle.lh_queue.specs.Holds.{entries}
 use Rattle.lh_queue.specs.Buckets.{time, link, next_in}
 use Rattle.lh_queue.specs.Written.{written}
 use Rattle.lh_queue.specs.Places.{first_key, starts_at, from_key, rest_from}
 use Rattle.lh_queue.proofs.Placing.{fs_upto}
-use Rattle.lh_queue.proofs.Entries.{EachLater, values_of_first, values_of_later, later_stay, due_goes, not_started, not_due_later, all_later, at_one}
+use Rattle.lh_queue.proofs.Entries.{values_of_first, values_of_later, later_stay, due_goes, not_started, not_due_later, all_later, at_one}
 
 pub length_written : (es : List (ℕ × Bool)) (bits : List Bool) → length (written es bits) ≡ length bits
 length_written [] bits = refl

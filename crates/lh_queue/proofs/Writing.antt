@@ -1,9 +1,8 @@
 -- Bits that are set, one after another.
-use Rattle.std.proofs.Common.{◌≡◌, ◌<◌, ℕ, zero, suc, ◌+◌, List, [], ◌∷◌, length, Bool, drop, get_or, set, Some, slice_get, refl, ap, sym, ◌∙◌, subst, arith}
+use Rattle.std.proofs.Common.{◌≡◌, ◌<◌, ℕ, ◌+◌, List, ◌∷◌, length, Bool, drop, set, Some, slice_get, ap, sym, ◌∙◌, subst}
 use Rattle.std.proofs.lemmas.List.{length-set, drop_more}
 use Rattle.std.proofs.lemmas.Option.{get_or_from_slice_get}
 use Rattle.lh_queue.specs.Held.{BitsWithin}
-use Rattle.lh_queue.specs.Written.{written}
 
 -- where the k-th is read, it comes first in what is left
 pub next_write : (xs : List (ℕ × Bool)) (k : ℕ) (x : ℕ × Bool) → k < length xs → slice_get xs k ≡ Some x → drop k xs ≡ x ∷ drop (k + 1) xs

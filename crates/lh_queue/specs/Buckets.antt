@@ -1,5 +1,5 @@
 -- The buckets of held wishes: a bucket for each physical time, and in it the wishes due then, each leading to the next.
-use Rattle.std.specs.Prelude.{ℕ, ◌<◌, List, [], ◌∷◌, Bool, nat_eq, if◌then◌else◌, Option, Some, None, ◌≡◌, ◌⊎◌, ◌↔◌}
+use Rattle.std.specs.Prelude.{ℕ, ◌<◌, List, [], ◌∷◌, nat_eq, if◌then◌else◌, Option, Some, None, ◌≡◌, ◌⊎◌, ◌↔◌}
 use Rattle.lh_queue.specs.Held.{Held}
 use Rattle.lh_queue.specs.declared.queue.Bucket.{Bucket}
 
@@ -43,11 +43,12 @@ Leads all None (x ∷ more) = ⊥
 Leads all (Some k) [] = ⊥
 Leads all (Some k) (x ∷ more) = (x.key ≡ k) × Leads all (next_in all k) more
 
--- the times rise strictly
+-- all times are above this one
 abbrev pub AreAbove : ℕ → List Bucket → Type 0
 AreAbove fs [] = Unit {0}
 AreAbove fs (b ∷ more) = (fs < b.fs) × AreAbove fs more
 
+-- the times rise strictly
 abbrev pub TimesRise : List Bucket → Type 0
 TimesRise [] = Unit {0}
 TimesRise (b ∷ more) = AreAbove b.fs more × TimesRise more

@@ -2,11 +2,11 @@
 use Rattle.std.specs.Prelude.{ℕ, List, [], ◌∷◌, ◌++◌, Bool, true, Option, Some, None, ◌≡◌, ◌↔◌}
 use Rattle.lh_time.specs.declared.Instant.{Instant}
 use Rattle.lh_time.specs.Order.{instant_lt, instant_le}
-use Rattle.lh_types.specs.History.{Made, Claim, claims, IsAmong, values_by, bits_at, soonest_due}
+use Rattle.lh_types.specs.History.{Made, Claim, claims, IsAmong, bits_at, soonest_due}
 use Rattle.lh_queue.specs.declared.wish.Wish.{Wish}
 use Rattle.lh_queue.specs.Held.{Held, EachNames}
 
--- the entries of a wish
+-- the entries of bits that are due at one instant, with their origin
 abbrev pub entries_of : (due made : Instant) → (instance : ℕ) → List (ℕ × Bool) → List Claim
 entries_of due made instance [] = []
 entries_of due made instance (e ∷ more) = record { due = due; made = made; instance = instance; bit = e.0; value = e.1 } ∷ entries_of due made instance more

@@ -22,13 +22,15 @@ MoreApart = (w : Wish) (held : List Held) (x : Held) → NoneCompetes w held →
 abbrev pub MoreDue : Type 0
 MoreDue = (t : Instant) (held : List Held) (x : Held) → NoneDueBefore t held → instant_le t x.wish.due ≡ true → NoneDueBefore t (with_held held x)
 
--- the same of those that are due later
+-- of those that are due later, too, each names only bits below the number
 abbrev pub LaterWithin : Type 0
 LaterWithin = (n : ℕ) (held : List Held) (t : Instant) → EachWithin n held → EachWithin n (due_later t held)
 
+-- of those that are due later, too, each names a bit
 abbrev pub LaterNames : Type 0
 LaterNames = (held : List Held) (t : Instant) → EachNames held → EachNames (due_later t held)
 
+-- of those that are due later, too, none competes with the wish
 abbrev pub LaterApart : Type 0
 LaterApart = (w : Wish) (held : List Held) (t : Instant) → NoneCompetes w held → NoneCompetes w (due_later t held)
 

@@ -84,7 +84,9 @@ impl Queue {
         }
     }
 
-    /// Makes room, so that `n` more wishes can be put without memory. Whatever it answers, the wishes, their keys and the buckets stay.
+    /// Makes room, so that `n` more wishes can be put without memory.
+    ///
+    /// The answer is `NoMemory` only for want of memory. Whatever it answers, the wishes, their keys and the buckets stay.
     pub fn reserve(&mut self, n: usize) -> Result<(), NoMemory>
         ensures ok { OnOk result (n ≤ self.new.spare) }
         ensures held { self.new.held ≡ self.old.held }
@@ -97,6 +99,9 @@ impl Queue {
     }
 
     /// Adds a wish under a key that no held wish has; every other wish keeps its key. It takes no memory.
+    ///
+    /// There has to be room for it (`reserve`). No held wish may have its due instant, made instant and instance, and it may
+    /// name each bit at most once.
     pub fn put(&mut self, w: Wish)
         requires room { 0 < self.old.spare }
         requires apart { NoneCompetes w self.old.held }
@@ -113,6 +118,8 @@ impl Queue {
     }
 
     /// The least instant at which a held wish is due; `None` exactly where no wish is held.
+    ///
+    /// Where each held wish names a bit, this is the soonest instant after the taking before at which anything ever wished is due.
     pub fn next_due(&self) -> Option<Instant>
         ensures least { IsLeastDue self.now.held result }
         ensures soonest { IsSoonestDue self.now.held result }
@@ -124,8 +131,12 @@ impl Queue {
         }
     }
 
-    /// Takes out the wishes that are due at an instant, before which none is due, and sets their bits: of two that set one bit
-    /// the one made later, and of these the one of the greater instance, decides. Every other wish keeps its key.
+    /// Takes out the wishes that are due at an instant, and sets their bits: of two that set one bit the one made later, and of
+    /// two made together the one of the greater instance, decides. Every other wish keeps its key.
+    ///
+    /// No held wish may be due before the instant, and the held wishes name only bits below the length of `now`. Where `now` has
+    /// the bits at the taking before, or at the first taking the initial ones, it then has those at this instant, by every
+    /// history for which the wishes were held.
     pub fn take_due(&mut self, at: Instant, now: &mut Bits)
         requires due { NoneDueBefore at self.old.held }
         requires within { EachWithin (length now.old) self.old.held }
@@ -142,7 +153,8 @@ impl Queue {
         }
     }
 
-    /// Sets the bits that taking out the wishes due at an instant would set, and leaves the queue as it is.
+    /// Sets the bits that taking out the wishes due at an instant would set, on the same conditions, and leaves the queue as it
+    /// is. It takes no memory.
     pub fn look_due(&self, at: Instant, now: &mut Bits)
         requires due { NoneDueBefore at self.now.held }
         requires within { EachWithin (length now.old) self.now.held }
@@ -327,13 +339,7 @@ impl Queue {
         ensures { IsBehind self.now.held w.now result }
     {
         match self.hints.get(k) {
-            Some(key) => {
-                if self.is_near(key, w) {
-                    key
-                } else {
-                    first
-                }
-            }
+            Some(key) => { if self.is_near(key, w) { key } else { first } }
             None => first,
         }
     }

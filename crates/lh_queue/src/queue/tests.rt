@@ -24,13 +24,7 @@ fn instant(fs: u64, delta: u64) -> Instant {
 }
 
 /// A wish on one of 8 bits, made at the start.
-fn wish(
-    alloc: Global,
-    instance: u32,
-    due: Instant,
-    bit: u32,
-    value: bool,
-) -> Result<Wish, NoMemory>
+fn wish(alloc: Global, instance: u32, due: Instant, bit: u32, value: bool) -> Result<Wish, NoMemory>
     requires { bit < 8 }
     ensures within { IfOk result (λ w. BitsWithin 8 w.bits) }
     ensures once { IfOk result (λ w. NamesOnce w.bits) }
@@ -56,18 +50,16 @@ fn compete(w: &Wish, x: &Wish) -> bool
         .is_eq()
 }
 
-impl Queue {
-    /// Whether no held wish has the due instant, made instant and instance of a wish.
-    fn is_apart(&self, w: &Wish) -> bool
-        ensures { result ≡ true → NoneCompetes w.now self.now.held }
-    {
-        for (_, linked) in self.links.iter() {
-            if compete(w, &linked.wish) {
-                return false;
-            }
+/// Whether no held wish has the due instant, made instant and instance of a wish.
+fn is_apart(queue: &Queue, w: &Wish) -> bool
+    ensures { result ≡ true → NoneCompetes w.now queue.now.held }
+{
+    for (_, linked) in queue.links.iter() {
+        if compete(w, &linked.wish) {
+            return false;
         }
-        true
     }
+    true
 }
 
 /// Puts a wish, where none like it is held.
@@ -78,7 +70,7 @@ fn put(queue: &mut Queue, w: Wish) -> Result<(), NoMemory>
     ensures { EachWithin 8 queue.new.held }
 {
     queue.reserve(1)?;
-    if queue.is_apart(&w) {
+    if is_apart(queue, &w) {
         queue.put(w);
     }
     Ok(())
@@ -165,7 +157,13 @@ fn buckets_and_keys(rt: HostRuntime) -> Result<(), Fail> {
     let mut now = Bits::zeros(rt.alloc(), 8)?;
     take(&mut queue, instant(5, 0), &mut now);
     let (later, last) = firsts(&queue).ok_or("two buckets")?;
-    assert_eq!(rt; later, Bucket { fs: 5, first: third });
+    assert_eq!(rt;
+        later,
+        Bucket {
+            fs: 5,
+            first: third
+        }
+    );
     assert_eq!(rt; last, seven);
     assert_eq!(rt; due(&queue, third), Some(instant(5, 1)));
     assert_eq!(rt; due(&queue, five.first), None);
@@ -194,7 +192,10 @@ fn the_greatest_instance_decides(rt: HostRuntime) -> Result<(), Fail> {
     take(&mut queue, instant(5, 0), &mut now);
     assert_eq!(rt; (now.len(), seen.len()), (8, 8));
     assert_eq!(rt; (now.get(0), now.get(1), now.get(2)), (true, true, false));
-    assert_eq!(rt; (seen.get(0), seen.get(1), seen.get(2)), (true, true, false));
+    assert_eq!(rt;
+        (seen.get(0), seen.get(1), seen.get(2)),
+        (true, true, false)
+    );
     assert_eq!(rt; queue.next_due(), Some(instant(5, 1)));
     take(&mut queue, instant(5, 1), &mut now);
     assert_eq!(rt; now.len(), 8);

@@ -1,4 +1,4 @@
-use Rattle.std.proofs.Common.{◌≡◌, ◌∙◌, ap, sym}
+use Rattle.std.proofs.Common.{◌∙◌}
 use Rattle.lh_queue.proofs.Storage.{stored}
 use Rattle.lh_queue.proofs.Leading.{are_buckets}
 use Rattle.lh_queue.proofs.queue.Queue.buckets.Goals as goal

@@ -1,4 +1,4 @@
-use Rattle.std.proofs.Common.{◌∙◌, ap, slice_get}
+use Rattle.std.proofs.Common.{◌∙◌}
 use Rattle.lh_queue.proofs.Storage.{stored, first_by}
 use Rattle.lh_queue.proofs.queue.Queue.first_key.Goals as goal
 

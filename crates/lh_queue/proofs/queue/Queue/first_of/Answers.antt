@@ -1,8 +1,6 @@
-use Rattle.std.proofs.Common.{◌≡◌, ◌∙◌, ap, slice_get, sym, Some, None, Option, refl}
+use Rattle.std.proofs.Common.{◌∙◌, ap, slice_get, refl}
 use Rattle.std.proofs.lemmas.Bool.{eq-eqb, ne_eqb}
 use Rattle.lh_queue.specs.Places.{first_of}
-use Rattle.lh_queue.specs.Buckets.{buckets_of}
-use Rattle.lh_queue.specs.declared.queue.Bucket.{Bucket}
 use Rattle.lh_queue.proofs.Storage.{stored, none_at, some_at}
 use Rattle.lh_queue.proofs.queue.Queue.first_of.Goals as goal
 

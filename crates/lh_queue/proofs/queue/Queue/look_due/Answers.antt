@@ -1,8 +1,8 @@
-use Rattle.std.proofs.Common.{◌≡◌, ◌∙◌, ap, sym, refl, length, arith, subst, Some, None, ℕ, ◌<◌, Option, []}
+use Rattle.std.proofs.Common.{◌≡◌, ◌∙◌, ap, sym, refl, length, subst, ℕ, ◌<◌, Option, []}
 use Rattle.lh_types.specs.History.{values_by}
-use Rattle.lh_queue.specs.Held.{wish_at, is_at, EachWithin}
+use Rattle.lh_queue.specs.Held.{EachWithin}
 use Rattle.lh_queue.specs.Holds.{entries}
-use Rattle.lh_queue.specs.Places.{rest_from, from_key}
+use Rattle.lh_queue.specs.Places.{rest_from}
 use Rattle.lh_queue.specs.Buckets.{next_in}
 use Rattle.lh_queue.proofs.Storage.{stored}
 use Rattle.lh_queue.proofs.Holding.{bits_held}

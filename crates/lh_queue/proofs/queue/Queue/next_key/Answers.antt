@@ -1,6 +1,4 @@
-use Rattle.std.proofs.Common.{◌≡◌, ◌∙◌, ap, sym, Some, None, option_map, IsSome, subst, Option}
-use Rattle.slab.specs.Slab.{get}
-use Rattle.lh_queue.specs.declared.queue.Linked.{Linked}
+use Rattle.std.proofs.Common.{sym, IsSome, subst, Option}
 use Rattle.lh_queue.specs.declared.wish.Wish.{Wish}
 use Rattle.lh_queue.proofs.Storage.{stored, wish_by, next_by, some_map}
 use Rattle.lh_queue.proofs.queue.Queue.next_key.Goals as goal

@@ -1,4 +1,3 @@
-use Rattle.lh_queue.specs.Held.{Held}
 use Rattle.lh_queue.proofs.Storage.{lacks_at}
 use Rattle.lh_queue.proofs.Among.{holds_more}
 use Rattle.lh_queue.proofs.queue.Queue.put.Goals as goal

@@ -1,7 +1,6 @@
-use Rattle.std.proofs.Common.{◌≡◌, ◌≤◌, ◌<◌, ◌+◌, ◌∙◌, ap, length, arith, refl, sym, subst, Some, is_some, set, ◌-◌, min, ℕ}
-use Rattle.slab.specs.Slab.{slab_len, with_value}
+use Rattle.std.proofs.Common.{◌≡◌, ◌≤◌, ◌<◌, ◌+◌, ap, length, arith, subst, ◌-◌, min, ℕ}
+use Rattle.slab.specs.Slab.{slab_len}
 use Rattle.std.specs.Vec.{vec_len, vec_capacity}
-use Rattle.std.proofs.lemmas.List.{length-set}
 use Rattle.lh_queue.specs.Held.{Waiting}
 use Rattle.lh_queue.specs.Stored.{spare_by}
 use Rattle.lh_queue.proofs.Storage.{stored, seen}

@@ -1,5 +1,4 @@
-use Rattle.std.proofs.Common.{◌≡◌, ◌<◌, ◌∷◌, ◌∙◌, ap, sym, length, arith}
-use Rattle.lh_queue.specs.Held.{Held}
+use Rattle.std.proofs.Common.{◌<◌, ◌∷◌, ◌∙◌, ap, sym, length, arith}
 use Rattle.lh_queue.proofs.Storage.{stored, some_bucket, first_there, taken_on, taken_out, seen}
 use Rattle.lh_queue.proofs.queue.Queue.take_first.Goals as goal
 

@@ -1,4 +1,4 @@
-use Rattle.std.proofs.Common.{◌≡◌, ◌<◌, ◌∷◌, ◌+◌, length, drop, ap, sym, ◌∙◌, subst, arith, List, Bool, ℕ}
+use Rattle.std.proofs.Common.{◌<◌, ◌+◌, length, drop, ap, sym, ◌∙◌, subst, arith, List, Bool, ℕ}
 use Rattle.lh_queue.specs.Held.{BitsWithin}
 use Rattle.lh_queue.specs.Written.{written}
 use Rattle.lh_queue.proofs.Writing.{next_write, within_set}
