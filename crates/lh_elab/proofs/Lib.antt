@@ -1,0 +1,4 @@
+pub mod Lists
+pub mod Measuring
+pub mod Reading
+pub mod Searching
