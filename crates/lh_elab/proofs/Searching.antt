@@ -217,7 +217,7 @@ Known-finish g marks u m o n l done is = record {
     quiets v d (same q) = subst (IsQuiet g (set marks u (mark.Done m))) (sym q) (quiet-all g marks (set marks u (mark.Done m)) u o n keeps done)
     quiets v d (other q) = IsQuiet-keeps g marks (set marks u (mark.Done m)) v keeps (o.quiet v (d.0, sym (mark-other marks u v (mark.Done m) q) ∙ d.1))
 
-mark-within : (marks : List Mark) (u : ℕ) → mark_at marks u ≡ mark.Opened → u < length marks
+pub mark-within : (marks : List Mark) (u : ℕ) → mark_at marks u ≡ mark.Opened → u < length marks
 mark-within marks u e = elim (cases_lt u (length marks)) [ inl l ↦ l | inr l ↦ absurd (new_opened (mark_at marks u) (get_or_past marks u mark.New l) e) ]
 
 pub Below-finish : (g : List Node) (top : ℕ) (marks : List Mark) (f : Frame) (rest : List Frame) → Below g top marks f rest → slice_get (targets_at g f.unit.0) f.next ≡ None → SearchingBy g top (set marks f.unit.0 (mark.Done (around f.inside (node_at g f.unit.0).bits))) rest
@@ -227,8 +227,6 @@ Below-finish g top marks f rest o e = by rest o
     opened rest o = o.marked f.unit.0 (inl refl)
     all : take f.next (targets_at g f.unit.0) ≡ targets_at g f.unit.0
     all = taken_all (targets_at g f.unit.0) f.next e
-    measure : Measure
-    measure = around f.inside (node_at g f.unit.0).bits
     known : (rest : List Frame) → Below g top marks f rest → Known g (set marks f.unit.0 (mark.Done (around f.inside (node_at g f.unit.0).bits)))
     known rest o = Known-finish g marks f.unit.0 (around f.inside (node_at g f.unit.0).bits) o.known (opened rest o) (mark-within marks f.unit.0 (opened rest o))
       (subst (Each (λ (t : UnitId). IsDone marks t.0)) all o.here.left)
@@ -237,6 +235,9 @@ Below-finish g top marks f rest o e = by rest o
     keeps rest o = Keeps-set marks f.unit.0 (mark.Done (around f.inside (node_at g f.unit.0).bits)) (λ x q. done_opened (mark_at marks f.unit.0) x (opened rest o) q)
     here : (rest : List Frame) → Below g top marks f rest → mark_at (set marks f.unit.0 (mark.Done (around f.inside (node_at g f.unit.0).bits))) f.unit.0 ≡ mark.Done (around f.inside (node_at g f.unit.0).bits)
     here rest o = mark-same marks f.unit.0 (mark.Done (around f.inside (node_at g f.unit.0).bits)) (mark-within marks f.unit.0 (opened rest o))
+    opens : (p : Frame) (rest : List Frame) → Below g top marks f (p ∷ rest) → (u : ℕ) → mark_at (set marks f.unit.0 (mark.Done (around f.inside (node_at g f.unit.0).bits))) u ≡ mark.Opened → Same u f.unit.0 → IsIn (units (p ∷ rest)) u
+    opens p rest o u q (same z) = absurd (done_opened (mark_at (set marks f.unit.0 (mark.Done (around f.inside (node_at g f.unit.0).bits))) u) (around f.inside (node_at g f.unit.0).bits) q (ap (mark_at (set marks f.unit.0 (mark.Done (around f.inside (node_at g f.unit.0).bits)))) z ∙ here (p ∷ rest) o))
+    opens p rest o u q (other z) = elim (o.opened u (sym (mark-other marks f.unit.0 u (mark.Done (around f.inside (node_at g f.unit.0).bits)) z) ∙ q)) [ inl k ↦ absurd (z (sym k)) | inr i ↦ i ]
     by : (rest : List Frame) → Below g top marks f rest → SearchingBy g top (set marks f.unit.0 (mark.Done (around f.inside (node_at g f.unit.0).bits))) rest
     by [] o = record { known = known [] o; top_done = (around f.inside (node_at g f.unit.0).bits, ap (mark_at (set marks f.unit.0 (mark.Done (around f.inside (node_at g f.unit.0).bits)))) (sym o.waits) ∙ here [] o) }
     by (p ∷ rest) o = record {
@@ -247,6 +248,95 @@ Below-finish g top marks f rest o e = by rest o
       here = Leaves-keeps g marks _ p (keeps (p ∷ rest) o) o.waits.0;
       waits = Waits-keeps g marks _ top p.unit rest (keeps (p ∷ rest) o) o.waits.2;
     }
-    opens : (p : Frame) (rest : List Frame) → Below g top marks f (p ∷ rest) → (u : ℕ) → mark_at (set marks f.unit.0 (mark.Done (around f.inside (node_at g f.unit.0).bits))) u ≡ mark.Opened → Same u f.unit.0 → IsIn (units (p ∷ rest)) u
-    opens p rest o u q (same z) = absurd (done_opened (mark_at (set marks f.unit.0 (mark.Done (around f.inside (node_at g f.unit.0).bits))) u) (around f.inside (node_at g f.unit.0).bits) q (ap (mark_at (set marks f.unit.0 (mark.Done (around f.inside (node_at g f.unit.0).bits)))) z ∙ here (p ∷ rest) o))
-    opens p rest o u q (other z) = elim (o.opened u (sym (mark-other marks f.unit.0 u (mark.Done (around f.inside (node_at g f.unit.0).bits)) z) ∙ q)) [ inl k ↦ absurd (z (sym k)) | inr i ↦ i ]
+
+-- where the next target is open, the search from the top finds it first
+before-none : (g : List Node) (top : ℕ) (marks : List Mark) (k : ℕ) (opened : List ℕ) (f : Frame) → Known g marks → ((v : ℕ) → IsIn opened v → mark_at marks v ≡ mark.Opened) → Leaves g marks f → Each (λ (t : UnitId). met_or (cycle_in k g opened) (is_open opened t.0) t.0 ≡ None) (take f.next (targets_at g f.unit.0))
+before-none g top marks k opened f o h l = Each-weaker (λ (t : UnitId). IsDone marks t.0) (λ (t : UnitId). met_or (cycle_in k g opened) (is_open opened t.0) t.0 ≡ None) (take f.next (targets_at g f.unit.0)) (λ t d. target-quiet g marks k opened t o (λ v i x. done_opened (mark_at marks v) x.0 (h v i) x.1) d) l.left
+
+cycle-here : (g : List Node) (top : ℕ) (marks : List Mark) (f : Frame) (rest : List Frame) (t : UnitId) (k : ℕ) → Below g top marks f rest → slice_get (targets_at g f.unit.0) f.next ≡ Some t → mark_at marks t.0 ≡ mark.Opened → cycle_in (suc k) g (units rest) f.unit.0 ≡ Some t.0
+cycle-here g top marks f rest t k o e q =
+    first-at (λ (x : UnitId). met_or (cycle_in k g (units (f ∷ rest))) (is_open (units (f ∷ rest)) x.0) x.0) (targets_at g f.unit.0) f.next t t.0 e
+    (before-none g top marks k (units (f ∷ rest)) f o.known o.marked o.here)
+    (ap (λ b. met_or (cycle_in k g (units (f ∷ rest))) b t.0) (is_open-in (units (f ∷ rest)) t.0 (o.opened t.0 q)))
+
+plus_none : (k m : ℕ) → m ≡ k + 0 → m ≡ k
+plus_none k m e = omega arith
+
+plus_next : (k m n : ℕ) → m ≡ k + suc n → m ≡ suc k + n
+plus_next k m n e = omega arith
+
+cycle-out : (g : List Node) (top : ℕ) (marks : List Mark) (k m x : ℕ) (n : UnitId) (rest : List Frame) → Known g marks → m ≡ k + length rest → ((v : ℕ) → IsIn (n.0 ∷ units rest) v → mark_at marks v ≡ mark.Opened) → Distinct (n.0 ∷ units rest) → Waits g marks top n rest → cycle_in k g (units rest) n.0 ≡ Some x → cycle_in m g [] top ≡ Some x
+cycle-out g top marks k m x n [] o e h d w c = ap (λ j. cycle_in j g [] top) (plus_none k m e) ∙ ap (λ u. cycle_in k g [] u) (sym w) ∙ c
+cycle-out g top marks k m x n (p ∷ rest) o e h d w c =
+    cycle-out g top marks (suc k) m x p.unit rest o (plus_next k m (length rest) e) (λ v i. h v (inr i)) d.1 w.2
+    (first-at (λ (t : UnitId). met_or (cycle_in k g (units (p ∷ rest))) (is_open (units (p ∷ rest)) t.0) t.0) (targets_at g p.unit.0) p.next n x w.1
+    (before-none g top marks k (units (p ∷ rest)) p o (λ v i. h v (inr i)) w.0)
+    (ap (λ b. met_or (cycle_in k g (units (p ∷ rest))) b n.0) (not_open (units (p ∷ rest)) n.0 d.0) ∙ c))
+
+busy-rest : (g : List Node) (marks : List Mark) (top : ℕ) (us : List ℕ) (n : UnitId) (rest : List Frame) → HasBusy g us → Waits g marks top n rest → (v : ℕ) → IsIn (units rest) v → IsIn us v
+busy-rest g marks top us n [] b w v i = absurd i
+busy-rest g marks top us n (p ∷ rest) b w v (inl e) = subst (IsIn us) e (b p.unit.0 p.next n w.1)
+busy-rest g marks top us n (p ∷ rest) b w v (inr i) = busy-rest g marks top us p.unit rest b w.2 v i
+
+length-units : (fs : List Frame) → length (units fs) ≡ length fs
+length-units [] = refl
+length-units (f ∷ fs) = ap suc (length-units fs)
+
+enough : (n m : ℕ) → suc n ≤ m → m ≡ suc (m - suc n) + n
+enough n m h = omega arith
+
+pub Below-cycle : (g : List Node) (top : ℕ) (marks : List Mark) (f : Frame) (rest : List Frame) (t : UnitId) (us : List ℕ) → Below g top marks f rest → slice_get (targets_at g f.unit.0) f.next ≡ Some t → mark_at marks t.0 ≡ mark.Opened → HasBusy g us → cycle_in (length us) g [] top ≡ Some t.0
+Below-cycle g top marks f rest t us o e q b =
+    cycle-out g top marks (suc (length us - suc (length rest))) (length us) t.0 f.unit rest o.known (enough (length rest) (length us) long) o.marked o.distinct o.waits
+    (cycle-here g top marks f rest t (length us - suc (length rest)) o e q)
+  where
+    all_in : (v : ℕ) → IsIn (units (f ∷ rest)) v → IsIn us v
+    all_in v (inl z) = subst (IsIn us) z (b f.unit.0 f.next t e)
+    all_in v (inr i) = busy-rest g marks top us f.unit rest b o.waits v i
+    long : suc (length rest) ≤ length us
+    long = subst (λ n. n ≤ length us) (length-units (f ∷ rest)) (no_longer (units (f ∷ rest)) us o.distinct all_in)
+
+-- at the beginning the top is open
+mark-new : (n u v : ℕ) → (v ≡ u → ⊥) → mark_at (set (replicate n mark.New) u mark.Opened) v ≡ mark.New
+mark-new n u v h = mark-other (replicate n mark.New) u v mark.Opened h ∙ replicated n v
+  where
+    replicated : (n v : ℕ) → mark_at (replicate n mark.New) v ≡ mark.New
+    replicated n v = elim (cases_lt v n) [ inl l ↦ get_or-replicate n v mark.New mark.New l | inr l ↦ get_or_past (replicate n mark.New) v mark.New (subst (λ m. m ≤ v) (sym (length-replicate n mark.New)) l) ]
+
+first-mark : (n u : ℕ) → u < n → mark_at (set (replicate n mark.New) u mark.Opened) u ≡ mark.Opened
+first-mark n u l = mark-same (replicate n mark.New) u mark.Opened (subst (λ m. u < m) (sym (length-replicate n mark.New)) l)
+
+none-done : (n u v : ℕ) (m : Measure) → u < n → mark_at (set (replicate n mark.New) u mark.Opened) v ≡ mark.Done m → ⊥
+none-done n u v m l e = by (same_or v u)
+  where
+    by : Same v u → ⊥
+    by (same q) = done_opened (mark_at (set (replicate n mark.New) u mark.Opened) v) m (ap (mark_at (set (replicate n mark.New) u mark.Opened)) q ∙ first-mark n u l) e
+    by (other q) = done_new (mark_at (set (replicate n mark.New) u mark.Opened) v) m (mark-new n u v q) e
+
+only-opened : (n u v : ℕ) → u < n → mark_at (set (replicate n mark.New) u mark.Opened) v ≡ mark.Opened → u ≡ v
+only-opened n u v l e = by (same_or v u)
+  where
+    by : Same v u → u ≡ v
+    by (same q) = sym q
+    by (other q) = absurd (new_opened (mark_at (set (replicate n mark.New) u mark.Opened) v) (mark-new n u v q) e)
+
+Below-first : (g : List Node) (top : UnitId) → top.0 < length g → Below g top.0 (set (replicate (length g) mark.New) top.0 mark.Opened) (entered top) []
+Below-first g top l = record {
+  known = record {
+    long = length-set (replicate (length g) mark.New) top.0 mark.Opened ∙ length-replicate (length g) mark.New;
+    measure = λ u m e. absurd (none-done (length g) top.0 u m l e);
+    quiet = λ u d. absurd (none-done (length g) top.0 u d.0 l d.1);
+  };
+  opened = λ u e. inl (only-opened (length g) top.0 u l e);
+  marked = λ u i. marked u i;
+  distinct = ((λ h. h), tt);
+  here = fresh g (set (replicate (length g) mark.New) top.0 mark.Opened) top;
+  waits = refl;
+}
+  where
+    marked : (u : ℕ) → IsIn (top.0 ∷ []) u → mark_at (set (replicate (length g) mark.New) top.0 mark.Opened) u ≡ mark.Opened
+    marked u (inl e) = ap (mark_at (set (replicate (length g) mark.New) top.0 mark.Opened)) (sym e) ∙ first-mark (length g) top.0 l
+    marked u (inr h) = absurd h
+
+pub Searching-first : (g : List Node) (top : UnitId) (s : Search) → top.0 < length g → s.marks.items ≡ set (replicate (length g) mark.New) top.0 mark.Opened → s.stack.items ≡ entered top ∷ [] → Searching g top.0 s
+Searching-first g top s l e f = subst (λ ms. SearchingBy g top.0 ms (reverse s.stack.items)) (sym e) (subst (λ fs. SearchingBy g top.0 (set (replicate (length g) mark.New) top.0 mark.Opened) (reverse fs)) (sym f) (Below-first g top l))

@@ -1,5 +1,5 @@
 -- The refusals of a top unit of a module, with units by their ids.
-use Rattle.std.specs.Prelude.{◌≡◌, ℕ, ◌+◌, min, nat_lt, sum_by, List, Option, Some, None, Result, Ok, Err, if◌then◌else◌}
+use Rattle.std.specs.Prelude.{◌≡◌, ℕ, ◌+◌, min, nat_lt, sum_by, List, Option, Some, None, Result, Ok, Err, if◌then◌else◌, ◌⊎◌}
 use Rattle.lh_types.specs.Types.{bit_count}
 use Rattle.lh_unit.specs.Arena.{Arena, contents, unit_name_at, unit_text_at}
 use Rattle.lh_unit.specs.Hierarchy.{hierarchies, hierarchy_of}
@@ -8,7 +8,9 @@ use Rattle.lh_unit.specs.declared.inst.Arg.{Arg}
 use Rattle.lh_elab.specs.declared.fault.ElabFault.{ElabFault}
 use Rattle.lh_elab.specs.declared.fault.ElabFault.TheVariants as fault
 use Rattle.lh_elab.specs.declared.measure.Measure.{Measure}
-use Rattle.lh_elab.specs.Graph.{max_counted}
+use Rattle.lh_elab.specs.declared.graph.Node.{Node}
+use Rattle.lh_elab.specs.Graph.{max_counted, IsGraph}
+use Rattle.lh_elab.specs.Searches.{Measures}
 
 -- the bits of arguments
 abbrev pub arg_bits_of : List Arg → ℕ
@@ -44,3 +46,7 @@ abbrev pub Refuses : Arena → (top : ℕ) → Result ℕ ElabFault → Type 0
 Refuses a top (Ok bits) = (refusal_at a top ≡ None) × (bits_at a top ≡ bits)
 Refuses a top (Err fault.OutOfMemory) = Unit {0}
 Refuses a top (Err e) = refusal_at a top ≡ refusal_text a e
+
+-- the measure of the unit `top` in the graph of the module
+abbrev pub MeasuresIn : Arena → (top : ℕ) → Result Measure ElabFault → Type 0
+MeasuresIn a top r = ((g : List Node) × IsGraph a g × Measures g top r) ⊎ (r ≡ Err fault.OutOfMemory)

@@ -1,7 +1,9 @@
 //! The first reason why a top unit has no design. All is counted unit by unit, before anything is built.
 ghost use Rattle.std.specs.Prelude.{◌≡◌, ◌<◌, ◌+◌, ◌≤◌, min, IsSome, IfOk};
-ghost use Rattle.lh_unit.specs.Arena.{unit_count, kind_at};
-ghost use Rattle.lh_elab.specs.Refusals.{Refuses, arg_bits_of, limited};
+ghost use Rattle.lh_unit.specs.Arena.{IsArena, unit_count, kind_at};
+ghost use Rattle.lh_unit.specs.Named.{is_function};
+ghost use Rattle.lh_unit.specs.Naming.{kind_text};
+ghost use Rattle.lh_elab.specs.Refusals.{Refuses, MeasuresIn, arg_bits_of, limited};
 ghost use Rattle.lh_elab.specs.Graph.{max_counted};
 
 use crate::fault::ElabFault;
@@ -20,12 +22,32 @@ pub fn first_refusal(alloc: Global, module: &Module, top: UnitId) -> Result<u32,
     requires begun { IsSome (kind_at module.now top.0) }
     ensures { Refuses module.now top.0 result }
 {
-    if let Some(UnitKind::Func) = module.kind(top) {
+    if is_function(module.kind(top)) {
         return Err(ElabFault::TopIsFunction);
     }
-    let nodes = graph(alloc, module)?;
-    let measure = measure_of(alloc, nodes.as_slice(), top)?;
+    let measure = measured(alloc, module, top)?;
     limits(measure, arg_bits(module.args(top)))
+}
+
+/// Whether a unit of this kind is a function.
+fn is_function(kind: Option<UnitKind>) -> bool
+    requires { IsSome kind }
+    ensures { result ≡ is_function (kind_text kind) }
+{
+    match kind {
+        Some(UnitKind::Func) => true,
+        _ => false,
+    }
+}
+
+/// The measure of a unit of a module.
+fn measured(alloc: Global, module: &Module, top: UnitId) -> Result<Measure, ElabFault>
+    requires { top.0 < unit_count module.now }
+    ensures measure { MeasuresIn module.now top.0 result }
+    ensures sound { IsArena module.now }
+{
+    let nodes = graph(alloc, module)?;
+    measure_of(alloc, nodes.as_slice(), top)
 }
 
 /// How many bits the arguments of a unit have, or one more than are allowed where that is less.
