@@ -41,17 +41,17 @@ right_max a b k h = omega arith
 pub IsSum-beside : (g : List Node) (ts : List UnitId) (t : UnitId) (m n : Measure) → IsSum g ts m → IsMeasure g t.0 n → IsSum g (ts ++ t ∷ []) (beside m n)
 IsSum-beside g ts t m n o p = record {
   depth = λ k l.
-    list_any-append (λ (x : UnitId). nests k g x.0) ts (t ∷ [])
-    ∙ ap (λ b. list_any (λ (x : UnitId). nests k g x.0) ts || b) (or_false (nests k g t.0))
-    ∙ ap (λ b. b || nests k g t.0) (o.depth k l)
-    ∙ ap (λ b. nat_lt k m.depth || b) (p.depth k l)
-    ∙ below_max k m.depth n.depth;
+      list_any-append (λ (x : UnitId). nests k g x.0) ts (t ∷ [])
+      ∙ ap (λ b. list_any (λ (x : UnitId). nests k g x.0) ts || b) (or_false (nests k g t.0))
+      ∙ ap (λ b. b || nests k g t.0) (o.depth k l)
+      ∙ ap (λ b. nat_lt k m.depth || b) (p.depth k l)
+      ∙ below_max k m.depth n.depth;
   instances = λ k l d.
-    ap (λ x. min x instances_end) (sum_by_push (λ (x : UnitId). count_in k g x.0) ts t)
-    ∙ sum_capped (sum_by (λ (x : UnitId). count_in k g x.0) ts) (count_in k g t.0) instances_end m.instances n.instances (o.instances k l (left_max m.depth n.depth k d)) (p.instances k l (right_max m.depth n.depth k d));
+      ap (λ x. min x instances_end) (sum_by_push (λ (x : UnitId). count_in k g x.0) ts t)
+      ∙ sum_capped (sum_by (λ (x : UnitId). count_in k g x.0) ts) (count_in k g t.0) instances_end m.instances n.instances (o.instances k l (left_max m.depth n.depth k d)) (p.instances k l (right_max m.depth n.depth k d));
   bits = λ k l d.
-    ap (λ x. min x max_counted) (sum_by_push (λ (x : UnitId). bits_in k g x.0) ts t)
-    ∙ sum_capped (sum_by (λ (x : UnitId). bits_in k g x.0) ts) (bits_in k g t.0) max_counted m.bits n.bits (o.bits k l (left_max m.depth n.depth k d)) (p.bits k l (right_max m.depth n.depth k d));
+      ap (λ x. min x max_counted) (sum_by_push (λ (x : UnitId). bits_in k g x.0) ts t)
+      ∙ sum_capped (sum_by (λ (x : UnitId). bits_in k g x.0) ts) (bits_in k g t.0) max_counted m.bits n.bits (o.bits k l (left_max m.depth n.depth k d)) (p.bits k l (right_max m.depth n.depth k d));
 }
 
 first_below : (d e : ℕ) → 1 ≤ e → true ≡ nat_lt 0 (min (1 + d) e)

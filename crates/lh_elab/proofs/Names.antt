@@ -179,12 +179,12 @@ pub record Reads (f : Naming) (h : Hierarchy) (n : Node) : Type 0 where
 reads-entity : (f : Naming) (n : UnitName) (t : Table) → t.blocks ≡ entity_block ∷ [] → Reads f (hierarchy_by kind.Entity (table_text f n t)) (node_by (Some kind.Entity) t)
 reads-entity f n t e = record {
   targets_are =
-    ap (λ ls. map (λ (c : Child). c.unit) (children_of (static_held (table_text f n t) [] []) ls)) (entity-lines f t e)
-    ∙ children-names f (static_held (table_text f n t) [] []) t (insts_at t 0)
-    ∙ ap (map (λ (x : UnitId). f.unit_name x.0)) (sym (targets-from t no_node (insts_at t 0)));
+      ap (λ ls. map (λ (c : Child). c.unit) (children_of (static_held (table_text f n t) [] []) ls)) (entity-lines f t e)
+      ∙ children-names f (static_held (table_text f n t) [] []) t (insts_at t 0)
+      ∙ ap (map (λ (x : UnitId). f.unit_name x.0)) (sym (targets-from t no_node (insts_at t 0)));
   bits_are =
-    bits-from t no_node (insts_at t 0)
-    ∙ ap (λ b. min b max_counted) (zero_plus (sig_bits t (insts_at t 0)) ∙ sym (ap (λ ls. sum_by (λ (s : SignalText). bit_count s.ty) (signals_of (static_held (table_text f n t) [] []) ls)) (entity-lines f t e) ∙ signals-bits f (static_held (table_text f n t) [] []) t (insts_at t 0)));
+      bits-from t no_node (insts_at t 0)
+      ∙ ap (λ b. min b max_counted) (zero_plus (sig_bits t (insts_at t 0)) ∙ sym (ap (λ ls. sum_by (λ (s : SignalText). bit_count s.ty) (signals_of (static_held (table_text f n t) [] []) ls)) (entity-lines f t e) ∙ signals-bits f (static_held (table_text f n t) [] []) t (insts_at t 0)));
 }
   where
     zero_plus : (b : ℕ) → 0 + b ≡ b

@@ -102,8 +102,8 @@ Answers a r bits (Err e) = r ≡ refusal_text a e
 limits-third : (a : Arena) (m : Measure) (args bits : ℕ) (z : Bool) → min bits max_counted ≡ m.bits → nat_lt 16777216 (min (min args max_counted + m.bits) max_counted) ≡ z → Answers a (refusal_by false None false false (nat_lt max_bits (args + bits))) (args + bits) (if z then Err fault.TooManyBits else Ok (min (min args max_counted + m.bits) max_counted))
 limits-third a m args bits true h e = ap (refusal_by false None false false) (lt_capped 16777216 max_counted (args + bits) (min (min args max_counted + m.bits) max_counted) refl (sum_capped args bits max_counted m.bits h) ∙ e)
 limits-third a m args bits false h e = (
-    ap (refusal_by false None false false) (lt_capped 16777216 max_counted (args + bits) (min (min args max_counted + m.bits) max_counted) refl (sum_capped args bits max_counted m.bits h) ∙ e),
-    below_end 16777216 max_counted (args + bits) (min (min args max_counted + m.bits) max_counted) refl (sum_capped args bits max_counted m.bits h) (le_from 16777216 (min (min args max_counted + m.bits) max_counted) e)
+  ap (refusal_by false None false false) (lt_capped 16777216 max_counted (args + bits) (min (min args max_counted + m.bits) max_counted) refl (sum_capped args bits max_counted m.bits h) ∙ e),
+  below_end 16777216 max_counted (args + bits) (min (min args max_counted + m.bits) max_counted) refl (sum_capped args bits max_counted m.bits h) (le_from 16777216 (min (min args max_counted + m.bits) max_counted) e),
 )
 
 limits-second : (a : Arena) (m : Measure) (args count bits : ℕ) (y : Bool) → min count instances_end ≡ m.instances → min bits max_counted ≡ m.bits → nat_lt 65536 m.instances ≡ y → Answers a (refusal_by false None false (nat_lt max_instances count) (nat_lt max_bits (args + bits))) (args + bits) (if y then Err fault.TooManyInstances else (if nat_lt 16777216 (min (min args max_counted + m.bits) max_counted) then Err fault.TooManyBits else Ok (min (min args max_counted + m.bits) max_counted)))
@@ -162,8 +162,8 @@ Refuses-measured a top (fault.InstCycle v) o l e (inl (g, q, s)) =
     let lg : top < length g = subst (λ n. top < n) (sym q.long) l in
     let n : length (hierarchies (contents a)) ≡ length (defined a) = sym (length-defined a) in
     let c = cycle-named (length (hierarchies (contents a))) (hierarchies (contents a)) (unit_name_at a) g [] top w tt lg
-      ∙ ap (λ k. option_map (unit_name_at a) (cycle_in k g [] top)) n
-      ∙ ap (option_map (unit_name_at a)) (s (defined a) (has-busy a g o q)) in
+    ∙ ap (λ k. option_map (unit_name_at a) (cycle_in k g [] top)) n
+    ∙ ap (option_map (unit_name_at a)) (s (defined a) (has-busy a g o q)) in
     asked-is a top (Some (unit_name_at a v.0)) (nests_deeper max_nesting (hierarchies (contents a)) (unit_name_at a top)) (instance_count max_nesting (hierarchies (contents a)) (unit_name_at a top)) (bits_below max_nesting (hierarchies (contents a)) (unit_name_at a top)) e record { cycle_is = c; deep_is = refl; count_is = refl; bits_is = refl }
 Refuses-measured a top (fault.InstCycle v) o l e (inr q) = cc
 Refuses-measured a top fault.TopIsFunction o l e (inl (g, q, s)) = absurd s

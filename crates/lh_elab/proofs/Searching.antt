@@ -139,9 +139,11 @@ Below-enter g top marks f rest t o e n l = record {
   where
     keeps : Keeps marks (set marks t.0 mark.Opened)
     keeps = Keeps-set marks t.0 mark.Opened (λ m q. done_new (mark_at marks t.0) m n q)
+
     opens : (u : ℕ) → mark_at (set marks t.0 mark.Opened) u ≡ mark.Opened → Same u t.0 → IsIn (units (entered t ∷ f ∷ rest)) u
     opens u q (same z) = inl (sym z)
     opens u q (other z) = inr (o.opened u (sym (mark-other marks t.0 u mark.Opened z) ∙ q))
+
     marks_of : (u : ℕ) → IsIn (units (entered t ∷ f ∷ rest)) u → mark_at (set marks t.0 mark.Opened) u ≡ mark.Opened
     marks_of u (inl z) = ap (mark_at (set marks t.0 mark.Opened)) (sym z) ∙ mark-same marks t.0 mark.Opened l
     marks_of u (inr i) = mark-other marks t.0 u mark.Opened (λ z. new_opened (mark_at marks t.0) n (ap (mark_at marks) (sym z) ∙ o.marked u i)) ∙ o.marked u i
@@ -210,9 +212,11 @@ Known-finish g marks u m o n l done is = record {
   where
     keeps : Keeps marks (set marks u (mark.Done m))
     keeps = Keeps-set marks u (mark.Done m) (λ x e. done_opened (mark_at marks u) x n e)
+
     measures : (v : ℕ) (x : Measure) → mark_at (set marks u (mark.Done m)) v ≡ mark.Done x → Same v u → IsMeasure g v x
     measures v x e (same q) = let p : m ≡ x = same_done m x (sym (mark-same marks u (mark.Done m) l) ∙ ap (mark_at (set marks u (mark.Done m))) (sym q) ∙ e) in subst (λ y. IsMeasure g y x) (sym q) (subst (IsMeasure g u) p is)
     measures v x e (other q) = o.measure v x (sym (mark-other marks u v (mark.Done m) q) ∙ e)
+
     quiets : (v : ℕ) → IsDone (set marks u (mark.Done m)) v → Same v u → IsQuiet g (set marks u (mark.Done m)) v
     quiets v d (same q) = subst (IsQuiet g (set marks u (mark.Done m))) (sym q) (quiet-all g marks (set marks u (mark.Done m)) u o n keeps done)
     quiets v d (other q) = IsQuiet-keeps g marks (set marks u (mark.Done m)) v keeps (o.quiet v (d.0, sym (mark-other marks u v (mark.Done m) q) ∙ d.1))
@@ -225,19 +229,25 @@ Below-finish g top marks f rest o e = by rest o
   where
     opened : (rest : List Frame) → Below g top marks f rest → mark_at marks f.unit.0 ≡ mark.Opened
     opened rest o = o.marked f.unit.0 (inl refl)
+
     all : take f.next (targets_at g f.unit.0) ≡ targets_at g f.unit.0
     all = taken_all (targets_at g f.unit.0) f.next e
+
     known : (rest : List Frame) → Below g top marks f rest → Known g (set marks f.unit.0 (mark.Done (around f.inside (node_at g f.unit.0).bits)))
     known rest o = Known-finish g marks f.unit.0 (around f.inside (node_at g f.unit.0).bits) o.known (opened rest o) (mark-within marks f.unit.0 (opened rest o))
-      (subst (Each (λ (t : UnitId). IsDone marks t.0)) all o.here.left)
-      (IsMeasure-around g f.unit.0 f.inside (subst (λ l. IsSum g l f.inside) all o.here.inside))
+        (subst (Each (λ (t : UnitId). IsDone marks t.0)) all o.here.left)
+        (IsMeasure-around g f.unit.0 f.inside (subst (λ l. IsSum g l f.inside) all o.here.inside))
+
     keeps : (rest : List Frame) → Below g top marks f rest → Keeps marks (set marks f.unit.0 (mark.Done (around f.inside (node_at g f.unit.0).bits)))
     keeps rest o = Keeps-set marks f.unit.0 (mark.Done (around f.inside (node_at g f.unit.0).bits)) (λ x q. done_opened (mark_at marks f.unit.0) x (opened rest o) q)
+
     here : (rest : List Frame) → Below g top marks f rest → mark_at (set marks f.unit.0 (mark.Done (around f.inside (node_at g f.unit.0).bits))) f.unit.0 ≡ mark.Done (around f.inside (node_at g f.unit.0).bits)
     here rest o = mark-same marks f.unit.0 (mark.Done (around f.inside (node_at g f.unit.0).bits)) (mark-within marks f.unit.0 (opened rest o))
+
     opens : (p : Frame) (rest : List Frame) → Below g top marks f (p ∷ rest) → (u : ℕ) → mark_at (set marks f.unit.0 (mark.Done (around f.inside (node_at g f.unit.0).bits))) u ≡ mark.Opened → Same u f.unit.0 → IsIn (units (p ∷ rest)) u
     opens p rest o u q (same z) = absurd (done_opened (mark_at (set marks f.unit.0 (mark.Done (around f.inside (node_at g f.unit.0).bits))) u) (around f.inside (node_at g f.unit.0).bits) q (ap (mark_at (set marks f.unit.0 (mark.Done (around f.inside (node_at g f.unit.0).bits)))) z ∙ here (p ∷ rest) o))
     opens p rest o u q (other z) = elim (o.opened u (sym (mark-other marks f.unit.0 u (mark.Done (around f.inside (node_at g f.unit.0).bits)) z) ∙ q)) [ inl k ↦ absurd (z (sym k)) | inr i ↦ i ]
+
     by : (rest : List Frame) → Below g top marks f rest → SearchingBy g top (set marks f.unit.0 (mark.Done (around f.inside (node_at g f.unit.0).bits))) rest
     by [] o = record { known = known [] o; top_done = (around f.inside (node_at g f.unit.0).bits, ap (mark_at (set marks f.unit.0 (mark.Done (around f.inside (node_at g f.unit.0).bits)))) (sym o.waits) ∙ here [] o) }
     by (p ∷ rest) o = record {
@@ -293,6 +303,7 @@ Below-cycle g top marks f rest t us o e q b =
     all_in : (v : ℕ) → IsIn (units (f ∷ rest)) v → IsIn us v
     all_in v (inl z) = subst (IsIn us) z (b f.unit.0 f.next t e)
     all_in v (inr i) = busy-rest g marks top us f.unit rest b o.waits v i
+
     long : suc (length rest) ≤ length us
     long = subst (λ n. n ≤ length us) (length-units (f ∷ rest)) (no_longer (units (f ∷ rest)) us o.distinct all_in)
 

@@ -9,3 +9,6 @@ mod search;
 
 pub use crate::fault::ElabFault;
 pub use crate::refusal::first_refusal;
+
+#[cfg(test)]
+mod tests;
