@@ -1,5 +1,5 @@
 -- Counts and cycles over names are those over ids.
-use Rattle.std.proofs.Common.{◌≡◌, ℕ, zero, suc, ◌+◌, ◌<◌, ◌≤◌, inl, inr, min, Bool, true, false, ◌||◌, nat_eq, nat_lt, List, [], ◌∷◌, ◌++◌, length, map, sum_by, Option, Some, None, is_some, refl, ap, sym, ◌∙◌, subst, arith}
+use Rattle.std.proofs.Common.{◌≡◌, ℕ, zero, suc, ◌+◌, ◌<◌, ◌≤◌, inl, inr, min, Bool, true, false, ◌||◌, nat_eq, List, [], ◌∷◌, length, map, sum_by, Option, Some, None, is_some, refl, ap, sym, ◌∙◌, subst, arith}
 use Rattle.std.specs.Option.{option_map}
 use Rattle.std.proofs.lemmas.Bool.{cases_lt}
 use Rattle.std.proofs.lemmas.List.{get_or_past}
@@ -17,13 +17,12 @@ use Rattle.lh_unit.specs.Arena.{Arena, IsArena, contents, item_text_at, unit_cou
 use Rattle.lh_unit.specs.Hierarchy.{SignalText, Entry, hierarchies}
 use Rattle.lh_unit.specs.Design.{hierarchy_in, targets, is_one_of, first_some, cycle_at, cycle_from, nests_deeper, instance_count, bits_below}
 use Rattle.lh_unit.specs.declared.inst.UnitKind.{UnitKind}
-use Rattle.lh_unit.specs.declared.inst.UnitKind.TheVariants as kind
 use Rattle.lh_unit.proofs.ById.{same_unit-by_id}
 use Rattle.lh_elab.specs.declared.graph.Node.{Node}
-use Rattle.lh_elab.specs.Graph.{max_counted, no_node, node_at, node_of, node_by, targets_at, IsGraph}
+use Rattle.lh_elab.specs.Graph.{max_counted, no_node, node_at, node_by, targets_at, IsGraph}
 use Rattle.lh_elab.specs.Measures.{nests, count_in, bits_in, cycle_in, met_or, is_open}
 use Rattle.lh_elab.specs.Searches.{NodesWithin, IsIn, HasBusy}
-use Rattle.lh_elab.proofs.Names.{Reads, reads-unit}
+use Rattle.lh_elab.proofs.Names.{reads-unit}
 
 -- a graph by ids stands for these entries, where ids have these names
 pub record StandsFor (table : List Entry) (name : ℕ → UnitName) (g : List Node) : Type 0 where

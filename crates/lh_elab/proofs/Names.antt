@@ -1,11 +1,10 @@
 -- Units by their names and by their ids: what elaboration reads of a module, and its graph.
-use Rattle.std.proofs.Common.{◌≡◌, ℕ, zero, suc, ◌+◌, ◌<◌, ◌≤◌, min, Bool, true, false, ◌||◌, if◌then◌else◌, List, [], ◌∷◌, ◌++◌, length, map, sum_by, Option, Some, None, is_some, refl, ap, sym, ◌∙◌, subst, arith}
+use Rattle.std.proofs.Common.{◌≡◌, ℕ, ◌+◌, ◌<◌, min, Bool, true, false, if◌then◌else◌, List, [], ◌∷◌, ◌++◌, map, sum_by, Option, Some, None, is_some, refl, ap, sym, ◌∙◌, subst, arith}
 use Rattle.std.specs.Option.{option_map, option_map_or}
 use Rattle.lh_types.specs.Bits.{value_bits}
 use Rattle.std.proofs.lemmas.List.{append-nil, append_assoc}
 use Rattle.std.proofs.lemmas.List.Sums.{sum_by-cons}
-use Rattle.lh_types.specs.Types.{TypeTree, bit_count}
-use Rattle.lh_types.specs.declared.part.Range.{Range}
+use Rattle.lh_types.specs.Types.{bit_count}
 use Rattle.lh_unit.specs.declared.name.UnitName.{UnitName}
 use Rattle.lh_unit.specs.declared.inst.UnitId.{UnitId}
 use Rattle.lh_unit.specs.declared.inst.InstId.{InstId}
@@ -15,14 +14,14 @@ use Rattle.lh_unit.specs.declared.inst.Inst.{Inst}
 use Rattle.lh_unit.specs.declared.inst.Inst.TheVariants as inst
 use Rattle.lh_unit.specs.UnitNames.{same_unit_name}
 use Rattle.lh_unit.specs.Named.{unit_named, label_or}
-use Rattle.lh_unit.specs.Contents.{LineText, BlockText, UnitText, ItemText, unit_text, declare_text}
+use Rattle.lh_unit.specs.Contents.{LineText, UnitText, ItemText, unit_text, declare_text}
 use Rattle.lh_unit.specs.Naming.{Naming, kind_text, block_text, table_text}
-use Rattle.lh_unit.specs.Table.{Table, entity_block, line_at, insts_at, IsTable}
-use Rattle.lh_unit.specs.Arena.{Arena, IsArena, contents, naming, kind_at, table_at, blocks_at, unit_count, unit_name_at, unit_text_at}
+use Rattle.lh_unit.specs.Table.{Table, entity_block, line_at, insts_at}
+use Rattle.lh_unit.specs.Arena.{Arena, IsArena, contents, naming, kind_at, table_at, unit_count, unit_name_at, unit_text_at}
 use Rattle.lh_unit.specs.ById.{inst_line}
 use Rattle.lh_unit.specs.Held.{Env, datum_at}
 use Rattle.lh_unit.specs.Hierarchy.{lines_of, zeros, type_or_void, SignalText, signals_of, Child, children_of, static_held, Hierarchy, hierarchy_by, hierarchy_of, Entry, hierarchies, hierarchy_named}
-use Rattle.lh_unit.specs.Design.{no_hierarchy, hierarchy_or, hierarchy_in, targets}
+use Rattle.lh_unit.specs.Design.{hierarchy_or, hierarchy_in, targets}
 use Rattle.lh_unit.proofs.ById.{unit_named-by_id}
 use Rattle.lh_elab.specs.declared.graph.Node.{Node}
 use Rattle.lh_elab.specs.Graph.{max_counted, no_node, node_after, node_from, node_by, node_of}

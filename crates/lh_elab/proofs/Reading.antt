@@ -1,11 +1,11 @@
 -- The graph of a module: its units are in it, and so is each unit that is instantiated.
-use Rattle.std.proofs.Common.{◌≡◌, ℕ, ◌+◌, ◌<◌, ◌≤◌, ◌⊎◌, inl, inr, List, [], ◌∷◌, ◌++◌, length, get_or, drop, Option, Some, None, refl, ap, sym, ◌∙◌, subst, arith, add-one}
+use Rattle.std.proofs.Common.{◌≡◌, ℕ, ◌+◌, ◌<◌, inl, inr, List, [], ◌∷◌, ◌++◌, length, get_or, drop, Option, Some, None, refl, ap, sym, ◌∙◌, subst, arith, add-one}
 use Rattle.std.proofs.Math.Seq.{drop-cons}
 use Rattle.std.proofs.lemmas.List.{get_or_past, get_or_append_left, get_or_push, length-append}
 use Rattle.std.specs.List.{slice_get}
 use Rattle.std.proofs.lemmas.Option.{slice_get-get_or}
 use Rattle.std.proofs.lemmas.Bool.{cases_lt}
-use Rattle.lh_unit.specs.Within.{Each, InstWithin}
+use Rattle.lh_unit.specs.Within.{Each}
 use Rattle.lh_unit.specs.Table.{Table, FitsKind, entity_block, line_at, insts_at, no_line}
 use Rattle.lh_unit.specs.Arena.{Arena, IsArena, InstPlaced, table_at, kind_at, blocks_at, block_count, block_insts_at, inst_count, unit_count}
 use Rattle.lh_unit.specs.declared.inst.UnitId.{UnitId}

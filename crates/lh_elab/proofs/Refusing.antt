@@ -1,5 +1,5 @@
 -- The refusals of the definition are those that the measures tell.
-use Rattle.std.proofs.Common.{◌≡◌, ℕ, suc, ◌+◌, ◌<◌, ◌≤◌, ◌⊎◌, inl, inr, min, Bool, true, false, nat_lt, if◌then◌else◌, List, [], ◌∷◌, length, map, sum_by, Option, Some, None, IsSome, is_some, Result, Ok, Err, refl, ap, sym, ◌∙◌, subst, arith}
+use Rattle.std.proofs.Common.{◌≡◌, ℕ, suc, ◌+◌, ◌<◌, ◌≤◌, inl, inr, min, Bool, true, false, nat_lt, if◌then◌else◌, List, [], ◌∷◌, length, map, Option, Some, None, Result, Ok, Err, refl, ap, sym, ◌∙◌, subst, arith}
 use Rattle.std.specs.Option.{option_map}
 use Rattle.std.proofs.lemmas.Grind.{common_steps}
 use Rattle.std.proofs.lemmas.List.Sums.{sum_by-cons}
@@ -12,15 +12,14 @@ use Rattle.lh_unit.specs.Contents.{ArgText, UnitText}
 use Rattle.lh_unit.specs.Named.{is_function}
 use Rattle.lh_unit.specs.Naming.{Naming, arg_text, kind_text}
 use Rattle.lh_unit.specs.Arena.{Arena, IsArena, contents, unit_count, unit_name_at, unit_text_at, kind_at, args_at, naming}
-use Rattle.lh_unit.specs.Hierarchy.{Hierarchy, hierarchy_by, hierarchy_of, Entry, hierarchies}
-use Rattle.lh_unit.specs.Design.{Refusal, top_is_function, inst_cycle, too_deep, too_many_instances, too_many_bits, refusal_by, refusal_of, arg_bits, cycle_from, nests_deeper, instance_count, bits_below, max_nesting, max_instances, max_bits}
+use Rattle.lh_unit.specs.Hierarchy.{hierarchy_by, hierarchy_of, hierarchies}
+use Rattle.lh_unit.specs.Design.{Refusal, top_is_function, refusal_by, refusal_of, arg_bits, cycle_from, nests_deeper, instance_count, bits_below, max_nesting, max_instances, max_bits}
 use Rattle.lh_elab.specs.declared.fault.ElabFault.{ElabFault}
 use Rattle.lh_elab.specs.declared.fault.ElabFault.TheVariants as fault
 use Rattle.lh_elab.specs.declared.graph.Node.{Node}
 use Rattle.lh_elab.specs.declared.measure.Measure.{Measure}
-use Rattle.lh_elab.specs.Graph.{max_counted, IsGraph}
-use Rattle.lh_elab.specs.Measures.{depth_end, instances_end, IsMeasure, cycle_in, nests, count_in, bits_in}
-use Rattle.lh_elab.specs.Searches.{Measures}
+use Rattle.lh_elab.specs.Graph.{max_counted}
+use Rattle.lh_elab.specs.Measures.{depth_end, instances_end, IsMeasure, cycle_in}
 use Rattle.lh_elab.specs.Refusals.{arg_bits_of, limited, refusal_text, refusal_at, bits_at, Refuses, MeasuresIn}
 use Rattle.lh_elab.proofs.Reading.{graph-within}
 use Rattle.lh_elab.proofs.Counting.{StandsFor, stands, nests-named, count-named, bits-named, cycle-named, defined, length-defined, has-busy}

@@ -1,7 +1,7 @@
 -- The search keeps what is known of the units that it has left, and the way to the open unit; at its end the measure of the top is known.
-use Rattle.std.proofs.Common.{◌≡◌, ◌≢◌, ℕ, zero, suc, ◌+◌, ◌-◌, ◌<◌, ◌≤◌, ◌⊎◌, inl, inr, Bool, true, false, List, [], ◌∷◌, ◌++◌, length, map, take, get_or, set, replicate, reverse, Option, Some, None, refl, ap, sym, ◌∙◌, subst, arith}
+use Rattle.std.proofs.Common.{◌≡◌, ℕ, zero, suc, ◌+◌, ◌-◌, ◌<◌, ◌≤◌, inl, inr, List, [], ◌∷◌, ◌++◌, length, map, take, set, replicate, reverse, Some, None, refl, ap, sym, ◌∙◌, subst, arith}
 use Rattle.std.specs.List.{slice_get}
-use Rattle.std.proofs.lemmas.Bool.{cases_eq, cases_lt}
+use Rattle.std.proofs.lemmas.Bool.{cases_lt}
 use Rattle.std.proofs.lemmas.List.{length-set, length-replicate, get_or-set_same, get_or-set_other, get_or-replicate, get_or_past}
 use Rattle.lh_unit.specs.Within.{Each}
 use Rattle.lh_unit.specs.declared.inst.UnitId.{UnitId}
@@ -12,10 +12,10 @@ use Rattle.lh_elab.specs.declared.search.Mark.{Mark}
 use Rattle.lh_elab.specs.declared.search.Mark.TheVariants as mark
 use Rattle.lh_elab.specs.declared.search.Frame.{Frame}
 use Rattle.lh_elab.specs.declared.search.Search.{Search}
-use Rattle.lh_elab.specs.Graph.{node_at, targets_at, no_node}
-use Rattle.lh_elab.specs.Measures.{around, nothing, IsMeasure, cycle_in, met_or, is_open}
-use Rattle.lh_elab.specs.Searches.{mark_at, entered, passed, IsIn, HasBusy, NodesWithin}
-use Rattle.lh_elab.proofs.Lists.{Distinct, not_open, is_open-in, first-none, first-at, Each-weaker, Each-get, no_longer}
+use Rattle.lh_elab.specs.Graph.{node_at, targets_at}
+use Rattle.lh_elab.specs.Measures.{around, IsMeasure, cycle_in, met_or, is_open}
+use Rattle.lh_elab.specs.Searches.{mark_at, entered, passed, IsIn, HasBusy}
+use Rattle.lh_elab.proofs.Lists.{Distinct, not_open, is_open-in, first-none, first-at, Each-weaker, no_longer}
 use Rattle.lh_elab.proofs.Measuring.{IsSum, IsSum-none, IsSum-beside, IsMeasure-around}
 
 -- the search has left the unit u

@@ -1,10 +1,9 @@
 -- One step of the search keeps what is known, and brings the search nearer to its end.
-use Rattle.std.proofs.Common.{◌≡◌, ℕ, zero, suc, ◌+◌, ◌-◌, ◌<◌, ◌≤◌, inl, List, [], ◌∷◌, ◌++◌, length, set, reverse, sum_by, Option, Some, None, Result, Ok, Err, refl, ap, sym, ◌∙◌, subst, arith}
+use Rattle.std.proofs.Common.{◌≡◌, ℕ, zero, suc, ◌+◌, ◌-◌, ◌<◌, inl, List, [], ◌∷◌, ◌++◌, length, set, reverse, sum_by, Option, Some, None, Ok, Err, refl, ap, sym, ◌∙◌, subst, arith}
 use Rattle.std.specs.List.{slice_get}
 use Rattle.std.proofs.lemmas.List.{reverse-append}
 use Rattle.std.proofs.lemmas.List.Sums.{sum_by_push}
 use Rattle.std.proofs.lemmas.Option.{slice_get_within}
-use Rattle.lh_unit.specs.Within.{Each}
 use Rattle.lh_unit.specs.declared.inst.UnitId.{UnitId}
 use Rattle.lh_elab.specs.declared.fault.ElabFault.{ElabFault}
 use Rattle.lh_elab.specs.declared.fault.ElabFault.TheVariants as fault
@@ -15,10 +14,10 @@ use Rattle.lh_elab.specs.declared.search.Mark.TheVariants as mark
 use Rattle.lh_elab.specs.declared.search.Frame.{Frame}
 use Rattle.lh_elab.specs.declared.search.Search.{Search}
 use Rattle.lh_elab.specs.Graph.{node_at, targets_at}
-use Rattle.lh_elab.specs.Measures.{around, cycle_in, IsMeasure}
-use Rattle.lh_elab.specs.Searches.{mark_at, entered, passed, NodesWithin, Steps, StepsBy, StepsTo, HasBusy, Measures}
+use Rattle.lh_elab.specs.Measures.{around}
+use Rattle.lh_elab.specs.Searches.{mark_at, entered, passed, NodesWithin, Steps, StepsBy, StepsTo, Measures}
 use Rattle.lh_elab.proofs.Lists.{Each-get}
-use Rattle.lh_elab.proofs.Searching.{Below, Over, IsDone, SearchingBy, Searching, Known, Below-enter, Below-pass, Below-finish, Below-cycle, mark-within}
+use Rattle.lh_elab.proofs.Searching.{Below, Over, IsDone, SearchingBy, Searching, Below-enter, Below-pass, Below-finish, Below-cycle, mark-within}
 
 -- a frame was taken from the stack
 pub record Takes (f : Frame) (s t : Search) : Type 0 where

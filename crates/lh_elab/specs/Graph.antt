@@ -1,5 +1,5 @@
 -- The units of a module as a graph, by their ids: the bits of a unit's signals, and the units that it instantiates.
-use Rattle.std.specs.Prelude.{◌≡◌, ℕ, ◌+◌, ◌<◌, min, List, [], ◌∷◌, ◌++◌, length, Option, Some, None, slice_index_or}
+use Rattle.std.specs.Prelude.{◌≡◌, ℕ, ◌+◌, ◌<◌, min, List, [], ◌∷◌, ◌++◌, length, Option, Some, slice_index_or}
 use Rattle.lh_types.specs.Types.{bit_count}
 use Rattle.lh_unit.specs.Hierarchy.{type_or_void}
 use Rattle.lh_unit.specs.Table.{Table, line_at, insts_at}

@@ -1,5 +1,5 @@
 -- What is counted of instances, over a graph of units: how deep they nest, how many there are, how many bits they have.
-use Rattle.std.specs.Prelude.{◌≡◌, ℕ, zero, suc, ◌+◌, ◌≤◌, min, max, nat_lt, nat_eq, List, [], ◌∷◌, Bool, true, false, sum_by, Option, Some, None}
+use Rattle.std.specs.Prelude.{◌≡◌, ℕ, zero, suc, ◌+◌, ◌≤◌, min, max, nat_lt, nat_eq, List, ◌∷◌, Bool, true, false, sum_by, Option, Some, None}
 use Rattle.std.specs.List.{list_any}
 use Rattle.lh_unit.specs.Design.{first_some}
 use Rattle.lh_unit.specs.declared.inst.UnitId.{UnitId}

@@ -1,4 +1,3 @@
-use Rattle.std.proofs.Common.{sym}
 use Rattle.lh_elab.proofs.Reading.{entity-insts, each-at}
 use Rattle.lh_unit.specs.Arena.{inst_count}
 use Rattle.lh_elab.proofs.graph.entity_node.Goals as goal

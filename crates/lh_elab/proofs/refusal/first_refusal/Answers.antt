@@ -1,4 +1,4 @@
-use Rattle.std.proofs.Common.{◌≡◌, true, false, min, ap, sym, ◌∙◌}
+use Rattle.std.proofs.Common.{min, ap, sym, ◌∙◌}
 use Rattle.std.proofs.lemmas.Result.{err_from_is_err_and}
 use Rattle.lh_unit.specs.Named.{is_function}
 use Rattle.lh_unit.specs.Naming.{kind_text}

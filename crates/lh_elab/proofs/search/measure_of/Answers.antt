@@ -1,6 +1,6 @@
 use Rattle.std.proofs.lemmas.Result.{err_from_is_err_and}
 use Rattle.lh_elab.proofs.Searching.{Searching-first}
-use Rattle.lh_elab.proofs.Stepping.{Takes, Searching-next, Searching-stop, left-falls}
+use Rattle.lh_elab.proofs.Stepping.{Searching-next, Searching-stop, left-falls}
 use Rattle.std.proofs.Common.{refl}
 use Rattle.lh_elab.proofs.search.measure_of.Goals as goal
 
