@@ -1,0 +1,4 @@
+pub mod Graph
+pub mod Measures
+pub mod Searches
+pub mod Refusals

@@ -1,0 +1,122 @@
+//! The units of a module as a graph: of each unit the bits of its signals, and the units that it instantiates.
+ghost use Rattle.std.specs.Prelude.{◌≡◌, ◌<◌, ◌+◌, ◌++◌, ◌∷◌, [], min, IfOk, OnOk, Some};
+ghost use Rattle.lh_types.specs.Types.{bit_count};
+ghost use Rattle.lh_unit.specs.Arena.{IsArena, unit_count, kind_at};
+ghost use Rattle.lh_unit.specs.Hierarchy.{type_or_void};
+ghost use Rattle.lh_elab.specs.Graph.{no_node, node_after, node_of, IsGraph, max_counted};
+
+use lh_types::list::ListOf;
+use lh_types::ty::{NoMemory, Ty, TyKind, bits};
+use lh_unit::inst::{BlockId, Inst, UnitId, UnitKind};
+use lh_unit::module::Module;
+use std::alloc::Global;
+
+/// What is counted of a unit. Only an entity has signals, and only in an entity are instances.
+#[derive(Drop)]
+pub struct Node {
+    /// The bits of its own signals; the number stands still at one more than are allowed.
+    pub bits: u32,
+    /// The units that its `inst` instructions name, in text order.
+    pub targets: ListOf<UnitId>,
+}
+
+/// The units of a module by their ids.
+pub fn graph(alloc: Global, module: &Module) -> Result<Vec<Node>, NoMemory>
+    ensures graph { IfOk result (λ nodes. IsGraph module.now nodes.items) }
+    ensures sound { IsArena module.now }
+{
+    let mut nodes = Vec::new(alloc);
+    for unit in 0..module.units() {
+        put_node(&mut nodes, unit_node(alloc, module, UnitId(unit))?)?;
+    }
+    Ok(nodes)
+}
+
+fn put_node(nodes: &mut Vec<Node>, node: Node) -> Result<(), NoMemory>
+    ensures { OnOk result (nodes.new.items ≡ nodes.old.items ++ node ∷ []) }
+{
+    match nodes.push(node) {
+        Ok(()) => Ok(()),
+        Err(_) => Err(NoMemory),
+    }
+}
+
+/// What is counted of a unit.
+fn unit_node(alloc: Global, module: &Module, unit: UnitId) -> Result<Node, NoMemory>
+    requires { unit.0 < unit_count module.now }
+    ensures { IfOk result (λ node. node ≡ node_of module.now unit.0) }
+{
+    match module.kind(unit) {
+        Some(UnitKind::Entity) => entity_node(alloc, module, unit),
+        _ => Ok(Node::new(alloc)),
+    }
+}
+
+fn entity_node(alloc: Global, module: &Module, unit: UnitId) -> Result<Node, NoMemory>
+    requires unit { unit.0 < unit_count module.now }
+    requires entity { kind_at module.now unit.0 ≡ Some UnitKind.Entity }
+    requires sound { IsArena module.now }
+    ensures { IfOk result (λ node. node ≡ node_of module.now unit.0) }
+{
+    let mut node = Node::new(alloc);
+    for inst in module.insts(unit, BlockId(0)) {
+        node.take(module.inst(unit, *inst))?;
+    }
+    Ok(node)
+}
+
+impl Node {
+    fn new(alloc: Global) -> Node
+        ensures { result ≡ no_node }
+    {
+        Node {
+            bits: 0,
+            targets: ListOf::new(alloc),
+        }
+    }
+
+    /// Takes one more instruction into account.
+    fn take(&mut self, inst: &Inst) -> Result<(), NoMemory>
+        ensures { OnOk result (self.new ≡ node_after self.old inst.now) }
+    {
+        match inst {
+            Inst::Sig(typed) => {
+                self.bits = counted(self.bits, width(&typed.ty));
+                Ok(())
+            }
+            Inst::Child { unit, .. } => self.targets.push(*unit),
+            _ => Ok(()),
+        }
+    }
+}
+
+/// The sum of two numbers of bits, or one more than are allowed where that is less.
+pub fn counted(bits: u32, more: u32) -> u32
+    ensures { result ≡ min (bits + more) max_counted }
+{
+    bits.saturating_add(more).min(MAX_BITS + 1)
+}
+
+/// How many bits the signals of a design have at most.
+pub const MAX_BITS: u32 = 16_777_216;
+
+/// How many bits a signal of a written type has.
+pub fn width(ty: &Option<Ty>) -> u32
+    ensures { result ≡ bit_count (type_or_void ty.now) }
+{
+    match ty {
+        Some(ty) => width_of(ty),
+        None => 0,
+    }
+}
+
+/// How many bits a value of a type has, or what a signal of it carries; none has what carries no bits.
+pub fn width_of(ty: &Ty) -> u32
+    ensures { result ≡ bit_count ty.now }
+{
+    match ty.kind() {
+        TyKind::Signal(of) => bits(of),
+        TyKind::Time | TyKind::Void | TyKind::Pointer(_) => 0,
+        _ => bits(ty),
+    }
+}

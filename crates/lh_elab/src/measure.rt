@@ -1,0 +1,65 @@
+//! How deep instances nest, how many there are, and how many bits their signals have.
+ghost use Rattle.std.specs.Prelude.{◌≡◌, ◌+◌, min};
+ghost use Rattle.lh_elab.specs.Measures.{nothing, beside, around};
+
+use crate::graph::counted;
+
+/// How many instances may nest, the top counted.
+pub const MAX_NESTING: u32 = 64;
+
+/// How many instances there may be.
+pub const MAX_INSTANCES: u32 = 65_536;
+
+/// What is counted of an instance and all in it, or of instances beside each other. Each number stands still at one more
+/// than is allowed.
+#[derive(Clone, Copy, Debug)]
+pub struct Measure {
+    /// How many nest.
+    pub depth: u32,
+    /// How many there are.
+    pub instances: u32,
+    /// How many bits their signals have.
+    pub bits: u32,
+}
+
+impl Measure {
+    /// No instance.
+    pub fn nothing() -> Measure
+        ensures { result ≡ nothing }
+    {
+        Measure {
+            depth: 0,
+            instances: 0,
+            bits: 0,
+        }
+    }
+
+    /// These instances, and others beside them.
+    pub fn beside(self, other: Measure) -> Measure
+        ensures { result ≡ beside self other }
+    {
+        Measure {
+            depth: self.depth.max(other.depth),
+            instances: up_to(self.instances, other.instances, MAX_INSTANCES + 1),
+            bits: counted(self.bits, other.bits),
+        }
+    }
+
+    /// An instance that has these in it, and signals of so many bits of its own.
+    pub fn around(self, bits: u32) -> Measure
+        ensures { result ≡ around self bits }
+    {
+        Measure {
+            depth: up_to(1, self.depth, MAX_NESTING + 1),
+            instances: up_to(1, self.instances, MAX_INSTANCES + 1),
+            bits: counted(bits, self.bits),
+        }
+    }
+}
+
+/// A sum, which stands still at its end.
+fn up_to(a: u32, b: u32, end: u32) -> u32
+    ensures { result ≡ min (a + b) end }
+{
+    a.saturating_add(b).min(end)
+}
