@@ -1,0 +1,48 @@
+-- When what is held fits: values and variables of their types, parts within the signals; and what an instruction asks of its operands.
+use Rattle.std.specs.Prelude.{◌≡◌, ℕ, ◌+◌, ◌≤◌, ◌<◌, ◌^◌, List, [], ◌∷◌, length, map, Bool, Option, Some, None}
+use Rattle.std.specs.Option.{option_and_then}
+use Rattle.lh_types.specs.Types.{TypeTree, time_type, signal_type, pointer_type, IsData, bit_count}
+use Rattle.lh_types.specs.Values.{Datum}
+use Rattle.lh_types.specs.Fits.{FitsType, FitsData}
+use Rattle.lh_types.specs.Bits.{value_bits}
+use Rattle.lh_types.specs.ApplyTypes.{FitsOp}
+use Rattle.lh_types.specs.declared.op.Op.{Op}
+use Rattle.lh_types.specs.declared.part.Range.{Range}
+use Rattle.lh_unit.specs.Contents.{UnitText}
+use Rattle.lh_unit.specs.Typing.{value_type, carried}
+use Rattle.lh_unit.specs.Held.{Held, datum_held, cell_held, part_held, Env, as_datum, as_part}
+use Rattle.lh_unit.specs.Arena.{Arena, naming, unit_text_at}
+use Rattle.lh_unit.specs.Naming.{value_text}
+use Rattle.lh_unit.specs.Within.{Each}
+use Rattle.lh_unit.specs.declared.inst.ValueId.{ValueId}
+use Rattle.lh_unit.specs.declared.inst.Typed.{Typed}
+use Rattle.lh_eval.specs.Holding.{slot_at, data_in}
+
+-- a type that a value may have, within its limits
+abbrev pub IsValueType : TypeTree → Type 0
+IsValueType time_type = Unit {0}
+IsValueType t = IsData t
+
+-- what is held fits a type: a data value or a time, a variable with such a value, or a part of so many bits that has the type's width
+abbrev pub FitsHeld : (width : ℕ) → Held → TypeTree → Type 0
+FitsHeld width (datum_held d) t = IsValueType t × FitsType d t
+FitsHeld width (cell_held d) (pointer_type t) = IsValueType t × FitsType d t
+FitsHeld width (part_held r) (signal_type t) = IsData t × (r.len ≡ bit_count t) × (r.lo + r.len ≤ width)
+FitsHeld width _ t = ⊥
+
+-- Each value that is held fits the type of its name.
+abbrev pub Fits : UnitText → (width : ℕ) → Env → Type 0
+Fits u width e = (n : List ℕ) (h : Held) (t : TypeTree) → e n ≡ Some h → value_type u n ≡ Some t → FitsHeld width h t
+
+-- what an operation asks of its operands: values fit the row, and a part of a signal ends below bit 2 ^ 32
+pub record OperandsFit (a : Arena) (u : ℕ) (slots : List (Option Held)) (op : Op) (args : List Typed) : Type 0 where
+  pub values : (ds : List Datum) → data_in slots args ≡ Some ds → FitsOp op ds
+  pub parts : (v : ValueId) (r : Range) (t : TypeTree) → slot_at slots v ≡ Some (part_held r) → value_type (unit_text_at a u) (value_text (naming a u) v) ≡ Some (signal_type t) → r.lo + bit_count t < 2 ^ 32
+
+-- what a probe asks of its operand: the part is of the width of the type that is written, and lies within the signals
+abbrev pub ProbeFits : (now : List Bool) → (slots : List (Option Held)) → Typed → Type 0
+ProbeFits now slots s = (r : Range) (t : TypeTree) → option_and_then as_part (slot_at slots s.value) ≡ Some r → option_and_then carried s.ty ≡ Some t → (r.len ≡ bit_count t) × (r.lo + r.len ≤ length now)
+
+-- what a drive asks: the value is of a data type, and the bits of the part from its lowest on end below bit 2 ^ 32
+abbrev pub DriveFits : (slots : List (Option Held)) → (to value : ValueId) → Type 0
+DriveFits slots to value = (r : Range) (d : Datum) → option_and_then as_part (slot_at slots to) ≡ Some r → option_and_then as_datum (slot_at slots value) ≡ Some d → FitsData d × (r.lo + length (value_bits d) < 2 ^ 32)

@@ -1,0 +1,6 @@
+pub mod HeldOf
+pub mod Holding
+pub mod Giving
+pub mod Fitting
+pub mod WishOf
+pub mod Grouped
