@@ -1,5 +1,5 @@
 -- Lists of one item many times, and lists read at an index.
-use Rattle.std.proofs.Common.{◌≡◌, ℕ, ◌+◌, ◌<◌, zero, suc, List, [], ◌∷◌, ◌++◌, map, replicate, length, get_or, drop, refl, ap, ◌∙◌, sym, arith}
+use Rattle.std.proofs.Common.{◌≡◌, ℕ, ◌+◌, ◌<◌, zero, suc, List, [], ◌∷◌, ◌++◌, map, replicate, length, get_or, drop, Result, Ok, Err, OnOk, refl, ap, ◌∙◌, sym, arith}
 use Rattle.std.proofs.lemmas.List.{replicate-append-replicate}
 
 pub replicate-more : {X : Type 0} (n : ℕ) (x : X) → replicate n x ++ x ∷ [] ≡ replicate (n + 1) x
@@ -17,3 +17,7 @@ map-get_or f [] i d = by i
     by (suc j) = refl
 map-get_or f (x ∷ xs) zero d = refl
 map-get_or f (x ∷ xs) (suc i) d = map-get_or f xs i d
+
+pub on-ok : {A E : Type 0} (r : Result A E) (P Q : Type 0) → (P → Q) → OnOk r P → OnOk r Q
+on-ok (Ok a) P Q f p = f p
+on-ok (Err e) P Q f p = p

@@ -1,7 +1,7 @@
 //! The bits that an activation or a pass wishes, and when each is due.
 ghost use Rattle.std.specs.Prelude.{◌≡◌, ◌+◌, ◌<◌, ◌^◌, [], ◌∷◌, ◌++◌, length, Some, OnOk, OnErr, IfOk};
 ghost use Rattle.lh_types.specs.Wish.{no_wish, with_bit, with_bits, with_drive};
-ghost use Rattle.lh_eval.specs.WishOf.{due_bit, writes_wish};
+ghost use Rattle.lh_eval.specs.WishOf.{due_bit, wish_of, writes_wish};
 ghost use Rattle.lh_eval.specs.Grouped.{IsGrouped};
 
 use lh_time::Instant;
@@ -53,10 +53,8 @@ impl Wishes {
     fn put(&mut self, due: Instant, bit: u32, value: bool) -> Result<(), NoMemory>
         ensures { OnOk result (self.new ≡ with_bit self.old due bit value) }
     {
-        match self.map.insert(Key { due, bit }, value) {
-            Ok(_) => Ok(()),
-            Err(_) => Err(NoMemory),
-        }
+        self.map.insert(Key { due, bit }, value)?;
+        Ok(())
     }
 
     /// These bits in a row, from bit `lo` of the signals on.
@@ -72,15 +70,25 @@ impl Wishes {
 
     /// The same as lists of writes: the due instants strictly rise, and none of the lists is empty.
     pub fn writes(&self, alloc: Global) -> Result<DueWrites, NoMemory>
-        ensures wish { IfOk result (λ w. writes_wish w ≡ self.now) }
-        ensures grouped { IfOk result IsGrouped }
-    {
-        let mut all = Vec::new(alloc);
-        for (key, value) in &self.map {
-            add(alloc, &mut all, *key, *value)?;
-        }
+        ensures { IfOk result (λ w. writes_wish w ≡ self.now) }
+        {
+        let all = grouped(alloc, &self.map)?;
         Ok(ListOf::from_vec(all))
     }
+}
+
+/// The entries of a map by their instants.
+fn grouped(
+    alloc: Global,
+    map: &BTreeMap<Key, bool>,
+) -> Result<Vec<(Instant, BitWrites)>, NoMemory>
+    ensures { IfOk result (λ all. writes_wish all.items ≡ wish_of map.now.entries) }
+{
+    let mut all = Vec::new(alloc);
+    for (key, value) in map {
+        add(alloc, &mut all, *key, *value)?;
+    }
+    Ok(all)
 }
 
 /// Adds an entry behind the last one, to the list of its instant where that is the last.
@@ -92,20 +100,43 @@ fn add(
 ) -> Result<(), NoMemory>
     ensures { OnOk result (writes_wish all.new.items ≡ writes_wish all.old.items ++ (due_bit key, value) ∷ []) }
 {
-    let n = all.len();
-    if n > 0 && all[n - 1].0 == key.due {
-        return push_bit(&mut all[n - 1], key.bit, value);
+    match all.pop() {
+        None => push_new(alloc, all, key, value),
+        Some(last) => add_behind(alloc, all, last, key, value),
     }
+}
+
+/// Adds an entry behind the last one, which was taken out.
+fn add_behind(
+    alloc: Global,
+    all: &mut Vec<(Instant, BitWrites)>,
+    last: (Instant, BitWrites),
+    key: Key,
+    value: bool,
+) -> Result<(), NoMemory>
+    ensures { OnOk result (writes_wish all.new.items ≡ writes_wish (all.old.items ++ last ∷ []) ++ (due_bit key, value) ∷ []) }
+{
+    let (due, mut writes) = last;
+    if due == key.due {
+        writes.push((key.bit, value))?;
+        return push_due(all, due, writes);
+    }
+    push_due(all, due, writes)?;
+    push_new(alloc, all, key, value)
+}
+
+/// Adds an entry with a list of its own.
+fn push_new(
+    alloc: Global,
+    all: &mut Vec<(Instant, BitWrites)>,
+    key: Key,
+    value: bool,
+) -> Result<(), NoMemory>
+    ensures { OnOk result (all.new.items ≡ all.old.items ++ (key.due, (key.bit, value) ∷ []) ∷ []) }
+{
     let mut writes = BitWrites::new(alloc);
     writes.push((key.bit, value))?;
     push_due(all, key.due, writes)
-}
-
-fn push_bit(due: &mut (Instant, BitWrites), bit: u32, value: bool) -> Result<(), NoMemory>
-    ensures instant { due.new.0 ≡ due.old.0 }
-    ensures writes { OnOk result (due.new.1 ≡ due.old.1 ++ (bit, value) ∷ []) }
-{
-    due.1.push((bit, value))
 }
 
 fn push_due(
