@@ -1,5 +1,5 @@
 -- When what is held fits: values and variables of their types, parts within the signals; and what an instruction asks of its operands.
-use Rattle.std.specs.Prelude.{◌≡◌, ℕ, ◌+◌, ◌≤◌, ◌<◌, ◌^◌, List, [], ◌∷◌, length, map, Bool, Option, Some, None}
+use Rattle.std.specs.Prelude.{◌≡◌, ℕ, ◌+◌, ◌≤◌, ◌<◌, ◌^◌, List, [], ◌∷◌, length, Bool, true, false, Option, Some, None, Result, Ok, Err}
 use Rattle.std.specs.Option.{option_and_then}
 use Rattle.lh_types.specs.Types.{TypeTree, time_type, signal_type, pointer_type, IsData, bit_count}
 use Rattle.lh_types.specs.Values.{Datum}
@@ -8,15 +8,17 @@ use Rattle.lh_types.specs.Bits.{value_bits}
 use Rattle.lh_types.specs.ApplyTypes.{FitsOp}
 use Rattle.lh_types.specs.declared.op.Op.{Op}
 use Rattle.lh_types.specs.declared.part.Range.{Range}
+use Rattle.lh_types.specs.declared.ty.NoMemory.{NoMemory}
+use Rattle.lh_types.specs.Wish.{Wish}
 use Rattle.lh_unit.specs.Contents.{UnitText}
 use Rattle.lh_unit.specs.Typing.{value_type, carried}
-use Rattle.lh_unit.specs.Held.{Held, datum_held, cell_held, part_held, Env, as_datum, as_part}
+use Rattle.lh_unit.specs.Held.{Held, datum_held, cell_held, part_held, Env}
 use Rattle.lh_unit.specs.Arena.{Arena, naming, unit_text_at}
 use Rattle.lh_unit.specs.Naming.{value_text}
 use Rattle.lh_unit.specs.Within.{Each}
 use Rattle.lh_unit.specs.declared.inst.ValueId.{ValueId}
 use Rattle.lh_unit.specs.declared.inst.Typed.{Typed}
-use Rattle.lh_eval.specs.Holding.{slot_at, data_in}
+use Rattle.lh_eval.specs.Holding.{slot_at, part_in, data_in}
 
 -- a type that a value may have, within its limits
 abbrev pub IsValueType : TypeTree → Type 0
@@ -41,8 +43,15 @@ pub record OperandsFit (a : Arena) (u : ℕ) (slots : List (Option Held)) (op : 
 
 -- what a probe asks of its operand: the part is of the width of the type that is written, and lies within the signals
 abbrev pub ProbeFits : (now : List Bool) → (slots : List (Option Held)) → Typed → Type 0
-ProbeFits now slots s = (r : Range) (t : TypeTree) → option_and_then as_part (slot_at slots s.value) ≡ Some r → option_and_then carried s.ty ≡ Some t → (r.len ≡ bit_count t) × (r.lo + r.len ≤ length now)
+ProbeFits now slots s = (r : Range) (t : TypeTree) → part_in slots s.value ≡ Some r → option_and_then carried s.ty ≡ Some t → (r.len ≡ bit_count t) × (r.lo + r.len ≤ length now)
 
--- what a drive asks: the value is of a data type, and the bits of the part from its lowest on end below bit 2 ^ 32
-abbrev pub DriveFits : (slots : List (Option Held)) → (to value : ValueId) → Type 0
-DriveFits slots to value = (r : Range) (d : Datum) → option_and_then as_part (slot_at slots to) ≡ Some r → option_and_then as_datum (slot_at slots value) ≡ Some d → FitsData d × (r.lo + length (value_bits d) < 2 ^ 32)
+-- what a drive asks: the value is of a data type, and its bits, from the lowest bit of the part on, end below bit 2 ^ 32
+abbrev pub DriveFits : Option Range → Option Datum → Type 0
+DriveFits (Some r) (Some d) = FitsData d × (r.lo + length (value_bits d) < 2 ^ 32)
+DriveFits _ _ = Unit {0}
+
+-- what a drive answers: whether its part, its value, its delay and its condition are there; where one is not, nothing more is wished
+abbrev pub Drives : Result Bool NoMemory → (driven : Option Wish) → (old new : Wish) → Type 0
+Drives (Ok true) driven old new = driven ≡ Some new
+Drives (Ok false) driven old new = (driven ≡ None) × (new ≡ old)
+Drives (Err e) driven old new = Unit {0}

@@ -1,6 +1,10 @@
 //! What an instruction gives or drives wherever it stands: operations, parts of signals, probes and drives.
 #![tactic(auto)]
 
+pub mod effects;
 pub mod held;
+pub mod instance;
+pub mod operands;
+pub mod operate;
 mod types;
 pub mod wishes;
