@@ -1,3 +1,5 @@
 pub mod Lists
 pub mod WishSteps
 pub mod GivingText
+pub mod Holding
+pub mod PartsRead

@@ -18,7 +18,7 @@ use Rattle.lh_unit.specs.Naming.{value_text}
 use Rattle.lh_unit.specs.Within.{Each}
 use Rattle.lh_unit.specs.declared.inst.ValueId.{ValueId}
 use Rattle.lh_unit.specs.declared.inst.Typed.{Typed}
-use Rattle.lh_eval.specs.Holding.{slot_at, part_in, data_in}
+use Rattle.lh_eval.specs.Holding.{part_in, data_in}
 
 -- a type that a value may have, within its limits
 abbrev pub IsValueType : TypeTree → Type 0
@@ -36,10 +36,14 @@ FitsHeld width _ t = ⊥
 abbrev pub Fits : UnitText → (width : ℕ) → Env → Type 0
 Fits u width e = (n : List ℕ) (h : Held) (t : TypeTree) → e n ≡ Some h → value_type u n ≡ Some t → FitsHeld width h t
 
--- what an operation asks of its operands: values fit the row, and a part of a signal ends below bit 2 ^ 32
+-- a part of a signal that is held, from its lowest bit on as long as its type says, ends below bit 2 ^ 32
+abbrev pub PartFits : (a : Arena) (u : ℕ) (slots : List (Option Held)) → ValueId → Type 0
+PartFits a u slots v = (r : Range) (t : TypeTree) → part_in slots v ≡ Some r → value_type (unit_text_at a u) (value_text (naming a u) v) ≡ Some (signal_type t) → IsData t × (r.lo + bit_count t < 2 ^ 32)
+
+-- what an operation asks of its operands: values fit the row, and so do parts of signals
 pub record OperandsFit (a : Arena) (u : ℕ) (slots : List (Option Held)) (op : Op) (args : List Typed) : Type 0 where
   pub values : (ds : List Datum) → data_in slots args ≡ Some ds → FitsOp op ds
-  pub parts : (v : ValueId) (r : Range) (t : TypeTree) → slot_at slots v ≡ Some (part_held r) → value_type (unit_text_at a u) (value_text (naming a u) v) ≡ Some (signal_type t) → r.lo + bit_count t < 2 ^ 32
+  pub parts : Each (λ (o : Typed). PartFits a u slots o.value) args
 
 -- what a probe asks of its operand: the part is of the width of the type that is written, and lies within the signals
 abbrev pub ProbeFits : (now : List Bool) → (slots : List (Option Held)) → Typed → Type 0

@@ -4,6 +4,7 @@
 pub mod effects;
 pub mod held;
 pub mod instance;
+pub mod laws;
 pub mod operands;
 pub mod operate;
 mod types;

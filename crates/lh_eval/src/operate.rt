@@ -6,11 +6,13 @@ ghost use Rattle.lh_unit.specs.Arena.{unit_count, value_count, sizes, naming, un
 ghost use Rattle.lh_unit.specs.Effects as effects;
 ghost use Rattle.lh_unit.specs.Effects.{operated, stepped};
 ghost use Rattle.lh_unit.specs.Held.{Env, part_held};
-ghost use Rattle.lh_unit.specs.Naming.{operand_text};
+ghost use Rattle.lh_unit.specs.Naming.{operand_text, value_text};
 ghost use Rattle.lh_unit.specs.Within.{Each, OperandWithin};
 ghost use Rattle.lh_eval.specs.HeldOf.{maybe_held};
+ghost use Rattle.lh_unit.specs.Typing.{value_type};
+ghost use Rattle.lh_eval.specs.Holding as holding;
 ghost use Rattle.lh_eval.specs.Holding.{Holds};
-ghost use Rattle.lh_eval.specs.Fitting.{OperandsFit};
+ghost use Rattle.lh_eval.specs.Fitting.{PartFits, OperandsFit};
 
 use crate::held::{Held, Slots};
 use crate::operands::{data_in, part_in};
@@ -66,10 +68,26 @@ fn signal_part(
     if args.len() != 1 {
         return None;
     }
+    stepped_part(module, unit, op, &args[0], slots)
+}
+
+/// The part of the signal that an operand holds to which an operation leads.
+fn stepped_part(
+    module: &Module,
+    unit: UnitId,
+    op: &Op,
+    arg: &Typed,
+    slots: &Slots,
+) -> Option<Range>
+    requires unit { unit.0 < unit_count module.now }
+    requires arg { arg.now.value.0 < value_count module.now unit.0 }
+    requires slots { length slots.now ≡ value_count module.now unit.0 }
+    requires fit { PartFits module.now unit.0 slots.now arg.now.value }
+    ensures { option_map part_held result ≡ stepped (value_type (unit_text_at module.now unit.0) (value_text (naming module.now unit.0) arg.now.value)) (holding.part_in slots.now arg.now.value) (effects.step_of op.now) }
+{
     let step = step_of(op)?;
-    let value = args[0].value;
-    let whole = part_in(slots, value)?;
-    let carried = carried_by(module, unit, value)?;
+    let whole = part_in(slots, arg.value)?;
+    let carried = carried_by(module, unit, arg.value)?;
     step_into(carried, whole, step)
 }
 

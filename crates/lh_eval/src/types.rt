@@ -1,6 +1,7 @@
 //! What the signal that is a value carries, read from the line that gives the value.
-ghost use Rattle.std.specs.Prelude.{◌≡◌, ◌<◌, map};
+ghost use Rattle.std.specs.Prelude.{◌≡◌, ◌<◌, map, IfSome};
 ghost use Rattle.std.specs.Option.{option_and_then, option_copied};
+ghost use Rattle.lh_types.specs.Types.{IsData};
 ghost use Rattle.lh_unit.specs.Arena.{unit_count, value_count, inst_count, blocks_at, result_at, table_at, naming, unit_text_at};
 ghost use Rattle.lh_unit.specs.Table.{is_result};
 ghost use Rattle.lh_unit.specs.ById as byid;
@@ -18,7 +19,8 @@ use lh_unit::module::Module;
 
 /// What a signal of this type carries.
 pub fn carried(ty: &Ty) -> Option<&Ty>
-    ensures { option_copied result ≡ typing.carried ty.now }
+    ensures of { option_copied result ≡ typing.carried ty.now }
+    ensures data { IfSome result (λ t. IsData t.now) }
 {
     match ty.kind() {
         TyKind::Signal(of) => Some(of),

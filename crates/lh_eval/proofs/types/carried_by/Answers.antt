@@ -9,7 +9,7 @@ use Rattle.lh_eval.proofs.types.carried_by.Goals as goal
 pub returns-in-Some : goal.returns-in-Some
 returns-in-Some c =
     let e : arg_being (args_at c.args.module.now c.args.unit.0) c.args.value.0 ≡ Some c.in-Some.arg.now = ap (λ l. arg_being l c.args.value.0) (sym c.args-2.ensures.args) ∙ sym c.in-Some.ensures in
-    carried-arg c.args.module.now c.args.unit.0 c.args-2.ensures.sound c.requires.unit c.args.value.0 c.requires.value c.in-Some.arg.now (option_copied c.carried.result) e c.carried.ensures
+    carried-arg c.args.module.now c.args.unit.0 c.args-2.ensures.sound c.requires.unit c.args.value.0 c.requires.value c.in-Some.arg.now (option_copied c.carried.result) e c.carried.ensures.of
 
 pub returns-in-Some-inst_giving : goal.returns-in-Some-inst_giving
 returns-in-Some-inst_giving c =
