@@ -13,7 +13,7 @@ use Rattle.lh_unit.specs.declared.inst.ValueId.{ValueId}
 use Rattle.lh_unit.specs.declared.inst.Typed.{Typed}
 use Rattle.lh_unit.proofs.Lists.{Same, same, other, same_or, nat_eq-refl, nat_eq-other}
 use Rattle.lh_unit.proofs.ById.{same_value-by_id}
-use Rattle.lh_eval.specs.Holding.{Holds, slot_at, datum_in, condition_in, data_in, MaybeIn, SameHeld, HoldsSame, HoldsMore, HoldsNothing}
+use Rattle.lh_eval.specs.Holding.{Holds, slot_at, datum_in, condition_in, data_in, MaybeIn, SameHeld, HoldsSame, HoldsMore, HoldsGiven, HoldsNothing}
 
 -- ---- reading
 
@@ -69,6 +69,12 @@ holds-more a u slots e v h o hu d w = record {
       ∙ ap (λ (r : Option Held). if nat_eq v.0 x.0 then Some h else r) (d.each x l)
       ∙ sym (ap (λ (b : Bool). if b then Some h else e (value_name_at a u x.0)) n);
 }
+
+pub holds-given : HoldsGiven
+holds-given a u slots e None None o hu d w = d
+holds-given a u slots e None (Some h) o hu d w = d
+holds-given a u slots e (Some v) None o hu d w = d
+holds-given a u slots e (Some v) (Some h) o hu d w = holds-more a u slots e v h o hu d w
 
 none-at : (n k : ℕ) → get_or (replicate n (let none : Option Held = None in none)) k None ≡ None
 none-at zero zero = refl

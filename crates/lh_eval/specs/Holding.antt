@@ -6,6 +6,7 @@ use Rattle.lh_types.specs.Values.{Datum}
 use Rattle.lh_types.specs.declared.part.Range.{Range}
 use Rattle.lh_unit.specs.Held.{Held, Env, nothing_held, with_held, as_datum, as_cell, as_part, as_delay, as_test, datum_at, cell_at, part_at, delay_at, test_at, data_at, front}
 use Rattle.lh_unit.specs.Effects.{condition_at}
+use Rattle.lh_unit.specs.Hierarchy.{if_held}
 use Rattle.lh_unit.specs.Arena.{Arena, IsArena, naming, unit_count, value_count}
 use Rattle.lh_unit.specs.Naming.{value_text, maybe_text, operand_text}
 use Rattle.lh_unit.specs.Within.{Each}
@@ -52,6 +53,11 @@ abbrev pub MaybeIn : List (Option Held) → Option ValueId → Type 0
 MaybeIn slots None = Unit {0}
 MaybeIn slots (Some v) = v.0 < length slots
 
+-- with what an instruction gives held by its result, where both are there
+abbrev pub given : List (Option Held) → (result : Option ValueId) → Option Held → List (Option Held)
+given slots (Some v) (Some h) = slice_set slots v.0 (Some h)
+given slots _ _ = slots
+
 -- What is held by the ids of a unit's values is what is held under their names.
 pub record SameHeld (a : Arena) (u : ℕ) (slots : List (Option Held)) (e : Env) : Type 0 where
   pub datum : (v : ValueId) → v.0 < length slots → datum_in slots v ≡ datum_at e (value_text (naming a u) v)
@@ -69,6 +75,11 @@ HoldsSame = (a : Arena) (u : ℕ) (slots : List (Option Held)) (e : Env) → Hol
 abbrev pub HoldsMore : Type 0
 HoldsMore = (a : Arena) (u : ℕ) (slots : List (Option Held)) (e : Env) (v : ValueId) (h : Held) → IsArena a → u < unit_count a → Holds a u slots e → v.0 < length slots →
     Holds a u (slice_set slots v.0 (Some h)) (with_held e (value_text (naming a u) v) h)
+
+-- So does what an instruction gives.
+abbrev pub HoldsGiven : Type 0
+HoldsGiven = (a : Arena) (u : ℕ) (slots : List (Option Held)) (e : Env) (r : Option ValueId) (h : Option Held) → IsArena a → u < unit_count a → Holds a u slots e → MaybeIn slots r →
+    Holds a u (given slots r h) (if_held e (maybe_text (naming a u) r) h)
 
 -- Where nothing is held by any value, nothing is held under any name.
 abbrev pub HoldsNothing : Type 0

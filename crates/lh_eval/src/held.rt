@@ -2,7 +2,7 @@
 ghost use Rattle.std.specs.Prelude.{◌≡◌, ◌<◌, ◌++◌, ◌∷◌, [], length, replicate, slice_set, IfOk};
 ghost use Rattle.std.specs.Option.{option_copied};
 ghost use Rattle.lh_eval.specs.HeldOf.{held_of, maybe_held};
-ghost use Rattle.lh_eval.specs.Holding.{slot_at};
+ghost use Rattle.lh_eval.specs.Holding.{slot_at, given, MaybeIn};
 
 use lh_types::part::Range;
 use lh_types::ty::NoMemory;
@@ -95,6 +95,16 @@ impl Slots {
         ensures { self.new ≡ slice_set self.old value.0 (Some (held_of held)) }
     {
         self.slots[value.0 as usize] = Some(held);
+    }
+
+    /// Holds what an instruction gives by the value that names its result, where both are there.
+    pub fn give(&mut self, name: Option<ValueId>, held: Option<Held>)
+        requires { MaybeIn self.old name }
+        ensures { self.new ≡ given self.old name (maybe_held held) }
+    {
+        if let (Some(value), Some(held)) = (name, held) {
+            self.set(value, held);
+        }
     }
 }
 
