@@ -1,0 +1,5 @@
+pub mod RunSteps
+pub mod BeginSteps
+pub mod FitLaws
+pub mod FitSteps
+pub mod NamedSteps

@@ -45,3 +45,8 @@ stored_in t to r g = unwrap_or (drive_due t r.wishes (part_in r.slots to) (datum
 -- the run after a trigger
 abbrev pub tried : (memory : Option (List Bool)) → Instant → (to : ValueId) → (fired : Bool) → Run → RegTrigger → Run
 tried memory t to fired r g = record { slots = r.slots; seen = r.seen ++ value_in r.slots g ∷ []; wishes = if not fired && fires_in memory r g then stored_in t to r g else r.wishes }
+
+-- the run after the triggers of a register, in order
+abbrev pub tries : (memory : Option (List Bool)) → Instant → (to : ValueId) → (fired : Bool) → Run → List RegTrigger → Run
+tries memory t to fired r [] = r
+tries memory t to fired r (g ∷ more) = tries memory t to (fired || fires_in memory r g) (tried memory t to fired r g) more

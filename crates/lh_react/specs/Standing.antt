@@ -6,21 +6,31 @@ use Rattle.lh_types.specs.Wish.{Wish}
 use Rattle.lh_types.specs.declared.part.Range.{Range}
 use Rattle.lh_unit.specs.Contents.{InstText, sig_text, LineText, ArgText, UnitText}
 use Rattle.lh_unit.specs.Held.{Held}
-use Rattle.lh_unit.specs.Pass.{Passed, pass_from}
+use Rattle.lh_unit.specs.Pass.{Passed, passes, pass_from}
 use Rattle.lh_unit.specs.Hierarchy.{lines_of, type_or_void}
 use Rattle.lh_unit.specs.Arena.{Arena, naming, table_at, unit_text_at}
 use Rattle.lh_unit.specs.ById.{inst_line}
+use Rattle.lh_unit.specs.Naming.{inst_text, maybe_text}
+use Rattle.lh_unit.specs.declared.inst.Inst.{Inst}
 use Rattle.lh_unit.specs.declared.inst.InstId.{InstId}
 use Rattle.lh_unit.specs.declared.inst.ValueId.{ValueId}
 use Rattle.lh_eval.specs.Holding.{Holds, given}
 use Rattle.lh_eval.specs.Fitting.{Fits}
 use Rattle.lh_eval.specs.WishOf.{writes_wish}
 use Rattle.lh_react.specs.declared.pass.Run.{Run}
-use Rattle.lh_react.specs.declared.react.EntAct.{EntAct}
+use Rattle.lh_react.specs.declared.entity.EntAct.{EntAct}
 
 -- the text of an instruction of the unit u with its result
 abbrev pub line_in : Arena → ℕ → InstId → LineText
 line_in a u i = inst_line (naming a u) (table_at a u) i
+
+-- the text of an instruction, the result of which has this name
+abbrev pub named_line : Arena → ℕ → Option ValueId → Inst → LineText
+named_line a u name i = record { result = maybe_text (naming a u) name; inst = inst_text (naming a u) i }
+
+-- what a pass comes to by it
+abbrev pub passed_by : Arena → ℕ → (now : List Bool) → (memory : Option (List Bool)) → Instant → Passed → Option ValueId → Inst → Passed
+passed_by a u now memory t p name i = passes (unit_text_at a u) now memory t (inst_text (naming a u) i) (maybe_text (naming a u) name) p
 
 -- what a pass comes to after these instructions
 abbrev pub passed_all : Arena → ℕ → (now : List Bool) → (memory : Option (List Bool)) → Instant → Passed → List InstId → Passed

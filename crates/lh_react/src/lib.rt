@@ -2,10 +2,10 @@
 #![tactic(auto)]
 
 mod begin;
+mod entity;
 mod pass;
-mod react;
 mod register;
 mod state;
 
-pub use react::{EntAct, react};
+pub use entity::{EntAct, react};
 pub use state::EntState;

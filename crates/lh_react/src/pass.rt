@@ -1,7 +1,7 @@
 //! One instruction of an entity after the other.
-ghost use Rattle.std.specs.Prelude.{◌≡◌, ◌<◌, ℕ, [], ◌∷◌, length, map, unwrap_or, Some, OnOk};
+ghost use Rattle.std.specs.Prelude.{◌≡◌, ◌<◌, ◌^◌, ℕ, [], ◌∷◌, length, map, unwrap_or, Some, OnOk};
 ghost use Rattle.lh_types.specs.ValueOf.{datum_of};
-ghost use Rattle.lh_unit.specs.Arena.{Arena, IsArena, unit_count, inst_count, value_count, sizes, naming, unit_text_at};
+ghost use Rattle.lh_unit.specs.Arena.{Arena, IsArena, unit_count, inst_count, value_count, sizes, naming, unit_text_at, InstPlaced};
 ghost use Rattle.lh_unit.specs.Effects.{operated, probed, driven};
 ghost use Rattle.lh_unit.specs.Held.{Env, datum_held};
 ghost use Rattle.lh_unit.specs.Naming.{operand_text, value_text, maybe_text};
@@ -12,7 +12,7 @@ ghost use Rattle.lh_eval.specs.Holding as holding;
 ghost use Rattle.lh_eval.specs.Holding.{Holds, MaybeIn};
 ghost use Rattle.lh_eval.specs.Fitting.{OperandsFit, ProbeFits, DriveFits};
 ghost use Rattle.lh_eval.specs.Sound.{IsSound};
-ghost use Rattle.lh_react.specs.Standing.{Stands, IsFit, HasGiven, HasWished, line_in, passed_all};
+ghost use Rattle.lh_react.specs.Standing.{Stands, IsFit, HasGiven, HasWished, line_in, named_line, passed_by, passed_all};
 
 use crate::register::run_reg;
 use crate::state::EntState;
@@ -53,6 +53,7 @@ pub(crate) fn run_insts(
     requires unit { unit.0 < unit_count module.now }
     requires insts { Each (λ (i : Id). i.0 < inst_count module.now unit.0) insts.now }
     requires sound { Each (λ (i : Id). IsSound (unit_text_at module.now unit.0) (line_in module.now unit.0 i)) insts.now }
+    requires few { length now.now < 2 ^ 32 }
     requires fit { IsFit module.now unit.0 (length now.now) run.old }
     ensures { (p : Passed) → Stands module.now unit.0 p run.old → OnOk result (Stands module.now unit.0 (passed_all module.now unit.0 now.now state.now at p insts.now) run.new) }
 {
@@ -62,7 +63,7 @@ pub(crate) fn run_insts(
     Ok(())
 }
 
-/// Runs one instruction; `sig` and `inst` do nothing.
+/// Runs one instruction.
 fn run_inst(
     alloc: Global,
     module: &Module,
@@ -73,15 +74,40 @@ fn run_inst(
     at: Instant,
     run: &mut Run,
 ) -> Result<(), NoMemory>
-    requires arena { IsArena module.now }
     requires unit { unit.0 < unit_count module.now }
     requires inst { inst.0 < inst_count module.now unit.0 }
     requires sound { IsSound (unit_text_at module.now unit.0) (line_in module.now unit.0 inst) }
+    requires few { length now.now < 2 ^ 32 }
     requires fit { IsFit module.now unit.0 (length now.now) run.old }
     ensures { (p : Passed) → Stands module.now unit.0 p run.old → OnOk result (Stands module.now unit.0 (passed_all module.now unit.0 now.now state.now at p (inst ∷ [])) run.new) }
 {
     let name = module.result_of(unit, inst);
-    match module.inst(unit, inst) {
+    let inst = module.inst(unit, inst);
+    run_named(alloc, module, unit, inst, name, now, state, at, run)
+}
+
+/// Runs an instruction that gives the value of this name; `sig` and `inst` do nothing.
+fn run_named(
+    alloc: Global,
+    module: &Module,
+    unit: UnitId,
+    inst: &Inst,
+    name: Option<ValueId>,
+    now: &Bits,
+    state: &EntState,
+    at: Instant,
+    run: &mut Run,
+) -> Result<(), NoMemory>
+    requires arena { IsArena module.now }
+    requires unit { unit.0 < unit_count module.now }
+    requires placed { InstPlaced module.now unit.0 inst.now }
+    requires name { MaybeIn run.old.slots name }
+    requires sound { IsSound (unit_text_at module.now unit.0) (named_line module.now unit.0 name inst.now) }
+    requires few { length now.now < 2 ^ 32 }
+    requires fit { IsFit module.now unit.0 (length now.now) run.old }
+    ensures { (p : Passed) → Stands module.now unit.0 p run.old → OnOk result (Stands module.now unit.0 (passed_by module.now unit.0 now.now state.now at p name inst.now) run.new) }
+{
+    match inst {
         Inst::Const(value) => run_const(value, name, run),
         Inst::Pure { op, args } => run_pure(alloc, module, unit, op, args.as_slice(), name, run),
         Inst::Prb(signal) => run_prb(alloc, signal, name, now, run),

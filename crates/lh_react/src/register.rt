@@ -1,15 +1,10 @@
 //! Registers: the triggers in order.
 ghost use Rattle.std.specs.Prelude.{◌≡◌, ◌<◌, ℕ, ◌||◌, ◌++◌, [], ◌∷◌, length, map, slice_get, unwrap_or, Bool, false, Some, OnOk, IfOk};
 ghost use Rattle.std.specs.Option.{option_and_then};
-ghost use Rattle.lh_unit.specs.Arena.{Arena, naming};
-ghost use Rattle.lh_unit.specs.Naming.{operand_text, trigger_text};
 ghost use Rattle.lh_unit.specs.Pass as passes;
-ghost use Rattle.lh_unit.specs.Pass.{Passed, triggers_from, fires};
 ghost use Rattle.lh_unit.specs.Within.{Each};
-ghost use Rattle.lh_unit.specs.declared.inst.RegTrigger.{RegTrigger as TriggerOf};
 ghost use Rattle.lh_eval.specs.Holding as holding;
-ghost use Rattle.lh_react.specs.Standing.{Stands};
-ghost use Rattle.lh_react.specs.Registers.{TriggerIn, TriggerFits, delay_in as delay_of, tried, fires_in, stored_in};
+ghost use Rattle.lh_react.specs.Registers.{TriggerIn, TriggerFits, delay_in as delay_of, tried, tries, fires_in, stored_in};
 
 use crate::pass::Run;
 use crate::state::EntState;
@@ -33,7 +28,7 @@ pub(crate) fn run_reg(
     requires to { to.now.value.0 < length run.old.slots }
     requires within { Each (TriggerIn run.old.slots) triggers.now }
     requires fit { Each (TriggerFits run.old.slots to.now.value) triggers.now }
-    ensures { (a : Arena) (u : ℕ) (p : Passed) → Stands a u p run.old → OnOk result (Stands a u (triggers_from state.now at (operand_text (naming a u) to.now) false p (map (trigger_text (naming a u)) triggers.now)) run.new) }
+    ensures { OnOk result (run.new ≡ tries state.now at to.now.value false run.old triggers.now) }
 {
     let mut fired = false;
     for trigger in triggers {

@@ -1,11 +1,12 @@
 //! One pass of an entity.
-ghost use Rattle.std.specs.Prelude.{◌≡◌, ◌<◌, length, Some, IfOk};
+ghost use Rattle.std.specs.Prelude.{◌≡◌, ◌<◌, ◌^◌, length, Some, IfOk};
 ghost use Rattle.lh_types.specs.Raised.{raised};
 ghost use Rattle.lh_unit.specs.Arena.{unit_count, kind_at, contents, unit_text_at};
-ghost use Rattle.lh_unit.specs.Hierarchy.{lines_of};
+ghost use Rattle.lh_unit.specs.Hierarchy.{lines_of, parts_of};
 ghost use Rattle.lh_unit.specs.Pass.{pass};
 ghost use Rattle.lh_unit.specs.Within.{Each};
 ghost use Rattle.lh_unit.specs.WellFormed.{IsWellFormed};
+ghost use Rattle.lh_eval.specs.Fitting.{Fits};
 ghost use Rattle.lh_eval.specs.Sound.{IsSound};
 ghost use Rattle.lh_react.specs.Standing.{InstanceFits, Reacts};
 
@@ -55,16 +56,16 @@ pub fn react<T: Tally>(
     ensures tick { T.count tally.new ≡ raised (T.count tally.old) 1 }
 {
     tally.tick();
-    run_entity(
-        alloc,
-        m,
-        i.unit,
-        i.args.as_slice(),
-        i.sigs.as_slice(),
-        now,
-        s,
-        at,
-    )
+    let (args, sigs) = (i.args.as_slice(), i.sigs.as_slice());
+    prove_few(now);
+    run_entity(alloc, m, i.unit, args, sigs, now, s, at)
+}
+
+/// There are fewer than 2 ^ 32 bits.
+fn prove_few(bits: &Bits)
+    ensures { length bits.now < 2 ^ 32 }
+{
+    let _len = bits.len();
 }
 
 /// One pass of an entity, each instruction of which is sound.
@@ -81,7 +82,8 @@ fn run_entity(
     requires unit { unit.0 < unit_count module.now }
     requires entity { kind_at module.now unit.0 ≡ Some UnitKind.Entity }
     requires sound { Each (IsSound (unit_text_at module.now unit.0)) (lines_of (unit_text_at module.now unit.0).blocks) }
-    requires fits { InstanceFits (unit_text_at module.now unit.0) args.now sigs.now (length now.now) }
+    requires few { length now.now < 2 ^ 32 }
+    requires fits { Fits (unit_text_at module.now unit.0) (length now.now) (parts_of (unit_text_at module.now unit.0) args.now sigs.now) }
     ensures { IfOk result (Reacts (pass (unit_text_at module.now unit.0) args.now sigs.now now.now state.now at)) }
 {
     let insts = module.insts(unit, BlockId(0));
