@@ -1,10 +1,10 @@
 -- What an entity holds where it begins, by ids and by names.
-use Rattle.std.proofs.Common.{◌≡◌, ℕ, ◌+◌, ◌<◌, Bool, true, false, if◌then◌else◌, List, [], ◌∷◌, ◌++◌, length, map, set, replicate, Option, Some, None, refl, ap, sym, ◌∙◌, subst, arith}
+use Rattle.std.proofs.Common.{◌≡◌, ℕ, ◌+◌, ◌<◌, Bool, true, false, if◌then◌else◌, List, [], ◌∷◌, ◌++◌, length, map, set, get_or, replicate, Option, Some, None, refl, ap, sym, ◌∙◌, subst, arith}
 use Rattle.std.proofs.lemmas.List.{append-nil, length-set}
 use Rattle.lh_types.specs.declared.part.Range.{Range}
 use Rattle.lh_unit.specs.Contents.{LineText}
 use Rattle.lh_unit.specs.Table.{ArgsWithin, ResultWithin, FitsKind, line_at, entity_block}
-use Rattle.lh_unit.specs.Arena.{Arena, IsArena, naming, unit_count, value_count, table_at, kind_at, args_at, block_insts_at, unit_text_at}
+use Rattle.lh_unit.specs.Arena.{Arena, IsArena, naming, unit_count, value_count, inst_count, table_at, kind_at, args_at, block_insts_at, unit_text_at}
 use Rattle.lh_unit.specs.ById.{inst_line}
 use Rattle.lh_unit.specs.Held.{Held, Env, part_held, with_args, nothing_held}
 use Rattle.lh_unit.specs.Hierarchy.{with_parts, signal_names, name_if_signal, lines_of, parts_of}
@@ -19,6 +19,8 @@ use Rattle.lh_unit.specs.declared.inst.Arg.{Arg}
 use Rattle.lh_unit.specs.declared.inst.ValueId.{ValueId}
 use Rattle.lh_unit.proofs.ById.{result-within}
 use Rattle.lh_eval.specs.Holding.{Holds, given}
+use Rattle.lh_unit.specs.Within.{Each}
+use Rattle.lh_eval.proofs.GivingText.{block-insts}
 use Rattle.lh_eval.proofs.Holding.{holds-more, holds-given, holds-nothing}
 use Rattle.lh_react.specs.Beginning.{args_given, signals_given, is_sig, next_given}
 use Rattle.lh_react.proofs.RunSteps.{maybe-in}
@@ -74,3 +76,10 @@ module _ (a : Arena) (u : ℕ) (o : IsArena a) (h : u < unit_count a) where
       let g : Holds a u slots (with_parts (with_args nothing_held (unit_text_at a u).args (map part_held args)) (signal_names (map (inst_line (naming a u) (table_at a u)) (block_insts_at a u 0))) sigs) =
       subst (λ (x : List (Option Held)). Holds a u x (with_parts (with_args nothing_held (unit_text_at a u).args (map part_held args)) (signal_names (map (inst_line (naming a u) (table_at a u)) (block_insts_at a u 0))) sigs)) (sym s) f in
       subst (λ (ls : List LineText). Holds a u slots (with_parts (with_args nothing_held (unit_text_at a u).args (map part_held args)) (signal_names ls) sigs)) (sym (entity-lines e)) g
+
+  -- the instructions of an entity are of the unit
+  pub entity-insts : kind_at a u ≡ Some kind.Entity → Each (λ (i : InstId). i.0 < inst_count a u) (block_insts_at a u 0)
+  entity-insts e =
+      let b : get_or (table_at a u).blocks 0 entity_block ≡ entity_block = ap (λ (bs : List BlockId). get_or bs 0 entity_block) (entity-blocks e) in
+      let l : 0 < length (table_at a u).blocks = let n : length (table_at a u).blocks ≡ 1 = ap length (entity-blocks e) in omega (arith, n) in
+      subst (λ (x : BlockId). Each (λ (i : InstId). i.0 < inst_count a u) (block_insts_at a u x.0)) b (block-insts a u o h 0 entity_block l)

@@ -32,7 +32,7 @@ part-held None r e = cc
 part-held (Some (part_held s)) r e = let p : s ≡ r = cc in ap (λ x. Some (part_held x)) p
 part-held (Some _) r e = cc
 
-datum-held : (o : Option Held) (d : Datum) → option_and_then as_datum o ≡ Some d → o ≡ Some (datum_held d)
+pub datum-held : (o : Option Held) (d : Datum) → option_and_then as_datum o ≡ Some d → o ≡ Some (datum_held d)
 datum-held None d e = cc
 datum-held (Some (datum_held s)) d e = let p : s ≡ d = cc in ap (λ x. Some (datum_held x)) p
 datum-held (Some _) d e = cc

@@ -73,3 +73,6 @@ module _ (a : Arena) (u : ℕ) where
         let p' = subst (InstPlaced a u) e p in
         subst (Each (TriggerFits r.slots to.value)) (sym g)
         (triggers-fit a u w r f few to.value x'.row.0 (omega (arith, p'.0, slots-long a u w r f)) x'.row.1.1 gs p'.1 x'.row.2)
+
+    pub reg-to : (i : Inst) (to : Typed) (gs : List RegTrigger) → i ≡ inst.Reg to gs → InstPlaced a u i → to.value.0 < length r.slots
+    reg-to i to gs e p = let p' = subst (InstPlaced a u) e p in omega (arith, p'.0, slots-long a u w r f)

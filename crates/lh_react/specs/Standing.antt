@@ -48,6 +48,12 @@ pub record IsFit (a : Arena) (u : ℕ) (width : ℕ) (r : Run) : Type 0 where
   pub stands : Stands a u passed r
   pub fits : Fits (unit_text_at a u) width passed.held
 
+-- a run stands for something from which a pass comes to this after the rest
+pub record Continues (a : Arena) (u : ℕ) (now : List Bool) (memory : Option (List Bool)) (t : Instant) (r : Run) (rest : List InstId) (to : Passed) : Type 0 where
+  pub passed : Passed
+  pub stands : Stands a u passed r
+  pub same : passed_all a u now memory t passed rest ≡ to
+
 -- an instruction has given this, and nothing else has changed
 pub record HasGiven (old : Run) (name : Option ValueId) (h : Option Held) (new : Run) : Type 0 where
   pub slots : new.slots ≡ given old.slots name h

@@ -2,12 +2,8 @@
 ghost use Rattle.std.specs.Prelude.{◌≡◌, ◌<◌, ◌^◌, length, Some, IfOk};
 ghost use Rattle.lh_types.specs.Raised.{raised};
 ghost use Rattle.lh_unit.specs.Arena.{unit_count, kind_at, contents, unit_text_at};
-ghost use Rattle.lh_unit.specs.Hierarchy.{lines_of, parts_of};
 ghost use Rattle.lh_unit.specs.Pass.{pass};
-ghost use Rattle.lh_unit.specs.Within.{Each};
 ghost use Rattle.lh_unit.specs.WellFormed.{IsWellFormed};
-ghost use Rattle.lh_eval.specs.Fitting.{Fits};
-ghost use Rattle.lh_eval.specs.Sound.{IsSound};
 ghost use Rattle.lh_react.specs.Standing.{InstanceFits, Reacts};
 
 use crate::begin::begin;
@@ -22,7 +18,7 @@ use lh_types::part::Range;
 use lh_types::tally::Tally;
 use lh_types::ty::NoMemory;
 use lh_types::writes::DueWrites;
-use lh_unit::inst::{BlockId, UnitId, UnitKind};
+use lh_unit::inst::{UnitId, UnitKind};
 use lh_unit::module::Module;
 use std::alloc::Global;
 
@@ -57,18 +53,10 @@ pub fn react<T: Tally>(
 {
     tally.tick();
     let (args, sigs) = (i.args.as_slice(), i.sigs.as_slice());
-    prove_few(now);
     run_entity(alloc, m, i.unit, args, sigs, now, s, at)
 }
 
-/// There are fewer than 2 ^ 32 bits.
-fn prove_few(bits: &Bits)
-    ensures { length bits.now < 2 ^ 32 }
-{
-    let _len = bits.len();
-}
-
-/// One pass of an entity, each instruction of which is sound.
+/// One pass of an entity.
 fn run_entity(
     alloc: Global,
     module: &Module,
@@ -81,12 +69,13 @@ fn run_entity(
 ) -> Result<EntAct, NoMemory>
     requires unit { unit.0 < unit_count module.now }
     requires entity { kind_at module.now unit.0 ≡ Some UnitKind.Entity }
-    requires sound { Each (IsSound (unit_text_at module.now unit.0)) (lines_of (unit_text_at module.now unit.0).blocks) }
-    requires few { length now.now < 2 ^ 32 }
-    requires fits { Fits (unit_text_at module.now unit.0) (length now.now) (parts_of (unit_text_at module.now unit.0) args.now sigs.now) }
+    requires formed { IsWellFormed (contents module.now) }
+    requires fits { InstanceFits (unit_text_at module.now unit.0) args.now sigs.now (length now.now) }
     ensures { IfOk result (Reacts (pass (unit_text_at module.now unit.0) args.now sigs.now now.now state.now at)) }
 {
-    let insts = module.insts(unit, BlockId(0));
+    few_bits(now);
+    let block = module.blocks(unit)[0];
+    let insts = module.insts(unit, block);
     let slots = begin(alloc, module, unit, insts, args, sigs)?;
     let mut run = Run {
         slots,
@@ -99,4 +88,11 @@ fn run_entity(
         next: EntState::after(run.seen),
         wishes,
     })
+}
+
+/// There are fewer than 2 ^ 32 bits.
+fn few_bits(bits: &Bits)
+    ensures { length bits.now < 2 ^ 32 }
+{
+    let _len = bits.len();
 }

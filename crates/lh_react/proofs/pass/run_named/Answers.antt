@@ -7,7 +7,7 @@ use Rattle.lh_unit.specs.Held.{datum_held}
 use Rattle.lh_unit.specs.Naming.{operand_text, trigger_text, value_text, maybe_text}
 use Rattle.lh_unit.specs.Pass.{triggers_from}
 use Rattle.lh_react.specs.Standing.{passed_by}
-use Rattle.lh_react.proofs.NamedSteps.{given-ok, wished-ok, tries-ok, pure-fits, prb-fits, drv-fits, reg-in, reg-fits}
+use Rattle.lh_react.proofs.NamedSteps.{given-ok, wished-ok, tries-ok, pure-fits, prb-fits, drv-fits, reg-in, reg-fits, reg-to}
 use Rattle.lh_react.proofs.pass.run_named.Goals as goal
 
 pub run_pure-requires-clause-fit : goal.run_pure-requires-clause-fit
@@ -57,4 +57,13 @@ returns-in-Drv c = λ p st.
     (ap (passed_by m c.args.unit.0 c.args.now.now c.args.state.now c.args.at p c.args.name) (sym c.in-Drv.is)) (c.run_drv.ensures m c.args.unit.0 p.held st.holds)
 
 pub returns-in-Reg : goal.returns-in-Reg
-returns-in-Reg c = λ p st. ?
+returns-in-Reg c = λ p st.
+    let m = c.args.module.now in
+    let f = naming m c.args.unit.0 in
+    let gs = c.as_slice-in-Reg.result.now in
+    tries-ok m c.args.unit.0 c.run_reg.result c.args.state.now c.args.at c.in-Reg.to gs p (passed_by m c.args.unit.0 c.args.now.now c.args.state.now c.args.at p c.args.name c.args.inst.now) c.args.run.now c.run_reg.new.run st
+    (reg-to m c.args.unit.0 (length c.args.now.now) c.args.run.now c.requires.fit c.requires.few c.args.name c.args.inst.now c.in-Reg.to c.in-Reg.triggers c.in-Reg.is c.requires.placed)
+    (reg-in m c.args.unit.0 (length c.args.now.now) c.args.run.now c.requires.fit c.requires.few c.args.name c.args.inst.now c.in-Reg.to c.in-Reg.triggers gs c.in-Reg.is c.as_slice-in-Reg.ensures c.requires.placed)
+    (ap (λ l. triggers_from c.args.state.now c.args.at (operand_text f c.in-Reg.to) false p (map (trigger_text f) l)) c.as_slice-in-Reg.ensures
+    ∙ ap (passed_by m c.args.unit.0 c.args.now.now c.args.state.now c.args.at p c.args.name) (sym c.in-Reg.is))
+    c.run_reg.ensures
