@@ -18,10 +18,11 @@ use Rattle.lh_formed.specs.Parts.{HasPart}
 use Rattle.lh_eval.specs.Fitting.{Fits}
 use Rattle.lh_eval.specs.Sound.{HasOperands, IsSound}
 use Rattle.lh_react.specs.Standing.{InstanceFits}
+use Rattle.lh_react.proofs.ValuesFit.{fits-row}
 
 -- the values of an operation's operands fit its row
 pub values-fit : (u : UnitText) (w : ℕ) (e : Env) (o : Op) (args : List OperandText) → Fits u w e → RowIs u (pure_text o args) → HasPart u (pure_text o args) → HasOperands o args → (ds : List Datum) → data_at e args ≡ Some ds → FitsOp o ds
-values-fit u w e o args f row part has ds p = ?
+values-fit u w e o args f row part has ds p = fits-row u w e f o args row has ds p
 
 -- what is held still fits after an instruction
 pub keeps-fit : (u : UnitText) (now : List Bool) (memory : Option (List Bool)) (t : Instant) (p : Passed) (l : LineText) → IsSound u l → Fits u (length now) p.held → Fits u (length now) (passes u now memory t l.inst l.result p).held

@@ -94,7 +94,7 @@ module _ (u : UnitText) (w : ℕ) (e : Env) (f : Fits u w e) where
 
   two : (os : List OperandText) (x y : OperandText) (t : TypeTree) → NoTime t → os ≡ x ∷ y ∷ [] → Each (IsLike u t) os → Matches os (t ∷ t ∷ [])
   unfolding Matches
-  two os x y t n e l = let k = subst (Each (IsLike u t)) e l in subst (λ (z : List OperandText). Matches z (t ∷ t ∷ [])) (sym e) ((k.0.0, n), (k.1.0.0, n), tt)
+  two os x y t n e l = let k = subst (Each (IsLike u t)) e l in subst (λ (z : List OperandText). Matches z (t ∷ t ∷ [])) (sym e) ((k.0.0, n), ((k.1.0.0, n), tt))
 
   alike-all : (os : List OperandText) (t : TypeTree) → NoTime t → Each (IsLike u t) os → Matches os (replicate (length os) t)
   unfolding Matches
@@ -112,3 +112,122 @@ module _ (u : UnitText) (w : ℕ) (e : Env) (f : Fits u w e) where
   unfolding Matches
   fields-match [] l = ([], refl, tt)
   fields-match (o ∷ os) l = let r = fields-match os l.1 in (l.0.0 ∷ r.0, ap suc r.1, ((l.0.2.1, no-time l.0.0 l.0.1), r.2))
+
+  -- the row of an operation on two integers, and of one that compares two values
+  Ints : List OperandText → TypeTree → Type 0
+  Ints os t = ((n : ℕ) × (t ≡ int_type n)) × Each (IsLike u t) os
+
+  Two : List OperandText → Type 0
+  Two os = (x y : OperandText) × (os ≡ x ∷ y ∷ [])
+
+  two-ints : (os : List OperandText) (t : TypeTree) → Ints os t → Two os → (n : ℕ) × (t ≡ int_type n) × Matches os (int_type n ∷ int_type n ∷ [])
+  unfolding Ints Two
+  two-ints os t l h = (l.0.0, l.0.1, two os h.0 h.1 (int_type l.0.0) (int-no-time l.0.0) h.2 (int-like os t l.0.0 l.0.1 l.1))
+
+  twos : (o : Op) (os : List OperandText) (t : TypeTree) (ds : List Datum) → Ints os t → Two os → data_at e os ≡ Some ds → ((n : ℕ) → RowType o (int_type n ∷ int_type n ∷ []) (int_type n)) → FitsOp o ds
+  twos o os t ds l h p k = let x = two-ints os t l h in made o os (int_type x.0 ∷ int_type x.0 ∷ []) (int_type x.0) ds x.2 p (k x.0)
+
+  compares : (o : Op) (os : List OperandText) (t : TypeTree) (ds : List Datum) → Ints os t → Two os → data_at e os ≡ Some ds → ((n : ℕ) → RowType o (int_type n ∷ int_type n ∷ []) (int_type 1)) → FitsOp o ds
+  compares o os t ds l h p k = let x = two-ints os t l h in made o os (int_type x.0 ∷ int_type x.0 ∷ []) (int_type 1) ds x.2 p (k x.0)
+
+  unary : (o : Op) (os : List OperandText) (t : TypeTree) (ds : List Datum) → Ints os t → (x : OperandText) → os ≡ x ∷ [] → data_at e os ≡ Some ds → ((n : ℕ) → RowType o (int_type n ∷ []) (int_type n)) → FitsOp o ds
+  unfolding Ints
+  unary o os t ds l x h p k = made o os (int_type l.0.0 ∷ []) (int_type l.0.0) ds (one os x (int_type l.0.0) (int-no-time l.0.0) h (int-like os t l.0.0 l.0.1 l.1)) p (k l.0.0)
+
+  equals : (o : Op) (os : List OperandText) (t : TypeTree) (ds : List Datum) → (is_data t ≡ true) × Each (IsLike u t) os → Two os → data_at e os ≡ Some ds → RowType o (t ∷ t ∷ []) (int_type 1) → FitsOp o ds
+  unfolding Two
+  equals o os t ds l h p k = made o os (t ∷ t ∷ []) (int_type 1) ds (two os h.0 h.1 t (no-time t l.0) h.2 l.1) p k
+
+  shift : (o : Op) (os : List OperandText) (t : TypeTree) (ds : List Datum) → OperationIs u shifts t os → data_at e os ≡ Some ds → ((n k : ℕ) → RowType o (int_type n ∷ int_type n ∷ int_type k ∷ []) (int_type n)) → FitsOp o ds
+  unfolding Matches
+  shift o [] t ds l p k = absurd l
+  shift o (b ∷ []) t ds l p k = absurd l
+  shift o (b ∷ h ∷ []) t ds l p k = absurd l
+  shift o (b ∷ h ∷ n ∷ []) t ds l p k =
+      let i = l.0.0 in
+      let j = l.3.0 in
+      made o (b ∷ h ∷ n ∷ []) (int_type i ∷ int_type i ∷ int_type j ∷ []) (int_type i) ds
+      ((l.1.0 ∙ ap Some l.0.1, int-no-time i), ((l.2.0 ∙ ap Some l.0.1, int-no-time i), ((l.3.1, int-no-time j), tt))) p (k i j)
+  shift o (b ∷ h ∷ n ∷ m ∷ more) t ds l p k = absurd l
+
+  select : (os : List OperandText) (t : TypeTree) (ds : List Datum) → OperationIs u selects t os → data_at e os ≡ Some ds → FitsOp op.Mux ds
+  unfolding Matches
+  select [] t ds l p = absurd l
+  select (x ∷ []) t ds l p = absurd l
+  select (x ∷ s ∷ []) t ds l p =
+      made op.Mux (x ∷ s ∷ []) (array_type l.1.0 t ∷ int_type l.2.0 ∷ []) t ds ((l.1.1, array-no-time l.1.0 t), ((l.2.1, int-no-time l.2.0), tt)) p (l.1.0, l.2.0, refl)
+  select (x ∷ s ∷ y ∷ more) t ds l p = absurd l
+
+  -- a value of a type that has the part
+  whole-part : (s : Step) (whole t : TypeTree) (d : Datum) → IsValueType whole → FitsType d whole → part_type s whole ≡ Some t → NoTime whole × HasPart whole s t
+  whole-part s (signal_type x) t d v g h = absurd v
+  whole-part s time_type t d v g h = absurd (none s h)
+    where
+      none : (r : Step) → part_type r time_type ≡ Some t → ⊥
+      none (Field k) q = cc
+      none (Slice a l) q = cc
+  whole-part s (int_type n) t d v g h = (int-no-time n, h)
+  whole-part s (array_type n x) t d v g h = (array-no-time n x, h)
+  whole-part s (tuple_type r) t d v g h = (no-time (tuple_type r) refl, h)
+  whole-part s _ t d v g h = absurd v
+
+  take-part : (o : Op) (s : Step) (os : List OperandText) (t : TypeTree) (ds : List Datum) → OperationIs u (takes_part s) t os → data_at e os ≡ Some ds → ((whole : TypeTree) → HasPart whole s t → RowType o (whole ∷ []) t) → FitsOp o ds
+  unfolding Matches
+  take-part o s [] t ds l p k = absurd l
+  take-part o s (x ∷ []) t ds l p k =
+      let y = front-some (datum_at e x.value) (data_at e []) ds p in
+      let v = datum-fits x.value y.0 l.0 y.2 l.1 in
+      let h = whole-part s l.0 t y.0 v.0 v.1 l.2 in
+      made o (x ∷ []) (l.0 ∷ []) t ds ((l.1, h.0), tt) p (k l.0 h.1)
+  take-part o s (x ∷ y ∷ more) t ds l p k = absurd l
+
+  put-part : (o : Op) (s : Step) (os : List OperandText) (t : TypeTree) (ds : List Datum) → OperationIs u (puts_part s) t os → data_at e os ≡ Some ds → ((q : TypeTree) → HasPart t s q → RowType o (t ∷ q ∷ []) t) → FitsOp o ds
+  unfolding Matches NoTime
+  put-part o s [] t ds l p k = absurd l
+  put-part o s (x ∷ []) t ds l p k = absurd l
+  put-part o s (x ∷ v ∷ []) t ds l p k =
+      let y = front-some (datum_at e x.value) (data_at e (v ∷ [])) ds p in
+      let g = datum-fits x.value y.0 t y.2 l.1 in
+      let h = data-part t s l.2.0 l.0 l.2.1 in
+      let d : IsData l.2.0 = part-is-data t s l.2.0 (is-data t (no-time t l.0) g.0) h in
+      let n : NoTime l.2.0 = λ (z : l.2.0 ≡ time_type). subst IsData z d in
+      made o (x ∷ v ∷ []) (t ∷ l.2.0 ∷ []) t ds ((l.1, no-time t l.0), ((l.2.2, n), tt)) p (k l.2.0 h)
+  put-part o s (x ∷ v ∷ y ∷ more) t ds l p k = absurd l
+
+  array : (os : List OperandText) (t : TypeTree) (ds : List Datum) → first_type os ≡ Some t → (is_data t ≡ true) × Each (IsLike u t) os → data_at e os ≡ Some ds → FitsOp op.Array ds
+  array os t ds first l p =
+      let n : length (replicate (length os) t) ≡ length os = length-replicate (length os) t in
+      made op.Array os (replicate (length os) t) (array_type (length (replicate (length os) t)) t) ds (alike-all os t (no-time t l.0) l.1) p
+      (t, omega (arith, n, some-first os t first), ap (λ (k : ℕ). replicate k t) (sym n), refl)
+
+  repeat : (n : ℕ) (os : List OperandText) (t : TypeTree) (ds : List Datum) → (is_data t ≡ true) × Each (IsLike u t) os → (x : OperandText) → os ≡ x ∷ [] → 0 < n → data_at e os ≡ Some ds → FitsOp (op.Repeat n) ds
+  repeat n os t ds l x h m p = made (op.Repeat n) os (t ∷ []) (array_type n t) ds (one os x t (no-time t l.0) h l.1) p (t, refl, m, refl)
+
+  tuple : (os : List OperandText) (t : TypeTree) (ds : List Datum) → first_type os ≡ Some t → Each (λ (o : OperandText). (g : TypeTree) × (is_data g ≡ true) × IsWritten u g o) os → data_at e os ≡ Some ds → FitsOp op.Tuple ds
+  tuple os t ds first l p = let r = fields-match os l in made op.Tuple os r.0 (tuple_type (row_of r.0)) ds r.2 p (omega (arith, r.1, some-first os t first), refl)
+
+  pub fits-row : (o : Op) (os : List OperandText) → RowIs u (pure_text o os) → HasOperands o os → (ds : List Datum) → data_at e os ≡ Some ds → FitsOp o ds
+  unfolding Ints Two
+  fits-row op.Not os r h ds p = unary op.Not os r.0 ds r.2 h.0 h.1 p (λ n. (n, refl, refl))
+  fits-row op.Neg os r h ds p = unary op.Neg os r.0 ds r.2 h.0 h.1 p (λ n. (n, refl, refl))
+  fits-row op.Eq os r h ds p = equals op.Eq os r.0 ds r.2 h p (r.0, refl, refl)
+  fits-row op.Neq os r h ds p = equals op.Neq os r.0 ds r.2 h p (r.0, refl, refl)
+  fits-row op.Slt os r h ds p = compares op.Slt os r.0 ds r.2 h p (λ n. (n, refl, refl))
+  fits-row op.Sgt os r h ds p = compares op.Sgt os r.0 ds r.2 h p (λ n. (n, refl, refl))
+  fits-row op.Sle os r h ds p = compares op.Sle os r.0 ds r.2 h p (λ n. (n, refl, refl))
+  fits-row op.Sge os r h ds p = compares op.Sge os r.0 ds r.2 h p (λ n. (n, refl, refl))
+  fits-row op.Ult os r h ds p = compares op.Ult os r.0 ds r.2 h p (λ n. (n, refl, refl))
+  fits-row op.Ugt os r h ds p = compares op.Ugt os r.0 ds r.2 h p (λ n. (n, refl, refl))
+  fits-row op.Ule os r h ds p = compares op.Ule os r.0 ds r.2 h p (λ n. (n, refl, refl))
+  fits-row op.Uge os r h ds p = compares op.Uge os r.0 ds r.2 h p (λ n. (n, refl, refl))
+  fits-row op.Shl os r h ds p = shift op.Shl os r.0 ds r.2 p (λ n k. (n, k, refl, refl))
+  fits-row op.Shr os r h ds p = shift op.Shr os r.0 ds r.2 p (λ n k. (n, k, refl, refl))
+  fits-row op.Mux os r h ds p = select os r.0 ds r.2 p
+  fits-row (op.Extf k) os r h ds p = take-part (op.Extf k) (Field k) os r.0 ds r.2 p (λ whole q. (whole, refl, q))
+  fits-row (op.Exts at len) os r h ds p = take-part (op.Exts at len) (Slice at len) os r.0 ds r.2 p (λ whole q. (whole, refl, q))
+  fits-row (op.Insf k) os r h ds p = put-part (op.Insf k) (Field k) os r.0 ds r.2 p (λ part q. (part, refl, q))
+  fits-row (op.Inss at len) os r h ds p = put-part (op.Inss at len) (Slice at len) os r.0 ds r.2 p (λ part q. (part, refl, q))
+  fits-row op.Array os r h ds p = array os r.0 ds r.1 r.2 p
+  fits-row (op.Repeat n) os r h ds p = repeat n os r.0 ds r.2 h.0.0 h.0.1 h.1 p
+  fits-row op.Tuple os r h ds p = tuple os r.0 ds r.1 r.2 p
+  fits-row o os r h ds p = twos o os r.0 ds r.2 h p (λ n. (n, refl, refl))
