@@ -3,3 +3,4 @@ pub mod WishSteps
 pub mod GivingText
 pub mod Holding
 pub mod PartsRead
+pub mod ValuesFit

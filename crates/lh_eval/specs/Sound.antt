@@ -3,12 +3,12 @@ use Rattle.std.specs.Prelude.{◌≡◌, ℕ, ◌<◌, ◌^◌, List, [], ◌∷
 use Rattle.lh_types.specs.Values.{Datum, int_value}
 use Rattle.lh_types.specs.declared.op.Op.{Op}
 use Rattle.lh_types.specs.declared.op.Op.TheVariants as op
-use Rattle.lh_unit.specs.Contents.{OperandText, InstText, const_text, pure_text, LineText, UnitText, ItemText, unit_text}
-use Rattle.lh_unit.specs.Hierarchy.{lines_of}
+use Rattle.lh_unit.specs.Contents.{OperandText, InstText, const_text, pure_text, LineText, UnitText}
 use Rattle.lh_unit.specs.Typing.{value_type, result_type}
-use Rattle.lh_unit.specs.Within.{Each}
-use Rattle.lh_unit.specs.WellFormed.{IsWellFormed}
+use Rattle.lh_types.specs.ApplyTypes.{FitsOp}
+use Rattle.lh_unit.specs.Held.{Env, data_at}
 use Rattle.lh_formed.specs.Operands.{RowIs}
+use Rattle.lh_eval.specs.Fitting.{Fits}
 use Rattle.lh_formed.specs.Parts.{HasPart}
 
 -- a constant is below 2 ^ its width
@@ -44,3 +44,7 @@ pub record IsSound (u : UnitText) (l : LineText) : Type 0 where
   pub part : HasPart u l.inst
   pub written : IsWrittenRight l.inst
   pub gives : (n : List ℕ) → l.result ≡ Some n → value_type u n ≡ result_type l.inst
+
+-- Where what is held fits, the values of an operation's operands fit its row.
+abbrev pub OperandsFitRows : Type 0
+OperandsFitRows = (u : UnitText) (width : ℕ) (e : Env) (o : Op) (args : List OperandText) → Fits u width e → RowIs u (pure_text o args) → HasOperands o args → (ds : List Datum) → data_at e args ≡ Some ds → FitsOp o ds

@@ -9,3 +9,6 @@ pub mod operands;
 pub mod operate;
 mod types;
 pub mod wishes;
+
+#[cfg(test)]
+mod tests;

@@ -18,7 +18,7 @@ use Rattle.lh_formed.specs.Parts.{HasPart}
 use Rattle.lh_eval.specs.Fitting.{Fits}
 use Rattle.lh_eval.specs.Sound.{HasOperands, IsSound}
 use Rattle.lh_react.specs.Standing.{InstanceFits}
-use Rattle.lh_react.proofs.ValuesFit.{fits-row}
+use Rattle.lh_eval.proofs.ValuesFit.{fits-row}
 
 -- the values of an operation's operands fit its row
 pub values-fit : (u : UnitText) (w : ℕ) (e : Env) (o : Op) (args : List OperandText) → Fits u w e → RowIs u (pure_text o args) → HasPart u (pure_text o args) → HasOperands o args → (ds : List Datum) → data_at e args ≡ Some ds → FitsOp o ds

@@ -22,7 +22,7 @@ use Rattle.lh_unit.specs.declared.inst.RegTrigger.{RegTrigger}
 use Rattle.lh_formed.specs.Operands.{RowIs, IsWritten, IsOf, TriggerIs}
 use Rattle.lh_eval.specs.Holding.{Holds, slot_at, datum_in, part_in, data_in, MaybeIn}
 use Rattle.lh_eval.specs.Fitting.{IsValueType, FitsHeld, Fits, PartFits, OperandsFit, ProbeFits, DriveFits}
-use Rattle.lh_eval.proofs.Holding.{same-held}
+use Rattle.lh_eval.proofs.ValuesFit.{datum-held}
 use Rattle.lh_react.specs.declared.pass.Run.{Run}
 use Rattle.lh_react.specs.Standing.{Stands, IsFit}
 use Rattle.lh_react.specs.Registers.{TriggerIn, TriggerFits}
@@ -31,15 +31,6 @@ part-held : (o : Option Held) (r : Range) → option_and_then as_part o ≡ Some
 part-held None r e = cc
 part-held (Some (part_held s)) r e = let p : s ≡ r = cc in ap (λ x. Some (part_held x)) p
 part-held (Some _) r e = cc
-
-pub datum-held : (o : Option Held) (d : Datum) → option_and_then as_datum o ≡ Some d → o ≡ Some (datum_held d)
-datum-held None d e = cc
-datum-held (Some (datum_held s)) d e = let p : s ≡ d = cc in ap (λ x. Some (datum_held x)) p
-datum-held (Some _) d e = cc
-
-maybe-held : (n : ℕ) (slots : List (Option Held)) (x : Option ValueId) → length slots ≡ n → ((v : ValueId) → x ≡ Some v → v.0 < n) → MaybeIn slots x
-maybe-held n slots None e w = tt
-maybe-held n slots (Some v) e w = omega (arith, e, w v refl)
 
 module _ (a : Arena) (u w : ℕ) (r : Run) (f : IsFit a u w r) where
   pub slots-long : length r.slots ≡ value_count a u

@@ -2,6 +2,5 @@ pub mod RunSteps
 pub mod BeginSteps
 pub mod FitLaws
 pub mod FitSteps
-pub mod ValuesFit
 pub mod NamedSteps
 pub mod InstsSteps

@@ -16,12 +16,17 @@ use Rattle.lh_types.proofs.LawProofs.{parts_are_within}
 use Rattle.lh_unit.specs.Contents.{OperandText, pure_text, UnitText}
 use Rattle.lh_unit.specs.Typing.{value_type, first_type}
 use Rattle.lh_unit.specs.TypingRows.{OperationRow, integers, alike, shifts, selects, takes_part, puts_part, elements, fields, part_type}
-use Rattle.lh_unit.specs.Held.{Held, Env, datum_at, data_at, front}
+use Rattle.lh_unit.specs.Held.{Held, datum_held, Env, as_datum, datum_at, data_at, front}
 use Rattle.lh_unit.specs.Within.{Each}
 use Rattle.lh_formed.specs.Operands.{IsOf, IsLike, IsWritten, OperationIs, RowIs}
 use Rattle.lh_eval.specs.Fitting.{IsValueType, Fits}
-use Rattle.lh_eval.specs.Sound.{HasOperands}
-use Rattle.lh_react.proofs.FitSteps.{datum-held}
+use Rattle.lh_eval.specs.Sound.{HasOperands, OperandsFitRows}
+
+-- a value that is held
+pub datum-held : (o : Option Held) (d : Datum) → option_and_then as_datum o ≡ Some d → o ≡ Some (datum_held d)
+datum-held None d e = cc
+datum-held (Some (datum_held s)) d e = let p : s ≡ d = cc in ap (λ x. Some (datum_held x)) p
+datum-held (Some _) d e = cc
 
 NoTime : TypeTree → Type 0
 NoTime t = t ≡ time_type → ⊥
@@ -231,3 +236,6 @@ module _ (u : UnitText) (w : ℕ) (e : Env) (f : Fits u w e) where
   fits-row (op.Repeat n) os r h ds p = repeat n os r.0 ds r.2 h.0.0 h.0.1 h.1 p
   fits-row op.Tuple os r h ds p = tuple os r.0 ds r.1 r.2 p
   fits-row o os r h ds p = twos o os r.0 ds r.2 h p (λ n. (n, refl, refl))
+
+pub operands-fit-rows : OperandsFitRows
+operands-fit-rows u w e o os f r h ds p = fits-row u w e f o os r h ds p
