@@ -4,3 +4,4 @@ pub mod GivingText
 pub mod Holding
 pub mod PartsRead
 pub mod ValuesFit
+pub mod GroupSteps

@@ -17,3 +17,9 @@ IsBefore t (d ∷ more) = instant_lt t d.0 ≡ true
 abbrev pub IsGrouped : List (Instant × List (ℕ × Bool)) → Type 0
 IsGrouped [] = Unit {0}
 IsGrouped (d ∷ more) = (is_filled d.1 ≡ true) × IsBefore d.0 more × IsGrouped more
+
+-- no list is empty, and no two that follow each other are of one instant
+abbrev pub Apart : List (Instant × List (ℕ × Bool)) → Type 0
+Apart [] = Unit {0}
+Apart (d ∷ []) = is_filled d.1 ≡ true
+Apart (d ∷ e ∷ more) = (is_filled d.1 ≡ true) × (d.0 ≡ e.0 → ⊥) × Apart (e ∷ more)

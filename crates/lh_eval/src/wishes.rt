@@ -2,7 +2,7 @@
 ghost use Rattle.std.specs.Prelude.{◌≡◌, ◌+◌, ◌<◌, ◌^◌, [], ◌∷◌, ◌++◌, length, Some, OnOk, OnErr, IfOk};
 ghost use Rattle.lh_types.specs.Wish.{no_wish, with_bit, with_bits, with_drive};
 ghost use Rattle.lh_eval.specs.WishOf.{due_bit, wish_of, writes_wish};
-ghost use Rattle.lh_eval.specs.Grouped.{IsGrouped};
+ghost use Rattle.lh_eval.specs.Grouped.{IsGrouped, Apart};
 
 use lh_time::Instant;
 use lh_types::bits::Bits;
@@ -70,7 +70,8 @@ impl Wishes {
 
     /// The same as lists of writes: the due instants strictly rise, and none of the lists is empty.
     pub fn writes(&self, alloc: Global) -> Result<DueWrites, NoMemory>
-        ensures { IfOk result (λ w. writes_wish w ≡ self.now) }
+        ensures wish { IfOk result (λ w. writes_wish w ≡ self.now) }
+        ensures grouped { IfOk result IsGrouped }
         {
         let all = grouped(alloc, &self.map)?;
         Ok(ListOf::from_vec(all))
@@ -82,7 +83,8 @@ fn grouped(
     alloc: Global,
     map: &BTreeMap<Key, bool>,
 ) -> Result<Vec<(Instant, BitWrites)>, NoMemory>
-    ensures { IfOk result (λ all. writes_wish all.items ≡ wish_of map.now.entries) }
+    ensures wish { IfOk result (λ all. writes_wish all.items ≡ wish_of map.now.entries) }
+    ensures grouped { IfOk result (λ all. IsGrouped all.items) }
 {
     let mut all = Vec::new(alloc);
     for (key, value) in map {
@@ -98,7 +100,8 @@ fn add(
     key: Key,
     value: bool,
 ) -> Result<(), NoMemory>
-    ensures { OnOk result (writes_wish all.new.items ≡ writes_wish all.old.items ++ (due_bit key, value) ∷ []) }
+    ensures wish { OnOk result (writes_wish all.new.items ≡ writes_wish all.old.items ++ (due_bit key, value) ∷ []) }
+    ensures apart { Apart all.old.items → OnOk result (Apart all.new.items) }
 {
     match all.pop() {
         None => push_new(alloc, all, key, value),
@@ -114,7 +117,8 @@ fn add_behind(
     key: Key,
     value: bool,
 ) -> Result<(), NoMemory>
-    ensures { OnOk result (writes_wish all.new.items ≡ writes_wish (all.old.items ++ last ∷ []) ++ (due_bit key, value) ∷ []) }
+    ensures wish { OnOk result (writes_wish all.new.items ≡ writes_wish (all.old.items ++ last ∷ []) ++ (due_bit key, value) ∷ []) }
+    ensures apart { Apart (all.old.items ++ last ∷ []) → OnOk result (Apart all.new.items) }
 {
     let (due, mut writes) = last;
     if due == key.due {
