@@ -17,6 +17,7 @@ use Rattle.lh_unit.specs.declared.inst.ValueId.{ValueId}
 use Rattle.lh_eval.specs.Holding.{Holds, given}
 use Rattle.lh_eval.specs.Fitting.{Fits}
 use Rattle.lh_eval.specs.WishOf.{writes_wish}
+use Rattle.lh_eval.specs.Grouped.{IsGrouped}
 use Rattle.lh_react.specs.declared.pass.Run.{Run}
 use Rattle.lh_react.specs.declared.entity.EntAct.{EntAct}
 
@@ -92,7 +93,8 @@ pub record InstanceFits (u : UnitText) (args sigs : List Range) (width : ℕ) : 
   pub of_args : RangesFit width args (arg_types u.args)
   pub of_signals : RangesFit width sigs (signal_types (lines_of u.blocks))
 
--- what a run answers: what the pass has seen is the next memory, and the writes have exactly the entries of its wish
+-- what a run answers: what the pass has seen is the next memory, and the writes have exactly the entries of its wish; their instants strictly rise, and none is empty
 pub record Reacts (p : Passed) (act : EntAct) : Type 0 where
   pub next : act.next ≡ Some p.seen
   pub wish : writes_wish act.wishes ≡ p.wish
+  pub grouped : IsGrouped act.wishes

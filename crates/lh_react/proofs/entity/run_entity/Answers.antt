@@ -62,4 +62,4 @@ returns c =
     let all : passed_all m u c.args.now.now c.args.state.now c.args.at p c.insts-insts.result.now ≡ pass_from (unit_text_at m u) c.args.now.now c.args.state.now c.args.at p (lines_of (unit_text_at m u).blocks) =
     ap (pass_from (unit_text_at m u) c.args.now.now c.args.state.now c.args.at p) ls in
     let end = subst (λ (q : Passed). Stands m u q c.run_insts.new.run) all (c.in_ok-run_insts.ensures p st) in
-    record { next = c.after.ensures ∙ ap Some end.seen; wish = c.in_ok-wishes.ensures ∙ end.wish }
+    record { next = c.after.ensures ∙ ap Some end.seen; wish = c.in_ok-wishes.ensures.wish ∙ end.wish; grouped = c.in_ok-wishes.ensures.grouped }
