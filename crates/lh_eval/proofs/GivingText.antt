@@ -1,12 +1,12 @@
 -- The line that gives a value, by ids and by names, and what the signal that it gives carries.
-use Rattle.std.proofs.Common.{◌≡◌, ℕ, ◌+◌, ◌<◌, ◌≤◌, zero, suc, Bool, true, false, if◌then◌else◌, List, [], ◌∷◌, length, map, get_or, Option, Some, None, refl, ap, sym, ◌∙◌, subst, arith}
+use Rattle.std.proofs.Common.{◌≡◌, ℕ, ◌+◌, ◌<◌, ◌≤◌, Bool, true, false, if◌then◌else◌, List, [], ◌∷◌, length, map, get_or, Option, Some, None, refl, ap, sym, ◌∙◌, subst, arith}
 use Rattle.std.specs.Option.{option_map, option_and_then}
 use Rattle.std.proofs.lemmas.Option.{slice_get-get_or}
 use Rattle.lh_types.specs.Types.{TypeTree}
-use Rattle.lh_unit.specs.Contents.{InstText, LineText, BlockText, ArgText, is_result_name}
+use Rattle.lh_unit.specs.Contents.{ArgText}
 use Rattle.lh_unit.specs.Typing.{or_else, result_type, arg_named, line_giving, inst_giving, value_type, carried}
-use Rattle.lh_unit.specs.Naming.{Naming, inst_text, arg_text, block_text}
-use Rattle.lh_unit.specs.Table.{Table, line_at, insts_at, is_result, is_block, ids_from, flat}
+use Rattle.lh_unit.specs.Naming.{inst_text, arg_text, block_text}
+use Rattle.lh_unit.specs.Table.{line_at, insts_at, is_result, ids_from, flat}
 use Rattle.lh_unit.specs.Within.{Each}
 use Rattle.lh_unit.specs.Arena.{Arena, IsArena, naming, table_at, args_at, blocks_at, block_insts_at, unit_text_at, unit_count, value_count, inst_count, block_count, value_name_at}
 use Rattle.lh_unit.specs.ById.{arg_being, inst_line}

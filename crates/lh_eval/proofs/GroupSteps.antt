@@ -1,5 +1,5 @@
 -- Lists of writes are in order of their instants, and none is empty.
-use Rattle.std.proofs.Common.{◌≡◌, ℕ, List, [], ◌∷◌, ◌++◌, Bool, true, false, if◌then◌else◌, nat_eq, nat_lt, map, refl, ap, sym, ◌∙◌, subst, arith}
+use Rattle.std.proofs.Common.{◌≡◌, ℕ, List, [], ◌∷◌, ◌++◌, Bool, true, false, if◌then◌else◌, nat_eq, nat_lt, refl, ap, sym, ◌∙◌, subst, arith}
 use Rattle.std.specs.declared.cmp.Ordering.{Ordering}
 use Rattle.std.specs.declared.cmp.Ordering.TheVariants.{Less, Equal, Greater}
 use Rattle.std.specs.Ordering.{ordering_then, is_lt, nat_cmp}
@@ -12,7 +12,7 @@ use Rattle.lh_time.specs.Order.{instant_cmp, instant_lt}
 use Rattle.lh_types.specs.Wish.{DueBit, Wish, due_bit_cmp}
 use Rattle.lh_eval.specs.declared.wishes.Key.{Key}
 use Rattle.lh_eval.specs.WishOf.{due_bit, wish_of, bits_due, writes_wish}
-use Rattle.lh_eval.specs.Grouped.{is_filled, IsBefore, IsGrouped, Apart}
+use Rattle.lh_eval.specs.Grouped.{is_filled, IsGrouped, Apart}
 use Rattle.lh_eval.proofs.WishSteps.{key_cmp}
 
 filled-more : (ws : List (ℕ × Bool)) (w : ℕ × Bool) → is_filled (ws ++ w ∷ []) ≡ true

@@ -1,19 +1,19 @@
 -- What is held by ids is what is held under names.
-use Rattle.std.proofs.Common.{◌≡◌, ◌≢◌, ℕ, ◌+◌, ◌<◌, zero, suc, Bool, true, false, if◌then◌else◌, nat_eq, List, [], ◌∷◌, ◌++◌, length, map, drop, replicate, get_or, set, Option, Some, None, refl, ap, sym, ◌∙◌, append_assoc, add-one, drop-cons, arith, get_or-set_same, get_or-set_other}
+use Rattle.std.proofs.Common.{◌≡◌, ℕ, ◌+◌, ◌<◌, zero, suc, Bool, if◌then◌else◌, nat_eq, List, [], ◌∷◌, ◌++◌, length, map, drop, replicate, get_or, set, Option, Some, None, refl, ap, sym, ◌∙◌, append_assoc, add-one, drop-cons, arith, get_or-set_same, get_or-set_other}
 use Rattle.std.specs.Option.{option_and_then, option_map}
 use Rattle.std.proofs.lemmas.List.{length-set, length-replicate}
 use Rattle.lh_types.specs.Values.{Datum}
-use Rattle.lh_unit.specs.Held.{Held, Env, nothing_held, with_held, as_datum, as_cell, as_part, as_delay, as_test, datum_at, data_at, front}
+use Rattle.lh_unit.specs.Held.{Held, Env, as_datum, as_cell, as_part, as_delay, as_test, datum_at, data_at, front}
 use Rattle.lh_unit.specs.Effects.{condition_at}
 use Rattle.lh_unit.specs.Contents.{same_name}
-use Rattle.lh_unit.specs.Arena.{Arena, IsArena, naming, unit_count, value_count, value_name_at}
+use Rattle.lh_unit.specs.Arena.{Arena, naming, value_count, value_name_at}
 use Rattle.lh_unit.specs.Naming.{value_text, maybe_text, operand_text}
 use Rattle.lh_unit.specs.Within.{Each}
 use Rattle.lh_unit.specs.declared.inst.ValueId.{ValueId}
 use Rattle.lh_unit.specs.declared.inst.Typed.{Typed}
 use Rattle.lh_unit.proofs.Lists.{Same, same, other, same_or, nat_eq-refl, nat_eq-other}
 use Rattle.lh_unit.proofs.ById.{same_value-by_id}
-use Rattle.lh_eval.specs.Holding.{Holds, slot_at, datum_in, condition_in, data_in, MaybeIn, SameHeld, HoldsSame, HoldsMore, HoldsGiven, HoldsNothing}
+use Rattle.lh_eval.specs.Holding.{Holds, datum_in, condition_in, data_in, MaybeIn, SameHeld, HoldsSame, HoldsMore, HoldsGiven, HoldsNothing}
 
 -- ---- reading
 

@@ -1,5 +1,5 @@
 -- Lists of one item many times, and lists read at an index.
-use Rattle.std.proofs.Common.{◌≡◌, ℕ, ◌+◌, ◌<◌, zero, suc, List, [], ◌∷◌, ◌++◌, map, replicate, length, get_or, drop, Result, Ok, Err, OnOk, refl, ap, ◌∙◌, sym, arith}
+use Rattle.std.proofs.Common.{◌≡◌, ℕ, ◌+◌, zero, suc, List, [], ◌∷◌, ◌++◌, map, replicate, get_or, Result, Ok, Err, OnOk, refl, ap}
 use Rattle.std.proofs.lemmas.List.{replicate-append-replicate}
 
 pub replicate-more : {X : Type 0} (n : ℕ) (x : X) → replicate n x ++ x ∷ [] ≡ replicate (n + 1) x

@@ -1,5 +1,5 @@
 -- The value of the bits of a part, and the part of a signal.
-use Rattle.std.proofs.Common.{◌≡◌, ℕ, ◌+◌, ◌<◌, ◌≤◌, Bool, List, [], ◌∷◌, length, map, take, drop, get_or, Option, Some, None, refl, ap, sym, ◌∙◌, subst, arith}
+use Rattle.std.proofs.Common.{◌≡◌, ℕ, ◌+◌, ◌≤◌, Bool, List, [], ◌∷◌, length, take, drop, get_or, Option, Some, None, refl, ap, sym, ◌∙◌, subst, arith}
 use Rattle.std.specs.Option.{option_and_then, option_map}
 use Rattle.std.proofs.lemmas.List.{length-drop}
 use Rattle.lh_types.specs.Types.{TypeTree, signal_type, IsData, bit_count}
@@ -13,7 +13,7 @@ use Rattle.lh_unit.specs.Contents.{OperandText, UnitText}
 use Rattle.lh_types.specs.Values.{Datum}
 use Rattle.lh_types.specs.Apply.{apply}
 use Rattle.lh_unit.specs.Typing.{carried, or_else}
-use Rattle.lh_unit.specs.Held.{Held, datum_held, Env, bits_in, data_at, part_at}
+use Rattle.lh_unit.specs.Held.{datum_held, Env, bits_in, data_at, part_at}
 use Rattle.lh_unit.specs.Effects.{operated, signal_part, stepped, probed, read_bits}
 
 -- the bits of a part are those from its lowest on, as far as its type has them

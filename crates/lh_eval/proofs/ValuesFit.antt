@@ -1,5 +1,5 @@
 -- The values of the operands of an operation fit its row.
-use Rattle.std.proofs.Common.{◌≡◌, ℕ, ◌+◌, ◌<◌, zero, suc, List, [], ◌∷◌, length, replicate, true, Option, Some, None, refl, ap, sym, ◌∙◌, subst, arith}
+use Rattle.std.proofs.Common.{◌≡◌, ℕ, ◌<◌, suc, List, [], ◌∷◌, length, replicate, true, Option, Some, None, refl, ap, sym, ◌∙◌, subst, arith}
 use Rattle.std.specs.Option.{option_and_then, option_map}
 use Rattle.std.proofs.lemmas.List.{length-replicate}
 use Rattle.lh_types.specs.Types.{TypeTree, int_type, time_type, array_type, tuple_type, signal_type, row_of, IsData, AreData}
@@ -14,8 +14,8 @@ use Rattle.lh_types.specs.declared.part.Step.{Step}
 use Rattle.lh_types.specs.declared.part.Step.TheVariants.{Field, Slice}
 use Rattle.lh_types.proofs.LawProofs.{parts_are_within}
 use Rattle.lh_unit.specs.Contents.{OperandText, pure_text, UnitText}
-use Rattle.lh_unit.specs.Typing.{value_type, first_type}
-use Rattle.lh_unit.specs.TypingRows.{OperationRow, integers, alike, shifts, selects, takes_part, puts_part, elements, fields, part_type}
+use Rattle.lh_unit.specs.Typing.{first_type}
+use Rattle.lh_unit.specs.TypingRows.{shifts, selects, takes_part, puts_part, part_type}
 use Rattle.lh_unit.specs.Held.{Held, datum_held, Env, as_datum, datum_at, data_at, front}
 use Rattle.lh_unit.specs.Within.{Each}
 use Rattle.lh_formed.specs.Operands.{IsOf, IsLike, IsWritten, OperationIs, RowIs}

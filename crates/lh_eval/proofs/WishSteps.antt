@@ -1,12 +1,12 @@
 -- One more bit of a wish, and entries by their instants.
-use Rattle.std.proofs.Common.{◌≡◌, ℕ, ◌+◌, zero, suc, List, [], ◌∷◌, ◌++◌, Bool, map, drop, Some, slice_get, refl, ap, sym, ◌∙◌, append_assoc, arith}
+use Rattle.std.proofs.Common.{◌≡◌, ℕ, ◌+◌, zero, suc, List, [], ◌∷◌, ◌++◌, Bool, drop, Some, slice_get, refl, ap, sym, ◌∙◌, append_assoc, arith}
 use Rattle.std.proofs.lemmas.List.{append-nil, map-append}
 use Rattle.std.specs.declared.cmp.Ordering.{Ordering}
 use Rattle.std.specs.declared.cmp.Ordering.TheVariants.{Less, Equal, Greater}
 use Rattle.std.specs.Ordering.{match_ordering}
 use Rattle.std.specs.BTreeMap.{insert_entry}
 use Rattle.lh_time.specs.declared.Instant.{Instant}
-use Rattle.lh_types.specs.Wish.{DueBit, Wish, due_bit_cmp, with_bit, with_bits}
+use Rattle.lh_types.specs.Wish.{Wish, due_bit_cmp, with_bit, with_bits}
 use Rattle.lh_eval.specs.declared.wishes.Key.{Key}
 use Rattle.lh_eval.specs.WishOf.{due_bit, wish_of, bits_due, writes_wish}
 

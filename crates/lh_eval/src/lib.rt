@@ -7,8 +7,7 @@ pub mod instance;
 pub mod laws;
 pub mod operands;
 pub mod operate;
-mod types;
-pub mod wishes;
-
 #[cfg(test)]
 mod tests;
+mod types;
+pub mod wishes;

@@ -95,7 +95,11 @@ pub fn condition_in(slots: &Slots, cond: Option<ValueId>) -> Option<bool>
 }
 
 /// Copies of the values that operands hold, where each holds one.
-pub fn data_in(alloc: Global, slots: &Slots, operands: &[Typed]) -> Result<Option<Vec<Val>>, NoMemory>
+pub fn data_in(
+    alloc: Global,
+    slots: &Slots,
+    operands: &[Typed],
+) -> Result<Option<Vec<Val>>, NoMemory>
     requires { Each (λ (o : Operand). o.value.0 < length slots.now) operands.now }
     ensures { IfOk result (λ vs. option_map (λ v. map datum_of v.items) vs ≡ holding.data_in slots.now operands.now) }
 {

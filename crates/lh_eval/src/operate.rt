@@ -72,13 +72,7 @@ fn signal_part(
 }
 
 /// The part of the signal that an operand holds to which an operation leads.
-fn stepped_part(
-    module: &Module,
-    unit: UnitId,
-    op: &Op,
-    arg: &Typed,
-    slots: &Slots,
-) -> Option<Range>
+fn stepped_part(module: &Module, unit: UnitId, op: &Op, arg: &Typed, slots: &Slots) -> Option<Range>
     requires unit { unit.0 < unit_count module.now }
     requires arg { arg.now.value.0 < value_count module.now unit.0 }
     requires slots { length slots.now ≡ value_count module.now unit.0 }

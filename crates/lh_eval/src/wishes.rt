@@ -72,17 +72,14 @@ impl Wishes {
     pub fn writes(&self, alloc: Global) -> Result<DueWrites, NoMemory>
         ensures wish { IfOk result (λ w. writes_wish w ≡ self.now) }
         ensures grouped { IfOk result IsGrouped }
-        {
+    {
         let all = grouped(alloc, &self.map)?;
         Ok(ListOf::from_vec(all))
     }
 }
 
 /// The entries of a map by their instants.
-fn grouped(
-    alloc: Global,
-    map: &BTreeMap<Key, bool>,
-) -> Result<Vec<(Instant, BitWrites)>, NoMemory>
+fn grouped(alloc: Global, map: &BTreeMap<Key, bool>) -> Result<Vec<(Instant, BitWrites)>, NoMemory>
     ensures wish { IfOk result (λ all. writes_wish all.items ≡ wish_of map.now.entries) }
     ensures grouped { IfOk result (λ all. IsGrouped all.items) }
 {

@@ -1,14 +1,13 @@
-use Rattle.std.proofs.Common.{◌≡◌, ◌<◌, List, length, map, Option, Some, None, ap, sym, ◌∙◌, subst}
+use Rattle.std.proofs.Common.{◌≡◌, ◌<◌, length, map, Some, None, ap, sym, ◌∙◌}
 use Rattle.std.specs.Option.{option_map}
 use Rattle.lh_types.specs.Values.{Datum}
 use Rattle.lh_types.specs.ValueOf.{datum_of}
 use Rattle.lh_types.specs.Apply.{apply}
 use Rattle.lh_unit.specs.Arena.{naming, unit_text_at}
-use Rattle.lh_unit.specs.Held.{Env, datum_held, data_at}
+use Rattle.lh_unit.specs.Held.{datum_held, data_at}
 use Rattle.lh_unit.specs.Naming.{operand_text}
 use Rattle.lh_unit.specs.Within.{Each}
 use Rattle.lh_unit.specs.declared.inst.Typed.{Typed}
-use Rattle.lh_eval.specs.Holding.{Holds, data_in}
 use Rattle.lh_eval.proofs.Holding.{same-held}
 use Rattle.lh_eval.proofs.PartsRead.{of-values, of-signal}
 use Rattle.lh_eval.proofs.operate.operate.Goals as goal

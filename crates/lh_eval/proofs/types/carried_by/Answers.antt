@@ -1,8 +1,7 @@
 use Rattle.std.proofs.Common.{◌≡◌, Some, None, ap, sym, ◌∙◌}
 use Rattle.std.specs.Option.{option_copied}
-use Rattle.lh_unit.specs.Arena.{args_at, blocks_at, table_at, naming}
+use Rattle.lh_unit.specs.Arena.{args_at, naming}
 use Rattle.lh_unit.specs.ById.{arg_being}
-use Rattle.lh_eval.specs.Giving.{blocks_giving}
 use Rattle.lh_eval.proofs.GivingText.{carried-arg, carried-inst, carried-none}
 use Rattle.lh_eval.proofs.types.carried_by.Goals as goal
 

@@ -1,4 +1,4 @@
-use Rattle.std.proofs.Common.{◌≡◌, ◌<◌, length}
+use Rattle.std.proofs.Common.{◌<◌, length}
 use Rattle.lh_unit.specs.Arena.{blocks_at}
 use Rattle.lh_eval.proofs.GivingText.{block-within, block-insts}
 use Rattle.lh_eval.proofs.types.inst_giving.Goals as goal

@@ -1,4 +1,4 @@
-use Rattle.std.proofs.Common.{◌≡◌, ◌<◌, drop}
+use Rattle.std.proofs.Common.{◌≡◌, drop}
 use Rattle.lh_unit.specs.Arena.{table_at, blocks_at}
 use Rattle.lh_eval.specs.Giving.{blocks_giving}
 use Rattle.lh_eval.proofs.types.inst_giving.Given as goal

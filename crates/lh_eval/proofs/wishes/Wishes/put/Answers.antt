@@ -1,4 +1,4 @@
-use Rattle.std.proofs.Common.{◌≡◌, ap, ◌∙◌}
+use Rattle.std.proofs.Common.{ap, ◌∙◌}
 use Rattle.lh_types.specs.Wish.{with_bit}
 use Rattle.lh_eval.specs.WishOf.{wish_of}
 use Rattle.lh_eval.proofs.WishSteps.{put-wish}
