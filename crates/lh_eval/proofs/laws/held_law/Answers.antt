@@ -1,0 +1,5 @@
+use Rattle.lh_eval.proofs.Holding.{holds-same, holds-more, holds-given, holds-nothing}
+use Rattle.lh_eval.proofs.laws.held_law.Goals as goal
+
+pub returns : goal.returns
+returns c = record { same = holds-same; more = holds-more; given = holds-given; nothing = holds-nothing }

@@ -1,0 +1,7 @@
+pub mod HeldOf
+pub mod Holding
+pub mod Giving
+pub mod Fitting
+pub mod Sound
+pub mod WishOf
+pub mod Grouped

@@ -1,0 +1,118 @@
+//! What is held by the values of a unit.
+ghost use Rattle.std.specs.Prelude.{◌≡◌, ◌<◌, ◌++◌, ◌∷◌, [], length, replicate, slice_set, IfOk};
+ghost use Rattle.std.specs.Option.{option_copied};
+ghost use Rattle.lh_eval.specs.HeldOf.{held_of, maybe_held};
+ghost use Rattle.lh_eval.specs.Holding.{slot_at, given, MaybeIn};
+
+use lh_types::part::Range;
+use lh_types::ty::NoMemory;
+use lh_types::val::Val;
+use lh_unit::inst::ValueId;
+use std::alloc::Global;
+use std::marker::Model;
+
+/// What a value of a unit is while the unit runs.
+#[derive(Drop)]
+pub enum Held {
+    /// A value of a data type, or a time.
+    Datum(Val),
+    /// A variable, with what is stored in it.
+    Cell(Val),
+    /// A part of the signals: a range of their bits.
+    Part(Range),
+}
+
+impl Held {
+    /// An equal one.
+    pub fn copy(&self) -> Result<Held, NoMemory>
+        ensures { IfOk result (λ h. held_of h ≡ held_of self.now) }
+    {
+        match self {
+            Held::Datum(v) => {
+                let v = v.copy()?;
+                Ok(Held::Datum(v))
+            }
+            Held::Cell(v) => {
+                let v = v.copy()?;
+                Ok(Held::Cell(v))
+            }
+            Held::Part(r) => Ok(Held::Part(*r)),
+        }
+    }
+}
+
+/// What is held by the values of one unit, by their ids.
+#[derive(Drop)]
+pub struct Slots {
+    slots: Vec<Option<Held>>,
+}
+
+impl Model for Slots {
+    ghost use Rattle.std.specs.Prelude.{List, Option, map};
+    ghost use Rattle.std.specs.Coded.{codes};
+    ghost use Rattle.lh_types.specs.Values.{datum_coded};
+    ghost use Rattle.lh_unit.specs.Held.{Held};
+
+    ghost Value = { List (Option Held) };
+
+    ghost coded = { Prim.hlevel (codes, datum_coded) };
+
+    ghost use Rattle.lh_eval.specs.HeldOf.{maybe_held};
+
+    ghost view = { λ s. map maybe_held s.slots.items };
+}
+
+impl Slots {
+    /// Slots for so many values, in which nothing is held.
+    pub fn new(alloc: Global, len: u32) -> Result<Slots, NoMemory>
+        ensures { IfOk result (λ s. s ≡ replicate len None) }
+    {
+        let mut slots = Vec::new(alloc);
+        for i in 0..len {
+            push_none(&mut slots)?;
+        }
+        Ok(Slots { slots })
+    }
+
+    /// How many values there are.
+    pub fn len(&self) -> usize
+        ensures { result ≡ length self.now }
+    {
+        self.slots.len()
+    }
+
+    /// What is held by a value, if anything is.
+    pub fn get(&self, value: ValueId) -> Option<&Held>
+        requires { value.0 < length self.now }
+        ensures { maybe_held (option_copied result) ≡ slot_at self.now value }
+    {
+        self.slots[value.0 as usize].as_ref()
+    }
+
+    /// Holds this by a value, in place of what it held.
+    pub fn set(&mut self, value: ValueId, held: Held)
+        requires { value.0 < length self.old }
+        ensures { self.new ≡ slice_set self.old value.0 (Some (held_of held)) }
+    {
+        self.slots[value.0 as usize] = Some(held);
+    }
+
+    /// Holds what an instruction gives by the value that names its result, where both are there.
+    pub fn give(&mut self, name: Option<ValueId>, held: Option<Held>)
+        requires { MaybeIn self.old name }
+        ensures { self.new ≡ given self.old name (maybe_held held) }
+    {
+        if let (Some(value), Some(held)) = (name, held) {
+            self.set(value, held);
+        }
+    }
+}
+
+fn push_none(slots: &mut Vec<Option<Held>>) -> Result<(), NoMemory>
+    ensures { IfOk result (λ _. slots.new.items ≡ slots.old.items ++ None ∷ []) }
+{
+    match slots.push(None) {
+        Ok(()) => Ok(()),
+        Err(_) => Err(NoMemory),
+    }
+}

@@ -1,0 +1,13 @@
+//! What an instruction gives or drives wherever it stands: operations, parts of signals, probes and drives.
+#![tactic(auto)]
+
+pub mod effects;
+pub mod held;
+pub mod instance;
+pub mod laws;
+pub mod operands;
+pub mod operate;
+#[cfg(test)]
+mod tests;
+mod types;
+pub mod wishes;

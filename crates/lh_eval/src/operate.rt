@@ -1,0 +1,110 @@
+//! What an operation gives: of values a value, of a signal its part.
+ghost use Rattle.std.specs.Prelude.{◌≡◌, ◌+◌, ◌<◌, ◌^◌, length, map, Some, IfOk};
+ghost use Rattle.std.specs.Option.{option_map};
+ghost use Rattle.lh_types.specs.Types.{IsData, bit_count, signal_type};
+ghost use Rattle.lh_unit.specs.Arena.{unit_count, value_count, sizes, naming, unit_text_at};
+ghost use Rattle.lh_unit.specs.Effects as effects;
+ghost use Rattle.lh_unit.specs.Effects.{operated, stepped};
+ghost use Rattle.lh_unit.specs.Held.{Env, part_held};
+ghost use Rattle.lh_unit.specs.Naming.{operand_text, value_text};
+ghost use Rattle.lh_unit.specs.Within.{Each, OperandWithin};
+ghost use Rattle.lh_eval.specs.HeldOf.{maybe_held};
+ghost use Rattle.lh_unit.specs.Typing.{value_type};
+ghost use Rattle.lh_eval.specs.Holding as holding;
+ghost use Rattle.lh_eval.specs.Holding.{Holds};
+ghost use Rattle.lh_eval.specs.Fitting.{PartFits, OperandsFit};
+
+use crate::held::{Held, Slots};
+use crate::operands::{data_in, part_in};
+use crate::types::carried_by;
+use lh_ops::apply;
+use lh_types::op::Op;
+use lh_types::part::{Range, Step, range_of};
+use lh_types::ty::{NoMemory, Ty};
+use lh_unit::inst::{Typed, UnitId};
+use lh_unit::module::Module;
+use std::alloc::Global;
+
+/// What an operation of a unit gives: the value of the operands where each holds a value; or else the part of a signal
+/// that `extf` or `exts` names; `None` where an operand holds neither.
+pub fn operate(
+    alloc: Global,
+    module: &Module,
+    unit: UnitId,
+    op: &Op,
+    args: &[Typed],
+    slots: &Slots,
+) -> Result<Option<Held>, NoMemory>
+    requires unit { unit.0 < unit_count module.now }
+    requires args { Each (OperandWithin (sizes module.now unit.0)) args.now }
+    requires slots { length slots.now ≡ value_count module.now unit.0 }
+    requires fit { OperandsFit module.now unit.0 slots.now op.now args.now }
+    ensures { (e : Env) → Holds module.now unit.0 slots.now e → IfOk result (λ h. maybe_held h ≡ operated (unit_text_at module.now unit.0) e op.now (map (operand_text (naming module.now unit.0)) args.now)) }
+{
+    if let Some(values) = data_in(alloc, slots, args)? {
+        let value = apply(alloc, op, values.as_slice())?;
+        return Ok(Some(Held::Datum(value)));
+    }
+    match signal_part(module, unit, op, args, slots) {
+        Some(range) => Ok(Some(Held::Part(range))),
+        None => Ok(None),
+    }
+}
+
+/// The part of a signal that `extf` or `exts` names.
+fn signal_part(
+    module: &Module,
+    unit: UnitId,
+    op: &Op,
+    args: &[Typed],
+    slots: &Slots,
+) -> Option<Range>
+    requires unit { unit.0 < unit_count module.now }
+    requires args { Each (OperandWithin (sizes module.now unit.0)) args.now }
+    requires slots { length slots.now ≡ value_count module.now unit.0 }
+    requires fit { OperandsFit module.now unit.0 slots.now op.now args.now }
+    ensures { (e : Env) → Holds module.now unit.0 slots.now e → option_map part_held result ≡ effects.signal_part (unit_text_at module.now unit.0) e op.now (map (operand_text (naming module.now unit.0)) args.now) }
+{
+    if args.len() != 1 {
+        return None;
+    }
+    stepped_part(module, unit, op, &args[0], slots)
+}
+
+/// The part of the signal that an operand holds to which an operation leads.
+fn stepped_part(module: &Module, unit: UnitId, op: &Op, arg: &Typed, slots: &Slots) -> Option<Range>
+    requires unit { unit.0 < unit_count module.now }
+    requires arg { arg.now.value.0 < value_count module.now unit.0 }
+    requires slots { length slots.now ≡ value_count module.now unit.0 }
+    requires fit { PartFits module.now unit.0 slots.now arg.now.value }
+    ensures { option_map part_held result ≡ stepped (value_type (unit_text_at module.now unit.0) (value_text (naming module.now unit.0) arg.now.value)) (holding.part_in slots.now arg.now.value) (effects.step_of op.now) }
+{
+    let step = step_of(op)?;
+    let whole = part_in(slots, arg.value)?;
+    let carried = carried_by(module, unit, arg.value)?;
+    step_into(carried, whole, step)
+}
+
+/// The step into a signal that an operation takes.
+fn step_of(op: &Op) -> Option<Step>
+    ensures { result ≡ effects.step_of op.now }
+{
+    match op {
+        Op::Extf(k) => Some(Step::Field(*k)),
+        Op::Exts { at, len } => Some(Step::Slice { at: *at, len: *len }),
+        _ => None,
+    }
+}
+
+/// The part of a part of the signals, which carries this type, that a step leads to.
+fn step_into(carried: &Ty, whole: Range, step: Step) -> Option<Range>
+    requires data { IsData carried.now }
+    requires within { whole.lo + bit_count carried.now < 2 ^ 32 }
+    ensures { option_map part_held result ≡ stepped (Some (signal_type carried.now)) (Some whole) (Some step) }
+{
+    let part = range_of(carried, &[step])?;
+    Some(Range {
+        lo: whole.lo + part.lo,
+        len: part.len,
+    })
+}

@@ -1,0 +1,191 @@
+//! What the signal that is a value carries, read from the line that gives the value.
+ghost use Rattle.std.specs.Prelude.{◌≡◌, ◌<◌, map, IfSome};
+ghost use Rattle.std.specs.Option.{option_and_then, option_copied};
+ghost use Rattle.lh_types.specs.Types.{IsData};
+ghost use Rattle.lh_unit.specs.Arena.{unit_count, value_count, inst_count, blocks_at, result_at, table_at, naming, unit_text_at};
+ghost use Rattle.lh_unit.specs.Table.{is_result};
+ghost use Rattle.lh_unit.specs.ById as byid;
+ghost use Rattle.lh_unit.specs.Naming.{Naming, inst_text, value_text, operand_text};
+ghost use Rattle.lh_unit.specs.Typing as typing;
+ghost use Rattle.lh_unit.specs.Typing.{result_type, signal_of, first_type, operation_type, value_type};
+ghost use Rattle.lh_unit.specs.Within.{Each};
+ghost use Rattle.lh_unit.specs.declared.inst.InstId.{InstId as Id};
+ghost use Rattle.lh_eval.specs.Giving as giving;
+
+use lh_types::op::Op;
+use lh_types::ty::{Ty, TyKind, carries_data};
+use lh_unit::inst::{Arg, Inst, InstId, Typed, UnitId, ValueId};
+use lh_unit::module::Module;
+
+/// What a signal of this type carries.
+pub fn carried(ty: &Ty) -> Option<&Ty>
+    ensures of { option_copied result ≡ typing.carried ty.now }
+    ensures data { IfSome result (λ t. IsData t.now) }
+{
+    match ty.kind() {
+        TyKind::Signal(of) => Some(of),
+        _ => None,
+    }
+}
+
+/// What a pointer of this type points to.
+fn pointed(ty: &Ty) -> Option<&Ty>
+    ensures { option_copied result ≡ typing.pointed ty.now }
+{
+    match ty.kind() {
+        TyKind::Pointer(of) => Some(of),
+        _ => None,
+    }
+}
+
+/// What the signal that is a value of a unit carries; `None` where the value is no signal.
+///
+/// It is read from the line that gives the value, in a time that grows as the number of the unit's instructions.
+pub fn carried_by(module: &Module, unit: UnitId, value: ValueId) -> Option<&Ty>
+    requires unit { unit.0 < unit_count module.now }
+    requires value { value.0 < value_count module.now unit.0 }
+    ensures { option_copied result ≡ option_and_then typing.carried (value_type (unit_text_at module.now unit.0) (value_text (naming module.now unit.0) value)) }
+{
+    if let Some(arg) = arg_being(module.args(unit), value) {
+        return carried(&arg.ty);
+    }
+    match inst_giving(module, unit, value) {
+        Some(inst) => carried_by_inst(inst),
+        None => None,
+    }
+}
+
+/// The argument that is this value.
+fn arg_being(args: &[Arg], value: ValueId) -> Option<&Arg>
+    ensures { option_copied result ≡ byid.arg_being args.now value.0 }
+{
+    for arg in args {
+        if arg.value == value {
+            return Some(arg);
+        }
+    }
+    None
+}
+
+/// The first instruction of a unit that gives this value.
+fn inst_giving(module: &Module, unit: UnitId, value: ValueId) -> Option<&Inst>
+    requires { unit.0 < unit_count module.now }
+    ensures { option_copied result ≡ giving.blocks_giving (table_at module.now unit.0) (blocks_at module.now unit.0) value.0 }
+{
+    for block in module.blocks(unit) {
+        let insts = module.insts(unit, *block);
+        if let Some(inst) = inst_among(module, unit, insts, value) {
+            return Some(inst);
+        }
+    }
+    None
+}
+
+/// The first of these instructions that gives this value.
+fn inst_among<'a>(
+    module: &'a Module,
+    unit: UnitId,
+    insts: &[InstId],
+    value: ValueId,
+) -> Option<&'a Inst>
+    requires unit { unit.0 < unit_count module.now }
+    requires insts { Each (λ (i : Id). i.0 < inst_count module.now unit.0) insts.now }
+    ensures { option_copied result ≡ giving.insts_giving (table_at module.now unit.0) insts.now value.0 }
+{
+    for inst in insts {
+        if gives(module, unit, *inst, value) {
+            return Some(module.inst(unit, *inst));
+        }
+    }
+    None
+}
+
+/// Whether an instruction gives this value.
+fn gives(module: &Module, unit: UnitId, inst: InstId, value: ValueId) -> bool
+    requires unit { unit.0 < unit_count module.now }
+    requires inst { inst.0 < inst_count module.now unit.0 }
+    ensures { result ≡ is_result (result_at module.now unit.0 inst.0) value.0 }
+{
+    match module.result_of(unit, inst) {
+        Some(given) => given == value,
+        None => false,
+    }
+}
+
+/// What the signal that an instruction gives carries.
+fn carried_by_inst(inst: &Inst) -> Option<&Ty>
+    ensures { (f : Naming) → option_copied result ≡ option_and_then typing.carried (result_type (inst_text f inst.now)) }
+{
+    match inst {
+        Inst::Pure { op, args } => carried_by_operation(op, args.as_slice()),
+        Inst::Sig(initial) => data(initial),
+        Inst::Prb(signal) => carried_twice(signal),
+        Inst::Ld(pointer) => carried_behind(pointer),
+        _ => None,
+    }
+}
+
+/// The type that is written before an operand, where that is a data type.
+fn data(operand: &Typed) -> Option<&Ty>
+    ensures { option_copied result ≡ option_and_then typing.carried (option_and_then signal_of operand.now.ty) }
+{
+    match &operand.ty {
+        Some(ty) if carries_data(ty) => Some(ty),
+        _ => None,
+    }
+}
+
+/// What is carried by what the type that is written carries; there is none such.
+fn carried_twice(operand: &Typed) -> Option<&Ty>
+    ensures { option_copied result ≡ option_and_then typing.carried (option_and_then typing.carried operand.now.ty) }
+{
+    match &operand.ty {
+        Some(ty) => carried(carried(ty)?),
+        None => None,
+    }
+}
+
+/// What is carried by what the type that is written points to; there is none such.
+fn carried_behind(operand: &Typed) -> Option<&Ty>
+    ensures { option_copied result ≡ option_and_then typing.carried (option_and_then typing.pointed operand.now.ty) }
+{
+    match &operand.ty {
+        Some(ty) => carried(pointed(ty)?),
+        None => None,
+    }
+}
+
+/// What the signal that an operation gives carries: where it is `extf` or `exts` of a signal, that is what is written.
+fn carried_by_operation<'a>(op: &Op, args: &'a [Typed]) -> Option<&'a Ty>
+    ensures { (f : Naming) → option_copied result ≡ option_and_then typing.carried (operation_type op.now (map (operand_text f) args.now)) }
+{
+    match op {
+        Op::Eq
+        | Op::Neq
+        | Op::Slt
+        | Op::Sgt
+        | Op::Sle
+        | Op::Sge
+        | Op::Ult
+        | Op::Ugt
+        | Op::Ule
+        | Op::Uge
+        | Op::Array
+        | Op::Repeat(_)
+        | Op::Tuple => None,
+        _ => carried_first(args),
+    }
+}
+
+/// What the type that is written first carries.
+fn carried_first(args: &[Typed]) -> Option<&Ty>
+    ensures { (f : Naming) → option_copied result ≡ option_and_then typing.carried (first_type (map (operand_text f) args.now)) }
+{
+    if args.is_empty() {
+        return None;
+    }
+    match &args[0].ty {
+        Some(ty) => carried(ty),
+        None => None,
+    }
+}
