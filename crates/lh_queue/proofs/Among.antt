@@ -5,10 +5,11 @@ use Rattle.lh_time.specs.declared.Instant.{Instant}
 use Rattle.lh_time.specs.Order.{instant_lt}
 use Rattle.lh_time.proofs.OrderLemmas.{instant_lt-le_lt}
 use Rattle.lh_types.specs.History.{Claim, claim_cmp, IsAmong}
+use Rattle.lh_history.proofs.Orders.{is_less}
+use Rattle.lh_history.proofs.Claims.{among_parts}
 use Rattle.lh_queue.specs.declared.wish.Wish.{Wish}
 use Rattle.lh_queue.specs.Held.{Held, is_before, IsBeforeAll, AreInOrder, NamesOnce, IsUnnamed, EachNamesOnce, with_held, due_later}
 use Rattle.lh_queue.specs.Holds.{entries_of, wish_entries, entries, IsAfter, IsFrom, HoldsFor, HoldsOn, HoldsMore}
-use Rattle.lh_queue.proofs.Order.{is_less}
 
 pub among_left : (xs ys : List Claim) (c : Claim) → IsAmong c xs → IsAmong c (xs ++ ys)
 among_left [] ys c h = absurd h
@@ -18,11 +19,6 @@ among_left (x ∷ xs) ys c (inr h) = inr (among_left xs ys c h)
 pub among_right : (xs ys : List Claim) (c : Claim) → IsAmong c ys → IsAmong c (xs ++ ys)
 among_right [] ys c h = h
 among_right (x ∷ xs) ys c h = inr (among_right xs ys c h)
-
-pub among_parts : (xs ys : List Claim) (c : Claim) → IsAmong c (xs ++ ys) → IsAmong c xs ⊎ IsAmong c ys
-among_parts [] ys c h = inr h
-among_parts (x ∷ xs) ys c (inl p) = inl (inl p)
-among_parts (x ∷ xs) ys c (inr h) = ⊎_elim (λ k. inl (inr k)) inr (among_parts xs ys c h)
 
 -- where an entry of a wish comes from
 pub record Origin (due made : Instant) (i : ℕ) (es : List (ℕ × Bool)) (c : Claim) : Type 0 where

@@ -1,46 +1,24 @@
 -- What a wish that is due sets, and what wishes that are due later do not.
-use Rattle.std.proofs.Common.{◌≡◌, ◌<◌, ℕ, zero, suc, ◌+◌, List, [], ◌∷◌, ◌++◌, Bool, true, false, not, ◌&&◌, if◌then◌else◌, nat_eq, Option, Some, None, set, refl, ap, sym, ◌∙◌, arith}
+use Rattle.std.proofs.Common.{◌≡◌, ◌<◌, ℕ, zero, suc, ◌+◌, List, [], ◌∷◌, ◌++◌, Bool, true, false, not, ◌&&◌, if◌then◌else◌, nat_eq, Some, None, set, refl, ap, sym, ◌∙◌, arith}
 use Rattle.std.specs.declared.cmp.Ordering.{Ordering}
 use Rattle.std.specs.declared.cmp.Ordering.TheVariants.{Less, Equal, Greater}
 use Rattle.std.specs.Ordering.{is_lt, is_le, is_eq, ordering_then, ordering_reverse, nat_cmp}
 use Rattle.std.specs.Option.{option_map_or}
+use Rattle.std.specs.Cmp.{Equal-is}
 use Rattle.std.proofs.lemmas.Cmp.{tied_itself}
 use Rattle.std.proofs.lemmas.Bool.{eq-eqb, ne_eqb}
-use Rattle.std.proofs.lemmas.Bool.Decides.{nat_tests}
 use Rattle.lh_time.specs.declared.Instant.{Instant}
 use Rattle.lh_time.specs.Order.{instant_cmp, instant_lt, instant_le}
-use Rattle.lh_time.specs.Due.{instant}
 use Rattle.lh_time.proofs.OrderLemmas.{instant_cmp_total, instant_lt-not_le, instant_lt-le_lt}
 use Rattle.lh_types.specs.History.{Claim, claim_cmp, is_due_by, greater, greatest_from, value_by, values_by}
+use Rattle.lh_history.proofs.Instants.{instant_one}
+use Rattle.lh_history.proofs.Claims.{AllLate, greatest_late}
 use Rattle.lh_queue.specs.declared.wish.Wish.{Wish}
 use Rattle.lh_queue.specs.Held.{Held, wish_cmp, is_before, is_at, IsBeforeAll, AreInOrder, NoneDueBefore, due_later}
 use Rattle.lh_queue.specs.Holds.{entries_of, entries}
 use Rattle.lh_queue.specs.Written.{written}
 use Rattle.lh_queue.specs.Places.{starts_at}
 use Rattle.lh_queue.proofs.Order.{wish_total}
-
--- each is due later
-abbrev pub AllLate : Instant → List Claim → Type 0
-AllLate t [] = Unit {0}
-AllLate t (c ∷ more) = (instant_lt t c.due ≡ true) × AllLate t more
-
-back : (b : Bool) → not b ≡ true → b ≡ false
-back true h = cc
-back false h = refl
-
-pub late_not_le : (t d : Instant) → instant_lt t d ≡ true → instant_le d t ≡ false
-late_not_le t d h = back (instant_le d t) (sym (instant_lt-not_le t d) ∙ h)
-
-none_of : (b d : Bool) → d ≡ false → (b && d) ≡ false
-none_of true d h = h
-none_of false d h = refl
-
-pub late_not_due : (bit : ℕ) (t : Instant) (c : Claim) → instant_lt t c.due ≡ true → is_due_by bit t c ≡ false
-late_not_due bit t c h = none_of (nat_eq c.bit bit) (instant_le c.due t) (late_not_le t c.due h)
-
-greatest_late : (bit : ℕ) (t : Instant) (b : Option Claim) (cs : List Claim) → AllLate t cs → greatest_from bit t b cs ≡ b
-greatest_late bit t b [] a = refl
-greatest_late bit t b (c ∷ more) a = rw (late_not_due bit t c a.0) (greatest_late bit t b more a.1)
 
 -- what is due later sets no bit
 pub values_late : (t : Instant) (cs : List Claim) → AllLate t cs → (k : ℕ) (bits : List Bool) → values_by cs t k bits ≡ bits
@@ -211,34 +189,5 @@ pub not_started : (t : Instant) (held : List Held) → AreInOrder held → NoneD
 not_started t [] o d n = tt
 not_started t (x ∷ more) o d n = not_due_later t x more o d.0 n
 
-pub nat_one : (a b : ℕ) → nat_cmp a b ≡ Equal → a ≡ b
-nat_one a b h = grind (arith, nat_tests)
-
-pub then_equal : (o p : Ordering) → ordering_then o p ≡ Equal → (o ≡ Equal) × (p ≡ Equal)
-then_equal Less p h = absurd (clash h)
-  where
-    clash : Less ≡ Equal → ⊥
-    clash z = cc
-then_equal Equal p h = (refl, h)
-then_equal Greater p h = absurd (clash h)
-  where
-    clash : Greater ≡ Equal → ⊥
-    clash z = cc
-
--- instants that compare as equal are one
-pub instant_one : (a b : Instant) → instant_cmp a b ≡ Equal → a ≡ b
-instant_one a b h =
-    let p = then_equal (nat_cmp a.fs b.fs) (ordering_then (nat_cmp a.delta b.delta) (nat_cmp a.eps b.eps)) h in
-    let q = then_equal (nat_cmp a.delta b.delta) (nat_cmp a.eps b.eps) p.1 in
-    same a.fs a.delta a.eps b.fs b.delta b.eps (nat_one a.fs b.fs p.0) (nat_one a.delta b.delta q.0) (nat_one a.eps b.eps q.1)
-  where
-    same : (f d e g i j : ℕ) → f ≡ g → d ≡ i → e ≡ j → instant f d e ≡ instant g i j
-    same f d e g i j x y z = cc
-
-is_equal : (o : Ordering) → is_eq o ≡ true → o ≡ Equal
-is_equal Less h = cc
-is_equal Equal h = refl
-is_equal Greater h = cc
-
 pub at_one : (a b : Instant) → is_at a b ≡ true → a ≡ b
-at_one a b h = instant_one a b (is_equal (instant_cmp a b) h)
+at_one a b h = instant_one a b ((Equal-is (instant_cmp a b)).0 h)

@@ -1,26 +1,26 @@
 -- The bits at an instant by the held wishes are those by the history, and the soonest held wish is the soonest of all.
-use Rattle.std.proofs.Common.{◌≡◌, ◌⊎◌, inl, inr, ⊎_elim, ℕ, ◌+◌, List, [], ◌∷◌, Bool, true, false, not, ◌&&◌, nat_eq, if◌then◌else◌, Option, Some, None, IfSome, refl, ap, sym, ◌∙◌, subst}
+use Rattle.std.proofs.Common.{◌≡◌, inl, inr, ⊎_elim, ℕ, ◌+◌, List, [], ◌∷◌, Bool, true, false, not, if◌then◌else◌, Option, Some, None, IfSome, refl, ap, sym, ◌∙◌, subst}
 use Rattle.std.specs.declared.cmp.Ordering.{Ordering}
 use Rattle.std.specs.declared.cmp.Ordering.TheVariants.{Less, Equal, Greater}
-use Rattle.std.specs.Ordering.{is_lt, is_le, is_gt, ordering_then, ordering_reverse, nat_cmp}
+use Rattle.std.specs.Ordering.{is_lt, is_le, is_gt, ordering_then, nat_cmp}
 use Rattle.std.specs.Option.{option_map_or}
-use Rattle.std.proofs.lemmas.Bool.{eqb-true, eq-eqb}
-use Rattle.std.proofs.lemmas.Cmp.{tied_itself}
+use Rattle.std.proofs.lemmas.Bool.{eq-eqb, both_ways}
+use Rattle.std.specs.Cmp.{both_ways as both_tests}
 use Rattle.lh_time.specs.declared.Instant.{Instant}
 use Rattle.lh_time.specs.Order.{instant_cmp, instant_lt, instant_le}
-use Rattle.lh_time.proofs.OrderLemmas.{instant_cmp_total, instant_lt-not_le}
-use Rattle.lh_types.specs.History.{Made, Claim, claims, claim_cmp, is_due_by, greatest_from, greater, value_by, values_by, bits_at, IsAmong, sooner, soonest_due}
+use Rattle.lh_time.proofs.OrderLemmas.{instant_lt-not_le}
+use Rattle.lh_types.specs.History.{Made, Claim, claims, claim_cmp, is_due_by, greatest_from, greater, value_by, values_by, bits_at, IsAmong, IsGreatest, sooner, soonest_due}
+use Rattle.lh_history.specs.Greatest.{IsGreatestIfAny}
+use Rattle.lh_history.proofs.Orders.{le_of, level}
+use Rattle.lh_history.proofs.Instants.{instant_one, le_self, le_trans, not_lt_le}
+use Rattle.lh_history.proofs.Claims.{claim_total, due_bit, due_time, among_parts}
+use Rattle.lh_history.proofs.Greatest.{greatest_is_found}
 use Rattle.lh_queue.specs.declared.wish.Wish.{Wish}
 use Rattle.lh_queue.specs.Held.{Held, AreInOrder, EachNamesOnce, IsBeforeAll, NoneDueBefore, IsLeastDue}
 use Rattle.lh_queue.specs.Holds.{entries_of, wish_entries, entries, IsAfter, IsFrom, HoldsFor, bits_after, AreBitsAt, IsSoonestDue}
 use Rattle.lh_queue.specs.Places.{first_wish}
-use Rattle.lh_queue.proofs.Found.{claim_total, Finds, Result, found}
-use Rattle.lh_queue.proofs.Among.{one_each, among_left, among_parts, origin}
-use Rattle.lh_queue.proofs.Entries.{lt_le_trans, due_upto, late_not_le, instant_one}
-
-no_both : (b : Bool) → b ≡ true → b ≡ false → ⊥
-no_both true h k = cc
-no_both false h k = cc
+use Rattle.lh_queue.proofs.Among.{one_each, among_left, origin}
+use Rattle.lh_queue.proofs.Entries.{lt_le_trans, due_upto}
 
 -- not above one is no later than it is due
 due_of_gt : (o p : Ordering) → is_gt (ordering_then o p) ≡ false → is_gt o ≡ false
@@ -28,36 +28,12 @@ due_of_gt Less p h = refl
 due_of_gt Equal p h = refl
 due_of_gt Greater p h = h
 
-le_of : (o : Ordering) → is_gt o ≡ false → is_le o ≡ true
-le_of Less h = refl
-le_of Equal h = refl
-le_of Greater h = cc
-
 due_upto_gt : (c m : Claim) → is_gt (claim_cmp c m) ≡ false → instant_le c.due m.due ≡ true
 due_upto_gt c m h = le_of (instant_cmp c.due m.due) (due_of_gt (instant_cmp c.due m.due) (ordering_then (instant_cmp c.made m.made) (nat_cmp c.instance m.instance)) h)
-
-level : (o : Ordering) → is_gt o ≡ false → is_gt (ordering_reverse o) ≡ false → o ≡ Equal
-level Less h k = cc
-level Equal h k = refl
-level Greater h k = cc
 
 after_upto : (last : Option Instant) (t u : Instant) → IsAfter last t → instant_le t u ≡ true → IsAfter last u
 after_upto None t u a l = tt
 after_upto (Some k) t u a l = lt_le_trans k t u a l
-
-due_bit : (bit : ℕ) (t : Instant) (c : Claim) → is_due_by bit t c ≡ true → c.bit ≡ bit
-due_bit bit t c h = at (nat_eq c.bit bit) refl h
-  where
-    at : (b : Bool) → nat_eq c.bit bit ≡ b → (b && instant_le c.due t) ≡ true → c.bit ≡ bit
-    at true e k = eqb-true c.bit bit e
-    at false e k = cc
-
-due_time : (bit : ℕ) (t : Instant) (c : Claim) → is_due_by bit t c ≡ true → instant_le c.due t ≡ true
-due_time bit t c h = at (nat_eq c.bit bit) h
-  where
-    at : (b : Bool) → (b && instant_le c.due t) ≡ true → instant_le c.due t ≡ true
-    at true k = k
-    at false k = cc
 
 due_by : (bit : ℕ) (t : Instant) (c : Claim) → c.bit ≡ bit → instant_le c.due t ≡ true → is_due_by bit t c ≡ true
 due_by bit t c b l = rw (eq-eqb c.bit bit b) l
@@ -75,22 +51,6 @@ none_due bit t (x ∷ xs) b h =
     ap (λ k. greatest_from bit t (if k then Some (greater b x) else b) xs) (h x (inl refl))
     ∙ none_due bit t xs b (λ d m. h d (inr m))
 
-same_tests : (a b : Bool) → (a ≡ true → b ≡ true) → (b ≡ true → a ≡ true) → a ≡ b
-same_tests true b f g = sym (f refl)
-same_tests false true f g = g refl
-same_tests false false f g = refl
-
-pub le_trans : (a b c : Instant) → instant_le a b ≡ true → instant_le b c ≡ true → instant_le a c ≡ true
-le_trans a b c h k = at (instant_le a c) refl
-  where
-    turn : (x : Bool) → x ≡ false → not x ≡ true
-    turn true e = cc
-    turn false e = refl
-
-    at : (x : Bool) → instant_le a c ≡ x → x ≡ true
-    at true e = refl
-    at false e = absurd (no_both (instant_le b c) k (late_not_le c b (lt_le_trans c a b (instant_lt-not_le c a ∙ turn (instant_le a c) e) h)))
-
 -- the value of a bit at the last taking, or its initial value
 value_after : List Claim → Bool → ℕ → Option Instant → Bool
 value_after cs b bit None = b
@@ -98,34 +58,16 @@ value_after cs b bit (Some l) = value_by cs b bit l
 
 module _ (held : List Held) (cs : List Claim) (last : Option Instant) (t : Instant) (o : AreInOrder held) (n : EachNamesOnce held) (h : HoldsFor held cs last) (f : IsFrom last t) (bit : ℕ) (b : Bool) where
   -- one of the held entries is the greatest
-  some_value : (c : Claim) (r : Option Claim) → Finds bit t None (entries held) c → Result bit t None cs r → c.value ≡ option_map_or (λ (d : Claim). d.value) r b
-  some_value c r k j = by (origin_of k.from)
-    where
-      clash : (x : Claim) → None ≡ Some x → ⊥
-      clash x z = cc
-
-      origin_of : (None ≡ Some c) ⊎ (IsAmong c (entries held) × (is_due_by bit t c ≡ true)) → IsAmong c (entries held) × (is_due_by bit t c ≡ true)
-      origin_of (inl z) = absurd (clash c z)
-      origin_of (inr z) = z
-
-      from_all : (m : Claim) → (None ≡ Some m) ⊎ (IsAmong m cs × (is_due_by bit t m ≡ true)) → IsAmong m cs × (is_due_by bit t m ≡ true)
-      from_all m (inl z) = absurd (clash m z)
-      from_all m (inr z) = z
-
-      with_it : (r : Option Claim) → Result bit t None cs r → IsAmong c (entries held) × (is_due_by bit t c ≡ true) → c.value ≡ option_map_or (λ (d : Claim). d.value) r b
-      with_it None q p = absurd (no_both (is_due_by bit t c) p.1 (q.1 c ((h.due c).0 p.0).0))
-      with_it (Some m) q p =
-          let in_all = (h.due c).0 p.0 in
-          let m_from = from_all m q.from in
-          let up : is_gt (claim_cmp c m) ≡ false = q.rest c in_all.0 p.1 in
-          let m_held : IsAmong m (entries held) = (h.due m).1 (m_from.0, after_upto last c.due m.due in_all.1 (due_upto_gt c m up)) in
-          let down : is_gt (claim_cmp m c) ≡ false = k.rest m m_held m_from.1 in
-          one_each held o n c m p.0 m_held (due_bit bit t c p.1 ∙ sym (due_bit bit t m m_from.1))
-          (level (claim_cmp c m) up (ap is_gt (sym (claim_total.antisymm m c)) ∙ down))
-          (level (claim_cmp m c) down (ap is_gt (sym (claim_total.antisymm c m)) ∙ up))
-
-      by : IsAmong c (entries held) × (is_due_by bit t c ≡ true) → c.value ≡ option_map_or (λ (d : Claim). d.value) r b
-      by p = with_it r j p
+  some_value : (c : Claim) (r : Option Claim) → IsGreatest bit t (entries held) c → IsGreatestIfAny bit t cs r → c.value ≡ option_map_or (λ (d : Claim). d.value) r b
+  some_value c None k q = absurd (both_ways (is_due_by bit t c) (q c ((h.due c).0 k.among).0) k.is_due)
+  some_value c (Some m) k q =
+      let in_all = (h.due c).0 k.among in
+      let up : is_gt (claim_cmp c m) ≡ false = q.greatest c in_all.0 k.is_due in
+      let m_held : IsAmong m (entries held) = (h.due m).1 (q.among, after_upto last c.due m.due in_all.1 (due_upto_gt c m up)) in
+      let down : is_gt (claim_cmp m c) ≡ false = k.greatest m m_held q.is_due in
+      one_each held o n c m k.among m_held (due_bit bit t c k.is_due ∙ sym (due_bit bit t m q.is_due))
+      (level (claim_cmp c m) up (ap is_gt (sym (claim_total.antisymm m c)) ∙ down))
+      (level (claim_cmp m c) down (ap is_gt (sym (claim_total.antisymm c m)) ∙ up))
 
   -- none of them is due on the bit
   none_value : ((d : Claim) → IsAmong d (entries held) → is_due_by bit t d ≡ false) → value_after cs b bit last ≡ value_by cs b bit t
@@ -134,24 +76,20 @@ module _ (held : List Held) (cs : List Claim) (last : Option Instant) (t : Insta
     where
       at : (l : Option Instant) → HoldsFor held cs l → IsFrom l t → value_after cs b bit l ≡ value_by cs b bit t
       at None j g = sym (ap (λ r. option_map_or (λ (d : Claim). d.value) r b) (none_due bit t cs None (λ d m. q d ((j.due d).1 (m, tt)))))
-      at (Some l) j g = ap (λ r. option_map_or (λ (d : Claim). d.value) r b) (same_due bit l t cs None (λ d m. same_tests (is_due_by bit l d) (is_due_by bit t d)
+      at (Some l) j g = ap (λ r. option_map_or (λ (d : Claim). d.value) r b) (same_due bit l t cs None (λ d m. both_tests (is_due_by bit l d) (is_due_by bit t d)
           (λ p. due_by bit t d (due_bit bit l d p) (le_trans d.due l t (due_time bit l d p) g))
           (λ p. early d m p (instant_lt l d.due) refl)))
         where
           early : (d : Claim) → IsAmong d cs → is_due_by bit t d ≡ true → (x : Bool) → instant_lt l d.due ≡ x → is_due_by bit l d ≡ true
-          early d m p true e = absurd (no_both (is_due_by bit t d) p (q d ((j.due d).1 (m, e))))
-          early d m p false e = due_by bit l d (due_bit bit t d p) (unless (instant_le d.due l) (sym (instant_lt-not_le l d.due) ∙ e))
-            where
-              unless : (x : Bool) → not x ≡ false → x ≡ true
-              unless true z = refl
-              unless false z = cc
+          early d m p true e = absurd (both_ways (is_due_by bit t d) (q d ((j.due d).1 (m, e))) p)
+          early d m p false e = due_by bit l d (due_bit bit t d p) (not_lt_le d.due l e)
 
   value_held : value_by (entries held) (value_after cs b bit last) bit t ≡ value_by cs b bit t
-  value_held = at (greatest_from bit t None (entries held)) (found bit t (entries held) None)
+  value_held = at (greatest_from bit t None (entries held)) (greatest_is_found bit t (entries held))
     where
-      at : (r : Option Claim) → Result bit t None (entries held) r → option_map_or (λ (d : Claim). d.value) r (value_after cs b bit last) ≡ value_by cs b bit t
-      at None q = none_value q.1
-      at (Some c) q = some_value c (greatest_from bit t None cs) q (found bit t cs None)
+      at : (r : Option Claim) → IsGreatestIfAny bit t (entries held) r → option_map_or (λ (d : Claim). d.value) r (value_after cs b bit last) ≡ value_by cs b bit t
+      at None q = none_value q
+      at (Some c) q = some_value c (greatest_from bit t None cs) q (greatest_is_found bit t cs)
 
 values_after : List Claim → (last : Option Instant) → ℕ → List Bool → List Bool
 values_after cs None k bits = bits
@@ -228,7 +166,7 @@ soonest_is last t (x ∷ more) c (inl p) e l h = at (instant_lt last x.due) (ap 
 
     at : (b : Bool) → b ≡ true → IfSome (soonest_due last more) (λ u. instant_le t u ≡ true) → sooner (if b then Some x.due else None) (soonest_due last more) ≡ Some t
     at true k q = with_rest (soonest_due last more) q
-    at false k q = absurd (no_both false k refl)
+    at false k q = absurd (both_ways false refl k)
 soonest_is last t (x ∷ more) c (inr m) e l h = at (instant_lt last x.due) refl (soonest_is last t more c m e l (λ d n. h d (inr n)))
   where
     beside : (b : Bool) → instant_lt t x.due ≡ b → instant_le t x.due ≡ true → Some (if b then t else x.due) ≡ Some t
@@ -245,9 +183,6 @@ due_from_first w [] d b m = absurd m
 due_from_first w (y ∷ ys) d b m = ⊎_elim
     (λ l. let o = origin y.wish.due y.wish.made y.wish.instance y.wish.bits d l in ap (instant_le w.due) o.when ∙ due_upto w y.wish b.0)
     (λ l. due_from_first w ys d b.1 l) (among_parts (wish_entries y.wish) (entries ys) d m)
-
-le_self : (t : Instant) → instant_le t t ≡ true
-le_self t = ap is_le (tied_itself instant_cmp_total t)
 
 pub soonest_first : (held : List Held) (w : Wish) → AreInOrder held → Some w ≡ first_wish held → IsSoonestDue held (Some w.due)
 soonest_first [] w o e all last h n = absurd (clash e)

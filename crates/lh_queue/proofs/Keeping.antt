@@ -2,10 +2,10 @@
 use Rattle.std.proofs.Common.{◌≡◌, ◌≢◌, ◌⊎◌, inl, inr, [], ◌∷◌, Bool, true, false, if◌then◌else◌}
 use Rattle.std.specs.Ordering.{nat_cmp, ordering_then}
 use Rattle.lh_time.specs.Order.{instant_cmp, instant_lt}
+use Rattle.lh_history.proofs.Orders.{then_equal, nat_one}
+use Rattle.lh_history.proofs.Instants.{instant_one, le_trans}
 use Rattle.lh_queue.specs.Held.{is_before, with_held, due_later, NoneCompetes, NoneDueBefore, EachWithin, EachNames}
 use Rattle.lh_queue.specs.Laws.{MoreWithin, MoreNames, MoreApart, MoreDue, LaterWithin, LaterNames, LaterApart, SoonerDue, DifferentApart}
-use Rattle.lh_queue.proofs.Entries.{then_equal, nat_one, instant_one}
-use Rattle.lh_queue.proofs.Holding.{le_trans}
 
 pub more_within : MoreWithin
 more_within n [] x h b = (b, tt)

@@ -5,7 +5,6 @@ pub mod Putting
 pub mod Writing
 pub mod Placing
 pub mod Entries
-pub mod Found
 pub mod Among
 pub mod Holding
 pub mod Taking

@@ -6,17 +6,13 @@ use Rattle.std.specs.Ordering.{is_lt, ordering_reverse}
 use Rattle.std.specs.Cmp.{IsTotalOrder}
 use Rattle.std.proofs.lemmas.Cmp.{then_total, on_total, nat_cmp_total}
 use Rattle.lh_time.proofs.OrderLemmas.{instant_cmp_total}
+use Rattle.lh_history.proofs.Orders.{is_less}
 use Rattle.lh_queue.specs.declared.wish.Wish.{Wish}
 use Rattle.lh_queue.specs.Held.{Held, wish_cmp, is_before, IsBeforeAll, AreInOrder, NoneHas, KeysDiffer, NoneCompetes, NamesOnce, EachNamesOnce, with_held}
 use Rattle.lh_queue.specs.Places.{AllBefore}
 
 pub wish_total : IsTotalOrder wish_cmp
 wish_total = then_total (on_total (λ (w : Wish). w.due) instant_cmp_total) (then_total (on_total (λ (w : Wish). w.made) instant_cmp_total) (on_total (λ (w : Wish). w.instance) nat_cmp_total))
-
-pub is_less : (o : Ordering) → is_lt o ≡ true → o ≡ Less
-is_less Less h = refl
-is_less Equal h = cc
-is_less Greater h = cc
 
 pub before_trans : (a b c : Wish) → is_before a b ≡ true → is_before b c ≡ true → is_before a c ≡ true
 before_trans a b c h k = ap is_lt (wish_total.trans a b c (is_less _ h) (is_less _ k))

@@ -1,39 +1,21 @@
--- The greatest entry that is computed is the greatest.
+-- The greatest entry that is computed is the greatest, and two greatest are level.
 use Rattle.std.proofs.Common.{◌≡◌, ◌⊎◌, inl, inr, ⊎_elim, ℕ, List, [], ◌∷◌, Bool, true, false, if◌then◌else◌, refl, ap, sym, ◌∙◌, Option, Some, None}
-use Rattle.std.specs.declared.cmp.Ordering.{Ordering}
-use Rattle.std.specs.declared.cmp.Ordering.TheVariants.{Less, Equal, Greater}
-use Rattle.std.specs.Ordering.{is_le, is_gt, ordering_reverse}
-use Rattle.std.specs.Cmp.{IsTotalOrder}
-use Rattle.std.proofs.lemmas.Cmp.{then_total, on_total, nat_cmp_total, tied_itself, upto}
+use Rattle.std.specs.Ordering.{is_le, is_gt}
+use Rattle.std.proofs.lemmas.Cmp.{upto}
 use Rattle.lh_time.specs.declared.Instant.{Instant}
-use Rattle.lh_time.proofs.OrderLemmas.{instant_cmp_total}
 use Rattle.lh_types.specs.History.{Claim, claim_cmp, is_due_by, greater, greatest_from, IsAmong}
-
-pub claim_total : IsTotalOrder claim_cmp
-claim_total = then_total (on_total (λ (c : Claim). c.due) instant_cmp_total) (then_total (on_total (λ (c : Claim). c.made) instant_cmp_total) (on_total (λ (c : Claim). c.instance) nat_cmp_total))
-
-not_above_self : (c : Claim) → is_gt (claim_cmp c c) ≡ false
-not_above_self c = ap is_gt (tied_itself claim_total c)
-
--- the greater of two is above neither
-le_not_gt : (o : Ordering) → is_le o ≡ true → is_gt o ≡ false
-le_not_gt Less h = refl
-le_not_gt Equal h = refl
-le_not_gt Greater h = cc
-
-not_le_back : (o : Ordering) → is_le o ≡ false → is_gt (ordering_reverse o) ≡ false
-not_le_back Less h = cc
-not_le_back Equal h = cc
-not_le_back Greater h = refl
+use Rattle.lh_history.specs.Greatest.{IsGreatestIfAny, GreatestIsFound, GreatestAreLevel}
+use Rattle.lh_history.proofs.Orders.{le_not_gt, not_le_back, level}
+use Rattle.lh_history.proofs.Claims.{claim_total, not_above_self}
 
 module _ (bit : ℕ) (t : Instant) where
   -- what a search from b over cs finds
-  pub record Finds (b : Option Claim) (cs : List Claim) (c : Claim) : Type 0 where
-    pub from : (b ≡ Some c) ⊎ (IsAmong c cs × (is_due_by bit t c ≡ true))
-    pub start : (d : Claim) → b ≡ Some d → is_gt (claim_cmp d c) ≡ false
-    pub rest : (d : Claim) → IsAmong d cs → is_due_by bit t d ≡ true → is_gt (claim_cmp d c) ≡ false
+  record Finds (b : Option Claim) (cs : List Claim) (c : Claim) : Type 0 where
+    from : (b ≡ Some c) ⊎ (IsAmong c cs × (is_due_by bit t c ≡ true))
+    start : (d : Claim) → b ≡ Some d → is_gt (claim_cmp d c) ≡ false
+    rest : (d : Claim) → IsAmong d cs → is_due_by bit t d ≡ true → is_gt (claim_cmp d c) ≡ false
 
-  abbrev pub Result : Option Claim → List Claim → Option Claim → Type 0
+  abbrev Result : Option Claim → List Claim → Option Claim → Type 0
   Result b cs None = (b ≡ None) × ((d : Claim) → IsAmong d cs → is_due_by bit t d ≡ false)
   Result b cs (Some c) = Finds b cs c
 
@@ -91,10 +73,26 @@ module _ (bit : ℕ) (t : Instant) where
       clash z = cc
   taken b x xs (Some c) e h = taken_at b x (greater b x) xs c e (chosen b x) h
 
-  pub found : (cs : List Claim) (b : Option Claim) → Result b cs (greatest_from bit t b cs)
+  found : (cs : List Claim) (b : Option Claim) → Result b cs (greatest_from bit t b cs)
   found [] b = at_first b
   found (x ∷ xs) b = at (is_due_by bit t x) refl (λ u. found xs u)
     where
       at : (k : Bool) → is_due_by bit t x ≡ k → ((u : Option Claim) → Result u xs (greatest_from bit t u xs)) → Result b (x ∷ xs) (greatest_from bit t (if k then Some (greater b x) else b) xs)
       at true e ih = taken b x xs _ e (ih (Some (greater b x)))
       at false e ih = skipped b x xs _ e (ih b)
+
+greatest_of : (bit : ℕ) (t : Instant) (all : List Claim) (r : Option Claim) → Result bit t None all r → IsGreatestIfAny bit t all r
+greatest_of bit t all None h = h.1
+greatest_of bit t all (Some c) h = record { among = origin.0; is_due = origin.1; greatest = h.rest }
+  where
+    clash : None ≡ Some c → ⊥
+    clash z = cc
+
+    origin : IsAmong c all × (is_due_by bit t c ≡ true)
+    origin = ⊎_elim (λ p. absurd (clash p)) (λ q. q) h.from
+
+pub greatest_is_found : GreatestIsFound
+greatest_is_found bit t all = greatest_of bit t all (greatest_from bit t None all) (found bit t all None)
+
+pub greatest_are_level : GreatestAreLevel
+greatest_are_level bit t all c d h k = level (claim_cmp c d) (k.greatest c h.among h.is_due) (ap is_gt (sym (claim_total.antisymm d c)) ∙ h.greatest d k.among k.is_due)

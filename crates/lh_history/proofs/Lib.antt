@@ -1,0 +1,4 @@
+pub mod Orders
+pub mod Instants
+pub mod Claims
+pub mod Greatest
