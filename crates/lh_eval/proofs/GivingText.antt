@@ -1,12 +1,12 @@
 -- The line that gives a value, by ids and by names, and what the signal that it gives carries.
-use Rattle.std.proofs.Common.{◌≡◌, ℕ, ◌+◌, ◌<◌, ◌≤◌, Bool, true, false, if◌then◌else◌, List, [], ◌∷◌, length, map, get_or, Option, Some, None, refl, ap, sym, ◌∙◌, subst, arith}
+use Rattle.std.proofs.Common.{◌≡◌, ℕ, ◌<◌, Bool, true, false, if◌then◌else◌, List, [], ◌∷◌, length, map, get_or, Option, Some, None, refl, ap, sym, ◌∙◌}
 use Rattle.std.specs.Option.{option_map, option_and_then}
 use Rattle.std.proofs.lemmas.Option.{slice_get-get_or}
 use Rattle.lh_types.specs.Types.{TypeTree}
 use Rattle.lh_unit.specs.Contents.{ArgText}
 use Rattle.lh_unit.specs.Typing.{or_else, result_type, arg_named, line_giving, inst_giving, value_type, carried}
 use Rattle.lh_unit.specs.Naming.{inst_text, arg_text, block_text}
-use Rattle.lh_unit.specs.Table.{line_at, insts_at, is_result, ids_from, flat}
+use Rattle.lh_unit.specs.Table.{line_at, insts_at, is_result}
 use Rattle.lh_unit.specs.Within.{Each}
 use Rattle.lh_unit.specs.Arena.{Arena, IsArena, naming, table_at, args_at, blocks_at, block_insts_at, unit_text_at, unit_count, value_count, inst_count, block_count, value_name_at}
 use Rattle.lh_unit.specs.ById.{arg_being, inst_line}
@@ -15,7 +15,7 @@ use Rattle.lh_unit.specs.declared.inst.InstId.{InstId}
 use Rattle.lh_unit.specs.declared.inst.Inst.{Inst}
 use Rattle.lh_unit.specs.declared.inst.Arg.{Arg}
 use Rattle.lh_unit.specs.declared.table.Line.{Line}
-use Rattle.lh_unit.proofs.Lists.{Each-part}
+use Rattle.lh_unit.proofs.Texts.{insts-within}
 use Rattle.lh_unit.proofs.Tables.{is_block-at, stands-within}
 use Rattle.lh_unit.proofs.ById.{result-within, is_result_name-by_id, arg_named-by_id}
 use Rattle.lh_eval.specs.Giving.{insts_giving, blocks_giving}
@@ -28,20 +28,13 @@ either : {X Y : Type 0} (f : X → Y) (o q : Option X) → or_else (option_map f
 either f None q = refl
 either f (Some x) q = refl
 
-ids-within : (n k : ℕ) (ls : List Line) → k + length ls ≤ n → Each (λ (i : InstId). i.0 < n) (ids_from k ls)
-ids-within n k [] h = tt
-ids-within n k (l ∷ ls) h = (omega arith, ids-within n (k + 1) ls (omega arith))
-
 module _ (a : Arena) (u : ℕ) (o : IsArena a) (h : u < unit_count a) where
   -- a block of the unit has an entry, and its instructions are of the unit
   pub block-within : (j : ℕ) (d : BlockId) → j < length (blocks_at a u) → (get_or (blocks_at a u) j d).0 < block_count a u
   block-within j d w = stands-within (table_at a u) (get_or (blocks_at a u) j d).0 (o.tables u h) (is_block-at (blocks_at a u) j (get_or (blocks_at a u) j d) (slice_get-get_or (blocks_at a u) j d w))
 
   pub block-insts : (j : ℕ) (d : BlockId) → j < length (blocks_at a u) → Each (λ (i : InstId). i.0 < inst_count a u) (block_insts_at a u (get_or (blocks_at a u) j d).0)
-  block-insts j d w =
-      let all : Each (λ (i : InstId). i.0 < inst_count a u) (flat (map (λ (b : BlockId). insts_at (table_at a u) b.0) (blocks_at a u))) =
-      subst (Each (λ (i : InstId). i.0 < inst_count a u)) (sym (o.tables u h).in_order) (ids-within (inst_count a u) 0 (table_at a u).lines (omega arith)) in
-      Each-part (λ (i : InstId). i.0 < inst_count a u) (λ (b : BlockId). insts_at (table_at a u) b.0) (blocks_at a u) j (get_or (blocks_at a u) j d) (slice_get-get_or (blocks_at a u) j d w) all
+  block-insts j d w = insts-within (table_at a u) (o.tables u h) j (get_or (blocks_at a u) j d) (slice_get-get_or (blocks_at a u) j d w)
 
   lines-give : (v : ℕ) → v < value_count a u → (is : List InstId) → line_giving (value_name_at a u v) (map (inst_line (naming a u) (table_at a u)) is) ≡ option_map (inst_text (naming a u)) (insts_giving (table_at a u) is v)
   lines-give v p [] = refl

@@ -1,15 +1,15 @@
 -- Lists of writes are in order of their instants, and none is empty.
-use Rattle.std.proofs.Common.{◌≡◌, ℕ, List, [], ◌∷◌, ◌++◌, Bool, true, false, if◌then◌else◌, nat_eq, nat_lt, refl, ap, sym, ◌∙◌, subst, arith}
+use Rattle.std.proofs.Common.{◌≡◌, ℕ, List, [], ◌∷◌, ◌++◌, Bool, true, refl, ap, sym, ◌∙◌, subst}
 use Rattle.std.specs.declared.cmp.Ordering.{Ordering}
 use Rattle.std.specs.declared.cmp.Ordering.TheVariants.{Less, Equal, Greater}
 use Rattle.std.specs.Ordering.{ordering_then, is_lt, nat_cmp}
 use Rattle.std.specs.List.{AllByRecursion}
 use Rattle.std.specs.List.Sorted.{IsStrictlySortedBy}
 use Rattle.std.specs.Map.{keys_of}
-use Rattle.std.proofs.lemmas.Bool.Decides.{nat_tests}
 use Rattle.lh_time.specs.declared.Instant.{Instant}
 use Rattle.lh_time.specs.Order.{instant_cmp, instant_lt}
 use Rattle.lh_types.specs.Wish.{DueBit, Wish, due_bit_cmp}
+use Rattle.lh_history.proofs.Instants.{instant_one}
 use Rattle.lh_eval.specs.declared.wishes.Key.{Key}
 use Rattle.lh_eval.specs.WishOf.{due_bit, wish_of, bits_due, writes_wish}
 use Rattle.lh_eval.specs.Grouped.{is_filled, IsGrouped, Apart}
@@ -55,31 +55,6 @@ sorted-right : (xs ys : Wish) → Sorted (xs ++ ys) → Sorted ys
 unfolding Sorted
 sorted-right [] ys h = h
 sorted-right (x ∷ xs) ys h = sorted-right xs ys h.1
-
-nat_one : (a b : ℕ) → nat_cmp a b ≡ Equal → a ≡ b
-nat_one a b h = at (nat_lt a b) (nat_eq a b) refl h
-  where
-    same : (a b : ℕ) → nat_eq a b ≡ true → a ≡ b
-    same a b h = grind (arith, nat_tests)
-
-    at : (x y : Bool) → nat_eq a b ≡ y → (if x then Less else (if y then Equal else Greater)) ≡ Equal → a ≡ b
-    at true y e q = cc
-    at false true e q = same a b e
-    at false false e q = cc
-
-then_equal : (a b : Ordering) → ordering_then a b ≡ Equal → (a ≡ Equal) × (b ≡ Equal)
-then_equal Less b h = cc
-then_equal Equal b h = (refl, h)
-then_equal Greater b h = cc
-
-same_instant : (f d e f' d' e' : ℕ) → f ≡ f' → d ≡ d' → e ≡ e' → (let t : Instant = record { fs = f; delta = d; eps = e } in t) ≡ record { fs = f'; delta = d'; eps = e' }
-same_instant f d e f' d' e' x y z = λ i. record { fs = x i; delta = y i; eps = z i }
-
-instant_one : (a b : Instant) → instant_cmp a b ≡ Equal → a ≡ b
-instant_one a b h =
-    let p : (nat_cmp a.fs b.fs ≡ Equal) × (ordering_then (nat_cmp a.delta b.delta) (nat_cmp a.eps b.eps) ≡ Equal) = then_equal _ _ h in
-    let q : (nat_cmp a.delta b.delta ≡ Equal) × (nat_cmp a.eps b.eps ≡ Equal) = then_equal _ _ p.1 in
-    same_instant a.fs a.delta a.eps b.fs b.delta b.eps (nat_one _ _ p.0) (nat_one _ _ q.0) (nat_one _ _ q.1)
 
 less-instant : (t u : Instant) (i j : ℕ) → ordering_then (instant_cmp t u) (nat_cmp i j) ≡ Less → (t ≡ u → ⊥) → instant_lt t u ≡ true
 less-instant t u i j h n = by (instant_cmp t u) refl h
