@@ -1,6 +1,7 @@
 -- Sets of bits, as lists of their numbers.
 use Rattle.std.proofs.Common.{◌≡◌, ℕ, List, [], ◌∷◌, map, Bool, true, false, not, ◌&&◌, ◌||◌, ◌==◌, refl, ap, sym, ◌∙◌, arith}
 use Rattle.std.specs.List.{list_any}
+use Rattle.std.specs.Cmp.{both_ways}
 use Rattle.std.proofs.lemmas.Bool.Decides.{nat_tests}
 use Rattle.lh_unit.specs.World.{bit_at, bit_differs}
 
@@ -14,12 +15,6 @@ SameSet xs ys = (a : ℕ) → has xs a ≡ has ys a
 
 abbrev pub IsWithin : List ℕ → List ℕ → Type 0
 IsWithin xs ys = (a : ℕ) → has xs a ≡ true → has ys a ≡ true
-
--- two tests that imply each other are one
-pub both : (a b : Bool) → (a ≡ true → b ≡ true) → (b ≡ true → a ≡ true) → a ≡ b
-both true b f g = sym (f refl)
-both false true f g = g refl
-both false false f g = refl
 
 -- one of them, with the test
 pub any_of : (p : ℕ → Bool) (xs : List ℕ) → list_any p xs ≡ true → (a : ℕ) × (has xs a ≡ true) × (p a ≡ true)
@@ -53,7 +48,7 @@ any_from p (x ∷ xs) a h q = at (x == a) refl h (λ h'. any_from p xs a h' q)
         more false q = q
 
 pub same_any : (p : ℕ → Bool) (xs ys : List ℕ) → SameSet xs ys → list_any p xs ≡ list_any p ys
-same_any p xs ys s = both (list_any p xs) (list_any p ys)
+same_any p xs ys s = both_ways (list_any p xs) (list_any p ys)
     (λ h. let r = any_of p xs h in any_from p ys r.0 (sym (s r.0) ∙ r.1) r.2)
     (λ h. let r = any_of p ys h in any_from p xs r.0 (s r.0 ∙ r.1) r.2)
 

@@ -11,8 +11,11 @@ use Rattle.lh_unit.specs.Design.{Design}
 use Rattle.lh_unit.specs.World.{State, Act, Rules, rules_of, unit_of, World, bits_of, acts_of, acts, kept, made_by, next_world, instant_after, next_instant, IsNext}
 use Rattle.lh_meaning.specs.Values.{OneEach}
 use Rattle.lh_meaning.specs.Wishes.{IsBelow, IsInOrder, ActsInOrder, Reached, at_first, after_frame, HistoryIsMap}
-use Rattle.lh_meaning.proofs.Instants.{le_self, lt_self}
-use Rattle.lh_meaning.proofs.WishesLaw.{in_order-insert, nat_one, then_equal, instant_one, due_bit_self}
+use Rattle.lh_history.specs.Claims.{MadeTogether}
+use Rattle.lh_history.proofs.Instants.{le_self}
+use Rattle.lh_history.proofs.Claims.{among_parts, made_together}
+use Rattle.lh_meaning.proofs.Instants.{lt_self}
+use Rattle.lh_meaning.proofs.WishesLaw.{in_order-insert, due_bit_self}
 use Rattle.lh_meaning.proofs.WishKept.{WishProperty, act_keeps}
 use Rattle.lh_meaning.proofs.Late.{act_late}
 use Rattle.lh_meaning.proofs.Worlds.{claims-append}
@@ -73,17 +76,12 @@ origin_of made i (e ∷ more) c (inl p) = record {
 }
 origin_of made i (e ∷ more) c (inr h) = let o = origin_of made i more c h in record { when = o.when; who = o.who; entry = inr o.entry }
 
-among_append : (xs ys : List Claim) (c : Claim) → IsAmong c (xs ++ ys) → IsAmong c xs ⊎ IsAmong c ys
-among_append [] ys c h = inr h
-among_append (x ∷ xs) ys c (inl p) = inl (inl p)
-among_append (x ∷ xs) ys c (inr h) = ⊎_elim (λ k. inl (inr k)) inr (among_append xs ys c h)
-
 among_made : (xs ys : List Made) (c : Claim) → IsAmong c (claims (xs ++ ys)) → IsAmong c (claims xs) ⊎ IsAmong c (claims ys)
-among_made xs ys c h = let P : List Claim → Type 0 = λ cs. IsAmong c cs in among_append (claims xs) (claims ys) c (subst P (claims-append xs ys) h)
+among_made xs ys c h = let P : List Claim → Type 0 = λ cs. IsAmong c cs in among_parts (claims xs) (claims ys) c (subst P (claims-append xs ys) h)
 
 among_kept : (t : Instant) (i : ℕ) (w : Wish) (c : Claim) → IsAmong c (claims (kept t i w)) → Origin t i w c
 among_kept t i [] c h = absurd h
-among_kept t i (e ∷ more) c h = ⊎_elim (origin_of t i (e ∷ more) c) (λ k. absurd k) (among_append (claims_of t i (e ∷ more)) [] c h)
+among_kept t i (e ∷ more) c h = ⊎_elim (origin_of t i (e ∷ more) c) (λ k. absurd k) (among_parts (claims_of t i (e ∷ more)) [] c h)
 
 -- the new entries were made at t by the k-th instance or a later one
 record FromFrame (t : Instant) (k : ℕ) (c : Claim) : Type 0 where
@@ -126,18 +124,6 @@ one_in_frame t k (a ∷ more) c d o h j b u i = at (among_made (kept t k a.wish)
         let p = from_frame t (k + 1) more c x in let q = among_kept t k a.wish d y in absurd (omega (arith, p.who, q.who, i))
     at (inr x) (inr y) ih = ih x y
 
--- entries that do not compete were made together
-record Level (c d : Claim) : Type 0 where
-  due : c.due ≡ d.due
-  made : c.made ≡ d.made
-  who : c.instance ≡ d.instance
-
-level_of : (c d : Claim) → claim_cmp c d ≡ Equal → Level c d
-level_of c d h =
-    let p = then_equal _ _ h in
-    let q = then_equal _ _ p.1 in
-    record { due = instant_one c.due d.due p.0; made = instant_one c.made d.made q.0; who = nat_one c.instance d.instance q.1 }
-
 -- made by the last frame
 abbrev MadeBy : Option Instant → Claim → Type 0
 MadeBy None c = ⊥
@@ -165,7 +151,7 @@ module _ (bound : ℕ) (items : List ItemText) (d : Design) where
   next_sound : (w : World) (t : Instant) → Sound w → next_instant w ≡ Some t → Sound (next_world bound items d w t)
   unfolding acts
   next_sound w t s n = record {
-    one = λ c e x y b l. at c e (split c x) (split e y) b (level_of c e l) l;
+    one = λ c e x y b l. at c e (split c x) (split e y) b (made_together c e l) l;
     past = λ c x. past_at c (split c x);
   }
     where
@@ -183,12 +169,12 @@ module _ (bound : ℕ) (items : List ItemText) (d : Design) where
       apart c e x y m = let f = from_frame t 0 (acts bound items d w t) e y in lt_self t (ap (λ u. instant_lt u t) (sym (m ∙ f.when)) ∙ before c x)
 
       at : (c e : Claim) → IsAmong c (claims w.history) ⊎ IsAmong c (claims (made_by t 0 (acts bound items d w t))) → IsAmong e (claims w.history) ⊎ IsAmong e (claims (made_by t 0 (acts bound items d w t)))
-          → c.bit ≡ e.bit → Level c e → claim_cmp c e ≡ Equal → c.value ≡ e.value
+          → c.bit ≡ e.bit → MadeTogether c e → claim_cmp c e ≡ Equal → c.value ≡ e.value
       at c e (inl x) (inl y) b l z = s.one c e x y b z
       at c e (inl x) (inr y) b l z = absurd (apart c e x y l.made)
       at c e (inr x) (inl y) b l z = absurd (apart e c y x (sym l.made))
       at c e (inr x) (inr y) b l z =
-          one_in_frame t 0 (acts bound items d w t) c e (all_in_order (rules_of bound items) items w.last (bits_of w) (bits_at w.history w.init t) t d.instances w.states) x y b l.due l.who
+          one_in_frame t 0 (acts bound items d w t) c e (all_in_order (rules_of bound items) items w.last (bits_of w) (bits_at w.history w.init t) t d.instances w.states) x y b l.due l.instance
 
   reached_sound : (w : World) → Reached bound items d w → Sound w
   reached_sound _ at_first = record { one = λ c e x y b l. absurd x; past = λ c x. absurd x }

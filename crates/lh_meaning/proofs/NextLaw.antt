@@ -3,11 +3,11 @@ use Rattle.std.proofs.Common.{◌≡◌, List, [], ◌∷◌, Bool, true, false,
 use Rattle.std.proofs.lemmas.Bool.{both_ways}
 use Rattle.lh_time.specs.declared.Instant.{Instant}
 use Rattle.lh_time.specs.Order.{instant_lt, instant_le}
+use Rattle.lh_time.proofs.OrderLemmas.{instant_le-lt}
 use Rattle.lh_types.specs.History.{Made, Claim, claims, sooner, if_later, soonest_due}
+use Rattle.lh_history.proofs.Instants.{le_self, le_trans, not_lt_le}
 use Rattle.lh_unit.specs.World.{State, wake_of, IsDueIn, WakesIn, IsNext, soonest_wake}
 use Rattle.lh_meaning.specs.Frames.{NextComputes}
-use Rattle.lh_meaning.proofs.Instants.{le_self, le_trans, not_lt_le}
-use Rattle.lh_time.proofs.OrderLemmas.{instant_le-lt}
 
 module _ (t : Instant) where
   -- the least of the instants after t that have a property

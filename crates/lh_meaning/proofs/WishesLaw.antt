@@ -1,18 +1,19 @@
 -- Wishes are one where they give the same everywhere; a part that is driven twice is as driven the second time.
-use Rattle.std.proofs.Common.{◌≡◌, ℕ, ◌+◌, List, [], ◌∷◌, length, Bool, true, false, nat_lt, nat_eq, if◌then◌else◌, refl, ap, sym, ◌∙◌, Option, Some, None, arith, ◌||◌}
+use Rattle.std.proofs.Common.{◌≡◌, ℕ, ◌+◌, List, [], ◌∷◌, length, Bool, true, false, if◌then◌else◌, refl, ap, sym, ◌∙◌, Option, Some, None, arith, ◌||◌}
 use Rattle.std.specs.declared.cmp.Ordering.{Ordering}
 use Rattle.std.specs.declared.cmp.Ordering.TheVariants.{Less, Equal, Greater}
-use Rattle.std.specs.Ordering.{is_eq, ordering_then, ordering_reverse, nat_cmp, match_ordering}
+use Rattle.std.specs.Ordering.{is_eq, ordering_reverse, nat_cmp, match_ordering}
 use Rattle.std.specs.BTreeMap.{insert_entry}
-use Rattle.std.specs.Cmp.{IsTotalOrder}
+use Rattle.std.specs.Cmp.{IsTotalOrder, Equal-is}
 use Rattle.std.proofs.lemmas.Cmp.{then_total, on_total, nat_cmp_total, tied_itself}
-use Rattle.std.proofs.lemmas.Bool.Decides.{nat_tests}
 use Rattle.std.proofs.lemmas.Option.{same_Some}
 use Rattle.lh_time.specs.declared.Instant.{Instant}
 use Rattle.lh_time.specs.Order.{instant_cmp}
 use Rattle.lh_types.specs.Wish.{DueBit, due_bit_cmp, Wish, with_bit, with_bits}
 use Rattle.lh_meaning.specs.Wishes.{look, IsBelow, IsInOrder, WishExt, LaterDriveReplaces}
 use Rattle.lh_time.proofs.OrderLemmas.{instant_cmp_total}
+use Rattle.lh_history.proofs.Orders.{then_equal, nat_one}
+use Rattle.lh_history.proofs.Instants.{instant_one}
 
 pub due_bit_total : IsTotalOrder due_bit_cmp
 due_bit_total = then_total (on_total (λ (k : DueBit). k.due) instant_cmp_total) (on_total (λ (k : DueBit). k.bit) nat_cmp_total)
@@ -45,38 +46,10 @@ in_order-insert k v (e ∷ es) x = at (due_bit_cmp k e.0) refl (in_order-insert 
     at Equal p ih = (x.0, x.1)
     at Greater p ih = (below_insert e.0 k v es (turned k e.0 p) x.0, ih)
 
-abbrev instant_of : ℕ → ℕ → ℕ → Instant
-instant_of f d e = record { fs = f; delta = d; eps = e }
-
 abbrev due_bit : Instant → ℕ → DueBit
 due_bit t i = record { due = t; bit = i }
 
 -- keys that compare as equal are one
-pub nat_one : (a b : ℕ) → nat_cmp a b ≡ Equal → a ≡ b
-nat_one a b h = at (nat_lt a b) (nat_eq a b) refl h
-  where
-    same : (a b : ℕ) → (nat_eq a b) ≡ true → a ≡ b
-    same a b h = grind (arith, nat_tests)
-
-    at : (x y : Bool) → (nat_eq a b) ≡ y → if x then Less else (if y then Equal else Greater) ≡ Equal → a ≡ b
-    at true y e q = cc
-    at false true e q = same a b e
-    at false false e q = cc
-
-pub then_equal : (a b : Ordering) → ordering_then a b ≡ Equal → (a ≡ Equal) × (b ≡ Equal)
-then_equal Less b h = cc
-then_equal Equal b h = (refl, h)
-then_equal Greater b h = cc
-
-same_instant : (f d e f' d' e' : ℕ) → f ≡ f' → d ≡ d' → e ≡ e' → instant_of f d e ≡ instant_of f' d' e'
-same_instant f d e f' d' e' x y z = cc
-
-pub instant_one : (a b : Instant) → instant_cmp a b ≡ Equal → a ≡ b
-instant_one a b h =
-    let p : (nat_cmp a.fs b.fs ≡ Equal) × (ordering_then (nat_cmp a.delta b.delta) (nat_cmp a.eps b.eps) ≡ Equal) = then_equal _ _ h in
-    let q : (nat_cmp a.delta b.delta ≡ Equal) × (nat_cmp a.eps b.eps ≡ Equal) = then_equal _ _ p.1 in
-    same_instant a.fs a.delta a.eps b.fs b.delta b.eps (nat_one _ _ p.0) (nat_one _ _ q.0) (nat_one _ _ q.1)
-
 pub due_bit_one : (a b : DueBit) → due_bit_cmp a b ≡ Equal → a ≡ b
 due_bit_one a b h =
     let p : (instant_cmp a.due b.due ≡ Equal) × (nat_cmp a.bit b.bit ≡ Equal) = then_equal _ _ h in
@@ -91,11 +64,6 @@ look_below k (e ∷ es) x = rw x.0 (look_below k es x.1)
 
 look_head : (e : DueBit × Bool) (es : Wish) → look e.0 (e ∷ es) ≡ Some e.1
 look_head e es = rw (due_bit_self e.0)
-
-equal_of : (o : Ordering) → is_eq o ≡ true → o ≡ Equal
-equal_of Less h = cc
-equal_of Equal h = refl
-equal_of Greater h = cc
 
 once : (b : Bool) (x y l : Option Bool) → (if b then x else l) ≡ (if b then x else (if b then y else l))
 once true x y l = refl
@@ -116,7 +84,7 @@ look-insert k j v (e ∷ es) = at (due_bit_cmp j e.0) refl (look-insert k j v es
         → look k (match_ordering o ((j, v) ∷ e ∷ es) ((e.0, v) ∷ es) (e ∷ insert_entry due_bit_cmp es j v)) ≡ (if is_eq (due_bit_cmp k j) then Some v else look k (e ∷ es))
     at Less p ih = refl
     at Equal p ih = rw (due_bit_one j e.0 p) (once (is_eq (due_bit_cmp k e.0)) (Some v) (Some e.1) (look k es))
-    at Greater p ih = rw ih (swapped (is_eq (due_bit_cmp k e.0)) (is_eq (due_bit_cmp k j)) (Some e.1) (Some v) (look k es) (λ a b. apart (due_bit_one k e.0 (equal_of _ a)) (due_bit_one k j (equal_of _ b)) p))
+    at Greater p ih = rw ih (swapped (is_eq (due_bit_cmp k e.0)) (is_eq (due_bit_cmp k j)) (Some e.1) (Some v) (look k es) (λ a b. apart (due_bit_one k e.0 ((Equal-is _).0 a)) (due_bit_one k j ((Equal-is _).0 b)) p))
       where
         apart : k ≡ e.0 → k ≡ j → due_bit_cmp j e.0 ≡ Greater → ⊥
         apart x y q = clash (sym (due_bit_self e.0) ∙ ap (λ u. due_bit_cmp u e.0) (sym x ∙ y) ∙ q)
@@ -159,7 +127,7 @@ wish_ext (x ∷ xs) (y ∷ ys) a b h = at (due_bit_cmp x.0 y.0) refl (wish_ext x
           where
             tail_at : (c : Bool) → is_eq (due_bit_cmp k x.0) ≡ c → look k xs ≡ look k ys
             tail_at true q =
-                let e : k ≡ x.0 = due_bit_one k x.0 (equal_of _ q) in
+                let e : k ≡ x.0 = due_bit_one k x.0 ((Equal-is _).0 q) in
                 ap (λ u. look u xs) e ∙ look_below x.0 xs a.0 ∙ sym (ap (λ u. look u ys) (e ∙ same_key) ∙ look_below y.0 ys b.0)
             tail_at false q =
                 sym (ap (λ c. if c then Some x.1 else look k xs) q) ∙ h k ∙ ap (λ c. if c then Some y.1 else look k ys) (ap (λ u. is_eq (due_bit_cmp k u)) (sym same_key) ∙ q)

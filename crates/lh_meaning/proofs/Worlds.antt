@@ -1,10 +1,10 @@
 -- Two modules on one design whose instances are alike one by one run the same.
-use Rattle.std.proofs.Common.{◌≡◌, ℕ, zero, suc, ◌+◌, List, [], ◌∷◌, ◌++◌, Bool, true, false, not, ◌&&◌, nat_eq, if◌then◌else◌, refl, ap, sym, ◌∙◌, Option, Some, None, append_assoc}
+use Rattle.std.proofs.Common.{◌≡◌, ℕ, zero, suc, ◌+◌, List, [], ◌∷◌, ◌++◌, Bool, if◌then◌else◌, refl, ap, sym, ◌∙◌, Option, Some, None, append_assoc}
 use Rattle.std.specs.Option.{option_map_or}
 use Rattle.lh_time.specs.declared.Instant.{Instant}
-use Rattle.lh_time.specs.Order.{instant_lt, instant_le}
 use Rattle.lh_types.specs.Wish.{Wish}
 use Rattle.lh_types.specs.History.{Made, Claim, claims, claims_of, is_due_by, greater, greatest_from, value_by, values_by, bits_at, sooner, soonest_due}
+use Rattle.lh_history.proofs.Claims.{AllLate, greatest_late}
 use Rattle.lh_unit.specs.Contents.{ItemText}
 use Rattle.lh_unit.specs.Hierarchy.{Instance}
 use Rattle.lh_unit.specs.Design.{Design}
@@ -14,12 +14,6 @@ use Rattle.lh_meaning.specs.Replacing.{Answer}
 use Rattle.lh_meaning.specs.Wishes.{IsLate}
 use Rattle.lh_meaning.proofs.Late.{act_late}
 use Rattle.lh_meaning.proofs.Simulation.{Matches, Alike, alike_keeps}
-use Rattle.lh_time.proofs.OrderLemmas.{instant_lt-not_le}
-
--- entries that are due after t
-abbrev AllLate : Instant → List Claim → Type 0
-AllLate t [] = Unit {0}
-AllLate t (c ∷ more) = (instant_lt t c.due ≡ true) × AllLate t more
 
 late_append : (t : Instant) (xs ys : List Claim) → AllLate t xs → AllLate t ys → AllLate t (xs ++ ys)
 late_append t [] ys a b = b
@@ -42,19 +36,6 @@ made_late r items last old now t k [] ss = tt
 made_late r items last old now t k (i ∷ is) [] = tt
 made_late r items last old now t k (i ∷ is) (s ∷ ss) =
     rw claims-append (late_append t _ _ (kept_late t k _ (act_late r last old now t (unit_of items i.unit) i s)) (made_late r items last old now t (k + 1) is ss))
-
--- what is due later does not count
-not_due : (bit : ℕ) (t : Instant) (c : Claim) → instant_lt t c.due ≡ true → is_due_by bit t c ≡ false
-not_due bit t c h = at (nat_eq c.bit bit) (instant_le c.due t) (sym (instant_lt-not_le t c.due) ∙ h)
-  where
-    at : (b d : Bool) → not d ≡ true → (b && d) ≡ false
-    at true true e = cc
-    at true false e = refl
-    at false d e = refl
-
-greatest_late : (bit : ℕ) (t : Instant) (b : Option Claim) (fresh : List Claim) → AllLate t fresh → greatest_from bit t b fresh ≡ b
-greatest_late bit t b [] a = refl
-greatest_late bit t b (c ∷ more) a = ap (λ d. greatest_from bit t (if d then Some (greater b c) else b) more) (not_due bit t c a.0) ∙ greatest_late bit t b more a.1
 
 greatest_append_late : (bit : ℕ) (t : Instant) (b : Option Claim) (cs fresh : List Claim) → AllLate t fresh → greatest_from bit t b (cs ++ fresh) ≡ greatest_from bit t b cs
 greatest_append_late bit t b [] fresh a = greatest_late bit t b fresh a
