@@ -16,11 +16,6 @@ use Rattle.lh_meaning.proofs.Simulation.{Alike}
 use Rattle.lh_meaning.proofs.Worlds.{Related, same_run}
 use Rattle.lh_meaning.proofs.Widths.{AllWidths, BuiltWidths, elab_widths}
 
-function_by : (k : UnitKind) (u : UnitText) → (hierarchy_by k u).function ≡ is_function k
-function_by kind.Entity u = refl
-function_by kind.Proc u = refl
-function_by kind.Func u = refl
-
 abbrev Stands : Rules → UnitText → UnitText → Type 0
 Stands r x y = (x ≡ y) ⊎ MayStand r x y
 
@@ -34,11 +29,12 @@ stands_hierarchy r x y (inr s) = s.hierarchy
 
 -- the functions are the same
 no_function : (u : UnitText) (us : List UnitText) → (hierarchy_of u).function ≡ false → (if is_function u.kind then u ∷ us else us) ≡ us
-no_function u us h = at (is_function u.kind) (sym (function_by u.kind u) ∙ h)
+no_function u us h = at u.kind h
   where
-    at : (b : Bool) → b ≡ false → (if b then u ∷ us else us) ≡ us
-    at true e = cc
-    at false e = refl
+    at : (k : UnitKind) → (hierarchy_by k u).function ≡ false → (if is_function k then u ∷ us else us) ≡ us
+    at kind.Entity e = refl
+    at kind.Proc e = refl
+    at kind.Func e = cc
 
 same_if_function : (r : Rules) (x y : UnitText) (us : List UnitText) → Stands r x y → (if is_function x.kind then x ∷ us else us) ≡ (if is_function y.kind then y ∷ us else us)
 same_if_function r x y us (inl e) = ap (λ (u : UnitText). if is_function u.kind then u ∷ us else us) e
