@@ -47,4 +47,3 @@ blocks-step t e bs k d old new all h n a =
     ∙ append_assoc old (spots_in t e (get_or bs k d) false (insts_at t (get_or bs k d).0)) (spots_from t false (drop (k + 1) bs))
     ∙ ap (λ l. old ++ spots_from t e l) (sym (drop_more bs k d h))
     ∙ a
-

@@ -4,7 +4,9 @@ ghost use Rattle.std.specs.Prelude.{◌≡◌, ◌≤◌, length};
 use super::*;
 
 const TEXT: &[u8] = b"entity @t(i1$ %c)->(){\n%z=const i8 -1 ; ones\n%a = sig i8 %z\n}\n";
-const CANONICAL: &[u8] = b"entity @t (i1$ %c) -> () {\n    %z = const i8 255\n    %a = sig i8 %z\n}\n";
+
+const CANONICAL: &[u8] =
+    b"entity @t (i1$ %c) -> () {\n    %z = const i8 255\n    %a = sig i8 %z\n}\n";
 
 #[test]
 fn what_is_printed_reads_again(rt: HostRuntime) {
