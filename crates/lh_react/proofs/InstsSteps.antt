@@ -38,8 +38,3 @@ module _ (a : Arena) (u : ℕ) (now : List Bool) (memory : Option (List Bool)) (
 
   pub ends : (r : Run) (is : List InstId) (k : ℕ) (z : Passed) → length is ≤ k → Continues a u now memory t r (drop k is) z → Stands a u z r
   ends r is k z h c = subst (λ (q : Passed). Stands a u q r) (sym (ap (passed_all a u now memory t c.passed) (drop-end is k h)) ∙ c.same) c.stands
-
--- what holds of the texts of items holds of the items
-pub each-of-map : {X Y : Type 0} (P : Y → Type 0) (f : X → Y) (xs : List X) → Each P (map f xs) → Each (λ (x : X). P (f x)) xs
-each-of-map P f [] e = tt
-each-of-map P f (x ∷ xs) e = (e.0, each-of-map P f xs e.1)

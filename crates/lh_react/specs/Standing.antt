@@ -1,13 +1,14 @@
 -- What a run of an entity has come to, as the code keeps it and as a pass defines it.
-use Rattle.std.specs.Prelude.{◌≡◌, ℕ, ◌+◌, ◌≤◌, List, [], ◌∷◌, map, Bool, Option, Some}
+use Rattle.std.specs.Prelude.{◌≡◌, ℕ, ◌+◌, ◌≤◌, ◌<◌, List, [], ◌∷◌, length, map, Bool, Option, Some, None}
 use Rattle.lh_time.specs.declared.Instant.{Instant}
 use Rattle.lh_types.specs.Types.{TypeTree, bit_count}
 use Rattle.lh_types.specs.Wish.{Wish}
 use Rattle.lh_types.specs.declared.part.Range.{Range}
-use Rattle.lh_unit.specs.Contents.{InstText, sig_text, LineText, ArgText, UnitText}
+use Rattle.lh_unit.specs.Contents.{InstText, sig_text, reg_text, LineText, ArgText, UnitText}
 use Rattle.lh_unit.specs.Held.{Held}
 use Rattle.lh_unit.specs.Pass.{Passed, passes, pass_from}
 use Rattle.lh_unit.specs.Hierarchy.{lines_of, type_or_void}
+use Rattle.lh_unit.specs.Within.{Each}
 use Rattle.lh_unit.specs.Arena.{Arena, naming, table_at, unit_text_at}
 use Rattle.lh_unit.specs.ById.{inst_line}
 use Rattle.lh_unit.specs.Naming.{inst_text, maybe_text}
@@ -93,8 +94,30 @@ pub record InstanceFits (u : UnitText) (args sigs : List Range) (width : ℕ) : 
   pub of_args : RangesFit width args (arg_types u.args)
   pub of_signals : RangesFit width sigs (signal_types (lines_of u.blocks))
 
--- what a run answers: what the pass has seen is the next memory, and the writes have exactly the entries of its wish; their instants strictly rise, and none is empty
-pub record Reacts (p : Passed) (act : EntAct) : Type 0 where
+-- how many triggers an instruction has
+abbrev pub triggers_in : InstText → ℕ
+triggers_in (reg_text to triggers) = length triggers
+triggers_in _ = 0
+
+-- how many the registers of these instructions have
+abbrev pub trigger_count : List LineText → ℕ
+trigger_count [] = 0
+trigger_count (l ∷ more) = triggers_in l.inst + trigger_count more
+
+-- a state fits its unit where it has no memory yet, or one value for each trigger
+abbrev pub StateFits : UnitText → Option (List Bool) → Type 0
+StateFits u None = Unit {0}
+StateFits u (Some values) = length values ≡ trigger_count (lines_of u.blocks)
+
+-- each of these writes names a bit below this
+abbrev pub BitsWithin : (width : ℕ) → List (ℕ × Bool) → Type 0
+BitsWithin width ws = Each (λ (w : ℕ × Bool). w.0 < width) ws
+
+-- What a run of the unit u answers, where the signals have so many bits: what the pass has seen is the next memory, which fits; and
+-- the writes have exactly the entries of its wish. Their instants strictly rise, none is empty, and each names only bits of the signals.
+pub record Reacts (u : UnitText) (width : ℕ) (p : Passed) (act : EntAct) : Type 0 where
   pub next : act.next ≡ Some p.seen
+  pub fits : StateFits u act.next
   pub wish : writes_wish act.wishes ≡ p.wish
   pub grouped : IsGrouped act.wishes
+  pub within : Each (λ (d : Instant × List (ℕ × Bool)). BitsWithin width d.1) act.wishes

@@ -19,21 +19,21 @@ use std::alloc::Global;
 /// The slots of an entity where it begins, of which the arguments and the signals have these bits.
 pub(crate) fn begin(
     alloc: Global,
-    module: &Module,
+    m: &Module,
     unit: UnitId,
     insts: &[InstId],
     args: &[Range],
     sigs: &[Range],
 ) -> Result<Slots, NoMemory>
-    requires unit { unit.0 < unit_count module.now }
-    requires entity { kind_at module.now unit.0 ≡ Some UnitKind.Entity }
-    requires insts { insts.now ≡ block_insts_at module.now unit.0 0 }
-    requires within { Each (λ (i : Id). i.0 < inst_count module.now unit.0) insts.now }
-    ensures { IfOk result (λ slots. Holds module.now unit.0 slots (parts_of (unit_text_at module.now unit.0) args.now sigs.now)) }
+    requires unit { unit.0 < unit_count m.now }
+    requires entity { kind_at m.now unit.0 ≡ Some UnitKind.Entity }
+    requires insts { insts.now ≡ block_insts_at m.now unit.0 0 }
+    requires within { Each (λ (i : Id). i.0 < inst_count m.now unit.0) insts.now }
+    ensures { IfOk result (λ slots. Holds m.now unit.0 slots (parts_of (unit_text_at m.now unit.0) args.now sigs.now)) }
 {
-    let mut slots = Slots::new(alloc, module.values(unit))?;
-    hold_args(module.args(unit), args, &mut slots);
-    hold_signals(module, unit, insts, sigs, &mut slots);
+    let mut slots = Slots::new(alloc, m.values(unit))?;
+    hold_args(m.args(unit), args, &mut slots);
+    hold_signals(m, unit, insts, sigs, &mut slots);
     Ok(slots)
 }
 
@@ -50,26 +50,26 @@ fn hold_args(args: &[Arg], ranges: &[Range], slots: &mut Slots)
 }
 
 fn hold_signals(
-    module: &Module,
+    m: &Module,
     unit: UnitId,
     insts: &[InstId],
     ranges: &[Range],
     slots: &mut Slots,
 )
-    requires unit { unit.0 < unit_count module.now }
-    requires within { Each (λ (i : Id). i.0 < inst_count module.now unit.0) insts.now }
-    requires slots { length slots.old ≡ value_count module.now unit.0 }
-    ensures { slots.new ≡ signals_given (table_at module.now unit.0) insts.now ranges.now slots.old }
+    requires unit { unit.0 < unit_count m.now }
+    requires within { Each (λ (i : Id). i.0 < inst_count m.now unit.0) insts.now }
+    requires slots { length slots.old ≡ value_count m.now unit.0 }
+    ensures { slots.new ≡ signals_given (table_at m.now unit.0) insts.now ranges.now slots.old }
 {
     let mut k = 0;
     for inst in insts {
-        if !is_sig(module.inst(unit, *inst)) {
+        if !is_sig(m.inst(unit, *inst)) {
             continue;
         }
         if k >= ranges.len() {
             return;
         }
-        slots.give(module.result_of(unit, *inst), Some(Held::Part(ranges[k])));
+        slots.give(m.result_of(unit, *inst), Some(Held::Part(ranges[k])));
         k += 1;
     }
 }

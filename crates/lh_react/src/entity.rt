@@ -33,8 +33,9 @@ pub struct EntAct {
 /// order. The tally is raised by one, whatever the answer is.
 ///
 /// The next state has the value of each trigger of the entity's registers in this run, and the wishes are exactly those of
-/// its drives and registers. There is no answer for an operand that is missing or of a wrong type, since none is. After
-/// `NoMemory` only the tally has changed.
+/// its drives and registers: the instants at which they are due strictly rise, at each of them something is written, and only
+/// bits of the signals are. There is no answer for an operand that is missing or of a wrong type, since none is. After `NoMemory`
+/// only the tally has changed.
 pub fn react<T: Tally>(
     alloc: Global,
     m: &Module,
@@ -48,7 +49,7 @@ pub fn react<T: Tally>(
     requires unit { i.now.unit.0 < unit_count m.now }
     requires entity { kind_at m.now i.now.unit.0 ≡ Some UnitKind.Entity }
     requires fits { InstanceFits (unit_text_at m.now i.now.unit.0) i.now.args i.now.sigs (length now.now) }
-    ensures act { IfOk result (Reacts (pass (unit_text_at m.now i.now.unit.0) i.now.args i.now.sigs now.now s.now at)) }
+    ensures act { IfOk result (Reacts (unit_text_at m.now i.now.unit.0) (length now.now) (pass (unit_text_at m.now i.now.unit.0) i.now.args i.now.sigs now.now s.now at)) }
     ensures tick { T.count tally.new ≡ raised (T.count tally.old) 1 }
 {
     tally.tick();
@@ -59,7 +60,7 @@ pub fn react<T: Tally>(
 /// One pass of an entity.
 fn run_entity(
     alloc: Global,
-    module: &Module,
+    m: &Module,
     unit: UnitId,
     args: &[Range],
     sigs: &[Range],
@@ -67,22 +68,22 @@ fn run_entity(
     state: &EntState,
     at: Instant,
 ) -> Result<EntAct, NoMemory>
-    requires unit { unit.0 < unit_count module.now }
-    requires entity { kind_at module.now unit.0 ≡ Some UnitKind.Entity }
-    requires formed { IsWellFormed (contents module.now) }
-    requires fits { InstanceFits (unit_text_at module.now unit.0) args.now sigs.now (length now.now) }
-    ensures { IfOk result (Reacts (pass (unit_text_at module.now unit.0) args.now sigs.now now.now state.now at)) }
+    requires unit { unit.0 < unit_count m.now }
+    requires entity { kind_at m.now unit.0 ≡ Some UnitKind.Entity }
+    requires formed { IsWellFormed (contents m.now) }
+    requires fits { InstanceFits (unit_text_at m.now unit.0) args.now sigs.now (length now.now) }
+    ensures { IfOk result (Reacts (unit_text_at m.now unit.0) (length now.now) (pass (unit_text_at m.now unit.0) args.now sigs.now now.now state.now at)) }
 {
     few_bits(now);
-    let block = module.blocks(unit)[0];
-    let insts = module.insts(unit, block);
-    let slots = begin(alloc, module, unit, insts, args, sigs)?;
+    let block = m.blocks(unit)[0];
+    let insts = m.insts(unit, block);
+    let slots = begin(alloc, m, unit, insts, args, sigs)?;
     let mut run = Run {
         slots,
         seen: ListOf::new(alloc),
         wishes: Wishes::new(alloc),
     };
-    run_insts(alloc, module, unit, insts, now, state, at, &mut run)?;
+    run_insts(alloc, m, unit, insts, now, state, at, &mut run)?;
     let wishes = run.wishes.writes(alloc)?;
     Ok(EntAct {
         next: EntState::after(run.seen),

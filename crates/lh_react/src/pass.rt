@@ -41,7 +41,7 @@ pub(crate) struct Run {
 /// Runs instructions of a unit, one after the other, where the signals have these bits.
 pub(crate) fn run_insts(
     alloc: Global,
-    module: &Module,
+    m: &Module,
     unit: UnitId,
     insts: &[InstId],
     now: &Bits,
@@ -49,16 +49,16 @@ pub(crate) fn run_insts(
     at: Instant,
     run: &mut Run,
 ) -> Result<(), NoMemory>
-    requires arena { IsArena module.now }
-    requires unit { unit.0 < unit_count module.now }
-    requires insts { Each (λ (i : Id). i.0 < inst_count module.now unit.0) insts.now }
-    requires sound { Each (λ (i : Id). IsSound (unit_text_at module.now unit.0) (line_in module.now unit.0 i)) insts.now }
+    requires arena { IsArena m.now }
+    requires unit { unit.0 < unit_count m.now }
+    requires insts { Each (λ (i : Id). i.0 < inst_count m.now unit.0) insts.now }
+    requires sound { Each (λ (i : Id). IsSound (unit_text_at m.now unit.0) (line_in m.now unit.0 i)) insts.now }
     requires few { length now.now < 2 ^ 32 }
-    requires fit { IsFit module.now unit.0 (length now.now) run.old }
-    ensures { (p : Passed) → Stands module.now unit.0 p run.old → OnOk result (Stands module.now unit.0 (passed_all module.now unit.0 now.now state.now at p insts.now) run.new) }
+    requires fit { IsFit m.now unit.0 (length now.now) run.old }
+    ensures { (p : Passed) → Stands m.now unit.0 p run.old → OnOk result (Stands m.now unit.0 (passed_all m.now unit.0 now.now state.now at p insts.now) run.new) }
 {
     for inst in insts {
-        run_inst(alloc, module, unit, *inst, now, state, at, run)?;
+        run_inst(alloc, m, unit, *inst, now, state, at, run)?;
     }
     Ok(())
 }
@@ -66,7 +66,7 @@ pub(crate) fn run_insts(
 /// Runs one instruction.
 fn run_inst(
     alloc: Global,
-    module: &Module,
+    m: &Module,
     unit: UnitId,
     inst: InstId,
     now: &Bits,
@@ -74,22 +74,22 @@ fn run_inst(
     at: Instant,
     run: &mut Run,
 ) -> Result<(), NoMemory>
-    requires unit { unit.0 < unit_count module.now }
-    requires inst { inst.0 < inst_count module.now unit.0 }
-    requires sound { IsSound (unit_text_at module.now unit.0) (line_in module.now unit.0 inst) }
+    requires unit { unit.0 < unit_count m.now }
+    requires inst { inst.0 < inst_count m.now unit.0 }
+    requires sound { IsSound (unit_text_at m.now unit.0) (line_in m.now unit.0 inst) }
     requires few { length now.now < 2 ^ 32 }
-    requires fit { IsFit module.now unit.0 (length now.now) run.old }
-    ensures { (p : Passed) → Stands module.now unit.0 p run.old → OnOk result (Stands module.now unit.0 (passed_all module.now unit.0 now.now state.now at p (inst ∷ [])) run.new) }
+    requires fit { IsFit m.now unit.0 (length now.now) run.old }
+    ensures { (p : Passed) → Stands m.now unit.0 p run.old → OnOk result (Stands m.now unit.0 (passed_all m.now unit.0 now.now state.now at p (inst ∷ [])) run.new) }
 {
-    let name = module.result_of(unit, inst);
-    let inst = module.inst(unit, inst);
-    run_named(alloc, module, unit, inst, name, now, state, at, run)
+    let name = m.result_of(unit, inst);
+    let inst = m.inst(unit, inst);
+    run_named(alloc, m, unit, inst, name, now, state, at, run)
 }
 
 /// Runs an instruction that gives the value of this name; `sig` and `inst` do nothing.
 fn run_named(
     alloc: Global,
-    module: &Module,
+    m: &Module,
     unit: UnitId,
     inst: &Inst,
     name: Option<ValueId>,
@@ -98,18 +98,18 @@ fn run_named(
     at: Instant,
     run: &mut Run,
 ) -> Result<(), NoMemory>
-    requires arena { IsArena module.now }
-    requires unit { unit.0 < unit_count module.now }
-    requires placed { InstPlaced module.now unit.0 inst.now }
+    requires arena { IsArena m.now }
+    requires unit { unit.0 < unit_count m.now }
+    requires placed { InstPlaced m.now unit.0 inst.now }
     requires name { MaybeIn run.old.slots name }
-    requires sound { IsSound (unit_text_at module.now unit.0) (named_line module.now unit.0 name inst.now) }
+    requires sound { IsSound (unit_text_at m.now unit.0) (named_line m.now unit.0 name inst.now) }
     requires few { length now.now < 2 ^ 32 }
-    requires fit { IsFit module.now unit.0 (length now.now) run.old }
-    ensures { (p : Passed) → Stands module.now unit.0 p run.old → OnOk result (Stands module.now unit.0 (passed_by module.now unit.0 now.now state.now at p name inst.now) run.new) }
+    requires fit { IsFit m.now unit.0 (length now.now) run.old }
+    ensures { (p : Passed) → Stands m.now unit.0 p run.old → OnOk result (Stands m.now unit.0 (passed_by m.now unit.0 now.now state.now at p name inst.now) run.new) }
 {
     match inst {
         Inst::Const(value) => run_const(value, name, run),
-        Inst::Pure { op, args } => run_pure(alloc, module, unit, op, args.as_slice(), name, run),
+        Inst::Pure { op, args } => run_pure(alloc, m, unit, op, args.as_slice(), name, run),
         Inst::Prb(signal) => run_prb(alloc, signal, name, now, run),
         Inst::Drv {
             to,
@@ -133,21 +133,21 @@ fn run_const(value: &Val, name: Option<ValueId>, run: &mut Run) -> Result<(), No
 
 fn run_pure(
     alloc: Global,
-    module: &Module,
+    m: &Module,
     unit: UnitId,
     op: &Op,
     args: &[Typed],
     name: Option<ValueId>,
     run: &mut Run,
 ) -> Result<(), NoMemory>
-    requires unit { unit.0 < unit_count module.now }
-    requires args { Each (OperandWithin (sizes module.now unit.0)) args.now }
+    requires unit { unit.0 < unit_count m.now }
+    requires args { Each (OperandWithin (sizes m.now unit.0)) args.now }
     requires name { MaybeIn run.old.slots name }
-    requires slots { length run.old.slots ≡ value_count module.now unit.0 }
-    requires fit { OperandsFit module.now unit.0 run.old.slots op.now args.now }
-    ensures { (e : Env) → Holds module.now unit.0 run.old.slots e → OnOk result (HasGiven run.old name (operated (unit_text_at module.now unit.0) e op.now (map (operand_text (naming module.now unit.0)) args.now)) run.new) }
+    requires slots { length run.old.slots ≡ value_count m.now unit.0 }
+    requires fit { OperandsFit m.now unit.0 run.old.slots op.now args.now }
+    ensures { (e : Env) → Holds m.now unit.0 run.old.slots e → OnOk result (HasGiven run.old name (operated (unit_text_at m.now unit.0) e op.now (map (operand_text (naming m.now unit.0)) args.now)) run.new) }
 {
-    let held = operate(alloc, module, unit, op, args, &run.slots)?;
+    let held = operate(alloc, m, unit, op, args, &run.slots)?;
     run.slots.give(name, held);
     Ok(())
 }

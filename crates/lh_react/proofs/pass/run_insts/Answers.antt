@@ -11,7 +11,7 @@ loop-inst-init c = record { fit = c.requires.fit; within = c.requires.insts; sou
 
 pub loop-inst-preserved : goal.loop-inst-preserved
 loop-inst-preserved c =
-    let m = c.args.module.now in
+    let m = c.args.m.now in
     let u = c.args.unit.0 in
     let d : InstId = record { 0 = 0 } in
     let x = each-rest (λ (i : InstId). IsSound (unit_text_at m u) (line_in m u i)) c.args.insts.now c.loop-inst.inst-index d c.loop-inst-test.true c.loop-inst.invariant.sound in
@@ -24,4 +24,4 @@ loop-inst-preserved c =
     }
 
 pub returns : goal.returns
-returns c = λ p st. ends c.args.module.now c.args.unit.0 c.args.now.now c.args.state.now c.args.at c.loop-inst.run c.args.insts.now c.loop-inst.inst-index _ c.loop-inst-test.false (c.loop-inst.invariant.goes p st)
+returns c = λ p st. ends c.args.m.now c.args.unit.0 c.args.now.now c.args.state.now c.args.at c.loop-inst.run c.args.insts.now c.loop-inst.inst-index _ c.loop-inst-test.false (c.loop-inst.invariant.goes p st)

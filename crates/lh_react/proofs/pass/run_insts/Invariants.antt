@@ -9,8 +9,8 @@ use Rattle.lh_react.proofs.pass.run_insts.Given as goal
 
 abbrev pub invariant-loop-inst : goal.invariant-loop-inst
 invariant-loop-inst l = record {
-  fit : IsFit l.module l.unit.0 (length l.now) l.run;
-  within : Each (λ (i : InstId). i.0 < inst_count l.module l.unit.0) (drop l.inst-index l.insts);
-  sound : Each (λ (i : InstId). IsSound (unit_text_at l.module l.unit.0) (line_in l.module l.unit.0 i)) (drop l.inst-index l.insts);
-  goes : (p : Passed) → Stands l.module l.unit.0 p l.initial.run → Continues l.module l.unit.0 l.now l.state l.at l.run (drop l.inst-index l.insts) (passed_all l.module l.unit.0 l.now l.state l.at p l.insts);
+  fit : IsFit l.m l.unit.0 (length l.now) l.run;
+  within : Each (λ (i : InstId). i.0 < inst_count l.m l.unit.0) (drop l.inst-index l.insts);
+  sound : Each (λ (i : InstId). IsSound (unit_text_at l.m l.unit.0) (line_in l.m l.unit.0 i)) (drop l.inst-index l.insts);
+  goes : (p : Passed) → Stands l.m l.unit.0 p l.initial.run → Continues l.m l.unit.0 l.now l.state l.at l.run (drop l.inst-index l.insts) (passed_all l.m l.unit.0 l.now l.state l.at p l.insts);
 }
