@@ -58,7 +58,7 @@ module _ (a : Arena) (u : ℕ) (o : IsArena a) (h : u < unit_count a) (e : kind_
   of-unit : (P : ItemText → Type 0) → Each P (contents a) → P (unit_text (unit_text_at a u))
   of-unit P each =
       let v : UnitId = record { 0 = u } in
-      let i = o.items_defined v h (subst (λ (k : Option UnitKind). IsSome k) (sym e) tt) in
+      let i = o.items_defined v h (subst (λ (k : Option UnitKind). IsSome k) (sym e) refl) in
       each-at P (item_text_at a) a.items i.0 (item.Unit v) each i.1
 
   rows : Each (IsTyped (unit_text_at a u)) (lines_of (unit_text_at a u).blocks)

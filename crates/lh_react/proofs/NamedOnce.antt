@@ -33,11 +33,11 @@ no-arg n (a ∷ more) h =
 -- the instruction that gives a value among the blocks, and among their lines
 giving-append : (n : List ℕ) (xs ys : List LineText) → line_giving n (xs ++ ys) ≡ or_else (line_giving n xs) (line_giving n ys)
 giving-append n [] ys = refl
-giving-append n (l ∷ xs) ys = by (is_result_name n l.result)
+giving-append n (l ∷ xs) ys = by (is_result_name n l.result) (giving-append n xs ys)
   where
-    by : (b : Bool) → (if b then Some l.inst else line_giving n (xs ++ ys)) ≡ or_else (if b then Some l.inst else line_giving n xs) (line_giving n ys)
-    by true = refl
-    by false = giving-append n xs ys
+    by : (b : Bool) → line_giving n (xs ++ ys) ≡ or_else (line_giving n xs) (line_giving n ys) → (if b then Some l.inst else line_giving n (xs ++ ys)) ≡ or_else (if b then Some l.inst else line_giving n xs) (line_giving n ys)
+    by true e = refl
+    by false e = e
 
 giving-lines : (n : List ℕ) (bs : List BlockText) → inst_giving n bs ≡ line_giving n (lines_of bs)
 giving-lines n [] = refl
