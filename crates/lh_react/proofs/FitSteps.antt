@@ -1,30 +1,26 @@
 -- What is held fits, so that what an instruction asks of its operands is there.
-use Rattle.std.proofs.Common.{◌≡◌, ℕ, ◌+◌, ◌<◌, ◌≤◌, ◌^◌, List, [], ◌∷◌, length, map, Bool, Option, Some, None, refl, ap, sym, ◌∙◌, subst, arith}
+use Rattle.std.proofs.Common.{◌≡◌, ℕ, ◌+◌, ◌<◌, ◌≤◌, ◌^◌, List, [], ◌∷◌, length, map, Bool, Option, Some, None, refl, ap, sym, ◌∙◌, arith}
 use Rattle.std.specs.Option.{option_and_then}
 use Rattle.lh_types.specs.Types.{TypeTree, signal_type, IsData, bit_count}
 use Rattle.lh_types.specs.Values.{Datum}
-use Rattle.lh_types.specs.Fits.{FitsType, FitsData}
-use Rattle.lh_types.specs.Bits.{value_bits}
-use Rattle.lh_types.specs.ApplyTypes.{FitsOp}
-use Rattle.lh_types.specs.declared.op.Op.{Op}
+use Rattle.lh_types.specs.Fits.{FitsType}
 use Rattle.lh_types.specs.declared.part.Range.{Range}
 use Rattle.lh_types.proofs.LawProofs.{bits_are_counted}
-use Rattle.lh_unit.specs.Contents.{OperandText, TriggerText, InstText, pure_text, prb_text, drv_text, reg_text, UnitText}
+use Rattle.lh_unit.specs.Contents.{prb_text}
 use Rattle.lh_unit.specs.Typing.{value_type, carried}
-use Rattle.lh_unit.specs.Held.{Held, Env, datum_held, part_held, as_datum, as_part, data_at}
+use Rattle.lh_unit.specs.Held.{Held, datum_held, part_held, as_part}
 use Rattle.lh_unit.specs.Arena.{Arena, naming, value_count, sizes, unit_text_at}
 use Rattle.lh_unit.specs.Naming.{value_text, operand_text, trigger_text}
-use Rattle.lh_unit.specs.Pass.{Passed}
 use Rattle.lh_unit.specs.Within.{Each, OperandWithin, TriggerWithin, MaybeWithin}
 use Rattle.lh_unit.specs.declared.inst.ValueId.{ValueId}
 use Rattle.lh_unit.specs.declared.inst.Typed.{Typed}
 use Rattle.lh_unit.specs.declared.inst.RegTrigger.{RegTrigger}
-use Rattle.lh_formed.specs.Operands.{RowIs, IsWritten, IsOf, TriggerIs}
-use Rattle.lh_eval.specs.Holding.{Holds, slot_at, datum_in, part_in, data_in, MaybeIn}
-use Rattle.lh_eval.specs.Fitting.{IsValueType, FitsHeld, Fits, PartFits, OperandsFit, ProbeFits, DriveFits}
+use Rattle.lh_formed.specs.Operands.{RowIs, IsOf, TriggerIs}
+use Rattle.lh_eval.specs.Holding.{slot_at, datum_in, part_in, MaybeIn}
+use Rattle.lh_eval.specs.Fitting.{IsValueType, FitsHeld, PartFits, ProbeFits, DriveFits}
 use Rattle.lh_eval.proofs.ValuesFit.{datum-held}
 use Rattle.lh_react.specs.declared.pass.Run.{Run}
-use Rattle.lh_react.specs.Standing.{Stands, IsFit}
+use Rattle.lh_react.specs.Standing.{IsFit}
 use Rattle.lh_react.specs.Registers.{TriggerIn, TriggerFits}
 
 part-held : (o : Option Held) (r : Range) → option_and_then as_part o ≡ Some r → o ≡ Some (part_held r)

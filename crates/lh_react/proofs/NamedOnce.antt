@@ -1,9 +1,8 @@
 -- Where no name stands twice, the type of a value is that of its argument or of its instruction.
-use Rattle.std.proofs.Common.{◌≡◌, ℕ, List, [], ◌∷◌, ◌++◌, Bool, true, false, ◌||◌, if◌then◌else◌, Option, Some, None, refl, ap, sym, ◌∙◌, subst, append_assoc}
+use Rattle.std.proofs.Common.{◌≡◌, ℕ, List, [], ◌∷◌, ◌++◌, Bool, true, false, if◌then◌else◌, Some, None, refl, ap, sym, ◌∙◌, append_assoc}
 use Rattle.std.specs.Option.{option_and_then, option_map}
 use Rattle.std.proofs.lemmas.Bool.{or_parts}
-use Rattle.lh_types.specs.Types.{TypeTree}
-use Rattle.lh_unit.specs.Contents.{InstText, LineText, BlockText, ArgText, UnitText, same_name, is_result_name, lines_define, args_define}
+use Rattle.lh_unit.specs.Contents.{LineText, BlockText, ArgText, UnitText, same_name, is_result_name, lines_define, args_define}
 use Rattle.lh_unit.specs.Hierarchy.{lines_of}
 use Rattle.lh_unit.specs.Reads.{args_repeat}
 use Rattle.lh_unit.specs.Typing.{or_else, result_type, line_giving, inst_giving, arg_named, value_type}
@@ -50,12 +49,13 @@ IsFirst args all l = (n : List ℕ) → l.result ≡ Some n → (args_define n a
 each-first : (args : List ArgText) (all seen ls : List LineText) → all ≡ seen ++ ls → results_repeat args seen ls ≡ false → Each (IsFirst args all) ls
 each-first args all seen [] e h = tt
 each-first args all seen (l ∷ ls) e h =
-    let b = or_parts (result_repeats args seen l.result) (results_repeat args (seen ++ l ∷ []) ls) h in
-    (λ n r.
-    let q = or_parts (args_define n args) (lines_define n seen) (sym (ap (result_repeats args seen) r) ∙ b.0) in
-    let named : is_result_name n l.result ≡ true = ap (is_result_name n) r ∙ same_name-refl n in
-    (q.0, ap (line_giving n) e ∙ past-lines n seen (l ∷ ls) q.1 ∙ ap (λ x. if x then Some l.inst else line_giving n ls) named),
-    each-first args all (seen ++ l ∷ []) ls (e ∙ sym (append_assoc seen (l ∷ []) ls)) b.1)
+    let b = or_parts (result_repeats args seen l.result) (results_repeat args (seen ++ l ∷ []) ls) h in (
+      λ n r.
+          let q = or_parts (args_define n args) (lines_define n seen) (sym (ap (result_repeats args seen) r) ∙ b.0) in
+          let named : is_result_name n l.result ≡ true = ap (is_result_name n) r ∙ same_name-refl n in
+          (q.0, ap (line_giving n) e ∙ past-lines n seen (l ∷ ls) q.1 ∙ ap (λ x. if x then Some l.inst else line_giving n ls) named),
+      each-first args all (seen ++ l ∷ []) ls (e ∙ sym (append_assoc seen (l ∷ []) ls)) b.1,
+    )
 
 -- the type of the value that a line gives
 abbrev pub GivesItsType : UnitText → LineText → Type 0
@@ -63,12 +63,13 @@ GivesItsType u l = (n : List ℕ) → l.result ≡ Some n → value_type u n ≡
 
 typed-lines : (u : UnitText) (ls : List LineText) → Each (IsFirst u.args (lines_of u.blocks)) ls → Each (GivesItsType u) ls
 typed-lines u [] e = tt
-typed-lines u (l ∷ ls) e =
-    (λ n r.
-    let k = e.0 n r in
-    ap (λ o. or_else (option_map (λ (a : ArgText). a.ty) o) (option_and_then result_type (inst_giving n u.blocks))) (no-arg n u.args k.0)
-    ∙ ap (option_and_then result_type) (giving-lines n u.blocks ∙ k.1),
-    typed-lines u ls e.1)
+typed-lines u (l ∷ ls) e = (
+  λ n r.
+      let k = e.0 n r in
+      ap (λ o. or_else (option_map (λ (a : ArgText). a.ty) o) (option_and_then result_type (inst_giving n u.blocks))) (no-arg n u.args k.0)
+      ∙ ap (option_and_then result_type) (giving-lines n u.blocks ∙ k.1),
+  typed-lines u ls e.1,
+)
 
 pub lines-typed : (u : UnitText) → results_repeat u.args [] (lines_of u.blocks) ≡ false → Each (GivesItsType u) (lines_of u.blocks)
 lines-typed u h = typed-lines u (lines_of u.blocks) (each-first u.args (lines_of u.blocks) [] (lines_of u.blocks) refl h)

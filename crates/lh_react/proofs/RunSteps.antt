@@ -1,9 +1,9 @@
 -- A run of the code stands for what a pass comes to, instruction by instruction.
-use Rattle.std.proofs.Common.{◌≡◌, ℕ, ◌+◌, ◌<◌, Bool, not, ◌&&◌, ◌||◌, if◌then◌else◌, List, [], ◌∷◌, ◌++◌, length, map, unwrap_or, Option, Some, None, false, refl, ap, sym, ◌∙◌, subst, arith}
+use Rattle.std.proofs.Common.{◌≡◌, ℕ, ◌<◌, Bool, not, ◌&&◌, ◌||◌, if◌then◌else◌, List, [], ◌∷◌, ◌++◌, length, map, unwrap_or, Option, Some, None, false, refl, ap, sym, ◌∙◌, subst, arith}
 use Rattle.lh_time.specs.declared.Instant.{Instant}
 use Rattle.lh_types.specs.Wish.{Wish}
 use Rattle.lh_unit.specs.Table.{ResultWithin}
-use Rattle.lh_unit.specs.Arena.{Arena, IsArena, naming, unit_count, value_count}
+use Rattle.lh_unit.specs.Arena.{Arena, IsArena, naming, unit_count}
 use Rattle.lh_unit.specs.Effects.{drive_due}
 use Rattle.lh_unit.specs.Held.{Held, Env}
 use Rattle.lh_unit.specs.Hierarchy.{if_held}
@@ -13,7 +13,6 @@ use Rattle.lh_unit.specs.Within.{Each}
 use Rattle.lh_unit.specs.declared.inst.ValueId.{ValueId}
 use Rattle.lh_unit.specs.declared.inst.Typed.{Typed}
 use Rattle.lh_unit.specs.declared.inst.RegTrigger.{RegTrigger}
-use Rattle.lh_eval.specs.Holding as holding
 use Rattle.lh_eval.specs.Holding.{Holds, MaybeIn, SameHeld}
 use Rattle.lh_eval.proofs.Holding.{same-held, holds-given}
 use Rattle.lh_react.specs.declared.pass.Run.{Run}

@@ -9,7 +9,6 @@ use Rattle.lh_unit.specs.Contents.{InstText, sig_text, LineText, BlockText, ArgT
 use Rattle.lh_unit.specs.Held.{Held, part_held, Env, nothing_held, with_held, with_result, with_args}
 use Rattle.lh_unit.specs.Hierarchy.{lines_of, signal_names, name_if_signal, with_parts, parts_of, type_or_void}
 use Rattle.lh_unit.specs.Places.{Place, places_in, places_from, places}
-use Rattle.lh_unit.specs.Reads.{args_repeat}
 use Rattle.lh_unit.specs.Typing.{value_type, result_type, signal_of}
 use Rattle.lh_unit.specs.WellFormed.{Site, sites, IsFaultless, IsSpelled}
 use Rattle.lh_unit.specs.Within.{Each}
@@ -30,7 +29,7 @@ use Rattle.lh_again.specs.ItemLines.{item_line}
 use Rattle.lh_again.proofs.Apart.{spelled_apart}
 use Rattle.lh_again.proofs.Printed.{spelled_is_printable}
 use Rattle.lh_eval.specs.Fitting.{FitsHeld, Fits}
-use Rattle.lh_eval.specs.Sound.{IsWrittenRight, IsSound}
+use Rattle.lh_eval.specs.Sound.{IsSound}
 use Rattle.lh_eval.proofs.GivesFit.{held-still-fits}
 use Rattle.lh_react.specs.Standing.{RangesFit, arg_types, signal_types, type_if_signal, InstanceFits}
 use Rattle.lh_react.proofs.Lists.{each-contained, each-so, each-split, each-of-map}

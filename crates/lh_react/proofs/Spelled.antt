@@ -1,9 +1,9 @@
 -- What the spelling of an instruction and of an entity's head tells.
-use Rattle.std.proofs.Common.{◌≡◌, ℕ, ◌%◌, ◌-◌, ◌^◌, ◌<◌, inl, inr, List, [], ◌∷◌, ◌++◌, map, Option, Some, None, refl, sym, subst, arith}
+use Rattle.std.proofs.Common.{◌≡◌, ℕ, ◌-◌, ◌^◌, ◌<◌, inl, inr, List, [], ◌∷◌, map, Option, Some, None, refl, sym, subst, arith}
 use Rattle.std.proofs.Math.Pow.{pow_pos}
 use Rattle.std.proofs.lemmas.Nat.{mod_below}
 use Rattle.lh_types.specs.Types.{TypeTree, signal_type, IsData, IsLimited}
-use Rattle.lh_types.specs.Values.{int_value, time_value}
+use Rattle.lh_types.specs.Values.{int_value}
 use Rattle.lh_types.specs.declared.op.Op.{Op}
 use Rattle.lh_types.specs.declared.op.Op.TheVariants as op
 use Rattle.lh_unit.specs.Contents.{OperandText, ArgText, InstText, const_text, pure_text, sig_text, LineText}
@@ -12,7 +12,7 @@ use Rattle.lh_unit.specs.Pieces.{lexemes_in}
 use Rattle.lh_unit.specs.SpellsNumbers.{SpellsInteger}
 use Rattle.lh_unit.specs.SpellsTypes.{SpellsSignalType}
 use Rattle.lh_unit.specs.SpellsParts.{SpellsParts, SpellsList}
-use Rattle.lh_unit.specs.SpellsInst.{Column, typed, bare, columns, SpellsColumns, SpellsPure, SpellsInst, SpellsLine}
+use Rattle.lh_unit.specs.SpellsInst.{Column, typed, bare, SpellsColumns, SpellsPure, SpellsInst, SpellsLine}
 use Rattle.lh_unit.specs.Spells.{inst_item, TypedName, SpellsPort, input_of, output_of, SpellsPorts, SpellsHeader}
 use Rattle.lh_unit.specs.Within.{Each}
 use Rattle.lh_unit.specs.declared.name.UnitName.{UnitName}

@@ -1,5 +1,5 @@
 -- What an entity holds where it begins, by ids.
-use Rattle.std.specs.Prelude.{ℕ, List, [], ◌∷◌, Bool, true, false, if◌then◌else◌, Option, Some, slice_set}
+use Rattle.std.specs.Prelude.{List, [], ◌∷◌, Bool, true, false, if◌then◌else◌, Option, Some, slice_set}
 use Rattle.lh_types.specs.declared.part.Range.{Range}
 use Rattle.lh_unit.specs.Held.{Held, part_held}
 use Rattle.lh_unit.specs.Table.{Table, line_at}

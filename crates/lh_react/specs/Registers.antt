@@ -1,6 +1,5 @@
 -- The triggers of a register, by ids.
-use Rattle.std.specs.Prelude.{◌≡◌, ℕ, ◌<◌, List, [], ◌∷◌, ◌++◌, length, slice_get, Bool, false, not, ◌&&◌, ◌||◌, if◌then◌else◌, unwrap_or, Option, Some, None}
-use Rattle.std.specs.Option.{option_and_then}
+use Rattle.std.specs.Prelude.{◌<◌, List, [], ◌∷◌, ◌++◌, length, Bool, false, not, ◌&&◌, ◌||◌, if◌then◌else◌, unwrap_or, Option, Some, None}
 use Rattle.lh_time.specs.declared.Instant.{Instant}
 use Rattle.lh_time.specs.declared.Delay.{Delay}
 use Rattle.lh_types.specs.Wish.{Wish}

@@ -114,7 +114,7 @@ abbrev pub BitsWithin : (width : ℕ) → List (ℕ × Bool) → Type 0
 BitsWithin width ws = Each (λ (w : ℕ × Bool). w.0 < width) ws
 
 -- What a run of the unit u answers, where the signals have so many bits: what the pass has seen is the next memory, which fits; and
--- the writes have exactly the entries of its wish. Their instants strictly rise, none is empty, and each names only bits of the signals.
+-- the writes have exactly the entries of its wish. Their instants strictly rise, none is empty and none names a bit twice, and each names only bits of the signals.
 pub record Reacts (u : UnitText) (width : ℕ) (p : Passed) (act : EntAct) : Type 0 where
   pub next : act.next ≡ Some p.seen
   pub fits : StateFits u act.next

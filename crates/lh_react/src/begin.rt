@@ -49,13 +49,7 @@ fn hold_args(args: &[Arg], ranges: &[Range], slots: &mut Slots)
     }
 }
 
-fn hold_signals(
-    m: &Module,
-    unit: UnitId,
-    insts: &[InstId],
-    ranges: &[Range],
-    slots: &mut Slots,
-)
+fn hold_signals(m: &Module, unit: UnitId, insts: &[InstId], ranges: &[Range], slots: &mut Slots)
     requires unit { unit.0 < unit_count m.now }
     requires within { Each (λ (i : Id). i.0 < inst_count m.now unit.0) insts.now }
     requires slots { length slots.old ≡ value_count m.now unit.0 }

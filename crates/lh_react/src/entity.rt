@@ -33,9 +33,9 @@ pub struct EntAct {
 /// order. The tally is raised by one, whatever the answer is.
 ///
 /// The next state has the value of each trigger of the entity's registers in this run, and the wishes are exactly those of
-/// its drives and registers: the instants at which they are due strictly rise, at each of them something is written, and only
-/// bits of the signals are. There is no answer for an operand that is missing or of a wrong type, since none is. After `NoMemory`
-/// only the tally has changed.
+/// its drives and registers: the instants at which they are due strictly rise, and at each of them something is written, no bit
+/// twice, and only bits of the signals. There is no answer for an operand that is missing or of a wrong type, since none is.
+/// After `NoMemory` only the tally has changed.
 pub fn react<T: Tally>(
     alloc: Global,
     m: &Module,

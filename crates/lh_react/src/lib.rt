@@ -6,8 +6,6 @@ mod entity;
 mod pass;
 mod register;
 mod state;
-#[cfg(test)]
-mod tests;
 
 pub use entity::{EntAct, react};
 pub use state::EntState;

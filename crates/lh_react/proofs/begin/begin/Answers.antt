@@ -1,4 +1,4 @@
-use Rattle.std.proofs.Common.{◌≡◌, ℕ, None, Option, List, replicate, length, ap, sym, ◌∙◌}
+use Rattle.std.proofs.Common.{◌≡◌, ℕ, None, Option, replicate, length, ap, ◌∙◌}
 use Rattle.std.proofs.lemmas.List.{length-replicate}
 use Rattle.lh_unit.specs.Held.{Held}
 use Rattle.lh_unit.specs.Arena.{value_count, table_at, args_at, block_insts_at}

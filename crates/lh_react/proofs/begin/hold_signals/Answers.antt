@@ -1,8 +1,5 @@
-use Rattle.std.proofs.Common.{sym, subst}
 use Rattle.lh_unit.specs.Arena.{value_count}
-use Rattle.lh_unit.specs.declared.inst.ValueId.{ValueId}
 use Rattle.lh_unit.proofs.ById.{result-within}
-use Rattle.lh_eval.specs.Holding.{MaybeIn}
 use Rattle.lh_react.proofs.RunSteps.{maybe-in}
 use Rattle.lh_react.proofs.begin.hold_signals.Goals as goal
 

@@ -1,8 +1,6 @@
 use Rattle.std.proofs.Common.{◌≡◌, ◌<◌, List, [], length, map, get_or, Some, ap, sym, ◌∙◌, subst, arith}
 use Rattle.lh_types.specs.Wish.{no_wish}
-use Rattle.lh_unit.specs.Contents.{LineText}
-use Rattle.lh_unit.specs.Arena.{inst_count, block_insts_at, naming, table_at, unit_text_at}
-use Rattle.lh_unit.specs.ById.{inst_line}
+use Rattle.lh_unit.specs.Arena.{inst_count, block_insts_at, unit_text_at}
 use Rattle.lh_unit.specs.Hierarchy.{lines_of, parts_of}
 use Rattle.lh_unit.specs.Pass.{Passed, pass, pass_from}
 use Rattle.lh_unit.specs.Table.{entity_block}

@@ -1,8 +1,8 @@
-use Rattle.std.proofs.Common.{◌≡◌, ◌<◌, length, get_or, refl, arith}
+use Rattle.std.proofs.Common.{◌<◌, get_or, refl}
 use Rattle.lh_unit.specs.Arena.{inst_count, unit_text_at}
 use Rattle.lh_unit.specs.declared.inst.InstId.{InstId}
 use Rattle.lh_eval.specs.Sound.{IsSound}
-use Rattle.lh_react.specs.Standing.{line_in, passed_all}
+use Rattle.lh_react.specs.Standing.{line_in}
 use Rattle.lh_react.proofs.InstsSteps.{each-rest, more-fit, goes-on, ends}
 use Rattle.lh_react.proofs.pass.run_insts.Goals as goal
 

@@ -1,4 +1,4 @@
-use Rattle.std.proofs.Common.{◌≡◌, Some, length, map, unwrap_or, false, refl, ap, sym, ◌∙◌}
+use Rattle.std.proofs.Common.{Some, length, map, unwrap_or, false, refl, ap, sym, ◌∙◌}
 use Rattle.lh_types.specs.ValueOf.{datum_of}
 use Rattle.lh_types.specs.Wish.{Wish}
 use Rattle.lh_unit.specs.Arena.{naming, unit_text_at}
