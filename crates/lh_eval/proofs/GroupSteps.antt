@@ -1,18 +1,21 @@
 -- Lists of writes are in order of their instants, and none is empty.
-use Rattle.std.proofs.Common.{◌≡◌, ℕ, List, [], ◌∷◌, ◌++◌, Bool, true, refl, ap, sym, ◌∙◌, subst}
+use Rattle.std.proofs.Common.{◌≡◌, ℕ, ◌<◌, List, [], ◌∷◌, ◌++◌, Bool, true, false, if◌then◌else◌, nat_eq, nat_lt, refl, ap, sym, ◌∙◌, subst, arith}
 use Rattle.std.specs.declared.cmp.Ordering.{Ordering}
 use Rattle.std.specs.declared.cmp.Ordering.TheVariants.{Less, Equal, Greater}
 use Rattle.std.specs.Ordering.{ordering_then, is_lt, nat_cmp}
 use Rattle.std.specs.List.{AllByRecursion}
 use Rattle.std.specs.List.Sorted.{IsStrictlySortedBy}
 use Rattle.std.specs.Map.{keys_of}
+use Rattle.std.proofs.lemmas.Bool.Decides.{nat_tests}
+use Rattle.std.proofs.lemmas.Cmp.{tied_itself}
 use Rattle.lh_time.specs.declared.Instant.{Instant}
 use Rattle.lh_time.specs.Order.{instant_cmp, instant_lt}
+use Rattle.lh_time.proofs.OrderLemmas.{instant_cmp_total}
 use Rattle.lh_types.specs.Wish.{DueBit, Wish, due_bit_cmp}
 use Rattle.lh_history.proofs.Instants.{instant_one}
 use Rattle.lh_eval.specs.declared.wishes.Key.{Key}
 use Rattle.lh_eval.specs.WishOf.{due_bit, wish_of, bits_due, writes_wish}
-use Rattle.lh_eval.specs.Grouped.{is_filled, IsGrouped, Apart}
+use Rattle.lh_eval.specs.Grouped.{is_filled, BitsRise, IsGrouped, Apart}
 use Rattle.lh_eval.proofs.WishSteps.{key_cmp}
 
 filled-more : (ws : List (ℕ × Bool)) (w : ℕ × Bool) → is_filled (ws ++ w ∷ []) ≡ true
@@ -70,14 +73,35 @@ first-before t u [] es rest f g n s = cc
 first-before t u (d ∷ ds) [] rest f g n s = cc
 first-before t u (d ∷ ds) (e ∷ es) rest f g n s = less-instant t u d.0 e.0 (all-right (record { due = t; bit = d.0 }) (bits_due t ds) (bits_due u (e ∷ es) ++ rest) s.0).0 n
 
+nat_less : (a b : ℕ) → nat_cmp a b ≡ Less → a < b
+nat_less a b h = at (nat_lt a b) (nat_eq a b) refl h
+  where
+    below : (a b : ℕ) → nat_lt a b ≡ true → a < b
+    below a b h = grind (arith, nat_tests)
+
+    at : (x y : Bool) → nat_lt a b ≡ x → (if x then Less else (if y then Equal else Greater)) ≡ Less → a < b
+    at true y e q = below a b e
+    at false true e q = cc
+    at false false e q = cc
+
+less-bit : (t : Instant) (i j : ℕ) → ordering_then (instant_cmp t t) (nat_cmp i j) ≡ Less → i < j
+less-bit t i j h = nat_less i j (sym (ap (λ (o : Ordering). ordering_then o (nat_cmp i j)) (tied_itself instant_cmp_total t)) ∙ h)
+
+-- the bits of one instant
+bits-rise : (t : Instant) (ws : List (ℕ × Bool)) (rest : Wish) → Sorted (bits_due t ws ++ rest) → BitsRise ws
+unfolding Sorted AllLess
+bits-rise t [] rest s = tt
+bits-rise t (w ∷ []) rest s = (tt, tt)
+bits-rise t (w ∷ v ∷ more) rest s = (less-bit t w.0 v.0 s.0.0, bits-rise t (v ∷ more) rest s.1)
+
 apart-first : (e : Instant × List (ℕ × Bool)) (more : List (Instant × List (ℕ × Bool))) → Apart (e ∷ more) → is_filled e.1 ≡ true
 apart-first e [] a = a
 apart-first e (x ∷ more) a = a.0
 
 grouped-of : (ws : List (Instant × List (ℕ × Bool))) → Apart ws → Sorted (writes_wish ws) → IsGrouped ws
 grouped-of [] a s = tt
-grouped-of (d ∷ []) a s = (a, tt, tt)
-grouped-of (d ∷ e ∷ more) a s = (a.0, first-before d.0 e.0 d.1 e.1 (writes_wish more) a.0 (apart-first e more a.2) a.1 s, grouped-of (e ∷ more) a.2 (sorted-right (bits_due d.0 d.1) (writes_wish (e ∷ more)) s))
+grouped-of (d ∷ []) a s = (a, bits-rise d.0 d.1 [] s, tt, tt)
+grouped-of (d ∷ e ∷ more) a s = (a.0, bits-rise d.0 d.1 (writes_wish (e ∷ more)) s, first-before d.0 e.0 d.1 e.1 (writes_wish more) a.0 (apart-first e more a.2) a.1 s, grouped-of (e ∷ more) a.2 (sorted-right (bits_due d.0 d.1) (writes_wish (e ∷ more)) s))
 
 all-less : (k : Key) (es : List (Key × Bool)) → AllByRecursion (λ (y : Key). key_cmp k y ≡ Less) (keys_of es) → AllLess (due_bit k) (wish_of es)
 unfolding AllLess

@@ -3,5 +3,7 @@ pub mod WishSteps
 pub mod GivingText
 pub mod Holding
 pub mod PartsRead
+pub mod TypesMade
 pub mod ValuesFit
+pub mod GivesFit
 pub mod GroupSteps

@@ -1,7 +1,8 @@
 -- The values of the operands of an operation fit its row.
-use Rattle.std.proofs.Common.{◌≡◌, ℕ, ◌<◌, suc, List, [], ◌∷◌, length, replicate, true, Option, Some, None, refl, ap, sym, ◌∙◌, subst, arith}
+use Rattle.std.proofs.Common.{◌≡◌, ℕ, ◌<◌, zero, suc, List, [], ◌∷◌, length, replicate, true, Option, Some, None, refl, ap, sym, ◌∙◌, subst, arith}
 use Rattle.std.specs.Option.{option_and_then, option_map}
 use Rattle.std.proofs.lemmas.List.{length-replicate}
+use Rattle.std.proofs.lemmas.Option.{same_Some}
 use Rattle.lh_types.specs.Types.{TypeTree, int_type, time_type, array_type, tuple_type, signal_type, row_of, IsData, AreData}
 use Rattle.lh_types.specs.Faults.{is_data}
 use Rattle.lh_types.specs.Values.{Datum, data_row}
@@ -14,13 +15,14 @@ use Rattle.lh_types.specs.declared.part.Step.{Step}
 use Rattle.lh_types.specs.declared.part.Step.TheVariants.{Field, Slice}
 use Rattle.lh_types.proofs.LawProofs.{parts_are_within}
 use Rattle.lh_unit.specs.Contents.{OperandText, pure_text, UnitText}
-use Rattle.lh_unit.specs.Typing.{first_type}
+use Rattle.lh_unit.specs.Typing.{first_type, with_type, written_types, array_made, tuple_made, operation_type}
 use Rattle.lh_unit.specs.TypingRows.{shifts, selects, takes_part, puts_part, part_type}
 use Rattle.lh_unit.specs.Held.{Held, datum_held, Env, as_datum, datum_at, data_at, front}
 use Rattle.lh_unit.specs.Within.{Each}
 use Rattle.lh_formed.specs.Operands.{IsOf, IsLike, IsWritten, OperationIs, RowIs}
 use Rattle.lh_eval.specs.Fitting.{IsValueType, Fits}
 use Rattle.lh_eval.specs.Sound.{HasOperands, OperandsFitRows}
+use Rattle.lh_eval.proofs.TypesMade.{array-made, tuple-made}
 
 -- a value that is held
 pub datum-held : (o : Option Held) (d : Datum) → option_and_then as_datum o ≡ Some d → o ≡ Some (datum_held d)
@@ -62,6 +64,32 @@ data-part : (t : TypeTree) (s : Step) (p : TypeTree) → is_data t ≡ true → 
 data-part (signal_type t) s p d e = absurd cc
 data-part _ s p d e = e
 
+-- the type of an operation's line is a data type, and the one that its row gives
+abbrev pub GivesType : Op → List OperandText → TypeTree → Type 0
+GivesType o os r = (t : TypeTree) → operation_type o os ≡ Some t → IsData t × (r ≡ t)
+
+-- operands that fit the row, which gives the type of the line
+pub record FitsLine (o : Op) (os : List OperandText) (ds : List Datum) : Type 0 where
+  pub fits : FitsOp o ds
+  pub gives : GivesType o os fits.gives
+
+-- an operation that gives the type that is written first
+gives-first : (o : Op) (os : List OperandText) (r t : TypeTree) → operation_type o os ≡ first_type os → first_type os ≡ Some t → t ≡ r → IsData r → GivesType o os r
+gives-first o os r t e f g d s q = let h : r ≡ s = same_Some _ _ (ap Some (sym g) ∙ sym f ∙ sym e ∙ q) in (subst IsData h d, h)
+
+-- one that gives a bit
+gives-bit : (o : Op) (os : List OperandText) → operation_type o os ≡ Some (int_type 1) → GivesType o os (int_type 1)
+gives-bit o os e t q = let h : int_type 1 ≡ t = same_Some _ _ (sym e ∙ q) in (subst IsData h (omega arith, omega arith), h)
+
+-- one that gives an array of n elements of the type that is written first
+gives-array : (n : ℕ) (o : Op) (os : List OperandText) (t : TypeTree) → operation_type o os ≡ option_and_then (array_made n) (first_type os) → first_type os ≡ Some t → IsData t → GivesType o os (array_type n t)
+gives-array n o os t e f d s q = array-made n t s d (sym (ap (option_and_then (array_made n)) f) ∙ sym e ∙ q)
+
+-- a row of one type is of data types only where the type is one
+first-data : (n : ℕ) (t : TypeTree) → 0 < n → AreData (row_of (replicate n t)) → IsData t
+first-data zero t h d = absurd (omega (arith, h))
+first-data (suc n) t h d = d.0
+
 module _ (u : UnitText) (w : ℕ) (e : Env) (f : Fits u w e) where
   Matches : List OperandText → List TypeTree → Type 0
   Matches [] [] = Unit {0}
@@ -82,8 +110,8 @@ module _ (u : UnitText) (w : ℕ) (e : Env) (f : Fits u w e) where
       let more = fit-row os ts x.1 m.1 x.3 in
       (subst (λ (y : List Datum). FitsRow (data_row y) (row_of (t ∷ ts))) x.4 (k.1, more.0), (is-data t m.0.1 k.0, more.1))
 
-  made : (o : Op) (os : List OperandText) (ts : List TypeTree) (r : TypeTree) (ds : List Datum) → Matches os ts → data_at e os ≡ Some ds → RowType o ts r → FitsOp o ds
-  made o os ts r ds m p k = let x = fit-row os ts ds m p in record { types = ts; gives = r; data_types = x.1; values_fit = x.0; row = k }
+  made : (o : Op) (os : List OperandText) (ts : List TypeTree) (r : TypeTree) (ds : List Datum) → Matches os ts → data_at e os ≡ Some ds → RowType o ts r → (AreData (row_of ts) → GivesType o os r) → FitsLine o os ds
+  made o os ts r ds m p k g = let x = fit-row os ts ds m p in record { fits = record { types = ts; gives = r; data_types = x.1; values_fit = x.0; row = k }; gives = g x.1 }
 
   int-no-time : (n : ℕ) → NoTime (int_type n)
   unfolding NoTime
@@ -113,10 +141,12 @@ module _ (u : UnitText) (w : ℕ) (e : Env) (f : Fits u w e) where
   some-first [] t p = absurd cc
   some-first (o ∷ os) t p = omega arith
 
-  fields-match : (os : List OperandText) → Each (λ (o : OperandText). (t : TypeTree) × (is_data t ≡ true) × IsWritten u t o) os → (ts : List TypeTree) × (length ts ≡ length os) × Matches os ts
+  fields-match : (os : List OperandText) → Each (λ (o : OperandText). (t : TypeTree) × (is_data t ≡ true) × IsWritten u t o) os → (ts : List TypeTree) × (length ts ≡ length os) × Matches os ts × (written_types os ≡ Some (row_of ts))
   unfolding Matches
-  fields-match [] l = ([], refl, tt)
-  fields-match (o ∷ os) l = let r = fields-match os l.1 in (l.0.0 ∷ r.0, ap suc r.1, ((l.0.2.1, no-time l.0.0 l.0.1), r.2))
+  fields-match [] l = ([], refl, tt, refl)
+  fields-match (o ∷ os) l =
+      let r = fields-match os l.1 in
+      (l.0.0 ∷ r.0, ap suc r.1, ((l.0.2.1, no-time l.0.0 l.0.1), r.2), ap (λ x. with_type x (written_types os)) l.0.2.0 ∙ ap (with_type (Some l.0.0)) r.3)
 
   -- the row of an operation on two integers, and of one that compares two values
   Ints : List OperandText → TypeTree → Type 0
@@ -129,39 +159,40 @@ module _ (u : UnitText) (w : ℕ) (e : Env) (f : Fits u w e) where
   unfolding Ints Two
   two-ints os t l h = (l.0.0, l.0.1, two os h.0 h.1 (int_type l.0.0) (int-no-time l.0.0) h.2 (int-like os t l.0.0 l.0.1 l.1))
 
-  twos : (o : Op) (os : List OperandText) (t : TypeTree) (ds : List Datum) → Ints os t → Two os → data_at e os ≡ Some ds → ((n : ℕ) → RowType o (int_type n ∷ int_type n ∷ []) (int_type n)) → FitsOp o ds
-  twos o os t ds l h p k = let x = two-ints os t l h in made o os (int_type x.0 ∷ int_type x.0 ∷ []) (int_type x.0) ds x.2 p (k x.0)
+  twos : (o : Op) (os : List OperandText) (t : TypeTree) (ds : List Datum) → operation_type o os ≡ first_type os → first_type os ≡ Some t → Ints os t → Two os → data_at e os ≡ Some ds → ((n : ℕ) → RowType o (int_type n ∷ int_type n ∷ []) (int_type n)) → FitsLine o os ds
+  twos o os t ds a b l h p k = let x = two-ints os t l h in made o os (int_type x.0 ∷ int_type x.0 ∷ []) (int_type x.0) ds x.2 p (k x.0) (λ d. gives-first o os (int_type x.0) t a b x.1 d.0)
 
-  compares : (o : Op) (os : List OperandText) (t : TypeTree) (ds : List Datum) → Ints os t → Two os → data_at e os ≡ Some ds → ((n : ℕ) → RowType o (int_type n ∷ int_type n ∷ []) (int_type 1)) → FitsOp o ds
-  compares o os t ds l h p k = let x = two-ints os t l h in made o os (int_type x.0 ∷ int_type x.0 ∷ []) (int_type 1) ds x.2 p (k x.0)
+  compares : (o : Op) (os : List OperandText) (t : TypeTree) (ds : List Datum) → operation_type o os ≡ Some (int_type 1) → Ints os t → Two os → data_at e os ≡ Some ds → ((n : ℕ) → RowType o (int_type n ∷ int_type n ∷ []) (int_type 1)) → FitsLine o os ds
+  compares o os t ds a l h p k = let x = two-ints os t l h in made o os (int_type x.0 ∷ int_type x.0 ∷ []) (int_type 1) ds x.2 p (k x.0) (λ d. gives-bit o os a)
 
-  unary : (o : Op) (os : List OperandText) (t : TypeTree) (ds : List Datum) → Ints os t → (x : OperandText) → os ≡ x ∷ [] → data_at e os ≡ Some ds → ((n : ℕ) → RowType o (int_type n ∷ []) (int_type n)) → FitsOp o ds
+  unary : (o : Op) (os : List OperandText) (t : TypeTree) (ds : List Datum) → operation_type o os ≡ first_type os → first_type os ≡ Some t → Ints os t → (x : OperandText) → os ≡ x ∷ [] → data_at e os ≡ Some ds → ((n : ℕ) → RowType o (int_type n ∷ []) (int_type n)) → FitsLine o os ds
   unfolding Ints
-  unary o os t ds l x h p k = made o os (int_type l.0.0 ∷ []) (int_type l.0.0) ds (one os x (int_type l.0.0) (int-no-time l.0.0) h (int-like os t l.0.0 l.0.1 l.1)) p (k l.0.0)
+  unary o os t ds a b l x h p k = made o os (int_type l.0.0 ∷ []) (int_type l.0.0) ds (one os x (int_type l.0.0) (int-no-time l.0.0) h (int-like os t l.0.0 l.0.1 l.1)) p (k l.0.0) (λ d. gives-first o os (int_type l.0.0) t a b l.0.1 d.0)
 
-  equals : (o : Op) (os : List OperandText) (t : TypeTree) (ds : List Datum) → (is_data t ≡ true) × Each (IsLike u t) os → Two os → data_at e os ≡ Some ds → RowType o (t ∷ t ∷ []) (int_type 1) → FitsOp o ds
+  equals : (o : Op) (os : List OperandText) (t : TypeTree) (ds : List Datum) → operation_type o os ≡ Some (int_type 1) → (is_data t ≡ true) × Each (IsLike u t) os → Two os → data_at e os ≡ Some ds → RowType o (t ∷ t ∷ []) (int_type 1) → FitsLine o os ds
   unfolding Two
-  equals o os t ds l h p k = made o os (t ∷ t ∷ []) (int_type 1) ds (two os h.0 h.1 t (no-time t l.0) h.2 l.1) p k
+  equals o os t ds a l h p k = made o os (t ∷ t ∷ []) (int_type 1) ds (two os h.0 h.1 t (no-time t l.0) h.2 l.1) p k (λ d. gives-bit o os a)
 
-  shift : (o : Op) (os : List OperandText) (t : TypeTree) (ds : List Datum) → OperationIs u shifts t os → data_at e os ≡ Some ds → ((n k : ℕ) → RowType o (int_type n ∷ int_type n ∷ int_type k ∷ []) (int_type n)) → FitsOp o ds
+  shift : (o : Op) (os : List OperandText) (t : TypeTree) (ds : List Datum) → operation_type o os ≡ first_type os → first_type os ≡ Some t → OperationIs u shifts t os → data_at e os ≡ Some ds → ((n k : ℕ) → RowType o (int_type n ∷ int_type n ∷ int_type k ∷ []) (int_type n)) → FitsLine o os ds
   unfolding Matches
-  shift o [] t ds l p k = absurd l
-  shift o (b ∷ []) t ds l p k = absurd l
-  shift o (b ∷ h ∷ []) t ds l p k = absurd l
-  shift o (b ∷ h ∷ n ∷ []) t ds l p k =
+  shift o [] t ds a c l p k = absurd l
+  shift o (b ∷ []) t ds a c l p k = absurd l
+  shift o (b ∷ h ∷ []) t ds a c l p k = absurd l
+  shift o (b ∷ h ∷ n ∷ []) t ds a c l p k =
       let i = l.0.0 in
       let j = l.3.0 in
       made o (b ∷ h ∷ n ∷ []) (int_type i ∷ int_type i ∷ int_type j ∷ []) (int_type i) ds
-      ((l.1.0 ∙ ap Some l.0.1, int-no-time i), ((l.2.0 ∙ ap Some l.0.1, int-no-time i), ((l.3.1, int-no-time j), tt))) p (k i j)
-  shift o (b ∷ h ∷ n ∷ m ∷ more) t ds l p k = absurd l
+      ((l.1.0 ∙ ap Some l.0.1, int-no-time i), ((l.2.0 ∙ ap Some l.0.1, int-no-time i), ((l.3.1, int-no-time j), tt))) p (k i j) (λ d. gives-first o (b ∷ h ∷ n ∷ []) (int_type i) t a c l.0.1 d.0)
+  shift o (b ∷ h ∷ n ∷ m ∷ more) t ds a c l p k = absurd l
 
-  select : (os : List OperandText) (t : TypeTree) (ds : List Datum) → OperationIs u selects t os → data_at e os ≡ Some ds → FitsOp op.Mux ds
+  select : (os : List OperandText) (t : TypeTree) (ds : List Datum) → first_type os ≡ Some t → OperationIs u selects t os → data_at e os ≡ Some ds → FitsLine op.Mux os ds
   unfolding Matches
-  select [] t ds l p = absurd l
-  select (x ∷ []) t ds l p = absurd l
-  select (x ∷ s ∷ []) t ds l p =
+  select [] t ds c l p = absurd l
+  select (x ∷ []) t ds c l p = absurd l
+  select (x ∷ s ∷ []) t ds c l p =
       made op.Mux (x ∷ s ∷ []) (array_type l.1.0 t ∷ int_type l.2.0 ∷ []) t ds ((l.1.1, array-no-time l.1.0 t), ((l.2.1, int-no-time l.2.0), tt)) p (l.1.0, l.2.0, refl)
-  select (x ∷ s ∷ y ∷ more) t ds l p = absurd l
+      (λ d. gives-first op.Mux (x ∷ s ∷ []) t t refl c refl d.0.0)
+  select (x ∷ s ∷ y ∷ more) t ds c l p = absurd l
 
   -- a value of a type that has the part
   whole-part : (s : Step) (whole t : TypeTree) (d : Datum) → IsValueType whole → FitsType d whole → part_type s whole ≡ Some t → NoTime whole × HasPart whole s t
@@ -176,66 +207,73 @@ module _ (u : UnitText) (w : ℕ) (e : Env) (f : Fits u w e) where
   whole-part s (tuple_type r) t d v g h = (no-time (tuple_type r) refl, h)
   whole-part s _ t d v g h = absurd v
 
-  take-part : (o : Op) (s : Step) (os : List OperandText) (t : TypeTree) (ds : List Datum) → OperationIs u (takes_part s) t os → data_at e os ≡ Some ds → ((whole : TypeTree) → HasPart whole s t → RowType o (whole ∷ []) t) → FitsOp o ds
+  take-part : (o : Op) (s : Step) (os : List OperandText) (t : TypeTree) (ds : List Datum) → operation_type o os ≡ first_type os → first_type os ≡ Some t → OperationIs u (takes_part s) t os → data_at e os ≡ Some ds → ((whole : TypeTree) → HasPart whole s t → RowType o (whole ∷ []) t) → FitsLine o os ds
   unfolding Matches
-  take-part o s [] t ds l p k = absurd l
-  take-part o s (x ∷ []) t ds l p k =
+  take-part o s [] t ds a c l p k = absurd l
+  take-part o s (x ∷ []) t ds a c l p k =
       let y = front-some (datum_at e x.value) (data_at e []) ds p in
       let v = datum-fits x.value y.0 l.0 y.2 l.1 in
       let h = whole-part s l.0 t y.0 v.0 v.1 l.2 in
-      made o (x ∷ []) (l.0 ∷ []) t ds ((l.1, h.0), tt) p (k l.0 h.1)
-  take-part o s (x ∷ y ∷ more) t ds l p k = absurd l
+      made o (x ∷ []) (l.0 ∷ []) t ds ((l.1, h.0), tt) p (k l.0 h.1) (λ d. gives-first o (x ∷ []) t t a c refl (part-is-data l.0 s t d.0 h.1))
+  take-part o s (x ∷ y ∷ more) t ds a c l p k = absurd l
 
-  put-part : (o : Op) (s : Step) (os : List OperandText) (t : TypeTree) (ds : List Datum) → OperationIs u (puts_part s) t os → data_at e os ≡ Some ds → ((q : TypeTree) → HasPart t s q → RowType o (t ∷ q ∷ []) t) → FitsOp o ds
+  put-part : (o : Op) (s : Step) (os : List OperandText) (t : TypeTree) (ds : List Datum) → operation_type o os ≡ first_type os → first_type os ≡ Some t → OperationIs u (puts_part s) t os → data_at e os ≡ Some ds → ((q : TypeTree) → HasPart t s q → RowType o (t ∷ q ∷ []) t) → FitsLine o os ds
   unfolding Matches NoTime
-  put-part o s [] t ds l p k = absurd l
-  put-part o s (x ∷ []) t ds l p k = absurd l
-  put-part o s (x ∷ v ∷ []) t ds l p k =
+  put-part o s [] t ds a c l p k = absurd l
+  put-part o s (x ∷ []) t ds a c l p k = absurd l
+  put-part o s (x ∷ v ∷ []) t ds a c l p k =
       let y = front-some (datum_at e x.value) (data_at e (v ∷ [])) ds p in
       let g = datum-fits x.value y.0 t y.2 l.1 in
       let h = data-part t s l.2.0 l.0 l.2.1 in
       let d : IsData l.2.0 = part-is-data t s l.2.0 (is-data t (no-time t l.0) g.0) h in
       let n : NoTime l.2.0 = λ (z : l.2.0 ≡ time_type). subst IsData z d in
-      made o (x ∷ v ∷ []) (t ∷ l.2.0 ∷ []) t ds ((l.1, no-time t l.0), ((l.2.2, n), tt)) p (k l.2.0 h)
-  put-part o s (x ∷ v ∷ y ∷ more) t ds l p k = absurd l
+      made o (x ∷ v ∷ []) (t ∷ l.2.0 ∷ []) t ds ((l.1, no-time t l.0), ((l.2.2, n), tt)) p (k l.2.0 h) (λ r. gives-first o (x ∷ v ∷ []) t t a c refl r.0)
+  put-part o s (x ∷ v ∷ y ∷ more) t ds a c l p k = absurd l
 
-  array : (os : List OperandText) (t : TypeTree) (ds : List Datum) → first_type os ≡ Some t → (is_data t ≡ true) × Each (IsLike u t) os → data_at e os ≡ Some ds → FitsOp op.Array ds
+  array : (os : List OperandText) (t : TypeTree) (ds : List Datum) → first_type os ≡ Some t → (is_data t ≡ true) × Each (IsLike u t) os → data_at e os ≡ Some ds → FitsLine op.Array os ds
   array os t ds first l p =
       let n : length (replicate (length os) t) ≡ length os = length-replicate (length os) t in
       made op.Array os (replicate (length os) t) (array_type (length (replicate (length os) t)) t) ds (alike-all os t (no-time t l.0) l.1) p
       (t, omega (arith, n, some-first os t first), ap (λ (k : ℕ). replicate k t) (sym n), refl)
+      (λ d. subst (λ (k : ℕ). GivesType op.Array os (array_type k t)) (sym n) (gives-array (length os) op.Array os t refl first (first-data (length os) t (some-first os t first) d)))
 
-  repeat : (n : ℕ) (os : List OperandText) (t : TypeTree) (ds : List Datum) → (is_data t ≡ true) × Each (IsLike u t) os → (x : OperandText) → os ≡ x ∷ [] → 0 < n → data_at e os ≡ Some ds → FitsOp (op.Repeat n) ds
-  repeat n os t ds l x h m p = made (op.Repeat n) os (t ∷ []) (array_type n t) ds (one os x t (no-time t l.0) h l.1) p (t, refl, m, refl)
+  repeat : (n : ℕ) (os : List OperandText) (t : TypeTree) (ds : List Datum) → first_type os ≡ Some t → (is_data t ≡ true) × Each (IsLike u t) os → (x : OperandText) → os ≡ x ∷ [] → 0 < n → data_at e os ≡ Some ds → FitsLine (op.Repeat n) os ds
+  repeat n os t ds c l x h m p = made (op.Repeat n) os (t ∷ []) (array_type n t) ds (one os x t (no-time t l.0) h l.1) p (t, refl, m, refl) (λ d. gives-array n (op.Repeat n) os t refl c d.0)
 
-  tuple : (os : List OperandText) (t : TypeTree) (ds : List Datum) → first_type os ≡ Some t → Each (λ (o : OperandText). (g : TypeTree) × (is_data g ≡ true) × IsWritten u g o) os → data_at e os ≡ Some ds → FitsOp op.Tuple ds
-  tuple os t ds first l p = let r = fields-match os l in made op.Tuple os r.0 (tuple_type (row_of r.0)) ds r.2 p (omega (arith, r.1, some-first os t first), refl)
+  tuple : (os : List OperandText) (t : TypeTree) (ds : List Datum) → first_type os ≡ Some t → Each (λ (o : OperandText). (g : TypeTree) × (is_data g ≡ true) × IsWritten u g o) os → data_at e os ≡ Some ds → FitsLine op.Tuple os ds
+  tuple os t ds first l p =
+      let r = fields-match os l in
+      made op.Tuple os r.0 (tuple_type (row_of r.0)) ds r.2 p (omega (arith, r.1, some-first os t first), refl)
+      (λ d s q. tuple-made r.0 s d (sym (ap (option_and_then tuple_made) r.3) ∙ q))
+
+  pub fits-line : (o : Op) (os : List OperandText) → RowIs u (pure_text o os) → HasOperands o os → (ds : List Datum) → data_at e os ≡ Some ds → FitsLine o os ds
+  unfolding Ints Two
+  fits-line op.Not os r h ds p = unary op.Not os r.0 ds refl r.1 r.2 h.0 h.1 p (λ n. (n, refl, refl))
+  fits-line op.Neg os r h ds p = unary op.Neg os r.0 ds refl r.1 r.2 h.0 h.1 p (λ n. (n, refl, refl))
+  fits-line op.Eq os r h ds p = equals op.Eq os r.0 ds refl r.2 h p (r.0, refl, refl)
+  fits-line op.Neq os r h ds p = equals op.Neq os r.0 ds refl r.2 h p (r.0, refl, refl)
+  fits-line op.Slt os r h ds p = compares op.Slt os r.0 ds refl r.2 h p (λ n. (n, refl, refl))
+  fits-line op.Sgt os r h ds p = compares op.Sgt os r.0 ds refl r.2 h p (λ n. (n, refl, refl))
+  fits-line op.Sle os r h ds p = compares op.Sle os r.0 ds refl r.2 h p (λ n. (n, refl, refl))
+  fits-line op.Sge os r h ds p = compares op.Sge os r.0 ds refl r.2 h p (λ n. (n, refl, refl))
+  fits-line op.Ult os r h ds p = compares op.Ult os r.0 ds refl r.2 h p (λ n. (n, refl, refl))
+  fits-line op.Ugt os r h ds p = compares op.Ugt os r.0 ds refl r.2 h p (λ n. (n, refl, refl))
+  fits-line op.Ule os r h ds p = compares op.Ule os r.0 ds refl r.2 h p (λ n. (n, refl, refl))
+  fits-line op.Uge os r h ds p = compares op.Uge os r.0 ds refl r.2 h p (λ n. (n, refl, refl))
+  fits-line op.Shl os r h ds p = shift op.Shl os r.0 ds refl r.1 r.2 p (λ n k. (n, k, refl, refl))
+  fits-line op.Shr os r h ds p = shift op.Shr os r.0 ds refl r.1 r.2 p (λ n k. (n, k, refl, refl))
+  fits-line op.Mux os r h ds p = select os r.0 ds r.1 r.2 p
+  fits-line (op.Extf k) os r h ds p = take-part (op.Extf k) (Field k) os r.0 ds refl r.1 r.2 p (λ whole q. (whole, refl, q))
+  fits-line (op.Exts at len) os r h ds p = take-part (op.Exts at len) (Slice at len) os r.0 ds refl r.1 r.2 p (λ whole q. (whole, refl, q))
+  fits-line (op.Insf k) os r h ds p = put-part (op.Insf k) (Field k) os r.0 ds refl r.1 r.2 p (λ part q. (part, refl, q))
+  fits-line (op.Inss at len) os r h ds p = put-part (op.Inss at len) (Slice at len) os r.0 ds refl r.1 r.2 p (λ part q. (part, refl, q))
+  fits-line op.Array os r h ds p = array os r.0 ds r.1 r.2 p
+  fits-line (op.Repeat n) os r h ds p = repeat n os r.0 ds r.1 r.2 h.0.0 h.0.1 h.1 p
+  fits-line op.Tuple os r h ds p = tuple os r.0 ds r.1 r.2 p
+  fits-line o os r h ds p = twos o os r.0 ds refl r.1 r.2 h p (λ n. (n, refl, refl))
 
   pub fits-row : (o : Op) (os : List OperandText) → RowIs u (pure_text o os) → HasOperands o os → (ds : List Datum) → data_at e os ≡ Some ds → FitsOp o ds
-  unfolding Ints Two
-  fits-row op.Not os r h ds p = unary op.Not os r.0 ds r.2 h.0 h.1 p (λ n. (n, refl, refl))
-  fits-row op.Neg os r h ds p = unary op.Neg os r.0 ds r.2 h.0 h.1 p (λ n. (n, refl, refl))
-  fits-row op.Eq os r h ds p = equals op.Eq os r.0 ds r.2 h p (r.0, refl, refl)
-  fits-row op.Neq os r h ds p = equals op.Neq os r.0 ds r.2 h p (r.0, refl, refl)
-  fits-row op.Slt os r h ds p = compares op.Slt os r.0 ds r.2 h p (λ n. (n, refl, refl))
-  fits-row op.Sgt os r h ds p = compares op.Sgt os r.0 ds r.2 h p (λ n. (n, refl, refl))
-  fits-row op.Sle os r h ds p = compares op.Sle os r.0 ds r.2 h p (λ n. (n, refl, refl))
-  fits-row op.Sge os r h ds p = compares op.Sge os r.0 ds r.2 h p (λ n. (n, refl, refl))
-  fits-row op.Ult os r h ds p = compares op.Ult os r.0 ds r.2 h p (λ n. (n, refl, refl))
-  fits-row op.Ugt os r h ds p = compares op.Ugt os r.0 ds r.2 h p (λ n. (n, refl, refl))
-  fits-row op.Ule os r h ds p = compares op.Ule os r.0 ds r.2 h p (λ n. (n, refl, refl))
-  fits-row op.Uge os r h ds p = compares op.Uge os r.0 ds r.2 h p (λ n. (n, refl, refl))
-  fits-row op.Shl os r h ds p = shift op.Shl os r.0 ds r.2 p (λ n k. (n, k, refl, refl))
-  fits-row op.Shr os r h ds p = shift op.Shr os r.0 ds r.2 p (λ n k. (n, k, refl, refl))
-  fits-row op.Mux os r h ds p = select os r.0 ds r.2 p
-  fits-row (op.Extf k) os r h ds p = take-part (op.Extf k) (Field k) os r.0 ds r.2 p (λ whole q. (whole, refl, q))
-  fits-row (op.Exts at len) os r h ds p = take-part (op.Exts at len) (Slice at len) os r.0 ds r.2 p (λ whole q. (whole, refl, q))
-  fits-row (op.Insf k) os r h ds p = put-part (op.Insf k) (Field k) os r.0 ds r.2 p (λ part q. (part, refl, q))
-  fits-row (op.Inss at len) os r h ds p = put-part (op.Inss at len) (Slice at len) os r.0 ds r.2 p (λ part q. (part, refl, q))
-  fits-row op.Array os r h ds p = array os r.0 ds r.1 r.2 p
-  fits-row (op.Repeat n) os r h ds p = repeat n os r.0 ds r.2 h.0.0 h.0.1 h.1 p
-  fits-row op.Tuple os r h ds p = tuple os r.0 ds r.1 r.2 p
-  fits-row o os r h ds p = twos o os r.0 ds r.2 h p (λ n. (n, refl, refl))
+  fits-row o os r h ds p = (fits-line o os r h ds p).fits
 
 pub operands-fit-rows : OperandsFitRows
 operands-fit-rows u w e o os f r h ds p = fits-row u w e f o os r h ds p

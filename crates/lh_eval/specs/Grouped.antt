@@ -1,5 +1,5 @@
--- Writes by instants: the instants strictly rise, and at each of them something is written.
-use Rattle.std.specs.Prelude.{◌≡◌, ℕ, List, [], ◌∷◌, Bool, true, false}
+-- Writes by instants: the instants strictly rise, and at each of them something is written, no bit twice.
+use Rattle.std.specs.Prelude.{◌≡◌, ℕ, ◌<◌, List, [], ◌∷◌, Bool, true, false}
 use Rattle.lh_time.specs.declared.Instant.{Instant}
 use Rattle.lh_time.specs.Order.{instant_lt}
 
@@ -13,10 +13,20 @@ abbrev pub IsBefore : Instant → List (Instant × List (ℕ × Bool)) → Type 
 IsBefore t [] = Unit {0}
 IsBefore t (d ∷ more) = instant_lt t d.0 ≡ true
 
--- each instant is before the next, and its list is not empty
+-- the bit of the first of these, if there is one, is above
+abbrev pub IsAbove : ℕ → List (ℕ × Bool) → Type 0
+IsAbove b [] = Unit {0}
+IsAbove b (w ∷ more) = b < w.0
+
+-- the bits strictly rise, so that none is named twice
+abbrev pub BitsRise : List (ℕ × Bool) → Type 0
+BitsRise [] = Unit {0}
+BitsRise (w ∷ more) = IsAbove w.0 more × BitsRise more
+
+-- each instant is before the next, its list is not empty, and the bits of the list strictly rise
 abbrev pub IsGrouped : List (Instant × List (ℕ × Bool)) → Type 0
 IsGrouped [] = Unit {0}
-IsGrouped (d ∷ more) = (is_filled d.1 ≡ true) × IsBefore d.0 more × IsGrouped more
+IsGrouped (d ∷ more) = (is_filled d.1 ≡ true) × BitsRise d.1 × IsBefore d.0 more × IsGrouped more
 
 -- no list is empty, and no two that follow each other are of one instant
 abbrev pub Apart : List (Instant × List (ℕ × Bool)) → Type 0

@@ -5,3 +5,4 @@ pub mod Fitting
 pub mod Sound
 pub mod WishOf
 pub mod Grouped
+pub mod ResultsFit

@@ -29,59 +29,53 @@ use std::alloc::Global;
 /// that `extf` or `exts` names; `None` where an operand holds neither.
 pub fn operate(
     alloc: Global,
-    module: &Module,
+    m: &Module,
     unit: UnitId,
     op: &Op,
     args: &[Typed],
     slots: &Slots,
 ) -> Result<Option<Held>, NoMemory>
-    requires unit { unit.0 < unit_count module.now }
-    requires args { Each (OperandWithin (sizes module.now unit.0)) args.now }
-    requires slots { length slots.now ≡ value_count module.now unit.0 }
-    requires fit { OperandsFit module.now unit.0 slots.now op.now args.now }
-    ensures { (e : Env) → Holds module.now unit.0 slots.now e → IfOk result (λ h. maybe_held h ≡ operated (unit_text_at module.now unit.0) e op.now (map (operand_text (naming module.now unit.0)) args.now)) }
+    requires unit { unit.0 < unit_count m.now }
+    requires args { Each (OperandWithin (sizes m.now unit.0)) args.now }
+    requires slots { length slots.now ≡ value_count m.now unit.0 }
+    requires fit { OperandsFit m.now unit.0 slots.now op.now args.now }
+    ensures { (e : Env) → Holds m.now unit.0 slots.now e → IfOk result (λ h. maybe_held h ≡ operated (unit_text_at m.now unit.0) e op.now (map (operand_text (naming m.now unit.0)) args.now)) }
 {
     if let Some(values) = data_in(alloc, slots, args)? {
         let value = apply(alloc, op, values.as_slice())?;
         return Ok(Some(Held::Datum(value)));
     }
-    match signal_part(module, unit, op, args, slots) {
+    match signal_part(m, unit, op, args, slots) {
         Some(range) => Ok(Some(Held::Part(range))),
         None => Ok(None),
     }
 }
 
 /// The part of a signal that `extf` or `exts` names.
-fn signal_part(
-    module: &Module,
-    unit: UnitId,
-    op: &Op,
-    args: &[Typed],
-    slots: &Slots,
-) -> Option<Range>
-    requires unit { unit.0 < unit_count module.now }
-    requires args { Each (OperandWithin (sizes module.now unit.0)) args.now }
-    requires slots { length slots.now ≡ value_count module.now unit.0 }
-    requires fit { OperandsFit module.now unit.0 slots.now op.now args.now }
-    ensures { (e : Env) → Holds module.now unit.0 slots.now e → option_map part_held result ≡ effects.signal_part (unit_text_at module.now unit.0) e op.now (map (operand_text (naming module.now unit.0)) args.now) }
+fn signal_part(m: &Module, unit: UnitId, op: &Op, args: &[Typed], slots: &Slots) -> Option<Range>
+    requires unit { unit.0 < unit_count m.now }
+    requires args { Each (OperandWithin (sizes m.now unit.0)) args.now }
+    requires slots { length slots.now ≡ value_count m.now unit.0 }
+    requires fit { OperandsFit m.now unit.0 slots.now op.now args.now }
+    ensures { (e : Env) → Holds m.now unit.0 slots.now e → option_map part_held result ≡ effects.signal_part (unit_text_at m.now unit.0) e op.now (map (operand_text (naming m.now unit.0)) args.now) }
 {
     if args.len() != 1 {
         return None;
     }
-    stepped_part(module, unit, op, &args[0], slots)
+    stepped_part(m, unit, op, &args[0], slots)
 }
 
 /// The part of the signal that an operand holds to which an operation leads.
-fn stepped_part(module: &Module, unit: UnitId, op: &Op, arg: &Typed, slots: &Slots) -> Option<Range>
-    requires unit { unit.0 < unit_count module.now }
-    requires arg { arg.now.value.0 < value_count module.now unit.0 }
-    requires slots { length slots.now ≡ value_count module.now unit.0 }
-    requires fit { PartFits module.now unit.0 slots.now arg.now.value }
-    ensures { option_map part_held result ≡ stepped (value_type (unit_text_at module.now unit.0) (value_text (naming module.now unit.0) arg.now.value)) (holding.part_in slots.now arg.now.value) (effects.step_of op.now) }
+fn stepped_part(m: &Module, unit: UnitId, op: &Op, arg: &Typed, slots: &Slots) -> Option<Range>
+    requires unit { unit.0 < unit_count m.now }
+    requires arg { arg.now.value.0 < value_count m.now unit.0 }
+    requires slots { length slots.now ≡ value_count m.now unit.0 }
+    requires fit { PartFits m.now unit.0 slots.now arg.now.value }
+    ensures { option_map part_held result ≡ stepped (value_type (unit_text_at m.now unit.0) (value_text (naming m.now unit.0) arg.now.value)) (holding.part_in slots.now arg.now.value) (effects.step_of op.now) }
 {
     let step = step_of(op)?;
     let whole = part_in(slots, arg.value)?;
-    let carried = carried_by(module, unit, arg.value)?;
+    let carried = carried_by(m, unit, arg.value)?;
     step_into(carried, whole, step)
 }
 

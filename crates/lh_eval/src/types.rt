@@ -41,15 +41,15 @@ fn pointed(ty: &Ty) -> Option<&Ty>
 /// What the signal that is a value of a unit carries; `None` where the value is no signal.
 ///
 /// It is read from the line that gives the value, in a time that grows as the number of the unit's instructions.
-pub fn carried_by(module: &Module, unit: UnitId, value: ValueId) -> Option<&Ty>
-    requires unit { unit.0 < unit_count module.now }
-    requires value { value.0 < value_count module.now unit.0 }
-    ensures { option_copied result ≡ option_and_then typing.carried (value_type (unit_text_at module.now unit.0) (value_text (naming module.now unit.0) value)) }
+pub fn carried_by(m: &Module, unit: UnitId, value: ValueId) -> Option<&Ty>
+    requires unit { unit.0 < unit_count m.now }
+    requires value { value.0 < value_count m.now unit.0 }
+    ensures { option_copied result ≡ option_and_then typing.carried (value_type (unit_text_at m.now unit.0) (value_text (naming m.now unit.0) value)) }
 {
-    if let Some(arg) = arg_being(module.args(unit), value) {
+    if let Some(arg) = arg_being(m.args(unit), value) {
         return carried(&arg.ty);
     }
-    match inst_giving(module, unit, value) {
+    match inst_giving(m, unit, value) {
         Some(inst) => carried_by_inst(inst),
         None => None,
     }
@@ -68,13 +68,13 @@ fn arg_being(args: &[Arg], value: ValueId) -> Option<&Arg>
 }
 
 /// The first instruction of a unit that gives this value.
-fn inst_giving(module: &Module, unit: UnitId, value: ValueId) -> Option<&Inst>
-    requires { unit.0 < unit_count module.now }
-    ensures { option_copied result ≡ giving.blocks_giving (table_at module.now unit.0) (blocks_at module.now unit.0) value.0 }
+fn inst_giving(m: &Module, unit: UnitId, value: ValueId) -> Option<&Inst>
+    requires { unit.0 < unit_count m.now }
+    ensures { option_copied result ≡ giving.blocks_giving (table_at m.now unit.0) (blocks_at m.now unit.0) value.0 }
 {
-    for block in module.blocks(unit) {
-        let insts = module.insts(unit, *block);
-        if let Some(inst) = inst_among(module, unit, insts, value) {
+    for block in m.blocks(unit) {
+        let insts = m.insts(unit, *block);
+        if let Some(inst) = inst_among(m, unit, insts, value) {
             return Some(inst);
         }
     }
@@ -82,31 +82,26 @@ fn inst_giving(module: &Module, unit: UnitId, value: ValueId) -> Option<&Inst>
 }
 
 /// The first of these instructions that gives this value.
-fn inst_among<'a>(
-    module: &'a Module,
-    unit: UnitId,
-    insts: &[InstId],
-    value: ValueId,
-) -> Option<&'a Inst>
-    requires unit { unit.0 < unit_count module.now }
-    requires insts { Each (λ (i : Id). i.0 < inst_count module.now unit.0) insts.now }
-    ensures { option_copied result ≡ giving.insts_giving (table_at module.now unit.0) insts.now value.0 }
+fn inst_among<'a>(m: &'a Module, unit: UnitId, insts: &[InstId], value: ValueId) -> Option<&'a Inst>
+    requires unit { unit.0 < unit_count m.now }
+    requires insts { Each (λ (i : Id). i.0 < inst_count m.now unit.0) insts.now }
+    ensures { option_copied result ≡ giving.insts_giving (table_at m.now unit.0) insts.now value.0 }
 {
     for inst in insts {
-        if gives(module, unit, *inst, value) {
-            return Some(module.inst(unit, *inst));
+        if gives(m, unit, *inst, value) {
+            return Some(m.inst(unit, *inst));
         }
     }
     None
 }
 
 /// Whether an instruction gives this value.
-fn gives(module: &Module, unit: UnitId, inst: InstId, value: ValueId) -> bool
-    requires unit { unit.0 < unit_count module.now }
-    requires inst { inst.0 < inst_count module.now unit.0 }
-    ensures { result ≡ is_result (result_at module.now unit.0 inst.0) value.0 }
+fn gives(m: &Module, unit: UnitId, inst: InstId, value: ValueId) -> bool
+    requires unit { unit.0 < unit_count m.now }
+    requires inst { inst.0 < inst_count m.now unit.0 }
+    ensures { result ≡ is_result (result_at m.now unit.0 inst.0) value.0 }
 {
-    match module.result_of(unit, inst) {
+    match m.result_of(unit, inst) {
         Some(given) => given == value,
         None => false,
     }

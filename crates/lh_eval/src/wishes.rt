@@ -68,7 +68,8 @@ impl Wishes {
         Ok(())
     }
 
-    /// The same as lists of writes: the due instants strictly rise, and none of the lists is empty.
+    /// The same as lists of writes: the due instants strictly rise, none of the lists is empty, and in each of them the bits
+    /// strictly rise.
     pub fn writes(&self, alloc: Global) -> Result<DueWrites, NoMemory>
         ensures wish { IfOk result (λ w. writes_wish w ≡ self.now) }
         ensures grouped { IfOk result IsGrouped }

@@ -7,6 +7,6 @@ use Rattle.lh_eval.proofs.types.inst_among.Given as goal
 
 abbrev pub invariant-loop-inst : goal.invariant-loop-inst
 invariant-loop-inst l = record {
-  same : insts_giving (table_at l.module l.unit.0) (drop l.inst-index l.insts) l.value.0 ≡ insts_giving (table_at l.module l.unit.0) l.insts l.value.0;
-  within : Each (λ (i : InstId). i.0 < inst_count l.module l.unit.0) (drop l.inst-index l.insts);
+  same : insts_giving (table_at l.m l.unit.0) (drop l.inst-index l.insts) l.value.0 ≡ insts_giving (table_at l.m l.unit.0) l.insts l.value.0;
+  within : Each (λ (i : InstId). i.0 < inst_count l.m l.unit.0) (drop l.inst-index l.insts);
 }

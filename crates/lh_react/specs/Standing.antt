@@ -1,0 +1,123 @@
+-- What a run of an entity has come to, as the code keeps it and as a pass defines it.
+use Rattle.std.specs.Prelude.{◌≡◌, ℕ, ◌+◌, ◌≤◌, ◌<◌, List, [], ◌∷◌, length, map, Bool, Option, Some, None}
+use Rattle.lh_time.specs.declared.Instant.{Instant}
+use Rattle.lh_types.specs.Types.{TypeTree, bit_count}
+use Rattle.lh_types.specs.Wish.{Wish}
+use Rattle.lh_types.specs.declared.part.Range.{Range}
+use Rattle.lh_unit.specs.Contents.{InstText, sig_text, reg_text, LineText, ArgText, UnitText}
+use Rattle.lh_unit.specs.Held.{Held}
+use Rattle.lh_unit.specs.Pass.{Passed, passes, pass_from}
+use Rattle.lh_unit.specs.Hierarchy.{lines_of, type_or_void}
+use Rattle.lh_unit.specs.Within.{Each}
+use Rattle.lh_unit.specs.Arena.{Arena, naming, table_at, unit_text_at}
+use Rattle.lh_unit.specs.ById.{inst_line}
+use Rattle.lh_unit.specs.Naming.{inst_text, maybe_text}
+use Rattle.lh_unit.specs.declared.inst.Inst.{Inst}
+use Rattle.lh_unit.specs.declared.inst.InstId.{InstId}
+use Rattle.lh_unit.specs.declared.inst.ValueId.{ValueId}
+use Rattle.lh_eval.specs.Holding.{Holds, given}
+use Rattle.lh_eval.specs.Fitting.{Fits}
+use Rattle.lh_eval.specs.WishOf.{writes_wish}
+use Rattle.lh_eval.specs.Grouped.{IsGrouped}
+use Rattle.lh_react.specs.declared.pass.Run.{Run}
+use Rattle.lh_react.specs.declared.entity.EntAct.{EntAct}
+
+-- the text of an instruction of the unit u with its result
+abbrev pub line_in : Arena → ℕ → InstId → LineText
+line_in a u i = inst_line (naming a u) (table_at a u) i
+
+-- the text of an instruction, the result of which has this name
+abbrev pub named_line : Arena → ℕ → Option ValueId → Inst → LineText
+named_line a u name i = record { result = maybe_text (naming a u) name; inst = inst_text (naming a u) i }
+
+-- what a pass comes to by it
+abbrev pub passed_by : Arena → ℕ → (now : List Bool) → (memory : Option (List Bool)) → Instant → Passed → Option ValueId → Inst → Passed
+passed_by a u now memory t p name i = passes (unit_text_at a u) now memory t (inst_text (naming a u) i) (maybe_text (naming a u) name) p
+
+-- what a pass comes to after these instructions
+abbrev pub passed_all : Arena → ℕ → (now : List Bool) → (memory : Option (List Bool)) → Instant → Passed → List InstId → Passed
+passed_all a u now memory t p is = pass_from (unit_text_at a u) now memory t p (map (line_in a u) is)
+
+-- the code's run stands for what a pass has come to
+pub record Stands (a : Arena) (u : ℕ) (p : Passed) (r : Run) : Type 0 where
+  pub holds : Holds a u r.slots p.held
+  pub seen : r.seen ≡ p.seen
+  pub wish : r.wishes ≡ p.wish
+
+-- it stands for something in which what is held fits
+pub record IsFit (a : Arena) (u : ℕ) (width : ℕ) (r : Run) : Type 0 where
+  pub passed : Passed
+  pub stands : Stands a u passed r
+  pub fits : Fits (unit_text_at a u) width passed.held
+
+-- a run stands for something from which a pass comes to this after the rest
+pub record Continues (a : Arena) (u : ℕ) (now : List Bool) (memory : Option (List Bool)) (t : Instant) (r : Run) (rest : List InstId) (to : Passed) : Type 0 where
+  pub passed : Passed
+  pub stands : Stands a u passed r
+  pub same : passed_all a u now memory t passed rest ≡ to
+
+-- an instruction has given this, and nothing else has changed
+pub record HasGiven (old : Run) (name : Option ValueId) (h : Option Held) (new : Run) : Type 0 where
+  pub slots : new.slots ≡ given old.slots name h
+  pub seen : new.seen ≡ old.seen
+  pub wishes : new.wishes ≡ old.wishes
+
+-- this is wished now, and nothing else has changed
+pub record HasWished (old : Run) (w : Wish) (new : Run) : Type 0 where
+  pub slots : new.slots ≡ old.slots
+  pub seen : new.seen ≡ old.seen
+  pub wishes : new.wishes ≡ w
+
+-- ranges have these widths, and lie within so many bits
+abbrev pub RangesFit : (width : ℕ) → List Range → List TypeTree → Type 0
+RangesFit width [] [] = Unit {0}
+RangesFit width (r ∷ rs) (t ∷ ts) = (r.len ≡ bit_count t) × (r.lo + r.len ≤ width) × RangesFit width rs ts
+RangesFit width _ _ = ⊥
+
+-- the types of the arguments
+abbrev pub arg_types : List ArgText → List TypeTree
+arg_types [] = []
+arg_types (x ∷ more) = x.ty ∷ arg_types more
+
+-- one more type, where the instruction is a `sig`
+abbrev pub type_if_signal : InstText → List TypeTree → List TypeTree
+type_if_signal (sig_text a) more = type_or_void a.ty ∷ more
+type_if_signal _ more = more
+
+-- the types that the `sig` instructions write, in text order
+abbrev pub signal_types : List LineText → List TypeTree
+signal_types [] = []
+signal_types (l ∷ more) = type_if_signal l.inst (signal_types more)
+
+-- the ranges of an instance have the widths of its unit's arguments and `sig` instructions, and lie within so many bits
+pub record InstanceFits (u : UnitText) (args sigs : List Range) (width : ℕ) : Type 0 where
+  pub of_args : RangesFit width args (arg_types u.args)
+  pub of_signals : RangesFit width sigs (signal_types (lines_of u.blocks))
+
+-- how many triggers an instruction has
+abbrev pub triggers_in : InstText → ℕ
+triggers_in (reg_text to triggers) = length triggers
+triggers_in _ = 0
+
+-- how many the registers of these instructions have
+abbrev pub trigger_count : List LineText → ℕ
+trigger_count [] = 0
+trigger_count (l ∷ more) = triggers_in l.inst + trigger_count more
+
+-- a state fits its unit where it has no memory yet, or one value for each trigger
+abbrev pub StateFits : UnitText → Option (List Bool) → Type 0
+StateFits u None = Unit {0}
+StateFits u (Some values) = length values ≡ trigger_count (lines_of u.blocks)
+
+-- each of these writes names a bit below this
+abbrev pub BitsWithin : (width : ℕ) → List (ℕ × Bool) → Type 0
+BitsWithin width ws = Each (λ (w : ℕ × Bool). w.0 < width) ws
+
+-- What a run of the unit u answers, where the signals have so many bits: what the pass has seen is the next memory, which fits; and
+-- the writes have exactly the entries of its wish. Their instants strictly rise, none is empty and none names a bit twice, and each names only bits of the signals.
+pub record Reacts (u : UnitText) (width : ℕ) (p : Passed) (act : EntAct) : Type 0 where
+  pub next : act.next ≡ Some p.seen
+  pub fits : StateFits u act.next
+  pub wish : writes_wish act.wishes ≡ p.wish
+  pub grouped : IsGrouped act.wishes
+  pub within : Each (λ (d : Instant × List (ℕ × Bool)). BitsWithin width d.1) act.wishes

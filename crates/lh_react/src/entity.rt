@@ -1,0 +1,99 @@
+//! One pass of an entity.
+ghost use Rattle.std.specs.Prelude.{◌≡◌, ◌<◌, ◌^◌, length, Some, IfOk};
+ghost use Rattle.lh_types.specs.Raised.{raised};
+ghost use Rattle.lh_unit.specs.Arena.{unit_count, kind_at, contents, unit_text_at};
+ghost use Rattle.lh_unit.specs.Pass.{pass};
+ghost use Rattle.lh_unit.specs.WellFormed.{IsWellFormed};
+ghost use Rattle.lh_react.specs.Standing.{InstanceFits, Reacts};
+
+use crate::begin::begin;
+use crate::pass::{Run, run_insts};
+use crate::state::EntState;
+use lh_eval::instance::Instance;
+use lh_eval::wishes::Wishes;
+use lh_time::Instant;
+use lh_types::bits::Bits;
+use lh_types::list::ListOf;
+use lh_types::part::Range;
+use lh_types::tally::Tally;
+use lh_types::ty::NoMemory;
+use lh_types::writes::DueWrites;
+use lh_unit::inst::{UnitId, UnitKind};
+use lh_unit::module::Module;
+use std::alloc::Global;
+
+/// What a run of an entity gives: its next state, and the bits that it wishes, by the instants at which they are due.
+#[derive(Drop)]
+pub struct EntAct {
+    pub next: EntState,
+    pub wishes: DueWrites,
+}
+
+/// One pass of an entity of a well-formed module at an instant, where the signals have these bits: its instructions in text
+/// order. The tally is raised by one, whatever the answer is.
+///
+/// The next state has the value of each trigger of the entity's registers in this run, and the wishes are exactly those of
+/// its drives and registers: the instants at which they are due strictly rise, and at each of them something is written, no bit
+/// twice, and only bits of the signals. There is no answer for an operand that is missing or of a wrong type, since none is.
+/// After `NoMemory` only the tally has changed.
+pub fn react<T: Tally>(
+    alloc: Global,
+    m: &Module,
+    i: &Instance,
+    s: &EntState,
+    now: &Bits,
+    at: Instant,
+    tally: &mut T,
+) -> Result<EntAct, NoMemory>
+    requires formed { IsWellFormed (contents m.now) }
+    requires unit { i.now.unit.0 < unit_count m.now }
+    requires entity { kind_at m.now i.now.unit.0 ≡ Some UnitKind.Entity }
+    requires fits { InstanceFits (unit_text_at m.now i.now.unit.0) i.now.args i.now.sigs (length now.now) }
+    ensures act { IfOk result (Reacts (unit_text_at m.now i.now.unit.0) (length now.now) (pass (unit_text_at m.now i.now.unit.0) i.now.args i.now.sigs now.now s.now at)) }
+    ensures tick { T.count tally.new ≡ raised (T.count tally.old) 1 }
+{
+    tally.tick();
+    let (args, sigs) = (i.args.as_slice(), i.sigs.as_slice());
+    run_entity(alloc, m, i.unit, args, sigs, now, s, at)
+}
+
+/// One pass of an entity.
+fn run_entity(
+    alloc: Global,
+    m: &Module,
+    unit: UnitId,
+    args: &[Range],
+    sigs: &[Range],
+    now: &Bits,
+    state: &EntState,
+    at: Instant,
+) -> Result<EntAct, NoMemory>
+    requires unit { unit.0 < unit_count m.now }
+    requires entity { kind_at m.now unit.0 ≡ Some UnitKind.Entity }
+    requires formed { IsWellFormed (contents m.now) }
+    requires fits { InstanceFits (unit_text_at m.now unit.0) args.now sigs.now (length now.now) }
+    ensures { IfOk result (Reacts (unit_text_at m.now unit.0) (length now.now) (pass (unit_text_at m.now unit.0) args.now sigs.now now.now state.now at)) }
+{
+    few_bits(now);
+    let block = m.blocks(unit)[0];
+    let insts = m.insts(unit, block);
+    let slots = begin(alloc, m, unit, insts, args, sigs)?;
+    let mut run = Run {
+        slots,
+        seen: ListOf::new(alloc),
+        wishes: Wishes::new(alloc),
+    };
+    run_insts(alloc, m, unit, insts, now, state, at, &mut run)?;
+    let wishes = run.wishes.writes(alloc)?;
+    Ok(EntAct {
+        next: EntState::after(run.seen),
+        wishes,
+    })
+}
+
+/// There are fewer than 2 ^ 32 bits.
+fn few_bits(bits: &Bits)
+    ensures { length bits.now < 2 ^ 32 }
+{
+    let _len = bits.len();
+}

@@ -1,0 +1,11 @@
+//! One pass of an entity.
+#![tactic(auto)]
+
+mod begin;
+mod entity;
+mod pass;
+mod register;
+mod state;
+
+pub use entity::{EntAct, react};
+pub use state::EntState;
