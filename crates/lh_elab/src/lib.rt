@@ -1,4 +1,4 @@
-//! Elaboration: the design of a top unit, or the first reason why it has none.
+//! Elaboration: the first reason why a top unit has no design, and how many bits its design has where there is none.
 #![tactic(auto)]
 
 mod fault;

@@ -8,7 +8,7 @@ use Rattle.lh_types.specs.declared.part.Range.{Range}
 use Rattle.lh_types.proofs.LawProofs.{bits_are_counted}
 use Rattle.lh_unit.specs.Contents.{prb_text}
 use Rattle.lh_unit.specs.Typing.{value_type, carried}
-use Rattle.lh_unit.specs.Held.{Held, datum_held, part_held, as_part}
+use Rattle.lh_unit.specs.Held.{Held, datum_held, part_held}
 use Rattle.lh_unit.specs.Arena.{Arena, naming, value_count, sizes, unit_text_at}
 use Rattle.lh_unit.specs.Naming.{value_text, operand_text, trigger_text}
 use Rattle.lh_unit.specs.Within.{Each, OperandWithin, TriggerWithin, MaybeWithin}
@@ -22,11 +22,7 @@ use Rattle.lh_eval.proofs.ValuesFit.{datum-held}
 use Rattle.lh_react.specs.declared.pass.Run.{Run}
 use Rattle.lh_react.specs.Standing.{IsFit}
 use Rattle.lh_react.specs.Registers.{TriggerIn, TriggerFits}
-
-part-held : (o : Option Held) (r : Range) → option_and_then as_part o ≡ Some r → o ≡ Some (part_held r)
-part-held None r e = cc
-part-held (Some (part_held s)) r e = let p : s ≡ r = cc in ap (λ x. Some (part_held x)) p
-part-held (Some _) r e = cc
+use Rattle.lh_eval.proofs.GivesFit.{part-held}
 
 module _ (a : Arena) (u w : ℕ) (r : Run) (f : IsFit a u w r) where
   pub slots-long : length r.slots ≡ value_count a u
