@@ -34,7 +34,7 @@ pub struct EntAct {
 ///
 /// The next state has the value of each trigger of the entity's registers in this run, and the wishes are exactly those of
 /// its drives and registers: the instants at which they are due strictly rise, and at each of them something is written, no bit
-/// twice, and only bits of the signals. There is no answer for an operand that is missing or of a wrong type, since none is.
+/// twice, and only bits of the signals.
 /// After `NoMemory` only the tally has changed.
 pub fn react<T: Tally>(
     alloc: Global,
