@@ -12,6 +12,7 @@ pub mod Bits
 pub mod Flags
 pub mod Packed
 pub mod Parts
+pub mod Writes
 pub mod Raised
 pub mod PlaceOf
 pub mod SameValue
