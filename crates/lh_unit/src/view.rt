@@ -1,9 +1,10 @@
 //! One unit of a module, seen through a view: the module with a unit that has an entry in it.
 ghost use Rattle.std.specs.Prelude.{◌≡◌, ◌<◌};
 ghost use Rattle.std.specs.Option.{option_copied};
-ghost use Rattle.lh_unit.specs.Arena.{IsArena, InstPlaced, unit_count, value_count, label_count, block_count, inst_count, unit_name_at, value_name_at, label_name_at, kind_at, args_at, result_type_at, blocks_at, block_insts_at, inst_at, result_at};
+ghost use Rattle.lh_unit.specs.Table.{IsDefinition};
+ghost use Rattle.lh_unit.specs.Arena.{IsArena, InstPlaced, table_at, unit_count, value_count, label_count, block_count, inst_count, unit_name_at, value_name_at, label_name_at, kind_at, args_at, result_type_at, blocks_at, block_insts_at, inst_at, result_at};
 
-use crate::inst::{Arg, BlockId, Inst, InstId, UnitId, UnitKind, ValueId};
+use crate::inst::{Arg, BlockId, Inst, InstId, UnitId, UnitKind, ValueDef, ValueId};
 use crate::module::Module;
 use crate::name::{Name, UnitName};
 use lh_types::ty::Ty;
@@ -109,6 +110,15 @@ impl<'m> UnitView<'m> {
         ensures sound { IsArena self.now.module.now }
     {
         self.module.result_of(self.unit, inst)
+    }
+
+    /// What defines a value, in a time that does not grow with the unit.
+    pub fn value_def(&self, value: ValueId) -> ValueDef
+        requires { value.0 < value_count self.now.module.now self.now.unit.0 }
+        ensures definition { IsDefinition (table_at self.now.module.now self.now.unit.0) value.0 result }
+        ensures sound { IsArena self.now.module.now }
+    {
+        self.module.value_def(self.unit, value)
     }
 
     /// How many values have an entry.
