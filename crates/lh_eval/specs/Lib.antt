@@ -5,3 +5,4 @@ pub mod Sound
 pub mod WishOf
 pub mod Grouped
 pub mod ResultsFit
+pub mod Beginning

@@ -12,6 +12,7 @@ mod run;
 pub mod tally;
 #[cfg(test)]
 mod tests;
+pub mod text;
 pub mod ty;
 pub mod val;
 mod word;
