@@ -20,3 +20,4 @@ pub mod Apply
 pub mod ApplyTypes
 pub mod Wish
 pub mod History
+pub mod Pictures

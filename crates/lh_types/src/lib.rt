@@ -2,6 +2,7 @@
 #![tactic(auto)]
 
 pub mod bits;
+pub mod frame;
 pub mod laws;
 pub mod layout;
 pub mod list;
