@@ -9,6 +9,8 @@ pub mod ValueOf
 pub mod ValueSize
 pub mod Fits
 pub mod Bits
+pub mod Flags
+pub mod Packed
 pub mod Parts
 pub mod Raised
 pub mod PlaceOf

@@ -8,9 +8,11 @@ pub mod layout;
 pub mod list;
 pub mod op;
 pub mod part;
+mod run;
 pub mod tally;
 #[cfg(test)]
 mod tests;
 pub mod ty;
 pub mod val;
+mod word;
 pub mod writes;
