@@ -1,6 +1,7 @@
 -- A run from a world on, and from the worlds after it.
 use Rattle.std.proofs.Common.{◌≡◌, ℕ, zero, suc, ◌+◌, List, [], ◌∷◌, length, refl, ap, sym, ◌∙◌, subst, Option, Some, None, arith, add-one}
 use Rattle.std.specs.Option.{option_and_then}
+use Rattle.std.proofs.lemmas.Option.{none-some, same_Some}
 use Rattle.lh_time.specs.declared.Instant.{Instant}
 use Rattle.lh_unit.specs.Contents.{ItemText}
 use Rattle.lh_unit.specs.Design.{Design}
@@ -10,14 +11,8 @@ use Rattle.lh_unit.specs.Frames.{world_unless, world_past, world_later}
 use Rattle.lh_meaning.specs.Wishes.{ReachedFrom, at_start, after_frame}
 use Rattle.lh_meaning.specs.Frames.{then, RunGoesOn, RunHasEnded, LaterIsReached}
 
-not_some : {A : Type 0} (v : A) → None ≡ Some v → ⊥
-not_some v e = cc
-
 not_none : {A : Type 0} (v : A) → Some v ≡ None → ⊥
-not_none v e = cc
-
-same_some : {A : Type 0} (v w : A) → Some v ≡ Some w → v ≡ w
-same_some v w e = cc
+not_none v e = none-some v (sym e)
 
 module _ (bound : ℕ) (items : List ItemText) (d : Design) where
   -- the run up to k frames has as many, and the longer one is it and then what follows
@@ -41,16 +36,16 @@ module _ (bound : ℕ) (items : List ItemText) (d : Design) where
 
     joined_after : (f : Frame) (q : Option ℕ) (u : World) → option_and_then (world_later bound items d k) (world_unless q u) ≡ Some v
         → (world_later bound items d k u ≡ Some v → GoesOn k n u v) → Joined (suc k) (goes_on f q (run_from bound items d k u)) (goes_on f q (run_from bound items d (k + n) u))
-    joined_after f (Some i) u h ih = absurd (not_some v h)
+    joined_after f (Some i) u h ih = absurd (none-some v h)
     joined_after f None u h ih = let j = ih h in (let one : length (run_from bound items d k u).frames ≡ k = j.0 in omega (arith, one), ap (before f) j.1)
 
     joined_at : (w : World) (o : Option Instant) → option_and_then (world_later bound items d k) (option_and_then (world_past bound items d w) o) ≡ Some v
         → ((u : World) → world_later bound items d k u ≡ Some v → GoesOn k n u v) → Joined (suc k) (run_at bound items d w o (run_from bound items d k)) (run_at bound items d w o (run_from bound items d (k + n)))
-    joined_at w None h ih = absurd (not_some v h)
+    joined_at w None h ih = absurd (none-some v h)
     joined_at w (Some t) h ih = joined_after _ (least_runaway 0 (acts_at bound items d w t)) (world_after w t (acts_at bound items d w t)) h (ih (world_after w t (acts_at bound items d w t)))
 
   goes_on_from : (k n : ℕ) (w v : World) → world_later bound items d k w ≡ Some v → GoesOn k n w v
-  goes_on_from zero n w v h = first_goes_on n w v (same_some w v h)
+  goes_on_from zero n w v h = first_goes_on n w v (same_Some w v h)
   goes_on_from (suc k) n w v h =
       let sum : suc k + n ≡ suc (k + n) = omega arith in
       rw sum (joined_at k n v w (next_instant w) h (λ u e. goes_on_from k n u v e))
@@ -81,16 +76,16 @@ module _ (bound : ℕ) (items : List ItemText) (d : Design) where
   module _ (k : ℕ) (w v : World) (t : Instant) (n : next_instant w ≡ Some t) where
     reached_after : (q : Option ℕ) → option_and_then (world_later bound items d k) (world_unless q (next_world bound items d w t)) ≡ Some v
         → ((u : World) → world_later bound items d k u ≡ Some v → ReachedFrom bound items d u v) → ReachedFrom bound items d w v
-    reached_after (Some i) h ih = absurd (not_some v h)
+    reached_after (Some i) h ih = absurd (none-some v h)
     reached_after None h ih = reached_later w (next_world bound items d w t) v (after_frame w t at_start n) (ih (next_world bound items d w t) h)
 
   reached : (k : ℕ) (w v : World) → world_later bound items d k w ≡ Some v → ReachedFrom bound items d w v
-  reached zero w v h = subst (ReachedFrom bound items d w) (same_some w v h) at_start
+  reached zero w v h = subst (ReachedFrom bound items d w) (same_Some w v h) at_start
   reached (suc k) w v h = at (next_instant w) refl h (λ u e. reached k u v e)
     where
       at : (o : Option Instant) → next_instant w ≡ o → option_and_then (world_later bound items d k) (option_and_then (world_past bound items d w) o) ≡ Some v
           → ((u : World) → world_later bound items d k u ≡ Some v → ReachedFrom bound items d u v) → ReachedFrom bound items d w v
-      at None n g ih = absurd (not_some v g)
+      at None n g ih = absurd (none-some v g)
       at (Some t) n g ih = reached_after k w v t n (least_runaway 0 (acts_at bound items d w t)) g ih
 
 pub run_goes_on : RunGoesOn

@@ -1,5 +1,6 @@
 -- What holds of instants, worlds and traces.
-use Rattle.std.specs.Prelude.{◌≡◌, ◌⊎◌, ◌↔◌, ◌≤◌, ℕ, ◌+◌, List, [], ◌∷◌, ◌++◌, length, slice_get, Contains, IsStrictlyIncreasing, Bool, true, Some, None}
+use Rattle.std.specs.Prelude.{◌≡◌, ◌⊎◌, ◌↔◌, ◌≤◌, ℕ, ◌+◌, List, [], ◌∷◌, ◌++◌, length, slice_get, Contains, Bool, true, Some, None}
+use Rattle.std.specs.List.Sorted.{IsStrictlyIncreasing}
 use Rattle.lh_time.specs.declared.Instant.{Instant}
 use Rattle.lh_types.specs.Types.{IsData, bit_count}
 use Rattle.lh_types.specs.Parts.{bits_within}
