@@ -23,3 +23,4 @@ pub mod Apply
 pub mod ApplyTypes
 pub mod Wish
 pub mod History
+pub mod Pictures

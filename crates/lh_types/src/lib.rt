@@ -3,6 +3,7 @@
 
 pub mod bit_run;
 pub mod bits;
+pub mod frame;
 pub mod laws;
 pub mod layout;
 pub mod list;
