@@ -5,7 +5,7 @@ use Rattle.lh_types.specs.declared.frame.Outcome.{Outcome}
 use Rattle.lh_types.specs.Pictures.{Picture}
 use Rattle.lh_types.specs.Raised.{raised}
 use Rattle.lh_watch.specs.declared.watcher.Next.TheVariants.{Go, Stop}
-use Rattle.lh_watch.specs.Members.{Rule, Member, member}
+use Rattle.lh_watch.specs.Members.{Rule}
 
 -- how many bits differ from the frame before
 abbrev pub toggled_in : Picture → ℕ

@@ -1,5 +1,5 @@
 -- What a watcher is: its rule, which no call changes, and the numbers that it holds.
-use Rattle.std.specs.Prelude.{◌≡◌, ℕ, List, Bool, true, false, map}
+use Rattle.std.specs.Prelude.{◌≡◌, ℕ, List, Bool, true, false}
 use Rattle.lh_types.specs.Pictures.{Picture}
 use Rattle.lh_watch.specs.declared.watcher.Next.{Next}
 use Rattle.lh_watch.specs.declared.watcher.Next.TheVariants.{Go, Done, Stop}

@@ -1,5 +1,5 @@
 -- The rule of the tests' own watcher, which says its word at one frame.
-use Rattle.std.specs.Prelude.{ℕ, List, [], ◌∷◌, nat_eq, if◌then◌else◌, codes, decimal, slice_index}
+use Rattle.std.specs.Prelude.{ℕ, [], ◌∷◌, nat_eq, if◌then◌else◌, codes, decimal, slice_index}
 use Rattle.lh_types.specs.Raised.{raised}
 use Rattle.lh_watch.specs.declared.watcher.Next.{Next}
 use Rattle.lh_watch.specs.declared.watcher.Next.TheVariants.{Go}

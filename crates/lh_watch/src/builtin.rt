@@ -5,10 +5,10 @@ ghost use Rattle.lh_types.specs.Raised.{raised};
 ghost use Rattle.lh_watch.specs.Members.{member};
 ghost use Rattle.lh_watch.specs.Builtin.{toggles, asserts, until_fail, has_failed};
 
-use crate::text::{put, put_number};
 use crate::watcher::{Next, Watcher};
 use lh_time::Instant;
 use lh_types::frame::{Change, Outcome};
+use lh_types::text::{put, put_number};
 use lh_types::ty::NoMemory;
 
 /// Sums the bits that toggle, up to 2^64 - 1.
@@ -47,7 +47,7 @@ impl Watcher for Toggles {
 
     fn report(&self, to: &mut Vec<u8>) -> Result<(), NoMemory> {
         put(to, b"toggles ")?;
-        put_number(to, self.bits.into())?;
+        put_number(to, self.bits)?;
         put(to, b"\n")
     }
 }
@@ -96,9 +96,9 @@ impl Watcher for Asserts {
 
     fn report(&self, to: &mut Vec<u8>) -> Result<(), NoMemory> {
         put(to, b"asserts ")?;
-        put_number(to, self.passed.into())?;
+        put_number(to, self.passed)?;
         put(to, b" ok ")?;
-        put_number(to, self.failed.into())?;
+        put_number(to, self.failed)?;
         put(to, b" failed\n")
     }
 }
@@ -141,7 +141,7 @@ impl Watcher for UntilFail {
 
     fn report(&self, to: &mut Vec<u8>) -> Result<(), NoMemory> {
         put(to, b"untilfail ")?;
-        put_number(to, self.frames.into())?;
+        put_number(to, self.frames)?;
         put(to, b"\n")
     }
 }

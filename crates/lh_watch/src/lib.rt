@@ -5,5 +5,4 @@ pub mod builtin;
 pub mod shows;
 #[cfg(test)]
 mod tests;
-mod text;
 pub mod watcher;

@@ -4,11 +4,11 @@ ghost use Rattle.lh_watch.specs.Scripted.{scripted};
 
 use crate::builtin::{Asserts, Toggles, UntilFail};
 use crate::shows::{keep_titles, show};
-use crate::text::put_number;
 use crate::watcher::{Next, Watcher};
 use lh_time::Instant;
 use lh_types::frame::{Change, ChangeList, Frame, Outcome, OutcomeList};
 use lh_types::list::{ByteList, TextList};
+use lh_types::text::put_number;
 use lh_types::ty::NoMemory;
 use lh_types::val::Val;
 use std::alloc::Global;
@@ -54,7 +54,7 @@ impl Watcher for Scripted {
         if to.push(self.name).is_err() {
             return Err(NoMemory);
         }
-        put_number(to, self.seen.into())
+        put_number(to, self.seen)
     }
 }
 
