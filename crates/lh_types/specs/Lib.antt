@@ -12,7 +12,6 @@ pub mod Bits
 pub mod Flags
 pub mod Packed
 pub mod Parts
-pub mod Writes
 pub mod Raised
 pub mod PlaceOf
 pub mod SameValue
@@ -22,5 +21,6 @@ pub mod ApplyInt
 pub mod Apply
 pub mod ApplyTypes
 pub mod Wish
+pub mod Writes
 pub mod History
 pub mod Pictures

@@ -1,5 +1,7 @@
 -- Bits in runs, and what they write.
-use Rattle.std.specs.Prelude.{ℕ, ◌+◌, ◌<◌, ◌≡◌, List, [], ◌∷◌, ◌++◌, length, Bool, slice_set}
+use Rattle.std.specs.Prelude.{ℕ, ◌+◌, ◌<◌, ◌≡◌, List, [], ◌∷◌, ◌++◌, length, map, Bool, slice_set}
+use Rattle.lh_time.specs.declared.Instant.{Instant}
+use Rattle.lh_types.specs.Wish.{Wish, due_bit}
 use Rattle.lh_types.specs.declared.bit_run.BitRun.{BitRun}
 
 -- bits in a row from a lowest one on, with their numbers
@@ -25,3 +27,12 @@ written (e ∷ more) bits = written more (slice_set bits e.0 e.1)
 abbrev pub BitsWithin : ℕ → List (ℕ × Bool) → Type 0
 BitsWithin n [] = Unit {0}
 BitsWithin n (e ∷ more) = (e.0 < n) × BitsWithin n more
+
+-- bits that are written at one instant, as entries of a wish
+abbrev pub bits_due : Instant → List (ℕ × Bool) → Wish
+bits_due t ws = map (λ (w : ℕ × Bool). (due_bit t w.0, w.1)) ws
+
+-- the entries of writes by instants, one after the other
+abbrev pub writes_wish : List (Instant × List (ℕ × Bool)) → Wish
+writes_wish [] = []
+writes_wish (d ∷ more) = bits_due d.0 d.1 ++ writes_wish more
