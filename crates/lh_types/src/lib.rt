@@ -1,6 +1,7 @@
 //! Types, values, bits and operations of the language, and the lists that every layer uses.
 #![tactic(auto)]
 
+pub mod bit_run;
 pub mod bits;
 pub mod frame;
 pub mod laws;
@@ -12,6 +13,7 @@ mod run;
 pub mod tally;
 #[cfg(test)]
 mod tests;
+pub mod text;
 pub mod ty;
 pub mod val;
 mod word;
