@@ -5,3 +5,5 @@ pub mod SoundLines
 pub mod Begins
 pub mod FitLaws
 pub mod SlotsFit
+pub mod Finding
+pub mod FindingPass

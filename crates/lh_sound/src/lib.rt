@@ -3,6 +3,7 @@
 #![tactic(auto)]
 
 ghost use Rattle.lh_sound.specs.Operands.{OperationsHave, ProbesHave, DrivesHave};
+ghost use Rattle.lh_sound.specs.Finding.{PassesFindAll};
 ghost use Rattle.lh_sound.specs.Laws.{UnitsAreSound, ProcessesBeginFit, EntitiesBeginFit, PassesKeepFit};
 
 /// Each unit that is defined is sound: each of its instructions has its row, its part and so many operands as it takes; no name
@@ -32,4 +33,10 @@ pub fn operand_law()
     ensures operations { OperationsHave }
     ensures probes { ProbesHave }
     ensures drives { DrivesHave }
+{}
+
+/// Nothing goes wrong in a pass of an entity: each instruction finds what it looks for, whatever the bits of the signals, the
+/// memory and the instant are, so that no default of a pass is ever met.
+pub fn find_law()
+    ensures { PassesFindAll }
 {}
