@@ -42,7 +42,7 @@ data-is-value : (t : TypeTree) → is_data t ≡ true → is_value_type t ≡ tr
 data-is-value t h = rw h refl
 
 -- what fits a data type or time is a value of it
-as-value : (w : ℕ) (h : Held) (t : TypeTree) → is_value_type t ≡ true → FitsHeld w h t → (d : Datum) × (as_datum h ≡ Some d) × FitsType d t × IsValueType t
+pub as-value : (w : ℕ) (h : Held) (t : TypeTree) → is_value_type t ≡ true → FitsHeld w h t → (d : Datum) × (as_datum h ≡ Some d) × FitsType d t × IsValueType t
 as-value w (datum_held d) t v f = (d, refl, f.1, f.0)
 as-value w (cell_held d) (pointer_type t) v f = absurd cc
 as-value w (cell_held d) _ v f = absurd f
@@ -50,7 +50,7 @@ as-value w (part_held r) (signal_type t) v f = absurd cc
 as-value w (part_held r) _ v f = absurd f
 
 -- what fits a signal is a part
-as-signal : (w : ℕ) (h : Held) (t : TypeTree) → FitsHeld w h (signal_type t) → (r : Range) × (as_part h ≡ Some r) × IsData t
+pub as-signal : (w : ℕ) (h : Held) (t : TypeTree) → FitsHeld w h (signal_type t) → (r : Range) × (as_part h ≡ Some r) × IsData t
 as-signal w (datum_held d) t f = absurd f.0
 as-signal w (cell_held d) t f = absurd f
 as-signal w (part_held r) t f = (r, refl, f.0)
@@ -76,7 +76,7 @@ carries-value void_type d = absurd d
 carries-value (signal_type t) d = absurd d
 carries-value (pointer_type t) d = absurd d
 
-value-data : (t : TypeTree) → is_data t ≡ true → IsValueType t → IsData t
+pub value-data : (t : TypeTree) → is_data t ≡ true → IsValueType t → IsData t
 value-data (int_type n) h v = v
 value-data (array_type n t) h v = v
 value-data (tuple_type ts) h v = v
@@ -137,7 +137,7 @@ module _ (u : UnitText) (w : ℕ) (e : Env) (fits : Fits u w e) where
       let ds = some-of (data_at e os) (values-at os v h) in
       is-some (operated u e o os) (datum_held (apply o ds.0)) (ap (λ x. or_else (option_map (λ y. datum_held (apply o y)) x) (signal_part u e o os)) ds.1)
 
-  or-else-second : {A : Type 0} (a b : Option A) → IsSome b → IsSome (or_else a b)
+  pub or-else-second : {A : Type 0} (a b : Option A) → IsSome b → IsSome (or_else a b)
   or-else-second None b h = h
   or-else-second (Some x) b h = refl
 

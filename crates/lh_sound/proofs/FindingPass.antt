@@ -60,7 +60,7 @@ result-stays : (e : Env) (r : Option (List ℕ)) (n : List ℕ) (h : Held) → I
 result-stays e None n h s = s
 result-stays e (Some m) n h s = held-stays e m n h s
 
-given-stays : (e : Env) (r : Option (List ℕ)) (n : List ℕ) (o : Option Held) → IsSome (e n) → IsSome (if_held e r o n)
+pub given-stays : (e : Env) (r : Option (List ℕ)) (n : List ℕ) (o : Option Held) → IsSome (e n) → IsSome (if_held e r o n)
 given-stays e r n None s = s
 given-stays e r n (Some h) s = result-stays e r n h s
 
@@ -69,7 +69,7 @@ args-stay e [] hs n s = s
 args-stay e (x ∷ xs) [] n s = s
 args-stay e (x ∷ xs) (h ∷ hs) n s = args-stay (with_held e x.name h) xs hs n (held-stays e x.name n h s)
 
-parts-stay : (e : Env) (names : List (Option (List ℕ))) (rs : List Range) (n : List ℕ) → IsSome (e n) → IsSome (with_parts e names rs n)
+pub parts-stay : (e : Env) (names : List (Option (List ℕ))) (rs : List Range) (n : List ℕ) → IsSome (e n) → IsSome (with_parts e names rs n)
 parts-stay e [] rs n s = s
 parts-stay e (m ∷ names) [] n s = s
 parts-stay e (m ∷ names) (r ∷ rs) n s = parts-stay (with_result e m (part_held r)) names rs n (result-stays e m n (part_held r) s)
@@ -79,12 +79,12 @@ named-held : (e : Env) (r : Option (List ℕ)) (n : List ℕ) (h : Held) → is_
 named-held e None n h q = absurd cc
 named-held e (Some m) n h q = rw q refl
 
-given-held : (e : Env) (r : Option (List ℕ)) (n : List ℕ) (o : Option Held) → IsSome o → is_result_name n r ≡ true → IsSome (if_held e r o n)
+pub given-held : (e : Env) (r : Option (List ℕ)) (n : List ℕ) (o : Option Held) → IsSome o → is_result_name n r ≡ true → IsSome (if_held e r o n)
 given-held e r n None s q = absurd cc
 given-held e r n (Some h) s q = named-held e r n h q
 
 -- each argument is held
-args-held : (w : ℕ) (e : Env) (xs : List ArgText) (rs : List Range) → RangesFit w rs (arg_types xs) → (n : List ℕ) → args_define n xs ≡ true → IsSome (with_args e xs (map part_held rs) n)
+pub args-held : (w : ℕ) (e : Env) (xs : List ArgText) (rs : List Range) → RangesFit w rs (arg_types xs) → (n : List ℕ) → args_define n xs ≡ true → IsSome (with_args e xs (map part_held rs) n)
 args-held w e [] rs f n d = absurd cc
 args-held w e (x ∷ xs) [] f n d = absurd f
 args-held w e (x ∷ xs) (r ∷ rs) f n d = at (same_name x.name n) refl d (args-held w (with_held e x.name (part_held r)) xs rs f.2 n)
@@ -95,11 +95,11 @@ args-held w e (x ∷ xs) (r ∷ rs) f n d = at (same_name x.name n) refl d (args
     at false q k go = go k
 
 -- so is the result of a `sig`
-abbrev SigHeld : Env → InstText → Option (List ℕ) → Type 0
+abbrev pub SigHeld : Env → InstText → Option (List ℕ) → Type 0
 SigHeld e (sig_text a) r = (n : List ℕ) → is_result_name n r ≡ true → IsSome (e n)
 SigHeld e _ r = Unit {0}
 
-abbrev SigsHeld : Env → List LineText → Type 0
+abbrev pub SigsHeld : Env → List LineText → Type 0
 SigsHeld e [] = Unit {0}
 SigsHeld e (l ∷ ls) = SigHeld e l.inst l.result × SigsHeld e ls
 
@@ -107,7 +107,7 @@ sig-more : (e f : Env) (i : InstText) (r : Option (List ℕ)) → ((n : List ℕ
 sig-more e f (sig_text a) r m h = λ n q. m n (h n q)
 sig-more e f _ r m h = tt
 
-sigs-more : (e f : Env) (ls : List LineText) → ((n : List ℕ) → IsSome (e n) → IsSome (f n)) → SigsHeld e ls → SigsHeld f ls
+pub sigs-more : (e f : Env) (ls : List LineText) → ((n : List ℕ) → IsSome (e n) → IsSome (f n)) → SigsHeld e ls → SigsHeld f ls
 sigs-more e f [] m h = tt
 sigs-more e f (l ∷ ls) m h = (sig-more e f l.inst l.result m h.0, sigs-more e f ls m h.1)
 
@@ -119,30 +119,30 @@ sig-held w (sig_text a) r ls go (x ∷ rs) e f =
     (λ n q. parts-stay (with_result e r (part_held x)) (signal_names ls) rs n (named-held e r n (part_held x) q), go rs (with_result e r (part_held x)) f.2)
 sig-held w _ r ls go rs e f = (tt, go rs e f)
 
-sigs-held : (w : ℕ) (ls : List LineText) (rs : List Range) (e : Env) → RangesFit w rs (signal_types ls) → SigsHeld (with_parts e (signal_names ls) rs) ls
+pub sigs-held : (w : ℕ) (ls : List LineText) (rs : List Range) (e : Env) → RangesFit w rs (signal_types ls) → SigsHeld (with_parts e (signal_names ls) rs) ls
 sigs-held w [] rs e f = tt
 sigs-held w (l ∷ ls) rs e f = sig-held w l.inst l.result ls (sigs-held w ls) rs e f
 
 -- what an instruction names is known where it stands: an argument, or a result before it
-abbrev Known : Type 0
+abbrev pub Known : Type 0
 Known = List ℕ → Bool
 
-abbrev known_after : Known → LineText → Known
+abbrev pub known_after : Known → LineText → Known
 known_after known l n = known n || is_result_name n l.result
 
-abbrev NamesKnown : Known → List LineText → Type 0
+abbrev pub NamesKnown : Known → List LineText → Type 0
 NamesKnown known [] = Unit {0}
 NamesKnown known (l ∷ ls) = Each (λ n. known n ≡ true) (values_named l.inst) × NamesKnown (known_after known l) ls
 
 -- the module has no `var`, `ld` or the like in an entity, and what gives no value has no result
-abbrev IsFitLine : LineText → Type 0
+abbrev pub IsFitLine : LineText → Type 0
 IsFitLine l = (is_allowed kind.Entity l.inst ≡ true) × ((n : List ℕ) → l.result ≡ Some n → gives_value l.inst ≡ true)
 
 -- the values of a list of uses
-abbrev named_in : List Use → List (List ℕ)
+abbrev pub named_in : List Use → List (List ℕ)
 named_in us = map (λ (x : Use). x.value) us
 
-abbrev AllHeld : Env → List Use → Type 0
+abbrev pub AllHeld : Env → List Use → Type 0
 AllHeld e us = Each (λ n. IsSome (e n)) (named_in us)
 
 held-split : (e : Env) (xs ys : List Use) → AllHeld e (xs ++ ys) → AllHeld e xs × AllHeld e ys
@@ -184,7 +184,7 @@ drive-there false w x = refl
 
 module _ (u : UnitText) (now : List Bool) (memory : Option (List Bool)) (t : Instant) where
   -- a sound instruction finds what it looks for, where its operands are held
-  finds-one : (p : Passed) → Fits u (length now) p.held → (i : InstText) → RowIs u i → HasPart u i → AllHeld p.held (uses i) → Finds u now t p i
+  pub finds-one : (p : Passed) → Fits u (length now) p.held → (i : InstText) → RowIs u i → HasPart u i → AllHeld p.held (uses i) → Finds u now t p i
   finds-one p f (pure_text o os) row part h = operated-there u (length now) p.held f o os row part (held-operation p.held o os h)
   finds-one p f (prb_text s) row part h =
       let r = part-at u (length now) p.held f s.value row.0 row.1.1 h.0 in
@@ -201,7 +201,7 @@ module _ (u : UnitText) (now : List Bool) (memory : Option (List Bool)) (t : Ins
   finds-one p f _ row part h = tt
 
   -- nothing that is held is lost
-  passes-stay : (i : InstText) (r : Option (List ℕ)) (p : Passed) (n : List ℕ) → IsSome (p.held n) → IsSome ((passes u now memory t i r p).held n)
+  pub passes-stay : (i : InstText) (r : Option (List ℕ)) (p : Passed) (n : List ℕ) → IsSome (p.held n) → IsSome ((passes u now memory t i r p).held n)
   passes-stay (const_text d) r p n s = given-stays p.held r n (Some (datum_held d)) s
   passes-stay (pure_text o os) r p n s = given-stays p.held r n (operated u p.held o os) s
   passes-stay (prb_text o) r p n s = given-stays p.held r n (probed now p.held o) s
@@ -209,7 +209,7 @@ module _ (u : UnitText) (now : List Bool) (memory : Option (List Bool)) (t : Ins
   passes-stay _ r p n s = s
 
   -- what gives no value has no result
-  unnamed : {A : Type 0} (r : Option (List ℕ)) (n : List ℕ) → ((m : List ℕ) → r ≡ Some m → false ≡ true) → is_result_name n r ≡ true → A
+  pub unnamed : {A : Type 0} (r : Option (List ℕ)) (n : List ℕ) → ((m : List ℕ) → r ≡ Some m → false ≡ true) → is_result_name n r ≡ true → A
   unnamed None n k q = absurd cc
   unnamed (Some m) n k q = let e : false ≡ true = k m refl in absurd cc
 
@@ -234,6 +234,16 @@ module _ (u : UnitText) (now : List Bool) (memory : Option (List Bool)) (t : Ins
   result-held halt_text r p a g f s n q = absurd cc
   result-held (ret_text o) r p a g f s n q = absurd cc
 
+  -- after an instruction what is known is held
+  pub next-held : (l : LineText) (p : Passed) (known : Known) → ((n : List ℕ) → known n ≡ true → IsSome (p.held n)) → IsFitLine l → Finds u now t p l.inst → SigHeld p.held l.inst l.result
+      → (n : List ℕ) → known_after known l n ≡ true → IsSome ((passes u now memory t l.inst l.result p).held n)
+  next-held l p known k a h g n q = at (known n) refl (is_result_name n l.result) refl q
+    where
+      at : (b : Bool) → known n ≡ b → (c : Bool) → is_result_name n l.result ≡ c → (b || c) ≡ true → IsSome ((passes u now memory t l.inst l.result p).held n)
+      at true x c y q = passes-stay l.inst l.result p n (k n x)
+      at false x true y q = result-held l.inst l.result p a.0 a.1 h g n y
+      at false x false y q = absurd cc
+
   -- each instruction finds what it looks for
   pub finds-all : (ls : List LineText) (p : Passed) (known : Known) → ((n : List ℕ) → known n ≡ true → IsSome (p.held n)) → Fits u (length now) p.held
       → Each (IsSound u) ls → NamesKnown known ls → Each IsFitLine ls → SigsHeld p.held ls → FindsAll u now memory t p ls
@@ -242,14 +252,9 @@ module _ (u : UnitText) (now : List Bool) (memory : Option (List Bool)) (t : Ins
       let here : Finds u now t p l.inst = finds-one p f l.inst s.0.row s.0.part (Each-more (λ n. known n ≡ true) (λ n. IsSome (p.held n)) (values_named l.inst) k m.0) in
       let after : Passed = passes u now memory t l.inst l.result p in (
         here,
-        finds-all ls after (known_after known l) (λ n q. still n (known n) refl (is_result_name n l.result) refl here q) (keeps-fit u now memory t p l s.0 f) s.1 m.1 a.1
+        finds-all ls after (known_after known l) (next-held l p known k a.0 here g.0) (keeps-fit u now memory t p l s.0 f) s.1 m.1 a.1
             (sigs-more p.held after.held ls (λ n h. passes-stay l.inst l.result p n h) g.1),
       )
-    where
-      still : (n : List ℕ) (b : Bool) → known n ≡ b → (c : Bool) → is_result_name n l.result ≡ c → Finds u now t p l.inst → (b || c) ≡ true → IsSome ((passes u now memory t l.inst l.result p).held n)
-      still n true x c y h q = passes-stay l.inst l.result p n (k n x)
-      still n false x true y h q = result-held l.inst l.result p a.0.0 a.0.1 h g.0 n y
-      still n false x false y h q = absurd cc
 
 -- From the module to its unit.
 -- a name that is defined by lines up to one more
@@ -341,12 +346,12 @@ line-gives : (r : Option (List ℕ)) (i : InstText) (ts : List Lexeme) → Spell
 line-gives None i ts h n q = absurd (none-some n q)
 line-gives (Some m) i ts h n q = h.2
 
-fit-lines : (ls : List LineText) → Each (λ (l : LineText). is_allowed kind.Entity l.inst ≡ true) ls → Each HasInstLine ls → Each IsFitLine ls
+pub fit-lines : (ls : List LineText) → Each (λ (l : LineText). is_allowed kind.Entity l.inst ≡ true) ls → Each HasInstLine ls → Each IsFitLine ls
 fit-lines [] a b = tt
 fit-lines (l ∷ ls) a b = ((a.0, λ n q. line-gives l.result l.inst (lexemes_in (item_line (inst_item l))) b.0.1 n q), fit-lines ls a.1 b.1)
 
 module _ (a : Arena) (u : ℕ) (o : IsArena a) (h : u < unit_count a) (g : IsWellFormed (contents a)) (k : kind_at a u ≡ Some kind.Entity) where
-  defined : IsSome (kind_at a u)
+  pub defined : IsSome (kind_at a u)
   defined = subst (λ (x : Option UnitKind). IsSome x) (sym k) refl
 
   pub passes-find : (args sigs : List Range) (now : List Bool) (memory : Option (List Bool)) (t : Instant) → InstanceFits (unit_text_at a u) args sigs (length now)

@@ -7,3 +7,6 @@ pub mod FitLaws
 pub mod SlotsFit
 pub mod Finding
 pub mod FindingPass
+pub mod FindingStatic
+pub mod FindingValues
+pub mod FindingElab

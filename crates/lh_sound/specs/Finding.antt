@@ -1,12 +1,12 @@
 -- Nothing goes wrong in a pass: what an instruction of an entity looks for is there, so that no default of a pass is ever met.
-use Rattle.std.specs.Prelude.{◌≡◌, ℕ, ◌<◌, List, [], ◌∷◌, length, Bool, Option, Some, IsSome}
+use Rattle.std.specs.Prelude.{◌≡◌, ℕ, ◌<◌, List, [], ◌∷◌, ◌++◌, length, Bool, Option, Some, IsSome}
 use Rattle.lh_time.specs.declared.Instant.{Instant}
 use Rattle.lh_types.specs.Wish.{no_wish}
 use Rattle.lh_types.specs.declared.part.Range.{Range}
-use Rattle.lh_unit.specs.Contents.{TriggerText, InstText, pure_text, prb_text, drv_text, reg_text, LineText, UnitText}
+use Rattle.lh_unit.specs.Contents.{OperandText, TriggerText, InstText, pure_text, sig_text, prb_text, drv_text, reg_text, child_text, LineText, UnitText}
 use Rattle.lh_unit.specs.Held.{Env, datum_at, part_at, test_at}
 use Rattle.lh_unit.specs.Effects.{operated, probed, condition_at, driven}
-use Rattle.lh_unit.specs.Hierarchy.{lines_of, parts_of}
+use Rattle.lh_unit.specs.Hierarchy.{lines_of, parts_of, static_held}
 use Rattle.lh_unit.specs.Pass.{Passed, delay_of, passes}
 use Rattle.lh_unit.specs.Arena.{Arena, IsArena, unit_count, kind_at, contents, unit_text_at}
 use Rattle.lh_unit.specs.Within.{Each}
@@ -33,6 +33,27 @@ Finds u now t p _ = Unit {0}
 abbrev pub FindsAll : UnitText → (now : List Bool) → (memory : Option (List Bool)) → Instant → Passed → List LineText → Type 0
 FindsAll u now memory t p [] = Unit {0}
 FindsAll u now memory t p (l ∷ more) = Finds u now t p l.inst × FindsAll u now memory t (passes u now memory t l.inst l.result p) more
+
+-- a part of the signals is under the name of each operand of `prb` and `inst`
+abbrev pub PartsFound : Env → InstText → Type 0
+PartsFound e (prb_text s) = IsSome (part_at e s.value)
+PartsFound e (child_text v inputs outputs) = Each (λ (o : OperandText). IsSome (part_at e o.value)) (inputs ++ outputs)
+PartsFound e _ = Unit {0}
+
+-- a `sig` writes its type, and its initial value is there
+abbrev pub InitialFound : Env → InstText → Type 0
+InitialFound e (sig_text a) = IsSome a.ty × IsSome (datum_at e a.value)
+InitialFound e _ = Unit {0}
+
+-- Elaboration finds what it looks for in an entity of a well-formed module: the parts that it senses and that its instances are connected to,
+abbrev pub PartsAreFound : Type 0
+PartsAreFound = (a : Arena) (u : ℕ) → IsArena a → u < unit_count a → kind_at a u ≡ Some kind.Entity → IsWellFormed (contents a) → (args sigs : List Range) (width : ℕ) → InstanceFits (unit_text_at a u) args sigs width →
+    Each (λ (l : LineText). PartsFound (static_held (unit_text_at a u) args sigs) l.inst) (lines_of (unit_text_at a u).blocks)
+
+-- and the initial values of its signals, from constants and operations alone.
+abbrev pub InitialsAreFound : Type 0
+InitialsAreFound = (a : Arena) (u : ℕ) → IsArena a → u < unit_count a → kind_at a u ≡ Some kind.Entity → IsWellFormed (contents a) →
+    Each (λ (l : LineText). InitialFound (static_held (unit_text_at a u) [] []) l.inst) (lines_of (unit_text_at a u).blocks)
 
 -- In each pass of an entity of a well-formed module every instruction finds what it looks for, whatever the bits, the memory and the instant are.
 abbrev pub PassesFindAll : Type 0
