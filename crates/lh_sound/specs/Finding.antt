@@ -1,4 +1,4 @@
--- Nothing goes wrong in a pass: what an instruction of an entity looks for is there, so that no default of a pass is ever met.
+-- Nothing goes wrong in an entity: what a pass and elaboration look for is there, so that no default is ever met.
 use Rattle.std.specs.Prelude.{◌≡◌, ℕ, ◌<◌, List, [], ◌∷◌, ◌++◌, length, Bool, Option, Some, IsSome}
 use Rattle.lh_time.specs.declared.Instant.{Instant}
 use Rattle.lh_types.specs.Wish.{no_wish}
@@ -45,12 +45,12 @@ abbrev pub InitialFound : Env → InstText → Type 0
 InitialFound e (sig_text a) = IsSome a.ty × IsSome (datum_at e a.value)
 InitialFound e _ = Unit {0}
 
--- Elaboration finds what it looks for in an entity of a well-formed module: the parts that it senses and that its instances are connected to,
+-- In each entity of a well-formed module elaboration finds the parts that it senses and those that its instances are connected to.
 abbrev pub PartsAreFound : Type 0
 PartsAreFound = (a : Arena) (u : ℕ) → IsArena a → u < unit_count a → kind_at a u ≡ Some kind.Entity → IsWellFormed (contents a) → (args sigs : List Range) (width : ℕ) → InstanceFits (unit_text_at a u) args sigs width →
     Each (λ (l : LineText). PartsFound (static_held (unit_text_at a u) args sigs) l.inst) (lines_of (unit_text_at a u).blocks)
 
--- and the initial values of its signals, from constants and operations alone.
+-- It finds the initial values of its signals, from constants and operations alone.
 abbrev pub InitialsAreFound : Type 0
 InitialsAreFound = (a : Arena) (u : ℕ) → IsArena a → u < unit_count a → kind_at a u ≡ Some kind.Entity → IsWellFormed (contents a) →
     Each (λ (l : LineText). InitialFound (static_held (unit_text_at a u) [] []) l.inst) (lines_of (unit_text_at a u).blocks)
