@@ -23,3 +23,4 @@ pub mod ApplyTypes
 pub mod Wish
 pub mod Writes
 pub mod History
+pub mod Pictures

@@ -3,6 +3,7 @@
 
 pub mod bit_run;
 pub mod bits;
+pub mod frame;
 pub mod laws;
 pub mod layout;
 pub mod list;
@@ -12,6 +13,7 @@ mod run;
 pub mod tally;
 #[cfg(test)]
 mod tests;
+pub mod text;
 pub mod ty;
 pub mod val;
 mod word;
