@@ -85,9 +85,10 @@ fn run_entity(
         wishes: Wishes::new(alloc),
     };
     run_insts(alloc, m, unit, insts, now, state, at, &mut run)?;
-    let wishes = run.wishes.writes(alloc)?;
+    let Run { seen, wishes, .. } = run;
+    let wishes = wishes.into_writes()?;
     Ok(EntAct {
-        next: EntState::after(run.seen),
+        next: EntState::after(seen),
         wishes,
     })
 }
