@@ -1,13 +1,13 @@
 -- A design as the definitions have it, with names in place of ids.
 use Rattle.std.specs.Prelude.{ℕ, map}
 use Rattle.lh_unit.specs.Arena.{Arena, unit_name_at}
-use Rattle.lh_unit.specs.Hierarchy as text
+use Rattle.lh_unit.specs.Hierarchy as hierarchy
 use Rattle.lh_unit.specs.Design as text
 use Rattle.lh_eval.specs.declared.instance.Instance.{Instance}
 use Rattle.lh_design.specs.declared.Signal.{Signal}
 use Rattle.lh_design.specs.declared.Design.{Design}
 
-abbrev pub instance_text : Arena → Instance → text.Instance
+abbrev pub instance_text : Arena → Instance → hierarchy.Instance
 instance_text a i = record { unit = unit_name_at a i.unit.0; parent = i.parent; args = i.args; sigs = i.sigs }
 
 abbrev pub signal_text : Signal → text.Signal
