@@ -1,15 +1,18 @@
 -- Signals that fill their bits: which signal has which bit.
-use Rattle.std.proofs.Common.{arith, ◌≡◌, ℕ, zero, suc, ◌+◌, ◌<◌, ◌≤◌, List, [], ◌∷◌, length, get_or, true, false, Option, Some, ap, sym, subst, ◌⊎◌, inl, inr}
+use Rattle.std.proofs.Common.{arith, ◌≡◌, ℕ, zero, suc, ◌+◌, ◌-◌, ◌<◌, ◌≤◌, List, [], ◌∷◌, length, get_or, true, false, Option, Some, refl, ap, sym, ◌∙◌, subst, ◌⊎◌, inl, inr}
 use Rattle.std.specs.Prelude.{nat_le, slice_get}
 use Rattle.std.specs.Option.{IsSomeAnd}
 use Rattle.std.proofs.lemmas.Bool.{cases_lt}
 use Rattle.std.proofs.lemmas.Bool.Decides.{nat_tests}
-use Rattle.std.proofs.lemmas.Option.{same_Some, none-some}
+use Rattle.std.proofs.lemmas.Option.{same_Some, none-some, slice_get_read}
+use Rattle.std.specs.List.Sorted.{IsPartitionedBy, IsPartitionPoint}
 use Rattle.lh_types.specs.Types.{IsData, bit_count}
 use Rattle.lh_types.proofs.Limits.{one_le-bit_count}
+use Rattle.lh_index.specs.Rising.{Has}
+use Rattle.lh_index.proofs.Places.{has_at}
 use Rattle.lh_design.specs.declared.Signal.{Signal}
 use Rattle.lh_design.specs.Filling.{FillFrom}
-use Rattle.lh_change.specs.Touched.{IsBitOf, HasBit}
+use Rattle.lh_change.specs.Touched.{IsBitOf, HasBit, AreSignals}
 
 none_has : (k b : ℕ) → HasBit [] k b → ⊥
 none_has zero b h = h
@@ -134,3 +137,46 @@ found_at lo hi bit (suc i) (s ∷ ss) f l h n t u = elim (cases_lt bit (lo + bit
     first zero ss g m t n = record { number = 0; before = omega arith; low = omega arith; has = (omega (arith, f.0), omega (arith, f.0)) }
     first (suc i) [] g m t n = absurd (omega arith)
     first (suc i) (x ∷ more) g m t n = absurd (inside x.lo bit (t 0 x (omega arith)) (omega (arith, g.0)))
+
+-- by the lowest bits, those of the signals up to a bit come first
+lo_le : (lo hi : ℕ) (ss : List Signal) (j : ℕ) (d : Signal) → FillFrom lo ss hi → j < length ss → lo ≤ (get_or ss j d).lo
+lo_le lo hi [] j d f l = absurd (omega arith)
+lo_le lo hi (s ∷ ss) zero d f l = omega (arith, f.0)
+lo_le lo hi (s ∷ ss) (suc j) d f l = let r : lo + bit_count s.ty ≤ (get_or ss j d).lo = lo_le (lo + bit_count s.ty) hi ss j d f.2 (omega arith) in omega arith
+
+lo_rises : (lo hi : ℕ) (ss : List Signal) (i j : ℕ) (d : Signal) → FillFrom lo ss hi → i ≤ j → j < length ss → (get_or ss i d).lo ≤ (get_or ss j d).lo
+lo_rises lo hi [] i j d f h l = absurd (omega arith)
+lo_rises lo hi (s ∷ ss) zero zero d f h l = omega arith
+lo_rises lo hi (s ∷ ss) zero (suc j) d f h l = let r : lo + bit_count s.ty ≤ (get_or ss j d).lo = lo_le (lo + bit_count s.ty) hi ss j d f.2 (omega arith) in omega (arith, f.0)
+lo_rises lo hi (s ∷ ss) (suc i) zero d f h l = absurd (omega arith)
+lo_rises lo hi (s ∷ ss) (suc i) (suc j) d f h l = lo_rises (lo + bit_count s.ty) hi ss i j d f.2 (omega arith) (omega arith)
+
+pub parted : (hi bit : ℕ) (ss xs : List Signal) → xs ≡ ss → FillFrom 0 ss hi → IsPartitionedBy (λ (s : Signal). nat_le s.lo bit) xs
+parted hi bit ss xs e f =
+    let P : List Signal → Type 0 = IsPartitionedBy (λ (s : Signal). nat_le s.lo bit) in
+    subst P (sym e) (λ i j d h l p. lower (get_or ss i d).lo (get_or ss j d).lo (lo_rises 0 hi ss i j d f h l) p)
+  where
+    lower : (a b : ℕ) → a ≤ b → nat_le b bit ≡ true → nat_le a bit ≡ true
+    lower a b h p = grind (arith, nat_tests)
+
+pub found_point : (hi bit i : ℕ) (ss xs : List Signal) → xs ≡ ss → FillFrom 0 ss hi → bit < hi → i ≤ length xs →
+    IsPartitionPoint (λ (s : Signal). nat_le s.lo bit ≡ true) (λ (s : Signal). nat_le s.lo bit ≡ false) xs i → FoundAt 0 ss bit i
+found_point hi bit i ss xs e f h n p =
+    let same : length xs ≡ length ss = ap length e in
+    let Q : List Signal → Type 0 = λ ys. IsPartitionPoint (λ (s : Signal). nat_le s.lo bit ≡ true) (λ (s : Signal). nat_le s.lo bit ≡ false) ys i in
+    let q : IsPartitionPoint (λ (s : Signal). nat_le s.lo bit ≡ true) (λ (s : Signal). nat_le s.lo bit ≡ false) ss i = subst Q e p in
+    found_at 0 hi bit i ss f (omega arith) h (omega arith) (λ k d l. q.0 k d (omega arith) l) (λ k d l m. q.1 k d l m)
+
+-- the signal of a number, as code reads it
+pub there : (ss xs : List Signal) (k : ℕ) (s : Signal) → xs ≡ ss → k < length ss → s ≡ get_or xs k s → slice_get ss k ≡ Some s
+there ss xs k s v l e = ap (λ (ys : List Signal). slice_get ys k) (sym v) ∙ slice_get_read xs (length ss) k s (ap length (sym v)) l e
+
+pub fits_there : (hi : ℕ) (ss xs : List Signal) (k : ℕ) (s : Signal) → FillFrom 0 ss hi → xs ≡ ss → k < length ss → s ≡ get_or xs k s → IsData s.ty × (s.lo + bit_count s.ty ≤ hi)
+fits_there hi ss xs k s f v l e = at_signal 0 hi ss k s f (there ss xs k s v l e)
+
+-- the numbers of signals are below how many there are
+pub known_at : (ss : List Signal) (items touched : List ℕ) (i : ℕ) → items ≡ touched → AreSignals ss touched → i < length items → get_or items i 0 < length ss
+known_at ss items touched i e known l = known (get_or items i 0) (subst (λ (ks : List ℕ). Has (get_or items i 0) ks) e (has_at (get_or items i 0) items i l refl))
+
+pub found_number : (lo : ℕ) (ss : List Signal) (bit i : ℕ) → FoundAt lo ss bit i → HasBit ss (i - 1) bit
+found_number lo ss bit i f = let e : f.number ≡ i - 1 = omega (arith, f.before) in subst (λ (k : ℕ). HasBit ss k bit) e f.has

@@ -22,7 +22,7 @@ use Rattle.lh_change.proofs.Touching.{in_row, row_in, has_left, has_right, has_e
 true_false : true ≡ false → ⊥
 true_false e = cc
 
-false_true : false ≡ true → ⊥
+pub false_true : false ≡ true → ⊥
 false_true e = cc
 
 -- the row of bits from one on is that bit, and the row behind it
@@ -133,6 +133,15 @@ pub row_by_stays : (hi : ℕ) (ss : List Signal) (k : ℕ) (s : Signal) (x y : L
 row_by_stays hi ss k s x y f e p q r =
     let a : IsData s.ty × (s.lo + bit_count s.ty ≤ hi) = at_signal 0 hi ss k s f e in
     row_of_bits (bit_count s.ty) s.lo x y (omega (arith, a.1)) (omega (arith, a.1)) (λ b l m. r b (has_of ss k s b e (l, m)))
+
+-- the same, by a length that is known to be the signal's
+pub stays_by_len : (hi : ℕ) (ss : List Signal) (k n : ℕ) (s : Signal) (x y : List Bool) → FillFrom 0 ss hi → slice_get ss k ≡ Some s → length x ≡ hi → length y ≡ hi → n ≡ bit_count s.ty →
+    bits_within s.lo n x ≡ bits_within s.lo n y → StaysSame ss x y k
+stays_by_len hi ss k n s x y f e p q c r = stays_by_row hi ss k s x y f e p q (subst (λ (m : ℕ). bits_within s.lo m x ≡ bits_within s.lo m y) c r)
+
+pub len_by_stays : (hi : ℕ) (ss : List Signal) (k n : ℕ) (s : Signal) (x y : List Bool) → FillFrom 0 ss hi → slice_get ss k ≡ Some s → length x ≡ hi → length y ≡ hi → n ≡ bit_count s.ty →
+    StaysSame ss x y k → bits_within s.lo n x ≡ bits_within s.lo n y
+len_by_stays hi ss k n s x y f e p q c r = subst (λ (m : ℕ). bits_within s.lo m x ≡ bits_within s.lo m y) (sym c) (row_by_stays hi ss k s x y f e p q r)
 
 -- the laws
 in_parts : (width : ℕ) (parts : List Range) (b : ℕ) → AreWithin width parts → Has b (bit_numbers parts) → b < width

@@ -45,10 +45,14 @@ value_row s bits d h =
     value_bits-value_from_bits s.ty d (take (bit_count s.ty) (drop s.lo bits)) (omega arith) ∙ take_all (bit_count s.ty) (take (bit_count s.ty) (drop s.lo bits)) (omega arith)
 
 -- so many bits toggled
-pub toggled_row : (s : Signal) (old now : List Bool) → IsData s.ty → s.lo + bit_count s.ty ≤ length old → s.lo + bit_count s.ty ≤ length now →
+toggled_row : (s : Signal) (old now : List Bool) → IsData s.ty → s.lo + bit_count s.ty ≤ length old → s.lo + bit_count s.ty ≤ length now →
     differing (bits_within s.lo (bit_count s.ty) old) (bits_within s.lo (bit_count s.ty) now) ≡ toggled (value_of old s) (value_of now s)
 toggled_row s old now d h l =
     ap (λ (bs : List Bool). differing bs (bits_within s.lo (bit_count s.ty) now)) (sym (value_row s old d h)) ∙ ap (differing (value_bits (value_of old s))) (sym (value_row s now d l))
+
+pub toggled_by_len : (s : Signal) (t n : ℕ) (old now : List Bool) → IsData s.ty → s.lo + bit_count s.ty ≤ length old → s.lo + bit_count s.ty ≤ length now → n ≡ bit_count s.ty →
+    t ≡ differing (bits_within s.lo n old) (bits_within s.lo n now) → t ≡ toggled (value_of old s) (value_of now s)
+toggled_by_len s t n old now d h l e c = c ∙ ap (λ (m : ℕ). differing (bits_within s.lo m old) (bits_within s.lo m now)) e ∙ toggled_row s old now d h l
 
 -- the changes of signals, the first of which has this number
 abbrev pub AllFrom : (changes : List Change) → ℕ → List Signal → List Bool → Type 0
@@ -206,11 +210,11 @@ picked_next before after i k s ks ss old now l e g c t =
     ∙ ap (λ (ys : List Showing). map showing_of before ++ ys) (change_first k (toggled (value_of old s) (value_of now s)) (value_of now s) rest ∙ sym (ap (λ (x : Option Signal). change_of x old now k rest) g))
     ∙ ap (λ (xs : List ℕ). map showing_of before ++ picked ss old now xs) (sym next) ∙ t
 
-pub picked_are : (hi : ℕ) (changes : List Change) (i : ℕ) (ks : List ℕ) (ss : List Signal) (old now : List Bool) → FillFrom 0 ss hi → length old ≡ hi → length now ≡ hi → IsRising ks → AreSignals ss ks → OthersStay ss ks old now →
+pub picked_are : (hi : ℕ) (changes : List Change) (i : ℕ) (ks touched : List ℕ) (ss : List Signal) (old now : List Bool) → ks ≡ touched → FillFrom 0 ss hi → length old ≡ hi → length now ≡ hi → IsRising touched → AreSignals ss touched → OthersStay ss touched old now →
     length ks ≤ i → PickedTo changes i ks ss old now → map showing_of changes ≡ changed_from 0 (values_of ss old) (values_of ss now)
-picked_are hi changes i ks ss old now f p q r b o l t =
+picked_are hi changes i ks touched ss old now v f p q r b o l t =
     sym (append-nil (map showing_of changes)) ∙ ap (λ (xs : List ℕ). map showing_of changes ++ picked ss old now xs) (sym (drop_all i ks l)) ∙ t
-    ∙ picked_all hi ss old now f p q ks r b o
+    ∙ ap (picked ss old now) v ∙ picked_all hi ss old now f p q touched r b o
 
 -- one change more, or none where no bit toggled
 pub change_added : (before after : List Change) (c : Change) (k n m : ℕ) (v : Datum) → after ≡ before ++ c ∷ [] → showing_of c ≡ shown k n v → n ≡ m → (n ≡ 0 → ⊥) → map showing_of after ≡ map showing_of before ++ change_if k m v []

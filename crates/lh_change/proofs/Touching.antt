@@ -6,7 +6,7 @@ use Rattle.std.proofs.lemmas.List.{take_more, take_all, append-nil}
 use Rattle.lh_types.specs.declared.part.Range.{Range}
 use Rattle.lh_types.specs.declared.bit_run.BitRun.{BitRun}
 use Rattle.lh_types.specs.Writes.{numbered, bits_of, BitsWithin}
-use Rattle.lh_types.proofs.Writing.{bits-push}
+use Rattle.lh_types.proofs.Writing.{bits-push, row-within}
 use Rattle.lh_unit.specs.World.{bits_from, bit_numbers}
 use Rattle.lh_index.specs.Rising.{Has, HasOneMore}
 use Rattle.lh_design.specs.declared.Signal.{Signal}
@@ -53,15 +53,15 @@ module _ (hi : ℕ) (ss : List Signal) (lo len end first last : ℕ) (f : FillFr
   between_row : (k : ℕ) → first ≤ k → k < last + 1 → Touches ss (bits_from lo len) k
   between_row k p q = elim (cases_lt first k) [
     | inl m ↦ elim (cases_lt k last) [
-        | inl n ↦
-            let w = some_bit 0 hi ss k f (omega (arith, is_below ss last (end - 1) h)) in
-            let a : lo < w.0 = strict 0 hi ss first k lo w.0 f m g w.1 in
-            let b : w.0 < end - 1 = strict 0 hi ss k last w.0 (end - 1) f n w.1 h in
-            record { bit = w.0; among = row_in w.0 lo len (omega arith) (omega (arith, some)); has = w.1 }
-        | inr n ↦
-            let e : last ≡ k = omega arith in
-            record { bit = end - 1; among = row_in (end - 1) lo len l (omega (arith, some)); has = subst (λ (j : ℕ). HasBit ss j (end - 1)) e h }
-      ]
+      | inl n ↦
+          let w = some_bit 0 hi ss k f (omega (arith, is_below ss last (end - 1) h)) in
+          let a : lo < w.0 = strict 0 hi ss first k lo w.0 f m g w.1 in
+          let b : w.0 < end - 1 = strict 0 hi ss k last w.0 (end - 1) f n w.1 h in
+          record { bit = w.0; among = row_in w.0 lo len (omega arith) (omega (arith, some)); has = w.1 }
+      | inr n ↦
+          let e : last ≡ k = omega arith in
+          record { bit = end - 1; among = row_in (end - 1) lo len l (omega (arith, some)); has = subst (λ (j : ℕ). HasBit ss j (end - 1)) e h }
+    ]
     | inr m ↦
         let e : first ≡ k = omega arith in
         record { bit = lo; among = row_in lo lo len (omega arith) (omega (arith, some)); has = subst (λ (j : ℕ). HasBit ss j lo) e g }
@@ -199,3 +199,18 @@ runs_more ss runs i n r old now new l e c a b =
 pub runs_all : (ss : List Signal) (runs : List BitRun) (writes : List (ℕ × Bool)) (i : ℕ) (old new : List ℕ) → length runs ≤ i → bits_of runs ≡ writes → TouchesMore ss (bits_named (bits_of (take i runs))) old new →
     TouchesMore ss (bits_named writes) old new
 runs_all ss runs writes i old new l v m = subst (λ (ws : List (ℕ × Bool)). TouchesMore ss (bits_named ws) old new) v (subst (λ (rs : List BitRun). TouchesMore ss (bits_named (bits_of rs)) old new) (take_all i runs l) m)
+
+within_both : (n : ℕ) (xs ys : List (ℕ × Bool)) → BitsWithin n (xs ++ ys) → BitsWithin n xs × BitsWithin n ys
+within_both n [] ys h = (tt, h)
+within_both n (x ∷ xs) ys h = let r = within_both n xs ys h.1 in ((h.0, r.0), r.1)
+
+pub run_within : (width : ℕ) (runs : List BitRun) (writes : List (ℕ × Bool)) (i n : ℕ) (r : BitRun) → bits_of runs ≡ writes → BitsWithin width writes → i < length runs → r ≡ get_or runs i r → n ≡ length r.bits → r.lo + n ≤ width
+run_within width runs writes i n r v w l e c =
+    let named : BitsWithin width (numbered r.lo r.bits) = run_of runs i (subst (BitsWithin width) (sym v) w) l e in
+    let h : r.lo + length r.bits ≤ width = row-within width r.lo r.bits r.filled named in
+    omega arith
+  where
+    run_of : (rs : List BitRun) (k : ℕ) → BitsWithin width (bits_of rs) → k < length rs → r ≡ get_or rs k r → BitsWithin width (numbered r.lo r.bits)
+    run_of [] k b m g = absurd (omega arith)
+    run_of (x ∷ rs) zero b m g = subst (λ (y : BitRun). BitsWithin width (numbered y.lo y.bits)) (sym g) (within_both width (numbered x.lo x.bits) (bits_of rs) b).0
+    run_of (x ∷ rs) (suc k) b m g = run_of rs k (within_both width (numbered x.lo x.bits) (bits_of rs) b).1 (omega arith) g

@@ -74,9 +74,9 @@ module _ (hi : ℕ) (ss : List Signal) (k : ℕ) (s : Signal) (from now new : Li
   others_stay j other b h = elim (cases_lt b s.lo) [
     | inl l ↦ sym (bit_before s.lo (bit_count s.ty) from now (omega (arith, inside)) (omega (arith, inside)) b l) ∙ ap (λ (bs : List Bool). bit_at bs b) (sym w)
     | inr l ↦ elim (cases_lt b (s.lo + bit_count s.ty)) [
-        | inl m ↦ absurd (other (one_signal hi ss j k b f h (has_of ss k s b e (l, m))))
-        | inr m ↦ sym (bit_behind s.lo (bit_count s.ty) from now (omega (arith, inside)) (omega (arith, inside)) b m) ∙ ap (λ (bs : List Bool). bit_at bs b) (sym w)
-      ]
+      | inl m ↦ absurd (other (one_signal hi ss j k b f h (has_of ss k s b e (l, m))))
+      | inr m ↦ sym (bit_behind s.lo (bit_count s.ty) from now (omega (arith, inside)) (omega (arith, inside)) b m) ∙ ap (λ (bs : List Bool). bit_at bs b) (sym w)
+    ]
   ]
 
   same_len : length new ≡ length now
@@ -111,16 +111,26 @@ put_more hi ss ks i k s old from now new f l g e p o w t = record {
     untouched : (j : ℕ) → (j ≡ k → ⊥) → (Has j (take i ks) → ⊥) → StaysSame ss old new j
     untouched j c h b x = t.others j h b x ∙ kept j c b x
 
--- after all of them
-pub put_all : (ss : List Signal) (ks : List ℕ) (i : ℕ) (old from now : List Bool) → length ks ≤ i → PutTo ss ks i old from now → ((k : ℕ) → Has k ks → StaysSame ss from now k) × OthersStay ss ks old now
-put_all ss ks i old from now l t =
-    let P : List ℕ → Type 0 = λ ms. ((k : ℕ) → Has k ms → StaysSame ss from now k) × OthersStay ss ms old now in
-    subst P (take_all i ks l) (t.put, t.others)
+pub put_next : (hi : ℕ) (ss : List Signal) (ks : List ℕ) (i k n : ℕ) (s : Signal) (old from now new : List Bool) → FillFrom 0 ss hi → i < length ks → k ≡ get_or ks i 0 → slice_get ss k ≡ Some s →
+    length from ≡ hi → length old ≡ hi → n ≡ bit_count s.ty → new ≡ bits_with s.lo (bits_within s.lo n from) now → PutTo ss ks i old from now → PutTo ss ks (i + 1) old from new
+put_next hi ss ks i k n s old from now new f l g e p o c w t =
+    put_more hi ss ks i k s old from now new f l g e p o (w ∙ ap (λ (m : ℕ). bits_with s.lo (bits_within s.lo m from) now) c) t
 
-pub undone : (hi : ℕ) (ss : List Signal) (ks : List ℕ) (old from now : List Bool) → FillFrom 0 ss hi → length from ≡ hi → length now ≡ hi → ((k : ℕ) → Has k ks → StaysSame ss from now k) → OthersStay ss ks old now → OthersStay ss ks old from →
+-- after all of them
+pub put_all : (ss : List Signal) (ks touched : List ℕ) (i : ℕ) (old from now : List Bool) → ks ≡ touched → length ks ≤ i → PutTo ss ks i old from now → ((k : ℕ) → Has k touched → StaysSame ss from now k) × OthersStay ss touched old now
+put_all ss ks touched i old from now v l t =
+    let P : List ℕ → Type 0 = λ ms. ((k : ℕ) → Has k ms → StaysSame ss from now k) × OthersStay ss ms old now in
+    subst P (take_all i ks l ∙ v) (t.put, t.others)
+
+undone : (hi : ℕ) (ss : List Signal) (ks : List ℕ) (old from now : List Bool) → FillFrom 0 ss hi → length from ≡ hi → length now ≡ hi → ((k : ℕ) → Has k ks → StaysSame ss from now k) → OthersStay ss ks old now → OthersStay ss ks old from →
     now ≡ from
 undone hi ss ks old from now f p q put stay same =
     signals_are_all ss hi now from f q p (λ k b h. elim (has_or k ks) [
       | inl g ↦ sym (put k g b h)
       | inr g ↦ sym (stay k g b h) ∙ same k g b h
     ])
+
+pub undone_by : (hi : ℕ) (ss : List Signal) (ks touched : List ℕ) (i : ℕ) (old from now : List Bool) → ks ≡ touched → FillFrom 0 ss hi → length from ≡ hi → length old ≡ hi → length ks ≤ i → PutTo ss ks i old from now → OthersStay ss touched old from → now ≡ from
+undone_by hi ss ks touched i old from now v f p o l t same =
+    let a = put_all ss ks touched i old from now v l t in
+    undone hi ss touched old from now f p (t.len ∙ o) a.0 a.1 same

@@ -18,9 +18,7 @@ pub fn signal_at(design: &Design, bit: u32) -> u32
     requires within { bit < length design.now.init }
     ensures { HasBit design.now.signals.items result bit }
 {
-    let after = design
-        .signals()
-        .partition_point(|signal| signal.lo <= bit);
+    let after = design.signals().partition_point(|signal| signal.lo <= bit);
     (after - 1) as u32
 }
 
