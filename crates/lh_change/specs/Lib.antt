@@ -1,0 +1,3 @@
+pub mod Touched
+pub mod Shown
+pub mod Laws

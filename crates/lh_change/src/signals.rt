@@ -1,0 +1,83 @@
+//! Which signals have which bits.
+ghost use Rattle.std.specs.Prelude.{◌≡◌, ◌+◌, ◌<◌, ◌≤◌, length, IfOk};
+ghost use Rattle.lh_types.specs.Writes.{BitsWithin};
+ghost use Rattle.lh_unit.specs.World.{bits_from, bit_numbers};
+ghost use Rattle.lh_design.specs.Filling.{SignalsFill};
+ghost use Rattle.lh_change.specs.Touched.{HasBit, AreTouched, TouchesMore, AreWithin, bits_named};
+
+use lh_design::Design;
+use lh_index::rising::Rising;
+use lh_types::part::Range;
+use lh_types::ty::NoMemory;
+use lh_types::writes::BitWrites;
+use std::alloc::Global;
+
+/// The number of the signal that has a bit.
+pub fn signal_at(design: &Design, bit: u32) -> u32
+    requires fill { SignalsFill design.now }
+    requires within { bit < length design.now.init }
+    ensures { HasBit design.now.signals.items result bit }
+{
+    let after = design.signals().partition_point(|signal| signal.lo <= bit);
+    (after - 1) as u32
+}
+
+/// Exactly the signals that have a bit of the parts.
+pub fn signals_of(alloc: Global, design: &Design, parts: &[Range]) -> Result<Rising, NoMemory>
+    requires fill { SignalsFill design.now }
+    requires within { AreWithin (length design.now.init) parts.now }
+    ensures { IfOk result
+        (λ touched. AreTouched design.now.signals.items (bit_numbers parts.now) touched) }
+{
+    let mut touched = Rising::new(alloc);
+    for part in parts {
+        touch(&mut touched, design, part.lo, part.len)?;
+    }
+    Ok(touched)
+}
+
+/// Adds exactly the signals that have a bit that is written.
+pub fn touch_written(
+    touched: &mut Rising,
+    design: &Design,
+    writes: &BitWrites,
+) -> Result<(), NoMemory>
+    requires fill { SignalsFill design.now }
+    requires within { BitsWithin (length design.now.init) writes.now }
+    ensures { IfOk result
+        (λ done. TouchesMore design.now.signals.items (bits_named writes.now) touched.old touched.new) }
+{
+    for run in writes.runs() {
+        touch(touched, design, run.lo, run.bits.len())?;
+    }
+    Ok(())
+}
+
+/// Adds exactly the signals that have one of the `len` bits from `lo` on.
+pub fn touch(touched: &mut Rising, design: &Design, lo: u32, len: u32) -> Result<(), NoMemory>
+    requires fill { SignalsFill design.now }
+    requires within { lo + len ≤ length design.now.init }
+    ensures { IfOk result
+        (λ done. TouchesMore design.now.signals.items (bits_from lo len) touched.old touched.new) }
+{
+    if len == 0 {
+        return Ok(());
+    }
+    let end = end_of(design, lo, len);
+    let first = signal_at(design, lo);
+    let last = signal_at(design, end - 1);
+    for signal in first..last + 1 {
+        touched.enter(signal)?;
+    }
+    Ok(())
+}
+
+/// One past the last of the `len` bits from `lo` on.
+fn end_of(design: &Design, lo: u32, len: u32) -> u32
+    requires { lo + len ≤ length design.now.init }
+    ensures { result ≡ lo + len }
+{
+    // There are fewer than 2^32 bits.
+    let _ = design.init().len();
+    lo + len
+}
