@@ -1,0 +1,4 @@
+pub mod ValueWalks
+pub mod WireLemmas
+pub mod CodeLemmas
+pub mod FrameLemmas

@@ -1,0 +1,3 @@
+pub mod ValueText
+pub mod TraceText
+pub mod WaveText
