@@ -5,12 +5,12 @@ ghost use Rattle.lh_wave.specs.WaveText.{identifier_code};
 use lh_types::ty::NoMemory;
 
 // How many bytes a code is made of, from the first one on.
-const BASE: u32 = 94;
+const BASE: u64 = 94;
 
 const FIRST: u8 = b'!';
 
 /// Puts the identifier code of a signal at the end of a text. After `NoMemory` nothing is said of the text.
-pub fn put_code(to: &mut Vec<u8>, signal: u32) -> Result<(), NoMemory>
+pub fn put_code(to: &mut Vec<u8>, signal: u64) -> Result<(), NoMemory>
     ensures { OnOk result (to.new.items ≡ to.old.items ++ identifier_code signal) }
 {
     let mut rest = signal;

@@ -7,4 +7,5 @@ mod integer;
 mod tests;
 pub mod trace;
 pub mod value;
+pub mod waveform;
 pub mod wire;

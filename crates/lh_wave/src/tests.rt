@@ -1,6 +1,7 @@
 use crate::code::put_code;
 use crate::trace::trace_frame;
 use crate::value::put_value;
+use crate::waveform::Waveform;
 use crate::wire::{put_time, put_wire};
 use lh_time::{Delay, Instant};
 use lh_types::frame::{Change, ChangeList, Frame, Outcome, OutcomeList};
@@ -99,6 +100,38 @@ fn values_in_a_waveform(rt: HostRuntime) -> Result<(), Fail> {
     put_wire(&mut to, 1, &int(4, 2))?;
     put_wire(&mut to, 94, &nested(rt.alloc())?)?;
     let text = b"#18446744073709551615\n1!\nb0010 \"\nb1101110 !\"\n";
+    assert_eq!(rt; to.as_slice(), text.as_slice());
+    Ok(())
+}
+
+/// A frame of a physical time and a delta, which shows some integers of 8 bits.
+fn frame_at(alloc: Global, fs: u64, delta: u64, shown: &[(u32, u128)]) -> Result<Frame, Fail> {
+    let mut changes = ChangeList::new(alloc);
+    for (signal, bits) in shown {
+        changes.push(Change {
+            signal: *signal,
+            toggled: 0,
+            value: int(8, *bits),
+        })?;
+    }
+    Ok(Frame {
+        at: Instant { fs, delta, eps: 0 },
+        changes,
+        outcomes: OutcomeList::new(alloc),
+    })
+}
+
+#[test]
+fn the_last_values_at_each_time(rt: HostRuntime) -> Result<(), Fail> {
+    let alloc = rt.alloc();
+    let mut to = Vec::new(alloc);
+    let mut waveform = Waveform::begin(alloc, &frame_at(alloc, 0, 0, &[(0, 0), (1, 5)])?)?;
+    waveform.take(&frame_at(alloc, 0, 1, &[(1, 6)])?, &mut to)?;
+    waveform.take(&frame_at(alloc, 1_000_000, 0, &[(0, 1)])?, &mut to)?;
+    waveform.take(&frame_at(alloc, 1_000_000, 1, &[(0, 0)])?, &mut to)?;
+    waveform.take(&frame_at(alloc, 2_000_000, 0, &[(1, 7)])?, &mut to)?;
+    waveform.write(&mut to)?;
+    let text = b"#0\n$dumpvars\nb00000000 !\nb00000110 \"\n$end\n#2000000\nb00000111 \"\n";
     assert_eq!(rt; to.as_slice(), text.as_slice());
     Ok(())
 }

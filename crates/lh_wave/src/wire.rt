@@ -12,7 +12,7 @@ use lh_types::val::{Val, ValList};
 
 /// Puts the line of a signal's value at the end of a text: of one bit that bit, of more a `b`, all bits,
 /// highest first, and a space; then its code. After `NoMemory` nothing is said of the text.
-pub fn put_wire(to: &mut Vec<u8>, signal: u32, v: &Val) -> Result<(), NoMemory>
+pub fn put_wire(to: &mut Vec<u8>, signal: u64, v: &Val) -> Result<(), NoMemory>
     ensures { OnOk result (to.new.items ≡ to.old.items ++ value_line signal (datum_of v.now)) }
 {
     put_bits(to, v)?;
