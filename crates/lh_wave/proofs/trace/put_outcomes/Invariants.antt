@@ -1,0 +1,6 @@
+use Rattle.lh_wave.specs.TraceText.{outcome_line}
+use Rattle.lh_wave.proofs.FrameLemmas.{Writing}
+use Rattle.lh_wave.proofs.trace.put_outcomes.Given as goal
+
+abbrev pub invariant-loop-o : goal.invariant-loop-o
+invariant-loop-o l = Writing outcome_line l.fn.to.items l.to.items l.outcomes l.o-index

@@ -1,0 +1,13 @@
+use Rattle.std.proofs.Common.{◌++◌, ap, ◌∙◌, arith}
+use Rattle.lh_types.proofs.DatumRows.{part-datum_count}
+use Rattle.lh_wave.proofs.ValueWalks.{ValuesAt-next}
+use Rattle.lh_wave.proofs.value.+value.Goals as goal
+
+pub put_values-put_value-requires : goal.put_values-put_value-requires
+put_values-put_value-requires t c =
+    let w = part-datum_count _ _ _ _ c.loop-i.invariant.whole c.loop-i-test.true c.v-item.is in
+    (omega (arith, w), tt)
+
+pub put_values-loop-i-preserved : goal.put_values-loop-i-preserved
+put_values-loop-i-preserved t c =
+    ValuesAt-next _ _ _ _ _ _ _ _ c.loop-i.invariant c.loop-i-test.true c.v-item.is (c.in_ok-put.ensures ∙ ap (λ l. c.loop-i.to.items ++ l) c.comma_before.ensures) c.in_ok-put_value.ensures

@@ -1,0 +1,17 @@
+use Rattle.std.proofs.Common.{refl, ap}
+use Rattle.lh_wave.proofs.Recording.{values_on, same_time_on, later_time_on}
+use Rattle.lh_wave.proofs.waveform.Waveform.take.Goals as goal
+
+pub returns-then-f-self-clause-values : goal.returns-then-f-self-clause-values
+returns-then-f-self-clause-values c = values_on c.change_values.result _ _ _ _ _ refl c.as_slice.ensures c.change_values.ensures.changed
+
+pub returns-then-f-self-clause-left : goal.returns-then-f-self-clause-left
+returns-then-f-self-clause-left c = same_time_on c.change_values.result _ _ _ _ _ _ _ _ _ c.if-f-self.true c.as_slice.ensures c.change_values.ensures.changed
+
+pub returns-clause-values : goal.returns-clause-values
+returns-clause-values c = values_on c.change_values-2.result _ _ _ _ _ (ap (λ m. m.values) c.in_ok-write.ensures.same) c.as_slice-2.ensures c.change_values-2.ensures.changed
+
+pub returns-clause-left : goal.returns-clause-left
+returns-clause-left c =
+    later_time_on c.change_values-2.result _ _ _ _ _ _ _ _ _ _ _ _ _ c.if-f-self.false c.in_ok-write.ensures.dumped c.in_ok-write.ensures.written (ap (λ m. m.values) c.in_ok-write.ensures.same)
+    c.in_ok-write.ensures.text c.as_slice-2.ensures c.change_values-2.ensures.changed

@@ -1,0 +1,4 @@
+pub mod ValueText
+pub mod TraceText
+pub mod WaveText
+pub mod Recorded

@@ -1,0 +1,195 @@
+//! The waveform of a run, as its frames come.
+ghost use Rattle.std.specs.Prelude.{◌≡◌, ◌∷◌, [], ◌++◌, List, OnOk, IfOk, true, length, map, slice_set, if◌then◌else◌};
+ghost use Rattle.lh_types.specs.ValueOf.{datum_of};
+ghost use Rattle.lh_types.specs.SameValue.{same_datum};
+ghost use Rattle.lh_types.specs.Pictures.{showing_of, picture};
+ghost use Rattle.lh_wave.specs.WaveText.{Moment, value_line, all_lines, differing_lines, any_differs, dump_at, changes_at, waveform_text};
+ghost use Rattle.lh_wave.specs.Recorded.{IsKept, values_now, moment_now, first_moment, next_moment, left_text, changed_values};
+
+use crate::wire::{put_time, put_wire};
+use lh_types::frame::{Change, Frame};
+use lh_types::text::put;
+use lh_types::ty::NoMemory;
+use lh_types::val::Val;
+use std::alloc::Global;
+
+/// A waveform while its frames come. The values of a physical time are written when a frame of a later
+/// one comes, so its memory does not grow with the number of frames.
+#[derive(Drop)]
+pub struct Waveform {
+    // The physical time that is not written yet.
+    fs: u64,
+    // Whether the values of the first time were written.
+    dumped: bool,
+    // The values of all signals as they were written last, and as they are now.
+    written: Vec<Val>,
+    present: Vec<Val>,
+}
+
+impl Waveform {
+    /// Begins with the first frame, which shows every signal in order.
+    pub fn begin(alloc: Global, first: &Frame) -> Result<Waveform, NoMemory>
+        ensures kept { IfOk result (λ w. IsKept w) }
+        ensures values { IfOk result (λ w. values_now w ≡ (first_moment (picture first.now)).values) }
+        ensures left { IfOk result (λ w. (ms : List Moment) → left_text w ms ≡ waveform_text (first_moment (picture first.now) ∷ ms)) }
+    {
+        let present = values_of(alloc, first.changes.as_slice())?;
+        let written = values_of(alloc, first.changes.as_slice())?;
+        Ok(Waveform {
+            fs: first.at.fs,
+            dumped: false,
+            written,
+            present,
+        })
+    }
+
+    /// Takes a later frame; a change of a signal that is not there changes nothing. Where the frame is of a later physical time, the text of the time before is put at the
+    /// end of `to`. After `NoMemory` nothing is said of the waveform and the text.
+    pub fn take(&mut self, f: &Frame, to: &mut Vec<u8>) -> Result<(), NoMemory>
+        requires { IsKept self.old }
+        ensures kept { OnOk result (IsKept self.new) }
+        ensures values { OnOk result (values_now self.new ≡ changed_values (values_now self.old) (picture f.now).changes) }
+        ensures left { OnOk result ((ms : List Moment) →
+            to.new.items ++ left_text self.new ms ≡ to.old.items ++ left_text self.old (next_moment (values_now self.old) (picture f.now) ∷ ms)) }
+    {
+        if f.at.fs == self.fs {
+            return change_values(&mut self.present, f.changes.as_slice());
+        }
+        self.write(to)?;
+        self.fs = f.at.fs;
+        change_values(&mut self.present, f.changes.as_slice())
+    }
+
+    /// Puts what is still to be written at the end of `to`: the text of the last time. After `NoMemory`
+    /// nothing is said of the waveform and the text.
+    pub fn write(&mut self, to: &mut Vec<u8>) -> Result<(), NoMemory>
+        requires { IsKept self.old }
+        ensures kept { OnOk result (IsKept self.new) }
+        ensures text { OnOk result (to.new.items ≡ to.old.items ++ left_text self.old []) }
+        ensures written { OnOk result (map datum_of self.new.written.items ≡ values_now self.old) }
+        ensures dumped { OnOk result (self.new.dumped ≡ true) }
+        ensures same { OnOk result (moment_now self.new ≡ moment_now self.old) }
+    {
+        self.put_time_text(to)?;
+        catch_up(&mut self.written, &self.present)?;
+        self.dumped = true;
+        Ok(())
+    }
+
+    // Puts the text of the time that is not written yet.
+    fn put_time_text(&self, to: &mut Vec<u8>) -> Result<(), NoMemory>
+        requires { IsKept self.now }
+        ensures { OnOk result (to.new.items ≡ to.old.items ++ left_text self.now []) }
+    {
+        if !self.dumped {
+            return put_dump(to, self.fs, &self.present);
+        }
+        if !differ(&self.written, &self.present) {
+            return Ok(());
+        }
+        put_time(to, self.fs)?;
+        put_differing(to, &self.written, &self.present)
+    }
+}
+
+// The values that changes show.
+fn values_of(alloc: Global, changes: &[Change]) -> Result<Vec<Val>, NoMemory>
+    ensures { IfOk result (λ vs. map datum_of vs.items ≡ map (λ c. datum_of c.value) changes.now) }
+{
+    let mut values = Vec::new(alloc);
+    for c in changes {
+        let value = c.value.copy()?;
+        values.push(value)?;
+    }
+    Ok(values)
+}
+
+// Writes the values that changes show over those of the same signals.
+fn change_values(now: &mut Vec<Val>, changes: &[Change]) -> Result<(), NoMemory>
+    ensures changed { OnOk result (map datum_of now.new.items ≡ changed_values (map datum_of now.old.items) (map showing_of changes.now)) }
+    ensures level { OnOk result (length now.new.items ≡ length now.old.items) }
+{
+    for c in changes {
+        change_value(now, c)?;
+    }
+    Ok(())
+}
+
+// Writes the value that a change shows over that of the same signal, if there is such a signal.
+fn change_value(now: &mut Vec<Val>, c: &Change) -> Result<(), NoMemory>
+    ensures changed { OnOk result (map datum_of now.new.items ≡ slice_set (map datum_of now.old.items) c.now.signal (datum_of c.now.value)) }
+    ensures level { OnOk result (length now.new.items ≡ length now.old.items) }
+{
+    let k = c.signal as usize;
+    if k >= now.len() {
+        return Ok(());
+    }
+    now[k] = c.value.copy()?;
+    Ok(())
+}
+
+// Writes each value over the one of the same signal.
+fn catch_up(written: &mut Vec<Val>, now: &[Val]) -> Result<(), NoMemory>
+    requires { length written.old.items ≡ length now.now }
+    ensures { OnOk result (map datum_of written.new.items ≡ map datum_of now.now) }
+{
+    for (k, v) in now.iter().enumerate() {
+        written[k] = v.copy()?;
+    }
+    Ok(())
+}
+
+// Puts the values of the first time.
+fn put_dump(to: &mut Vec<u8>, fs: u64, now: &[Val]) -> Result<(), NoMemory>
+    ensures { OnOk result (to.new.items ≡ to.old.items ++ dump_at (record { fs = fs; values = map datum_of now.now })) }
+{
+    put_time(to, fs)?;
+    put(to, b"$dumpvars\n")?;
+    put_all(to, now)?;
+    put(to, b"$end\n")
+}
+
+// Puts the lines of all signals.
+fn put_all(to: &mut Vec<u8>, now: &[Val]) -> Result<(), NoMemory>
+    ensures { OnOk result (to.new.items ≡ to.old.items ++ all_lines 0 (map datum_of now.now)) }
+{
+    for (k, v) in now.iter().enumerate() {
+        put_wire(to, k as u64, v)?;
+    }
+    Ok(())
+}
+
+// Whether the value of some signal differs from the one that was written last.
+fn differ(written: &[Val], now: &[Val]) -> bool
+    requires { length written.now ≡ length now.now }
+    ensures { result ≡ any_differs (map datum_of written.now) (map datum_of now.now) }
+{
+    for (k, v) in now.iter().enumerate() {
+        if written[k] != *v {
+            return true;
+        }
+    }
+    false
+}
+
+// Puts the lines of the signals that differ from the values that were written last.
+fn put_differing(to: &mut Vec<u8>, written: &[Val], now: &[Val]) -> Result<(), NoMemory>
+    requires { length written.now ≡ length now.now }
+    ensures { OnOk result (to.new.items ≡ to.old.items ++ differing_lines 0 (map datum_of written.now) (map datum_of now.now)) }
+{
+    for (k, v) in now.iter().enumerate() {
+        put_if_differs(to, k as u64, &written[k], v)?;
+    }
+    Ok(())
+}
+
+// Puts the line of a signal, if its value differs from the one that was written last.
+fn put_if_differs(to: &mut Vec<u8>, signal: u64, written: &Val, now: &Val) -> Result<(), NoMemory>
+    ensures { OnOk result (to.new.items ≡ to.old.items
+        ++ (if same_datum (datum_of written.now) (datum_of now.now) then [] else value_line signal (datum_of now.now))) }
+{
+    if *written == *now {
+        return Ok(());
+    }
+    put_wire(to, signal, now)
+}
