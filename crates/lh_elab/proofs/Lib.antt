@@ -6,3 +6,4 @@ pub mod Stepping
 pub mod Names
 pub mod Counting
 pub mod Refusing
+pub mod Moving

@@ -1,23 +1,26 @@
 //! The design as it is built, one instance after the other.
-ghost use Rattle.std.specs.Prelude.{◌≡◌, ℕ, ◌+◌, ◌≤◌, ◌<◌, ◌^◌, ◌++◌, ◌∷◌, [], List, length, map, replicate, false, Some, IfOk, OnOk};
-ghost use Rattle.lh_types.specs.Types.{bit_count, IsData};
-ghost use Rattle.lh_unit.specs.Design as design;
-ghost use Rattle.lh_unit.specs.Design.{arg_ranges, signal_ranges, top_signals};
-ghost use Rattle.lh_unit.specs.Arena.{IsArena, unit_count, args_at, unit_text_at};
+ghost use Rattle.std.specs.Prelude.{◌≡◌, ◌+◌, ◌≤◌, ◌<◌, ◌^◌, ◌++◌, ◌∷◌, [], length, map, take, drop, IfOk, OnOk, slice_index_or};
+ghost use Rattle.lh_types.specs.Types.{bit_count};
+ghost use Rattle.lh_unit.specs.Design.{signal_ranges, top_signals};
+ghost use Rattle.lh_unit.specs.Arena.{unit_count, unit_text_at};
 ghost use Rattle.lh_unit.specs.Within.{Each};
-ghost use Rattle.lh_elab.specs.Plans.{signal_of, low_at, SignalFits, IsPlan};
-ghost use Rattle.lh_elab.specs.Builds.{Stands, Keeps, with_signals, room_of, kids};
+ghost use Rattle.lh_sound.specs.Units.{IsPort};
+ghost use Rattle.lh_elab.specs.Statics as statics;
+ghost use Rattle.lh_elab.specs.Statics.{no_range};
+ghost use Rattle.lh_elab.specs.Plans.{signal_of, low_at, SignalFits};
+ghost use Rattle.lh_elab.specs.Builds.{room_of, IsNew, IsStarted, AddsSignals, KeepsRest, KeepsBuilt, LowsFit, AreLow, ranges_by, kids, Visits};
+ghost use Rattle.lh_elab.specs.declared.plan.PlanChild.{PlanChild as Child};
 
-use crate::ElabFault;
 use crate::design::{Design, Signal};
 use crate::graph::width_of;
+use crate::measure::MAX_NESTING;
 use crate::plan::{Low, Plan, PlanChild, PlanSignal};
 use crate::statics::Base;
 use lh_eval::instance::Instance;
 use lh_types::bits::Bits;
 use lh_types::list::ListOf;
 use lh_types::part::{Range, RangeList};
-use lh_types::ty::{NoMemory, Ty};
+use lh_types::ty::{NoMemory, Ty, TyKind, bits};
 use lh_unit::inst::{Arg, UnitId};
 use lh_unit::module::Module;
 use lh_unit::name::Name;
@@ -141,7 +144,7 @@ impl Building {
             lo: self.lo,
         };
         push_signal(&mut self.signals, signal)?;
-        self.init.put_part(self.lo, initial, 0, initial.len());
+        put_bits(&mut self.init, self.lo, initial);
         self.lo += initial.len();
         Ok(range)
     }
@@ -153,7 +156,7 @@ impl Building {
         requires fit { Each SignalFits plan.now.signals.items }
         requires room { self.old.lo + room_of (map signal_of plan.now.signals.items) ≤ length self.old.init }
         requires within { Each (λ (c : Child). c.unit.0 < unit_count m.now) plan.now.children.items }
-        requires lows { Each (λ (c : Child). LowsFit m.now next.args (signal_ranges self.old.lo (map signal_of plan.now.signals.items)) c) plan.now.children.items }
+        requires lows { Each (LowsFit m.now next.args (signal_ranges self.old.lo (map signal_of plan.now.signals.items))) plan.now.children.items }
         ensures { OnOk result (Visits m.now self.old self.new next plan.now) }
     {
         let number = self.instances.len() as u32;
@@ -248,6 +251,16 @@ fn push_signal(signals: &mut Vec<Signal>, signal: Signal) -> Result<(), NoMemory
     match signals.push(signal) {
         Ok(()) => Ok(()),
         Err(_) => Err(NoMemory),
+    }
+}
+
+/// The bits from `lo` on become these.
+fn put_bits(init: &mut Bits, lo: u32, bits: &Bits)
+    requires { lo + length bits.now ≤ length init.old }
+    ensures { init.new ≡ take lo init.old ++ bits.now ++ drop (lo + length bits.now) init.old }
+{
+    for i in 0..bits.len() {
+        init.set(lo + i, bits.get(i));
     }
 }
 

@@ -265,13 +265,13 @@ fn put_lows(lows: &mut Vec<Option<Low>>, operands: &[Typed], statics: &Statics) 
     ensures { OnOk result (lows.new.items ≡ lows.old.items ++ lows_by statics.now operands.now) }
 {
     for operand in operands {
-        push_low(lows, low(statics, operand.value))?;
+        push_low(lows, low_in(statics, operand.value))?;
     }
     Ok(())
 }
 
 /// Where the part lies that is held by a value, if one is.
-fn low(statics: &Statics, value: ValueId) -> Option<Low>
+fn low_in(statics: &Statics, value: ValueId) -> Option<Low>
     requires value { value.0 < length statics.now.slots }
     requires slots { HasSlots statics.now }
     ensures { result ≡ low_by statics.now value }
