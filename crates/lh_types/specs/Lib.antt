@@ -9,7 +9,10 @@ pub mod ValueOf
 pub mod ValueSize
 pub mod Fits
 pub mod Bits
+pub mod Flags
+pub mod Packed
 pub mod Parts
+pub mod Writes
 pub mod Raised
 pub mod PlaceOf
 pub mod SameValue
@@ -20,3 +23,4 @@ pub mod Apply
 pub mod ApplyTypes
 pub mod Wish
 pub mod History
+pub mod Pictures
