@@ -7,3 +7,10 @@ pub mod Names
 pub mod Counting
 pub mod Refusing
 pub mod Moving
+pub mod StaticSteps
+pub mod PlanSteps
+pub mod Walks
+pub mod Numbering
+pub mod Underway
+pub mod Reads
+pub mod Elaborating

@@ -94,7 +94,7 @@ LowsFit a args sigs c = AreLow (length (args_at a c.unit.0)) c.lows.items args s
 pub record IsStarted (a : Arena) (top : UnitId) (bits : ℕ) (b : Building) : Type 0 where
   pub instances : b.instances.items ≡ []
   pub signals : map signal_text b.signals.items ≡ numbered 0 0 (top_signals (unit_text_at a top.0).args)
-  pub bits : take b.lo b.init ≡ initial_bits (top_signals (unit_text_at a top.0).args)
+  pub begin : take b.lo b.init ≡ initial_bits (top_signals (unit_text_at a top.0).args)
   pub lo : b.lo ≡ room_of (top_signals (unit_text_at a top.0).args)
   pub long : length b.init ≡ bits
   pub pending : b.pending.items ≡ record { unit = top; parent = None; room = 63; args = signal_ranges 0 (top_signals (unit_text_at a top.0).args) } ∷ []

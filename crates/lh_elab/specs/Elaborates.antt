@@ -1,21 +1,17 @@
 -- What elaboration answers.
-use Rattle.std.specs.Prelude.{◌≡◌, ℕ, ◌+◌, ◌<◌, List, [], ◌∷◌, length, Option, Some, None, Result, Ok, Err, slice_index_or}
+use Rattle.std.specs.Prelude.{◌≡◌, ℕ, ◌+◌, List, [], ◌∷◌, length, map, Option, Some, None, Result, Ok, Err, slice_index_or}
 use Rattle.lh_types.specs.Types.{IsData, bit_count}
-use Rattle.lh_unit.specs.Arena.{Arena, unit_count, unit_name_at, unit_text_at, contents}
+use Rattle.lh_unit.specs.Arena.{Arena, unit_count, unit_name_at, contents}
 use Rattle.lh_unit.specs.Design as design
 use Rattle.lh_unit.specs.Design.{Elaborated, refused, built, Refusal}
-use Rattle.lh_unit.specs.Within.{Each}
-use Rattle.lh_eval.specs.declared.instance.Instance.{Instance}
-use Rattle.lh_sound.specs.Ranges.{InstanceFits}
 use Rattle.lh_elab.specs.declared.fault.ElabFault.{ElabFault}
 use Rattle.lh_elab.specs.declared.fault.ElabFault.TheVariants as fault
-use Rattle.lh_elab.specs.declared.design.Signal.{Signal}
 use Rattle.lh_elab.specs.declared.design.Design.{Design}
 use Rattle.lh_elab.specs.declared.plan.Plan.{Plan}
 use Rattle.lh_elab.specs.declared.elaborate.Plans.{Plans}
 use Rattle.lh_elab.specs.Refusals.{refusal_text}
 use Rattle.lh_elab.specs.Plans.{IsPlan}
-use Rattle.lh_elab.specs.Builds.{design_text}
+use Rattle.lh_elab.specs.Builds.{signal_text, design_text}
 
 -- the definition refuses for this cause, if it is one
 abbrev pub RefusedFor : Option Refusal → Elaborated → Type 0
@@ -32,15 +28,11 @@ pub record ArePlans (a : Arena) (p : Plans) : Type 0 where
   pub long : length p.plans.items ≡ unit_count a
   pub right : (u : ℕ) (x : Plan) → slice_index_or p.plans.items u None ≡ Some x → IsPlan a u x
 
--- the ranges of each instance have the widths of its unit's arguments and `sig` instructions, and lie within the bits
-abbrev pub InstancesFit : Arena → Design → Type 0
-InstancesFit a d = Each (λ (i : Instance). (i.unit.0 < unit_count a) × InstanceFits (unit_text_at a i.unit.0) i.args i.sigs (length d.init)) d.instances.items
-
 -- signals of data types stand one after the other, from one bit up to another
-abbrev pub FillFrom : (lo : ℕ) → List Signal → (hi : ℕ) → Type 0
+abbrev pub FillFrom : (lo : ℕ) → List design.Signal → (hi : ℕ) → Type 0
 FillFrom lo [] hi = lo ≡ hi
 FillFrom lo (s ∷ more) hi = (s.lo ≡ lo) × IsData s.ty × FillFrom (lo + bit_count s.ty) more hi
 
 -- the signals fill the bits
 abbrev pub SignalsFill : Design → Type 0
-SignalsFill d = FillFrom 0 d.signals.items (length d.init)
+SignalsFill d = FillFrom 0 (map signal_text d.signals.items) (length d.init)

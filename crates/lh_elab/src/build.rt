@@ -1,5 +1,5 @@
 //! The design as it is built, one instance after the other.
-ghost use Rattle.std.specs.Prelude.{◌≡◌, ◌+◌, ◌≤◌, ◌<◌, ◌^◌, ◌++◌, ◌∷◌, [], length, map, take, drop, IfOk, OnOk, slice_index_or};
+ghost use Rattle.std.specs.Prelude.{◌≡◌, ◌+◌, ◌≤◌, ◌<◌, ◌^◌, ◌++◌, ◌∷◌, [], length, map, IfOk, OnOk, slice_index_or};
 ghost use Rattle.lh_types.specs.Types.{bit_count};
 ghost use Rattle.lh_unit.specs.Design.{signal_ranges, top_signals};
 ghost use Rattle.lh_unit.specs.Arena.{unit_count, unit_text_at};
@@ -144,7 +144,7 @@ impl Building {
             lo: self.lo,
         };
         push_signal(&mut self.signals, signal)?;
-        put_bits(&mut self.init, self.lo, initial);
+        self.init.put_part(self.lo, initial, 0, initial.len());
         self.lo += initial.len();
         Ok(range)
     }
@@ -226,8 +226,8 @@ impl Building {
 
     /// The design, where all is built.
     pub fn finish(self) -> Design
-        ensures instances { result.instances ≡ self.instances }
-        ensures signals { result.signals ≡ self.signals }
+        ensures instances { result.instances.items ≡ self.instances.items }
+        ensures signals { result.signals.items ≡ self.signals.items }
         ensures init { result.init ≡ self.init }
     {
         let Building {
@@ -251,16 +251,6 @@ fn push_signal(signals: &mut Vec<Signal>, signal: Signal) -> Result<(), NoMemory
     match signals.push(signal) {
         Ok(()) => Ok(()),
         Err(_) => Err(NoMemory),
-    }
-}
-
-/// The bits from `lo` on become these.
-fn put_bits(init: &mut Bits, lo: u32, bits: &Bits)
-    requires { lo + length bits.now ≤ length init.old }
-    ensures { init.new ≡ take lo init.old ++ bits.now ++ drop (lo + length bits.now) init.old }
-{
-    for i in 0..bits.len() {
-        init.set(lo + i, bits.get(i));
     }
 }
 

@@ -1,10 +1,8 @@
 //! Elaboration: the design of a top unit.
-ghost use Rattle.std.specs.Prelude.{◌≡◌, ℕ, ◌<◌, ◌≤◌, length, None, IsSome, IfOk, OnOk, slice_index_or};
-ghost use Rattle.lh_unit.specs.Arena.{IsArena, unit_count, kind_at, contents, unit_text_at};
+ghost use Rattle.std.specs.Prelude.{◌≡◌, ◌<◌, ◌≤◌, ◌++◌, ◌∷◌, [], length, Some, None, IsSome, IfOk, OnOk, slice_index_or};
+ghost use Rattle.lh_unit.specs.Arena.{unit_count, kind_at, contents};
 ghost use Rattle.lh_unit.specs.WellFormed.{IsWellFormed};
-ghost use Rattle.lh_unit.specs.Within.{Each};
-ghost use Rattle.lh_sound.specs.Ranges.{InstanceFits};
-ghost use Rattle.lh_elab.specs.Elaborates.{Elaborates, ArePlans, InstancesFit, SignalsFill};
+ghost use Rattle.lh_elab.specs.Elaborates.{Elaborates, ArePlans, SignalsFill};
 
 use crate::ElabFault;
 use crate::build::{Building, Pending};
@@ -26,7 +24,6 @@ pub fn elab(alloc: Global, m: &Module, top: UnitId) -> Result<Design, ElabFault>
     requires formed { IsWellFormed (contents m.now) }
     ensures elaborates { Elaborates m.now top.0 result }
     ensures few { IfOk result (λ d. length d.instances.items ≤ 65536) }
-    ensures fit { IfOk result (InstancesFit m.now) }
     ensures fill { IfOk result SignalsFill }
 {
     let bits = first_refusal(alloc, m, top)?;

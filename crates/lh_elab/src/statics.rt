@@ -62,7 +62,9 @@ impl Statics {
     fn hold(&mut self, value: ValueId, base: Base, held: Held)
         requires slots { HasSlots self.old }
         requires value { value.0 < length self.old.slots }
-        ensures { by_of self.new ≡ held_by (by_of self.old) value base (held_of held) }
+        ensures by { by_of self.new ≡ held_by (by_of self.old) value base (held_of held) }
+        ensures slots { HasSlots self.new }
+        ensures long { length self.new.slots ≡ length self.old.slots }
     {
         self.slots.set(value, held);
         self.bases[value.0 as usize] = base;
@@ -72,7 +74,9 @@ impl Statics {
     fn give(&mut self, name: Option<ValueId>, base: Base, held: Option<Held>)
         requires slots { HasSlots self.old }
         requires name { MaybeIn self.old.slots name }
-        ensures { by_of self.new ≡ given_by (by_of self.old) name base (maybe_held held) }
+        ensures by { by_of self.new ≡ given_by (by_of self.old) name base (maybe_held held) }
+        ensures slots { HasSlots self.new }
+        ensures long { length self.new.slots ≡ length self.old.slots }
     {
         if let (Some(value), Some(held)) = (name, held) {
             self.hold(value, base, held);
@@ -83,7 +87,9 @@ impl Statics {
     pub fn hold_args(&mut self, args: &[Arg])
         requires slots { HasSlots self.old }
         requires args { ArgsWithin (length self.old.slots) args.now }
-        ensures { by_of self.new ≡ args_begun 0 args.now (by_of self.old) }
+        ensures by { by_of self.new ≡ args_begun 0 args.now (by_of self.old) }
+        ensures slots { HasSlots self.new }
+        ensures long { length self.new.slots ≡ length self.old.slots }
     {
         for (i, arg) in args.iter().enumerate() {
             let part = Range {
@@ -100,7 +106,9 @@ impl Statics {
         requires unit { unit.0 < unit_count m.now }
         requires long { length self.old.slots ≡ value_count m.now unit.0 }
         requires insts { Each (λ (i : Id). i.0 < inst_count m.now unit.0) insts.now }
-        ensures { by_of self.new ≡ sigs_begun (table_at m.now unit.0) 0 insts.now (by_of self.old) }
+        ensures by { by_of self.new ≡ sigs_begun (table_at m.now unit.0) 0 insts.now (by_of self.old) }
+        ensures slots { HasSlots self.new }
+        ensures long { length self.new.slots ≡ length self.old.slots }
     {
         let mut k: usize = 0;
         for inst in insts {
@@ -126,7 +134,9 @@ impl Statics {
         requires sound { Each (λ (i : Id). IsSound (unit_text_at m.now unit.0) (inst_line (naming m.now unit.0) (table_at m.now unit.0) i)) insts.now }
         requires slots { HasSlots self.old }
         requires fit { FitsSomething m.now unit.0 self.old }
-        ensures { (args sigs : List Part) (e : Env) → Follows m.now unit.0 args sigs (by_of self.old) e → OnOk result (Follows m.now unit.0 args sigs (by_of self.new) (static_from (unit_text_at m.now unit.0) e (map (inst_line (naming m.now unit.0) (table_at m.now unit.0)) insts.now))) }
+        ensures slots { HasSlots self.new }
+        ensures fit { OnOk result (FitsSomething m.now unit.0 self.new) }
+        ensures follows { (args sigs : List Part) (e : Env) → Follows m.now unit.0 args sigs (by_of self.old) e → OnOk result (Follows m.now unit.0 args sigs (by_of self.new) (static_from (unit_text_at m.now unit.0) e (map (inst_line (naming m.now unit.0) (table_at m.now unit.0)) insts.now))) }
     {
         for inst in insts {
             self.run_inst(alloc, m, unit, m.inst(unit, *inst), m.result_of(unit, *inst))?;
@@ -150,7 +160,8 @@ impl Statics {
         requires sound { IsSound (unit_text_at m.now unit.0) (record { result = maybe_text (naming m.now unit.0) name; inst = inst_text (naming m.now unit.0) inst.now }) }
         requires slots { HasSlots self.old }
         requires fit { FitsSomething m.now unit.0 self.old }
-        ensures { (args sigs : List Part) (e : Env) → Follows m.now unit.0 args sigs (by_of self.old) e → OnOk result (Follows m.now unit.0 args sigs (by_of self.new) (if_held e (maybe_text (naming m.now unit.0) name) (static_of (unit_text_at m.now unit.0) e (inst_text (naming m.now unit.0) inst.now)))) }
+        ensures slots { HasSlots self.new }
+        ensures follows { (args sigs : List Part) (e : Env) → Follows m.now unit.0 args sigs (by_of self.old) e → OnOk result (Follows m.now unit.0 args sigs (by_of self.new) (if_held e (maybe_text (naming m.now unit.0) name) (static_of (unit_text_at m.now unit.0) e (inst_text (naming m.now unit.0) inst.now)))) }
     {
         match inst {
             Inst::Const(value) => {
