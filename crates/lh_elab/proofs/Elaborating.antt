@@ -129,10 +129,10 @@ unfolding design_of
 first-goes table n xs e = ap (λ (ys : List ArgText). visited (visit 63 table) None n (hierarchy_in table n) (signal_ranges 0 (top_signals ys)) (only_signals (top_signals ys))) (sym e)
 
 module _ (a : Arena) (top : UnitId) (o : IsArena a) (l : top.0 < unit_count a) (r : ReadsAll a (hierarchies (contents a))) (bits : ℕ) (q : Refuses a top.0 (Ok bits)) (ports : Each IsPort (unit_text_at a top.0).args) where
-  table : List Entry
+  abbrev pub table : List Entry
   table = hierarchies (contents a)
 
-  xs : List ArgText
+  abbrev pub xs : List ArgText
   xs = (unit_text_at a top.0).args
 
   args-same : (hierarchy_of (unit_text_at a top.0)).args ≡ xs

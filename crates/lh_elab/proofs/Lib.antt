@@ -9,8 +9,10 @@ pub mod Refusing
 pub mod Moving
 pub mod StaticSteps
 pub mod PlanSteps
+pub mod ChildSteps
 pub mod Walks
 pub mod Numbering
+pub mod BuildSteps
 pub mod Underway
-pub mod Reads
+pub mod ByName
 pub mod Elaborating

@@ -60,7 +60,7 @@ module _ (args sigs : List Range) where
   datum-moved b (Some (cell_held d)) = refl
   datum-moved b (Some (part_held r)) = refl
 
-  part-moved : (b : Base) (h : Option Held) → option_and_then as_part (option_map (moved args sigs b) h) ≡ option_map (shifted (base_lo args sigs b)) (option_and_then as_part h)
+  pub part-moved : (b : Base) (h : Option Held) → option_and_then as_part (option_map (moved args sigs b) h) ≡ option_map (shifted (base_lo args sigs b)) (option_and_then as_part h)
   part-moved b None = refl
   part-moved b (Some (datum_held d)) = refl
   part-moved b (Some (cell_held d)) = refl

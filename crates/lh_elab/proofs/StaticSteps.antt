@@ -164,7 +164,7 @@ module _ (a : Arena) (u : ℕ) where
   pub plain : (s : Statics) (e : Env) → Follows a u [] [] (by_of s) e → Holds a u s.slots e
   plain s e f = subst (λ (l : List (Option Held)). Holds a u l e) (slots-stay [] [] zero-lows s.bases.items s.slots f.long) f.holds
 
-  pub line_in : InstId → LineText
+  abbrev pub line_in : InstId → LineText
   line_in i = inst_line (naming a u) (table_at a u) i
 
   -- one instruction more

@@ -129,14 +129,15 @@ lows-of : (k : ℕ) (args sigs : List Range) (ls : List (Option Low)) → suc k 
 lows-of k args sigs [] h e f s = tt
 lows-of k args sigs (l ∷ ls) h e f s = (low-of k args sigs l h e f s.0, lows-of k args sigs ls h e f s.1)
 
+one-fits : (k : ℕ) (args sigs : List Range) (x : Option Low) → k ≤ 63 → ArgsLow k args → ArgsLow k sigs → LowSmall x → low_at args sigs x < 4294967296
+one-fits k args sigs None h e f q = omega arith
+one-fits k args sigs (Some x) h e f q = let z : k * 65536 ≤ 21000000 = omega arith in let b = base-of k args sigs x.base z e f in omega (arith, b, q)
+
 lows-fit : (k n : ℕ) (args sigs : List Range) (ls : List (Option Low)) → k ≤ 63 → ArgsLow k args → ArgsLow k sigs → Each LowSmall ls → AreLow n ls args sigs
-lows-fit k zero args sigs ls h e f s = tt
-lows-fit k (suc n) args sigs [] h e f s = tt
-lows-fit k (suc n) args sigs (l ∷ ls) h e f s = (one l s.0, lows-fit k n args sigs ls h e f s.1)
-  where
-    one : (x : Option Low) → LowSmall x → low_at args sigs x < 4294967296
-    one None q = omega arith
-    one (Some x) q = let z : k * 65536 ≤ 21000000 = omega arith in let b = base-of k args sigs x.base z e f in omega (arith, b, q)
+lows-fit k n args sigs [] h e f s zero l = one-fits k args sigs None h e f tt
+lows-fit k n args sigs [] h e f s (suc i) l = one-fits k args sigs None h e f tt
+lows-fit k n args sigs (x ∷ ls) h e f s zero l = one-fits k args sigs x h e f s.0
+lows-fit k n args sigs (x ∷ ls) h e f s (suc i) l = lows-fit k n args sigs ls h e f s.1 i (omega arith)
 
 pub children-fit : (a : Arena) (k : ℕ) (args sigs : List Range) (cs : List PlanChild) → k ≤ 63 → ArgsLow k args → ArgsLow k sigs → Each ChildSmall cs → Each (LowsFit a args sigs) cs
 children-fit a k args sigs [] h e f s = tt
@@ -195,10 +196,10 @@ module _ (a : Arena) (table : List Entry) (to : Design) (reads : ReadsAll a tabl
     pub next-fits : PendingFits a next
     next-fits = all-pending.1.0
 
-    name : UnitName
+    abbrev pub name : UnitName
     name = unit_name_at a next.unit.0
 
-    h : Hierarchy
+    abbrev pub h : Hierarchy
     h = hierarchy_in table name
 
     counted-next : left a (counts table) old.pending.items ≡ left a (counts table) mid.pending.items + ((1 + sum_by (counts table next.room) (targets h)) + 0)
@@ -212,7 +213,7 @@ module _ (a : Arena) (table : List Entry) (to : Design) (reads : ReadsAll a tabl
     few-instances = let e = ap length q.instances in omega (arith, w.count, counted-next, e)
 
     module _ (p : Plan) (k : IsPlan a next.unit.0 p) where
-      ss : List SignalText
+      abbrev pub ss : List SignalText
       ss = map signal_of p.signals.items
 
       same-signals : ss ≡ h.signals
@@ -225,7 +226,7 @@ module _ (a : Arena) (table : List Entry) (to : Design) (reads : ReadsAll a tabl
           let f = ap length q.init in
           omega (arith, w.room, bits-next, e, f, q.lo)
 
-      sigs : List Range
+      abbrev pub sigs : List Range
       sigs = signal_ranges mid.lo ss
 
       low-sigs : ArgsLow next.room sigs
@@ -239,7 +240,7 @@ module _ (a : Arena) (table : List Entry) (to : Design) (reads : ReadsAll a tabl
       children-low = children-fit a next.room next.args sigs p.children.items next-fits.room next-fits.low low-sigs k.small
 
       module _ (new : Building) (v : Visits a mid new next p) where
-        d : Design
+        abbrev pub d : Design
         d = w.built
 
         number : length mid.instances.items ≡ length d.instances
@@ -248,7 +249,7 @@ module _ (a : Arena) (table : List Entry) (to : Design) (reads : ReadsAll a tabl
         low : mid.lo ≡ length d.init
         low = q.lo ∙ w.stands.lo
 
-        e : Design
+        abbrev pub e : Design
         e = with_instance next.parent name h next.args d
 
         are-of : AreOf (unit_text_at a next.unit.0) next.args sigs

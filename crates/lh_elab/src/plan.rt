@@ -150,7 +150,7 @@ impl Plan {
         requires unit { unit.0 < unit_count m.now }
         requires insts { Each (λ (i : Id). i.0 < inst_count m.now unit.0) insts.now }
         requires sound { Each (λ (i : Id). IsSound (unit_text_at m.now unit.0) (inst_line (naming m.now unit.0) (table_at m.now unit.0) i)) insts.now }
-        requires data { Each (λ (i : Id). WritesData (inst_line (naming m.now unit.0) (table_at m.now unit.0) i)) insts.now }
+        requires writes { Each (λ (i : Id). WritesData (inst_line (naming m.now unit.0) (table_at m.now unit.0) i)) insts.now }
         requires fit { FitsSomething m.now unit.0 values.now }
         ensures signals { (e : Env) → Holds m.now unit.0 values.now.slots e → OnOk result (map signal_of self.new.signals.items ≡ map signal_of self.old.signals.items ++ signals_of e (map (inst_line (naming m.now unit.0) (table_at m.now unit.0)) insts.now)) }
         ensures fit { Each SignalFits self.old.signals.items → OnOk result (Each SignalFits self.new.signals.items) }

@@ -170,8 +170,9 @@ impl Statics {
                 Ok(())
             }
             Inst::Pure { op, args } => {
-                let held = operate(alloc, m, unit, op, args.as_slice(), &self.slots)?;
-                let base = self.base_of(args.as_slice());
+                let operands = args.as_slice();
+                let held = operate(alloc, m, unit, op, operands, &self.slots)?;
+                let base = self.base_of(operands);
                 self.give(name, base, held);
                 Ok(())
             }

@@ -25,8 +25,8 @@ run_inst-requires-clause-sound c =
     let u = c.args.unit.0 in
     let d : InstId = record { 0 = 0 } in
     let x = each-rest (λ (i : InstId). IsSound (unit_text_at m u) (line_in m u i)) c.args.insts.now c.loop-inst.inst-index d c.loop-inst-test.true c.loop-inst.invariant.sound in
-    let e : line_in m u (get_or c.args.insts.now c.loop-inst.inst-index d) ≡ record { result = maybe_text (naming m u) c.result_of.result; inst = inst_text (naming m u) c.inst-2.result.now } =
-    λ k. record { result = maybe_text (naming m u) (sym c.result_of.ensures.value k); inst = inst_text (naming m u) (sym c.inst-2.ensures.inst k) } in
+    let e : line_in m u (get_or c.args.insts.now c.loop-inst.inst-index d) ≡ record { result = maybe_text (naming m u) c.result_of.result; inst = inst_text (naming m u) c.inst.result.now } =
+    λ k. record { result = maybe_text (naming m u) (sym c.result_of.ensures.value k); inst = inst_text (naming m u) (sym c.inst.ensures.inst k) } in
     subst (IsSound (unit_text_at m u)) e x.0
 
 pub loop-inst-preserved : goal.loop-inst-preserved
@@ -39,7 +39,7 @@ loop-inst-preserved c =
     let y = each-rest (λ (j : InstId). j.0 < inst_count m u) c.args.insts.now c.loop-inst.inst-index d c.loop-inst-test.true c.loop-inst.invariant.within in
     let go : (args sigs : List Range) (e : Env) → Follows m u args sigs (by_of c.loop-inst.self) e → Follows m u args sigs (by_of c.run_inst.new.self) (if_held e (line_in m u i).result (static_of (unit_text_at m u) e (line_in m u i).inst)) =
     λ args sigs e f. subst (λ (l : LineText). Follows m u args sigs (by_of c.run_inst.new.self) (if_held e l.result (static_of (unit_text_at m u) e l.inst)))
-        (λ k. record { result = maybe_text (naming m u) (c.result_of.ensures.value k); inst = inst_text (naming m u) (c.inst-2.ensures.inst k) })
+        (λ k. record { result = maybe_text (naming m u) (c.result_of.ensures.value k); inst = inst_text (naming m u) (c.inst.ensures.inst k) })
         (c.in_ok-run_inst.ensures.follows args sigs e f) in
     record {
       slots = c.in_ok-run_inst.ensures.slots;
