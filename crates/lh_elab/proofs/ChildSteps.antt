@@ -1,15 +1,16 @@
 -- Where the parts lie that operands name, and the `inst` of an entity.
-use Rattle.std.proofs.Common.{◌≡◌, ℕ, ◌+◌, ◌<◌, ◌≤◌, List, [], ◌∷◌, ◌++◌, length, map, get_or, Option, Some, None, refl, ap, sym, ◌∙◌, subst, arith}
+use Rattle.std.proofs.Common.{◌≡◌, ℕ, ◌+◌, ◌<◌, ◌≤◌, List, [], ◌∷◌, ◌++◌, length, map, drop, get_or, Option, Some, None, refl, ap, sym, ◌∙◌, subst, arith}
 use Rattle.std.specs.Option.{option_map, option_map_or, option_and_then}
-use Rattle.std.proofs.lemmas.List.{map-append, append-nil}
+use Rattle.std.proofs.lemmas.List.{map-append, append-nil, append_assoc}
 use Rattle.lh_types.specs.declared.part.Range.{Range}
-use Rattle.lh_unit.specs.Contents.{OperandText}
+use Rattle.lh_unit.specs.Contents.{OperandText, InstText, sig_text, child_text, LineText}
 use Rattle.lh_unit.specs.Held.{Held, Env, as_part, part_at}
-use Rattle.lh_unit.specs.Hierarchy.{Child, lows_of, child_if, signal_if, SignalText}
+use Rattle.lh_unit.specs.Hierarchy.{Child, lows_of, child_if, children_of, signal_if, signals_of, SignalText}
 use Rattle.lh_unit.specs.Naming.{inst_text, operand_text, value_text, maybe_text}
-use Rattle.lh_unit.specs.Arena.{Arena, naming, unit_name_at}
+use Rattle.lh_unit.specs.Arena.{Arena, InstPlaced, naming, unit_count, unit_name_at}
 use Rattle.lh_unit.specs.Within.{Each}
 use Rattle.lh_unit.specs.declared.inst.UnitId.{UnitId}
+use Rattle.lh_unit.specs.declared.inst.InstId.{InstId}
 use Rattle.lh_unit.specs.declared.inst.ValueId.{ValueId}
 use Rattle.lh_unit.specs.declared.inst.Typed.{Typed}
 use Rattle.lh_unit.specs.declared.inst.Inst.{Inst}
@@ -23,7 +24,8 @@ use Rattle.lh_elab.specs.declared.statics.Statics.{Statics}
 use Rattle.lh_elab.specs.declared.plan.Low.{Low}
 use Rattle.lh_elab.specs.declared.plan.PlanChild.{PlanChild}
 use Rattle.lh_elab.specs.Statics.{by_of, base_lo, moved, moved_slots, Follows}
-use Rattle.lh_elab.specs.Plans.{low_by, lows_by, low_at, child_of, LowSmall, ChildSmall, PartsSmall, ChildLine}
+use Rattle.lh_elab.specs.Plans.{low_by, lows_by, low_at, child_of, LowSmall, ChildSmall, PartsSmall, ChildLine, ChildWithin}
+use Rattle.lh_elab.proofs.StaticSteps.{drop-get_or, drop-end}
 use Rattle.lh_elab.proofs.Moving.{shifted, length-moved, slot-moved, part-moved}
 
 module _ (args sigs : List Range) (a : Arena) (u : ℕ) (s : Statics) (e : Env) (f : Follows a u args sigs (by_of s) e) where
@@ -71,3 +73,38 @@ pub child-small : (s : Statics) → PartsSmall s → (c : PlanChild) (i : Inst) 
 child-small s k c i v inputs outputs xs ys g x y w q =
     let w' = subst (ChildLine (length s.slots)) g w in
     subst (Each LowSmall) (sym (q ∙ (λ j. lows_by s (x j ++ y j)))) (lows-small s k (inputs ++ outputs) (Each-append (λ (o : Typed). o.value.0 < length s.slots) inputs outputs w'.0 w'.1))
+
+-- the next line, and those before it
+child-front : (e : Env) (i : InstText) (more : List Child) → child_if e i [] ++ more ≡ child_if e i more
+child-front e (child_text v inputs outputs) more = refl
+child-front e _ more = refl
+
+signal-front : (e : Env) (i : InstText) (r : Option (List ℕ)) (more : List SignalText) → signal_if e i r [] ++ more ≡ signal_if e i r more
+signal-front e (sig_text x) r more = refl
+signal-front e _ r more = refl
+
+pub more-children : (e : Env) (f : InstId → LineText) (is : List InstId) (k : ℕ) (d : InstId) (cur new all : List Child) → k < length is → new ≡ cur ++ child_if e (f (get_or is k d)).inst [] → cur ++ children_of e (map f (drop k is)) ≡ all → new ++ children_of e (map f (drop (k + 1) is)) ≡ all
+more-children e f is k d cur new all h p q =
+    ap (λ l. l ++ children_of e (map f (drop (k + 1) is))) p
+    ∙ append_assoc cur (child_if e (f (get_or is k d)).inst []) (children_of e (map f (drop (k + 1) is)))
+    ∙ ap (λ l. cur ++ l) (child-front e (f (get_or is k d)).inst (children_of e (map f (drop (k + 1) is))))
+    ∙ ap (λ l. cur ++ children_of e (map f l)) (sym (drop-get_or is k d h))
+    ∙ q
+
+pub more-signals : (e : Env) (f : InstId → LineText) (is : List InstId) (k : ℕ) (d : InstId) (cur new all : List SignalText) → k < length is → new ≡ cur ++ signal_if e (f (get_or is k d)).inst (f (get_or is k d)).result [] → cur ++ signals_of e (map f (drop k is)) ≡ all → new ++ signals_of e (map f (drop (k + 1) is)) ≡ all
+more-signals e f is k d cur new all h p q =
+    ap (λ l. l ++ signals_of e (map f (drop (k + 1) is))) p
+    ∙ append_assoc cur (signal_if e (f (get_or is k d)).inst (f (get_or is k d)).result []) (signals_of e (map f (drop (k + 1) is)))
+    ∙ ap (λ l. cur ++ l) (signal-front e (f (get_or is k d)).inst (f (get_or is k d)).result (signals_of e (map f (drop (k + 1) is))))
+    ∙ ap (λ l. cur ++ signals_of e (map f l)) (sym (drop-get_or is k d h))
+    ∙ q
+
+pub all-children : (e : Env) (f : InstId → LineText) (is : List InstId) (k : ℕ) (cur all : List Child) → length is ≤ k → cur ++ children_of e (map f (drop k is)) ≡ all → cur ≡ all
+all-children e f is k cur all h q = sym (append-nil cur) ∙ ap (λ l. cur ++ children_of e (map f l)) (sym (drop-end is k h)) ∙ q
+
+pub all-signals : (e : Env) (f : InstId → LineText) (is : List InstId) (k : ℕ) (cur all : List SignalText) → length is ≤ k → cur ++ signals_of e (map f (drop k is)) ≡ all → cur ≡ all
+all-signals e f is k cur all h q = sym (append-nil cur) ∙ ap (λ l. cur ++ signals_of e (map f l)) (sym (drop-end is k h)) ∙ q
+
+pub placed-child : (a : Arena) (u : ℕ) (i : Inst) → InstPlaced a u i → ChildWithin (unit_count a) i
+placed-child a u (inst.Child v inputs outputs) p = p.0
+placed-child a u _ p = tt

@@ -174,6 +174,7 @@ module _ (a : Arena) (top : UnitId) (o : IsArena a) (l : top.0 < unit_count a) (
     where
       zero-more : (n : ℕ) → 0 + n ≡ n
       zero-more n = omega arith
+
       low-all : (rs : List Range) → Each (λ (x : Range). x.lo ≤ 0 + room_of (top_signals xs)) rs → Each (λ (x : Range). x.lo ≤ bits) rs
       low-all [] e = tt
       low-all (x ∷ ys) e = (omega (arith, e.0, top-fits), low-all ys e.1)

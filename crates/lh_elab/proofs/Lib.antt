@@ -10,6 +10,7 @@ pub mod Moving
 pub mod StaticSteps
 pub mod PlanSteps
 pub mod ChildSteps
+pub mod PlanTables
 pub mod Walks
 pub mod Numbering
 pub mod BuildSteps

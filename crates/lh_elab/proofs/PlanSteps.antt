@@ -1,5 +1,5 @@
 -- The plan of an entity: what it begins with, its signals and the instances in it.
-use Rattle.std.proofs.Common.{◌≡◌, ℕ, zero, suc, ◌+◌, ◌<◌, ◌≤◌, List, [], ◌∷◌, ◌++◌, length, map, get_or, replicate, false, Option, Some, None, IsSome, refl, ap, sym, ◌∙◌, subst, arith}
+use Rattle.std.proofs.Common.{◌≡◌, ℕ, zero, suc, ◌+◌, ◌<◌, ◌≤◌, List, [], ◌∷◌, ◌++◌, length, map, get_or, replicate, Bool, false, Option, Some, None, IsSome, refl, ap, sym, ◌∙◌, subst, arith}
 use Rattle.std.specs.Option.{option_map_or}
 use Rattle.std.proofs.lemmas.List.{length-replicate, length-set}
 use Rattle.std.proofs.lemmas.Option.{same_Some}
@@ -12,7 +12,7 @@ use Rattle.lh_types.proofs.LawProofs.{bits_are_counted}
 use Rattle.lh_types.proofs.Limits.{bit_count-le}
 use Rattle.lh_unit.specs.Contents.{ArgText, InstText, sig_text, LineText, UnitText}
 use Rattle.lh_unit.specs.Held.{Held, datum_held, part_held, Env, nothing_held, with_args}
-use Rattle.lh_unit.specs.Hierarchy.{SignalText, signal_if, signals_of, hierarchy_by, hierarchy_of, zeros, type_or_void, parts_of, with_parts, signal_names, lines_of, static_from, static_held}
+use Rattle.lh_unit.specs.Hierarchy.{SignalText, signal_if, signals_of, children_of, hierarchy_by, hierarchy_of, zeros, type_or_void, parts_of, with_parts, signal_names, lines_of, static_from, static_held}
 use Rattle.lh_unit.specs.Naming.{kind_text, arg_text, inst_text, maybe_text, value_text}
 use Rattle.lh_unit.specs.Table.{ResultWithin}
 use Rattle.lh_unit.specs.Typing.{value_type}
@@ -25,6 +25,7 @@ use Rattle.lh_unit.specs.declared.inst.UnitKind.TheVariants as kind
 use Rattle.lh_unit.specs.declared.inst.Arg.{Arg}
 use Rattle.lh_unit.specs.declared.inst.InstId.{InstId}
 use Rattle.lh_unit.specs.declared.inst.ValueId.{ValueId}
+use Rattle.lh_unit.specs.declared.inst.Typed.{Typed}
 use Rattle.lh_unit.specs.declared.inst.Inst.{Inst}
 use Rattle.lh_unit.specs.declared.inst.Inst.TheVariants as inst
 use Rattle.lh_formed.specs.Operands.{RowIs}
@@ -33,7 +34,8 @@ use Rattle.lh_eval.specs.Fitting.{Fits}
 use Rattle.lh_eval.proofs.ValuesFit.{datum-held}
 use Rattle.lh_eval.proofs.GivesFit.{part-held}
 use Rattle.lh_eval.proofs.Holding.{holds-nothing}
-use Rattle.lh_eval.proofs.BeginSteps.{entity-lines}
+use Rattle.lh_eval.proofs.BeginSteps.{entity-lines, entity-insts}
+use Rattle.lh_sound.proofs.EachItem.{each-of-map}
 use Rattle.lh_sound.specs.Ranges.{RangesFit, arg_types, signal_types, type_if_signal, InstanceFits}
 use Rattle.lh_sound.specs.Units.{IsPort, HasPorts, SigWritesData, WritesData, UnitIsSound}
 use Rattle.lh_sound.proofs.FitLaws.{unit-is-sound, begins-fit}
@@ -144,6 +146,26 @@ module _ (a : Arena) (u : ℕ) (o : IsArena a) (h : u < unit_count a) where
     lines : lines_of (unit_text_at a u).blocks ≡ map (inst_line (naming a u) (table_at a u)) (block_insts_at a u 0)
     lines = entity-lines a u o h e
 
+    pub insts-in : (is : List InstId) → is ≡ block_insts_at a u 0 → Each (λ (i : InstId). i.0 < inst_count a u) is
+    insts-in is i = subst (Each (λ (x : InstId). x.0 < inst_count a u)) (sym i) (entity-insts a u o h e)
+
+    -- what holds of each line holds of each instruction
+    pub each-inst : (P : LineText → Type 0) (is : List InstId) → is ≡ block_insts_at a u 0 → Each P (lines_of (unit_text_at a u).blocks) → Each (λ (i : InstId). P (inst_line (naming a u) (table_at a u) i)) is
+    each-inst P is i w = subst (Each (λ (x : InstId). P (inst_line (naming a u) (table_at a u) x))) (sym i) (each-of-map P (inst_line (naming a u) (table_at a u)) (block_insts_at a u 0) (subst (Each P) lines w))
+
+    -- what elaboration reads of an entity
+    pub entity-signals : (is : List InstId) → is ≡ block_insts_at a u 0 → signals_of (static_held (unit_text_at a u) [] []) (map (inst_line (naming a u) (table_at a u)) is) ≡ (hierarchy_of (unit_text_at a u)).signals
+    entity-signals is i =
+        ap (λ l. signals_of (static_held (unit_text_at a u) [] []) (map (inst_line (naming a u) (table_at a u)) l)) i
+        ∙ ap (signals_of (static_held (unit_text_at a u) [] [])) (sym lines)
+        ∙ sym (ap (λ k. (hierarchy_by k (unit_text_at a u)).signals) (ap kind_text e))
+
+    pub entity-children : (args sigs : List Range) (is : List InstId) → is ≡ block_insts_at a u 0 → children_of (static_held (unit_text_at a u) args sigs) (map (inst_line (naming a u) (table_at a u)) is) ≡ (hierarchy_of (unit_text_at a u)).children args sigs
+    entity-children args sigs is i =
+        ap (λ l. children_of (static_held (unit_text_at a u) args sigs) (map (inst_line (naming a u) (table_at a u)) l)) i
+        ∙ ap (children_of (static_held (unit_text_at a u) args sigs)) (sym lines)
+        ∙ sym (ap (λ k. (hierarchy_by k (unit_text_at a u)).children args sigs) (ap kind_text e))
+
     -- what is held after the instructions, where no signal is there
     pub values-hold : (s t : Statics) (is : List InstId) → is ≡ block_insts_at a u 0 → s.slots ≡ replicate (value_count a u) None → s.bases.items ≡ replicate (value_count a u) (base.Arg 0)
         → ((args sigs : List Range) (x : Env) → Follows a u args sigs (by_of s) x → Follows a u args sigs (by_of t) (static_from (unit_text_at a u) x (map (inst_line (naming a u) (table_at a u)) is)))
@@ -213,7 +235,7 @@ module _ (a : Arena) (u : ℕ) (o : IsArena a) (h : u < unit_count a) where
 
 -- a `sig` has what its signal is made of
 pub signal-line : (a : Arena) (u : ℕ) (s : Statics) → FitsSomething a u s → (r : Option ValueId) (i : Inst) → ResultWithin (value_count a u) r → InstPlaced a u i → RowIs (unit_text_at a u) (inst_text (naming a u) i) → SigWritesData (maybe_text (naming a u) r) (inst_text (naming a u) i) → SignalLine a u s.slots r i
-signal-line a u s f None (inst.Sig x) w p row d = let n : IsSome None = d.3 in absurd cc
+signal-line a u s f None (inst.Sig x) w p row d = let n : IsSome {T = List ℕ} None = d.3 in absurd cc
 signal-line a u s f (Some v) (inst.Sig x) w p row d =
     let l : x.value.0 < length s.slots = omega (arith, p, f.holds.long) in
     let same : d.0 ≡ row.0 = same_Some d.0 row.0 (sym d.1 ∙ row.2.0) in
@@ -226,3 +248,10 @@ signal-line a u s f r _ w p row d = tt
 pub initial-long : (o : Option Datum) (t : TypeTree) → ((d : Datum) → o ≡ Some d → FitsType d t) → length (option_map_or value_bits o (zeros t)) ≡ bit_count t
 initial-long None t f = length-replicate (bit_count t) false
 initial-long (Some d) t f = bits_are_counted d t (f d refl)
+
+pub signal-fits : (a : Arena) (u : ℕ) (slots : List (Option Held)) (name : Option ValueId) (v : ValueId) (x : Typed) (ty t : TypeTree) (b : List Bool) → name ≡ Some v → x.ty ≡ Some ty → SignalIs a u slots name x → t ≡ ty → b ≡ option_map_or value_bits (datum_in slots x.value) (zeros (type_or_void x.ty)) → IsData t × (length b ≡ bit_count t)
+signal-fits a u slots name v x ty t b n w l e q =
+    let k = subst (λ (y : Option ValueId). SignalIs a u slots y x) n l in
+    let same : k.2.0 ≡ t = same_Some k.2.0 t (sym k.2.1 ∙ w ∙ ap Some (sym e)) in
+    let z : b ≡ option_map_or value_bits (datum_in slots x.value) (zeros k.2.0) = q ∙ ap (λ o. option_map_or value_bits (datum_in slots x.value) (zeros (type_or_void o))) k.2.1 in
+    (subst IsData same k.2.2, ap length z ∙ initial-long (datum_in slots x.value) k.2.0 k.2.3 ∙ ap bit_count same)

@@ -65,7 +65,7 @@ pub rest-left : {X : Type 0} (xs : List X) (k : ℕ) (x : X) (more : List X) →
 rest-left [] zero x more e = cc
 rest-left [] (suc k) x more e = cc
 rest-left (y ∷ xs) zero x more e = let f : xs ≡ more = cc in f
-rest-left (y ∷ xs) (suc k) x more e = let f : drop (suc (k + 1)) (y ∷ xs) ≡ more = rest-left xs k x more e in subst (λ (n : ℕ). drop n (y ∷ xs) ≡ more) (omega arith) f
+rest-left (y ∷ xs) (suc k) x more e = let f : drop (suc (k + 1)) (y ∷ xs) ≡ more = rest-left xs k x more e in let g : suc (k + 1) ≡ suc k + 1 = omega arith in subst (λ (n : ℕ). drop n (y ∷ xs) ≡ more) g f
 
 zero-lows : (b : Base) → base_lo [] [] b ≡ 0
 zero-lows (base.Arg zero) = refl
@@ -94,8 +94,8 @@ stepped-none (Some (signal_type t)) (Some r) = refl
 stepped-none (Some _) p = refl
 
 taken-typed : (u : UnitText) (e : Env) (o : Op) (x : OperandText) (r : Range) → RowIs u (pure_text o (x ∷ [])) → stepped (value_type u x.value) (part_at e x.value) (step_of o) ≡ Some (part_held r) → (t : TypeTree) × (operation_type o (x ∷ []) ≡ Some t)
-taken-typed u e (op.Extf k) x r row h = (row.0, row.1.0)
-taken-typed u e (op.Exts at len) x r row h = (row.0, row.1.0)
+taken-typed u e (op.Extf k) x r row h = (row.0, row.1)
+taken-typed u e (op.Exts at len) x r row h = (row.0, row.1)
 taken-typed u e _ x r row h = let n = stepped-none (value_type u x.value) (part_at e x.value) in absurd cc
 
 signal-typed : (u : UnitText) (e : Env) (o : Op) (args : List OperandText) (r : Range) → RowIs u (pure_text o args) → signal_part u e o args ≡ Some (part_held r) → (t : TypeTree) × (operation_type o args ≡ Some t)

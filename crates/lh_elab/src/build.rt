@@ -150,7 +150,13 @@ impl Building {
 
     /// Visits an instance of a unit with this plan: it takes the next number, its signals come above those so far, and the
     /// instances in it are visited next, before all others.
-    pub fn visit(&mut self, alloc: Global, m: &Module, plan: &Plan, next: Pending) -> Result<(), NoMemory>
+    pub fn visit(
+        &mut self,
+        alloc: Global,
+        m: &Module,
+        plan: &Plan,
+        next: Pending,
+    ) -> Result<(), NoMemory>
         requires few { length self.old.instances.items < 65536 }
         requires fit { Each SignalFits plan.now.signals.items }
         requires room { self.old.lo + room_of (map signal_of plan.now.signals.items) ≤ length self.old.init }
@@ -162,7 +168,15 @@ impl Building {
         let sigs = self.put_signals(alloc, number, plan.signals.as_slice())?;
         if next.room > 0 {
             let (args, sigs) = (next.args.as_slice(), sigs.as_slice());
-            self.put_children(alloc, m, plan.children.as_slice(), number, next.room - 1, args, sigs)?;
+            self.put_children(
+                alloc,
+                m,
+                plan.children.as_slice(),
+                number,
+                next.room - 1,
+                args,
+                sigs,
+            )?;
         }
         self.put_instance(Instance {
             unit: next.unit,

@@ -1,14 +1,13 @@
 //! Elaboration: the design of a top unit.
 ghost use Rattle.std.specs.Prelude.{◌≡◌, ◌<◌, ◌≤◌, ◌++◌, ◌∷◌, [], length, Some, None, IsSome, IfOk, OnOk, slice_index_or};
-ghost use Rattle.lh_unit.specs.Arena.{unit_count, kind_at, contents};
+ghost use Rattle.lh_unit.specs.Arena.{IsArena, unit_count, kind_at, contents};
 ghost use Rattle.lh_unit.specs.WellFormed.{IsWellFormed};
 ghost use Rattle.lh_elab.specs.Elaborates.{Elaborates, ArePlans, SignalsFill};
 
-use crate::ElabFault;
 use crate::build::{Building, Pending};
 use crate::design::Design;
-use crate::first_refusal;
 use crate::plan::{Plan, plan_of};
+use crate::{ElabFault, first_refusal};
 use lh_types::ty::NoMemory;
 use lh_unit::inst::UnitId;
 use lh_unit::module::Module;
@@ -26,9 +25,9 @@ pub fn elab(alloc: Global, m: &Module, top: UnitId) -> Result<Design, ElabFault>
     ensures few { IfOk result (λ d. length d.instances.items ≤ 65536) }
     ensures fill { IfOk result SignalsFill }
 {
+    let mut plans = Plans::new(alloc, m)?;
     let bits = first_refusal(alloc, m, top)?;
     let mut building = Building::started(alloc, m, top, bits)?;
-    let mut plans = Plans::new(alloc, m)?;
     while let Some(next) = building.pending.pop() {
         plans.fill(alloc, m, next.unit)?;
         building.visit(alloc, m, plans.at(next.unit), next)?;
@@ -45,7 +44,8 @@ struct Plans {
 impl Plans {
     /// No unit was met.
     fn new(alloc: Global, m: &Module) -> Result<Plans, NoMemory>
-        ensures { IfOk result (ArePlans m.now) }
+        ensures plans { IfOk result (ArePlans m.now) }
+        ensures sound { IsArena m.now }
     {
         let mut plans = Vec::new(alloc);
         for _unit in 0..m.units() {

@@ -157,7 +157,14 @@ impl Plan {
         ensures children { self.new.children.items ≡ self.old.children.items }
     {
         for inst in insts {
-            self.put_if_signal(alloc, m, unit, m.result_of(unit, *inst), m.inst(unit, *inst), &values.slots)?;
+            self.put_if_signal(
+                alloc,
+                m,
+                unit,
+                m.result_of(unit, *inst),
+                m.inst(unit, *inst),
+                &values.slots,
+            )?;
         }
         Ok(())
     }
@@ -222,7 +229,12 @@ impl Plan {
     }
 
     /// Adds the instance of an instruction, if it is an `inst`.
-    fn put_if_child(&mut self, alloc: Global, inst: &Inst, statics: &Statics) -> Result<(), NoMemory>
+    fn put_if_child(
+        &mut self,
+        alloc: Global,
+        inst: &Inst,
+        statics: &Statics,
+    ) -> Result<(), NoMemory>
         requires slots { HasSlots statics.now }
         requires operands { ChildLine (length statics.now.slots) inst.now }
         ensures children { (a : Arena) (u : ℕ) (args sigs : List Part) (e : Env) → Follows a u args sigs (by_of statics.now) e → OnOk result (map (child_of a args sigs) self.new.children.items ≡ map (child_of a args sigs) self.old.children.items ++ child_if e (inst_text (naming a u) inst.now) []) }
@@ -310,7 +322,11 @@ fn child(
     Ok(PlanChild { unit, lows })
 }
 
-fn put_lows(lows: &mut Vec<Option<Low>>, operands: &[Typed], statics: &Statics) -> Result<(), NoMemory>
+fn put_lows(
+    lows: &mut Vec<Option<Low>>,
+    operands: &[Typed],
+    statics: &Statics,
+) -> Result<(), NoMemory>
     requires operands { Each (λ (o : Operand). o.value.0 < length statics.now.slots) operands.now }
     requires slots { HasSlots statics.now }
     ensures { OnOk result (lows.new.items ≡ lows.old.items ++ lows_by statics.now operands.now) }

@@ -20,6 +20,7 @@ ghost use Rattle.lh_eval.specs.Holding.{MaybeIn};
 ghost use Rattle.lh_eval.specs.Sound.{IsSound};
 ghost use Rattle.lh_elab.specs.Statics.{by_of, held_by, given_by, args_begun, sigs_begun, HasSlots, Follows, FitsSomething, base_of};
 
+use crate::graph::{width, width_of};
 use lh_eval::held::{Held, Slots};
 use lh_eval::operate::operate;
 use lh_types::part::Range;
@@ -27,8 +28,6 @@ use lh_types::ty::NoMemory;
 use lh_unit::inst::{Arg, Inst, InstId, Typed, UnitId, ValueId};
 use lh_unit::module::Module;
 use std::alloc::Global;
-
-use crate::graph::{width, width_of};
 
 /// Of what a part is a part: of the argument, or of the `sig` instruction, of this number.
 #[derive(Clone, Copy)]
@@ -119,7 +118,11 @@ impl Statics {
                 lo: 0,
                 len: width(&initial.ty),
             };
-            self.give(m.result_of(unit, *inst), Base::Sig(k), Some(Held::Part(part)));
+            self.give(
+                m.result_of(unit, *inst),
+                Base::Sig(k),
+                Some(Held::Part(part)),
+            );
             k += 1;
         }
     }
@@ -127,7 +130,13 @@ impl Statics {
 
 impl Statics {
     /// Holds what the constants and operations of these instructions give, one after the other.
-    pub fn run(&mut self, alloc: Global, m: &Module, unit: UnitId, insts: &[InstId]) -> Result<(), NoMemory>
+    pub fn run(
+        &mut self,
+        alloc: Global,
+        m: &Module,
+        unit: UnitId,
+        insts: &[InstId],
+    ) -> Result<(), NoMemory>
         requires arena { IsArena m.now }
         requires unit { unit.0 < unit_count m.now }
         requires insts { Each (λ (i : Id). i.0 < inst_count m.now unit.0) insts.now }
@@ -139,7 +148,13 @@ impl Statics {
         ensures follows { (args sigs : List Part) (e : Env) → Follows m.now unit.0 args sigs (by_of self.old) e → OnOk result (Follows m.now unit.0 args sigs (by_of self.new) (static_from (unit_text_at m.now unit.0) e (map (inst_line (naming m.now unit.0) (table_at m.now unit.0)) insts.now))) }
     {
         for inst in insts {
-            self.run_inst(alloc, m, unit, m.inst(unit, *inst), m.result_of(unit, *inst))?;
+            self.run_inst(
+                alloc,
+                m,
+                unit,
+                m.inst(unit, *inst),
+                m.result_of(unit, *inst),
+            )?;
         }
         Ok(())
     }

@@ -39,8 +39,8 @@ loop-inst-preserved c =
     let y = each-rest (λ (j : InstId). j.0 < inst_count m u) c.args.insts.now c.loop-inst.inst-index d c.loop-inst-test.true c.loop-inst.invariant.within in
     let go : (args sigs : List Range) (e : Env) → Follows m u args sigs (by_of c.loop-inst.self) e → Follows m u args sigs (by_of c.run_inst.new.self) (if_held e (line_in m u i).result (static_of (unit_text_at m u) e (line_in m u i).inst)) =
     λ args sigs e f. subst (λ (l : LineText). Follows m u args sigs (by_of c.run_inst.new.self) (if_held e l.result (static_of (unit_text_at m u) e l.inst)))
-        (λ k. record { result = maybe_text (naming m u) (c.result_of.ensures.value k); inst = inst_text (naming m u) (c.inst.ensures.inst k) })
-        (c.in_ok-run_inst.ensures.follows args sigs e f) in
+    (λ k. record { result = maybe_text (naming m u) (c.result_of.ensures.value k); inst = inst_text (naming m u) (c.inst.ensures.inst k) })
+    (c.in_ok-run_inst.ensures.follows args sigs e f) in
     record {
       slots = c.in_ok-run_inst.ensures.slots;
       fit = more-fit m u c.loop-inst.self c.run_inst.new.self (line_in m u i) c.loop-inst.invariant.slots x.0 c.loop-inst.invariant.fit go;
