@@ -144,10 +144,25 @@ nothing-left b e = by b.pending.items e
     by (x ∷ l) q = absurd (omega arith)
 
 pub returns-clause-elaborates : goal.returns-clause-elaborates
-returns-clause-elaborates c = ?
+returns-clause-elaborates c =
+    let a = c.args.m.now in
+    let b = c.loop-next.building in
+    let none : b.pending.items ≡ [] = nothing-left b (omega (arith, c.in_default.ensures.cases.0)) in
+    let z = ends a c.args.top.0 b c.finish.result c.loop-next.invariant.underway none c.finish.ensures.instances c.finish.ensures.signals c.finish.ensures.init in
+    built-is a c.args.top.0 c.new.ensures.sound c.requires.unit c.requires.begun c.in_ok-bits.ensures.0 c.finish.result z.is
 
 pub returns-clause-few : goal.returns-clause-few
-returns-clause-few c = ?
+returns-clause-few c =
+    let a = c.args.m.now in
+    let b = c.loop-next.building in
+    let none : b.pending.items ≡ [] = nothing-left b (omega (arith, c.in_default.ensures.cases.0)) in
+    let z = ends a c.args.top.0 b c.finish.result c.loop-next.invariant.underway none c.finish.ensures.instances c.finish.ensures.signals c.finish.ensures.init in
+    z.few
 
 pub returns-clause-fill : goal.returns-clause-fill
-returns-clause-fill c = ?
+returns-clause-fill c =
+    let a = c.args.m.now in
+    let b = c.loop-next.building in
+    let none : b.pending.items ≡ [] = nothing-left b (omega (arith, c.in_default.ensures.cases.0)) in
+    let z = ends a c.args.top.0 b c.finish.result c.loop-next.invariant.underway none c.finish.ensures.instances c.finish.ensures.signals c.finish.ensures.init in
+    z.fill
