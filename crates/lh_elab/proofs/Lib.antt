@@ -6,3 +6,14 @@ pub mod Stepping
 pub mod Names
 pub mod Counting
 pub mod Refusing
+pub mod Moving
+pub mod StaticSteps
+pub mod PlanSteps
+pub mod ChildSteps
+pub mod PlanTables
+pub mod Walks
+pub mod Numbering
+pub mod BuildSteps
+pub mod Underway
+pub mod ByName
+pub mod Elaborating

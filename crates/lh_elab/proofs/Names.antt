@@ -41,11 +41,11 @@ pub hierarchy-by_id : (a : Arena) (u : ℕ) → IsArena a → u < unit_count a �
 hierarchy-by_id a u o l = hierarchy-named (unit_name_at a u) (contents a) ∙ ap (option_map hierarchy_of) (unit_named-by_id a u o l)
 
 -- the units that instructions instantiate, and the bits of their signals
-abbrev child_if_any : Inst → List UnitId → List UnitId
+abbrev pub child_if_any : Inst → List UnitId → List UnitId
 child_if_any (inst.Child u inputs outputs) more = u ∷ more
 child_if_any _ more = more
 
-abbrev child_ids : Table → List InstId → List UnitId
+abbrev pub child_ids : Table → List InstId → List UnitId
 child_ids t [] = []
 child_ids t (i ∷ more) = child_if_any (line_at t i.0).inst (child_ids t more)
 
@@ -133,7 +133,7 @@ child-text f e l t i ls more h = by (line_at t i.0).inst
     by (inst.Ret None) = h
     by (inst.Ret (Some x)) = h
 
-children-names : (f : Naming) (e : Env) (t : Table) (is : List InstId) → map (λ (c : Child). c.unit) (children_of e (map (inst_line f t) is ++ [])) ≡ map (λ (x : UnitId). f.unit_name x.0) (child_ids t is)
+pub children-names : (f : Naming) (e : Env) (t : Table) (is : List InstId) → map (λ (c : Child). c.unit) (children_of e (map (inst_line f t) is ++ [])) ≡ map (λ (x : UnitId). f.unit_name x.0) (child_ids t is)
 children-names f e t [] = refl
 children-names f e t (i ∷ is) = child-text f e (inst_line f t i) t i (map (inst_line f t) is ++ []) (child_ids t is) (children-names f e t is)
 
@@ -168,7 +168,7 @@ signals-bits f e t [] = refl
 signals-bits f e t (i ∷ is) = signal-text f e t i (map (inst_line f t) is ++ []) (sig_bits t is) (signals-bits f e t is)
 
 -- the lines of an entity
-entity-lines : (f : Naming) (t : Table) → t.blocks ≡ entity_block ∷ [] → lines_of (map (block_text f t) t.blocks) ≡ map (inst_line f t) (insts_at t 0) ++ []
+pub entity-lines : (f : Naming) (t : Table) → t.blocks ≡ entity_block ∷ [] → lines_of (map (block_text f t) t.blocks) ≡ map (inst_line f t) (insts_at t 0) ++ []
 entity-lines f t e = ap (λ bs. lines_of (map (block_text f t) bs)) e
 
 pub record Reads (f : Naming) (h : Hierarchy) (n : Node) : Type 0 where

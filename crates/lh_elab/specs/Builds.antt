@@ -1,5 +1,5 @@
 -- What is built of a design, and what is still to be visited.
-use Rattle.std.specs.Prelude.{◌≡◌, ℕ, zero, suc, ◌+◌, ◌<◌, List, [], ◌∷◌, ◌++◌, length, map, take, replicate, sum_by, Bool, false, Option, Some, None, Result, Ok, Err}
+use Rattle.std.specs.Prelude.{◌≡◌, ℕ, zero, suc, ◌+◌, ◌<◌, List, [], ◌∷◌, ◌++◌, length, map, take, replicate, sum_by, Bool, false, Option, Some, None, slice_index_or}
 use Rattle.lh_types.specs.Types.{bit_count}
 use Rattle.lh_types.specs.declared.part.Range.{Range}
 use Rattle.lh_unit.specs.declared.inst.Arg.{Arg}
@@ -83,9 +83,7 @@ kids_in a parent (suc room) args sigs cs = kids a parent room args sigs cs
 
 -- so many of these lowest bits are numbers of bits
 abbrev pub AreLow : ℕ → List (Option Low) → (args sigs : List Range) → Type 0
-AreLow zero ls args sigs = Unit {0}
-AreLow (suc n) [] args sigs = Unit {0}
-AreLow (suc n) (l ∷ ls) args sigs = (low_at args sigs l < 4294967296) × AreLow n ls args sigs
+AreLow n ls args sigs = (i : ℕ) → i < n → low_at args sigs (slice_index_or ls i None) < 4294967296
 
 abbrev pub LowsFit : Arena → (args sigs : List Range) → PlanChild → Type 0
 LowsFit a args sigs c = AreLow (length (args_at a c.unit.0)) c.lows.items args sigs
@@ -94,7 +92,7 @@ LowsFit a args sigs c = AreLow (length (args_at a c.unit.0)) c.lows.items args s
 pub record IsStarted (a : Arena) (top : UnitId) (bits : ℕ) (b : Building) : Type 0 where
   pub instances : b.instances.items ≡ []
   pub signals : map signal_text b.signals.items ≡ numbered 0 0 (top_signals (unit_text_at a top.0).args)
-  pub bits : take b.lo b.init ≡ initial_bits (top_signals (unit_text_at a top.0).args)
+  pub begin : take b.lo b.init ≡ initial_bits (top_signals (unit_text_at a top.0).args)
   pub lo : b.lo ≡ room_of (top_signals (unit_text_at a top.0).args)
   pub long : length b.init ≡ bits
   pub pending : b.pending.items ≡ record { unit = top; parent = None; room = 63; args = signal_ranges 0 (top_signals (unit_text_at a top.0).args) } ∷ []

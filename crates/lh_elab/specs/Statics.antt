@@ -1,5 +1,5 @@
 -- What the values of an entity hold without any probe, for all its instances at once: parts as if each argument and `sig` began at bit 0.
-use Rattle.std.specs.Prelude.{◌≡◌, ℕ, ◌+◌, ◌<◌, List, [], ◌∷◌, length, map, Option, Some, None, slice_index_or, slice_set}
+use Rattle.std.specs.Prelude.{◌≡◌, ℕ, ◌+◌, ◌≤◌, List, [], ◌∷◌, length, map, Option, Some, None, slice_index_or, slice_set}
 use Rattle.std.specs.Option.{option_map}
 use Rattle.lh_types.specs.Types.{TypeTree, bit_count}
 use Rattle.lh_types.specs.declared.part.Range.{Range}
@@ -90,8 +90,13 @@ pub record Follows (a : Arena) (u : ℕ) (args sigs : List Range) (s : By) (e : 
   pub long : length s.bases ≡ length s.slots
   pub holds : Holds a u (moved_slots args sigs s.bases s.slots) e
 
+-- each part that is held begins at most at this bit of its argument or `sig`
+abbrev pub IsSmall : Env → Type 0
+IsSmall e = (n : List ℕ) (r : Range) → e n ≡ Some (part_held r) → r.lo ≤ 65536
+
 -- what is held is held under names whose types it fits
 pub record FitsSomething (a : Arena) (u : ℕ) (s : Statics) : Type 0 where
   pub held : Env
   pub holds : Holds a u s.slots held
   pub fits : Fits (unit_text_at a u) 65536 held
+  pub small : IsSmall held

@@ -1,23 +1,26 @@
 //! The design as it is built, one instance after the other.
-ghost use Rattle.std.specs.Prelude.{◌≡◌, ℕ, ◌+◌, ◌≤◌, ◌<◌, ◌^◌, ◌++◌, ◌∷◌, [], List, length, map, replicate, false, Some, IfOk, OnOk};
-ghost use Rattle.lh_types.specs.Types.{bit_count, IsData};
-ghost use Rattle.lh_unit.specs.Design as design;
-ghost use Rattle.lh_unit.specs.Design.{arg_ranges, signal_ranges, top_signals};
-ghost use Rattle.lh_unit.specs.Arena.{IsArena, unit_count, args_at, unit_text_at};
+ghost use Rattle.std.specs.Prelude.{◌≡◌, ◌+◌, ◌≤◌, ◌<◌, ◌^◌, ◌++◌, ◌∷◌, [], length, map, None, IfOk, OnOk, slice_index_or};
+ghost use Rattle.lh_types.specs.Types.{bit_count};
+ghost use Rattle.lh_unit.specs.Design.{carried_type, signal_ranges, top_signals};
+ghost use Rattle.lh_unit.specs.Arena.{unit_count, unit_text_at};
 ghost use Rattle.lh_unit.specs.Within.{Each};
-ghost use Rattle.lh_elab.specs.Plans.{signal_of, low_at, SignalFits, IsPlan};
-ghost use Rattle.lh_elab.specs.Builds.{Stands, Keeps, with_signals, room_of, kids};
+ghost use Rattle.lh_elab.specs.Statics as statics;
+ghost use Rattle.lh_elab.specs.Statics.{no_range};
+ghost use Rattle.lh_elab.specs.Plans as plans;
+ghost use Rattle.lh_elab.specs.Plans.{signal_of, SignalFits};
+ghost use Rattle.lh_elab.specs.Builds.{room_of, IsNew, IsStarted, AddsSignals, KeepsRest, KeepsBuilt, LowsFit, AreLow, ranges_by, kids, Visits};
+ghost use Rattle.lh_elab.specs.declared.plan.PlanChild.{PlanChild as Child};
 
-use crate::ElabFault;
 use crate::design::{Design, Signal};
 use crate::graph::width_of;
+use crate::measure::MAX_NESTING;
 use crate::plan::{Low, Plan, PlanChild, PlanSignal};
 use crate::statics::Base;
 use lh_eval::instance::Instance;
 use lh_types::bits::Bits;
 use lh_types::list::ListOf;
 use lh_types::part::{Range, RangeList};
-use lh_types::ty::{NoMemory, Ty};
+use lh_types::ty::{NoMemory, Ty, TyKind};
 use lh_unit::inst::{Arg, UnitId};
 use lh_unit::module::Module;
 use lh_unit::name::Name;
@@ -61,7 +64,6 @@ impl Building {
     /// A top unit is to be visited; its own arguments are the first signals, with all bits 0.
     pub fn started(alloc: Global, m: &Module, top: UnitId, bits: u32) -> Result<Building, NoMemory>
         requires unit { top.0 < unit_count m.now }
-        requires ports { Each IsPort (unit_text_at m.now top.0).args }
         requires room { room_of (top_signals (unit_text_at m.now top.0).args) ≤ bits }
         ensures { IfOk result (λ b. IsStarted m.now top bits b) }
     {
@@ -79,7 +81,6 @@ impl Building {
     /// Adds the arguments of a top unit as signals.
     fn put_args(&mut self, alloc: Global, m: &Module, top: UnitId) -> Result<RangeList, NoMemory>
         requires unit { top.0 < unit_count m.now }
-        requires ports { Each IsPort (unit_text_at m.now top.0).args }
         requires room { self.old.lo + room_of (top_signals (unit_text_at m.now top.0).args) ≤ length self.old.init }
         ensures signals { OnOk result (AddsSignals self.old self.new 0 (top_signals (unit_text_at m.now top.0).args)) }
         ensures rest { KeepsRest self.old self.new }
@@ -87,11 +88,10 @@ impl Building {
     {
         let mut ranges = ListOf::new(alloc);
         for arg in m.args(top) {
-            let TyKind::Signal(ty) = arg.ty.kind() else {
-                unreachable!()
-            };
-            let initial = Bits::zeros(alloc, bits(ty))?;
-            ranges.push(self.put_signal(0, m.value_name(top, arg.value), ty, &initial)?)?;
+            let ty = carried(&arg.ty)?;
+            let initial = Bits::zeros(alloc, width_of(&ty))?;
+            let range = self.put_signal(0, m.value_name(top, arg.value), &ty, &initial)?;
+            ranges.push(range)?;
         }
         Ok(ranges)
     }
@@ -111,7 +111,8 @@ impl Building {
     {
         let mut ranges = ListOf::new(alloc);
         for signal in signals {
-            ranges.push(self.put_signal(instance, &signal.name, &signal.ty, &signal.initial)?)?;
+            let range = self.put_signal(instance, &signal.name, &signal.ty, &signal.initial)?;
+            ranges.push(range)?;
         }
         Ok(ranges)
     }
@@ -130,6 +131,7 @@ impl Building {
         ensures rest { KeepsRest self.old self.new }
         ensures range { IfOk result (λ r. r ≡ record { lo = self.old.lo; len = bit_count ty.now }) }
     {
+        few_bits(&self.init);
         let range = Range {
             lo: self.lo,
             len: initial.len(),
@@ -148,19 +150,33 @@ impl Building {
 
     /// Visits an instance of a unit with this plan: it takes the next number, its signals come above those so far, and the
     /// instances in it are visited next, before all others.
-    pub fn visit(&mut self, alloc: Global, m: &Module, plan: &Plan, next: Pending) -> Result<(), NoMemory>
+    pub fn visit(
+        &mut self,
+        alloc: Global,
+        m: &Module,
+        plan: &Plan,
+        next: Pending,
+    ) -> Result<(), NoMemory>
         requires few { length self.old.instances.items < 65536 }
         requires fit { Each SignalFits plan.now.signals.items }
         requires room { self.old.lo + room_of (map signal_of plan.now.signals.items) ≤ length self.old.init }
         requires within { Each (λ (c : Child). c.unit.0 < unit_count m.now) plan.now.children.items }
-        requires lows { Each (λ (c : Child). LowsFit m.now next.args (signal_ranges self.old.lo (map signal_of plan.now.signals.items)) c) plan.now.children.items }
+        requires lows { Each (LowsFit m.now next.args (signal_ranges self.old.lo (map signal_of plan.now.signals.items))) plan.now.children.items }
         ensures { OnOk result (Visits m.now self.old self.new next plan.now) }
     {
         let number = self.instances.len() as u32;
         let sigs = self.put_signals(alloc, number, plan.signals.as_slice())?;
         if next.room > 0 {
             let (args, sigs) = (next.args.as_slice(), sigs.as_slice());
-            self.put_children(alloc, m, plan.children.as_slice(), number, next.room - 1, args, sigs)?;
+            self.put_children(
+                alloc,
+                m,
+                plan.children.as_slice(),
+                number,
+                next.room - 1,
+                args,
+                sigs,
+            )?;
         }
         self.put_instance(Instance {
             unit: next.unit,
@@ -223,8 +239,8 @@ impl Building {
 
     /// The design, where all is built.
     pub fn finish(self) -> Design
-        ensures instances { result.instances ≡ self.instances }
-        ensures signals { result.signals ≡ self.signals }
+        ensures instances { result.instances.items ≡ self.instances.items }
+        ensures signals { result.signals.items ≡ self.signals.items }
         ensures init { result.init ≡ self.init }
     {
         let Building {
@@ -240,6 +256,23 @@ impl Building {
             init,
         }
     }
+}
+
+/// The type that a signal of this type carries.
+fn carried(ty: &Ty) -> Result<Ty, NoMemory>
+    ensures { IfOk result (λ t. t ≡ carried_type ty.now) }
+{
+    match ty.kind() {
+        TyKind::Signal(of) => of.copy(),
+        _ => ty.copy(),
+    }
+}
+
+/// There are fewer than 2 ^ 32 bits.
+fn few_bits(bits: &Bits)
+    ensures { length bits.now < 2 ^ 32 }
+{
+    let _len = bits.len();
 }
 
 fn push_signal(signals: &mut Vec<Signal>, signal: Signal) -> Result<(), NoMemory>
@@ -260,23 +293,35 @@ fn child_args(
     sigs: &[Range],
 ) -> Result<RangeList, NoMemory>
     requires { AreLow (length params.now) lows.now args.now sigs.now }
-    ensures { IfOk result (λ rs. rs ≡ ranges_by params.now (map (low_at args.now sigs.now) lows.now)) }
+    ensures { IfOk result (λ rs. rs ≡ ranges_by params.now (map (plans.low_at args.now sigs.now) lows.now)) }
 {
     let mut ranges = ListOf::new(alloc);
     for (i, param) in params.iter().enumerate() {
-        let lo = if i < lows.len() { low_of(lows[i], args, sigs) } else { 0 };
-        ranges.push(Range {
-            lo,
+        let range = Range {
+            lo: low_at(lows, i, args, sigs),
             len: width_of(&param.ty),
-        })?;
+        };
+        ranges.push(range)?;
     }
     Ok(ranges)
 }
 
+/// The lowest bit of the part of this number in an instance whose arguments and signals have these bits; 0 where there is none.
+fn low_at(lows: &[Option<Low>], i: usize, args: &[Range], sigs: &[Range]) -> u32
+    requires { plans.low_at args.now sigs.now (slice_index_or lows.now i None) < 2 ^ 32 }
+    ensures { result ≡ plans.low_at args.now sigs.now (slice_index_or lows.now i None) }
+{
+    if i < lows.len() {
+        low_of(lows[i], args, sigs)
+    } else {
+        0
+    }
+}
+
 /// The lowest bit of a part in an instance whose arguments and signals have these bits.
 fn low_of(low: Option<Low>, args: &[Range], sigs: &[Range]) -> u32
-    requires { low_at args.now sigs.now low < 2 ^ 32 }
-    ensures { result ≡ low_at args.now sigs.now low }
+    requires { plans.low_at args.now sigs.now low < 2 ^ 32 }
+    ensures { result ≡ plans.low_at args.now sigs.now low }
 {
     match low {
         Some(low) => base_lo(low.base, args, sigs) + low.offset,

@@ -1,14 +1,22 @@
-//! Elaboration: the first reason why a top unit has no design, and how many bits its design has where there is none.
+//! Elaboration: the design of a top unit, or the first reason why it has none.
 #![tactic(auto)]
 
+mod build;
+mod design;
+mod elaborate;
 mod fault;
 mod graph;
 mod measure;
+mod plan;
 mod refusal;
 mod search;
+mod statics;
 
+pub use crate::design::{Design, Signal};
+pub use crate::elaborate::elab;
 pub use crate::fault::ElabFault;
 pub use crate::refusal::first_refusal;
+pub use lh_eval::instance::Instance;
 
 #[cfg(test)]
 mod tests;

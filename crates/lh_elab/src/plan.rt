@@ -1,22 +1,24 @@
 //! What elaboration reads of a unit, once for all its instances.
-ghost use Rattle.std.specs.Prelude.{◌≡◌, ◌<◌, ◌++◌, ◌∷◌, [], List, length, map, Some, IfSome, IfOk, OnOk};
+ghost use Rattle.std.specs.Prelude.{◌≡◌, ℕ, ◌<◌, ◌++◌, ◌∷◌, [], List, length, map, Some, IfSome, IfOk, OnOk};
 ghost use Rattle.std.specs.Option.{option_map_or};
 ghost use Rattle.lh_types.specs.Fits.{FitsData};
 ghost use Rattle.lh_types.specs.Bits.{value_bits};
 ghost use Rattle.lh_types.specs.declared.part.Range.{Range as Part};
-ghost use Rattle.lh_unit.specs.Arena.{IsArena, unit_count, value_count, inst_count, inst_at, result_at, kind_at, naming, table_at, unit_text_at, block_insts_at, contents};
+ghost use Rattle.lh_unit.specs.Arena.{Arena, IsArena, unit_count, value_count, inst_count, kind_at, naming, table_at, unit_text_at, block_insts_at, contents};
 ghost use Rattle.lh_unit.specs.ById.{inst_line};
 ghost use Rattle.lh_unit.specs.Held.{Env};
-ghost use Rattle.lh_unit.specs.Hierarchy.{static_held, signals_of, children_of, type_or_void, zeros};
-ghost use Rattle.lh_unit.specs.Naming.{maybe_text, operand_text};
+ghost use Rattle.lh_unit.specs.Hierarchy.{static_held, signal_if, signals_of, child_if, children_of, type_or_void, zeros};
+ghost use Rattle.lh_unit.specs.Naming.{maybe_text, inst_text, operand_text};
 ghost use Rattle.lh_unit.specs.WellFormed.{IsWellFormed};
 ghost use Rattle.lh_unit.specs.Within.{Each};
 ghost use Rattle.lh_unit.specs.declared.inst.InstId.{InstId as Id};
 ghost use Rattle.lh_unit.specs.declared.inst.Typed.{Typed as Operand};
 ghost use Rattle.lh_eval.specs.Holding as holding;
 ghost use Rattle.lh_eval.specs.Holding.{Holds};
-ghost use Rattle.lh_elab.specs.Statics.{by_of, HasSlots, Follows};
-ghost use Rattle.lh_elab.specs.Plans.{signal_of, signal_by, child_of, low_by, lows_by, AreOf, IsPlan, SignalFits, SignalIs, SignalLine};
+ghost use Rattle.lh_eval.specs.Sound.{IsSound};
+ghost use Rattle.lh_sound.specs.Units.{WritesData};
+ghost use Rattle.lh_elab.specs.Statics.{by_of, HasSlots, Follows, FitsSomething};
+ghost use Rattle.lh_elab.specs.Plans.{signal_of, signal_by, child_of, low_by, lows_by, AreOf, IsPlan, SignalFits, SignalIs, SignalLine, ChildLine, ChildWithin, ChildSmall, PartsSmall};
 ghost use Rattle.lh_elab.specs.declared.plan.PlanChild.{PlanChild as Child};
 
 use crate::graph::width;
@@ -83,7 +85,7 @@ fn entity_plan(alloc: Global, m: &Module, unit: UnitId) -> Result<Plan, NoMemory
     let insts = m.insts(unit, BlockId(0));
     let mut plan = Plan::new(alloc);
     let values = values(alloc, m, unit, insts)?;
-    plan.put_signals(alloc, m, unit, insts, &values.slots)?;
+    plan.put_signals(alloc, m, unit, insts, &values)?;
     let parts = parts(alloc, m, unit, insts)?;
     plan.put_children(alloc, m, unit, insts, &parts)?;
     Ok(plan)
@@ -96,7 +98,8 @@ fn values(alloc: Global, m: &Module, unit: UnitId, insts: &[InstId]) -> Result<S
     requires arena { IsArena m.now }
     requires formed { IsWellFormed (contents m.now) }
     requires insts { insts.now ≡ block_insts_at m.now unit.0 0 }
-    ensures { IfOk result (λ s. Holds m.now unit.0 s.slots (static_held (unit_text_at m.now unit.0) [] [])) }
+    ensures fit { IfOk result (FitsSomething m.now unit.0) }
+    ensures holds { IfOk result (λ s. Holds m.now unit.0 s.slots (static_held (unit_text_at m.now unit.0) [] [])) }
 {
     let mut statics = Statics::new(alloc, m, unit)?;
     statics.run(alloc, m, unit, insts)?;
@@ -110,7 +113,10 @@ fn parts(alloc: Global, m: &Module, unit: UnitId, insts: &[InstId]) -> Result<St
     requires arena { IsArena m.now }
     requires formed { IsWellFormed (contents m.now) }
     requires insts { insts.now ≡ block_insts_at m.now unit.0 0 }
-    ensures { (args sigs : List Part) → AreOf (unit_text_at m.now unit.0) args sigs → IfOk result (λ s. Follows m.now unit.0 args sigs (by_of s) (static_held (unit_text_at m.now unit.0) args sigs)) }
+    ensures slots { IfOk result HasSlots }
+    ensures long { IfOk result (λ s. length s.slots ≡ value_count m.now unit.0) }
+    ensures small { IfOk result PartsSmall }
+    ensures follows { (args sigs : List Part) → AreOf (unit_text_at m.now unit.0) args sigs → IfOk result (λ s. Follows m.now unit.0 args sigs (by_of s) (static_held (unit_text_at m.now unit.0) args sigs)) }
 {
     let mut statics = Statics::new(alloc, m, unit)?;
     statics.hold_args(m.args(unit));
@@ -138,22 +144,54 @@ impl Plan {
         m: &Module,
         unit: UnitId,
         insts: &[InstId],
-        slots: &Slots,
+        values: &Statics,
     ) -> Result<(), NoMemory>
+        requires arena { IsArena m.now }
         requires unit { unit.0 < unit_count m.now }
         requires insts { Each (λ (i : Id). i.0 < inst_count m.now unit.0) insts.now }
-        requires lines { Each (λ (i : Id). SignalLine m.now unit.0 slots.now (result_at m.now unit.0 i.0) (inst_at m.now unit.0 i.0)) insts.now }
-        ensures signals { (e : Env) → Holds m.now unit.0 slots.now e → OnOk result (map signal_of self.new.signals.items ≡ map signal_of self.old.signals.items ++ signals_of e (map (inst_line (naming m.now unit.0) (table_at m.now unit.0)) insts.now)) }
+        requires sound { Each (λ (i : Id). IsSound (unit_text_at m.now unit.0) (inst_line (naming m.now unit.0) (table_at m.now unit.0) i)) insts.now }
+        requires writes { Each (λ (i : Id). WritesData (inst_line (naming m.now unit.0) (table_at m.now unit.0) i)) insts.now }
+        requires fit { FitsSomething m.now unit.0 values.now }
+        ensures signals { (e : Env) → Holds m.now unit.0 values.now.slots e → OnOk result (map signal_of self.new.signals.items ≡ map signal_of self.old.signals.items ++ signals_of e (map (inst_line (naming m.now unit.0) (table_at m.now unit.0)) insts.now)) }
         ensures fit { Each SignalFits self.old.signals.items → OnOk result (Each SignalFits self.new.signals.items) }
         ensures children { self.new.children.items ≡ self.old.children.items }
     {
         for inst in insts {
-            if let Inst::Sig(initial) = m.inst(unit, *inst) {
-                let signal = signal(alloc, m, unit, m.result_of(unit, *inst), initial, slots)?;
-                self.push_signal(signal)?;
-            }
+            self.put_if_signal(
+                alloc,
+                m,
+                unit,
+                m.result_of(unit, *inst),
+                m.inst(unit, *inst),
+                &values.slots,
+            )?;
         }
         Ok(())
+    }
+
+    /// Adds the signal of an instruction whose result has this name, if it is a `sig`.
+    fn put_if_signal(
+        &mut self,
+        alloc: Global,
+        m: &Module,
+        unit: UnitId,
+        name: Option<ValueId>,
+        inst: &Inst,
+        slots: &Slots,
+    ) -> Result<(), NoMemory>
+        requires unit { unit.0 < unit_count m.now }
+        requires line { SignalLine m.now unit.0 slots.now name inst.now }
+        ensures signals { (e : Env) → Holds m.now unit.0 slots.now e → OnOk result (map signal_of self.new.signals.items ≡ map signal_of self.old.signals.items ++ signal_if e (inst_text (naming m.now unit.0) inst.now) (maybe_text (naming m.now unit.0) name) []) }
+        ensures fit { Each SignalFits self.old.signals.items → OnOk result (Each SignalFits self.new.signals.items) }
+        ensures children { self.new.children.items ≡ self.old.children.items }
+    {
+        match inst {
+            Inst::Sig(initial) => {
+                let signal = signal(alloc, m, unit, name, initial, slots)?;
+                self.push_signal(signal)
+            }
+            _ => Ok(()),
+        }
     }
 
     fn push_signal(&mut self, signal: PlanSignal) -> Result<(), NoMemory>
@@ -179,17 +217,42 @@ impl Plan {
         requires insts { Each (λ (i : Id). i.0 < inst_count m.now unit.0) insts.now }
         requires long { length statics.now.slots ≡ value_count m.now unit.0 }
         requires slots { HasSlots statics.now }
+        ensures small { Each ChildSmall self.old.children.items → PartsSmall statics.now → OnOk result (Each ChildSmall self.new.children.items) }
         ensures children { (args sigs : List Part) (e : Env) → Follows m.now unit.0 args sigs (by_of statics.now) e → OnOk result (map (child_of m.now args sigs) self.new.children.items ≡ map (child_of m.now args sigs) self.old.children.items ++ children_of e (map (inst_line (naming m.now unit.0) (table_at m.now unit.0)) insts.now)) }
         ensures within { Each (λ (c : Child). c.unit.0 < unit_count m.now) self.old.children.items → OnOk result (Each (λ (c : Child). c.unit.0 < unit_count m.now) self.new.children.items) }
         ensures signals { self.new.signals.items ≡ self.old.signals.items }
     {
         for inst in insts {
-            if let Inst::Child { unit: target, inputs, outputs } = m.inst(unit, *inst) {
-                let child = child(alloc, *target, inputs.as_slice(), outputs.as_slice(), statics)?;
-                self.push_child(child)?;
-            }
+            self.put_if_child(alloc, m.inst(unit, *inst), statics)?;
         }
         Ok(())
+    }
+
+    /// Adds the instance of an instruction, if it is an `inst`.
+    fn put_if_child(
+        &mut self,
+        alloc: Global,
+        inst: &Inst,
+        statics: &Statics,
+    ) -> Result<(), NoMemory>
+        requires slots { HasSlots statics.now }
+        requires operands { ChildLine (length statics.now.slots) inst.now }
+        ensures children { (a : Arena) (u : ℕ) (args sigs : List Part) (e : Env) → Follows a u args sigs (by_of statics.now) e → OnOk result (map (child_of a args sigs) self.new.children.items ≡ map (child_of a args sigs) self.old.children.items ++ child_if e (inst_text (naming a u) inst.now) []) }
+        ensures small { Each ChildSmall self.old.children.items → PartsSmall statics.now → OnOk result (Each ChildSmall self.new.children.items) }
+        ensures within { (n : ℕ) → ChildWithin n inst.now → Each (λ (c : Child). c.unit.0 < n) self.old.children.items → OnOk result (Each (λ (c : Child). c.unit.0 < n) self.new.children.items) }
+        ensures signals { self.new.signals.items ≡ self.old.signals.items }
+    {
+        match inst {
+            Inst::Child {
+                unit,
+                inputs,
+                outputs,
+            } => {
+                let child = child(alloc, *unit, inputs.as_slice(), outputs.as_slice(), statics)?;
+                self.push_child(child)
+            }
+            _ => Ok(()),
+        }
     }
 
     fn push_child(&mut self, child: PlanChild) -> Result<(), NoMemory>
@@ -259,19 +322,23 @@ fn child(
     Ok(PlanChild { unit, lows })
 }
 
-fn put_lows(lows: &mut Vec<Option<Low>>, operands: &[Typed], statics: &Statics) -> Result<(), NoMemory>
+fn put_lows(
+    lows: &mut Vec<Option<Low>>,
+    operands: &[Typed],
+    statics: &Statics,
+) -> Result<(), NoMemory>
     requires operands { Each (λ (o : Operand). o.value.0 < length statics.now.slots) operands.now }
     requires slots { HasSlots statics.now }
     ensures { OnOk result (lows.new.items ≡ lows.old.items ++ lows_by statics.now operands.now) }
 {
     for operand in operands {
-        push_low(lows, low(statics, operand.value))?;
+        push_low(lows, low_in(statics, operand.value))?;
     }
     Ok(())
 }
 
 /// Where the part lies that is held by a value, if one is.
-fn low(statics: &Statics, value: ValueId) -> Option<Low>
+fn low_in(statics: &Statics, value: ValueId) -> Option<Low>
     requires value { value.0 < length statics.now.slots }
     requires slots { HasSlots statics.now }
     ensures { result ≡ low_by statics.now value }

@@ -20,6 +20,7 @@ ghost use Rattle.lh_eval.specs.Holding.{MaybeIn};
 ghost use Rattle.lh_eval.specs.Sound.{IsSound};
 ghost use Rattle.lh_elab.specs.Statics.{by_of, held_by, given_by, args_begun, sigs_begun, HasSlots, Follows, FitsSomething, base_of};
 
+use crate::graph::{width, width_of};
 use lh_eval::held::{Held, Slots};
 use lh_eval::operate::operate;
 use lh_types::part::Range;
@@ -27,8 +28,6 @@ use lh_types::ty::NoMemory;
 use lh_unit::inst::{Arg, Inst, InstId, Typed, UnitId, ValueId};
 use lh_unit::module::Module;
 use std::alloc::Global;
-
-use crate::graph::{width, width_of};
 
 /// Of what a part is a part: of the argument, or of the `sig` instruction, of this number.
 #[derive(Clone, Copy)]
@@ -62,7 +61,9 @@ impl Statics {
     fn hold(&mut self, value: ValueId, base: Base, held: Held)
         requires slots { HasSlots self.old }
         requires value { value.0 < length self.old.slots }
-        ensures { by_of self.new ≡ held_by (by_of self.old) value base (held_of held) }
+        ensures by { by_of self.new ≡ held_by (by_of self.old) value base (held_of held) }
+        ensures slots { HasSlots self.new }
+        ensures long { length self.new.slots ≡ length self.old.slots }
     {
         self.slots.set(value, held);
         self.bases[value.0 as usize] = base;
@@ -72,7 +73,9 @@ impl Statics {
     fn give(&mut self, name: Option<ValueId>, base: Base, held: Option<Held>)
         requires slots { HasSlots self.old }
         requires name { MaybeIn self.old.slots name }
-        ensures { by_of self.new ≡ given_by (by_of self.old) name base (maybe_held held) }
+        ensures by { by_of self.new ≡ given_by (by_of self.old) name base (maybe_held held) }
+        ensures slots { HasSlots self.new }
+        ensures long { length self.new.slots ≡ length self.old.slots }
     {
         if let (Some(value), Some(held)) = (name, held) {
             self.hold(value, base, held);
@@ -83,7 +86,9 @@ impl Statics {
     pub fn hold_args(&mut self, args: &[Arg])
         requires slots { HasSlots self.old }
         requires args { ArgsWithin (length self.old.slots) args.now }
-        ensures { by_of self.new ≡ args_begun 0 args.now (by_of self.old) }
+        ensures by { by_of self.new ≡ args_begun 0 args.now (by_of self.old) }
+        ensures slots { HasSlots self.new }
+        ensures long { length self.new.slots ≡ length self.old.slots }
     {
         for (i, arg) in args.iter().enumerate() {
             let part = Range {
@@ -100,7 +105,9 @@ impl Statics {
         requires unit { unit.0 < unit_count m.now }
         requires long { length self.old.slots ≡ value_count m.now unit.0 }
         requires insts { Each (λ (i : Id). i.0 < inst_count m.now unit.0) insts.now }
-        ensures { by_of self.new ≡ sigs_begun (table_at m.now unit.0) 0 insts.now (by_of self.old) }
+        ensures by { by_of self.new ≡ sigs_begun (table_at m.now unit.0) 0 insts.now (by_of self.old) }
+        ensures slots { HasSlots self.new }
+        ensures long { length self.new.slots ≡ length self.old.slots }
     {
         let mut k: usize = 0;
         for inst in insts {
@@ -111,7 +118,11 @@ impl Statics {
                 lo: 0,
                 len: width(&initial.ty),
             };
-            self.give(m.result_of(unit, *inst), Base::Sig(k), Some(Held::Part(part)));
+            self.give(
+                m.result_of(unit, *inst),
+                Base::Sig(k),
+                Some(Held::Part(part)),
+            );
             k += 1;
         }
     }
@@ -119,17 +130,31 @@ impl Statics {
 
 impl Statics {
     /// Holds what the constants and operations of these instructions give, one after the other.
-    pub fn run(&mut self, alloc: Global, m: &Module, unit: UnitId, insts: &[InstId]) -> Result<(), NoMemory>
+    pub fn run(
+        &mut self,
+        alloc: Global,
+        m: &Module,
+        unit: UnitId,
+        insts: &[InstId],
+    ) -> Result<(), NoMemory>
         requires arena { IsArena m.now }
         requires unit { unit.0 < unit_count m.now }
         requires insts { Each (λ (i : Id). i.0 < inst_count m.now unit.0) insts.now }
         requires sound { Each (λ (i : Id). IsSound (unit_text_at m.now unit.0) (inst_line (naming m.now unit.0) (table_at m.now unit.0) i)) insts.now }
         requires slots { HasSlots self.old }
         requires fit { FitsSomething m.now unit.0 self.old }
-        ensures { (args sigs : List Part) (e : Env) → Follows m.now unit.0 args sigs (by_of self.old) e → OnOk result (Follows m.now unit.0 args sigs (by_of self.new) (static_from (unit_text_at m.now unit.0) e (map (inst_line (naming m.now unit.0) (table_at m.now unit.0)) insts.now))) }
+        ensures slots { HasSlots self.new }
+        ensures fit { OnOk result (FitsSomething m.now unit.0 self.new) }
+        ensures follows { (args sigs : List Part) (e : Env) → Follows m.now unit.0 args sigs (by_of self.old) e → OnOk result (Follows m.now unit.0 args sigs (by_of self.new) (static_from (unit_text_at m.now unit.0) e (map (inst_line (naming m.now unit.0) (table_at m.now unit.0)) insts.now))) }
     {
         for inst in insts {
-            self.run_inst(alloc, m, unit, m.inst(unit, *inst), m.result_of(unit, *inst))?;
+            self.run_inst(
+                alloc,
+                m,
+                unit,
+                m.inst(unit, *inst),
+                m.result_of(unit, *inst),
+            )?;
         }
         Ok(())
     }
@@ -150,7 +175,8 @@ impl Statics {
         requires sound { IsSound (unit_text_at m.now unit.0) (record { result = maybe_text (naming m.now unit.0) name; inst = inst_text (naming m.now unit.0) inst.now }) }
         requires slots { HasSlots self.old }
         requires fit { FitsSomething m.now unit.0 self.old }
-        ensures { (args sigs : List Part) (e : Env) → Follows m.now unit.0 args sigs (by_of self.old) e → OnOk result (Follows m.now unit.0 args sigs (by_of self.new) (if_held e (maybe_text (naming m.now unit.0) name) (static_of (unit_text_at m.now unit.0) e (inst_text (naming m.now unit.0) inst.now)))) }
+        ensures slots { HasSlots self.new }
+        ensures follows { (args sigs : List Part) (e : Env) → Follows m.now unit.0 args sigs (by_of self.old) e → OnOk result (Follows m.now unit.0 args sigs (by_of self.new) (if_held e (maybe_text (naming m.now unit.0) name) (static_of (unit_text_at m.now unit.0) e (inst_text (naming m.now unit.0) inst.now)))) }
     {
         match inst {
             Inst::Const(value) => {
@@ -159,8 +185,9 @@ impl Statics {
                 Ok(())
             }
             Inst::Pure { op, args } => {
-                let held = operate(alloc, m, unit, op, args.as_slice(), &self.slots)?;
-                let base = self.base_of(args.as_slice());
+                let operands = args.as_slice();
+                let held = operate(alloc, m, unit, op, operands, &self.slots)?;
+                let base = self.base_of(operands);
                 self.give(name, base, held);
                 Ok(())
             }

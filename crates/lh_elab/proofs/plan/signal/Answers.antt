@@ -1,0 +1,5 @@
+use Rattle.lh_elab.proofs.PlanSteps.{signal-fits}
+use Rattle.lh_elab.proofs.plan.signal.Goals as goal
+
+pub returns-clause-fit : goal.returns-clause-fit
+returns-clause-fit c = signal-fits c.args.m.now c.args.unit.0 c.args.slots.now c.args.name c.in-Some-Some.value c.args.initial.now c.in-Some-Some.ty c.in_ok-copy-2.field-0 c.in_ok-initial_bits.field-0 c.in-Some-Some.is-0 c.in-Some-Some.is-1 c.requires.line c.in_ok-copy-2.ensures c.in_ok-initial_bits.ensures
