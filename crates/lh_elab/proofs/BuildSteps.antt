@@ -10,7 +10,7 @@ use Rattle.lh_unit.specs.Hierarchy.{SignalText, zeros}
 use Rattle.lh_unit.specs.Design as design
 use Rattle.lh_unit.specs.Design.{carried_type, numbered, initial_bits, signal_ranges, top_signals}
 use Rattle.lh_unit.specs.Within.{Each}
-use Rattle.lh_elab.specs.declared.design.Signal.{Signal}
+use Rattle.lh_design.specs.declared.Signal.{Signal}
 use Rattle.lh_elab.specs.declared.build.Building.{Building}
 use Rattle.lh_elab.specs.declared.build.Pending.{Pending}
 use Rattle.lh_elab.specs.declared.plan.PlanSignal.{PlanSignal}

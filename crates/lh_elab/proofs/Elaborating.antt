@@ -23,11 +23,13 @@ use Rattle.lh_sound.specs.Units.{IsPort, HasPorts}
 use Rattle.lh_elab.specs.declared.fault.ElabFault.{ElabFault}
 use Rattle.lh_elab.specs.declared.fault.ElabFault.TheVariants as fault
 use Rattle.lh_elab.specs.declared.build.Building.{Building}
-use Rattle.lh_elab.specs.declared.design.Design as code
+use Rattle.lh_design.specs.declared.Design as code
 use Rattle.lh_elab.specs.Plans.{AreWide}
 use Rattle.lh_elab.specs.Refusals.{refusal_text, refusal_at, bits_at, Refuses}
 use Rattle.lh_elab.specs.Builds.{signal_text, instance_text, design_text, room_of, IsStarted}
-use Rattle.lh_elab.specs.Elaborates.{RefusedFor, Elaborates, FillFrom}
+use Rattle.lh_design.specs.Filling.{FillFrom, SignalsFill}
+use Rattle.lh_design.specs.declared.Signal.{Signal}
+use Rattle.lh_elab.specs.Elaborates.{RefusedFor, Elaborates, TextsFill}
 use Rattle.lh_elab.proofs.Names.{hierarchy-by_id}
 use Rattle.lh_elab.proofs.Refusing.{refuses-function}
 use Rattle.lh_elab.proofs.Numbering.{room-cons}
@@ -168,7 +170,7 @@ module _ (a : Arena) (top : UnitId) (o : IsArena a) (l : top.0 < unit_count a) (
         count = omega (arith, one, none, limits.instances_kept);
         room = omega (arith, two, room, s.lo, s.long);
         few = omega (arith, few, s.long);
-        fill = subst (λ ys. FillFrom 0 ys b.lo) (sym s.signals) (subst (FillFrom 0 (numbered 0 0 (top_signals xs))) (zero-more (room_of (top_signals xs)) ∙ sym s.lo) (fill-numbered 0 0 (top_signals xs) (top-data xs ports)));
+        fill = subst (λ ys. TextsFill 0 ys b.lo) (sym s.signals) (subst (TextsFill 0 (numbered 0 0 (top_signals xs))) (zero-more (room_of (top_signals xs)) ∙ sym s.lo) (fill-numbered 0 0 (top_signals xs) (top-data xs ports)));
         pending = subst (Each (PendingFits a)) (sym s.pending) (record { unit = l; room = omega arith; wide = top-wide 0 xs ports; low = top-low bits (signal_ranges 0 (top_signals xs)) few (low-all (signal_ranges 0 (top_signals xs)) (ranges-below 0 (top_signals xs))) }, tt);
       }
     where
@@ -179,11 +181,16 @@ module _ (a : Arena) (top : UnitId) (o : IsArena a) (l : top.0 < unit_count a) (
       low-all [] e = tt
       low-all (x ∷ ys) e = (omega (arith, e.0, top-fits), low-all ys e.1)
 
+-- what their texts fill, signals fill
+fill-by : (lo : ℕ) (ss : List Signal) (hi : ℕ) → TextsFill lo (map signal_text ss) hi → FillFrom lo ss hi
+fill-by lo [] hi f = f
+fill-by lo (s ∷ more) hi f = (f.0, f.1, fill-by (lo + bit_count s.ty) more hi f.2)
+
 -- nothing is pending
 pub record Ends (a : Arena) (top : ℕ) (b : Building) (d : code.Design) : Type 0 where
   pub is : design_text a d ≡ final a top
   pub few : length d.instances.items ≤ 65536
-  pub fill : FillFrom 0 (map signal_text d.signals.items) (length d.init)
+  pub fill : SignalsFill d
 
 pub ends : (a : Arena) (top : ℕ) (b : Building) (d : code.Design) → Underway a (hierarchies (contents a)) (final a top) b → b.pending.items ≡ [] → d.instances.items ≡ b.instances.items → d.signals.items ≡ b.signals.items → d.init ≡ b.init → Ends a top b d
 ends a top b d w e i s z =
@@ -198,7 +205,7 @@ ends a top b d w e i s z =
     record {
       is = same ∙ goes;
       few = omega (arith, w.count, many);
-      fill = subst (FillFrom 0 (map signal_text d.signals.items)) (lo ∙ sym long) (subst (λ ys. FillFrom 0 (map signal_text ys) b.lo) (sym s) w.fill);
+      fill = fill-by 0 d.signals.items (length d.init) (subst (TextsFill 0 (map signal_text d.signals.items)) (lo ∙ sym long) (subst (λ ys. TextsFill 0 (map signal_text ys) b.lo) (sym s) w.fill));
     }
 
 -- it is the design of the definition

@@ -32,7 +32,7 @@ use Rattle.lh_elab.specs.declared.build.Pending.{Pending}
 use Rattle.lh_elab.specs.Statics.{base_lo, no_range}
 use Rattle.lh_elab.specs.Plans.{signal_of, child_of, low_at, LowSmall, ChildSmall, SignalFits, AreWide, AreOf, IsPlan}
 use Rattle.lh_elab.specs.Builds.{instance_text, signal_text, room_of, ranges_by, kid, kids, kids_in, AreLow, LowsFit, IsStarted, AddsSignals, Visits}
-use Rattle.lh_elab.specs.Elaborates.{FillFrom}
+use Rattle.lh_elab.specs.Elaborates.{TextsFill}
 use Rattle.lh_elab.proofs.Walks.{gone, unwound, unwound-append, ReadsArgs, kids-visited, left, left-append, kids-count}
 use Rattle.lh_elab.proofs.Numbering.{room-cons, initial-long}
 
@@ -77,7 +77,7 @@ pub record Underway (a : Arena) (table : List Entry) (to : Design) (b : Building
   pub count : length b.instances.items + left a (counts table) b.pending.items ≤ 65536
   pub room : b.lo + left a (bits_of table) b.pending.items ≡ length b.init
   pub few : length b.init ≤ 16777216
-  pub fill : FillFrom 0 (map signal_text b.signals.items) b.lo
+  pub fill : TextsFill 0 (map signal_text b.signals.items) b.lo
   pub pending : Each (PendingFits a) b.pending.items
 
 -- the next one is taken from what is pending
@@ -160,16 +160,16 @@ all-fit a n zero args sigs cs l h e f s = tt
 all-fit a n (suc k) args sigs cs l h e f s = kids-fit a n k args sigs cs l h e f s
 
 -- signals one after the other
-pub fill-append : (lo mid hi : ℕ) (xs ys : List design.Signal) → FillFrom lo xs mid → FillFrom mid ys hi → FillFrom lo (xs ++ ys) hi
-fill-append lo mid hi [] ys e f = subst (λ (n : ℕ). FillFrom n ys hi) (sym e) f
+pub fill-append : (lo mid hi : ℕ) (xs ys : List design.Signal) → TextsFill lo xs mid → TextsFill mid ys hi → TextsFill lo (xs ++ ys) hi
+fill-append lo mid hi [] ys e f = subst (λ (n : ℕ). TextsFill n ys hi) (sym e) f
 fill-append lo mid hi (x ∷ xs) ys e f = (e.0, e.1, fill-append (lo + bit_count x.ty) mid hi xs ys e.2 f)
 
-pub fill-numbered : (i lo : ℕ) (ss : List SignalText) → Each (λ (s : SignalText). IsData s.ty) ss → FillFrom lo (numbered i lo ss) (lo + room_of ss)
+pub fill-numbered : (i lo : ℕ) (ss : List SignalText) → Each (λ (s : SignalText). IsData s.ty) ss → TextsFill lo (numbered i lo ss) (lo + room_of ss)
 fill-numbered i lo [] e = omega arith
 fill-numbered i lo (s ∷ ss) e =
     let f = room-cons s ss in
     let g : (lo + bit_count s.ty) + room_of ss ≡ lo + room_of (s ∷ ss) = omega (arith, f) in
-    (refl, e.0, subst (FillFrom (lo + bit_count s.ty) (numbered i (lo + bit_count s.ty) ss)) g (fill-numbered i (lo + bit_count s.ty) ss e.1))
+    (refl, e.0, subst (TextsFill (lo + bit_count s.ty) (numbered i (lo + bit_count s.ty) ss)) g (fill-numbered i (lo + bit_count s.ty) ss e.1))
 
 signals-data : (ps : List PlanSignal) → Each SignalFits ps → Each (λ (s : SignalText). IsData s.ty) (map signal_of ps)
 signals-data [] e = tt
@@ -318,8 +318,8 @@ module _ (a : Arena) (table : List Entry) (to : Design) (reads : ReadsAll a tabl
               omega (arith, w.room, bits-next, left-of (bits_of table) (no-bits table), v.signals.lo, v.signals.long, x, y, q.lo);
           few = let y = ap length q.init in omega (arith, w.few, v.signals.long, y);
           fill =
-              let x : FillFrom 0 (map signal_text mid.signals.items) mid.lo = subst (λ (n : ℕ). FillFrom 0 (map signal_text mid.signals.items) n) (sym q.lo) (subst (λ xs. FillFrom 0 (map signal_text xs) old.lo) (sym q.signals) w.fill) in
+              let x : TextsFill 0 (map signal_text mid.signals.items) mid.lo = subst (λ (n : ℕ). TextsFill 0 (map signal_text mid.signals.items) n) (sym q.lo) (subst (λ xs. TextsFill 0 (map signal_text xs) old.lo) (sym q.signals) w.fill) in
               let y = fill-append 0 mid.lo (mid.lo + room_of ss) (map signal_text mid.signals.items) (numbered (length mid.instances.items) mid.lo ss) x (fill-numbered (length mid.instances.items) mid.lo ss (signals-data p.signals.items k.fit)) in
-              subst (λ xs. FillFrom 0 xs new.lo) (sym v.signals.signals) (subst (FillFrom 0 (map signal_text mid.signals.items ++ numbered (length mid.instances.items) mid.lo ss)) (sym v.signals.lo) y);
+              subst (λ xs. TextsFill 0 xs new.lo) (sym v.signals.signals) (subst (TextsFill 0 (map signal_text mid.signals.items ++ numbered (length mid.instances.items) mid.lo ss)) (sym v.signals.lo) y);
           pending = subst (Each (PendingFits a)) (sym v.pending) (Each-append (PendingFits a) mid.pending.items _ all-pending.0 (all-fit a (length mid.instances.items) next.room next.args sigs p.children.items k.within next-fits.room next-fits.low low-sigs k.small));
         }

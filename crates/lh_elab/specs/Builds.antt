@@ -11,24 +11,15 @@ use Rattle.lh_unit.specs.Design as design
 use Rattle.lh_unit.specs.Design.{numbered, initial_bits, signal_ranges, top_signals}
 use Rattle.lh_unit.specs.Within.{Each}
 use Rattle.lh_eval.specs.declared.instance.Instance.{Instance}
-use Rattle.lh_elab.specs.declared.design.Signal.{Signal}
-use Rattle.lh_elab.specs.declared.design.Design.{Design}
+use Rattle.lh_design.specs.declared.Signal.{Signal}
+use Rattle.lh_design.specs.declared.Design.{Design}
+pub use Rattle.lh_design.specs.Texts.{instance_text, signal_text, design_text}
 use Rattle.lh_elab.specs.declared.plan.Low.{Low}
 use Rattle.lh_elab.specs.declared.plan.Plan.{Plan}
 use Rattle.lh_elab.specs.declared.plan.PlanChild.{PlanChild}
 use Rattle.lh_elab.specs.declared.build.Building.{Building}
 use Rattle.lh_elab.specs.declared.build.Pending.{Pending}
 use Rattle.lh_elab.specs.Plans.{signal_of, low_at}
-
--- instances, signals and a design as the definitions have them, with names in place of ids
-abbrev pub instance_text : Arena → Instance → text.Instance
-instance_text a i = record { unit = unit_name_at a i.unit.0; parent = i.parent; args = i.args; sigs = i.sigs }
-
-abbrev pub signal_text : Signal → design.Signal
-signal_text s = record { instance = s.instance; name = s.name; ty = s.ty; lo = s.lo }
-
-abbrev pub design_text : Arena → Design → design.Design
-design_text a d = record { instances = map (instance_text a) d.instances.items; signals = map signal_text d.signals.items; init = d.init }
 
 -- how many bits signals have
 abbrev pub room_of : List SignalText → ℕ

@@ -4,9 +4,10 @@ use Rattle.lh_types.specs.Types.{IsData, bit_count}
 use Rattle.lh_unit.specs.Arena.{Arena, unit_count, unit_name_at, contents}
 use Rattle.lh_unit.specs.Design as design
 use Rattle.lh_unit.specs.Design.{Elaborated, refused, built, Refusal}
+pub use Rattle.lh_design.specs.Filling.{SignalsFill}
 use Rattle.lh_elab.specs.declared.fault.ElabFault.{ElabFault}
 use Rattle.lh_elab.specs.declared.fault.ElabFault.TheVariants as fault
-use Rattle.lh_elab.specs.declared.design.Design.{Design}
+use Rattle.lh_design.specs.declared.Design.{Design}
 use Rattle.lh_elab.specs.declared.plan.Plan.{Plan}
 use Rattle.lh_elab.specs.declared.elaborate.Plans.{Plans}
 use Rattle.lh_elab.specs.Refusals.{refusal_text}
@@ -29,10 +30,7 @@ pub record ArePlans (a : Arena) (p : Plans) : Type 0 where
   pub right : (u : ℕ) (x : Plan) → slice_index_or p.plans.items u None ≡ Some x → IsPlan a u x
 
 -- signals of data types stand one after the other, from one bit up to another
-abbrev pub FillFrom : (lo : ℕ) → List design.Signal → (hi : ℕ) → Type 0
-FillFrom lo [] hi = lo ≡ hi
-FillFrom lo (s ∷ more) hi = (s.lo ≡ lo) × IsData s.ty × FillFrom (lo + bit_count s.ty) more hi
+abbrev pub TextsFill : (lo : ℕ) → List design.Signal → (hi : ℕ) → Type 0
+TextsFill lo [] hi = lo ≡ hi
+TextsFill lo (s ∷ more) hi = (s.lo ≡ lo) × IsData s.ty × TextsFill (lo + bit_count s.ty) more hi
 
--- the signals fill the bits
-abbrev pub SignalsFill : Design → Type 0
-SignalsFill d = FillFrom 0 (map signal_text d.signals.items) (length d.init)

@@ -11,11 +11,11 @@ ghost use Rattle.lh_elab.specs.Plans.{signal_of, SignalFits};
 ghost use Rattle.lh_elab.specs.Builds.{room_of, IsNew, IsStarted, AddsSignals, KeepsRest, KeepsBuilt, LowsFit, AreLow, ranges_by, kids, Visits};
 ghost use Rattle.lh_elab.specs.declared.plan.PlanChild.{PlanChild as Child};
 
-use crate::design::{Design, Signal};
 use crate::graph::width_of;
 use crate::measure::MAX_NESTING;
 use crate::plan::{Low, Plan, PlanChild, PlanSignal};
 use crate::statics::Base;
+use lh_design::{Design, Signal};
 use lh_eval::instance::Instance;
 use lh_types::bits::Bits;
 use lh_types::list::ListOf;
@@ -250,11 +250,7 @@ impl Building {
             lo: _,
             pending: _,
         } = self;
-        Design {
-            instances,
-            signals,
-            init,
-        }
+        Design::new(instances, signals, init)
     }
 }
 

@@ -5,9 +5,9 @@ ghost use Rattle.lh_unit.specs.WellFormed.{IsWellFormed};
 ghost use Rattle.lh_elab.specs.Elaborates.{Elaborates, ArePlans, SignalsFill};
 
 use crate::build::{Building, Pending};
-use crate::design::Design;
 use crate::plan::{Plan, plan_of};
 use crate::{ElabFault, first_refusal};
+use lh_design::Design;
 use lh_types::ty::NoMemory;
 use lh_unit::inst::UnitId;
 use lh_unit::module::Module;

@@ -2,7 +2,6 @@
 #![tactic(auto)]
 
 mod build;
-mod design;
 mod elaborate;
 mod fault;
 mod graph;
@@ -12,10 +11,10 @@ mod refusal;
 mod search;
 mod statics;
 
-pub use crate::design::{Design, Signal};
 pub use crate::elaborate::elab;
 pub use crate::fault::ElabFault;
 pub use crate::refusal::first_refusal;
+pub use lh_design::{Design, Signal};
 pub use lh_eval::instance::Instance;
 
 #[cfg(test)]
