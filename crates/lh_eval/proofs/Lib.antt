@@ -7,3 +7,4 @@ pub mod TypesMade
 pub mod ValuesFit
 pub mod GivesFit
 pub mod GroupSteps
+pub mod BeginSteps

@@ -6,3 +6,4 @@ pub mod Sound
 pub mod WishOf
 pub mod Grouped
 pub mod ResultsFit
+pub mod Beginning

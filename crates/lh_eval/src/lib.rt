@@ -1,6 +1,7 @@
 //! What an instruction gives or drives wherever it stands: operations, parts of signals, probes and drives.
 #![tactic(auto)]
 
+pub mod begin;
 pub mod effects;
 pub mod held;
 pub mod instance;

@@ -10,6 +10,7 @@ pub mod part;
 pub mod tally;
 #[cfg(test)]
 mod tests;
+pub mod text;
 pub mod ty;
 pub mod val;
 pub mod writes;

@@ -1,0 +1,4 @@
+pub mod Ranges
+pub mod Units
+pub mod Operands
+pub mod Laws
