@@ -8,7 +8,7 @@ use Rattle.lh_unit.specs.Held.{Env}
 use Rattle.lh_unit.specs.Activation.{ProcessState, activate}
 use Rattle.lh_unit.specs.Hierarchy.{Instance}
 use Rattle.lh_unit.specs.Pass.{pass}
-use Rattle.lh_unit.specs.World.{State, of_process, of_entity, start_by, act, act_if, acts_by, reacts_by, bit_numbers, bit_differs, Rules}
+use Rattle.lh_unit.specs.World.{State, of_process, of_entity, start_by, act, act_if_woken, process_act, entity_act, bit_numbers, bit_differs, Rules}
 use Rattle.lh_meaning.proofs.BitSets.{SameSet, same_any}
 use Rattle.lh_meaning.proofs.Standing.{scene, fresh, waiting_at, EndsAt, sensed, CombFor}
 use Rattle.lh_meaning.proofs.Simulation.{Matches, Simulation}
@@ -29,7 +29,7 @@ module _ (r : Rules) (x y : UnitText) (i : Instance) (c : CombFor r x y i) where
   CombRelated (Some t) old a b = AtHead a b
 
   both_run : (now : List Bool) (t : Instant) (p : ProcessState) (m : Option (List Bool)) → EndsAt c.holds c.block c.to (sensed y i) (pass y i.args i.sigs now m t).wish (activate r.bound (scene r now t) x p)
-      → Matches AtHead (acts_by p (activate r.bound (scene r now t) x p)) (reacts_by (pass y i.args i.sigs now m t))
+      → Matches AtHead (process_act p (activate r.bound (scene r now t) x p)) (entity_act (pass y i.args i.sigs now m t))
   both_run now t p m e = rw e.is (record {
     answer = refl;
     after = record { held = e.held; on = e.parts; memory = Some (pass y i.args i.sigs now m t).seen; known = e.known; same_parts = e.same_parts; process = refl; entity = refl };
@@ -37,7 +37,7 @@ module _ (r : Rules) (x y : UnitText) (i : Instance) (c : CombFor r x y i) where
 
   -- both run or both rest
   both_or_none : (b : Bool) (now : List Bool) (t : Instant) (e : Env) (on : List Range) (m : Option (List Bool)) → c.holds e → SameSet (bit_numbers on) (sensed y i)
-      → Matches AtHead (act_if b r now t x i (of_process (waiting_at c.block c.to on e))) (act_if b r now t y i (of_entity m))
+      → Matches AtHead (act_if_woken b r now t x i (of_process (waiting_at c.block c.to on e))) (act_if_woken b r now t y i (of_entity m))
   both_or_none true now t e on m k h = both_run now t (waiting_at c.block c.to on e) m (c.later now t m e on k)
   both_or_none false now t e on m k h = record {
     answer = refl;

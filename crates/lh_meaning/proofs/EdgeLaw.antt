@@ -10,7 +10,7 @@ use Rattle.lh_unit.specs.Held.{Env}
 use Rattle.lh_unit.specs.Activation.{activate}
 use Rattle.lh_unit.specs.Hierarchy.{Instance}
 use Rattle.lh_unit.specs.Pass.{pass}
-use Rattle.lh_unit.specs.World.{State, of_process, of_entity, start_by, Act, act, act_if, runs, bit_numbers, bit_at, bit_differs, Rules}
+use Rattle.lh_unit.specs.World.{State, of_process, of_entity, start_by, Act, act, act_if_woken, runs, bit_numbers, bit_at, bit_differs, Rules}
 use Rattle.lh_meaning.specs.Replacing.{answer_of}
 use Rattle.lh_meaning.proofs.BitSets.{has, SameSet, IsWithin, bits_read, same_any, any_within, any_agree, read_agree, none_of, not_differ}
 use Rattle.lh_meaning.proofs.Standing.{scene, fresh, waiting_at, EndsAt, sensed, EdgeFor}
@@ -77,7 +77,7 @@ module _ (r : Rules) (x y : UnitText) (i : Instance) (c : EdgeFor r x y i) where
     no_trigger ks w e = not_within (list_any (bit_differs old now) c.triggers) (list_any (bit_differs old now) ks) (any_within (bit_differs old now) c.triggers ks w) e
 
     process_does : (e : Env) (parts : List Range) → c.stands past e → SameSet (bit_numbers parts) c.on → (w : Bool) → list_any (bit_differs old now) c.on ≡ w
-        → Does (λ a. (p : List Bool) × Waits p now a) (act_if w r now t x i (of_process (waiting_at c.block c.to parts e))) (wish_at past now t)
+        → Does (λ a. (p : List Bool) × Waits p now a) (act_if_woken w r now t x i (of_process (waiting_at c.block c.to parts e))) (wish_at past now t)
     process_does e parts k h true f =
         let d : EndsAt (c.stands now) c.block c.to c.on (c.rows past now t) (activate r.bound (scene r now t) x (waiting_at c.block c.to parts e)) = c.later past now t e parts k in
         rw d.is (record {
@@ -90,7 +90,7 @@ module _ (r : Rules) (x y : UnitText) (i : Instance) (c : EdgeFor r x y i) where
     }
 
     entity_does : (w : Bool) → list_any (bit_differs old now) (sensed y i) ≡ w
-        → Does (Remembers now) (act_if w r now t y i (of_entity (Some (bits_read old c.triggers)))) (wish_at past now t)
+        → Does (Remembers now) (act_if_woken w r now t y i (of_entity (Some (bits_read old c.triggers)))) (wish_at past now t)
     entity_does true f = record {
       answer = ap (λ w. record { wish = w; outcomes = []; ran_away = false; wake = None }) (rw memory_same (pass_is past now t (list_any (bit_differs past now) c.triggers) refl));
       after = ap (λ m. of_entity (Some m)) (c.keeps now t (Some (bits_read old c.triggers)));

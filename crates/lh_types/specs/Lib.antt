@@ -9,6 +9,8 @@ pub mod ValueOf
 pub mod ValueSize
 pub mod Fits
 pub mod Bits
+pub mod Flags
+pub mod Packed
 pub mod Parts
 pub mod Raised
 pub mod PlaceOf
@@ -20,3 +22,4 @@ pub mod Apply
 pub mod ApplyTypes
 pub mod Wish
 pub mod History
+pub mod Pictures

@@ -2,15 +2,18 @@
 #![tactic(auto)]
 
 pub mod bits;
+pub mod frame;
 pub mod laws;
 pub mod layout;
 pub mod list;
 pub mod op;
 pub mod part;
+mod run;
 pub mod tally;
 #[cfg(test)]
 mod tests;
 pub mod text;
 pub mod ty;
 pub mod val;
+mod word;
 pub mod writes;
