@@ -8,3 +8,4 @@ pub mod ValuesFit
 pub mod GivesFit
 pub mod GroupSteps
 pub mod BeginSteps
+pub mod Wishing

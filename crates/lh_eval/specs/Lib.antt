@@ -7,3 +7,4 @@ pub mod WishOf
 pub mod Grouped
 pub mod ResultsFit
 pub mod Beginning
+pub mod Wishing

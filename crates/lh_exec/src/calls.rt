@@ -1,20 +1,22 @@
 //! Assertions, calls and returns.
-ghost use Rattle.std.specs.Prelude.{◌≡◌, ◌<◌, ℕ, length, map, Option, Some, IfOk, OnOk};
+ghost use Rattle.std.specs.Prelude.{◌≡◌, ◌<◌, ℕ, false, length, map, if◌then◌else◌, Option, Some, IfOk, OnOk, IfSome};
 ghost use Rattle.std.specs.Option.{option_map};
-ghost use Rattle.lh_unit.specs.Activation.{Point, asserted, tells, called, opens, entry};
+ghost use Rattle.lh_types.specs.ValueOf.{datum_of};
 ghost use Rattle.lh_unit.specs.Activation as act;
-ghost use Rattle.lh_unit.specs.Named as named;
-ghost use Rattle.lh_unit.specs.Table.{ArgsWithin, HasBlocks};
+ghost use Rattle.lh_unit.specs.Activation.{Point, asserted, tells, called, opens, entry, returns};
 ghost use Rattle.lh_unit.specs.Arena.{Arena, IsArena, unit_count, value_count, naming, kind_at, unit_name_at, unit_text_at};
+ghost use Rattle.lh_unit.specs.Contents as text;
 ghost use Rattle.lh_unit.specs.Held as held;
-ghost use Rattle.lh_unit.specs.Held.{Env, data_at, datum_at};
+ghost use Rattle.lh_unit.specs.Held.{Env, datum_held, data_at};
+ghost use Rattle.lh_unit.specs.Named as named;
 ghost use Rattle.lh_unit.specs.Naming.{operand_text, maybe_text};
+ghost use Rattle.lh_unit.specs.Table.{ArgsWithin, HasBlocks};
 ghost use Rattle.lh_unit.specs.Within.{Each};
 ghost use Rattle.lh_unit.specs.declared.inst.Typed.{Typed as Operand};
-ghost use Rattle.lh_types.specs.ValueOf.{datum_of};
 ghost use Rattle.lh_eval.specs.HeldOf.{maybe_held};
 ghost use Rattle.lh_eval.specs.Holding.{Holds, MaybeIn};
-ghost use Rattle.lh_exec.specs.Standing.{MachineIs, Leads, Does, MaybeFrame, asserted_in, args_given, gives_back, given_back};
+ghost use Rattle.lh_exec.specs.Standing.{MachineIs, FrameIs, Leads, Does, MaybeFrame, asserted_in, returned_in, back};
+ghost use Rattle.lh_exec.specs.Taking.{data_given};
 
 use crate::machine::{Call, Flow, Frame, Machine, Setting};
 use lh_eval::held::{Held, Slots};
@@ -24,13 +26,13 @@ use lh_types::val::Val;
 use lh_unit::inst::{Arg, Typed, UnitId, ValueId};
 use lh_unit::module::Module;
 use lh_unit::name::UnitName;
-use std::alloc::Global;
 use std::mem;
 
 /// At most so many calls are open at any time.
-pub(crate) const MAX_CALLS: usize = 256;
+const MAX_CALLS: usize = 256;
 
 impl Machine {
+    /// A call of a function, or an assertion, which opens no call.
     pub(crate) fn run_call(
         &mut self,
         set: &Setting<'_>,
@@ -39,32 +41,23 @@ impl Machine {
         name: Option<ValueId>,
     ) -> Result<Flow, NoMemory>
         requires unit { unit.0 < unit_count set.now.module.now }
+        requires blocks { named.is_assert (unit_name_at set.now.module.now unit.0) ≡ false → HasBlocks (kind_at set.now.module.now unit.0) }
         requires args { Each (λ (o : Operand). o.value.0 < length self.old.frame.slots) args.now }
         requires name { MaybeIn self.old.frame.slots name }
-        ensures { (s : act.Scene) (ty : TypeTree) → CallsAre s set.now.module.now unit.0 → Does result set.now.module.now self.old self.new (λ p. executes s (call_text (unit_name_at set.now.module.now unit.0) ty (map (operand_text (naming set.now.module.now self.old.frame.unit.0)) args.now)) (maybe_text (naming set.now.module.now self.old.frame.unit.0) name) p) }
+        ensures { let m = set.now.module.now in let f = naming m self.old.frame.unit.0 in Does result m self.old self.new (λ p. if named.is_assert (unit_name_at m unit.0) then tells p (asserted p.control.held (map (operand_text f) args.now)) else opens p (maybe_text f name) (called (Some (unit_text_at m unit.0)) (data_at p.control.held (map (operand_text f) args.now)))) }
     {
         if is_assert(set.module.unit_name(unit)) {
-            return self.tell(self.asserted(args));
+            return self.tell(args);
         }
         self.open(set, unit, args, name)
     }
 
-    /// Whether the one argument of an assertion is not 0.
-    fn asserted(&self, args: &[Typed]) -> Option<bool>
-        requires { Each (λ (o : Operand). o.value.0 < length self.now.frame.slots) args.now }
-        ensures { result ≡ asserted_in self.now.frame.slots args.now }
+    /// Adds the outcome of an assertion: whether its one argument is not 0.
+    fn tell(&mut self, args: &[Typed]) -> Result<Flow, NoMemory>
+        requires { Each (λ (o : Operand). o.value.0 < length self.old.frame.slots) args.now }
+        ensures { (a : Arena) → Does result a self.old self.new (λ p. tells p (asserted p.control.held (map (operand_text (naming a self.old.frame.unit.0)) args.now))) }
     {
-        if args.len() != 1 {
-            return None;
-        }
-        test_in(&self.frame.slots, args[0].value)
-    }
-
-    /// Adds the outcome of an assertion.
-    fn tell(&mut self, passed: Option<bool>) -> Result<Flow, NoMemory>
-        ensures { (a : Arena) → Does result a self.old self.new (λ p. tells p passed) }
-    {
-        match passed {
+        match asserted(&self.frame.slots, args) {
             Some(passed) => {
                 self.outcomes.push(passed)?;
                 Ok(Flow::Goes)
@@ -82,9 +75,10 @@ impl Machine {
         name: Option<ValueId>,
     ) -> Result<Flow, NoMemory>
         requires unit { unit.0 < unit_count set.now.module.now }
+        requires blocks { HasBlocks (kind_at set.now.module.now unit.0) }
         requires args { Each (λ (o : Operand). o.value.0 < length self.old.frame.slots) args.now }
         requires name { MaybeIn self.old.frame.slots name }
-        ensures { HasBlocks (kind_at set.now.module.now unit.0) → let f = naming set.now.module.now self.old.frame.unit.0 in Does result set.now.module.now self.old self.new (λ p. opens p (maybe_text f name) (called (Some (unit_text_at set.now.module.now unit.0)) (data_at p.control.held (map (operand_text f) args.now)))) }
+        ensures { let m = set.now.module.now in let f = naming m self.old.frame.unit.0 in Does result m self.old self.new (λ p. opens p (maybe_text f name) (called (Some (unit_text_at m unit.0)) (data_at p.control.held (map (operand_text f) args.now)))) }
     {
         if self.callers.len() >= MAX_CALLS {
             return Ok(Flow::Lost);
@@ -97,7 +91,7 @@ impl Machine {
 
     /// Goes on in a frame, above the one that it was in.
     fn push(&mut self, frame: Frame, result: Option<ValueId>) -> Result<Flow, NoMemory>
-        requires { MaybeIn self.old.frame.slots result }
+        requires name { MaybeIn self.old.frame.slots result }
         requires few { length self.old.callers.items < 256 }
         ensures { (a : Arena) (c : act.Control) → FrameIs a frame c → Does result a self.old self.new (λ p. opens p (maybe_text (naming a self.old.frame.unit.0) result) (Some c)) }
     {
@@ -108,10 +102,116 @@ impl Machine {
         }
     }
 
-    pub(crate) fn run_ret(&mut self, operand: &Option<Typed>) -> Result<Flow, NoMemory> { 
-        match operand {
-            Some(operand) => self.run_ret_value(operand),
-            None => Ok(self.go_back(None)),
+    /// Ends the last open call.
+    pub(crate) fn run_ret(&mut self, operand: &Option<Typed>) -> Result<Flow, NoMemory>
+        requires { IfSome operand.now (λ (o : Operand). o.value.0 < length self.old.frame.slots) }
+        ensures { (a : Arena) → Does result a self.old self.new (λ p. returns p (option_map (operand_text (naming a self.old.frame.unit.0)) operand.now) p.callers) }
+    {
+        match returned(&self.frame.slots, operand)? {
+            Some(held) => Ok(self.go_back(held)),
+            None => Ok(Flow::Lost),
         }
     }
+
+    /// Goes on in the last open call, with this held by the name of its result.
+    fn go_back(&mut self, held: Option<Held>) -> Flow
+        ensures { (a : Arena) (p : Point) (h : Option held.Held) → MachineIs a self.old p → maybe_held held ≡ h → Leads a self.new result p.control.unit (back p h p.callers) }
+    {
+        match self.callers.pop() {
+            Some(call) => {
+                self.frame = call.frame;
+                self.frame.slots.give(call.result, held);
+                Flow::Goes
+            }
+            None => Flow::Lost,
+        }
+    }
+}
+
+/// Whether it is `@llhd.assert`.
+fn is_assert(name: &UnitName) -> bool
+    ensures { result ≡ named.is_assert name.now }
+{
+    name.sigil == b'@' && name.name.as_bytes() == b"llhd.assert".as_slice()
+}
+
+/// Whether the one argument of an assertion is not 0.
+fn asserted(slots: &Slots, args: &[Typed]) -> Option<bool>
+    requires { Each (λ (o : Operand). o.value.0 < length slots.now) args.now }
+    ensures { result ≡ asserted_in slots.now args.now }
+{
+    if args.len() != 1 {
+        return None;
+    }
+    test_in(slots, args[0].value)
+}
+
+/// What a `ret` gives: nothing, or the value of its operand, where that holds one.
+fn returned(slots: &Slots, operand: &Option<Typed>) -> Result<Option<Option<Held>>, NoMemory>
+    requires { IfSome operand.now (λ (o : Operand). o.value.0 < length slots.now) }
+    ensures { IfOk result (λ h. option_map maybe_held h ≡ returned_in slots.now operand.now) }
+{
+    let Some(operand) = operand else {
+        return Ok(Some(None));
+    };
+    match datum_in(slots, operand.value) {
+        Some(value) => {
+            let value = value.copy()?;
+            Ok(Some(Some(Held::Datum(value))))
+        }
+        None => Ok(None),
+    }
+}
+
+/// The frame in which a function begins that is called with these operands, where each of them holds a value.
+fn called_frame(
+    set: &Setting<'_>,
+    unit: UnitId,
+    args: &[Typed],
+    slots: &Slots,
+) -> Result<Option<Frame>, NoMemory>
+    requires unit { unit.0 < unit_count set.now.module.now }
+    requires blocks { HasBlocks (kind_at set.now.module.now unit.0) }
+    requires args { Each (λ (o : Operand). o.value.0 < length slots.now) args.now }
+    ensures { let m = set.now.module.now in (u : ℕ) (e : Env) → Holds m u slots.now e → IfOk result (λ f. MaybeFrame m f (called (Some (unit_text_at m unit.0)) (data_at e (map (operand_text (naming m u)) args.now)))) }
+{
+    let Some(values) = data_in(set.alloc, slots, args)? else {
+        return Ok(None);
+    };
+    let mut slots = Slots::new(set.alloc, set.module.values(unit))?;
+    hold_data(set.module.args(unit), values.as_slice(), &mut slots)?;
+    Ok(first_frame(set.module, unit, slots))
+}
+
+/// Holds copies of values by the arguments of a unit.
+fn hold_data(args: &[Arg], values: &[Val], slots: &mut Slots) -> Result<(), NoMemory>
+    requires { ArgsWithin (length slots.old) args.now }
+    ensures { OnOk result (slots.new ≡ data_given args.now (map datum_held (map datum_of values.now)) slots.old) }
+{
+    for (i, arg) in args.iter().enumerate() {
+        if i >= values.len() {
+            return Ok(());
+        }
+        let value = values[i].copy()?;
+        slots.set(arg.value, Held::Datum(value));
+    }
+    Ok(())
+}
+
+/// The frame in which a unit begins, in its entry block, where it has one.
+pub(crate) fn first_frame(m: &Module, unit: UnitId, slots: Slots) -> Option<Frame>
+    requires unit { unit.0 < unit_count m.now }
+    requires blocks { HasBlocks (kind_at m.now unit.0) }
+    ensures { (e : Env) → Holds m.now unit.0 slots e → MaybeFrame m.now result (entry (unit_text_at m.now unit.0) e) }
+{
+    let blocks = m.blocks(unit);
+    if blocks.is_empty() {
+        return None;
+    }
+    Some(Frame {
+        unit,
+        block: blocks[0],
+        next: 0,
+        slots,
+    })
 }

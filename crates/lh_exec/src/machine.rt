@@ -7,7 +7,7 @@ ghost use Rattle.lh_unit.specs.Naming.{maybe_text};
 ghost use Rattle.lh_unit.specs.Held as held;
 ghost use Rattle.lh_eval.specs.HeldOf.{maybe_held};
 ghost use Rattle.lh_eval.specs.Holding.{MaybeIn};
-ghost use Rattle.lh_exec.specs.Standing.{MachineIs, Leads};
+ghost use Rattle.lh_exec.specs.Standing.{MachineIs, Leads, goes_on};
 
 use crate::state::WaitOn;
 use lh_eval::held::{Held, Slots};
@@ -84,5 +84,17 @@ impl Machine {
         }
         self.frame.slots.give(name, held);
         Flow::Goes
+    }
+}
+
+impl Flow {
+    /// Whether an instruction comes next.
+    pub(crate) fn goes(&self) -> bool
+        ensures { result ≡ goes_on self.now }
+    {
+        match self {
+            Flow::Goes => true,
+            _ => false,
+        }
     }
 }
