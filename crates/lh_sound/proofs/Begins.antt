@@ -1,9 +1,8 @@
 -- What an instance begins with fits.
-use Rattle.std.proofs.Common.{◌≡◌, ℕ, ◌+◌, ◌≤◌, List, [], ◌∷◌, map, Bool, true, if◌then◌else◌, Option, Some, None, refl, ap, sym, ◌∙◌, subst}
+use Rattle.std.proofs.Common.{◌≡◌, ℕ, ◌+◌, ◌≤◌, List, [], ◌∷◌, map, if◌then◌else◌, Option, Some, None, ap, sym, ◌∙◌, subst}
 use Rattle.std.specs.Option.{option_and_then}
 use Rattle.std.proofs.lemmas.Option.{same_Some}
 use Rattle.lh_types.specs.Types.{TypeTree, signal_type, IsData, bit_count}
-use Rattle.lh_types.specs.Faults.{is_data}
 use Rattle.lh_types.specs.declared.part.Range.{Range}
 use Rattle.lh_unit.specs.Contents.{InstText, sig_text, LineText, ArgText, UnitText}
 use Rattle.lh_unit.specs.Held.{Held, part_held, Env, nothing_held, with_held, with_result, with_args}
@@ -36,7 +35,7 @@ module _ (u : UnitText) (w : ℕ) where
       args-fit xs rs (with_held e x.name (part_held r)) a.1 b.1 c.2
       (part-more e (Some x.name) r b.0.0 f b.0.2 (len, c.1) (λ n g. sym (ap (value_type u) (same_Some x.name n g)) ∙ a.0 ∙ ap Some b.0.1))
 
-  signal-fits : (i : InstText) (result : Option (List ℕ)) (names : List (Option (List ℕ))) (types : List TypeTree) → RowIs u i → SigWritesData i → ((n : List ℕ) → result ≡ Some n → value_type u n ≡ result_type i)
+  signal-fits : (i : InstText) (result : Option (List ℕ)) (names : List (Option (List ℕ))) (types : List TypeTree) → RowIs u i → SigWritesData result i → ((n : List ℕ) → result ≡ Some n → value_type u n ≡ result_type i)
       → ((rs : List Range) (e : Env) → RangesFit w rs types → Fits u w e → Fits u w (with_parts e names rs))
       → (rs : List Range) (e : Env) → RangesFit w rs (type_if_signal i types) → Fits u w e → Fits u w (with_parts e (name_if_signal i result names) rs)
   signal-fits (sig_text a) result names types row wr ty go [] e c f = f

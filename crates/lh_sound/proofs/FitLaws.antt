@@ -1,12 +1,9 @@
 -- What holds of the instructions of a well-formed module: their operands fit, and what they give fits.
 use Rattle.std.proofs.Common.{◌≡◌, ℕ, ◌<◌, List, [], ◌∷◌, ◌++◌, length, map, Bool, false, not, ◌&&◌, ◌||◌, if◌then◌else◌, Option, Some, IsSome, refl, ap, sym, ◌∙◌, subst}
 use Rattle.lh_time.specs.declared.Instant.{Instant}
-use Rattle.lh_types.specs.Values.{Datum}
-use Rattle.lh_types.specs.ApplyTypes.{FitsOp}
-use Rattle.lh_types.specs.declared.op.Op.{Op}
 use Rattle.lh_types.specs.declared.part.Range.{Range}
 use Rattle.lh_unit.specs.Contents.{OperandText, TriggerText, InstText, const_text, pure_text, prb_text, reg_text, LineText, UnitText, ItemText, unit_text}
-use Rattle.lh_unit.specs.Held.{Env, datum_held, part_held, nothing_held, with_args}
+use Rattle.lh_unit.specs.Held.{datum_held, part_held, nothing_held, with_args}
 use Rattle.lh_unit.specs.Effects.{operated, probed}
 use Rattle.lh_unit.specs.Typing.{value_type, result_type}
 use Rattle.lh_unit.specs.Hierarchy.{lines_of, parts_of}
@@ -23,7 +20,7 @@ use Rattle.lh_spelled.specs.Printable.{IsPrintable, IsPrintableItem}
 use Rattle.lh_formed.specs.Operands.{RowIs}
 use Rattle.lh_formed.specs.Parts.{HasPart}
 use Rattle.lh_eval.specs.Fitting.{Fits}
-use Rattle.lh_eval.specs.Sound.{HasOperands, IsWrittenRight, IsSound}
+use Rattle.lh_eval.specs.Sound.{IsWrittenRight, IsSound}
 use Rattle.lh_sound.specs.Ranges.{RangesFit, arg_types, InstanceFits}
 use Rattle.lh_sound.specs.Units.{UnitIsSound}
 use Rattle.lh_sound.proofs.EachItem.{each-at}

@@ -10,7 +10,7 @@ use Rattle.lh_types.proofs.LawProofs.{bits_are_counted}
 use Rattle.lh_unit.specs.Contents.{pure_text, prb_text}
 use Rattle.lh_unit.specs.Typing.{value_type, carried}
 use Rattle.lh_unit.specs.Held.{Held, datum_held, part_held, Env}
-use Rattle.lh_unit.specs.Arena.{Arena, naming, value_count, sizes, unit_text_at}
+use Rattle.lh_unit.specs.Arena.{Arena, naming, sizes, unit_text_at}
 use Rattle.lh_unit.specs.Naming.{value_text, operand_text}
 use Rattle.lh_unit.specs.Within.{Each, OperandWithin}
 use Rattle.lh_unit.specs.declared.inst.ValueId.{ValueId}

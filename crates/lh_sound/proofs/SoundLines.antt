@@ -1,20 +1,13 @@
 -- The instructions of a unit of a well-formed module are sound, and what an entity begins with fits.
-use Rattle.std.proofs.Common.{◌≡◌, ℕ, ◌+◌, ◌≤◌, List, [], ◌∷◌, ◌++◌, length, map, Bool, true, false, if◌then◌else◌, Option, Some, None, refl, ap, sym, ◌∙◌, subst}
-use Rattle.std.specs.Option.{option_and_then}
+use Rattle.std.proofs.Common.{◌≡◌, ℕ, ◌+◌, List, [], ◌∷◌, ◌++◌, length, map, Bool, true, false, Option, refl, ap, sym, ◌∙◌, subst}
 use Rattle.std.proofs.lemmas.Option.{same_Some}
-use Rattle.lh_types.specs.Types.{TypeTree, time_type, void_type, signal_type, pointer_type, IsData, IsLimited, bit_count}
+use Rattle.lh_types.specs.Types.{TypeTree, time_type, void_type, signal_type, pointer_type, IsData, IsLimited}
 use Rattle.lh_types.specs.Faults.{is_data}
-use Rattle.lh_types.specs.declared.part.Range.{Range}
-use Rattle.lh_unit.specs.Contents.{InstText, sig_text, LineText, BlockText, ArgText, UnitText, ItemText, unit_text, declare_text}
-use Rattle.lh_unit.specs.Held.{Held, part_held, Env, nothing_held, with_held, with_result, with_args}
-use Rattle.lh_unit.specs.Hierarchy.{lines_of, signal_names, name_if_signal, with_parts, parts_of, type_or_void}
+use Rattle.lh_unit.specs.Contents.{InstText, sig_text, LineText, BlockText, UnitText, ItemText, unit_text, declare_text}
+use Rattle.lh_unit.specs.Hierarchy.{lines_of}
 use Rattle.lh_unit.specs.Places.{Place, places_in, places_from, places}
-use Rattle.lh_unit.specs.Typing.{value_type, result_type, signal_of}
 use Rattle.lh_unit.specs.WellFormed.{Site, sites, IsFaultless, IsSpelled}
 use Rattle.lh_unit.specs.Within.{Each}
-use Rattle.lh_unit.specs.declared.inst.UnitKind.{UnitKind}
-use Rattle.lh_unit.specs.declared.inst.UnitKind.TheVariants as kind
-use Rattle.lh_unit.specs.declared.name.UnitName.{UnitName}
 use Rattle.lh_unit.proofs.Lists.{Each-append}
 use Rattle.lh_formed.specs.Operands.{RowIs}
 use Rattle.lh_formed.specs.Parts.{HasPart}
@@ -22,20 +15,17 @@ use Rattle.lh_formed.proofs.Sound.{site_in}
 use Rattle.lh_formed.proofs.RowsLaw.{rows_are}
 use Rattle.lh_formed.proofs.PartsLaw.{parts_are_there}
 use Rattle.lh_spelled.specs.Laws.{IsSpelledAlone}
-use Rattle.lh_spelled.specs.Printable.{HasLine, HasInstLine, all_lines, results_repeat, IsPrintable, IsPrintableItem}
+use Rattle.lh_spelled.specs.Printable.{HasInstLine, all_lines, results_repeat, IsPrintable, IsPrintableItem}
 use Rattle.lh_unit.specs.Spells.{header_item}
 use Rattle.lh_unit.specs.Pieces.{lexemes_in}
 use Rattle.lh_spelled.specs.ItemLines.{item_line}
 use Rattle.lh_spelled.proofs.Apart.{spelled_apart}
 use Rattle.lh_spelled.proofs.Printed.{spelled_is_printable}
-use Rattle.lh_eval.specs.Fitting.{FitsHeld, Fits}
 use Rattle.lh_eval.specs.Sound.{IsSound}
-use Rattle.lh_eval.proofs.GivesFit.{held-still-fits}
-use Rattle.lh_sound.specs.Ranges.{RangesFit, arg_types, signal_types, type_if_signal, InstanceFits}
 use Rattle.lh_sound.proofs.EachItem.{each-contained, each-so, each-split, each-of-map}
-use Rattle.lh_sound.proofs.Spelled.{SignalWritten, line-written, signal-written, header-ports}
-use Rattle.lh_sound.proofs.NamedOnce.{GivesItsType, lines-typed, args-typed}
-use Rattle.lh_sound.specs.Units.{HasItsType, IsPort, HasPorts, SigWritesData, WritesData}
+use Rattle.lh_sound.proofs.Spelled.{SignalWritten, SignalNamed, line-written, signal-written, signal-named, header-ports}
+use Rattle.lh_sound.proofs.NamedOnce.{GivesItsType, lines-typed}
+use Rattle.lh_sound.specs.Units.{HasPorts, SigWritesData, WritesData}
 
 -- an instruction has its row and its part
 abbrev pub IsTyped : UnitText → LineText → Type 0
@@ -103,15 +93,15 @@ limited-data (pointer_type t) d l = absurd cc
 limited-data _ d l = l
 
 -- a `sig` whose row holds, and which is spelled, writes a data type
-sig-writes : (u : UnitText) (i : InstText) → RowIs u i → SignalWritten i → SigWritesData i
-sig-writes u (sig_text a) row wr =
+sig-writes : (u : UnitText) (r : Option (List ℕ)) (i : InstText) → RowIs u i → SignalWritten i → SignalNamed r i → SigWritesData r i
+sig-writes u r (sig_text a) row wr named =
     let same : wr.0 ≡ row.0 = same_Some wr.0 row.0 (sym wr.1 ∙ row.2.0) in
-    (row.0, row.2.0, limited-data row.0 row.1 (subst IsLimited same wr.2))
-sig-writes u _ row wr = tt
+    (row.0, row.2.0, limited-data row.0 row.1 (subst IsLimited same wr.2), named)
+sig-writes u r _ row wr named = tt
 
 each-writes : (u : UnitText) (ls : List LineText) → Each (IsTyped u) ls → Each HasInstLine ls → Each WritesData ls
 each-writes u [] a b = tt
-each-writes u (l ∷ ls) a b = (sig-writes u l.inst a.0.0 (signal-written l b.0), each-writes u ls a.1 b.1)
+each-writes u (l ∷ ls) a b = (sig-writes u l.result l.inst a.0.0 (signal-written l b.0) (signal-named l b.0), each-writes u ls a.1 b.1)
 
 -- each `sig` of such a unit writes a data type
 pub signals-written : (u : UnitText) → Each (IsTyped u) (lines_of u.blocks) → IsPrintable u → Each WritesData (lines_of u.blocks)

@@ -1,5 +1,5 @@
 -- What the spelling of an instruction and of an entity's head tells.
-use Rattle.std.proofs.Common.{◌≡◌, ℕ, ◌-◌, ◌^◌, ◌<◌, inl, inr, List, [], ◌∷◌, map, Option, Some, None, refl, sym, subst, arith}
+use Rattle.std.proofs.Common.{◌≡◌, ℕ, ◌-◌, ◌^◌, ◌<◌, inl, inr, List, [], ◌∷◌, map, Option, Some, None, IsSome, refl, sym, subst, arith}
 use Rattle.std.proofs.Math.Pow.{pow_pos}
 use Rattle.std.proofs.lemmas.Nat.{mod_below}
 use Rattle.lh_types.specs.Types.{TypeTree, signal_type, IsData, IsLimited}
@@ -78,6 +78,19 @@ of-line P go (Some r) i ts h = go i h.0 h.3
 
 pub line-written : (l : LineText) → HasInstLine l → IsWrittenRight l.inst
 line-written l h = of-line IsWrittenRight inst-written l.result l.inst (lexemes_in (item_line (inst_item l))) h.1
+
+-- a `sig` has a result
+abbrev pub SignalNamed : Option (List ℕ) → InstText → Type 0
+SignalNamed r (sig_text a) = IsSome r
+SignalNamed r _ = Unit {0}
+
+named-by-line : (r : Option (List ℕ)) (i : InstText) (ts : List Lexeme) → SpellsLine r i ts → SignalNamed r i
+named-by-line (Some r) (sig_text a) ts h = refl
+named-by-line None (sig_text a) ts h = absurd cc
+named-by-line r _ ts h = tt
+
+pub signal-named : (l : LineText) → HasInstLine l → SignalNamed l.result l.inst
+signal-named l h = named-by-line l.result l.inst (lexemes_in (item_line (inst_item l))) h.1
 
 pub signal-written : (l : LineText) → HasInstLine l → SignalWritten l.inst
 signal-written l h = of-line SignalWritten signal-spelled l.result l.inst (lexemes_in (item_line (inst_item l))) h.1

@@ -8,7 +8,6 @@ use Rattle.lh_unit.specs.Hierarchy.{parts_of}
 use Rattle.lh_unit.specs.Pass.{Passed, passes}
 use Rattle.lh_unit.specs.Arena.{Arena, IsArena, unit_count, kind_at, contents, unit_text_at}
 use Rattle.lh_unit.specs.WellFormed.{IsWellFormed}
-use Rattle.lh_unit.specs.declared.inst.UnitKind.{UnitKind}
 use Rattle.lh_unit.specs.declared.inst.UnitKind.TheVariants as kind
 use Rattle.lh_eval.specs.Fitting.{Fits}
 use Rattle.lh_eval.specs.Sound.{IsSound}

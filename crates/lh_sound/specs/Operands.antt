@@ -1,5 +1,5 @@
 -- What the operands of a sound instruction are, where what slots hold fits: an operation, a probe and a drive have what they ask.
-use Rattle.std.specs.Prelude.{◌≡◌, ℕ, ◌<◌, ◌^◌, List, length, map, Bool, Option}
+use Rattle.std.specs.Prelude.{ℕ, ◌<◌, ◌^◌, List, length, map, Bool, Option}
 use Rattle.lh_types.specs.Types.{TypeTree, signal_type}
 use Rattle.lh_types.specs.declared.op.Op.{Op}
 use Rattle.lh_unit.specs.Contents.{pure_text, prb_text}

@@ -1,10 +1,9 @@
 -- What holds of each unit of a well-formed module.
-use Rattle.std.specs.Prelude.{◌≡◌, ℕ, List, Bool, true, Option, Some, None}
-use Rattle.lh_types.specs.Types.{TypeTree, signal_type, IsData, IsLimited}
-use Rattle.lh_types.specs.Faults.{is_data}
+use Rattle.std.specs.Prelude.{◌≡◌, ℕ, List, Option, Some, IsSome}
+use Rattle.lh_types.specs.Types.{TypeTree, signal_type, IsData}
 use Rattle.lh_unit.specs.Contents.{InstText, sig_text, LineText, ArgText, UnitText}
 use Rattle.lh_unit.specs.Hierarchy.{lines_of}
-use Rattle.lh_unit.specs.Typing.{value_type, result_type}
+use Rattle.lh_unit.specs.Typing.{value_type}
 use Rattle.lh_unit.specs.Within.{Each}
 use Rattle.lh_unit.specs.declared.inst.UnitKind.{UnitKind}
 use Rattle.lh_unit.specs.declared.inst.UnitKind.TheVariants as kind
@@ -19,14 +18,14 @@ HasItsType u a = value_type u a.name ≡ Some a.ty
 abbrev pub IsPort : ArgText → Type 0
 IsPort a = (t : TypeTree) × (a.ty ≡ signal_type t) × IsData t
 
--- a `sig` writes a data type
-abbrev pub SigWritesData : InstText → Type 0
-SigWritesData (sig_text a) = (t : TypeTree) × (a.ty ≡ Some t) × IsData t
-SigWritesData _ = Unit {0}
+-- a `sig` writes a data type and has a result
+abbrev pub SigWritesData : Option (List ℕ) → InstText → Type 0
+SigWritesData result (sig_text a) = (t : TypeTree) × (a.ty ≡ Some t) × IsData t × IsSome result
+SigWritesData result _ = Unit {0}
 
--- the same of the instruction of a line
+-- the same of a line
 abbrev pub WritesData : LineText → Type 0
-WritesData l = SigWritesData l.inst
+WritesData l = SigWritesData l.result l.inst
 
 -- the arguments of a process or an entity are signals
 abbrev pub HasPorts : UnitKind → List ArgText → Type 0
