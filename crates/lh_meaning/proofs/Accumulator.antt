@@ -16,7 +16,8 @@ use Rattle.lh_unit.specs.Activation.{activate}
 use Rattle.lh_unit.specs.Pass.{pass, probes}
 use Rattle.lh_unit.specs.Design.{visit, design_of, refusal_of}
 use Rattle.lh_unit.specs.World.{acts_at}
-use Rattle.lh_unit.specs.Trace.{Outcome, Frame, quiet, Run, Shown, ShownSignal, ran, trace}
+use Rattle.lh_types.specs.declared.frame.Outcome.{Outcome}
+use Rattle.lh_unit.specs.Trace.{Frame, quiet, Run, Shown, ShownSignal, ran, trace}
 use Rattle.lh_meaning.proofs.Samples.{global, line, bare, typed, bit, bit_signal, input, output, entity, process, block, delay}
 
 abbrev word : TypeTree

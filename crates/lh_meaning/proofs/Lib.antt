@@ -20,6 +20,7 @@ pub mod BitSets
 pub mod Standing
 pub mod CombLaw
 pub mod EdgeLaw
+pub mod OnceLaw
 pub mod MayStandLaw
 pub mod Buffer
 pub mod SampleParts
@@ -29,3 +30,6 @@ pub mod ProbesLaw
 pub mod Labelled
 pub mod Routes
 pub mod FirstFaultFound
+pub mod PathsLaw
+pub mod LaterLaw
+pub mod WokenLaw

@@ -1,11 +1,11 @@
 -- Frame after frame: the world after some of them, which instances are woken in one, and how its values differ from those before.
 use Rattle.std.specs.Prelude.{ℕ, zero, suc, ◌+◌, List, [], ◌∷◌, length, map, count_by, nat_eq, nat_le, Bool, if◌then◌else◌, Option, Some, None}
-use Rattle.std.specs.Bool.{beq}
 use Rattle.std.specs.Option.{option_and_then, option_map}
 use Rattle.lh_time.specs.declared.Instant.{Instant}
 use Rattle.lh_types.specs.Values.{Datum}
 use Rattle.lh_types.specs.Pictures.{Showing, Picture}
 use Rattle.lh_types.specs.Bits.{value_bits}
+use Rattle.lh_types.specs.Flags.{differing}
 use Rattle.lh_types.specs.History.{bits_at}
 use Rattle.lh_unit.specs.Contents.{ItemText}
 use Rattle.lh_unit.specs.Hierarchy.{Instance}
@@ -46,12 +46,6 @@ woken_at items d w t = woken_from 0 items w.last (bits_of w) (bits_at w.history 
 abbrev pub activated_count : (runaway : Option ℕ) → (woken : List ℕ) → ℕ
 activated_count None ks = length ks
 activated_count (Some i) ks = count_by (λ k. nat_le k i) ks
-
--- how many bits of two lists differ
-abbrev pub differing : (old now : List Bool) → ℕ
-differing [] now = 0
-differing (a ∷ old) [] = 0
-differing (a ∷ old) (b ∷ now) = (if beq a b then 0 else 1) + differing old now
 
 -- how many bits of two values of one type differ
 abbrev pub toggled : (old now : Datum) → ℕ
