@@ -116,6 +116,12 @@ fn carried_by_inst(inst: &Inst) -> Option<&Ty>
         Inst::Sig(initial) => data(initial),
         Inst::Prb(signal) => carried_twice(signal),
         Inst::Ld(pointer) => carried_behind(pointer),
+        Inst::Call {
+            unit: _,
+            result,
+            args: _,
+        } => carried(result),
+        Inst::Phi { ty, edges: _ } => carried(ty),
         _ => None,
     }
 }

@@ -28,7 +28,7 @@ use Rattle.lh_eval.proofs.Wishing.{driven-within}
 use Rattle.lh_sound.specs.Units.{HasItsType}
 use Rattle.lh_sound.proofs.EachItem.{each-split}
 use Rattle.lh_exec.specs.States.{WaitsIn}
-use Rattle.lh_exec.specs.Sound.{LineRight, UnitRight, FunctionsRight, ControlFits, ResultFits, CallersFit, lowest, PointFits, StandFits, DoneFits}
+use Rattle.lh_exec.specs.Sound.{LineRight, UnitRight, FunctionsRight, ControlFits, GivesResult, ResultFits, CallersFit, lowest, PointFits, StandFits, DoneFits}
 
 -- what an instruction leads to fits
 abbrev pub NextFits : List ItemText → (width : ℕ) → UnitText → Next → Type 0
@@ -40,11 +40,11 @@ NextFits items w u no_step = Unit {0}
 
 pub block-has : (P : BlockText → Type 0) (n : List ℕ) (bs : List BlockText) (b : BlockText) → Each P bs → block_of n bs ≡ Some b → P b
 block-has P n [] b e h = absurd (none-some b h)
-block-has P n (c ∷ bs) b e h = by (is_result_name n c.label) h
+block-has P n (c ∷ bs) b e h = by (block-has P n bs b e.1) (is_result_name n c.label) h
   where
-    by : (x : Bool) → (if x then Some c else block_of n bs) ≡ Some b → P b
-    by true q = subst P (same_Some c b q) e.0
-    by false q = block-has P n bs b e.1 q
+    by : (block_of n bs ≡ Some b → P b) → (x : Bool) → (if x then Some c else block_of n bs) ≡ Some b → P b
+    by go true q = subst P (same_Some c b q) e.0
+    by go false q = go q
 
 -- the function of a name is the unit of it
 pub function-is : (n : UnitName) (items : List ItemText) (f : UnitText) → unit_named n items ≡ Some f → is_function f.kind ≡ true → function_named n (functions items) ≡ Some f
@@ -106,11 +106,11 @@ MaybeFits u w (Some e) = Fits u w e
 
 edge-is : (u : UnitText) (t : TypeTree) (from : List ℕ) (es : List EdgeText) (n : List ℕ) → Each (λ (e : EdgeText). IsOf u t e.value) es → edge_from from es ≡ Some n → IsOf u t n
 edge-is u t from [] n e h = absurd (none-some n h)
-edge-is u t from (x ∷ es) n e h = by (same_name x.block from) h
+edge-is u t from (x ∷ es) n e h = by (edge-is u t from es n e.1) (same_name x.block from) h
   where
-    by : (b : Bool) → (if b then Some x.value else edge_from from es) ≡ Some n → IsOf u t n
-    by true q = subst (IsOf u t) (same_Some x.value n q) e.0
-    by false q = edge-is u t from es n e.1 q
+    by : (edge_from from es ≡ Some n → IsOf u t n) → (b : Bool) → (if b then Some x.value else edge_from from es) ≡ Some n → IsOf u t n
+    by go true q = subst (IsOf u t) (same_Some x.value n q) e.0
+    by go false q = go q
 
 module _ (items : List ItemText) (u : UnitText) (w : ℕ) (from : List ℕ) (e : Env) (f : Fits u w e) where
   phi-fits : (ty : TypeTree) (es : List EdgeText) (r : Option (List ℕ)) → RowIs u (phi_text ty es) → ((n : List ℕ) → r ≡ Some n → value_type u n ≡ Some ty) → (acc : Option Env) → MaybeFits u w acc → MaybeFits u w (result_put r (option_and_then (datum_at e) (edge_from from es)) acc)
@@ -177,7 +177,7 @@ module _ (items : List ItemText) (w : ℕ) where
   args-fit v g e f (x ∷ xs) (o ∷ os) ds to t are h k =
       let q = front-some (datum_at e o.value) (data_at e os) ds h in
       let next : Fits g w (with_held to x.name (datum_held q.0)) =
-      held-still-fits g w to (Some x.name) (Some (datum_held q.0)) k (λ n y z m p c. as-held w (datum_held q.0) y x.ty z (datum-fits v w e f o.value q.0 x.ty q.2 are.0) p (sym t.0 ∙ ap (value_type g) (same_Some x.name n m) ∙ c)) in
+      held-still-fits g w to (Some x.name) (Some (datum_held q.0)) k (λ n m y z p c. as-held w (datum_held q.0) y x.ty z (datum-fits v w e f o.value q.0 x.ty q.2 are.0) p (sym t.0 ∙ ap (value_type g) (same_Some x.name n m) ∙ c)) in
       subst (λ (l : List Datum). Fits g w (with_args to (x ∷ xs) (map datum_held l))) q.4
       (args-fit v g e f xs os q.1 (with_held to x.name (datum_held q.0)) t.1 are.1 q.3 next)
 
@@ -240,7 +240,7 @@ module _ (items : List ItemText) (w : ℕ) where
         by (Some x) None e = tt
         by (Some x) (Some d) e =
             let k : FitsHeld w (cell_held d) (pointer_type t) = datum-fits p.control.unit w p.control.held f.control.fits value d t e b in
-            holds-more _ (held-still-fits p.control.unit w p.control.held (Some to) (Some (cell_held d)) f.control.fits (λ n y s m h c. as-held w (cell_held d) y (pointer_type t) s k h (sym a ∙ ap (value_type p.control.unit) (same_Some to n m) ∙ c)))
+            holds-more _ (held-still-fits p.control.unit w p.control.held (Some to) (Some (cell_held d)) f.control.fits (λ n m y s h c. as-held w (cell_held d) y (pointer_type t) s k h (sym a ∙ ap (value_type p.control.unit) (same_Some to n m) ∙ c)))
 
     opens-fit : (r : Option (List ℕ)) (o : Option Control) → ((c : Control) → o ≡ Some c → ControlFits items w c × ResultFits c.unit (record { control = p.control; result = r })) → NextFits items w u (opens p r o)
     opens-fit r None g = tt
@@ -261,7 +261,7 @@ module _ (items : List ItemText) (w : ℕ) where
           wish = f.wish;
         }
 
-    returned-fits : (a : OperandText) (c : Caller) → ReturnIs p.control.unit p.control.unit.result (Some a) → IsSome p.control.unit.result → ResultFits p.control.unit c → (n : List ℕ) → c.result ≡ Some n → (d : Datum) → datum_at p.control.held a.value ≡ Some d → GivenFits w (Some (datum_held d)) (value_type c.control.unit n)
+    returned-fits : (a : OperandText) (c : Caller) → ReturnIs p.control.unit p.control.unit.result (Some a) → IsSome p.control.unit.result → GivesResult p.control.unit c → (n : List ℕ) → c.result ≡ Some n → (d : Datum) → datum_at p.control.held a.value ≡ Some d → GivenFits w (Some (datum_held d)) (value_type c.control.unit n)
     returned-fits a c row some g n m d h y s q z = by p.control.unit.result refl row some
       where
         by : (o : Option TypeTree) → p.control.unit.result ≡ o → ReturnIs p.control.unit o (Some a) → IsSome o → FitsHeld w y s
@@ -275,7 +275,7 @@ module _ (items : List ItemText) (w : ℕ) where
         with_value c more q a r None h = tt
         with_value c more q a r (Some d) h =
             let cs = subst (CallersFit items w p.control.unit) q f.callers in
-            back-fits (Some a) c more _ q (held-still-fits c.control.unit w c.control.held c.result (Some (datum_held d)) cs.0.fits (λ n m. returned-fits a c r (some c more q) cs.1 n m d h))
+            back-fits (Some a) c more _ q (held-still-fits c.control.unit w c.control.held c.result (Some (datum_held d)) cs.0.fits (λ n m. returned-fits a c r (some c more q) cs.1.1 n m d h))
 
         goes-back : (c : Caller) (more : List Caller) → p.callers ≡ c ∷ more → (x : Option OperandText) → ReturnIs p.control.unit p.control.unit.result x → NextFits items w u (goes_back p c more (given_back p.control.held x c))
         goes-back c more q None r = back-fits None c more c.control.held q (subst (CallersFit items w p.control.unit) q f.callers).0.fits
@@ -293,3 +293,88 @@ module _ (items : List ItemText) (w : ℕ) where
         by [] b (Some s) k = record { stand = subst (λ (v : UnitText). StandFits v s) b (k s refl); held = subst (λ (v : UnitText). Fits v w p.control.held) b f.control.fits; wish = f.wish }
         by (c ∷ cs) b None k = tt
         by (c ∷ cs) b (Some s) k = tt
+
+-- ---- instructions
+
+-- a point past an instruction, which stands in its block
+record Past (items : List ItemText) (w : ℕ) (u : UnitText) (l : LineText) (p : Point) : Type 0 where
+  fits : PointFits items w u p
+  right : LineRight items p.control.unit l
+  text : BlockText
+  block : block_of p.control.block p.control.unit.blocks ≡ Some text
+  before : List LineText
+  after : List LineText
+  split : text.lines ≡ before ++ l ∷ after
+
+waiting-fits : (v : UnitText) (block to : List ℕ) (on : Option (List Range)) (wake : Option (Option Instant)) (x : Stand) → WaitsIn v block to → waiting block to on wake ≡ Some x → StandFits v x
+waiting-fits v block to None wake x k h = absurd (none-some x h)
+waiting-fits v block to (Some on) None x k h = absurd (none-some x h)
+waiting-fits v block to (Some on) (Some wake) x k h = subst (StandFits v) (same_Some (waits block to on wake) x h) k
+
+halted-fits : (v : UnitText) (x : Stand) → Some halted ≡ Some x → StandFits v x
+halted-fits v x h = subst (StandFits v) (same_Some halted x h) tt
+
+module _ (items : List ItemText) (now : List Bool) (t : Instant) (fs : FunctionsRight items) (u : UnitText) where
+  abbrev s : Scene
+  s = record { functions = functions items; now = now; at = t }
+
+  -- a call, or an assertion
+  call-fits : (p : Point) (f : UnitName) (ty : TypeTree) (os : List OperandText) (r : Option (List ℕ)) → PointFits items (length now) u p → ((n : List ℕ) → r ≡ Some n → value_type p.control.unit n ≡ Some ty)
+      → ((is_assert f ≡ true) × AssertIsRight p.control.unit ty os) ⊎ ((is_assert f ≡ false) × FunctionIsRight items p.control.unit f ty os)
+      → NextFits items (length now) u (executes s (call_text f ty os) r p)
+  call-fits p f ty os r k g (inl a) =
+      subst (λ (b : Bool). NextFits items (length now) u (if b then tells p (asserted p.control.held os) else opens p r (called (function_named f (functions items)) (data_at p.control.held os)))) (sym a.0)
+      (tells-fit items (length now) u p k (asserted p.control.held os))
+  call-fits p f ty os r k g (inr a) =
+      let named : function_named f (functions items) ≡ Some a.1.of = function-is f items a.1.of a.1.named a.1.function in
+      let right = fs f a.1.of named in
+      let opened : NextFits items (length now) u (opens p r (called (Some a.1.of) (data_at p.control.held os))) =
+      opens-fit items (length now) u p k r (called (Some a.1.of) (data_at p.control.held os))
+      (λ c e.
+          let z = called-fits items (length now) p.control.unit a.1.of p.control.held os c right.0 k.control.fits a.1.args_are e in
+          (z.0, (subst (λ (v : UnitText). IsSome v.result) (sym z.1) right.1, λ n y q h. g n q ∙ ap Some (a.1.gives y (sym (ap (λ (v : UnitText). v.result) z.1) ∙ h))))) in
+      subst (λ (b : Bool). NextFits items (length now) u (if b then tells p (asserted p.control.held os) else opens p r (called (function_named f (functions items)) (data_at p.control.held os)))) (sym a.0)
+      (subst (λ (o : Option UnitText). NextFits items (length now) u (opens p r (called o (data_at p.control.held os)))) (sym named) opened)
+
+  exec-fits : (i : InstText) (r : Option (List ℕ)) (p : Point) → Past items (length now) u (record { result = r; inst = i }) p → ((c : Caller) (more : List Caller) → p.callers ≡ c ∷ more → IsSome p.control.unit.result) → NextFits items (length now) u (executes s i r p)
+  exec-fits (const_text d) r p k some = gives-fit items (length now) u p k.fits r (Some (datum_held d)) (λ n e x y g q. constants-fit (length now) d k.right.sound.written x y g (sym (k.right.sound.gives n e) ∙ q))
+  exec-fits (pure_text o os) r p k some =
+      gives-fit items (length now) u p k.fits r (operated p.control.unit p.control.held o os)
+      (λ n e x y g q. operations-fit p.control.unit (length now) p.control.held o os k.fits.control.fits k.right.sound.row k.right.sound.part k.right.sound.written x y g (sym (k.right.sound.gives n e) ∙ q))
+  exec-fits (var_text a) r p k some = gives-fit items (length now) u p k.fits r (option_map cell_held (datum_at p.control.held a.value)) (λ n e. new-cell-fits p.control.unit (length now) p.control.held k.fits.control.fits a (value_type p.control.unit n) k.right.sound.row (k.right.sound.gives n e))
+  exec-fits (ld_text a) r p k some = gives-fit items (length now) u p k.fits r (option_map datum_held (cell_at p.control.held a.value)) (λ n e. stored-fits p.control.unit (length now) p.control.held k.fits.control.fits a (value_type p.control.unit n) k.right.sound.row (k.right.sound.gives n e))
+  exec-fits (st_text to value) r p k some = stores-fit items (length now) u p k.fits to.value value k.right.sound.row.0 k.right.sound.row.1.1 k.right.sound.row.2
+  exec-fits (prb_text a) r p k some = gives-fit items (length now) u p k.fits r (probed now p.control.held a) (λ n e x y g q. probes-fit p.control.unit now p.control.held a k.fits.control.fits k.right.sound.row x y g (sym (k.right.sound.gives n e) ∙ q))
+  exec-fits (drv_text to value after cond) r p k some =
+      wishes-fit items (length now) u p k.fits (driven t p.control.held p.wish to value after cond)
+      (driven-within p.control.unit (length now) p.control.held t p.wish to value after cond k.fits.control.fits k.right.sound.row k.fits.wish)
+  exec-fits (call_text f ty os) r p k some = call-fits p f ty os r k.fits k.right.sound.gives k.right.named
+  exec-fits (phi_text ty es) r p k some = k.fits
+  exec-fits (br_text to) r p k some = enters-fit items (length now) u p k.fits to
+  exec-fits (branch_text cond first second) r p k some = branch-fits items (length now) u p k.fits (chosen (test_at p.control.held cond) first second)
+  exec-fits (wait_text to after on) r p k some =
+      ends-fit items (length now) u p k.fits (waiting p.control.block to (parts_at p.control.held on) (wake_at t p.control.held after))
+      (λ x. waiting-fits p.control.unit p.control.block to (parts_at p.control.held on) (wake_at t p.control.held after) x
+          (record { text = k.text; stands = k.block; before = k.before; after = k.after; name = r; delay = after; signals = on; split = k.split }))
+  exec-fits halt_text r p k some = ends-fit items (length now) u p k.fits (Some halted) (halted-fits p.control.unit)
+  exec-fits (ret_text o) r p k some = returns-fit items (length now) u p k.fits o k.right.sound.row some
+  exec-fits (sig_text a) r p k some = tt
+  exec-fits (reg_text to gs) r p k some = tt
+  exec-fits (child_text v is os) r p k some = tt
+
+  -- what fits before the next instruction fits after it
+  pub step-fits : (p : Point) → PointFits items (length now) u p → NextFits items (length now) u (step s p)
+  step-fits p f = by p.control.rest refl
+    where
+      by : (ls : List LineText) → p.control.rest ≡ ls → NextFits items (length now) u (steps_by s p ls)
+      by [] e = tt
+      by (l ∷ rest) e =
+          let here : f.control.text.lines ≡ f.control.before ++ l ∷ rest = f.control.split ∙ ap (λ ls. f.control.before ++ ls) e in
+          let right = block-has (λ (b : BlockText). Each (LineRight items p.control.unit) b.lines) p.control.block p.control.unit.blocks f.control.text f.control.right.lines f.control.block in
+          let all = each-split (LineRight items p.control.unit) f.control.before (l ∷ rest) (subst (Each (LineRight items p.control.unit)) here right) in
+          let past : PointFits items (length now) u (record p { control = record p.control { rest = rest } }) =
+          goes-in items (length now) u p f (record p.control { rest = rest })
+          (record { right = f.control.right; text = f.control.text; block = f.control.block; before = f.control.before ++ l ∷ []; split = here ∙ sym (append_assoc f.control.before (l ∷ []) rest); fits = f.control.fits }, refl) in
+          exec-fits l.inst l.result (record p { control = record p.control { rest = rest } })
+          (record { fits = past; right = all.1.0; text = f.control.text; block = f.control.block; before = f.control.before; after = rest; split = here })
+          (λ c more q. (subst (CallersFit items (length now) p.control.unit) q f.callers).1.0)

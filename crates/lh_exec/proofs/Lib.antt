@@ -1,1 +1,2 @@
 pub mod KeepsFit
+pub mod Steps

@@ -58,8 +58,12 @@ pub record ControlFits (items : List ItemText) (width : ℕ) (c : Control) : Typ
   pub fits : Fits c.unit width c.held
 
 -- the result of a call has the type of what the function u gives
+abbrev pub GivesResult : UnitText → Caller → Type 0
+GivesResult u d = (n : List ℕ) (t : TypeTree) → d.result ≡ Some n → u.result ≡ Some t → value_type d.control.unit n ≡ Some t
+
+-- the function u has a result, and gives it to the call
 abbrev pub ResultFits : UnitText → Caller → Type 0
-ResultFits u d = (n : List ℕ) (t : TypeTree) → d.result ≡ Some n → value_type d.control.unit n ≡ Some t → u.result ≡ Some t
+ResultFits u d = IsSome u.result × GivesResult u d
 
 -- so it is of each open call, the last of which called the function u
 abbrev pub CallersFit : List ItemText → (width : ℕ) → UnitText → List Caller → Type 0

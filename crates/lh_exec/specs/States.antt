@@ -22,9 +22,9 @@ use Rattle.lh_exec.specs.declared.state.Pause.{Pause}
 use Rattle.lh_exec.specs.declared.state.Stand.{Stand}
 use Rattle.lh_exec.specs.declared.state.Stand.TheVariants as stand
 use Rattle.lh_exec.specs.declared.state.ProcState.{ProcState}
-use Rattle.lh_exec.specs.declared.activate.Act.{Act}
-use Rattle.lh_exec.specs.declared.activate.ExecFault.{ExecFault}
-use Rattle.lh_exec.specs.declared.activate.ExecFault.TheVariants as fault
+use Rattle.lh_exec.specs.declared.process.Act.{Act}
+use Rattle.lh_exec.specs.declared.process.ExecFault.{ExecFault}
+use Rattle.lh_exec.specs.declared.process.ExecFault.TheVariants as fault
 
 -- what a process waits for, if it waits
 abbrev pub waited_by : Stand → Option WaitOn

@@ -7,6 +7,8 @@ ghost use Rattle.lh_unit.specs.WellFormed.{IsWellFormed};
 ghost use Rattle.lh_exec.specs.States.{StandsBy, FitsBy, PauseFits, begun};
 ghost use Rattle.lh_exec.specs.Sound.{BeginsAt};
 
+ghost use Rattle.lh_exec.specs.Standing.{module_in, bits_in};
+
 use crate::calls::first_frame;
 use crate::machine::{Flow, Frame, Machine, Setting};
 use crate::state::{Pause, Stand};
@@ -26,11 +28,11 @@ pub(crate) fn begin(
     args: &[Range],
     stand: &Stand,
 ) -> Result<Option<Machine>, NoMemory>
-    requires unit { unit.0 < unit_count set.now.module.now }
-    requires process { kind_at set.now.module.now unit.0 ≡ Some UnitKind.Proc }
-    requires formed { IsWellFormed (contents set.now.module.now) }
-    requires fits { FitsBy set.now.module.now unit.0 (length set.now.now.now) stand.now }
-    ensures { let m = set.now.module.now in (p : ProcessState) → StandsBy m unit.0 args.now stand.now p → IfOk result (λ r. BeginsAt m r (control_at (unit_text_at m unit.0) p)) }
+    requires unit { unit.0 < unit_count (module_in set.now) }
+    requires process { kind_at (module_in set.now) unit.0 ≡ Some UnitKind.Proc }
+    requires formed { IsWellFormed (contents (module_in set.now)) }
+    requires fits { FitsBy (module_in set.now) unit.0 (length (bits_in set.now)) stand.now }
+    ensures { let m = module_in set.now in (p : ProcessState) → StandsBy m unit.0 args.now stand.now p → IfOk result (λ r. BeginsAt m r (control_at (unit_text_at m unit.0) p)) }
 {
     match stand {
         Stand::New => begin_new(set, unit, args),
@@ -45,9 +47,9 @@ fn begin_new(
     unit: UnitId,
     args: &[Range],
 ) -> Result<Option<Machine>, NoMemory>
-    requires unit { unit.0 < unit_count set.now.module.now }
-    requires process { kind_at set.now.module.now unit.0 ≡ Some UnitKind.Proc }
-    ensures { let m = set.now.module.now in IfOk result (λ r. BeginsAt m r (control_at (unit_text_at m unit.0) (begun (unit_text_at m unit.0) args.now))) }
+    requires unit { unit.0 < unit_count (module_in set.now) }
+    requires process { kind_at (module_in set.now) unit.0 ≡ Some UnitKind.Proc }
+    ensures { let m = module_in set.now in IfOk result (λ r. BeginsAt m r (control_at (unit_text_at m unit.0) (begun (unit_text_at m unit.0) args.now))) }
 {
     let mut slots = Slots::new(set.alloc, set.module.values(unit))?;
     hold_args(set.module.args(unit), args, &mut slots);
@@ -63,11 +65,11 @@ fn begin_from(
     unit: UnitId,
     pause: &Pause,
 ) -> Result<Option<Machine>, NoMemory>
-    requires unit { unit.0 < unit_count set.now.module.now }
-    requires process { kind_at set.now.module.now unit.0 ≡ Some UnitKind.Proc }
-    requires formed { IsWellFormed (contents set.now.module.now) }
-    requires fits { PauseFits set.now.module.now unit.0 (length set.now.now.now) pause.now }
-    ensures { let m = set.now.module.now in (p : ProcessState) → StandsBy m unit.0 [] (Stand.Waits pause.now) p → IfOk result (λ r. BeginsAt m r (control_at (unit_text_at m unit.0) p)) }
+    requires unit { unit.0 < unit_count (module_in set.now) }
+    requires process { kind_at (module_in set.now) unit.0 ≡ Some UnitKind.Proc }
+    requires formed { IsWellFormed (contents (module_in set.now)) }
+    requires fits { PauseFits (module_in set.now) unit.0 (length (bits_in set.now)) pause.now }
+    ensures { let m = module_in set.now in (p : ProcessState) → StandsBy m unit.0 [] (Stand.Waits pause.now) p → IfOk result (λ r. BeginsAt m r (control_at (unit_text_at m unit.0) p)) }
 {
     let slots = pause.slots.copy(set.alloc)?;
     let mut machine = machine_at(

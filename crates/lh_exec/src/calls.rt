@@ -6,7 +6,7 @@ ghost use Rattle.lh_unit.specs.Activation as act;
 ghost use Rattle.lh_unit.specs.Activation.{Point, asserted, tells, called, opens, entry, returns};
 ghost use Rattle.lh_unit.specs.Arena.{Arena, IsArena, unit_count, value_count, naming, kind_at, unit_name_at, unit_text_at};
 ghost use Rattle.lh_unit.specs.Contents as text;
-ghost use Rattle.lh_unit.specs.Held as held;
+ghost use Rattle.lh_unit.specs.Held.{Held as Content};
 ghost use Rattle.lh_unit.specs.Held.{Env, datum_held, data_at};
 ghost use Rattle.lh_unit.specs.Named as named;
 ghost use Rattle.lh_unit.specs.Naming.{operand_text, maybe_text};
@@ -15,7 +15,7 @@ ghost use Rattle.lh_unit.specs.Within.{Each};
 ghost use Rattle.lh_unit.specs.declared.inst.Typed.{Typed as Operand};
 ghost use Rattle.lh_eval.specs.HeldOf.{maybe_held};
 ghost use Rattle.lh_eval.specs.Holding.{Holds, MaybeIn};
-ghost use Rattle.lh_exec.specs.Standing.{MachineIs, FrameIs, Leads, Does, MaybeFrame, asserted_in, returned_in, back};
+ghost use Rattle.lh_exec.specs.Standing.{module_in, bits_in, MachineIs, FrameIs, Leads, Does, MaybeFrame, asserted_in, returned_in, back};
 ghost use Rattle.lh_exec.specs.Taking.{data_given};
 
 use crate::machine::{Call, Flow, Frame, Machine, Setting};
@@ -40,11 +40,11 @@ impl Machine {
         args: &[Typed],
         name: Option<ValueId>,
     ) -> Result<Flow, NoMemory>
-        requires unit { unit.0 < unit_count set.now.module.now }
-        requires blocks { named.is_assert (unit_name_at set.now.module.now unit.0) ≡ false → HasBlocks (kind_at set.now.module.now unit.0) }
+        requires unit { unit.0 < unit_count (module_in set.now) }
+        requires blocks { named.is_assert (unit_name_at (module_in set.now) unit.0) ≡ false → HasBlocks (kind_at (module_in set.now) unit.0) }
         requires args { Each (λ (o : Operand). o.value.0 < length self.old.frame.slots) args.now }
         requires name { MaybeIn self.old.frame.slots name }
-        ensures { let m = set.now.module.now in let f = naming m self.old.frame.unit.0 in Does result m self.old self.new (λ p. if named.is_assert (unit_name_at m unit.0) then tells p (asserted p.control.held (map (operand_text f) args.now)) else opens p (maybe_text f name) (called (Some (unit_text_at m unit.0)) (data_at p.control.held (map (operand_text f) args.now)))) }
+        ensures { let m = module_in set.now in let f = naming m self.old.frame.unit.0 in Does result m self.old self.new (λ p. if named.is_assert (unit_name_at m unit.0) then tells p (asserted p.control.held (map (operand_text f) args.now)) else opens p (maybe_text f name) (called (Some (unit_text_at m unit.0)) (data_at p.control.held (map (operand_text f) args.now)))) }
     {
         if is_assert(set.module.unit_name(unit)) {
             return self.tell(args);
@@ -74,11 +74,11 @@ impl Machine {
         args: &[Typed],
         name: Option<ValueId>,
     ) -> Result<Flow, NoMemory>
-        requires unit { unit.0 < unit_count set.now.module.now }
-        requires blocks { HasBlocks (kind_at set.now.module.now unit.0) }
+        requires unit { unit.0 < unit_count (module_in set.now) }
+        requires blocks { HasBlocks (kind_at (module_in set.now) unit.0) }
         requires args { Each (λ (o : Operand). o.value.0 < length self.old.frame.slots) args.now }
         requires name { MaybeIn self.old.frame.slots name }
-        ensures { let m = set.now.module.now in let f = naming m self.old.frame.unit.0 in Does result m self.old self.new (λ p. opens p (maybe_text f name) (called (Some (unit_text_at m unit.0)) (data_at p.control.held (map (operand_text f) args.now)))) }
+        ensures { let m = module_in set.now in let f = naming m self.old.frame.unit.0 in Does result m self.old self.new (λ p. opens p (maybe_text f name) (called (Some (unit_text_at m unit.0)) (data_at p.control.held (map (operand_text f) args.now)))) }
     {
         if self.callers.len() >= MAX_CALLS {
             return Ok(Flow::Lost);
@@ -90,13 +90,16 @@ impl Machine {
     }
 
     /// Goes on in a frame, above the one that it was in.
-    fn push(&mut self, frame: Frame, result: Option<ValueId>) -> Result<Flow, NoMemory>
-        requires name { MaybeIn self.old.frame.slots result }
+    fn push(&mut self, frame: Frame, name: Option<ValueId>) -> Result<Flow, NoMemory>
+        requires name { MaybeIn self.old.frame.slots name }
         requires few { length self.old.callers.items < 256 }
-        ensures { (a : Arena) (c : act.Control) → FrameIs a frame c → Does result a self.old self.new (λ p. opens p (maybe_text (naming a self.old.frame.unit.0) result) (Some c)) }
+        ensures { (a : Arena) (c : act.Control) → FrameIs a frame c → Does result a self.old self.new (λ p. opens p (maybe_text (naming a self.old.frame.unit.0) name) (Some c)) }
     {
         let frame = mem::replace(&mut self.frame, frame);
-        match self.callers.push(Call { frame, result }) {
+        match self.callers.push(Call {
+            frame,
+            result: name,
+        }) {
             Ok(()) => Ok(Flow::Goes),
             Err(_) => Err(NoMemory),
         }
@@ -115,7 +118,7 @@ impl Machine {
 
     /// Goes on in the last open call, with this held by the name of its result.
     fn go_back(&mut self, held: Option<Held>) -> Flow
-        ensures { (a : Arena) (p : Point) (h : Option held.Held) → MachineIs a self.old p → maybe_held held ≡ h → Leads a self.new result p.control.unit (back p h p.callers) }
+        ensures { (a : Arena) (p : Point) (h : Option Content) → MachineIs a self.old p → maybe_held held ≡ h → Leads a self.new result p.control.unit (back p h p.callers) }
     {
         match self.callers.pop() {
             Some(call) => {
@@ -170,10 +173,10 @@ fn called_frame(
     args: &[Typed],
     slots: &Slots,
 ) -> Result<Option<Frame>, NoMemory>
-    requires unit { unit.0 < unit_count set.now.module.now }
-    requires blocks { HasBlocks (kind_at set.now.module.now unit.0) }
+    requires unit { unit.0 < unit_count (module_in set.now) }
+    requires blocks { HasBlocks (kind_at (module_in set.now) unit.0) }
     requires args { Each (λ (o : Operand). o.value.0 < length slots.now) args.now }
-    ensures { let m = set.now.module.now in (u : ℕ) (e : Env) → Holds m u slots.now e → IfOk result (λ f. MaybeFrame m f (called (Some (unit_text_at m unit.0)) (data_at e (map (operand_text (naming m u)) args.now)))) }
+    ensures { let m = module_in set.now in (u : ℕ) (e : Env) → Holds m u slots.now e → IfOk result (λ f. MaybeFrame m f (called (Some (unit_text_at m unit.0)) (data_at e (map (operand_text (naming m u)) args.now)))) }
 {
     let Some(values) = data_in(set.alloc, slots, args)? else {
         return Ok(None);

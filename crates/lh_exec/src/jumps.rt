@@ -3,7 +3,7 @@ ghost use Rattle.std.specs.Prelude.{◌≡◌, ◌<◌, ℕ, List, [], ◌∷◌
 ghost use Rattle.std.specs.Option.{option_and_then};
 ghost use Rattle.lh_unit.specs.Activation as act;
 ghost use Rattle.lh_unit.specs.Activation.{Point, Control, jumps, entered, chosen, ends_at, waiting};
-ghost use Rattle.lh_unit.specs.Arena.{Arena, unit_count, value_count, inst_count, label_count, block_count, block_insts_at, table_at, naming, blocks_at, result_at};
+ghost use Rattle.lh_unit.specs.Arena.{Arena, unit_count, value_count, inst_count, label_count, label_name_at, block_count, block_insts_at, table_at, naming, blocks_at, result_at};
 ghost use Rattle.lh_unit.specs.Held.{test_at, parts_at};
 ghost use Rattle.lh_unit.specs.Naming.{value_text, maybe_text};
 ghost use Rattle.lh_unit.specs.Table.{is_block, line_at};
@@ -16,7 +16,7 @@ ghost use Rattle.lh_types.specs.ValueOf.{datum_of};
 ghost use Rattle.lh_eval.specs.Holding as holding;
 ghost use Rattle.lh_eval.specs.Holding.{MaybeIn};
 ghost use Rattle.lh_exec.specs.Standing as standing;
-ghost use Rattle.lh_exec.specs.Standing.{Does, wake_in};
+ghost use Rattle.lh_exec.specs.Standing.{module_in, bits_in, Does, wake_in};
 ghost use Rattle.lh_exec.specs.Taking.{edge_in, taken_of, one_taken, all_taken, in_front, put_all, Takes, TakesMore};
 
 use crate::machine::{Flow, Frame, Machine, Setting, Taken};
@@ -35,11 +35,11 @@ use std::alloc::Global;
 impl Machine {
     /// Goes along the edge to a block, where its `phi` take their values together.
     pub(crate) fn enter(&mut self, set: &Setting<'_>, to: BlockId) -> Result<Flow, NoMemory>
-        requires unit { self.old.frame.unit.0 < unit_count set.now.module.now }
-        requires to { to.0 < label_count set.now.module.now self.old.frame.unit.0 }
-        requires stands { is_block (blocks_at set.now.module.now self.old.frame.unit.0) to.0 ≡ true }
-        requires slots { length self.old.frame.slots ≡ value_count set.now.module.now self.old.frame.unit.0 }
-        ensures { let m = set.now.module.now in Does result m self.old self.new (λ p. jumps p (entered p.control.unit p.control.held p.control.block (label_name_at m self.old.frame.unit.0 to.0))) }
+        requires unit { self.old.frame.unit.0 < unit_count (module_in set.now) }
+        requires to { to.0 < label_count (module_in set.now) self.old.frame.unit.0 }
+        requires stands { is_block (blocks_at (module_in set.now) self.old.frame.unit.0) to.0 ≡ true }
+        requires slots { length self.old.frame.slots ≡ value_count (module_in set.now) self.old.frame.unit.0 }
+        ensures { let m = module_in set.now in Does result m self.old self.new (λ p. jumps p (entered p.control.unit p.control.held p.control.block (label_name_at m self.old.frame.unit.0 to.0))) }
     {
         let insts = set.module.insts(self.frame.unit, to);
         self.taken.clear();
@@ -60,14 +60,14 @@ impl Machine {
         zero: BlockId,
         one: BlockId,
     ) -> Result<Flow, NoMemory>
-        requires unit { self.old.frame.unit.0 < unit_count set.now.module.now }
+        requires unit { self.old.frame.unit.0 < unit_count (module_in set.now) }
         requires cond { cond.0 < length self.old.frame.slots }
-        requires zero { zero.0 < label_count set.now.module.now self.old.frame.unit.0 }
-        requires one { one.0 < label_count set.now.module.now self.old.frame.unit.0 }
-        requires zero_stands { is_block (blocks_at set.now.module.now self.old.frame.unit.0) zero.0 ≡ true }
-        requires one_stands { is_block (blocks_at set.now.module.now self.old.frame.unit.0) one.0 ≡ true }
-        requires slots { length self.old.frame.slots ≡ value_count set.now.module.now self.old.frame.unit.0 }
-        ensures { let m = set.now.module.now in let f = naming m self.old.frame.unit.0 in Does result m self.old self.new (λ p. jumps p (option_and_then (entered p.control.unit p.control.held p.control.block) (chosen (test_at p.control.held (value_text f cond)) (f.label_name zero.0) (f.label_name one.0)))) }
+        requires zero { zero.0 < label_count (module_in set.now) self.old.frame.unit.0 }
+        requires one { one.0 < label_count (module_in set.now) self.old.frame.unit.0 }
+        requires zero_stands { is_block (blocks_at (module_in set.now) self.old.frame.unit.0) zero.0 ≡ true }
+        requires one_stands { is_block (blocks_at (module_in set.now) self.old.frame.unit.0) one.0 ≡ true }
+        requires slots { length self.old.frame.slots ≡ value_count (module_in set.now) self.old.frame.unit.0 }
+        ensures { let m = module_in set.now in let f = naming m self.old.frame.unit.0 in Does result m self.old self.new (λ p. jumps p (option_and_then (entered p.control.unit p.control.held p.control.block) (chosen (test_at p.control.held (value_text f cond)) (f.label_name zero.0) (f.label_name one.0)))) }
     {
         match test_in(&self.frame.slots, cond) {
             Some(false) => self.enter(set, zero),
@@ -84,10 +84,10 @@ impl Machine {
         after: Option<ValueId>,
         signals: &[ValueId],
     ) -> Result<Flow, NoMemory>
-        requires to { to.0 < label_count set.now.module.now self.now.frame.unit.0 }
+        requires to { to.0 < label_count (module_in set.now) self.now.frame.unit.0 }
         requires after { MaybeIn self.now.frame.slots after }
         requires signals { Each (λ (v : Value). v.0 < length self.now.frame.slots) signals.now }
-        ensures { let m = set.now.module.now in let f = naming m self.now.frame.unit.0 in Does result m self.now self.now (λ p. ends_at p p.callers (waiting p.control.block (f.label_name to.0) (parts_at p.control.held (map (value_text f) signals.now)) (act.wake_at set.now.at p.control.held (maybe_text f after)))) }
+        ensures { let m = module_in set.now in let f = naming m self.now.frame.unit.0 in Does result m self.now self.now (λ p. ends_at p p.callers (waiting p.control.block (f.label_name to.0) (parts_at p.control.held (map (value_text f) signals.now)) (act.wake_at set.now.at p.control.held (maybe_text f after)))) }
     {
         if !self.callers.is_empty() {
             return Ok(Flow::Lost);

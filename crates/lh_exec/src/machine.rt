@@ -4,7 +4,7 @@ ghost use Rattle.lh_unit.specs.Activation as act;
 ghost use Rattle.lh_unit.specs.Activation.{Point, gives};
 ghost use Rattle.lh_unit.specs.Arena.{Arena, naming};
 ghost use Rattle.lh_unit.specs.Naming.{maybe_text};
-ghost use Rattle.lh_unit.specs.Held as held;
+ghost use Rattle.lh_unit.specs.Held.{Held as Content};
 ghost use Rattle.lh_eval.specs.HeldOf.{maybe_held};
 ghost use Rattle.lh_eval.specs.Holding.{MaybeIn};
 ghost use Rattle.lh_exec.specs.Standing.{MachineIs, Leads, goes_on};
@@ -77,7 +77,7 @@ impl Machine {
     /// Holds by this name what an instruction gives, if it gives something.
     pub(crate) fn give(&mut self, name: Option<ValueId>, held: Option<Held>) -> Flow
         requires { MaybeIn self.old.frame.slots name }
-        ensures { (a : Arena) (p : Point) (h : Option held.Held) → MachineIs a self.old p → maybe_held held ≡ h → Leads a self.new result p.control.unit (gives p (maybe_text (naming a self.old.frame.unit.0) name) h) }
+        ensures { (a : Arena) (p : Point) (h : Option Content) → MachineIs a self.old p → maybe_held held ≡ h → Leads a self.new result p.control.unit (gives p (maybe_text (naming a self.old.frame.unit.0) name) h) }
     {
         if held.is_none() {
             return Flow::Lost;

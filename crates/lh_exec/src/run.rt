@@ -8,7 +8,7 @@ ghost use Rattle.lh_unit.specs.Table.{HasBlocks};
 ghost use Rattle.lh_unit.specs.Arena.{kind_at};
 ghost use Rattle.lh_unit.specs.WellFormed.{IsWellFormed};
 ghost use Rattle.lh_eval.specs.Holding.{MaybeIn};
-ghost use Rattle.lh_exec.specs.Standing.{MachineIs, Leads, Does, scene_of};
+ghost use Rattle.lh_exec.specs.Standing.{module_in, bits_in, MachineIs, Leads, Does, scene_of};
 ghost use Rattle.lh_exec.specs.Sound.{LineRight, SlotsFit, IsFit, PointFits, Finishes};
 
 use crate::machine::{Flow, Machine, Setting};
@@ -18,10 +18,10 @@ use lh_unit::inst::{Inst, ValueId};
 impl Machine {
     /// Runs at most so many instructions; `Lost` where they do not come to an end of the activation.
     pub(crate) fn run(&mut self, set: &Setting<'_>, limit: u32) -> Result<Flow, NoMemory>
-        requires formed { IsWellFormed (contents set.now.module.now) }
-        requires few { length set.now.now.now < 2 ^ 32 }
-        requires fit { IsFit set.now.module.now (length set.now.now.now) self.old }
-        ensures { let m = set.now.module.now in let w = length set.now.now.now in (u : ℕ) (p : Point) → MachineIs m self.old p → PointFits (contents m) w (unit_text_at m u) p → IfOk result (λ fl. Finishes m u w self.new fl (act.run limit (scene_of m set.now.now.now set.now.at) p)) }
+        requires formed { IsWellFormed (contents (module_in set.now)) }
+        requires few { length (bits_in set.now) < 2 ^ 32 }
+        requires fit { IsFit (module_in set.now) (length (bits_in set.now)) self.old }
+        ensures { let m = module_in set.now in let w = length (bits_in set.now) in (u : ℕ) (p : Point) → MachineIs m self.old p → PointFits (contents m) w (unit_text_at m u) p → IfOk result (λ fl. Finishes m u w self.new fl (act.run limit (scene_of m (bits_in set.now) set.now.at) p)) }
     {
         for _ in 0..limit {
             let flow = self.step(set)?;
@@ -34,10 +34,10 @@ impl Machine {
 
     /// Runs the instruction that comes next.
     fn step(&mut self, set: &Setting<'_>) -> Result<Flow, NoMemory>
-        requires formed { IsWellFormed (contents set.now.module.now) }
-        requires few { length set.now.now.now < 2 ^ 32 }
-        requires fit { IsFit set.now.module.now (length set.now.now.now) self.old }
-        ensures { let m = set.now.module.now in Does result m self.old self.new (act.step (scene_of m set.now.now.now set.now.at)) }
+        requires formed { IsWellFormed (contents (module_in set.now)) }
+        requires few { length (bits_in set.now) < 2 ^ 32 }
+        requires fit { IsFit (module_in set.now) (length (bits_in set.now)) self.old }
+        ensures { let m = module_in set.now in Does result m self.old self.new (act.step (scene_of m (bits_in set.now) set.now.at)) }
     {
         let unit = self.frame.unit;
         let insts = set.module.insts(unit, self.frame.block);
@@ -57,16 +57,16 @@ impl Machine {
         inst: &Inst,
         name: Option<ValueId>,
     ) -> Result<Flow, NoMemory>
-        requires arena { IsArena set.now.module.now }
-        requires few { length set.now.now.now < 2 ^ 32 }
-        requires formed { IsWellFormed (contents set.now.module.now) }
-        requires unit { self.old.frame.unit.0 < unit_count set.now.module.now }
-        requires blocks { HasBlocks (kind_at set.now.module.now self.old.frame.unit.0) }
-        requires placed { InstPlaced set.now.module.now self.old.frame.unit.0 inst.now }
+        requires arena { IsArena (module_in set.now) }
+        requires few { length (bits_in set.now) < 2 ^ 32 }
+        requires formed { IsWellFormed (contents (module_in set.now)) }
+        requires unit { self.old.frame.unit.0 < unit_count (module_in set.now) }
+        requires blocks { HasBlocks (kind_at (module_in set.now) self.old.frame.unit.0) }
+        requires placed { InstPlaced (module_in set.now) self.old.frame.unit.0 inst.now }
         requires name { MaybeIn self.old.frame.slots name }
-        requires right { LineRight (contents set.now.module.now) (unit_text_at set.now.module.now self.old.frame.unit.0) (record { result = maybe_text (naming set.now.module.now self.old.frame.unit.0) name; inst = inst_text (naming set.now.module.now self.old.frame.unit.0) inst.now }) }
-        requires fit { SlotsFit set.now.module.now self.old.frame.unit.0 (length set.now.now.now) self.old.frame.slots }
-        ensures { let m = set.now.module.now in let f = naming m self.old.frame.unit.0 in Does result m self.old self.new (executes (scene_of m set.now.now.now set.now.at) (inst_text f inst.now) (maybe_text f name)) }
+        requires right { LineRight (contents (module_in set.now)) (unit_text_at (module_in set.now) self.old.frame.unit.0) (record { result = maybe_text (naming (module_in set.now) self.old.frame.unit.0) name; inst = inst_text (naming (module_in set.now) self.old.frame.unit.0) inst.now }) }
+        requires fit { SlotsFit (module_in set.now) self.old.frame.unit.0 (length (bits_in set.now)) self.old.frame.slots }
+        ensures { let m = module_in set.now in let f = naming m self.old.frame.unit.0 in Does result m self.old self.new (executes (scene_of m (bits_in set.now) set.now.at) (inst_text f inst.now) (maybe_text f name)) }
     {
         match inst {
             Inst::Const(value) => self.run_const(value, name),

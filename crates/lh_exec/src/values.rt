@@ -12,7 +12,7 @@ ghost use Rattle.lh_eval.specs.HeldOf.{maybe_held};
 ghost use Rattle.lh_eval.specs.Holding as holding;
 ghost use Rattle.lh_eval.specs.Holding.{MaybeIn};
 ghost use Rattle.lh_eval.specs.Fitting.{OperandsFit, ProbeFits, DriveFits};
-ghost use Rattle.lh_exec.specs.Standing.{Does};
+ghost use Rattle.lh_exec.specs.Standing.{module_in, bits_in, Does};
 
 use crate::machine::{Flow, Machine, Setting};
 use lh_eval::effects::{drive, probe};
@@ -44,12 +44,12 @@ impl Machine {
         args: &[Typed],
         name: Option<ValueId>,
     ) -> Result<Flow, NoMemory>
-        requires unit { self.old.frame.unit.0 < unit_count set.now.module.now }
-        requires args { Each (OperandWithin (sizes set.now.module.now self.old.frame.unit.0)) args.now }
+        requires unit { self.old.frame.unit.0 < unit_count (module_in set.now) }
+        requires args { Each (OperandWithin (sizes (module_in set.now) self.old.frame.unit.0)) args.now }
         requires name { MaybeIn self.old.frame.slots name }
-        requires slots { length self.old.frame.slots ≡ value_count set.now.module.now self.old.frame.unit.0 }
-        requires fit { OperandsFit set.now.module.now self.old.frame.unit.0 self.old.frame.slots op.now args.now }
-        ensures { let f = naming set.now.module.now self.old.frame.unit.0 in Does result set.now.module.now self.old self.new (λ p. gives p (maybe_text f name) (operated p.control.unit p.control.held op.now (map (operand_text f) args.now))) }
+        requires slots { length self.old.frame.slots ≡ value_count (module_in set.now) self.old.frame.unit.0 }
+        requires fit { OperandsFit (module_in set.now) self.old.frame.unit.0 self.old.frame.slots op.now args.now }
+        ensures { let f = naming (module_in set.now) self.old.frame.unit.0 in Does result (module_in set.now) self.old self.new (λ p. gives p (maybe_text f name) (operated p.control.unit p.control.held op.now (map (operand_text f) args.now))) }
     {
         let held = operate(
             set.alloc,
@@ -113,8 +113,8 @@ impl Machine {
     ) -> Result<Flow, NoMemory>
         requires within { signal.now.value.0 < length self.old.frame.slots }
         requires name { MaybeIn self.old.frame.slots name }
-        requires fit { ProbeFits set.now.now.now self.old.frame.slots signal.now }
-        ensures { (a : Arena) → let f = naming a self.old.frame.unit.0 in Does result a self.old self.new (λ p. gives p (maybe_text f name) (probed set.now.now.now p.control.held (operand_text f signal.now))) }
+        requires fit { ProbeFits (bits_in set.now) self.old.frame.slots signal.now }
+        ensures { (a : Arena) → let f = naming a self.old.frame.unit.0 in Does result a self.old self.new (λ p. gives p (maybe_text f name) (probed (bits_in set.now) p.control.held (operand_text f signal.now))) }
     {
         let held = probe(set.alloc, signal, &self.frame.slots, set.now)?;
         Ok(self.give(name, held))

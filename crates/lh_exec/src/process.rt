@@ -6,7 +6,7 @@ ghost use Rattle.lh_types.specs.declared.part.Range.{Range as Bounds};
 ghost use Rattle.lh_unit.specs.Arena.{Arena, IsArena, unit_count, kind_at, contents, unit_text_at};
 ghost use Rattle.lh_unit.specs.WellFormed.{IsWellFormed};
 ghost use Rattle.lh_sound.specs.Ranges.{RangesFit, arg_types};
-ghost use Rattle.lh_exec.specs.Standing.{scene_of};
+ghost use Rattle.lh_exec.specs.Standing.{module_in, bits_in, scene_of};
 ghost use Rattle.lh_exec.specs.States.{StandsFor, StandsBy, StateFits, FitsBy, Answers, GivesMaybe};
 ghost use Rattle.lh_exec.specs.Sound.{Finishes, stood};
 
@@ -95,12 +95,12 @@ fn activate_within(
     stand: &Stand,
     limit: u32,
 ) -> Result<Option<Act>, NoMemory>
-    requires formed { IsWellFormed (contents set.now.module.now) }
-    requires unit { unit.0 < unit_count set.now.module.now }
-    requires process { kind_at set.now.module.now unit.0 ≡ Some UnitKind.Proc }
-    requires args { RangesFit (length set.now.now.now) args.now (arg_types (unit_text_at set.now.module.now unit.0).args) }
-    requires fits { FitsBy set.now.module.now unit.0 (length set.now.now.now) stand.now }
-    ensures { let m = set.now.module.now in let w = length set.now.now.now in (p : ProcessState) → StandsBy m unit.0 args.now stand.now p → IfOk result (λ r. GivesMaybe m unit.0 args.now w r (activation limit (scene_of m set.now.now.now set.now.at) (unit_text_at m unit.0) p)) }
+    requires formed { IsWellFormed (contents (module_in set.now)) }
+    requires unit { unit.0 < unit_count (module_in set.now) }
+    requires process { kind_at (module_in set.now) unit.0 ≡ Some UnitKind.Proc }
+    requires args { RangesFit (length (bits_in set.now)) args.now (arg_types (unit_text_at (module_in set.now) unit.0).args) }
+    requires fits { FitsBy (module_in set.now) unit.0 (length (bits_in set.now)) stand.now }
+    ensures { let m = module_in set.now in let w = length (bits_in set.now) in (p : ProcessState) → StandsBy m unit.0 args.now stand.now p → IfOk result (λ r. GivesMaybe m unit.0 args.now w r (activation limit (scene_of m (bits_in set.now) set.now.at) (unit_text_at m unit.0) p)) }
 {
     few_bits(set.now);
     match begin(set, unit, args, stand)? {

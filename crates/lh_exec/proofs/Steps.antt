@@ -1,0 +1,1 @@
+-- The machine stands for the point that an instruction leads to.
