@@ -1,6 +1,5 @@
 pub mod HeldOf
 pub mod Holding
-pub mod Giving
 pub mod Fitting
 pub mod Sound
 pub mod WishOf

@@ -14,7 +14,7 @@ use Rattle.lh_history.specs.Claims.{MadeTogether}
 use Rattle.lh_history.proofs.Instants.{le_self}
 use Rattle.lh_history.proofs.Claims.{among_parts, made_together}
 use Rattle.lh_meaning.proofs.Instants.{lt_self}
-use Rattle.lh_meaning.proofs.WishesLaw.{in_order-insert, due_bit_self}
+use Rattle.lh_history.proofs.DueBits.{in_order-insert, due_bit_self}
 use Rattle.lh_meaning.proofs.WishKept.{WishProperty, act_keeps}
 use Rattle.lh_meaning.proofs.Late.{act_late}
 use Rattle.lh_meaning.proofs.Worlds.{claims-append}

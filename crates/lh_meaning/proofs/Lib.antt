@@ -25,6 +25,7 @@ pub mod MayStandLaw
 pub mod Buffer
 pub mod SampleParts
 pub mod FlipFlop
+pub mod Once
 pub mod DefinedLaw
 pub mod ProbesLaw
 pub mod Labelled

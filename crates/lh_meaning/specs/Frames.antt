@@ -82,10 +82,11 @@ pub record IsWoken (items : List ItemText) (d : Design) (w : World) (t : Instant
   pub stands : slice_get w.states k ≡ Some state
   pub wakes : woken w.last (bits_of w) (bits_at w.history w.init t) t (unit_of items instance.unit) instance state ≡ true
 
--- The instances that are listed as woken are exactly those that are, in rising order.
+-- The instances that are listed as woken are exactly those that are.
 abbrev pub WokenAreListed : Type 0
 WokenAreListed = (items : List ItemText) (d : Design) (w : World) (t : Instant) (k : ℕ) → Contains (woken_at items d w t) k ↔ IsWoken items d w t k
 
+-- Their numbers rise.
 abbrev pub WokenRise : Type 0
 WokenRise = (items : List ItemText) (d : Design) (w : World) (t : Instant) → IsStrictlyIncreasing (woken_at items d w t)
 

@@ -1,10 +1,10 @@
 -- Wishes as maps.
 use Rattle.std.specs.Prelude.{◌≡◌, ℕ, List, [], ◌∷◌, length, Bool, true, if◌then◌else◌, Option, Some, None}
-use Rattle.std.specs.declared.cmp.Ordering.TheVariants.{Less}
 use Rattle.std.specs.Ordering.{is_eq}
 use Rattle.lh_time.specs.declared.Instant.{Instant}
 use Rattle.lh_time.specs.Order.{instant_lt, instant_le}
 use Rattle.lh_types.specs.Wish.{DueBit, due_bit_cmp, Wish, with_drive}
+pub use Rattle.lh_types.specs.Wish.{IsBelow, IsInOrder}
 use Rattle.lh_types.specs.History.{Claim, claims, IsAmong}
 use Rattle.lh_unit.specs.Contents.{UnitText, ItemText}
 use Rattle.lh_unit.specs.Hierarchy.{Instance}
@@ -16,15 +16,6 @@ use Rattle.lh_meaning.specs.Values.{OneEach}
 abbrev pub look : DueBit → Wish → Option Bool
 look k [] = None
 look k (e ∷ more) = if is_eq (due_bit_cmp k e.0) then Some e.1 else look k more
-
--- its entries stand in strictly rising order
-abbrev pub IsBelow : DueBit → Wish → Type 0
-IsBelow k [] = Unit {0}
-IsBelow k (e ∷ more) = (due_bit_cmp k e.0 ≡ Less) × IsBelow k more
-
-abbrev pub IsInOrder : Wish → Type 0
-IsInOrder [] = Unit {0}
-IsInOrder (e ∷ more) = IsBelow e.0 more × IsInOrder more
 
 -- each entry is due after t
 abbrev pub IsLate : Instant → Wish → Type 0

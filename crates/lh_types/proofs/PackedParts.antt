@@ -6,7 +6,8 @@ use Rattle.std.specs.Vec.{with_items}
 use mir.Val.{bool_byte}
 use Rattle.std.specs.List.{slice_get}
 use Rattle.std.specs.Int.{bit_at}
-use Rattle.std.proofs.lemmas.List.{with_items_is, length-replicate, length-append, length-take, length-drop}
+use Rattle.std.proofs.Math.ListN.{drop_of_length-le}
+use Rattle.std.proofs.lemmas.List.{with_items_is, length-replicate, length-append, length-take, length-drop, append-nil}
 use Rattle.std.proofs.lemmas.Nat.Bits.{bit_at_lowest}
 use Rattle.lh_types.specs.Flags.{word_bit, flags}
 use Rattle.lh_types.specs.Parts.{bits_within, bits_with}
@@ -139,3 +140,10 @@ length-bits_with lo new bs h = omega (arith, length-append (take lo bs ++ new) (
 
 pub length-bits_within : (lo len : ℕ) (bs : List Bool) → lo + len ≤ length bs → length (bits_within lo len bs) ≡ len
 length-bits_within lo len bs h = omega (arith, length-take len (drop lo bs), length-drop lo bs)
+
+-- a part that is put into as many zeros
+pub part_alone : (at len : ℕ) (bs zeros new : List Bool) → at + len ≤ length bs → zeros ≡ replicate len false → new ≡ bits_with 0 (bits_within at len bs) zeros → new ≡ bits_within at len bs
+part_alone at len bs zeros new h z e =
+    let l : length (bits_within at len bs) ≡ len = length-bits_within at len bs h in
+    let n : length zeros ≤ 0 + length (bits_within at len bs) = omega (arith, ap length z, length-replicate len false) in
+    e ∙ ap (λ xs. bits_within at len bs ++ xs) (drop_of_length-le zeros n) ∙ append-nil (bits_within at len bs)

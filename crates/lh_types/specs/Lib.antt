@@ -21,5 +21,6 @@ pub mod ApplyInt
 pub mod Apply
 pub mod ApplyTypes
 pub mod Wish
+pub mod Writes
 pub mod History
 pub mod Pictures

@@ -54,6 +54,16 @@ impl Bits {
         }
     }
 
+    /// The `len` bits from bit `at` on, as a list of their own.
+    pub fn part(&self, at: u32, len: u32) -> Result<Bits, NoMemory>
+        requires { at + len ≤ length self.now }
+        ensures { IfOk result (λ b. b ≡ bits_within at len self.now) }
+    {
+        let mut part = Bits::zeros(*self.words.allocator(), len)?;
+        part.put_part(0, self, at, len);
+        Ok(part)
+    }
+
     /// There are fewer than 2^32 bits.
     pub(crate) fn is_short(&self)
         ensures { length self.now < 2 ^ 32 }

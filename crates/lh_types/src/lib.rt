@@ -1,6 +1,7 @@
 //! Types, values, bits and operations of the language, and the lists that every layer uses.
 #![tactic(auto)]
 
+pub mod bit_run;
 pub mod bits;
 pub mod frame;
 pub mod laws;

@@ -8,6 +8,7 @@ use Rattle.lh_time.specs.Order.{instant_cmp, instant_lt, instant_le}
 use Rattle.lh_time.specs.Due.{instant}
 use Rattle.lh_types.specs.Wish.{Wish, no_wish}
 use Rattle.lh_types.specs.History.{Made, Claim, claims, bits_at, sooner, if_later, soonest_due}
+pub use Rattle.lh_types.specs.History.{kept}
 use Rattle.lh_types.specs.declared.part.Range.{Range}
 use Rattle.lh_unit.specs.declared.name.UnitName.{UnitName}
 use Rattle.lh_unit.specs.declared.inst.UnitKind.{UnitKind}
@@ -166,11 +167,6 @@ rules_of bound items = record { bound = bound; functions = functions items }
 unfoldable pub acts_at : (bound : ℕ) → List ItemText → Design → World → Instant → List Act
 acts_at bound items d w t =
     acts_from (rules_of bound items) items w.last (bits_of w) (bits_at w.history w.init t) t d.instances w.states
-
--- a wish that is not empty is kept, with its origin
-abbrev pub kept : Instant → (instance : ℕ) → Wish → List Made
-kept t i [] = []
-kept t i (e ∷ more) = record { made = t; instance = i; wish = e ∷ more } ∷ []
 
 -- the wishes of a frame, by instance
 abbrev pub made_by : Instant → (instance : ℕ) → List Act → List Made
