@@ -9,7 +9,7 @@ use Rattle.lh_unit.specs.Named.{block_of, label_or, function_named}
 use Rattle.lh_unit.specs.Held.{Held, Env}
 use Rattle.lh_unit.specs.Typing.{value_type}
 use Rattle.lh_unit.specs.WellFormed.{labels_named}
-use Rattle.lh_unit.specs.Activation.{Stand, is_new, waits, halted, ProcessState, Control, Caller, Point, Activated, start_point, functions}
+use Rattle.lh_unit.specs.Activation.{Scene, run, Stand, is_new, waits, halted, ProcessState, Control, Caller, Point, Activated, start_point, functions}
 use Rattle.lh_unit.specs.Arena.{Arena, IsArena, contents, unit_text_at, label_name_at, label_count}
 use Rattle.lh_unit.specs.Within.{Each}
 use Rattle.lh_formed.specs.Calls.{NamedIsRight}
@@ -94,12 +94,6 @@ pub record DoneFits (width : ℕ) (u : UnitText) (done : Activated) : Type 0 whe
   pub held : Fits u width done.state.held
   pub wish : WishWithin width done.wish
 
--- what slots hold, held under names, fits
-pub record SlotsFit (a : Arena) (u : ℕ) (width : ℕ) (slots : List (Option Held)) : Type 0 where
-  pub env : Env
-  pub holds : Holds a u slots env
-  pub fits : Fits (unit_text_at a u) width env
-
 -- the machine stands for a point that fits
 pub record IsFit (a : Arena) (width : ℕ) (m : Machine) : Type 0 where
   pub unit : UnitText
@@ -126,3 +120,10 @@ abbrev pub stood : Frame → Flow → Option declared.Stand
 stood f (flow.Waits to on) = Some (stand.Waits (record { block = f.block; to = to; slots = f.slots; on = on }))
 stood f flow.Halts = Some stand.Halted
 stood f _ = None
+
+-- The machine stands for a point that fits, and so many more instructions lead from it to this.
+pub record Continues (a : Arena) (s : Scene) (u : ℕ) (width : ℕ) (left : ℕ) (m : Machine) (to : Option Activated) : Type 0 where
+  pub point : Point
+  pub is : MachineIs a m point
+  pub fits : PointFits (contents a) width (unit_text_at a u) point
+  pub same : run left s point ≡ to

@@ -65,6 +65,12 @@ pub record MachineIs (a : Arena) (m : Machine) (p : Point) : Type 0 where
   pub wish : m.wishes ≡ p.wish
   pub outcomes : m.outcomes ≡ p.outcomes
 
+-- The machine stands for some point.
+pub record HasPoint (m : Machine) : Type 0 where
+  pub arena : Arena
+  pub point : Point
+  pub is : MachineIs arena m point
+
 -- the unit v of the machine's frame stands in this way when the activation ends
 pub record Ends (a : Arena) (m : Machine) (v : UnitText) (at : Stand) (done : Activated) : Type 0 where
   pub within : m.frame.unit.0 < unit_count a

@@ -1,19 +1,15 @@
 -- The state of a process between its activations, and what an activation of it answers.
 use Rattle.std.specs.Prelude.{◌≡◌, ℕ, ◌<◌, List, [], ◌∷◌, ◌++◌, length, map, Bool, Option, Some, None, Result, Ok, Err}
 use Rattle.lh_time.specs.declared.Instant.{Instant}
-use Rattle.lh_types.specs.Types.{TypeTree}
 use Rattle.lh_types.specs.declared.part.Range.{Range}
 use Rattle.lh_unit.specs.Contents.{LineText, BlockText, UnitText, wait_text}
 use Rattle.lh_unit.specs.Named.{block_of}
-use Rattle.lh_unit.specs.Held.{Held, part_held, nothing_held, with_args}
+use Rattle.lh_unit.specs.Held.{Held, Env, part_held, nothing_held, with_args}
 use Rattle.lh_unit.specs.Activation.{is_new, waits, halted, Control, Point, ProcessState, Activated}
-use Rattle.lh_unit.specs.Typing.{value_type}
-use Rattle.lh_unit.specs.Arena.{Arena, naming, value_count, label_count, label_name_at, unit_text_at}
-use Rattle.lh_unit.specs.Naming.{value_text}
+use Rattle.lh_unit.specs.Arena.{Arena, label_count, label_name_at, unit_text_at}
 use Rattle.lh_unit.specs.Within.{Each}
-use Rattle.lh_unit.specs.declared.inst.ValueId.{ValueId}
-use Rattle.lh_eval.specs.Holding.{Holds, slot_at}
-use Rattle.lh_eval.specs.Fitting.{FitsHeld}
+use Rattle.lh_eval.specs.Holding.{Holds}
+use Rattle.lh_eval.specs.Fitting.{Fits}
 use Rattle.lh_eval.specs.WishOf.{writes_wish}
 use Rattle.lh_eval.specs.Grouped.{IsGrouped}
 use Rattle.lh_eval.specs.Wishing.{BitsWithin}
@@ -59,13 +55,18 @@ pub record WaitsIn (u : UnitText) (block to : List ℕ) : Type 0 where
   pub signals : List (List ℕ)
   pub split : text.lines ≡ before ++ record { result = name; inst = wait_text to delay signals } ∷ after
 
+-- what slots hold, held under names, fits
+pub record SlotsFit (a : Arena) (u : ℕ) (width : ℕ) (slots : List (Option Held)) : Type 0 where
+  pub env : Env
+  pub holds : Holds a u slots env
+  pub fits : Fits (unit_text_at a u) width env
+
 -- A process that waits fits where it stands at a `wait` of its unit, and each value that it holds fits the type of its name, parts within so many bits.
 pub record PauseFits (a : Arena) (u : ℕ) (width : ℕ) (w : Pause) : Type 0 where
   pub block : w.block.0 < label_count a u
   pub to : w.to.0 < label_count a u
   pub stands : WaitsIn (unit_text_at a u) (label_name_at a u w.block.0) (label_name_at a u w.to.0)
-  pub long : length w.slots ≡ value_count a u
-  pub fits : (v : ValueId) (h : Held) (t : TypeTree) → v.0 < value_count a u → slot_at w.slots v ≡ Some h → value_type (unit_text_at a u) (value_text (naming a u) v) ≡ Some t → FitsHeld width h t
+  pub held : SlotsFit a u width w.slots
 
 -- a state fits where it is new, has halted, or waits and fits
 abbrev pub FitsBy : Arena → ℕ → (width : ℕ) → Stand → Type 0

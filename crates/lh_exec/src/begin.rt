@@ -2,7 +2,7 @@
 ghost use Rattle.std.specs.Prelude.{◌≡◌, ◌<◌, [], length, Some, IfOk};
 ghost use Rattle.lh_types.specs.Wish.{no_wish};
 ghost use Rattle.lh_unit.specs.Activation.{ProcessState, control_at};
-ghost use Rattle.lh_unit.specs.Arena.{unit_count, kind_at, contents, unit_text_at};
+ghost use Rattle.lh_unit.specs.Arena.{IsArena, unit_count, kind_at, contents, unit_text_at};
 ghost use Rattle.lh_unit.specs.WellFormed.{IsWellFormed};
 ghost use Rattle.lh_exec.specs.States.{StandsBy, FitsBy, PauseFits, begun};
 ghost use Rattle.lh_exec.specs.Sound.{BeginsAt};
@@ -28,6 +28,7 @@ pub(crate) fn begin(
     args: &[Range],
     stand: &Stand,
 ) -> Result<Option<Machine>, NoMemory>
+    requires arena { IsArena (module_in set.now) }
     requires unit { unit.0 < unit_count (module_in set.now) }
     requires process { kind_at (module_in set.now) unit.0 ≡ Some UnitKind.Proc }
     requires formed { IsWellFormed (contents (module_in set.now)) }
@@ -47,6 +48,7 @@ fn begin_new(
     unit: UnitId,
     args: &[Range],
 ) -> Result<Option<Machine>, NoMemory>
+    requires arena { IsArena (module_in set.now) }
     requires unit { unit.0 < unit_count (module_in set.now) }
     requires process { kind_at (module_in set.now) unit.0 ≡ Some UnitKind.Proc }
     ensures { let m = module_in set.now in IfOk result (λ r. BeginsAt m r (control_at (unit_text_at m unit.0) (begun (unit_text_at m unit.0) args.now))) }
@@ -65,6 +67,7 @@ fn begin_from(
     unit: UnitId,
     pause: &Pause,
 ) -> Result<Option<Machine>, NoMemory>
+    requires arena { IsArena (module_in set.now) }
     requires unit { unit.0 < unit_count (module_in set.now) }
     requires process { kind_at (module_in set.now) unit.0 ≡ Some UnitKind.Proc }
     requires formed { IsWellFormed (contents (module_in set.now)) }

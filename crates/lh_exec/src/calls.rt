@@ -1,5 +1,5 @@
 //! Assertions, calls and returns.
-ghost use Rattle.std.specs.Prelude.{◌≡◌, ◌<◌, ℕ, false, length, map, if◌then◌else◌, Option, Some, IfOk, OnOk, IfSome};
+ghost use Rattle.std.specs.Prelude.{◌≡◌, ◌<◌, ℕ, false, [], ◌∷◌, ◌++◌, length, map, if◌then◌else◌, Option, Some, IfOk, OnOk, IfSome};
 ghost use Rattle.std.specs.Option.{option_map};
 ghost use Rattle.lh_types.specs.ValueOf.{datum_of};
 ghost use Rattle.lh_unit.specs.Activation as act;
@@ -15,7 +15,7 @@ ghost use Rattle.lh_unit.specs.Within.{Each};
 ghost use Rattle.lh_unit.specs.declared.inst.Typed.{Typed as Operand};
 ghost use Rattle.lh_eval.specs.HeldOf.{maybe_held};
 ghost use Rattle.lh_eval.specs.Holding.{Holds, MaybeIn};
-ghost use Rattle.lh_exec.specs.Standing.{module_in, bits_in, MachineIs, FrameIs, Leads, Does, MaybeFrame, asserted_in, returned_in, back};
+ghost use Rattle.lh_exec.specs.Standing.{module_in, bits_in, MachineIs, HasPoint, FrameIs, Leads, Does, MaybeFrame, asserted_in, returned_in, back};
 ghost use Rattle.lh_exec.specs.Taking.{data_given};
 
 use crate::machine::{Call, Flow, Frame, Machine, Setting};
@@ -96,18 +96,20 @@ impl Machine {
         ensures { (a : Arena) (c : act.Control) → FrameIs a frame c → Does result a self.old self.new (λ p. opens p (maybe_text (naming a self.old.frame.unit.0) name) (Some c)) }
     {
         let frame = mem::replace(&mut self.frame, frame);
-        match self.callers.push(Call {
-            frame,
-            result: name,
-        }) {
-            Ok(()) => Ok(Flow::Goes),
-            Err(_) => Err(NoMemory),
-        }
+        push_call(
+            &mut self.callers,
+            Call {
+                frame,
+                result: name,
+            },
+        )?;
+        Ok(Flow::Goes)
     }
 
     /// Ends the last open call.
     pub(crate) fn run_ret(&mut self, operand: &Option<Typed>) -> Result<Flow, NoMemory>
-        requires { IfSome operand.now (λ (o : Operand). o.value.0 < length self.old.frame.slots) }
+        requires within { IfSome operand.now (λ (o : Operand). o.value.0 < length self.old.frame.slots) }
+        requires point { HasPoint self.old }
         ensures { (a : Arena) → Does result a self.old self.new (λ p. returns p (option_map (operand_text (naming a self.old.frame.unit.0)) operand.now) p.callers) }
     {
         match returned(&self.frame.slots, operand)? {
@@ -118,6 +120,7 @@ impl Machine {
 
     /// Goes on in the last open call, with this held by the name of its result.
     fn go_back(&mut self, held: Option<Held>) -> Flow
+        requires { HasPoint self.old }
         ensures { (a : Arena) (p : Point) (h : Option Content) → MachineIs a self.old p → maybe_held held ≡ h → Leads a self.new result p.control.unit (back p h p.callers) }
     {
         match self.callers.pop() {
@@ -128,6 +131,15 @@ impl Machine {
             }
             None => Flow::Lost,
         }
+    }
+}
+
+fn push_call(calls: &mut Vec<Call>, call: Call) -> Result<(), NoMemory>
+    ensures { OnOk result (calls.new.items ≡ calls.old.items ++ call ∷ []) }
+{
+    match calls.push(call) {
+        Ok(()) => Ok(()),
+        Err(_) => Err(NoMemory),
     }
 }
 

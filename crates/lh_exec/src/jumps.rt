@@ -3,7 +3,7 @@ ghost use Rattle.std.specs.Prelude.{◌≡◌, ◌<◌, ℕ, List, [], ◌∷◌
 ghost use Rattle.std.specs.Option.{option_and_then};
 ghost use Rattle.lh_unit.specs.Activation as act;
 ghost use Rattle.lh_unit.specs.Activation.{Point, Control, jumps, entered, chosen, ends_at, waiting};
-ghost use Rattle.lh_unit.specs.Arena.{Arena, unit_count, value_count, inst_count, label_count, label_name_at, block_count, block_insts_at, table_at, naming, blocks_at, result_at};
+ghost use Rattle.lh_unit.specs.Arena.{Arena, IsArena, unit_count, value_count, inst_count, label_count, label_name_at, block_count, block_insts_at, table_at, naming, blocks_at, result_at};
 ghost use Rattle.lh_unit.specs.Held.{test_at, parts_at};
 ghost use Rattle.lh_unit.specs.Naming.{value_text, maybe_text};
 ghost use Rattle.lh_unit.specs.Table.{is_block, line_at};
@@ -35,6 +35,7 @@ use std::alloc::Global;
 impl Machine {
     /// Goes along the edge to a block, where its `phi` take their values together.
     pub(crate) fn enter(&mut self, set: &Setting<'_>, to: BlockId) -> Result<Flow, NoMemory>
+        requires arena { IsArena (module_in set.now) }
         requires unit { self.old.frame.unit.0 < unit_count (module_in set.now) }
         requires to { to.0 < label_count (module_in set.now) self.old.frame.unit.0 }
         requires stands { is_block (blocks_at (module_in set.now) self.old.frame.unit.0) to.0 ≡ true }
@@ -60,6 +61,7 @@ impl Machine {
         zero: BlockId,
         one: BlockId,
     ) -> Result<Flow, NoMemory>
+        requires arena { IsArena (module_in set.now) }
         requires unit { self.old.frame.unit.0 < unit_count (module_in set.now) }
         requires cond { cond.0 < length self.old.frame.slots }
         requires zero { zero.0 < label_count (module_in set.now) self.old.frame.unit.0 }

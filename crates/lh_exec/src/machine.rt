@@ -79,11 +79,13 @@ impl Machine {
         requires { MaybeIn self.old.frame.slots name }
         ensures { (a : Arena) (p : Point) (h : Option Content) → MachineIs a self.old p → maybe_held held ≡ h → Leads a self.new result p.control.unit (gives p (maybe_text (naming a self.old.frame.unit.0) name) h) }
     {
-        if held.is_none() {
-            return Flow::Lost;
+        match held {
+            Some(held) => {
+                self.frame.slots.give(name, Some(held));
+                Flow::Goes
+            }
+            None => Flow::Lost,
         }
-        self.frame.slots.give(name, held);
-        Flow::Goes
     }
 }
 

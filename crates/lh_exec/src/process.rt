@@ -102,7 +102,7 @@ fn activate_within(
     requires fits { FitsBy (module_in set.now) unit.0 (length (bits_in set.now)) stand.now }
     ensures { let m = module_in set.now in let w = length (bits_in set.now) in (p : ProcessState) → StandsBy m unit.0 args.now stand.now p → IfOk result (λ r. GivesMaybe m unit.0 args.now w r (activation limit (scene_of m (bits_in set.now) set.now.at) (unit_text_at m unit.0) p)) }
 {
-    few_bits(set.now);
+    in_order(set);
     match begin(set, unit, args, stand)? {
         Some(mut machine) => {
             let flow = machine.run(set, limit)?;
@@ -143,9 +143,10 @@ fn stand_at(frame: Frame, flow: Flow) -> Option<Stand>
     }
 }
 
-/// There are fewer than 2 ^ 32 bits.
-fn few_bits(bits: &Bits)
-    ensures { length bits.now < 2 ^ 32 }
+/// The module is in order, and there are fewer than 2 ^ 32 bits.
+fn in_order(set: &Setting<'_>)
+    ensures arena { IsArena (module_in set.now) }
+    ensures few { length (bits_in set.now) < 2 ^ 32 }
 {
-    let _len = bits.len();
+    let _sizes = (set.module.units(), set.now.len());
 }

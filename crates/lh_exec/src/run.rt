@@ -2,14 +2,12 @@
 ghost use Rattle.std.specs.Prelude.{◌≡◌, ◌<◌, ◌^◌, ℕ, length, IfOk};
 ghost use Rattle.lh_unit.specs.Activation as act;
 ghost use Rattle.lh_unit.specs.Activation.{Point, executes};
-ghost use Rattle.lh_unit.specs.Arena.{IsArena, InstPlaced, unit_count, contents, naming, unit_text_at};
+ghost use Rattle.lh_unit.specs.Arena.{InstPlaced, contents, naming, unit_text_at};
 ghost use Rattle.lh_unit.specs.Naming.{inst_text, maybe_text};
-ghost use Rattle.lh_unit.specs.Table.{HasBlocks};
-ghost use Rattle.lh_unit.specs.Arena.{kind_at};
 ghost use Rattle.lh_unit.specs.WellFormed.{IsWellFormed};
 ghost use Rattle.lh_eval.specs.Holding.{MaybeIn};
 ghost use Rattle.lh_exec.specs.Standing.{module_in, bits_in, MachineIs, Leads, Does, scene_of};
-ghost use Rattle.lh_exec.specs.Sound.{LineRight, SlotsFit, IsFit, PointFits, Finishes};
+ghost use Rattle.lh_exec.specs.Sound.{LineRight, IsFit, PointFits, Finishes};
 
 use crate::machine::{Flow, Machine, Setting};
 use lh_types::ty::NoMemory;
@@ -23,7 +21,7 @@ impl Machine {
         requires fit { IsFit (module_in set.now) (length (bits_in set.now)) self.old }
         ensures { let m = module_in set.now in let w = length (bits_in set.now) in (u : ℕ) (p : Point) → MachineIs m self.old p → PointFits (contents m) w (unit_text_at m u) p → IfOk result (λ fl. Finishes m u w self.new fl (act.run limit (scene_of m (bits_in set.now) set.now.at) p)) }
     {
-        for _ in 0..limit {
+        for i in 0..limit {
             let flow = self.step(set)?;
             if !flow.goes() {
                 return Ok(flow);
@@ -57,15 +55,12 @@ impl Machine {
         inst: &Inst,
         name: Option<ValueId>,
     ) -> Result<Flow, NoMemory>
-        requires arena { IsArena (module_in set.now) }
         requires few { length (bits_in set.now) < 2 ^ 32 }
         requires formed { IsWellFormed (contents (module_in set.now)) }
-        requires unit { self.old.frame.unit.0 < unit_count (module_in set.now) }
-        requires blocks { HasBlocks (kind_at (module_in set.now) self.old.frame.unit.0) }
         requires placed { InstPlaced (module_in set.now) self.old.frame.unit.0 inst.now }
         requires name { MaybeIn self.old.frame.slots name }
         requires right { LineRight (contents (module_in set.now)) (unit_text_at (module_in set.now) self.old.frame.unit.0) (record { result = maybe_text (naming (module_in set.now) self.old.frame.unit.0) name; inst = inst_text (naming (module_in set.now) self.old.frame.unit.0) inst.now }) }
-        requires fit { SlotsFit (module_in set.now) self.old.frame.unit.0 (length (bits_in set.now)) self.old.frame.slots }
+        requires fit { IsFit (module_in set.now) (length (bits_in set.now)) self.old }
         ensures { let m = module_in set.now in let f = naming m self.old.frame.unit.0 in Does result m self.old self.new (executes (scene_of m (bits_in set.now) set.now.at) (inst_text f inst.now) (maybe_text f name)) }
     {
         match inst {

@@ -1,5 +1,5 @@
 //! Instructions that give a value, store one, or drive one.
-ghost use Rattle.std.specs.Prelude.{◌≡◌, ◌<◌, ℕ, length, map, Some, IfOk};
+ghost use Rattle.std.specs.Prelude.{◌≡◌, ◌<◌, ℕ, length, map, is_some, Some, IfOk};
 ghost use Rattle.std.specs.Option.{option_map};
 ghost use Rattle.lh_types.specs.ValueOf.{datum_of};
 ghost use Rattle.lh_unit.specs.Activation.{gives, stores, wishes as wished};
@@ -93,7 +93,7 @@ impl Machine {
         requires value_within { value.0 < length self.old.frame.slots }
         ensures { (a : Arena) → let f = naming a self.old.frame.unit.0 in Does result a self.old self.new (λ p. stores p (value_text f to.now.value) (cell_at p.control.held (value_text f to.now.value)) (datum_at p.control.held (value_text f value))) }
     {
-        if cell_in(&self.frame.slots, to.value).is_none() {
+        if !has_cell(&self.frame.slots, to.value) {
             return Ok(Flow::Lost);
         }
         match new_cell(&self.frame.slots, value)? {
@@ -142,6 +142,17 @@ impl Machine {
         } else {
             Ok(Flow::Lost)
         }
+    }
+}
+
+/// Whether a variable is held by a value.
+fn has_cell(slots: &Slots, pointer: ValueId) -> bool
+    requires { pointer.0 < length slots.now }
+    ensures { result ≡ is_some (holding.cell_in slots.now pointer) }
+{
+    match cell_in(slots, pointer) {
+        Some(_) => true,
+        None => false,
     }
 }
 

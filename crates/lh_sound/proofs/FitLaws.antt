@@ -50,7 +50,7 @@ keeps-fit u now memory t p l s f = keeps u now memory t p f l.inst l.result s.ro
 
 module _ (a : Arena) (u : ℕ) (o : IsArena a) (h : u < unit_count a) (g : IsWellFormed (contents a)) where
   -- what holds of each item of the module holds of the unit
-  of-unit : IsSome (kind_at a u) → (P : ItemText → Type 0) → Each P (contents a) → P (unit_text (unit_text_at a u))
+  pub of-unit : IsSome (kind_at a u) → (P : ItemText → Type 0) → Each P (contents a) → P (unit_text (unit_text_at a u))
   of-unit b P each =
       let v : UnitId = record { 0 = u } in
       let i = o.items_defined v h b in

@@ -46,7 +46,7 @@ lines-in : (P : LineText → Type 0) (k : ℕ) (e : Bool) (b : BlockText) (befor
 lines-in P k e b before [] h = tt
 lines-in P k e b before (l ∷ rest) h = (h.0, lines-in P (k + 1) e b (before ++ l ∷ []) rest h.1)
 
-lines-from : (P : LineText → Type 0) (k : ℕ) (e : Bool) (bs : List BlockText) → Each (OnLine P) (places_from k e bs) → Each P (lines_of bs)
+pub lines-from : (P : LineText → Type 0) (k : ℕ) (e : Bool) (bs : List BlockText) → Each (OnLine P) (places_from k e bs) → Each P (lines_of bs)
 lines-from P k e [] h = tt
 lines-from P k e (b ∷ more) h =
     let r = each-split (OnLine P) (places_in k e b [] b.lines) (places_from (k + length b.lines) false more) h in

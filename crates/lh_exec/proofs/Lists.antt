@@ -1,0 +1,65 @@
+-- Lists that grow item by item.
+use Rattle.std.proofs.Common.{◌≡◌, ℕ, ◌+◌, ◌<◌, ◌≤◌, List, [], ◌∷◌, ◌++◌, length, map, drop, get_or, set, Option, Some, None, refl, ap, sym, ◌∙◌, subst, append_assoc, add-one, drop-cons, arith}
+use Rattle.std.specs.Option.{option_map}
+use Rattle.std.proofs.lemmas.Grind.{common_steps}
+use Rattle.std.proofs.lemmas.List.{append-nil}
+use Rattle.lh_types.specs.Values.{Datum}
+use Rattle.lh_types.specs.declared.part.Range.{Range}
+use Rattle.lh_unit.specs.Held.{Held, datum_held, front}
+use Rattle.lh_unit.specs.Table.{Table}
+use Rattle.lh_unit.specs.Within.{Each}
+use Rattle.lh_unit.specs.declared.inst.BlockId.{BlockId}
+use Rattle.lh_unit.specs.declared.inst.InstId.{InstId}
+use Rattle.lh_unit.specs.declared.inst.ValueId.{ValueId}
+use Rattle.lh_eval.specs.Holding.{part_in}
+use Rattle.lh_exec.specs.Standing.{parts_in}
+use Rattle.lh_exec.specs.Taking.{all_taken, put_all, Takes}
+
+pub drop-item : {X : Type 0} → (xs : List X) (i : ℕ) (x : X) → i < length xs → x ≡ get_or xs i x → drop i xs ≡ x ∷ drop (i + 1) xs
+drop-item xs i x h e = (rw add-one (drop-cons xs i x h)) ∙ ap (λ y. y ∷ drop (i + 1) xs) (sym e)
+
+drop-end : {X : Type 0} → (xs : List X) (i : ℕ) → length xs ≤ i → drop i xs ≡ []
+drop-end xs i h = grind (arith, common_steps)
+
+pub map-nothing : {X : Type 0} → (o : Option (List X)) → option_map (λ (ys : List X). [] ++ ys) o ≡ o
+map-nothing None = refl
+map-nothing (Some xs) = refl
+
+-- ---- what is taken is put, the last one first
+
+pub put-last : (ys : List (ValueId × Datum)) (x : ValueId × Datum) (slots : List (Option Held)) → put_all (ys ++ x ∷ []) slots ≡ put_all ys (set slots x.0.0 (Some (datum_held x.1)))
+put-last [] x slots = refl
+put-last (y ∷ ys) x slots = ap (λ (s : List (Option Held)). set s y.0.0 (Some (datum_held y.1))) (put-last ys x slots)
+
+pub each-front : {X : Type 0} (P : X → Type 0) (xs : List X) (x : X) → Each P (xs ++ x ∷ []) → Each P xs × P x
+each-front P [] x e = (tt, e.0)
+each-front P (y ∷ ys) x e = let r = each-front P ys x e.1 in ((e.0, r.0), r.1)
+
+-- ---- taking, instruction by instruction
+
+pub all-taken : (xs : List (ValueId × Datum)) (z : Option (List (ValueId × Datum))) → option_map (λ ys. xs ++ ys) (Some []) ≡ z → z ≡ Some xs
+all-taken xs z e = sym e ∙ ap Some (append-nil xs)
+
+pub no-more : (xs : List (ValueId × Datum)) (more z : Option (List (ValueId × Datum))) → more ≡ None → option_map (λ ys. xs ++ ys) more ≡ z → z ≡ None
+no-more xs more z e h = sym h ∙ ap (option_map (λ ys. xs ++ ys)) e
+
+-- ---- parts, one by one
+
+part-more : (rs : List Range) (r : Range) (o : Option (List Range)) → option_map (λ xs. (rs ++ r ∷ []) ++ xs) o ≡ option_map (λ xs. rs ++ xs) (front (Some r) o)
+part-more rs r None = refl
+part-more rs r (Some xs) = ap Some (append_assoc rs (r ∷ []) xs)
+
+pub part-step : (slots : List (Option Held)) (vs : List ValueId) (i : ℕ) (v : ValueId) (rs : List Range) (r : Range) (z : Option (List Range)) → i < length vs → v ≡ get_or vs i v → part_in slots v ≡ Some r
+    → option_map (λ xs. rs ++ xs) (parts_in slots (drop i vs)) ≡ z → option_map (λ xs. (rs ++ r ∷ []) ++ xs) (parts_in slots (drop (i + 1) vs)) ≡ z
+part-step slots vs i v rs r z l e f h =
+    part-more rs r (parts_in slots (drop (i + 1) vs))
+    ∙ ap (λ (x : Option Range). option_map (λ xs. rs ++ xs) (front x (parts_in slots (drop (i + 1) vs)))) (sym f)
+    ∙ ap (λ (xs : List ValueId). option_map (λ ys. rs ++ ys) (parts_in slots xs)) (sym (drop-item vs i v l e))
+    ∙ h
+
+pub part-stops : (slots : List (Option Held)) (vs : List ValueId) (i : ℕ) (v : ValueId) (rs : List Range) (z : Option (List Range)) → i < length vs → v ≡ get_or vs i v → part_in slots v ≡ None
+    → option_map (λ xs. rs ++ xs) (parts_in slots (drop i vs)) ≡ z → None ≡ z
+part-stops slots vs i v rs z l e f h =
+    ap (λ (x : Option Range). option_map (λ xs. rs ++ xs) (front x (parts_in slots (drop (i + 1) vs)))) (sym f)
+    ∙ ap (λ (xs : List ValueId). option_map (λ ys. rs ++ ys) (parts_in slots xs)) (sym (drop-item vs i v l e))
+    ∙ h
