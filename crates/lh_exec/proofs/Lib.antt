@@ -5,3 +5,5 @@ pub mod Rights
 pub mod Begins
 pub mod Running
 pub mod Lists
+pub mod Passing
+pub mod Operands
