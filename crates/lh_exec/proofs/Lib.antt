@@ -1,6 +1,6 @@
 pub mod KeepsFit
 pub mod Steps
-pub mod Jumps
+pub mod Edges
 pub mod Rights
 pub mod Begins
 pub mod Running

@@ -2,8 +2,9 @@
 use Rattle.std.proofs.Common.{◌≡◌, ℕ, ◌+◌, ◌<◌, ◌≤◌, List, [], ◌∷◌, ◌++◌, length, map, drop, get_or, set, Option, Some, None, refl, ap, sym, ◌∙◌, subst, append_assoc, add-one, drop-cons, arith}
 use Rattle.std.specs.Option.{option_map}
 use Rattle.std.proofs.lemmas.Grind.{common_steps}
-use Rattle.std.proofs.lemmas.List.{append-nil}
+use Rattle.std.proofs.lemmas.List.{append-nil, map-append, length-set}
 use Rattle.lh_types.specs.Values.{Datum}
+use Rattle.lh_types.specs.ValueOf.{datum_of}
 use Rattle.lh_types.specs.declared.part.Range.{Range}
 use Rattle.lh_unit.specs.Held.{Held, datum_held, front}
 use Rattle.lh_unit.specs.Table.{Table}
@@ -12,8 +13,9 @@ use Rattle.lh_unit.specs.declared.inst.BlockId.{BlockId}
 use Rattle.lh_unit.specs.declared.inst.InstId.{InstId}
 use Rattle.lh_unit.specs.declared.inst.ValueId.{ValueId}
 use Rattle.lh_eval.specs.Holding.{part_in}
+use Rattle.lh_exec.specs.declared.machine.Taken.{Taken}
 use Rattle.lh_exec.specs.Standing.{parts_in}
-use Rattle.lh_exec.specs.Taking.{all_taken, put_all, Takes}
+use Rattle.lh_exec.specs.Taking.{taken_of, all_taken, put_all}
 
 pub drop-item : {X : Type 0} → (xs : List X) (i : ℕ) (x : X) → i < length xs → x ≡ get_or xs i x → drop i xs ≡ x ∷ drop (i + 1) xs
 drop-item xs i x h e = (rw add-one (drop-cons xs i x h)) ∙ ap (λ y. y ∷ drop (i + 1) xs) (sym e)
@@ -34,6 +36,15 @@ put-last (y ∷ ys) x slots = ap (λ (s : List (Option Held)). set s y.0.0 (Some
 pub each-front : {X : Type 0} (P : X → Type 0) (xs : List X) (x : X) → Each P (xs ++ x ∷ []) → Each P xs × P x
 each-front P [] x e = (tt, e.0)
 each-front P (y ∷ ys) x e = let r = each-front P ys x e.1 in ((e.0, r.0), r.1)
+
+pub put-step : (items front : List Taken) (x : Taken) (slots new : List (Option Held)) (z : List (Option Held)) → items ≡ front ++ x ∷ [] → new ≡ set slots x.name.0 (Some (datum_held (datum_of x.value))) → put_all (map taken_of items) slots ≡ z
+    → Each (λ (t : ValueId × Datum). t.0.0 < length slots) (map taken_of items) → (put_all (map taken_of front) new ≡ z) × Each (λ (t : ValueId × Datum). t.0.0 < length new) (map taken_of front) × (x.name.0 < length slots)
+put-step items front x slots new z e g h w =
+    let all : map taken_of items ≡ map taken_of front ++ taken_of x ∷ [] = ap (map taken_of) e ∙ map-append taken_of front (x ∷ []) in
+    let r = each-front (λ (t : ValueId × Datum). t.0.0 < length slots) (map taken_of front) (taken_of x) (subst (Each (λ (t : ValueId × Datum). t.0.0 < length slots)) all w) in
+    let long : length slots ≡ length new = sym (ap length g ∙ length-set slots x.name.0 (Some (datum_held (datum_of x.value)))) in
+    (ap (put_all (map taken_of front)) g ∙ sym (put-last (map taken_of front) (taken_of x) slots) ∙ sym (ap (λ (l : List (ValueId × Datum)). put_all l slots) all) ∙ h,
+        subst (λ (n : ℕ). Each (λ (t : ValueId × Datum). t.0.0 < n) (map taken_of front)) long r.0, r.1)
 
 -- ---- taking, instruction by instruction
 

@@ -22,7 +22,7 @@ use Rattle.lh_exec.specs.declared.machine.Flow.TheVariants as flow
 use Rattle.lh_exec.specs.Standing.{MachineIs, Leads}
 use Rattle.lh_exec.specs.Sound.{LineRight, IsFit, PointFits}
 use Rattle.lh_exec.proofs.KeepsFit.{past-of}
-use Rattle.lh_exec.proofs.Jumps.{insts-within}
+use Rattle.lh_exec.proofs.Edges.{insts-within}
 use Rattle.lh_exec.proofs.Lists.{drop-end}
 
 pub each-get : {X : Type 0} → (P : X → Type 0) (xs : List X) (i : ℕ) (d : X) → i < length xs → Each P xs → P (get_or xs i d)

@@ -16,7 +16,6 @@ use Rattle.lh_unit.specs.Naming.{maybe_text}
 use Rattle.lh_unit.specs.declared.inst.ValueId.{ValueId}
 use Rattle.lh_unit.specs.declared.inst.Typed.{Typed}
 use Rattle.lh_eval.specs.Holding.{Holds, MaybeIn, datum_in, part_in, test_in, delay_in}
-use Rattle.lh_exec.specs.declared.machine.Setting.{Setting}
 use Rattle.lh_exec.specs.declared.machine.Frame.{Frame}
 use Rattle.lh_exec.specs.declared.machine.Call.{Call}
 use Rattle.lh_exec.specs.declared.machine.Machine.{Machine}
@@ -26,13 +25,6 @@ use Rattle.lh_exec.specs.declared.machine.Flow.TheVariants as flow
 -- what an activation sees of a module
 abbrev pub scene_of : Arena → (now : List Bool) → Instant → Scene
 scene_of a now t = record { functions = functions (contents a); now = now; at = t }
-
--- the module and the bits of the signals that a setting has
-abbrev pub module_in : Setting → Arena
-module_in s = s.module.now
-
-abbrev pub bits_in : Setting → List Bool
-bits_in s = s.now.now
 
 -- A frame stands for a place of control: it is in a block of a function or a process, so many instructions of which are executed, and holds the same.
 pub record FrameIs (a : Arena) (f : Frame) (c : Control) : Type 0 where

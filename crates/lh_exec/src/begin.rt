@@ -7,76 +7,82 @@ ghost use Rattle.lh_unit.specs.WellFormed.{IsWellFormed};
 ghost use Rattle.lh_exec.specs.States.{StandsBy, FitsBy, PauseFits, begun};
 ghost use Rattle.lh_exec.specs.Sound.{BeginsAt};
 
-ghost use Rattle.lh_exec.specs.Standing.{module_in, bits_in};
 
 use crate::calls::first_frame;
-use crate::machine::{Flow, Frame, Machine, Setting};
+use crate::machine::{Flow, Frame, Machine};
 use crate::state::{Pause, Stand};
 use lh_eval::begin::hold_args;
 use lh_eval::held::Slots;
 use lh_eval::wishes::Wishes;
+use lh_types::bits::Bits;
 use lh_types::list::ListOf;
 use lh_types::part::Range;
 use lh_types::ty::NoMemory;
 use lh_unit::inst::{UnitId, UnitKind};
+use lh_unit::module::Module;
 use std::alloc::Global;
 
 /// The machine where an activation of a process begins, of which the arguments have these bits.
 pub(crate) fn begin(
-    set: &Setting<'_>,
+    alloc: Global,
+    m: &Module,
+    now: &Bits,
     unit: UnitId,
     args: &[Range],
     stand: &Stand,
 ) -> Result<Option<Machine>, NoMemory>
-    requires arena { IsArena (module_in set.now) }
-    requires unit { unit.0 < unit_count (module_in set.now) }
-    requires process { kind_at (module_in set.now) unit.0 ≡ Some UnitKind.Proc }
-    requires formed { IsWellFormed (contents (module_in set.now)) }
-    requires fits { FitsBy (module_in set.now) unit.0 (length (bits_in set.now)) stand.now }
-    ensures { let m = module_in set.now in (p : ProcessState) → StandsBy m unit.0 args.now stand.now p → IfOk result (λ r. BeginsAt m r (control_at (unit_text_at m unit.0) p)) }
+    requires arena { IsArena m.now }
+    requires unit { unit.0 < unit_count m.now }
+    requires process { kind_at m.now unit.0 ≡ Some UnitKind.Proc }
+    requires formed { IsWellFormed (contents m.now) }
+    requires fits { FitsBy m.now unit.0 (length now.now) stand.now }
+    ensures { (p : ProcessState) → StandsBy m.now unit.0 args.now stand.now p → IfOk result (λ r. BeginsAt m.now r (control_at (unit_text_at m.now unit.0) p)) }
 {
     match stand {
-        Stand::New => begin_new(set, unit, args),
-        Stand::Waits(pause) => begin_from(set, unit, pause),
+        Stand::New => begin_new(alloc, m, unit, args),
+        Stand::Waits(pause) => begin_from(alloc, m, now, unit, pause),
         Stand::Halted => Ok(None),
     }
 }
 
 /// In the entry block, where the arguments are held.
 fn begin_new(
-    set: &Setting<'_>,
+    alloc: Global,
+    m: &Module,
     unit: UnitId,
     args: &[Range],
 ) -> Result<Option<Machine>, NoMemory>
-    requires arena { IsArena (module_in set.now) }
-    requires unit { unit.0 < unit_count (module_in set.now) }
-    requires process { kind_at (module_in set.now) unit.0 ≡ Some UnitKind.Proc }
-    ensures { let m = module_in set.now in IfOk result (λ r. BeginsAt m r (control_at (unit_text_at m unit.0) (begun (unit_text_at m unit.0) args.now))) }
+    requires arena { IsArena m.now }
+    requires unit { unit.0 < unit_count m.now }
+    requires process { kind_at m.now unit.0 ≡ Some UnitKind.Proc }
+    ensures { IfOk result (λ r. BeginsAt m.now r (control_at (unit_text_at m.now unit.0) (begun (unit_text_at m.now unit.0) args.now))) }
 {
-    let mut slots = Slots::new(set.alloc, set.module.values(unit))?;
-    hold_args(set.module.args(unit), args, &mut slots);
-    match first_frame(set.module, unit, slots) {
-        Some(frame) => Ok(Some(machine_at(set.alloc, frame))),
+    let mut slots = Slots::new(alloc, m.values(unit))?;
+    hold_args(m.args(unit), args, &mut slots);
+    match first_frame(m, unit, slots) {
+        Some(frame) => Ok(Some(machine_at(alloc, frame))),
         None => Ok(None),
     }
 }
 
 /// On the edge from a `wait`.
 fn begin_from(
-    set: &Setting<'_>,
+    alloc: Global,
+    m: &Module,
+    now: &Bits,
     unit: UnitId,
     pause: &Pause,
 ) -> Result<Option<Machine>, NoMemory>
-    requires arena { IsArena (module_in set.now) }
-    requires unit { unit.0 < unit_count (module_in set.now) }
-    requires process { kind_at (module_in set.now) unit.0 ≡ Some UnitKind.Proc }
-    requires formed { IsWellFormed (contents (module_in set.now)) }
-    requires fits { PauseFits (module_in set.now) unit.0 (length (bits_in set.now)) pause.now }
-    ensures { let m = module_in set.now in (p : ProcessState) → StandsBy m unit.0 [] (Stand.Waits pause.now) p → IfOk result (λ r. BeginsAt m r (control_at (unit_text_at m unit.0) p)) }
+    requires arena { IsArena m.now }
+    requires unit { unit.0 < unit_count m.now }
+    requires process { kind_at m.now unit.0 ≡ Some UnitKind.Proc }
+    requires formed { IsWellFormed (contents m.now) }
+    requires fits { PauseFits m.now unit.0 (length now.now) pause.now }
+    ensures { (p : ProcessState) → StandsBy m.now unit.0 [] (Stand.Waits pause.now) p → IfOk result (λ r. BeginsAt m.now r (control_at (unit_text_at m.now unit.0) p)) }
 {
-    let slots = pause.slots.copy(set.alloc)?;
+    let slots = pause.slots.copy(alloc)?;
     let mut machine = machine_at(
-        set.alloc,
+        alloc,
         Frame {
             unit,
             block: pause.block,
@@ -84,7 +90,7 @@ fn begin_from(
             slots,
         },
     );
-    match machine.enter(set, pause.to)? {
+    match machine.enter(m, pause.to)? {
         Flow::Goes => Ok(Some(machine)),
         _ => Ok(None),
     }

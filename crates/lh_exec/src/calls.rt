@@ -15,10 +15,10 @@ ghost use Rattle.lh_unit.specs.Within.{Each};
 ghost use Rattle.lh_unit.specs.declared.inst.Typed.{Typed as Operand};
 ghost use Rattle.lh_eval.specs.HeldOf.{maybe_held};
 ghost use Rattle.lh_eval.specs.Holding.{Holds, MaybeIn};
-ghost use Rattle.lh_exec.specs.Standing.{module_in, bits_in, MachineIs, HasPoint, FrameIs, Leads, Does, MaybeFrame, asserted_in, returned_in, back};
+ghost use Rattle.lh_exec.specs.Standing.{MachineIs, HasPoint, FrameIs, Leads, Does, MaybeFrame, asserted_in, returned_in, back};
 ghost use Rattle.lh_exec.specs.Taking.{data_given};
 
-use crate::machine::{Call, Flow, Frame, Machine, Setting};
+use crate::machine::{Call, Flow, Frame, Machine};
 use lh_eval::held::{Held, Slots};
 use lh_eval::operands::{data_in, datum_in, test_in};
 use lh_types::ty::NoMemory;
@@ -26,6 +26,7 @@ use lh_types::val::Val;
 use lh_unit::inst::{Arg, Typed, UnitId, ValueId};
 use lh_unit::module::Module;
 use lh_unit::name::UnitName;
+use std::alloc::Global;
 use std::mem;
 
 /// At most so many calls are open at any time.
@@ -35,21 +36,22 @@ impl Machine {
     /// A call of a function, or an assertion, which opens no call.
     pub(crate) fn run_call(
         &mut self,
-        set: &Setting<'_>,
+        alloc: Global,
+        m: &Module,
         unit: UnitId,
         args: &[Typed],
         name: Option<ValueId>,
     ) -> Result<Flow, NoMemory>
-        requires unit { unit.0 < unit_count (module_in set.now) }
-        requires blocks { named.is_assert (unit_name_at (module_in set.now) unit.0) ≡ false → HasBlocks (kind_at (module_in set.now) unit.0) }
+        requires unit { unit.0 < unit_count m.now }
+        requires blocks { named.is_assert (unit_name_at m.now unit.0) ≡ false → HasBlocks (kind_at m.now unit.0) }
         requires args { Each (λ (o : Operand). o.value.0 < length self.old.frame.slots) args.now }
         requires name { MaybeIn self.old.frame.slots name }
-        ensures { let m = module_in set.now in let f = naming m self.old.frame.unit.0 in Does result m self.old self.new (λ p. if named.is_assert (unit_name_at m unit.0) then tells p (asserted p.control.held (map (operand_text f) args.now)) else opens p (maybe_text f name) (called (Some (unit_text_at m unit.0)) (data_at p.control.held (map (operand_text f) args.now)))) }
+        ensures { let f = naming m.now self.old.frame.unit.0 in Does result m.now self.old self.new (λ p. if named.is_assert (unit_name_at m.now unit.0) then tells p (asserted p.control.held (map (operand_text f) args.now)) else opens p (maybe_text f name) (called (Some (unit_text_at m.now unit.0)) (data_at p.control.held (map (operand_text f) args.now)))) }
     {
-        if is_assert(set.module.unit_name(unit)) {
+        if is_assert(m.unit_name(unit)) {
             return self.tell(args);
         }
-        self.open(set, unit, args, name)
+        self.open(alloc, m, unit, args, name)
     }
 
     /// Adds the outcome of an assertion: whether its one argument is not 0.
@@ -69,21 +71,22 @@ impl Machine {
     /// Opens a call of a function, unless as many as may be are open.
     fn open(
         &mut self,
-        set: &Setting<'_>,
+        alloc: Global,
+        m: &Module,
         unit: UnitId,
         args: &[Typed],
         name: Option<ValueId>,
     ) -> Result<Flow, NoMemory>
-        requires unit { unit.0 < unit_count (module_in set.now) }
-        requires blocks { HasBlocks (kind_at (module_in set.now) unit.0) }
+        requires unit { unit.0 < unit_count m.now }
+        requires blocks { HasBlocks (kind_at m.now unit.0) }
         requires args { Each (λ (o : Operand). o.value.0 < length self.old.frame.slots) args.now }
         requires name { MaybeIn self.old.frame.slots name }
-        ensures { let m = module_in set.now in let f = naming m self.old.frame.unit.0 in Does result m self.old self.new (λ p. opens p (maybe_text f name) (called (Some (unit_text_at m unit.0)) (data_at p.control.held (map (operand_text f) args.now)))) }
+        ensures { let f = naming m.now self.old.frame.unit.0 in Does result m.now self.old self.new (λ p. opens p (maybe_text f name) (called (Some (unit_text_at m.now unit.0)) (data_at p.control.held (map (operand_text f) args.now)))) }
     {
         if self.callers.len() >= MAX_CALLS {
             return Ok(Flow::Lost);
         }
-        match called_frame(set, unit, args, &self.frame.slots)? {
+        match called_frame(alloc, m, unit, args, &self.frame.slots)? {
             Some(frame) => self.push(frame, name),
             None => Ok(Flow::Lost),
         }
@@ -180,22 +183,23 @@ fn returned(slots: &Slots, operand: &Option<Typed>) -> Result<Option<Option<Held
 
 /// The frame in which a function begins that is called with these operands, where each of them holds a value.
 fn called_frame(
-    set: &Setting<'_>,
+    alloc: Global,
+    m: &Module,
     unit: UnitId,
     args: &[Typed],
     slots: &Slots,
 ) -> Result<Option<Frame>, NoMemory>
-    requires unit { unit.0 < unit_count (module_in set.now) }
-    requires blocks { HasBlocks (kind_at (module_in set.now) unit.0) }
+    requires unit { unit.0 < unit_count m.now }
+    requires blocks { HasBlocks (kind_at m.now unit.0) }
     requires args { Each (λ (o : Operand). o.value.0 < length slots.now) args.now }
-    ensures { let m = module_in set.now in (u : ℕ) (e : Env) → Holds m u slots.now e → IfOk result (λ f. MaybeFrame m f (called (Some (unit_text_at m unit.0)) (data_at e (map (operand_text (naming m u)) args.now)))) }
+    ensures { (u : ℕ) (e : Env) → Holds m.now u slots.now e → IfOk result (λ f. MaybeFrame m.now f (called (Some (unit_text_at m.now unit.0)) (data_at e (map (operand_text (naming m.now u)) args.now)))) }
 {
-    let Some(values) = data_in(set.alloc, slots, args)? else {
+    let Some(values) = data_in(alloc, slots, args)? else {
         return Ok(None);
     };
-    let mut slots = Slots::new(set.alloc, set.module.values(unit))?;
-    hold_data(set.module.args(unit), values.as_slice(), &mut slots)?;
-    Ok(first_frame(set.module, unit, slots))
+    let mut slots = Slots::new(alloc, m.values(unit))?;
+    hold_data(m.args(unit), values.as_slice(), &mut slots)?;
+    Ok(first_frame(m, unit, slots))
 }
 
 /// Holds copies of values by the arguments of a unit.

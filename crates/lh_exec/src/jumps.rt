@@ -16,10 +16,10 @@ ghost use Rattle.lh_types.specs.ValueOf.{datum_of};
 ghost use Rattle.lh_eval.specs.Holding as holding;
 ghost use Rattle.lh_eval.specs.Holding.{MaybeIn};
 ghost use Rattle.lh_exec.specs.Standing as standing;
-ghost use Rattle.lh_exec.specs.Standing.{module_in, bits_in, Does, wake_in};
+ghost use Rattle.lh_exec.specs.Standing.{Does, wake_in};
 ghost use Rattle.lh_exec.specs.Taking.{edge_in, taken_of, one_taken, all_taken, in_front, put_all, Takes, TakesMore};
 
-use crate::machine::{Flow, Frame, Machine, Setting, Taken};
+use crate::machine::{Flow, Frame, Machine, Taken};
 use crate::state::WaitOn;
 use lh_eval::held::{Held, Slots};
 use lh_eval::operands::{datum_in, delay_in, part_in, test_in};
@@ -34,17 +34,17 @@ use std::alloc::Global;
 
 impl Machine {
     /// Goes along the edge to a block, where its `phi` take their values together.
-    pub(crate) fn enter(&mut self, set: &Setting<'_>, to: BlockId) -> Result<Flow, NoMemory>
-        requires arena { IsArena (module_in set.now) }
-        requires unit { self.old.frame.unit.0 < unit_count (module_in set.now) }
-        requires to { to.0 < label_count (module_in set.now) self.old.frame.unit.0 }
-        requires stands { is_block (blocks_at (module_in set.now) self.old.frame.unit.0) to.0 ≡ true }
-        requires slots { length self.old.frame.slots ≡ value_count (module_in set.now) self.old.frame.unit.0 }
-        ensures { let m = module_in set.now in Does result m self.old self.new (λ p. jumps p (entered p.control.unit p.control.held p.control.block (label_name_at m self.old.frame.unit.0 to.0))) }
+    pub(crate) fn enter(&mut self, m: &Module, to: BlockId) -> Result<Flow, NoMemory>
+        requires arena { IsArena m.now }
+        requires unit { self.old.frame.unit.0 < unit_count m.now }
+        requires to { to.0 < label_count m.now self.old.frame.unit.0 }
+        requires stands { is_block (blocks_at m.now self.old.frame.unit.0) to.0 ≡ true }
+        requires slots { length self.old.frame.slots ≡ value_count m.now self.old.frame.unit.0 }
+        ensures { Does result m.now self.old self.new (λ p. jumps p (entered p.control.unit p.control.held p.control.block (label_name_at m.now self.old.frame.unit.0 to.0))) }
     {
-        let insts = set.module.insts(self.frame.unit, to);
+        let insts = m.insts(self.frame.unit, to);
         self.taken.clear();
-        if !take_phis(set.module, &self.frame, insts, &mut self.taken)? {
+        if !take_phis(m, &self.frame, insts, &mut self.taken)? {
             return Ok(Flow::Lost);
         }
         put_taken(&mut self.taken, &mut self.frame.slots);
@@ -56,24 +56,24 @@ impl Machine {
     /// Goes to the block that a condition chooses.
     pub(crate) fn run_branch(
         &mut self,
-        set: &Setting<'_>,
+        m: &Module,
         cond: ValueId,
         zero: BlockId,
         one: BlockId,
     ) -> Result<Flow, NoMemory>
-        requires arena { IsArena (module_in set.now) }
-        requires unit { self.old.frame.unit.0 < unit_count (module_in set.now) }
+        requires arena { IsArena m.now }
+        requires unit { self.old.frame.unit.0 < unit_count m.now }
         requires cond { cond.0 < length self.old.frame.slots }
-        requires zero { zero.0 < label_count (module_in set.now) self.old.frame.unit.0 }
-        requires one { one.0 < label_count (module_in set.now) self.old.frame.unit.0 }
-        requires zero_stands { is_block (blocks_at (module_in set.now) self.old.frame.unit.0) zero.0 ≡ true }
-        requires one_stands { is_block (blocks_at (module_in set.now) self.old.frame.unit.0) one.0 ≡ true }
-        requires slots { length self.old.frame.slots ≡ value_count (module_in set.now) self.old.frame.unit.0 }
-        ensures { let m = module_in set.now in let f = naming m self.old.frame.unit.0 in Does result m self.old self.new (λ p. jumps p (option_and_then (entered p.control.unit p.control.held p.control.block) (chosen (test_at p.control.held (value_text f cond)) (f.label_name zero.0) (f.label_name one.0)))) }
+        requires zero { zero.0 < label_count m.now self.old.frame.unit.0 }
+        requires one { one.0 < label_count m.now self.old.frame.unit.0 }
+        requires zero_stands { is_block (blocks_at m.now self.old.frame.unit.0) zero.0 ≡ true }
+        requires one_stands { is_block (blocks_at m.now self.old.frame.unit.0) one.0 ≡ true }
+        requires slots { length self.old.frame.slots ≡ value_count m.now self.old.frame.unit.0 }
+        ensures { let f = naming m.now self.old.frame.unit.0 in Does result m.now self.old self.new (λ p. jumps p (option_and_then (entered p.control.unit p.control.held p.control.block) (chosen (test_at p.control.held (value_text f cond)) (f.label_name zero.0) (f.label_name one.0)))) }
     {
         match test_in(&self.frame.slots, cond) {
-            Some(false) => self.enter(set, zero),
-            Some(true) => self.enter(set, one),
+            Some(false) => self.enter(m, zero),
+            Some(true) => self.enter(m, one),
             None => Ok(Flow::Lost),
         }
     }
@@ -81,23 +81,23 @@ impl Machine {
     /// Waits for a change of parts of the signals or for an instant; there is no call open then.
     pub(crate) fn run_wait(
         &self,
-        set: &Setting<'_>,
+        alloc: Global,
+        at: Instant,
         to: BlockId,
         after: Option<ValueId>,
         signals: &[ValueId],
     ) -> Result<Flow, NoMemory>
-        requires to { to.0 < label_count (module_in set.now) self.now.frame.unit.0 }
         requires after { MaybeIn self.now.frame.slots after }
         requires signals { Each (λ (v : Value). v.0 < length self.now.frame.slots) signals.now }
-        ensures { let m = module_in set.now in let f = naming m self.now.frame.unit.0 in Does result m self.now self.now (λ p. ends_at p p.callers (waiting p.control.block (f.label_name to.0) (parts_at p.control.held (map (value_text f) signals.now)) (act.wake_at set.now.at p.control.held (maybe_text f after)))) }
+        ensures { (a : Arena) → to.0 < label_count a self.now.frame.unit.0 → let f = naming a self.now.frame.unit.0 in Does result a self.now self.now (λ p. ends_at p p.callers (waiting p.control.block (f.label_name to.0) (parts_at p.control.held (map (value_text f) signals.now)) (act.wake_at at p.control.held (maybe_text f after)))) }
     {
         if !self.callers.is_empty() {
             return Ok(Flow::Lost);
         }
-        let Some(parts) = parts_in(set.alloc, &self.frame.slots, signals)? else {
+        let Some(parts) = parts_in(alloc, &self.frame.slots, signals)? else {
             return Ok(Flow::Lost);
         };
-        match wake(set.at, &self.frame.slots, after) {
+        match wake(at, &self.frame.slots, after) {
             Some(wake) => Ok(Flow::Waits {
                 to,
                 on: WaitOn { parts, wake },

@@ -12,22 +12,9 @@ ghost use Rattle.lh_exec.specs.Standing.{MachineIs, Leads, goes_on};
 use crate::state::WaitOn;
 use lh_eval::held::{Held, Slots};
 use lh_eval::wishes::Wishes;
-use lh_time::Instant;
-use lh_types::bits::Bits;
 use lh_types::list::BoolList;
 use lh_types::val::Val;
 use lh_unit::inst::{BlockId, UnitId, ValueId};
-use lh_unit::module::Module;
-use std::alloc::Global;
-
-/// What an activation sees: the module, the bits of all signals, and the instant.
-#[derive(Clone, Copy)]
-pub(crate) struct Setting<'m> {
-    pub alloc: Global,
-    pub module: &'m Module,
-    pub now: &'m Bits,
-    pub at: Instant,
-}
 
 /// A unit in execution: the block, how many of its instructions were executed, and what is held.
 #[derive(Drop)]

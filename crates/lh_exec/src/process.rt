@@ -6,12 +6,12 @@ ghost use Rattle.lh_types.specs.declared.part.Range.{Range as Bounds};
 ghost use Rattle.lh_unit.specs.Arena.{Arena, IsArena, unit_count, kind_at, contents, unit_text_at};
 ghost use Rattle.lh_unit.specs.WellFormed.{IsWellFormed};
 ghost use Rattle.lh_sound.specs.Ranges.{RangesFit, arg_types};
-ghost use Rattle.lh_exec.specs.Standing.{module_in, bits_in, scene_of};
+ghost use Rattle.lh_exec.specs.Standing.{scene_of};
 ghost use Rattle.lh_exec.specs.States.{StandsFor, StandsBy, StateFits, FitsBy, Answers, GivesMaybe};
 ghost use Rattle.lh_exec.specs.Sound.{Finishes, stood};
 
 use crate::begin::begin;
-use crate::machine::{Flow, Frame, Machine, Setting};
+use crate::machine::{Flow, Frame, Machine};
 use crate::state::{Pause, ProcState, Stand};
 use lh_eval::instance::Instance;
 use lh_time::Instant;
@@ -74,13 +74,8 @@ pub fn activate<T: Tally>(
     ensures tick { T.count tally.new ≡ raised (T.count tally.old) 1 }
 {
     tally.tick();
-    let set = Setting {
-        alloc,
-        module: m,
-        now,
-        at,
-    };
-    match activate_within(&set, i.unit, i.args.as_slice(), &s.stand, MAX_INSTRUCTIONS) {
+    let args = i.args.as_slice();
+    match activate_within(alloc, m, now, at, i.unit, args, &s.stand, MAX_INSTRUCTIONS) {
         Ok(Some(act)) => Ok(act),
         Ok(None) => Err(ExecFault::Runaway),
         Err(_) => Err(ExecFault::OutOfMemory),
@@ -89,24 +84,27 @@ pub fn activate<T: Tally>(
 
 /// An activation of at most so many instructions; `None` where there is none.
 fn activate_within(
-    set: &Setting<'_>,
+    alloc: Global,
+    m: &Module,
+    now: &Bits,
+    at: Instant,
     unit: UnitId,
     args: &[Range],
     stand: &Stand,
     limit: u32,
 ) -> Result<Option<Act>, NoMemory>
-    requires formed { IsWellFormed (contents (module_in set.now)) }
-    requires unit { unit.0 < unit_count (module_in set.now) }
-    requires process { kind_at (module_in set.now) unit.0 ≡ Some UnitKind.Proc }
-    requires args { RangesFit (length (bits_in set.now)) args.now (arg_types (unit_text_at (module_in set.now) unit.0).args) }
-    requires fits { FitsBy (module_in set.now) unit.0 (length (bits_in set.now)) stand.now }
-    ensures { let m = module_in set.now in let w = length (bits_in set.now) in (p : ProcessState) → StandsBy m unit.0 args.now stand.now p → IfOk result (λ r. GivesMaybe m unit.0 args.now w r (activation limit (scene_of m (bits_in set.now) set.now.at) (unit_text_at m unit.0) p)) }
+    requires formed { IsWellFormed (contents m.now) }
+    requires unit { unit.0 < unit_count m.now }
+    requires process { kind_at m.now unit.0 ≡ Some UnitKind.Proc }
+    requires args { RangesFit (length now.now) args.now (arg_types (unit_text_at m.now unit.0).args) }
+    requires fits { FitsBy m.now unit.0 (length now.now) stand.now }
+    ensures { (p : ProcessState) → StandsBy m.now unit.0 args.now stand.now p → IfOk result (λ r. GivesMaybe m.now unit.0 args.now (length now.now) r (activation limit (scene_of m.now now.now at) (unit_text_at m.now unit.0) p)) }
 {
-    in_order(set);
-    match begin(set, unit, args, stand)? {
+    in_order(m, now);
+    match begin(alloc, m, now, unit, args, stand)? {
         Some(mut machine) => {
-            let flow = machine.run(set, limit)?;
-            finish(set.alloc, machine, flow)
+            let flow = machine.run(alloc, m, now, at, limit)?;
+            finish(alloc, machine, flow)
         }
         None => Ok(None),
     }
@@ -114,7 +112,7 @@ fn activate_within(
 
 /// What a machine that has come to an end gives.
 fn finish(alloc: Global, machine: Machine, flow: Flow) -> Result<Option<Act>, NoMemory>
-    ensures { (a : Arena) (u w : ℕ) (args : List Bounds) (done : Option Activated) → IsArena a → u < unit_count a → Finishes a u w machine flow done → IfOk result (λ r. GivesMaybe a u args w r done) }
+    ensures { (a : Arena) (u (length now.now) : ℕ) (args : List Bounds) (done : Option Activated) → IsArena a → u < unit_count a → Finishes a u (length now.now) machine flow done → IfOk result (λ r. GivesMaybe a u args (length now.now) r done) }
 {
     let Some(stand) = stand_at(machine.frame, flow) else {
         return Ok(None);
@@ -144,9 +142,9 @@ fn stand_at(frame: Frame, flow: Flow) -> Option<Stand>
 }
 
 /// The module is in order, and there are fewer than 2 ^ 32 bits.
-fn in_order(set: &Setting<'_>)
-    ensures arena { IsArena (module_in set.now) }
-    ensures few { length (bits_in set.now) < 2 ^ 32 }
+fn in_order(m: &Module, now: &Bits)
+    ensures arena { IsArena m.now }
+    ensures few { length now.now < 2 ^ 32 }
 {
-    let _sizes = (set.module.units(), set.now.len());
+    let _sizes = (m.units(), now.len());
 }

@@ -12,17 +12,21 @@ ghost use Rattle.lh_eval.specs.HeldOf.{maybe_held};
 ghost use Rattle.lh_eval.specs.Holding as holding;
 ghost use Rattle.lh_eval.specs.Holding.{MaybeIn};
 ghost use Rattle.lh_eval.specs.Fitting.{OperandsFit, ProbeFits, DriveFits};
-ghost use Rattle.lh_exec.specs.Standing.{module_in, bits_in, Does};
+ghost use Rattle.lh_exec.specs.Standing.{Does};
 
-use crate::machine::{Flow, Machine, Setting};
+use crate::machine::{Flow, Machine};
 use lh_eval::effects::{drive, probe};
 use lh_eval::held::{Held, Slots};
 use lh_eval::operands::{cell_in, datum_in};
 use lh_eval::operate::operate;
+use lh_time::Instant;
+use lh_types::bits::Bits;
 use lh_types::op::Op;
 use lh_types::ty::NoMemory;
 use lh_types::val::Val;
 use lh_unit::inst::{Typed, ValueId};
+use lh_unit::module::Module;
+use std::alloc::Global;
 
 impl Machine {
     pub(crate) fn run_const(
@@ -39,21 +43,22 @@ impl Machine {
 
     pub(crate) fn run_pure(
         &mut self,
-        set: &Setting<'_>,
+        alloc: Global,
+        m: &Module,
         op: &Op,
         args: &[Typed],
         name: Option<ValueId>,
     ) -> Result<Flow, NoMemory>
-        requires unit { self.old.frame.unit.0 < unit_count (module_in set.now) }
-        requires args { Each (OperandWithin (sizes (module_in set.now) self.old.frame.unit.0)) args.now }
+        requires unit { self.old.frame.unit.0 < unit_count m.now }
+        requires args { Each (OperandWithin (sizes m.now self.old.frame.unit.0)) args.now }
         requires name { MaybeIn self.old.frame.slots name }
-        requires slots { length self.old.frame.slots ≡ value_count (module_in set.now) self.old.frame.unit.0 }
-        requires fit { OperandsFit (module_in set.now) self.old.frame.unit.0 self.old.frame.slots op.now args.now }
-        ensures { let f = naming (module_in set.now) self.old.frame.unit.0 in Does result (module_in set.now) self.old self.new (λ p. gives p (maybe_text f name) (operated p.control.unit p.control.held op.now (map (operand_text f) args.now))) }
+        requires slots { length self.old.frame.slots ≡ value_count m.now self.old.frame.unit.0 }
+        requires fit { OperandsFit m.now self.old.frame.unit.0 self.old.frame.slots op.now args.now }
+        ensures { let f = naming m.now self.old.frame.unit.0 in Does result m.now self.old self.new (λ p. gives p (maybe_text f name) (operated p.control.unit p.control.held op.now (map (operand_text f) args.now))) }
     {
         let held = operate(
-            set.alloc,
-            set.module,
+            alloc,
+            m,
             self.frame.unit,
             op,
             args,
@@ -107,22 +112,24 @@ impl Machine {
 
     pub(crate) fn run_prb(
         &mut self,
-        set: &Setting<'_>,
+        alloc: Global,
+        now: &Bits,
         signal: &Typed,
         name: Option<ValueId>,
     ) -> Result<Flow, NoMemory>
         requires within { signal.now.value.0 < length self.old.frame.slots }
         requires name { MaybeIn self.old.frame.slots name }
-        requires fit { ProbeFits (bits_in set.now) self.old.frame.slots signal.now }
-        ensures { (a : Arena) → let f = naming a self.old.frame.unit.0 in Does result a self.old self.new (λ p. gives p (maybe_text f name) (probed (bits_in set.now) p.control.held (operand_text f signal.now))) }
+        requires fit { ProbeFits now.now self.old.frame.slots signal.now }
+        ensures { (a : Arena) → let f = naming a self.old.frame.unit.0 in Does result a self.old self.new (λ p. gives p (maybe_text f name) (probed now.now p.control.held (operand_text f signal.now))) }
     {
-        let held = probe(set.alloc, signal, &self.frame.slots, set.now)?;
+        let held = probe(alloc, signal, &self.frame.slots, now)?;
         Ok(self.give(name, held))
     }
 
     pub(crate) fn run_drv(
         &mut self,
-        set: &Setting<'_>,
+        alloc: Global,
+        at: Instant,
         to: &Typed,
         value: ValueId,
         after: ValueId,
@@ -133,11 +140,11 @@ impl Machine {
         requires after_within { after.0 < length self.old.frame.slots }
         requires cond_within { MaybeIn self.old.frame.slots cond }
         requires fit { DriveFits (holding.part_in self.old.frame.slots to.now.value) (holding.datum_in self.old.frame.slots value) }
-        ensures { (a : Arena) → let f = naming a self.old.frame.unit.0 in Does result a self.old self.new (λ p. wished p (driven set.now.at p.control.held p.wish (operand_text f to.now) (value_text f value) (value_text f after) (maybe_text f cond))) }
+        ensures { (a : Arena) → let f = naming a self.old.frame.unit.0 in Does result a self.old self.new (λ p. wished p (driven at p.control.held p.wish (operand_text f to.now) (value_text f value) (value_text f after) (maybe_text f cond))) }
     {
         let slots = &self.frame.slots;
         let wishes = &mut self.wishes;
-        if drive(set.alloc, set.at, to, value, after, cond, slots, wishes)? {
+        if drive(alloc, at, to, value, after, cond, slots, wishes)? {
             Ok(Flow::Goes)
         } else {
             Ok(Flow::Lost)

@@ -5,24 +5,15 @@ use Rattle.lh_unit.specs.Within.{Each}
 use Rattle.lh_unit.specs.declared.inst.InstId.{InstId}
 use Rattle.lh_unit.specs.declared.inst.ValueId.{ValueId}
 use Rattle.lh_unit.proofs.ModuleLaws.{label-is_block}
-use Rattle.lh_exec.specs.Standing.{module_in}
 use Rattle.lh_exec.specs.Taking.{taken_of, all_taken}
-use Rattle.lh_exec.proofs.Jumps.{insts-within, taken-names, enters, enters-none}
+use Rattle.lh_exec.proofs.Edges.{insts-within, taken-names, enters, enters-none}
 use Rattle.lh_exec.proofs.machine.Machine.enter.Goals as goal
 
 pub insts-requires-clause-block : goal.insts-requires-clause-block
-insts-requires-clause-block c = label-is_block (module_in c.args.set.now) c.args.self.now.frame.unit.0 c.args.to.0 c.requires.arena c.requires.unit c.requires.to
+insts-requires-clause-block c = label-is_block c.args.m.now c.args.self.now.frame.unit.0 c.args.to.0 c.requires.arena c.requires.unit c.requires.to
 
 pub take_phis-requires-clause-insts : goal.take_phis-requires-clause-insts
 take_phis-requires-clause-insts c =
-    subst (Each (λ (i : InstId). i.0 < inst_count (module_in c.args.set.now) c.args.self.now.frame.unit.0)) (sym c.insts-insts.ensures.insts)
-    (insts-within (module_in c.args.set.now) c.args.self.now.frame.unit.0 c.args.to c.requires.arena c.requires.unit c.requires.stands)
+    subst (Each (λ (i : InstId). i.0 < inst_count c.args.m.now c.args.self.now.frame.unit.0)) (sym c.insts-insts.ensures.insts)
+    (insts-within c.args.m.now c.args.self.now.frame.unit.0 c.args.to c.requires.arena c.requires.unit c.requires.stands)
 
-pub put_taken-requires : goal.put_taken-requires
-put_taken-requires c = ?
-
-pub returns-then-take_phis : goal.returns-then-take_phis
-returns-then-take_phis c = ?
-
-pub returns : goal.returns
-returns c = ?
