@@ -1,5 +1,5 @@
 -- Where an activation begins, and what it leaves.
-use Rattle.std.proofs.Common.{◌≡◌, ℕ, ◌<◌, List, [], ◌∷◌, ◌++◌, length, map, drop, reverse, replicate, Bool, true, false, if◌then◌else◌, Option, Some, None, refl, ap, sym, ◌∙◌, subst}
+use Rattle.std.proofs.Common.{◌≡◌, ℕ, ◌<◌, List, [], ◌∷◌, ◌++◌, length, map, drop, reverse, replicate, Bool, true, false, if◌then◌else◌, Option, Some, None, Ok, Err, refl, ap, sym, ◌∙◌, subst}
 use Rattle.std.specs.Option.{option_and_then, option_map}
 use Rattle.std.proofs.lemmas.Option.{same_Some, none-some}
 use Rattle.lh_time.specs.declared.Instant.{Instant}
@@ -41,7 +41,8 @@ use Rattle.lh_exec.specs.declared.state.Stand as declared
 use Rattle.lh_exec.specs.declared.state.Stand.TheVariants as stand
 use Rattle.lh_exec.specs.declared.process.Act.{Act}
 use Rattle.lh_exec.specs.Standing.{FrameIs, CallsAre, MachineIs, Leads, Ends, MaybeFrame, scene_of}
-use Rattle.lh_exec.specs.States.{begun, StandsBy, WaitsIn, SlotsFit, PauseFits, FitsBy, Gives, GivesMaybe}
+use Rattle.lh_exec.specs.declared.process.ExecFault.TheVariants as fault
+use Rattle.lh_exec.specs.States.{begun, StandsBy, WaitsIn, SlotsFit, PauseFits, FitsBy, Gives, GivesMaybe, Answers}
 use Rattle.lh_exec.specs.Sound.{LineRight, UnitRight, PointFits, StandFits, DoneFits, BeginsAt, Finishes, stood}
 use Rattle.lh_exec.proofs.KeepsFit.{NextFits, Placed, entered-fits, entry-fits, block-has, step-fits}
 use Rattle.lh_exec.proofs.Rights.{unit-right, functions-right, label-stands, typed-value}
@@ -100,6 +101,24 @@ module _ (a : Arena) (u : ℕ) (o : IsArena a) (h : u < unit_count a) where
         → FrameIs a (record { unit = record { 0 = u }; block = x.block; next = 0; slots = slots }) (record { unit = unit_text_at a u; block = label_name_at a u x.block.0; rest = map (inst_line (naming a u) (table_at a u)) (block_insts_at a u x.block.0); held = e })
     wait-frame x slots e f d = record { within = h; has_blocks = b; label = f.block; stands = waits-block x f; unit = refl; block = refl; rest = refl; held = d }
 
+    -- the control there
+    abbrev pub wait-control : Pause → Env → Control
+    wait-control x e = record { unit = unit_text_at a u; block = label_name_at a u x.block.0; rest = map (inst_line (naming a u) (table_at a u)) (block_insts_at a u x.block.0); held = e }
+
+    abbrev pub wait-at : Pause → List (Option Held) → Frame
+    wait-at x slots = record { unit = record { 0 = u }; block = x.block; next = 0; slots = slots }
+
+    pub wait-leads : (x : Pause) (slots : List (Option Held)) (p : ProcessState) (n k : Machine) (fl : Flow) → PauseFits a u w x → slots ≡ x.slots → n.frame ≡ wait-at x slots → n.callers.items ≡ [] → n.wishes ≡ no_wish → n.outcomes ≡ [] → StandsBy a u [] (stand.Waits x) p
+        → ((q : Point) → MachineIs a n q → Leads a k fl q.control.unit (jumps q (entered q.control.unit q.control.held q.control.block (label_name_at a n.frame.unit.0 x.to.0))))
+        → Leads a k fl (unit_text_at a u) (jumps (start_point (wait-control x p.held)) (control_at (unit_text_at a u) p))
+    wait-leads x slots p n k fl f e frame calls wish outcomes d go =
+        let at : FrameIs a (wait-at x slots) (wait-control x p.held) = wait-frame x slots p.held f (subst (λ (s : List (Option Held)). Holds a u s p.held) (sym e) d.1) in
+        let led = go (start_point (wait-control x p.held)) (machine-starts a (wait-at x slots) (wait-control x p.held) n o at frame calls wish outcomes) in
+        let same : label_name_at a n.frame.unit.0 x.to.0 ≡ label_name_at a u x.to.0 = ap (λ (y : Frame). label_name_at a y.unit.0 x.to.0) frame in
+        let to : entered (unit_text_at a u) p.held (label_name_at a u x.block.0) (label_name_at a n.frame.unit.0 x.to.0) ≡ control_at (unit_text_at a u) p =
+        ap (entered (unit_text_at a u) p.held (label_name_at a u x.block.0)) same ∙ sym (ap (control_from (unit_text_at a u) p.held) d.0) in
+        subst (λ (z : Option Control). Leads a k fl (unit_text_at a u) (jumps (start_point (wait-control x p.held)) z)) to led
+
     -- ---- what fits there
 
     same-fits : (slots : List (Option Held)) (e : Env) → SlotsFit a u w slots → Holds a u slots e → Fits (unit_text_at a u) w e
@@ -119,6 +138,10 @@ module _ (a : Arena) (u : ℕ) (o : IsArena a) (h : u < unit_count a) where
     begin-fits process args r (stand.Waits x) f p k c e =
         start-fits c (entered-fits (contents a) w (unit_text_at a u) p.held (label_name_at a u x.block.0) (label_name_at a u x.to.0) c (unit-right a o g u h b) (same-fits x.slots p.held f.held k.1) (sym (ap (control_from (unit_text_at a u) p.held) k.0) ∙ e))
     begin-fits process args r stand.Halted f p k c e = absurd (none-some c (sym (ap (control_from (unit_text_at a u) p.held) k) ∙ e))
+
+-- a process has blocks
+pub process-blocks : (a : Arena) (u : ℕ) → kind_at a u ≡ Some kind.Proc → HasBlocks (kind_at a u)
+process-blocks a u e = subst HasBlocks (sym e) tt
 
 -- each state that fits stands for some state
 pub some-state : (a : Arena) (u w : ℕ) (args : List Range) (s : declared.Stand) → FitsBy a u w s → (p : ProcessState) × StandsBy a u args s p
@@ -162,3 +185,29 @@ module _ (a : Arena) (u w : ℕ) (args : List Range) (o : IsArena a) (h : u < un
   finish-none m flow.Lost (Some d) e k = absurd k
   finish-none m (flow.Waits to on) done e k = absurd cc
   finish-none m flow.Halts done e k = absurd cc
+
+-- ---- the whole
+
+pub begins-point : (a : Arena) (m : Machine) (o : Option Control) → BeginsAt a (Some m) o → (c : Control) × (o ≡ Some c) × MachineIs a m (start_point c)
+begins-point a m None k = absurd k
+begins-point a m (Some c) k = (c, refl, k)
+
+pub begins-nowhere : (a : Arena) (o : Option Control) → BeginsAt a None o → o ≡ None
+begins-nowhere a None k = refl
+begins-nowhere a (Some c) k = absurd k
+
+pub activation-is : (bound : ℕ) (s : Scene) (u : UnitText) (p : ProcessState) (c : Control) → control_at u p ≡ Some c → run bound s (start_point c) ≡ activate bound s u p
+unfolding activate
+activation-is bound s u p c e = sym (ap (option_and_then (λ (x : Control). run bound s (start_point x))) e)
+
+pub no-activation : (bound : ℕ) (s : Scene) (u : UnitText) (p : ProcessState) → control_at u p ≡ None → None ≡ activate bound s u p
+unfolding activate
+no-activation bound s u p e = sym (ap (option_and_then (λ (x : Control). run bound s (start_point x))) e)
+
+pub answers-some : (a : Arena) (u : ℕ) (args : List Range) (w : ℕ) (act : Act) (done : Option Activated) → GivesMaybe a u args w (Some act) done → Answers a u args w (Ok act) done
+answers-some a u args w act None k = absurd k
+answers-some a u args w act (Some d) k = k
+
+pub answers-none : (a : Arena) (u : ℕ) (args : List Range) (w : ℕ) (done : Option Activated) → GivesMaybe a u args w None done → Answers a u args w (Err fault.Runaway) done
+answers-none a u args w None k = tt
+answers-none a u args w (Some d) k = absurd k

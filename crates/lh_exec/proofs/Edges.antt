@@ -30,6 +30,7 @@ use Rattle.lh_exec.specs.declared.machine.Machine.{Machine}
 use Rattle.lh_exec.specs.declared.machine.Flow.TheVariants as flow
 use Rattle.lh_exec.specs.declared.machine.Call.{Call}
 use Rattle.lh_exec.specs.Standing.{FrameIs, CallsAre, MachineIs, Leads}
+use Rattle.lh_exec.proofs.KeepsFit.{at-block}
 use Rattle.lh_exec.specs.Taking.{edge_in, in_front, one_taken, all_taken, put_all}
 
 -- ---- the instructions of a block that stands in the unit
@@ -132,7 +133,7 @@ module _ (a : Arena) (u : ℕ) (o : IsArena a) (h : u < unit_count a) (from : Bl
 
 module _ (a : Arena) (m : Machine) (p : Point) (k : MachineIs a m p) (to : BlockId) (l : to.0 < label_count a m.frame.unit.0) (b : is_block (blocks_at a m.frame.unit.0) to.0 ≡ true) where
   abbrev made : Env → Control
-  made e = record { unit = p.control.unit; block = label_name_at a m.frame.unit.0 to.0; rest = map (inst_line (naming a m.frame.unit.0) (table_at a m.frame.unit.0)) (block_insts_at a m.frame.unit.0 to.0); held = e }
+  made = at-block p.control.unit (label_name_at a m.frame.unit.0 to.0) (map (inst_line (naming a m.frame.unit.0) (table_at a m.frame.unit.0)) (block_insts_at a m.frame.unit.0 to.0))
 
   entered-is : entered p.control.unit p.control.held p.control.block (label_name_at a m.frame.unit.0 to.0)
       ≡ option_map made (phis_taken (label_name_at a m.frame.unit.0 m.frame.block.0) p.control.held (map (inst_line (naming a m.frame.unit.0) (table_at a m.frame.unit.0)) (block_insts_at a m.frame.unit.0 to.0)))
@@ -141,7 +142,7 @@ module _ (a : Arena) (m : Machine) (p : Point) (k : MachineIs a m p) (to : Block
       ap (λ (v : UnitText). block_of (label_name_at a m.frame.unit.0 to.0) v.blocks) k.frame.unit
       ∙ block_of-by_id a m.frame.unit.0 k.arena k.frame.within to.0 k.frame.has_blocks l
       ∙ ap (λ c. if c then Some (block_text (naming a m.frame.unit.0) (table_at a m.frame.unit.0) to) else None) b in
-      ap (option_and_then (λ (x : BlockText). option_map (λ e'. record { unit = p.control.unit; block = label_name_at a m.frame.unit.0 to.0; rest = x.lines; held = e' }) (phis_taken p.control.block p.control.held x.lines))) found
+      ap (option_and_then (λ (x : BlockText). option_map (at-block p.control.unit (label_name_at a m.frame.unit.0 to.0) x.lines) (phis_taken p.control.block p.control.held x.lines))) found
       ∙ ap (λ (n : List ℕ). option_map made (phis_taken n p.control.held (map (inst_line (naming a m.frame.unit.0) (table_at a m.frame.unit.0)) (block_insts_at a m.frame.unit.0 to.0)))) k.frame.block
 
   same : Taken a m.frame.unit.0 k.arena k.frame.within m.frame.block k.frame.label m.frame.slots p.control.held k.frame.held (all_taken m.frame.block m.frame.slots (table_at a m.frame.unit.0) (block_insts_at a m.frame.unit.0 to.0))

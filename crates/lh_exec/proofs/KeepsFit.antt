@@ -52,9 +52,6 @@ function-is n [] f e k = absurd (none-some f e)
 function-is n (declare_text d ∷ items) f e k = function-is n items f e k
 function-is n (unit_text u ∷ items) f e k = by (same_unit_name u.name n) refl (is_function u.kind) refl (λ q. function-is n items f q k)
   where
-    here : Bool → List UnitText
-    here b = if b then u ∷ functions items else functions items
-
     rest : (b : Bool) → same_unit_name u.name n ≡ false → function_named n (functions items) ≡ Some f → function_named n (if b then u ∷ functions items else functions items) ≡ Some f
     rest true s q = ap (λ x. if x then Some u else function_named n (functions items)) s ∙ q
     rest false s q = q
@@ -135,6 +132,10 @@ module _ (items : List ItemText) (u : UnitText) (w : ℕ) (from : List ℕ) (e :
 
 -- ---- places of control
 
+-- the place where a block of the unit v is entered
+abbrev pub at-block : UnitText → List ℕ → List LineText → Env → Control
+at-block v to ls e = record { unit = v; block = to; rest = ls; held = e }
+
 module _ (items : List ItemText) (w : ℕ) where
   -- a place in the unit v
   abbrev pub Placed : UnitText → Control → Type 0
@@ -143,15 +144,15 @@ module _ (items : List ItemText) (w : ℕ) where
   pub entered-fits : (v : UnitText) (e : Env) (from to : List ℕ) (k : Control) → UnitRight items v → Fits v w e → entered v e from to ≡ Some k → Placed v k
   entered-fits v e from to k r f h = by (block_of to v.blocks) refl h
     where
-      by : (o : Option BlockText) → block_of to v.blocks ≡ o → option_and_then (λ b. option_map (λ e'. record { unit = v; block = to; rest = b.lines; held = e' }) (phis_taken from e b.lines)) o ≡ Some k → Placed v k
+      by : (o : Option BlockText) → block_of to v.blocks ≡ o → option_and_then (λ b. option_map (at-block v to b.lines) (phis_taken from e b.lines)) o ≡ Some k → Placed v k
       by None p c = absurd (none-some k c)
       by (Some b) p c = at (phis_taken from e b.lines) (phis-fit items v w from e f b.lines (block-has (λ (x : BlockText). Each (LineRight items v) x.lines) to v.blocks b r.lines p)) c
         where
-          at : (o : Option Env) → MaybeFits v w o → option_map (λ e'. record { unit = v; block = to; rest = b.lines; held = e' }) o ≡ Some k → Placed v k
+          at : (o : Option Env) → MaybeFits v w o → option_map (at-block v to b.lines) o ≡ Some k → Placed v k
           at None m d = absurd (none-some k d)
           at (Some e') m d =
-              let here : Placed v (record { unit = v; block = to; rest = b.lines; held = e' }) = (record { right = r; text = b; block = p; before = []; split = refl; fits = m }, refl) in
-              subst (Placed v) (same_Some (record { unit = v; block = to; rest = b.lines; held = e' }) k d) here
+              let here : Placed v (at-block v to b.lines e') = (record { right = r; text = b; block = p; before = []; split = refl; fits = m }, refl) in
+              subst (Placed v) (same_Some (at-block v to b.lines e') k d) here
 
   entry-fits : (v : UnitText) (e : Env) (k : Control) → UnitRight items v → Fits v w e → entry v e ≡ Some k → Placed v k
   entry-fits v e k r f h = by v.blocks refl h
@@ -162,8 +163,8 @@ module _ (items : List ItemText) (w : ℕ) where
           let labelled = subst (Each (λ (x : BlockText). x.label ≡ Some (label_or x.label))) p r.labelled in
           let named : is_result_name (label_or b.label) b.label ≡ true = ap (is_result_name (label_or b.label)) labelled.0 ∙ same_name-refl (label_or b.label) in
           let stands : block_of (label_or b.label) v.blocks ≡ Some b = ap (block_of (label_or b.label)) p ∙ ap (λ x. if x then Some b else block_of (label_or b.label) more) named in
-          let here : Placed v (record { unit = v; block = label_or b.label; rest = b.lines; held = e }) = (record { right = r; text = b; block = stands; before = []; split = refl; fits = f }, refl) in
-          subst (Placed v) (same_Some (record { unit = v; block = label_or b.label; rest = b.lines; held = e }) k c) here
+          let here : Placed v (at-block v (label_or b.label) b.lines e) = (record { right = r; text = b; block = stands; before = []; split = refl; fits = f }, refl) in
+          subst (Placed v) (same_Some (at-block v (label_or b.label) b.lines e) k c) here
 
   -- the arguments of a function
   front-some : (x : Option Datum) (xs : Option (List Datum)) (ds : List Datum) → front x xs ≡ Some ds → (d : Datum) × (more : List Datum) × (x ≡ Some d) × (xs ≡ Some more) × (d ∷ more ≡ ds)
@@ -211,7 +212,7 @@ module _ (items : List ItemText) (w : ℕ) where
 
     gives-fit : (r : Option (List ℕ)) (h : Option Held) → ((n : List ℕ) → r ≡ Some n → GivenFits w h (value_type p.control.unit n)) → NextFits items w u p.control.unit (gives p r h)
     gives-fit r None g = tt
-    gives-fit r (Some h) g = holds-more _ (held-still-fits p.control.unit w p.control.held r (Some h) f.control.fits g)
+    gives-fit r (Some h) g = holds-more (with_result p.control.held r h) (held-still-fits p.control.unit w p.control.held r (Some h) f.control.fits g)
 
     jumps-fit : (o : Option Control) → ((c : Control) → o ≡ Some c → Placed p.control.unit c) → NextFits items w u p.control.unit (jumps p o)
     jumps-fit None g = tt
@@ -240,7 +241,7 @@ module _ (items : List ItemText) (w : ℕ) where
         by (Some x) None e = tt
         by (Some x) (Some d) e =
             let k : FitsHeld w (cell_held d) (pointer_type t) = datum-fits p.control.unit w p.control.held f.control.fits value d t e b in
-            holds-more _ (held-still-fits p.control.unit w p.control.held (Some to) (Some (cell_held d)) f.control.fits (λ n m y s h c. as-held w (cell_held d) y (pointer_type t) s k h (sym a ∙ ap (value_type p.control.unit) (same_Some to n m) ∙ c)))
+            holds-more (with_held p.control.held to (cell_held d)) (held-still-fits p.control.unit w p.control.held (Some to) (Some (cell_held d)) f.control.fits (λ n m y s h c. as-held w (cell_held d) y (pointer_type t) s k h (sym a ∙ ap (value_type p.control.unit) (same_Some to n m) ∙ c)))
 
     opens-fit : (r : Option (List ℕ)) (o : Option Control) → ((c : Control) → o ≡ Some c → ControlFits items w c × ResultFits c.unit (record { control = p.control; result = r })) → NextFits items w u p.control.unit (opens p r o)
     opens-fit r None g = tt
@@ -275,7 +276,7 @@ module _ (items : List ItemText) (w : ℕ) where
         with_value c more q a r None h = tt
         with_value c more q a r (Some d) h =
             let cs = subst (CallersFit items w p.control.unit) q f.callers in
-            back-fits (Some a) c more _ q (held-still-fits c.control.unit w c.control.held c.result (Some (datum_held d)) cs.0.fits (λ n m. returned-fits a c r (some c more q) cs.1.1 n m d h))
+            back-fits (Some a) c more (with_result c.control.held c.result (datum_held d)) q (held-still-fits c.control.unit w c.control.held c.result (Some (datum_held d)) cs.0.fits (λ n m. returned-fits a c r (some c more q) cs.1.1 n m d h))
 
         goes-back : (c : Caller) (more : List Caller) → p.callers ≡ c ∷ more → (x : Option OperandText) → ReturnIs p.control.unit p.control.unit.result x → NextFits items w u p.control.unit (goes_back p c more (given_back p.control.held x c))
         goes-back c more q None r = back-fits None c more c.control.held q (subst (CallersFit items w p.control.unit) q f.callers).0.fits

@@ -7,3 +7,5 @@ pub mod Running
 pub mod Lists
 pub mod Passing
 pub mod Operands
+pub mod CallSteps
+pub mod WaitSteps

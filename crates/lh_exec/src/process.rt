@@ -112,7 +112,7 @@ fn activate_within(
 
 /// What a machine that has come to an end gives.
 fn finish(alloc: Global, machine: Machine, flow: Flow) -> Result<Option<Act>, NoMemory>
-    ensures { (a : Arena) (u (length now.now) : ℕ) (args : List Bounds) (done : Option Activated) → IsArena a → u < unit_count a → Finishes a u (length now.now) machine flow done → IfOk result (λ r. GivesMaybe a u args (length now.now) r done) }
+    ensures { (a : Arena) (u w : ℕ) (args : List Bounds) (done : Option Activated) → IsArena a → u < unit_count a → Finishes a u w machine flow done → IfOk result (λ r. GivesMaybe a u args w r done) }
 {
     let Some(stand) = stand_at(machine.frame, flow) else {
         return Ok(None);
