@@ -154,7 +154,7 @@ module _ (items : List ItemText) (w : ℕ) where
               let here : Placed v (at-block v to b.lines e') = (record { right = r; text = b; block = p; before = []; split = refl; fits = m }, refl) in
               subst (Placed v) (same_Some (at-block v to b.lines e') k d) here
 
-  entry-fits : (v : UnitText) (e : Env) (k : Control) → UnitRight items v → Fits v w e → entry v e ≡ Some k → Placed v k
+  pub entry-fits : (v : UnitText) (e : Env) (k : Control) → UnitRight items v → Fits v w e → entry v e ≡ Some k → Placed v k
   entry-fits v e k r f h = by v.blocks refl h
     where
       by : (bs : List BlockText) → v.blocks ≡ bs → at_first v e bs ≡ Some k → Placed v k

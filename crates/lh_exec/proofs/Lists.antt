@@ -1,5 +1,5 @@
 -- Lists that grow item by item.
-use Rattle.std.proofs.Common.{◌≡◌, ℕ, ◌+◌, ◌<◌, ◌≤◌, List, [], ◌∷◌, ◌++◌, length, map, drop, get_or, set, Option, Some, None, refl, ap, sym, ◌∙◌, subst, append_assoc, add-one, drop-cons, arith}
+use Rattle.std.proofs.Common.{◌≡◌, ℕ, ◌+◌, ◌<◌, ◌≤◌, List, [], ◌∷◌, ◌++◌, length, map, drop, get_or, set, Bool, true, false, nat_eq, if◌then◌else◌, Option, Some, None, refl, ap, sym, ◌∙◌, subst, append_assoc, add-one, drop-cons, arith}
 use Rattle.std.specs.Option.{option_map}
 use Rattle.std.proofs.lemmas.Grind.{common_steps}
 use Rattle.std.proofs.lemmas.List.{append-nil, map-append, length-set}
@@ -7,7 +7,9 @@ use Rattle.lh_types.specs.Values.{Datum}
 use Rattle.lh_types.specs.ValueOf.{datum_of}
 use Rattle.lh_types.specs.declared.part.Range.{Range}
 use Rattle.lh_unit.specs.Held.{Held, datum_held, front}
-use Rattle.lh_unit.specs.Table.{Table}
+use Rattle.std.proofs.lemmas.Option.{same_Some, none-some}
+use Rattle.lh_unit.specs.Table.{Table, line_at}
+use Rattle.lh_unit.specs.declared.inst.PhiEdge.{PhiEdge}
 use Rattle.lh_unit.specs.Within.{Each}
 use Rattle.lh_unit.specs.declared.inst.BlockId.{BlockId}
 use Rattle.lh_unit.specs.declared.inst.InstId.{InstId}
@@ -15,12 +17,12 @@ use Rattle.lh_unit.specs.declared.inst.ValueId.{ValueId}
 use Rattle.lh_eval.specs.Holding.{part_in}
 use Rattle.lh_exec.specs.declared.machine.Taken.{Taken}
 use Rattle.lh_exec.specs.Standing.{parts_in}
-use Rattle.lh_exec.specs.Taking.{taken_of, all_taken, put_all}
+use Rattle.lh_exec.specs.Taking.{edge_in, taken_of, one_taken, all_taken, put_all}
 
 pub drop-item : {X : Type 0} → (xs : List X) (i : ℕ) (x : X) → i < length xs → x ≡ get_or xs i x → drop i xs ≡ x ∷ drop (i + 1) xs
 drop-item xs i x h e = (rw add-one (drop-cons xs i x h)) ∙ ap (λ y. y ∷ drop (i + 1) xs) (sym e)
 
-drop-end : {X : Type 0} → (xs : List X) (i : ℕ) → length xs ≤ i → drop i xs ≡ []
+pub drop-end : {X : Type 0} → (xs : List X) (i : ℕ) → length xs ≤ i → drop i xs ≡ []
 drop-end xs i h = grind (arith, common_steps)
 
 pub map-nothing : {X : Type 0} → (o : Option (List X)) → option_map (λ (ys : List X). [] ++ ys) o ≡ o
@@ -53,6 +55,37 @@ all-taken xs z e = sym e ∙ ap Some (append-nil xs)
 
 pub no-more : (xs : List (ValueId × Datum)) (more z : Option (List (ValueId × Datum))) → more ≡ None → option_map (λ ys. xs ++ ys) more ≡ z → z ≡ None
 no-more xs more z e h = sym h ∙ ap (option_map (λ ys. xs ++ ys)) e
+
+module _ (from : BlockId) (slots : List (Option Held)) (t : Table) (insts : List InstId) (i : ℕ) (h : i < length insts) where
+  abbrev here : InstId
+  here = get_or insts i (record { 0 = 0 })
+
+  split : drop i insts ≡ get_or insts i (record { 0 = 0 }) ∷ drop (i + 1) insts
+  split = rw add-one (drop-cons insts i (record { 0 = 0 }) h)
+
+  pub take-stops : (old : List (ValueId × Datum)) (z : Option (List (ValueId × Datum))) → one_taken from slots (line_at t (get_or insts i (record { 0 = 0 })).0).inst (line_at t (get_or insts i (record { 0 = 0 })).0).result (all_taken from slots t (drop (i + 1) insts)) ≡ None
+      → option_map (λ ys. old ++ ys) (all_taken from slots t (drop i insts)) ≡ z → z ≡ None
+  take-stops old z e g = no-more old (all_taken from slots t (drop i insts)) z (ap (all_taken from slots t) split ∙ e) g
+
+  pub take-goes : (old new : List (ValueId × Datum)) (z : Option (List (ValueId × Datum)))
+      → option_map (λ ys. new ++ ys) (all_taken from slots t (drop (i + 1) insts)) ≡ option_map (λ ys. old ++ ys) (one_taken from slots (line_at t (get_or insts i (record { 0 = 0 })).0).inst (line_at t (get_or insts i (record { 0 = 0 })).0).result (all_taken from slots t (drop (i + 1) insts)))
+      → option_map (λ ys. old ++ ys) (all_taken from slots t (drop i insts)) ≡ z → option_map (λ ys. new ++ ys) (all_taken from slots t (drop (i + 1) insts)) ≡ z
+  take-goes old new z e g = e ∙ sym (ap (λ (l : List InstId). option_map (λ ys. old ++ ys) (all_taken from slots t l)) split) ∙ g
+
+pub each-next : {X : Type 0} (P : X → Type 0) (xs : List X) (i : ℕ) (d : X) → i < length xs → Each P (drop i xs) → Each P (drop (i + 1) xs)
+each-next P xs i d h e = (subst (Each P) (rw add-one (drop-cons xs i d h)) e).1
+
+pub edge-in-each : (n : ℕ) (from : BlockId) (es : List PhiEdge) (v : ValueId) → Each (λ (e : PhiEdge). e.value.0 < n) es → edge_in from es ≡ Some v → v.0 < n
+edge-in-each n from [] v w e = absurd (none-some v e)
+edge-in-each n from (x ∷ es) v w e = by (edge-in-each n from es v w.1) (nat_eq x.block.0 from.0) e
+  where
+    by : (edge_in from es ≡ Some v → v.0 < n) → (c : Bool) → (if c then Some x.value else edge_in from es) ≡ Some v → v.0 < n
+    by go true q = subst (λ (y : ValueId). y.0 < n) (same_Some x.value v q) w.0
+    by go false q = go q
+
+pub nil-of : {X : Type 0} → (xs : List X) → length xs ≡ 0 → xs ≡ []
+nil-of [] e = refl
+nil-of (x ∷ xs) e = absurd (omega (arith, e))
 
 -- ---- parts, one by one
 

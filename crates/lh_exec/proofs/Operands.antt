@@ -90,8 +90,8 @@ module _ (a : Arena) (w : ℕ) (m : Machine) (f : IsFit a w m) where
     function-blocks : (v : UnitId) (ty : TypeTree) (args : List Typed) (n : Option ValueId) → v.0 < unit_count a → is_assert (unit_name_at a v.0) ≡ false
         → ((is_assert (unit_name_at a v.0) ≡ true) × AssertIsRight (unit_text_at a m.frame.unit.0) ty (map (operand_text (naming a m.frame.unit.0)) args)) ⊎ ((is_assert (unit_name_at a v.0) ≡ false) × FunctionIsRight (contents a) (unit_text_at a m.frame.unit.0) (unit_name_at a v.0) ty (map (operand_text (naming a m.frame.unit.0)) args))
         → HasBlocks (kind_at a v.0)
-    function-blocks v ty args n h no (inl x) = absurd cc
-    function-blocks v ty args n h no (inr x) = (called-unit a f.is.arena g v.0 h x.1.of x.1.named x.1.function).1
+    function-blocks v ty args n h free (inl x) = absurd cc
+    function-blocks v ty args n h free (inr x) = (called-unit a f.is.arena g v.0 h x.1.of x.1.named x.1.function).1
 
     pub call-blocks : (name : Option ValueId) (i : Inst) (v : UnitId) (ty : TypeTree) (args : List Typed) → i ≡ inst.Call v ty args → Right name i → InstPlaced a m.frame.unit.0 i → is_assert (unit_name_at a v.0) ≡ false → HasBlocks (kind_at a v.0)
     call-blocks name i v ty args e r p n = function-blocks v ty args name (subst (InstPlaced a m.frame.unit.0) e p).0 n (subst (Right name) e r).named

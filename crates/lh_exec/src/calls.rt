@@ -7,7 +7,7 @@ ghost use Rattle.lh_unit.specs.Activation.{Point, asserted, tells, called, opens
 ghost use Rattle.lh_unit.specs.Arena.{Arena, IsArena, unit_count, value_count, naming, kind_at, unit_name_at, unit_text_at};
 ghost use Rattle.lh_unit.specs.Contents as text;
 ghost use Rattle.lh_unit.specs.Held.{Held as Content};
-ghost use Rattle.lh_unit.specs.Held.{Env, datum_held, data_at};
+ghost use Rattle.lh_unit.specs.Held.{Env, datum_held, data_at, nothing_held, with_args};
 ghost use Rattle.lh_unit.specs.Named as named;
 ghost use Rattle.lh_unit.specs.Naming.{operand_text, maybe_text};
 ghost use Rattle.lh_unit.specs.Table.{ArgsWithin, HasBlocks};
@@ -194,11 +194,25 @@ fn called_frame(
     requires args { Each (λ (o : Operand). o.value.0 < length slots.now) args.now }
     ensures { (u : ℕ) (e : Env) → Holds m.now u slots.now e → IfOk result (λ f. MaybeFrame m.now f (called (Some (unit_text_at m.now unit.0)) (data_at e (map (operand_text (naming m.now u)) args.now)))) }
 {
-    let Some(values) = data_in(alloc, slots, args)? else {
-        return Ok(None);
-    };
+    match data_in(alloc, slots, args)? {
+        Some(values) => function_frame(alloc, m, unit, values.as_slice()),
+        None => Ok(None),
+    }
+}
+
+/// The frame in which a function begins that is called with these values.
+fn function_frame(
+    alloc: Global,
+    m: &Module,
+    unit: UnitId,
+    values: &[Val],
+) -> Result<Option<Frame>, NoMemory>
+    requires unit { unit.0 < unit_count m.now }
+    requires blocks { HasBlocks (kind_at m.now unit.0) }
+    ensures { IfOk result (λ f. MaybeFrame m.now f (entry (unit_text_at m.now unit.0) (with_args nothing_held (unit_text_at m.now unit.0).args (map datum_held (map datum_of values.now))))) }
+{
     let mut slots = Slots::new(alloc, m.values(unit))?;
-    hold_data(m.args(unit), values.as_slice(), &mut slots)?;
+    hold_data(m.args(unit), values, &mut slots)?;
     Ok(first_frame(m, unit, slots))
 }
 

@@ -94,15 +94,24 @@ impl Machine {
         if !self.callers.is_empty() {
             return Ok(Flow::Lost);
         }
-        let Some(parts) = parts_in(alloc, &self.frame.slots, signals)? else {
-            return Ok(Flow::Lost);
-        };
+        match parts_in(alloc, &self.frame.slots, signals)? {
+            Some(parts) => Ok(self.wait_on(at, to, after, parts)),
+            None => Ok(Flow::Lost),
+        }
+    }
+
+    /// Waits for a change of these parts, which the signals of the `wait` are, or for an instant.
+    fn wait_on(&self, at: Instant, to: BlockId, after: Option<ValueId>, parts: RangeList) -> Flow
+        requires after { MaybeIn self.now.frame.slots after }
+        requires calls { self.now.callers.items ≡ [] }
+        ensures { (a : Arena) (signals : List Value) → to.0 < label_count a self.now.frame.unit.0 → Each (λ (v : Value). v.0 < length self.now.frame.slots) signals → standing.parts_in self.now.frame.slots signals ≡ Some parts → (p : Point) → standing.MachineIs a self.now p → let f = naming a self.now.frame.unit.0 in standing.Leads a self.now result p.control.unit (ends_at p p.callers (waiting p.control.block (f.label_name to.0) (parts_at p.control.held (map (value_text f) signals)) (act.wake_at at p.control.held (maybe_text f after)))) }
+    {
         match wake(at, &self.frame.slots, after) {
-            Some(wake) => Ok(Flow::Waits {
+            Some(wake) => Flow::Waits {
                 to,
                 on: WaitOn { parts, wake },
-            }),
-            None => Ok(Flow::Lost),
+            },
+            None => Flow::Lost,
         }
     }
 

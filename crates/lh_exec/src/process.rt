@@ -76,9 +76,18 @@ pub fn activate<T: Tally>(
     tally.tick();
     let args = i.args.as_slice();
     match activate_within(alloc, m, now, at, i.unit, args, &s.stand, MAX_INSTRUCTIONS) {
-        Ok(Some(act)) => Ok(act),
-        Ok(None) => Err(ExecFault::Runaway),
+        Ok(given) => answered(given),
         Err(_) => Err(ExecFault::OutOfMemory),
+    }
+}
+
+/// The answer where memory did not run out.
+fn answered(given: Option<Act>) -> Result<Act, ExecFault>
+    ensures { (a : Arena) (u w : ℕ) (args : List Bounds) (done : Option Activated) → GivesMaybe a u args w given done → Answers a u args w result done }
+{
+    match given {
+        Some(act) => Ok(act),
+        None => Err(ExecFault::Runaway),
     }
 }
 

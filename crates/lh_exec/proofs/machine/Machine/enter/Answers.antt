@@ -4,13 +4,9 @@ use Rattle.lh_unit.specs.Arena.{table_at, inst_count}
 use Rattle.lh_unit.specs.Within.{Each}
 use Rattle.lh_unit.specs.declared.inst.InstId.{InstId}
 use Rattle.lh_unit.specs.declared.inst.ValueId.{ValueId}
-use Rattle.lh_unit.proofs.ModuleLaws.{label-is_block}
 use Rattle.lh_exec.specs.Taking.{taken_of, all_taken, Takes}
 use Rattle.lh_exec.proofs.Edges.{insts-within, taken-names, enters, enters-none}
 use Rattle.lh_exec.proofs.machine.Machine.enter.Goals as goal
-
-pub insts-requires-clause-block : goal.insts-requires-clause-block
-insts-requires-clause-block c = label-is_block c.args.m.now c.args.self.now.frame.unit.0 c.args.to.0 c.requires.arena c.requires.unit c.requires.to
 
 pub take_phis-requires-clause-insts : goal.take_phis-requires-clause-insts
 take_phis-requires-clause-insts c =
@@ -25,8 +21,8 @@ put_taken-requires c =
     subst (λ (n : ℕ). Each (λ (x : ValueId × Datum). x.0.0 < n) (map taken_of c.take_phis.new.taken.items)) (sym c.requires.slots)
     (taken-names c.args.m.now c.args.self.now.frame.unit.0 c.requires.arena c.requires.unit c.args.self.now.frame.block c.args.self.now.frame.slots c.insts-insts.result.now (map taken_of c.take_phis.new.taken.items) all)
 
-pub returns-then-not-take_phis : goal.returns-then-not-take_phis
-returns-then-not-take_phis c = λ p st.
+pub returns-then-not-branch : goal.returns-then-not-branch
+returns-then-not-branch c = λ p st.
     let t : c.in_ok-take_phis.field-0 ≡ false = cc in
     let none = subst (λ b. Takes b (map taken_of c.take_phis.new.taken.items) (all_taken c.args.self.now.frame.block c.args.self.now.frame.slots (table_at c.args.m.now c.args.self.now.frame.unit.0) c.insts-insts.result.now)) t c.in_ok-take_phis.ensures in
     enters-none c.args.m.now c.args.self.now p st c.args.to c.requires.to c.requires.stands

@@ -15,19 +15,3 @@ returns-then-len-ge-MAX_CALLS c = λ p st.
     let f = naming m c.args.self.now.frame.unit.0 in
     let h : 256 ≤ length c.args.self.now.callers.items = omega arith in
     subst (λ (n : Next). Leads m c.args.self.now flow.Lost p.control.unit n) (sym (opens-none m c.args.self.now p st (maybe_text f c.args.name) (called (Some (unit_text_at m c.args.unit.0)) (data_at p.control.held (map (operand_text f) c.args.args.now))) h)) tt
-
-pub returns-in-Some : goal.returns-in-Some
-returns-in-Some c = λ p st.
-    let m = c.args.m.now in
-    let f = naming m c.args.self.now.frame.unit.0 in
-    let o = called (Some (unit_text_at m c.args.unit.0)) (data_at p.control.held (map (operand_text f) c.args.args.now)) in
-    opens-some m c.in-Some.frame o (λ x. IfOk c.push.result (λ fl. Leads m c.push.new.self fl p.control.unit (opens p (maybe_text f c.args.name) x)))
-    (subst (λ (x : Option Frame). MaybeFrame m x o) c.in-Some.is (c.in_ok-called_frame.ensures c.args.self.now.frame.unit.0 p.control.held st.frame.held))
-    (λ x g. c.push.ensures m x g p st)
-
-pub returns-in-None : goal.returns-in-None
-returns-in-None c = λ p st.
-    let m = c.args.m.now in
-    let f = naming m c.args.self.now.frame.unit.0 in
-    let o = called (Some (unit_text_at m c.args.unit.0)) (data_at p.control.held (map (operand_text f) c.args.args.now)) in
-    opens-lost m c.args.self.now p (maybe_text f c.args.name) o (subst (λ (x : Option Frame). MaybeFrame m x o) c.in-None.is (c.in_ok-called_frame.ensures c.args.self.now.frame.unit.0 p.control.held st.frame.held))

@@ -2,16 +2,9 @@ use Rattle.std.proofs.Common.{◌≡◌, ◌<◌, ◌≤◌, ◌∙◌, List, ge
 use Rattle.lh_unit.specs.Arena.{block_insts_at, inst_count, inst_at, result_at}
 use Rattle.lh_unit.specs.Within.{Each}
 use Rattle.lh_unit.specs.declared.inst.InstId.{InstId}
-use Rattle.lh_unit.proofs.ModuleLaws.{label-is_block}
 use Rattle.lh_exec.specs.Standing.{scene_of}
 use Rattle.lh_exec.proofs.Passing.{each-get, name-in, past-is, past, insts-here, no-more, stepped, line-right, past-fits}
 use Rattle.lh_exec.proofs.machine.Machine.step.Goals as goal
-
-pub insts-requires-clause-unit : goal.insts-requires-clause-unit
-insts-requires-clause-unit c = c.requires.fit.is.frame.within
-
-pub insts-requires-clause-block : goal.insts-requires-clause-block
-insts-requires-clause-block c = label-is_block c.args.m.now c.args.self.now.frame.unit.0 c.args.self.now.frame.block.0 c.requires.fit.is.arena c.requires.fit.is.frame.within c.requires.fit.is.frame.label
 
 pub returns-then-next-insts : goal.returns-then-next-insts
 returns-then-next-insts c = λ p st.
@@ -19,18 +12,12 @@ returns-then-next-insts c = λ p st.
     let h : length (block_insts_at c.args.m.now c.args.self.now.frame.unit.0 c.args.self.now.frame.block.0) ≤ c.args.self.now.frame.next = omega (arith, e) in
     no-more c.args.m.now c.args.self.now p st (scene_of c.args.m.now c.args.now.now c.args.at) c.args.self.now h
 
-pub result_of-requires-clause-unit : goal.result_of-requires-clause-unit
-result_of-requires-clause-unit c = c.requires.fit.is.frame.within
-
-pub result_of-requires-clause-inst : goal.result_of-requires-clause-inst
-result_of-requires-clause-inst c =
+pub result_of-name-requires-clause-inst : goal.result_of-name-requires-clause-inst
+result_of-name-requires-clause-inst c =
     let d : InstId = record { 0 = 0 } in
     let h : c.args.self.now.frame.next < length c.insts-insts.result.now = omega arith in
     each-get (λ (i : InstId). i.0 < inst_count c.args.m.now c.args.self.now.frame.unit.0) c.insts-insts.result.now c.args.self.now.frame.next d h
     (subst (Each (λ (i : InstId). i.0 < inst_count c.args.m.now c.args.self.now.frame.unit.0)) (sym c.insts-insts.ensures.insts) (insts-here c.args.m.now c.args.self.now c.requires.fit.point c.requires.fit.is))
-
-pub inst-requires-clause-unit : goal.inst-requires-clause-unit
-inst-requires-clause-unit c = c.requires.fit.is.frame.within
 
 pub inst-requires-clause-inst : goal.inst-requires-clause-inst
 inst-requires-clause-inst c =
