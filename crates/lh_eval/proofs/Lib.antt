@@ -6,3 +6,4 @@ pub mod TypesMade
 pub mod ValuesFit
 pub mod GivesFit
 pub mod BeginSteps
+pub mod Wishing

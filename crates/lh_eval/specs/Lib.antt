@@ -6,3 +6,4 @@ pub mod WishOf
 pub mod Grouped
 pub mod ResultsFit
 pub mod Beginning
+pub mod Wishing

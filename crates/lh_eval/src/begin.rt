@@ -37,7 +37,8 @@ pub fn begin(
     Ok(slots)
 }
 
-fn hold_args(args: &[Arg], ranges: &[Range], slots: &mut Slots)
+/// Holds parts by the arguments of a unit, as many as there are ranges.
+pub fn hold_args(args: &[Arg], ranges: &[Range], slots: &mut Slots)
     requires { ArgsWithin (length slots.old) args.now }
     ensures { slots.new ≡ args_given args.now ranges.now slots.old }
 {

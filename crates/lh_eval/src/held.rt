@@ -1,5 +1,5 @@
 //! What is held by the values of a unit.
-ghost use Rattle.std.specs.Prelude.{◌≡◌, ◌<◌, ◌++◌, ◌∷◌, [], length, replicate, slice_set, IfOk};
+ghost use Rattle.std.specs.Prelude.{◌≡◌, ◌<◌, ◌++◌, ◌∷◌, [], length, map, replicate, slice_set, IfOk, OnOk};
 ghost use Rattle.std.specs.Option.{option_copied};
 ghost use Rattle.lh_eval.specs.HeldOf.{held_of, maybe_held};
 ghost use Rattle.lh_eval.specs.Holding.{slot_at, given, MaybeIn};
@@ -74,6 +74,18 @@ impl Slots {
         Ok(Slots { slots })
     }
 
+    /// An equal copy.
+    pub fn copy(&self, alloc: Global) -> Result<Slots, NoMemory>
+        ensures { IfOk result (λ s. s ≡ self.now) }
+    {
+        let mut slots = Vec::new(alloc);
+        let from = self.slots.as_slice();
+        for slot in from {
+            push_copy(&mut slots, slot)?;
+        }
+        Ok(Slots { slots })
+    }
+
     /// How many values there are.
     pub fn len(&self) -> usize
         ensures { result ≡ length self.now }
@@ -114,5 +126,27 @@ fn push_none(slots: &mut Vec<Option<Held>>) -> Result<(), NoMemory>
     match slots.push(None) {
         Ok(()) => Ok(()),
         Err(_) => Err(NoMemory),
+    }
+}
+
+fn push_copy(slots: &mut Vec<Option<Held>>, slot: &Option<Held>) -> Result<(), NoMemory>
+    ensures { OnOk result (map maybe_held slots.new.items ≡ map maybe_held slots.old.items ++ maybe_held slot.now ∷ []) }
+{
+    let copied = copy_slot(slot)?;
+    match slots.push(copied) {
+        Ok(()) => Ok(()),
+        Err(_) => Err(NoMemory),
+    }
+}
+
+fn copy_slot(slot: &Option<Held>) -> Result<Option<Held>, NoMemory>
+    ensures { IfOk result (λ s. maybe_held s ≡ maybe_held slot.now) }
+{
+    match slot {
+        Some(held) => {
+            let held = held.copy()?;
+            Ok(Some(held))
+        }
+        None => Ok(None),
     }
 }

@@ -1,0 +1,11 @@
+pub mod KeepsFit
+pub mod Steps
+pub mod Edges
+pub mod Rights
+pub mod Begins
+pub mod Running
+pub mod Lists
+pub mod Passing
+pub mod Operands
+pub mod CallSteps
+pub mod WaitSteps

@@ -1,0 +1,4 @@
+pub mod Standing
+pub mod Taking
+pub mod States
+pub mod Sound

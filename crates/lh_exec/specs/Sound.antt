@@ -1,0 +1,129 @@
+-- What holds along an activation of a well-formed module: the instructions are sound, and what is held fits.
+use Rattle.std.specs.Prelude.{◌≡◌, ℕ, ◌<◌, List, [], ◌∷◌, ◌++◌, Bool, Option, Some, None, IsSome}
+use Rattle.lh_types.specs.Types.{TypeTree}
+use Rattle.lh_types.specs.Wish.{Wish}
+use Rattle.lh_types.specs.declared.part.Range.{Range}
+use Rattle.lh_unit.specs.declared.name.UnitName.{UnitName}
+use Rattle.lh_unit.specs.Contents.{LineText, BlockText, UnitText, ItemText}
+use Rattle.lh_unit.specs.Named.{block_of, label_or, function_named}
+use Rattle.lh_unit.specs.Held.{Held, Env}
+use Rattle.lh_unit.specs.Typing.{value_type}
+use Rattle.lh_unit.specs.WellFormed.{labels_named}
+use Rattle.lh_unit.specs.Activation.{Scene, run, Stand, is_new, waits, halted, ProcessState, Control, Caller, Point, Activated, start_point, functions}
+use Rattle.lh_unit.specs.Arena.{Arena, IsArena, contents, unit_text_at, label_name_at, label_count}
+use Rattle.lh_unit.specs.Within.{Each}
+use Rattle.lh_formed.specs.Calls.{NamedIsRight}
+use Rattle.lh_eval.specs.Holding.{Holds}
+use Rattle.lh_eval.specs.Fitting.{Fits}
+use Rattle.lh_eval.specs.Sound.{IsSound}
+use Rattle.lh_eval.specs.Wishing.{WishWithin}
+use Rattle.lh_sound.specs.Units.{HasItsType}
+use Rattle.lh_exec.specs.declared.machine.Frame.{Frame}
+use Rattle.lh_exec.specs.declared.machine.Machine.{Machine}
+use Rattle.lh_exec.specs.declared.machine.Flow.{Flow}
+use Rattle.lh_exec.specs.declared.machine.Flow.TheVariants as flow
+use Rattle.lh_exec.specs.declared.state.Pause.{Pause}
+use Rattle.lh_exec.specs.declared.state.Stand as declared
+use Rattle.lh_exec.specs.declared.state.Stand.TheVariants as stand
+use Rattle.lh_exec.specs.Standing.{MachineIs, Ends}
+use Rattle.lh_exec.specs.States.{WaitsIn}
+
+-- a label is that of a block of the unit
+abbrev pub IsLabel : UnitText → List ℕ → Type 0
+IsLabel u n = (b : BlockText) × (block_of n u.blocks ≡ Some b)
+
+-- an instruction of a unit is sound, what it calls is right, and its labels are of blocks
+pub record LineRight (items : List ItemText) (u : UnitText) (l : LineText) : Type 0 where
+  pub sound : IsSound u l
+  pub named : NamedIsRight items u l.inst
+  pub labels : Each (IsLabel u) (labels_named l.inst)
+
+-- so are all of a function or a process, and each block has a label, each argument its type
+pub record UnitRight (items : List ItemText) (u : UnitText) : Type 0 where
+  pub lines : Each (λ (b : BlockText). Each (LineRight items u) b.lines) u.blocks
+  pub labelled : Each (λ (b : BlockText). b.label ≡ Some (label_or b.label)) u.blocks
+  pub args : Each (HasItsType u) u.args
+
+-- so are the functions of a module, each of which has a result
+abbrev pub FunctionsRight : List ItemText → Type 0
+FunctionsRight items = (n : UnitName) (f : UnitText) → function_named n (functions items) ≡ Some f → UnitRight items f × IsSome f.result
+
+-- A place of control stands in a block of its unit, and what is held there fits.
+pub record ControlFits (items : List ItemText) (width : ℕ) (c : Control) : Type 0 where
+  pub right : UnitRight items c.unit
+  pub text : BlockText
+  pub block : block_of c.block c.unit.blocks ≡ Some text
+  pub before : List LineText
+  pub split : text.lines ≡ before ++ c.rest
+  pub fits : Fits c.unit width c.held
+
+-- the result of a call has the type of what the function u gives
+abbrev pub GivesResult : UnitText → Caller → Type 0
+GivesResult u d = (n : List ℕ) (t : TypeTree) → d.result ≡ Some n → u.result ≡ Some t → value_type d.control.unit n ≡ Some t
+
+-- the function u has a result, and gives it to the call
+abbrev pub ResultFits : UnitText → Caller → Type 0
+ResultFits u d = IsSome u.result × GivesResult u d
+
+-- so it is of each open call, the last of which called the function u
+abbrev pub CallersFit : List ItemText → (width : ℕ) → UnitText → List Caller → Type 0
+CallersFit items width u [] = Unit {0}
+CallersFit items width u (d ∷ more) = ControlFits items width d.control × ResultFits u d × CallersFit items width d.control.unit more
+
+-- the unit in which the activation began
+abbrev pub lowest : Control → List Caller → UnitText
+lowest c [] = c.unit
+lowest c (d ∷ more) = lowest d.control more
+
+-- A point of an activation of the unit u fits.
+pub record PointFits (items : List ItemText) (width : ℕ) (u : UnitText) (p : Point) : Type 0 where
+  pub control : ControlFits items width p.control
+  pub callers : CallersFit items width p.control.unit p.callers
+  pub began : lowest p.control p.callers ≡ u
+  pub wish : WishWithin width p.wish
+
+-- where a process that has come to an end of an activation stands
+abbrev pub StandFits : UnitText → Stand → Type 0
+StandFits u is_new = Unit {0}
+StandFits u (waits block to on wake) = WaitsIn u block to
+StandFits u halted = Unit {0}
+
+-- what an activation of the unit u gives fits
+pub record DoneFits (width : ℕ) (u : UnitText) (done : Activated) : Type 0 where
+  pub stand : StandFits u done.state.stand
+  pub held : Fits u width done.state.held
+  pub wish : WishWithin width done.wish
+
+-- the machine stands for a point that fits
+pub record IsFit (a : Arena) (width : ℕ) (m : Machine) : Type 0 where
+  pub unit : UnitText
+  pub point : Point
+  pub is : MachineIs a m point
+  pub fits : PointFits (contents a) width unit point
+
+-- the machine stands for the place where an activation begins, or there is none
+abbrev pub BeginsAt : Arena → Option Machine → Option Control → Type 0
+BeginsAt a (Some m) (Some c) = MachineIs a m (start_point c)
+BeginsAt a None None = Unit {0}
+BeginsAt a _ _ = ⊥
+
+-- what the code answers, and the machine after it, are what an activation of the unit u gives, or that there is none
+abbrev pub Finishes : Arena → (u : ℕ) → (width : ℕ) → Machine → Flow → Option Activated → Type 0
+Finishes a u width m (flow.Waits to on) (Some done) =
+    (to.0 < label_count a m.frame.unit.0) × Ends a m (unit_text_at a u) (waits (label_name_at a m.frame.unit.0 m.frame.block.0) (label_name_at a m.frame.unit.0 to.0) on.parts on.wake) done × DoneFits width (unit_text_at a u) done
+Finishes a u width m flow.Halts (Some done) = Ends a m (unit_text_at a u) halted done × DoneFits width (unit_text_at a u) done
+Finishes a u width m flow.Lost None = Unit {0}
+Finishes a u width m _ _ = ⊥
+
+-- where a process stands whose activation ends in this frame
+abbrev pub stood : Frame → Flow → Option declared.Stand
+stood f (flow.Waits to on) = Some (stand.Waits (record { block = f.block; to = to; slots = f.slots; on = on }))
+stood f flow.Halts = Some stand.Halted
+stood f _ = None
+
+-- The machine stands for a point that fits, and so many more instructions lead from it to this.
+pub record Continues (a : Arena) (s : Scene) (u : ℕ) (width : ℕ) (left : ℕ) (m : Machine) (to : Option Activated) : Type 0 where
+  pub point : Point
+  pub is : MachineIs a m point
+  pub fits : PointFits (contents a) width (unit_text_at a u) point
+  pub same : run left s point ≡ to

@@ -1,0 +1,250 @@
+//! Assertions, calls and returns.
+ghost use Rattle.std.specs.Prelude.{◌≡◌, ◌<◌, ℕ, false, [], ◌∷◌, ◌++◌, length, map, if◌then◌else◌, Option, Some, IfOk, OnOk, IfSome};
+ghost use Rattle.std.specs.Option.{option_map};
+ghost use Rattle.lh_types.specs.ValueOf.{datum_of};
+ghost use Rattle.lh_unit.specs.Activation as act;
+ghost use Rattle.lh_unit.specs.Activation.{Point, asserted, tells, called, opens, entry, returns};
+ghost use Rattle.lh_unit.specs.Arena.{Arena, IsArena, unit_count, value_count, naming, kind_at, unit_name_at, unit_text_at};
+ghost use Rattle.lh_unit.specs.Contents as text;
+ghost use Rattle.lh_unit.specs.Held.{Held as Content};
+ghost use Rattle.lh_unit.specs.Held.{Env, datum_held, data_at, nothing_held, with_args};
+ghost use Rattle.lh_unit.specs.Named as named;
+ghost use Rattle.lh_unit.specs.Naming.{operand_text, maybe_text};
+ghost use Rattle.lh_unit.specs.Table.{ArgsWithin, HasBlocks};
+ghost use Rattle.lh_unit.specs.Within.{Each};
+ghost use Rattle.lh_unit.specs.declared.inst.Typed.{Typed as Operand};
+ghost use Rattle.lh_eval.specs.HeldOf.{maybe_held};
+ghost use Rattle.lh_eval.specs.Holding.{Holds, MaybeIn};
+ghost use Rattle.lh_exec.specs.Standing.{MachineIs, HasPoint, FrameIs, Leads, Does, MaybeFrame, asserted_in, returned_in, back};
+ghost use Rattle.lh_exec.specs.Taking.{data_given};
+
+use crate::machine::{Call, Flow, Frame, Machine};
+use lh_eval::held::{Held, Slots};
+use lh_eval::operands::{data_in, datum_in, test_in};
+use lh_types::ty::NoMemory;
+use lh_types::val::Val;
+use lh_unit::inst::{Arg, Typed, UnitId, ValueId};
+use lh_unit::module::Module;
+use lh_unit::name::UnitName;
+use std::alloc::Global;
+use std::mem;
+
+/// At most so many calls are open at any time.
+const MAX_CALLS: usize = 256;
+
+impl Machine {
+    /// A call of a function, or an assertion, which opens no call.
+    pub(crate) fn run_call(
+        &mut self,
+        alloc: Global,
+        m: &Module,
+        unit: UnitId,
+        args: &[Typed],
+        name: Option<ValueId>,
+    ) -> Result<Flow, NoMemory>
+        requires unit { unit.0 < unit_count m.now }
+        requires blocks { named.is_assert (unit_name_at m.now unit.0) ≡ false → HasBlocks (kind_at m.now unit.0) }
+        requires args { Each (λ (o : Operand). o.value.0 < length self.old.frame.slots) args.now }
+        requires name { MaybeIn self.old.frame.slots name }
+        ensures { let f = naming m.now self.old.frame.unit.0 in Does result m.now self.old self.new (λ p. if named.is_assert (unit_name_at m.now unit.0) then tells p (asserted p.control.held (map (operand_text f) args.now)) else opens p (maybe_text f name) (called (Some (unit_text_at m.now unit.0)) (data_at p.control.held (map (operand_text f) args.now)))) }
+    {
+        if is_assert(m.unit_name(unit)) {
+            return self.tell(args);
+        }
+        self.open(alloc, m, unit, args, name)
+    }
+
+    /// Adds the outcome of an assertion: whether its one argument is not 0.
+    fn tell(&mut self, args: &[Typed]) -> Result<Flow, NoMemory>
+        requires { Each (λ (o : Operand). o.value.0 < length self.old.frame.slots) args.now }
+        ensures { (a : Arena) → Does result a self.old self.new (λ p. tells p (asserted p.control.held (map (operand_text (naming a self.old.frame.unit.0)) args.now))) }
+    {
+        match asserted(&self.frame.slots, args) {
+            Some(passed) => {
+                self.outcomes.push(passed)?;
+                Ok(Flow::Goes)
+            }
+            None => Ok(Flow::Lost),
+        }
+    }
+
+    /// Opens a call of a function, unless as many as may be are open.
+    fn open(
+        &mut self,
+        alloc: Global,
+        m: &Module,
+        unit: UnitId,
+        args: &[Typed],
+        name: Option<ValueId>,
+    ) -> Result<Flow, NoMemory>
+        requires unit { unit.0 < unit_count m.now }
+        requires blocks { HasBlocks (kind_at m.now unit.0) }
+        requires args { Each (λ (o : Operand). o.value.0 < length self.old.frame.slots) args.now }
+        requires name { MaybeIn self.old.frame.slots name }
+        ensures { let f = naming m.now self.old.frame.unit.0 in Does result m.now self.old self.new (λ p. opens p (maybe_text f name) (called (Some (unit_text_at m.now unit.0)) (data_at p.control.held (map (operand_text f) args.now)))) }
+    {
+        if self.callers.len() >= MAX_CALLS {
+            return Ok(Flow::Lost);
+        }
+        match called_frame(alloc, m, unit, args, &self.frame.slots)? {
+            Some(frame) => self.push(frame, name),
+            None => Ok(Flow::Lost),
+        }
+    }
+
+    /// Goes on in a frame, above the one that it was in.
+    fn push(&mut self, frame: Frame, name: Option<ValueId>) -> Result<Flow, NoMemory>
+        requires name { MaybeIn self.old.frame.slots name }
+        requires few { length self.old.callers.items < 256 }
+        ensures { (a : Arena) (c : act.Control) → FrameIs a frame c → Does result a self.old self.new (λ p. opens p (maybe_text (naming a self.old.frame.unit.0) name) (Some c)) }
+    {
+        let frame = mem::replace(&mut self.frame, frame);
+        push_call(
+            &mut self.callers,
+            Call {
+                frame,
+                result: name,
+            },
+        )?;
+        Ok(Flow::Goes)
+    }
+
+    /// Ends the last open call.
+    pub(crate) fn run_ret(&mut self, operand: &Option<Typed>) -> Result<Flow, NoMemory>
+        requires within { IfSome operand.now (λ (o : Operand). o.value.0 < length self.old.frame.slots) }
+        requires point { HasPoint self.old }
+        ensures { (a : Arena) → Does result a self.old self.new (λ p. returns p (option_map (operand_text (naming a self.old.frame.unit.0)) operand.now) p.callers) }
+    {
+        match returned(&self.frame.slots, operand)? {
+            Some(held) => Ok(self.go_back(held)),
+            None => Ok(Flow::Lost),
+        }
+    }
+
+    /// Goes on in the last open call, with this held by the name of its result.
+    fn go_back(&mut self, held: Option<Held>) -> Flow
+        requires { HasPoint self.old }
+        ensures { (a : Arena) (p : Point) (h : Option Content) → MachineIs a self.old p → maybe_held held ≡ h → Leads a self.new result p.control.unit (back p h p.callers) }
+    {
+        match self.callers.pop() {
+            Some(call) => {
+                self.frame = call.frame;
+                self.frame.slots.give(call.result, held);
+                Flow::Goes
+            }
+            None => Flow::Lost,
+        }
+    }
+}
+
+fn push_call(calls: &mut Vec<Call>, call: Call) -> Result<(), NoMemory>
+    ensures { OnOk result (calls.new.items ≡ calls.old.items ++ call ∷ []) }
+{
+    match calls.push(call) {
+        Ok(()) => Ok(()),
+        Err(_) => Err(NoMemory),
+    }
+}
+
+/// Whether it is `@llhd.assert`.
+fn is_assert(name: &UnitName) -> bool
+    ensures { result ≡ named.is_assert name.now }
+{
+    name.sigil == b'@' && name.name.as_bytes() == b"llhd.assert".as_slice()
+}
+
+/// Whether the one argument of an assertion is not 0.
+fn asserted(slots: &Slots, args: &[Typed]) -> Option<bool>
+    requires { Each (λ (o : Operand). o.value.0 < length slots.now) args.now }
+    ensures { result ≡ asserted_in slots.now args.now }
+{
+    if args.len() != 1 {
+        return None;
+    }
+    test_in(slots, args[0].value)
+}
+
+/// What a `ret` gives: nothing, or the value of its operand, where that holds one.
+fn returned(slots: &Slots, operand: &Option<Typed>) -> Result<Option<Option<Held>>, NoMemory>
+    requires { IfSome operand.now (λ (o : Operand). o.value.0 < length slots.now) }
+    ensures { IfOk result (λ h. option_map maybe_held h ≡ returned_in slots.now operand.now) }
+{
+    let Some(operand) = operand else {
+        return Ok(Some(None));
+    };
+    match datum_in(slots, operand.value) {
+        Some(value) => {
+            let value = value.copy()?;
+            Ok(Some(Some(Held::Datum(value))))
+        }
+        None => Ok(None),
+    }
+}
+
+/// The frame in which a function begins that is called with these operands, where each of them holds a value.
+fn called_frame(
+    alloc: Global,
+    m: &Module,
+    unit: UnitId,
+    args: &[Typed],
+    slots: &Slots,
+) -> Result<Option<Frame>, NoMemory>
+    requires unit { unit.0 < unit_count m.now }
+    requires blocks { HasBlocks (kind_at m.now unit.0) }
+    requires args { Each (λ (o : Operand). o.value.0 < length slots.now) args.now }
+    ensures { (u : ℕ) (e : Env) → Holds m.now u slots.now e → IfOk result (λ f. MaybeFrame m.now f (called (Some (unit_text_at m.now unit.0)) (data_at e (map (operand_text (naming m.now u)) args.now)))) }
+{
+    match data_in(alloc, slots, args)? {
+        Some(values) => function_frame(alloc, m, unit, values.as_slice()),
+        None => Ok(None),
+    }
+}
+
+/// The frame in which a function begins that is called with these values.
+fn function_frame(
+    alloc: Global,
+    m: &Module,
+    unit: UnitId,
+    values: &[Val],
+) -> Result<Option<Frame>, NoMemory>
+    requires unit { unit.0 < unit_count m.now }
+    requires blocks { HasBlocks (kind_at m.now unit.0) }
+    ensures { IfOk result (λ f. MaybeFrame m.now f (entry (unit_text_at m.now unit.0) (with_args nothing_held (unit_text_at m.now unit.0).args (map datum_held (map datum_of values.now))))) }
+{
+    let mut slots = Slots::new(alloc, m.values(unit))?;
+    hold_data(m.args(unit), values, &mut slots)?;
+    Ok(first_frame(m, unit, slots))
+}
+
+/// Holds copies of values by the arguments of a unit.
+fn hold_data(args: &[Arg], values: &[Val], slots: &mut Slots) -> Result<(), NoMemory>
+    requires { ArgsWithin (length slots.old) args.now }
+    ensures { OnOk result (slots.new ≡ data_given args.now (map datum_held (map datum_of values.now)) slots.old) }
+{
+    for (i, arg) in args.iter().enumerate() {
+        if i >= values.len() {
+            return Ok(());
+        }
+        let value = values[i].copy()?;
+        slots.set(arg.value, Held::Datum(value));
+    }
+    Ok(())
+}
+
+/// The frame in which a unit begins, in its entry block, where it has one.
+pub(crate) fn first_frame(m: &Module, unit: UnitId, slots: Slots) -> Option<Frame>
+    requires unit { unit.0 < unit_count m.now }
+    requires blocks { HasBlocks (kind_at m.now unit.0) }
+    ensures { (e : Env) → Holds m.now unit.0 slots e → MaybeFrame m.now result (entry (unit_text_at m.now unit.0) e) }
+{
+    let blocks = m.blocks(unit);
+    if blocks.is_empty() {
+        return None;
+    }
+    Some(Frame {
+        unit,
+        block: blocks[0],
+        next: 0,
+        slots,
+    })
+}

@@ -1,0 +1,16 @@
+//! One activation of a process: its instructions and those of the functions that it calls, until it waits or halts.
+#![tactic(auto)]
+
+mod begin;
+mod calls;
+mod jumps;
+mod machine;
+mod process;
+mod run;
+mod state;
+#[cfg(test)]
+mod tests;
+mod values;
+
+pub use process::{Act, ExecFault, activate};
+pub use state::{ProcState, WaitOn};

@@ -1,0 +1,62 @@
+//! What a process keeps between its activations.
+ghost use Rattle.std.specs.Prelude.{◌≡◌, IfOk};
+ghost use Rattle.std.specs.Option.{option_copied};
+ghost use Rattle.lh_exec.specs.States.{waited_on};
+
+use lh_eval::held::Slots;
+use lh_time::Instant;
+use lh_types::part::RangeList;
+use lh_types::ty::NoMemory;
+use lh_unit::inst::{BlockId, UnitId};
+use lh_unit::module::Module;
+use std::alloc::Global;
+
+/// What a process waits for: a change of one of these parts of the signals, or this instant.
+#[derive(Drop)]
+pub struct WaitOn {
+    pub parts: RangeList,
+    pub wake: Option<Instant>,
+}
+
+/// A process at the `wait` at the end of a block: the block to which that leads, every value that the process was given so
+/// far, and what it waits for.
+#[derive(Drop)]
+pub(crate) struct Pause {
+    pub block: BlockId,
+    pub to: BlockId,
+    pub slots: Slots,
+    pub on: WaitOn,
+}
+
+/// Where a process stands between its activations.
+#[derive(Drop)]
+pub(crate) enum Stand {
+    New,
+    Waits(Pause),
+    Halted,
+}
+
+/// The state of a process between its activations: where it stands, and each value that it was ever given.
+#[derive(Drop)]
+pub struct ProcState {
+    pub(crate) stand: Stand,
+}
+
+impl ProcState {
+    /// The state of a process that has not run yet. This takes no memory.
+    pub fn start(_alloc: Global, _module: &Module, _unit: UnitId) -> Result<ProcState, NoMemory>
+        ensures { IfOk result (λ s. s.stand ≡ Stand.New) }
+    {
+        Ok(ProcState { stand: Stand::New })
+    }
+
+    /// What the process waits for; `None` where it has not run yet or has halted.
+    pub fn waits(&self) -> Option<&WaitOn>
+        ensures { option_copied result ≡ waited_on self.now }
+    {
+        match &self.stand {
+            Stand::Waits(pause) => Some(&pause.on),
+            _ => None,
+        }
+    }
+}
