@@ -33,4 +33,3 @@ pub record ArePlans (a : Arena) (p : Plans) : Type 0 where
 abbrev pub TextsFill : (lo : ℕ) → List design.Signal → (hi : ℕ) → Type 0
 TextsFill lo [] hi = lo ≡ hi
 TextsFill lo (s ∷ more) hi = (s.lo ≡ lo) × IsData s.ty × TextsFill (lo + bit_count s.ty) more hi
-
