@@ -1,0 +1,5 @@
+pub mod Arenas
+pub mod Typing
+pub mod Sound
+pub mod FormTrees
+pub mod Values

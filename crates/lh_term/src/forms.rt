@@ -8,10 +8,11 @@ ghost use Rattle.lh_term.specs.Types.{FitsTerm, TakesTypes, type_of, types_of};
 ghost use Rattle.lh_term.specs.Make as table;
 ghost use Rattle.lh_term.specs.Arena.{trees, tree_at, trees_at, IsIn, AreIn, Stands, Grows};
 ghost use Rattle.lh_term.specs.Found.{Finds, FindsPair};
+ghost use Rattle.lh_term.specs.Found as find;
 
 use crate::term::{Term, TermId};
 use crate::terms::Terms;
-use lh_ops::apply;
+use lh_ops::{apply, apply_int};
 use lh_types::op::Op;
 use lh_types::ty::{NoMemory, TyKind};
 use lh_types::val::Val;
@@ -31,10 +32,12 @@ impl Terms {
         requires { AreIn self.now xs.now }
         ensures { result ≡ table.all_constant (trees_at self.now xs.now) }
     {
-        for x in xs {
+        let mut left = xs;
+        while let [x, rest @ ..] = left {
             if !self.is_constant(*x) {
                 return false;
             }
+            left = rest;
         }
         true
     }
@@ -78,10 +81,7 @@ impl Terms {
         ensures { Finds self.now result (table.negated (tree_at (trees self.now) x)) }
     {
         match self.view(x) {
-            Term::Op { op: Op::Not, args } => match args.as_slice() {
-                [y] => Some(*y),
-                _ => None,
-            },
+            Term::Op { op, args } => not_operand(op, args.as_slice()),
             _ => None,
         }
     }
@@ -104,10 +104,7 @@ impl Terms {
         ensures { FindsPair self.now result (table.anded (tree_at (trees self.now) x)) }
     {
         match self.view(x) {
-            Term::Op { op: Op::And, args } => match args.as_slice() {
-                [q, a] => Some((*q, *a)),
-                _ => None,
-            },
+            Term::Op { op, args } => and_operands(op, args.as_slice()),
             _ => None,
         }
     }
@@ -149,9 +146,11 @@ impl Terms {
         ensures { IfOk result (λ vs. map datum_of vs.items ≡ table.values_in (trees_at self.now args.now)) }
     {
         let mut values = Vec::new(self.allocator());
-        for x in args {
+        let mut left = args;
+        while let [x, rest @ ..] = left {
             let value = self.value(*x)?;
             values.push(value)?;
+            left = rest;
         }
         Ok(values)
     }
@@ -245,9 +244,30 @@ fn is_bit_value(v: &Val, bit: u128) -> bool
 }
 
 /// The integer of this width whose bits are all 1.
+#[tactic(auto, unfolding(lh_types::specs::ApplyInt::integer_row))]
 fn ones(width: u32) -> u128
     requires { (1 ≤ width) × (width ≤ 128) }
     ensures { result ≡ 2 ^ width - 1 }
 {
-    u128::MAX >> (128 - width)
+    apply_int(&Op::Not, width, 0, 0)
+}
+
+/// The operand of `not`.
+fn not_operand(op: &Op, args: &[TermId]) -> Option<TermId>
+    ensures { result ≡ find.not_operand op.now args.now }
+{
+    match (op, args) {
+        (Op::Not, [x]) => Some(*x),
+        _ => None,
+    }
+}
+
+/// The operands of `and`.
+fn and_operands(op: &Op, args: &[TermId]) -> Option<(TermId, TermId)>
+    ensures { result ≡ find.and_operands op.now args.now }
+{
+    match (op, args) {
+        (Op::And, [q, a]) => Some((*q, *a)),
+        _ => None,
+    }
 }

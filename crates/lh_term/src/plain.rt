@@ -71,9 +71,11 @@ impl Terms {
         ensures { IfOk result (λ t. t ≡ tuple_type (row_of (types_of (tree_row (trees_at self.now args.now))))) }
     {
         let mut fields = TyList::new(self.allocator());
-        for t in args {
+        let mut left = args;
+        while let [t, rest @ ..] = left {
             let of = self.ty(*t).copy()?;
             fields.push(of)?;
+            left = rest;
         }
         Ty::tuple(fields)
     }

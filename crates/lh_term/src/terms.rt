@@ -92,9 +92,7 @@ impl Terms {
         ensures made { IfOk result (λ t. Stands self.new t (term_tree (trees self.old) node.term)) }
         ensures kept { Grows self.old self.new }
     {
-        match self.nodes.insert_full(node) {
-            Ok((i, _)) => Ok(TermId(i)),
-            Err(_) => Err(NoMemory),
-        }
+        let (i, _) = self.nodes.insert_full(node)?;
+        Ok(TermId(i))
     }
 }

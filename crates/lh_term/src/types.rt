@@ -1,6 +1,6 @@
 //! The type of a value, and of what a row gives.
-ghost use Rattle.std.specs.Prelude.{◌≡◌, ◌∷◌, [], map, IfOk};
-ghost use Rattle.lh_types.specs.Values.{data_row};
+ghost use Rattle.std.specs.Prelude.{◌≡◌, map, IfOk};
+ghost use Rattle.lh_types.specs.Values.{array_value, tuple_value, data_row};
 ghost use Rattle.lh_types.specs.ValueOf.{datum_of};
 ghost use Rattle.lh_types.specs.Types.{row_of};
 ghost use Rattle.lh_term.specs.Types as spec;
