@@ -12,11 +12,11 @@ use Rattle.lh_types.specs.Apply.{no_value}
 use Rattle.lh_types.specs.declared.op.Op.{Op}
 use Rattle.lh_types.specs.declared.val.Val.{Val}
 use Rattle.lh_term.specs.Tree.{Tree, TreeRow, constant, past_of, now_of, operation, choice_of, no_trees, more_trees, tree_row, operation_on}
-use Rattle.lh_term.specs.Types.{IsTyped, type_of}
+use Rattle.lh_term.specs.Types.{IsTyped, AreTyped, type_of}
 use Rattle.lh_term.specs.SameTree.{same_tree, same_tree-is, same_tree-refl}
 use Rattle.lh_term.specs.SameTerm.{same_term, same_term-is, same_term-refl, datum_of-is, same_id}
 use Rattle.lh_term.specs.SameNode.{same_node}
-use Rattle.lh_term.specs.Arena.{tree_at, term_tree, trees_from, terms_in, trees, ids_below, term_below, all_below, StandsOnce, IsTypedNode, IsArena, IsIn, AreIn, trees_at, Stands, Grows}
+use Rattle.lh_term.specs.Arena.{tree_at, term_tree, trees_from, terms_in, trees, ids_below, term_below, all_below, StandsOnce, IsTypedNode, IsArena, IsIn, AreIn, trees_at, Stands, OneId, Rising, AllTyped, Grows}
 use Rattle.lh_term.specs.declared.part.Part.{Part}
 use Rattle.lh_term.specs.declared.term.TermId.{TermId}
 use Rattle.lh_term.specs.declared.term.Term.{Term}
@@ -56,7 +56,7 @@ get_end : {X : Type 0} (xs : List X) (x : X) (ys : List X) → slice_get (xs ++ 
 get_end [] x ys = refl
 get_end (z ∷ xs) x ys = get_end xs x ys
 
-get_below : {X : Type 0} (xs ys : List X) (i : ℕ) → i < length xs → slice_get (xs ++ ys) i ≡ slice_get xs i
+pub get_below : {X : Type 0} (xs ys : List X) (i : ℕ) → i < length xs → slice_get (xs ++ ys) i ≡ slice_get xs i
 get_below [] ys i h = absurd (omega arith)
 get_below (z ∷ xs) ys zero h = refl
 get_below (z ∷ xs) ys (suc i) h = get_below xs ys i (omega arith)
@@ -141,7 +141,7 @@ from_push : (ts : List Tree) (xs : List Term) (x : Term) → trees_from ts (xs +
 from_push ts [] x = refl
 from_push ts (y ∷ xs) x = from_push (ts ++ term_tree ts y ∷ []) xs x
 
-at_below : (ts us : List Tree) (a : TermId) → nat_lt a.0 (length ts) ≡ true → tree_at (ts ++ us) a ≡ tree_at ts a
+pub at_below : (ts us : List Tree) (a : TermId) → nat_lt a.0 (length ts) ≡ true → tree_at (ts ++ us) a ≡ tree_at ts a
 at_below ts us a h = ap (λ o. unwrap_or o (constant no_value)) (get_below ts us a.0 (lt_of a.0 (length ts) h))
 
 ids_at_below : (ts us : List Tree) (xs : List TermId) → ids_below (length ts) xs ≡ true → map (tree_at (ts ++ us)) xs ≡ map (tree_at ts) xs
@@ -387,3 +387,58 @@ module _ (vs ns : List Node) (e : ns ≡ vs) (a : IsArena ns) (t : TermId) (n : 
 
   pub at_ty : n.ty ≡ type_of (tree_at (trees vs) t)
   at_ty = let P : List Node → Type 0 = λ xs. n.ty ≡ type_of (tree_at (trees xs) t) in subst P e ((a.typed t.0 n at).1 ∙ ap type_of (sym (node_tree ns t n a at)))
+
+bool_num : (x : ℕ) → (x == x) ≡ true
+bool_num x = grind (arith, nat_tests)
+
+num_same_is : (p q : ℕ) → (p == q) ≡ true → p ≡ q
+num_same_is p q e = grind (arith, nat_tests)
+
+-- equal terms have one id
+pub one_id : (vs ns : List Node) → ns ≡ vs → IsArena ns → (x y : TermId) → IsIn vs x → IsIn vs y → (x.0 == y.0) ≡ same_tree (tree_at (trees vs) x) (tree_at (trees vs) y)
+one_id vs ns e a x y p q =
+    let P : List Node → Type 0 = λ ws. IsIn ws x → IsIn ws y → (x.0 == y.0) ≡ same_tree (tree_at (trees ws) x) (tree_at (trees ws) y) in
+    subst P e (at ns a) p q
+  where
+    at : (ws : List Node) → IsArena ws → IsIn ws x → IsIn ws y → (x.0 == y.0) ≡ same_tree (tree_at (trees ws) x) (tree_at (trees ws) y)
+    at ws b h k =
+        let m = means ws b in
+        let l = trees_length ws b in
+        both_ways (x.0 == y.0) (same_tree (tree_at (trees ws) x) (tree_at (trees ws) y))
+        (λ s. ap (λ z. same_tree z (tree_at (trees ws) y)) (ap (tree_at (trees ws)) (same_id x y (num_same_is x.0 y.0 s))) ∙ same_tree-refl (tree_at (trees ws) y))
+        (λ s. let u : x ≡ y = one_id_at (trees ws) m.distinct x y (of_lt x.0 (length (trees ws)) (omega arith)) (of_lt y.0 (length (trees ws)) (omega arith)) (same_tree-is _ _ s) in ap (λ z. z.0 == y.0) u ∙ bool_num y.0)
+
+get_some : (ns : List Node) (i : ℕ) → i < length ns → (n : Node) × (slice_get ns i ≡ Some n)
+get_some [] i h = absurd (omega arith)
+get_some (n ∷ ns) zero h = (n, refl)
+get_some (n ∷ ns) (suc i) h = get_some ns i (omega arith)
+
+pub id_typed : (ns : List Node) → IsArena ns → (x : TermId) → IsIn ns x → IsTyped (tree_at (trees ns) x)
+id_typed ns a x h = let (n, at) = get_some ns x.0 h in at_typed ns ns refl a x n at
+
+-- the terms of ids are typed
+pub ids_typed : (vs ns : List Node) → ns ≡ vs → IsArena ns → (xs : List TermId) → AreIn vs xs → AreTyped (tree_row (trees_at vs xs))
+ids_typed vs ns e a xs h =
+    let P : List Node → Type 0 = λ ws. AreIn ws xs → AreTyped (tree_row (trees_at ws xs)) in
+    subst P e (each xs) h
+  where
+    each : (ys : List TermId) → AreIn ns ys → AreTyped (tree_row (trees_at ns ys))
+    each [] k = tt
+    each (y ∷ ys) k = (id_typed ns a y (lt_of y.0 (length ns) (first_so (nat_lt y.0 (length ns)) (ids_below (length ns) ys) k)), each ys (second_so (nat_lt y.0 (length ns)) (ids_below (length ns) ys) k))
+
+pub apart_at : (vs ns : List Node) → ns ≡ vs → IsArena ns → OneId vs
+apart_at vs ns e a =
+    let P : List Node → Type 0 = OneId in
+    subst P e (λ x y p q s.
+      let m = means ns a in
+      let l = trees_length ns a in
+      one_id_at (trees ns) m.distinct x y (of_lt x.0 (length (trees ns)) (omega arith)) (of_lt y.0 (length (trees ns)) (omega arith)) s)
+
+pub rising_at : (vs ns : List Node) → ns ≡ vs → IsArena ns → Rising vs
+rising_at vs ns e a = let P : List Node → Type 0 = Rising in subst P e (λ i x p. let m = means ns a in m.below i x p)
+
+pub all_typed_at : (vs ns : List Node) → ns ≡ vs → IsArena ns → AllTyped vs
+all_typed_at vs ns e a = let P : List Node → Type 0 = AllTyped in subst P e (id_typed ns a)
+
+pub at_term : (vs ns : List Node) → ns ≡ vs → (i : ℕ) (n : Node) → slice_get ns i ≡ Some n → slice_get (terms_in vs) i ≡ Some n.term
+at_term vs ns e i n at = let P : List Node → Type 0 = λ xs. slice_get (terms_in xs) i ≡ Some n.term in subst P e (get_map (λ (m : Node). m.term) ns i n at)

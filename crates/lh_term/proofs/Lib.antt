@@ -3,3 +3,6 @@ pub mod Typing
 pub mod Sound
 pub mod FormTrees
 pub mod Values
+pub mod Walks
+pub mod Conditions
+pub mod Swaps

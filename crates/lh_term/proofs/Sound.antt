@@ -18,7 +18,7 @@ use Rattle.lh_term.specs.Types.{type_of, types_of, FitsTerm, TakesTypes, Chooses
 use Rattle.lh_term.specs.Mean.{Valuation, IsFitting, chosen, mean, means}
 use Rattle.lh_term.specs.Same.{nat_eq-is}
 use Rattle.lh_term.specs.SameTree.{same_tree, same_tree-is}
-use Rattle.lh_term.specs.Make.{is_that, is_constant, all_constant, value_in, values_in, is_zero, is_ones, is_bit, negated, is_not_of, anded, halves, width_in, zero_like, ones_like, bit_of, found_or, not_rows, make_not, and_rows, or_rows, eq_rows, neq_rows, rows_of, make_operation, make_choice}
+use Rattle.lh_term.specs.Make.{is_that, is_constant, all_constant, value_in, values_in, is_zero, is_ones, is_bit, is_bit_value, negated, is_not_of, anded, halves, width_in, zero_like, ones_like, bit_of, found_or, not_rows, make_not, and_rows, or_rows, eq_rows, neq_rows, rows_of, make_operation, make_choice}
 use Rattle.lh_term.specs.Laws.{MeansSame}
 use Rattle.lh_term.proofs.Typing.{value_is, fits_term, gives_is, mean_fits}
 
@@ -58,6 +58,12 @@ ones_term (past_of p) n e t = cc
 ones_term (now_of p) n e t = cc
 ones_term (operation op ts) n e t = cc
 ones_term (choice_of c f g) n e t = cc
+
+pub bit_value_is : (b : ℕ) (v : Datum) → is_bit_value b v ≡ true → v ≡ int_value 1 b
+bit_value_is b (int_value m a) e = let f = and_both (nat_eq m 1) (nat_eq a b) e in let p = nat_eq-is m 1 f.0 in let q = nat_eq-is a b f.1 in λ i. int_value (p i) (q i)
+bit_value_is b (time_value d) e = cc
+bit_value_is b (array_value vs) e = cc
+bit_value_is b (tuple_value vs) e = cc
 
 pub bit_term : (b : ℕ) (y : Tree) → is_bit b y ≡ true → y ≡ constant (int_value 1 b)
 bit_term b (constant (int_value m a)) e = let f = and_both (nat_eq m 1) (nat_eq a b) e in let p = nat_eq-is m 1 f.0 in let q = nat_eq-is a b f.1 in λ i. constant (int_value (p i) (q i))
@@ -116,9 +122,9 @@ int_of (array_value vs) n f = absurd f
 int_of (tuple_value vs) n f = absurd f
 
 -- the term is an integer of n bits
-record IntTerm (x : Tree) (n : ℕ) : Type 0 where
-  typed : IsTyped x
-  type : type_of x ≡ int_type n
+pub record IntTerm (x : Tree) (n : ℕ) : Type 0 where
+  pub typed : IsTyped x
+  pub type : type_of x ≡ int_type n
 
 int_mean : (x : Tree) (n : ℕ) → IntTerm x n → (past now : Valuation) → IsFitting past → IsFitting now → IsInt (mean past now x) n
 int_mean x n i past now p q =
@@ -365,29 +371,37 @@ either_true : (a b : Bool) → a || b ≡ true → (a ≡ true) ⊎ (b ≡ true)
 either_true true b e = inl refl
 either_true false b e = inr e
 
-halves_told : (o p : Option (Tree × Tree)) (q : Tree) → halves o p ≡ Some q → (a b : Tree) × (o ≡ Some (q, a)) × (p ≡ Some (q, b)) × (is_not_of b a || is_not_of a b ≡ true)
+-- what the two pairs of `and` are
+record Told (o p : Option (Tree × Tree)) (q : Tree) : Type 0 where
+  one : Tree
+  other : Tree
+  first : o ≡ Some (q, one)
+  second : p ≡ Some (q, other)
+  apart : is_not_of other one || is_not_of one other ≡ true
+
+halves_told : (o p : Option (Tree × Tree)) (q : Tree) → halves o p ≡ Some q → Told o p q
 halves_told None None q e = cc
 halves_told None (Some p) q e = cc
 halves_told (Some o) None q e = cc
 halves_told (Some (r, a)) (Some (s, b)) q e = by (same_tree r s && (is_not_of b a || is_not_of a b)) refl e
   where
-    by : (t : Bool) → same_tree r s && (is_not_of b a || is_not_of a b) ≡ t → (if t then Some r else None) ≡ Some q → (c d : Tree) × (Some (r, a) ≡ Some (q, c)) × (Some (s, b) ≡ Some (q, d)) × (is_not_of d c || is_not_of c d ≡ true)
+    by : (t : Bool) → same_tree r s && (is_not_of b a || is_not_of a b) ≡ t → (if t then Some r else None) ≡ Some q → Told (Some (r, a)) (Some (s, b)) q
     by false p f = cc
     by true p f =
         let k = and_both (same_tree r s) (is_not_of b a || is_not_of a b) p in
         let g : r ≡ q = some_inj r q f in
         let m : s ≡ q = sym (same_tree-is r s k.0) ∙ g in
-        (a, b, (λ i. Some (g i, a)), (λ i. Some (m i, b)), k.1)
+        record { one = a; other = b; first = λ i. Some (g i, a); second = λ i. Some (m i, b); apart = k.1 }
 
 halves_of : (x y q : Tree) → halves (anded x) (anded y) ≡ Some q → Halves x y q
 halves_of x y q e =
-    let (a, b, p, r, n) = halves_told (anded x) (anded y) q e in
+    let k = halves_told (anded x) (anded y) q e in
     record {
-      one = a;
-      other = b;
-      first = anded_term x q a p;
-      second = anded_term y q b r;
-      apart = elim (either_true (is_not_of b a) (is_not_of a b) n) [ inl m ↦ inl (not_term b a m) | inr m ↦ inr (not_term a b m) ];
+      one = k.one;
+      other = k.other;
+      first = anded_term x q k.one k.first;
+      second = anded_term y q k.other k.second;
+      apart = elim (either_true (is_not_of k.other k.one) (is_not_of k.one k.other) k.apart) [ inl m ↦ inl (not_term k.other k.one m) | inr m ↦ inr (not_term k.one k.other m) ];
     }
 
 module _ (x y : Tree) (h : IsTyped (operation_on Or (x ∷ y ∷ []))) where
@@ -482,17 +496,20 @@ module _ (x y : Tree) (h : IsTyped (operation_on Or (x ∷ y ∷ []))) where
 -- ---- bits
 
 -- a value of one bit is a truth value
-record IsBit (v : Datum) : Type 0 where
-  bit : Bool
-  is : v ≡ bit_value bit
+pub record IsBit (v : Datum) : Type 0 where
+  pub bit : Bool
+  pub is : v ≡ bit_value bit
 
-bit_is : (v : Datum) → IsInt v 1 → IsBit v
+pub bit_is : (v : Datum) → IsInt v 1 → IsBit v
 bit_is v i = let (b, e) = bits_are_boolean_lem.each_bit i.number (let s = i.small in omega arith) in record { bit = b; is = i.is ∙ e }
 
-bit_mean : (x : Tree) → IntTerm x 1 → (past now : Valuation) → IsFitting past → IsFitting now → IsBit (mean past now x)
+pub bit_of_fit : (v : Datum) → FitsType v (int_type 1) → IsBit v
+bit_of_fit v f = bit_is v (int_of v 1 f)
+
+pub bit_mean : (x : Tree) → IntTerm x 1 → (past now : Valuation) → IsFitting past → IsFitting now → IsBit (mean past now x)
 bit_mean x i past now p q = bit_is (mean past now x) (int_mean x 1 i past now p q)
 
-one_wide : IsData (int_type 1)
+pub one_wide : IsData (int_type 1)
 one_wide = (omega arith, omega arith)
 
 pub bit_typed : (b : Bool) → IsTyped (bit_of b)
@@ -540,11 +557,15 @@ module _ (op : Op) (k : Bool) (to : Datum → Datum) (rule : (b : Bool) → appl
       let P : Datum → Type 0 = λ z. apply op (bit_value k ∷ z ∷ []) ≡ to z in
       ap (λ z. apply op (z ∷ w ∷ [])) e ∙ subst P (sym i.is) (rule i.bit)
 
+-- `not` takes one bit
+pub not_takes : (t : TypeTree) → t ≡ int_type 1 → TakesTypes Not (t ∷ [])
+not_takes t e =
+    let P : TypeTree → Type 0 = IsData in
+    record { gives = int_type 1; data_types = (subst P (sym e) one_wide, tt); row = (1, ap (λ u. u ∷ []) e, refl); is_data = one_wide }
+
 -- `not x` is typed where x is of one bit
 pub not_typed : (x : Tree) → IsTyped x → type_of x ≡ int_type 1 → IsTyped (operation_on Not (x ∷ []))
-not_typed x h e =
-    let P : TypeTree → Type 0 = IsData in
-    ((h, tt), record { gives = int_type 1; data_types = (subst P (sym e) one_wide, tt); row = (1, ap (λ t. t ∷ []) e, refl); is_data = one_wide })
+not_typed x h e = ((h, tt), not_takes (type_of x) e)
 
 -- ---- eq and neq, of two terms of one type
 

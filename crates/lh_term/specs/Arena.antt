@@ -83,6 +83,18 @@ pub record Stands (ns : List Node) (t : TermId) (x : Tree) : Type 0 where
   pub is_in : IsIn ns t
   pub tree : tree_at (trees ns) t ≡ x
 
+-- two ids of one tree are one
+abbrev pub OneId : List Node → Type 0
+OneId ns = (x y : TermId) → IsIn ns x → IsIn ns y → tree_at (trees ns) x ≡ tree_at (trees ns) y → x ≡ y
+
+-- operands are before their terms
+abbrev pub Rising : List Node → Type 0
+Rising ns = (i : ℕ) (x : Term) → slice_get (terms_in ns) i ≡ Some x → term_below i x ≡ true
+
+-- every term is typed
+abbrev pub AllTyped : List Node → Type 0
+AllTyped ns = (x : TermId) → IsIn ns x → IsTyped (tree_at (trees ns) x)
+
 -- terms were added, and those that were there keep their ids
 abbrev pub Grows : List Node → List Node → Type 0
 Grows old new = (more : List Node) × (new ≡ old ++ more)

@@ -10,7 +10,7 @@ use Rattle.lh_term.specs.Types.{IsTyped, type_of}
 use Rattle.lh_term.specs.Mean.{Valuation, IsFitting, mean}
 use Rattle.lh_term.specs.Make.{make_operation, make_choice}
 use Rattle.lh_term.specs.Conjuncts.{conjuncts_of, conjunction}
-use Rattle.lh_term.specs.Subst.{AreSwaps, swapped, past_with, now_with}
+use Rattle.lh_term.specs.Subst.{AreSwaps, SecondsTyped, swapped, past_with, now_with}
 
 -- what a term means is of its type
 abbrev pub MeaningsFit : Type 0
@@ -33,3 +33,13 @@ ChoicesKeepMeaning = (c f t : Tree) → IsTyped (choice_of c f t) → MeansSame 
 -- a condition means what the conjunction of its conjuncts does
 abbrev pub ConditionsAreConjunctions : Type 0
 ConditionsAreConjunctions = (t : Tree) → IsTyped t → type_of t ≡ int_type 1 → MeansSame (conjunction (conjuncts_of t)) t
+
+-- x has the type of t, and means what t does where the parts that are replaced have the values of what takes their places
+pub record SwapKeeps (by : List (Tree × Tree)) (t x : Tree) : Type 0 where
+  pub typed : IsTyped x
+  pub type : type_of x ≡ type_of t
+  pub mean : (past now : Valuation) → IsFitting past → IsFitting now → mean past now x ≡ mean (past_with by past now) (now_with by past now) t
+
+-- a term with parts' values replaced means the term under the changed values
+abbrev pub SwapsKeepMeaning : Type 0
+SwapsKeepMeaning = (by : List (Tree × Tree)) → AreSwaps by → SecondsTyped by → (t : Tree) → IsTyped t → SwapKeeps by t (swapped by t)

@@ -12,3 +12,4 @@ pub mod Laws
 pub mod SameNode
 pub mod Fed
 pub mod Found
+pub mod Reach

@@ -1,5 +1,6 @@
 -- What a term means where the parts have these values before and now.
-use Rattle.std.specs.Prelude.{ℕ, List, [], ◌∷◌, ◌==◌, if◌then◌else◌}
+use Rattle.std.specs.Prelude.{List, [], ◌∷◌}
+use Rattle.std.proofs.Common.{zero, suc}
 use Rattle.lh_types.specs.Types.{IsData}
 use Rattle.lh_types.specs.Values.{Datum, int_value, time_value, array_value, tuple_value}
 use Rattle.lh_types.specs.Fits.{FitsType}
@@ -17,7 +18,8 @@ IsFitting v = (p : Part) → IsData p.ty → FitsType (v p) p.ty
 
 -- the second where the first is the integer 0, else the third
 abbrev pub chosen : Datum → Datum → Datum → Datum
-chosen (int_value n a) f t = if a == 0 then f else t
+chosen (int_value n zero) f t = f
+chosen (int_value n (suc a)) f t = t
 chosen (time_value d) f t = t
 chosen (array_value vs) f t = t
 chosen (tuple_value vs) f t = t

@@ -36,6 +36,11 @@ abbrev pub AreSwaps : List (Tree × Tree) → Type 0
 AreSwaps [] = Unit {0}
 AreSwaps (p ∷ ps) = IsLeaf p.0 × (is_first ps p.0 ≡ false) × (type_of p.0 ≡ type_of p.1) × AreSwaps ps
 
+-- the terms that take places are typed
+abbrev pub SecondsTyped : List (Tree × Tree) → Type 0
+SecondsTyped [] = Unit {0}
+SecondsTyped (p ∷ ps) = IsTyped p.1 × SecondsTyped ps
+
 -- both ids of each pair are of the arena
 abbrev pub PairsIn : List Node → List (TermId × TermId) → Type 0
 PairsIn ns [] = Unit {0}

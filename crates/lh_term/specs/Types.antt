@@ -69,19 +69,19 @@ gives_bit Ule = true
 gives_bit Uge = true
 gives_bit op = false
 
--- the type of what any other row gives, but for structs, by the type of the first of n operands
-abbrev pub type_by_first : Op → TypeTree → ℕ → TypeTree
-type_by_first Mux t n = element_of t
-type_by_first (Extf k) t n = field_type t k
-type_by_first (Exts o k) t n = slice_type t k
-type_by_first Array t n = array_type n t
-type_by_first (Repeat k) t n = array_type k t
-type_by_first op t n = t
+-- the type of what any other row gives on operands of these types, by the first
+abbrev pub type_by_first : Op → TypeTree → List TypeTree → TypeTree
+type_by_first Mux t ts = element_of t
+type_by_first (Extf k) t ts = field_type t k
+type_by_first (Exts o k) t ts = slice_type t k
+type_by_first Array t ts = array_type (length ts) t
+type_by_first (Repeat k) t ts = array_type k t
+type_by_first Tuple t ts = tuple_type (row_of ts)
+type_by_first op t ts = t
 
 -- the type of what a row gives on operands of these types
 abbrev pub row_result : Op → List TypeTree → TypeTree
-row_result Tuple ts = tuple_type (row_of ts)
-row_result op ts = if gives_bit op then int_type 1 else type_by_first op (first_of ts) (length ts)
+row_result op ts = if gives_bit op then int_type 1 else type_by_first op (first_of ts) ts
 
 abbrev mutual
   -- the type of a term

@@ -1,5 +1,5 @@
 //! The forms that the equations match, and the constants that they give.
-ghost use Rattle.std.specs.Prelude.{◌≡◌, ◌≤◌, ◌-◌, ◌^◌, ◌∷◌, [], ℕ, true, map, IfOk};
+ghost use Rattle.std.specs.Prelude.{◌≡◌, ◌≤◌, ◌-◌, ◌^◌, ◌||◌, ℕ, true, map, IfOk};
 ghost use Rattle.lh_types.specs.Types.{IsData, int_type};
 ghost use Rattle.lh_types.specs.ValueOf.{datum_of};
 ghost use Rattle.lh_types.specs.Apply as rows;
@@ -93,13 +93,13 @@ impl Terms {
         ensures { result ≡ table.is_not_of (tree_at (trees self.now) y) (tree_at (trees self.now) x) }
     {
         match self.negated(y) {
-            Some(z) => z == x,
+            Some(z) => self.same(z, x),
             None => false,
         }
     }
 
     /// `q` and `a` where the term is `and(q, a)`.
-    pub(crate) fn anded(&self, x: TermId) -> Option<(TermId, TermId)>
+    fn anded(&self, x: TermId) -> Option<(TermId, TermId)>
         requires { IsIn self.now x }
         ensures { FindsPair self.now result (table.anded (tree_at (trees self.now) x)) }
     {
@@ -117,13 +117,19 @@ impl Terms {
     {
         let (q, a) = self.anded(x)?;
         let (r, b) = self.anded(y)?;
-        if q != r {
-            return None;
-        }
-        if self.is_not_of(b, a) || self.is_not_of(a, b) {
+        if self.same(q, r) && self.are_opposite(a, b) {
             return Some(q);
         }
         None
+    }
+
+    /// Whether one of two terms is `not` the other.
+    fn are_opposite(&self, a: TermId, b: TermId) -> bool
+        requires a_in { IsIn self.now a }
+        requires b_in { IsIn self.now b }
+        ensures { result ≡ (table.is_not_of (tree_at (trees self.now) b) (tree_at (trees self.now) a) || table.is_not_of (tree_at (trees self.now) a) (tree_at (trees self.now) b)) }
+    {
+        self.is_not_of(b, a) || self.is_not_of(a, b)
     }
 
     /// The constant that an operation on constants gives.
@@ -134,6 +140,7 @@ impl Terms {
         ensures made { IfOk result (λ t. Stands self.new t (constant (rows.apply op.now (table.values_in (trees_at self.old args.now))))) }
         ensures kept { Grows self.old self.new }
     {
+        self.are_typed(args);
         let values = self.values(args)?;
         let value = apply(self.allocator(), op, &values)?;
         self.konst(value)
@@ -263,7 +270,7 @@ fn not_operand(op: &Op, args: &[TermId]) -> Option<TermId>
 }
 
 /// The operands of `and`.
-fn and_operands(op: &Op, args: &[TermId]) -> Option<(TermId, TermId)>
+pub(crate) fn and_operands(op: &Op, args: &[TermId]) -> Option<(TermId, TermId)>
     ensures { result ≡ find.and_operands op.now args.now }
 {
     match (op, args) {

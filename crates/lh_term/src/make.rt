@@ -2,8 +2,8 @@
 ghost use Rattle.std.specs.Prelude.{◌∷◌, [], IfOk};
 ghost use Rattle.lh_types.specs.Types.{IsData};
 ghost use Rattle.lh_types.specs.ValueOf.{datum_of};
-ghost use Rattle.lh_term.specs.Tree.{constant, past_of, now_of, choice_of, operation_on, tree_row};
-ghost use Rattle.lh_term.specs.Types.{IsTyped, FitsTerm, TakesTypes, Chooses, type_of, types_of};
+ghost use Rattle.lh_term.specs.Tree.{constant, past_of, now_of, tree_row};
+ghost use Rattle.lh_term.specs.Types.{FitsTerm, TakesTypes, Chooses, type_of, types_of};
 ghost use Rattle.lh_term.specs.Make as table;
 ghost use Rattle.lh_term.specs.Arena.{trees, tree_at, trees_at, IsIn, AreIn, Stands, Grows};
 
@@ -72,12 +72,9 @@ impl Terms {
         if self.are_constant(args) {
             return self.folded(op, args);
         }
-        match op {
-            Op::Not => self.not_term(args[0]),
-            Op::And => self.and_terms(args[0], args[1]),
-            Op::Or => self.or_terms(args[0], args[1]),
-            Op::Eq => self.eq_terms(args[0], args[1]),
-            Op::Neq => self.neq_terms(args[0], args[1]),
+        match args {
+            [x] => self.unary(op, *x),
+            [x, y] => self.binary(op, *x, *y),
             _ => self.plain(op, args),
         }
     }
@@ -98,7 +95,7 @@ impl Terms {
         if self.is_bit(c, 1) {
             return Ok(t);
         }
-        if f == t {
+        if self.same(f, t) {
             return Ok(f);
         }
         if self.is_bit(f, 0) && self.is_bit(t, 1) {
@@ -107,6 +104,7 @@ impl Terms {
         if self.is_bit(f, 1) && self.is_bit(t, 0) {
             return self.negation(c);
         }
+        self.are_typed(&[c, f, t]);
         let ty = self.ty(f).copy()?;
         self.intern(Node {
             term: Term::Choice { c, f, t },
@@ -116,10 +114,40 @@ impl Terms {
 }
 
 impl Terms {
+    /// An operation on one term that is not constant.
+    fn unary(&mut self, op: &Op, x: TermId) -> Result<TermId, NoMemory>
+        requires is_in { IsIn self.old x }
+        requires fits { TakesTypes op.now (type_of (tree_at (trees self.old) x) ∷ []) }
+        ensures made { IfOk result (λ t. Stands self.new t (table.rows_of op.now (tree_at (trees self.old) x ∷ []))) }
+        ensures kept { Grows self.old self.new }
+    {
+        match op {
+            Op::Not => self.not_term(x),
+            _ => self.plain(op, &[x]),
+        }
+    }
+
+    /// An operation on two terms that are not both constant.
+    fn binary(&mut self, op: &Op, x: TermId, y: TermId) -> Result<TermId, NoMemory>
+        requires x_in { IsIn self.old x }
+        requires y_in { IsIn self.old y }
+        requires fits { TakesTypes op.now (type_of (tree_at (trees self.old) x) ∷ type_of (tree_at (trees self.old) y) ∷ []) }
+        ensures made { IfOk result (λ t. Stands self.new t (table.rows_of op.now (tree_at (trees self.old) x ∷ tree_at (trees self.old) y ∷ []))) }
+        ensures kept { Grows self.old self.new }
+    {
+        match op {
+            Op::And => self.and_terms(x, y),
+            Op::Or => self.or_terms(x, y),
+            Op::Eq => self.eq_terms(x, y),
+            Op::Neq => self.neq_terms(x, y),
+            _ => self.plain(op, &[x, y]),
+        }
+    }
+
     /// `not x`, by its constructor.
     fn negation(&mut self, x: TermId) -> Result<TermId, NoMemory>
         requires is_in { IsIn self.old x }
-        requires typed { IsTyped (operation_on Op.Not (tree_at (trees self.old) x ∷ [])) }
+        requires fits { TakesTypes Op.Not (type_of (tree_at (trees self.old) x) ∷ []) }
         ensures made { IfOk result (λ t. Stands self.new t (table.make_not (tree_at (trees self.old) x))) }
         ensures kept { Grows self.old self.new }
     {
@@ -131,7 +159,7 @@ impl Terms {
 
     fn not_term(&mut self, x: TermId) -> Result<TermId, NoMemory>
         requires is_in { IsIn self.old x }
-        requires typed { IsTyped (operation_on Op.Not (tree_at (trees self.old) x ∷ [])) }
+        requires fits { TakesTypes Op.Not (type_of (tree_at (trees self.old) x) ∷ []) }
         ensures made { IfOk result (λ t. Stands self.new t (table.not_rows (tree_at (trees self.old) x))) }
         ensures kept { Grows self.old self.new }
     {
@@ -144,7 +172,7 @@ impl Terms {
     fn and_terms(&mut self, x: TermId, y: TermId) -> Result<TermId, NoMemory>
         requires x_in { IsIn self.old x }
         requires y_in { IsIn self.old y }
-        requires typed { IsTyped (operation_on Op.And (tree_at (trees self.old) x ∷ tree_at (trees self.old) y ∷ [])) }
+        requires fits { TakesTypes Op.And (type_of (tree_at (trees self.old) x) ∷ type_of (tree_at (trees self.old) y) ∷ []) }
         ensures made { IfOk result (λ t. Stands self.new t (table.and_rows (tree_at (trees self.old) x) (tree_at (trees self.old) y))) }
         ensures kept { Grows self.old self.new }
     {
@@ -160,7 +188,7 @@ impl Terms {
         if self.is_ones(x) {
             return Ok(y);
         }
-        if x == y {
+        if self.same(x, y) {
             return Ok(x);
         }
         if self.is_not_of(y, x) {
@@ -175,7 +203,7 @@ impl Terms {
     fn or_terms(&mut self, x: TermId, y: TermId) -> Result<TermId, NoMemory>
         requires x_in { IsIn self.old x }
         requires y_in { IsIn self.old y }
-        requires typed { IsTyped (operation_on Op.Or (tree_at (trees self.old) x ∷ tree_at (trees self.old) y ∷ [])) }
+        requires fits { TakesTypes Op.Or (type_of (tree_at (trees self.old) x) ∷ type_of (tree_at (trees self.old) y) ∷ []) }
         ensures made { IfOk result (λ t. Stands self.new t (table.or_rows (tree_at (trees self.old) x) (tree_at (trees self.old) y))) }
         ensures kept { Grows self.old self.new }
     {
@@ -191,7 +219,7 @@ impl Terms {
         if self.is_ones(x) {
             return Ok(x);
         }
-        if x == y {
+        if self.same(x, y) {
             return Ok(x);
         }
         if self.is_not_of(y, x) {
@@ -209,11 +237,11 @@ impl Terms {
     fn eq_terms(&mut self, x: TermId, y: TermId) -> Result<TermId, NoMemory>
         requires x_in { IsIn self.old x }
         requires y_in { IsIn self.old y }
-        requires typed { IsTyped (operation_on Op.Eq (tree_at (trees self.old) x ∷ tree_at (trees self.old) y ∷ [])) }
+        requires fits { TakesTypes Op.Eq (type_of (tree_at (trees self.old) x) ∷ type_of (tree_at (trees self.old) y) ∷ []) }
         ensures made { IfOk result (λ t. Stands self.new t (table.eq_rows (tree_at (trees self.old) x) (tree_at (trees self.old) y))) }
         ensures kept { Grows self.old self.new }
     {
-        if x == y {
+        if self.same(x, y) {
             return self.bit(true);
         }
         if self.is_bit(y, 1) {
@@ -234,11 +262,11 @@ impl Terms {
     fn neq_terms(&mut self, x: TermId, y: TermId) -> Result<TermId, NoMemory>
         requires x_in { IsIn self.old x }
         requires y_in { IsIn self.old y }
-        requires typed { IsTyped (operation_on Op.Neq (tree_at (trees self.old) x ∷ tree_at (trees self.old) y ∷ [])) }
+        requires fits { TakesTypes Op.Neq (type_of (tree_at (trees self.old) x) ∷ type_of (tree_at (trees self.old) y) ∷ []) }
         ensures made { IfOk result (λ t. Stands self.new t (table.neq_rows (tree_at (trees self.old) x) (tree_at (trees self.old) y))) }
         ensures kept { Grows self.old self.new }
     {
-        if x == y {
+        if self.same(x, y) {
             return self.bit(false);
         }
         if self.is_bit(y, 0) {

@@ -21,6 +21,7 @@ impl Terms {
         ensures made { IfOk result (λ t. Stands self.new t (operation_on op.now (trees_at self.old args.now))) }
         ensures kept { Grows self.old self.new }
     {
+        self.are_typed(args);
         let Ok(ty) = self.result_type(op, args) else {
             return Err(NoMemory);
         };
@@ -39,19 +40,17 @@ impl Terms {
         if gives_bit(op) {
             return Ty::int(1);
         }
-        if let Op::Tuple = op {
-            return self.tuple_type(args);
-        }
-        let Some(first) = args.first() else {
+        let [first, ..] = args else {
             return Err(TyFault::Empty);
         };
-        self.type_by_first(op, *first, args.len())
+        self.type_by_first(op, *first, args)
     }
 
-    /// The type of what a row other than of tests and structs gives on `count` terms, by the first.
-    fn type_by_first(&self, op: &Op, first: TermId, count: usize) -> Result<Ty, TyFault>
-        requires { IsIn self.now first }
-        ensures { IfOk result (λ t. t ≡ spec.type_by_first op.now (type_of (tree_at (trees self.now) first)) count) }
+    /// The type of what a row that does not tell a bit gives on terms, by the first.
+    fn type_by_first(&self, op: &Op, first: TermId, args: &[TermId]) -> Result<Ty, TyFault>
+        requires first_in { IsIn self.now first }
+        requires args_in { AreIn self.now args.now }
+        ensures { IfOk result (λ t. t ≡ spec.type_by_first op.now (type_of (tree_at (trees self.now) first)) (types_of (tree_row (trees_at self.now args.now)))) }
     {
         let alloc = self.allocator();
         let of = self.ty(first);
@@ -59,8 +58,9 @@ impl Terms {
             Op::Mux => element_type(of),
             Op::Extf(k) => field_type(of, *k),
             Op::Exts { len, .. } => slice_type(alloc, of, *len),
-            Op::Array => array_of(alloc, of, count),
+            Op::Array => array_of(alloc, of, args.len()),
             Op::Repeat(n) => array_of(alloc, of, *n as usize),
+            Op::Tuple => self.tuple_type(args),
             _ => Ok(of.copy()?),
         }
     }

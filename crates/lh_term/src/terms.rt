@@ -1,7 +1,9 @@
 //! The arena of terms.
-ghost use Rattle.std.specs.Prelude.{◌≡◌, [], true, length, IfOk};
-ghost use Rattle.lh_term.specs.Types.{IsTyped, type_of};
-ghost use Rattle.lh_term.specs.Arena.{trees, tree_at, term_tree, term_below, IsTypedNode, IsIn, Stands, Grows};
+ghost use Rattle.std.specs.Prelude.{◌≡◌, [], true, Some, length, slice_get, IfOk};
+ghost use Rattle.lh_term.specs.Tree.{tree_row};
+ghost use Rattle.lh_term.specs.Types.{IsTyped, AreTyped, type_of};
+ghost use Rattle.lh_term.specs.SameTree.{same_tree};
+ghost use Rattle.lh_term.specs.Arena.{trees, tree_at, trees_at, terms_in, term_tree, term_below, IsTypedNode, IsIn, AreIn, OneId, Rising, AllTyped, Stands, Grows};
 
 use crate::term::{Node, Term, TermId};
 use indexmap::IndexSet;
@@ -53,6 +55,7 @@ impl Terms {
     /// The term of an id, by the ids of its operands, which are lower.
     pub fn view(&self, t: TermId) -> &Term
         requires { IsIn self.now t }
+        ensures term { slice_get (terms_in self.now) t.0 ≡ Some result.now }
         ensures shown { term_tree (trees self.now) result.now ≡ tree_at (trees self.now) t }
         ensures below { term_below t.0 result.now ≡ true }
         ensures typed { IsTyped (tree_at (trees self.now) t) }
@@ -70,6 +73,7 @@ impl Terms {
 
     fn node(&self, t: TermId) -> &Node
         requires { IsIn self.now t }
+        ensures term { slice_get (terms_in self.now) t.0 ≡ Some result.now.term }
         ensures shown { term_tree (trees self.now) result.now.term ≡ tree_at (trees self.now) t }
         ensures below { term_below t.0 result.now.term ≡ true }
         ensures typed { IsTyped (tree_at (trees self.now) t) }
@@ -79,6 +83,46 @@ impl Terms {
             Some(node) => node,
             None => unreachable!(),
         }
+    }
+
+    /// Whether two terms are equal: equal terms have one id.
+    pub fn same(&self, x: TermId, y: TermId) -> bool
+        requires x_in { IsIn self.now x }
+        requires y_in { IsIn self.now y }
+        ensures { result ≡ same_tree (tree_at (trees self.now) x) (tree_at (trees self.now) y) }
+    {
+        let _ = &self.nodes;
+        x.0 == y.0
+    }
+
+    /// Terms of the arena are typed; it does nothing.
+    pub(crate) fn are_typed(&self, xs: &[TermId])
+        requires { AreIn self.now xs.now }
+        ensures { AreTyped (tree_row (trees_at self.now xs.now)) }
+    {
+        let _ = &self.nodes;
+        let _ = xs;
+    }
+
+    /// No two ids of the arena stand for one term; it does nothing.
+    pub(crate) fn are_apart(&self)
+        ensures { OneId self.now }
+    {
+        let _ = &self.nodes;
+    }
+
+    /// Operands are before their terms; it does nothing.
+    pub(crate) fn are_rising(&self)
+        ensures { Rising self.now }
+    {
+        let _ = &self.nodes;
+    }
+
+    /// Every term of the arena is typed; it does nothing.
+    pub(crate) fn are_all_typed(&self)
+        ensures { AllTyped self.now }
+    {
+        let _ = &self.nodes;
     }
 
     pub(crate) fn allocator(&self) -> Global {

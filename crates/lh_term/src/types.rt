@@ -1,12 +1,12 @@
 //! The type of a value, and of what a row gives.
-ghost use Rattle.std.specs.Prelude.{◌≡◌, map, IfOk};
+ghost use Rattle.std.specs.Prelude.{◌≡◌, IfOk};
 ghost use Rattle.lh_types.specs.Values.{array_value, tuple_value, data_row};
 ghost use Rattle.lh_types.specs.ValueOf.{datum_of};
 ghost use Rattle.lh_types.specs.Types.{row_of};
 ghost use Rattle.lh_term.specs.Types as spec;
 
 use lh_types::ty::{Ty, TyFault, TyKind, TyList};
-use lh_types::val::Val;
+use lh_types::val::{Val, ValList};
 use std::alloc::Global;
 
 /// The type of a value; the fault of its type where it is of none.
@@ -17,30 +17,36 @@ pub(crate) fn value_type(alloc: Global, v: &Val) -> Result<Ty, TyFault>
     match v {
         Val::Int { width, .. } => Ty::int(*width),
         Val::Time(_) => Ok(Ty::time()),
-        Val::Array(vs) => array_type(alloc, vs.as_slice()),
-        Val::Tuple(vs) => tuple_type(alloc, vs.as_slice()),
+        Val::Array(vs) => array_type(alloc, vs),
+        Val::Tuple(vs) => tuple_type(alloc, vs),
     }
 }
 
 /// The type of the array of these elements, by the first.
 #[cycle(value_type)]
-fn array_type(alloc: Global, vs: &[Val]) -> Result<Ty, TyFault>
-    ensures { IfOk result (λ t. t ≡ spec.value_type (array_value (data_row (map datum_of vs.now)))) }
+fn array_type(alloc: Global, vs: &ValList) -> Result<Ty, TyFault>
+    ensures { IfOk result (λ t. t ≡ spec.value_type (array_value (data_row vs.now))) }
 {
-    if vs.len() == 0 || vs.len() > 65536 {
-        return Err(TyFault::Empty);
+    let vs = vs.as_slice();
+    if vs.len() > 65536 {
+        return Err(TyFault::TooManyBits);
     }
-    let of = value_type(alloc, &vs[0])?;
-    Ty::array(alloc, vs.len() as u32, of)
+    match vs.first() {
+        Some(first) => {
+            let of = value_type(alloc, first)?;
+            Ty::array(alloc, vs.len() as u32, of)
+        }
+        None => Err(TyFault::Empty),
+    }
 }
 
 /// The type of the struct of these fields.
 #[cycle(value_type)]
-fn tuple_type(alloc: Global, vs: &[Val]) -> Result<Ty, TyFault>
-    ensures { IfOk result (λ t. t ≡ spec.value_type (tuple_value (data_row (map datum_of vs.now)))) }
+fn tuple_type(alloc: Global, vs: &ValList) -> Result<Ty, TyFault>
+    ensures { IfOk result (λ t. t ≡ spec.value_type (tuple_value (data_row vs.now))) }
 {
     let mut fields = TyList::new(alloc);
-    for v in vs {
+    for v in vs.as_slice() {
         let of = value_type(alloc, v)?;
         fields.push(of)?;
     }
