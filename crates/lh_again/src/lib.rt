@@ -1,31 +1,41 @@
-//! Reading what is printed: two calls, and laws, each the contract of a function that does nothing, so that other crates can cite it.
+//! Printing and reading again, by the calls.
 #![tactic(auto)]
 
-ghost use Rattle.lh_again.specs.Laws.{EveryReadingIsSpelled, CanonHasItsLines, CanonHasItsTokens, PrintableIsSpelled, SpelledIsPrintable, SpelledApart, SpelledTogether};
+ghost use Rattle.std.specs.Prelude.{◌≡◌, ◌≤◌, List, length, IfOk, IfErr};
+ghost use Rattle.lh_unit.specs.Contents.{ItemText};
+ghost use Rattle.lh_unit.specs.Arena.{contents};
+ghost use Rattle.lh_unit.specs.Canon.{canon};
+ghost use Rattle.lh_unit.specs.Reads.{Reads};
+ghost use Rattle.lh_unit.specs.WellFormed.{IsSpelled};
+ghost use Rattle.lh_read.specs.Reading.{Gives, Names};
 
-pub mod calls;
+use lh_print::print;
+use lh_read::{TextFault, read};
+use lh_unit::module::Module;
+use std::alloc::Global;
 
-/// What any text reads as, its canonical text reads as too.
-pub fn canonical_text_reads_back()
-    ensures { EveryReadingIsSpelled }
-{}
+/// Reads a text, as `read` does: the module that it answers is spelled, so that its canonical text reads as it.
+pub fn read_spelled(alloc: Global, text: &[u8]) -> Result<Module, TextFault>
+    requires { length text.now ≤ 67108864 }
+    ensures ok { IfOk result (λ m. Reads text.now (contents m)) }
+    ensures only { (items : List ItemText) → Reads text.now items → Gives result items }
+    ensures spelled { IfOk result (λ m. IsSpelled (contents m)) }
+    ensures fault { IfErr result (λ e. Names e text.now) }
+{
+    read(alloc, text)
+}
 
-/// A canonical text has the canonical lines as its lines, and each has the tokens that it is made of.
-pub fn canonical_text_has_its_lines()
-    ensures lines { CanonHasItsLines }
-    ensures tokens { CanonHasItsTokens }
-{}
+/// Prints a module that is spelled and reads the text: the module again, or want of memory.
+pub fn print_and_read(alloc: Global, m: &Module) -> Result<Module, TextFault>
+    requires spelled { IsSpelled (contents m.now) }
+    requires short { length (canon (contents m.now)) ≤ 67108864 }
+    ensures { Gives result (contents m.now) }
+{
+    match print(alloc, m) {
+        Ok(text) => read(alloc, &text),
+        Err(_) => Err(TextFault::OutOfMemory),
+    }
+}
 
-/// An item is spelled as the only one of its module exactly where it can be printed: its lines spell it, and
-/// a unit has the shape of its kind, no name twice, and no more instructions than the limit.
-pub fn printable_items_are_spelled()
-    ensures spelled { PrintableIsSpelled }
-    ensures printable { SpelledIsPrintable }
-{}
-
-/// A module is spelled where each of its items alone is and no two units have one name. So a unit may be
-/// put in the place of another of its name.
-pub fn modules_are_spelled_by_items()
-    ensures apart { SpelledApart }
-    ensures together { SpelledTogether }
-{}
+#[cfg(test)]
+mod tests;

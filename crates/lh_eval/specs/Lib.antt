@@ -1,8 +1,8 @@
 pub mod HeldOf
 pub mod Holding
-pub mod Giving
 pub mod Fitting
 pub mod Sound
 pub mod WishOf
 pub mod Grouped
 pub mod ResultsFit
+pub mod Beginning

@@ -1,6 +1,7 @@
 //! What an instruction gives or drives wherever it stands: operations, parts of signals, probes and drives.
 #![tactic(auto)]
 
+pub mod begin;
 pub mod effects;
 pub mod held;
 pub mod instance;
@@ -10,4 +11,5 @@ pub mod operate;
 #[cfg(test)]
 mod tests;
 mod types;
-pub mod wishes;
+
+pub use lh_wishes::wishes;

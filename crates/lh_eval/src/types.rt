@@ -2,19 +2,14 @@
 ghost use Rattle.std.specs.Prelude.{◌≡◌, ◌<◌, map, IfSome};
 ghost use Rattle.std.specs.Option.{option_and_then, option_copied};
 ghost use Rattle.lh_types.specs.Types.{IsData};
-ghost use Rattle.lh_unit.specs.Arena.{unit_count, value_count, inst_count, blocks_at, result_at, table_at, naming, unit_text_at};
-ghost use Rattle.lh_unit.specs.Table.{is_result};
-ghost use Rattle.lh_unit.specs.ById as byid;
+ghost use Rattle.lh_unit.specs.Arena.{unit_count, value_count, naming, unit_text_at};
 ghost use Rattle.lh_unit.specs.Naming.{Naming, inst_text, value_text, operand_text};
 ghost use Rattle.lh_unit.specs.Typing as typing;
 ghost use Rattle.lh_unit.specs.Typing.{result_type, signal_of, first_type, operation_type, value_type};
-ghost use Rattle.lh_unit.specs.Within.{Each};
-ghost use Rattle.lh_unit.specs.declared.inst.InstId.{InstId as Id};
-ghost use Rattle.lh_eval.specs.Giving as giving;
 
 use lh_types::op::Op;
 use lh_types::ty::{Ty, TyKind, carries_data};
-use lh_unit::inst::{Arg, Inst, InstId, Typed, UnitId, ValueId};
+use lh_unit::inst::{Inst, Typed, UnitId, ValueDef, ValueId};
 use lh_unit::module::Module;
 
 /// What a signal of this type carries.
@@ -38,72 +33,17 @@ fn pointed(ty: &Ty) -> Option<&Ty>
     }
 }
 
-/// What the signal that is a value of a unit carries; `None` where the value is no signal.
-///
-/// It is read from the line that gives the value, in a time that grows as the number of the unit's instructions.
+/// What the signal that is a value of a unit carries; `None` where the value is no signal. It is read from what defines
+/// the value, in a time that does not grow with the unit.
 pub fn carried_by(m: &Module, unit: UnitId, value: ValueId) -> Option<&Ty>
     requires unit { unit.0 < unit_count m.now }
     requires value { value.0 < value_count m.now unit.0 }
     ensures { option_copied result ≡ option_and_then typing.carried (value_type (unit_text_at m.now unit.0) (value_text (naming m.now unit.0) value)) }
 {
-    if let Some(arg) = arg_being(m.args(unit), value) {
-        return carried(&arg.ty);
-    }
-    match inst_giving(m, unit, value) {
-        Some(inst) => carried_by_inst(inst),
-        None => None,
-    }
-}
-
-/// The argument that is this value.
-fn arg_being(args: &[Arg], value: ValueId) -> Option<&Arg>
-    ensures { option_copied result ≡ byid.arg_being args.now value.0 }
-{
-    for arg in args {
-        if arg.value == value {
-            return Some(arg);
-        }
-    }
-    None
-}
-
-/// The first instruction of a unit that gives this value.
-fn inst_giving(m: &Module, unit: UnitId, value: ValueId) -> Option<&Inst>
-    requires { unit.0 < unit_count m.now }
-    ensures { option_copied result ≡ giving.blocks_giving (table_at m.now unit.0) (blocks_at m.now unit.0) value.0 }
-{
-    for block in m.blocks(unit) {
-        let insts = m.insts(unit, *block);
-        if let Some(inst) = inst_among(m, unit, insts, value) {
-            return Some(inst);
-        }
-    }
-    None
-}
-
-/// The first of these instructions that gives this value.
-fn inst_among<'a>(m: &'a Module, unit: UnitId, insts: &[InstId], value: ValueId) -> Option<&'a Inst>
-    requires unit { unit.0 < unit_count m.now }
-    requires insts { Each (λ (i : Id). i.0 < inst_count m.now unit.0) insts.now }
-    ensures { option_copied result ≡ giving.insts_giving (table_at m.now unit.0) insts.now value.0 }
-{
-    for inst in insts {
-        if gives(m, unit, *inst, value) {
-            return Some(m.inst(unit, *inst));
-        }
-    }
-    None
-}
-
-/// Whether an instruction gives this value.
-fn gives(m: &Module, unit: UnitId, inst: InstId, value: ValueId) -> bool
-    requires unit { unit.0 < unit_count m.now }
-    requires inst { inst.0 < inst_count m.now unit.0 }
-    ensures { result ≡ is_result (result_at m.now unit.0 inst.0) value.0 }
-{
-    match m.result_of(unit, inst) {
-        Some(given) => given == value,
-        None => false,
+    match m.value_def(unit, value) {
+        ValueDef::Missing => None,
+        ValueDef::Arg(number) => carried(&m.args(unit)[number as usize].ty),
+        ValueDef::Inst(inst) => carried_by_inst(m.inst(unit, inst)),
     }
 }
 

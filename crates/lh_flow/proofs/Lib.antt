@@ -5,3 +5,4 @@ pub mod Searching
 pub mod Routing
 pub mod Answering
 pub mod EveryRoute
+pub mod Above

@@ -4,3 +4,5 @@ pub mod Words
 pub mod Searches
 pub mod Groups
 pub mod Laws
+pub mod TopsOf
+pub mod Sound

@@ -4,7 +4,10 @@
 pub mod ask;
 pub mod flow;
 mod group;
+mod jumps;
 pub mod laws;
 mod search;
 #[cfg(test)]
 mod tests;
+mod tops;
+mod tree;

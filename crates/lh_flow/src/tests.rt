@@ -80,7 +80,7 @@ fn first_of_many(alloc: Global) -> Result<Option<usize>, NoMemory> {
     if !are_within(asks.as_slice(), 20_000) {
         return Err(NoMemory);
     }
-    first_lacking(alloc, flow.as_slice(), asks.as_slice())
+    first_lacking(alloc, flow.as_slice(), asks.as_slice(), 60_000)
 }
 
 /// The answer to these questions on the flow of these rows.
@@ -89,7 +89,7 @@ fn first(alloc: Global, rows: &[Row], asks: &[Ask]) -> Result<Option<usize>, NoM
     if !are_within(asks, rows.len()) {
         return Err(NoMemory);
     }
-    first_lacking(alloc, flow.as_slice(), asks)
+    first_lacking(alloc, flow.as_slice(), asks, 128)
 }
 
 fn are_within(asks: &[Ask], limit: usize) -> bool

@@ -45,7 +45,7 @@ gives u (var_text a) h = (h.0, h.2.0, ap (option_and_then pointer_to) h.2.0 ∙ 
 gives u (ld_text p) h = (h.0, h.1.0, ap (option_and_then pointed) h.1.0)
 gives u (sig_text a) h = (h.0, h.2.0, ap (option_and_then signal_of) h.2.0 ∙ ap (λ b. if b then Some (signal_type h.0) else None) h.1)
 gives u (prb_text s) h = (h.0, h.1.0, ap (option_and_then carried) h.1.0)
-gives u (phi_text ty edges) h = ap (λ b. if b then Some ty else None) h.0
+gives u (phi_text ty edges) h = refl
 gives u _ h = tt
 
 pub results_have_types : ResultsHaveTypes

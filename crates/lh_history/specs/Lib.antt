@@ -1,2 +1,3 @@
 pub mod Claims
 pub mod Greatest
+pub mod Frames

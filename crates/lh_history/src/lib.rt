@@ -6,6 +6,7 @@ ghost use Rattle.std.specs.Cmp.{IsTotalOrder};
 ghost use Rattle.lh_types.specs.History.{claim_cmp};
 ghost use Rattle.lh_history.specs.Claims.{EqualInstantsAreOne, LevelAreMadeTogether};
 ghost use Rattle.lh_history.specs.Greatest.{GreatestIsFound, GreatestAreLevel};
+ghost use Rattle.lh_history.specs.Frames.{WishesSplit, HistoriesJoin, FramesSplit};
 
 /// The entries of a history are in one total order. Two that are level in it were made by one
 /// instance, at one instant and for one instant; instants that are level are one.
@@ -20,4 +21,12 @@ pub fn claim_law()
 pub fn greatest_law()
     ensures found { GreatestIsFound }
     ensures level { GreatestAreLevel }
+{}
+
+/// The entries of what an instance wishes are those of its writes, one due instant after the other. So the wishes of one frame add
+/// to a history what each instance in order wrote for each due instant, and nothing else.
+pub fn frame_law()
+    ensures wishes { WishesSplit }
+    ensures histories { HistoriesJoin }
+    ensures frames { FramesSplit }
 {}

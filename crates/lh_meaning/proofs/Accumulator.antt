@@ -15,8 +15,9 @@ use Rattle.lh_unit.specs.Contents.{OperandText, InstText, const_text, pure_text,
 use Rattle.lh_unit.specs.Activation.{activate}
 use Rattle.lh_unit.specs.Pass.{pass, probes}
 use Rattle.lh_unit.specs.Design.{visit, design_of, refusal_of}
-use Rattle.lh_unit.specs.World.{acts}
-use Rattle.lh_unit.specs.Trace.{Outcome, Frame, quiet, Run, Shown, ShownSignal, ran, trace}
+use Rattle.lh_unit.specs.World.{acts_at}
+use Rattle.lh_types.specs.declared.frame.Outcome.{Outcome}
+use Rattle.lh_unit.specs.Trace.{Frame, quiet, Run, Shown, ShownSignal, ran, trace}
 use Rattle.lh_meaning.proofs.Samples.{global, line, bare, typed, bit, bit_signal, input, output, entity, process, block, delay}
 
 abbrev word : TypeTree
@@ -224,9 +225,9 @@ the_run = record {
 }
 
 pub processes_trace : trace as_processes (global (codes "acc_tb")) 20 ≡ ran the_instances the_signals the_run
-unfolding activate pass probes visit design_of refusal_of bits_at acts digits apply integer_row row_width
+unfolding activate pass probes visit design_of refusal_of bits_at acts_at digits apply integer_row row_width
 processes_trace = refl
 
 pub entities_trace : trace as_entities (global (codes "acc_tb")) 20 ≡ ran the_instances the_signals the_run
-unfolding activate pass probes visit design_of refusal_of bits_at acts digits apply integer_row row_width
+unfolding activate pass probes visit design_of refusal_of bits_at acts_at digits apply integer_row row_width
 entities_trace = refl

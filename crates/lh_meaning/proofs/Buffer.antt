@@ -1,5 +1,5 @@
 -- That an entity may stand for a process: a buffer.
-use Rattle.std.proofs.Common.{◌≡◌, ◌≤◌, List, [], ◌∷◌, map, Bool, refl, Option, Some, None, arith, inr}
+use Rattle.std.proofs.Common.{◌≡◌, ◌≤◌, ℕ, List, [], ◌∷◌, map, Bool, refl, Option, Some, None, arith, inr}
 use Rattle.std.specs.Prelude.{codes}
 use Rattle.lh_time.specs.declared.Instant.{Instant}
 use Rattle.lh_time.specs.Due.{due_of}
@@ -91,9 +91,9 @@ module _ (r : Rules) (enough : 4 ≤ r.bound) (x q : Range) where
   unfolding activate
   fresh_so now t i e = runs_so now t (fresh as_process i).held (rw e (refl, refl))
 
-  waiting_so : (now : List Bool) (t : Instant) (e : Env) (on : List Range) → Holds x q e → activate r.bound (scene r now t) as_process (waiting_at (codes "entry") (codes "entry") on e) ≡ ended now t e
+  waiting_so : (now : List Bool) (t : Instant) (b : List ℕ) (e : Env) (on : List Range) → Holds x q e → activate r.bound (scene r now t) as_process (waiting_at b (codes "entry") on e) ≡ ended now t e
   unfolding activate
-  waiting_so now t e on h = runs_so now t e h
+  waiting_so now t b e on h = runs_so now t e h
 
   pass_so : (now : List Bool) (t : Instant) (sigs : List Range) (memory : Option (List Bool)) → (pass as_entity (x ∷ q ∷ []) sigs now memory t).wish ≡ the_wish x q now t
   unfolding pass
@@ -104,25 +104,24 @@ module _ (r : Rules) (enough : 4 ≤ r.bound) (x q : Range) where
   senses_so sigs = refl
 
   first_ends : (now : List Bool) (t : Instant) (i : Instance) (memory : Option (List Bool)) → i.args ≡ x ∷ q ∷ []
-      → EndsAt (Holds x q) (codes "entry") (codes "entry") (sensed as_entity i) (pass as_entity i.args i.sigs now memory t).wish (activate r.bound (scene r now t) as_process (fresh as_process i))
+      → EndsAt (λ b. Holds x q) (codes "entry") (sensed as_entity i) (pass as_entity i.args i.sigs now memory t).wish (activate r.bound (scene r now t) as_process (fresh as_process i))
   first_ends now t i memory e = rw (fresh_so now t i e, e, pass_so now t i.sigs memory, senses_so i.sigs)
-      (record { held = after x now (fresh as_process i).held; parts = x ∷ []; known = rw e (refl, refl); same_parts = λ k. refl; is = rw e refl })
+      (record { block = codes "entry"; held = after x now (fresh as_process i).held; parts = x ∷ []; known = rw e (refl, refl); same_parts = λ k. refl; is = rw e refl })
 
-  later_ends : (now : List Bool) (t : Instant) (i : Instance) (memory : Option (List Bool)) (held : Env) (on : List Range) → i.args ≡ x ∷ q ∷ [] → Holds x q held
-      → EndsAt (Holds x q) (codes "entry") (codes "entry") (sensed as_entity i) (pass as_entity i.args i.sigs now memory t).wish
-      (activate r.bound (scene r now t) as_process (waiting_at (codes "entry") (codes "entry") on held))
-  later_ends now t i memory held on e h = rw (waiting_so now t held on h, e, pass_so now t i.sigs memory, senses_so i.sigs)
-      (record { held = after x now held; parts = x ∷ []; known = h; same_parts = λ k. refl; is = refl })
+  later_ends : (now : List Bool) (t : Instant) (i : Instance) (memory : Option (List Bool)) (b : List ℕ) (held : Env) (on : List Range) → i.args ≡ x ∷ q ∷ [] → Holds x q held
+      → EndsAt (λ b. Holds x q) (codes "entry") (sensed as_entity i) (pass as_entity i.args i.sigs now memory t).wish
+      (activate r.bound (scene r now t) as_process (waiting_at b (codes "entry") on held))
+  later_ends now t i memory b held on e h = rw (waiting_so now t b held on h, e, pass_so now t i.sigs memory, senses_so i.sigs)
+      (record { block = codes "entry"; held = after x now held; parts = x ∷ []; known = h; same_parts = λ k. refl; is = refl })
 
   buffer_for : (i : Instance) → i.args ≡ x ∷ q ∷ [] → CombFor r as_process as_entity i
   buffer_for i e = record {
     is_process = refl;
     is_entity = refl;
-    block = codes "entry";
     to = codes "entry";
-    holds = Holds x q;
+    holds = λ b. Holds x q;
     first = λ now t memory. first_ends now t i memory e;
-    later = λ now t memory held on h. later_ends now t i memory held on e h;
+    later = λ now t memory b held on h. later_ends now t i memory b held on e h;
   }
 
 -- an instance has two arguments

@@ -1,5 +1,5 @@
 -- An entity that gives the same as a process on all values may stand for it.
-use Rattle.std.proofs.Common.{◌≡◌, List, Bool, true, false, ◌||◌, refl, ap, Option, Some, None}
+use Rattle.std.proofs.Common.{◌≡◌, ℕ, List, Bool, true, false, ◌||◌, refl, ap, Option, Some, None}
 use Rattle.std.specs.List.{list_any}
 use Rattle.lh_time.specs.declared.Instant.{Instant}
 use Rattle.lh_types.specs.declared.part.Range.{Range}
@@ -8,7 +8,7 @@ use Rattle.lh_unit.specs.Held.{Env}
 use Rattle.lh_unit.specs.Activation.{ProcessState, activate}
 use Rattle.lh_unit.specs.Hierarchy.{Instance}
 use Rattle.lh_unit.specs.Pass.{pass}
-use Rattle.lh_unit.specs.World.{State, of_process, of_entity, start_by, act, act_if, acts_by, reacts_by, bit_numbers, bit_differs, Rules}
+use Rattle.lh_unit.specs.World.{State, of_process, of_entity, start_by, act, act_if_woken, process_act, entity_act, bit_numbers, bit_differs, Rules}
 use Rattle.lh_meaning.proofs.BitSets.{SameSet, same_any}
 use Rattle.lh_meaning.proofs.Standing.{scene, fresh, waiting_at, EndsAt, sensed, CombFor}
 use Rattle.lh_meaning.proofs.Simulation.{Matches, Simulation}
@@ -16,39 +16,40 @@ use Rattle.lh_meaning.proofs.Simulation.{Matches, Simulation}
 module _ (r : Rules) (x y : UnitText) (i : Instance) (c : CombFor r x y i) where
   -- after the first frame the process waits, and the entity has run
   record AtHead (a b : State) : Type 0 where
+    block : List ℕ
     held : Env
     on : List Range
     memory : Option (List Bool)
-    known : c.holds held
+    known : c.holds block held
     same_parts : SameSet (bit_numbers on) (sensed y i)
-    process : a ≡ of_process (waiting_at c.block c.to on held)
+    process : a ≡ of_process (waiting_at block c.to on held)
     entity : b ≡ of_entity memory
 
   abbrev CombRelated : Option Instant → List Bool → State → State → Type 0
   CombRelated None old a b = (a ≡ of_process (fresh x i)) × (b ≡ of_entity None)
   CombRelated (Some t) old a b = AtHead a b
 
-  both_run : (now : List Bool) (t : Instant) (p : ProcessState) (m : Option (List Bool)) → EndsAt c.holds c.block c.to (sensed y i) (pass y i.args i.sigs now m t).wish (activate r.bound (scene r now t) x p)
-      → Matches AtHead (acts_by p (activate r.bound (scene r now t) x p)) (reacts_by (pass y i.args i.sigs now m t))
+  both_run : (now : List Bool) (t : Instant) (p : ProcessState) (m : Option (List Bool)) → EndsAt c.holds c.to (sensed y i) (pass y i.args i.sigs now m t).wish (activate r.bound (scene r now t) x p)
+      → Matches AtHead (process_act p (activate r.bound (scene r now t) x p)) (entity_act (pass y i.args i.sigs now m t))
   both_run now t p m e = rw e.is (record {
     answer = refl;
-    after = record { held = e.held; on = e.parts; memory = Some (pass y i.args i.sigs now m t).seen; known = e.known; same_parts = e.same_parts; process = refl; entity = refl };
+    after = record { block = e.block; held = e.held; on = e.parts; memory = Some (pass y i.args i.sigs now m t).seen; known = e.known; same_parts = e.same_parts; process = refl; entity = refl };
   })
 
   -- both run or both rest
-  both_or_none : (b : Bool) (now : List Bool) (t : Instant) (e : Env) (on : List Range) (m : Option (List Bool)) → c.holds e → SameSet (bit_numbers on) (sensed y i)
-      → Matches AtHead (act_if b r now t x i (of_process (waiting_at c.block c.to on e))) (act_if b r now t y i (of_entity m))
-  both_or_none true now t e on m k h = both_run now t (waiting_at c.block c.to on e) m (c.later now t m e on k)
-  both_or_none false now t e on m k h = record {
+  both_or_none : (b : Bool) (now : List Bool) (t : Instant) (block : List ℕ) (e : Env) (on : List Range) (m : Option (List Bool)) → c.holds block e → SameSet (bit_numbers on) (sensed y i)
+      → Matches AtHead (act_if_woken b r now t x i (of_process (waiting_at block c.to on e))) (act_if_woken b r now t y i (of_entity m))
+  both_or_none true now t block e on m k h = both_run now t (waiting_at block c.to on e) m (c.later now t m block e on k)
+  both_or_none false now t block e on m k h = record {
     answer = refl;
-    after = record { held = e; on = on; memory = m; known = k; same_parts = h; process = refl; entity = refl };
+    after = record { block = block; held = e; on = on; memory = m; known = k; same_parts = h; process = refl; entity = refl };
   }
 
   comb_keeps : (last : Option Instant) (old now : List Bool) (t : Instant) (a b : State) → CombRelated last old a b → Matches AtHead (act r last old now t x i a) (act r last old now t y i b)
   comb_keeps None old now t a b h = rw (h.0, h.1) (both_run now t (fresh x i) None (c.first now t None))
   comb_keeps (Some l) old now t a b h =
       rw (h.process, h.entity, same_any (bit_differs old now) (bit_numbers h.on) (sensed y i) h.same_parts)
-      (both_or_none (list_any (bit_differs old now) (sensed y i) || false) now t h.held h.on h.memory h.known h.same_parts)
+      (both_or_none (list_any (bit_differs old now) (sensed y i) || false) now t h.block h.held h.on h.memory h.known h.same_parts)
 
   pub comb_simulation : Simulation r x y i
   comb_simulation = record {

@@ -1,5 +1,5 @@
 -- An entity whose registers give at every edge what a process gives may stand for it.
-use Rattle.std.proofs.Common.{◌≡◌, ℕ, List, [], Bool, true, false, not, ◌&&◌, ◌||◌, if◌then◌else◌, refl, ap, sym, ◌∙◌, Option, Some, None}
+use Rattle.std.proofs.Common.{◌≡◌, ℕ, List, [], Bool, true, false, not, ◌&&◌, ◌||◌, if◌then◌else◌, refl, ap, sym, ◌∙◌, subst, Option, Some, None}
 use Rattle.std.specs.List.{list_any}
 use Rattle.std.proofs.Math.Bool.{or-false}
 use Rattle.lh_time.specs.declared.Instant.{Instant}
@@ -10,7 +10,7 @@ use Rattle.lh_unit.specs.Held.{Env}
 use Rattle.lh_unit.specs.Activation.{activate}
 use Rattle.lh_unit.specs.Hierarchy.{Instance}
 use Rattle.lh_unit.specs.Pass.{pass}
-use Rattle.lh_unit.specs.World.{State, of_process, of_entity, start_by, Act, act, act_if, runs, bit_numbers, bit_at, bit_differs, Rules}
+use Rattle.lh_unit.specs.World.{State, of_process, of_entity, start_by, Act, act, act_if_woken, runs, bit_numbers, bit_at, bit_differs, Rules}
 use Rattle.lh_meaning.specs.Replacing.{answer_of}
 use Rattle.lh_meaning.proofs.BitSets.{has, SameSet, IsWithin, bits_read, same_any, any_within, any_agree, read_agree, none_of, not_differ}
 use Rattle.lh_meaning.proofs.Standing.{scene, fresh, waiting_at, EndsAt, sensed, EdgeFor}
@@ -19,16 +19,19 @@ use Rattle.lh_meaning.proofs.Simulation.{Matches, Simulation}
 module _ (r : Rules) (x y : UnitText) (i : Instance) (c : EdgeFor r x y i) where
   -- The process waits at the start of its second region. It holds what an activation at `past` leaves, and on the waited bits these are the values of the last frame.
   record Waits (past old : List Bool) (a : State) : Type 0 where
+    block : List ℕ
     held : Env
     parts : List Range
-    stands : c.stands past held
+    stands : c.stands past block held
     same_parts : SameSet (bit_numbers parts) c.on
     same_bits : (k : ℕ) → has c.on k ≡ true → bit_at past k ≡ bit_at old k
-    is : a ≡ of_process (waiting_at c.block c.to parts held)
+    is : a ≡ of_process (waiting_at block c.to parts held)
 
-  -- the entity has the triggers' bits of the last frame
-  abbrev Remembers : List Bool → State → Type 0
-  Remembers old b = b ≡ of_entity (Some (bits_read old c.triggers))
+  -- the entity remembers the triggers' bits of the last frame
+  record Remembers (old : List Bool) (b : State) : Type 0 where
+    memory : List Bool
+    remembers : c.remembers (bits_read old c.triggers) memory
+    is_so : b ≡ of_entity (Some memory)
 
   -- what an instance does in a frame shows this wish alone
   record Does (R : State → Type 0) (a : Act) (wish : Wish) : Type 0 where
@@ -51,9 +54,10 @@ module _ (r : Rules) (x y : UnitText) (i : Instance) (c : EdgeFor r x y i) where
   rows_are past now t true e = refl
   rows_are past now t false e = c.rows_rest past now t e
 
-  pass_is : (past now : List Bool) (t : Instant) (b : Bool) → list_any (bit_differs past now) c.triggers ≡ b → (pass y i.args i.sigs now (Some (bits_read past c.triggers)) t).wish ≡ if_any b (c.rows past now t)
-  pass_is past now t true e = c.fires past now t e
-  pass_is past now t false e = c.rests past now t e
+  pass_is : (past now memory : List Bool) (t : Instant) → c.remembers (bits_read past c.triggers) memory → (b : Bool) → list_any (bit_differs past now) c.triggers ≡ b
+      → (pass y i.args i.sigs now (Some memory) t).wish ≡ if_any b (c.rows past now t)
+  pass_is past now memory t m true e = c.fires past now memory t m e
+  pass_is past now memory t m false e = c.rests past now memory t m e
 
   none_is : (past now : List Bool) (t : Instant) (b : Bool) → b ≡ false → no_wish ≡ if_any b (c.rows past now t)
   none_is past now t true e = cc
@@ -76,28 +80,33 @@ module _ (r : Rules) (x y : UnitText) (i : Instance) (c : EdgeFor r x y i) where
     no_trigger : (ks : List ℕ) → IsWithin c.triggers ks → list_any (bit_differs old now) ks ≡ false → list_any (bit_differs old now) c.triggers ≡ false
     no_trigger ks w e = not_within (list_any (bit_differs old now) c.triggers) (list_any (bit_differs old now) ks) (any_within (bit_differs old now) c.triggers ks w) e
 
-    process_does : (e : Env) (parts : List Range) → c.stands past e → SameSet (bit_numbers parts) c.on → (w : Bool) → list_any (bit_differs old now) c.on ≡ w
-        → Does (λ a. (p : List Bool) × Waits p now a) (act_if w r now t x i (of_process (waiting_at c.block c.to parts e))) (wish_at past now t)
-    process_does e parts k h true f =
-        let d : EndsAt (c.stands now) c.block c.to c.on (c.rows past now t) (activate r.bound (scene r now t) x (waiting_at c.block c.to parts e)) = c.later past now t e parts k in
+    process_does : (block : List ℕ) (e : Env) (parts : List Range) → c.stands past block e → SameSet (bit_numbers parts) c.on → (w : Bool) → list_any (bit_differs old now) c.on ≡ w
+        → Does (λ a. (p : List Bool) × Waits p now a) (act_if_woken w r now t x i (of_process (waiting_at block c.to parts e))) (wish_at past now t)
+    process_does block e parts k h true f =
+        let d : EndsAt (c.stands now) c.to c.on (c.rows past now t) (activate r.bound (scene r now t) x (waiting_at block c.to parts e)) = c.later past now t block e parts k in
         rw d.is (record {
           answer = ap (λ w. record { wish = w; outcomes = []; ran_away = false; wake = None }) (rows_are past now t (list_any (bit_differs past now) c.triggers) refl);
-          after = (now, record { held = d.held; parts = d.parts; stands = d.known; same_parts = d.same_parts; same_bits = λ n q. refl; is = refl });
+          after = (now, record { block = d.block; held = d.held; parts = d.parts; stands = d.known; same_parts = d.same_parts; same_bits = λ n q. refl; is = refl });
         })
-    process_does e parts k h false f = record {
+    process_does block e parts k h false f = record {
       answer = ap (λ w. record { wish = w; outcomes = []; ran_away = false; wake = None }) (none_is past now t (list_any (bit_differs past now) c.triggers) (triggers_same ∙ no_trigger c.on c.waited f));
-      after = (past, record { held = e; parts = parts; stands = k; same_parts = h; same_bits = λ n q. same n q ∙ not_differ old now n (none_of (bit_differs old now) c.on f n q); is = refl });
+      after = (past, record { block = block; held = e; parts = parts; stands = k; same_parts = h; same_bits = λ n q. same n q ∙ not_differ old now n (none_of (bit_differs old now) c.on f n q); is = refl });
     }
 
-    entity_does : (w : Bool) → list_any (bit_differs old now) (sensed y i) ≡ w
-        → Does (Remembers now) (act_if w r now t y i (of_entity (Some (bits_read old c.triggers)))) (wish_at past now t)
-    entity_does true f = record {
-      answer = ap (λ w. record { wish = w; outcomes = []; ran_away = false; wake = None }) (rw memory_same (pass_is past now t (list_any (bit_differs past now) c.triggers) refl));
-      after = ap (λ m. of_entity (Some m)) (c.keeps now t (Some (bits_read old c.triggers)));
+    entity_does : (memory : List Bool) → c.remembers (bits_read old c.triggers) memory → (w : Bool) → list_any (bit_differs old now) (sensed y i) ≡ w
+        → Does (Remembers now) (act_if_woken w r now t y i (of_entity (Some memory))) (wish_at past now t)
+    entity_does memory m true f = record {
+      answer = ap (λ w. record { wish = w; outcomes = []; ran_away = false; wake = None })
+          (pass_is past now memory t (subst (λ bits. c.remembers bits memory) memory_same m) (list_any (bit_differs past now) c.triggers) refl);
+      after = record { memory = (pass y i.args i.sigs now (Some memory) t).seen; remembers = c.keeps now t (Some memory); is_so = refl };
     }
-    entity_does false f = record {
+    entity_does memory m false f = record {
       answer = ap (λ w. record { wish = w; outcomes = []; ran_away = false; wake = None }) (none_is past now t (list_any (bit_differs past now) c.triggers) (triggers_same ∙ no_trigger (sensed y i) c.probed f));
-      after = ap (λ m. of_entity (Some m)) (read_agree old now c.triggers (λ n h. not_differ old now n (none_of (bit_differs old now) c.triggers (no_trigger (sensed y i) c.probed f) n h)));
+      after = record {
+        memory = memory;
+        remembers = subst (λ bits. c.remembers bits memory) (read_agree old now c.triggers (λ n h. not_differ old now n (none_of (bit_differs old now) c.triggers (no_trigger (sensed y i) c.probed f) n h))) m;
+        is_so = refl;
+      };
     }
 
   abbrev EdgeRelated : Option Instant → List Bool → State → State → Type 0
@@ -117,18 +126,18 @@ module _ (r : Rules) (x y : UnitText) (i : Instance) (c : EdgeFor r x y i) where
         answer = refl;
         after = record {
           past = now;
-          process = record { held = d.held; parts = d.parts; stands = d.known; same_parts = d.same_parts; same_bits = λ n q. refl; is = refl };
-          entity = ap (λ m. of_entity (Some m)) (c.keeps now t None);
+          process = record { block = d.block; held = d.held; parts = d.parts; stands = d.known; same_parts = d.same_parts; same_bits = λ n q. refl; is = refl };
+          entity = record { memory = (pass y i.args i.sigs now None t).seen; remembers = c.keeps now t None; is_so = refl };
         };
       })
 
   edge_keeps : (last : Option Instant) (old now : List Bool) (t : Instant) (a b : State) → EdgeRelated last old a b → Matches (Both now) (act r last old now t x i a) (act r last old now t y i b)
   edge_keeps None old now t a b h = rw (h.0, h.1) (first_frame now t)
   edge_keeps (Some l) old now t a b h =
-      rw (h.process.is, h.entity, or-false (list_any (bit_differs old now) (bit_numbers h.process.parts)), or-false (list_any (bit_differs old now) (sensed y i)), same_any (bit_differs old now) (bit_numbers h.process.parts) c.on h.process.same_parts)
+      rw (h.process.is, h.entity.is_so, or-false (list_any (bit_differs old now) (bit_numbers h.process.parts)), or-false (list_any (bit_differs old now) (sensed y i)), same_any (bit_differs old now) (bit_numbers h.process.parts) c.on h.process.same_parts)
       (joined now _ _ (wish_at h.past now t)
-      (process_does h.past old now t h.process.same_bits h.process.held h.process.parts h.process.stands h.process.same_parts (list_any (bit_differs old now) c.on) refl)
-      (entity_does h.past old now t h.process.same_bits (list_any (bit_differs old now) (sensed y i)) refl))
+      (process_does h.past old now t h.process.same_bits h.process.block h.process.held h.process.parts h.process.stands h.process.same_parts (list_any (bit_differs old now) c.on) refl)
+      (entity_does h.past old now t h.process.same_bits h.entity.memory h.entity.remembers (list_any (bit_differs old now) (sensed y i)) refl))
 
   pub edge_simulation : Simulation r x y i
   edge_simulation = record {

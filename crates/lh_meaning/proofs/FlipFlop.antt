@@ -207,9 +207,10 @@ module _ (r : Rules) (enough : 10 ≤ r.bound) (c k o : Range) (c1 : c.len ≡ 1
   given = with_args nothing_held args (part_held c ∷ part_held k ∷ part_held o ∷ [])
 
   first_ends : (now : List Bool) (t : Instant) (i : Instance) → i.args ≡ c ∷ k ∷ o ∷ []
-      → EndsAt (Stands c k o now) (codes "init") (codes "check") (c.lo ∷ []) no_wish (activate r.bound (scene r now t) as_process (fresh as_process i))
+      → EndsAt (λ b. Stands c k o now) (codes "check") (c.lo ∷ []) no_wish (activate r.bound (scene r now t) as_process (fresh as_process i))
   unfolding activate
   first_ends now t i e = rw e (record {
+    block = codes "init";
     held = with_held given (codes "clk0") (datum_held (int_value 1 (number (bit_at now c.lo))));
     parts = c ∷ [];
     known = record { clk = refl; d = refl; q = refl; clk0 = refl };
@@ -217,10 +218,11 @@ module _ (r : Rules) (enough : 10 ≤ r.bound) (c k o : Range) (c1 : c.len ≡ 1
     is = runs_from now t 2 (at_init given) _ (omega arith) (from_init now t given (bit_at now c.lo) refl (number_in now c c1));
   })
 
-  later_ends : (past now : List Bool) (t : Instant) (e : Env) (parts : List Range) → Stands c k o past e
-      → EndsAt (Stands c k o now) (codes "init") (codes "check") (c.lo ∷ []) (rows past now t) (activate r.bound (scene r now t) as_process (waiting_at (codes "init") (codes "check") parts e))
+  later_ends : (past now : List Bool) (t : Instant) (b : List ℕ) (e : Env) (parts : List Range) → Stands c k o past e
+      → EndsAt (λ b. Stands c k o now) (codes "check") (c.lo ∷ []) (rows past now t) (activate r.bound (scene r now t) as_process (waiting_at b (codes "check") parts e))
   unfolding activate
-  later_ends past now t e parts s = record {
+  later_ends past now t b e parts s = record {
+    block = codes "init";
     held = with_held (through now e (bit_at past c.lo) (bit_at now c.lo)) (codes "clk0") (datum_held (int_value 1 (number (bit_at now c.lo))));
     parts = c ∷ [];
     known = stands_then now e (bit_at past c.lo) past s;
@@ -232,12 +234,12 @@ module _ (r : Rules) (enough : 10 ≤ r.bound) (c k o : Range) (c1 : c.len ≡ 1
   flip_flop_for i e k1 = record {
     is_process = refl;
     is_entity = refl;
-    block = codes "init";
     to = codes "check";
     on = c.lo ∷ [];
     triggers = c.lo ∷ [];
     rows = rows;
-    stands = Stands c k o;
+    stands = λ past b. Stands c k o past;
+    remembers = λ bits memory. memory ≡ bits;
     first = λ now t. first_ends now t i e;
     later = later_ends;
     waited = λ a h. h;
@@ -245,8 +247,8 @@ module _ (r : Rules) (enough : 10 ≤ r.bound) (c k o : Range) (c1 : c.len ≡ 1
     rows_rest = λ past now t h. rows_if (the_drive k o now t) (bit_at past c.lo) (bit_at now c.lo) h;
     keeps = λ now t memory. rw e (pass_seen now t i.sigs memory);
     first_rests = λ now t. rw e (pass_first now t i.sigs);
-    fires = λ past now t h. rw e (pass_wish past now t i.sigs);
-    rests = λ past now t h. rw e (pass_wish past now t i.sigs ∙ rows_if (the_drive k o now t) (bit_at past c.lo) (bit_at now c.lo) h);
+    fires = λ past now memory t m h. rw (m, e) (pass_wish past now t i.sigs);
+    rests = λ past now memory t m h. rw (m, e) (pass_wish past now t i.sigs ∙ rows_if (the_drive k o now t) (bit_at past c.lo) (bit_at now c.lo) h);
   }
 
 -- an instance has three arguments of one bit

@@ -8,14 +8,13 @@ use Rattle.lh_types.specs.History.{Made, Claim, claims, claims_of, claim_cmp, Is
 use Rattle.lh_unit.specs.Contents.{ItemText}
 use Rattle.lh_unit.specs.Hierarchy.{Instance}
 use Rattle.lh_unit.specs.Design.{Design}
-use Rattle.lh_unit.specs.World.{State, Act, Rules, rules_of, unit_of, World, bits_of, acts_of, acts, kept, made_by, next_world, instant_after, next_instant, IsNext}
-use Rattle.lh_meaning.specs.Values.{OneEach}
-use Rattle.lh_meaning.specs.Wishes.{IsBelow, IsInOrder, ActsInOrder, Reached, at_first, after_frame, HistoryIsMap}
+use Rattle.lh_unit.specs.World.{State, Act, Rules, rules_of, unit_of, World, bits_of, acts_from, acts_at, kept, made_by, first_world, next_world, instant_after, next_instant, IsNext}
+use Rattle.lh_meaning.specs.Wishes.{IsBelow, IsInOrder, ActsInOrder, ReachedFrom, at_start, after_frame, IsMadeBy, HistoryIsSound, FirstHistoryIsSound, HistoryStaysSound}
 use Rattle.lh_history.specs.Claims.{MadeTogether}
 use Rattle.lh_history.proofs.Instants.{le_self}
 use Rattle.lh_history.proofs.Claims.{among_parts, made_together}
 use Rattle.lh_meaning.proofs.Instants.{lt_self}
-use Rattle.lh_meaning.proofs.WishesLaw.{in_order-insert, due_bit_self}
+use Rattle.lh_history.proofs.DueBits.{in_order-insert, due_bit_self}
 use Rattle.lh_meaning.proofs.WishKept.{WishProperty, act_keeps}
 use Rattle.lh_meaning.proofs.Late.{act_late}
 use Rattle.lh_meaning.proofs.Worlds.{claims-append}
@@ -99,7 +98,7 @@ abbrev AllInOrder : List Act → Type 0
 AllInOrder [] = Unit {0}
 AllInOrder (a ∷ more) = IsInOrder a.wish × AllInOrder more
 
-all_in_order : (r : Rules) (items : List ItemText) (last : Option Instant) (old now : List Bool) (t : Instant) (is : List Instance) (ss : List State) → AllInOrder (acts_of r items last old now t is ss)
+all_in_order : (r : Rules) (items : List ItemText) (last : Option Instant) (old now : List Bool) (t : Instant) (is : List Instance) (ss : List State) → AllInOrder (acts_from r items last old now t is ss)
 all_in_order r items last old now t [] ss = tt
 all_in_order r items last old now t (i ∷ is) [] = tt
 all_in_order r items last old now t (i ∷ is) (s ∷ ss) = ((acts_in_order r last old now t (unit_of items i.unit) i s).0, all_in_order r items last old now t is ss)
@@ -124,16 +123,7 @@ one_in_frame t k (a ∷ more) c d o h j b u i = at (among_made (kept t k a.wish)
         let p = from_frame t (k + 1) more c x in let q = among_kept t k a.wish d y in absurd (omega (arith, p.who, q.who, i))
     at (inr x) (inr y) ih = ih x y
 
--- made by the last frame
-abbrev MadeBy : Option Instant → Claim → Type 0
-MadeBy None c = ⊥
-MadeBy (Some l) c = instant_le c.made l ≡ true
-
-record Sound (w : World) : Type 0 where
-  one : OneEach (claims w.history)
-  past : (c : Claim) → IsAmong c (claims w.history) → MadeBy w.last c
-
-later_than : (w : World) (t : Instant) (o : Option Instant) → w.last ≡ o → next_instant w ≡ Some t → (c : Claim) → MadeBy o c → instant_lt c.made t ≡ true
+later_than : (w : World) (t : Instant) (o : Option Instant) → w.last ≡ o → next_instant w ≡ Some t → (c : Claim) → IsMadeBy o c → instant_lt c.made t ≡ true
 later_than w t None e n c m = absurd m
 later_than w t (Some l) e n c m = instant_lt-le_lt c.made l t m (after (instant_after (Some l) w.history w.states) (next_computes l w.history w.states) (ap (λ x. instant_after x w.history w.states) (sym e) ∙ n))
   where
@@ -148,37 +138,40 @@ later_than w t (Some l) e n c m = instant_lt-le_lt c.made l t m (after (instant_
     after (Some u) i z = ap (instant_lt l) (sym (same u z)) ∙ i.0.0
 
 module _ (bound : ℕ) (items : List ItemText) (d : Design) where
-  next_sound : (w : World) (t : Instant) → Sound w → next_instant w ≡ Some t → Sound (next_world bound items d w t)
-  unfolding acts
+  next_sound : (w : World) (t : Instant) → HistoryIsSound w → next_instant w ≡ Some t → HistoryIsSound (next_world bound items d w t)
+  unfolding acts_at
   next_sound w t s n = record {
-    one = λ c e x y b l. at c e (split c x) (split e y) b (made_together c e l) l;
-    past = λ c x. past_at c (split c x);
+    one_each = λ c e x y b l. at c e (split c x) (split e y) b (made_together c e l) l;
+    made = λ c x. past_at c (split c x);
   }
     where
-      split : (c : Claim) → IsAmong c (claims (w.history ++ made_by t 0 (acts bound items d w t))) → IsAmong c (claims w.history) ⊎ IsAmong c (claims (made_by t 0 (acts bound items d w t)))
-      split c x = among_made w.history (made_by t 0 (acts bound items d w t)) c x
+      split : (c : Claim) → IsAmong c (claims (w.history ++ made_by t 0 (acts_at bound items d w t))) → IsAmong c (claims w.history) ⊎ IsAmong c (claims (made_by t 0 (acts_at bound items d w t)))
+      split c x = among_made w.history (made_by t 0 (acts_at bound items d w t)) c x
 
       before : (c : Claim) → IsAmong c (claims w.history) → instant_lt c.made t ≡ true
-      before c x = later_than w t w.last refl n c (s.past c x)
+      before c x = later_than w t w.last refl n c (s.made c x)
 
-      past_at : (c : Claim) → IsAmong c (claims w.history) ⊎ IsAmong c (claims (made_by t 0 (acts bound items d w t))) → instant_le c.made t ≡ true
+      past_at : (c : Claim) → IsAmong c (claims w.history) ⊎ IsAmong c (claims (made_by t 0 (acts_at bound items d w t))) → instant_le c.made t ≡ true
       past_at c (inl x) = instant_le-lt c.made t (before c x)
-      past_at c (inr x) = let f = from_frame t 0 (acts bound items d w t) c x in ap (λ m. instant_le m t) f.when ∙ le_self t
+      past_at c (inr x) = let f = from_frame t 0 (acts_at bound items d w t) c x in ap (λ m. instant_le m t) f.when ∙ le_self t
 
-      apart : (c e : Claim) → IsAmong c (claims w.history) → IsAmong e (claims (made_by t 0 (acts bound items d w t))) → c.made ≡ e.made → ⊥
-      apart c e x y m = let f = from_frame t 0 (acts bound items d w t) e y in lt_self t (ap (λ u. instant_lt u t) (sym (m ∙ f.when)) ∙ before c x)
+      apart : (c e : Claim) → IsAmong c (claims w.history) → IsAmong e (claims (made_by t 0 (acts_at bound items d w t))) → c.made ≡ e.made → ⊥
+      apart c e x y m = let f = from_frame t 0 (acts_at bound items d w t) e y in lt_self t (ap (λ u. instant_lt u t) (sym (m ∙ f.when)) ∙ before c x)
 
-      at : (c e : Claim) → IsAmong c (claims w.history) ⊎ IsAmong c (claims (made_by t 0 (acts bound items d w t))) → IsAmong e (claims w.history) ⊎ IsAmong e (claims (made_by t 0 (acts bound items d w t)))
+      at : (c e : Claim) → IsAmong c (claims w.history) ⊎ IsAmong c (claims (made_by t 0 (acts_at bound items d w t))) → IsAmong e (claims w.history) ⊎ IsAmong e (claims (made_by t 0 (acts_at bound items d w t)))
           → c.bit ≡ e.bit → MadeTogether c e → claim_cmp c e ≡ Equal → c.value ≡ e.value
-      at c e (inl x) (inl y) b l z = s.one c e x y b z
+      at c e (inl x) (inl y) b l z = s.one_each c e x y b z
       at c e (inl x) (inr y) b l z = absurd (apart c e x y l.made)
       at c e (inr x) (inl y) b l z = absurd (apart e c y x (sym l.made))
       at c e (inr x) (inr y) b l z =
-          one_in_frame t 0 (acts bound items d w t) c e (all_in_order (rules_of bound items) items w.last (bits_of w) (bits_at w.history w.init t) t d.instances w.states) x y b l.due l.instance
+          one_in_frame t 0 (acts_at bound items d w t) c e (all_in_order (rules_of bound items) items w.last (bits_of w) (bits_at w.history w.init t) t d.instances w.states) x y b l.due l.instance
 
-  reached_sound : (w : World) → Reached bound items d w → Sound w
-  reached_sound _ at_first = record { one = λ c e x y b l. absurd x; past = λ c x. absurd x }
-  reached_sound _ (after_frame w t r n) = next_sound w t (reached_sound w r) n
+  reached_sound : (from w : World) → HistoryIsSound from → ReachedFrom bound items d from w → HistoryIsSound w
+  reached_sound from _ s at_start = s
+  reached_sound from _ s (after_frame w t r n) = next_sound w t (reached_sound from w s r) n
 
-pub history_is_map : HistoryIsMap
-history_is_map bound items d w r = (reached_sound bound items d w r).one
+pub first_history_is_sound : FirstHistoryIsSound
+first_history_is_sound items d = record { one_each = λ c e x y b l. absurd x; made = λ c x. absurd x }
+
+pub history_stays_sound : HistoryStaysSound
+history_stays_sound bound items d from w s r = reached_sound bound items d from w s r

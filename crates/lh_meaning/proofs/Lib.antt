@@ -20,12 +20,17 @@ pub mod BitSets
 pub mod Standing
 pub mod CombLaw
 pub mod EdgeLaw
+pub mod OnceLaw
 pub mod MayStandLaw
 pub mod Buffer
 pub mod SampleParts
 pub mod FlipFlop
+pub mod Once
 pub mod DefinedLaw
 pub mod ProbesLaw
 pub mod Labelled
 pub mod Routes
 pub mod FirstFaultFound
+pub mod PathsLaw
+pub mod LaterLaw
+pub mod WokenLaw

@@ -8,9 +8,10 @@ use Rattle.lh_unit.specs.Hierarchy.{Instance, SignalText, Child, Hierarchy, line
 use Rattle.lh_unit.specs.World.{Rules}
 use Rattle.lh_meaning.specs.Replacing.{HasWidths, MayStand}
 use Rattle.lh_meaning.proofs.Simulation.{Simulation, same_answers}
-use Rattle.lh_meaning.proofs.Standing.{CombFor, EdgeFor}
+use Rattle.lh_meaning.proofs.Standing.{CombFor, EdgeFor, OnceFor}
 use Rattle.lh_meaning.proofs.CombLaw.{comb_simulation}
 use Rattle.lh_meaning.proofs.EdgeLaw.{edge_simulation}
+use Rattle.lh_meaning.proofs.OnceLaw.{once_simulation}
 
 -- neither `sig` nor `inst`
 abbrev pub is_plain : InstText → Bool
@@ -101,3 +102,7 @@ comb_may_stand r x y n p e g a c = may_stand r x y n p e g a (λ i w. comb_simul
 pub edge_may_stand : (r : Rules) (x y : UnitText) → x.name ≡ y.name → x.kind ≡ kind.Proc → y.kind ≡ kind.Entity → x.args ≡ y.args → AllPlain (lines_of y.blocks)
     → ((i : Instance) → HasWidths (hierarchy_of x) i → EdgeFor r x y i) → MayStand r x y
 edge_may_stand r x y n p e g a c = may_stand r x y n p e g a (λ i w. edge_simulation r x y i (c i w))
+
+pub once_may_stand : (r : Rules) (x y : UnitText) → x.name ≡ y.name → x.kind ≡ kind.Proc → y.kind ≡ kind.Entity → x.args ≡ y.args → AllPlain (lines_of y.blocks)
+    → ((i : Instance) → HasWidths (hierarchy_of x) i → OnceFor r x y i) → MayStand r x y
+once_may_stand r x y n p e g a c = may_stand r x y n p e g a (λ i w. once_simulation r x y i (c i w))

@@ -11,7 +11,7 @@ use Rattle.lh_unit.specs.Hierarchy.{Instance, Hierarchy, hierarchy_by, hierarchy
 use Rattle.lh_unit.specs.Design.{Elaborated, refused, built, hierarchy_or, hierarchy_in, elab_of}
 use Rattle.lh_unit.specs.World.{State, start_by, start, wake_of, Rules, rules_of, unit_of, starts, first_world}
 use Rattle.lh_unit.specs.Trace.{ran, shown_from, shown_signal, trace_by}
-use Rattle.lh_meaning.specs.Replacing.{Seen, answers, HasWidths, MayStand, Replaced, ReplacedSameTrace}
+use Rattle.lh_meaning.specs.Replacing.{Seen, answers, HasWidths, MayStand, AllStand, units_defined, Replaced, ReplacedSameTrace}
 use Rattle.lh_meaning.proofs.Simulation.{Alike}
 use Rattle.lh_meaning.proofs.Worlds.{Related, same_run}
 use Rattle.lh_meaning.proofs.Widths.{AllWidths, BuiltWidths, elab_widths}
@@ -27,7 +27,7 @@ stands_hierarchy : (r : Rules) (x y : UnitText) → Stands r x y → hierarchy_o
 stands_hierarchy r x y (inl e) = ap hierarchy_of e
 stands_hierarchy r x y (inr s) = s.hierarchy
 
--- the functions are the same
+-- what is no function adds none
 no_function : (u : UnitText) (us : List UnitText) → (hierarchy_of u).function ≡ false → (if is_function u.kind then u ∷ us else us) ≡ us
 no_function u us h = at u.kind h
   where
@@ -40,50 +40,67 @@ same_if_function : (r : Rules) (x y : UnitText) (us : List UnitText) → Stands 
 same_if_function r x y us (inl e) = ap (λ (u : UnitText). if is_function u.kind then u ∷ us else us) e
 same_if_function r x y us (inr s) = no_function x us s.no_function ∙ sym (no_function y us (sym (ap (λ (h : Hierarchy). h.function) s.hierarchy) ∙ s.no_function))
 
+-- Nothing that a trace looks at reads a declaration.
+-- a module of these units alone
+abbrev only : List UnitText → List ItemText
+only us = map unit_text us
+
+functions_only : (m : List ItemText) → functions m ≡ functions (only (units_defined m))
+functions_only [] = refl
+functions_only (unit_text u ∷ more) = ap (λ us. if is_function u.kind then u ∷ us else us) (functions_only more)
+functions_only (declare_text d ∷ more) = functions_only more
+
+hierarchies_only : (m : List ItemText) → hierarchies m ≡ hierarchies (only (units_defined m))
+hierarchies_only [] = refl
+hierarchies_only (unit_text u ∷ more) = ap (λ es. record { name = u.name; hierarchy = hierarchy_of u } ∷ es) (hierarchies_only more)
+hierarchies_only (declare_text d ∷ more) = hierarchies_only more
+
+unit_only : (n : UnitName) (m : List ItemText) → unit_named n m ≡ unit_named n (only (units_defined m))
+unit_only n [] = refl
+unit_only n (unit_text u ∷ more) = ap (λ o. if same_unit_name u.name n then Some u else o) (unit_only n more)
+unit_only n (declare_text d ∷ more) = unit_only n more
+
+-- the functions are the same
+functions_stand : (r : Rules) (xs ys : List UnitText) → AllStand r xs ys → functions (only xs) ≡ functions (only ys)
+functions_stand r [] [] h = refl
+functions_stand r (x ∷ xs) (y ∷ ys) h = ap (λ us. if is_function x.kind then x ∷ us else us) (functions_stand r xs ys h.1) ∙ same_if_function r x y (functions (only ys)) h.0
+functions_stand r [] (y ∷ ys) h = absurd h
+functions_stand r (x ∷ xs) [] h = absurd h
+
 same_functions : (r : Rules) (m m' : List ItemText) → Replaced r m m' → functions m ≡ functions m'
-same_functions r [] [] h = refl
-same_functions r (unit_text x ∷ xs) (unit_text y ∷ ys) h =
-    ap (λ us. if is_function x.kind then x ∷ us else us) (same_functions r xs ys h.1) ∙ same_if_function r x y (functions ys) h.0
-same_functions r (declare_text d ∷ xs) (declare_text e ∷ ys) h = same_functions r xs ys h
-same_functions r [] (y ∷ ys) h = absurd h
-same_functions r (unit_text x ∷ xs) [] h = absurd h
-same_functions r (declare_text d ∷ xs) [] h = absurd h
-same_functions r (unit_text x ∷ xs) (declare_text e ∷ ys) h = absurd h
-same_functions r (declare_text d ∷ xs) (unit_text y ∷ ys) h = absurd h
+same_functions r m m' h = functions_only m ∙ functions_stand r (units_defined m) (units_defined m') h ∙ sym (functions_only m')
 
 -- and so is what elaboration reads
-same_hierarchies : (r : Rules) (m m' : List ItemText) → Replaced r m m' → hierarchies m ≡ hierarchies m'
-same_hierarchies r [] [] h = refl
-same_hierarchies r (unit_text x ∷ xs) (unit_text y ∷ ys) h =
+hierarchies_stand : (r : Rules) (xs ys : List UnitText) → AllStand r xs ys → hierarchies (only xs) ≡ hierarchies (only ys)
+hierarchies_stand r [] [] h = refl
+hierarchies_stand r (x ∷ xs) (y ∷ ys) h =
     let n : x.name ≡ y.name = stands_name r x y h.0 in
     let e : hierarchy_of x ≡ hierarchy_of y = stands_hierarchy r x y h.0 in
-    let ih : hierarchies xs ≡ hierarchies ys = same_hierarchies r xs ys h.1 in
+    let ih : hierarchies (only xs) ≡ hierarchies (only ys) = hierarchies_stand r xs ys h.1 in
     cc
-same_hierarchies r (declare_text d ∷ xs) (declare_text e ∷ ys) h = same_hierarchies r xs ys h
-same_hierarchies r [] (y ∷ ys) h = absurd h
-same_hierarchies r (unit_text x ∷ xs) [] h = absurd h
-same_hierarchies r (declare_text d ∷ xs) [] h = absurd h
-same_hierarchies r (unit_text x ∷ xs) (declare_text e ∷ ys) h = absurd h
-same_hierarchies r (declare_text d ∷ xs) (unit_text y ∷ ys) h = absurd h
+hierarchies_stand r [] (y ∷ ys) h = absurd h
+hierarchies_stand r (x ∷ xs) [] h = absurd h
+
+same_hierarchies : (r : Rules) (m m' : List ItemText) → Replaced r m m' → hierarchies m ≡ hierarchies m'
+same_hierarchies r m m' h = hierarchies_only m ∙ hierarchies_stand r (units_defined m) (units_defined m') h ∙ sym (hierarchies_only m')
 
 -- units of one name stand for each other
-units_stand : (r : Rules) (n : UnitName) (m m' : List ItemText) → Replaced r m m' → Stands r (unit_of m n) (unit_of m' n)
-units_stand r n [] [] h = inl refl
-units_stand r n (unit_text x ∷ xs) (unit_text y ∷ ys) h =
-    at (same_unit_name x.name n) (same_unit_name y.name n) (ap (λ k. same_unit_name k n) (stands_name r x y h.0)) (units_stand r n xs ys h.1)
+named_stand : (r : Rules) (n : UnitName) (xs ys : List UnitText) → AllStand r xs ys → Stands r (unit_of (only xs) n) (unit_of (only ys) n)
+named_stand r n [] [] h = inl refl
+named_stand r n (x ∷ xs) (y ∷ ys) h =
+    at (same_unit_name x.name n) (same_unit_name y.name n) (ap (λ k. same_unit_name k n) (stands_name r x y h.0)) (named_stand r n xs ys h.1)
   where
-    at : (b c : Bool) → b ≡ c → Stands r (unit_of xs n) (unit_of ys n)
-        → Stands r (unwrap_or (if b then Some x else unit_named n xs) (new_unit n kind.Entity)) (unwrap_or (if c then Some y else unit_named n ys) (new_unit n kind.Entity))
+    at : (b c : Bool) → b ≡ c → Stands r (unit_of (only xs) n) (unit_of (only ys) n)
+        → Stands r (unwrap_or (if b then Some x else unit_named n (only xs)) (new_unit n kind.Entity)) (unwrap_or (if c then Some y else unit_named n (only ys)) (new_unit n kind.Entity))
     at true true e ih = h.0
     at false false e ih = ih
     at true false e ih = cc
     at false true e ih = cc
-units_stand r n (declare_text d ∷ xs) (declare_text e ∷ ys) h = units_stand r n xs ys h
-units_stand r n [] (y ∷ ys) h = absurd h
-units_stand r n (unit_text x ∷ xs) [] h = absurd h
-units_stand r n (declare_text d ∷ xs) [] h = absurd h
-units_stand r n (unit_text x ∷ xs) (declare_text e ∷ ys) h = absurd h
-units_stand r n (declare_text d ∷ xs) (unit_text y ∷ ys) h = absurd h
+named_stand r n [] (y ∷ ys) h = absurd h
+named_stand r n (x ∷ xs) [] h = absurd h
+
+units_stand : (r : Rules) (n : UnitName) (m m' : List ItemText) → Replaced r m m' → Stands r (unit_of m n) (unit_of m' n)
+units_stand r n m m' h = rw (unit_only n m, unit_only n m') (named_stand r n (units_defined m) (units_defined m') h)
 
 -- what elaboration reads of a unit is that of the unit of this name
 hierarchy_of-unit : (n : UnitName) (m : List ItemText) → hierarchy_of (unit_of m n) ≡ hierarchy_in (hierarchies m) n

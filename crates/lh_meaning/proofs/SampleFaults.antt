@@ -237,3 +237,24 @@ pub phi_of_none : local_numbers (process (codes "p") [] (
     ∷ block (codes "next") (line (codes "b") (phi_text bit (record { value = codes "a"; block = codes "next" } ∷ [])) ∷ bare halt_text ∷ []) ∷ []) ∷ [])
     ≡ [] ∷ [] ∷ (6 ∷ []) ∷ [] ∷ []
 phi_of_none = refl
+
+-- A value has the type that its own line writes, also where its row takes no such type: the use as a signal has no fault, the line that gives it has one.
+pub call_of_a_signal : local_numbers (faulty (
+    line (codes "c") (const_text (int_value 1 1))
+    ∷ line (codes "b") (prb_text (typed bit_signal (codes "x")))
+    ∷ line (codes "x") (call_text (global (codes "llhd.assert")) bit_signal (typed bit (codes "c") ∷ [])) ∷ []))
+    ≡ [] ∷ [] ∷ (3 ∷ []) ∷ [] ∷ [] ∷ []
+call_of_a_signal = refl
+
+pub phi_of_a_signal : local_numbers (process (codes "p") [] (
+    block (codes "entry") (line (codes "a") (const_text (int_value 1 1)) ∷ line (codes "b") (prb_text (typed bit_signal (codes "x"))) ∷ bare (br_text (codes "next")) ∷ [])
+    ∷ block (codes "next") (line (codes "x") (phi_text bit_signal (record { value = codes "a"; block = codes "entry" } ∷ [])) ∷ bare halt_text ∷ []) ∷ []) ∷ [])
+    ≡ [] ∷ [] ∷ [] ∷ (3 ∷ []) ∷ [] ∷ []
+phi_of_a_signal = refl
+
+-- and a use of it as data is of the wrong kind
+pub phi_of_a_signal_as_data : local_numbers (process (codes "p") [] (
+    block (codes "entry") (line (codes "a") (const_text (int_value 1 1)) ∷ line (codes "b") (sum (codes "x") (codes "a")) ∷ bare (br_text (codes "next")) ∷ [])
+    ∷ block (codes "next") (line (codes "x") (phi_text bit_signal (record { value = codes "a"; block = codes "entry" } ∷ [])) ∷ bare halt_text ∷ []) ∷ []) ∷ [])
+    ≡ [] ∷ (2 ∷ 3 ∷ []) ∷ [] ∷ (3 ∷ []) ∷ [] ∷ []
+phi_of_a_signal_as_data = refl

@@ -14,7 +14,7 @@ use Rattle.lh_unit.specs.Contents.{OperandText, const_text, pure_text, sig_text,
 use Rattle.lh_unit.specs.Activation.{activate}
 use Rattle.lh_unit.specs.Pass.{pass, probes}
 use Rattle.lh_unit.specs.Design.{visit, design_of, refusal_of}
-use Rattle.lh_unit.specs.World.{acts}
+use Rattle.lh_unit.specs.World.{acts_at}
 use Rattle.lh_unit.specs.Trace.{Frame, End, quiet, steps, Run, Shown, ShownSignal, ran, trace}
 use Rattle.lh_meaning.proofs.Samples.{global, line, bare, typed, bit, bit_signal, byte_signal, input, output, entity, process, block, delay}
 
@@ -59,7 +59,7 @@ byte_of n = int_value 8 n ∷ []
 
 pub swapping_trace : trace swapping (global (codes "p")) 6 ≡ ran (top (codes "p")) (signal (codes "q") byte ∷ []) (ended steps (
     frame 0 0 (byte_of 0) ∷ frame 0 1 (byte_of 1) ∷ frame 1000000 0 (byte_of 1) ∷ frame 1000000 1 (byte_of 2) ∷ frame 2000000 0 (byte_of 2) ∷ frame 2000000 1 (byte_of 1) ∷ []))
-unfolding activate pass probes visit design_of refusal_of bits_at acts
+unfolding activate pass probes visit design_of refusal_of bits_at acts_at
 swapping_trace = refl
 
 -- A call with a result; the caller keeps its own values.
@@ -89,7 +89,7 @@ calling =
     ∷ []
 
 pub calling_trace : trace calling (global (codes "p")) 6 ≡ ran (top (codes "p")) (signal (codes "q") byte ∷ []) (ended quiet (frame 0 0 (byte_of 0) ∷ frame 0 1 (byte_of 14) ∷ []))
-unfolding activate pass probes visit design_of refusal_of bits_at acts apply integer_row row_width
+unfolding activate pass probes visit design_of refusal_of bits_at acts_at apply integer_row row_width
 calling_trace = refl
 
 -- A field of a struct of signals is driven and handed to an instance, which drives some bits of it later.
@@ -123,7 +123,7 @@ pair_of n b = tuple_value (data_row (int_value 4 n ∷ int_value 8 b ∷ [])) �
 -- bits 2 to 4 of the byte become 0, 1, 0
 pub parts_trace : trace parts (global (codes "t")) 6 ≡
     ran (record { label = codes "t"; parent = None } ∷ record { label = codes "u_1"; parent = Some 0 } ∷ []) (signal (codes "s") pair ∷ []) (ended quiet (frame 0 0 (pair_of 5 255) ∷ frame 5 0 (pair_of 5 235) ∷ []))
-unfolding activate pass probes visit design_of refusal_of bits_at acts apply integer_row row_width digits
+unfolding activate pass probes visit design_of refusal_of bits_at acts_at apply integer_row row_width digits
 parts_trace = refl
 
 -- A register with three triggers: the first that fires drives, and its gate counts. Both edges of a clock that is driven by the entity itself.
@@ -151,5 +151,5 @@ at_clock c q = int_value 1 c ∷ int_value 8 q ∷ []
 
 pub clocked_trace : trace clocked (global (codes "t")) 6 ≡ ran (top (codes "t")) (signal (codes "c") bit ∷ signal (codes "q") byte ∷ []) (ended steps (
     frame 0 0 (at_clock 0 0) ∷ frame 0 1 (at_clock 0 1) ∷ frame 5 0 (at_clock 1 1) ∷ frame 5 1 (at_clock 1 2) ∷ frame 10 0 (at_clock 0 2) ∷ frame 10 1 (at_clock 0 1) ∷ []))
-unfolding activate pass probes visit design_of refusal_of bits_at acts apply integer_row row_width
+unfolding activate pass probes visit design_of refusal_of bits_at acts_at apply integer_row row_width
 clocked_trace = refl

@@ -10,7 +10,7 @@ use Rattle.lh_types.specs.History.{bits_at}
 use Rattle.lh_unit.specs.Activation.{activate}
 use Rattle.lh_unit.specs.Pass.{pass, probes}
 use Rattle.lh_unit.specs.Design.{visit, design_of, refusal_of}
-use Rattle.lh_unit.specs.World.{acts}
+use Rattle.lh_unit.specs.World.{acts_at}
 use Rattle.lh_unit.specs.Trace.{Frame, End, quiet, steps, runaway, Run, Shown, ShownSignal, ran, trace}
 use Rattle.lh_unit.specs.declared.inst.Mode.TheVariants.{Rise, High}
 use Rattle.lh_meaning.proofs.Samples.{global, one_drive, two_drivers, high_from_start, rises_later, waits_for, zero_delay, failing, endless, five_delays}
@@ -32,12 +32,12 @@ pub one_drive_whole : trace one_drive (global (codes "t")) 9 ≡
           ∷ [];
       end = quiet;
     })
-unfolding activate pass probes visit design_of refusal_of bits_at acts
+unfolding activate pass probes visit design_of refusal_of bits_at acts_at
 one_drive_whole = refl
 
 pub one_drive_first : trace one_drive (global (codes "t")) 1 ≡
     ran top_only one_bit (record { frames = record { at = instant 0 0 0; values = int_value 1 0 ∷ []; outcomes = [] } ∷ []; end = steps })
-unfolding activate pass probes visit design_of refusal_of bits_at acts
+unfolding activate pass probes visit design_of refusal_of bits_at acts_at
 one_drive_first = refl
 
 -- a frame with these bits as values and no outcome
@@ -54,7 +54,7 @@ signal_of n width = record { instance = 0; name = n; ty = int_type width }
 pub two_drivers_trace : trace two_drivers (global (codes "t")) 9 ≡
     ran (record { label = codes "t"; parent = None } ∷ record { label = codes "r_1"; parent = Some 0 } ∷ record { label = codes "p_2"; parent = Some 0 } ∷ [])
     (signal_of (codes "s") 8 ∷ []) (ended quiet (frame 0 0 0 8 (0 ∷ []) ∷ frame 1000000 0 0 8 (1 ∷ []) ∷ []))
-unfolding activate pass probes visit design_of refusal_of bits_at acts digits
+unfolding activate pass probes visit design_of refusal_of bits_at acts_at digits
 two_drivers_trace = refl
 
 abbrev c_and_q : List ShownSignal
@@ -62,29 +62,29 @@ c_and_q = signal_of (codes "c") 1 ∷ signal_of (codes "q") 1 ∷ []
 
 -- a register does not fire on its first run, where it looks for an edge
 pub first_run_rests : trace (high_from_start Rise) (global (codes "t")) 9 ≡ ran top_only c_and_q (ended quiet (frame 0 0 0 1 (1 ∷ 0 ∷ []) ∷ []))
-unfolding activate pass probes visit design_of refusal_of bits_at acts
+unfolding activate pass probes visit design_of refusal_of bits_at acts_at
 first_run_rests = refl
 
 pub first_run_high : trace (high_from_start High) (global (codes "t")) 9 ≡
     ran top_only c_and_q (ended quiet (frame 0 0 0 1 (1 ∷ 0 ∷ []) ∷ frame 0 1 0 1 (1 ∷ 1 ∷ []) ∷ []))
-unfolding activate pass probes visit design_of refusal_of bits_at acts
+unfolding activate pass probes visit design_of refusal_of bits_at acts_at
 first_run_high = refl
 
 pub edge_fires : trace rises_later (global (codes "t")) 9 ≡
     ran top_only c_and_q (ended quiet (frame 0 0 0 1 (0 ∷ 0 ∷ []) ∷ frame 1000000 0 0 1 (1 ∷ 0 ∷ []) ∷ frame 1000000 1 0 1 (1 ∷ 1 ∷ []) ∷ frame 2000000 0 0 1 (1 ∷ 1 ∷ []) ∷ []))
-unfolding activate pass probes visit design_of refusal_of bits_at acts
+unfolding activate pass probes visit design_of refusal_of bits_at acts_at
 edge_fires = refl
 
 pub waits_for_trace : trace waits_for (global (codes "p")) 9 ≡
     ran (record { label = codes "p"; parent = None } ∷ []) (signal_of (codes "q") 1 ∷ [])
     (ended quiet (frame 0 0 0 1 (0 ∷ []) ∷ frame 1000000 0 0 1 (0 ∷ []) ∷ frame 2000000 0 0 1 (1 ∷ []) ∷ []))
-unfolding activate pass probes visit design_of refusal_of bits_at acts
+unfolding activate pass probes visit design_of refusal_of bits_at acts_at
 waits_for_trace = refl
 
 -- a zero delay makes a delta cycle
 pub zero_delay_trace : trace zero_delay (global (codes "t")) 9 ≡
     ran top_only one_bit (ended quiet (frame 0 0 0 1 (0 ∷ []) ∷ frame 0 1 0 1 (1 ∷ []) ∷ []))
-unfolding activate pass probes visit design_of refusal_of bits_at acts
+unfolding activate pass probes visit design_of refusal_of bits_at acts_at
 zero_delay_trace = refl
 
 abbrev p_only : List Shown
@@ -92,12 +92,12 @@ p_only = record { label = codes "p"; parent = None } ∷ []
 
 pub failing_trace : trace failing (global (codes "p")) 3 ≡
     ran p_only [] (ended quiet (record { at = instant 0 0 0; values = []; outcomes = record { instance = 0; passed = false } ∷ [] } ∷ []))
-unfolding activate pass probes visit design_of refusal_of bits_at acts
+unfolding activate pass probes visit design_of refusal_of bits_at acts_at
 failing_trace = refl
 
 -- the call after 256 open ones has no step
 pub endless_trace : trace endless (global (codes "p")) 3 ≡ ran p_only [] (ended (runaway 0) (frame 0 0 0 1 [] ∷ []))
-unfolding activate pass probes visit design_of refusal_of bits_at acts
+unfolding activate pass probes visit design_of refusal_of bits_at acts_at
 endless_trace = refl
 
 abbrev due : ℕ → ℕ → ℕ → ℕ → DueBit × Bool

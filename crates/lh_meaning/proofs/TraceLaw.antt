@@ -4,7 +4,7 @@ use Rattle.lh_time.specs.declared.Instant.{Instant}
 use Rattle.lh_types.specs.History.{bits_at}
 use Rattle.lh_unit.specs.Contents.{ItemText}
 use Rattle.lh_unit.specs.Design.{Design, Elaborated, refused, built, elab}
-use Rattle.lh_unit.specs.World.{World, acts, first_world, world_after, next_instant}
+use Rattle.lh_unit.specs.World.{World, acts_at, first_world, world_after, next_instant}
 use Rattle.lh_unit.specs.Trace.{Frame, steps, Run, least_runaway, frame_of, before, goes_on, at_bound, run_at, run_from, trace_by, trace_within}
 use Rattle.lh_meaning.specs.Frames.{HasOneMore, TraceHasOneMore, TraceIsPrefix, frame_count, TraceIsWithin, BitsStay, EqualSameTrace, SameTraceTurns, SameTraceLinks}
 use Rattle.lh_meaning.proofs.Worlds.{bits_stay}
@@ -22,11 +22,11 @@ one_more_first f None (Some t) = inr (refl, (f, refl))
 module _ (bound : ℕ) (items : List ItemText) (d : Design) where
   one_more_at : (w : World) (o : Option Instant) (more more' : World → Run) → ((v : World) → HasOneMore (more v) (more' v)) → HasOneMore (run_at bound items d w o more) (run_at bound items d w o more')
   one_more_at w None more more' h = inl refl
-  one_more_at w (Some t) more more' h = one_more_before _ (least_runaway 0 (acts bound items d w t)) _ _ (h (world_after w t (acts bound items d w t)))
+  one_more_at w (Some t) more more' h = one_more_before _ (least_runaway 0 (acts_at bound items d w t)) _ _ (h (world_after w t (acts_at bound items d w t)))
 
   first_at : (w : World) (o : Option Instant) → HasOneMore (at_bound o) (run_at bound items d w o (run_from bound items d zero))
   first_at w None = inl refl
-  first_at w (Some t) = one_more_first _ (least_runaway 0 (acts bound items d w t)) (next_instant (world_after w t (acts bound items d w t)))
+  first_at w (Some t) = one_more_first _ (least_runaway 0 (acts_at bound items d w t)) (next_instant (world_after w t (acts_at bound items d w t)))
 
   one_more : (n : ℕ) (w : World) → HasOneMore (run_from bound items d n w) (run_from bound items d (suc n) w)
   one_more zero w = first_at w (next_instant w)
@@ -34,10 +34,10 @@ module _ (bound : ℕ) (items : List ItemText) (d : Design) where
 
   within_at : (n : ℕ) (w : World) (o : Option Instant) (more : World → Run) → ((v : World) → length (more v).frames ≤ n) → length (run_at bound items d w o more).frames ≤ suc n
   within_at n w None more h = omega arith
-  within_at n w (Some t) more h = at (least_runaway 0 (acts bound items d w t)) (h (world_after w t (acts bound items d w t)))
+  within_at n w (Some t) more h = at (least_runaway 0 (acts_at bound items d w t)) (h (world_after w t (acts_at bound items d w t)))
     where
-      at : (o : Option ℕ) → length (more (world_after w t (acts bound items d w t))).frames ≤ n
-          → length (goes_on (frame_of d.signals t (bits_at w.history w.init t) (acts bound items d w t)) o (more (world_after w t (acts bound items d w t)))).frames ≤ suc n
+      at : (o : Option ℕ) → length (more (world_after w t (acts_at bound items d w t))).frames ≤ n
+          → length (goes_on (frame_of d.signals t (bits_at w.history w.init t) (acts_at bound items d w t)) o (more (world_after w t (acts_at bound items d w t)))).frames ≤ suc n
       at (Some i) k = omega arith
       at None k = omega (arith, k)
 

@@ -13,10 +13,10 @@ use Rattle.lh_unit.specs.Contents.{OperandText, TriggerText, InstText, const_tex
 use Rattle.lh_unit.specs.Named.{is_assert, function_named}
 use Rattle.lh_unit.specs.Held.{Held, Env, datum_at, data_at, delay_at, part_at}
 use Rattle.lh_unit.specs.Effects.{condition_at, drive_due, drive_when, driven}
-use Rattle.lh_unit.specs.Activation.{Scene, Stand, ProcessState, Control, Caller, Point, Activated, Next, goes, ends, no_step, max_calls, gives, jumps, wishes, tells, stores, opens, returns_value, returns_nothing, ends_at, executes, asserted, called, steps_by, step, control_at, start_point, went, run, activate}
+use Rattle.lh_unit.specs.Activation.{Scene, Stand, ProcessState, Control, Caller, Point, Activated, Next, goes, ends, no_step, max_calls, gives, jumps, wishes, tells, stores, opens, goes_back, returns, ends_at, executes, asserted, called, steps_by, step, control_at, start_point, went, run, activate}
 use Rattle.lh_unit.specs.Hierarchy.{Instance, lines_of, parts_of}
 use Rattle.lh_unit.specs.Pass.{Passed, fires, stored, delay_of, triggers_from, passes, pass_from, pass}
-use Rattle.lh_unit.specs.World.{State, of_process, of_entity, act, act_if, acts_by, woken, Rules}
+use Rattle.lh_unit.specs.World.{State, of_process, of_entity, act, act_if_woken, process_act, woken, Rules}
 use Rattle.lh_meaning.proofs.Instants.{due_later}
 
 -- a property of wishes that holds of none, and is kept by each bit that is due after t
@@ -87,14 +87,13 @@ module _ (t : Instant) (q : WishProperty t) where
         at true = a
         at false = tt
 
-    returns_nothing_keeps : (cs : List Caller) → NextHolds (returns_nothing p cs)
-    returns_nothing_keeps [] = tt
-    returns_nothing_keeps (c ∷ more) = a
+    goes_back_keeps : (c : Caller) (more : List Caller) (o : Option Env) → NextHolds (goes_back p c more o)
+    goes_back_keeps c more None = tt
+    goes_back_keeps c more (Some e) = a
 
-    returns_value_keeps : (o : Option Datum) (cs : List Caller) → NextHolds (returns_value p o cs)
-    returns_value_keeps None cs = tt
-    returns_value_keeps (Some v) [] = tt
-    returns_value_keeps (Some v) (c ∷ more) = a
+    returns_keeps : (o : Option OperandText) (cs : List Caller) → NextHolds (returns p o cs)
+    returns_keeps o [] = tt
+    returns_keeps o (c ∷ more) = goes_back_keeps c more _
 
     ends_keeps : (cs : List Caller) (o : Option Stand) → NextHolds (ends_at p cs o)
     ends_keeps [] (Some stand) = a
@@ -119,8 +118,7 @@ module _ (t : Instant) (q : WishProperty t) where
   executes_keeps fs now (branch_text c first second) result p a = jumps_keeps p a _
   executes_keeps fs now (wait_text to after signals) result p a = ends_keeps p a p.callers _
   executes_keeps fs now halt_text result p a = ends_keeps p a p.callers _
-  executes_keeps fs now (ret_text None) result p a = returns_nothing_keeps p a p.callers
-  executes_keeps fs now (ret_text (Some x)) result p a = returns_value_keeps p a _ p.callers
+  executes_keeps fs now (ret_text o) result p a = returns_keeps p a o p.callers
   executes_keeps fs now (sig_text x) result p a = tt
   executes_keeps fs now (reg_text to triggers) result p a = tt
   executes_keeps fs now (child_text u inputs outputs) result p a = tt
@@ -189,14 +187,14 @@ module _ (t : Instant) (q : WishProperty t) where
   unfolding pass
   pass_keeps u args sigs now memory = pass_from_keeps u now memory (lines_of u.blocks) (record { held = parts_of u args sigs; seen = []; wish = no_wish }) q.nothing
 
-  acts_by_keeps : (p : ProcessState) (o : Option Activated) → IfSome o (λ d. q.holds d.wish) → q.holds (acts_by p o).wish
+  acts_by_keeps : (p : ProcessState) (o : Option Activated) → IfSome o (λ d. q.holds d.wish) → q.holds (process_act p o).wish
   acts_by_keeps p None h = q.nothing
   acts_by_keeps p (Some d) h = h
 
   pub act_keeps : (r : Rules) (last : Option Instant) (old now : List Bool) (u : UnitText) (i : Instance) (state : State) → q.holds (act r last old now t u i state).wish
   act_keeps r last old now u i state = at (woken last old now t u i state) state
     where
-      at : (b : Bool) (state : State) → q.holds (act_if b r now t u i state).wish
+      at : (b : Bool) (state : State) → q.holds (act_if_woken b r now t u i state).wish
       at true (of_process p) = acts_by_keeps p (activate r.bound (scene r.functions now) u p) (activate_keeps r.bound r.functions now u p)
       at true (of_entity memory) = pass_keeps u i.args i.sigs now memory
       at false state = q.nothing

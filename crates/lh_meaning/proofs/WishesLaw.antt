@@ -2,61 +2,14 @@
 use Rattle.std.proofs.Common.{◌≡◌, ℕ, ◌+◌, List, [], ◌∷◌, length, Bool, true, false, if◌then◌else◌, refl, ap, sym, ◌∙◌, Option, Some, None, arith, ◌||◌}
 use Rattle.std.specs.declared.cmp.Ordering.{Ordering}
 use Rattle.std.specs.declared.cmp.Ordering.TheVariants.{Less, Equal, Greater}
-use Rattle.std.specs.Ordering.{is_eq, ordering_reverse, nat_cmp, match_ordering}
+use Rattle.std.specs.Ordering.{is_eq, match_ordering}
 use Rattle.std.specs.BTreeMap.{insert_entry}
-use Rattle.std.specs.Cmp.{IsTotalOrder, Equal-is}
-use Rattle.std.proofs.lemmas.Cmp.{then_total, on_total, nat_cmp_total, tied_itself}
+use Rattle.std.specs.Cmp.{Equal-is}
 use Rattle.std.proofs.lemmas.Option.{same_Some}
 use Rattle.lh_time.specs.declared.Instant.{Instant}
-use Rattle.lh_time.specs.Order.{instant_cmp}
-use Rattle.lh_types.specs.Wish.{DueBit, due_bit_cmp, Wish, with_bit, with_bits}
+use Rattle.lh_types.specs.Wish.{DueBit, due_bit, due_bit_cmp, Wish, with_bit, with_bits}
 use Rattle.lh_meaning.specs.Wishes.{look, IsBelow, IsInOrder, WishExt, LaterDriveReplaces}
-use Rattle.lh_time.proofs.OrderLemmas.{instant_cmp_total}
-use Rattle.lh_history.proofs.Orders.{then_equal, nat_one}
-use Rattle.lh_history.proofs.Instants.{instant_one}
-
-pub due_bit_total : IsTotalOrder due_bit_cmp
-due_bit_total = then_total (on_total (λ (k : DueBit). k.due) instant_cmp_total) (on_total (λ (k : DueBit). k.bit) nat_cmp_total)
-
-pub due_bit_self : (k : DueBit) → due_bit_cmp k k ≡ Equal
-due_bit_self k = tied_itself due_bit_total k
-
-below_trans : (a b : DueBit) (es : Wish) → due_bit_cmp a b ≡ Less → IsBelow b es → IsBelow a es
-below_trans a b [] h x = tt
-below_trans a b (e ∷ es) h x = (due_bit_total.trans a b e.0 h x.0, below_trans a b es h x.1)
-
-below_insert : (a k : DueBit) (v : Bool) (es : Wish) → due_bit_cmp a k ≡ Less → IsBelow a es → IsBelow a (insert_entry due_bit_cmp es k v)
-below_insert a k v [] h x = (h, tt)
-below_insert a k v (e ∷ es) h x = at (due_bit_cmp k e.0) (below_insert a k v es h x.1)
-  where
-    at : (o : Ordering) → IsBelow a (insert_entry due_bit_cmp es k v) → IsBelow a (match_ordering o ((k, v) ∷ e ∷ es) ((e.0, v) ∷ es) (e ∷ insert_entry due_bit_cmp es k v))
-    at Less ih = (h, x)
-    at Equal ih = (x.0, x.1)
-    at Greater ih = (x.0, ih)
-
-turned : (a b : DueBit) → due_bit_cmp a b ≡ Greater → due_bit_cmp b a ≡ Less
-turned a b h = due_bit_total.antisymm b a ∙ ap ordering_reverse h
-
-pub in_order-insert : (k : DueBit) (v : Bool) (es : Wish) → IsInOrder es → IsInOrder (insert_entry due_bit_cmp es k v)
-in_order-insert k v [] x = (tt, tt)
-in_order-insert k v (e ∷ es) x = at (due_bit_cmp k e.0) refl (in_order-insert k v es x.1)
-  where
-    at : (o : Ordering) → due_bit_cmp k e.0 ≡ o → IsInOrder (insert_entry due_bit_cmp es k v) → IsInOrder (match_ordering o ((k, v) ∷ e ∷ es) ((e.0, v) ∷ es) (e ∷ insert_entry due_bit_cmp es k v))
-    at Less p ih = ((p, below_trans k e.0 es p x.0), x)
-    at Equal p ih = (x.0, x.1)
-    at Greater p ih = (below_insert e.0 k v es (turned k e.0 p) x.0, ih)
-
-abbrev due_bit : Instant → ℕ → DueBit
-due_bit t i = record { due = t; bit = i }
-
--- keys that compare as equal are one
-pub due_bit_one : (a b : DueBit) → due_bit_cmp a b ≡ Equal → a ≡ b
-due_bit_one a b h =
-    let p : (instant_cmp a.due b.due ≡ Equal) × (nat_cmp a.bit b.bit ≡ Equal) = then_equal _ _ h in
-    same_key a.due b.due a.bit b.bit (instant_one _ _ p.0) (nat_one _ _ p.1)
-  where
-    same_key : (t u : Instant) (i j : ℕ) → t ≡ u → i ≡ j → due_bit t i ≡ due_bit u j
-    same_key t u i j x y = cc
+use Rattle.lh_history.proofs.DueBits.{due_bit_self, below_trans, turned, in_order-insert, due_bit_one}
 
 look_below : (k : DueBit) (es : Wish) → IsBelow k es → look k es ≡ None
 look_below k [] x = refl

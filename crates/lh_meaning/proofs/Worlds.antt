@@ -8,7 +8,7 @@ use Rattle.lh_history.proofs.Claims.{AllLate, greatest_late}
 use Rattle.lh_unit.specs.Contents.{ItemText}
 use Rattle.lh_unit.specs.Hierarchy.{Instance}
 use Rattle.lh_unit.specs.Design.{Design}
-use Rattle.lh_unit.specs.World.{State, wake_of, Act, Rules, rules_of, unit_of, World, bits_by, acts_of, acts, kept, made_by, afters, next_world, soonest_wake, instant_after, next_instant}
+use Rattle.lh_unit.specs.World.{State, wake_of, Act, Rules, rules_of, unit_of, World, bits_by, acts_from, acts_at, kept, made_by, afters, next_world, soonest_wake, instant_after, next_instant}
 use Rattle.lh_unit.specs.Trace.{Run, least_runaway, outcomes_of, frame_of, goes_on, at_bound, run_at, run_from}
 use Rattle.lh_meaning.specs.Replacing.{Answer}
 use Rattle.lh_meaning.specs.Wishes.{IsLate}
@@ -31,7 +31,7 @@ pub claims-append : (xs ys : List Made) → claims (xs ++ ys) ≡ claims xs ++ c
 claims-append [] ys = refl
 claims-append (x ∷ xs) ys = ap (λ cs. claims_of x.made x.instance x.wish ++ cs) (claims-append xs ys) ∙ sym (append_assoc (claims_of x.made x.instance x.wish) (claims xs) (claims ys))
 
-made_late : (r : Rules) (items : List ItemText) (last : Option Instant) (old now : List Bool) (t : Instant) (k : ℕ) (is : List Instance) (ss : List State) → AllLate t (claims (made_by t k (acts_of r items last old now t is ss)))
+made_late : (r : Rules) (items : List ItemText) (last : Option Instant) (old now : List Bool) (t : Instant) (k : ℕ) (is : List Instance) (ss : List State) → AllLate t (claims (made_by t k (acts_from r items last old now t is ss)))
 made_late r items last old now t k [] ss = tt
 made_late r items last old now t k (i ∷ is) [] = tt
 made_late r items last old now t k (i ∷ is) (s ∷ ss) =
@@ -48,10 +48,10 @@ values_append_late t cs fresh a k (b ∷ more) =
 
 -- The wishes of a frame do not change the bits of that frame.
 pub bits_stay : (bound : ℕ) (items : List ItemText) (d : Design) (w : World) (t : Instant) → bits_at (next_world bound items d w t).history w.init t ≡ bits_at w.history w.init t
-unfolding bits_at acts
+unfolding bits_at acts_at
 bits_stay bound items d w t =
-    ap (λ cs. values_by cs t 0 w.init) (claims-append w.history (made_by t 0 (acts bound items d w t)))
-    ∙ values_append_late t (claims w.history) (claims (made_by t 0 (acts bound items d w t)))
+    ap (λ cs. values_by cs t 0 w.init) (claims-append w.history (made_by t 0 (acts_at bound items d w t)))
+    ∙ values_append_late t (claims w.history) (claims (made_by t 0 (acts_at bound items d w t)))
     (made_late (rules_of bound items) items w.last (bits_by w.history w.init w.last) (bits_at w.history w.init t) t 0 d.instances w.states) 0 w.init
 
 module _ (r : Rules) (m m' : List ItemText) where
@@ -78,7 +78,7 @@ module _ (r : Rules) (m m' : List ItemText) where
       cc
 
   acts_match : (last : Option Instant) (old now : List Bool) (t : Instant) (is : List Instance) (ps qs : List State) → Related last old is ps qs
-      → AllMatch t now is (acts_of r m last old now t is ps) (acts_of r m' last old now t is qs)
+      → AllMatch t now is (acts_from r m last old now t is ps) (acts_from r m' last old now t is qs)
   acts_match last old now t [] ps qs h = refl
   acts_match last old now t (i ∷ is) [] qs h = absurd h
   acts_match last old now t (i ∷ is) (a ∷ ps) [] h = absurd h
@@ -133,43 +133,43 @@ module _ (bound : ℕ) (m m' : List ItemText) (d : Design) (same_rules : rules_o
       at None = refl
       at (Some t) = ap (sooner (soonest_due t (claims v.history))) (same_wakes (rules_of bound m) m m' v.last _ t d.instances v.states w.states h.states)
 
-  acts_of_frame : (v w : World) (t : Instant) → Worlds bound m m' d v w → AllMatch (rules_of bound m) m m' t (bits_at v.history v.init t) d.instances (acts bound m d v t) (acts bound m' d w t)
-  unfolding acts
+  acts_of_frame : (v w : World) (t : Instant) → Worlds bound m m' d v w → AllMatch (rules_of bound m) m m' t (bits_at v.history v.init t) d.instances (acts_at bound m d v t) (acts_at bound m' d w t)
+  unfolding acts_at
   acts_of_frame v w t h =
       rw (same_rules, ← h.last, ← h.init, ← h.history) (acts_match (rules_of bound m) m m' v.last (bits_by v.history v.init v.last) (bits_at v.history v.init t) t d.instances v.states w.states h.states)
 
   next_related : (v w : World) (t : Instant) → Worlds bound m m' d v w → Worlds bound m m' d (next_world bound m d v t) (next_world bound m' d w t)
   next_related v w t h =
-      let match : AllMatch (rules_of bound m) m m' t (bits_at v.history v.init t) d.instances (acts bound m d v t) (acts bound m' d w t) = acts_of_frame v w t h in
-      let e : made_by t 0 (acts bound m d v t) ≡ made_by t 0 (acts bound m' d w t) = same_made (rules_of bound m) m m' t _ 0 d.instances _ _ match in
+      let match : AllMatch (rules_of bound m) m m' t (bits_at v.history v.init t) d.instances (acts_at bound m d v t) (acts_at bound m' d w t) = acts_of_frame v w t h in
+      let e : made_by t 0 (acts_at bound m d v t) ≡ made_by t 0 (acts_at bound m' d w t) = same_made (rules_of bound m) m m' t _ 0 d.instances _ _ match in
       record {
         init = h.init;
         last = refl;
-        history = ap (λ k. k ++ made_by t 0 (acts bound m d v t)) h.history ∙ ap (λ es. w.history ++ es) e;
+        history = ap (λ k. k ++ made_by t 0 (acts_at bound m d v t)) h.history ∙ ap (λ es. w.history ++ es) e;
         states = rw (bits_stay bound m d v t) (afters_related (rules_of bound m) m m' t (bits_at v.history v.init t) d.instances _ _ match);
       }
 
   same_frame : (v w : World) (t : Instant) → Worlds bound m m' d v w
-      → frame_of d.signals t (bits_at v.history v.init t) (acts bound m d v t) ≡ frame_of d.signals t (bits_at w.history w.init t) (acts bound m' d w t)
+      → frame_of d.signals t (bits_at v.history v.init t) (acts_at bound m d v t) ≡ frame_of d.signals t (bits_at w.history w.init t) (acts_at bound m' d w t)
   same_frame v w t h =
-      let o : outcomes_of 0 (acts bound m d v t) ≡ outcomes_of 0 (acts bound m' d w t) = same_outcomes (rules_of bound m) m m' t _ 0 d.instances _ _ (acts_of_frame v w t h) in
+      let o : outcomes_of 0 (acts_at bound m d v t) ≡ outcomes_of 0 (acts_at bound m' d w t) = same_outcomes (rules_of bound m) m m' t _ 0 d.instances _ _ (acts_of_frame v w t h) in
       let p : v.history ≡ w.history = h.history in
       let q : v.init ≡ w.init = h.init in
       cc
 
-  same_runaway_of : (v w : World) (t : Instant) → Worlds bound m m' d v w → least_runaway 0 (acts bound m d v t) ≡ least_runaway 0 (acts bound m' d w t)
+  same_runaway_of : (v w : World) (t : Instant) → Worlds bound m m' d v w → least_runaway 0 (acts_at bound m d v t) ≡ least_runaway 0 (acts_at bound m' d w t)
   same_runaway_of v w t h = same_runaway (rules_of bound m) m m' t _ 0 d.instances _ _ (acts_of_frame v w t h)
 
   same_at : (v w : World) → Worlds bound m m' d v w → (o : Option Instant) (more more' : World → Run)
       → ((v w : World) → Worlds bound m m' d v w → more v ≡ more' w) → run_at bound m d v o more ≡ run_at bound m' d w o more'
   same_at v w h None more more' ih = refl
   same_at v w h (Some t) more more' ih =
-      let f : frame_of d.signals t (bits_at v.history v.init t) (acts bound m d v t) ≡ frame_of d.signals t (bits_at w.history w.init t) (acts bound m' d w t) = same_frame v w t h in
-      let a : least_runaway 0 (acts bound m d v t) ≡ least_runaway 0 (acts bound m' d w t) = same_runaway_of v w t h in
+      let f : frame_of d.signals t (bits_at v.history v.init t) (acts_at bound m d v t) ≡ frame_of d.signals t (bits_at w.history w.init t) (acts_at bound m' d w t) = same_frame v w t h in
+      let a : least_runaway 0 (acts_at bound m d v t) ≡ least_runaway 0 (acts_at bound m' d w t) = same_runaway_of v w t h in
       let k : more (next_world bound m d v t) ≡ more' (next_world bound m' d w t) = ih _ _ (next_related v w t h) in
-      ap (λ f'. goes_on f' (least_runaway 0 (acts bound m d v t)) (more (next_world bound m d v t))) f
-      ∙ ap (λ a'. goes_on (frame_of d.signals t (bits_at w.history w.init t) (acts bound m' d w t)) a' (more (next_world bound m d v t))) a
-      ∙ ap (goes_on (frame_of d.signals t (bits_at w.history w.init t) (acts bound m' d w t)) (least_runaway 0 (acts bound m' d w t))) k
+      ap (λ f'. goes_on f' (least_runaway 0 (acts_at bound m d v t)) (more (next_world bound m d v t))) f
+      ∙ ap (λ a'. goes_on (frame_of d.signals t (bits_at w.history w.init t) (acts_at bound m' d w t)) a' (more (next_world bound m d v t))) a
+      ∙ ap (goes_on (frame_of d.signals t (bits_at w.history w.init t) (acts_at bound m' d w t)) (least_runaway 0 (acts_at bound m' d w t))) k
 
   pub same_run : (n : ℕ) (v w : World) → Worlds bound m m' d v w → run_from bound m d n v ≡ run_from bound m' d n w
   same_run zero v w h = ap at_bound (same_next v w h)

@@ -1,12 +1,19 @@
 -- What holds of instants, worlds and traces.
-use Rattle.std.specs.Prelude.{◌≡◌, ◌⊎◌, ◌≤◌, ℕ, ◌+◌, List, [], ◌∷◌, ◌++◌, length, Some}
+use Rattle.std.specs.Prelude.{◌≡◌, ◌⊎◌, ◌↔◌, ◌≤◌, ℕ, ◌+◌, List, [], ◌∷◌, ◌++◌, length, slice_get, Contains, Bool, true, Some, None}
+use Rattle.std.specs.List.Sorted.{IsStrictlyIncreasing}
 use Rattle.lh_time.specs.declared.Instant.{Instant}
+use Rattle.lh_types.specs.Types.{IsData, bit_count}
+use Rattle.lh_types.specs.Parts.{bits_within}
+use Rattle.lh_types.specs.Flags.{differing}
 use Rattle.lh_types.specs.History.{Made, bits_at}
 use Rattle.lh_unit.specs.declared.name.UnitName.{UnitName}
 use Rattle.lh_unit.specs.Contents.{ItemText}
-use Rattle.lh_unit.specs.Design.{Design}
-use Rattle.lh_unit.specs.World.{State, World, next_world, bits_of, IsNext, instant_after}
-use Rattle.lh_unit.specs.Trace.{Frame, steps, Run, Trace, refuses, ran, trace_within, SameTraceWithin}
+use Rattle.lh_unit.specs.Hierarchy.{Instance}
+use Rattle.lh_unit.specs.Design.{Signal, Design}
+use Rattle.lh_unit.specs.World.{State, unit_of, woken, World, next_world, bits_of, IsNext, instant_after}
+use Rattle.lh_unit.specs.Trace.{Frame, steps, Run, Trace, refuses, ran, signal_value, run_from, trace_within, SameTraceWithin}
+use Rattle.lh_unit.specs.Frames.{world_later, woken_at, toggled}
+use Rattle.lh_meaning.specs.Wishes.{ReachedFrom}
 
 -- The next instant is later than the present one, and nothing comes before it.
 abbrev pub NextComputes : Type 0
@@ -48,3 +55,42 @@ SameTraceTurns = (bound : ℕ) (m m' : List ItemText) → SameTraceWithin bound 
 
 abbrev pub SameTraceLinks : Type 0
 SameTraceLinks = (bound : ℕ) (a b c : List ItemText) → SameTraceWithin bound a b → SameTraceWithin bound b c → SameTraceWithin bound a c
+
+-- frames, and then a run
+abbrev pub then : List Frame → Run → Run
+then frames r = record { frames = frames ++ r.frames; end = r.end }
+
+-- A run goes on from the world after k frames as it does from there.
+abbrev pub RunGoesOn : Type 0
+RunGoesOn = (bound : ℕ) (items : List ItemText) (d : Design) (k n : ℕ) (w v : World) → world_later bound items d k w ≡ Some v →
+    (length (run_from bound items d k w).frames ≡ k) × (run_from bound items d (k + n) w ≡ then (run_from bound items d k w).frames (run_from bound items d n v))
+
+-- Where there is no world after k frames, the run has ended within k.
+abbrev pub RunHasEnded : Type 0
+RunHasEnded = (bound : ℕ) (items : List ItemText) (d : Design) (k n : ℕ) (w : World) → world_later bound items d k w ≡ None →
+    run_from bound items d (k + n) w ≡ run_from bound items d k w
+
+-- The world after k frames is one that frames come to.
+abbrev pub LaterIsReached : Type 0
+LaterIsReached = (bound : ℕ) (items : List ItemText) (d : Design) (k : ℕ) (w v : World) → world_later bound items d k w ≡ Some v → ReachedFrom bound items d w v
+
+-- an instance is woken in the frame at `t`
+pub record IsWoken (items : List ItemText) (d : Design) (w : World) (t : Instant) (k : ℕ) : Type 0 where
+  pub instance : Instance
+  pub state : State
+  pub is : slice_get d.instances k ≡ Some instance
+  pub stands : slice_get w.states k ≡ Some state
+  pub wakes : woken w.last (bits_of w) (bits_at w.history w.init t) t (unit_of items instance.unit) instance state ≡ true
+
+-- The instances that are listed as woken are exactly those that are.
+abbrev pub WokenAreListed : Type 0
+WokenAreListed = (items : List ItemText) (d : Design) (w : World) (t : Instant) (k : ℕ) → Contains (woken_at items d w t) k ↔ IsWoken items d w t k
+
+-- Their numbers rise.
+abbrev pub WokenRise : Type 0
+WokenRise = (items : List ItemText) (d : Design) (w : World) (t : Instant) → IsStrictlyIncreasing (woken_at items d w t)
+
+-- The bits of a signal that toggle are those in which it differs.
+abbrev pub ToggledBits : Type 0
+ToggledBits = (s : Signal) (old now : List Bool) → IsData s.ty → s.lo + bit_count s.ty ≤ length old → s.lo + bit_count s.ty ≤ length now →
+    toggled (signal_value old s) (signal_value now s) ≡ differing (bits_within s.lo (bit_count s.ty) old) (bits_within s.lo (bit_count s.ty) now)

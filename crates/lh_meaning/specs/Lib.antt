@@ -1,7 +1,8 @@
 pub mod Activations
 pub mod Values
 pub mod Replacing
-pub mod Frames
 pub mod Wishes
+pub mod Frames
+pub mod Paths
 pub mod FirstFault
 pub mod Probes

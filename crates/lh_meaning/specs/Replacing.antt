@@ -46,12 +46,21 @@ pub record MayStand (r : Rules) (x y : UnitText) : Type 0 where
   pub no_function : (hierarchy_of x).function ≡ false
   pub alike : (i : Instance) → HasWidths (hierarchy_of x) i → (frames : List Seen) → answers_to r x i frames ≡ answers_to r y i frames
 
--- Item by item the second module has the same unit, or one that may stand for it; what is declared does not matter.
+-- one by one the second units are the first, or may stand for them
+abbrev pub AllStand : Rules → List UnitText → List UnitText → Type 0
+AllStand r [] [] = Unit {0}
+AllStand r (x ∷ xs) (y ∷ ys) = ((x ≡ y) ⊎ MayStand r x y) × AllStand r xs ys
+AllStand r _ _ = ⊥
+
+-- the units that a module defines, in order
+abbrev pub units_defined : List ItemText → List UnitText
+units_defined [] = []
+units_defined (unit_text u ∷ more) = u ∷ units_defined more
+units_defined (declare_text d ∷ more) = units_defined more
+
+-- One by one, in order, the second module defines the same unit as the first, or one that may stand for it. Declarations do not matter: neither what they say, nor how many there are, nor where they stand.
 abbrev pub Replaced : Rules → List ItemText → List ItemText → Type 0
-Replaced r [] [] = Unit {0}
-Replaced r (unit_text x ∷ xs) (unit_text y ∷ ys) = ((x ≡ y) ⊎ MayStand r x y) × Replaced r xs ys
-Replaced r (declare_text d ∷ xs) (declare_text e ∷ ys) = Replaced r xs ys
-Replaced r _ _ = ⊥
+Replaced r m m' = AllStand r (units_defined m) (units_defined m')
 
 -- Any number of units may be replaced at once: the trace is the same, for every top and every number of frames.
 abbrev pub ReplacedSameTrace : Type 0

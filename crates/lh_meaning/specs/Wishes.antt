@@ -1,11 +1,11 @@
 -- Wishes as maps.
 use Rattle.std.specs.Prelude.{◌≡◌, ℕ, List, [], ◌∷◌, length, Bool, true, if◌then◌else◌, Option, Some, None}
-use Rattle.std.specs.declared.cmp.Ordering.TheVariants.{Less}
 use Rattle.std.specs.Ordering.{is_eq}
 use Rattle.lh_time.specs.declared.Instant.{Instant}
-use Rattle.lh_time.specs.Order.{instant_lt}
+use Rattle.lh_time.specs.Order.{instant_lt, instant_le}
 use Rattle.lh_types.specs.Wish.{DueBit, due_bit_cmp, Wish, with_drive}
-use Rattle.lh_types.specs.History.{claims}
+pub use Rattle.lh_types.specs.Wish.{IsBelow, IsInOrder}
+use Rattle.lh_types.specs.History.{Claim, claims, IsAmong}
 use Rattle.lh_unit.specs.Contents.{UnitText, ItemText}
 use Rattle.lh_unit.specs.Hierarchy.{Instance}
 use Rattle.lh_unit.specs.Design.{Design}
@@ -16,15 +16,6 @@ use Rattle.lh_meaning.specs.Values.{OneEach}
 abbrev pub look : DueBit → Wish → Option Bool
 look k [] = None
 look k (e ∷ more) = if is_eq (due_bit_cmp k e.0) then Some e.1 else look k more
-
--- its entries stand in strictly rising order
-abbrev pub IsBelow : DueBit → Wish → Type 0
-IsBelow k [] = Unit {0}
-IsBelow k (e ∷ more) = (due_bit_cmp k e.0 ≡ Less) × IsBelow k more
-
-abbrev pub IsInOrder : Wish → Type 0
-IsInOrder [] = Unit {0}
-IsInOrder (e ∷ more) = IsBelow e.0 more × IsInOrder more
 
 -- each entry is due after t
 abbrev pub IsLate : Instant → Wish → Type 0
@@ -45,11 +36,25 @@ abbrev pub ActsInOrder : Type 0
 ActsInOrder = (r : Rules) (last : Option Instant) (old now : List Bool) (t : Instant) (u : UnitText) (i : Instance) (s : State) →
     IsInOrder (act r last old now t u i s).wish × IsLate t (act r last old now t u i s).wish
 
--- the worlds that the frames of a design come to
-pub data Reached (bound : ℕ) (items : List ItemText) (d : Design) : World → Type 0 where
-  at_first : Reached bound items d (first_world items d)
-  after_frame : (w : World) (t : Instant) → Reached bound items d w → next_instant w ≡ Some t → Reached bound items d (next_world bound items d w t)
+-- the worlds that frames come to from a world
+pub data ReachedFrom (bound : ℕ) (items : List ItemText) (d : Design) (from : World) : World → Type 0 where
+  at_start : ReachedFrom bound items d from from
+  after_frame : (w : World) (t : Instant) → ReachedFrom bound items d from w → next_instant w ≡ Some t → ReachedFrom bound items d from (next_world bound items d w t)
 
--- In each of these no two entries of the history compete.
-abbrev pub HistoryIsMap : Type 0
-HistoryIsMap = (bound : ℕ) (items : List ItemText) (d : Design) (w : World) → Reached bound items d w → OneEach (claims w.history)
+-- an entry was made at the last frame or before it; before the first frame there is none
+abbrev pub IsMadeBy : (last : Option Instant) → Claim → Type 0
+IsMadeBy None c = ⊥
+IsMadeBy (Some l) c = instant_le c.made l ≡ true
+
+-- no two entries of a world's history compete, and none was made later than its last frame
+pub record HistoryIsSound (w : World) : Type 0 where
+  pub one_each : OneEach (claims w.history)
+  pub made : (c : Claim) → IsAmong c (claims w.history) → IsMadeBy w.last c
+
+-- It is so of the first world of a design.
+abbrev pub FirstHistoryIsSound : Type 0
+FirstHistoryIsSound = (items : List ItemText) (d : Design) → HistoryIsSound (first_world items d)
+
+-- Every frame keeps it, from whichever world the frames begin.
+abbrev pub HistoryStaysSound : Type 0
+HistoryStaysSound = (bound : ℕ) (items : List ItemText) (d : Design) (from w : World) → HistoryIsSound from → ReachedFrom bound items d from w → HistoryIsSound w

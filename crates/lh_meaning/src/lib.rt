@@ -3,9 +3,10 @@
 
 ghost use Rattle.lh_meaning.specs.Activations.{ActivationComputes, RunawayComputes, OneActivation};
 ghost use Rattle.lh_meaning.specs.Values.{ValueComputes, OneValue, ValueOfDue, BitsOfDue, BitsHaveValues, AsManyBits};
-ghost use Rattle.lh_meaning.specs.Wishes.{WishExt, LaterDriveReplaces, ActsInOrder, HistoryIsMap};
+ghost use Rattle.lh_meaning.specs.Wishes.{WishExt, LaterDriveReplaces, ActsInOrder, FirstHistoryIsSound, HistoryStaysSound};
 ghost use Rattle.lh_meaning.specs.FirstFault.{OneFirstFault, FaultlessHasNone, FaultlessOrFaulty};
-ghost use Rattle.lh_meaning.specs.Frames.{NextComputes, BitsStay, TraceIsPrefix, TraceIsWithin, EqualSameTrace, SameTraceTurns, SameTraceLinks};
+ghost use Rattle.lh_meaning.specs.Frames.{NextComputes, BitsStay, TraceIsPrefix, TraceIsWithin, EqualSameTrace, SameTraceTurns, SameTraceLinks, RunGoesOn, RunHasEnded, LaterIsReached, WokenAreListed, WokenRise, ToggledBits};
+ghost use Rattle.lh_meaning.specs.Paths.{PathComputes, TopPath, ChildPath, DesignsHaveParentsBefore};
 ghost use Rattle.lh_meaning.specs.Probes.{ReadValuesFit};
 ghost use Rattle.lh_meaning.specs.Replacing.{ReplacedSameTrace};
 
@@ -36,9 +37,11 @@ pub fn wish_law()
     ensures acts { ActsInOrder }
 {}
 
-/// No two entries of a history that the frames of a design come to compete, so each bit has one value.
+/// Where no two entries of a history compete and none is made later than the last frame, it stays so in
+/// each frame that follows, so each bit has one value. A design begins so.
 pub fn history_law()
-    ensures { HistoryIsMap }
+    ensures first { FirstHistoryIsSound }
+    ensures stays { HistoryStaysSound }
 {}
 
 /// A module has at most one first fault, and none where no instruction has a fault. What a text reads
@@ -68,6 +71,32 @@ pub fn frame_law()
 pub fn trace_law()
     ensures prefix { TraceIsPrefix }
     ensures within { TraceIsWithin }
+{}
+
+/// A run goes on from the world after k frames as it does from there; where there is none it has ended.
+pub fn later_law()
+    ensures goes_on { RunGoesOn }
+    ensures ended { RunHasEnded }
+    ensures reached { LaterIsReached }
+{}
+
+/// The instances that are listed as woken in a frame are those that are woken, in rising order.
+pub fn woken_law()
+    ensures listed { WokenAreListed }
+    ensures rise { WokenRise }
+{}
+
+/// The bits of a signal that toggle are those in which it differs.
+pub fn toggled_law()
+    ensures { ToggledBits }
+{}
+
+/// An instance of a design has one path: the top's is its label, any other's is its parent's, a dot and its label.
+pub fn path_law()
+    ensures computes { PathComputes }
+    ensures top { TopPath }
+    ensures child { ChildPath }
+    ensures parents { DesignsHaveParentsBefore }
 {}
 
 /// Having the same trace is an equivalence, and equal contents have it.

@@ -4,12 +4,12 @@ use Rattle.std.specs.declared.cmp.Ordering.TheVariants.{Less, Equal}
 use Rattle.lh_time.specs.declared.Instant.{Instant}
 use Rattle.lh_time.specs.Order.{instant_lt}
 use Rattle.lh_time.proofs.OrderLemmas.{instant_lt-le_lt}
-use Rattle.lh_types.specs.History.{Claim, claim_cmp, IsAmong}
+use Rattle.lh_types.specs.History.{Claim, claim_cmp, IsAmong, entries_of}
 use Rattle.lh_history.proofs.Orders.{is_less}
 use Rattle.lh_history.proofs.Claims.{among_parts}
 use Rattle.lh_queue.specs.declared.wish.Wish.{Wish}
 use Rattle.lh_queue.specs.Held.{Held, is_before, IsBeforeAll, AreInOrder, NamesOnce, IsUnnamed, EachNamesOnce, with_held, due_later}
-use Rattle.lh_queue.specs.Holds.{entries_of, wish_entries, entries, IsAfter, IsFrom, HoldsFor, HoldsOn, HoldsMore}
+use Rattle.lh_queue.specs.Holds.{wish_entries, entries, IsAfter, IsFrom, HoldsFor, HoldsOn, HoldsMore}
 
 pub among_left : (xs ys : List Claim) (c : Claim) → IsAmong c xs → IsAmong c (xs ++ ys)
 among_left [] ys c h = absurd h

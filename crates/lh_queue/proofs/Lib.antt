@@ -1,8 +1,8 @@
 pub mod Order
 pub mod Storage
+pub mod Lining
 pub mod Bucketing
 pub mod Putting
-pub mod Writing
 pub mod Placing
 pub mod Entries
 pub mod Among

@@ -213,5 +213,5 @@ near_there s buckets w k held i p =
     ap (λ m. is_some (get s m)) (sym p.key) ∙ ap is_some (linked_back s p.front (p.near ∷ p.back) j.linked).0
 
 -- one place less is left
-pub spare_put : (a b c d x y z u : ℕ) → x ≡ a → y ≡ b + 1 → z ≡ c → u ≤ d + 1 → min (a - b) (c - d) ≤ min (x - y) (z - u) + 1
-spare_put a b c d x y z u p q r h = omega arith
+pub spare_put : (a b s x y t : ℕ) → x ≡ a → y ≡ b + 1 → s ≤ t + 1 → min (a - b) s ≤ min (x - y) t + 1
+spare_put a b s x y t p q h = omega arith

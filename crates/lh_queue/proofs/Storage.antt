@@ -1,6 +1,5 @@
 -- What is stored is what the keys and buckets lead to, and where one more or one less is stored.
-use Rattle.std.proofs.Common.{◌≡◌, ◌≢◌, ◌≤◌, ◌<◌, ⊎_elim, ℕ, zero, suc, ◌+◌, List, [], ◌∷◌, ◌++◌, length, Bool, true, false, if◌then◌else◌, nat_eq, Option, Some, None, IsSome, is_some, option_map, slice_get, slice_index_or, count_by, get_or, set, refl, ap, sym, ◌∙◌, subst, arith}
-use Rattle.std.specs.List.{remove}
+use Rattle.std.proofs.Common.{◌≡◌, ◌≢◌, ◌≤◌, ◌<◌, ⊎_elim, ℕ, zero, suc, ◌+◌, List, [], ◌∷◌, ◌++◌, length, Bool, true, false, if◌then◌else◌, nat_eq, Option, Some, None, IsSome, is_some, option_map, slice_get, slice_index_or, count_by, get_or, set, drop, refl, ap, sym, ◌∙◌, subst, arith}
 use Rattle.std.proofs.lemmas.Bool.{eqb-true, ne_eqb, eqb-false}
 use Rattle.std.proofs.lemmas.Bool.{cases_eq}
 use Rattle.slab.specs.Slab.{Slab, get, slab_len, Updates}
@@ -257,24 +256,24 @@ is_first s t buckets x more b l i e g u =
 held_first : (x : Held) (more : List Held) (w : Wish) → w ≡ x.wish → (x ∷ more) ≡ (record { key = x.key; wish = w } ∷ more)
 held_first x more w e = ap (λ v. record { key = x.key; wish = v } ∷ more) (sym e)
 
-pub taken_on : (s t : Slab Linked) (buckets : List Bucket) (held : List Held) (b d : Bucket) (l : Linked) (key : ℕ) → IsStored s buckets held → held ≢ [] → b ≡ get_or buckets 0 b → get s b.first ≡ Some l
-    → Updates s t b.first None → slab_len t + 1 ≡ slab_len s → l.next ≡ Some key → d ≡ get_or buckets 0 d → Takes t (set buckets 0 (record { fs = d.fs; first = key })) held l.wish
-taken_on s t buckets [] b d l key i h e g u n k f = absurd (h refl)
-taken_on s t buckets (x ∷ more) b d l key i h e g u n k f =
+pub taken_on : (s t : Slab Linked) (buckets bs : List Bucket) (held : List Held) (b d : Bucket) (l : Linked) (key : ℕ) → IsStored s buckets held → held ≢ [] → b ≡ get_or buckets 0 b → get s b.first ≡ Some l
+    → Updates s t b.first None → slab_len t + 1 ≡ slab_len s → l.next ≡ Some key → d ≡ get_or buckets 0 d → bs ≡ set buckets 0 (record { fs = d.fs; first = key }) → Takes t bs held l.wish
+taken_on s t buckets bs [] b d l key i h e g u n k f m = absurd (h refl)
+taken_on s t buckets bs (x ∷ more) b d l key i h e g u n k f m =
     let o = is_first s t buckets x more b l i e g u in
     let at : link x more ≡ Some key = sym o.next ∙ k in
     let fs : d.fs ≡ time x = ap (λ (c : Bucket). c.fs) (first_bucket s buckets x more d i f) in
-    let now : set buckets 0 (record { fs = d.fs; first = key }) ≡ record { fs = time x; first = key } ∷ buckets_after (time x) more =
-    ap (λ bs. set bs 0 (record { fs = d.fs; first = key })) i.buckets_are ∙ ap (λ f. record { fs = f; first = key } ∷ buckets_after (time x) more) fs in
-    (x.key, more, stored_rest s t _ x more buckets i o.updates n (now ∙ sym (popped_on x more key at)), held_first x more l.wish o.wish)
+    let now : bs ≡ record { fs = time x; first = key } ∷ buckets_after (time x) more =
+    m ∙ ap (λ cs. set cs 0 (record { fs = d.fs; first = key })) i.buckets_are ∙ ap (λ f. record { fs = f; first = key } ∷ buckets_after (time x) more) fs in
+    (x.key, more, stored_rest s t bs x more buckets i o.updates n (now ∙ sym (popped_on x more key at)), held_first x more l.wish o.wish)
 
 pub taken_out : (s t : Slab Linked) (buckets bs : List Bucket) (held : List Held) (b : Bucket) (l : Linked) → IsStored s buckets held → held ≢ [] → b ≡ get_or buckets 0 b → get s b.first ≡ Some l
-    → Updates s t b.first None → slab_len t + 1 ≡ slab_len s → l.next ≡ None → bs ≡ remove buckets 0 → Takes t bs held l.wish
+    → Updates s t b.first None → slab_len t + 1 ≡ slab_len s → l.next ≡ None → bs ≡ drop 1 buckets → Takes t bs held l.wish
 taken_out s t buckets bs [] b l i h e g u n k f = absurd (h refl)
 taken_out s t buckets bs (x ∷ more) b l i h e g u n k f =
     let o = is_first s t buckets x more b l i e g u in
     let at : link x more ≡ None = sym o.next ∙ k in
-    let now : bs ≡ buckets_after (time x) more = f ∙ ap (λ cs. remove cs 0) i.buckets_are in
+    let now : bs ≡ buckets_after (time x) more = f ∙ ap (drop 1) i.buckets_are in
     (x.key, more, stored_rest s t bs x more buckets i o.updates n (now ∙ sym (popped_out x more at)), held_first x more l.wish o.wish)
 
 -- no bucket stands past the end, and one before it

@@ -1,7 +1,6 @@
 -- A step of taking the wishes that are due, and of looking at them.
-use Rattle.std.proofs.Common.{◌≡◌, ◌≢◌, ◌≤◌, ◌<◌, ℕ, suc, List, [], ◌∷◌, length, Bool, true, false, if◌then◌else◌, nat_eq, Some, None, set, refl, ap, sym, ◌∙◌, subst, arith}
+use Rattle.std.proofs.Common.{◌≡◌, ◌≢◌, ◌≤◌, ◌<◌, ℕ, suc, List, [], ◌∷◌, length, Bool, true, false, if◌then◌else◌, nat_eq, Some, None, refl, ap, sym, ◌∙◌, subst, arith}
 use Rattle.std.proofs.lemmas.Bool.{eq-eqb, ne_eqb, eqb-false, lt-ltb}
-use Rattle.std.proofs.lemmas.List.{length-set}
 use Rattle.lh_time.specs.declared.Instant.{Instant}
 use Rattle.lh_time.specs.Order.{instant_lt, instant_le}
 use Rattle.lh_types.specs.History.{values_by}
@@ -9,14 +8,10 @@ use Rattle.lh_queue.specs.declared.wish.Wish.{Wish}
 use Rattle.lh_queue.specs.Held.{Held, is_at, AreInOrder, NoneHas, KeysDiffer, NoneDueBefore, EachWithin, BitsWithin, due_later, wish_at}
 use Rattle.lh_queue.specs.Holds.{entries}
 use Rattle.lh_queue.specs.Buckets.{time, link, next_in}
-use Rattle.lh_queue.specs.Written.{written}
+use Rattle.lh_types.specs.Writes.{written}
 use Rattle.lh_queue.specs.Places.{first_key, starts_at, from_key, rest_from}
 use Rattle.lh_queue.proofs.Placing.{fs_upto}
 use Rattle.lh_queue.proofs.Entries.{values_of_first, values_of_later, later_stay, due_goes, not_started, not_due_later, all_later, at_one}
-
-pub length_written : (es : List (ℕ × Bool)) (bits : List Bool) → length (written es bits) ≡ length bits
-length_written [] bits = refl
-length_written (e ∷ es) bits = length_written es (set bits e.0 e.1) ∙ length-set bits e.0 e.1
 
 module _ (t : Instant) (held more : List Held) (key : ℕ) (w : Wish) (e : held ≡ record { key = key; wish = w } ∷ more) where
   x : Held

@@ -1,11 +1,12 @@
 -- What a queue holds: wishes in order, each under its key.
-use Rattle.std.specs.Prelude.{ℕ, ◌<◌, List, [], ◌∷◌, Bool, true, nat_eq, if◌then◌else◌, Option, Some, None, ◌≡◌, ◌≢◌, ◌⊎◌}
+use Rattle.std.specs.Prelude.{ℕ, List, [], ◌∷◌, Bool, true, nat_eq, if◌then◌else◌, Option, Some, None, ◌≡◌, ◌≢◌, ◌⊎◌}
 use Rattle.std.specs.declared.cmp.Ordering.{Ordering}
 use Rattle.std.specs.declared.cmp.Ordering.TheVariants.{Equal}
 use Rattle.std.specs.Ordering.{nat_cmp, ordering_then, is_lt, is_eq}
 use Rattle.lh_time.specs.declared.Instant.{Instant}
 use Rattle.lh_time.specs.Order.{instant_cmp, instant_lt, instant_le}
 use Rattle.lh_queue.specs.declared.wish.Wish.{Wish}
+pub use Rattle.lh_types.specs.Writes.{BitsWithin}
 
 -- a wish that is held, and its key
 pub record Held : Type 0 where
@@ -98,11 +99,6 @@ NamesOnce (e ∷ more) = IsUnnamed e.0 more × NamesOnce more
 abbrev pub EachNamesOnce : List Held → Type 0
 EachNamesOnce [] = Unit {0}
 EachNamesOnce (x ∷ more) = NamesOnce x.wish.bits × EachNamesOnce more
-
--- only bits below a number are named
-abbrev pub BitsWithin : ℕ → List (ℕ × Bool) → Type 0
-BitsWithin n [] = Unit {0}
-BitsWithin n (e ∷ more) = (e.0 < n) × BitsWithin n more
 
 -- each held wish names only bits below a number
 abbrev pub EachWithin : ℕ → List Held → Type 0

@@ -1,15 +1,10 @@
 -- Of which histories a queue holds what is still due, and what the bits are then.
-use Rattle.std.specs.Prelude.{ℕ, List, [], ◌∷◌, ◌++◌, Bool, true, Option, Some, None, ◌≡◌, ◌↔◌}
+use Rattle.std.specs.Prelude.{List, [], ◌∷◌, ◌++◌, Bool, true, Option, Some, None, ◌≡◌, ◌↔◌}
 use Rattle.lh_time.specs.declared.Instant.{Instant}
 use Rattle.lh_time.specs.Order.{instant_lt, instant_le}
-use Rattle.lh_types.specs.History.{Made, Claim, claims, IsAmong, bits_at, soonest_due}
+use Rattle.lh_types.specs.History.{Made, Claim, claims, entries_of, IsAmong, bits_at, bits_after, soonest_due}
 use Rattle.lh_queue.specs.declared.wish.Wish.{Wish}
 use Rattle.lh_queue.specs.Held.{Held, EachNames}
-
--- the entries of bits that are due at one instant, with their origin
-abbrev pub entries_of : (due made : Instant) → (instance : ℕ) → List (ℕ × Bool) → List Claim
-entries_of due made instance [] = []
-entries_of due made instance (e ∷ more) = record { due = due; made = made; instance = instance; bit = e.0; value = e.1 } ∷ entries_of due made instance more
 
 -- the entries of a wish
 abbrev pub wish_entries : Wish → List Claim
@@ -33,11 +28,6 @@ IsFrom (Some l) t = instant_le l t ≡ true
 -- What is held stands for all that was ever wished: the entries of the held wishes are exactly those of `all` that are due after the instant `last`, at which wishes were last taken; before the first taking, all of them.
 pub record HoldsFor (held : List Held) (all : List Claim) (last : Option Instant) : Type 0 where
   pub due : (c : Claim) → IsAmong c (entries held) ↔ (IsAmong c all × IsAfter last c.due)
-
--- the bits at the last instant at which wishes were taken, before the first the initial ones
-abbrev pub bits_after : List Made → (initial : List Bool) → (last : Option Instant) → List Bool
-bits_after history initial None = initial
-bits_after history initial (Some l) = bits_at history initial l
 
 -- Of every history for which the wishes are held, with these bits at the last taking, the new bits are those at the instant.
 abbrev pub AreBitsAt : List Held → (old : List Bool) → Instant → (new : List Bool) → Type 0

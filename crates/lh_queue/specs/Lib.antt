@@ -1,7 +1,7 @@
 pub mod Held
 pub mod Holds
 pub mod Buckets
-pub mod Written
+pub mod Line
 pub mod Stored
 pub mod Places
 pub mod Laws

@@ -26,9 +26,9 @@ chains_from slots n (b ∷ more) = chain slots n (Some b.first) ++ chains_from s
 unfoldable pub held_by : Slab Linked → List Bucket → List Held
 held_by links buckets = chains_from links.slots (slab_len links) buckets
 
--- how many more fit
-abbrev pub spare_by : Slab Linked → (len capacity : ℕ) → ℕ
-spare_by links len capacity = min (links.capacity - slab_len links) (capacity - len)
+-- how many more fit, where so many more buckets do
+abbrev pub spare_by : Slab Linked → ℕ → ℕ
+spare_by links spare = min (links.capacity - slab_len links) spare
 
 -- each stands under its key, with the key of the next of its bucket
 abbrev pub AreLinked : Slab Linked → List Held → Type 0

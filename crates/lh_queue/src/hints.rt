@@ -3,20 +3,21 @@
 
 use lh_types::ty::NoMemory;
 use std::alloc::Global;
+use std::collections::VecDeque;
 
 /// For each bucket the key that was put last into it, as far as it is known.
 ///
 /// Most wishes come in their order, and go behind the one before: then no chain is walked.
 #[derive(Drop)]
 pub struct Hints {
-    keys: Vec<usize>,
+    keys: VecDeque<usize>,
 }
 
 impl Hints {
     /// No key is known.
     pub fn new(alloc: Global) -> Hints {
         Hints {
-            keys: Vec::new(alloc),
+            keys: VecDeque::new(alloc),
         }
     }
 
@@ -48,8 +49,6 @@ impl Hints {
 
     /// The first bucket is gone.
     pub fn remove_first(&mut self) {
-        if !self.keys.is_empty() {
-            self.keys.remove(0);
-        }
+        self.keys.pop_front();
     }
 }

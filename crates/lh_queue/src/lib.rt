@@ -3,5 +3,6 @@
 
 mod hints;
 pub mod laws;
+mod line;
 pub mod queue;
 pub mod wish;

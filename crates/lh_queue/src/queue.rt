@@ -10,6 +10,7 @@ ghost use Rattle.lh_queue.specs.Places.{IsPlace, GoesAlone, GoesFirst, GoesAfter
 mod tests;
 
 use crate::hints::Hints;
+use crate::line::Line;
 use crate::wish::Wish;
 use lh_time::Instant;
 use lh_types::bits::Bits;
@@ -51,12 +52,11 @@ enum Place {
 pub struct Queue {
     links: Slab<Linked>,
     // The times rise.
-    buckets: Vec<Bucket>,
+    buckets: Line,
     hints: Hints,
 }
 
 impl Model for Queue {
-    ghost use Rattle.std.specs.Prelude.{length, vec_capacity};
     ghost use Rattle.lh_queue.specs.Held.{Waiting};
 
     ghost Value = { Waiting };
@@ -65,7 +65,7 @@ impl Model for Queue {
 
     ghost view = { λ q. record {
       held = held_by q.links q.buckets.items;
-      spare = spare_by q.links (length q.buckets.items) (vec_capacity q.buckets);
+      spare = spare_by q.links q.buckets.spare;
     } };
 
     ghost invariant = { λ q. StoresSome q.links q.buckets.items };
@@ -79,7 +79,7 @@ impl Queue {
     {
         Queue {
             links: Slab::new(alloc),
-            buckets: Vec::new(alloc),
+            buckets: Line::new(alloc),
             hints: Hints::new(alloc),
         }
     }
@@ -207,7 +207,7 @@ impl Queue {
     fn first_key(&self) -> Option<usize>
         ensures { result ≡ first_key self.now.held }
     {
-        match self.buckets.first() {
+        match self.buckets.as_slice().first() {
             Some(bucket) => Some(bucket.first),
             None => None,
         }
@@ -239,11 +239,12 @@ impl Queue {
         ensures held { (key : ℕ) × (self.old.held ≡ (record { key = key; wish = result }) ∷ self.new.held) }
         ensures spare { self.old.spare ≤ self.new.spare }
     {
-        let linked = self.links.remove(self.buckets[0].first);
+        let bucket = self.buckets.get(0);
+        let linked = self.links.remove(bucket.first);
         match linked.next {
-            Some(key) => self.buckets[0].first = key,
+            Some(first) => self.buckets.set(0, Bucket { first, ..bucket }),
             None => {
-                self.buckets.remove(0);
+                self.buckets.remove_first();
                 self.hints.remove_first();
             }
         }
@@ -275,14 +276,16 @@ impl Queue {
         ensures order { AreInOrder self.now.held }
         ensures keys { KeysDiffer self.now.held }
     {
-        self.buckets.partition_point(|bucket| bucket.fs < fs)
+        self.buckets
+            .as_slice()
+            .partition_point(|bucket| bucket.fs < fs)
     }
 
     /// The first key of the bucket of this number, where it is of this time.
     fn first_of(&self, k: usize, fs: u64) -> Option<usize>
         ensures { result ≡ first_of (slice_get (buckets_of self.now.held) k) fs }
     {
-        match self.buckets.get(k) {
+        match self.buckets.as_slice().get(k) {
             None => None,
             Some(bucket) => {
                 if bucket.fs == fs {
@@ -371,10 +374,8 @@ impl Queue {
             wish: w,
             next: None,
         });
-        match self.buckets.insert(k, Bucket { fs, first }) {
-            Ok(()) => self.hints.insert(k, first),
-            Err(_) => unreachable!(),
-        }
+        self.buckets.insert(k, Bucket { fs, first });
+        self.hints.insert(k, first);
     }
 
     /// Puts a wish first into the bucket of this number.
@@ -384,9 +385,10 @@ impl Queue {
         requires once { NamesOnce w.bits }
         ensures { IsPut self.old self.new w }
     {
-        let next = Some(self.buckets[k].first);
-        let key = self.links.insert_reserved(Linked { wish: w, next });
-        self.buckets[k].first = key;
+        let bucket = self.buckets.get(k);
+        let next = Some(bucket.first);
+        let first = self.links.insert_reserved(Linked { wish: w, next });
+        self.buckets.set(k, Bucket { first, ..bucket });
     }
 
     /// Puts a wish into the bucket of this number behind the wish of this key.

@@ -1,7 +1,7 @@
 //! A wish as a queue holds it: what one instance wished at one instant for one due instant.
 ghost use Rattle.std.specs.Prelude.{◌≡◌, length};
-ghost use Rattle.lh_queue.specs.Held.{is_before, is_at, BitsWithin};
-ghost use Rattle.lh_queue.specs.Written.{written};
+ghost use Rattle.lh_types.specs.Writes.{written, BitsWithin};
+ghost use Rattle.lh_queue.specs.Held.{is_before, is_at};
 
 use lh_time::Instant;
 use lh_types::bits::Bits;
@@ -44,9 +44,6 @@ impl Wish {
         requires { BitsWithin (length now.old) self.now.bits }
         ensures { now.new ≡ written self.now.bits now.old }
     {
-        for k in 0..self.bits.len() {
-            let (bit, value) = self.bits.get(k);
-            now.set(bit, value);
-        }
+        self.bits.set(now);
     }
 }

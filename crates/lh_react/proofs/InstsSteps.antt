@@ -9,7 +9,7 @@ use Rattle.lh_unit.specs.declared.inst.InstId.{InstId}
 use Rattle.lh_eval.specs.Sound.{IsSound}
 use Rattle.lh_react.specs.declared.pass.Run.{Run}
 use Rattle.lh_react.specs.Standing.{Stands, IsFit, Continues, line_in, passed_all}
-use Rattle.lh_react.proofs.FitLaws.{keeps-fit}
+use Rattle.lh_sound.proofs.FitLaws.{keeps-fit}
 
 pub drop-get_or : {X : Type 0} → (xs : List X) (i : ℕ) (d : X) → i < length xs → drop i xs ≡ get_or xs i d ∷ drop (i + 1) xs
 drop-get_or xs i d h = rw add-one (drop-cons xs i d h)

@@ -1,10 +1,4 @@
 pub mod RunSteps
-pub mod BeginSteps
-pub mod Lists
-pub mod Spelled
-pub mod NamedOnce
-pub mod SoundLines
-pub mod FitLaws
 pub mod PassFits
 pub mod FitSteps
 pub mod NamedSteps

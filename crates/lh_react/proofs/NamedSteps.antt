@@ -20,13 +20,11 @@ use Rattle.lh_eval.specs.Holding.{MaybeIn}
 use Rattle.lh_eval.specs.Fitting.{OperandsFit, ProbeFits, DriveFits}
 use Rattle.lh_eval.specs.Holding.{part_in, datum_in}
 use Rattle.lh_eval.specs.Sound.{IsSound}
-use Rattle.lh_eval.proofs.Holding.{same-held}
 use Rattle.lh_react.specs.declared.pass.Run.{Run}
 use Rattle.lh_react.specs.Standing.{Stands, IsFit, HasGiven, HasWished, named_line}
 use Rattle.lh_react.specs.Registers.{TriggerIn, TriggerFits, tries}
 use Rattle.lh_react.proofs.RunSteps.{stands-given, stands-wished, stands-tries}
-use Rattle.lh_react.proofs.FitSteps.{slots-long, each-part, probe-fits, drive-fits, triggers-in, triggers-fit}
-use Rattle.lh_react.proofs.FitLaws.{values-fit}
+use Rattle.lh_react.proofs.FitSteps.{slots-long, operation-fits, probe-fits, drive-fits, triggers-in, triggers-fit}
 
 module _ (a : Arena) (u : ℕ) where
   pub given-ok : (res : Result (Unit {0}) NoMemory) (p q : Passed) (r s : Run) (name : Option ValueId) (h k : Option Held) → IsArena a → u < unit_count a → Stands a u p r → MaybeIn r.slots name → h ≡ k → record p { held = if_held p.held (maybe_text (naming a u) name) k } ≡ q → OnOk res (HasGiven r name h s) → OnOk res (Stands a u q s)
@@ -45,11 +43,7 @@ module _ (a : Arena) (u : ℕ) where
     pure-fits i op args xs e g s p =
         let s' = subst (λ (x : Inst). IsSound (unit_text_at a u) (named_line a u name x)) e s in
         let p' = subst (InstPlaced a u) e p in
-        let in_slots : Each (λ (x : Typed). x.value.0 < length r.slots) args = rw (slots-long a u w r f) p' in
-        let all : OperandsFit a u r.slots op args = record {
-          values = λ ds q. values-fit (unit_text_at a u) w f.passed.held op (map (operand_text (naming a u)) args) f.fits s'.row s'.part s'.written ds (sym ((same-held a u r.slots f.passed.held f.stands.holds).values args in_slots) ∙ q);
-          parts = each-part a u w r f few args p';
-        } in
+        let all : OperandsFit a u r.slots op args = operation-fits a u w r f few op args p' s'.row s'.written in
         subst (OperandsFit a u r.slots op) (sym g) all
 
     pub prb-fits : (i : Inst) (s : Typed) (now : List Bool) → length now ≡ w → i ≡ inst.Prb s → IsSound (unit_text_at a u) (named_line a u name i) → InstPlaced a u i → ProbeFits now r.slots s

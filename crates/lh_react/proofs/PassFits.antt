@@ -25,8 +25,8 @@ use Rattle.lh_eval.specs.WishOf.{bits_due, writes_wish}
 use Rattle.lh_eval.proofs.ValuesFit.{datum-held}
 use Rattle.lh_eval.proofs.GivesFit.{part-fits}
 use Rattle.lh_react.specs.Standing.{triggers_in, trigger_count, BitsWithin}
-use Rattle.lh_react.proofs.Lists.{each-split, each-of-map}
-use Rattle.lh_react.proofs.FitLaws.{keeps-fit}
+use Rattle.lh_sound.proofs.EachItem.{each-split, each-of-map}
+use Rattle.lh_sound.proofs.FitLaws.{keeps-fit}
 
 -- each entry is of a bit below this
 abbrev pub WishWithin : (width : ℕ) → Wish → Type 0

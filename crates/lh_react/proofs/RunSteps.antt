@@ -19,11 +19,6 @@ use Rattle.lh_react.specs.declared.pass.Run.{Run}
 use Rattle.lh_react.specs.Standing.{Stands, HasGiven, HasWished}
 use Rattle.lh_react.specs.Registers.{TriggerIn, delay_in, value_in, fires_in, stored_in, tried, tries}
 
--- a result of the unit has a slot
-pub maybe-in : (n : ℕ) (slots : List (Option Held)) (r : Option ValueId) → length slots ≡ n → ResultWithin n r → MaybeIn slots r
-maybe-in n slots None e w = tt
-maybe-in n slots (Some v) e w = omega (arith, e, w)
-
 module _ (a : Arena) (u : ℕ) where
   pub stands-given : (p : Passed) (r s : Run) (name : Option ValueId) (h k : Option Held) → IsArena a → u < unit_count a → Stands a u p r → MaybeIn r.slots name → h ≡ k → HasGiven r name h s → Stands a u (record p { held = if_held p.held (maybe_text (naming a u) name) k }) s
   stands-given p r s name h k o hu st w e g = record {

@@ -1,13 +1,11 @@
 -- What a run of an entity has come to, as the code keeps it and as a pass defines it.
-use Rattle.std.specs.Prelude.{◌≡◌, ℕ, ◌+◌, ◌≤◌, ◌<◌, List, [], ◌∷◌, length, map, Bool, Option, Some, None}
+use Rattle.std.specs.Prelude.{◌≡◌, ℕ, ◌+◌, ◌<◌, List, [], ◌∷◌, length, map, Bool, Option, Some, None}
 use Rattle.lh_time.specs.declared.Instant.{Instant}
-use Rattle.lh_types.specs.Types.{TypeTree, bit_count}
 use Rattle.lh_types.specs.Wish.{Wish}
-use Rattle.lh_types.specs.declared.part.Range.{Range}
-use Rattle.lh_unit.specs.Contents.{InstText, sig_text, reg_text, LineText, ArgText, UnitText}
+use Rattle.lh_unit.specs.Contents.{InstText, reg_text, LineText, UnitText}
 use Rattle.lh_unit.specs.Held.{Held}
 use Rattle.lh_unit.specs.Pass.{Passed, passes, pass_from}
-use Rattle.lh_unit.specs.Hierarchy.{lines_of, type_or_void}
+use Rattle.lh_unit.specs.Hierarchy.{lines_of}
 use Rattle.lh_unit.specs.Within.{Each}
 use Rattle.lh_unit.specs.Arena.{Arena, naming, table_at, unit_text_at}
 use Rattle.lh_unit.specs.ById.{inst_line}
@@ -67,32 +65,6 @@ pub record HasWished (old : Run) (w : Wish) (new : Run) : Type 0 where
   pub slots : new.slots ≡ old.slots
   pub seen : new.seen ≡ old.seen
   pub wishes : new.wishes ≡ w
-
--- ranges have these widths, and lie within so many bits
-abbrev pub RangesFit : (width : ℕ) → List Range → List TypeTree → Type 0
-RangesFit width [] [] = Unit {0}
-RangesFit width (r ∷ rs) (t ∷ ts) = (r.len ≡ bit_count t) × (r.lo + r.len ≤ width) × RangesFit width rs ts
-RangesFit width _ _ = ⊥
-
--- the types of the arguments
-abbrev pub arg_types : List ArgText → List TypeTree
-arg_types [] = []
-arg_types (x ∷ more) = x.ty ∷ arg_types more
-
--- one more type, where the instruction is a `sig`
-abbrev pub type_if_signal : InstText → List TypeTree → List TypeTree
-type_if_signal (sig_text a) more = type_or_void a.ty ∷ more
-type_if_signal _ more = more
-
--- the types that the `sig` instructions write, in text order
-abbrev pub signal_types : List LineText → List TypeTree
-signal_types [] = []
-signal_types (l ∷ more) = type_if_signal l.inst (signal_types more)
-
--- the ranges of an instance have the widths of its unit's arguments and `sig` instructions, and lie within so many bits
-pub record InstanceFits (u : UnitText) (args sigs : List Range) (width : ℕ) : Type 0 where
-  pub of_args : RangesFit width args (arg_types u.args)
-  pub of_signals : RangesFit width sigs (signal_types (lines_of u.blocks))
 
 -- how many triggers an instruction has
 abbrev pub triggers_in : InstText → ℕ

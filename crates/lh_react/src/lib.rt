@@ -1,7 +1,6 @@
 //! One pass of an entity.
 #![tactic(auto)]
 
-mod begin;
 mod entity;
 mod pass;
 mod register;

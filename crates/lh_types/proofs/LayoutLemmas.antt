@@ -1,17 +1,14 @@
 -- Walks along the parts of a value and along bits.
-use Rattle.std.proofs.Common.{◌≡◌, ℕ, ◌+◌, ◌-◌, ◌*◌, ◌/◌, ◌%◌, ◌^◌, ◌<◌, ◌≤◌, suc, Bool, true, false, nat_eq, List, [], ◌∷◌, ◌++◌, length, get_or, take, drop, map, refl, ap, sym, ◌∙◌, append_assoc, arith}
+use Rattle.std.proofs.Common.{◌≡◌, ℕ, ◌+◌, ◌-◌, ◌*◌, ◌^◌, ◌<◌, ◌≤◌, suc, Bool, List, [], ◌∷◌, ◌++◌, length, get_or, take, drop, map, refl, ap, sym, ◌∙◌, append_assoc, arith}
 use Rattle.std.proofs.lemmas.Nat.{row_fits}
-use mir.Val.{bool_byte}
-use Rattle.std.proofs.Math.Nat.{pow-le-pow_right}
-use Rattle.std.proofs.lemmas.List.{length-drop, length-take, drop-drop, drop_more, drop_all}
+use Rattle.std.proofs.lemmas.List.{length-append, length-drop, drop-drop, drop_all}
 use Rattle.lh_types.specs.Types.{TypeTree, more_types, row_of, bit_count, bit_count_row, IsData, AreData}
 use Rattle.lh_types.specs.Values.{Datum, DatumRow, no_values, more_values, data_row}
 use Rattle.lh_types.specs.ValueOf.{datum_of}
-use Rattle.lh_types.specs.Bits.{value_bits, row_bits, number_bits, bits_number, value_from_bits, row_from_bits, repeat_parts}
+use Rattle.lh_types.specs.Bits.{value_bits, row_bits, value_from_bits, row_from_bits, repeat_parts}
 use Rattle.lh_types.specs.declared.val.Val.{Val}
 use Rattle.lh_types.proofs.Rows.{row_of-drop, AreData-split, bit_count_row-drop}
 use Rattle.lh_types.proofs.DatumRows.{data_row-drop-map}
-use Rattle.lh_types.proofs.NumberBits.{bits_number-lt}
 use Rattle.lh_types.proofs.ValueBits.{value_from_bits-take}
 
 -- a row with values before it
@@ -89,41 +86,9 @@ AppendsAt-next start to next all vs i v w h e g = record {
   rest = ap (λ bs. bs ++ row_bits (data_row (drop (i + 1) (map datum_of vs)))) g ∙ append_assoc to (value_bits (datum_of v)) _ ∙ ap (λ r. to ++ row_bits r) (sym (data_row-drop-map vs i v h e)) ∙ w.rest;
 }
 
--- the bits of a number from the top down: one more bit below those that were read
-pub bits_number-more : (b : List Bool) (lo w i : ℕ) (d : Bool) → lo + w ≤ length b → i < w → bits_number (take (w - i) (drop (lo + i) b)) ≡ bits_number (get_or b (lo + i) d ∷ take (w - (i + 1)) (drop (lo + (i + 1)) b))
-bits_number-more b lo w i d h k =
-    let left : w - i ≡ suc (w - (i + 1)) = omega arith in
-    let further : lo + i + 1 ≡ lo + (i + 1) = omega arith in
-    ap (λ m. bits_number (take m (drop (lo + i) b))) left ∙ ap (λ bs. bits_number (take (suc (w - (i + 1))) bs)) (drop_more b (lo + i) d (omega arith)) ∙ ap (λ m. bits_number (get_or b (lo + i) d ∷ take (w - (i + 1)) (drop m b))) further
-
--- the bits of a number from the bottom up: one more bit after those that were appended
-pub number_bits-next : (to start : List Bool) (w k n : ℕ) → k < w → to ++ number_bits (w - k) n ≡ start → (to ++ nat_eq (n % 2) 1 ∷ []) ++ number_bits (w - (k + 1)) (n / 2) ≡ start
-number_bits-next to start w k n h e =
-    let left : w - k ≡ suc (w - (k + 1)) = omega arith in
-    append_assoc to (nat_eq (n % 2) 1 ∷ []) (number_bits (w - (k + 1)) (n / 2)) ∙ ap (λ m. to ++ number_bits m n) (sym left) ∙ e
-
--- a number that is read from so few bits fits 128 bits, twice over while bits are left
-pub bits_number-fits : (b : List Bool) (from k : ℕ) → k < 128 → bits_number (take k (drop from b)) * 2 + 1 < 2 ^ 128
-bits_number-fits b from k h =
-    let short : length (take k (drop from b)) ≤ 127 = omega (arith, length-take k (drop from b)) in
-    let below : bits_number (take k (drop from b)) < 2 ^ length (take k (drop from b)) = bits_number-lt (take k (drop from b)) in
-    let two : 0 < 2 = omega arith in
-    let small : 2 ^ length (take k (drop from b)) ≤ 2 ^ 127 = pow-le-pow_right two short in
-    omega (arith, below, small)
-
--- `bool as u128`
-pub bits_number-byte : (x : Bool) (bs : List Bool) → bits_number (x ∷ bs) ≡ bits_number bs * 2 + bool_byte x
-bits_number-byte true bs = omega arith
-bits_number-byte false bs = omega arith
-
-pub bool_byte-le : (x : Bool) → bool_byte x ≤ 1
-bool_byte-le true = omega arith
-bool_byte-le false = omega arith
-
--- the number that was read, with one more bit below it
-pub bits_number-step : (b : List Bool) (lo w i number : ℕ) → lo + w ≤ length b → 0 < i → i ≤ w → number ≡ bits_number (take (w - i) (drop (lo + i) b)) → number * 2 + bool_byte (get_or b (lo + (i - 1)) false) ≡ bits_number (take (w - (i - 1)) (drop (lo + (i - 1)) b))
-bits_number-step b lo w i number h k l e =
-    let here : i - 1 + 1 ≡ i = omega arith in
-    let more = bits_number-more b lo w (i - 1) false h (omega arith) in
-    let above : bits_number (take (w - (i - 1 + 1)) (drop (lo + (i - 1 + 1)) b)) ≡ number = ap (λ m. bits_number (take (w - m) (drop (lo + m) b))) here ∙ sym e in
-    sym (more ∙ bits_number-byte (get_or b (lo + (i - 1)) false) (take (w - (i - 1 + 1)) (drop (lo + (i - 1 + 1)) b)) ∙ ap (λ m. m * 2 + bool_byte (get_or b (lo + (i - 1)) false)) above)
+-- the bits of the next value have room where all have
+pub AppendsAt-room : (start to : List Bool) (all : List Datum) (vs : List Val) (i : ℕ) (v : Val) → AppendsAt start to all vs i → i < length vs → v ≡ get_or vs i v → length start + length (row_bits (data_row all)) < 2 ^ 32 → length to + length (value_bits (datum_of v)) < 2 ^ 32
+AppendsAt-room start to all vs i v w h e room =
+    let here : length (row_bits (data_row (drop i (map datum_of vs)))) ≡ length (value_bits (datum_of v) ++ row_bits (data_row (drop (i + 1) (map datum_of vs)))) = ap (λ r. length (row_bits r)) (data_row-drop-map vs i v h e) in
+    let whole : length (to ++ row_bits (data_row (drop i (map datum_of vs)))) ≡ length (start ++ row_bits (data_row all)) = ap length w.rest in
+    omega (arith, here, whole, length-append to (row_bits (data_row (drop i (map datum_of vs)))), length-append start (row_bits (data_row all)), length-append (value_bits (datum_of v)) (row_bits (data_row (drop (i + 1) (map datum_of vs)))), room)

@@ -26,6 +26,21 @@ abbrev pub claims_of : Instant → ℕ → Wish → List Claim
 claims_of made instance [] = []
 claims_of made instance (e ∷ more) = record { due = e.0.due; made = made; instance = instance; bit = e.0.bit; value = e.1 } ∷ claims_of made instance more
 
+-- the entries of bits that are due at one instant, with their origin
+abbrev pub entries_of : (due made : Instant) → (instance : ℕ) → List (ℕ × Bool) → List Claim
+entries_of due made instance [] = []
+entries_of due made instance (e ∷ more) = record { due = due; made = made; instance = instance; bit = e.0; value = e.1 } ∷ entries_of due made instance more
+
+-- a wish that is not empty is kept, with its origin
+abbrev pub kept : (made : Instant) → (instance : ℕ) → Wish → List Made
+kept made instance [] = []
+kept made instance (e ∷ more) = record { made = made; instance = instance; wish = e ∷ more } ∷ []
+
+-- the wishes that instances in a row make at one instant, from instance `i` on
+abbrev pub made_from : Instant → (i : ℕ) → List Wish → List Made
+made_from made i [] = []
+made_from made i (w ∷ more) = kept made i w ++ made_from made (i + 1) more
+
 -- the entries of all wishes of a history
 abbrev pub claims : List Made → List Claim
 claims [] = []
@@ -77,6 +92,11 @@ values_by all t k (b ∷ more) = value_by all b k t ∷ values_by all t (k + 1) 
 -- all bits at an instant, from the initial ones
 unfoldable pub bits_at : List Made → (initial : List Bool) → Instant → List Bool
 bits_at history initial t = values_by (claims history) t 0 initial
+
+-- the bits at the last instant, before the first the initial ones
+abbrev pub bits_after : List Made → (initial : List Bool) → (last : Option Instant) → List Bool
+bits_after history initial None = initial
+bits_after history initial (Some l) = bits_at history initial l
 
 -- the sooner of two instants, of which either may be missing
 abbrev pub sooner : Option Instant → Option Instant → Option Instant

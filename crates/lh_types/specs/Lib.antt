@@ -9,6 +9,8 @@ pub mod ValueOf
 pub mod ValueSize
 pub mod Fits
 pub mod Bits
+pub mod Flags
+pub mod Packed
 pub mod Parts
 pub mod Raised
 pub mod PlaceOf
@@ -19,4 +21,6 @@ pub mod ApplyInt
 pub mod Apply
 pub mod ApplyTypes
 pub mod Wish
+pub mod Writes
 pub mod History
+pub mod Pictures

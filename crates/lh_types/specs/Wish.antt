@@ -1,6 +1,7 @@
 -- What an activation wishes: at which instant which bit of the signals becomes which.
-use Rattle.std.specs.Prelude.{ℕ, ◌+◌, List, [], ◌∷◌, Bool, Option, Some, None}
+use Rattle.std.specs.Prelude.{◌≡◌, ℕ, ◌+◌, List, [], ◌∷◌, Bool, Option, Some, None}
 use Rattle.std.specs.declared.cmp.Ordering.{Ordering}
+use Rattle.std.specs.declared.cmp.Ordering.TheVariants.{Less}
 use Rattle.std.specs.Ordering.{nat_cmp, ordering_then}
 use Rattle.std.specs.BTreeMap.{insert_entry}
 use Rattle.lh_time.specs.declared.Instant.{Instant}
@@ -15,9 +16,23 @@ pub record DueBit : Type 0 where
 abbrev pub due_bit_cmp : DueBit → DueBit → Ordering
 due_bit_cmp a b = ordering_then (instant_cmp a.due b.due) (nat_cmp a.bit b.bit)
 
+-- the bit of the signals at an instant
+abbrev pub due_bit : Instant → ℕ → DueBit
+due_bit t i = record { due = t; bit = i }
+
 -- a map from these to bits, as the list of its entries in order
 abbrev pub Wish : Type 0
 Wish = List (DueBit × Bool)
+
+-- an entry's place is below that of each of these
+abbrev pub IsBelow : DueBit → Wish → Type 0
+IsBelow k [] = Unit {0}
+IsBelow k (e ∷ more) = (due_bit_cmp k e.0 ≡ Less) × IsBelow k more
+
+-- the entries stand in strictly rising order
+abbrev pub IsInOrder : Wish → Type 0
+IsInOrder [] = Unit {0}
+IsInOrder (e ∷ more) = IsBelow e.0 more × IsInOrder more
 
 -- nothing is wished
 abbrev pub no_wish : Wish

@@ -17,40 +17,30 @@ pub fn to_bits(alloc: Global, v: &Val) -> Result<Bits, NoMemory>
     requires { FitsData (datum_of v.now) }
     ensures { IfOk result (λ bs. bs ≡ value_bits (datum_of v.now)) }
 {
-    let mut to = Vec::new(alloc);
+    let mut to = Bits::zeros(alloc, 0)?;
     append_value(v, &mut to)?;
-    Ok(Bits::from_vec(to))
+    Ok(to)
 }
 
 #[cycle(append)]
-fn append_value(v: &Val, to: &mut Vec<bool>) -> Result<(), NoMemory>
-    ensures { OnOk result (to.new.items ≡ to.old.items ++ value_bits (datum_of v.now)) }
+fn append_value(v: &Val, to: &mut Bits) -> Result<(), NoMemory>
+    requires { length to.old + length (value_bits (datum_of v.now)) < 2 ^ 32 }
+    ensures { OnOk result (to.new ≡ to.old ++ value_bits (datum_of v.now)) }
 {
     match v {
-        Val::Int { width, bits } => append_number(*width, *bits, to),
+        Val::Int { width, bits } => to.push_int(*width, *bits),
         Val::Time(_) => Ok(()),
         Val::Array(vs) | Val::Tuple(vs) => append_values(vs, to),
     }
 }
 
 #[cycle(append)]
-fn append_values(vs: &ValList, to: &mut Vec<bool>) -> Result<(), NoMemory>
-    ensures { OnOk result (to.new.items ≡ to.old.items ++ row_bits (data_row vs.now)) }
+fn append_values(vs: &ValList, to: &mut Bits) -> Result<(), NoMemory>
+    requires { length to.old + length (row_bits (data_row vs.now)) < 2 ^ 32 }
+    ensures { OnOk result (to.new ≡ to.old ++ row_bits (data_row vs.now)) }
 {
     for v in vs.as_slice() {
         append_value(v, to)?;
-    }
-    Ok(())
-}
-
-/// The lowest `width` bits of a number, least significant first.
-fn append_number(width: u32, number: u128, to: &mut Vec<bool>) -> Result<(), NoMemory>
-    ensures { OnOk result (to.new.items ≡ to.old.items ++ number_bits width number) }
-{
-    let mut rest = number;
-    for _bit in 0..width {
-        to.push(rest % 2 == 1)?;
-        rest /= 2;
     }
     Ok(())
 }
@@ -61,11 +51,13 @@ pub fn from_bits(alloc: Global, t: &Ty, b: &Bits, lo: u32) -> Result<Val, NoMemo
     requires within { lo + bit_count t.now ≤ length b.now }
     ensures { IfOk result (λ v. datum_of v ≡ value_from_bits t.now (drop lo b.now)) }
 {
-    value_at(alloc, t, b.as_slice(), lo as usize)
+    b.is_short();
+    value_at(alloc, t, b, lo)
 }
 
 #[cycle(value_at)]
-fn value_at(alloc: Global, t: &Ty, b: &[bool], lo: usize) -> Result<Val, NoMemory>
+fn value_at(alloc: Global, t: &Ty, b: &Bits, lo: u32) -> Result<Val, NoMemory>
+    requires short { length b.now < 2 ^ 32 }
     requires data { IsData t.now }
     requires within { lo + bit_count t.now ≤ length b.now }
     ensures { IfOk result (λ v. datum_of v ≡ value_from_bits t.now (drop lo b.now)) }
@@ -73,7 +65,7 @@ fn value_at(alloc: Global, t: &Ty, b: &[bool], lo: usize) -> Result<Val, NoMemor
     match t.kind() {
         TyKind::Int(width) => Ok(Val::Int {
             width,
-            bits: number_at(b, lo, width),
+            bits: b.int_at(lo, width),
         }),
         TyKind::Array(n, of) => {
             let elements = elements_at(alloc, n, of, b, lo)?;
@@ -88,23 +80,25 @@ fn value_at(alloc: Global, t: &Ty, b: &[bool], lo: usize) -> Result<Val, NoMemor
 }
 
 #[cycle(value_at)]
-fn elements_at(alloc: Global, n: u32, of: &Ty, b: &[bool], lo: usize) -> Result<ValList, NoMemory>
+fn elements_at(alloc: Global, n: u32, of: &Ty, b: &Bits, lo: u32) -> Result<ValList, NoMemory>
+    requires short { length b.now < 2 ^ 32 }
     requires data { IsData of.now }
     requires within { lo + n * bit_count of.now ≤ length b.now }
     ensures { IfOk result
         (λ vs. data_row vs ≡ repeat_parts n (value_from_bits of.now) (bit_count of.now) (drop lo b.now)) }
 {
-    let size = bits(of) as usize;
+    let size = bits(of);
     let mut to = ValList::new(alloc);
     for i in 0..n {
-        let element = value_at(alloc, of, b, lo + i as usize * size)?;
+        let element = value_at(alloc, of, b, lo + i * size)?;
         to.push(element)?;
     }
     Ok(to)
 }
 
 #[cycle(value_at)]
-fn fields_at(alloc: Global, fields: &TyList, b: &[bool], lo: usize) -> Result<ValList, NoMemory>
+fn fields_at(alloc: Global, fields: &TyList, b: &Bits, lo: u32) -> Result<ValList, NoMemory>
+    requires short { length b.now < 2 ^ 32 }
     requires data { AreData (row_of fields.now) }
     requires within { lo + bit_count_row (row_of fields.now) ≤ length b.now }
     ensures { IfOk result (λ vs. data_row vs ≡ row_from_bits (row_of fields.now) (drop lo b.now)) }
@@ -114,20 +108,8 @@ fn fields_at(alloc: Global, fields: &TyList, b: &[bool], lo: usize) -> Result<Va
     for field in fields.as_slice() {
         let value = value_at(alloc, field, b, at)?;
         to.push(value)?;
-        at += bits(field) as usize;
+        let size = bits(field);
+        at += size;
     }
     Ok(to)
-}
-
-/// The number of `width` bits from bit `lo` on, least significant first.
-fn number_at(b: &[bool], lo: usize, width: u32) -> u128
-    requires narrow { width ≤ 128 }
-    requires within { lo + width ≤ length b.now }
-    ensures { result ≡ bits_number (take width (drop lo b.now)) }
-{
-    let mut number = 0;
-    for i in (0..width as usize).rev() {
-        number = number * 2 + b[lo + i] as u128;
-    }
-    number
 }

@@ -1,15 +1,20 @@
 //! Types, values, bits and operations of the language, and the lists that every layer uses.
 #![tactic(auto)]
 
+pub mod bit_run;
 pub mod bits;
+pub mod frame;
 pub mod laws;
 pub mod layout;
 pub mod list;
 pub mod op;
 pub mod part;
+mod run;
 pub mod tally;
 #[cfg(test)]
 mod tests;
+pub mod text;
 pub mod ty;
 pub mod val;
+mod word;
 pub mod writes;

@@ -1,5 +1,5 @@
 //! Types at their limits, and parts and bits worked out by hand.
-ghost use Rattle.std.specs.Prelude.{◌≡◌, length, IfOk};
+ghost use Rattle.std.specs.Prelude.{◌≡◌, ◌+◌, ◌≤◌, length, IfOk};
 
 use crate::bits::Bits;
 use crate::layout::{from_bits, to_bits};
@@ -232,9 +232,66 @@ fn bits_of_an_array(rt: HostRuntime) -> Result<(), Fail> {
     assert!(rt; v == whole);
     assert!(rt; v.copy()? == whole);
     assert_eq!(rt; back.len(), 72);
+    assert_eq!(rt; back.words(), [0x0807060504030201, 9].as_slice());
     for i in 0..72 {
         assert_eq!(rt; back.get(i), b.get(i), "bit {i}");
     }
+    Ok(())
+}
+
+const NUMBER: u128 = 0x0123456789abcdeffedcba9876543210;
+
+/// 200 bits: the number's 128 from bit `lo` on, all others 0.
+fn number_at(alloc: Global, lo: u32, number: u128) -> Result<Bits, NoMemory>
+    requires { lo ≤ 72 }
+    ensures { IfOk result (λ b. length b ≡ 200) }
+{
+    let mut b = Bits::zeros(alloc, 200)?;
+    b.put_int(lo, 128, number);
+    Ok(b)
+}
+
+/// 200 bits: `len` from bit `lo` on are those of `from` from `at` on, all others 0.
+fn part_at(alloc: Global, lo: u32, from: &Bits, at: u32, len: u32) -> Result<Bits, NoMemory>
+    requires within { lo + len ≤ 200 }
+    requires from_within { at + len ≤ length from.now }
+    ensures { IfOk result (λ b. length b ≡ 200) }
+{
+    let mut b = Bits::zeros(alloc, 200)?;
+    b.put_part(lo, from, at, len);
+    Ok(b)
+}
+
+#[test]
+fn numbers_across_words(rt: HostRuntime) -> Result<(), Fail> {
+    let b = number_at(rt.alloc(), 60, NUMBER)?;
+    let want = [0, 0xffedcba987654321, 0x00123456789abcde, 0];
+    assert_eq!(rt; b.words(), want.as_slice());
+    assert_eq!(rt; b.int_at(60, 128), NUMBER);
+    assert_eq!(rt; b.int_at(100, 70), 0x56789abcdeffedcba);
+    assert_eq!(rt; b.int_at(64, 4), 1);
+    assert_eq!(rt; b.int_at(200, 0), 0);
+    assert!(rt; b.get(64) && !b.get(65));
+    Ok(())
+}
+
+#[test]
+fn parts_across_words(rt: HostRuntime) -> Result<(), Fail> {
+    let alloc = rt.alloc();
+    let b = number_at(alloc, 60, NUMBER)?;
+    let c = part_at(alloc, 3, &b, 60, 128)?;
+    assert_eq!(rt; c.int_at(3, 128), NUMBER);
+    let d = part_at(alloc, 60, &c, 3, 128)?;
+    assert!(rt; d.same_part(&b, 0, 200));
+    assert!(rt; !c.same_part(&b, 0, 200));
+    assert!(rt; c.same_part(&b, 0, 7) && !c.same_part(&b, 0, 8));
+    assert_eq!(rt; d.toggled(&b, 0, 200), 0);
+    assert_eq!(rt; c.toggled(&b, 0, 200), 94);
+    let part = b.part(60, 128)?;
+    assert_eq!(rt;
+        part.words(),
+        [0xfedcba9876543210, 0x0123456789abcdef].as_slice()
+    );
     Ok(())
 }
 
@@ -248,5 +305,23 @@ fn lists(rt: HostRuntime) -> Result<(), Fail> {
     writes.push((5, true))?;
     assert_eq!(rt; writes.len(), 1);
     assert_eq!(rt; writes.get(0), (5, true));
+    Ok(())
+}
+
+#[test]
+fn runs_of_writes(rt: HostRuntime) -> Result<(), Fail> {
+    let mut bits = Bits::zeros(rt.alloc(), 3)?;
+    bits.set(1, true);
+    let mut writes = BitWrites::new(rt.alloc());
+    writes.push_run(9, Bits::zeros(rt.alloc(), 0)?)?;
+    writes.push_run(70, bits)?;
+    writes.push((5, true))?;
+    assert_eq!(rt; writes.runs().len(), 2);
+    assert_eq!(rt; writes.len(), 4);
+    assert_eq!(rt; (writes.get(0), writes.get(1)), ((70, false), (71, true)));
+    assert_eq!(rt; (writes.get(2), writes.get(3)), ((72, false), (5, true)));
+    let mut now = Bits::zeros(rt.alloc(), 80)?;
+    writes.set(&mut now);
+    assert_eq!(rt; now.words(), [32, 128].as_slice());
     Ok(())
 }

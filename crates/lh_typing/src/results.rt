@@ -1,12 +1,12 @@
 //! The type and the kind of what an instruction gives.
-ghost use Rattle.std.specs.Prelude.{◌≡◌, Option, map, option_map, IfOk};
+ghost use Rattle.std.specs.Prelude.{◌≡◌, Option, Some, map, option_map, IfOk};
 ghost use Rattle.std.specs.Option.{option_copied, option_and_then};
 ghost use Rattle.lh_types.specs.Types.{TypeTree, int_type, row_of};
 ghost use Rattle.lh_types.specs.Kind.{type_of_kind};
 ghost use Rattle.lh_types.specs.ValueOf.{datum_of};
 ghost use Rattle.lh_types.specs.Faults.{Makes};
 ghost use Rattle.lh_unit.specs.Naming.{Naming, operand_text, inst_text};
-ghost use Rattle.lh_unit.specs.Typing.{if_made, constant_type as datum_type, array_made, tuple_made, first_type as texts_first, written_types as texts_written, if_value_type, pointer_to, signal_of, pointed, carried, operation_type as texts_type, result_type as text_type};
+ghost use Rattle.lh_unit.specs.Typing.{if_made, constant_type as datum_type, array_made, tuple_made, first_type as texts_first, written_types as texts_written, pointer_to, signal_of, pointed, carried, operation_type as texts_type, result_type as text_type};
 ghost use Rattle.lh_unit.specs.Kinds.{kind_of as type_kind, result_kind as text_kind};
 ghost use Rattle.lh_typing.specs.Told.{kind_as};
 
@@ -197,13 +197,10 @@ fn carried_type(from: &Typed) -> Result<Option<Ty>, NoMemory>
     }
 }
 
-/// A type that a value may have.
-fn value_type(ty: &Ty) -> Result<Option<Ty>, NoMemory>
-    ensures { IfOk result (λ o. o ≡ if_value_type ty.now) }
+/// The type that a line itself writes for what it gives.
+fn own_type(ty: &Ty) -> Result<Option<Ty>, NoMemory>
+    ensures { IfOk result (λ o. o ≡ Some ty.now) }
 {
-    if !is_value_type(ty.kind()) {
-        return Ok(None);
-    }
     Ok(Some(ty.copy()?))
 }
 
@@ -218,8 +215,8 @@ pub fn result_type(alloc: Global, inst: &Inst) -> Result<Option<Ty>, NoMemory>
         Inst::Ld(from) => pointed_type(from),
         Inst::Sig(of) => signal_type(alloc, of),
         Inst::Prb(of) => carried_type(of),
-        Inst::Call { result, .. } => value_type(result),
-        Inst::Phi { ty, edges: _ } => value_type(ty),
+        Inst::Call { result, .. } => own_type(result),
+        Inst::Phi { ty, edges: _ } => own_type(ty),
         _ => Ok(None),
     }
 }

@@ -8,13 +8,15 @@ use lib.Pointwise.{pointwise}
 use Rattle.lh_types.specs.Types.{TypeTree}
 use Rattle.lh_types.specs.declared.ty.NoMemory.{NoMemory}
 use Rattle.lh_unit.specs.UnitNames.{same_unit_name}
-use Rattle.lh_unit.specs.Table.{Table, IsTable, ResultWithin, HasBlocks, no_table}
+use Rattle.lh_unit.specs.Table.{Table, IsTable, IsDefinition, ResultWithin, HasBlocks, no_table}
 use Rattle.lh_unit.specs.TableCalls.{has_name, with_value, with_label, with_result, with_line, FindsValueIn, FindsLabelIn, TakesArg, TakesBlock, TakesLine}
 use Rattle.lh_unit.specs.Within.{sizes_of, InstWithin}
 use Rattle.lh_unit.specs.Arena.{Arena, IsArena, InstPlaced, IsOpen, table_at, kind_at, unit_count}
 use Rattle.lh_unit.specs.declared.name.UnitName.{UnitName}
 use Rattle.lh_unit.specs.declared.inst.UnitId.{UnitId}
 use Rattle.lh_unit.specs.declared.inst.ValueId.{ValueId}
+use Rattle.lh_unit.specs.declared.inst.ValueDef.{ValueDef}
+use Rattle.lh_unit.specs.declared.inst.ValueDef.TheVariants as value_def
 use Rattle.lh_unit.specs.declared.inst.BlockId.{BlockId}
 use Rattle.lh_unit.specs.declared.inst.InstId.{InstId}
 use Rattle.lh_unit.specs.declared.inst.UnitKind.TheVariants as kind
@@ -141,7 +143,7 @@ FindsLabelIn-Keeps n (Ok v) t u name f room o p = subst (Keeps n t) (sym f.table
 FindsLabelIn-Keeps n (Err e) t u name f room o p = Keeps-old n t u f o p
 
 pub TakesArg-Keeps : (n : ℕ) (r : Result (Unit {0}) UnitFault) (t u : Table) (a : Arg) → TakesArg r t u a → IsSome t.kind → a.value.0 < length t.values → IsTable t → LinesPlaced n t → Keeps n t u
-TakesArg-Keeps n (Ok _) t u a f s h o p = subst (Keeps n t) (sym f.1) record { table = IsTable-with_arg t a s h o; kind_stays = refl; placed = p }
+TakesArg-Keeps n (Ok _) t u a f s h o p = subst (Keeps n t) (sym f.1) record { table = IsTable-with_arg t a s h f.0 o; kind_stays = refl; placed = p }
 TakesArg-Keeps n (Err fault.UnitTooLarge) t u a f s h o p = absurd f
 TakesArg-Keeps n (Err fault.DuplicateName) t u a f s h o p = Keeps-old n t u f.1 o p
 TakesArg-Keeps n (Err fault.OutOfMemory) t u a f s h o p = Keeps-old n t u f.1 o p
@@ -163,7 +165,7 @@ LinesPlaced-push n t r i w p k l q = by (pushed t.lines (record { result = r; in
     by (new h e) = subst (λ (x : Line). InstWithin (sizes_of n t) x.inst) e w
 
 pub TakesLine-Keeps : (n : ℕ) (a : Result InstId UnitFault) (t u : Table) (r : Option ValueId) (i : Inst) → TakesLine a t u r i → 0 < length t.blocks → ResultWithin (length t.values) r → InstWithin (sizes_of n t) i → IsTable t → LinesPlaced n t → Keeps n t u
-TakesLine-Keeps n (Ok id) t u r i f h w x o p = subst (Keeps n t) (sym f.3) record { table = IsTable-with_line t r i h w f.0 o; kind_stays = refl; placed = LinesPlaced-push n t r i x p }
+TakesLine-Keeps n (Ok id) t u r i f h w x o p = subst (Keeps n t) (sym f.3) record { table = IsTable-with_line t r i h w f.0 f.1 o; kind_stays = refl; placed = LinesPlaced-push n t r i x p }
 TakesLine-Keeps n (Err fault.UnitTooLarge) t u r i f h w x o p = Keeps-old n t u f.1 o p
 TakesLine-Keeps n (Err fault.DuplicateName) t u r i f h w x o p = Keeps-old n t u f.2 o p
 TakesLine-Keeps n (Err fault.OutOfMemory) t u r i f h w x o p = Keeps-old n t u f.2 o p
@@ -271,12 +273,20 @@ with_unit a n = record a { names = a.names ++ n ∷ []; units = a.units ++ no_ta
 pub table_at-unit : (a : Arena) (n : UnitName) (v : ℕ) → table_at (with_unit a n) v ≡ table_at a v
 table_at-unit a n v = get_or-push_default a.units no_table v
 
+none-once : (k : ℕ) (d e : ValueDef) → IsDefinition no_table k d → IsDefinition no_table k e → d ≡ e
+none-once k value_def.Missing value_def.Missing p q = refl
+none-once k value_def.Missing (value_def.Arg j) p q = absurd (omega (arith, q.0))
+none-once k value_def.Missing (value_def.Inst i) p q = absurd (omega (arith, q.0))
+none-once k (value_def.Arg j) e p q = absurd (omega (arith, p.0))
+none-once k (value_def.Inst i) e p q = absurd (omega (arith, p.0))
+
 IsTable-none : IsTable no_table
 IsTable-none = record {
   values_distinct = λ i j k p q. cc;
   labels_distinct = λ i j k p q. cc;
   args_within = tt;
   results_within = tt;
+  defined_once = λ k d e p q. none-once k d e p q;
   fits_kind = (refl, refl, refl);
   blocks_distinct = λ i j k p q. cc;
   enough_bodies = omega arith;

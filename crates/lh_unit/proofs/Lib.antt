@@ -3,6 +3,7 @@ mod LexRows
 mod CanonRows
 pub mod Rendering
 pub mod Lists
+pub mod Defining
 pub mod Tables
 pub mod Within
 pub mod Arenas
@@ -15,5 +16,6 @@ pub mod Writes
 pub mod ModuleLaws
 pub mod ById
 pub mod ByIdInsts
+pub mod Giving
 pub mod ByIdPlaces
 pub mod Placing

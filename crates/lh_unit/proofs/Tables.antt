@@ -7,16 +7,20 @@ use Rattle.std.proofs.lemmas.Grind.{common_steps}
 use Rattle.indexmap.specs.IndexSet.{insert_key}
 use lib.Pointwise.{pointwise, bytes_decides}
 use Rattle.lh_types.specs.Types.{TypeTree}
-use Rattle.lh_unit.specs.Table.{Table, Flags, IsTable, FitsKind, HasBlocks, ArgsWithin, ResultWithin, ResultsWithin, BlocksWithin, entity_block, flat, ids_from, insts_at, is_arg, is_made, is_result, is_block, is_defined, result_defined, marked, flag_of}
+use Rattle.lh_unit.specs.Table.{Table, Definitions, IsTable, IsDefinition, FitsKind, HasBlocks, ArgsWithin, ResultWithin, ResultsWithin, BlocksWithin, entity_block, flat, ids_from, insts_at, is_arg, is_made, is_result, is_block, is_defined, result_defined, has_definition, with_definition, defined_among, arg_count, args_among}
 use Rattle.lh_unit.specs.TableCalls.{has_name, with_value, with_label, begun, with_arg, with_result, with_block, with_line, last_block, NamesValue, NamesLabel}
 use Rattle.lh_unit.specs.declared.inst.UnitKind.{UnitKind}
 use Rattle.lh_unit.specs.declared.inst.UnitKind.TheVariants as kind
 use Rattle.lh_unit.specs.declared.inst.BlockId.{BlockId}
 use Rattle.lh_unit.specs.declared.inst.InstId.{InstId}
 use Rattle.lh_unit.specs.declared.inst.ValueId.{ValueId}
+use Rattle.lh_unit.specs.declared.inst.ValueDef.{ValueDef}
+use Rattle.lh_unit.specs.declared.inst.ValueDef.TheVariants as value_def
 use Rattle.lh_unit.specs.declared.inst.Inst.{Inst}
 use Rattle.lh_unit.specs.declared.inst.Arg.{Arg}
 use Rattle.lh_unit.specs.declared.table.Line.{Line}
+pub use Rattle.lh_unit.proofs.Defining.{is_arg-push, is_made-push}
+use Rattle.lh_unit.proofs.Defining.{definition-tells, is_defined-with_arg, is_defined-with_line, IsDefinition-with_arg, IsDefinition-with_line, IsDefinition-same, arg-defines, line-defines, once-with_arg, once-with_line}
 use Rattle.lh_unit.proofs.Lists.{Place, before, at, past, place, Same, same, other, same_or, nat_eq-refl, nat_eq-other, or_false, or_true, or-assoc, slice_get-push, slice_get-push_before, get_or-push_default, front_last, AllDistinct-push, other_keys, key_found, map-ext, map-same, flat-append, some_inj}
 
 -- the test of two names is equality
@@ -61,14 +65,6 @@ ResultsWithin-push n (x ∷ xs) l w h = (w.0, ResultsWithin-push n xs l w.1 h)
 BlocksWithin-push : (n : ℕ) (xs : List BlockId) (b : BlockId) → BlocksWithin n xs → b.0 < n → BlocksWithin n (xs ++ b ∷ [])
 BlocksWithin-push n [] b w h = (h, tt)
 BlocksWithin-push n (x ∷ xs) b w h = (w.0, BlocksWithin-push n xs b w.1 h)
-
-pub is_arg-push : (xs : List Arg) (a : Arg) (k : ℕ) → is_arg (xs ++ a ∷ []) k ≡ (is_arg xs k || nat_eq a.value.0 k)
-is_arg-push [] a k = or_false (nat_eq a.value.0 k)
-is_arg-push (x ∷ xs) a k = ap (λ b. nat_eq x.value.0 k || b) (is_arg-push xs a k) ∙ sym (or-assoc (nat_eq x.value.0 k) (is_arg xs k) (nat_eq a.value.0 k))
-
-pub is_made-push : (xs : List Line) (l : Line) (k : ℕ) → is_made (xs ++ l ∷ []) k ≡ (is_made xs k || is_result l.result k)
-is_made-push [] l k = or_false (is_result l.result k)
-is_made-push (x ∷ xs) l k = ap (λ b. is_result x.result k || b) (is_made-push xs l k) ∙ sym (or-assoc (is_result x.result k) (is_made xs k) (is_result l.result k))
 
 pub is_block-push : (xs : List BlockId) (b : BlockId) (k : ℕ) → is_block (xs ++ b ∷ []) k ≡ (is_block xs k || nat_eq b.0 k)
 is_block-push [] b k = or_false (nat_eq b.0 k)
@@ -119,6 +115,7 @@ IsTable-new_value t n a room o = record {
   labels_distinct = o.labels_distinct;
   args_within = ArgsWithin-more _ _ t.args (omega (arith, length-append t.values (n ∷ []))) o.args_within;
   results_within = ResultsWithin-more _ _ t.lines (omega (arith, length-append t.values (n ∷ []))) o.results_within;
+  defined_once = o.defined_once;
   fits_kind = FitsKind-more t.kind t (record t { values = t.values ++ n ∷ [] }) refl refl refl (omega arith) o.fits_kind;
   blocks_distinct = o.blocks_distinct;
   enough_bodies = o.enough_bodies;
@@ -146,6 +143,7 @@ IsTable-new_label t n a room o = record {
   labels_distinct = AllDistinct-push t.labels n o.labels_distinct (absent t.labels n a);
   args_within = o.args_within;
   results_within = o.results_within;
+  defined_once = o.defined_once;
   fits_kind = FitsKind-more t.kind t (record t { labels = t.labels ++ n ∷ []; bodies = t.bodies ++ None ∷ [] }) refl refl refl (omega (arith, length-append t.labels (n ∷ []))) o.fits_kind;
   blocks_distinct = o.blocks_distinct;
   enough_bodies = omega (arith, o.enough_bodies, length-append t.labels (n ∷ []), length-append t.bodies (None ∷ []));
@@ -183,6 +181,7 @@ IsTable-entity t e o = record {
   labels_distinct = o.labels_distinct;
   args_within = o.args_within;
   results_within = o.results_within;
+  defined_once = o.defined_once;
   fits_kind = ((missing t e o).1, refl);
   blocks_distinct = λ i j k p q. one i k p ∙ sym (one j k q);
   enough_bodies = omega (arith, o.enough_bodies, length-append t.bodies (None ∷ []), length-set (t.bodies ++ None ∷ []) 0 (Some []));
@@ -213,6 +212,7 @@ IsTable-begun t kind.Func e o = record {
   labels_distinct = o.labels_distinct;
   args_within = o.args_within;
   results_within = o.results_within;
+  defined_once = o.defined_once;
   fits_kind = (refl, subst (BlocksWithin (length t.labels)) (sym (missing t e o).2) tt);
   blocks_distinct = o.blocks_distinct;
   enough_bodies = o.enough_bodies;
@@ -227,6 +227,7 @@ IsTable-begun t kind.Proc e o = record {
   labels_distinct = o.labels_distinct;
   args_within = o.args_within;
   results_within = o.results_within;
+  defined_once = o.defined_once;
   fits_kind = ((missing t e o).1, subst (BlocksWithin (length t.labels)) (sym (missing t e o).2) tt);
   blocks_distinct = o.blocks_distinct;
   enough_bodies = o.enough_bodies;
@@ -239,12 +240,13 @@ IsTable-begun t kind.Proc e o = record {
 IsTable-begun t kind.Entity e o = subst (λ bs. IsTable (record t { kind = Some kind.Entity; blocks = bs ++ entity_block ∷ []; bodies = set (t.bodies ++ None ∷ []) 0 (Some []) })) (sym (missing t e o).2) (IsTable-entity t e o)
 
 -- one more argument
-pub IsTable-with_arg : (t : Table) (a : Arg) → IsSome t.kind → a.value.0 < length t.values → IsTable t → IsTable (with_arg t a)
-IsTable-with_arg t a s h o = record {
+pub IsTable-with_arg : (t : Table) (a : Arg) → IsSome t.kind → a.value.0 < length t.values → is_defined t a.value.0 ≡ false → IsTable t → IsTable (with_arg t a)
+IsTable-with_arg t a s h n o = record {
   values_distinct = o.values_distinct;
   labels_distinct = o.labels_distinct;
   args_within = ArgsWithin-push _ t.args a o.args_within h;
   results_within = o.results_within;
+  defined_once = λ k d e p q. once-with_arg t a k d e n (o.defined_once k d e) p q;
   fits_kind = FitsKind-args t.kind t (t.args ++ a ∷ []) s o.fits_kind;
   blocks_distinct = o.blocks_distinct;
   enough_bodies = o.enough_bodies;
@@ -268,6 +270,7 @@ IsTable-with_result t ty e o = record {
   labels_distinct = o.labels_distinct;
   args_within = o.args_within;
   results_within = o.results_within;
+  defined_once = o.defined_once;
   fits_kind = func_fits t.kind t ty e o.fits_kind;
   blocks_distinct = o.blocks_distinct;
   enough_bodies = o.enough_bodies;
@@ -291,6 +294,7 @@ IsTable-with_block t b s h a o = record {
   labels_distinct = o.labels_distinct;
   args_within = o.args_within;
   results_within = o.results_within;
+  defined_once = o.defined_once;
   fits_kind = FitsKind-block t.kind t b s h o.fits_kind;
   blocks_distinct = AllDistinct-push t.blocks b o.blocks_distinct (λ i p. apart t.blocks b.0 a i b p refl);
   enough_bodies = omega (arith, o.enough_bodies, length-set t.bodies b.0 (Some []));
@@ -352,12 +356,13 @@ front-apart t front o e i x p q =
     let n : i ≡ length front = o.blocks_distinct i (length front) (last_block t) y z in omega (arith, n, l)
 
 -- one more line
-pub IsTable-with_line : (t : Table) (r : Option ValueId) (i : Inst) → 0 < length t.blocks → ResultWithin (length t.values) r → length t.lines < 65536 → IsTable t → IsTable (with_line t r i)
-IsTable-with_line t r i h w few o = record {
+pub IsTable-with_line : (t : Table) (r : Option ValueId) (i : Inst) → 0 < length t.blocks → ResultWithin (length t.values) r → length t.lines < 65536 → result_defined t r ≡ false → IsTable t → IsTable (with_line t r i)
+IsTable-with_line t r i h w few n o = record {
   values_distinct = o.values_distinct;
   labels_distinct = o.labels_distinct;
   args_within = o.args_within;
   results_within = ResultsWithin-push _ t.lines line o.results_within w;
+  defined_once = λ k d e p q. once-with_line t r i k d e n (o.defined_once k d e) p q;
   fits_kind = FitsKind-more t.kind t (with_line t r i) refl refl refl (omega arith) o.fits_kind;
   blocks_distinct = o.blocks_distinct;
   enough_bodies = omega (arith, o.enough_bodies, length-set t.bodies b (Some longer));
@@ -410,7 +415,7 @@ IsTable-with_line t r i h w few o = record {
         ∙ ap (λ l. l ++ id ∷ []) (ap (λ l. flat (map old s.0) ++ l) (sym (append-nil (insts_at t b))) ∙ before_it)
         ∙ sym (ids_from-push 0 t.lines line ∙ ap (λ n. ids_from 0 t.lines ++ record { 0 = n } ∷ []) (zero-add (length t.lines)))
 
--- the flags of values
+-- values past the table
 is_arg-past : (n k : ℕ) (xs : List Arg) → ArgsWithin n xs → n ≤ k → is_arg xs k ≡ false
 is_arg-past n k [] w h = refl
 is_arg-past n k (a ∷ xs) w h = rw (nat_eq-other a.value.0 k (λ e. omega (arith, w.0, e))) (is_arg-past n k xs w.1 h)
@@ -426,58 +431,88 @@ is_made-past n k (l ∷ xs) w h = rw (is_result-past n k l.result w.0 h) (is_mad
 pub is_defined-past : (t : Table) (k : ℕ) → IsTable t → length t.values ≤ k → is_defined t k ≡ false
 is_defined-past t k o h = rw (is_arg-past _ k t.args o.args_within h, is_made-past _ k t.lines o.results_within h) refl
 
-pub Flags-new_value : (t : Table) (flags : List Bool) (n : List ℕ) → IsTable t → Flags t flags → Flags (record t { values = t.values ++ n ∷ [] }) (flags ++ false ∷ [])
-Flags-new_value t flags n o f = record {
-  long = omega (arith, f.long, length-append flags (false ∷ []), length-append t.values (n ∷ []));
-  right = λ k h. by k h (place (length t.values) k);
+args_among-few : (defs : List ValueDef) → args_among defs ≤ length defs
+args_among-few [] = omega arith
+args_among-few (value_def.Missing ∷ defs) = omega (arith, args_among-few defs)
+args_among-few (value_def.Arg j ∷ defs) = omega (arith, args_among-few defs)
+args_among-few (value_def.Inst i ∷ defs) = omega (arith, args_among-few defs)
+
+args_among-push : (defs : List ValueDef) → args_among (defs ++ value_def.Missing ∷ []) ≡ args_among defs
+args_among-push [] = refl
+args_among-push (d ∷ defs) = ap (λ n. arg_count d + n) (args_among-push defs)
+
+not_arg : (d : ValueDef) → has_definition d ≡ false → arg_count d ≡ 0
+not_arg value_def.Missing e = refl
+not_arg (value_def.Arg j) e = cc
+not_arg (value_def.Inst i) e = refl
+
+args_among-set : (defs : List ValueDef) (k : ℕ) (e : ValueDef) → k < length defs → has_definition (get_or defs k value_def.Missing) ≡ false → args_among (set defs k e) ≡ arg_count e + args_among defs
+args_among-set [] k e h n = absurd (omega arith)
+args_among-set (d ∷ defs) zero e h n = let z : arg_count d ≡ 0 = not_arg d n in omega (arith, z)
+args_among-set (d ∷ defs) (suc k) e h n = let r : args_among (set defs k e) ≡ arg_count e + args_among defs = args_among-set defs k e (omega arith) n in omega (arith, r)
+
+-- each argument is the definition of another value
+pub args-few : (t : Table) (defs : List ValueDef) → IsTable t → Definitions t defs → length t.args < 2 ^ 32
+args-few t defs o f = omega (arith, f.counted, f.long, args_among-few defs, o.few_values)
+
+pub Definitions-new_value : (t : Table) (defs : List ValueDef) (n : List ℕ) → IsTable t → Definitions t defs → Definitions (record t { values = t.values ++ n ∷ [] }) (defs ++ value_def.Missing ∷ [])
+Definitions-new_value t defs n o f = record {
+  long = omega (arith, f.long, length-append defs (value_def.Missing ∷ []), length-append t.values (n ∷ []));
+  right = λ k h. subst (IsDefinition t k) (sym (get_or-push_default defs value_def.Missing k)) (by k h (place (length t.values) k));
+  counted = args_among-push defs ∙ f.counted;
 }
   where
-    by : (k : ℕ) → k < length (t.values ++ n ∷ []) → Place (length t.values) k → slice_get (flags ++ false ∷ []) k ≡ Some (is_defined t k)
-    by k h (before b) = slice_get-push_before flags false k (omega (arith, b, f.long)) ∙ f.right k b
-    by k h (at b) = slice_get-push flags false k (b ∙ sym f.long) ∙ ap Some (sym (is_defined-past t k o (omega (arith, b))))
+    by : (k : ℕ) → k < length (t.values ++ n ∷ []) → Place (length t.values) k → IsDefinition t k (get_or defs k value_def.Missing)
+    by k h (before b) = f.right k b
+    by k h (at b) = subst (IsDefinition t k) (sym (get_or_past defs k value_def.Missing (omega (arith, b, f.long)))) (is_defined-past t k o (omega (arith, b)))
     by k h (past b) = absurd (omega (arith, b, h, length-append t.values (n ∷ [])))
 
-set_at : (flags : List Bool) (i k : ℕ) (b : Bool) → i < length flags → slice_get flags k ≡ Some b → slice_get (set flags i true) k ≡ Some (b || nat_eq i k)
-set_at [] i k b h e = absurd (omega arith)
-set_at (f ∷ fs) zero zero b h e = ap Some (sym (or_true b))
-set_at (f ∷ fs) zero (suc k) b h e = e ∙ ap Some (sym (ap (λ c. b || c) (nat_eq-other 0 (suc k) (λ p. absurd (omega (arith, p)))) ∙ or_false b))
-set_at (f ∷ fs) (suc i) zero b h e = e ∙ ap Some (sym (ap (λ c. b || c) (nat_eq-other (suc i) 0 (λ p. absurd (omega (arith, p)))) ∙ or_false b))
-set_at (f ∷ fs) (suc i) (suc k) b h e = set_at fs i k b (omega arith) e ∙ ap (λ c. Some (b || c)) (nat_eq-suc i k)
-  where
-    nat_eq-suc : (a c : ℕ) → nat_eq a c ≡ nat_eq (suc a) (suc c)
-    nat_eq-suc a c = grind (arith, common_steps)
-
-is_defined-with_arg : (t : Table) (a : Arg) (k : ℕ) → is_defined (with_arg t a) k ≡ (is_defined t k || nat_eq a.value.0 k)
-is_defined-with_arg t a k = ap (λ c. c || is_made t.lines k) (is_arg-push t.args a k) ∙ swap (is_arg t.args k) (nat_eq a.value.0 k) (is_made t.lines k)
-  where
-    swap : (b c d : Bool) → ((b || c) || d) ≡ ((b || d) || c)
-    swap true c d = refl
-    swap false true true = refl
-    swap false true false = refl
-    swap false false true = refl
-    swap false false false = refl
-
-is_defined-with_line : (t : Table) (r : Option ValueId) (i : Inst) (k : ℕ) → is_defined (with_line t r i) k ≡ (is_defined t k || is_result r k)
-is_defined-with_line t r i k = ap (λ c. is_arg t.args k || c) (is_made-push t.lines (record { result = r; inst = i }) k) ∙ sym (or-assoc (is_arg t.args k) (is_made t.lines k) (is_result r k))
-
-pub Flags-with_arg : (t : Table) (flags : List Bool) (a : Arg) → a.value.0 < length t.values → Flags t flags → Flags (with_arg t a) (set flags a.value.0 true)
-Flags-with_arg t flags a h f = record {
-  long = omega (arith, f.long, length-set flags a.value.0 true);
-  right = λ k w. set_at flags a.value.0 k (is_defined t k) (omega (arith, h, f.long)) (f.right k w) ∙ ap Some (sym (is_defined-with_arg t a k));
+pub Definitions-with_arg : (t : Table) (defs : List ValueDef) (a : Arg) → is_defined t a.value.0 ≡ false → a.value.0 < length t.values → Definitions t defs → Definitions (with_arg t a) (set defs a.value.0 (value_def.Arg (length t.args)))
+Definitions-with_arg t defs a n h f = record {
+  long = omega (arith, f.long, length-set defs a.value.0 (value_def.Arg (length t.args)));
+  right = λ k w. by k w (same_or k a.value.0);
+  counted =
+      args_among-set defs a.value.0 (value_def.Arg (length t.args)) l (sym (definition-tells t a.value.0 (get_or defs a.value.0 value_def.Missing) (f.right a.value.0 h)) ∙ n)
+      ∙ omega (arith, f.counted, length-append t.args (a ∷ []));
 }
+  where
+    l : a.value.0 < length defs
+    l = omega (arith, h, f.long)
 
-pub Flags-with_line : (t : Table) (flags : List Bool) (r : Option ValueId) (i : Inst) → ResultWithin (length t.values) r → Flags t flags → Flags (with_line t r i) (marked flags r)
-Flags-with_line t flags None i w f = record { long = f.long; right = λ k h. f.right k h ∙ ap Some (sym (is_defined-with_line t None i k ∙ or_false (is_defined t k))) }
-Flags-with_line t flags (Some v) i w f = record {
-  long = omega (arith, f.long, length-set flags v.0 true);
-  right = λ k h. set_at flags v.0 k (is_defined t k) (omega (arith, w, f.long)) (f.right k h) ∙ ap Some (sym (is_defined-with_line t (Some v) i k));
+    by : (k : ℕ) → k < length t.values → Same k a.value.0 → IsDefinition (with_arg t a) k (get_or (set defs a.value.0 (value_def.Arg (length t.args))) k value_def.Missing)
+    by k w (same e) = subst (λ i. IsDefinition (with_arg t a) i (get_or (set defs a.value.0 (value_def.Arg (length t.args))) i value_def.Missing)) (sym e)
+        (subst (IsDefinition (with_arg t a) a.value.0) (sym (get_or-set_same defs a.value.0 (value_def.Arg (length t.args)) value_def.Missing l)) (arg-defines t a))
+    by k w (other e) = subst (IsDefinition (with_arg t a) k) (sym (get_or-set_other defs a.value.0 k (value_def.Arg (length t.args)) value_def.Missing e))
+        (IsDefinition-with_arg t a k (get_or defs k value_def.Missing) (nat_eq-other a.value.0 k (λ p. e (sym p))) (f.right k w))
+
+pub Definitions-with_line : (t : Table) (defs : List ValueDef) (r : Option ValueId) (i : Inst) → result_defined t r ≡ false → ResultWithin (length t.values) r → Definitions t defs → Definitions (with_line t r i) (with_definition defs r (value_def.Inst record { 0 = length t.lines }))
+Definitions-with_line t defs None i n w f = record { long = f.long; right = λ k h. IsDefinition-with_line t None i k (get_or defs k value_def.Missing) refl (f.right k h); counted = f.counted }
+Definitions-with_line t defs (Some v) i n w f = record {
+  long = omega (arith, f.long, length-set defs v.0 (value_def.Inst record { 0 = length t.lines }));
+  right = λ k h. by k h (same_or k v.0);
+  counted =
+      args_among-set defs v.0 (value_def.Inst record { 0 = length t.lines }) l (sym (definition-tells t v.0 (get_or defs v.0 value_def.Missing) (f.right v.0 w)) ∙ n)
+      ∙ omega (arith, f.counted);
 }
+  where
+    l : v.0 < length defs
+    l = omega (arith, w, f.long)
 
--- flags tell only of arguments and lines
-pub Flags-same : (t u : Table) (flags : List Bool) → u.values ≡ t.values → u.args ≡ t.args → u.lines ≡ t.lines → Flags t flags → Flags u flags
-Flags-same t u flags v a l f = record {
+    new : ValueDef
+    new = value_def.Inst record { 0 = length t.lines }
+
+    by : (k : ℕ) → k < length t.values → Same k v.0 → IsDefinition (with_line t (Some v) i) k (get_or (set defs v.0 (value_def.Inst record { 0 = length t.lines })) k value_def.Missing)
+    by k h (same e) = subst (λ j. IsDefinition (with_line t (Some v) i) j (get_or (set defs v.0 (value_def.Inst record { 0 = length t.lines })) j value_def.Missing)) (sym e)
+        (subst (IsDefinition (with_line t (Some v) i) v.0) (sym (get_or-set_same defs v.0 (value_def.Inst record { 0 = length t.lines }) value_def.Missing l)) (line-defines t v i))
+    by k h (other e) = subst (IsDefinition (with_line t (Some v) i) k) (sym (get_or-set_other defs v.0 k (value_def.Inst record { 0 = length t.lines }) value_def.Missing e))
+        (IsDefinition-with_line t (Some v) i k (get_or defs k value_def.Missing) (nat_eq-other v.0 k (λ p. e (sym p))) (f.right k h))
+
+-- definitions tell only of arguments and lines
+pub Definitions-same : (t u : Table) (defs : List ValueDef) → u.values ≡ t.values → u.args ≡ t.args → u.lines ≡ t.lines → Definitions t defs → Definitions u defs
+Definitions-same t u defs v a l f = record {
   long = f.long ∙ sym (ap (λ x. length x) v);
-  right = λ k h. f.right k (omega (arith, h, ap (λ x. length x) v)) ∙ ap Some (sym ((λ i. is_arg (a i) k || is_made (l i) k)));
+  right = λ k h. IsDefinition-same t u k (get_or defs k value_def.Missing) a l (f.right k (omega (arith, h, ap (λ x. length x) v)));
+  counted = f.counted ∙ sym (ap (λ x. length x) a);
 }
 
 -- a table with these parts is in order
@@ -504,11 +539,12 @@ found-NamesLabel t n i p a = let f = key_found (pointwise nat_eq) same_name-is s
 pub inserted : (ks new : List (List ℕ)) (n m : List ℕ) → m ≡ n → new ≡ insert_key (pointwise nat_eq) ks m → false ≡ has_name ks n → new ≡ ks ++ n ∷ []
 inserted ks new n m e f g = f ∙ ap (insert_key (pointwise nat_eq) ks) e ∙ rw (← g) refl
 
--- what a flag told
-pub flag-told : (t : Table) (flags : List Bool) (k : ℕ) (b : Bool) → Flags t flags → k < length t.values → b ≡ get_or flags k b → is_defined t k ≡ b
-flag-told t flags k b f h e =
-    let l : k < length flags = omega (arith, h, f.long) in
-    some_inj (is_defined t k) b (sym (f.right k h) ∙ slice_get-get_or flags k b l ∙ ap Some (sym e))
+-- what a definition that was read told
+pub definition-read : (t : Table) (defs : List ValueDef) (k : ℕ) (d : ValueDef) → Definitions t defs → k < length t.values → d ≡ get_or defs k d → IsDefinition t k d
+definition-read t defs k d f h e = subst (IsDefinition t k) (sym (get_or_read defs k d (omega (arith, h, f.long)) e value_def.Missing)) (f.right k h)
+
+pub definition-told : (t : Table) (defs : List ValueDef) (k : ℕ) (d : ValueDef) → Definitions t defs → k < length t.values → d ≡ get_or defs k d → is_defined t k ≡ has_definition d
+definition-told t defs k d f h e = definition-tells t k d (definition-read t defs k d f h e)
 
 -- the block that was read last, and its body
 pub last-read : (t : Table) (b : BlockId) → 0 < length t.blocks → b ≡ get_or t.blocks (length t.blocks - 1) b → b ≡ last_block t
@@ -517,9 +553,9 @@ last-read t b h e = get_or_read t.blocks (length t.blocks - 1) b (omega (arith, 
 pub last-body : (t : Table) → IsTable t → 0 < length t.blocks → IsSome (get_or t.bodies (last_block t).0 None)
 last-body t o h = o.blocks_stand (last_block t).0 ∙ last-stands t h
 
-pub flag-of-told : (t : Table) (flags : List Bool) (v : Option ValueId) → Flags t flags → ResultWithin (length t.values) v → flag_of flags v ≡ result_defined t v
-flag-of-told t flags None f h = refl
-flag-of-told t flags (Some v) f h = some_inj (get_or flags v.0 false) (is_defined t v.0) (sym (slice_get-get_or flags v.0 false (omega (arith, h, f.long))) ∙ f.right v.0 h)
+pub result-told : (t : Table) (defs : List ValueDef) (v : Option ValueId) → Definitions t defs → ResultWithin (length t.values) v → defined_among defs v ≡ result_defined t v
+result-told t defs None f h = refl
+result-told t defs (Some v) f h = sym (definition-tells t v.0 (get_or defs v.0 value_def.Missing) (f.right v.0 h))
 
 -- the lines and bodies that were written
 pub line-laid : (t : Table) (b : BlockId) (lines : List Line) (bodies : List (Option (List InstId))) (r : Option ValueId) (i : Inst) → b ≡ last_block t → lines ≡ t.lines ++ record { result = r; inst = i } ∷ []

@@ -140,21 +140,20 @@ abbrev pub called : Option UnitText → Option (List Datum) → Option Control
 called (Some f) (Some args) = entry f (with_args nothing_held f.args (map datum_held args))
 called _ _ = None
 
--- ends the last open call; a function that is not void gives a value
-abbrev pub returns : Point → Env → List Caller → Next
-returns p e [] = no_step
-returns p e (c ∷ more) = goes (record p { control = record c.control { held = e }; callers = more })
+-- what a caller holds after a `ret`: the value that is given stands under the name of the call's result
+abbrev pub given_back : Env → Option OperandText → Caller → Option Env
+given_back e None c = Some c.control.held
+given_back e (Some a) c = option_map (λ v. with_result c.control.held c.result (datum_held v)) (datum_at e a.value)
 
--- the value becomes the result of the call
-abbrev pub returns_value : Point → Option Datum → List Caller → Next
-returns_value p None callers = no_step
-returns_value p v [] = no_step
-returns_value p (Some v) (c ∷ more) = returns p (with_result c.control.held c.result (datum_held v)) (c ∷ more)
+-- the caller goes on with this held
+abbrev pub goes_back : Point → Caller → List Caller → Option Env → Next
+goes_back p c more None = no_step
+goes_back p c more (Some e) = goes (record p { control = record c.control { held = e }; callers = more })
 
--- the call gives nothing
-abbrev pub returns_nothing : Point → List Caller → Next
-returns_nothing p [] = no_step
-returns_nothing p (c ∷ more) = returns p c.control.held (c ∷ more)
+-- ends the last open call
+abbrev pub returns : Point → Option OperandText → List Caller → Next
+returns p o [] = no_step
+returns p o (c ∷ more) = goes_back p c more (given_back p.control.held o c)
 
 -- the label that a condition chooses: the first where it is 0
 abbrev pub chosen : Option Bool → (first second : List ℕ) → Option (List ℕ)
@@ -195,8 +194,7 @@ executes s (branch_text cond first second) result p =
 executes s (wait_text to after signals) result p =
     ends_at p p.callers (waiting p.control.block to (parts_at p.control.held signals) (wake_at s.at p.control.held after))
 executes s halt_text result p = ends_at p p.callers (Some halted)
-executes s (ret_text None) result p = returns_nothing p p.callers
-executes s (ret_text (Some a)) result p = returns_value p (datum_at p.control.held a.value) p.callers
+executes s (ret_text o) result p = returns p o p.callers
 executes s (sig_text a) result p = no_step
 executes s (reg_text to triggers) result p = no_step
 executes s (child_text u inputs outputs) result p = no_step

@@ -84,13 +84,13 @@ abbrev pub instance_count : (depth : ℕ) → List Entry → UnitName → ℕ
 instance_count zero table n = 0
 instance_count (suc k) table n = 1 + sum_by (instance_count k table) (targets (hierarchy_in table n))
 
--- how many bits their signals have
+-- how many bits the signals of the instances have from this one down
 abbrev pub bits_below : (depth : ℕ) → List Entry → UnitName → ℕ
 bits_below zero table n = 0
 bits_below (suc k) table n =
     sum_by (λ (s : SignalText). bit_count s.ty) (hierarchy_in table n).signals + sum_by (bits_below k table) (targets (hierarchy_in table n))
 
--- at most this many instances nest, at most this many there are, and they have at most this many bits
+-- at most this many instances nest, the top counted
 abbrev pub max_nesting : ℕ
 max_nesting = 64
 

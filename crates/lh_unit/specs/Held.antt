@@ -29,17 +29,17 @@ abbrev pub with_result : Env → Option (List ℕ) → Held → Env
 with_result e None h = e
 with_result e (Some n) h = with_held e n h
 
--- the data value or time that is held
+-- it is a data value or a time
 abbrev pub as_datum : Held → Option Datum
 as_datum (datum_held d) = Some d
 as_datum _ = None
 
--- what is stored in the variable that is held
+-- what is stored in it, where it is a variable
 abbrev pub as_cell : Held → Option Datum
 as_cell (cell_held d) = Some d
 as_cell _ = None
 
--- the part of the signals that is held
+-- it is a part of the signals
 abbrev pub as_part : Held → Option Range
 as_part (part_held r) = Some r
 as_part _ = None
@@ -54,7 +54,7 @@ abbrev pub as_test : Datum → Option Bool
 as_test (int_value w b) = Some (not (nat_eq b 0))
 as_test _ = None
 
--- the value, what is stored in the variable, the part, the delay or the truth value that is held under a name
+-- the data value or time that is held under this name
 abbrev pub datum_at : Env → List ℕ → Option Datum
 datum_at e n = option_and_then as_datum (e n)
 

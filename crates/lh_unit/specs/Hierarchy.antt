@@ -13,7 +13,7 @@ use Rattle.lh_unit.specs.Held.{Held, datum_held, part_held, Env, nothing_held, w
 use Rattle.lh_unit.specs.Effects.{operated}
 use Rattle.lh_unit.specs.Named.{label_or}
 
--- an instance of a unit: its number's parent, and the bits of its arguments and of its own signals
+-- an instance: the name of its unit, the number of the instance in which it stands, and the bits of its arguments and of its own signals
 pub record Instance : Type 0 where
   pub unit : UnitName
   pub parent : Option ℕ

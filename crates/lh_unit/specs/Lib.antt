@@ -35,6 +35,8 @@ pub mod Pass
 pub mod Design
 pub mod World
 pub mod Trace
+pub mod Paths
+pub mod Frames
 pub mod Kinds
 pub mod TypingRows
 pub mod Places

@@ -1,11 +1,14 @@
 -- A unit as the arena keeps it: names, arguments, blocks and instructions by ids.
 use Rattle.std.specs.Prelude.{◌≡◌, ℕ, ◌+◌, ◌^◌, ◌≤◌, ◌<◌, Bool, true, false, ◌||◌, nat_eq, List, [], ◌∷◌, ◌++◌, length, map, Option, Some, None, IsSome, is_some, unwrap_or, slice_get, slice_index_or, slice_set}
+use Rattle.std.specs.Option.{option_map}
 use Rattle.lh_types.specs.Types.{TypeTree}
 use Rattle.lh_unit.specs.declared.inst.UnitKind.{UnitKind}
 use Rattle.lh_unit.specs.declared.inst.UnitKind.TheVariants as kind
 use Rattle.lh_unit.specs.declared.inst.BlockId.{BlockId}
 use Rattle.lh_unit.specs.declared.inst.InstId.{InstId}
 use Rattle.lh_unit.specs.declared.inst.ValueId.{ValueId}
+use Rattle.lh_unit.specs.declared.inst.ValueDef.{ValueDef}
+use Rattle.lh_unit.specs.declared.inst.ValueDef.TheVariants as value_def
 use Rattle.lh_unit.specs.declared.inst.Inst.TheVariants.{Halt}
 use Rattle.lh_unit.specs.declared.inst.Arg.{Arg}
 use Rattle.lh_unit.specs.declared.table.Line.{Line}
@@ -57,6 +60,22 @@ is_defined t k = is_arg t.args k || is_made t.lines k
 abbrev pub result_defined : Table → Option ValueId → Bool
 result_defined t None = false
 result_defined t (Some v) = is_defined t v.0
+
+-- the value that is the argument j
+abbrev pub arg_value_at : Table → ℕ → Option ValueId
+arg_value_at t j = option_map (λ (a : Arg). a.value) (slice_get t.args j)
+
+-- what defines the value k: the argument that it is, the instruction whose result it is, or nothing
+abbrev pub IsDefinition : Table → ℕ → ValueDef → Type 0
+IsDefinition t k value_def.Missing = is_defined t k ≡ false
+IsDefinition t k (value_def.Arg j) = (j < length t.args) × (arg_value_at t j ≡ Some (record { 0 = k }))
+IsDefinition t k (value_def.Inst i) = (i.0 < length t.lines) × ((line_at t i.0).result ≡ Some (record { 0 = k }))
+
+-- whether there is an argument or an instruction
+abbrev pub has_definition : ValueDef → Bool
+has_definition value_def.Missing = false
+has_definition (value_def.Arg j) = true
+has_definition (value_def.Inst i) = true
 
 -- whether the block k stands in the unit
 abbrev pub is_block : List BlockId → ℕ → Bool
@@ -117,6 +136,7 @@ pub record IsTable (t : Table) : Type 0 where
   pub labels_distinct : AllDistinct t.labels
   pub args_within : ArgsWithin (length t.values) t.args
   pub results_within : ResultsWithin (length t.values) t.lines
+  pub defined_once : (k : ℕ) (d e : ValueDef) → IsDefinition t k d → IsDefinition t k e → d ≡ e
   pub fits_kind : FitsKind t.kind t
   pub blocks_distinct : AllDistinct t.blocks
   pub enough_bodies : length t.labels ≤ length t.bodies
@@ -126,17 +146,28 @@ pub record IsTable (t : Table) : Type 0 where
   pub few_values : length t.values < 2 ^ 32
   pub few_labels : length t.labels < 2 ^ 32
 
--- the flags say which values are defined
-pub record Flags (t : Table) (flags : List Bool) : Type 0 where
-  pub long : length flags ≡ length t.values
-  pub right : (k : ℕ) → k < length t.values → slice_get flags k ≡ Some (is_defined t k)
+-- how many of these are arguments
+abbrev pub arg_count : ValueDef → ℕ
+arg_count value_def.Missing = 0
+arg_count (value_def.Arg j) = 1
+arg_count (value_def.Inst i) = 0
 
--- the flags, with the result of an instruction set
-abbrev pub marked : List Bool → Option ValueId → List Bool
-marked flags None = flags
-marked flags (Some v) = slice_set flags v.0 true
+abbrev pub args_among : List ValueDef → ℕ
+args_among [] = 0
+args_among (d ∷ more) = arg_count d + args_among more
 
--- whether the flag of a result is set
-abbrev pub flag_of : List Bool → Option ValueId → Bool
-flag_of flags None = false
-flag_of flags (Some v) = slice_index_or flags v.0 false
+-- each value has its definition here
+pub record Definitions (t : Table) (defs : List ValueDef) : Type 0 where
+  pub long : length defs ≡ length t.values
+  pub right : (k : ℕ) → k < length t.values → IsDefinition t k (slice_index_or defs k value_def.Missing)
+  pub counted : args_among defs ≡ length t.args
+
+-- the definitions, with that of the result of an instruction set
+abbrev pub with_definition : List ValueDef → Option ValueId → ValueDef → List ValueDef
+with_definition defs None d = defs
+with_definition defs (Some v) d = slice_set defs v.0 d
+
+-- whether a result has a definition among these
+abbrev pub defined_among : List ValueDef → Option ValueId → Bool
+defined_among defs None = false
+defined_among defs (Some v) = has_definition (slice_index_or defs v.0 value_def.Missing)

@@ -1,6 +1,7 @@
 -- Frames, the trace of a top up to a bound, and when two modules have the same trace.
 use Rattle.std.specs.Prelude.{◌≡◌, ℕ, zero, suc, ◌+◌, List, [], ◌∷◌, ◌++◌, map, Bool, if◌then◌else◌, Option, Some, None}
 use Rattle.lh_time.specs.declared.Instant.{Instant}
+use Rattle.lh_types.specs.declared.frame.Outcome.{Outcome}
 use Rattle.lh_types.specs.Types.{TypeTree, bit_count}
 use Rattle.lh_types.specs.Values.{Datum}
 use Rattle.lh_types.specs.Bits.{value_from_bits}
@@ -10,12 +11,7 @@ use Rattle.lh_unit.specs.Contents.{ItemText}
 use Rattle.lh_unit.specs.Held.{bits_in}
 use Rattle.lh_unit.specs.Hierarchy.{Instance}
 use Rattle.lh_unit.specs.Design.{Signal, Design, Refusal, Elaborated, refused, built, elab, instance_label}
-use Rattle.lh_unit.specs.World.{World, Act, acts, first_world, world_after, next_instant}
-
--- an assertion of an instance
-pub record Outcome : Type 0 where
-  pub instance : ℕ
-  pub passed : Bool
+use Rattle.lh_unit.specs.World.{World, Act, acts_at, first_world, world_after, next_instant}
 
 -- what shows of a frame: its instant, the value of every signal, and the outcomes by instance and then by execution
 pub record Frame : Type 0 where
@@ -92,7 +88,7 @@ follows d w t done more = goes_on (frame_of d.signals t (bits_at w.history w.ini
 -- the frames from the one at the next instant on
 abbrev pub run_at : (bound : ℕ) → List ItemText → Design → World → Option Instant → (World → Run) → Run
 run_at bound items d w None more = record { frames = []; end = quiet }
-run_at bound items d w (Some t) more = follows d w t (acts bound items d w t) more
+run_at bound items d w (Some t) more = follows d w t (acts_at bound items d w t) more
 
 -- the frames from a world on, at most n
 abbrev pub run_from : (bound : ℕ) → List ItemText → Design → ℕ → World → Run

@@ -13,11 +13,7 @@ use Rattle.lh_unit.specs.Contents.{OperandText, InstText, const_text, pure_text,
 abbrev pub is_value_type : TypeTree → Bool
 is_value_type t = is_data t || is_time t
 
--- a type that a value may have
-abbrev pub if_value_type : TypeTree → Option TypeTree
-if_value_type t = if is_value_type t then Some t else None
-
--- the type of a pointer, and of a signal
+-- the type of a pointer to a value of this type
 abbrev pub pointer_to : TypeTree → Option TypeTree
 pointer_to t = if is_value_type t then Some (pointer_type t) else None
 
@@ -25,7 +21,7 @@ pointer_to t = if is_value_type t then Some (pointer_type t) else None
 abbrev pub signal_of : TypeTree → Option TypeTree
 signal_of t = if is_data t then Some (signal_type t) else None
 
--- what a pointer points to, and what a signal carries
+-- what a pointer points to
 abbrev pub pointed : TypeTree → Option TypeTree
 pointed (pointer_type t) = Some t
 pointed _ = None
@@ -85,7 +81,7 @@ operation_type (op.Repeat n) args = option_and_then (array_made n) (first_type a
 operation_type op.Tuple args = option_and_then tuple_made (written_types args)
 operation_type _ args = first_type args
 
--- the type of what an instruction gives, where it gives something that has a type
+-- The type of what an instruction gives, where it gives something that has a type: by what its own line writes, also where its row takes no such type.
 abbrev pub result_type : InstText → Option TypeTree
 result_type (const_text d) = constant_type d
 result_type (pure_text o args) = operation_type o args
@@ -93,8 +89,8 @@ result_type (var_text a) = option_and_then pointer_to a.ty
 result_type (ld_text p) = option_and_then pointed p.ty
 result_type (sig_text a) = option_and_then signal_of a.ty
 result_type (prb_text s) = option_and_then carried s.ty
-result_type (call_text f result args) = if_value_type result
-result_type (phi_text ty edges) = if_value_type ty
+result_type (call_text f result args) = Some result
+result_type (phi_text ty edges) = Some ty
 result_type _ = None
 
 -- the instruction of these lines that gives the value of this name

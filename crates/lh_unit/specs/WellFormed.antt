@@ -39,7 +39,7 @@ number_of phi_edges = 6
 number_of not_defined = 7
 number_of arguments = 8
 
--- the values, labels and units that an instruction names
+-- the values that an instruction names
 abbrev pub values_named : InstText → List (List ℕ)
 values_named i = map (λ (x : Use). x.value) (uses i)
 
@@ -84,7 +84,7 @@ abbrev pub depends_on_probe : (steps : ℕ) → UnitText → List ℕ → Bool
 depends_on_probe zero u n = false
 depends_on_probe (suc k) u n = option_map_or (comes_from_probe (depends_on_probe k u)) (inst_giving n u.blocks) false
 
--- `inst` names a function, or `call` none
+-- a function has this name, `@llhd.assert` counted
 abbrev pub is_function_name : List ItemText → UnitName → Bool
 is_function_name items n = option_map_or (λ (v : UnitText). is_function v.kind) (unit_named n items) false || is_assert n
 

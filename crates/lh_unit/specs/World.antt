@@ -8,6 +8,7 @@ use Rattle.lh_time.specs.Order.{instant_cmp, instant_lt, instant_le}
 use Rattle.lh_time.specs.Due.{instant}
 use Rattle.lh_types.specs.Wish.{Wish, no_wish}
 use Rattle.lh_types.specs.History.{Made, Claim, claims, bits_at, sooner, if_later, soonest_due}
+pub use Rattle.lh_types.specs.History.{kept}
 use Rattle.lh_types.specs.declared.part.Range.{Range}
 use Rattle.lh_unit.specs.declared.name.UnitName.{UnitName}
 use Rattle.lh_unit.specs.declared.inst.UnitKind.{UnitKind}
@@ -38,18 +39,18 @@ start_by _ u i = of_process (record { stand = is_new; held = with_args nothing_h
 abbrev pub start : UnitText → Instance → State
 start u i = start_by u.kind u i
 
--- the parts that it senses: those that a process waits on, or that an entity probes
+-- the parts that a process waits on, by where it stands
 abbrev pub waited : Stand → List Range
 waited is_new = []
 waited (waits block to on wake) = on
 waited halted = []
 
--- the parts that an instance senses
+-- the parts that an instance senses: those that a process waits on, or that an entity probes
 abbrev pub senses : UnitText → Instance → State → List Range
 senses u i (of_process p) = waited p.stand
 senses u i (of_entity memory) = probes u i.args i.sigs
 
--- when it wakes by itself
+-- when a process wakes by itself, by where it stands
 abbrev pub wake_at : Stand → Option Instant
 wake_at is_new = None
 wake_at (waits block to on wake) = wake
@@ -60,7 +61,7 @@ abbrev pub wake_of : State → Option Instant
 wake_of (of_process p) = wake_at p.stand
 wake_of (of_entity memory) = None
 
--- the bits of parts, by number
+-- the numbers of bits in a row, from a lowest one on
 abbrev pub bits_from : (lo len : ℕ) → List ℕ
 bits_from lo zero = []
 bits_from lo (suc n) = lo ∷ bits_from (lo + 1) n
@@ -95,37 +96,37 @@ pub record Act : Type 0 where
   pub outcomes : List Bool
   pub ran_away : Bool
 
--- it is not woken
+-- what an instance does where it is not woken: nothing
 abbrev pub rests : State → Act
 rests state = record { after = state; wish = no_wish; outcomes = []; ran_away = false }
 
--- an activation, or a runaway where there is none
-abbrev pub acts_by : ProcessState → Option Activated → Act
-acts_by p None = record { after = of_process p; wish = no_wish; outcomes = []; ran_away = true }
-acts_by p (Some d) = record { after = of_process d.state; wish = d.wish; outcomes = d.outcomes; ran_away = false }
+-- what a process does: an activation, or a runaway where there is none
+abbrev pub process_act : ProcessState → Option Activated → Act
+process_act p None = record { after = of_process p; wish = no_wish; outcomes = []; ran_away = true }
+process_act p (Some d) = record { after = of_process d.state; wish = d.wish; outcomes = d.outcomes; ran_away = false }
 
--- a pass
-abbrev pub reacts_by : Passed → Act
-reacts_by p = record { after = of_entity (Some p.seen); wish = p.wish; outcomes = []; ran_away = false }
+-- what an entity does: a pass
+abbrev pub entity_act : Passed → Act
+entity_act p = record { after = of_entity (Some p.seen); wish = p.wish; outcomes = []; ran_away = false }
 
--- what never changes: the bound on an activation's instructions, and the module
+-- what never changes: the bound on an activation's instructions, and the functions of the module
 pub record Rules : Type 0 where
   pub bound : ℕ
   pub functions : List UnitText
 
 -- what an instance does where it is woken
 abbrev pub runs : Rules → (now : List Bool) → Instant → UnitText → Instance → State → Act
-runs r now t u i (of_process p) = acts_by p (activate r.bound (record { functions = r.functions; now = now; at = t }) u p)
-runs r now t u i (of_entity memory) = reacts_by (pass u i.args i.sigs now memory t)
+runs r now t u i (of_process p) = process_act p (activate r.bound (record { functions = r.functions; now = now; at = t }) u p)
+runs r now t u i (of_entity memory) = entity_act (pass u i.args i.sigs now memory t)
 
 -- what an instance does, woken or not
-abbrev pub act_if : (is_woken : Bool) → Rules → (now : List Bool) → Instant → UnitText → Instance → State → Act
-act_if true r now t u i state = runs r now t u i state
-act_if false r now t u i state = rests state
+abbrev pub act_if_woken : (is_woken : Bool) → Rules → (now : List Bool) → Instant → UnitText → Instance → State → Act
+act_if_woken true r now t u i state = runs r now t u i state
+act_if_woken false r now t u i state = rests state
 
 -- what an instance does in the frame at `t`
 abbrev pub act : Rules → (last : Option Instant) → (old now : List Bool) → Instant → UnitText → Instance → State → Act
-act r last old now t u i state = act_if (woken last old now t u i state) r now t u i state
+act r last old now t u i state = act_if_woken (woken last old now t u i state) r now t u i state
 
 -- The world between two frames: the bits that the signals begin with, the instant of the last frame, the state of each instance, and all wishes made.
 pub record World : Type 0 where
@@ -153,24 +154,19 @@ abbrev pub bits_of : World → List Bool
 bits_of w = bits_by w.history w.init w.last
 
 -- what each instance does in the frame at `t`
-abbrev pub acts_of : Rules → List ItemText → (last : Option Instant) → (old now : List Bool) → Instant → List Instance → List State → List Act
-acts_of r items last old now t [] states = []
-acts_of r items last old now t (i ∷ more) [] = []
-acts_of r items last old now t (i ∷ more) (s ∷ states) = act r last old now t (unit_of items i.unit) i s ∷ acts_of r items last old now t more states
+abbrev pub acts_from : Rules → List ItemText → (last : Option Instant) → (old now : List Bool) → Instant → List Instance → List State → List Act
+acts_from r items last old now t [] states = []
+acts_from r items last old now t (i ∷ more) [] = []
+acts_from r items last old now t (i ∷ more) (s ∷ states) = act r last old now t (unit_of items i.unit) i s ∷ acts_from r items last old now t more states
 
 -- the rules of a module
 abbrev pub rules_of : (bound : ℕ) → List ItemText → Rules
 rules_of bound items = record { bound = bound; functions = functions items }
 
 -- what the instances of a world do in the frame at `t`
-unfoldable pub acts : (bound : ℕ) → List ItemText → Design → World → Instant → List Act
-acts bound items d w t =
-    acts_of (rules_of bound items) items w.last (bits_of w) (bits_at w.history w.init t) t d.instances w.states
-
--- a wish that is not empty is kept, with its origin
-abbrev pub kept : Instant → (instance : ℕ) → Wish → List Made
-kept t i [] = []
-kept t i (e ∷ more) = record { made = t; instance = i; wish = e ∷ more } ∷ []
+unfoldable pub acts_at : (bound : ℕ) → List ItemText → Design → World → Instant → List Act
+acts_at bound items d w t =
+    acts_from (rules_of bound items) items w.last (bits_of w) (bits_at w.history w.init t) t d.instances w.states
 
 -- the wishes of a frame, by instance
 abbrev pub made_by : Instant → (instance : ℕ) → List Act → List Made
@@ -188,7 +184,7 @@ world_after w t done = record { init = w.init; last = Some t; states = afters do
 
 -- the world after the frame at `t`
 abbrev pub next_world : (bound : ℕ) → List ItemText → Design → World → Instant → World
-next_world bound items d w t = world_after w t (acts bound items d w t)
+next_world bound items d w t = world_after w t (acts_at bound items d w t)
 
 -- a wish is due at this instant
 abbrev pub IsDueIn : List Claim → Instant → Type 0

@@ -22,6 +22,32 @@ pub struct InstId(pub u32);
 #[derive(Clone, Copy, Debug, PartialEq, Eq)]
 pub struct ValueId(pub u32);
 
+/// What defines a value of a unit.
+#[derive(Clone, Copy, Debug, PartialEq, Eq)]
+pub enum ValueDef {
+    /// Nothing: the value is named and has no definition.
+    Missing,
+    /// It is the argument of this number, counted from 0.
+    Arg(u32),
+    /// It is the result of this instruction.
+    Inst(InstId),
+}
+
+impl ValueDef {
+    ghost use Rattle.std.specs.Prelude.{◌≡◌};
+    ghost use Rattle.lh_unit.specs.Table.{has_definition};
+
+    /// Whether there is an argument or an instruction.
+    pub fn is_some(self) -> bool
+        ensures { result ≡ has_definition self }
+    {
+        match self {
+            ValueDef::Missing => false,
+            ValueDef::Arg(_) | ValueDef::Inst(_) => true,
+        }
+    }
+}
+
 /// The three kinds of units.
 #[derive(Clone, Copy, Debug, PartialEq, Eq)]
 pub enum UnitKind {

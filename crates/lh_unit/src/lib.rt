@@ -7,3 +7,4 @@ pub mod module;
 pub mod name;
 mod table;
 pub mod token;
+pub mod view;

@@ -1,10 +1,10 @@
 //! One unit of the arena.
 ghost use Rattle.std.specs.Prelude.{◌≡◌, ◌≤◌, ◌<◌, ◌+◌, ◌-◌, ◌^◌, [], ◌∷◌, ◌++◌, length, take, slice_set, slice_index_or, unwrap_or, vec_len, vec_capacity, IsSome, OnOk, OnErr};
 ghost use Rattle.std.specs.Option.{option_copied};
-ghost use Rattle.lh_unit.specs.Table.{no_table, entity_block, ResultWithin, HasBlocks, marked, flag_of, line_at, insts_at};
+ghost use Rattle.lh_unit.specs.Table.{no_table, entity_block, ResultWithin, HasBlocks, IsDefinition, with_definition, defined_among, line_at, insts_at};
 ghost use Rattle.lh_unit.specs.TableCalls.{FindsValueIn, FindsLabelIn, Begins, TakesArg, TakesBlock, TakesLine, with_result};
 
-use crate::inst::{Arg, BlockId, Inst, InstId, UnitFault, UnitKind, ValueId};
+use crate::inst::{Arg, BlockId, Inst, InstId, UnitFault, UnitKind, ValueDef, ValueId};
 use crate::name::Name;
 use indexmap::IndexSet;
 use lh_types::list::ListOf;
@@ -27,8 +27,8 @@ type InstIdList = ListOf<InstId>;
 pub struct UnitTable {
     kind: Option<UnitKind>,
     values: IndexSet<Name>,
-    // For each value, whether an argument or an instruction defines it.
-    flags: Vec<bool>,
+    // By the ids of values.
+    defs: Vec<ValueDef>,
     labels: IndexSet<Name>,
     // By the ids of blocks; none where no block of this label was added.
     bodies: Vec<Option<InstIdList>>,
@@ -63,7 +63,7 @@ impl UnitTable {
         UnitTable {
             kind: None,
             values: IndexSet::new(alloc),
-            flags: Vec::new(alloc),
+            defs: Vec::new(alloc),
             labels: IndexSet::new(alloc),
             bodies: Vec::new(alloc),
             blocks: Vec::new(alloc),
@@ -82,13 +82,13 @@ impl UnitTable {
             return Ok(ValueId(i as u32));
         }
         let name = name.copy()?;
-        if self.flags.push(false).is_err() {
+        if self.defs.push(ValueDef::Missing).is_err() {
             return Err(NoMemory);
         }
         if let Ok((i, _)) = self.values.insert_full(name) {
             return Ok(ValueId(i as u32));
         }
-        self.flags.pop();
+        self.defs.pop();
         Err(NoMemory)
     }
 
@@ -140,13 +140,14 @@ impl UnitTable {
         requires within { value.0 < length self.old.values }
         ensures { TakesArg result self.old self.new (record { value = value; ty = ty; output = output }) }
     {
-        if self.flags[value.0 as usize] {
+        if self.defs[value.0 as usize].is_some() {
             return Err(UnitFault::DuplicateName);
         }
+        let number = self.args.len() as u32;
         if push_arg(&mut self.args, Arg { value, ty, output }).is_err() {
             return Err(UnitFault::OutOfMemory);
         }
-        self.flags[value.0 as usize] = true;
+        self.defs[value.0 as usize] = ValueDef::Arg(number);
         Ok(())
     }
 
@@ -185,7 +186,7 @@ impl UnitTable {
         if id >= 65536 {
             return refuse(inst, UnitFault::UnitTooLarge);
         }
-        if is_marked(&self.flags, value) {
+        if is_defined(&self.defs, value) {
             return refuse(inst, UnitFault::DuplicateName);
         }
         if self.lines.reserve(1).is_err() {
@@ -202,7 +203,7 @@ impl UnitTable {
                 inst,
             },
         );
-        mark(&mut self.flags, value);
+        define(&mut self.defs, value, ValueDef::Inst(InstId(id as u32)));
         Ok(InstId(id as u32))
     }
 
@@ -245,6 +246,13 @@ impl UnitTable {
         ensures { result.now ≡ line_at self.now inst.0 }
     {
         &self.lines[inst.0 as usize]
+    }
+
+    pub fn value_def(&self, value: ValueId) -> ValueDef
+        requires { value.0 < length self.now.values }
+        ensures { IsDefinition self.now value.0 result }
+    {
+        self.defs[value.0 as usize]
     }
 
     pub fn values(&self) -> usize
@@ -361,21 +369,21 @@ fn push_line(lines: &mut Vec<Line>, line: Line)
     }
 }
 
-fn is_marked(flags: &Vec<bool>, value: Option<ValueId>) -> bool
-    requires { ResultWithin (length flags.now.items) value }
-    ensures { result ≡ flag_of flags.now.items value }
+fn is_defined(defs: &Vec<ValueDef>, value: Option<ValueId>) -> bool
+    requires { ResultWithin (length defs.now.items) value }
+    ensures { result ≡ defined_among defs.now.items value }
 {
     match value {
-        Some(v) => flags[v.0 as usize],
+        Some(v) => defs[v.0 as usize].is_some(),
         None => false,
     }
 }
 
-fn mark(flags: &mut Vec<bool>, value: Option<ValueId>)
-    requires { ResultWithin (length flags.old.items) value }
-    ensures { flags.new.items ≡ marked flags.old.items value }
+fn define(defs: &mut Vec<ValueDef>, value: Option<ValueId>, given: ValueDef)
+    requires { ResultWithin (length defs.old.items) value }
+    ensures { defs.new.items ≡ with_definition defs.old.items value given }
 {
     if let Some(v) = value {
-        flags[v.0 as usize] = true;
+        defs[v.0 as usize] = given;
     }
 }

@@ -1,4 +1,4 @@
-use Rattle.std.proofs.Common.{◌≡◌, ◌<◌, List, [], length, map, get_or, Some, ap, sym, ◌∙◌, subst, arith}
+use Rattle.std.proofs.Common.{◌≡◌, ◌<◌, List, [], length, map, get_or, Option, Some, IsSome, refl, ap, sym, ◌∙◌, subst, arith}
 use Rattle.lh_types.specs.Wish.{no_wish}
 use Rattle.lh_unit.specs.Arena.{inst_count, block_insts_at, unit_text_at}
 use Rattle.lh_unit.specs.Hierarchy.{lines_of, parts_of}
@@ -7,13 +7,14 @@ use Rattle.lh_unit.specs.Table.{entity_block}
 use Rattle.lh_unit.specs.Within.{Each}
 use Rattle.lh_unit.specs.declared.inst.BlockId.{BlockId}
 use Rattle.lh_unit.specs.declared.inst.InstId.{InstId}
+use Rattle.lh_unit.specs.declared.inst.UnitKind.{UnitKind}
 use Rattle.lh_eval.specs.Sound.{IsSound}
 use Rattle.lh_eval.specs.WishOf.{writes_wish}
 use Rattle.lh_react.specs.Standing.{Stands, line_in, passed_all, trigger_count, StateFits}
-use Rattle.lh_react.proofs.BeginSteps.{entity-blocks, entity-insts, entity-lines}
-use Rattle.lh_react.proofs.FitLaws.{lines-sound, begins-fit}
+use Rattle.lh_eval.proofs.BeginSteps.{entity-blocks, entity-insts, entity-lines}
+use Rattle.lh_sound.proofs.FitLaws.{unit-is-sound, begins-fit}
 use Rattle.lh_react.proofs.PassFits.{WishWithin, pass-seen, pass-within, writes-within}
-use Rattle.lh_react.proofs.Lists.{each-of-map}
+use Rattle.lh_sound.proofs.EachItem.{each-of-map}
 use Rattle.lh_react.proofs.entity.run_entity.Goals as goal
 
 pub begin-requires-clause-within : goal.begin-requires-clause-within
@@ -36,7 +37,7 @@ run_insts-requires-clause-sound c =
     let u = c.args.unit.0 in
     let o = c.blocks-2.ensures.sound in
     let eq : c.insts-insts.result.now ≡ block_insts_at m u 0 = c.insts-insts.ensures.insts ∙ ap (λ (bs : List BlockId). block_insts_at m u (get_or bs 0 entity_block).0) (c.blocks-2.ensures.blocks ∙ entity-blocks m u o c.requires.unit c.requires.entity) in
-    let all : Each (IsSound (unit_text_at m u)) (map (line_in m u) (block_insts_at m u 0)) = subst (Each (IsSound (unit_text_at m u))) (entity-lines m u o c.requires.unit c.requires.entity) (lines-sound m u o c.requires.unit c.requires.entity c.requires.formed) in
+    let all : Each (IsSound (unit_text_at m u)) (map (line_in m u) (block_insts_at m u 0)) = subst (Each (IsSound (unit_text_at m u))) (entity-lines m u o c.requires.unit c.requires.entity) (unit-is-sound m u o c.requires.unit c.requires.formed (subst (λ (k : Option UnitKind). IsSome k) (sym c.requires.entity) refl)).lines in
     subst (Each (λ (i : InstId). IsSound (unit_text_at m u) (line_in m u i))) (sym eq) (each-of-map (IsSound (unit_text_at m u)) (line_in m u) (block_insts_at m u 0) all)
 
 pub run_insts-requires-clause-fit : goal.run_insts-requires-clause-fit
@@ -46,7 +47,7 @@ run_insts-requires-clause-fit c =
     record {
       passed = record { held = parts_of (unit_text_at m u) c.args.args.now c.args.sigs.now; seen = []; wish = no_wish };
       stands = record { holds = c.in_ok-slots.ensures; seen = c.new.ensures; wish = c.new-2.ensures };
-      fits = begins-fit m u c.blocks-2.ensures.sound c.requires.unit c.requires.entity c.requires.formed c.args.args.now c.args.sigs.now (length c.args.now.now) c.requires.fits;
+      fits = begins-fit m u c.blocks-2.ensures.sound c.requires.unit c.requires.formed c.requires.entity c.args.args.now c.args.sigs.now (length c.args.now.now) c.requires.fits;
     }
 
 pub returns : goal.returns
@@ -68,8 +69,8 @@ returns c =
     let next : c.after.result ≡ Some z.seen = c.after.ensures ∙ ap Some end.seen in
     let wish : writes_wish c.in_ok-wishes.wishes ≡ z.wish = c.in_ok-wishes.ensures.wish ∙ end.wish in
     let seen : length z.seen ≡ trigger_count (lines_of text.blocks) = omega (arith, pass-seen text c.args.now.now c.args.state.now c.args.at (lines_of text.blocks) p) in
-    let start = begins-fit m u o c.requires.unit c.requires.entity c.requires.formed c.args.args.now c.args.sigs.now w c.requires.fits in
-    let wished = pass-within text c.args.now.now c.args.state.now c.args.at (lines_of text.blocks) p (lines-sound m u o c.requires.unit c.requires.entity c.requires.formed) start tt in
+    let start = begins-fit m u o c.requires.unit c.requires.formed c.requires.entity c.args.args.now c.args.sigs.now w c.requires.fits in
+    let wished = pass-within text c.args.now.now c.args.state.now c.args.at (lines_of text.blocks) p (unit-is-sound m u o c.requires.unit c.requires.formed (subst (λ (k : Option UnitKind). IsSome k) (sym c.requires.entity) refl)).lines start tt in
     record {
       next = next;
       fits = subst (StateFits text) (sym next) seen;

@@ -3,7 +3,7 @@ use Rattle.lh_unit.specs.Arena.{value_count}
 use Rattle.lh_unit.specs.Pass.{Passed}
 use Rattle.lh_unit.proofs.ById.{result-within}
 use Rattle.lh_react.specs.Standing.{Stands, passed_by, passed_all}
-use Rattle.lh_react.proofs.RunSteps.{maybe-in}
+use Rattle.lh_eval.proofs.BeginSteps.{maybe-in}
 use Rattle.lh_react.proofs.pass.run_inst.Goals as goal
 
 pub run_named-requires-clause-name : goal.run_named-requires-clause-name

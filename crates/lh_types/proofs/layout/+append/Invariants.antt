@@ -10,4 +10,4 @@ abbrev pub decreases-append_values : goal.decreases-append_values
 decreases-append_values l = datum_count_row (data_row l.vs.now)
 
 abbrev pub invariant-append_values-loop-v : goal.invariant-append_values-loop-v
-invariant-append_values-loop-v l = AppendsAt l.fn.to.items l.to.items l.fn.vs l.v-items l.v-index
+invariant-append_values-loop-v l = AppendsAt l.fn.to l.to l.fn.vs l.v-items l.v-index

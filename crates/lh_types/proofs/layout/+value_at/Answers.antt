@@ -14,10 +14,10 @@ pub fields_at-value_at-requires : goal.fields_at-value_at-requires
 fields_at-value_at-requires t c =
     let w = part-node_count _ _ _ _ c.loop-field.invariant.whole c.loop-field-test.true c.field-item.is in
     let d = AreData-split _ _ _ c.loop-field.invariant.data_left c.loop-field-test.true c.field-item.is in
-    (omega (arith, w), (d.0, FieldsAt-inside _ _ _ _ _ _ _ _ c.loop-field.invariant c.loop-field-test.true c.field-item.is))
+    (omega (arith, w), (c.requires.short, (d.0, FieldsAt-inside _ _ _ _ _ _ _ _ c.loop-field.invariant c.loop-field-test.true c.field-item.is)))
 
 pub fields_at-loop-field-preserved : goal.fields_at-loop-field-preserved
-fields_at-loop-field-preserved t c = FieldsAt-next _ _ _ _ _ _ _ _ _ _ _ c.loop-field.invariant c.loop-field-test.true c.field-item.is c.in_ok-value.ensures c.in_ok-push.ensures.ok (ap (λ m. c.loop-field.at + m) c.bits.ensures)
+fields_at-loop-field-preserved t c = FieldsAt-next _ _ _ _ _ _ _ _ _ _ _ c.loop-field.invariant c.loop-field-test.true c.field-item.is c.in_ok-value.ensures c.in_ok-push.ensures.ok (ap (λ m. c.loop-field.at + m) c.bits-size.ensures)
 
 pub fields_at-returns : goal.fields_at-returns
 fields_at-returns t c = FieldsAt-end _ _ _ _ _ _ _ c.loop-field.invariant c.loop-field-test.false

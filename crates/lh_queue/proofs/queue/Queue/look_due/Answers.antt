@@ -6,7 +6,8 @@ use Rattle.lh_queue.specs.Places.{rest_from}
 use Rattle.lh_queue.specs.Buckets.{next_in}
 use Rattle.lh_queue.proofs.Storage.{stored}
 use Rattle.lh_queue.proofs.Holding.{bits_held}
-use Rattle.lh_queue.proofs.Taking.{length_written, rest_first, rest_none, within_at, looked, looked_end, looked_none}
+use Rattle.lh_types.proofs.Writing.{length-written}
+use Rattle.lh_queue.proofs.Taking.{rest_first, rest_none, within_at, looked, looked_end, looked_none}
 use Rattle.lh_queue.proofs.queue.Queue.look_due.Goals as goal
 
 pub returns-in_default-wish-clause-bits : goal.returns-in_default-wish-clause-bits
@@ -56,7 +57,7 @@ loop-key-preserved c =
     let i = c.loop-key.invariant in
     let l = looked c.args.self.now.held c.in-Some.k c.in-Some-wish.wish.now c.args.at c.loop-key.now c.set.new.now s.order s.keys (sym c.in-Some-wish.ensures) (sym c.is_due.ensures ∙ c.if-not-is_due.false) c.set.ensures in
     record {
-      counted = ap length c.set.ensures ∙ length_written c.in-Some-wish.wish.now.bits c.loop-key.now ∙ i.counted;
+      counted = ap length c.set.ensures ∙ length-written c.in-Some-wish.wish.now.bits c.loop-key.now ∙ i.counted;
       bits = ap (λ k. values_by (entries (rest_from c.args.self.now.held k)) c.args.at 0 c.set.new.now) c.next_key-key.ensures ∙ l.bits
           ∙ ap (λ k. values_by (entries (rest_from c.args.self.now.held k)) c.args.at 0 c.loop-key.now) (sym c.in-Some.is) ∙ i.bits;
     }

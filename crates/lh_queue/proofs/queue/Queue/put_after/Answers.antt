@@ -1,6 +1,5 @@
-use Rattle.std.proofs.Common.{◌≡◌, ◌≤◌, ◌+◌, ◌∙◌, ap, length, arith, refl, subst, Some, is_some, ◌-◌, min, ℕ}
+use Rattle.std.proofs.Common.{◌≡◌, ◌≤◌, ◌+◌, ◌∙◌, ap, arith, refl, subst, Some, is_some, ◌-◌, min, ℕ}
 use Rattle.slab.specs.Slab.{slab_len, with_value}
-use Rattle.std.specs.Vec.{vec_capacity}
 use Rattle.lh_queue.specs.Held.{Waiting}
 use Rattle.lh_queue.specs.Stored.{spare_by}
 use Rattle.lh_queue.proofs.Storage.{stored, seen}
@@ -24,6 +23,6 @@ returns c =
     let s = stored c.self.inside.links c.self.inside.buckets.items _ c.args.self.now c.self.invariant c.self.view_is in
     let e = c.insert_reserved-key.ensures in
     let p = put_after c.self.inside.links c.insert_reserved-key.new.self c.self.inside.buckets.items _ c.args.w c.insert_reserved-key.result c.args.near c.args.self.now.held c.index.result.now c.index_mut.result.now s c.requires.place c.requires.once e.was_vacant c.index.ensures e.updates e.len c.index_mut.ensures.value refl in
-    let v : spare_by c.self.inside.links (length c.self.inside.buckets.items) (vec_capacity c.self.inside.buckets) ≡ c.args.self.now.spare = ap (λ (x : Waiting). x.spare) c.self.view_is in
-    let P : ℕ → Type 0 = λ n. n ≤ min (c.insert_reserved-key.new.self.capacity - slab_len (with_value c.insert_reserved-key.new.self c.args.near (record { wish = c.index_mut.result.now.wish; next = Some c.insert_reserved-key.result }))) (vec_capacity c.self.inside.buckets - length c.self.inside.buckets.items) + 1 in
-    record { key = c.insert_reserved-key.result; free = p.0; held = seen _ _ _ p.1; spare = subst P v (spare_put c.self.inside.links.capacity (slab_len c.self.inside.links) (vec_capacity c.self.inside.buckets) (length c.self.inside.buckets.items) c.insert_reserved-key.new.self.capacity (slab_len (with_value c.insert_reserved-key.new.self c.args.near (record { wish = c.index_mut.result.now.wish; next = Some c.insert_reserved-key.result }))) (vec_capacity c.self.inside.buckets) (length c.self.inside.buckets.items) e.capacity (count_set c.insert_reserved-key.new.self.slots c.args.near (record { wish = c.index_mut.result.now.wish; next = Some c.insert_reserved-key.result }) (ap is_some c.index_mut.ensures.value) ∙ e.len) refl (omega arith)) }
+    let v : spare_by c.self.inside.links c.self.inside.buckets.spare ≡ c.args.self.now.spare = ap (λ (x : Waiting). x.spare) c.self.view_is in
+    let P : ℕ → Type 0 = λ n. n ≤ min (c.insert_reserved-key.new.self.capacity - slab_len (with_value c.insert_reserved-key.new.self c.args.near (record { wish = c.index_mut.result.now.wish; next = Some c.insert_reserved-key.result }))) c.self.inside.buckets.spare + 1 in
+    record { key = c.insert_reserved-key.result; free = p.0; held = seen _ _ _ p.1; spare = subst P v (spare_put c.self.inside.links.capacity (slab_len c.self.inside.links) c.self.inside.buckets.spare c.insert_reserved-key.new.self.capacity (slab_len (with_value c.insert_reserved-key.new.self c.args.near (record { wish = c.index_mut.result.now.wish; next = Some c.insert_reserved-key.result }))) c.self.inside.buckets.spare e.capacity (count_set c.insert_reserved-key.new.self.slots c.args.near (record { wish = c.index_mut.result.now.wish; next = Some c.insert_reserved-key.result }) (ap is_some c.index_mut.ensures.value) ∙ e.len) (omega arith)) }

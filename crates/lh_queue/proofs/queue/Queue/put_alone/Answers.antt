@@ -1,31 +1,34 @@
-use Rattle.std.proofs.Common.{◌≡◌, ◌≤◌, ◌<◌, ◌+◌, ap, length, arith, subst, ◌-◌, min, ℕ}
+use Rattle.std.proofs.Common.{◌≡◌, ◌≤◌, ◌+◌, ap, arith, subst, ◌-◌, min, ℕ}
 use Rattle.slab.specs.Slab.{slab_len}
-use Rattle.std.specs.Vec.{vec_len, vec_capacity}
 use Rattle.lh_queue.specs.Held.{Waiting}
 use Rattle.lh_queue.specs.Stored.{spare_by}
 use Rattle.lh_queue.proofs.Storage.{stored, seen}
 use Rattle.lh_queue.proofs.Putting.{place_within, put_alone, spare_put}
 use Rattle.lh_queue.proofs.queue.Queue.put_alone.Goals as goal
 
-pub insert-requires : goal.insert-requires
-insert-requires c =
+pub insert-requires-clause-within : goal.insert-requires-clause-within
+insert-requires-clause-within c =
     let s = stored c.self.inside.links c.self.inside.buckets.items _ c.args.self.now c.self.invariant c.self.view_is in
     let h = place_within c.self.inside.links c.self.inside.links c.self.inside.buckets.items c.self.inside.buckets.items c.args.w 0 c.args.k c.args.self.now.held s c.requires.place in
-    omega (arith, h, c.self.inside.buckets.ok.0)
+    h
+
+pub insert-requires-clause-room : goal.insert-requires-clause-room
+insert-requires-clause-room c =
+    let v : spare_by c.self.inside.links c.self.inside.buckets.spare ≡ c.args.self.now.spare = ap (λ (x : Waiting). x.spare) c.self.view_is in
+    omega (arith, v, c.requires.room)
 
 pub invariant_of-self : goal.invariant_of-self
 invariant_of-self c =
     let s = stored c.self.inside.links c.self.inside.buckets.items _ c.args.self.now c.self.invariant c.self.view_is in
     let e = c.insert_reserved-first.ensures in
-    let p = put_alone c.self.inside.links c.insert_reserved-first.new.self c.self.inside.buckets.items c.insert.new.self.items c.args.w c.insert_reserved-first.result c.args.k c.args.self.now.held s c.requires.place c.requires.once e.was_vacant e.updates e.len c.in-Ok.ensures.items in
+    let p = put_alone c.self.inside.links c.insert_reserved-first.new.self c.self.inside.buckets.items c.insert.new.self.items c.args.w c.insert_reserved-first.result c.args.k c.args.self.now.held s c.requires.place c.requires.once e.was_vacant e.updates e.len c.insert.ensures.items in
     (_, p.1)
 
 pub returns : goal.returns
 returns c =
     let s = stored c.self.inside.links c.self.inside.buckets.items _ c.args.self.now c.self.invariant c.self.view_is in
     let e = c.insert_reserved-first.ensures in
-    let p = put_alone c.self.inside.links c.insert_reserved-first.new.self c.self.inside.buckets.items c.insert.new.self.items c.args.w c.insert_reserved-first.result c.args.k c.args.self.now.held s c.requires.place c.requires.once e.was_vacant e.updates e.len c.in-Ok.ensures.items in
-    let v : spare_by c.self.inside.links (length c.self.inside.buckets.items) (vec_capacity c.self.inside.buckets) ≡ c.args.self.now.spare = ap (λ (x : Waiting). x.spare) c.self.view_is in
-    let room : vec_len c.self.inside.buckets < vec_capacity c.self.inside.buckets = omega (arith, v, c.requires.room, c.self.inside.buckets.ok.0) in
-    let P : ℕ → Type 0 = λ n. n ≤ min (c.insert_reserved-first.new.self.capacity - slab_len c.insert_reserved-first.new.self) (vec_capacity c.insert.new.self - length c.insert.new.self.items) + 1 in
-    record { key = c.insert_reserved-first.result; free = p.0; held = seen _ _ _ p.1; spare = subst P v (spare_put c.self.inside.links.capacity (slab_len c.self.inside.links) (vec_capacity c.self.inside.buckets) (length c.self.inside.buckets.items) c.insert_reserved-first.new.self.capacity (slab_len c.insert_reserved-first.new.self) (vec_capacity c.insert.new.self) (length c.insert.new.self.items) e.capacity e.len (c.in-Ok.ensures.in_place room).1.0 (omega (arith, c.in-Ok.ensures.len, c.insert.new.self.ok.0, c.self.inside.buckets.ok.0))) }
+    let p = put_alone c.self.inside.links c.insert_reserved-first.new.self c.self.inside.buckets.items c.insert.new.self.items c.args.w c.insert_reserved-first.result c.args.k c.args.self.now.held s c.requires.place c.requires.once e.was_vacant e.updates e.len c.insert.ensures.items in
+    let v : spare_by c.self.inside.links c.self.inside.buckets.spare ≡ c.args.self.now.spare = ap (λ (x : Waiting). x.spare) c.self.view_is in
+    let P : ℕ → Type 0 = λ n. n ≤ min (c.insert_reserved-first.new.self.capacity - slab_len c.insert_reserved-first.new.self) c.insert.new.self.spare + 1 in
+    record { key = c.insert_reserved-first.result; free = p.0; held = seen _ _ _ p.1; spare = subst P v (spare_put c.self.inside.links.capacity (slab_len c.self.inside.links) c.self.inside.buckets.spare c.insert_reserved-first.new.self.capacity (slab_len c.insert_reserved-first.new.self) c.insert.new.self.spare e.capacity e.len (omega (arith, c.insert.ensures.spare))) }

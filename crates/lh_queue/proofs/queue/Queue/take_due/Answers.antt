@@ -5,7 +5,8 @@ use Rattle.lh_queue.specs.Holds.{entries}
 use Rattle.lh_queue.proofs.Storage.{stored}
 use Rattle.lh_queue.proofs.Among.{holds_on}
 use Rattle.lh_queue.proofs.Holding.{bits_held}
-use Rattle.lh_queue.proofs.Taking.{length_written, order_step, due_step, within_step, left_step, bits_step, left_end, bits_end}
+use Rattle.lh_types.proofs.Writing.{length-written}
+use Rattle.lh_queue.proofs.Taking.{order_step, due_step, within_step, left_step, bits_step, left_end, bits_end}
 use Rattle.lh_queue.proofs.queue.Queue.take_due.Goals as goal
 
 pub loop-at-init : goal.loop-at-init
@@ -21,7 +22,7 @@ loop-at-preserved c =
     let w = c.take_first-wish.result in
     let more = c.take_first-wish.new.self.held in
     let starts : starts_at c.args.at c.loop-at.self.held ≡ true = sym c.starts_at.ensures ∙ c.loop-at-test.true in
-    let counted : length c.set.new.now ≡ length c.loop-at.now = ap length c.set.ensures ∙ length_written w.bits c.loop-at.now in
+    let counted : length c.set.new.now ≡ length c.loop-at.now = ap length c.set.ensures ∙ length-written w.bits c.loop-at.now in
     record {
       order = order_step c.args.at c.loop-at.self.held more f.held.0 w e i.order;
       due = due_step c.args.at c.loop-at.self.held more f.held.0 w e i.due;

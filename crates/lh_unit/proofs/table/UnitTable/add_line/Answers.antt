@@ -1,8 +1,9 @@
-use Rattle.std.proofs.Common.{rules, ◌≡◌, ◌<◌, ◌-◌, ◌++◌, ◌∷◌, [], Some, None, IsSome, false, get_or, set, unwrap_or, length, sym, ◌∙◌, ap, subst}
-use Rattle.lh_unit.specs.Table.{Table, IsTable, Flags, ResultWithin, result_defined}
-use Rattle.lh_unit.specs.TableCalls.{with_line, last_block}
+use Rattle.std.proofs.Common.{rules, ◌≡◌, ◌<◌, ◌-◌, ◌++◌, ◌∷◌, [], Some, None, IsSome, true, false, get_or, set, unwrap_or, length, refl, sym, ◌∙◌, ap, subst}
+use Rattle.lh_unit.specs.Table.{Table, IsTable, Definitions, ResultWithin, result_defined, with_definition}
+use Rattle.lh_unit.specs.TableCalls.{TakesLine, with_line, last_block}
 use Rattle.lh_unit.specs.TableOf.{table_of}
-use Rattle.lh_unit.proofs.Tables.{last-read, last-body, last-within, flag-of-told, line-laid, IsTable-with_line, Flags-with_line}
+use Rattle.lh_unit.specs.declared.inst.ValueDef.TheVariants as value_def
+use Rattle.lh_unit.proofs.Tables.{last-read, last-body, last-within, result-told, line-laid, IsTable-with_line, Definitions-with_line}
 use Rattle.lh_unit.proofs.table.UnitTable.add_line.Goals as goal
 
 pub push_id-requires-clause-within : goal.push_id-requires-clause-within
@@ -20,7 +21,7 @@ push_id-requires-clause-stands c =
     let l : c.index-last.result.now ≡ last_block (table_of c.self.inside) = last-read (table_of c.self.inside) c.index-last.result.now b (c.index-last.ensures ∙ ap (λ k. get_or c.self.inside.blocks.items (k - 1) c.index-last.result.now) n) in
     subst (λ k. IsSome (get_or c.self.inside.bodies.items k.0 None)) (sym l) (last-body (table_of c.self.inside) c.self.invariant.0 b)
 
-laid : (c : goal.After-mark) → (record (table_of c.self.inside) { lines = c.push_line.new.lines.items; bodies = c.push_id.new.bodies.items }) ≡ with_line (table_of c.self.inside) c.args.value c.args.inst
+laid : (c : goal.After-define) → (record (table_of c.self.inside) { lines = c.push_line.new.lines.items; bodies = c.push_id.new.bodies.items }) ≡ with_line (table_of c.self.inside) c.args.value c.args.inst
 laid c =
     let b : 0 < length (table_of c.self.inside).blocks = search rules in
     let n : c.len.result ≡ length (table_of c.self.inside).blocks = search rules in
@@ -31,19 +32,32 @@ laid c =
     line-laid (table_of c.self.inside) c.index-last.result.now c.push_line.new.lines.items c.push_id.new.bodies.items c.args.value c.args.inst l e
     (d ∙ ap (λ k. set c.self.inside.bodies.items c.index-last.result.now.0 (Some (unwrap_or (get_or c.self.inside.bodies.items c.index-last.result.now.0 None) [] ++ record { 0 = k } ∷ []))) m)
 
+pub returns-then-is_defined : goal.returns-then-is_defined
+returns-then-is_defined c =
+    let w : ResultWithin (length (table_of c.self.inside).values) c.args.value = subst (λ (t : Table). ResultWithin (length t.values) c.args.value) (sym c.self.view_is) c.requires.within in
+    let few : length (table_of c.self.inside).lines < 65536 = search rules in
+    let n : result_defined (table_of c.self.inside) c.args.value ≡ true = sym (result-told (table_of c.self.inside) c.self.inside.defs.items c.args.value c.self.invariant.1 w) ∙ sym c.is_defined.ensures ∙ c.if-is_defined.true in
+    subst (λ (t : Table). TakesLine c.refuse-then-is_defined.result t t c.args.value c.args.inst) c.self.view_is
+    (subst (λ r. TakesLine r (table_of c.self.inside) (table_of c.self.inside) c.args.value c.args.inst) (sym c.refuse-then-is_defined.ensures) (few, n, refl))
+
+told : (c : goal.After-define) → result_defined (table_of c.self.inside) c.args.value ≡ false
+told c =
+    let w : ResultWithin (length (table_of c.self.inside).values) c.args.value = subst (λ (t : Table). ResultWithin (length t.values) c.args.value) (sym c.self.view_is) c.requires.within in
+    sym (result-told (table_of c.self.inside) c.self.inside.defs.items c.args.value c.self.invariant.1 w) ∙ sym c.is_defined.ensures ∙ c.if-is_defined.false
+
 pub invariant_of-self-2 : goal.invariant_of-self-2
 invariant_of-self-2 c =
     let b : 0 < length (table_of c.self.inside).blocks = search rules in
     let w : ResultWithin (length (table_of c.self.inside).values) c.args.value = subst (λ (t : Table). ResultWithin (length t.values) c.args.value) (sym c.self.view_is) c.requires.within in
-    let few : length (table_of c.self.inside).lines < 65536 = search rules in (
-      subst IsTable (sym (laid c)) (IsTable-with_line (table_of c.self.inside) c.args.value c.args.inst b w few c.self.invariant.0),
-      subst (λ (t : Table). Flags t c.mark.new.flags.items) (sym (laid c)) (subst (Flags (with_line (table_of c.self.inside) c.args.value c.args.inst)) (sym c.mark.ensures) (Flags-with_line (table_of c.self.inside) c.self.inside.flags.items c.args.value c.args.inst w c.self.invariant.1)),
+    let few : length (table_of c.self.inside).lines < 65536 = search rules in
+    let m : c.len-id.result ≡ length c.self.inside.lines.items = search rules in
+    let e : c.define.new.defs.items ≡ with_definition c.self.inside.defs.items c.args.value (value_def.Inst record { 0 = length c.self.inside.lines.items }) = c.define.ensures ∙ ap (λ k. with_definition c.self.inside.defs.items c.args.value (value_def.Inst record { 0 = k })) m in (
+      subst IsTable (sym (laid c)) (IsTable-with_line (table_of c.self.inside) c.args.value c.args.inst b w few (told c) c.self.invariant.0),
+      subst (λ (t : Table). Definitions t c.define.new.defs.items) (sym (laid c)) (subst (Definitions (with_line (table_of c.self.inside) c.args.value c.args.inst)) (sym e) (Definitions-with_line (table_of c.self.inside) c.self.inside.defs.items c.args.value c.args.inst (told c) w c.self.invariant.1)),
     )
 
 pub returns : goal.returns
 returns c =
-    let w : ResultWithin (length (table_of c.self.inside).values) c.args.value = subst (λ (t : Table). ResultWithin (length t.values) c.args.value) (sym c.self.view_is) c.requires.within in
     let few : length (table_of c.self.inside).lines < 65536 = search rules in
     let m : c.len-id.result ≡ length (table_of c.self.inside).lines = search rules in
-    let n : result_defined (table_of c.self.inside) c.args.value ≡ false = sym (flag-of-told (table_of c.self.inside) c.self.inside.flags.items c.args.value c.self.invariant.1 w) ∙ sym c.is_marked.ensures ∙ c.if-is_marked.false in
-    rw (← c.self.view_is) (few, n, m, laid c)
+    rw (← c.self.view_is) (few, told c, m, laid c)

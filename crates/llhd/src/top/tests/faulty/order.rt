@@ -107,7 +107,20 @@ const IN_FUNCTIONS: [(&[u8], &[u8]); 27] = [
 ];
 
 // In a process with the inputs `i1$ %c, i8$ %a` and the output `i8$ %q`.
-const IN_PROCESSES: [(&[u8], &[u8]); 5] = [
+const IN_PROCESSES: [(&[u8], &[u8]); 8] = [
+    // A value has the type that its own line writes, also where the line has a fault by it.
+    (
+        b"br %m\nl:\n%v = prb i8$ %x\nhalt\nm:\n%x = phi i8$ [%a, %entry]\nbr %l\n",
+        b"unit @p instruction 4: 2 WrongKind\n",
+    ),
+    (
+        b"br %m\nl:\n%v = prb i8$ %x\nhalt\nm:\n%x = call i8$ @llhd.assert ()\nbr %l\n",
+        b"unit @p instruction 4: 3 WrongType\n",
+    ),
+    (
+        b"br %m\nl:\n%v = not i8 %x\nhalt\nm:\n%x = phi i8$ [%a, %entry]\nbr %l\n",
+        b"unit @p instruction 2: 2 WrongKind\n",
+    ),
     // The operand of `sig` depends on a `prb`, which comes before 4 and 7.
     (
         b"%v = prb i8$ %a\n%x = sig i8 %v\nhalt\n",

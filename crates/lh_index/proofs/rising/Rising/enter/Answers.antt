@@ -1,0 +1,23 @@
+use Rattle.std.proofs.Common.{rules, refl}
+use Rattle.lh_index.proofs.Places.{found_there, found_in, found_missing, there_already}
+use Rattle.lh_index.proofs.rising.Rising.enter.Goals as goal
+
+pub invariant_of-self-in-Err : goal.invariant_of-self-in-Err
+invariant_of-self-in-Err c =
+    (found_in _ _ _ _ c.args.n c.in-Err.place c.self.view_is c.deref.ensures.value c.self.invariant c.in-Err.ensures.position c.in_ok-insert-in-Err.ensures.items).0
+
+pub returns-in-Ok-clause-has : goal.returns-in-Ok-clause-has
+returns-in-Ok-clause-has c =
+    there_already c.args.n _ (found_there _ _ _ c.args.n c.in-Ok.field-0 c.self.view_is c.deref.ensures.value c.self.invariant c.in-Ok.ensures.position)
+
+pub returns-in-Ok-clause-there : goal.returns-in-Ok-clause-there
+returns-in-Ok-clause-there c =
+    (λ e. found_there _ _ _ c.args.n c.in-Ok.field-0 c.self.view_is c.deref.ensures.value c.self.invariant c.in-Ok.ensures.position, λ h. refl)
+
+pub returns-in_ok-insert-in-Err-clause-has : goal.returns-in_ok-insert-in-Err-clause-has
+returns-in_ok-insert-in-Err-clause-has c =
+    (found_in _ _ _ _ c.args.n c.in-Err.place c.self.view_is c.deref.ensures.value c.self.invariant c.in-Err.ensures.position c.in_ok-insert-in-Err.ensures.items).1
+
+pub returns-in_ok-insert-in-Err-clause-there : goal.returns-in_ok-insert-in-Err-clause-there
+returns-in_ok-insert-in-Err-clause-there c =
+    (λ e. absurd (search rules), λ h. absurd (found_missing _ _ _ c.args.n c.in-Err.place c.self.view_is c.deref.ensures.value c.self.invariant c.in-Err.ensures.position h))

@@ -1,0 +1,25 @@
+-- Lists of rising numbers, and what they have.
+use Rattle.std.specs.Prelude.{ℕ, ◌<◌, List, [], ◌∷◌, ◌≡◌, ◌≢◌, ◌⊎◌, ◌↔◌}
+
+-- it is one of these
+abbrev pub Has : ℕ → List ℕ → Type 0
+Has k [] = ⊥
+Has k (x ∷ more) = (x ≡ k) ⊎ Has k more
+
+-- each of these is greater
+abbrev pub AreAbove : ℕ → List ℕ → Type 0
+AreAbove k [] = Unit {0}
+AreAbove k (x ∷ more) = (k < x) × AreAbove k more
+
+-- each is less than those after it
+abbrev pub IsRising : List ℕ → Type 0
+IsRising [] = Unit {0}
+IsRising (x ∷ more) = AreAbove x more × IsRising more
+
+-- the new list has this number and what the old one has
+abbrev pub HasOneMore : (old : List ℕ) → ℕ → (new : List ℕ) → Type 0
+HasOneMore old n new = (k : ℕ) → Has k new ↔ ((k ≡ n) ⊎ Has k old)
+
+-- the new list has what the old one has, but for this number
+abbrev pub HasOneLess : (old : List ℕ) → ℕ → (new : List ℕ) → Type 0
+HasOneLess old n new = (k : ℕ) → Has k new ↔ (Has k old × (k ≢ n))

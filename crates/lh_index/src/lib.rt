@@ -1,0 +1,8 @@
+//! Who is woken by what: the instances that sense each signal, and the instants at which instances wake by themselves.
+#![tactic(auto)]
+
+pub mod rising;
+pub mod sensing;
+#[cfg(test)]
+mod tests;
+pub mod wakes;

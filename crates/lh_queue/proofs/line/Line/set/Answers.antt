@@ -1,0 +1,9 @@
+use Rattle.std.proofs.Common.{set, ap, ◌∙◌}
+use Rattle.lh_queue.specs.Line.{Buckets}
+use Rattle.lh_queue.proofs.Lining.{set-behind}
+use Rattle.lh_queue.proofs.line.Line.set.Goals as goal
+
+pub returns-clause-items : goal.returns-clause-items
+returns-clause-items c =
+    set-behind c.self.inside.gone c.args.k c.self.inside.all.items c.args.bucket c.self.invariant
+    ∙ ap (λ (l : Buckets). set l.items c.args.k c.args.bucket) c.self.view_is

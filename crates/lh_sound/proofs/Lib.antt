@@ -1,0 +1,12 @@
+pub mod EachItem
+pub mod Spelled
+pub mod NamedOnce
+pub mod SoundLines
+pub mod Begins
+pub mod FitLaws
+pub mod SlotsFit
+pub mod Finding
+pub mod FindingPass
+pub mod FindingStatic
+pub mod FindingValues
+pub mod FindingElab

@@ -1,0 +1,40 @@
+//! Bytes and numbers at the end of a text.
+ghost use Rattle.std.specs.Prelude.{◌≡◌, ◌++◌, OnOk, decimal};
+
+use crate::ty::NoMemory;
+use itoa::Buffer;
+
+/// Puts these bytes at the end of a text. After `NoMemory` the text is to be let go: nothing is said of it.
+pub fn put(to: &mut Vec<u8>, bytes: &[u8]) -> Result<(), NoMemory>
+    ensures { OnOk result (to.new.items ≡ to.old.items ++ bytes.now) }
+{
+    match to.extend_from_slice(bytes) {
+        Ok(()) => Ok(()),
+        Err(_) => Err(NoMemory),
+    }
+}
+
+/// Puts the decimal digits of a number at the end of a text, without a leading zero. After `NoMemory` nothing is said of the text.
+pub fn put_number(to: &mut Vec<u8>, n: u64) -> Result<(), NoMemory>
+    ensures { OnOk result (to.new.items ≡ to.old.items ++ decimal n) }
+{
+    let mut buffer = Buffer::new();
+    let digits = buffer.format(n);
+    put(to, digits.as_bytes())
+}
+
+#[cfg(test)]
+mod tests {
+    use super::*;
+    use std::test::Fail;
+
+    #[test]
+    fn text_and_numbers(rt: HostRuntime) -> Result<(), Fail> {
+        let mut to = Vec::new(rt.alloc());
+        put(&mut to, b"acc_")?;
+        put_number(&mut to, 0)?;
+        put_number(&mut to, 18_446_744_073_709_551_615)?;
+        assert_eq!(rt; to.as_slice(), b"acc_018446744073709551615".as_slice());
+        Ok(())
+    }
+}

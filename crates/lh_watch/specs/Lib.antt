@@ -1,0 +1,4 @@
+pub mod Members
+pub mod Shown
+pub mod Builtin
+pub mod Scripted

@@ -1,0 +1,8 @@
+//! Watchers: objects that see each frame of a simulation, hold numbers, and may end it.
+#![tactic(auto)]
+
+pub mod builtin;
+pub mod shows;
+#[cfg(test)]
+mod tests;
+pub mod watcher;
