@@ -161,13 +161,19 @@ reach_start ns t =
       closed = λ j k h e a. absurd (let p : j < length (set (replicate n false) t.0 true) = get_within _ j true e in omega (arith, len));
     }
 
+here_or_above : (a b : ℕ) → a ≤ b → (b ≡ a) ⊎ (a + 1 ≤ b)
+here_or_above zero zero h = inl refl
+here_or_above zero (suc b) h = inr (omega arith)
+here_or_above (suc a) zero h = absurd (omega arith)
+here_or_above (suc a) (suc b) h = elim (here_or_above a b (omega arith)) [ inl p ↦ inl (ap suc p) | inr p ↦ inr (omega arith) ]
+
 pub reach_set : (ns : List Node) (t : TermId) (flags new : List Bool) (i : ℕ) → ReachesFrom ns t flags (i + 1) → ((k : Term) → slice_get (terms_in ns) i ≡ Some k → Sets (record { 0 = i }) (operands_of k) flags new) → (k : Term) → slice_get (terms_in ns) i ≡ Some k → ReachesFrom ns t new i
 reach_set ns t flags new i r s k at =
     let q = s k at in
     record {
       length_is = q.length_is ∙ r.length_is;
       top = q.keeps t.0 r.top;
-      closed = λ j m h e b. elim (at_or_above i j h) [
+      closed = λ j m h e b. elim (here_or_above i j h) [
         | inl p ↦
           let same : Some k ≡ Some m = sym at ∙ ap (slice_get (terms_in ns)) (sym p) ∙ b in
           let one : k ≡ m = cc in
@@ -176,29 +182,17 @@ reach_set ns t flags new i r s k at =
         | inr p ↦ all_kept flags new q.keeps (operands_of m) (r.closed j m p (sym (q.from j h) ∙ e) b)
       ];
     }
-  where
-    at_or_above : (a b : ℕ) → a ≤ b → (b ≡ a) ⊎ (a + 1 ≤ b)
-    at_or_above zero zero h = inl refl
-    at_or_above zero (suc b) h = inr (omega arith)
-    at_or_above (suc a) zero h = absurd (omega arith)
-    at_or_above (suc a) (suc b) h = elim (at_or_above a b (omega arith)) [ inl p ↦ inl (ap suc p) | inr p ↦ inr (omega arith) ]
 
 pub reach_skip : (ns : List Node) (t : TermId) (flags : List Bool) (i : ℕ) → ReachesFrom ns t flags (i + 1) → slice_get flags i ≡ Some false → ReachesFrom ns t flags i
 reach_skip ns t flags i r f =
     record {
       length_is = r.length_is;
       top = r.top;
-      closed = λ j k h e b. elim (nat_cases i j h) [
+      closed = λ j k h e b. elim (here_or_above i j h) [
         | inl p ↦ let c : Some true ≡ Some false = sym e ∙ ap (slice_get flags) p ∙ f in cc
         | inr p ↦ r.closed j k p e b
       ];
     }
-  where
-    nat_cases : (a b : ℕ) → a ≤ b → (b ≡ a) ⊎ (a + 1 ≤ b)
-    nat_cases zero zero h = inl refl
-    nat_cases zero (suc b) h = inr (omega arith)
-    nat_cases (suc a) zero h = absurd (omega arith)
-    nat_cases (suc a) (suc b) h = elim (nat_cases a b (omega arith)) [ inl p ↦ inl (ap suc p) | inr p ↦ inr (omega arith) ]
 
 pub term_there : (ns : List Node) (i : ℕ) → i < length ns → (k : Term) × (slice_get (terms_in ns) i ≡ Some k)
 term_there [] i h = absurd (omega arith)
