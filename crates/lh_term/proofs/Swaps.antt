@@ -1,5 +1,5 @@
 -- Terms in place of parts' values: their types and what they mean, and what stays as an arena grows.
-use Rattle.std.proofs.Common.{◌≡◌, ℕ, zero, suc, ◌+◌, ◌-◌, ◌<◌, ◌≤◌, List, [], ◌∷◌, ◌++◌, length, map, Bool, true, false, ◌&&◌, nat_lt, refl, ap, sym, ◌∙◌, subst, Option, Some, None, arith, append_assoc, length-append, slice_get, set, replicate, inl, inr, ◌⊎◌}
+use Rattle.std.proofs.Common.{◌≡◌, ℕ, zero, suc, ◌+◌, ◌-◌, ◌<◌, ◌≤◌, Result, Ok, Err, IfOk, List, [], ◌∷◌, ◌++◌, length, map, Bool, true, false, ◌&&◌, nat_lt, refl, ap, sym, ◌∙◌, subst, Option, Some, None, arith, append_assoc, length-append, slice_get, set, replicate, inl, inr, ◌⊎◌}
 use Rattle.std.specs.Bool.{if◌then◌else◌}
 use Rattle.std.proofs.lemmas.List.{append-nil}
 use Rattle.std.specs.Cmp.{first_so, second_so}
@@ -352,3 +352,99 @@ now_made ns by x y p e h = let P : Tree → Type 0 = λ z. Stands ns y (replaced
 pub seconds_typed : (ns : List Node) → AllTyped ns → (by : List (TermId × TermId)) → PairsIn ns by → SecondsTyped (pairs_at ns by)
 seconds_typed ns a [] h = tt
 seconds_typed ns a (p ∷ ps) h = (a p.1 h.1, seconds_typed ns a ps h.2)
+
+-- ---- loops over operands
+
+-- the flags of those before `left` are set
+pub record SetSoFar (x : TermId) (xs left : List TermId) (old new : List Bool) : Type 0 where
+  pub done : List TermId
+  pub split : done ++ left ≡ xs
+  pub below : ids_below x.0 left ≡ true
+  pub within : x.0 < length old
+  pub sets : Sets x done old new
+
+pub set_first : (x : TermId) (xs : List TermId) (flags : List Bool) → ids_below x.0 xs ≡ true → x.0 < length flags → SetSoFar x xs xs flags flags
+set_first x xs flags h l = record { done = []; split = refl; below = h; within = l; sets = sets_start x flags }
+
+pub set_below : (x : TermId) (xs : List TermId) (y : TermId) (left : List TermId) (old new : List Bool) → SetSoFar x xs (y ∷ left) old new → y.0 < length new
+set_below x xs y left old new s = let h : y.0 < x.0 = lt_of y.0 x.0 (first_so (nat_lt y.0 x.0) (ids_below x.0 left) s.below) in let l = s.within in let e = s.sets.length_is in omega arith
+
+pub set_next : (x : TermId) (xs : List TermId) (y : TermId) (left : List TermId) (old new : List Bool) → SetSoFar x xs (y ∷ left) old new → SetSoFar x xs left old (set new y.0 true)
+set_next x xs y left old new s =
+    record {
+      done = s.done ++ y ∷ [];
+      split = append_assoc s.done (y ∷ []) left ∙ s.split;
+      below = second_so (nat_lt y.0 x.0) (ids_below x.0 left) s.below;
+      within = s.within;
+      sets = sets_one x s.done old new y s.sets (lt_of y.0 x.0 (first_so (nat_lt y.0 x.0) (ids_below x.0 left) s.below)) s.within;
+    }
+
+pub set_last : (x : TermId) (xs : List TermId) (old new : List Bool) → SetSoFar x xs [] old new → Sets x xs old new
+set_last x xs old new s = let P : List TermId → Type 0 = λ ys. Sets x ys old new in subst P (sym (append-nil s.done) ∙ s.split) s.sets
+
+-- those before `left` have their names
+pub record RenamedSoFar (made xs left to : List TermId) : Type 0 where
+  pub done : List TermId
+  pub split : done ++ left ≡ xs
+  pub within : ids_below (length made) left ≡ true
+  pub names : MadeFor made done to
+
+pub rename_first : (made xs : List TermId) → ids_below (length made) xs ≡ true → RenamedSoFar made xs xs []
+rename_first made xs h = record { done = []; split = refl; within = h; names = tt }
+
+made_push : (made xs ys : List TermId) (x y : TermId) → MadeFor made xs ys → slice_get made x.0 ≡ Some y → MadeFor made (xs ++ x ∷ []) (ys ++ y ∷ [])
+made_push made [] [] x y h e = (e, tt)
+made_push made [] (v ∷ ys) x y h e = absurd h
+made_push made (u ∷ xs) [] x y h e = absurd h
+made_push made (u ∷ xs) (v ∷ ys) x y h e = (h.0, made_push made xs ys x y h.1 e)
+
+pub rename_below : (made xs : List TermId) (x : TermId) (left to : List TermId) → RenamedSoFar made xs (x ∷ left) to → x.0 < length made
+rename_below made xs x left to r = lt_of x.0 (length made) (first_so (nat_lt x.0 (length made)) (ids_below (length made) left) r.within)
+
+pub rename_next : (made xs : List TermId) (x : TermId) (left to : List TermId) (y : TermId) → RenamedSoFar made xs (x ∷ left) to → slice_get made x.0 ≡ Some y → RenamedSoFar made xs left (to ++ y ∷ [])
+rename_next made xs x left to y r e =
+    record {
+      done = r.done ++ x ∷ [];
+      split = append_assoc r.done (x ∷ []) left ∙ r.split;
+      within = second_so (nat_lt x.0 (length made)) (ids_below (length made) left) r.within;
+      names = made_push made r.done to x y r.names e;
+    }
+
+pub rename_last : (made xs to : List TermId) → RenamedSoFar made xs [] to → MadeFor made xs to
+rename_last made xs to r = let P : List TermId → Type 0 = λ ys. MadeFor made ys to in subst P (sym (append-nil r.done) ∙ r.split) r.names
+
+-- ---- a turn of the substitution
+
+module _ (old cur : List Node) (by : List (TermId × TermId)) (t : TermId) (flags : List Bool) (made : List TermId) (i : ℕ) (m : Making old cur (pairs_at old by) flags made i) (in_t : IsIn old t) (p : PairsIn old by) (s : AreSwaps (pairs_at old by)) (r : Reaches old t flags) (up : Rising old) (l : i < length old) where
+  same_pairs : pairs_at cur by ≡ pairs_at old by
+  same_pairs = pairs_grown old cur m.grows by p
+
+  pub turn_in : IsIn cur (record { 0 = i })
+  turn_in = in_grown old cur m.grows (record { 0 = i }) l
+
+  pub turn_pairs : PairsIn cur by
+  turn_pairs = pairs_in_grown old cur m.grows by p
+
+  pub turn_swaps : AreSwaps (pairs_at cur by)
+  turn_swaps = let P : List (Tree × Tree) → Type 0 = AreSwaps in subst P (sym same_pairs) s
+
+  pub turn_operands : (b : Bool) → slice_get flags i ≡ Some b → b ≡ true → OperandsMade cur (pairs_at cur by) (record { 0 = i }) made
+  turn_operands b e f =
+      let P : List (Tree × Tree) → Type 0 = λ q. OperandsMade cur q (record { 0 = i }) made in
+      subst P (sym same_pairs) (operands_made old cur (pairs_at old by) t flags made i m in_t r up l (e ∙ ap Some f))
+
+  as_before : (new : List Node) (y : TermId) → Stands new y (swapped (pairs_at cur by) (tree_at (trees cur) (record { 0 = i }))) → Stands new y (swapped (pairs_at old by) (tree_at (trees old) (record { 0 = i })))
+  as_before new y h =
+      let P : Tree → Type 0 = λ z. Stands new y z in
+      subst P ((λ k. swapped (same_pairs k) (tree_at (trees cur) (record { 0 = i }))) ∙ ap (swapped (pairs_at old by)) (tree_grown old cur m.grows (record { 0 = i }) l)) h
+
+  pub turn_next : (new : List Node) (y : TermId) (b : Bool) → slice_get flags i ≡ Some b → Grows cur new → (b ≡ true → Stands new y (swapped (pairs_at cur by) (tree_at (trees cur) (record { 0 = i })))) → Making old new (pairs_at old by) flags (made ++ y ∷ []) (i + 1)
+  turn_next new y b e g h = making_next old cur new (pairs_at old by) flags made i y m g (λ f. as_before new y (h (let q : Some b ≡ Some true = sym e ∙ f in cc)))
+
+  pub turn_last : (new : List Node) (y : TermId) → Stands new y (swapped (pairs_at cur by) (tree_at (trees cur) (record { 0 = i }))) → Stands new y (swapped (pairs_at old by) (tree_at (trees old) (record { 0 = i })))
+  turn_last new y h = as_before new y h
+
+-- an answer of want of memory or a term, taken over
+pub if_ok_stands : {E : Type 0} (q : Result TermId E) (new : List Node) (x z : Tree) → ((y : TermId) → Stands new y x → Stands new y z) → IfOk q (λ y. Stands new y x) → IfOk q (λ y. Stands new y z)
+if_ok_stands (Ok y) new x z f h = f y h
+if_ok_stands (Err e) new x z f h = h

@@ -1,5 +1,5 @@
 -- The walk through the conjuncts of a condition.
-use Rattle.std.proofs.Common.{◌≡◌, ℕ, zero, suc, ◌+◌, ◌*◌, ◌-◌, ◌<◌, ◌≤◌, List, [], ◌∷◌, ◌++◌, length, map, Bool, true, false, not, ◌&&◌, ◌||◌, nat_lt, refl, ap, sym, ◌∙◌, subst, Option, Some, None, arith, append_assoc, slice_get, set, replicate, inl, inr, ◌⊎◌}
+use Rattle.std.proofs.Common.{◌≡◌, ℕ, zero, suc, ◌+◌, ◌*◌, ◌-◌, ◌<◌, ◌≤◌, List, [], ◌∷◌, ◌++◌, length, map, Bool, true, false, not, ◌&&◌, ◌||◌, nat_lt, refl, ap, sym, ◌∙◌, subst, Option, Some, None, arith, append_assoc, length-append, slice_get, set, replicate, inl, inr, ◌⊎◌}
 use Rattle.std.specs.Bool.{if◌then◌else◌}
 use Rattle.std.specs.List.{list_any}
 use Rattle.std.specs.Cmp.{first_so, second_so}
@@ -216,7 +216,7 @@ module _ (ns : List Node) (t : TermId) (seen : List Bool) (found : List TermId) 
   rest_in : ids_below (t.0 + 1) r ≡ true
   rest_in = second_so (nat_lt x.0 (t.0 + 1)) (ids_below (t.0 + 1) r) w.open_in
 
-  here_seen : x.0 < length seen
+  pub here_seen : x.0 < length seen
   here_seen = let h : x.0 < t.0 + 1 = lt_of x.0 (t.0 + 1) here_in in omega (arith, w.length_is)
 
   -- x was seen
@@ -403,3 +403,40 @@ pub joined_at : (ns : List Node) (x : TermId) (op : Op) (xs : List TermId) → o
 joined_at ns x op xs e h t s =
     let P : Tree → Type 0 = λ y. IsTyped y → same_type (type_of y) (int_type 1) ≡ true → FindsJoined ns x (and_operands op xs) y in
     subst P e (finds_joined ns x op xs h) t s
+
+-- ---- a turn of the loop, by the lists that it keeps
+
+pub start_at : (ns : List Node) (t : TermId) (seen : List Bool) (found items : List TermId) → seen ≡ replicate (t.0 + 1) false → found ≡ [] → items ≡ t ∷ [] → Walk ns t seen found (tops items)
+start_at ns t seen found items p q r =
+    let P : List Bool → Type 0 = λ f. Walk ns t f found (tops items) in
+    let Q : List TermId → Type 0 = λ k. Walk ns t (replicate (t.0 + 1) false) k (tops items) in
+    let R : List TermId → Type 0 = λ k. Walk ns t (replicate (t.0 + 1) false) [] (tops k) in
+    subst P (sym p) (subst Q (sym q) (subst R (sym r) (walk_start ns t)))
+
+pub popped : (ns : List Node) (t : TermId) (seen : List Bool) (found items left : List TermId) (x : TermId) → items ≡ left ++ x ∷ [] → Walk ns t seen found (tops items) → Walk ns t seen found (x ∷ tops left)
+popped ns t seen found items left x p w = let P : List TermId → Type 0 = λ s. Walk ns t seen found s in subst P (ap tops p ∙ tops_push left x) w
+
+pub open_within : (ns : List Node) (t : TermId) (seen : List Bool) (found : List TermId) (x : TermId) (r : List TermId) → Walk ns t seen found (x ∷ r) → x.0 < t.0 + 1
+open_within ns t seen found x r w = lt_of x.0 (t.0 + 1) (here_in ns t seen found x r w)
+
+pub two_more : (ns : List Node) (t : TermId) (seen : List Bool) (found left more all : List TermId) (a b : TermId) → more ≡ left ++ b ∷ [] → all ≡ more ++ a ∷ [] → Walk ns t seen found (a ∷ b ∷ tops left) → Walk ns t seen found (tops all)
+two_more ns t seen found left more all a b p q w =
+    let P : List TermId → Type 0 = λ s. Walk ns t seen found s in
+    subst P (sym (ap tops q ∙ tops_push more a ∙ ap (λ r. a ∷ r) (ap tops p ∙ tops_push left b))) w
+
+pub one_found : (ns : List Node) (t : TermId) (seen : List Bool) (found more s : List TermId) (x : TermId) → more ≡ found ++ x ∷ [] → Walk ns t seen (found ++ x ∷ []) s → Walk ns t seen more s
+one_found ns t seen found more s x p w = let P : List TermId → Type 0 = λ k. Walk ns t seen k s in subst P (sym p) w
+
+pub fewer : (seen : List Bool) (x : TermId) (items left : List TermId) → slice_get seen x.0 ≡ Some false → items ≡ left ++ x ∷ [] → 2 * unset (set seen x.0 true) + length left < 2 * unset seen + length items
+fewer seen x items left e p = omega (arith, unset_falls seen x.0 e, ap length p, length-append left (x ∷ []))
+
+pub fewer_but_two : (seen : List Bool) (x : TermId) (items left more all : List TermId) (a b : TermId) → slice_get seen x.0 ≡ Some false → items ≡ left ++ x ∷ [] → more ≡ left ++ b ∷ [] → all ≡ more ++ a ∷ [] → 2 * unset (set seen x.0 true) + length all < 2 * unset seen + length items
+fewer_but_two seen x items left more all a b e p q r =
+    omega (arith, unset_falls seen x.0 e, ap length p, length-append left (x ∷ []), ap length q, length-append left (b ∷ []), ap length r, length-append more (a ∷ []))
+
+pub none_left : (xs : List TermId) → length xs ≡ 0 → xs ≡ []
+none_left [] e = refl
+none_left (x ∷ xs) e = absurd (omega arith)
+
+pub walk_ends : (ns : List Node) (t : TermId) (seen : List Bool) (found items : List TermId) → length items ≡ 0 → Walk ns t seen found (tops items) → trees_at ns found ≡ conjuncts_of (tree_at (trees ns) t)
+walk_ends ns t seen found items e w = let P : List TermId → Type 0 = λ k. Walk ns t seen found (tops k) in let v = subst P (none_left items e) w in v.goes

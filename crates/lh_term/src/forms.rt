@@ -252,7 +252,7 @@ fn is_bit_value(v: &Val, bit: u128) -> bool
 
 /// The integer of this width whose bits are all 1.
 #[tactic(auto, unfolding(lh_types::specs::ApplyInt::integer_row))]
-fn ones(width: u32) -> u128
+pub(crate) fn ones(width: u32) -> u128
     requires { (1 ≤ width) × (width ≤ 128) }
     ensures { result ≡ 2 ^ width - 1 }
 {

@@ -6,11 +6,11 @@ ghost use Rattle.lh_term.specs.Types.{type_of};
 ghost use Rattle.lh_term.specs.Arena.{trees, tree_at, IsIn};
 ghost use Rattle.lh_term.specs.Tried.{AreAlike, IsIntType, HasElement, IsLeafTerm, MayTakePlace};
 
+use crate::forms::ones;
 use crate::part::Part;
 use crate::subst::Swap;
 use crate::term::{Term, TermId, TermList};
 use crate::terms::Terms;
-use lh_ops::apply_int;
 use lh_types::op::Op;
 use lh_types::ty::{NoMemory, Ty, TyKind, TyList, carries_data};
 use lh_types::val::{Val, ValList};
@@ -40,7 +40,10 @@ fn past(terms: &mut Terms, lo: u32, ty: Ty) -> Result<TermId, NoMemory> {
 
 /// An integer constant.
 fn number(terms: &mut Terms, width: u32, bits: u128) -> Result<TermId, NoMemory> {
-    if width == 0 || width > 128 || bits > ones(width) {
+    if width == 0 || width > 128 {
+        return Err(NoMemory);
+    }
+    if bits > ones(width) {
         return Err(NoMemory);
     }
     terms.konst(Val::Int { width, bits })
@@ -48,7 +51,10 @@ fn number(terms: &mut Terms, width: u32, bits: u128) -> Result<TermId, NoMemory>
 
 /// `not x` of an integer.
 fn not(terms: &mut Terms, x: TermId) -> Result<TermId, NoMemory> {
-    if x.0 >= terms.len() || !is_int(terms.ty(x)) {
+    if x.0 >= terms.len() {
+        return Err(NoMemory);
+    }
+    if !is_int(terms.ty(x)) {
         return Err(NoMemory);
     }
     terms.op(&Op::Not, &[x])
@@ -56,7 +62,10 @@ fn not(terms: &mut Terms, x: TermId) -> Result<TermId, NoMemory> {
 
 /// An operation on two terms: on integers, or `eq` and `neq` on any values.
 fn op(terms: &mut Terms, of: Op, x: TermId, y: TermId) -> Result<TermId, NoMemory> {
-    if x.0 >= terms.len() || y.0 >= terms.len() || !are_alike(terms, x, y) {
+    if x.0 >= terms.len() || y.0 >= terms.len() {
+        return Err(NoMemory);
+    }
+    if !are_alike(terms, x, y) {
         return Err(NoMemory);
     }
     match of {
@@ -116,7 +125,10 @@ fn has_element(ty: &Ty, k: u32) -> bool
 
 /// Element `k` of an array.
 fn element(terms: &mut Terms, x: TermId, k: u32) -> Result<TermId, NoMemory> {
-    if x.0 >= terms.len() || !has_element(terms.ty(x), k) {
+    if x.0 >= terms.len() {
+        return Err(NoMemory);
+    }
+    if !has_element(terms.ty(x), k) {
         return Err(NoMemory);
     }
     terms.op(&Op::Extf(k), &[x])
@@ -127,7 +139,10 @@ fn selected(terms: &mut Terms, x: TermId, by: TermId) -> Result<TermId, NoMemory
     if x.0 >= terms.len() || by.0 >= terms.len() {
         return Err(NoMemory);
     }
-    if !has_element(terms.ty(x), 0) || !is_int(terms.ty(by)) {
+    if !has_element(terms.ty(x), 0) {
+        return Err(NoMemory);
+    }
+    if !is_int(terms.ty(by)) {
         return Err(NoMemory);
     }
     terms.op(&Op::Mux, &[x, by])
@@ -138,7 +153,10 @@ fn choice(terms: &mut Terms, c: TermId, f: TermId, t: TermId) -> Result<TermId, 
     if c.0 >= terms.len() || f.0 >= terms.len() || t.0 >= terms.len() {
         return Err(NoMemory);
     }
-    if !is_bit(terms.ty(c)) || *terms.ty(f) != *terms.ty(t) {
+    if !is_bit(terms.ty(c)) {
+        return Err(NoMemory);
+    }
+    if !are_alike(terms, f, t) {
         return Err(NoMemory);
     }
     terms.choice(c, f, t)
@@ -177,7 +195,10 @@ fn with_one(
     from: TermId,
     to: TermId,
 ) -> Result<TermId, NoMemory> {
-    if t.0 >= terms.len() || !is_swap(terms, from, to) {
+    if t.0 >= terms.len() {
+        return Err(NoMemory);
+    }
+    if !is_swap(terms, from, to) {
         return Err(NoMemory);
     }
     let mut by = Swap::new(terms.allocator());
@@ -192,7 +213,13 @@ fn with_two(
     one: (TermId, TermId),
     two: (TermId, TermId),
 ) -> Result<TermId, NoMemory> {
-    if t.0 >= terms.len() || !is_swap(terms, one.0, one.1) || !is_swap(terms, two.0, two.1) {
+    if t.0 >= terms.len() {
+        return Err(NoMemory);
+    }
+    if !is_swap(terms, one.0, one.1) {
+        return Err(NoMemory);
+    }
+    if !is_swap(terms, two.0, two.1) {
         return Err(NoMemory);
     }
     if terms.same(two.0, one.0) {
@@ -222,14 +249,6 @@ fn is_leaf(t: &Term) -> bool
         Term::Past(_) | Term::Now(_) => true,
         _ => false,
     }
-}
-
-/// The greatest integer of a width.
-fn ones(width: u32) -> u128 {
-    if width == 0 || width > 128 {
-        return 0;
-    }
-    apply_int(&Op::Not, width, 0, 0)
 }
 
 /// Whether an operation on two terms gives a term, on either side.
