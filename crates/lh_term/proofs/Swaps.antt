@@ -1,5 +1,5 @@
 -- Terms in place of parts' values: their types and what they mean, and what stays as an arena grows.
-use Rattle.std.proofs.Common.{◌≡◌, ℕ, zero, suc, ◌+◌, ◌-◌, ◌<◌, ◌≤◌, Result, Ok, Err, IfOk, List, [], ◌∷◌, ◌++◌, length, map, Bool, true, false, ◌&&◌, nat_lt, refl, ap, sym, ◌∙◌, subst, Option, Some, None, arith, append_assoc, length-append, slice_get, set, replicate, inl, inr, ◌⊎◌}
+use Rattle.std.proofs.Common.{◌≡◌, ℕ, zero, suc, ◌+◌, ◌-◌, ◌<◌, ◌≤◌, Result, Ok, Err, IfOk, List, [], ◌∷◌, ◌++◌, length, map, Bool, true, false, ◌&&◌, nat_lt, refl, ap, sym, ◌∙◌, subst, Option, Some, None, arith, append_assoc, length-append, take, drop, get_or, slice_get, set, replicate, inl, inr, ◌⊎◌}
 use Rattle.std.specs.Bool.{if◌then◌else◌}
 use Rattle.std.proofs.lemmas.List.{append-nil}
 use Rattle.std.specs.Cmp.{first_so, second_so}
@@ -448,3 +448,96 @@ module _ (old cur : List Node) (by : List (TermId × TermId)) (t : TermId) (flag
 pub if_ok_stands : {E : Type 0} (q : Result TermId E) (new : List Node) (x z : Tree) → ((y : TermId) → Stands new y x → Stands new y z) → IfOk q (λ y. Stands new y x) → IfOk q (λ y. Stands new y z)
 if_ok_stands (Ok y) new x z f h = f y h
 if_ok_stands (Err e) new x z f h = h
+
+-- ---- the loops' lists, as the code takes them apart
+
+take_whole : {X : Type 0} (xs : List X) → take (length xs) xs ≡ xs
+take_whole [] = refl
+take_whole (x ∷ xs) = ap (λ r. x ∷ r) (take_whole xs)
+
+take_front : {X : Type 0} (xs ys : List X) → take (length xs) (xs ++ ys) ≡ xs
+take_front [] ys = refl
+take_front (x ∷ xs) ys = ap (λ r. x ∷ r) (take_front xs ys)
+
+rest_of : (y : TermId) (r : List TermId) → take (length (y ∷ r) - 1) (drop 1 (y ∷ r)) ≡ r
+rest_of y r = let e : length (y ∷ r) - 1 ≡ length r = omega arith in ap (λ n. take n (drop 1 (y ∷ r))) e ∙ take_whole r
+
+pub set_next_at : (x : TermId) (xs left : List TermId) (old new : List Bool) (d : TermId) → SetSoFar x xs left old new → 1 ≤ length left → SetSoFar x xs (take (length left - 1) (drop 1 left)) old (set new (get_or left 0 d).0 true)
+set_next_at x xs [] old new d s h = absurd (omega arith)
+set_next_at x xs (y ∷ r) old new d s h = let P : List TermId → Type 0 = λ q. SetSoFar x xs q old (set new y.0 true) in subst P (sym (rest_of y r)) (set_next x xs y r old new s)
+
+pub rename_next_at : (made xs left to more : List TermId) (d y : TermId) → RenamedSoFar made xs left to → 1 ≤ length left → slice_get made (get_or left 0 d).0 ≡ Some y → more ≡ to ++ y ∷ [] → RenamedSoFar made xs (take (length left - 1) (drop 1 left)) more
+rename_next_at made xs [] to more d y r h e m = absurd (omega arith)
+rename_next_at made xs (x ∷ q) to more d y r h e m =
+    let P : List TermId → Type 0 = λ l. RenamedSoFar made xs l more in
+    let Q : List TermId → Type 0 = λ n. RenamedSoFar made xs q n in
+    subst P (sym (rest_of x q)) (subst Q (sym m) (rename_next made xs x q to y r e))
+
+pub reached_turn : (ns : List Node) (t : TermId) (flags old new : List Bool) (len i : ℕ) → 0 < i → i ≤ t.0 + 1 → IsIn ns t → ReachesFrom ns t flags i → length flags ≡ len → old ≡ flags
+    → ((k : Term) → slice_get (terms_in ns) (i - 1) ≡ Some k → Sets (record { 0 = i - 1 }) (operands_of k) old new) → ReachesFrom ns t (take len (new ++ drop (length new) flags)) (i - 1)
+reached_turn ns t flags old new len i h b in_t r n e s =
+    let (k, at) = term_there ns (i - 1) (omega arith) in
+    let back : (i - 1) + 1 ≡ i = omega arith in
+    let P : ℕ → Type 0 = λ j. ReachesFrom ns t flags j in
+    let Q : List Bool → Type 0 = λ o. (m : Term) → slice_get (terms_in ns) (i - 1) ≡ Some m → Sets (record { 0 = i - 1 }) (operands_of m) o new in
+    let s2 = subst Q e s in
+    let q = s2 k at in
+    let same : len ≡ length new = sym (q.length_is ∙ n) in
+    let whole : take len (new ++ drop (length new) flags) ≡ new = ap (λ j. take j (new ++ drop (length new) flags)) same ∙ take_front new (drop (length new) flags) in
+    let R : List Bool → Type 0 = λ f. ReachesFrom ns t f (i - 1) in
+    subst R (sym whole) (reach_set ns t flags new (i - 1) (subst P (sym back) r) s2 k at)
+
+-- ---- what is remade, as the code takes the term apart
+
+pub record OpFacts (ns : List Node) (by : List (Tree × Tree)) (x : TermId) (op : Op) (ys : List TermId) : Type 0 where
+  pub within : ids_below (length ns) ys ≡ true
+  pub takes : TakesTypes op (types_of (tree_row (trees_at ns ys)))
+  pub made : make_operation op (trees_at ns ys) ≡ swapped by (tree_at (trees ns) x)
+
+pub record ChoiceFacts (ns : List Node) (by : List (Tree × Tree)) (x u v w : TermId) : Type 0 where
+  pub c_in : u.0 < length ns
+  pub f_in : v.0 < length ns
+  pub t_in : w.0 < length ns
+  pub fits : Chooses (type_of (tree_at (trees ns) u)) (type_of (tree_at (trees ns) v)) (type_of (tree_at (trees ns) w))
+  pub made : make_choice (tree_at (trees ns) u) (tree_at (trees ns) v) (tree_at (trees ns) w) ≡ swapped by (tree_at (trees ns) x)
+
+module _ (ns : List Node) (by : List (Tree × Tree)) (x : TermId) (k : Term) (made : List TermId) (term : slice_get (terms_in ns) x.0 ≡ Some k) (operands : OperandsMade ns by x made) where
+  all_of : (l : Term) → k ≡ l → AllMade ns by made (operands_of l)
+  all_of l e = let P : Term → Type 0 = λ m. AllMade ns by made (operands_of m) in subst P e (operands k term)
+
+  pub op_names : (op : Op) (xs ys : List TermId) → k ≡ Applied op xs → ys ≡ xs → ids_below (length made) ys ≡ true
+  op_names op xs ys e f = let P : List TermId → Type 0 = λ l. ids_below (length made) l ≡ true in subst P (sym f) (made_within ns by made xs (all_of (Applied op xs) e))
+
+  pub op_facts : AreSwaps by → SecondsTyped by → (op : Op) (xs : List TermId) → k ≡ Applied op xs → term_tree (trees ns) k ≡ tree_at (trees ns) x → IsTyped (tree_at (trees ns) x) → (qs ys zs : List TermId) → qs ≡ xs → MadeFor made qs ys → zs ≡ ys → OpFacts ns by x op zs
+  op_facts s d op xs e shown h qs ys zs f m g =
+      let P : List TermId → Type 0 = λ l. MadeFor made l ys in
+      let Q : List TermId → Type 0 = λ l. OpFacts ns by x op l in
+      let at : operation_on op (trees_at ns xs) ≡ tree_at (trees ns) x = sym (ap (term_tree (trees ns)) e) ∙ shown in
+      let a = all_of (Applied op xs) e in
+      let n : MadeFor made xs ys = subst P f m in
+      subst Q (sym g) (record {
+        within = op_within ns by s d x op xs ys made at h a n;
+        takes = op_takes ns by s d x op xs ys made at h a n;
+        made = op_made ns by s d x op xs ys made at h a n;
+      })
+
+  pub choice_names : (c f t : TermId) → k ≡ Choice c f t → (c.0 < length made) × (f.0 < length made) × (t.0 < length made)
+  choice_names c f t e =
+      let a = all_of (Choice c f t) e in
+      (get_within made c.0 a.0 a.1, get_within made f.0 a.3.0 a.3.1, get_within made t.0 a.3.3.0 a.3.3.1)
+
+  pub choice_facts : AreSwaps by → SecondsTyped by → (c f t : TermId) → k ≡ Choice c f t → term_tree (trees ns) k ≡ tree_at (trees ns) x → IsTyped (tree_at (trees ns) x) → (u v w : TermId) → slice_get made c.0 ≡ Some u → slice_get made f.0 ≡ Some v → slice_get made t.0 ≡ Some w → ChoiceFacts ns by x u v w
+  choice_facts s d c f t e shown h u v w eu ev ew =
+      let at : choice_of (tree_at (trees ns) c) (tree_at (trees ns) f) (tree_at (trees ns) t) ≡ tree_at (trees ns) x = sym (ap (term_tree (trees ns)) e) ∙ shown in
+      let a = all_of (Choice c f t) e in
+      let i = choice_in ns by s d x c f t made at h a u v w eu ev ew in
+      record {
+        c_in = i.0;
+        f_in = i.1;
+        t_in = i.2;
+        fits = choice_fits ns by s d x c f t made at h a u v w eu ev ew;
+        made = choice_made ns by s d x c f t made at h a u v w eu ev ew;
+      }
+
+pub if_ok_along : {E : Type 0} (q : Result TermId E) (new : List Node) (x z : Tree) → x ≡ z → IfOk q (λ y. Stands new y x) → IfOk q (λ y. Stands new y z)
+if_ok_along q new x z e h = let P : Tree → Type 0 = λ w. IfOk q (λ y. Stands new y w) in subst P e h
