@@ -430,9 +430,9 @@ pub apart_at : (vs ns : List Node) → ns ≡ vs → IsArena ns → OneId vs
 apart_at vs ns e a =
     let P : List Node → Type 0 = OneId in
     subst P e (λ x y p q s.
-      let m = means ns a in
-      let l = trees_length ns a in
-      one_id_at (trees ns) m.distinct x y (of_lt x.0 (length (trees ns)) (omega arith)) (of_lt y.0 (length (trees ns)) (omega arith)) s)
+    let m = means ns a in
+    let l = trees_length ns a in
+    one_id_at (trees ns) m.distinct x y (of_lt x.0 (length (trees ns)) (omega arith)) (of_lt y.0 (length (trees ns)) (omega arith)) s)
 
 pub rising_at : (vs ns : List Node) → ns ≡ vs → IsArena ns → Rising vs
 rising_at vs ns e a = let P : List Node → Type 0 = Rising in subst P e (λ i x p. let m = means ns a in m.below i x p)

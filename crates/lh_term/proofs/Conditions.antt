@@ -212,9 +212,9 @@ from_all k (t ∷ ts) i h =
     record {
       bit = r.bit;
       value = λ past now p n.
-        let one : is_one (mean past now (make_operation And (k ∷ t ∷ []))) ≡ is_one (mean past now k) && is_one (mean past now t) =
-            ap is_one (s.mean past now p n ∙ and_one (mean past now k) (mean past now t) (bit_mean k i past now p n) (bit_mean t h.0 past now p n)) ∙ one_bit (is_one (mean past now k) && is_one (mean past now t)) in
-        r.value past now p n ∙ ap (λ b. bit_value (b && holds past now ts)) one ∙ ap bit_value (and_assoc (is_one (mean past now k)) (is_one (mean past now t)) (holds past now ts));
+          let one : is_one (mean past now (make_operation And (k ∷ t ∷ []))) ≡ is_one (mean past now k) && is_one (mean past now t) =
+          ap is_one (s.mean past now p n ∙ and_one (mean past now k) (mean past now t) (bit_mean k i past now p n) (bit_mean t h.0 past now p n)) ∙ one_bit (is_one (mean past now k) && is_one (mean past now t)) in
+          r.value past now p n ∙ ap (λ b. bit_value (b && holds past now ts)) one ∙ ap bit_value (and_assoc (is_one (mean past now k)) (is_one (mean past now t)) (holds past now ts));
     }
 
 pub condition_sound : (t : Tree) → IsTyped t → type_of t ≡ int_type 1 → MeansSame (conjunction (conjuncts_of t)) t

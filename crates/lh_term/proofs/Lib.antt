@@ -1,7 +1,6 @@
 pub mod Arenas
 pub mod Typing
 pub mod Sound
-pub mod FormTrees
 pub mod Values
 pub mod Walks
 pub mod Conditions

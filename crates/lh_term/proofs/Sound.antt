@@ -243,31 +243,31 @@ module _ (x y : Tree) (h : IsTyped (operation_on And (x ∷ y ∷ []))) where
 
   and_zero_right : y ≡ constant (int_value a.width 0) → MeansSame y (operation_on And (x ∷ y ∷ []))
   and_zero_right e = to_and y a.second (λ past now p q.
-    let m : mean past now y ≡ int_value a.width 0 = ap (mean past now) e in
-    m ∙ sym (v_and_zero a.width (mean past now x) (int_mean x a.width a.first past now p q)) ∙ ap (λ w. apply And (mean past now x ∷ w ∷ [])) (sym m))
+      let m : mean past now y ≡ int_value a.width 0 = ap (mean past now) e in
+      m ∙ sym (v_and_zero a.width (mean past now x) (int_mean x a.width a.first past now p q)) ∙ ap (λ w. apply And (mean past now x ∷ w ∷ [])) (sym m))
 
   and_zero_left : x ≡ constant (int_value a.width 0) → MeansSame x (operation_on And (x ∷ y ∷ []))
   and_zero_left e = to_and x a.first (λ past now p q.
-    let m : mean past now x ≡ int_value a.width 0 = ap (mean past now) e in
-    let i = int_mean x a.width a.first past now p q in
-    let j = int_mean y a.width a.second past now p q in
-    m ∙ sym (v_and_zero a.width (mean past now y) j) ∙ ap (λ w. apply And (mean past now y ∷ w ∷ [])) (sym m) ∙ sym (v_and_comm a.width (mean past now x) i (mean past now y) j))
+      let m : mean past now x ≡ int_value a.width 0 = ap (mean past now) e in
+      let i = int_mean x a.width a.first past now p q in
+      let j = int_mean y a.width a.second past now p q in
+      m ∙ sym (v_and_zero a.width (mean past now y) j) ∙ ap (λ w. apply And (mean past now y ∷ w ∷ [])) (sym m) ∙ sym (v_and_comm a.width (mean past now x) i (mean past now y) j))
 
   and_ones_right : y ≡ constant (ones a.width) → MeansSame x (operation_on And (x ∷ y ∷ []))
   and_ones_right e = to_and x a.first (λ past now p q.
-    let m : mean past now y ≡ ones a.width = ap (mean past now) e in
-    sym (v_and_ones a.width (mean past now x) (int_mean x a.width a.first past now p q)) ∙ ap (λ w. apply And (mean past now x ∷ w ∷ [])) (sym m))
+      let m : mean past now y ≡ ones a.width = ap (mean past now) e in
+      sym (v_and_ones a.width (mean past now x) (int_mean x a.width a.first past now p q)) ∙ ap (λ w. apply And (mean past now x ∷ w ∷ [])) (sym m))
 
   and_ones_left : x ≡ constant (ones a.width) → MeansSame y (operation_on And (x ∷ y ∷ []))
   and_ones_left e = to_and y a.second (λ past now p q.
-    let m : mean past now x ≡ ones a.width = ap (mean past now) e in
-    let i = int_mean x a.width a.first past now p q in
-    let j = int_mean y a.width a.second past now p q in
-    sym (v_and_ones a.width (mean past now y) j) ∙ ap (λ w. apply And (mean past now y ∷ w ∷ [])) (sym m) ∙ sym (v_and_comm a.width (mean past now x) i (mean past now y) j))
+      let m : mean past now x ≡ ones a.width = ap (mean past now) e in
+      let i = int_mean x a.width a.first past now p q in
+      let j = int_mean y a.width a.second past now p q in
+      sym (v_and_ones a.width (mean past now y) j) ∙ ap (λ w. apply And (mean past now y ∷ w ∷ [])) (sym m) ∙ sym (v_and_comm a.width (mean past now x) i (mean past now y) j))
 
   and_same : x ≡ y → MeansSame x (operation_on And (x ∷ y ∷ []))
   and_same e = to_and x a.first (λ past now p q.
-    sym (v_and_self a.width (mean past now x) (int_mean x a.width a.first past now p q)) ∙ ap (λ w. apply And (mean past now x ∷ w ∷ [])) (ap (mean past now) e))
+      sym (v_and_self a.width (mean past now x) (int_mean x a.width a.first past now p q)) ∙ ap (λ w. apply And (mean past now x ∷ w ∷ [])) (ap (mean past now) e))
 
   and_to_zero : ((past now : Valuation) → IsFitting past → IsFitting now → int_value a.width 0 ≡ apply And (mean past now x ∷ mean past now y ∷ [])) → MeansSame (zero_like x) (operation_on And (x ∷ y ∷ []))
   and_to_zero m =
@@ -276,13 +276,13 @@ module _ (x y : Tree) (h : IsTyped (operation_on And (x ∷ y ∷ []))) where
 
   and_not_right : y ≡ operation_on Not (x ∷ []) → MeansSame (zero_like x) (operation_on And (x ∷ y ∷ []))
   and_not_right e = and_to_zero (λ past now p q.
-    sym (v_and_not a.width (mean past now x) (int_mean x a.width a.first past now p q)) ∙ ap (λ w. apply And (mean past now x ∷ w ∷ [])) (sym (ap (mean past now) e)))
+      sym (v_and_not a.width (mean past now x) (int_mean x a.width a.first past now p q)) ∙ ap (λ w. apply And (mean past now x ∷ w ∷ [])) (sym (ap (mean past now) e)))
 
   and_not_left : x ≡ operation_on Not (y ∷ []) → MeansSame (zero_like x) (operation_on And (x ∷ y ∷ []))
   and_not_left e = and_to_zero (λ past now p q.
-    let i = int_mean x a.width a.first past now p q in
-    let j = int_mean y a.width a.second past now p q in
-    sym (v_and_not a.width (mean past now y) j) ∙ ap (λ w. apply And (mean past now y ∷ w ∷ [])) (sym (ap (mean past now) e)) ∙ sym (v_and_comm a.width (mean past now x) i (mean past now y) j))
+      let i = int_mean x a.width a.first past now p q in
+      let j = int_mean y a.width a.second past now p q in
+      sym (v_and_not a.width (mean past now y) j) ∙ ap (λ w. apply And (mean past now y ∷ w ∷ [])) (sym (ap (mean past now) e)) ∙ sym (v_and_comm a.width (mean past now x) i (mean past now y) j))
 
   pub and_sound : MeansSame (and_rows x y) (operation_on And (x ∷ y ∷ []))
   and_sound =
@@ -349,7 +349,7 @@ not_not_sound x z h e =
       typed = k.0.0;
       type = ap type_of (sym e);
       mean = λ past now p q.
-        sym (v_not_not o.width (mean past now z) (int_mean z o.width o.first past now p q)) ∙ ap (λ w. apply Not (w ∷ [])) (sym (ap (mean past now) e));
+          sym (v_not_not o.width (mean past now z) (int_mean z o.width o.first past now p q)) ∙ ap (λ w. apply Not (w ∷ [])) (sym (ap (mean past now) e));
     }
 
 pub not_sound : (x : Tree) → IsTyped (operation_on Not (x ∷ [])) → MeansSame (not_rows x) (operation_on Not (x ∷ []))
@@ -413,31 +413,31 @@ module _ (x y : Tree) (h : IsTyped (operation_on Or (x ∷ y ∷ []))) where
 
   or_zero_right : y ≡ constant (int_value o.width 0) → MeansSame x (operation_on Or (x ∷ y ∷ []))
   or_zero_right e = to_or x o.first (λ past now p q.
-    let m : mean past now y ≡ int_value o.width 0 = ap (mean past now) e in
-    sym (v_or_zero o.width (mean past now x) (int_mean x o.width o.first past now p q)) ∙ ap (λ w. apply Or (mean past now x ∷ w ∷ [])) (sym m))
+      let m : mean past now y ≡ int_value o.width 0 = ap (mean past now) e in
+      sym (v_or_zero o.width (mean past now x) (int_mean x o.width o.first past now p q)) ∙ ap (λ w. apply Or (mean past now x ∷ w ∷ [])) (sym m))
 
   or_zero_left : x ≡ constant (int_value o.width 0) → MeansSame y (operation_on Or (x ∷ y ∷ []))
   or_zero_left e = to_or y o.second (λ past now p q.
-    let m : mean past now x ≡ int_value o.width 0 = ap (mean past now) e in
-    let i = int_mean x o.width o.first past now p q in
-    let j = int_mean y o.width o.second past now p q in
-    sym (v_or_zero o.width (mean past now y) j) ∙ ap (λ w. apply Or (mean past now y ∷ w ∷ [])) (sym m) ∙ sym (v_or_comm o.width (mean past now x) i (mean past now y) j))
+      let m : mean past now x ≡ int_value o.width 0 = ap (mean past now) e in
+      let i = int_mean x o.width o.first past now p q in
+      let j = int_mean y o.width o.second past now p q in
+      sym (v_or_zero o.width (mean past now y) j) ∙ ap (λ w. apply Or (mean past now y ∷ w ∷ [])) (sym m) ∙ sym (v_or_comm o.width (mean past now x) i (mean past now y) j))
 
   or_ones_right : y ≡ constant (ones o.width) → MeansSame y (operation_on Or (x ∷ y ∷ []))
   or_ones_right e = to_or y o.second (λ past now p q.
-    let m : mean past now y ≡ ones o.width = ap (mean past now) e in
-    m ∙ sym (v_or_ones o.width (mean past now x) (int_mean x o.width o.first past now p q)) ∙ ap (λ w. apply Or (mean past now x ∷ w ∷ [])) (sym m))
+      let m : mean past now y ≡ ones o.width = ap (mean past now) e in
+      m ∙ sym (v_or_ones o.width (mean past now x) (int_mean x o.width o.first past now p q)) ∙ ap (λ w. apply Or (mean past now x ∷ w ∷ [])) (sym m))
 
   or_ones_left : x ≡ constant (ones o.width) → MeansSame x (operation_on Or (x ∷ y ∷ []))
   or_ones_left e = to_or x o.first (λ past now p q.
-    let m : mean past now x ≡ ones o.width = ap (mean past now) e in
-    let i = int_mean x o.width o.first past now p q in
-    let j = int_mean y o.width o.second past now p q in
-    m ∙ sym (v_or_ones o.width (mean past now y) j) ∙ ap (λ w. apply Or (mean past now y ∷ w ∷ [])) (sym m) ∙ sym (v_or_comm o.width (mean past now x) i (mean past now y) j))
+      let m : mean past now x ≡ ones o.width = ap (mean past now) e in
+      let i = int_mean x o.width o.first past now p q in
+      let j = int_mean y o.width o.second past now p q in
+      m ∙ sym (v_or_ones o.width (mean past now y) j) ∙ ap (λ w. apply Or (mean past now y ∷ w ∷ [])) (sym m) ∙ sym (v_or_comm o.width (mean past now x) i (mean past now y) j))
 
   or_same : x ≡ y → MeansSame x (operation_on Or (x ∷ y ∷ []))
   or_same e = to_or x o.first (λ past now p q.
-    sym (v_or_self o.width (mean past now x) (int_mean x o.width o.first past now p q)) ∙ ap (λ w. apply Or (mean past now x ∷ w ∷ [])) (ap (mean past now) e))
+      sym (v_or_self o.width (mean past now x) (int_mean x o.width o.first past now p q)) ∙ ap (λ w. apply Or (mean past now x ∷ w ∷ [])) (ap (mean past now) e))
 
   or_to_ones : ((past now : Valuation) → IsFitting past → IsFitting now → ones o.width ≡ apply Or (mean past now x ∷ mean past now y ∷ [])) → MeansSame (ones_like x) (operation_on Or (x ∷ y ∷ []))
   or_to_ones m =
@@ -446,13 +446,13 @@ module _ (x y : Tree) (h : IsTyped (operation_on Or (x ∷ y ∷ []))) where
 
   or_not_right : y ≡ operation_on Not (x ∷ []) → MeansSame (ones_like x) (operation_on Or (x ∷ y ∷ []))
   or_not_right e = or_to_ones (λ past now p q.
-    sym (v_or_not o.width (mean past now x) (int_mean x o.width o.first past now p q)) ∙ ap (λ w. apply Or (mean past now x ∷ w ∷ [])) (sym (ap (mean past now) e)))
+      sym (v_or_not o.width (mean past now x) (int_mean x o.width o.first past now p q)) ∙ ap (λ w. apply Or (mean past now x ∷ w ∷ [])) (sym (ap (mean past now) e)))
 
   or_not_left : x ≡ operation_on Not (y ∷ []) → MeansSame (ones_like x) (operation_on Or (x ∷ y ∷ []))
   or_not_left e = or_to_ones (λ past now p q.
-    let i = int_mean x o.width o.first past now p q in
-    let j = int_mean y o.width o.second past now p q in
-    sym (v_or_not o.width (mean past now y) j) ∙ ap (λ w. apply Or (mean past now y ∷ w ∷ [])) (sym (ap (mean past now) e)) ∙ sym (v_or_comm o.width (mean past now x) i (mean past now y) j))
+      let i = int_mean x o.width o.first past now p q in
+      let j = int_mean y o.width o.second past now p q in
+      sym (v_or_not o.width (mean past now y) j) ∙ ap (λ w. apply Or (mean past now y ∷ w ∷ [])) (sym (ap (mean past now) e)) ∙ sym (v_or_comm o.width (mean past now x) i (mean past now y) j))
 
   or_halves : (q : Tree) → Halves x y q → MeansSame q (operation_on Or (x ∷ y ∷ []))
   or_halves q s =
@@ -465,21 +465,21 @@ module _ (x y : Tree) (h : IsTyped (operation_on Or (x ∷ y ∷ []))) where
         typed = t.first.typed;
         type = ap type_of (sym s.first);
         mean = λ past now p r.
-          let mq = mean past now q in
-          let ma = mean past now s.one in
-          let mb = mean past now s.other in
-          let ex : mean past now x ≡ apply And (mq ∷ ma ∷ []) = ap (mean past now) s.first in
-          let ey : mean past now y ≡ apply And (mq ∷ mb ∷ []) = ap (mean past now) s.second in
-          let i = int_mean x o.width o.first past now p r in
-          let j = int_mean y o.width o.second past now p r in
-          elim s.apart [
-            | inl e ↦
-              let f : mb ≡ apply Not (ma ∷ []) = ap (mean past now) e in
-              sym (v_halves t.width mq (int_mean q t.width t.first past now p r) ma (int_mean s.one t.width t.second past now p r)) ∙ (λ k. apply Or (sym ex k ∷ apply And (mq ∷ sym f k ∷ []) ∷ [])) ∙ ap (λ w. apply Or (mean past now x ∷ w ∷ [])) (sym ey)
-            | inr e ↦
-              let f : ma ≡ apply Not (mb ∷ []) = ap (mean past now) e in
-              sym (v_halves u.width mq (int_mean q u.width u.first past now p r) mb (int_mean s.other u.width u.second past now p r)) ∙ (λ k. apply Or (sym ey k ∷ apply And (mq ∷ sym f k ∷ []) ∷ [])) ∙ ap (λ w. apply Or (mean past now y ∷ w ∷ [])) (sym ex) ∙ sym (v_or_comm o.width (mean past now x) i (mean past now y) j)
-          ];
+            let mq = mean past now q in
+            let ma = mean past now s.one in
+            let mb = mean past now s.other in
+            let ex : mean past now x ≡ apply And (mq ∷ ma ∷ []) = ap (mean past now) s.first in
+            let ey : mean past now y ≡ apply And (mq ∷ mb ∷ []) = ap (mean past now) s.second in
+            let i = int_mean x o.width o.first past now p r in
+            let j = int_mean y o.width o.second past now p r in
+            elim s.apart [
+              | inl e ↦
+                  let f : mb ≡ apply Not (ma ∷ []) = ap (mean past now) e in
+                  sym (v_halves t.width mq (int_mean q t.width t.first past now p r) ma (int_mean s.one t.width t.second past now p r)) ∙ (λ k. apply Or (sym ex k ∷ apply And (mq ∷ sym f k ∷ []) ∷ [])) ∙ ap (λ w. apply Or (mean past now x ∷ w ∷ [])) (sym ey)
+              | inr e ↦
+                  let f : ma ≡ apply Not (mb ∷ []) = ap (mean past now) e in
+                  sym (v_halves u.width mq (int_mean q u.width u.first past now p r) mb (int_mean s.other u.width u.second past now p r)) ∙ (λ k. apply Or (sym ey k ∷ apply And (mq ∷ sym f k ∷ []) ∷ [])) ∙ ap (λ w. apply Or (mean past now y ∷ w ∷ [])) (sym ex) ∙ sym (v_or_comm o.width (mean past now x) i (mean past now y) j)
+            ];
       }
 
   pub or_sound : MeansSame (or_rows x y) (operation_on Or (x ∷ y ∷ []))
@@ -691,28 +691,28 @@ module _ (c f t : Tree) (h : IsTyped (choice_of c f t)) where
       pick (is_bit 1 c) _ _ _ (λ e. record { typed = h.2; type = sym h.3.1; mean = λ past now p q. ap (λ v. chosen v (mean past now f) (mean past now t)) (sym (ap (mean past now) (bit_term 1 c e))) }) (λ _.
       pick (same_tree f t) _ _ _ (λ e. record { typed = h.1; type = refl; mean = λ past now p q. sym (chosen_one (mean past now c) (mean past now f)) ∙ ap (λ v. chosen (mean past now c) (mean past now f) v) (ap (mean past now) (same_tree-is f t e)) }) (λ _.
       pick (is_bit 0 f && is_bit 1 t) _ _ _ (λ e.
-        let g = and_both (is_bit 0 f) (is_bit 1 t) e in
-        let ef = bit_term 0 f g.0 in
-        let et = bit_term 1 t g.1 in
-        record {
-          typed = h.0;
-          type = h.3.0 ∙ sym (ap type_of ef);
-          mean = λ past now p q.
+      let g = and_both (is_bit 0 f) (is_bit 1 t) e in
+      let ef = bit_term 0 f g.0 in
+      let et = bit_term 1 t g.1 in
+      record {
+        typed = h.0;
+        type = h.3.0 ∙ sym (ap type_of ef);
+        mean = λ past now p q.
             let i = bit_mean c bit_c past now p q in
             let P : Datum → Type 0 = λ z. z ≡ chosen z (int_value 1 0) (int_value 1 1) in
             subst P (sym i.is) (sym (chosen_bit i.bit)) ∙ (λ k. chosen (mean past now c) (mean past now (sym ef k)) (mean past now (sym et k)));
-        }) (λ _.
+      }) (λ _.
       pick (is_bit 1 f && is_bit 0 t) _ _ _ (λ e.
-        let g = and_both (is_bit 1 f) (is_bit 0 t) e in
-        let ef = bit_term 1 f g.0 in
-        let et = bit_term 0 t g.1 in
-        let n = not_typed c h.0 h.3.0 in
-        then_same (make_not c) (operation_on Not (c ∷ [])) w (make_not_sound c n) (record {
-          typed = n;
-          type = h.3.0 ∙ sym (ap type_of ef);
-          mean = λ past now p q.
+      let g = and_both (is_bit 1 f) (is_bit 0 t) e in
+      let ef = bit_term 1 f g.0 in
+      let et = bit_term 0 t g.1 in
+      let n = not_typed c h.0 h.3.0 in
+      then_same (make_not c) (operation_on Not (c ∷ [])) w (make_not_sound c n) (record {
+        typed = n;
+        type = h.3.0 ∙ sym (ap type_of ef);
+        mean = λ past now p q.
             let i = bit_mean c bit_c past now p q in
             let P : Datum → Type 0 = λ z. apply Not (z ∷ []) ≡ chosen z (int_value 1 1) (int_value 1 0) in
             subst P (sym i.is) (sym (chosen_not i.bit)) ∙ (λ k. chosen (mean past now c) (mean past now (sym ef k)) (mean past now (sym et k)));
-        })) (λ _.
+      })) (λ _.
       itself w h)))))

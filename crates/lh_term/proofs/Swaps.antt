@@ -175,10 +175,10 @@ reach_set ns t flags new i r s k at =
       top = q.keeps t.0 r.top;
       closed = λ j m h e b. elim (here_or_above i j h) [
         | inl p ↦
-          let same : Some k ≡ Some m = sym at ∙ ap (slice_get (terms_in ns)) (sym p) ∙ b in
-          let one : k ≡ m = cc in
-          let P : Term → Type 0 = λ z. AllSet new (operands_of z) in
-          subst P one q.all
+            let same : Some k ≡ Some m = sym at ∙ ap (slice_get (terms_in ns)) (sym p) ∙ b in
+            let one : k ≡ m = cc in
+            let P : Term → Type 0 = λ z. AllSet new (operands_of z) in
+            subst P one q.all
         | inr p ↦ all_kept flags new q.keeps (operands_of m) (r.closed j m p (sym (q.from j h) ∙ e) b)
       ];
     }
@@ -217,10 +217,10 @@ making_next old cur new by flags made i x m g h =
       each = λ j y e f. elim (push_cases made x y j e) [
         | inl p ↦ stands_grown cur new g y _ (m.each j y p f)
         | inr p ↦
-          let q : j ≡ i = p.0 ∙ m.length_is in
-          let P : ℕ → Type 0 = λ k. Stands new x (swapped by (tree_at (trees old) (record { 0 = k }))) in
-          let Q : TermId → Type 0 = λ z. Stands new z (swapped by (tree_at (trees old) (record { 0 = j }))) in
-          subst Q p.1 (subst P (sym q) (h (ap (slice_get flags) (sym q) ∙ f)))
+            let q : j ≡ i = p.0 ∙ m.length_is in
+            let P : ℕ → Type 0 = λ k. Stands new x (swapped by (tree_at (trees old) (record { 0 = k }))) in
+            let Q : TermId → Type 0 = λ z. Stands new z (swapped by (tree_at (trees old) (record { 0 = j }))) in
+            subst Q p.1 (subst P (sym q) (h (ap (slice_get flags) (sym q) ∙ f)))
       ];
     }
 
@@ -541,3 +541,9 @@ module _ (ns : List Node) (by : List (Tree × Tree)) (x : TermId) (k : Term) (ma
 
 pub if_ok_along : {E : Type 0} (q : Result TermId E) (new : List Node) (x z : Tree) → x ≡ z → IfOk q (λ y. Stands new y x) → IfOk q (λ y. Stands new y z)
 if_ok_along q new x z e h = let P : Tree → Type 0 = λ w. IfOk q (λ y. Stands new y w) in subst P e h
+
+pub same_swapped : (old cur : List Node) → Grows old cur → (by : List (TermId × TermId)) → PairsIn old by → (t : TermId) → IsIn old t → swapped (pairs_at cur by) (tree_at (trees cur) t) ≡ swapped (pairs_at old by) (tree_at (trees old) t)
+same_swapped old cur g by p t h =
+    let e = pairs_grown old cur g by p in
+    let f = tree_grown old cur g t h in
+    λ k. swapped (e k) (f k)

@@ -235,7 +235,7 @@ module _ (ns : List Node) (t : TermId) (seen : List Bool) (found : List TermId) 
         found_in = w.found_in;
         goes = sym (ap (λ k. with_terms k (flats (trees ns) r)) (with_there F X (own_found e))) ∙ sym (with_append F X (flats (trees ns) r)) ∙ w.goes;
         covers = λ z h. left_out F (flats (trees ns) (lower z.0 r)) X (all_conjuncts (tree_at (trees ns) z)) (nat_lt x.0 z.0) (own_found e)
-        (sub_into (all_conjuncts (tree_at (trees ns) z)) _ _ (ap (λ m. F ++ m) (in_front (trees ns) z.0 x r (nat_lt x.0 z.0) refl)) (w.covers z h));
+            (sub_into (all_conjuncts (tree_at (trees ns) z)) _ _ (ap (λ m. F ++ m) (in_front (trees ns) z.0 x r (nat_lt x.0 z.0) refl)) (w.covers z h));
         marked = w.marked;
       }
 
@@ -258,15 +258,15 @@ module _ (ns : List Node) (t : TermId) (seen : List Bool) (found : List TermId) 
         goes = ap (with_terms F) (sym (append_assoc A B R) ∙ ap (λ m. m ++ R) (sym j)) ∙ w.goes;
         covers = λ z e. elim (get_set seen x.0 z.0 e) [
           | inl m ↦
-            let same : z ≡ x = same_id z x m in
-            let L = flats (trees ns) (lower x.0 r) in
-            let new : flats (trees ns) (lower x.0 (a ∷ b ∷ r)) ≡ A ++ (B ++ L) = in_front (trees ns) x.0 a (b ∷ r) true (of_lt a.0 x.0 p) ∙ ap (λ k. A ++ k) (in_front (trees ns) x.0 b r true (of_lt b.0 x.0 q)) in
-            let own : Sub X (F ++ (A ++ (B ++ L))) = sub_same (A ++ B) X (F ++ (A ++ (B ++ L))) (sym j)
-            (sub_trans (A ++ B) ((A ++ B) ++ L) (F ++ (A ++ (B ++ L))) (sub_left (A ++ B) L)
-            (sub_into ((A ++ B) ++ L) (F ++ ((A ++ B) ++ L)) (F ++ (A ++ (B ++ L))) (ap (λ k. F ++ k) (append_assoc A B L)) (sub_right F ((A ++ B) ++ L))))
-            in
-            let P : TermId → Type 0 = λ y. Sub (all_conjuncts (tree_at (trees ns) y)) (F ++ flats (trees ns) (lower y.0 (a ∷ b ∷ r))) in
-            subst P (sym same) (sub_into X (F ++ (A ++ (B ++ L))) (F ++ flats (trees ns) (lower x.0 (a ∷ b ∷ r))) (ap (λ k. F ++ k) (sym new)) own)
+              let same : z ≡ x = same_id z x m in
+              let L = flats (trees ns) (lower x.0 r) in
+              let new : flats (trees ns) (lower x.0 (a ∷ b ∷ r)) ≡ A ++ (B ++ L) = in_front (trees ns) x.0 a (b ∷ r) true (of_lt a.0 x.0 p) ∙ ap (λ k. A ++ k) (in_front (trees ns) x.0 b r true (of_lt b.0 x.0 q)) in
+              let own : Sub X (F ++ (A ++ (B ++ L))) = sub_same (A ++ B) X (F ++ (A ++ (B ++ L))) (sym j)
+              (sub_trans (A ++ B) ((A ++ B) ++ L) (F ++ (A ++ (B ++ L))) (sub_left (A ++ B) L)
+              (sub_into ((A ++ B) ++ L) (F ++ ((A ++ B) ++ L)) (F ++ (A ++ (B ++ L))) (ap (λ k. F ++ k) (append_assoc A B L)) (sub_right F ((A ++ B) ++ L))))
+              in
+              let P : TermId → Type 0 = λ y. Sub (all_conjuncts (tree_at (trees ns) y)) (F ++ flats (trees ns) (lower y.0 (a ∷ b ∷ r))) in
+              subst P (sym same) (sub_into X (F ++ (A ++ (B ++ L))) (F ++ flats (trees ns) (lower x.0 (a ∷ b ∷ r))) (ap (λ k. F ++ k) (sym new)) own)
           | inr m ↦ split_up (trees ns) F (all_conjuncts (tree_at (trees ns) z)) z.0 x a b r p q j (nat_lt x.0 z.0) refl (w.covers z m)
         ];
         marked = λ i k e. set_keeps seen x.0 k.0 (w.marked i k e);
@@ -285,10 +285,10 @@ module _ (ns : List Node) (t : TermId) (seen : List Bool) (found : List TermId) 
         goes = ap (λ k. with_terms F (k ++ flats (trees ns) r)) (sym j) ∙ w.goes;
         covers = λ z e. elim (get_set seen x.0 z.0 e) [
           | inl m ↦
-            let P : TermId → Type 0 = λ y. Sub (all_conjuncts (tree_at (trees ns) y)) (F ++ flats (trees ns) (lower y.0 r)) in
-            subst P (sym (same_id z x m)) (sub_trans X F (F ++ flats (trees ns) (lower x.0 r)) own (sub_left F (flats (trees ns) (lower x.0 r))))
+              let P : TermId → Type 0 = λ y. Sub (all_conjuncts (tree_at (trees ns) y)) (F ++ flats (trees ns) (lower y.0 r)) in
+              subst P (sym (same_id z x m)) (sub_trans X F (F ++ flats (trees ns) (lower x.0 r)) own (sub_left F (flats (trees ns) (lower x.0 r))))
           | inr m ↦ left_out F (flats (trees ns) (lower z.0 r)) X (all_conjuncts (tree_at (trees ns) z)) (nat_lt x.0 z.0) own
-            (sub_into (all_conjuncts (tree_at (trees ns) z)) _ _ (ap (λ k. F ++ k) (in_front (trees ns) z.0 x r (nat_lt x.0 z.0) refl)) (w.covers z m))
+              (sub_into (all_conjuncts (tree_at (trees ns) z)) _ _ (ap (λ k. F ++ k) (in_front (trees ns) z.0 x r (nat_lt x.0 z.0) refl)) (w.covers z m))
         ];
         marked = λ i k e. set_keeps seen x.0 k.0 (w.marked i k e);
       }
@@ -308,18 +308,18 @@ module _ (ns : List Node) (t : TermId) (seen : List Bool) (found : List TermId) 
         goes = ap (λ k. with_terms k R) (G ∙ sym (with_new F (T x) new)) ∙ ap (λ k. with_terms F (k ++ R)) (sym j) ∙ w.goes;
         covers = λ z e. elim (get_set seen x.0 z.0 e) [
           | inl m ↦
-            let P : TermId → Type 0 = λ y. Sub (all_conjuncts (tree_at (trees ns) y)) (map (tree_at (trees ns)) (found ++ x ∷ []) ++ flats (trees ns) (lower y.0 r)) in
-            let L = flats (trees ns) (lower x.0 r) in
-            subst P (sym (same_id z x m))
-            (sub_same (T x ∷ []) X (map (tree_at (trees ns)) (found ++ x ∷ []) ++ L) (sym j)
-            (sub_into (T x ∷ []) ((F ++ T x ∷ []) ++ L) (map (tree_at (trees ns)) (found ++ x ∷ []) ++ L) (ap (λ k. k ++ L) (sym G))
-            (sub_trans (T x ∷ []) (F ++ T x ∷ []) ((F ++ T x ∷ []) ++ L) (sub_right F (T x ∷ [])) (sub_left (F ++ T x ∷ []) L))))
+              let P : TermId → Type 0 = λ y. Sub (all_conjuncts (tree_at (trees ns) y)) (map (tree_at (trees ns)) (found ++ x ∷ []) ++ flats (trees ns) (lower y.0 r)) in
+              let L = flats (trees ns) (lower x.0 r) in
+              subst P (sym (same_id z x m))
+              (sub_same (T x ∷ []) X (map (tree_at (trees ns)) (found ++ x ∷ []) ++ L) (sym j)
+              (sub_into (T x ∷ []) ((F ++ T x ∷ []) ++ L) (map (tree_at (trees ns)) (found ++ x ∷ []) ++ L) (ap (λ k. k ++ L) (sym G))
+              (sub_trans (T x ∷ []) (F ++ T x ∷ []) ((F ++ T x ∷ []) ++ L) (sub_right F (T x ∷ [])) (sub_left (F ++ T x ∷ []) L))))
           | inr m ↦
-            let L = flats (trees ns) (lower z.0 r) in
-            let Z = all_conjuncts (tree_at (trees ns) z) in
-            sub_into Z ((F ++ T x ∷ []) ++ L) (map (tree_at (trees ns)) (found ++ x ∷ []) ++ L) (ap (λ k. k ++ L) (sym G))
-            (put_in F L Z (T x) (nat_lt x.0 z.0)
-            (sub_into Z _ _ (ap (λ k. F ++ k) (in_front (trees ns) z.0 x r (nat_lt x.0 z.0) refl ∙ ap (λ k. if nat_lt x.0 z.0 then k ++ L else []) j)) (w.covers z m)))
+              let L = flats (trees ns) (lower z.0 r) in
+              let Z = all_conjuncts (tree_at (trees ns) z) in
+              sub_into Z ((F ++ T x ∷ []) ++ L) (map (tree_at (trees ns)) (found ++ x ∷ []) ++ L) (ap (λ k. k ++ L) (sym G))
+              (put_in F L Z (T x) (nat_lt x.0 z.0)
+              (sub_into Z _ _ (ap (λ k. F ++ k) (in_front (trees ns) z.0 x r (nat_lt x.0 z.0) refl ∙ ap (λ k. if nat_lt x.0 z.0 then k ++ L else []) j)) (w.covers z m)))
         ];
         marked = λ i k e. elim (push_cases found x k i e) [
           | inl m ↦ set_keeps seen x.0 k.0 (w.marked i k m)

@@ -89,12 +89,7 @@ impl Terms {
     }
 
     /// The term with the terms that were made in place of its operands.
-    fn remade(
-        &mut self,
-        x: TermId,
-        by: &Swap,
-        made: &[TermId],
-    ) -> Result<TermId, NoMemory>
+    fn remade(&mut self, x: TermId, by: &Swap, made: &[TermId]) -> Result<TermId, NoMemory>
         requires is_in { IsIn self.old x }
         requires pairs_in { PairsIn self.old by.now }
         requires swaps { AreSwaps (pairs_at self.old by.now) }

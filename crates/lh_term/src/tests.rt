@@ -69,8 +69,8 @@ fn op(terms: &mut Terms, of: Op, x: TermId, y: TermId) -> Result<TermId, NoMemor
         return Err(NoMemory);
     }
     match of {
-        Op::Eq => terms.op(&Op::Eq, &[x, y]),
-        Op::Neq => terms.op(&Op::Neq, &[x, y]),
+        Op::Eq => eq(terms, x, y),
+        Op::Neq => neq(terms, x, y),
         _ => word(terms, of, x, y),
     }
 }
@@ -85,13 +85,74 @@ fn word(terms: &mut Terms, of: Op, x: TermId, y: TermId) -> Result<TermId, NoMem
         return Err(NoMemory);
     }
     match of {
-        Op::And => terms.op(&Op::And, &[x, y]),
-        Op::Or => terms.op(&Op::Or, &[x, y]),
-        Op::Xor => terms.op(&Op::Xor, &[x, y]),
-        Op::Add => terms.op(&Op::Add, &[x, y]),
-        Op::Array => terms.op(&Op::Array, &[x, y]),
+        Op::And => and(terms, x, y),
+        Op::Or => or(terms, x, y),
+        Op::Xor => xor(terms, x, y),
+        Op::Add => sum(terms, x, y),
+        Op::Array => pair(terms, x, y),
         _ => Err(NoMemory),
     }
+}
+
+fn eq(terms: &mut Terms, x: TermId, y: TermId) -> Result<TermId, NoMemory>
+    requires x_in { IsIn terms.old x }
+    requires y_in { IsIn terms.old y }
+    requires alike { AreAlike (type_of (tree_at (trees terms.old) x)) (type_of (tree_at (trees terms.old) y)) }
+{
+    terms.op(&Op::Eq, &[x, y])
+}
+
+fn neq(terms: &mut Terms, x: TermId, y: TermId) -> Result<TermId, NoMemory>
+    requires x_in { IsIn terms.old x }
+    requires y_in { IsIn terms.old y }
+    requires alike { AreAlike (type_of (tree_at (trees terms.old) x)) (type_of (tree_at (trees terms.old) y)) }
+{
+    terms.op(&Op::Neq, &[x, y])
+}
+
+fn and(terms: &mut Terms, x: TermId, y: TermId) -> Result<TermId, NoMemory>
+    requires x_in { IsIn terms.old x }
+    requires y_in { IsIn terms.old y }
+    requires int { IsIntType (type_of (tree_at (trees terms.old) x)) }
+    requires alike { AreAlike (type_of (tree_at (trees terms.old) x)) (type_of (tree_at (trees terms.old) y)) }
+{
+    terms.op(&Op::And, &[x, y])
+}
+
+fn or(terms: &mut Terms, x: TermId, y: TermId) -> Result<TermId, NoMemory>
+    requires x_in { IsIn terms.old x }
+    requires y_in { IsIn terms.old y }
+    requires int { IsIntType (type_of (tree_at (trees terms.old) x)) }
+    requires alike { AreAlike (type_of (tree_at (trees terms.old) x)) (type_of (tree_at (trees terms.old) y)) }
+{
+    terms.op(&Op::Or, &[x, y])
+}
+
+fn xor(terms: &mut Terms, x: TermId, y: TermId) -> Result<TermId, NoMemory>
+    requires x_in { IsIn terms.old x }
+    requires y_in { IsIn terms.old y }
+    requires int { IsIntType (type_of (tree_at (trees terms.old) x)) }
+    requires alike { AreAlike (type_of (tree_at (trees terms.old) x)) (type_of (tree_at (trees terms.old) y)) }
+{
+    terms.op(&Op::Xor, &[x, y])
+}
+
+fn sum(terms: &mut Terms, x: TermId, y: TermId) -> Result<TermId, NoMemory>
+    requires x_in { IsIn terms.old x }
+    requires y_in { IsIn terms.old y }
+    requires int { IsIntType (type_of (tree_at (trees terms.old) x)) }
+    requires alike { AreAlike (type_of (tree_at (trees terms.old) x)) (type_of (tree_at (trees terms.old) y)) }
+{
+    terms.op(&Op::Add, &[x, y])
+}
+
+fn pair(terms: &mut Terms, x: TermId, y: TermId) -> Result<TermId, NoMemory>
+    requires x_in { IsIn terms.old x }
+    requires y_in { IsIn terms.old y }
+    requires int { IsIntType (type_of (tree_at (trees terms.old) x)) }
+    requires alike { AreAlike (type_of (tree_at (trees terms.old) x)) (type_of (tree_at (trees terms.old) y)) }
+{
+    terms.op(&Op::Array, &[x, y])
 }
 
 /// Whether two terms are of one data type.
@@ -100,7 +161,10 @@ fn are_alike(terms: &Terms, x: TermId, y: TermId) -> bool
     requires y_in { IsIn terms.now y }
     ensures { IsTrue result → AreAlike (type_of (tree_at (trees terms.now) x)) (type_of (tree_at (trees terms.now) y)) }
 {
-    carries_data(terms.ty(x)) && *terms.ty(x) == *terms.ty(y)
+    if !carries_data(terms.ty(x)) {
+        return false;
+    }
+    *terms.ty(x) == *terms.ty(y)
 }
 
 /// Whether it is an integer type.
@@ -189,12 +253,7 @@ fn conjuncts(terms: &Terms, t: TermId) -> Result<TermList, NoMemory> {
 }
 
 /// A term with another in the place of a part's value.
-fn with_one(
-    terms: &mut Terms,
-    t: TermId,
-    from: TermId,
-    to: TermId,
-) -> Result<TermId, NoMemory> {
+fn with_one(terms: &mut Terms, t: TermId, from: TermId, to: TermId) -> Result<TermId, NoMemory> {
     if t.0 >= terms.len() {
         return Err(NoMemory);
     }
@@ -238,7 +297,10 @@ fn is_swap(terms: &Terms, from: TermId, to: TermId) -> bool
     if from.0 >= terms.len() || to.0 >= terms.len() {
         return false;
     }
-    is_leaf(terms.view(from)) && *terms.ty(from) == *terms.ty(to)
+    if !is_leaf(terms.view(from)) {
+        return false;
+    }
+    *terms.ty(from) == *terms.ty(to)
 }
 
 /// Whether it is a part's value.

@@ -8,7 +8,7 @@ abbrev pub invariant-loop-left : goal.invariant-loop-left
 invariant-loop-left l = record {
   within : ids_below (length l.self) l.left ≡ true;
   constants : all_constant (trees_at l.self l.left) ≡ true;
-  same : map datum_of l.values.items ++ values_in (trees_at l.self l.left) ≡ values_in (trees_at l.self l.args)
+  same : map datum_of l.values.items ++ values_in (trees_at l.self l.left) ≡ values_in (trees_at l.self l.args);
 }
 
 abbrev pub decreases-loop-left : goal.decreases-loop-left
