@@ -1,0 +1,9 @@
+use Rattle.std.proofs.Common.{length}
+use Rattle.lh_term.proofs.Swaps.{RenamedSoFar}
+use Rattle.lh_term.proofs.subst.renamed.Given as goal
+
+abbrev pub invariant-loop-left : goal.invariant-loop-left
+invariant-loop-left l = RenamedSoFar l.made l.xs l.left l.to
+
+abbrev pub decreases-loop-left : goal.decreases-loop-left
+decreases-loop-left l = length l.left

@@ -1,0 +1,16 @@
+pub mod Tree
+pub mod Types
+pub mod Mean
+pub mod Same
+pub mod SameTree
+pub mod SameTerm
+pub mod Make
+pub mod Arena
+pub mod Conjuncts
+pub mod Subst
+pub mod Laws
+pub mod SameNode
+pub mod Fed
+pub mod Found
+pub mod Reach
+pub mod Tried

@@ -1,0 +1,86 @@
+//! The conjuncts of a condition.
+ghost use Rattle.std.specs.Prelude.{◌≡◌, ◌<◌, ◌+◌, false, Some, length, replicate, slice_get, IfOk};
+ghost use Rattle.lh_types.specs.Types.{int_type, same_type};
+ghost use Rattle.lh_term.specs.Arena.{trees, tree_at, trees_at, IsIn, AreIn};
+ghost use Rattle.lh_term.specs.Conjuncts.{conjuncts_of};
+ghost use Rattle.lh_term.specs.Found.{FindsJoined};
+
+use crate::forms::and_operands;
+use crate::term::{Term, TermId, TermList};
+use crate::terms::Terms;
+use lh_types::ty::{NoMemory, Ty, TyKind};
+
+impl Terms {
+    /// The conjuncts of a condition in order: those of both operands of `and` on one bit, none of the constant 1, and of any other
+    /// term the term itself. One that repeats counts once.
+    ///
+    /// It looks at each shared term once.
+    pub fn conjuncts(&self, t: TermId) -> Result<TermList, NoMemory>
+        requires { IsIn self.now t }
+        ensures within { IfOk result (λ ts. AreIn self.now ts) }
+        ensures conjuncts { IfOk result (λ ts. trees_at self.now ts ≡ conjuncts_of (tree_at (trees self.now) t)) }
+    {
+        self.are_apart();
+        let mut found = TermList::new(self.allocator());
+        let mut seen = self.flags(t)?;
+        let mut open = Vec::new(self.allocator());
+        open.push(t)?;
+        while let Some(x) = open.pop() {
+            if is_set(&seen, x) {
+                continue;
+            }
+            seen[x.0] = true;
+            if let Some((a, b)) = self.joined(x) {
+                open.push(b)?;
+                open.push(a)?;
+            } else if !self.is_bit(x, 1) {
+                found.push(x)?;
+            }
+        }
+        Ok(found)
+    }
+
+    /// A flag that is not set for each term up to one.
+    pub(crate) fn flags(&self, t: TermId) -> Result<Vec<bool>, NoMemory>
+        requires { IsIn self.now t }
+        ensures { IfOk result (λ flags. flags.items ≡ replicate (t.0 + 1) false) }
+    {
+        let _len = self.len();
+        match vec![in self.allocator(); false; t.0 + 1] {
+            Ok(flags) => Ok(flags),
+            Err(_) => Err(NoMemory),
+        }
+    }
+
+    /// `a` and `b` where the term is `and(a, b)` on one bit.
+    fn joined(&self, x: TermId) -> Option<(TermId, TermId)>
+        requires { IsIn self.now x }
+        ensures { FindsJoined self.now x result (tree_at (trees self.now) x) }
+    {
+        if !is_bit_type(self.ty(x)) {
+            return None;
+        }
+        match self.view(x) {
+            Term::Op { op, args } => and_operands(op, args.as_slice()),
+            Term::Konst(_) | Term::Past(_) | Term::Now(_) | Term::Choice { .. } => None,
+        }
+    }
+}
+
+/// Whether the flag of a term is set.
+pub(crate) fn is_set(flags: &[bool], x: TermId) -> bool
+    requires { x.0 < length flags.now }
+    ensures { slice_get flags.now x.0 ≡ Some result }
+{
+    flags[x.0]
+}
+
+/// Whether it is the type of one bit.
+fn is_bit_type(ty: &Ty) -> bool
+    ensures { result ≡ same_type ty.now (int_type 1) }
+{
+    match ty.kind() {
+        TyKind::Int(n) => n == 1,
+        _ => false,
+    }
+}
