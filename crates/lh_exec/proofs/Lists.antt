@@ -73,7 +73,9 @@ module _ (from : BlockId) (slots : List (Option Held)) (t : Table) (insts : List
   take-goes old new z e g = e ∙ sym (ap (λ (l : List InstId). option_map (λ ys. old ++ ys) (all_taken from slots t l)) split) ∙ g
 
 pub each-next : {X : Type 0} (P : X → Type 0) (xs : List X) (i : ℕ) (d : X) → i < length xs → Each P (drop i xs) → Each P (drop (i + 1) xs)
-each-next P xs i d h e = (subst (Each P) (rw add-one (drop-cons xs i d h)) e).1
+each-next P xs i d h e =
+    let q : drop i xs ≡ get_or xs i d ∷ drop (i + 1) xs = rw add-one (drop-cons xs i d h) in
+    let f = subst (Each P) q e in f.1
 
 pub edge-in-each : (n : ℕ) (from : BlockId) (es : List PhiEdge) (v : ValueId) → Each (λ (e : PhiEdge). e.value.0 < n) es → edge_in from es ≡ Some v → v.0 < n
 edge-in-each n from [] v w e = absurd (none-some v e)

@@ -14,7 +14,7 @@ run-requires-clause-fit c =
     let u = c.args.unit.0 in
     let w = length c.args.now.now in
     let z = some-state m u w c.args.args.now c.args.stand.now c.requires.fits in
-    let b = subst (λ (x : Option Machine). BeginsAt m x (control_at (unit_text_at m u) z.0)) c.in-Some.is (c.in_ok-begin.ensures z.0 z.1) in
+    let b = subst (λ (x : Option Machine). BeginsAt m x (control_at (unit_text_at m u) z.0)) c.in-Some.is (c.in_ok-machine.ensures z.0 z.1) in
     let s = begins-point m c.in-Some.machine (control_at (unit_text_at m u) z.0) b in
     record {
       unit = unit_text_at m u;
@@ -23,21 +23,21 @@ run-requires-clause-fit c =
       fits = begin-fits m u c.in_order.ensures.arena c.requires.unit (process-blocks m u c.requires.process) c.requires.formed w c.requires.process c.args.args.now c.requires.args c.args.stand.now c.requires.fits z.0 z.1 s.0 s.1;
     }
 
-pub returns-in-Some : goal.returns-in-Some
-returns-in-Some c = λ p k.
+pub returns-in_ok-flow-in-Some : goal.returns-in_ok-flow-in-Some
+returns-in_ok-flow-in-Some c = λ p k.
     let m = c.args.m.now in
     let u = c.args.unit.0 in
     let w = length c.args.now.now in
-    let b = subst (λ (x : Option Machine). BeginsAt m x (control_at (unit_text_at m u) p)) c.in-Some.is (c.in_ok-begin.ensures p k) in
+    let b = subst (λ (x : Option Machine). BeginsAt m x (control_at (unit_text_at m u) p)) c.in-Some.is (c.in_ok-machine.ensures p k) in
     let s = begins-point m c.in-Some.machine (control_at (unit_text_at m u) p) b in
     let fits = begin-fits m u c.in_order.ensures.arena c.requires.unit (process-blocks m u c.requires.process) c.requires.formed w c.requires.process c.args.args.now c.requires.args c.args.stand.now c.requires.fits p k s.0 s.1 in
-    let done = c.in_ok-flow.ensures u (start_point s.0) s.2 fits in
+    let done = c.in_ok-flow-in-Some.ensures u (start_point s.0) s.2 fits in
     c.finish.ensures m u w c.args.args.now (activate c.args.limit (scene_of m c.args.now.now c.args.at) (unit_text_at m u) p) c.in_order.ensures.arena c.requires.unit
-    (subst (Finishes m u w c.run.new.self c.in_ok-flow.flow) (activation-is c.args.limit (scene_of m c.args.now.now c.args.at) (unit_text_at m u) p s.0 s.1) done)
+    (subst (Finishes m u w c.run.new.self c.in_ok-flow-in-Some.flow) (activation-is c.args.limit (scene_of m c.args.now.now c.args.at) (unit_text_at m u) p s.0 s.1) done)
 
 pub returns-in-None : goal.returns-in-None
 returns-in-None c = λ p k.
     let m = c.args.m.now in
     let u = c.args.unit.0 in
-    let b = subst (λ (x : Option Machine). BeginsAt m x (control_at (unit_text_at m u) p)) c.in-None.is (c.in_ok-begin.ensures p k) in
+    let b = subst (λ (x : Option Machine). BeginsAt m x (control_at (unit_text_at m u) p)) c.in-None.is (c.in_ok-machine.ensures p k) in
     subst (GivesMaybe m u c.args.args.now (length c.args.now.now) None) (no-activation c.args.limit (scene_of m c.args.now.now c.args.at) (unit_text_at m u) p (begins-nowhere m (control_at (unit_text_at m u) p) b)) tt

@@ -5,12 +5,6 @@ use Rattle.lh_exec.proofs.Rights.{functions-right}
 use Rattle.lh_exec.proofs.Running.{more-fit, goes-on, ends-here, none-left}
 use Rattle.lh_exec.proofs.machine.Machine.run.Goals as goal
 
-pub loop-i-init : goal.loop-i-init
-loop-i-init c = record {
-  fit = c.requires.fit;
-  goes = λ u p st f. record { point = p; is = st; fits = f; same = refl };
-}
-
 pub loop-i-preserved : goal.loop-i-preserved
 loop-i-preserved c =
     let fs = functions-right c.args.m.now c.requires.fit.is.arena c.requires.formed in

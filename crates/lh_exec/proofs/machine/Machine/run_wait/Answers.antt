@@ -22,7 +22,7 @@ pub wait_on-requires-clause-calls : goal.wait_on-requires-clause-calls
 wait_on-requires-clause-calls c = let n : length c.args.self.now.callers.items ≡ 0 = grind (arith, nat_tests) in nil-of c.args.self.now.callers.items n
 
 pub returns-in-Some : goal.returns-in-Some
-returns-in-Some c = λ a h p st. c.wait_on.ensures a c.args.signals.now h c.requires.signals (sym c.in_ok-parts_in.ensures ∙ c.in-Some.is) p st
+returns-in-Some c = λ a h p st. c.wait_on.ensures a c.args.signals.now h c.requires.signals (sym c.in_ok-parts.ensures ∙ c.in-Some.is) p st
 
 pub returns-in-None : goal.returns-in-None
-returns-in-None c = λ a h p st. no-parts a c.args.self.now p st c.args.at c.args.to c.args.after c.args.signals.now c.requires.after c.requires.signals (sym c.in_ok-parts_in.ensures ∙ c.in-None.is)
+returns-in-None c = λ a h p st. no-parts a c.args.self.now p st c.args.at c.args.to c.args.after c.args.signals.now c.requires.after c.requires.signals (sym c.in_ok-parts.ensures ∙ c.in-None.is)

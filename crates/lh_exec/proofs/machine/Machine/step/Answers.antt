@@ -1,16 +1,10 @@
-use Rattle.std.proofs.Common.{◌≡◌, ◌<◌, ◌≤◌, ◌∙◌, List, get_or, length, ap, sym, subst, arith}
+use Rattle.std.proofs.Common.{◌≡◌, ◌<◌, ◌∙◌, List, get_or, length, ap, sym, subst, arith}
 use Rattle.lh_unit.specs.Arena.{block_insts_at, inst_count, inst_at, result_at}
 use Rattle.lh_unit.specs.Within.{Each}
 use Rattle.lh_unit.specs.declared.inst.InstId.{InstId}
 use Rattle.lh_exec.specs.Standing.{scene_of}
-use Rattle.lh_exec.proofs.Passing.{each-get, name-in, past-is, past, insts-here, no-more, stepped, line-right, past-fits}
+use Rattle.lh_exec.proofs.Passing.{each-get, name-in, past-is, past, insts-here, stepped, line-right, past-fits}
 use Rattle.lh_exec.proofs.machine.Machine.step.Goals as goal
-
-pub returns-then-next-insts : goal.returns-then-next-insts
-returns-then-next-insts c = λ p st.
-    let e = ap length c.insts-insts.ensures.insts in
-    let h : length (block_insts_at c.args.m.now c.args.self.now.frame.unit.0 c.args.self.now.frame.block.0) ≤ c.args.self.now.frame.next = omega (arith, e) in
-    no-more c.args.m.now c.args.self.now p st (scene_of c.args.m.now c.args.now.now c.args.at) c.args.self.now h
 
 pub result_of-name-requires-clause-inst : goal.result_of-name-requires-clause-inst
 result_of-name-requires-clause-inst c =
