@@ -1,5 +1,5 @@
 -- The blocks of a unit and their instructions are in place.
-use Rattle.std.proofs.Common.{◌≡◌, ℕ, ◌<◌, List, length, get_or}
+use Rattle.std.proofs.Common.{ℕ, ◌<◌, length, get_or}
 use Rattle.std.proofs.lemmas.Option.{slice_get-get_or}
 use Rattle.lh_unit.specs.Within.{Each}
 use Rattle.lh_unit.specs.Arena.{Arena, IsArena, table_at, blocks_at, block_insts_at, unit_count, inst_count}

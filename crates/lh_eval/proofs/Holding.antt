@@ -13,7 +13,7 @@ use Rattle.lh_unit.specs.declared.inst.ValueId.{ValueId}
 use Rattle.lh_unit.specs.declared.inst.Typed.{Typed}
 use Rattle.lh_unit.proofs.Lists.{Same, same, other, same_or, nat_eq-refl, nat_eq-other}
 use Rattle.lh_unit.proofs.ById.{same_value-by_id}
-use Rattle.lh_eval.specs.Holding.{Holds, datum_in, condition_in, data_in, MaybeIn, SameHeld, HoldsSame, HoldsMore, HoldsGiven, HoldsNothing}
+use Rattle.lh_eval.specs.Holding.{Holds, datum_in, condition_in, data_in, one_datum, two_data, MaybeIn, SameHeld, HoldsSame, HoldsMore, HoldsGiven, HoldsNothing}
 
 -- ---- reading
 
@@ -87,6 +87,18 @@ holds-nothing a u = record {
   long = length-replicate (value_count a u) None;
   each = λ v p. none-at (value_count a u) v.0;
 }
+
+-- the values of one operand, and of two
+pub data-one : (slots : List (Option Held)) (os : List Typed) (d : Typed) → length os ≡ 1 → data_in slots os ≡ one_datum (datum_in slots (get_or os 0 d).value)
+data-one slots [] d h = absurd (omega (arith, h))
+data-one slots (o ∷ []) d h = refl
+data-one slots (o ∷ p ∷ os) d h = absurd (omega (arith, h))
+
+pub data-two : (slots : List (Option Held)) (os : List Typed) (d e : Typed) → length os ≡ 2 → data_in slots os ≡ two_data (datum_in slots (get_or os 0 d).value) (datum_in slots (get_or os 1 e).value)
+data-two slots [] d e h = absurd (omega (arith, h))
+data-two slots (o ∷ []) d e h = absurd (omega (arith, h))
+data-two slots (o ∷ p ∷ []) d e h = refl
+data-two slots (o ∷ p ∷ q ∷ os) d e h = absurd (omega (arith, h))
 
 -- ---- values one by one
 

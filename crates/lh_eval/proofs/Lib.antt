@@ -1,11 +1,9 @@
 pub mod Lists
-pub mod WishSteps
 pub mod GivingText
 pub mod Holding
 pub mod PartsRead
 pub mod TypesMade
 pub mod ValuesFit
 pub mod GivesFit
-pub mod GroupSteps
 pub mod BeginSteps
 pub mod Wishing

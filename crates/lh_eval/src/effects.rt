@@ -16,7 +16,6 @@ ghost use Rattle.lh_eval.specs.Fitting.{ProbeFits, DriveFits, Drives};
 use crate::held::{Held, Slots};
 use crate::operands::{condition_in, datum_in, delay_in, part_in};
 use crate::types::carried;
-use crate::wishes::Wishes;
 use lh_time::{Delay, Instant, due};
 use lh_types::bits::Bits;
 use lh_types::layout::{from_bits, to_bits};
@@ -24,6 +23,7 @@ use lh_types::part::Range;
 use lh_types::ty::{NoMemory, Ty};
 use lh_types::val::Val;
 use lh_unit::inst::{Typed, ValueId};
+use lh_wishes::wishes::Wishes;
 use std::alloc::Global;
 
 /// What a `prb` gives, where the signals have these bits: the value that the bits of its operand's part have. `None` where
@@ -127,6 +127,6 @@ fn put_value(
         return Ok(true);
     };
     let bits = to_bits(alloc, value)?;
-    wishes.put_bits(due, part.lo, &bits)?;
+    wishes.put_bits(due, part.lo, bits)?;
     Ok(true)
 }

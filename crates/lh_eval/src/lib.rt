@@ -11,4 +11,5 @@ pub mod operate;
 #[cfg(test)]
 mod tests;
 mod types;
-pub mod wishes;
+
+pub use lh_wishes::wishes;

@@ -1,29 +1,36 @@
 //! What an operation gives: of values a value, of a signal its part.
-ghost use Rattle.std.specs.Prelude.{◌≡◌, ◌+◌, ◌<◌, ◌^◌, length, map, Some, IfOk};
-ghost use Rattle.std.specs.Option.{option_map};
+ghost use Rattle.std.specs.Prelude.{◌≡◌, ◌+◌, ◌<◌, ◌^◌, List, length, map, Some, IfOk};
+ghost use Rattle.std.specs.Option.{option_map, option_copied};
 ghost use Rattle.lh_types.specs.Types.{IsData, bit_count, signal_type};
+ghost use Rattle.lh_types.specs.Values.{Datum};
+ghost use Rattle.lh_types.specs.ValueOf.{datum_of};
+ghost use Rattle.lh_types.specs.Apply as rows;
+ghost use Rattle.lh_types.specs.ApplyTypes.{FitsOp};
 ghost use Rattle.lh_unit.specs.Arena.{unit_count, value_count, sizes, naming, unit_text_at};
 ghost use Rattle.lh_unit.specs.Effects as effects;
 ghost use Rattle.lh_unit.specs.Effects.{operated, stepped};
 ghost use Rattle.lh_unit.specs.Held.{Env, part_held};
 ghost use Rattle.lh_unit.specs.Naming.{operand_text, value_text};
 ghost use Rattle.lh_unit.specs.Within.{Each, OperandWithin};
+ghost use Rattle.lh_unit.specs.declared.inst.Typed.{Typed as Operand};
 ghost use Rattle.lh_eval.specs.HeldOf.{maybe_held};
 ghost use Rattle.lh_unit.specs.Typing.{value_type};
 ghost use Rattle.lh_eval.specs.Holding as holding;
-ghost use Rattle.lh_eval.specs.Holding.{Holds};
+ghost use Rattle.lh_eval.specs.Holding.{Holds, one_datum, two_data};
 ghost use Rattle.lh_eval.specs.Fitting.{PartFits, OperandsFit};
 
 use crate::held::{Held, Slots};
-use crate::operands::{data_in, part_in};
+use crate::operands::{data_in, datum_in, part_in};
 use crate::types::carried_by;
 use lh_ops::apply;
 use lh_types::op::Op;
 use lh_types::part::{Range, Step, range_of};
 use lh_types::ty::{NoMemory, Ty};
+use lh_types::val::Val;
 use lh_unit::inst::{Typed, UnitId};
 use lh_unit::module::Module;
 use std::alloc::Global;
+use std::slice;
 
 /// What an operation of a unit gives: the value of the operands where each holds a value; or else the part of a signal
 /// that `extf` or `exts` names; `None` where an operand holds neither.
@@ -41,12 +48,81 @@ pub fn operate(
     requires fit { OperandsFit m.now unit.0 slots.now op.now args.now }
     ensures { (e : Env) → Holds m.now unit.0 slots.now e → IfOk result (λ h. maybe_held h ≡ operated (unit_text_at m.now unit.0) e op.now (map (operand_text (naming m.now unit.0)) args.now)) }
 {
-    if let Some(values) = data_in(alloc, slots, args)? {
-        let value = apply(alloc, op, values.as_slice())?;
+    if let Some(value) = applied(alloc, op, slots, args)? {
         return Ok(Some(Held::Datum(value)));
     }
     match signal_part(m, unit, op, args, slots) {
         Some(range) => Ok(Some(Held::Part(range))),
+        None => Ok(None),
+    }
+}
+
+/// The value of an operation on what its operands hold, where each holds a value. One or two operands take no memory of
+/// their own.
+fn applied(alloc: Global, op: &Op, slots: &Slots, args: &[Typed]) -> Result<Option<Val>, NoMemory>
+    requires args { Each (λ (o : Operand). o.value.0 < length slots.now) args.now }
+    requires fit { (ds : List Datum) → holding.data_in slots.now args.now ≡ Some ds → FitsOp op.now ds }
+    ensures { IfOk result (λ v. option_map datum_of v ≡ option_map (rows.apply op.now) (holding.data_in slots.now args.now)) }
+{
+    if args.len() == 1 {
+        return applied_to_one(alloc, op, datum_in(slots, args[0].value));
+    }
+    if args.len() == 2 {
+        let first = datum_in(slots, args[0].value);
+        return applied_to_two(alloc, op, first, datum_in(slots, args[1].value));
+    }
+    applied_to_all(alloc, op, slots, args)
+}
+
+fn applied_to_one(alloc: Global, op: &Op, a: Option<&Val>) -> Result<Option<Val>, NoMemory>
+    requires { (ds : List Datum) → one_datum (option_map datum_of (option_copied a)) ≡ Some ds → FitsOp op.now ds }
+    ensures { IfOk result (λ v. option_map datum_of v ≡ option_map (rows.apply op.now) (one_datum (option_map datum_of (option_copied a.entry)))) }
+{
+    match a {
+        Some(a) => {
+            let value = apply(alloc, op, slice::from_ref(a))?;
+            Ok(Some(value))
+        }
+        None => Ok(None),
+    }
+}
+
+fn applied_to_two(
+    alloc: Global,
+    op: &Op,
+    a: Option<&Val>,
+    b: Option<&Val>,
+) -> Result<Option<Val>, NoMemory>
+    requires { (ds : List Datum) → two_data (option_map datum_of (option_copied a)) (option_map datum_of (option_copied b)) ≡ Some ds → FitsOp op.now ds }
+    ensures { IfOk result (λ v. option_map datum_of v ≡ option_map (rows.apply op.now) (two_data (option_map datum_of (option_copied a.entry)) (option_map datum_of (option_copied b.entry)))) }
+{
+    let Some(a) = a else {
+        return Ok(None);
+    };
+    let Some(b) = b else {
+        return Ok(None);
+    };
+    let a = a.copy()?;
+    let b = b.copy()?;
+    let value = apply(alloc, op, &[a, b])?;
+    Ok(Some(value))
+}
+
+fn applied_to_all(
+    alloc: Global,
+    op: &Op,
+    slots: &Slots,
+    args: &[Typed],
+) -> Result<Option<Val>, NoMemory>
+    requires args { Each (λ (o : Operand). o.value.0 < length slots.now) args.now }
+    requires fit { (ds : List Datum) → holding.data_in slots.now args.now ≡ Some ds → FitsOp op.now ds }
+    ensures { IfOk result (λ v. option_map datum_of v ≡ option_map (rows.apply op.now) (holding.data_in slots.now args.now)) }
+{
+    match data_in(alloc, slots, args)? {
+        Some(values) => {
+            let value = apply(alloc, op, values.as_slice())?;
+            Ok(Some(value))
+        }
         None => Ok(None),
     }
 }

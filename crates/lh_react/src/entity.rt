@@ -7,9 +7,9 @@ ghost use Rattle.lh_unit.specs.WellFormed.{IsWellFormed};
 ghost use Rattle.lh_sound.specs.Ranges.{InstanceFits};
 ghost use Rattle.lh_react.specs.Standing.{Reacts};
 
-use lh_eval::begin::begin;
 use crate::pass::{Run, run_insts};
 use crate::state::EntState;
+use lh_eval::begin::begin;
 use lh_eval::instance::Instance;
 use lh_eval::wishes::Wishes;
 use lh_time::Instant;
@@ -85,9 +85,10 @@ fn run_entity(
         wishes: Wishes::new(alloc),
     };
     run_insts(alloc, m, unit, insts, now, state, at, &mut run)?;
-    let wishes = run.wishes.writes(alloc)?;
+    let Run { seen, wishes, .. } = run;
+    let wishes = wishes.into_writes()?;
     Ok(EntAct {
-        next: EntState::after(run.seen),
+        next: EntState::after(seen),
         wishes,
     })
 }

@@ -1,6 +1,7 @@
 //! Ids in place of names: each name of a line has an entry in the module, which is made where there is none.
 //!
-//! Each call answers `NoMemory` only for want of memory; the module then says what it said.
+//! Each call answers `NoMemory` for want of memory, or where each of the 4,294,967,295 ids of that kind has a name, as in
+//! no text of 64 MiB; the module then says what it said.
 ghost use Rattle.std.specs.Prelude.{◌≡◌, ◌<◌, map, IfOk};
 ghost use Rattle.lh_unit.specs.Arena.{unit_count};
 ghost use Rattle.lh_unit.specs.Builders.{FindsUnit};
@@ -23,7 +24,7 @@ use std::alloc::Global;
 pub fn unit_id(alloc: Global, m: &mut Module, name: &UnitNameText) -> Result<UnitId, NoMemory>
     ensures { FindsUnit result m.old m.new (unit_name_of name.now) }
 {
-    // Never so in a text of 64 MiB, which has fewer names than there are ids.
+    // The limit on names: no id is left.
     if m.units() == u32::MAX {
         return Err(NoMemory);
     }
@@ -41,7 +42,7 @@ pub fn value_id(
     requires { unit.0 < unit_count m.old }
     ensures { IfOk result (λ v. ValuePlaced m.old m.new unit v name.now) }
 {
-    // Never so in a text of 64 MiB, which has fewer names than there are ids.
+    // The limit on names: no id is left.
     if m.values(unit) == u32::MAX {
         return Err(NoMemory);
     }
@@ -59,7 +60,7 @@ pub fn label_id(
     requires { unit.0 < unit_count m.old }
     ensures { IfOk result (λ b. LabelPlaced m.old m.new unit b name.now) }
 {
-    // Never so in a text of 64 MiB, which has fewer names than there are ids.
+    // The limit on names: no id is left.
     if m.labels(unit) == u32::MAX {
         return Err(NoMemory);
     }

@@ -30,7 +30,7 @@ use Rattle.lh_sound.proofs.Begins.{process-fits, entity-fits}
 use Rattle.lh_eval.proofs.GivesFit.{constants-fit, operations-fit, probes-fit, held-still-fits}
 
 -- a register holds nothing more
-triggers-hold : (memory : Option (List Bool)) (t : Instant) (to : OperandText) (fired : Bool) (p : Passed) (gs : List TriggerText) → (triggers_from memory t to fired p gs).held ≡ p.held
+pub triggers-hold : (memory : Option (List Bool)) (t : Instant) (to : OperandText) (fired : Bool) (p : Passed) (gs : List TriggerText) → (triggers_from memory t to fired p gs).held ≡ p.held
 triggers-hold memory t to fired p [] = refl
 triggers-hold memory t to fired p (g ∷ gs) =
     triggers-hold memory t to (fired || fires memory p g) (record { held = p.held; seen = p.seen ++ trigger_now p.held g ∷ []; wish = if not fired && fires memory p g then stored t to g p else p.wish }) gs

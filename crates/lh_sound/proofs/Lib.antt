@@ -5,3 +5,8 @@ pub mod SoundLines
 pub mod Begins
 pub mod FitLaws
 pub mod SlotsFit
+pub mod Finding
+pub mod FindingPass
+pub mod FindingStatic
+pub mod FindingValues
+pub mod FindingElab

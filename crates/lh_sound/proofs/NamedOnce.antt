@@ -39,15 +39,15 @@ giving-append n (l ∷ xs) ys = by (is_result_name n l.result) (giving-append n 
     by true e = refl
     by false e = e
 
-giving-lines : (n : List ℕ) (bs : List BlockText) → inst_giving n bs ≡ line_giving n (lines_of bs)
+pub giving-lines : (n : List ℕ) (bs : List BlockText) → inst_giving n bs ≡ line_giving n (lines_of bs)
 giving-lines n [] = refl
 giving-lines n (b ∷ more) = ap (or_else (line_giving n b.lines)) (giving-lines n more) ∙ sym (giving-append n b.lines (lines_of more))
 
 -- what a line gives under its name, where neither an argument nor an earlier line has it
-abbrev IsFirst : List ArgText → (all : List LineText) → LineText → Type 0
+abbrev pub IsFirst : List ArgText → (all : List LineText) → LineText → Type 0
 IsFirst args all l = (n : List ℕ) → l.result ≡ Some n → (args_define n args ≡ false) × (line_giving n all ≡ Some l.inst)
 
-each-first : (args : List ArgText) (all seen ls : List LineText) → all ≡ seen ++ ls → results_repeat args seen ls ≡ false → Each (IsFirst args all) ls
+pub each-first : (args : List ArgText) (all seen ls : List LineText) → all ≡ seen ++ ls → results_repeat args seen ls ≡ false → Each (IsFirst args all) ls
 each-first args all seen [] e h = tt
 each-first args all seen (l ∷ ls) e h =
     let b = or_parts (result_repeats args seen l.result) (results_repeat args (seen ++ l ∷ []) ls) h in (

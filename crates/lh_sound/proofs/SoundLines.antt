@@ -66,7 +66,7 @@ rows-of-items items f = rows-in items (each-contained SiteTyped (sites items) (�
 pub items-printable : (items : List ItemText) → IsSpelled items → Each IsPrintableItem items
 items-printable items s = each-so IsSpelledAlone IsPrintableItem spelled_is_printable items (spelled_apart items s).0
 
-same-lines : (bs : List BlockText) → all_lines bs ≡ lines_of bs
+pub same-lines : (bs : List BlockText) → all_lines bs ≡ lines_of bs
 same-lines [] = refl
 same-lines (b ∷ more) = ap (λ ls. b.lines ++ ls) (same-lines more)
 

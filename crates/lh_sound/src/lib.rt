@@ -3,6 +3,7 @@
 #![tactic(auto)]
 
 ghost use Rattle.lh_sound.specs.Operands.{OperationsHave, ProbesHave, DrivesHave};
+ghost use Rattle.lh_sound.specs.Finding.{PartsAreFound, InitialsAreFound, PassesFindAll};
 ghost use Rattle.lh_sound.specs.Laws.{UnitsAreSound, ProcessesBeginFit, EntitiesBeginFit, PassesKeepFit};
 
 /// Each unit that is defined is sound: each of its instructions has its row, its part and so many operands as it takes; no name
@@ -32,4 +33,13 @@ pub fn operand_law()
     ensures operations { OperationsHave }
     ensures probes { ProbesHave }
     ensures drives { DrivesHave }
+{}
+
+/// Nothing goes wrong in a pass of an entity: each instruction finds what it looks for, whatever the bits of the signals, the
+/// memory and the instant are, so that no default of a pass is ever met. Nor is one where the entity is elaborated: the parts
+/// that it senses and that its instances are connected to are there, and so are the initial values of its signals.
+pub fn find_law()
+    ensures passes { PassesFindAll }
+    ensures parts { PartsAreFound }
+    ensures initials { InitialsAreFound }
 {}

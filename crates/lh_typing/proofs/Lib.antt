@@ -3,3 +3,4 @@ pub mod Lists
 pub mod ScopeParts
 pub mod TypeParts
 pub mod UsesText
+pub mod UsesValues

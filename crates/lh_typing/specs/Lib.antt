@@ -1,5 +1,6 @@
 pub mod Fitting
 pub mod Knowing
+pub mod Leading
 pub mod Parts
 pub mod Told
 pub mod Uses

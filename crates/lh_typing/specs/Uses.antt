@@ -32,6 +32,10 @@ use_text f u = kinds.used (need_as u.need) (value_text f u.value)
 abbrev pub used : Need → ValueId → Use
 used need v = record { value = v; need = need }
 
+-- the values of operands
+abbrev pub values_of : List Use → List ValueId
+values_of us = map (λ (u : Use). u.value) us
+
 -- operands whose places take the same
 abbrev pub all_used : Need → List Typed → List Use
 all_used need os = map (λ (o : Typed). used need o.value) os

@@ -8,6 +8,7 @@ mod operands;
 mod operations;
 mod results;
 pub mod scope;
+pub mod successors;
 mod types;
 pub mod uses;
 

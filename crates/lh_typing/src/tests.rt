@@ -140,6 +140,24 @@ fn a_probe_gives_what_the_signal_carries(rt: HostRuntime) {
     assert!(rt; probe_gives(rt.alloc(), 8));
 }
 
+fn phi_gives(alloc: Global, width: u32) -> bool {
+    match signal(alloc, width) {
+        Some(ty) => {
+            let merged = Inst::Phi {
+                ty,
+                edges: ListOf::new(alloc),
+            };
+            gives(alloc, &merged, signal(alloc, width), Some(Kind::Signal))
+        }
+        None => false,
+    }
+}
+
+#[test]
+fn a_value_has_the_type_that_its_own_line_writes(rt: HostRuntime) {
+    assert!(rt; phi_gives(rt.alloc(), 8));
+}
+
 fn is_told_a_signal(alloc: Global) -> bool {
     match signal(alloc, 1) {
         Some(ty) => is_signal(ty.kind()) && !is_void(ty.kind()),

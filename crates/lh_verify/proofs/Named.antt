@@ -1,13 +1,18 @@
 -- What an instruction names.
-use Rattle.std.proofs.Common.{◌≡◌, List, [], ◌∷◌, Bool, true, false, not, ◌||◌, map, refl, ap, sym, ◌∙◌}
+use Rattle.std.proofs.Common.{◌≡◌, ◌<◌, List, [], ◌∷◌, Bool, true, false, not, ◌||◌, map, Some, None, refl, ap, sym, ◌∙◌}
 use Rattle.std.specs.List.{list_any}
 use Rattle.lh_types.specs.Types.{TypeTree}
 use Rattle.lh_unit.specs.Contents.{EdgeText, UnitText, ItemText, defines_value, defines_label, phi_text}
 use Rattle.lh_unit.specs.Kinds as kinds
 use Rattle.lh_unit.specs.Naming.{Naming, inst_text}
 use Rattle.lh_unit.specs.WellFormed.{is_undefined, values_named}
+use Rattle.lh_unit.specs.Within.{Sizes, Each, InstWithin}
+use Rattle.lh_unit.specs.ById.{blocks_led_to}
+use Rattle.lh_unit.specs.declared.inst.BlockId.{BlockId}
+use Rattle.lh_unit.specs.declared.inst.PhiEdge.{PhiEdge}
 use Rattle.lh_unit.specs.declared.inst.Inst.{Inst}
-use Rattle.lh_verify.specs.Asks.{names_nothing, edge_is_missing, label_is_missing_in, unit_is_missing_in}
+use Rattle.lh_unit.specs.declared.inst.Inst.TheVariants as inst
+use Rattle.lh_verify.specs.Asks.{names_nothing, label_is_missing, edge_is_missing, label_is_missing_in, unit_is_missing_in}
 use Rattle.lh_typing.specs.declared.uses.Use.{Use}
 use Rattle.lh_typing.specs.Uses.{use_text, uses_of}
 use Rattle.lh_typing.proofs.UsesText.{uses-text}
@@ -28,6 +33,19 @@ operands-missing t f i os e =
     ap (λ l. list_any (names_nothing t) (map (use_text f) l)) e
     ∙ ap (list_any (names_nothing t)) (uses-text f i)
     ∙ values-missing t (kinds.uses (inst_text f i))
+
+-- the labels to which an instruction leads
+pub targets-within : (s : Sizes) (i : Inst) → InstWithin s i → Each (λ (b : BlockId). b.0 < s.labels) (blocks_led_to i)
+targets-within s (inst.Br to) h = (h, tt)
+targets-within s (inst.Branch cond zero one) h = (h.1, (h.2, tt))
+targets-within s (inst.Wait to after signals) h = (h.0, tt)
+targets-within s _ h = tt
+
+pub targets-named : (t : UnitText) (f : Naming) (i : Inst) → ((ty : TypeTree) (es : List PhiEdge) → i ≡ inst.Phi ty es → ⊥) → list_any (label_is_missing t) (map (λ (b : BlockId). f.label_name b.0) (blocks_led_to i)) ≡ label_is_missing_in t (inst_text f i)
+targets-named t f (inst.Phi ty es) h = absurd (h ty es refl)
+targets-named t f (inst.Ret None) h = refl
+targets-named t f (inst.Ret (Some o)) h = refl
+targets-named t f _ h = refl
 
 -- the three parts of fault 1
 pub undefined-parts : (items : List ItemText) (t : UnitText) (f : Naming) (i : Inst) (os : List Use) → os ≡ uses_of i → is_undefined items t (inst_text f i) ≡ ((list_any (names_nothing t) (map (use_text f) os) || label_is_missing_in t (inst_text f i)) || unit_is_missing_in items (inst_text f i))

@@ -1,7 +1,7 @@
 //! Which blocks have an edge to a label.
 ghost use Rattle.std.specs.Prelude.{◌≡◌, ◌<◌, ◌++◌, ◌∷◌, [], List, length, replicate, IfOk, OnOk};
 ghost use Rattle.lh_unit.specs.Arena.{unit_count, label_count, table_at, blocks_at};
-ghost use Rattle.lh_unit.specs.ById.{blocks_led_to};
+ghost use Rattle.lh_typing.specs.Leading.{led_to};
 ghost use Rattle.lh_unit.specs.Within.{Each};
 ghost use Rattle.lh_unit.specs.declared.inst.BlockId.{BlockId};
 ghost use Rattle.lh_unit.specs.Placed.{IsBlockOf};
@@ -9,7 +9,8 @@ ghost use Rattle.lh_verify.specs.Predecessors.{IsPredecessors, Adds};
 
 use lh_types::list::ListOf;
 use lh_types::ty::NoMemory;
-use lh_unit::inst::{BlockId, Inst, UnitId};
+use lh_typing::successors::{Successors, successors_of};
+use lh_unit::inst::{BlockId, UnitId};
 use lh_unit::module::Module;
 use std::alloc::Global;
 
@@ -76,25 +77,20 @@ fn put_block(
     ensures { (bs : List BlockId) → IsPredecessors (table_at m.now unit.0) bs (label_count m.now unit.0) rows.old → OnOk result (IsPredecessors (table_at m.now unit.0) (bs ++ block ∷ []) (label_count m.now unit.0) rows.new) }
 {
     match m.insts(unit, block).last() {
-        Some(last) => put_edges(rows, block, m.inst(unit, *last)),
+        Some(last) => put_edges(rows, block, successors_of(m.inst(unit, *last))),
         None => Ok(()),
     }
 }
 
 /// Adds a block to the lists of the labels to which its last instruction may lead.
-fn put_edges(rows: &mut [BlockList], block: BlockId, last: &Inst) -> Result<(), NoMemory>
-    requires { Each (λ (b : BlockId). b.0 < length rows.old) (blocks_led_to last.now) }
-    ensures { OnOk result (Adds block (blocks_led_to last.now) rows.old rows.new) }
+fn put_edges(rows: &mut [BlockList], block: BlockId, to: Successors) -> Result<(), NoMemory>
+    requires { Each (λ (b : BlockId). b.0 < length rows.old) (led_to to) }
+    ensures { OnOk result (Adds block (led_to to) rows.old rows.new) }
 {
-    match last {
-        Inst::Br(to) => put_edge(rows, block, *to),
-        Inst::Branch { cond: _, zero, one } => put_two(rows, block, *zero, *one),
-        Inst::Wait {
-            to,
-            after: _,
-            signals: _,
-        } => put_edge(rows, block, *to),
-        _ => Ok(()),
+    match to {
+        Successors::Nowhere => Ok(()),
+        Successors::To(to) => put_edge(rows, block, to),
+        Successors::Either(zero, one) => put_two(rows, block, zero, one),
     }
 }
 

@@ -8,10 +8,13 @@ ghost use Rattle.lh_verify.specs.Asks.{label_is_missing as name_is_missing, edge
 ghost use Rattle.lh_verify.specs.Operands.{UseWithin};
 ghost use Rattle.lh_typing.specs.Told.{IsScope, items_in, text_in, naming_in, sizes_in};
 ghost use Rattle.lh_typing.specs.Uses.{uses_of};
+ghost use Rattle.lh_typing.specs.Leading.{led_to};
+ghost use Rattle.lh_unit.specs.declared.inst.BlockId.{BlockId};
 
 use crate::kinds::any_names_nothing;
 use crate::units::is_missing;
 use lh_typing::scope::Scope;
+use lh_typing::successors::{Successors, successors_of};
 use lh_typing::uses::Use;
 use lh_unit::inst::{BlockId, Inst, PhiEdge};
 
@@ -38,6 +41,24 @@ fn some_edge_is_missing(scope: &Scope<'_>, edges: &[PhiEdge]) -> bool
     false
 }
 
+/// Whether an instruction leads to a label that no block has.
+fn some_target_is_missing(scope: &Scope<'_>, to: Successors) -> bool
+    requires scope { IsScope scope.now }
+    requires within { Each (λ (b : BlockId). b.0 < (sizes_in scope.now).labels) (led_to to) }
+    ensures { result ≡ list_any (λ n. name_is_missing (text_in scope.now) n) (map (λ (b : BlockId). (naming_in scope.now).label_name b.0) (led_to to)) }
+{
+    match to {
+        Successors::Nowhere => false,
+        Successors::To(to) => label_is_missing(scope, to),
+        Successors::Either(zero, one) => {
+            if label_is_missing(scope, zero) {
+                return true;
+            }
+            label_is_missing(scope, one)
+        }
+    }
+}
+
 /// Whether an instruction names a label that no block has.
 fn names_missing_label(scope: &Scope<'_>, inst: &Inst) -> bool
     requires scope { IsScope scope.now }
@@ -46,19 +67,7 @@ fn names_missing_label(scope: &Scope<'_>, inst: &Inst) -> bool
 {
     match inst {
         Inst::Phi { ty: _, edges } => some_edge_is_missing(scope, edges.as_slice()),
-        Inst::Br(to) => label_is_missing(scope, *to),
-        Inst::Branch { cond: _, zero, one } => {
-            if label_is_missing(scope, *zero) {
-                return true;
-            }
-            label_is_missing(scope, *one)
-        }
-        Inst::Wait {
-            to,
-            after: _,
-            signals: _,
-        } => label_is_missing(scope, *to),
-        _ => false,
+        _ => some_target_is_missing(scope, successors_of(inst)),
     }
 }
 

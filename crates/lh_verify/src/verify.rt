@@ -1,7 +1,7 @@
 //! The first fault of a module, and modules that have none.
 ghost use Rattle.std.specs.Prelude.{◌≡◌, IfOk};
 ghost use Rattle.lh_unit.specs.Arena.{contents};
-ghost use Rattle.lh_unit.specs.WellFormed.{IsFaultless};
+ghost use Rattle.lh_unit.specs.WellFormed.{IsSpelled, IsWellFormed};
 ghost use Rattle.lh_verify.specs.Answering.{IsFew};
 ghost use Rattle.lh_unit.specs.Placed.{IsItemOf};
 ghost use Rattle.lh_verify.specs.Verifying.{Verifies, Says, SaysOfItem, ItemBegun, named_fault};
@@ -12,6 +12,7 @@ use lh_unit::inst::{Item, UnitId};
 use lh_unit::module::Module;
 use std::alloc::Global;
 use std::marker::Model;
+use thiserror::Error;
 
 /// A faulty instruction: its unit, its number in the unit from 1, and the number of its lowest fault, from 1 to 8.
 #[derive(Clone, Copy, Debug, PartialEq, Eq)]
@@ -22,22 +23,27 @@ pub struct Fault {
 }
 
 /// Why a module was not verified.
-#[derive(Clone, Copy, Debug, PartialEq, Eq)]
+#[derive(Clone, Copy, Debug, PartialEq, Eq, Error)]
 pub enum VerifyCause {
     /// The first faulty instruction in file order, with its lowest fault.
+    #[error("instruction {}: fault {}", .0.inst, .0.number)]
     Invalid(Fault),
     /// Memory ran out.
+    #[error("out of memory")]
     OutOfMemory,
 }
 
 /// A module that was not verified, as it was handed in, and why.
-#[derive(Drop)]
+#[derive(Drop, Error)]
+#[derive_where(Debug)]
+#[error("{cause}")]
 pub struct VerifyFault {
+    #[derive_where(skip)]
     pub module: Module,
     pub cause: VerifyCause,
 }
 
-/// A module of which no instruction has a fault.
+/// A module that is well formed: it is spelled, and no instruction has a fault.
 #[derive(Drop)]
 pub struct Verified {
     module: Module,
@@ -48,7 +54,7 @@ impl Model for Verified {
     ghost use Rattle.lh_types.specs.Types.{type_coded};
     ghost use Rattle.lh_types.specs.Values.{datum_coded};
     ghost use Rattle.lh_unit.specs.Arena.{Arena, contents};
-    ghost use Rattle.lh_unit.specs.WellFormed.{IsFaultless};
+    ghost use Rattle.lh_unit.specs.WellFormed.{IsWellFormed};
 
     ghost Value = { Arena };
 
@@ -56,14 +62,14 @@ impl Model for Verified {
 
     ghost view = { λ v. v.module };
 
-    ghost invariant = { λ v. IsFaultless (contents v.module) };
+    ghost invariant = { λ v. IsWellFormed (contents v.module) };
 }
 
 impl Verified {
     /// The module.
     pub fn module(&self) -> &Module
         ensures module { result.now ≡ self.now }
-        ensures faultless { IsFaultless (contents self.now) }
+        ensures formed { IsWellFormed (contents self.now) }
     {
         &self.module
     }
@@ -71,15 +77,16 @@ impl Verified {
     /// The module, without memory.
     pub fn into_module(self) -> Module
         ensures module { result ≡ self }
-        ensures faultless { IsFaultless (contents self) }
+        ensures formed { IsWellFormed (contents self) }
     {
         self.module
     }
 }
 
-/// Verifies a module: `Ok` exactly where no instruction has a fault, and else `Invalid` with the first faulty
-/// instruction in file order and its lowest fault. An error hands the module back as it was.
+/// Verifies a module that is spelled, as each that is read is: `Ok` exactly where no instruction has a fault, and else
+/// `Invalid` with the first faulty instruction in file order and its lowest fault. An error hands the module back as it was.
 pub fn verify(alloc: Global, m: Module) -> Result<Verified, VerifyFault>
+    requires { IsSpelled (contents m) }
     ensures { Verifies result m }
 {
     match find(alloc, &m) {

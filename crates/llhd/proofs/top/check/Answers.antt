@@ -3,11 +3,15 @@ use Rattle.std.proofs.lemmas.Result.{err_from_is_err_and}
 use Rattle.lh_unit.specs.Arena.{Arena, contents}
 use Rattle.lh_unit.specs.Canon.{canon}
 use Rattle.lh_unit.specs.Contents.{ItemText}
+use Rattle.lh_spelled.proofs.Readings.{every_reading_is_spelled}
 use Rattle.llhd.specs.Check.{IsFaultStatus}
 use Rattle.llhd.specs.Result.{source_limit}
 use Rattle.llhd.proofs.Writes.{BreaksOff_of}
 use Rattle.llhd.proofs.Checks.{ChecksTo_stopped, ChecksTo_broke_off, ChecksTo_done, ChecksTo_invalid}
 use Rattle.llhd.proofs.top.check.Goals as goal
+
+pub verify-requires : goal.verify-requires
+verify-requires g c = every_reading_is_spelled c.deref.result.now (contents c.in_ok-module.module) c.in_ok-module.ensures.ok
 
 pub returns-in_err-bytes-clause-checks : goal.returns-in_err-bytes-clause-checks
 returns-in_err-bytes-clause-checks g c =

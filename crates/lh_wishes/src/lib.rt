@@ -1,0 +1,10 @@
+//! What an activation or a pass wishes, while it runs: bits in runs, by the instants at which they are due.
+#![tactic(auto)]
+
+mod cuts;
+mod grouping;
+mod run;
+mod runs;
+#[cfg(test)]
+mod tests;
+pub mod wishes;

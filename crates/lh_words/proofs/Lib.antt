@@ -1,0 +1,5 @@
+pub mod Options
+pub mod Finding
+pub mod Watching
+pub mod Digits
+pub mod Forms

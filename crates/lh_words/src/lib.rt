@@ -1,0 +1,10 @@
+//! The words of the command line.
+#![tactic(auto)]
+
+mod choice;
+pub mod command;
+mod found;
+pub mod laws;
+mod number;
+#[cfg(test)]
+mod tests;
