@@ -44,9 +44,11 @@ pub put-step : (items front : List Taken) (x : Taken) (slots new : List (Option 
 put-step items front x slots new z e g h w =
     let all : map taken_of items ≡ map taken_of front ++ taken_of x ∷ [] = ap (map taken_of) e ∙ map-append taken_of front (x ∷ []) in
     let r = each-front (λ (t : ValueId × Datum). t.0.0 < length slots) (map taken_of front) (taken_of x) (subst (Each (λ (t : ValueId × Datum). t.0.0 < length slots)) all w) in
-    let long : length slots ≡ length new = sym (ap length g ∙ length-set slots x.name.0 (Some (datum_held (datum_of x.value)))) in
-    (ap (put_all (map taken_of front)) g ∙ sym (put-last (map taken_of front) (taken_of x) slots) ∙ sym (ap (λ (l : List (ValueId × Datum)). put_all l slots) all) ∙ h,
-        subst (λ (n : ℕ). Each (λ (t : ValueId × Datum). t.0.0 < n) (map taken_of front)) long r.0, r.1)
+    let long : length slots ≡ length new = sym (ap length g ∙ length-set slots x.name.0 (Some (datum_held (datum_of x.value)))) in (
+      ap (put_all (map taken_of front)) g ∙ sym (put-last (map taken_of front) (taken_of x) slots) ∙ sym (ap (λ (l : List (ValueId × Datum)). put_all l slots) all) ∙ h,
+      subst (λ (n : ℕ). Each (λ (t : ValueId × Datum). t.0.0 < n) (map taken_of front)) long r.0,
+      r.1,
+    )
 
 -- ---- taking, instruction by instruction
 
