@@ -351,8 +351,8 @@ module _ (items : List ItemText) (now : List Bool) (t : Instant) (fs : Functions
       let opened : NextFits items (length now) u p.control.unit (opens p r (called (Some a.1.of) (data_at p.control.held os))) =
       opens-fit items (length now) u p k r (called (Some a.1.of) (data_at p.control.held os))
       (λ c e.
-          let z = called-fits items (length now) p.control.unit a.1.of p.control.held os c right.0 k.control.fits a.1.args_are e in
-          (z.0, (subst (λ (v : UnitText). IsSome v.result) (sym z.1) right.1, λ n y q h. g n q ∙ ap Some (a.1.gives y (sym (ap (λ (v : UnitText). v.result) z.1) ∙ h))))) in
+      let z = called-fits items (length now) p.control.unit a.1.of p.control.held os c right.0 k.control.fits a.1.args_are e in
+      (z.0, (subst (λ (v : UnitText). IsSome v.result) (sym z.1) right.1, λ n y q h. g n q ∙ ap Some (a.1.gives y (sym (ap (λ (v : UnitText). v.result) z.1) ∙ h))))) in
       subst (λ (b : Bool). NextFits items (length now) u p.control.unit (if b then tells p (asserted p.control.held os) else opens p r (called (function_named f (functions items)) (data_at p.control.held os)))) (sym a.0)
       (subst (λ (o : Option UnitText). NextFits items (length now) u p.control.unit (opens p r (called o (data_at p.control.held os)))) (sym named) opened)
 
@@ -375,7 +375,7 @@ module _ (items : List ItemText) (now : List Bool) (t : Instant) (fs : Functions
   exec-fits (wait_text to after on) r p k =
       ends-fit items (length now) u p k.fits (waiting p.control.block to (parts_at p.control.held on) (wake_at t p.control.held after))
       (λ x. waiting-fits p.control.unit p.control.block to (parts_at p.control.held on) (wake_at t p.control.held after) x
-          (record { text = k.text; stands = k.block; before = k.before; after = k.after; name = r; delay = after; signals = on; split = k.split }))
+      (record { text = k.text; stands = k.block; before = k.before; after = k.after; name = r; delay = after; signals = on; split = k.split }))
   exec-fits halt_text r p k = ends-fit items (length now) u p k.fits (Some halted) (halted-fits p.control.unit)
   exec-fits (ret_text o) r p k = returns-fit items (length now) u p k.fits o k.right.sound.row k.some
   exec-fits (sig_text a) r p k = tt

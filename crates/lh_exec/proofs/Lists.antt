@@ -44,9 +44,11 @@ pub put-step : (items front : List Taken) (x : Taken) (slots new : List (Option 
 put-step items front x slots new z e g h w =
     let all : map taken_of items ≡ map taken_of front ++ taken_of x ∷ [] = ap (map taken_of) e ∙ map-append taken_of front (x ∷ []) in
     let r = each-front (λ (t : ValueId × Datum). t.0.0 < length slots) (map taken_of front) (taken_of x) (subst (Each (λ (t : ValueId × Datum). t.0.0 < length slots)) all w) in
-    let long : length slots ≡ length new = sym (ap length g ∙ length-set slots x.name.0 (Some (datum_held (datum_of x.value)))) in
-    (ap (put_all (map taken_of front)) g ∙ sym (put-last (map taken_of front) (taken_of x) slots) ∙ sym (ap (λ (l : List (ValueId × Datum)). put_all l slots) all) ∙ h,
-        subst (λ (n : ℕ). Each (λ (t : ValueId × Datum). t.0.0 < n) (map taken_of front)) long r.0, r.1)
+    let long : length slots ≡ length new = sym (ap length g ∙ length-set slots x.name.0 (Some (datum_held (datum_of x.value)))) in (
+      ap (put_all (map taken_of front)) g ∙ sym (put-last (map taken_of front) (taken_of x) slots) ∙ sym (ap (λ (l : List (ValueId × Datum)). put_all l slots) all) ∙ h,
+      subst (λ (n : ℕ). Each (λ (t : ValueId × Datum). t.0.0 < n) (map taken_of front)) long r.0,
+      r.1,
+    )
 
 -- ---- taking, instruction by instruction
 
@@ -73,7 +75,9 @@ module _ (from : BlockId) (slots : List (Option Held)) (t : Table) (insts : List
   take-goes old new z e g = e ∙ sym (ap (λ (l : List InstId). option_map (λ ys. old ++ ys) (all_taken from slots t l)) split) ∙ g
 
 pub each-next : {X : Type 0} (P : X → Type 0) (xs : List X) (i : ℕ) (d : X) → i < length xs → Each P (drop i xs) → Each P (drop (i + 1) xs)
-each-next P xs i d h e = let f : P (get_or xs i d) × Each P (drop (i + 1) xs) = subst (Each P) (rw add-one (drop-cons xs i d h)) e in f.1
+each-next P xs i d h e =
+    let q : drop i xs ≡ get_or xs i d ∷ drop (i + 1) xs = rw add-one (drop-cons xs i d h) in
+    let f = subst (Each P) q e in f.1
 
 pub edge-in-each : (n : ℕ) (from : BlockId) (es : List PhiEdge) (v : ValueId) → Each (λ (e : PhiEdge). e.value.0 < n) es → edge_in from es ≡ Some v → v.0 < n
 edge-in-each n from [] v w e = absurd (none-some v e)

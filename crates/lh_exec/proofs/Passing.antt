@@ -78,7 +78,7 @@ module _ (a : Arena) (m : Machine) (p : Point) (k : MachineIs a m p) where
     stepped s n r i name e g x =
         subst (λ (ls : List LineText). IfOk r (λ fl. Leads a n fl p.control.unit (steps_by s p ls))) (sym rest-is)
         (subst (λ (y : Option ValueId). IfOk r (λ fl. Leads a n fl p.control.unit (executes s (inst_text (naming a m.frame.unit.0) (inst_at a m.frame.unit.0 id.0)) (maybe_text (naming a m.frame.unit.0) y) past))) g
-            (subst (λ (y : Inst). IfOk r (λ fl. Leads a n fl p.control.unit (executes s (inst_text (naming a m.frame.unit.0) y) (maybe_text (naming a m.frame.unit.0) name) past))) e x))
+        (subst (λ (y : Inst). IfOk r (λ fl. Leads a n fl p.control.unit (executes s (inst_text (naming a m.frame.unit.0) y) (maybe_text (naming a m.frame.unit.0) name) past))) e x))
 
 -- the instruction that comes next is right, and past it the machine still fits
 pub line-right : (a : Arena) (w : ℕ) (m : Machine) (f : IsFit a w m) (d : InstId) (h : m.frame.next < length (block_insts_at a m.frame.unit.0 m.frame.block.0)) (i : Inst) (name : Option ValueId) → let u = m.frame.unit.0 in let id = get_or (block_insts_at a u m.frame.block.0) m.frame.next d in i ≡ inst_at a u id.0 → name ≡ result_at a u id.0
@@ -87,7 +87,7 @@ line-right a w m f d h i name e g =
     let right = (past-of (contents a) w f.unit f.point (inst_line (naming a m.frame.unit.0) (table_at a m.frame.unit.0) (id a m f.point f.is d h)) (past a m f.point f.is).control.rest f.fits (rest-is a m f.point f.is d h)).right in
     subst (λ (v : UnitText). LineRight (contents a) v (record { result = maybe_text (naming a m.frame.unit.0) name; inst = inst_text (naming a m.frame.unit.0) i })) f.is.frame.unit
     (subst (λ (y : Option ValueId). LineRight (contents a) f.point.control.unit (record { result = maybe_text (naming a m.frame.unit.0) y; inst = inst_text (naming a m.frame.unit.0) i })) (sym g)
-        (subst (λ (y : Inst). LineRight (contents a) f.point.control.unit (record { result = maybe_text (naming a m.frame.unit.0) (result_at a m.frame.unit.0 (id a m f.point f.is d h).0); inst = inst_text (naming a m.frame.unit.0) y })) (sym e) right))
+    (subst (λ (y : Inst). LineRight (contents a) f.point.control.unit (record { result = maybe_text (naming a m.frame.unit.0) (result_at a m.frame.unit.0 (id a m f.point f.is d h).0); inst = inst_text (naming a m.frame.unit.0) y })) (sym e) right))
 
 pub past-fits : (a : Arena) (w : ℕ) (m : Machine) (f : IsFit a w m) (d : InstId) (h : m.frame.next < length (block_insts_at a m.frame.unit.0 m.frame.block.0)) → IsFit a w (record m { frame = record m.frame { next = m.frame.next + 1 } })
 past-fits a w m f d h = record {

@@ -87,7 +87,7 @@ module _ (a : Arena) (m : Machine) (p : Point) (k : MachineIs a m p) where
           let more = holds-more a m.frame.unit.0 m.frame.slots p.control.held to h k.arena k.frame.within k.frame.held w in
           holds-now s (with_held p.control.held (value_text (naming a m.frame.unit.0) to) (cell_held y))
           (subst (λ (z : List (Option Held)). Holds a m.frame.unit.0 z (with_held p.control.held (value_text (naming a m.frame.unit.0) to) (cell_held y))) (sym e)
-              (subst (λ (z : Held). Holds a m.frame.unit.0 (set m.frame.slots to.0 (Some h)) (with_held p.control.held (value_text (naming a m.frame.unit.0) to) z)) same more))
+          (subst (λ (z : Held). Holds a m.frame.unit.0 (set m.frame.slots to.0 (Some h)) (with_held p.control.held (value_text (naming a m.frame.unit.0) to) z)) same more))
 
   -- a call is opened
   pub opens-leads : (f : Frame) (c : Control) (name : Option ValueId) (n : Machine) → FrameIs a f c → MaybeIn m.frame.slots name → length m.callers.items < 256 → n.frame ≡ f → n.callers.items ≡ m.callers.items ++ record { frame = m.frame; result = name } ∷ [] → n.wishes ≡ m.wishes → n.outcomes ≡ m.outcomes
@@ -123,10 +123,16 @@ module _ (a : Arena) (m : Machine) (p : Point) (k : MachineIs a m p) where
         arena = k.arena;
         frame = subst (λ (x : Frame). FrameIs a x (record q.0.control { held = if_held q.0.control.held q.0.result h })) (sym frame)
             (record {
-              within = q.3.frame.within; has_blocks = q.3.frame.has_blocks; label = q.3.frame.label; stands = q.3.frame.stands; unit = q.3.frame.unit; block = q.3.frame.block; rest = q.3.frame.rest;
+              within = q.3.frame.within;
+              has_blocks = q.3.frame.has_blocks;
+              label = q.3.frame.label;
+              stands = q.3.frame.stands;
+              unit = q.3.frame.unit;
+              block = q.3.frame.block;
+              rest = q.3.frame.rest;
               held = subst (λ (y : List (Option Held)). Holds a c.frame.unit.0 y (if_held q.0.control.held q.0.result h)) (sym g)
                   (subst (λ (y : Option (List ℕ)). Holds a c.frame.unit.0 (given c.frame.slots c.result h) (if_held q.0.control.held y h)) (sym q.3.result)
-                      (holds-given a c.frame.unit.0 c.frame.slots q.0.control.held c.result h k.arena q.3.frame.within q.3.frame.held q.3.within));
+                  (holds-given a c.frame.unit.0 c.frame.slots q.0.control.held c.result h k.arena q.3.frame.within q.3.frame.held q.3.within));
             });
         callers = subst (λ (xs : List Call). CallsAre a (reverse xs) q.1) (sym callers) q.4;
         wish = wish ∙ k.wish;

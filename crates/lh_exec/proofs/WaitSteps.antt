@@ -52,7 +52,7 @@ module _ (a : Arena) (m : Machine) (p : Point) (k : MachineIs a m p) (t : Instan
       let none : wake_at t p.control.held (maybe_text f after) ≡ None = sym (wake-same a m.frame.unit.0 m.frame.slots p.control.held k.frame.held t after w) ∙ e in
       subst (λ (n : Next). Leads a m flow.Lost p.control.unit n)
       (sym (ap (λ (o : Option (Option Instant)). ends_at p p.callers (waiting p.control.block (f.label_name to.0) (parts_at p.control.held (map (value_text f) signals)) o)) none
-          ∙ ap (ends_at p p.callers) (no-wake p.control.block (f.label_name to.0) (parts_at p.control.held (map (value_text f) signals))) ∙ ends-none p p.callers)) tt
+      ∙ ap (ends_at p p.callers) (no-wake p.control.block (f.label_name to.0) (parts_at p.control.held (map (value_text f) signals))) ∙ ends-none p p.callers)) tt
 
   pub waits-leads : (on : List Range) (wake : Option Instant) → to.0 < label_count a m.frame.unit.0 → m.callers.items ≡ [] → parts_in m.frame.slots signals ≡ Some on → wake_in t m.frame.slots after ≡ Some wake
       → let f = naming a m.frame.unit.0 in Leads a m (flow.Waits to (record { parts = on; wake = wake })) p.control.unit (ends_at p p.callers (waiting p.control.block (f.label_name to.0) (parts_at p.control.held (map (value_text f) signals)) (wake_at t p.control.held (maybe_text f after))))
@@ -63,8 +63,9 @@ module _ (a : Arena) (m : Machine) (p : Point) (k : MachineIs a m p) (t : Instan
       let n : p.callers ≡ [] = no-callers a m.callers.items p.callers calls k.callers in
       let all : ends_at p p.callers (waiting p.control.block (f.label_name to.0) (parts_at p.control.held (map (value_text f) signals)) (wake_at t p.control.held (maybe_text f after))) ≡ ends_at p [] (Some (waits p.control.block (f.label_name to.0) on wake)) =
       λ i. ends_at p (n i) (waiting p.control.block (f.label_name to.0) (x i) (y i)) in
-      subst (λ (z : Next). Leads a m (flow.Waits to (record { parts = on; wake = wake })) p.control.unit z) (sym all)
-      (l, record {
+      subst (λ (z : Next). Leads a m (flow.Waits to (record { parts = on; wake = wake })) p.control.unit z) (sym all) (
+        l,
+        record {
           within = k.frame.within;
           label = k.frame.label;
           unit = k.frame.unit;
@@ -72,4 +73,5 @@ module _ (a : Arena) (m : Machine) (p : Point) (k : MachineIs a m p) (t : Instan
           held = k.frame.held;
           wish = k.wish;
           outcomes = k.outcomes;
-        })
+        },
+      )

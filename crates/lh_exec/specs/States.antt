@@ -28,6 +28,7 @@ waited_by stand.New = None
 waited_by (stand.Waits pause) = Some pause.on
 waited_by stand.Halted = None
 
+-- the same of a state
 abbrev pub waited_on : ProcState → Option WaitOn
 waited_on s = waited_by s.stand
 
@@ -41,6 +42,7 @@ StandsBy a u args stand.New p = p ≡ begun (unit_text_at a u) args
 StandsBy a u args (stand.Waits w) p = (p.stand ≡ waits (label_name_at a u w.block.0) (label_name_at a u w.to.0) w.on.parts w.on.wake) × Holds a u w.slots p.held
 StandsBy a u args stand.Halted p = p.stand ≡ halted
 
+-- the same of a state
 abbrev pub StandsFor : Arena → ℕ → (args : List Range) → ProcState → ProcessState → Type 0
 StandsFor a u args s p = StandsBy a u args s.stand p
 
@@ -74,6 +76,7 @@ FitsBy a u width stand.New = Unit {0}
 FitsBy a u width (stand.Waits w) = PauseFits a u width w
 FitsBy a u width stand.Halted = Unit {0}
 
+-- the same of a state
 abbrev pub StateFits : Arena → ℕ → (width : ℕ) → ProcState → Type 0
 StateFits a u width s = FitsBy a u width s.stand
 
@@ -97,5 +100,5 @@ GivesMaybe a u args width _ _ = ⊥
 abbrev pub Answers : Arena → ℕ → (args : List Range) → (width : ℕ) → Result Act ExecFault → Option Activated → Type 0
 Answers a u args width (Ok act) (Some done) = Gives a u args width act done
 Answers a u args width (Err fault.Runaway) None = Unit {0}
-Answers a u args width (Err fault.OutOfMemory) done = Unit {0}
+Answers a u args width (Err fault.OutOfMemory) _ = Unit {0}
 Answers a u args width _ _ = ⊥

@@ -7,7 +7,6 @@ ghost use Rattle.lh_unit.specs.WellFormed.{IsWellFormed};
 ghost use Rattle.lh_exec.specs.States.{StandsBy, FitsBy, PauseFits, begun};
 ghost use Rattle.lh_exec.specs.Sound.{BeginsAt};
 
-
 use crate::calls::first_frame;
 use crate::machine::{Flow, Frame, Machine};
 use crate::state::{Pause, Stand};

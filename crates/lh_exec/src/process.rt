@@ -113,20 +113,20 @@ fn activate_within(
     match begin(alloc, m, now, unit, args, stand)? {
         Some(mut machine) => {
             let flow = machine.run(alloc, m, now, at, limit)?;
-            finish(alloc, machine, flow)
+            finish(machine, flow)
         }
         None => Ok(None),
     }
 }
 
 /// What a machine that has come to an end gives.
-fn finish(alloc: Global, machine: Machine, flow: Flow) -> Result<Option<Act>, NoMemory>
+fn finish(machine: Machine, flow: Flow) -> Result<Option<Act>, NoMemory>
     ensures { (a : Arena) (u w : ℕ) (args : List Bounds) (done : Option Activated) → IsArena a → u < unit_count a → Finishes a u w machine flow done → IfOk result (λ r. GivesMaybe a u args w r done) }
 {
     let Some(stand) = stand_at(machine.frame, flow) else {
         return Ok(None);
     };
-    let wishes = machine.wishes.writes(alloc)?;
+    let wishes = machine.wishes.into_writes()?;
     Ok(Some(Act {
         next: ProcState { stand },
         wishes,

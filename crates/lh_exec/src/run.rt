@@ -42,13 +42,7 @@ impl Machine {
     }
 
     /// Runs the instruction that comes next.
-    fn step(
-        &mut self,
-        alloc: Global,
-        m: &Module,
-        now: &Bits,
-        at: Instant,
-    ) -> Result<Flow, NoMemory>
+    fn step(&mut self, alloc: Global, m: &Module, now: &Bits, at: Instant) -> Result<Flow, NoMemory>
         requires formed { IsWellFormed (contents m.now) }
         requires few { length now.now < 2 ^ 32 }
         requires fit { IsFit m.now (length now.now) self.old }

@@ -29,11 +29,7 @@ use lh_unit::module::Module;
 use std::alloc::Global;
 
 impl Machine {
-    pub(crate) fn run_const(
-        &mut self,
-        value: &Val,
-        name: Option<ValueId>,
-    ) -> Result<Flow, NoMemory>
+    pub(crate) fn run_const(&mut self, value: &Val, name: Option<ValueId>) -> Result<Flow, NoMemory>
         requires { MaybeIn self.old.frame.slots name }
         ensures { (a : Arena) → Does result a self.old self.new (λ p. gives p (maybe_text (naming a self.old.frame.unit.0) name) (Some (datum_held (datum_of value.now)))) }
     {
@@ -56,14 +52,7 @@ impl Machine {
         requires fit { OperandsFit m.now self.old.frame.unit.0 self.old.frame.slots op.now args.now }
         ensures { let f = naming m.now self.old.frame.unit.0 in Does result m.now self.old self.new (λ p. gives p (maybe_text f name) (operated p.control.unit p.control.held op.now (map (operand_text f) args.now))) }
     {
-        let held = operate(
-            alloc,
-            m,
-            self.frame.unit,
-            op,
-            args,
-            &self.frame.slots,
-        )?;
+        let held = operate(alloc, m, self.frame.unit, op, args, &self.frame.slots)?;
         Ok(self.give(name, held))
     }
 

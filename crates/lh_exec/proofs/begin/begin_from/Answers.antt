@@ -28,7 +28,7 @@ returns-in-Goes c = λ p k.
     let b = process-blocks m u c.requires.process in
     from-goes m c.enter.new.self c.in_ok-enter.field-0 (unit_text_at m u) (wait-control m u c.requires.arena c.requires.unit b c.requires.formed (length c.args.now.now) c.args.pause.now p.held) (control_at (unit_text_at m u) p) c.in-Goes.is
     (wait-leads m u c.requires.arena c.requires.unit b c.requires.formed (length c.args.now.now) c.args.pause.now c.in_ok-slots.slots p c.machine_at-machine.result c.enter.new.self c.in_ok-enter.field-0 c.requires.fits c.in_ok-slots.ensures
-        c.machine_at-machine.ensures.frame c.machine_at-machine.ensures.callers c.machine_at-machine.ensures.wishes c.machine_at-machine.ensures.outcomes k c.in_ok-enter.ensures)
+    c.machine_at-machine.ensures.frame c.machine_at-machine.ensures.callers c.machine_at-machine.ensures.wishes c.machine_at-machine.ensures.outcomes k c.in_ok-enter.ensures)
 
 pub returns-in_default : goal.returns-in_default
 returns-in_default c = λ p k.
@@ -37,4 +37,4 @@ returns-in_default c = λ p k.
     let b = process-blocks m u c.requires.process in
     from-lost m c.enter.new.self c.in_ok-enter.field-0 (unit_text_at m u) (wait-control m u c.requires.arena c.requires.unit b c.requires.formed (length c.args.now.now) c.args.pause.now p.held) (control_at (unit_text_at m u) p) c.in_default.not-Goes
     (wait-leads m u c.requires.arena c.requires.unit b c.requires.formed (length c.args.now.now) c.args.pause.now c.in_ok-slots.slots p c.machine_at-machine.result c.enter.new.self c.in_ok-enter.field-0 c.requires.fits c.in_ok-slots.ensures
-        c.machine_at-machine.ensures.frame c.machine_at-machine.ensures.callers c.machine_at-machine.ensures.wishes c.machine_at-machine.ensures.outcomes k c.in_ok-enter.ensures)
+    c.machine_at-machine.ensures.frame c.machine_at-machine.ensures.callers c.machine_at-machine.ensures.wishes c.machine_at-machine.ensures.outcomes k c.in_ok-enter.ensures)

@@ -31,9 +31,9 @@ returns-in_ok-flow-in-Some c = λ p k.
     let b = subst (λ (x : Option Machine). BeginsAt m x (control_at (unit_text_at m u) p)) c.in-Some.is (c.in_ok-machine.ensures p k) in
     let s = begins-point m c.in-Some.machine (control_at (unit_text_at m u) p) b in
     let fits = begin-fits m u c.in_order.ensures.arena c.requires.unit (process-blocks m u c.requires.process) c.requires.formed w c.requires.process c.args.args.now c.requires.args c.args.stand.now c.requires.fits p k s.0 s.1 in
-    let done = c.in_ok-flow.ensures u (start_point s.0) s.2 fits in
+    let done = c.in_ok-flow-in-Some.ensures u (start_point s.0) s.2 fits in
     c.finish.ensures m u w c.args.args.now (activate c.args.limit (scene_of m c.args.now.now c.args.at) (unit_text_at m u) p) c.in_order.ensures.arena c.requires.unit
-    (subst (Finishes m u w c.run.new.self c.in_ok-flow.flow) (activation-is c.args.limit (scene_of m c.args.now.now c.args.at) (unit_text_at m u) p s.0 s.1) done)
+    (subst (Finishes m u w c.run.new.self c.in_ok-flow-in-Some.flow) (activation-is c.args.limit (scene_of m c.args.now.now c.args.at) (unit_text_at m u) p s.0 s.1) done)
 
 pub returns-in-None : goal.returns-in-None
 returns-in-None c = λ p k.

@@ -13,7 +13,6 @@ take_phis-requires-clause-insts c =
     subst (Each (λ (i : InstId). i.0 < inst_count c.args.m.now c.args.self.now.frame.unit.0)) (sym c.insts-insts.ensures.insts)
     (insts-within c.args.m.now c.args.self.now.frame.unit.0 c.args.to c.requires.arena c.requires.unit c.requires.stands)
 
-
 pub put_taken-requires : goal.put_taken-requires
 put_taken-requires c =
     let t : c.in_ok-take_phis.field-0 ≡ true = cc in

@@ -123,8 +123,8 @@ returns-in-Call c =
     let placed = subst (InstPlaced m c.args.self.now.frame.unit.0) c.in-Call.is c.requires.placed in
     arm c.run_call.result m c.args.self.now c.run_call.new.self (scene_of m c.args.now.now c.args.at) f (maybe_text f c.args.name) c.args.inst.now (inst.Call c.in-Call.unit c.in-Call.result c.in-Call.args) c.in-Call.is
     (call-leads m (length c.args.now.now) c.args.self.now c.requires.fit c.requires.formed c.run_call.result c.run_call.new.self c.args.now.now c.args.at c.args.name c.in-Call.unit c.in-Call.result c.in-Call.args placed.0
-        (subst (λ (i : Inst). LineRight (contents m) (unit_text_at m c.args.self.now.frame.unit.0) (record { result = maybe_text f c.args.name; inst = inst_text f i })) c.in-Call.is c.requires.right)
-        (subst (λ (l : List Typed). Does c.run_call.result m c.args.self.now c.run_call.new.self (λ p. if is_assert (unit_name_at m c.in-Call.unit.0) then tells p (asserted p.control.held (map (operand_text f) l)) else opens p (maybe_text f c.args.name) (called (Some (unit_text_at m c.in-Call.unit.0)) (data_at p.control.held (map (operand_text f) l))))) c.as_slice-in-Call.ensures c.run_call.ensures))
+    (subst (λ (i : Inst). LineRight (contents m) (unit_text_at m c.args.self.now.frame.unit.0) (record { result = maybe_text f c.args.name; inst = inst_text f i })) c.in-Call.is c.requires.right)
+    (subst (λ (l : List Typed). Does c.run_call.result m c.args.self.now c.run_call.new.self (λ p. if is_assert (unit_name_at m c.in-Call.unit.0) then tells p (asserted p.control.held (map (operand_text f) l)) else opens p (maybe_text f c.args.name) (called (Some (unit_text_at m c.in-Call.unit.0)) (data_at p.control.held (map (operand_text f) l))))) c.as_slice-in-Call.ensures c.run_call.ensures))
 
 pub returns-in-Phi : goal.returns-in-Phi
 returns-in-Phi c = λ p st.
