@@ -1,15 +1,13 @@
 -- Signals that are added, and instances that are to be visited.
-use Rattle.std.proofs.Common.{◌≡◌, ℕ, zero, suc, ◌+◌, ◌-◌, ◌<◌, ◌≤◌, List, [], ◌∷◌, ◌++◌, length, map, take, drop, get_or, sum_by, replicate, Bool, false, Option, Some, None, refl, ap, sym, ◌∙◌, subst, arith}
+use Rattle.std.proofs.Common.{◌≡◌, ℕ, zero, suc, ◌+◌, ◌-◌, ◌<◌, ◌≤◌, List, [], ◌∷◌, ◌++◌, length, map, take, drop, get_or, Bool, Option, None, refl, ap, sym, ◌∙◌, subst, arith}
 use Rattle.std.proofs.lemmas.List.{append_assoc, append-nil, length-append, length-take-le, map-append, take_more, take_all, take_at, take-append-drop}
-use Rattle.lh_types.specs.Types.{TypeTree, signal_type, bit_count}
+use Rattle.lh_types.specs.Types.{bit_count}
 use Rattle.lh_types.specs.Parts.{bits_with, bits_within}
 use Rattle.lh_types.specs.declared.part.Range.{Range}
 use Rattle.lh_unit.specs.Contents.{ArgText}
 use Rattle.lh_unit.specs.Arena.{Arena}
 use Rattle.lh_unit.specs.Hierarchy.{SignalText, zeros}
-use Rattle.lh_unit.specs.Design as design
 use Rattle.lh_unit.specs.Design.{carried_type, numbered, initial_bits, signal_ranges, top_signals}
-use Rattle.lh_unit.specs.Within.{Each}
 use Rattle.lh_design.specs.declared.Signal.{Signal}
 use Rattle.lh_elab.specs.declared.build.Building.{Building}
 use Rattle.lh_elab.specs.declared.build.Pending.{Pending}
@@ -19,7 +17,7 @@ use Rattle.lh_elab.specs.declared.plan.Low.{Low}
 use Rattle.lh_unit.specs.declared.inst.Arg.{Arg}
 use Rattle.lh_unit.specs.Naming.{Naming, arg_text}
 use Rattle.lh_unit.specs.Table.{ArgsWithin}
-use Rattle.lh_elab.specs.Plans.{signal_of, low_at, SignalFits}
+use Rattle.lh_elab.specs.Plans.{signal_of, low_at}
 use Rattle.lh_elab.specs.Builds.{signal_text, room_of, AddsSignals, KeepsRest, ranges_by, kid, kids}
 use Rattle.lh_elab.proofs.StaticSteps.{drop-get_or}
 use Rattle.lh_elab.proofs.Numbering.{room-cons, room-append, numbered-append, ranges-append, initial-append}

@@ -1,26 +1,21 @@
 -- What elaboration reads of a unit by its name is what its text has.
-use Rattle.std.proofs.Common.{◌≡◌, ℕ, ◌+◌, ◌<◌, ◌≤◌, Bool, true, false, nat_lt, if◌then◌else◌, List, [], ◌∷◌, ◌++◌, length, map, sum_by, Option, Some, None, IsSome, is_some, Result, Ok, Err, refl, ap, sym, ◌∙◌, subst, arith}
+use Rattle.std.proofs.Common.{◌≡◌, if◌then◌else◌, List, [], ◌∷◌, map, Option, Some, None, is_some, refl, ap, sym, ◌∙◌, subst}
 use Rattle.std.specs.Option.{option_map}
-use Rattle.std.proofs.lemmas.Grind.{common_steps}
-use Rattle.std.proofs.lemmas.List.{append-nil}
-use Rattle.lh_types.specs.Types.{TypeTree}
 use Rattle.lh_types.specs.declared.part.Range.{Range}
 use Rattle.lh_unit.specs.declared.name.UnitName.{UnitName}
 use Rattle.lh_unit.specs.declared.inst.UnitId.{UnitId}
 use Rattle.lh_unit.specs.declared.inst.UnitKind.{UnitKind}
 use Rattle.lh_unit.specs.declared.inst.UnitKind.TheVariants as kind
-use Rattle.lh_unit.specs.Contents.{InstText, sig_text, LineText, ArgText, UnitText}
-use Rattle.lh_unit.specs.Naming.{Naming, kind_text, arg_text, table_text, block_text}
+use Rattle.lh_unit.specs.Contents.{UnitText}
+use Rattle.lh_unit.specs.Naming.{Naming, kind_text, arg_text, table_text}
 use Rattle.lh_unit.specs.Table.{Table, FitsKind, entity_block, insts_at}
-use Rattle.lh_unit.specs.Arena.{Arena, IsArena, contents, naming, kind_at, args_at, table_at, unit_count, unit_name_at, unit_text_at}
-use Rattle.lh_unit.specs.ById.{inst_line}
+use Rattle.lh_unit.specs.Arena.{Arena, IsArena, contents, naming, kind_at, table_at, unit_name_at, unit_text_at}
 use Rattle.lh_unit.specs.Held.{Env}
-use Rattle.lh_unit.specs.Hierarchy.{lines_of, type_or_void, SignalText, signal_if, signals_of, Child, children_of, static_held, Hierarchy, hierarchy_by, hierarchy_of, Entry, hierarchies, hierarchy_named}
+use Rattle.lh_unit.specs.Hierarchy.{lines_of, Child, children_of, static_held, Hierarchy, hierarchy_by, hierarchy_of, hierarchies}
 use Rattle.lh_unit.specs.Design.{hierarchy_or, hierarchy_in, targets}
-use Rattle.lh_sound.specs.Ranges.{signal_types, type_if_signal}
 use Rattle.lh_elab.proofs.Names.{hierarchy-by_id, child_ids, children-names, entity-lines}
 use Rattle.lh_elab.proofs.Reading.{entity-blocks}
-use Rattle.lh_elab.proofs.Underway.{ReadsUnit, ReadsAll}
+use Rattle.lh_elab.proofs.Underway.{ReadsAll}
 
 -- what is read where the unit may be missing
 record Same (h k : Hierarchy) : Type 0 where

@@ -3,10 +3,10 @@ use Rattle.std.proofs.Common.{◌≡◌, ℕ, ◌+◌, ◌<◌, ◌≤◌, List,
 use Rattle.std.specs.Option.{option_map, option_map_or, option_and_then}
 use Rattle.std.proofs.lemmas.List.{map-append, append-nil, append_assoc}
 use Rattle.lh_types.specs.declared.part.Range.{Range}
-use Rattle.lh_unit.specs.Contents.{OperandText, InstText, sig_text, child_text, LineText}
-use Rattle.lh_unit.specs.Held.{Held, Env, as_part, part_at}
+use Rattle.lh_unit.specs.Contents.{InstText, sig_text, child_text, LineText}
+use Rattle.lh_unit.specs.Held.{Env, as_part, part_at}
 use Rattle.lh_unit.specs.Hierarchy.{Child, lows_of, child_if, children_of, signal_if, signals_of, SignalText}
-use Rattle.lh_unit.specs.Naming.{inst_text, operand_text, value_text, maybe_text}
+use Rattle.lh_unit.specs.Naming.{inst_text, operand_text, value_text}
 use Rattle.lh_unit.specs.Arena.{Arena, InstPlaced, naming, unit_count, unit_name_at}
 use Rattle.lh_unit.specs.Within.{Each}
 use Rattle.lh_unit.specs.declared.inst.UnitId.{UnitId}
@@ -21,9 +21,8 @@ use Rattle.lh_eval.proofs.Holding.{same-held}
 use Rattle.lh_elab.specs.declared.statics.Base.{Base}
 use Rattle.lh_elab.specs.declared.statics.Base.TheVariants as base
 use Rattle.lh_elab.specs.declared.statics.Statics.{Statics}
-use Rattle.lh_elab.specs.declared.plan.Low.{Low}
 use Rattle.lh_elab.specs.declared.plan.PlanChild.{PlanChild}
-use Rattle.lh_elab.specs.Statics.{by_of, base_lo, moved, moved_slots, Follows}
+use Rattle.lh_elab.specs.Statics.{by_of, base_lo, moved_slots, Follows}
 use Rattle.lh_elab.specs.Plans.{low_by, lows_by, low_at, child_of, LowSmall, ChildSmall, PartsSmall, ChildLine, ChildWithin}
 use Rattle.lh_elab.proofs.StaticSteps.{drop-get_or, drop-end}
 use Rattle.lh_elab.proofs.Moving.{shifted, length-moved, slot-moved, part-moved}

@@ -1,16 +1,16 @@
 -- Where elaboration starts and ends, and what it refuses.
-use Rattle.std.proofs.Common.{◌≡◌, ℕ, suc, ◌+◌, ◌*◌, ◌<◌, ◌≤◌, Bool, true, false, nat_lt, if◌then◌else◌, List, [], ◌∷◌, ◌++◌, length, map, take, sum_by, Option, Some, None, IsSome, is_some, Result, Ok, Err, refl, ap, sym, ◌∙◌, subst, arith}
+use Rattle.std.proofs.Common.{◌≡◌, ℕ, ◌+◌, ◌<◌, ◌≤◌, Bool, true, false, nat_lt, if◌then◌else◌, List, [], ◌∷◌, length, map, take, Option, Some, None, IsSome, is_some, Ok, Err, refl, ap, sym, ◌∙◌, subst, arith}
 use Rattle.std.specs.Option.{option_map}
 use Rattle.std.proofs.lemmas.Grind.{common_steps}
 use Rattle.std.proofs.lemmas.List.{take_all, length-replicate, length-append}
 use Rattle.std.proofs.lemmas.List.Sums.{sum_by-cons}
-use Rattle.lh_types.specs.Types.{TypeTree, signal_type, time_type, void_type, pointer_type, IsData, bit_count}
+use Rattle.lh_types.specs.Types.{IsData, bit_count}
 use Rattle.lh_types.specs.declared.part.Range.{Range}
 use Rattle.lh_unit.specs.declared.name.UnitName.{UnitName}
 use Rattle.lh_unit.specs.declared.inst.UnitId.{UnitId}
 use Rattle.lh_unit.specs.declared.inst.UnitKind.{UnitKind}
 use Rattle.lh_unit.specs.declared.inst.UnitKind.TheVariants as kind
-use Rattle.lh_unit.specs.Contents.{ArgText, UnitText}
+use Rattle.lh_unit.specs.Contents.{ArgText}
 use Rattle.lh_unit.specs.Named.{is_function}
 use Rattle.lh_unit.specs.Naming.{kind_text}
 use Rattle.lh_unit.specs.Arena.{Arena, IsArena, contents, kind_at, unit_count, unit_name_at, unit_text_at}
@@ -25,7 +25,7 @@ use Rattle.lh_elab.specs.declared.fault.ElabFault.TheVariants as fault
 use Rattle.lh_elab.specs.declared.build.Building.{Building}
 use Rattle.lh_design.specs.declared.Design as code
 use Rattle.lh_elab.specs.Plans.{AreWide}
-use Rattle.lh_elab.specs.Refusals.{refusal_text, refusal_at, bits_at, Refuses}
+use Rattle.lh_elab.specs.Refusals.{refusal_text, refusal_at, Refuses}
 use Rattle.lh_elab.specs.Builds.{signal_text, instance_text, design_text, room_of, IsStarted}
 use Rattle.lh_design.specs.Filling.{FillFrom, SignalsFill}
 use Rattle.lh_design.specs.declared.Signal.{Signal}
@@ -33,8 +33,8 @@ use Rattle.lh_elab.specs.Elaborates.{RefusedFor, Elaborates, TextsFill}
 use Rattle.lh_elab.proofs.Names.{hierarchy-by_id}
 use Rattle.lh_elab.proofs.Refusing.{refuses-function}
 use Rattle.lh_elab.proofs.Numbering.{room-cons}
-use Rattle.lh_elab.proofs.Underway.{Stands, Underway, ReadsAll, PendingFits, ArgsLow, counts, bits_of, ranges-below, fill-numbered}
-use Rattle.lh_elab.proofs.Walks.{gone, unwound, left}
+use Rattle.lh_elab.proofs.Underway.{Underway, ReadsAll, PendingFits, ArgsLow, counts, bits_of, ranges-below, fill-numbered}
+use Rattle.lh_elab.proofs.Walks.{unwound, left}
 
 -- the unit is read by its name
 named : (a : Arena) (top : ℕ) → IsArena a → top < unit_count a → IsSome (kind_at a top) → hierarchy_named (unit_name_at a top) (hierarchies (contents a)) ≡ Some (hierarchy_of (unit_text_at a top))

@@ -6,6 +6,7 @@ pub mod Stepping
 pub mod Names
 pub mod Counting
 pub mod Refusing
+pub mod Placed
 pub mod Moving
 pub mod StaticSteps
 pub mod PlanSteps
@@ -17,3 +18,7 @@ pub mod BuildSteps
 pub mod Underway
 pub mod ByName
 pub mod Elaborating
+pub mod Ports
+pub mod Connected
+pub mod Probing
+pub mod Labels

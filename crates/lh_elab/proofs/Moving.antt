@@ -1,5 +1,5 @@
 -- Parts as if each argument and `sig` began at bit 0, and where they lie in an instance.
-use Rattle.std.proofs.Common.{◌≡◌, ℕ, zero, suc, ◌+◌, ◌<◌, List, [], ◌∷◌, length, map, set, get_or, Bool, Option, Some, None, refl, ap, sym, ◌∙◌, subst, zero-add, add_assoc, arith}
+use Rattle.std.proofs.Common.{◌≡◌, ℕ, zero, suc, ◌+◌, ◌<◌, List, [], ◌∷◌, length, map, set, get_or, Option, Some, None, refl, ap, sym, ◌∙◌, subst, arith}
 use Rattle.std.specs.Option.{option_map, option_and_then}
 use Rattle.std.proofs.lemmas.List.{length-set}
 use Rattle.lh_types.specs.Types.{TypeTree, signal_type}
@@ -9,7 +9,6 @@ use Rattle.lh_types.specs.Parts.{range_of}
 use Rattle.lh_types.specs.declared.op.Op.{Op}
 use Rattle.lh_types.specs.declared.part.Step.{Step}
 use Rattle.lh_types.specs.declared.part.Range.{Range}
-use Rattle.lh_unit.specs.Contents.{UnitText, OperandText}
 use Rattle.lh_unit.specs.Typing.{or_else, value_type}
 use Rattle.lh_unit.specs.Held.{Held, datum_held, cell_held, part_held, Env, with_held, as_datum, as_part, data_at, part_at, front}
 use Rattle.lh_unit.specs.Effects.{operated, signal_part, stepped, step_of, within}
@@ -19,7 +18,7 @@ use Rattle.lh_unit.specs.Arena.{Arena, IsArena, unit_count, naming, unit_text_at
 use Rattle.lh_unit.specs.Within.{Each}
 use Rattle.lh_unit.specs.declared.inst.ValueId.{ValueId}
 use Rattle.lh_unit.specs.declared.inst.Typed.{Typed}
-use Rattle.lh_eval.specs.Holding.{Holds, MaybeIn, slot_at, datum_in, part_in, data_in}
+use Rattle.lh_eval.specs.Holding.{Holds, MaybeIn, datum_in, data_in}
 use Rattle.lh_eval.proofs.Holding.{same-held, holds-more}
 use Rattle.lh_elab.specs.declared.statics.Base.{Base}
 use Rattle.lh_elab.specs.declared.statics.Base.TheVariants as base

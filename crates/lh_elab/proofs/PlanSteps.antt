@@ -1,9 +1,9 @@
 -- The plan of an entity: what it begins with, its signals and the instances in it.
-use Rattle.std.proofs.Common.{◌≡◌, ℕ, zero, suc, ◌+◌, ◌<◌, ◌≤◌, List, [], ◌∷◌, ◌++◌, length, map, get_or, replicate, Bool, false, Option, Some, None, IsSome, refl, ap, sym, ◌∙◌, subst, arith}
+use Rattle.std.proofs.Common.{◌≡◌, ℕ, zero, suc, ◌+◌, ◌<◌, ◌≤◌, List, [], ◌∷◌, length, map, get_or, replicate, Bool, false, Option, Some, None, IsSome, refl, ap, sym, ◌∙◌, subst, arith}
 use Rattle.std.specs.Option.{option_map_or}
 use Rattle.std.proofs.lemmas.List.{length-replicate, length-set}
 use Rattle.std.proofs.lemmas.Option.{same_Some}
-use Rattle.lh_types.specs.Types.{TypeTree, signal_type, IsData, bit_count}
+use Rattle.lh_types.specs.Types.{TypeTree, IsData, bit_count}
 use Rattle.lh_types.specs.Values.{Datum}
 use Rattle.lh_types.specs.Fits.{FitsType}
 use Rattle.lh_types.specs.Bits.{value_bits}
@@ -13,9 +13,8 @@ use Rattle.lh_types.proofs.Limits.{bit_count-le}
 use Rattle.lh_unit.specs.Contents.{ArgText, InstText, sig_text, LineText, UnitText}
 use Rattle.lh_unit.specs.Held.{Held, datum_held, part_held, Env, nothing_held, with_args}
 use Rattle.lh_unit.specs.Hierarchy.{SignalText, signal_if, signals_of, children_of, hierarchy_by, hierarchy_of, zeros, type_or_void, parts_of, with_parts, signal_names, lines_of, static_from, static_held}
-use Rattle.lh_unit.specs.Naming.{kind_text, arg_text, inst_text, maybe_text, value_text}
+use Rattle.lh_unit.specs.Naming.{kind_text, inst_text, maybe_text, value_text}
 use Rattle.lh_unit.specs.Table.{ResultWithin}
-use Rattle.lh_unit.specs.Typing.{value_type}
 use Rattle.lh_unit.specs.WellFormed.{IsWellFormed}
 use Rattle.lh_unit.specs.Arena.{Arena, IsArena, InstPlaced, unit_count, value_count, inst_count, kind_at, naming, table_at, args_at, block_insts_at, unit_text_at, contents}
 use Rattle.lh_unit.specs.ById.{inst_line}
@@ -29,7 +28,7 @@ use Rattle.lh_unit.specs.declared.inst.Typed.{Typed}
 use Rattle.lh_unit.specs.declared.inst.Inst.{Inst}
 use Rattle.lh_unit.specs.declared.inst.Inst.TheVariants as inst
 use Rattle.lh_formed.specs.Operands.{RowIs}
-use Rattle.lh_eval.specs.Holding.{Holds, datum_in, part_in, slot_at}
+use Rattle.lh_eval.specs.Holding.{Holds, datum_in, slot_at}
 use Rattle.lh_eval.specs.Fitting.{Fits}
 use Rattle.lh_eval.proofs.ValuesFit.{datum-held}
 use Rattle.lh_eval.proofs.GivesFit.{part-held}
@@ -42,10 +41,10 @@ use Rattle.lh_sound.proofs.FitLaws.{unit-is-sound, begins-fit}
 use Rattle.lh_elab.specs.declared.statics.Base.{Base}
 use Rattle.lh_elab.specs.declared.statics.Base.TheVariants as base
 use Rattle.lh_elab.specs.declared.statics.Statics.{Statics}
-use Rattle.lh_elab.specs.Statics.{By, by_of, HasSlots, args_begun, sigs_begun, no_range, base_lo, moved_slots, Follows, IsSmall, FitsSomething}
+use Rattle.lh_elab.specs.Statics.{By, by_of, HasSlots, args_begun, sigs_begun, no_range, base_lo, moved_slots, Follows, FitsSomething}
 use Rattle.lh_elab.specs.Plans.{AreWide, AreOf, SignalIs, SignalLine, PartsSmall}
 use Rattle.lh_elab.proofs.Moving.{slots-stay}
-use Rattle.lh_elab.proofs.StaticSteps.{LowRanges, nothing-small, begins-small, args-follow, signals-follow, lifted, plain}
+use Rattle.lh_elab.proofs.StaticSteps.{LowRanges, nothing-small, begins-small, args-follow, signals-follow, plain}
 
 -- where nothing is held, nothing moves
 moved-none : (args sigs : List Range) (bs : List Base) (n : ℕ) → length bs ≡ n → let none : Option Held = None in moved_slots args sigs bs (replicate n none) ≡ replicate n none
@@ -119,7 +118,7 @@ signal-types e [] = refl
 signal-types e (l ∷ ls) = type-if e l.result l.inst (signals_of e ls) (signal_types ls) (signal-types e ls)
 
 -- of an entity
-entity-types : (u : UnitText) → u.kind ≡ kind.Entity → map (λ (s : SignalText). s.ty) (hierarchy_of u).signals ≡ signal_types (lines_of u.blocks)
+pub entity-types : (u : UnitText) → u.kind ≡ kind.Entity → map (λ (s : SignalText). s.ty) (hierarchy_of u).signals ≡ signal_types (lines_of u.blocks)
 entity-types u e = ap (λ k. map (λ (s : SignalText). s.ty) (hierarchy_by k u).signals) e ∙ signal-types (static_held u [] []) (lines_of u.blocks)
 
 module _ (a : Arena) (u : ℕ) (o : IsArena a) (h : u < unit_count a) where
@@ -143,7 +142,7 @@ module _ (a : Arena) (u : ℕ) (o : IsArena a) (h : u < unit_count a) where
   parts-small s f v r l e = f.small (value_text (naming a u) v) r (sym (f.holds.each v l) ∙ part-held (slot_at s.slots v) r e)
 
   module _ (e : kind_at a u ≡ Some kind.Entity) where
-    lines : lines_of (unit_text_at a u).blocks ≡ map (inst_line (naming a u) (table_at a u)) (block_insts_at a u 0)
+    pub lines : lines_of (unit_text_at a u).blocks ≡ map (inst_line (naming a u) (table_at a u)) (block_insts_at a u 0)
     lines = entity-lines a u o h e
 
     pub insts-in : (is : List InstId) → is ≡ block_insts_at a u 0 → Each (λ (i : InstId). i.0 < inst_count a u) is

@@ -1,7 +1,7 @@
 -- The plans of units by their ids.
-use Rattle.std.proofs.Common.{◌≡◌, ℕ, zero, suc, ◌+◌, ◌<◌, List, [], ◌∷◌, ◌++◌, length, set, get_or, Option, Some, None, refl, ap, sym, ◌∙◌, subst, arith, get_or-set_same, get_or-set_other}
+use Rattle.std.proofs.Common.{◌≡◌, ℕ, zero, suc, ◌<◌, List, [], ◌∷◌, ◌++◌, length, set, get_or, Option, Some, None, refl, ap, sym, ◌∙◌, subst, get_or-set_same, get_or-set_other}
 use Rattle.std.proofs.lemmas.Option.{same_Some}
-use Rattle.lh_unit.specs.Arena.{Arena, unit_count}
+use Rattle.lh_unit.specs.Arena.{Arena}
 use Rattle.lh_unit.proofs.Lists.{Same, same, other, same_or}
 use Rattle.lh_elab.specs.declared.plan.Plan.{Plan}
 use Rattle.lh_elab.specs.Plans.{IsPlan}

@@ -1,5 +1,5 @@
 -- What an entity begins with, and one constant or operation after the other, for all its instances.
-use Rattle.std.proofs.Common.{◌≡◌, ℕ, zero, suc, ◌+◌, ◌<◌, ◌≤◌, List, [], ◌∷◌, ◌++◌, length, map, set, get_or, drop, replicate, Bool, true, false, if◌then◌else◌, Option, Some, None, refl, ap, sym, ◌∙◌, subst, add-one, drop-cons, arith, lit<}
+use Rattle.std.proofs.Common.{◌≡◌, ℕ, zero, suc, ◌+◌, ◌<◌, ◌≤◌, List, [], ◌∷◌, length, map, get_or, drop, Bool, true, false, if◌then◌else◌, Option, Some, None, refl, ap, sym, ◌∙◌, subst, add-one, drop-cons, arith, lit<}
 use Rattle.std.proofs.lemmas.List.{length-set}
 use Rattle.std.proofs.lemmas.Grind.{common_steps}
 use Rattle.lh_types.specs.Types.{TypeTree, signal_type, bit_count}
@@ -18,8 +18,8 @@ use Rattle.lh_unit.specs.Effects.{operated, signal_part, stepped, step_of}
 use Rattle.lh_unit.specs.Hierarchy.{if_held, static_of, static_from, with_parts, signal_names, name_if_signal, parts_of, lines_of, type_or_void}
 use Rattle.lh_unit.specs.Typing.{value_type, result_type, operation_type, or_else}
 use Rattle.lh_unit.specs.Naming.{arg_text, operand_text, inst_text, maybe_text, value_text}
-use Rattle.lh_unit.specs.Table.{Table, ArgsWithin, ResultWithin, line_at}
-use Rattle.lh_unit.specs.Arena.{Arena, IsArena, InstPlaced, unit_count, value_count, inst_count, naming, table_at, unit_text_at}
+use Rattle.lh_unit.specs.Table.{ArgsWithin, ResultWithin, line_at}
+use Rattle.lh_unit.specs.Arena.{Arena, IsArena, InstPlaced, unit_count, value_count, naming, table_at, unit_text_at}
 use Rattle.lh_unit.specs.ById.{inst_line}
 use Rattle.lh_unit.specs.declared.inst.Arg.{Arg}
 use Rattle.lh_unit.specs.declared.inst.InstId.{InstId}
@@ -31,7 +31,7 @@ use Rattle.lh_unit.specs.Within.{Each}
 use Rattle.lh_unit.proofs.ById.{result-within}
 use Rattle.lh_formed.specs.Operands.{RowIs}
 use Rattle.lh_formed.specs.Parts.{HasPart}
-use Rattle.lh_eval.specs.Holding.{Holds, MaybeIn, given}
+use Rattle.lh_eval.specs.Holding.{Holds, MaybeIn}
 use Rattle.lh_eval.specs.Fitting.{FitsHeld, Fits, OperandsFit}
 use Rattle.lh_sound.proofs.SlotsFit.{operation-has}
 use Rattle.lh_eval.specs.Sound.{IsSound, IsWrittenRight}

@@ -1,24 +1,17 @@
 -- A design that is being built: what is built and what is still to be visited make the design of the definition.
-use Rattle.std.proofs.Common.{◌≡◌, ℕ, zero, suc, ◌+◌, ◌*◌, ◌<◌, ◌≤◌, List, [], ◌∷◌, ◌++◌, length, map, take, get_or, sum_by, Bool, true, false, nat_lt, if◌then◌else◌, Option, Some, None, IsSome, is_some, Result, Ok, Err, refl, ap, sym, ◌∙◌, subst, arith}
-use Rattle.std.specs.Option.{option_map}
-use Rattle.std.proofs.lemmas.Grind.{common_steps}
-use Rattle.std.proofs.lemmas.List.{append_assoc, append-nil, length-append, map-append, length-map}
-use Rattle.std.proofs.lemmas.List.Sums.{sum_by-cons}
-use Rattle.lh_types.specs.Types.{TypeTree, signal_type, IsData, bit_count}
+use Rattle.std.proofs.Common.{◌≡◌, ℕ, zero, suc, ◌+◌, ◌*◌, ◌<◌, ◌≤◌, List, [], ◌∷◌, ◌++◌, length, map, take, get_or, sum_by, Option, Some, None, refl, ap, sym, ◌∙◌, subst, arith}
+use Rattle.std.proofs.lemmas.List.{length-append, map-append, length-map}
+use Rattle.lh_types.specs.Types.{IsData, bit_count}
 use Rattle.lh_types.specs.declared.part.Range.{Range}
 use Rattle.lh_unit.specs.declared.name.UnitName.{UnitName}
 use Rattle.lh_unit.specs.declared.inst.Arg.{Arg}
-use Rattle.lh_unit.specs.declared.inst.UnitKind.{UnitKind}
-use Rattle.lh_unit.specs.declared.inst.UnitKind.TheVariants as kind
-use Rattle.lh_unit.specs.Contents.{ArgText, UnitText}
-use Rattle.lh_unit.specs.Naming.{Naming, arg_text, kind_text}
-use Rattle.lh_unit.specs.Arena.{Arena, IsArena, unit_count, kind_at, args_at, naming, table_at, unit_name_at, unit_text_at, contents}
-use Rattle.lh_unit.specs.Hierarchy.{SignalText, Child, Hierarchy, hierarchy_by, hierarchy_of, Entry, hierarchies, hierarchy_named}
+use Rattle.lh_unit.specs.Naming.{Naming, arg_text}
+use Rattle.lh_unit.specs.Arena.{Arena, unit_count, args_at, naming, unit_name_at, unit_text_at}
+use Rattle.lh_unit.specs.Hierarchy.{SignalText, Child, Hierarchy, hierarchy_of, Entry}
 use Rattle.lh_unit.specs.Design as design
 use Rattle.lh_unit.specs.Design.{Design, hierarchy_in, hierarchy_or, targets, numbered, initial_bits, signal_ranges, top_signals, carried_type, only_signals, with_instance, visit, visit_all, visited, design_of, instance_count, bits_below, max_nesting, max_instances, max_bits}
 use Rattle.lh_unit.specs.Within.{Each}
 use Rattle.lh_sound.specs.Ranges.{arg_types}
-use Rattle.lh_sound.specs.Units.{IsPort}
 use Rattle.lh_sound.proofs.EachItem.{each-split}
 use Rattle.lh_unit.proofs.Lists.{Each-append}
 use Rattle.lh_elab.specs.declared.plan.PlanSignal.{PlanSignal}
@@ -31,7 +24,7 @@ use Rattle.lh_elab.specs.declared.build.Building.{Building}
 use Rattle.lh_elab.specs.declared.build.Pending.{Pending}
 use Rattle.lh_elab.specs.Statics.{base_lo, no_range}
 use Rattle.lh_elab.specs.Plans.{signal_of, child_of, low_at, LowSmall, ChildSmall, SignalFits, AreWide, AreOf, IsPlan}
-use Rattle.lh_elab.specs.Builds.{instance_text, signal_text, room_of, ranges_by, kid, kids, kids_in, AreLow, LowsFit, IsStarted, AddsSignals, Visits}
+use Rattle.lh_elab.specs.Builds.{instance_text, signal_text, room_of, ranges_by, kid, kids, kids_in, AreLow, LowsFit, Visits}
 use Rattle.lh_elab.specs.Elaborates.{TextsFill}
 use Rattle.lh_elab.proofs.Walks.{gone, unwound, unwound-append, ReadsArgs, kids-visited, left, left-append, kids-count}
 use Rattle.lh_elab.proofs.Numbering.{room-cons, initial-long}

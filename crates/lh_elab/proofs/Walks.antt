@@ -1,14 +1,13 @@
 -- What is still to be visited, as the definition visits it.
-use Rattle.std.proofs.Common.{◌≡◌, ℕ, zero, suc, ◌+◌, ◌<◌, ◌≤◌, List, [], ◌∷◌, ◌++◌, length, map, sum_by, Bool, Option, Some, None, refl, ap, sym, ◌∙◌, subst, arith}
+use Rattle.std.proofs.Common.{◌≡◌, ℕ, zero, suc, ◌+◌, ◌<◌, List, [], ◌∷◌, ◌++◌, map, sum_by, Some, refl, ap, sym, ◌∙◌, arith}
 use Rattle.std.proofs.lemmas.List.Sums.{sum_by-cons}
 use Rattle.lh_types.specs.Types.{bit_count}
 use Rattle.lh_types.specs.declared.part.Range.{Range}
 use Rattle.lh_unit.specs.declared.name.UnitName.{UnitName}
 use Rattle.lh_unit.specs.declared.inst.Arg.{Arg}
-use Rattle.lh_unit.specs.Contents.{ArgText}
 use Rattle.lh_unit.specs.Naming.{Naming, arg_text}
-use Rattle.lh_unit.specs.Arena.{Arena, IsArena, unit_count, args_at, naming, unit_name_at, contents}
-use Rattle.lh_unit.specs.Hierarchy.{Child, Hierarchy, Entry, hierarchies}
+use Rattle.lh_unit.specs.Arena.{Arena, unit_count, args_at, naming, unit_name_at}
+use Rattle.lh_unit.specs.Hierarchy.{Child, Entry}
 use Rattle.lh_unit.specs.Design.{Design, hierarchy_in, arg_ranges, visit, visit_all, visited}
 use Rattle.lh_unit.specs.Within.{Each}
 use Rattle.lh_elab.specs.declared.plan.PlanChild.{PlanChild}
@@ -29,7 +28,7 @@ pub unwound-append : (a : Arena) (table : List Entry) (ps qs : List Pending) (d 
 unwound-append a table [] qs d = refl
 unwound-append a table (p ∷ ps) qs d = ap (gone a table p) (unwound-append a table ps qs d)
 
-ranges-read : (f : Naming) (xs : List Arg) (lows : List ℕ) → arg_ranges (map (arg_text f) xs) lows ≡ ranges_by xs lows
+pub ranges-read : (f : Naming) (xs : List Arg) (lows : List ℕ) → arg_ranges (map (arg_text f) xs) lows ≡ ranges_by xs lows
 ranges-read f [] lows = refl
 ranges-read f (x ∷ xs) [] = ap (λ l. record { lo = 0; len = bit_count x.ty } ∷ l) (ranges-read f xs [])
 ranges-read f (x ∷ xs) (lo ∷ lows) = ap (λ l. record { lo = lo; len = bit_count x.ty } ∷ l) (ranges-read f xs lows)

@@ -1,18 +1,12 @@
 -- What is built of a design, and what is still to be visited.
-use Rattle.std.specs.Prelude.{◌≡◌, ℕ, zero, suc, ◌+◌, ◌<◌, List, [], ◌∷◌, ◌++◌, length, map, take, replicate, sum_by, Bool, false, Option, Some, None, slice_index_or}
+use Rattle.std.specs.Prelude.{◌≡◌, ℕ, zero, suc, ◌+◌, ◌<◌, List, [], ◌∷◌, ◌++◌, length, map, take, replicate, sum_by, false, Option, Some, None, slice_index_or}
 use Rattle.lh_types.specs.Types.{bit_count}
 use Rattle.lh_types.specs.declared.part.Range.{Range}
 use Rattle.lh_unit.specs.declared.inst.Arg.{Arg}
 use Rattle.lh_unit.specs.declared.inst.UnitId.{UnitId}
-use Rattle.lh_unit.specs.Arena.{Arena, unit_count, args_at, unit_name_at, unit_text_at}
-use Rattle.lh_unit.specs.Hierarchy as text
+use Rattle.lh_unit.specs.Arena.{Arena, args_at, unit_text_at}
 use Rattle.lh_unit.specs.Hierarchy.{SignalText}
-use Rattle.lh_unit.specs.Design as design
 use Rattle.lh_unit.specs.Design.{numbered, initial_bits, signal_ranges, top_signals}
-use Rattle.lh_unit.specs.Within.{Each}
-use Rattle.lh_eval.specs.declared.instance.Instance.{Instance}
-use Rattle.lh_design.specs.declared.Signal.{Signal}
-use Rattle.lh_design.specs.declared.Design.{Design}
 pub use Rattle.lh_design.specs.Texts.{instance_text, signal_text, design_text}
 use Rattle.lh_elab.specs.declared.plan.Low.{Low}
 use Rattle.lh_elab.specs.declared.plan.Plan.{Plan}

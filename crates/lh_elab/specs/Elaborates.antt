@@ -1,18 +1,17 @@
 -- What elaboration answers.
-use Rattle.std.specs.Prelude.{◌≡◌, ℕ, ◌+◌, List, [], ◌∷◌, length, map, Option, Some, None, Result, Ok, Err, slice_index_or}
+use Rattle.std.specs.Prelude.{◌≡◌, ℕ, ◌+◌, List, [], ◌∷◌, length, Option, Some, None, Result, Ok, Err, slice_index_or}
 use Rattle.lh_types.specs.Types.{IsData, bit_count}
 use Rattle.lh_unit.specs.Arena.{Arena, unit_count, unit_name_at, contents}
 use Rattle.lh_unit.specs.Design as design
 use Rattle.lh_unit.specs.Design.{Elaborated, refused, built, Refusal}
 pub use Rattle.lh_design.specs.Filling.{SignalsFill}
 use Rattle.lh_elab.specs.declared.fault.ElabFault.{ElabFault}
-use Rattle.lh_elab.specs.declared.fault.ElabFault.TheVariants as fault
 use Rattle.lh_design.specs.declared.Design.{Design}
 use Rattle.lh_elab.specs.declared.plan.Plan.{Plan}
 use Rattle.lh_elab.specs.declared.elaborate.Plans.{Plans}
 use Rattle.lh_elab.specs.Refusals.{refusal_text}
 use Rattle.lh_elab.specs.Plans.{IsPlan}
-use Rattle.lh_elab.specs.Builds.{signal_text, design_text}
+use Rattle.lh_elab.specs.Builds.{design_text}
 
 -- the definition refuses for this cause, if it is one
 abbrev pub RefusedFor : Option Refusal → Elaborated → Type 0

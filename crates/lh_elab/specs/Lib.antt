@@ -6,3 +6,6 @@ pub mod Statics
 pub mod Plans
 pub mod Builds
 pub mod Elaborates
+pub mod Answer
+pub mod Probed
+pub mod Climbing

@@ -16,7 +16,6 @@ use Rattle.lh_unit.specs.declared.inst.ValueId.{ValueId}
 use Rattle.lh_unit.specs.declared.inst.Typed.{Typed}
 use Rattle.lh_unit.specs.declared.inst.Inst.{Inst}
 use Rattle.lh_unit.specs.declared.inst.Inst.TheVariants as inst
-use Rattle.lh_unit.specs.declared.table.Line.{Line}
 use Rattle.lh_eval.specs.Holding.{part_in, datum_in}
 use Rattle.lh_sound.specs.Ranges.{arg_types}
 use Rattle.lh_elab.specs.declared.statics.Base.TheVariants as base

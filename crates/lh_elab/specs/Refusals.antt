@@ -1,7 +1,7 @@
 -- The refusals of a top unit of a module, with units by their ids.
-use Rattle.std.specs.Prelude.{◌≡◌, ℕ, ◌+◌, min, nat_lt, sum_by, List, Option, Some, None, Result, Ok, Err, if◌then◌else◌, ◌⊎◌}
+use Rattle.std.specs.Prelude.{◌≡◌, ℕ, ◌+◌, ◌<◌, min, nat_lt, sum_by, List, Option, Some, None, Result, Ok, Err, if◌then◌else◌, ◌⊎◌}
 use Rattle.lh_types.specs.Types.{bit_count}
-use Rattle.lh_unit.specs.Arena.{Arena, contents, unit_name_at, unit_text_at}
+use Rattle.lh_unit.specs.Arena.{Arena, contents, unit_count, unit_name_at, unit_text_at}
 use Rattle.lh_unit.specs.Hierarchy.{hierarchies, hierarchy_of}
 use Rattle.lh_unit.specs.Design.{Refusal, top_is_function, inst_cycle, too_deep, too_many_instances, too_many_bits, refusal_of, arg_bits, bits_below, max_nesting}
 use Rattle.lh_unit.specs.declared.inst.Arg.{Arg}
@@ -32,6 +32,11 @@ refusal_text a fault.TooDeep = Some too_deep
 refusal_text a fault.TooManyInstances = Some too_many_instances
 refusal_text a fault.TooManyBits = Some too_many_bits
 refusal_text a fault.OutOfMemory = None
+
+-- the unit that a refusal names is one of the module
+abbrev pub FaultWithin : Arena → ElabFault → Type 0
+FaultWithin a (fault.InstCycle v) = v.0 < unit_count a
+FaultWithin a _ = Unit {0}
 
 -- the first refusal of the unit `top`, if there is one
 abbrev pub refusal_at : Arena → (top : ℕ) → Option Refusal

@@ -1,7 +1,7 @@
 -- What the values of an entity hold without any probe, for all its instances at once: parts as if each argument and `sig` began at bit 0.
-use Rattle.std.specs.Prelude.{◌≡◌, ℕ, ◌+◌, ◌≤◌, List, [], ◌∷◌, length, map, Option, Some, None, slice_index_or, slice_set}
+use Rattle.std.specs.Prelude.{◌≡◌, ℕ, ◌+◌, ◌≤◌, List, [], ◌∷◌, length, Option, Some, slice_index_or, slice_set}
 use Rattle.std.specs.Option.{option_map}
-use Rattle.lh_types.specs.Types.{TypeTree, bit_count}
+use Rattle.lh_types.specs.Types.{bit_count}
 use Rattle.lh_types.specs.declared.part.Range.{Range}
 use Rattle.lh_unit.specs.Held.{Held, datum_held, cell_held, part_held, Env}
 use Rattle.lh_unit.specs.Hierarchy.{type_or_void}
@@ -13,7 +13,6 @@ use Rattle.lh_unit.specs.declared.inst.ValueId.{ValueId}
 use Rattle.lh_unit.specs.declared.inst.Inst.{Inst}
 use Rattle.lh_unit.specs.declared.inst.Inst.TheVariants as inst
 use Rattle.lh_unit.specs.declared.inst.Typed.{Typed}
-use Rattle.lh_unit.specs.declared.table.Line.{Line}
 use Rattle.lh_eval.specs.Holding.{Holds}
 use Rattle.lh_eval.specs.Fitting.{Fits}
 use Rattle.lh_elab.specs.declared.statics.Base.{Base}

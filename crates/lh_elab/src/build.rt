@@ -265,7 +265,7 @@ fn carried(ty: &Ty) -> Result<Ty, NoMemory>
 }
 
 /// There are fewer than 2 ^ 32 bits.
-fn few_bits(bits: &Bits)
+pub fn few_bits(bits: &Bits)
     ensures { length bits.now < 2 ^ 32 }
 {
     let _len = bits.len();
@@ -325,7 +325,8 @@ fn low_of(low: Option<Low>, args: &[Range], sigs: &[Range]) -> u32
     }
 }
 
-fn base_lo(base: Base, args: &[Range], sigs: &[Range]) -> u32
+/// The lowest bit of an argument or a `sig` of an instance.
+pub fn base_lo(base: Base, args: &[Range], sigs: &[Range]) -> u32
     ensures { result ≡ statics.base_lo args.now sigs.now base }
 {
     match base {

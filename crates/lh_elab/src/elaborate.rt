@@ -1,8 +1,10 @@
 //! Elaboration: the design of a top unit.
-ghost use Rattle.std.specs.Prelude.{◌≡◌, ◌<◌, ◌≤◌, ◌++◌, ◌∷◌, [], length, Some, None, IsSome, IfOk, OnOk, slice_index_or};
+ghost use Rattle.std.specs.Prelude.{◌≡◌, ◌<◌, ◌++◌, ◌∷◌, [], length, Some, None, IsSome, IfErr, IfOk, OnOk, slice_index_or};
 ghost use Rattle.lh_unit.specs.Arena.{IsArena, unit_count, kind_at, contents};
 ghost use Rattle.lh_unit.specs.WellFormed.{IsWellFormed};
-ghost use Rattle.lh_elab.specs.Elaborates.{Elaborates, ArePlans, SignalsFill};
+ghost use Rattle.lh_elab.specs.Elaborates.{Elaborates, ArePlans};
+ghost use Rattle.lh_elab.specs.Answer.{IsDesignOf};
+ghost use Rattle.lh_elab.specs.Refusals.{FaultWithin};
 
 use crate::build::{Building, Pending};
 use crate::plan::{Plan, plan_of};
@@ -13,7 +15,8 @@ use lh_unit::inst::UnitId;
 use lh_unit::module::Module;
 use std::alloc::Global;
 
-/// The design of a top unit of a well-formed module, or the first reason why it has none.
+/// The design of a top unit of a well-formed module, or the first reason why it has none; the unit that a cycle names is one of
+/// the module.
 ///
 /// Instances are visited depth first in text order: each takes the next number, its `sig` instructions become signals, and
 /// then the instances in it are visited. Time and memory grow as the module and as what is built.
@@ -22,8 +25,8 @@ pub fn elab(alloc: Global, m: &Module, top: UnitId) -> Result<Design, ElabFault>
     requires begun { IsSome (kind_at m.now top.0) }
     requires formed { IsWellFormed (contents m.now) }
     ensures elaborates { Elaborates m.now top.0 result }
-    ensures few { IfOk result (λ d. length d.instances.items ≤ 65536) }
-    ensures fill { IfOk result SignalsFill }
+    ensures design { IfOk result (IsDesignOf m.now) }
+    ensures placed { IfErr result (FaultWithin m.now) }
 {
     let mut plans = Plans::new(alloc, m)?;
     let bits = first_refusal(alloc, m, top)?;

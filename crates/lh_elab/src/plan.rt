@@ -107,7 +107,7 @@ fn values(alloc: Global, m: &Module, unit: UnitId, insts: &[InstId]) -> Result<S
 }
 
 /// What an entity holds without any probe, in each of its instances.
-fn parts(alloc: Global, m: &Module, unit: UnitId, insts: &[InstId]) -> Result<Statics, NoMemory>
+pub fn parts(alloc: Global, m: &Module, unit: UnitId, insts: &[InstId]) -> Result<Statics, NoMemory>
     requires unit { unit.0 < unit_count m.now }
     requires entity { kind_at m.now unit.0 ≡ Some UnitKind.Entity }
     requires arena { IsArena m.now }

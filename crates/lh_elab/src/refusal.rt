@@ -1,9 +1,9 @@
 //! The first reason why a top unit has no design. All is counted unit by unit, before anything is built.
-ghost use Rattle.std.specs.Prelude.{◌≡◌, ◌<◌, ◌+◌, ◌≤◌, min, IsSome, IfOk};
+ghost use Rattle.std.specs.Prelude.{◌≡◌, ◌<◌, ◌+◌, ◌≤◌, min, IsSome, IfErr};
 ghost use Rattle.lh_unit.specs.Arena.{IsArena, unit_count, kind_at};
 ghost use Rattle.lh_unit.specs.Named.{is_function};
 ghost use Rattle.lh_unit.specs.Naming.{kind_text};
-ghost use Rattle.lh_elab.specs.Refusals.{Refuses, MeasuresIn, arg_bits_of, limited};
+ghost use Rattle.lh_elab.specs.Refusals.{Refuses, MeasuresIn, arg_bits_of, limited, FaultWithin};
 ghost use Rattle.lh_elab.specs.Graph.{max_counted};
 
 use crate::fault::ElabFault;
@@ -20,7 +20,8 @@ use std::alloc::Global;
 pub fn first_refusal(alloc: Global, module: &Module, top: UnitId) -> Result<u32, ElabFault>
     requires unit { top.0 < unit_count module.now }
     requires begun { IsSome (kind_at module.now top.0) }
-    ensures { Refuses module.now top.0 result }
+    ensures refuses { Refuses module.now top.0 result }
+    ensures placed { IfErr result (FaultWithin module.now) }
 {
     if is_function(module.kind(top)) {
         return Err(ElabFault::TopIsFunction);
@@ -44,6 +45,7 @@ fn is_function(kind: Option<UnitKind>) -> bool
 fn measured(alloc: Global, module: &Module, top: UnitId) -> Result<Measure, ElabFault>
     requires { top.0 < unit_count module.now }
     ensures measure { MeasuresIn module.now top.0 result }
+    ensures placed { IfErr result (FaultWithin module.now) }
     ensures sound { IsArena module.now }
 {
     let nodes = graph(alloc, module)?;

@@ -1,23 +1,19 @@
 -- Where an activation begins, and what it leaves.
-use Rattle.std.proofs.Common.{◌≡◌, ℕ, ◌<◌, List, [], ◌∷◌, ◌++◌, length, map, drop, reverse, replicate, Bool, true, false, if◌then◌else◌, Option, Some, None, Ok, Err, refl, ap, sym, ◌∙◌, subst}
-use Rattle.std.specs.Option.{option_and_then, option_map}
+use Rattle.std.proofs.Common.{◌≡◌, ℕ, ◌<◌, List, [], ◌∷◌, map, reverse, replicate, Bool, true, Option, Some, None, Ok, Err, refl, ap, sym, ◌∙◌, subst}
+use Rattle.std.specs.Option.{option_and_then}
 use Rattle.std.proofs.lemmas.Option.{same_Some, none-some}
 use Rattle.lh_time.specs.declared.Instant.{Instant}
-use Rattle.lh_types.specs.Types.{TypeTree}
 use Rattle.lh_types.specs.Wish.{no_wish}
 use Rattle.lh_types.specs.declared.part.Range.{Range}
-use Rattle.lh_unit.specs.Contents.{LineText, BlockText, UnitText, wait_text}
-use Rattle.lh_unit.specs.Named.{block_of}
-use Rattle.lh_unit.specs.Activation.{Stand, is_new, waits, halted, Control, Point, ProcessState, Activated, Next, goes, ends, no_step, jumps, entered, entry, control_from, control_at, start_point, Scene, step, run, went, activate}
-use Rattle.lh_unit.specs.Arena.{Arena, IsArena, contents, naming, table_at, kind_at, args_at, blocks_at, block_insts_at, unit_count, value_count, label_count, label_name_at, value_name_at, unit_name_at, unit_text_at}
+use Rattle.lh_unit.specs.Contents.{BlockText, UnitText, wait_text}
+use Rattle.lh_unit.specs.Activation.{Stand, waits, halted, Control, Point, ProcessState, Activated, goes, no_step, jumps, entered, control_from, control_at, start_point, Scene, run, activate}
+use Rattle.lh_unit.specs.Arena.{Arena, IsArena, contents, naming, table_at, kind_at, args_at, blocks_at, block_insts_at, unit_count, value_count, label_count, label_name_at, unit_text_at}
 use Rattle.lh_unit.specs.Held.{Held, Env, part_held, nothing_held, with_args}
 use Rattle.lh_unit.specs.Table.{HasBlocks, is_block}
 use Rattle.lh_unit.specs.ById.{inst_line}
 use Rattle.lh_unit.specs.WellFormed.{IsWellFormed}
 use Rattle.lh_unit.specs.Within.{Each}
-use Rattle.lh_unit.specs.declared.inst.UnitKind.{UnitKind}
 use Rattle.lh_unit.specs.declared.inst.UnitKind.TheVariants as kind
-use Rattle.lh_unit.specs.declared.inst.BlockId.{BlockId}
 use Rattle.lh_unit.proofs.ModuleLaws.{unit-by_name}
 use Rattle.lh_eval.specs.Holding.{Holds}
 use Rattle.lh_eval.specs.Fitting.{Fits}
@@ -40,12 +36,14 @@ use Rattle.lh_exec.specs.declared.state.Pause.{Pause}
 use Rattle.lh_exec.specs.declared.state.Stand as declared
 use Rattle.lh_exec.specs.declared.state.Stand.TheVariants as stand
 use Rattle.lh_exec.specs.declared.process.Act.{Act}
-use Rattle.lh_exec.specs.Standing.{FrameIs, CallsAre, MachineIs, Leads, Ends, MaybeFrame, scene_of}
+use Rattle.lh_exec.specs.Standing.{FrameIs, CallsAre, MachineIs, Leads, Ends, MaybeFrame}
 use Rattle.lh_exec.specs.declared.process.ExecFault.TheVariants as fault
-use Rattle.lh_exec.specs.States.{begun, StandsBy, WaitsIn, SlotsFit, PauseFits, FitsBy, Gives, GivesMaybe, Answers}
-use Rattle.lh_exec.specs.Sound.{LineRight, UnitRight, PointFits, StandFits, DoneFits, BeginsAt, Finishes, stood}
-use Rattle.lh_exec.proofs.KeepsFit.{NextFits, Placed, entered-fits, entry-fits, block-has, step-fits}
-use Rattle.lh_exec.proofs.Rights.{unit-right, functions-right, label-stands, typed-value}
+use Rattle.lh_exec.specs.States.{waited_by, begun, StandsBy, PartsWithin, SlotsFit, PauseFits, FitsBy, WakesLaterBy, Gives, GivesMaybe, Answers}
+use Rattle.lh_exec.specs.Laws.{parts_of, wake_of}
+use Rattle.lh_unit.specs.World.{waited, wake_at}
+use Rattle.lh_exec.specs.Sound.{LineRight, PointFits, StandFits, BeginsAt, Finishes, stood, StandHolds, EndHolds}
+use Rattle.lh_exec.proofs.KeepsFit.{Placed, entered-fits, entry-fits, block-has}
+use Rattle.lh_exec.proofs.Rights.{unit-right, label-stands, typed-value}
 
 -- ---- the machine where an activation begins
 
@@ -121,7 +119,7 @@ module _ (a : Arena) (u : ℕ) (o : IsArena a) (h : u < unit_count a) where
 
     -- ---- what fits there
 
-    same-fits : (slots : List (Option Held)) (e : Env) → SlotsFit a u w slots → Holds a u slots e → Fits (unit_text_at a u) w e
+    pub same-fits : (slots : List (Option Held)) (e : Env) → SlotsFit a u w slots → Holds a u slots e → Fits (unit_text_at a u) w e
     same-fits slots e f d n x t p q =
         let v = typed-value a o g u h n t q in
         let there : f.env n ≡ Some x =
@@ -155,36 +153,60 @@ module _ (a : Arena) (u w : ℕ) (args : List Range) (o : IsArena a) (h : u < un
   same-unit : (m : Machine) (at : Stand) (d : Activated) → Ends a m (unit_text_at a u) at d → m.frame.unit.0 ≡ u
   same-unit m at d k = unit-by_name a m.frame.unit.0 u o k.within h (ap (λ (v : UnitText). v.name) (sym k.unit))
 
-  pub finish-gives : (m : Machine) (fl : Flow) (st : declared.Stand) (ws : List (Instant × List (ℕ × Bool))) (done : Option Activated) → stood m.frame fl ≡ Some st → writes_wish ws ≡ m.wishes → IsGrouped ws → Finishes a u w m fl done
+  pub finish-gives : (t : Instant) (m : Machine) (fl : Flow) (st : declared.Stand) (ws : List (Instant × List (ℕ × Bool))) (done : Option Activated) → stood m.frame fl ≡ Some st → writes_wish ws ≡ m.wishes → IsGrouped ws → Finishes a u w t m fl done → EndHolds (unit_text_at a u) done
       → GivesMaybe a u args w (Some (record { next = record { stand = st }; wishes = ws; outcomes = m.outcomes })) done
-  finish-gives m flow.Goes st ws done e v q k = absurd (none-some st e)
-  finish-gives m flow.Lost st ws done e v q k = absurd (none-some st e)
-  finish-gives m (flow.Waits to on) st ws None e v q k = absurd k
-  finish-gives m flow.Halts st ws None e v q k = absurd k
-  finish-gives m (flow.Waits to on) st ws (Some d) e v q k =
+  finish-gives t m flow.Goes st ws done e v q k there = absurd (none-some st e)
+  finish-gives t m flow.Lost st ws done e v q k there = absurd (none-some st e)
+  finish-gives t m (flow.Waits to on) st ws None e v q k there = absurd k
+  finish-gives t m flow.Halts st ws None e v q k there = absurd k
+  finish-gives t m (flow.Waits to on) st ws (Some d) e v q k there =
       let same = same-unit m (waits (label_name_at a m.frame.unit.0 m.frame.block.0) (label_name_at a m.frame.unit.0 to.0) on.parts on.wake) d k.1 in
       let pause : Pause = record { block = m.frame.block; to = to; slots = m.frame.slots; on = on } in
       let stands : d.state.stand ≡ waits (label_name_at a u m.frame.block.0) (label_name_at a u to.0) on.parts on.wake = k.1.stand ∙ ap (λ (x : ℕ). waits (label_name_at a x m.frame.block.0) (label_name_at a x to.0) on.parts on.wake) same in
       let holds : Holds a u m.frame.slots d.state.held = subst (λ (x : ℕ). Holds a x m.frame.slots d.state.held) same k.1.held in
-      let there : WaitsIn (unit_text_at a u) (label_name_at a u m.frame.block.0) (label_name_at a u to.0) = subst (StandFits (unit_text_at a u)) stands k.2.stand in
+      let fit : StandFits w t (unit_text_at a u) (waits (label_name_at a u m.frame.block.0) (label_name_at a u to.0) on.parts on.wake) = subst (StandFits w t (unit_text_at a u)) stands k.2.stand in
+      let held : StandHolds (unit_text_at a u) d.state.held (waits (label_name_at a u m.frame.block.0) (label_name_at a u to.0) on.parts on.wake) = subst (StandHolds (unit_text_at a u) d.state.held) stands there in
       let fits : PauseFits a u w pause = record {
         block = subst (λ (x : ℕ). m.frame.block.0 < label_count a x) same k.1.label;
         to = subst (λ (x : ℕ). to.0 < label_count a x) same k.0;
-        stands = there;
+        stands = held.0;
         held = record { env = d.state.held; holds = holds; fits = k.2.held };
+        there = held.1;
+        parts = fit.1;
       } in
       subst (λ (x : declared.Stand). Gives a u args w (record { next = record { stand = x }; wishes = ws; outcomes = m.outcomes }) d) (same_Some (stand.Waits pause) st e)
       (record { next = (stands, holds); fits = fits; wish = v ∙ k.1.wish; grouped = q; within = writes-within w ws (subst (WishWithin w) (sym (v ∙ k.1.wish)) k.2.wish); outcomes = k.1.outcomes })
-  finish-gives m flow.Halts st ws (Some d) e v q k =
+  finish-gives t m flow.Halts st ws (Some d) e v q k there =
       subst (λ (x : declared.Stand). Gives a u args w (record { next = record { stand = x }; wishes = ws; outcomes = m.outcomes }) d) (same_Some stand.Halted st e)
       (record { next = k.0.stand; fits = tt; wish = v ∙ k.0.wish; grouped = q; within = writes-within w ws (subst (WishWithin w) (sym (v ∙ k.0.wish)) k.1.wish); outcomes = k.0.outcomes })
 
-  pub finish-none : (m : Machine) (fl : Flow) (done : Option Activated) → stood m.frame fl ≡ None → Finishes a u w m fl done → GivesMaybe a u args w None done
-  finish-none m flow.Goes done e k = absurd k
-  finish-none m flow.Lost None e k = tt
-  finish-none m flow.Lost (Some d) e k = absurd k
-  finish-none m (flow.Waits to on) done e k = absurd cc
-  finish-none m flow.Halts done e k = absurd cc
+  pub finish-none : (t : Instant) (m : Machine) (fl : Flow) (done : Option Activated) → stood m.frame fl ≡ None → Finishes a u w t m fl done → GivesMaybe a u args w None done
+  finish-none t m flow.Goes done e k = absurd k
+  finish-none t m flow.Lost None e k = tt
+  finish-none t m flow.Lost (Some d) e k = absurd k
+  finish-none t m (flow.Waits to on) done e k = absurd cc
+  finish-none t m flow.Halts done e k = absurd cc
+
+-- it waits for a later instant
+pub finish-later : (a : Arena) (u w : ℕ) (t : Instant) (m : Machine) (fl : Flow) (st : declared.Stand) (done : Option Activated) → stood m.frame fl ≡ Some st → Finishes a u w t m fl done → WakesLaterBy t st
+finish-later a u w t m flow.Goes st done e k = absurd (none-some st e)
+finish-later a u w t m flow.Lost st done e k = absurd (none-some st e)
+finish-later a u w t m (flow.Waits to on) st None e k = absurd k
+finish-later a u w t m flow.Halts st done e k = subst (WakesLaterBy t) (same_Some stand.Halted st e) tt
+finish-later a u w t m (flow.Waits to on) st (Some d) e k =
+    let there : StandFits w t (unit_text_at a u) (waits (label_name_at a m.frame.unit.0 m.frame.block.0) (label_name_at a m.frame.unit.0 to.0) on.parts on.wake) = subst (StandFits w t (unit_text_at a u)) k.1.stand k.2.stand in
+    subst (WakesLaterBy t) (same_Some (stand.Waits (record { block = m.frame.block; to = to; slots = m.frame.slots; on = on })) st e) there.2
+
+-- what a state waits for is what that waits for, for which it stands
+pub waits-as-held : (a : Arena) (u : ℕ) (args : List Range) (s : declared.Stand) (p : ProcessState) → StandsBy a u args s p → (parts_of (waited_by s) ≡ waited p.stand) × (wake_of (waited_by s) ≡ wake_at p.stand)
+waits-as-held a u args stand.New p k = (ap (λ (x : ProcessState). waited x.stand) (sym k), ap (λ (x : ProcessState). wake_at x.stand) (sym k))
+waits-as-held a u args (stand.Waits x) p k = (ap waited (sym k.0), ap wake_at (sym k.0))
+waits-as-held a u args stand.Halted p k = (ap waited (sym k), ap wake_at (sym k))
+
+pub waits-within : (a : Arena) (u w : ℕ) (s : declared.Stand) → FitsBy a u w s → PartsWithin w (parts_of (waited_by s))
+waits-within a u w stand.New f = tt
+waits-within a u w (stand.Waits x) f = f.parts
+waits-within a u w stand.Halted f = tt
 
 -- ---- the whole
 

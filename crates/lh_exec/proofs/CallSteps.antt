@@ -1,8 +1,6 @@
 -- What a function holds where it is called.
-use Rattle.std.proofs.Common.{◌≡◌, ℕ, ◌<◌, List, [], ◌∷◌, length, map, set, replicate, Option, Some, None, refl, ap, sym, ◌∙◌, subst, arith}
-use Rattle.std.proofs.lemmas.List.{length-set}
+use Rattle.std.proofs.Common.{◌≡◌, ℕ, ◌<◌, List, [], ◌∷◌, length, map, set, replicate, Option, Some, None, sym, ◌∙◌, subst, arith}
 use Rattle.lh_types.specs.Values.{Datum}
-use Rattle.lh_unit.specs.Contents.{OperandText}
 use Rattle.lh_unit.specs.Activation.{called, entry}
 use Rattle.lh_unit.specs.Arena.{Arena, IsArena, naming, args_at, unit_count, value_count, unit_text_at}
 use Rattle.lh_unit.specs.Held.{Held, Env, datum_held, nothing_held, with_args, data_at}

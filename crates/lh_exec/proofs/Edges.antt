@@ -1,15 +1,15 @@
 -- Edges from block to block, by ids and by names.
-use Rattle.std.proofs.Common.{◌≡◌, ℕ, ◌<◌, zero, suc, nat_eq, ◌||◌, List, [], ◌∷◌, ◌++◌, length, map, drop, reverse, set, Bool, true, false, if◌then◌else◌, Option, Some, None, refl, ap, sym, ◌∙◌, subst, arith}
+use Rattle.std.proofs.Common.{◌≡◌, ℕ, ◌<◌, suc, nat_eq, ◌||◌, List, [], ◌∷◌, map, reverse, Bool, true, false, if◌then◌else◌, Option, Some, None, refl, ap, sym, ◌∙◌, subst, arith}
 use Rattle.std.specs.Prelude.{slice_get}
 use Rattle.std.specs.Option.{option_and_then, option_map}
 use Rattle.std.proofs.lemmas.Option.{same_Some, none-some, slice_get-get_or}
 use Rattle.lh_types.specs.Values.{Datum}
-use Rattle.lh_unit.specs.Contents.{BlockText, LineText, EdgeText, UnitText, same_name}
+use Rattle.lh_unit.specs.Contents.{BlockText, UnitText}
 use Rattle.lh_unit.specs.Named.{block_of}
-use Rattle.lh_unit.specs.Activation.{Control, Point, Next, jumps, entered, edge_from, result_put, phi_taken, phis_taken}
-use Rattle.lh_unit.specs.Arena.{Arena, IsArena, InstPlaced, naming, sizes, kind_at, table_at, blocks_at, block_insts_at, unit_count, value_count, inst_count, label_count, label_name_at, unit_text_at}
-use Rattle.lh_unit.specs.Held.{Held, Env, datum_held, datum_at, with_held}
-use Rattle.lh_unit.specs.Table.{HasBlocks, ResultWithin, is_block, line_at, no_line}
+use Rattle.lh_unit.specs.Activation.{Control, Point, jumps, entered, edge_from, result_put, phi_taken, phis_taken}
+use Rattle.lh_unit.specs.Arena.{Arena, IsArena, InstPlaced, naming, sizes, table_at, blocks_at, block_insts_at, unit_count, value_count, inst_count, label_count, label_name_at}
+use Rattle.lh_unit.specs.Held.{Held, Env, datum_held, datum_at}
+use Rattle.lh_unit.specs.Table.{ResultWithin, is_block, line_at, no_line}
 use Rattle.lh_unit.specs.ById.{inst_line}
 use Rattle.lh_unit.specs.Naming.{value_text, maybe_text, edge_text, inst_text, block_text}
 use Rattle.lh_unit.specs.Within.{Each, EdgeWithin}
@@ -19,7 +19,6 @@ use Rattle.lh_unit.specs.declared.inst.ValueId.{ValueId}
 use Rattle.lh_unit.specs.declared.inst.PhiEdge.{PhiEdge}
 use Rattle.lh_unit.specs.declared.inst.Inst.{Inst}
 use Rattle.lh_unit.specs.declared.inst.Inst.TheVariants as inst
-use Rattle.lh_unit.specs.declared.table.Line.{Line}
 use Rattle.lh_unit.proofs.Lists.{nat_eq-is}
 use Rattle.lh_unit.proofs.ById.{same_label-by_id, block_of-by_id, result-within}
 use Rattle.lh_unit.proofs.ModuleLaws.{block_insts-within}

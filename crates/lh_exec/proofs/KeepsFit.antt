@@ -1,25 +1,24 @@
 -- What fits before an instruction fits after it.
-use Rattle.std.proofs.Common.{◌≡◌, ℕ, ◌<◌, zero, suc, nat_lt, List, [], ◌∷◌, ◌++◌, length, map, Bool, true, false, if◌then◌else◌, Option, Some, None, IsSome, unwrap_or, inl, inr, ◌⊎◌, refl, ap, sym, ◌∙◌, subst, append_assoc}
+use Rattle.std.proofs.Common.{◌≡◌, ℕ, nat_lt, List, [], ◌∷◌, ◌++◌, length, map, Bool, true, false, if◌then◌else◌, Option, Some, None, IsSome, unwrap_or, inl, inr, ◌⊎◌, refl, ap, sym, ◌∙◌, subst, append_assoc}
 use Rattle.std.specs.Option.{option_and_then, option_map}
 use Rattle.std.proofs.lemmas.Option.{same_Some, none-some}
 use Rattle.lh_time.specs.declared.Instant.{Instant}
 use Rattle.lh_types.specs.Types.{TypeTree, pointer_type}
 use Rattle.lh_types.specs.Values.{Datum}
 use Rattle.lh_types.specs.Wish.{Wish}
-use Rattle.lh_types.specs.declared.part.Range.{Range}
 use Rattle.lh_unit.specs.declared.name.UnitName.{UnitName}
 use Rattle.lh_unit.specs.UnitNames.{same_unit_name}
 use Rattle.lh_unit.specs.Contents.{OperandText, EdgeText, InstText, const_text, pure_text, var_text, ld_text, st_text, sig_text, prb_text, drv_text, reg_text, child_text, call_text, phi_text, br_text, branch_text, wait_text, halt_text, ret_text, LineText, BlockText, ArgText, UnitText, ItemText, unit_text, declare_text, is_result_name, same_name}
 use Rattle.lh_unit.specs.Named.{block_of, label_or, function_named, unit_named, is_assert, is_function}
-use Rattle.lh_unit.specs.Held.{Held, datum_held, cell_held, Env, nothing_held, with_held, with_args, as_datum, as_cell, datum_at, cell_at, data_at, front, test_at, parts_at, with_result}
+use Rattle.lh_unit.specs.Held.{Held, datum_held, cell_held, Env, nothing_held, with_held, with_args, as_cell, datum_at, cell_at, data_at, front, test_at, parts_at, with_result}
 use Rattle.lh_unit.specs.Effects.{operated, probed, driven}
-use Rattle.lh_unit.specs.Typing.{value_type, result_type, pointer_to, pointed, carried, is_value_type}
-use Rattle.lh_unit.specs.Activation.{Scene, Stand, waits, halted, Control, Caller, Point, Activated, Next, goes, ends, no_step, edge_from, result_put, phi_taken, phis_taken, entered, at_first, entry, gives, jumps, wishes, tells, stores, opens, asserted, called, given_back, goes_back, returns, chosen, ends_at, wake_at, waiting, executes, steps_by, step, functions}
+use Rattle.lh_unit.specs.Typing.{value_type, result_type, pointer_to, pointed}
+use Rattle.lh_unit.specs.Activation.{Scene, Stand, halted, Control, Caller, Point, Next, goes, ends, no_step, edge_from, result_put, phi_taken, phis_taken, entered, at_first, entry, gives, jumps, wishes, tells, stores, opens, asserted, called, given_back, goes_back, returns, chosen, ends_at, wake_at, waiting, executes, steps_by, step, functions}
 use Rattle.lh_unit.specs.Within.{Each}
 use Rattle.lh_unit.proofs.Tables.{same_name-refl}
 use Rattle.lh_formed.specs.Operands.{IsOf, RowIs, ReturnIs}
 use Rattle.lh_formed.specs.Calls.{ArgumentsAre, FunctionIsRight, AssertIsRight}
-use Rattle.lh_eval.specs.Fitting.{IsValueType, FitsHeld, Fits}
+use Rattle.lh_eval.specs.Fitting.{FitsHeld, Fits}
 use Rattle.lh_eval.specs.ResultsFit.{GivenFits}
 use Rattle.lh_eval.specs.Wishing.{WishWithin}
 use Rattle.lh_eval.proofs.ValuesFit.{datum-held}
@@ -27,14 +26,14 @@ use Rattle.lh_eval.proofs.GivesFit.{constants-fit, operations-fit, probes-fit, h
 use Rattle.lh_eval.proofs.Wishing.{driven-within}
 use Rattle.lh_sound.specs.Units.{HasItsType}
 use Rattle.lh_sound.proofs.EachItem.{each-split}
-use Rattle.lh_exec.specs.States.{WaitsIn}
 use Rattle.lh_exec.specs.Sound.{LineRight, UnitRight, FunctionsRight, ControlFits, GivesResult, ResultFits, CallersFit, lowest, PointFits, StandFits, DoneFits}
+use Rattle.lh_exec.proofs.Waiting.{waiting-fits}
 
 -- what an instruction of the unit v leads to fits; an activation ends in the unit in which it began
-abbrev pub NextFits : List ItemText → (width : ℕ) → (began at : UnitText) → Next → Type 0
-NextFits items w u v (goes p) = PointFits items w u p
-NextFits items w u v (ends d) = DoneFits w u d × (v ≡ u)
-NextFits items w u v no_step = Unit {0}
+abbrev pub NextFits : List ItemText → (width : ℕ) → Instant → (began at : UnitText) → Next → Type 0
+NextFits items w t u v (goes p) = PointFits items w u p
+NextFits items w t u v (ends d) = DoneFits w t u d × (v ≡ u)
+NextFits items w t u v no_step = Unit {0}
 
 -- ---- names
 
@@ -210,44 +209,45 @@ module _ (items : List ItemText) (w : ℕ) where
     holds-more : (e : Env) → Fits p.control.unit w e → PointFits items w u (record p { control = record p.control { held = e } })
     holds-more e k = goes-in (record p.control { held = e }) (record { right = f.control.right; text = f.control.text; block = f.control.block; before = f.control.before; split = f.control.split; fits = k }, refl)
 
-    gives-fit : (r : Option (List ℕ)) (h : Option Held) → ((n : List ℕ) → r ≡ Some n → GivenFits w h (value_type p.control.unit n)) → NextFits items w u p.control.unit (gives p r h)
+  module _ (time : Instant) (u : UnitText) (p : Point) (f : PointFits items w u p) where
+    gives-fit : (r : Option (List ℕ)) (h : Option Held) → ((n : List ℕ) → r ≡ Some n → GivenFits w h (value_type p.control.unit n)) → NextFits items w time u p.control.unit (gives p r h)
     gives-fit r None g = tt
-    gives-fit r (Some h) g = holds-more (with_result p.control.held r h) (held-still-fits p.control.unit w p.control.held r (Some h) f.control.fits g)
+    gives-fit r (Some h) g = holds-more u p f (with_result p.control.held r h) (held-still-fits p.control.unit w p.control.held r (Some h) f.control.fits g)
 
-    jumps-fit : (o : Option Control) → ((c : Control) → o ≡ Some c → Placed p.control.unit c) → NextFits items w u p.control.unit (jumps p o)
+    jumps-fit : (o : Option Control) → ((c : Control) → o ≡ Some c → Placed p.control.unit c) → NextFits items w time u p.control.unit (jumps p o)
     jumps-fit None g = tt
-    jumps-fit (Some c) g = goes-in c (g c refl)
+    jumps-fit (Some c) g = goes-in u p f c (g c refl)
 
-    enters-fit : (to : List ℕ) → NextFits items w u p.control.unit (jumps p (entered p.control.unit p.control.held p.control.block to))
+    enters-fit : (to : List ℕ) → NextFits items w time u p.control.unit (jumps p (entered p.control.unit p.control.held p.control.block to))
     enters-fit to = jumps-fit (entered p.control.unit p.control.held p.control.block to) (λ c. entered-fits p.control.unit p.control.held p.control.block to c f.control.right f.control.fits)
 
-    branch-fits : (o : Option (List ℕ)) → NextFits items w u p.control.unit (jumps p (option_and_then (entered p.control.unit p.control.held p.control.block) o))
+    branch-fits : (o : Option (List ℕ)) → NextFits items w time u p.control.unit (jumps p (option_and_then (entered p.control.unit p.control.held p.control.block) o))
     branch-fits None = tt
     branch-fits (Some to) = enters-fit to
 
-    wishes-fit : (o : Option Wish) → WishWithin w (unwrap_or o p.wish) → NextFits items w u p.control.unit (wishes p o)
+    wishes-fit : (o : Option Wish) → WishWithin w (unwrap_or o p.wish) → NextFits items w time u p.control.unit (wishes p o)
     wishes-fit None k = tt
     wishes-fit (Some x) k = record { control = f.control; callers = f.callers; began = f.began; wish = k }
 
-    tells-fit : (o : Option Bool) → NextFits items w u p.control.unit (tells p o)
+    tells-fit : (o : Option Bool) → NextFits items w time u p.control.unit (tells p o)
     tells-fit None = tt
     tells-fit (Some b) = record { control = f.control; callers = f.callers; began = f.began; wish = f.wish }
 
-    stores-fit : (to value : List ℕ) (t : TypeTree) → IsOf p.control.unit (pointer_type t) to → IsOf p.control.unit t value → NextFits items w u p.control.unit (stores p to (cell_at p.control.held to) (datum_at p.control.held value))
+    stores-fit : (to value : List ℕ) (t : TypeTree) → IsOf p.control.unit (pointer_type t) to → IsOf p.control.unit t value → NextFits items w time u p.control.unit (stores p to (cell_at p.control.held to) (datum_at p.control.held value))
     stores-fit to value t a b = by (cell_at p.control.held to) (datum_at p.control.held value) refl
       where
-        by : (x y : Option Datum) → datum_at p.control.held value ≡ y → NextFits items w u p.control.unit (stores p to x y)
+        by : (x y : Option Datum) → datum_at p.control.held value ≡ y → NextFits items w time u p.control.unit (stores p to x y)
         by None y e = tt
         by (Some x) None e = tt
         by (Some x) (Some d) e =
             let k : FitsHeld w (cell_held d) (pointer_type t) = datum-fits p.control.unit w p.control.held f.control.fits value d t e b in
-            holds-more (with_held p.control.held to (cell_held d)) (held-still-fits p.control.unit w p.control.held (Some to) (Some (cell_held d)) f.control.fits (λ n m y s h c. as-held w (cell_held d) y (pointer_type t) s k h (sym a ∙ ap (value_type p.control.unit) (same_Some to n m) ∙ c)))
+            holds-more u p f (with_held p.control.held to (cell_held d)) (held-still-fits p.control.unit w p.control.held (Some to) (Some (cell_held d)) f.control.fits (λ n m y s h c. as-held w (cell_held d) y (pointer_type t) s k h (sym a ∙ ap (value_type p.control.unit) (same_Some to n m) ∙ c)))
 
-    opens-fit : (r : Option (List ℕ)) (o : Option Control) → ((c : Control) → o ≡ Some c → ControlFits items w c × ResultFits c.unit (record { control = p.control; result = r })) → NextFits items w u p.control.unit (opens p r o)
+    opens-fit : (r : Option (List ℕ)) (o : Option Control) → ((c : Control) → o ≡ Some c → ControlFits items w c × ResultFits c.unit (record { control = p.control; result = r })) → NextFits items w time u p.control.unit (opens p r o)
     opens-fit r None g = tt
     opens-fit r (Some c) g = by (nat_lt (length p.callers) 256)
       where
-        by : (b : Bool) → NextFits items w u p.control.unit (if b then goes (record p { control = c; callers = record { control = p.control; result = r } ∷ p.callers }) else no_step)
+        by : (b : Bool) → NextFits items w time u p.control.unit (if b then goes (record p { control = c; callers = record { control = p.control; result = r } ∷ p.callers }) else no_step)
         by false = tt
         by true = let k = g c refl in record { control = k.0; callers = (f.control, k.1, f.callers); began = f.began; wish = f.wish }
 
@@ -269,29 +269,29 @@ module _ (items : List ItemText) (w : ℕ) where
         by None e r i = absurd cc
         by (Some t) e r i = as-held w (datum_held d) y t s (datum-fits p.control.unit w p.control.held f.control.fits a.value d t h r.1.1) q (sym (g n t m e) ∙ z)
 
-    returns-fit : (o : Option OperandText) → ReturnIs p.control.unit p.control.unit.result o → ((c : Caller) (more : List Caller) → p.callers ≡ c ∷ more → IsSome p.control.unit.result) → NextFits items w u p.control.unit (returns p o p.callers)
+    returns-fit : (o : Option OperandText) → ReturnIs p.control.unit p.control.unit.result o → ((c : Caller) (more : List Caller) → p.callers ≡ c ∷ more → IsSome p.control.unit.result) → NextFits items w time u p.control.unit (returns p o p.callers)
     returns-fit o row some = by p.callers refl
       where
-        with_value : (c : Caller) (more : List Caller) → p.callers ≡ c ∷ more → (a : OperandText) → ReturnIs p.control.unit p.control.unit.result (Some a) → (v : Option Datum) → datum_at p.control.held a.value ≡ v → NextFits items w u p.control.unit (goes_back p c more (option_map (λ x. with_result c.control.held c.result (datum_held x)) v))
+        with_value : (c : Caller) (more : List Caller) → p.callers ≡ c ∷ more → (a : OperandText) → ReturnIs p.control.unit p.control.unit.result (Some a) → (v : Option Datum) → datum_at p.control.held a.value ≡ v → NextFits items w time u p.control.unit (goes_back p c more (option_map (λ x. with_result c.control.held c.result (datum_held x)) v))
         with_value c more q a r None h = tt
         with_value c more q a r (Some d) h =
             let cs = subst (CallersFit items w p.control.unit) q f.callers in
             back-fits (Some a) c more (with_result c.control.held c.result (datum_held d)) q (held-still-fits c.control.unit w c.control.held c.result (Some (datum_held d)) cs.0.fits (λ n m. returned-fits a c r (some c more q) cs.1.1 n m d h))
 
-        goes-back : (c : Caller) (more : List Caller) → p.callers ≡ c ∷ more → (x : Option OperandText) → ReturnIs p.control.unit p.control.unit.result x → NextFits items w u p.control.unit (goes_back p c more (given_back p.control.held x c))
+        goes-back : (c : Caller) (more : List Caller) → p.callers ≡ c ∷ more → (x : Option OperandText) → ReturnIs p.control.unit p.control.unit.result x → NextFits items w time u p.control.unit (goes_back p c more (given_back p.control.held x c))
         goes-back c more q None r = back-fits None c more c.control.held q (subst (CallersFit items w p.control.unit) q f.callers).0.fits
         goes-back c more q (Some a) r = with_value c more q a r (datum_at p.control.held a.value) refl
 
-        by : (cs : List Caller) → p.callers ≡ cs → NextFits items w u p.control.unit (returns p o cs)
+        by : (cs : List Caller) → p.callers ≡ cs → NextFits items w time u p.control.unit (returns p o cs)
         by [] q = tt
         by (c ∷ more) q = goes-back c more q o row
 
-    ends-fit : (o : Option Stand) → ((s : Stand) → o ≡ Some s → StandFits p.control.unit s) → NextFits items w u p.control.unit (ends_at p p.callers o)
+    ends-fit : (o : Option Stand) → ((s : Stand) → o ≡ Some s → StandFits w time p.control.unit s) → NextFits items w time u p.control.unit (ends_at p p.callers o)
     ends-fit o g = by p.callers f.began o g
       where
-        by : (cs : List Caller) → lowest p.control cs ≡ u → (x : Option Stand) → ((s : Stand) → x ≡ Some s → StandFits p.control.unit s) → NextFits items w u p.control.unit (ends_at p cs x)
+        by : (cs : List Caller) → lowest p.control cs ≡ u → (x : Option Stand) → ((s : Stand) → x ≡ Some s → StandFits w time p.control.unit s) → NextFits items w time u p.control.unit (ends_at p cs x)
         by [] b None k = tt
-        by [] b (Some s) k = (record { stand = subst (λ (v : UnitText). StandFits v s) b (k s refl); held = subst (λ (v : UnitText). Fits v w p.control.held) b f.control.fits; wish = f.wish }, b)
+        by [] b (Some s) k = (record { stand = subst (λ (v : UnitText). StandFits w time v s) b (k s refl); held = subst (λ (v : UnitText). Fits v w p.control.held) b f.control.fits; wish = f.wish }, b)
         by (c ∷ cs) b None k = tt
         by (c ∷ cs) b (Some s) k = tt
 
@@ -326,13 +326,8 @@ past-of items w u p l rest f e =
       some = λ c more q. (subst (CallersFit items w p.control.unit) q f.callers).1.0;
     }
 
-waiting-fits : (v : UnitText) (block to : List ℕ) (on : Option (List Range)) (wake : Option (Option Instant)) (x : Stand) → WaitsIn v block to → waiting block to on wake ≡ Some x → StandFits v x
-waiting-fits v block to None wake x k h = absurd (none-some x h)
-waiting-fits v block to (Some on) None x k h = absurd (none-some x h)
-waiting-fits v block to (Some on) (Some wake) x k h = subst (StandFits v) (same_Some (waits block to on wake) x h) k
-
-halted-fits : (v : UnitText) (x : Stand) → Some halted ≡ Some x → StandFits v x
-halted-fits v x h = subst (StandFits v) (same_Some halted x h) tt
+halted-fits : (w : ℕ) (t : Instant) (v : UnitText) (x : Stand) → Some halted ≡ Some x → StandFits w t v x
+halted-fits w t v x h = subst (StandFits w t v) (same_Some halted x h) tt
 
 module _ (items : List ItemText) (now : List Bool) (t : Instant) (fs : FunctionsRight items) (u : UnitText) where
   abbrev s : Scene
@@ -341,51 +336,51 @@ module _ (items : List ItemText) (now : List Bool) (t : Instant) (fs : Functions
   -- a call, or an assertion
   call-fits : (p : Point) (f : UnitName) (ty : TypeTree) (os : List OperandText) (r : Option (List ℕ)) → PointFits items (length now) u p → ((n : List ℕ) → r ≡ Some n → value_type p.control.unit n ≡ Some ty)
       → ((is_assert f ≡ true) × AssertIsRight p.control.unit ty os) ⊎ ((is_assert f ≡ false) × FunctionIsRight items p.control.unit f ty os)
-      → NextFits items (length now) u p.control.unit (executes s (call_text f ty os) r p)
+      → NextFits items (length now) t u p.control.unit (executes s (call_text f ty os) r p)
   call-fits p f ty os r k g (inl a) =
-      subst (λ (b : Bool). NextFits items (length now) u p.control.unit (if b then tells p (asserted p.control.held os) else opens p r (called (function_named f (functions items)) (data_at p.control.held os)))) (sym a.0)
-      (tells-fit items (length now) u p k (asserted p.control.held os))
+      subst (λ (b : Bool). NextFits items (length now) t u p.control.unit (if b then tells p (asserted p.control.held os) else opens p r (called (function_named f (functions items)) (data_at p.control.held os)))) (sym a.0)
+      (tells-fit items (length now) t u p k (asserted p.control.held os))
   call-fits p f ty os r k g (inr a) =
       let named : function_named f (functions items) ≡ Some a.1.of = function-is f items a.1.of a.1.named a.1.function in
       let right = fs f a.1.of named in
-      let opened : NextFits items (length now) u p.control.unit (opens p r (called (Some a.1.of) (data_at p.control.held os))) =
-      opens-fit items (length now) u p k r (called (Some a.1.of) (data_at p.control.held os))
+      let opened : NextFits items (length now) t u p.control.unit (opens p r (called (Some a.1.of) (data_at p.control.held os))) =
+      opens-fit items (length now) t u p k r (called (Some a.1.of) (data_at p.control.held os))
       (λ c e.
       let z = called-fits items (length now) p.control.unit a.1.of p.control.held os c right.0 k.control.fits a.1.args_are e in
       (z.0, (subst (λ (v : UnitText). IsSome v.result) (sym z.1) right.1, λ n y q h. g n q ∙ ap Some (a.1.gives y (sym (ap (λ (v : UnitText). v.result) z.1) ∙ h))))) in
-      subst (λ (b : Bool). NextFits items (length now) u p.control.unit (if b then tells p (asserted p.control.held os) else opens p r (called (function_named f (functions items)) (data_at p.control.held os)))) (sym a.0)
-      (subst (λ (o : Option UnitText). NextFits items (length now) u p.control.unit (opens p r (called o (data_at p.control.held os)))) (sym named) opened)
+      subst (λ (b : Bool). NextFits items (length now) t u p.control.unit (if b then tells p (asserted p.control.held os) else opens p r (called (function_named f (functions items)) (data_at p.control.held os)))) (sym a.0)
+      (subst (λ (o : Option UnitText). NextFits items (length now) t u p.control.unit (opens p r (called o (data_at p.control.held os)))) (sym named) opened)
 
-  exec-fits : (i : InstText) (r : Option (List ℕ)) (p : Point) → Past items (length now) u (record { result = r; inst = i }) p → NextFits items (length now) u p.control.unit (executes s i r p)
-  exec-fits (const_text d) r p k = gives-fit items (length now) u p k.fits r (Some (datum_held d)) (λ n e x y g q. constants-fit (length now) d k.right.sound.written x y g (sym (k.right.sound.gives n e) ∙ q))
+  exec-fits : (i : InstText) (r : Option (List ℕ)) (p : Point) → Past items (length now) u (record { result = r; inst = i }) p → NextFits items (length now) t u p.control.unit (executes s i r p)
+  exec-fits (const_text d) r p k = gives-fit items (length now) t u p k.fits r (Some (datum_held d)) (λ n e x y g q. constants-fit (length now) d k.right.sound.written x y g (sym (k.right.sound.gives n e) ∙ q))
   exec-fits (pure_text o os) r p k =
-      gives-fit items (length now) u p k.fits r (operated p.control.unit p.control.held o os)
+      gives-fit items (length now) t u p k.fits r (operated p.control.unit p.control.held o os)
       (λ n e x y g q. operations-fit p.control.unit (length now) p.control.held o os k.fits.control.fits k.right.sound.row k.right.sound.part k.right.sound.written x y g (sym (k.right.sound.gives n e) ∙ q))
-  exec-fits (var_text a) r p k = gives-fit items (length now) u p k.fits r (option_map cell_held (datum_at p.control.held a.value)) (λ n e. new-cell-fits p.control.unit (length now) p.control.held k.fits.control.fits a (value_type p.control.unit n) k.right.sound.row (k.right.sound.gives n e))
-  exec-fits (ld_text a) r p k = gives-fit items (length now) u p k.fits r (option_map datum_held (cell_at p.control.held a.value)) (λ n e. stored-fits p.control.unit (length now) p.control.held k.fits.control.fits a (value_type p.control.unit n) k.right.sound.row (k.right.sound.gives n e))
-  exec-fits (st_text to value) r p k = stores-fit items (length now) u p k.fits to.value value k.right.sound.row.0 k.right.sound.row.1.1 k.right.sound.row.2
-  exec-fits (prb_text a) r p k = gives-fit items (length now) u p k.fits r (probed now p.control.held a) (λ n e x y g q. probes-fit p.control.unit now p.control.held a k.fits.control.fits k.right.sound.row x y g (sym (k.right.sound.gives n e) ∙ q))
+  exec-fits (var_text a) r p k = gives-fit items (length now) t u p k.fits r (option_map cell_held (datum_at p.control.held a.value)) (λ n e. new-cell-fits p.control.unit (length now) p.control.held k.fits.control.fits a (value_type p.control.unit n) k.right.sound.row (k.right.sound.gives n e))
+  exec-fits (ld_text a) r p k = gives-fit items (length now) t u p k.fits r (option_map datum_held (cell_at p.control.held a.value)) (λ n e. stored-fits p.control.unit (length now) p.control.held k.fits.control.fits a (value_type p.control.unit n) k.right.sound.row (k.right.sound.gives n e))
+  exec-fits (st_text to value) r p k = stores-fit items (length now) t u p k.fits to.value value k.right.sound.row.0 k.right.sound.row.1.1 k.right.sound.row.2
+  exec-fits (prb_text a) r p k = gives-fit items (length now) t u p k.fits r (probed now p.control.held a) (λ n e x y g q. probes-fit p.control.unit now p.control.held a k.fits.control.fits k.right.sound.row x y g (sym (k.right.sound.gives n e) ∙ q))
   exec-fits (drv_text to value after cond) r p k =
-      wishes-fit items (length now) u p k.fits (driven t p.control.held p.wish to value after cond)
+      wishes-fit items (length now) t u p k.fits (driven t p.control.held p.wish to value after cond)
       (driven-within p.control.unit (length now) p.control.held t p.wish to value after cond k.fits.control.fits k.right.sound.row k.fits.wish)
   exec-fits (call_text f ty os) r p k = call-fits p f ty os r k.fits k.right.sound.gives k.right.named
   exec-fits (phi_text ty es) r p k = k.fits
-  exec-fits (br_text to) r p k = enters-fit items (length now) u p k.fits to
-  exec-fits (branch_text cond first second) r p k = branch-fits items (length now) u p k.fits (chosen (test_at p.control.held cond) first second)
+  exec-fits (br_text to) r p k = enters-fit items (length now) t u p k.fits to
+  exec-fits (branch_text cond first second) r p k = branch-fits items (length now) t u p k.fits (chosen (test_at p.control.held cond) first second)
   exec-fits (wait_text to after on) r p k =
-      ends-fit items (length now) u p k.fits (waiting p.control.block to (parts_at p.control.held on) (wake_at t p.control.held after))
-      (λ x. waiting-fits p.control.unit p.control.block to (parts_at p.control.held on) (wake_at t p.control.held after) x
+      ends-fit items (length now) t u p k.fits (waiting p.control.block to (parts_at p.control.held on) (wake_at t p.control.held after))
+      (λ x. waiting-fits (length now) t p.control.unit p.control.held k.fits.control.fits p.control.block to after on x k.right.kinds
       (record { text = k.text; stands = k.block; before = k.before; after = k.after; name = r; delay = after; signals = on; split = k.split }))
-  exec-fits halt_text r p k = ends-fit items (length now) u p k.fits (Some halted) (halted-fits p.control.unit)
-  exec-fits (ret_text o) r p k = returns-fit items (length now) u p k.fits o k.right.sound.row k.some
+  exec-fits halt_text r p k = ends-fit items (length now) t u p k.fits (Some halted) (halted-fits (length now) t p.control.unit)
+  exec-fits (ret_text o) r p k = returns-fit items (length now) t u p k.fits o k.right.sound.row k.some
   exec-fits (sig_text a) r p k = tt
   exec-fits (reg_text to gs) r p k = tt
   exec-fits (child_text v is os) r p k = tt
 
   -- what fits before the next instruction fits after it
-  pub step-fits : (p : Point) → PointFits items (length now) u p → NextFits items (length now) u p.control.unit (step s p)
+  pub step-fits : (p : Point) → PointFits items (length now) u p → NextFits items (length now) t u p.control.unit (step s p)
   step-fits p f = by p.control.rest refl
     where
-      by : (ls : List LineText) → p.control.rest ≡ ls → NextFits items (length now) u p.control.unit (steps_by s p ls)
+      by : (ls : List LineText) → p.control.rest ≡ ls → NextFits items (length now) t u p.control.unit (steps_by s p ls)
       by [] e = tt
       by (l ∷ rest) e = exec-fits l.inst l.result (record p { control = record p.control { rest = rest } }) (past-of items (length now) u p l rest f e)

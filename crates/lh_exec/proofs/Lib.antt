@@ -1,7 +1,16 @@
+pub mod Heads
+pub mod Waiting
 pub mod KeepsFit
 pub mod Steps
 pub mod Edges
 pub mod Rights
+pub mod Placed
+pub mod Paths
+pub mod Steady
+pub mod Finds
+pub mod KeepsHeld
+pub mod Reached
+pub mod BeginsHeld
 pub mod Begins
 pub mod Running
 pub mod Lists

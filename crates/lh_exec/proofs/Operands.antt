@@ -1,19 +1,19 @@
 -- What an instruction asks of its operands is there, where what is held fits.
-use Rattle.std.proofs.Common.{◌≡◌, ℕ, ◌<◌, ◌^◌, List, [], ◌∷◌, length, map, Bool, true, false, Option, Some, None, Result, IfOk, IfSome, if◌then◌else◌, inl, inr, ◌⊎◌, refl, ap, sym, ◌∙◌, subst, arith}
+use Rattle.std.proofs.Common.{◌≡◌, ℕ, ◌<◌, ◌^◌, List, [], ◌∷◌, length, map, Bool, true, false, Option, Some, None, Result, IfOk, IfSome, if◌then◌else◌, inl, inr, ◌⊎◌, ap, sym, ◌∙◌, subst, arith}
 use Rattle.std.specs.Option.{option_map}
 use Rattle.lh_time.specs.declared.Instant.{Instant}
 use Rattle.lh_types.specs.Types.{TypeTree}
 use Rattle.lh_types.specs.declared.op.Op.{Op}
 use Rattle.lh_types.specs.declared.ty.NoMemory.{NoMemory}
-use Rattle.lh_unit.specs.Contents.{UnitText, LineText}
+use Rattle.lh_unit.specs.Contents.{UnitText}
 use Rattle.lh_unit.specs.Named.{is_assert, function_named}
 use Rattle.lh_unit.specs.Activation.{Scene, executes, tells, opens, asserted, called, returns, functions}
-use Rattle.lh_unit.specs.Arena.{Arena, IsArena, InstPlaced, contents, naming, sizes, kind_at, blocks_at, unit_count, value_count, label_count, unit_name_at, unit_text_at}
-use Rattle.lh_unit.specs.Held.{Held, data_at}
+use Rattle.lh_unit.specs.Arena.{Arena, InstPlaced, contents, naming, sizes, kind_at, blocks_at, unit_count, value_count, unit_name_at, unit_text_at}
+use Rattle.lh_unit.specs.Held.{data_at}
 use Rattle.lh_unit.specs.Naming.{Naming, inst_text, maybe_text, operand_text}
 use Rattle.lh_unit.specs.Table.{HasBlocks, is_block}
 use Rattle.lh_unit.specs.WellFormed.{IsWellFormed}
-use Rattle.lh_unit.specs.Within.{Each, OperandWithin, ValueWithin, MaybeWithin, InstWithin}
+use Rattle.lh_unit.specs.Within.{Each, OperandWithin, ValueWithin, MaybeWithin}
 use Rattle.lh_unit.specs.declared.inst.UnitId.{UnitId}
 use Rattle.lh_unit.specs.declared.inst.BlockId.{BlockId}
 use Rattle.lh_unit.specs.declared.inst.ValueId.{ValueId}

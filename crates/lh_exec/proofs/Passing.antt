@@ -1,14 +1,12 @@
 -- Past the instruction that comes next.
 use Rattle.std.proofs.Common.{◌≡◌, ℕ, zero, suc, ◌+◌, ◌<◌, ◌≤◌, List, [], ◌∷◌, length, map, drop, get_or, Option, Result, IfOk, refl, ap, sym, ◌∙◌, subst, add-one, drop-cons, arith}
-use Rattle.lh_time.specs.declared.Instant.{Instant}
 use Rattle.lh_types.specs.declared.ty.NoMemory.{NoMemory}
 use Rattle.lh_unit.specs.Contents.{LineText, UnitText}
-use Rattle.lh_unit.specs.Activation.{Scene, Point, Next, no_step, executes, steps_by, step}
+use Rattle.lh_unit.specs.Activation.{Scene, Point, executes, steps_by, step}
 use Rattle.lh_unit.specs.Arena.{Arena, IsArena, contents, naming, table_at, block_insts_at, unit_text_at, inst_count, value_count, result_at, inst_at, unit_count}
 use Rattle.lh_unit.specs.ById.{inst_line}
 use Rattle.lh_unit.specs.Held.{Held}
 use Rattle.lh_unit.specs.Naming.{inst_text, maybe_text}
-use Rattle.lh_unit.specs.Table.{ResultWithin}
 use Rattle.lh_unit.specs.Within.{Each}
 use Rattle.lh_unit.specs.declared.inst.InstId.{InstId}
 use Rattle.lh_unit.specs.declared.inst.ValueId.{ValueId}
@@ -20,7 +18,7 @@ use Rattle.lh_exec.specs.declared.machine.Machine.{Machine}
 use Rattle.lh_exec.specs.declared.machine.Flow.{Flow}
 use Rattle.lh_exec.specs.declared.machine.Flow.TheVariants as flow
 use Rattle.lh_exec.specs.Standing.{MachineIs, Leads}
-use Rattle.lh_exec.specs.Sound.{LineRight, IsFit, PointFits}
+use Rattle.lh_exec.specs.Sound.{LineRight, IsFit}
 use Rattle.lh_exec.proofs.KeepsFit.{past-of}
 use Rattle.lh_exec.proofs.Edges.{insts-within}
 use Rattle.lh_exec.proofs.Lists.{drop-end}

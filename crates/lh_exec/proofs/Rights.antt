@@ -1,19 +1,18 @@
 -- The units of a well-formed module are right.
-use Rattle.std.proofs.Common.{◌≡◌, ℕ, ◌+◌, ◌<◌, zero, suc, List, [], ◌∷◌, ◌++◌, length, map, Bool, true, false, if◌then◌else◌, nat_eq, Option, Some, None, IsSome, is_some, inl, inr, ◌⊎◌, refl, ap, sym, ◌∙◌, subst}
+use Rattle.std.proofs.Common.{◌≡◌, ℕ, ◌<◌, suc, List, [], ◌∷◌, ◌++◌, map, Bool, true, false, ◌||◌, if◌then◌else◌, Option, Some, None, IsSome, is_some, refl, ap, sym, ◌∙◌, subst}
 use Rattle.std.specs.Prelude.{slice_get}
 use Rattle.std.specs.Option.{option_and_then, option_map}
-use Rattle.std.specs.List.{Contains}
 use Rattle.std.proofs.lemmas.Option.{same_Some, none-some}
 use Rattle.lh_types.specs.Types.{TypeTree}
 use Rattle.lh_unit.specs.declared.name.UnitName.{UnitName}
 use Rattle.lh_unit.specs.UnitNames.{same_unit_name}
-use Rattle.lh_unit.specs.Contents.{InstText, LineText, BlockText, ArgText, UnitText, ItemText, unit_text, declare_text, is_result_name, same_name}
-use Rattle.lh_unit.specs.Named.{block_of, label_or, function_named, unit_named, is_function}
+use Rattle.lh_unit.specs.Contents.{InstText, LineText, BlockText, ArgText, UnitText, ItemText, unit_text, declare_text, is_result_name, same_name, args_define, lines_define, blocks_define, defines_value}
+use Rattle.lh_unit.specs.Named.{label_or, function_named, unit_named, is_function}
 use Rattle.lh_unit.specs.Activation.{functions}
 use Rattle.lh_unit.specs.Arena.{Arena, IsArena, contents, item_text_at, unit_text_at, kind_at, table_at, naming, blocks_at, unit_count, value_count, label_count, label_name_at, value_name_at, unit_name_at}
 use Rattle.lh_unit.specs.Hierarchy.{lines_of}
-use Rattle.lh_unit.specs.Naming.{block_text, kind_text, label_text, arg_text, line_text, maybe_text}
-use Rattle.lh_unit.specs.Places.{Place, places}
+use Rattle.lh_unit.specs.Naming.{block_text, kind_text, arg_text, line_text, maybe_text}
+use Rattle.lh_unit.specs.Places.{places}
 use Rattle.lh_unit.specs.Table.{HasBlocks, FitsKind, ArgsWithin, ResultsWithin, ResultWithin, is_block, flat}
 use Rattle.lh_unit.specs.Typing.{or_else, arg_named, line_giving, inst_giving, result_type, value_type}
 use Rattle.lh_unit.specs.WellFormed.{Site, sites, labels_named, IsFaultless, IsWellFormed}
@@ -27,24 +26,26 @@ use Rattle.lh_unit.specs.declared.inst.UnitKind.TheVariants as kind
 use Rattle.lh_unit.specs.declared.inst.Item.{Item}
 use Rattle.lh_unit.specs.declared.inst.Item.TheVariants as item
 use Rattle.lh_unit.specs.declared.table.Line.{Line}
-use Rattle.lh_unit.proofs.Lists.{Each-append}
 use Rattle.lh_unit.proofs.Tables.{same_name-is}
 use Rattle.lh_unit.proofs.Defined.{label_text-named, flat_lines}
 use Rattle.lh_unit.proofs.ById.{block_of-by_id, unit_named-by_id}
-use Rattle.lh_formed.specs.Calls.{NamedIsRight, FunctionIsRight}
+use Rattle.lh_formed.specs.Calls.{NamedIsRight}
 use Rattle.lh_formed.proofs.Sound.{site_in}
 use Rattle.lh_formed.proofs.CallsLaw.{calls_are_right}
 use Rattle.lh_formed.proofs.ShapeLaw.{labels_are_blocks}
+use Rattle.lh_formed.specs.KindsOf.{ArgsHaveKinds, HasTypeOfKind}
+use Rattle.lh_formed.proofs.KindsLaw.{operands_have_types}
+use Rattle.lh_unit.specs.Kinds.{uses}
 use Rattle.lh_eval.specs.Sound.{IsSound}
-use Rattle.lh_sound.specs.Units.{UnitIsSound}
 use Rattle.lh_sound.proofs.EachItem.{each-split, each-of-map, each-contained}
 use Rattle.lh_sound.proofs.SoundLines.{lines-from}
 use Rattle.lh_sound.proofs.FitLaws.{of-unit, unit-is-sound}
+use Rattle.lh_exec.proofs.Heads.{args-have-kinds}
 use Rattle.lh_exec.specs.Sound.{IsLabel, LineRight, UnitRight, FunctionsRight}
 
--- what it calls is right, and its labels are of blocks
+-- what it calls is right, its labels are of blocks, and its operands have types
 abbrev pub Leading : List ItemText → UnitText → LineText → Type 0
-Leading items u l = NamedIsRight items u l.inst × Each (IsLabel u) (labels_named l.inst)
+Leading items u l = NamedIsRight items u l.inst × Each (IsLabel u) (labels_named l.inst) × (ArgsHaveKinds u → Each (HasTypeOfKind u) (uses l.inst))
 
 abbrev SiteLeading : List ItemText → Site → Type 0
 SiteLeading items s = Leading items s.unit s.place.line
@@ -61,16 +62,16 @@ leading-in all (unit_text u ∷ more) e =
 leading-in all (declare_text d ∷ more) e = (tt, leading-in all more e)
 
 leading-items : (items : List ItemText) → IsFaultless items → Each (LeadingIn items) items
-leading-items items f = leading-in items items (each-contained (SiteLeading items) (sites items) (λ s c. (calls_are_right items s f c, labels_are_blocks items s f c)))
+leading-items items f = leading-in items items (each-contained (SiteLeading items) (sites items) (λ s c. (calls_are_right items s f c, labels_are_blocks items s f c, operands_have_types items s f c)))
 
 -- from the lines of all blocks to those of each
-by-blocks : (P : LineText → Type 0) (bs : List BlockText) → Each P (lines_of bs) → Each (λ (b : BlockText). Each P b.lines) bs
+pub by-blocks : (P : LineText → Type 0) (bs : List BlockText) → Each P (lines_of bs) → Each (λ (b : BlockText). Each P b.lines) bs
 by-blocks P [] e = tt
 by-blocks P (b ∷ more) e = let r = each-split P b.lines (lines_of more) e in (r.0, by-blocks P more r.1)
 
-both : (items : List ItemText) (u : UnitText) (ls : List LineText) → Each (IsSound u) ls → Each (Leading items u) ls → Each (LineRight items u) ls
-both items u [] s e = tt
-both items u (l ∷ ls) s e = (record { sound = s.0; named = e.0.0; labels = e.0.1 }, both items u ls s.1 e.1)
+both : (items : List ItemText) (u : UnitText) → ArgsHaveKinds u → (ls : List LineText) → Each (IsSound u) ls → Each (Leading items u) ls → Each (LineRight items u) ls
+both items u k [] s e = tt
+both items u k (l ∷ ls) s e = (record { sound = s.0; named = e.0.0; labels = e.0.1; kinds = e.0.2 k }, both items u k ls s.1 e.1)
 
 all-labelled : (a : Arena) (u : ℕ) → HasBlocks (kind_at a u) → (bs : List BlockId) → Each (λ (b : BlockText). b.label ≡ Some (label_or b.label)) (map (block_text (naming a u) (table_at a u)) bs)
 all-labelled a u k [] = tt
@@ -87,7 +88,7 @@ module _ (a : Arena) (o : IsArena a) (g : IsWellFormed (contents a)) where
       let s = unit-is-sound a u o h g (some-kind (kind_at a u) k) in
       record {
         lines = by-blocks (LineRight (contents a) (unit_text_at a u)) (unit_text_at a u).blocks
-            (both (contents a) (unit_text_at a u) (lines_of (unit_text_at a u).blocks) s.lines (of-unit a u o h g (some-kind (kind_at a u) k) (LeadingIn (contents a)) (leading-items (contents a) g.1)));
+            (both (contents a) (unit_text_at a u) (args-have-kinds (unit_text_at a u) s) (lines_of (unit_text_at a u).blocks) s.lines (of-unit a u o h g (some-kind (kind_at a u) k) (LeadingIn (contents a)) (leading-items (contents a) g.1)));
         labelled = all-labelled a u k (blocks_at a u);
         args = s.args;
       }
@@ -193,3 +194,44 @@ module _ (a : Arena) (o : IsArena a) (g : IsWellFormed (contents a)) where
       by : (x : Option ArgText) → arg_named n (unit_text_at a u).args ≡ x → or_else (option_map (λ (y : ArgText). y.ty) x) (option_and_then result_type (inst_giving n (unit_text_at a u).blocks)) ≡ Some t → (v : ValueId) × (v.0 < value_count a u) × (value_name_at a u v.0 ≡ n)
       by (Some x) q r = named-arg n u (table_at a u).args x (o.tables u h).args_within q
       by None q r = from (line_giving n (map (line_text (naming a u)) (table_at a u).lines)) refl (sym (ap (option_and_then result_type) made) ∙ r)
+
+  -- ---- names that are defined
+
+  defines-arg : (n : List ℕ) (xs : List ArgText) → args_define n xs ≡ true → (x : ArgText) × (arg_named n xs ≡ Some x)
+  defines-arg n [] e = absurd cc
+  defines-arg n (x ∷ xs) e = by (same_name x.name n) e (defines-arg n xs)
+    where
+      by : (b : Bool) → (b || args_define n xs) ≡ true → (args_define n xs ≡ true → (y : ArgText) × (arg_named n xs ≡ Some y)) → (y : ArgText) × ((if b then Some x else arg_named n xs) ≡ Some y)
+      by true q go = (x, refl)
+      by false q go = go q
+
+  defines-line : (n : List ℕ) (ls : List LineText) → lines_define n ls ≡ true → (i : InstText) × (line_giving n ls ≡ Some i)
+  defines-line n [] e = absurd cc
+  defines-line n (l ∷ ls) e = by (is_result_name n l.result) e (defines-line n ls)
+    where
+      by : (b : Bool) → (b || lines_define n ls) ≡ true → (lines_define n ls ≡ true → (i : InstText) × (line_giving n ls ≡ Some i)) → (i : InstText) × ((if b then Some l.inst else line_giving n ls) ≡ Some i)
+      by true q go = (l.inst, refl)
+      by false q go = go q
+
+  given-first : (x y : Option InstText) → (i : InstText) × (y ≡ Some i) → (i : InstText) × (or_else x y ≡ Some i)
+  given-first None y z = z
+  given-first (Some i) y z = (i, refl)
+
+  defines-block : (n : List ℕ) (bs : List BlockText) → blocks_define n bs ≡ true → (i : InstText) × (inst_giving n bs ≡ Some i)
+  defines-block n [] e = absurd cc
+  defines-block n (b ∷ bs) e = by (lines_define n b.lines) refl e (defines-block n bs)
+    where
+      by : (c : Bool) → lines_define n b.lines ≡ c → (c || blocks_define n bs) ≡ true → (blocks_define n bs ≡ true → (i : InstText) × (inst_giving n bs ≡ Some i)) → (i : InstText) × (or_else (line_giving n b.lines) (inst_giving n bs) ≡ Some i)
+      by true p q go = let z = defines-line n b.lines p in (z.0, ap (λ (o : Option InstText). or_else o (inst_giving n bs)) z.1)
+      by false p q go = given-first (line_giving n b.lines) (inst_giving n bs) (go q)
+
+  -- a name that is defined in a unit is that of a value by its id
+  pub defined-value : (u : ℕ) → u < unit_count a → (n : List ℕ) → defines_value n (unit_text_at a u) ≡ true → (v : ValueId) × (v.0 < value_count a u) × (value_name_at a u v.0 ≡ n)
+  defined-value u h n e = by (args_define n (unit_text_at a u).args) refl e
+    where
+      made : inst_giving n (unit_text_at a u).blocks ≡ line_giving n (map (line_text (naming a u)) (table_at a u).lines)
+      made = giving-flat n (unit_text_at a u).blocks ∙ ap (line_giving n) (flat_lines (naming a u) (table_at a u) (o.tables u h))
+
+      by : (b : Bool) → args_define n (unit_text_at a u).args ≡ b → (b || blocks_define n (unit_text_at a u).blocks) ≡ true → (v : ValueId) × (v.0 < value_count a u) × (value_name_at a u v.0 ≡ n)
+      by true p q = let z = defines-arg n (unit_text_at a u).args p in named-arg n u (table_at a u).args z.0 (o.tables u h).args_within z.1
+      by false p q = let z = defines-block n (unit_text_at a u).blocks q in named-line n u (table_at a u).lines z.0 (o.tables u h).results_within (sym made ∙ z.1)

@@ -1,13 +1,12 @@
 -- The machine stands for the point that an instruction leads to.
-use Rattle.std.proofs.Common.{◌≡◌, ℕ, ◌<◌, ◌≤◌, nat_lt, List, [], ◌∷◌, ◌++◌, length, map, reverse, set, Bool, true, false, if◌then◌else◌, Option, Some, None, is_some, IfSome, refl, ap, sym, ◌∙◌, subst, arith}
-use Rattle.std.specs.Option.{option_and_then, option_map}
-use Rattle.std.proofs.lemmas.Option.{same_Some, none-some}
+use Rattle.std.proofs.Common.{◌≡◌, ℕ, ◌<◌, ◌≤◌, nat_lt, List, [], ◌∷◌, ◌++◌, length, reverse, set, Bool, true, false, if◌then◌else◌, Option, Some, None, is_some, IfSome, refl, ap, sym, ◌∙◌, subst, arith}
+use Rattle.std.specs.Option.{option_map}
+use Rattle.std.proofs.lemmas.Option.{same_Some}
 use Rattle.std.proofs.lemmas.List.{reverse-append, length-reverse}
 use Rattle.std.proofs.lemmas.Bool.Decides.{nat_tests}
 use Rattle.lh_types.specs.Values.{Datum}
-use Rattle.lh_unit.specs.Activation.{Control, Caller, Point, Next, goes, ends, no_step, gives, stores, opens, returns, goes_back, Stand, ends_at}
-use Rattle.lh_unit.specs.Arena.{Arena, IsArena, naming}
-use Rattle.lh_unit.specs.Contents.{UnitText}
+use Rattle.lh_unit.specs.Activation.{Control, Caller, Point, goes, no_step, gives, stores, opens, returns, goes_back, Stand, ends_at}
+use Rattle.lh_unit.specs.Arena.{Arena, naming}
 use Rattle.lh_unit.specs.Held.{Held, Env, datum_held, cell_held, datum_at, cell_at, with_held, with_result}
 use Rattle.lh_unit.specs.Hierarchy.{if_held}
 use Rattle.lh_unit.specs.Naming.{value_text, maybe_text, operand_text}

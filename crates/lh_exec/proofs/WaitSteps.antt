@@ -4,7 +4,7 @@ use Rattle.std.specs.Option.{option_map}
 use Rattle.lh_time.specs.declared.Instant.{Instant}
 use Rattle.lh_time.specs.Due.{due_of}
 use Rattle.lh_types.specs.declared.part.Range.{Range}
-use Rattle.lh_unit.specs.Activation.{Stand, waits, Caller, Point, Next, no_step, ends_at, waiting, wake_at}
+use Rattle.lh_unit.specs.Activation.{waits, Caller, Point, Next, no_step, ends_at, waiting, wake_at}
 use Rattle.lh_unit.specs.Arena.{Arena, naming, label_count, label_name_at}
 use Rattle.lh_unit.specs.Held.{Held, Env, front, parts_at}
 use Rattle.lh_unit.specs.Naming.{value_text, maybe_text}

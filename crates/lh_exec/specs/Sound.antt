@@ -1,19 +1,19 @@
 -- What holds along an activation of a well-formed module: the instructions are sound, and what is held fits.
-use Rattle.std.specs.Prelude.{◌≡◌, ℕ, ◌<◌, List, [], ◌∷◌, ◌++◌, Bool, Option, Some, None, IsSome}
+use Rattle.std.specs.Prelude.{◌≡◌, ℕ, ◌<◌, List, [], ◌∷◌, ◌++◌, Option, Some, None, IsSome}
+use Rattle.lh_time.specs.declared.Instant.{Instant}
 use Rattle.lh_types.specs.Types.{TypeTree}
-use Rattle.lh_types.specs.Wish.{Wish}
-use Rattle.lh_types.specs.declared.part.Range.{Range}
 use Rattle.lh_unit.specs.declared.name.UnitName.{UnitName}
 use Rattle.lh_unit.specs.Contents.{LineText, BlockText, UnitText, ItemText}
 use Rattle.lh_unit.specs.Named.{block_of, label_or, function_named}
-use Rattle.lh_unit.specs.Held.{Held, Env}
+use Rattle.lh_unit.specs.Held.{Env}
+use Rattle.lh_unit.specs.Kinds.{uses}
 use Rattle.lh_unit.specs.Typing.{value_type}
 use Rattle.lh_unit.specs.WellFormed.{labels_named}
-use Rattle.lh_unit.specs.Activation.{Scene, run, Stand, is_new, waits, halted, ProcessState, Control, Caller, Point, Activated, start_point, functions}
-use Rattle.lh_unit.specs.Arena.{Arena, IsArena, contents, unit_text_at, label_name_at, label_count}
+use Rattle.lh_unit.specs.Activation.{Scene, run, Stand, is_new, waits, halted, Control, Caller, Point, Activated, start_point, functions}
+use Rattle.lh_unit.specs.Arena.{Arena, contents, unit_text_at, label_name_at, label_count}
 use Rattle.lh_unit.specs.Within.{Each}
 use Rattle.lh_formed.specs.Calls.{NamedIsRight}
-use Rattle.lh_eval.specs.Holding.{Holds}
+use Rattle.lh_formed.specs.KindsOf.{HasTypeOfKind}
 use Rattle.lh_eval.specs.Fitting.{Fits}
 use Rattle.lh_eval.specs.Sound.{IsSound}
 use Rattle.lh_eval.specs.Wishing.{WishWithin}
@@ -22,21 +22,21 @@ use Rattle.lh_exec.specs.declared.machine.Frame.{Frame}
 use Rattle.lh_exec.specs.declared.machine.Machine.{Machine}
 use Rattle.lh_exec.specs.declared.machine.Flow.{Flow}
 use Rattle.lh_exec.specs.declared.machine.Flow.TheVariants as flow
-use Rattle.lh_exec.specs.declared.state.Pause.{Pause}
 use Rattle.lh_exec.specs.declared.state.Stand as declared
 use Rattle.lh_exec.specs.declared.state.Stand.TheVariants as stand
 use Rattle.lh_exec.specs.Standing.{MachineIs, Ends}
-use Rattle.lh_exec.specs.States.{WaitsIn}
+use Rattle.lh_exec.specs.States.{WaitsIn, HoldsThere, PartsWithin, IsLater}
 
 -- a label is that of a block of the unit
 abbrev pub IsLabel : UnitText → List ℕ → Type 0
 IsLabel u n = (b : BlockText) × (block_of n u.blocks ≡ Some b)
 
--- an instruction of a unit is sound, what it calls is right, and its labels are of blocks
+-- an instruction of a unit is sound, what it calls is right, its labels are of blocks, and its operands have types of their kinds
 pub record LineRight (items : List ItemText) (u : UnitText) (l : LineText) : Type 0 where
   pub sound : IsSound u l
   pub named : NamedIsRight items u l.inst
   pub labels : Each (IsLabel u) (labels_named l.inst)
+  pub kinds : Each (HasTypeOfKind u) (uses l.inst)
 
 -- so are all of a function or a process, and each block has a label, each argument its type
 pub record UnitRight (items : List ItemText) (u : UnitText) : Type 0 where
@@ -82,17 +82,28 @@ pub record PointFits (items : List ItemText) (width : ℕ) (u : UnitText) (p : P
   pub began : lowest p.control p.callers ≡ u
   pub wish : WishWithin width p.wish
 
--- where a process that has come to an end of an activation stands
-abbrev pub StandFits : UnitText → Stand → Type 0
-StandFits u is_new = Unit {0}
-StandFits u (waits block to on wake) = WaitsIn u block to
-StandFits u halted = Unit {0}
+-- where a process that has come to an end of an activation at an instant stands: at a `wait` for parts within the signals, and for a later instant
+abbrev pub StandFits : (width : ℕ) → Instant → UnitText → Stand → Type 0
+StandFits width t u is_new = Unit {0}
+StandFits width t u (waits block to on wake) = WaitsIn u block to × PartsWithin width on × IsLater t wake
+StandFits width t u halted = Unit {0}
 
--- what an activation of the unit u gives fits
-pub record DoneFits (width : ℕ) (u : UnitText) (done : Activated) : Type 0 where
-  pub stand : StandFits u done.state.stand
+-- what an activation of the unit u at an instant gives fits
+pub record DoneFits (width : ℕ) (t : Instant) (u : UnitText) (done : Activated) : Type 0 where
+  pub stand : StandFits width t u done.state.stand
   pub held : Fits u width done.state.held
   pub wish : WishWithin width done.wish
+
+-- what a process holds where it waits: a value under each name that is defined on every path to its `wait`
+abbrev pub StandHolds : UnitText → Env → Stand → Type 0
+StandHolds u e is_new = Unit {0}
+StandHolds u e (waits block to on wake) = (x : WaitsIn u block to) × HoldsThere u x.text x.before e
+StandHolds u e halted = Unit {0}
+
+-- what it holds at the end of an activation, where there is one
+abbrev pub EndHolds : UnitText → Option Activated → Type 0
+EndHolds u None = Unit {0}
+EndHolds u (Some done) = StandHolds u done.state.held done.state.stand
 
 -- the machine stands for a point that fits
 pub record IsFit (a : Arena) (width : ℕ) (m : Machine) : Type 0 where
@@ -107,13 +118,13 @@ BeginsAt a (Some m) (Some c) = MachineIs a m (start_point c)
 BeginsAt a None None = Unit {0}
 BeginsAt a _ _ = ⊥
 
--- what the code answers, and the machine after it, are what an activation of the unit u gives, or that there is none
-abbrev pub Finishes : Arena → (u : ℕ) → (width : ℕ) → Machine → Flow → Option Activated → Type 0
-Finishes a u width m (flow.Waits to on) (Some done) =
-    (to.0 < label_count a m.frame.unit.0) × Ends a m (unit_text_at a u) (waits (label_name_at a m.frame.unit.0 m.frame.block.0) (label_name_at a m.frame.unit.0 to.0) on.parts on.wake) done × DoneFits width (unit_text_at a u) done
-Finishes a u width m flow.Halts (Some done) = Ends a m (unit_text_at a u) halted done × DoneFits width (unit_text_at a u) done
-Finishes a u width m flow.Lost None = Unit {0}
-Finishes a u width m _ _ = ⊥
+-- what the code answers, and the machine after it, are what an activation of the unit u at an instant gives, or that there is none
+abbrev pub Finishes : Arena → (u : ℕ) → (width : ℕ) → Instant → Machine → Flow → Option Activated → Type 0
+Finishes a u width t m (flow.Waits to on) (Some done) =
+    (to.0 < label_count a m.frame.unit.0) × Ends a m (unit_text_at a u) (waits (label_name_at a m.frame.unit.0 m.frame.block.0) (label_name_at a m.frame.unit.0 to.0) on.parts on.wake) done × DoneFits width t (unit_text_at a u) done
+Finishes a u width t m flow.Halts (Some done) = Ends a m (unit_text_at a u) halted done × DoneFits width t (unit_text_at a u) done
+Finishes a u width t m flow.Lost None = Unit {0}
+Finishes a u width t m _ _ = ⊥
 
 -- where a process stands whose activation ends in this frame
 abbrev pub stood : Frame → Flow → Option declared.Stand

@@ -1,13 +1,15 @@
 -- The state of a process between its activations, and what an activation of it answers.
-use Rattle.std.specs.Prelude.{◌≡◌, ℕ, ◌<◌, List, [], ◌∷◌, ◌++◌, length, map, Bool, Option, Some, None, Result, Ok, Err}
+use Rattle.std.specs.Prelude.{◌≡◌, ℕ, ◌+◌, ◌<◌, ◌≤◌, List, ◌∷◌, ◌++◌, map, Bool, true, Option, Some, None, IsSome, Result, Ok, Err}
 use Rattle.lh_time.specs.declared.Instant.{Instant}
+use Rattle.lh_time.specs.Order.{instant_lt}
 use Rattle.lh_types.specs.declared.part.Range.{Range}
-use Rattle.lh_unit.specs.Contents.{LineText, BlockText, UnitText, wait_text}
+use Rattle.lh_unit.specs.Contents.{LineText, BlockText, UnitText, wait_text, defines_value}
 use Rattle.lh_unit.specs.Named.{block_of}
 use Rattle.lh_unit.specs.Held.{Held, Env, part_held, nothing_held, with_args}
-use Rattle.lh_unit.specs.Activation.{is_new, waits, halted, Control, Point, ProcessState, Activated}
+use Rattle.lh_unit.specs.Activation.{is_new, waits, halted, ProcessState, Activated}
 use Rattle.lh_unit.specs.Arena.{Arena, label_count, label_name_at, unit_text_at}
 use Rattle.lh_unit.specs.Within.{Each}
+use Rattle.lh_formed.specs.Defined.{IsThere}
 use Rattle.lh_eval.specs.Holding.{Holds}
 use Rattle.lh_eval.specs.Fitting.{Fits}
 use Rattle.lh_eval.specs.WishOf.{writes_wish}
@@ -63,12 +65,23 @@ pub record SlotsFit (a : Arena) (u : ℕ) (width : ℕ) (slots : List (Option He
   pub holds : Holds a u slots env
   pub fits : Fits (unit_text_at a u) width env
 
--- A process that waits fits where it stands at a `wait` of its unit, and each value that it holds fits the type of its name, parts within so many bits.
+-- the parts lie within so many bits
+abbrev pub PartsWithin : (width : ℕ) → List Range → Type 0
+PartsWithin width parts = Each (λ (r : Range). r.lo + r.len ≤ width) parts
+
+-- under the name of each value of the unit that is an argument, or is given on every path to this place of a block, something is held
+abbrev pub HoldsThere : UnitText → BlockText → (before : List LineText) → Env → Type 0
+HoldsThere u b before e = (n : List ℕ) → defines_value n u ≡ true → IsThere u b before n → IsSome (e n)
+
+-- A process that waits fits where it stands at a `wait` of its unit and holds, for each value that is defined on every path to that `wait`, a value, and each value that it holds
+-- fits the type of its name, parts within so many bits; so do the parts for which it waits.
 pub record PauseFits (a : Arena) (u : ℕ) (width : ℕ) (w : Pause) : Type 0 where
   pub block : w.block.0 < label_count a u
   pub to : w.to.0 < label_count a u
   pub stands : WaitsIn (unit_text_at a u) (label_name_at a u w.block.0) (label_name_at a u w.to.0)
   pub held : SlotsFit a u width w.slots
+  pub there : HoldsThere (unit_text_at a u) stands.text stands.before held.env
+  pub parts : PartsWithin width w.on.parts
 
 -- a state fits where it is new, has halted, or waits and fits
 abbrev pub FitsBy : Arena → ℕ → (width : ℕ) → Stand → Type 0
@@ -79,6 +92,21 @@ FitsBy a u width stand.Halted = Unit {0}
 -- the same of a state
 abbrev pub StateFits : Arena → ℕ → (width : ℕ) → ProcState → Type 0
 StateFits a u width s = FitsBy a u width s.stand
+
+-- the instant, if there is one, is later than this one
+abbrev pub IsLater : Instant → Option Instant → Type 0
+IsLater at None = Unit {0}
+IsLater at (Some t) = instant_lt at t ≡ true
+
+-- where a process waits, it wakes by itself only later than at this instant
+abbrev pub WakesLaterBy : Instant → Stand → Type 0
+WakesLaterBy at stand.New = Unit {0}
+WakesLaterBy at (stand.Waits w) = IsLater at w.on.wake
+WakesLaterBy at stand.Halted = Unit {0}
+
+-- the same of a state
+abbrev pub WakesLater : Instant → ProcState → Type 0
+WakesLater at s = WakesLaterBy at s.stand
 
 -- What an activation gives, as the code answers it: the next state stands for the one that is left, and fits; the writes have exactly the entries of its wish, their
 -- instants strictly rise, none is empty and none names a bit twice, and each names only bits of the signals; and the outcomes are the same.

@@ -4,6 +4,7 @@
 mod begin;
 mod calls;
 mod jumps;
+mod laws;
 mod machine;
 mod process;
 mod run;
@@ -12,5 +13,6 @@ mod state;
 mod tests;
 mod values;
 
+pub use laws::{state_law, steady_law};
 pub use process::{Act, ExecFault, activate};
 pub use state::{ProcState, WaitOn};

@@ -1,5 +1,6 @@
 //! An activation of a process.
-ghost use Rattle.std.specs.Prelude.{◌≡◌, ◌<◌, ◌^◌, ℕ, List, length, Option, Some, IfOk};
+ghost use Rattle.std.specs.Prelude.{◌≡◌, ◌<◌, ◌^◌, ℕ, List, length, Option, Some, IfOk, IfSome};
+ghost use Rattle.lh_time.specs.declared.Instant.{Instant as When};
 ghost use Rattle.lh_types.specs.Raised.{raised};
 ghost use Rattle.lh_unit.specs.Activation.{ProcessState, Activated, activate as activation};
 ghost use Rattle.lh_types.specs.declared.part.Range.{Range as Bounds};
@@ -7,8 +8,8 @@ ghost use Rattle.lh_unit.specs.Arena.{Arena, IsArena, unit_count, kind_at, conte
 ghost use Rattle.lh_unit.specs.WellFormed.{IsWellFormed};
 ghost use Rattle.lh_sound.specs.Ranges.{RangesFit, arg_types};
 ghost use Rattle.lh_exec.specs.Standing.{scene_of};
-ghost use Rattle.lh_exec.specs.States.{StandsFor, StandsBy, StateFits, FitsBy, Answers, GivesMaybe};
-ghost use Rattle.lh_exec.specs.Sound.{Finishes, stood};
+ghost use Rattle.lh_exec.specs.States.{StandsFor, StandsBy, StateFits, FitsBy, Answers, GivesMaybe, WakesLater};
+ghost use Rattle.lh_exec.specs.Sound.{Finishes, EndHolds, stood};
 
 use crate::begin::begin;
 use crate::machine::{Flow, Frame, Machine};
@@ -55,7 +56,8 @@ pub enum ExecFault {
 /// `Runaway` comes exactly where no list of at most 1,000,000 executed instructions with at most 256 open calls leads there,
 /// and of a state that has halted. The next state holds every value that the process was ever given, and fits; the
 /// wishes are exactly those of its drives: the instants at which they are due strictly rise, and at each of them something is
-/// written, no bit twice, and only bits of the signals. After a fault only the tally has changed.
+/// written, no bit twice, and only bits of the signals. A process that waits for an instant waits for one later than `at`, and
+/// for parts within the signals. After a fault only the tally has changed.
 pub fn activate<T: Tally>(
     alloc: Global,
     m: &Module,
@@ -71,6 +73,7 @@ pub fn activate<T: Tally>(
     requires args { RangesFit (length now.now) i.now.args (arg_types (unit_text_at m.now i.now.unit.0).args) }
     requires fits { StateFits m.now i.now.unit.0 (length now.now) s.now }
     ensures act { (p : ProcessState) → StandsFor m.now i.now.unit.0 i.now.args s.now p → Answers m.now i.now.unit.0 i.now.args (length now.now) result (activation 1000000 (scene_of m.now now.now at) (unit_text_at m.now i.now.unit.0) p) }
+    ensures late { IfOk result (λ act. WakesLater at act.next) }
     ensures tick { T.count tally.new ≡ raised (T.count tally.old) 1 }
 {
     tally.tick();
@@ -83,7 +86,8 @@ pub fn activate<T: Tally>(
 
 /// The answer where memory did not run out.
 fn answered(given: Option<Act>) -> Result<Act, ExecFault>
-    ensures { (a : Arena) (u w : ℕ) (args : List Bounds) (done : Option Activated) → GivesMaybe a u args w given done → Answers a u args w result done }
+    ensures act { (a : Arena) (u w : ℕ) (args : List Bounds) (done : Option Activated) → GivesMaybe a u args w given done → Answers a u args w result done }
+    ensures late { (t : When) → IfSome given (λ act. WakesLater t act.next) → IfOk result (λ act. WakesLater t act.next) }
 {
     match given {
         Some(act) => Ok(act),
@@ -107,7 +111,8 @@ fn activate_within(
     requires process { kind_at m.now unit.0 ≡ Some UnitKind.Proc }
     requires args { RangesFit (length now.now) args.now (arg_types (unit_text_at m.now unit.0).args) }
     requires fits { FitsBy m.now unit.0 (length now.now) stand.now }
-    ensures { (p : ProcessState) → StandsBy m.now unit.0 args.now stand.now p → IfOk result (λ r. GivesMaybe m.now unit.0 args.now (length now.now) r (activation limit (scene_of m.now now.now at) (unit_text_at m.now unit.0) p)) }
+    ensures act { (p : ProcessState) → StandsBy m.now unit.0 args.now stand.now p → IfOk result (λ r. GivesMaybe m.now unit.0 args.now (length now.now) r (activation limit (scene_of m.now now.now at) (unit_text_at m.now unit.0) p)) }
+    ensures late { IfOk result (λ r. IfSome r (λ act. WakesLater at act.next)) }
 {
     in_order(m, now);
     match begin(alloc, m, now, unit, args, stand)? {
@@ -121,7 +126,8 @@ fn activate_within(
 
 /// What a machine that has come to an end gives.
 fn finish(machine: Machine, flow: Flow) -> Result<Option<Act>, NoMemory>
-    ensures { (a : Arena) (u w : ℕ) (args : List Bounds) (done : Option Activated) → IsArena a → u < unit_count a → Finishes a u w machine flow done → IfOk result (λ r. GivesMaybe a u args w r done) }
+    ensures act { (a : Arena) (u w : ℕ) (t : When) (args : List Bounds) (done : Option Activated) → IsArena a → u < unit_count a → Finishes a u w t machine flow done → EndHolds (unit_text_at a u) done → IfOk result (λ r. GivesMaybe a u args w r done) }
+    ensures late { (a : Arena) (u w : ℕ) (t : When) (done : Option Activated) → Finishes a u w t machine flow done → IfOk result (λ r. IfSome r (λ act. WakesLater t act.next)) }
 {
     let Some(stand) = stand_at(machine.frame, flow) else {
         return Ok(None);

@@ -30,7 +30,7 @@ impl Machine {
         requires formed { IsWellFormed (contents m.now) }
         requires few { length now.now < 2 ^ 32 }
         requires fit { IsFit m.now (length now.now) self.old }
-        ensures { (u : ℕ) (p : Point) → MachineIs m.now self.old p → PointFits (contents m.now) (length now.now) (unit_text_at m.now u) p → IfOk result (λ fl. Finishes m.now u (length now.now) self.new fl (act.run limit (scene_of m.now now.now at) p)) }
+        ensures { (u : ℕ) (p : Point) → MachineIs m.now self.old p → PointFits (contents m.now) (length now.now) (unit_text_at m.now u) p → IfOk result (λ fl. Finishes m.now u (length now.now) at self.new fl (act.run limit (scene_of m.now now.now at) p)) }
     {
         for i in 0..limit {
             let flow = self.step(alloc, m, now, at)?;

@@ -1,4 +1,4 @@
-use Rattle.std.proofs.Common.{◌≡◌, ◌∙◌, Option, None, List, map, replicate, ap}
+use Rattle.std.proofs.Common.{◌≡◌, ◌∙◌, Option, None, map, replicate, ap}
 use Rattle.lh_types.specs.ValueOf.{datum_of}
 use Rattle.lh_unit.specs.Arena.{value_count, args_at, unit_text_at}
 use Rattle.lh_unit.specs.Held.{Held, datum_held, nothing_held, with_args}

@@ -1,4 +1,4 @@
-use Rattle.std.proofs.Common.{◌≡◌, ◌<◌, ◌++◌, drop, length, map}
+use Rattle.std.proofs.Common.{◌≡◌, ◌<◌, ◌++◌, drop, map}
 use Rattle.std.specs.Option.{option_map}
 use Rattle.lh_unit.specs.Arena.{table_at, inst_count}
 use Rattle.lh_unit.specs.Within.{Each}

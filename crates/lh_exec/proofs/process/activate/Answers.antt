@@ -1,4 +1,4 @@
-use Rattle.std.proofs.Common.{◌≡◌, List, length, sym, subst}
+use Rattle.std.proofs.Common.{List, length, sym, subst}
 use Rattle.lh_types.specs.declared.part.Range.{Range}
 use Rattle.lh_unit.specs.Activation.{activate}
 use Rattle.lh_unit.specs.Arena.{unit_text_at}
@@ -17,4 +17,7 @@ returns-in-Ok-clause-act g c = λ p k.
     let w = length c.args.now.now in
     let done = activate 1000000 (scene_of m c.args.now.now c.args.at) (unit_text_at m u) p in
     subst (λ (l : List Range). Answers m u l w c.answered.result done) c.as_slice-args.ensures
-    (c.answered.ensures m u w c.as_slice-args.result.now done (c.in-Ok.ensures p (subst (λ (l : List Range). StandsFor m u l c.args.s.now p) (sym c.as_slice-args.ensures) k)))
+    (c.answered.ensures.act m u w c.as_slice-args.result.now done (c.in-Ok.ensures.act p (subst (λ (l : List Range). StandsFor m u l c.args.s.now p) (sym c.as_slice-args.ensures) k)))
+
+pub returns-in-Ok-clause-late : goal.returns-in-Ok-clause-late
+returns-in-Ok-clause-late g c = c.answered.ensures.late c.args.at c.in-Ok.ensures.late

@@ -4,8 +4,8 @@ use Rattle.lh_exec.specs.States.{GivesMaybe}
 use Rattle.lh_exec.proofs.Begins.{answers-some, answers-none}
 use Rattle.lh_exec.proofs.process.answered.Goals as goal
 
-pub returns-in-Some : goal.returns-in-Some
-returns-in-Some c = λ a u w args done k. answers-some a u args w c.in-Some.act done (subst (λ (g : Option Act). GivesMaybe a u args w g done) c.in-Some.is k)
+pub returns-in-Some-clause-act : goal.returns-in-Some-clause-act
+returns-in-Some-clause-act c = λ a u w args done k. answers-some a u args w c.in-Some.act done (subst (λ (g : Option Act). GivesMaybe a u args w g done) c.in-Some.is k)
 
-pub returns-in-None : goal.returns-in-None
-returns-in-None c = λ a u w args done k. answers-none a u args w done (subst (λ (g : Option Act). GivesMaybe a u args w g done) c.in-None.is k)
+pub returns-in-None-clause-act : goal.returns-in-None-clause-act
+returns-in-None-clause-act c = λ a u w args done k. answers-none a u args w done (subst (λ (g : Option Act). GivesMaybe a u args w g done) c.in-None.is k)

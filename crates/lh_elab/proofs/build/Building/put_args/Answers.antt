@@ -1,9 +1,9 @@
-use Rattle.std.proofs.Common.{◌≡◌, ◌+◌, ◌<◌, ◌≤◌, List, [], ◌∷◌, length, map, take, get_or, replicate, false, ap, sym, ◌∙◌, subst, arith}
+use Rattle.std.proofs.Common.{◌≡◌, ◌<◌, List, [], ◌∷◌, length, map, take, get_or, replicate, false, ap, sym, ◌∙◌, subst, arith}
 use Rattle.std.proofs.lemmas.List.{length-map, length-replicate}
 use Rattle.lh_types.specs.Types.{bit_count}
 use Rattle.lh_types.specs.declared.part.Range.{Range}
 use Rattle.lh_unit.specs.declared.inst.Arg.{Arg}
-use Rattle.lh_unit.specs.Arena.{naming, value_count, args_at, value_name_at}
+use Rattle.lh_unit.specs.Arena.{naming, value_count, args_at}
 use Rattle.lh_unit.specs.Naming.{arg_text}
 use Rattle.lh_unit.specs.Hierarchy.{SignalText}
 use Rattle.lh_unit.specs.Design.{carried_type, signal_ranges, top_signals}

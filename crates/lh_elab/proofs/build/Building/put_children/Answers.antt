@@ -1,5 +1,4 @@
-use Rattle.std.proofs.Common.{◌≡◌, List, map, Some, ◌∙◌}
-use Rattle.lh_types.specs.declared.part.Range.{Range}
+use Rattle.std.proofs.Common.{◌≡◌, map, Some, ◌∙◌}
 use Rattle.lh_unit.specs.Arena.{args_at}
 use Rattle.lh_elab.specs.declared.build.Pending.{Pending}
 use Rattle.lh_elab.specs.Plans.{low_at}

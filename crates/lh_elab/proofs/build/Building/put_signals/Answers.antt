@@ -1,5 +1,4 @@
-use Rattle.std.proofs.Common.{◌≡◌, ◌+◌, ◌<◌, ◌≤◌, List, [], ◌∷◌, ◌++◌, length, map, take, get_or, ap, sym, ◌∙◌, subst, arith}
-use Rattle.lh_types.specs.Types.{bit_count}
+use Rattle.std.proofs.Common.{◌≡◌, ◌+◌, [], ◌∷◌, ◌++◌, length, map, take, ap, sym, ◌∙◌, subst, arith}
 use Rattle.lh_unit.specs.Design.{signal_ranges}
 use Rattle.lh_elab.specs.declared.plan.PlanSignal.{PlanSignal}
 use Rattle.lh_elab.specs.Plans.{signal_of, SignalFits}

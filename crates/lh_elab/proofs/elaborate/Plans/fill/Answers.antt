@@ -1,4 +1,4 @@
-use Rattle.std.proofs.Common.{Some, ◌<◌, ◌∙◌, arith}
+use Rattle.std.proofs.Common.{Some, ◌∙◌, arith}
 use Rattle.std.proofs.lemmas.List.{length-set}
 use Rattle.lh_elab.proofs.PlanTables.{plan-more}
 use Rattle.lh_elab.proofs.elaborate.Plans.fill.Goals as goal

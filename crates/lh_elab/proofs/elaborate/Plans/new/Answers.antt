@@ -1,6 +1,5 @@
-use Rattle.std.proofs.Common.{◌≡◌, length, sym, ◌∙◌, arith}
-use Rattle.lh_unit.specs.Arena.{unit_count}
-use Rattle.lh_elab.proofs.PlanTables.{none-more, none-right}
+use Rattle.std.proofs.Common.{arith}
+use Rattle.lh_elab.proofs.PlanTables.{none-right}
 use Rattle.lh_elab.proofs.elaborate.Plans.new.Goals as goal
 
 pub returns : goal.returns

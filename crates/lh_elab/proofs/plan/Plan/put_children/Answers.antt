@@ -1,4 +1,4 @@
-use Rattle.std.proofs.Common.{◌≡◌, ◌<◌, List, [], ◌∷◌, ◌++◌, map, get_or, ap, sym, ◌∙◌, subst}
+use Rattle.std.proofs.Common.{◌<◌, [], ◌++◌, map, ap, ◌∙◌}
 use Rattle.lh_unit.specs.Arena.{naming, unit_count, inst_count}
 use Rattle.lh_unit.specs.Hierarchy.{child_if}
 use Rattle.lh_unit.specs.Naming.{inst_text}

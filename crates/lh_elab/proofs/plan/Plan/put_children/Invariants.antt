@@ -1,4 +1,4 @@
-use Rattle.std.proofs.Common.{◌≡◌, ◌<◌, ◌++◌, List, length, map, drop}
+use Rattle.std.proofs.Common.{◌≡◌, ◌<◌, ◌++◌, List, map, drop}
 use Rattle.lh_types.specs.declared.part.Range.{Range}
 use Rattle.lh_unit.specs.Arena.{unit_count, inst_count}
 use Rattle.lh_unit.specs.Held.{Env}

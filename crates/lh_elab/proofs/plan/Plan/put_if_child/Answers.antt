@@ -1,9 +1,8 @@
-use Rattle.std.proofs.Common.{◌≡◌, List, [], ◌∷◌, ◌++◌, map, ap, sym, ◌∙◌, subst}
+use Rattle.std.proofs.Common.{◌≡◌, [], ◌∷◌, ◌++◌, map, ap, sym, ◌∙◌, subst}
 use Rattle.std.proofs.lemmas.List.{map-append}
 use Rattle.std.proofs.lemmas.Result.{on_ok_weaker}
 use Rattle.lh_unit.specs.Within.{Each}
 use Rattle.lh_unit.proofs.Lists.{Each-append}
-use Rattle.lh_elab.specs.declared.plan.PlanChild.{PlanChild}
 use Rattle.lh_elab.specs.Plans.{child_of, ChildSmall}
 use Rattle.lh_elab.proofs.ChildSteps.{child-read, child-small}
 use Rattle.lh_elab.proofs.plan.Plan.put_if_child.Goals as goal

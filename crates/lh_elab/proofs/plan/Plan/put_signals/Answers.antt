@@ -1,5 +1,4 @@
-use Rattle.std.proofs.Common.{◌≡◌, ◌<◌, List, [], ◌∷◌, ◌++◌, map, get_or, Option, refl, ap, sym, ◌∙◌, subst}
-use Rattle.lh_unit.specs.Contents.{InstText}
+use Rattle.std.proofs.Common.{◌<◌, [], ◌++◌, map, get_or, Option, refl, sym, ◌∙◌, subst}
 use Rattle.lh_unit.specs.Arena.{naming, value_count, inst_count, unit_text_at}
 use Rattle.lh_unit.specs.Hierarchy.{signal_if}
 use Rattle.lh_unit.specs.Naming.{inst_text, maybe_text}

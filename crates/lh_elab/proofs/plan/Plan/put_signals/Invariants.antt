@@ -1,4 +1,4 @@
-use Rattle.std.proofs.Common.{◌≡◌, ◌<◌, ◌++◌, List, length, map, take, drop, OnOk}
+use Rattle.std.proofs.Common.{◌≡◌, ◌<◌, ◌++◌, map, drop}
 use Rattle.lh_unit.specs.Arena.{unit_text_at, inst_count}
 use Rattle.lh_unit.specs.Held.{Env}
 use Rattle.lh_unit.specs.Hierarchy.{signals_of}

@@ -1,5 +1,5 @@
 use Rattle.std.proofs.Common.{◌≡◌, ◌<◌, ◌≤◌, drop, length}
-use Rattle.lh_unit.specs.Arena.{table_at, inst_count, value_count}
+use Rattle.lh_unit.specs.Arena.{table_at, inst_count}
 use Rattle.lh_unit.specs.Within.{Each}
 use Rattle.lh_unit.specs.declared.inst.InstId.{InstId}
 use Rattle.lh_elab.specs.Statics.{by_of, HasSlots, sigs_begun}

@@ -1,4 +1,4 @@
-use Rattle.std.proofs.Common.{◌≡◌, ◌<◌, drop, length, List, map}
+use Rattle.std.proofs.Common.{◌<◌, drop, List, map}
 use Rattle.lh_types.specs.declared.part.Range.{Range}
 use Rattle.lh_unit.specs.Arena.{inst_count, unit_text_at}
 use Rattle.lh_unit.specs.Held.{Env}

@@ -1,4 +1,4 @@
-use Rattle.std.proofs.Common.{Some, map, ap, sym, ◌∙◌}
+use Rattle.std.proofs.Common.{ap}
 use Rattle.lh_types.specs.ValueOf.{datum_of}
 use Rattle.lh_eval.specs.HeldOf.{maybe_held}
 use Rattle.lh_elab.proofs.StaticSteps.{args-in, pure-fits, const-done, pure-done}

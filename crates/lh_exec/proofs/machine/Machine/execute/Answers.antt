@@ -1,4 +1,4 @@
-use Rattle.std.proofs.Common.{◌<◌, length, map, Some, List, IfOk, if◌then◌else◌, refl, ap, sym, subst}
+use Rattle.std.proofs.Common.{◌<◌, length, map, Some, List, IfOk, if◌then◌else◌, refl, sym, subst}
 use Rattle.lh_unit.specs.Activation as act
 use Rattle.lh_unit.specs.Activation.{executes, gives, tells, asserted, opens, called, ends_at, waiting}
 use Rattle.lh_unit.specs.Arena.{InstPlaced, contents, naming, sizes, unit_name_at, unit_text_at}
@@ -6,7 +6,7 @@ use Rattle.lh_unit.specs.Effects.{operated}
 use Rattle.lh_unit.specs.Held.{data_at, parts_at}
 use Rattle.lh_unit.specs.Named.{is_assert}
 use Rattle.lh_unit.specs.Naming.{inst_text, operand_text, value_text, maybe_text}
-use Rattle.lh_unit.specs.Within.{Each, OperandWithin, ValueWithin}
+use Rattle.lh_unit.specs.Within.{Each, OperandWithin}
 use Rattle.lh_unit.specs.declared.inst.Inst.{Inst}
 use Rattle.lh_unit.specs.declared.inst.Inst.TheVariants as inst
 use Rattle.lh_unit.specs.declared.inst.Typed.{Typed}
@@ -14,7 +14,7 @@ use Rattle.lh_unit.specs.declared.inst.ValueId.{ValueId}
 use Rattle.lh_exec.specs.declared.machine.Flow.TheVariants as flow
 use Rattle.lh_exec.specs.Sound.{LineRight}
 use Rattle.lh_exec.specs.Standing.{Does, Leads, scene_of}
-use Rattle.lh_exec.proofs.Operands.{arm, in-slots, maybe-slots, all-slots, values-slots, ret-slots, slots-long, pure-has, prb-has, drv-has, call-blocks, call-leads, br-stands, zero-stands, one-stands, ret-leads}
+use Rattle.lh_exec.proofs.Operands.{arm, in-slots, maybe-slots, all-slots, values-slots, ret-slots, pure-has, prb-has, drv-has, call-blocks, call-leads, br-stands, zero-stands, one-stands, ret-leads}
 use Rattle.lh_exec.proofs.machine.Machine.execute.Goals as goal
 
 pub returns-in-Const : goal.returns-in-Const

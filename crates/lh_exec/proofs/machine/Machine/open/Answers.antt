@@ -1,12 +1,11 @@
-use Rattle.std.proofs.Common.{◌≤◌, Option, Some, length, map, IfOk, sym, subst, arith}
-use Rattle.lh_unit.specs.Activation.{Control, Next, opens, called}
+use Rattle.std.proofs.Common.{◌≤◌, Some, length, map, sym, subst, arith}
+use Rattle.lh_unit.specs.Activation.{Next, called}
 use Rattle.lh_unit.specs.Arena.{naming, unit_text_at}
 use Rattle.lh_unit.specs.Held.{data_at}
 use Rattle.lh_unit.specs.Naming.{operand_text, maybe_text}
-use Rattle.lh_exec.specs.declared.machine.Frame.{Frame}
 use Rattle.lh_exec.specs.declared.machine.Flow.TheVariants as flow
-use Rattle.lh_exec.specs.Standing.{Leads, MaybeFrame}
-use Rattle.lh_exec.proofs.Steps.{opens-none, opens-some, opens-lost}
+use Rattle.lh_exec.specs.Standing.{Leads}
+use Rattle.lh_exec.proofs.Steps.{opens-none}
 use Rattle.lh_exec.proofs.machine.Machine.open.Goals as goal
 
 pub returns-then-len-ge-MAX_CALLS : goal.returns-then-len-ge-MAX_CALLS

@@ -1,4 +1,4 @@
-use Rattle.std.proofs.Common.{◌≡◌, ◌-◌, ◌+◌, suc, true, false, refl, arith}
+use Rattle.std.proofs.Common.{◌≡◌, ◌-◌, ◌+◌, suc, true, false, arith}
 use Rattle.lh_unit.specs.Activation.{run}
 use Rattle.lh_exec.specs.Standing.{scene_of, goes_on}
 use Rattle.lh_exec.proofs.Rights.{functions-right}

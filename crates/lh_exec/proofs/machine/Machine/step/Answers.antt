@@ -1,4 +1,4 @@
-use Rattle.std.proofs.Common.{◌≡◌, ◌<◌, ◌∙◌, List, get_or, length, ap, sym, subst, arith}
+use Rattle.std.proofs.Common.{◌<◌, ◌∙◌, List, get_or, length, ap, sym, subst, arith}
 use Rattle.lh_unit.specs.Arena.{block_insts_at, inst_count, inst_at, result_at}
 use Rattle.lh_unit.specs.Within.{Each}
 use Rattle.lh_unit.specs.declared.inst.InstId.{InstId}
