@@ -4,6 +4,7 @@ use Rattle.std.specs.Option.{option_and_then, option_map}
 use Rattle.std.proofs.lemmas.Grind.{common_steps}
 use Rattle.std.proofs.lemmas.Option.{same_Some, none-some}
 use Rattle.lh_time.specs.declared.Instant.{Instant}
+use Rattle.lh_types.specs.Types.{TypeTree}
 use Rattle.lh_types.specs.Values.{Datum}
 use Rattle.lh_types.specs.Wish.{Wish}
 use Rattle.lh_unit.specs.declared.name.UnitName.{UnitName}
@@ -13,7 +14,7 @@ use Rattle.lh_unit.specs.Held.{Held, datum_held, cell_held, Env, datum_at, cell_
 use Rattle.lh_unit.specs.Effects.{operated, probed, driven}
 use Rattle.lh_unit.specs.Activation.{Scene, Stand, Control, Caller, Point, Activated, Next, goes, ends, no_step, entered, gives, jumps, wishes, tells, stores, opens, asserted, called, given_back, goes_back, returns, chosen, ends_at, wake_at, waiting, executes, steps_by, step, run, went, functions, max_calls}
 use Rattle.lh_exec.specs.Sound.{FunctionsRight, PointFits, StandHolds}
-use Rattle.lh_exec.specs.Steady.{Finds, FindsFirst, IsSteady, Reaches}
+use Rattle.lh_exec.specs.Steady.{Finds, FindsFirst, CallsFirst, IsSteady, Reaches}
 use Rattle.lh_exec.proofs.KeepsFit.{NextFits, step-fits}
 use Rattle.lh_exec.proofs.Placed.{FunctionsSteady, NotNil}
 use Rattle.lh_exec.proofs.Steady.{PointHolds, NextHolds}
@@ -22,54 +23,54 @@ use Rattle.lh_exec.proofs.KeepsHeld.{step-holds}
 
 -- ---- nothing stops it but a call
 
--- it goes on, or as many calls as may be are open
-abbrev GoesOrFull : Next → Point → Type 0
-GoesOrFull (goes q) p = Unit {0}
-GoesOrFull (ends d) p = Unit {0}
-GoesOrFull no_step p = max_calls ≤ length p.callers
+-- it goes on, or a call comes next and as many as may be are open
+abbrev GoesOrFull : (call : Type 0) → Next → Point → Type 0
+GoesOrFull call (goes q) p = Unit {0}
+GoesOrFull call (ends d) p = Unit {0}
+GoesOrFull call no_step p = call × (max_calls ≤ length p.callers)
 
-module _ (s : Scene) (p : Point) (rest : List LineText) where
+module _ (s : Scene) (p : Point) (rest : List LineText) (call : Type 0) where
   abbrev past : Point
   past = record p { control = record p.control { rest = rest } }
 
-  gives-on : (r : Option (List ℕ)) (o : Option Held) → IsSome o → GoesOrFull (gives past r o) p
+  gives-on : (r : Option (List ℕ)) (o : Option Held) → IsSome o → GoesOrFull call (gives past r o) p
   gives-on r None h = absurd cc
   gives-on r (Some x) h = tt
 
-  jumps-on : (o : Option Control) → IsSome o → GoesOrFull (jumps past o) p
+  jumps-on : (o : Option Control) → IsSome o → GoesOrFull call (jumps past o) p
   jumps-on None h = absurd cc
   jumps-on (Some x) h = tt
 
-  wishes-on : (o : Option Wish) → IsSome o → GoesOrFull (wishes past o) p
+  wishes-on : (o : Option Wish) → IsSome o → GoesOrFull call (wishes past o) p
   wishes-on None h = absurd cc
   wishes-on (Some x) h = tt
 
-  tells-on : (o : Option Bool) → IsSome o → GoesOrFull (tells past o) p
+  tells-on : (o : Option Bool) → IsSome o → GoesOrFull call (tells past o) p
   tells-on None h = absurd cc
   tells-on (Some x) h = tt
 
-  stores-on : (n : List ℕ) (a b : Option Datum) → IsSome a → IsSome b → GoesOrFull (stores past n a b) p
+  stores-on : (n : List ℕ) (a b : Option Datum) → IsSome a → IsSome b → GoesOrFull call (stores past n a b) p
   stores-on n None b g h = absurd cc
   stores-on n (Some a) None g h = absurd cc
   stores-on n (Some a) (Some b) g h = tt
 
-  opens-on : (r : Option (List ℕ)) (o : Option Control) → IsSome o → GoesOrFull (opens past r o) p
-  opens-on r None h = absurd cc
-  opens-on r (Some c) h = by (nat_lt (length p.callers) max_calls) refl
+  opens-on : call → (r : Option (List ℕ)) (o : Option Control) → IsSome o → GoesOrFull call (opens past r o) p
+  opens-on y r None h = absurd cc
+  opens-on y r (Some c) h = by (nat_lt (length p.callers) max_calls) refl
     where
-      by : (b : Bool) → nat_lt (length p.callers) max_calls ≡ b → GoesOrFull (if b then goes (record past { control = c; callers = record { control = past.control; result = r } ∷ p.callers }) else no_step) p
+      by : (b : Bool) → nat_lt (length p.callers) max_calls ≡ b → GoesOrFull call (if b then goes (record past { control = c; callers = record { control = past.control; result = r } ∷ p.callers }) else no_step) p
       by true q = tt
-      by false q = grind (arith, common_steps)
+      by false q = (y, grind (arith, common_steps))
 
-  ends-on : (cs : List Caller) (o : Option Stand) → cs ≡ [] → IsSome o → GoesOrFull (ends_at past cs o) p
+  ends-on : (cs : List Caller) (o : Option Stand) → cs ≡ [] → IsSome o → GoesOrFull call (ends_at past cs o) p
   ends-on [] None e h = absurd cc
   ends-on [] (Some x) e h = tt
   ends-on (c ∷ cs) o e h = absurd cc
 
-  back-on : (o : Option OperandText) (c : Caller) (more cs : List Caller) → cs ≡ c ∷ more → IsSome (given_back p.control.held o c) → GoesOrFull (returns past o cs) p
-  back-on o c more cs e h = subst (λ (x : List Caller). GoesOrFull (returns past o x) p) (sym e) (by (given_back p.control.held o c) h)
+  back-on : (o : Option OperandText) (c : Caller) (more cs : List Caller) → cs ≡ c ∷ more → IsSome (given_back p.control.held o c) → GoesOrFull call (returns past o cs) p
+  back-on o c more cs e h = subst (λ (x : List Caller). GoesOrFull call (returns past o x) p) (sym e) (by (given_back p.control.held o c) h)
     where
-      by : (x : Option Env) → IsSome x → GoesOrFull (goes_back past c more x) p
+      by : (x : Option Env) → IsSome x → GoesOrFull call (goes_back past c more x) p
       by None g = absurd cc
       by (Some x) g = tt
 
@@ -77,36 +78,36 @@ module _ (s : Scene) (p : Point) (rest : List LineText) where
   mapped f None h = absurd cc
   mapped f (Some x) h = refl
 
-  call-on : (f : UnitName) (os : List OperandText) (r : Option (List ℕ)) → ((is_assert f ≡ true) × IsSome (asserted p.control.held os)) ⊎ ((is_assert f ≡ false) × IsSome (called (function_named f s.functions) (data_at p.control.held os)))
-      → GoesOrFull (if is_assert f then tells past (asserted p.control.held os) else opens past r (called (function_named f s.functions) (data_at p.control.held os))) p
-  call-on f os r (inl h) =
-      subst (λ (b : Bool). GoesOrFull (if b then tells past (asserted p.control.held os) else opens past r (called (function_named f s.functions) (data_at p.control.held os))) p) (sym h.0) (tells-on (asserted p.control.held os) h.1)
-  call-on f os r (inr h) =
-      subst (λ (b : Bool). GoesOrFull (if b then tells past (asserted p.control.held os) else opens past r (called (function_named f s.functions) (data_at p.control.held os))) p) (sym h.0)
-      (opens-on r (called (function_named f s.functions) (data_at p.control.held os)) h.1)
+  call-on : (f : UnitName) → (is_assert f ≡ false → call) → (os : List OperandText) (r : Option (List ℕ)) → ((is_assert f ≡ true) × IsSome (asserted p.control.held os)) ⊎ ((is_assert f ≡ false) × IsSome (called (function_named f s.functions) (data_at p.control.held os)))
+      → GoesOrFull call (if is_assert f then tells past (asserted p.control.held os) else opens past r (called (function_named f s.functions) (data_at p.control.held os))) p
+  call-on f y os r (inl h) =
+      subst (λ (b : Bool). GoesOrFull call (if b then tells past (asserted p.control.held os) else opens past r (called (function_named f s.functions) (data_at p.control.held os))) p) (sym h.0) (tells-on (asserted p.control.held os) h.1)
+  call-on f y os r (inr h) =
+      subst (λ (b : Bool). GoesOrFull call (if b then tells past (asserted p.control.held os) else opens past r (called (function_named f s.functions) (data_at p.control.held os))) p) (sym h.0)
+      (opens-on (y h.0) r (called (function_named f s.functions) (data_at p.control.held os)) h.1)
 
-  exec-on : (i : InstText) (r : Option (List ℕ)) → Finds s p i → GoesOrFull (executes s i r past) p
-  exec-on (const_text d) r h = tt
-  exec-on (pure_text o os) r h = gives-on r (operated p.control.unit p.control.held o os) h
-  exec-on (var_text a) r h = gives-on r (option_map cell_held (datum_at p.control.held a.value)) (mapped cell_held (datum_at p.control.held a.value) h)
-  exec-on (ld_text a) r h = gives-on r (option_map datum_held (cell_at p.control.held a.value)) (mapped datum_held (cell_at p.control.held a.value) h)
-  exec-on (st_text to value) r h = stores-on to.value (cell_at p.control.held to.value) (datum_at p.control.held value) h.0 h.1
-  exec-on (prb_text a) r h = gives-on r (probed s.now p.control.held a) h
-  exec-on (drv_text to value after cond) r h = wishes-on (driven s.at p.control.held p.wish to value after cond) h
-  exec-on (call_text f ty os) r h = call-on f os r h
-  exec-on (phi_text ty es) r h = tt
-  exec-on (br_text to) r h = jumps-on (entered p.control.unit p.control.held p.control.block to) h
-  exec-on (branch_text cond first second) r h = jumps-on (option_and_then (entered p.control.unit p.control.held p.control.block) (chosen (test_at p.control.held cond) first second)) h
-  exec-on (wait_text to after on) r h = ends-on p.callers (waiting p.control.block to (parts_at p.control.held on) (wake_at s.at p.control.held after)) h.0 h.1
-  exec-on halt_text r h = ends-on p.callers (Some _) h refl
-  exec-on (ret_text o) r h = back-on o h.0 h.1 p.callers h.2 h.3
-  exec-on (sig_text a) r h = absurd h
-  exec-on (reg_text to gs) r h = absurd h
-  exec-on (child_text v is os) r h = absurd h
+  exec-on : (i : InstText) (r : Option (List ℕ)) → ((f : UnitName) (ty : TypeTree) (args : List OperandText) → i ≡ call_text f ty args → is_assert f ≡ false → call) → Finds s p i → GoesOrFull call (executes s i r past) p
+  exec-on (const_text d) r y h = tt
+  exec-on (pure_text o os) r y h = gives-on r (operated p.control.unit p.control.held o os) h
+  exec-on (var_text a) r y h = gives-on r (option_map cell_held (datum_at p.control.held a.value)) (mapped cell_held (datum_at p.control.held a.value) h)
+  exec-on (ld_text a) r y h = gives-on r (option_map datum_held (cell_at p.control.held a.value)) (mapped datum_held (cell_at p.control.held a.value) h)
+  exec-on (st_text to value) r y h = stores-on to.value (cell_at p.control.held to.value) (datum_at p.control.held value) h.0 h.1
+  exec-on (prb_text a) r y h = gives-on r (probed s.now p.control.held a) h
+  exec-on (drv_text to value after cond) r y h = wishes-on (driven s.at p.control.held p.wish to value after cond) h
+  exec-on (call_text f ty os) r y h = call-on f (λ q. y f ty os refl q) os r h
+  exec-on (phi_text ty es) r y h = tt
+  exec-on (br_text to) r y h = jumps-on (entered p.control.unit p.control.held p.control.block to) h
+  exec-on (branch_text cond first second) r y h = jumps-on (option_and_then (entered p.control.unit p.control.held p.control.block) (chosen (test_at p.control.held cond) first second)) h
+  exec-on (wait_text to after on) r y h = ends-on p.callers (waiting p.control.block to (parts_at p.control.held on) (wake_at s.at p.control.held after)) h.0 h.1
+  exec-on halt_text r y h = ends-on p.callers (Some _) h refl
+  exec-on (ret_text o) r y h = back-on o h.0 h.1 p.callers h.2 h.3
+  exec-on (sig_text a) r y h = absurd h
+  exec-on (reg_text to gs) r y h = absurd h
+  exec-on (child_text v is os) r y h = absurd h
 
-steps-on : (s : Scene) (p : Point) (ls : List LineText) → FindsFirst s p ls → GoesOrFull (steps_by s p ls) p
+steps-on : (s : Scene) (p : Point) (ls : List LineText) → FindsFirst s p ls → GoesOrFull (CallsFirst ls) (steps_by s p ls) p
 steps-on s p [] h = absurd h
-steps-on s p (l ∷ rest) h = exec-on s p rest l.inst l.result h
+steps-on s p (l ∷ rest) h = exec-on s p rest (CallsFirst (l ∷ rest)) l.inst l.result (λ f ty args q n. (f, ty, args, q, n)) h
 
 module _ (items : List ItemText) (now : List Bool) (t : Instant) (fs : FunctionsRight items) (ss : FunctionsSteady items) (u : UnitText) where
   abbrev scene : Scene
@@ -122,7 +123,7 @@ module _ (items : List ItemText) (now : List Bool) (t : Instant) (fs : Functions
   pub is-steady : (p : Point) (f : PointFits items (length now) u p) (k : PointHolds p) → IsSteady scene (length now) p
   is-steady p f k =
       let h = finds-first p f k in
-      record { fits = f.control.fits; finds = h; stops = λ e. subst (λ (x : Next). GoesOrFull x p) e (steps-on scene p p.control.rest h) }
+      record { fits = f.control.fits; finds = h; stops = λ e. subst (λ (x : Next). GoesOrFull (CallsFirst p.control.rest) x p) e (steps-on scene p p.control.rest h) }
 
   next-point : (v : UnitText) (x : Next) (q : Point) → x ≡ goes q → NextFits items (length now) t u v x → NextHolds v x → PointFits items (length now) u q × PointHolds q
   next-point v x q e f k = (subst (NextFits items (length now) t u v) e f, subst (NextHolds v) e k)

@@ -2,8 +2,10 @@
 use Rattle.std.specs.Prelude.{◌≡◌, ◌⊎◌, ℕ, ◌<◌, ◌≤◌, List, [], ◌∷◌, length, Bool, true, false, Some, IsSome}
 use Rattle.std.specs.Option.{option_and_then}
 use Rattle.lh_time.specs.declared.Instant.{Instant}
+use Rattle.lh_types.specs.Types.{TypeTree}
 use Rattle.lh_types.specs.declared.part.Range.{Range}
-use Rattle.lh_unit.specs.Contents.{InstText, const_text, pure_text, var_text, ld_text, st_text, sig_text, prb_text, drv_text, reg_text, child_text, call_text, phi_text, br_text, branch_text, wait_text, halt_text, ret_text, LineText}
+use Rattle.lh_unit.specs.declared.name.UnitName.{UnitName}
+use Rattle.lh_unit.specs.Contents.{OperandText, InstText, const_text, pure_text, var_text, ld_text, st_text, sig_text, prb_text, drv_text, reg_text, child_text, call_text, phi_text, br_text, branch_text, wait_text, halt_text, ret_text, LineText}
 use Rattle.lh_unit.specs.Named.{function_named, is_assert}
 use Rattle.lh_unit.specs.Held.{datum_at, cell_at, data_at, parts_at, test_at}
 use Rattle.lh_unit.specs.Effects.{operated, probed, driven}
@@ -43,11 +45,16 @@ abbrev pub FindsFirst : Scene → Point → List LineText → Type 0
 FindsFirst s p [] = ⊥
 FindsFirst s p (l ∷ rest) = Finds s p l.inst
 
--- A point of an activation where nothing goes wrong: what is held fits the types of its names, the next instruction finds what it looks for, and nothing but a call stops it, where as many as may be are open.
+-- a call of a function comes next
+abbrev pub CallsFirst : List LineText → Type 0
+CallsFirst [] = ⊥
+CallsFirst (l ∷ rest) = (f : UnitName) × (ty : TypeTree) × (args : List OperandText) × (l.inst ≡ call_text f ty args) × (is_assert f ≡ false)
+
+-- A point of an activation where nothing goes wrong: what is held fits the types of its names, the next instruction finds what it looks for, and nothing but a call of a function stops it, where as many as may be are open.
 pub record IsSteady (s : Scene) (width : ℕ) (p : Point) : Type 0 where
   pub fits : Fits p.control.unit width p.control.held
   pub finds : FindsFirst s p p.control.rest
-  pub stops : step s p ≡ no_step → max_calls ≤ length p.callers
+  pub stops : step s p ≡ no_step → CallsFirst p.control.rest × (max_calls ≤ length p.callers)
 
 -- executed instructions lead from one point to another, by the points after each of them
 abbrev pub Reaches : Scene → Point → List Point → Point → Type 0

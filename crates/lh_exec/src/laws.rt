@@ -13,7 +13,7 @@ pub fn state_law()
 /// Nothing goes wrong in an activation of a process of a well-formed module, from whatever state that fits, also one that no run
 /// reaches, and whatever the bits of the signals and the instant are. A process that has not halted has a place to begin. At
 /// each point that is reached what is held fits the types of its names, an instruction comes next, and it finds what it looks
-/// for, so that no default is ever met. Nothing stops an activation but a call where as many as may be are open.
+/// for, so that no default is ever met. Nothing stops an activation but a call of a function, where as many as may be are open.
 pub fn steady_law()
     ensures begins { ActivationsBegin }
     ensures steady { ActivationsAreSteady }

@@ -1,0 +1,55 @@
+-- What is counted of copies of units, over the graph of calls: how deep they nest, how many instructions and blocks they have.
+use Rattle.std.specs.Prelude.{◌≡◌, ℕ, zero, suc, ◌+◌, ◌≤◌, min, max, nat_lt, nat_eq, List, ◌∷◌, Bool, true, false, sum_by, Option, Some, None}
+use Rattle.std.specs.List.{list_any}
+use Rattle.lh_unit.specs.Design.{first_some}
+use Rattle.lh_unit.specs.declared.inst.UnitId.{UnitId}
+use Rattle.lh_flat.specs.declared.calls.Node.{Node}
+use Rattle.lh_flat.specs.declared.measure.Measure.{Measure}
+use Rattle.lh_flat.specs.Graph.{node_at, callees_at, max_counted, counted}
+
+-- no copy
+abbrev pub nothing : Measure
+nothing = record { depth = 0; insts = 0; blocks = 0 }
+
+-- copies, and others beside them
+abbrev pub beside : Measure → Measure → Measure
+beside m n = record { depth = max m.depth n.depth; insts = counted m.insts n.insts; blocks = counted m.blocks n.blocks }
+
+-- a copy of a unit that has these in it
+abbrev pub around : Measure → Node → Measure
+around m n = record { depth = counted 1 m.depth; insts = counted n.insts m.insts; blocks = counted n.blocks m.blocks }
+
+-- more than `limit` units nest from the unit n down
+abbrev pub nests : (limit : ℕ) → List Node → ℕ → Bool
+nests zero g n = true
+nests (suc k) g n = list_any (λ (t : UnitId). nests k g t.0) (callees_at g n)
+
+-- how many instructions the copies have from the unit n down, to this depth
+abbrev pub insts_in : (depth : ℕ) → List Node → ℕ → ℕ
+insts_in zero g n = 0
+insts_in (suc k) g n = (node_at g n).insts + sum_by (λ (t : UnitId). insts_in k g t.0) (callees_at g n)
+
+-- how many blocks they have
+abbrev pub blocks_in : (depth : ℕ) → List Node → ℕ → ℕ
+blocks_in zero g n = 0
+blocks_in (suc k) g n = (node_at g n).blocks + sum_by (λ (t : UnitId). blocks_in k g t.0) (callees_at g n)
+
+-- the measure of a copy of the unit n; a number that stands at its end is a count that is as large at least
+pub record IsMeasure (g : List Node) (n : ℕ) (m : Measure) : Type 0 where
+  pub depth : (k : ℕ) → suc k ≤ max_counted → nests k g n ≡ nat_lt k m.depth
+  pub insts : (k : ℕ) → suc k ≤ max_counted → m.depth ≤ k → min (insts_in k g n) max_counted ≡ m.insts
+  pub blocks : (k : ℕ) → suc k ≤ max_counted → m.depth ≤ k → min (blocks_in k g n) max_counted ≡ m.blocks
+
+-- whether one of these is the unit n
+abbrev pub is_open : (opened : List ℕ) → ℕ → Bool
+is_open opened n = list_any (λ m. nat_eq m n) opened
+
+-- whether a call names an open unit, and else what is found below it
+abbrev pub met_or : (below : ℕ → Option ℕ) → (is_open : Bool) → ℕ → Option ℕ
+met_or below true n = Some n
+met_or below false n = below n
+
+-- the target of the first call, depth first, that names an open unit; at most `steps` units are open
+abbrev pub cycle_in : (steps : ℕ) → List Node → (opened : List ℕ) → ℕ → Option ℕ
+cycle_in zero g opened n = None
+cycle_in (suc k) g opened n = first_some (λ (t : UnitId). met_or (cycle_in k g (n ∷ opened)) (is_open (n ∷ opened) t.0) t.0) (callees_at g n)

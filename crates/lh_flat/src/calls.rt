@@ -1,0 +1,125 @@
+//! The units of a module as a graph: how long each is, and the functions that it calls.
+ghost use Rattle.std.specs.Prelude.{◌≡◌, ◌<◌, ◌++◌, ◌∷◌, [], IfOk, OnOk};
+ghost use Rattle.lh_unit.specs.Named.{is_assert};
+ghost use Rattle.lh_unit.specs.Arena.{IsArena, InstPlaced, unit_count};
+ghost use Rattle.lh_flat.specs.Graph.{no_node, called_of, callee_of, with_inst, with_block, node_of, BlockPlaced, IsGraph, counted};
+
+use lh_types::list::ListOf;
+use lh_types::ty::NoMemory;
+use lh_unit::inst::{BlockId, Inst, UnitId};
+use lh_unit::module::Module;
+use lh_unit::name::UnitName;
+use lh_unit::view::UnitView;
+use std::alloc::Global;
+
+/// What is counted of a unit. Each number stands still at its type's end.
+#[derive(Drop)]
+pub struct Node {
+    /// How many instructions it has.
+    pub insts: u32,
+    /// How many pieces its calls cut its blocks into.
+    pub blocks: u32,
+    /// The functions that it calls, in text order.
+    pub callees: ListOf<UnitId>,
+}
+
+/// The sum of two counts; it stands still at its type's end.
+pub fn counted(count: u32, more: u32) -> u32
+    ensures { result ≡ counted count more }
+{
+    count.saturating_add(more)
+}
+
+/// Whether it is `@llhd.assert`, which has no text to copy.
+fn is_assert(name: &UnitName) -> bool
+    ensures { result ≡ is_assert name.now }
+{
+    name.sigil == b'@' && name.name.as_bytes() == b"llhd.assert".as_slice()
+}
+
+/// The function that an instruction of a unit calls; none where it is no `call`, or one of `@llhd.assert`.
+pub fn callee(view: UnitView<'_>, inst: &Inst) -> Option<UnitId>
+    requires { InstPlaced view.module.now view.unit.0 inst.now }
+    ensures { result ≡ callee_of view.entry.module.now inst.now }
+{
+    match inst {
+        Inst::Call { unit, .. } => called(view.module(), *unit),
+        _ => None,
+    }
+}
+
+/// A unit that is called, unless it is `@llhd.assert`.
+fn called(module: &Module, unit: UnitId) -> Option<UnitId>
+    requires { unit.0 < unit_count module.now }
+    ensures { result ≡ called_of module.now unit }
+{
+    if is_assert(module.unit_name(unit)) {
+        None
+    } else {
+        Some(unit)
+    }
+}
+
+/// The units of a module by their ids.
+pub fn graph(alloc: Global, module: &Module) -> Result<Vec<Node>, NoMemory>
+    ensures graph { IfOk result (λ nodes. IsGraph module.now nodes.items) }
+    ensures sound { IsArena module.now }
+{
+    let mut nodes = Vec::new(alloc);
+    for unit in 0..module.units() {
+        put_node(&mut nodes, unit_node(alloc, module.unit(UnitId(unit)))?)?;
+    }
+    Ok(nodes)
+}
+
+fn put_node(nodes: &mut Vec<Node>, node: Node) -> Result<(), NoMemory>
+    ensures { OnOk result (nodes.new.items ≡ nodes.old.items ++ node ∷ []) }
+{
+    match nodes.push(node) {
+        Ok(()) => Ok(()),
+        Err(_) => Err(NoMemory),
+    }
+}
+
+/// What is counted of a unit.
+fn unit_node(alloc: Global, view: UnitView<'_>) -> Result<Node, NoMemory>
+    ensures { IfOk result (λ node. node ≡ node_of view.entry.module.now view.entry.unit.0) }
+{
+    let mut node = Node {
+        insts: 0,
+        blocks: 0,
+        callees: ListOf::new(alloc),
+    };
+    for block in view.blocks() {
+        node.take_block(view, *block)?;
+    }
+    Ok(node)
+}
+
+impl Node {
+    /// Takes one more block into account.
+    fn take_block(&mut self, view: UnitView<'_>, block: BlockId) -> Result<(), NoMemory>
+        requires { BlockPlaced view.module.now view.unit.0 block }
+        ensures { OnOk result (self.new ≡ with_block view.entry.module.now view.entry.unit.0 self.old block) }
+    {
+        self.blocks = counted(self.blocks, 1);
+        for inst in view.insts(block) {
+            self.take(callee(view, view.inst(*inst)))?;
+        }
+        Ok(())
+    }
+
+    /// Takes one more instruction into account, which calls this function or none.
+    fn take(&mut self, callee: Option<UnitId>) -> Result<(), NoMemory>
+        ensures { OnOk result (self.new ≡ with_inst self.old callee) }
+    {
+        self.insts = counted(self.insts, 1);
+        match callee {
+            None => Ok(()),
+            Some(callee) => {
+                self.blocks = counted(self.blocks, 1);
+                self.callees.push(callee)
+            }
+        }
+    }
+}

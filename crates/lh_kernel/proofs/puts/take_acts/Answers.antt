@@ -1,0 +1,38 @@
+use Rattle.std.proofs.Common.{◌≡◌, ◌<◌, ◌≤◌, ◌+◌, ◌∷◌, List, length, sym, ap, ◌∙◌, subst, arith}
+use Rattle.lh_unit.specs.Within.{Each}
+use Rattle.lh_kernel.specs.declared.run.Activation.{Activation}
+use Rattle.lh_kernel.specs.Ran.{states_after}
+use Rattle.lh_kernel.specs.Puts.{wishes_by, wishes_ran}
+use Rattle.lh_kernel.proofs.Putting.{AreToBePut, can_front, puts_more, length_ran, known_on}
+use Rattle.lh_kernel.proofs.puts.take_acts.Goals as goal
+
+pub put_wishes-requires-clause-can : goal.put_wishes-requires-clause-can
+put_wishes-requires-clause-can c =
+    let P : List Activation → Type 0 = λ xs. AreToBePut c.args.queue.now.held (wishes_ran c.args.at c.args.acts.items) c.loop-done.queue.held (wishes_ran c.args.at xs) in
+    can_front c.loop-done.queue.held (wishes_by c.args.at c.in-Some.done.instance c.in-Some.done.act.wishes) (wishes_ran c.args.at c.next.new.self.rest.items)
+    (subst P c.in-Some.ensures.steps.0 c.loop-done.invariant.2).can
+
+pub put_wishes-requires-clause-room : goal.put_wishes-requires-clause-room
+put_wishes-requires-clause-room c =
+    let P : List Activation → Type 0 = λ xs. length (wishes_ran c.args.at xs) ≤ c.loop-done.queue.spare in
+    let r : length (wishes_ran c.args.at (c.in-Some.done ∷ c.next.new.self.rest.items)) ≤ c.loop-done.queue.spare = subst P c.in-Some.ensures.steps.0 c.loop-done.invariant.3 in
+    omega (arith, r, length_ran c.args.at c.in-Some.done c.next.new.self.rest.items)
+
+pub loop-done-preserved : goal.loop-done-preserved
+loop-done-preserved c =
+    let x = c.in-Some.done in
+    let xs = c.next.new.self.rest.items in
+    let P : List Activation → Type 0 = λ xs. AreToBePut c.args.queue.now.held (wishes_ran c.args.at c.args.acts.items) c.loop-done.queue.held (wishes_ran c.args.at xs) in
+    let Q : List Activation → Type 0 = λ xs. length (wishes_ran c.args.at xs) ≤ c.loop-done.queue.spare in
+    let r : length (wishes_ran c.args.at (x ∷ xs)) ≤ c.loop-done.queue.spare = subst Q c.in-Some.ensures.steps.0 c.loop-done.invariant.3 in
+    let K : List Activation → Type 0 = λ xs. Each (λ (x : Activation). x.instance < length c.loop-done.states.items) xs in
+    let k : Each (λ (x : Activation). x.instance < length c.loop-done.states.items) (x ∷ xs) = subst K c.in-Some.ensures.steps.0 c.loop-done.invariant.4 in
+    let e : states_after c.loop-done.states.items (x ∷ xs) ≡ states_after c.args.states.now.items c.args.acts.items = ap (states_after c.loop-done.states.items) (sym c.in-Some.ensures.steps.0) ∙ c.loop-done.invariant.5 in (
+      tt,
+      tt,
+      puts_more c.args.queue.now.held (wishes_ran c.args.at c.args.acts.items) c.loop-done.queue.held (wishes_by c.args.at x.instance x.act.wishes) (wishes_ran c.args.at xs) c.put_wishes.new.queue.held
+          (subst P c.in-Some.ensures.steps.0 c.loop-done.invariant.2) c.put_wishes.ensures.put,
+      omega (arith, r, length_ran c.args.at x xs, c.put_wishes.ensures.spare),
+      known_on c.loop-done.states.items c.set_state.new.states.items x.instance x.act.next xs c.set_state.ensures k.1,
+      ap (λ ss. states_after ss xs) c.set_state.ensures ∙ e,
+    )

@@ -1,0 +1,12 @@
+pub mod States
+pub mod Noted
+pub mod Noting
+pub mod Touched
+pub mod Woken
+pub mod Ran
+pub mod Moves
+pub mod Puts
+pub mod Kept
+pub mod Simulation
+pub mod Stepped
+pub mod Phases

@@ -1,0 +1,104 @@
+-- What changes of who is noted where, when states are followed by others.
+use Rattle.std.specs.Prelude.{◌≡◌, ◌≢◌, ◌↔◌, ◌⊎◌, ℕ, List, [], ◌∷◌, length, slice_get, Option, Some}
+use Rattle.lh_time.specs.declared.Instant.{Instant}
+use Rattle.lh_types.specs.declared.part.Range.{Range}
+use Rattle.lh_unit.specs.World.{bit_numbers}
+use Rattle.lh_design.specs.declared.Signal.{Signal}
+use Rattle.lh_index.specs.Rising.{Has}
+use Rattle.lh_index.specs.Sensed.{Senses}
+use Rattle.lh_index.specs.Waking.{IsNoted}
+use Rattle.lh_change.specs.Touched.{Touches, AreSignals, AreWithin}
+use Rattle.lh_states.specs.declared.state.InstState.{InstState}
+use Rattle.lh_states.specs.States.{parts_sensed, wake_kept}
+use Rattle.lh_kernel.specs.declared.noted.Noted.{Noted}
+use Rattle.lh_kernel.specs.declared.noted.Move.{Move}
+use Rattle.lh_kernel.specs.declared.run.Activation.{Activation}
+
+-- Of an instance of this number whose old state is followed by a new one: the signals that it comes to sense and those that it senses no more,
+-- and when it comes to wake by itself and when no more.
+pub record IsMove (signals : List Signal) (probes : List Range) (k : ℕ) (old new : InstState) (m : Move) : Type 0 where
+  pub instance : m.instance ≡ k
+  pub came : (s : ℕ) → Has s m.came ↔ (Touches signals (bit_numbers (parts_sensed new probes)) s × ¬ Touches signals (bit_numbers (parts_sensed old probes)) s)
+  pub gone : (s : ℕ) → Has s m.gone ↔ (Touches signals (bit_numbers (parts_sensed old probes)) s × ¬ Touches signals (bit_numbers (parts_sensed new probes)) s)
+  pub wake_came : (t : Instant) → (m.wake_came ≡ Some t) ↔ ((wake_kept new ≡ Some t) × (wake_kept old ≢ Some t))
+  pub wake_gone : (t : Instant) → (m.wake_gone ≡ Some t) ↔ ((wake_kept old ≡ Some t) × (wake_kept new ≢ Some t))
+
+-- the signals that have a bit of the one parts and none of the others, and the other way about
+pub record AreBetween (signals : List Signal) (left entered : List Range) (came gone : List ℕ) : Type 0 where
+  pub enters : (s : ℕ) → Has s came ↔ (Touches signals (bit_numbers entered) s × ¬ Touches signals (bit_numbers left) s)
+  pub leaves : (s : ℕ) → Has s gone ↔ (Touches signals (bit_numbers left) s × ¬ Touches signals (bit_numbers entered) s)
+
+-- what the instance of an activation sensed and will sense lies within so many bits
+pub record SensesFit (width : ℕ) (probes : List (List Range)) (states : List InstState) (x : Activation) : Type 0 where
+  pub probed : List Range
+  pub state : InstState
+  pub is_probed : slice_get probes x.instance ≡ Some probed
+  pub is_kept : slice_get states x.instance ≡ Some state
+  pub left : AreWithin width (parts_sensed state probed)
+  pub entered : AreWithin width (parts_sensed x.act.next probed)
+
+-- the move of the instance of an activation, from the state that was kept of it
+pub record IsMoveOf (signals : List Signal) (probes : List (List Range)) (states : List InstState) (x : Activation) (m : Move) : Type 0 where
+  pub probed : List Range
+  pub state : InstState
+  pub is_probed : slice_get probes x.instance ≡ Some probed
+  pub is_kept : slice_get states x.instance ≡ Some state
+  pub moves : IsMove signals probed x.instance state x.act.next m
+
+-- the moves of activations, one by one
+abbrev pub AreMoves : (signals : List Signal) → (probes : List (List Range)) → (states : List InstState) → List Activation → List Move → Type 0
+AreMoves signals probes states [] [] = Unit {0}
+AreMoves signals probes states (x ∷ xs) (m ∷ ms) = IsMoveOf signals probes states x m × AreMoves signals probes states xs ms
+AreMoves signals probes states _ _ = ⊥
+
+-- one of the moves is so
+abbrev pub OneMove : (Move → Type 0) → List Move → Type 0
+OneMove P [] = ⊥
+OneMove P (m ∷ ms) = P m ⊎ OneMove P ms
+
+-- a move has an instance come to a signal, or to an instant
+abbrev pub ComesTo : List Move → (signal k : ℕ) → Type 0
+ComesTo moves signal k = OneMove (λ (m : Move). (m.instance ≡ k) × Has signal m.came) moves
+
+abbrev pub GoesFrom : List Move → (signal k : ℕ) → Type 0
+GoesFrom moves signal k = OneMove (λ (m : Move). (m.instance ≡ k) × Has signal m.gone) moves
+
+abbrev pub WakeComes : List Move → Instant → (k : ℕ) → Type 0
+WakeComes moves t k = OneMove (λ (m : Move). (m.instance ≡ k) × (m.wake_came ≡ Some t)) moves
+
+abbrev pub WakeGoes : List Move → Instant → (k : ℕ) → Type 0
+WakeGoes moves t k = OneMove (λ (m : Move). (m.instance ≡ k) × (m.wake_gone ≡ Some t)) moves
+
+-- the signals of moves are signals of the design
+abbrev pub MovesKnown : (signals : List Signal) → List Move → Type 0
+MovesKnown signals [] = Unit {0}
+MovesKnown signals (m ∷ ms) = AreSignals signals m.came × AreSignals signals m.gone × MovesKnown signals ms
+
+-- what moves come to was not noted
+pub record AreFresh (moves : List Move) (n : Noted) : Type 0 where
+  pub senses : (signal k : ℕ) → ComesTo moves signal k → ¬ Senses n.index signal k
+  pub wakes : (t : Instant) (k : ℕ) → WakeComes moves t k → ¬ IsNoted n.wakes t k
+
+-- what moves come to is noted beside what was
+pub record HasEntered (moves : List Move) (old new : Noted) : Type 0 where
+  pub long : length new.index ≡ length old.index
+  pub senses : (signal k : ℕ) → Senses new.index signal k ↔ (ComesTo moves signal k ⊎ Senses old.index signal k)
+  pub wakes : (t : Instant) (k : ℕ) → IsNoted new.wakes t k ↔ (WakeComes moves t k ⊎ IsNoted old.wakes t k)
+
+-- some of what moves come to is noted beside what was
+pub record HasEnteredSome (moves : List Move) (old new : Noted) : Type 0 where
+  pub long : length new.index ≡ length old.index
+  pub senses : (signal k : ℕ) → (Senses new.index signal k → ComesTo moves signal k ⊎ Senses old.index signal k) × (Senses old.index signal k → Senses new.index signal k)
+  pub wakes : (t : Instant) (k : ℕ) → (IsNoted new.wakes t k → WakeComes moves t k ⊎ IsNoted old.wakes t k) × (IsNoted old.wakes t k → IsNoted new.wakes t k)
+
+-- what moves go from is noted no more
+pub record HasLeft (moves : List Move) (old new : Noted) : Type 0 where
+  pub long : length new.index ≡ length old.index
+  pub senses : (signal k : ℕ) → Senses new.index signal k ↔ (Senses old.index signal k × ¬ GoesFrom moves signal k)
+  pub wakes : (t : Instant) (k : ℕ) → IsNoted new.wakes t k ↔ (IsNoted old.wakes t k × ¬ WakeGoes moves t k)
+
+-- the same is noted
+pub record IsSameNoted (old new : Noted) : Type 0 where
+  pub long : length new.index ≡ length old.index
+  pub senses : (signal k : ℕ) → Senses new.index signal k ↔ Senses old.index signal k
+  pub wakes : (t : Instant) (k : ℕ) → IsNoted new.wakes t k ↔ IsNoted old.wakes t k

@@ -1,0 +1,58 @@
+//! Taking what the instances of a frame did.
+ghost use Rattle.std.specs.Prelude.{◌≡◌, ◌<◌, ◌≤◌, ◌+◌, length, slice_set};
+ghost use Rattle.lh_unit.specs.Within.{Each};
+ghost use Rattle.lh_kernel.specs.declared.run.Activation as ran;
+ghost use Rattle.lh_kernel.specs.Ran.{states_after};
+ghost use Rattle.lh_kernel.specs.Puts.{wishes_by, wishes_ran, WerePut, CanBePut};
+
+use crate::run::Activation;
+use lh_queue::queue::Queue;
+use lh_queue::wish::Wish;
+use lh_states::state::InstState;
+use lh_time::Instant;
+use lh_types::writes::DueWrites;
+
+/// Takes what the instances did at an instant: their wishes into the queue, and their states. It takes no memory.
+pub(crate) fn take_acts(
+    queue: &mut Queue,
+    states: &mut Vec<InstState>,
+    at: Instant,
+    acts: Vec<Activation>,
+)
+    requires can { CanBePut queue.old.held (wishes_ran at acts.items) }
+    requires room { length (wishes_ran at acts.items) ≤ queue.old.spare }
+    requires known { Each (λ (x : ran.Activation). x.instance < length states.old.items) acts.items }
+    ensures put { WerePut queue.old.held (wishes_ran at acts.items) queue.new.held }
+    ensures states { states.new.items ≡ states_after states.old.items acts.items }
+{
+    for done in acts {
+        let Activation { instance, act } = done;
+        put_wishes(queue, at, instance, act.wishes);
+        set_state(states, instance, act.next);
+    }
+}
+
+/// What is kept of an instance becomes this.
+fn set_state(states: &mut Vec<InstState>, instance: u32, next: InstState)
+    requires known { instance < length states.old.items }
+    ensures { states.new.items ≡ slice_set states.old.items instance next }
+{
+    states[instance as usize] = next;
+}
+
+/// Puts the wishes that an instance made at an instant. It takes no memory.
+fn put_wishes(queue: &mut Queue, at: Instant, instance: u32, wishes: DueWrites)
+    requires can { CanBePut queue.old.held (wishes_by at instance wishes) }
+    requires room { length wishes ≤ queue.old.spare }
+    ensures put { WerePut queue.old.held (wishes_by at instance wishes) queue.new.held }
+    ensures spare { queue.old.spare ≤ queue.new.spare + length wishes }
+{
+    for (due, bits) in wishes.into_vec() {
+        queue.put(Wish {
+            made: at,
+            instance,
+            due,
+            bits,
+        });
+    }
+}

@@ -1,0 +1,106 @@
+//! A simulation before its first frame.
+ghost use Rattle.std.specs.Prelude.{◌≡◌, ◌≤◌, None, false, length, map, IfOk};
+ghost use Rattle.lh_unit.specs.Arena.{Arena, contents};
+ghost use Rattle.lh_unit.specs.World.{first_world, starts};
+ghost use Rattle.lh_unit.specs.Within.{Each};
+ghost use Rattle.lh_design.specs.Filling.{SignalsFill};
+ghost use Rattle.lh_design.specs.Texts.{instance_text, design_text};
+ghost use Rattle.lh_elab.specs.Answer.{IsDesignOf};
+ghost use Rattle.lh_elab.specs.Probed.{AreProbes};
+ghost use Rattle.lh_kernel.specs.States.{StatesStand, StatesFit};
+ghost use Rattle.lh_kernel.specs.Noted.{IsNotedFor, SensedWithin};
+ghost use Rattle.lh_kernel.specs.Kept.{IsKept, WakesAfter};
+ghost use Rattle.lh_kernel.specs.Simulation.{StandsFor, simulation_of};
+
+use crate::machine::Machine;
+use crate::noted::Noted;
+use lh_change::signals::signals_of;
+use lh_design::Design;
+use lh_elab::probes_of;
+use lh_index::sensing::Index;
+use lh_index::wakes::Wakes;
+use lh_queue::queue::Queue;
+use lh_states::state::InstState;
+use lh_types::part::RangeList;
+use lh_types::ty::NoMemory;
+use lh_unit::module::Module;
+use std::alloc::Global;
+
+impl<'m> Machine<'m> {
+    /// The parts of the simulation of a design before its first frame.
+    pub fn started(alloc: Global, m: &'m Module, d: Design) -> Result<Machine<'m>, NoMemory>
+        requires { IsDesignOf m.now d }
+        ensures kept { IfOk result IsKept }
+        ensures stands { IfOk result
+            (λ x. StandsFor (simulation_of x false) (first_world (contents m.now) (design_text m.now d))) }
+        ensures module { IfOk result (λ x. x.«module».now ≡ m.now) }
+        ensures design { IfOk result (λ x. x.design ≡ d) }
+    {
+        let probes = probes_of(alloc, m, &d)?;
+        let states = starts(alloc, m, &d)?;
+        let noted = noted_for(alloc, &d, &states, &probes)?;
+        let bits = d.init().copy()?;
+        let looked = d.init().copy()?;
+        Ok(Machine {
+            module: m,
+            design: d,
+            bits,
+            looked,
+            last: None,
+            states,
+            probes,
+            queue: Queue::new(alloc),
+            noted,
+            alloc,
+        })
+    }
+}
+
+/// What is kept of each instance as it begins.
+fn starts(alloc: Global, m: &Module, d: &Design) -> Result<Vec<InstState>, NoMemory>
+    requires { IsDesignOf m.now d.now }
+    ensures stand { IfOk result
+        (λ ss. StatesStand m.now d.now.instances.items ss.items (starts (contents m.now) (map (instance_text m.now) d.now.instances.items))) }
+    ensures fit { IfOk result (λ ss. StatesFit m.now (length d.now.init) d.now.instances.items ss.items) }
+    ensures wakes { IfOk result (λ ss. Each (WakesAfter None) ss.items) }
+{
+    let mut states = Vec::new(alloc);
+    for instance in d.instances() {
+        states.push(InstState::start(alloc, m, instance.unit)?)?;
+    }
+    Ok(states)
+}
+
+/// What is noted of instances with these states, where entities probe these parts.
+fn noted_for(
+    alloc: Global,
+    d: &Design,
+    states: &[InstState],
+    probes: &[RangeList],
+) -> Result<Noted, NoMemory>
+    requires fill { SignalsFill d.now }
+    requires few { length states.now ≤ 65536 }
+    requires within { SensedWithin (length d.now.init) states.now probes.now }
+    ensures { IfOk result
+        (λ n. (a : Arena) → AreProbes a d.now.instances.items probes.now → IsNotedFor a d.now.instances.items d.now.signals.items states.now n) }
+{
+    let mut noted = Noted {
+        index: Index::new(alloc, signal_count(d))?,
+        wakes: Wakes::new(alloc),
+    };
+    for (number, state) in states.iter().enumerate() {
+        let signals = signals_of(alloc, d, state.senses(&probes[number]))?;
+        noted.note(number as u32, &signals, state.wake())?;
+    }
+    Ok(noted)
+}
+
+/// How many signals there are.
+fn signal_count(d: &Design) -> u32
+    requires { SignalsFill d.now }
+    ensures { result ≡ length d.now.signals.items }
+{
+    // There are no more signals than bits, and fewer than 2^32 bits.
+    let _ = d.init().len();
+    d.signals().len() as u32
+}
