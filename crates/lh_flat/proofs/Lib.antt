@@ -5,3 +5,5 @@ pub mod Measuring
 pub mod Searching
 pub mod Stepping
 pub mod Reading
+pub mod Lengths
+pub mod Names

@@ -4,7 +4,9 @@
 pub mod calls;
 pub mod fault;
 pub mod flat;
+pub mod laws;
 pub mod measure;
+pub mod rename;
 pub mod search;
 
 pub use crate::fault::FlatFault;

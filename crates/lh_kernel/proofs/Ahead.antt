@@ -1,5 +1,5 @@
 -- What a plan comes to was not noted.
-use Rattle.std.proofs.Common.{◌≡◌, ℕ, List, Option, Some, None, length, refl, sym, subst}
+use Rattle.std.proofs.Common.{◌≡◌, ℕ, List, Option, None, refl, sym, subst}
 use Rattle.lh_time.specs.declared.Instant.{Instant}
 use Rattle.lh_unit.specs.Within.{Each}
 use Rattle.lh_elab.specs.Answer.{InstanceIs}

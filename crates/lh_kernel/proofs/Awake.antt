@@ -1,23 +1,22 @@
 -- Which instances wake: by what is kept of them as by their states, and the list of their numbers by what it has.
-use Rattle.std.proofs.Common.{arith, ◌≡◌, ◌≢◌, ℕ, zero, suc, ◌+◌, ◌<◌, ◌≤◌, List, [], ◌∷◌, length, map, Bool, true, false, ◌||◌, if◌then◌else◌, Option, Some, None, refl, ap, sym, ◌∙◌, subst, ◌⊎◌, inl, inr}
+use Rattle.std.proofs.Common.{arith, ◌≡◌, ℕ, zero, suc, ◌+◌, ◌<◌, List, [], ◌∷◌, length, map, Bool, true, false, ◌||◌, if◌then◌else◌, Option, Some, None, refl, ap, sym, ◌∙◌, subst, inl, inr}
 use Rattle.std.specs.Prelude.{◌↔◌, slice_get}
 use Rattle.std.specs.Option.{option_map_or}
 use Rattle.std.specs.List.{list_any}
 use Rattle.lh_time.specs.declared.Instant.{Instant}
 use Rattle.lh_types.specs.declared.part.Range.{Range}
 use Rattle.lh_unit.specs.declared.inst.UnitKind.TheVariants as kind
-use Rattle.lh_unit.specs.Arena.{Arena, IsArena, unit_count, contents, kind_at, unit_name_at, unit_text_at}
+use Rattle.lh_unit.specs.Arena.{Arena, IsArena, contents, unit_name_at, unit_text_at}
 use Rattle.lh_unit.specs.Contents.{UnitText}
-use Rattle.lh_unit.specs.World.{State, unit_of, senses, wake_of, woken, bit_numbers, bit_differs, is_at}
+use Rattle.lh_unit.specs.World.{State, unit_of, senses, woken, bit_numbers, bit_differs, is_at}
 use Rattle.lh_unit.specs.Frames.{woken_from}
 use Rattle.lh_unit.specs.Within.{Each}
 use Rattle.lh_eval.specs.declared.instance.Instance.{Instance}
 use Rattle.lh_design.specs.Texts.{instance_text}
 use Rattle.lh_index.specs.Rising.{Has, AreAbove, IsRising}
 use Rattle.lh_elab.specs.Answer.{InstanceIs}
-use Rattle.lh_elab.specs.Probed.{probed_by}
 use Rattle.lh_states.specs.declared.state.InstState.{InstState}
-use Rattle.lh_states.specs.States.{StateIs, StateFits, parts_sensed, wake_kept}
+use Rattle.lh_states.specs.States.{StateIs, StateFits, wake_kept}
 use Rattle.lh_states.specs.Laws.{SensesAlike, WakesAlike, UnitIsNamed}
 use Rattle.lh_kernel.specs.States.{StatesStand, StatesFit}
 use Rattle.lh_kernel.specs.Woken.{awakes, awake_from}

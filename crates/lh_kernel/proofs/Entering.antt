@@ -1,8 +1,7 @@
 -- Steps of entering and leaving what instances come to and go from, move by move.
-use Rattle.std.proofs.Common.{arith, ◌≡◌, ℕ, zero, suc, ◌+◌, ◌<◌, ◌≤◌, List, [], ◌∷◌, ◌++◌, length, get_or, take, refl, ap, sym, ◌∙◌, subst, ◌⊎◌, inl, inr, Option, Some, None}
+use Rattle.std.proofs.Common.{arith, ◌≡◌, ℕ, zero, suc, ◌+◌, ◌<◌, ◌≤◌, List, [], ◌∷◌, ◌++◌, length, get_or, take, refl, ap, sym, ◌∙◌, subst, ◌⊎◌, inl, inr, Some}
 use Rattle.std.specs.Prelude.{◌↔◌}
 use Rattle.std.proofs.lemmas.List.{take_more, take_all}
-use Rattle.lh_time.specs.declared.Instant.{Instant}
 use Rattle.lh_index.specs.Rising.{Has}
 use Rattle.lh_index.specs.Sensed.{Senses}
 use Rattle.lh_index.specs.Waking.{IsNoted}
@@ -12,7 +11,7 @@ use Rattle.lh_kernel.specs.declared.noted.Noted.{Noted}
 use Rattle.lh_kernel.specs.declared.noted.Move.{Move}
 use Rattle.lh_kernel.specs.Noting.{HasNoted, HasNotedSome, HasForgotten}
 use Rattle.lh_kernel.specs.Moves.{OneMove, ComesTo, GoesFrom, WakeComes, WakeGoes, MovesKnown, AreFresh, HasEntered, HasEnteredSome, HasLeft, IsSameNoted}
-use Rattle.lh_kernel.proofs.Relations.{With, WithSome, Without, IsEither, with_none, without_none, with_more, without_more, with_some, some_of_all, taken_back}
+use Rattle.lh_kernel.proofs.Relations.{Without, IsEither, with_none, without_none, with_more, without_more, with_some, some_of_all, taken_back}
 use Rattle.lh_kernel.proofs.Noting.{OfSignal, OfWake}
 
 one_push : (P : Move → Type 0) (ms : List Move) (m : Move) → OneMove P (ms ++ m ∷ []) ↔ (OneMove P ms ⊎ P m)

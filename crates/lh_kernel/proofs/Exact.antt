@@ -1,13 +1,11 @@
 -- What is noted stays exact: what activations come to is entered, what they go from is left, and then it is that of the states after them.
-use Rattle.std.proofs.Common.{arith, ◌≡◌, ◌≢◌, ℕ, zero, suc, ◌+◌, ◌<◌, ◌≤◌, List, [], ◌∷◌, length, map, Bool, true, false, Option, Some, None, refl, ap, sym, ◌∙◌, subst, ◌⊎◌, inl, inr}
+use Rattle.std.proofs.Common.{arith, ◌≡◌, ℕ, zero, suc, ◌+◌, ◌<◌, ◌≤◌, List, [], ◌∷◌, length, map, Bool, true, false, Option, Some, None, refl, ap, sym, ◌∙◌, subst, ◌⊎◌, inl, inr}
 use Rattle.std.specs.Prelude.{◌↔◌, slice_get, slice_set}
-use Rattle.std.specs.Option.{IsSomeAnd}
 use Rattle.std.specs.Ordering.{is_eq}
 use Rattle.std.proofs.lemmas.Bool.{cases_lt, cases_eq}
 use Rattle.std.proofs.lemmas.Cmp.{tied_itself}
 use Rattle.std.proofs.lemmas.Option.{slice_get_within}
 use Rattle.lh_time.specs.declared.Instant.{Instant}
-use Rattle.lh_time.specs.Order.{instant_cmp}
 use Rattle.lh_time.proofs.OrderLemmas.{instant_cmp_total}
 use Rattle.lh_types.specs.Types.{bit_count}
 use Rattle.lh_types.specs.declared.part.Range.{Range}
@@ -21,7 +19,7 @@ use Rattle.lh_index.specs.Sensed.{Senses}
 use Rattle.lh_index.specs.Waking.{IsNoted}
 use Rattle.lh_design.specs.declared.Signal.{Signal}
 use Rattle.lh_queue.proofs.Entries.{at_one}
-use Rattle.lh_change.specs.Touched.{Touches, HasBit, IsBitOf}
+use Rattle.lh_change.specs.Touched.{Touches, HasBit}
 use Rattle.lh_elab.specs.Probed.{probed_by, AreProbes}
 use Rattle.lh_states.specs.declared.state.InstState.{InstState}
 use Rattle.lh_states.specs.States.{parts_sensed, wake_kept}
@@ -32,8 +30,8 @@ use Rattle.lh_kernel.specs.declared.run.Activation.{Activation}
 use Rattle.lh_kernel.specs.States.{StatesFit, SensesSignal, WakesItself}
 use Rattle.lh_kernel.specs.Noted.{IsNotedFor}
 use Rattle.lh_kernel.specs.Ran.{ActOfOne, states_after}
-use Rattle.lh_kernel.specs.Moves.{IsMove, IsMoveOf, AreMoves, OneMove, ComesTo, GoesFrom, WakeComes, WakeGoes, SensesFit, AreFresh, HasEntered, HasLeft}
-use Rattle.lh_kernel.proofs.Places.{are_within, fit_at, instance_at, probed_at, as_probed}
+use Rattle.lh_kernel.specs.Moves.{IsMoveOf, AreMoves, OneMove, ComesTo, GoesFrom, WakeComes, WakeGoes, SensesFit, AreFresh, HasEntered, HasLeft}
+use Rattle.lh_kernel.proofs.Places.{are_within, fit_at, probed_at}
 
 -- what is known or is not
 bool_or : (b : Bool) → (b ≡ true) ⊎ (b ≡ false)

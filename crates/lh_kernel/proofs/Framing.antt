@@ -2,39 +2,35 @@
 use Rattle.std.proofs.Common.{◌≡◌, ◌≢◌, ◌<◌, ℕ, zero, suc, List, [], ◌∷◌, ◌++◌, map, Bool, true, false, length, slice_get, Option, Some, None, arith, refl, ap, sym, ◌∙◌, subst}
 use Rattle.std.specs.Option.{option_map}
 use Rattle.lh_time.specs.declared.Instant.{Instant}
-use Rattle.lh_time.specs.Order.{instant_lt, instant_le}
+use Rattle.lh_time.specs.Order.{instant_le}
 use Rattle.lh_time.proofs.OrderLemmas.{instant_le-lt}
 use Rattle.lh_types.specs.declared.frame.Outcome.{Outcome}
-use Rattle.lh_types.specs.declared.frame.Frame.{Frame}
 use Rattle.lh_types.specs.Pictures.{Showing, Picture, picture, showing_of}
 use Rattle.lh_types.specs.History.{Made, Claim, claims, values_by, bits_at, bits_after}
 use Rattle.lh_history.proofs.Frames.{histories_join}
 use Rattle.lh_history.proofs.Instants.{le_self}
 use Rattle.lh_design.specs.declared.Signal.{Signal}
 use Rattle.lh_unit.specs.Arena.{Arena, contents}
-use Rattle.lh_unit.specs.Design as text
-use Rattle.lh_unit.specs.World.{World, State, Act, bits_by, bits_of, acts_from, acts_at, rules_of, made_by, afters, world_after}
+use Rattle.lh_unit.specs.World.{World, Act, bits_by, bits_of, acts_from, acts_at, rules_of, made_by, afters}
 use Rattle.lh_unit.specs.Trace.{least_runaway, outcomes_of}
 use Rattle.lh_unit.specs.Frames.{woken_from, woken_at, signal_values, changes_by, values_before}
 use Rattle.lh_unit.specs.Within.{Each}
 use Rattle.lh_meaning.proofs.TraceLaw.{bits_stay_law}
 use Rattle.lh_eval.specs.declared.instance.Instance.{Instance}
 use Rattle.lh_queue.specs.declared.wish.Wish.{Wish}
-use Rattle.lh_queue.specs.Held.{Held, due_later, NoneDueBefore, BitsWithin, EachWithin, EachNames}
+use Rattle.lh_queue.specs.Held.{Held, due_later, BitsWithin, EachWithin, EachNames}
 use Rattle.lh_queue.specs.Holds.{entries, HoldsFor, IsAfter, IsFrom, AreBitsAt, HoldsOn}
 use Rattle.lh_queue.proofs.Keeping.{later_within, later_names}
-use Rattle.lh_index.specs.Waking.{IsNoted}
 use Rattle.lh_design.specs.Texts.{instance_text, signal_text, design_text}
 use Rattle.lh_states.specs.declared.state.InstState.{InstState}
 use Rattle.lh_kernel.specs.States.{StatesStand, StatesFit, WakesItself}
 use Rattle.lh_kernel.specs.Touched.{bits_then}
-use Rattle.lh_kernel.specs.Woken.{awake_from}
 use Rattle.lh_kernel.specs.Ran.{AllRan, ActOfOne, states_after}
 use Rattle.lh_kernel.specs.Noted.{IsNotedFor}
 use Rattle.lh_kernel.specs.Moves.{AreFresh, HasEntered, HasLeft, IsSameNoted}
 use Rattle.lh_kernel.specs.Puts.{wishes_ran, WerePut, CanBePut}
 use Rattle.lh_kernel.specs.Kept.{IsKept, IsWaiting, WakesAfter}
-use Rattle.lh_kernel.specs.Simulation.{Simulation, StandsFor, simulation_of}
+use Rattle.lh_kernel.specs.Simulation.{StandsFor, simulation_of}
 use Rattle.lh_kernel.specs.Stepped.{shows_at, acts_in, world_then}
 use Rattle.lh_kernel.specs.Phases.{ComesNext, IsPlanned, IsAhead, IsFrame, awake_in, looked_at, woken_in}
 use Rattle.lh_kernel.specs.declared.machine.Machine.{Machine}
@@ -42,13 +38,13 @@ use Rattle.lh_kernel.specs.declared.plan.Plan.{Plan}
 use Rattle.lh_kernel.specs.declared.noted.Noted.{Noted}
 use Rattle.lh_kernel.specs.declared.noted.Move.{Move}
 use Rattle.lh_kernel.specs.declared.run.Activation.{Activation}
-use Rattle.lh_kernel.proofs.Looking.{length_values}
+use Rattle.lh_kernel.proofs.Looking.{length_values, length_fit}
 use Rattle.lh_kernel.proofs.Ahead.{plan_rises, plan_instances}
 use Rattle.lh_kernel.proofs.Acts.{Known, woken_same, acts_by, runaway_same, outcomes_same, afters_stand, claims_ran}
 use Rattle.lh_kernel.proofs.After.{after_fit, after_wakes}
 use Rattle.lh_kernel.proofs.Exact.{fresh_moves, noted_after}
 use Rattle.lh_kernel.proofs.Putting.{entries_put, put_each, put_within, put_names, put_holds}
-use Rattle.lh_kernel.proofs.Wished.{instances_of, can_all, each_wish, each_grouped, filled_names, entries_same, later_each, later_waits, made_before, IsMadeElsewhen}
+use Rattle.lh_kernel.proofs.Wished.{can_all, each_wish, each_grouped, filled_names, entries_same, later_each, later_waits, made_before, IsMadeElsewhen}
 
 -- What is known once the bits of a planned frame are taken, in terms of the machine before.
 pub record IsTaken (old : Machine) (t : Instant) (p : Plan) (b l : List Bool) (q : List Held) (n : Noted) : Type 0 where
@@ -111,12 +107,6 @@ got_within [] k x e = absurd (nothing e)
 got_within (y ∷ ys) zero x e = omega arith
 got_within (y ∷ ys) (suc k) x e = let h : k < length ys = got_within ys k x e in omega (arith, h)
 
-length_fit : (a : Arena) (width : ℕ) (is : List Instance) (ss : List InstState) → StatesFit a width is ss → length ss ≡ length is
-length_fit a width [] [] f = refl
-length_fit a width [] (s ∷ ss) f = absurd f
-length_fit a width (i ∷ is) [] f = absurd f
-length_fit a width (i ∷ is) (s ∷ ss) f = ap suc (length_fit a width is ss f.1)
-
 -- the instances that did something are there
 all_there : (a : Arena) (width n : ℕ) (t : Instant) (is : List Instance) (xs : List Activation) → n ≡ length is → Each (ActOfOne a width t is) xs → Each (λ (x : Activation). x.instance < n) xs
 all_there a width n t is [] e s = tt
@@ -129,9 +119,6 @@ there_ahead old mid t p e k a =
     (ap (λ (m : Machine). length m.states.items) e ∙ length_fit old.«module».now (length old.design.init) old.design.instances.items old.states.items k.fit) a.plan.sound
 
 module _ (old : Machine) (t : Instant) (p : Plan) (kept : IsKept old) (comes : ComesNext old t) (plan : IsPlanned (looked_at old t) t p) where
-  width : ℕ
-  width = length old.design.init
-
   as_wide : length (looked_at old t).looked ≡ length old.design.init
   as_wide = length_values (entries old.queue.held) t 0 old.bits ∙ kept.width
 

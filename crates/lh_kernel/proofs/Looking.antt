@@ -1,5 +1,5 @@
 -- The bits of an instant that were looked at.
-use Rattle.std.proofs.Common.{◌≡◌, ℕ, suc, ◌+◌, ◌<◌, ◌≤◌, List, [], ◌∷◌, Bool, length, Option, Some, None, Result, IfOk, OnErr, arith, refl, ap, sym, ◌∙◌, subst}
+use Rattle.std.proofs.Common.{◌≡◌, ℕ, suc, ◌+◌, ◌<◌, List, [], ◌∷◌, Bool, length, Option, Some, None, Result, IfOk, OnErr, arith, refl, ap, sym, ◌∙◌, subst}
 use Rattle.lh_time.specs.declared.Instant.{Instant}
 use Rattle.lh_types.specs.History.{Claim, values_by}
 use Rattle.lh_queue.specs.Holds.{entries}
@@ -37,7 +37,8 @@ looked_width x t touched h = ap length h.looked ∙ length_values (entries x.que
 pub looked_fit : (x : Machine) (t : Instant) (touched : List ℕ) → HasLooked x t touched → StatesFit x.«module».now (length x.looked) x.design.instances.items x.states.items
 looked_fit x t touched h = subst (λ n. StatesFit x.«module».now n x.design.instances.items x.states.items) (sym (looked_width x t touched h)) h.kept.fit
 
-length_fit : (a : Arena) (width : ℕ) (is : List Instance) (ss : List InstState) → StatesFit a width is ss → length ss ≡ length is
+-- of as many instances as there are something is kept
+pub length_fit : (a : Arena) (width : ℕ) (is : List Instance) (ss : List InstState) → StatesFit a width is ss → length ss ≡ length is
 length_fit a width [] [] f = refl
 length_fit a width [] (s ∷ ss) f = absurd f
 length_fit a width (i ∷ is) [] f = absurd f

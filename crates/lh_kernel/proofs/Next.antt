@@ -1,5 +1,5 @@
 -- The next instant of a simulation.
-use Rattle.std.proofs.Common.{◌≡◌, ℕ, zero, suc, List, [], ◌∷◌, Bool, true, false, not, if◌then◌else◌, slice_get, arith, Option, Some, None, IfSome, refl, ap, sym, ◌∙◌, subst, ◌⊎◌, inl, inr}
+use Rattle.std.proofs.Common.{◌≡◌, ℕ, zero, suc, List, [], ◌∷◌, Bool, true, false, not, if◌then◌else◌, arith, Option, Some, None, IfSome, refl, ap, sym, ◌∙◌, subst, inl, inr}
 use Rattle.std.specs.Option.{is_some}
 use Rattle.std.specs.declared.cmp.Ordering.TheVariants.{Less}
 use Rattle.std.specs.Ordering.{nat_cmp, ordering_then, is_le}
@@ -24,7 +24,7 @@ use Rattle.lh_kernel.specs.Kept.{IsKept, IsWaiting, WakesAfter}
 use Rattle.lh_kernel.specs.Simulation.{StandsFor, simulation_of}
 use Rattle.lh_kernel.specs.Phases.{ComesNext}
 use Rattle.lh_kernel.specs.declared.machine.Machine.{Machine}
-use Rattle.lh_kernel.proofs.Soonest.{soonest_kept, soonest_noted, soonest_alike}
+use Rattle.lh_kernel.proofs.Soonest.{soonest_noted, soonest_alike}
 
 -- what is due comes after the last frame, where all that is held waits
 due_after : (l t : Instant) (held : List Held) → Each (IsWaiting (Some l)) held → OneDueAt t held → instant_lt l t ≡ true

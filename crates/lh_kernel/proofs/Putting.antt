@@ -1,5 +1,5 @@
 -- Wishes put one after the other.
-use Rattle.std.proofs.Common.{◌≡◌, ◌≢◌, ◌<◌, ◌+◌, ℕ, suc, slice_set, ap, ◌∙◌, length-append, List, [], ◌∷◌, ◌++◌, append_assoc, length, arith, Bool, true, false, if◌then◌else◌, Option, Some, refl, sym, subst, get_or, drop, drop-cons, add-one, length-drop, ◌≤◌}
+use Rattle.std.proofs.Common.{◌≡◌, ◌≢◌, ◌<◌, ◌+◌, ℕ, suc, slice_set, ap, ◌∙◌, length-append, List, [], ◌∷◌, ◌++◌, append_assoc, length, arith, Bool, true, false, if◌then◌else◌, Option, refl, sym, subst, get_or, drop, drop-cons, add-one, length-drop, ◌≤◌}
 use Rattle.std.proofs.lemmas.List.{append-nil}
 use Rattle.lh_time.specs.declared.Instant.{Instant}
 use Rattle.lh_types.specs.History.{Claim}

@@ -1,5 +1,5 @@
 -- What is kept and noted of instances as they begin.
-use Rattle.std.proofs.Common.{arith, ◌≡◌, ℕ, zero, suc, ◌+◌, ◌<◌, ◌≤◌, List, [], ◌∷◌, ◌++◌, length, map, get_or, take, Option, Some, None, refl, ap, sym, ◌∙◌, subst, ◌⊎◌, inl, inr}
+use Rattle.std.proofs.Common.{arith, ◌≡◌, ℕ, zero, suc, ◌+◌, ◌<◌, ◌≤◌, List, [], ◌∷◌, ◌++◌, length, map, get_or, take, Option, Some, None, refl, ap, sym, ◌∙◌, subst, inl, inr}
 use Rattle.std.specs.Prelude.{◌↔◌, slice_get}
 use Rattle.std.proofs.lemmas.List.{take_more, take_all}
 use Rattle.std.proofs.lemmas.Bool.{cases_lt}
@@ -10,9 +10,9 @@ use Rattle.lh_types.specs.declared.part.Range.{Range}
 use Rattle.lh_unit.specs.declared.inst.UnitKind.{UnitKind}
 use Rattle.lh_unit.specs.declared.inst.UnitKind.TheVariants as kind
 use Rattle.lh_unit.specs.Arena.{Arena, IsArena, contents, unit_name_at, unit_text_at}
-use Rattle.lh_unit.specs.Contents.{ItemText, UnitText}
+use Rattle.lh_unit.specs.Contents.{UnitText}
 use Rattle.lh_unit.specs.Hierarchy as hierarchy
-use Rattle.lh_unit.specs.World.{State, unit_of, start_by, start, starts, wake_of, bit_numbers}
+use Rattle.lh_unit.specs.World.{unit_of, start_by, start, starts, wake_of, bit_numbers}
 use Rattle.lh_unit.specs.Within.{Each}
 use Rattle.lh_unit.proofs.Lists.{Each-item}
 use Rattle.lh_eval.specs.declared.instance.Instance.{Instance}
@@ -35,7 +35,7 @@ use Rattle.lh_kernel.specs.Kept.{WakesAfter}
 use Rattle.lh_kernel.specs.declared.noted.Noted.{Noted}
 use Rattle.lh_kernel.proofs.Awake.{named}
 use Rattle.lh_kernel.proofs.Places.{are_within, probed_at}
-use Rattle.lh_kernel.proofs.Exact.{Probes, map_back}
+use Rattle.lh_kernel.proofs.Exact.{map_back}
 
 -- as it begins, no instance wakes by itself
 none_wakes : (k : UnitKind) (u : UnitText) (i : hierarchy.Instance) → wake_of (start_by k u i) ≡ None

@@ -1,12 +1,10 @@
 -- A step of a simulation by the frame of its machine.
-use Rattle.std.proofs.Common.{◌≡◌, ◌≤◌, ℕ, List, Bool, true, false, length, Option, Some, None, Result, Ok, Err, refl, ap, sym, ◌∙◌, subst}
+use Rattle.std.proofs.Common.{◌≡◌, ℕ, List, Bool, true, false, Option, Some, None, Result, Err, refl, ap, sym, ◌∙◌, subst}
 use Rattle.lh_time.specs.declared.Instant.{Instant}
-use Rattle.lh_types.specs.Raised.{raised}
 use Rattle.lh_types.specs.History.{bits_at}
 use Rattle.lh_types.specs.declared.frame.Frame.{Frame}
 use Rattle.lh_types.specs.declared.ty.NoMemory.{NoMemory}
 use Rattle.lh_unit.specs.World.{World, next_instant}
-use Rattle.lh_unit.specs.Frames.{activated_count}
 use Rattle.lh_kernel.specs.declared.machine.Machine.{Machine}
 use Rattle.lh_kernel.specs.declared.sim.SimStep.{SimStep}
 use Rattle.lh_kernel.specs.Simulation.{Simulation, StandsFor, simulation_of}

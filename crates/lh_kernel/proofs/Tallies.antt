@@ -1,5 +1,5 @@
 -- How many activations a step makes, by the definition.
-use Rattle.std.proofs.Common.{◌≡◌, ◌≤◌, ℕ, List, Bool, false, length, Option, arith, refl, ap, sym, ◌∙◌, subst}
+use Rattle.std.proofs.Common.{◌≡◌, ℕ, List, Bool, false, Option, arith, ◌∙◌, subst}
 use Rattle.lh_time.specs.declared.Instant.{Instant}
 use Rattle.lh_types.specs.Raised.{raised}
 use Rattle.lh_unit.specs.World.{World}

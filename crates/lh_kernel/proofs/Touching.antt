@@ -1,18 +1,16 @@
 -- The signals that wishes may change, wish by wish.
-use Rattle.std.proofs.Common.{arith, ◌≡◌, ℕ, ◌<◌, List, [], ◌∷◌, length, Bool, true, false, Option, Some, None, refl, ap, sym, ◌∙◌, subst, ◌⊎◌, inl, inr}
+use Rattle.std.proofs.Common.{◌≡◌, ℕ, ◌<◌, List, [], ◌∷◌, length, Bool, true, false, Option, Some, None, refl, ap, sym, ◌∙◌, subst, inl, inr}
 use Rattle.lh_time.specs.declared.Instant.{Instant}
 use Rattle.lh_types.specs.History.{values_by}
-use Rattle.lh_types.specs.Writes.{written, BitsWithin}
-use Rattle.lh_types.proofs.Writing.{length-written}
-use Rattle.lh_index.specs.Rising.{Has}
+use Rattle.lh_types.specs.Writes.{written}
 use Rattle.lh_design.specs.declared.Signal.{Signal}
 use Rattle.lh_queue.specs.declared.wish.Wish.{Wish}
-use Rattle.lh_queue.specs.Held.{Held, is_at, AreInOrder, KeysDiffer, NoneDueBefore, EachWithin, wish_at}
+use Rattle.lh_queue.specs.Held.{Held, is_at, AreInOrder, KeysDiffer, NoneDueBefore, wish_at}
 use Rattle.lh_queue.specs.Holds.{entries}
 use Rattle.lh_queue.specs.Buckets.{buckets_of, next_in}
-use Rattle.lh_queue.specs.Places.{first_key, from_key, rest_from}
-use Rattle.lh_queue.proofs.Taking.{rest_first, rest_none, within_at, looked, looked_end, looked_none}
-use Rattle.lh_change.specs.Touched.{Touches, TouchesMore, AreSignals, bits_named, StaysSame, OthersStay}
+use Rattle.lh_queue.specs.Places.{first_key, rest_from}
+use Rattle.lh_queue.proofs.Taking.{rest_first, rest_none, looked, looked_end, looked_none}
+use Rattle.lh_change.specs.Touched.{TouchesMore, AreSignals, bits_named, OthersStay}
 use Rattle.lh_change.proofs.Filled.{is_below}
 use Rattle.lh_change.proofs.Same.{only_written_change}
 use Rattle.lh_kernel.specs.Touched.{first_in, bits_then, MayChange}

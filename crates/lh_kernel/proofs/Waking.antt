@@ -1,11 +1,10 @@
 -- Who is woken: by wake times, and by signals that have changed.
-use Rattle.std.proofs.Common.{arith, ◌≡◌, ◌≢◌, ℕ, zero, suc, ◌+◌, ◌<◌, ◌≤◌, List, [], ◌∷◌, ◌++◌, length, get_or, take, Bool, true, false, ◌||◌, Option, Some, None, refl, ap, sym, ◌∙◌, subst, ◌⊎◌, inl, inr}
+use Rattle.std.proofs.Common.{arith, ◌≡◌, ℕ, zero, suc, ◌+◌, ◌<◌, ◌≤◌, List, [], ◌∷◌, ◌++◌, length, get_or, take, Bool, true, false, ◌||◌, Option, Some, None, refl, ap, sym, ◌∙◌, subst, ◌⊎◌, inl, inr}
 use Rattle.std.specs.Prelude.{◌↔◌, slice_get}
 use Rattle.std.specs.Option.{option_map_or}
 use Rattle.std.specs.List.{list_any, range_with_len}
 use Rattle.std.specs.Ordering.{is_eq}
 use Rattle.std.proofs.lemmas.List.{take_all}
-use Rattle.std.proofs.lemmas.Option.{slice_get_read, slice_get_within}
 use Rattle.std.proofs.lemmas.Cmp.{tied_itself}
 use Rattle.lh_time.specs.declared.Instant.{Instant}
 use Rattle.lh_time.proofs.OrderLemmas.{instant_cmp_total}
@@ -17,7 +16,7 @@ use Rattle.lh_unit.proofs.Lists.{Each-get}
 use Rattle.lh_eval.specs.declared.instance.Instance.{Instance}
 use Rattle.lh_index.specs.Rising.{Has, IsRising, HasOneMore}
 use Rattle.lh_index.specs.Sensed.{sensed_by, Senses}
-use Rattle.lh_index.specs.Waking.{IsNoted, AreDue}
+use Rattle.lh_index.specs.Waking.{IsNoted}
 use Rattle.lh_design.specs.declared.Signal.{Signal}
 use Rattle.lh_design.specs.declared.Design.{Design}
 use Rattle.lh_change.specs.Touched.{Touches, AreWithin, StaysSame, OthersStay}
@@ -25,14 +24,13 @@ use Rattle.lh_change.proofs.Same.{has_or, parts_stay}
 use Rattle.lh_queue.proofs.Entries.{at_one}
 use Rattle.lh_elab.specs.Probed.{probed_by}
 use Rattle.lh_states.specs.declared.state.InstState.{InstState}
-use Rattle.lh_states.specs.States.{StateFits, parts_sensed, wake_kept}
+use Rattle.lh_states.specs.States.{parts_sensed, wake_kept}
 use Rattle.lh_states.proofs.Standing.{senses-within}
 use Rattle.lh_kernel.specs.declared.noted.Noted.{Noted}
-use Rattle.lh_kernel.specs.States.{SensesSignal, WakesItself}
-use Rattle.lh_kernel.specs.Woken.{awakes, awake_from, AreAsleep, IsRoused, HasRoused}
+use Rattle.lh_kernel.specs.Woken.{awake_from, AreAsleep, IsRoused, HasRoused}
 use Rattle.lh_kernel.proofs.Relations.{has_next, has_first}
 use Rattle.lh_kernel.proofs.Awake.{AwakeAt, has_awake, awake_has, awake_rises, rising_same}
-use Rattle.lh_kernel.proofs.Places.{are_within, fit_at, instance_at, as_many, probed_at, as_probed}
+use Rattle.lh_kernel.proofs.Places.{are_within, fit_at, instance_at, probed_at, as_probed}
 
 -- all instances
 pub range_push : (k n : ℕ) → range_with_len k (n + 1) ≡ range_with_len k n ++ (k + n) ∷ []

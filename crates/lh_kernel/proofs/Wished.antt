@@ -1,8 +1,7 @@
 -- The wishes of a frame can be put.
 use Rattle.std.proofs.Common.{◌≡◌, ◌≢◌, ◌<◌, ℕ, List, [], ◌∷◌, ◌++◌, map, Bool, true, false, not, refl, ap, sym, ◌∙◌, subst, arith, inl, inr, append_assoc, if◌then◌else◌, Option, Some, None}
-use Rattle.std.specs.declared.cmp.Ordering.TheVariants.{Equal}
 use Rattle.lh_time.specs.declared.Instant.{Instant}
-use Rattle.lh_time.specs.Order.{instant_cmp, instant_lt, instant_le}
+use Rattle.lh_time.specs.Order.{instant_lt, instant_le}
 use Rattle.lh_time.proofs.OrderLemmas.{instant_cmp_total, instant_lt-not_le, instant_le-lt}
 use Rattle.std.specs.Ordering.{is_lt}
 use Rattle.lh_history.proofs.Instants.{le_self, le_trans, late_not_le}
@@ -22,7 +21,7 @@ use Rattle.lh_history.proofs.Orders.{is_less}
 use Rattle.lh_unit.specs.Within.{Each}
 use Rattle.lh_eval.specs.Grouped.{is_filled, IsBefore, IsAbove, BitsRise, IsGrouped}
 use Rattle.lh_queue.specs.declared.wish.Wish.{Wish}
-use Rattle.lh_queue.specs.Held.{Held, wish_cmp, NoneCompetes, NamesOnce, IsUnnamed, BitsWithin, due_later}
+use Rattle.lh_queue.specs.Held.{Held, NoneCompetes, NamesOnce, IsUnnamed, BitsWithin, due_later}
 use Rattle.lh_queue.proofs.Keeping.{different_apart}
 use Rattle.lh_kernel.specs.Puts.{wishes_by, wishes_ran, AreApart, CanBePut}
 

@@ -1,5 +1,5 @@
 -- The wishes of a frame, and what a queue holds once they are put.
-use Rattle.std.specs.Prelude.{◌≡◌, ◌≢◌, ℕ, List, [], ◌∷◌, ◌++◌, length, Bool}
+use Rattle.std.specs.Prelude.{◌≡◌, ◌≢◌, ℕ, List, [], ◌∷◌, ◌++◌, Bool}
 use Rattle.std.specs.declared.cmp.Ordering.TheVariants.{Equal}
 use Rattle.lh_time.specs.declared.Instant.{Instant}
 use Rattle.lh_queue.specs.declared.wish.Wish.{Wish}

@@ -1,5 +1,5 @@
 -- What contracts see of a simulation, and the worlds that it stands for.
-use Rattle.std.specs.Prelude.{◌≡◌, ℕ, List, Bool, false, Option}
+use Rattle.std.specs.Prelude.{◌≡◌, List, Bool, false, Option}
 use Rattle.lh_time.specs.declared.Instant.{Instant}
 use Rattle.lh_types.specs.History.{claims}
 use Rattle.lh_unit.specs.Arena.{Arena}

@@ -10,7 +10,7 @@ mod insts;
 mod names;
 mod operands;
 mod text;
-mod types;
+pub mod types;
 mod units;
 mod values;
 mod words;

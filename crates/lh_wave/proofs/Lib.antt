@@ -3,3 +3,12 @@ pub mod WireLemmas
 pub mod CodeLemmas
 pub mod FrameLemmas
 pub mod Recording
+pub mod Joined
+pub mod SameValues
+pub mod OwnedLemmas
+pub mod HeadLines
+pub mod Courses
+pub mod Turns
+pub mod ScribeLemmas
+pub mod Runs
+mod Rows

@@ -1,15 +1,15 @@
 -- Values of the program written one behind the other, and the text that is left.
-use Rattle.std.proofs.Common.{◌≡◌, ℕ, ◌+◌, ◌<◌, ◌≤◌, Bool, true, false, not, List, [], ◌∷◌, ◌++◌, length, get_or, set, take, drop, map, refl, ap, sym, ◌∙◌, append_assoc, cond, eqb, eq-eqb, arith}
+use Rattle.std.proofs.Common.{◌≡◌, ℕ, ◌+◌, ◌<◌, ◌≤◌, Bool, true, false, not, List, [], ◌∷◌, ◌++◌, length, get_or, set, take, drop, map, refl, ap, sym, ◌∙◌, append_assoc, cond, eq-eqb, arith}
 use Rattle.std.specs.Prelude.{nat_eq, ◌||◌, Result, Ok, Err, OnOk}
 use Rattle.std.proofs.lemmas.Bool.Decides.{nat_tests}
 use Rattle.std.proofs.lemmas.List.{append-nil, drop_all, drop_more, take_more, take_all, length-map, length-take, get_or-map, map-set, set_at}
 use Rattle.lh_types.specs.Values.{Datum}
 use Rattle.lh_types.specs.ValueOf.{datum_of}
 use Rattle.lh_types.specs.SameValue.{same_datum}
-use Rattle.lh_types.specs.Pictures.{Showing, Picture, showing_of}
+use Rattle.lh_types.specs.Pictures.{showing_of}
 use Rattle.lh_types.specs.declared.val.Val.{Val}
 use Rattle.lh_types.specs.declared.frame.Change.{Change}
-use Rattle.lh_wave.specs.WaveText.{Moment, value_line, all_lines, differing_lines, time_line, any_differs, changes_at, dump_at, changes_text, dump_text, lasts_from, waveform_text}
+use Rattle.lh_wave.specs.WaveText.{Moment, value_line, all_lines, differing_lines, time_line, any_differs, changes_at, dump_at, changes_text, dump_text, lasts_from}
 use Rattle.lh_wave.specs.Recorded.{changed_values}
 
 -- the values from a place on

@@ -1,5 +1,5 @@
 -- Walks along the parts of a value whose text is written.
-use Rattle.std.proofs.Common.{◌≡◌, ℕ, ◌+◌, ◌<◌, suc, zero, Bool, false, List, [], ◌∷◌, ◌++◌, ◌≤◌, length, get_or, drop, map, refl, ap, sym, ◌∙◌, append_assoc, cond, arith}
+use Rattle.std.proofs.Common.{◌≡◌, ℕ, ◌+◌, ◌<◌, false, List, [], ◌++◌, ◌≤◌, length, get_or, drop, map, refl, ap, sym, ◌∙◌, append_assoc, cond, arith}
 use Rattle.std.specs.Prelude.{codes, nat_eq}
 use Rattle.std.proofs.lemmas.List.{append-nil, drop_all, length-map}
 use Rattle.lh_types.specs.Values.{Datum, DatumRow, no_values, more_values, data_row}

@@ -2,3 +2,10 @@ pub mod ValueText
 pub mod TraceText
 pub mod WaveText
 pub mod Recorded
+pub mod HeadText
+pub mod EndText
+pub mod ShownRun
+pub mod RunText
+pub mod BrokenOff
+pub mod Owned
+pub mod Going

@@ -1,6 +1,5 @@
 -- Values and instants as a trace shows them.
 use Rattle.std.specs.Prelude.{ℕ, List, [], ◌++◌, codes, decimal}
-use Rattle.lh_time.specs.declared.Instant.{Instant}
 use Rattle.lh_types.specs.Values.{Datum, DatumRow, int_value, time_value, array_value, tuple_value, no_values, more_values}
 
 -- femtoseconds, deltas and epsilons

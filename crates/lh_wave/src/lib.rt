@@ -2,7 +2,14 @@
 #![tactic(auto)]
 
 pub mod code;
+pub mod ending;
+pub mod head;
 mod integer;
+mod lines;
+mod owned;
+pub mod run;
+mod scribe;
+mod teller;
 #[cfg(test)]
 mod tests;
 pub mod trace;

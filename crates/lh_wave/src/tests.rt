@@ -1,4 +1,5 @@
 use crate::code::put_code;
+use crate::ending::{End, put_end};
 use crate::trace::trace_frame;
 use crate::value::put_value;
 use crate::waveform::Waveform;
@@ -6,6 +7,7 @@ use crate::wire::{put_time, put_wire};
 use lh_time::{Delay, Instant};
 use lh_types::frame::{Change, ChangeList, Frame, Outcome, OutcomeList};
 use lh_types::val::{Val, ValList};
+use lh_watch::builtin::Toggles;
 use std::alloc::Global;
 use std::test::Fail;
 
@@ -132,6 +134,19 @@ fn the_last_values_at_each_time(rt: HostRuntime) -> Result<(), Fail> {
     waveform.take(&frame_at(alloc, 2_000_000, 0, &[(1, 7)])?, &mut to)?;
     waveform.write(&mut to)?;
     let text = b"#0\n$dumpvars\nb00000000 !\nb00000110 \"\n$end\n#2000000\nb00000111 \"\n";
+    assert_eq!(rt; to.as_slice(), text.as_slice());
+    Ok(())
+}
+
+#[test]
+fn last_lines(rt: HostRuntime) -> Result<(), Fail> {
+    let mut ws = Vec::new(rt.alloc());
+    ws.push(Toggles::new())?;
+    let mut to = Vec::new(rt.alloc());
+    for end in [End::Quiet, End::Steps, End::Runaway(65_535), End::Stop(0)] {
+        put_end(&mut to, end, &ws)?;
+    }
+    let text = b"end quiet\nend steps\nend runaway 65535\nend stop toggles\n";
     assert_eq!(rt; to.as_slice(), text.as_slice());
     Ok(())
 }

@@ -1,17 +1,15 @@
--- The account of a run from what its command and its status line leave.
-use Rattle.std.proofs.Common.{◌≡◌, ℕ, ◌<◌, ◌≤◌, ◌⊎◌, inl, inr, List, [], refl, sym, ◌∙◌, Option, Some, None, Result, Ok, Err, IfSome, le_refl, arith}
+-- The account of a run from what it did up to its status line, and from what became of the line.
+use Rattle.std.proofs.Common.{◌≡◌, ℕ, ◌<◌, ◌≤◌, ◌⊎◌, inl, inr, List, [], refl, sym, ◌∙◌, Option, Some, None, Result, Ok, Err, IfSome, arith}
 use Rattle.std.proofs.lemmas.List.{append-nil}
-use Rattle.lh_io.specs.Streams.{Rose}
+use Rattle.lh_io.specs.Streams.{Rose, Appends}
 use Rattle.lh_io.specs.declared.stream.Failed.{Failed}
-use Rattle.lh_unit.specs.Canon.{canon}
-use Rattle.llhd.specs.Result.{IsResult, usage, source_too_long, refused, done}
+use Rattle.lh_watch.specs.Members.{Member}
+use Rattle.llhd.specs.Result.{IsResult}
 use Rattle.llhd.specs.StatusLines.{status_line}
-use Rattle.llhd.specs.Account.{Use, Gained, Faulted, IsPrefix, IsProperPrefix, Puts, Parts, IsStatusFor, Account, OfSource, IsResultOrNoMemory}
-use Rattle.llhd.specs.Check.{Performs}
-use Rattle.llhd.specs.declared.command.Command.TheVariants.{Check}
+use Rattle.llhd.specs.Account.{Use, use_of, Faulted, IsPrefix, IsProperPrefix, Puts, Performs, Account, OfSource, IsResultOrNoMemory}
 use Rattle.llhd.specs.declared.status.Status.{Status}
-use Rattle.llhd.specs.declared.status.Status.TheVariants.{Usage, ReadFault, SourceTooLong, Refused, WriteFault, Done, OutOfMemory}
-use Rattle.llhd.proofs.Results.{IsResult-unique, HasOneResult-check}
+use Rattle.llhd.specs.declared.status.Status.TheVariants.{Usage, ReadFault, SourceTooLong, Refused, Top, WriteFault, Runaway, AssertFailed, Done, OutOfMemory}
+use Rattle.llhd.proofs.Results.{IsResult-unique}
 
 -- what a fact of the bytes implies
 pub OfSource-weaker : (left : Option (List ℕ)) (P Q : List ℕ → Type 0) → ((bytes : List ℕ) → P bytes → Q bytes) → OfSource left P → OfSource left Q
@@ -19,80 +17,63 @@ OfSource-weaker None P Q implies (bytes, p) = (bytes, implies bytes p)
 OfSource-weaker (Some bytes) P Q implies p = implies bytes p
 
 -- the part of the status line that came to the log
-record Line (log : Use) (text : List ℕ) : Type 0 where
+record Line (held now : Option (List ℕ)) (held_faults faults : ℕ) (text : List ℕ) : Type 0 where
   line : List ℕ
   is_prefix : IsPrefix line text
-  whole : (Faulted log → ⊥) → line ≡ text
-  gained : Gained log line
+  whole : (Rose held_faults faults → ⊥) → line ≡ text
+  gained : Appends held now line
 
-line_of : (r : Result (Unit {0}) Failed) (log : Use) (text : List ℕ) → Puts r log text → Line log text
-line_of (Ok _) log text puts = record { line = text; is_prefix = ([], sym (append-nil text)); whole = λ calm. refl; gained = puts }
-line_of (Err _) log text off = record { line = off.part; is_prefix = (off.is_prefix.rest, off.is_prefix.split); whole = λ calm. absurd (calm off.rose); gained = off.gained }
+line_of : (r : Result (Unit {0}) Failed) (held now : Option (List ℕ)) (held_faults faults : ℕ) (text : List ℕ) → Puts r (use_of held now held_faults faults) text → Line held now held_faults faults text
+line_of (Ok _) held now held_faults faults text puts = record { line = text; is_prefix = ([], sym (append-nil text)); whole = λ calm. refl; gained = puts }
+line_of (Err _) held now held_faults faults text off = record { line = off.part; is_prefix = (off.is_prefix.rest, off.is_prefix.split); whole = λ calm. absurd (calm off.rose); gained = off.gained }
 
-whole_prefix : (text : List ℕ) → IsPrefix text text
-whole_prefix text = ([], sym (append-nil text))
+-- what rises in its second part rises
+rises_late : (a b c : ℕ) → a ≤ b → Rose b c → Rose a c
+rises_late a b c le rose = λ below. let up : b < c = rose below in omega arith
 
--- the parts, where the log gained the line alone
-parts_of : List ℕ → (log : Use) (text : List ℕ) → Line log text → Parts
-parts_of out_part log text l = record { out_part = out_part; log_part = []; line = l.line; log_faults = log.was_faults }
+-- what rises in its first part rises
+rises_early : (a b c : ℕ) → b ≤ c → Rose a b → Rose a c
+rises_early a b c le rose = λ below. let up : a < b = rose (omega arith) in omega arith
 
-account_of : (words : List (List ℕ)) (bytes : List ℕ) (ended status : Status) (out_text log_text out_part : List ℕ) (out log : Use) (l : Line log (status_line ended)) → IsResult words bytes status out_text log_text → IsPrefix out_part out_text → Gained out out_part → log.was_faults ≤ log.faults → IsStatusFor ended status out_text log_text out log (record { out_part = out_part; log_part = []; line = l.line; log_faults = log.was_faults }) → Account words bytes ended out log
-account_of words bytes ended status out_text log_text out_part out log l result prefix gained rises by_status = record {
-  status = status;
-  out_text = out_text;
-  log_text = log_text;
-  result = result;
-  parts = record { out_part = out_part; log_part = []; line = l.line; log_faults = log.was_faults };
-  by_status = by_status;
-  out_prefix = prefix;
-  log_prefix = (log_text, refl);
-  in_order = inr refl;
+account_of : (words : List (List ℕ)) (bytes : List ℕ) (ms : List Member) (ended : Status) (out : Use) (was held now : Option (List ℕ)) (was_faults held_faults faults : ℕ) (left : List Member) → Performs words bytes ms ended out (use_of was held was_faults held_faults) left → Line held now held_faults faults (status_line ended) → was_faults ≤ held_faults → held_faults ≤ faults → Account words bytes ms ended out (use_of was now was_faults faults) left
+account_of words bytes ms ended out was held now was_faults held_faults faults left p l first second = record {
+  held = held;
+  held_faults = held_faults;
+  before = p;
+  line = l.line;
   line_prefix = l.is_prefix;
-  line_whole = l.whole;
-  out_gained = gained;
-  log_gained = l.gained;
-  log_faults = (le_refl log.was_faults, rises);
+  line_whole = λ calm. l.whole (λ rose. calm (rises_late was_faults held_faults faults first rose));
+  line_gained = l.gained;
+  rising = (first, second);
 }
 
-by_lines : (words : List (List ℕ)) (bytes : List ℕ) (ended : Status) (out log : Use) → Performs words ended bytes out → Line log (status_line ended) → log.was_faults ≤ log.faults → Account words bytes ended out log
-by_lines words bytes Usage out log (none, gained) l rises = account_of words bytes Usage Usage [] [] [] out log l (usage none) (whole_prefix []) gained rises (refl, refl, refl)
-by_lines words bytes ReadFault out log (asks, gained) l rises =
-    let one = HasOneResult-check words bytes asks in
-    account_of words bytes ReadFault one.status one.out one.log [] out log l one.result (one.out, refl) gained rises (refl, refl)
-by_lines words bytes SourceTooLong out log (asks, (long, gained)) l rises =
-    account_of words bytes SourceTooLong SourceTooLong [] [] [] out log l (source_too_long Check asks long) (whole_prefix []) gained rises (refl, refl, refl)
-by_lines words bytes (Refused why) out log (asks, (few, bad, gained)) l rises =
-    account_of words bytes (Refused why) (Refused why) [] [] [] out log l (refused Check why asks few bad) (whole_prefix []) gained rises (refl, refl, refl)
-by_lines words bytes WriteFault out log (asks, (file, few, reads, sound, off)) l rises =
-    account_of words bytes WriteFault Done (canon file) [] off.part out log l (done Check file (canon file) [] asks few reads sound (refl, refl)) (off.is_prefix.rest, off.is_prefix.split) off.gained rises (inl (off.is_prefix, off.rose))
-by_lines words bytes Done out log (asks, (file, few, reads, sound, gained)) l rises =
-    account_of words bytes Done Done (canon file) [] (canon file) out log l (done Check file (canon file) [] asks few reads sound (refl, refl)) (whole_prefix (canon file)) gained rises (refl, refl, refl)
-by_lines words bytes OutOfMemory out log (asks, gained) l rises =
-    let one = HasOneResult-check words bytes asks in
-    account_of words bytes OutOfMemory one.status one.out one.log [] out log l one.result (one.out, refl) gained rises tt
-
 -- the account of a run, whatever became of its status line
-pub Account-run : (r : Result (Unit {0}) Failed) (words : List (List ℕ)) (left : Option (List ℕ)) (ended : Status) (out log : Use) → OfSource left (λ bytes. Performs words ended bytes out) → Puts r log (status_line ended) → log.was_faults ≤ log.faults → OfSource left (λ bytes. Account words bytes ended out log)
-Account-run r words left ended out log performs puts rises =
-    OfSource-weaker left (λ bytes. Performs words ended bytes out) (λ bytes. Account words bytes ended out log) (λ bytes p. by_lines words bytes ended out log p (line_of r log (status_line ended) puts) rises) performs
+pub Account-run : (r : Result (Unit {0}) Failed) (words : List (List ℕ)) (source : Option (List ℕ)) (ms : List Member) (ended : Status) (out : Use) (was held now : Option (List ℕ)) (was_faults held_faults faults : ℕ) (left : List Member) → OfSource source (λ bytes. Performs words bytes ms ended out (use_of was held was_faults held_faults) left) → Puts r (use_of held now held_faults faults) (status_line ended) → was_faults ≤ held_faults → held_faults ≤ faults → OfSource source (λ bytes. Account words bytes ms ended out (use_of was now was_faults faults) left)
+Account-run r words source ms ended out was held now was_faults held_faults faults left performs puts first second =
+    OfSource-weaker source (λ bytes. Performs words bytes ms ended out (use_of was held was_faults held_faults) left) (λ bytes. Account words bytes ms ended out (use_of was now was_faults faults) left)
+    (λ bytes p. account_of words bytes ms ended out was held now was_faults held_faults faults left p (line_of r held now held_faults faults (status_line ended) puts) first second) performs
 
-settled_at : (words : List (List ℕ)) (bytes : List ℕ) (ended : Status) (out log : Use) (a : Account words bytes ended out log) → ended ≡ a.status → IsResultOrNoMemory words bytes ended
-settled_at words bytes ended out log a is status o l result = inl (is ∙ sym (IsResult-unique words bytes a.status status a.out_text a.log_text o l a.result result).0)
+settled_at : (words : List (List ℕ)) (bytes : List ℕ) (ms : List Member) (ended : Status) (out log : Use) (now : List Member) (p : Performs words bytes ms ended out log now) → ended ≡ p.status → IsResultOrNoMemory words bytes ms ended
+settled_at words bytes ms ended out log now p is status o l left result = inl (is ∙ sym (IsResult-unique words bytes ms p.status status p.out_text p.log_text o l p.left left p.result result).0)
+
+no_write_fault : (out log : Use) (a b c d : List ℕ) → (IsProperPrefix a b × Faulted out) ⊎ (IsProperPrefix c d × Faulted log) → (Faulted out → ⊥) → (Faulted log → ⊥) → ⊥
+no_write_fault out log a b c d (inl (part, rose)) o l = o rose
+no_write_fault out log a b c d (inr (part, rose)) o l = l rose
 
 -- where no faults rose, the status is that of the result, or memory ran out
-complete_at : (words : List (List ℕ)) (bytes : List ℕ) (ended : Status) (out log : Use) (was_faults faults : ℕ) → Account words bytes ended out log → (ended ≡ ReadFault → Rose was_faults faults) → (Rose was_faults faults → ⊥) → (Faulted out → ⊥) → (Faulted log → ⊥) → IsResultOrNoMemory words bytes ended
-complete_at words bytes Usage out log was_faults faults a rose s o l = settled_at words bytes Usage out log a a.by_status.0
-complete_at words bytes SourceTooLong out log was_faults faults a rose s o l = settled_at words bytes SourceTooLong out log a a.by_status.0
-complete_at words bytes (Refused why) out log was_faults faults a rose s o l = settled_at words bytes (Refused why) out log a a.by_status.0
-complete_at words bytes Done out log was_faults faults a rose s o l = settled_at words bytes Done out log a a.by_status.0
-complete_at words bytes OutOfMemory out log was_faults faults a rose s o l = λ status ot lt result. inr refl
-complete_at words bytes ReadFault out log was_faults faults a rose s o l = absurd (s (rose refl))
-complete_at words bytes WriteFault out log was_faults faults a rose s o l = absurd (no_write_fault words bytes out log a a.by_status o l)
-  where
-    no_write_fault : (words : List (List ℕ)) (bytes : List ℕ) (out log : Use) (a : Account words bytes WriteFault out log) → (IsProperPrefix a.parts.out_part a.out_text × Faulted out) ⊎ (IsProperPrefix a.parts.log_part a.log_text × Rose log.was_faults a.parts.log_faults) → (Faulted out → ⊥) → (Faulted log → ⊥) → ⊥
-    no_write_fault words bytes out log a (inl (part, rose)) o l = o rose
-    no_write_fault words bytes out log a (inr (part, rose)) o l = l (λ below. let r = rose in let last : a.parts.log_faults ≤ log.faults = a.log_faults.1 in let up : log.was_faults < a.parts.log_faults = rose (omega arith) in omega arith)
+complete_at : (words : List (List ℕ)) (bytes : List ℕ) (ms : List Member) (ended : Status) (out log : Use) (now : List Member) (was_faults faults : ℕ) → Performs words bytes ms ended out log now → (ended ≡ ReadFault → Rose was_faults faults) → (Rose was_faults faults → ⊥) → (Faulted out → ⊥) → (Faulted log → ⊥) → IsResultOrNoMemory words bytes ms ended
+complete_at words bytes ms Usage out log now was_faults faults p rose s o l = settled_at words bytes ms Usage out log now p p.sinks.by_status.0
+complete_at words bytes ms SourceTooLong out log now was_faults faults p rose s o l = settled_at words bytes ms SourceTooLong out log now p p.sinks.by_status.0
+complete_at words bytes ms (Refused why) out log now was_faults faults p rose s o l = settled_at words bytes ms (Refused why) out log now p p.sinks.by_status.0
+complete_at words bytes ms (Top why) out log now was_faults faults p rose s o l = settled_at words bytes ms (Top why) out log now p p.sinks.by_status.0
+complete_at words bytes ms (Runaway i) out log now was_faults faults p rose s o l = settled_at words bytes ms (Runaway i) out log now p p.sinks.by_status.0
+complete_at words bytes ms AssertFailed out log now was_faults faults p rose s o l = settled_at words bytes ms AssertFailed out log now p p.sinks.by_status.0
+complete_at words bytes ms Done out log now was_faults faults p rose s o l = settled_at words bytes ms Done out log now p p.sinks.by_status.0
+complete_at words bytes ms OutOfMemory out log now was_faults faults p rose s o l = λ status ot lt left result. inr refl
+complete_at words bytes ms ReadFault out log now was_faults faults p rose s o l = absurd (s (rose refl))
+complete_at words bytes ms WriteFault out log now was_faults faults p rose s o l = absurd (no_write_fault out log p.sinks.out_part p.out_text p.sinks.log_part p.log_text p.sinks.by_status o l)
 
-pub IsResultOrNoMemory-run : (words : List (List ℕ)) (left : Option (List ℕ)) (ended : Status) (out log : Use) (was_faults faults : ℕ) → OfSource left (λ bytes. Account words bytes ended out log) → (ended ≡ ReadFault → Rose was_faults faults) → IfSome left (λ bytes. (Rose was_faults faults → ⊥) → (Faulted out → ⊥) → (Faulted log → ⊥) → IsResultOrNoMemory words bytes ended)
-IsResultOrNoMemory-run words None ended out log was_faults faults account rose = tt
-IsResultOrNoMemory-run words (Some bytes) ended out log was_faults faults account rose = complete_at words bytes ended out log was_faults faults account rose
+pub IsResultOrNoMemory-run : (words : List (List ℕ)) (source : Option (List ℕ)) (ms : List Member) (ended : Status) (out : Use) (was now : Option (List ℕ)) (log_was log_faults : ℕ) (left : List Member) (was_faults faults : ℕ) → OfSource source (λ bytes. Account words bytes ms ended out (use_of was now log_was log_faults) left) → (ended ≡ ReadFault → Rose was_faults faults) → IfSome source (λ bytes. (Rose was_faults faults → ⊥) → (Faulted out → ⊥) → (Rose log_was log_faults → ⊥) → IsResultOrNoMemory words bytes ms ended)
+IsResultOrNoMemory-run words None ms ended out was now log_was log_faults left was_faults faults account rose = tt
+IsResultOrNoMemory-run words (Some bytes) ms ended out was now log_was log_faults left was_faults faults a rose =
+    λ s o l. complete_at words bytes ms ended out (use_of was a.held log_was a.held_faults) left was_faults faults a.before rose s o (λ up. l (rises_early log_was a.held_faults log_faults a.rising.1 up))

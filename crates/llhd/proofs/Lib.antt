@@ -1,5 +1,9 @@
 pub mod Writes
-pub mod Checks
 pub mod Readings
 pub mod Results
+pub mod Callings
+pub mod Performances
+pub mod Simulations
+pub mod Loading
+pub mod Tops
 pub mod Accounts

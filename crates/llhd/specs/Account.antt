@@ -1,11 +1,16 @@
--- What a run leaves of its source and its sinks.
+-- What a run leaves of its source, its sinks and its watchers.
 use Rattle.std.specs.Prelude.{◌≡◌, ℕ, ◌+◌, ◌≤◌, ◌<◌, List, [], ◌++◌, Option, Some, None, IfSome, Result, Ok, Err, length, ◌⊎◌}
 use Rattle.lh_io.specs.Streams.{Rose, Appends}
 use Rattle.lh_io.specs.declared.stream.Failed.{Failed}
-use Rattle.llhd.specs.Result.{IsResult, source_limit}
+use Rattle.lh_unit.specs.Contents.{ItemText}
+use Rattle.lh_unit.specs.Reads.{Reads}
+use Rattle.lh_watch.specs.Members.{Member}
+use Rattle.lh_words.specs.Forms.{Asked}
+use Rattle.llhd.specs.Called.{Calls}
+use Rattle.llhd.specs.Result.{Makes, MayLeave, IsResult, source_limit}
 use Rattle.llhd.specs.StatusLines.{status_line}
 use Rattle.llhd.specs.declared.status.Status.{Status}
-use Rattle.llhd.specs.declared.status.Status.TheVariants.{Usage, ReadFault, SourceTooLong, Refused, WriteFault, Done, OutOfMemory}
+use Rattle.llhd.specs.declared.status.Status.TheVariants.{Usage, ReadFault, SourceTooLong, Refused, Top, WriteFault, Runaway, AssertFailed, Done, OutOfMemory}
 
 -- a sink before and after: what was written, where it tells, and its count of faults
 pub record Use : Type 0 where
@@ -47,42 +52,57 @@ abbrev pub Puts : Result (Unit {0}) Failed → Use → List ℕ → Type 0
 Puts (Ok _) u text = Gained u text
 Puts (Err _) u text = BreaksOff u text
 
--- what came to the sinks: parts of the two texts of the result, and a part of the status line
-pub record Parts : Type 0 where
+-- Which status may be answered for the status of the result, and how much was then written of the texts for the output and the log.
+-- Of the three statuses that a source, a sink or memory brings about each says its cause, but want of memory has none.
+abbrev pub IsStatusFor : Status → (status : Status) → (out_text log_text : List ℕ) → (out log : Use) → (out_part log_part : List ℕ) → Type 0
+IsStatusFor ReadFault status out_text log_text out log out_part log_part = (out_part ≡ []) × (log_part ≡ [])
+IsStatusFor WriteFault status out_text log_text out log out_part log_part =
+    (IsProperPrefix out_part out_text × Faulted out) ⊎ (IsProperPrefix log_part log_text × Faulted log)
+IsStatusFor OutOfMemory status out_text log_text out log out_part log_part = Unit {0}
+IsStatusFor other status out_text log_text out log out_part log_part = (other ≡ status) × (out_part ≡ out_text) × (log_part ≡ log_text)
+
+-- What came to the sinks before the status line, where these are the status and the texts of the result. The output gained a prefix
+-- of its text, and the log a prefix of its own, which is empty unless the output gained all.
+pub record Leaves (ended status : Status) (out_text log_text : List ℕ) (out log : Use) : Type 0 where
   pub out_part : List ℕ
   pub log_part : List ℕ
-  pub line : List ℕ
-  -- the count of the log's faults before the line
-  pub log_faults : ℕ
+  pub by_status : IsStatusFor ended status out_text log_text out log out_part log_part
+  pub out_prefix : IsPrefix out_part out_text
+  pub log_prefix : IsPrefix log_part log_text
+  pub in_order : (out_part ≡ out_text) ⊎ (log_part ≡ [])
+  pub out_gained : Gained out out_part
+  pub log_gained : Gained log log_part
 
--- Which status a run may have by the result, and how much it then wrote.
--- Of the three statuses that a source, a sink or memory brings about each says its cause, but want of memory has none.
-abbrev pub IsStatusFor : Status → Status → List ℕ → List ℕ → Use → Use → Parts → Type 0
-IsStatusFor ReadFault status out_text log_text out log parts = (parts.out_part ≡ []) × (parts.log_part ≡ [])
-IsStatusFor WriteFault status out_text log_text out log parts =
-    (IsProperPrefix parts.out_part out_text × Faulted out)
-    ⊎ (IsProperPrefix parts.log_part log_text × Rose log.was_faults parts.log_faults)
-IsStatusFor OutOfMemory status out_text log_text out log parts = Unit {0}
-IsStatusFor other status out_text log_text out log parts = (other ≡ status) × (parts.out_part ≡ out_text) × (parts.log_part ≡ log_text)
+-- Which members are left, where the result leaves `left`. After a read fault they are as they were. After a write fault and for want of
+-- memory they are as they were, or those that may be left where a command did not come to its end.
+abbrev pub AreLeft : Status → (words : List (List ℕ)) → (bytes : List ℕ) → (ms left now : List Member) → Type 0
+AreLeft ReadFault words bytes ms left now = now ≡ ms
+AreLeft WriteFault words bytes ms left now = (now ≡ ms) ⊎ ((a : Asked) × (file : List ItemText) × Calls words ms a × Reads bytes file × MayLeave a file ms now)
+AreLeft OutOfMemory words bytes ms left now = (now ≡ ms) ⊎ ((a : Asked) × (file : List ItemText) × Calls words ms a × Reads bytes file × MayLeave a file ms now)
+AreLeft other words bytes ms left now = now ≡ left
 
--- The account of a run with this status: the result by the words and the bytes, and what came to the sinks.
--- The output gained a prefix of its text; the log a prefix of its own, which is empty unless the output gained all,
--- and then a prefix of the status line, which is whole where the log's faults did not rise.
-pub record Account (words : List (List ℕ)) (bytes : List ℕ) (ended : Status) (out log : Use) : Type 0 where
+-- A run up to its status line: the result by the words, the bytes and the members, what came to the sinks, and which members are left.
+pub record Performs (words : List (List ℕ)) (bytes : List ℕ) (ms : List Member) (ended : Status) (out log : Use) (now : List Member) : Type 0 where
   pub status : Status
   pub out_text : List ℕ
   pub log_text : List ℕ
-  pub result : IsResult words bytes status out_text log_text
-  pub parts : Parts
-  pub by_status : IsStatusFor ended status out_text log_text out log parts
-  pub out_prefix : IsPrefix parts.out_part out_text
-  pub log_prefix : IsPrefix parts.log_part log_text
-  pub in_order : (parts.out_part ≡ out_text) ⊎ (parts.log_part ≡ [])
-  pub line_prefix : IsPrefix parts.line (status_line ended)
-  pub line_whole : ¬ Faulted log → parts.line ≡ status_line ended
-  pub out_gained : Gained out parts.out_part
-  pub log_gained : Gained log (parts.log_part ++ parts.line)
-  pub log_faults : (log.was_faults ≤ parts.log_faults) × (parts.log_faults ≤ log.faults)
+  pub left : List Member
+  pub result : IsResult words bytes ms status out_text log_text left
+  pub sinks : Leaves ended status out_text log_text out log
+  pub members : AreLeft ended words bytes ms left now
+
+-- The account of a run with this status: what it did up to its status line, and then a prefix of that line in the log, which is whole
+-- where the log's faults did not rise.
+pub record Account (words : List (List ℕ)) (bytes : List ℕ) (ms : List Member) (ended : Status) (out log : Use) (now : List Member) : Type 0 where
+  -- what the log held before the line, where it tells, and its count of faults then
+  pub held : Option (List ℕ)
+  pub held_faults : ℕ
+  pub before : Performs words bytes ms ended out (use_of log.was held log.was_faults held_faults) now
+  pub line : List ℕ
+  pub line_prefix : IsPrefix line (status_line ended)
+  pub line_whole : ¬ Faulted log → line ≡ status_line ended
+  pub line_gained : Appends held log.now line
+  pub rising : (log.was_faults ≤ held_faults) × (held_faults ≤ log.faults)
 
 -- a fact of the bytes of a source: of those that are left, where it tells them, and else of some bytes
 abbrev pub OfSource : Option (List ℕ) → (List ℕ → Type 0) → Type 0
@@ -97,19 +117,22 @@ IsCountFor _ n = n ≤ source_limit
 
 -- the source was read to its end, where the status is of what came
 abbrev pub IsReadToEnd : Status → Option (List ℕ) → Option (List ℕ) → Type 0
-IsReadToEnd Done was_left left = IfSome was_left (λ _. left ≡ Some [])
-IsReadToEnd (Refused why) was_left left = IfSome was_left (λ _. left ≡ Some [])
-IsReadToEnd WriteFault was_left left = IfSome was_left (λ _. left ≡ Some [])
-IsReadToEnd _ was_left left = Unit {0}
+IsReadToEnd Usage was_left left = Unit {0}
+IsReadToEnd ReadFault was_left left = Unit {0}
+IsReadToEnd SourceTooLong was_left left = Unit {0}
+IsReadToEnd OutOfMemory was_left left = Unit {0}
+IsReadToEnd _ was_left left = IfSome was_left (λ _. left ≡ Some [])
 
--- words and bytes have exactly one result
-pub record HasOneResult (words : List (List ℕ)) (bytes : List ℕ) : Type 0 where
+-- words, bytes and members have exactly one result
+pub record HasOneResult (words : List (List ℕ)) (bytes : List ℕ) (ms : List Member) : Type 0 where
   pub status : Status
   pub out : List ℕ
   pub log : List ℕ
-  pub result : IsResult words bytes status out log
-  pub only : (s : Status) (o l : List ℕ) → IsResult words bytes s o l → (s ≡ status) × (o ≡ out) × (l ≡ log)
+  pub left : List Member
+  pub result : IsResult words bytes ms status out log left
+  pub only : (s : Status) (o l : List ℕ) (now : List Member) → IsResult words bytes ms s o l now → (s ≡ status) × (o ≡ out) × (l ≡ log) × (now ≡ left)
 
 -- the status is that of the result, or memory ran out
-abbrev pub IsResultOrNoMemory : List (List ℕ) → List ℕ → Status → Type 0
-IsResultOrNoMemory words bytes ended = (status : Status) (out log : List ℕ) → IsResult words bytes status out log → (ended ≡ status) ⊎ (ended ≡ OutOfMemory)
+abbrev pub IsResultOrNoMemory : List (List ℕ) → List ℕ → List Member → Status → Type 0
+IsResultOrNoMemory words bytes ms ended =
+    (status : Status) (out log : List ℕ) (left : List Member) → IsResult words bytes ms status out log left → (ended ≡ status) ⊎ (ended ≡ OutOfMemory)

@@ -1,5 +1,6 @@
-pub mod Commands
+pub mod Called
+pub mod Simulated
 pub mod Result
 pub mod StatusLines
 pub mod Account
-pub mod Check
+pub mod Steps

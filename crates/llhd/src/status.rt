@@ -1,8 +1,8 @@
 //! How a run ends: its statuses, their codes, and the line of each.
 ghost use Rattle.std.specs.Prelude.{◌≡◌, ◌≤◌, ◌∷◌, ◌++◌, codes, decimal};
-ghost use Rattle.llhd.specs.StatusLines.{name_of_fault, inst_line, refusal_line, status_line, status_code};
+ghost use Rattle.llhd.specs.StatusLines.{name_of_fault, unit_word, inst_line, refusal_line, top_line, status_line, status_code};
 ghost use Rattle.llhd.specs.Account.{use_of, Puts};
-ghost use Rattle.llhd.specs.Check.{source_status, text_status};
+ghost use Rattle.llhd.specs.Steps.{source_status, text_status, wave_status};
 ghost use Rattle.llhd.specs.declared.status.Status.TheVariants.{WriteFault, OutOfMemory};
 
 use itoa::Buffer;
@@ -11,6 +11,7 @@ use lh_io::whole::{ReadAllFault, write_all};
 use lh_read::TextFault;
 use lh_types::ty::NoMemory;
 use lh_unit::name::UnitName;
+use lh_wave::run::WaveFault;
 
 const USAGE: &[u8] =
     b"usage: llhd check | lower | simulate --top NAME --steps N [--vcd] [--watch TITLE ...] | selftest N\n";
@@ -32,10 +33,27 @@ pub enum Refusal {
     },
 }
 
+/// Why a top unit is not simulated.
+#[derive(Debug, Drop, PartialEq, Eq)]
+pub enum TopFault {
+    /// No defined unit has the name.
+    TopMissing,
+    /// The unit is a function.
+    TopIsFunction,
+    /// This unit is instantiated in itself, and is the first, depth first, at which that shows.
+    InstCycle(UnitName),
+    /// More than 64 instances nest, the top counted.
+    TooDeep,
+    /// There are more than 65,536 instances.
+    TooManyInstances,
+    /// The signals have more than 16,777,216 bits.
+    TooManyBits,
+}
+
 /// How a run ends.
 #[derive(Debug, Drop, PartialEq, Eq)]
 pub enum Status {
-    /// The words have no form.
+    /// The words have no form, or watch a title that no watcher has.
     Usage,
     /// A read of the source failed.
     ReadFault,
@@ -43,8 +61,14 @@ pub enum Status {
     SourceTooLong,
     /// The file has a fault.
     Refused(Refusal),
+    /// The top unit is not simulated.
+    Top(TopFault),
     /// A write failed before the status line.
     WriteFault,
+    /// The simulation ended since this instance ran away.
+    Runaway(u32),
+    /// An assertion failed in a frame that was shown.
+    AssertFailed,
     /// The command was carried out.
     Done,
     /// Memory ran out.
@@ -72,6 +96,17 @@ impl From<TextFault> for Status {
             TextFault::UnitTooLarge(line) => Status::Refused(Refusal::UnitTooLarge(line)),
             TextFault::DuplicateName(line) => Status::Refused(Refusal::DuplicateName(line)),
             TextFault::OutOfMemory => Status::OutOfMemory,
+        }
+    }
+}
+
+impl From<WaveFault> for Status {
+    ghost from_gives = { λ fault status. status ≡ wave_status fault };
+
+    fn from(fault: WaveFault) -> Status {
+        match fault {
+            WaveFault::WriteFault => Status::WriteFault,
+            WaveFault::OutOfMemory => Status::OutOfMemory,
         }
     }
 }
@@ -121,13 +156,13 @@ fn write_number<L: Sink>(
     write_three(log, before, digits.format(number).as_bytes(), behind)
 }
 
-// Writes the unit of a faulty instruction.
-fn write_unit<L: Sink>(log: &mut L, unit: &UnitName) -> Result<(), Failed>
-    ensures puts { Puts result (use_of (L.written log.old) (L.written log.new) (L.faults log.old) (L.faults log.new)) (codes "unit " ++ unit.now.sigil ∷ unit.now.name) }
+// Writes the name of a unit behind a text.
+fn write_unit<L: Sink>(log: &mut L, before: &[u8], unit: &UnitName) -> Result<(), Failed>
+    ensures puts { Puts result (use_of (L.written log.old) (L.written log.new) (L.faults log.old) (L.faults log.new)) (before.now ++ unit_word unit.now) }
     ensures never_fall { L.faults log.old ≤ L.faults log.new }
 {
     let sigil = [unit.sigil];
-    write_three(log, b"unit ", &sigil, unit.name.as_bytes())
+    write_three(log, before, &sigil, unit.name.as_bytes())
 }
 
 // The name of a fault by its number, which ends the line.
@@ -156,7 +191,7 @@ fn write_inst_fault<L: Sink>(
     ensures puts { Puts result (use_of (L.written log.old) (L.written log.new) (L.faults log.old) (L.faults log.new)) (inst_line unit.now inst number) }
     ensures never_fall { L.faults log.old ≤ L.faults log.new }
 {
-    write_unit(log, unit)?;
+    write_unit(log, b"unit ", unit)?;
     write_number(log, b" instruction ", inst, b": ")?;
     write_number(log, b"", number as u32, fault_name(number))
 }
@@ -186,6 +221,33 @@ impl Refusal {
     }
 }
 
+// Writes the line of a unit that is instantiated in itself.
+fn write_cycle<L: Sink>(log: &mut L, unit: &UnitName) -> Result<(), Failed>
+    ensures puts { Puts result (use_of (L.written log.old) (L.written log.new) (L.faults log.old) (L.faults log.new)) ((codes "top: InstCycle " ++ unit_word unit.now) ++ codes "\n") }
+    ensures never_fall { L.faults log.old ≤ L.faults log.new }
+{
+    write_unit(log, b"top: InstCycle ", unit)?;
+    write_all(log, b"\n")
+}
+
+impl TopFault {
+    /// Writes the status line of a top that is not simulated.
+    #[tactic(auto, using(crate::proofs::Writes::Puts_of))]
+    fn write_line<L: Sink>(&self, log: &mut L) -> Result<(), Failed>
+        ensures puts { Puts result (use_of (L.written log.old) (L.written log.new) (L.faults log.old) (L.faults log.new)) (top_line self.now) }
+        ensures never_fall { L.faults log.old ≤ L.faults log.new }
+    {
+        match self {
+            TopFault::TopMissing => write_all(log, b"top: TopMissing\n"),
+            TopFault::TopIsFunction => write_all(log, b"top: TopIsFunction\n"),
+            TopFault::InstCycle(unit) => write_cycle(log, unit),
+            TopFault::TooDeep => write_all(log, b"top: TooDeep\n"),
+            TopFault::TooManyInstances => write_all(log, b"top: TooManyInstances\n"),
+            TopFault::TooManyBits => write_all(log, b"top: TooManyBits\n"),
+        }
+    }
+}
+
 impl Status {
     /// The exit code of the program.
     pub fn code(&self) -> u8
@@ -199,6 +261,9 @@ impl Status {
             Status::WriteFault => 4,
             Status::OutOfMemory => 5,
             Status::SourceTooLong => 6,
+            Status::Top(_) => 8,
+            Status::AssertFailed => 9,
+            Status::Runaway(_) => 10,
         }
     }
 
@@ -213,7 +278,15 @@ impl Status {
             Status::ReadFault => write_all(log, b"read fault\n"),
             Status::SourceTooLong => write_all(log, b"source too long\n"),
             Status::Refused(why) => why.write_line(log),
+            Status::Top(why) => why.write_line(log),
             Status::WriteFault => write_all(log, b"write fault\n"),
+            Status::Runaway(instance) => write_number(
+                log,
+                b"runaway in instance ",
+                *instance,
+                b"\n",
+            ),
+            Status::AssertFailed => write_all(log, b"assertion failed\n"),
             Status::Done => Ok(()),
             Status::OutOfMemory => write_all(log, b"out of memory\n"),
         }

@@ -1,11 +1,16 @@
 //! Runs in memory: each status, and each call of the source and of the sinks failing in turn.
+mod activations;
+mod failing;
 mod faulty;
 mod samples;
+mod simulations;
 mod spellings;
 
 use super::run;
 use lh_io::memory::{MemSink, MemSource};
 use lh_types::list::{ByteList, TextList};
+use lh_watch::builtin::{Asserts, Toggles, UntilFail};
+use lh_watch::watcher::Watcher;
 use std::alloc::Global;
 use std::test::Fail;
 
@@ -27,12 +32,14 @@ struct Faults {
     log: u64,
 }
 
+// What a run leaves: its code, its source and sinks, and how many of the three watchers that it was lent.
 #[derive(Drop)]
 struct Left {
     code: u8,
     out: MemSink,
     log: MemSink,
     src: MemSource,
+    watchers: usize,
 }
 
 fn words_of(alloc: Global, words: &[&[u8]]) -> Result<TextList, Fail> {
@@ -48,19 +55,35 @@ fn sink(alloc: Global, fail: u64) -> Result<MemSink, Fail> {
     Ok(MemSink::new(alloc, 1_000, PIECE, fails)?)
 }
 
-fn run_with(alloc: Global, words: &[&[u8]], text: &[u8], faults: Faults) -> Result<Left, Fail> {
+// A run with one watcher of each kind that comes with the program.
+fn run_on(
+    alloc: Global,
+    words: &[&[u8]],
+    mut src: MemSource,
+    mut out: MemSink,
+    mut log: MemSink,
+) -> Result<Left, Fail> {
     let words = words_of(alloc, words)?;
-    let src_fails = Vec::from_slice(alloc, &[faults.src])?;
-    let mut src = MemSource::new(Vec::from_slice(alloc, text)?, PIECE, src_fails);
-    let mut out = sink(alloc, faults.out)?;
-    let mut log = sink(alloc, faults.log)?;
-    let code = run(alloc, &words, &mut src, &mut out, &mut log).code();
+    let mut watchers: Vec<Box<dyn Watcher>> = Vec::new(alloc);
+    watchers.push(Box::new(alloc, Toggles::new())?)?;
+    watchers.push(Box::new(alloc, Asserts::new())?)?;
+    watchers.push(Box::new(alloc, UntilFail::new())?)?;
+    let status = run(alloc, &words, &mut src, &mut out, &mut log, &mut watchers);
     Ok(Left {
-        code,
+        code: status.code(),
         out,
         log,
         src,
+        watchers: watchers.len(),
     })
+}
+
+fn run_with(alloc: Global, words: &[&[u8]], text: &[u8], faults: Faults) -> Result<Left, Fail> {
+    let src_fails = Vec::from_slice(alloc, &[faults.src])?;
+    let src = MemSource::new(Vec::from_slice(alloc, text)?, PIECE, src_fails);
+    let out = sink(alloc, faults.out)?;
+    let log = sink(alloc, faults.log)?;
+    run_on(alloc, words, src, out, log)
 }
 
 #[test]
@@ -133,31 +156,29 @@ fn a_source_is_read_up_to_its_limit(rt: HostRuntime) -> Result<(), Fail> {
         (67_108_865, 6, 0),
         (67_108_866, 6, 1),
     ] {
-        let words = words_of(rt.alloc(), &[b"check"])?;
         let text = vec![in rt.alloc(); b'!'; length]?;
-        let mut src = MemSource::new(text, 1_000_000, Vec::new(rt.alloc()));
-        let mut out = sink(rt.alloc(), 0)?;
-        let mut log = sink(rt.alloc(), 0)?;
-        let status = run(rt.alloc(), &words, &mut src, &mut out, &mut log);
-        assert_eq!(rt; status.code(), code, "{length} bytes");
-        assert_eq!(rt; src.left().len(), left, "{length} bytes");
+        let src = MemSource::new(text, 1_000_000, Vec::new(rt.alloc()));
+        let out = sink(rt.alloc(), 0)?;
+        let log = sink(rt.alloc(), 0)?;
+        let run = run_on(rt.alloc(), &[b"check"], src, out, log)?;
+        assert_eq!(rt; run.code, code, "{length} bytes");
+        assert_eq!(rt; run.src.left().len(), left, "{length} bytes");
     }
     Ok(())
 }
 
 #[test]
 fn an_output_of_small_pieces_breaks_off(rt: HostRuntime) -> Result<(), Fail> {
-    let words = words_of(rt.alloc(), &[b"check"])?;
-    let mut src = MemSource::new(
+    let src = MemSource::new(
         Vec::from_slice(rt.alloc(), GOOD)?,
         PIECE,
         Vec::new(rt.alloc()),
     );
-    let mut out = MemSink::new(rt.alloc(), 200, 10, Vec::from_slice(rt.alloc(), &[2])?)?;
-    let mut log = sink(rt.alloc(), 0)?;
-    let status = run(rt.alloc(), &words, &mut src, &mut out, &mut log);
-    assert_eq!(rt; status.code(), 4);
-    assert!(rt; out.written() == b"entity @t ".as_slice());
-    assert!(rt; log.written() == b"write fault\n".as_slice());
+    let out = MemSink::new(rt.alloc(), 200, 10, Vec::from_slice(rt.alloc(), &[2])?)?;
+    let log = sink(rt.alloc(), 0)?;
+    let run = run_on(rt.alloc(), &[b"check"], src, out, log)?;
+    assert_eq!(rt; run.code, 4);
+    assert!(rt; run.out.written() == b"entity @t ".as_slice());
+    assert!(rt; run.log.written() == b"write fault\n".as_slice());
     Ok(())
 }

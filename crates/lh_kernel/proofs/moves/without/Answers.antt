@@ -1,4 +1,4 @@
-use Rattle.std.proofs.Common.{ℕ, List, ◌+◌, get_or, true, false, refl, sym, ◌∙◌, subst}
+use Rattle.std.proofs.Common.{ℕ, List, ◌+◌, get_or, refl, sym, ◌∙◌, subst}
 use Rattle.lh_kernel.proofs.Moving.{LeftOver, over_more, over_same, over_all, true_false}
 use Rattle.lh_kernel.proofs.moves.without.Goals as goal
 use Rattle.lh_kernel.proofs.moves.without.Goals.{then-not-has+in_ok-enter, else-not-has}

@@ -1,4 +1,4 @@
-use Rattle.std.proofs.Common.{◌≡◌, ◌<◌, ◌≤◌, ◌+◌, ◌∷◌, [], List, ℕ, suc, Bool, length, ap, sym, subst, arith}
+use Rattle.std.proofs.Common.{◌≡◌, List, ℕ, suc, Bool, length, ap, sym, subst, arith}
 use Rattle.lh_time.specs.declared.Instant.{Instant}
 use Rattle.lh_kernel.specs.Puts.{wishes_by}
 use Rattle.lh_kernel.proofs.Putting.{AreToBePut, puts_start, puts_on, puts_end, none_left}

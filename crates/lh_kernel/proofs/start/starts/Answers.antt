@@ -1,4 +1,4 @@
-use Rattle.std.proofs.Common.{length, refl, ap, subst, ◌∙◌, ◌<◌}
+use Rattle.std.proofs.Common.{length, refl, subst}
 use Rattle.lh_unit.specs.Within.{Each}
 use Rattle.lh_elab.specs.Answer.{InstanceIs}
 use Rattle.lh_eval.specs.declared.instance.Instance.{Instance}

@@ -1,11 +1,10 @@
 //! The sample files: each is its own canonical text; and what is left of one that is cut off.
+use super::run_on;
 use super::spellings::{in_an_entity, reprinted, syntax_fault};
-use super::words_of;
-use crate::top::run;
 use lh_io::memory::{MemSink, MemSource};
 use std::test::Fail;
 
-const ACCUMULATOR: &[u8] = b"entity @acc_tb () -> () {\n\
+pub const ACCUMULATOR: &[u8] = b"entity @acc_tb () -> () {\n\
 \x20   %zero0 = const i1 0\n\
 \x20   %zero1 = const i32 0\n\
 \x20   %clk = sig i1 %zero0\n\
@@ -120,7 +119,7 @@ load:\n\
 \x20   br %init\n\
 }\n";
 
-const BLINK: &[u8] = b"entity @t () -> () {\n\
+pub const BLINK: &[u8] = b"entity @t () -> () {\n\
 \x20   %z = const i1 0\n\
 \x20   %o = const i1 1\n\
 \x20   %d = const time 1ns\n\
@@ -178,7 +177,7 @@ done:\n\
 \x20   wait %entry, %c\n\
 }\n";
 
-const RECURSION: &[u8] = b"func @f () void {\n\
+pub const RECURSION: &[u8] = b"func @f () void {\n\
 entry:\n\
 \x20   call void @f ()\n\
 \x20   ret\n\
@@ -219,14 +218,13 @@ fn each_sample_is_well_formed(rt: HostRuntime) -> Result<(), Fail> {
         RECURSION,
     ];
     for (k, text) in samples.iter().enumerate() {
-        let words = words_of(rt.alloc(), &[b"check"])?;
         let bytes = Vec::from_slice(rt.alloc(), *text)?;
-        let mut src = MemSource::new(bytes, 1000, Vec::new(rt.alloc()));
-        let mut out = MemSink::new(rt.alloc(), 4000, 1000, Vec::new(rt.alloc()))?;
-        let mut log = MemSink::new(rt.alloc(), 100, 100, Vec::new(rt.alloc()))?;
-        let status = run(rt.alloc(), &words, &mut src, &mut out, &mut log);
-        assert_eq!(rt; status.code(), 0, "sample {k}");
-        assert!(rt; out.written() == *text, "sample {k}");
+        let src = MemSource::new(bytes, 1000, Vec::new(rt.alloc()));
+        let out = MemSink::new(rt.alloc(), 4000, 1000, Vec::new(rt.alloc()))?;
+        let log = MemSink::new(rt.alloc(), 100, 100, Vec::new(rt.alloc()))?;
+        let run = run_on(rt.alloc(), &[b"check"], src, out, log)?;
+        assert_eq!(rt; run.code, 0, "sample {k}");
+        assert!(rt; run.out.written() == *text, "sample {k}");
     }
     Ok(())
 }

@@ -1,5 +1,4 @@
 use Rattle.std.proofs.Common.{◌≡◌, ◌∙◌, ◌<◌, ℕ, List, Bool, length, refl, ap, sym, subst}
-use Rattle.lh_index.specs.Rising.{Has}
 use Rattle.lh_queue.specs.Holds.{entries, AreBitsAt}
 use Rattle.lh_kernel.specs.Touched.{bits_then}
 use Rattle.lh_kernel.specs.Phases.{awake_in, woken_in, RisesWithin}

@@ -1,4 +1,4 @@
-use Rattle.std.proofs.Common.{◌≡◌, Option, Some, IfSome, sym, ◌∙◌, subst}
+use Rattle.std.proofs.Common.{Option, IfSome, sym, ◌∙◌, subst}
 use Rattle.lh_time.specs.declared.Instant.{Instant}
 use Rattle.lh_kernel.specs.Phases.{ComesNext}
 use Rattle.lh_kernel.proofs.Next.{next_is, next_comes, first_comes, none_by, some_by}

@@ -1,4 +1,4 @@
-use Rattle.lh_kernel.proofs.Entering.{gone_known, left_next, left_all}
+use Rattle.lh_kernel.proofs.Entering.{gone_known, left_next}
 use Rattle.lh_kernel.proofs.noted.Noted.leave.Goals as goal
 
 pub forget-requires : goal.forget-requires

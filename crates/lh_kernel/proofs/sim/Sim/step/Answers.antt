@@ -2,8 +2,6 @@ use Rattle.std.proofs.Common.{◌≡◌, ℕ, List, Option, Some, length, ap, �
 use Rattle.std.proofs.lemmas.Result.{err_from_is_err_and}
 use Rattle.lh_types.specs.Raised.{raised}
 use Rattle.lh_unit.specs.Frames.{activated_count}
-use Rattle.lh_unit.specs.World.{next_instant}
-use Rattle.lh_kernel.specs.Stepped.{woken_next}
 use Rattle.lh_kernel.specs.Phases.{RisesWithin, woken_in}
 use Rattle.lh_kernel.proofs.Stepping.{steps_frame, steps_runaway, steps_tally, steps_err}
 use Rattle.lh_kernel.proofs.sim.Sim.step.Goals as goal

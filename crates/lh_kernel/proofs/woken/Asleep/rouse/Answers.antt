@@ -1,10 +1,9 @@
-use Rattle.std.proofs.Common.{◌≡◌, ◌<◌, ℕ, ◌+◌, List, length, get_or, Some, true, false, refl, ap, sym, ◌∙◌, subst}
-use Rattle.std.specs.Prelude.{slice_get}
+use Rattle.std.proofs.Common.{ℕ, ◌+◌, List, get_or, refl, ap, sym, ◌∙◌, subst}
 use Rattle.std.specs.List.{list_any}
 use Rattle.std.proofs.lemmas.Option.{slice_get-get_or, slice_get_within}
 use Rattle.lh_types.specs.declared.part.Range.{Range}
 use Rattle.lh_unit.specs.World.{bit_numbers, bit_differs}
-use Rattle.lh_kernel.proofs.Waking.{RousedTo, sensed_item, read_within, roused_none, roused_more, roused_not, roused_stays, roused_all}
+use Rattle.lh_kernel.proofs.Waking.{RousedTo, sensed_item, read_within, roused_more, roused_not}
 use Rattle.lh_kernel.proofs.woken.Asleep.rouse.Goals as goal
 use Rattle.lh_kernel.proofs.woken.Asleep.rouse.Goals.{then-differs+in_ok-enter, else-differs}
 

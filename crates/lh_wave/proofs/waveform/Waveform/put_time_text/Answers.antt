@@ -1,5 +1,5 @@
 use Rattle.std.proofs.Common.{◌≡◌, true, false, sym, ◌∙◌, arith}
-use Rattle.lh_wave.proofs.Recording.{first_text, none_text, some_text, from_not}
+use Rattle.lh_wave.proofs.Recording.{first_text, none_text, some_text}
 use Rattle.lh_wave.proofs.waveform.Waveform.put_time_text.Goals as goal
 
 pub returns-then-not-self : goal.returns-then-not-self

@@ -1,4 +1,4 @@
-use Rattle.std.proofs.Common.{◌≡◌, map, ap, ◌∙◌}
+use Rattle.std.proofs.Common.{map, ap, ◌∙◌}
 use Rattle.lh_types.specs.ValueOf.{datum_of}
 use Rattle.lh_wave.proofs.Recording.{same_length}
 use Rattle.lh_wave.proofs.waveform.Waveform.write.Goals as goal

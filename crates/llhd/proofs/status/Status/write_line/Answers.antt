@@ -8,3 +8,8 @@ pub returns-in-ReadFault-clause-puts : goal.returns-in-ReadFault-clause-puts
 returns-in-ReadFault-clause-puts g c =
     let call = c.write_all-in-ReadFault.ensures in
     rw c.in-ReadFault.is (Puts_of _ _ _ _ _ _ call.ok call.failed call.rose)
+
+pub returns-in-AssertFailed-clause-puts : goal.returns-in-AssertFailed-clause-puts
+returns-in-AssertFailed-clause-puts g c =
+    let call = c.write_all-in-AssertFailed.ensures in
+    rw c.in-AssertFailed.is (Puts_of _ _ _ _ _ _ call.ok call.failed call.rose)

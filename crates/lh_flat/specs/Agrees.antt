@@ -1,0 +1,31 @@
+-- Instructions with new ids say what the copy of their text says.
+use Rattle.std.specs.Prelude.{◌≡◌, ℕ, ◌<◌, List, length}
+use Rattle.lh_unit.specs.Contents.{UnitText}
+use Rattle.lh_unit.specs.Naming.{Naming, value_text, inst_text}
+use Rattle.lh_unit.specs.Within.{InstWithin}
+use Rattle.lh_unit.specs.declared.inst.BlockId.{BlockId}
+use Rattle.lh_unit.specs.declared.inst.ValueId.{ValueId}
+use Rattle.lh_unit.specs.declared.inst.Inst.{Inst}
+use Rattle.lh_unit.specs.declared.inst.Inst.TheVariants as inst
+use Rattle.lh_flat.specs.declared.rename.Renaming.{Renaming}
+use Rattle.lh_flat.specs.Copies.{Copy, first_piece, last_piece_of, copied}
+use Rattle.lh_flat.specs.Renames.{value_in, first_in, last_in, renamed, sizes_in}
+
+-- the names f of a unit's ids, and the names g of a flat text's: each new id has the name that the copy gives
+pub record Agrees (f g : Naming) (functions : List UnitText) (c : Copy) (r : Renaming) : Type 0 where
+  pub units : g.unit_name ≡ f.unit_name
+  pub values : (v : ValueId) → v.0 < length r.values.items → value_text g (value_in r v) ≡ c.value (value_text f v)
+  pub firsts : (b : BlockId) → b.0 < length r.spans.items → g.label_name (first_in r b).0 ≡ first_piece c (f.label_name b.0)
+  pub lasts : (b : BlockId) → b.0 < length r.spans.items → g.label_name (last_in r b).0 ≡ last_piece_of functions c (f.label_name b.0)
+  pub back : g.label_name r.back.0 ≡ c.path
+
+-- it may stand in a function or a process
+abbrev pub IsCode : Inst → Type 0
+IsCode (inst.Sig t) = ⊥
+IsCode (inst.Reg to triggers) = ⊥
+IsCode (inst.Child unit inputs outputs) = ⊥
+IsCode _ = Unit {0}
+
+-- Where each new id has the name that a copy gives, an instruction with new ids says what the copy of its text says.
+abbrev pub RenamesAsCopied : Type 0
+RenamesAsCopied = (f g : Naming) (functions : List UnitText) (c : Copy) (r : Renaming) (units : ℕ) → Agrees f g functions c r → (i : Inst) → IsCode i → InstWithin (sizes_in units r) i → inst_text g (renamed r i) ≡ copied functions c (inst_text f i)

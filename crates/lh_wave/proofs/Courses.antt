@@ -1,0 +1,156 @@
+-- A run from one of its points to a later one, and where it broke off.
+use Rattle.std.proofs.Common.{◌≡◌, ℕ, ◌+◌, Bool, true, false, ◌||◌, List, [], ◌∷◌, ◌++◌, length, take, refl, ap, sym, ◌∙◌, append_assoc, subst, Option, Some, None, arith}
+use Rattle.std.specs.List.{list_any}
+use Rattle.std.proofs.lemmas.List.{append-nil, length-append}
+use Rattle.std.proofs.Math.Seq.{take-append-add}
+use Rattle.std.proofs.lemmas.List.Folds.{list_any-append}
+use Rattle.lh_types.specs.declared.frame.Outcome.{Outcome}
+use Rattle.lh_types.specs.declared.frame.Frame as frames
+use Rattle.lh_types.specs.Values.{Datum}
+use Rattle.lh_types.specs.Pictures.{Picture, picture}
+use Rattle.lh_io.specs.Streams.{Appends}
+use Rattle.lh_unit.specs.Trace.{Frame}
+use Rattle.lh_unit.specs.Frames.{pictures, picture_by}
+use Rattle.lh_watch.specs.Members.{Member}
+use Rattle.lh_watch.specs.Builtin.{has_failed}
+use Rattle.lh_watch.specs.Shown.{shown, reports_of, IsPartlyShown}
+use Rattle.lh_wave.specs.declared.scribe.Scribe.{Scribe}
+use Rattle.lh_wave.specs.declared.teller.Teller.{Teller}
+use Rattle.lh_wave.specs.declared.run.WaveFault.{WaveFault}
+use Rattle.lh_wave.specs.declared.run.WaveFault.TheVariants.{WriteFault, OutOfMemory}
+use Rattle.lh_wave.specs.ShownRun.{ShownRun}
+use Rattle.lh_wave.specs.BrokenOff.{HaveSeen, no_more, in_part, one_more, AppendsPrefix, BreaksOff}
+use Rattle.lh_wave.specs.Going.{Going, Went, BrokeOff, IsNext, IsTold, going, shows_one, text_left, text_ahead, pictures_ahead}
+
+-- two pieces that were appended are one
+pub told_both : (a b c : Option (List ℕ)) (x y : List ℕ) → Appends a b x → Appends b c y → Appends a c (x ++ y)
+told_both None b c x y h k = tt
+told_both (Some p) b c x y h k =
+    let next : Appends (Some (p ++ x)) c y = subst (λ (o : Option (List ℕ)). Appends o c y) h k in
+    next ∙ ap Some (append_assoc p x y)
+
+pub told_none : (a : Option (List ℕ)) → Appends a a []
+told_none None = tt
+told_none (Some p) = ap Some (sym (append-nil p))
+
+-- what broke off behind a piece that was written
+pub behind_piece : (e : WaveFault) (a b c : Option (List ℕ)) (p t : List ℕ) → Appends a b p → BreaksOff e b c t → BreaksOff e a c (p ++ t)
+behind_piece WriteFault a b c p t h k = record {
+  count = length p + k.count;
+  is_proper = omega (arith, length-append p t, k.is_proper);
+  told = subst (Appends a c) (sym (take-append-add p t k.count)) (told_both a b c p (take k.count t) h k.told);
+}
+behind_piece OutOfMemory a b c p t h k = record {
+  count = length p + k.count;
+  told = subst (Appends a c) (sym (take-append-add p t k.count)) (told_both a b c p (take k.count t) h k.told);
+}
+
+-- nothing of a text was written, or all of a piece in front
+pub none_of : (e : WaveFault) (a : Option (List ℕ)) (t : List ℕ) → e ≡ OutOfMemory → BreaksOff e a a t
+none_of e a t o = subst (λ (f : WaveFault). BreaksOff f a a t) (sym o) (at)
+  where
+    at : AppendsPrefix a a t
+    at = record { count = 0; told = told_none a }
+
+pub all_of : (e : WaveFault) (a b : Option (List ℕ)) (p t : List ℕ) → e ≡ OutOfMemory → Appends a b p → BreaksOff e a b (p ++ t)
+all_of e a b p t o h = behind_piece e a b b p t h (none_of e b t o)
+
+or_assoc : (a b c : Bool) → (a || b) || c ≡ a || (b || c)
+or_assoc true b c = refl
+or_assoc false b c = refl
+
+pub went_on : (a b c : Going) → Went a b → Went b c → Went a c
+went_on a b c g h = record {
+  since = g.since ++ h.since;
+  piece = g.piece ++ h.piece;
+  done = g.done ++ h.done;
+  frames = g.frames ∙ ap (λ l. g.since ++ l) h.frames ∙ sym (append_assoc g.since h.since c.rest.frames);
+  left = g.left ∙ h.left;
+  end = g.end ∙ h.end;
+  reported = g.reported ∙ ap (λ l. g.done ++ l) h.reported ∙ sym (append_assoc g.done h.done c.rest.done);
+  reports = h.reports ∙ ap (λ l. l ++ h.done) g.reports ∙ append_assoc a.reports g.done h.done;
+  failed = h.failed ∙ ap (λ f. f || list_any (λ (x : Frame). has_failed x.outcomes) h.since) g.failed
+      ∙ or_assoc a.failed (list_any (λ (x : Frame). has_failed x.outcomes) g.since) (list_any (λ (x : Frame). has_failed x.outcomes) h.since)
+      ∙ ap (λ f. a.failed || f) (sym (list_any-append (λ (x : Frame). has_failed x.outcomes) g.since h.since));
+  text = g.text ∙ ap (λ l. g.piece ++ l) h.text ∙ sym (append_assoc g.piece h.piece (text_ahead c));
+  told = told_both a.written b.written c.written g.piece h.piece g.told h.told;
+  seen = λ now s. g.seen now (h.seen now s);
+}
+
+pub stays_put : (a : Going) → Went a a
+stays_put a = record {
+  since = [];
+  piece = [];
+  done = [];
+  frames = refl;
+  left = refl;
+  end = refl;
+  reported = refl;
+  reports = sym (append-nil a.reports);
+  failed = or_false a.failed;
+  text = refl;
+  told = told_none a.written;
+  seen = λ now s. s;
+}
+  where
+    or_false : (f : Bool) → f ≡ f || false
+    or_false true = refl
+    or_false false = refl
+
+pub broke_on : (a b : Going) (e : WaveFault) (written : Option (List ℕ)) (now : List Member) → Went a b → BrokeOff b e written now → BrokeOff a e written now
+broke_on a b e written now g h = record {
+  text = subst (BreaksOff e a.written written) (sym g.text) (behind_piece e a.written b.written written g.piece (text_ahead b) g.told h.text);
+  seen = g.seen now h.seen;
+}
+
+-- memory ran out before anything was done
+pub broke_now : (a : Going) (e : WaveFault) (written : Option (List ℕ)) (now : List Member) → e ≡ OutOfMemory → written ≡ a.written → now ≡ a.members → BrokeOff a e written now
+broke_now a e written now o w m = record {
+  text = subst (λ (x : Option (List ℕ)). BreaksOff e a.written x (text_ahead a)) (sym w) (none_of e a.written (text_ahead a) o);
+  seen = subst (HaveSeen (pictures_ahead a) a.members) (sym m) (no_more (pictures_ahead a) a.members);
+}
+
+or_false : (f : Bool) → f ≡ f || false
+or_false true = refl
+or_false false = refl
+
+-- a frame was told and shown
+pub frame_went : (t : Teller) (s' : Scribe) (before : Option (List Datum)) (v : Frame) (p : Picture) (ms ms' : List Member) (rest : ShownRun) (wr wr' : Option (List ℕ)) (rp rp' : List ℕ) (failed : Bool) → IsNext t.scribe before v p
+    → IsTold t.scribe s' before v wr wr' → ms' ≡ shown p ms → rp' ≡ rp ++ reports_of p ms → failed ≡ (t.failed || has_failed v.outcomes)
+    → Went (going t before ms (shows_one p ms v rest) wr rp) (record { scribe = s'; before = Some v.values; members = ms'; rest = rest; written = wr'; reports = rp'; failed = failed })
+frame_went t s' before v p ms ms' rest wr wr' rp rp' failed n told m r f = record {
+  since = v ∷ [];
+  piece = told.piece;
+  done = reports_of p ms;
+  frames = refl;
+  left = refl;
+  end = refl;
+  reported = refl;
+  reports = r;
+  failed = f ∙ ap (λ b. t.failed || b) (or_false (has_failed v.outcomes));
+  text = told.text rest.frames rest.left rest.end;
+  told = told.told;
+  seen = λ now s. one_more (picture_by before v) (pictures (Some v.values) rest.frames) ms now
+      (subst (λ (xs : List Member). HaveSeen (pictures (Some v.values) rest.frames) xs now) (m ∙ ap (λ (q : Picture). shown q ms) n.is) s);
+}
+
+-- whether an assertion has failed, with the outcomes of one more frame
+pub failed_next : (b was t : Bool) (os : List Outcome) (f : frames.Frame) (before : Option (List Datum)) (v : Frame) → b ≡ (was || has_failed os) → was ≡ t → os ≡ f.outcomes → picture f ≡ picture_by before v → b ≡ (t || has_failed v.outcomes)
+failed_next b was t os f before v e w o p =
+    e ∙ ap (λ x. x || has_failed os) w ∙ ap (λ (xs : List Outcome). t || has_failed xs) (o ∙ ap (λ (q : Picture). q.outcomes) p)
+
+-- a frame was told, and memory ran out while it was shown
+pub frame_broke : (t : Teller) (s' : Scribe) (before : Option (List Datum)) (v : Frame) (p : Picture) (ms now : List Member) (rest : ShownRun) (e : WaveFault) (wr wr' : Option (List ℕ)) (rp : List ℕ) → IsNext t.scribe before v p
+    → IsTold t.scribe s' before v wr wr' → IsPartlyShown p ms now → e ≡ OutOfMemory → BrokeOff (going t before ms (shows_one p ms v rest) wr rp) e wr' now
+frame_broke t s' before v p ms now rest e wr wr' rp n told part o = record {
+  text = subst (BreaksOff e wr wr') (sym (told.text rest.frames rest.left rest.end)) (all_of e wr wr' told.piece (text_left s' (Some v.values) rest.frames rest.left rest.end) o told.told);
+  seen = in_part (picture_by before v) (pictures (Some v.values) rest.frames) ms now (subst (λ (q : Picture). IsPartlyShown q ms now) n.is part);
+}
+
+-- a frame was not told whole
+pub tell_broke : (t : Teller) (before : Option (List Datum)) (v : Frame) (p : Picture) (ms now : List Member) (rest : ShownRun) (e : WaveFault) (wr wr' : Option (List ℕ)) (rp : List ℕ)
+    → BreaksOff e wr wr' (text_left t.scribe before (v ∷ rest.frames) rest.left rest.end) → now ≡ ms → BrokeOff (going t before ms (shows_one p ms v rest) wr rp) e wr' now
+tell_broke t before v p ms now rest e wr wr' rp b m = record {
+  text = b;
+  seen = subst (HaveSeen (picture_by before v ∷ pictures (Some v.values) rest.frames) ms) (sym m) (no_more (picture_by before v ∷ pictures (Some v.values) rest.frames) ms);
+}

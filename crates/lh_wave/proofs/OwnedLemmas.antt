@@ -1,0 +1,224 @@
+-- Numbers in lists by their owners.
+use Rattle.std.proofs.Common.{◌≡◌, ℕ, zero, suc, ◌+◌, ◌<◌, ◌≤◌, Bool, true, false, List, [], ◌∷◌, ◌++◌, length, map, take, get_or, refl, ap, sym, ◌∙◌, append_assoc, subst, if◌then◌else◌, Option, Some, None, vec_len, arith}
+use Rattle.std.specs.Prelude.{slice_get, option_map, nat_eq, ◌-◌, codes, Result, Ok, Err, OnOk}
+use Rattle.std.specs.Option.{option_map_or}
+use Rattle.std.specs.List.{flat_map, join_with_byte}
+use Rattle.std.proofs.lemmas.Option.{slice_get-map, slice_get-get_or}
+use Rattle.std.specs.declared.vec.Vec.{Vec}
+use Rattle.std.specs.Global.{Global}
+use Rattle.std.proofs.lemmas.List.{length-take, length-map, get_or-map, take_more, take_all}
+use Rattle.lh_unit.specs.Within.{Each}
+use Rattle.lh_unit.specs.Arena.{Arena}
+use Rattle.lh_unit.specs.Trace.{Shown, ShownSignal, shown_from, shown_signal}
+use Rattle.lh_unit.specs.Paths.{shown_in, label_at, path_at, labels_to, labels_by}
+use Rattle.lh_eval.specs.declared.instance.Instance.{Instance}
+use Rattle.lh_design.specs.declared.Design.{Design}
+use Rattle.lh_design.specs.declared.Signal.{Signal}
+use Rattle.lh_types.specs.Types.{IsData, bit_count}
+use Rattle.lh_design.specs.Filling.{FillFrom}
+use Rattle.lh_design.specs.Texts.{design_text, instance_text, signal_text}
+use Rattle.lh_wave.specs.HeadText.{is_parent, children_of, variables_of, variable_line, signals_in, scope_line, upscope_line, scope_text, waveform_head}
+use Rattle.lh_wave.specs.Owned.{parents, owners, owned_by, numbers_of, with_number, AreOwned, variable_at}
+use Rattle.lh_elab.specs.Answer.{IsDesignOf}
+use Rattle.lh_wave.proofs.Joined.{four}
+use Rattle.lh_wave.proofs.FrameLemmas.{Writing, Writing-next}
+
+-- a number in front of a list stays there
+in_front : (k n o : ℕ) (x : Option ℕ) (list : List ℕ) → k ∷ with_number x n o list ≡ with_number x n o (k ∷ list)
+in_front k n o x list = by (is_parent o x)
+  where
+    by : (b : Bool) → k ∷ (if b then list ++ n ∷ [] else list) ≡ (if b then (k ∷ list) ++ n ∷ [] else k ∷ list)
+    by true = refl
+    by false = refl
+
+more_by : (b : Bool) (k : ℕ) (l m : List ℕ) (o n : ℕ) (y : Option ℕ) → l ≡ with_number y n o m → (if b then k ∷ l else l) ≡ with_number y n o (if b then k ∷ m else m)
+more_by true k l m o n y e = ap (λ x. k ∷ x) e ∙ in_front k n o y m
+more_by false k l m o n y e = e
+
+-- one more that is owned
+owned_more : (o k : ℕ) (xs : List (Option ℕ)) (y : Option ℕ) (n : ℕ) → n ≡ k + length xs → owned_by o k (xs ++ y ∷ []) ≡ with_number y n o (owned_by o k xs)
+owned_more o k [] y n e = let s : n ≡ k = omega arith in ap (λ m. if is_parent o y then m ∷ [] else []) (sym s)
+owned_more o k (x ∷ xs) y n e = more_by (is_parent o x) k (owned_by o (k + 1) (xs ++ y ∷ [])) (owned_by o (k + 1) xs) o n y (owned_more o (k + 1) xs y n (omega arith))
+
+-- lists with the numbers of the first owners, and of one more
+pub owned_next : (old new : Vec (Vec ℕ Global) Global) (count i : ℕ) (os : List (Option ℕ)) (o : Option ℕ) → i < length os → o ≡ get_or os i o → vec_len new ≡ vec_len old
+    → ((k : ℕ) → k < vec_len old → numbers_of new k ≡ with_number o i k (numbers_of old k)) → AreOwned old count (take i os) → AreOwned new count (take (i + 1) os)
+owned_next old new count i os o l e level added a = record {
+  level = level ∙ a.level;
+  each = λ k h.
+      let within : k < vec_len old = omega (arith, a.level) in
+      let long : i ≡ 0 + length (take i os) = omega (arith, length-take i os) in
+      added k within ∙ ap (with_number o i k) (a.each k h) ∙ sym (owned_more k 0 (take i os) o i long)
+      ∙ ap (owned_by k 0) (sym (take_more os i o l ∙ ap (λ x. take i os ++ x ∷ []) (sym e)));
+}
+
+pub owned_end : (lists : Vec (Vec ℕ Global) Global) (count i : ℕ) (os : List (Option ℕ)) → length os ≤ i → AreOwned lists count (take i os) → AreOwned lists count os
+owned_end lists count i os l a = subst (AreOwned lists count) (take_all i os l) a
+
+below_by : (b : Bool) (n k : ℕ) (l : List ℕ) → k < n → Each (λ (j : ℕ). j < n) l → Each (λ (j : ℕ). j < n) (if b then k ∷ l else l)
+below_by true n k l h e = (h, e)
+below_by false n k l h e = e
+
+-- what an owner owns has numbers of what there is
+owned_below : (o k n : ℕ) (xs : List (Option ℕ)) → k + length xs ≤ n → Each (λ (j : ℕ). j < n) (owned_by o k xs)
+owned_below o k n [] h = tt
+owned_below o k n (x ∷ xs) h = below_by (is_parent o x) n k (owned_by o (k + 1) xs) (omega arith) (owned_below o (k + 1) n xs (omega arith))
+
+pub each_at : (P : ℕ → Type 0) (xs : List ℕ) (i : ℕ) → Each P xs → i < length xs → P (get_or xs i 0)
+each_at P [] i h l = absurd (omega arith)
+each_at P (x ∷ xs) zero h l = h.0
+each_at P (x ∷ xs) (suc i) h l = each_at P xs i h.1 (omega arith)
+
+-- the children of an instance, by what each instance is owned by
+children_owned : (a : Arena) (i k : ℕ) (is : List Instance) → children_of i k (shown_from k (map (instance_text a) is)) ≡ owned_by i k (map (λ (x : Instance). x.parent) is)
+children_owned a i k [] = refl
+children_owned a i k (x ∷ is) = ap (λ l. if is_parent i x.parent then k ∷ l else l) (children_owned a i (k + 1) is)
+
+pub children_in : (a : Arena) (d : Design) (lists : Vec (Vec ℕ Global) Global) (i : ℕ) → AreOwned lists (length d.instances.items) (parents d) → i < length d.instances.items
+    → numbers_of lists i ≡ children_of i 0 (shown_in (design_text a d))
+children_in a d lists i o h = o.each i h ∙ sym (children_owned a i 0 d.instances.items)
+
+pub children_below : (d : Design) (lists : Vec (Vec ℕ Global) Global) (i : ℕ) → AreOwned lists (length d.instances.items) (parents d) → i < length d.instances.items
+    → Each (λ (j : ℕ). j < length d.instances.items) (numbers_of lists i)
+children_below d lists i o h =
+    let few : 0 + length (parents d) ≤ length d.instances.items = omega (arith, length-map d.instances.items (λ (x : Instance). x.parent)) in
+    subst (Each (λ (j : ℕ). j < length d.instances.items)) (sym (o.each i h)) (owned_below i 0 (length d.instances.items) (parents d) few)
+
+pub signals_below : (d : Design) (lists : Vec (Vec ℕ Global) Global) (i : ℕ) → AreOwned lists (length d.instances.items) (owners d) → i < length d.instances.items
+    → Each (λ (j : ℕ). j < length d.signals.items) (numbers_of lists i)
+signals_below d lists i o h =
+    let few : 0 + length (owners d) ≤ length d.signals.items = omega (arith, length-map d.signals.items (λ (x : Signal). Some x.instance)) in
+    subst (Each (λ (j : ℕ). j < length d.signals.items)) (sym (o.each i h)) (owned_below i 0 (length d.signals.items) (owners d) few)
+
+-- the further signals stand from a number on
+abbrev StandsFrom : (n : ℕ) → (all ss : List ShownSignal) → Type 0
+StandsFrom n all ss = (j : ℕ) → slice_get all (n + j) ≡ slice_get ss j
+
+variables_by : (b : Bool) (all : List ShownSignal) (n : ℕ) (l line rest : List ℕ) → variable_at all n ≡ line → flat_map (variable_at all) l ≡ rest
+    → flat_map (variable_at all) (if b then n ∷ l else l) ≡ (if b then line else []) ++ rest
+variables_by true all n l line rest e g = ap (λ x. x ++ flat_map (variable_at all) l) e ∙ ap (λ x. line ++ x) g
+variables_by false all n l line rest e g = g
+
+-- the lines of the signals of an instance, by their numbers
+variables_owned : (i n : ℕ) (all : List ShownSignal) (ss : List Signal) → StandsFrom n all (map shown_signal (map signal_text ss))
+    → flat_map (variable_at all) (owned_by i n (map (λ (s : Signal). Some s.instance) ss)) ≡ variables_of i n (map shown_signal (map signal_text ss))
+variables_owned i n all [] st = refl
+variables_owned i n all (s ∷ ss) st =
+    let z : n ≡ n + 0 = omega arith in
+    let here : variable_at all n ≡ variable_line (bit_count s.ty) n s.name =
+    ap (λ (o : Option ShownSignal). option_map_or (λ (x : ShownSignal). variable_line (bit_count x.ty) n x.name) o []) (ap (slice_get all) z ∙ st 0) in
+    variables_by (nat_eq s.instance i) all n (owned_by i (n + 1) (map (λ (x : Signal). Some x.instance) ss)) (variable_line (bit_count s.ty) n s.name) (variables_of i (n + 1) (map shown_signal (map signal_text ss))) here
+    (variables_owned i (n + 1) all ss (λ j. let e : n + 1 + j ≡ n + suc j = omega arith in ap (slice_get all) e ∙ st (suc j)))
+
+pub variables_in : (a : Arena) (d : Design) (lists : Vec (Vec ℕ Global) Global) (i : ℕ) → AreOwned lists (length d.instances.items) (owners d) → i < length d.instances.items
+    → flat_map (variable_at (signals_in (design_text a d))) (numbers_of lists i) ≡ variables_of i 0 (signals_in (design_text a d))
+variables_in a d lists i o h =
+    ap (flat_map (variable_at (signals_in (design_text a d)))) (o.each i h)
+    ∙ variables_owned i 0 (signals_in (design_text a d)) d.signals.items (λ j. let e : 0 + j ≡ j = omega arith in ap (slice_get (signals_in (design_text a d))) e)
+
+-- the line of a signal that is there
+pub variable_here : (a : Arena) (d : Design) (k : ℕ) (s : Signal) → k < length d.signals.items → s ≡ get_or d.signals.items k s
+    → variable_at (signals_in (design_text a d)) k ≡ variable_line (bit_count s.ty) k s.name
+variable_here a d k s h e =
+    let there : slice_get d.signals.items k ≡ Some s = slice_get-get_or d.signals.items k s h ∙ ap Some (sym e) in
+    ap (λ (o : Option ShownSignal). option_map_or (λ (x : ShownSignal). variable_line (bit_count x.ty) k x.name) o [])
+    (slice_get-map shown_signal (map signal_text d.signals.items) k ∙ ap (option_map shown_signal) (slice_get-map signal_text d.signals.items k ∙ ap (option_map signal_text) there))
+
+-- signals that fill bits are of data types
+pub is_data_at : (lo hi k : ℕ) (ss : List Signal) (s : Signal) → FillFrom lo ss hi → k < length ss → s ≡ get_or ss k s → IsData s.ty
+is_data_at lo hi k [] s f h e = absurd (omega arith)
+is_data_at lo hi zero (x ∷ ss) s f h e = subst (λ (y : Signal). IsData y.ty) (sym e) f.1
+is_data_at lo hi (suc k) (x ∷ ss) s f h e = is_data_at (lo + bit_count x.ty) hi k ss s f.2 (omega arith) e
+
+-- where there is no instance there is no path
+pub no_path : (a : Arena) (d : Design) (k : ℕ) → length d.instances.items ≤ k → path_at (shown_in (design_text a d)) k ≡ []
+unfolding path_at
+no_path a d k h = ap (λ (o : Option Shown). join_with_byte 46 (labels_by (labels_to k (shown_in (design_text a d))) o)) (past 0 d.instances.items k h)
+  where
+    past : (n : ℕ) (is : List Instance) (j : ℕ) → length is ≤ j → slice_get (shown_from n (map (instance_text a) is)) j ≡ None
+    past n [] j h = refl
+    past n (x ∷ is) zero h = absurd (omega arith)
+    past n (x ∷ is) (suc j) h = past (n + 1) is j (omega arith)
+
+length_shown : (a : Arena) (n : ℕ) (is : List Instance) → length (shown_from n (map (instance_text a) is)) ≡ length is
+length_shown a n [] = refl
+length_shown a n (x ∷ is) = ap suc (length_shown a (n + 1) is)
+
+-- the whole scope of an instance
+pub scope_whole : {T E : Type 0} (r : Result T E) (a : Arena) (d : Design) (children signals : Vec (Vec ℕ Global) Global) (steps i : ℕ) (start one two three now label numbers kids : List ℕ) → (steps ≡ 0 → ⊥)
+    → AreOwned children (length d.instances.items) (parents d) → AreOwned signals (length d.instances.items) (owners d) → i < length d.instances.items → numbers ≡ numbers_of signals i → kids ≡ numbers_of children i
+    → label ≡ label_at (shown_in (design_text a d)) i → one ≡ start ++ scope_line label → two ≡ one ++ flat_map (variable_at (signals_in (design_text a d))) numbers
+    → three ≡ two ++ flat_map (scope_text (steps - 1) (shown_in (design_text a d)) (signals_in (design_text a d))) kids → OnOk r (now ≡ three ++ upscope_line)
+    → OnOk r (now ≡ start ++ scope_text steps (shown_in (design_text a d)) (signals_in (design_text a d)) i)
+scope_whole (Err x) a d children signals steps i start one two three now label numbers kids z oc os h en ek el e1 e2 e3 e = tt
+scope_whole (Ok x) a d children signals steps i start one two three now label numbers kids z oc os h en ek el e1 e2 e3 e =
+    let all = shown_in (design_text a d) in
+    let ss = signals_in (design_text a d) in
+    let n : steps ≡ suc (steps - 1) = not_zero steps z in
+    let lines : List ℕ = variables_of i 0 ss in
+    let below : List ℕ = flat_map (scope_text (steps - 1) all ss) (children_of i 0 all) in
+    let first : one ≡ start ++ scope_line (label_at all i) = e1 ∙ ap (λ l. start ++ scope_line l) el in
+    let second : two ≡ one ++ lines = e2 ∙ ap (λ ns. one ++ flat_map (variable_at ss) ns) en ∙ ap (λ l. one ++ l) (variables_in a d signals i os h) in
+    let third : three ≡ two ++ below = e3 ∙ ap (λ ns. two ++ flat_map (scope_text (steps - 1) all ss) ns) (ek ∙ children_in a d children i oc h) in
+    four start one two three now (scope_line (label_at all i)) lines below upscope_line first second third e ∙ ap (λ m. start ++ scope_text m all ss i) (sym n)
+  where
+    not_zero : (m : ℕ) → (m ≡ 0 → ⊥) → m ≡ suc (m - 1)
+    not_zero zero f = absurd (f refl)
+    not_zero (suc m) f = omega arith
+
+-- the whole head
+pub head_whole : (a : Arena) (d : Design) (steps : ℕ) (start one two now : List ℕ) → steps ≡ length d.instances.items → start ≡ [] → one ≡ start ++ codes "$timescale 1 fs $end\n"
+    → two ≡ one ++ scope_text steps (shown_in (design_text a d)) (signals_in (design_text a d)) 0 → now ≡ two ++ codes "$enddefinitions $end\n"
+    → now ≡ waveform_head (shown_in (design_text a d)) (signals_in (design_text a d))
+head_whole a d steps start one two now n z e1 e2 e3 =
+    let all = shown_in (design_text a d) in
+    let ss = signals_in (design_text a d) in
+    let count : steps ≡ length all = n ∙ sym (length_shown a 0 d.instances.items) in
+    e3 ∙ ap (λ l. l ++ codes "$enddefinitions $end\n") (e2 ∙ ap (λ l. l ++ scope_text steps all ss 0) (e1 ∙ ap (λ l. l ++ codes "$timescale 1 fs $end\n") z))
+    ∙ append_assoc (codes "$timescale 1 fs $end\n") (scope_text steps all ss 0) (codes "$enddefinitions $end\n")
+    ∙ ap (λ k. codes "$timescale 1 fs $end\n" ++ (scope_text k all ss 0 ++ codes "$enddefinitions $end\n")) count
+
+-- the item at a place does not hang on what stands for those that are not there
+get_or-any : (xs : List ℕ) (i d e : ℕ) → i < length xs → get_or xs i d ≡ get_or xs i e
+get_or-any [] i d e h = absurd (omega arith)
+get_or-any (x ∷ xs) zero d e h = refl
+get_or-any (x ∷ xs) (suc i) d e h = get_or-any xs i d e (omega arith)
+
+-- the text of one more number
+pub numbers_next : (text : ℕ → List ℕ) (start to next : List ℕ) (xs : List ℕ) (i : ℕ) → Writing text start to xs i → i < length xs → next ≡ to ++ text (get_or xs i 0) → Writing text start next xs (i + 1)
+numbers_next text start to next xs i w h g = Writing-next text start to next xs i (get_or xs i 0) w h (get_or-any xs i 0 (get_or xs i 0) h) g
+
+-- the line of one more signal
+pub variable_next : (a : Arena) (d : Design) (ss : List Signal) (xs : List ℕ) (start to next name : List ℕ) (i : ℕ) (s : Signal) → Writing (variable_at (signals_in (design_text a d))) start to xs i → i < length xs
+    → Each (λ (k : ℕ). k < length d.signals.items) xs → ss ≡ d.signals.items → s ≡ get_or ss (get_or xs i 0) s → name ≡ s.name → next ≡ to ++ variable_line (bit_count s.ty) (get_or xs i 0) name
+    → Writing (variable_at (signals_in (design_text a d))) start next xs (i + 1)
+variable_next a d ss xs start to next name i s w h below whole is n g =
+    let known : get_or xs i 0 < length d.signals.items = each_at (λ (k : ℕ). k < length d.signals.items) xs i below h in
+    let here : s ≡ get_or d.signals.items (get_or xs i 0) s = is ∙ ap (λ (l : List Signal). get_or l (get_or xs i 0) s) whole in
+    numbers_next (variable_at (signals_in (design_text a d))) start to next xs i w h
+    (g ∙ ap (λ l. to ++ variable_line (bit_count s.ty) (get_or xs i 0) l) n ∙ ap (λ l. to ++ l) (sym (variable_here a d (get_or xs i 0) s known here)))
+
+pub is_data_in : (a : Arena) (d : Design) (ss : List Signal) (xs : List ℕ) (i : ℕ) (s : Signal) → IsDesignOf a d → Each (λ (k : ℕ). k < length d.signals.items) xs → i < length xs → ss ≡ d.signals.items
+    → s ≡ get_or ss (get_or xs i 0) s → IsData s.ty
+is_data_in a d ss xs i s o below h whole is =
+    let known : get_or xs i 0 < length d.signals.items = each_at (λ (k : ℕ). k < length d.signals.items) xs i below h in
+    is_data_at 0 (length d.init) (get_or xs i 0) d.signals.items s o.fill known (is ∙ ap (λ (l : List Signal). get_or l (get_or xs i 0) s) whole)
+
+pub signals_known : (d : Design) (lists : Vec (Vec ℕ Global) Global) (i : ℕ) (numbers : List ℕ) → numbers ≡ numbers_of lists i → AreOwned lists (length d.instances.items) (owners d) → i < length d.instances.items
+    → Each (λ (k : ℕ). k < length d.signals.items) numbers
+signals_known d lists i numbers e o h = subst (Each (λ (k : ℕ). k < length d.signals.items)) (sym e) (signals_below d lists i o h)
+
+pub child_known : (d : Design) (lists : Vec (Vec ℕ Global) Global) (i j : ℕ) (numbers : List ℕ) → numbers ≡ numbers_of lists i → AreOwned lists (length d.instances.items) (parents d) → i < length d.instances.items
+    → j < length numbers → get_or numbers j 0 < length d.instances.items
+child_known d lists i j numbers e o h l =
+    each_at (λ (k : ℕ). k < length d.instances.items) numbers j (subst (Each (λ (k : ℕ). k < length d.instances.items)) (sym e) (children_below d lists i o h)) l
+
+-- the owner of one more
+pub owner_next : {X : Type 0} (owner : X → Option ℕ) (old new : Vec (Vec ℕ Global) Global) (count i : ℕ) (xs ys : List X) (x : X) → xs ≡ ys → i < length xs → x ≡ get_or xs i x → vec_len new ≡ vec_len old
+    → ((k : ℕ) → k < vec_len old → numbers_of new k ≡ with_number (owner x) i k (numbers_of old k)) → AreOwned old count (take i (map owner ys)) → AreOwned new count (take (i + 1) (map owner ys))
+owner_next owner old new count i xs ys x whole h e level added a =
+    let same : length xs ≡ length ys = ap length whole in
+    let within : i < length (map owner ys) = omega (arith, length-map ys owner) in
+    let here : i < length ys = omega arith in
+    let is : owner x ≡ get_or (map owner ys) i (owner x) = ap owner (e ∙ ap (λ l. get_or l i x) whole) ∙ sym (get_or-map owner ys i x (owner x) here) in
+    owned_next old new count i (map owner ys) (owner x) within is level added a

@@ -1,0 +1,198 @@
+-- A whole run: turn after turn, and what stands of it at its end.
+use Rattle.std.proofs.Common.{◌≡◌, ℕ, suc, ◌≤◌, Bool, false, ◌||◌, List, [], ◌++◌, length, refl, ap, sym, ◌∙◌, append_assoc, subst, Option, Some, None, arith}
+use Rattle.std.specs.List.{list_any, flat_map}
+use Rattle.std.proofs.lemmas.List.{append-nil, length-append, take-append-le}
+use Rattle.lh_time.specs.declared.Instant.{Instant}
+use Rattle.lh_types.specs.Values.{Datum}
+use Rattle.lh_io.specs.Streams.{Appends, AppendsProperPrefix}
+use Rattle.lh_unit.specs.Arena.{Arena, contents}
+use Rattle.lh_unit.specs.World.{World, next_instant, first_world}
+use Rattle.lh_unit.specs.Trace.{Shown, ShownSignal, Frame, at_bound}
+use Rattle.lh_unit.specs.Frames.{pictures}
+use Rattle.lh_design.specs.declared.Design.{Design}
+use Rattle.lh_design.specs.Texts.{design_text}
+use Rattle.lh_kernel.specs.Simulation.{Simulation, StandsFor}
+use Rattle.lh_watch.specs.Members.{Member, report_of}
+use Rattle.lh_watch.specs.Builtin.{has_failed}
+use Rattle.lh_wave.specs.declared.scribe.Scribe.{Scribe}
+use Rattle.lh_wave.specs.declared.teller.Teller.{Teller}
+use Rattle.lh_wave.specs.declared.ending.End.{End}
+use Rattle.lh_wave.specs.declared.run.WaveMode.{WaveMode}
+use Rattle.lh_wave.specs.declared.run.WaveMode.TheVariants as mode
+use Rattle.lh_wave.specs.declared.run.WaveFault.{WaveFault}
+use Rattle.lh_wave.specs.declared.run.WaveFault.TheVariants.{WriteFault, OutOfMemory}
+use Rattle.lh_wave.specs.ShownRun.{ShownRun, shown_behind, shows_none, end_of, shown_from_first, any_failed, all_reports}
+use Rattle.lh_wave.specs.RunText.{head_in, text_in}
+use Rattle.lh_wave.specs.BrokenOff.{HaveSeen, no_more, BreaksOff}
+use Rattle.lh_wave.specs.Going.{Going, Went, BrokeOff, GoesOn, IsOver, Turned, going, shown_on, values_of_last, IsBehind, scribe_in, text_left}
+use Rattle.lh_wave.proofs.Courses.{went_on, stays_put, broke_on, told_both, behind_piece, all_of}
+
+-- what a turn comes to from every world that the simulation stands for
+abbrev TurnsTo : Option End → Arena → Design → (s s' : Simulation) → (t t' : Teller) → (ms ms' : List Member) → (wr wr' : Option (List ℕ)) → (rp rp' : List ℕ) → Type 0
+TurnsTo e a d s s' t t' ms ms' wr wr' rp rp' = (n : ℕ) (w : World) → StandsFor s w → IsBehind t.scribe (values_of_last a d w)
+    → Turned e a d n s' t' (going t (values_of_last a d w) ms (shown_on a d (suc n) w ms) wr rp) ms' wr' rp'
+
+-- how a turn breaks off from every world that the simulation stands for
+abbrev BreaksAt : WaveFault → Arena → Design → Simulation → Teller → (ms now : List Member) → (wr wr' : Option (List ℕ)) → (rp : List ℕ) → Type 0
+BreaksAt f a d s t ms now wr wr' rp = (n : ℕ) (w : World) → StandsFor s w → IsBehind t.scribe (values_of_last a d w)
+    → BrokeOff (going t (values_of_last a d w) ms (shown_on a d (suc n) w ms) wr rp) f wr' now
+
+pub course_start : (a : Arena) (d : Design) (m n : ℕ) (w : World) (s : Simulation) (t : Teller) (ms : List Member) (wr : Option (List ℕ)) (rp : List ℕ) → m ≡ n → StandsFor s w → IsBehind t.scribe (values_of_last a d w)
+    → GoesOn a d m s t (going t (values_of_last a d w) ms (shown_on a d n w ms) wr rp) ms wr rp
+course_start a d m n w s t ms wr rp e st b = record {
+  world = w;
+  stands = st;
+  behind = b;
+  went = subst (λ (k : ℕ). Went (going t (values_of_last a d w) ms (shown_on a d n w ms) wr rp) (going t (values_of_last a d w) ms (shown_on a d k w ms) wr rp)) (sym e)
+      (stays_put (going t (values_of_last a d w) ms (shown_on a d n w ms) wr rp));
+}
+
+module _ (a : Arena) (d : Design) (s s' : Simulation) (t t' : Teller) (ms ms' : List Member) (wr wr' : Option (List ℕ)) (rp rp' : List ℕ) (m n : ℕ) (start : Going) (ea : s.arena ≡ a) (ed : s.design ≡ d) (em : m ≡ suc n)
+    (course : GoesOn a d m s t start ms wr rp) where
+  to_here : Went start (going t (values_of_last a d course.world) ms (shown_on a d (suc n) course.world ms) wr rp)
+  to_here = subst (λ (k : ℕ). Went start (going t (values_of_last a d course.world) ms (shown_on a d k course.world ms) wr rp)) em course.went
+
+  turned : (e o : Option End) → e ≡ o → TurnsTo e s.arena s.design s s' t t' ms ms' wr wr' rp rp'
+      → Turned o a d n s' t' (going t (values_of_last a d course.world) ms (shown_on a d (suc n) course.world ms) wr rp) ms' wr' rp'
+  turned e o eo h =
+      let one : TurnsTo e a s.design s s' t t' ms ms' wr wr' rp rp' = subst (λ (x : Arena). TurnsTo e x s.design s s' t t' ms ms' wr wr' rp rp') ea h in
+      let two : TurnsTo e a d s s' t t' ms ms' wr wr' rp rp' = subst (λ (x : Design). TurnsTo e a x s s' t t' ms ms' wr wr' rp rp') ed one in
+      let three : TurnsTo o a d s s' t t' ms ms' wr wr' rp rp' = subst (λ (x : Option End). TurnsTo x a d s s' t t' ms ms' wr wr' rp rp') eo two in
+      three n course.world course.stands course.behind
+
+  pub course_next : (e : Option End) → e ≡ None → TurnsTo e s.arena s.design s s' t t' ms ms' wr wr' rp rp' → GoesOn a d n s' t' start ms' wr' rp'
+  course_next e eo h =
+      let y = turned e None eo h in
+      record {
+        world = y.world;
+        stands = y.stands;
+        behind = y.behind;
+        went = went_on start (going t (values_of_last a d course.world) ms (shown_on a d (suc n) course.world ms) wr rp) (going t' (values_of_last a d y.world) ms' (shown_on a d n y.world ms') wr' rp') to_here y.went;
+      }
+
+  pub course_over : (e : Option End) (end : End) → e ≡ Some end → TurnsTo e s.arena s.design s s' t t' ms ms' wr wr' rp rp' → IsOver t' start end ms' wr' rp'
+  course_over e end eo h =
+      let y = turned e (Some end) eo h in
+      record {
+        before = y.before;
+        behind = y.behind;
+        went = went_on start (going t (values_of_last a d course.world) ms (shown_on a d (suc n) course.world ms) wr rp) (going t' y.before ms' (shows_none ms' end) wr' rp') to_here y.went;
+      }
+
+  pub course_broken : (f : WaveFault) → BreaksAt f s.arena s.design s t ms ms' wr wr' rp → BrokeOff start f wr' ms'
+  course_broken f h =
+      let one : BreaksAt f a s.design s t ms ms' wr wr' rp = subst (λ (x : Arena). BreaksAt f x s.design s t ms ms' wr wr' rp) ea h in
+      let two : BreaksAt f a d s t ms ms' wr wr' rp = subst (λ (x : Design). BreaksAt f a x s t ms ms' wr wr' rp) ed one in
+      broke_on start (going t (values_of_last a d course.world) ms (shown_on a d (suc n) course.world ms) wr rp) f wr' ms' to_here (two n course.world course.stands course.behind)
+
+-- at the bound nothing more is shown
+at_the_bound : (vals : Option (List Datum)) (ms : List Member) (o : Option Instant) → shown_behind vals (at_bound o).frames (at_bound o).end ms ≡ shows_none ms (end_of (at_bound o).end)
+at_the_bound vals ms None = refl
+at_the_bound vals ms (Some t) = refl
+
+pub course_end : (a : Arena) (d : Design) (m : ℕ) (s : Simulation) (t : Teller) (start : Going) (ms : List Member) (wr : Option (List ℕ)) (rp : List ℕ) (end : End) → m ≡ 0
+    → ((w : World) → StandsFor s w → end ≡ end_of (at_bound (next_instant w)).end) → GoesOn a d m s t start ms wr rp → IsOver t start end ms wr rp
+course_end a d m s t start ms wr rp end em h course =
+    let here : Went start (going t (values_of_last a d course.world) ms (shown_on a d 0 course.world ms) wr rp) =
+    subst (λ (k : ℕ). Went start (going t (values_of_last a d course.world) ms (shown_on a d k course.world ms) wr rp)) em course.went in
+    let none : shown_on a d 0 course.world ms ≡ shows_none ms end =
+    at_the_bound (values_of_last a d course.world) ms (next_instant course.world) ∙ ap (shows_none ms) (sym (h course.world course.stands)) in
+    record {
+      before = values_of_last a d course.world;
+      behind = course.behind;
+      went = subst (λ (r : ShownRun). Went start (going t (values_of_last a d course.world) ms r wr rp)) none here;
+    }
+
+pub behind_new : (m : WaveMode) (s : Scribe) → s ≡ scribe_in m → IsBehind s None
+behind_new mode.Trace s e = subst (λ (x : Scribe). IsBehind x None) (sym e) tt
+behind_new mode.Vcd s e = subst (λ (x : Scribe). IsBehind x None) (sym e) refl
+
+pub over_at : (a a' : Arena) (d : Design) (n : ℕ) (s : Simulation) (t t' : Teller) (ms ms' : List Member) (wr wr' : Option (List ℕ)) (rp rp' : List ℕ) (end : End) → a ≡ a' → StandsFor s (first_world (contents a') (design_text a' d))
+    → IsBehind t.scribe None → ((w : World) → StandsFor s w → IsBehind t.scribe (values_of_last a d w) → IsOver t' (going t (values_of_last a d w) ms (shown_on a d n w ms) wr rp) end ms' wr' rp')
+    → IsOver t' (going t None ms (shown_from_first (contents a') (design_text a' d) n ms) wr rp) end ms' wr' rp'
+over_at a a' d n s t t' ms ms' wr wr' rp rp' end e st b h =
+    let k : (w : World) → StandsFor s w → IsBehind t.scribe (values_of_last a' d w) → IsOver t' (going t (values_of_last a' d w) ms (shown_on a' d n w ms) wr rp) end ms' wr' rp' =
+    subst (λ (x : Arena). (w : World) → StandsFor s w → IsBehind t.scribe (values_of_last x d w) → IsOver t' (going t (values_of_last x d w) ms (shown_on x d n w ms) wr rp) end ms' wr' rp') e h in
+    k (first_world (contents a') (design_text a' d)) st b
+
+pub broken_at : (a a' : Arena) (d : Design) (n : ℕ) (s : Simulation) (t : Teller) (ms now : List Member) (wr wr' : Option (List ℕ)) (rp : List ℕ) (f : WaveFault) → a ≡ a' → StandsFor s (first_world (contents a') (design_text a' d))
+    → IsBehind t.scribe None → ((w : World) → StandsFor s w → IsBehind t.scribe (values_of_last a d w) → BrokeOff (going t (values_of_last a d w) ms (shown_on a d n w ms) wr rp) f wr' now)
+    → BrokeOff (going t None ms (shown_from_first (contents a') (design_text a' d) n ms) wr rp) f wr' now
+broken_at a a' d n s t ms now wr wr' rp f e st b h =
+    let k : (w : World) → StandsFor s w → IsBehind t.scribe (values_of_last a' d w) → BrokeOff (going t (values_of_last a' d w) ms (shown_on a' d n w ms) wr rp) f wr' now =
+    subst (λ (x : Arena). (w : World) → StandsFor s w → IsBehind t.scribe (values_of_last x d w) → BrokeOff (going t (values_of_last x d w) ms (shown_on x d n w ms) wr rp) f wr' now) e h in
+    k (first_world (contents a') (design_text a' d)) st b
+
+-- the head, and what follows it
+parts : (m : WaveMode) (is : List Shown) (ss : List ShownSignal) (r : ShownRun) → head_in m is ss ++ text_left (scribe_in m) None r.frames r.left r.end ≡ text_in m is ss r
+parts mode.Trace is ss r = sym (append_assoc (head_in mode.Trace is ss) _ _)
+parts mode.Vcd is ss r = refl
+
+whole : (m : WaveMode) (s : Scribe) (is : List Shown) (ss : List ShownSignal) (r : ShownRun) → s ≡ scribe_in m → head_in m is ss ++ text_left s None r.frames r.left r.end ≡ text_in m is ss r
+whole m s is ss r e = ap (λ (x : Scribe). head_in m is ss ++ text_left x None r.frames r.left r.end) e ∙ parts m is ss r
+
+-- a piece in front was not written whole
+in_front_of : (a b : Option (List ℕ)) (p t : List ℕ) → AppendsProperPrefix a b p → AppendsProperPrefix a b (p ++ t)
+in_front_of a b p t h =
+    let few : h.count ≤ length p = omega (arith, h.is_proper) in
+    record {
+      count = h.count;
+      is_proper = omega (arith, length-append p t, h.is_proper);
+      told = subst (Appends a b) (sym (take-append-le h.count p t few)) h.told;
+    }
+
+pub head_broken : (m : WaveMode) (is : List Shown) (ss : List ShownSignal) (r : ShownRun) (head : List ℕ) (f : WaveFault) (a b : Option (List ℕ)) → head ≡ head_in m is ss → AppendsProperPrefix a b head → f ≡ WriteFault
+    → BreaksOff f a b (text_in m is ss r)
+head_broken m is ss r head f a b e h o =
+    let one : AppendsProperPrefix a b (head_in m is ss) = subst (AppendsProperPrefix a b) e h in
+    let two : AppendsProperPrefix a b (text_in m is ss r) = subst (AppendsProperPrefix a b) (parts m is ss r) (in_front_of a b (head_in m is ss) (text_left (scribe_in m) None r.frames r.left r.end) one) in
+    subst (λ (x : WaveFault). BreaksOff x a b (text_in m is ss r)) (sym o) two
+
+module _ (m : WaveMode) (is : List Shown) (ss : List ShownSignal) (r : ShownRun) (t : Teller) (ms : List Member) (a b : Option (List ℕ)) (rp head : List ℕ) (sc : t.scribe ≡ scribe_in m) (eh : head ≡ head_in m is ss) (h : Appends a b head) where
+  head_told : Appends a b (head_in m is ss)
+  head_told = subst (Appends a b) eh h
+
+  pub frames_broken : (f : WaveFault) (b' : Option (List ℕ)) (now : List Member) → BrokeOff (going t None ms r b rp) f b' now → BreaksOff f a b' (text_in m is ss r) × HaveSeen (pictures None r.frames) ms now
+  frames_broken f b' now k =
+      (subst (BreaksOff f a b') (whole m t.scribe is ss r sc) (behind_piece f a b b' (head_in m is ss) (text_left t.scribe None r.frames r.left r.end) head_told k.text), k.seen)
+
+  module _ (t' : Teller) (ms' : List Member) (b' : Option (List ℕ)) (rp' : List ℕ) (end : End) (over : IsOver t' (going t None ms r b rp) end ms' b' rp') where
+    -- the text of the frames is written
+    frames_told : Appends a b' (head_in m is ss ++ over.went.piece)
+    frames_told = told_both a b b' (head_in m is ss) over.went.piece head_told over.went.told
+
+    in_whole : (head_in m is ss ++ over.went.piece) ++ text_left t'.scribe over.before [] ms' end ≡ text_in m is ss r
+    in_whole =
+        append_assoc (head_in m is ss) over.went.piece (text_left t'.scribe over.before [] ms' end) ∙ ap (λ l. head_in m is ss ++ l) (sym over.went.text) ∙ whole m t.scribe is ss r sc
+
+    pub all_seen : HaveSeen (pictures None r.frames) ms ms'
+    all_seen = over.went.seen ms' (no_more [] ms')
+
+    pub last_broken : (f : WaveFault) (c : Option (List ℕ)) → ((before : Option (List Datum)) → BreaksOff f b' c (text_left t'.scribe before [] ms' end)) → BreaksOff f a c (text_in m is ss r)
+    last_broken f c k = subst (BreaksOff f a c) in_whole (behind_piece f a b' c (head_in m is ss ++ over.went.piece) (text_left t'.scribe over.before [] ms' end) frames_told (k over.before))
+
+    pub all_told : (c : Option (List ℕ)) → ((before : Option (List Datum)) → Appends b' c (text_left t'.scribe before [] ms' end)) → Appends a c (text_in m is ss r)
+    all_told c k = subst (Appends a c) in_whole (told_both a b' c (head_in m is ss ++ over.went.piece) (text_left t'.scribe over.before [] ms' end) frames_told (k over.before))
+
+    -- memory ran out behind the whole text
+    pub reports_broken : (f : WaveFault) (c : Option (List ℕ)) → f ≡ OutOfMemory → ((before : Option (List Datum)) → Appends b' c (text_left t'.scribe before [] ms' end)) → BreaksOff f a c (text_in m is ss r)
+    reports_broken f c o k = subst (BreaksOff f a c) (append-nil (text_in m is ss r)) (all_of f a c (text_in m is ss r) [] o (all_told c k))
+
+    since_all : over.went.since ≡ r.frames
+    since_all = sym (append-nil over.went.since) ∙ sym over.went.frames
+
+    pub ended_so : end ≡ r.end
+    ended_so = sym over.went.end
+
+    pub failed_so : (now : Bool) → t.failed ≡ false → now ≡ t'.failed → now ≡ any_failed r
+    failed_so now z e =
+        e ∙ over.went.failed ∙ ap (λ (f : Bool). f || list_any (λ (x : Frame). has_failed x.outcomes) over.went.since) z ∙ ap (list_any (λ (x : Frame). has_failed x.outcomes)) since_all
+
+    pub left_so : ms' ≡ r.left
+    left_so = sym over.went.left
+
+    pub reported_so : (rp'' : List ℕ) (xs : List Member) → xs ≡ ms' → rp'' ≡ rp' ++ flat_map report_of xs → rp'' ≡ rp ++ all_reports r
+    reported_so rp'' xs x e =
+        let done : over.went.done ≡ r.done = sym (append-nil over.went.done) ∙ sym over.went.reported in
+        e ∙ ap (λ l. l ++ flat_map report_of xs) (over.went.reports ∙ ap (λ l. rp ++ l) done) ∙ append_assoc rp r.done (flat_map report_of xs)
+        ∙ ap (λ (ys : List Member). rp ++ (r.done ++ flat_map report_of ys)) (x ∙ left_so)

@@ -1,0 +1,9 @@
+use Rattle.std.proofs.Common.{Some}
+use Rattle.lh_wave.proofs.OwnedLemmas.{owner_next}
+use Rattle.lh_wave.proofs.owned.signals_by_instance.Goals as goal
+
+pub loop-number-preserved : goal.loop-number-preserved
+loop-number-preserved c = record {
+  whole = c.loop-number.invariant.whole;
+  owned = owner_next (λ s. Some s.instance) _ _ _ _ _ _ _ c.loop-number.invariant.whole c.loop-number-test.true c.signal-item.is c.in_ok-add_number.ensures.level c.in_ok-add_number.ensures.added c.loop-number.invariant.owned;
+}

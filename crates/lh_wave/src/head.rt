@@ -1,0 +1,117 @@
+//! The heads of the texts of a run.
+ghost use Rattle.std.specs.Prelude.{◌≡◌, ◌≤◌, ◌<◌, ◌++◌, ℕ, IfOk, OnOk, length};
+ghost use Rattle.std.specs.List.{flat_map};
+ghost use Rattle.lh_unit.specs.Within.{Each};
+ghost use Rattle.lh_unit.specs.Paths.{shown_in, path_at};
+ghost use Rattle.lh_design.specs.Texts.{design_text};
+ghost use Rattle.lh_elab.specs.Answer.{IsDesignOf};
+ghost use Rattle.lh_wave.specs.HeadText as head;
+ghost use Rattle.lh_wave.specs.HeadText.{signals_in, waveform_head, scope_text};
+ghost use Rattle.lh_wave.specs.Owned.{parents, owners, AreOwned, variable_at};
+
+use crate::lines::{END_OF_HEAD, TIMESCALE, UPSCOPE, put_scope, put_signal, put_variable};
+use crate::owned::{children_by_parent, numbers_at, signals_by_instance};
+use lh_design::{Design, Signal};
+use lh_elab::{label_of, path_of};
+use lh_types::text::put;
+use lh_types::ty::NoMemory;
+use lh_unit::module::Module;
+use std::alloc::Global;
+
+/// The head of a trace of a design: a line for each signal, with its number, its type, the path of its instance and its name.
+pub fn trace_head(alloc: Global, d: &Design, m: &Module) -> Result<Vec<u8>, NoMemory>
+    requires { IsDesignOf m.now d.now }
+    ensures { IfOk result (λ text. text.items ≡ head.trace_head (shown_in (design_text m.now d.now)) (signals_in (design_text m.now d.now))) }
+{
+    let mut to = Vec::new(alloc);
+    for (k, signal) in d.signals().iter().enumerate() {
+        let path = path_or_none(alloc, d, m, signal.instance)?;
+        put_signal(&mut to, k as u64, &signal.ty, &path, signal.name.as_bytes())?;
+    }
+    Ok(to)
+}
+
+/// The path of an instance; no bytes where there is no such instance.
+fn path_or_none(alloc: Global, d: &Design, m: &Module, instance: u32) -> Result<Vec<u8>, NoMemory>
+    requires { IsDesignOf m.now d.now }
+    ensures { IfOk result (λ path. path.items ≡ path_at (shown_in (design_text m.now d.now)) instance) }
+{
+    if instance as usize >= d.instances().len() {
+        return Ok(Vec::new(alloc));
+    }
+    path_of(alloc, m, d, instance)
+}
+
+/// The head of a waveform of a design: the unit of time, and all instances with their signals from the top down.
+pub fn vcd_head(alloc: Global, d: &Design, m: &Module) -> Result<Vec<u8>, NoMemory>
+    requires { IsDesignOf m.now d.now }
+    ensures { IfOk result (λ text. text.items ≡ waveform_head (shown_in (design_text m.now d.now)) (signals_in (design_text m.now d.now))) }
+{
+    let scopes = Scopes {
+        alloc,
+        design: d,
+        module: m,
+        children: children_by_parent(alloc, d)?,
+        signals: signals_by_instance(alloc, d)?,
+    };
+    scopes.text()
+}
+
+/// A design with what belongs to each of its instances.
+#[derive(Drop)]
+struct Scopes<'a> {
+    alloc: Global,
+    design: &'a Design,
+    module: &'a Module,
+    children: Vec<Vec<usize>>,
+    signals: Vec<Vec<usize>>,
+}
+
+impl Scopes<'_> {
+    /// The whole head.
+    fn text(&self) -> Result<Vec<u8>, NoMemory>
+        requires design { IsDesignOf self.now.«module».now self.now.design.now }
+        requires children { AreOwned self.now.children (length self.now.design.now.instances.items) (parents self.now.design.now) }
+        requires signals { AreOwned self.now.signals (length self.now.design.now.instances.items) (owners self.now.design.now) }
+        ensures { let d = design_text self.now.«module».now self.now.design.now in IfOk result (λ text. text.items ≡ waveform_head (shown_in d) (signals_in d)) }
+    {
+        let mut to = Vec::new(self.alloc);
+        put(&mut to, TIMESCALE)?;
+        self.put(&mut to, self.design.instances().len(), 0)?;
+        put(&mut to, END_OF_HEAD)?;
+        Ok(to)
+    }
+
+    /// Puts the scope of an instance with its signals and then its children, at most `steps` of them within one another.
+    fn put(&self, to: &mut Vec<u8>, steps: usize, instance: usize) -> Result<(), NoMemory>
+        requires design { IsDesignOf self.now.«module».now self.now.design.now }
+        requires children { AreOwned self.now.children (length self.now.design.now.instances.items) (parents self.now.design.now) }
+        requires signals { AreOwned self.now.signals (length self.now.design.now.instances.items) (owners self.now.design.now) }
+        requires known { 0 < steps → instance < length self.now.design.now.instances.items }
+        ensures { let d = design_text self.now.«module».now self.now.design.now in OnOk result (to.new.items ≡ to.old.items ++ scope_text steps (shown_in d) (signals_in d) instance) }
+    {
+        if steps == 0 {
+            return Ok(());
+        }
+        let label = label_of(self.alloc, self.module, self.design, instance as u32)?;
+        put_scope(to, &label)?;
+        self.put_variables(to, numbers_at(&self.signals, instance))?;
+        for &child in numbers_at(&self.children, instance) {
+            self.put(to, steps - 1, child)?;
+        }
+        put(to, UPSCOPE)
+    }
+
+    /// Puts the lines of the signals of these numbers.
+    fn put_variables(&self, to: &mut Vec<u8>, numbers: &[usize]) -> Result<(), NoMemory>
+        requires design { IsDesignOf self.now.«module».now self.now.design.now }
+        requires known { Each (λ (k : ℕ). k < length self.now.design.now.signals.items) numbers.now }
+        ensures { OnOk result (to.new.items ≡ to.old.items ++ flat_map (variable_at (signals_in (design_text self.now.«module».now self.now.design.now))) numbers.now) }
+    {
+        for &k in numbers {
+            let signal = &self.design.signals()[k];
+            put_variable(to, k as u64, &signal.ty, signal.name.as_bytes())?;
+        }
+        Ok(())
+    }
+}

@@ -1,0 +1,66 @@
+//! The text of a run behind its head, as its frames come.
+ghost use Rattle.std.specs.Prelude.{◌≡◌, ◌++◌, [], List, Option, None, OnOk, map};
+ghost use Rattle.lh_types.specs.Values.{Datum};
+ghost use Rattle.lh_types.specs.Pictures.{picture};
+ghost use Rattle.lh_unit.specs.Trace as trace;
+ghost use Rattle.lh_wave.specs.Going.{scribe_in, text_left, IsSteady, IsBehind, IsNext, IsPut};
+
+use crate::ending::{End, put_end};
+use crate::run::WaveMode;
+use crate::trace::put_frame;
+use crate::waveform::Waveform;
+use lh_types::frame::Frame;
+use lh_types::ty::NoMemory;
+use lh_watch::watcher::Watcher;
+use std::alloc::Global;
+
+/// Writes the text of a run as its frames come: its trace, or its waveform, which begins with the first frame.
+#[derive(Drop)]
+pub(crate) enum Scribe {
+    Trace,
+    Vcd(Option<Waveform>),
+}
+
+impl Scribe {
+    /// Before the first frame.
+    pub fn new(mode: WaveMode) -> Scribe
+        ensures steady { IsSteady result }
+        ensures behind { IsBehind result None }
+        ensures mode { result ≡ scribe_in mode }
+    {
+        match mode {
+            WaveMode::Trace => Scribe::Trace,
+            WaveMode::Vcd => Scribe::Vcd(None),
+        }
+    }
+
+    /// Takes a frame, and puts what can be written then at the end of `to`. After `NoMemory` nothing is said of the scribe and the
+    /// text.
+    pub fn take(&mut self, alloc: Global, f: &Frame, to: &mut Vec<u8>) -> Result<(), NoMemory>
+        requires { IsSteady self.old }
+        ensures steady { OnOk result (IsSteady self.new) }
+        ensures put { OnOk result ((before : Option (List Datum)) (v : trace.Frame) → IsNext self.old before v (picture f.now) →
+            IsPut self.old self.new before v to.old.items to.new.items) }
+    {
+        match self {
+            Scribe::Trace => put_frame(to, f),
+            Scribe::Vcd(Some(waveform)) => waveform.take(f, to),
+            Scribe::Vcd(None) => {
+                *self = Scribe::Vcd(Some(Waveform::begin(alloc, f)?));
+                Ok(())
+            }
+        }
+    }
+
+    /// Puts what is left to be written where the run has ended so. After `NoMemory` nothing is said of the scribe and the text.
+    pub fn end<W: Watcher>(&mut self, end: End, ws: &[W], to: &mut Vec<u8>) -> Result<(), NoMemory>
+        requires { IsSteady self.old }
+        ensures { OnOk result ((before : Option (List Datum)) → to.new.items ≡ to.old.items ++ text_left self.old before [] (map W.member ws.now) end) }
+    {
+        match self {
+            Scribe::Trace => put_end(to, end, ws),
+            Scribe::Vcd(Some(waveform)) => waveform.write(to),
+            Scribe::Vcd(None) => Ok(()),
+        }
+    }
+}
