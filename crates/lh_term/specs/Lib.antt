@@ -13,3 +13,4 @@ pub mod SameNode
 pub mod Fed
 pub mod Found
 pub mod Reach
+pub mod Tried

@@ -10,4 +10,6 @@ mod plain;
 pub mod subst;
 pub mod term;
 pub mod terms;
+#[cfg(test)]
+mod tests;
 mod types;
