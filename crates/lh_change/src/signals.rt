@@ -8,7 +8,7 @@ ghost use Rattle.lh_change.specs.Touched.{HasBit, AreTouched, TouchesMore, AreWi
 use lh_design::Design;
 use lh_index::rising::Rising;
 use lh_types::part::Range;
-use lh_types::ty::NoMemory;
+use lh_types::ty::{NoMemory, bits};
 use lh_types::writes::BitWrites;
 use std::alloc::Global;
 
@@ -20,6 +20,20 @@ pub fn signal_at(design: &Design, bit: u32) -> u32
 {
     let after = design.signals().partition_point(|signal| signal.lo <= bit);
     (after - 1) as u32
+}
+
+/// The number of the signal that has a bit: the one of this number is looked at first.
+fn signal_near(design: &Design, near: u32, bit: u32) -> u32
+    requires fill { SignalsFill design.now }
+    requires within { bit < length design.now.init }
+    requires signal { near < length design.now.signals.items }
+    ensures { HasBit design.now.signals.items result bit }
+{
+    let signal = &design.signals()[near as usize];
+    if signal.lo <= bit && bit - signal.lo < bits(&signal.ty) {
+        return near;
+    }
+    signal_at(design, bit)
 }
 
 /// Exactly the signals that have a bit of the parts.
@@ -65,7 +79,7 @@ pub fn touch(touched: &mut Rising, design: &Design, lo: u32, len: u32) -> Result
     }
     let end = end_of(design, lo, len);
     let first = signal_at(design, lo);
-    let last = signal_at(design, end - 1);
+    let last = signal_near(design, first, end - 1);
     for signal in first..last + 1 {
         touched.enter(signal)?;
     }

@@ -8,14 +8,14 @@ use Rattle.lh_types.specs.Faults.{is_data}
 use Rattle.lh_types.specs.Values.{Datum, data_row}
 use Rattle.lh_types.specs.Fits.{FitsType, FitsRow}
 use Rattle.lh_types.specs.Parts.{Part, part_beyond, part_of, step_part}
-use Rattle.lh_types.specs.ApplyTypes.{FitsOp, RowType, HasPart}
+use Rattle.lh_types.specs.ApplyTypes.{FitsOp, RowType, PartHasType}
 use Rattle.lh_types.specs.declared.op.Op.{Op}
 use Rattle.lh_types.specs.declared.op.Op.TheVariants as op
 use Rattle.lh_types.specs.declared.part.Step.{Step}
 use Rattle.lh_types.specs.declared.part.Step.TheVariants.{Field, Slice}
 use Rattle.lh_types.proofs.LawProofs.{parts_are_within}
 use Rattle.lh_unit.specs.Contents.{OperandText, pure_text, UnitText}
-use Rattle.lh_unit.specs.Typing.{first_type, with_type, written_types, array_made, tuple_made, operation_type}
+use Rattle.lh_unit.specs.Typing.{first_type, with_type, operand_types, array_made, tuple_made, operation_type}
 use Rattle.lh_unit.specs.TypingRows.{shifts, selects, takes_part, puts_part, part_type}
 use Rattle.lh_unit.specs.Held.{Held, datum_held, Env, as_datum, datum_at, data_at, front}
 use Rattle.lh_unit.specs.Within.{Each}
@@ -60,7 +60,7 @@ part-is-data t s p d e = by (step_part t s) refl e
         subst IsData h (parts_are_within t (s ∷ []) (part_beyond x.lo (record { lo = 0; of = x.of })) d k).0
 
 -- a part of what is no signal
-data-part : (t : TypeTree) (s : Step) (p : TypeTree) → is_data t ≡ true → part_type s t ≡ Some p → HasPart t s p
+data-part : (t : TypeTree) (s : Step) (p : TypeTree) → is_data t ≡ true → part_type s t ≡ Some p → PartHasType t s p
 data-part (signal_type t) s p d e = absurd cc
 data-part _ s p d e = e
 
@@ -141,12 +141,12 @@ module _ (u : UnitText) (w : ℕ) (e : Env) (f : Fits u w e) where
   some-first [] t p = absurd cc
   some-first (o ∷ os) t p = omega arith
 
-  fields-match : (os : List OperandText) → Each (λ (o : OperandText). (t : TypeTree) × (is_data t ≡ true) × IsWritten u t o) os → (ts : List TypeTree) × (length ts ≡ length os) × Matches os ts × (written_types os ≡ Some (row_of ts))
+  fields-match : (os : List OperandText) → Each (λ (o : OperandText). (t : TypeTree) × (is_data t ≡ true) × IsWritten u t o) os → (ts : List TypeTree) × (length ts ≡ length os) × Matches os ts × (operand_types os ≡ Some (row_of ts))
   unfolding Matches
   fields-match [] l = ([], refl, tt, refl)
   fields-match (o ∷ os) l =
       let r = fields-match os l.1 in
-      (l.0.0 ∷ r.0, ap suc r.1, ((l.0.2.1, no-time l.0.0 l.0.1), r.2), ap (λ x. with_type x (written_types os)) l.0.2.0 ∙ ap (with_type (Some l.0.0)) r.3)
+      (l.0.0 ∷ r.0, ap suc r.1, ((l.0.2.1, no-time l.0.0 l.0.1), r.2), ap (λ x. with_type x (operand_types os)) l.0.2.0 ∙ ap (with_type (Some l.0.0)) r.3)
 
   -- the row of an operation on two integers, and of one that compares two values
   Ints : List OperandText → TypeTree → Type 0
@@ -195,7 +195,7 @@ module _ (u : UnitText) (w : ℕ) (e : Env) (f : Fits u w e) where
   select (x ∷ s ∷ y ∷ more) t ds c l p = absurd l
 
   -- a value of a type that has the part
-  whole-part : (s : Step) (whole t : TypeTree) (d : Datum) → IsValueType whole → FitsType d whole → part_type s whole ≡ Some t → NoTime whole × HasPart whole s t
+  whole-part : (s : Step) (whole t : TypeTree) (d : Datum) → IsValueType whole → FitsType d whole → part_type s whole ≡ Some t → NoTime whole × PartHasType whole s t
   whole-part s (signal_type x) t d v g h = absurd v
   whole-part s time_type t d v g h = absurd (none s h)
     where
@@ -207,7 +207,7 @@ module _ (u : UnitText) (w : ℕ) (e : Env) (f : Fits u w e) where
   whole-part s (tuple_type r) t d v g h = (no-time (tuple_type r) refl, h)
   whole-part s _ t d v g h = absurd v
 
-  take-part : (o : Op) (s : Step) (os : List OperandText) (t : TypeTree) (ds : List Datum) → operation_type o os ≡ first_type os → first_type os ≡ Some t → OperationIs u (takes_part s) t os → data_at e os ≡ Some ds → ((whole : TypeTree) → HasPart whole s t → RowType o (whole ∷ []) t) → FitsLine o os ds
+  take-part : (o : Op) (s : Step) (os : List OperandText) (t : TypeTree) (ds : List Datum) → operation_type o os ≡ first_type os → first_type os ≡ Some t → OperationIs u (takes_part s) t os → data_at e os ≡ Some ds → ((whole : TypeTree) → PartHasType whole s t → RowType o (whole ∷ []) t) → FitsLine o os ds
   unfolding Matches
   take-part o s [] t ds a c l p k = absurd l
   take-part o s (x ∷ []) t ds a c l p k =
@@ -217,7 +217,7 @@ module _ (u : UnitText) (w : ℕ) (e : Env) (f : Fits u w e) where
       made o (x ∷ []) (l.0 ∷ []) t ds ((l.1, h.0), tt) p (k l.0 h.1) (λ d. gives-first o (x ∷ []) t t a c refl (part-is-data l.0 s t d.0 h.1))
   take-part o s (x ∷ y ∷ more) t ds a c l p k = absurd l
 
-  put-part : (o : Op) (s : Step) (os : List OperandText) (t : TypeTree) (ds : List Datum) → operation_type o os ≡ first_type os → first_type os ≡ Some t → OperationIs u (puts_part s) t os → data_at e os ≡ Some ds → ((q : TypeTree) → HasPart t s q → RowType o (t ∷ q ∷ []) t) → FitsLine o os ds
+  put-part : (o : Op) (s : Step) (os : List OperandText) (t : TypeTree) (ds : List Datum) → operation_type o os ≡ first_type os → first_type os ≡ Some t → OperationIs u (puts_part s) t os → data_at e os ≡ Some ds → ((q : TypeTree) → PartHasType t s q → RowType o (t ∷ q ∷ []) t) → FitsLine o os ds
   unfolding Matches NoTime
   put-part o s [] t ds a c l p k = absurd l
   put-part o s (x ∷ []) t ds a c l p k = absurd l

@@ -12,14 +12,14 @@ use Rattle.lh_flat.specs.Flat.{FlatBlockText, Pieces, merge_of, with_line, piece
 use Rattle.lh_flat.specs.Lengths.{called_length, block_length, copy_length, LengthsAdd}
 
 -- the length of what a line is replaced by
-abbrev opened_length : (length_of : UnitText → ℕ) → Option Copy → ℕ
+abbrev pub opened_length : (length_of : UnitText → ℕ) → Option Copy → ℕ
 opened_length length_of o = option_map_or (λ (d : Copy). length_of d.unit) o 0
 
 named-length : (length_of : UnitText → ℕ) (path : List ℕ) (args : List (List ℕ)) (o : Option UnitText) → option_map_or length_of o 0 ≡ opened_length length_of (option_map (copy_at path args) o)
 named-length length_of path args None = refl
 named-length length_of path args (Some f) = refl
 
-callee-length : (length_of : UnitText → ℕ) (fs : List UnitText) (c : Copy) (path : List ℕ) (i : InstText) (more : List UnitName) → sum_by (called_length length_of fs) (callee_if i more) ≡ opened_length length_of (opened fs c path i) + sum_by (called_length length_of fs) more
+pub callee-length : (length_of : UnitText → ℕ) (fs : List UnitText) (c : Copy) (path : List ℕ) (i : InstText) (more : List UnitName) → sum_by (called_length length_of fs) (callee_if i more) ≡ opened_length length_of (opened fs c path i) + sum_by (called_length length_of fs) more
 callee-length length_of fs c path (call_text f t args) more =
     elim (is_assert f) as (λ b. sum_by (called_length length_of fs) (if b then more else f ∷ more) ≡ opened_length length_of (if b then None else option_map (copy_at path (map (λ (o : OperandText). c.value o.value) args)) (function_named f fs)) + sum_by (called_length length_of fs) more) [
       | true ↦ sym (zero-add (sum_by (called_length length_of fs) more))

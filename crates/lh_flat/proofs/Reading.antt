@@ -63,14 +63,14 @@ abbrev Inside : ℕ → List UnitId → Type 0
 Inside n ts = Each (λ (t : UnitId). t.0 < n) ts
 
 -- the function that is called, if there is one, has an entry
-abbrev CalleeIn : ℕ → Option UnitId → Type 0
+abbrev pub CalleeIn : ℕ → Option UnitId → Type 0
 CalleeIn n None = Unit {0}
 CalleeIn n (Some f) = f.0 < n
 
 called-in : (a : Arena) (f : UnitId) → f.0 < unit_count a → CalleeIn (unit_count a) (called_of a f)
 called-in a f l = elim (is_assert (unit_name_at a f.0)) as (λ b. CalleeIn (unit_count a) (if b then None else Some f)) [ true ↦ tt | false ↦ l ]
 
-callee-in : (a : Arena) (u : ℕ) (i : Inst) → InstPlaced a u i → CalleeIn (unit_count a) (callee_of a i)
+pub callee-in : (a : Arena) (u : ℕ) (i : Inst) → InstPlaced a u i → CalleeIn (unit_count a) (callee_of a i)
 callee-in a u (inst.Call f result args) p = called-in a f p.0
 callee-in a u (inst.Const v) p = tt
 callee-in a u (inst.Pure op args) p = tt

@@ -1,8 +1,10 @@
 -- Instructions with new ids say what the copy of their text says.
-use Rattle.std.specs.Prelude.{◌≡◌, ℕ, ◌<◌, List, length}
+use Rattle.std.specs.Prelude.{◌≡◌, ℕ, ◌<◌, List, length, Bool, true}
+use Rattle.lh_unit.specs.ById.{blocks_named}
 use Rattle.lh_unit.specs.Contents.{UnitText}
 use Rattle.lh_unit.specs.Naming.{Naming, value_text, inst_text}
-use Rattle.lh_unit.specs.Within.{InstWithin}
+use Rattle.lh_unit.specs.Table.{is_block}
+use Rattle.lh_unit.specs.Within.{Each, InstWithin}
 use Rattle.lh_unit.specs.declared.inst.BlockId.{BlockId}
 use Rattle.lh_unit.specs.declared.inst.ValueId.{ValueId}
 use Rattle.lh_unit.specs.declared.inst.Inst.{Inst}
@@ -11,21 +13,27 @@ use Rattle.lh_flat.specs.declared.rename.Renaming.{Renaming}
 use Rattle.lh_flat.specs.Copies.{Copy, first_piece, last_piece_of, copied}
 use Rattle.lh_flat.specs.Renames.{value_in, first_in, last_in, renamed, sizes_in}
 
--- the names f of a unit's ids, and the names g of a flat text's: each new id has the name that the copy gives
-pub record Agrees (f g : Naming) (functions : List UnitText) (c : Copy) (r : Renaming) : Type 0 where
-  pub units : g.unit_name ≡ f.unit_name
-  pub values : (v : ValueId) → v.0 < length r.values.items → value_text g (value_in r v) ≡ c.value (value_text f v)
-  pub firsts : (b : BlockId) → b.0 < length r.spans.items → g.label_name (first_in r b).0 ≡ first_piece c (f.label_name b.0)
-  pub lasts : (b : BlockId) → b.0 < length r.spans.items → g.label_name (last_in r b).0 ≡ last_piece_of functions c (f.label_name b.0)
-  pub back : g.label_name r.back.0 ≡ c.path
+-- the block is one of these
+abbrev pub IsBlockOf : List BlockId → BlockId → Type 0
+IsBlockOf blocks b = is_block blocks b.0 ≡ true
 
--- it may stand in a function or a process
-abbrev pub IsCode : Inst → Type 0
-IsCode (inst.Sig t) = ⊥
-IsCode (inst.Reg to triggers) = ⊥
-IsCode (inst.Child unit inputs outputs) = ⊥
-IsCode _ = Unit {0}
+-- The names f of the ids of a unit with these blocks, and the names g of a flat text's: each new id has the name that the copy gives. A function returns.
+pub record Agrees (f g : Naming) (functions : List UnitText) (blocks : List BlockId) (returns : Bool) (c : Copy) (r : Renaming) : Type 0 where
+  pub units : g.unit_name ≡ f.unit_name
+  pub values : (v : ValueId) → v.0 < length r.values → value_text g (value_in r v) ≡ c.value (value_text f v)
+  pub firsts : (b : BlockId) → IsBlockOf blocks b → g.label_name (first_in r b).0 ≡ first_piece c (f.label_name b.0)
+  pub lasts : (b : BlockId) → IsBlockOf blocks b → g.label_name (last_in r b).0 ≡ last_piece_of functions c (f.label_name b.0)
+  pub back : returns ≡ true → g.label_name r.back.0 ≡ c.path
+
+-- it may stand in a function, which returns, or in a process
+abbrev pub IsCode : (returns : Bool) → Inst → Type 0
+IsCode returns (inst.Sig t) = ⊥
+IsCode returns (inst.Reg to triggers) = ⊥
+IsCode returns (inst.Child unit inputs outputs) = ⊥
+IsCode returns (inst.Ret o) = returns ≡ true
+IsCode returns _ = Unit {0}
 
 -- Where each new id has the name that a copy gives, an instruction with new ids says what the copy of its text says.
 abbrev pub RenamesAsCopied : Type 0
-RenamesAsCopied = (f g : Naming) (functions : List UnitText) (c : Copy) (r : Renaming) (units : ℕ) → Agrees f g functions c r → (i : Inst) → IsCode i → InstWithin (sizes_in units r) i → inst_text g (renamed r i) ≡ copied functions c (inst_text f i)
+RenamesAsCopied = (f g : Naming) (functions : List UnitText) (blocks : List BlockId) (returns : Bool) (c : Copy) (r : Renaming) (units : ℕ) → Agrees f g functions blocks returns c r → (i : Inst) → IsCode returns i → InstWithin (sizes_in units r) i → Each (IsBlockOf blocks) (blocks_named i) →
+    inst_text g (renamed r i) ≡ copied functions c (inst_text f i)

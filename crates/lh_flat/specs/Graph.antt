@@ -31,6 +31,11 @@ abbrev pub callee_of : Arena → Inst → Option UnitId
 callee_of a (inst.Call f result args) = called_of a f
 callee_of a _ = None
 
+-- it has an entry, if there is one
+abbrev pub CalleeWithin : Arena → Option UnitId → Type 0
+CalleeWithin a None = Unit {0}
+CalleeWithin a (Some f) = f.0 < unit_count a
+
 -- a block of the unit u, and its instructions, have entries
 pub record BlockPlaced (a : Arena) (u : ℕ) (b : BlockId) : Type 0 where
   pub within : b.0 < block_count a u

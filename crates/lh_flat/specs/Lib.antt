@@ -8,3 +8,10 @@ pub mod Searches
 pub mod Lengths
 pub mod Renames
 pub mod Agrees
+pub mod Building
+pub mod CopyOf
+pub mod Fits
+pub mod CopyNames
+pub mod Marks
+pub mod Made
+pub mod Below

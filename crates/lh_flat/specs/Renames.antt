@@ -17,11 +17,11 @@ no_span = record { first = record { 0 = 0 }; last = record { 0 = 0 } }
 
 -- the new id of a value
 abbrev pub value_in : Renaming → ValueId → ValueId
-value_in r v = slice_index_or r.values.items v.0 v
+value_in r v = slice_index_or r.values v.0 v
 
 -- the first and the last piece of a block
 abbrev pub span_in : Renaming → BlockId → Span
-span_in r b = slice_index_or r.spans.items b.0 no_span
+span_in r b = slice_index_or r.spans b.0 no_span
 
 abbrev pub first_in : Renaming → BlockId → BlockId
 first_in r b = (span_in r b).first
@@ -58,7 +58,7 @@ renamed r (inst.Ret o) = inst.Br r.back
 
 -- how many values and labels have new ids, in a module with this many units
 abbrev pub sizes_in : (units : ℕ) → Renaming → Sizes
-sizes_in units r = record { units = units; values = length r.values.items; labels = length r.spans.items }
+sizes_in units r = record { units = units; values = length r.values; labels = length r.spans }
 
 -- a module has fewer units than this
 abbrev pub max_units : ℕ

@@ -2,7 +2,7 @@
 ghost use Rattle.std.specs.Prelude.{◌≡◌, ◌<◌, ◌++◌, ◌∷◌, [], IfOk, OnOk};
 ghost use Rattle.lh_unit.specs.Named.{is_assert};
 ghost use Rattle.lh_unit.specs.Arena.{IsArena, InstPlaced, unit_count};
-ghost use Rattle.lh_flat.specs.Graph.{no_node, called_of, callee_of, with_inst, with_block, node_of, BlockPlaced, IsGraph, counted};
+ghost use Rattle.lh_flat.specs.Graph.{no_node, called_of, callee_of, CalleeWithin, with_inst, with_block, node_of, BlockPlaced, IsGraph, counted};
 
 use lh_types::list::ListOf;
 use lh_types::ty::NoMemory;
@@ -40,7 +40,8 @@ fn is_assert(name: &UnitName) -> bool
 /// The function that an instruction of a unit calls; none where it is no `call`, or one of `@llhd.assert`.
 pub fn callee(view: UnitView<'_>, inst: &Inst) -> Option<UnitId>
     requires { InstPlaced view.module.now view.unit.0 inst.now }
-    ensures { result ≡ callee_of view.entry.module.now inst.now }
+    ensures callee { result ≡ callee_of view.entry.module.now inst.now }
+    ensures within { CalleeWithin view.entry.module.now result }
 {
     match inst {
         Inst::Call { unit, .. } => called(view.module(), *unit),
@@ -51,7 +52,8 @@ pub fn callee(view: UnitView<'_>, inst: &Inst) -> Option<UnitId>
 /// A unit that is called, unless it is `@llhd.assert`.
 fn called(module: &Module, unit: UnitId) -> Option<UnitId>
     requires { unit.0 < unit_count module.now }
-    ensures { result ≡ called_of module.now unit }
+    ensures callee { result ≡ called_of module.now unit }
+    ensures within { CalleeWithin module.now result }
 {
     if is_assert(module.unit_name(unit)) {
         None

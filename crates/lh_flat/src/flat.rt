@@ -3,15 +3,16 @@
 use lh_types::list::ListOf;
 use lh_types::ty::Ty;
 use lh_unit::inst::{Arg, BlockId, Inst, ValueId};
+use std::alloc::Global;
 
 /// The arguments of a process, in order.
 pub type ArgList = ListOf<Arg>;
 
 /// The flat text of a process. Its ids are numbers of its own: `BlockId(k)` is the block at place k, and each copy of a value has
-/// its own id; a parameter of a copied function has the id of the call's argument.
+/// its own id; a parameter of a copied function has the id of the call's argument. The values of the process itself keep their ids.
 #[derive(Drop)]
 pub struct Flat {
-    /// The arguments of the process; argument k is `ValueId(k)`.
+    /// The arguments of the process, each with its value.
     pub args: ArgList,
     /// The blocks in order; the first one is the entry.
     pub blocks: FlatBlockList,
@@ -26,6 +27,21 @@ pub struct FlatBlock {
     pub merge: Option<Merge>,
     /// The instructions; the last one is the terminator.
     pub insts: FlatInstList,
+}
+
+impl FlatBlock {
+    ghost use Rattle.std.specs.Prelude.{◌≡◌};
+    ghost use Rattle.lh_flat.specs.Building.{no_block};
+
+    /// A block in which nothing stands yet.
+    pub fn new(alloc: Global) -> FlatBlock
+        ensures { result ≡ no_block }
+    {
+        FlatBlock {
+            merge: None,
+            insts: FlatInstList::new(alloc),
+        }
+    }
 }
 
 /// The blocks of a flat text, in order.

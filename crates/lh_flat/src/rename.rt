@@ -1,12 +1,13 @@
 //! A unit's instructions with the ids of a copy.
-ghost use Rattle.std.specs.Prelude.{◌≡◌, ◌<◌, length, map, vec_len, IfOk};
+ghost use Rattle.std.specs.Prelude.{◌≡◌, ◌<◌, length, map, IfOk};
 ghost use Rattle.std.specs.Option.{option_map};
 ghost use Rattle.lh_unit.specs.Within.{Each, InstWithin, MaybeWithin};
 ghost use Rattle.lh_unit.specs.declared.inst.Typed.{Typed as Operand};
 ghost use Rattle.lh_unit.specs.declared.inst.PhiEdge.{PhiEdge as Edge};
 ghost use Rattle.lh_unit.specs.declared.inst.ValueId.{ValueId as Id};
-ghost use Rattle.lh_flat.specs.Renames.{value_in, first_in, last_in, operand_in, edge_in, renamed, sizes_in, max_units};
+ghost use Rattle.lh_flat.specs.Renames.{no_span, value_in, span_in, first_in, last_in, operand_in, edge_in, renamed, sizes_in, max_units};
 
+use lh_types::list::ListOf;
 use lh_types::op::Op;
 use lh_types::ty::{NoMemory, Ty};
 use lh_unit::inst::{
@@ -20,13 +21,28 @@ pub struct Span {
     pub last: BlockId,
 }
 
+impl Span {
+    /// The pieces of a block that does not stand in the unit.
+    pub fn nowhere() -> Span
+        ensures { result ≡ no_span }
+    {
+        Span {
+            first: BlockId(0),
+            last: BlockId(0),
+        }
+    }
+}
+
+/// The pieces of blocks, by the ids of labels.
+pub type SpanList = ListOf<Span>;
+
 /// The new ids of a unit in a copy of it.
 #[derive(Drop)]
 pub struct Renaming {
     /// The new id of each value.
-    pub values: Vec<ValueId>,
+    pub values: ValueIdList,
     /// The pieces of each block, by the ids of labels.
-    pub spans: Vec<Span>,
+    pub spans: SpanList,
     /// The block to which a `ret` leads.
     pub back: BlockId,
 }
@@ -34,29 +50,38 @@ pub struct Renaming {
 impl Renaming {
     /// The new id of a value.
     pub fn value(&self, value: ValueId) -> ValueId
-        requires { value.0 < vec_len self.now.values }
+        requires { value.0 < length self.now.values }
         ensures { result ≡ value_in self.now value }
     {
-        self.values[value.0 as usize]
+        self.values.as_slice()[value.0 as usize]
+    }
+
+    /// The pieces of a block.
+    fn span(&self, block: BlockId) -> Span
+        ensures { result ≡ span_in self.now block }
+    {
+        match self.spans.as_slice().get(block.0 as usize) {
+            Some(span) => *span,
+            None => Span::nowhere(),
+        }
     }
 
     /// Where a block begins.
     pub fn first(&self, block: BlockId) -> BlockId
-        requires { block.0 < vec_len self.now.spans }
         ensures { result ≡ first_in self.now block }
     {
-        self.spans[block.0 as usize].first
+        self.span(block).first
     }
 
     /// The last piece of a block.
     pub fn last(&self, block: BlockId) -> BlockId
-        requires { block.0 < vec_len self.now.spans }
         ensures { result ≡ last_in self.now block }
     {
-        self.spans[block.0 as usize].last
+        self.span(block).last
     }
 
-    fn maybe(&self, value: Option<ValueId>) -> Option<ValueId>
+    /// The new id of a value, if there is one.
+    pub fn maybe(&self, value: Option<ValueId>) -> Option<ValueId>
         requires { MaybeWithin (sizes_in 0 self.now) value }
         ensures { result ≡ option_map (value_in self.now) value }
     {
@@ -67,7 +92,7 @@ impl Renaming {
     }
 
     fn operand(&self, operand: &Typed) -> Result<Typed, NoMemory>
-        requires { operand.now.value.0 < vec_len self.now.values }
+        requires { operand.now.value.0 < length self.now.values }
         ensures { IfOk result (λ o. o ≡ operand_in self.now operand.now) }
     {
         let Typed { ty, .. } = operand.copy()?;
@@ -78,7 +103,7 @@ impl Renaming {
     }
 
     fn operands(&self, operands: &TypedList) -> Result<TypedList, NoMemory>
-        requires { Each (λ (o : Operand). o.value.0 < length self.now.values.items) operands.now }
+        requires { Each (λ (o : Operand). o.value.0 < length self.now.values) operands.now }
         ensures { IfOk result (λ list. list ≡ map (operand_in self.now) operands.now) }
     {
         let items = operands.as_slice();
@@ -90,8 +115,7 @@ impl Renaming {
     }
 
     fn edge(&self, edge: PhiEdge) -> PhiEdge
-        requires value { edge.value.0 < vec_len self.now.values }
-        requires block { edge.block.0 < vec_len self.now.spans }
+        requires { edge.value.0 < length self.now.values }
         ensures { result ≡ edge_in self.now edge }
     {
         PhiEdge {
@@ -101,7 +125,7 @@ impl Renaming {
     }
 
     fn edges(&self, edges: &PhiEdgeList) -> Result<PhiEdgeList, NoMemory>
-        requires { Each (λ (e : Edge). (e.value.0 < length self.now.values.items) × (e.block.0 < length self.now.spans.items)) edges.now }
+        requires { Each (λ (e : Edge). e.value.0 < length self.now.values) edges.now }
         ensures { IfOk result (λ list. list ≡ map (edge_in self.now) edges.now) }
     {
         let items = edges.as_slice();
@@ -112,8 +136,21 @@ impl Renaming {
         Ok(to)
     }
 
+    /// The new ids of operands.
+    pub fn values(&self, operands: &TypedList) -> Result<ValueIdList, NoMemory>
+        requires { Each (λ (o : Operand). o.value.0 < length self.now.values) operands.now }
+        ensures { IfOk result (λ list. list ≡ map (λ (o : Operand). value_in self.now o.value) operands.now) }
+    {
+        let items = operands.as_slice();
+        let mut to = ValueIdList::new(operands.allocator());
+        for operand in items {
+            to.push(self.value(operand.value))?;
+        }
+        Ok(to)
+    }
+
     fn signals(&self, signals: &ValueIdList) -> Result<ValueIdList, NoMemory>
-        requires { Each (λ (v : Id). v.0 < length self.now.values.items) signals.now }
+        requires { Each (λ (v : Id). v.0 < length self.now.values) signals.now }
         ensures { IfOk result (λ list. list ≡ map (value_in self.now) signals.now) }
     {
         let items = signals.as_slice();
@@ -125,7 +162,7 @@ impl Renaming {
     }
 
     fn pure_inst(&self, op: Op, args: &TypedList) -> Result<Inst, NoMemory>
-        requires { Each (λ (o : Operand). o.value.0 < length self.now.values.items) args.now }
+        requires { Each (λ (o : Operand). o.value.0 < length self.now.values) args.now }
         ensures { IfOk result (λ i. i ≡ Inst.Pure op (map (operand_in self.now) args.now)) }
     {
         let args = self.operands(args)?;
@@ -133,8 +170,8 @@ impl Renaming {
     }
 
     fn st(&self, to: &Typed, value: ValueId) -> Result<Inst, NoMemory>
-        requires to { to.now.value.0 < vec_len self.now.values }
-        requires value { value.0 < vec_len self.now.values }
+        requires to { to.now.value.0 < length self.now.values }
+        requires value { value.0 < length self.now.values }
         ensures { IfOk result (λ i. i ≡ Inst.St (operand_in self.now to.now) (value_in self.now value)) }
     {
         let to = self.operand(to)?;
@@ -151,9 +188,9 @@ impl Renaming {
         after: ValueId,
         cond: Option<ValueId>,
     ) -> Result<Inst, NoMemory>
-        requires to { to.now.value.0 < vec_len self.now.values }
-        requires value { value.0 < vec_len self.now.values }
-        requires after { after.0 < vec_len self.now.values }
+        requires to { to.now.value.0 < length self.now.values }
+        requires value { value.0 < length self.now.values }
+        requires after { after.0 < length self.now.values }
         requires cond { MaybeWithin (sizes_in 0 self.now) cond }
         ensures { IfOk result (λ i. i ≡ Inst.Drv (operand_in self.now to.now) (value_in self.now value) (value_in self.now after) (option_map (value_in self.now) cond)) }
     {
@@ -167,7 +204,7 @@ impl Renaming {
     }
 
     fn call(&self, unit: UnitId, ty: &Ty, args: &TypedList) -> Result<Inst, NoMemory>
-        requires { Each (λ (o : Operand). o.value.0 < length self.now.values.items) args.now }
+        requires { Each (λ (o : Operand). o.value.0 < length self.now.values) args.now }
         ensures { IfOk result (λ i. i ≡ Inst.Call unit ty.now (map (operand_in self.now) args.now)) }
     {
         let ty = ty.copy()?;
@@ -180,7 +217,7 @@ impl Renaming {
     }
 
     fn phi(&self, ty: &Ty, edges: &PhiEdgeList) -> Result<Inst, NoMemory>
-        requires { Each (λ (e : Edge). (e.value.0 < length self.now.values.items) × (e.block.0 < length self.now.spans.items)) edges.now }
+        requires { Each (λ (e : Edge). e.value.0 < length self.now.values) edges.now }
         ensures { IfOk result (λ i. i ≡ Inst.Phi ty.now (map (edge_in self.now) edges.now)) }
     {
         let ty = ty.copy()?;
@@ -194,9 +231,8 @@ impl Renaming {
         after: Option<ValueId>,
         signals: &ValueIdList,
     ) -> Result<Inst, NoMemory>
-        requires to { to.0 < vec_len self.now.spans }
         requires after { MaybeWithin (sizes_in 0 self.now) after }
-        requires signals { Each (λ (v : Id). v.0 < length self.now.values.items) signals.now }
+        requires signals { Each (λ (v : Id). v.0 < length self.now.values) signals.now }
         ensures { IfOk result (λ i. i ≡ Inst.Wait (first_in self.now to) (option_map (value_in self.now) after) (map (value_in self.now) signals.now)) }
     {
         let signals = self.signals(signals)?;

@@ -6,7 +6,7 @@ use Rattle.lh_types.specs.Faults.{is_data, array_fault}
 use Rattle.lh_types.specs.declared.op.Op.{Op}
 use Rattle.lh_types.specs.declared.op.Op.TheVariants as op
 use Rattle.lh_unit.specs.Contents.{OperandText, InstText, pure_text, var_text, ld_text, sig_text, prb_text, phi_text, UnitText}
-use Rattle.lh_unit.specs.Typing.{if_made, array_made, tuple_made, pointer_to, signal_of, pointed, carried, first_type, with_type, written_types}
+use Rattle.lh_unit.specs.Typing.{if_made, array_made, tuple_made, pointer_to, signal_of, pointed, carried, first_type, with_type, operand_types}
 use Rattle.lh_unit.specs.Within.{Each}
 use Rattle.lh_formed.specs.Operands.{IsWritten, RowIs}
 use Rattle.lh_formed.specs.Results.{OperationGives, Gives, ResultsHaveTypes}
@@ -15,11 +15,11 @@ use Rattle.lh_formed.proofs.RowsLaw.{rows_are}
 array_given : (n : ℕ) (o : Option TypeTree) (t : TypeTree) → o ≡ Some t → array_fault n t ≡ None → option_and_then (array_made n) o ≡ Some (array_type n t)
 array_given n o t e h = ap (option_and_then (array_made n)) e ∙ ap (λ f. if_made f (array_type n t)) h
 
-all_written : (u : UnitText) (args : List OperandText) → Each (λ (o : OperandText). (f : TypeTree) × (is_data f ≡ true) × IsWritten u f o) args → (r : TypeRow) × (written_types args ≡ Some r)
+all_written : (u : UnitText) (args : List OperandText) → Each (λ (o : OperandText). (f : TypeTree) × (is_data f ≡ true) × IsWritten u f o) args → (r : TypeRow) × (operand_types args ≡ Some r)
 all_written u [] h = (no_types, refl)
 all_written u (o ∷ more) h =
     let w = all_written u more h.1 in
-    (more_types h.0.0 w.0, ap (λ x. with_type x (written_types more)) h.0.2.0 ∙ ap (with_type (Some h.0.0)) w.1)
+    (more_types h.0.0 w.0, ap (λ x. with_type x (operand_types more)) h.0.2.0 ∙ ap (with_type (Some h.0.0)) w.1)
 
 operation_gives : (u : UnitText) (o : Op) (args : List OperandText) → RowIs u (pure_text o args) → OperationGives o args
 operation_gives u op.Eq args h = refl

@@ -5,7 +5,7 @@ use Rattle.lh_types.specs.Faults.{array_fault, tuple_fault}
 use Rattle.lh_types.specs.declared.op.Op.{Op}
 use Rattle.lh_types.specs.declared.op.Op.TheVariants as op
 use Rattle.lh_unit.specs.Contents.{OperandText, InstText, pure_text, var_text, ld_text, sig_text, prb_text, phi_text, LineText, BlockText, UnitText, args_define, is_result_name}
-use Rattle.lh_unit.specs.Typing.{first_type, written_types, operation_type, result_type, value_type}
+use Rattle.lh_unit.specs.Typing.{first_type, operand_types, operation_type, result_type, value_type}
 use Rattle.lh_unit.specs.TypingRows.{bit}
 use Rattle.lh_unit.specs.Places.{Place}
 use Rattle.lh_unit.specs.Within.{Each}
@@ -33,7 +33,7 @@ OperationGives op.Ule args = operation_type op.Ule args ≡ Some bit
 OperationGives op.Uge args = operation_type op.Uge args ≡ Some bit
 OperationGives op.Array args = GivesArray (length args) op.Array args
 OperationGives (op.Repeat n) args = GivesArray n (op.Repeat n) args
-OperationGives op.Tuple args = (r : TypeRow) × (written_types args ≡ Some r) × (tuple_fault r ≡ None → operation_type op.Tuple args ≡ Some (tuple_type r))
+OperationGives op.Tuple args = (r : TypeRow) × (operand_types args ≡ Some r) × (tuple_fault r ≡ None → operation_type op.Tuple args ≡ Some (tuple_type r))
 OperationGives o args = GivesFirst o args
 
 -- the type of what an instruction gives, by row

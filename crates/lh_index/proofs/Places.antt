@@ -1,9 +1,12 @@
 -- Rising lists with a number put in or taken out at its place.
-use Rattle.std.proofs.Common.{arith, ◌≡◌, ℕ, zero, suc, ◌<◌, ◌≤◌, List, [], ◌∷◌, ◌++◌, length, get_or, take, drop, sym, subst, ◌∙◌, ◌⊎◌, inl, inr}
+use Rattle.std.proofs.Common.{arith, ◌≡◌, ℕ, zero, suc, ◌-◌, ◌<◌, ◌≤◌, List, [], ◌∷◌, ◌++◌, length, get_or, take, drop, sym, subst, ◌∙◌, ◌⊎◌, inl, inr}
 use Rattle.std.specs.Prelude.{◌≢◌, Result, Ok, Err, MatchResult}
 use Rattle.std.specs.List.{insert, remove}
 use Rattle.std.specs.List.Sorted.{IsBinarySearchResult}
 use Rattle.std.specs.Ordering.{nat_cmp}
+use Rattle.std.specs.declared.cmp.Ordering.TheVariants.{Less}
+use Rattle.std.proofs.lemmas.Bool.Decides.{nat_tests}
+use Rattle.std.proofs.lemmas.List.{get_or_default}
 use Rattle.std.proofs.lemmas.List.Sorted.{searched}
 use Rattle.lh_index.specs.Rising.{Has, AreAbove, IsRising, HasOneMore, HasOneLess}
 
@@ -168,3 +171,17 @@ found_in items now sought new n i v w r s e =
       subst IsRising (sym e) (rising_put n i items f.0 r f.1 f.2),
       subst (λ z. HasOneMore z n new) v (subst (λ z. HasOneMore items n z) (sym e) (one_more n i items)),
     )
+
+less_is : (x n : ℕ) → x < n → nat_cmp x n ≡ Less
+less_is x n l = grind (arith, nat_tests)
+
+-- where the last number is below, the place is at the end
+pub place_behind : (xs : List ℕ) (n : ℕ) → IsRising xs → 0 < length xs → get_or xs (length xs - 1) 0 < n → IsBinarySearchResult (λ y. nat_cmp y n) xs (Err (length xs))
+place_behind xs n r some below = λ sorted. (
+  λ k d low high. let l : get_or xs k d < n = (let e : get_or xs k d ≡ get_or xs k 0 = get_or_default xs k d 0 high in let le : get_or xs k 0 ≤ get_or xs (length xs - 1) 0 = rises xs r k (length xs - 1) (omega arith) (omega arith) in omega arith) in less_is (get_or xs k d) n l,
+  λ k d low high. absurd (omega arith),
+)
+
+-- the place lies within the list or at its end
+pub place_within : (items now sought : List ℕ) (n i : ℕ) → items ≡ now → sought ≡ items → IsRising items → IsBinarySearchResult (λ y. nat_cmp y n) sought (Err i) → i ≤ length items
+place_within items now sought n i v w r s = (found items n (Err i) r (subst (λ z. IsBinarySearchResult (λ y. nat_cmp y n) z (Err i)) w s)).0

@@ -1,5 +1,7 @@
 //! A list of rising numbers.
-ghost use Rattle.std.specs.Prelude.{◌≡◌, [], false, true, IfOk, OnErr, ◌↔◌};
+ghost use Rattle.std.specs.Prelude.{◌≡◌, [], ℕ, false, true, IfOk, OnErr, ◌↔◌};
+ghost use Rattle.std.specs.List.Sorted.{IsBinarySearchResult};
+ghost use Rattle.std.specs.Ordering.{nat_cmp};
 ghost use Rattle.lh_index.specs.Rising.{Has, IsRising, HasOneMore, HasOneLess};
 
 use lh_types::ty::NoMemory;
@@ -57,7 +59,7 @@ impl Rising {
         ensures there { IfOk result (λ added. (added ≡ false) ↔ Has n self.old) }
         ensures err { OnErr result (self.new ≡ self.old) }
     {
-        match self.numbers.binary_search(&n) {
+        match place_of(self.numbers.as_slice(), n) {
             Ok(_) => Ok(false),
             Err(place) => {
                 self.numbers.insert(place, n)?;
@@ -74,4 +76,16 @@ impl Rising {
             self.numbers.remove(place);
         }
     }
+}
+
+/// Where a number stands among rising ones, or is to be put in. The last is looked at first: most numbers come in order.
+fn place_of(numbers: &[u32], n: u32) -> Result<usize, usize>
+    requires { IsRising numbers.now }
+    ensures { IsBinarySearchResult (λ (y : ℕ). nat_cmp y n) numbers.now result }
+{
+    let len = numbers.len();
+    if len > 0 && numbers[len - 1] < n {
+        return Err(len);
+    }
+    numbers.binary_search(&n)
 }

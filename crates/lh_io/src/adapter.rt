@@ -1,6 +1,10 @@
-//! Sources and sinks over the readers and writers of std. What these give and take no contract can say:
-//! the adapters tell nothing of their bytes, and count bytes taken and faults.
-ghost use Rattle.std.specs.Prelude.{◌≡◌, None};
+//! Sources and sinks over the readers and writers of std. To whoever is generic in sources and sinks they tell nothing of their bytes,
+//! and count bytes taken and faults. Of a reader or a writer whose bytes are known, what goes through is told all the same: nothing is
+//! lost, repeated or made up, and a failure is no end.
+ghost use Rattle.std.specs.Prelude.{◌≡◌, ◌≤◌, ◌<◌, None, IfOk, OnErr, length};
+ghost use Rattle.std.specs.Io.KnownBytes.{ReadConsumes, WriteAppends};
+ghost use Rattle.lh_types.specs.Raised.{raised};
+ghost use Rattle.lh_io.specs.Streams.{Rose};
 
 use crate::stream::{Failed, Sink, Source};
 use std::io::{Read, Write};
@@ -25,16 +29,16 @@ impl<R: Read> StdSource<R> {
             faults: 0,
         }
     }
-}
 
-impl<R: Read> Source for StdSource<R> {
-    ghost left = { λ _. None };
-
-    ghost taken = { λ s. s.taken };
-
-    ghost faults = { λ s. s.faults };
-
-    fn read(&mut self, room: &mut [u8]) -> Result<usize, Failed> {
+    /// Reads once, and counts the bytes that came or the fault.
+    fn take(&mut self, room: &mut [u8]) -> Result<usize, Failed>
+        ensures told { ReadConsumes (R.remaining self.old.inner) (R.remaining self.new.inner) result room.new }
+        ensures within { IfOk result (λ n. n ≤ length room.old) }
+        ensures counted { IfOk result (λ n. self.new.taken ≡ raised self.old.taken n) }
+        ensures failed { OnErr result (self.new.taken ≡ self.old.taken) }
+        ensures rose { OnErr result (Rose self.old.faults self.new.faults) }
+        ensures never_fall { self.old.faults ≤ self.new.faults }
+    {
         match self.inner.read(room) {
             Ok(n) => {
                 self.taken = self.taken.saturating_add(n as u64);
@@ -45,6 +49,18 @@ impl<R: Read> Source for StdSource<R> {
                 Err(Failed)
             }
         }
+    }
+}
+
+impl<R: Read> Source for StdSource<R> {
+    ghost left = { λ _. None };
+
+    ghost taken = { λ s. s.taken };
+
+    ghost faults = { λ s. s.faults };
+
+    fn read(&mut self, room: &mut [u8]) -> Result<usize, Failed> {
+        self.take(room)
     }
 }
 
@@ -62,6 +78,23 @@ impl<W: Write> StdSink<W> {
     {
         StdSink { inner, faults: 0 }
     }
+
+    /// Writes once, and counts the fault where the writer fails or takes nothing of a piece that is not empty.
+    fn put(&mut self, piece: &[u8]) -> Result<usize, Failed>
+        ensures told { WriteAppends (W.contents self.old.inner) (W.contents self.new.inner) result piece.now }
+        ensures within { IfOk result (λ n. n ≤ length piece.now) }
+        ensures progress { IfOk result (λ n. 0 < length piece.now → 0 < n) }
+        ensures rose { OnErr result (Rose self.old.faults self.new.faults) }
+        ensures never_fall { self.old.faults ≤ self.new.faults }
+    {
+        match self.inner.write(piece) {
+            Ok(n) if n > 0 || piece.is_empty() => Ok(n),
+            _ => {
+                self.faults = self.faults.saturating_add(1);
+                Err(Failed)
+            }
+        }
+    }
 }
 
 impl<W: Write> Sink for StdSink<W> {
@@ -70,12 +103,6 @@ impl<W: Write> Sink for StdSink<W> {
     ghost faults = { λ s. s.faults };
 
     fn write(&mut self, piece: &[u8]) -> Result<usize, Failed> {
-        match self.inner.write(piece) {
-            Ok(n) if n > 0 || piece.is_empty() => Ok(n),
-            _ => {
-                self.faults = self.faults.saturating_add(1);
-                Err(Failed)
-            }
-        }
+        self.put(piece)
     }
 }

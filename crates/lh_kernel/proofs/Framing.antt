@@ -11,7 +11,7 @@ use Rattle.lh_history.proofs.Frames.{histories_join}
 use Rattle.lh_history.proofs.Instants.{le_self}
 use Rattle.lh_design.specs.declared.Signal.{Signal}
 use Rattle.lh_unit.specs.Arena.{Arena, contents}
-use Rattle.lh_unit.specs.World.{World, Act, bits_by, bits_of, acts_from, acts_at, rules_of, made_by, afters}
+use Rattle.lh_unit.specs.World.{World, Act, bits_of, acts_from, acts_at, rules_of, made_by, afters}
 use Rattle.lh_unit.specs.Trace.{least_runaway, outcomes_of}
 use Rattle.lh_unit.specs.Frames.{woken_from, woken_at, signal_values, changes_by, values_before}
 use Rattle.lh_unit.specs.Within.{Each}
@@ -70,7 +70,7 @@ is_taken old mid t p b q e a l v r h =
       entered = a.noted;
     }
 
-bits_same : (history : List Made) (init : List Bool) (last : Option Instant) → bits_by history init last ≡ bits_after history init last
+bits_same : (history : List Made) (init : List Bool) (last : Option Instant) → bits_after history init last ≡ bits_after history init last
 bits_same history init None = refl
 bits_same history init (Some l) = refl
 

@@ -8,7 +8,7 @@ use Rattle.lh_history.proofs.Claims.{AllLate, greatest_late}
 use Rattle.lh_unit.specs.Contents.{ItemText}
 use Rattle.lh_unit.specs.Hierarchy.{Instance}
 use Rattle.lh_unit.specs.Design.{Design}
-use Rattle.lh_unit.specs.World.{State, wake_of, Act, Rules, rules_of, unit_of, World, bits_by, acts_from, acts_at, kept, made_by, afters, next_world, soonest_wake, instant_after, next_instant}
+use Rattle.lh_unit.specs.World.{State, wake_of, Act, Rules, rules_of, unit_of, World, bits_after, acts_from, acts_at, kept, made_by, afters, next_world, soonest_wake, instant_after, next_instant}
 use Rattle.lh_unit.specs.Trace.{Run, least_runaway, outcomes_of, frame_of, goes_on, at_bound, run_at, run_from}
 use Rattle.lh_meaning.specs.Replacing.{Answer}
 use Rattle.lh_meaning.specs.Wishes.{IsLate}
@@ -52,7 +52,7 @@ unfolding bits_at acts_at
 bits_stay bound items d w t =
     ap (λ cs. values_by cs t 0 w.init) (claims-append w.history (made_by t 0 (acts_at bound items d w t)))
     ∙ values_append_late t (claims w.history) (claims (made_by t 0 (acts_at bound items d w t)))
-    (made_late (rules_of bound items) items w.last (bits_by w.history w.init w.last) (bits_at w.history w.init t) t 0 d.instances w.states) 0 w.init
+    (made_late (rules_of bound items) items w.last (bits_after w.history w.init w.last) (bits_at w.history w.init t) t 0 d.instances w.states) 0 w.init
 
 module _ (r : Rules) (m m' : List ItemText) where
   -- the instances are alike, one by one
@@ -123,7 +123,7 @@ pub record Worlds (bound : ℕ) (m m' : List ItemText) (d : Design) (v w : World
   pub init : v.init ≡ w.init
   pub last : v.last ≡ w.last
   pub history : v.history ≡ w.history
-  pub states : Related (rules_of bound m) m m' v.last (bits_by v.history v.init v.last) d.instances v.states w.states
+  pub states : Related (rules_of bound m) m m' v.last (bits_after v.history v.init v.last) d.instances v.states w.states
 
 module _ (bound : ℕ) (m m' : List ItemText) (d : Design) (same_rules : rules_of bound m' ≡ rules_of bound m) where
   same_next : (v w : World) → Worlds bound m m' d v w → next_instant v ≡ next_instant w
@@ -136,7 +136,7 @@ module _ (bound : ℕ) (m m' : List ItemText) (d : Design) (same_rules : rules_o
   acts_of_frame : (v w : World) (t : Instant) → Worlds bound m m' d v w → AllMatch (rules_of bound m) m m' t (bits_at v.history v.init t) d.instances (acts_at bound m d v t) (acts_at bound m' d w t)
   unfolding acts_at
   acts_of_frame v w t h =
-      rw (same_rules, ← h.last, ← h.init, ← h.history) (acts_match (rules_of bound m) m m' v.last (bits_by v.history v.init v.last) (bits_at v.history v.init t) t d.instances v.states w.states h.states)
+      rw (same_rules, ← h.last, ← h.init, ← h.history) (acts_match (rules_of bound m) m m' v.last (bits_after v.history v.init v.last) (bits_at v.history v.init t) t d.instances v.states w.states h.states)
 
   next_related : (v w : World) (t : Instant) → Worlds bound m m' d v w → Worlds bound m m' d (next_world bound m d v t) (next_world bound m' d w t)
   next_related v w t h =

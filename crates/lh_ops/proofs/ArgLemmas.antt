@@ -7,9 +7,9 @@ use Rattle.lh_types.specs.Types.{TypeTree, TypeRow, int_type, time_type, array_t
 use Rattle.lh_types.specs.Values.{Datum, DatumRow, int_value, time_value, array_value, tuple_value, no_values, more_values, data_row}
 use Rattle.lh_types.specs.ValueOf.{datum_of}
 use Rattle.lh_types.specs.Fits.{FitsType, FitsRow, PartsFit, part_count}
-use Rattle.lh_types.specs.Parts.{Part, parts_of, part_at, part_if, part_beyond, field_part}
+use Rattle.lh_types.specs.Parts.{Part, parts_of, part_by, part_if, part_beyond, field_part}
 use Rattle.lh_types.specs.Apply.{no_value, field_at, slice_at, with_field, with_slice}
-use Rattle.lh_types.specs.ApplyTypes.{FitsOp, HasPart, Shifts}
+use Rattle.lh_types.specs.ApplyTypes.{FitsOp, PartHasType, Shifts}
 use Rattle.lh_types.specs.declared.part.Step.TheVariants.{Field, Slice}
 use Rattle.lh_types.specs.declared.op.Op.{Op}
 use Rattle.lh_types.specs.declared.op.Op.TheVariants.{Eq, Neq, Shl, Shr, Extf, Exts, Insf, Inss, Repeat}
@@ -83,13 +83,13 @@ there : (b : Bool) (lo : ℕ) (t r : TypeTree) → option_map (λ p. p.of) (part
 there true lo t r e = (refl, cc)
 there false lo t r e = cc
 
-pub element_part : (n : ℕ) (t : TypeTree) (k : ℕ) (r : TypeTree) → HasPart (array_type n t) (Field k) r → (k < n) × (t ≡ r)
+pub element_part : (n : ℕ) (t : TypeTree) (k : ℕ) (r : TypeTree) → PartHasType (array_type n t) (Field k) r → (k < n) × (t ≡ r)
 element_part n t k r h = let e = there (ltb k n) (k * bit_count t) t r h in (ltb-true k n e.0, e.1)
 
-pub bits_part : (w o n : ℕ) (r : TypeTree) → HasPart (int_type w) (Slice o n) r → (1 ≤ n) × (o + n ≤ w) × (int_type n ≡ r)
+pub bits_part : (w o n : ℕ) (r : TypeTree) → PartHasType (int_type w) (Slice o n) r → (1 ≤ n) × (o + n ≤ w) × (int_type n ≡ r)
 bits_part w o n r h = let e = there (leb 1 n && leb (o + n) w) o (int_type n) r h in let b = and_parts (leb 1 n) (leb (o + n) w) e.0 in (leb-true 1 n b.0, leb-true (o + n) w b.1, e.1)
 
-pub elements_part : (m : ℕ) (t : TypeTree) (o n : ℕ) (r : TypeTree) → HasPart (array_type m t) (Slice o n) r → (1 ≤ n) × (o + n ≤ m) × (array_type n t ≡ r)
+pub elements_part : (m : ℕ) (t : TypeTree) (o n : ℕ) (r : TypeTree) → PartHasType (array_type m t) (Slice o n) r → (1 ≤ n) × (o + n ≤ m) × (array_type n t ≡ r)
 elements_part m t o n r h = let e = there (leb 1 n && leb (o + n) m) (o * bit_count t) (array_type n t) r h in let b = and_parts (leb 1 n) (leb (o + n) m) e.0 in (leb-true 1 n b.0, leb-true (o + n) m b.1, e.1)
 
 -- a value of the type is a value of an equal type
@@ -101,7 +101,7 @@ beyond_of b None = refl
 beyond_of b (Some p) = refl
 
 -- field k of a struct is there, and of its type
-pub field_fits : (vs : DatumRow) (ts : TypeRow) (k : ℕ) (r : TypeTree) (d : Datum) → FitsRow vs ts → HasPart (tuple_type ts) (Field k) r → (k < length (parts_of vs)) × FitsType (get_or (parts_of vs) k d) r
+pub field_fits : (vs : DatumRow) (ts : TypeRow) (k : ℕ) (r : TypeTree) (d : Datum) → FitsRow vs ts → PartHasType (tuple_type ts) (Field k) r → (k < length (parts_of vs)) × FitsType (get_or (parts_of vs) k d) r
 field_fits no_values no_types k r d f h = cc
 field_fits no_values (more_types t ts) k r d f h = absurd f
 field_fits (more_values v vs) no_types k r d f h = absurd f
@@ -114,14 +114,14 @@ element_fits no_values t k d f h = absurd (omega arith)
 element_fits (more_values v vs) t zero d f h = f.0
 element_fits (more_values v vs) t (suc k) d f h = element_fits vs t k d f.1 (omega arith)
 
-pub field_within : (x : Datum) (t : TypeTree) (k : ℕ) (r : TypeTree) → FitsType x t → HasPart t (Field k) r → k < length (parts_within x)
+pub field_within : (x : Datum) (t : TypeTree) (k : ℕ) (r : TypeTree) → FitsType x t → PartHasType t (Field k) r → k < length (parts_within x)
 field_within (int_value n a) (int_type m) k r f h = cc
 field_within (time_value d) time_type k r f h = cc
 field_within (array_value vs) (array_type n t) k r f h = let e = element_part n t k r h in omega (arith, parts_count vs, f.0, e.0)
 field_within (tuple_value vs) (tuple_type ts) k r f h = (field_fits vs ts k r no_value f h).0
 field_within _ _ k r f h = absurd f
 
-pub slice_within : (vs : DatumRow) (t : TypeTree) (o n : ℕ) (r : TypeTree) → FitsType (array_value vs) t → HasPart t (Slice o n) r → o + n ≤ length (parts_of vs)
+pub slice_within : (vs : DatumRow) (t : TypeTree) (o n : ℕ) (r : TypeTree) → FitsType (array_value vs) t → PartHasType t (Slice o n) r → o + n ≤ length (parts_of vs)
 slice_within vs (array_type m t) o n r f h = let e = elements_part m t o n r h in omega (arith, parts_count vs, f.0, e.1)
 slice_within vs _ o n r f h = absurd f
 
@@ -155,7 +155,7 @@ module _ (xs : List Val) (ts : List TypeTree) (t u : TypeTree) (v w : Val) (fits
 length_of : (items : List Val) (ds : List Datum) → map datum_of items ≡ ds → length items ≡ length ds
 length_of items ds e = sym (length-map items datum_of) ∙ ap length e
 
-field_is : (x : Datum) (k : ℕ) → k < length (parts_within x) → part_at x (Field k) ≡ get_or (parts_within x) k no_value
+field_is : (x : Datum) (k : ℕ) → k < length (parts_within x) → part_by x (Field k) ≡ get_or (parts_within x) k no_value
 field_is (int_value n a) k h = absurd (omega arith)
 field_is (time_value d) k h = absurd (omega arith)
 field_is (array_value r) k h = refl
@@ -218,7 +218,7 @@ array_of (int_value m a) t n f = absurd f
 array_of (time_value d) t n f = absurd f
 array_of (tuple_value r) t n f = absurd f
 
-new_elements : (x y : Datum) (r : DatumRow) (t u : TypeTree) (o n : ℕ) → x ≡ array_value r → FitsType x t → FitsType y u → HasPart t (Slice o n) u → (s : DatumRow) × (y ≡ array_value s)
+new_elements : (x y : Datum) (r : DatumRow) (t u : TypeTree) (o n : ℕ) → x ≡ array_value r → FitsType x t → FitsType y u → PartHasType t (Slice o n) u → (s : DatumRow) × (y ≡ array_value s)
 new_elements (array_value vs) y r (array_type m t) u o n e f g h = array_of y t n (as_type y u (array_type n t) g (sym (elements_part m t o n u h).2))
 new_elements (array_value vs) y r _ u o n e f g h = absurd f
 new_elements _ y r t u o n e f g h = cc

@@ -6,10 +6,10 @@ use Rattle.std.proofs.Math.Nat.{div-le_self, mod-le}
 use Rattle.lh_types.specs.Types.{TypeTree, TypeRow, int_type, time_type, array_type, tuple_type, no_types, more_types, row_of, AreData, bit_count}
 use Rattle.lh_types.specs.Values.{Datum, DatumRow, int_value, time_value, array_value, tuple_value, no_values, more_values, data_row}
 use Rattle.lh_types.specs.Fits.{FitsType, FitsRow, PartsFit, part_count}
-use Rattle.lh_types.specs.Parts.{parts_of, part_at, with_part, field_part}
+use Rattle.lh_types.specs.Parts.{parts_of, part_by, with_part, field_part}
 use Rattle.lh_types.specs.ApplyInt.{integer_row, row_width, truth, divided, wrapped, moved_up, moved_down}
 use Rattle.lh_types.specs.Apply.{apply, bit_value, no_value, integer_result, shifted, selected, repeated, field_at, slice_at, with_field, with_slice}
-use Rattle.lh_types.specs.ApplyTypes.{HasPart}
+use Rattle.lh_types.specs.ApplyTypes.{PartHasType}
 use Rattle.lh_types.specs.declared.part.Step.TheVariants.{Field, Slice}
 use Rattle.lh_types.specs.declared.op.Op.{Op}
 use Rattle.lh_types.specs.declared.op.Op.TheVariants.{Not, Neg, Add, Sub, Umul, Smul, Udiv, Sdiv, Umod, Smod, Urem, Srem, And, Or, Xor, Eq, Neq, Slt, Sgt, Sle, Sge, Ult, Ugt, Ule, Uge, Shl, Shr, Mux, Extf, Exts, Insf, Inss, Array, Repeat, Tuple}
@@ -150,21 +150,21 @@ all_of_one (v ∷ vs) zero t f = absurd f
 all_of_one (v ∷ vs) (suc n) t f = let i = all_of_one vs n t f.1 in (ap suc i.0, (f.0, i.1))
 
 -- a struct with a field replaced by a value of its type
-field_set : (r : DatumRow) (ts : TypeRow) (k : ℕ) (p : TypeTree) (v : Datum) → FitsRow r ts → HasPart (tuple_type ts) (Field k) p → FitsType v p → FitsRow (data_row (set (parts_of r) k v)) ts
+field_set : (r : DatumRow) (ts : TypeRow) (k : ℕ) (p : TypeTree) (v : Datum) → FitsRow r ts → PartHasType (tuple_type ts) (Field k) p → FitsType v p → FitsRow (data_row (set (parts_of r) k v)) ts
 field_set no_values no_types k p v f h g = tt
 field_set no_values (more_types t ts) k p v f h g = absurd f
 field_set (more_values x r) no_types k p v f h g = absurd f
 field_set (more_values x r) (more_types t ts) zero p v f h g = (as_type v p t g (sym cc), rw (row_parts r) f.1)
 field_set (more_values x r) (more_types t ts) (suc k) p v f h g = (f.0, field_set r ts k p v f.1 (sym (beyond_of (bit_count t) (field_part ts k)) ∙ h) g)
 
-extf_fits : (v : Datum) (t : TypeTree) (k : ℕ) (r : TypeTree) → FitsType v t → HasPart t (Field k) r → FitsType (part_at v (Field k)) r
+extf_fits : (v : Datum) (t : TypeTree) (k : ℕ) (r : TypeTree) → FitsType v t → PartHasType t (Field k) r → FitsType (part_by v (Field k)) r
 extf_fits (int_value n a) (int_type m) k r f h = cc
 extf_fits (time_value d) time_type k r f h = cc
 extf_fits (array_value vs) (array_type n t) k r f h = let e = element_part n t k r h in as_type _ t r (element_fits vs t k no_value f.1 (omega (arith, parts_count vs, f.0, e.0))) e.1
 extf_fits (tuple_value vs) (tuple_type ts) k r f h = (field_fits vs ts k r no_value f h).1
 extf_fits _ _ k r f h = absurd f
 
-exts_fits : (v : Datum) (t : TypeTree) (o n : ℕ) (r : TypeTree) → FitsType v t → HasPart t (Slice o n) r → FitsType (part_at v (Slice o n)) r
+exts_fits : (v : Datum) (t : TypeTree) (o n : ℕ) (r : TypeTree) → FitsType v t → PartHasType t (Slice o n) r → FitsType (part_by v (Slice o n)) r
 exts_fits (int_value w a) (int_type m) o n r f h = let e = bits_part m o n r h in as_type (int_value n (a / 2 ^ o % 2 ^ n)) (int_type n) r (refl, mod_below (a / 2 ^ o) (2 ^ n) (pow_pos n)) e.2
 exts_fits (array_value vs) (array_type m t) o n r f h =
     let e = elements_part m t o n r h in
@@ -176,7 +176,7 @@ exts_fits (time_value d) time_type o n r f h = cc
 exts_fits (tuple_value vs) (tuple_type ts) o n r f h = cc
 exts_fits _ _ o n r f h = absurd f
 
-insf_fits : (v w : Datum) (t p : TypeTree) (k : ℕ) → FitsType v t → FitsType w p → HasPart t (Field k) p → FitsType (with_part v (Field k) w) t
+insf_fits : (v w : Datum) (t p : TypeTree) (k : ℕ) → FitsType v t → FitsType w p → PartHasType t (Field k) p → FitsType (with_part v (Field k) w) t
 insf_fits (int_value n a) w (int_type m) p k f g h = cc
 insf_fits (time_value d) w time_type p k f g h = cc
 insf_fits (array_value vs) w (array_type n t) p k f g h =
@@ -185,7 +185,7 @@ insf_fits (array_value vs) w (array_type n t) p k f g h =
 insf_fits (tuple_value vs) w (tuple_type ts) p k f g h = field_set vs ts k p w f h g
 insf_fits _ w _ p k f g h = absurd f
 
-inss_fits : (v w : Datum) (t p : TypeTree) (o n : ℕ) → FitsType v t → FitsType w p → HasPart t (Slice o n) p → FitsType (with_part v (Slice o n) w) t
+inss_fits : (v w : Datum) (t p : TypeTree) (o n : ℕ) → FitsType v t → FitsType w p → PartHasType t (Slice o n) p → FitsType (with_part v (Slice o n) w) t
 inss_fits (int_value m a) w (int_type u) p o n f g h = let e = bits_part u o n p h in new_bits w (as_type w p (int_type n) g (sym e.2)) e.1
   where
     new_bits : (w : Datum) → FitsType w (int_type n) → o + n ≤ u → FitsType (with_part (int_value m a) (Slice o n) w) (int_type u)
@@ -245,16 +245,16 @@ module _ (vs : List Datum) (ts : List TypeTree) (r : TypeTree) (d : AreData (row
       let many = (data_as _ e).0.1 in
       rw o.is (mux_fits o.x o.y n w r many o.fits_x o.fits_y)
 
-  of_extf : (k : ℕ) (t : TypeTree) → ts ≡ t ∷ [] → HasPart t (Field k) r → FitsType (field_at k vs) r
+  of_extf : (k : ℕ) (t : TypeTree) → ts ≡ t ∷ [] → PartHasType t (Field k) r → FitsType (field_at k vs) r
   of_extf k t e h = let o = one_arg vs t (fits_as vs ts _ f e) in rw o.is (extf_fits o.x t k r o.fits_x h)
 
-  of_exts : (i n : ℕ) (t : TypeTree) → ts ≡ t ∷ [] → HasPart t (Slice i n) r → FitsType (slice_at i n vs) r
+  of_exts : (i n : ℕ) (t : TypeTree) → ts ≡ t ∷ [] → PartHasType t (Slice i n) r → FitsType (slice_at i n vs) r
   of_exts i n t e h = let o = one_arg vs t (fits_as vs ts _ f e) in rw o.is (exts_fits o.x t i n r o.fits_x h)
 
-  of_insf : (k : ℕ) (p : TypeTree) → ts ≡ r ∷ p ∷ [] → HasPart r (Field k) p → FitsType (with_field k vs) r
+  of_insf : (k : ℕ) (p : TypeTree) → ts ≡ r ∷ p ∷ [] → PartHasType r (Field k) p → FitsType (with_field k vs) r
   of_insf k p e h = let o = two_args vs r p (fits_as vs ts _ f e) in rw o.is (insf_fits o.x o.y r p k o.fits_x o.fits_y h)
 
-  of_inss : (i n : ℕ) (p : TypeTree) → ts ≡ r ∷ p ∷ [] → HasPart r (Slice i n) p → FitsType (with_slice i n vs) r
+  of_inss : (i n : ℕ) (p : TypeTree) → ts ≡ r ∷ p ∷ [] → PartHasType r (Slice i n) p → FitsType (with_slice i n vs) r
   of_inss i n p e h = let o = two_args vs r p (fits_as vs ts _ f e) in rw o.is (inss_fits o.x o.y r p i n o.fits_x o.fits_y h)
 
   of_array : (n : ℕ) (t : TypeTree) → ts ≡ replicate n t → r ≡ array_type n t → FitsType (array_value (data_row vs)) r

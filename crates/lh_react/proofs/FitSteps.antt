@@ -1,14 +1,7 @@
 -- What is held fits, so that what an instruction asks of its operands is there.
-use Rattle.std.proofs.Common.{◌≡◌, ℕ, ◌+◌, ◌<◌, ◌≤◌, ◌^◌, List, [], ◌∷◌, length, map, Bool, Option, Some, None, refl, ap, sym, ◌∙◌, arith}
-use Rattle.std.specs.Option.{option_and_then}
-use Rattle.lh_types.specs.Types.{TypeTree, signal_type, IsData, bit_count}
-use Rattle.lh_types.specs.Values.{Datum}
-use Rattle.lh_types.specs.Fits.{FitsType}
-use Rattle.lh_types.specs.declared.part.Range.{Range}
-use Rattle.lh_types.proofs.LawProofs.{bits_are_counted}
+use Rattle.std.proofs.Common.{◌≡◌, ℕ, ◌<◌, ◌^◌, List, [], ◌∷◌, length, map, Bool, Option, Some, None, arith}
+use Rattle.lh_types.specs.Types.{TypeTree, signal_type}
 use Rattle.lh_unit.specs.Contents.{pure_text, prb_text}
-use Rattle.lh_unit.specs.Typing.{value_type, carried}
-use Rattle.lh_unit.specs.Held.{Held, datum_held, part_held}
 use Rattle.lh_unit.specs.Arena.{Arena, naming, value_count, sizes, unit_text_at}
 use Rattle.lh_unit.specs.Naming.{value_text, operand_text, trigger_text}
 use Rattle.lh_unit.specs.Within.{Each, OperandWithin, TriggerWithin, MaybeWithin}
@@ -16,7 +9,7 @@ use Rattle.lh_unit.specs.declared.inst.ValueId.{ValueId}
 use Rattle.lh_unit.specs.declared.inst.Typed.{Typed}
 use Rattle.lh_unit.specs.declared.inst.RegTrigger.{RegTrigger}
 use Rattle.lh_formed.specs.Operands.{RowIs, IsOf, TriggerIs}
-use Rattle.lh_eval.specs.Holding.{slot_at, datum_in, part_in, MaybeIn}
+use Rattle.lh_eval.specs.Holding.{datum_in, part_in, MaybeIn}
 use Rattle.lh_eval.specs.Fitting.{OperandsFit, ProbeFits, DriveFits}
 use Rattle.lh_eval.specs.Sound.{HasOperands}
 use Rattle.lh_types.specs.declared.op.Op.{Op}

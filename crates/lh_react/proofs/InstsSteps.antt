@@ -14,7 +14,7 @@ use Rattle.lh_sound.proofs.FitLaws.{keeps-fit}
 pub drop-get_or : {X : Type 0} → (xs : List X) (i : ℕ) (d : X) → i < length xs → drop i xs ≡ get_or xs i d ∷ drop (i + 1) xs
 drop-get_or xs i d h = rw add-one (drop-cons xs i d h)
 
-drop-end : {X : Type 0} → (xs : List X) (i : ℕ) → length xs ≤ i → drop i xs ≡ []
+pub drop-end : {X : Type 0} → (xs : List X) (i : ℕ) → length xs ≤ i → drop i xs ≡ []
 drop-end xs i h = grind (arith, common_steps)
 
 pub each-rest : {X : Type 0} (P : X → Type 0) (xs : List X) (i : ℕ) (d : X) → i < length xs → Each P (drop i xs) → P (get_or xs i d) × Each P (drop (i + 1) xs)

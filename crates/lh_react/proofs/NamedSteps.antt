@@ -1,5 +1,5 @@
 -- Each kind of instruction, as `run_named` runs it.
-use Rattle.std.proofs.Common.{◌≡◌, ℕ, ◌<◌, ◌^◌, List, length, map, Bool, false, Option, Result, OnOk, sym, ◌∙◌, subst, arith}
+use Rattle.std.proofs.Common.{◌≡◌, ℕ, ◌<◌, ◌^◌, List, length, map, Bool, false, Option, Result, OnOk, sym, subst, arith}
 use Rattle.std.proofs.lemmas.Result.{on_ok_weaker}
 use Rattle.lh_time.specs.declared.Instant.{Instant}
 use Rattle.lh_types.specs.Wish.{Wish}

@@ -1,8 +1,7 @@
 -- A run of the code stands for what a pass comes to, instruction by instruction.
-use Rattle.std.proofs.Common.{◌≡◌, ℕ, ◌<◌, Bool, not, ◌&&◌, ◌||◌, if◌then◌else◌, List, [], ◌∷◌, ◌++◌, length, map, unwrap_or, Option, Some, None, false, refl, ap, sym, ◌∙◌, subst, arith}
+use Rattle.std.proofs.Common.{◌≡◌, ℕ, ◌<◌, Bool, not, ◌&&◌, ◌||◌, if◌then◌else◌, List, [], ◌∷◌, ◌++◌, length, map, unwrap_or, Option, Some, None, false, refl, ap, sym, ◌∙◌, subst}
 use Rattle.lh_time.specs.declared.Instant.{Instant}
 use Rattle.lh_types.specs.Wish.{Wish}
-use Rattle.lh_unit.specs.Table.{ResultWithin}
 use Rattle.lh_unit.specs.Arena.{Arena, IsArena, naming, unit_count}
 use Rattle.lh_unit.specs.Effects.{drive_due}
 use Rattle.lh_unit.specs.Held.{Held, Env}

@@ -8,6 +8,7 @@ ghost use Rattle.lh_sound.specs.Ranges.{InstanceFits};
 ghost use Rattle.lh_react.specs.Standing.{Reacts};
 
 use crate::pass::{Run, run_insts};
+use crate::quiet::quiet;
 use crate::state::EntState;
 use lh_eval::begin::begin;
 use lh_eval::instance::Instance;
@@ -78,6 +79,12 @@ fn run_entity(
     few_bits(now);
     let block = m.blocks(unit)[0];
     let insts = m.insts(unit, block);
+    if let Some(seen) = quiet(alloc, m, unit, insts, args, now, state)? {
+        return Ok(EntAct {
+            next: EntState::after(seen),
+            wishes: ListOf::new(alloc),
+        });
+    }
     let slots = begin(alloc, m, unit, insts, args, sigs)?;
     let mut run = Run {
         slots,

@@ -3,6 +3,7 @@
 
 mod entity;
 mod pass;
+mod quiet;
 mod register;
 mod state;
 

@@ -98,7 +98,7 @@ fn delay_or_zero(slots: &Slots, after: Option<ValueId>) -> Option<Delay>
 }
 
 /// Whether a mode holds, by the trigger's value at the previous run and now.
-fn mode_holds(mode: Mode, past: Option<bool>, now: bool) -> bool
+pub(crate) fn mode_holds(mode: Mode, past: Option<bool>, now: bool) -> bool
     ensures { result ≡ passes.mode_holds mode past now }
 {
     match (mode, past) {
@@ -112,7 +112,7 @@ fn mode_holds(mode: Mode, past: Option<bool>, now: bool) -> bool
 }
 
 /// The value of the next trigger at the previous run, where so many were seen in this one.
-fn past_of(state: &EntState, seen: usize) -> Option<bool>
+pub(crate) fn past_of(state: &EntState, seen: usize) -> Option<bool>
     ensures { result ≡ option_and_then (λ values. slice_get values seen) state.now }
 {
     match state.memory() {

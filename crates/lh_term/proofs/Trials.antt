@@ -4,7 +4,7 @@ use Rattle.std.proofs.lemmas.Bool.Decides.{nat_tests}
 use Rattle.lh_types.specs.Types.{TypeTree, int_type, array_type, IsData, bit_count}
 use Rattle.lh_types.specs.Values.{int_value}
 use Rattle.lh_types.specs.Parts.{Part as Within, part_if}
-use Rattle.lh_types.specs.ApplyTypes.{HasPart}
+use Rattle.lh_types.specs.ApplyTypes.{PartHasType}
 use Rattle.lh_types.specs.declared.part.Step.TheVariants.{Field}
 use Rattle.lh_types.specs.declared.op.Op.TheVariants.{Not, And, Or, Add, Eq, Neq, Extf}
 use Rattle.lh_term.specs.Types.{FitsTerm, TakesTypes}
@@ -68,7 +68,7 @@ array_data t k e = let P : TypeTree → Type 0 = IsData in subst P (sym e.is) e.
 pub of_lt : (a k : ℕ) → a < k → nat_lt a k ≡ true
 of_lt a k h = grind (arith, nat_tests)
 
-element_part : (n k : ℕ) (t : TypeTree) → k < n → HasPart (array_type n t) (Field k) t
+element_part : (n k : ℕ) (t : TypeTree) → k < n → PartHasType (array_type n t) (Field k) t
 element_part n k t h = ap (λ b. option_map (λ (p : Within). p.of) (part_if b (k * bit_count t) t)) (of_lt k n h)
 
 pub takes_element : (t : TypeTree) (k : ℕ) → HasElement t k → TakesTypes (Extf k) (t ∷ [])

@@ -5,7 +5,7 @@ use Rattle.lh_types.specs.Types.{TypeTree, TypeRow, int_type, time_type, void_ty
 use Rattle.lh_types.specs.Values.{Datum, DatumRow, int_value, time_value, array_value, tuple_value, no_values, more_values, data_row}
 use Rattle.lh_types.specs.Fits.{FitsType, FitsRow, PartsFit, part_count}
 use Rattle.lh_types.specs.Parts.{Part as Within, step_part, part_if, part_beyond, field_part}
-use Rattle.lh_types.specs.ApplyTypes.{RowType, HasPart}
+use Rattle.lh_types.specs.ApplyTypes.{RowType, PartHasType}
 use Rattle.lh_types.specs.Apply.{apply}
 use Rattle.lh_types.specs.declared.part.Step.TheVariants.{Field, Slice}
 use Rattle.lh_types.specs.declared.op.Op.{Op}
@@ -87,7 +87,7 @@ field_is no_types k r e = cc
 field_is (more_types t ts) zero r e = cc
 field_is (more_types t ts) (suc k) r e = field_is ts k r (beyond_of (bit_count t) (field_part ts k) r e)
 
-has_field : (t : TypeTree) (k : ℕ) (r : TypeTree) → HasPart t (Field k) r → field_type t k ≡ r
+has_field : (t : TypeTree) (k : ℕ) (r : TypeTree) → PartHasType t (Field k) r → field_type t k ≡ r
 has_field (array_type n t) k r e = part_if_of (nat_lt k n) _ t r e
 has_field (tuple_type ts) k r e = field_is ts k r e
 has_field (int_type n) k r e = cc
@@ -96,7 +96,7 @@ has_field void_type k r e = cc
 has_field (signal_type t) k r e = cc
 has_field (pointer_type t) k r e = cc
 
-has_slice : (t : TypeTree) (o n : ℕ) (r : TypeTree) → HasPart t (Slice o n) r → slice_type t n ≡ r
+has_slice : (t : TypeTree) (o n : ℕ) (r : TypeTree) → PartHasType t (Slice o n) r → slice_type t n ≡ r
 has_slice (int_type m) o n r e = part_if_of (nat_le 1 n && nat_le (o + n) m) o (int_type n) r e
 has_slice (array_type m t) o n r e = part_if_of (nat_le 1 n && nat_le (o + n) m) _ (array_type n t) r e
 has_slice (tuple_type ts) o n r e = cc

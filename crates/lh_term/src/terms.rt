@@ -105,7 +105,7 @@ impl Terms {
     }
 
     /// No two ids of the arena stand for one term; it does nothing.
-    pub(crate) fn are_apart(&self)
+    pub fn are_apart(&self)
         ensures { OneId self.now }
     {
         let _ = &self.nodes;

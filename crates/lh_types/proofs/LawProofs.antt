@@ -6,11 +6,11 @@ use Rattle.std.proofs.lemmas.Option.{same_Some, none-some}
 use Rattle.lh_types.specs.Types.{TypeTree, IsData, bit_count}
 use Rattle.lh_types.specs.Fits.{FitsType}
 use Rattle.lh_types.specs.Bits.{value_bits}
-use Rattle.lh_types.specs.Parts.{Part, part_beyond, step_part, part_of, part_at, with_part, part_along, with_part_along, bits_within, bits_with}
+use Rattle.lh_types.specs.Parts.{Part, part_beyond, step_part, part_of, part_by, with_part, part_along, with_part_along, bits_within, bits_with}
 use Rattle.lh_types.specs.Laws.{BitsAreCounted, BitsGiveValue, ValueGivesBits, PartOfPart, PartsAreWithin, BitsOfPart, BitsWithPart}
 use Rattle.lh_types.specs.declared.part.Step.{Step}
 use Rattle.lh_types.proofs.PartLemmas.{step_part-within, part_beyond-twice, part_beyond-zero, part_beyond-holds}
-use Rattle.lh_types.proofs.PartBits.{part_at-IsPart, with_part-IsWith, bits_with-mid}
+use Rattle.lh_types.proofs.PartBits.{part_by-IsPart, with_part-IsWith, bits_with-mid}
 use Rattle.lh_types.proofs.ValueBits.{length-value_bits, value_from_bits-value_bits, value_bits-value_from_bits, FitsType-value_from_bits}
 
 pub bits_are_counted : BitsAreCounted
@@ -84,10 +84,10 @@ bits_of_part v t [] p d h e =
     let all : bits_within 0 (bit_count t) (value_bits v) ≡ value_bits v = take_all (bit_count t) (value_bits v) (omega (arith, length-value_bits v t h)) in
     (subst (λ q. FitsType v q.of) same h, subst (λ q. value_bits v ≡ bits_within q.lo (bit_count q.of) (value_bits v)) same (sym all))
 bits_of_part v t (s ∷ ss) p d h e =
-    steps-holds (λ q. FitsType (part_along (part_at v s) ss) q.of × (value_bits (part_along (part_at v s) ss) ≡ bits_within q.lo (bit_count q.of) (value_bits v))) t s ss p e (λ q r f k.
+    steps-holds (λ q. FitsType (part_along (part_by v s) ss) q.of × (value_bits (part_along (part_by v s) ss) ≡ bits_within q.lo (bit_count q.of) (value_bits v))) t s ss p e (λ q r f k.
     let w = step_part-within t s q d f in
-    let one = part_at-IsPart v t s q h f in
-    let i = bits_of_part (part_at v s) q.of ss r w.is_data one.fits k in
+    let one = part_by-IsPart v t s q h f in
+    let i = bits_of_part (part_by v s) q.of ss r w.is_data one.fits k in
     let inside = parts_are_within q.of ss r w.is_data k in
     (i.0, i.1 ∙ ap (bits_within r.lo (bit_count r.of)) one.bits ∙ bits_within-twice q.lo (bit_count q.of) r.lo (bit_count r.of) (value_bits v) inside.1))
 
@@ -98,11 +98,11 @@ pub bits_with_part : BitsWithPart
 bits_with_part v w t [] p d h e f =
     subst (λ q. FitsType w q.of → FitsType w t × (value_bits w ≡ bits_with q.lo (value_bits w) (value_bits v))) (same_Some _ _ e) (λ g. (g, bits_with-all (value_bits w) (value_bits v) (length-value_bits w t g ∙ sym (length-value_bits v t h)))) f
 bits_with_part v w t (s ∷ ss) p d h e f =
-    steps-holds (λ q. FitsType w q.of → FitsType (with_part v s (with_part_along (part_at v s) ss w)) t × (value_bits (with_part v s (with_part_along (part_at v s) ss w)) ≡ bits_with q.lo (value_bits w) (value_bits v))) t s ss p e (λ q r g k i.
+    steps-holds (λ q. FitsType w q.of → FitsType (with_part v s (with_part_along (part_by v s) ss w)) t × (value_bits (with_part v s (with_part_along (part_by v s) ss w)) ≡ bits_with q.lo (value_bits w) (value_bits v))) t s ss p e (λ q r g k i.
     let within = step_part-within t s q d g in
-    let one = part_at-IsPart v t s q h g in
-    let inner = bits_with_part (part_at v s) w q.of ss r within.is_data one.fits k i in
-    let outer = with_part-IsWith v t s q (with_part_along (part_at v s) ss w) h g inner.0 in
+    let one = part_by-IsPart v t s q h g in
+    let inner = bits_with_part (part_by v s) w q.of ss r within.is_data one.fits k i in
+    let outer = with_part-IsWith v t s q (with_part_along (part_by v s) ss w) h g inner.0 in
     let inside = parts_are_within q.of ss r within.is_data k in
     let whole : q.lo + bit_count q.of ≤ length (value_bits v) = omega (arith, within.inside, length-value_bits v t h) in
     let part : r.lo + length (value_bits w) ≤ bit_count q.of = omega (arith, inside.1, length-value_bits w r.of i) in

@@ -11,7 +11,7 @@ use Rattle.lh_types.specs.Types.{TypeTree, TypeRow, int_type, time_type, array_t
 use Rattle.lh_types.specs.Values.{Datum, DatumRow, int_value, time_value, array_value, tuple_value, no_values, more_values, data_row}
 use Rattle.lh_types.specs.Fits.{FitsType, PartsFit, FitsRow, part_count}
 use Rattle.lh_types.specs.Bits.{value_bits, row_bits, number_bits}
-use Rattle.lh_types.specs.Parts.{Part, field_part, step_part, bits_within, bits_with, parts_of, part_at, with_part}
+use Rattle.lh_types.specs.Parts.{Part, field_part, step_part, bits_within, bits_with, parts_of, part_by, with_part}
 use Rattle.lh_types.specs.declared.part.Step.{Step}
 use Rattle.lh_types.specs.declared.part.Step.TheVariants.{Field, Slice}
 use Rattle.lh_types.proofs.NumberBits.{length-number_bits, number_bits-add, number_bits-mod}
@@ -230,18 +230,18 @@ IsPart-placed v vs k p e s = record {
 fits_row : (vs : DatumRow) (t : TypeTree) → PartsFit vs t → PartsFit (data_row (parts_of vs)) t
 fits_row vs t h = subst (λ r. PartsFit r t) (sym (data_row-parts_of vs)) h
 
-pub part_at-IsPart : (v : Datum) (t : TypeTree) (s : Step) (p : Part) → FitsType v t → step_part t s ≡ Some p → IsPart v (part_at v s) p
-part_at-IsPart (array_value vs) (array_type n t) (Field k) p h e =
-    part_if-holds (IsPart (array_value vs) (part_at (array_value vs) (Field k))) _ _ t p e (λ b.
+pub part_by-IsPart : (v : Datum) (t : TypeTree) (s : Step) (p : Part) → FitsType v t → step_part t s ≡ Some p → IsPart v (part_by v s) p
+part_by-IsPart (array_value vs) (array_type n t) (Field k) p h e =
+    part_if-holds (IsPart (array_value vs) (part_by (array_value vs) (Field k))) _ _ t p e (λ b.
     let lt : k < part_count vs = let l : k < n = grind (arith, nat_tests) in omega (arith, h.0, l) in
     IsPart-placed (array_value vs) vs k (record { lo = k * bit_count t; of = t }) refl (StandsAt-element vs t k h.1 lt))
-part_at-IsPart (tuple_value vs) (tuple_type ts) (Field k) p h e = IsPart-placed (tuple_value vs) vs k p refl (StandsAt-field vs ts k p h e)
-part_at-IsPart (int_value w b) (int_type n) (Slice at len) p h e =
-    part_if-holds (IsPart (int_value w b) (part_at (int_value w b) (Slice at len))) _ _ (int_type len) p e (λ g.
+part_by-IsPart (tuple_value vs) (tuple_type ts) (Field k) p h e = IsPart-placed (tuple_value vs) vs k p refl (StandsAt-field vs ts k p h e)
+part_by-IsPart (int_value w b) (int_type n) (Slice at len) p h e =
+    part_if-holds (IsPart (int_value w b) (part_by (int_value w b) (Slice at len))) _ _ (int_type len) p e (λ g.
     let f = slice_facts len at n g in
     record { fits = (refl, mod_below (b / 2 ^ at) (2 ^ len) (pow_pos len)); bits = bits_of-number_slice w b at len (omega (arith, f.1, h.0)) })
-part_at-IsPart (array_value vs) (array_type n t) (Slice at len) p h e =
-    part_if-holds (IsPart (array_value vs) (part_at (array_value vs) (Slice at len))) _ _ (array_type len t) p e (λ g.
+part_by-IsPart (array_value vs) (array_type n t) (Slice at len) p h e =
+    part_if-holds (IsPart (array_value vs) (part_by (array_value vs) (Slice at len))) _ _ (array_type len t) p e (λ g.
     let f = slice_facts len at n g in
     let inside : at + len ≤ length (parts_of vs) = omega (arith, f.1, h.0, length-parts_of vs) in
     let all = fits_row vs t h.1 in
@@ -249,10 +249,10 @@ part_at-IsPart (array_value vs) (array_type n t) (Slice at len) p h e =
       fits = (part_count-data_row (take len (drop at (parts_of vs))) ∙ length-slice (parts_of vs) t at len all inside, slice_fits (parts_of vs) t at len all inside);
       bits = row_bits-data_row (take len (drop at (parts_of vs))) ∙ bits_of-slice (parts_of vs) t at len all inside ∙ ap (bits_within (at * bit_count t) (len * bit_count t)) (sym (row_bits-parts_of vs));
     })
-part_at-IsPart (int_value w b) (int_type n) (Field k) p h e = absurd (none-some _ e)
-part_at-IsPart (tuple_value vs) (tuple_type ts) (Slice at len) p h e = absurd (none-some _ e)
-part_at-IsPart (time_value d) time_type s p h e = absurd (none-some _ e)
-part_at-IsPart _ _ s p h e = absurd h
+part_by-IsPart (int_value w b) (int_type n) (Field k) p h e = absurd (none-some _ e)
+part_by-IsPart (tuple_value vs) (tuple_type ts) (Slice at len) p h e = absurd (none-some _ e)
+part_by-IsPart (time_value d) time_type s p h e = absurd (none-some _ e)
+part_by-IsPart _ _ s p h e = absurd h
 
 -- a value with a part replaced is of the type, and has the bits of the value with those of the part replaced
 pub record IsWith (v : Datum) (t : TypeTree) (w : Datum) (x : Datum) (p : Part) : Type 0 where

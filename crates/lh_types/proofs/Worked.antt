@@ -3,7 +3,7 @@ use Rattle.std.proofs.Common.{◌≡◌, [], ◌∷◌, Some, None, true, false,
 use Rattle.lh_types.specs.Types.{TypeTree, int_type, array_type, tuple_type, row_of, bit_count, depth_of}
 use Rattle.lh_types.specs.Values.{int_value, tuple_value, data_row}
 use Rattle.lh_types.specs.Bits.{value_bits, value_from_bits}
-use Rattle.lh_types.specs.Parts.{range_of, part_at, with_part}
+use Rattle.lh_types.specs.Parts.{range_of, part_by, with_part}
 use Rattle.lh_types.specs.declared.part.Step.TheVariants.{Field, Slice}
 
 -- {i3, [4 x {i2, i1}], i8}: bits 0 to 2, 3 to 14, 15 to 22
@@ -60,7 +60,7 @@ read_back : value_from_bits (tuple_type (row_of (int_type 3 ∷ int_type 2 ∷ [
 read_back = refl
 
 -- bits 2 to 5 of 0b10110100 are 0b1101; with 0b0010 in their place it is 0b10001000
-middle : part_at (int_value 8 180) (Slice 2 4) ≡ int_value 4 13
+middle : part_by (int_value 8 180) (Slice 2 4) ≡ int_value 4 13
 middle = refl
 
 middle_replaced : with_part (int_value 8 180) (Slice 2 4) (int_value 4 2) ≡ int_value 8 136

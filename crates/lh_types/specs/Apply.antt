@@ -2,7 +2,7 @@
 use Rattle.std.specs.Prelude.{ℕ, ◌-◌, min, Bool, false, not, List, [], ◌∷◌, length, replicate, slice_index_or}
 use Rattle.lh_types.specs.Values.{Datum, int_value, array_value, tuple_value, data_row}
 use Rattle.lh_types.specs.SameValue.{same_datum}
-use Rattle.lh_types.specs.Parts.{parts_of, part_at, with_part}
+use Rattle.lh_types.specs.Parts.{parts_of, part_by, with_part}
 use Rattle.lh_types.specs.ApplyInt.{integer_row, row_width, truth, moved_up, moved_down}
 use Rattle.lh_types.specs.declared.part.Step.TheVariants.{Field, Slice}
 use Rattle.lh_types.specs.declared.op.Op.{Op}
@@ -39,12 +39,12 @@ selected _ = no_value
 
 -- extf: element or field k
 abbrev pub field_at : ℕ → List Datum → Datum
-field_at k (v ∷ []) = part_at v (Field k)
+field_at k (v ∷ []) = part_by v (Field k)
 field_at k _ = no_value
 
 -- exts: n bits or elements from o
 abbrev pub slice_at : ℕ → ℕ → List Datum → Datum
-slice_at o n (v ∷ []) = part_at v (Slice o n)
+slice_at o n (v ∷ []) = part_by v (Slice o n)
 slice_at o n _ = no_value
 
 -- insf: the whole with element or field k replaced

@@ -11,8 +11,8 @@ use Rattle.lh_types.specs.declared.op.Op.{Op}
 use Rattle.lh_types.specs.declared.op.Op.TheVariants.{Not, Neg, Eq, Neq, Slt, Sgt, Sle, Sge, Ult, Ugt, Ule, Uge, Shl, Shr, Mux, Extf, Exts, Insf, Inss, Array, Repeat, Tuple}
 
 -- r is the type of the part of t that the step leads to
-abbrev pub HasPart : TypeTree → Step → TypeTree → Type 0
-HasPart t s r = option_map (λ p. p.of) (step_part t s) ≡ Some r
+abbrev pub PartHasType : TypeTree → Step → TypeTree → Type 0
+PartHasType t s r = option_map (λ p. p.of) (step_part t s) ≡ Some r
 
 -- one integer, and a result of its type
 abbrev pub OneInteger : List TypeTree → TypeTree → Type 0
@@ -51,10 +51,10 @@ RowType Uge ts r = ComparesIntegers ts r
 RowType Shl ts r = Shifts ts r
 RowType Shr ts r = Shifts ts r
 RowType Mux ts r = (n w : ℕ) × (ts ≡ array_type n r ∷ int_type w ∷ [])
-RowType (Extf k) ts r = (t : TypeTree) × (ts ≡ t ∷ []) × HasPart t (Field k) r
-RowType (Exts o n) ts r = (t : TypeTree) × (ts ≡ t ∷ []) × HasPart t (Slice o n) r
-RowType (Insf k) ts r = (p : TypeTree) × (ts ≡ r ∷ p ∷ []) × HasPart r (Field k) p
-RowType (Inss o n) ts r = (p : TypeTree) × (ts ≡ r ∷ p ∷ []) × HasPart r (Slice o n) p
+RowType (Extf k) ts r = (t : TypeTree) × (ts ≡ t ∷ []) × PartHasType t (Field k) r
+RowType (Exts o n) ts r = (t : TypeTree) × (ts ≡ t ∷ []) × PartHasType t (Slice o n) r
+RowType (Insf k) ts r = (p : TypeTree) × (ts ≡ r ∷ p ∷ []) × PartHasType r (Field k) p
+RowType (Inss o n) ts r = (p : TypeTree) × (ts ≡ r ∷ p ∷ []) × PartHasType r (Slice o n) p
 RowType Array ts r = (t : TypeTree) × (0 < length ts) × (ts ≡ replicate (length ts) t) × (r ≡ array_type (length ts) t)
 RowType (Repeat n) ts r = (t : TypeTree) × (ts ≡ t ∷ []) × (0 < n) × (r ≡ array_type n t)
 RowType Tuple ts r = (0 < length ts) × (r ≡ tuple_type (row_of ts))

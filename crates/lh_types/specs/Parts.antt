@@ -61,12 +61,12 @@ parts_of no_values = []
 parts_of (more_values v vs) = v ∷ parts_of vs
 
 -- the part of a value that a step leads to
-abbrev pub part_at : Datum → Step → Datum
-part_at (array_value vs) (Field k) = slice_index_or (parts_of vs) k (int_value 0 0)
-part_at (tuple_value vs) (Field k) = slice_index_or (parts_of vs) k (int_value 0 0)
-part_at (int_value w b) (Slice at len) = int_value len (b / 2 ^ at % 2 ^ len)
-part_at (array_value vs) (Slice at len) = array_value (data_row (take len (drop at (parts_of vs))))
-part_at v _ = v
+abbrev pub part_by : Datum → Step → Datum
+part_by (array_value vs) (Field k) = slice_index_or (parts_of vs) k (int_value 0 0)
+part_by (tuple_value vs) (Field k) = slice_index_or (parts_of vs) k (int_value 0 0)
+part_by (int_value w b) (Slice at len) = int_value len (b / 2 ^ at % 2 ^ len)
+part_by (array_value vs) (Slice at len) = array_value (data_row (take len (drop at (parts_of vs))))
+part_by v _ = v
 
 -- the value with the part that a step leads to replaced
 abbrev pub with_part : Datum → Step → Datum → Datum
@@ -79,9 +79,9 @@ with_part v _ _ = v
 -- the part of a value that steps lead to, one after the other
 abbrev pub part_along : Datum → List Step → Datum
 part_along v [] = v
-part_along v (s ∷ ss) = part_along (part_at v s) ss
+part_along v (s ∷ ss) = part_along (part_by v s) ss
 
 -- the value with the part that steps lead to replaced
 abbrev pub with_part_along : Datum → List Step → Datum → Datum
 with_part_along v [] w = w
-with_part_along v (s ∷ ss) w = with_part v s (with_part_along (part_at v s) ss w)
+with_part_along v (s ∷ ss) w = with_part v s (with_part_along (part_by v s) ss w)

@@ -252,7 +252,7 @@ fn number_at(alloc: Global, lo: u32, number: u128) -> Result<Bits, NoMemory>
 }
 
 /// 200 bits: `len` from bit `lo` on are those of `from` from `at` on, all others 0.
-fn part_at(alloc: Global, lo: u32, from: &Bits, at: u32, len: u32) -> Result<Bits, NoMemory>
+fn part_by(alloc: Global, lo: u32, from: &Bits, at: u32, len: u32) -> Result<Bits, NoMemory>
     requires within { lo + len ≤ 200 }
     requires from_within { at + len ≤ length from.now }
     ensures { IfOk result (λ b. length b ≡ 200) }
@@ -279,9 +279,9 @@ fn numbers_across_words(rt: HostRuntime) -> Result<(), Fail> {
 fn parts_across_words(rt: HostRuntime) -> Result<(), Fail> {
     let alloc = rt.alloc();
     let b = number_at(alloc, 60, NUMBER)?;
-    let c = part_at(alloc, 3, &b, 60, 128)?;
+    let c = part_by(alloc, 3, &b, 60, 128)?;
     assert_eq!(rt; c.int_at(3, 128), NUMBER);
-    let d = part_at(alloc, 60, &c, 3, 128)?;
+    let d = part_by(alloc, 60, &c, 3, 128)?;
     assert!(rt; d.same_part(&b, 0, 200));
     assert!(rt; !c.same_part(&b, 0, 200));
     assert!(rt; c.same_part(&b, 0, 7) && !c.same_part(&b, 0, 8));

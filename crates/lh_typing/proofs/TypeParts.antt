@@ -9,7 +9,7 @@ use Rattle.lh_types.specs.Faults.{is_data}
 use Rattle.lh_types.specs.declared.ty.TyFault.{TyFault}
 use Rattle.lh_types.specs.declared.ty.TyFault.TheVariants.{TooManyBits, TooDeep, Empty, WrongPart}
 use Rattle.lh_types.specs.Parts.{Part, field_part, part_beyond}
-use Rattle.lh_unit.specs.Typing.{array_made, if_made, with_type, written_types}
+use Rattle.lh_unit.specs.Typing.{array_made, if_made, with_type, operand_types}
 use Rattle.lh_unit.specs.Naming.{Naming, operand_text}
 use Rattle.lh_unit.specs.declared.inst.Typed.{Typed}
 use Rattle.std.proofs.lemmas.List.{drop_all}
@@ -47,14 +47,14 @@ joined-row [] = refl
 joined-row (x ∷ ts) = ap (with_type (Some x)) (joined-row ts)
 
 -- a written type in front of those behind it
-pub written-none : (f : Naming) (xs : List Typed) (i : ℕ) (x : Typed) → i < length xs → x ≡ get_or xs i x → x.ty ≡ None → written_types (map (operand_text f) (drop i xs)) ≡ None
-written-none f xs i x h e n = ap (λ l. written_types (map (operand_text f) l)) (drop-item xs i x h e) ∙ ap (λ o. with_type o (written_types (map (operand_text f) (drop (i + 1) xs)))) n
+pub written-none : (f : Naming) (xs : List Typed) (i : ℕ) (x : Typed) → i < length xs → x ≡ get_or xs i x → x.ty ≡ None → operand_types (map (operand_text f) (drop i xs)) ≡ None
+written-none f xs i x h e n = ap (λ l. operand_types (map (operand_text f) l)) (drop-item xs i x h e) ∙ ap (λ o. with_type o (operand_types (map (operand_text f) (drop (i + 1) xs)))) n
 
-pub written-some : (f : Naming) (xs : List Typed) (i : ℕ) (x : Typed) (t : TypeTree) → i < length xs → x ≡ get_or xs i x → x.ty ≡ Some t → written_types (map (operand_text f) (drop i xs)) ≡ with_type (Some t) (written_types (map (operand_text f) (drop (i + 1) xs)))
-written-some f xs i x t h e n = ap (λ l. written_types (map (operand_text f) l)) (drop-item xs i x h e) ∙ ap (λ o. with_type o (written_types (map (operand_text f) (drop (i + 1) xs)))) n
+pub written-some : (f : Naming) (xs : List Typed) (i : ℕ) (x : Typed) (t : TypeTree) → i < length xs → x ≡ get_or xs i x → x.ty ≡ Some t → operand_types (map (operand_text f) (drop i xs)) ≡ with_type (Some t) (operand_types (map (operand_text f) (drop (i + 1) xs)))
+written-some f xs i x t h e n = ap (λ l. operand_types (map (operand_text f) l)) (drop-item xs i x h e) ∙ ap (λ o. with_type o (operand_types (map (operand_text f) (drop (i + 1) xs)))) n
 
-pub written-end : (f : Naming) (xs : List Typed) (i : ℕ) → length xs ≤ i → written_types (map (operand_text f) (drop i xs)) ≡ Some no_types
-written-end f xs i h = ap (λ l. written_types (map (operand_text f) l)) (drop_all i xs h)
+pub written-end : (f : Naming) (xs : List Typed) (i : ℕ) → length xs ≤ i → operand_types (map (operand_text f) (drop i xs)) ≡ Some no_types
+written-end f xs i h = ap (λ l. operand_types (map (operand_text f) l)) (drop_all i xs h)
 
 -- no array of what is no data, and of too many
 no-array : (a b d e : Bool) (w x y z : TyFault) (t : TypeTree) → (b ≡ true) ⊎ (e ≡ true) → None ≡ if_made (if a then Some w else (if b then Some x else (if d then Some y else (if e then Some z else None)))) t

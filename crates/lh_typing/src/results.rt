@@ -6,7 +6,7 @@ ghost use Rattle.lh_types.specs.Kind.{type_of_kind};
 ghost use Rattle.lh_types.specs.ValueOf.{datum_of};
 ghost use Rattle.lh_types.specs.Faults.{Makes};
 ghost use Rattle.lh_unit.specs.Naming.{Naming, operand_text, inst_text};
-ghost use Rattle.lh_unit.specs.Typing.{if_made, constant_type as datum_type, array_made, tuple_made, first_type as texts_first, written_types as texts_written, pointer_to, signal_of, pointed, carried, operation_type as texts_type, result_type as text_type};
+ghost use Rattle.lh_unit.specs.Typing.{if_made, constant_type as datum_type, array_made, tuple_made, first_type as texts_first, operand_types as texts_written, pointer_to, signal_of, pointed, carried, operation_type as texts_type, result_type as text_type};
 ghost use Rattle.lh_unit.specs.Kinds.{kind_of as type_kind, result_kind as text_kind};
 ghost use Rattle.lh_typing.specs.Told.{kind_as};
 

@@ -1,8 +1,9 @@
 -- What a unit holds under the names of its values.
-use Rattle.std.specs.Prelude.{ℕ, List, [], ◌∷◌, Bool, not, nat_eq, if◌then◌else◌, Option, Some, None, take, drop}
+use Rattle.std.specs.Prelude.{ℕ, List, [], ◌∷◌, Bool, not, nat_eq, if◌then◌else◌, Option, Some, None}
 use Rattle.std.specs.Option.{option_and_then}
 use Rattle.lh_time.specs.declared.Delay.{Delay}
 use Rattle.lh_types.specs.Values.{Datum, int_value, time_value}
+use Rattle.lh_types.specs.Parts.{bits_within}
 use Rattle.lh_types.specs.declared.part.Range.{Range}
 use Rattle.lh_unit.specs.Contents.{OperandText, ArgText, same_name}
 
@@ -97,4 +98,4 @@ with_args e (a ∷ more) (h ∷ hs) = with_args (with_held e a.name h) more hs
 
 -- the bits of a part
 abbrev pub bits_in : List Bool → Range → List Bool
-bits_in now r = take r.len (drop r.lo now)
+bits_in now r = bits_within r.lo r.len now

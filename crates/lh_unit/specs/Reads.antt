@@ -3,6 +3,7 @@ use Rattle.std.specs.Prelude.{◌≡◌, ℕ, ◌+◌, Bool, true, false, ◌||�
 use Rattle.lh_types.specs.Types.{TypeTree}
 use Rattle.lh_unit.specs.Contents.{ArgText, LineText, BlockText, UnitText, ItemText, unit_text, declare_text, new_unit, change_last, last_unit, with_block, with_line, line_count, same_name, defines_unit, args_define, defines_value, defines_label}
 use Rattle.lh_unit.specs.Lexemes.{Lexeme, lexemes}
+pub use Rattle.lh_unit.specs.Named.{is_assert}
 use Rattle.lh_unit.specs.Lines.{lines_of}
 use Rattle.lh_unit.specs.Spells.{LineItem, empty_item, header_item, declare_item, label_item, inst_item, close_item, Spells}
 use Rattle.lh_unit.specs.declared.name.UnitName.{UnitName}
@@ -94,10 +95,6 @@ too_large s _ = false
 abbrev pub args_repeat : (seen : List ArgText) → List ArgText → Bool
 args_repeat seen [] = false
 args_repeat seen (a ∷ more) = args_define a.name seen || args_repeat (seen ++ a ∷ []) more
-
--- `@llhd.assert`, which is there without a definition
-abbrev pub is_assert : UnitName → Bool
-is_assert n = nat_eq n.sigil 64 && same_name n.name (codes "llhd.assert")
 
 abbrev pub value_again : Option (List ℕ) → Option UnitText → Bool
 value_again (Some r) (Some u) = defines_value r u

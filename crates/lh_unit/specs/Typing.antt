@@ -60,9 +60,9 @@ with_type (Some t) (Some r) = Some (more_types t r)
 with_type _ _ = None
 
 -- the types that are written before the operands, where each has one
-abbrev pub written_types : List OperandText → Option TypeRow
-written_types [] = Some no_types
-written_types (o ∷ more) = with_type o.ty (written_types more)
+abbrev pub operand_types : List OperandText → Option TypeRow
+operand_types [] = Some no_types
+operand_types (o ∷ more) = with_type o.ty (operand_types more)
 
 -- an operation gives a value of the type that is written first; a comparison gives a bit
 abbrev pub operation_type : Op → List OperandText → Option TypeTree
@@ -78,7 +78,7 @@ operation_type op.Ule args = Some (int_type 1)
 operation_type op.Uge args = Some (int_type 1)
 operation_type op.Array args = option_and_then (array_made (length args)) (first_type args)
 operation_type (op.Repeat n) args = option_and_then (array_made n) (first_type args)
-operation_type op.Tuple args = option_and_then tuple_made (written_types args)
+operation_type op.Tuple args = option_and_then tuple_made (operand_types args)
 operation_type _ args = first_type args
 
 -- The type of what an instruction gives, where it gives something that has a type: by what its own line writes, also where its row takes no such type.

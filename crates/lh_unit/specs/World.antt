@@ -8,7 +8,7 @@ use Rattle.lh_time.specs.Order.{instant_cmp, instant_lt, instant_le}
 use Rattle.lh_time.specs.Due.{instant}
 use Rattle.lh_types.specs.Wish.{Wish, no_wish}
 use Rattle.lh_types.specs.History.{Made, Claim, claims, bits_at, sooner, if_later, soonest_due}
-pub use Rattle.lh_types.specs.History.{kept}
+pub use Rattle.lh_types.specs.History.{kept, made_from, bits_after}
 use Rattle.lh_types.specs.declared.part.Range.{Range}
 use Rattle.lh_unit.specs.declared.name.UnitName.{UnitName}
 use Rattle.lh_unit.specs.declared.inst.UnitKind.{UnitKind}
@@ -144,14 +144,9 @@ starts items (i ∷ more) = start (unit_of items i.unit) i ∷ starts items more
 abbrev pub first_world : List ItemText → Design → World
 first_world items d = record { init = d.init; last = None; states = starts items d.instances; history = [] }
 
--- the bits of the last frame, before the first the initial ones
-abbrev pub bits_by : List Made → (init : List Bool) → Option Instant → List Bool
-bits_by history init None = init
-bits_by history init (Some t) = bits_at history init t
-
--- the bits of the last frame of a world
+-- the bits of the last frame of a world, before the first the initial ones
 abbrev pub bits_of : World → List Bool
-bits_of w = bits_by w.history w.init w.last
+bits_of w = bits_after w.history w.init w.last
 
 -- what each instance does in the frame at `t`
 abbrev pub acts_from : Rules → List ItemText → (last : Option Instant) → (old now : List Bool) → Instant → List Instance → List State → List Act
@@ -170,8 +165,7 @@ acts_at bound items d w t =
 
 -- the wishes of a frame, by instance
 abbrev pub made_by : Instant → (instance : ℕ) → List Act → List Made
-made_by t i [] = []
-made_by t i (a ∷ more) = kept t i a.wish ++ made_by t (i + 1) more
+made_by t i done = made_from t i (map (λ (a : Act). a.wish) done)
 
 -- the states after a frame
 abbrev pub afters : List Act → List State

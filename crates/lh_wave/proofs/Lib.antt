@@ -2,7 +2,9 @@ pub mod ValueWalks
 pub mod WireLemmas
 pub mod CodeLemmas
 pub mod FrameLemmas
+pub mod TouchedLemmas
 pub mod Recording
+pub mod Keeping
 pub mod Joined
 pub mod SameValues
 pub mod OwnedLemmas

@@ -1,16 +1,20 @@
 -- Values of the program written one behind the other, and the text that is left.
-use Rattle.std.proofs.Common.{◌≡◌, ℕ, ◌+◌, ◌<◌, ◌≤◌, Bool, true, false, not, List, [], ◌∷◌, ◌++◌, length, get_or, set, take, drop, map, refl, ap, sym, ◌∙◌, append_assoc, cond, eq-eqb, arith}
+use Rattle.std.proofs.Common.{◌≡◌, ℕ, zero, suc, ◌+◌, ◌-◌, ◌<◌, ◌≤◌, Bool, true, false, not, List, [], ◌∷◌, ◌++◌, length, get_or, set, drop, map, refl, ap, sym, ◌∙◌, append_assoc, cond, eq-eqb, arith}
 use Rattle.std.specs.Prelude.{nat_eq, ◌||◌, Result, Ok, Err, OnOk}
 use Rattle.std.proofs.lemmas.Bool.Decides.{nat_tests}
-use Rattle.std.proofs.lemmas.List.{append-nil, drop_all, drop_more, take_more, take_all, length-map, length-take, get_or-map, map-set, set_at}
-use Rattle.lh_types.specs.Values.{Datum}
+use Rattle.std.proofs.lemmas.List.{append-nil, drop_all, drop_more, length-map, get_or-map}
+use Rattle.lh_types.specs.Values.{Datum, int_value}
 use Rattle.lh_types.specs.ValueOf.{datum_of}
+use Rattle.std.specs.List.Sorted.{IsNonDecreasing}
 use Rattle.lh_types.specs.SameValue.{same_datum}
+use Rattle.lh_types.specs.SameValueLaws.{same_datum-refl}
 use Rattle.lh_types.specs.Pictures.{showing_of}
 use Rattle.lh_types.specs.declared.val.Val.{Val}
 use Rattle.lh_types.specs.declared.frame.Change.{Change}
 use Rattle.lh_wave.specs.WaveText.{Moment, value_line, all_lines, differing_lines, time_line, any_differs, changes_at, dump_at, changes_text, dump_text, lasts_from}
+use Rattle.lh_wave.specs.Touched.{IsSameAt}
 use Rattle.lh_wave.specs.Recorded.{changed_values}
+use Rattle.lh_wave.proofs.TouchedLemmas.{DoneBut, DoneBut-end, DoneBut-below, CatchingUp, CatchingUp-end}
 
 -- the values from a place on
 values_drop : (vs : List Val) (i : ℕ) (v : Val) → i < length vs → v ≡ get_or vs i v → drop i (map datum_of vs) ≡ datum_of v ∷ drop (i + 1) (map datum_of vs)
@@ -54,51 +58,67 @@ DifferingWriting-end start to ws vs i p level h =
     let few : length ws ≤ i = omega arith in
     sym (append-nil to) ∙ ap (λ ds. to ++ differing_lines i ds []) (sym (values_end ws i few)) ∙ ap (λ ds. to ++ differing_lines i (drop i (map datum_of ws)) ds) (sym (values_end vs i h)) ∙ p
 
--- none differs so far
-abbrev pub NoneDiffers : (ws vs : List Val) → ℕ → Type 0
-NoneDiffers ws vs i = any_differs (drop i (map datum_of ws)) (drop i (map datum_of vs)) ≡ any_differs (map datum_of ws) (map datum_of vs)
+or_true : (b : Bool) → true ≡ (b || true)
+or_true true = refl
+or_true false = refl
 
-here : (ws vs : List Val) (i : ℕ) (w v : Val) → i < length ws → w ≡ get_or ws i w → i < length vs → v ≡ get_or vs i v
-    → any_differs (drop i (map datum_of ws)) (drop i (map datum_of vs)) ≡ (not (same_datum (datum_of w) (datum_of v)) || any_differs (drop (i + 1) (map datum_of ws)) (drop (i + 1) (map datum_of vs)))
-here ws vs i w v hw ew hv ev =
-    ap (λ ds. any_differs ds (drop i (map datum_of vs))) (values_drop ws i w hw ew) ∙ ap (λ ds. any_differs (datum_of w ∷ drop (i + 1) (map datum_of ws)) ds) (values_drop vs i v hv ev)
+differs_at : (old now : List Datum) (k : ℕ) (w v : Datum) → k < length old → k < length now → get_or old k w ≡ w → get_or now k v ≡ v → same_datum w v ≡ false → true ≡ any_differs old now
+differs_at [] now k w v lw lv ew ev e = absurd (omega arith)
+differs_at (x ∷ old) [] k w v lw lv ew ev e = absurd (omega arith)
+differs_at (x ∷ old) (y ∷ now) zero w v lw lv ew ev e = let d : same_datum x y ≡ false = ap (λ z. same_datum z y) ew ∙ ap (same_datum w) ev ∙ e in ap (λ b. not b || any_differs old now) (sym d)
+differs_at (x ∷ old) (y ∷ now) (suc k) w v lw lv ew ev e = or_true (not (same_datum x y)) ∙ ap (λ b. not (same_datum x y) || b) (differs_at old now k w v (omega arith) (omega arith) ew ev e)
 
-pub NoneDiffers-next : (ws vs : List Val) (i : ℕ) (w v : Val) → NoneDiffers ws vs i → i < length ws → w ≡ get_or ws i w → i < length vs → v ≡ get_or vs i v → same_datum (datum_of w) (datum_of v) ≡ true → NoneDiffers ws vs (i + 1)
-NoneDiffers-next ws vs i w v p hw ew hv ev same =
-    sym (here ws vs i w v hw ew hv ev ∙ ap (λ b. not b || any_differs (drop (i + 1) (map datum_of ws)) (drop (i + 1) (map datum_of vs))) same) ∙ p
+-- some value differs
+pub some_differs : (ws vs : List Val) (k : ℕ) (w v : Val) → k < length ws → k < length vs → w ≡ get_or ws k w → v ≡ get_or vs k v → same_datum (datum_of w) (datum_of v) ≡ false → true ≡ any_differs (map datum_of ws) (map datum_of vs)
+some_differs ws vs k w v lw lv ew ev e =
+    let in_old : k < length (map datum_of ws) = omega (arith, length-map ws datum_of) in
+    let in_now : k < length (map datum_of vs) = omega (arith, length-map vs datum_of) in
+    differs_at (map datum_of ws) (map datum_of vs) k (datum_of w) (datum_of v) in_old in_now (get_or-map datum_of ws k w (datum_of w) lw ∙ ap datum_of (sym ew)) (get_or-map datum_of vs k v (datum_of v) lv ∙ ap datum_of (sym ev)) e
 
-pub NoneDiffers-not : (ws vs : List Val) (i : ℕ) (w v : Val) → NoneDiffers ws vs i → i < length ws → w ≡ get_or ws i w → i < length vs → v ≡ get_or vs i v → same_datum (datum_of w) (datum_of v) ≡ false → true ≡ any_differs (map datum_of ws) (map datum_of vs)
-NoneDiffers-not ws vs i w v p hw ew hv ev other =
-    sym (here ws vs i w v hw ew hv ev ∙ ap (λ b. not b || any_differs (drop (i + 1) (map datum_of ws)) (drop (i + 1) (map datum_of vs))) other) ∙ p
+same_differ : (vs : List Datum) → false ≡ any_differs vs vs
+same_differ [] = refl
+same_differ (v ∷ vs) = same_differ vs ∙ ap (λ b. not b || any_differs vs vs) (sym (same_datum-refl v))
 
-pub NoneDiffers-end : (ws vs : List Val) (i : ℕ) → NoneDiffers ws vs i → length ws ≡ length vs → length vs ≤ i → false ≡ any_differs (map datum_of ws) (map datum_of vs)
-NoneDiffers-end ws vs i p level h =
-    let few : length ws ≤ i = omega arith in
-    sym (ap (λ ds. any_differs ds (drop i (map datum_of vs))) (values_end ws i few)) ∙ p
+-- none differs, all that were touched being done
+pub none_differs : (ks : List ℕ) (i : ℕ) (ws vs : List Val) → CatchingUp ks i ws vs → length ws ≡ length vs → length ks ≤ i → false ≡ any_differs (map datum_of ws) (map datum_of vs)
+none_differs ks i ws vs h level past = same_differ (map datum_of vs) ∙ ap (λ l. any_differs l (map datum_of vs)) (sym (CatchingUp-end ks i ws vs h level past))
 
--- the values that were caught up so far
-pub record CaughtUp (old : List Datum) (now : List Datum) (written : List Datum) (i : ℕ) : Type 0 where
-  pub values : written ≡ take i now ++ drop i old
+-- values that are the same in both lists have no lines
+passed_over : (n : ℕ) (old now : List Datum) (low k : ℕ) → low + n ≡ k → k ≤ length old → k ≤ length now → ((j : ℕ) → low ≤ j → j < k → IsSameAt old now j)
+    → differing_lines k (drop k old) (drop k now) ≡ differing_lines low (drop low old) (drop low now)
+passed_over zero old now low k e lo ln h = let s : k ≡ low = omega arith in ap (λ m. differing_lines m (drop m old) (drop m now)) s
+passed_over (suc n) old now low k e lo ln h =
+    let in_old : low < length old = omega arith in
+    let in_now : low < length now = omega arith in
+    let d = get_or old low (int_value 0 0) in
+    let same : same_datum d (get_or now low (int_value 0 0)) ≡ true = ap (same_datum d) (sym (h low (omega arith) (omega arith) (int_value 0 0))) ∙ same_datum-refl d in
+    passed_over n old now (low + 1) k (omega arith) lo ln (λ j l m. h j (omega arith) m)
+    ∙ ap (λ b. cond b [] (value_line low (get_or now low (int_value 0 0))) ++ differing_lines (low + 1) (drop (low + 1) old) (drop (low + 1) now)) (sym same)
+    ∙ ap (λ ds. differing_lines low (d ∷ drop (low + 1) old) ds) (sym (drop_more now low (int_value 0 0) in_now))
+    ∙ ap (λ ds. differing_lines low ds (drop low now)) (sym (drop_more old low (int_value 0 0) in_old))
 
-pub CaughtUp-next : (old now : List Datum) (ws vs : List Val) (i : ℕ) (n : Val) (v : Val) → length old ≡ length now → map datum_of vs ≡ now → CaughtUp old now (map datum_of ws) i → i < length vs → v ≡ get_or vs i v → n ≡ v
-    → CaughtUp old now (map datum_of (set ws i n)) (i + 1)
-CaughtUp-next old now ws vs i n v level is p h e same =
-    let inside : i < length now = omega (arith, length-map vs datum_of, ap length is) in
-    let within : i < length old = omega arith in
-    let front : length (take i now) ≡ i = omega (arith, length-take i now) in
-    let at : get_or now i (datum_of v) ≡ datum_of v = ap (λ l. get_or l i (datum_of v)) (sym is) ∙ get_or-map datum_of vs i v (datum_of v) h ∙ ap datum_of (sym e) in
-    let split : drop i old ≡ get_or old i (datum_of v) ∷ drop (i + 1) old = drop_more old i (datum_of v) within in
-    let front_more : take (i + 1) now ≡ take i now ++ datum_of v ∷ [] = take_more now i (datum_of v) inside ∙ ap (λ d. take i now ++ d ∷ []) at in
-    record {
-      values = map-set datum_of ws i n ∙ ap (λ d. set (map datum_of ws) i d) (ap datum_of same) ∙ ap (λ l. set l i (datum_of v)) (p.values ∙ ap (λ l. take i now ++ l) split)
-          ∙ set_at (take i now) (get_or old i (datum_of v)) (drop (i + 1) old) (datum_of v) i front
-          ∙ sym (append_assoc (take i now) (datum_of v ∷ []) (drop (i + 1) old)) ∙ ap (λ l. l ++ drop (i + 1) old) (sym front_more);
-    }
+DifferingWriting-over : (start to : List ℕ) (ws vs : List Val) (low k : ℕ) → DifferingWriting start to ws vs low → length ws ≡ length vs → low ≤ k → k ≤ length vs
+    → ((j : ℕ) → low ≤ j → j < k → IsSameAt (map datum_of ws) (map datum_of vs) j) → DifferingWriting start to ws vs k
+DifferingWriting-over start to ws vs low k p level l m h =
+    let in_old : k ≤ length (map datum_of ws) = omega (arith, length-map ws datum_of) in
+    let in_now : k ≤ length (map datum_of vs) = omega (arith, length-map vs datum_of) in
+    ap (λ lines. to ++ lines) (passed_over (k - low) (map datum_of ws) (map datum_of vs) low k (omega arith) in_old in_now h) ∙ p
 
-pub CaughtUp-end : (old now written : List Datum) (i : ℕ) → length old ≡ length now → CaughtUp old now written i → length now ≤ i → written ≡ now
-CaughtUp-end old now written i level p h =
-    let few : length old ≤ i = omega arith in
-    p.values ∙ ap (λ l. take i now ++ l) (drop_all i old few) ∙ append-nil (take i now) ∙ take_all i now h
+-- the line of the next signal that was touched, if it has one, is written
+pub DifferingWriting-touched : (ks : List ℕ) (i low : ℕ) (start to next : List ℕ) (ws vs : List Val) (w v : Val) → DoneBut ks i low (IsSameAt (map datum_of ws) (map datum_of vs)) → IsNonDecreasing ks → length ws ≡ length vs
+    → low ≤ get_or ks i 0 → get_or ks i 0 < length vs → DifferingWriting start to ws vs low → w ≡ get_or ws (get_or ks i 0) w → v ≡ get_or vs (get_or ks i 0) v → next ≡ to ++ line_if_differs (get_or ks i 0) (datum_of w) (datum_of v)
+    → DifferingWriting start next ws vs (get_or ks i 0 + 1)
+DifferingWriting-touched ks i low start to next ws vs w v h up level l m p ew ev g =
+    let k = get_or ks i 0 in
+    DifferingWriting-next start to next ws vs k w v
+    (DifferingWriting-over start to ws vs low k p level l (omega arith) (λ j a b. DoneBut-below ks i low (IsSameAt (map datum_of ws) (map datum_of vs)) h up j a b)) (omega arith) ew m ev g
+
+-- no line is left, all that were touched being done
+pub DifferingWriting-rest : (ks : List ℕ) (i low : ℕ) (start to : List ℕ) (ws vs : List Val) → DoneBut ks i low (IsSameAt (map datum_of ws) (map datum_of vs)) → length ws ≡ length vs → length ks ≤ i → low ≤ length vs
+    → DifferingWriting start to ws vs low → to ≡ start ++ differing_lines 0 (map datum_of ws) (map datum_of vs)
+DifferingWriting-rest ks i low start to ws vs h level past m p =
+    DifferingWriting-end start to ws vs (length vs)
+    (DifferingWriting-over start to ws vs low (length vs) p level m (omega arith) (λ j a b. DoneBut-end ks i low (IsSameAt (map datum_of ws) (map datum_of vs)) h past j a)) level (omega arith)
 
 -- the values after some of the changes
 abbrev pub Changing : (start : List Datum) → (now : List Val) → List Change → ℕ → Type 0
@@ -154,20 +174,6 @@ pub values_on : {T E : Type 0} (r : Result T E) (now now' next : List Datum) (sh
 values_on (Ok x) now now' next shown all n e g = g ∙ ap (λ l. changed_values l (map showing_of shown)) n ∙ ap (λ l. changed_values now (map showing_of l)) e
 values_on (Err x) now now' next shown all n e g = tt
 
-pub same_time_on : {T E : Type 0} (r : Result T E) (dumped : Bool) (written : List Datum) (fs at : ℕ) (now next : List Datum) (to : List ℕ) (shown all : List Change) → at ≡ fs → shown ≡ all → OnOk r (next ≡ changed_values now (map showing_of shown))
-    → OnOk r ((ms : List Moment) → to ++ left_by dumped written (record { fs = fs; values = next }) ms ≡ to ++ left_by dumped written (record { fs = fs; values = now }) (record { fs = at; values = changed_values now (map showing_of all) } ∷ ms))
-same_time_on (Ok x) dumped written fs at now next to shown all e s g = λ ms. same_time dumped written fs at now next (changed_values now (map showing_of all)) to ms e (g ∙ ap (λ l. changed_values now (map showing_of l)) s)
-same_time_on (Err x) dumped written fs at now next to shown all e s g = tt
-
-pub later_time_on : {T E : Type 0} (r : Result T E) (dumped dumped' : Bool) (written written' : List Datum) (fs at : ℕ) (now now' next : List Datum) (old_to to : List ℕ) (shown all : List Change)
-    → (at ≡ fs → ⊥) → dumped' ≡ true → written' ≡ now → now' ≡ now → to ≡ old_to ++ left_by dumped written (record { fs = fs; values = now }) [] → shown ≡ all → OnOk r (next ≡ changed_values now' (map showing_of shown))
-    → OnOk r ((ms : List Moment) → to ++ left_by dumped' written' (record { fs = at; values = next }) ms ≡ old_to ++ left_by dumped written (record { fs = fs; values = now }) (record { fs = at; values = changed_values now (map showing_of all) } ∷ ms))
-later_time_on (Ok x) dumped dumped' written written' fs at now now' next old_to to shown all other d w n t s g = λ ms.
-    ap (λ b. to ++ left_by b written' (record { fs = at; values = next }) ms) d ∙ ap (λ l. to ++ left_by true l (record { fs = at; values = next }) ms) w
-    ∙ later_time dumped written fs at now next (changed_values now (map showing_of all)) old_to to ms (other_number fs at other)
-    (g ∙ ap (λ l. changed_values l (map showing_of shown)) n ∙ ap (λ l. changed_values now (map showing_of l)) s) t
-later_time_on (Err x) dumped dumped' written written' fs at now now' next old_to to shown all other d w n t s g = tt
-
 pub left_first : {T E : Type 0} (r : Result T E) (dumped : Bool) (written : List Datum) (m : Moment) (to next : List ℕ) → dumped ≡ false → OnOk r (next ≡ to ++ dump_at m) → OnOk r (next ≡ to ++ left_by dumped written m [])
 left_first (Ok x) dumped written m to next d g = g ∙ ap (λ l. to ++ l) (sym (append-nil (dump_at m))) ∙ ap (λ b. to ++ left_by b written m []) (sym d)
 left_first (Err x) dumped written m to next d g = tt
@@ -196,14 +202,11 @@ none_text dumped fs ws written vs present to d w v e =
     left_none dumped (map datum_of written) (record { fs = fs; values = map datum_of present }) to d
     (ap (λ l. any_differs (map datum_of l) (map datum_of present)) (sym w) ∙ ap (λ l. any_differs (map datum_of ws) (map datum_of l)) (sym v) ∙ e)
 
-pub some_text : {T E : Type 0} (r : Result T E) (dumped : Bool) (fs : ℕ) (ws ws' written vs vs' present : List Val) (to timed next : List ℕ) → dumped ≡ true → ws ≡ written → vs ≡ present → ws' ≡ written → vs' ≡ present
-    → any_differs (map datum_of ws) (map datum_of vs) ≡ true → timed ≡ to ++ time_line fs → OnOk r (next ≡ timed ++ differing_lines 0 (map datum_of ws') (map datum_of vs'))
+pub some_text : {T E : Type 0} (r : Result T E) (dumped : Bool) (fs : ℕ) (ws written vs present : List Val) (to timed next : List ℕ) → dumped ≡ true → ws ≡ written → vs ≡ present
+    → any_differs (map datum_of ws) (map datum_of vs) ≡ true → timed ≡ to ++ time_line fs → OnOk r (next ≡ timed ++ differing_lines 0 (map datum_of ws) (map datum_of vs))
     → OnOk r (next ≡ to ++ left_by dumped (map datum_of written) (record { fs = fs; values = map datum_of present }) [])
-some_text (Ok x) dumped fs ws ws' written vs vs' present to timed next d w v w' v' e t g =
+some_text (Ok x) dumped fs ws written vs present to timed next d w v e t g =
     left_some {T = Bool} {E = Bool} (Ok true) dumped (map datum_of written) (record { fs = fs; values = map datum_of present }) to timed next d
     (ap (λ l. any_differs (map datum_of l) (map datum_of present)) (sym w) ∙ ap (λ l. any_differs (map datum_of ws) (map datum_of l)) (sym v) ∙ e) t
-    (g ∙ ap (λ l. timed ++ differing_lines 0 (map datum_of l) (map datum_of vs')) w' ∙ ap (λ l. timed ++ differing_lines 0 (map datum_of written) (map datum_of l)) v')
-some_text (Err x) dumped fs ws ws' written vs vs' present to timed next d w v w' v' e t g = tt
-
-pub same_length : (a b : List Val) → map datum_of a ≡ map datum_of b → length a ≡ length b
-same_length a b e = sym (length-map a datum_of) ∙ ap length e ∙ length-map b datum_of
+    (g ∙ ap (λ l. timed ++ differing_lines 0 (map datum_of l) (map datum_of vs)) w ∙ ap (λ l. timed ++ differing_lines 0 (map datum_of written) (map datum_of l)) v)
+some_text (Err x) dumped fs ws written vs present to timed next d w v e t g = tt

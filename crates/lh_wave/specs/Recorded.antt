@@ -1,9 +1,10 @@
 -- A waveform while its frames come: what of its text is still to be written.
-use Rattle.std.specs.Prelude.{◌≡◌, ℕ, List, [], ◌∷◌, length, map, slice_set, if◌then◌else◌}
+use Rattle.std.specs.Prelude.{◌≡◌, ℕ, List, [], ◌∷◌, length, map, slice_set, false, if◌then◌else◌}
 use Rattle.lh_types.specs.Values.{Datum}
 use Rattle.lh_types.specs.ValueOf.{datum_of}
 use Rattle.lh_types.specs.Pictures.{Showing, Picture}
 use Rattle.lh_wave.specs.declared.waveform.Waveform.{Waveform}
+use Rattle.lh_wave.specs.Touched.{is_touched, IsNoted, IsSameAt}
 use Rattle.lh_wave.specs.WaveText.{Moment, lasts_from, dump_text, changes_text}
 
 -- values after some of them changed
@@ -32,6 +33,8 @@ abbrev pub left_text : Waveform → List Moment → List ℕ
 left_text w ms =
     if w.dumped then changes_text (map datum_of w.written.items) (lasts_from (moment_now w) ms) else dump_text (lasts_from (moment_now w) ms)
 
--- the values written last are of the same signals
-abbrev pub IsKept : Waveform → Type 0
-IsKept w = length w.written.items ≡ length w.present.items
+-- The values written last are of the same signals, and a signal that was not touched since has its present value there.
+pub record IsKept (w : Waveform) : Type 0 where
+  pub level : length w.written.items ≡ length w.present.items
+  pub noted : IsNoted w.touched (length w.present.items)
+  pub untouched : (k : ℕ) → is_touched w.touched k ≡ false → IsSameAt (map datum_of w.written.items) (values_now w) k

@@ -12,6 +12,7 @@ mod scribe;
 mod teller;
 #[cfg(test)]
 mod tests;
+mod touched;
 pub mod trace;
 pub mod value;
 pub mod waveform;

@@ -1,11 +1,14 @@
 //! The waveform of a run, as its frames come.
-ghost use Rattle.std.specs.Prelude.{◌≡◌, ◌∷◌, [], ◌++◌, List, OnOk, IfOk, true, length, map, slice_set, if◌then◌else◌};
+ghost use Rattle.std.specs.Prelude.{◌≡◌, ◌<◌, ◌∷◌, [], ◌++◌, ℕ, List, OnOk, IfOk, true, length, map, slice_set, All, if◌then◌else◌};
+ghost use Rattle.std.specs.List.Sorted.{IsNonDecreasing};
 ghost use Rattle.lh_types.specs.ValueOf.{datum_of};
 ghost use Rattle.lh_types.specs.SameValue.{same_datum};
 ghost use Rattle.lh_types.specs.Pictures.{showing_of, picture};
 ghost use Rattle.lh_wave.specs.WaveText.{Moment, value_line, all_lines, differing_lines, any_differs, dump_at, changes_at, waveform_text};
+ghost use Rattle.lh_wave.specs.Touched.{IsSameBut};
 ghost use Rattle.lh_wave.specs.Recorded.{IsKept, values_now, moment_now, first_moment, next_moment, left_text, changed_values};
 
+use crate::touched::Touched;
 use crate::wire::{put_time, put_wire};
 use lh_types::frame::{Change, Frame};
 use lh_types::text::put;
@@ -24,6 +27,8 @@ pub struct Waveform {
     // The values of all signals as they were written last, and as they are now.
     written: Vec<Val>,
     present: Vec<Val>,
+    // The signals that have changed since: of all others the two values are the same.
+    touched: Touched,
 }
 
 impl Waveform {
@@ -35,11 +40,13 @@ impl Waveform {
     {
         let present = values_of(alloc, first.changes.as_slice())?;
         let written = values_of(alloc, first.changes.as_slice())?;
+        let touched = Touched::none(alloc, present.len())?;
         Ok(Waveform {
             fs: first.at.fs,
             dumped: false,
             written,
             present,
+            touched,
         })
     }
 
@@ -53,11 +60,11 @@ impl Waveform {
             to.new.items ++ left_text self.new ms ≡ to.old.items ++ left_text self.old (next_moment (values_now self.old) (picture f.now) ∷ ms)) }
     {
         if f.at.fs == self.fs {
-            return change_values(&mut self.present, f.changes.as_slice());
+            return self.change_values(f.changes.as_slice());
         }
         self.write(to)?;
         self.fs = f.at.fs;
-        change_values(&mut self.present, f.changes.as_slice())
+        self.change_values(f.changes.as_slice())
     }
 
     /// Puts what is still to be written at the end of `to`: the text of the last time. After `NoMemory`
@@ -70,25 +77,62 @@ impl Waveform {
         ensures dumped { OnOk result (self.new.dumped ≡ true) }
         ensures same { OnOk result (moment_now self.new ≡ moment_now self.old) }
     {
+        self.touched.sort();
         self.put_time_text(to)?;
-        catch_up(&mut self.written, &self.present)?;
+        catch_up(&mut self.written, &self.present, self.touched.numbers())?;
+        self.touched.clear();
         self.dumped = true;
         Ok(())
     }
 
-    // Puts the text of the time that is not written yet.
+    // Puts the text of the time that is not written yet, the touched signals being in order.
     fn put_time_text(&self, to: &mut Vec<u8>) -> Result<(), NoMemory>
-        requires { IsKept self.now }
+        requires kept { IsKept self.now }
+        requires rising { IsNonDecreasing self.now.touched.numbers.items }
         ensures { OnOk result (to.new.items ≡ to.old.items ++ left_text self.now []) }
     {
         if !self.dumped {
             return put_dump(to, self.fs, &self.present);
         }
-        if !differ(&self.written, &self.present) {
+        let (written, now) = (self.written.as_slice(), self.present.as_slice());
+        let touched = self.touched.numbers();
+        if !differ(written, now, touched) {
             return Ok(());
         }
         put_time(to, self.fs)?;
-        put_differing(to, &self.written, &self.present)
+        put_differing(to, written, now, touched)
+    }
+
+    // Takes the values that changes show.
+    fn change_values(&mut self, changes: &[Change]) -> Result<(), NoMemory>
+        requires { IsKept self.old }
+        ensures kept { OnOk result (IsKept self.new) }
+        ensures values { OnOk result (values_now self.new ≡ changed_values (values_now self.old) (map showing_of changes.now)) }
+        ensures fs { OnOk result (self.new.fs ≡ self.old.fs) }
+        ensures dumped { OnOk result (self.new.dumped ≡ self.old.dumped) }
+        ensures written { OnOk result (self.new.written ≡ self.old.written) }
+    {
+        for c in changes {
+            self.change_value(c)?;
+        }
+        Ok(())
+    }
+
+    // Takes the value that a change shows, if there is such a signal.
+    fn change_value(&mut self, c: &Change) -> Result<(), NoMemory>
+        requires { IsKept self.old }
+        ensures kept { OnOk result (IsKept self.new) }
+        ensures values { OnOk result (values_now self.new ≡ slice_set (values_now self.old) c.now.signal (datum_of c.now.value)) }
+        ensures fs { OnOk result (self.new.fs ≡ self.old.fs) }
+        ensures dumped { OnOk result (self.new.dumped ≡ self.old.dumped) }
+        ensures written { OnOk result (self.new.written ≡ self.old.written) }
+    {
+        let k = c.signal as usize;
+        if k >= self.present.len() {
+            return Ok(());
+        }
+        self.present[k] = c.value.copy()?;
+        self.touched.add(k)
     }
 }
 
@@ -104,37 +148,15 @@ fn values_of(alloc: Global, changes: &[Change]) -> Result<Vec<Val>, NoMemory>
     Ok(values)
 }
 
-// Writes the values that changes show over those of the same signals.
-fn change_values(now: &mut Vec<Val>, changes: &[Change]) -> Result<(), NoMemory>
-    ensures changed { OnOk result (map datum_of now.new.items ≡ changed_values (map datum_of now.old.items) (map showing_of changes.now)) }
-    ensures level { OnOk result (length now.new.items ≡ length now.old.items) }
-{
-    for c in changes {
-        change_value(now, c)?;
-    }
-    Ok(())
-}
-
-// Writes the value that a change shows over that of the same signal, if there is such a signal.
-fn change_value(now: &mut Vec<Val>, c: &Change) -> Result<(), NoMemory>
-    ensures changed { OnOk result (map datum_of now.new.items ≡ slice_set (map datum_of now.old.items) c.now.signal (datum_of c.now.value)) }
-    ensures level { OnOk result (length now.new.items ≡ length now.old.items) }
-{
-    let k = c.signal as usize;
-    if k >= now.len() {
-        return Ok(());
-    }
-    now[k] = c.value.copy()?;
-    Ok(())
-}
-
-// Writes each value over the one of the same signal.
-fn catch_up(written: &mut Vec<Val>, now: &[Val]) -> Result<(), NoMemory>
-    requires { length written.old.items ≡ length now.now }
+// Writes the present values of the touched signals over those that were written last.
+fn catch_up(written: &mut Vec<Val>, now: &[Val], touched: &[usize]) -> Result<(), NoMemory>
+    requires level { length written.old.items ≡ length now.now }
+    requires within { All (λ (k : ℕ). k < length now.now) touched.now }
+    requires others { IsSameBut touched.now (map datum_of written.old.items) (map datum_of now.now) }
     ensures { OnOk result (map datum_of written.new.items ≡ map datum_of now.now) }
 {
-    for (k, v) in now.iter().enumerate() {
-        written[k] = v.copy()?;
+    for &k in touched {
+        written[k] = now[k].copy()?;
     }
     Ok(())
 }
@@ -159,26 +181,42 @@ fn put_all(to: &mut Vec<u8>, now: &[Val]) -> Result<(), NoMemory>
     Ok(())
 }
 
-// Whether the value of some signal differs from the one that was written last.
-fn differ(written: &[Val], now: &[Val]) -> bool
-    requires { length written.now ≡ length now.now }
+// Whether the value of some touched signal differs from the one that was written last.
+fn differ(written: &[Val], now: &[Val], touched: &[usize]) -> bool
+    requires level { length written.now ≡ length now.now }
+    requires within { All (λ (k : ℕ). k < length now.now) touched.now }
+    requires others { IsSameBut touched.now (map datum_of written.now) (map datum_of now.now) }
     ensures { result ≡ any_differs (map datum_of written.now) (map datum_of now.now) }
 {
-    for (k, v) in now.iter().enumerate() {
-        if written[k] != *v {
+    for &k in touched {
+        if written[k] != now[k] {
             return true;
         }
     }
     false
 }
 
-// Puts the lines of the signals that differ from the values that were written last.
-fn put_differing(to: &mut Vec<u8>, written: &[Val], now: &[Val]) -> Result<(), NoMemory>
-    requires { length written.now ≡ length now.now }
+// Puts the lines of the touched signals, in order, that differ from the values that were written last. A number that stands twice
+// is passed over the second time.
+fn put_differing(
+    to: &mut Vec<u8>,
+    written: &[Val],
+    now: &[Val],
+    touched: &[usize],
+) -> Result<(), NoMemory>
+    requires level { length written.now ≡ length now.now }
+    requires within { All (λ (k : ℕ). k < length now.now) touched.now }
+    requires others { IsSameBut touched.now (map datum_of written.now) (map datum_of now.now) }
+    requires rising { IsNonDecreasing touched.now }
     ensures { OnOk result (to.new.items ≡ to.old.items ++ differing_lines 0 (map datum_of written.now) (map datum_of now.now)) }
 {
-    for (k, v) in now.iter().enumerate() {
-        put_if_differs(to, k as u64, &written[k], v)?;
+    let mut next = 0;
+    for &k in touched {
+        if k < next {
+            continue;
+        }
+        put_if_differs(to, k as u64, &written[k], &now[k])?;
+        next = k + 1;
     }
     Ok(())
 }

@@ -1,9 +1,9 @@
 //! Values and times of a waveform.
-ghost use Rattle.std.specs.Prelude.{◌≡◌, ◌≤◌, ◌∷◌, [], ◌++◌, OnOk, map, reverse, take, drop, vec_len};
+ghost use Rattle.std.specs.Prelude.{◌≡◌, ◌≢◌, ◌≤◌, ◌∷◌, [], ◌++◌, OnOk, map, reverse, take, drop, vec_len};
 ghost use Rattle.lh_types.specs.Values.{data_row};
 ghost use Rattle.lh_types.specs.ValueOf.{datum_of};
 ghost use Rattle.lh_types.specs.Bits.{value_bits, row_bits, number_bits};
-ghost use Rattle.lh_wave.specs.WaveText.{bit_byte, marked_bits, value_line, time_line};
+ghost use Rattle.lh_wave.specs.WaveText.{bit_byte, bits_text, marked_bits, value_line, time_line};
 
 use crate::code::put_code;
 use lh_types::text::{put, put_number};
@@ -22,6 +22,43 @@ pub fn put_wire(to: &mut Vec<u8>, signal: u64, v: &Val) -> Result<(), NoMemory>
 
 // Puts the bits of a value, between a `b` and a space where they are not one.
 fn put_bits(to: &mut Vec<u8>, v: &Val) -> Result<(), NoMemory>
+    ensures { OnOk result (to.new.items ≡ to.old.items ++ marked_bits (value_bits (datum_of v.now))) }
+{
+    match v {
+        Val::Int { width: 1, bits } => put_bit(to, bits % 2 == 1),
+        Val::Int { width, bits } if *width <= 128 => put_vector(to, *width, *bits),
+        _ => put_parts(to, v),
+    }
+}
+
+// Puts the lowest `width` bits of a number, highest first, between a `b` and a space.
+fn put_vector(to: &mut Vec<u8>, width: u32, number: u128) -> Result<(), NoMemory>
+    requires narrow { width ≤ 128 }
+    requires many { width ≢ 1 }
+    ensures { OnOk result (to.new.items ≡ to.old.items ++ marked_bits (number_bits width number)) }
+{
+    let digits = digits_of(width, number);
+    put(to, b"b")?;
+    put(to, &digits[..width as usize])?;
+    put(to, b" ")
+}
+
+// The lowest `width` bits of a number, highest first, in front.
+fn digits_of(width: u32, number: u128) -> [u8; 128]
+    requires { width ≤ 128 }
+    ensures { take width result ≡ bits_text (number_bits width number) }
+{
+    let mut digits = [b'0'; 128];
+    let mut rest = number;
+    for i in 0..width as usize {
+        digits[width as usize - 1 - i] = bit_digit(rest % 2 == 1);
+        rest /= 2;
+    }
+    digits
+}
+
+// Puts the bits of a value of parts: first lowest first, then turned round.
+fn put_parts(to: &mut Vec<u8>, v: &Val) -> Result<(), NoMemory>
     ensures { OnOk result (to.new.items ≡ to.old.items ++ marked_bits (value_bits (datum_of v.now))) }
 {
     let start = to.len();
@@ -90,10 +127,16 @@ fn put_number_bits(to: &mut Vec<u8>, width: u32, number: u128) -> Result<(), NoM
 fn put_bit(to: &mut Vec<u8>, bit: bool) -> Result<(), NoMemory>
     ensures { OnOk result (to.new.items ≡ to.old.items ++ bit_byte bit ∷ []) }
 {
-    match to.push(if bit { b'1' } else { b'0' }) {
+    match to.push(bit_digit(bit)) {
         Ok(()) => Ok(()),
         Err(_) => Err(NoMemory),
     }
+}
+
+fn bit_digit(bit: bool) -> u8
+    ensures { result ≡ bit_byte bit }
+{
+    b'0' + u8::from(bit)
 }
 
 /// Puts the line of a time, in femtoseconds, at the end of a text. After `NoMemory` nothing is said of

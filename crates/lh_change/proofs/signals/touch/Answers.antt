@@ -5,7 +5,7 @@ use Rattle.lh_change.proofs.signals.touch.Goals as goal
 
 pub overflow_add-signal-end : goal.overflow_add-signal-end
 overflow_add-signal-end c =
-    let n = number_le 0 (length c.args.design.now.init) c.args.design.now.signals.items c.signal_at-last.result (c.end_of-end.result - 1) c.requires.fill c.signal_at-last.ensures in
+    let n = number_le 0 (length c.args.design.now.init) c.args.design.now.signals.items c.signal_near-last.result (c.end_of-end.result - 1) c.requires.fill c.signal_near-last.ensures in
     omega (arith, n)
 
 pub loop-signal-preserved : goal.loop-signal-preserved
@@ -13,5 +13,5 @@ loop-signal-preserved c = entered_more c.args.touched.now c.loop-signal.touched 
 
 pub returns : goal.returns
 returns c =
-    row_entered (length c.args.design.now.init) c.args.design.now.signals.items c.args.lo c.args.len c.end_of-end.result c.signal_at-first.result c.signal_at-last.result c.loop-signal.signal c.args.touched.now c.loop-signal.touched
-    c.requires.fill (omega arith) c.end_of-end.ensures c.signal_at-first.ensures c.signal_at-last.ensures c.loop-signal-test.false c.loop-signal.auto.signal-end c.loop-signal.invariant
+    row_entered (length c.args.design.now.init) c.args.design.now.signals.items c.args.lo c.args.len c.end_of-end.result c.signal_at-first.result c.signal_near-last.result c.loop-signal.signal c.args.touched.now c.loop-signal.touched
+    c.requires.fill (omega arith) c.end_of-end.ensures c.signal_at-first.ensures c.signal_near-last.ensures c.loop-signal-test.false c.loop-signal.auto.signal-end c.loop-signal.invariant

@@ -15,6 +15,9 @@ use Rattle.lh_eval.proofs.BeginSteps.{entity-blocks, entity-insts, entity-lines}
 use Rattle.lh_sound.proofs.FitLaws.{unit-is-sound, begins-fit}
 use Rattle.lh_react.proofs.PassFits.{WishWithin, pass-seen, pass-within, writes-within}
 use Rattle.lh_sound.proofs.EachItem.{each-of-map}
+use Rattle.lh_sound.specs.Finding.{FindsAll}
+use Rattle.lh_sound.proofs.FindingPass.{passes-find}
+use Rattle.lh_react.specs.Quiet.{begins_with, IsStill}
 use Rattle.lh_react.proofs.entity.run_entity.Goals as goal
 
 pub begin-requires-clause-within : goal.begin-requires-clause-within
@@ -46,8 +49,41 @@ run_insts-requires-clause-fit c =
     let u = c.args.unit.0 in
     record {
       passed = record { held = parts_of (unit_text_at m u) c.args.args.now c.args.sigs.now; seen = []; wish = no_wish };
-      stands = record { holds = c.in_ok-slots.ensures; seen = c.new.ensures; wish = c.new-2.ensures };
+      stands = record { holds = c.in_ok-slots.ensures; seen = c.new-2.ensures; wish = c.new-3.ensures };
       fits = begins-fit m u c.blocks-2.ensures.sound c.requires.unit c.requires.formed c.requires.entity c.args.args.now c.args.sigs.now (length c.args.now.now) c.requires.fits;
+    }
+
+pub quiet-requires-clause-insts : goal.quiet-requires-clause-insts
+quiet-requires-clause-insts c =
+    let m = c.args.m.now in
+    let u = c.args.unit.0 in
+    c.insts-insts.ensures.insts ∙ ap (λ (bs : List BlockId). block_insts_at m u (get_or bs 0 entity_block).0) (c.blocks-2.ensures.blocks ∙ entity-blocks m u c.blocks-2.ensures.sound c.requires.unit c.requires.entity)
+
+pub returns-in-Some : goal.returns-in-Some
+unfolding pass
+returns-in-Some c =
+    let m = c.args.m.now in
+    let u = c.args.unit.0 in
+    let o = c.blocks-2.ensures.sound in
+    let text = unit_text_at m u in
+    let w = length c.args.now.now in
+    let eq : c.insts-insts.result.now ≡ block_insts_at m u 0 = c.insts-insts.ensures.insts ∙ ap (λ (bs : List BlockId). block_insts_at m u (get_or bs 0 entity_block).0) (c.blocks-2.ensures.blocks ∙ entity-blocks m u o c.requires.unit c.requires.entity) in
+    let p : Passed = begins_with (parts_of text c.args.args.now c.args.sigs.now) in
+    let ls : map (line_in m u) c.insts-insts.result.now ≡ lines_of text.blocks = ap (map (line_in m u)) eq ∙ sym (entity-lines m u o c.requires.unit c.requires.entity) in
+    let z : Passed = pass_from text c.args.now.now c.args.state.now c.args.at p (lines_of text.blocks) in
+    let found : FindsAll text c.args.now.now c.args.state.now c.args.at p (map (line_in m u) c.insts-insts.result.now) =
+    subst (FindsAll text c.args.now.now c.args.state.now c.args.at p) (sym ls) (passes-find m u o c.requires.unit c.requires.formed c.requires.entity c.args.args.now c.args.sigs.now c.args.now.now c.args.state.now c.args.at c.requires.fits) in
+    let told = rw c.in-Some.is at c.in_ok-seen.ensures in
+    let still : IsStill z c.in-Some.seen = subst (λ (q : Passed). IsStill q c.in-Some.seen) (ap (pass_from text c.args.now.now c.args.state.now c.args.at p) ls)
+    (told (parts_of text c.args.args.now c.args.sigs.now) c.args.at (c.args.sigs.now, refl) found) in
+    let next : c.after.result ≡ Some z.seen = c.after.ensures ∙ ap Some (sym still.seen) in
+    let seen : length z.seen ≡ trigger_count (lines_of text.blocks) = omega (arith, pass-seen text c.args.now.now c.args.state.now c.args.at (lines_of text.blocks) p) in
+    record {
+      next = next;
+      fits = subst (StateFits text) (sym next) seen;
+      wish = ap writes_wish c.new.ensures ∙ sym still.wish;
+      grouped = rw c.new.ensures tt;
+      within = rw c.new.ensures tt;
     }
 
 pub returns : goal.returns
@@ -58,7 +94,7 @@ returns c =
     let o = c.blocks-2.ensures.sound in
     let eq : c.insts-insts.result.now ≡ block_insts_at m u 0 = c.insts-insts.ensures.insts ∙ ap (λ (bs : List BlockId). block_insts_at m u (get_or bs 0 entity_block).0) (c.blocks-2.ensures.blocks ∙ entity-blocks m u o c.requires.unit c.requires.entity) in
     let p : Passed = record { held = parts_of (unit_text_at m u) c.args.args.now c.args.sigs.now; seen = []; wish = no_wish } in
-    let st : Stands m u p (record { slots = c.in_ok-slots.slots; seen = c.new.result; wishes = c.new-2.result }) = record { holds = c.in_ok-slots.ensures; seen = c.new.ensures; wish = c.new-2.ensures } in
+    let st : Stands m u p (record { slots = c.in_ok-slots.slots; seen = c.new-2.result; wishes = c.new-3.result }) = record { holds = c.in_ok-slots.ensures; seen = c.new-2.ensures; wish = c.new-3.ensures } in
     let ls : map (line_in m u) c.insts-insts.result.now ≡ lines_of (unit_text_at m u).blocks = ap (map (line_in m u)) eq ∙ sym (entity-lines m u o c.requires.unit c.requires.entity) in
     let all : passed_all m u c.args.now.now c.args.state.now c.args.at p c.insts-insts.result.now ≡ pass_from (unit_text_at m u) c.args.now.now c.args.state.now c.args.at p (lines_of (unit_text_at m u).blocks) =
     ap (pass_from (unit_text_at m u) c.args.now.now c.args.state.now c.args.at p) ls in
@@ -66,7 +102,7 @@ returns c =
     let text = unit_text_at m u in
     let w = length c.args.now.now in
     let z : Passed = pass_from text c.args.now.now c.args.state.now c.args.at p (lines_of text.blocks) in
-    let next : c.after.result ≡ Some z.seen = c.after.ensures ∙ ap Some end.seen in
+    let next : c.after-2.result ≡ Some z.seen = c.after-2.ensures ∙ ap Some end.seen in
     let wish : writes_wish c.in_ok-wishes.wishes ≡ z.wish = c.in_ok-wishes.ensures.wish ∙ end.wish in
     let seen : length z.seen ≡ trigger_count (lines_of text.blocks) = omega (arith, pass-seen text c.args.now.now c.args.state.now c.args.at (lines_of text.blocks) p) in
     let start = begins-fit m u o c.requires.unit c.requires.formed c.requires.entity c.args.args.now c.args.sigs.now w c.requires.fits in

@@ -1,6 +1,6 @@
 use Rattle.std.proofs.Common.{◌+◌, map, drop, Some, ap, sym, ◌∙◌}
 use Rattle.lh_unit.specs.Naming.{operand_text}
-use Rattle.lh_unit.specs.Typing.{with_type, written_types}
+use Rattle.lh_unit.specs.Typing.{with_type, operand_types}
 use Rattle.lh_typing.specs.Fitting.{rows_joined}
 use Rattle.lh_typing.proofs.TypeParts.{joined-more, joined-none, joined-row, written-none, written-some, written-end}
 use Rattle.lh_typing.proofs.results.written_types.Goals as goal
@@ -13,7 +13,7 @@ returns-in-None c = λ f.
 
 pub loop-operand-preserved : goal.loop-operand-preserved
 loop-operand-preserved c = λ f.
-    let rest = written_types (map (operand_text f) (drop (c.loop-operand.operand-index + 1) c.args.args.now)) in
+    let rest = operand_types (map (operand_text f) (drop (c.loop-operand.operand-index + 1) c.args.args.now)) in
     ap (λ l. rows_joined l rest) c.in_ok-push-in-Some.ensures.ok
     ∙ joined-more c.loop-operand.list c.in_ok-copy-in-Some.field-0 rest
     ∙ ap (λ t. rows_joined c.loop-operand.list (with_type (Some t) rest)) c.in_ok-copy-in-Some.ensures

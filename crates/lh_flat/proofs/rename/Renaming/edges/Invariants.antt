@@ -7,5 +7,5 @@ use Rattle.lh_flat.proofs.rename.Renaming.edges.Given as goal
 abbrev pub invariant-loop-edge : goal.invariant-loop-edge
 invariant-loop-edge l = record {
   same : l.to ++ map (edge_in l.self) (drop l.edge-index l.items) ≡ map (edge_in l.self) l.items;
-  within : Each (λ (e : PhiEdge). (e.value.0 < length l.self.values.items) × (e.block.0 < length l.self.spans.items)) (drop l.edge-index l.items);
+  within : Each (λ (e : PhiEdge). e.value.0 < length l.self.values) (drop l.edge-index l.items);
 }

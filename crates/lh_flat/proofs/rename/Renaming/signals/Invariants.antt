@@ -7,5 +7,5 @@ use Rattle.lh_flat.proofs.rename.Renaming.signals.Given as goal
 abbrev pub invariant-loop-signal : goal.invariant-loop-signal
 invariant-loop-signal l = record {
   same : l.to ++ map (value_in l.self) (drop l.signal-index l.items) ≡ map (value_in l.self) l.items;
-  within : Each (λ (v : ValueId). v.0 < length l.self.values.items) (drop l.signal-index l.items);
+  within : Each (λ (v : ValueId). v.0 < length l.self.values) (drop l.signal-index l.items);
 }

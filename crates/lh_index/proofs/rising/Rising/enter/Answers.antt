@@ -1,23 +1,28 @@
-use Rattle.std.proofs.Common.{rules, refl}
-use Rattle.lh_index.proofs.Places.{found_there, found_in, found_missing, there_already}
+use Rattle.std.proofs.Common.{rules, refl, arith}
+use Rattle.lh_index.proofs.Places.{found_there, found_in, found_missing, there_already, place_within}
 use Rattle.lh_index.proofs.rising.Rising.enter.Goals as goal
+
+pub insert-requires : goal.insert-requires
+insert-requires c =
+    let within = place_within _ _ _ c.args.n c.in-Err.place c.self.view_is c.as_slice.ensures.value c.self.invariant c.in-Err.ensures in
+    omega (arith, within, c.self.inside.numbers.ok.0)
 
 pub invariant_of-self-in-Err : goal.invariant_of-self-in-Err
 invariant_of-self-in-Err c =
-    (found_in _ _ _ _ c.args.n c.in-Err.place c.self.view_is c.deref.ensures.value c.self.invariant c.in-Err.ensures.position c.in_ok-insert-in-Err.ensures.items).0
+    (found_in _ _ _ _ c.args.n c.in-Err.place c.self.view_is c.as_slice.ensures.value c.self.invariant c.in-Err.ensures c.in_ok-insert-in-Err.ensures.items).0
 
 pub returns-in-Ok-clause-has : goal.returns-in-Ok-clause-has
 returns-in-Ok-clause-has c =
-    there_already c.args.n _ (found_there _ _ _ c.args.n c.in-Ok.field-0 c.self.view_is c.deref.ensures.value c.self.invariant c.in-Ok.ensures.position)
+    there_already c.args.n _ (found_there _ _ _ c.args.n c.in-Ok.field-0 c.self.view_is c.as_slice.ensures.value c.self.invariant c.in-Ok.ensures)
 
 pub returns-in-Ok-clause-there : goal.returns-in-Ok-clause-there
 returns-in-Ok-clause-there c =
-    (λ e. found_there _ _ _ c.args.n c.in-Ok.field-0 c.self.view_is c.deref.ensures.value c.self.invariant c.in-Ok.ensures.position, λ h. refl)
+    (λ e. found_there _ _ _ c.args.n c.in-Ok.field-0 c.self.view_is c.as_slice.ensures.value c.self.invariant c.in-Ok.ensures, λ h. refl)
 
 pub returns-in_ok-insert-in-Err-clause-has : goal.returns-in_ok-insert-in-Err-clause-has
 returns-in_ok-insert-in-Err-clause-has c =
-    (found_in _ _ _ _ c.args.n c.in-Err.place c.self.view_is c.deref.ensures.value c.self.invariant c.in-Err.ensures.position c.in_ok-insert-in-Err.ensures.items).1
+    (found_in _ _ _ _ c.args.n c.in-Err.place c.self.view_is c.as_slice.ensures.value c.self.invariant c.in-Err.ensures c.in_ok-insert-in-Err.ensures.items).1
 
 pub returns-in_ok-insert-in-Err-clause-there : goal.returns-in_ok-insert-in-Err-clause-there
 returns-in_ok-insert-in-Err-clause-there c =
-    (λ e. absurd (search rules), λ h. absurd (found_missing _ _ _ c.args.n c.in-Err.place c.self.view_is c.deref.ensures.value c.self.invariant c.in-Err.ensures.position h))
+    (λ e. absurd (search rules), λ h. absurd (found_missing _ _ _ c.args.n c.in-Err.place c.self.view_is c.as_slice.ensures.value c.self.invariant c.in-Err.ensures h))

@@ -1,0 +1,3 @@
+pub mod Merging
+pub mod Within
+pub mod Sets

@@ -1,0 +1,5 @@
+use Rattle.lh_edge.proofs.Resting.{rests}
+use Rattle.lh_edge.proofs.laws.rests_without_change.Goals as goal
+
+pub returns : goal.returns
+returns c = rests c.swaps_keep_meaning.ensures

@@ -1,0 +1,5 @@
+pub mod Atoms
+pub mod Valuations
+pub mod Shown
+pub mod Triggers
+pub mod Laws

@@ -1,0 +1,131 @@
+-- What the code that builds a flat text has to know: room, new ids, and ids within their numbers.
+use Rattle.std.proofs.Common.{◌≡◌, ℕ, zero, suc, ◌+◌, ◌-◌, ◌<◌, ◌≤◌, min, inl, inr, List, [], ◌∷◌, ◌++◌, length, get_or, drop, set, replicate, refl, ap, sym, ◌∙◌, subst, arith, Option, Some, None}
+use Rattle.std.proofs.lemmas.Bool.{cases_lt}
+use Rattle.std.proofs.lemmas.List.{length-set, length-replicate}
+use Rattle.std.proofs.lemmas.List.FromFn.{map-range_with_len_more, length-map-range_with_len}
+use Rattle.lh_unit.specs.Table.{ArgsWithin, ResultWithin}
+use Rattle.lh_unit.specs.Within.{MaybeWithin}
+use Rattle.lh_unit.specs.Arena.{Arena, IsArena, table_at, args_at, blocks_at, unit_count, value_count, label_count}
+use Rattle.lh_unit.specs.declared.inst.UnitId.{UnitId}
+use Rattle.lh_unit.specs.declared.inst.BlockId.{BlockId}
+use Rattle.lh_unit.specs.declared.inst.ValueId.{ValueId}
+use Rattle.lh_unit.specs.declared.inst.Arg.{Arg}
+use Rattle.lh_unit.specs.declared.table.Line.{Line}
+use Rattle.lh_unit.proofs.ById.{result-within}
+use Rattle.lh_flat.specs.declared.flat.Merge.{Merge}
+use Rattle.lh_flat.specs.declared.rename.Span.{Span}
+use Rattle.lh_flat.specs.declared.rename.Renaming.{Renaming}
+use Rattle.lh_flat.specs.declared.build.Text.{Text}
+use Rattle.lh_flat.specs.Renames.{no_span, sizes_in}
+use Rattle.lh_flat.specs.Fits.{IdsFit}
+use Rattle.lh_flat.specs.Building.{line_of, insts_room, block_room, unit_room, call_room, span_at, spans_with, spans_of, new_ids, bound, call_ids, blocks_give, merge_in, merging, entering, blocks_added, call_added}
+
+-- the room that a call takes
+pub no_room : (k : ℕ) (a : Arena) → call_room k a None ≡ 0
+unfolding call_room
+no_room zero a = refl
+no_room (suc k) a = refl
+
+pub flat_room : (k : ℕ) (a : Arena) (f : UnitId) → k ≡ 0 → call_room k a (Some f) ≡ 0
+unfolding call_room
+flat_room zero a f e = refl
+flat_room (suc k) a f e = cc
+
+less_one : (k : ℕ) → k ≡ suc k - 1
+less_one k = omega arith
+
+pub room-next : (k : ℕ) (a : Arena) (f : UnitId) → call_room (suc k) a (Some f) ≡ unit_room (call_room k a) a f.0 + 1
+unfolding call_room
+room-next k a f = refl
+
+pub room-more : (k n : ℕ) (a : Arena) (f : UnitId) → (k ≡ 0 → ⊥) → n ≡ unit_room (call_room (k - 1) a) a f.0 → n + 1 ≡ call_room k a (Some f)
+room-more zero n a f h e = absurd (h refl)
+room-more (suc k) n a f h e = ap (λ m. m + 1) e ∙ ap (λ j. unit_room (call_room j a) a f.0 + 1) (sym (less_one k)) ∙ sym (room-next k a f)
+
+-- one more new id
+pub ids-next : (from n k : ℕ) (xs ys : List ValueId) → xs ≡ new_ids from n → from + n ≡ k → ys ≡ xs ++ record { 0 = k } ∷ [] → ys ≡ new_ids from (n + 1)
+ids-next from n k xs ys e f g = g ∙ ap (λ zs. zs ++ record { 0 = k } ∷ []) e ∙ sym (map-range_with_len_more (λ (j : ℕ). record { 0 = j }) from n k f)
+
+-- beyond the last parameter or the last argument none is bound
+drop-end : {A : Type 0} (xs : List A) (n : ℕ) → length xs ≤ n → drop n xs ≡ []
+drop-end [] zero h = refl
+drop-end [] (suc n) h = refl
+drop-end (x ∷ xs) zero h = absurd (omega arith)
+drop-end (x ∷ xs) (suc n) h = drop-end xs n (omega arith)
+
+no-args : (ps : List Arg) (vs : List ValueId) → vs ≡ bound ps [] vs
+no-args [] vs = refl
+no-args (p ∷ ps) vs = refl
+
+pub bound-none : (ps : List Arg) (xs vs : List ValueId) (n : ℕ) → n ≡ min (length ps) (length xs) → vs ≡ bound (drop n ps) (drop n xs) vs
+bound-none ps xs vs n e = elim (cases_lt (length ps) (length xs)) [
+  | inl l ↦ ap (λ qs. bound qs (drop n xs) vs) (sym (drop-end ps n (omega arith)))
+  | inr l ↦ no-args (drop n ps) vs ∙ ap (λ ys. bound (drop n ps) ys vs) (sym (drop-end xs n (omega arith)))
+]
+
+pub arg-within : (n : ℕ) (ps : List Arg) (k : ℕ) (d : Arg) → ArgsWithin n ps → k < length ps → (get_or ps k d).value.0 < n
+arg-within n [] k d h l = absurd (omega arith)
+arg-within n (p ∷ ps) zero d h l = h.0
+arg-within n (p ∷ ps) (suc k) d h l = arg-within n ps k d h.1 (omega arith)
+
+pub length-new_ids : (from n : ℕ) → length (new_ids from n) ≡ n
+length-new_ids from n = length-map-range_with_len (λ (k : ℕ). record { 0 = k }) from n
+
+pub args-fit : (a : Arena) (u from n : ℕ) (vs : List ValueId) (args : List Arg) → IsArena a → u < unit_count a → vs ≡ new_ids from n → n ≡ value_count a u → args ≡ args_at a u → ArgsWithin (length vs) args
+args-fit a u from n vs args o l e f h =
+    subst (λ xs. ArgsWithin (length vs) xs) (sym h) (subst (λ m. ArgsWithin m (args_at a u)) (sym (ap length e ∙ length-new_ids from n ∙ f)) (o.tables u l).args_within)
+
+-- as many ids and spans as there are values and labels
+pub length-bound : (ps : List Arg) (xs vs : List ValueId) → length (bound ps xs vs) ≡ length vs
+length-bound [] xs vs = refl
+length-bound (p ∷ ps) [] vs = refl
+length-bound (p ∷ ps) (x ∷ xs) vs = length-set (bound ps xs vs) p.value.0 x ∙ length-bound ps xs vs
+
+length-spans : (room : Option UnitId → ℕ) (a : Arena) (u at : ℕ) (bs : List BlockId) (ss : List Span) → length (spans_with room a u at bs ss) ≡ length ss
+length-spans room a u at [] ss = refl
+length-spans room a u at (b ∷ bs) ss =
+    length-spans room a u (at + block_room room a u b) bs (set ss b.0 (span_at at (insts_room room a u (Rattle.lh_unit.specs.Table.insts_at (table_at a u) b.0))))
+    ∙ length-set ss b.0 (span_at at (insts_room room a u (Rattle.lh_unit.specs.Table.insts_at (table_at a u) b.0)))
+
+pub length-spans_of : (room : Option UnitId → ℕ) (a : Arena) (u at : ℕ) → length (spans_of room a u at) ≡ label_count a u
+length-spans_of room a u at = length-spans room a u at (blocks_at a u) (replicate (label_count a u) no_span) ∙ length-replicate (label_count a u) no_span
+
+pub ids-fit : (room : Option UnitId → ℕ) (a : Arena) (u at from n : ℕ) (ps : List Arg) (xs vs ws : List ValueId) (ss : List Span) (b : BlockId) → vs ≡ new_ids from n → n ≡ value_count a u → ws ≡ bound ps xs vs → ss ≡ spans_of room a u at → IdsFit a u (record { values = ws; spans = ss; back = b })
+ids-fit room a u at from n ps xs vs ws ss b e f g h = record {
+  values = ap length g ∙ length-bound ps xs vs ∙ ap length e ∙ length-new_ids from n ∙ f;
+  labels = ap length h ∙ length-spans_of room a u at;
+}
+
+-- the result of an instruction has a new id
+pub maybe-within : (a : Arena) (o : IsArena a) (u : ℕ) (l : u < unit_count a) (r : Renaming) (f : IdsFit a u r) (n i : ℕ) (v : Option ValueId) → v ≡ (line_of a u (record { 0 = i })).result → MaybeWithin (sizes_in n r) v
+maybe-within a o u l r f n i v e = subst (λ w. MaybeWithin (sizes_in n r) w) (sym e) (by (line_of a u (record { 0 = i })).result (result-within a u o l i))
+  where
+    by : (w : Option ValueId) → ResultWithin (value_count a u) w → MaybeWithin (sizes_in n r) w
+    by None h = tt
+    by (Some w) h = subst (λ m. w.0 < m) (sym f.values) h
+
+-- the copy for a call is added
+pub call_added-none : (k : ℕ) (a : Arena) (f : UnitId) (r : Renaming) (l : Line) (t : Text) → k ≡ 0 → t ≡ call_added k a f r l t
+unfolding call_added
+call_added-none zero a f r l t e = refl
+call_added-none (suc k) a f r l t e = cc
+
+pub call_added-next : (k : ℕ) (a : Arena) (f : UnitId) (r : Renaming) (l : Line) (t : Text) → call_added (suc k) a f r l t ≡
+    merging (merge_in r (blocks_give a f.0 (call_ids (call_room k a) a f r l t) (blocks_at a f.0)) l.inst l.result)
+    (blocks_added (call_added k a) a f.0 (call_ids (call_room k a) a f r l t) (blocks_at a f.0) (entering a f t))
+unfolding call_added
+call_added-next k a f r l t = refl
+
+abbrev call_made : (j : ℕ) (f : UnitId) (r : Renaming) (l : Line) (t : Text) (b : Arena) (h : UnitId) (ids : Renaming) → Text
+call_made j f r l t b h ids = merging (merge_in r (blocks_give b h.0 ids (blocks_at b h.0)) l.inst l.result) (blocks_added (call_added j b) b h.0 ids (blocks_at b h.0) (entering b h t))
+
+pub call_added-is : (k : ℕ) (a b : Arena) (f h : UnitId) (r ids : Renaming) (l : Line) (t s v z : Text) (m : Option Merge) → (k ≡ 0 → ⊥) → b ≡ a → h ≡ f → ids ≡ call_ids (call_room (k - 1) a) a f r l t →
+    m ≡ merge_in r (blocks_give b h.0 ids (blocks_at b h.0)) l.inst l.result → s ≡ entering b h t → v ≡ blocks_added (call_added (k - 1) b) b h.0 ids (blocks_at b h.0) s → z ≡ merging m v → z ≡ call_added k a f r l t
+call_added-is zero a b f h r ids l t s v z m n eb eh ei em es ev ez = absurd (n refl)
+call_added-is (suc j) a b f h r ids l t s v z m n eb eh ei em es ev ez =
+    ez ∙ ap (λ x. merging x v) em ∙ ap (merging (merge_in r (blocks_give b h.0 ids (blocks_at b h.0)) l.inst l.result)) (ev ∙ ap (blocks_added (call_added (suc j - 1) b) b h.0 ids (blocks_at b h.0)) es)
+    ∙ ap (λ i. call_made i f r l t b h ids) (sym (less_one j))
+    ∙ ap (λ x. call_made j f r l t x h ids) eb
+    ∙ ap (λ x. call_made j f r l t a x ids) eh
+    ∙ ap (call_made j f r l t a f) (ei ∙ ap (λ i. call_ids (call_room i a) a f r l t) (sym (less_one j)))
+    ∙ sym (call_added-next j a f r l t)

@@ -1,0 +1,35 @@
+use Rattle.std.proofs.Common.{◌≡◌, ◌+◌, ◌-◌, sym, ap, ◌∙◌, arith, IfOk, Ok, Err, ℕ}
+use Rattle.lh_types.specs.declared.ty.NoMemory.{NoMemory}
+use Rattle.std.specs.declared.result.Result.{Result}
+use Rattle.lh_unit.specs.Arena.{Arena}
+use Rattle.lh_unit.specs.declared.inst.UnitId.{UnitId}
+use Rattle.lh_flat.proofs.Reading.{placed-at}
+use Rattle.lh_flat.proofs.Building.{no_room, flat_room, room-more}
+use Rattle.lh_flat.specs.Building.{unit_room, call_room}
+use Rattle.lh_flat.proofs.layout.+room.Goals as goal
+
+pub call_room-returns-in_default : goal.call_room-returns-in_default
+call_room-returns-in_default t c = sym (ap (call_room c.args.depth c.args.m.now) c.in_default.is ∙ no_room c.args.depth c.args.m.now)
+
+pub call_room-returns-then-depth-eq0 : goal.call_room-returns-then-depth-eq0
+call_room-returns-then-depth-eq0 t c = sym (ap (call_room c.args.depth c.args.m.now) c.in-Some.is ∙ flat_room c.args.depth c.args.m.now c.in-Some.function c.if-depth-eq0.true)
+
+along : (r : Result ℕ NoMemory) (m n : ℕ) → m ≡ n → IfOk r (λ x. x ≡ m) → IfOk r (λ x. x ≡ n)
+along (Ok x) m n e h = h ∙ e
+along (Err x) m n e h = tt
+
+pub call_room-returns : goal.call_room-returns
+call_room-returns t c =
+    along c.plus.result (c.in_ok-unit_room.field-0 + 1) (call_room c.args.depth c.args.m.now c.args.function)
+    (room-more c.args.depth c.in_ok-unit_room.field-0 c.args.m.now c.in-Some.function c.if-depth-eq0.false
+    (c.in_ok-unit_room.ensures
+    ∙ ap (λ (x : Arena). unit_room (call_room (c.args.depth - 1) x) x c.unit.result.unit.0) c.unit.ensures.module
+    ∙ ap (λ (x : UnitId). unit_room (call_room (c.args.depth - 1) c.args.m.now) c.args.m.now x.0) c.unit.ensures.unit)
+    ∙ sym (ap (call_room c.args.depth c.args.m.now) c.in-Some.is)) c.plus.ensures
+
+pub unit_room-insts_room-requires : goal.unit_room-insts_room-requires
+unit_room-insts_room-requires t c = (
+  omega arith,
+  placed-at c.args.view.module.now c.args.view.unit.0 c.loop-block.block-index (record { 0 = 0 }) c.blocks-block-items.result.now c.blocks-block-items.ensures.sound c.args.view.in_place
+      c.blocks-block-items.ensures.blocks c.loop-block-test.true,
+)

@@ -1,0 +1,170 @@
+//! A flat text while it is built: a unit's blocks are copied in order, and a call's copy stands before what follows the call.
+ghost use Rattle.std.specs.Prelude.{◌≡◌, ◌+◌, ◌<◌, length, IfOk, OnOk};
+ghost use Rattle.lh_unit.specs.Arena.{unit_count, inst_count};
+ghost use Rattle.lh_flat.specs.Graph.{BlockPlaced};
+ghost use Rattle.lh_flat.specs.Building.{line_of, call_room, call_ids, put, taken, with_values, no_text, merging, entering, block_added, call_added, unit_added};
+ghost use Rattle.lh_flat.specs.CopyOf.{IsCopy};
+
+use crate::calls::callee;
+use crate::copy::{Place, UnitCopy};
+use crate::flat::{FlatBlock, FlatBlockList, FlatInst, Merge};
+use crate::layout::{plus, unit_room};
+use lh_types::ty::NoMemory;
+use lh_unit::inst::{BlockId, Inst, InstId, UnitId};
+use std::alloc::Global;
+use std::mem;
+
+/// A flat text while it is built.
+#[derive(Drop)]
+pub struct Text {
+    /// The blocks that are complete.
+    pub blocks: FlatBlockList,
+    /// The block that is open.
+    pub current: FlatBlock,
+    /// How many ids of values are given.
+    pub values: u32,
+}
+
+impl Text {
+    /// A text in which nothing stands yet, where this many ids of values are given.
+    pub fn new(alloc: Global, values: u32) -> Text
+        ensures { result ≡ no_text values }
+    {
+        Text {
+            blocks: FlatBlockList::new(alloc),
+            current: FlatBlock::new(alloc),
+            values,
+        }
+    }
+
+    /// The open block is complete.
+    fn put(&mut self) -> Result<(), NoMemory>
+        ensures { OnOk result (self.new ≡ put self.old) }
+    {
+        let next = FlatBlock::new(self.blocks.allocator());
+        let block = mem::replace(&mut self.current, next);
+        self.blocks.push(block)
+    }
+
+    /// One more instruction in the open block.
+    fn take(&mut self, inst: FlatInst) -> Result<(), NoMemory>
+        ensures { OnOk result (self.new ≡ taken inst self.old) }
+    {
+        self.current.insts.push(inst)
+    }
+
+    /// The open block begins with this.
+    fn merge(&mut self, merge: Option<Merge>)
+        ensures { self.new ≡ merging merge self.old }
+    {
+        self.current.merge = merge;
+    }
+
+    /// As many more ids of values.
+    fn take_values(&mut self, count: u32) -> Result<(), NoMemory>
+        ensures { OnOk result (self.new ≡ with_values count self.old) }
+    {
+        self.values = plus(self.values, count)?;
+        Ok(())
+    }
+
+    /// The place behind the open block.
+    fn next(&self) -> Result<u32, NoMemory>
+        ensures { IfOk result (λ n. n ≡ length self.now.blocks + 1) }
+    {
+        let len = self.blocks.len();
+        if len < u32::MAX as usize {
+            Ok(len as u32 + 1)
+        } else {
+            Err(NoMemory)
+        }
+    }
+
+    /// Adds the blocks of a copy, in which at most `depth` calls nest.
+    #[cycle(copying)]
+    pub fn add_unit(&mut self, depth: u32, copy: &UnitCopy<'_>) -> Result<(), NoMemory>
+        ensures { OnOk result (self.new ≡ unit_added depth copy.now.view.module.now copy.now.view.unit.0 copy.now.ids self.old) }
+    {
+        for block in copy.view.blocks() {
+            self.add_block(depth, copy, *block)?;
+        }
+        Ok(())
+    }
+
+    /// Adds the pieces of a block, with the copies between them.
+    #[cycle(copying)]
+    fn add_block(&mut self, depth: u32, copy: &UnitCopy<'_>, block: BlockId) -> Result<(), NoMemory>
+        requires { BlockPlaced copy.now.view.module.now copy.now.view.unit.0 block }
+        ensures { let a = copy.now.view.module.now in OnOk result (self.new ≡ block_added (call_added depth a) a copy.now.view.unit.0 copy.now.ids block self.old) }
+    {
+        for id in copy.view.insts(block) {
+            match callee(copy.view, copy.view.inst(*id)) {
+                None => self.take(copy.inst(*id)?)?,
+                Some(function) => self.add_call(depth, copy, *id, function)?,
+            }
+        }
+        self.put()
+    }
+
+    /// Replaces a call by a copy of the function, in place.
+    #[cycle(copying)]
+    fn add_call(
+        &mut self,
+        depth: u32,
+        copy: &UnitCopy<'_>,
+        id: InstId,
+        function: UnitId,
+    ) -> Result<(), NoMemory>
+        requires placed { id.0 < inst_count copy.now.view.module.now copy.now.view.unit.0 }
+        requires function { function.0 < unit_count copy.now.view.module.now }
+        ensures { let a = copy.now.view.module.now in OnOk result (self.new ≡ call_added depth a function copy.now.ids (line_of a copy.now.view.unit.0 id) self.old) }
+    {
+        if depth == 0 {
+            return Ok(());
+        }
+        let depth = depth - 1;
+        let called = self.copy_for(depth, copy, id, function)?;
+        let merge = copy.merge(self.blocks.allocator(), id, &called)?;
+        self.enter(&called)?;
+        self.add_unit(depth, &called)?;
+        self.merge(merge);
+        Ok(())
+    }
+
+    /// The copy of the function for a call: its entry stands behind the open block.
+    fn copy_for<'m>(
+        &self,
+        depth: u32,
+        copy: &UnitCopy<'m>,
+        id: InstId,
+        function: UnitId,
+    ) -> Result<UnitCopy<'m>, NoMemory>
+        requires placed { id.0 < inst_count copy.now.view.module.now copy.now.view.unit.0 }
+        requires function { function.0 < unit_count copy.now.view.module.now }
+        ensures { let a = copy.now.view.module.now in IfOk result (λ d. IsCopy a function (call_ids (call_room depth a) a function copy.now.ids (line_of a copy.now.view.unit.0 id) self.now) d) }
+    {
+        let view = copy.view.module().unit(function);
+        let args = copy.args(self.blocks.allocator(), id)?;
+        let at = self.next()?;
+        let back = plus(at, unit_room(depth, view)?)?;
+        let place = Place {
+            at,
+            from: self.values,
+            back,
+        };
+        UnitCopy::new(self.blocks.allocator(), depth, view, args.as_slice(), place)
+    }
+
+    /// The open block leads into a copy, whose values have ids from then on.
+    fn enter(&mut self, called: &UnitCopy<'_>) -> Result<(), NoMemory>
+        ensures { OnOk result (self.new ≡ entering called.now.view.module.now called.now.view.unit self.old) }
+    {
+        let entry = self.next()?;
+        self.take(FlatInst {
+            result: None,
+            inst: Inst::Br(BlockId(entry)),
+        })?;
+        self.put()?;
+        self.take_values(called.view.values())
+    }
+}

@@ -1,0 +1,4 @@
+pub mod Conditions
+pub mod Joining
+pub mod Selecting
+pub mod Merged

@@ -1,0 +1,180 @@
+-- A value that is what a `prb` of an argument gives, by ids.
+use Rattle.std.proofs.Common.{◌≡◌, ℕ, zero, suc, ◌+◌, ◌<◌, ◌≤◌, inl, inr, List, [], ◌∷◌, length, get_or, set, replicate, map, take, drop, Bool, true, false, if◌then◌else◌, ◌||◌, Option, Some, None, IsSome, refl, ap, sym, ◌∙◌, subst, arith}
+use Rattle.std.specs.Prelude.{slice_get}
+use Rattle.std.specs.Option.{option_map, option_and_then, IfSome}
+use Rattle.std.proofs.lemmas.Bool.{cases_eq}
+use Rattle.std.proofs.lemmas.List.{append-nil, length-set, length-replicate, get_or-set_same, get_or-set_other}
+use Rattle.std.proofs.lemmas.Option.{same_Some, none-some}
+use Rattle.lh_types.specs.Types.{TypeTree, int_type}
+use Rattle.lh_types.specs.Values.{int_value}
+use Rattle.lh_types.specs.Bits.{bits_number}
+use Rattle.lh_types.specs.declared.part.Range.{Range}
+use Rattle.lh_unit.specs.Contents.{LineText, UnitText, same_name, args_define}
+use Rattle.lh_unit.specs.Typing.{line_giving, carried}
+use Rattle.lh_unit.specs.Held.{Held, Env, part_held, as_part, part_at, as_test}
+use Rattle.lh_unit.specs.Effects.{read_bits}
+use Rattle.lh_unit.specs.Hierarchy.{lines_of, parts_of}
+use Rattle.lh_unit.specs.Naming.{Naming, value_text, maybe_text, operand_text, arg_text, inst_text}
+use Rattle.lh_unit.specs.Table.{Table, IsDefinition, line_at, insts_at, ids_from, flat}
+use Rattle.lh_unit.specs.Within.{Each}
+use Rattle.lh_unit.specs.WellFormed.{IsWellFormed}
+use Rattle.lh_unit.specs.Arena.{Arena, IsArena, unit_count, kind_at, contents, table_at, naming, unit_text_at, block_insts_at, inst_at, inst_count, value_count}
+use Rattle.lh_unit.specs.declared.inst.UnitKind.{UnitKind}
+use Rattle.lh_unit.specs.declared.inst.UnitKind.TheVariants as kind
+use Rattle.lh_unit.specs.declared.inst.ValueDef.TheVariants as value_def
+use Rattle.lh_unit.specs.declared.inst.Inst.TheVariants as inst
+use Rattle.lh_unit.specs.declared.inst.InstId.{InstId}
+use Rattle.lh_unit.specs.declared.inst.ValueId.{ValueId}
+use Rattle.lh_unit.specs.declared.inst.BlockId.{BlockId}
+use Rattle.lh_unit.specs.declared.inst.Typed.{Typed}
+use Rattle.lh_unit.specs.declared.inst.Arg.{Arg}
+use Rattle.lh_unit.specs.declared.table.Line.{Line}
+use Rattle.lh_unit.proofs.Tables.{same_name-refl}
+use Rattle.lh_eval.specs.Holding.{Holds, slot_at}
+use Rattle.lh_eval.proofs.BeginSteps.{entity-blocks, entity-lines, entity-insts, begun}
+use Rattle.lh_eval.specs.Beginning.{args_given, signals_given, next_given, is_sig}
+use Rattle.lh_sound.proofs.FitLaws.{unit-is-sound}
+use Rattle.lh_sound.proofs.NamedOnce.{IsFirst, each-first}
+use Rattle.lh_sound.proofs.SoundLines.{same-lines}
+use Rattle.lh_react.specs.Standing.{line_in}
+use Rattle.lh_react.specs.Quiet.{test_of, IsProbedBit, BeginsBy}
+
+-- one bit of some
+one-bit : (bs : List Bool) (lo : ℕ) (b : Bool) → slice_get bs lo ≡ Some b → take 1 (drop lo bs) ≡ b ∷ []
+one-bit [] lo b e = absurd (none-some b e)
+one-bit (x ∷ bs) zero b e = ap (λ y. y ∷ []) (same_Some x b e)
+one-bit (x ∷ bs) (suc lo) b e = one-bit bs lo b e
+
+tested : (bs : List Bool) (b : Bool) → bs ≡ b ∷ [] → as_test (int_value 1 (bits_number bs)) ≡ Some b
+tested bs true e = ap (λ x. as_test (int_value 1 (bits_number x))) e
+tested bs false e = ap (λ x. as_test (int_value 1 (bits_number x))) e
+
+-- the truth value of a part of one bit
+pub bit-of-part : (now : List Bool) (r : Range) (b : Bool) → r.len ≡ 1 → slice_get now r.lo ≡ Some b → test_of (read_bits now (Some (int_type 1)) (Some r)) ≡ Some b
+bit-of-part now r b one e = tested (take 1 (take r.len (drop r.lo now))) b (ap (λ n. take 1 (take n (drop r.lo now))) one ∙ ap (take 1) (one-bit now r.lo b e))
+
+or-true : (b : Bool) → (b || true) ≡ true
+or-true true = refl
+or-true false = refl
+
+-- an argument is defined
+arg-defined : (f : Naming) (args : List Arg) (k : ℕ) (v : ValueId) → option_map (λ (a : Arg). a.value) (slice_get args k) ≡ Some v → args_define (value_text f v) (map (arg_text f) args) ≡ true
+arg-defined f [] k v e = absurd (none-some v e)
+arg-defined f (a ∷ args) zero v e =
+    let same : a.value ≡ v = same_Some a.value v e in
+    subst (λ (x : ValueId). args_define (value_text f x) (map (arg_text f) (a ∷ args)) ≡ true) same (ap (λ b. b || args_define (value_text f a.value) (map (arg_text f) args)) (same_name-refl (value_text f a.value)))
+arg-defined f (a ∷ args) (suc k) v e = let x = same_name (value_text f a.value) (value_text f v) in ap (λ b. x || b) (arg-defined f args k v e) ∙ or-true x
+
+-- what holds of each line holds of that of each id
+each-id : (P : LineText → Type 0) (f : InstId → LineText) (ls : List Line) (k j : ℕ) → Each P (map f (ids_from k ls)) → k ≤ j → j < k + length ls → P (f (record { 0 = j }))
+each-id P f [] k j e low high = absurd (omega arith)
+each-id P f (l ∷ ls) k j e low high = elim (cases_eq k j) [ inl s ↦ subst (λ n. P (f (record { 0 = n }))) s e.0 | inr other ↦ each-id P f ls (k + 1) j e.1 (omega arith) (omega arith) ]
+
+args-keep : (xs : List Arg) (rs : List Range) (slots : List (Option Held)) (v : ValueId) → ((j : ℕ) → j < length xs → option_map (λ (x : Arg). x.value) (slice_get xs j) ≡ Some v → ⊥) → get_or (args_given xs rs slots) v.0 None ≡ get_or slots v.0 None
+args-keep [] rs slots v h = refl
+args-keep (x ∷ xs) [] slots v h = refl
+args-keep (x ∷ xs) (r ∷ rs) slots v h =
+    let other : v.0 ≡ x.value.0 → ⊥ = λ e. h 0 (omega arith) (ap (λ (n : ℕ). Some (record { 0 = n })) (sym e)) in
+    args-keep xs rs (set slots x.value.0 (Some (part_held r))) v (λ j l e. h (suc j) (omega arith) e) ∙ get_or-set_other slots x.value.0 v.0 (Some (part_held r)) None other
+
+-- the slot of an argument
+args-slot : (xs : List Arg) (rs : List Range) (slots : List (Option Held)) (v : ValueId) (k : ℕ) (d : Range) → option_map (λ (x : Arg). x.value) (slice_get xs k) ≡ Some v → ((j : ℕ) → j < length xs → option_map (λ (x : Arg). x.value) (slice_get xs j) ≡ Some v → j ≡ k)
+    → k < length rs → v.0 < length slots → get_or (args_given xs rs slots) v.0 None ≡ Some (part_held (get_or rs k d))
+args-slot [] rs slots v k d e once l w = absurd (none-some v e)
+args-slot (x ∷ xs) [] slots v k d e once l w = absurd (omega arith)
+args-slot (x ∷ xs) (r ∷ rs) slots v zero d e once l w =
+    let at : x.value.0 ≡ v.0 = ap (λ (y : ValueId). y.0) (same_Some x.value v e) in
+    args-keep xs rs (set slots x.value.0 (Some (part_held r))) v (λ j m q. let z : suc j ≡ 0 = once (suc j) (omega arith) q in absurd (omega arith))
+    ∙ ap (λ n. get_or (set slots n (Some (part_held r))) v.0 None) at ∙ get_or-set_same slots v.0 (Some (part_held r)) None w
+args-slot (x ∷ xs) (r ∷ rs) slots v (suc k) d e once l w =
+    args-slot xs rs (set slots x.value.0 (Some (part_held r))) v k d e (λ j m q. let z : suc j ≡ suc k = once (suc j) (omega arith) q in omega arith) (omega arith) (omega (arith, length-set slots x.value.0 (Some (part_held r))))
+
+next-keep : (n : Option ValueId) (rs : List Range) (slots : List (Option Held)) (others : List Range → List (Option Held) → List (Option Held)) (v : ValueId) → (n ≡ Some v → ⊥) → ((ps : List Range) (ss : List (Option Held)) → get_or (others ps ss) v.0 None ≡ get_or ss v.0 None)
+    → get_or (next_given n rs slots others) v.0 None ≡ get_or slots v.0 None
+next-keep n [] slots others v h go = refl
+next-keep None (r ∷ rs) slots others v h go = go rs slots
+next-keep (Some w) (r ∷ rs) slots others v h go =
+    let other : v.0 ≡ w.0 → ⊥ = λ e. h (ap (λ (n : ℕ). Some (record { 0 = n })) (sym e)) in
+    go rs (set slots w.0 (Some (part_held r))) ∙ get_or-set_other slots w.0 v.0 (Some (part_held r)) None other
+
+one-kept : (b : Bool) (n : Option ValueId) (rs : List Range) (slots : List (Option Held)) (others : List Range → List (Option Held) → List (Option Held)) (v : ValueId) → (n ≡ Some v → ⊥) → ((ps : List Range) (ss : List (Option Held)) → get_or (others ps ss) v.0 None ≡ get_or ss v.0 None)
+    → get_or (if b then next_given n rs slots others else others rs slots) v.0 None ≡ get_or slots v.0 None
+one-kept true n rs slots others v h go = next-keep n rs slots others v h go
+one-kept false n rs slots others v h go = go rs slots
+
+-- signals leave the slot of another value
+signals-keep : (t : Table) (is : List InstId) (rs : List Range) (slots : List (Option Held)) (v : ValueId) → Each (λ (i : InstId). i.0 < length t.lines) is → ((i : InstId) → i.0 < length t.lines → (line_at t i.0).result ≡ Some v → ⊥)
+    → get_or (signals_given t is rs slots) v.0 None ≡ get_or slots v.0 None
+signals-keep t [] rs slots v e h = refl
+signals-keep t (i ∷ more) rs slots v e h = one-kept (is_sig (line_at t i.0).inst) (line_at t i.0).result rs slots (signals_given t more) v (h i e.0) (λ ps ss. signals-keep t more ps ss v e.1 h)
+
+fresh-long : (n : ℕ) → length (replicate {A = Option Held} n None) ≡ n
+fresh-long n = length-replicate n None
+
+same-number : (j i : ℕ) → value_def.Arg j ≡ value_def.Arg i → j ≡ i
+same-number j i e = cc
+
+no-instruction : (i : ℕ) (x : InstId) → value_def.Arg i ≡ value_def.Inst x → ⊥
+no-instruction i x e = absurd cc
+
+module _ (a : Arena) (u : ℕ) (o : IsArena a) (h : u < unit_count a) (k : kind_at a u ≡ Some kind.Entity) (g : IsWellFormed (contents a)) where
+  abbrev here : UnitText
+  here = unit_text_at a u
+
+  pub firsts : Each (IsFirst here.args (lines_of here.blocks)) (lines_of here.blocks)
+  firsts =
+      let defined : IsSome (kind_at a u) = subst (λ (x : Option UnitKind). IsSome x) (sym k) refl in
+      each-first here.args (lines_of here.blocks) [] (lines_of here.blocks) refl (rw (sym (same-lines here.blocks)) (unit-is-sound a u o h g defined).printable.new_results)
+
+  -- the same of the instructions by ids
+  pub firsts-of : (insts : List InstId) → insts ≡ block_insts_at a u 0 → Each (IsFirst here.args (lines_of here.blocks)) (map (line_in a u) insts)
+  firsts-of insts e = subst (Each (IsFirst here.args (lines_of here.blocks))) (entity-lines a u o h k ∙ ap (map (line_in a u)) (sym e)) firsts
+
+  pub all-within : (insts : List InstId) → insts ≡ block_insts_at a u 0 → Each (λ (i : InstId). i.0 < inst_count a u) insts
+  all-within insts e = subst (Each (λ (i : InstId). i.0 < inst_count a u)) (sym e) (entity-insts a u o h k)
+
+  all-insts : block_insts_at a u 0 ≡ ids_from 0 (table_at a u).lines
+  all-insts =
+      sym (append-nil (block_insts_at a u 0)) ∙ sym (ap (λ (bs : List BlockId). flat (map (λ (b : BlockId). insts_at (table_at a u) b.0) bs)) (entity-blocks a u o h k)) ∙ (o.tables u h).in_order
+
+  -- the line that gives a value
+  gives : (n j : ℕ) → IsDefinition (table_at a u) n (value_def.Inst (record { 0 = j })) → line_giving (value_text (naming a u) (record { 0 = n })) (lines_of here.blocks) ≡ Some (line_in a u (record { 0 = j })).inst
+  gives n j d =
+      let lines : lines_of here.blocks ≡ map (line_in a u) (ids_from 0 (table_at a u).lines) = entity-lines a u o h k ∙ ap (map (line_in a u)) all-insts in
+      let first : IsFirst here.args (lines_of here.blocks) (line_in a u (record { 0 = j })) =
+      each-id (IsFirst here.args (lines_of here.blocks)) (line_in a u) (table_at a u).lines 0 j (subst (Each (IsFirst here.args (lines_of here.blocks))) lines firsts) (omega arith) (omega (arith, d.0)) in
+      (first (value_text (naming a u) (record { 0 = n })) (ap (maybe_text (naming a u)) d.1)).1
+
+  -- the part of an argument
+  argument-part : (args sigs : List Range) (v : ValueId) (i : ℕ) (d : Range) → IsDefinition (table_at a u) v.0 (value_def.Arg i) → v.0 < value_count a u → i < length args → part_at (parts_of here args sigs) (value_text (naming a u) v) ≡ Some (get_or args i d)
+  argument-part args sigs v i d arg within l =
+      let t = table_at a u in
+      let fresh : List (Option Held) = replicate (value_count a u) None in
+      let once = (o.tables u h).defined_once v.0 in
+      let long : v.0 < length fresh = omega (arith, within, fresh-long (value_count a u)) in
+      let same : (j : ℕ) → j < length t.args → option_map (λ (x : Arg). x.value) (slice_get t.args j) ≡ Some v → j ≡ i = λ j in' e. same-number j i (once (value_def.Arg j) (value_def.Arg i) (in', e) arg) in
+      let held : Holds a u (signals_given t (block_insts_at a u 0) sigs (args_given t.args args fresh)) (parts_of here args sigs) = begun a u o h k args sigs _ refl in
+      let kept : get_or (signals_given t (block_insts_at a u 0) sigs (args_given t.args args fresh)) v.0 None ≡ get_or (args_given t.args args fresh) v.0 None =
+      signals-keep t (block_insts_at a u 0) sigs (args_given t.args args fresh) v (all-within (block_insts_at a u 0) refl) (λ x in' e. no-instruction i x (once (value_def.Arg i) (value_def.Inst x) arg (in', e))) in
+      let all : slot_at (signals_given t (block_insts_at a u 0) sigs (args_given t.args args fresh)) v ≡ Some (part_held (get_or args i d)) = kept ∙ args-slot t.args args fresh v i d arg.1 same l long in
+      ap (option_and_then as_part) (sym (held.each v (let m : v.0 < length (signals_given t (block_insts_at a u 0) sigs (args_given t.args args fresh)) = omega (arith, held.long, within) in m)) ∙ all)
+
+  pub probed-bit : (args sigs : List Range) (now : List Bool) (v : ValueId) (j i : ℕ) (s : Typed) (d : Range) (b : Bool) → IsDefinition (table_at a u) v.0 (value_def.Inst (record { 0 = j })) → inst_at a u j ≡ inst.Prb s
+      → IsDefinition (table_at a u) s.value.0 (value_def.Arg i) → s.value.0 < value_count a u → i < length args → option_and_then carried s.ty ≡ Some (int_type 1) → test_of (read_bits now (Some (int_type 1)) (Some (get_or args i d))) ≡ Some b
+      → IsProbedBit here now (parts_of here args sigs) (value_text (naming a u) v) b
+  probed-bit args sigs now v j i s d b def is arg within l ty bit =
+      let e : Env = parts_of here args sigs in
+      record {
+        signal = operand_text (naming a u) s;
+        probe = record {
+          given = gives v.0 j def ∙ ap (λ x. Some (inst_text (naming a u) x)) is;
+          argument = arg-defined (naming a u) (table_at a u).args i s.value arg.1;
+        };
+        bit = ap (λ (x : Option TypeTree). test_of (read_bits now x (part_at e (value_text (naming a u) s.value)))) ty ∙ ap (λ (x : Option Range). test_of (read_bits now (Some (int_type 1)) x)) (argument-part args sigs s.value i d arg within l) ∙ bit;
+      }
+
+  pub probed-bit-on : (r : Option Bool) (args : List Range) (now : List Bool) (v : ValueId) (j i : ℕ) (s : Typed) (d : Range) → IsDefinition (table_at a u) v.0 (value_def.Inst (record { 0 = j })) → inst_at a u j ≡ inst.Prb s
+      → IsDefinition (table_at a u) s.value.0 (value_def.Arg i) → s.value.0 < value_count a u → i < length args → option_and_then carried s.ty ≡ Some (int_type 1) → IfSome r (λ b. test_of (read_bits now (Some (int_type 1)) (Some (get_or args i d))) ≡ Some b)
+      → IfSome r (λ b. (e : Env) → BeginsBy here args e → IsProbedBit here now e (value_text (naming a u) v) b)
+  probed-bit-on (Some b) args now v j i s d def is arg within l ty bit = λ e h. subst (λ (x : Env). IsProbedBit here now x (value_text (naming a u) v) b) (sym h.1) (probed-bit args h.0 now v j i s d b def is arg within l ty bit)
+  probed-bit-on None args now v j i s d def is arg within l ty bit = tt

@@ -1,0 +1,178 @@
+//! Passes in which no register is driven, told by their triggers alone.
+ghost use Rattle.std.specs.Prelude.{◌≡◌, ◌<◌, List, [], ◌∷◌, ℕ, Bool, true, false, Option, Some, IfOk, IfSome, IsTrue, length, map};
+ghost use Rattle.std.specs.Option.{option_and_then};
+ghost use Rattle.lh_types.specs.Types.{int_type};
+ghost use Rattle.lh_unit.specs.Contents.{OperandText};
+ghost use Rattle.lh_unit.specs.Held.{Env};
+ghost use Rattle.lh_unit.specs.Typing.{carried};
+ghost use Rattle.lh_unit.specs.Effects.{read_bits};
+ghost use Rattle.lh_unit.specs.Naming.{value_text, trigger_text};
+ghost use Rattle.lh_unit.specs.Pass.{Passed, triggers_from};
+ghost use Rattle.lh_unit.specs.Within.{Each, TriggerWithin};
+ghost use Rattle.lh_unit.specs.Arena.{IsArena, unit_count, value_count, inst_count, sizes, kind_at, contents, naming, unit_text_at, block_insts_at};
+ghost use Rattle.lh_unit.specs.WellFormed.{IsWellFormed};
+ghost use Rattle.lh_sound.specs.Finding.{TriggerFinds, Finds, FindsAll};
+ghost use Rattle.lh_react.specs.Standing.{line_in, passed_all};
+ghost use Rattle.lh_react.specs.Quiet.{test_of, IsProbedBit, KnowsProbes, BeginsBy, begins_with, IsStill};
+
+use crate::register::{mode_holds, past_of};
+use crate::state::EntState;
+use lh_time::Instant;
+use lh_types::bits::Bits;
+use lh_types::list::{BoolList, ListOf};
+use lh_types::part::Range;
+use lh_types::ty::{NoMemory, Ty, TyKind};
+use lh_unit::inst::{Inst, InstId, RegTrigger, Typed, UnitId, UnitKind, ValueDef, ValueId};
+use lh_unit::module::Module;
+use std::alloc::Global;
+
+/// What the triggers of an entity are in a pass, where its arguments have these ranges, if it is seen without one that
+/// nothing is driven: there is no drive, each trigger is the bit of a probe of an argument, and no mode holds.
+pub(crate) fn quiet(
+    alloc: Global,
+    m: &Module,
+    unit: UnitId,
+    insts: &[InstId],
+    args: &[Range],
+    now: &Bits,
+    state: &EntState,
+) -> Result<Option<BoolList>, NoMemory>
+    requires arena { IsArena m.now }
+    requires unit { unit.0 < unit_count m.now }
+    requires entity { kind_at m.now unit.0 ≡ Some UnitKind.Entity }
+    requires formed { IsWellFormed (contents m.now) }
+    requires insts { insts.now ≡ block_insts_at m.now unit.0 0 }
+    ensures { IfOk result (λ (o : Option (List Bool)). IfSome o (λ values. (e : Env) (t : Instant) → BeginsBy (unit_text_at m.now unit.0) args.now e → FindsAll (unit_text_at m.now unit.0) now.now state.now t (begins_with e) (map (line_in m.now unit.0) insts.now)
+        → IsStill (passed_all m.now unit.0 now.now state.now t (begins_with e) insts.now) values)) }
+{
+    let mut seen = ListOf::new(alloc);
+    for inst in insts {
+        if !stays_quiet(m, unit, *inst, args, now, state, &mut seen)? {
+            return Ok(None);
+        }
+    }
+    Ok(Some(seen))
+}
+
+/// Whether it is seen that an instruction drives nothing; the values of its triggers are added to those seen.
+fn stays_quiet(
+    m: &Module,
+    unit: UnitId,
+    inst: InstId,
+    args: &[Range],
+    now: &Bits,
+    state: &EntState,
+    seen: &mut BoolList,
+) -> Result<bool, NoMemory>
+    requires unit { unit.0 < unit_count m.now }
+    requires entity { kind_at m.now unit.0 ≡ Some UnitKind.Entity }
+    requires formed { IsWellFormed (contents m.now) }
+    requires inst { inst.0 < inst_count m.now unit.0 }
+    ensures { IfOk result (λ still. IsTrue still → (e : Env) (t : Instant) (p : Passed) → BeginsBy (unit_text_at m.now unit.0) args.now e → KnowsProbes (unit_text_at m.now unit.0) now.now e p.held
+        → Finds (unit_text_at m.now unit.0) now.now t p (line_in m.now unit.0 inst).inst → IsStill p seen.old → IsStill (passed_all m.now unit.0 now.now state.now t p (inst ∷ [])) seen.new) }
+{
+    match m.inst(unit, inst) {
+        Inst::Drv { .. } => Ok(false),
+        Inst::Reg { to: _, triggers } => none_fires(
+            m,
+            unit,
+            triggers.as_slice(),
+            args,
+            now,
+            state,
+            seen,
+        ),
+        _ => Ok(true),
+    }
+}
+
+/// Whether it is seen that no trigger of a register fires; their values are added to those seen.
+fn none_fires(
+    m: &Module,
+    unit: UnitId,
+    triggers: &[RegTrigger],
+    args: &[Range],
+    now: &Bits,
+    state: &EntState,
+    seen: &mut BoolList,
+) -> Result<bool, NoMemory>
+    requires unit { unit.0 < unit_count m.now }
+    requires entity { kind_at m.now unit.0 ≡ Some UnitKind.Entity }
+    requires formed { IsWellFormed (contents m.now) }
+    requires within { Each (TriggerWithin (sizes m.now unit.0)) triggers.now }
+    ensures { IfOk result (λ still. IsTrue still → (e : Env) (t : Instant) (to : OperandText) (p : Passed) → BeginsBy (unit_text_at m.now unit.0) args.now e → KnowsProbes (unit_text_at m.now unit.0) now.now e p.held
+        → Each (TriggerFinds p.held) (map (trigger_text (naming m.now unit.0)) triggers.now) → p.seen ≡ seen.old
+        → triggers_from state.now t to false p (map (trigger_text (naming m.now unit.0)) triggers.now) ≡ record p { seen = seen.new }) }
+{
+    for trigger in triggers {
+        let Some(value) = probed_bit(m, unit, args, now, trigger.trigger) else {
+            return Ok(false);
+        };
+        if mode_holds(trigger.mode, past_of(state, seen.len()), value) {
+            return Ok(false);
+        }
+        seen.push(value)?;
+    }
+    Ok(true)
+}
+
+/// The bit that a value is in a pass, where it is what a `prb` of an argument of one bit gives.
+fn probed_bit(m: &Module, unit: UnitId, args: &[Range], now: &Bits, value: ValueId) -> Option<bool>
+    requires unit { unit.0 < unit_count m.now }
+    requires entity { kind_at m.now unit.0 ≡ Some UnitKind.Entity }
+    requires formed { IsWellFormed (contents m.now) }
+    requires value { value.0 < value_count m.now unit.0 }
+    ensures { IfSome result (λ b. (e : Env) → BeginsBy (unit_text_at m.now unit.0) args.now e → IsProbedBit (unit_text_at m.now unit.0) now.now e (value_text (naming m.now unit.0) value) b) }
+{
+    let ValueDef::Inst(inst) = m.value_def(unit, value) else {
+        return None;
+    };
+    let Inst::Prb(signal) = m.inst(unit, inst) else {
+        return None;
+    };
+    let ValueDef::Arg(number) = m.value_def(unit, signal.value) else {
+        return None;
+    };
+    if !carries_bit(signal) || number as usize >= args.len() {
+        return None;
+    }
+    bit_of(args[number as usize], now)
+}
+
+/// Whether the type that is written before an operand is that of a signal of one bit.
+fn carries_bit(operand: &Typed) -> bool
+    ensures { IsTrue result → option_and_then carried operand.now.ty ≡ Some (int_type 1) }
+{
+    match &operand.ty {
+        Some(ty) => is_bit_signal(ty),
+        None => false,
+    }
+}
+
+fn is_bit_signal(ty: &Ty) -> bool
+    ensures { IsTrue result → carried ty.now ≡ Some (int_type 1) }
+{
+    match ty.kind() {
+        TyKind::Signal(of) => is_bit(of),
+        _ => false,
+    }
+}
+
+fn is_bit(ty: &Ty) -> bool
+    ensures { IsTrue result → ty.now ≡ int_type 1 }
+{
+    match ty.kind() {
+        TyKind::Int(1) => true,
+        _ => false,
+    }
+}
+
+/// The bit of a part of one bit, where it lies within these.
+fn bit_of(part: Range, now: &Bits) -> Option<bool>
+    ensures { IfSome result (λ b. test_of (read_bits now.now (Some (int_type 1)) (Some part)) ≡ Some b) }
+{
+    if part.len != 1 || part.lo >= now.len() {
+        return None;
+    }
+    Some(now.get(part.lo))
+}

@@ -1,0 +1,5 @@
+use Rattle.lh_region.proofs.Heading.{heads-agree}
+use Rattle.lh_region.proofs.laws.head_law.Goals as goal
+
+pub returns : goal.returns
+returns c = heads-agree

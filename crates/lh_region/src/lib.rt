@@ -1,0 +1,9 @@
+//! The regions of a process: what it does from where it starts to where it waits, as rows of terms.
+#![tactic(auto)]
+
+pub mod head;
+pub mod laws;
+pub mod rows;
+
+pub use crate::rows::{DriveList, DriveRow, EndList, EndRow, RegionFault, Regions, Rows, Way};
+pub use lh_flat::{Flat, FlatFault};

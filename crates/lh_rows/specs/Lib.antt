@@ -1,0 +1,10 @@
+pub mod Known
+pub mod Rows
+pub mod Joins
+pub mod Places
+pub mod Regions
+pub mod Typed
+pub mod Means
+pub mod Ending
+pub mod Laws
+pub mod Adjacent

@@ -1,0 +1,4 @@
+pub mod Names
+pub mod Merging
+pub mod Reasons
+pub mod Shapes
