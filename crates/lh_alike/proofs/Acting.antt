@@ -15,15 +15,15 @@ use Rattle.lh_inlined.proofs.Tidying.{functions_are_tidy, processes_are_tidy}
 use Rattle.lh_alike.specs.Acts.{FlatTextsAct}
 
 -- each point that is reached is steady
-abbrev AllSteady : Scene → (width : ℕ) → Point → Type 0
+abbrev pub AllSteady : Scene → (width : ℕ) → Point → Type 0
 AllSteady s width p = (points : List Point) (q : Point) → Reaches s p points q → IsSteady s width q
 
-goes-on : (n : ℕ) (s : Scene) (width : ℕ) (p : Point) → AllSteady s width p → GoesOn n s p
+pub goes-on : (n : ℕ) (s : Scene) (width : ℕ) (p : Point) → AllSteady s width p → GoesOn n s p
 goes-on zero s width p h = tt
 goes-on (suc n) s width p h = (λ e. ((h [] p refl).stops e).1, λ q e. goes-on n s width q (λ points r k. h (q ∷ points) r (e, k)))
 
 -- a process that has halted has no activation, nor has its flat text
-halted-none : (bound : ℕ) (s : Scene) (u : UnitText) (p : ProcessState) (done : Activated) → p.stand ≡ halted → activate bound s u p ≡ Some done → ⊥
+pub halted-none : (bound : ℕ) (s : Scene) (u : UnitText) (p : ProcessState) (done : Activated) → p.stand ≡ halted → activate bound s u p ≡ Some done → ⊥
 unfolding activate
 halted-none bound s u p done e h = none-some done (sym (ap (λ v. option_and_then (λ c. run bound s (start_point c)) (control_from u p.held v)) e) ∙ h)
 

@@ -1,2 +1,5 @@
 mod Acting
+mod Ending
 mod Formed
+mod Lasting
+mod Padding

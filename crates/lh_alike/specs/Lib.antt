@@ -1,2 +1,4 @@
 pub mod Acts
 pub mod Formed
+pub mod Lasting
+pub mod Padding

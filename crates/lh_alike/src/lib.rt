@@ -2,6 +2,9 @@
 //! cite it.
 #![tactic(auto)]
 
+pub mod between;
+pub mod zeros;
+
 ghost use Rattle.lh_alike.specs.Acts.{FlatTextsAct};
 ghost use Rattle.lh_alike.specs.Formed.{FlatTextsAreFormed};
 

@@ -4,3 +4,16 @@ pub mod Tables
 pub mod Meaning
 pub mod Firing
 pub mod Resting
+pub mod Numbers
+pub mod Once
+pub mod Joined
+pub mod Held
+pub mod Found
+pub mod Ids
+pub mod Checked
+pub mod Gate
+pub mod Gathered
+pub mod Made
+pub mod Order
+pub mod Answered
+pub mod Tried

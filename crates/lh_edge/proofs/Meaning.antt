@@ -180,7 +180,7 @@ filter_bits f (t ∷ ts) h = by (f t) (filter_bits f ts h.1)
 
 -- ---- a conjunction is of one bit, and means whether all hold
 
-and_typed : (x y : Tree) → IntTerm x 1 → IntTerm y 1 → IsTyped (operation_on And (x ∷ y ∷ []))
+pub and_typed : (x y : Tree) → IntTerm x 1 → IntTerm y 1 → IsTyped (operation_on And (x ∷ y ∷ []))
 and_typed x y i j =
     let e = i.type in
     let f = j.type in

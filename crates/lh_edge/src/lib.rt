@@ -1,4 +1,13 @@
 //! Edge-shown conditions: at which rises and falls of which parts a condition over values before and now holds.
 #![tactic(auto)]
 
+mod atoms;
 pub mod laws;
+pub mod pasts;
+mod shown;
+mod table;
+#[cfg(test)]
+mod tests;
+pub mod triggers;
+
+pub use crate::triggers::{EdgeFault, EdgeRow, EdgeRowList, Trigger, TriggerList, edges};

@@ -23,3 +23,11 @@ pub mod Fitting
 pub mod Typed
 pub mod Faultless
 pub mod Sites
+pub mod Stepping
+pub mod Spelling
+pub mod Operating
+pub mod Times
+pub mod Headed
+pub mod Printing
+pub mod Taking
+pub mod Bare

@@ -1,9 +1,12 @@
 -- Names of values: no two numbers have one, and the next name is no argument's.
-use Rattle.std.proofs.Common.{◌≡◌, ℕ, zero, suc, ◌+◌, ◌<◌, ◌≤◌, ◌^◌, Bool, true, false, if◌then◌else◌, List, [], ◌∷◌, length, refl, subst, arith}
-use Rattle.std.proofs.lemmas.Fmt.{decimal_injective}
+use Rattle.std.proofs.Common.{◌≡◌, ℕ, zero, suc, ◌+◌, ◌<◌, ◌≤◌, ◌^◌, Bool, true, false, if◌then◌else◌, List, [], ◌∷◌, length, refl, subst, arith, length-append}
+use Rattle.std.proofs.lemmas.Fmt.{decimal_injective, length-decimal-le_wide}
+use Rattle.std.specs.Prelude.{codes}
 use Rattle.std.specs.Fmt.{decimal}
 use Rattle.lh_unit.specs.Contents.{ArgText, same_name, args_define}
+use Rattle.lh_unit.specs.Names.{IsName}
 use Rattle.lh_unit.proofs.Tables.{same_name-is}
+use Rattle.lh_spelled.proofs.Numerals.{decimal-named, all_name_bytes-append}
 use Rattle.lh_emit.specs.Names.{value_name, free_from, free_number}
 
 -- names of different numbers differ
@@ -87,3 +90,11 @@ free_from-free args left (suc n) k l w h = at (args_define (value_name k) args) 
 -- the next name is no argument's
 pub free-free : (args : List ArgText) (k : ℕ) → k + length args < 2 ^ 64 → args_define (value_name (free_number args k)) args ≡ false
 free-free args k w = free_from-free args args (length args) k (omega arith) w (λ j m b e. e)
+
+-- the name of a number
+pub number-name : (k : ℕ) → k < 10 ^ 20 → IsName (value_name k)
+number-name k b =
+    let s : k < 10 ^ 64 = omega (arith, b) in
+    let n : length (decimal k) ≤ 20 = length-decimal-le_wide 20 k (omega arith) b s in
+    let m : length (value_name k) ≡ 1 + length (decimal k) = length-append (codes "v") (decimal k) in
+    (omega (arith, m), omega (arith, m, n), all_name_bytes-append (codes "v") (decimal k) refl (decimal-named k s))

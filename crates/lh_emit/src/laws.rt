@@ -1,5 +1,6 @@
 //! Laws of entities that were emitted, each the contract of a function that does nothing.
 ghost use Rattle.lh_emit.specs.Worked.{WorkedEntities};
+ghost use Rattle.lh_emit.specs.Printed.{CombIsPrintable, EdgeIsPrintable, OnceIsPrintable};
 ghost use Rattle.lh_emit.specs.Laws.{CombPasses, CombSenses, CombIsEntity, CombIsRight, EdgePasses, EdgeSenses, EdgeIsEntity, EdgeIsRight, OncePasses, OnceSenses, OnceIsEntity, OnceIsRight, PartsAreReached};
 
 /// The entity of drives has the process's name and arguments, neither signals nor instances, and no fault, in whatever module it stands; no
@@ -27,6 +28,13 @@ pub fn once_law()
     ensures right { OnceIsRight }
     ensures passes { OncePasses }
     ensures senses { OnceSenses }
+{}
+
+/// What is emitted can be printed and read, where the header of the process can be printed and each delay that is a constant can be written.
+pub fn printing_law()
+    ensures comb { CombIsPrintable }
+    ensures edge { EdgeIsPrintable }
+    ensures once { OnceIsPrintable }
 {}
 
 /// The steps that are found for a part of a process lead to it from its argument.

@@ -1,5 +1,6 @@
-//! Tests of flat texts, on files that are read and verified.
+//! Flat texts of files that are read and verified: the files, and the tests.
 #![tactic(auto)]
 
+pub mod nesting;
 #[cfg(test)]
 mod tests;

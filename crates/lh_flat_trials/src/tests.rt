@@ -3,6 +3,7 @@ ghost use Rattle.std.specs.Prelude.{◌≡◌, ◌<◌, IfOk, Some};
 ghost use Rattle.lh_unit.specs.Arena.{unit_count, kind_at};
 ghost use Rattle.lh_unit.specs.declared.inst.UnitKind.TheVariants.{Proc};
 
+use crate::nesting::nested;
 use lh_flat::flatten::flat;
 use lh_flat::{Flat, FlatFault};
 use lh_read::read;
@@ -37,48 +38,6 @@ fn process(m: &Module) -> Result<UnitId, Fail>
         }
     }
     Err(Fail::new("there is no process"))
-}
-
-fn put(text: &mut Vec<u8>, piece: &[u8]) -> Result<(), Fail> {
-    text.extend_from_slice(piece)?;
-    Ok(())
-}
-
-// A call of the function of this number.
-fn put_call(text: &mut Vec<u8>, number: u8) -> Result<(), Fail> {
-    put(text, b"    call void @f")?;
-    put(text, &[b'0' + number / 10 % 10, b'0' + number % 10])?;
-    put(text, b" ()\n")
-}
-
-// A function that calls the next one so often; the last one calls none.
-fn put_function(text: &mut Vec<u8>, number: u8, functions: u8, calls: u8) -> Result<(), Fail> {
-    put(text, b"func @f")?;
-    put(text, &[b'0' + number / 10 % 10, b'0' + number % 10])?;
-    put(text, b" () void {\ne:\n")?;
-    if number < functions.saturating_sub(1) {
-        for _ in 0..calls {
-            put_call(text, number + 1)?;
-        }
-    }
-    put(text, b"    ret\n}\n")
-}
-
-// A process that calls the first of some functions, of which each calls the next one so often.
-fn nested(alloc: Global, functions: u8, calls: u8, constants: u8) -> Result<Vec<u8>, Fail> {
-    let mut text = Vec::new(alloc);
-    put(&mut text, b"proc @p (i1$ %a) -> () {\nentry:\n")?;
-    put_call(&mut text, 0)?;
-    for number in 0..constants {
-        put(&mut text, b"    %c")?;
-        put(&mut text, &[b'0' + number % 10])?;
-        put(&mut text, b" = const i1 0\n")?;
-    }
-    put(&mut text, b"    halt\n}\n")?;
-    for number in 0..functions {
-        put_function(&mut text, number, functions, calls)?;
-    }
-    Ok(text)
 }
 
 fn answer(alloc: Global, text: &[u8]) -> Result<Result<Flat, FlatFault>, Fail> {

@@ -29,6 +29,3 @@ pub fn print(alloc: Global, m: &Module) -> Result<Vec<u8>, NoMemory>
     units::put_items(&mut out, m)?;
     Ok(out)
 }
-
-#[cfg(test)]
-mod tests;

@@ -95,6 +95,3 @@ fn read_exact(alloc: Global, text: &[u8]) -> Result<Module, TextFault>
 pub fn reading_law()
     ensures { (text : List ℕ) → ReadsOrIsBad text }
 {}
-
-#[cfg(test)]
-mod tests;

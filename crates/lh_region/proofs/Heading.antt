@@ -19,7 +19,7 @@ use Rattle.lh_rows.specs.Regions as rows
 use Rattle.lh_region.specs.Heads.{leads_then, leads_on, leads_to, names, is_named, entry_id, head_if, head_in, LeadsWithin, IsNoBranch, BranchIsLast, LabelsDiffer, HeadsAgree}
 
 -- names of labels are one where their numbers are
-label-same : (f : Naming) (n j k : ℕ) → LabelsDiffer f n → j < n → k < n → same_name (f.label_name j) (f.label_name k) ≡ nat_eq k j
+pub label-same : (f : Naming) (n j k : ℕ) → LabelsDiffer f n → j < n → k < n → same_name (f.label_name j) (f.label_name k) ≡ nat_eq k j
 label-same f n j k d l m = by (same_or k j)
   where
     by : Same k j → same_name (f.label_name j) (f.label_name k) ≡ nat_eq k j

@@ -1,1 +1,11 @@
 pub mod Heading
+pub mod Placing
+pub mod Lacking
+pub mod Telling
+pub mod Valuing
+pub mod Targeting
+pub mod Starting
+pub mod Operating
+pub mod Gathering
+pub mod Phiing
+pub mod Branching

@@ -1,1 +1,9 @@
 pub mod Heads
+pub mod Stands
+pub mod Forms
+pub mod Asked
+pub mod Operands
+pub mod Targets
+pub mod Starts
+pub mod Taken
+pub mod Branches

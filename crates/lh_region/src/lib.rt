@@ -1,9 +1,16 @@
 //! The regions of a process: what it does from where it starts to where it waits, as rows of terms.
 #![tactic(auto)]
 
+pub mod asking;
+pub mod branch;
 pub mod head;
 pub mod laws;
+pub mod operand;
 pub mod rows;
+pub mod start;
+pub mod state;
+pub mod taking;
+pub mod target;
 
 pub use crate::rows::{DriveList, DriveRow, EndList, EndRow, RegionFault, Regions, Rows, Way};
 pub use lh_flat::{Flat, FlatFault};

@@ -1,1 +1,6 @@
 mod Samples
+pub mod Reading
+pub mod Merging
+pub mod Alike
+pub mod Merged
+pub mod Edging

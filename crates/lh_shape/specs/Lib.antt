@@ -1,4 +1,9 @@
 pub mod Names
 pub mod Merging
+pub mod Reading
 pub mod Reasons
 pub mod Shapes
+pub mod Laws
+pub mod ByIds
+pub mod Merged
+pub mod Answers

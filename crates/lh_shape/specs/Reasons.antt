@@ -1,5 +1,5 @@
 -- Why a process stays as it is: the reasons in their order, of which the first one that holds counts.
-use Rattle.std.specs.Prelude.{List, [], ◌∷◌, Bool, true, false, not, ◌&&◌, ◌||◌, nat_eq, if◌then◌else◌, Option, Some, None}
+use Rattle.std.specs.Prelude.{List, [], ◌∷◌, ◌++◌, Bool, true, false, not, ◌&&◌, ◌||◌, nat_eq, if◌then◌else◌, Option, Some, None}
 use Rattle.std.specs.Option.{option_map_or}
 use Rattle.std.specs.List.{list_any, list_all, flat_map}
 use Rattle.lh_term.specs.Make.{is_constant}
@@ -76,9 +76,9 @@ second_drives r = option_map_or (λ (s : Rows). s.drives) r.second []
 abbrev pub second_ends : Regions → List End
 second_ends r = option_map_or (λ (s : Rows). s.ends) r.second []
 
--- The reasons that the rows may give, in their order, each with whether it holds.
-abbrev pub reasons : Regions → List (Bool × Reason)
-reasons r =
+-- the reasons that come before the conditions of the second region are looked at, each with whether it holds
+abbrev pub row_reasons : Regions → List (Bool × Reason)
+row_reasons r =
     (in_some (λ s. list_any ends_halted s.ends) r, reason.Halts)
     ∷ (in_some (λ s. not (is_empty s.asserts)) r, reason.Asserts)
     ∷ (list_any (λ (e : End). is_timed e.way) r.first.ends, reason.TimedWait)
@@ -88,9 +88,18 @@ reasons r =
     ∷ (not (waits_for_head r.first.ends) && not (is_empty r.first.drives), reason.DrivesBeforeWait)
     ∷ (list_any (λ (e : End). is_wait e.way) (second_ends r), reason.WaitsTwice)
     ∷ (list_any (λ (d : Drive). contains_past d.value) (second_drives r), reason.PastValueDriven)
-    ∷ (list_any (λ (d : Drive). has_too_many_atoms d.cond) (second_drives r), reason.TooManyAtoms)
-    ∷ (list_any (λ (d : Drive). not (is_edge_shown (parts_waited r.first.ends) d.cond)) (second_drives r), reason.NoEdge)
     ∷ []
+
+-- the reasons that those conditions give, where the parts are waited on
+abbrev pub trigger_reasons : (waited : List Part) → List Drive → List (Bool × Reason)
+trigger_reasons waited ds =
+    (list_any (λ (d : Drive). has_too_many_atoms d.cond) ds, reason.TooManyAtoms)
+    ∷ (list_any (λ (d : Drive). not (is_edge_shown waited d.cond)) ds, reason.NoEdge)
+    ∷ []
+
+-- The reasons that the rows may give, in their order, each with whether it holds.
+abbrev pub reasons : Regions → List (Bool × Reason)
+reasons r = row_reasons r ++ trigger_reasons (parts_waited r.first.ends) (second_drives r)
 
 -- the first that holds
 abbrev pub first_holding : List (Bool × Reason) → Option Reason

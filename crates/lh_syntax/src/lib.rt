@@ -12,8 +12,6 @@ mod line;
 mod operands;
 mod operations;
 pub mod syntax;
-#[cfg(test)]
-mod tests;
 mod words;
 
 use crate::line::line_item;

@@ -10,4 +10,5 @@ pub mod Places
 pub mod PlacesById
 pub mod ScopeIs
 pub mod SpotParts
+pub mod Turning
 pub mod UnitPlaces

@@ -8,4 +8,5 @@ pub mod PhisById
 pub mod Predecessors
 pub mod Spots
 pub mod SpotsWithin
+pub mod Turns
 pub mod Verifying

@@ -10,6 +10,7 @@ mod place;
 mod predecessors;
 mod probes;
 mod spots;
+mod turns;
 mod undefined;
 mod unit;
 mod units;

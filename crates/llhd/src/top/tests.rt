@@ -1,10 +1,8 @@
 //! Runs in memory: each status, and each call of the source and of the sinks failing in turn.
 mod activations;
 mod failing;
-mod faulty;
-mod samples;
 mod simulations;
-mod spellings;
+mod texts;
 
 use super::run;
 use lh_io::memory::{MemSink, MemSource};

@@ -1,6 +1,6 @@
 //! Simulations in which each single call of the source, of the output and of the log fails in turn.
-use super::samples::ACCUMULATOR;
 use super::simulations::{ACCUMULATOR_TRACE, FAILS};
+use super::texts::ACCUMULATOR;
 use super::{Faults, run_with};
 use std::test::Fail;
 

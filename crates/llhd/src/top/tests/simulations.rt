@@ -1,5 +1,5 @@
 //! Simulations: each status, the texts and the reports. All of them are worked out by hand from the definition of the language.
-use super::samples::{ACCUMULATOR, BLINK, RECURSION};
+use super::texts::{ACCUMULATOR, BLINK, RECURSION};
 use super::{Faults, GOOD, USAGE, run_with};
 use std::alloc::Global;
 use std::test::Fail;

@@ -1,0 +1,425 @@
+-- The ids of atoms as they are found.
+use Rattle.std.proofs.Common.{◌≡◌, ℕ, zero, suc, ◌+◌, ◌<◌, ◌≤◌, Bool, true, false, not, ◌||◌, nat_lt, if◌then◌else◌, List, [], ◌∷◌, ◌++◌, length, map, get_or, refl, sym, ap, ◌∙◌, subst, inl, inr, ◌⊎◌, arith, Option, Some, None, slice_get, append_assoc, append-nil, Vec}
+use Rattle.std.specs.Cmp.{first_so, second_so}
+use Rattle.lh_term.specs.declared.part.Part.{Part}
+use Rattle.lh_term.specs.declared.term.TermId.{TermId}
+use Rattle.lh_term.specs.declared.term.Node.{Node}
+use Rattle.lh_term.specs.Tree.{Tree, constant, past_of, now_of, operation, choice_of}
+use Rattle.lh_term.specs.SameTree.{same_tree, same_tree-is, same_tree-refl}
+use Rattle.lh_term.specs.Arena.{tree_at, trees, trees_at, term_tree, ids_below, IsIn, AreIn, Grows}
+use Rattle.lh_term.proofs.Arenas.{lt_of, of_lt, map_push, map_append, get_within}
+use Rattle.lh_term.proofs.Swaps.{term_there, tree_grown, in_grown, grows_on}
+use Rattle.lh_edge.specs.Atoms.{is_one_bit, is_connective, subterms, subterms_in, presents, has, atoms_of}
+use Rattle.lh_edge.specs.Steps.{joined_by, is_atom, ReachesFrom, AreDistinct, AreOf, AreThe, FindsThe, found_items, with_missing, with_atom, with_some, present_tree, IsPresent, AddsPresent}
+use Rattle.lh_edge.proofs.Bools.{and_both, or_cases, or_left, or_right, false_is, both_ways, has_append, has_left, has_right, has_self, has_once}
+use Rattle.lh_edge.proofs.Joined.{joins, IsJoined, is_joined, found_in, among_below, among_marked}
+
+-- ---- terms with one more
+
+distinct_push : (ts : List Tree) (t : Tree) → AreDistinct ts → has ts t ≡ false → AreDistinct (ts ++ t ∷ [])
+distinct_push [] t d h = (refl, tt)
+distinct_push (u ∷ ts) t d h =
+    let n = neither (same_tree u t) (has ts t) h in
+    (has_append ts (t ∷ []) u ∙ both_false (has ts u) (same_tree t u) d.0 (other n.0), distinct_push ts t d.1 n.1)
+  where
+    neither : (a b : Bool) → (a || b) ≡ false → (a ≡ false) × (b ≡ false)
+    neither true b e = cc
+    neither false b e = (refl, e)
+
+    other : same_tree u t ≡ false → same_tree t u ≡ false
+    other e = false_is (same_tree t u) (λ s. both_ways (same_tree u t) (ap (same_tree u) (same_tree-is t u s) ∙ same_tree-refl u) e)
+
+    both_false : (a b : Bool) → a ≡ false → b ≡ false → (a || (b || false)) ≡ false
+    both_false a b p q = rw (p, q) refl
+
+ids_push : (k : ℕ) (xs : List TermId) (x : TermId) → ids_below k xs ≡ true → x.0 < k → ids_below k (xs ++ x ∷ []) ≡ true
+ids_push k [] x h l = and_both _ _ (of_lt x.0 k l) refl
+ids_push k (y ∷ xs) x h l = and_both _ _ (first_so (nat_lt y.0 k) (ids_below k xs) h) (ids_push k xs x (second_so (nat_lt y.0 k) (ids_below k xs) h) l)
+
+module _ (ns : List Node) (ids : List TermId) (x : TermId) where
+  at_end : trees_at ns (ids ++ x ∷ []) ≡ trees_at ns ids ++ tree_at (trees ns) x ∷ []
+  at_end = map_push (tree_at (trees ns)) ids x
+
+  pub missing_has : has (trees_at ns (with_missing ns ids x)) (tree_at (trees ns) x) ≡ true
+  missing_has = at (has (trees_at ns ids) (tree_at (trees ns) x)) refl
+    where
+      at : (b : Bool) → has (trees_at ns ids) (tree_at (trees ns) x) ≡ b → has (trees_at ns (if b then ids else ids ++ x ∷ [])) (tree_at (trees ns) x) ≡ true
+      at true e = e
+      at false e = ap (λ us. has us (tree_at (trees ns) x)) at_end ∙ has_right (trees_at ns ids) (tree_at (trees ns) x ∷ []) (tree_at (trees ns) x) (has_self (tree_at (trees ns) x) [])
+
+  pub missing_keeps : (t : Tree) → has (trees_at ns ids) t ≡ true → has (trees_at ns (with_missing ns ids x)) t ≡ true
+  missing_keeps t h = at (has (trees_at ns ids) (tree_at (trees ns) x))
+    where
+      at : (b : Bool) → has (trees_at ns (if b then ids else ids ++ x ∷ [])) t ≡ true
+      at true = h
+      at false = ap (λ us. has us t) at_end ∙ has_left (trees_at ns ids) (tree_at (trees ns) x ∷ []) t h
+
+  pub missing_of : (ts : List Tree) → AreOf ns ts ids → IsIn ns x → has ts (tree_at (trees ns) x) ≡ true → AreOf ns ts (with_missing ns ids x)
+  missing_of ts a i h = at (has (trees_at ns ids) (tree_at (trees ns) x)) refl
+    where
+      at : (b : Bool) → has (trees_at ns ids) (tree_at (trees ns) x) ≡ b → AreOf ns ts (if b then ids else ids ++ x ∷ [])
+      at true e = a
+      at false e = record {
+        are_in = ids_push (length ns) ids x a.are_in i;
+        distinct = subst AreDistinct (sym at_end) (distinct_push (trees_at ns ids) (tree_at (trees ns) x) a.distinct e);
+        sound = λ t k. elim (or_cases (has (trees_at ns ids) t) (has (tree_at (trees ns) x ∷ []) t) (sym (has_append (trees_at ns ids) (tree_at (trees ns) x ∷ []) t) ∙ ap (λ us. has us t) (sym at_end) ∙ k)) [
+          | inl p ↦ a.sound t p
+          | inr p ↦ elim (or_cases (same_tree (tree_at (trees ns) x) t) false p) [ inl q ↦ ap (has ts) (sym (same_tree-is _ t q)) ∙ h | inr q ↦ cc ]
+        ];
+      }
+
+  -- what was there stays in front
+  pub missing_front : (rest : List TermId) × (with_missing ns ids x ≡ ids ++ rest)
+  missing_front = at (has (trees_at ns ids) (tree_at (trees ns) x))
+    where
+      at : (b : Bool) → (rest : List TermId) × ((if b then ids else ids ++ x ∷ []) ≡ ids ++ rest)
+      at true = ([], sym (append-nil ids))
+      at false = (x ∷ [], refl)
+
+none_of : (ns : List Node) (ts : List Tree) → AreOf ns ts []
+none_of ns ts = record { are_in = refl; distinct = tt; sound = λ t h. cc }
+
+-- ---- the subterms found so far
+
+pub record FoundSoFar (ns : List Node) (e : TermId) (flags : List Bool) (found : List TermId) (i : ℕ) : Type 0 where
+  pub of : AreOf ns (subterms (tree_at (trees ns) e)) found
+  pub each : (j : ℕ) → j < i → slice_get flags j ≡ Some true → is_atom (tree_at (trees ns) (record { 0 = j })) ≡ true → has (trees_at ns found) (tree_at (trees ns) (record { 0 = j })) ≡ true
+
+pub found_start : (ns : List Node) (e : TermId) (flags : List Bool) (found : List TermId) → found ≡ [] → FoundSoFar ns e flags found 0
+found_start ns e flags found m = subst (λ (xs : List TermId). FoundSoFar ns e flags xs 0) (sym m) (record { of = none_of ns (subterms (tree_at (trees ns) e)); each = λ j l. absurd (omega arith) })
+
+atom_alone : (t : Tree) → is_atom t ≡ true → subterms t ≡ t ∷ []
+atom_alone (constant d) e = at (is_one_bit (constant d)) e
+  where
+    at : (b : Bool) → not b ≡ true → (if b then [] else constant d ∷ []) ≡ constant d ∷ []
+    at true k = cc
+    at false k = refl
+atom_alone (past_of p) e = refl
+atom_alone (now_of p) e = refl
+atom_alone (operation op ts) e = at (is_connective op ts) e
+  where
+    at : (b : Bool) → not b ≡ true → (if b then subterms_in ts else operation op ts ∷ []) ≡ operation op ts ∷ []
+    at true k = cc
+    at false k = refl
+atom_alone (choice_of c f t) e = at (is_one_bit f) e
+  where
+    at : (b : Bool) → not b ≡ true → (if b then subterms c ++ (subterms f ++ subterms t) else choice_of c f t ∷ []) ≡ choice_of c f t ∷ []
+    at true k = cc
+    at false k = refl
+
+here_or_before : (j i : ℕ) → j < i + 1 → (j ≡ i) ⊎ (j < i)
+here_or_before zero zero l = inl refl
+here_or_before zero (suc i) l = inr (omega arith)
+here_or_before (suc j) zero l = absurd (omega arith)
+here_or_before (suc j) (suc i) l = elim (here_or_before j i (omega arith)) [ inl p ↦ inl (ap suc p) | inr p ↦ inr (omega arith) ]
+
+module _ (ns : List Node) (e : TermId) (flags : List Bool) (found : List TermId) (i : ℕ) (s : FoundSoFar ns e flags found i) where
+  pub found_skip : slice_get flags i ≡ Some false → FoundSoFar ns e flags found (i + 1)
+  found_skip f = record {
+    of = s.of;
+    each = λ j l g a. elim (here_or_before j i l) [
+      | inl p ↦ let c : Some true ≡ Some false = sym g ∙ ap (slice_get flags) p ∙ f in cc
+      | inr p ↦ s.each j p g a
+    ];
+  }
+
+  pub found_next : (more : List TermId) → ReachesFrom ns e flags 0 → slice_get flags i ≡ Some true → i < length ns → more ≡ with_atom ns found (record { 0 = i }) → FoundSoFar ns e flags more (i + 1)
+  found_next more r f l m = subst (λ (xs : List TermId). FoundSoFar ns e flags xs (i + 1)) (sym m) (at (is_atom T) refl)
+    where
+      x : TermId
+      x = record { 0 = i }
+
+      T : Tree
+      T = tree_at (trees ns) x
+
+      at : (b : Bool) → is_atom T ≡ b → FoundSoFar ns e flags (if b then with_missing ns found x else found) (i + 1)
+      at false q = record {
+        of = s.of;
+        each = λ j k g a. elim (here_or_before j i k) [
+          | inl p ↦ absurd (both_ways (is_atom T) (ap (λ n. is_atom (tree_at (trees ns) (record { 0 = n }))) (sym p) ∙ a) q)
+          | inr p ↦ s.each j p g a
+        ];
+      }
+      at true q =
+          let own : has (subterms T) T ≡ true = ap (λ us. has us T) (atom_alone T q) ∙ has_self T [] in
+          record {
+            of = missing_of ns found x (subterms (tree_at (trees ns) e)) s.of l (r.sound i T f own);
+            each = λ j k g a. elim (here_or_before j i k) [
+              | inl p ↦ ap (λ n. has (trees_at ns (with_missing ns found x)) (tree_at (trees ns) (record { 0 = n }))) p ∙ missing_has ns found x
+              | inr p ↦ missing_keeps ns found x (tree_at (trees ns) (record { 0 = j })) (s.each j p g a)
+            ];
+          }
+
+-- each subterm of a term that is reached is found
+module _ (ns : List Node) (e : TermId) (flags : List Bool) (found : List TermId) (r : ReachesFrom ns e flags 0) (w : FoundSoFar ns e flags found (length flags)) (t : Tree) (in_e : IsIn ns e) where
+  below_all : (n j : ℕ) → j < n → slice_get flags j ≡ Some true → has (subterms (tree_at (trees ns) (record { 0 = j }))) t ≡ true → has (trees_at ns found) t ≡ true
+  below_all zero j l f h = absurd (omega arith)
+  below_all (suc n) j l f h = at (is_atom J) refl (λ i m k q. below_all n i (omega arith) k q)
+    where
+      J : Tree
+      J = tree_at (trees ns) (record { 0 = j })
+
+      within : j < length flags
+      within = get_within flags j true f
+
+      at : (b : Bool) → is_atom J ≡ b → ((i : ℕ) → i < j → slice_get flags i ≡ Some true → has (subterms (tree_at (trees ns) (record { 0 = i }))) t ≡ true → has (trees_at ns found) t ≡ true) → has (trees_at ns found) t ≡ true
+      at true q next =
+          let alone : has (J ∷ []) t ≡ true = ap (λ us. has us t) (sym (atom_alone J q)) ∙ h in
+          elim (or_cases (same_tree J t) false alone) [ inl p ↦ ap (has (trees_at ns found)) (sym (same_tree-is J t p)) ∙ w.each j within f q | inr p ↦ cc ]
+      at false q next =
+          let (k, is) = term_there ns j (omega (arith, within, r.length_is, in_e)) in
+          let c = r.closed j k (omega arith) f is in
+          let no : is_atom (term_tree (trees ns) k) ≡ false = ap is_atom c.0.shown ∙ q in
+          let j_is : subterms (term_tree (trees ns) k) ≡ joins (map (tree_at (trees ns)) (joined_by (trees ns) k)) = subst (λ (b : Bool). IsJoined (trees ns) k b) no (is_joined (trees ns) k) in
+          let g = found_in (trees ns) (joined_by (trees ns) k) t (ap (λ us. has us t) (sym j_is) ∙ ap (λ u. has (subterms u) t) c.0.shown ∙ h) in
+          next g.id.0 (among_below j (joined_by (trees ns) k) g.id.0 c.0.below g.is_one) (among_marked flags (joined_by (trees ns) k) g.id.0 c.1 g.is_one) g.there
+
+  pub all_found : has (subterms (tree_at (trees ns) e)) t ≡ true → has (trees_at ns found) t ≡ true
+  all_found h = below_all (e.0 + 1) e.0 (omega arith) r.top h
+
+pub finds_all : (ns : List Node) (e : TermId) (flags : List Bool) (found : List TermId) (i : ℕ) → IsIn ns e → ReachesFrom ns e flags 0 → i ≡ length flags → length found ≤ 12 → FoundSoFar ns e flags found i → AreThe ns (subterms (tree_at (trees ns) e)) found
+finds_all ns e flags found i l r n few w =
+    let v : FoundSoFar ns e flags found (length flags) = subst (λ (k : ℕ). FoundSoFar ns e flags found k) n w in
+    record { are = v.of; few = few; whole = λ t h. all_found ns e flags found r v t l h }
+
+-- ---- values now are added
+
+module _ (old cur : List Node) (g : Grows old cur) where
+  pub trees_grown : (xs : List TermId) → AreIn old xs → trees_at cur xs ≡ trees_at old xs
+  trees_grown [] h = refl
+  trees_grown (x ∷ xs) h =
+      let a = tree_grown old cur g x (lt_of x.0 (length old) (first_so (nat_lt x.0 (length old)) (ids_below (length old) xs) h)) in
+      let b = trees_grown xs (second_so (nat_lt x.0 (length old)) (ids_below (length old) xs) h) in
+      λ i. a i ∷ b i
+
+  pub ids_grown : (xs : List TermId) → AreIn old xs → AreIn cur xs
+  ids_grown [] h = refl
+  ids_grown (x ∷ xs) h =
+      let l : x.0 < length old = lt_of x.0 (length old) (first_so (nat_lt x.0 (length old)) (ids_below (length old) xs) h) in
+      and_both _ _ (of_lt x.0 (length cur) (in_grown old cur g x l)) (ids_grown xs (second_so (nat_lt x.0 (length old)) (ids_below (length old) xs) h))
+
+  pub of_grown : (ts : List Tree) (xs : List TermId) → AreOf old ts xs → AreOf cur ts xs
+  of_grown ts xs a =
+      let e = trees_grown xs a.are_in in
+      record {
+        are_in = ids_grown xs a.are_in;
+        distinct = subst AreDistinct (sym e) a.distinct;
+        sound = λ t h. a.sound t (ap (λ us. has us t) (sym e) ∙ h);
+      }
+
+abbrev pub with_presents : Tree → List Tree
+with_presents e = subterms e ++ presents (subterms e)
+
+-- the values now of the first k of the subterms are there
+pub record PresentSoFar (old cur : List Node) (e : Tree) (first ids : List TermId) (k : ℕ) : Type 0 where
+  pub grows : Grows old cur
+  pub of : AreOf cur (with_presents e) ids
+  pub front : (rest : List TermId) × (ids ≡ first ++ rest)
+  pub done : (j : ℕ) (x : TermId) (t : Tree) → j < k → slice_get first j ≡ Some x → present_tree (tree_at (trees old) x) ≡ Some t → has (trees_at cur ids) t ≡ true
+
+pub present_start : (ns : List Node) (e : Tree) (first : List TermId) → AreThe ns (subterms e) first → PresentSoFar ns ns e first first 0
+present_start ns e first a = record {
+  grows = ([], sym (append-nil ns));
+  of = record { are_in = a.are.are_in; distinct = a.are.distinct; sound = λ t h. has_left (subterms e) (presents (subterms e)) t (a.are.sound t h) };
+  front = ([], sym (append-nil first));
+  done = λ j x t l. absurd (omega arith);
+}
+
+get_front : (xs ys : List TermId) (k : ℕ) (d : TermId) → k < length xs → slice_get xs k ≡ Some (get_or (xs ++ ys) k d)
+get_front [] ys k d l = absurd (omega arith)
+get_front (x ∷ xs) ys zero d l = refl
+get_front (x ∷ xs) ys (suc k) d l = get_front xs ys k d (omega arith)
+
+id_in : (k : ℕ) (xs : List TermId) (i : ℕ) (x : TermId) → ids_below k xs ≡ true → slice_get xs i ≡ Some x → x.0 < k
+id_in k [] i x h e = cc
+id_in k (y ∷ xs) zero x h e = let q : y ≡ x = cc in subst (λ (z : TermId). z.0 < k) q (lt_of y.0 k (first_so (nat_lt y.0 k) (ids_below k xs) h))
+id_in k (y ∷ xs) (suc i) x h e = id_in k xs i x (second_so (nat_lt y.0 k) (ids_below k xs) h) e
+
+has_at : (ns : List Node) (xs : List TermId) (i : ℕ) (x : TermId) → slice_get xs i ≡ Some x → has (trees_at ns xs) (tree_at (trees ns) x) ≡ true
+has_at ns [] i x e = cc
+has_at ns (y ∷ xs) zero x e = let q : y ≡ x = cc in ap (λ z. has (trees_at ns (y ∷ xs)) (tree_at (trees ns) z)) (sym q) ∙ has_self (tree_at (trees ns) y) (trees_at ns xs)
+has_at ns (y ∷ xs) (suc i) x e = or_right (same_tree (tree_at (trees ns) y) (tree_at (trees ns) x)) _ (has_at ns xs i x e)
+
+place_of : (ns : List Node) (xs : List TermId) (t : Tree) → has (trees_at ns xs) t ≡ true → (i : ℕ) × (x : TermId) × (slice_get xs i ≡ Some x) × (tree_at (trees ns) x ≡ t)
+place_of ns [] t h = cc
+place_of ns (y ∷ xs) t h = elim (or_cases (same_tree (tree_at (trees ns) y) t) (has (trees_at ns xs) t) h) [
+  | inl p ↦ (0, y, refl, same_tree-is _ t p)
+  | inr p ↦ let (i, x, at, is) = place_of ns xs t p in (suc i, x, at, is)
+]
+
+-- the value now of a subterm that is a value before
+present_there : (ts : List Tree) (s t : Tree) → has ts s ≡ true → present_tree s ≡ Some t → has (presents ts) t ≡ true
+present_there [] s t h e = cc
+present_there (past_of p ∷ ts) s t h e = elim (or_cases (same_tree (past_of p) s) (has ts s) h) [
+  | inl q ↦
+      let is : past_of p ≡ s = same_tree-is (past_of p) s q in
+      let one : Some (now_of p) ≡ Some t = ap present_tree is ∙ e in
+      let two : now_of p ≡ t = cc in
+      or_left _ _ (ap (same_tree (now_of p)) (sym two) ∙ same_tree-refl (now_of p))
+  | inr q ↦ or_right _ _ (present_there ts s t q e)
+]
+present_there (constant d ∷ ts) s t h e = elim (or_cases (same_tree (constant d) s) (has ts s) h) [
+  | inl q ↦ let one : None ≡ Some t = ap present_tree (same_tree-is (constant d) s q) ∙ e in cc
+  | inr q ↦ present_there ts s t q e
+]
+present_there (now_of p ∷ ts) s t h e = elim (or_cases (same_tree (now_of p) s) (has ts s) h) [
+  | inl q ↦ let one : None ≡ Some t = ap present_tree (same_tree-is (now_of p) s q) ∙ e in cc
+  | inr q ↦ present_there ts s t q e
+]
+present_there (operation op us ∷ ts) s t h e = elim (or_cases (same_tree (operation op us) s) (has ts s) h) [
+  | inl q ↦ let one : None ≡ Some t = ap present_tree (same_tree-is (operation op us) s q) ∙ e in cc
+  | inr q ↦ present_there ts s t q e
+]
+present_there (choice_of a b c ∷ ts) s t h e = elim (or_cases (same_tree (choice_of a b c) s) (has ts s) h) [
+  | inl q ↦ let one : None ≡ Some t = ap present_tree (same_tree-is (choice_of a b c) s q) ∙ e in cc
+  | inr q ↦ present_there ts s t q e
+]
+
+present_from : (ts : List Tree) (t : Tree) → has (presents ts) t ≡ true → (p : Part) × (t ≡ now_of p) × (has ts (past_of p) ≡ true)
+present_from [] t h = cc
+present_from (past_of p ∷ ts) t h = elim (or_cases (same_tree (now_of p) t) (has (presents ts) t) h) [
+  | inl q ↦ (p, sym (same_tree-is (now_of p) t q), has_self (past_of p) ts)
+  | inr q ↦ let (r, e, k) = present_from ts t q in (r, e, or_right (same_tree (past_of p) (past_of r)) _ k)
+]
+present_from (constant d ∷ ts) t h = present_from ts t h
+present_from (now_of p ∷ ts) t h = present_from ts t h
+present_from (operation op us ∷ ts) t h = present_from ts t h
+present_from (choice_of a b c ∷ ts) t h = present_from ts t h
+
+no_present : (e p : Tree) (t : Tree) → present_tree p ≡ Some t → has (with_presents e) p ≡ true → has (subterms e) p ≡ true
+no_present e p t q h = elim (or_cases (has (subterms e) p) (has (presents (subterms e)) p) (sym (has_append (subterms e) (presents (subterms e)) p) ∙ h)) [
+  | inl k ↦ k
+  | inr k ↦ let (r, is, m) = present_from (subterms e) p k in let n : None ≡ Some t = ap present_tree (sym is) ∙ q in cc
+]
+
+module _ (old cur : List Node) (e : Tree) (first ids : List TermId) (k : ℕ) (a : AreThe old (subterms e) first) (s : PresentSoFar old cur e first ids k) (l : k < length first) where
+  here : (d : TermId) → slice_get first k ≡ Some (get_or ids k d)
+  here d = let (rest, f) = s.front in get_front first rest k d l ∙ ap (λ xs. Some (get_or xs k d)) (sym f)
+
+  here_in : (d : TermId) → IsIn old (get_or ids k d)
+  here_in d = id_in (length old) first k (get_or ids k d) a.are.are_in (here d)
+
+  pub present_next : (new : List Node) (more : List TermId) → Grows cur new → AddsPresent cur new ids k more → PresentSoFar old new e first more (k + 1)
+  present_next new more g p = at p.found p.made p.added
+    where
+      d : TermId
+      d = record { 0 = 0 }
+
+      x : TermId
+      x = get_or ids k d
+
+      X : Tree
+      X = tree_at (trees old) x
+
+      same : tree_at (trees cur) x ≡ X
+      same = tree_grown old cur s.grows x (here_in d)
+
+      old_done : (j : ℕ) (y : TermId) (t : Tree) → j < k → slice_get first j ≡ Some y → present_tree (tree_at (trees old) y) ≡ Some t → has (trees_at new ids) t ≡ true
+      old_done j y t m is q = ap (λ us. has us t) (trees_grown cur new g ids s.of.are_in) ∙ s.done j y t m is q
+
+      one : (y : TermId) → slice_get first k ≡ Some y → y ≡ x
+      one y is = let c : Some y ≡ Some x = sym is ∙ here d in cc
+
+      at : (f : Option TermId) → IsPresent new (tree_at (trees cur) x) f → more ≡ with_some new ids f → PresentSoFar old new e first more (k + 1)
+      at None is m = subst (λ (xs : List TermId). PresentSoFar old new e first xs (k + 1)) (sym m) (record {
+        grows = grows_on old cur new s.grows g;
+        of = of_grown cur new g (with_presents e) ids s.of;
+        front = s.front;
+        done = λ j y t b q r. elim (here_or_before j k b) [
+          | inl z ↦
+              let h : slice_get first k ≡ Some y = ap (slice_get first) (sym z) ∙ q in
+              let n : None ≡ Some t = sym is ∙ ap present_tree same ∙ ap (λ w. present_tree (tree_at (trees old) w)) (sym (one y h)) ∙ r in
+              cc
+          | inr z ↦ old_done j y t z q r
+        ];
+      })
+      at (Some y) is m =
+          let Y = tree_at (trees new) y in
+          let pres : present_tree X ≡ Some Y = ap present_tree (sym same) ∙ is.1 in
+          let there : has (with_presents e) X ≡ true = has_left (subterms e) (presents (subterms e)) X (a.are.sound X (has_at old first k x (here d))) in
+          let sub : has (subterms e) X ≡ true = no_present e X Y pres there in
+          let y_of : has (with_presents e) Y ≡ true = has_right (subterms e) (presents (subterms e)) Y (present_there (subterms e) X Y sub pres) in
+          let (rest, f) = s.front in
+          let (last, h) = missing_front new ids y in
+          subst (λ (xs : List TermId). PresentSoFar old new e first xs (k + 1)) (sym m) (record {
+            grows = grows_on old cur new s.grows g;
+            of = missing_of new ids y (with_presents e) (of_grown cur new g (with_presents e) ids s.of) is.0 y_of;
+            front = (rest ++ last, h ∙ ap (λ xs. xs ++ last) f ∙ append_assoc first rest last);
+            done = λ j z t b q r. elim (here_or_before j k b) [
+              | inl w ↦
+                  let c : slice_get first k ≡ Some z = ap (slice_get first) (sym w) ∙ q in
+                  let n : Some Y ≡ Some t = sym pres ∙ ap (λ v. present_tree (tree_at (trees old) v)) (sym (one z c)) ∙ r in
+                  let eq : Y ≡ t = cc in
+                  ap (has (trees_at new (with_missing new ids y))) (sym eq) ∙ missing_has new ids y
+              | inr w ↦ missing_keeps new ids y t (old_done j z t w q r)
+            ];
+          })
+
+pub all_present : (old cur : List Node) (e : Tree) (first ids : List TermId) (k : ℕ) → AreThe old (subterms e) first → PresentSoFar old cur e first ids k → k ≡ length first → (t : Tree) → has (with_presents e) t ≡ true → has (trees_at cur ids) t ≡ true
+all_present old cur e first ids k a s n t h = elim (or_cases (has (subterms e) t) (has (presents (subterms e)) t) (sym (has_append (subterms e) (presents (subterms e)) t) ∙ h)) [
+  | inl p ↦
+      let (rest, f) = s.front in
+      let in_first : has (trees_at cur first) t ≡ true = ap (λ us. has us t) (trees_grown old cur s.grows first a.are.are_in) ∙ a.whole t p in
+      ap (λ xs. has (trees_at cur xs) t) f ∙ ap (λ us. has us t) (map_append (tree_at (trees cur)) first rest) ∙ has_left (trees_at cur first) (trees_at cur rest) t in_first
+  | inr p ↦
+      let (q, is, m) = present_from (subterms e) t p in
+      let (i, x, at, tr) = place_of old first (past_of q) (a.whole (past_of q) m) in
+      s.done i x t (let l : i < length first = within first i x at in omega arith) at (ap present_tree tr ∙ ap Some (sym is))
+]
+  where
+    within : (xs : List TermId) (i : ℕ) (x : TermId) → slice_get xs i ≡ Some x → i < length xs
+    within [] i x e = cc
+    within (y ∷ xs) zero x e = omega arith
+    within (y ∷ xs) (suc i) x e = let r : i < length xs = within xs i x e in omega arith
+
+-- ---- the atoms
+
+atoms_has : (e t : Tree) → has (atoms_of e) t ≡ has (with_presents e) t
+unfolding atoms_of
+atoms_has e t = has_once (subterms e ++ presents (subterms e)) t
+
+pub of_atoms : (ns : List Node) (e : Tree) (ids : List TermId) → AreOf ns (with_presents e) ids → AreOf ns (atoms_of e) ids
+of_atoms ns e ids a = record { are_in = a.are_in; distinct = a.distinct; sound = λ t h. atoms_has e t ∙ a.sound t h }
+
+pub the_atoms : (old cur : List Node) (e : Tree) (first ids : List TermId) (k : ℕ) → AreThe old (subterms e) first → PresentSoFar old cur e first ids k → k ≡ length first → length ids ≤ 12 → AreThe cur (atoms_of e) ids
+the_atoms old cur e first ids k a s n few = record {
+  are = of_atoms cur e ids s.of;
+  few = few;
+  whole = λ t h. all_present old cur e first ids k a s n t (sym (atoms_has e t) ∙ h);
+}
+
+-- more than twelve subterms are more than twelve atoms
+pub too_many : (ns : List Node) (e : Tree) → FindsThe ns (subterms e) None → FindsThe ns (atoms_of e) None
+too_many ns e (ids, a, l) = (ids, of_atoms ns e ids (record { are_in = a.are_in; distinct = a.distinct; sound = λ t h. has_left (subterms e) (presents (subterms e)) t (a.sound t h) }), l)
+
+-- ---- as the code takes it apart
+
+pub found_of_none : {A : Type 0} (ns : List Node) (ts : List Tree) (o : Option (Vec TermId A)) → o ≡ None → FindsThe ns ts (found_items o) → FindsThe ns ts None
+found_of_none {A} ns ts o e h = subst (λ (p : Option (Vec TermId A)). FindsThe ns ts (found_items p)) e h
+
+pub found_of_some : {A : Type 0} (ns : List Node) (ts : List Tree) (o : Option (Vec TermId A)) (v : Vec TermId A) → o ≡ Some v → FindsThe ns ts (found_items o) → AreThe ns ts v.items
+found_of_some {A} ns ts o v e h = subst (λ (p : Option (Vec TermId A)). FindsThe ns ts (found_items p)) e h
+
+pub more_than : (ns : List Node) (e : Tree) (cur : List Node) (first ids : List TermId) (k : ℕ) → PresentSoFar ns cur e first ids k → 12 < length ids → FindsThe cur (atoms_of e) None
+more_than ns e cur first ids k s l = (ids, of_atoms cur e ids s.of, l)
+
+pub id_read : (n : ℕ) (xs : List TermId) (k : ℕ) (x : TermId) → x ≡ get_or xs k x → k < length xs → ids_below n xs ≡ true → x.0 < n
+id_read n xs k x e l h = id_in n xs k x h (at xs k x l ∙ ap Some (sym e))
+  where
+    at : (ys : List TermId) (j : ℕ) (d : TermId) → j < length ys → slice_get ys j ≡ Some (get_or ys j d)
+    at [] j d m = absurd (omega arith)
+    at (y ∷ ys) zero d m = refl
+    at (y ∷ ys) (suc j) d m = at ys j d (omega arith)
+
+pub bit_read : (bs : List Bool) (k : ℕ) (b v : Bool) → b ≡ get_or bs k b → slice_get bs k ≡ Some v → b ≡ v
+bit_read bs k b v e h = e ∙ at bs k b h
+  where
+    at : (ys : List Bool) (j : ℕ) (d : Bool) → slice_get ys j ≡ Some v → get_or ys j d ≡ v
+    at [] j d m = cc
+    at (y ∷ ys) zero d m = cc
+    at (y ∷ ys) (suc j) d m = at ys j d m
+
+pub id_get : (n : ℕ) (xs : List TermId) (k : ℕ) (d : TermId) → k < length xs → ids_below n xs ≡ true → (get_or xs k d).0 < n
+id_get n [] k d l h = absurd (omega arith)
+id_get n (x ∷ xs) zero d l h = lt_of x.0 n (first_so (nat_lt x.0 n) (ids_below n xs) h)
+id_get n (x ∷ xs) (suc k) d l h = id_get n xs k d (omega arith) (second_so (nat_lt x.0 n) (ids_below n xs) h)

@@ -1,0 +1,42 @@
+-- What `edges` answers.
+use Rattle.std.specs.Prelude.{◌≡◌, true, false, List, [], ◌∷◌, ◌++◌, Result, Ok, Err}
+use Rattle.lh_term.specs.declared.part.Part.{Part}
+use Rattle.lh_term.specs.declared.term.Node.{Node}
+use Rattle.lh_term.specs.Tree.{Tree}
+use Rattle.lh_term.specs.Arena.{Stands}
+use Rattle.lh_edge.specs.Shown.{has_too_many_atoms, is_edge_shown}
+use Rattle.lh_edge.specs.Triggers.{TriggerTree, triggers_of}
+use Rattle.lh_edge.specs.declared.triggers.Trigger.{Trigger}
+use Rattle.lh_edge.specs.declared.triggers.EdgeFault.{EdgeFault}
+use Rattle.lh_edge.specs.declared.triggers.EdgeFault.TheVariants.{TooManyAtoms, NoEdge, OutOfMemory}
+
+-- the trigger is that one, by ids
+pub record IsTrigger (ns : List Node) (t : Trigger) (x : TriggerTree) : Type 0 where
+  pub rise : t.rise ≡ x.rise
+  pub part : t.part ≡ x.part
+  pub gate : Stands ns t.gate x.gate
+
+-- the triggers are those, one by one
+abbrev pub AreTriggers : List Node → List Trigger → List TriggerTree → Type 0
+AreTriggers ns [] [] = Unit {0}
+AreTriggers ns (t ∷ ts) (x ∷ xs) = IsTrigger ns t x × AreTriggers ns ts xs
+AreTriggers ns _ _ = ⊥
+
+-- triggers were added that stand for those
+pub record AddsTrigger (ns : List Node) (old : List Trigger) (xs : List TriggerTree) (new : List Trigger) : Type 0 where
+  pub more : List Trigger
+  pub added : new ≡ old ++ more
+  pub are : AreTriggers ns more xs
+
+-- the triggers of the condition, where it is edge-shown and its edge part has at most twelve atoms
+pub record GivesTriggers (ns : List Node) (waited : List Part) (c : Tree) (ts : List Trigger) : Type 0 where
+  pub few : has_too_many_atoms c ≡ false
+  pub shown : is_edge_shown waited c ≡ true
+  pub triggers : AreTriggers ns ts (triggers_of waited c)
+
+-- the triggers; or the first fault: too many atoms, else no edge
+abbrev pub Answers : List Node → List Part → Tree → Result (List Trigger) EdgeFault → Type 0
+Answers ns waited c (Ok ts) = GivesTriggers ns waited c ts
+Answers ns waited c (Err TooManyAtoms) = has_too_many_atoms c ≡ true
+Answers ns waited c (Err NoEdge) = (has_too_many_atoms c ≡ false) × (is_edge_shown waited c ≡ false)
+Answers ns waited c (Err OutOfMemory) = Unit {0}

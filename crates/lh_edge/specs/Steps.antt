@@ -1,0 +1,197 @@
+-- What the calls compute on the way.
+use Rattle.std.specs.Prelude.{◌≡◌, ℕ, ◌+◌, ◌/◌, ◌%◌, ◌^◌, ◌<◌, ◌≤◌, Bool, true, false, not, ◌&&◌, ◌||◌, nat_eq, if◌then◌else◌, List, [], ◌∷◌, ◌++◌, length, map, slice_get, slice_index_or, slice_set, Option, Some, None}
+use Rattle.std.specs.List.{list_any}
+use Rattle.std.proofs.Common.{Vec}
+use Rattle.std.proofs.Common.{zero, suc}
+use Rattle.lh_term.specs.declared.part.Part.{Part}
+use Rattle.lh_term.specs.declared.term.TermId.{TermId}
+use Rattle.lh_term.specs.declared.term.Term.{Term}
+use Rattle.lh_term.specs.declared.term.Term.TheVariants.{Op as Applied, Choice}
+use Rattle.lh_term.specs.declared.term.Node.{Node}
+use Rattle.lh_term.specs.Tree.{Tree, constant, past_of, now_of, operation, choice_of, tree_row}
+use Rattle.lh_term.specs.SameTree.{same_tree}
+use Rattle.lh_term.specs.Arena.{tree_at, trees, trees_at, terms_in, term_tree, ids_below, IsIn, AreIn}
+use Rattle.lh_edge.specs.Atoms.{contains_past, is_one_bit, is_connective, subterms, has}
+use Rattle.lh_edge.specs.Valuations.{differ, holds}
+use Rattle.lh_edge.specs.Shown.{can_show}
+use Rattle.lh_edge.specs.Triggers.{comes_first, with_part}
+
+-- ---- values before
+
+-- each flag tells whether a value before is in the term of its number
+abbrev pub TellPasts : List Node → List Bool → Type 0
+TellPasts ns flags = (i : ℕ) → i < length flags → slice_get flags i ≡ Some (contains_past (tree_at (trees ns) (record { 0 = i })))
+
+-- ---- the terms that a term is joined of
+
+-- the terms that a connective joins
+abbrev pub joined_by : List Tree → Term → List TermId
+joined_by ts (Applied op args) = if is_connective op (tree_row (map (tree_at ts) args)) then args else []
+joined_by ts (Choice c f t) = if is_one_bit (tree_at ts f) then c ∷ f ∷ t ∷ [] else []
+joined_by ts _ = []
+
+-- whether the term is no connective
+abbrev pub is_atom : Tree → Bool
+is_atom (constant v) = not (is_one_bit (constant v))
+is_atom (past_of p) = true
+is_atom (now_of p) = true
+is_atom (operation op ts) = not (is_connective op ts)
+is_atom (choice_of c f t) = not (is_one_bit f)
+
+-- the flags with those of some terms set
+abbrev pub marked : List Bool → List TermId → List Bool
+marked flags [] = flags
+marked flags (x ∷ xs) = marked (slice_set flags x.0 true) xs
+
+-- the flag of each is set
+abbrev pub AreMarked : List Bool → List TermId → Type 0
+AreMarked flags [] = Unit {0}
+AreMarked flags (x ∷ xs) = (slice_get flags x.0 ≡ Some true) × AreMarked flags xs
+
+-- k is the term x, which joins terms before it
+pub record IsTerm (ns : List Node) (x : TermId) (k : Term) : Type 0 where
+  pub shown : term_tree (trees ns) k ≡ tree_at (trees ns) x
+  pub below : ids_below x.0 (joined_by (trees ns) k) ≡ true
+
+-- the flags of the terms that x joins were set
+abbrev pub MarksJoined : List Node → TermId → List Bool → List Bool → Type 0
+MarksJoined ns x old new = (k : Term) → slice_get (terms_in ns) x.0 ≡ Some k → IsTerm ns x k × (new ≡ marked old (joined_by (trees ns) k))
+
+-- the flag of e is set, and with each from i on those of the terms that it joins; what is joined of a term whose flag is set is of e
+pub record ReachesFrom (ns : List Node) (e : TermId) (flags : List Bool) (i : ℕ) : Type 0 where
+  pub length_is : length flags ≡ e.0 + 1
+  pub top : slice_get flags e.0 ≡ Some true
+  pub closed : (j : ℕ) (k : Term) → i ≤ j → slice_get flags j ≡ Some true → slice_get (terms_in ns) j ≡ Some k → IsTerm ns (record { 0 = j }) k × AreMarked flags (joined_by (trees ns) k)
+  pub sound : (j : ℕ) (t : Tree) → slice_get flags j ≡ Some true → has (subterms (tree_at (trees ns) (record { 0 = j }))) t ≡ true → has (subterms (tree_at (trees ns) e)) t ≡ true
+
+-- ---- atoms
+
+-- no term stands twice
+abbrev pub AreDistinct : List Tree → Type 0
+AreDistinct [] = Unit {0}
+AreDistinct (t ∷ ts) = (has ts t ≡ false) × AreDistinct ts
+
+-- ids of terms of a list, no two alike
+pub record AreOf (ns : List Node) (ts : List Tree) (ids : List TermId) : Type 0 where
+  pub are_in : AreIn ns ids
+  pub distinct : AreDistinct (trees_at ns ids)
+  pub sound : (t : Tree) → has (trees_at ns ids) t ≡ true → has ts t ≡ true
+
+-- of all terms of the list, which are at most twelve
+pub record AreThe (ns : List Node) (ts : List Tree) (ids : List TermId) : Type 0 where
+  pub are : AreOf ns ts ids
+  pub few : length ids ≤ 12
+  pub whole : (t : Tree) → has ts t ≡ true → has (trees_at ns ids) t ≡ true
+
+-- the ids of the terms of a list, or more than twelve of them
+abbrev pub FindsThe : List Node → List Tree → Option (List TermId) → Type 0
+FindsThe ns ts (Some ids) = AreThe ns ts ids
+FindsThe ns ts None = (ids : List TermId) × AreOf ns ts ids × (12 < length ids)
+
+abbrev pub found_items : {A : Type 0} → Option (Vec TermId A) → Option (List TermId)
+found_items (Some v) = Some v.items
+found_items None = None
+
+-- ---- valuations by number: bit j is that of atom j
+
+abbrev pub is_odd : ℕ → Bool
+is_odd k = nat_eq (k % 2) 1
+
+abbrev pub numbered : List Tree → ℕ → Tree → Bool
+numbered [] k t = false
+numbered (a ∷ more) k t = if same_tree a t then is_odd k else numbered more (k / 2) t
+
+-- whether the term contains a value before and is not this one
+abbrev pub is_other : Tree → Tree → Bool
+is_other b t = contains_past t && not (same_tree b t)
+
+-- whether two numbers have the same bits at all atoms but the values before other than b
+abbrev pub agree : Tree → List Tree → ℕ → ℕ → Bool
+agree b [] k j = true
+agree b (a ∷ more) k j = (is_other b a || nat_eq (k % 2) (j % 2)) && agree b more (k / 2) (j / 2)
+
+-- whether the term holds at the n valuations from number k on
+abbrev pub table_from : List Tree → Tree → ℕ → ℕ → List Bool
+table_from atoms e k zero = []
+table_from atoms e k (suc n) = holds (numbered atoms k) e ∷ table_from atoms e (k + 1) n
+
+-- whether the table, from number j on, is true at each number that agrees with k
+abbrev pub stays_from : Tree → List Tree → ℕ → ℕ → List Bool → Bool
+stays_from b atoms k j [] = true
+stays_from b atoms k j (h ∷ hs) = (h || not (agree b atoms k j)) && stays_from b atoms k (j + 1) hs
+
+-- whether a part shows the valuation of number k
+abbrev pub shows_at : List Bool → List Tree → ℕ → Part → Bool
+shows_at table atoms k p = differ (numbered atoms k (past_of p)) (numbered atoms k (now_of p)) && stays_from (past_of p) atoms k 0 table
+
+-- whether each valuation from number k on at which the table is true is shown by a part
+abbrev pub shown_from : List Bool → List Tree → List Part → ℕ → List Bool → Bool
+shown_from table atoms parts k [] = true
+shown_from table atoms parts k (h ∷ hs) = (not h || list_any (shows_at table atoms k) parts) && shown_from table atoms parts (k + 1) hs
+
+-- the values of terms by their ids
+abbrev pub values_at : List Bool → List TermId → List Bool
+values_at values [] = []
+values_at values (a ∷ more) = slice_index_or values a.0 false ∷ values_at values more
+
+-- the value of each term at a valuation
+abbrev pub AreValues : List Node → (Tree → Bool) → List Bool → List TermId → Type 0
+AreValues ns v values [] = Unit {0}
+AreValues ns v values (a ∷ more) = (slice_get values a.0 ≡ Some (holds v (tree_at (trees ns) a))) × AreValues ns v values more
+
+-- the values of the terms that x joins
+abbrev pub JoinedValues : List Node → (Tree → Bool) → List Bool → TermId → Type 0
+JoinedValues ns v values x = (k : Term) → slice_get (terms_in ns) x.0 ≡ Some k → AreValues ns v values (joined_by (trees ns) k)
+
+-- what the check of all valuations knows of its atoms
+pub record IsKnown (ns : List Node) (atoms : List TermId) (pasts : List Bool) : Type 0 where
+  pub are_in : AreIn ns atoms
+  pub tell : TellPasts ns pasts
+  pub all : length pasts ≡ length ns
+
+-- the part of one bit, waited on, whose value before a term is
+abbrev pub showing_of : List Part → Tree → Option Part
+showing_of waited (past_of p) = if can_show waited p then Some p else None
+showing_of waited t = None
+
+-- ids with one more, unless its term is there
+abbrev pub with_missing : List Node → List TermId → TermId → List TermId
+with_missing ns ids x = if has (trees_at ns ids) (tree_at (trees ns) x) then ids else ids ++ x ∷ []
+
+-- the same, unless its term is a connective
+abbrev pub with_atom : List Node → List TermId → TermId → List TermId
+with_atom ns ids x = if is_atom (tree_at (trees ns) x) then with_missing ns ids x else ids
+
+-- the value now of the part whose value before the term is, if it is one
+abbrev pub present_tree : Tree → Option Tree
+present_tree (past_of p) = Some (now_of p)
+present_tree t = None
+
+abbrev pub IsPresent : List Node → Tree → Option TermId → Type 0
+IsPresent ns t None = present_tree t ≡ None
+IsPresent ns t (Some y) = IsIn ns y × (present_tree t ≡ Some (tree_at (trees ns) y))
+
+-- ids with one more, if there is one
+abbrev pub with_some : List Node → List TermId → Option TermId → List TermId
+with_some ns ids None = ids
+with_some ns ids (Some y) = with_missing ns ids y
+
+-- the value now was added to ids for the one at place k
+pub record AddsPresent (old new : List Node) (ids : List TermId) (k : ℕ) (more : List TermId) : Type 0 where
+  pub found : Option TermId
+  pub made : IsPresent new (tree_at (trees old) (slice_index_or ids k (record { 0 = 0 }))) found
+  pub added : more ≡ with_some new ids found
+
+-- the parts with one more, if there is one, in its place
+abbrev pub with_showing : Option Part → List Part → List Part
+with_showing (Some p) ps = with_part p ps
+with_showing None ps = ps
+
+-- how many come before the place of a part
+abbrev pub place_in : List Part → Part → ℕ
+place_in [] p = 0
+place_in (q ∷ qs) p = if comes_first p q then 0 else place_in qs p + 1
+
+-- whether there is a value before, and each valuation of the atoms is shown
+abbrev pub is_checked : Tree → Tree → List Tree → List Part → Bool
+is_checked c e atoms parts = contains_past c && shown_from (table_from atoms e 0 (2 ^ length atoms)) atoms parts 0 (table_from atoms e 0 (2 ^ length atoms))

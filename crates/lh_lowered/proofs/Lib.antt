@@ -1,0 +1,10 @@
+pub mod Plain
+pub mod Entities
+pub mod Keeping
+pub mod Stepping
+pub mod Turns
+pub mod DeepCalls
+pub mod Worked
+pub mod Loops
+pub mod LoopEntity
+pub mod LoopRows

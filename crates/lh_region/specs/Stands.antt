@@ -1,0 +1,85 @@
+-- Rows by ids, as rows of terms; and what the regions of a flat text are by ids.
+use Rattle.std.specs.Prelude.{◌≡◌, List, [], ◌∷◌, Option, Some, None, Result, Ok, Err}
+use Rattle.lh_term.specs.declared.term.TermId.{TermId}
+use Rattle.lh_term.specs.declared.term.Node.{Node}
+use Rattle.lh_term.specs.Tree.{Tree}
+use Rattle.lh_term.specs.Arena.{Stands}
+use Rattle.lh_rows.specs.Rows as text
+use Rattle.lh_rows.specs.Regions as texts
+use Rattle.lh_rows.specs.Regions.{RegionRefusal, head_phi, too_many_turns, region_too_large, Regioned, no_regions, has_regions}
+use Rattle.lh_region.specs.declared.rows.Way.{Way}
+use Rattle.lh_region.specs.declared.rows.Way.TheVariants as way
+use Rattle.lh_region.specs.declared.rows.DriveRow.{DriveRow}
+use Rattle.lh_region.specs.declared.rows.EndRow.{EndRow}
+use Rattle.lh_region.specs.declared.rows.Rows.{Rows}
+use Rattle.lh_region.specs.declared.rows.Regions.{Regions}
+use Rattle.lh_region.specs.declared.rows.RegionFault.{RegionFault}
+use Rattle.lh_region.specs.declared.rows.RegionFault.TheVariants as fault
+
+-- the drive is that one
+pub record IsDrive (ns : List Node) (d : DriveRow) (x : text.Drive) : Type 0 where
+  pub cond : Stands ns d.cond x.cond
+  pub part : d.part ≡ x.part
+  pub value : Stands ns d.value x.value
+  pub delay : Stands ns d.delay x.delay
+
+-- the drives are those, one by one
+abbrev pub AreDrives : List Node → List DriveRow → List text.Drive → Type 0
+AreDrives ns [] [] = Unit {0}
+AreDrives ns (d ∷ ds) (x ∷ xs) = IsDrive ns d x × AreDrives ns ds xs
+AreDrives ns _ _ = ⊥
+
+-- each id stands for its term
+abbrev pub AreTerms : List Node → List TermId → List Tree → Type 0
+AreTerms ns [] [] = Unit {0}
+AreTerms ns (t ∷ ts) (x ∷ xs) = Stands ns t x × AreTerms ns ts xs
+AreTerms ns _ _ = ⊥
+
+-- how a region ends, where blocks have the numbers of their places
+abbrev pub way_text : Way → text.Way
+way_text way.Halt = text.halts
+way_text way.Head = text.enters_head
+way_text (way.Wait target to_head parts timed) = text.waits target to_head parts timed
+
+-- the end is that one; what is known there is not kept
+pub record IsEnd (ns : List Node) (e : EndRow) (x : text.End) : Type 0 where
+  pub cond : Stands ns e.cond x.cond
+  pub way : way_text e.way ≡ x.way
+
+abbrev pub AreEnds : List Node → List EndRow → List text.End → Type 0
+AreEnds ns [] [] = Unit {0}
+AreEnds ns (e ∷ es) (x ∷ xs) = IsEnd ns e x × AreEnds ns es xs
+AreEnds ns _ _ = ⊥
+
+-- the rows are those
+pub record AreRows (ns : List Node) (r : Rows) (x : text.Rows) : Type 0 where
+  pub probes : r.probes ≡ x.probes
+  pub drives : AreDrives ns r.drives x.drives
+  pub asserts : AreTerms ns r.asserts x.asserts
+  pub ends : AreEnds ns r.ends x.ends
+
+-- so are those of the second region, where it is built
+abbrev pub MaybeRows : List Node → Option Rows → Option text.Rows → Type 0
+MaybeRows ns None None = Unit {0}
+MaybeRows ns (Some r) (Some x) = AreRows ns r x
+MaybeRows ns _ _ = ⊥
+
+pub record AreRegions (ns : List Node) (r : Regions) (x : texts.Regions) : Type 0 where
+  pub first : AreRows ns r.first x.first
+  pub second : MaybeRows ns r.second x.second
+
+-- the reason that a fault tells; none for want of memory
+abbrev pub refusal_of : RegionFault → Option RegionRefusal
+refusal_of fault.HeadPhi = Some head_phi
+refusal_of fault.TooManyTurns = Some too_many_turns
+refusal_of fault.RegionTooLarge = Some region_too_large
+refusal_of fault.OutOfMemory = None
+
+abbrev pub IsRefused : Regioned → Option RegionRefusal → Type 0
+IsRefused x None = Unit {0}
+IsRefused x (Some r) = x ≡ no_regions r
+
+-- The answer is the regions of the definition, or the reason why there are none.
+abbrev pub Answers : List Node → Regioned → Result Regions RegionFault → Type 0
+Answers ns x (Ok r) = (y : texts.Regions) × (x ≡ has_regions y) × AreRegions ns r y
+Answers ns x (Err e) = IsRefused x (refusal_of e)

@@ -1,0 +1,12 @@
+pub mod Outcomes
+pub mod Tracing
+pub mod Faults
+pub mod Naming
+pub mod Entities
+pub mod Forming
+pub mod Times
+pub mod Constants
+pub mod Walking
+pub mod Flats
+pub mod Delaying
+pub mod Writing

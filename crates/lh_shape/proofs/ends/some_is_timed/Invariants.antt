@@ -1,0 +1,7 @@
+use Rattle.std.proofs.Common.{◌≡◌, drop}
+use Rattle.lh_shape.specs.Reasons.{is_timed}
+use Rattle.lh_shape.specs.ByIds.{some_way}
+use Rattle.lh_shape.proofs.ends.some_is_timed.Given as goal
+
+abbrev pub invariant-loop-end : goal.invariant-loop-end
+invariant-loop-end l = some_way is_timed (drop l.end-index l.ends) ≡ some_way is_timed l.ends
