@@ -31,3 +31,4 @@ pub mod Headed
 pub mod Printing
 pub mod Taking
 pub mod Bare
+pub mod Valuing

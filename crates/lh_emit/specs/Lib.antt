@@ -3,6 +3,7 @@ pub mod Emitted
 pub mod Needs
 pub mod Given
 pub mod Fresh
+pub mod Values
 pub mod Operands
 pub mod Entities
 pub mod Ways

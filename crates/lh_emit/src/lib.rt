@@ -4,3 +4,4 @@
 pub mod laws;
 pub mod names;
 pub mod operands;
+pub mod values;

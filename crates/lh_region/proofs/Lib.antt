@@ -9,3 +9,8 @@ pub mod Operating
 pub mod Gathering
 pub mod Phiing
 pub mod Branching
+pub mod Reaching
+pub mod Rowing
+pub mod Going
+pub mod Begun
+pub mod TermGiven

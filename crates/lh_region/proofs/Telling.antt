@@ -82,7 +82,7 @@ pub selected-same : (ms : List Node) (ps qs : List Place) (i : ℕ) → IsSelect
 selected-same ms ps qs i a = replaced-same ps i a.old a.new qs a.replaced (λ k. (a.selected.block k, (a.selected.edges k).items))
 
 -- the places, one of which is replaced by one that is as good
-places-replaced : (ms : List Node) (ps qs : List Place) (i : ℕ) (p q : Place) → IsReplaced ps i p q qs → IsJoin ms q → ((j : ℕ) (x : Place) → slice_get ps j ≡ Some x → IsJoin ms x) → (j : ℕ) (x : Place) → slice_get qs j ≡ Some x → IsJoin ms x
+pub places-replaced : (ms : List Node) (ps qs : List Place) (i : ℕ) (p q : Place) → IsReplaced ps i p q qs → IsJoin ms q → ((j : ℕ) (x : Place) → slice_get ps j ≡ Some x → IsJoin ms x) → (j : ℕ) (x : Place) → slice_get qs j ≡ Some x → IsJoin ms x
 places-replaced ms ps qs i p q r h f j x e = by (same_or i j)
   where
     here : i ≡ j → IsJoin ms x
@@ -105,7 +105,7 @@ tells-selected ms ps qs i told a t =
 
 -- ---- a term that is kept
 
-with-join : (ms : List Node) (p q : Place) (v : ℕ) (t : TermId) → IsWith p v t q → IsJoin ms p → IsJoin ms q
+pub with-join : (ms : List Node) (p q : Place) (v : ℕ) (t : TermId) → IsWith p v t q → IsJoin ms p → IsJoin ms q
 with-join ms p q v t w j = record {
   conds = subst (AreConditions ms) (λ k. (sym w.edges k).items) j.conds;
   selectors = λ ts e. subst (λ (es : List Edge). AreMade ms ts (selectors_on ms es)) (λ k. (sym w.edges k).items) (j.selectors ts (sym w.selectors ∙ e));
@@ -390,3 +390,7 @@ ok-any (Err x) B b = tt
 pub ok-map : {A E : Type 0} (r : Result A E) (P Q : A → Type 0) → ((t : A) → P t → Q t) → IfOk r P → IfOk r Q
 ok-map (Ok t) P Q f h = f t h
 ok-map (Err e) P Q f h = tt
+
+pub ok-then : {A E : Type 0} (r : Result A E) (P Q : Type 0) → (P → Q) → OnOk r P → OnOk r Q
+ok-then (Ok x) P Q f p = f p
+ok-then (Err x) P Q f p = tt

@@ -7,3 +7,8 @@ pub mod Targets
 pub mod Starts
 pub mod Taken
 pub mod Branches
+pub mod Ahead
+pub mod Effects
+pub mod Walking
+pub mod Begins
+pub mod Gives

@@ -1,10 +1,15 @@
 //! The regions of a process: what it does from where it starts to where it waits, as rows of terms.
 #![tactic(auto)]
 
+pub mod ahead;
 pub mod asking;
+pub mod beginning;
 pub mod branch;
+pub mod effects;
+pub mod giving;
 pub mod head;
 pub mod laws;
+pub mod leading;
 pub mod operand;
 pub mod rows;
 pub mod start;

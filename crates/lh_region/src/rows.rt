@@ -84,6 +84,11 @@ pub enum RegionFault {
 }
 
 impl From<NoMemory> for RegionFault {
+    ghost use Rattle.std.specs.Prelude.{◌≡◌};
+    ghost use Rattle.lh_region.specs.declared.rows.RegionFault.TheVariants.{OutOfMemory};
+
+    ghost from_gives = { λ _ e. e ≡ OutOfMemory };
+
     fn from(_: NoMemory) -> RegionFault {
         RegionFault::OutOfMemory
     }

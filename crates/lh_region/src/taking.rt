@@ -65,7 +65,8 @@ pub fn operate(
     Ok(made)
 }
 
-fn asks_at(alloc: Global, at: usize, args: &[Typed]) -> Result<Vec<Ask>, NoMemory>
+/// What is asked for as the operands of an instruction at a place.
+pub fn asks_at(alloc: Global, at: usize, args: &[Typed]) -> Result<Vec<Ask>, NoMemory>
     ensures { IfOk result (λ asks. asks.items ≡ taken.asks_at at args.now) }
 {
     let mut asks = Vec::new(alloc);

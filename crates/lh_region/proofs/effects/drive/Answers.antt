@@ -1,0 +1,19 @@
+use Rattle.std.proofs.Common.{◌≡◌, ◌∙◌, ◌++◌, ◌∷◌, [], List, refl, sym}
+use Rattle.lh_region.specs.declared.rows.Rows.{Rows}
+use Rattle.lh_region.specs.declared.rows.DriveRow.{DriveRow}
+use Rattle.lh_region.specs.Effects.{IsDriven}
+use Rattle.lh_region.proofs.Telling.{ok-then}
+use Rattle.lh_region.proofs.Rowing.{driven-more}
+use Rattle.lh_region.proofs.effects.drive.Goals as goal
+
+pub returns-clause-rows : goal.returns-clause-rows
+returns-clause-rows c =
+    let ns = c.args.terms.now in let ms = c.value_at.new.terms in let os = c.value_at-2.new.terms in
+    let ps = c.args.places.now.items in let qs = c.value_at.new.places.items in let rs = c.value_at-2.new.places.items in
+    let d = c.args.drives in let r = c.args.rows.now in
+    let row : DriveRow = record { cond = d.cond; part = c.args.part; value = c.in_ok-value.value; delay = c.in_ok-delay.delay } in
+    let q : Rows = record { probes = r.probes; drives = c.push.new.self; asserts = r.asserts; ends = r.ends } in
+    ok-then c.push.result (c.push.new.self ≡ r.drives ++ row ∷ []) (IsDriven ns ps r os q d c.args.part)
+    (λ e. driven-more ns ms ps qs d c.in_ok-value.value c.value_at.ensures.kept c.in_ok-value.ensures.still c.in_ok-value.ensures.term os rs c.in_ok-delay.delay c.value_at-2.ensures.kept c.in_ok-delay.ensures.still c.in_ok-delay.ensures.term
+    r q c.args.part row c.requires.cond (sym c.never_holds.ensures ∙ c.if-never_holds.false) refl refl refl refl refl e refl refl)
+    c.push.ensures.ok
