@@ -16,4 +16,3 @@ pub mod Gathered
 pub mod Made
 pub mod Order
 pub mod Answered
-pub mod Tried

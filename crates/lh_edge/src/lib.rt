@@ -6,8 +6,6 @@ pub mod laws;
 pub mod pasts;
 mod shown;
 mod table;
-#[cfg(test)]
-mod tests;
 pub mod triggers;
 
 pub use crate::triggers::{EdgeFault, EdgeRow, EdgeRowList, Trigger, TriggerList, edges};

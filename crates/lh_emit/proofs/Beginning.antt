@@ -1,79 +1,105 @@
--- Before the first instruction a pass holds the arguments.
-use Rattle.std.proofs.Common.{◌≡◌, ℕ, ◌+◌, Bool, true, false, ◌&&◌, nat_eq, List, [], ◌++◌, map, Option, Some, None, slice_get, refl, ap, sym, ◌∙◌, subst, arith}
-use Rattle.std.specs.Option.{option_and_then, option_map, option_map_or}
-use Rattle.lh_types.specs.Types.{TypeTree, signal_type, bit_count, same_type}
-use Rattle.lh_types.specs.Wish.{no_wish}
-use Rattle.lh_types.specs.Same.{and_both, same-is}
-use Rattle.lh_types.specs.declared.part.Range.{Range}
-use Rattle.lh_unit.specs.Contents.{LineText, ArgText, UnitText}
-use Rattle.lh_unit.specs.Held.{part_held, nothing_held}
-use Rattle.lh_unit.specs.Typing.{value_type, or_else, result_type, inst_giving}
-use Rattle.lh_unit.proofs.Lists.{some_inj, nat_eq-is}
+-- An entity with its arguments and no instruction.
+use Rattle.std.proofs.Common.{◌≡◌, ℕ, zero, suc, ◌+◌, ◌-◌, ◌<◌, ◌≤◌, List, [], ◌∷◌, ◌++◌, length, map, take, drop, get_or, Option, Some, None, slice_get, refl, ap, sym, ◌∙◌, subst, arith, append_assoc}
+use Rattle.std.specs.Prelude.{slice_index_or}
+use Rattle.std.specs.Option.{option_map}
+use Rattle.std.proofs.Math.Seq.{take-length}
+use Rattle.std.proofs.lemmas.List.{append-nil}
+use Rattle.lh_unit.specs.Contents.{ArgText}
+use Rattle.lh_unit.specs.Naming.{value_text}
+use Rattle.lh_unit.specs.Typing.{or_else}
 use Rattle.lh_term.specs.declared.part.Part.{Part}
-use Rattle.lh_emit.specs.Names.{value_name}
-use Rattle.lh_emit.specs.Emitted.{nothing_emitted, name_if_whole, whole_name}
-use Rattle.lh_emit.specs.Entities.{entity_with}
-use Rattle.lh_emit.specs.Laws.{ArgumentsFit}
-use Rattle.lh_emit.specs.Reads.{range_in}
-use Rattle.lh_emit.proofs.Arguments.{AreApart, are-apart, other-held, argument-held, argument-named, HasBits, argument-wide}
-use Rattle.lh_emit.proofs.Passing.{Frame, source, start, Begins, HoldsPart, Inv}
+use Rattle.lh_term.specs.declared.term.TermId.{TermId}
+use Rattle.lh_term.specs.declared.term.Node.{Node}
+use Rattle.lh_term.proofs.Arenas.{map_length}
+use Rattle.lh_emission.specs.Emitted.{Source, nothing_emitted, whole_name}
+use Rattle.lh_body.specs.Lines.{naming, line_text, arg_names, HasRoom, BeginsWith, AddsArg, Says}
+use Rattle.lh_emit.specs.Begun.{HasArgs}
+use Rattle.lh_emit.specs.Emitting.{ArgumentsFirst, IsEmitted}
+use Rattle.lh_emit.specs.Parts.{part_in, KnowsParts}
+use Rattle.lh_emit.specs.Values.{value_in}
+use Rattle.lh_emit.specs.declared.emitter.Emitter.{Emitter}
+use Rattle.lh_body.specs.declared.lines.Lines.{Lines}
+use Rattle.lh_emit.specs.declared.parts.Parts.{Parts}
+use Rattle.lh_emit.specs.declared.values.Values.{Values}
+use Rattle.lh_emit.proofs.Knowing.{knows-none}
 
--- the arguments of the frame's unit fit
-abbrev pub ArgsFit : Frame → Type 0
-ArgsFit f = ArgumentsFit f.unit f.args
+-- ---- arguments
 
-module _ (f : Frame) (fit : ArgsFit f) where
-  apart : AreApart f.unit.args
-  apart = are-apart f.unit.args fit.once
+-- those so far, and the names of those that are left
+pub record ArgsSoFar (args : List ArgText) (ls : Lines) (left : List (List ℕ)) : Type 0 where
+  pub done : List ArgText
+  pub rest : List ArgText
+  pub is : args ≡ done ++ rest
+  pub begins : BeginsWith done ls
+  pub names : arg_names rest ≡ left
 
-  argument-type : (y : UnitText) (ls : List LineText) → Begins f fit.few y ls → (k : ℕ) (a : ArgText) → slice_get f.unit.args k ≡ Some a → value_type y a.name ≡ Some a.ty
-  argument-type y ls b k a p =
-      ap (λ x. value_type x a.name) b.is
-      ∙ ap (λ x. or_else (option_map (λ (z : ArgText). z.ty) x) (option_and_then result_type (inst_giving a.name (entity_with f.unit (ls ++ b.more)).blocks))) (argument-named f.unit.args k a apart p)
+pub record AddingArgs (names : List (List ℕ)) (ls : Lines) (left : List (List ℕ)) : Type 0 where
+  pub room : HasRoom ls
+  pub adding : (args : List ArgText) → arg_names args ≡ names → ArgsSoFar args ls left
 
-  -- the bits of an argument
-  whole-range : (k : ℕ) (t : TypeTree) (r : Range) → slice_get f.args k ≡ Some r → r.len ≡ bit_count t → range_in f.args (record { arg = k; lo = 0; ty = t }) ≡ r
-  whole-range k t r p w =
-      let l : r.lo + 0 ≡ r.lo = omega arith in
-      ap (λ (o : Option Range). let z : Range = record { lo = option_map_or (λ (r : Range). r.lo) o 0 + 0; len = bit_count t } in z) p
-      ∙ (λ i. record { lo = l i; len = sym w i })
+pub args-first : (names : List (List ℕ)) (ls : Lines) → HasRoom ls → BeginsWith [] ls → AddingArgs names ls names
+args-first names ls r b = record { room = r; adding = λ args e. record { done = []; rest = args; is = refl; begins = b; names = e } }
 
-  argument-part : (y : UnitText) → Begins f fit.few y [] → (k : ℕ) (a : ArgText) (t : TypeTree) → slice_get f.unit.args k ≡ Some a → a.ty ≡ signal_type t →
-      HoldsPart f fit.few y (start f fit.few).held a.name (record { arg = k; lo = 0; ty = t })
-  argument-part y b k a t p s =
-      let h : HasBits f.args k a.ty = argument-wide f.unit.args f.args k a fit.wide p in
-      let w : h.range.len ≡ bit_count t = h.wide ∙ ap bit_count s in
-      record {
-        held = argument-held f.unit.args f.args nothing_held k a h.range apart p h.there ∙ ap (λ r. Some (part_held r)) (sym (whole-range k t h.range h.there w));
-        type = argument-type y [] b k a p ∙ ap Some s;
-      }
+one-more : (args : List ArgText) (old new : Lines) (n : List ℕ) (left : List (List ℕ)) → AddsArg n old new → ArgsSoFar args old (n ∷ left) → ArgsSoFar args new left
+one-more args old new n left h k = by k.rest k.is k.names
+  where
+    by : (rest : List ArgText) → args ≡ k.done ++ rest → arg_names rest ≡ n ∷ left → ArgsSoFar args new left
+    by [] e q = absurd cc
+    by (a ∷ rest) e q =
+        let p : a.name ≡ n = cc in
+        let r : arg_names rest ≡ left = cc in
+        record { done = k.done ++ a ∷ []; rest = rest; is = e ∙ sym (append_assoc k.done (a ∷ []) rest); begins = h.0 k.done a p k.begins; names = r }
 
-  -- a part with a name is the whole of an argument
-  named-whole : (y : UnitText) → Begins f fit.few y [] → (p : Part) (n : List ℕ) → whole_name f.unit.args p ≡ Some n → HoldsPart f fit.few y (start f fit.few).held n p
-  named-whole y b p n h = at (slice_get f.unit.args p.arg) refl
-    where
-      by : (a : ArgText) → slice_get f.unit.args p.arg ≡ Some a → name_if_whole p a ≡ Some n → (c : Bool) → (nat_eq p.lo 0 && same_type a.ty (signal_type p.ty)) ≡ c →
-          HoldsPart f fit.few y (start f fit.few).held n p
-      by a q g false r = let z : None ≡ Some n = (rw r at g) in absurd cc
-      by a q g true r =
-          let z : Some a.name ≡ Some n = (rw r at g) in
-          let c = and_both (nat_eq p.lo 0) (same_type a.ty (signal_type p.ty)) r in
-          let l : p.lo ≡ 0 = nat_eq-is p.lo 0 c.0 in
-          let x = argument-part y b p.arg a p.ty q (same-is a.ty (signal_type p.ty) c.1) in
-          subst (λ (m : List ℕ). HoldsPart f fit.few y (start f fit.few).held m p) (some_inj a.name n z)
-          (subst (λ (m : ℕ). HoldsPart f fit.few y (start f fit.few).held a.name (record { arg = p.arg; lo = m; ty = p.ty })) (sym l) x)
+split-first : (xs : List (List ℕ)) (d : List ℕ) → 1 ≤ length xs → xs ≡ get_or xs 0 d ∷ take (length xs - 1) (drop 1 xs)
+split-first [] d l = absurd (omega (arith, l))
+split-first (x ∷ xs) d l = let e : length (x ∷ xs) - 1 ≡ length xs = omega arith in ap (λ ys. x ∷ ys) (sym (ap (λ n. take n xs) e ∙ take-length xs))
 
-      at : (o : Option ArgText) → slice_get f.unit.args p.arg ≡ o → HoldsPart f fit.few y (start f fit.few).held n p
-      at None q = let z : None ≡ Some n = (rw q at h) in absurd cc
-      at (Some a) q = by a q (rw q at h) (nat_eq p.lo 0 && same_type a.ty (signal_type p.ty)) refl
+pub args-next : (names : List (List ℕ)) (old new : Lines) (left : List (List ℕ)) (n : List ℕ) → AddingArgs names old left → 1 ≤ length left → n ≡ get_or left 0 n → AddsArg n old new → AddingArgs names new (take (length left - 1) (drop 1 left))
+args-next names old new left n k l e h =
+    let rest = take (length left - 1) (drop 1 left) in
+    let same : left ≡ n ∷ rest = split-first left n l ∙ ap (λ y. y ∷ rest) (sym e) in
+    record { room = h.1; adding = λ args q. one-more args old new n rest h (subst (ArgsSoFar args old) same (k.adding args q)) }
 
-  pub begins : Inv f fit.few no_wish [] (nothing_emitted (source f fit.few))
-  begins y b = record {
-    wish = refl;
-    seen = refl;
-    terms = λ t n h. absurd cc;
-    parts = λ p n h. named-whole y b p n h;
-    args = λ k a t p q. argument-part y b k a t p q;
-    new = λ j m. record { held = other-held (value_name j) f.unit.args (map part_held f.args) nothing_held m.free; given = refl };
-    room = omega arith;
-  }
+none-left : (xs : List (List ℕ)) → length xs < 1 → xs ≡ []
+none-left [] l = refl
+none-left (x ∷ xs) l = absurd (omega (arith, l))
+
+no-names : (xs : List ArgText) → arg_names xs ≡ [] → xs ≡ []
+no-names [] e = refl
+no-names (x ∷ xs) e = absurd cc
+
+pub args-end : (names : List (List ℕ)) (ls : Lines) (left : List (List ℕ)) → AddingArgs names ls left → length left < 1 → HasArgs names ls
+args-end names ls left k l = record { room = k.room; begins = λ args q. on args (k.adding args q) }
+  where
+    on : (args : List ArgText) → ArgsSoFar args ls left → BeginsWith args ls
+    on args z =
+        let e : z.rest ≡ [] = no-names z.rest (z.names ∙ none-left left l) in
+        subst (λ xs. BeginsWith xs ls) (sym (z.is ∙ ap (λ xs. z.done ++ xs) e ∙ append-nil z.done)) z.begins
+
+-- ---- the entity
+
+arg-named : (args : List ArgText) (k : ℕ) (a : ArgText) → slice_get args k ≡ Some a → slice_index_or (arg_names args) k [] ≡ a.name
+arg-named [] k a h = absurd cc
+arg-named (x ∷ args) zero a h = let e : x ≡ a = cc in ap (λ (y : ArgText). y.name) e
+arg-named (x ∷ args) (suc k) a h = arg-named args k a h
+
+or-none : {A : Type 0} (x y : Option A) → y ≡ None → x ≡ or_else x y
+or-none None y e = sym e
+or-none (Some a) y e = refl
+
+pub begins-emitted : (ns : List Node) (s : Source) (ls : Lines) (vs : Values) (ps : Parts) → HasRoom ls → BeginsWith s.args ls → ((x : TermId) → value_in vs x ≡ None) → ((p : Part) → part_in ps p ≡ None) →
+    IsEmitted ns s record { lines = ls; values = vs; parts = ps } (nothing_emitted s)
+begins-emitted ns s ls vs ps room b no_values no_parts = record {
+  room = room;
+  says = record { fresh = b.fresh; next = b.next; lines = ap (map (line_text ls.names)) b.lines; names = b.names ∙ sym (append-nil (arg_names s.args)) };
+  arguments = record {
+    long = omega (arith, ap length b.names, map_length (λ (a : ArgText). a.name) s.args);
+    named = λ k a h. ap (λ ns. slice_index_or ns k []) b.names ∙ arg-named s.args k a h;
+  };
+  terms = knows-none ns ls.names vs (nothing_emitted s) no_values (λ t. refl);
+  parts = record {
+    named = λ p. or-none (whole_name s.args p) (option_map (value_text (naming ls.names)) (part_in ps p)) (ap (option_map (value_text (naming ls.names))) (no_parts p));
+    within = λ p v h. let z = no_parts p in absurd cc;
+  };
+  fit = λ t n h. absurd cc;
+}

@@ -1,236 +1,209 @@
--- What spells the operations of an entity.
-use Rattle.std.proofs.Common.{◌≡◌, ℕ, suc, ◌<◌, ◌^◌, inl, List, [], ◌∷◌, ◌++◌, map, length, Some, decimal, refl, ap, sym, subst, arith, append-nil}
-use Rattle.std.specs.Prelude.{codes}
-use Rattle.lh_types.specs.Types.{TypeTree, array_type, tuple_type, signal_type, row_of, IsData, AreData}
+-- Operations on the values of terms say what the definition's say.
+use Rattle.std.proofs.Common.{◌≡◌, ℕ, zero, suc, ◌+◌, ◌<◌, ◌≤◌, Bool, true, false, if◌then◌else◌, List, [], ◌∷◌, ◌++◌, length, map, take, drop, get_or, Option, Some, None, refl, ap, sym, ◌∙◌, subst, arith, append_assoc, is_some, add-one}
+use Rattle.std.proofs.lemmas.List.{map-append, append-nil}
+use Rattle.std.specs.Prelude.{unwrap_or, nat_lt}
+use Rattle.std.specs.Option.{option_map}
+use Rattle.lh_types.specs.Types.{TypeTree}
 use Rattle.lh_types.specs.declared.op.Op.{Op}
-use Rattle.lh_types.specs.declared.op.Op.TheVariants as op
-use Rattle.lh_types.specs.declared.part.Step.TheVariants.{Field, Slice}
-use Rattle.lh_unit.specs.Names.{IsName}
-use Rattle.lh_unit.specs.Contents.{OperandText, pure_text}
-use Rattle.lh_unit.specs.Lexemes.{Lexeme, word, local}
-use Rattle.lh_unit.specs.Marks.{open_bracket, close_bracket, open_brace, close_brace, comma}
-use Rattle.lh_unit.specs.Pieces.{IsLexeme}
-use Rattle.lh_unit.specs.CanonWords.{op_word, op_numbers}
-use Rattle.lh_unit.specs.Within.{Each}
-use Rattle.lh_unit.specs.SpellsNumbers.{SpellsNumber}
-use Rattle.lh_unit.specs.SpellsParts.{SpellsBehind, SpellsBare, SpellsWithType, SpellsOperand}
-use Rattle.lh_unit.specs.SpellsInst.{typed as typed_column, bare as bare_column, free as free_column, columns, IsOpWord, SpellsColumns, SpellsWordOp, written_types, SpellsPure, SpellsInst}
-use Rattle.lh_spelled.proofs.Numerals.{number_of-decimal}
-use Rattle.lh_spelled.proofs.Spacing.{word-lexeme}
-use Rattle.lh_spelled.proofs.Types.{number-lexeme}
+use Rattle.lh_unit.specs.Contents.{OperandText, InstText, pure_text}
+use Rattle.lh_unit.specs.Naming.{Naming, value_text, operand_text, inst_text}
+use Rattle.lh_unit.specs.Within.{Each, OperandWithin}
+use Rattle.lh_unit.specs.declared.inst.Typed.{Typed}
+use Rattle.lh_unit.specs.declared.inst.ValueId.{ValueId}
+use Rattle.lh_unit.specs.declared.inst.Inst.{Inst}
+use Rattle.lh_unit.specs.declared.inst.Inst.TheVariants as inst
 use Rattle.lh_term.specs.Tree.{Tree}
-use Rattle.lh_term.specs.Types.{TakesTypes, type_of, first_of, row_result}
-use Rattle.lh_term.proofs.Typing.{gives_is}
-use Rattle.lh_term.specs.declared.part.Part.{Part}
-use Rattle.lh_emit.specs.Emitted.{Emitted, term_name, typed, bare}
-use Rattle.lh_emit.specs.Needs.{types_of_all, each_typed, first_typed, operation_text}
-use Rattle.lh_emit.specs.Ways.{part_by}
-use Rattle.lh_emit.proofs.Stepping.{has-small, StepsWell, step-well}
-use Rattle.lh_emit.proofs.Spelling.{each-append, Says, Spelt, limited, type-says, typed-says, free-says, bare-says, number-says, comma-says, parts-says, behind-says}
+use Rattle.lh_term.specs.Types.{type_of, first_of, row_result}
+use Rattle.lh_term.specs.Arena.{trees, tree_at, trees_at, ids_below, IsIn, AreIn}
+use Rattle.lh_term.specs.declared.term.TermId.{TermId}
+use Rattle.lh_term.specs.declared.term.Node.{Node}
+use Rattle.lh_term.proofs.Arenas.{lt_of}
+use Rattle.lh_types.specs.Same.{and_both}
+use Rattle.lh_emission.specs.Emitted.{Emitted, term_name, typed, bare}
+use Rattle.lh_emission.specs.Needs.{writes_each, writes_result, types_of_all, written_type, each_typed, first_typed, operation_text}
+use Rattle.lh_body.specs.Lines.{naming, values_alone}
+use Rattle.lh_emit.specs.Operands.{with_type, without_type, first_with_type}
+use Rattle.lh_emit.specs.Operations.{HaveValues, AreValues, each_with_type, operands_of}
+use Rattle.lh_emit.specs.Tasks.{HasName}
+use Rattle.lh_emit.specs.Values.{value_in, Knows}
+use Rattle.lh_emit.specs.declared.values.Values.{Values}
 
--- ---- operations that have a word
+-- ---- one operand after the other
 
-word-spelt : (o : Op) (args : List OperandText) → IsLexeme (word (op_word o)) → IsOpWord o (op_word o) → Says (SpellsColumns (columns o) args) → Says (SpellsBehind SpellsNumber (op_numbers o)) → Spelt (SpellsWordOp o args)
-word-spelt o args w i c n = record {
-  toks = word (op_word o) ∷ (c.toks ++ n.toks);
-  written = (w, each-append IsLexeme c.toks n.toks c.written n.written);
-  spelled = (op_word o, c.toks ++ n.toks, n.toks, refl, i, c.spelled n.toks, subst (λ z. SpellsBehind SpellsNumber (op_numbers o) z []) (append-nil n.toks) (n.spelled []));
-}
+pub each-in : (ns : List Node) (xs : List TermId) (k : ℕ) → AreIn ns xs → k < length xs → IsIn ns (get_or xs k (record { 0 = 0 }))
+each-in ns [] k h l = absurd (omega (arith, l))
+each-in ns (x ∷ xs) zero h l = lt_of x.0 (length ns) (and_both (nat_lt x.0 (length ns)) (ids_below (length ns) xs) h).0
+each-in ns (x ∷ xs) (suc k) h l = each-in ns xs k (and_both (nat_lt x.0 (length ns)) (ids_below (length ns) xs) h).1 (omega (arith, l))
 
-no-numbers : Says (SpellsBehind SpellsNumber [])
-no-numbers = record { toks = []; written = tt; spelled = λ more. refl }
+each-suc : (ns : List Node) (xs : List TermId) (vs : List ValueId) (k : ℕ) (d : TermId) (w : ValueId) → k < length vs → length vs ≡ length xs →
+    each_with_type ns (drop k xs) (drop k vs) ≡ with_type (type_of (tree_at (trees ns) (get_or xs k d))) (get_or vs k w) ∷ each_with_type ns (drop (suc k) xs) (drop (suc k) vs)
+each-suc ns [] [] k d w l e = absurd (omega (arith, l))
+each-suc ns [] (v ∷ vs) k d w l e = absurd (omega (arith, e))
+each-suc ns (x ∷ xs) [] k d w l e = absurd (omega (arith, l))
+each-suc ns (x ∷ xs) (v ∷ vs) zero d w l e = refl
+each-suc ns (x ∷ xs) (v ∷ vs) (suc k) d w l e = each-suc ns xs vs k d w (omega (arith, l)) (omega (arith, e))
 
-numbers-says : (ns : List ℕ) → Each (λ n. n < 2 ^ 32) ns → Each (λ n. Says (SpellsNumber n)) ns
-numbers-says [] h = tt
-numbers-says (n ∷ ns) h = (number-says n h.0, numbers-says ns h.1)
+-- one more operand of those that are left
+pub each-next : (ns : List Node) (xs : List TermId) (vs : List ValueId) (k : ℕ) (so_far more all : List Typed) (d : TermId) (w : ValueId) → k < length vs → length vs ≡ length xs →
+    so_far ++ each_with_type ns (drop k xs) (drop k vs) ≡ all → more ≡ so_far ++ with_type (type_of (tree_at (trees ns) (get_or xs k d))) (get_or vs k w) ∷ [] →
+    more ++ each_with_type ns (drop (k + 1) xs) (drop (k + 1) vs) ≡ all
+each-next ns xs vs k so_far more all d w l e h q =
+    let j : k + 1 ≡ suc k = add-one k in
+    let one : Typed = with_type (type_of (tree_at (trees ns) (get_or xs k d))) (get_or vs k w) in
+    (λ i. q i ++ each_with_type ns (drop (j i) xs) (drop (j i) vs))
+    ∙ append_assoc so_far (one ∷ []) (each_with_type ns (drop (suc k) xs) (drop (suc k) vs))
+    ∙ ap (λ ts. so_far ++ ts) (sym (each-suc ns xs vs k d w l e)) ∙ h
 
-one-typed : (n : List ℕ) (t : TypeTree) → IsName n → IsData t → Says (SpellsColumns (typed_column ∷ []) (typed n t ∷ []))
-one-typed n t i d = let s = typed-says n t i (limited t d) in record { toks = s.toks; written = s.written; spelled = λ more. s.spelled more }
+each-end : (ns : List Node) (xs : List TermId) (vs : List ValueId) (k : ℕ) → length vs ≤ k → each_with_type ns (drop k xs) (drop k vs) ≡ []
+each-end ns [] [] zero h = refl
+each-end ns (x ∷ xs) [] zero h = refl
+each-end ns [] (v ∷ vs) zero h = absurd (omega (arith, h))
+each-end ns (x ∷ xs) (v ∷ vs) zero h = absurd (omega (arith, h))
+each-end ns [] [] (suc k) h = refl
+each-end ns [] (v ∷ vs) (suc k) h = refl
+each-end ns (x ∷ xs) [] (suc k) h = none (drop k xs)
+  where
+    none : (ys : List TermId) → each_with_type ns ys [] ≡ []
+    none [] = refl
+    none (y ∷ ys) = refl
+each-end ns (x ∷ xs) (v ∷ vs) (suc k) h = each-end ns xs vs k (omega (arith, h))
 
--- a step to a part
-one-signal : (n : List ℕ) (t : TypeTree) → IsName n → IsData t → Says (SpellsColumns (typed_column ∷ []) (typed n (signal_type t) ∷ []))
-one-signal n t i d = let s = typed-says n (signal_type t) i d in record { toks = s.toks; written = s.written; spelled = λ more. s.spelled more }
+pub each-all : (ns : List Node) (xs : List TermId) (vs : List ValueId) (k : ℕ) (all : List Typed) → length vs ≤ k → all ++ each_with_type ns (drop k xs) (drop k vs) ≡ each_with_type ns xs vs → all ≡ each_with_type ns xs vs
+each-all ns xs vs k all l h = sym (append-nil all) ∙ ap (λ ts. all ++ ts) (sym (each-end ns xs vs k l)) ∙ h
 
-pub step-spelt : (q to : Part) (n : List ℕ) (o : Op) → part_by q o ≡ Some to → IsData q.ty → IsName n → Spelt (SpellsInst (pure_text o (typed n (signal_type to.ty) ∷ [])))
-step-spelt q to n (op.Extf k) h d i =
-    let w : StepsWell to (Field k) = step-well q to (Field k) d h in
-    let b : k < 2 ^ 32 = w.small in
-    let s = word-spelt (op.Extf k) (typed n (signal_type to.ty) ∷ []) (word-lexeme (codes "extf") refl) refl (one-signal n to.ty i w.is_data) (behind-says SpellsNumber (k ∷ []) (number-says k b, tt)) in
-    record { toks = s.toks; written = s.written; spelled = s.spelled }
-step-spelt q to n (op.Exts at len) h d i =
-    let w : StepsWell to (Slice at len) = step-well q to (Slice at len) d h in
-    let b : (at < 2 ^ 32) × (len < 2 ^ 32) = w.small in
-    let s = word-spelt (op.Exts at len) (typed n (signal_type to.ty) ∷ []) (word-lexeme (codes "exts") refl) refl (one-signal n to.ty i w.is_data)
-    (behind-says SpellsNumber (at ∷ len ∷ []) (number-says at b.0, (number-says len b.1, tt))) in
-    record { toks = s.toks; written = s.written; spelled = s.spelled }
-step-spelt q to n _ h d i = absurd cc
+-- ---- values of terms
 
--- ---- operands
+pub has-value : (vs : Values) (xs : List TermId) (k : ℕ) (d : TermId) → HaveValues vs xs → k < length xs → is_some (value_in vs (get_or xs k d)) ≡ true
+has-value vs [] k d h l = absurd (omega (arith, l))
+has-value vs (x ∷ xs) zero d h l = h.0
+has-value vs (x ∷ xs) (suc k) d h l = has-value vs xs k d h.1 (omega (arith, l))
 
-two-columns : (o p : OperandText) → Says (SpellsWithType o) → Says (SpellsBare p) → Says (SpellsColumns (typed_column ∷ bare_column ∷ []) (o ∷ p ∷ []))
-two-columns o p a b = let s = comma-says (SpellsWithType o) (SpellsBare p) a b in record { toks = s.toks; written = s.written; spelled = λ more. s.spelled more }
+value-suc : (vs : Values) (xs : List TermId) (k : ℕ) (d : TermId) → k < length xs → map (value_in vs) (drop k xs) ≡ value_in vs (get_or xs k d) ∷ map (value_in vs) (drop (suc k) xs)
+value-suc vs [] k d l = absurd (omega (arith, l))
+value-suc vs (x ∷ xs) zero d l = refl
+value-suc vs (x ∷ xs) (suc k) d l = value-suc vs xs k d (omega (arith, l))
 
-three-columns : (o p q : OperandText) → Says (SpellsWithType o) → Says (SpellsOperand p) → Says (SpellsOperand q) → Says (SpellsColumns (typed_column ∷ free_column ∷ free_column ∷ []) (o ∷ p ∷ q ∷ []))
-three-columns o p q a b c =
-    let s = comma-says (SpellsOperand p) (SpellsOperand q) b c in
-    let r = comma-says (SpellsWithType o) (λ ts more. (us : List Lexeme) × SpellsOperand p ts (comma ∷ us) × SpellsOperand q us more) a s in
-    record { toks = r.toks; written = r.written; spelled = λ more. r.spelled more }
+-- one more value of those that are left
+pub value-next : (vs : Values) (xs : List TermId) (k : ℕ) (so_far more : List ValueId) (v : ValueId) (d : TermId) → k < length xs →
+    map Some so_far ++ map (value_in vs) (drop k xs) ≡ map (value_in vs) xs → Some v ≡ value_in vs (get_or xs k d) → more ≡ so_far ++ v ∷ [] →
+    map Some more ++ map (value_in vs) (drop (k + 1) xs) ≡ map (value_in vs) xs
+value-next vs xs k so_far more v d l h e q =
+    let j : k + 1 ≡ suc k = add-one k in
+    let m : map Some more ≡ map Some so_far ++ Some v ∷ [] = ap (map Some) q ∙ map-append Some so_far (v ∷ []) in
+    (λ i. m i ++ map (value_in vs) (drop (j i) xs))
+    ∙ append_assoc (map Some so_far) (Some v ∷ []) (map (value_in vs) (drop (suc k) xs))
+    ∙ ap (λ ts. map Some so_far ++ ts) ((λ i. e i ∷ map (value_in vs) (drop (suc k) xs)) ∙ sym (value-suc vs xs k d l)) ∙ h
 
-first-data : (ts more : List TypeTree) (a : TypeTree) → ts ≡ a ∷ more → AreData (row_of ts) → IsData (first_of ts)
-first-data [] more a q d = absurd cc
-first-data (t ∷ ts) more a q d = d.0
+value-end : (vs : Values) (xs : List TermId) (k : ℕ) → length xs ≤ k → map (value_in vs) (drop k xs) ≡ []
+value-end vs [] zero l = refl
+value-end vs [] (suc k) l = refl
+value-end vs (x ∷ xs) zero l = absurd (omega (arith, l))
+value-end vs (x ∷ xs) (suc k) l = value-end vs xs k (omega (arith, l))
 
-module _ (e : Emitted) where
-  -- the name of a term can be written
-  abbrev pub TermWritten : Tree → Type 0
-  TermWritten t = IsName (term_name e t)
+pub value-all : (vs : Values) (xs : List TermId) (k : ℕ) (all : List ValueId) → length xs ≤ k → map Some all ++ map (value_in vs) (drop k xs) ≡ map (value_in vs) xs → AreValues vs xs all
+value-all vs xs k all l h = sym (append-nil (map Some all)) ∙ ap (λ ts. map Some all ++ ts) (sym (value-end vs xs k l)) ∙ h
 
-  first-one : (w : TypeTree) (ts : List Tree) (a : TypeTree) → types_of_all ts ≡ a ∷ [] → IsData w → Each TermWritten ts → Says (SpellsColumns (typed_column ∷ []) (first_typed e w ts))
-  first-one w [] a q d n = absurd cc
-  first-one w (t ∷ []) a q d n = one-typed (term_name e t) w n.0 d
-  first-one w (t ∷ u ∷ ts) a q d n = absurd cc
+pub no-operands : (xs : List TermId) (vs : List ValueId) (d : TypeTree) → length vs ≡ length xs → length xs < 1 → [] ≡ first_with_type d vs
+no-operands xs [] d e l = refl
+no-operands xs (v ∷ vs) d e l = absurd (omega (arith, e, l))
 
-  first-two : (w : TypeTree) (ts : List Tree) (a b : TypeTree) → types_of_all ts ≡ a ∷ b ∷ [] → IsData w → Each TermWritten ts → Says (SpellsColumns (typed_column ∷ bare_column ∷ []) (first_typed e w ts))
-  first-two w [] a b q d n = absurd cc
-  first-two w (t ∷ []) a b q d n = absurd cc
-  first-two w (t ∷ u ∷ []) a b q d n = two-columns (typed (term_name e t) w) (bare (term_name e u)) (typed-says (term_name e t) w n.0 (limited w d)) (bare-says (term_name e u) n.1.0)
-  first-two w (t ∷ u ∷ v ∷ ts) a b q d n = absurd cc
+module _ (ns : List Node) (names : List (List ℕ)) (vs : Values) (e : Emitted) (k : Knows ns names vs e) where
+  -- terms that were emitted have values
+  pub have-value : (x : TermId) → IsIn ns x → HasName e (tree_at (trees ns) x) → is_some (value_in vs x) ≡ true
+  have-value x h (n, q) = at (value_in vs x) refl
+    where
+      at : (o : Option ValueId) → value_in vs x ≡ o → is_some (value_in vs x) ≡ true
+      at None p = let z : e.terms (tree_at (trees ns) x) ≡ None = k.named x h ∙ ap (option_map (value_text (naming names))) p in absurd cc
+      at (Some v) p = ap is_some p
 
-  each-three : (ts : List Tree) (a b c : TypeTree) → types_of_all ts ≡ a ∷ b ∷ c ∷ [] → AreData (row_of (types_of_all ts)) → Each TermWritten ts → Says (SpellsColumns (typed_column ∷ free_column ∷ free_column ∷ []) (each_typed e ts))
-  each-three [] a b c q d n = absurd cc
-  each-three (t ∷ []) a b c q d n = absurd cc
-  each-three (t ∷ u ∷ []) a b c q d n = absurd cc
-  each-three (t ∷ u ∷ v ∷ []) a b c q d n =
-      three-columns (typed (term_name e t) (type_of t)) (typed (term_name e u) (type_of u)) (typed (term_name e v) (type_of v))
-      (typed-says (term_name e t) (type_of t) n.0 (limited (type_of t) d.0)) (free-says (term_name e u) (type_of u) n.1.0 (limited (type_of u) d.1.0)) (free-says (term_name e v) (type_of v) n.1.1.0 (limited (type_of v) d.1.1.0))
-  each-three (t ∷ u ∷ v ∷ x ∷ ts) a b c q d n = absurd cc
+  pub have-values : (xs : List TermId) → AreIn ns xs → Each (HasName e) (trees_at ns xs) → HaveValues vs xs
+  have-values [] h q = tt
+  have-values (x ∷ xs) h q =
+      let b = and_both (nat_lt x.0 (length ns)) (ids_below (length ns) xs) h in
+      (have-value x (lt_of x.0 (length ns) b.0) q.0, have-values xs b.1 q.1)
 
-  bares-say : (ts : List Tree) → Each TermWritten ts → Each (λ o. Says (SpellsBare o)) (map (λ u. bare (term_name e u)) ts)
-  bares-say [] n = tt
-  bares-say (t ∷ ts) n = (bare-says (term_name e t) n.0, bares-say ts n.1)
+  -- the name of a term is that of its value
+  pub value-named : (x : TermId) (v : ValueId) → IsIn ns x → Some v ≡ value_in vs x → (value_text (naming names) v ≡ term_name e (tree_at (trees ns) x)) × (v.0 < length names)
+  value-named x v h q = (
+    ap (λ o. unwrap_or o []) (ap (option_map (value_text (naming names))) q ∙ sym (k.named x h)),
+    k.within x v (sym q),
+  )
 
-  each-say : (ts : List Tree) → AreData (row_of (types_of_all ts)) → Each TermWritten ts → Each (λ o. Says (SpellsWithType o)) (each_typed e ts)
-  each-say [] d n = tt
-  each-say (t ∷ ts) d n = (typed-says (term_name e t) (type_of t) n.0 (limited (type_of t) d.0), each-say ts d.1 n.1)
+  pub values-named : (xs : List TermId) (given : List ValueId) → AreIn ns xs → AreValues vs xs given →
+      (map (value_text (naming names)) given ≡ map (term_name e) (trees_at ns xs)) × Each (λ (v : ValueId). v.0 < length names) given
+  values-named [] [] h q = (refl, tt)
+  values-named [] (v ∷ given) h q = absurd cc
+  values-named (x ∷ xs) [] h q = absurd cc
+  values-named (x ∷ xs) (v ∷ given) h q =
+      let b = and_both (nat_lt x.0 (length ns)) (ids_below (length ns) xs) h in
+      let p : Some v ≡ value_in vs x = cc in
+      let r : map Some given ≡ map (value_in vs) xs = cc in
+      let one = value-named x v (lt_of x.0 (length ns) b.0) p in
+      let more = values-named xs given b.1 r in
+      ((λ i. one.0 i ∷ more.0 i), (one.1, more.1))
 
-  bare-length : (ts : List Tree) → length (types_of_all ts) ≡ length (map (λ u. bare (term_name e u)) ts)
-  bare-length [] = refl
-  bare-length (t ∷ ts) = ap suc (bare-length ts)
+-- ---- texts
 
-  written-each : (ts : List Tree) → types_of_all ts ≡ written_types (each_typed e ts)
-  written-each [] = refl
-  written-each (t ∷ ts) = ap (λ l. type_of t ∷ l) (written-each ts)
+module _ (f : Naming) (e : Emitted) where
+  bare-text : (vs : List ValueId) (ts : List Tree) → map (value_text f) vs ≡ map (term_name e) ts → map (operand_text f) (map without_type vs) ≡ map (λ u. bare (term_name e u)) ts
+  bare-text [] [] q = refl
+  bare-text [] (t ∷ ts) q = absurd cc
+  bare-text (v ∷ vs) [] q = absurd cc
+  bare-text (v ∷ vs) (t ∷ ts) q =
+      let p : value_text f v ≡ term_name e t = cc in
+      let r : map (value_text f) vs ≡ map (term_name e) ts = cc in
+      let m = bare-text vs ts r in
+      λ i. record { value = p i; ty = None } ∷ m i
 
-  -- ---- operations that have brackets
+  first-text : (d : TypeTree) (vs : List ValueId) (ts : List Tree) → map (value_text f) vs ≡ map (term_name e) ts → map (operand_text f) (first_with_type d vs) ≡ first_typed e d ts
+  first-text d [] [] q = refl
+  first-text d [] (t ∷ ts) q = absurd cc
+  first-text d (v ∷ vs) [] q = absurd cc
+  first-text d (v ∷ vs) (t ∷ ts) q =
+      let p : value_text f v ≡ term_name e t = cc in
+      let r : map (value_text f) vs ≡ map (term_name e) ts = cc in
+      let m = bare-text vs ts r in
+      λ i. record { value = p i; ty = Some d } ∷ m i
 
-  array-spelt : (ts : List Tree) → TakesTypes op.Array (types_of_all ts) → Each TermWritten ts → Spelt (SpellsPure op.Array (first_typed e (first_of (types_of_all ts)) ts))
-  array-spelt [] k n = absurd (omega (arith, k.row.1))
-  array-spelt (t ∷ ts) k n =
-      let w = type_of t in
-      let g : row_result op.Array (types_of_all (t ∷ ts)) ≡ k.gives = gives_is op.Array (types_of_all (t ∷ ts)) k in
-      let d : IsData (array_type (length (types_of_all (t ∷ ts))) w) = subst IsData (sym g) k.is_data in
-      let l : length (types_of_all (t ∷ ts)) ≡ length (first_typed e w (t ∷ ts)) = ap suc (bare-length ts) in
-      let s = type-says w (limited w k.data_types.0) in
-      let b = behind-says SpellsBare (map (λ u. bare (term_name e u)) ts) (bares-say ts n.1) in
-      let vs : List Lexeme = b.toks ++ close_bracket ∷ [] in
-      let us : List Lexeme = s.toks ++ local (term_name e t) ∷ vs in
-      record {
-        toks = open_bracket ∷ us;
-        written = (refl, each-append IsLexeme s.toks (local (term_name e t) ∷ vs) s.written (n.0, each-append IsLexeme b.toks (close_bracket ∷ []) b.written (refl, tt)));
-        spelled = (w, us, vs, refl, refl, s.spelled (local (term_name e t) ∷ vs), b.spelled (close_bracket ∷ []), subst (λ m. IsData (array_type m w)) l d);
-      }
+  each-text : (ns : List Node) (xs : List TermId) (vs : List ValueId) → map (value_text f) vs ≡ map (term_name e) (trees_at ns xs) → map (operand_text f) (each_with_type ns xs vs) ≡ each_typed e (trees_at ns xs)
+  each-text ns [] vs q = refl
+  each-text ns (x ∷ xs) [] q = absurd cc
+  each-text ns (x ∷ xs) (v ∷ vs) q =
+      let p : value_text f v ≡ term_name e (tree_at (trees ns) x) = cc in
+      let r : map (value_text f) vs ≡ map (term_name e) (trees_at ns xs) = cc in
+      let m = each-text ns xs vs r in
+      λ i. record { value = p i; ty = Some (type_of (tree_at (trees ns) x)) } ∷ m i
 
-  repeat-spelt : (c : ℕ) (ts : List Tree) (a : TypeTree) → types_of_all ts ≡ a ∷ [] → AreData (row_of (types_of_all ts)) → IsData (array_type c (first_of (types_of_all ts))) → Each TermWritten ts →
-      Spelt (SpellsPure (op.Repeat c) (first_typed e (first_of (types_of_all ts)) ts))
-  repeat-spelt c [] a q d r n = absurd cc
-  repeat-spelt c (t ∷ []) a q d r n =
-      let w = type_of t in
-      let b : c < 2 ^ 32 = r.2 in
-      let m : c < 10 ^ 64 = omega (arith, b) in
-      let s = type-says w (limited w d.0) in
-      let vs : List Lexeme = local (term_name e t) ∷ close_bracket ∷ [] in
-      record {
-        toks = open_bracket ∷ word (decimal c) ∷ word (codes "x") ∷ (s.toks ++ vs);
-        written = (refl, (number-lexeme c m, (word-lexeme (codes "x") refl, each-append IsLexeme s.toks vs s.written (n.0, (refl, tt)))));
-        spelled = (w, decimal c, s.toks ++ vs, refl, number_of-decimal c m, refl, s.spelled vs, r);
-      }
-  repeat-spelt c (t ∷ u ∷ ts) a q d r n = absurd cc
+  -- the operation on the values is the operation on the terms
+  pub operation-same : (ns : List Node) (op : Op) (xs : List TermId) (d : TypeTree) (vs : List ValueId) → map (value_text f) vs ≡ map (term_name e) (trees_at ns xs) →
+      (writes_result op ≡ true → d ≡ row_result op (types_of_all (trees_at ns xs))) → inst_text f (inst.Pure op (operands_of ns op xs d vs)) ≡ operation_text e op (trees_at ns xs)
+  operation-same ns op xs d vs q w = ap (pure_text op) (at (writes_each op) (writes_result op) refl refl)
+    where
+      at : (a b : Bool) → writes_each op ≡ a → writes_result op ≡ b →
+          map (operand_text f) (if a then each_with_type ns xs vs else first_with_type (if b then d else first_of (types_of_all (trees_at ns xs))) vs)
+          ≡ (if a then each_typed e (trees_at ns xs) else first_typed e (if b then row_result op (types_of_all (trees_at ns xs)) else first_of (types_of_all (trees_at ns xs))) (trees_at ns xs))
+      at true b p r = each-text ns xs vs q
+      at false true p r = first-text d vs (trees_at ns xs) q ∙ ap (λ t. first_typed e t (trees_at ns xs)) (w r)
+      at false false p r = first-text (first_of (types_of_all (trees_at ns xs))) vs (trees_at ns xs) q
 
-  tuple-spelt : (ts : List Tree) → TakesTypes op.Tuple (types_of_all ts) → Each TermWritten ts → Spelt (SpellsPure op.Tuple (each_typed e ts))
-  tuple-spelt [] k n = absurd (omega (arith, k.row.0))
-  tuple-spelt (t ∷ ts) k n =
-      let all = each-say (t ∷ ts) k.data_types n in
-      let p = parts-says SpellsWithType (typed (term_name e t) (type_of t)) (each_typed e ts) all.0 all.1 in
-      let g : row_result op.Tuple (types_of_all (t ∷ ts)) ≡ k.gives = gives_is op.Tuple (types_of_all (t ∷ ts)) k in
-      let d : IsData (tuple_type (row_of (types_of_all (t ∷ ts)))) = subst IsData (sym g) k.is_data in
-      let us : List Lexeme = p.toks ++ close_brace ∷ [] in
-      record {
-        toks = open_brace ∷ us;
-        written = (refl, each-append IsLexeme p.toks (close_brace ∷ []) p.written (refl, tt));
-        spelled = (us, refl, p.spelled (close_brace ∷ []), subst (λ l. IsData (tuple_type (row_of l))) (written-each (t ∷ ts)) d);
-      }
+-- ---- ids
 
-  -- ---- any operation
+bare-within : (n : ℕ) (vs : List ValueId) → Each (λ (v : ValueId). v.0 < n) vs → Each (OperandWithin (values_alone n)) (map without_type vs)
+bare-within n [] h = tt
+bare-within n (v ∷ vs) h = (h.0, bare-within n vs h.1)
 
-  abbrev Pure : Op → List Tree → Type 0
-  Pure o ts = Spelt (SpellsInst (operation_text e o ts))
+first-within : (n : ℕ) (d : TypeTree) (vs : List ValueId) → Each (λ (v : ValueId). v.0 < n) vs → Each (OperandWithin (values_alone n)) (first_with_type d vs)
+first-within n d [] h = tt
+first-within n d (v ∷ vs) h = (h.0, bare-within n vs h.1)
 
-  module _ (o : Op) (ts : List Tree) (k : TakesTypes o (types_of_all ts)) where
-    -- what is given is of a data type
-    result-data : IsData (row_result o (types_of_all ts))
-    result-data = subst IsData (sym (gives_is o (types_of_all ts) k)) k.is_data
+each-within : (n : ℕ) (ns : List Node) (xs : List TermId) (vs : List ValueId) → Each (λ (v : ValueId). v.0 < n) vs → Each (OperandWithin (values_alone n)) (each_with_type ns xs vs)
+each-within n ns [] vs h = tt
+each-within n ns (x ∷ xs) [] h = tt
+each-within n ns (x ∷ xs) (v ∷ vs) h = (h.0, each-within n ns xs vs h.1)
 
-    whole-data : (a : TypeTree) (more : List TypeTree) → types_of_all ts ≡ a ∷ more → IsData a
-    whole-data a more q = (subst (λ z. AreData (row_of z)) q k.data_types).0
-
-  pub operation-spelt : (o : Op) (ts : List Tree) → TakesTypes o (types_of_all ts) → Each TermWritten ts → Pure o ts
-  operation-spelt op.Array ts k n = let s = array-spelt ts k n in record { toks = s.toks; written = s.written; spelled = s.spelled }
-  operation-spelt (op.Repeat c) ts k n =
-      let s = repeat-spelt c ts k.row.0 k.row.1 k.data_types (result-data (op.Repeat c) ts k) n in record { toks = s.toks; written = s.written; spelled = s.spelled }
-  operation-spelt op.Tuple ts k n = let s = tuple-spelt ts k n in record { toks = s.toks; written = s.written; spelled = s.spelled }
-  operation-spelt op.Not ts k n =
-      let d = first-data (types_of_all ts) [] _ k.row.1 k.data_types in
-      let s = word-spelt op.Not _ (word-lexeme (codes "not") refl) refl (first-one (first_of (types_of_all ts)) ts _ k.row.1 d n) no-numbers in
-      record { toks = s.toks; written = s.written; spelled = s.spelled }
-  operation-spelt op.Neg ts k n =
-      let d = first-data (types_of_all ts) [] _ k.row.1 k.data_types in
-      let s = word-spelt op.Neg _ (word-lexeme (codes "neg") refl) refl (first-one (first_of (types_of_all ts)) ts _ k.row.1 d n) no-numbers in
-      record { toks = s.toks; written = s.written; spelled = s.spelled }
-  operation-spelt op.Shl ts k n =
-      let s = word-spelt op.Shl _ (word-lexeme (codes "shl") refl) refl (each-three ts _ _ _ k.row.2 k.data_types n) no-numbers in
-      record { toks = s.toks; written = s.written; spelled = s.spelled }
-  operation-spelt op.Shr ts k n =
-      let s = word-spelt op.Shr _ (word-lexeme (codes "shr") refl) refl (each-three ts _ _ _ k.row.2 k.data_types n) no-numbers in
-      record { toks = s.toks; written = s.written; spelled = s.spelled }
-  operation-spelt op.Mux ts k n =
-      let s = word-spelt op.Mux _ (word-lexeme (codes "mux") refl) refl (first-two (row_result op.Mux (types_of_all ts)) ts _ _ k.row.2 (result-data op.Mux ts k) n) no-numbers in
-      record { toks = s.toks; written = s.written; spelled = s.spelled }
-  operation-spelt (op.Extf i) ts k n =
-      let b : i < 2 ^ 32 = has-small k.row.0 (Field i) k.gives (whole-data (op.Extf i) ts k k.row.0 [] k.row.1) k.row.2 in
-      let s = word-spelt (op.Extf i) _ (word-lexeme (codes "extf") refl) refl (first-one (row_result (op.Extf i) (types_of_all ts)) ts _ k.row.1 (result-data (op.Extf i) ts k) n)
-      (behind-says SpellsNumber (i ∷ []) (number-says i b, tt)) in
-      record { toks = s.toks; written = s.written; spelled = s.spelled }
-  operation-spelt (op.Exts at len) ts k n =
-      let b : (at < 2 ^ 32) × (len < 2 ^ 32) = has-small k.row.0 (Slice at len) k.gives (whole-data (op.Exts at len) ts k k.row.0 [] k.row.1) k.row.2 in
-      let s = word-spelt (op.Exts at len) _ (word-lexeme (codes "exts") refl) refl (first-one (row_result (op.Exts at len) (types_of_all ts)) ts _ k.row.1 (result-data (op.Exts at len) ts k) n)
-      (behind-says SpellsNumber (at ∷ len ∷ []) (number-says at b.0, (number-says len b.1, tt))) in
-      record { toks = s.toks; written = s.written; spelled = s.spelled }
-  operation-spelt (op.Insf i) ts k n =
-      let b : i < 2 ^ 32 = has-small k.gives (Field i) k.row.0 k.is_data k.row.2 in
-      let d = first-data (types_of_all ts) _ _ k.row.1 k.data_types in
-      let s = word-spelt (op.Insf i) _ (word-lexeme (codes "insf") refl) refl (first-two (first_of (types_of_all ts)) ts _ _ k.row.1 d n) (behind-says SpellsNumber (i ∷ []) (number-says i b, tt)) in
-      record { toks = s.toks; written = s.written; spelled = s.spelled }
-  operation-spelt (op.Inss at len) ts k n =
-      let b : (at < 2 ^ 32) × (len < 2 ^ 32) = has-small k.gives (Slice at len) k.row.0 k.is_data k.row.2 in
-      let d = first-data (types_of_all ts) _ _ k.row.1 k.data_types in
-      let s = word-spelt (op.Inss at len) _ (word-lexeme (codes "inss") refl) refl (first-two (first_of (types_of_all ts)) ts _ _ k.row.1 d n)
-      (behind-says SpellsNumber (at ∷ len ∷ []) (number-says at b.0, (number-says len b.1, tt))) in
-      record { toks = s.toks; written = s.written; spelled = s.spelled }
-  operation-spelt op.Umul ts k n =
-      let d = first-data (types_of_all ts) _ _ k.row.1 k.data_types in
-      let s = word-spelt op.Umul _ (word-lexeme (codes "umul") refl) (inl refl) (first-two (first_of (types_of_all ts)) ts _ _ k.row.1 d n) no-numbers in
-      record { toks = s.toks; written = s.written; spelled = s.spelled }
-  operation-spelt o ts k n =
-      let d = first-data (types_of_all ts) _ _ k.row.1 k.data_types in
-      let s = word-spelt o _ (word-lexeme (op_word o) refl) refl (first-two (first_of (types_of_all ts)) ts _ _ k.row.1 d n) no-numbers in
-      record { toks = s.toks; written = s.written; spelled = s.spelled }
+pub operands-within : (n : ℕ) (ns : List Node) (op : Op) (xs : List TermId) (d : TypeTree) (vs : List ValueId) → Each (λ (v : ValueId). v.0 < n) vs → Each (OperandWithin (values_alone n)) (operands_of ns op xs d vs)
+operands-within n ns op xs d vs h = at (writes_each op)
+  where
+    at : (a : Bool) → Each (OperandWithin (values_alone n)) (if a then each_with_type ns xs vs else first_with_type (if writes_result op then d else first_of (types_of_all (trees_at ns xs))) vs)
+    at true = each-within n ns xs vs h
+    at false = first-within n (if writes_result op then d else first_of (types_of_all (trees_at ns xs))) vs h

@@ -1,7 +1,13 @@
-//! The entity that a process is lowered to, and the law that a pass of it gives the rows of the process.
+//! The entity that is emitted for a process, underway: each part and each term is given once, at its first need.
 #![tactic(auto)]
 
-pub mod laws;
-pub mod names;
+pub mod emitter;
+pub mod making;
 pub mod operands;
+pub mod operations;
+pub mod parts;
+pub mod steps;
+pub mod tasks;
 pub mod values;
+
+pub use crate::emitter::Emitter;

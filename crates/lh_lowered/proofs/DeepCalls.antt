@@ -16,7 +16,7 @@ use Rattle.lh_rows.specs.Joins.{Edge}
 use Rattle.lh_rows.specs.Places.{Region}
 use Rattle.lh_rows.specs.Regions.{Course, Coursed, stops, comes_to, then_course, no_course, through, through_all, edges_to, edge_into, head_of, begins_with_phi, lines_at, known_first, region_from, first_region, all_places, one_target, second_if, with_first}
 use Rattle.lh_shape.specs.Shapes.{comb, shape_by_regions, shape_of_text}
-use Rattle.lh_emit.specs.Reached.{steps_in}
+use Rattle.lh_emission.specs.Reached.{steps_in}
 use Rattle.lh_lowered.specs.declared.report.Verdict.{Verdict}
 use Rattle.lh_lowered.specs.Report.{RowText}
 use Rattle.lh_lowered.specs.Lowering.{outcome_of_shape, outcome_of_text, verdict_of}

@@ -6,12 +6,12 @@ use Rattle.lh_unit.specs.Within.{Each}
 use Rattle.lh_term.specs.declared.part.Part.{Part}
 use Rattle.lh_flat.specs.Flat.{Flattened, refused, flattened, flat_of, flat_unit}
 use Rattle.lh_shape.specs.Shapes.{ShapeText, comb, edge, once, left, shape_of_text}
-use Rattle.lh_emit.specs.Emitted.{PartStep, source_of}
-use Rattle.lh_emit.specs.Reached.{steps_in}
-use Rattle.lh_emit.specs.Entities as made
-use Rattle.lh_emit.specs.Entities.{Emission, too_large, emits, comb_emission, edge_emission, once_emission, entity_with, within_limits, drive_fits, row_fits}
-use Rattle.lh_emit.specs.Laws.{IsEmitted}
-use Rattle.lh_emit.proofs.Whole.{within}
+use Rattle.lh_emission.specs.Emitted.{PartStep, source_of}
+use Rattle.lh_emission.specs.Reached.{steps_in}
+use Rattle.lh_emission.specs.Entities as made
+use Rattle.lh_emission.specs.Entities.{Emission, too_large, emits, comb_emission, edge_emission, once_emission, entity_with, within_limits, drive_fits, row_fits}
+use Rattle.lh_emission.specs.Laws.{IsEmitted}
+use Rattle.lh_emission.proofs.Whole.{within}
 use Rattle.lh_lowered.specs.Lowering.{becomes, outcome_of_emission, outcome_of_shape, outcome_of_text, outcome_in}
 use Rattle.lh_lowered.specs.Kept.{IsEntityFor}
 use Rattle.lh_lowered.specs.declared.report.Kind.{Kind}

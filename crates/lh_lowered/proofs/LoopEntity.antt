@@ -5,10 +5,10 @@ use Rattle.lh_types.specs.declared.op.Op.TheVariants.{Add}
 use Rattle.lh_unit.specs.Contents.{LineText, const_text}
 use Rattle.lh_term.specs.Tree.{Tree, constant, now_of, no_trees, more_trees}
 use Rattle.lh_term.specs.Make.{bit_of}
-use Rattle.lh_emit.specs.Given.{Drive}
-use Rattle.lh_emit.specs.Emitted.{Source, Emitted, nothing_emitted, gives_term, takes_steps, arg_name, unless_there, need_part}
-use Rattle.lh_emit.specs.Needs.{gives_operation, need, need_all, probe}
-use Rattle.lh_emit.specs.Entities.{comb, emit_probes, need_drive, choices_fit, drive_fits}
+use Rattle.lh_emission.specs.Given.{Drive}
+use Rattle.lh_emission.specs.Emitted.{Source, Emitted, nothing_emitted, gives_term, takes_steps, arg_name, unless_there, need_part}
+use Rattle.lh_emission.specs.Needs.{gives_operation, need, need_all, probe}
+use Rattle.lh_emission.specs.Entities.{comb, emit_probes, need_drive, choices_fit, drive_fits}
 use Rattle.lh_lowered.specs.Loops.{whole, sum_of}
 
 abbrev pub drive_of : Tree → Drive

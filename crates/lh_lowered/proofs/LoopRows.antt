@@ -10,10 +10,10 @@ use Rattle.lh_rows.specs.Rows.{Rows}
 use Rattle.lh_rows.specs.Regions.{first_region, one_target, second_if, with_first, regions_of}
 use Rattle.lh_shape.specs.declared.reason.Reason.TheVariants as reason
 use Rattle.lh_shape.specs.Shapes.{comb, shape_by_regions, shape_of_text, shape_by_text}
-use Rattle.lh_emit.specs.Emitted.{PartStep, source_of}
-use Rattle.lh_emit.specs.Entities as made
-use Rattle.lh_emit.specs.Entities.{Emission, within_limits, comb_emission, drive_fits}
-use Rattle.lh_emit.specs.Reached.{steps_in}
+use Rattle.lh_emission.specs.Emitted.{PartStep, source_of}
+use Rattle.lh_emission.specs.Entities as made
+use Rattle.lh_emission.specs.Entities.{Emission, within_limits, comb_emission, drive_fits}
+use Rattle.lh_emission.specs.Reached.{steps_in}
 use Rattle.lh_lowered.specs.declared.report.Kind.TheVariants as kind
 use Rattle.lh_lowered.specs.declared.report.Verdict.{Verdict}
 use Rattle.lh_lowered.specs.declared.report.Verdict.TheVariants as verdict

@@ -9,11 +9,11 @@ use Rattle.lh_unit.specs.Within.{Each}
 use Rattle.lh_term.specs.Tree.{Tree, TreeRow, constant, past_of, now_of, operation, choice_of, no_trees, more_trees, operation_on}
 use Rattle.lh_term.specs.Make.{is_bit, is_constant, value_in}
 use Rattle.lh_term.specs.declared.part.Part.{Part}
-use Rattle.lh_emit.specs.Given.{Drive, TriggerTree, EdgeRowTree}
-use Rattle.lh_emit.specs.Emitted.{PartStep, Source, Emitted, nothing_emitted, next_name, gives, gives_term, typed, takes_steps, arg_name, unless_there, need_part}
-use Rattle.lh_emit.specs.Needs.{constants, operands_in, gives_operation, need_value, need_values, probe, pair_of, need_pair, need, need_all}
-use Rattle.lh_emit.specs.Entities.{need_cond, need_drive, emit_drive, emit_drives, need_trigger, need_register, emit_register_by, emit_register, emit_probes, comb, edge, once}
-use Rattle.lh_emit.specs.Laws.{IsEmitted}
+use Rattle.lh_emission.specs.Given.{Drive, TriggerTree, EdgeRowTree}
+use Rattle.lh_emission.specs.Emitted.{PartStep, Source, Emitted, nothing_emitted, next_name, gives, gives_term, typed, takes_steps, arg_name, unless_there, need_part}
+use Rattle.lh_emission.specs.Needs.{constants, operands_in, gives_operation, need_value, need_values, probe, pair_of, need_pair, need, need_all}
+use Rattle.lh_emission.specs.Entities.{need_cond, need_drive, emit_drive, emit_drives, need_trigger, need_register, emit_register_by, emit_register, emit_probes, comb, edge, once}
+use Rattle.lh_emission.specs.Laws.{IsEmitted}
 
 abbrev pub Plain : Emitted → Type 0
 Plain e = Each (λ (l : LineText). IsEmitted l.inst) e.lines

@@ -8,7 +8,7 @@ use Rattle.lh_unit.specs.Contents.{LineText, UnitText, ItemText, unit_text, decl
 use Rattle.lh_unit.specs.Within.{Each}
 use Rattle.lh_unit.specs.Activation.{functions}
 use Rattle.lh_shape.specs.declared.reason.Reason.{Reason}
-use Rattle.lh_emit.specs.Laws.{IsEmitted}
+use Rattle.lh_emission.specs.Laws.{IsEmitted}
 use Rattle.lh_lowered.specs.Report.{RowText}
 use Rattle.lh_lowered.specs.Lowering.{becomes, stays, outcome_in, verdict_of, lowered, report}
 use Rattle.lh_lowered.specs.declared.report.Kind.{Kind}

@@ -10,9 +10,9 @@ use Rattle.lh_shape.specs.declared.reason.Reason.{Reason}
 use Rattle.lh_shape.specs.declared.reason.Reason.TheVariants as reason
 use Rattle.lh_shape.specs.Reasons.{flat_reason}
 use Rattle.lh_shape.specs.Shapes.{ShapeText, comb, edge, once, left, shape_of_text}
-use Rattle.lh_emit.specs.Emitted.{PartStep}
-use Rattle.lh_emit.specs.Reached.{steps_in}
-use Rattle.lh_emit.specs.Entities.{Emission, too_large, emits, comb_emission, edge_emission, once_emission}
+use Rattle.lh_emission.specs.Emitted.{PartStep}
+use Rattle.lh_emission.specs.Reached.{steps_in}
+use Rattle.lh_emission.specs.Entities.{Emission, too_large, emits, comb_emission, edge_emission, once_emission}
 use Rattle.lh_lowered.specs.Report.{RowText}
 use Rattle.lh_lowered.specs.declared.report.Kind.{Kind}
 use Rattle.lh_lowered.specs.declared.report.Kind.TheVariants as kind

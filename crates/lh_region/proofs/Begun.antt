@@ -63,7 +63,7 @@ merged-gives f x xs y e = by (on_each f (x ∷ xs)) refl e
         let law = merged-by-conditions x xs v vs in
         record { first = v; others = vs; each = on-each-is f (x ∷ xs) (v ∷ vs) g; gives = some_inj y (chosen_by (map (selector (on_conditions (x ∷ xs))) (on_conditions xs)) v vs) (sym k ∙ law) }
 
-value-term : (o : Option Known) (t : Tree) → option_and_then as_value o ≡ Some t → option_and_then as_term o ≡ Some t
+pub value-term : (o : Option Known) (t : Tree) → option_and_then as_value o ≡ Some t → option_and_then as_term o ≡ Some t
 value-term None t e = absurd cc
 value-term (Some (known_value x)) t e = e
 value-term (Some (known_cell x)) t e = absurd cc
@@ -117,7 +117,7 @@ alike-others : (ty u : TypeTree) (vs : List Tree) → u ≡ ty → Each (λ (y :
 alike-others ty u [] e h = tt
 alike-others ty u (v ∷ vs) e h = ((h.0.0, e ∙ sym h.0.1), alike-others ty u vs e h.1)
 
-are-alike : (ty : TypeTree) (v : Tree) (vs : List Tree) → Each (λ (y : Tree). IsTyped y × (type_of y ≡ ty)) (v ∷ vs) → AreAlike v vs
+pub are-alike : (ty : TypeTree) (v : Tree) (vs : List Tree) → Each (λ (y : Tree). IsTyped y × (type_of y ≡ ty)) (v ∷ vs) → AreAlike v vs
 are-alike ty v vs h = record { typed = h.0.0; others = alike-others ty (type_of v) vs h.0.1 h.1 }
 
 -- ---- edges by ids
@@ -177,16 +177,16 @@ module _ (s : Story) (k : Knowledge) where
   abbrev told_now : Told
   told_now = (with_place s k).told
 
-  told-old : (i v : ℕ) → i ≢ s.places → told_now i v ≡ s.told i v
+  pub told-old : (i v : ℕ) → i ≢ s.places → told_now i v ≡ s.told i v
   told-old i v n = if-false (nat_eq i s.places) (told_by s k v) (s.told i v) (nat_eq-other i s.places n)
 
-  told-new : (i v : ℕ) → i ≡ s.places → told_now i v ≡ told_by s k v
+  pub told-new : (i v : ℕ) → i ≡ s.places → told_now i v ≡ told_by s k v
   told-new i v e = if-true (nat_eq i s.places) (told_by s k v) (s.told i v) (subst (λ (j : ℕ). nat_eq i j ≡ true) e (nat_eq-refl i))
 
-  told-within : (v : ℕ) → v < s.values → told_by s k v ≡ term_known k (s.naming.value_name v)
+  pub told-within : (v : ℕ) → v < s.values → told_by s k v ≡ term_known k (s.naming.value_name v)
   told-within v l = if-true (nat_lt v s.values) (term_known k (s.naming.value_name v)) None (of_lt v s.values l)
 
-  told-some : (v : ℕ) (x : Tree) → told_by s k v ≡ Some x → (v < s.values) × (term_known k (s.naming.value_name v) ≡ Some x)
+  pub told-some : (v : ℕ) (x : Tree) → told_by s k v ≡ Some x → (v < s.values) × (term_known k (s.naming.value_name v) ≡ Some x)
   told-some v x e = by (nat_lt v s.values) refl e
     where
       by : (b : Bool) → nat_lt v s.values ≡ b → (if b then term_known k (s.naming.value_name v) else None) ≡ Some x → (v < s.values) × (term_known k (s.naming.value_name v) ≡ Some x)

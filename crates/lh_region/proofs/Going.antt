@@ -29,7 +29,7 @@ pub edges-grown : (ns ms : List Node) (s : Story) (es : List Edge) (xs : List Ed
 edges-grown ns ms s [] [] g h = tt
 edges-grown ns ms s [] (x ∷ xs) g h = absurd h
 edges-grown ns ms s (e ∷ es) [] g h = absurd h
-edges-grown ns ms s (e ∷ es) (x ∷ xs) g h = (record { within = h.0.within; block = h.0.block; cond = stands_grown ns ms g e.cond x.cond h.0.cond; told = h.0.told }, edges-grown ns ms s es xs g h.1)
+edges-grown ns ms s (e ∷ es) (x ∷ xs) g h = (record { within = h.0.within; of_text = h.0.of_text; block = h.0.block; cond = stands_grown ns ms g e.cond x.cond h.0.cond; told = h.0.told }, edges-grown ns ms s es xs g h.1)
 
 pub edges-push : (ns : List Node) (s : Story) (es : List Edge) (xs : List EdgeTo) (e : Edge) (x : EdgeTo) → AreEdges ns s es xs → IsEdge ns s e x → AreEdges ns s (es ++ e ∷ []) (xs ++ x ∷ [])
 edges-push ns s [] [] e x h i = (i, tt)
@@ -143,15 +143,15 @@ goes-on : (g : Region) (h : Here) (c : Tree) (m : Midst) (b : ℕ) → (g.ends_a
 goes-on g h c m b e = ap (λ (x : Midst). x.edges) (if-false (g.ends_at_head && nat_eq b g.head) _ (record m { edges = m.edges ++ record { to = next_place h.place b; from = h.label; cond = c; known = m.known } ∷ [] }) e)
 
 pub leads-here : (old new : Ahead) (turns b : ℕ) (e : Edge) → e.block < b → IsLedAlso old.here.items b e new.here.items → new.next ≡ old.next → LeadsOn old turns b e new
-leads-here old new turns b e l also k ns s g h c m p q w st t n a =
+leads-here old new turns b e l also k ns s g h c m p q w o st t n a =
     let x : EdgeTo = record { to = next_place h.place b; from = h.label; cond = c; known = m.known } in
-    let i : IsEdge ns s e x = record { within = w; block = sym q; cond = st; told = t } in
+    let i : IsEdge ns s e x = record { within = w; of_text = o; block = sym q; cond = st; told = t } in
     subst (AreAhead ns s turns (e.block + 1) new) (sym (goes-on g h c m b n)) (ahead-here ns s turns (e.block + 1) b old new m.edges e x i a also k (next-here h.place turns e.block b p l))
 
 pub leads-next : (old new : Ahead) (turns b : ℕ) (e : Edge) → b ≤ e.block → new.here ≡ old.here → IsLedAlso old.next.items b e new.next.items → LeadsOn old turns b e new
-leads-next old new turns b e l k also ns s g h c m p q w st t n a =
+leads-next old new turns b e l k also ns s g h c m p q w o st t n a =
     let x : EdgeTo = record { to = next_place h.place b; from = h.label; cond = c; known = m.known } in
-    let i : IsEdge ns s e x = record { within = w; block = sym q; cond = st; told = t } in
+    let i : IsEdge ns s e x = record { within = w; of_text = o; block = sym q; cond = st; told = t } in
     subst (AreAhead ns s turns (e.block + 1) new) (sym (goes-on g h c m b n)) (ahead-next ns s turns (e.block + 1) b old new m.edges e x i a k also (next-turn h.place turns e.block b p l))
 
 -- the turns of where an edge leads

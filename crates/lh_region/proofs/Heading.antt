@@ -79,7 +79,7 @@ blocks-lead f n k (b ∷ more) d z h = let a = lines-lead f n b.insts d z h.0 in
 
 -- ---- the number of a label
 
-number-of : (f : Naming) (n j i : ℕ) (bs : List FlatBlock) → LabelsDiffer f n → j + length bs ≡ n → i < length bs → block_number (f.label_name (j + i)) (flat_blocks_text f j bs) ≡ Some i
+pub number-of : (f : Naming) (n j i : ℕ) (bs : List FlatBlock) → LabelsDiffer f n → j + length bs ≡ n → i < length bs → block_number (f.label_name (j + i)) (flat_blocks_text f j bs) ≡ Some i
 number-of f n j i [] d e l = absurd (omega arith)
 number-of f n j zero (b ∷ more) d e l = ap (λ (x : Bool). if x then Some 0 else option_map (λ (k : ℕ). k + 1) (block_number (f.label_name (j + 0)) (flat_blocks_text f (j + 1) more))) (label-same f n j (j + 0) d (omega (arith, e)) (omega (arith, e)) ∙ ap (λ (k : ℕ). nat_eq k j) zero-more ∙ nat_eq-refl j)
   where

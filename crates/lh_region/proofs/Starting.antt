@@ -24,7 +24,7 @@ given-push : (ls : List FlatInst) (l : FlatInst) (v : ℕ) → constant_given (l
 given-push [] l v = sym (else-none (constant_as v l))
 given-push (k ∷ ls) l v = ap (λ (o : Option Tree). or_else o (constant_as v k)) (given-push ls l v) ∙ else-else (constant_as v l) (constant_given ls v) (constant_as v k)
 
-maybe-grown : (ns ms : List Node) (o : Option TermId) (x : Option Tree) → Grows ns ms → StandsMaybe ns o x → StandsMaybe ms o x
+pub maybe-grown : (ns ms : List Node) (o : Option TermId) (x : Option Tree) → Grows ns ms → StandsMaybe ns o x → StandsMaybe ms o x
 maybe-grown ns ms None None g s = tt
 maybe-grown ns ms None (Some x) g s = absurd s
 maybe-grown ns ms (Some t) None g s = absurd s

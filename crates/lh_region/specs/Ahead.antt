@@ -1,5 +1,5 @@
 -- The edges that lead to places which are still to be treated.
-use Rattle.std.specs.Prelude.{◌≡◌, ℕ, List, [], ◌∷◌, ◌++◌, length, nat_eq, if◌then◌else◌, slice_get}
+use Rattle.std.specs.Prelude.{◌≡◌, ℕ, List, [], ◌∷◌, ◌++◌, length, Bool, true, false, ◌&&◌, nat_eq, if◌then◌else◌, slice_get}
 use Rattle.std.specs.Option.{option_map_or}
 use Rattle.lh_joins.specs.declared.edge.Edge.{Edge}
 
@@ -21,3 +21,12 @@ pub record IsLedAlso (old : List (List Edge)) (block : ℕ) (e : Edge) (new : Li
 pub record IsReached (old : List (List Edge)) (block : ℕ) (new : List (List Edge)) : Type 0 where
   pub long : length new ≡ length old
   pub led : (b : ℕ) → led_to new b ≡ (if nat_eq block b then [] else led_to old b)
+
+abbrev pub is_no_edge : List Edge → Bool
+is_no_edge [] = true
+is_no_edge (e ∷ more) = false
+
+-- no edge leads to one of the blocks
+abbrev pub none_led : List (List Edge) → Bool
+none_led [] = true
+none_led (es ∷ more) = is_no_edge es && none_led more

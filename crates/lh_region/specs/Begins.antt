@@ -19,7 +19,7 @@ told_by s k v = if nat_lt v s.values then term_known k (s.naming.value_name v) e
 
 -- the story with one more place, at which this is known
 abbrev pub with_place : Story → Knowledge → Story
-with_place s k = record { naming = s.naming; values = s.values; places = s.places + 1; told = λ i v. if nat_eq i s.places then told_by s k v else s.told i v }
+with_place s k = record { naming = s.naming; values = s.values; blocks = s.blocks; places = s.places + 1; told = λ i v. if nat_eq i s.places then told_by s k v else s.told i v }
 
 -- a term that is known under a name on one of these edges is typed, and of this type
 abbrev pub AreOfType : TypeTree → List ℕ → List EdgeTo → Type 0

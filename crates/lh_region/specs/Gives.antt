@@ -11,7 +11,7 @@ use Rattle.lh_region.specs.Walking.{as_term, Story, TellsKnown}
 
 -- the story with this term of a value at a place
 abbrev pub with_term : Story → (place value : ℕ) → Tree → Story
-with_term s i v x = record { naming = s.naming; values = s.values; places = s.places; told = λ j w. if nat_eq i j && nat_eq v w then Some x else s.told j w }
+with_term s i v x = record { naming = s.naming; values = s.values; blocks = s.blocks; places = s.places; told = λ j w. if nat_eq i j && nat_eq v w then Some x else s.told j w }
 
 -- no two values have one name
 abbrev pub ValuesDiffer : Story → Type 0

@@ -1,11 +1,15 @@
 -- Rows by ids, as rows of terms; and what the regions of a flat text are by ids.
 use Rattle.std.specs.Prelude.{◌≡◌, List, [], ◌∷◌, Option, Some, None, Result, Ok, Err}
+use Rattle.std.specs.Option.{option_map_or}
+use Rattle.lh_unit.specs.Within.{Each}
 use Rattle.lh_term.specs.declared.term.TermId.{TermId}
 use Rattle.lh_term.specs.declared.term.Node.{Node}
 use Rattle.lh_term.specs.Tree.{Tree}
-use Rattle.lh_term.specs.Arena.{Stands}
+use Rattle.lh_term.specs.Arena.{trees, tree_at, IsIn, Stands}
 use Rattle.lh_rows.specs.Rows as text
 use Rattle.lh_rows.specs.Regions as texts
+use Rattle.lh_rows.specs.Typed.{IsOfType}
+use Rattle.lh_joins.specs.Joins.{IsConditionAt}
 use Rattle.lh_rows.specs.Regions.{RegionRefusal, head_phi, too_many_turns, region_too_large, Regioned, no_regions, has_regions}
 use Rattle.lh_region.specs.declared.rows.Way.{Way}
 use Rattle.lh_region.specs.declared.rows.Way.TheVariants as way
@@ -83,3 +87,24 @@ IsRefused x (Some r) = x ≡ no_regions r
 abbrev pub Answers : List Node → Regioned → Result Regions RegionFault → Type 0
 Answers ns x (Ok r) = (y : texts.Regions) × (x ≡ has_regions y) × AreRegions ns r y
 Answers ns x (Err e) = IsRefused x (refusal_of e)
+
+-- ---- what is asked of the terms of rows
+
+-- the terms of a drive are of the arena: its condition is of one bit, and its value of the part's type
+pub record DriveFits (ns : List Node) (d : DriveRow) : Type 0 where
+  pub cond : IsConditionAt ns d.cond
+  pub value_in : IsIn ns d.value
+  pub value : IsOfType d.part.ty (tree_at (trees ns) d.value)
+  pub delay_in : IsIn ns d.delay
+
+abbrev pub DrivesFit : List Node → List DriveRow → Type 0
+DrivesFit ns ds = Each (DriveFits ns) ds
+
+-- the drives of the second region; none where it is not built
+abbrev pub later_drives : Regions → List DriveRow
+later_drives r = option_map_or (λ (s : Rows). s.drives) r.second []
+
+-- the drives of both regions are of the arena
+pub record RegionsFit (ns : List Node) (r : Regions) : Type 0 where
+  pub first : DrivesFit ns r.first.drives
+  pub second : DrivesFit ns (later_drives r)

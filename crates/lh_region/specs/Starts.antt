@@ -2,6 +2,7 @@
 use Rattle.std.specs.Prelude.{◌≡◌, ℕ, List, [], ◌∷◌, nat_eq, if◌then◌else◌, Option, Some, None}
 use Rattle.lh_types.specs.ValueOf.{datum_of}
 use Rattle.lh_unit.specs.Typing.{or_else}
+use Rattle.lh_unit.specs.declared.inst.ValueId.{ValueId}
 use Rattle.lh_unit.specs.declared.inst.Inst.{Inst}
 use Rattle.lh_unit.specs.declared.inst.Inst.TheVariants as inst
 use Rattle.lh_flat.specs.declared.flat.FlatInst.{FlatInst}
@@ -33,6 +34,11 @@ constant_given (l ∷ more) v = or_else (constant_given more v) (constant_as v l
 abbrev pub ConstantFits : Inst → Type 0
 ConstantFits (inst.Const v) = FitsTerm (datum_of v)
 ConstantFits _ = Unit {0}
+
+-- the same, where it gives a value
+abbrev pub GivenFits : Option ValueId → Inst → Type 0
+GivenFits None i = Unit {0}
+GivenFits (Some v) i = ConstantFits i
 
 -- the instructions that were left behind, where the process starts at this block
 abbrev pub lines_left : List FlatBlock → (head : ℕ) → List FlatInst

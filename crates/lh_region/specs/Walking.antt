@@ -25,10 +25,11 @@ as_term (known_part p) = None
 abbrev pub term_known : Knowledge → List ℕ → Option Tree
 term_known k n = option_and_then as_term (k n)
 
--- the names of the values of a text, how many these are, how many places there are by now, and what is told at them
+-- the names of the values and blocks of a text, how many of each there are, how many places there are by now, and what is told at them
 pub record Story : Type 0 where
   pub naming : Naming
   pub values : ℕ
+  pub blocks : ℕ
   pub places : ℕ
   pub told : Told
 
@@ -36,9 +37,10 @@ pub record Story : Type 0 where
 abbrev pub TellsKnown : Story → (place : ℕ) → Knowledge → Type 0
 TellsKnown s i k = (v : ℕ) → v < s.values → s.told i v ≡ term_known k (s.naming.value_name v)
 
--- the edge comes from a place, and is the definition's: of the same block, on the same condition, and what is told at the place is known on it
+-- the edge comes from a place and leaves a block of the text, and is the definition's: of the same block, on the same condition, and what is told at the place is known on it
 pub record IsEdge (ns : List Node) (s : Story) (e : Edge) (x : EdgeTo) : Type 0 where
   pub within : e.from < s.places
+  pub of_text : e.block < s.blocks
   pub block : s.naming.label_name e.block ≡ x.from
   pub cond : Stands ns e.cond x.cond
   pub told : TellsKnown s e.from x.known
@@ -61,7 +63,7 @@ pub record AreAhead (ns : List Node) (s : Story) (turns block : ℕ) (ahead : Ah
 -- One more edge leads from a place of this turn to a block, as where the definition goes there and the region does not end by that.
 abbrev pub LeadsOn : Ahead → (turns block : ℕ) → Edge → Ahead → Type 0
 LeadsOn old turns b e new =
-    (ns : List Node) (s : Story) (g : Region) (h : Here) (c : Tree) (m : Midst) → h.place ≡ place_of turns e.block → h.label ≡ s.naming.label_name e.block → e.from < s.places → Stands ns e.cond c → TellsKnown s e.from m.known →
+    (ns : List Node) (s : Story) (g : Region) (h : Here) (c : Tree) (m : Midst) → h.place ≡ place_of turns e.block → h.label ≡ s.naming.label_name e.block → e.from < s.places → e.block < s.blocks → Stands ns e.cond c → TellsKnown s e.from m.known →
     (g.ends_at_head && nat_eq b g.head) ≡ false → AreAhead ns s turns (e.block + 1) old m.edges → AreAhead ns s turns (e.block + 1) new (goes g h c m b).edges
 
 -- The ends of a region as edges to where it goes on.

@@ -1,7 +1,7 @@
 //! The edges that lead to places which are still to be treated. A place gets its number only when it is treated, so that edges to it
 //! come from places of lower numbers.
-ghost use Rattle.std.specs.Prelude.{◌≡◌, ◌<◌, ◌++◌, ◌∷◌, [], ℕ, length, replicate, IfOk, OnOk};
-ghost use Rattle.lh_region.specs.Ahead.{led_to, LeadsNowhere, IsLedAlso, IsReached};
+ghost use Rattle.std.specs.Prelude.{◌≡◌, ◌<◌, ◌++◌, ◌∷◌, [], ℕ, ◌&&◌, length, replicate, IfOk, OnOk};
+ghost use Rattle.lh_region.specs.Ahead.{led_to, none_led, LeadsNowhere, IsLedAlso, IsReached};
 
 use lh_joins::Edge;
 use lh_types::list::ListOf;
@@ -60,12 +60,32 @@ impl Ahead {
     }
 
     /// Goes to the next turn, once all places of this one are treated.
-    pub fn turn(&mut self)
-        ensures here { self.new.here ≡ self.old.next }
-        ensures next { self.new.next ≡ self.old.here }
+    pub fn turn(&mut self, alloc: Global) -> Result<(), NoMemory>
+        ensures here { OnOk result (self.new.here ≡ self.old.next) }
+        ensures next { OnOk result (LeadsNowhere (length self.old.next.items) self.new.next.items) }
     {
-        std::mem::swap(&mut self.here, &mut self.next);
+        let later = no_edges(alloc, self.next.len())?;
+        self.here = std::mem::replace(&mut self.next, later);
+        Ok(())
     }
+
+    /// Whether no edge leads to a place that is still to be treated.
+    pub fn is_empty(&self) -> bool
+        ensures { result ≡ (none_led self.now.here.items && none_led self.now.next.items) }
+    {
+        leads_nowhere(self.here.as_slice()) && leads_nowhere(self.next.as_slice())
+    }
+}
+
+fn leads_nowhere(led: &[EdgeList]) -> bool
+    ensures { result ≡ none_led led.now }
+{
+    for edges in led {
+        if edges.len() > 0 {
+            return false;
+        }
+    }
+    true
 }
 
 fn no_edges(alloc: Global, blocks: usize) -> Result<Vec<EdgeList>, NoMemory>

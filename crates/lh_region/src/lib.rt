@@ -1,4 +1,4 @@
-//! The regions of a process: what it does from where it starts to where it waits, as rows of terms.
+//! The regions of a process as rows of terms: what is asked, merged, driven and tested at a place, and how places follow on each other.
 #![tactic(auto)]
 
 pub mod ahead;

@@ -32,10 +32,11 @@ use Rattle.lh_rows.specs.Regions.{with_constant, with_constants, begins_with_phi
 use Rattle.lh_rows.specs.Typed.{Among, IsOfType, JoinEdge}
 use Rattle.lh_rows.specs.Means.{range_in, reads, Shows, Agrees}
 use Rattle.lh_rows.specs.Laws.{EndsAs, max_steps, new_process, WaitsForHead, FirstActivation, AgainFromHead, HeadStaysKnown, RowsAreTyped, DriveTyped, EndTyped}
+use Rattle.lh_rows.specs.Right.{as_block, BlockAt, WayRight}
 use Rattle.lh_rows.proofs.Among.{in-each, each-more}
 use Rattle.lh_rows.proofs.Merging.{bit-condition}
-use Rattle.lh_rows.proofs.Labels.{as_block, BlockAt, block-labelled}
-use Rattle.lh_rows.proofs.Steps.{RegionOf, WayRight}
+use Rattle.lh_rows.proofs.Labels.{block-labelled}
+use Rattle.lh_rows.proofs.Steps.{RegionOf}
 use Rattle.lh_rows.proofs.Heads.{no-phis-taken}
 use Rattle.std.proofs.lemmas.List.{length-append}
 use Rattle.lh_rows.proofs.Start as Start

@@ -43,12 +43,12 @@ use Rattle.lh_rows.specs.Joins.{Place, Edge}
 use Rattle.lh_rows.specs.Places.{Region, Here, Midst, block_number, both, leads, branches, wait_way, ends_if, takes, takes_all}
 use Rattle.lh_rows.specs.Typed.{KnowsTyped, KnowsThere, IsCondition}
 use Rattle.lh_rows.specs.Means.{range_in, reads, Shows, with_rows}
+use Rattle.lh_rows.specs.Right.{as_block, BlockAt, PhisGiven, JoinsAt}
 use Rattle.lh_rows.proofs.Sites.{Site, site-at, place-at}
 use Rattle.lh_rows.proofs.Merging.{one, mean-bit, and-one, not-one, not-condition}
 use Rattle.lh_rows.proofs.Operations.{IsOfSome, datum-shown, parts-shown, value-known, part-known}
-use Rattle.lh_rows.proofs.Labels.{as_block, BlockAt}
-use Rattle.lh_rows.proofs.Knowing.{PhisGiven, phis-more}
-use Rattle.lh_rows.proofs.Steps.{first-name, second-name, RegionOf, JoinsAt, Target, target, text-at, Led, led_never, led_edge, led_head, leads-led}
+use Rattle.lh_rows.proofs.Knowing.{phis-more}
+use Rattle.lh_rows.proofs.Steps.{first-name, second-name, RegionOf, Target, target, text-at, Led, led_never, led_edge, led_head, leads-led}
 use Rattle.lh_rows.proofs.Taking as Taking
 use Rattle.lh_rows.proofs.Leading as Leading
 use Rattle.lh_rows.proofs.Executing as Executing

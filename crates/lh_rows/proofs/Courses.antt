@@ -17,12 +17,14 @@ use Rattle.lh_rows.specs.Joins.{Place, Edge, any_taken, known_at}
 use Rattle.lh_rows.specs.Places.{Region, Here, Midst, takes_all}
 use Rattle.lh_rows.specs.Regions.{RegionRefusal, region_too_large, too_many_turns, Course, no_course, Coursed, stops, comes_to, then_course, max_turns, max_insts, turns_too_often, after_lines, through_block, is_place, edges_to, through_reached, through_all, all_places, region_from}
 use Rattle.lh_rows.specs.Typed.{Among, KnowsTyped, KnowsThere, IsCondition, IsOfType, JoinEdge}
+use Rattle.lh_rows.specs.Right as right
+use Rattle.lh_rows.specs.Right.{as_block, BlockAt}
 use Rattle.lh_rows.proofs.Among.{in-each, each-among, each-more, each-append, filter-among}
 use Rattle.lh_rows.proofs.Sites.{LineGood, good-lines}
 use Rattle.lh_rows.proofs.Merging.{EachCondition, any-condition, bit-condition}
-use Rattle.lh_rows.proofs.Labels.{as_block, BlockAt, block-text}
+use Rattle.lh_rows.proofs.Labels.{block-text}
 use Rattle.lh_rows.proofs.Phis.{known-typed-at, known-there-at, phis-given-at}
-use Rattle.lh_rows.proofs.Steps.{RegionOf, JoinsAt, WayRight, EdgeRight, EndRight, DriveRight}
+use Rattle.lh_rows.proofs.Steps.{RegionOf, EdgeRight, EndRight, DriveRight}
 use Rattle.lh_rows.proofs.Leading as Leading
 use Rattle.lh_rows.proofs.Ordered.{place-is}
 
@@ -45,26 +47,17 @@ not-often (e ∷ es) h = by (nat_lt max_turns e.to.turns) refl h (not-often es)
     by false q h go = (grind (arith, nat_tests), go h)
 
 module _ (u : UnitText) (g : Region) (r : RegionOf u g) where
-  pub record EdgeFine (e : Edge) : Type 0 where
-    pub cond : IsCondition e.cond
-    pub turns : e.to.turns ≤ max_turns
-    pub joins : JoinsAt u g e.to.block e.from e.known
+  abbrev pub EdgeFine : Edge → Type 0
+  EdgeFine = right.EdgeFine u g
 
-  pub record EndFine (x : End) : Type 0 where
-    pub cond : IsCondition x.cond
-    pub known : KnowsTyped u x.known
-    pub way : WayRight u g x.way x.from x.known
+  abbrev pub EndFine : End → Type 0
+  EndFine = right.EndFine u g
 
-  pub record DriveFine (d : Drive) : Type 0 where
-    pub cond : IsCondition d.cond
-    pub part : IsData d.part.ty
-    pub value : IsOfType d.part.ty d.value
-    pub delay : IsOfType time_type d.delay
+  abbrev pub DriveFine : Drive → Type 0
+  DriveFine = right.DriveFine
 
-  pub record CourseFine (c : Course) : Type 0 where
-    pub edges : Each EdgeFine c.edges
-    pub ends : Each EndFine c.rows.ends
-    pub drives : Each DriveFine c.rows.drives
+  abbrev pub CourseFine : Course → Type 0
+  CourseFine = right.CourseFine u g
 
   -- ---- a place
 

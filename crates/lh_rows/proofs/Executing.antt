@@ -51,10 +51,10 @@ use Rattle.lh_rows.specs.Rows.{Drive}
 use Rattle.lh_rows.specs.Places.{Region, Here, Midst, gives, probes, both, drive_cond, with_drive, drives, asserts, takes, operated}
 use Rattle.lh_rows.specs.Typed.{KnowsTyped, KnowsThere, IsCondition}
 use Rattle.lh_rows.specs.Means.{range_in, lowest_bit, reads, held_as, Shows, is_one, due_by, with_row, with_rows}
+use Rattle.lh_rows.specs.Right.{as_block, BlockAt}
 use Rattle.lh_rows.proofs.Sites.{Site, place-at}
 use Rattle.lh_rows.proofs.Merging.{one, mean-bit, and-one}
 use Rattle.lh_rows.proofs.Operations.{datum-shown, cell-shown, part-shown, data-shown, operands-typed, PartStep}
-use Rattle.lh_rows.proofs.Labels.{as_block, BlockAt}
 use Rattle.lh_rows.proofs.Knowing.{known-shows, given-shows-typed}
 use Rattle.lh_rows.proofs.Steps.{RegionOf}
 use Rattle.lh_rows.proofs.Taking as Taking

@@ -27,9 +27,9 @@ use Rattle.lh_rows.specs.Joins.{Edge}
 use Rattle.lh_rows.specs.Places.{block_number}
 use Rattle.lh_rows.specs.Regions.{is_constant, with_constant, with_constants, branched_to, leads_on, is_led_to, head_after, is_phi, begins_with_phi, head_of}
 use Rattle.lh_rows.specs.Typed.{Among, argument_part, PhiKnown}
+use Rattle.lh_rows.specs.Right.{as_block}
 use Rattle.lh_rows.proofs.Sites.{site-at, place-at}
 use Rattle.lh_rows.proofs.Knowing.{given-stays, given-known}
-use Rattle.lh_rows.proofs.Labels.{as_block}
 
 -- ---- the constants of lines
 

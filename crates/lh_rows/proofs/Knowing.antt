@@ -19,6 +19,7 @@ use Rattle.lh_types.specs.declared.part.Range.{Range}
 use Rattle.lh_rows.specs.Known.{Known, Knowledge, with_known, with_given}
 use Rattle.lh_rows.specs.Typed.{known_type, IsTypedKnown, KnowsTyped, KnowsThere}
 use Rattle.lh_rows.specs.Means.{held_as, Shows}
+use Rattle.lh_rows.specs.Right.{PhiGiven, PhisGiven}
 use Rattle.lh_rows.proofs.Sites.{there-before}
 
 -- a value of a type as a term
@@ -80,13 +81,6 @@ there-past u b before l k j h stays gives n t v w i = by (is_result_name n l.res
     by false q = stays n (h n t v w (there-before u b before l n q i))
 
 -- ---- the results of `phi` that are to come
-
-abbrev pub PhiGiven : Knowledge → InstText → Option (List ℕ) → Type 0
-PhiGiven k (phi_text ty es) r = (n : List ℕ) → is_result_name n r ≡ true → IsSome (k n)
-PhiGiven k _ r = Unit {0}
-
-abbrev pub PhisGiven : Knowledge → List LineText → Type 0
-PhisGiven k ls = Each (λ (l : LineText). PhiGiven k l.inst l.result) ls
 
 phi-more : (k j : Knowledge) (i : InstText) (r : Option (List ℕ)) → ((n : List ℕ) → IsSome (k n) → IsSome (j n)) → PhiGiven k i r → PhiGiven j i r
 phi-more k j (phi_text ty es) r m h = λ n q. m n (h n q)

@@ -7,17 +7,9 @@ use Rattle.std.proofs.lemmas.Option.{same_Some, none-some}
 use Rattle.lh_unit.specs.Contents.{BlockText, same_name}
 use Rattle.lh_unit.specs.Named.{block_of}
 use Rattle.lh_unit.proofs.Tables.{same_name-is}
-use Rattle.lh_flat.specs.Flat.{FlatBlockText, with_merge}
+use Rattle.lh_flat.specs.Flat.{FlatBlockText}
 use Rattle.lh_rows.specs.Places.{block_number}
-
--- a block of a flat text as one of its unit
-abbrev pub as_block : FlatBlockText → BlockText
-as_block b = record { label = Some b.label; lines = with_merge b.merge b.lines }
-
--- the block of a number, to which its label leads
-pub record BlockAt (blocks : List FlatBlockText) (i : ℕ) (b : FlatBlockText) : Type 0 where
-  pub at : slice_get blocks i ≡ Some b
-  pub number : block_number b.label blocks ≡ Some i
+use Rattle.lh_rows.specs.Right.{as_block, BlockAt}
 
 one-more : (o : Option ℕ) (i : ℕ) → o ≡ Some i → option_map (λ k. k + 1) o ≡ Some (suc i)
 one-more o i q = ap (option_map (λ k. k + 1)) q ∙ (let e : i + 1 ≡ suc i = omega arith in ap Some e)

@@ -24,11 +24,11 @@ use Rattle.lh_rows.specs.Known.{Knowledge, value_known, parts_known}
 use Rattle.lh_rows.specs.Rows.{halts, waits}
 use Rattle.lh_rows.specs.Places.{Region, Here, Midst, both, ends, leads, branches, wait_way, ends_if, takes, takes_all}
 use Rattle.lh_rows.specs.Typed.{KnowsTyped, KnowsThere, IsCondition}
+use Rattle.lh_rows.specs.Right.{as_block, BlockAt, PhiGiven, PhisGiven, JoinsAt}
 use Rattle.lh_rows.proofs.Sites.{Site, site-at, place-at}
 use Rattle.lh_rows.proofs.Merging.{and-condition, not-condition}
-use Rattle.lh_rows.proofs.Labels.{as_block, BlockAt}
-use Rattle.lh_rows.proofs.Knowing.{PhiGiven, PhisGiven, phis-more}
-use Rattle.lh_rows.proofs.Steps.{first-name, second-name, More, no-more, one-more, more-more, RegionOf, Under, JoinsAt, EdgeRight, EndRight, DriveRight, Target, target, text-at, joins-at, Led, led_never, led_edge, led_head, leads-led}
+use Rattle.lh_rows.proofs.Knowing.{phis-more}
+use Rattle.lh_rows.proofs.Steps.{first-name, second-name, More, no-more, one-more, more-more, RegionOf, Under, EdgeRight, EndRight, DriveRight, Target, target, text-at, joins-at, Led, led_never, led_edge, led_head, leads-led}
 use Rattle.lh_rows.proofs.Taking
 
 module _ (u : UnitText) (g : Region) (r : RegionOf u g) (i : ℕ) (b : FlatBlockText) (bat : BlockAt g.blocks i b) (h : Here) (hl : h.label ≡ b.label) (hc : IsCondition h.cond) where

@@ -21,11 +21,11 @@ use Rattle.lh_rows.specs.Places.{Region, Here, Midst, next_place}
 use Rattle.lh_rows.specs.Typed.{Among, KnowsTyped, KnowsThere, IsCondition}
 use Rattle.lh_rows.specs.Means.{range_in, Shows}
 use Rattle.lh_rows.specs.Ending as ending
+use Rattle.lh_rows.specs.Right.{as_block, BlockAt, JoinsAt}
 use Rattle.lh_rows.proofs.Sites.{LineGood, good-lines}
 use Rattle.lh_rows.proofs.Merging.{one, bit-condition}
-use Rattle.lh_rows.proofs.Labels.{as_block, BlockAt}
 use Rattle.lh_rows.proofs.Phis.{known-shows-at}
-use Rattle.lh_rows.proofs.Steps.{RegionOf, JoinsAt, text-at, text-of, Led, led_never, led_edge, led_head}
+use Rattle.lh_rows.proofs.Steps.{RegionOf, text-at, text-of, Led, led_never, led_edge, led_head}
 use Rattle.lh_rows.proofs.Executing.{zero-not-one}
 use Rattle.lh_rows.proofs.Living as Living
 

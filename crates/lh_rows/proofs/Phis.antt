@@ -23,10 +23,11 @@ use Rattle.lh_rows.specs.Known.{Known, known_value, known_cell, known_part, Know
 use Rattle.lh_rows.specs.Joins.{Edge, merged_by, joined, phi_on, with_phi, with_phis, known_at}
 use Rattle.lh_rows.specs.Typed.{Among, KnowsTyped, KnowsThere, IsOfType, PhiKnown, JoinEdge}
 use Rattle.lh_rows.specs.Means.{held_as, Shows}
+use Rattle.lh_rows.specs.Right.{PhiGiven, PhisGiven}
 use Rattle.lh_rows.proofs.Sites.{LineGood}
 use Rattle.lh_rows.proofs.Merging.{taken}
 use Rattle.lh_rows.proofs.Operations.{datum-shown}
-use Rattle.lh_rows.proofs.Knowing.{GivenTyped, given-typed, given-stays, given-known, given-shows, PhiGiven, PhisGiven, phis-more}
+use Rattle.lh_rows.proofs.Knowing.{GivenTyped, given-typed, given-stays, given-known, given-shows, phis-more}
 use Rattle.lh_rows.proofs.PartsNamed.{one-part}
 use Rattle.lh_rows.proofs.Joining.{first-among, GiveEach, given-each, merged-there, merged-of, merged-of-type, merged-by-means, value_on, cell_on, part_on, JoinCase, of_value, of_cell, of_part, join-case, known-by-value, known-by-cell, known-by-part, pointee, join-at, join-conditions, value-type-of, cell-type-of, joined-typed, joined-there}
 

@@ -27,13 +27,14 @@ use Rattle.lh_rows.specs.Typed.{Among, IsOfType, JoinEdge}
 use Rattle.lh_rows.specs.Means.{range_in, reads, is_true, Shows, with_rows}
 use Rattle.lh_rows.specs.Ending.{StandsAs}
 use Rattle.lh_rows.specs.Laws.{Probes, CameTo, EndsAs, ThenFirst, max_steps, WaitsAfter, SecondRegion}
+use Rattle.lh_rows.specs.Right.{as_block, BlockAt, JoinsAt, WayRight}
 use Rattle.lh_rows.proofs.Reading.{reads-fit}
 use Rattle.lh_rows.proofs.Among.{in-each}
 use Rattle.lh_rows.proofs.Merging.{bit-condition}
-use Rattle.lh_rows.proofs.Labels.{as_block, BlockAt, block-labelled}
+use Rattle.lh_rows.proofs.Labels.{block-labelled}
 use Rattle.lh_rows.proofs.Sites.{good-lines}
 use Rattle.lh_rows.proofs.Labels.{block-text}
-use Rattle.lh_rows.proofs.Steps.{RegionOf, JoinsAt, WayRight}
+use Rattle.lh_rows.proofs.Steps.{RegionOf}
 use Rattle.lh_rows.proofs.Phis.{known-shows-at}
 use Rattle.lh_rows.proofs.Heads.{no-phis-taken}
 use Rattle.lh_rows.proofs.Start as Start

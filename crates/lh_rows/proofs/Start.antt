@@ -38,6 +38,7 @@ use Rattle.lh_rows.specs.Places.{block_number}
 use Rattle.lh_rows.specs.Regions.{is_constant, with_constant, with_constants, begins_with_phi, lines_at, known_first, head_of, edge_into}
 use Rattle.lh_rows.specs.Typed.{known_type, Among, argument_part, of_argument, IsTypedKnown, KnowsTyped, KnowsThere, JoinEdge}
 use Rattle.lh_rows.specs.Means.{range_in, lowest_bit, held_as, Shows}
+use Rattle.lh_rows.specs.Right.{as_block, BlockAt}
 use Rattle.lh_rows.proofs.Among.{in-each, among-split}
 use Rattle.lh_rows.proofs.Sites.{LineGood, good-lines, last-leads}
 use Rattle.lh_rows.proofs.Merging.{bit-condition}
@@ -49,7 +50,7 @@ use Rattle.lh_rows.proofs.Joining.{known-by-value, known-by-part}
 use Rattle.lh_rows.proofs.Edges.{value-no-void}
 use Rattle.lh_formed.specs.Operands.{IsOf}
 use Rattle.lh_sound.proofs.NamedOnce.{giving-lines}
-use Rattle.lh_rows.proofs.Labels.{as_block, BlockAt, block-text, block-labelled}
+use Rattle.lh_rows.proofs.Labels.{block-text, block-labelled}
 use Rattle.lh_rows.proofs.Heads.{or-false, seen-apart, define-last, ConstantOf, constants-case, constants-stay, constants-known, arguments-case, arguments-known, argument-of, head-behind, entry-plain, NoPhis, no-phis, no-phis-known}
 
 const-same : (d d' : Datum) → const_text d ≡ const_text d' → d ≡ d'

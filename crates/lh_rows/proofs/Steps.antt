@@ -23,8 +23,9 @@ use Rattle.lh_rows.specs.Rows.{Drive, Way, halts, enters_head, waits, End}
 use Rattle.lh_rows.specs.Joins.{Edge}
 use Rattle.lh_rows.specs.Places.{Region, Here, Midst, block_number, next_place, goes_if, leads, ends}
 use Rattle.lh_rows.specs.Typed.{KnowsTyped, KnowsThere, IsCondition, IsOfType, JoinEdge}
+use Rattle.lh_rows.specs.Right.{BlockAt, JoinsAt, WayRight, as_block}
 use Rattle.lh_rows.proofs.Merging.{one}
-use Rattle.lh_rows.proofs.Labels.{as_block, BlockAt, block-by, block-labelled, block-text}
+use Rattle.lh_rows.proofs.Labels.{block-by, block-labelled, block-text}
 use Rattle.lh_rows.proofs.Edges.{edge-joins}
 use Rattle.lh_rows.proofs.Among.{each-append}
 
@@ -66,10 +67,6 @@ pub record RegionOf (u : UnitText) (g : Region) : Type 0 where
 abbrev pub Under : (q c : Tree) → Type 0
 Under q c = (past now : Valuation) (p : IsFitting past) (n : IsFitting now) → one past now p n c ≡ true → one past now p n q ≡ true
 
--- an edge from this block with this known may join others at the block of a number
-abbrev pub JoinsAt : UnitText → Region → ℕ → (from : List ℕ) → Knowledge → Type 0
-JoinsAt u g i from k = (to : FlatBlockText) × BlockAt g.blocks i to × ((e : Edge) → e.from ≡ from → e.known ≡ k → IsCondition e.cond → JoinEdge u (as_block to) e)
-
 -- an edge that a place makes
 pub record EdgeRight (u : UnitText) (g : Region) (h : Here) (e : Edge) : Type 0 where
   pub cond : IsCondition e.cond
@@ -77,12 +74,6 @@ pub record EdgeRight (u : UnitText) (g : Region) (h : Here) (e : Edge) : Type 0 
   pub from : e.from ≡ h.label
   pub place : e.to ≡ next_place h.place e.to.block
   pub joins : JoinsAt u g e.to.block e.from e.known
-
--- where a way leads
-abbrev pub WayRight : UnitText → Region → Way → (from : List ℕ) → Knowledge → Type 0
-WayRight u g halts from k = Unit {0}
-WayRight u g enters_head from k = JoinsAt u g g.head from k
-WayRight u g (waits target to_head parts timed) from k = JoinsAt u g target from k
 
 -- an end of a place
 pub record EndRight (u : UnitText) (g : Region) (h : Here) (x : End) : Type 0 where

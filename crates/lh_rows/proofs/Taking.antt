@@ -46,11 +46,11 @@ use Rattle.lh_rows.specs.Places.{Region, Here, Midst, stepped, part_stepped, ope
 use Rattle.lh_rows.specs.Regions.{is_constant}
 use Rattle.lh_rows.proofs.Phis.{const-line}
 use Rattle.lh_rows.specs.Typed.{KnowsTyped, KnowsThere, IsConstantOf, of_step, IsCondition, IsOfType}
+use Rattle.lh_rows.specs.Right.{as_block, BlockAt, PhiGiven}
 use Rattle.lh_rows.proofs.Sites.{Site, place-at, not-result}
 use Rattle.lh_rows.proofs.Merging.{one, and-condition, and-one}
 use Rattle.lh_rows.proofs.Operations.{term-type, value-known, cell-known, part-known, HasType, operands-typed, operation-typed, operation-known, PartStep}
-use Rattle.lh_rows.proofs.Labels.{as_block, BlockAt}
-use Rattle.lh_rows.proofs.Knowing.{constant-typed, GivenTyped, known-typed, given-typed, known-stays, given-stays, given-known, there-past, PhiGiven}
+use Rattle.lh_rows.proofs.Knowing.{constant-typed, GivenTyped, known-typed, given-typed, known-stays, given-stays, given-known, there-past}
 use Rattle.lh_rows.proofs.Steps.{More, no-more, one-more, RegionOf, Under, EdgeRight, EndRight, DriveRight}
 
 -- ---- conditions

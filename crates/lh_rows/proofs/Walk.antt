@@ -25,10 +25,11 @@ use Rattle.lh_rows.specs.Regions.{Course, no_course, comes_to, max_turns, is_pla
 use Rattle.lh_rows.specs.Typed.{Among, IsCondition, JoinEdge}
 use Rattle.lh_rows.specs.Means.{range_in, reads, Shows, is_one, with_row, with_rows}
 use Rattle.lh_rows.specs.Ending.{StandsAs}
+use Rattle.lh_rows.specs.Right.{as_block, BlockAt}
 use Rattle.lh_rows.proofs.Among.{in-each, among-filter, filter-among, among-split}
 use Rattle.lh_rows.proofs.Sites.{block-at}
 use Rattle.lh_rows.proofs.Merging.{EachCondition, one, any-one, any-taken, none-taken, bit-condition}
-use Rattle.lh_rows.proofs.Labels.{as_block, BlockAt, block-text}
+use Rattle.lh_rows.proofs.Labels.{block-text}
 use Rattle.lh_rows.proofs.Phis.{known-shows-at, phis-given-at}
 use Rattle.lh_rows.proofs.Steps.{RegionOf, EdgeRight, EndRight, DriveRight}
 use Rattle.lh_rows.proofs.Ordered.{Before, Sorted, sorted-behind, later-behind, never-before, next-later, place-among, places-sorted, place-is, place-self}

@@ -6,5 +6,6 @@ pub mod Regions
 pub mod Typed
 pub mod Means
 pub mod Ending
+pub mod Right
 pub mod Laws
 pub mod Adjacent

@@ -12,7 +12,7 @@ use Rattle.lh_term.specs.Tree.{Tree, TreeRow, constant, past_of, now_of, operati
 use Rattle.lh_term.specs.SameTree.{same_tree}
 use Rattle.lh_term.specs.Make.{is_constant, all_constant, value_in, values_in, is_zero, is_ones, is_bit, is_bit_value, negated, is_not_of, anded, halves, zero_like, ones_like, bit_of, found_or, not_rows, make_not, and_rows, or_rows, eq_rows, neq_rows, rows_of, make_operation, make_choice}
 use Rattle.lh_term.specs.Conjuncts.{joins_bits, all_conjuncts, joined_conjuncts, with_term, with_terms, conjuncts_of, conjunction_from, conjunction}
-use Rattle.lh_stand.proofs.WaysTrees.{seven, five}
+use Rattle.lh_before.proofs.Trees.{seven, five}
 use Rattle.lh_same.proofs.Times.{Writable, AllWritable, apply-written}
 
 abbrev mutual

@@ -21,7 +21,7 @@ use Rattle.lh_rows.proofs.Courses.{stops-not}
 use Rattle.lh_shape.specs.Merging.{are_alike, merged_from, merged_drives}
 use Rattle.lh_shape.specs.Reasons.{parts_waited, second_drives}
 use Rattle.lh_shape.specs.Shapes.{ShapeText, comb, edge, once, left, edge_row, shape_of_text}
-use Rattle.lh_emit.specs.Printed.{TimeIsWritable, DelayIsWritable, DriveIsWritable, RowIsWritable}
+use Rattle.lh_emission.specs.Printed.{TimeIsWritable, DelayIsWritable, DriveIsWritable, RowIsWritable}
 use Rattle.lh_stand.proofs.GivenShapes.{HasRows, has-rows, SecondOf, comb-of, edge-of, once-of}
 use Rattle.lh_same.specs.Delays.{ShapeIsWritable}
 use Rattle.lh_same.proofs.Times.{Writable, LineFine}

@@ -16,14 +16,14 @@ use Rattle.lh_term.specs.declared.part.Part.{Part}
 use Rattle.lh_edge.specs.Triggers.{EdgeRowTree}
 use Rattle.lh_rows.specs.Rows.{Drive}
 use Rattle.lh_shape.specs.Shapes.{ShapeText, comb, edge, once, left, shape_of_text}
-use Rattle.lh_emit.specs.Emitted.{PartStep, source_of}
-use Rattle.lh_emit.specs.Reached.{steps_in}
-use Rattle.lh_emit.specs.Ways.{WaitIsGiven, DriveIsGiven, RowIsGiven}
-use Rattle.lh_emit.specs.Laws.{IsRightEntity, HasApartArgs, CombIsRight, EdgeIsRight, OnceIsRight}
+use Rattle.lh_emission.specs.Emitted.{PartStep, source_of}
+use Rattle.lh_emission.specs.Reached.{steps_in}
+use Rattle.lh_emission.specs.Ways.{WaitIsGiven, DriveIsGiven, RowIsGiven}
+use Rattle.lh_emission.specs.Laws.{IsRightEntity, HasApartArgs, CombIsRight, EdgeIsRight, OnceIsRight}
 use Rattle.lh_lowered.specs.Lowering.{becomes, outcome_in}
 use Rattle.lh_lowered.specs.declared.report.Kind.{Kind}
 use Rattle.lh_stand.specs.Given.{source_in, CombIsGiven, EdgeIsGiven, OnceIsGiven}
-use Rattle.lh_emit.specs.Printed.{HasPrintableHeader, CombIsPrintable, EdgeIsPrintable, OnceIsPrintable}
+use Rattle.lh_emission.specs.Printed.{HasPrintableHeader, CombIsPrintable, EdgeIsPrintable, OnceIsPrintable}
 use Rattle.lh_stand.specs.Stands.{IsEmittedFor, IsFlattened}
 use Rattle.lh_same.specs.Delays.{ShapeIsWritable, DelaysAreWritable}
 use Rattle.lh_same.specs.Same.{IsSourceModule}

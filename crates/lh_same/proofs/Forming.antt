@@ -13,12 +13,12 @@ use Rattle.lh_unit.specs.Within.{Each}
 use Rattle.lh_spelled.specs.Printable.{IsPrintable, IsPrintableItem}
 use Rattle.lh_spelled.specs.Laws.{IsSpelledAlone, units_repeat, SpelledApart, SpelledTogether, PrintableIsSpelled, SpelledIsPrintable}
 use Rattle.lh_alike.specs.Formed.{FlatTextsAreFormed}
-use Rattle.lh_emit.specs.Laws.{CombIsRight, EdgeIsRight, OnceIsRight}
+use Rattle.lh_emission.specs.Laws.{CombIsRight, EdgeIsRight, OnceIsRight}
 use Rattle.lh_lowered.specs.Lowering.{Outcome, becomes, stays, outcome_in, in_place, lowered_as, lowered_item, lowered}
 use Rattle.lh_lowered.specs.Kept.{NamesStay}
 use Rattle.lh_lowered.specs.declared.report.Kind.{Kind}
 use Rattle.lh_stand.specs.Given.{CombIsGiven, EdgeIsGiven, OnceIsGiven}
-use Rattle.lh_emit.specs.Printed.{CombIsPrintable, EdgeIsPrintable, OnceIsPrintable}
+use Rattle.lh_emission.specs.Printed.{CombIsPrintable, EdgeIsPrintable, OnceIsPrintable}
 use Rattle.lh_same.specs.Delays.{DelaysAreWritable}
 use Rattle.lh_same.specs.Same.{LoweredIsPrintable, LoweredIsSpelled, LoweredIsFaultless}
 use Rattle.lh_same.proofs.Outcomes.{ItemPlaced, items-placed, process-kind}

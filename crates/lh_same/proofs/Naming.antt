@@ -16,7 +16,7 @@ use Rattle.lh_unit.specs.WellFormed.{Site, sites, NoneHasFault}
 use Rattle.lh_unit.specs.Within.{Each}
 use Rattle.lh_spelled.specs.ItemLines.{item_line}
 use Rattle.lh_spelled.specs.Printable.{IsPrintable, IsPrintableItem}
-use Rattle.lh_emit.specs.Laws.{HasNoFault}
+use Rattle.lh_emission.specs.Laws.{HasNoFault}
 use Rattle.lh_lowered.specs.Lowering.{Outcome, becomes, stays, outcome_in, in_place, lowered_as, lowered_item, lowered}
 use Rattle.lh_lowered.specs.Kept.{NamesStay}
 use Rattle.lh_lowered.specs.declared.report.Kind.{Kind}

@@ -10,8 +10,8 @@ use Rattle.lh_unit.specs.Naming.{kind_text}
 use Rattle.lh_unit.specs.Within.{Each}
 use Rattle.lh_flat.specs.Flat.{FlatText, Flattened, refused, flattened, flat_of, flat_unit}
 use Rattle.lh_shape.specs.Shapes.{ShapeText, comb, edge, once, left, shape_of_text}
-use Rattle.lh_emit.specs.Entities.{Emission, too_large, emits, comb_emission, edge_emission, once_emission}
-use Rattle.lh_emit.specs.Reached.{steps_in}
+use Rattle.lh_emission.specs.Entities.{Emission, too_large, emits, comb_emission, edge_emission, once_emission}
+use Rattle.lh_emission.specs.Reached.{steps_in}
 use Rattle.lh_lowered.specs.Lowering.{becomes, outcome_of_emission, outcome_of_shape, outcome_of_text, outcome_in}
 use Rattle.lh_lowered.specs.declared.report.Kind.{Kind}
 use Rattle.lh_lowered.specs.declared.report.Kind.TheVariants as kind

@@ -15,7 +15,7 @@ use Rattle.lh_unit.specs.SpellsInst.{SpellsInst, SpellsLine}
 use Rattle.lh_unit.specs.SpellsNumbers.{SpellsSteps}
 use Rattle.lh_unit.specs.Within.{Each}
 use Rattle.lh_unit.proofs.Lists.{Each-append}
-use Rattle.lh_emit.specs.Printed.{IsWritable}
+use Rattle.lh_emission.specs.Printed.{IsWritable}
 
 -- ---- the times in a value
 

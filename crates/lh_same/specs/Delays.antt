@@ -4,7 +4,7 @@ use Rattle.lh_unit.specs.Arena.{Arena}
 use Rattle.lh_unit.specs.Within.{Each}
 use Rattle.lh_flat.specs.Flat.{FlatText}
 use Rattle.lh_shape.specs.Shapes.{ShapeText, comb, edge, once, left, shape_of_text}
-use Rattle.lh_emit.specs.Printed.{DriveIsWritable, RowIsWritable}
+use Rattle.lh_emission.specs.Printed.{DriveIsWritable, RowIsWritable}
 use Rattle.lh_stand.specs.Stands.{IsFlattened}
 
 -- each delay of the shape that is a constant is a time that can be written

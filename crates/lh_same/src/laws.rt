@@ -3,7 +3,7 @@ ghost use Rattle.lh_same.specs.Delays.{DelaysAreWritable};
 ghost use Rattle.lh_same.specs.Same.{LargeIsEnough, LoweredIsFaultless, LoweredIsPrintable, LoweredIsSpelled, LoweredIsWellFormed, LoweredSameTrace, LoweredSameTraceWithin};
 
 use lh_alike::formed_law;
-use lh_emit::laws::{comb_law, edge_law, once_law, printing_law};
+use lh_emission::laws::{comb_law, edge_law, once_law, printing_law};
 use lh_lowered::laws::lowering_law;
 use lh_meaning::replaced_law;
 use lh_spelled::{modules_are_spelled_by_items, printable_items_are_spelled};

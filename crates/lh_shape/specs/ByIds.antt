@@ -2,18 +2,16 @@
 use Rattle.std.specs.Prelude.{List, [], ◌∷◌, map, Bool, false, not, ◌&&◌, ◌||◌}
 use Rattle.std.specs.List.{list_any, list_all, flat_map}
 use Rattle.std.specs.Option.{option_map_or}
-use Rattle.lh_unit.specs.Within.{Each}
 use Rattle.lh_term.specs.Make.{is_constant}
-use Rattle.lh_term.specs.Arena.{trees, tree_at, IsIn}
+use Rattle.lh_term.specs.Arena.{trees, tree_at}
 use Rattle.lh_term.specs.declared.part.Part.{Part}
 use Rattle.lh_term.specs.declared.term.Node.{Node}
 use Rattle.lh_cover.specs.Bits.{covers}
 use Rattle.lh_edge.specs.Atoms.{contains_past}
 use Rattle.lh_rows.specs.Rows as text
 use Rattle.lh_rows.specs.Regions.{waited_parts}
-use Rattle.lh_rows.specs.Typed.{IsOfType}
-use Rattle.lh_joins.specs.Joins.{IsConditionAt}
 use Rattle.lh_region.specs.Stands.{way_text}
+pub use Rattle.lh_region.specs.Stands.{DriveFits, DrivesFit, later_drives, RegionsFit}
 use Rattle.lh_region.specs.declared.rows.DriveRow.{DriveRow}
 use Rattle.lh_region.specs.declared.rows.EndRow.{EndRow}
 use Rattle.lh_region.specs.declared.rows.Rows.{Rows}
@@ -59,16 +57,6 @@ drive_at ns d = record { cond = tree_at (trees ns) d.cond; part = d.part; value 
 abbrev pub drives_at : List Node → List DriveRow → List text.Drive
 drives_at ns ds = map (drive_at ns) ds
 
--- the terms of a drive are of the arena: its condition is of one bit, and its value of the part's type
-pub record DriveFits (ns : List Node) (d : DriveRow) : Type 0 where
-  pub cond : IsConditionAt ns d.cond
-  pub value_in : IsIn ns d.value
-  pub value : IsOfType d.part.ty (tree_at (trees ns) d.value)
-  pub delay_in : IsIn ns d.delay
-
-abbrev pub DrivesFit : List Node → List DriveRow → Type 0
-DrivesFit ns ds = Each (DriveFits ns) ds
-
 -- a delay is no constant
 abbrev pub delay_varies : List Node → DriveRow → Bool
 delay_varies ns d = not (is_constant (tree_at (trees ns) d.delay))
@@ -79,10 +67,7 @@ drives_past ns d = contains_past (tree_at (trees ns) d.value)
 
 -- ---- regions
 
--- the drives and ends of the second region; none where it is not built
-abbrev pub later_drives : Regions → List DriveRow
-later_drives r = option_map_or (λ (s : Rows). s.drives) r.second []
-
+-- the ends of the second region; none where it is not built
 abbrev pub later_ends : Regions → List EndRow
 later_ends r = option_map_or (λ (s : Rows). s.ends) r.second []
 
@@ -114,11 +99,6 @@ drives_early s = not (head_is_next s.ends) && not (is_empty s.drives)
 -- always halts, probes nothing and asserts nothing
 abbrev pub once_only : Rows → Bool
 once_only s = every_way is_halt s.ends && (is_empty s.probes && is_empty s.asserts)
-
--- the drives of both regions are of the arena
-pub record RegionsFit (ns : List Node) (r : Regions) : Type 0 where
-  pub first : DrivesFit ns r.first.drives
-  pub second : DrivesFit ns (later_drives r)
 
 -- the reasons that rows may give before the conditions of the second region are looked at
 abbrev pub reasons_told : List Node → Regions → List (Bool × Reason)

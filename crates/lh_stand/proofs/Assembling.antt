@@ -36,14 +36,15 @@ use Rattle.lh_rows.proofs.Reading.{reads-fit}
 use Rattle.lh_rows.proofs.Activations.{rows-are-typed}
 use Rattle.lh_shape.specs.Merging.{merged_drives}
 use Rattle.lh_shape.specs.Shapes.{ShapeText, comb, edge, once, left, shape_of_text}
-use Rattle.lh_emit.specs.Emitted.{PartStep, source_of}
-use Rattle.lh_emit.specs.Entities.{emits, comb_emission, edge_emission, once_emission}
-use Rattle.lh_emit.specs.Reached.{steps_in}
-use Rattle.lh_emit.specs.Ways.{WaitIsGiven, DriveIsGiven, RowIsGiven}
-use Rattle.lh_emit.specs.Laws.{ArgumentsFit, IsEmitted, IsEntityOf}
-use Rattle.lh_emit.proofs.Whole.{comb-passes, comb-senses, edge-passes, edge-senses, once-passes, once-senses}
-use Rattle.lh_emit.proofs.Plain.{comb-plain, edge-plain, once-plain}
-use Rattle.lh_stand.specs.Given.{RegionsAreAlike, SecondRowsAreTyped, source_in, CombIsGiven, EdgeIsGiven, OnceIsGiven}
+use Rattle.lh_emission.specs.Emitted.{PartStep, source_of}
+use Rattle.lh_emission.specs.Entities.{emits, comb_emission, edge_emission, once_emission}
+use Rattle.lh_emission.specs.Reached.{steps_in}
+use Rattle.lh_emission.specs.Ways.{WaitIsGiven, DriveIsGiven, RowIsGiven}
+use Rattle.lh_emission.specs.Laws.{ArgumentsFit, IsEmitted, IsEntityOf}
+use Rattle.lh_emission.proofs.Whole.{comb-passes, comb-senses, edge-passes, edge-senses, once-passes, once-senses}
+use Rattle.lh_emission.proofs.Plain.{comb-plain, edge-plain, once-plain}
+use Rattle.lh_before.specs.Before.{RegionsAreAlike, SecondRowsAreTyped}
+use Rattle.lh_stand.specs.Given.{source_in, CombIsGiven, EdgeIsGiven, OnceIsGiven}
 use Rattle.lh_stand.specs.Stands.{IsEmittedFor, IsFlattened, IsEnough, OnceStands, CombStands, EdgeStands, LoweredStands}
 use Rattle.lh_stand.proofs.Bits.{covers-own}
 use Rattle.lh_stand.proofs.Agreeing.{with_zeros, ZerosAreMissing, ZerosReadAlike}

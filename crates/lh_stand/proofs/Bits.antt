@@ -12,7 +12,7 @@ use Rattle.lh_meaning.proofs.BitSets.{has, SameSet, IsWithin}
 use Rattle.lh_term.specs.declared.part.Part.{Part}
 use Rattle.lh_cover.specs.Bits.{has_bit, is_waited, are_waited, covers, same_bits}
 use Rattle.lh_rows.specs.Means.{lowest_bit, range_in}
-use Rattle.lh_emit.specs.Laws.{Among}
+use Rattle.lh_emission.specs.Laws.{Among}
 
 pub and-left : (a b : Bool) → (a && b) ≡ true → a ≡ true
 and-left true b e = refl

@@ -43,12 +43,12 @@ use Rattle.lh_rows.proofs.Among.{each-among}
 use Rattle.lh_rows.proofs.Reading.{reads-fit}
 use Rattle.lh_shape.specs.Reasons.{is_halt, is_wait, ends_halted, is_empty, in_some, is_timed, are_mixed, waits_for_head, parts_waited, second_drives}
 use Rattle.lh_shape.specs.Shapes.{edge_row}
-use Rattle.lh_emit.specs.Emitted.{Source}
-use Rattle.lh_emit.specs.Ways.{RowIsGiven}
-use Rattle.lh_emit.specs.Registers.{triggers_seen, registers_wish}
-use Rattle.lh_emit.specs.Laws.{SensesParts, RegistersPass, row_parts}
+use Rattle.lh_emission.specs.Emitted.{Source}
+use Rattle.lh_emission.specs.Ways.{RowIsGiven}
+use Rattle.lh_emission.specs.Registers.{triggers_seen, registers_wish}
+use Rattle.lh_emission.specs.Laws.{SensesParts, RegistersPass, row_parts}
 use Rattle.lh_stand.specs.Stands.{IsEnough}
-use Rattle.lh_stand.specs.Given.{AreAlike, SecondRowsAreTyped}
+use Rattle.lh_before.specs.Before.{AreAlike, SecondRowsAreTyped}
 use Rattle.lh_stand.proofs.Bits.{bits_of, covered-bits, there-bits, right-within, part-within}
 use Rattle.lh_stand.proofs.Agreeing.{ZerosAreMissing, ZerosReadAlike, values-agree}
 use Rattle.lh_stand.proofs.Shaped.{EdgeRegions, SecondWalk, second-walk}

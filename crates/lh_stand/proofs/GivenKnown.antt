@@ -38,11 +38,11 @@ use Rattle.lh_rows.proofs.Among.{in-each}
 use Rattle.lh_rows.proofs.Heads.{arguments-case, argument-of}
 use Rattle.lh_rows.proofs.Joining.{GiveEach, given-each, merged-of, value_on, cell_on, part_on, JoinCase, of_value, of_cell, of_part, join-case, known-by-value, known-by-cell, known-by-part, first-among}
 use Rattle.lh_rows.proofs.Sites.{LineGood}
-use Rattle.lh_emit.specs.Emitted.{PartStep, source_of}
-use Rattle.lh_emit.specs.Reached as Emit
-use Rattle.lh_emit.specs.Reached.{Reached, as_argument, stepped_by, further, steps_in, IsPartOf}
-use Rattle.lh_emit.specs.Ways.{part_by, part_by_step, whole, WaitIsGiven, AllParts}
-use Rattle.lh_emit.proofs.Reaching.{part-reached}
+use Rattle.lh_emission.specs.Emitted.{PartStep, source_of}
+use Rattle.lh_emission.specs.Reached as Emit
+use Rattle.lh_emission.specs.Reached.{Reached, as_argument, stepped_by, further, steps_in, IsPartOf}
+use Rattle.lh_emission.specs.Ways.{part_by, part_by_step, whole, WaitIsGiven, AllParts}
+use Rattle.lh_emission.proofs.Reaching.{part-reached}
 use Rattle.lh_stand.proofs.GivenTrees.{In, AllIn, make-in, choice-in, conjuncts-in, conjunction-in, filter-in}
 
 -- ---- the part of a name

@@ -26,14 +26,15 @@ use Rattle.lh_rows.proofs.Activations.{rows-are-typed}
 use Rattle.lh_shape.specs.Merging.{are_alike, merged_from, merged_drives}
 use Rattle.lh_shape.specs.Reasons.{parts_waited, second_drives}
 use Rattle.lh_shape.specs.Shapes.{comb, edge, once, left, edge_row}
-use Rattle.lh_emit.specs.Emitted.{Source}
-use Rattle.lh_emit.specs.Ways.{AllParts, IsReached, WaitIsGiven, DriveIsGiven, RowIsGiven}
-use Rattle.lh_emit.specs.Laws.{DriveReads}
+use Rattle.lh_emission.specs.Emitted.{Source}
+use Rattle.lh_emission.specs.Ways.{AllParts, IsReached, WaitIsGiven, DriveIsGiven, RowIsGiven}
+use Rattle.lh_emission.specs.Laws.{DriveReads}
 use Rattle.lh_stand.specs.Given.{source_in, CombGiven, CombIsGiven, EdgeIsGiven, OnceIsGiven}
 use Rattle.lh_stand.proofs.GivenTrees.{make-in, choice-in, conjuncts-in, conjunction-in, filter-in}
 use Rattle.lh_stand.proofs.GivenTriggers.{triggers-given}
 use Rattle.lh_stand.proofs.GivenRows.{DriveFine, EndFine, CourseFine}
-use Rattle.lh_stand.proofs.GivenRegions.{now-typed, now-probe, first_of, second_of, first-with, first-reached, second-reached, second-typed}
+use Rattle.lh_before.proofs.Second.{now-typed, second-typed}
+use Rattle.lh_stand.proofs.GivenRegions.{now-probe, first_of, second_of, first-with, first-reached, second-reached}
 use Rattle.lh_stand.proofs.GivenShapes.{HasRows, has-rows, SecondOf, CombOf, comb-of, edge-of, OnceOf, once-of, probes-covered}
 
 -- ---- drives as one

@@ -17,12 +17,13 @@ use Rattle.lh_rows.specs.Rows.{Drive, Way, halts, enters_head, waits, End, Rows}
 use Rattle.lh_rows.specs.Joins.{Place, Edge, any_taken}
 use Rattle.lh_rows.specs.Places.{Region, Here, Midst, block_number, operated, gives, probes, both, drive_cond, with_drive, drives, asserts, ends, next_place, goes, goes_if, leads, branches, wait_way, ends_if, takes, takes_all}
 use Rattle.lh_rows.specs.Regions.{Course, no_course, Coursed, stops, comes_to, then_course, through_block, through, is_place, edges_to, through_reached, through_all, all_places, region_from, waited_parts}
+use Rattle.lh_rows.specs.Right.{as_block}
 use Rattle.lh_rows.proofs.Courses.{coursed-is, stops-not}
 use Rattle.lh_rows.proofs.Courses as Courses
 use Rattle.lh_rows.proofs.Sites.{LineGood, good-lines}
-use Rattle.lh_rows.proofs.Labels.{as_block, block-text}
+use Rattle.lh_rows.proofs.Labels.{block-text}
 use Rattle.lh_rows.proofs.Steps.{RegionOf}
-use Rattle.lh_emit.specs.Ways.{AllParts}
+use Rattle.lh_emission.specs.Ways.{AllParts}
 use Rattle.lh_stand.proofs.GivenTrees.{In, make-in}
 use Rattle.lh_stand.proofs.GivenKnown.{PartFine, part-fine, KnownFine, KnowsFine, value-fine, cell-fine, part-known-fine, parts-fine, given-fine, some-value, some-cell, operated-fine, EdgeFine, taken-fine, known-at-fine}
 

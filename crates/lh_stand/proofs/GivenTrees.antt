@@ -13,8 +13,8 @@ use Rattle.lh_term.specs.SameTree.{same_tree}
 use Rattle.lh_term.specs.Make.{is_constant, all_constant, value_in, values_in, is_zero, is_ones, is_bit, is_bit_value, negated, is_not_of, anded, halves, zero_like, ones_like, bit_of, found_or, not_rows, make_not, and_rows, or_rows, eq_rows, neq_rows, rows_of, make_operation, make_choice}
 use Rattle.lh_term.specs.Conjuncts.{joins_bits, all_conjuncts, joined_conjuncts, with_term, with_terms, conjuncts_of, conjunction_from, conjunction}
 use Rattle.lh_term.specs.declared.part.Part.{Part}
-use Rattle.lh_emit.specs.Ways.{AllParts, AllPartsIn}
-use Rattle.lh_stand.proofs.WaysTrees.{seven, five}
+use Rattle.lh_emission.specs.Ways.{AllParts, AllPartsIn}
+use Rattle.lh_before.proofs.Trees.{seven, five}
 
 module _ (P : Part → Type 0) where
   abbrev pub In : Tree → Type 0

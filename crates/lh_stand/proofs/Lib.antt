@@ -1,7 +1,3 @@
-pub mod WaysTrees
-pub mod WaysKnown
-pub mod WaysRows
-pub mod WaysRegions
 pub mod GivenTrees
 pub mod GivenTriggers
 pub mod GivenKnown

@@ -35,7 +35,7 @@ use Rattle.lh_rows.specs.Laws.{max_steps, EndsAs, WaitsForHead}
 use Rattle.lh_rows.proofs.Reading.{reads-fit}
 use Rattle.lh_rows.proofs.Activations.{head-stays-known}
 use Rattle.lh_shape.specs.Reasons.{ends_halted, is_empty, in_some, is_timed, are_mixed, waits_for_head, parts_waited}
-use Rattle.lh_emit.specs.Laws.{Passes, SensesParts}
+use Rattle.lh_emission.specs.Laws.{Passes, SensesParts}
 use Rattle.lh_stand.specs.Stands.{IsEnough}
 use Rattle.lh_stand.proofs.Bits.{bits_of, both-within, covered-bits, there-bits}
 use Rattle.lh_stand.proofs.Shaped.{CombRegions}

@@ -31,11 +31,11 @@ use Rattle.lh_rows.specs.Means.{range_in, is_one, is_true, due_by, with_row, wit
 use Rattle.lh_rows.specs.Laws.{DriveTyped}
 use Rattle.lh_rows.proofs.Among.{each-append}
 use Rattle.lh_shape.specs.Shapes.{edge_row}
-use Rattle.lh_emit.specs.Entities.{mode_of}
-use Rattle.lh_emit.specs.Registers.{sees, fires, any_fires, register_made, row_seen, triggers_seen}
-use Rattle.lh_emit.specs.Ways.{TriggerIsGiven}
-use Rattle.lh_emit.specs.Emitted.{Source}
-use Rattle.lh_emit.specs.Laws.{row_parts}
+use Rattle.lh_emission.specs.Entities.{mode_of}
+use Rattle.lh_emission.specs.Registers.{sees, fires, any_fires, register_made, row_seen, triggers_seen}
+use Rattle.lh_emission.specs.Ways.{TriggerIsGiven}
+use Rattle.lh_emission.specs.Emitted.{Source}
+use Rattle.lh_emission.specs.Laws.{row_parts}
 use Rattle.lh_stand.proofs.Bits.{or-cases, or-left, or-right}
 
 each-left : {X : Type 0} (P : X → Type 0) (xs ys : List X) → Each P (xs ++ ys) → Each P xs

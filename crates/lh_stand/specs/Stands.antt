@@ -15,8 +15,8 @@ use Rattle.lh_rows.specs.Rows.{Drive}
 use Rattle.lh_rows.specs.Laws.{max_steps}
 use Rattle.lh_rows.specs.Regions.{lines_at}
 use Rattle.lh_shape.specs.Shapes.{ShapeText, comb, edge, once, left, shape_of_text}
-use Rattle.lh_emit.specs.Entities.{emits, comb_emission, edge_emission, once_emission}
-use Rattle.lh_emit.specs.Reached.{steps_in}
+use Rattle.lh_emission.specs.Entities.{emits, comb_emission, edge_emission, once_emission}
+use Rattle.lh_emission.specs.Reached.{steps_in}
 
 -- The entity y is emitted for a shape of a process u that has this flat text: it has the process's name and arguments, and reaches parts by the steps of the flat text. A process that is left has no entity.
 abbrev pub IsEmittedFor : (u : UnitText) → FlatText → ShapeText → (y : UnitText) → Type 0

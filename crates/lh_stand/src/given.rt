@@ -1,20 +1,7 @@
 //! What the laws of emitted entities ask of the rows of a flat text, each law as the contract of a function that does nothing.
-ghost use Rattle.lh_stand.specs.Given.{CombIsGiven, EdgeIsGiven, OnceIsGiven, RefusalsAreAlike, RegionsAreAlike, SecondRowsAreTyped, TargetsAreAlike};
+ghost use Rattle.lh_stand.specs.Given.{CombIsGiven, EdgeIsGiven, OnceIsGiven};
 
 use lh_term::laws::swaps_keep_meaning;
-
-/// The first region by the values that parts had before has the rows of the one by their values now, but for the values in their
-/// terms: the same parts are probed and driven, and it ends at the same waits, or stops for the same reason.
-pub fn regions_alike()
-    ensures rows { RegionsAreAlike }
-    ensures refusals { RefusalsAreAlike }
-    ensures targets { TargetsAreAlike }
-{}
-
-/// Every term of the rows of the second region is typed.
-pub fn second_rows_are_typed()
-    ensures { SecondRowsAreTyped }
-{}
 
 /// Of a combinational flat text each part is reached by steps from an argument, each term is typed, and the drives read only what is
 /// waited on.

@@ -2,10 +2,11 @@
 //! the contract of a function that does nothing.
 ghost use Rattle.lh_stand.specs.Stands.{OnceStands, CombStands, EdgeStands, LoweredStands, MaxIsEnough};
 
-use crate::given::{comb_given, edge_given, once_given, regions_alike, second_rows_are_typed};
+use crate::given::{comb_given, edge_given, once_given};
 use lh_alike::between::{acts_law, begins_law};
 use lh_alike::formed_law;
 use lh_alike::zeros::{activations_law, bits_law, parts_law, ranges_law};
+use lh_before::{regions_alike, second_rows_are_typed};
 use lh_shape::laws::merged_drives_law;
 use lh_term::laws::swaps_keep_meaning;
 

@@ -5,4 +5,3 @@ pub mod Values
 pub mod Walks
 pub mod Conditions
 pub mod Swaps
-pub mod Trials

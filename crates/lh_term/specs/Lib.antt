@@ -13,4 +13,3 @@ pub mod SameNode
 pub mod Fed
 pub mod Found
 pub mod Reach
-pub mod Tried

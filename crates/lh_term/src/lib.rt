@@ -10,6 +10,4 @@ mod plain;
 pub mod subst;
 pub mod term;
 pub mod terms;
-#[cfg(test)]
-mod tests;
 mod types;

@@ -10,7 +10,7 @@ use Rattle.lh_unit.specs.Table.{Table, IsTable, HasBlocks, ResultWithin, no_tabl
 use Rattle.lh_unit.specs.TableCalls.{has_name, with_value, with_label, with_arg, with_result, with_block, with_line, FindsValueIn, FindsLabelIn, TakesArg, TakesBlock, TakesLine}
 use Rattle.lh_unit.specs.Within.{sizes_of}
 use Rattle.lh_unit.specs.Naming.{Naming, naming_of, line_text, arg_text, label_text, block_text, kind_text, table_text}
-use Rattle.lh_unit.specs.Arena.{Arena, IsArena, IsOpen, OfOpen, KeepsEntries, HasAtMost, contents, item_text_at, unit_text_at, naming, table_at, kind_at, unit_count, unit_name_at, value_name_at, label_name_at}
+use Rattle.lh_unit.specs.Arena.{Arena, IsArena, IsOpen, OfOpen, KeepsEntries, HasAtMost, HasFewMore, none_more, one_more_in, contents, item_text_at, unit_text_at, naming, table_at, kind_at, unit_count, unit_name_at, value_name_at, label_name_at}
 use Rattle.lh_unit.specs.Builders.{Finds, FindsValue, FindsLabel, Says, AddsArg, SetsResult, AddsBlock, AddsLine, HasRoom, HasTwice, line_text_at}
 use Rattle.lh_unit.specs.declared.inst.UnitId.{UnitId}
 use Rattle.lh_unit.specs.declared.inst.ValueId.{ValueId}
@@ -20,7 +20,7 @@ use Rattle.lh_unit.specs.declared.inst.UnitFault.{UnitFault}
 use Rattle.lh_unit.specs.declared.inst.UnitFault.TheVariants as fault
 use Rattle.lh_unit.specs.declared.inst.Inst.{Inst}
 use Rattle.lh_unit.specs.declared.inst.Arg.{Arg}
-use Rattle.lh_unit.proofs.Lists.{Same, same, other, same_or, map-ext}
+use Rattle.lh_unit.proofs.Lists.{Same, same, other, same_or, nat_eq-refl, map-ext}
 use Rattle.lh_unit.proofs.Tables.{insts_at-more}
 use Rattle.lh_unit.proofs.Arenas.{with_table, table_at-same, table_at-other, open-within, LinesPlaced}
 use Rattle.lh_unit.proofs.Texts.{Agree, table_text-same}
@@ -87,6 +87,35 @@ HasAtMost-same a b h g n w = record {
   values = λ u. omega (arith, (g u).values, w.values u);
   labels = λ u. omega (arith, (g u).labels, w.labels u);
 }
+
+-- a table that is written has as many more entries as it may have
+pub few-written : (a : Arena) (u : ℕ) (t : Table) (f g : ℕ → ℕ) → u < unit_count a → length t.values ≤ length (table_at a u).values + f u → length t.labels ≤ length (table_at a u).labels + g u → HasFewMore 0 f g a (with_table a u t)
+few-written a u t f g h v l = record { more_units = omega (arith, length-set a.units u t); more_values = λ w. values w (same_or w u); more_labels = λ w. labels w (same_or w u) }
+  where
+    values : (w : ℕ) → Same w u → length (table_at (with_table a u t) w).values ≤ length (table_at a w).values + f w
+    values w (same e) = subst (λ n. length (table_at (with_table a u t) n).values ≤ length (table_at a n).values + f n) (sym e) (subst (λ s. length s.values ≤ length (table_at a u).values + f u) (sym (table_at-same a u t h)) v)
+    values w (other e) = subst (λ s. length s.values ≤ length (table_at a w).values + f w) (sym (table_at-other a u w t e)) (omega arith)
+
+    labels : (w : ℕ) → Same w u → length (table_at (with_table a u t) w).labels ≤ length (table_at a w).labels + g w
+    labels w (same e) = subst (λ n. length (table_at (with_table a u t) n).labels ≤ length (table_at a n).labels + g n) (sym e) (subst (λ s. length s.labels ≤ length (table_at a u).labels + g u) (sym (table_at-same a u t h)) l)
+    labels w (other e) = subst (λ s. length s.labels ≤ length (table_at a w).labels + g w) (sym (table_at-other a u w t e)) (omega arith)
+
+one-here : (u : ℕ) → one_more_in u u ≡ 1
+one-here u = ap (λ (b : Bool). if b then 1 else 0) (nat_eq-refl u)
+
+value-labels : (t : Table) (n : List ℕ) → (with_value t n).labels ≡ t.labels
+value-labels t n = by (has_name t.values n)
+  where
+    by : (b : Bool) → (if b then t else record t { values = t.values ++ n ∷ [] }).labels ≡ t.labels
+    by true = refl
+    by false = refl
+
+label-values : (t : Table) (n : List ℕ) → (with_label t n).values ≡ t.values
+label-values t n = by (has_name t.labels n)
+  where
+    by : (b : Bool) → (if b then t else record t { labels = t.labels ++ n ∷ []; bodies = t.bodies ++ None ∷ [] }).values ≡ t.values
+    by true = refl
+    by false = refl
 
 -- writing what stands there changes nothing
 with_table-same : (a : Arena) (u : ℕ) → with_table a u (table_at a u) ≡ a
@@ -188,6 +217,7 @@ FindsValue-with_table (Ok v) a u t n o h f =
       Finds-with_table a u.0 t h l.grown l.at_most l.says,
       subst (λ (s : Table). v.0 < length s.values) (sym (table_at-same a u.0 t h)) f.within,
       ap (λ (s : Table). get_or s.values v.0 []) (table_at-same a u.0 t h) ∙ get_or_from_slice_get t.values v.0 n [] f.named,
+      few-written a u.0 t (one_more_in u.0) none_more h (omega (arith, l.at_most.values, one-here u.0)) (omega (arith, ap (λ (s : Table). length s.labels) f.table, ap (λ (x : List (List ℕ)). length x) (value-labels (table_at a u.0) n))),
     )
 FindsValue-with_table (Err e) a u t n o h f = with_table-old a u.0 t f
 
@@ -197,6 +227,7 @@ FindsLabel-with_table (Ok v) a u t n o h f =
       Finds-with_table a u.0 t h l.grown l.at_most l.says,
       subst (λ (s : Table). v.0 < length s.labels) (sym (table_at-same a u.0 t h)) f.within,
       ap (λ (s : Table). get_or s.labels v.0 []) (table_at-same a u.0 t h) ∙ get_or_from_slice_get t.labels v.0 n [] f.named,
+      few-written a u.0 t none_more (one_more_in u.0) h (omega (arith, ap (λ (s : Table). length s.values) f.table, ap (λ (x : List (List ℕ)). length x) (label-values (table_at a u.0) n))) (omega (arith, l.at_most.labels, one-here u.0)),
     )
 FindsLabel-with_table (Err e) a u t n o h f = with_table-old a u.0 t f
 
@@ -207,6 +238,7 @@ Says-with_table a u t f o p v l e = record {
   is_open = p;
   entries = KeepsEntries-by a (with_table a u.0 t) (omega (arith, length-set a.units u.0 t)) (λ w h. refl) (each_table Grown Grown-refl a u.0 t (open-within a u o p) (Grown-same (table_at a u.0) t v l));
   few = HasAtMost-same a (with_table a u.0 t) (omega (arith, length-set a.units u.0 t)) (each_table (AtMost 0) (AtMost-refl 0) a u.0 t (open-within a u o p) (AtMost-same (table_at a u.0) t v l));
+  no_more = few-written a u.0 t none_more none_more (open-within a u o p) (omega (arith, ap (λ (x : List (List ℕ)). length x) v)) (omega (arith, ap (λ (x : List (List ℕ)). length x) l));
 }
 
 -- the calls on the open unit

@@ -1,5 +1,5 @@
 -- Units that are looked up and begun, and declarations.
-use Rattle.std.proofs.Common.{◌≡◌, ◌≢◌, ℕ, ◌<◌, zero, suc, Bool, true, false, ◌||◌, List, [], ◌∷◌, ◌++◌, length, map, get_or, set, Option, Some, None, IsSome, is_some, Result, Ok, Err, OnOk, OnErr, unwrap_or, slice_get, position, refl, ap, sym, ◌∙◌, subst, arith, length-append, length-set}
+use Rattle.std.proofs.Common.{◌≡◌, ◌≢◌, ℕ, ◌+◌, ◌≤◌, ◌<◌, zero, suc, Bool, true, false, ◌||◌, List, [], ◌∷◌, ◌++◌, length, map, get_or, set, Option, Some, None, IsSome, is_some, Result, Ok, Err, OnOk, OnErr, unwrap_or, slice_get, position, refl, ap, sym, ◌∙◌, subst, arith, length-append, length-set}
 use Rattle.std.specs.List.{list_any}
 use Rattle.std.proofs.lemmas.List.{map-append, get_or-set_same, get_or_append_left, get_or_read}
 use Rattle.std.proofs.lemmas.Option.{slice_get-get_or, get_or_from_slice_get}
@@ -11,7 +11,7 @@ use Rattle.lh_unit.specs.UnitNames.{same_unit_name}
 use Rattle.lh_unit.specs.Table.{Table, IsTable, no_table, entity_block, insts_at, line_at}
 use Rattle.lh_unit.specs.TableCalls.{begun}
 use Rattle.lh_unit.specs.Naming.{naming_of, line_text, arg_text, block_text, table_text}
-use Rattle.lh_unit.specs.Arena.{Arena, IsArena, contents, item_text_at, unit_text_at, table_at, kind_at, unit_count, unit_name_at, no_unit_name}
+use Rattle.lh_unit.specs.Arena.{Arena, IsArena, HasFewMore, none_more, contents, item_text_at, unit_text_at, table_at, kind_at, unit_count, unit_name_at, no_unit_name}
 use Rattle.lh_unit.specs.Builders.{Finds, FindsUnit, Says, AddsDeclare}
 use Rattle.lh_unit.specs.declared.name.UnitName.{UnitName}
 use Rattle.lh_unit.specs.declared.inst.UnitId.{UnitId}
@@ -26,7 +26,7 @@ use Rattle.lh_unit.proofs.Tables.{missing, IsTable-begun}
 use Rattle.lh_unit.proofs.Arenas.{with_table, with_unit, table_at-unit, same_unit_name-is, same_unit_name-refl, none_some, IsArena-declared, IsArena-begun, LinesPlaced-more}
 use Rattle.lh_unit.proofs.Texts.{table_text-same}
 use Rattle.lh_unit.proofs.ContentsLemmas.{text_with, item_text-other, unit_text-table, unit_text-table_same}
-use Rattle.lh_unit.proofs.BuilderLemmas.{Grown, Grown-refl, Grown-same, AtMost, AtMost-refl, AtMost-same, KeepsEntries-by, HasAtMost-by, HasAtMost-same, each_table, with_table-old}
+use Rattle.lh_unit.proofs.BuilderLemmas.{Grown, Grown-refl, Grown-same, AtMost, AtMost-refl, AtMost-same, KeepsEntries-by, HasAtMost-by, HasAtMost-same, each_table, few-written, with_table-old}
 
 -- the arena with a unit that is begun, whose table is then t
 abbrev pub with_begun : Arena → UnitId → Table → Arena
@@ -107,6 +107,7 @@ Says-begun a b u k o h e w = (
     is_open = (a.items, refl);
     entries = KeepsEntries-by a now (omega (arith, length-set a.units u.0 t)) (λ v w. refl) (each_table Grown Grown-refl a u.0 t h (Grown-same (table_at a u.0) t (begun-values (table_at a u.0) k) (begun-labels (table_at a u.0) k)));
     few = HasAtMost-same a now (omega (arith, length-set a.units u.0 t)) (each_table (AtMost 0) (AtMost-refl 0) a u.0 t h (AtMost-same (table_at a u.0) t (begun-values (table_at a u.0) k) (begun-labels (table_at a u.0) k)));
+    no_more = record { more_units = few.more_units; more_values = few.more_values; more_labels = few.more_labels };
   },
 )
   where
@@ -115,6 +116,9 @@ Says-begun a b u k o h e w = (
 
     now : Arena
     now = with_begun a u t
+
+    few : HasFewMore 0 none_more none_more a (with_table a u.0 t)
+    few = few-written a u.0 t none_more none_more h (omega (arith, ap (λ (x : List (List ℕ)). length x) (begun-values (table_at a u.0) k))) (omega (arith, ap (λ (x : List (List ℕ)). length x) (begun-labels (table_at a u.0) k)))
 
 -- a unit that is looked up
 contents-with_unit : (a : Arena) (n : UnitName) → IsArena a → contents (with_unit a n) ≡ contents a
@@ -151,7 +155,14 @@ Finds-with_unit a n o = record {
 
 pub found-unit : (a : Arena) (n : UnitName) (i : ℕ) → IsArena a → Some i ≡ position (same_unit_name n) a.names → FindsUnit (Ok (record { 0 = i })) a a n
 found-unit a n i o p = let f = key_found same_unit_name same_unit_name-is same_unit_name-refl a.names n i p in
-    (Finds-refl a, omega (arith, f.0, o.long), get_or_from_slice_get a.names i n no_unit_name f.1)
+    (Finds-refl a, omega (arith, f.0, o.long), get_or_from_slice_get a.names i n no_unit_name f.1, record { more_units = omega arith; more_values = λ u. omega arith; more_labels = λ u. omega arith })
+
+few-unit : (a : Arena) (n : UnitName) → HasFewMore 1 none_more none_more a (with_unit a n)
+few-unit a n = record {
+  more_units = omega (arith, length-append a.units (no_table ∷ []));
+  more_values = λ u. subst (λ (t : Table). length t.values ≤ length (table_at a u).values + 0) (sym (table_at-unit a n u)) (omega arith);
+  more_labels = λ u. subst (λ (t : Table). length t.labels ≤ length (table_at a u).labels + 0) (sym (table_at-unit a n u)) (omega arith);
+}
 
 -- names and units after a unit is added
 pub added-unit : (a b : Arena) (n m : UnitName) → m ≡ n → b.names ≡ insert_key same_unit_name a.names m → b.units ≡ a.units ++ no_table ∷ [] → b.items ≡ a.items → false ≡ list_any (same_unit_name n) a.names → b ≡ with_unit a n
@@ -164,6 +175,7 @@ added-FindsUnit a b n m i e f o w s = (
   subst (Finds a) (sym f) (Finds-with_unit a n o),
   omega (arith, w, ap (λ z. length z.names) f, ap (λ z. length z.units) f, o.long, length-append a.names (n ∷ []), length-append a.units (no_table ∷ [])),
   get_or_from_slice_get b.names i n no_unit_name (s.1 ∙ ap Some (sym (same_unit_name-is m s.0 s.2) ∙ e)),
+  subst (HasFewMore 1 none_more none_more a) (sym f) (few-unit a n),
 )
 
 -- one more declaration
@@ -172,6 +184,7 @@ AddsDeclare-by (Ok _) a d items f g = subst (λ l. AddsDeclare (Ok tt) a (record
   map-append (item_text_at a) a.items (item.Declare d ∷ []),
   KeepsEntries-by a (record a { items = a.items ++ item.Declare d ∷ [] }) (omega arith) (λ v h. refl) (λ v. Grown-refl (table_at a v)),
   λ n w. record { units = w.units; values = w.values; labels = w.labels },
+  record { more_units = omega arith; more_values = λ u. omega arith; more_labels = λ u. omega arith },
 )
 AddsDeclare-by (Err e) a d items f g = λ i. record a { items = g i }
 

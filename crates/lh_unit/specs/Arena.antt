@@ -1,5 +1,5 @@
 -- A module as contracts see it: its units by ids, and its items in file order.
-use Rattle.std.specs.Prelude.{◌≡◌, ℕ, ◌^◌, ◌≤◌, ◌<◌, List, [], ◌∷◌, ◌++◌, length, map, Option, Some, IsSome, IsSomeAnd, slice_get, slice_index_or}
+use Rattle.std.specs.Prelude.{◌≡◌, ℕ, ◌+◌, ◌^◌, ◌≤◌, ◌<◌, List, [], ◌∷◌, ◌++◌, length, map, Option, Some, IsSome, IsSomeAnd, slice_get, slice_index_or, nat_eq, if◌then◌else◌}
 use Rattle.lh_types.specs.Types.{TypeTree}
 use Rattle.lh_unit.specs.Contents.{ItemText, UnitText, InstText, unit_text, declare_text, last_unit}
 use Rattle.lh_unit.specs.Table.{Table, no_table, line_at, insts_at, IsTable, AllDistinct}
@@ -151,3 +151,15 @@ pub record HasAtMost (n : ℕ) (a : Arena) : Type 0 where
   pub units : unit_count a ≤ n
   pub values : (u : ℕ) → value_count a u ≤ n
   pub labels : (u : ℕ) → label_count a u ≤ n
+
+-- new has at most so many units more than old, and its unit u at most so many values and labels more
+pub record HasFewMore (units : ℕ) (values labels : ℕ → ℕ) (old new : Arena) : Type 0 where
+  pub more_units : unit_count new ≤ unit_count old + units
+  pub more_values : (u : ℕ) → value_count new u ≤ value_count old u + values u
+  pub more_labels : (u : ℕ) → label_count new u ≤ label_count old u + labels u
+
+abbrev pub none_more : ℕ → ℕ
+none_more u = 0
+
+abbrev pub one_more_in : ℕ → ℕ → ℕ
+one_more_in u w = if nat_eq w u then 1 else 0

@@ -4,7 +4,7 @@ use Rattle.lh_types.specs.Types.{TypeTree}
 use Rattle.lh_types.specs.declared.ty.NoMemory.{NoMemory}
 use Rattle.lh_unit.specs.Contents.{ItemText, UnitText, LineText, ArgText, unit_text, declare_text, new_unit, change_last, with_arg, with_result, with_block, with_line, line_count, defines_unit, defines_value, defines_label}
 use Rattle.lh_unit.specs.Naming.{maybe_text}
-use Rattle.lh_unit.specs.Arena.{Arena, KeepsEntries, Grows, HasAtMost, IsOpen, OfOpen, contents, naming, unit_count, value_count, label_count, inst_count, unit_name_at, value_name_at, label_name_at, inst_text_at}
+use Rattle.lh_unit.specs.Arena.{Arena, KeepsEntries, Grows, HasAtMost, HasFewMore, none_more, one_more_in, IsOpen, OfOpen, contents, naming, unit_count, value_count, label_count, inst_count, unit_name_at, value_name_at, label_name_at, inst_text_at}
 use Rattle.lh_unit.specs.declared.name.UnitName.{UnitName}
 use Rattle.lh_unit.specs.declared.inst.UnitId.{UnitId}
 use Rattle.lh_unit.specs.declared.inst.BlockId.{BlockId}
@@ -24,17 +24,17 @@ pub record Finds (old new : Arena) : Type 0 where
 
 -- the entry of a unit of this name
 abbrev pub FindsUnit : Result UnitId NoMemory → Arena → Arena → UnitName → Type 0
-FindsUnit (Ok u) old new n = Finds old new × (u.0 < unit_count new) × (unit_name_at new u.0 ≡ n)
+FindsUnit (Ok u) old new n = Finds old new × (u.0 < unit_count new) × (unit_name_at new u.0 ≡ n) × HasFewMore 1 none_more none_more old new
 FindsUnit (Err _) old new n = new ≡ old
 
 -- the entry of a value of this name in the unit u
 abbrev pub FindsValue : Result ValueId NoMemory → Arena → Arena → UnitId → List ℕ → Type 0
-FindsValue (Ok v) old new u n = Finds old new × (v.0 < value_count new u.0) × (value_name_at new u.0 v.0 ≡ n)
+FindsValue (Ok v) old new u n = Finds old new × (v.0 < value_count new u.0) × (value_name_at new u.0 v.0 ≡ n) × HasFewMore 0 (one_more_in u.0) none_more old new
 FindsValue (Err _) old new u n = new ≡ old
 
 -- the entry of a label of this name in the unit u
 abbrev pub FindsLabel : Result BlockId NoMemory → Arena → Arena → UnitId → List ℕ → Type 0
-FindsLabel (Ok b) old new u n = Finds old new × (b.0 < label_count new u.0) × (label_name_at new u.0 b.0 ≡ n)
+FindsLabel (Ok b) old new u n = Finds old new × (b.0 < label_count new u.0) × (label_name_at new u.0 b.0 ≡ n) × HasFewMore 0 none_more (one_more_in u.0) old new
 FindsLabel (Err _) old new u n = new ≡ old
 
 -- the contents of new are these, u is open there, and every entry of old has its name; there are no more entries
@@ -43,6 +43,7 @@ pub record Says (old new : Arena) (u : UnitId) (items : List ItemText) : Type 0 
   pub is_open : IsOpen new u
   pub entries : KeepsEntries old new
   pub few : (n : ℕ) → HasAtMost n old → HasAtMost n new
+  pub no_more : HasFewMore 0 none_more none_more old new
 
 -- u becomes the open unit
 abbrev pub BeginsUnit : Result (Unit {0}) UnitFault → Arena → Arena → UnitId → UnitKind → Type 0
@@ -89,7 +90,7 @@ AddsLine (Err fault.OutOfMemory) old new u l = OfOpen old (HasRoom l) × (new �
 
 -- the module has one more declaration
 abbrev pub AddsDeclare : Result (Unit {0}) NoMemory → Arena → Arena → Declare → Type 0
-AddsDeclare (Ok _) old new d = (contents new ≡ contents old ++ declare_text d ∷ []) × KeepsEntries old new × ((n : ℕ) → HasAtMost n old → HasAtMost n new)
+AddsDeclare (Ok _) old new d = (contents new ≡ contents old ++ declare_text d ∷ []) × KeepsEntries old new × ((n : ℕ) → HasAtMost n old → HasAtMost n new) × HasFewMore 0 none_more none_more old new
 AddsDeclare (Err _) old new d = new ≡ old
 
 -- the text of an instruction that is to be added, with the name of its result

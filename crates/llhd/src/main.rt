@@ -1,29 +1,23 @@
 //! The program `llhd`: it reads a file from its standard input and does what its words ask for.
 #![tactic(auto)]
 
-mod command;
-mod load;
-mod simulate;
-mod status;
-mod top;
-
 ghost use Rattle.std.specs.Prelude.{◌≡◌, [], map, drop, IfOk, OnErr};
 ghost use Rattle.std.specs.String.{string_bytes};
 ghost use Rattle.std.specs.Vec.Iter.{into_iter_items};
 ghost use Rattle.std.specs.Process.{exit_status};
-ghost use Rattle.llhd.specs.StatusLines.{status_code};
+ghost use Rattle.lh_run.specs.StatusLines.{status_code};
 
 use lh_io::adapter::{StdSink, StdSource};
+use lh_run::status::Status;
+use lh_run::top::run;
 use lh_types::list::{ByteList, TextList};
 use lh_types::ty::NoMemory;
 use lh_watch::builtin::{Asserts, Toggles, UntilFail};
 use lh_watch::watcher::Watcher;
-use status::Status;
 use std::alloc::Global;
 use std::env::{self, Args};
 use std::io::{self, ErrorKind};
 use std::process::ExitCode;
-use top::run;
 
 /// The words that follow the name of the program.
 fn words_after_name(alloc: Global, mut args: Args) -> Result<TextList, NoMemory>

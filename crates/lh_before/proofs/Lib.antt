@@ -1,0 +1,5 @@
+pub mod Trees
+pub mod Known
+pub mod Rows
+pub mod Regions
+pub mod Second

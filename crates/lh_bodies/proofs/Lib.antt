@@ -1,0 +1,10 @@
+pub mod Apart
+pub mod Driven
+pub mod Drives
+pub mod Extending
+pub mod Growing
+pub mod Made
+pub mod Registers
+pub mod Tells
+pub mod Testing
+pub mod Triggered

@@ -1,0 +1,3 @@
+pub mod Bodies
+pub mod Fresh
+pub mod Lines

@@ -1,0 +1,11 @@
+//! Lowering of a module: a module like another one, in which entities stand in the place of some processes.
+#![tactic(auto)]
+
+mod adding;
+pub mod copying;
+mod entities;
+mod keeping;
+mod names;
+mod units;
+
+pub use crate::copying::Copying;

@@ -1,0 +1,12 @@
+pub mod Names
+pub mod Emitted
+pub mod Needs
+pub mod Given
+pub mod Entities
+pub mod Ways
+pub mod Reads
+pub mod Registers
+pub mod Laws
+pub mod Printed
+pub mod Reached
+pub mod Worked

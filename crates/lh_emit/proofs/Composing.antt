@@ -1,0 +1,191 @@
+-- What a term is made of, by ids.
+use Rattle.std.proofs.Common.{◌≡◌, ℕ, ◌+◌, ◌-◌, ◌<◌, ◌≤◌, Bool, true, false, ◌&&◌, List, [], ◌∷◌, ◌++◌, length, map, take, drop, get_or, Option, Some, None, refl, ap, sym, ◌∙◌, subst, arith, append_assoc, inl, inr, ◌⊎◌}
+use Rattle.std.specs.Prelude.{nat_lt, Result, Ok, Err, IfOk}
+use Rattle.std.specs.Option.{is_none}
+use Rattle.std.proofs.Math.Seq.{take-length}
+use Rattle.std.proofs.lemmas.List.{append-nil, map-append}
+use Rattle.lh_types.specs.Faults.{array_fault}
+use Rattle.lh_types.specs.Same.{and_both}
+use Rattle.lh_types.specs.Values.{Datum, DatumRow, int_value, time_value, array_value, tuple_value, data_row}
+use Rattle.lh_types.specs.ValueOf.{datum_of}
+use Rattle.lh_types.specs.declared.val.Val.{Val}
+use Rattle.lh_types.specs.declared.op.Op.{Op}
+use Rattle.lh_types.specs.declared.op.Op.TheVariants.{Array}
+use Rattle.lh_unit.specs.Within.{Each}
+use Rattle.lh_term.specs.Tree.{Tree, TreeRow, constant, past_of, now_of, operation, choice_of, no_trees, more_trees, operation_on, tree_row}
+use Rattle.lh_term.specs.Types.{FitsTerm, IsTyped, type_of}
+use Rattle.lh_term.specs.Arena.{trees, tree_at, trees_at, term_tree, term_below, ids_below, IsIn, AreIn, Grows, Stands}
+use Rattle.lh_term.specs.declared.term.TermId.{TermId}
+use Rattle.lh_term.specs.declared.term.Node.{Node}
+use Rattle.lh_term.specs.declared.term.Term.{Term}
+use Rattle.lh_term.specs.declared.term.Term.TheVariants.{Op as Applied}
+use Rattle.lh_types.specs.declared.val.Val.TheVariants as val
+use Rattle.lh_types.specs.Parts.{parts_of}
+use Rattle.lh_emit.specs.declared.making.Needs.{Needs}
+use Rattle.lh_emit.specs.declared.making.Needs.TheVariants.{Parts, Chosen}
+use Rattle.lh_body.specs.declared.lines.EmitFault.{EmitFault}
+use Rattle.lh_body.specs.declared.lines.EmitFault.TheVariants as fault
+use Rattle.lh_term.proofs.Arenas.{lt_of, of_lt, ids_more, map_append}
+use Rattle.lh_term.proofs.Swaps.{tree_grown, in_grown, grows_on}
+use Rattle.lh_emission.specs.Needs.{constants, operands_in, pair_of}
+use Rattle.lh_emission.proofs.Computing.{array-parts, tuple-parts}
+use Rattle.lh_emission.proofs.Pairs.{pair-typed}
+use Rattle.lh_emit.specs.Making.{AreMade, HasNoPair, NoPairOf, IsMadeBy, parts_in, AreConstants, AreChosen}
+use Rattle.lh_emit.specs.Tasks.{made_of, has_pair}
+
+-- ---- ids of an arena that grows
+
+pub ids-in-grown : (ns ms : List Node) → Grows ns ms → (xs : List TermId) → AreIn ns xs → AreIn ms xs
+ids-in-grown ns ms g [] h = refl
+ids-in-grown ns ms g (x ∷ xs) h =
+    let b = and_both (nat_lt x.0 (length ns)) (ids_below (length ns) xs) h in
+    rw (of_lt x.0 (length ms) (in_grown ns ms g x (lt_of x.0 (length ns) b.0))) (ids-in-grown ns ms g xs b.1)
+
+pub trees-at-grown : (ns ms : List Node) → Grows ns ms → (xs : List TermId) → AreIn ns xs → trees_at ms xs ≡ trees_at ns xs
+trees-at-grown ns ms g [] h = refl
+trees-at-grown ns ms g (x ∷ xs) h =
+    let b = and_both (nat_lt x.0 (length ns)) (ids_below (length ns) xs) h in
+    let p = tree_grown ns ms g x (lt_of x.0 (length ns) b.0) in
+    let r = trees-at-grown ns ms g xs b.1 in
+    λ i. p i ∷ r i
+
+pub one-in : (ns : List Node) (x : TermId) → IsIn ns x → AreIn ns (x ∷ [])
+one-in ns x h = rw (of_lt x.0 (length ns) h) refl
+
+pub ids-in-append : (ns : List Node) (xs ys : List TermId) → AreIn ns xs → AreIn ns ys → AreIn ns (xs ++ ys)
+ids-in-append ns [] ys h g = g
+ids-in-append ns (x ∷ xs) ys h g = let b = and_both (nat_lt x.0 (length ns)) (ids_below (length ns) xs) h in rw b.0 (ids-in-append ns xs ys b.1 g)
+
+-- ---- constants
+
+-- those so far, and those that are left
+pub record ConstantsSoFar (old : List Node) (ds : List Datum) (ns : List Node) (xs : List TermId) (left : List Val) : Type 0 where
+  pub grows : Grows old ns
+  pub within : AreIn ns xs
+  pub made : trees_at ns xs ++ map constant (map datum_of left) ≡ map constant ds
+  pub fit : Each FitsTerm (map datum_of left)
+
+pub constants-first : (old ns : List Node) (ds : List Datum) (xs : List TermId) (left : List Val) → ns ≡ old → xs ≡ [] → map datum_of left ≡ ds → Each FitsTerm ds → ConstantsSoFar old ds ns xs left
+constants-first old ns ds xs left n x e f = record {
+  grows = ([], n ∙ sym (append-nil old));
+  within = subst (AreIn ns) (sym x) refl;
+  made = ap (λ ys. trees_at ns ys ++ map constant (map datum_of left)) x ∙ ap (map constant) e;
+  fit = subst (Each FitsTerm) (sym e) f;
+}
+
+rest-of : (v : Val) (vs : List Val) → take (length (v ∷ vs) - 1) (drop 1 (v ∷ vs)) ≡ vs
+rest-of v vs = let e : length (v ∷ vs) - 1 ≡ length vs = omega arith in ap (λ n. take n vs) e ∙ take-length vs
+
+pub constants-fit : (old : List Node) (ds : List Datum) (ns : List Node) (xs : List TermId) (left : List Val) (d : Val) → ConstantsSoFar old ds ns xs left → 1 ≤ length left → FitsTerm (datum_of (get_or left 0 d))
+constants-fit old ds ns xs [] d k l = absurd (omega (arith, l))
+constants-fit old ds ns xs (v ∷ vs) d k l = k.fit.0
+
+pub constants-next : (old : List Node) (ds : List Datum) (ns ms : List Node) (xs more : List TermId) (left : List Val) (d : Val) (x : TermId) → ConstantsSoFar old ds ns xs left → 1 ≤ length left →
+    Grows ns ms → Stands ms x (constant (datum_of (get_or left 0 d))) → more ≡ xs ++ x ∷ [] → ConstantsSoFar old ds ms more (take (length left - 1) (drop 1 left))
+constants-next old ds ns ms xs more [] d x k l g s e = absurd (omega (arith, l))
+constants-next old ds ns ms xs more (v ∷ vs) d x k l g s e =
+    let r : take (length (v ∷ vs) - 1) (drop 1 (v ∷ vs)) ≡ vs = rest-of v vs in
+    let all : trees_at ms (xs ++ x ∷ []) ≡ trees_at ns xs ++ constant (datum_of v) ∷ [] =
+    map_append (tree_at (trees ms)) xs (x ∷ []) ∙ (λ i. trees-at-grown ns ms g xs k.within i ++ s.tree i ∷ []) in
+    record {
+      grows = grows_on old ns ms k.grows g;
+      within = subst (AreIn ms) (sym e) (ids-in-append ms xs (x ∷ []) (ids-in-grown ns ms g xs k.within) (one-in ms x s.is_in));
+      made =
+          (λ i. trees_at ms (e i) ++ map constant (map datum_of (r i)))
+          ∙ ap (λ ts. ts ++ map constant (map datum_of vs)) all
+          ∙ append_assoc (trees_at ns xs) (constant (datum_of v) ∷ []) (map constant (map datum_of vs)) ∙ k.made;
+      fit = subst (λ ys. Each FitsTerm (map datum_of ys)) (sym r) k.fit.1;
+    }
+
+pub constants-end : (old : List Node) (ds : List Datum) (ns : List Node) (xs : List TermId) (left : List Val) → ConstantsSoFar old ds ns xs left → length left < 1 → AreConstants ds ns xs
+constants-end old ds ns xs [] k l = record { within = k.within; made = sym (append-nil (trees_at ns xs)) ∙ k.made }
+constants-end old ds ns xs (v ∷ vs) k l = absurd (omega (arith, l))
+
+-- ---- one term
+
+constant-parts : (d : Datum) → map constant (parts_in d) ≡ made_of (constant d)
+constant-parts (int_value w b) = refl
+constant-parts (time_value d) = refl
+constant-parts (array_value vs) = refl
+constant-parts (tuple_value vs) = refl
+
+pub parts-fit : (d : Datum) → FitsTerm d → Each FitsTerm (parts_in d)
+parts-fit (int_value w b) h = tt
+parts-fit (time_value d) h = tt
+parts-fit (array_value vs) h = array-parts vs h
+parts-fit (tuple_value vs) h = tuple-parts vs h
+
+pub made-constants : (ns ms : List Node) (t : TermId) (d : Datum) (xs : List TermId) → tree_at (trees ns) t ≡ constant d → AreConstants (parts_in d) ms xs → AreMade ns ms t xs
+made-constants ns ms t d xs e k = record {
+  within = k.within;
+  made = k.made ∙ constant-parts d ∙ ap made_of (sym e);
+  pair = ap has_pair e;
+}
+
+row-operands : (ts : List Tree) → operands_in (tree_row ts) ≡ ts
+row-operands [] = refl
+row-operands (t ∷ ts) = ap (λ xs. t ∷ xs) (row-operands ts)
+
+pub made-operands : (ns : List Node) (t : TermId) (op : Op) (args xs : List TermId) → tree_at (trees ns) t ≡ operation_on op (trees_at ns args) → AreIn ns args → xs ≡ args → AreMade ns ns t xs
+made-operands ns t op args xs e h q = record {
+  within = subst (AreIn ns) (sym q) h;
+  made = ap (trees_at ns) q ∙ sym (row-operands (trees_at ns args)) ∙ ap made_of (sym e);
+  pair = ap has_pair e;
+}
+
+pub made-choice : (ns ms : List Node) (t : TermId) (c f g : Tree) (xs : List TermId) → tree_at (trees ns) t ≡ choice_of c f g → AreChosen c f g ms xs → AreMade ns ms t xs
+made-choice ns ms t c f g xs e k = record {
+  within = k.within;
+  made = k.made ∙ ap made_of (sym e);
+  pair = ap has_pair e ∙ k.pair;
+}
+
+pub made-none : (ns : List Node) (t : TermId) (xs : List TermId) → xs ≡ [] → made_of (tree_at (trees ns) t) ≡ [] → has_pair (tree_at (trees ns) t) ≡ true → AreMade ns ns t xs
+made-none ns t xs e m h = record {
+  within = subst (AreIn ns) (sym e) refl;
+  made = ap (trees_at ns) e ∙ sym m;
+  pair = h;
+}
+
+pub no-pair : (ns : List Node) (t : TermId) (c f g : Tree) (y : EmitFault) → tree_at (trees ns) t ≡ choice_of c f g → NoPairOf (type_of f) y → HasNoPair ns t y
+no-pair ns t c f g fault.OutOfMemory e h = tt
+no-pair ns t c f g fault.EntityTooLarge e h = ap has_pair e ∙ h
+
+-- the array of a choice can be made
+pub pair-takes : (c f t : Tree) → IsTyped (choice_of c f t) → is_none (array_fault 2 (type_of f)) ≡ true → IsTyped (operation_on Array (f ∷ t ∷ []))
+pair-takes c f t w h = pair-typed c f t w h
+
+pub chosen-made : (ns ms : List Node) (c f t : TermId) (pair : TermId) (xs : List TermId) → Grows ns ms → IsIn ns c → Stands ms pair (pair_of (tree_at (trees ns) f) (tree_at (trees ns) t)) → xs ≡ pair ∷ c ∷ [] →
+    is_none (array_fault 2 (type_of (tree_at (trees ns) f))) ≡ true → AreChosen (tree_at (trees ns) c) (tree_at (trees ns) f) (tree_at (trees ns) t) ms xs
+chosen-made ns ms c f t pair xs g c_in s e h = record {
+  within = subst (AreIn ms) (sym e) (ids-in-append ms (pair ∷ []) (c ∷ []) (one-in ms pair s.is_in) (one-in ms c (in_grown ns ms g c c_in)));
+  made = ap (trees_at ms) e ∙ (λ i. s.tree i ∷ tree_grown ns ms g c c_in i ∷ []);
+  pair = h;
+}
+
+-- ---- what stands in the arena
+
+parts-row : (vs : List Datum) → parts_of (data_row vs) ≡ vs
+parts-row [] = refl
+parts-row (v ∷ vs) = ap (λ xs. v ∷ xs) (parts-row vs)
+
+pub parts-copied : {E : Type 0} (v : Val) (vs : List Datum) (r : Result (List Datum) E) → (v ≡ val.Array vs) ⊎ (v ≡ val.Tuple vs) → IfOk r (λ ws. ws ≡ vs) → IfOk r (λ ws. ws ≡ parts_in (datum_of v))
+parts-copied v vs (Err e) p h = tt
+parts-copied v vs (Ok ws) (inl p) h = h ∙ sym (parts-row vs) ∙ sym (ap (λ (x : Val). parts_in (datum_of x)) p)
+parts-copied v vs (Ok ws) (inr p) h = h ∙ sym (parts-row vs) ∙ sym (ap (λ (x : Val). parts_in (datum_of x)) p)
+
+pub made-op : (ns : List Node) (t : TermId) (k : Term) (op : Op) (args xs : List TermId) → k ≡ Applied op args → term_tree (trees ns) k ≡ tree_at (trees ns) t → term_below t.0 k ≡ true → IsIn ns t → xs ≡ args → AreMade ns ns t xs
+made-op ns t k op args xs e shown below is_in q =
+    made-operands ns t op args xs (sym shown ∙ ap (term_tree (trees ns)) e) (ids_more t.0 (length ns) (omega (arith, is_in)) args (sym (ap (term_below t.0) e) ∙ below)) q
+
+pub values-fit : (ns : List Node) (t : TermId) (n : Needs) (vs : List Datum) → n ≡ Parts vs → IsMadeBy ns t n → Each FitsTerm vs
+values-fit ns t n vs e h = let (d, p, q, f) = subst (IsMadeBy ns t) e h in subst (Each FitsTerm) (sym q) (parts-fit d f)
+
+pub values-made : (ns ms : List Node) (t : TermId) (n : Needs) (vs : List Datum) (xs : List TermId) → n ≡ Parts vs → IsMadeBy ns t n → AreConstants vs ms xs → AreMade ns ms t xs
+values-made ns ms t n vs xs e h k = let (d, p, q, f) = subst (IsMadeBy ns t) e h in made-constants ns ms t d xs p (subst (λ ds. AreConstants ds ms xs) q k)
+
+pub choice-parts : (ns : List Node) (t : TermId) (n : Needs) (c f g : TermId) → n ≡ Chosen c f g → IsMadeBy ns t n → IsMadeBy ns t (Chosen c f g)
+choice-parts ns t n c f g e h = subst (IsMadeBy ns t) e h
+
+pub choice-typed : (ns : List Node) (t : TermId) (n : Needs) (c f g : TermId) → n ≡ Chosen c f g → IsMadeBy ns t n → IsTyped (choice_of (tree_at (trees ns) c) (tree_at (trees ns) f) (tree_at (trees ns) g))
+choice-typed ns t n c f g e h = let k = choice-parts ns t n c f g e h in subst IsTyped k.3 k.4

@@ -1,0 +1,17 @@
+use Rattle.std.proofs.Common.{◌≡◌, ◌∙◌, sym, subst, ap, true, false, is_some}
+use Rattle.lh_emit.specs.Making.{AreMade}
+use Rattle.lh_emit.specs.Underway.{tops}
+use Rattle.lh_emit.specs.Values.{value_in}
+use Rattle.lh_emit.proofs.Going.{go-there, go-open}
+use Rattle.lh_emit.proofs.emitter.Emitter.open.Goals as goal
+
+pub returns-then-is_some-clause-gone : goal.returns-then-is_some-clause-gone
+returns-then-is_some-clause-gone c =
+    let q : is_some (value_in c.args.self.now.values c.args.t) ≡ true = cc in
+    go-there c.args.terms.now c.args.origin.now c.args.self.now c.args.t (tops c.args.tasks.now.items) c.requires q
+
+pub returns-clause-gone : goal.returns-clause-gone
+returns-clause-gone c =
+    let q : is_some (value_in c.args.self.now.values c.args.t) ≡ false = cc in
+    go-open c.args.terms.now c.args.origin.now c.args.self.now c.args.t (tops c.args.tasks.now.items) (tops c.push.new.tasks.items) (tops c.push_needs.new.tasks.items) c.made_of.new.terms c.as_slice.result.now c.requires q
+    c.made_of.ensures.kept c.are_apart.ensures (subst (AreMade c.args.terms.now c.made_of.new.terms c.args.t) (sym c.as_slice.ensures) c.in_ok-of.ensures.made) c.in_ok-push.ensures c.in_ok-push_needs.ensures

@@ -1,0 +1,6 @@
+pub mod WaysBack
+pub mod Keeping
+pub mod Along
+pub mod Named
+pub mod Routes
+pub mod Sampled

@@ -1,0 +1,8 @@
+//! The top call: what the words of a command line ask for is done with a file that is read from a source.
+#![tactic(auto)]
+
+mod command;
+mod load;
+mod simulate;
+pub mod status;
+pub mod top;

@@ -1,7 +1,0 @@
-use Rattle.std.proofs.Common.{sym, ◌∙◌}
-use Rattle.lh_term.proofs.tests.choice.Goals as goal
-
-pub choice-requires-clause-fits : goal.choice-requires-clause-fits
-choice-requires-clause-fits c =
-    let a = c.are_alike.ensures c.if-not-are_alike.false in
-    (sym c.ty.ensures ∙ c.is_bit.ensures c.if-not-is_bit.false, a.same)

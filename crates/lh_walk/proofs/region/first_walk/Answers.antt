@@ -1,0 +1,65 @@
+use Rattle.std.proofs.Common.{refl}
+use Rattle.lh_walk.specs.declared.walk.At.{At}
+use Rattle.lh_walk.specs.Both.{GoesFirst, FirstStops}
+use Rattle.lh_region.specs.Starts.{lines_left}
+use Rattle.lh_walk.specs.Turns.{GoesThrough, GoesNot}
+use Rattle.lh_walk.proofs.First.{IsHeadPlace, constants-grown, can-start, goes-first, first-stops}
+use Rattle.lh_walk.proofs.Forming.{entry-fits}
+use Rattle.lh_walk.proofs.Reached.{err-map}
+use Rattle.lh_region.proofs.Telling.{ok-map}
+use Rattle.lh_walk.proofs.region.first_walk.Goals as goal
+
+pub start_of-requires : goal.start_of-requires
+start_of-requires c =
+    let h = c.requires.region in entry-fits h.naming (h.naming.unit_name 0) c.args.region.now.flat.now h.region.names c.args.region.now.head
+
+pub walk_from-requires-clause-start : goal.walk_from-requires-clause-start
+walk_from-requires-clause-start c =
+    let r = c.args.region.now in let ns = c.bit.new.terms in let ps = c.in_ok-places.places.items in
+    let at : At = (record { place = 0; block = c.args.region.now.head; turns = 0; cond = c.in_ok-cond.cond }) in
+    let k : IsHeadPlace r ns ps at = record {
+      start = c.in_ok-start.start;
+      one = c.in_ok-places.ensures;
+      edges = c.in_ok-start.ensures.edges;
+      selectors = c.in_ok-start.ensures.selectors;
+      known = constants-grown c.start_of.new.terms ns c.in_ok-start.start (lines_left r.flat.now.blocks r.head) c.bit.ensures.kept c.in_ok-start.ensures.known;
+      place = refl;
+      block = refl;
+      turns = refl;
+      cond = c.in_ok-cond.ensures.made;
+    } in
+    can-start r ns ps at k c.requires.region
+
+pub returns-clause-through : goal.returns-clause-through
+returns-clause-through c =
+    let r = c.args.region.now in let ns = c.bit.new.terms in let ps = c.in_ok-places.places.items in
+    let at : At = (record { place = 0; block = c.args.region.now.head; turns = 0; cond = c.in_ok-cond.cond }) in
+    let k : IsHeadPlace r ns ps at = record {
+      start = c.in_ok-start.start;
+      one = c.in_ok-places.ensures;
+      edges = c.in_ok-start.ensures.edges;
+      selectors = c.in_ok-start.ensures.selectors;
+      known = constants-grown c.start_of.new.terms ns c.in_ok-start.start (lines_left r.flat.now.blocks r.head) c.bit.ensures.kept c.in_ok-start.ensures.known;
+      place = refl;
+      block = refl;
+      turns = refl;
+      cond = c.in_ok-cond.ensures.made;
+    } in
+    ok-map c.walk_from.result (GoesThrough ns r ps at c.walk_from.new.terms) (GoesFirst r c.walk_from.new.terms) (λ w g. goes-first r ns ps at k c.requires.goes_on c.walk_from.new.terms w g) c.walk_from.ensures.through
+
+pub returns-clause-cause : goal.returns-clause-cause
+returns-clause-cause c =
+    let r = c.args.region.now in let ns = c.bit.new.terms in let ps = c.in_ok-places.places.items in
+    let at : At = (record { place = 0; block = c.args.region.now.head; turns = 0; cond = c.in_ok-cond.cond }) in
+    let k : IsHeadPlace r ns ps at = record {
+      start = c.in_ok-start.start;
+      one = c.in_ok-places.ensures;
+      edges = c.in_ok-start.ensures.edges;
+      selectors = c.in_ok-start.ensures.selectors;
+      known = constants-grown c.start_of.new.terms ns c.in_ok-start.start (lines_left r.flat.now.blocks r.head) c.bit.ensures.kept c.in_ok-start.ensures.known;
+      place = refl;
+      block = refl;
+      turns = refl;
+      cond = c.in_ok-cond.ensures.made;
+    } in
+    err-map c.walk_from.result (GoesNot ns r ps at) (FirstStops r) (λ e g. first-stops r ns ps at k c.requires.goes_on e g) c.walk_from.ensures.cause

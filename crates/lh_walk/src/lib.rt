@@ -1,0 +1,11 @@
+//! The regions of a process are found by a walk: from where it starts, place by place, to where it waits or ends.
+#![tactic(auto)]
+
+pub mod leaving;
+pub mod lines;
+pub mod opening;
+pub mod region;
+pub mod turns;
+pub mod walk;
+
+pub use crate::region::regions;
