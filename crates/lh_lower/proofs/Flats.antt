@@ -1,8 +1,8 @@
 -- The shape of a flat text by its regions, or by the reason why it has none.
 use Rattle.std.proofs.Common.{◌≡◌, List, refl, sym, subst}
-use Rattle.std.specs.Prelude.{Ok, Err}
+use Rattle.std.specs.Prelude.{Ok}
 use Rattle.lh_term.specs.declared.term.Node.{Node}
-use Rattle.lh_rows.specs.Regions.{Regions as RegionsOf, RegionRefusal, Regioned, no_regions, head_phi, too_many_turns, region_too_large}
+use Rattle.lh_rows.specs.Regions.{Regions as RegionsOf, RegionRefusal, Regioned, no_regions}
 use Rattle.lh_region.specs.Stands.{AreRegions, Answers}
 use Rattle.lh_region.specs.declared.rows.Regions.{Regions}
 use Rattle.lh_shape.specs.Answers.{IsShape}

@@ -1,6 +1,12 @@
-//! Lowering: what becomes of a process, from its flat text on.
+//! Lowering: each process that has a shape becomes an entity, in its place.
 #![tactic(auto)]
 
+pub mod lowering;
+pub mod outcome;
 pub mod process;
+pub mod text;
 
+pub use crate::lowering::{Lowered, ReportList, ReportRow, lower};
+pub use crate::outcome::{Outcome, outcome_of};
 pub use crate::process::shape_of_flat;
+pub use crate::text::text_of;

@@ -4,11 +4,10 @@ use Rattle.std.proofs.lemmas.List.{append-nil}
 use Rattle.lh_io.specs.Streams.{Rose, Appends}
 use Rattle.lh_io.specs.declared.stream.Failed.{Failed}
 use Rattle.lh_watch.specs.Members.{Member}
-use Rattle.lh_run.specs.Result.{IsResult}
 use Rattle.lh_run.specs.StatusLines.{status_line}
 use Rattle.lh_run.specs.Account.{Use, use_of, Faulted, IsPrefix, IsProperPrefix, Puts, Performs, Account, OfSource, IsResultOrNoMemory}
 use Rattle.lh_run.specs.declared.status.Status.{Status}
-use Rattle.lh_run.specs.declared.status.Status.TheVariants.{Usage, ReadFault, SourceTooLong, Refused, Top, WriteFault, Runaway, AssertFailed, Done, OutOfMemory}
+use Rattle.lh_run.specs.declared.status.Status.TheVariants.{Usage, ReadFault, SourceTooLong, Refused, Top, OutputTooLong, WriteFault, Runaway, AssertFailed, Done, OutOfMemory}
 use Rattle.lh_run.proofs.Results.{IsResult-unique}
 
 -- what a fact of the bytes implies
@@ -66,6 +65,7 @@ complete_at words bytes ms Usage out log now was_faults faults p rose s o l = se
 complete_at words bytes ms SourceTooLong out log now was_faults faults p rose s o l = settled_at words bytes ms SourceTooLong out log now p p.sinks.by_status.0
 complete_at words bytes ms (Refused why) out log now was_faults faults p rose s o l = settled_at words bytes ms (Refused why) out log now p p.sinks.by_status.0
 complete_at words bytes ms (Top why) out log now was_faults faults p rose s o l = settled_at words bytes ms (Top why) out log now p p.sinks.by_status.0
+complete_at words bytes ms OutputTooLong out log now was_faults faults p rose s o l = settled_at words bytes ms OutputTooLong out log now p p.sinks.by_status.0
 complete_at words bytes ms (Runaway i) out log now was_faults faults p rose s o l = settled_at words bytes ms (Runaway i) out log now p p.sinks.by_status.0
 complete_at words bytes ms AssertFailed out log now was_faults faults p rose s o l = settled_at words bytes ms AssertFailed out log now p p.sinks.by_status.0
 complete_at words bytes ms Done out log now was_faults faults p rose s o l = settled_at words bytes ms Done out log now p p.sinks.by_status.0

@@ -4,6 +4,8 @@ pub mod Results
 pub mod Callings
 pub mod Performances
 pub mod Simulations
+pub mod Lowerings
 pub mod Loading
 pub mod Tops
 pub mod Accounts
+pub mod Faithfully

@@ -6,7 +6,7 @@ use Rattle.lh_io.specs.declared.whole.ReadAllFault.{ReadAllFault}
 use Rattle.lh_io.specs.declared.whole.ReadAllFault.TheVariants.{ReadFault, TooLong, OutOfMemory}
 use Rattle.lh_unit.specs.Arena.{Arena, contents}
 use Rattle.lh_unit.specs.Contents.{ItemText}
-use Rattle.lh_unit.specs.Reads.{Reads, FirstBad, syntax, unit_too_large, duplicate_name}
+use Rattle.lh_unit.specs.Reads.{Reads}
 use Rattle.lh_unit.specs.WellFormed.{IsFaultless}
 use Rattle.lh_run.specs.Result.{source_limit}
 use Rattle.lh_run.specs.Account.{OfSource}
@@ -47,6 +47,7 @@ Loads-faulty bytes file Usage few reads fault = absurd fault
 Loads-faulty bytes file status.ReadFault few reads fault = absurd fault
 Loads-faulty bytes file SourceTooLong few reads fault = absurd fault
 Loads-faulty bytes file (Top why) few reads fault = absurd fault
+Loads-faulty bytes file status.OutputTooLong few reads fault = absurd fault
 Loads-faulty bytes file WriteFault few reads fault = absurd fault
 Loads-faulty bytes file (Runaway i) few reads fault = absurd fault
 Loads-faulty bytes file AssertFailed few reads fault = absurd fault

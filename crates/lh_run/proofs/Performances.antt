@@ -1,8 +1,7 @@
 -- What a run does up to its status line, from what its steps leave.
-use Rattle.std.proofs.Common.{◌≡◌, ℕ, ◌<◌, ◌≤◌, ◌⊎◌, inl, inr, List, [], length, refl, sym, ◌∙◌, ap, subst, Bool, true, false, Option, Some, None, IfSome, Result, Ok, Err, arith}
+use Rattle.std.proofs.Common.{◌≡◌, ℕ, ◌≤◌, inl, inr, List, [], refl, sym, ap, subst, Bool, true, false, Option, Some, None, IfSome, Err}
 use Rattle.std.proofs.lemmas.List.{append-nil}
 use Rattle.lh_io.specs.Streams.{Appends}
-use Rattle.lh_unit.specs.Arena.{Arena, contents}
 use Rattle.lh_unit.specs.Contents.{ItemText}
 use Rattle.lh_unit.specs.Reads.{Reads}
 use Rattle.lh_unit.specs.Trace.{Trace, refuses, ran, trace}
@@ -11,14 +10,14 @@ use Rattle.lh_wave.specs.declared.ending.End.{End}
 use Rattle.lh_wave.specs.declared.ending.End.TheVariants as end
 use Rattle.lh_watch.specs.Members.{Member}
 use Rattle.lh_watch.specs.Shown.{kept}
-use Rattle.lh_words.specs.Forms.{Simulation, Asked, check, simulate}
+use Rattle.lh_words.specs.Forms.{Simulation, Asked, check, lower, simulate}
 use Rattle.lh_run.specs.Called.{Calls, IsMisuse}
 use Rattle.lh_run.specs.Simulated.{status_by, fault_of, Shows}
-use Rattle.lh_run.specs.Result.{source_limit, IsRefusedFor, Makes, MayLeave, IsResult, usage, source_too_long, refused, made}
-use Rattle.lh_run.specs.Account.{Use, use_of, Gained, IsPrefix, IsStatusFor, Leaves, AreLeft, Performs, OfSource, IsCountFor, IsReadToEnd}
+use Rattle.lh_run.specs.Result.{source_limit, is_too_long, Lowers, Makes, MayLeave, usage, source_too_long, refused, made}
+use Rattle.lh_run.specs.Account.{Use, use_of, IsStatusFor, Leaves, AreLeft, Performs, OfSource, IsCountFor, IsReadToEnd}
 use Rattle.lh_run.specs.Steps.{IsLoaded, Loads, AreLeftBy, Carries}
 use Rattle.lh_run.specs.declared.status.Status.{Status}
-use Rattle.lh_run.specs.declared.status.Status.TheVariants.{Usage, ReadFault, SourceTooLong, Refused, Top, WriteFault, Runaway, AssertFailed, Done, OutOfMemory}
+use Rattle.lh_run.specs.declared.status.Status.TheVariants.{Usage, ReadFault, SourceTooLong, Refused, Top, OutputTooLong, WriteFault, Runaway, AssertFailed, Done, OutOfMemory}
 use Rattle.lh_run.proofs.Results.{HasOneResult-called}
 
 pub Appends_nothing : (was : Option (List ℕ)) → Appends was was []
@@ -100,6 +99,7 @@ Performs-unloaded words bytes ms a (Refused why) ow lw of lf calls loads = recor
   members = refl;
 }
 Performs-unloaded words bytes ms a (Top why) ow lw of lf calls loads = absurd loads
+Performs-unloaded words bytes ms a OutputTooLong ow lw of lf calls loads = absurd loads
 Performs-unloaded words bytes ms a WriteFault ow lw of lf calls loads = absurd loads
 Performs-unloaded words bytes ms a (Runaway i) ow lw of lf calls loads = absurd loads
 Performs-unloaded words bytes ms a AssertFailed ow lw of lf calls loads = absurd loads
@@ -123,6 +123,7 @@ AreLeft_of words bytes ms left now a file ReadFault calls reads p = absurd p
 AreLeft_of words bytes ms left now a file SourceTooLong calls reads p = p
 AreLeft_of words bytes ms left now a file (Refused why) calls reads p = p
 AreLeft_of words bytes ms left now a file (Top why) calls reads p = p
+AreLeft_of words bytes ms left now a file OutputTooLong calls reads p = p
 AreLeft_of words bytes ms left now a file WriteFault calls reads p = inr (a, file, calls, reads, p)
 AreLeft_of words bytes ms left now a file (Runaway i) calls reads p = p
 AreLeft_of words bytes ms left now a file AssertFailed calls reads p = p
@@ -144,6 +145,7 @@ Performs-carried words bytes ms a file ended out log now calls loaded c = record
 -- the statuses that a command on a file has as its result
 abbrev IsMadeStatus : Status → Type 0
 IsMadeStatus (Top why) = Unit {0}
+IsMadeStatus OutputTooLong = Unit {0}
 IsMadeStatus (Runaway i) = Unit {0}
 IsMadeStatus AssertFailed = Unit {0}
 IsMadeStatus Done = Unit {0}
@@ -167,8 +169,13 @@ Shows-status s ms (ran instances signals run) status out log left p =
     let shown = shown_run run (kept s.titles ms) in
     is_made status (status_by shown.end (any_failed shown)) p.0 (status_by-made shown.end (any_failed shown))
 
+Lowers-status : (long : Bool) (file : List ItemText) (ms : List Member) (status : Status) (out log : List ℕ) (left : List Member) → Lowers long file ms status out log left → IsMadeStatus status
+Lowers-status true file ms status out log left p = is_made status OutputTooLong p.0 tt
+Lowers-status false file ms status out log left p = is_made status Done p.0 tt
+
 Makes-status : (a : Asked) (file : List ItemText) (ms : List Member) (status : Status) (out log : List ℕ) (left : List Member) → Makes a file ms status out log left → IsMadeStatus status
 Makes-status check file ms status out log left p = is_made status Done p.0 tt
+Makes-status lower file ms status out log left p = Lowers-status (is_too_long file) file ms status out log left p
 Makes-status (simulate s) file ms status out log left p = Shows-status s ms (trace file s.top s.steps) status out log left p
 
 -- the statuses with which a command on a file ends
@@ -185,6 +192,7 @@ Carries-status a file ms ReadFault out log now c = c.members
 Carries-status a file ms SourceTooLong out log now c = is_made SourceTooLong c.status c.sinks.by_status.0 (Makes-status a file ms c.status c.out_text c.log_text c.left c.makes)
 Carries-status a file ms (Refused why) out log now c = is_made (Refused why) c.status c.sinks.by_status.0 (Makes-status a file ms c.status c.out_text c.log_text c.left c.makes)
 Carries-status a file ms (Top why) out log now c = tt
+Carries-status a file ms OutputTooLong out log now c = tt
 Carries-status a file ms WriteFault out log now c = tt
 Carries-status a file ms (Runaway i) out log now c = tt
 Carries-status a file ms AssertFailed out log now c = tt
@@ -198,6 +206,7 @@ IsCountFor-carried ReadFault n p few = absurd p
 IsCountFor-carried SourceTooLong n p few = absurd p
 IsCountFor-carried (Refused why) n p few = absurd p
 IsCountFor-carried (Top why) n p few = few
+IsCountFor-carried OutputTooLong n p few = few
 IsCountFor-carried WriteFault n p few = few
 IsCountFor-carried (Runaway i) n p few = few
 IsCountFor-carried AssertFailed n p few = few
@@ -210,6 +219,7 @@ IsReadToEnd-carried ReadFault was_left left p read = tt
 IsReadToEnd-carried SourceTooLong was_left left p read = tt
 IsReadToEnd-carried (Refused why) was_left left p read = absurd p
 IsReadToEnd-carried (Top why) was_left left p read = read
+IsReadToEnd-carried OutputTooLong was_left left p read = read
 IsReadToEnd-carried WriteFault was_left left p read = read
 IsReadToEnd-carried (Runaway i) was_left left p read = read
 IsReadToEnd-carried AssertFailed was_left left p read = read

@@ -1,5 +1,5 @@
 -- Words, bytes and members have exactly one result.
-use Rattle.std.proofs.Common.{◌≡◌, ℕ, ◌<◌, ◌≤◌, ◌⊎◌, inl, inr, List, [], length, refl, ap, sym, ◌∙◌, subst, arith}
+use Rattle.std.proofs.Common.{◌≡◌, ℕ, ◌<◌, ◌≤◌, ◌⊎◌, inl, inr, List, [], length, Bool, true, false, refl, ap, sym, ◌∙◌, subst, arith}
 use Rattle.std.proofs.lemmas.Bool.{cases_lt}
 use Rattle.lh_unit.specs.Contents.{ItemText}
 use Rattle.lh_unit.specs.Reads.{BadKind, syntax, unit_too_large, duplicate_name, Reads, FirstBad}
@@ -13,17 +13,19 @@ use Rattle.lh_watch.specs.Members.{Member}
 use Rattle.lh_watch.specs.Shown.{kept}
 use Rattle.lh_wave.specs.ShownRun.{shown_run, all_reports, any_failed}
 use Rattle.lh_wave.specs.RunText.{text_in}
-use Rattle.lh_words.specs.Forms.{Simulation, Asked, check, simulate}
+use Rattle.lh_words.specs.Forms.{Simulation, Asked, check, lower, simulate}
 use Rattle.lh_words.proofs.Forms.{one_form}
+use Rattle.lh_lowered.specs.Lowering.{lowered, report}
+use Rattle.lh_lowered.specs.Report.{report_text}
 use Rattle.lh_run.proofs.Readings.{FirstBad-or-Reads, Reads-not-FirstBad, Reads-unique, FirstBad-unique}
 use Rattle.lh_run.specs.Called.{Calls, IsMisuse}
 use Rattle.lh_run.specs.Simulated.{fault_of, status_by, mode_of, Shows}
-use Rattle.lh_run.specs.Result.{source_limit, HasFirstFault, IsRefusedFor, Makes, IsResult, usage, source_too_long, refused, made}
+use Rattle.lh_run.specs.Result.{source_limit, HasFirstFault, IsRefusedFor, is_too_long, Lowers, Makes, IsResult, usage, source_too_long, refused, made}
 use Rattle.lh_run.specs.Account.{HasOneResult}
 use Rattle.lh_run.specs.declared.status.Refusal.{Refusal}
 use Rattle.lh_run.specs.declared.status.Refusal.TheVariants.{Syntax, UnitTooLarge, DuplicateName, Invalid}
 use Rattle.lh_run.specs.declared.status.Status.{Status}
-use Rattle.lh_run.specs.declared.status.Status.TheVariants.{Usage, SourceTooLong, Refused, Top, Done}
+use Rattle.lh_run.specs.declared.status.Status.TheVariants.{Usage, SourceTooLong, Refused, Top, OutputTooLong, Done}
 
 -- the first fault of the bytes is what refuses them
 IsRefusedFor-at : (bytes : List ℕ) (line : ℕ) (kind : BadKind) → FirstBad bytes line kind → (why : Refusal) × IsRefusedFor bytes why
@@ -90,8 +92,13 @@ Shows-one : (s : Simulation) (ms : List Member) (t : Trace) (status again : Stat
 Shows-one s ms (refuses why) status again out o log l left now p q = (q.0 ∙ sym p.0, q.1 ∙ sym p.1, q.2 ∙ sym p.2, q.3 ∙ sym p.3)
 Shows-one s ms (ran instances signals run) status again out o log l left now p q = (q.0 ∙ sym p.0, q.1 ∙ sym p.1, q.2 ∙ sym p.2, q.3 ∙ sym p.3)
 
+Lowers-one : (long : Bool) (file : List ItemText) (ms : List Member) (status again : Status) (out o log l : List ℕ) (left now : List Member) → Lowers long file ms status out log left → Lowers long file ms again o l now → Same status again out o log l left now
+Lowers-one true file ms status again out o log l left now p q = (q.0 ∙ sym p.0, q.1 ∙ sym p.1, q.2 ∙ sym p.2, q.3 ∙ sym p.3)
+Lowers-one false file ms status again out o log l left now p q = (q.0 ∙ sym p.0, q.1 ∙ sym p.1, q.2 ∙ sym p.2, q.3 ∙ sym p.3)
+
 Makes-one : (a : Asked) (file : List ItemText) (ms : List Member) (status again : Status) (out o log l : List ℕ) (left now : List Member) → Makes a file ms status out log left → Makes a file ms again o l now → Same status again out o log l left now
 Makes-one check file ms status again out o log l left now p q = (q.0 ∙ sym p.0, q.1 ∙ sym p.1, q.2 ∙ sym p.2, q.3 ∙ sym p.3)
+Makes-one lower file ms status again out o log l left now p q = Lowers-one (is_too_long file) file ms status again out o log l left now p q
 Makes-one (simulate s) file ms status again out o log l left now p q = Shows-one s ms (trace file s.top s.steps) status again out o log l left now p q
 
 -- what two calls make of two readings is one
@@ -165,8 +172,21 @@ showed s ms (ran instances signals run) =
       shows = (refl, refl, refl, refl);
     }
 
+-- what is made of a file that is lowered
+pub record Lowered (long : Bool) (file : List ItemText) (ms : List Member) : Type 0 where
+  pub status : Status
+  pub out : List ℕ
+  pub log : List ℕ
+  pub left : List Member
+  pub lowers : Lowers long file ms status out log left
+
+lowered_of : (long : Bool) (file : List ItemText) (ms : List Member) → Lowered long file ms
+lowered_of true file ms = record { status = OutputTooLong; out = []; log = []; left = ms; lowers = (refl, refl, refl, refl) }
+lowered_of false file ms = record { status = Done; out = canon (lowered file); log = report_text (report file); left = ms; lowers = (refl, refl, refl, refl) }
+
 pub made_of : (a : Asked) (file : List ItemText) (ms : List Member) → Made a file ms
 made_of check file ms = record { status = Done; out = canon file; log = []; left = ms; makes = (refl, refl, refl, refl) }
+made_of lower file ms = let x = lowered_of (is_too_long file) file ms in record { status = x.status; out = x.out; log = x.log; left = x.left; makes = x.lowers }
 made_of (simulate s) file ms =
     let x = showed s ms (trace file s.top s.steps) in
     record { status = x.status; out = x.out; log = x.log; left = x.left; makes = x.shows }

@@ -1,10 +1,9 @@
 -- What carrying out a command leaves, from what its steps leave.
-use Rattle.std.proofs.Common.{◌≡◌, ℕ, ◌+◌, ◌-◌, ◌<◌, ◌≤◌, ◌⊎◌, inl, inr, List, [], ◌∷◌, ◌++◌, length, take, drop, map, refl, sym, ◌∙◌, ap, subst, Bool, true, false, Option, Some, None, Result, Ok, Err, arith, IsSome}
+use Rattle.std.proofs.Common.{◌≡◌, ℕ, ◌-◌, ◌<◌, ◌⊎◌, inl, inr, List, [], ◌∷◌, length, take, drop, map, refl, sym, ap, subst, Bool, true, false, Option, Some, None, Err, arith}
 use Rattle.std.proofs.lemmas.List.{append-nil, take-append-drop, length-drop}
 use Rattle.std.specs.Prelude.{IsErrOf}
 use Rattle.lh_types.specs.Values.{Datum}
-use Rattle.lh_types.specs.Pictures.{Picture}
-use Rattle.lh_io.specs.Streams.{Rose, Appends, AppendsProperPrefix}
+use Rattle.lh_io.specs.Streams.{Rose, AppendsProperPrefix}
 use Rattle.lh_unit.specs.Canon.{canon}
 use Rattle.lh_unit.specs.Contents.{ItemText}
 use Rattle.lh_unit.specs.Design.{Design, Refusal, Elaborated, elab, built, refused}
@@ -13,7 +12,6 @@ use Rattle.lh_unit.specs.Paths.{shown_in}
 use Rattle.lh_unit.specs.Trace as trace
 use Rattle.lh_unit.specs.Trace.{Frame, Trace, refuses, ran, trace, trace_by, run_from, shown_signal, max_instructions}
 use Rattle.lh_unit.specs.World.{first_world}
-use Rattle.lh_unit.specs.declared.name.UnitName.{UnitName}
 use Rattle.lh_watch.specs.Members.{Member}
 use Rattle.lh_watch.specs.Shown.{shown, first_stop, kept}
 use Rattle.lh_wave.specs.declared.ending.End.{End}
@@ -22,13 +20,13 @@ use Rattle.lh_wave.specs.declared.ending.Ending.{Ending}
 use Rattle.lh_wave.specs.declared.run.WaveFault.{WaveFault}
 use Rattle.lh_wave.specs.declared.run.WaveFault.TheVariants as wave
 use Rattle.lh_wave.specs.BrokenOff.{HaveSeen, no_more, one_more, AppendsPrefix, BreaksOff}
-use Rattle.lh_wave.specs.ShownRun.{ShownRun, shows_none, ran_away, unless_stopped, shown_behind, shown_run, all_reports, any_failed}
+use Rattle.lh_wave.specs.ShownRun.{ShownRun, ran_away, unless_stopped, shown_behind, shown_run, all_reports, any_failed}
 use Rattle.lh_words.specs.Forms.{Simulation, check, simulate}
 use Rattle.lh_run.specs.Simulated.{fault_of, status_by, Shows, MayBeLeft}
-use Rattle.lh_run.specs.Account.{Use, use_of, Gained, IsPrefix, IsProperPrefix, IsStatusFor, Leaves}
+use Rattle.lh_run.specs.Account.{Use, use_of, Gained, IsPrefix, IsProperPrefix, IsStatusFor}
 use Rattle.lh_run.specs.Steps.{AreLeftBy, Carries, WritesCanon, ShowsRun, shown_of, text_of, wave_status, IsTopStatus}
 use Rattle.lh_run.specs.declared.status.Status.{Status}
-use Rattle.lh_run.specs.declared.status.Status.TheVariants.{Usage, ReadFault, SourceTooLong, Refused, Top, WriteFault, Runaway, AssertFailed, Done, OutOfMemory}
+use Rattle.lh_run.specs.declared.status.Status.TheVariants.{Usage, ReadFault, SourceTooLong, Refused, Top, OutputTooLong, WriteFault, Runaway, AssertFailed, Done, OutOfMemory}
 use Rattle.lh_run.proofs.Performances.{unused, silent, Appends_nothing}
 use Rattle.lh_run.proofs.Results.{made_of}
 
@@ -43,7 +41,7 @@ proper_prefix_of n text lt = record {
   proper = (let len : length (drop n text) ≡ length text - n = length-drop n text in omega arith);
 }
 
-whole_prefix : (text : List ℕ) → IsPrefix text text
+pub whole_prefix : (text : List ℕ) → IsPrefix text text
 whole_prefix text = ([], sym (append-nil text))
 
 -- the members that are left have seen the frames that are shown
@@ -188,6 +186,7 @@ Carries-shown s file ms asked d ended out log now elaborates chosen shows =
     by_end SourceTooLong R C D f h = h
     by_end (Refused why) R C D f h = h
     by_end (Top why) R C D f h = h
+    by_end OutputTooLong R C D f h = h
     by_end WriteFault R C D f h = f h
     by_end (Runaway i) R C D f h = h
     by_end AssertFailed R C D f h = h
@@ -236,6 +235,7 @@ Carries-refused s file ms Usage ow lw of lf is = absurd is
 Carries-refused s file ms ReadFault ow lw of lf is = absurd is
 Carries-refused s file ms SourceTooLong ow lw of lf is = absurd is
 Carries-refused s file ms (Refused why) ow lw of lf is = absurd is
+Carries-refused s file ms OutputTooLong ow lw of lf is = absurd is
 Carries-refused s file ms WriteFault ow lw of lf is = absurd is
 Carries-refused s file ms (Runaway i) ow lw of lf is = absurd is
 Carries-refused s file ms AssertFailed ow lw of lf is = absurd is
@@ -302,5 +302,6 @@ Carries-canon file ms ReadFault out lw lf h = absurd h
 Carries-canon file ms SourceTooLong out lw lf h = absurd h
 Carries-canon file ms (Refused why) out lw lf h = absurd h
 Carries-canon file ms (Top why) out lw lf h = absurd h
+Carries-canon file ms OutputTooLong out lw lf h = absurd h
 Carries-canon file ms (Runaway i) out lw lf h = absurd h
 Carries-canon file ms AssertFailed out lw lf h = absurd h

@@ -1,12 +1,12 @@
 -- A top that no unit defines.
-use Rattle.std.proofs.Common.{◌≡◌, ℕ, suc, ◌<◌, List, [], ◌∷◌, map, length, refl, ap, sym, ◌∙◌, Bool, true, false, Option, Some, None, IsSome, cond}
+use Rattle.std.proofs.Common.{◌≡◌, ℕ, suc, ◌<◌, List, [], ◌∷◌, map, refl, ap, ◌∙◌, Bool, true, false, Option, Some, None}
 use Rattle.std.specs.Prelude.{slice_get, is_some, not, if◌then◌else◌}
 use Rattle.std.specs.Option.{option_map}
 use Rattle.lh_unit.specs.Arena.{Arena, IsArena, unit_count, unit_name_at, unit_text_at, kind_at, item_text_at, contents}
 use Rattle.lh_unit.specs.Builders.{Locates}
 use Rattle.lh_unit.specs.Contents.{UnitText}
 use Rattle.lh_unit.specs.Design.{elab_named, elab, refused, top_missing}
-use Rattle.lh_unit.specs.Hierarchy.{Hierarchy, hierarchies, hierarchy_of, hierarchy_named}
+use Rattle.lh_unit.specs.Hierarchy.{hierarchies, hierarchy_of, hierarchy_named}
 use Rattle.lh_unit.specs.UnitNames.{same_unit_name}
 use Rattle.lh_unit.specs.declared.name.UnitName.{UnitName}
 use Rattle.lh_unit.specs.declared.inst.UnitId.{UnitId}

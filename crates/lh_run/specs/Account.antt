@@ -7,10 +7,10 @@ use Rattle.lh_unit.specs.Reads.{Reads}
 use Rattle.lh_watch.specs.Members.{Member}
 use Rattle.lh_words.specs.Forms.{Asked}
 use Rattle.lh_run.specs.Called.{Calls}
-use Rattle.lh_run.specs.Result.{Makes, MayLeave, IsResult, source_limit}
+use Rattle.lh_run.specs.Result.{MayLeave, IsResult, source_limit}
 use Rattle.lh_run.specs.StatusLines.{status_line}
 use Rattle.lh_run.specs.declared.status.Status.{Status}
-use Rattle.lh_run.specs.declared.status.Status.TheVariants.{Usage, ReadFault, SourceTooLong, Refused, Top, WriteFault, Runaway, AssertFailed, Done, OutOfMemory}
+use Rattle.lh_run.specs.declared.status.Status.TheVariants.{Usage, ReadFault, SourceTooLong, WriteFault, OutOfMemory}
 
 -- a sink before and after: what was written, where it tells, and its count of faults
 pub record Use : Type 0 where

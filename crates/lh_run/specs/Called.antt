@@ -3,7 +3,7 @@ use Rattle.std.specs.Prelude.{ℕ, ◌<◌, List, Bool, IsTrue}
 use Rattle.std.specs.List.{list_any, list_all}
 use Rattle.std.specs.Str.{bytes_eq}
 use Rattle.lh_watch.specs.Members.{Member}
-use Rattle.lh_words.specs.Forms.{Asked, check, simulate, Asks}
+use Rattle.lh_words.specs.Forms.{Asked, check, lower, simulate, Asks}
 
 -- a member has this title
 abbrev pub is_title : List Member → List ℕ → Bool
@@ -12,6 +12,7 @@ is_title ms title = list_any (λ (m : Member). bytes_eq m.rule.title title) ms
 -- each title that is watched is a member's
 abbrev pub KnowsTitles : List Member → Asked → Type 0
 KnowsTitles ms check = Unit {0}
+KnowsTitles ms lower = Unit {0}
 KnowsTitles ms (simulate s) = IsTrue (list_all (is_title ms) s.titles)
 
 -- The words ask for this, and it can be done with these members.
@@ -22,6 +23,7 @@ pub record Calls (words : List (List ℕ)) (ms : List Member) (a : Asked) : Type
 -- a simulation is of one frame or more
 abbrev pub HasFrames : Asked → Type 0
 HasFrames check = Unit {0}
+HasFrames lower = Unit {0}
 HasFrames (simulate s) = 0 < s.steps
 
 -- The words have none of the forms, or watch a title that no member has.

@@ -4,3 +4,4 @@ pub mod Result
 pub mod StatusLines
 pub mod Account
 pub mod Steps
+pub mod Faithful

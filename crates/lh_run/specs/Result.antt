@@ -1,5 +1,5 @@
 -- What a run comes to, by its words, the bytes of its source and its watchers.
-use Rattle.std.specs.Prelude.{◌≡◌, ℕ, ◌≤◌, ◌<◌, List, [], length}
+use Rattle.std.specs.Prelude.{◌≡◌, ℕ, ◌≤◌, ◌<◌, List, [], length, Bool, true, false, nat_lt}
 use Rattle.lh_unit.specs.Contents.{ItemText}
 use Rattle.lh_unit.specs.Reads.{Reads, FirstBad, syntax, unit_too_large, duplicate_name}
 use Rattle.lh_unit.specs.Canon.{canon}
@@ -7,13 +7,15 @@ use Rattle.lh_unit.specs.Trace.{trace}
 use Rattle.lh_unit.specs.WellFormed.{FaultKind, number_of, IsFirstFault, IsFaultless}
 use Rattle.lh_unit.specs.declared.name.UnitName.{UnitName}
 use Rattle.lh_watch.specs.Members.{Member}
-use Rattle.lh_words.specs.Forms.{Asked, check, simulate}
+use Rattle.lh_words.specs.Forms.{Asked, check, lower, simulate}
+use Rattle.lh_lowered.specs.Lowering.{lowered, report}
+use Rattle.lh_lowered.specs.Report.{report_text}
 use Rattle.lh_run.specs.Called.{Calls, IsMisuse}
 use Rattle.lh_run.specs.Simulated.{Shows, MayBeLeft}
 use Rattle.lh_run.specs.declared.status.Refusal.{Refusal}
 use Rattle.lh_run.specs.declared.status.Refusal.TheVariants.{Syntax, UnitTooLarge, DuplicateName, Invalid}
 use Rattle.lh_run.specs.declared.status.Status.{Status}
-use Rattle.lh_run.specs.declared.status.Status.TheVariants.{Usage, SourceTooLong, Refused, Done}
+use Rattle.lh_run.specs.declared.status.Status.TheVariants.{Usage, SourceTooLong, Refused, OutputTooLong, Done}
 
 -- how many bytes a source may give
 abbrev pub source_limit : ℕ
@@ -30,15 +32,27 @@ IsRefusedFor bytes (UnitTooLarge line) = FirstBad bytes line unit_too_large
 IsRefusedFor bytes (DuplicateName line) = FirstBad bytes line duplicate_name
 IsRefusedFor bytes (Invalid unit inst number) = (file : List ItemText) × Reads bytes file × HasFirstFault file unit inst number
 
+-- the canonical text of the lowered module has more bytes than a source may give
+abbrev pub is_too_long : List ItemText → Bool
+is_too_long file = nat_lt source_limit (length (canon (lowered file)))
+
+-- What is made of a file whose lowered text is too long, or is not: nothing; or that text, and for the log the report, a line for each process.
+abbrev pub Lowers : Bool → List ItemText → List Member → Status → (out log : List ℕ) → (left : List Member) → Type 0
+Lowers true file ms status out log left = (status ≡ OutputTooLong) × (out ≡ []) × (log ≡ []) × (left ≡ ms)
+Lowers false file ms status out log left = (status ≡ Done) × (out ≡ canon (lowered file)) × (log ≡ report_text (report file)) × (left ≡ ms)
+
 -- What a command makes of a well-formed file: its status, the text for the output, the text for the log before the line of the
--- status, and the members that are left. `check` makes the canonical text; `simulate` shows the trace of its top up to its bound.
+-- status, and the members that are left. `check` makes the canonical text; `lower` the canonical text of the lowered module; `simulate`
+-- shows the trace of its top up to its bound.
 abbrev pub Makes : Asked → List ItemText → List Member → Status → (out log : List ℕ) → (left : List Member) → Type 0
 Makes check file ms status out log left = (status ≡ Done) × (out ≡ canon file) × (log ≡ []) × (left ≡ ms)
+Makes lower file ms status out log left = Lowers (is_too_long file) file ms status out log left
 Makes (simulate s) file ms status out log left = Shows s ms (trace file s.top s.steps) status out log left
 
 -- the members that may be left where a command did not come to its end
 abbrev pub MayLeave : Asked → List ItemText → List Member → (now : List Member) → Type 0
 MayLeave check file ms now = now ≡ ms
+MayLeave lower file ms now = now ≡ ms
 MayLeave (simulate s) file ms now = MayBeLeft s ms (trace file s.top s.steps) now
 
 -- The status, the text for the output, the text for the log before the line of the status, and the members that are left.

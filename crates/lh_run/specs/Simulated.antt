@@ -11,7 +11,7 @@ use Rattle.lh_wave.specs.declared.ending.End.TheVariants as end
 use Rattle.lh_wave.specs.declared.run.WaveMode.{WaveMode}
 use Rattle.lh_wave.specs.declared.run.WaveMode.TheVariants.{Vcd}
 use Rattle.lh_wave.specs.declared.run.WaveMode.TheVariants as mode
-use Rattle.lh_wave.specs.ShownRun.{ShownRun, shown_run, all_reports, any_failed}
+use Rattle.lh_wave.specs.ShownRun.{shown_run, all_reports, any_failed}
 use Rattle.lh_wave.specs.RunText.{text_in}
 use Rattle.lh_wave.specs.BrokenOff.{HaveSeen}
 use Rattle.lh_words.specs.Forms.{Simulation}

@@ -6,7 +6,7 @@ use Rattle.lh_run.specs.declared.status.Refusal.TheVariants.{Syntax, UnitTooLarg
 use Rattle.lh_run.specs.declared.status.TopFault.{TopFault}
 use Rattle.lh_run.specs.declared.status.TopFault.TheVariants.{TopMissing, TopIsFunction, InstCycle, TooDeep, TooManyInstances, TooManyBits}
 use Rattle.lh_run.specs.declared.status.Status.{Status}
-use Rattle.lh_run.specs.declared.status.Status.TheVariants.{Usage, ReadFault, SourceTooLong, Refused, Top, WriteFault, Runaway, AssertFailed, Done, OutOfMemory}
+use Rattle.lh_run.specs.declared.status.Status.TheVariants.{Usage, ReadFault, SourceTooLong, Refused, Top, OutputTooLong, WriteFault, Runaway, AssertFailed, Done, OutOfMemory}
 
 -- the name of a fault by its number, between a space and the end of the line
 abbrev pub name_of_fault : ℕ → List ℕ
@@ -49,6 +49,7 @@ status_line ReadFault = codes "read fault\n"
 status_line SourceTooLong = codes "source too long\n"
 status_line (Refused why) = refusal_line why
 status_line (Top why) = top_line why
+status_line OutputTooLong = codes "output too long\n"
 status_line WriteFault = codes "write fault\n"
 status_line (Runaway instance) = codes "runaway in instance " ++ decimal instance ++ codes "\n"
 status_line AssertFailed = codes "assertion failed\n"
@@ -64,6 +65,7 @@ status_code ReadFault = 3
 status_code WriteFault = 4
 status_code OutOfMemory = 5
 status_code SourceTooLong = 6
+status_code OutputTooLong = 7
 status_code (Top why) = 8
 status_code AssertFailed = 9
 status_code (Runaway instance) = 10

@@ -1,5 +1,5 @@
 -- What the steps of a run leave.
-use Rattle.std.specs.Prelude.{◌≡◌, ℕ, ◌≤◌, ◌<◌, List, [], map, Bool, Option, Some, None, Result, Ok, Err, length}
+use Rattle.std.specs.Prelude.{◌≡◌, ℕ, ◌≤◌, ◌<◌, ◌⊎◌, List, [], map, Bool, true, false, Option, Some, None, Result, Ok, Err, length}
 use Rattle.lh_io.specs.declared.whole.ReadAllFault.{ReadAllFault}
 use Rattle.lh_io.specs.declared.whole.ReadAllFault.TheVariants as whole
 use Rattle.lh_read.specs.declared.TextFault.{TextFault}
@@ -23,15 +23,18 @@ use Rattle.lh_wave.specs.BrokenOff.{HaveSeen}
 use Rattle.lh_wave.specs.RunText.{text_in}
 use Rattle.lh_wave.specs.ShownRun.{ShownRun, shown_run, all_reports, any_failed}
 use Rattle.lh_words.specs.Forms.{Asked}
+use Rattle.lh_lowered.specs.Lowering.{lowered, report}
+use Rattle.lh_lowered.specs.Report.{report_text}
 use Rattle.lh_words.specs.declared.command.Command.{Command}
 use Rattle.lh_words.specs.Meant.{meant}
 use Rattle.lh_run.specs.Called.{Calls, IsMisuse}
 use Rattle.lh_run.specs.Simulated.{fault_of, status_by, mode_of}
-use Rattle.lh_run.specs.Result.{source_limit, HasFirstFault, IsRefusedFor, Makes, MayLeave}
+use Rattle.lh_run.specs.Result.{source_limit, HasFirstFault, IsRefusedFor, is_too_long, Makes, MayLeave}
 use Rattle.lh_run.specs.Account.{Use, Gained, BreaksOff, Leaves}
+use Rattle.lh_run.specs.declared.lowering.Texts.{Texts}
 use Rattle.lh_run.specs.declared.status.Refusal.TheVariants.{Syntax, UnitTooLarge, DuplicateName, Invalid}
 use Rattle.lh_run.specs.declared.status.Status.{Status}
-use Rattle.lh_run.specs.declared.status.Status.TheVariants.{Usage, ReadFault, SourceTooLong, Refused, Top, WriteFault, Done, OutOfMemory}
+use Rattle.lh_run.specs.declared.status.Status.TheVariants.{ReadFault, SourceTooLong, Refused, Top, OutputTooLong, WriteFault, Done, OutOfMemory}
 
 -- the status that a fault of the source brings
 abbrev pub source_status : ReadAllFault → Status
@@ -105,6 +108,20 @@ WritesCanon file Done out = Gained out (canon file)
 WritesCanon file WriteFault out = BreaksOff out (canon file)
 WritesCanon file OutOfMemory out = Gained out []
 WritesCanon file _ out = ⊥
+
+-- the texts of a file that is lowered
+pub record IsTexts (file : List ItemText) (t : Texts) : Type 0 where
+  pub «module» : t.«module».items ≡ canon (lowered file)
+  pub report : t.report.items ≡ report_text (report file)
+
+-- how much of the text of the lowered module and of the report came to the sinks, by how the writing of them ends
+abbrev pub WritesLowered : List ItemText → Status → (out log : Use) → Type 0
+WritesLowered file Done out log = (is_too_long file ≡ false) × Gained out (canon (lowered file)) × Gained log (report_text (report file))
+WritesLowered file OutputTooLong out log = (is_too_long file ≡ true) × Gained out [] × Gained log []
+WritesLowered file WriteFault out log =
+    (is_too_long file ≡ false) × ((BreaksOff out (canon (lowered file)) × Gained log []) ⊎ (Gained out (canon (lowered file)) × BreaksOff log (report_text (report file))))
+WritesLowered file OutOfMemory out log = Gained out [] × Gained log []
+WritesLowered file _ out log = ⊥
 
 -- the status of a simulation that was carried out, or cut off
 abbrev pub simulated : Result Ending Status → Status

@@ -7,8 +7,10 @@ ghost use Rattle.lh_words.specs.Forms.{check};
 ghost use Rattle.lh_words.specs.Meant.{meant, simulation_of};
 ghost use Rattle.lh_run.specs.Called.{is_title, HasFrames};
 ghost use Rattle.lh_run.specs.Account.{use_of};
+ghost use Rattle.lh_run.specs.Faithful.{LowersFile};
 ghost use Rattle.lh_run.specs.Steps.{IsCalled, Carries, WritesCanon, ended};
 
+use crate::lowering::lower_file;
 use crate::simulate::{simulate, status_of};
 use crate::status::Status;
 use lh_io::stream::Sink;
@@ -26,7 +28,7 @@ pub fn called<'a, W: Watcher>(words: &'a TextList, watchers: &[W]) -> Option<Com
 {
     let command = command_of(words)?;
     match command {
-        Command::Check => Some(command),
+        Command::Check | Command::Lower => Some(command),
         Command::Simulate(asked) => {
             if knows_titles(&asked, watchers) {
                 Some(command)
@@ -80,10 +82,15 @@ pub fn carry_out<O: Sink, L: Sink, W: Watcher>(
 ) -> Status
     requires { HasFrames (meant command) }
     ensures carries { Carries (meant command.entry) (contents file.now) (map W.member watchers.old.items) result (use_of (O.written out.old) (O.written out.new) (O.faults out.old) (O.faults out.new)) (use_of (L.written log.old) (L.written log.new) (L.faults log.old) (L.faults log.new)) (map W.member watchers.new.items) }
+    ensures lowers { LowersFile (meant command.entry) result (contents file.now) (use_of (O.written out.old) (O.written out.new) (O.faults out.old) (O.faults out.new)) (use_of (L.written log.old) (L.written log.new) (L.faults log.old) (L.faults log.new)) }
     ensures never_fall { L.faults log.old ≤ L.faults log.new }
 {
     match command {
         Command::Check => match check(alloc, file, out) {
+            Ok(()) => Status::Done,
+            Err(status) => status,
+        },
+        Command::Lower => match lower_file(alloc, file, out, log) {
             Ok(()) => Status::Done,
             Err(status) => status,
         },

@@ -3,6 +3,7 @@
 
 mod command;
 mod load;
+mod lowering;
 mod simulate;
 pub mod status;
 pub mod top;

@@ -16,7 +16,7 @@ use lh_verify::verify::{Verified, VerifyCause, VerifyFault, verify};
 use std::alloc::Global;
 
 /// How many bytes a source may give.
-const SOURCE_LIMIT: usize = 67_108_864;
+pub(crate) const SOURCE_LIMIT: usize = 67_108_864;
 
 /// Reads a source to its end and verifies the file that came.
 pub fn load<S: Source>(alloc: Global, src: &mut S) -> Result<Verified, Status>

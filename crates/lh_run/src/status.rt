@@ -63,6 +63,8 @@ pub enum Status {
     Refused(Refusal),
     /// The top unit is not simulated.
     Top(TopFault),
+    /// The text of the lowered module has more than 67,108,864 bytes.
+    OutputTooLong,
     /// A write failed before the status line.
     WriteFault,
     /// The simulation ended since this instance ran away.
@@ -262,6 +264,7 @@ impl Status {
             Status::OutOfMemory => 5,
             Status::SourceTooLong => 6,
             Status::Top(_) => 8,
+            Status::OutputTooLong => 7,
             Status::AssertFailed => 9,
             Status::Runaway(_) => 10,
         }
@@ -286,6 +289,7 @@ impl Status {
                 *instance,
                 b"\n",
             ),
+            Status::OutputTooLong => write_all(log, b"output too long\n"),
             Status::AssertFailed => write_all(log, b"assertion failed\n"),
             Status::Done => Ok(()),
             Status::OutOfMemory => write_all(log, b"out of memory\n"),

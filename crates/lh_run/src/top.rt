@@ -3,6 +3,7 @@ ghost use Rattle.std.specs.Prelude.{◌≡◌, ◌≤◌, ◌↔◌, ℕ, List, 
 ghost use Rattle.lh_io.specs.Streams.{Rose};
 ghost use Rattle.lh_io.specs.Whole.{Takes};
 ghost use Rattle.lh_run.specs.Called.{IsMisuse};
+ghost use Rattle.lh_run.specs.Faithful.{LowersFaithfully};
 ghost use Rattle.lh_run.specs.Account.{use_of, OfSource, IsCountFor, IsReadToEnd, Performs, Account, HasOneResult, IsResultOrNoMemory};
 
 use crate::command::{called, carry_out};
@@ -29,6 +30,7 @@ fn perform<S: Source, O: Sink, L: Sink, W: Watcher>(
     ensures to_the_end { IsReadToEnd result (S.left src.old) (S.left src.new) }
     ensures rose { result ≡ Status.ReadFault → Rose (S.faults src.old) (S.faults src.new) }
     ensures one_result { (bytes : List ℕ) → HasOneResult words.now bytes (map W.member watchers.old.items) }
+    ensures faithful { OfSource (S.left src.old) (λ bytes. LowersFaithfully words.now bytes result (use_of (O.written out.old) (O.written out.new) (O.faults out.old) (O.faults out.new)) (use_of (L.written log.old) (L.written log.new) (L.faults log.old) (L.faults log.new))) }
     ensures never_fall { L.faults log.old ≤ L.faults log.new }
 {
     let Some(command) = called(words, watchers.as_slice()) else {
@@ -57,6 +59,9 @@ pub fn run<S: Source, O: Sink, L: Sink>(
     ensures account { OfSource (S.left src.old) (λ bytes. Account words.now bytes (map ⟦<Box<dyn Watcher> as Watcher>⟧.member watchers.old.items) result (use_of (O.written out.old) (O.written out.new) (O.faults out.old) (O.faults out.new)) (use_of (L.written log.old) (L.written log.new) (L.faults log.old) (L.faults log.new)) (map ⟦<Box<dyn Watcher> as Watcher>⟧.member watchers.new.items)) }
     ensures one_result { (bytes : List ℕ) → HasOneResult words.now bytes (map ⟦<Box<dyn Watcher> as Watcher>⟧.member watchers.old.items) }
     ensures complete { IfSome (S.left src.old) (λ bytes. ¬ Rose (S.faults src.old) (S.faults src.new) → ¬ Rose (O.faults out.old) (O.faults out.new) → ¬ Rose (L.faults log.old) (L.faults log.new) → IsResultOrNoMemory words.now bytes (map ⟦<Box<dyn Watcher> as Watcher>⟧.member watchers.old.items) result) }
+
+    // What `lower` writes reads back, is well formed, and has for every top and every number of frames the trace of what it read.
+    ensures faithful { OfSource (S.left src.old) (λ bytes. LowersFaithfully words.now bytes result (use_of (O.written out.old) (O.written out.new) (O.faults out.old) (O.faults out.new)) (use_of (L.written log.old) (L.written log.new) (L.faults log.old) (L.faults log.new))) }
 
     // Usage comes by the words and the titles of the watchers alone, with nothing read.
     ensures usage { (result ≡ Status.Usage) ↔ IsMisuse words.now (map ⟦<Box<dyn Watcher> as Watcher>⟧.member watchers.old.items) }

@@ -9,11 +9,14 @@
 //! | `verify` | whether the file is well formed, or the first fault |
 //! | `cut` | how many bytes of the text read when no more are there |
 //! | `simulate ..` | the trace or the waveform, and then the reports, by the words of the command line |
+//! | `lower` | the canonical text of the lowered file, and the report |
+//! | `both simulate ..` | whether the lowered file shows what the file shows, by the same words |
 //! | `watch TOP N A go N ..` | the same in at most N frames, with watchers that say a word at a frame |
 //! | `design TOP` | how many instances, signals and bits there are |
 //! | `senses TOP N` | N steps, with the activations so far and the instances that sense each signal then |
 //! | `definition TOP N` | the first N frames as the definition has them, beside those that the simulation answers |
 use crate::file::{Refusal, load, text_line};
+use crate::lowered::{beside_lowered, lowered};
 use crate::naive::beside_definition;
 use crate::shown::{simulated, watched};
 use crate::stepped::{counted, sensed};
@@ -45,6 +48,8 @@ fn answer_by(alloc: Global, how: &str, text: &[u8]) -> Result<Vec<u8>, Refusal> 
         ["verify"] => verified(alloc, text),
         ["cut"] => Ok(cut(alloc, text)?),
         ["simulate", ..] => simulated(alloc, &words, text),
+        ["lower"] => lowered(alloc, text),
+        ["both", rest @ ..] => beside_lowered(alloc, rest, text),
         ["watch", top, n, rest @ ..] => watched(alloc, *top, *n, rest, text),
         ["design", top] => counted(alloc, *top, text),
         ["senses", top, n] => sensed(alloc, *top, number(*n), text),

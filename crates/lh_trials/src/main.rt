@@ -10,6 +10,7 @@ mod answer;
 mod file;
 mod frames;
 mod group;
+mod lowered;
 mod naive;
 mod runner;
 mod score;

@@ -66,6 +66,14 @@ impl Model for Verified {
 }
 
 impl Verified {
+    /// A module that is known to be well formed.
+    pub fn of_well_formed(m: Module) -> Verified
+        requires { IsWellFormed (contents m) }
+        ensures { result ≡ m }
+    {
+        Verified { module: m }
+    }
+
     /// The module.
     pub fn module(&self) -> &Module
         ensures module { result.now ≡ self.now }

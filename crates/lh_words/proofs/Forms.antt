@@ -2,9 +2,10 @@
 use Rattle.std.proofs.Common.{◌≡◌, ℕ, ◌≤◌, List, [], ◌∷◌, length, refl, ap, sym, ◌∙◌, cond, Bool, true, false, Option, Some, None, Bor, arith, subst}
 use Rattle.std.specs.Prelude.{codes, MatchBool, IfNone}
 use Rattle.std.specs.List.{flat_map}
+use Rattle.std.specs.Str.{bytes_eq}
 use Rattle.lh_unit.specs.declared.name.UnitName.{UnitName}
 use Rattle.lh_unit.specs.Numerals.{number_of}
-use Rattle.lh_words.specs.Forms.{Choice, spelled, names_in, numbers_in, titles_in, vcds_in, name_meant, IsCount, max_steps, Simulation, Simulates, Asked, check, simulate, Asks}
+use Rattle.lh_words.specs.Forms.{Choice, spelled, names_in, numbers_in, titles_in, vcds_in, name_meant, IsCount, max_steps, Simulation, Simulates, Asked, check, lower, simulate, Asks}
 use Rattle.lh_words.specs.declared.found.Found.{Found}
 use Rattle.lh_words.specs.Found.{AtMostOnce, IsAllFound}
 use Rattle.lh_words.specs.Meant.{titles_from, at_option}
@@ -103,8 +104,29 @@ one_simulation words s t p q =
     let vcd : MatchBool t.vcd (vcds_in p.options ≡ 1) (vcds_in p.options ≡ 0) = subst (λ l. MatchBool t.vcd (vcds_in l ≡ 1) (vcds_in l ≡ 0)) (sym options) q.vcd_at_most_once in
     same_simulation s t (p.top_meant ∙ ap name_meant name ∙ sym q.top_meant) steps (same_vcd s.vcd t.vcd (vcds_in p.options) p.vcd_at_most_once vcd) (p.titles_given ∙ ap titles_in options ∙ sym q.titles_given)
 
+-- the first word of a simulation
+simulate-first : (words : List (List ℕ)) (s : Simulation) (w : List ℕ) → Simulates words s → words ≡ w ∷ [] → w ≡ codes "simulate"
+simulate-first words s w p e = let f : w ∷ [] ≡ codes "simulate" ∷ flat_map spelled p.options = sym e ∙ p.written in cc
+
+one-same : (v w : List ℕ) → v ∷ [] ≡ w ∷ [] → v ≡ w
+one-same v w e = cc
+
+check-no-lower : codes "check" ≡ codes "lower" → ⊥
+check-no-lower e = let q : true ≡ false = ap (bytes_eq (codes "check")) e in cc
+
+check-no-simulate : codes "check" ≡ codes "simulate" → ⊥
+check-no-simulate e = cc
+
+lower-no-simulate : codes "lower" ≡ codes "simulate" → ⊥
+lower-no-simulate e = cc
+
 pub one_form : (words : List (List ℕ)) (a b : Asked) → Asks words a → Asks words b → a ≡ b
 one_form words check check p q = refl
-one_form words check (simulate t) p q = let e : codes "check" ∷ [] ≡ codes "simulate" ∷ flat_map spelled q.options = sym p ∙ q.written in cc
-one_form words (simulate s) check p q = let e : codes "check" ∷ [] ≡ codes "simulate" ∷ flat_map spelled p.options = sym q ∙ p.written in cc
+one_form words lower lower p q = refl
 one_form words (simulate s) (simulate t) p q = ap simulate (one_simulation words s t p q)
+one_form words check lower p q = absurd (check-no-lower (one-same (codes "check") (codes "lower") (sym p ∙ q)))
+one_form words lower check p q = absurd (check-no-lower (one-same (codes "check") (codes "lower") (sym q ∙ p)))
+one_form words check (simulate t) p q = absurd (check-no-simulate (simulate-first words t (codes "check") q p))
+one_form words (simulate s) check p q = absurd (check-no-simulate (simulate-first words s (codes "check") p q))
+one_form words lower (simulate t) p q = absurd (lower-no-simulate (simulate-first words t (codes "lower") q p))
+one_form words (simulate s) lower p q = absurd (lower-no-simulate (simulate-first words s (codes "lower") p q))

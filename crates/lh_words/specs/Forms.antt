@@ -62,6 +62,7 @@ pub record Simulation : Type 0 where
 -- what the program is asked to do
 pub data Asked : Type 0 where
   check : Asked
+  lower : Asked
   simulate : Simulation → Asked
 
 abbrev pub max_steps : ℕ
@@ -84,6 +85,7 @@ pub record Simulates (words : List (List ℕ)) (s : Simulation) : Type 0 where
 -- the words ask for this
 abbrev pub Asks : List (List ℕ) → Asked → Type 0
 Asks words check = words ≡ codes "check" ∷ []
+Asks words lower = words ≡ codes "lower" ∷ []
 Asks words (simulate s) = Simulates words s
 
 -- the words have none of the forms

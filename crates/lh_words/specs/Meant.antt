@@ -9,7 +9,7 @@ use Rattle.lh_words.specs.declared.command.Simulate.{Simulate}
 use Rattle.lh_words.specs.declared.command.Titles.{Titles}
 use Rattle.lh_words.specs.declared.command.Command.{Command}
 use Rattle.lh_words.specs.declared.command.Command.TheVariants as command
-use Rattle.lh_words.specs.Forms.{Choice, top, steps, vcd, watch, Simulation, Asked, check, simulate}
+use Rattle.lh_words.specs.Forms.{Choice, top, steps, vcd, watch, Simulation, Asked, check, lower, simulate}
 
 -- what the next word is
 pub data Turn : Type 0 where
@@ -46,4 +46,5 @@ titles_left t = titles_from at_option t.words.now
 -- what a command asks for
 abbrev pub meant : Command → Asked
 meant command.Check = check
+meant command.Lower = lower
 meant (command.Simulate s) = simulate (simulation_of s)

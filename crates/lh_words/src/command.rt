@@ -17,6 +17,8 @@ const MOST_STEPS: u32 = 1_000_000;
 pub enum Command<'a> {
     /// Read a file and write its canonical text.
     Check,
+    /// Read a file and write the text of the lowered module, and what became of each process.
+    Lower,
     /// Read a file and write the trace of a top unit, or its waveform.
     Simulate(Simulate<'a>),
 }
@@ -54,19 +56,22 @@ pub fn command_of(words: &TextList) -> Option<Command<'_>>
     ensures some { IfSome result (λ c. Asks words.now (meant c)) }
     ensures none { IfNone result (HasNoForm words.now) }
 {
-    if is_check(words.as_slice()) {
+    if is_one(words.as_slice(), b"check") {
         return Some(Command::Check);
+    }
+    if is_one(words.as_slice(), b"lower") {
+        return Some(Command::Lower);
     }
     let options = behind_simulate(words.as_slice())?;
     let asked = simulation_of_options(options)?;
     Some(Command::Simulate(asked))
 }
 
-// Whether the words are the one word `check`.
-fn is_check(words: &[ByteList]) -> bool
-    ensures { IsTrue result ↔ (words.now ≡ codes "check" ∷ []) }
+// Whether the words are this one word.
+fn is_one(words: &[ByteList], word: &[u8]) -> bool
+    ensures { IsTrue result ↔ (words.now ≡ word.now ∷ []) }
 {
-    words.len() == 1 && words[0].as_slice() == b"check".as_slice()
+    words.len() == 1 && words[0].as_slice() == word
 }
 
 // The words behind `simulate`, where it is the first.

@@ -28,7 +28,7 @@ fn lines_without_a_form(rt: HostRuntime) -> Result<(), Fail> {
         "simulate --vcd --vcd --top t --steps 3",
         "simulate --top=t --steps 3",
         "simulate --top t --steps 3 --watch",
-        "lower",
+        "lower x",
         "selftest 1",
     ];
     for line in lines {

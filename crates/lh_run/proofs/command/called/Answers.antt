@@ -1,4 +1,3 @@
-use Rattle.std.proofs.Common.{◌≡◌}
 use Rattle.lh_words.specs.Meant.{simulation_of}
 use Rattle.lh_run.proofs.Callings.{IsMisuse-unknown}
 use Rattle.lh_run.proofs.command.called.Goals as goal

@@ -1,8 +1,6 @@
-use Rattle.std.proofs.Common.{◌≡◌, refl, sym, ◌∙◌, subst, None, Option}
-use Rattle.lh_unit.specs.Arena.{contents, kind_at, unit_name_at}
-use Rattle.lh_unit.specs.Builders.{Locates}
+use Rattle.std.proofs.Common.{◌≡◌, refl, sym, ◌∙◌, subst, None}
+use Rattle.lh_unit.specs.Arena.{contents}
 use Rattle.lh_unit.specs.Design.{elab, refused, top_missing}
-use Rattle.lh_unit.specs.declared.inst.UnitId.{UnitId}
 use Rattle.lh_unit.specs.declared.name.UnitName.{UnitName}
 use Rattle.lh_run.proofs.Tops.{elab-not_there, elab-not_defined, is_missing}
 use Rattle.lh_run.proofs.simulate.design_named.Goals as goal

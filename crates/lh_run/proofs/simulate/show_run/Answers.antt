@@ -1,6 +1,5 @@
-use Rattle.std.proofs.Common.{◌≡◌, List, ℕ, ◌∙◌}
+use Rattle.std.proofs.Common.{◌∙◌}
 use Rattle.std.proofs.lemmas.Result.{err_from_is_err_and}
-use Rattle.lh_run.specs.Simulated.{mode_of}
 use Rattle.lh_run.proofs.Simulations.{ShowsRun-broken, ShowsRun-unreported, ShowsRun-whole}
 use Rattle.lh_run.proofs.simulate.show_run.Goals as goal
 

@@ -1,14 +1,11 @@
-use Rattle.std.proofs.Common.{◌≡◌, ◌∙◌, ℕ, List, map, ap, sym, subst}
+use Rattle.std.proofs.Common.{◌≡◌, ◌∙◌, map, ap, sym, subst}
 use Rattle.std.proofs.lemmas.Result.{err_from_is_err_and}
-use Rattle.lh_unit.specs.Arena.{Arena, contents}
+use Rattle.lh_unit.specs.Arena.{contents}
 use Rattle.lh_unit.specs.Design.{elab, built}
-use Rattle.lh_unit.specs.World.{first_world}
 use Rattle.lh_design.specs.Texts.{design_text}
 use Rattle.lh_design.specs.declared.Design.{Design}
-use Rattle.lh_kernel.specs.Simulation.{StandsFor}
 use Rattle.lh_watch.specs.Shown.{kept}
 use Rattle.lh_words.specs.Meant.{simulation_of}
-use Rattle.lh_run.specs.Steps.{IsTopStatus, ShowsRun, shown_of, simulated}
 use Rattle.lh_run.proofs.Simulations.{Carries-refused, Carries-starved, Carries-shown}
 use Rattle.lh_run.proofs.simulate.simulate.Goals as goal
 

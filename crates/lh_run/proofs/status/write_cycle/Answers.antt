@@ -1,4 +1,4 @@
-use Rattle.std.proofs.Common.{ℕ, List, ◌++◌, codes}
+use Rattle.std.proofs.Common.{◌++◌, codes}
 use Rattle.std.proofs.lemmas.Result.{err_from_is_err_and}
 use Rattle.lh_run.specs.StatusLines.{unit_word}
 use Rattle.lh_run.proofs.Writes.{BreaksOff_first, Puts_second, Puts_of}

@@ -1,8 +1,8 @@
-use Rattle.std.proofs.Common.{◌≡◌, ℕ, List, refl, Err, Ok}
+use Rattle.std.proofs.Common.{Err, Ok}
 use Rattle.lh_unit.specs.Arena.{contents}
 use Rattle.lh_words.specs.Meant.{meant}
-use Rattle.lh_run.specs.Account.{Performs, use_of}
 use Rattle.lh_run.specs.Steps.{Loads}
+use Rattle.lh_run.proofs.Faithfully.{faithful, unloaded, misused}
 use Rattle.lh_run.proofs.Results.{HasOneResult-misuse, HasOneResult-called}
 use Rattle.lh_run.proofs.Accounts.{OfSource-weaker}
 use Rattle.lh_run.proofs.Callings.{Calls-frames}
@@ -69,3 +69,14 @@ returns-clause-one_result g c =
 
 pub carry_out-requires : goal.carry_out-requires
 carry_out-requires g c = Calls-frames _ _ (meant c.in-Some.command) c.in-Some.ensures
+
+pub returns-in_default-clause-faithful : goal.returns-in_default-clause-faithful
+returns-in_default-clause-faithful g c = of_any _ _ (λ bytes. misused _ bytes _ _)
+
+pub returns-in-Err-clause-faithful : goal.returns-in-Err-clause-faithful
+returns-in-Err-clause-faithful g c = OfSource-weaker _ (λ bytes. Loads bytes (Err c.in-Err.status)) _ (λ bytes loads. unloaded _ bytes c.in-Err.status _ _ loads) c.in-Err.ensures.loads
+
+pub returns-clause-faithful : goal.returns-clause-faithful
+returns-clause-faithful g c =
+    let calls = rw c.as_slice.ensures.value at c.in-Some.ensures in
+    OfSource-weaker _ (λ bytes. Loads bytes (Ok c.in-Ok.file)) _ (λ bytes loaded. faithful _ bytes _ (meant c.in-Some.command) (contents c.in-Ok.file) _ _ _ calls loaded c.carry_out.ensures.lowers) c.in-Ok.ensures.loads
