@@ -1,5 +1,5 @@
 -- The values before that can be in a condition, each with the value now, by ids.
-use Rattle.std.proofs.Common.{◌≡◌, ℕ, zero, suc, ◌+◌, ◌-◌, ◌<◌, ◌≤◌, Bool, true, false, not, ◌&&◌, ◌||◌, nat_lt, if◌then◌else◌, List, [], ◌∷◌, ◌++◌, length, map, take, drop, get_or, refl, sym, ap, ◌∙◌, subst, inl, inr, ◌⊎◌, arith, Option, Some, None, append-nil}
+use Rattle.std.proofs.Common.{◌≡◌, ℕ, zero, suc, ◌+◌, ◌-◌, ◌<◌, ◌≤◌, Bool, true, false, not, ◌&&◌, ◌||◌, nat_lt, if◌then◌else◌, List, [], ◌∷◌, ◌++◌, length, map, take, drop, get_or, refl, sym, ap, ◌∙◌, subst, inl, inr, ◌⊎◌, arith, Option, Some, None, append-nil, slice_get}
 use Rattle.std.specs.List.{list_any}
 use Rattle.std.specs.Cmp.{first_so, second_so}
 use Rattle.lh_types.specs.Types.{int_type}
@@ -12,13 +12,14 @@ use Rattle.lh_term.specs.Tree.{Tree, constant, past_of, now_of, operation, choic
 use Rattle.lh_term.specs.Same.{same_part, same_part-is}
 use Rattle.lh_term.specs.SameTree.{same_tree, same_tree-refl}
 use Rattle.lh_term.specs.Make.{bit_of}
-use Rattle.lh_term.specs.Arena.{tree_at, trees, term_tree, term_below, ids_below, IsIn, Grows, Stands}
+use Rattle.lh_term.specs.Arena.{tree_at, trees, terms_in, term_tree, term_below, ids_below, IsIn, Grows, Stands}
 use Rattle.lh_term.specs.Subst.{PairsIn, pairs_at, is_first}
+use Rattle.lh_term.specs.Reach.{operands_of, AllSet, Reaches}
 use Rattle.lh_term.proofs.Arenas.{lt_of, trees_grow, tree_below, term_more}
 use Rattle.lh_term.proofs.Swaps.{tree_grown, in_grown, grows_on, pairs_grown, pairs_in_grown, trees_count}
 use Rattle.lh_edge.specs.Triggers.{pasts_in, pasts_in_row}
 use Rattle.lh_edge.specs.Steps.{present_tree, IsPresent}
-use Rattle.lh_edge.specs.Gates.{ArePresents, IsPresents, MakesGate, SeesTerm, with_pair, with_present, Gathers}
+use Rattle.lh_edge.specs.Gates.{ArePresents, IsPresents, MakesGate, SeesTerm, with_pair, with_present, Gathers, GathersIf}
 use Rattle.lh_edge.proofs.Bools.{or_cases, or_left, or_right}
 use Rattle.lh_edge.proofs.Gate.{first_append, put_pair, put_has, SwapSoFar, swap_first, swap_next, gate_is}
 
@@ -41,6 +42,7 @@ presents_append (p ∷ ps) qs h k = (h.0, presents_append ps qs h.1 k)
 record InRow (ts : List Tree) (xs : List TermId) (q : Part) : Type 0 where
   id : TermId
   is_below : (k : ℕ) → ids_below k xs ≡ true → id.0 < k
+  is_set : (flags : List Bool) → AllSet flags xs → slice_get flags id.0 ≡ Some true
   there : list_any (same_part q) (pasts_in (tree_at ts id)) ≡ true
 
 any_split : (q : Part) (xs ys : List Part) → list_any (same_part q) (xs ++ ys) ≡ true → (list_any (same_part q) xs ≡ true) ⊎ (list_any (same_part q) ys ≡ true)
@@ -53,51 +55,68 @@ any_split q (x ∷ xs) ys h = elim (or_cases (same_part q x) (list_any (same_par
 in_row : (ts : List Tree) (xs : List TermId) (q : Part) → list_any (same_part q) (pasts_in_row (tree_row (map (tree_at ts) xs))) ≡ true → InRow ts xs q
 in_row ts [] q h = cc
 in_row ts (x ∷ xs) q h = elim (any_split q (pasts_in (tree_at ts x)) (pasts_in_row (tree_row (map (tree_at ts) xs))) h) [
-  | inl k ↦ record { id = x; is_below = λ n b. lt_of x.0 n (first_so (nat_lt x.0 n) (ids_below n xs) b); there = k }
-  | inr k ↦ let r = in_row ts xs q k in record { id = r.id; is_below = λ n b. r.is_below n (second_so (nat_lt x.0 n) (ids_below n xs) b); there = r.there }
+  | inl k ↦ record { id = x; is_below = λ n b. lt_of x.0 n (first_so (nat_lt x.0 n) (ids_below n xs) b); is_set = λ flags m. m.0; there = k }
+  | inr k ↦ let r = in_row ts xs q k in record { id = r.id; is_below = λ n b. r.is_below n (second_so (nat_lt x.0 n) (ids_below n xs) b); is_set = λ flags m. r.is_set flags m.1; there = r.there }
 ]
 
 -- a value before in a term is the term or in a term before it
-pub record PastBelow (ts : List Tree) (i : ℕ) (q : Part) : Type 0 where
+pub record PastBelow (ts : List Tree) (i : ℕ) (k : Term) (q : Part) : Type 0 where
   pub id : ℕ
   pub lower : id < i
+  pub is_set : (flags : List Bool) → AllSet flags (operands_of k) → slice_get flags id ≡ Some true
   pub there : list_any (same_part q) (pasts_in (tree_at ts (record { 0 = id }))) ≡ true
 
-past_under : (ts : List Tree) (i : ℕ) (k : Term) (q : Part) → term_below i k ≡ true → list_any (same_part q) (pasts_in (term_tree ts k)) ≡ true → (term_tree ts k ≡ past_of q) ⊎ PastBelow ts i q
+past_under : (ts : List Tree) (i : ℕ) (k : Term) (q : Part) → term_below i k ≡ true → list_any (same_part q) (pasts_in (term_tree ts k)) ≡ true → (term_tree ts k ≡ past_of q) ⊎ PastBelow ts i k q
 past_under ts i (Konst v) q b h = cc
 past_under ts i (Now p) q b h = cc
 past_under ts i (Past p) q b h = elim (or_cases (same_part q p) false h) [ inl k ↦ inl (ap past_of (sym (same_part-is q p k))) | inr k ↦ cc ]
-past_under ts i (Applied op args) q b h = let r = in_row ts args q h in inr (record { id = r.id.0; lower = r.is_below i b; there = r.there })
+past_under ts i (Applied op args) q b h = let r = in_row ts args q h in inr (record { id = r.id.0; lower = r.is_below i b; is_set = r.is_set; there = r.there })
 past_under ts i (Choice c f t) q b h =
     let bc : nat_lt c.0 i ≡ true = first_so (nat_lt c.0 i) (nat_lt f.0 i && nat_lt t.0 i) b in
     let r = second_so (nat_lt c.0 i) (nat_lt f.0 i && nat_lt t.0 i) b in
     let bf : nat_lt f.0 i ≡ true = first_so (nat_lt f.0 i) (nat_lt t.0 i) r in
     let bt : nat_lt t.0 i ≡ true = second_so (nat_lt f.0 i) (nat_lt t.0 i) r in
     elim (any_split q (pasts_in (tree_at ts c)) (pasts_in (tree_at ts f) ++ pasts_in (tree_at ts t)) h) [
-      | inl k ↦ inr (record { id = c.0; lower = lt_of c.0 i bc; there = k })
+      | inl k ↦ inr (record { id = c.0; lower = lt_of c.0 i bc; is_set = λ flags m. m.0; there = k })
       | inr k ↦ elim (any_split q (pasts_in (tree_at ts f)) (pasts_in (tree_at ts t)) k) [
-        | inl m ↦ inr (record { id = f.0; lower = lt_of f.0 i bf; there = m })
-        | inr m ↦ inr (record { id = t.0; lower = lt_of t.0 i bt; there = m })
+        | inl m ↦ inr (record { id = f.0; lower = lt_of f.0 i bf; is_set = λ flags m. m.1.0; there = m })
+        | inr m ↦ inr (record { id = t.0; lower = lt_of t.0 i bt; is_set = λ flags m. m.1.1.0; there = m })
       ]
     ]
 
 -- ---- the pairs so far
 
-pub record GatheredSoFar (old cur : List Node) (pairs : List (TermId × TermId)) (i : ℕ) : Type 0 where
+pub record GatheredSoFar (old cur : List Node) (flags : List Bool) (pairs : List (TermId × TermId)) (i : ℕ) : Type 0 where
   pub grows : Grows old cur
   pub pairs_in : PairsIn cur pairs
   pub each : ArePresents (pairs_at cur pairs)
-  pub done : (j : ℕ) (q : Part) → j < i → tree_at (trees old) (record { 0 = j }) ≡ past_of q → is_first (pairs_at cur pairs) (past_of q) ≡ true
-  pub seen : (j : ℕ) → j < i → SeesTerm old (record { 0 = j })
+  pub done : (j : ℕ) (q : Part) → j < i → slice_get flags j ≡ Some true → tree_at (trees old) (record { 0 = j }) ≡ past_of q → is_first (pairs_at cur pairs) (past_of q) ≡ true
+  pub seen : (j : ℕ) → j < i → slice_get flags j ≡ Some true → SeesTerm old (record { 0 = j })
 
-pub gather_start : (ns : List Node) (pairs : List (TermId × TermId)) → pairs ≡ [] → GatheredSoFar ns ns pairs 0
-gather_start ns pairs e = subst (λ (ps : List (TermId × TermId)). GatheredSoFar ns ns ps 0) (sym e) (record {
+pub gather_start : (ns : List Node) (flags : List Bool) (pairs : List (TermId × TermId)) → pairs ≡ [] → GatheredSoFar ns ns flags pairs 0
+gather_start ns flags pairs e = subst (λ (ps : List (TermId × TermId)). GatheredSoFar ns ns flags ps 0) (sym e) (record {
   grows = ([], sym (append-nil ns));
   pairs_in = tt;
   each = tt;
-  done = λ j q l. absurd (omega arith);
-  seen = λ j l. absurd (omega arith);
+  done = λ j q l f. absurd (omega arith);
+  seen = λ j l f. absurd (omega arith);
 })
+
+get_front : (xs ys : List Term) (i : ℕ) → i < length xs → slice_get (xs ++ ys) i ≡ slice_get xs i
+get_front [] ys i l = absurd (omega arith)
+get_front (x ∷ xs) ys zero l = refl
+get_front (x ∷ xs) ys (suc i) l = get_front xs ys i (omega arith)
+
+terms_append : (xs ys : List Node) → terms_in (xs ++ ys) ≡ terms_in xs ++ terms_in ys
+terms_append [] ys = refl
+terms_append (x ∷ xs) ys = ap (λ r. x.term ∷ r) (terms_append xs ys)
+
+terms_count : (xs : List Node) → length (terms_in xs) ≡ length xs
+terms_count [] = refl
+terms_count (x ∷ xs) = ap suc (terms_count xs)
+
+at_before : (old cur : List Node) → Grows old cur → (i : ℕ) → i < length old → (k : Term) → slice_get (terms_in cur) i ≡ Some k → slice_get (terms_in old) i ≡ Some k
+at_before old cur g i l k e = sym (get_front (terms_in old) (terms_in g.0) i (omega (arith, terms_count old))) ∙ ap (λ xs. slice_get xs i) (sym (terms_append old g.0)) ∙ ap (λ ns. slice_get (terms_in ns) i) (sym g.1) ∙ e
 
 seen_before : (old cur : List Node) → Grows old cur → (x : TermId) → IsIn old x → SeesTerm cur x → SeesTerm old x
 seen_before old cur g x h s =
@@ -106,6 +125,7 @@ seen_before old cur g x h s =
     let b : term_below (length (trees old)) s.term ≡ true = term_more x.0 (length (trees old)) (omega arith) s.term s.below in
     record {
       term = s.term;
+      at = at_before old cur g x.0 h s.term s.at;
       shown = sym (tree_below (trees old) rest s.term b) ∙ ap (λ ts. term_tree ts s.term) (sym e) ∙ s.shown ∙ tree_grown old cur g x h;
       below = s.below;
     }
@@ -123,33 +143,33 @@ present_part (now_of p) t e = cc
 present_part (operation op us) t e = cc
 present_part (choice_of a b c) t e = cc
 
-module _ (old cur : List Node) (pairs : List (TermId × TermId)) (i : ℕ) (s : GatheredSoFar old cur pairs i) (l : i < length old) where
+module _ (old cur : List Node) (flags : List Bool) (pairs : List (TermId × TermId)) (i : ℕ) (s : GatheredSoFar old cur flags pairs i) (l : i < length old) where
   same : tree_at (trees cur) (record { 0 = i }) ≡ tree_at (trees old) (record { 0 = i })
   same = tree_grown old cur s.grows (record { 0 = i }) l
 
-  pub gather_next : (new : List Node) (more : List (TermId × TermId)) → Grows cur new → Gathers cur new pairs (record { 0 = i }) more → GatheredSoFar old new more (i + 1)
+  pub gather_next : (new : List Node) (more : List (TermId × TermId)) → Grows cur new → Gathers cur new pairs (record { 0 = i }) more → GatheredSoFar old new flags more (i + 1)
   gather_next new more g h = at h.found h.made h.added
     where
       grown : pairs_at new pairs ≡ pairs_at cur pairs
       grown = pairs_grown cur new g pairs s.pairs_in
 
-      seen_all : (j : ℕ) → j < i + 1 → SeesTerm old (record { 0 = j })
-      seen_all j k = elim (here_or_before j i k) [
+      seen_all : (j : ℕ) → j < i + 1 → slice_get flags j ≡ Some true → SeesTerm old (record { 0 = j })
+      seen_all j k o = elim (here_or_before j i k) [
         | inl p ↦ subst (λ (n : ℕ). SeesTerm old (record { 0 = n })) (sym p) (seen_before old cur s.grows (record { 0 = i }) l h.seen)
-        | inr p ↦ s.seen j p
+        | inr p ↦ s.seen j p o
       ]
 
-      at : (f : Option TermId) → IsPresent new (tree_at (trees cur) (record { 0 = i })) f → more ≡ with_present pairs (record { 0 = i }) f → GatheredSoFar old new more (i + 1)
-      at None is m = subst (λ (ps : List (TermId × TermId)). GatheredSoFar old new ps (i + 1)) (sym m) (record {
+      at : (f : Option TermId) → IsPresent new (tree_at (trees cur) (record { 0 = i })) f → more ≡ with_present pairs (record { 0 = i }) f → GatheredSoFar old new flags more (i + 1)
+      at None is m = subst (λ (ps : List (TermId × TermId)). GatheredSoFar old new flags ps (i + 1)) (sym m) (record {
         grows = grows_on old cur new s.grows g;
         pairs_in = pairs_in_grown cur new g pairs s.pairs_in;
         each = subst ArePresents (sym grown) s.each;
-        done = λ j q k e. elim (here_or_before j i k) [
+        done = λ j q k o e. elim (here_or_before j i k) [
           | inl p ↦
               let e2 : tree_at (trees cur) (record { 0 = i }) ≡ past_of q = same ∙ ap (λ n. tree_at (trees old) (record { 0 = n })) (sym p) ∙ e in
               let n : None ≡ Some (now_of q) = sym is ∙ ap present_tree e2 in
               cc
-          | inr p ↦ ap (λ ps. is_first ps (past_of q)) grown ∙ s.done j q p e
+          | inr p ↦ ap (λ ps. is_first ps (past_of q)) grown ∙ s.done j q p o e
         ];
         seen = seen_all;
       })
@@ -162,35 +182,60 @@ module _ (old cur : List Node) (pairs : List (TermId × TermId)) (i : ℕ) (s : 
           let all : pairs_at new (pairs ++ (record { 0 = i }, y) ∷ []) ≡ pairs_at cur pairs ++ (X, Y) ∷ [] =
           pairs_append new pairs ((record { 0 = i }, y) ∷ []) ∙ (λ j. grown j ++ (x_new j, Y) ∷ [])
           in
-          subst (λ (ps : List (TermId × TermId)). GatheredSoFar old new ps (i + 1)) (sym m) (record {
+          subst (λ (ps : List (TermId × TermId)). GatheredSoFar old new flags ps (i + 1)) (sym m) (record {
             grows = grows_on old cur new s.grows g;
             pairs_in = in_append new pairs ((record { 0 = i }, y) ∷ []) (pairs_in_grown cur new g pairs s.pairs_in) (in_grown cur new g (record { 0 = i }) x_in, is.0, tt);
             each = subst ArePresents (sym all) (presents_append (pairs_at cur pairs) ((X, Y) ∷ []) s.each ((p, e, f), tt));
-            done = λ j q k w. elim (here_or_before j i k) [
+            done = λ j q k o w. elim (here_or_before j i k) [
               | inl b ↦
                   let e2 : X ≡ past_of q = same ∙ ap (λ n. tree_at (trees old) (record { 0 = n })) (sym b) ∙ w in
                   let t : same_tree X (past_of q) ≡ true = ap (λ u. same_tree u (past_of q)) e2 ∙ same_tree-refl (past_of q) in
                   ap (λ ps. is_first ps (past_of q)) all ∙ first_append (pairs_at cur pairs) ((X, Y) ∷ []) (past_of q) ∙ or_right _ _ (ap (λ (b : Bool). if b then true else false) t)
-              | inr b ↦ ap (λ ps. is_first ps (past_of q)) all ∙ first_append (pairs_at cur pairs) ((X, Y) ∷ []) (past_of q) ∙ or_left _ _ (s.done j q b w)
+              | inr b ↦ ap (λ ps. is_first ps (past_of q)) all ∙ first_append (pairs_at cur pairs) ((X, Y) ∷ []) (past_of q) ∙ or_left _ _ (s.done j q b o w)
             ];
             seen = seen_all;
           })
 
-module _ (old cur : List Node) (pairs : List (TermId × TermId)) (n : ℕ) (s : GatheredSoFar old cur pairs n) (q : Part) where
-  below_all : (m j : ℕ) → j < m → j < n → list_any (same_part q) (pasts_in (tree_at (trees old) (record { 0 = j }))) ≡ true → is_first (pairs_at cur pairs) (past_of q) ≡ true
-  below_all zero j l k h = absurd (omega arith)
-  below_all (suc m) j l k h =
-      let t = s.seen j k in
+  pub gather_skip : (new : List Node) (more : List (TermId × TermId)) → Grows cur new → slice_get flags i ≡ Some false → more ≡ pairs → GatheredSoFar old new flags more (i + 1)
+  gather_skip new more g n m = subst (λ (ps : List (TermId × TermId)). GatheredSoFar old new flags ps (i + 1)) (sym m) (record {
+    grows = grows_on old cur new s.grows g;
+    pairs_in = pairs_in_grown cur new g pairs s.pairs_in;
+    each = subst ArePresents (sym grown) s.each;
+    done = λ j q k o e. elim (here_or_before j i k) [
+      | inl p ↦ absurd (unset j p o)
+      | inr p ↦ ap (λ ps. is_first ps (past_of q)) grown ∙ s.done j q p o e
+    ];
+    seen = λ j k o. elim (here_or_before j i k) [
+      | inl p ↦ absurd (unset j p o)
+      | inr p ↦ s.seen j p o
+    ];
+  })
+    where
+      grown : pairs_at new pairs ≡ pairs_at cur pairs
+      grown = pairs_grown cur new g pairs s.pairs_in
+
+      unset : (j : ℕ) → j ≡ i → slice_get flags j ≡ Some true → ⊥
+      unset j p o = let w : Some false ≡ Some true = sym n ∙ ap (slice_get flags) (sym p) ∙ o in cc
+
+  pub gather_turn : (new : List Node) (more : List (TermId × TermId)) (f : Bool) → Grows cur new → slice_get flags i ≡ Some f → GathersIf f cur new pairs (record { 0 = i }) more → GatheredSoFar old new flags more (i + 1)
+  gather_turn new more true g e h = gather_next new more g h
+  gather_turn new more false g e h = gather_skip new more g e h
+
+module _ (old cur : List Node) (c : TermId) (flags : List Bool) (r : Reaches old c flags) (pairs : List (TermId × TermId)) (n : ℕ) (s : GatheredSoFar old cur flags pairs n) (q : Part) where
+  below_all : (m j : ℕ) → j < m → j < n → slice_get flags j ≡ Some true → list_any (same_part q) (pasts_in (tree_at (trees old) (record { 0 = j }))) ≡ true → is_first (pairs_at cur pairs) (past_of q) ≡ true
+  below_all zero j l k o h = absurd (omega arith)
+  below_all (suc m) j l k o h =
+      let t = s.seen j k o in
       elim (past_under (trees old) j t.term q t.below (ap (λ u. list_any (same_part q) (pasts_in u)) t.shown ∙ h)) [
-        | inl e ↦ s.done j q k (sym t.shown ∙ e)
-        | inr r ↦ let low = r.lower in below_all m r.id (omega arith) (omega arith) r.there
+        | inl e ↦ s.done j q k o (sym t.shown ∙ e)
+        | inr b ↦ let low = b.lower in below_all m b.id (omega arith) (omega arith) (b.is_set flags (r.closed j t.term (omega arith) o t.at)) b.there
       ]
 
-pub gathered_all : (old cur : List Node) (pairs : List (TermId × TermId)) (c : TermId) (n : ℕ) → n ≡ c.0 + 1 → GatheredSoFar old cur pairs n → IsPresents cur (tree_at (trees old) c) pairs
-gathered_all old cur pairs c n e s = record {
+pub gathered_all : (old cur : List Node) (flags : List Bool) (pairs : List (TermId × TermId)) (c : TermId) (n : ℕ) → Reaches old c flags → n ≡ length flags → GatheredSoFar old cur flags pairs n → IsPresents cur (tree_at (trees old) c) pairs
+gathered_all old cur flags pairs c n r e s = record {
   pairs_in = s.pairs_in;
   each = s.each;
-  whole = λ q h. below_all old cur pairs n s q n c.0 (omega arith) (omega arith) h;
+  whole = λ q h. below_all old cur c flags r pairs n s q n c.0 (omega (arith, r.length_is)) (omega (arith, r.length_is)) r.top h;
 }
 
 -- ---- the pairs of a gate

@@ -1,5 +1,5 @@
 -- The values of terms at a valuation, by their ids.
-use Rattle.std.proofs.Common.{◌≡◌, ℕ, zero, suc, ◌+◌, ◌<◌, ◌≤◌, Bool, true, false, not, nat_lt, if◌then◌else◌, List, [], ◌∷◌, ◌++◌, length, get_or, refl, sym, ap, ◌∙◌, subst, inl, inr, ◌⊎◌, arith, Some, slice_get, length-append}
+use Rattle.std.proofs.Common.{◌≡◌, ℕ, zero, suc, ◌+◌, ◌-◌, ◌<◌, ◌≤◌, Bool, true, false, not, nat_lt, if◌then◌else◌, List, [], ◌∷◌, ◌++◌, length, take, drop, get_or, slice_set, refl, sym, ap, ◌∙◌, subst, inl, inr, ◌⊎◌, arith, Some, slice_get, length-append}
 use Rattle.std.specs.Cmp.{first_so, second_so}
 use Rattle.lh_types.specs.declared.op.Op.{Op}
 use Rattle.lh_types.specs.declared.val.Val.{Val}
@@ -15,28 +15,10 @@ use Rattle.lh_term.specs.Arena.{tree_at, trees, trees_at, terms_in, term_tree, i
 use Rattle.lh_term.proofs.Arenas.{lt_of}
 use Rattle.lh_edge.specs.Atoms.{is_one_bit, is_connective}
 use Rattle.lh_edge.specs.Valuations.{connected, holds, bits_of}
-use Rattle.lh_edge.specs.Steps.{joined_by, is_atom, AreMarked, ReachesFrom, values_at, AreValues, JoinedValues, numbered, table_from}
+use Rattle.lh_edge.specs.Steps.{joined_by, is_atom, AreMarked, ReachesFrom, Lists, with_set, values_at, AreValues, JoinedValues, numbered, table_from}
 use Rattle.lh_edge.proofs.Numbers.{table_push}
 
--- ---- the values so far
-
-pub record Holding (ns : List Node) (v : Tree → Bool) (flags values : List Bool) (i : ℕ) : Type 0 where
-  pub length_is : length values ≡ i
-  pub each : (j : ℕ) → j < i → slice_get flags j ≡ Some true → slice_get values j ≡ Some (holds v (tree_at (trees ns) (record { 0 = j })))
-
-pub holding_start : (ns : List Node) (v : Tree → Bool) (flags : List Bool) → Holding ns v flags [] 0
-holding_start ns v flags = record { length_is = refl; each = λ j l f. absurd (omega arith) }
-
-get_old : (xs : List Bool) (b : Bool) (j : ℕ) → j < length xs → slice_get (xs ++ b ∷ []) j ≡ slice_get xs j
-get_old [] b j l = absurd (omega arith)
-get_old (x ∷ xs) b zero l = refl
-get_old (x ∷ xs) b (suc j) l = get_old xs b j (omega arith)
-
-get_end : (xs : List Bool) (b : Bool) (j : ℕ) → j ≡ length xs → slice_get (xs ++ b ∷ []) j ≡ Some b
-get_end [] b zero e = refl
-get_end [] b (suc j) e = absurd (omega arith)
-get_end (x ∷ xs) b zero e = absurd (omega arith)
-get_end (x ∷ xs) b (suc j) e = get_end xs b j (omega arith)
+-- ---- ids whose flags are set
 
 here_or_before : (j i : ℕ) → j < i + 1 → (j ≡ i) ⊎ (j < i)
 here_or_before zero zero l = inl refl
@@ -44,34 +26,114 @@ here_or_before zero (suc i) l = inr (omega arith)
 here_or_before (suc j) zero l = absurd (omega arith)
 here_or_before (suc j) (suc i) l = elim (here_or_before j i (omega arith)) [ inl p ↦ inl (ap suc p) | inr p ↦ inr (omega arith) ]
 
-pub holding_next : (ns : List Node) (v : Tree → Bool) (flags values more : List Bool) (i : ℕ) (f b : Bool) → Holding ns v flags values i → slice_get flags i ≡ Some f
-    → (f ≡ true → b ≡ holds v (tree_at (trees ns) (record { 0 = i }))) → more ≡ values ++ b ∷ [] → Holding ns v flags more (i + 1)
-holding_next ns v flags values more i f b h at is m =
-    subst (λ (xs : List Bool). Holding ns v flags xs (i + 1)) (sym m) (record {
-      length_is = omega (arith, h.length_is, length-append values (b ∷ []));
-      each = λ j l g. elim (here_or_before j i l) [
-        | inl p ↦
-            let q : slice_get flags i ≡ Some true = ap (slice_get flags) (sym p) ∙ g in
-            let s : Some f ≡ Some true = sym at ∙ q in
-            let one : f ≡ true = cc in
-            get_end values b j (p ∙ sym h.length_is) ∙ ap Some (is one) ∙ ap (λ n. Some (holds v (tree_at (trees ns) (record { 0 = n })))) (sym p)
-        | inr p ↦ get_old values b j (omega (arith, h.length_is)) ∙ h.each j p g
-      ];
-    })
+get_there : (xs : List Bool) (i : ℕ) → i < length xs → slice_get xs i ≡ Some (get_or xs i false)
+get_there [] i l = absurd (omega arith)
+get_there (x ∷ xs) zero l = refl
+get_there (x ∷ xs) (suc i) l = get_there xs i (omega arith)
 
-are_values : (ns : List Node) (v : Tree → Bool) (flags values : List Bool) (i : ℕ) → Holding ns v flags values i → (xs : List TermId) → ids_below i xs ≡ true → AreMarked flags xs → AreValues ns v values xs
+lists_push : (flags : List Bool) (i n : ℕ) (xs : List TermId) → i ≤ n → slice_get flags n ≡ Some true → Lists flags i n xs → Lists flags i (n + 1) (xs ++ (record { 0 = n }) ∷ [])
+lists_push flags i n [] l f h = (l, omega arith, f, h, λ j a b s. absurd (omega arith))
+lists_push flags i n (x ∷ xs) l f h = (h.0, omega (arith, h.1), h.2, h.3, lists_push flags (x.0 + 1) n xs (omega (arith, h.1)) f h.4)
+
+lists_skip : (flags : List Bool) (i n : ℕ) (xs : List TermId) → slice_get flags n ≡ Some false → Lists flags i n xs → Lists flags i (n + 1) xs
+lists_skip flags i n [] f h = λ j a b s. elim (here_or_before j n b) [
+  | inl e ↦ let w : Some false ≡ Some true = sym f ∙ ap (slice_get flags) (sym e) ∙ s in cc
+  | inr q ↦ h j a q s
+]
+lists_skip flags i n (x ∷ xs) f h = (h.0, omega (arith, h.1), h.2, h.3, lists_skip flags (x.0 + 1) n xs f h.4)
+
+pub lists_start : (flags : List Bool) (xs : List TermId) → xs ≡ [] → Lists flags 0 0 xs
+lists_start flags xs e = subst (λ (ys : List TermId). Lists flags 0 0 ys) (sym e) (λ j a b s. absurd (omega arith))
+
+pub lists_next : (flags : List Bool) (n : ℕ) (xs more : List TermId) → n < length flags → more ≡ with_set flags n xs → Lists flags 0 n xs → Lists flags 0 (n + 1) more
+lists_next flags n xs more l e h = subst (λ (ys : List TermId). Lists flags 0 (n + 1) ys) (sym e) (at (get_or flags n false) (get_there flags n l))
+  where
+    at : (b : Bool) → slice_get flags n ≡ Some b → Lists flags 0 (n + 1) (if b then xs ++ (record { 0 = n }) ∷ [] else xs)
+    at true f = lists_push flags 0 n xs (omega arith) f h
+    at false f = lists_skip flags 0 n xs f h
+
+pub set_is : (flags : List Bool) (i : ℕ) (f : Bool) → slice_get flags i ≡ Some f → get_or flags i false ≡ f
+set_is [] i f e = cc
+set_is (x ∷ xs) zero f e = cc
+set_is (x ∷ xs) (suc i) f e = set_is xs i f e
+
+-- ---- the values so far
+
+-- the terms that are joined and stand before those that are left have their values
+pub record Holding (ns : List Node) (v : Tree → Bool) (flags values : List Bool) (left : List TermId) : Type 0 where
+  pub at : ℕ
+  pub length_is : length values ≡ length flags
+  pub listed : Lists flags at (length flags) left
+  pub each : (j : ℕ) → j < at → slice_get flags j ≡ Some true → slice_get values j ≡ Some (holds v (tree_at (trees ns) (record { 0 = j })))
+
+pub holding_start : (ns : List Node) (v : Tree → Bool) (flags values : List Bool) (left : List TermId) → length values ≡ length flags → Lists flags 0 (length flags) left → Holding ns v flags values left
+holding_start ns v flags values left e l = record { at = 0; length_is = e; listed = l; each = λ j k f. absurd (omega arith) }
+
+get_set : (xs : List Bool) (i : ℕ) (b : Bool) → i < length xs → slice_get (slice_set xs i b) i ≡ Some b
+get_set [] i b l = absurd (omega arith)
+get_set (x ∷ xs) zero b l = refl
+get_set (x ∷ xs) (suc i) b l = get_set xs i b (omega arith)
+
+get_before : (xs : List Bool) (i j : ℕ) (b : Bool) → j < i → slice_get (slice_set xs i b) j ≡ slice_get xs j
+get_before [] i j b l = refl
+get_before (x ∷ xs) zero j b l = absurd (omega arith)
+get_before (x ∷ xs) (suc i) zero b l = refl
+get_before (x ∷ xs) (suc i) (suc j) b l = get_before xs i j b (omega arith)
+
+set_length : (xs : List Bool) (i : ℕ) (b : Bool) → length (slice_set xs i b) ≡ length xs
+set_length [] i b = refl
+set_length (x ∷ xs) zero b = refl
+set_length (x ∷ xs) (suc i) b = omega (arith, set_length xs i b)
+
+at_or_after : (j i : ℕ) → (j < i) ⊎ (i ≤ j)
+at_or_after j zero = inr (omega arith)
+at_or_after zero (suc i) = inl (omega arith)
+at_or_after (suc j) (suc i) = elim (at_or_after j i) [ inl p ↦ inl (omega arith) | inr p ↦ inr (omega arith) ]
+
+take_whole : (xs : List TermId) → take (length xs) xs ≡ xs
+take_whole [] = refl
+take_whole (x ∷ xs) = ap (λ r. x ∷ r) (take_whole xs)
+
+are_values : (ns : List Node) (v : Tree → Bool) (flags values : List Bool) (i : ℕ) → ((j : ℕ) → j < i → slice_get flags j ≡ Some true → slice_get values j ≡ Some (holds v (tree_at (trees ns) (record { 0 = j }))))
+    → (xs : List TermId) → ids_below i xs ≡ true → AreMarked flags xs → AreValues ns v values xs
 are_values ns v flags values i h [] b m = tt
 are_values ns v flags values i h (x ∷ xs) b m =
-    (h.each x.0 (lt_of x.0 i (first_so (nat_lt x.0 i) (ids_below i xs) b)) m.0, are_values ns v flags values i h xs (second_so (nat_lt x.0 i) (ids_below i xs) b) m.1)
+    (h x.0 (lt_of x.0 i (first_so (nat_lt x.0 i) (ids_below i xs) b)) m.0, are_values ns v flags values i h xs (second_so (nat_lt x.0 i) (ids_below i xs) b) m.1)
 
--- what is joined of a term that is reached has its values
-pub joined_values : (ns : List Node) (e : TermId) (v : Tree → Bool) (flags values : List Bool) (i : ℕ) (f : Bool) → ReachesFrom ns e flags 0 → Holding ns v flags values i → slice_get flags i ≡ Some f → f ≡ true → JoinedValues ns v values (record { 0 = i })
-joined_values ns e v flags values i f r h at is = λ k g.
-    let c = r.closed i k (omega arith) (at ∙ ap Some is) g in
-    are_values ns v flags values i h (joined_by (trees ns) k) c.0.below c.1
+-- all joined terms before the first of those left have their values
+before_first : (ns : List Node) (v : Tree → Bool) (flags values : List Bool) (x : TermId) (left : List TermId) → Holding ns v flags values (x ∷ left) → (j : ℕ) → j < x.0 → slice_get flags j ≡ Some true → slice_get values j ≡ Some (holds v (tree_at (trees ns) (record { 0 = j })))
+before_first ns v flags values x left h j l f = elim (at_or_after j h.at) [ inl p ↦ h.each j p f | inr p ↦ absurd (h.listed.3 j p l f) ]
 
-pub holding_top : (ns : List Node) (e : TermId) (v : Tree → Bool) (flags values : List Bool) (i : ℕ) → ReachesFrom ns e flags 0 → length flags ≤ i → Holding ns v flags values i → slice_get values e.0 ≡ Some (holds v (tree_at (trees ns) e))
-holding_top ns e v flags values i r l h = h.each e.0 (omega (arith, r.length_is)) r.top
+module _ (ns : List Node) (e : TermId) (v : Tree → Bool) (flags values : List Bool) (r : ReachesFrom ns e flags 0) where
+  pub first_below : (left : List TermId) (d : TermId) → Holding ns v flags values left → 1 ≤ length left → (get_or left 0 d).0 < length flags
+  first_below [] d h l = absurd (omega arith)
+  first_below (x ∷ left) d h l = h.listed.1
+
+  -- what is joined of the first has its values
+  pub joined_values : (left : List TermId) (d : TermId) → Holding ns v flags values left → 1 ≤ length left → JoinedValues ns v values (get_or left 0 d)
+  joined_values [] d h l = absurd (omega arith)
+  joined_values (x ∷ left) d h l = λ k g.
+      let c = r.closed x.0 k (omega arith) h.listed.2 g in
+      are_values ns v flags values x.0 (before_first ns v flags values x left h) (joined_by (trees ns) k) c.0.below c.1
+
+  pub holding_next : (left : List TermId) (d : TermId) (more : List Bool) (b : Bool) → Holding ns v flags values left → 1 ≤ length left → b ≡ holds v (tree_at (trees ns) (get_or left 0 d)) → more ≡ slice_set values (get_or left 0 d).0 b
+      → Holding ns v flags more (take (length left - 1) (drop 1 left))
+  holding_next [] d more b h l i m = absurd (omega arith)
+  holding_next (x ∷ left) d more b h l i m =
+      let n : length (x ∷ left) - 1 ≡ length left = omega arith in
+      subst (λ (ys : List TermId). Holding ns v flags more ys) (sym (ap (λ k. take k left) n ∙ take_whole left)) (record {
+        at = x.0 + 1;
+        length_is = ap length m ∙ set_length values x.0 b ∙ h.length_is;
+        listed = h.listed.4;
+        each = λ j k f. elim (here_or_before j x.0 k) [
+          | inl p ↦ ap (λ xs. slice_get xs j) m ∙ ap (slice_get (slice_set values x.0 b)) p ∙ get_set values x.0 b (omega (arith, h.listed.1, h.length_is)) ∙ ap Some i ∙ ap (λ q. Some (holds v (tree_at (trees ns) (record { 0 = q })))) (sym p)
+          | inr p ↦ ap (λ xs. slice_get xs j) m ∙ get_before values x.0 j b p ∙ before_first ns v flags values x left h j p f
+        ];
+      })
+
+  pub holding_top : (left : List TermId) → length left ≡ 0 → Holding ns v flags values left → slice_get values e.0 ≡ Some (holds v (tree_at (trees ns) e))
+  holding_top [] n h = elim (at_or_after e.0 h.at) [ inl p ↦ h.each e.0 p r.top | inr p ↦ absurd (h.listed e.0 p (omega (arith, r.length_is)) r.top) ]
+  holding_top (x ∷ left) n h = absurd (omega arith)
 
 -- ---- the value of one term
 
@@ -165,6 +227,15 @@ module _ (ns : List Node) (v : Tree → Bool) (x : TermId) (k : Term) (shown : t
       get_value (c ∷ bs) (suc n) b e = get_value bs n b e
 
 -- ---- the table so far
+
+take_length : (n : ℕ) (xs : List Bool) → n ≤ length xs → length (take n xs) ≡ n
+take_length zero xs l = refl
+take_length (suc n) [] l = absurd (omega arith)
+take_length (suc n) (x ∷ xs) l = omega (arith, take_length n xs (omega arith))
+
+-- values that were written through a borrow are as many as before
+pub written_length : (n m : ℕ) (new old : List Bool) → length old ≡ n → n ≡ m → length new ≡ length old → length (take n (new ++ drop (length new) old)) ≡ m
+written_length n m new old e f g = take_length n (new ++ drop (length new) old) (omega (arith, e, g, length-append new (drop (length new) old))) ∙ f
 
 pub table_next : (atoms : List Tree) (e : Tree) (table more : List Bool) (k : ℕ) (b : Bool) → table ≡ table_from atoms e 0 k → b ≡ holds (numbered atoms k) e → more ≡ table ++ b ∷ [] → more ≡ table_from atoms e 0 (k + 1)
 table_next atoms e table more k b t h m =

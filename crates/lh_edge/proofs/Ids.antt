@@ -89,6 +89,10 @@ tell_next ns flags more i b t e m = subst (λ (fs : List Bool). TellSoFar ns fs 
   ];
 })
 
+-- flags stay as they are where terms are added
+pub tell_grown : (old new : List Node) (flags : List Bool) → Grows old new → length flags ≤ length old → TellPasts old flags → TellPasts new flags
+tell_grown old new flags g l t = λ i m. t i m ∙ ap (λ u. Some (contains_past u)) (sym (tree_grown old new g (record { 0 = i }) (omega arith)))
+
 -- ---- the conjunction so far
 
 pub record Conjoining (old cur : List Node) (flags : List Bool) (xs left : List TermId) (all : TermId) : Type 0 where

@@ -8,7 +8,8 @@ use Rattle.lh_term.specs.declared.term.Term.TheVariants.{Konst, Past, Now, Op as
 use Rattle.lh_term.specs.declared.term.Node.{Node}
 use Rattle.lh_term.specs.Tree.{Tree, constant, choice_of, tree_row, operation_on}
 use Rattle.lh_term.specs.Arena.{tree_at, trees, terms_in, term_tree, ids_below, IsIn}
-use Rattle.lh_term.proofs.Arenas.{lt_of, of_lt, get_within}
+use Rattle.lh_term.specs.Reach.{AllSet, Sets}
+use Rattle.lh_term.proofs.Arenas.{lt_of, of_lt, get_within, ids_more}
 use Rattle.lh_term.proofs.Walks.{get_set, set_keeps, set_here, set_length, replicate_length}
 use Rattle.lh_term.proofs.Swaps.{term_there}
 use Rattle.lh_edge.specs.Atoms.{is_one_bit, is_connective, subterms, subterms_in, has}
@@ -133,6 +134,31 @@ marked_sets flags (x ∷ xs) h =
       marked_keeps (set flags x.0 true) xs x.0 (set_here flags x.0 l),
       marked_sets (set flags x.0 true) xs (ap (λ n. ids_below n xs) (set_length flags x.0) ∙ second_so (nat_lt x.0 (length flags)) (ids_below (length flags) xs) h),
     )
+
+get_apart : (flags : List Bool) (i j : ℕ) → i < j → slice_get (set flags i true) j ≡ slice_get flags j
+get_apart [] i j l = refl
+get_apart (f ∷ fs) zero zero l = absurd (omega arith)
+get_apart (f ∷ fs) zero (suc j) l = refl
+get_apart (f ∷ fs) (suc i) zero l = absurd (omega arith)
+get_apart (f ∷ fs) (suc i) (suc j) l = get_apart fs i j (omega arith)
+
+marked_above : (n : ℕ) (flags : List Bool) (xs : List TermId) (i : ℕ) → ids_below n xs ≡ true → n ≤ i → slice_get (marked flags xs) i ≡ slice_get flags i
+marked_above n flags [] i b l = refl
+marked_above n flags (x ∷ xs) i b l =
+    let m : x.0 < n = lt_of x.0 n (first_so (nat_lt x.0 n) (ids_below n xs) b) in
+    marked_above n (set flags x.0 true) xs i (second_so (nat_lt x.0 n) (ids_below n xs) b) l ∙ get_apart flags x.0 i (omega arith)
+
+all_set : (flags : List Bool) (xs : List TermId) → AreMarked flags xs → AllSet flags xs
+all_set flags [] h = tt
+all_set flags (x ∷ xs) h = (h.0, all_set flags xs h.1)
+
+pub sets_marked : (x : TermId) (xs : List TermId) (old new : List Bool) → ids_below x.0 xs ≡ true → x.0 < length old → new ≡ marked old xs → Sets x xs old new
+sets_marked x xs old new b l e = subst (λ (fs : List Bool). Sets x xs old fs) (sym e) (record {
+  length_is = marked_length old xs;
+  keeps = λ i f. marked_keeps old xs i f;
+  from = λ i m. marked_above x.0 old xs i b m;
+  all = all_set (marked old xs) xs (marked_sets old xs (ids_more x.0 (length old) (omega arith) xs b));
+})
 
 marked_from : (flags : List Bool) (xs : List TermId) (j : ℕ) → slice_get (marked flags xs) j ≡ Some true → Among xs j ⊎ (slice_get flags j ≡ Some true)
 marked_from flags [] j e = inr e

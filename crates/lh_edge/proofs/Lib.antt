@@ -5,6 +5,7 @@ pub mod Meaning
 pub mod Firing
 pub mod Resting
 pub mod Numbers
+pub mod Sights
 pub mod Once
 pub mod Joined
 pub mod Held

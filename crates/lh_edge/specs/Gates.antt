@@ -1,12 +1,12 @@
 -- What the calls that make gates compute on the way.
-use Rattle.std.specs.Prelude.{◌≡◌, Bool, true, List, [], ◌∷◌, ◌++◌, if◌then◌else◌, Option, Some, None}
+use Rattle.std.specs.Prelude.{◌≡◌, Bool, true, false, slice_get, List, [], ◌∷◌, ◌++◌, if◌then◌else◌, Option, Some, None}
 use Rattle.std.specs.List.{list_any}
 use Rattle.lh_types.specs.Types.{int_type}
 use Rattle.lh_term.specs.declared.part.Part.{Part}
 use Rattle.lh_term.specs.declared.term.TermId.{TermId}
 use Rattle.lh_term.specs.declared.term.Term.{Term}
 use Rattle.lh_term.specs.declared.term.Node.{Node}
-use Rattle.lh_term.specs.Arena.{tree_at, trees, term_tree, term_below}
+use Rattle.lh_term.specs.Arena.{tree_at, trees, terms_in, term_tree, term_below}
 use Rattle.lh_term.specs.Tree.{Tree, past_of, now_of}
 use Rattle.lh_term.specs.Same.{same_part}
 use Rattle.lh_term.specs.Subst.{AreSwaps, PairsIn, pairs_at, is_first, swapped}
@@ -38,6 +38,7 @@ pub record MakesGate (ns : List Node) (rise : Bool) (p : Part) (c : Tree) (pairs
 -- a term of the arena by the ids of its operands, which are before it
 pub record SeesTerm (ns : List Node) (x : TermId) : Type 0 where
   pub term : Term
+  pub at : slice_get (terms_in ns) x.0 ≡ Some term
   pub shown : term_tree (trees ns) term ≡ tree_at (trees ns) x
   pub below : term_below x.0 term ≡ true
 
@@ -56,3 +57,8 @@ pub record Gathers (old new : List Node) (ps : List (TermId × TermId)) (x : Ter
   pub found : Option TermId
   pub made : IsPresent new (tree_at (trees old) x) found
   pub added : more ≡ with_present ps x found
+
+-- the same, if the term is to be added; else nothing was added
+abbrev pub GathersIf : Bool → (old new : List Node) → List (TermId × TermId) → TermId → List (TermId × TermId) → Type 0
+GathersIf true old new ps x more = Gathers old new ps x more
+GathersIf false old new ps x more = more ≡ ps

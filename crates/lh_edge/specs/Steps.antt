@@ -1,5 +1,5 @@
 -- What the calls compute on the way.
-use Rattle.std.specs.Prelude.{◌≡◌, ℕ, ◌+◌, ◌/◌, ◌%◌, ◌^◌, ◌<◌, ◌≤◌, Bool, true, false, not, ◌&&◌, ◌||◌, nat_eq, if◌then◌else◌, List, [], ◌∷◌, ◌++◌, length, map, slice_get, slice_index_or, slice_set, Option, Some, None}
+use Rattle.std.specs.Prelude.{◌≡◌, ℕ, ◌+◌, ◌/◌, ◌%◌, ◌^◌, ◌<◌, ◌≤◌, Bool, true, false, not, ◌&&◌, ◌||◌, nat_eq, bit_and, ◌*◌, if◌then◌else◌, List, [], ◌∷◌, ◌++◌, length, map, slice_get, slice_index_or, slice_set, Option, Some, None}
 use Rattle.std.specs.List.{list_any}
 use Rattle.std.proofs.Common.{Vec}
 use Rattle.std.proofs.Common.{zero, suc}
@@ -15,6 +15,7 @@ use Rattle.lh_edge.specs.Atoms.{contains_past, is_one_bit, is_connective, subter
 use Rattle.lh_edge.specs.Valuations.{differ, holds}
 use Rattle.lh_edge.specs.Shown.{can_show}
 use Rattle.lh_edge.specs.Triggers.{comes_first, with_part}
+use Rattle.lh_edge.specs.declared.shown.Sight.{Sight}
 
 -- ---- values before
 
@@ -63,6 +64,15 @@ pub record ReachesFrom (ns : List Node) (e : TermId) (flags : List Bool) (i : �
   pub top : slice_get flags e.0 ≡ Some true
   pub closed : (j : ℕ) (k : Term) → i ≤ j → slice_get flags j ≡ Some true → slice_get (terms_in ns) j ≡ Some k → IsTerm ns (record { 0 = j }) k × AreMarked flags (joined_by (trees ns) k)
   pub sound : (j : ℕ) (t : Tree) → slice_get flags j ≡ Some true → has (subterms (tree_at (trees ns) (record { 0 = j }))) t ≡ true → has (subterms (tree_at (trees ns) e)) t ≡ true
+
+-- the ids from i on and below n whose flags are set, in order
+abbrev pub Lists : List Bool → (i n : ℕ) → List TermId → Type 0
+Lists flags i n [] = (j : ℕ) → i ≤ j → j < n → slice_get flags j ≡ Some true → ⊥
+Lists flags i n (x ∷ xs) = (i ≤ x.0) × (x.0 < n) × (slice_get flags x.0 ≡ Some true) × ((j : ℕ) → i ≤ j → j < x.0 → slice_get flags j ≡ Some true → ⊥) × Lists flags (x.0 + 1) n xs
+
+-- ids with one more, if its flag is set
+abbrev pub with_set : List Bool → ℕ → List TermId → List TermId
+with_set flags i ids = if slice_index_or flags i false then ids ++ (record { 0 = i }) ∷ [] else ids
 
 -- ---- atoms
 
@@ -128,6 +138,49 @@ shows_at table atoms k p = differ (numbered atoms k (past_of p)) (numbered atoms
 abbrev pub shown_from : List Bool → List Tree → List Part → ℕ → List Bool → Bool
 shown_from table atoms parts k [] = true
 shown_from table atoms parts k (h ∷ hs) = (not h || list_any (shows_at table atoms k) parts) && shown_from table atoms parts (k + 1) hs
+
+-- ---- what a part shows, by bits of numbers
+
+-- whether a number has one of these bits
+abbrev pub has_bit : ℕ → ℕ → Bool
+has_bit k bit = not (nat_eq (bit_and k bit) 0)
+
+-- the bit of the first atom that is this term, or 0
+abbrev pub bit_of_atom : List Tree → Tree → ℕ
+bit_of_atom [] t = 0
+bit_of_atom (a ∷ more) t = if same_tree a t then 1 else 2 * bit_of_atom more t
+
+-- the bits of all atoms but the values before other than b
+abbrev pub kept_bits : Tree → List Tree → ℕ
+kept_bits b [] = 0
+kept_bits b (a ∷ more) = if is_other b a then 2 * kept_bits b more else 1 + 2 * kept_bits b more
+
+-- whether the table, from number j on, is true at each number that has, of the bits that are kept, those of c
+abbrev pub holds_where : (kept c j : ℕ) → List Bool → Bool
+holds_where kept c j [] = true
+holds_where kept c j (h ∷ hs) = (h || not (nat_eq c (bit_and j kept))) && holds_where kept c (j + 1) hs
+
+-- each flag tells it of its number
+pub record HoldsBy (table : List Bool) (kept : ℕ) (flags : List Bool) : Type 0 where
+  pub length_is : length flags ≡ length table
+  pub each : (c : ℕ) → c < length table → slice_index_or flags c false ≡ holds_where kept c 0 table
+
+-- how a part shows valuations
+pub record IsSight (table : List Bool) (atoms : List Tree) (p : Part) (s : Sight) : Type 0 where
+  pub before : s.before ≡ bit_of_atom atoms (past_of p)
+  pub after : s.after ≡ bit_of_atom atoms (now_of p)
+  pub kept : s.kept ≡ kept_bits (past_of p) atoms
+  pub holds : HoldsBy table s.kept s.holds.items
+
+-- the valuations that a part shows were marked
+pub record AddsShown (table : List Bool) (atoms : List Tree) (p : Part) (old new : List Bool) : Type 0 where
+  pub length_is : length new ≡ length old
+  pub each : (k : ℕ) → k < length table → slice_index_or new k false ≡ (slice_index_or old k false || shows_at table atoms k p)
+
+-- a valuation is marked where one of the parts shows it
+pub record AreMarks (table : List Bool) (atoms : List Tree) (parts : List Part) (shown : List Bool) : Type 0 where
+  pub length_is : length shown ≡ length table
+  pub each : (k : ℕ) → k < length table → slice_index_or shown k false ≡ list_any (shows_at table atoms k) parts
 
 -- the values of terms by their ids
 abbrev pub values_at : List Bool → List TermId → List Bool

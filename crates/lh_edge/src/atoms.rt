@@ -5,7 +5,7 @@ ghost use Rattle.lh_term.specs.Arena.{trees, tree_at, trees_at, ids_below, IsIn,
 ghost use Rattle.lh_edge.specs.Atoms as spec;
 ghost use Rattle.lh_edge.specs.Gates.{SeesTerm};
 ghost use Rattle.lh_edge.specs.Steps as step;
-ghost use Rattle.lh_edge.specs.Steps.{ReachesFrom, MarksJoined, FindsThe, found_items, with_atom, with_missing, IsPresent, AddsPresent};
+ghost use Rattle.lh_edge.specs.Steps.{ReachesFrom, MarksJoined, Lists, with_set, FindsThe, found_items, with_atom, with_missing, IsPresent, AddsPresent};
 
 use crate::pasts::put;
 use lh_term::term::{Term, TermId};
@@ -85,7 +85,7 @@ pub(crate) fn reached(alloc: Global, terms: &Terms, edge: TermId) -> Result<Vec<
 }
 
 /// Flags of which none is set.
-fn unset(alloc: Global, len: usize) -> Result<Vec<bool>, NoMemory>
+pub(crate) fn unset(alloc: Global, len: usize) -> Result<Vec<bool>, NoMemory>
     ensures { IfOk result (λ flags. flags.items ≡ replicate len false) }
 {
     match vec![in alloc; false; len] {
@@ -100,6 +100,28 @@ pub(crate) fn is_set(flags: &[bool], i: usize) -> bool
     ensures { slice_get flags.now i ≡ Some result }
 {
     flags[i]
+}
+
+/// The terms whose flags are set, in the order of their ids.
+pub(crate) fn set_ids(alloc: Global, flags: &[bool]) -> Result<Vec<TermId>, NoMemory>
+    ensures { IfOk result (λ ids. Lists flags.now 0 (length flags.now) ids.items) }
+{
+    let mut ids = Vec::new(alloc);
+    for i in 0..flags.len() {
+        add_set(flags, i, &mut ids)?;
+    }
+    Ok(ids)
+}
+
+/// Adds a term, if its flag is set.
+fn add_set(flags: &[bool], i: usize, ids: &mut Vec<TermId>) -> Result<(), NoMemory>
+    requires { i < length flags.now }
+    ensures { OnOk result (ids.new.items ≡ with_set flags.now i ids.old.items) }
+{
+    if is_set(flags, i) {
+        return put(ids, TermId(i));
+    }
+    Ok(())
 }
 
 /// Sets the flags of the terms that a connective joins.
@@ -124,7 +146,7 @@ fn mark_joined(terms: &Terms, x: TermId, flags: &mut [bool])
 }
 
 /// Sets the flags of some terms.
-fn mark_all(xs: &[TermId], flags: &mut [bool])
+pub(crate) fn mark_all(xs: &[TermId], flags: &mut [bool])
     requires { ids_below (length flags.old) xs.now ≡ true }
     ensures { flags.new ≡ step.marked flags.old xs.now }
 {

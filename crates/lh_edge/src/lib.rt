@@ -3,6 +3,7 @@
 
 mod atoms;
 pub mod laws;
+mod operands;
 pub mod pasts;
 mod shown;
 mod table;

@@ -25,11 +25,22 @@ pub fn past_flags(alloc: Global, terms: &Terms) -> Result<Vec<bool>, NoMemory>
     ensures all { IfOk result (λ flags. length flags.items ≡ length terms.now) }
 {
     let mut flags = Vec::new(alloc);
-    for i in 0..terms.len() {
-        let has_past = contains_past(terms, TermId(i), &flags);
-        put(&mut flags, has_past)?;
-    }
+    tell_rest(terms, &mut flags)?;
     Ok(flags)
+}
+
+/// Adds the flags of the terms that have none yet.
+pub(crate) fn tell_rest(terms: &Terms, flags: &mut Vec<bool>) -> Result<(), NoMemory>
+    requires tell { TellPasts terms.now flags.old.items }
+    requires some { length flags.old.items ≤ length terms.now }
+    ensures tell { OnOk result (TellPasts terms.now flags.new.items) }
+    ensures all { OnOk result (length flags.new.items ≡ length terms.now) }
+{
+    for i in flags.len()..terms.len() {
+        let has_past = contains_past(terms, TermId(i), flags);
+        put(flags, has_past)?;
+    }
+    Ok(())
 }
 
 /// Whether a value before is in a term, by the flags of the terms before it.
@@ -63,17 +74,18 @@ fn some_past(_terms: &Terms, xs: &[TermId], flags: &[bool]) -> bool
     false
 }
 
-/// The conjunction of the conjuncts that have a value before in them.
-pub(crate) fn edge_part(alloc: Global, terms: &mut Terms, cond: TermId) -> Result<TermId, NoMemory>
+/// The conjunction of the conjuncts that have a value before in them, by the flags of all terms.
+pub(crate) fn edge_part(terms: &mut Terms, cond: TermId, pasts: &[bool]) -> Result<TermId, NoMemory>
     requires is_in { IsIn terms.old cond }
     requires bit { type_of (tree_at (trees terms.old) cond) ≡ int_type 1 }
+    requires tell { TellPasts terms.old pasts.now }
+    requires all { length pasts.now ≡ length terms.old }
     ensures made { IfOk result (λ e. Stands terms.new e (spec.edge_part (tree_at (trees terms.old) cond))) }
     ensures kept { Grows terms.old terms.new }
 {
     let _typed = terms.view(cond);
-    let flags = past_flags(alloc, terms)?;
     let conjuncts = terms.conjuncts(cond)?;
-    conjoined(terms, conjuncts.as_slice(), &flags)
+    conjoined(terms, conjuncts.as_slice(), pasts)
 }
 
 /// The conjunction of those of some conditions that have a value before in them.

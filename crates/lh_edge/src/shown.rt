@@ -1,16 +1,19 @@
 //! Whether every valuation at which the edge part holds is shown by a part.
-ghost use Rattle.std.specs.Prelude.{◌≡◌, ◌<◌, true, false, not, ◌||◌, length, slice_index_or};
+ghost use Rattle.std.specs.Prelude.{◌≡◌, ◌<◌, ◌≤◌, ◌+◌, ◌*◌, ◌^◌, true, false, not, ◌||◌, if◌then◌else◌, length, replicate, slice_index_or, IfOk, OnOk};
 ghost use Rattle.std.specs.List.{list_any};
 ghost use Rattle.lh_term.specs.Tree.{past_of, now_of};
 ghost use Rattle.lh_term.specs.SameTree.{same_tree};
 ghost use Rattle.lh_term.specs.Arena.{trees, tree_at, trees_at, IsIn, AreIn};
 ghost use Rattle.lh_edge.specs.Steps as step;
-ghost use Rattle.lh_edge.specs.Steps.{numbered, IsKnown};
+ghost use Rattle.lh_edge.specs.Steps.{AddsShown, AreMarks, HoldsBy, IsKnown, IsSight};
 
+use crate::atoms::unset;
 use crate::table::differ;
 use lh_term::part::Part;
 use lh_term::term::{Term, TermId};
 use lh_term::terms::Terms;
+use lh_types::ty::NoMemory;
+use std::alloc::Global;
 
 /// What is known of the edge part: at which valuations of its atoms it holds, and in which terms a value before is.
 #[derive(Clone, Copy)]
@@ -21,121 +24,160 @@ pub(crate) struct Known<'a> {
     pub(crate) pasts: &'a [bool],
 }
 
+/// How a part shows valuations by their numbers: the bit of its value before and that of its value now, or 0 where it is no atom; the bits
+/// of the atoms that stay; and for each number of such bits whether the edge part holds wherever they are so.
+#[derive(Drop)]
+struct Sight {
+    before: usize,
+    after: usize,
+    kept: usize,
+    holds: Vec<bool>,
+}
+
 impl Known<'_> {
     /// Whether every valuation at which the edge part holds is shown by one of the parts.
-    pub(crate) fn are_shown(&self, parts: &[Part]) -> bool
-        requires { IsKnown self.now.terms.now self.now.atoms.now self.now.pasts.now }
-        ensures { result ≡ step.shown_from self.now.table.now (trees_at self.now.terms.now self.now.atoms.now) parts.now 0 self.now.table.now }
+    ///
+    /// It looks at each valuation twice for each part.
+    pub(crate) fn are_shown(&self, alloc: Global, parts: &[Part]) -> Result<bool, NoMemory>
+        requires known { IsKnown self.now.terms.now self.now.atoms.now self.now.pasts.now }
+        requires few { length self.now.atoms.now ≤ 12 }
+        ensures { IfOk result (λ all. all ≡ step.shown_from self.now.table.now (trees_at self.now.terms.now self.now.atoms.now) parts.now 0 self.now.table.now) }
+    {
+        let mut shown = unset(alloc, self.table.len())?;
+        let mut left = parts;
+        while let [part, rest @ ..] = left {
+            self.add_shown(alloc, part, &mut shown)?;
+            left = rest;
+        }
+        Ok(self.are_marked(parts, &shown))
+    }
+
+    /// Marks the valuations that a part shows.
+    fn add_shown(&self, alloc: Global, part: &Part, shown: &mut [bool]) -> Result<(), NoMemory>
+        requires known { IsKnown self.now.terms.now self.now.atoms.now self.now.pasts.now }
+        requires few { length self.now.atoms.now ≤ 12 }
+        requires len { length shown.old ≡ length self.now.table.now }
+        ensures { OnOk result (AddsShown self.now.table.now (trees_at self.now.terms.now self.now.atoms.now) part.now shown.old shown.new) }
+    {
+        let sight = self.sight_of(alloc, part)?;
+        for valuation in 0..self.table.len() {
+            if self.shows(part, &sight, valuation) {
+                shown[valuation] = true;
+            }
+        }
+        Ok(())
+    }
+
+    /// Whether every valuation at which the edge part holds is marked.
+    fn are_marked(&self, _parts: &[Part], shown: &[bool]) -> bool
+        requires { AreMarks self.now.table.now (trees_at self.now.terms.now self.now.atoms.now) _parts.now shown.now }
+        ensures { result ≡ step.shown_from self.now.table.now (trees_at self.now.terms.now self.now.atoms.now) _parts.now 0 self.now.table.now }
     {
         for valuation in 0..self.table.len() {
-            if !self.is_shown_or_false(parts, valuation) {
+            if !self.is_marked_or_false(_parts, shown, valuation) {
                 return false;
             }
         }
         true
     }
 
-    /// Whether the edge part does not hold at a valuation, or a part shows it.
-    fn is_shown_or_false(&self, parts: &[Part], valuation: usize) -> bool
-        requires known { IsKnown self.now.terms.now self.now.atoms.now self.now.pasts.now }
+    /// Whether the edge part does not hold at a valuation, or it is marked.
+    fn is_marked_or_false(&self, _parts: &[Part], shown: &[bool], valuation: usize) -> bool
+        requires marks { AreMarks self.now.table.now (trees_at self.now.terms.now self.now.atoms.now) _parts.now shown.now }
         requires within { valuation < length self.now.table.now }
-        ensures { result ≡ (not (slice_index_or self.now.table.now valuation false) || list_any (step.shows_at self.now.table.now (trees_at self.now.terms.now self.now.atoms.now) valuation) parts.now) }
+        ensures { result ≡ (not (slice_index_or self.now.table.now valuation false) || list_any (step.shows_at self.now.table.now (trees_at self.now.terms.now self.now.atoms.now) valuation) _parts.now) }
     {
-        !self.table[valuation] || self.is_shown(parts, valuation)
-    }
-
-    /// Whether a part shows a valuation.
-    fn is_shown(&self, parts: &[Part], valuation: usize) -> bool
-        requires { IsKnown self.now.terms.now self.now.atoms.now self.now.pasts.now }
-        ensures { result ≡ list_any (step.shows_at self.now.table.now (trees_at self.now.terms.now self.now.atoms.now) valuation) parts.now }
-    {
-        let mut left = parts;
-        while let [part, rest @ ..] = left {
-            if self.shows(part, valuation) {
-                return true;
-            }
-            left = rest;
-        }
-        false
+        !self.table[valuation] || shown[valuation]
     }
 
     /// Whether a part changes, and the edge part holds whatever the other atoms of the past are.
-    fn shows(&self, part: &Part, valuation: usize) -> bool
-        requires { IsKnown self.now.terms.now self.now.atoms.now self.now.pasts.now }
-        ensures { result ≡ step.shows_at self.now.table.now (trees_at self.now.terms.now self.now.atoms.now) valuation part.now }
+    fn shows(&self, _part: &Part, sight: &Sight, valuation: usize) -> bool
+        requires sight { IsSight self.now.table.now (trees_at self.now.terms.now self.now.atoms.now) _part.now sight.now }
+        requires within { valuation < length self.now.table.now }
+        ensures { result ≡ step.shows_at self.now.table.now (trees_at self.now.terms.now self.now.atoms.now) valuation _part.now }
     {
-        let before = self.past_bit(part, valuation);
-        let after = self.now_bit(part, valuation);
+        let before = has_bit(valuation, sight.before);
+        let after = has_bit(valuation, sight.after);
         if differ(before, after) {
-            return self.stays(part, valuation);
+            return sight.holds[valuation & sight.kept];
         }
         false
     }
 
-    /// The value of a part before at a valuation.
-    fn past_bit(&self, part: &Part, valuation: usize) -> bool
-        requires { IsKnown self.now.terms.now self.now.atoms.now self.now.pasts.now }
-        ensures { result ≡ numbered (trees_at self.now.terms.now self.now.atoms.now) valuation (past_of part.now) }
+    /// How a part shows valuations.
+    fn sight_of(&self, alloc: Global, part: &Part) -> Result<Sight, NoMemory>
+        requires known { IsKnown self.now.terms.now self.now.atoms.now self.now.pasts.now }
+        requires few { length self.now.atoms.now ≤ 12 }
+        ensures { IfOk result (IsSight self.now.table.now (trees_at self.now.terms.now self.now.atoms.now) part.now) }
     {
-        let mut bits = valuation;
-        let mut left = self.atoms;
-        while let [atom, rest @ ..] = left {
-            if is_before(self.terms, *atom, part) {
-                return bits % 2 == 1;
-            }
-            bits /= 2;
-            left = rest;
-        }
-        false
+        let before = self.past_bit(part);
+        let after = self.now_bit(part);
+        let kept = self.kept_bits(part);
+        let holds = self.holds_by(alloc, kept)?;
+        Ok(Sight {
+            before,
+            after,
+            kept,
+            holds,
+        })
     }
 
-    /// The value of a part now at a valuation.
-    fn now_bit(&self, part: &Part, valuation: usize) -> bool
-        requires { IsKnown self.now.terms.now self.now.atoms.now self.now.pasts.now }
-        ensures { result ≡ numbered (trees_at self.now.terms.now self.now.atoms.now) valuation (now_of part.now) }
+    /// The bit of a part's value before, or 0.
+    fn past_bit(&self, part: &Part) -> usize
+        requires known { IsKnown self.now.terms.now self.now.atoms.now self.now.pasts.now }
+        requires few { length self.now.atoms.now ≤ 12 }
+        ensures { result ≡ step.bit_of_atom (trees_at self.now.terms.now self.now.atoms.now) (past_of part.now) }
     {
-        let mut bits = valuation;
-        let mut left = self.atoms;
-        while let [atom, rest @ ..] = left {
-            if is_now(self.terms, *atom, part) {
-                return bits % 2 == 1;
-            }
-            bits /= 2;
-            left = rest;
+        let mut bit = 0;
+        let mut k = self.atoms.len();
+        while k > 0 {
+            k -= 1;
+            bit = first_or(is_before(self.terms, self.atoms[k], part), bit);
         }
-        false
+        bit
     }
 
-    /// Whether the edge part holds at each valuation that differs at most at atoms of the past other than the part's value before.
-    fn stays(&self, part: &Part, valuation: usize) -> bool
-        requires { IsKnown self.now.terms.now self.now.atoms.now self.now.pasts.now }
-        ensures { result ≡ step.stays_from (past_of part.now) (trees_at self.now.terms.now self.now.atoms.now) valuation 0 self.now.table.now }
+    /// The bit of a part's value now, or 0.
+    fn now_bit(&self, part: &Part) -> usize
+        requires known { IsKnown self.now.terms.now self.now.atoms.now self.now.pasts.now }
+        requires few { length self.now.atoms.now ≤ 12 }
+        ensures { result ≡ step.bit_of_atom (trees_at self.now.terms.now self.now.atoms.now) (now_of part.now) }
     {
-        for other in 0..self.table.len() {
-            if !self.table[other] && self.agree(part, valuation, other) {
-                return false;
-            }
+        let mut bit = 0;
+        let mut k = self.atoms.len();
+        while k > 0 {
+            k -= 1;
+            bit = first_or(is_now(self.terms, self.atoms[k], part), bit);
         }
-        true
+        bit
     }
 
-    /// Whether two valuations differ at most at atoms of the past other than the part's value before.
-    fn agree(&self, part: &Part, valuation: usize, other: usize) -> bool
-        requires { IsKnown self.now.terms.now self.now.atoms.now self.now.pasts.now }
-        ensures { result ≡ step.agree (past_of part.now) (trees_at self.now.terms.now self.now.atoms.now) valuation other }
+    /// The bits of the atoms that stay as they are where a part shows.
+    fn kept_bits(&self, part: &Part) -> usize
+        requires known { IsKnown self.now.terms.now self.now.atoms.now self.now.pasts.now }
+        requires few { length self.now.atoms.now ≤ 12 }
+        ensures { result ≡ step.kept_bits (past_of part.now) (trees_at self.now.terms.now self.now.atoms.now) }
     {
-        let mut these = valuation;
-        let mut those = other;
-        let mut left = self.atoms;
-        while let [atom, rest @ ..] = left {
-            if !self.is_other(part, *atom) && these % 2 != those % 2 {
-                return false;
-            }
-            these /= 2;
-            those /= 2;
-            left = rest;
+        let mut kept = 0;
+        let mut k = self.atoms.len();
+        while k > 0 {
+            k -= 1;
+            kept = kept_or(self.is_other(part, self.atoms[k]), kept);
         }
-        true
+        kept
+    }
+
+    /// For each number of such bits whether the edge part holds at all valuations that have these of the bits that are kept.
+    fn holds_by(&self, alloc: Global, kept: usize) -> Result<Vec<bool>, NoMemory>
+        ensures { IfOk result (λ holds. HoldsBy self.now.table.now kept holds.items) }
+    {
+        let mut holds = all_set(alloc, self.table.len())?;
+        for valuation in 0..self.table.len() {
+            if !self.table[valuation] {
+                holds[valuation & kept] = false;
+            }
+        }
+        Ok(holds)
     }
 
     /// Whether a value before is in an atom, and it is not that of the part.
@@ -179,5 +221,38 @@ fn is_now(terms: &Terms, x: TermId, part: &Part) -> bool
     match terms.view(x) {
         Term::Now(of) => *of == *part,
         _ => false,
+    }
+}
+
+/// Whether a number has this bit.
+fn has_bit(number: usize, bit: usize) -> bool
+    ensures { result ≡ step.has_bit number bit }
+{
+    number & bit != 0
+}
+
+/// The lowest bit where this atom is the one, else the bit found among those after it.
+fn first_or(is_it: bool, later: usize) -> usize
+    requires { later < 2 ^ 12 }
+    ensures { result ≡ (if is_it then 1 else 2 * later) }
+{
+    if is_it { 1 } else { 2 * later }
+}
+
+/// The bits of the atoms after one that are kept, with its own unless it is another of the past.
+fn kept_or(is_other: bool, later: usize) -> usize
+    requires { later < 2 ^ 12 }
+    ensures { result ≡ (if is_other then 2 * later else 1 + 2 * later) }
+{
+    if is_other { 2 * later } else { 1 + 2 * later }
+}
+
+/// Flags that are all set.
+fn all_set(alloc: Global, len: usize) -> Result<Vec<bool>, NoMemory>
+    ensures { IfOk result (λ flags. flags.items ≡ replicate len true) }
+{
+    match vec![in alloc; true; len] {
+        Ok(flags) => Ok(flags),
+        Err(_) => Err(NoMemory),
     }
 }

@@ -1,12 +1,12 @@
 //! At which valuations of its atoms the edge part holds. A valuation is a number, in which bit j is the value of atom j.
-ghost use Rattle.std.specs.Prelude.{◌≡◌, ◌<◌, ◌≤◌, ◌^◌, [], ◌∷◌, true, false, slice_index_or, if◌then◌else◌, length, slice_get, IfOk};
+ghost use Rattle.std.specs.Prelude.{◌≡◌, ◌<◌, ◌≤◌, ◌+◌, ◌^◌, [], ◌∷◌, true, false, slice_index_or, if◌then◌else◌, length, slice_get, IfOk};
 ghost use Rattle.lh_types.specs.ValueOf.{datum_of};
 ghost use Rattle.lh_term.specs.Make.{is_bit_value};
 ghost use Rattle.lh_term.specs.Arena.{trees, tree_at, trees_at, ids_below, IsIn, AreIn};
 ghost use Rattle.lh_edge.specs.Valuations as spec;
-ghost use Rattle.lh_edge.specs.Steps.{numbered, table_from, values_at, JoinedValues, ReachesFrom};
+ghost use Rattle.lh_edge.specs.Steps.{numbered, table_from, values_at, JoinedValues, Lists, ReachesFrom};
 
-use crate::atoms::{are_one_bit, connects, is_one_bit, is_set};
+use crate::atoms::{are_one_bit, connects, is_one_bit, unset};
 use crate::pasts::put;
 use lh_term::term::{Term, TermId};
 use lh_term::terms::Terms;
@@ -33,70 +33,59 @@ pub(crate) fn bit_of(terms: &Terms, atoms: &[TermId], x: TermId, valuation: usiz
     false
 }
 
-/// At each valuation whether the edge part holds, by the flags of what it is joined of.
+/// At each valuation whether the edge part holds, by the terms that it is joined of, in the order of their ids.
+///
+/// It looks at these terms alone, once for each valuation.
 pub(crate) fn truth_table(
     alloc: Global,
     terms: &Terms,
     edge: TermId,
-    flags: &[bool],
+    _flags: &[bool],
+    ids: &[TermId],
     atoms: &[TermId],
     size: usize,
 ) -> Result<Vec<bool>, NoMemory>
     requires is_in { IsIn terms.now edge }
     requires are_in { AreIn terms.now atoms.now }
-    requires reached { ReachesFrom terms.now edge flags.now 0 }
+    requires reached { ReachesFrom terms.now edge _flags.now 0 }
+    requires listed { Lists _flags.now 0 (length _flags.now) ids.now }
     ensures { IfOk result (λ table. table.items ≡ table_from (trees_at terms.now atoms.now) (tree_at (trees terms.now) edge) 0 size) }
 {
+    let _len = terms.len();
+    let mut values = unset(alloc, edge.0 + 1)?;
     let mut table = Vec::new(alloc);
     for valuation in 0..size {
-        let holds = holds_at(alloc, terms, edge, flags, atoms, valuation)?;
+        let holds = holds_at(terms, edge, _flags, ids, atoms, valuation, &mut values);
         put(&mut table, holds)?;
     }
     Ok(table)
 }
 
-/// Whether the edge part holds at a valuation.
+/// Whether the edge part holds at a valuation. The values of the terms that it is joined of are set on the way.
 fn holds_at(
-    alloc: Global,
     terms: &Terms,
     edge: TermId,
-    flags: &[bool],
+    _flags: &[bool],
+    ids: &[TermId],
     atoms: &[TermId],
     valuation: usize,
-) -> Result<bool, NoMemory>
+    values: &mut [bool],
+) -> bool
     requires is_in { IsIn terms.now edge }
     requires are_in { AreIn terms.now atoms.now }
-    requires reached { ReachesFrom terms.now edge flags.now 0 }
-    ensures { IfOk result (λ holds. holds ≡ spec.holds (numbered (trees_at terms.now atoms.now) valuation) (tree_at (trees terms.now) edge)) }
+    requires reached { ReachesFrom terms.now edge _flags.now 0 }
+    requires listed { Lists _flags.now 0 (length _flags.now) ids.now }
+    requires len { length values.old ≡ edge.0 + 1 }
+    ensures holds { result ≡ spec.holds (numbered (trees_at terms.now atoms.now) valuation) (tree_at (trees terms.now) edge) }
+    ensures len { length values.new ≡ length values.old }
 {
-    let mut values = Vec::new(alloc);
-    for i in 0..flags.len() {
-        let is_reached = is_set(flags, i);
-        let value = value_if(is_reached, terms, TermId(i), atoms, valuation, &values);
-        put(&mut values, value)?;
+    let mut left = ids;
+    while let [x, rest @ ..] = left {
+        let value = value_of(terms, *x, atoms, valuation, values);
+        values[x.0] = value;
+        left = rest;
     }
-    Ok(values[edge.0])
-}
-
-/// The value of a term at a valuation, if it is reached.
-fn value_if(
-    is_reached: bool,
-    terms: &Terms,
-    x: TermId,
-    atoms: &[TermId],
-    valuation: usize,
-    values: &[bool],
-) -> bool
-    requires is_in { IsIn terms.now x }
-    requires are_in { AreIn terms.now atoms.now }
-    requires before { x.0 ≤ length values.now }
-    requires joined { is_reached ≡ true → JoinedValues terms.now (numbered (trees_at terms.now atoms.now) valuation) values.now x }
-    ensures { is_reached ≡ true → result ≡ spec.holds (numbered (trees_at terms.now atoms.now) valuation) (tree_at (trees terms.now) x) }
-{
-    if !is_reached {
-        return false;
-    }
-    value_of(terms, x, atoms, valuation, values)
+    values[edge.0]
 }
 
 /// The value of a term at a valuation, by the values of what it joins.

@@ -8,14 +8,15 @@ ghost use Rattle.lh_term.specs.Arena.{trees, tree_at, trees_at, IsIn, AreIn, Sta
 ghost use Rattle.lh_term.specs.Subst.{PairsIn, pairs_at, is_first as first_in_pair};
 ghost use Rattle.lh_cover.specs.Runs.{IsCover};
 ghost use Rattle.lh_edge.specs.Answers.{Answers, AreTriggers, AddsTrigger};
-ghost use Rattle.lh_edge.specs.Gates.{AllBit, IsPresents, MakesGate, Gathers, with_pair};
+ghost use Rattle.lh_edge.specs.Gates.{AllBit, IsPresents, MakesGate, Gathers, GathersIf, with_pair};
 ghost use Rattle.lh_edge.specs.Shown as spec;
 ghost use Rattle.lh_edge.specs.Triggers as tri;
 ghost use Rattle.lh_edge.specs.Triggers.{in_order, with_part};
-ghost use Rattle.lh_edge.specs.Steps.{is_checked, showing_of, with_showing, place_in};
+ghost use Rattle.lh_edge.specs.Steps.{is_checked, TellPasts, showing_of, with_showing, place_in};
 
-use crate::atoms::{atoms_of, is_set, present_of, reached};
-use crate::pasts::{edge_part, past_flags, put, put_at};
+use crate::atoms::{atoms_of, is_set, present_of, reached, set_ids};
+use crate::operands::made_of;
+use crate::pasts::{edge_part, past_flags, put, put_at, tell_rest};
 use crate::shown::Known;
 use crate::table::truth_table;
 use lh_cover::Cover;
@@ -93,13 +94,15 @@ pub fn edges(
     ensures answers { Answers terms.new waited.now (tree_at (trees terms.old) cond) result }
     ensures kept { Grows terms.old terms.new }
 {
-    let edge = edge_part(alloc, terms, cond)?;
+    let mut pasts = past_flags(alloc, terms)?;
+    let edge = edge_part(terms, cond, &pasts)?;
     let Some(atoms) = atoms_of(alloc, terms, edge)? else {
         return Err(EdgeFault::TooManyAtoms);
     };
     let waited = Cover::new(alloc, waited)?;
     let parts = showing_parts(alloc, terms, &atoms, &waited)?;
-    if !is_edge_shown(alloc, terms, cond, edge, &atoms, &parts)? {
+    tell_rest(terms, &mut pasts)?;
+    if !is_edge_shown(alloc, terms, cond, edge, &atoms, &parts, &pasts)? {
         return Err(EdgeFault::NoEdge);
     }
     Ok(triggers(alloc, terms, cond, &parts)?)
@@ -113,26 +116,30 @@ fn is_edge_shown(
     edge: TermId,
     atoms: &[TermId],
     parts: &[Part],
+    pasts: &[bool],
 ) -> Result<bool, NoMemory>
     requires cond_in { IsIn terms.now cond }
     requires edge_in { IsIn terms.now edge }
     requires are_in { AreIn terms.now atoms.now }
     requires few { length atoms.now ≤ 12 }
+    requires tell { TellPasts terms.now pasts.now }
+    requires all { length pasts.now ≡ length terms.now }
     ensures { IfOk result (λ shown. shown ≡ is_checked (tree_at (trees terms.now) cond) (tree_at (trees terms.now) edge) (trees_at terms.now atoms.now) parts.now) }
 {
-    let pasts = past_flags(alloc, terms)?;
-    if !is_set(&pasts, cond.0) {
+    if !is_set(pasts, cond.0) {
         return Ok(false);
     }
     let flags = reached(alloc, terms, edge)?;
-    let table = truth_table(alloc, terms, edge, &flags, atoms, 1 << atoms.len())?;
+    let ids = set_ids(alloc, &flags)?;
+    let size = 1 << atoms.len();
+    let table = truth_table(alloc, terms, edge, &flags, &ids, atoms, size)?;
     let known = Known {
         terms,
         atoms,
         table: &table,
-        pasts: &pasts,
+        pasts,
     };
-    Ok(known.are_shown(parts))
+    known.are_shown(alloc, parts)
 }
 
 /// The parts that can show, in order of argument, then of lowest bit.
@@ -235,7 +242,7 @@ fn triggers(
     Ok(triggers)
 }
 
-/// The values before that can be in a condition, each with the value now.
+/// The values before in a condition, each with the value now.
 fn presents(
     alloc: Global,
     terms: &mut Terms,
@@ -245,12 +252,29 @@ fn presents(
     ensures made { IfOk result (λ pairs. IsPresents terms.new (tree_at (trees terms.old) cond) pairs.items) }
     ensures kept { Grows terms.old terms.new }
 {
-    let _len = terms.len();
+    let flags = made_of(alloc, terms, cond)?;
     let mut pairs = Vec::new(alloc);
-    for i in 0..cond.0 + 1 {
-        gather(terms, TermId(i), &mut pairs)?;
+    for i in 0..flags.len() {
+        gather_if(is_set(&flags, i), terms, TermId(i), &mut pairs)?;
     }
     Ok(pairs)
+}
+
+/// Adds a term that the condition is made of with the value now of the part whose value before it is.
+fn gather_if(
+    is_made: bool,
+    terms: &mut Terms,
+    x: TermId,
+    pairs: &mut Vec<(TermId, TermId)>,
+) -> Result<(), NoMemory>
+    requires { IsIn terms.old x }
+    ensures added { OnOk result (GathersIf is_made terms.old terms.new pairs.old.items x pairs.new.items) }
+    ensures kept { Grows terms.old terms.new }
+{
+    if !is_made {
+        return Ok(());
+    }
+    gather(terms, x, pairs)
 }
 
 /// Adds a term with the value now of the part whose value before it is.

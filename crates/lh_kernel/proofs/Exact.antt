@@ -30,8 +30,9 @@ use Rattle.lh_kernel.specs.declared.run.Activation.{Activation}
 use Rattle.lh_kernel.specs.States.{StatesFit, SensesSignal, WakesItself}
 use Rattle.lh_kernel.specs.Noted.{IsNotedFor}
 use Rattle.lh_kernel.specs.Ran.{ActOfOne, states_after}
-use Rattle.lh_kernel.specs.Moves.{IsMoveOf, AreMoves, OneMove, ComesTo, GoesFrom, WakeComes, WakeGoes, SensesFit, AreFresh, HasEntered, HasLeft}
+use Rattle.lh_kernel.specs.Moves.{IsMoveOf, EachMoves, AreMoves, OneMove, ComesTo, GoesFrom, WakeComes, WakeGoes, SensesFit, AreFresh, HasEntered, HasLeft}
 use Rattle.lh_kernel.proofs.Places.{are_within, fit_at, probed_at}
+use Rattle.lh_kernel.proofs.Relations.{with_same, without_same}
 
 -- what is known or is not
 bool_or : (b : Bool) → (b ≡ true) ⊎ (b ≡ false)
@@ -79,6 +80,9 @@ touches_or ss (b ∷ bits) k = elim (bit_or_not ss k b) [
     neither : (HasBit ss k b → ⊥) → (Touches ss bits k → ⊥) → (x : ℕ) → Has x (b ∷ bits) → HasBit ss k x → ⊥
     neither n m x (inl p) h = n (let P : ℕ → Type 0 = HasBit ss k in subst P (sym p) h)
     neither n m x (inr g) h = m (record { bit = x; among = g; has = h })
+
+flip : {P Q : Type 0} → (P ↔ Q) → (Q ↔ P)
+flip e = (e.1, e.0)
 
 -- what came beside what was, and without what went
 exact : {New Old Came Gone N N1 N2 : Type 0} → (Came ↔ (New × ¬ Old)) → (Gone ↔ (Old × ¬ New)) → (N ↔ Old) → (N1 ↔ (Came ⊎ N)) → (N2 ↔ (N1 × ¬ Gone)) → New ⊎ ¬ New → Old ⊎ ¬ Old → N2 ↔ New
@@ -144,7 +148,7 @@ pub record Rested (from : List InstState) (acts : List Activation) (ms : List Mo
   pub none : OneMove (λ (m : Move). m.instance ≡ k) ms → ⊥
 
 module _ (signals : List Signal) (probes : List (List Range)) (states : List InstState) where
-  later_none : (j : ℕ) (xs : List Activation) (ms : List Move) → AreMoves signals probes states xs ms → AreAbove j (map number_of xs) → OneMove (λ (m : Move). m.instance ≡ j) ms → ⊥
+  later_none : (j : ℕ) (xs : List Activation) (ms : List Move) → EachMoves signals probes states xs ms → AreAbove j (map number_of xs) → OneMove (λ (m : Move). m.instance ≡ j) ms → ⊥
   later_none j [] [] h a o = o
   later_none j [] (m ∷ ms) h a o = h
   later_none j (x ∷ xs) [] h a o = h
@@ -166,7 +170,7 @@ module _ (signals : List Signal) (probes : List (List Range)) (states : List Ins
       there (inl p) = absurd (d p.0)
       there (inr o) = r.0 o
 
-  pub acted_or : (from : List InstState) (xs : List Activation) (ms : List Move) (k : ℕ) → length from ≡ length states → AreMoves signals probes states xs ms → IsRising (map number_of xs) → Acted signals probes states from xs ms k ⊎ Rested from xs ms k
+  pub acted_or : (from : List InstState) (xs : List Activation) (ms : List Move) (k : ℕ) → length from ≡ length states → EachMoves signals probes states xs ms → IsRising (map number_of xs) → Acted signals probes states from xs ms k ⊎ Rested from xs ms k
   acted_or from [] [] k l h r = inr (record { after = refl; none = λ o. o })
   acted_or from [] (m ∷ ms) k l h r = absurd h
   acted_or from (x ∷ xs) [] k l h r = absurd h
@@ -268,10 +272,10 @@ module _ (a : Arena) (is : List Instance) (signals : List Signal) (ss : List Ins
   wakes_same xs ys k t e w = record { state = w.state; stands = sym e ∙ w.stands; wakes = w.wakes }
 
   -- what moves come to was not noted
-  pub fresh_moves : (n : Noted) (acts : List Activation) (ms : List Move) → IsNotedFor a is signals ss n → AreProbes a is ps → AreMoves signals ps ss acts ms → AreFresh ms n
-  fresh_moves n acts ms noted probed moves = record { senses = λ s k h g. apart acts ms moves s k h ((noted.senses s k).0 g); wakes = λ t k h g. awake acts ms moves t k h ((noted.wakes t k).0 g) }
+  fresh_each : (n : Noted) (acts : List Activation) (ms : List Move) → IsNotedFor a is signals ss n → AreProbes a is ps → EachMoves signals ps ss acts ms → AreFresh ms n
+  fresh_each n acts ms noted probed moves = record { senses = λ s k h g. apart acts ms moves s k h ((noted.senses s k).0 g); wakes = λ t k h g. awake acts ms moves t k h ((noted.wakes t k).0 g) }
     where
-      apart : (xs : List Activation) (ns : List Move) → AreMoves signals ps ss xs ns → (s k : ℕ) → ComesTo ns s k → SensesSignal a is signals ss s k → ⊥
+      apart : (xs : List Activation) (ns : List Move) → EachMoves signals ps ss xs ns → (s k : ℕ) → ComesTo ns s k → SensesSignal a is signals ss s k → ⊥
       apart [] [] h s k o w = o
       apart [] (m ∷ ns) h s k o w = h
       apart (x ∷ xs) [] h s k o w = h
@@ -282,7 +286,7 @@ module _ (a : Arena) (is : List Instance) (signals : List Signal) (ss : List Ins
           ((h.0.moves.came s).0 p.1).1 ((senses_by ss x.instance s h.0.state h.0.probed b h.0.is_kept).0 (subst P (sym e) w))
       apart (x ∷ xs) (m ∷ ns) h s k (inr o) w = apart xs ns h.1 s k o w
 
-      awake : (xs : List Activation) (ns : List Move) → AreMoves signals ps ss xs ns → (t : Instant) (k : ℕ) → WakeComes ns t k → WakesItself ss t k → ⊥
+      awake : (xs : List Activation) (ns : List Move) → EachMoves signals ps ss xs ns → (t : Instant) (k : ℕ) → WakeComes ns t k → WakesItself ss t k → ⊥
       awake [] [] h t k o w = o
       awake [] (m ∷ ns) h t k o w = h
       awake (x ∷ xs) [] h t k o w = h
@@ -292,7 +296,7 @@ module _ (a : Arena) (is : List Instance) (signals : List Signal) (ss : List Ins
           ((h.0.moves.wake_came t).0 p.1).1 ((wakes_by ss x.instance t h.0.state h.0.is_kept).0 (subst P (sym e) w))
       awake (x ∷ xs) (m ∷ ns) h t k (inr o) w = awake xs ns h.1 t k o w
 
-  module _ (n n1 n2 : Noted) (acts : List Activation) (ms : List Move) (noted : IsNotedFor a is signals ss n) (probed : AreProbes a is ps) (moves : AreMoves signals ps ss acts ms) (entered : HasEntered ms n n1) (left : HasLeft ms n1 n2) where
+  module _ (n n1 n2 : Noted) (acts : List Activation) (ms : List Move) (noted : IsNotedFor a is signals ss n) (probed : AreProbes a is ps) (moves : EachMoves signals ps ss acts ms) (entered : HasEntered ms n n1) (left : HasLeft ms n1 n2) where
     -- of an instance that was activated
     acted_senses : (s k : ℕ) → Acted signals ps ss ss acts ms k → Senses n2.index s k ↔ SensesSignal a is signals (states_after ss acts) s k
     acted_senses s k d =
@@ -337,12 +341,34 @@ module _ (a : Arena) (is : List Instance) (signals : List Signal) (ss : List Ins
         )
 
     -- what is noted then is exactly that of the states after the activations
-    pub noted_after : IsRising (map (λ (x : Activation). x.instance) acts) → IsNotedFor a is signals (states_after ss acts) n2
-    noted_after rising = record {
+    noted_each : IsRising (map (λ (x : Activation). x.instance) acts) → IsNotedFor a is signals (states_after ss acts) n2
+    noted_each rising = record {
       long = left.long ∙ entered.long ∙ noted.long;
       senses = λ s k. elim (acted_or signals ps ss ss acts ms k refl moves rising) [ inl d ↦ acted_senses s k d | inr r ↦ rested_senses s k r ];
       wakes = λ t k. elim (acted_or signals ps ss ss acts ms k refl moves rising) [ inl d ↦ acted_wakes t k d | inr r ↦ rested_wakes t k r ];
     }
+
+-- the same where some by which nothing comes or goes are left out
+pub fresh_moves : (a : Arena) (is : List Instance) (signals : List Signal) (ss : List InstState) (ps : List (List Range)) (n : Noted) (acts : List Activation) (ms : List Move) → IsNotedFor a is signals ss n → AreProbes a is ps → AreMoves signals ps ss acts ms → AreFresh ms n
+fresh_moves a is signals ss ps n acts ms noted probed moves =
+    let f = fresh_each a is signals ss ps n acts moves.all noted probed moves.each in
+    record { senses = λ s k h. f.senses s k ((moves.same.comes s k).1 h); wakes = λ t k h. f.wakes t k ((moves.same.wake_comes t k).1 h) }
+
+pub noted_after : (a : Arena) (is : List Instance) (signals : List Signal) (ss : List InstState) (ps : List (List Range)) (n n1 n2 : Noted) (acts : List Activation) (ms : List Move) → IsNotedFor a is signals ss n → AreProbes a is ps → AreMoves signals ps ss acts ms →
+    HasEntered ms n n1 → HasLeft ms n1 n2 → IsRising (map (λ (x : Activation). x.instance) acts) → IsNotedFor a is signals (states_after ss acts) n2
+noted_after a is signals ss ps n n1 n2 acts ms noted probed moves entered left rising =
+    let all = moves.all in
+    let entered_all : HasEntered all n n1 = record {
+      long = entered.long;
+      senses = with_same (ComesTo ms) (ComesTo all) (Senses n.index) (Senses n1.index) (λ s k. flip (moves.same.comes s k)) entered.senses;
+      wakes = with_same (WakeComes ms) (WakeComes all) (IsNoted n.wakes) (IsNoted n1.wakes) (λ t k. flip (moves.same.wake_comes t k)) entered.wakes;
+    } in
+    let left_all : HasLeft all n1 n2 = record {
+      long = left.long;
+      senses = without_same (GoesFrom ms) (GoesFrom all) (Senses n1.index) (Senses n2.index) (λ s k. flip (moves.same.goes s k)) left.senses;
+      wakes = without_same (WakeGoes ms) (WakeGoes all) (IsNoted n1.wakes) (IsNoted n2.wakes) (λ t k. flip (moves.same.wake_goes t k)) left.wakes;
+    } in
+    noted_each a is signals ss ps n n1 n2 acts all noted probed moves.each entered_all left_all rising
 
 -- what activations sensed and will sense lies within the signals
 pub senses_fit : (a : Arena) (width : ℕ) (t : Instant) (is : List Instance) (ss : List InstState) (ps : List (List Range)) (acts : List Activation) → StatesFit a width is ss → AreProbes a is ps → Each (λ (rs : List Range). Each (λ (r : Range). r.lo + r.len ≤ width) rs) ps →

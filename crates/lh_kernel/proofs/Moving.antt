@@ -1,5 +1,5 @@
 -- The moves of activations, one by one.
-use Rattle.std.proofs.Common.{◌≡◌, ◌≢◌, ℕ, ◌+◌, ◌<◌, ◌≤◌, List, [], ◌∷◌, ◌++◌, length, get_or, take, Bool, true, false, Option, Some, refl, ap, sym, ◌∙◌, subst, inl, inr}
+use Rattle.std.proofs.Common.{◌≡◌, ◌≢◌, ℕ, ◌+◌, ◌<◌, ◌≤◌, List, [], ◌∷◌, ◌++◌, length, get_or, take, Bool, true, false, Option, Some, None, refl, ap, sym, ◌∙◌, subst, ◌⊎◌, inl, inr}
 use Rattle.std.specs.Prelude.{◌↔◌, slice_get, nat_eq, ◌&&◌}
 use Rattle.std.specs.Bool.{Decides}
 use Rattle.std.specs.Cmp.Lexicographic.{pointwise}
@@ -14,13 +14,13 @@ use Rattle.lh_unit.specs.Within.{Each}
 use Rattle.lh_unit.proofs.Lists.{Each-item}
 use Rattle.lh_index.specs.Rising.{Has, HasOneMore}
 use Rattle.lh_design.specs.declared.Signal.{Signal}
-use Rattle.lh_change.specs.Touched.{Touches, AreTouched, AreWithin}
+use Rattle.lh_change.specs.Touched.{Touches, AreSignals, AreTouched, AreWithin}
 use Rattle.lh_change.proofs.Filled.{is_below}
 use Rattle.lh_states.specs.declared.state.InstState.{InstState}
 use Rattle.lh_states.specs.States.{parts_sensed, wake_kept}
 use Rattle.lh_kernel.specs.declared.noted.Move.{Move}
 use Rattle.lh_kernel.specs.declared.run.Activation.{Activation}
-use Rattle.lh_kernel.specs.Moves.{IsMove, IsMoveOf, AreMoves, AreBetween, SensesFit, MovesKnown}
+use Rattle.lh_kernel.specs.Moves.{IsMove, IsMoveOf, EachMoves, AreMoves, MoveTheSame, OneMove, AreBetween, SensesFit, SensesAsBefore, MovesKnown}
 use Rattle.lh_kernel.proofs.Relations.{has_next}
 
 -- those of the first numbers of a list that are not in the other
@@ -71,34 +71,114 @@ between_are signals left entered before after came gone b a c g = record {
   leaves = λ s. (λ h. ((b s).0 ((g s).0 h).0, λ t. ((g s).0 h).1 ((a s).1 t)), λ h. (g s).1 ((b s).1 h.0, λ t. h.1 ((a s).0 t)));
 }
 
+-- one of the moves, or of one more
+one_push : (P : Move → Type 0) (ms : List Move) (m : Move) → OneMove P (ms ++ m ∷ []) ↔ (OneMove P ms ⊎ P m)
+one_push P ms m = (there ms, back ms)
+  where
+    there : (ms : List Move) → OneMove P (ms ++ m ∷ []) → OneMove P ms ⊎ P m
+    there [] (inl p) = inr p
+    there [] (inr h) = absurd h
+    there (n ∷ ms) (inl p) = inl (inl p)
+    there (n ∷ ms) (inr h) = elim (there ms h) [ inl g ↦ inl (inr g) | inr q ↦ inr q ]
+
+    back : (ms : List Move) → OneMove P ms ⊎ P m → OneMove P (ms ++ m ∷ [])
+    back [] (inl h) = absurd h
+    back [] (inr q) = inl q
+    back (n ∷ ms) (inl (inl p)) = inl p
+    back (n ∷ ms) (inl (inr h)) = inr (back ms (inl h))
+    back (n ∷ ms) (inr q) = inr (back ms (inr q))
+
+-- of one more in both lists, and in the first alone where it is none of these
+both_push : (P : Move → Type 0) (all ms : List Move) (m : Move) → (OneMove P all ↔ OneMove P ms) → OneMove P (all ++ m ∷ []) ↔ OneMove P (ms ++ m ∷ [])
+both_push P all ms m e = (
+  λ h. (one_push P ms m).1 (elim ((one_push P all m).0 h) [ inl o ↦ inl (e.0 o) | inr p ↦ inr p ]),
+  λ h. (one_push P all m).1 (elim ((one_push P ms m).0 h) [ inl o ↦ inl (e.1 o) | inr p ↦ inr p ]),
+)
+
+none_push : (P : Move → Type 0) (all ms : List Move) (m : Move) → ¬ P m → (OneMove P all ↔ OneMove P ms) → OneMove P (all ++ m ∷ []) ↔ OneMove P ms
+none_push P all ms m n e = (λ h. elim ((one_push P all m).0 h) [ inl o ↦ e.0 o | inr p ↦ absurd (n p) ], λ h. (one_push P all m).1 (inl (e.1 h)))
+
+same_push : (all ms : List Move) (m : Move) → MoveTheSame all ms → MoveTheSame (all ++ m ∷ []) (ms ++ m ∷ [])
+same_push all ms m e = record {
+  comes = λ s k. both_push (λ (n : Move). (n.instance ≡ k) × Has s n.came) all ms m (e.comes s k);
+  goes = λ s k. both_push (λ (n : Move). (n.instance ≡ k) × Has s n.gone) all ms m (e.goes s k);
+  wake_comes = λ t k. both_push (λ (n : Move). (n.instance ≡ k) × (n.wake_came ≡ Some t)) all ms m (e.wake_comes t k);
+  wake_goes = λ t k. both_push (λ (n : Move). (n.instance ≡ k) × (n.wake_gone ≡ Some t)) all ms m (e.wake_goes t k);
+}
+
+-- the move of an instance by which nothing comes or goes
+abbrev still : ℕ → Move
+still k = record { instance = k; came = []; gone = []; wake_came = None; wake_gone = None }
+
+none_some : (t : Instant) → None ≡ Some t → ⊥
+none_some t e = cc
+
+same_still : (all ms : List Move) (j : ℕ) → MoveTheSame all ms → MoveTheSame (all ++ still j ∷ []) ms
+same_still all ms j e = record {
+  comes = λ s k. none_push (λ (n : Move). (n.instance ≡ k) × Has s n.came) all ms (still j) (λ h. h.1) (e.comes s k);
+  goes = λ s k. none_push (λ (n : Move). (n.instance ≡ k) × Has s n.gone) all ms (still j) (λ h. h.1) (e.goes s k);
+  wake_comes = λ t k. none_push (λ (n : Move). (n.instance ≡ k) × (n.wake_came ≡ Some t)) all ms (still j) (λ h. none_some t h.1) (e.wake_comes t k);
+  wake_goes = λ t k. none_push (λ (n : Move). (n.instance ≡ k) × (n.wake_gone ≡ Some t)) all ms (still j) (λ h. none_some t h.1) (e.wake_goes t k);
+}
+
+-- so it moves where it senses and wakes as before
+still_moves : (signals : List Signal) (probes : List Range) (k : ℕ) (old new : InstState) → SensesAsBefore old new → IsMove signals probes k old new (still k)
+still_moves signals probes k old new e =
+    let P : List Range → Type 0 = λ rs. (s : ℕ) → Touches signals (bit_numbers rs) s → Touches signals (bit_numbers (parts_sensed old probes)) s in
+    let Q : List Range → Type 0 = λ rs. (s : ℕ) → Touches signals (bit_numbers (parts_sensed old probes)) s → Touches signals (bit_numbers rs) s in
+    let back : P (parts_sensed new probes) = subst P (sym (e.parts probes)) (λ s t. t) in
+    let on : Q (parts_sensed new probes) = subst Q (sym (e.parts probes)) (λ s t. t) in
+    record {
+      instance = refl;
+      came = λ s. (λ h. absurd h, λ h. h.1 (back s h.0));
+      gone = λ s. (λ h. absurd h, λ h. h.1 (on s h.0));
+      wake_came = λ t. (λ h. absurd (none_some t h), λ h. absurd (h.1 (sym e.wake ∙ h.0)));
+      wake_gone = λ t. (λ h. absurd (none_some t h), λ h. absurd (h.1 (e.wake ∙ h.0)));
+    }
+
+-- moves whose signals are known, and one more
+known_push : (signals : List Signal) (ms : List Move) (m : Move) → MovesKnown signals ms → AreSignals signals m.came → AreSignals signals m.gone → MovesKnown signals (ms ++ m ∷ [])
+known_push signals [] m k c g = (c, g, tt)
+known_push signals (n ∷ ms) m k c g = (k.0, k.1, known_push signals ms m k.2 c g)
+
 -- activation by activation
 module _ (signals : List Signal) (probes : List (List Range)) (states : List InstState) where
-  moves_push : (xs : List Activation) (ms : List Move) (x : Activation) (m : Move) → AreMoves signals probes states xs ms → IsMoveOf signals probes states x m → AreMoves signals probes states (xs ++ x ∷ []) (ms ++ m ∷ [])
+  -- the moves of some activations, with known signals
+  abbrev pub AreKnownMoves : List Activation → List Move → Type 0
+  AreKnownMoves acts ms = AreMoves signals probes states acts ms × MovesKnown signals ms
+
+  moves_push : (xs : List Activation) (ms : List Move) (x : Activation) (m : Move) → EachMoves signals probes states xs ms → IsMoveOf signals probes states x m → EachMoves signals probes states (xs ++ x ∷ []) (ms ++ m ∷ [])
   moves_push [] [] x m h g = (g, tt)
   moves_push [] (n ∷ ms) x m h g = absurd h
   moves_push (y ∷ xs) [] x m h g = absurd h
   moves_push (y ∷ xs) (n ∷ ms) x m h g = (h.0, moves_push xs ms x m h.1 g)
 
-  pub moves_next : (acts : List Activation) (i : ℕ) (x : Activation) (ms new : List Move) (m : Move) → i < length acts → x ≡ get_or acts i x → AreMoves signals probes states (take i acts) ms → IsMoveOf signals probes states x m → new ≡ ms ++ m ∷ [] →
-      AreMoves signals probes states (take (i + 1) acts) new
+  pub moves_none : (ms : List Move) → ms ≡ [] → AreKnownMoves [] ms
+  moves_none ms e =
+      let none : AreKnownMoves [] [] = (record { all = []; each = tt; same = record { comes = λ s k. (λ h. h, λ h. h); goes = λ s k. (λ h. h, λ h. h); wake_comes = λ t k. (λ h. h, λ h. h); wake_goes = λ t k. (λ h. h, λ h. h) } }, tt) in
+      subst (AreKnownMoves []) (sym e) none
+
+  pub moves_next : (acts : List Activation) (i : ℕ) (x : Activation) (ms new : List Move) (m : Move) → i < length acts → x ≡ get_or acts i x → AreKnownMoves (take i acts) ms → IsMoveOf signals probes states x m → new ≡ ms ++ m ∷ [] →
+      AreKnownMoves (take (i + 1) acts) new
   moves_next acts i x ms new m l e h g n =
       let s : take (i + 1) acts ≡ take i acts ++ x ∷ [] = take_more acts i x l ∙ ap (λ (y : Activation). take i acts ++ y ∷ []) (sym e) in
-      let P : List Activation → Type 0 = λ xs. AreMoves signals probes states xs new in
-      let Q : List Move → Type 0 = λ ns. AreMoves signals probes states (take i acts ++ x ∷ []) ns in
-      subst P (sym s) (subst Q (sym n) (moves_push (take i acts) ms x m h g))
+      let P : List Activation → Type 0 = λ xs. AreKnownMoves xs new in
+      let Q : List Move → Type 0 = λ ns. AreKnownMoves (take i acts ++ x ∷ []) ns in
+      let c : AreSignals signals m.came = λ k o. let t = ((g.moves.came k).0 o).0 in is_below signals k t.bit t.has in
+      let d : AreSignals signals m.gone = λ k o. let t = ((g.moves.gone k).0 o).0 in is_below signals k t.bit t.has in
+      subst P (sym s) (subst Q (sym n) (record { all = h.0.all ++ m ∷ []; each = moves_push (take i acts) h.0.all x m h.0.each g; same = same_push h.0.all ms m h.0.same }, known_push signals ms m h.1 c d))
 
-  pub moves_all : (acts : List Activation) (i : ℕ) (ms : List Move) → length acts ≤ i → AreMoves signals probes states (take i acts) ms → AreMoves signals probes states acts ms
-  moves_all acts i ms l h = let P : List Activation → Type 0 = λ xs. AreMoves signals probes states xs ms in subst P (take_all i acts l) h
+  -- where nothing moves by the next one
+  pub moves_still : (acts : List Activation) (i : ℕ) (x : Activation) (ms : List Move) (probed : List Range) (state : InstState) → i < length acts → x ≡ get_or acts i x → AreKnownMoves (take i acts) ms →
+      slice_get probes x.instance ≡ Some probed → slice_get states x.instance ≡ Some state → SensesAsBefore state x.act.next → AreKnownMoves (take (i + 1) acts) ms
+  moves_still acts i x ms probed state l e h p q b =
+      let s : take (i + 1) acts ≡ take i acts ++ x ∷ [] = take_more acts i x l ∙ ap (λ (y : Activation). take i acts ++ y ∷ []) (sym e) in
+      let P : List Activation → Type 0 = λ xs. AreKnownMoves xs ms in
+      let g : IsMoveOf signals probes states x (still x.instance) = record { probed = probed; state = state; is_probed = p; is_kept = q; moves = still_moves signals probed x.instance state x.act.next b } in
+      subst P (sym s) (record { all = h.0.all ++ still x.instance ∷ []; each = moves_push (take i acts) h.0.all x (still x.instance) h.0.each g; same = same_still h.0.all ms x.instance h.0.same }, h.1)
 
-  pub moves_known : (acts : List Activation) (ms : List Move) → AreMoves signals probes states acts ms → MovesKnown signals ms
-  moves_known [] [] h = tt
-  moves_known [] (m ∷ ms) h = absurd h
-  moves_known (x ∷ xs) [] h = absurd h
-  moves_known (x ∷ xs) (m ∷ ms) h = (
-    λ k g. let t = ((h.0.moves.came k).0 g).0 in is_below signals k t.bit t.has,
-    λ k g. let t = ((h.0.moves.gone k).0 g).0 in is_below signals k t.bit t.has,
-    moves_known xs ms h.1,
-  )
+  pub moves_all : (acts : List Activation) (i : ℕ) (ms : List Move) → length acts ≤ i → AreKnownMoves (take i acts) ms → AreKnownMoves acts ms
+  moves_all acts i ms l h = let P : List Activation → Type 0 = λ xs. AreKnownMoves xs ms in subst P (take_all i acts l) h
 
   -- what is read of the instance of an activation
   pub record ReadAt (width : ℕ) (x : Activation) (dp : List Range) (ds : InstState) : Type 0 where

@@ -46,10 +46,10 @@ pub record IsMoveOf (signals : List Signal) (probes : List (List Range)) (states
   pub moves : IsMove signals probed x.instance state x.act.next m
 
 -- the moves of activations, one by one
-abbrev pub AreMoves : (signals : List Signal) → (probes : List (List Range)) → (states : List InstState) → List Activation → List Move → Type 0
-AreMoves signals probes states [] [] = Unit {0}
-AreMoves signals probes states (x ∷ xs) (m ∷ ms) = IsMoveOf signals probes states x m × AreMoves signals probes states xs ms
-AreMoves signals probes states _ _ = ⊥
+abbrev pub EachMoves : (signals : List Signal) → (probes : List (List Range)) → (states : List InstState) → List Activation → List Move → Type 0
+EachMoves signals probes states [] [] = Unit {0}
+EachMoves signals probes states (x ∷ xs) (m ∷ ms) = IsMoveOf signals probes states x m × EachMoves signals probes states xs ms
+EachMoves signals probes states _ _ = ⊥
 
 -- one of the moves is so
 abbrev pub OneMove : (Move → Type 0) → List Move → Type 0
@@ -68,6 +68,24 @@ WakeComes moves t k = OneMove (λ (m : Move). (m.instance ≡ k) × (m.wake_came
 
 abbrev pub WakeGoes : List Move → Instant → (k : ℕ) → Type 0
 WakeGoes moves t k = OneMove (λ (m : Move). (m.instance ≡ k) × (m.wake_gone ≡ Some t)) moves
+
+-- what comes and goes by the ones does by the others
+pub record MoveTheSame (all some : List Move) : Type 0 where
+  pub comes : (signal k : ℕ) → ComesTo all signal k ↔ ComesTo some signal k
+  pub goes : (signal k : ℕ) → GoesFrom all signal k ↔ GoesFrom some signal k
+  pub wake_comes : (t : Instant) (k : ℕ) → WakeComes all t k ↔ WakeComes some t k
+  pub wake_goes : (t : Instant) (k : ℕ) → WakeGoes all t k ↔ WakeGoes some t k
+
+-- the moves of activations, of which some by which nothing comes or goes may be left out
+pub record AreMoves (signals : List Signal) (probes : List (List Range)) (states : List InstState) (acts : List Activation) (moves : List Move) : Type 0 where
+  pub all : List Move
+  pub each : EachMoves signals probes states acts all
+  pub same : MoveTheSame all moves
+
+-- an instance senses and wakes by itself as before
+pub record SensesAsBefore (old new : InstState) : Type 0 where
+  pub parts : (probes : List Range) → parts_sensed new probes ≡ parts_sensed old probes
+  pub wake : wake_kept new ≡ wake_kept old
 
 -- the signals of moves are signals of the design
 abbrev pub MovesKnown : (signals : List Signal) → List Move → Type 0

@@ -1,12 +1,12 @@
 //! The moves of what is noted, by activations.
-ghost use Rattle.std.specs.Prelude.{◌≡◌, ◌≢◌, ◌↔◌, ℕ, Some, length, IfOk};
+ghost use Rattle.std.specs.Prelude.{◌≡◌, ◌≢◌, ◌↔◌, ℕ, Some, length, IfOk, IsTrue};
 ghost use Rattle.lh_unit.specs.World.{bit_numbers};
 ghost use Rattle.lh_unit.specs.Within.{Each};
 ghost use Rattle.lh_index.specs.Rising.{Has};
 ghost use Rattle.lh_design.specs.Filling.{SignalsFill};
 ghost use Rattle.lh_change.specs.Touched.{Touches, AreWithin};
 ghost use Rattle.lh_states.specs.States.{parts_sensed};
-ghost use Rattle.lh_kernel.specs.Moves.{IsMove, AreMoves, MovesKnown, AreBetween, SensesFit};
+ghost use Rattle.lh_kernel.specs.Moves.{IsMove, AreMoves, MovesKnown, AreBetween, SensesFit, SensesAsBefore};
 
 use crate::noted::Move;
 use crate::run::Activation;
@@ -19,7 +19,7 @@ use lh_types::part::{Range, RangeList};
 use lh_types::ty::NoMemory;
 use std::alloc::Global;
 
-/// What changes of what is noted where these instances did this.
+/// What changes of what is noted where these instances did this. Nothing does of an entity: it senses what it probes.
 pub(crate) fn moves_of(
     alloc: Global,
     design: &Design,
@@ -35,10 +35,22 @@ pub(crate) fn moves_of(
     let mut moves = Vec::new(alloc);
     for done in acts {
         let k = done.instance as usize;
-        let (probed, old) = (&probes[k], &states[k]);
-        moves.push(move_of(alloc, design, probed, done.instance, old, &done.act.next)?)?;
+        let (probed, old, new) = (&probes[k], &states[k], &done.act.next);
+        if !senses_as_before(old, new) {
+            moves.push(move_of(alloc, design, probed, done.instance, old, new)?)?;
+        }
     }
     Ok(moves)
+}
+
+/// Whether it is seen without a look at the parts that an instance senses and wakes by itself as before.
+fn senses_as_before(old: &InstState, new: &InstState) -> bool
+    ensures { IsTrue result → SensesAsBefore old.now new.now }
+{
+    match (old, new) {
+        (InstState::Entity(_), InstState::Entity(_)) => true,
+        _ => false,
+    }
 }
 
 /// What changes of what is noted of one instance, where its old state is followed by a new one.

@@ -1,5 +1,5 @@
 //! The runs of the instances that a frame wakes.
-ghost use Rattle.std.specs.Prelude.{◌≡◌, ◌<◌, ◌≤◌, ◌++◌, ℕ, List, map, length, IfOk, OnErr};
+ghost use Rattle.std.specs.Prelude.{◌≡◌, ◌<◌, ◌≤◌, ◌++◌, ℕ, List, [], map, length, IfOk, OnErr};
 ghost use Rattle.lh_types.specs.Raised.{raised};
 ghost use Rattle.lh_types.specs.declared.frame.Outcome as outcome;
 ghost use Rattle.lh_unit.specs.World.{State};
@@ -58,7 +58,7 @@ pub(crate) fn run_all<T: Tally>(
     ensures tally { IfOk result (λ r. T.count tally.new ≡ raised (T.count tally.old) (activated_count r.runaway woken.now)) }
     ensures err { OnErr result ((n : ℕ) × (n ≤ length woken.now) × (T.count tally.new ≡ raised (T.count tally.old) n)) }
 {
-    let mut acts = Vec::new(alloc);
+    let mut acts = list_for(alloc, woken.len());
     for &instance in woken {
         let k = instance as usize;
         match run_instance(alloc, m, &design.instances()[k], &states[k], now, at, tally) {
@@ -76,6 +76,16 @@ pub(crate) fn run_all<T: Tally>(
         acts,
         runaway: None,
     })
+}
+
+/// An empty list, with room for so many where there is memory for it.
+fn list_for(alloc: Global, count: usize) -> Vec<Activation>
+    ensures { result.items ≡ [] }
+{
+    match Vec::with_capacity(alloc, count) {
+        Ok(list) => list,
+        Err(_) => Vec::new(alloc),
+    }
 }
 
 /// The outcomes of activations, by instance and then by execution.

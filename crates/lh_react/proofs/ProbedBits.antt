@@ -1,5 +1,5 @@
--- A value that is what a `prb` of an argument gives, by ids.
-use Rattle.std.proofs.Common.{◌≡◌, ℕ, zero, suc, ◌+◌, ◌<◌, ◌≤◌, inl, inr, List, [], ◌∷◌, length, get_or, set, replicate, map, take, drop, Bool, true, false, if◌then◌else◌, ◌||◌, Option, Some, None, IsSome, refl, ap, sym, ◌∙◌, subst, arith}
+-- A value that is what a `prb` of an argument gives, or that compares two such ones, by ids.
+use Rattle.std.proofs.Common.{◌≡◌, ℕ, zero, suc, ◌+◌, ◌<◌, ◌≤◌, inl, inr, List, [], ◌∷◌, length, get_or, set, replicate, map, take, drop, Bool, true, false, not, ◌&&◌, nat_eq, if◌then◌else◌, ◌||◌, Option, Some, None, IsSome, refl, ap, sym, ◌∙◌, subst, arith}
 use Rattle.std.specs.Prelude.{slice_get}
 use Rattle.std.specs.Option.{option_map, option_and_then, IfSome}
 use Rattle.std.proofs.lemmas.Bool.{cases_eq}
@@ -8,13 +8,15 @@ use Rattle.std.proofs.lemmas.Option.{same_Some, none-some}
 use Rattle.lh_types.specs.Types.{TypeTree, int_type}
 use Rattle.lh_types.specs.Values.{int_value}
 use Rattle.lh_types.specs.Bits.{bits_number}
+use Rattle.lh_types.specs.Parts.{bits_within}
+use Rattle.lh_types.specs.declared.op.Op.TheVariants as op
 use Rattle.lh_types.specs.declared.part.Range.{Range}
 use Rattle.lh_unit.specs.Contents.{LineText, UnitText, same_name, args_define}
 use Rattle.lh_unit.specs.Typing.{line_giving, carried}
-use Rattle.lh_unit.specs.Held.{Held, Env, part_held, as_part, part_at, as_test}
+use Rattle.lh_unit.specs.Held.{Held, Env, datum_held, part_held, as_part, part_at, as_test}
 use Rattle.lh_unit.specs.Effects.{read_bits}
 use Rattle.lh_unit.specs.Hierarchy.{lines_of, parts_of}
-use Rattle.lh_unit.specs.Naming.{Naming, value_text, maybe_text, operand_text, arg_text, inst_text}
+use Rattle.lh_unit.specs.Naming.{Naming, value_text, maybe_text, operand_text, trigger_text, arg_text, inst_text}
 use Rattle.lh_unit.specs.Table.{Table, IsDefinition, line_at, insts_at, ids_from, flat}
 use Rattle.lh_unit.specs.Within.{Each}
 use Rattle.lh_unit.specs.WellFormed.{IsWellFormed}
@@ -27,6 +29,7 @@ use Rattle.lh_unit.specs.declared.inst.InstId.{InstId}
 use Rattle.lh_unit.specs.declared.inst.ValueId.{ValueId}
 use Rattle.lh_unit.specs.declared.inst.BlockId.{BlockId}
 use Rattle.lh_unit.specs.declared.inst.Typed.{Typed}
+use Rattle.lh_unit.specs.declared.inst.RegTrigger.{RegTrigger}
 use Rattle.lh_unit.specs.declared.inst.Arg.{Arg}
 use Rattle.lh_unit.specs.declared.table.Line.{Line}
 use Rattle.lh_unit.proofs.Tables.{same_name-refl}
@@ -37,7 +40,7 @@ use Rattle.lh_sound.proofs.FitLaws.{unit-is-sound}
 use Rattle.lh_sound.proofs.NamedOnce.{IsFirst, each-first}
 use Rattle.lh_sound.proofs.SoundLines.{same-lines}
 use Rattle.lh_react.specs.Standing.{line_in}
-use Rattle.lh_react.specs.Quiet.{test_of, IsProbedBit, BeginsBy}
+use Rattle.lh_react.specs.Quiet.{test_of, IsProbedBit, IsProbedInt, AreCompared, IsComparedBit, IsKnownBit, IsShut, HoldsBack, BeginsBy}
 
 -- one bit of some
 one-bit : (bs : List Bool) (lo : ℕ) (b : Bool) → slice_get bs lo ≡ Some b → take 1 (drop lo bs) ≡ b ∷ []
@@ -52,6 +55,16 @@ tested bs false e = ap (λ x. as_test (int_value 1 (bits_number x))) e
 -- the truth value of a part of one bit
 pub bit-of-part : (now : List Bool) (r : Range) (b : Bool) → r.len ≡ 1 → slice_get now r.lo ≡ Some b → test_of (read_bits now (Some (int_type 1)) (Some r)) ≡ Some b
 bit-of-part now r b one e = tested (take 1 (take r.len (drop r.lo now))) b (ap (λ n. take 1 (take n (drop r.lo now))) one ∙ ap (take 1) (one-bit now r.lo b e))
+
+-- the integer of a part
+take-again : (w : ℕ) (bs : List Bool) → take w (take w bs) ≡ take w bs
+take-again zero bs = refl
+take-again (suc w) [] = refl
+take-again (suc w) (x ∷ bs) = ap (λ ys. x ∷ ys) (take-again w bs)
+
+pub int-of-part : (now : List Bool) (r : Range) (w n : ℕ) → r.len ≡ w → n ≡ bits_number (bits_within r.lo w now) → read_bits now (Some (int_type w)) (Some r) ≡ Some (datum_held (int_value w n))
+int-of-part now r w n long is =
+    ap (λ k. Some (datum_held (int_value w (bits_number (take w (bits_within r.lo k now)))))) long ∙ ap (λ bs. Some (datum_held (int_value w (bits_number bs)))) (take-again w (drop r.lo now)) ∙ ap (λ k. Some (datum_held (int_value w k))) (sym is)
 
 or-true : (b : Bool) → (b || true) ≡ true
 or-true true = refl
@@ -117,6 +130,32 @@ same-number j i e = cc
 no-instruction : (i : ℕ) (x : InstId) → value_def.Arg i ≡ value_def.Inst x → ⊥
 no-instruction i x e = absurd cc
 
+two-items : (xs : List Typed) (c d : Typed) → length xs ≡ 2 → xs ≡ get_or xs 0 c ∷ get_or xs 1 d ∷ []
+two-items [] c d e = absurd (omega arith)
+two-items (x ∷ []) c d e = absurd (omega arith)
+two-items (x ∷ y ∷ []) c d e = refl
+two-items (x ∷ y ∷ z ∷ xs) c d e = absurd (omega arith)
+
+-- two operands that are compared
+pub are-compared : (a : Arena) (u : ℕ) (now : List Bool) (e : Env) (xs : List Typed) (c d : Typed) (l r : ℕ × ℕ) (b : Bool) → length xs ≡ 2 → IsProbedInt (unit_text_at a u) now e (value_text (naming a u) (get_or xs 0 c).value) l.0 l.1
+    → IsProbedInt (unit_text_at a u) now e (value_text (naming a u) (get_or xs 1 d).value) r.0 r.1 → b ≡ (nat_eq l.0 r.0 && nat_eq l.1 r.1) → AreCompared (unit_text_at a u) now e (map (operand_text (naming a u)) xs) b
+are-compared a u now e xs c d l r b two left right same = record {
+  left = operand_text (naming a u) (get_or xs 0 c);
+  right = operand_text (naming a u) (get_or xs 1 d);
+  both = ap (map (operand_text (naming a u))) (two-items xs c d two);
+  left_width = l.0;
+  left_bits = l.1;
+  right_width = r.0;
+  right_bits = r.1;
+  is_left = left;
+  is_right = right;
+  same = same;
+}
+
+pub compared-known : (u : UnitText) (args : List Range) (now : List Bool) (n : List ℕ) (r : Option Bool) → IfSome r (λ b. (e : Env) → BeginsBy u args e → IsComparedBit u now e n b) → IfSome r (λ b. (e : Env) → BeginsBy u args e → IsKnownBit u now e n b)
+compared-known u args now n (Some b) h = λ e g. inr (h e g)
+compared-known u args now n None h = tt
+
 module _ (a : Arena) (u : ℕ) (o : IsArena a) (h : u < unit_count a) (k : kind_at a u ≡ Some kind.Entity) (g : IsWellFormed (contents a)) where
   abbrev here : UnitText
   here = unit_text_at a u
@@ -178,3 +217,40 @@ module _ (a : Arena) (u : ℕ) (o : IsArena a) (h : u < unit_count a) (k : kind_
       → IfSome r (λ b. (e : Env) → BeginsBy here args e → IsProbedBit here now e (value_text (naming a u) v) b)
   probed-bit-on (Some b) args now v j i s d def is arg within l ty bit = λ e h. subst (λ (x : Env). IsProbedBit here now x (value_text (naming a u) v) b) (sym h.1) (probed-bit args h.0 now v j i s d b def is arg within l ty bit)
   probed-bit-on None args now v j i s d def is arg within l ty bit = tt
+
+  -- the integer that a probe of an argument gives
+  pub probed-int : (args sigs : List Range) (now : List Bool) (v : ValueId) (j i : ℕ) (s : Typed) (d : Range) (w : ℕ) (r : ℕ × ℕ) → IsDefinition (table_at a u) v.0 (value_def.Inst (record { 0 = j })) → inst_at a u j ≡ inst.Prb s
+      → IsDefinition (table_at a u) s.value.0 (value_def.Arg i) → s.value.0 < value_count a u → i < length args → option_and_then carried s.ty ≡ Some (int_type w) → read_bits now (Some (int_type w)) (Some (get_or args i d)) ≡ Some (datum_held (int_value r.0 r.1))
+      → IsProbedInt here now (parts_of here args sigs) (value_text (naming a u) v) r.0 r.1
+  probed-int args sigs now v j i s d w r def is arg within l ty int =
+      let e : Env = parts_of here args sigs in
+      record {
+        signal = operand_text (naming a u) s;
+        probe = record {
+          given = gives v.0 j def ∙ ap (λ x. Some (inst_text (naming a u) x)) is;
+          argument = arg-defined (naming a u) (table_at a u).args i s.value arg.1;
+        };
+        int = ap (λ (x : Option TypeTree). read_bits now x (part_at e (value_text (naming a u) s.value))) ty ∙ ap (λ (x : Option Range). read_bits now (Some (int_type w)) x) (argument-part args sigs s.value i d arg within l) ∙ int;
+      }
+
+  pub probed-int-on : (r : Option (ℕ × ℕ)) (args : List Range) (now : List Bool) (v : ValueId) (j i : ℕ) (s : Typed) (d : Range) (w : ℕ) → IsDefinition (table_at a u) v.0 (value_def.Inst (record { 0 = j })) → inst_at a u j ≡ inst.Prb s
+      → IsDefinition (table_at a u) s.value.0 (value_def.Arg i) → s.value.0 < value_count a u → i < length args → option_and_then carried s.ty ≡ Some (int_type w) → IfSome r (λ (x : ℕ × ℕ). read_bits now (Some (int_type w)) (Some (get_or args i d)) ≡ Some (datum_held (int_value x.0 x.1)))
+      → IfSome r (λ (x : ℕ × ℕ). (e : Env) → BeginsBy here args e → IsProbedInt here now e (value_text (naming a u) v) x.0 x.1)
+  probed-int-on (Some x) args now v j i s d w def is arg within l ty int = λ e h. subst (λ (y : Env). IsProbedInt here now y (value_text (naming a u) v) x.0 x.1) (sym h.1) (probed-int args h.0 now v j i s d w x def is arg within l ty int)
+  probed-int-on None args now v j i s d w def is arg within l ty int = tt
+
+  -- what compares them
+  pub compared-bit-on : (r : Option Bool) (args : List Range) (now : List Bool) (v : ValueId) (j : ℕ) (xs shown : List Typed) → IsDefinition (table_at a u) v.0 (value_def.Inst (record { 0 = j })) → inst_at a u j ≡ inst.Pure op.Eq xs → shown ≡ xs
+      → IfSome r (λ b. (e : Env) → BeginsBy here args e → AreCompared here now e (map (operand_text (naming a u)) shown) b) → IfSome r (λ b. (e : Env) → BeginsBy here args e → IsComparedBit here now e (value_text (naming a u) v) b)
+  compared-bit-on (Some b) args now v j xs shown def is same h = λ e g. record {
+    operands = map (operand_text (naming a u)) xs;
+    given = gives v.0 j def ∙ ap (λ x. Some (inst_text (naming a u) x)) is;
+    compared = subst (λ (ys : List Typed). AreCompared here now e (map (operand_text (naming a u)) ys) b) same (h e g);
+  }
+  compared-bit-on None args now v j xs shown def is same h = tt
+
+-- a trigger whose gate is known to be 0
+pub held-by-gate : (a : Arena) (u : ℕ) (now : List Bool) (e : Env) (past : Option Bool) (b bit : Bool) (g : RegTrigger) (gate : ValueId) → g.gate ≡ Some gate → not bit ≡ true → IsKnownBit (unit_text_at a u) now e (value_text (naming a u) gate) bit
+    → HoldsBack (unit_text_at a u) now e past b (trigger_text (naming a u) g)
+held-by-gate a u now e past b true g gate is shut k = absurd cc
+held-by-gate a u now e past b false g gate is shut k = inr (subst (λ (o : Option ValueId). IsShut (unit_text_at a u) now e (maybe_text (naming a u) o)) (sym is) k)

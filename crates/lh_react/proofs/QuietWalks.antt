@@ -5,9 +5,9 @@ use Rattle.std.specs.Option.{option_and_then}
 use Rattle.lh_time.specs.declared.Instant.{Instant}
 use Rattle.lh_unit.specs.Contents.{OperandText}
 use Rattle.lh_unit.specs.Hierarchy.{lines_of}
-use Rattle.lh_unit.specs.Held.{Env, test_at}
+use Rattle.lh_unit.specs.Held.{Env, as_test, datum_at, test_at}
 use Rattle.lh_unit.specs.Naming.{value_text, trigger_text, operand_text, inst_text}
-use Rattle.lh_unit.specs.Pass.{Passed, mode_holds, triggers_from, passes}
+use Rattle.lh_unit.specs.Pass.{Passed, triggers_from, passes}
 use Rattle.lh_unit.specs.Within.{Each}
 use Rattle.lh_unit.specs.Arena.{Arena, naming, unit_text_at, inst_at}
 use Rattle.lh_unit.specs.declared.inst.InstId.{InstId}
@@ -19,9 +19,9 @@ use Rattle.lh_unit.specs.declared.inst.RegTrigger.{RegTrigger}
 use Rattle.lh_sound.specs.Finding.{TriggerFinds, Finds, FindsAll}
 use Rattle.lh_sound.proofs.NamedOnce.{IsFirst}
 use Rattle.lh_react.specs.Standing.{line_in, passed_all}
-use Rattle.lh_react.specs.Quiet.{IsProbedBit, KnowsProbes, begins_with, IsStill}
+use Rattle.lh_react.specs.Quiet.{IsProbedBit, Knows, HoldsBack, begins_with, IsStill}
 use Rattle.lh_react.proofs.InstsSteps.{drop-get_or, drop-end}
-use Rattle.lh_react.proofs.QuietSteps.{passes-know, probe-tests, trigger-still}
+use Rattle.lh_react.proofs.QuietSteps.{passes-know, probe-tests, held-back, trigger-still}
 
 pub each-at : {X : Type 0} (P : X → Type 0) (xs : List X) (i : ℕ) (d : X) → Each P xs → i < length xs → P (get_or xs i d)
 each-at P [] i d e l = absurd (omega arith)
@@ -36,26 +36,26 @@ each-map-at P f (x ∷ xs) (suc i) d e l = each-map-at P f xs i d e.1 (omega ari
 -- After some triggers of a register, which do not fire, these have been seen.
 abbrev pub StillAfter : Arena → ℕ → (Env → Type 0) → (now : List Bool) → (memory : Option (List Bool)) → (start seen : List Bool) → (all rest : List RegTrigger) → Type 0
 StillAfter a u begins now memory start seen all rest =
-    (e : Env) (t : Instant) (to : OperandText) (p : Passed) → begins e → KnowsProbes (unit_text_at a u) now e p.held → Each (TriggerFinds p.held) (map (trigger_text (naming a u)) all) → p.seen ≡ start
+    (e : Env) (t : Instant) (to : OperandText) (p : Passed) → begins e → Knows (unit_text_at a u) now e p.held → Each (TriggerFinds p.held) (map (trigger_text (naming a u)) all) → p.seen ≡ start
     → triggers_from memory t to false p (map (trigger_text (naming a u)) all) ≡ triggers_from memory t to false (record { held = p.held; seen = seen; wish = p.wish }) (map (trigger_text (naming a u)) rest)
 
 module _ (a : Arena) (u : ℕ) (begins : Env → Type 0) (now : List Bool) (memory : Option (List Bool)) where
   pub still-start : (start : List Bool) (all : List RegTrigger) → StillAfter a u begins now memory start start all all
   still-start start all = λ e t to p h k f s. ap (λ (x : List Bool). triggers_from memory t to false (record { held = p.held; seen = x; wish = p.wish }) (map (trigger_text (naming a u)) all)) s
 
-  pub still-next : (start seen new : List Bool) (all : List RegTrigger) (i : ℕ) (d : RegTrigger) (b holds : Bool) (past : Option Bool) (n : ℕ) → StillAfter a u begins now memory start seen all (drop i all) → i < length all
+  pub still-next : (start seen new : List Bool) (all : List RegTrigger) (i : ℕ) (d : RegTrigger) (b : Bool) (past : Option Bool) (n : ℕ) → StillAfter a u begins now memory start seen all (drop i all) → i < length all
       → ((e : Env) → begins e → IsProbedBit (unit_text_at a u) now e (value_text (naming a u) (get_or all i d).trigger) b) → n ≡ length seen → past ≡ option_and_then (λ values. slice_get values n) memory
-      → holds ≡ mode_holds (get_or all i d).mode past b → holds ≡ false → new ≡ seen ++ b ∷ [] → StillAfter a u begins now memory start new all (drop (i + 1) all)
-  still-next start seen new all i d b holds past n prev l q len was is mode more =
+      → ((e : Env) → begins e → HoldsBack (unit_text_at a u) now e past b (trigger_text (naming a u) (get_or all i d))) → new ≡ seen ++ b ∷ [] → StillAfter a u begins now memory start new all (drop (i + 1) all)
+  still-next start seen new all i d b past n prev l q len was back more =
       let g : RegTrigger = get_or all i d in
-      let m : mode_holds g.mode (option_and_then (λ values. slice_get values (length seen)) memory) b ≡ false =
-      ap (λ x. mode_holds g.mode (option_and_then (λ values. slice_get values x) memory) b) (sym len) ∙ ap (λ x. mode_holds g.mode x b) (sym was) ∙ sym is ∙ mode in
+      let before : past ≡ option_and_then (λ values. slice_get values (length seen)) memory = was ∙ ap (λ x. option_and_then (λ values. slice_get values x) memory) len in
       subst (λ (x : List Bool). StillAfter a u begins now memory start x all (drop (i + 1) all)) (sym more)
       (λ e t to p h k f s.
       let here : TriggerFinds p.held (trigger_text (naming a u) g) = each-map-at (TriggerFinds p.held) (trigger_text (naming a u)) all i d f l in
       let r : Passed = record { held = p.held; seen = seen; wish = p.wish } in
+      let is : test_at p.held (value_text (naming a u) g.trigger) ≡ Some b = probe-tests (unit_text_at a u) now e p.held (value_text (naming a u) g.trigger) b k (q e h) here.trigger in
       prev e t to p h k f s ∙ ap (λ (x : List RegTrigger). triggers_from memory t to false r (map (trigger_text (naming a u)) x)) (drop-get_or all i d l)
-      ∙ trigger-still memory t to r (trigger_text (naming a u) g) (map (trigger_text (naming a u)) (drop (i + 1) all)) b (probe-tests (unit_text_at a u) now e p.held (value_text (naming a u) g.trigger) b k (q e h) here.trigger) m)
+      ∙ trigger-still memory t to r (trigger_text (naming a u) g) (map (trigger_text (naming a u)) (drop (i + 1) all)) b is (held-back (unit_text_at a u) now e memory r (trigger_text (naming a u) g) past b before k (back e h) is here.gate))
 
   pub still-end : (start seen : List Bool) (all : List RegTrigger) (i : ℕ) → StillAfter a u begins now memory start seen all (drop i all) → length all ≤ i → StillAfter a u begins now memory start seen all []
   still-end start seen all i prev l = subst (StillAfter a u begins now memory start seen all) (drop-end all i l) prev
@@ -70,7 +70,7 @@ module _ (a : Arena) (u : ℕ) (begins : Env → Type 0) (now : List Bool) (memo
 
   -- what an instruction that drives nothing does
   abbrev pub StaysStill : InstId → (old new : List Bool) → Type 0
-  StaysStill x old new = (e : Env) (t : Instant) (p : Passed) → begins e → KnowsProbes (unit_text_at a u) now e p.held → Finds (unit_text_at a u) now t p (line_in a u x).inst → IsStill p old → IsStill (passed_all a u now memory t p (x ∷ [])) new
+  StaysStill x old new = (e : Env) (t : Instant) (p : Passed) → begins e → Knows (unit_text_at a u) now e p.held → Finds (unit_text_at a u) now t p (line_in a u x).inst → IsStill p old → IsStill (passed_all a u now memory t p (x ∷ [])) new
 
   -- a register of which no trigger fires
   reg-still : (x : InstId) (to : Typed) (gs : List RegTrigger) (old new : List Bool) → inst_at a u x.0 ≡ inst.Reg to gs → StillAfter a u begins now memory old new gs [] → StaysStill x old new
@@ -90,7 +90,7 @@ module _ (a : Arena) (u : ℕ) (begins : Env → Type 0) (now : List Bool) (memo
   pub record Quietly (e : Env) (t : Instant) (to : Passed) (values : List Bool) (rest : List InstId) : Type 0 where
     pub passed : Passed
     pub still : IsStill passed values
-    pub knows : KnowsProbes (unit_text_at a u) now e passed.held
+    pub knows : Knows (unit_text_at a u) now e passed.held
     pub finds : FindsAll (unit_text_at a u) now memory t passed (map (line_in a u) rest)
     pub firsts : Each (IsFirst (unit_text_at a u).args (lines_of (unit_text_at a u).blocks)) (map (line_in a u) rest)
     pub same : passed_all a u now memory t passed rest ≡ to
@@ -108,11 +108,11 @@ module _ (a : Arena) (u : ℕ) (begins : Env → Type 0) (now : List Bool) (memo
   abbrev pub QuietAfter : (insts : List InstId) → (values : List Bool) → (rest : List InstId) → Type 0
   QuietAfter insts values rest = (e : Env) (t : Instant) → begins e → FindsAll (unit_text_at a u) now memory t (begins_with e) (map (line_in a u) insts) → Quietly e t (passed_all a u now memory t (begins_with e) insts) values rest
 
-  pub quiet-start : (insts : List InstId) → ((e : Env) → begins e → (n : List ℕ) → test_at e n ≡ None) → Each (IsFirst (unit_text_at a u).args (lines_of (unit_text_at a u).blocks)) (map (line_in a u) insts) → QuietAfter insts [] insts
+  pub quiet-start : (insts : List InstId) → ((e : Env) → begins e → (n : List ℕ) → datum_at e n ≡ None) → Each (IsFirst (unit_text_at a u).args (lines_of (unit_text_at a u).blocks)) (map (line_in a u) insts) → QuietAfter insts [] insts
   quiet-start insts plain firsts = λ e t h f. record {
     passed = begins_with e;
     still = record { seen = refl; wish = refl };
-    knows = λ n s x. record { part = refl; value = inl (plain e h n) };
+    knows = record { probes = λ n s x. record { part = refl; value = inl (plain e h n) }; compared = λ n b x. inl (ap (option_and_then as_test) (plain e h n)) };
     finds = f;
     firsts = firsts;
     same = refl;

@@ -1,5 +1,5 @@
 -- A place begins: what is told there is what its edges join.
-use Rattle.std.proofs.Common.{◌≡◌, ◌≢◌, ℕ, zero, suc, ◌+◌, ◌<◌, Bool, true, false, nat_eq, nat_lt, if◌then◌else◌, List, [], ◌∷◌, ◌++◌, length, map, Option, Some, None, slice_get, refl, ap, sym, ◌∙◌, subst, arith}
+use Rattle.std.proofs.Common.{◌≡◌, ◌≢◌, ℕ, zero, suc, ◌<◌, Bool, true, false, nat_eq, nat_lt, if◌then◌else◌, List, [], ◌∷◌, ◌++◌, length, map, Option, Some, None, slice_get, refl, ap, sym, ◌∙◌, subst, arith}
 use Rattle.std.specs.Option.{is_some, option_and_then, option_map, option_map_or}
 use Rattle.lh_types.specs.Types.{TypeTree}
 use Rattle.lh_unit.specs.Held.{front}
@@ -8,7 +8,7 @@ use Rattle.lh_unit.specs.Within.{Each}
 use Rattle.lh_unit.proofs.Lists.{Same, same, other, same_or, nat_eq-refl, nat_eq-other, slice_get-push, some_inj}
 use Rattle.lh_term.specs.Tree.{Tree}
 use Rattle.lh_term.specs.Types.{IsTyped, type_of}
-use Rattle.lh_term.specs.Arena.{trees, tree_at, Stands}
+use Rattle.lh_term.specs.Arena.{Stands}
 use Rattle.lh_term.specs.declared.part.Part.{Part}
 use Rattle.lh_term.specs.declared.term.TermId.{TermId}
 use Rattle.lh_term.specs.declared.term.Node.{Node}
@@ -21,10 +21,10 @@ use Rattle.lh_joins.specs.Joins.{AreConditions, edge_on, edges_on, after_first, 
 use Rattle.lh_joins.proofs.Conditions.{stands-condition}
 use Rattle.lh_joins.proofs.Merged.{merged-by-conditions}
 use Rattle.lh_region.specs.declared.state.Place.{Place}
-use Rattle.lh_region.specs.Asked.{kept_by, kept_at, keeps, source_of, edges_at, sources, IsBelow, Told, AreAlike, Joins, joined_by, IsJoin, Tells}
-use Rattle.lh_region.specs.Walking.{as_term, term_known, Story, TellsKnown, IsEdge, AreEdges}
+use Rattle.lh_region.specs.Asked.{kept_by, kept_at, keeps, source_of, edges_at, sources, IsBelow, Told, AreAlike, Joins, IsJoin, Tells}
+use Rattle.lh_region.specs.Walking.{as_term, term_known, Story, TellsKnown, AreEdges}
 use Rattle.lh_region.specs.Begins.{told_by, with_place, AreOfType, CanBegin, IsBegun, StaysKnown, TellsJoined, BeginsJoined}
-use Rattle.lh_region.proofs.Placing.{each-map, kept-at, edges-of, sources-of}
+use Rattle.lh_region.proofs.Placing.{each-map, kept-at, edges-of}
 
 if-true : {A : Type 0} (b : Bool) (x y : A) → b ≡ true → (if b then x else y) ≡ x
 if-true true x y e = refl

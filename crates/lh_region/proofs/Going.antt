@@ -1,19 +1,18 @@
 -- One more edge leads on from a place: the edges ahead by ids and those of the definition.
-use Rattle.std.proofs.Common.{◌≡◌, ◌≢◌, ℕ, ◌+◌, ◌<◌, ◌≤◌, Bool, true, false, ◌&&◌, nat_eq, nat_le, if◌then◌else◌, List, [], ◌∷◌, ◌++◌, length, refl, ap, sym, ◌∙◌, subst, arith}
-use Rattle.std.specs.List.{filter}
+use Rattle.std.proofs.Common.{◌≡◌, ◌≢◌, ℕ, ◌+◌, ◌<◌, ◌≤◌, Bool, true, false, ◌&&◌, nat_eq, nat_le, if◌then◌else◌, List, [], ◌∷◌, ◌++◌, refl, ap, sym, ◌∙◌, subst, arith}
 use Rattle.std.proofs.lemmas.Bool.Decides.{nat_tests}
 use Rattle.lh_unit.proofs.Lists.{Same, same, other, same_or, nat_eq-refl, nat_eq-other}
 use Rattle.lh_term.specs.Tree.{Tree}
-use Rattle.lh_term.specs.Arena.{Stands, Grows}
+use Rattle.lh_term.specs.Arena.{Grows}
 use Rattle.lh_term.specs.declared.term.Node.{Node}
 use Rattle.lh_term.proofs.Swaps.{stands_grown}
 use Rattle.lh_rows.specs.Joins.{Place as PlaceOf, Edge as EdgeTo}
 use Rattle.lh_rows.specs.Places.{Region, Here, Midst, next_place, goes}
-use Rattle.lh_rows.specs.Regions.{is_place, edges_to, max_turns}
+use Rattle.lh_rows.specs.Regions.{is_place, edges_to}
 use Rattle.lh_joins.specs.declared.edge.Edge.{Edge}
 use Rattle.lh_region.specs.declared.ahead.Ahead.{Ahead}
 use Rattle.lh_region.specs.Ahead.{led_to, IsLedAlso}
-use Rattle.lh_region.specs.Walking.{Story, TellsKnown, IsEdge, AreEdges, place_of, AreAhead, LeadsOn}
+use Rattle.lh_region.specs.Walking.{Story, IsEdge, AreEdges, place_of, AreAhead, LeadsOn}
 
 if-true : {A : Type 0} (b : Bool) (x y : A) → b ≡ true → (if b then x else y) ≡ x
 if-true true x y e = refl

@@ -1,6 +1,5 @@
 -- Edges to places that are still to be treated, as one more leads there and as a place is reached.
-use Rattle.std.proofs.Common.{◌≡◌, ◌≢◌, ℕ, zero, suc, ◌<◌, Bool, true, false, nat_eq, if◌then◌else◌, List, [], ◌∷◌, ◌++◌, length, Option, Some, slice_get, slice_set, get_or, refl, ap, sym, ◌∙◌, subst, arith}
-use Rattle.std.specs.Option.{option_map_or}
+use Rattle.std.proofs.Common.{◌≡◌, ◌≢◌, ℕ, zero, suc, ◌<◌, Bool, true, false, nat_eq, if◌then◌else◌, List, [], ◌∷◌, ◌++◌, length, slice_set, get_or, refl, ap, sym, ◌∙◌, subst, arith}
 use Rattle.lh_unit.proofs.Lists.{Same, same, other, same_or, nat_eq-refl, nat_eq-other}
 use Rattle.lh_joins.specs.declared.edge.Edge.{Edge}
 use Rattle.lh_region.specs.Ahead.{led_to, LeadsNowhere, IsLedAlso, IsReached}

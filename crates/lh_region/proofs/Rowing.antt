@@ -1,30 +1,27 @@
 -- Rows as terms are made, and with one more of each kind.
-use Rattle.std.proofs.Common.{◌≡◌, ℕ, suc, ◌<◌, Bool, true, false, if◌then◌else◌, List, [], ◌∷◌, ◌++◌, length, map, take, get_or, Option, Some, refl, ap, sym, ◌∙◌, subst, arith}
+use Rattle.std.proofs.Common.{◌≡◌, ℕ, Bool, true, false, if◌then◌else◌, List, [], ◌∷◌, ◌++◌, Some, refl, ap, sym, ◌∙◌, subst}
 use Rattle.std.specs.Option.{is_some}
-use Rattle.std.proofs.lemmas.List.{take_more}
 use Rattle.lh_unit.specs.declared.inst.Typed.{Typed}
 use Rattle.lh_term.specs.Tree.{Tree}
 use Rattle.lh_term.specs.Make.{is_zero}
-use Rattle.lh_term.specs.Arena.{trees, tree_at, IsIn, Stands, Grows}
+use Rattle.lh_term.specs.Arena.{trees, tree_at, Stands, Grows}
 use Rattle.lh_term.specs.declared.part.Part.{Part}
 use Rattle.lh_term.specs.declared.term.TermId.{TermId}
 use Rattle.lh_term.specs.declared.term.Node.{Node}
 use Rattle.lh_term.proofs.Swaps.{stands_grown, tree_grown, in_grown, grows_on}
 use Rattle.lh_rows.specs.Rows as text
-use Rattle.lh_rows.specs.Places.{Region, Here, Midst, probes, drives, asserts, ends}
+use Rattle.lh_rows.specs.Places.{Midst}
 use Rattle.lh_joins.specs.Joins.{IsConditionAt, AreMade}
-use Rattle.lh_joins.proofs.Conditions.{condition-grown}
 use Rattle.lh_region.specs.declared.state.Place.{Place}
 use Rattle.lh_region.specs.declared.rows.Rows.{Rows}
 use Rattle.lh_region.specs.declared.rows.DriveRow.{DriveRow}
 use Rattle.lh_region.specs.declared.rows.EndRow.{EndRow}
 use Rattle.lh_region.specs.declared.rows.Way.{Way}
 use Rattle.lh_region.specs.declared.effects.DriveAt.{DriveAt}
-use Rattle.lh_region.specs.Asked.{Told, Tells, CanAsk, StillTold, IsTold}
-use Rattle.lh_region.specs.Taken.{told_of, asks_at, AreTold}
+use Rattle.lh_region.specs.Asked.{CanAsk, StillTold, IsTold}
+use Rattle.lh_region.specs.Taken.{asks_at, AreTold}
 use Rattle.lh_region.specs.Stands.{IsDrive, AreDrives, AreTerms, IsEnd, AreEnds, AreRows, way_text}
 use Rattle.lh_region.specs.Effects.{CanDrive, StillDriven, IsProbed, IsDriven, AreAsserted, IsEnded, IsWithAsserts}
-use Rattle.lh_region.proofs.Telling.{tells-grown}
 
 -- ---- an arena that grows
 

@@ -238,7 +238,7 @@ same-choice c x = by (is_bit 0 c) (is_bit 1 c) (same_tree x x) (same_tree-refl x
     by false false true e = refl
     by false false false e = absurd cc
 
-same-chosen : (ss : List Tree) (x : Tree) (xs : List Tree) → Each (λ (y : Tree). y ≡ x) xs → chosen_by ss x xs ≡ x
+pub same-chosen : (ss : List Tree) (x : Tree) (xs : List Tree) → Each (λ (y : Tree). y ≡ x) xs → chosen_by ss x xs ≡ x
 same-chosen [] x xs h = refl
 same-chosen (s ∷ ss) x [] h = refl
 same-chosen (s ∷ ss) x (y ∷ ys) h = ap (λ (z : Tree). chosen_by ss z ys) (ap (make_choice s x) h.0 ∙ same-choice s x) ∙ same-chosen ss x ys h.1

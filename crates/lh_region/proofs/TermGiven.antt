@@ -14,7 +14,7 @@ use Rattle.lh_joins.specs.declared.edge.Edge.{Edge}
 use Rattle.lh_region.specs.declared.state.Place.{Place}
 use Rattle.lh_region.specs.Asked.{kept_at, keeps, source_of, edges_at, sources, IsBelow, Told, Joins, Tells, SamePlaces, IsWithAt}
 use Rattle.lh_region.specs.Walking.{as_term, term_known, Story, TellsKnown}
-use Rattle.lh_region.specs.Gives.{with_term, ValuesDiffer, TellsGiven, GivesTerm}
+use Rattle.lh_region.specs.Gives.{with_term, ValuesDiffer, GivesTerm}
 use Rattle.lh_region.proofs.Placing.{each-map, same-edges, same-sources, Kept, new_one, old_one, kept-with, with-same}
 use Rattle.lh_region.proofs.Telling.{places-replaced, with-join}
 

@@ -10,7 +10,7 @@ use Rattle.lh_rows.specs.Joins.{Edge as EdgeTo, joined}
 use Rattle.lh_rows.specs.Typed.{IsCondition}
 use Rattle.lh_joins.specs.declared.edge.Edge.{Edge}
 use Rattle.lh_region.specs.declared.state.Place.{Place}
-use Rattle.lh_region.specs.Asked.{kept_by, Told, Tells}
+use Rattle.lh_region.specs.Asked.{kept_by, Tells}
 use Rattle.lh_region.specs.Walking.{Story, term_known, TellsKnown, AreEdges}
 
 -- what is told of a value where this is known under the names of values

@@ -1,5 +1,5 @@
 -- What instructions do besides giving values, as the definition's rows get more.
-use Rattle.std.specs.Prelude.{◌≡◌, ℕ, List, [], ◌∷◌, ◌++◌, map, Bool, true, false, Option, Some}
+use Rattle.std.specs.Prelude.{◌≡◌, ℕ, List, ◌++◌, map, Bool, true, false, Option, Some}
 use Rattle.std.specs.Option.{is_some}
 use Rattle.lh_unit.specs.declared.inst.Typed.{Typed}
 use Rattle.lh_term.specs.Tree.{Tree, past_of, now_of}

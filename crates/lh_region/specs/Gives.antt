@@ -1,5 +1,5 @@
 -- The place that is treated, which is the last one, gives a term to a value or a variable.
-use Rattle.std.specs.Prelude.{◌≡◌, ℕ, ◌+◌, ◌<◌, List, ◌&&◌, length, nat_eq, if◌then◌else◌, Option, Some}
+use Rattle.std.specs.Prelude.{◌≡◌, ℕ, ◌+◌, ◌<◌, List, ◌&&◌, length, nat_eq, if◌then◌else◌, Some}
 use Rattle.lh_term.specs.Tree.{Tree}
 use Rattle.lh_term.specs.Arena.{Stands}
 use Rattle.lh_term.specs.declared.term.TermId.{TermId}

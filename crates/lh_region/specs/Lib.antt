@@ -1,3 +1,4 @@
+pub mod Above
 pub mod Ahead
 pub mod Asked
 pub mod Begins
@@ -6,6 +7,7 @@ pub mod Effects
 pub mod Forms
 pub mod Gives
 pub mod Heads
+pub mod Keeping
 pub mod Operands
 pub mod Stands
 pub mod Starts

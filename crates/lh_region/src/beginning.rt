@@ -1,8 +1,9 @@
 //! A place begins.
-ghost use Rattle.std.specs.Prelude.{◌≡◌, ◌++◌, ◌∷◌, [], OnOk};
+ghost use Rattle.std.specs.Prelude.{OnOk};
 ghost use Rattle.lh_region.specs.Begins.{IsBegun, BeginsJoined};
 
 use crate::ahead::EdgeList;
+use crate::places::Places;
 use crate::state::Place;
 use lh_types::ty::NoMemory;
 use std::alloc::Global;
@@ -10,7 +11,7 @@ use std::alloc::Global;
 /// A place of a block begins, to which these edges lead. Its number is that of the places before it.
 pub fn begin(
     alloc: Global,
-    places: &mut Vec<Place>,
+    places: &mut Places,
     block: u32,
     edges: EdgeList,
 ) -> Result<(), NoMemory>
@@ -19,15 +20,6 @@ pub fn begin(
 {
     let mut place = Place::new(alloc, block);
     place.edges = edges.into_vec();
-    put(places, place)?;
+    places.push(place)?;
     Ok(())
-}
-
-fn put(places: &mut Vec<Place>, place: Place) -> Result<(), NoMemory>
-    ensures { OnOk result (places.new.items ≡ places.old.items ++ place ∷ []) }
-{
-    match places.push(place) {
-        Ok(()) => Ok(()),
-        Err(_) => Err(NoMemory),
-    }
 }

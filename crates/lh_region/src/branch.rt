@@ -6,7 +6,7 @@ ghost use Rattle.lh_region.specs.Asked.{SamePlaces, StillTold};
 ghost use Rattle.lh_region.specs.Branches.{CanTest, negation, IsAnd, IsAndNot};
 
 use crate::asking::value_at;
-use crate::state::Place;
+use crate::places::Places;
 use lh_joins::logic::and;
 use lh_term::term::TermId;
 use lh_term::terms::Terms;
@@ -25,7 +25,7 @@ pub struct Sides {
 pub fn and_at(
     alloc: Global,
     terms: &mut Terms,
-    places: &mut Vec<Place>,
+    places: &mut Places,
     at: usize,
     cond: TermId,
     value: u32,
@@ -47,7 +47,7 @@ pub fn and_at(
 pub fn sides_at(
     alloc: Global,
     terms: &mut Terms,
-    places: &mut Vec<Place>,
+    places: &mut Places,
     at: usize,
     cond: TermId,
     value: u32,

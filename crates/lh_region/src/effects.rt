@@ -10,8 +10,8 @@ ghost use Rattle.lh_region.specs.Effects as effects;
 
 use crate::ahead::EdgeList;
 use crate::asking::value_at;
+use crate::places::Places;
 use crate::rows::{DriveRow, EndRow, Rows, Way};
-use crate::state::Place;
 use crate::taking::{ask_all, asks_at};
 use lh_joins::Edge;
 use lh_joins::logic::never_holds;
@@ -77,7 +77,7 @@ pub struct DriveAt {
 pub fn drive(
     alloc: Global,
     terms: &mut Terms,
-    places: &mut Vec<Place>,
+    places: &mut Places,
     rows: &mut Rows,
     drives: DriveAt,
     part: Part,
@@ -108,7 +108,7 @@ pub fn drive(
 pub fn assert_at(
     alloc: Global,
     terms: &mut Terms,
-    places: &mut Vec<Place>,
+    places: &mut Places,
     rows: &mut Rows,
     at: usize,
     args: &TypedList,

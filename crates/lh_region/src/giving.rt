@@ -3,16 +3,16 @@ ghost use Rattle.std.specs.Prelude.{◌≡◌, ◌<◌, length, OnOk};
 ghost use Rattle.lh_region.specs.Asked.{IsWithAt};
 ghost use Rattle.lh_region.specs.Gives.{GivesTerm};
 
-use crate::state::{Place, keep};
+use crate::places::Places;
 use lh_term::term::TermId;
 use lh_types::ty::NoMemory;
 
 /// Gives a term to a value or variable at the place that is treated.
-pub fn give(places: &mut Vec<Place>, at: usize, value: u32, term: TermId) -> Result<(), NoMemory>
+pub fn give(places: &mut Places, at: usize, value: u32, term: TermId) -> Result<(), NoMemory>
     requires { at < length places.old.items }
     ensures with_term { OnOk result (IsWithAt places.old.items at value term places.new.items) }
     ensures gives { OnOk result (GivesTerm places.old.items at value term places.new.items) }
 {
-    keep(places, at, value, term)?;
+    places.keep(at, value, term)?;
     Ok(())
 }

@@ -1,6 +1,7 @@
 //! The regions of a process as rows of terms: what is asked, merged, driven and tested at a place, and how places follow on each other.
 #![tactic(auto)]
 
+pub mod above;
 pub mod ahead;
 pub mod asking;
 pub mod beginning;
@@ -11,6 +12,7 @@ pub mod head;
 pub mod laws;
 pub mod leading;
 pub mod operand;
+pub mod places;
 pub mod rows;
 pub mod start;
 pub mod state;

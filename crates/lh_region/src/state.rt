@@ -1,8 +1,8 @@
 //! The places of a region that were reached, and what is known at each.
-ghost use Rattle.std.specs.Prelude.{◌≡◌, ◌<◌, ℕ, [], true, IfOk, OnOk, length, None};
+ghost use Rattle.std.specs.Prelude.{◌≡◌, ℕ, [], true, IfOk, OnOk, OnErr, None};
 ghost use Rattle.std.specs.Option.{is_some};
 ghost use Rattle.lh_term.specs.Arena.{Grows};
-ghost use Rattle.lh_region.specs.Asked.{kept_by, IsWith, IsWithAt, IsJoin, IsSelected, CanJoin, IsJoined};
+ghost use Rattle.lh_region.specs.Asked.{kept_by, shape_of, IsWith, IsJoin, IsSelected, CanJoin, IsJoined};
 
 use lh_joins::Edge;
 use lh_joins::joins::{are_same, merge, selectors};
@@ -56,7 +56,9 @@ impl Place {
 
     /// Makes a term known.
     pub fn set(&mut self, value: u32, term: TermId) -> Result<(), NoMemory>
-        ensures { OnOk result (IsWith self.old value term self.new) }
+        ensures ok { OnOk result (IsWith self.old value term self.new) }
+        ensures err { OnErr result ((w : ℕ) → kept_by w self.new ≡ kept_by w self.old) }
+        ensures shape { shape_of self.new ≡ shape_of self.old }
     {
         match self.known.insert(value, term) {
             Ok(_) => Ok(()),
@@ -74,6 +76,8 @@ impl Place {
         requires join { IsJoin terms.old self.old }
         requires values { CanJoin terms.old self.old values.now }
         ensures kept { Grows terms.old terms.new }
+        ensures known { self.new.known ≡ self.old.known }
+        ensures shape { shape_of self.new ≡ shape_of self.old }
         ensures place { OnOk result (IsSelected terms.new self.old self.new) }
         ensures made { IfOk result (λ t. IsJoined terms.old self.old.edges.items values.now terms.new t) }
     {
@@ -94,6 +98,8 @@ impl Place {
     fn select(&mut self, alloc: Global, terms: &mut Terms) -> Result<(), NoMemory>
         requires { IsJoin terms.old self.old }
         ensures kept { Grows terms.old terms.new }
+        ensures known { self.new.known ≡ self.old.known }
+        ensures shape { shape_of self.new ≡ shape_of self.old }
         ensures place { OnOk result (IsSelected terms.new self.old self.new) }
         ensures there { OnOk result (is_some self.new.selectors ≡ true) }
     {
@@ -103,13 +109,4 @@ impl Place {
         }
         Ok(())
     }
-}
-
-/// Makes a term known at a place.
-pub fn keep(places: &mut Vec<Place>, at: usize, value: u32, term: TermId) -> Result<(), NoMemory>
-    requires { at < length places.old.items }
-    ensures { OnOk result (IsWithAt places.old.items at value term places.new.items) }
-{
-    places[at].set(value, term)?;
-    Ok(())
 }

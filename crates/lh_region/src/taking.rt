@@ -6,7 +6,7 @@ ghost use Rattle.lh_region.specs.Taken as taken;
 
 use crate::asking::{merged_at, value_at};
 use crate::operand::operand_from;
-use crate::state::Place;
+use crate::places::Places;
 use lh_joins::Edge;
 use lh_term::term::{TermId, TermList};
 use lh_term::terms::Terms;
@@ -26,7 +26,7 @@ pub struct Ask {
 pub fn ask_all(
     alloc: Global,
     terms: &mut Terms,
-    places: &mut Vec<Place>,
+    places: &mut Places,
     asks: &[Ask],
 ) -> Result<TermList, NoMemory>
     requires { taken.CanAskAll terms.old places.old.items asks.now }
@@ -47,7 +47,7 @@ pub fn ask_all(
 pub fn operate(
     alloc: Global,
     terms: &mut Terms,
-    places: &mut Vec<Place>,
+    places: &mut Places,
     at: usize,
     op: Op,
     args: &TypedList,
@@ -95,7 +95,7 @@ fn put(asks: &mut Vec<Ask>, ask: Ask) -> Result<(), NoMemory>
 pub fn phi_at(
     alloc: Global,
     terms: &mut Terms,
-    places: &mut Vec<Place>,
+    places: &mut Places,
     at: usize,
     operands: &[PhiEdge],
 ) -> Result<TermId, NoMemory>
@@ -106,7 +106,7 @@ pub fn phi_at(
     ensures still { OnOk result (taken.StillToldAll terms.old places.old.items terms.new places.new.items (taken.phi_asks operands.now (edges_at places.old.items at))) }
     ensures made { IfOk result (λ t. taken.IsMerged terms.old places.old.items terms.new at operands.now t) }
 {
-    let asks = phi_asks(alloc, places[at].edges.as_slice(), operands)?;
+    let asks = phi_asks(alloc, places.edges(at), operands)?;
     let values = ask_all(alloc, terms, places, asks.as_slice())?;
     let merged = merged_at(alloc, terms, places, at, values.as_slice())?;
     Ok(merged)

@@ -1,37 +1,34 @@
 -- What the words call for, from what they ask for and from the titles of the members.
-use Rattle.std.proofs.Common.{◌≡◌, ℕ, ◌≤◌, List, Bool, true, false, subst, arith}
-use Rattle.std.specs.Prelude.{IsTrue}
-use Rattle.std.specs.List.{list_all}
+use Rattle.std.proofs.Common.{ℕ, ◌≤◌, List, subst, arith}
 use Rattle.lh_watch.specs.Members.{Member}
-use Rattle.lh_words.specs.Forms.{Simulation, Asked, check, lower, simulate, Asks, HasNoForm}
-use Rattle.lh_words.proofs.Forms.{one_form}
-use Rattle.lh_run.specs.Called.{is_title, KnowsTitles, Calls, HasFrames, IsMisuse}
+use Rattle.lh_words.specs.Forms.{Asked, check, lower, simulate, Asks, HasNoForm}
+use Rattle.lh_words.proofs.Forms.{one_form, no_file}
+use Rattle.lh_run.specs.Called.{KnowsTitles, Calls, HasFrames, IsMisuse, AskSelfTest}
 
 -- the words have none of the forms
 pub IsMisuse-formless : (words : List (List ℕ)) (ms : List Member) → HasNoForm words → IsMisuse words ms
-IsMisuse-formless words ms none = λ a calls. none a calls.asks
+IsMisuse-formless words ms none = record { on_file = λ a calls. none.on_file a calls.asks; self_test = none.self_test }
 
 -- the words watch a title that no member has
-pub IsMisuse-unknown : (words : List (List ℕ)) (ms : List Member) (s : Simulation) (known : Bool) → Asks words (simulate s) → known ≡ list_all (is_title ms) s.titles → known ≡ false → IsMisuse words ms
-IsMisuse-unknown words ms s known asks is unknown = λ a calls.
-    let P : Asked → Type 0 = λ x. KnowsTitles ms x in
-    let all : list_all (is_title ms) s.titles ≡ true = subst P (one_form words a (simulate s) calls.asks asks) calls.titled in
-    no_bit known (list_all (is_title ms) s.titles) is unknown all
-  where
-    no_bit : (b c : Bool) → b ≡ c → b ≡ false → c ≡ true → ⊥
-    no_bit b c is unknown all = cc
+pub IsMisuse-unknown : (words : List (List ℕ)) (ms : List Member) (a : Asked) → Asks words a → (KnowsTitles ms a → ⊥) → IsMisuse words ms
+IsMisuse-unknown words ms a asks unknown = record {
+  on_file = λ b calls. unknown (let P : Asked → Type 0 = λ x. KnowsTitles ms x in subst P (one_form words b a calls.asks asks) calls.titled);
+  self_test = λ links test. no_file words links a test asks;
+}
 
-pub Calls-check : (words : List (List ℕ)) (ms : List Member) → Asks words check → Calls words ms check
-Calls-check words ms asks = record { asks = asks; titled = tt }
-
-pub Calls-lower : (words : List (List ℕ)) (ms : List Member) → Asks words lower → Calls words ms lower
-Calls-lower words ms asks = record { asks = asks; titled = tt }
-
-pub Calls-simulate : (words : List (List ℕ)) (ms : List Member) (s : Simulation) → Asks words (simulate s) → IsTrue (list_all (is_title ms) s.titles) → Calls words ms (simulate s)
-Calls-simulate words ms s asks known = record { asks = asks; titled = known }
+pub Calls-known : (words : List (List ℕ)) (ms : List Member) (a : Asked) → Asks words a → KnowsTitles ms a → Calls words ms a
+Calls-known words ms a asks known = record { asks = asks; titled = known }
 
 -- what is called for is of one frame or more
 pub Calls-frames : (words : List (List ℕ)) (ms : List Member) (a : Asked) → Calls words ms a → HasFrames a
 Calls-frames words ms check calls = tt
 Calls-frames words ms lower calls = tt
 Calls-frames words ms (simulate s) calls = let said : 1 ≤ s.steps = calls.asks.steps_said.at_least in omega arith
+
+-- words that call for something of a file ask for no self-test
+pub calls_no_test : (words : List (List ℕ)) (ms : List Member) (a : Asked) → Calls words ms a → AskSelfTest words → ⊥
+calls_no_test words ms a calls (links, test) = no_file words links a test calls.asks
+
+-- nor do words of no use
+pub misuse_no_test : (words : List (List ℕ)) (ms : List Member) → IsMisuse words ms → AskSelfTest words → ⊥
+misuse_no_test words ms none (links, test) = none.self_test links test

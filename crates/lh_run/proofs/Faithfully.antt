@@ -7,8 +7,8 @@ use Rattle.lh_unit.specs.Canon.{canon}
 use Rattle.lh_unit.specs.Contents.{ItemText}
 use Rattle.lh_unit.specs.Reads.{Reads}
 use Rattle.lh_watch.specs.Members.{Member}
-use Rattle.lh_words.specs.Forms.{Asked, lower}
-use Rattle.lh_words.proofs.Forms.{one_form}
+use Rattle.lh_words.specs.Forms.{Asked, lower, AsksSelfTest}
+use Rattle.lh_words.proofs.Forms.{one_form, no_file}
 use Rattle.lh_lowered.specs.Lowering.{lowered, report}
 use Rattle.lh_lowered.specs.Report.{report_text}
 use Rattle.lh_run.specs.Account.{Use, use_of, Puts, OfSource}
@@ -48,6 +48,10 @@ unloaded words bytes ended out log loads = record { where_done = λ said done. a
 -- misuse is not done
 pub misused : (words : List (List ℕ)) (bytes : List ℕ) (out log : Use) → LowersFaithfully words bytes Usage out log
 misused words bytes out log = record { where_done = λ said done. absurd cc }
+
+-- a self-test is no `lower`
+pub no_lowering : (words : List (List ℕ)) (bytes : List ℕ) (links : ℕ) (ended : Status) (out log : Use) → AsksSelfTest words links → LowersFaithfully words bytes ended out log
+no_lowering words bytes links ended out log test = record { where_done = λ said done. absurd (no_file words links lower test said) }
 
 -- no line is written of what is done
 no-line : (r : Result (Unit {0}) Failed) (held now : Option (List ℕ)) (was_faults faults : ℕ) → Puts r (use_of held now was_faults faults) [] → Appends held now []

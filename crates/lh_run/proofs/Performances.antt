@@ -1,7 +1,9 @@
 -- What a run does up to its status line, from what its steps leave.
-use Rattle.std.proofs.Common.{◌≡◌, ℕ, ◌≤◌, inl, inr, List, [], refl, sym, ap, subst, Bool, true, false, Option, Some, None, IfSome, Err}
+use Rattle.std.proofs.Common.{arith, ◌≡◌, ℕ, ◌≤◌, inl, inr, List, [], refl, sym, ap, subst, Bool, true, false, Option, Some, None, IfSome, Err}
 use Rattle.std.proofs.lemmas.List.{append-nil}
+use Rattle.lh_types.specs.Raised.{raised}
 use Rattle.lh_io.specs.Streams.{Appends}
+use Rattle.lh_io.specs.Whole.{Takes}
 use Rattle.lh_unit.specs.Contents.{ItemText}
 use Rattle.lh_unit.specs.Reads.{Reads}
 use Rattle.lh_unit.specs.Trace.{Trace, refuses, ran, trace}
@@ -10,15 +12,17 @@ use Rattle.lh_wave.specs.declared.ending.End.{End}
 use Rattle.lh_wave.specs.declared.ending.End.TheVariants as end
 use Rattle.lh_watch.specs.Members.{Member}
 use Rattle.lh_watch.specs.Shown.{kept}
-use Rattle.lh_words.specs.Forms.{Simulation, Asked, check, lower, simulate}
+use Rattle.lh_words.specs.Forms.{Simulation, Asked, check, lower, simulate, AsksSelfTest}
+use Rattle.lh_chain.specs.Laws.{GeneratedReads}
+use Rattle.lh_selftest.specs.Answer.{answer_of}
 use Rattle.lh_run.specs.Called.{Calls, IsMisuse}
 use Rattle.lh_run.specs.Simulated.{status_by, fault_of, Shows}
-use Rattle.lh_run.specs.Result.{source_limit, is_too_long, Lowers, Makes, MayLeave, usage, source_too_long, refused, made}
+use Rattle.lh_run.specs.Result.{source_limit, is_too_long, Lowers, Makes, MayLeave, usage, tested, source_too_long, refused, made}
 use Rattle.lh_run.specs.Account.{Use, use_of, IsStatusFor, Leaves, AreLeft, Performs, OfSource, IsCountFor, IsReadToEnd}
-use Rattle.lh_run.specs.Steps.{IsLoaded, Loads, AreLeftBy, Carries}
+use Rattle.lh_run.specs.Steps.{IsLoaded, Loads, AreLeftBy, Carries, WritesSelfTest}
 use Rattle.lh_run.specs.declared.status.Status.{Status}
 use Rattle.lh_run.specs.declared.status.Status.TheVariants.{Usage, ReadFault, SourceTooLong, Refused, Top, OutputTooLong, WriteFault, Runaway, AssertFailed, Done, OutOfMemory}
-use Rattle.lh_run.proofs.Results.{HasOneResult-called}
+use Rattle.lh_run.proofs.Results.{HasOneResult-called, HasOneResult-tested}
 
 pub Appends_nothing : (was : Option (List ℕ)) → Appends was was []
 Appends_nothing None = tt
@@ -142,6 +146,73 @@ Performs-carried words bytes ms a file ended out log now calls loaded c = record
   members = AreLeft_of words bytes ms c.left now a file ended calls loaded.reads c.members;
 }
 
+-- a self-test
+pub Performs-tested : GeneratedReads → (words : List (List ℕ)) (bytes : List ℕ) (ms : List Member) (links : ℕ) (ended : Status) (out : Use) (lw : Option (List ℕ)) (lf : ℕ) → AsksSelfTest words links → WritesSelfTest links ended out → Performs words bytes ms ended out (unused lw lf) ms
+Performs-tested law words bytes ms links Done out lw lf test (file, reads, gained) = record {
+  status = Done;
+  out_text = answer_of file;
+  log_text = [];
+  left = ms;
+  result = tested links file test reads;
+  sinks = record {
+    out_part = answer_of file;
+    log_part = [];
+    by_status = (refl, refl, refl);
+    out_prefix = ([], sym (append-nil (answer_of file)));
+    log_prefix = ([], refl);
+    in_order = inl refl;
+    out_gained = gained;
+    log_gained = Appends_nothing lw;
+  };
+  members = refl;
+}
+Performs-tested law words bytes ms links WriteFault out lw lf test (file, reads, off) = record {
+  status = Done;
+  out_text = answer_of file;
+  log_text = [];
+  left = ms;
+  result = tested links file test reads;
+  sinks = record {
+    out_part = off.part;
+    log_part = [];
+    by_status = inl (off.is_prefix, off.rose);
+    out_prefix = (off.is_prefix.rest, off.is_prefix.split);
+    log_prefix = ([], refl);
+    in_order = inr refl;
+    out_gained = off.gained;
+    log_gained = Appends_nothing lw;
+  };
+  members = inl refl;
+}
+Performs-tested law words bytes ms links OutOfMemory out lw lf test gained =
+    let one = HasOneResult-tested law words bytes ms links test in
+    record {
+      status = one.status;
+      out_text = one.out;
+      log_text = one.log;
+      left = one.left;
+      result = one.result;
+      sinks = record {
+        out_part = [];
+        log_part = [];
+        by_status = tt;
+        out_prefix = (one.out, refl);
+        log_prefix = (one.log, refl);
+        in_order = inr refl;
+        out_gained = gained;
+        log_gained = Appends_nothing lw;
+      };
+      members = inl refl;
+    }
+Performs-tested law words bytes ms links Usage out lw lf test h = absurd h
+Performs-tested law words bytes ms links ReadFault out lw lf test h = absurd h
+Performs-tested law words bytes ms links SourceTooLong out lw lf test h = absurd h
+Performs-tested law words bytes ms links (Refused why) out lw lf test h = absurd h
+Performs-tested law words bytes ms links (Top why) out lw lf test h = absurd h
+Performs-tested law words bytes ms links OutputTooLong out lw lf test h = absurd h
+Performs-tested law words bytes ms links (Runaway i) out lw lf test h = absurd h
+Performs-tested law words bytes ms links AssertFailed out lw lf test h = absurd h
+
 -- the statuses that a command on a file has as its result
 abbrev IsMadeStatus : Status → Type 0
 IsMadeStatus (Top why) = Unit {0}
@@ -233,6 +304,48 @@ never_reads ended R p is = let P : Status → Type 0 = λ x. IsCarriedStatus x i
 -- nor as a misuse
 pub never_usage : (ended : Status) (R : Type 0) → IsCarriedStatus ended → ended ≡ Usage → R
 never_usage ended R p is = let P : Status → Type 0 = λ x. IsCarriedStatus x in absurd (subst P is p)
+
+-- the statuses with which a self-test ends
+abbrev pub IsTestStatus : Status → Type 0
+IsTestStatus WriteFault = Unit {0}
+IsTestStatus Done = Unit {0}
+IsTestStatus OutOfMemory = Unit {0}
+IsTestStatus _ = ⊥
+
+pub WritesSelfTest-status : (links : ℕ) (ended : Status) (out : Use) → WritesSelfTest links ended out → IsTestStatus ended
+WritesSelfTest-status links Done out h = tt
+WritesSelfTest-status links WriteFault out h = tt
+WritesSelfTest-status links OutOfMemory out h = tt
+WritesSelfTest-status links Usage out h = h
+WritesSelfTest-status links ReadFault out h = h
+WritesSelfTest-status links SourceTooLong out h = h
+WritesSelfTest-status links (Refused why) out h = h
+WritesSelfTest-status links (Top why) out h = h
+WritesSelfTest-status links OutputTooLong out h = h
+WritesSelfTest-status links (Runaway i) out h = h
+WritesSelfTest-status links AssertFailed out h = h
+
+-- a status with which a self-test ends is one with which a command on a file may end
+pub IsTestStatus-carried : (ended : Status) → IsTestStatus ended → IsCarriedStatus ended
+IsTestStatus-carried Done h = tt
+IsTestStatus-carried WriteFault h = tt
+IsTestStatus-carried OutOfMemory h = tt
+IsTestStatus-carried Usage h = absurd h
+IsTestStatus-carried ReadFault h = absurd h
+IsTestStatus-carried SourceTooLong h = absurd h
+IsTestStatus-carried (Refused why) h = absurd h
+IsTestStatus-carried (Top why) h = absurd h
+IsTestStatus-carried OutputTooLong h = absurd h
+IsTestStatus-carried (Runaway i) h = absurd h
+IsTestStatus-carried AssertFailed h = absurd h
+
+-- nothing was taken
+raised_none : (n : ℕ) → n ≡ raised n 0
+raised_none n = omega arith
+
+pub takes_none : (left : Option (List ℕ)) (taken : ℕ) → Takes left left taken taken 0
+takes_none None taken = record { counted = raised_none taken; told = tt }
+takes_none (Some bytes) taken = record { counted = raised_none taken; told = (omega arith, refl) }
 
 -- what holds of all bytes holds of those of a source
 pub of_any : (source : Option (List ℕ)) (P : List ℕ → Type 0) → ((bytes : List ℕ) → P bytes) → OfSource source P

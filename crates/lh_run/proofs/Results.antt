@@ -13,14 +13,18 @@ use Rattle.lh_watch.specs.Members.{Member}
 use Rattle.lh_watch.specs.Shown.{kept}
 use Rattle.lh_wave.specs.ShownRun.{shown_run, all_reports, any_failed}
 use Rattle.lh_wave.specs.RunText.{text_in}
-use Rattle.lh_words.specs.Forms.{Simulation, Asked, check, lower, simulate}
-use Rattle.lh_words.proofs.Forms.{one_form}
+use Rattle.lh_words.specs.Forms.{Simulation, Asked, check, lower, simulate, AsksSelfTest}
+use Rattle.lh_words.proofs.Forms.{one_form, one_self_test, no_file}
 use Rattle.lh_lowered.specs.Lowering.{lowered, report}
 use Rattle.lh_lowered.specs.Report.{report_text}
+use Rattle.lh_generator.specs.Generated.{generated}
+use Rattle.lh_chain.specs.Chain.{chain_file}
+use Rattle.lh_chain.specs.Laws.{GeneratedReads}
+use Rattle.lh_selftest.specs.Answer.{answer_of}
 use Rattle.lh_run.proofs.Readings.{FirstBad-or-Reads, Reads-not-FirstBad, Reads-unique, FirstBad-unique}
 use Rattle.lh_run.specs.Called.{Calls, IsMisuse}
 use Rattle.lh_run.specs.Simulated.{fault_of, status_by, mode_of, Shows}
-use Rattle.lh_run.specs.Result.{source_limit, HasFirstFault, IsRefusedFor, is_too_long, Lowers, Makes, IsResult, usage, source_too_long, refused, made}
+use Rattle.lh_run.specs.Result.{source_limit, HasFirstFault, IsRefusedFor, is_too_long, Lowers, Makes, IsResult, usage, tested, source_too_long, refused, made}
 use Rattle.lh_run.specs.Account.{HasOneResult}
 use Rattle.lh_run.specs.declared.status.Refusal.{Refusal}
 use Rattle.lh_run.specs.declared.status.Refusal.TheVariants.{Syntax, UnitTooLarge, DuplicateName, Invalid}
@@ -111,20 +115,35 @@ Makes-unique a b file again ms status s out o log l left now one same p q =
 Calls-unique : (words : List (List ℕ)) (ms : List Member) (a b : Asked) → Calls words ms a → Calls words ms b → b ≡ a
 Calls-unique words ms a b p q = one_form words b a q.asks p.asks
 
+-- one self-test has one answer
+same_answer : (words : List (List ℕ)) (n m : ℕ) (file again : List ItemText) → AsksSelfTest words n → AsksSelfTest words m → Reads (generated n) file → Reads (generated m) again → answer_of again ≡ answer_of file
+same_answer words n m file again p q a b =
+    let b' : Reads (generated n) again = subst (λ (k : ℕ). Reads (generated k) again) (one_self_test words m n q p) b in
+    ap answer_of (Reads-unique (generated n) again file b' a)
+
 pub IsResult-unique : (words : List (List ℕ)) (bytes : List ℕ) (ms : List Member) (status s : Status) (out log o l : List ℕ) (left now : List Member) → IsResult words bytes ms status out log left → IsResult words bytes ms s o l now → Same status s out o log l left now
 IsResult-unique words bytes ms _ _ _ _ _ _ _ _ (usage none) (usage none') = (refl, refl, refl, refl)
-IsResult-unique words bytes ms _ _ _ _ _ _ _ _ (usage none) (source_too_long b calls long) = absurd (none b calls)
-IsResult-unique words bytes ms _ _ _ _ _ _ _ _ (usage none) (refused b why calls few bad) = absurd (none b calls)
-IsResult-unique words bytes ms _ _ _ _ _ _ _ _ (usage none) (made b file s o l now calls few reads sound makes) = absurd (none b calls)
-IsResult-unique words bytes ms _ _ _ _ _ _ _ _ (source_too_long a calls long) (usage none) = absurd (none a calls)
+IsResult-unique words bytes ms _ _ _ _ _ _ _ _ (usage none) (source_too_long b calls long) = absurd (none.on_file b calls)
+IsResult-unique words bytes ms _ _ _ _ _ _ _ _ (usage none) (refused b why calls few bad) = absurd (none.on_file b calls)
+IsResult-unique words bytes ms _ _ _ _ _ _ _ _ (usage none) (made b file s o l now calls few reads sound makes) = absurd (none.on_file b calls)
+IsResult-unique words bytes ms _ _ _ _ _ _ _ _ (usage none) (tested n own test read) = absurd (none.self_test n test)
+IsResult-unique words bytes ms _ _ _ _ _ _ _ _ (tested n own test read) (usage none) = absurd (none.self_test n test)
+IsResult-unique words bytes ms _ _ _ _ _ _ _ _ (tested n own test read) (source_too_long b calls long) = absurd (no_file words n b test calls.asks)
+IsResult-unique words bytes ms _ _ _ _ _ _ _ _ (tested n own test read) (refused b why calls few bad) = absurd (no_file words n b test calls.asks)
+IsResult-unique words bytes ms _ _ _ _ _ _ _ _ (tested n own test read) (made b file s o l now calls few reads sound makes) = absurd (no_file words n b test calls.asks)
+IsResult-unique words bytes ms _ _ _ _ _ _ _ _ (tested n file test reads) (tested m again test' reads') = (refl, same_answer words n m file again test test' reads reads', refl, refl)
+IsResult-unique words bytes ms _ _ _ _ _ _ _ _ (source_too_long a calls long) (tested n own test read) = absurd (no_file words n a test calls.asks)
+IsResult-unique words bytes ms _ _ _ _ _ _ _ _ (refused a why calls few bad) (tested n own test read) = absurd (no_file words n a test calls.asks)
+IsResult-unique words bytes ms _ _ _ _ _ _ _ _ (made a file status out log left calls few reads sound makes) (tested n own test read) = absurd (no_file words n a test calls.asks)
+IsResult-unique words bytes ms _ _ _ _ _ _ _ _ (source_too_long a calls long) (usage none) = absurd (none.on_file a calls)
 IsResult-unique words bytes ms _ _ _ _ _ _ _ _ (source_too_long a calls long) (source_too_long b calls' long') = (refl, refl, refl, refl)
 IsResult-unique words bytes ms _ _ _ _ _ _ _ _ (source_too_long a calls long) (refused b why calls' few bad) = absurd (omega arith)
 IsResult-unique words bytes ms _ _ _ _ _ _ _ _ (source_too_long a calls long) (made b file s o l now calls' few reads sound makes) = absurd (omega arith)
-IsResult-unique words bytes ms _ _ _ _ _ _ _ _ (refused a why calls few bad) (usage none) = absurd (none a calls)
+IsResult-unique words bytes ms _ _ _ _ _ _ _ _ (refused a why calls few bad) (usage none) = absurd (none.on_file a calls)
 IsResult-unique words bytes ms _ _ _ _ _ _ _ _ (refused a why calls few bad) (source_too_long b calls' long) = absurd (omega arith)
 IsResult-unique words bytes ms _ _ _ _ _ _ _ _ (refused a why calls few bad) (refused b again calls' few' bad') = (ap Refused (IsRefusedFor-unique bytes again why bad' bad), refl, refl, refl)
 IsResult-unique words bytes ms _ _ _ _ _ _ _ _ (refused a why calls few bad) (made b file s o l now calls' few' reads sound makes) = absurd (Reads-not-refused bytes file why reads sound bad)
-IsResult-unique words bytes ms _ _ _ _ _ _ _ _ (made a file status out log left calls few reads sound makes) (usage none) = absurd (none a calls)
+IsResult-unique words bytes ms _ _ _ _ _ _ _ _ (made a file status out log left calls few reads sound makes) (usage none) = absurd (none.on_file a calls)
 IsResult-unique words bytes ms _ _ _ _ _ _ _ _ (made a file status out log left calls few reads sound makes) (source_too_long b calls' long) = absurd (omega arith)
 IsResult-unique words bytes ms _ _ _ _ _ _ _ _ (made a file status out log left calls few reads sound makes) (refused b why calls' few' bad) = absurd (Reads-not-refused bytes file why reads sound bad)
 IsResult-unique words bytes ms _ _ _ _ _ _ _ _ (made a file status out log left calls few reads sound makes) (made b again s o l now calls' few' reads' sound' makes') =
@@ -143,6 +162,12 @@ one_result words bytes ms status out log left result = record {
 -- words of no use have one result
 pub HasOneResult-misuse : (words : List (List ℕ)) (bytes : List ℕ) (ms : List Member) → IsMisuse words ms → HasOneResult words bytes ms
 HasOneResult-misuse words bytes ms none = one_result words bytes ms Usage [] [] ms (usage none)
+
+-- a self-test has one result
+pub HasOneResult-tested : GeneratedReads → (words : List (List ℕ)) (bytes : List ℕ) (ms : List Member) (links : ℕ) → AsksSelfTest words links → HasOneResult words bytes ms
+HasOneResult-tested reads words bytes ms links test =
+    let file = chain_file links in
+    one_result words bytes ms Done (answer_of file) [] ms (tested links file test (reads links test.links_said.at_most))
 
 -- what a command makes of a file
 pub record Made (a : Asked) (file : List ItemText) (ms : List Member) : Type 0 where

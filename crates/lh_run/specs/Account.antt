@@ -6,7 +6,7 @@ use Rattle.lh_unit.specs.Contents.{ItemText}
 use Rattle.lh_unit.specs.Reads.{Reads}
 use Rattle.lh_watch.specs.Members.{Member}
 use Rattle.lh_words.specs.Forms.{Asked}
-use Rattle.lh_run.specs.Called.{Calls}
+use Rattle.lh_run.specs.Called.{Calls, AskSelfTest}
 use Rattle.lh_run.specs.Result.{MayLeave, IsResult, source_limit}
 use Rattle.lh_run.specs.StatusLines.{status_line}
 use Rattle.lh_run.specs.declared.status.Status.{Status}
@@ -122,6 +122,10 @@ IsReadToEnd ReadFault was_left left = Unit {0}
 IsReadToEnd SourceTooLong was_left left = Unit {0}
 IsReadToEnd OutOfMemory was_left left = Unit {0}
 IsReadToEnd _ was_left left = IfSome was_left (λ _. left ≡ Some [])
+
+-- the same, but for a self-test, which reads nothing
+abbrev pub IsReadToEndFor : List (List ℕ) → Status → Option (List ℕ) → Option (List ℕ) → Type 0
+IsReadToEndFor words status was_left left = (AskSelfTest words → ⊥) → IsReadToEnd status was_left left
 
 -- words, bytes and members have exactly one result
 pub record HasOneResult (words : List (List ℕ)) (bytes : List ℕ) (ms : List Member) : Type 0 where

@@ -3,7 +3,7 @@ use Rattle.std.specs.Prelude.{ℕ, ◌<◌, List, Bool, IsTrue}
 use Rattle.std.specs.List.{list_any, list_all}
 use Rattle.std.specs.Str.{bytes_eq}
 use Rattle.lh_watch.specs.Members.{Member}
-use Rattle.lh_words.specs.Forms.{Asked, check, lower, simulate, Asks}
+use Rattle.lh_words.specs.Forms.{Asked, check, lower, simulate, Asks, AsksSelfTest}
 
 -- a member has this title
 abbrev pub is_title : List Member → List ℕ → Bool
@@ -15,7 +15,7 @@ KnowsTitles ms check = Unit {0}
 KnowsTitles ms lower = Unit {0}
 KnowsTitles ms (simulate s) = IsTrue (list_all (is_title ms) s.titles)
 
--- The words ask for this, and it can be done with these members.
+-- The words ask for this of a file, and it can be done with these members.
 pub record Calls (words : List (List ℕ)) (ms : List Member) (a : Asked) : Type 0 where
   pub asks : Asks words a
   pub titled : KnowsTitles ms a
@@ -27,5 +27,10 @@ HasFrames lower = Unit {0}
 HasFrames (simulate s) = 0 < s.steps
 
 -- The words have none of the forms, or watch a title that no member has.
-abbrev pub IsMisuse : List (List ℕ) → List Member → Type 0
-IsMisuse words ms = (a : Asked) → Calls words ms a → ⊥
+pub record IsMisuse (words : List (List ℕ)) (ms : List Member) : Type 0 where
+  pub on_file : (a : Asked) → Calls words ms a → ⊥
+  pub self_test : (links : ℕ) → AsksSelfTest words links → ⊥
+
+-- the words ask for a self-test
+abbrev pub AskSelfTest : List (List ℕ) → Type 0
+AskSelfTest words = (links : ℕ) × AsksSelfTest words links

@@ -7,9 +7,11 @@ use Rattle.lh_unit.specs.Trace.{trace}
 use Rattle.lh_unit.specs.WellFormed.{FaultKind, number_of, IsFirstFault, IsFaultless}
 use Rattle.lh_unit.specs.declared.name.UnitName.{UnitName}
 use Rattle.lh_watch.specs.Members.{Member}
-use Rattle.lh_words.specs.Forms.{Asked, check, lower, simulate}
+use Rattle.lh_words.specs.Forms.{Asked, check, lower, simulate, AsksSelfTest}
 use Rattle.lh_lowered.specs.Lowering.{lowered, report}
 use Rattle.lh_lowered.specs.Report.{report_text}
+use Rattle.lh_generator.specs.Generated.{generated}
+use Rattle.lh_selftest.specs.Answer.{answer_of}
 use Rattle.lh_run.specs.Called.{Calls, IsMisuse}
 use Rattle.lh_run.specs.Simulated.{Shows, MayBeLeft}
 use Rattle.lh_run.specs.declared.status.Refusal.{Refusal}
@@ -56,9 +58,10 @@ MayLeave lower file ms now = now ≡ ms
 MayLeave (simulate s) file ms now = MayBeLeft s ms (trace file s.top s.steps) now
 
 -- The status, the text for the output, the text for the log before the line of the status, and the members that are left.
--- The rows stand in the order of refusals, and each holds only where none above it does.
+-- The rows stand in the order of refusals, and each holds only where none above it does. What `selftest` writes does not depend on the bytes.
 pub data IsResult (words : List (List ℕ)) (bytes : List ℕ) (ms : List Member) : Status → List ℕ → List ℕ → List Member → Type 0 where
   usage : IsMisuse words ms → IsResult words bytes ms Usage [] [] ms
+  tested : (links : ℕ) (file : List ItemText) → AsksSelfTest words links → Reads (generated links) file → IsResult words bytes ms Done (answer_of file) [] ms
   source_too_long : (a : Asked) → Calls words ms a → source_limit < length bytes → IsResult words bytes ms SourceTooLong [] [] ms
   refused : (a : Asked) (why : Refusal) → Calls words ms a → length bytes ≤ source_limit → IsRefusedFor bytes why → IsResult words bytes ms (Refused why) [] [] ms
   made : (a : Asked) (file : List ItemText) (status : Status) (out log : List ℕ) (left : List Member) → Calls words ms a → length bytes ≤ source_limit → Reads bytes file → IsFaultless file → Makes a file ms status out log left → IsResult words bytes ms status out log left

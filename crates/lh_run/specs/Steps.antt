@@ -22,10 +22,13 @@ use Rattle.lh_wave.specs.declared.run.WaveFault.TheVariants as wave
 use Rattle.lh_wave.specs.BrokenOff.{HaveSeen}
 use Rattle.lh_wave.specs.RunText.{text_in}
 use Rattle.lh_wave.specs.ShownRun.{ShownRun, shown_run, all_reports, any_failed}
-use Rattle.lh_words.specs.Forms.{Asked}
+use Rattle.lh_words.specs.Forms.{Asked, AsksSelfTest}
 use Rattle.lh_lowered.specs.Lowering.{lowered, report}
 use Rattle.lh_lowered.specs.Report.{report_text}
+use Rattle.lh_generator.specs.Generated.{generated}
+use Rattle.lh_selftest.specs.Answer.{answer_of}
 use Rattle.lh_words.specs.declared.command.Command.{Command}
+use Rattle.lh_words.specs.declared.command.Command.TheVariants.{OnFile, Selftest}
 use Rattle.lh_words.specs.Meant.{meant}
 use Rattle.lh_run.specs.Called.{Calls, IsMisuse}
 use Rattle.lh_run.specs.Simulated.{fault_of, status_by, mode_of}
@@ -61,7 +64,8 @@ ended (Err status) = status
 
 -- the words call for the command, where there is one, and else for nothing
 abbrev pub IsCalled : List (List ℕ) → List Member → Option Command → Type 0
-IsCalled words ms (Some c) = Calls words ms (meant c)
+IsCalled words ms (Some (OnFile c)) = Calls words ms (meant c)
+IsCalled words ms (Some (Selftest links)) = AsksSelfTest words links
 IsCalled words ms None = IsMisuse words ms
 
 -- the status of a file with a fault names its first one; want of memory says nothing
@@ -108,6 +112,13 @@ WritesCanon file Done out = Gained out (canon file)
 WritesCanon file WriteFault out = BreaksOff out (canon file)
 WritesCanon file OutOfMemory out = Gained out []
 WritesCanon file _ out = ⊥
+
+-- how much of the text of a self-test came to the output, by how the writing of it ends
+abbrev pub WritesSelfTest : (links : ℕ) → Status → (out : Use) → Type 0
+WritesSelfTest links Done out = (file : List ItemText) × Reads (generated links) file × Gained out (answer_of file)
+WritesSelfTest links WriteFault out = (file : List ItemText) × Reads (generated links) file × BreaksOff out (answer_of file)
+WritesSelfTest links OutOfMemory out = Gained out []
+WritesSelfTest links _ out = ⊥
 
 -- the texts of a file that is lowered
 pub record IsTexts (file : List ItemText) (t : Texts) : Type 0 where

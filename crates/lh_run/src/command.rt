@@ -1,11 +1,11 @@
 //! What the program is called for, and the commands on a well-formed file.
-ghost use Rattle.std.specs.Prelude.{◌≡◌, ◌≤◌, map};
+ghost use Rattle.std.specs.Prelude.{◌≡◌, ◌≤◌, ◌↔◌, IsTrue, map};
 ghost use Rattle.std.specs.List.{list_all};
 ghost use Rattle.std.specs.Str.{bytes_eq};
 ghost use Rattle.lh_unit.specs.Arena.{contents};
 ghost use Rattle.lh_words.specs.Forms.{check};
 ghost use Rattle.lh_words.specs.Meant.{meant, simulation_of};
-ghost use Rattle.lh_run.specs.Called.{is_title, HasFrames};
+ghost use Rattle.lh_run.specs.Called.{is_title, KnowsTitles, HasFrames};
 ghost use Rattle.lh_run.specs.Account.{use_of};
 ghost use Rattle.lh_run.specs.Faithful.{LowersFile};
 ghost use Rattle.lh_run.specs.Steps.{IsCalled, Carries, WritesCanon, ended};
@@ -19,7 +19,7 @@ use lh_print::print;
 use lh_types::list::TextList;
 use lh_verify::verify::Verified;
 use lh_watch::watcher::Watcher;
-use lh_words::command::{Command, Simulate, command_of};
+use lh_words::command::{Command, FileCommand, Simulate, command_of};
 use std::alloc::Global;
 
 /// The command that the words call for, without memory; none where they have no form, or watch a title that no watcher has.
@@ -28,14 +28,24 @@ pub fn called<'a, W: Watcher>(words: &'a TextList, watchers: &[W]) -> Option<Com
 {
     let command = command_of(words)?;
     match command {
-        Command::Check | Command::Lower => Some(command),
-        Command::Simulate(asked) => {
-            if knows_titles(&asked, watchers) {
+        Command::OnFile(on_file) => {
+            if can_do(on_file, watchers) {
                 Some(command)
             } else {
                 None
             }
         }
+        Command::Selftest(_) => Some(command),
+    }
+}
+
+// Whether a command can be done with these watchers.
+fn can_do<W: Watcher>(command: FileCommand<'_>, watchers: &[W]) -> bool
+    ensures { IsTrue result ↔ KnowsTitles (map W.member watchers.now) (meant command.entry) }
+{
+    match command {
+        FileCommand::Check | FileCommand::Lower => true,
+        FileCommand::Simulate(asked) => knows_titles(&asked, watchers),
     }
 }
 
@@ -74,7 +84,7 @@ fn is_titled<W: Watcher>(watcher: &W, title: &[u8]) -> bool
 /// Carries out a command on a well-formed file; all of a run but the reading and the status line.
 pub fn carry_out<O: Sink, L: Sink, W: Watcher>(
     alloc: Global,
-    command: Command<'_>,
+    command: FileCommand<'_>,
     file: &Verified,
     out: &mut O,
     log: &mut L,
@@ -86,15 +96,15 @@ pub fn carry_out<O: Sink, L: Sink, W: Watcher>(
     ensures never_fall { L.faults log.old ≤ L.faults log.new }
 {
     match command {
-        Command::Check => match check(alloc, file, out) {
+        FileCommand::Check => match check(alloc, file, out) {
             Ok(()) => Status::Done,
             Err(status) => status,
         },
-        Command::Lower => match lower_file(alloc, file, out, log) {
+        FileCommand::Lower => match lower_file(alloc, file, out, log) {
             Ok(()) => Status::Done,
             Err(status) => status,
         },
-        Command::Simulate(asked) => match simulate(alloc, &asked, file, out, log, watchers) {
+        FileCommand::Simulate(asked) => match simulate(alloc, &asked, file, out, log, watchers) {
             Ok(ending) => status_of(ending),
             Err(status) => status,
         },

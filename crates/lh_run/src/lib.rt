@@ -4,6 +4,7 @@
 mod command;
 mod load;
 mod lowering;
+mod selftest;
 mod simulate;
 pub mod status;
 pub mod top;

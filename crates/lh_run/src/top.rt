@@ -2,16 +2,19 @@
 ghost use Rattle.std.specs.Prelude.{◌≡◌, ◌≤◌, ◌↔◌, ℕ, List, IfSome, map};
 ghost use Rattle.lh_io.specs.Streams.{Rose};
 ghost use Rattle.lh_io.specs.Whole.{Takes};
-ghost use Rattle.lh_run.specs.Called.{IsMisuse};
+ghost use Rattle.lh_run.specs.Called.{AskSelfTest, IsMisuse};
 ghost use Rattle.lh_run.specs.Faithful.{LowersFaithfully};
-ghost use Rattle.lh_run.specs.Account.{use_of, OfSource, IsCountFor, IsReadToEnd, Performs, Account, HasOneResult, IsResultOrNoMemory};
+ghost use Rattle.lh_run.specs.Account.{use_of, OfSource, IsCountFor, IsReadToEndFor, Performs, Account, HasOneResult, IsResultOrNoMemory};
 
 use crate::command::{called, carry_out};
 use crate::load::load;
+use crate::selftest::test_itself;
 use crate::status::Status;
+use lh_chain::laws::reading_law;
 use lh_io::stream::{Sink, Source};
 use lh_types::list::TextList;
 use lh_watch::watcher::Watcher;
+use lh_words::command::Command;
 use std::alloc::Global;
 
 // Does what the words ask for; all of a run but its status line.
@@ -26,21 +29,27 @@ fn perform<S: Source, O: Sink, L: Sink, W: Watcher>(
     ensures usage { (result ≡ Status.Usage) ↔ IsMisuse words.now (map W.member watchers.old.items) }
     ensures untouched { result ≡ Status.Usage → (src.new ≡ src.old) × (out.new ≡ out.old) × (watchers.new ≡ watchers.old) }
     ensures performs { OfSource (S.left src.old) (λ bytes. Performs words.now bytes (map W.member watchers.old.items) result (use_of (O.written out.old) (O.written out.new) (O.faults out.old) (O.faults out.new)) (use_of (L.written log.old) (L.written log.new) (L.faults log.old) (L.faults log.new)) (map W.member watchers.new.items)) }
+    ensures reads_nothing { AskSelfTest words.now → (src.new ≡ src.old) × (watchers.new ≡ watchers.old) }
     ensures came { (n : ℕ) × IsCountFor result n × Takes (S.left src.old) (S.left src.new) (S.taken src.old) (S.taken src.new) n }
-    ensures to_the_end { IsReadToEnd result (S.left src.old) (S.left src.new) }
+    ensures to_the_end { IsReadToEndFor words.now result (S.left src.old) (S.left src.new) }
     ensures rose { result ≡ Status.ReadFault → Rose (S.faults src.old) (S.faults src.new) }
     ensures one_result { (bytes : List ℕ) → HasOneResult words.now bytes (map W.member watchers.old.items) }
     ensures faithful { OfSource (S.left src.old) (λ bytes. LowersFaithfully words.now bytes result (use_of (O.written out.old) (O.written out.new) (O.faults out.old) (O.faults out.new)) (use_of (L.written log.old) (L.written log.new) (L.faults log.old) (L.faults log.new))) }
     ensures never_fall { L.faults log.old ≤ L.faults log.new }
 {
+    reading_law();
     let Some(command) = called(words, watchers.as_slice()) else {
         return Status::Usage;
+    };
+    let on_file = match command {
+        Command::Selftest(links) => return test_itself(alloc, links, out),
+        Command::OnFile(on_file) => on_file,
     };
     let file = match load(alloc, src) {
         Ok(file) => file,
         Err(status) => return status,
     };
-    carry_out(alloc, command, &file, out, log, watchers)
+    carry_out(alloc, on_file, &file, out, log, watchers)
 }
 
 /// Does what the words ask for, writes the status line to `log`, and answers the status.
@@ -68,8 +77,9 @@ pub fn run<S: Source, O: Sink, L: Sink>(
     ensures untouched { result ≡ Status.Usage → (src.new ≡ src.old) × (out.new ≡ out.old) × (watchers.new ≡ watchers.old) }
 
     // What was taken from the source.
+    ensures reads_nothing { AskSelfTest words.now → (src.new ≡ src.old) × (watchers.new ≡ watchers.old) }
     ensures came { (n : ℕ) × IsCountFor result n × Takes (S.left src.old) (S.left src.new) (S.taken src.old) (S.taken src.new) n }
-    ensures to_the_end { IsReadToEnd result (S.left src.old) (S.left src.new) }
+    ensures to_the_end { IsReadToEndFor words.now result (S.left src.old) (S.left src.new) }
     ensures read_fault { result ≡ Status.ReadFault → Rose (S.faults src.old) (S.faults src.new) }
 {
     let status = perform(alloc, words, src, out, log, watchers);

@@ -1,6 +1,7 @@
 //! Runs in memory: each status, and each call of the source and of the sinks failing in turn.
 mod activations;
 mod failing;
+mod lowering;
 mod simulations;
 mod texts;
 

@@ -13,7 +13,7 @@ use lh_watch::shows::keep_titles;
 use lh_watch::watcher::Watcher;
 use lh_wave::ending::{End, Ending};
 use lh_wave::run::{WaveFault, WaveMode, run_wave};
-use lh_words::command::{Command, Simulate, Titles, command_of};
+use lh_words::command::{Command, FileCommand, Simulate, Titles, command_of};
 use std::alloc::Global;
 
 /// The most bytes of a trace or a waveform.
@@ -39,7 +39,7 @@ struct Shown {
 /// The text of a simulation that the words of a command line ask for, the reports, and whether an assertion failed.
 pub fn simulated(alloc: Global, words: &[&str], text: &[u8]) -> Result<Vec<u8>, Refusal> {
     let words = texts(alloc, words)?;
-    let Some(Command::Simulate(asked)) = command_of(&words) else {
+    let Some(Command::OnFile(FileCommand::Simulate(asked))) = command_of(&words) else {
         return Err(Refusal::OutOfMemory);
     };
     let file = load(alloc, text)?;

@@ -16,7 +16,7 @@ use lh_region::asking::value_at;
 use lh_region::branch::and_at;
 use lh_region::effects::{DriveAt, assert_at, drive, part_of, probe};
 use lh_region::giving::give;
-use lh_region::state::Place;
+use lh_region::places::Places;
 use lh_region::taking::operate;
 use lh_term::term::TermId;
 use lh_term::terms::Terms;
@@ -179,7 +179,7 @@ impl Walk {
 /// Gives a constant to a value.
 fn give_constant(
     terms: &mut Terms,
-    places: &mut Vec<Place>,
+    places: &mut Places,
     at: usize,
     to: u32,
     value: &Val,
@@ -198,7 +198,7 @@ fn give_constant(
 fn give_value(
     alloc: Global,
     terms: &mut Terms,
-    places: &mut Vec<Place>,
+    places: &mut Places,
     at: usize,
     of: u32,
     to: u32,
@@ -217,7 +217,7 @@ fn give_value(
 fn give_operation(
     alloc: Global,
     terms: &mut Terms,
-    places: &mut Vec<Place>,
+    places: &mut Places,
     at: usize,
     to: u32,
     op: Op,
@@ -237,7 +237,7 @@ fn give_operation(
 fn drive_cond(
     alloc: Global,
     terms: &mut Terms,
-    places: &mut Vec<Place>,
+    places: &mut Places,
     at: At,
     cond: Option<ValueId>,
 ) -> Result<TermId, NoMemory>

@@ -10,8 +10,8 @@ use lh_flat::flat::MergeEdge;
 use lh_flat::{FlatInst, Merge};
 use lh_region::giving::give;
 use lh_region::head::begins_with_phi;
+use lh_region::places::Places;
 use lh_region::rows::RegionFault;
-use lh_region::state::Place;
 use lh_region::taking::phi_at;
 use lh_term::terms::Terms;
 use lh_types::list::ListOf;
@@ -132,7 +132,7 @@ fn counted(insts: usize, more: usize) -> Option<usize>
 fn take_phis(
     alloc: Global,
     terms: &mut Terms,
-    places: &mut Vec<Place>,
+    places: &mut Places,
     at: usize,
     lines: &[FlatInst],
 ) -> Result<(), NoMemory>
@@ -150,7 +150,7 @@ fn take_phis(
 fn take_line(
     alloc: Global,
     terms: &mut Terms,
-    places: &mut Vec<Place>,
+    places: &mut Places,
     at: usize,
     line: &FlatInst,
 ) -> Result<(), NoMemory>
@@ -174,7 +174,7 @@ fn take_line(
 fn take_merge(
     alloc: Global,
     terms: &mut Terms,
-    places: &mut Vec<Place>,
+    places: &mut Places,
     at: usize,
     merge: &Option<Merge>,
 ) -> Result<(), NoMemory>
@@ -208,7 +208,7 @@ fn as_phis(alloc: Global, merged: &[MergeEdge]) -> Result<ListOf<PhiEdge>, NoMem
 fn take_phi(
     alloc: Global,
     terms: &mut Terms,
-    places: &mut Vec<Place>,
+    places: &mut Places,
     at: usize,
     gives: ValueId,
     operands: &[PhiEdge],

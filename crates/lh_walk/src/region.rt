@@ -16,9 +16,9 @@ use lh_parts::PartTable;
 use lh_region::ahead::EdgeList;
 use lh_region::beginning::begin;
 use lh_region::head::{begins_with_phi, head_of};
+use lh_region::places::Places;
 use lh_region::rows::{RegionFault, Regions, Rows};
 use lh_region::start::start_of;
-use lh_region::state::Place;
 use lh_region::target::one_target;
 use lh_term::terms::Terms;
 use lh_types::ty::NoMemory;
@@ -92,7 +92,7 @@ fn first_walk(alloc: Global, region: &Region<'_>, terms: &mut Terms) -> Result<W
     ensures cause { IfErr result (λ fault. both.FirstStops region.now fault) }
 {
     let start = start_of(alloc, region.flat, region.head, terms)?;
-    let places = only(alloc, start)?;
+    let places = Places::only(alloc, start)?;
     let cond = bit(terms, true)?;
     walk_from(
         alloc,
@@ -106,16 +106,6 @@ fn first_walk(alloc: Global, region: &Region<'_>, terms: &mut Terms) -> Result<W
             cond,
         },
     )
-}
-
-fn only(alloc: Global, start: Place) -> Result<Vec<Place>, NoMemory>
-    ensures { IfOk result (λ places. places.items ≡ start ∷ []) }
-{
-    let mut places = Vec::new(alloc);
-    match places.push(start) {
-        Ok(()) => Ok(places),
-        Err(_) => Err(NoMemory),
-    }
 }
 
 /// The rows of the region that starts at the target of the ends of the first one: what is known there are the values of the first

@@ -10,8 +10,8 @@ use lh_joins::joins::any_of;
 use lh_region::ahead::{Ahead, EdgeList};
 use lh_region::beginning::begin;
 use lh_region::leading::MAX_TURNS;
+use lh_region::places::Places;
 use lh_region::rows::{RegionFault, Rows};
-use lh_region::state::Place;
 use lh_term::terms::Terms;
 use std::alloc::Global;
 
@@ -21,7 +21,7 @@ pub fn walk_from(
     alloc: Global,
     region: &Region<'_>,
     terms: &mut Terms,
-    places: Vec<Place>,
+    places: Places,
     at: At,
 ) -> Result<Walk, RegionFault>
     requires few { length region.now.flat.now.blocks < 2 ^ 32 }

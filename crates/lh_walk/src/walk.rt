@@ -3,8 +3,8 @@
 use lh_flat::Flat;
 use lh_parts::PartTable;
 use lh_region::ahead::{Ahead, EdgeList};
+use lh_region::places::Places;
 use lh_region::rows::Rows;
-use lh_region::state::Place;
 use lh_term::term::TermId;
 
 /// A region of a flat text.
@@ -24,7 +24,7 @@ pub struct Region<'f> {
 #[derive(Drop)]
 pub struct Walk {
     /// The places that were treated, in their order; the last one is being treated.
-    pub places: Vec<Place>,
+    pub places: Places,
     /// The edges to places that are still to be treated.
     pub ahead: Ahead,
     /// How many instructions the places of this region have so far.

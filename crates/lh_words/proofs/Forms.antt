@@ -5,7 +5,7 @@ use Rattle.std.specs.List.{flat_map}
 use Rattle.std.specs.Str.{bytes_eq}
 use Rattle.lh_unit.specs.declared.name.UnitName.{UnitName}
 use Rattle.lh_unit.specs.Numerals.{number_of}
-use Rattle.lh_words.specs.Forms.{Choice, spelled, names_in, numbers_in, titles_in, vcds_in, name_meant, IsCount, max_steps, Simulation, Simulates, Asked, check, lower, simulate, Asks}
+use Rattle.lh_words.specs.Forms.{Choice, spelled, names_in, numbers_in, titles_in, vcds_in, name_meant, IsCount, max_steps, Simulation, Simulates, Asked, check, lower, simulate, Asks, AsksSelfTest}
 use Rattle.lh_words.specs.declared.found.Found.{Found}
 use Rattle.lh_words.specs.Found.{AtMostOnce, IsAllFound}
 use Rattle.lh_words.specs.Meant.{titles_from, at_option}
@@ -130,3 +130,27 @@ one_form words check (simulate t) p q = absurd (check-no-simulate (simulate-firs
 one_form words (simulate s) check p q = absurd (check-no-simulate (simulate-first words s (codes "check") p q))
 one_form words lower (simulate t) p q = absurd (lower-no-simulate (simulate-first words t (codes "lower") q p))
 one_form words (simulate s) lower p q = absurd (lower-no-simulate (simulate-first words s (codes "lower") p q))
+
+-- self-tests
+pub one_self_test : (words : List (List ℕ)) (n m : ℕ) → AsksSelfTest words n → AsksSelfTest words m → n ≡ m
+one_self_test words n m p q =
+    let same : codes "selftest" ∷ p.number ∷ [] ≡ codes "selftest" ∷ q.number ∷ [] = sym p.written ∙ q.written in
+    let number : p.number ≡ q.number = cc in
+    let said : Some n ≡ Some m = sym p.links_said.says ∙ ap number_of number ∙ q.links_said.says in
+    cc
+
+-- the first of two words
+two_words : (v w x : List ℕ) (more : List (List ℕ)) → v ∷ w ∷ [] ≡ x ∷ more → v ≡ x
+two_words v w x more e = cc
+
+no_simulate : codes "selftest" ≡ codes "simulate" → ⊥
+no_simulate e = let q : true ≡ false = ap (bytes_eq (codes "selftest")) e in cc
+
+pub no_file : (words : List (List ℕ)) (links : ℕ) (a : Asked) → AsksSelfTest words links → Asks words a → ⊥
+no_file words links check p q = let e : codes "selftest" ∷ p.number ∷ [] ≡ codes "check" ∷ [] = sym p.written ∙ q in cc
+no_file words links lower p q = let e : codes "selftest" ∷ p.number ∷ [] ≡ codes "lower" ∷ [] = sym p.written ∙ q in cc
+no_file words links (simulate s) p q = no_simulate (two_words (codes "selftest") p.number (codes "simulate") (flat_map spelled q.options) (sym p.written ∙ q.written))
+
+-- more or fewer words than two ask for none
+pub no_number : (words more : List (List ℕ)) → words ≡ codes "selftest" ∷ more → more ≡ [] → (links : ℕ) → AsksSelfTest words links → ⊥
+no_number words more is none links p = let e : codes "selftest" ∷ p.number ∷ [] ≡ codes "selftest" ∷ [] = sym p.written ∙ is ∙ ap (λ m. codes "selftest" ∷ m) none in cc

@@ -59,7 +59,7 @@ pub record Simulation : Type 0 where
   pub vcd : Bool
   pub titles : List (List ℕ)
 
--- what the program is asked to do
+-- what the program is asked to do of a file
 pub data Asked : Type 0 where
   check : Asked
   lower : Asked
@@ -82,16 +82,34 @@ pub record Simulates (words : List (List ℕ)) (s : Simulation) : Type 0 where
   pub vcd_at_most_once : MatchBool s.vcd (vcds_in options ≡ 1) (vcds_in options ≡ 0)
   pub titles_given : s.titles ≡ titles_in options
 
--- the words ask for this
+abbrev pub max_links : ℕ
+max_links = 1000
+
+-- The words ask for a test of the program itself, on a chain of this many links: they are `selftest` and a number.
+pub record AsksSelfTest (words : List (List ℕ)) (links : ℕ) : Type 0 where
+  pub number : List ℕ
+  pub written : words ≡ codes "selftest" ∷ number ∷ []
+  pub links_said : IsCount max_links number links
+
+-- the words ask for this of a file
 abbrev pub Asks : List (List ℕ) → Asked → Type 0
 Asks words check = words ≡ codes "check" ∷ []
 Asks words lower = words ≡ codes "lower" ∷ []
 Asks words (simulate s) = Simulates words s
 
 -- the words have none of the forms
-abbrev pub HasNoForm : List (List ℕ) → Type 0
-HasNoForm words = (a : Asked) → Asks words a → ⊥
+pub record HasNoForm (words : List (List ℕ)) : Type 0 where
+  pub on_file : (a : Asked) → Asks words a → ⊥
+  pub self_test : (links : ℕ) → AsksSelfTest words links → ⊥
 
--- no words ask for two things
+-- no words ask for two things of a file
 abbrev pub OneForm : Type 0
 OneForm = (words : List (List ℕ)) (a b : Asked) → Asks words a → Asks words b → a ≡ b
+
+-- no words ask for two self-tests
+abbrev pub OneSelfTest : Type 0
+OneSelfTest = (words : List (List ℕ)) (n m : ℕ) → AsksSelfTest words n → AsksSelfTest words m → n ≡ m
+
+-- words that ask for a self-test ask for nothing of a file
+abbrev pub NoFileForSelfTest : Type 0
+NoFileForSelfTest = (words : List (List ℕ)) (links : ℕ) (a : Asked) → AsksSelfTest words links → Asks words a → ⊥

@@ -7,9 +7,11 @@ use Rattle.lh_words.specs.declared.choice.Setting.TheVariants as setting
 use Rattle.lh_words.specs.declared.command.Top.{Top}
 use Rattle.lh_words.specs.declared.command.Simulate.{Simulate}
 use Rattle.lh_words.specs.declared.command.Titles.{Titles}
+use Rattle.lh_words.specs.declared.command.FileCommand.{FileCommand}
+use Rattle.lh_words.specs.declared.command.FileCommand.TheVariants as on_file
 use Rattle.lh_words.specs.declared.command.Command.{Command}
 use Rattle.lh_words.specs.declared.command.Command.TheVariants as command
-use Rattle.lh_words.specs.Forms.{Choice, top, steps, vcd, watch, Simulation, Asked, check, lower, simulate}
+use Rattle.lh_words.specs.Forms.{Choice, top, steps, vcd, watch, Simulation, Asked, check, lower, simulate, Asks, AsksSelfTest}
 
 -- what the next word is
 pub data Turn : Type 0 where
@@ -43,8 +45,13 @@ simulation_of s = record { top = top_of s.top; steps = s.steps; vcd = s.vcd; tit
 abbrev pub titles_left : Titles → List (List ℕ)
 titles_left t = titles_from at_option t.words.now
 
--- what a command asks for
-abbrev pub meant : Command → Asked
-meant command.Check = check
-meant command.Lower = lower
-meant (command.Simulate s) = simulate (simulation_of s)
+-- what a command asks for of a file
+abbrev pub meant : FileCommand → Asked
+meant on_file.Check = check
+meant on_file.Lower = lower
+meant (on_file.Simulate s) = simulate (simulation_of s)
+
+-- the words ask for what a command is
+abbrev pub IsMeant : List (List ℕ) → Command → Type 0
+IsMeant words (command.OnFile c) = Asks words (meant c)
+IsMeant words (command.Selftest links) = AsksSelfTest words links

@@ -1,8 +1,8 @@
 //! What the words of the command line ask for.
 ghost use Rattle.std.specs.Prelude.{◌≡◌, ◌++◌, ◌∷◌, [], ℕ, List, IfSome, IfNone, IsTrue, ◌↔◌, codes};
 ghost use Rattle.std.specs.Iterator.{YieldsFirstRef, item_count};
-ghost use Rattle.lh_words.specs.Forms.{Asks, HasNoForm, Simulates, Simulation, name_meant};
-ghost use Rattle.lh_words.specs.Meant.{meant, simulation_of, top_of, titles_left};
+ghost use Rattle.lh_words.specs.Forms.{Asked, Asks, AsksSelfTest, HasNoForm, Simulates, Simulation, name_meant};
+ghost use Rattle.lh_words.specs.Meant.{IsMeant, meant, simulation_of, top_of, titles_left};
 
 use crate::choice::{Setting, first_choice};
 use crate::found::found_in;
@@ -12,9 +12,21 @@ use lh_types::list::{ByteList, TextList};
 /// The most frames that a simulation may be asked for.
 const MOST_STEPS: u32 = 1_000_000;
 
+/// The most links that a self-test may be asked for.
+const MOST_LINKS: u32 = 1_000;
+
 /// What the program is asked to do.
 #[derive(Clone, Copy)]
 pub enum Command<'a> {
+    /// Read a file, and do this with it.
+    OnFile(FileCommand<'a>),
+    /// Lower and simulate a chain of so many links, from 1 to 1,000, and write how it went.
+    Selftest(u32),
+}
+
+/// What the program is asked to do with a file.
+#[derive(Clone, Copy)]
+pub enum FileCommand<'a> {
     /// Read a file and write its canonical text.
     Check,
     /// Read a file and write the text of the lowered module, and what became of each process.
@@ -53,18 +65,43 @@ pub struct Titles<'a> {
 
 /// What the words ask for, without memory; none exactly where they have none of the forms.
 pub fn command_of(words: &TextList) -> Option<Command<'_>>
-    ensures some { IfSome result (λ c. Asks words.now (meant c)) }
+    ensures some { IfSome result (λ c. IsMeant words.now c) }
     ensures none { IfNone result (HasNoForm words.now) }
 {
-    if is_one(words.as_slice(), b"check") {
-        return Some(Command::Check);
+    if let Some(links) = links_asked(words.as_slice()) {
+        return Some(Command::Selftest(links));
     }
-    if is_one(words.as_slice(), b"lower") {
-        return Some(Command::Lower);
+    let on_file = file_command_of(words.as_slice())?;
+    Some(Command::OnFile(on_file))
+}
+
+// What the words ask for of a file.
+fn file_command_of(words: &[ByteList]) -> Option<FileCommand<'_>>
+    ensures some { IfSome result (λ c. Asks words.now (meant c)) }
+    ensures none { IfNone result ((a : Asked) → Asks words.now a → ⊥) }
+{
+    if is_one(words, b"check") {
+        return Some(FileCommand::Check);
     }
-    let options = behind_simulate(words.as_slice())?;
+    if is_one(words, b"lower") {
+        return Some(FileCommand::Lower);
+    }
+    let options = behind(words, b"simulate")?;
     let asked = simulation_of_options(options)?;
-    Some(Command::Simulate(asked))
+    Some(FileCommand::Simulate(asked))
+}
+
+// The links of the self-test that the words ask for.
+fn links_asked(words: &[ByteList]) -> Option<u32>
+    ensures some { IfSome result (AsksSelfTest words.now) }
+    ensures none { IfNone result ((links : ℕ) → AsksSelfTest words.now links → ⊥) }
+{
+    let numbers = behind(words, b"selftest")?;
+    let (number, more) = numbers.split_first()?;
+    if !more.is_empty() {
+        return None;
+    }
+    count_of(number.as_slice(), MOST_LINKS)
 }
 
 // Whether the words are this one word.
@@ -74,14 +111,14 @@ fn is_one(words: &[ByteList], word: &[u8]) -> bool
     words.len() == 1 && words[0].as_slice() == word
 }
 
-// The words behind `simulate`, where it is the first.
-fn behind_simulate(words: &[ByteList]) -> Option<&[ByteList]>
-    ensures some { IfSome result (λ options. words.now ≡ codes "simulate" ∷ options.now) }
-    ensures none { IfNone result ((options : List (List ℕ)) → words.now ≡ codes "simulate" ∷ options → ⊥) }
+// The words behind this one, where it is the first.
+fn behind<'a>(words: &'a [ByteList], word: &[u8]) -> Option<&'a [ByteList]>
+    ensures some { IfSome result (λ more. words.now ≡ word.now ∷ more.now) }
+    ensures none { IfNone result ((more : List (List ℕ)) → words.now ≡ word.now ∷ more → ⊥) }
 {
-    let (word, options) = words.split_first()?;
-    if word.as_slice() == b"simulate".as_slice() {
-        Some(options)
+    let (first, more) = words.split_first()?;
+    if first.as_slice() == word {
+        Some(more)
     } else {
         None
     }

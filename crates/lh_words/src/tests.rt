@@ -1,4 +1,4 @@
-use crate::command::{Command, command_of};
+use crate::command::{Command, FileCommand, command_of};
 use lh_types::list::{ByteList, TextList};
 use std::alloc::Global;
 use std::test::Fail;
@@ -29,7 +29,12 @@ fn lines_without_a_form(rt: HostRuntime) -> Result<(), Fail> {
         "simulate --top=t --steps 3",
         "simulate --top t --steps 3 --watch",
         "lower x",
-        "selftest 1",
+        "selftest",
+        "selftest 0",
+        "selftest 1001",
+        "selftest 00000001",
+        "selftest 1 1",
+        "selftest x",
     ];
     for line in lines {
         assert!(rt; command_of(&words(rt.alloc(), line)?).is_none(), "{line}");
@@ -41,7 +46,7 @@ fn lines_without_a_form(rt: HostRuntime) -> Result<(), Fail> {
 fn options_in_any_order(rt: HostRuntime) -> Result<(), Fail> {
     let line = "simulate --watch b --vcd --steps 0000012 --watch --top --top %p --watch c";
     let words = words(rt.alloc(), line)?;
-    let Some(Command::Simulate(asked)) = command_of(&words) else {
+    let Some(Command::OnFile(FileCommand::Simulate(asked))) = command_of(&words) else {
         assert!(rt; false);
         return Ok(());
     };
@@ -60,12 +65,29 @@ fn options_in_any_order(rt: HostRuntime) -> Result<(), Fail> {
 #[test]
 fn a_top_without_sigil(rt: HostRuntime) -> Result<(), Fail> {
     let words = words(rt.alloc(), "simulate --steps 1000000 --top t")?;
-    let Some(Command::Simulate(asked)) = command_of(&words) else {
+    let Some(Command::OnFile(FileCommand::Simulate(asked))) = command_of(&words) else {
         assert!(rt; false);
         return Ok(());
     };
     assert_eq!(rt; asked.top.sigil, b'@');
     assert_eq!(rt; asked.top.name, b"t".as_slice());
     assert!(rt; !asked.vcd);
+    Ok(())
+}
+
+#[test]
+fn links_of_a_self_test(rt: HostRuntime) -> Result<(), Fail> {
+    for (line, asked) in [
+        ("selftest 1", 1),
+        ("selftest 0033", 33),
+        ("selftest 1000", 1000),
+    ] {
+        let words = words(rt.alloc(), line)?;
+        let Some(Command::Selftest(links)) = command_of(&words) else {
+            assert!(rt; false);
+            return Ok(());
+        };
+        assert_eq!(rt; links, asked);
+    }
     Ok(())
 }

@@ -191,7 +191,7 @@ fn an_assertion_that_fails(rt: HostRuntime) -> Result<(), Fail> {
 
 #[test]
 fn words_of_no_use(rt: HostRuntime) -> Result<(), Fail> {
-    let rows: [&[&[u8]]; 5] = [
+    let rows: [&[&[u8]]; 6] = [
         &[b"simulate", b"--top", b"t"],
         &[b"simulate", b"--top", b"t", b"--steps", b"0"],
         &[
@@ -204,7 +204,8 @@ fn words_of_no_use(rt: HostRuntime) -> Result<(), Fail> {
             b"none",
         ],
         &[b"simulate", b"--top=t", b"--steps", b"5"],
-        &[b"lower"],
+        &[b"lower", b"x"],
+        &[b"selftest", b"1001"],
     ];
     for (k, words) in rows.iter().enumerate() {
         let left = run_with(rt.alloc(), *words, GOOD, NONE)?;

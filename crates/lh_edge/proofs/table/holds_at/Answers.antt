@@ -1,20 +1,18 @@
-use Rattle.std.proofs.Common.{◌≤◌, List, Bool, length, subst, sym, arith}
+use Rattle.std.proofs.Common.{◌≡◌, refl, length, arith}
 use Rattle.lh_term.specs.Arena.{trees_at}
-use Rattle.lh_edge.specs.Steps.{JoinedValues, numbered}
-use Rattle.lh_edge.proofs.Held.{joined_values, holding_next, holding_top}
-use Rattle.lh_edge.proofs.Found.{bit_read}
+use Rattle.lh_edge.specs.Steps.{numbered}
+use Rattle.lh_edge.proofs.Held.{joined_values, holding_next, holding_top, set_is}
 use Rattle.lh_edge.proofs.table.holds_at.Goals as goal
 
-pub value_if-value-requires-clause-joined : goal.value_if-value-requires-clause-joined
-value_if-value-requires-clause-joined c = λ f.
-    subst (λ (xs : List Bool). JoinedValues c.args.terms.now (numbered (trees_at c.args.terms.now c.args.atoms.now) c.args.valuation) xs (record { 0 = c.loop-i.i })) (sym c.deref.ensures.value)
-    (joined_values _ c.args.edge _ _ _ c.loop-i.i _ c.requires.reached c.loop-i.invariant c.is_set-is_reached.ensures f)
+pub value_of-value-requires-clause-joined : goal.value_of-value-requires-clause-joined
+value_of-value-requires-clause-joined c =
+    joined_values c.args.terms.now c.args.edge (numbered (trees_at c.args.terms.now c.args.atoms.now) c.args.valuation) c.args._flags.now c.loop-left.values c.requires.reached c.loop-left.left.now (record { 0 = 0 }) c.loop-left.invariant c.in-len1-up.len_at_least
 
-pub loop-i-preserved : goal.loop-i-preserved
-loop-i-preserved c = holding_next _ _ _ _ _ c.loop-i.i _ c.value_if-value.result c.loop-i.invariant c.is_set-is_reached.ensures c.value_if-value.ensures c.in_ok-put.ensures
+pub loop-left-preserved : goal.loop-left-preserved
+loop-left-preserved c =
+    holding_next c.args.terms.now c.args.edge (numbered (trees_at c.args.terms.now c.args.atoms.now) c.args.valuation) c.args._flags.now c.loop-left.values c.requires.reached c.loop-left.left.now (record { 0 = 0 }) _ c.value_of-value.result c.loop-left.invariant c.in-len1-up.len_at_least c.value_of-value.ensures refl
 
-pub returns : goal.returns
-returns c =
-    let l : length c.args.flags.now ≤ c.loop-i.i = omega (arith, c.loop-i-test.false) in
-    let t = holding_top _ c.args.edge _ _ _ c.loop-i.i c.requires.reached l c.loop-i.invariant in
-    bit_read c.loop-i.values.items c.args.edge.0 _ _ c.index.ensures t
+pub returns-clause-holds : goal.returns-clause-holds
+returns-clause-holds c =
+    let n : length c.loop-left.left.now ≡ 0 = omega (arith, c.in_default.len_below) in
+    set_is c.loop-left.values c.args.edge.0 _ (holding_top c.args.terms.now c.args.edge (numbered (trees_at c.args.terms.now c.args.atoms.now) c.args.valuation) c.args._flags.now c.loop-left.values c.requires.reached c.loop-left.left.now n c.loop-left.invariant)

@@ -1,22 +1,36 @@
-use Rattle.std.proofs.Common.{length, refl}
+use Rattle.std.proofs.Common.{length, refl, ◌+◌, Vec, take, sym, subst}
 use Rattle.std.proofs.lemmas.Option.{slice_get_read}
-use Rattle.lh_kernel.proofs.Moving.{moves_next, moves_all, moves_known, read_item}
+use Rattle.std.specs.Global.{Global}
+use Rattle.lh_kernel.specs.declared.noted.Move.{Move}
+use Rattle.lh_kernel.proofs.Moving.{AreKnownMoves, moves_none, moves_next, moves_still, moves_all, read_item}
 use Rattle.lh_kernel.proofs.moves.moves_of.Goals as goal
+use Rattle.lh_kernel.proofs.moves.moves_of.Goals.{then-not-senses_as_before+in_ok-move_of+in_ok-push, else-not-senses_as_before}
+
+pub loop-done-init : goal.loop-done-init
+loop-done-init c = moves_none c.args.design.now.signals.items c.args.probes.now c.args.states.now c.new-moves.result.items c.new-moves.ensures.items
 
 pub loop-done-preserved : goal.loop-done-preserved
 loop-done-preserved c =
-    let r = read_item c.args.design.now.signals.items c.args.probes.now c.args.states.now (length c.args.design.now.init) c.args.acts.now c.loop-done.done-index c.done-item.result c.index-probes-k.result c.index-states-k.result c.loop-done-test.true c.done-item.is c.requires.fit in
-    moves_next c.args.design.now.signals.items c.args.probes.now c.args.states.now c.args.acts.now c.loop-done.done-index c.done-item.result c.loop-done.moves.items c.push.new.self.items c.in_ok-move_of.field-0 c.loop-done-test.true c.done-item.is c.loop-done.invariant
-    (record {
-      probed = c.index-probes-k.result;
-      state = c.index-states-k.result;
-      is_probed = slice_get_read c.args.probes.now (length c.args.probes.now) c.done-item.result.instance c.index-probes-k.result refl r.in_probes c.index-probes-k.is;
-      is_kept = slice_get_read c.args.states.now (length c.args.states.now) c.done-item.result.instance c.index-states-k.result refl r.in_states c.index-states-k.is;
-      moves = c.in_ok-move_of.ensures;
-    })
-    c.in_ok-push.ensures.items
+    let signals = c.args.design.now.signals.items in
+    let probes = c.args.probes.now in
+    let states = c.args.states.now in
+    let x = c.done-item.result in
+    let r = read_item signals probes states (length c.args.design.now.init) c.args.acts.now c.loop-done.done-index x c.index-probes-k.result c.index-states-k.result c.loop-done-test.true c.done-item.is c.requires.fit in
+    let is_probed = slice_get_read probes (length probes) x.instance c.index-probes-k.result refl r.in_probes c.index-probes-k.is in
+    let is_kept = slice_get_read states (length states) x.instance c.index-states-k.result refl r.in_states c.index-states-k.is in
+    let P : Vec Move Global → Type 0 = λ v. AreKnownMoves signals probes states (take (c.loop-done.done-index + 1) c.args.acts.now) v.items in
+    elim c.if-not-senses_as_before.branch [
+      | then-not-senses_as_before+in_ok-move_of+in_ok-push w ↦
+          subst P (sym w.moves-is)
+          (moves_next signals probes states c.args.acts.now c.loop-done.done-index x c.loop-done.moves.items w.push.new.self.items w.in_ok-move_of.field-0 c.loop-done-test.true c.done-item.is c.loop-done.invariant
+          (record { probed = c.index-probes-k.result; state = c.index-states-k.result; is_probed = is_probed; is_kept = is_kept; moves = w.in_ok-move_of.ensures }) w.in_ok-push.ensures.items)
+      | else-not-senses_as_before w ↦
+          subst P (sym w.moves-is)
+          (moves_still signals probes states c.args.acts.now c.loop-done.done-index x c.loop-done.moves.items c.index-probes-k.result c.index-states-k.result c.loop-done-test.true c.done-item.is c.loop-done.invariant is_probed is_kept (c.senses_as_before.ensures w.if-not-senses_as_before.false))
+    ]
+
+pub returns-clause-moves : goal.returns-clause-moves
+returns-clause-moves c = (moves_all c.args.design.now.signals.items c.args.probes.now c.args.states.now c.args.acts.now c.loop-done.done-index c.loop-done.moves.items c.loop-done-test.false c.loop-done.invariant).0
 
 pub returns-clause-known : goal.returns-clause-known
-returns-clause-known c =
-    moves_known c.args.design.now.signals.items c.args.probes.now c.args.states.now c.args.acts.now c.loop-done.moves.items
-    (moves_all c.args.design.now.signals.items c.args.probes.now c.args.states.now c.args.acts.now c.loop-done.done-index c.loop-done.moves.items c.loop-done-test.false c.loop-done.invariant)
+returns-clause-known c = (moves_all c.args.design.now.signals.items c.args.probes.now c.args.states.now c.args.acts.now c.loop-done.done-index c.loop-done.moves.items c.loop-done-test.false c.loop-done.invariant).1

@@ -1,6 +1,6 @@
 use Rattle.std.proofs.Common.{take}
-use Rattle.lh_kernel.specs.Moves.{AreMoves}
+use Rattle.lh_kernel.proofs.Moving.{AreKnownMoves}
 use Rattle.lh_kernel.proofs.moves.moves_of.Given as goal
 
 abbrev pub invariant-loop-done : goal.invariant-loop-done
-invariant-loop-done l = AreMoves l.design.signals.items l.probes l.states (take l.done-index l.acts) l.moves.items
+invariant-loop-done l = AreKnownMoves l.design.signals.items l.probes l.states (take l.done-index l.acts) l.moves.items

@@ -1,5 +1,4 @@
-use Rattle.std.proofs.Common.{◌≡◌, ◌∙◌, ◌+◌, ℕ, List, arith, sym, subst}
-use Rattle.lh_joins.specs.declared.edge.Edge.{Edge}
+use Rattle.std.proofs.Common.{◌+◌, ℕ, arith, sym, subst}
 use Rattle.lh_region.specs.Ahead.{LeadsNowhere}
 use Rattle.lh_region.proofs.Reaching.{nowhere-first, nowhere-next}
 use Rattle.lh_region.proofs.ahead.no_edges.Goals as goal

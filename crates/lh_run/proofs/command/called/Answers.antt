@@ -1,8 +1,14 @@
-use Rattle.lh_words.specs.Meant.{simulation_of}
-use Rattle.lh_run.proofs.Callings.{IsMisuse-unknown}
+use Rattle.std.proofs.Common.{◌≡◌, true}
+use Rattle.lh_words.specs.Meant.{meant}
+use Rattle.lh_run.proofs.Callings.{IsMisuse-unknown, Calls-known}
 use Rattle.lh_run.proofs.command.called.Goals as goal
 
-pub returns-else-knows_titles : goal.returns-else-knows_titles
-returns-else-knows_titles g c =
-    let asks = rw c.in-Simulate.is at c.in_ok-command.ensures.some in
-    IsMisuse-unknown _ _ (simulation_of c.in-Simulate.asked) c.knows_titles.result asks c.knows_titles.ensures c.if-knows_titles.false
+pub returns-then-can_do : goal.returns-then-can_do
+returns-then-can_do g c =
+    let asks = rw c.in-OnFile.is at c.in_ok-command.ensures.some in
+    rw c.in-OnFile.is (Calls-known _ _ (meant c.in-OnFile.on_file) asks (c.can_do.ensures.0 c.if-can_do.true))
+
+pub returns-else-can_do : goal.returns-else-can_do
+returns-else-can_do g c =
+    let asks = rw c.in-OnFile.is at c.in_ok-command.ensures.some in
+    IsMisuse-unknown _ _ (meant c.in-OnFile.on_file) asks (λ known. (let can : c.can_do.result ≡ true = c.can_do.ensures.1 known in let cannot = c.if-can_do.false in cc))

@@ -1,4 +1,4 @@
-use Rattle.std.proofs.Common.{◌≡◌, true, length, refl, sym, ◌∙◌, arith}
+use Rattle.std.proofs.Common.{true, refl}
 use Rattle.std.proofs.lemmas.Result.{err_from_is_err_and}
 use Rattle.lh_walk.specs.declared.walk.Region.{Region}
 use Rattle.lh_walk.specs.declared.walk.At.{At}
@@ -11,7 +11,6 @@ walk_from-requires-clause-start c =
     let past : Region = record { flat = r.flat; parts = r.parts; head = r.head; is_past = true; ends_at_head = r.ends_at_head } in
     let again : Region = record { flat = r.flat; parts = r.parts; head = r.head; is_past = r.is_past; ends_at_head = true } in
     let at : At = record { place = c.len-place.result; block = c.args.target; turns = 0; cond = c.in_ok-cond.cond } in
-    let n : length w.places.items ≡ w.places.len = omega (arith, w.places.ok.0) in
     let k : IsNextPlace past again r c.args.target ns ms w qs at = record {
       flat = refl;
       parts = refl;
@@ -25,7 +24,7 @@ walk_from-requires-clause-start c =
       grows = c.bit.ensures.kept;
       begun = c.in_ok-begin.ensures.place;
       joins = c.in_ok-begin.ensures.joined;
-      place = c.len-place.ensures ∙ sym n;
+      place = c.len-place.ensures;
       block = refl;
       turns = refl;
       cond = c.in_ok-cond.ensures.made;
@@ -38,7 +37,6 @@ returns-in_err-rows-clause-cause c =
     let past : Region = record { flat = r.flat; parts = r.parts; head = r.head; is_past = true; ends_at_head = r.ends_at_head } in
     let again : Region = record { flat = r.flat; parts = r.parts; head = r.head; is_past = r.is_past; ends_at_head = true } in
     let at : At = record { place = c.len-place.result; block = c.args.target; turns = 0; cond = c.in_ok-cond.cond } in
-    let n : length w.places.items ≡ w.places.len = omega (arith, w.places.ok.0) in
     let k : IsNextPlace past again r c.args.target ns ms w qs at = record {
       flat = refl;
       parts = refl;
@@ -52,7 +50,7 @@ returns-in_err-rows-clause-cause c =
       grows = c.bit.ensures.kept;
       begun = c.in_ok-begin.ensures.place;
       joins = c.in_ok-begin.ensures.joined;
-      place = c.len-place.ensures ∙ sym n;
+      place = c.len-place.ensures;
       block = refl;
       turns = refl;
       cond = c.in_ok-cond.ensures.made;
@@ -66,7 +64,6 @@ returns-clause-rows c =
     let past : Region = record { flat = r.flat; parts = r.parts; head = r.head; is_past = true; ends_at_head = r.ends_at_head } in
     let again : Region = record { flat = r.flat; parts = r.parts; head = r.head; is_past = r.is_past; ends_at_head = true } in
     let at : At = record { place = c.len-place.result; block = c.args.target; turns = 0; cond = c.in_ok-cond.cond } in
-    let n : length w.places.items ≡ w.places.len = omega (arith, w.places.ok.0) in
     let k : IsNextPlace past again r c.args.target ns ms w qs at = record {
       flat = refl;
       parts = refl;
@@ -80,7 +77,7 @@ returns-clause-rows c =
       grows = c.bit.ensures.kept;
       begun = c.in_ok-begin.ensures.place;
       joins = c.in_ok-begin.ensures.joined;
-      place = c.len-place.ensures ∙ sym n;
+      place = c.len-place.ensures;
       block = refl;
       turns = refl;
       cond = c.in_ok-cond.ensures.made;

@@ -1,14 +1,14 @@
-use Rattle.std.proofs.Common.{◌≡◌, true, length}
+use Rattle.std.proofs.Common.{◌≡◌, ◌≤◌, drop, length}
 use Rattle.lh_term.specs.Tree.{past_of}
-use Rattle.lh_term.specs.Arena.{trees_at, ids_below}
-use Rattle.lh_edge.specs.Steps.{numbered}
+use Rattle.lh_term.specs.Arena.{trees_at}
+use Rattle.lh_edge.specs.Steps.{bit_of_atom}
 use Rattle.lh_edge.proofs.shown.Known.past_bit.Given as goal
 
-abbrev pub invariant-loop-left : goal.invariant-loop-left
-invariant-loop-left l = record {
-  within : ids_below (length l.self.terms.now) l.left ≡ true;
-  same : numbered (trees_at l.self.terms.now l.left) l.bits (past_of l.part) ≡ numbered (trees_at l.self.terms.now l.self.atoms.now) l.valuation (past_of l.part);
+abbrev pub invariant-loop-k : goal.invariant-loop-k
+invariant-loop-k l = record {
+  within : l.k ≤ length l.self.atoms.now;
+  so_far : l.bit ≡ bit_of_atom (trees_at l.self.terms.now (drop l.k l.self.atoms.now)) (past_of l.part);
 }
 
-abbrev pub decreases-loop-left : goal.decreases-loop-left
-decreases-loop-left l = length l.left
+abbrev pub decreases-loop-k : goal.decreases-loop-k
+decreases-loop-k l = l.k

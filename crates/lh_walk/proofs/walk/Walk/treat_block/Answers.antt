@@ -1,4 +1,4 @@
-use Rattle.std.proofs.Common.{◌≡◌, [], ◌∷◌, ◌+◌, length, arith, refl, sym, subst, ◌∙◌}
+use Rattle.std.proofs.Common.{[], ◌∷◌, ◌+◌, refl, sym, subst, ◌∙◌}
 use Rattle.lh_joins.specs.Joins.{AreConditions}
 use Rattle.lh_walk.specs.declared.walk.Walk.{Walk}
 use Rattle.lh_walk.specs.declared.walk.At.{At}
@@ -21,7 +21,7 @@ treat-requires c =
     let some = some-led c.reach-edges.result _ c.len.result c.reach-edges.ensures.edges c.len.ensures c.if-len-eq0.false in
     let b = begins-by ns ms w (record { places = c.begin.new.places; ahead = c.reach-edges.new.self; insts = w.insts; rows = w.rows; sources = w.sources }) c.args.turn c.args.block
     (record { place = c.len-place.result; block = c.args.block; turns = c.args.turn; cond = c.in_ok-cond.cond }) c.reach-edges.result c.as_slice.result.now c.reach-edges.ensures.edges c.as_slice.ensures some
-    c.reach-edges.ensures.here c.reach-edges.ensures.next refl refl refl c.any_of.ensures.kept (c.in_ok-begin.ensures.place) (c.in_ok-begin.ensures.joined) (c.len-place.ensures ∙ sym (let n : length c.args.self.now.places.items ≡ c.args.self.now.places.len = omega (arith, c.args.self.now.places.ok.0) in n)) refl refl c.in_ok-cond.ensures.made in
+    c.reach-edges.ensures.here c.reach-edges.ensures.next refl refl refl c.any_of.ensures.kept (c.in_ok-begin.ensures.place) (c.in_ok-begin.ensures.joined) c.len-place.ensures refl refl c.in_ok-cond.ensures.made in
     treat-can ns c.args.region.now w c.args.turn c.args.block c.requires.block some ms _ _ b c.requires.within c.requires.walk
 
 pub returns-clause-passed : goal.returns-clause-passed
@@ -31,7 +31,7 @@ returns-clause-passed c =
     let q : Walk = record { places = c.begin.new.places; ahead = c.reach-edges.new.self; insts = w.insts; rows = w.rows; sources = w.sources } in
     let at : At = record { place = c.len-place.result; block = c.args.block; turns = c.args.turn; cond = c.in_ok-cond.cond } in
     let b = begins-by ns ms w q c.args.turn c.args.block at c.reach-edges.result c.as_slice.result.now c.reach-edges.ensures.edges c.as_slice.ensures some
-    c.reach-edges.ensures.here c.reach-edges.ensures.next refl refl refl c.any_of.ensures.kept (c.in_ok-begin.ensures.place) (c.in_ok-begin.ensures.joined) (c.len-place.ensures ∙ sym (let n : length c.args.self.now.places.items ≡ c.args.self.now.places.len = omega (arith, c.args.self.now.places.ok.0) in n)) refl refl c.in_ok-cond.ensures.made in
+    c.reach-edges.ensures.here c.reach-edges.ensures.next refl refl refl c.any_of.ensures.kept (c.in_ok-begin.ensures.place) (c.in_ok-begin.ensures.joined) c.len-place.ensures refl refl c.in_ok-cond.ensures.made in
     ok-then c.treat.result (Treats ms r q at c.treat.new.terms c.treat.new.self) (Passes (walks_at ns r w c.args.turn c.args.block) r (place_of c.args.turn c.args.block ∷ []) c.treat.new.terms c.treat.new.self c.args.turn (c.args.block + 1))
     (passes-block ns r w c.args.turn c.args.block c.requires.block some ms q at b c.requires.within c.treat.new.terms c.treat.new.self) c.treat.ensures.treated
 
@@ -42,5 +42,5 @@ returns-clause-cause c =
     let q : Walk = record { places = c.begin.new.places; ahead = c.reach-edges.new.self; insts = w.insts; rows = w.rows; sources = w.sources } in
     let at : At = record { place = c.len-place.result; block = c.args.block; turns = c.args.turn; cond = c.in_ok-cond.cond } in
     let b = begins-by ns ms w q c.args.turn c.args.block at c.reach-edges.result c.as_slice.result.now c.reach-edges.ensures.edges c.as_slice.ensures some
-    c.reach-edges.ensures.here c.reach-edges.ensures.next refl refl refl c.any_of.ensures.kept (c.in_ok-begin.ensures.place) (c.in_ok-begin.ensures.joined) (c.len-place.ensures ∙ sym (let n : length c.args.self.now.places.items ≡ c.args.self.now.places.len = omega (arith, c.args.self.now.places.ok.0) in n)) refl refl c.in_ok-cond.ensures.made in
+    c.reach-edges.ensures.here c.reach-edges.ensures.next refl refl refl c.any_of.ensures.kept (c.in_ok-begin.ensures.place) (c.in_ok-begin.ensures.joined) c.len-place.ensures refl refl c.in_ok-cond.ensures.made in
     err-map c.treat.result (TreatsNot ms r q at) (Stops (walks_at ns r w c.args.turn c.args.block) r (place_of c.args.turn c.args.block ∷ [])) (λ e t. stops-block ns r w c.args.turn c.args.block c.requires.block some ms q at b c.requires.within e t) c.treat.ensures.cause

@@ -1,0 +1,12 @@
+pub mod Short
+pub mod Texts
+pub mod Lines
+pub mod Names
+pub mod Printing
+pub mod Links
+pub mod Reading
+pub mod Processes
+pub mod Signals
+pub mod Entity
+pub mod Faultless
+pub mod Elaborating

@@ -1,0 +1,4 @@
+pub mod Words
+pub mod Chain
+pub mod Worked
+pub mod Laws

@@ -1,0 +1,4 @@
+pub mod SelfTest
+pub mod Counted
+pub mod Courses
+pub mod Answer
