@@ -14,7 +14,8 @@ use Rattle.lh_kernel.specs.Moves.{OneMove, ComesTo, GoesFrom, WakeComes, WakeGoe
 use Rattle.lh_kernel.proofs.Relations.{Without, IsEither, with_none, without_none, with_more, without_more, with_some, some_of_all, taken_back}
 use Rattle.lh_kernel.proofs.Noting.{OfSignal, OfWake}
 
-one_push : (P : Move → Type 0) (ms : List Move) (m : Move) → OneMove P (ms ++ m ∷ []) ↔ (OneMove P ms ⊎ P m)
+-- one of the moves, or of one more
+pub one_push : (P : Move → Type 0) (ms : List Move) (m : Move) → OneMove P (ms ++ m ∷ []) ↔ (OneMove P ms ⊎ P m)
 one_push P ms m = (there ms, back ms)
   where
     there : (ms : List Move) → OneMove P (ms ++ m ∷ []) → OneMove P ms ⊎ P m

@@ -1,5 +1,5 @@
 -- The moves of activations, one by one.
-use Rattle.std.proofs.Common.{◌≡◌, ◌≢◌, ℕ, ◌+◌, ◌<◌, ◌≤◌, List, [], ◌∷◌, ◌++◌, length, get_or, take, Bool, true, false, Option, Some, None, refl, ap, sym, ◌∙◌, subst, ◌⊎◌, inl, inr}
+use Rattle.std.proofs.Common.{◌≡◌, ◌≢◌, ℕ, ◌+◌, ◌<◌, ◌≤◌, List, [], ◌∷◌, ◌++◌, length, get_or, take, Bool, true, false, Option, Some, None, refl, ap, sym, ◌∙◌, subst, inl, inr}
 use Rattle.std.specs.Prelude.{◌↔◌, slice_get, nat_eq, ◌&&◌}
 use Rattle.std.specs.Bool.{Decides}
 use Rattle.std.specs.Cmp.Lexicographic.{pointwise}
@@ -21,6 +21,7 @@ use Rattle.lh_states.specs.States.{parts_sensed, wake_kept}
 use Rattle.lh_kernel.specs.declared.noted.Move.{Move}
 use Rattle.lh_kernel.specs.declared.run.Activation.{Activation}
 use Rattle.lh_kernel.specs.Moves.{IsMove, IsMoveOf, EachMoves, AreMoves, MoveTheSame, OneMove, AreBetween, SensesFit, SensesAsBefore, MovesKnown}
+use Rattle.lh_kernel.proofs.Entering.{one_push}
 use Rattle.lh_kernel.proofs.Relations.{has_next}
 
 -- those of the first numbers of a list that are not in the other
@@ -70,23 +71,6 @@ between_are signals left entered before after came gone b a c g = record {
   enters = λ s. (λ h. ((a s).0 ((c s).0 h).0, λ t. ((c s).0 h).1 ((b s).1 t)), λ h. (c s).1 ((a s).1 h.0, λ t. h.1 ((b s).0 t)));
   leaves = λ s. (λ h. ((b s).0 ((g s).0 h).0, λ t. ((g s).0 h).1 ((a s).1 t)), λ h. (g s).1 ((b s).1 h.0, λ t. h.1 ((a s).0 t)));
 }
-
--- one of the moves, or of one more
-one_push : (P : Move → Type 0) (ms : List Move) (m : Move) → OneMove P (ms ++ m ∷ []) ↔ (OneMove P ms ⊎ P m)
-one_push P ms m = (there ms, back ms)
-  where
-    there : (ms : List Move) → OneMove P (ms ++ m ∷ []) → OneMove P ms ⊎ P m
-    there [] (inl p) = inr p
-    there [] (inr h) = absurd h
-    there (n ∷ ms) (inl p) = inl (inl p)
-    there (n ∷ ms) (inr h) = elim (there ms h) [ inl g ↦ inl (inr g) | inr q ↦ inr q ]
-
-    back : (ms : List Move) → OneMove P ms ⊎ P m → OneMove P (ms ++ m ∷ [])
-    back [] (inl h) = absurd h
-    back [] (inr q) = inl q
-    back (n ∷ ms) (inl (inl p)) = inl p
-    back (n ∷ ms) (inl (inr h)) = inr (back ms (inl h))
-    back (n ∷ ms) (inr q) = inr (back ms (inr q))
 
 -- of one more in both lists, and in the first alone where it is none of these
 both_push : (P : Move → Type 0) (all ms : List Move) (m : Move) → (OneMove P all ↔ OneMove P ms) → OneMove P (all ++ m ∷ []) ↔ OneMove P (ms ++ m ∷ [])
