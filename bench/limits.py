@@ -147,6 +147,34 @@ def early_exits(count, used):
     yield from ("    wait %entry, %a, %b", "}")
 
 
+def cells(count, ifs, setting, arms=1):
+    """So many cells, which are loaded where the way ends that leads through so many `if`. They are set in a last arm behind all, in a first arm
+    that leads past all, or each in the next `if`; with more arms at such a place each sets some."""
+    yield from (f"proc @p ([{ifs} x i1]$ %a, [8 x i1]$ %b) -> (i1$ %odd) {{", "entry:", "    %t = const time 0s 1d", f"    %x = prb [{ifs} x i1]$ %a",
+                "    %y = prb [8 x i1]$ %b", "    %p0 = const i1 0")
+    yield from (f"    %r{k} = var i1 %p0" for k in range(count))
+    yield from choice(arms, count, "%if0") if setting == "first" else ("    br %if0",)
+    for k in range(ifs):
+        yield from (f"if{k}:", f"    %c{k} = extf i1 %x, {k}", f"    br %c{k}, %if{k + 1}, %do{k}", f"do{k}:")
+        yield from (f"    st i1* %r{j}, %c{k}" for j in range(k * count // ifs, (k + 1) * count // ifs) if setting == "each")
+        yield f"    br %if{k + 1}"
+    yield f"if{ifs}:"
+    yield from choice(arms, count, "%join") if setting == "last" else ("    br %join",)
+    yield "join:"
+    for k in range(count):
+        yield from (f"    %v{k} = ld i1* %r{k}", f"    %p{k + 1} = xor i1 %p{k}, %v{k}")
+    yield from (f"    drv i1$ %odd, %p{count} after %t", "    wait %entry, %a, %b", "}")
+
+
+def choice(arms, count, other):
+    """Goes to one of these arms, each of which sets some of the cells, or elsewhere."""
+    for k in range(arms):
+        yield from (f"    %b{k} = extf i1 %y, {k}", f"    br %b{k}, %ask{k}, %arm{k}", f"arm{k}:")
+        yield from (f"    st i1* %r{j}, %b{k}" for j in range(k, count, arms))
+        yield from ("    br %join", f"ask{k}:")
+    yield f"    br {other}"
+
+
 # ---- edges --------------------------------------------------------------------------------------------------------------
 
 def clocks(count, more=0):
@@ -306,6 +334,11 @@ def all_limits():
         Limit("1,000 exits, 1,000 variables", lambda: early_exits(1000, 1000), "left @p EntityTooLarge\n"),
         Limit("2,000 exits, 2,000 variables", lambda: early_exits(2000, 2000), "left @p EntityTooLarge\n"),
         Limit("4,000 exits, 4,000 variables", lambda: early_exits(4000, 4000), "left @p EntityTooLarge\n"),
+        Limit("2,000 cells, 2,000 ifs before all", lambda: cells(2000, 2000, "last"), COMB),
+        Limit("8,000 cells, 8,000 ifs before all", lambda: cells(8000, 8000, "last"), COMB),
+        Limit("8,000 cells, 8,000 ifs before 8 arms", lambda: cells(8000, 8000, "last", 8), COMB),
+        Limit("8,000 cells, 8,000 ifs beside all", lambda: cells(8000, 8000, "first"), COMB),
+        Limit("8,000 cells, each in one of 8,000 ifs", lambda: cells(8000, 8000, "each"), COMB),
         Limit("255 declarations of 65,536 fields", declarations, "", 66_851_565),
     ]
 

@@ -36,6 +36,3 @@ pub fn print_and_read(alloc: Global, m: &Module) -> Result<Module, TextFault>
         Err(_) => Err(TextFault::OutOfMemory),
     }
 }
-
-#[cfg(test)]
-mod tests;

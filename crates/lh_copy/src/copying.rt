@@ -71,6 +71,3 @@ impl<'m> Copying<'m> {
         self.to
     }
 }
-
-#[cfg(test)]
-mod tests;

@@ -7,8 +7,6 @@ ghost use Rattle.lh_cover.specs.Bits.{covers, same_bits};
 ghost use Rattle.lh_cover.specs.Runs.{IsCover};
 
 mod runs;
-#[cfg(test)]
-mod tests;
 
 use crate::runs::{Run, are_same, bits_from, is_within, merged, run_of, starts_by};
 use lh_term::part::{Part, PartList};

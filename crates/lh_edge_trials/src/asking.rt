@@ -4,7 +4,7 @@ use lh_edge::{EdgeFault, TriggerList, edges};
 use lh_term::part::{Part, PartList};
 use lh_term::term::TermId;
 use lh_term::terms::Terms;
-use lh_term_trials::making::{is_bit, op};
+use lh_term_trials::making::op;
 use lh_types::op::Op;
 use lh_types::ty::{NoMemory, Ty, carries_data};
 use std::alloc::Global;
@@ -53,7 +53,7 @@ pub fn changed(terms: &mut Terms, arg: u32) -> Result<TermId, Fail> {
 
 /// The triggers of a condition, with arguments 0 and 1 waited on.
 pub fn triggers(alloc: Global, terms: &mut Terms, cond: TermId) -> Result<TriggerList, EdgeFault> {
-    if cond.0 >= terms.len() || !is_bit(terms.ty(cond)) {
+    if cond.0 >= terms.len() || !terms.ty(cond).is_bit() {
         return Err(EdgeFault::OutOfMemory);
     }
     let mut waited = PartList::new(alloc);

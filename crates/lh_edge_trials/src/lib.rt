@@ -1,4 +1,4 @@
-//! Trials of triggers: conditions that are made by hand, and the tests.
+//! Trials of triggers and of sets of parts: conditions that are made by hand, and the tests.
 #![tactic(auto)]
 
 pub mod asking;

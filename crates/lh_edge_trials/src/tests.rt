@@ -1,4 +1,6 @@
 //! The conditions of flip-flops, over their terms.
+mod cover_sets;
+
 use crate::asking::{after, argument, before, changed, triggers};
 use lh_edge::EdgeFault;
 use lh_term::terms::Terms;

@@ -20,6 +20,3 @@ pub use crate::probes::probes_of;
 pub use crate::refusal::first_refusal;
 pub use lh_design::{Design, Signal};
 pub use lh_eval::instance::Instance;
-
-#[cfg(test)]
-mod tests;

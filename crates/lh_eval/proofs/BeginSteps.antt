@@ -1,9 +1,9 @@
 -- What an entity holds where it begins, by ids and by names.
-use Rattle.std.proofs.Common.{◌≡◌, ℕ, ◌<◌, if◌then◌else◌, List, [], ◌∷◌, length, map, set, get_or, replicate, Option, Some, None, refl, ap, sym, ◌∙◌, subst, arith}
+use Rattle.std.proofs.Common.{◌≡◌, ℕ, ◌<◌, if◌then◌else◌, List, [], ◌∷◌, length, map, set, get_or, replicate, Bool, true, false, Option, Some, None, refl, ap, sym, ◌∙◌, subst, arith}
 use Rattle.std.proofs.lemmas.List.{append-nil, length-set}
 use Rattle.lh_types.specs.declared.part.Range.{Range}
 use Rattle.lh_unit.specs.Contents.{LineText}
-use Rattle.lh_unit.specs.Table.{ArgsWithin, ResultWithin, FitsKind, line_at, entity_block}
+use Rattle.lh_unit.specs.Table.{Table, ArgsWithin, ResultWithin, FitsKind, line_at, entity_block}
 use Rattle.lh_unit.specs.Arena.{Arena, IsArena, naming, unit_count, value_count, inst_count, table_at, kind_at, args_at, block_insts_at, unit_text_at}
 use Rattle.lh_unit.specs.ById.{inst_line}
 use Rattle.lh_unit.specs.Held.{Held, Env, part_held, with_args, nothing_held}
@@ -33,6 +33,19 @@ pub length-args : (xs : List Arg) (rs : List Range) (slots : List (Option Held))
 length-args [] rs slots = refl
 length-args (x ∷ xs) [] slots = refl
 length-args (x ∷ xs) (r ∷ rs) slots = length-args xs rs (set slots x.value.0 (Some (part_held r))) ∙ length-set slots x.value.0 (Some (part_held r))
+
+-- without a part no signal is held
+no-signals : (t : Table) (is : List InstId) (slots : List (Option Held)) → signals_given t is [] slots ≡ slots
+no-signals t [] slots = refl
+no-signals t (i ∷ more) slots = by (is_sig (line_at t i.0).inst) (no-signals t more slots)
+  where
+    by : (b : Bool) → signals_given t more [] slots ≡ slots → (if b then next_given (line_at t i.0).result [] slots (signals_given t more) else signals_given t more [] slots) ≡ slots
+    by true e = refl
+    by false e = e
+
+pub no-ranges : (t : Table) (is : List InstId) (rs : List Range) (slots : List (Option Held)) → length rs ≡ 0 → slots ≡ signals_given t is rs slots
+no-ranges t is [] slots n = sym (no-signals t is slots)
+no-ranges t is (r ∷ rs) slots n = absurd (omega arith)
 
 module _ (a : Arena) (u : ℕ) (o : IsArena a) (h : u < unit_count a) where
   pub args-held : (xs : List Arg) (rs : List Range) (slots : List (Option Held)) (e : Env) → ArgsWithin (value_count a u) xs → Holds a u slots e → Holds a u (args_given xs rs slots) (with_args e (map (arg_text (naming a u)) xs) (map part_held rs))

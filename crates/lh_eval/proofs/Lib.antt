@@ -7,3 +7,4 @@ pub mod ValuesFit
 pub mod GivesFit
 pub mod BeginSteps
 pub mod Wishing
+pub mod Chosen

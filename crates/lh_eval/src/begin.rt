@@ -56,6 +56,9 @@ fn hold_signals(m: &Module, unit: UnitId, insts: &[InstId], ranges: &[Range], sl
     requires slots { length slots.old ≡ value_count m.now unit.0 }
     ensures { slots.new ≡ signals_given (table_at m.now unit.0) insts.now ranges.now slots.old }
 {
+    if ranges.is_empty() {
+        return;
+    }
     let mut k = 0;
     for inst in insts {
         if !is_sig(m.inst(unit, *inst)) {

@@ -15,7 +15,6 @@ ghost use Rattle.lh_eval.specs.Fitting.{ProbeFits, DriveFits, Drives};
 
 use crate::held::{Held, Slots};
 use crate::operands::{condition_in, datum_in, delay_in, part_in};
-use crate::types::carried;
 use lh_time::{Delay, Instant, due};
 use lh_types::bits::Bits;
 use lh_types::layout::{from_bits, to_bits};
@@ -54,7 +53,7 @@ fn carried_of(operand: &Typed) -> Option<&Ty>
     ensures data { IfSome result (λ t. IsData t.now) }
 {
     match &operand.ty {
-        Some(ty) => carried(ty),
+        Some(ty) => ty.carried(),
         None => None,
     }
 }

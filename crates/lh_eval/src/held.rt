@@ -67,9 +67,9 @@ impl Slots {
     pub fn new(alloc: Global, len: u32) -> Result<Slots, NoMemory>
         ensures { IfOk result (λ s. s ≡ replicate len None) }
     {
-        let mut slots = Vec::new(alloc);
+        let mut slots = Vec::with_capacity(alloc, len as usize)?;
         for i in 0..len {
-            push_none(&mut slots)?;
+            slots.push_reserved(None);
         }
         Ok(Slots { slots })
     }
@@ -78,7 +78,7 @@ impl Slots {
     pub fn copy(&self, alloc: Global) -> Result<Slots, NoMemory>
         ensures { IfOk result (λ s. s ≡ self.now) }
     {
-        let mut slots = Vec::new(alloc);
+        let mut slots = Vec::with_capacity(alloc, self.slots.len())?;
         let from = self.slots.as_slice();
         for slot in from {
             push_copy(&mut slots, slot)?;
@@ -117,15 +117,6 @@ impl Slots {
         if let (Some(value), Some(held)) = (name, held) {
             self.set(value, held);
         }
-    }
-}
-
-fn push_none(slots: &mut Vec<Option<Held>>) -> Result<(), NoMemory>
-    ensures { IfOk result (λ _. slots.new.items ≡ slots.old.items ++ None ∷ []) }
-{
-    match slots.push(None) {
-        Ok(()) => Ok(()),
-        Err(_) => Err(NoMemory),
     }
 }
 

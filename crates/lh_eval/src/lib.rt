@@ -8,8 +8,6 @@ pub mod instance;
 pub mod laws;
 pub mod operands;
 pub mod operate;
-#[cfg(test)]
-mod tests;
 mod types;
 
 pub use lh_wishes::wishes;

@@ -103,7 +103,7 @@ pub fn data_in(
     requires { Each (λ (o : Operand). o.value.0 < length slots.now) operands.now }
     ensures { IfOk result (λ vs. option_map (λ v. map datum_of v.items) vs ≡ holding.data_in slots.now operands.now) }
 {
-    let mut values = Vec::new(alloc);
+    let mut values = Vec::with_capacity(alloc, operands.len())?;
     for operand in operands {
         match datum_in(slots, operand.value) {
             Some(value) => push_copy(&mut values, value)?,

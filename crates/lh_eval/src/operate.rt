@@ -1,10 +1,11 @@
 //! What an operation gives: of values a value, of a signal its part.
-ghost use Rattle.std.specs.Prelude.{◌≡◌, ◌+◌, ◌<◌, ◌^◌, List, length, map, Some, IfOk};
+ghost use Rattle.std.specs.Prelude.{◌≡◌, ◌+◌, ◌-◌, ◌<◌, ◌^◌, List, [], ◌∷◌, length, map, min, slice_index_or, Some, IfOk, IfSome};
 ghost use Rattle.std.specs.Option.{option_map, option_copied};
 ghost use Rattle.lh_types.specs.Types.{IsData, bit_count, signal_type};
 ghost use Rattle.lh_types.specs.Values.{Datum};
 ghost use Rattle.lh_types.specs.ValueOf.{datum_of};
 ghost use Rattle.lh_types.specs.Apply as rows;
+ghost use Rattle.lh_types.specs.Apply.{no_value};
 ghost use Rattle.lh_types.specs.ApplyTypes.{FitsOp};
 ghost use Rattle.lh_unit.specs.Arena.{unit_count, value_count, sizes, naming, unit_text_at};
 ghost use Rattle.lh_unit.specs.Effects as effects;
@@ -26,7 +27,7 @@ use lh_ops::apply;
 use lh_types::op::Op;
 use lh_types::part::{Range, Step, range_of};
 use lh_types::ty::{NoMemory, Ty};
-use lh_types::val::Val;
+use lh_types::val::{Val, ValList};
 use lh_unit::inst::{Typed, UnitId};
 use lh_unit::module::Module;
 use std::alloc::Global;
@@ -102,10 +103,39 @@ fn applied_to_two(
     let Some(b) = b else {
         return Ok(None);
     };
+    if let Some(element) = chosen(op, a, b) {
+        let value = element.copy()?;
+        return Ok(Some(value));
+    }
     let a = a.copy()?;
     let b = b.copy()?;
     let value = apply(alloc, op, &[a, b])?;
     Ok(Some(value))
+}
+
+/// The value that an operation gives where it is an element of an array, and that is seen at once: the rest of the array is not copied.
+#[tactic(auto, unfolding(lh_types::specs::Apply::apply))]
+fn chosen<'a>(op: &Op, a: &'a Val, b: &Val) -> Option<&'a Val>
+    ensures { IfSome result (λ v. datum_of v.now ≡ rows.apply op.now (datum_of a.now ∷ datum_of b.now ∷ [])) }
+{
+    match (op, a, b) {
+        (Op::Mux, Val::Array(elements), Val::Int { width: _, bits }) => element(
+            elements.as_slice(),
+            *bits,
+        ),
+        _ => None,
+    }
+}
+
+/// The element that stands at a place, the last one past the end; there is none of no elements.
+fn element(elements: &[Val], at: u128) -> Option<&Val>
+    ensures { IfSome result (λ v. datum_of v.now ≡ slice_index_or (map datum_of elements.now) (min at (length elements.now - 1)) no_value) }
+{
+    if elements.is_empty() {
+        return None;
+    }
+    let last = elements.len() - 1;
+    Some(&elements[at.min(last as u128) as usize])
 }
 
 fn applied_to_all(
@@ -120,10 +150,23 @@ fn applied_to_all(
 {
     match data_in(alloc, slots, args)? {
         Some(values) => {
-            let value = apply(alloc, op, values.as_slice())?;
+            let value = applied_to_these(alloc, op, values)?;
             Ok(Some(value))
         }
         None => Ok(None),
+    }
+}
+
+/// The value of an operation on these values; an array or a struct takes them as its parts, without a copy.
+#[tactic(auto, unfolding(lh_types::specs::Apply::apply))]
+fn applied_to_these(alloc: Global, op: &Op, values: Vec<Val>) -> Result<Val, NoMemory>
+    requires { FitsOp op.now (map datum_of values.items) }
+    ensures { IfOk result (λ v. datum_of v ≡ rows.apply op.now (map datum_of values.items)) }
+{
+    match op {
+        Op::Array => Ok(Val::Array(ValList::from_vec(values))),
+        Op::Tuple => Ok(Val::Tuple(ValList::from_vec(values))),
+        _ => apply(alloc, op, values.as_slice()),
     }
 }
 

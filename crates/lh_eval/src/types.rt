@@ -1,37 +1,15 @@
 //! What the signal that is a value carries, read from the line that gives the value.
-ghost use Rattle.std.specs.Prelude.{◌≡◌, ◌<◌, map, IfSome};
+ghost use Rattle.std.specs.Prelude.{◌≡◌, ◌<◌, map};
 ghost use Rattle.std.specs.Option.{option_and_then, option_copied};
-ghost use Rattle.lh_types.specs.Types.{IsData};
 ghost use Rattle.lh_unit.specs.Arena.{unit_count, value_count, naming, unit_text_at};
 ghost use Rattle.lh_unit.specs.Naming.{Naming, inst_text, value_text, operand_text};
 ghost use Rattle.lh_unit.specs.Typing as typing;
 ghost use Rattle.lh_unit.specs.Typing.{result_type, signal_of, first_type, operation_type, value_type};
 
 use lh_types::op::Op;
-use lh_types::ty::{Ty, TyKind, carries_data};
+use lh_types::ty::{Ty, carries_data};
 use lh_unit::inst::{Inst, Typed, UnitId, ValueDef, ValueId};
 use lh_unit::module::Module;
-
-/// What a signal of this type carries.
-pub fn carried(ty: &Ty) -> Option<&Ty>
-    ensures of { option_copied result ≡ typing.carried ty.now }
-    ensures data { IfSome result (λ t. IsData t.now) }
-{
-    match ty.kind() {
-        TyKind::Signal(of) => Some(of),
-        _ => None,
-    }
-}
-
-/// What a pointer of this type points to.
-fn pointed(ty: &Ty) -> Option<&Ty>
-    ensures { option_copied result ≡ typing.pointed ty.now }
-{
-    match ty.kind() {
-        TyKind::Pointer(of) => Some(of),
-        _ => None,
-    }
-}
 
 /// What the signal that is a value of a unit carries; `None` where the value is no signal. It is read from what defines
 /// the value, in a time that does not grow with the unit.
@@ -42,7 +20,7 @@ pub fn carried_by(m: &Module, unit: UnitId, value: ValueId) -> Option<&Ty>
 {
     match m.value_def(unit, value) {
         ValueDef::Missing => None,
-        ValueDef::Arg(number) => carried(&m.args(unit)[number as usize].ty),
+        ValueDef::Arg(number) => m.args(unit)[number as usize].ty.carried(),
         ValueDef::Inst(inst) => carried_by_inst(m.inst(unit, inst)),
     }
 }
@@ -60,8 +38,8 @@ fn carried_by_inst(inst: &Inst) -> Option<&Ty>
             unit: _,
             result,
             args: _,
-        } => carried(result),
-        Inst::Phi { ty, edges: _ } => carried(ty),
+        } => result.carried(),
+        Inst::Phi { ty, edges: _ } => ty.carried(),
         _ => None,
     }
 }
@@ -81,7 +59,7 @@ fn carried_twice(operand: &Typed) -> Option<&Ty>
     ensures { option_copied result ≡ option_and_then typing.carried (option_and_then typing.carried operand.now.ty) }
 {
     match &operand.ty {
-        Some(ty) => carried(carried(ty)?),
+        Some(ty) => ty.carried()?.carried(),
         None => None,
     }
 }
@@ -91,7 +69,7 @@ fn carried_behind(operand: &Typed) -> Option<&Ty>
     ensures { option_copied result ≡ option_and_then typing.carried (option_and_then typing.pointed operand.now.ty) }
 {
     match &operand.ty {
-        Some(ty) => carried(pointed(ty)?),
+        Some(ty) => ty.pointed()?.carried(),
         None => None,
     }
 }
@@ -126,7 +104,7 @@ fn carried_first(args: &[Typed]) -> Option<&Ty>
         return None;
     }
     match &args[0].ty {
-        Some(ty) => carried(ty),
+        Some(ty) => ty.carried(),
         None => None,
     }
 }

@@ -39,7 +39,7 @@ pub(crate) fn begin(
 {
     match stand {
         Stand::New => begin_new(alloc, m, unit, args),
-        Stand::Waits(pause) => begin_from(alloc, m, now, unit, pause),
+        Stand::Waits(parked) => begin_from(alloc, m, now, unit, parked.pause()),
         Stand::Halted => Ok(None),
     }
 }

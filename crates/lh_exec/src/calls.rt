@@ -25,7 +25,6 @@ use lh_types::ty::NoMemory;
 use lh_types::val::Val;
 use lh_unit::inst::{Arg, Typed, UnitId, ValueId};
 use lh_unit::module::Module;
-use lh_unit::name::UnitName;
 use std::alloc::Global;
 use std::mem;
 
@@ -48,7 +47,7 @@ impl Machine {
         requires name { MaybeIn self.old.frame.slots name }
         ensures { let f = naming m.now self.old.frame.unit.0 in Does result m.now self.old self.new (λ p. if named.is_assert (unit_name_at m.now unit.0) then tells p (asserted p.control.held (map (operand_text f) args.now)) else opens p (maybe_text f name) (called (Some (unit_text_at m.now unit.0)) (data_at p.control.held (map (operand_text f) args.now)))) }
     {
-        if is_assert(m.unit_name(unit)) {
+        if m.unit_name(unit).is_assert() {
             return self.tell(args);
         }
         self.open(alloc, m, unit, args, name)
@@ -144,13 +143,6 @@ fn push_call(calls: &mut Vec<Call>, call: Call) -> Result<(), NoMemory>
         Ok(()) => Ok(()),
         Err(_) => Err(NoMemory),
     }
-}
-
-/// Whether it is `@llhd.assert`.
-fn is_assert(name: &UnitName) -> bool
-    ensures { result ≡ named.is_assert name.now }
-{
-    name.sigil == b'@' && name.name.as_bytes() == b"llhd.assert".as_slice()
 }
 
 /// Whether the one argument of an assertion is not 0.

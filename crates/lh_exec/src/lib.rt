@@ -9,8 +9,6 @@ mod machine;
 mod process;
 mod run;
 mod state;
-#[cfg(test)]
-mod tests;
 mod values;
 
 pub use laws::{state_law, steady_law};

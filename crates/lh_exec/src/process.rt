@@ -13,7 +13,7 @@ ghost use Rattle.lh_exec.specs.Sound.{Finishes, EndHolds, stood};
 
 use crate::begin::begin;
 use crate::machine::{Flow, Frame, Machine};
-use crate::state::{Pause, ProcState, Stand};
+use crate::state::{Parked, Pause, ProcState, Stand};
 use lh_eval::instance::Instance;
 use lh_time::Instant;
 use lh_types::bits::Bits;
@@ -118,18 +118,18 @@ fn activate_within(
     match begin(alloc, m, now, unit, args, stand)? {
         Some(mut machine) => {
             let flow = machine.run(alloc, m, now, at, limit)?;
-            finish(machine, flow)
+            finish(alloc, machine, flow)
         }
         None => Ok(None),
     }
 }
 
 /// What a machine that has come to an end gives.
-fn finish(machine: Machine, flow: Flow) -> Result<Option<Act>, NoMemory>
+fn finish(alloc: Global, machine: Machine, flow: Flow) -> Result<Option<Act>, NoMemory>
     ensures act { (a : Arena) (u w : ℕ) (t : When) (args : List Bounds) (done : Option Activated) → IsArena a → u < unit_count a → Finishes a u w t machine flow done → EndHolds (unit_text_at a u) done → IfOk result (λ r. GivesMaybe a u args w r done) }
     ensures late { (a : Arena) (u w : ℕ) (t : When) (done : Option Activated) → Finishes a u w t machine flow done → IfOk result (λ r. IfSome r (λ act. WakesLater t act.next)) }
 {
-    let Some(stand) = stand_at(machine.frame, flow) else {
+    let Some(stand) = stand_at(alloc, machine.frame, flow)? else {
         return Ok(None);
     };
     let wishes = machine.wishes.into_writes()?;
@@ -141,18 +141,24 @@ fn finish(machine: Machine, flow: Flow) -> Result<Option<Act>, NoMemory>
 }
 
 /// Where a process stands whose activation ends in this frame.
-fn stand_at(frame: Frame, flow: Flow) -> Option<Stand>
-    ensures { result ≡ stood frame flow }
+fn stand_at(alloc: Global, frame: Frame, flow: Flow) -> Result<Option<Stand>, NoMemory>
+    ensures { IfOk result (λ s. s ≡ stood frame flow) }
 {
     match flow {
-        Flow::Waits { to, on } => Some(Stand::Waits(Pause {
-            block: frame.block,
-            to,
-            slots: frame.slots,
-            on,
-        })),
-        Flow::Halts => Some(Stand::Halted),
-        _ => None,
+        Flow::Waits { to, on } => {
+            let parked = Parked::new(
+                alloc,
+                Pause {
+                    block: frame.block,
+                    to,
+                    slots: frame.slots,
+                    on,
+                },
+            )?;
+            Ok(Some(Stand::Waits(parked)))
+        }
+        Flow::Halts => Ok(Some(Stand::Halted)),
+        _ => Ok(None),
     }
 }
 

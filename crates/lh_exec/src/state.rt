@@ -10,6 +10,8 @@ use lh_types::ty::NoMemory;
 use lh_unit::inst::{BlockId, UnitId};
 use lh_unit::module::Module;
 use std::alloc::Global;
+use std::boxed::Box;
+use std::marker::Model;
 
 /// What a process waits for: a change of one of these parts of the signals, or this instant.
 #[derive(Drop)]
@@ -28,11 +30,46 @@ pub(crate) struct Pause {
     pub on: WaitOn,
 }
 
+/// A pause kept in memory of its own, so that all other states are small. Contracts see the pause.
+#[derive(Drop)]
+pub(crate) struct Parked {
+    pause: Box<Pause>,
+}
+
+impl Model for Parked {
+    ghost use Rattle.std.specs.Coded.{codes};
+    ghost use Rattle.lh_types.specs.Values.{datum_coded};
+    ghost use Rattle.lh_exec.specs.declared.state.Pause.{Pause};
+
+    ghost Value = { Pause };
+
+    ghost coded = { Prim.hlevel (codes, datum_coded) };
+
+    ghost view = { λ p. p.pause.value };
+}
+
+impl Parked {
+    /// The pause, kept.
+    pub fn new(alloc: Global, pause: Pause) -> Result<Parked, NoMemory>
+        ensures { IfOk result (λ p. p ≡ pause) }
+    {
+        let pause = Box::new(alloc, pause)?;
+        Ok(Parked { pause })
+    }
+
+    /// The pause that is kept.
+    pub fn pause(&self) -> &Pause
+        ensures { result.now ≡ self.now }
+    {
+        &self.pause
+    }
+}
+
 /// Where a process stands between its activations.
 #[derive(Drop)]
 pub(crate) enum Stand {
     New,
-    Waits(Pause),
+    Waits(Parked),
     Halted,
 }
 
@@ -55,7 +92,7 @@ impl ProcState {
         ensures { option_copied result ≡ waited_on self.now }
     {
         match &self.stand {
-            Stand::Waits(pause) => Some(&pause.on),
+            Stand::Waits(parked) => Some(&parked.pause().on),
             _ => None,
         }
     }

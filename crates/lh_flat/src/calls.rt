@@ -1,6 +1,5 @@
 //! The units of a module as a graph: how long each is, and the functions that it calls.
 ghost use Rattle.std.specs.Prelude.{◌≡◌, ◌<◌, ◌++◌, ◌∷◌, [], IfOk, OnOk};
-ghost use Rattle.lh_unit.specs.Named.{is_assert};
 ghost use Rattle.lh_unit.specs.Arena.{IsArena, InstPlaced, unit_count};
 ghost use Rattle.lh_flat.specs.Graph.{no_node, called_of, callee_of, CalleeWithin, with_inst, with_block, node_of, BlockPlaced, IsGraph, counted};
 
@@ -8,7 +7,6 @@ use lh_types::list::ListOf;
 use lh_types::ty::NoMemory;
 use lh_unit::inst::{BlockId, Inst, UnitId};
 use lh_unit::module::Module;
-use lh_unit::name::UnitName;
 use lh_unit::view::UnitView;
 use std::alloc::Global;
 
@@ -30,13 +28,6 @@ pub fn counted(count: u32, more: u32) -> u32
     count.saturating_add(more)
 }
 
-/// Whether it is `@llhd.assert`, which has no text to copy.
-fn is_assert(name: &UnitName) -> bool
-    ensures { result ≡ is_assert name.now }
-{
-    name.sigil == b'@' && name.name.as_bytes() == b"llhd.assert".as_slice()
-}
-
 /// The function that an instruction of a unit calls; none where it is no `call`, or one of `@llhd.assert`.
 pub fn callee(view: UnitView<'_>, inst: &Inst) -> Option<UnitId>
     requires { InstPlaced view.module.now view.unit.0 inst.now }
@@ -55,7 +46,7 @@ fn called(module: &Module, unit: UnitId) -> Option<UnitId>
     ensures callee { result ≡ called_of module.now unit }
     ensures within { CalleeWithin module.now result }
 {
-    if is_assert(module.unit_name(unit)) {
+    if module.unit_name(unit).is_assert() {
         None
     } else {
         Some(unit)

@@ -1,4 +1,4 @@
-//! Flat texts of files that are read and verified: the files, and the tests.
+//! Tests of flat texts, of steps to parts and of units that are copied: files that are read and verified, and the tests.
 #![tactic(auto)]
 
 pub mod nesting;

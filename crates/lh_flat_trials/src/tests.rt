@@ -1,4 +1,7 @@
 //! Processes through `flat`: how long the text is, and each refusal.
+mod copy_units;
+mod origin_steps;
+
 ghost use Rattle.std.specs.Prelude.{◌≡◌, ◌<◌, IfOk, Some};
 ghost use Rattle.lh_unit.specs.Arena.{unit_count, kind_at};
 ghost use Rattle.lh_unit.specs.declared.inst.UnitKind.TheVariants.{Proc};

@@ -7,7 +7,5 @@ mod group;
 mod jumps;
 pub mod laws;
 mod search;
-#[cfg(test)]
-mod tests;
 mod tops;
 mod tree;

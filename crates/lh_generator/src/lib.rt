@@ -3,5 +3,3 @@
 
 pub mod generator;
 pub mod summary;
-#[cfg(test)]
-mod tests;

@@ -1,5 +1,5 @@
 -- Rising lists with a number put in or taken out at its place.
-use Rattle.std.proofs.Common.{arith, ◌≡◌, ℕ, zero, suc, ◌-◌, ◌<◌, ◌≤◌, List, [], ◌∷◌, ◌++◌, length, get_or, take, drop, sym, subst, ◌∙◌, ◌⊎◌, inl, inr}
+use Rattle.std.proofs.Common.{arith, ◌≡◌, ℕ, zero, suc, ◌-◌, ◌<◌, ◌≤◌, List, [], ◌∷◌, ◌++◌, length, get_or, take, drop, refl, ap, sym, subst, ◌∙◌, ◌⊎◌, inl, inr}
 use Rattle.std.specs.Prelude.{◌≢◌, Result, Ok, Err, MatchResult}
 use Rattle.std.specs.List.{insert, remove}
 use Rattle.std.specs.List.Sorted.{IsBinarySearchResult}
@@ -92,6 +92,14 @@ put_has k n (suc i) (x ∷ xs) (inr (inr h)) = inr (put_has k n i xs (inr h))
 -- a number put in at any place
 pub one_more : (n i : ℕ) (xs : List ℕ) → HasOneMore xs n (insert xs i n)
 one_more n i xs k = (has_put k n i xs, put_has k n i xs)
+
+-- a number put in at the end
+end_put : (n : ℕ) (xs : List ℕ) → insert xs (length xs) n ≡ xs ++ n ∷ []
+end_put n [] = refl
+end_put n (x ∷ xs) = ap (λ (l : List ℕ). x ∷ l) (end_put n xs)
+
+pub put_behind : (n i : ℕ) (xs new : List ℕ) → i ≡ length xs → new ≡ xs ++ n ∷ [] → new ≡ insert xs i n
+put_behind n i xs new l e = e ∙ sym (end_put n xs) ∙ ap (λ (k : ℕ). insert xs k n) (sym l)
 
 -- a number that was there
 pub there_already : (n : ℕ) (xs : List ℕ) → Has n xs → HasOneMore xs n xs

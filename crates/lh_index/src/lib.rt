@@ -3,6 +3,4 @@
 
 pub mod rising;
 pub mod sensing;
-#[cfg(test)]
-mod tests;
 pub mod wakes;

@@ -1,5 +1,6 @@
 //! A list of rising numbers.
-ghost use Rattle.std.specs.Prelude.{◌≡◌, [], ℕ, false, true, IfOk, OnErr, ◌↔◌};
+ghost use Rattle.std.specs.Prelude.{◌≡◌, ◌≤◌, [], ℕ, false, true, vec_len, IfOk, OnOk, OnErr, ◌↔◌};
+ghost use Rattle.std.specs.List.{insert};
 ghost use Rattle.std.specs.List.Sorted.{IsBinarySearchResult};
 ghost use Rattle.std.specs.Ordering.{nat_cmp};
 ghost use Rattle.lh_index.specs.Rising.{Has, IsRising, HasOneMore, HasOneLess};
@@ -7,6 +8,9 @@ ghost use Rattle.lh_index.specs.Rising.{Has, IsRising, HasOneMore, HasOneLess};
 use lh_types::ty::NoMemory;
 use std::alloc::Global;
 use std::marker::Model;
+
+/// The first number makes room for so many, so that a short list takes memory once.
+const ROOM: usize = 16;
 
 /// Numbers, each less than those after it. Contracts see the list of them.
 #[derive(Drop)]
@@ -62,7 +66,8 @@ impl Rising {
         match place_of(self.numbers.as_slice(), n) {
             Ok(_) => Ok(false),
             Err(place) => {
-                self.numbers.insert(place, n)?;
+                begin_with_room(&mut self.numbers)?;
+                put_in(&mut self.numbers, place, n)?;
                 Ok(true)
             }
         }
@@ -76,6 +81,30 @@ impl Rising {
             self.numbers.remove(place);
         }
     }
+}
+
+/// Puts a number in at a place; at the end no other one is moved. After `NoMemory` the numbers are as they were.
+fn put_in(numbers: &mut Vec<u32>, place: usize, n: u32) -> Result<(), NoMemory>
+    requires { place ≤ vec_len numbers.old }
+    ensures items { OnOk result (numbers.new.items ≡ insert numbers.old.items place n) }
+    ensures err { OnErr result (numbers.new.items ≡ numbers.old.items) }
+{
+    if place == numbers.len() {
+        numbers.push(n)?;
+    } else {
+        numbers.insert(place, n)?;
+    }
+    Ok(())
+}
+
+/// Makes room in an empty list.
+fn begin_with_room(numbers: &mut Vec<u32>) -> Result<(), NoMemory>
+    ensures { numbers.new.items ≡ numbers.old.items }
+{
+    if numbers.is_empty() {
+        numbers.reserve(ROOM)?;
+    }
+    Ok(())
 }
 
 /// Where a number stands among rising ones, or is to be put in. The last is looked at first: most numbers come in order.

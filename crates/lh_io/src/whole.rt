@@ -75,6 +75,3 @@ pub fn read_all<S: Source>(
         }
     }
 }
-
-#[cfg(test)]
-mod tests;

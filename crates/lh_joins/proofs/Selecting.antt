@@ -13,7 +13,7 @@ use Rattle.lh_term.proofs.Arenas.{lt_of}
 use Rattle.lh_term.proofs.Swaps.{tree_grown, in_grown, stands_grown, grows_on}
 use Rattle.lh_rows.specs.Joins.{Edge as EdgeTo, in_each, selector}
 use Rattle.lh_rows.specs.Typed.{IsCondition, IsOfType}
-use Rattle.lh_rows.proofs.Conjuncts.{AllBits, conjuncts_bits, with_bits}
+use Rattle.lh_term.proofs.Conditions.{AllBits, conjuncts_bits, with_bits}
 use Rattle.lh_rows.proofs.Merging.{made-choice}
 use Rattle.lh_joins.specs.declared.edge.Edge.{Edge}
 use Rattle.lh_joins.specs.declared.joins.Shared.{Shared}

@@ -1,11 +1,15 @@
 //! The tokens of one line, taken longest first.
+//!
+//! Whether a line has tokens is one pass that stores nothing (`first_bad`), and its tokens are then taken one at a time
+//! from the front (`from_token`, `split`). `line` lists them all.
 #![tactic(auto)]
 
-ghost use Rattle.std.specs.Prelude.{◌≡◌, ◌≤◌, ◌+◌, IfOk, IfErr, length, map, drop, Some, Result, Ok};
-ghost use Rattle.lh_unit.specs.Names.{is_name_byte};
-ghost use Rattle.lh_unit.specs.Lexemes.{lexemes, run_len, is_white as white_byte, begins, is_comment, is_punct};
-ghost use Rattle.lh_unit.specs.Tokens.{tokens, first_token, named, lexeme_at, AreTokensOf, Covers};
+ghost use Rattle.std.specs.Prelude.{◌≡◌, ◌≤◌, ◌+◌, [], ◌∷◌, IfOk, IfErr, IfSome, IfNone, length, map, drop, false, Some, None, Result, Ok};
+ghost use Rattle.lh_unit.specs.Names.{is_name_byte, IsName};
+ghost use Rattle.lh_unit.specs.Lexemes.{lexemes, front, first_lexeme, run_len, is_white as white_byte, begins, is_comment, is_punct, local as a_local, word as a_word};
+ghost use Rattle.lh_unit.specs.Tokens.{tokens, first_token, first_bad as bad_place, named, lexeme_of, lexeme_at, IsSpelling, AreTokensOf, Covers};
 ghost use Rattle.lh_lex.specs.Faults.{NamesFault, Refuses};
+ghost use Rattle.lh_lex.specs.Front.{taken, length_of, begins_word, HasTokens, IsSettled};
 
 use lh_types::list::ListOf;
 pub use lh_unit::token::{Token, TokenKind, TokenList};
@@ -35,7 +39,8 @@ fn is_white(b: u8) -> bool
     matches!(b, b' ' | b'\t' | b'\r')
 }
 
-fn is_mark(b: u8) -> bool
+/// Whether the byte is a mark, which is a token by itself.
+pub fn is_mark(b: u8) -> bool
     ensures { result ≡ is_punct b }
 {
     matches!(
@@ -84,9 +89,10 @@ fn sigil(kind: TokenKind, len: usize) -> Result<(TokenKind, usize), usize>
 
 /// The token that begins with `b`, and how many of the bytes after it it takes; or how far behind `b` the first
 /// bad byte stands.
-#[tactic(auto, unfolding(lh_unit::specs::Tokens::first_token))]
+#[tactic(auto, unfolding(lh_unit::specs::Tokens::first_token, lh_unit::specs::Lexemes::first_lexeme))]
 fn first(b: u8, more: &[u8]) -> Result<(TokenKind, usize), usize>
     ensures token { result ≡ first_token b more.now }
+    ensures lexeme { taken b more.now result ≡ first_lexeme b more.now }
     ensures within { IfOk result (λ p. p.1 ≤ length more.now) }
     ensures bad { IfErr result (λ n. n ≤ length more.now) }
 {
@@ -109,6 +115,137 @@ fn first(b: u8, more: &[u8]) -> Result<(TokenKind, usize), usize>
         return Ok((TokenKind::Punct(b), 0));
     }
     Err(0)
+}
+
+/// How many bytes a sigil's token takes after it, before this many name bytes.
+fn sigil_len(len: usize) -> Result<usize, usize>
+    ensures token { (kind : TokenKind) → result ≡ length_of (named kind len) }
+    ensures within { IfOk result (λ n. n ≤ len) }
+    ensures bad { IfErr result (λ n. n ≤ len) }
+{
+    match len {
+        0 => Err(0),
+        1..=255 => Ok(len),
+        _ => Err(256),
+    }
+}
+
+/// How many of the bytes after `b` the token that begins with it takes; or how far behind `b` the first bad byte
+/// stands.
+#[tactic(auto, unfolding(lh_unit::specs::Tokens::first_token))]
+fn first_len(b: u8, more: &[u8]) -> Result<usize, usize>
+    ensures token { result ≡ length_of (first_token b more.now) }
+    ensures within { IfOk result (λ n. n ≤ length more.now) }
+    ensures bad { IfErr result (λ n. n ≤ length more.now) }
+{
+    if is_name(b) {
+        return Ok(name_len(more));
+    }
+    if b == b'@' || b == b'%' {
+        return sigil_len(name_len(more));
+    }
+    if b == b'-' && begins_with(more, b'>') {
+        return Ok(1);
+    }
+    if b == b'-' || is_mark(b) {
+        return Ok(0);
+    }
+    Err(0)
+}
+
+/// The place of the first byte that no token takes, or of the 256th byte of a name; `None` where the bytes have tokens.
+///
+/// The time is linear in the bytes, and it takes no memory.
+pub fn first_bad(text: &[u8]) -> Option<usize>
+    ensures { result ≡ bad_place text.now }
+{
+    let mut at = 0;
+    let mut rest = text;
+    while let Some((b, more)) = rest.split_first() {
+        if is_white(*b) {
+            rest = more;
+            at += 1;
+            continue;
+        }
+        if begins_comment(*b, more) {
+            return None;
+        }
+        match first_len(*b, more) {
+            Ok(len) => {
+                rest = &more[len..];
+                at += 1 + len;
+            }
+            Err(n) => return Some(at + n),
+        }
+    }
+    None
+}
+
+/// The bytes from their first token on; none where no token is left.
+pub fn from_token(text: &[u8]) -> &[u8]
+    ensures same { lexemes result.now ≡ lexemes text.now }
+    ensures settled { IsSettled result.now }
+{
+    let mut rest = text;
+    while let Some((b, more)) = rest.split_first() {
+        if !is_white(*b) {
+            return if begins_comment(*b, more) {
+                &rest[..0]
+            } else {
+                rest
+            };
+        }
+        rest = more;
+    }
+    rest
+}
+
+/// The first token, its bytes, and the bytes from the next token on; `None` where no byte is left.
+pub fn split(text: &[u8]) -> Option<(TokenKind, &[u8], &[u8])>
+    requires tokens { HasTokens text.now }
+    requires settled { IsSettled text.now }
+    ensures taken { IfSome result (λ r. lexemes text.now ≡ front (lexeme_of r.0 r.1.now) (lexemes r.2.now)) }
+    ensures spelled { IfSome result (λ r. IsSpelling r.0 r.1.now) }
+    ensures settled { IfSome result (λ r. IsSettled r.2.now) }
+    ensures end { IfNone result (text.now ≡ []) }
+{
+    let (b, more) = text.split_first()?;
+    let Ok((kind, len)) = first(*b, more) else {
+        return None;
+    };
+    Some((kind, &text[..1 + len], from_token(&more[len..])))
+}
+
+/// The word in front, and the bytes from the next token on; `None` where another byte stands in front.
+pub fn word(text: &[u8]) -> Option<(&[u8], &[u8])>
+    requires { IsSettled text.now }
+    ensures taken { IfSome result (λ r. lexemes text.now ≡ front (a_word r.0.now) (lexemes r.1.now)) }
+    ensures settled { IfSome result (λ r. IsSettled r.1.now) }
+    ensures other { IfNone result (begins_word text.now ≡ false) }
+{
+    let (b, more) = text.split_first()?;
+    if !is_name(*b) {
+        return None;
+    }
+    let len = name_len(more);
+    Some((&text[..1 + len], from_token(&more[len..])))
+}
+
+/// The name behind `%` in front, and the bytes from the next token on; `None` where another byte stands in front.
+pub fn local(text: &[u8]) -> Option<(&[u8], &[u8])>
+    requires tokens { HasTokens text.now }
+    requires settled { IsSettled text.now }
+    ensures taken { IfSome result (λ r. lexemes text.now ≡ front (a_local r.0.now) (lexemes r.1.now)) }
+    ensures name { IfSome result (λ r. IsName r.0.now) }
+    ensures settled { IfSome result (λ r. IsSettled r.1.now) }
+    ensures other { IfNone result (begins 37 text.now ≡ false) }
+{
+    let (b, more) = text.split_first()?;
+    if *b != b'%' {
+        return None;
+    }
+    let len = name_len(more);
+    Some((&more[..len], from_token(&more[len..])))
 }
 
 /// The tokens of a line as their definition gives them.
@@ -160,6 +297,3 @@ pub fn line(alloc: Global, text: &[u8]) -> Result<TokenList, LexFault>
 {
     scan(alloc, text)
 }
-
-#[cfg(test)]
-mod tests;

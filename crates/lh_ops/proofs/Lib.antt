@@ -1,4 +1,3 @@
-pub mod TestLemmas
 pub mod IntegerLemmas
 pub mod Worked
 pub mod BooleanLemmas

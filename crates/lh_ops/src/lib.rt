@@ -13,6 +13,3 @@ mod words;
 pub use integers::apply_int;
 pub use lh_types::op::Op;
 pub use values::apply;
-
-#[cfg(test)]
-mod tests;

@@ -3,4 +3,3 @@ pub mod Keeping
 pub mod Along
 pub mod Named
 pub mod Routes
-pub mod Sampled

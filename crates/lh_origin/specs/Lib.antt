@@ -1,3 +1,2 @@
 pub mod Firsts
 pub mod Origins
-pub mod Samples

@@ -2,5 +2,3 @@
 #![tactic(auto)]
 
 pub mod origin;
-#[cfg(test)]
-mod tests;

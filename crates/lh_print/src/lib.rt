@@ -9,7 +9,6 @@ mod arguments;
 mod insts;
 mod names;
 mod operands;
-mod text;
 pub mod types;
 mod units;
 mod values;

@@ -2,17 +2,17 @@
 #![tactic(auto, using(crate::proofs::Joined::steps))]
 
 ghost use Rattle.std.specs.Prelude.{◌≡◌, ◌<◌, ◌++◌, OnOk};
-ghost use Rattle.lh_unit.specs.Arena.{unit_count, value_count, label_count, value_name_at, label_name_at, naming, sizes, unit_name_at};
+ghost use Rattle.lh_unit.specs.Arena.{value_count, label_count, value_name_at, label_name_at, naming, sizes, unit_name_at};
 ghost use Rattle.lh_unit.specs.Naming.{maybe_text};
 ghost use Rattle.lh_unit.specs.Within.{MaybeWithin};
 ghost use Rattle.lh_unit.specs.Pieces.{render};
 ghost use Rattle.lh_unit.specs.Canon.{unit_name_pieces, maybe};
 
-use crate::text::put;
+use lh_types::text::put;
 use lh_types::ty::NoMemory;
-use lh_unit::inst::{BlockId, UnitId, ValueId};
-use lh_unit::module::Module;
+use lh_unit::inst::{BlockId, ValueId};
 use lh_unit::name::UnitName;
+use lh_unit::view::UnitView;
 
 /// Writes the name of a unit.
 pub fn put_unit_name(out: &mut Vec<u8>, name: &UnitName) -> Result<(), NoMemory>
@@ -30,52 +30,46 @@ pub fn put_unit_name(out: &mut Vec<u8>, name: &UnitName) -> Result<(), NoMemory>
 pub fn put_value(
     out: &mut Vec<u8>,
     before: &[u8],
-    m: &Module,
-    unit: UnitId,
+    view: UnitView<'_>,
     value: ValueId,
 ) -> Result<(), NoMemory>
-    requires unit { unit.0 < unit_count m.now }
-    requires value { value.0 < value_count m.now unit.0 }
-    ensures { OnOk result (out.new.items ≡ out.old.items ++ (before.now ++ value_name_at m.now unit.0 value.0)) }
+    requires value { value.0 < value_count view.module.now view.unit.0 }
+    ensures { OnOk result (out.new.items ≡ out.old.items ++ (before.now ++ value_name_at view.entry.module.now view.entry.unit.0 value.0)) }
 {
     put(out, before)?;
-    put(out, m.value_name(unit, value).as_bytes())
+    put(out, view.value_name(value).as_bytes())
 }
 
 /// Writes a text, and then the name of a label.
 pub fn put_label(
     out: &mut Vec<u8>,
     before: &[u8],
-    m: &Module,
-    unit: UnitId,
+    view: UnitView<'_>,
     block: BlockId,
 ) -> Result<(), NoMemory>
-    requires unit { unit.0 < unit_count m.now }
-    requires block { block.0 < label_count m.now unit.0 }
-    ensures { OnOk result (out.new.items ≡ out.old.items ++ (before.now ++ label_name_at m.now unit.0 block.0)) }
+    requires block { block.0 < label_count view.module.now view.unit.0 }
+    ensures { OnOk result (out.new.items ≡ out.old.items ++ (before.now ++ label_name_at view.entry.module.now view.entry.unit.0 block.0)) }
 {
     put(out, before)?;
-    put(out, m.block_name(unit, block).as_bytes())
+    put(out, view.block_name(block).as_bytes())
 }
 
 /// Writes a word and a value, such as ` if %c`, where there is a value.
 pub fn put_maybe(
     out: &mut Vec<u8>,
     word: &[u8],
-    m: &Module,
-    unit: UnitId,
+    view: UnitView<'_>,
     value: Option<ValueId>,
 ) -> Result<(), NoMemory>
-    requires unit { unit.0 < unit_count m.now }
-    requires value { MaybeWithin (sizes m.now unit.0) value }
-    ensures { OnOk result (out.new.items ≡ out.old.items ++ render (maybe word.now (maybe_text (naming m.now unit.0) value))) }
+    requires value { MaybeWithin (sizes view.module.now view.unit.0) value }
+    ensures { OnOk result (out.new.items ≡ out.old.items ++ render (maybe word.now (maybe_text (naming view.entry.module.now view.entry.unit.0) value))) }
 {
     match value {
         None => Ok(()),
         Some(value) => {
             put(out, b" ")?;
             put(out, word)?;
-            put_value(out, b" %", m, unit, value)
+            put_value(out, b" %", view, value)
         }
     }
 }

@@ -2,7 +2,7 @@
 #![tactic(auto, using(crate::proofs::Joined::steps))]
 
 ghost use Rattle.std.specs.Prelude.{◌≡◌, ◌<◌, ◌++◌, ◌∷◌, map, OnOk, decimal};
-ghost use Rattle.lh_unit.specs.Arena.{unit_count, naming, sizes};
+ghost use Rattle.lh_unit.specs.Arena.{naming, sizes};
 ghost use Rattle.lh_unit.specs.Naming.{operand_text, trigger_text, edge_text, value_text};
 ghost use Rattle.lh_unit.specs.Within.{Each, OperandWithin, TriggerWithin, EdgeWithin, ValueWithin};
 ghost use Rattle.lh_unit.specs.Pieces.{render, commas, behind_commas, percent, number};
@@ -10,25 +10,24 @@ ghost use Rattle.lh_unit.specs.CanonWords.{op_word as word_of_op, op_numbers};
 ghost use Rattle.lh_unit.specs.Canon.{operand, operands, operation, trigger, edge};
 
 use crate::names::{put_label, put_maybe, put_value};
-use crate::text::{put, put_number};
 use crate::types::put_type;
 use crate::words::{mode_word, op_word};
 use lh_types::op::Op;
+use lh_types::text::{put, put_number};
 use lh_types::ty::NoMemory;
-use lh_unit::inst::{PhiEdge, RegTrigger, Typed, UnitId, ValueId};
-use lh_unit::module::Module;
+use lh_unit::inst::{PhiEdge, RegTrigger, Typed, ValueId};
+use lh_unit::view::UnitView;
 
 /// Writes an operand with the type that it has.
-fn put_typed(out: &mut Vec<u8>, m: &Module, unit: UnitId, typed: &Typed) -> Result<(), NoMemory>
-    requires unit { unit.0 < unit_count m.now }
-    requires placed { OperandWithin (sizes m.now unit.0) typed.now }
-    ensures { OnOk result (out.new.items ≡ out.old.items ++ render (operand (operand_text (naming m.now unit.0) typed.now))) }
+fn put_typed(out: &mut Vec<u8>, view: UnitView<'_>, typed: &Typed) -> Result<(), NoMemory>
+    requires placed { OperandWithin (sizes view.module.now view.unit.0) typed.now }
+    ensures { OnOk result (out.new.items ≡ out.old.items ++ render (operand (operand_text (naming view.entry.module.now view.entry.unit.0) typed.now))) }
 {
     match &typed.ty {
-        None => put_value(out, b"%", m, unit, typed.value),
+        None => put_value(out, b"%", view, typed.value),
         Some(ty) => {
             put_type(out, ty)?;
-            put_value(out, b" %", m, unit, typed.value)
+            put_value(out, b" %", view, typed.value)
         }
     }
 }
@@ -37,50 +36,40 @@ fn put_typed(out: &mut Vec<u8>, m: &Module, unit: UnitId, typed: &Typed) -> Resu
 pub fn put_operand(
     out: &mut Vec<u8>,
     before: &[u8],
-    m: &Module,
-    unit: UnitId,
+    view: UnitView<'_>,
     typed: &Typed,
 ) -> Result<(), NoMemory>
-    requires unit { unit.0 < unit_count m.now }
-    requires placed { OperandWithin (sizes m.now unit.0) typed.now }
-    ensures { OnOk result (out.new.items ≡ out.old.items ++ (before.now ++ render (operand (operand_text (naming m.now unit.0) typed.now)))) }
+    requires placed { OperandWithin (sizes view.module.now view.unit.0) typed.now }
+    ensures { OnOk result (out.new.items ≡ out.old.items ++ (before.now ++ render (operand (operand_text (naming view.entry.module.now view.entry.unit.0) typed.now)))) }
 {
     put(out, before)?;
-    put_typed(out, m, unit, typed)
+    put_typed(out, view, typed)
 }
 
 /// Writes operands, with a comma and a space between them.
-pub fn put_operands(
-    out: &mut Vec<u8>,
-    m: &Module,
-    unit: UnitId,
-    args: &[Typed],
-) -> Result<(), NoMemory>
-    requires unit { unit.0 < unit_count m.now }
-    requires placed { Each (OperandWithin (sizes m.now unit.0)) args.now }
-    ensures { OnOk result (out.new.items ≡ out.old.items ++ render (operands (map (operand_text (naming m.now unit.0)) args.now))) }
+pub fn put_operands(out: &mut Vec<u8>, view: UnitView<'_>, args: &[Typed]) -> Result<(), NoMemory>
+    requires placed { Each (OperandWithin (sizes view.module.now view.unit.0)) args.now }
+    ensures { OnOk result (out.new.items ≡ out.old.items ++ render (operands (map (operand_text (naming view.entry.module.now view.entry.unit.0)) args.now))) }
 {
     match args.split_first() {
         None => Ok(()),
         Some((first, rest)) => {
-            put_operand(out, b"", m, unit, first)?;
-            put_operands_behind(out, m, unit, rest)
+            put_operand(out, b"", view, first)?;
+            put_operands_behind(out, view, rest)
         }
     }
 }
 
 fn put_operands_behind(
     out: &mut Vec<u8>,
-    m: &Module,
-    unit: UnitId,
+    view: UnitView<'_>,
     args: &[Typed],
 ) -> Result<(), NoMemory>
-    requires unit { unit.0 < unit_count m.now }
-    requires placed { Each (OperandWithin (sizes m.now unit.0)) args.now }
-    ensures { OnOk result (out.new.items ≡ out.old.items ++ render (behind_commas (map operand (map (operand_text (naming m.now unit.0)) args.now)))) }
+    requires placed { Each (OperandWithin (sizes view.module.now view.unit.0)) args.now }
+    ensures { OnOk result (out.new.items ≡ out.old.items ++ render (behind_commas (map operand (map (operand_text (naming view.entry.module.now view.entry.unit.0)) args.now)))) }
 {
     for typed in args {
-        put_operand(out, b", ", m, unit, typed)?;
+        put_operand(out, b", ", view, typed)?;
     }
     Ok(())
 }
@@ -88,48 +77,43 @@ fn put_operands_behind(
 /// Writes signals, with a comma and a space before each.
 pub fn put_signals_behind(
     out: &mut Vec<u8>,
-    m: &Module,
-    unit: UnitId,
+    view: UnitView<'_>,
     signals: &[ValueId],
 ) -> Result<(), NoMemory>
-    requires unit { unit.0 < unit_count m.now }
-    requires placed { Each (ValueWithin (sizes m.now unit.0)) signals.now }
-    ensures { OnOk result (out.new.items ≡ out.old.items ++ render (behind_commas (map percent (map (value_text (naming m.now unit.0)) signals.now)))) }
+    requires placed { Each (ValueWithin (sizes view.module.now view.unit.0)) signals.now }
+    ensures { OnOk result (out.new.items ≡ out.old.items ++ render (behind_commas (map percent (map (value_text (naming view.entry.module.now view.entry.unit.0)) signals.now)))) }
 {
     for signal in signals {
-        put_value(out, b", %", m, unit, *signal)?;
+        put_value(out, b", %", view, *signal)?;
     }
     Ok(())
 }
 
 /// Writes a trigger of a register behind a comma.
-fn put_trigger(out: &mut Vec<u8>, m: &Module, unit: UnitId, t: &RegTrigger) -> Result<(), NoMemory>
-    requires unit { unit.0 < unit_count m.now }
-    requires placed { TriggerWithin (sizes m.now unit.0) t.now }
-    ensures { OnOk result (out.new.items ≡ out.old.items ++ (44 ∷ 32 ∷ render (trigger (trigger_text (naming m.now unit.0) t.now)))) }
+fn put_trigger(out: &mut Vec<u8>, view: UnitView<'_>, t: &RegTrigger) -> Result<(), NoMemory>
+    requires placed { TriggerWithin (sizes view.module.now view.unit.0) t.now }
+    ensures { OnOk result (out.new.items ≡ out.old.items ++ (44 ∷ 32 ∷ render (trigger (trigger_text (naming view.entry.module.now view.entry.unit.0) t.now)))) }
 {
-    put_value(out, b", [%", m, unit, t.value)?;
+    put_value(out, b", [%", view, t.value)?;
     put(out, b", ")?;
     put(out, mode_word(t.mode))?;
-    put_value(out, b" %", m, unit, t.trigger)?;
-    put_maybe(out, b"if", m, unit, t.gate)?;
-    put_maybe(out, b"after", m, unit, t.after)?;
+    put_value(out, b" %", view, t.trigger)?;
+    put_maybe(out, b"if", view, t.gate)?;
+    put_maybe(out, b"after", view, t.after)?;
     put(out, b"]")
 }
 
 /// Writes the triggers of a register, with a comma and a space before each.
 pub fn put_triggers_behind(
     out: &mut Vec<u8>,
-    m: &Module,
-    unit: UnitId,
+    view: UnitView<'_>,
     triggers: &[RegTrigger],
 ) -> Result<(), NoMemory>
-    requires unit { unit.0 < unit_count m.now }
-    requires placed { Each (TriggerWithin (sizes m.now unit.0)) triggers.now }
-    ensures { OnOk result (out.new.items ≡ out.old.items ++ render (behind_commas (map trigger (map (trigger_text (naming m.now unit.0)) triggers.now)))) }
+    requires placed { Each (TriggerWithin (sizes view.module.now view.unit.0)) triggers.now }
+    ensures { OnOk result (out.new.items ≡ out.old.items ++ render (behind_commas (map trigger (map (trigger_text (naming view.entry.module.now view.entry.unit.0)) triggers.now)))) }
 {
     for t in triggers {
-        put_trigger(out, m, unit, t)?;
+        put_trigger(out, view, t)?;
     }
     Ok(())
 }
@@ -138,52 +122,42 @@ pub fn put_triggers_behind(
 fn put_edge(
     out: &mut Vec<u8>,
     before: &[u8],
-    m: &Module,
-    unit: UnitId,
+    view: UnitView<'_>,
     e: &PhiEdge,
 ) -> Result<(), NoMemory>
-    requires unit { unit.0 < unit_count m.now }
-    requires placed { EdgeWithin (sizes m.now unit.0) e.now }
-    ensures { OnOk result (out.new.items ≡ out.old.items ++ (before.now ++ render (edge (edge_text (naming m.now unit.0) e.now)))) }
+    requires placed { EdgeWithin (sizes view.module.now view.unit.0) e.now }
+    ensures { OnOk result (out.new.items ≡ out.old.items ++ (before.now ++ render (edge (edge_text (naming view.entry.module.now view.entry.unit.0) e.now)))) }
 {
     put(out, before)?;
-    put_value(out, b"[%", m, unit, e.value)?;
-    put_label(out, b", %", m, unit, e.block)?;
+    put_value(out, b"[%", view, e.value)?;
+    put_label(out, b", %", view, e.block)?;
     put(out, b"]")
 }
 
 /// Writes the edges of a `phi`, with a comma and a space between them.
-pub fn put_edges(
-    out: &mut Vec<u8>,
-    m: &Module,
-    unit: UnitId,
-    edges: &[PhiEdge],
-) -> Result<(), NoMemory>
-    requires unit { unit.0 < unit_count m.now }
-    requires placed { Each (EdgeWithin (sizes m.now unit.0)) edges.now }
-    ensures { OnOk result (out.new.items ≡ out.old.items ++ render (commas (map edge (map (edge_text (naming m.now unit.0)) edges.now)))) }
+pub fn put_edges(out: &mut Vec<u8>, view: UnitView<'_>, edges: &[PhiEdge]) -> Result<(), NoMemory>
+    requires placed { Each (EdgeWithin (sizes view.module.now view.unit.0)) edges.now }
+    ensures { OnOk result (out.new.items ≡ out.old.items ++ render (commas (map edge (map (edge_text (naming view.entry.module.now view.entry.unit.0)) edges.now)))) }
 {
     match edges.split_first() {
         None => Ok(()),
         Some((first, rest)) => {
-            put_edge(out, b"", m, unit, first)?;
-            put_edges_behind(out, m, unit, rest)
+            put_edge(out, b"", view, first)?;
+            put_edges_behind(out, view, rest)
         }
     }
 }
 
 fn put_edges_behind(
     out: &mut Vec<u8>,
-    m: &Module,
-    unit: UnitId,
+    view: UnitView<'_>,
     edges: &[PhiEdge],
 ) -> Result<(), NoMemory>
-    requires unit { unit.0 < unit_count m.now }
-    requires placed { Each (EdgeWithin (sizes m.now unit.0)) edges.now }
-    ensures { OnOk result (out.new.items ≡ out.old.items ++ render (behind_commas (map edge (map (edge_text (naming m.now unit.0)) edges.now)))) }
+    requires placed { Each (EdgeWithin (sizes view.module.now view.unit.0)) edges.now }
+    ensures { OnOk result (out.new.items ≡ out.old.items ++ render (behind_commas (map edge (map (edge_text (naming view.entry.module.now view.entry.unit.0)) edges.now)))) }
 {
     for e in edges {
-        put_edge(out, b", ", m, unit, e)?;
+        put_edge(out, b", ", view, e)?;
     }
     Ok(())
 }
@@ -193,7 +167,7 @@ fn put_number_behind(out: &mut Vec<u8>, n: u32) -> Result<(), NoMemory>
     ensures { OnOk result (out.new.items ≡ out.old.items ++ (44 ∷ 32 ∷ decimal n)) }
 {
     put(out, b", ")?;
-    put_number(out, u128::from(n))
+    put_number(out, u64::from(n))
 }
 
 /// Writes the numbers of an operation, with a comma and a space before each.
@@ -214,57 +188,46 @@ fn put_numbers_behind(out: &mut Vec<u8>, op: Op) -> Result<(), NoMemory>
 fn put_bracketed(
     out: &mut Vec<u8>,
     begin: &[u8],
-    m: &Module,
-    unit: UnitId,
+    view: UnitView<'_>,
     args: &[Typed],
     end: &[u8],
 ) -> Result<(), NoMemory>
-    requires unit { unit.0 < unit_count m.now }
-    requires placed { Each (OperandWithin (sizes m.now unit.0)) args.now }
-    ensures { OnOk result (out.new.items ≡ out.old.items ++ (begin.now ++ (render (operands (map (operand_text (naming m.now unit.0)) args.now)) ++ end.now))) }
+    requires placed { Each (OperandWithin (sizes view.module.now view.unit.0)) args.now }
+    ensures { OnOk result (out.new.items ≡ out.old.items ++ (begin.now ++ (render (operands (map (operand_text (naming view.entry.module.now view.entry.unit.0)) args.now)) ++ end.now))) }
 {
     put(out, begin)?;
-    put_operands(out, m, unit, args)?;
+    put_operands(out, view, args)?;
     put(out, end)
 }
 
 /// Writes an operation that has a word.
-fn put_worded(
-    out: &mut Vec<u8>,
-    m: &Module,
-    unit: UnitId,
-    op: Op,
-    args: &[Typed],
-) -> Result<(), NoMemory>
-    requires unit { unit.0 < unit_count m.now }
-    requires placed { Each (OperandWithin (sizes m.now unit.0)) args.now }
-    ensures { OnOk result (out.new.items ≡ out.old.items ++ (word_of_op op ++ (32 ∷ (render (operands (map (operand_text (naming m.now unit.0)) args.now)) ++ render (behind_commas (map number (op_numbers op))))))) }
+fn put_worded(out: &mut Vec<u8>, view: UnitView<'_>, op: Op, args: &[Typed]) -> Result<(), NoMemory>
+    requires placed { Each (OperandWithin (sizes view.module.now view.unit.0)) args.now }
+    ensures { OnOk result (out.new.items ≡ out.old.items ++ (word_of_op op ++ (32 ∷ (render (operands (map (operand_text (naming view.entry.module.now view.entry.unit.0)) args.now)) ++ render (behind_commas (map number (op_numbers op))))))) }
 {
     put(out, op_word(op))?;
-    put_bracketed(out, b" ", m, unit, args, b"")?;
+    put_bracketed(out, b" ", view, args, b"")?;
     put_numbers_behind(out, op)
 }
 
 /// Writes an operation on values or on parts of signals.
 pub fn put_operation(
     out: &mut Vec<u8>,
-    m: &Module,
-    unit: UnitId,
+    view: UnitView<'_>,
     op: Op,
     args: &[Typed],
 ) -> Result<(), NoMemory>
-    requires unit { unit.0 < unit_count m.now }
-    requires placed { Each (OperandWithin (sizes m.now unit.0)) args.now }
-    ensures { OnOk result (out.new.items ≡ out.old.items ++ render (operation op (map (operand_text (naming m.now unit.0)) args.now))) }
+    requires placed { Each (OperandWithin (sizes view.module.now view.unit.0)) args.now }
+    ensures { OnOk result (out.new.items ≡ out.old.items ++ render (operation op (map (operand_text (naming view.entry.module.now view.entry.unit.0)) args.now))) }
 {
     match op {
-        Op::Array => put_bracketed(out, b"[", m, unit, args, b"]"),
-        Op::Tuple => put_bracketed(out, b"{", m, unit, args, b"}"),
+        Op::Array => put_bracketed(out, b"[", view, args, b"]"),
+        Op::Tuple => put_bracketed(out, b"{", view, args, b"}"),
         Op::Repeat(n) => {
             put(out, b"[")?;
-            put_number(out, u128::from(n))?;
-            put_bracketed(out, b" x ", m, unit, args, b"]")
+            put_number(out, u64::from(n))?;
+            put_bracketed(out, b" x ", view, args, b"]")
         }
-        _ => put_worded(out, m, unit, op, args),
+        _ => put_worded(out, view, op, args),
     }
 }

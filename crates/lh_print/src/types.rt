@@ -6,7 +6,7 @@ ghost use Rattle.lh_types.specs.Types.{row_of};
 ghost use Rattle.lh_unit.specs.Pieces.{render};
 ghost use Rattle.lh_unit.specs.CanonTypes.{type_pieces, row_pieces, row_behind};
 
-use crate::text::{put, put_number};
+use lh_types::text::{put, put_number};
 use lh_types::ty::{NoMemory, Ty, TyKind};
 
 /// Writes a type.
@@ -18,13 +18,13 @@ pub fn put_type(out: &mut Vec<u8>, t: &Ty) -> Result<(), NoMemory>
     match t.kind() {
         TyKind::Int(width) => {
             put(out, b"i")?;
-            put_number(out, u128::from(width))
+            put_number(out, u64::from(width))
         }
         TyKind::Time => put(out, b"time"),
         TyKind::Void => put(out, b"void"),
         TyKind::Array(len, of) => {
             put(out, b"[")?;
-            put_number(out, u128::from(len))?;
+            put_number(out, u64::from(len))?;
             put(out, b" x ")?;
             put_type(out, of)?;
             put(out, b"]")

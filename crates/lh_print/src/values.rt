@@ -6,7 +6,7 @@ ghost use Rattle.lh_types.specs.ValueOf.{datum_of};
 ghost use Rattle.lh_unit.specs.Pieces.{render};
 ghost use Rattle.lh_unit.specs.CanonTypes.{time_text, steps_pieces, time_pieces, const_pieces};
 
-use crate::text::{put, put_number};
+use lh_types::text::{put, put_integer, put_number};
 use lh_types::ty::NoMemory;
 use lh_types::val::Val;
 
@@ -14,7 +14,7 @@ use lh_types::val::Val;
 fn put_count(out: &mut Vec<u8>, n: u64, unit: &[u8]) -> Result<(), NoMemory>
     ensures { OnOk result (out.new.items ≡ out.old.items ++ (decimal n ++ unit.now)) }
 {
-    put_number(out, u128::from(n))?;
+    put_number(out, n)?;
     put(out, unit)
 }
 
@@ -67,9 +67,9 @@ pub fn put_const(out: &mut Vec<u8>, value: &Val) -> Result<(), NoMemory>
     match value {
         Val::Int { width, bits } => {
             put(out, b"const i")?;
-            put_number(out, u128::from(*width))?;
+            put_number(out, u64::from(*width))?;
             put(out, b" ")?;
-            put_number(out, *bits)
+            put_integer(out, *bits)
         }
         Val::Time(d) => {
             put(out, b"const time ")?;

@@ -10,4 +10,3 @@ pub mod Holding
 pub mod Taking
 pub mod Leading
 pub mod Keeping
-pub mod Apart

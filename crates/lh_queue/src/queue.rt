@@ -6,9 +6,6 @@ ghost use Rattle.lh_queue.specs.Holds.{entries, HoldsFor, AreBitsAt, HoldsOn, Ho
 ghost use Rattle.lh_queue.specs.Buckets.{buckets_of, next_in, AreBuckets};
 ghost use Rattle.lh_queue.specs.Places.{IsPlace, GoesAlone, GoesFirst, GoesAfter, IsBehind, IsPut, earlier, first_key, first_wish, starts_at, first_of, comes_before, next_before, is_near};
 
-#[cfg(test)]
-mod tests;
-
 use crate::hints::Hints;
 use crate::line::Line;
 use crate::wish::Wish;

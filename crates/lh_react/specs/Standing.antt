@@ -14,6 +14,7 @@ use Rattle.lh_unit.specs.declared.inst.Inst.{Inst}
 use Rattle.lh_unit.specs.declared.inst.InstId.{InstId}
 use Rattle.lh_unit.specs.declared.inst.ValueId.{ValueId}
 use Rattle.lh_eval.specs.Holding.{Holds, given}
+use Rattle.lh_eval.specs.Wishing.{BitsWithin}
 use Rattle.lh_eval.specs.Fitting.{Fits}
 use Rattle.lh_eval.specs.WishOf.{writes_wish}
 use Rattle.lh_eval.specs.Grouped.{IsGrouped}
@@ -80,10 +81,6 @@ trigger_count (l ∷ more) = triggers_in l.inst + trigger_count more
 abbrev pub StateFits : UnitText → Option (List Bool) → Type 0
 StateFits u None = Unit {0}
 StateFits u (Some values) = length values ≡ trigger_count (lines_of u.blocks)
-
--- each of these writes names a bit below this
-abbrev pub BitsWithin : (width : ℕ) → List (ℕ × Bool) → Type 0
-BitsWithin width ws = Each (λ (w : ℕ × Bool). w.0 < width) ws
 
 -- What a run of the unit u answers, where the signals have so many bits: what the pass has seen is the next memory, which fits; and
 -- the writes have exactly the entries of its wish. Their instants strictly rise, none is empty and none names a bit twice, and each names only bits of the signals.

@@ -1,7 +1,7 @@
 //! One pass of an entity.
 ghost use Rattle.std.specs.Prelude.{◌≡◌, ◌<◌, ◌^◌, length, Some, IfOk};
 ghost use Rattle.lh_types.specs.Raised.{raised};
-ghost use Rattle.lh_unit.specs.Arena.{unit_count, kind_at, contents, unit_text_at};
+ghost use Rattle.lh_unit.specs.Arena.{IsArena, unit_count, kind_at, contents, unit_text_at, block_insts_at};
 ghost use Rattle.lh_unit.specs.Pass.{pass};
 ghost use Rattle.lh_unit.specs.WellFormed.{IsWellFormed};
 ghost use Rattle.lh_sound.specs.Ranges.{InstanceFits};
@@ -9,6 +9,7 @@ ghost use Rattle.lh_react.specs.Standing.{Reacts};
 
 use crate::pass::{Run, run_insts};
 use crate::quiet::quiet;
+use crate::seen::Seen;
 use crate::state::EntState;
 use lh_eval::begin::begin;
 use lh_eval::instance::Instance;
@@ -20,7 +21,7 @@ use lh_types::part::Range;
 use lh_types::tally::Tally;
 use lh_types::ty::NoMemory;
 use lh_types::writes::DueWrites;
-use lh_unit::inst::{UnitId, UnitKind};
+use lh_unit::inst::{InstId, UnitId, UnitKind};
 use lh_unit::module::Module;
 use std::alloc::Global;
 
@@ -80,24 +81,49 @@ fn run_entity(
     let block = m.blocks(unit)[0];
     let insts = m.insts(unit, block);
     if let Some(seen) = quiet(alloc, m, unit, insts, args, now, state)? {
+        let next = state.after(alloc, seen)?;
         return Ok(EntAct {
-            next: EntState::after(seen),
+            next,
             wishes: ListOf::new(alloc),
         });
     }
+    run_each(alloc, m, unit, insts, args, sigs, now, state, at)
+}
+
+/// One pass of an entity, instruction by instruction. It stands apart, so that a quiet pass is short.
+#[inline(never)]
+fn run_each(
+    alloc: Global,
+    m: &Module,
+    unit: UnitId,
+    insts: &[InstId],
+    args: &[Range],
+    sigs: &[Range],
+    now: &Bits,
+    state: &EntState,
+    at: Instant,
+) -> Result<EntAct, NoMemory>
+    requires arena { IsArena m.now }
+    requires unit { unit.0 < unit_count m.now }
+    requires entity { kind_at m.now unit.0 ≡ Some UnitKind.Entity }
+    requires formed { IsWellFormed (contents m.now) }
+    requires insts { insts.now ≡ block_insts_at m.now unit.0 0 }
+    requires few { length now.now < 2 ^ 32 }
+    requires fits { InstanceFits (unit_text_at m.now unit.0) args.now sigs.now (length now.now) }
+    ensures { IfOk result (Reacts (unit_text_at m.now unit.0) (length now.now) (pass (unit_text_at m.now unit.0) args.now sigs.now now.now state.now at)) }
+{
     let slots = begin(alloc, m, unit, insts, args, sigs)?;
+    let seen = Seen::new(alloc, state)?;
     let mut run = Run {
         slots,
-        seen: ListOf::new(alloc),
+        seen,
         wishes: Wishes::new(alloc),
     };
     run_insts(alloc, m, unit, insts, now, state, at, &mut run)?;
     let Run { seen, wishes, .. } = run;
+    let next = state.after(alloc, seen)?;
     let wishes = wishes.into_writes()?;
-    Ok(EntAct {
-        next: EntState::after(seen),
-        wishes,
-    })
+    Ok(EntAct { next, wishes })
 }
 
 /// There are fewer than 2 ^ 32 bits.

@@ -2,9 +2,11 @@
 #![tactic(auto)]
 
 mod entity;
+mod kept;
 mod pass;
 mod quiet;
 mod register;
+mod seen;
 mod state;
 
 pub use entity::{EntAct, react};

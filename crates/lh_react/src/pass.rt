@@ -15,6 +15,7 @@ ghost use Rattle.lh_eval.specs.Sound.{IsSound};
 ghost use Rattle.lh_react.specs.Standing.{Stands, IsFit, HasGiven, HasWished, line_in, named_line, passed_by, passed_all};
 
 use crate::register::run_reg;
+use crate::seen::Seen;
 use crate::state::EntState;
 use lh_eval::effects::{drive, probe};
 use lh_eval::held::{Held, Slots};
@@ -22,7 +23,6 @@ use lh_eval::operate::operate;
 use lh_eval::wishes::Wishes;
 use lh_time::Instant;
 use lh_types::bits::Bits;
-use lh_types::list::BoolList;
 use lh_types::op::Op;
 use lh_types::ty::NoMemory;
 use lh_types::val::Val;
@@ -34,7 +34,7 @@ use std::alloc::Global;
 #[derive(Drop)]
 pub(crate) struct Run {
     pub slots: Slots,
-    pub seen: BoolList,
+    pub seen: Seen,
     pub wishes: Wishes,
 }
 

@@ -17,10 +17,10 @@ ghost use Rattle.lh_react.specs.Standing.{line_in, passed_all};
 ghost use Rattle.lh_react.specs.Quiet.{test_of, IsProbedBit, IsProbedInt, AreCompared, IsComparedBit, IsKnownBit, Knows, HoldsBack, BeginsBy, begins_with, IsStill};
 
 use crate::register::{mode_holds, past_of};
+use crate::seen::Seen;
 use crate::state::EntState;
 use lh_time::Instant;
 use lh_types::bits::Bits;
-use lh_types::list::{BoolList, ListOf};
 use lh_types::op::Op;
 use lh_types::part::Range;
 use lh_types::ty::{NoMemory, Ty, TyKind};
@@ -39,7 +39,7 @@ pub(crate) fn quiet(
     args: &[Range],
     now: &Bits,
     state: &EntState,
-) -> Result<Option<BoolList>, NoMemory>
+) -> Result<Option<Seen>, NoMemory>
     requires arena { IsArena m.now }
     requires unit { unit.0 < unit_count m.now }
     requires entity { kind_at m.now unit.0 ≡ Some UnitKind.Entity }
@@ -48,7 +48,7 @@ pub(crate) fn quiet(
     ensures { IfOk result (λ (o : Option (List Bool)). IfSome o (λ values. (e : Env) (t : Instant) → BeginsBy (unit_text_at m.now unit.0) args.now e → FindsAll (unit_text_at m.now unit.0) now.now state.now t (begins_with e) (map (line_in m.now unit.0) insts.now)
         → IsStill (passed_all m.now unit.0 now.now state.now t (begins_with e) insts.now) values)) }
 {
-    let mut seen = ListOf::new(alloc);
+    let mut seen = Seen::new(alloc, state)?;
     for inst in insts {
         if !stays_quiet(m, unit, *inst, args, now, state, &mut seen)? {
             return Ok(None);
@@ -65,7 +65,7 @@ fn stays_quiet(
     args: &[Range],
     now: &Bits,
     state: &EntState,
-    seen: &mut BoolList,
+    seen: &mut Seen,
 ) -> Result<bool, NoMemory>
     requires unit { unit.0 < unit_count m.now }
     requires entity { kind_at m.now unit.0 ≡ Some UnitKind.Entity }
@@ -97,7 +97,7 @@ fn none_fires(
     args: &[Range],
     now: &Bits,
     state: &EntState,
-    seen: &mut BoolList,
+    seen: &mut Seen,
 ) -> Result<bool, NoMemory>
     requires unit { unit.0 < unit_count m.now }
     requires entity { kind_at m.now unit.0 ≡ Some UnitKind.Entity }
@@ -122,7 +122,7 @@ fn none_fires(
         ) {
             return Ok(false);
         }
-        seen.push(value)?;
+        seen.push(value, state)?;
     }
     Ok(true)
 }
@@ -349,16 +349,7 @@ fn is_bit_signal(ty: &Ty) -> bool
     ensures { IsTrue result → carried ty.now ≡ Some (int_type 1) }
 {
     match ty.kind() {
-        TyKind::Signal(of) => is_bit(of),
-        _ => false,
-    }
-}
-
-fn is_bit(ty: &Ty) -> bool
-    ensures { IsTrue result → ty.now ≡ int_type 1 }
-{
-    match ty.kind() {
-        TyKind::Int(1) => true,
+        TyKind::Signal(of) => of.is_bit(),
         _ => false,
     }
 }

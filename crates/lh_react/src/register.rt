@@ -55,7 +55,7 @@ fn run_trigger(
     let value = test_in(&run.slots, trigger.trigger).unwrap_or(false);
     let fires = mode_holds(trigger.mode, past_of(state, run.seen.len()), value)
         && condition_in(&run.slots, trigger.gate).unwrap_or(false);
-    run.seen.push(value)?;
+    run.seen.push(value, state)?;
     if fires && !fired {
         store(alloc, at, to, trigger, run)?;
     }

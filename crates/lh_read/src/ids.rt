@@ -153,7 +153,7 @@ pub fn operands(
     requires { unit.0 < unit_count m.old }
     ensures { IfOk result (λ list. OperandsPlaced m.old m.new unit list (operands_of from.now)) }
 {
-    let mut to = ListOf::new(alloc);
+    let mut to = ListOf::with_room(alloc, from.len())?;
     for one in from {
         let placed = operand(alloc, m, unit, one)?;
         to.push(placed)?;
@@ -171,7 +171,7 @@ pub fn triggers(
     requires { unit.0 < unit_count m.old }
     ensures { IfOk result (λ list. TriggersPlaced m.old m.new unit list (map trigger_of from.now)) }
 {
-    let mut to = ListOf::new(alloc);
+    let mut to = ListOf::with_room(alloc, from.len())?;
     for one in from {
         let placed = trigger(alloc, m, unit, one)?;
         to.push(placed)?;
@@ -189,7 +189,7 @@ pub fn edges(
     requires { unit.0 < unit_count m.old }
     ensures { IfOk result (λ list. EdgesPlaced m.old m.new unit list (map edge_of from.now)) }
 {
-    let mut to = ListOf::new(alloc);
+    let mut to = ListOf::with_room(alloc, from.len())?;
     for one in from {
         let placed = edge(alloc, m, unit, one)?;
         to.push(placed)?;
@@ -207,7 +207,7 @@ pub fn signals(
     requires { unit.0 < unit_count m.old }
     ensures { IfOk result (λ list. SignalsPlaced m.old m.new unit list from.now) }
 {
-    let mut to = ListOf::new(alloc);
+    let mut to = ListOf::with_room(alloc, from.len())?;
     for one in from {
         let placed = value_id(alloc, m, unit, one)?;
         to.push(placed)?;

@@ -6,7 +6,6 @@ ghost use Rattle.lh_read.specs.InOrder.{IsInOrder, state_of};
 
 use crate::faults::LineFault;
 use crate::reader::Reader;
-use lh_lex::{LexFault, line};
 use lh_scan::tokens::Tokens;
 use lh_syntax::item;
 use std::alloc::Global;
@@ -38,12 +37,10 @@ pub fn read_line(alloc: Global, reader: &mut Reader, text: &[u8]) -> Result<(), 
     ensures step { TakesOrIsBad result (state_of reader.old) text.now (state_of reader.new) }
     ensures order { OnOk result (IsInOrder reader.new) }
 {
-    let tokens = match line(alloc, text) {
-        Ok(tokens) => tokens,
-        Err(LexFault::BadByte(_)) => return Err(LineFault::Syntax),
-        Err(LexFault::OutOfMemory) => return Err(LineFault::OutOfMemory),
+    let Some(tokens) = Tokens::of(text) else {
+        return Err(LineFault::Syntax);
     };
-    match item(alloc, &Tokens::new(text, tokens.as_slice()))? {
+    match item(alloc, &tokens)? {
         Some(said) => reader.take(alloc, said),
         None => Err(LineFault::Syntax),
     }

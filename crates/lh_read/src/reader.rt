@@ -24,12 +24,13 @@ use std::alloc::Global;
 fn declare_function(
     alloc: Global,
     name: &UnitNameText,
-    params: TyList,
+    mut params: TyList,
     result_type: Ty,
 ) -> Result<Declare, NoMemory>
     ensures { IfOk result (λ d. d ≡ Declare.Func (unit_name_of name.now) params result_type) }
 {
     let name = name.to_unit_name(alloc)?;
+    params.shrink();
     Ok(Declare::Func {
         name,
         params,
@@ -41,12 +42,14 @@ fn declare_function(
 fn declare_unit(
     alloc: Global,
     name: &UnitNameText,
-    inputs: TyList,
-    outputs: TyList,
+    mut inputs: TyList,
+    mut outputs: TyList,
 ) -> Result<Declare, NoMemory>
     ensures { IfOk result (λ d. d ≡ Declare.Unit (unit_name_of name.now) inputs outputs) }
 {
     let name = name.to_unit_name(alloc)?;
+    inputs.shrink();
+    outputs.shrink();
     Ok(Declare::Unit {
         name,
         inputs,
@@ -206,6 +209,7 @@ impl Reader {
         if !self.place.may_close() {
             return Err(LineFault::Syntax);
         }
+        self.module.shrink();
         self.place = Place::Outside;
         Ok(())
     }

@@ -6,6 +6,7 @@ pub mod Gathering
 pub mod Going
 pub mod Heading
 pub mod Lacking
+pub mod Lasting
 pub mod Meeting
 pub mod Noting
 pub mod Operating

@@ -25,7 +25,9 @@ use Rattle.lh_joins.specs.Joins.{IsConditionAt, AreConditions, edge_on, edges_on
 use Rattle.lh_joins.proofs.Conditions.{conditions-grown, edges-grown, stands-condition}
 use Rattle.lh_joins.proofs.Selecting.{made-grown}
 use Rattle.lh_region.specs.declared.state.Place.{Place}
-use Rattle.lh_region.specs.Asked.{kept_by, kept_at, keeps, source_of, edges_at, IsBelow, PassesOn, Told, CanAsk, StillTold, selectors_on, AreAlike, Joins, IsJoin, Tells, SamePlaces, IsWith, IsReplaced, IsWithAt, IsSelected, IsSelectedAt, IsKeptAlso, AreKept, CanJoin, IsJoined}
+use Rattle.lh_region.specs.declared.asking.Gap.{Gap}
+use Rattle.lh_region.specs.Asked.{kept_by, kept_at, keeps, source_of, edges_at, sources, IsBelow, Told, selectors_on, AreAlike, Joins, IsJoin, Tells, SamePlaces, IsWith, IsReplaced, IsWithAt, IsSelected, IsSelectedAt, IsKeptAlso, AreKept, CanJoin, IsJoined}
+use Rattle.lh_region.specs.Lacking.{AreTold, TellSame, CanFill, StillToldBy}
 use Rattle.lh_region.proofs.Placing.{kept-at, edges-of, replaced-here, replaced-other, replaced-same, same-edges, same-sources, Kept, new_one, old_one, kept-with, with-same}
 
 -- ---- an arena that grows
@@ -147,7 +149,7 @@ pub some-of : (o : Option Tree) → is_some o ≡ true → (x : Tree) × (o ≡ 
 some-of (Some x) e = (x, refl)
 some-of None e = absurd cc
 
-told-sources : (told : Told) (v : ℕ) (es : List Edge) (ys : List Tree) → map (λ (e : Edge). told e.from v) es ≡ map Some ys → Each (λ (s : ℕ). is_some (told s v) ≡ true) (map source_of es)
+told-sources : (told : Told) (v : ℕ) (es : List Edge) (ys : List Tree) → map (λ (e : Edge). told e.from v) es ≡ map Some ys → AreTold told v (map source_of es)
 told-sources told v [] ys h = tt
 told-sources told v (e ∷ es) [] h = absurd cc
 told-sources told v (e ∷ es) (y ∷ ys) h =
@@ -156,26 +158,30 @@ told-sources told v (e ∷ es) (y ∷ ys) h =
     (ap is_some a, told-sources told v es ys b)
 
 -- where something is told of a value that a place lacks, so it is where edges to the place come from
-pub told-passes : (ns : List Node) (ps : List Place) (told : Told) (v : ℕ) → Tells ns ps told → PassesOn ps v (λ (i : ℕ). is_some (told i v))
+pub told-passes : (ns : List Node) (ps : List Place) (told : Told) (v : ℕ) → Tells ns ps told → (i : ℕ) → is_some (told i v) ≡ true → keeps ps v i ≡ false → AreTold told v (sources ps i)
 told-passes ns ps told v t i h e = let (x, f) = some-of (told i v) h in let j = t.joins i v x e f in told-sources told v (edges_at ps i) (j.first ∷ j.others) j.each
 
--- ---- the values that sources keep
+-- ---- the values of a gap
 
-made-of-kept : (ns : List Node) (ps : List Place) (told : Told) (v : ℕ) → Tells ns ps told → (es : List Edge) (ts : List TermId) (ys : List Tree) → AreKept ps v es ts → map (λ (e : Edge). told e.from v) es ≡ map Some ys → AreMade ns ts ys
+made-of-kept : (ns : List Node) (ps : List Place) (told : Told) (v : ℕ) → Tells ns ps told → (is : List ℕ) (ts : List TermId) (ys : List Tree) → AreKept ps v is ts → map (λ (i : ℕ). told i v) is ≡ map Some ys → AreMade ns ts ys
 made-of-kept ns ps told v t [] [] [] k h = tt
 made-of-kept ns ps told v t [] [] (y ∷ ys) k h = absurd cc
 made-of-kept ns ps told v t [] (a ∷ ts) ys k h = absurd cc
-made-of-kept ns ps told v t (e ∷ es) [] ys k h = absurd cc
-made-of-kept ns ps told v t (e ∷ es) (a ∷ ts) [] k h = absurd cc
-made-of-kept ns ps told v t (e ∷ es) (a ∷ ts) (y ∷ ys) k h =
-    let p : Some a ≡ kept_at ps v e.from = cc in
-    let q : told e.from v ≡ Some y = cc in
-    let (x, f, s) = t.kept e.from v a (sym p) in
+made-of-kept ns ps told v t (i ∷ is) [] ys k h = absurd cc
+made-of-kept ns ps told v t (i ∷ is) (a ∷ ts) [] k h = absurd cc
+made-of-kept ns ps told v t (i ∷ is) (a ∷ ts) (y ∷ ys) k h =
+    let p : Some a ≡ kept_at ps v i = cc in
+    let q : told i v ≡ Some y = cc in
+    let (x, f, s) = t.kept i v a (sym p) in
     let g : Some x ≡ Some y = sym f ∙ q in
     let z : x ≡ y = cc in
-    let ks : map Some ts ≡ map (λ (e : Edge). kept_at ps v e.from) es = cc in
-    let hs : map (λ (e : Edge). told e.from v) es ≡ map Some ys = cc in
-    (subst (Stands ns a) z s, made-of-kept ns ps told v t es ts ys ks hs)
+    let ks : map Some ts ≡ map (kept_at ps v) is = cc in
+    let hs : map (λ (i : ℕ). told i v) is ≡ map Some ys = cc in
+    (subst (Stands ns a) z s, made-of-kept ns ps told v t is ts ys ks hs)
+
+told-from : (told : Told) (v : ℕ) (es : List Edge) → map (λ (i : ℕ). told i v) (map source_of es) ≡ map (λ (e : Edge). told e.from v) es
+told-from told v [] = refl
+told-from told v (e ∷ es) = let h = told-from told v es in λ i. told e.from v ∷ h i
 
 pub made-trees : (ns : List Node) (ts : List TermId) (xs : List Tree) → AreMade ns ts xs → trees_at ns ts ≡ xs
 made-trees ns [] [] m = refl
@@ -201,31 +207,40 @@ can-join ns p (t ∷ ts) x xs m a l = record {
   alike = subst (λ (y : Tree). AreAlike y (trees_at ns ts)) (sym m.0.tree) (subst (AreAlike x) (sym (made-trees ns ts xs m.1)) a);
 }
 
-kept-length : (ps : List Place) (v : ℕ) (es : List Edge) (ts : List TermId) → AreKept ps v es ts → length ts ≡ length es
-kept-length ps v es ts k = let S : TermId → Option TermId = Some in sym (map_length S ts) ∙ ap length k ∙ map_length (λ (e : Edge). kept_at ps v e.from) es
+kept-length : (ps : List Place) (v : ℕ) (is : List ℕ) (ts : List TermId) → AreKept ps v is ts → length ts ≡ length is
+kept-length ps v is ts k = let S : TermId → Option TermId = Some in sym (map_length S ts) ∙ ap length k ∙ map_length (kept_at ps v) is
 
--- ---- a value is merged
+same-long : (ps : List Place) (told : Told) (v : ℕ) (g : Gap) → TellSame ps told v g → length g.from.items ≡ length (edges_at ps g.place)
+same-long ps told v g s =
+    let f : ℕ → Option Tree = λ (i : ℕ). told i v in
+    sym (map_length f g.from.items) ∙ ap length (sym s) ∙ map_length f (sources ps g.place) ∙ map_length source_of (edges_at ps g.place)
 
-module _ (ns : List Node) (ps : List Place) (v at : ℕ) (ts : List TermId) (lacks : keeps ps v at ≡ false) (kept : AreKept ps v (edges_at ps at) ts) where
-  pub can-merge : CanAsk ns ps v at → (p : Place) → slice_get ps at ≡ Some p → IsJoin ns p × CanJoin ns p ts
+-- ---- a gap is filled
+
+module _ (ns : List Node) (ps : List Place) (v : ℕ) (g : Gap) (ts : List TermId) (lacks : keeps ps v g.place ≡ false) (kept : AreKept ps v g.from.items ts) where
+  made-by : (told : Told) → Tells ns ps told → TellSame ps told v g → (ys : List Tree) → map (λ (e : Edge). told e.from v) (edges_at ps g.place) ≡ map Some ys → AreMade ns ts ys
+  made-by told tells alike ys h = made-of-kept ns ps told v tells g.from.items ts ys kept (sym alike ∙ told-from told v (edges_at ps g.place) ∙ h)
+
+  pub can-merge : CanFill ns ps v g → (p : Place) → slice_get ps g.place ≡ Some p → IsJoin ns p × CanJoin ns p ts
   can-merge a p e =
-      let (x, f) = some-of (a.told at v) a.there in
-      let j = a.tells.joins at v x lacks f in
-      (a.tells.places at p e, can-join ns p ts j.first j.others (made-of-kept ns ps a.told v a.tells (edges_at ps at) ts (j.first ∷ j.others) kept j.each) j.alike (kept-length ps v (edges_at ps at) ts kept ∙ ap length (edges-of ps at p e)))
+      let (x, f) = some-of (a.told g.place v) a.there in
+      let j = a.tells.joins g.place v x lacks f in
+      let long = kept-length ps v g.from.items ts kept ∙ same-long ps a.told v g a.same ∙ ap length (edges-of ps g.place p e) in
+      (a.tells.places g.place p e, can-join ns p ts j.first j.others (made-by a.told a.tells a.same (j.first ∷ j.others) j.each) j.alike long)
 
-  pub merge-still : (ms : List Node) (qs rs : List Place) (t : TermId) → Grows ns ms → IsSelectedAt ms ps at qs → IsJoined ns (edges_at ps at) ts ms t → IsWithAt qs at v t rs → StillTold ns ps ms rs v at
-  merge-still ms qs rs t g s i w told tells there =
-      let (x, f) = some-of (told at v) there in
-      let j = tells.joins at v x lacks f in
-      let m = made-of-kept ns ps told v tells (edges_at ps at) ts (j.first ∷ j.others) kept j.each in
+  pub merge-still : (ms : List Node) (qs rs : List Place) (t : TermId) → Grows ns ms → IsSelectedAt ms ps g.place qs → IsJoined ns (edges_at ps g.place) ts ms t → IsWithAt qs g.place v t rs → StillToldBy ns ps ms rs v g
+  merge-still ms qs rs t w s i a told tells there alike =
+      let (x, f) = some-of (told g.place v) there in
+      let j = tells.joins g.place v x lacks f in
+      let m = made-by told tells alike (j.first ∷ j.others) j.each in
       let h = i j.first j.others (made-trees ns ts (j.first ∷ j.others) m) in
-      tells-with ms qs rs at v t told x w f (subst (Stands ms t) (sym j.gives) h) (tells-selected ms ps qs at told s (tells-grown ns ms ps told g tells))
+      tells-with ms qs rs g.place v t told x a f (subst (Stands ms t) (sym j.gives) h) (tells-selected ms ps qs g.place told s (tells-grown ns ms ps told w tells))
 
-  pub merge-also : (ms : List Node) (qs rs : List Place) (t : TermId) → IsSelectedAt ms ps at qs → IsWithAt qs at v t rs → IsKeptAlso ps v at rs
-  merge-also ms qs rs t s w j = kept-also qs rs at v t w j ∙ ap (λ (o : Option TermId). nat_eq at j || is_some o) (selected-kept ms ps qs at s v j)
+pub merge-also : (ms : List Node) (ps qs rs : List Place) (v at : ℕ) (t : TermId) → IsSelectedAt ms ps at qs → IsWithAt qs at v t rs → IsKeptAlso ps v at rs
+merge-also ms ps qs rs v at t s w j = kept-also qs rs at v t w j ∙ ap (λ (o : Option TermId). nat_eq at j || is_some o) (selected-kept ms ps qs at s v j)
 
-  pub merge-same : (ms : List Node) (qs rs : List Place) (t : TermId) → IsSelectedAt ms ps at qs → IsWithAt qs at v t rs → SamePlaces ps rs
-  merge-same ms qs rs t s w = with-same qs rs v at t w ∙ selected-same ms ps qs at s
+pub merge-same : (ms : List Node) (ps qs rs : List Place) (v at : ℕ) (t : TermId) → IsSelectedAt ms ps at qs → IsWithAt qs at v t rs → SamePlaces ps rs
+merge-same ms ps qs rs v at t s w = with-same qs rs v at t w ∙ selected-same ms ps qs at s
 
 -- ---- values that are the same
 

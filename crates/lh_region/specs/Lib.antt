@@ -7,7 +7,9 @@ pub mod Effects
 pub mod Forms
 pub mod Gives
 pub mod Heads
+pub mod Keepers
 pub mod Keeping
+pub mod Lacking
 pub mod Operands
 pub mod Stands
 pub mod Starts

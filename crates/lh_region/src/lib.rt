@@ -9,6 +9,7 @@ pub mod branch;
 pub mod effects;
 pub mod giving;
 pub mod head;
+pub mod keepers;
 pub mod laws;
 pub mod leading;
 pub mod operand;

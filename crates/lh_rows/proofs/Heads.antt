@@ -7,12 +7,12 @@ use Rattle.std.proofs.lemmas.Bool.{false≢true}
 use Rattle.std.proofs.lemmas.Option.{same_Some, none-some}
 use Rattle.lh_types.specs.Types.{TypeTree, signal_type, IsData}
 use Rattle.lh_types.specs.Values.{Datum}
-use Rattle.lh_unit.specs.Contents.{InstText, const_text, pure_text, var_text, ld_text, st_text, sig_text, prb_text, drv_text, reg_text, child_text, call_text, phi_text, br_text, branch_text, wait_text, halt_text, ret_text, LineText, BlockText, ArgText, UnitText, same_name, is_result_name, args_define, lines_define}
+use Rattle.lh_unit.specs.Contents.{InstText, const_text, phi_text, br_text, LineText, BlockText, ArgText, UnitText, same_name, is_result_name, args_define, lines_define}
 use Rattle.lh_unit.specs.Held.{Env}
 use Rattle.lh_unit.specs.Places.{Place, places_in, places_from}
 use Rattle.lh_unit.specs.Reads.{args_repeat}
 use Rattle.lh_unit.specs.Typing.{value_type, carried}
-use Rattle.lh_unit.specs.WellFormed as formed
+use Rattle.lh_unit.specs.WellFormed.{is_phi}
 use Rattle.lh_unit.specs.Within.{Each}
 use Rattle.lh_unit.specs.Activation.{phi_taken, phis_taken}
 use Rattle.lh_unit.proofs.Tables.{same_name-is}
@@ -25,7 +25,7 @@ use Rattle.lh_term.specs.declared.part.Part.{Part}
 use Rattle.lh_rows.specs.Known.{Known, known_value, known_part, Knowledge, with_given, whole_argument, with_arguments}
 use Rattle.lh_rows.specs.Joins.{Edge}
 use Rattle.lh_rows.specs.Places.{block_number}
-use Rattle.lh_rows.specs.Regions.{is_constant, with_constant, with_constants, branched_to, leads_on, is_led_to, head_after, is_phi, begins_with_phi, head_of}
+use Rattle.lh_rows.specs.Regions.{is_constant, with_constant, with_constants, branched_to, leads_on, is_led_to, head_after, begins_with_phi, head_of}
 use Rattle.lh_rows.specs.Typed.{Among, argument_part, PhiKnown}
 use Rattle.lh_rows.specs.Right.{as_block}
 use Rattle.lh_rows.proofs.Sites.{site-at, place-at}
@@ -246,27 +246,8 @@ no-phis u f i b at first = all [] b.lines refl
     front-phi : (l : LineText) (rest : List LineText) → b.lines ≡ l ∷ rest → is_phi l.inst ≡ false
     front-phi l rest e = ap begins_with_phi (sym e) ∙ first
 
-    by : (x : LineText) (before : List LineText) (more : List LineText) → b.lines ≡ (x ∷ before) ++ more → Each (λ (l : LineText). formed.is_phi l.inst ≡ true) (x ∷ before) → ⊥
-    by x before more e h = clash x.inst (front-phi x (before ++ more) e) h.0
-      where
-        clash : (j : InstText) → is_phi j ≡ false → formed.is_phi j ≡ true → ⊥
-        clash (phi_text ty es) a c = false≢true (sym a)
-        clash (const_text d) a c = false≢true c
-        clash (pure_text o os) a c = false≢true c
-        clash (var_text o) a c = false≢true c
-        clash (ld_text o) a c = false≢true c
-        clash (st_text o x) a c = false≢true c
-        clash (sig_text o) a c = false≢true c
-        clash (prb_text o) a c = false≢true c
-        clash (drv_text o x y z) a c = false≢true c
-        clash (reg_text o g) a c = false≢true c
-        clash (child_text v i o) a c = false≢true c
-        clash (call_text v i o) a c = false≢true c
-        clash (br_text o) a c = false≢true c
-        clash (branch_text o x y) a c = false≢true c
-        clash (wait_text o x y) a c = false≢true c
-        clash halt_text a c = false≢true c
-        clash (ret_text o) a c = false≢true c
+    by : (x : LineText) (before : List LineText) (more : List LineText) → b.lines ≡ (x ∷ before) ++ more → Each (λ (l : LineText). is_phi l.inst ≡ true) (x ∷ before) → ⊥
+    by x before more e h = false≢true (sym (front-phi x (before ++ more) e) ∙ h.0)
 
     one : (before : List LineText) (l : LineText) (more : List LineText) → b.lines ≡ before ++ l ∷ more → is_phi l.inst ≡ false
     one [] l more e = front-phi l more e

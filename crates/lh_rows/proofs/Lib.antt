@@ -1,5 +1,4 @@
 pub mod Among
-pub mod Conjuncts
 pub mod Merging
 pub mod Sites
 pub mod Reading

@@ -20,7 +20,7 @@ use Rattle.lh_term.proofs.Sound.{IntTerm, bit_mean, bit_typed, one_wide, operati
 use Rattle.lh_rows.specs.Joins.{Edge, or_any, any_taken, in_each, selector, chosen_from, merged}
 use Rattle.lh_rows.specs.Typed.{Among, IsCondition, IsOfType}
 use Rattle.lh_rows.specs.Means.{is_one}
-use Rattle.lh_rows.proofs.Conjuncts.{AllBits, one_bit, bit_one, holds, holds_with, conjuncts_bits, with_bits, conjuncts_hold, and_typed, from_all}
+use Rattle.lh_term.proofs.Conditions.{AllBits, one_bit, bit_one, holds, holds_with, conjuncts_bits, with_bits, conjuncts_hold, and_typed, from_all}
 use Rattle.lh_rows.proofs.Among.{in-each}
 
 as-bit : (t : Tree) → IsCondition t → IntTerm t 1

@@ -1,10 +1,10 @@
 -- What rows mean for an instance: the values that its parts have, what is held where something is known, and the wish of drives.
-use Rattle.std.specs.Prelude.{◌≡◌, ℕ, ◌+◌, List, [], ◌∷◌, Bool, false, nat_eq, if◌then◌else◌, Option, Some, slice_get}
+use Rattle.std.specs.Prelude.{◌≡◌, ℕ, ◌+◌, List, [], ◌∷◌, Bool, if◌then◌else◌, Option, Some, slice_get}
 use Rattle.std.specs.Option.{option_and_then, option_map_or}
 use Rattle.lh_time.specs.declared.Instant.{Instant}
 use Rattle.lh_time.specs.Due.{due_of}
 use Rattle.lh_types.specs.Types.{TypeTree, bit_count}
-use Rattle.lh_types.specs.Values.{Datum, int_value, time_value, array_value, tuple_value}
+use Rattle.lh_types.specs.Values.{Datum}
 use Rattle.lh_types.specs.Bits.{value_bits, value_from_bits}
 use Rattle.lh_types.specs.Wish.{Wish, with_drive}
 use Rattle.lh_types.specs.declared.part.Range.{Range}
@@ -13,6 +13,7 @@ use Rattle.lh_unit.specs.Typing.{value_type}
 use Rattle.lh_unit.specs.Held.{Held, datum_held, cell_held, part_held, Env, as_delay, bits_in}
 use Rattle.lh_term.specs.Tree.{Tree}
 use Rattle.lh_term.specs.Mean.{Valuation, mean}
+pub use Rattle.lh_term.specs.Mean.{is_one}
 use Rattle.lh_term.specs.declared.part.Part.{Part}
 use Rattle.lh_rows.specs.Known.{Known, known_value, known_cell, known_part, Knowledge}
 use Rattle.lh_rows.specs.Rows.{Drive}
@@ -42,13 +43,6 @@ Shows u value range k e = (n : List ℕ) (x : Known) (t : TypeTree) → k n ≡ 
 -- the same, where parts had and have these values
 abbrev pub Agrees : UnitText → (past now : Valuation) → (args : List Range) → Knowledge → Env → Type 0
 Agrees u past now args k e = Shows u (mean past now) (range_in args) k e
-
--- whether an integer is 1
-abbrev pub is_one : Datum → Bool
-is_one (int_value n a) = nat_eq a 1
-is_one (time_value d) = false
-is_one (array_value vs) = false
-is_one (tuple_value vs) = false
 
 -- a condition holds
 abbrev pub is_true : (past now : Valuation) → Tree → Bool

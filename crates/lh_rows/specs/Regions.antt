@@ -2,8 +2,9 @@
 use Rattle.std.specs.Prelude.{ℕ, zero, suc, ◌+◌, List, [], ◌∷◌, ◌++◌, length, map, Bool, true, false, ◌&&◌, nat_eq, nat_lt, if◌then◌else◌, Option, Some, None, slice_get, unwrap_or}
 use Rattle.std.specs.Option.{option_and_then, option_map_or}
 use Rattle.std.specs.List.{list_any, list_all, filter, flat_map}
-use Rattle.lh_unit.specs.Contents.{InstText, const_text, phi_text, br_text, LineText, same_name}
+use Rattle.lh_unit.specs.Contents.{InstText, const_text, br_text, LineText, same_name}
 use Rattle.lh_unit.specs.Places.{leads_to}
+use Rattle.lh_unit.specs.WellFormed.{is_phi}
 use Rattle.lh_term.specs.Tree.{Tree, constant, past_of, now_of}
 use Rattle.lh_term.specs.Make.{bit_of}
 use Rattle.lh_term.specs.declared.part.Part.{Part}
@@ -43,10 +44,6 @@ head_after (entry ∷ more) = if is_led_to entry.label (entry ∷ more) then Non
 -- The head: that block, else the entry.
 abbrev pub head_of : List FlatBlockText → ℕ
 head_of blocks = unwrap_or (head_after blocks) 0
-
-abbrev pub is_phi : InstText → Bool
-is_phi (phi_text ty edges) = true
-is_phi _ = false
 
 -- the first of these lines is a `phi`
 abbrev pub begins_with_phi : List LineText → Bool

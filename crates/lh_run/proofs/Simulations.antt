@@ -20,11 +20,11 @@ use Rattle.lh_wave.specs.declared.ending.Ending.{Ending}
 use Rattle.lh_wave.specs.declared.run.WaveFault.{WaveFault}
 use Rattle.lh_wave.specs.declared.run.WaveFault.TheVariants as wave
 use Rattle.lh_wave.specs.BrokenOff.{HaveSeen, no_more, one_more, AppendsPrefix, BreaksOff}
-use Rattle.lh_wave.specs.ShownRun.{ShownRun, ran_away, unless_stopped, shown_behind, shown_run, all_reports, any_failed}
+use Rattle.lh_wave.specs.ShownRun.{shown_from_first, ShownRun, ran_away, unless_stopped, shown_behind, shown_run, all_reports, any_failed}
 use Rattle.lh_words.specs.Forms.{Simulation, check, simulate}
 use Rattle.lh_run.specs.Simulated.{fault_of, status_by, Shows, MayBeLeft}
 use Rattle.lh_run.specs.Account.{Use, use_of, Gained, IsPrefix, IsProperPrefix, IsStatusFor}
-use Rattle.lh_run.specs.Steps.{AreLeftBy, Carries, WritesCanon, ShowsRun, shown_of, text_of, wave_status, IsTopStatus}
+use Rattle.lh_run.specs.Steps.{AreLeftBy, Carries, WritesCanon, ShowsRun, text_of, wave_status, IsTopStatus}
 use Rattle.lh_run.specs.declared.status.Status.{Status}
 use Rattle.lh_run.specs.declared.status.Status.TheVariants.{Usage, ReadFault, SourceTooLong, Refused, Top, OutputTooLong, WriteFault, Runaway, AssertFailed, Done, OutOfMemory}
 use Rattle.lh_run.proofs.Performances.{unused, silent, Appends_nothing}
@@ -161,7 +161,7 @@ ShowsRun-whole vcd d s asked now out log e failed ends fails text reports left =
     subst P (sym ends) (subst Q (sym fails) whole)
 
 -- a simulation whose top elaborates
-pub Carries-shown : (s : Simulation) (file : List ItemText) (ms asked : List Member) (d : Design) (ended : Status) (out log : Use) (now : List Member) → elab file s.top ≡ built d → asked ≡ kept s.titles ms → ShowsRun s.vcd d (shown_of file d s.steps asked) asked ended out log now → Carries (simulate s) file ms ended out log now
+pub Carries-shown : (s : Simulation) (file : List ItemText) (ms asked : List Member) (d : Design) (ended : Status) (out log : Use) (now : List Member) → elab file s.top ≡ built d → asked ≡ kept s.titles ms → ShowsRun s.vcd d (shown_from_first file d s.steps asked) asked ended out log now → Carries (simulate s) file ms ended out log now
 Carries-shown s file ms asked d ended out log now elaborates chosen shows =
     let run = run_from max_instructions file d s.steps (first_world file d) in
     let is : trace file s.top s.steps ≡ ran (shown_in d) (map shown_signal d.signals) run = ap (λ (x : Elaborated). trace_by max_instructions file s.steps x) elaborates in

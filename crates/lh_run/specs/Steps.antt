@@ -11,8 +11,7 @@ use Rattle.lh_unit.specs.Design.{Design, Refusal, elab, refused}
 use Rattle.lh_unit.specs.Frames.{pictures}
 use Rattle.lh_unit.specs.Paths.{shown_in}
 use Rattle.lh_unit.specs.Reads.{Reads}
-use Rattle.lh_unit.specs.Trace.{run_from, shown_signal, max_instructions}
-use Rattle.lh_unit.specs.World.{first_world}
+use Rattle.lh_unit.specs.Trace.{shown_signal}
 use Rattle.lh_unit.specs.WellFormed.{IsFaultless}
 use Rattle.lh_unit.specs.declared.name.UnitName.{UnitName}
 use Rattle.lh_watch.specs.Members.{Member}
@@ -21,7 +20,7 @@ use Rattle.lh_wave.specs.declared.run.WaveFault.{WaveFault}
 use Rattle.lh_wave.specs.declared.run.WaveFault.TheVariants as wave
 use Rattle.lh_wave.specs.BrokenOff.{HaveSeen}
 use Rattle.lh_wave.specs.RunText.{text_in}
-use Rattle.lh_wave.specs.ShownRun.{ShownRun, shown_run, all_reports, any_failed}
+use Rattle.lh_wave.specs.ShownRun.{ShownRun, all_reports, any_failed}
 use Rattle.lh_words.specs.Forms.{Asked, AsksSelfTest}
 use Rattle.lh_lowered.specs.Lowering.{lowered, report}
 use Rattle.lh_lowered.specs.Report.{report_text}
@@ -138,10 +137,6 @@ WritesLowered file _ out log = ⊥
 abbrev pub simulated : Result Ending Status → Status
 simulated (Ok e) = status_by e.end e.failed
 simulated (Err status) = status
-
--- the run of a design, up to a bound on frames, shown to members
-abbrev pub shown_of : List ItemText → Design → (steps : ℕ) → List Member → ShownRun
-shown_of file d steps asked = shown_run (run_from max_instructions file d steps (first_world file d)) asked
 
 -- the text of what is shown of a design
 abbrev pub text_of : Bool → Design → ShownRun → List ℕ

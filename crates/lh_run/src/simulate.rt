@@ -11,9 +11,10 @@ ghost use Rattle.lh_elab.specs.Refusals.{FaultWithin};
 ghost use Rattle.lh_kernel.specs.Simulation.{StandsFor};
 ghost use Rattle.lh_words.specs.Forms as words;
 ghost use Rattle.lh_words.specs.Meant.{simulation_of, top_of, titles_left};
+ghost use Rattle.lh_wave.specs.ShownRun.{shown_from_first};
 ghost use Rattle.lh_run.specs.Simulated.{status_by, mode_of};
 ghost use Rattle.lh_run.specs.Account.{use_of};
-ghost use Rattle.lh_run.specs.Steps.{Carries, ShowsRun, shown_of, simulated, IsTopStatus};
+ghost use Rattle.lh_run.specs.Steps.{Carries, ShowsRun, simulated, IsTopStatus};
 
 use crate::status::{Status, TopFault};
 use lh_design::Design;
@@ -68,7 +69,7 @@ fn show_run<O: Sink, L: Sink, W: Watcher>(
     requires steps { 0 < asked.now.steps }
     requires module { sim.old.arena ≡ module.now }
     requires first { StandsFor sim.old (first_world (contents module.now) (design_text module.now sim.old.design)) }
-    ensures shows { ShowsRun asked.now.vcd (design_text module.now sim.old.design) (shown_of (contents module.now) (design_text module.now sim.old.design) asked.now.steps (map W.member watchers.old.items)) (map W.member watchers.old.items) (simulated result) (use_of (O.written out.old) (O.written out.new) (O.faults out.old) (O.faults out.new)) (use_of (L.written log.old) (L.written log.new) (L.faults log.old) (L.faults log.new)) (map W.member watchers.new.items) }
+    ensures shows { ShowsRun asked.now.vcd (design_text module.now sim.old.design) (shown_from_first (contents module.now) (design_text module.now sim.old.design) asked.now.steps (map W.member watchers.old.items)) (map W.member watchers.old.items) (simulated result) (use_of (O.written out.old) (O.written out.new) (O.faults out.old) (O.faults out.new)) (use_of (L.written log.old) (L.written log.new) (L.faults log.old) (L.faults log.new)) (map W.member watchers.new.items) }
     ensures never_fall { L.faults log.old ≤ L.faults log.new }
 {
     let mut reports = Vec::new(alloc);

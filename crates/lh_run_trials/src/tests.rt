@@ -2,6 +2,7 @@
 mod activations;
 mod failing;
 mod lowering;
+mod selftest_links;
 mod simulations;
 mod texts;
 

@@ -1,5 +1,6 @@
 pub mod Pieces
 pub mod Digits
+pub mod Fronts
 pub mod Halves
 pub mod Lists
 pub mod Runs

@@ -5,8 +5,6 @@
 
 pub mod list;
 pub mod numbers;
-#[cfg(test)]
-mod tests;
 pub mod times;
 pub mod tokens;
 pub mod types;

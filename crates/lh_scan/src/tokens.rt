@@ -1,14 +1,15 @@
 //! The tokens of a line from the front: what a line is read by.
-ghost use Rattle.std.specs.Prelude.{◌≡◌, ◌<◌, ◌≤◌, map, option_map, length, List, IfOk};
-ghost use Rattle.lh_unit.specs.Names.{IsName};
-ghost use Rattle.lh_unit.specs.Tokens.{lexeme_at, IsTokenOf, AreTokensOf};
+ghost use Rattle.std.specs.Prelude.{◌≡◌, None, false, option_map, IfOk, IfSome};
+ghost use Rattle.lh_unit.specs.Lexemes.{lexemes};
+ghost use Rattle.lh_unit.specs.Tokens.{lexeme_of as spelled_by, IsSpelling};
 ghost use Rattle.lh_unit.specs.Reads.{is_assert};
 ghost use Rattle.lh_scan.specs.Pieces.{first_at, word_at, any_word_at, local_at, named_in, name_at, unit_name_at, punct_at, arrow_at, minus_at, end_at};
 ghost use Rattle.lh_scan.specs.LexemeOf.{lexeme_of, unit_name_of};
 
+use lh_lex::{first_bad, from_token, is_mark, split};
 use lh_types::ty::NoMemory;
 use lh_unit::name::{Name, UnitName};
-use lh_unit::token::{Token, TokenKind};
+use lh_unit::token::TokenKind;
 use std::alloc::Global;
 use std::marker::Model;
 
@@ -84,93 +85,113 @@ pub enum Lex<'a> {
     Punct(u8),
 }
 
-/// A token of the line, with its text.
-fn text_of<'a>(line: &'a [u8], token: Token) -> Lex<'a>
-    requires { IsTokenOf line.now token }
-    ensures { lexeme_of result ≡ lexeme_at line.now token }
+/// A token with its text, of these bytes.
+fn text_of<'a>(kind: TokenKind, bytes: &'a [u8]) -> Lex<'a>
+    requires { IsSpelling kind bytes.now }
+    ensures { lexeme_of result ≡ spelled_by kind bytes.now }
 {
-    let text = &line[token.from as usize..token.to as usize];
-    match token.kind {
-        TokenKind::Word => Lex::Word(text),
-        TokenKind::Global => Lex::Global(NameText { bytes: &text[1..] }),
-        TokenKind::Local => Lex::Local(NameText { bytes: &text[1..] }),
+    match kind {
+        TokenKind::Word => Lex::Word(bytes),
+        TokenKind::Global => Lex::Global(NameText { bytes: &bytes[1..] }),
+        TokenKind::Local => Lex::Local(NameText { bytes: &bytes[1..] }),
         TokenKind::Arrow => Lex::Arrow,
         TokenKind::Minus => Lex::Minus,
         TokenKind::Punct(b) => Lex::Punct(b),
     }
 }
 
-/// The name that a word is, where it is no longer than one.
-fn named<'a>(line: &'a [u8], token: Token) -> Option<NameText<'a>>
-    requires { IsTokenOf line.now token }
-    ensures { result ≡ named_in (lexeme_at line.now token) }
+/// The name that a token of these bytes is, where it is a word and no longer than a name.
+fn named<'a>(kind: TokenKind, bytes: &'a [u8]) -> Option<NameText<'a>>
+    requires { IsSpelling kind bytes.now }
+    ensures { result ≡ named_in (spelled_by kind bytes.now) }
 {
-    let TokenKind::Word = token.kind else {
-        return None;
-    };
-    let bytes = &line[token.from as usize..token.to as usize];
-    if bytes.len() > 255 {
-        return None;
+    match kind {
+        TokenKind::Word if bytes.len() <= 255 => Some(NameText { bytes }),
+        _ => None,
     }
-    Some(NameText { bytes })
 }
 
 /// The tokens of a line that are left, in order.
+///
+/// They are the bytes from the first of them on: a token is found when it is taken, and none is stored.
 #[derive(Drop)]
 pub struct Tokens<'a> {
-    line: &'a [u8],
-    tokens: &'a [Token],
+    rest: &'a [u8],
 }
 
 impl<'a> Model for Tokens<'a> {
-    ghost use Rattle.std.specs.Prelude.{List, map};
+    ghost use Rattle.std.specs.Prelude.{List};
     ghost use Rattle.lh_unit.specs.Lexemes.{Lexeme};
-    ghost use Rattle.lh_unit.specs.Tokens.{lexeme_at, AreTokensOf};
+    ghost use Rattle.lh_lex.specs.Front.{lexemes_in, HasTokens, IsSettled};
 
     ghost Value = { List Lexeme };
 
-    ghost view = { λ a. map (lexeme_at a.line.now) a.tokens.now };
+    ghost view = { λ a. lexemes_in a.rest.now };
 
-    ghost invariant = { λ a. AreTokensOf a.line.now a.tokens.now };
+    ghost invariant = { λ a. HasTokens a.rest.now × IsSettled a.rest.now };
 }
 
 impl<'a> Tokens<'a> {
-    /// All tokens of a line.
-    pub fn new(line: &'a [u8], tokens: &'a [Token]) -> Tokens<'a>
-        requires { AreTokensOf line.now tokens.now }
-        ensures { result ≡ map (lexeme_at line.now) tokens.now }
+    /// The tokens of a line; `None` where a byte of it begins no token.
+    pub fn of(line: &'a [u8]) -> Option<Tokens<'a>>
+        ensures { result ≡ lexemes line.now }
     {
-        Tokens { line, tokens }
+        if first_bad(line).is_some() {
+            return None;
+        }
+        let rest = from_token(line);
+        Some(Tokens { rest })
     }
 
     /// The same tokens again.
     pub fn copy(&self) -> Tokens<'a>
         ensures { result ≡ self.now }
     {
-        Tokens {
-            line: self.line,
-            tokens: self.tokens,
-        }
+        Tokens { rest: self.rest }
     }
 
-    /// The first token, and those behind it.
+    /// The kind of the first token, its bytes, and the tokens behind it.
+    fn split(&self) -> Option<(TokenKind, &'a [u8], Tokens<'a>)>
+        ensures first { option_map (λ r. (spelled_by r.0 r.1.now, r.2)) result ≡ first_at self.now }
+        ensures spelled { IfSome result (λ r. IsSpelling r.0 r.1.now) }
+    {
+        let (kind, bytes, rest) = split(self.rest)?;
+        Some((kind, bytes, Tokens { rest }))
+    }
+
+    /// The first token, and those behind it. Most are words and names behind `%`, which are asked for first.
     pub fn first(&self) -> Option<(Lex<'a>, Tokens<'a>)>
         ensures { option_map (λ r. (lexeme_of r.0, r.1)) result ≡ first_at self.now }
     {
-        let (token, tokens) = self.tokens.split_first()?;
-        let rest = Tokens {
-            line: self.line,
-            tokens,
-        };
-        Some((text_of(self.line, *token), rest))
+        if let Some((word, rest)) = self.any_word() {
+            return Some((Lex::Word(word), rest));
+        }
+        if let Some((name, rest)) = self.local() {
+            return Some((Lex::Local(name), rest));
+        }
+        let (kind, bytes, rest) = self.split()?;
+        Some((text_of(kind, bytes), rest))
+    }
+
+    /// Whether the first byte is that of this text. Most words are told from another by it.
+    fn may_begin(&self, text: &[u8]) -> bool
+        ensures { result ≡ false → None ≡ word_at text.now self.now }
+    {
+        match (self.rest.split_first(), text.split_first()) {
+            (Some((byte, _)), Some((first, _))) => *byte == *first,
+            _ => true,
+        }
     }
 
     /// What follows this word.
     pub fn word(&self, word: &[u8]) -> Option<Tokens<'a>>
         ensures { result ≡ word_at word.now self.now }
     {
-        match self.first()? {
-            (Lex::Word(w), rest) if w == word => Some(rest),
+        if !self.may_begin(word) {
+            return None;
+        }
+        match self.any_word()? {
+            (w, rest) if w == word => Some(rest),
             _ => None,
         }
     }
@@ -179,21 +200,16 @@ impl<'a> Tokens<'a> {
     pub fn any_word(&self) -> Option<(&'a [u8], Tokens<'a>)>
         ensures { option_map (λ r. (r.0.now, r.1)) result ≡ any_word_at self.now }
     {
-        match self.first()? {
-            (Lex::Word(w), rest) => Some((w, rest)),
-            _ => None,
-        }
+        let (word, rest) = lh_lex::word(self.rest)?;
+        Some((word, Tokens { rest }))
     }
 
     /// A name behind `%`, and what follows it.
     pub fn local(&self) -> Option<(NameText<'a>, Tokens<'a>)>
         ensures { result ≡ local_at self.now }
     {
-        let (lex, rest) = self.first()?;
-        match lex {
-            Lex::Local(name) => Some((name, rest)),
-            _ => None,
-        }
+        let (bytes, rest) = lh_lex::local(self.rest)?;
+        Some((NameText { bytes }, Tokens { rest }))
     }
 
     /// A word that is no longer than a name, as a name, and what follows it.
@@ -201,12 +217,8 @@ impl<'a> Tokens<'a> {
     pub fn name(&self) -> Option<(NameText<'a>, Tokens<'a>)>
         ensures { result ≡ name_at self.now }
     {
-        let (token, tokens) = self.tokens.split_first()?;
-        let rest = Tokens {
-            line: self.line,
-            tokens,
-        };
-        let name = named(self.line, *token)?;
+        let (kind, bytes, rest) = self.split()?;
+        let name = named(kind, bytes)?;
         Some((name, rest))
     }
 
@@ -226,10 +238,15 @@ impl<'a> Tokens<'a> {
     pub fn punct(&self, mark: u8) -> Option<Tokens<'a>>
         ensures { result ≡ punct_at mark self.now }
     {
-        match self.first()? {
-            (Lex::Punct(b), rest) if b == mark => Some(rest),
-            _ => None,
+        let (byte, more) = self.rest.split_first()?;
+        if *byte != mark {
+            return None;
         }
+        if !is_mark(mark) {
+            return None;
+        }
+        let rest = from_token(more);
+        Some(Tokens { rest })
     }
 
     /// What follows `->`.
@@ -256,10 +273,9 @@ impl<'a> Tokens<'a> {
     pub fn end(&self) -> Option<()>
         ensures { result ≡ end_at self.now }
     {
-        if self.tokens.is_empty() {
-            Some(())
-        } else {
-            None
+        match self.rest {
+            [] => Some(()),
+            _ => None,
         }
     }
 }

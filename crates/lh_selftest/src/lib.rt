@@ -9,8 +9,6 @@ ghost use Rattle.lh_selftest.specs.Answer.{AnswerIsOfFile};
 mod chain;
 mod course;
 mod design;
-#[cfg(test)]
-mod tests;
 mod units;
 
 use crate::chain::chain;

@@ -21,7 +21,7 @@ use Rattle.lh_rows.specs.Rows as text
 use Rattle.lh_rows.specs.Typed.{IsOfType}
 use Rattle.lh_rows.specs.Joins.{in_each}
 use Rattle.lh_rows.specs.Adjacent.{beyond, drive_merged}
-use Rattle.lh_rows.proofs.Conjuncts.{AllBits, conjuncts_bits, with_bits}
+use Rattle.lh_term.proofs.Conditions.{AllBits, conjuncts_bits, with_bits}
 use Rattle.lh_rows.proofs.Merging.{or-condition, made-choice, beyond-condition}
 use Rattle.lh_joins.specs.Joins.{IsConditionAt, edge_on}
 use Rattle.lh_joins.proofs.Conditions.{condition-grown, stands-condition, grows-none}

@@ -1,3 +1,4 @@
+pub mod Apart
 pub mod SpelledWords
 pub mod SpelledOperands
 pub mod SpelledEach

@@ -1,5 +1,6 @@
 //! The words of the language, in tables: what each begins or stands for.
-ghost use Rattle.std.specs.Prelude.{◌≡◌, map};
+ghost use Rattle.std.specs.Prelude.{◌≡◌, nat_eq, map};
+ghost use lib.Pointwise.{pointwise};
 ghost use Rattle.lh_syntax.specs.Words.{found, head_of, form_of, mode_of};
 
 use lh_types::op::Op;
@@ -135,12 +136,26 @@ pub const MODES: [(&[u8], Mode); 5] = [
     (b"low", Mode::Low),
 ];
 
+/// Whether two texts are one. Most words of a table are told from another by their lengths or first bytes, here without a call.
+#[tactic(auto, using(crate::proofs::Apart::apart))]
+fn same(a: &[u8], b: &[u8]) -> bool
+    ensures { result ≡ pointwise nat_eq a.now b.now }
+{
+    if a.len() != b.len() {
+        return false;
+    }
+    match (a, b) {
+        ([x, ..], [y, ..]) if *x != *y => false,
+        _ => a == b,
+    }
+}
+
 /// What stands beside a word in a table.
 fn find<T: Copy>(mut table: &[(&[u8], T)], word: &[u8]) -> Option<T>
     ensures { result ≡ found (map (λ r. (r.0.now, r.1)) table.entry.now) word.now }
 {
     while let [row, rest @ ..] = table {
-        if row.0 == word {
+        if same(row.0, word) {
             return Some(row.1);
         }
         table = rest;

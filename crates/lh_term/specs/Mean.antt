@@ -1,5 +1,5 @@
 -- What a term means where the parts have these values before and now.
-use Rattle.std.specs.Prelude.{List, [], ◌∷◌}
+use Rattle.std.specs.Prelude.{List, [], ◌∷◌, Bool, false, nat_eq}
 use Rattle.std.proofs.Common.{zero, suc}
 use Rattle.lh_types.specs.Types.{IsData}
 use Rattle.lh_types.specs.Values.{Datum, int_value, time_value, array_value, tuple_value}
@@ -37,3 +37,10 @@ abbrev mutual
   pub means : Valuation → Valuation → TreeRow → List Datum
   means past now no_trees = []
   means past now (more_trees t ts) = mean past now t ∷ means past now ts
+
+-- whether it is the integer 1
+abbrev pub is_one : Datum → Bool
+is_one (int_value n a) = nat_eq a 1
+is_one (time_value d) = false
+is_one (array_value vs) = false
+is_one (tuple_value vs) = false

@@ -1,6 +1,5 @@
 //! The conjuncts of a condition.
 ghost use Rattle.std.specs.Prelude.{◌≡◌, ◌<◌, ◌+◌, false, Some, length, replicate, slice_get, IfOk};
-ghost use Rattle.lh_types.specs.Types.{int_type, same_type};
 ghost use Rattle.lh_term.specs.Arena.{trees, tree_at, trees_at, IsIn, AreIn};
 ghost use Rattle.lh_term.specs.Conjuncts.{conjuncts_of};
 ghost use Rattle.lh_term.specs.Found.{FindsJoined};
@@ -8,7 +7,7 @@ ghost use Rattle.lh_term.specs.Found.{FindsJoined};
 use crate::forms::and_operands;
 use crate::term::{Term, TermId, TermList};
 use crate::terms::Terms;
-use lh_types::ty::{NoMemory, Ty, TyKind};
+use lh_types::ty::NoMemory;
 
 impl Terms {
     /// The conjuncts of a condition in order: those of both operands of `and` on one bit, none of the constant 1, and of any other
@@ -57,7 +56,7 @@ impl Terms {
         requires { IsIn self.now x }
         ensures { FindsJoined self.now x result (tree_at (trees self.now) x) }
     {
-        if !is_bit_type(self.ty(x)) {
+        if !self.ty(x).is_bit() {
             return None;
         }
         match self.view(x) {
@@ -73,14 +72,4 @@ pub(crate) fn is_set(flags: &[bool], x: TermId) -> bool
     ensures { slice_get flags.now x.0 ≡ Some result }
 {
     flags[x.0]
-}
-
-/// Whether it is the type of one bit.
-fn is_bit_type(ty: &Ty) -> bool
-    ensures { result ≡ same_type ty.now (int_type 1) }
-{
-    match ty.kind() {
-        TyKind::Int(n) => n == 1,
-        _ => false,
-    }
 }

@@ -1,6 +1,5 @@
 //! Terms that are made by hand, each where what it is made of fits; else want of memory stands in.
 ghost use Rattle.std.specs.Prelude.{◌≡◌, ◌-◌, ◌^◌, ◌≤◌, IsTrue};
-ghost use Rattle.lh_types.specs.Types.{int_type};
 ghost use Rattle.lh_term.specs.Types.{type_of};
 ghost use Rattle.lh_term.specs.Arena.{trees, tree_at, IsIn};
 ghost use Rattle.lh_term_trials.specs.Tried.{AreAlike, IsIntType, HasElement, IsLeafTerm, MayTakePlace};
@@ -170,16 +169,6 @@ pub fn is_int(ty: &Ty) -> bool
     }
 }
 
-/// Whether it is the type of one bit.
-pub fn is_bit(ty: &Ty) -> bool
-    ensures { IsTrue result → (ty.now ≡ int_type 1) }
-{
-    match ty.kind() {
-        TyKind::Int(n) => n == 1,
-        _ => false,
-    }
-}
-
 /// Whether it is an array type with this element.
 pub fn has_element(ty: &Ty, k: u32) -> bool
     ensures { IsTrue result → HasElement ty.now k }
@@ -206,7 +195,7 @@ pub fn choice(terms: &mut Terms, c: TermId, f: TermId, t: TermId) -> Result<Term
     if c.0 >= terms.len() || f.0 >= terms.len() || t.0 >= terms.len() {
         return Err(NoMemory);
     }
-    if !is_bit(terms.ty(c)) {
+    if !terms.ty(c).is_bit() {
         return Err(NoMemory);
     }
     if !are_alike(terms, f, t) {

@@ -4,6 +4,7 @@ pub mod TypeSize
 pub mod Same
 pub mod Kind
 pub mod Faults
+pub mod TypeTests
 pub mod Values
 pub mod ValueOf
 pub mod ValueSize

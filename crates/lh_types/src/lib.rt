@@ -11,10 +11,9 @@ pub mod op;
 pub mod part;
 mod run;
 pub mod tally;
-#[cfg(test)]
-mod tests;
 pub mod text;
 pub mod ty;
+mod type_tests;
 pub mod val;
 mod word;
 pub mod writes;

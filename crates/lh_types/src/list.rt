@@ -29,6 +29,16 @@ impl<T> ListOf<T> {
         }
     }
 
+    /// An empty list with room for so many items, so that adding these makes no other room.
+    pub fn with_room(alloc: Global, room: usize) -> Result<ListOf<T>, NoMemory>
+        ensures { IfOk result (λ list. list ≡ []) }
+    {
+        match Vec::with_capacity(alloc, room) {
+            Ok(items) => Ok(ListOf { items }),
+            Err(_) => Err(NoMemory),
+        }
+    }
+
     /// The list of these items, without memory.
     pub fn from_vec(items: Vec<T>) -> ListOf<T>
         ensures { result ≡ items.items }
@@ -55,6 +65,13 @@ impl<T> ListOf<T> {
         ensures { result.now ≡ self.now }
     {
         self.items.as_slice()
+    }
+
+    /// Gives back the room that no item needs.
+    pub fn shrink(&mut self)
+        ensures { self.new ≡ self.old }
+    {
+        self.items.shrink_to_fit();
     }
 
     /// The allocator that the list was made with.

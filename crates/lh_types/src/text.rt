@@ -23,18 +23,11 @@ pub fn put_number(to: &mut Vec<u8>, n: u64) -> Result<(), NoMemory>
     put(to, digits.as_bytes())
 }
 
-#[cfg(test)]
-mod tests {
-    use super::*;
-    use std::test::Fail;
-
-    #[test]
-    fn text_and_numbers(rt: HostRuntime) -> Result<(), Fail> {
-        let mut to = Vec::new(rt.alloc());
-        put(&mut to, b"acc_")?;
-        put_number(&mut to, 0)?;
-        put_number(&mut to, 18_446_744_073_709_551_615)?;
-        assert_eq!(rt; to.as_slice(), b"acc_018446744073709551615".as_slice());
-        Ok(())
-    }
+/// The same for a number as wide as the widest integer.
+pub fn put_integer(to: &mut Vec<u8>, n: u128) -> Result<(), NoMemory>
+    ensures { OnOk result (to.new.items ≡ to.old.items ++ decimal n) }
+{
+    let mut buffer = Buffer::new();
+    let digits = buffer.format(n);
+    put(to, digits.as_bytes())
 }

@@ -2,7 +2,7 @@
 ghost use Rattle.std.specs.Prelude.{◌≡◌, ◌<◌, ◌^◌, ◌+◌, [], ◌∷◌, ◌++◌, length, nat_lt, ◌||◌, ◌≤◌, IfOk, OnOk, OnErr, IsTrue};
 ghost use Rattle.lh_types.specs.Types.{int_type, time_type, void_type, array_type, tuple_type, signal_type, pointer_type, IsData, AreData, IsLimited, bit_count, bit_count_row, depth_of, depth_of_row, row_of, same_type, same_row};
 ghost use Rattle.lh_types.specs.Kind.{type_of_kind};
-ghost use Rattle.lh_types.specs.Faults.{is_data, is_time, all_data, int_fault, array_fault, tuple_fault, signal_fault, pointer_fault, made, Makes};
+ghost use Rattle.lh_types.specs.Faults.{is_data, all_data, int_fault, array_fault, tuple_fault, signal_fault, pointer_fault, made, Makes};
 ghost use Rattle.lh_types.specs.declared.ty.TyFault.TheVariants.{OutOfMemory};
 
 use std::alloc::{AllocError, AllocFailed, Global};
@@ -156,6 +156,16 @@ impl TyList {
         }
     }
 
+    /// An empty list with room for so many types, so that adding these makes no other room.
+    pub fn with_room(alloc: Global, room: usize) -> Result<TyList, NoMemory>
+        ensures { IfOk result (λ list. list ≡ []) }
+    {
+        match Vec::with_capacity(alloc, room) {
+            Ok(list) => Ok(TyList { list }),
+            Err(_) => Err(NoMemory),
+        }
+    }
+
     /// The list of these types, without memory.
     pub fn from_vec(list: Vec<Ty>) -> TyList
         ensures { result ≡ list.items }
@@ -184,11 +194,22 @@ impl TyList {
         self.list.as_slice()
     }
 
+    /// Gives back the room that no type needs.
+    pub fn shrink(&mut self)
+        ensures { self.new ≡ self.old }
+    {
+        self.list.shrink_to_fit();
+    }
+
     /// Adds a type at the end; for want of memory the list stays as it was.
     pub fn push(&mut self, x: Ty) -> Result<(), NoMemory>
         ensures ok { OnOk result (self.new ≡ self.old ++ x ∷ []) }
         ensures err { OnErr result (self.new ≡ self.old) }
     {
+        // Most structs nest with few fields: what a list gives back later would lie there as a gap.
+        if self.list.capacity() == 0 && self.list.reserve_exact(1).is_err() {
+            return Err(NoMemory);
+        }
         match self.list.push(x) {
             Ok(()) => Ok(()),
             Err(_) => Err(NoMemory),
@@ -247,7 +268,7 @@ impl Ty {
 
     /// The struct of these fields; each `TyFault` but `WidthRange`, the first that holds. It takes no
     /// memory.
-    pub fn tuple(fields: TyList) -> Result<Ty, TyFault>
+    pub fn tuple(mut fields: TyList) -> Result<Ty, TyFault>
         ensures { result ≡ made (tuple_fault (row_of fields)) (tuple_type (row_of fields)) }
     {
         if fields.len() == 0 {
@@ -262,6 +283,7 @@ impl Ty {
         if have_too_many_bits(&fields) {
             return Err(TyFault::TooManyBits);
         }
+        fields.shrink();
         Ok(Ty {
             node: Node::Tuple(fields),
         })
@@ -284,7 +306,7 @@ impl Ty {
     pub fn pointer(alloc: Global, of: Ty) -> Result<Ty, TyFault>
         ensures { Makes result (pointer_fault of) (pointer_type of) }
     {
-        if !may_be_pointed_to(&of) {
+        if !of.is_value_type() {
             return Err(TyFault::WrongPart);
         }
         let of = boxed(alloc, of)?;
@@ -328,17 +350,6 @@ pub fn carries_data(t: &Ty) -> bool
     match &t.node {
         Node::Int(_) | Node::Array(_, _) | Node::Tuple(_) => true,
         Node::Time | Node::Void | Node::Signal(_) | Node::Pointer(_) => false,
-    }
-}
-
-/// Whether a pointer may point to it: a data type or time.
-fn may_be_pointed_to(t: &Ty) -> bool
-    ensures test { result ≡ (is_data t.now || is_time t.now) }
-    ensures limited { IsLimited t.now }
-{
-    match &t.node {
-        Node::Int(_) | Node::Array(_, _) | Node::Tuple(_) | Node::Time => true,
-        Node::Void | Node::Signal(_) | Node::Pointer(_) => false,
     }
 }
 
@@ -474,7 +485,7 @@ impl TyList {
     pub fn copy(&self) -> Result<TyList, NoMemory>
         ensures { IfOk result (λ ts. ts ≡ self.now) }
     {
-        let mut to = TyList::new(*self.list.allocator());
+        let mut to = TyList::with_room(*self.list.allocator(), self.list.len())?;
         for t in self.list.as_slice() {
             let t = t.copy()?;
             to.push(t)?;

@@ -59,6 +59,16 @@ impl ValList {
         }
     }
 
+    /// An empty list with room for so many values, so that adding these makes no other room.
+    pub fn with_room(alloc: Global, room: usize) -> Result<ValList, NoMemory>
+        ensures { IfOk result (λ list. list ≡ []) }
+    {
+        match Vec::with_capacity(alloc, room) {
+            Ok(list) => Ok(ValList { list }),
+            Err(_) => Err(NoMemory),
+        }
+    }
+
     /// The list of these values, without memory.
     pub fn from_vec(list: Vec<Val>) -> ValList
         ensures { result ≡ map datum_of list.items }
@@ -85,6 +95,13 @@ impl ValList {
         ensures { map datum_of result.now ≡ self.now }
     {
         self.list.as_slice()
+    }
+
+    /// Gives back the room that no value needs.
+    pub fn shrink(&mut self)
+        ensures { self.new ≡ self.old }
+    {
+        self.list.shrink_to_fit();
     }
 
     /// Adds a value at the end; for want of memory the list stays as it was.
@@ -129,7 +146,7 @@ impl ValList {
     pub fn copy(&self) -> Result<ValList, NoMemory>
         ensures { IfOk result (λ vs. vs ≡ self.now) }
     {
-        let mut to = ValList::new(*self.list.allocator());
+        let mut to = ValList::with_room(*self.list.allocator(), self.list.len())?;
         for v in self.list.as_slice() {
             let v = v.copy()?;
             to.push(v)?;

@@ -1,8 +1,9 @@
 -- What a scope hides of its unit.
-use Rattle.std.proofs.Common.{◌≡◌, refl}
+use Rattle.std.proofs.Common.{◌≡◌, ◌<◌, refl}
 use Rattle.lh_unit.specs.Naming.{kind_text}
 use Rattle.lh_unit.specs.Within.{InstWithin}
-use Rattle.lh_unit.specs.Arena.{InstPlaced, kind_at, result_type_at}
+use Rattle.lh_unit.specs.Arena.{InstPlaced, unit_count, kind_at, result_type_at}
+use Rattle.lh_unit.specs.declared.inst.UnitId.{UnitId}
 use Rattle.lh_unit.specs.declared.inst.Inst.{Inst}
 use Rattle.lh_typing.specs.Told.{text_in, sizes_in}
 use Rattle.lh_typing.specs.declared.scope.Scope.{Scope}
@@ -18,3 +19,7 @@ placed-in s i h = h
 pub result-in : (s : Scope) → result_type_at s.module.now s.unit.0 ≡ (text_in s).result
 unfolding text_in
 result-in s = refl
+
+pub unit-in : (s : Scope) (u : UnitId) → u.0 < (sizes_in s).units → u.0 < unit_count s.module.now
+unfolding sizes_in
+unit-in s u h = h

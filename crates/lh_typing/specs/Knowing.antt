@@ -12,6 +12,7 @@ use Rattle.lh_unit.specs.declared.inst.Inst.{Inst}
 use Rattle.lh_unit.specs.declared.table.Line.{Line}
 use Rattle.lh_typing.specs.declared.scope.Fact.{Fact}
 use Rattle.lh_typing.specs.Told.{kind_as}
+use Rattle.lh_typing.specs.Numbers.{IsNumberOf}
 
 -- the kind and the type that an argument and an instruction give the value v
 abbrev pub arg_kind : List Arg → ℕ → Option Kind
@@ -27,37 +28,37 @@ abbrev pub line_type : Naming → List Line → ℕ → Option TypeTree
 line_type f lines v = option_and_then (λ (i : Inst). result_type (inst_text f i)) (inst_making lines v)
 
 -- what is known of the value v after these arguments and these lines
-pub record Known (f : Naming) (args : List Arg) (lines : List Line) (v : ℕ) (x : Fact) : Type 0 where
+pub record Known (types : List TypeTree) (f : Naming) (args : List Arg) (lines : List Line) (v : ℕ) (x : Fact) : Type 0 where
   pub defined : x.defined ≡ (is_arg args v || is_made lines v)
   pub kind : option_map kind_as x.kind ≡ or_else (arg_kind args v) (line_kind f lines v)
-  pub ty : x.ty ≡ or_else (arg_type args v) (line_type f lines v)
+  pub ty : IsNumberOf types x.ty (or_else (arg_type args v) (line_type f lines v))
 
 -- what is known of each of n values
-pub record Knows (n : ℕ) (f : Naming) (args : List Arg) (lines : List Line) (facts : List Fact) : Type 0 where
+pub record Knows (types : List TypeTree) (n : ℕ) (f : Naming) (args : List Arg) (lines : List Line) (facts : List Fact) : Type 0 where
   pub long : length facts ≡ n
-  pub known : (v : ℕ) (x : Fact) → slice_get facts v ≡ Some x → Known f args lines v x
+  pub known : (v : ℕ) (x : Fact) → slice_get facts v ≡ Some x → Known types f args lines v x
 
 -- what an instruction tells of its result, where nothing gave the value yet
-pub record GivenBy (f : Naming) (i : Inst) (x : Fact) : Type 0 where
+pub record GivenBy (types : List TypeTree) (f : Naming) (i : Inst) (x : Fact) : Type 0 where
   pub defined : x.defined ≡ true
   pub kind : option_map kind_as x.kind ≡ result_kind (inst_text f i)
-  pub ty : x.ty ≡ result_type (inst_text f i)
+  pub ty : IsNumberOf types x.ty (result_type (inst_text f i))
 
 -- what an instruction tells of its result; where the value was given already, nothing
-abbrev pub Tells : (defined : Bool) → Naming → Inst → (old new : Fact) → Type 0
-Tells true f i old new = new ≡ old
-Tells false f i old new = GivenBy f i new
+abbrev pub Tells : List TypeTree → (defined : Bool) → Naming → Inst → (old new : Fact) → Type 0
+Tells types true f i old new = new ≡ old
+Tells types false f i old new = GivenBy types f i new
 
 -- what an argument tells of its value, over what an instruction told
-pub record GivenArg (a : Arg) (old new : Fact) : Type 0 where
+pub record GivenArg (types : List TypeTree) (a : Arg) (old new : Fact) : Type 0 where
   pub defined : new.defined ≡ true
   pub kind : option_map kind_as new.kind ≡ or_else (kind_of a.ty) (option_map kind_as old.kind)
-  pub ty : new.ty ≡ Some a.ty
+  pub ty : IsNumberOf types new.ty (Some a.ty)
 
 -- what an argument tells of its value; where an argument was the value already, nothing
-abbrev pub TellsArg : (seen : Bool) → Arg → (old new : Fact) → Type 0
-TellsArg true a old new = new ≡ old
-TellsArg false a old new = GivenArg a old new
+abbrev pub TellsArg : List TypeTree → (seen : Bool) → Arg → (old new : Fact) → Type 0
+TellsArg types true a old new = new ≡ old
+TellsArg types false a old new = GivenArg types a old new
 
 -- the marks say which values are arguments
 pub record Marks (args : List Arg) (n : ℕ) (seen : List Bool) : Type 0 where

@@ -15,6 +15,8 @@ use Rattle.lh_unit.specs.declared.inst.BlockId.{BlockId}
 use Rattle.lh_unit.specs.declared.inst.Inst.{Inst}
 use Rattle.lh_unit.specs.declared.inst.Inst.TheVariants as inst
 use Rattle.lh_unit.specs.declared.table.Line.{Line}
+use Rattle.lh_types.specs.Types.{TypeTree}
+use Rattle.lh_typing.specs.Numbers.{IsNumberOf, NumbersParams}
 use Rattle.lh_typing.specs.declared.scope.Kind.{Kind}
 use Rattle.lh_typing.specs.declared.scope.Kind.TheVariants.{Datum, Time, Signal, Pointer}
 use Rattle.lh_typing.specs.declared.scope.Fact.{Fact}
@@ -28,10 +30,10 @@ kind_as Signal = kinds.a_signal
 kind_as Pointer = kinds.a_pointer
 
 -- what is known of the value of a name is so
-pub record Told (t : UnitText) (n : List ℕ) (f : Fact) : Type 0 where
+pub record Told (types : List TypeTree) (t : UnitText) (n : List ℕ) (f : Fact) : Type 0 where
   pub defined : f.defined ≡ defines_value n t
   pub kind : option_map kind_as f.kind ≡ value_kind t n
-  pub ty : f.ty ≡ value_type t n
+  pub ty : IsNumberOf types f.ty (value_type t n)
 
 -- the value of a name comes from a `prb`
 unfoldable pub from_probe : UnitText → List ℕ → Bool
@@ -71,8 +73,9 @@ HasItsSig s i = is_sig i ≡ true → has_sig s ≡ true
 pub record IsScope (s : Scope) : Type 0 where
   pub unit : s.unit.0 < unit_count s.module.now
   pub long : length s.facts.now ≡ (sizes_in s).values
-  pub told : (v : ValueId) (f : Fact) → slice_get s.facts.now v.0 ≡ Some f → Told (text_in s) (value_text (naming_in s) v) f
+  pub told : (v : ValueId) (f : Fact) → slice_get s.facts.now v.0 ≡ Some f → Told s.types.now (text_in s) (value_text (naming_in s) v) f
   pub long_labels : length s.labels.now ≡ (sizes_in s).labels
   pub told_labels : (b : BlockId) (x : Bool) → slice_get s.labels.now b.0 ≡ Some x → x ≡ defines_label ((naming_in s).label_name b.0) (text_in s)
   pub long_probed : length s.probed.now ≡ (sizes_in s).values
   pub told_probed : has_sig s ≡ true → (v : ValueId) (x : Bool) → slice_get s.probed.now v.0 ≡ Some x → x ≡ from_probe (text_in s) (value_text (naming_in s) v)
+  pub params : NumbersParams s.types.now s.module.now s.params.now

@@ -3,19 +3,20 @@ ghost use Rattle.std.specs.Prelude.{◌≡◌, ◌&&◌, Some, None, map};
 ghost use Rattle.std.specs.List.{list_all};
 ghost use Rattle.lh_unit.specs.Contents.{st_text, drv_text, reg_text, phi_text, ret_text};
 ghost use Rattle.lh_unit.specs.Naming.{value_text, maybe_text, operand_text, trigger_text, edge_text, inst_text};
-ghost use Rattle.lh_unit.specs.TypingRows.{trigger_fits as text_trigger_fits, all_agree as text_all_agree, types_fit as text_fits};
+ghost use Rattle.lh_unit.specs.TypingRows.{all_agree as text_all_agree, types_fit as text_fits};
 ghost use Rattle.lh_unit.specs.Within.{Each, ValueWithin, MaybeWithin, OperandWithin, TriggerWithin, EdgeWithin, InstWithin};
-ghost use Rattle.lh_typing.specs.Fitting.{edge_fits as text_edge_fits};
+ghost use Rattle.lh_typing.specs.Fitting.{carried_fits, edge_fits as text_edge_fits};
+ghost use Rattle.lh_typing.specs.Numbers.{IsNumbered};
 ghost use Rattle.lh_typing.specs.Told.{IsScope, text_in, naming_in, sizes_in};
 
+use crate::numbers::Numbered;
 use crate::operands::{
     all_agree, has_bit, has_carried, has_data_type, has_pointed, has_pointer_type, has_result_type,
     has_signal_type, has_time, has_type, has_value_type, may_have_bit, may_have_time,
 };
 use crate::operations::operation_fits;
 use crate::scope::Scope;
-use crate::types::{is_value_type, is_void};
-use lh_types::ty::Ty;
+use lh_types::ty::{Ty, TyKind};
 use lh_unit::inst::{Inst, PhiEdge, RegTrigger, Typed, ValueId};
 
 /// Whether the types and the written numbers of an instruction fit its row. The arguments of `inst` and `call` are
@@ -107,13 +108,13 @@ fn drive_fits(
 }
 
 /// One trigger of `reg`: a value of the type that the signal carries, truth values, and a delay if there is one.
-fn trigger_fits(scope: &Scope<'_>, to: &Typed, trigger: RegTrigger) -> bool
+fn trigger_fits(scope: &Scope<'_>, carried: &Numbered<'_>, trigger: RegTrigger) -> bool
     requires scope { IsScope scope.now }
-    requires to { OperandWithin (sizes_in scope.now) to.now }
+    requires carried { IsNumbered scope.now.types.now carried.now }
     requires trigger { TriggerWithin (sizes_in scope.now) trigger }
-    ensures { let f = naming_in scope.now in result ≡ text_trigger_fits (text_in scope.now) (operand_text f to.now) (trigger_text f trigger) }
+    ensures { result ≡ carried_fits (text_in scope.now) carried.now.ty.now (trigger_text (naming_in scope.now) trigger) }
 {
-    if !has_carried(scope, to, trigger.value) {
+    if !scope.has_number(trigger.value, carried) {
         return false;
     }
     if !has_bit(scope, trigger.trigger) {
@@ -125,18 +126,34 @@ fn trigger_fits(scope: &Scope<'_>, to: &Typed, trigger: RegTrigger) -> bool
     may_have_time(scope, trigger.after)
 }
 
-fn triggers_fit(scope: &Scope<'_>, to: &Typed, triggers: &[RegTrigger]) -> bool
+/// The triggers of a signal that carries this type.
+fn carried_triggers_fit(scope: &Scope<'_>, carried: &Numbered<'_>, triggers: &[RegTrigger]) -> bool
     requires scope { IsScope scope.now }
-    requires to { OperandWithin (sizes_in scope.now) to.now }
+    requires carried { IsNumbered scope.now.types.now carried.now }
     requires triggers { Each (TriggerWithin (sizes_in scope.now)) triggers.now }
-    ensures { let f = naming_in scope.now in result ≡ list_all (text_trigger_fits (text_in scope.now) (operand_text f to.now)) (map (trigger_text f) triggers.now) }
+    ensures { result ≡ list_all (carried_fits (text_in scope.now) carried.now.ty.now) (map (trigger_text (naming_in scope.now)) triggers.now) }
 {
     for trigger in triggers {
-        if !trigger_fits(scope, to, *trigger) {
+        if !trigger_fits(scope, carried, *trigger) {
             return false;
         }
     }
     true
+}
+
+/// The same, where the number of the type is that of the first value's type.
+fn typed_triggers_fit(scope: &Scope<'_>, ty: &Ty, triggers: &[RegTrigger]) -> bool
+    requires scope { IsScope scope.now }
+    requires triggers { Each (TriggerWithin (sizes_in scope.now)) triggers.now }
+    ensures { result ≡ list_all (carried_fits (text_in scope.now) ty.now) (map (trigger_text (naming_in scope.now)) triggers.now) }
+{
+    match triggers.split_first() {
+        None => true,
+        Some((first, _)) => match scope.number_if(first.value, ty) {
+            None => false,
+            Some(number) => carried_triggers_fit(scope, &Numbered { ty, number }, triggers),
+        },
+    }
 }
 
 /// `reg`: a signal, and triggers that fit it.
@@ -146,10 +163,18 @@ fn register_fits(scope: &Scope<'_>, to: &Typed, triggers: &[RegTrigger]) -> bool
     requires triggers { Each (TriggerWithin (sizes_in scope.now)) triggers.now }
     ensures { let f = naming_in scope.now in result ≡ text_fits (text_in scope.now) (reg_text (operand_text f to.now) (map (trigger_text f) triggers.now)) }
 {
-    if !has_signal_type(scope, to) {
-        return false;
+    match &to.ty {
+        None => false,
+        Some(ty) => match ty.kind() {
+            TyKind::Signal(of) => {
+                if !has_type(scope, to.value, ty) {
+                    return false;
+                }
+                typed_triggers_fit(scope, of, triggers)
+            }
+            _ => false,
+        },
     }
-    triggers_fit(scope, to, triggers)
 }
 
 /// `inst`: each argument agrees with what is written before it.
@@ -165,17 +190,34 @@ fn ports_fit(scope: &Scope<'_>, inputs: &[Typed], outputs: &[Typed]) -> bool
     all_agree(scope, outputs)
 }
 
+/// Whether each operand has this type.
+fn edges_have(scope: &Scope<'_>, of: &Numbered<'_>, edges: &[PhiEdge]) -> bool
+    requires scope { IsScope scope.now }
+    requires number { IsNumbered scope.now.types.now of.now }
+    requires edges { Each (EdgeWithin (sizes_in scope.now)) edges.now }
+    ensures { result ≡ list_all (text_edge_fits (text_in scope.now) of.now.ty.now) (map (edge_text (naming_in scope.now)) edges.now) }
+{
+    for edge in edges {
+        if !scope.has_number(edge.value, of) {
+            return false;
+        }
+    }
+    true
+}
+
+/// The same, where the number of the type is that of the first operand's type.
 fn edges_fit(scope: &Scope<'_>, ty: &Ty, edges: &[PhiEdge]) -> bool
     requires scope { IsScope scope.now }
     requires edges { Each (EdgeWithin (sizes_in scope.now)) edges.now }
     ensures { result ≡ list_all (text_edge_fits (text_in scope.now) ty.now) (map (edge_text (naming_in scope.now)) edges.now) }
 {
-    for edge in edges {
-        if !has_type(scope, edge.value, ty) {
-            return false;
-        }
+    match edges.split_first() {
+        None => true,
+        Some((first, _)) => match scope.number_if(first.value, ty) {
+            None => false,
+            Some(number) => edges_have(scope, &Numbered { ty, number }, edges),
+        },
     }
-    true
 }
 
 /// `phi`: a data type or time, which each operand has.
@@ -184,7 +226,7 @@ fn phi_fits(scope: &Scope<'_>, ty: &Ty, edges: &[PhiEdge]) -> bool
     requires edges { Each (EdgeWithin (sizes_in scope.now)) edges.now }
     ensures { result ≡ text_fits (text_in scope.now) (phi_text ty.now (map (edge_text (naming_in scope.now)) edges.now)) }
 {
-    if !is_value_type(ty.kind()) {
+    if !ty.is_value_type() {
         return false;
     }
     edges_fit(scope, ty, edges)
@@ -196,7 +238,7 @@ fn returns_nothing(scope: &Scope<'_>) -> bool
     ensures { result ≡ text_fits (text_in scope.now) (ret_text None) }
 {
     match scope.result_type() {
-        Some(ty) => is_void(ty.kind()),
+        Some(ty) => ty.is_void(),
         None => true,
     }
 }

@@ -4,8 +4,10 @@
 
 pub mod facts;
 mod fits;
+pub mod numbers;
 mod operands;
 mod operations;
+pub mod params;
 mod results;
 pub mod scope;
 pub mod successors;
@@ -14,7 +16,3 @@ pub mod uses;
 
 pub use crate::fits::types_fit;
 pub use crate::operands::{has_bit, has_type};
-pub use crate::types::{is_signal, is_void};
-
-#[cfg(test)]
-mod tests;

@@ -7,12 +7,11 @@ ghost use Rattle.lh_unit.specs.Naming.{value_text, maybe_text, operand_text};
 ghost use Rattle.lh_unit.specs.Typing.{is_value_type as test_value_type};
 ghost use Rattle.lh_unit.specs.TypingRows.{bit, has_type as name_has_type, has_some_type, may_have_type, agrees as text_agrees, all_agree as texts_agree, all_have as texts_have, is_array_of as test_array_of, is_integer as test_integer, is_signal as test_signal, is_pointer as test_pointer, type_satisfies, driven_type, stored_type, written_fits};
 ghost use Rattle.lh_unit.specs.Within.{Each, ValueWithin, MaybeWithin, OperandWithin};
+ghost use Rattle.lh_typing.specs.Numbers.{IsNumbered};
 ghost use Rattle.lh_typing.specs.Told.{IsScope, text_in, naming_in, sizes_in};
 
+use crate::numbers::Numbered;
 use crate::scope::Scope;
-use crate::types::{
-    is_array_of, is_bit, is_integer, is_pointer, is_signal, is_time, is_value_type,
-};
 use lh_types::ty::{Ty, TyKind, carries_data};
 use lh_unit::inst::{Typed, ValueId};
 
@@ -35,7 +34,7 @@ pub fn has_bit(scope: &Scope<'_>, value: ValueId) -> bool
     ensures { result ≡ name_has_type (text_in scope.now) bit (value_text (naming_in scope.now) value) }
 {
     match scope.type_of(value) {
-        Some(of) => is_bit(of.kind()),
+        Some(of) => of.is_bit(),
         None => false,
     }
 }
@@ -47,7 +46,7 @@ pub fn has_time(scope: &Scope<'_>, value: ValueId) -> bool
     ensures { result ≡ name_has_type (text_in scope.now) time_type (value_text (naming_in scope.now) value) }
 {
     match scope.type_of(value) {
-        Some(of) => is_time(of.kind()),
+        Some(of) => of.is_time(),
         None => false,
     }
 }
@@ -83,7 +82,7 @@ pub fn has_integer(scope: &Scope<'_>, value: ValueId) -> bool
     ensures { result ≡ type_satisfies (text_in scope.now) test_integer (value_text (naming_in scope.now) value) }
 {
     match scope.type_of(value) {
-        Some(of) => is_integer(of.kind()),
+        Some(of) => of.is_integer(),
         None => false,
     }
 }
@@ -95,7 +94,7 @@ pub fn has_array_of(scope: &Scope<'_>, value: ValueId, element: &Ty) -> bool
     ensures { result ≡ type_satisfies (text_in scope.now) (test_array_of element.now) (value_text (naming_in scope.now) value) }
 {
     match scope.type_of(value) {
-        Some(of) => is_array_of(of.kind(), element),
+        Some(of) => of.is_array_of(element),
         None => false,
     }
 }
@@ -138,18 +137,47 @@ pub fn has_and_agrees(scope: &Scope<'_>, ty: &Ty, operand: &Typed) -> bool
     agrees(scope, operand)
 }
 
+/// The same, where the number of the type is known.
+fn has_number_and_agrees(scope: &Scope<'_>, of: &Numbered<'_>, operand: &Typed) -> bool
+    requires scope { IsScope scope.now }
+    requires number { IsNumbered scope.now.types.now of.now }
+    requires within { OperandWithin (sizes_in scope.now) operand.now }
+    ensures { let o = operand_text (naming_in scope.now) operand.now in result ≡ (name_has_type (text_in scope.now) of.now.ty.now o.value && text_agrees (text_in scope.now) o) }
+{
+    if !scope.has_number(operand.value, of) {
+        return false;
+    }
+    agrees(scope, operand)
+}
+
+/// Whether each operand has this type, of which the number is known, and agrees with what is written before it.
+fn all_have_number(scope: &Scope<'_>, of: &Numbered<'_>, operands: &[Typed]) -> bool
+    requires scope { IsScope scope.now }
+    requires number { IsNumbered scope.now.types.now of.now }
+    requires within { Each (OperandWithin (sizes_in scope.now)) operands.now }
+    ensures { result ≡ texts_have (text_in scope.now) of.now.ty.now (map (operand_text (naming_in scope.now)) operands.now) }
+{
+    for operand in operands {
+        if !has_number_and_agrees(scope, of, operand) {
+            return false;
+        }
+    }
+    true
+}
+
 /// Whether each operand has this type, and agrees with what is written before it.
 pub fn all_have(scope: &Scope<'_>, ty: &Ty, operands: &[Typed]) -> bool
     requires scope { IsScope scope.now }
     requires within { Each (OperandWithin (sizes_in scope.now)) operands.now }
     ensures { result ≡ texts_have (text_in scope.now) ty.now (map (operand_text (naming_in scope.now)) operands.now) }
 {
-    for operand in operands {
-        if !has_and_agrees(scope, ty, operand) {
-            return false;
-        }
+    match operands.split_first() {
+        None => true,
+        Some((first, _)) => match scope.number_if(first.value, ty) {
+            None => false,
+            Some(number) => all_have_number(scope, &Numbered { ty, number }, operands),
+        },
     }
-    true
 }
 
 /// Whether a value has the type that a signal carries, as it is written before the signal.
@@ -190,7 +218,7 @@ pub fn has_value_type(scope: &Scope<'_>, operand: &Typed) -> bool
 {
     match &operand.ty {
         None => false,
-        Some(ty) => is_value_type(ty.kind()) && has_type(scope, operand.value, ty),
+        Some(ty) => ty.is_value_type() && has_type(scope, operand.value, ty),
     }
 }
 
@@ -214,7 +242,7 @@ pub fn has_pointer_type(scope: &Scope<'_>, operand: &Typed) -> bool
 {
     match &operand.ty {
         None => false,
-        Some(ty) => is_pointer(ty.kind()) && has_type(scope, operand.value, ty),
+        Some(ty) => ty.is_pointer() && has_type(scope, operand.value, ty),
     }
 }
 
@@ -226,7 +254,7 @@ pub fn has_signal_type(scope: &Scope<'_>, operand: &Typed) -> bool
 {
     match &operand.ty {
         None => false,
-        Some(ty) => is_signal(ty.kind()) && has_type(scope, operand.value, ty),
+        Some(ty) => ty.is_signal() && has_type(scope, operand.value, ty),
     }
 }
 
@@ -239,7 +267,7 @@ pub fn has_result_type(scope: &Scope<'_>, operand: &Typed, result_type: &Ty) -> 
     match &operand.ty {
         None => false,
         Some(ty) => {
-            if !is_value_type(ty.kind()) || *ty != *result_type {
+            if !ty.is_value_type() || *ty != *result_type {
                 return false;
             }
             has_type(scope, operand.value, ty)

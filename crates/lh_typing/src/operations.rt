@@ -10,7 +10,7 @@ ghost use Rattle.lh_typing.specs.Told.{IsScope, text_in, naming_in, sizes_in};
 
 use crate::operands::{agrees, all_have, has_and_agrees, has_array_of, has_integer, has_type};
 use crate::scope::Scope;
-use crate::types::{is_integer, is_part_of};
+use crate::types::is_part_of;
 use lh_types::op::Op;
 use lh_types::part::Step;
 use lh_types::ty::{Ty, carries_data};
@@ -48,7 +48,7 @@ fn row_fits(scope: &Scope<'_>, op: Op, ty: &Ty, args: &[Typed]) -> bool
         Op::Insf(k) => insertion_fits(scope, Step::Field(k), ty, args),
         Op::Inss { at, len } => insertion_fits(scope, Step::Slice { at, len }, ty, args),
         Op::Tuple => fields_fit(scope, args),
-        _ => is_integer(ty.kind()) && all_have(scope, ty, args),
+        _ => ty.is_integer() && all_have(scope, ty, args),
     }
 }
 
@@ -60,7 +60,7 @@ fn shift_fits(scope: &Scope<'_>, ty: &Ty, args: &[Typed]) -> bool
 {
     match args {
         [base, hidden, amount] => {
-            if !is_integer(ty.kind()) || !has_and_agrees(scope, ty, base) {
+            if !ty.is_integer() || !has_and_agrees(scope, ty, base) {
                 return false;
             }
             if !has_and_agrees(scope, ty, hidden) {

@@ -11,7 +11,6 @@ ghost use Rattle.lh_unit.specs.Kinds.{kind_of as type_kind, result_kind as text_
 ghost use Rattle.lh_typing.specs.Told.{kind_as};
 
 use crate::scope::Kind;
-use crate::types::is_value_type;
 use lh_types::op::Op;
 use lh_types::ty::{NoMemory, Ty, TyFault, TyKind, TyList, carries_data};
 use lh_types::val::Val;
@@ -146,7 +145,7 @@ fn pointer_type(alloc: Global, to: &Typed) -> Result<Option<Ty>, NoMemory>
     match &to.ty {
         None => Ok(None),
         Some(ty) => {
-            if !is_value_type(ty.kind()) {
+            if !ty.is_value_type() {
                 return Ok(None);
             }
             let ty = ty.copy()?;

@@ -2,6 +2,8 @@
 ghost use Rattle.std.specs.Prelude.{◌≡◌, ◌<◌, option_map};
 ghost use Rattle.std.specs.Option.{option_copied};
 
+use crate::numbers::{Numbered, Types};
+use crate::params::NumberList;
 use lh_types::ty::Ty;
 use lh_unit::inst::{BlockId, Inst, InstId, UnitId, UnitKind, ValueId};
 use lh_unit::module::Module;
@@ -20,14 +22,14 @@ pub enum Kind {
 }
 
 /// What is known of one value of a unit.
-#[derive(Drop)]
+#[derive(Clone, Copy, Debug)]
 pub struct Fact {
     /// Whether an argument or an instruction gives it.
     pub defined: bool,
     /// Its kind; none where it is not defined, or gives nothing that has a type.
     pub kind: Option<Kind>,
-    /// Its type; none where no type of the language is such.
-    pub ty: Option<Ty>,
+    /// The number of its type; none where no type of the language is such.
+    pub ty: Option<u32>,
 }
 
 /// A unit of a module, with what is known of each of its values.
@@ -43,24 +45,30 @@ pub struct Scope<'a> {
     pub probed: &'a [bool],
     /// By the ids of labels, whether a block has this label.
     pub labels: &'a [bool],
+    /// The types by their numbers.
+    pub types: &'a Types,
+    /// By the ids of units, the numbers of the types of their parameters.
+    pub params: &'a [NumberList],
 }
 
 impl Scope<'_> {
-    ghost use Rattle.std.specs.Prelude.{true};
+    ghost use Rattle.std.specs.Prelude.{true, Some, is_some, slice_get, IfSome};
+    ghost use Rattle.lh_typing.specs.Numbers.{IsNumbered, AreNumbersOf};
+    ghost use Rattle.lh_unit.specs.TypingRows.{has_type};
     ghost use Rattle.lh_unit.specs.Contents.{defines_value, defines_label};
     ghost use Rattle.lh_unit.specs.Typing.{value_type};
     ghost use Rattle.lh_unit.specs.Kinds.{value_kind};
     ghost use Rattle.lh_unit.specs.Naming.{value_text};
     ghost use Rattle.lh_unit.specs.Within.{ValueWithin};
     ghost use Rattle.lh_unit.specs.Within.{InstWithin};
-    ghost use Rattle.lh_unit.specs.Arena.{inst_count, inst_at};
+    ghost use Rattle.lh_unit.specs.Arena.{inst_count, inst_at, args_at};
     ghost use Rattle.lh_typing.specs.Told.{IsScope, Told, HasItsSig, has_sig, kind_as, from_probe, text_in, naming_in, sizes_in};
 
     /// What is known of a value.
     fn fact(&self, value: ValueId) -> &Fact
         requires scope { IsScope self.now }
         requires within { ValueWithin (sizes_in self.now) value }
-        ensures { Told (text_in self.now) (value_text (naming_in self.now) value) result.now }
+        ensures { Told self.now.types.now (text_in self.now) (value_text (naming_in self.now) value) result.now }
     {
         &self.facts[value.0 as usize]
     }
@@ -89,7 +97,45 @@ impl Scope<'_> {
         requires within { ValueWithin (sizes_in self.now) value }
         ensures { option_copied result ≡ value_type (text_in self.now) (value_text (naming_in self.now) value) }
     {
-        self.fact(value).ty.as_ref()
+        match self.fact(value).ty {
+            Some(number) => self.types.get(number),
+            None => None,
+        }
+    }
+
+    /// The number of a type, where a value has it.
+    pub fn number_if(&self, value: ValueId, ty: &Ty) -> Option<u32>
+        requires scope { IsScope self.now }
+        requires within { ValueWithin (sizes_in self.now) value }
+        ensures number { IfSome result (λ n. slice_get self.now.types.now n ≡ Some ty.now) }
+        ensures has { is_some result ≡ has_type (text_in self.now) ty.now (value_text (naming_in self.now) value) }
+    {
+        match self.fact(value).ty {
+            Some(number) => self.types.checked(number, ty),
+            None => None,
+        }
+    }
+
+    /// Whether a value has a type, of which the number is known.
+    pub fn has_number(&self, value: ValueId, of: &Numbered<'_>) -> bool
+        requires scope { IsScope self.now }
+        requires within { ValueWithin (sizes_in self.now) value }
+        requires number { IsNumbered self.now.types.now of.now }
+        ensures { result ≡ has_type (text_in self.now) of.now.ty.now (value_text (naming_in self.now) value) }
+    {
+        match self.fact(value).ty {
+            Some(number) => self.types.same(number, of.number),
+            None => false,
+        }
+    }
+
+    /// The numbers of the types of a unit's parameters.
+    pub fn params_of(&self, unit: UnitId) -> &[u32]
+        requires scope { IsScope self.now }
+        requires within { unit.0 < (sizes_in self.now).units }
+        ensures { AreNumbersOf self.now.types.now (args_at self.now.module.now unit.0) result.now }
+    {
+        self.params[unit.0 as usize].as_slice()
     }
 
     /// The result type of the unit, which only a function has.

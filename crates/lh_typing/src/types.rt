@@ -1,95 +1,14 @@
-//! Tests of one type.
+//! Tests of the type of a part.
 ghost use Rattle.std.specs.Prelude.{◌≡◌, ◌+◌, ◌&&◌, nat_le, false};
 ghost use Rattle.std.specs.Option.{option_map_or};
-ghost use Rattle.lh_types.specs.Types.{int_type, time_type, void_type, array_type, same_type, row_of};
+ghost use Rattle.lh_types.specs.Types.{int_type, array_type, same_type, row_of};
 ghost use Rattle.lh_types.specs.Kind.{type_of_kind};
 ghost use Rattle.lh_types.specs.Parts.{step_part, field_part};
-ghost use Rattle.lh_unit.specs.Typing.{is_value_type as test_value_type};
-ghost use Rattle.lh_unit.specs.TypingRows.{bit, is_integer as test_integer, is_array_of as test_array_of, is_signal as test_signal, is_pointer as test_pointer, part_type};
+ghost use Rattle.lh_unit.specs.TypingRows.{part_type};
 ghost use Rattle.lh_typing.specs.Parts.{is_part};
 
 use lh_types::part::Step;
 use lh_types::ty::{Ty, TyKind, TyList};
-
-/// Whether it is the type of a truth value.
-pub fn is_bit(ty: TyKind<'_>) -> bool
-    ensures { result ≡ same_type (type_of_kind ty.entry) bit }
-{
-    match ty {
-        TyKind::Int(n) => n == 1,
-        _ => false,
-    }
-}
-
-/// Whether it is the type of delays.
-pub fn is_time(ty: TyKind<'_>) -> bool
-    ensures { result ≡ same_type (type_of_kind ty.entry) time_type }
-{
-    match ty {
-        TyKind::Time => true,
-        _ => false,
-    }
-}
-
-/// Whether it is the type of nothing.
-pub fn is_void(ty: TyKind<'_>) -> bool
-    ensures { result ≡ same_type (type_of_kind ty.entry) void_type }
-{
-    match ty {
-        TyKind::Void => true,
-        _ => false,
-    }
-}
-
-/// Whether it is an integer of any width.
-pub fn is_integer(ty: TyKind<'_>) -> bool
-    ensures { result ≡ test_integer (type_of_kind ty.entry) }
-{
-    match ty {
-        TyKind::Int(_) => true,
-        _ => false,
-    }
-}
-
-/// Whether it is a signal.
-pub fn is_signal(ty: TyKind<'_>) -> bool
-    ensures { result ≡ test_signal (type_of_kind ty.entry) }
-{
-    match ty {
-        TyKind::Signal(_) => true,
-        _ => false,
-    }
-}
-
-/// Whether it is a pointer.
-pub fn is_pointer(ty: TyKind<'_>) -> bool
-    ensures { result ≡ test_pointer (type_of_kind ty.entry) }
-{
-    match ty {
-        TyKind::Pointer(_) => true,
-        _ => false,
-    }
-}
-
-/// Whether it is a data type or time.
-pub fn is_value_type(ty: TyKind<'_>) -> bool
-    ensures { result ≡ test_value_type (type_of_kind ty.entry) }
-{
-    match ty {
-        TyKind::Int(_) | TyKind::Array(_, _) | TyKind::Tuple(_) | TyKind::Time => true,
-        TyKind::Void | TyKind::Signal(_) | TyKind::Pointer(_) => false,
-    }
-}
-
-/// Whether it is an array whose elements have this type.
-pub fn is_array_of(ty: TyKind<'_>, of: &Ty) -> bool
-    ensures { result ≡ test_array_of of.now (type_of_kind ty.entry) }
-{
-    match ty {
-        TyKind::Array(_, element) => *element == *of,
-        _ => false,
-    }
-}
 
 /// Whether the part of a data type that a step leads to has this type.
 fn is_data_part(of: TyKind<'_>, step: Step, ty: &Ty) -> bool

@@ -1,6 +1,7 @@
 -- How instructions are spelled: one case for each spelling of the language.
 use Rattle.std.specs.Prelude.{◌≡◌, ℕ, Bool, true, false, not, List, [], ◌∷◌, length, Option, Some, None, ◌⊎◌, codes}
-use Rattle.lh_types.specs.Types.{TypeTree, int_type, void_type, array_type, tuple_type, IsLimited, row_of}
+use Rattle.lh_types.specs.Types.{TypeTree, int_type, array_type, tuple_type, IsLimited, row_of}
+pub use Rattle.lh_types.specs.TypeTests.{is_void}
 use Rattle.lh_types.specs.Values.{int_value, time_value}
 use Rattle.lh_types.specs.declared.op.Op.{Op}
 use Rattle.lh_types.specs.declared.op.Op.TheVariants as op
@@ -135,10 +136,6 @@ SpellsInst halt_text ts = ts ≡ word (codes "halt") ∷ []
 SpellsInst (ret_text None) ts = ts ≡ word (codes "ret") ∷ []
 -- `ret V %v`
 SpellsInst (ret_text (Some v)) ts = SpellsWordTyped (codes "ret") v ts []
-
-abbrev pub is_void : TypeTree → Bool
-is_void void_type = true
-is_void _ = false
 
 -- whether the instruction gives a value
 abbrev pub gives_value : InstText → Bool

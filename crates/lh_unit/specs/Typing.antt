@@ -1,17 +1,14 @@
 -- The type of a value, read from its own line.
-use Rattle.std.specs.Prelude.{ℕ, List, [], ◌∷◌, length, Bool, ◌||◌, Option, Some, None, if◌then◌else◌}
+use Rattle.std.specs.Prelude.{ℕ, List, [], ◌∷◌, length, Option, Some, None, if◌then◌else◌}
 use Rattle.std.specs.Option.{option_and_then, option_map}
 use Rattle.lh_types.specs.Types.{TypeTree, TypeRow, int_type, time_type, array_type, tuple_type, signal_type, pointer_type, no_types, more_types}
 use Rattle.lh_types.specs.Values.{Datum, int_value, time_value}
-use Rattle.lh_types.specs.Faults.{is_data, is_time, int_fault, array_fault, tuple_fault}
+use Rattle.lh_types.specs.Faults.{is_data, int_fault, array_fault, tuple_fault}
+pub use Rattle.lh_types.specs.TypeTests.{is_value_type, pointed, carried}
 use Rattle.lh_types.specs.declared.ty.TyFault.{TyFault}
 use Rattle.lh_types.specs.declared.op.Op.{Op}
 use Rattle.lh_types.specs.declared.op.Op.TheVariants as op
 use Rattle.lh_unit.specs.Contents.{OperandText, InstText, const_text, pure_text, var_text, ld_text, sig_text, prb_text, call_text, phi_text, LineText, BlockText, ArgText, UnitText, is_result_name, same_name}
-
--- whether it is a data type or time
-abbrev pub is_value_type : TypeTree → Bool
-is_value_type t = is_data t || is_time t
 
 -- the type of a pointer to a value of this type
 abbrev pub pointer_to : TypeTree → Option TypeTree
@@ -20,16 +17,6 @@ pointer_to t = if is_value_type t then Some (pointer_type t) else None
 -- the type of a signal that carries this one
 abbrev pub signal_of : TypeTree → Option TypeTree
 signal_of t = if is_data t then Some (signal_type t) else None
-
--- what a pointer points to
-abbrev pub pointed : TypeTree → Option TypeTree
-pointed (pointer_type t) = Some t
-pointed _ = None
-
--- what a signal carries
-abbrev pub carried : TypeTree → Option TypeTree
-carried (signal_type t) = Some t
-carried _ = None
 
 -- a type, where nothing is wrong with it
 abbrev pub if_made : Option TyFault → TypeTree → Option TypeTree

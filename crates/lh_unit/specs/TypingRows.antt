@@ -2,8 +2,9 @@
 use Rattle.std.specs.Prelude.{ℕ, List, [], ◌∷◌, Bool, true, false, ◌&&◌, Option, Some, None}
 use Rattle.std.specs.List.{list_all}
 use Rattle.std.specs.Option.{option_and_then, option_map, option_map_or}
-use Rattle.lh_types.specs.Types.{TypeTree, int_type, time_type, void_type, array_type, signal_type, same_type}
+use Rattle.lh_types.specs.Types.{TypeTree, time_type, void_type, signal_type, same_type}
 use Rattle.lh_types.specs.Faults.{is_data}
+pub use Rattle.lh_types.specs.TypeTests.{bit, is_integer, is_array_of, is_pointer, is_signal}
 use Rattle.lh_types.specs.Parts.{step_part}
 use Rattle.lh_types.specs.declared.op.Op.{Op}
 use Rattle.lh_types.specs.declared.op.Op.TheVariants as op
@@ -37,16 +38,6 @@ all_agree u os = list_all (agrees u) os
 -- each operand has this type, and agrees with what is written before it
 abbrev pub all_have : UnitText → TypeTree → List OperandText → Bool
 all_have u t os = list_all (λ (o : OperandText). has_type u t o.value && agrees u o) os
-
--- an integer of any width
-abbrev pub is_integer : TypeTree → Bool
-is_integer (int_type n) = true
-is_integer _ = false
-
--- an array whose elements have this type
-abbrev pub is_array_of : TypeTree → TypeTree → Bool
-is_array_of t (array_type n s) = same_type s t
-is_array_of t _ = false
 
 -- the type of the value of this name passes a test
 abbrev pub type_satisfies : UnitText → (TypeTree → Bool) → List ℕ → Bool
@@ -101,10 +92,6 @@ abbrev pub operation_fits : UnitText → OperationRow → Option TypeTree → Li
 operation_fits u row None args = false
 operation_fits u row (Some t) args = row_fits u row t args
 
--- the type of a truth value
-abbrev pub bit : TypeTree
-bit = int_type 1
-
 -- the type of what is driven
 abbrev pub driven_type : OperandText → Option TypeTree
 driven_type to = option_and_then carried to.ty
@@ -121,19 +108,6 @@ stored_type to = option_and_then pointed to.ty
 -- a written type that satisfies a test, and that the operand has
 abbrev pub written_fits : UnitText → (TypeTree → Bool) → OperandText → Bool
 written_fits u test o = option_map_or (λ t. test t && has_type u t o.value) o.ty false
-
--- there is a type
-abbrev pub is_some_type : Option TypeTree → Bool
-is_some_type None = false
-is_some_type (Some t) = true
-
--- a pointer
-abbrev pub is_pointer : TypeTree → Bool
-is_pointer t = is_some_type (pointed t)
-
--- a signal
-abbrev pub is_signal : TypeTree → Bool
-is_signal t = is_some_type (carried t)
 
 -- `ret` gives the result of its function; without a value that is void
 abbrev pub returns_fit : UnitText → Option TypeTree → Option OperandText → Bool

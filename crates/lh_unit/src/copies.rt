@@ -33,7 +33,7 @@ fn copy_operands(operands: &TypedList) -> Result<TypedList, NoMemory>
     ensures { IfOk result (λ list. list ≡ operands.now) }
 {
     let items = operands.as_slice();
-    let mut to = TypedList::new(operands.allocator());
+    let mut to = TypedList::with_room(operands.allocator(), items.len())?;
     for operand in items {
         let operand = operand.copy()?;
         to.push(operand)?;

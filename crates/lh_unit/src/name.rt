@@ -1,16 +1,18 @@
 // Names.
 ghost use Rattle.std.specs.Prelude.{◌≡◌, ◌≤◌, IfOk};
 ghost use Rattle.lh_unit.specs.Names.{IsName};
+ghost use Rattle.lh_unit.specs.Named.{is_assert};
 
 use lh_types::ty::NoMemory;
+use smallvec::SmallVec;
 use std::alloc::Global;
 use std::hash::{Hash, Hasher};
 use std::marker::Model;
 
-/// A name, 1 to 255 name bytes.
+/// A name, 1 to 255 name bytes. One of at most 16 bytes takes no memory of its own.
 #[derive(Debug, Drop)]
 pub struct Name {
-    bytes: Vec<u8>,
+    bytes: SmallVec<u8, 16>,
 }
 
 impl Model for Name {
@@ -66,7 +68,7 @@ impl Name {
         requires { IsName bytes.now }
         ensures { IfOk result (λ n. n ≡ bytes.now) }
     {
-        match Vec::from_slice(alloc, bytes) {
+        match SmallVec::from_slice(alloc, bytes) {
             Ok(bytes) => Ok(Name { bytes }),
             Err(_) => Err(NoMemory),
         }
@@ -83,7 +85,7 @@ impl Name {
     pub fn copy(&self) -> Result<Name, NoMemory>
         ensures { IfOk result (λ n. n ≡ self.now) }
     {
-        match Vec::from_slice(*self.bytes.allocator(), self.bytes.as_slice()) {
+        match SmallVec::from_slice(*self.bytes.allocator(), self.bytes.as_slice()) {
             Ok(bytes) => Ok(Name { bytes }),
             Err(_) => Err(NoMemory),
         }
@@ -144,5 +146,12 @@ impl UnitName {
             sigil: self.sigil,
             name,
         })
+    }
+
+    /// Whether it is `@llhd.assert`, which counts as a defined function.
+    pub fn is_assert(&self) -> bool
+        ensures { result ≡ is_assert self.now }
+    {
+        self.sigil == b'@' && self.name.as_bytes() == b"llhd.assert".as_slice()
     }
 }

@@ -207,6 +207,19 @@ impl UnitTable {
         Ok(InstId(id as u32))
     }
 
+    /// Gives back the room that nothing needs.
+    pub fn shrink(&mut self)
+        ensures { self.new ≡ self.old }
+    {
+        self.values.shrink_to_fit();
+        self.defs.shrink_to_fit();
+        self.labels.shrink_to_fit();
+        self.bodies.shrink_to_fit();
+        self.blocks.shrink_to_fit();
+        self.args.shrink_to_fit();
+        self.lines.shrink_to_fit();
+    }
+
     pub fn kind(&self) -> Option<UnitKind>
         ensures { result ≡ self.now.kind }
     {

@@ -155,6 +155,3 @@ impl<'m> UnitView<'m> {
         self.module.block_name(self.unit, block)
     }
 }
-
-#[cfg(test)]
-mod tests;

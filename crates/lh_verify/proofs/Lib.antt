@@ -4,6 +4,7 @@ pub mod Lowest
 pub mod MarkingSteps
 pub mod ModuleFaults
 pub mod Named
+pub mod NumbersKept
 pub mod OtherUnits
 pub mod PhiSteps
 pub mod Places

@@ -27,6 +27,8 @@ use Rattle.lh_typing.specs.declared.scope.Scope.{Scope}
 use Rattle.lh_typing.specs.declared.scope.Fact.{Fact}
 use Rattle.lh_typing.specs.Knowing.{Known, Knows}
 use Rattle.lh_verify.specs.Marking.{IsProbed, Stands}
+use Rattle.lh_types.specs.Types.{TypeTree}
+use Rattle.lh_typing.specs.Numbers.{NumbersParams}
 use Rattle.lh_typing.specs.Told.{IsScope, Told, text_in, naming_in, sizes_in, from_probe}
 use Rattle.lh_unit.proofs.Texts.{ids-within}
 
@@ -76,25 +78,26 @@ module _ (a : Arena) (u : ℕ) (o : IsArena a) (h : u < unit_count a) where
       ap (option_and_then result_type) (inst_giving-by_id a u o h v w) ∙ inst-type-text (naming a u) (inst_making (table_at a u).lines v) in
       λ i. or_else (p i) (q i)
 
-  pub told-of : (v : ℕ) (x : Fact) → v < value_count a u → Known (naming a u) (args_at a u) (table_at a u).lines v x → Told (unit_text_at a u) (value_name_at a u v) x
-  told-of v x w k = record {
+  pub told-of : (types : List TypeTree) (v : ℕ) (x : Fact) → v < value_count a u → Known types (naming a u) (args_at a u) (table_at a u).lines v x → Told types (unit_text_at a u) (value_name_at a u v) x
+  told-of types v x w k = record {
     defined = k.defined ∙ sym (defines_value-by_id a u o h v w);
     kind = k.kind ∙ sym (kind-is v w);
-    ty = k.ty ∙ sym (type-is v w);
+    ty = k.ty ∙ sym (ap (option_map Some) (type-is v w));
   }
 
-pub scope-is : (s : Scope) → IsArena s.module.now → s.unit.0 < unit_count s.module.now → Knows (value_count s.module.now s.unit.0) (naming s.module.now s.unit.0) (args_at s.module.now s.unit.0) (table_at s.module.now s.unit.0).lines s.facts.now → IsProbed s.module.now s.unit.0 s.probed.now → Stands s.module.now s.unit.0 s.labels.now → IsScope s
+pub scope-is : (s : Scope) → IsArena s.module.now → s.unit.0 < unit_count s.module.now → Knows s.types.now (value_count s.module.now s.unit.0) (naming s.module.now s.unit.0) (args_at s.module.now s.unit.0) (table_at s.module.now s.unit.0).lines s.facts.now → IsProbed s.module.now s.unit.0 s.probed.now → Stands s.module.now s.unit.0 s.labels.now → NumbersParams s.types.now s.module.now s.params.now → IsScope s
 unfolding text_in naming_in sizes_in from_probe
-scope-is s o h k r st =
+scope-is s o h k r st p =
     let e : inst_count s.module.now s.unit.0 + 1 ≡ suc (length (places (unit_text_at s.module.now s.unit.0))) = omega (arith, length-places s.module.now s.unit.0 o h) in
     record {
       unit = h;
       long = k.long;
-      told = λ v x g. told-of s.module.now s.unit.0 o h v.0 x (omega (arith, slice_get_within s.facts.now v.0 x g, k.long)) (k.known v.0 x g);
+      told = λ v x g. told-of s.module.now s.unit.0 o h s.types.now v.0 x (omega (arith, slice_get_within s.facts.now v.0 x g, k.long)) (k.known v.0 x g);
       long_labels = st.long;
       told_labels = λ b x g. st.marked b.0 x g;
       long_probed = r.long;
       told_probed = λ q v x g. (r.reached q).marked v.0 x g ∙ ap (λ n. depends_on_probe n (unit_text_at s.module.now s.unit.0) (value_name_at s.module.now s.unit.0 v.0)) e;
+      params = p;
     }
 
 spots-each : (t : Table) (n : ℕ) (ps : List byid.Spot) → Each (λ (i : InstId). i.0 < n) (map (λ (p : byid.Spot). p.inst) ps) → Each (SpotWithin n) (map (spot_of t) ps)

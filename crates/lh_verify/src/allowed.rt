@@ -11,7 +11,6 @@ ghost use Rattle.lh_typing.specs.Told.{naming_in};
 ghost use Rattle.lh_verify.specs.Asks.{ends_wrong as asks_ends_wrong};
 
 use lh_types::op::Op;
-use lh_typing::is_signal;
 use lh_typing::scope::Scope;
 use lh_unit::inst::{Inst, Typed, UnitKind};
 
@@ -60,7 +59,7 @@ fn writes_signal(scope: &Scope<'_>, args: &[Typed]) -> bool
         None => false,
         Some((first, _)) => match &first.ty {
             None => false,
-            Some(ty) => is_signal(ty.kind()),
+            Some(ty) => ty.is_signal(),
         },
     }
 }

@@ -1,18 +1,21 @@
 //! Fault 8: the arguments of `inst` and `call` differ from the parameters of the unit. And the result type that a
 //! `call` writes, which fault 3 asks.
-ghost use Rattle.std.specs.Prelude.{◌≡◌, ◌<◌, [], List, not, map, filter};
+ghost use Rattle.std.specs.Prelude.{◌≡◌, ◌<◌, [], List, Some, not, map, filter, slice_get};
 ghost use Rattle.lh_unit.specs.Contents.{OperandText, call_text, child_text};
-ghost use Rattle.lh_unit.specs.Naming.{Naming, operand_text, arg_text, inst_text};
-ghost use Rattle.lh_unit.specs.Within.{Each, OperandWithin, InstWithin};
+ghost use Rattle.lh_unit.specs.Naming.{Naming, value_text, operand_text, arg_text, inst_text};
+ghost use Rattle.lh_unit.specs.Within.{Each, ValueWithin, OperandWithin, InstWithin};
 ghost use Rattle.lh_unit.specs.WellFormed.{result_fits as text_result_fits, arguments_fit, arguments_differ as text_arguments_differ, assert_args};
+ghost use Rattle.lh_unit.specs.TypingRows.{has_type};
 ghost use Rattle.lh_verify.specs.Asks.{on_side};
+ghost use Rattle.lh_typing.specs.Numbers.{AreNumbersOf};
 ghost use Rattle.lh_typing.specs.Told.{IsScope, items_in, text_in, naming_in, sizes_in};
 
-use crate::units::{is_assert, is_defined};
+use crate::units::is_defined;
 use lh_types::ty::Ty;
+use lh_typing::has_bit;
+use lh_typing::numbers::Numbered;
 use lh_typing::scope::Scope;
-use lh_typing::{has_bit, has_type, is_void};
-use lh_unit::inst::{Arg, Inst, Typed, UnitId};
+use lh_unit::inst::{Arg, Inst, Typed, UnitId, ValueId};
 
 /// The parameters among which an argument stands.
 #[derive(Clone, Copy)]
@@ -32,22 +35,37 @@ fn is_on(side: Side, param: &Arg) -> bool
     }
 }
 
-/// Whether arguments are as many as the parameters of one side, and of their types.
-fn side_fits(scope: &Scope<'_>, args: &[Typed], params: &[Arg], side: Side) -> bool
+/// Whether arguments are as many as the parameters of one side, and of their types, which have these numbers.
+fn side_fits(scope: &Scope<'_>, args: &[Typed], params: &[Arg], numbers: &[u32], side: Side) -> bool
     requires scope { IsScope scope.now }
     requires within { Each (OperandWithin (sizes_in scope.now)) args.now }
+    requires numbers { AreNumbersOf scope.now.types.now params.now numbers.now }
     ensures { (f : Naming) → result ≡ arguments_fit (text_in scope.now) (map (operand_text (naming_in scope.now)) args.now) (filter (on_side side) (map (arg_text f) params.now)) }
 {
     let mut rest = args;
-    for param in params {
+    for (k, param) in params.iter().enumerate() {
         if is_on(side, param) {
             match rest.split_first() {
-                Some((arg, more)) if has_type(scope, arg.value, &param.ty) => rest = more,
+                Some((arg, more)) if has_param(scope, arg.value, param, numbers[k]) => rest = more,
                 _ => return false,
             }
         }
     }
     fits_nothing(scope, rest)
+}
+
+/// Whether a value has the type of a parameter, which has this number.
+fn has_param(scope: &Scope<'_>, value: ValueId, param: &Arg, number: u32) -> bool
+    requires scope { IsScope scope.now }
+    requires within { ValueWithin (sizes_in scope.now) value }
+    requires number { slice_get scope.now.types.now number ≡ Some param.now.ty }
+    ensures { result ≡ has_type (text_in scope.now) param.now.ty (value_text (naming_in scope.now) value) }
+{
+    let of = Numbered {
+        ty: &param.ty,
+        number,
+    };
+    scope.has_number(value, &of)
 }
 
 /// Whether there are no arguments, as there are no parameters.
@@ -85,7 +103,7 @@ fn ports_fit(scope: &Scope<'_>, unit: UnitId, inputs: &[Typed], outputs: &[Typed
     requires outputs { Each (OperandWithin (sizes_in scope.now)) outputs.now }
     ensures { let f = naming_in scope.now in not result ≡ text_arguments_differ (items_in scope.now) (text_in scope.now) (child_text (f.unit_name unit.0) (map (operand_text f) inputs.now) (map (operand_text f) outputs.now)) }
 {
-    if is_assert(scope.module.unit_name(unit)) {
+    if scope.module.unit_name(unit).is_assert() {
         if !fits_assert(scope, inputs) {
             return false;
         }
@@ -95,10 +113,11 @@ fn ports_fit(scope: &Scope<'_>, unit: UnitId, inputs: &[Typed], outputs: &[Typed
         return true;
     }
     let params = scope.module.args(unit);
-    if !side_fits(scope, inputs, params, Side::Inputs) {
+    let numbers = scope.params_of(unit);
+    if !side_fits(scope, inputs, params, numbers, Side::Inputs) {
         return false;
     }
-    side_fits(scope, outputs, params, Side::Outputs)
+    side_fits(scope, outputs, params, numbers, Side::Outputs)
 }
 
 /// Whether the arguments of `call` fit the parameters of a unit, where it is defined.
@@ -108,14 +127,14 @@ fn call_fits(scope: &Scope<'_>, unit: UnitId, ty: &Ty, args: &[Typed]) -> bool
     requires args { Each (OperandWithin (sizes_in scope.now)) args.now }
     ensures { let f = naming_in scope.now in not result ≡ text_arguments_differ (items_in scope.now) (text_in scope.now) (call_text (f.unit_name unit.0) ty.now (map (operand_text f) args.now)) }
 {
-    if is_assert(scope.module.unit_name(unit)) {
+    if scope.module.unit_name(unit).is_assert() {
         return fits_assert(scope, args);
     }
     if !is_defined(scope, unit) {
         return true;
     }
     let params = scope.module.args(unit);
-    side_fits(scope, args, params, Side::All)
+    side_fits(scope, args, params, scope.params_of(unit), Side::All)
 }
 
 /// Whether the arguments of an instruction differ from the parameters of the unit that it names.
@@ -141,8 +160,8 @@ fn call_result_fits(scope: &Scope<'_>, unit: UnitId, ty: &Ty) -> bool
     requires unit { unit.0 < (sizes_in scope.now).units }
     ensures { (args : List OperandText) → result ≡ text_result_fits (items_in scope.now) (call_text ((naming_in scope.now).unit_name unit.0) ty.now args) }
 {
-    if is_assert(scope.module.unit_name(unit)) {
-        return is_void(ty.kind());
+    if scope.module.unit_name(unit).is_assert() {
+        return ty.is_void();
     }
     match scope.module.result(unit) {
         Some(of) => *ty == *of,

@@ -1,5 +1,5 @@
 //! The first faulty instruction of a unit.
-ghost use Rattle.std.specs.Prelude.{◌≡◌, ◌<◌, map, IsSome, IfOk};
+ghost use Rattle.std.specs.Prelude.{◌≡◌, ◌<◌, map, IsSome, IfOk, OnOk};
 ghost use Rattle.std.specs.List.{list_any};
 ghost use Rattle.lh_unit.specs.Arena.{IsArena, unit_count, kind_at, inst_count, table_at, contents, unit_text_at};
 ghost use Rattle.lh_unit.specs.Within.{Each};
@@ -7,6 +7,7 @@ ghost use Rattle.lh_verify.specs.Answering.{Finds, LacksFirst, first_at as first
 ghost use Rattle.lh_verify.specs.Faults.{hides_paths as spot_hides_paths};
 ghost use Rattle.lh_verify.specs.PhisById.{wrong_phi_at};
 ghost use Rattle.lh_verify.specs.Spots.{spots_of};
+ghost use Rattle.lh_typing.specs.Numbers.{Grows, NumbersParams};
 ghost use Rattle.lh_typing.specs.Told.{IsScope, items_in, text_in};
 ghost use Rattle.lh_verify.specs.SpotsWithin.{SpotWithin};
 
@@ -18,6 +19,8 @@ use crate::spots::{Spot, spots};
 use lh_defined::{DefinedFault, defined};
 use lh_types::ty::NoMemory;
 use lh_typing::facts::facts;
+use lh_typing::numbers::Types;
+use lh_typing::params::NumberList;
 use lh_typing::scope::Scope;
 use lh_unit::inst::{InstId, UnitId};
 use lh_unit::module::Module;
@@ -30,15 +33,24 @@ pub struct Found {
     pub number: u8,
 }
 
-/// The first faulty instruction of a defined unit, if there is one.
-pub fn first_fault(alloc: Global, m: &Module, unit: UnitId) -> Result<Option<Found>, NoMemory>
+/// The first faulty instruction of a defined unit, if there is one, where the numbers of all parameters' types are known. Types of the unit
+/// that have no number yet get one.
+pub fn first_fault(
+    alloc: Global,
+    m: &Module,
+    unit: UnitId,
+    types: &mut Types,
+    params: &[NumberList],
+) -> Result<Option<Found>, NoMemory>
     requires unit { unit.0 < unit_count m.now }
     requires begun { IsSome (kind_at m.now unit.0) }
-    ensures { IfOk result (λ found. Finds (contents m.now) (unit_text_at m.now unit.0) found) }
+    requires params { NumbersParams types.old m.now params.now }
+    ensures found { IfOk result (λ found. Finds (contents m.now) (unit_text_at m.now unit.0) found) }
+    ensures grows { OnOk result (Grows types.old types.new) }
 {
     let list = spots(alloc, m, unit)?;
     let insts = list.len() as u32;
-    let known = facts(alloc, m, unit, insts)?;
+    let known = facts(alloc, m, unit, insts, types)?;
     let from_probe = probed(alloc, m, unit, insts)?;
     let standing = labels(alloc, m, unit)?;
     let wrong = wrong_phis(alloc, m, unit, list.as_slice())?;
@@ -48,6 +60,8 @@ pub fn first_fault(alloc: Global, m: &Module, unit: UnitId) -> Result<Option<Fou
         facts: known.as_slice(),
         probed: from_probe.as_slice(),
         labels: standing.as_slice(),
+        types,
+        params,
     };
     first_in(alloc, &scope, list.as_slice(), &wrong)
 }

@@ -3,21 +3,13 @@ ghost use Rattle.std.specs.Prelude.{◌≡◌, ◌<◌, ◌||◌, not};
 ghost use Rattle.std.specs.Option.{is_some};
 ghost use Rattle.lh_unit.specs.Arena.{IsArena, kind_at};
 ghost use Rattle.lh_unit.specs.Contents.{defines_unit};
-ghost use Rattle.lh_unit.specs.Named.{is_assert as name_is_assert};
+ghost use Rattle.lh_unit.specs.Named.{is_assert};
 ghost use Rattle.lh_unit.specs.WellFormed.{is_function_name};
 ghost use Rattle.lh_verify.specs.Asks.{is_function_kind};
 ghost use Rattle.lh_typing.specs.Told.{IsScope, items_in, naming_in, sizes_in};
 
 use lh_typing::scope::Scope;
 use lh_unit::inst::{UnitId, UnitKind};
-use lh_unit::name::UnitName;
-
-/// Whether it is `@llhd.assert`, which counts as a defined function.
-pub fn is_assert(name: &UnitName) -> bool
-    ensures { result ≡ name_is_assert name.now }
-{
-    name.sigil == b'@' && name.name.as_bytes() == b"llhd.assert".as_slice()
-}
 
 /// Whether a unit is defined.
 pub fn is_defined(scope: &Scope<'_>, unit: UnitId) -> bool
@@ -32,12 +24,12 @@ pub fn is_defined(scope: &Scope<'_>, unit: UnitId) -> bool
 pub fn is_missing(scope: &Scope<'_>, unit: UnitId) -> bool
     requires scope { IsScope scope.now }
     requires within { unit.0 < (sizes_in scope.now).units }
-    ensures { let n = (naming_in scope.now).unit_name unit.0 in result ≡ not (defines_unit n (items_in scope.now) || name_is_assert n) }
+    ensures { let n = (naming_in scope.now).unit_name unit.0 in result ≡ not (defines_unit n (items_in scope.now) || is_assert n) }
 {
     if is_defined(scope, unit) {
         return false;
     }
-    !is_assert(scope.module.unit_name(unit))
+    !scope.module.unit_name(unit).is_assert()
 }
 
 /// Whether a unit is a defined function, or `@llhd.assert`.
@@ -49,7 +41,7 @@ pub fn names_function(scope: &Scope<'_>, unit: UnitId) -> bool
     if is_function(scope.module.kind(unit)) {
         return true;
     }
-    is_assert(scope.module.unit_name(unit))
+    scope.module.unit_name(unit).is_assert()
 }
 
 /// Whether a unit of this kind is a function.

@@ -1,13 +1,16 @@
 //! The first fault of a module, and modules that have none.
-ghost use Rattle.std.specs.Prelude.{◌≡◌, IfOk};
+ghost use Rattle.std.specs.Prelude.{◌≡◌, IfOk, OnOk};
 ghost use Rattle.lh_unit.specs.Arena.{contents};
 ghost use Rattle.lh_unit.specs.WellFormed.{IsSpelled, IsWellFormed};
 ghost use Rattle.lh_verify.specs.Answering.{IsFew};
 ghost use Rattle.lh_unit.specs.Placed.{IsItemOf};
+ghost use Rattle.lh_typing.specs.Numbers.{Grows, NumbersParams};
 ghost use Rattle.lh_verify.specs.Verifying.{Verifies, Says, SaysOfItem, ItemBegun, named_fault};
 
 use crate::unit::{Found, first_fault};
 use lh_types::ty::NoMemory;
+use lh_typing::numbers::Types;
+use lh_typing::params::{NumberList, params};
 use lh_unit::inst::{Item, UnitId};
 use lh_unit::module::Module;
 use std::alloc::Global;
@@ -114,8 +117,23 @@ pub fn verify(alloc: Global, m: Module) -> Result<Verified, VerifyFault>
 fn find(alloc: Global, m: &Module) -> Result<Option<Fault>, NoMemory>
     ensures { IfOk result (λ fault. Says m.now fault) }
 {
+    let mut types = Types::new(alloc);
+    let numbers = params(alloc, m, &mut types)?;
+    find_among(alloc, m, &mut types, numbers.as_slice())
+}
+
+/// The same, where the numbers of all parameters' types are known.
+fn find_among(
+    alloc: Global,
+    m: &Module,
+    types: &mut Types,
+    params: &[NumberList],
+) -> Result<Option<Fault>, NoMemory>
+    requires { NumbersParams types.old m.now params.now }
+    ensures { IfOk result (λ fault. Says m.now fault) }
+{
     for item in m.items() {
-        if let Some(fault) = find_in(alloc, m, item)? {
+        if let Some(fault) = find_in(alloc, m, item, types, params)? {
             return Ok(Some(fault));
         }
     }
@@ -123,15 +141,23 @@ fn find(alloc: Global, m: &Module) -> Result<Option<Fault>, NoMemory>
 }
 
 /// The first fault of an item, if there is one.
-fn find_in(alloc: Global, m: &Module, item: &Item) -> Result<Option<Fault>, NoMemory>
+fn find_in(
+    alloc: Global,
+    m: &Module,
+    item: &Item,
+    types: &mut Types,
+    params: &[NumberList],
+) -> Result<Option<Fault>, NoMemory>
     requires placed { IsItemOf m.now item.now }
     requires begun { ItemBegun m.now item.now }
-    ensures { IfOk result (λ fault. SaysOfItem m.now item.now fault) }
+    requires params { NumbersParams types.old m.now params.now }
+    ensures says { IfOk result (λ fault. SaysOfItem m.now item.now fault) }
+    ensures grows { OnOk result (Grows types.old types.new) }
 {
     match item {
         Item::Declare(_) => Ok(None),
         Item::Unit(unit) => {
-            let found = first_fault(alloc, m, *unit)?;
+            let found = first_fault(alloc, m, *unit, types, params)?;
             Ok(fault_of(*unit, found))
         }
     }

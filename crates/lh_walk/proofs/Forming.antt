@@ -13,6 +13,7 @@ use Rattle.lh_unit.specs.Naming.{Naming, maybe_text, inst_text}
 use Rattle.lh_unit.specs.Places.{is_terminator}
 use Rattle.lh_unit.specs.Typing.{value_type, result_type}
 use Rattle.lh_unit.specs.Within.{Each}
+use Rattle.lh_unit.specs.WellFormed.{is_phi as text_is_phi}
 use Rattle.lh_unit.specs.declared.inst.BlockId.{BlockId}
 use Rattle.lh_unit.specs.declared.inst.ValueId.{ValueId}
 use Rattle.lh_unit.specs.declared.inst.Inst.{Inst}
@@ -115,7 +116,7 @@ some-block f (b ∷ bs) h = omega arith
 pub blocks-there : (f : Naming) (name : UnitName) (t : Flat) → Names t f → 0 < length t.blocks
 blocks-there f name t n = some-block f t.blocks (n.formed name).blocks
 
-phi-is : (f : Naming) (i : Inst) → rows.is_phi (inst_text f i) ≡ is_phi i
+phi-is : (f : Naming) (i : Inst) → text_is_phi (inst_text f i) ≡ is_phi i
 phi-is f (inst.Phi ty edges) = refl
 phi-is f (inst.Ret None) = refl
 phi-is f (inst.Ret (Some t)) = refl

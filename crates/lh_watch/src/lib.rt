@@ -3,6 +3,4 @@
 
 pub mod builtin;
 pub mod shows;
-#[cfg(test)]
-mod tests;
 pub mod watcher;

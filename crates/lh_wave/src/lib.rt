@@ -4,14 +4,11 @@
 pub mod code;
 pub mod ending;
 pub mod head;
-mod integer;
 mod lines;
 mod owned;
 pub mod run;
 mod scribe;
 mod teller;
-#[cfg(test)]
-mod tests;
 mod touched;
 pub mod trace;
 pub mod value;

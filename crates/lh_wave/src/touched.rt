@@ -46,13 +46,14 @@ impl Touched {
         }
     }
 
-    /// Puts the numbers in order.
-    pub fn sort(&mut self)
+    /// Puts the numbers in order. Those of each frame come in order, so that a sort that keeps such runs is fast.
+    pub fn sort(&mut self) -> Result<(), NoMemory>
         ensures noted { (count : ℕ) → IsNoted self.old count → IsNoted self.new count }
-        ensures rising { IsNonDecreasing self.new.numbers.items }
+        ensures rising { OnOk result (IsNonDecreasing self.new.numbers.items) }
         ensures same { self.new.marks ≡ self.old.marks }
     {
-        self.numbers.sort_unstable();
+        self.numbers.sort()?;
+        Ok(())
     }
 
     /// The numbers of those that were touched.

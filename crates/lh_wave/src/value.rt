@@ -4,8 +4,7 @@ ghost use Rattle.lh_types.specs.Values.{data_row};
 ghost use Rattle.lh_types.specs.ValueOf.{datum_of};
 ghost use Rattle.lh_wave.specs.ValueText.{moment_text, value_text, values_text};
 
-use crate::integer::put_integer;
-use lh_types::text::{put, put_number};
+use lh_types::text::{put, put_integer, put_number};
 use lh_types::ty::NoMemory;
 use lh_types::val::{Val, ValList};
 

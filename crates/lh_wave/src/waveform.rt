@@ -77,7 +77,7 @@ impl Waveform {
         ensures dumped { OnOk result (self.new.dumped ≡ true) }
         ensures same { OnOk result (moment_now self.new ≡ moment_now self.old) }
     {
-        self.touched.sort();
+        self.touched.sort()?;
         self.put_time_text(to)?;
         catch_up(&mut self.written, &self.present, self.touched.numbers())?;
         self.touched.clear();

@@ -270,6 +270,10 @@ inserted rs ns i hi r n h a b e =
 pub inserted-filled : (rs ns : List Run) (i : ℕ) (r : Run) → EachFilled rs → is_filled r.bits ≡ true → ns ≡ take i rs ++ r ∷ drop i rs → EachFilled ns
 inserted-filled rs ns i r a f e = subst EachFilled (sym e) (filled-append (take i rs) (r ∷ drop i rs) (filled-take i rs a) (f, filled-drop i rs a))
 
+-- a run alone
+pub first-wish : (r : Run) → runs_wish (r ∷ []) ≡ with_bits [] r.due r.lo r.bits
+first-wish r = inserted [] (r ∷ []) 0 (r.lo + length r.bits) r refl tt tt tt refl
+
 -- a run in place of what it covers
 pub replaced : (rs front pre cut after : List Run) (i j hi : ℕ) (r : Run) (w : Wish) → i ≤ j → hi ≡ r.lo + length r.bits → IsInOrder (runs_wish rs) → AllBelow (due_bit r.due r.lo) (runs_wish (take i rs)) → AllFrom (due_bit r.due hi) (runs_wish (drop j rs))
     → front ≡ take j rs → after ≡ drop j rs → pre ≡ take i front → cut ≡ drop i front

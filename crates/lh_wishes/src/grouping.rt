@@ -2,20 +2,43 @@
 ghost use Rattle.std.specs.Prelude.{◌≡◌, ◌∷◌, ◌++◌, [], true, IfOk, OnOk};
 ghost use Rattle.lh_types.specs.Writes.{numbered, writes_wish};
 ghost use Rattle.lh_wishes.specs.Grouped.{is_filled, Apart};
-ghost use Rattle.lh_wishes.specs.Runs.{run_wish, runs_wish};
+ghost use Rattle.lh_wishes.specs.Runs.{run_wish, runs_wish, runs_in};
 
 use crate::run::Run;
+use crate::runs::RunList;
 use lh_time::Instant;
 use lh_types::ty::NoMemory;
 use lh_types::writes::BitWrites;
 use std::alloc::Global;
 
 /// Runs by their instants.
-pub(crate) fn grouped(alloc: Global, runs: Vec<Run>) -> Result<Vec<(Instant, BitWrites)>, NoMemory>
+pub(crate) fn grouped(alloc: Global, runs: RunList) -> Result<Vec<(Instant, BitWrites)>, NoMemory>
+    ensures wish { IfOk result (λ all. writes_wish all.items ≡ runs_wish (runs_in runs)) }
+    ensures apart { IfOk result (λ all. Apart all.items) }
+{
+    match runs {
+        RunList::Empty => Ok(Vec::new(alloc)),
+        RunList::One(run) => group_of(alloc, run),
+        RunList::Many(runs) => groups_of(alloc, runs),
+    }
+}
+
+/// One run by its instant.
+fn group_of(alloc: Global, run: Run) -> Result<Vec<(Instant, BitWrites)>, NoMemory>
+    ensures wish { IfOk result (λ all. writes_wish all.items ≡ runs_wish (run ∷ [])) }
+    ensures apart { IfOk result (λ all. Apart all.items) }
+{
+    let mut all = Vec::with_capacity(alloc, 1)?;
+    add(alloc, &mut all, run)?;
+    Ok(all)
+}
+
+/// Many runs by their instants.
+fn groups_of(alloc: Global, runs: Vec<Run>) -> Result<Vec<(Instant, BitWrites)>, NoMemory>
     ensures wish { IfOk result (λ all. writes_wish all.items ≡ runs_wish runs.items) }
     ensures apart { IfOk result (λ all. Apart all.items) }
 {
-    let mut all = Vec::new(alloc);
+    let mut all = Vec::with_capacity(alloc, runs.len())?;
     for run in runs {
         add(alloc, &mut all, run)?;
     }

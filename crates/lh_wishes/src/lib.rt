@@ -5,6 +5,4 @@ mod cuts;
 mod grouping;
 mod run;
 mod runs;
-#[cfg(test)]
-mod tests;
 pub mod wishes;

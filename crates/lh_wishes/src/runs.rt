@@ -1,13 +1,48 @@
 //! Runs in order of their instants and of their bits, and what a drive makes of them.
-ghost use Rattle.std.specs.Prelude.{◌≡◌, ◌+◌, ◌<◌, ◌≤◌, ◌^◌, ◌++◌, length, take, drop, true, IfOk, OnOk};
+ghost use Rattle.std.specs.Prelude.{◌≡◌, ◌+◌, ◌<◌, ◌≤◌, ◌^◌, [], ◌∷◌, ◌++◌, length, take, drop, true, IfOk, OnOk};
 ghost use Rattle.lh_types.specs.Wish.{with_bits, due_bit};
 ghost use Rattle.lh_wishes.specs.Grouped.{is_filled};
-ghost use Rattle.lh_wishes.specs.Runs.{run_wish, runs_wish, below, above, AllBelow, AllFrom, EachFilled, AreRuns};
+ghost use Rattle.lh_wishes.specs.Runs.{run_wish, runs_wish, runs_in, below, above, AllBelow, AllFrom, EachFilled, AreRuns};
 
 use crate::run::Run;
 use lh_time::Instant;
 use lh_types::ty::NoMemory;
 use std::alloc::Global;
+
+/// Runs in order. One alone takes no memory for the list.
+#[derive(Drop)]
+pub(crate) enum RunList {
+    Empty,
+    One(Run),
+    Many(Vec<Run>),
+}
+
+/// The list with one run more; it replaces what the runs have for its bits at its instant.
+pub(crate) fn with_more(alloc: Global, runs: RunList, run: Run) -> Result<RunList, NoMemory>
+    requires runs { AreRuns (runs_in runs) }
+    requires filled { is_filled run.bits ≡ true }
+    requires fits { run.lo + length run.bits < 2 ^ 32 }
+    ensures wish { IfOk result (λ rs. runs_wish (runs_in rs) ≡ with_bits (runs_wish (runs_in runs)) run.due run.lo run.bits) }
+    ensures filled { IfOk result (λ rs. EachFilled (runs_in rs)) }
+{
+    match runs {
+        RunList::Empty => Ok(RunList::One(run)),
+        RunList::One(first) => {
+            let runs = alone(alloc, first)?;
+            Ok(RunList::Many(with_run(alloc, runs, run)?))
+        }
+        RunList::Many(runs) => Ok(RunList::Many(with_run(alloc, runs, run)?)),
+    }
+}
+
+/// A run alone, with room for one more.
+fn alone(alloc: Global, run: Run) -> Result<Vec<Run>, NoMemory>
+    ensures { IfOk result (λ rs. rs.items ≡ run ∷ []) }
+{
+    let mut runs = Vec::with_capacity(alloc, 2)?;
+    runs.push(run)?;
+    Ok(runs)
+}
 
 /// Adds a run at the end, unless it is empty.
 fn put_filled(runs: &mut Vec<Run>, run: Run) -> Result<(), NoMemory>
@@ -56,7 +91,7 @@ fn place_from(runs: &[Run], from: usize, due: Instant, hi: u32) -> usize
 }
 
 /// The runs with one more; it replaces what they have for its bits at its instant.
-pub(crate) fn with_run(alloc: Global, mut runs: Vec<Run>, run: Run) -> Result<Vec<Run>, NoMemory>
+fn with_run(alloc: Global, mut runs: Vec<Run>, run: Run) -> Result<Vec<Run>, NoMemory>
     requires runs { AreRuns runs.items }
     requires filled { is_filled run.bits ≡ true }
     requires fits { run.lo + length run.bits < 2 ^ 32 }

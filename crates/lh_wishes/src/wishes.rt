@@ -6,7 +6,7 @@ ghost use Rattle.lh_wishes.specs.Grouped.{IsGrouped};
 
 use crate::grouping::grouped;
 use crate::run::Run;
-use crate::runs::with_run;
+use crate::runs::{RunList, with_more};
 use lh_time::Instant;
 use lh_types::bits::Bits;
 use lh_types::list::ListOf;
@@ -20,7 +20,8 @@ use std::mem;
 #[derive(Drop)]
 pub struct Wishes {
     // In order of the instants, then of the bits; no two of them overlap, and none is empty.
-    runs: Vec<Run>,
+    runs: RunList,
+    alloc: Global,
 }
 
 impl Model for Wishes {
@@ -31,11 +32,11 @@ impl Model for Wishes {
 
     ghost coded = { Prim.hlevel codes };
 
-    ghost use Rattle.lh_wishes.specs.Runs.{runs_wish, AreRuns};
+    ghost use Rattle.lh_wishes.specs.Runs.{runs_wish, runs_in, AreRuns};
 
-    ghost view = { λ w. runs_wish w.runs.items };
+    ghost view = { λ w. runs_wish (runs_in w.runs) };
 
-    ghost invariant = { λ w. AreRuns w.runs.items };
+    ghost invariant = { λ w. AreRuns (runs_in w.runs) };
 }
 
 impl Wishes {
@@ -44,7 +45,8 @@ impl Wishes {
         ensures { result ≡ no_wish }
     {
         Wishes {
-            runs: Vec::new(alloc),
+            runs: RunList::Empty,
+            alloc,
         }
     }
 
@@ -56,9 +58,8 @@ impl Wishes {
         if bits.len() == 0 {
             return Ok(());
         }
-        let alloc = *self.runs.allocator();
-        let runs = mem::replace(&mut self.runs, Vec::new(alloc));
-        self.runs = with_run(alloc, runs, Run { due, lo, bits })?;
+        let runs = mem::replace(&mut self.runs, RunList::Empty);
+        self.runs = with_more(self.alloc, runs, Run { due, lo, bits })?;
         Ok(())
     }
 
@@ -68,8 +69,7 @@ impl Wishes {
         ensures wish { IfOk result (λ w. writes_wish w ≡ self) }
         ensures grouped { IfOk result IsGrouped }
     {
-        let alloc = *self.runs.allocator();
-        let all = grouped(alloc, self.runs)?;
+        let all = grouped(self.alloc, self.runs)?;
         Ok(ListOf::from_vec(all))
     }
 }

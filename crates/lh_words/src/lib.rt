@@ -6,5 +6,3 @@ pub mod command;
 mod found;
 pub mod laws;
 mod number;
-#[cfg(test)]
-mod tests;

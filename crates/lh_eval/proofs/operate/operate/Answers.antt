@@ -1,6 +1,5 @@
-use Rattle.std.proofs.Common.{◌≡◌, ◌<◌, List, length, map, Option, Some, None, ap, sym, ◌∙◌}
+use Rattle.std.proofs.Common.{◌≡◌, ◌<◌, length, map, Some, None, ap, sym, ◌∙◌}
 use Rattle.std.specs.Option.{option_map}
-use Rattle.lh_types.specs.Values.{Datum}
 use Rattle.lh_types.specs.ValueOf.{datum_of}
 use Rattle.lh_types.specs.Apply.{apply}
 use Rattle.lh_unit.specs.Arena.{naming, unit_text_at}

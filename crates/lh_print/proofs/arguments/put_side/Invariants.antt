@@ -7,8 +7,8 @@ use Rattle.lh_print.proofs.arguments.put_side.Given as goal
 
 abbrev pub invariant-loop-arg : goal.invariant-loop-arg
 invariant-loop-arg l = record {
-  passed_others : side_of l.output (map (arg_text (naming l.m l.unit.0)) l.rest) ≡ side_of l.output (map (arg_text (naming l.m l.unit.0)) l.args);
-  placed : ArgsWithin (value_count l.m l.unit.0) l.rest;
+  passed_others : side_of l.output (map (arg_text (naming l.view.module.now l.view.unit.0)) l.rest) ≡ side_of l.output (map (arg_text (naming l.view.module.now l.view.unit.0)) l.args);
+  placed : ArgsWithin (value_count l.view.module.now l.view.unit.0) l.rest;
   unwritten : l.out.items ≡ l.initial.out.items;
 }
 

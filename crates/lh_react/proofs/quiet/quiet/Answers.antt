@@ -8,7 +8,7 @@ use Rattle.lh_react.proofs.quiet.quiet.Goals as goal
 
 pub loop-inst-init : goal.loop-inst-init
 loop-inst-init c =
-    subst (λ (x : List Bool). QuietAfter c.args.m.now c.args.unit.0 (BeginsBy (unit_text_at c.args.m.now c.args.unit.0) c.args.args.now) c.args.now.now c.args.state.now c.args.insts.now x c.args.insts.now) (sym c.new-seen.ensures)
+    subst (λ (x : List Bool). QuietAfter c.args.m.now c.args.unit.0 (BeginsBy (unit_text_at c.args.m.now c.args.unit.0) c.args.args.now) c.args.now.now c.args.state.now c.args.insts.now x c.args.insts.now) (sym c.in_ok-seen.ensures)
     (quiet-start c.args.m.now c.args.unit.0 (BeginsBy (unit_text_at c.args.m.now c.args.unit.0) c.args.args.now) c.args.now.now c.args.state.now c.args.insts.now (begins-plain (unit_text_at c.args.m.now c.args.unit.0) c.args.args.now) (firsts-of c.args.m.now c.args.unit.0 c.requires.arena c.requires.unit c.requires.entity c.requires.formed c.args.insts.now c.requires.insts))
 
 pub stays_quiet-requires-clause-inst : goal.stays_quiet-requires-clause-inst

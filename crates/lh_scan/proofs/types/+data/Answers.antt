@@ -1,10 +1,10 @@
-use Rattle.std.proofs.Common.{◌≡◌, ◌<◌, ◌-◌, ◌∷◌, Some, sym, ◌∙◌, ap, subst, length, rules}
+use Rattle.std.proofs.Common.{◌≡◌, ◌<◌, ◌-◌, [], ◌∷◌, Some, sym, ◌∙◌, ap, subst, length, rules}
 use Rattle.std.specs.Prelude.{IfOk}
 use Rattle.lh_unit.specs.Lexemes.{word, punct}
 use Rattle.lh_scan.specs.LexemeOf.{lexeme_of}
 use Rattle.lh_scan.specs.Types.{data_at, data_in}
 use Rattle.lh_scan.specs.Shorter.{data_at-shorter}
-use Rattle.lh_scan.proofs.Lists.{At, At-next, At-end}
+use Rattle.lh_scan.proofs.Lists.{At, At-start, At-next, At-end}
 use Rattle.lh_scan.proofs.DataTypes.{data_at-none, data_at-first, data_at-empty, data_in-other, next-shorter}
 use Rattle.lh_scan.proofs.types.+data.Goals as goal
 
@@ -49,3 +49,8 @@ fields-returns-in-None t c =
     let l : length c.in-Some.more < length c.loop-fields.rest = data_at-shorter c.args.deep c.loop-fields.rest (c.in-Some.field, c.in-Some.more) e in
     ap (λ xs. Some (xs, c.in-Some.more)) c.in_ok-push.ensures.ok
     ∙ sym (At-end (data_at c.args.deep) c.args.tokens.now c.loop-fields.rest c.in-Some.more c.loop-fields.fields c.in-Some.field c.loop-fields.invariant e l (sym c.in-None.ensures))
+
+pub fields-loop-fields-init : goal.fields-loop-fields-init
+fields-loop-fields-init t c =
+    subst (At (data_at c.args.deep) c.args.tokens.now c.copy-rest.result) (sym c.new-fields.ensures)
+    (subst (λ rest. At (data_at c.args.deep) c.args.tokens.now rest []) (sym c.copy-rest.ensures) (At-start (data_at c.args.deep) c.args.tokens.now))

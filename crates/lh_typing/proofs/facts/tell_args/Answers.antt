@@ -18,10 +18,11 @@ loop-arg-preserved c =
     record {
       marks = subst (λ l. M l (length c.args.facts.now)) t (subst (λ n. M (take c.loop-arg.arg-index c.args.args.now ++ x ∷ []) n) e (c.in_ok-tell_arg_at.ensures.marks (take c.loop-arg.arg-index c.args.args.now) m));
       knows = λ f lines k.
-          let K : List Arg → ℕ → Type 0 = λ l n. Knows n f l lines c.tell_arg_at.new.facts in
-          let old : Knows (length c.loop-arg.facts) f (take c.loop-arg.arg-index c.args.args.now) lines c.loop-arg.facts = subst (λ (n : ℕ). Knows n f (take c.loop-arg.arg-index c.args.args.now) lines c.loop-arg.facts) (sym e) (c.loop-arg.invariant.knows f lines k) in
+          let K : List Arg → ℕ → Type 0 = λ l n. Knows c.tell_arg_at.new.types n f l lines c.tell_arg_at.new.facts in
+          let old : Knows c.loop-arg.types (length c.loop-arg.facts) f (take c.loop-arg.arg-index c.args.args.now) lines c.loop-arg.facts = subst (λ (n : ℕ). Knows c.loop-arg.types n f (take c.loop-arg.arg-index c.args.args.now) lines c.loop-arg.facts) (sym e) (c.loop-arg.invariant.knows f lines k) in
           subst (λ l. K l (length c.args.facts.now)) t (subst (λ n. K (take c.loop-arg.arg-index c.args.args.now ++ x ∷ []) n) e (c.in_ok-tell_arg_at.ensures.facts f (take c.loop-arg.arg-index c.args.args.now) lines m old));
+      grows = λ n t g. c.in_ok-tell_arg_at.ensures.grows n t (c.loop-arg.invariant.grows n t g);
     }
 
-pub returns : goal.returns
-returns c = λ f lines k. subst (λ (l : List Arg). Knows (length c.args.facts.now) f l lines c.loop-arg.facts) (take-all c.args.args.now c.loop-arg.arg-index c.loop-arg-test.false) (c.loop-arg.invariant.knows f lines k)
+pub returns-clause-facts : goal.returns-clause-facts
+returns-clause-facts c = λ f lines k. subst (λ (l : List Arg). Knows c.loop-arg.types (length c.args.facts.now) f l lines c.loop-arg.facts) (take-all c.args.args.now c.loop-arg.arg-index c.loop-arg-test.false) (c.loop-arg.invariant.knows f lines k)

@@ -7,6 +7,7 @@ use Rattle.lh_unit.specs.WellFormed.{arguments_fit, assert_args}
 use Rattle.lh_typing.specs.Told.{text_in, naming_in}
 use Rattle.lh_verify.specs.Asks.{on_side}
 use Rattle.lh_verify.specs.declared.arguments.Side.TheVariants.{All}
+use Rattle.lh_verify.proofs.NumbersKept.{numbers-of}
 use Rattle.lh_verify.proofs.OtherUnits.{unit-within, unit-name, args-assert, differ-some, differ-none, params-in, no-params, all-on}
 use Rattle.lh_verify.proofs.arguments.call_fits.Goals as goal
 
@@ -15,6 +16,9 @@ unit_name-requires c = unit-within c.args.scope.now c.args.unit.0 c.requires.uni
 
 pub args-params-requires : goal.args-params-requires
 args-params-requires c = unit-within c.args.scope.now c.args.unit.0 c.requires.unit
+
+pub side_fits-requires-clause-numbers : goal.side_fits-requires-clause-numbers
+side_fits-requires-clause-numbers c = numbers-of c.args.scope.now.types.now _ (args_at c.args.scope.now.module.now c.args.unit.0) _ c.args-params.ensures.args c.params_of.ensures
 
 pub returns-then-is_assert : goal.returns-then-is_assert
 returns-then-is_assert c =

@@ -1,6 +1,6 @@
 use Rattle.std.proofs.Common.{true, ap, sym, ◌∙◌}
 use Rattle.std.specs.Option.{option_map_or, option_copied}
-use Rattle.lh_types.specs.Types.{same_type, void_type}
+use Rattle.lh_types.specs.Types.{same_type}
 use Rattle.lh_unit.specs.Named.{is_assert}
 use Rattle.lh_verify.proofs.OtherUnits.{unit-within, unit-name, result-of, choose-then, choose-else}
 use Rattle.lh_verify.proofs.arguments.call_result_fits.Goals as goal
@@ -12,7 +12,7 @@ pub result-requires : goal.result-requires
 result-requires c = unit-within c.args.scope.now c.args.unit.0 c.requires.unit
 
 pub returns-then-is_assert : goal.returns-then-is_assert
-returns-then-is_assert c = λ args. choose-then _ _ _ _ (ap is_assert (unit-name c.args.scope.now c.args.unit.0 ∙ sym c.unit_name.ensures.name) ∙ sym c.is_assert.ensures ∙ c.if-is_assert.true) (c.is_void.ensures ∙ ap (λ t. same_type t void_type) c.kind.ensures.shape)
+returns-then-is_assert c = λ args. choose-then _ _ _ _ (ap is_assert (unit-name c.args.scope.now c.args.unit.0 ∙ sym c.unit_name.ensures.name) ∙ sym c.is_assert.ensures ∙ c.if-is_assert.true) c.is_void.ensures
 
 pub returns-in-Some : goal.returns-in-Some
 returns-in-Some c = λ args. choose-else _ _ _ _ (ap is_assert (unit-name c.args.scope.now c.args.unit.0 ∙ sym c.unit_name.ensures.name) ∙ sym c.is_assert.ensures ∙ c.if-is_assert.false)

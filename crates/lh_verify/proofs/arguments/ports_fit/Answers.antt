@@ -4,6 +4,7 @@ use Rattle.lh_unit.specs.Naming.{operand_text, arg_text}
 use Rattle.lh_unit.specs.Arena.{naming, args_at}
 use Rattle.lh_unit.specs.WellFormed.{arguments_fit, inputs_of, outputs_of, assert_args}
 use Rattle.lh_typing.specs.Told.{text_in, naming_in}
+use Rattle.lh_verify.proofs.NumbersKept.{numbers-of}
 use Rattle.lh_verify.proofs.OtherUnits.{unit-within, unit-name, args-assert, differ-some, differ-none, params-in, no-params, both-first, both-second}
 use Rattle.lh_verify.proofs.arguments.ports_fit.Goals as goal
 
@@ -12,6 +13,12 @@ unit_name-requires c = unit-within c.args.scope.now c.args.unit.0 c.requires.uni
 
 pub args-params-requires : goal.args-params-requires
 args-params-requires c = unit-within c.args.scope.now c.args.unit.0 c.requires.unit
+
+pub side_fits-requires-clause-numbers : goal.side_fits-requires-clause-numbers
+side_fits-requires-clause-numbers c = numbers-of c.args.scope.now.types.now _ (args_at c.args.scope.now.module.now c.args.unit.0) _ c.args-params.ensures.args c.params_of-numbers.ensures
+
+pub side_fits-requires-2-clause-numbers : goal.side_fits-requires-2-clause-numbers
+side_fits-requires-2-clause-numbers c = numbers-of c.args.scope.now.types.now _ (args_at c.args.scope.now.module.now c.args.unit.0) _ c.args-params.ensures.args c.params_of-numbers.ensures
 
 pub returns-then-not-fits_assert : goal.returns-then-not-fits_assert
 returns-then-not-fits_assert c =

@@ -6,6 +6,8 @@ use Rattle.lh_typing.specs.Knowing.{Knows}
 use Rattle.lh_verify.specs.Marking.{IsProbed, Stands}
 use Rattle.lh_verify.specs.SpotsWithin.{SpotWithin}
 use Rattle.lh_typing.specs.Told.{items_in, text_in}
+use Rattle.lh_typing.specs.Numbers.{Grows}
+use Rattle.lh_verify.proofs.NumbersKept.{params-grow, ok-always}
 use Rattle.lh_verify.proofs.ScopeIs.{scope-is, length-spots, spots-within}
 use Rattle.lh_verify.proofs.unit.first_fault.Goals as goal
 
@@ -28,13 +30,17 @@ first_in-requires-clause-scope c =
     let a = c.args.m.now in
     let u = c.args.unit.0 in
     scope-is _ c.in_ok-list.ensures.sound c.requires.unit
-    (subst (λ (l : List Fact). Knows (value_count a u) (naming a u) (args_at a u) (table_at a u).lines l) (sym c.as_slice-2.ensures.value) c.in_ok-known.ensures)
+    (subst (λ (l : List Fact). Knows c.facts.new.types (value_count a u) (naming a u) (args_at a u) (table_at a u).lines l) (sym c.as_slice-2.ensures.value) c.in_ok-known.ensures.facts)
     (subst (IsProbed a u) (sym c.as_slice-3.ensures.value) c.in_ok-from_probe.ensures)
     (subst (Stands a u) (sym c.as_slice-4.ensures.value) c.in_ok-standing.ensures)
+    (params-grow c.args.types.now c.facts.new.types a c.args.params.now c.in_ok-known.ensures.grows c.requires.params)
 
 pub first_in-requires-clause-within : goal.first_in-requires-clause-within
 first_in-requires-clause-within c = subst (Each (SpotWithin (inst_count c.args.m.now c.args.unit.0))) (sym (c.as_slice-5.ensures ∙ c.in_ok-list.ensures.places)) (spots-within c.args.m.now c.args.unit.0 c.in_ok-list.ensures.sound c.requires.unit)
 
-pub returns : goal.returns
+pub returns-clause-found : goal.returns-clause-found
 unfolding items_in text_in
-returns c = c.first_in.ensures
+returns-clause-found c = c.first_in.ensures
+
+pub returns-clause-grows : goal.returns-clause-grows
+returns-clause-grows c = ok-always (Grows c.args.types.now c.facts.new.types) c.first_in.result c.in_ok-known.ensures.grows

@@ -7,4 +7,4 @@ use Rattle.lh_eval.proofs.held.Slots.new.Goals as goal
 pub returns : goal.returns
 returns c =
     let e : c.loop-i.i ≡ c.args.len = omega arith in
-    ap (map maybe_held) c.loop-i.invariant ∙ map-replicate maybe_held c.loop-i.i None ∙ ap (λ (n : ℕ). let none : Option Held = None in replicate n none) e
+    ap (map maybe_held) c.loop-i.invariant.items ∙ map-replicate maybe_held c.loop-i.i None ∙ ap (λ (n : ℕ). let none : Option Held = None in replicate n none) e

@@ -1,5 +1,9 @@
-use Rattle.std.proofs.Common.{◌≡◌, replicate, None}
+use Rattle.std.proofs.Common.{◌≡◌, ◌≤◌, replicate, None, vec_len, vec_capacity}
 use Rattle.lh_eval.proofs.held.Slots.new.Given as goal
 
 abbrev pub invariant-loop-i : goal.invariant-loop-i
-invariant-loop-i l = l.slots.items ≡ replicate l.i None
+invariant-loop-i l = record {
+  items : l.slots.items ≡ replicate l.i None;
+  count : vec_len l.slots ≡ l.i;
+  room : l.len ≤ vec_capacity l.slots;
+}

@@ -1,4 +1,6 @@
-use Rattle.std.proofs.Common.{sym}
+use Rattle.std.proofs.Common.{Ok, sym, ap, ◌∙◌}
+use Rattle.lh_read.specs.declared.places.Place.TheVariants.{Outside}
+use Rattle.lh_read.specs.InOrder.{state_at}
 use Rattle.lh_read.proofs.Adding.{close-misplaced, close-taken}
 use Rattle.lh_read.proofs.reader.Reader.take_close.Goals as goal
 
@@ -6,4 +8,4 @@ pub returns-then-not-may_close-clause-step : goal.returns-then-not-may_close-cla
 returns-then-not-may_close-clause-step c = close-misplaced c.args.self.now c.requires (sym c.if-not-may_close.ensures)
 
 pub returns-clause-step : goal.returns-clause-step
-returns-clause-step c = close-taken c.args.self.now c.requires (sym c.if-not-may_close.ensures)
+returns-clause-step c = close-taken c.args.self.now c.requires (sym c.if-not-may_close.ensures) ∙ ap (λ m. Ok (state_at m Outside)) (sym c.shrink.ensures)

@@ -1,0 +1,55 @@
+//! Noting and forgetting, by small tables.
+ghost use Rattle.std.specs.Prelude.{◌≡◌, length, IfOk};
+
+use lh_index::sensing::Index;
+use lh_index::wakes::Wakes;
+use lh_time::Instant;
+use lh_types::ty::NoMemory;
+use std::alloc::Global;
+use std::test::Fail;
+
+/// An instant of physical time.
+fn at(fs: u64) -> Instant {
+    Instant {
+        fs,
+        delta: 0,
+        eps: 0,
+    }
+}
+
+/// Signal 1 of two is sensed by these instances, noted in this order.
+fn noted(alloc: Global, instances: &[u32]) -> Result<Index, NoMemory>
+    ensures { IfOk result (λ x. length x ≡ 2) }
+{
+    let mut index = Index::new(alloc, 2)?;
+    for &instance in instances {
+        index.enter(1, instance)?;
+    }
+    Ok(index)
+}
+
+#[test]
+fn instances_rise(rt: HostRuntime) -> Result<(), Fail> {
+    let mut index = noted(rt.alloc(), &[7, 2, 9, 2])?;
+    assert!(rt; index.sensing(1) == [2, 7, 9].as_slice());
+    assert!(rt; index.sensing(0).is_empty());
+    assert!(rt; index.has(1, 7) && !index.has(1, 8) && !index.has(0, 7));
+    index.leave(1, 7);
+    index.leave(1, 8);
+    assert!(rt; index.sensing(1) == [2, 9].as_slice());
+    Ok(())
+}
+
+#[test]
+fn wakes_come_soonest_first(rt: HostRuntime) -> Result<(), Fail> {
+    let mut wakes = Wakes::new(rt.alloc());
+    assert_eq!(rt; wakes.soonest(), None);
+    wakes.enter(at(5), 3)?;
+    wakes.enter(at(4), 8)?;
+    wakes.enter(at(4), 1)?;
+    assert_eq!(rt; wakes.soonest(), Some(at(4)));
+    wakes.leave(at(4), 1);
+    wakes.leave(at(4), 8);
+    assert_eq!(rt; wakes.soonest(), Some(at(5)));
+    Ok(())
+}

@@ -1,0 +1,252 @@
+//! A queue through puts, looks and takes, and its buckets.
+ghost use Rattle.std.specs.Prelude.{◌≡◌, ◌≢◌, ◌⊎◌, ◌<◌, ℕ, length, get_or, true, IfOk};
+ghost use Rattle.lh_time.specs.Order.{instant_le};
+ghost use Rattle.lh_queue.specs.Held.{EachWithin, BitsWithin, NamesOnce, NoneDueBefore};
+ghost use Rattle.lh_ground_trials.specs.declared.tests.queue_order.Row.{Row};
+
+use lh_queue::queue::{Bucket, Queue};
+use lh_queue::wish::Wish;
+use lh_time::Instant;
+use lh_types::bits::Bits;
+use lh_types::ty::NoMemory;
+use lh_types::writes::BitWrites;
+use std::alloc::Global;
+use std::test::Fail;
+
+/// A wish that is put: by which instance, when it is due, and what one bit becomes then.
+#[derive(Clone, Copy)]
+struct Row {
+    instance: u32,
+    due: Instant,
+    bit: u32,
+    value: bool,
+}
+
+const START: Instant = Instant {
+    fs: 0,
+    delta: 0,
+    eps: 0,
+};
+
+fn instant(fs: u64, delta: u64) -> Instant {
+    Instant { fs, delta, eps: 0 }
+}
+
+fn row_of(instance: u32, due: Instant, bit: u32, value: bool) -> Row {
+    Row {
+        instance,
+        due,
+        bit,
+        value,
+    }
+}
+
+/// The wish of a row on one of 8 bits, made at the start.
+fn wish(alloc: Global, row: &Row) -> Result<Wish, NoMemory>
+    requires { row.now.bit < 8 }
+    ensures of { IfOk result (λ w. (w.due ≡ row.now.due) × (w.instance ≡ row.now.instance)) }
+    ensures within { IfOk result (λ w. BitsWithin 8 w.bits) }
+    ensures once { IfOk result (λ w. NamesOnce w.bits) }
+{
+    let mut bits = BitWrites::new(alloc);
+    bits.push((row.bit, row.value))?;
+    Ok(Wish {
+        made: START,
+        instance: row.instance,
+        due: row.due,
+        bits,
+    })
+}
+
+/// Whether a row differs from each before it in its due instant or its instance.
+fn is_new(rows: &[Row], k: usize) -> bool
+    requires { k < length rows.now }
+    ensures { result ≡ true → (j : ℕ) (r s : Row) → j < k → ((get_or rows.now k s).due ≢ (get_or rows.now j r).due) ⊎ ((get_or rows.now k s).instance ≢ (get_or rows.now j r).instance) }
+{
+    for j in 0..k {
+        if rows[j].due == rows[k].due && rows[j].instance == rows[k].instance {
+            return false;
+        }
+    }
+    true
+}
+
+/// A queue with the wishes of these rows, of which no two have one due instant and one instance.
+fn filled(alloc: Global, rows: &[Row]) -> Result<Queue, NoMemory>
+    ensures { IfOk result (λ queue. EachWithin 8 queue.held) }
+{
+    let mut queue = Queue::new(alloc);
+    for k in 0..rows.len() {
+        if rows[k].bit >= 8 || !is_new(rows, k) {
+            return Err(NoMemory);
+        }
+        let wish = wish(alloc, &rows[k])?;
+        queue.reserve(1)?;
+        queue.put(wish);
+    }
+    Ok(queue)
+}
+
+/// Whether an instant is no later than another one.
+fn is_upto(a: Instant, b: Instant) -> bool
+    ensures { result ≡ instant_le a b }
+{
+    a.cmp(&b).is_le()
+}
+
+/// Whether no held wish is due before an instant.
+fn starts_from(queue: &Queue, at: Instant) -> bool
+    ensures { result ≡ true → NoneDueBefore at queue.now.held }
+{
+    match queue.next_due() {
+        Some(due) => is_upto(at, due),
+        None => true,
+    }
+}
+
+/// Takes the wishes due at an instant, where none is due before it.
+fn take(queue: &mut Queue, at: Instant, now: &mut Bits)
+    requires { EachWithin 8 queue.old.held }
+    ensures { EachWithin 8 queue.new.held }
+{
+    if starts_from(queue, at) && now.len() == 8 {
+        queue.take_due(at, now);
+    }
+}
+
+/// Looks at the wishes due at an instant, where none is due before it.
+fn look(queue: &Queue, at: Instant, now: &mut Bits)
+    requires { EachWithin 8 queue.now.held }
+{
+    if starts_from(queue, at) && now.len() == 8 {
+        queue.look_due(at, now);
+    }
+}
+
+/// The key of the wish that follows one in its bucket.
+fn next(queue: &Queue, key: usize) -> Option<usize> {
+    if queue.wish(key).is_none() {
+        return None;
+    }
+    queue.next_key(key)
+}
+
+/// The due instant of the wish of a key.
+fn due(queue: &Queue, key: usize) -> Option<Instant> {
+    Some(queue.wish(key)?.due)
+}
+
+/// Three wishes, two of which are due at one physical time.
+fn three(alloc: Global) -> Result<Queue, NoMemory>
+    ensures { IfOk result (λ queue. EachWithin 8 queue.held) }
+{
+    let rows = [
+        row_of(0, instant(5, 0), 0, true),
+        row_of(0, instant(7, 0), 1, true),
+        row_of(0, instant(5, 1), 2, true),
+    ];
+    filled(alloc, &rows)
+}
+
+/// The first keys of the first two buckets.
+fn firsts(queue: &Queue) -> Option<(Bucket, Bucket)> {
+    match queue.buckets() {
+        [five, seven] => Some((*five, *seven)),
+        _ => None,
+    }
+}
+
+#[test]
+fn buckets_and_keys(rt: HostRuntime) -> Result<(), Fail> {
+    let mut queue = three(rt.alloc())?;
+    let (five, seven) = firsts(&queue).ok_or("two buckets")?;
+    assert_eq!(rt; (five.fs, seven.fs), (5, 7));
+    assert_eq!(rt; due(&queue, five.first), Some(instant(5, 0)));
+    let third = next(&queue, five.first).ok_or("a second wish at 5")?;
+    assert_eq!(rt; due(&queue, third), Some(instant(5, 1)));
+    assert_eq!(rt; next(&queue, third), None);
+    assert_eq!(rt; next(&queue, seven.first), None);
+    let mut now = Bits::zeros(rt.alloc(), 8)?;
+    take(&mut queue, instant(5, 0), &mut now);
+    let (later, last) = firsts(&queue).ok_or("two buckets")?;
+    assert_eq!(rt;
+        later,
+        Bucket {
+            fs: 5,
+            first: third
+        }
+    );
+    assert_eq!(rt; last, seven);
+    assert_eq!(rt; due(&queue, third), Some(instant(5, 1)));
+    assert_eq!(rt; due(&queue, five.first), None);
+    Ok(())
+}
+
+/// A queue of four wishes on the bits 0 and 1: two compete for bit 0 at one instant, and one for bit 1 comes an instant later.
+fn competing(alloc: Global) -> Result<Queue, NoMemory>
+    ensures { IfOk result (λ queue. EachWithin 8 queue.held) }
+{
+    let rows = [
+        row_of(7, instant(5, 0), 0, true),
+        row_of(2, instant(5, 0), 0, false),
+        row_of(3, instant(5, 0), 1, true),
+        row_of(3, instant(5, 1), 1, false),
+    ];
+    filled(alloc, &rows)
+}
+
+#[test]
+fn the_greatest_instance_decides(rt: HostRuntime) -> Result<(), Fail> {
+    let mut queue = competing(rt.alloc())?;
+    let mut now = Bits::zeros(rt.alloc(), 8)?;
+    let mut seen = Bits::zeros(rt.alloc(), 8)?;
+    assert_eq!(rt; queue.next_due(), Some(instant(5, 0)));
+    look(&queue, instant(5, 0), &mut seen);
+    take(&mut queue, instant(5, 0), &mut now);
+    assert_eq!(rt; (now.len(), seen.len()), (8, 8));
+    assert_eq!(rt; (now.get(0), now.get(1), now.get(2)), (true, true, false));
+    assert_eq!(rt;
+        (seen.get(0), seen.get(1), seen.get(2)),
+        (true, true, false)
+    );
+    assert_eq!(rt; queue.next_due(), Some(instant(5, 1)));
+    take(&mut queue, instant(5, 1), &mut now);
+    assert_eq!(rt; now.len(), 8);
+    assert_eq!(rt; (now.get(0), now.get(1)), (true, false));
+    assert_eq!(rt; queue.next_due(), None);
+    assert!(rt; queue.buckets().is_empty());
+    Ok(())
+}
+
+/// Thirty wishes at three times, put in an order of their own.
+fn many(alloc: Global) -> Result<Queue, NoMemory> {
+    let mut rows = Vec::new(alloc);
+    for k in 0..30u32 {
+        let due = instant((k * 7 % 3) as u64, (k * 11 % 5) as u64);
+        rows.push(row_of(k * 13 % 30, due, k % 8, k % 2 == 0))?;
+    }
+    filled(alloc, rows.as_slice())
+}
+
+#[test]
+fn wishes_come_in_order(rt: HostRuntime) -> Result<(), Fail> {
+    let queue = many(rt.alloc())?;
+    let mut count = 0u32;
+    for bucket in queue.buckets() {
+        let mut last: Option<(Instant, u32)> = None;
+        let mut key = Some(bucket.first);
+        for _ in 0..30 {
+            let Some(k) = key else { break };
+            let wish = queue.wish(k).ok_or("a wish of a bucket")?;
+            let here = (wish.due, wish.instance);
+            assert_eq!(rt; wish.due.fs, bucket.fs);
+            assert!(rt; last.is_none_or(|before| before < here));
+            last = Some(here);
+            key = next(&queue, k);
+            count = count.saturating_add(1);
+        }
+        assert_eq!(rt; key, None);
+    }
+    assert_eq!(rt; count, 30);
+    Ok(())
+}

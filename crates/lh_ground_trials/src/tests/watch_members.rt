@@ -1,0 +1,213 @@
+ghost use Rattle.std.specs.Prelude.{◌∷◌, []};
+ghost use Rattle.lh_watch.specs.Members.{member};
+ghost use Rattle.lh_watch.specs.Scripted.{scripted};
+
+use lh_time::Instant;
+use lh_types::frame::{Change, ChangeList, Frame, Outcome, OutcomeList};
+use lh_types::list::{ByteList, TextList};
+use lh_types::text::put_number;
+use lh_types::ty::NoMemory;
+use lh_types::val::Val;
+use lh_watch::builtin::{Asserts, Toggles, UntilFail};
+use lh_watch::shows::{keep_titles, show};
+use lh_watch::watcher::{Next, Watcher};
+use std::alloc::Global;
+use std::test::Fail;
+
+/// A kind of watcher that only the tests have: it counts the frames that it has seen, and says its word at
+/// one of them. It may find no memory there instead.
+#[derive(Drop)]
+struct Scripted {
+    name: u8,
+    turn: u64,
+    word: Next,
+    finds_memory: bool,
+    seen: u64,
+}
+
+impl Watcher for Scripted {
+    ghost member = { λ w. member (scripted w.name w.turn w.word) (w.seen ∷ []) };
+
+    fn title(&self) -> &str {
+        "scripted"
+    }
+
+    fn frame(
+        &mut self,
+        _at: Instant,
+        _changes: &[Change],
+        _outcomes: &[Outcome],
+    ) -> Result<Next, NoMemory> {
+        let seen = self.seen.saturating_add(1);
+        if seen != self.turn {
+            self.seen = seen;
+            return Ok(Next::Go);
+        }
+        if !self.finds_memory {
+            return Err(NoMemory);
+        }
+        self.seen = seen;
+        Ok(self.word)
+    }
+
+    fn report(&self, to: &mut Vec<u8>) -> Result<(), NoMemory> {
+        if to.push(self.name).is_err() {
+            return Err(NoMemory);
+        }
+        put_number(to, self.seen)
+    }
+}
+
+fn member_saying(name: u8, turn: u64, word: Next) -> Scripted {
+    Scripted {
+        name,
+        turn,
+        word,
+        finds_memory: true,
+        seen: 0,
+    }
+}
+
+fn frame(alloc: Global, passed: &[bool]) -> Result<Frame, NoMemory> {
+    let mut changes = ChangeList::new(alloc);
+    changes.push(Change {
+        signal: 1,
+        toggled: 3,
+        value: Val::Int { width: 8, bits: 7 },
+    })?;
+    let mut outcomes = OutcomeList::new(alloc);
+    for passed in passed {
+        outcomes.push(Outcome {
+            instance: 2,
+            passed: *passed,
+        })?;
+    }
+    Ok(Frame {
+        at: Instant {
+            fs: 5,
+            delta: 0,
+            eps: 0,
+        },
+        changes,
+        outcomes,
+    })
+}
+
+/// The members A, B and C: the last two say their words at their turns.
+fn three(alloc: Global, b: Scripted, c: Scripted) -> Result<Vec<Box<dyn Watcher>>, Fail> {
+    let mut ws: Vec<Box<dyn Watcher>> = Vec::new(alloc);
+    ws.push(Box::new(alloc, member_saying(b'A', 9, Next::Go))?)?;
+    ws.push(Box::new(alloc, b)?)?;
+    ws.push(Box::new(alloc, c)?)?;
+    Ok(ws)
+}
+
+/// What the members report, one after the other.
+fn told(alloc: Global, ws: &Vec<Box<dyn Watcher>>) -> Result<Vec<u8>, Fail> {
+    let mut to = Vec::new(alloc);
+    for w in ws {
+        w.report(&mut to)?;
+    }
+    Ok(to)
+}
+
+#[test]
+fn the_second_says_stop(rt: HostRuntime) -> Result<(), Fail> {
+    let f = frame(rt.alloc(), &[])?;
+    let mut ws = three(
+        rt.alloc(),
+        member_saying(b'B', 1, Next::Stop),
+        member_saying(b'C', 1, Next::Stop),
+    )?;
+    let mut reports = Vec::new(rt.alloc());
+    assert_eq!(rt; show(&mut ws, &f, &mut reports)?, Some(1));
+    assert!(rt; reports.is_empty());
+    assert_eq!(rt; told(rt.alloc(), &ws)?.as_slice(), b"A1B1C1".as_slice());
+    Ok(())
+}
+
+#[test]
+fn the_second_is_done_and_the_third_says_stop(rt: HostRuntime) -> Result<(), Fail> {
+    let f = frame(rt.alloc(), &[])?;
+    let mut ws = three(
+        rt.alloc(),
+        member_saying(b'B', 1, Next::Done),
+        member_saying(b'C', 1, Next::Stop),
+    )?;
+    let mut reports = Vec::new(rt.alloc());
+    assert_eq!(rt; show(&mut ws, &f, &mut reports)?, Some(1));
+    assert_eq!(rt; reports.as_slice(), b"B1".as_slice());
+    assert_eq!(rt; told(rt.alloc(), &ws)?.as_slice(), b"A1C1".as_slice());
+    Ok(())
+}
+
+#[test]
+fn the_second_is_done_at_the_second_frame(rt: HostRuntime) -> Result<(), Fail> {
+    let f = frame(rt.alloc(), &[])?;
+    let mut ws = three(
+        rt.alloc(),
+        member_saying(b'B', 2, Next::Done),
+        member_saying(b'C', 9, Next::Go),
+    )?;
+    let mut reports = Vec::new(rt.alloc());
+    assert_eq!(rt; show(&mut ws, &f, &mut reports)?, None);
+    assert_eq!(rt; ws.len(), 3);
+    assert_eq!(rt; show(&mut ws, &f, &mut reports)?, None);
+    assert_eq!(rt; reports.as_slice(), b"B2".as_slice());
+    assert_eq!(rt; told(rt.alloc(), &ws)?.as_slice(), b"A2C2".as_slice());
+    Ok(())
+}
+
+#[test]
+fn the_second_finds_no_memory(rt: HostRuntime) -> Result<(), Fail> {
+    let f = frame(rt.alloc(), &[])?;
+    let starved = Scripted {
+        name: b'B',
+        turn: 2,
+        word: Next::Go,
+        finds_memory: false,
+        seen: 0,
+    };
+    let mut ws = three(rt.alloc(), starved, member_saying(b'C', 9, Next::Go))?;
+    let mut reports = Vec::new(rt.alloc());
+    assert_eq!(rt; show(&mut ws, &f, &mut reports)?, None);
+    assert!(rt; show(&mut ws, &f, &mut reports).is_err());
+    assert_eq!(rt; told(rt.alloc(), &ws)?.as_slice(), b"A2B1C1".as_slice());
+    Ok(())
+}
+
+/// One of each that comes with the program.
+fn builtin(alloc: Global) -> Result<Vec<Box<dyn Watcher>>, Fail> {
+    let mut ws: Vec<Box<dyn Watcher>> = Vec::new(alloc);
+    ws.push(Box::new(alloc, Toggles::new())?)?;
+    ws.push(Box::new(alloc, Asserts::new())?)?;
+    ws.push(Box::new(alloc, UntilFail::new())?)?;
+    Ok(ws)
+}
+
+#[test]
+fn the_reports_of_those_of_the_program(rt: HostRuntime) -> Result<(), Fail> {
+    let mut ws = builtin(rt.alloc())?;
+    let mut reports = Vec::new(rt.alloc());
+    let passes = frame(rt.alloc(), &[true, true])?;
+    assert_eq!(rt; show(&mut ws, &passes, &mut reports)?, None);
+    let fails = frame(rt.alloc(), &[true, false])?;
+    assert_eq!(rt; show(&mut ws, &fails, &mut reports)?, Some(2));
+    assert!(rt; reports.is_empty());
+    let text = b"toggles 6\nasserts 3 ok 1 failed\nuntilfail 1\n";
+    assert_eq!(rt; told(rt.alloc(), &ws)?.as_slice(), text.as_slice());
+    Ok(())
+}
+
+#[test]
+fn those_whose_titles_are_asked_for(rt: HostRuntime) -> Result<(), Fail> {
+    let mut ws = builtin(rt.alloc())?;
+    let mut titles = TextList::new(rt.alloc());
+    titles.push(ByteList::from_vec(b"untilfail".to_vec(rt.alloc())?))?;
+    titles.push(ByteList::from_vec(b"toggle".to_vec(rt.alloc())?))?;
+    titles.push(ByteList::from_vec(b"asserts".to_vec(rt.alloc())?))?;
+    keep_titles(&mut ws, &titles);
+    let text = b"asserts 0 ok 0 failed\nuntilfail 0\n";
+    assert_eq!(rt; told(rt.alloc(), &ws)?.as_slice(), text.as_slice());
+    Ok(())
+}

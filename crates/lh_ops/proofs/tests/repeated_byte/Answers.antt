@@ -1,6 +1,0 @@
-use Rattle.std.proofs.Common.{arith}
-use Rattle.lh_ops.proofs.TestLemmas.{repeat_fits}
-use Rattle.lh_ops.proofs.tests.repeated_byte.Goals as goal
-
-pub gives-requires : goal.gives-requires
-gives-requires c = rw c.byte.ensures (repeat_fits 5 5 5 (omega arith) (omega arith) (omega arith))

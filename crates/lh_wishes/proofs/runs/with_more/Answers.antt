@@ -1,0 +1,9 @@
+use Rattle.std.proofs.Common.{ap, sym, ◌∙◌}
+use Rattle.lh_types.specs.Wish.{with_bits}
+use Rattle.lh_wishes.specs.Runs.{runs_wish, runs_in}
+use Rattle.lh_wishes.specs.declared.runs.RunList.{RunList}
+use Rattle.lh_wishes.proofs.RunLemmas.{first-wish}
+use Rattle.lh_wishes.proofs.runs.with_more.Goals as goal
+
+pub returns-in-Empty-clause-wish : goal.returns-in-Empty-clause-wish
+returns-in-Empty-clause-wish c = first-wish c.args.run ∙ ap (λ (x : RunList). with_bits (runs_wish (runs_in x)) c.args.run.due c.args.run.lo c.args.run.bits) (sym c.in-Empty.is)
