@@ -14,6 +14,7 @@ use Rattle.lh_unit.specs.World.{waited, wake_at}
 use Rattle.lh_unit.specs.Arena.{Arena, IsArena, contents, unit_count, kind_at, unit_text_at}
 use Rattle.lh_unit.specs.Naming.{kind_text}
 use Rattle.lh_unit.specs.WellFormed.{in_entity, IsWellFormed}
+use Rattle.lh_formed.proofs.There.{first-name}
 use Rattle.lh_eval.specs.Fitting.{FitsHeld, Fits}
 use Rattle.lh_sound.specs.Ranges.{RangesFit, arg_types}
 use Rattle.lh_sound.proofs.FindingPass as passes
@@ -25,7 +26,7 @@ use Rattle.lh_exec.proofs.Rights.{unit-right, functions-right}
 use Rattle.lh_exec.proofs.Placed.{UnitSteady, FunctionsSteady, PlacesIn, places-of-items, unit-steady, functions-steady}
 use Rattle.lh_exec.proofs.KeepsFit.{Placed, entered-fits, entry-fits}
 use Rattle.lh_exec.proofs.Paths.{ControlHolds, entry-holds, line-in, edge-holds}
-use Rattle.lh_exec.proofs.Steady.{PointHolds, first-name}
+use Rattle.lh_exec.proofs.Steady.{PointHolds}
 use Rattle.lh_exec.proofs.Reached.{reached, run-holds}
 use Rattle.lh_exec.proofs.Begins.{process-blocks, activation-is}
 use Rattle.lh_flat.specs.Flat.{FlatText, flat_unit}

@@ -1,4 +1,5 @@
 pub mod Trees
+pub mod Leaves
 pub mod Known
 pub mod Rows
 pub mod Regions

@@ -5,6 +5,7 @@ use Rattle.lh_types.specs.Types.{IsData}
 use Rattle.lh_unit.specs.declared.name.UnitName.{UnitName}
 use Rattle.lh_unit.specs.Contents.{UnitText}
 use Rattle.lh_unit.specs.Within.{Each}
+use Rattle.lh_unit.proofs.Within.{Each-more}
 use Rattle.lh_inlined.specs.Formed.{IsFormed}
 use Rattle.lh_flat.specs.Flat.{FlatBlockText, FlatText, flat_unit}
 use Rattle.lh_term.specs.Tree.{Tree, past_of, now_of}
@@ -16,7 +17,6 @@ use Rattle.lh_rows.specs.Regions.{begins_with_phi, lines_at, head_of, edge_into,
 use Rattle.lh_rows.specs.Typed.{IsOfType, JoinEdge}
 use Rattle.lh_rows.specs.Laws.{DriveTyped, EndTyped}
 use Rattle.lh_rows.specs.Right.{as_block, BlockAt, JoinsAt, WayRight}
-use Rattle.lh_rows.proofs.Among.{each-more}
 use Rattle.lh_rows.proofs.Steps.{RegionOf}
 use Rattle.lh_rows.proofs.Activations as Activations
 use Rattle.lh_rows.proofs.Courses as Courses
@@ -97,8 +97,8 @@ module _ (name : UnitName) (t : FlatText) (f : IsFormed (flat_unit name t)) wher
 
       pub second-typed : Each DriveTyped second.rows.drives × Each (EndTyped u) second.rows.ends
       second-typed = (
-        each-more (Courses.DriveFine u second_of second-region-of) DriveTyped second.rows.drives (λ d k. record { cond = k.cond; part = k.part; value = k.value; delay = k.delay }) second-right.drives,
-        each-more (Courses.EndFine u second_of second-region-of) (EndTyped u) second.rows.ends (λ x k. record { cond = k.cond; known = k.known }) second-right.ends,
+        Each-more (Courses.DriveFine u second_of second-region-of) DriveTyped second.rows.drives (λ d k. record { cond = k.cond; part = k.part; value = k.value; delay = k.delay }) second-right.drives,
+        Each-more (Courses.EndFine u second_of second-region-of) (EndTyped u) second.rows.ends (λ x k. record { cond = k.cond; known = k.known }) second-right.ends,
       )
 
 pub second-rows-typed : SecondRowsAreTyped

@@ -8,7 +8,8 @@ use Rattle.lh_unit.specs.Naming.{Naming}
 use Rattle.lh_unit.specs.declared.name.UnitName.{UnitName}
 use Rattle.lh_unit.specs.Reads.{args_repeat}
 use Rattle.lh_unit.specs.Within.{Each}
-use Rattle.lh_spelled.specs.Printable.{results_repeat, all_lines}
+use Rattle.lh_unit.specs.Hierarchy.{lines_of}
+use Rattle.lh_spelled.specs.Printable.{results_repeat}
 use Rattle.lh_term.specs.Arena.{Grows}
 use Rattle.lh_term.specs.declared.part.Part.{Part}
 use Rattle.lh_term.specs.declared.term.Node.{Node}
@@ -73,7 +74,7 @@ module _ (u : UnitText) (f : Naming) (o : Origin) (flat : IsFlatOf u f o) where
         let c = is.room.few in
         record { few = subst (λ (n : ℕ). n < 2 ^ 32) (a ∙ sym b) c; once = flat.once }
 
-    pub is-body : (b : Body) → b.names ≡ y.lines.names → b.lines ≡ y.lines.lines → results_repeat u.args [] (all_lines (entity_with u e.lines).blocks) ≡ false → IsBody u.args b e.lines
+    pub is-body : (b : Body) → b.names ≡ y.lines.names → b.lines ≡ y.lines.lines → results_repeat u.args [] (lines_of (entity_with u e.lines).blocks) ≡ false → IsBody u.args b e.lines
     is-body b bn bl new =
         let same = flat.arguments in
         let results : results_repeat u.args [] e.lines ≡ false = ap (results_repeat u.args []) (sym (append-nil e.lines)) ∙ new in

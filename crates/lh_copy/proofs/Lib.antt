@@ -1,6 +1,6 @@
 mod Opened
 mod Naming
-mod Rests
+pub mod Rests
 mod Once
 mod Texts
 pub mod Copies

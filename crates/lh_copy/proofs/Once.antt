@@ -6,12 +6,13 @@ use Rattle.lh_unit.specs.Contents.{UnitText, BlockText, LineText, ArgText, new_u
 use Rattle.lh_unit.specs.Builders.{HasLabels, defines_result}
 use Rattle.lh_unit.specs.Reads.{args_repeat}
 use Rattle.lh_unit.specs.Within.{Each}
+use Rattle.lh_unit.specs.Hierarchy.{lines_of}
 use Rattle.lh_unit.specs.declared.name.UnitName.{UnitName}
 use Rattle.lh_unit.specs.declared.inst.UnitKind.{UnitKind}
 use Rattle.lh_unit.specs.declared.inst.UnitKind.TheVariants as kind
 use Rattle.lh_unit.proofs.ModuleLaws.{length-line_at_end}
-use Rattle.lh_spelled.specs.Printable.{all_lines, result_repeats, results_repeat, label_repeats, labels_repeat}
-use Rattle.lh_spelled.proofs.Printing.{blocks_define-lines, all_lines-last, line_count-last}
+use Rattle.lh_spelled.specs.Printable.{result_repeats, results_repeat, label_repeats, labels_repeat}
+use Rattle.lh_spelled.proofs.Printing.{blocks_define-lines, lines_of-last, line_count-last, results-split}
 use Rattle.lh_copy.specs.Changing.{with_args, with_lines, with_blocks, with_type}
 use Rattle.lh_copy.specs.Fitting.{ArgsFit, LinesFit, LabelFits, BlocksFit}
 use Rattle.lh_copy.specs.Kept.{TypeFits}
@@ -44,29 +45,29 @@ new-args n k xs e = args-fit (new_unit n k) xs (no-blocks n k) (ap (λ seen. arg
 
 -- ---- instructions
 
-all_lines-end : (l : LineText) (bs : List BlockText) → 0 < length bs → all_lines (line_at_end l bs) ≡ all_lines bs ++ l ∷ []
-all_lines-end l [] h = absurd (omega arith)
-all_lines-end l (b ∷ []) h = append-nil (b.lines ++ l ∷ []) ∙ ap (λ q. q ++ l ∷ []) (sym (append-nil b.lines))
-all_lines-end l (b ∷ c ∷ bs) h = ap (λ q. b.lines ++ q) (all_lines-end l (c ∷ bs) (omega arith)) ∙ sym (append_assoc b.lines (all_lines (c ∷ bs)) (l ∷ []))
+lines_of-end : (l : LineText) (bs : List BlockText) → 0 < length bs → lines_of (line_at_end l bs) ≡ lines_of bs ++ l ∷ []
+lines_of-end l [] h = absurd (omega arith)
+lines_of-end l (b ∷ []) h = append-nil (b.lines ++ l ∷ []) ∙ ap (λ q. q ++ l ∷ []) (sym (append-nil b.lines))
+lines_of-end l (b ∷ c ∷ bs) h = ap (λ q. b.lines ++ q) (lines_of-end l (c ∷ bs) (omega arith)) ∙ sym (append_assoc b.lines (lines_of (c ∷ bs)) (l ∷ []))
 
 line_count-end : (l : LineText) (bs : List BlockText) → 0 < length bs → line_count (line_at_end l bs) ≡ line_count bs + 1
 line_count-end l [] h = absurd (omega arith)
 line_count-end l (b ∷ []) h = omega (arith, length-append b.lines (l ∷ []))
 line_count-end l (b ∷ c ∷ bs) h = let e : line_count (line_at_end l (c ∷ bs)) ≡ line_count (c ∷ bs) + 1 = line_count-end l (c ∷ bs) (omega arith) in omega (arith, e)
 
-new-result : (t : UnitText) (r : Option (List ℕ)) → result_repeats t.args (all_lines t.blocks) r ≡ false → defines_result r t ≡ false
+new-result : (t : UnitText) (r : Option (List ℕ)) → result_repeats t.args (lines_of t.blocks) r ≡ false → defines_result r t ≡ false
 new-result t None h = refl
 new-result t (Some n) h = ap (λ q. args_define n t.args || q) (blocks_define-lines n t.blocks) ∙ h
 
-lines-fit : (t : UnitText) (ls : List LineText) → 0 < length t.blocks → results_repeat t.args (all_lines t.blocks) ls ≡ false → line_count t.blocks + length ls ≤ 65536 → LinesFit t ls
+lines-fit : (t : UnitText) (ls : List LineText) → 0 < length t.blocks → results_repeat t.args (lines_of t.blocks) ls ≡ false → line_count t.blocks + length ls ≤ 65536 → LinesFit t ls
 lines-fit t [] b e f = tt
 lines-fit t (l ∷ ls) b e f =
-    let p = or_parts (result_repeats t.args (all_lines t.blocks) l.result) (results_repeat t.args (all_lines t.blocks ++ l ∷ []) ls) e in
+    let p = or_parts (result_repeats t.args (lines_of t.blocks) l.result) (results_repeat t.args (lines_of t.blocks ++ l ∷ []) ls) e in
     let n : 0 < length (line_at_end l t.blocks) = omega (arith, b, length-line_at_end l t.blocks) in
     let c : line_count (line_at_end l t.blocks) ≡ line_count t.blocks + 1 = line_count-end l t.blocks b in (
       b,
       record { small = omega (arith, f); undefined = new-result t l.result p.0 },
-      lines-fit (with_line l t) ls n (subst (λ q. results_repeat t.args q ls ≡ false) (sym (all_lines-end l t.blocks b)) p.1) (omega (arith, c, f)),
+      lines-fit (with_line l t) ls n (subst (λ q. results_repeat t.args q ls ≡ false) (sym (lines_of-end l t.blocks b)) p.1) (omega (arith, c, f)),
     )
 
 -- lines at the end of blocks
@@ -87,14 +88,6 @@ ends-push : (ls : List LineText) (bs : List BlockText) (b : BlockText) → ends 
 ends-push [] bs b = sym (λ i. bs ++ record b { lines = append-nil b.lines i } ∷ [])
 ends-push (l ∷ ls) bs b =
     ap (ends ls) (line_at_end-push l bs b) ∙ ends-push ls bs (record b { lines = b.lines ++ l ∷ [] }) ∙ (λ i. bs ++ record b { lines = append_assoc b.lines (l ∷ []) ls i } ∷ [])
-
-results-split : (args : List ArgText) (seen xs ys : List LineText) → results_repeat args seen (xs ++ ys) ≡ false → (results_repeat args seen xs ≡ false) × (results_repeat args (seen ++ xs) ys ≡ false)
-results-split args seen [] ys h = (refl, subst (λ q. results_repeat args q ys ≡ false) (sym (append-nil seen)) h)
-results-split args seen (x ∷ xs) ys h =
-    let p = or_parts (result_repeats args seen x.result) (results_repeat args (seen ++ x ∷ []) (xs ++ ys)) h in
-    let e : result_repeats args seen x.result ≡ false = p.0 in
-    let q = results-split args (seen ++ x ∷ []) xs ys p.1 in
-    (rw e q.0, subst (λ z. results_repeat args z ys ≡ false) (append_assoc seen (x ∷ []) xs) q.1)
 
 -- ---- blocks
 
@@ -117,11 +110,11 @@ block-added : (t : UnitText) (n : List ℕ) (ls : List LineText) → with_lines 
 unfolding block
 block-added t n ls = with_lines-is ls (with_block n t) ∙ (λ i. record t { blocks = ends-push ls t.blocks (record { label = Some n; lines = [] }) i })
 
-block-fits : (t : UnitText) (n : List ℕ) (ls : List LineText) → results_repeat t.args (all_lines t.blocks) ls ≡ false → line_count t.blocks + length ls ≤ 65536 → LinesFit (with_block n t) ls
+block-fits : (t : UnitText) (n : List ℕ) (ls : List LineText) → results_repeat t.args (lines_of t.blocks) ls ≡ false → line_count t.blocks + length ls ≤ 65536 → LinesFit (with_block n t) ls
 block-fits t n ls r f =
     let e : BlockText = record { label = Some n; lines = [] } in
     let b : 0 < length (t.blocks ++ e ∷ []) = omega (arith, length-append t.blocks (e ∷ [])) in
-    let a : all_lines (t.blocks ++ e ∷ []) ≡ all_lines t.blocks = all_lines-last t.blocks e ∙ append-nil (all_lines t.blocks) in
+    let a : lines_of (t.blocks ++ e ∷ []) ≡ lines_of t.blocks = lines_of-last t.blocks e ∙ append-nil (lines_of t.blocks) in
     let c : line_count (t.blocks ++ e ∷ []) ≡ line_count t.blocks + 0 = line_count-last t.blocks e in
     lines-fit (with_block n t) ls b (subst (λ q. results_repeat t.args q ls ≡ false) (sym a) r) (omega (arith, c, f))
 
@@ -129,7 +122,7 @@ abbrev pub Labelled : BlockText → Type 0
 Labelled b = (n : List ℕ) × (b.label ≡ Some n)
 
 -- One block and then more of them. The names of blocks are apart from their lines, so that the block is `block n ls`.
-ends-next : (t : UnitText) (n : List ℕ) (ls : List LineText) (more : List BlockText) → LabelFits t (Some n) → results_repeat t.args (all_lines t.blocks) ls ≡ false → line_count t.blocks + length ls ≤ 65536
+ends-next : (t : UnitText) (n : List ℕ) (ls : List LineText) (more : List BlockText) → LabelFits t (Some n) → results_repeat t.args (lines_of t.blocks) ls ≡ false → line_count t.blocks + length ls ≤ 65536
     → Ends (record t { blocks = t.blocks ++ block n ls ∷ [] }) more → Ends t (block n ls ∷ more)
 unfolding block
 ends-next t n ls more l r f e =
@@ -139,18 +132,18 @@ ends-next t n ls more l r f e =
       gives = ap (with_blocks more) a ∙ e.gives ∙ (λ i. record t { blocks = append_assoc t.blocks (block n ls ∷ []) more i });
     }
 
-blocks-end : (t : UnitText) (bs : List BlockText) → HasLabels t.kind → Each Labelled bs → labels_repeat t.blocks bs ≡ false → results_repeat t.args (all_lines t.blocks) (all_lines bs) ≡ false → line_count t.blocks + line_count bs ≤ 65536 → Ends t bs
+blocks-end : (t : UnitText) (bs : List BlockText) → HasLabels t.kind → Each Labelled bs → labels_repeat t.blocks bs ≡ false → results_repeat t.args (lines_of t.blocks) (lines_of bs) ≡ false → line_count t.blocks + line_count bs ≤ 65536 → Ends t bs
 unfolding block
 blocks-end t [] k w l r f = record { fit = tt; gives = sym (λ i. record t { blocks = append-nil t.blocks i }) }
 blocks-end t (b ∷ more) k w l r f =
     let n = w.0.0 in
     let same : b ≡ block n b.lines = λ i. record { label = w.0.1 i; lines = b.lines } in
     let p = label-fits t n b more w.0.1 k l in
-    let q = results-split t.args (all_lines t.blocks) b.lines (all_lines more) r in
+    let q = results-split t.args (lines_of t.blocks) b.lines (lines_of more) r in
     let now : List BlockText = t.blocks ++ block n b.lines ∷ [] in
-    let a : all_lines now ≡ all_lines t.blocks ++ b.lines = all_lines-last t.blocks (block n b.lines) in
+    let a : lines_of now ≡ lines_of t.blocks ++ b.lines = lines_of-last t.blocks (block n b.lines) in
     let c : line_count now ≡ line_count t.blocks + length b.lines = line_count-last t.blocks (block n b.lines) in
-    let rest = blocks-end (record t { blocks = now }) more k w.1 (subst (λ x. labels_repeat (t.blocks ++ x ∷ []) more ≡ false) same p.1) (subst (λ x. results_repeat t.args x (all_lines more) ≡ false) (sym a) q.1) (omega (arith, c, f)) in
+    let rest = blocks-end (record t { blocks = now }) more k w.1 (subst (λ x. labels_repeat (t.blocks ++ x ∷ []) more ≡ false) same p.1) (subst (λ x. results_repeat t.args x (lines_of more) ≡ false) (sym a) q.1) (omega (arith, c, f)) in
     subst (λ x. Ends t (x ∷ more)) (sym same) (ends-next t n b.lines more p.0 q.0 (omega (arith, f)) rest)
 
 -- ---- a whole unit
@@ -225,6 +218,6 @@ whole-by kind.Func t e w o = labelled-whole t (subst HasLabels (sym e) tt) (ap (
 whole-by kind.Proc t e w o = labelled-whole t (subst HasLabels (sym e) tt) (ap (λ k. (new_unit t.name k).blocks) e) w o
 whole-by kind.Entity t e w o =
     let b = w.0 in
-    let ls : all_lines t.blocks ≡ b.lines = ap all_lines w.1 ∙ append-nil b.lines in
+    let ls : lines_of t.blocks ≡ b.lines = ap lines_of w.1 ∙ append-nil b.lines in
     let n : line_count t.blocks ≡ length b.lines + 0 = ap line_count w.1 in
     entity-by t b e w.1 w.2 (ap (results_repeat t.args []) (sym ls) ∙ o.results) (omega (arith, n, o.few))

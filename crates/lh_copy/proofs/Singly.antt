@@ -7,6 +7,7 @@ use Rattle.lh_unit.specs.Reads.{args_repeat}
 use Rattle.lh_unit.specs.Table.{Table, IsTable, IsDefinition, FitsKind, HasBlocks, ArgsWithin, ResultWithin, ResultsWithin, BlocksWithin, entity_block, flat, is_arg, is_made, is_result, is_block, no_line}
 use Rattle.lh_unit.specs.Naming.{arg_text, line_text, maybe_text, label_text, block_text}
 use Rattle.lh_unit.specs.Arena.{Arena, IsArena, naming, table_at, kind_at, args_at, blocks_at, unit_text_at, unit_count, value_count, label_count, unit_name_at, label_name_at, value_name_at}
+use Rattle.lh_unit.specs.Hierarchy.{lines_of}
 use Rattle.lh_unit.specs.declared.inst.UnitKind.{UnitKind}
 use Rattle.lh_unit.specs.declared.inst.UnitKind.TheVariants as kind
 use Rattle.lh_unit.specs.declared.inst.Arg.{Arg}
@@ -18,7 +19,7 @@ use Rattle.lh_unit.specs.declared.table.Line.{Line}
 use Rattle.lh_unit.proofs.Lists.{nat_eq-is, not_true}
 use Rattle.lh_unit.proofs.Defined.{arg-ids, line-ids, flat_lines, line_count-ids, label_text-named, blocks-within}
 use Rattle.lh_unit.proofs.ById.{args_define-by_id, same_label-by_id}
-use Rattle.lh_spelled.specs.Printable.{all_lines, result_repeats, results_repeat, label_repeats, labels_repeat}
+use Rattle.lh_spelled.specs.Printable.{result_repeats, results_repeat, label_repeats, labels_repeat}
 use Rattle.lh_copy.specs.Copying.{IsOnce}
 
 -- ---- lists
@@ -145,9 +146,9 @@ module _ (t : Table) (o : IsTable t) where
 
 -- ---- a unit
 
-all_lines-flat : (bs : List BlockText) → all_lines bs ≡ flat (map (λ (b : BlockText). b.lines) bs)
-all_lines-flat [] = refl
-all_lines-flat (b ∷ bs) = ap (λ q. b.lines ++ q) (all_lines-flat bs)
+lines_of-flat : (bs : List BlockText) → lines_of bs ≡ flat (map (λ (b : BlockText). b.lines) bs)
+lines_of-flat [] = refl
+lines_of-flat (b ∷ bs) = ap (λ q. b.lines ++ q) (lines_of-flat bs)
 
 module _ (a : Arena) (u : ℕ) (o : IsArena a) (h : u < unit_count a) where
   args-once : (seen rest : List Arg) → args_at a u ≡ seen ++ rest → args_repeat (map (arg_text (naming a u)) seen) (map (arg_text (naming a u)) rest) ≡ false
@@ -204,7 +205,7 @@ module _ (a : Arena) (u : ℕ) (o : IsArena a) (h : u < unit_count a) where
 
   pub is-once : IsOnce (unit_text_at a u)
   is-once =
-      let ls : all_lines (unit_text_at a u).blocks ≡ map (line_text (naming a u)) (table_at a u).lines = all_lines-flat (unit_text_at a u).blocks ∙ flat_lines (naming a u) (table_at a u) (o.tables u h) in
+      let ls : lines_of (unit_text_at a u).blocks ≡ map (line_text (naming a u)) (table_at a u).lines = lines_of-flat (unit_text_at a u).blocks ∙ flat_lines (naming a u) (table_at a u) (o.tables u h) in
       let n : line_count (unit_text_at a u).blocks ≡ length (table_at a u).lines = line_count-ids (naming a u) (unit_name_at a u) (table_at a u) (o.tables u h) in
       record {
         args = args-once [] (args_at a u) refl;

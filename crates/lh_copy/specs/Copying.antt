@@ -3,7 +3,8 @@ use Rattle.std.specs.Prelude.{◌≡◌, ◌≢◌, ℕ, ◌<◌, ◌≤◌, fal
 use Rattle.lh_unit.specs.Contents.{ItemText, UnitText, unit_text, new_unit, line_count, defines_unit}
 use Rattle.lh_unit.specs.Reads.{args_repeat}
 use Rattle.lh_unit.specs.Arena.{Arena, KeepsEntries, contents, unit_count, value_count, label_count, unit_name_at}
-use Rattle.lh_spelled.specs.Printable.{all_lines, results_repeat, labels_repeat}
+use Rattle.lh_unit.specs.Hierarchy.{lines_of}
+use Rattle.lh_spelled.specs.Printable.{results_repeat, labels_repeat}
 
 -- A module underway that says these items, with the units of another under the same ids; those that are not yet defined have no entries.
 pub record IsCopying (a b : Arena) (items : List ItemText) : Type 0 where
@@ -29,7 +30,7 @@ CopiesUnit a old new u t = (items : List ItemText) → IsCopying a old items →
 -- no value and no label is defined twice, and there are not too many instructions
 pub record IsOnce (t : UnitText) : Type 0 where
   pub args : args_repeat [] t.args ≡ false
-  pub results : results_repeat t.args [] (all_lines t.blocks) ≡ false
+  pub results : results_repeat t.args [] (lines_of t.blocks) ≡ false
   pub labels : labels_repeat [] t.blocks ≡ false
   pub few : line_count t.blocks ≤ 65536
 

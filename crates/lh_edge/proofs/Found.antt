@@ -1,5 +1,5 @@
 -- The ids of atoms as they are found.
-use Rattle.std.proofs.Common.{◌≡◌, ℕ, zero, suc, ◌+◌, ◌<◌, ◌≤◌, Bool, true, false, not, ◌||◌, nat_lt, if◌then◌else◌, List, [], ◌∷◌, ◌++◌, length, map, get_or, refl, sym, ap, ◌∙◌, subst, inl, inr, ◌⊎◌, arith, Option, Some, None, slice_get, append_assoc, append-nil, Vec}
+use Rattle.std.proofs.Common.{◌≡◌, ℕ, zero, suc, ◌+◌, ◌<◌, ◌≤◌, Bool, true, false, not, ◌||◌, nat_lt, if◌then◌else◌, List, [], ◌∷◌, ◌++◌, length, map, get_or, refl, sym, ap, ◌∙◌, subst, inl, inr, arith, Option, Some, None, slice_get, append_assoc, append-nil, Vec}
 use Rattle.std.specs.Cmp.{first_so, second_so}
 use Rattle.lh_term.specs.declared.part.Part.{Part}
 use Rattle.lh_term.specs.declared.term.TermId.{TermId}
@@ -13,6 +13,7 @@ use Rattle.lh_edge.specs.Atoms.{is_one_bit, is_connective, subterms, subterms_in
 use Rattle.lh_edge.specs.Steps.{joined_by, is_atom, ReachesFrom, AreDistinct, AreOf, AreThe, FindsThe, found_items, with_missing, with_atom, with_some, present_tree, IsPresent, AddsPresent}
 use Rattle.lh_edge.proofs.Bools.{and_both, or_cases, or_left, or_right, false_is, both_ways, has_append, has_left, has_right, has_self, has_once}
 use Rattle.lh_edge.proofs.Joined.{joins, IsJoined, is_joined, found_in, among_below, among_marked}
+use Rattle.lh_edge.proofs.Numbers.{here_or_before}
 
 -- ---- terms with one more
 
@@ -106,12 +107,6 @@ atom_alone (choice_of c f t) e = at (is_one_bit f) e
     at : (b : Bool) → not b ≡ true → (if b then subterms c ++ (subterms f ++ subterms t) else choice_of c f t ∷ []) ≡ choice_of c f t ∷ []
     at true k = cc
     at false k = refl
-
-here_or_before : (j i : ℕ) → j < i + 1 → (j ≡ i) ⊎ (j < i)
-here_or_before zero zero l = inl refl
-here_or_before zero (suc i) l = inr (omega arith)
-here_or_before (suc j) zero l = absurd (omega arith)
-here_or_before (suc j) (suc i) l = elim (here_or_before j i (omega arith)) [ inl p ↦ inl (ap suc p) | inr p ↦ inr (omega arith) ]
 
 module _ (ns : List Node) (e : TermId) (flags : List Bool) (found : List TermId) (i : ℕ) (s : FoundSoFar ns e flags found i) where
   pub found_skip : slice_get flags i ≡ Some false → FoundSoFar ns e flags found (i + 1)

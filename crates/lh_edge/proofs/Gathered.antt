@@ -22,6 +22,7 @@ use Rattle.lh_edge.specs.Steps.{present_tree, IsPresent}
 use Rattle.lh_edge.specs.Gates.{ArePresents, IsPresents, MakesGate, SeesTerm, with_pair, with_present, Gathers, GathersIf}
 use Rattle.lh_edge.proofs.Bools.{or_cases, or_left, or_right}
 use Rattle.lh_edge.proofs.Gate.{first_append, put_pair, put_has, SwapSoFar, swap_first, swap_next, gate_is}
+use Rattle.lh_edge.proofs.Numbers.{here_or_before}
 
 -- ---- pairs of ids
 
@@ -129,12 +130,6 @@ seen_before old cur g x h s =
       shown = sym (tree_below (trees old) rest s.term b) ∙ ap (λ ts. term_tree ts s.term) (sym e) ∙ s.shown ∙ tree_grown old cur g x h;
       below = s.below;
     }
-
-here_or_before : (j i : ℕ) → j < i + 1 → (j ≡ i) ⊎ (j < i)
-here_or_before zero zero l = inl refl
-here_or_before zero (suc i) l = inr (omega arith)
-here_or_before (suc j) zero l = absurd (omega arith)
-here_or_before (suc j) (suc i) l = elim (here_or_before j i (omega arith)) [ inl p ↦ inl (ap suc p) | inr p ↦ inr (omega arith) ]
 
 present_part : (s t : Tree) → present_tree s ≡ Some t → (p : Part) × (s ≡ past_of p) × (t ≡ now_of p)
 present_part (past_of p) t e = let f : now_of p ≡ t = cc in (p, refl, sym f)

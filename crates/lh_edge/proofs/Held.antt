@@ -16,15 +16,9 @@ use Rattle.lh_term.proofs.Arenas.{lt_of}
 use Rattle.lh_edge.specs.Atoms.{is_one_bit, is_connective}
 use Rattle.lh_edge.specs.Valuations.{connected, holds, bits_of}
 use Rattle.lh_edge.specs.Steps.{joined_by, is_atom, AreMarked, ReachesFrom, Lists, with_set, values_at, AreValues, JoinedValues, numbered, table_from}
-use Rattle.lh_edge.proofs.Numbers.{table_push}
+use Rattle.lh_edge.proofs.Numbers.{table_push, here_or_before, get_value, set_length}
 
 -- ---- ids whose flags are set
-
-here_or_before : (j i : ℕ) → j < i + 1 → (j ≡ i) ⊎ (j < i)
-here_or_before zero zero l = inl refl
-here_or_before zero (suc i) l = inr (omega arith)
-here_or_before (suc j) zero l = absurd (omega arith)
-here_or_before (suc j) (suc i) l = elim (here_or_before j i (omega arith)) [ inl p ↦ inl (ap suc p) | inr p ↦ inr (omega arith) ]
 
 get_there : (xs : List Bool) (i : ℕ) → i < length xs → slice_get xs i ≡ Some (get_or xs i false)
 get_there [] i l = absurd (omega arith)
@@ -79,11 +73,6 @@ get_before [] i j b l = refl
 get_before (x ∷ xs) zero j b l = absurd (omega arith)
 get_before (x ∷ xs) (suc i) zero b l = refl
 get_before (x ∷ xs) (suc i) (suc j) b l = get_before xs i j b (omega arith)
-
-set_length : (xs : List Bool) (i : ℕ) (b : Bool) → length (slice_set xs i b) ≡ length xs
-set_length [] i b = refl
-set_length (x ∷ xs) zero b = refl
-set_length (x ∷ xs) (suc i) b = omega (arith, set_length xs i b)
 
 at_or_after : (j i : ℕ) → (j < i) ⊎ (i ≤ j)
 at_or_after j zero = inr (omega arith)
@@ -143,11 +132,6 @@ values_bits ns v values (x ∷ xs) h =
     let a : get_or values x.0 false ≡ holds v (tree_at (trees ns) x) = get_value values x.0 (holds v (tree_at (trees ns) x)) h.0 in
     let b = values_bits ns v values xs h.1 in
     λ i. a i ∷ b i
-  where
-    get_value : (bs : List Bool) (n : ℕ) (b : Bool) → slice_get bs n ≡ Some b → get_or bs n false ≡ b
-    get_value [] n b e = cc
-    get_value (c ∷ bs) zero b e = cc
-    get_value (c ∷ bs) (suc n) b e = get_value bs n b e
 
 -- the bit of a term that is no connective is its own
 pub atom_holds : (v : Tree → Bool) (t : Tree) → is_atom t ≡ true → holds v t ≡ v t
@@ -220,11 +204,6 @@ module _ (ns : List Node) (v : Tree → Bool) (x : TermId) (k : Term) (shown : t
       let b : get_or values f.0 false ≡ holds v F = get_value values f.0 (holds v F) own.1.0 in
       let d : get_or values t.0 false ≡ holds v T = get_value values t.0 (holds v T) own.1.1.0 in
       (λ i. if a i then d i else b i) ∙ ap (λ (b : Bool). if b then (if holds v C then holds v T else holds v F) else v (choice_of C F T)) (sym o) ∙ ap (holds v) s
-    where
-      get_value : (bs : List Bool) (n : ℕ) (b : Bool) → slice_get bs n ≡ Some b → get_or bs n false ≡ b
-      get_value [] n b e = cc
-      get_value (c ∷ bs) zero b e = cc
-      get_value (c ∷ bs) (suc n) b e = get_value bs n b e
 
 -- ---- the table so far
 

@@ -1,5 +1,5 @@
 -- Terms by their ids: their operands, and whether values before are in them.
-use Rattle.std.proofs.Common.{◌≡◌, ℕ, zero, suc, ◌+◌, ◌-◌, ◌<◌, ◌≤◌, Bool, true, false, ◌||◌, nat_lt, List, [], ◌∷◌, ◌++◌, length, take, drop, get_or, refl, sym, ap, ◌∙◌, subst, inl, inr, ◌⊎◌, arith, Some, slice_get, length-append}
+use Rattle.std.proofs.Common.{◌≡◌, ℕ, zero, suc, ◌+◌, ◌-◌, ◌<◌, ◌≤◌, Bool, true, false, ◌||◌, nat_lt, List, [], ◌∷◌, ◌++◌, length, take, drop, get_or, refl, sym, ap, ◌∙◌, subst, inl, inr, arith, Some, slice_get, length-append}
 use Rattle.std.specs.List.{list_any, filter}
 use Rattle.std.specs.Cmp.{first_so, second_so}
 use Rattle.lh_types.specs.declared.op.Op.{Op}
@@ -16,12 +16,12 @@ use Rattle.lh_term.specs.Conjuncts.{conjuncts_of, conjunction, conjunction_from}
 use Rattle.lh_term.specs.Make.{make_operation, bit_of}
 use Rattle.lh_term.proofs.Arenas.{lt_of, ids_more}
 use Rattle.lh_term.proofs.Sound.{IntTerm, operation_sound, bit_typed}
-use Rattle.lh_term.proofs.Conditions.{AllBits}
+use Rattle.lh_term.proofs.Conditions.{AllBits, conjuncts_are_bits, and_typed}
 use Rattle.lh_term.proofs.Swaps.{tree_grown, in_grown, grows_on}
 use Rattle.lh_edge.specs.Atoms.{contains_past, some_past, edge_part}
 use Rattle.lh_edge.specs.Valuations.{connected}
 use Rattle.lh_edge.specs.Steps.{TellPasts, values_at}
-use Rattle.lh_edge.proofs.Meaning.{and_typed, conjuncts_are_bits}
+use Rattle.lh_edge.proofs.Numbers.{here_or_before, get_value}
 
 -- ---- operands
 
@@ -65,12 +65,6 @@ get_end [] b zero e = refl
 get_end [] b (suc j) e = absurd (omega arith)
 get_end (x ∷ xs) b zero e = absurd (omega arith)
 get_end (x ∷ xs) b (suc j) e = get_end xs b j (omega arith)
-
-here_or_before : (j i : ℕ) → j < i + 1 → (j ≡ i) ⊎ (j < i)
-here_or_before zero zero l = inl refl
-here_or_before zero (suc i) l = inr (omega arith)
-here_or_before (suc j) zero l = absurd (omega arith)
-here_or_before (suc j) (suc i) l = elim (here_or_before j i (omega arith)) [ inl p ↦ inl (ap suc p) | inr p ↦ inr (omega arith) ]
 
 -- the flags of the first i terms
 pub record TellSoFar (ns : List Node) (flags : List Bool) (i : ℕ) : Type 0 where
@@ -121,11 +115,6 @@ take_whole (x ∷ xs) = ap (λ r. x ∷ r) (take_whole xs)
 
 pub rest_of : (y : TermId) (r : List TermId) → take (length (y ∷ r) - 1) (drop 1 (y ∷ r)) ≡ r
 rest_of y r = let e : length (y ∷ r) - 1 ≡ length r = omega arith in ap (λ n. take n (drop 1 (y ∷ r))) e ∙ take_whole r
-
-get_value : (bs : List Bool) (n : ℕ) (b : Bool) → slice_get bs n ≡ Some b → get_or bs n false ≡ b
-get_value [] n b e = cc
-get_value (c ∷ bs) zero b e = cc
-get_value (c ∷ bs) (suc n) b e = get_value bs n b e
 
 -- what is known of the first of what is left
 pub record FirstLeft (old cur : List Node) (flags : List Bool) (x : TermId) : Type 0 where

@@ -11,7 +11,7 @@ use Rattle.lh_term.specs.Arena.{tree_at, trees, terms_in, term_tree, ids_below, 
 use Rattle.lh_term.specs.Reach.{AllSet, Sets}
 use Rattle.lh_term.proofs.Arenas.{lt_of, of_lt, get_within, ids_more}
 use Rattle.lh_term.proofs.Walks.{get_set, set_keeps, set_here, set_length, replicate_length}
-use Rattle.lh_term.proofs.Swaps.{term_there}
+use Rattle.lh_term.proofs.Swaps.{term_there, here_or_above}
 use Rattle.lh_edge.specs.Atoms.{is_one_bit, is_connective, subterms, subterms_in, has}
 use Rattle.lh_edge.specs.Steps.{joined_by, is_atom, marked, AreMarked, IsTerm, MarksJoined, ReachesFrom}
 use Rattle.lh_edge.proofs.Bools.{and_both, or_cases, has_append, has_left, has_right}
@@ -197,12 +197,6 @@ reach_start ns e =
         | inr p ↦ absurd (no_flag n j p)
       ];
     }
-
-here_or_above : (a b : ℕ) → a ≤ b → (b ≡ a) ⊎ (a + 1 ≤ b)
-here_or_above zero zero h = inl refl
-here_or_above zero (suc b) h = inr (omega arith)
-here_or_above (suc a) zero h = absurd (omega arith)
-here_or_above (suc a) (suc b) h = elim (here_or_above a b (omega arith)) [ inl p ↦ inl (ap suc p) | inr p ↦ inr (omega arith) ]
 
 pub reach_skip : (ns : List Node) (e : TermId) (flags : List Bool) (i : ℕ) → ReachesFrom ns e flags (i + 1) → slice_get flags i ≡ Some false → ReachesFrom ns e flags i
 reach_skip ns e flags i r f = record {

@@ -1,21 +1,20 @@
 -- What a condition means is what its atoms hold.
-use Rattle.std.proofs.Common.{◌≡◌, Bool, true, false, not, cond, ◌&&◌, ◌||◌, if◌then◌else◌, List, [], ◌∷◌, ◌++◌, refl, sym, ap, ◌∙◌, subst}
-use Rattle.std.specs.List.{list_any, list_all, filter}
-use Rattle.lh_types.specs.Types.{TypeTree, int_type, IsData, same_type}
+use Rattle.std.proofs.Common.{◌≡◌, Bool, true, false, not, cond, ◌&&◌, ◌||◌, if◌then◌else◌, List, [], ◌∷◌, refl, sym, ap, ◌∙◌, subst}
+use Rattle.std.specs.List.{list_all, filter}
+use Rattle.lh_types.specs.Types.{TypeTree, int_type, same_type}
 use Rattle.lh_types.specs.Values.{Datum}
 use Rattle.lh_types.specs.Same.{same-is, same-refl}
 use Rattle.lh_types.specs.Apply.{apply, bit_value}
 use Rattle.lh_types.specs.declared.op.Op.{Op}
 use Rattle.lh_types.specs.declared.op.Op.TheVariants.{Not, And, Or, Xor, Eq, Neq}
 use Rattle.lh_ops.proofs.BooleanLemmas.{bits_are_boolean_lem}
-use Rattle.lh_term.specs.Tree.{Tree, TreeRow, constant, past_of, now_of, operation, choice_of, no_trees, more_trees, operation_on}
-use Rattle.lh_term.specs.Types.{IsTyped, AreTyped, type_of, types_of, first_of, TakesTypes}
-use Rattle.lh_term.specs.Mean.{Valuation, IsFitting, mean, means, chosen}
-use Rattle.lh_term.specs.SameTree.{same_tree}
-use Rattle.lh_term.specs.Make.{is_bit_value, bit_of, make_operation}
-use Rattle.lh_term.specs.Conjuncts.{all_conjuncts, joined_conjuncts, with_term, with_terms, conjuncts_of, conjunction_from, conjunction}
-use Rattle.lh_term.proofs.Sound.{IsBit, IntTerm, bit_mean, bit_typed, one_wide, operation_sound}
-use Rattle.lh_term.proofs.Conditions.{AllBits, condition_sound}
+use Rattle.lh_term.specs.Tree.{Tree, TreeRow, constant, past_of, now_of, operation, choice_of, no_trees, more_trees}
+use Rattle.lh_term.specs.Types.{IsTyped, AreTyped, type_of, types_of, TakesTypes}
+use Rattle.lh_term.specs.Mean.{Valuation, IsFitting, mean, means, chosen, is_one}
+use Rattle.lh_term.specs.Make.{is_bit_value, bit_of}
+use Rattle.lh_term.specs.Conjuncts.{conjuncts_of, conjunction}
+use Rattle.lh_term.proofs.Sound.{IsBit, IntTerm, bit_mean, bit_typed}
+use Rattle.lh_term.proofs.Conditions.{AllBits, conjuncts_are_bits, filter-bits, one_bit, and_assoc, holds as all_hold, from_all, condition_sound}
 use Rattle.lh_edge.specs.Atoms.{contains_past, some_past, edge_part, is_one_bit, are_one_bit, connects, is_connective}
 use Rattle.lh_edge.specs.Valuations.{differ, connected, holds, bits_of}
 use Rattle.lh_edge.proofs.Bools.{and_left, and_right}
@@ -124,100 +123,16 @@ module _ (past now : Valuation) (p : IsFitting past) (n : IsFitting now) where
 
 -- ---- conjuncts
 
-AllBits-append : (xs ys : List Tree) → AllBits xs → AllBits ys → AllBits (xs ++ ys)
-AllBits-append [] ys p q = q
-AllBits-append (x ∷ xs) ys p q = (p.0, AllBits-append xs ys p.1 q)
+-- whether a value of one bit is 1
+one_is : (v : Datum) → IsBit v → is_one v ≡ is_bit_value 1 v
+one_is v i = ap is_one i.is ∙ one_bit i.bit ∙ sym (ap (is_bit_value 1) i.is ∙ bit_back i.bit)
 
--- operands of one bit
-abbrev BitTypes : List TypeTree → Type 0
-BitTypes [] = Unit {0}
-BitTypes (u ∷ us) = (u ≡ int_type 1) × BitTypes us
-
-operand_bits : (us : List TypeTree) → TakesTypes And us → same_type (first_of us) (int_type 1) ≡ true → BitTypes us
-operand_bits us k e =
-    let w = k.row.0 in
-    let two : us ≡ int_type w ∷ int_type w ∷ [] = k.row.1 in
-    let one : int_type w ≡ int_type 1 = ap first_of (sym two) ∙ same-is (first_of us) (int_type 1) e in
-    subst BitTypes (sym two) (one, (one, tt))
-
-unless_one : (t : Tree) → IntTerm t 1 → (b : Bool) → AllBits (if b then [] else t ∷ [])
-unless_one t i true = tt
-unless_one t i false = (i, tt)
-
-mutual
-  conjuncts_bits : (t : Tree) → IsTyped t → type_of t ≡ int_type 1 → AllBits (all_conjuncts t)
-  conjuncts_bits (constant v) h e = unless_one (constant v) (record { typed = h; type = e }) (is_bit_value 1 v)
-  conjuncts_bits (past_of p) h e = (record { typed = h; type = e }, tt)
-  conjuncts_bits (now_of p) h e = (record { typed = h; type = e }, tt)
-  conjuncts_bits (choice_of c f t) h e = (record { typed = h; type = e }, tt)
-  conjuncts_bits (operation And ts) h e =
-      let j : same_type (first_of (types_of ts)) (int_type 1) ≡ true = ap (λ u. same_type u (int_type 1)) e ∙ same-refl (int_type 1) in
-      subst (λ (b : Bool). AllBits (if b then joined_conjuncts ts else operation And ts ∷ [])) (sym j) (joined_bits ts h.0 (operand_bits (types_of ts) h.1 j))
-  conjuncts_bits (operation op ts) h e = (record { typed = h; type = e }, tt)
-
-  joined_bits : (ts : TreeRow) → AreTyped ts → BitTypes (types_of ts) → AllBits (joined_conjuncts ts)
-  joined_bits no_trees h e = tt
-  joined_bits (more_trees t ts) h e = AllBits-append (all_conjuncts t) (joined_conjuncts ts) (conjuncts_bits t h.0 e.0) (joined_bits ts h.1 e.1)
-
-with_bits : (ks ts : List Tree) → AllBits ks → AllBits ts → AllBits (with_terms ks ts)
-with_bits ks [] p q = p
-with_bits ks (t ∷ ts) p q = with_bits (with_term ks t) ts (by (list_any (same_tree t) ks)) q.1
-  where
-    by : (b : Bool) → AllBits (if b then ks else ks ++ t ∷ [])
-    by true = p
-    by false = AllBits-append ks (t ∷ []) p (q.0, tt)
-
-pub conjuncts_are_bits : (t : Tree) → IsTyped t → type_of t ≡ int_type 1 → AllBits (conjuncts_of t)
-conjuncts_are_bits t h e = with_bits [] (all_conjuncts t) tt (conjuncts_bits t h e)
-
-filter_bits : (f : Tree → Bool) (ts : List Tree) → AllBits ts → AllBits (filter f ts)
-filter_bits f [] h = tt
-filter_bits f (t ∷ ts) h = by (f t) (filter_bits f ts h.1)
-  where
-    by : (b : Bool) → AllBits (filter f ts) → AllBits (cond b (t ∷ filter f ts) (filter f ts))
-    by true r = (h.0, r)
-    by false r = r
-
--- ---- a conjunction is of one bit, and means whether all hold
-
-pub and_typed : (x y : Tree) → IntTerm x 1 → IntTerm y 1 → IsTyped (operation_on And (x ∷ y ∷ []))
-and_typed x y i j =
-    let e = i.type in
-    let f = j.type in
-    ((i.typed, (j.typed, tt)), record { gives = int_type 1; data_types = (subst IsData (sym e) one_wide, (subst IsData (sym f) one_wide, tt)); row = (1, (λ k. e k ∷ f k ∷ []), refl); is_data = one_wide })
-
-and_true : (b : Bool) → b ≡ (b && true)
-and_true true = refl
-and_true false = refl
-
-and_assoc : (a b c : Bool) → ((a && b) && c) ≡ (a && (b && c))
-and_assoc true b c = refl
-and_assoc false b c = refl
-
-pub record IsAll (k : Tree) (ts : List Tree) (x : Tree) : Type 0 where
-  pub bit : IntTerm x 1
-  pub value : (past now : Valuation) → IsFitting past → IsFitting now → mean past now x ≡ bit_value (meant past now k && list_all (meant past now) ts)
-
-from_all : (k : Tree) (ts : List Tree) → IntTerm k 1 → AllBits ts → IsAll k ts (conjunction_from k ts)
-from_all k [] i h = record {
-  bit = i;
-  value = λ past now p n. as_bit (mean past now k) (bit_mean k i past now p n) ∙ ap bit_value (and_true (meant past now k));
-}
-from_all k (t ∷ ts) i h =
-    let s = operation_sound And (k ∷ t ∷ []) (and_typed k t i h.0) in
-    let r = from_all (make_operation And (k ∷ t ∷ [])) ts (record { typed = s.typed; type = s.type ∙ i.type }) h.1 in
-    record {
-      bit = r.bit;
-      value = λ past now p n.
-          let x : Bool = meant past now k in
-          let y : Bool = meant past now t in
-          let both : mean past now (make_operation And (k ∷ t ∷ [])) ≡ bit_value (x && y) =
-          s.mean past now p n
-          ∙ (λ j. apply And (as_bit (mean past now k) (bit_mean k i past now p n) j ∷ as_bit (mean past now t) (bit_mean t h.0 past now p n) j ∷ []))
-          ∙ (let r = bits_are_boolean_lem.rows x y in r.and_bits) in
-          r.value past now p n ∙ ap (λ b. bit_value (b && list_all (meant past now) ts)) (ap (is_bit_value 1) both ∙ bit_back (x && y))
-          ∙ ap bit_value (and_assoc x y (list_all (meant past now) ts));
-    }
+each_holds : (past now : Valuation) → IsFitting past → IsFitting now → (ts : List Tree) → AllBits ts → all_hold past now ts ≡ list_all (meant past now) ts
+each_holds past now p n [] h = refl
+each_holds past now p n (t ∷ ts) h =
+    let a = one_is (mean past now t) (bit_mean t h.0 past now p n) in
+    let b = each_holds past now p n ts h.1 in
+    λ i. a i && b i
 
 -- what a conjunction means
 pub record Joins (ts : List Tree) (x : Tree) : Type 0 where
@@ -227,7 +142,7 @@ pub record Joins (ts : List Tree) (x : Tree) : Type 0 where
 pub joins : (ts : List Tree) → AllBits ts → Joins ts (conjunction ts)
 joins ts h =
     let r = from_all (bit_of true) ts (record { typed = bit_typed true; type = refl }) h in
-    record { bit = r.bit; value = r.value }
+    record { bit = r.bit; value = λ past now p n. r.value past now p n ∙ ap bit_value (each_holds past now p n ts h) }
 
 -- ---- a term without values before means the same, whatever they were
 
@@ -299,7 +214,7 @@ unfolding edge_part
 splits c h e past now p n =
     let bits : AllBits (conjuncts_of c) = conjuncts_are_bits c h e in
     let all = joins (conjuncts_of c) bits in
-    let edge = joins (filter contains_past (conjuncts_of c)) (filter_bits contains_past (conjuncts_of c) bits) in
+    let edge = joins (filter contains_past (conjuncts_of c)) (filter-bits contains_past (conjuncts_of c) bits) in
     let same = condition_sound c h e in
     let held : holds (meant past now) (conjunction (filter contains_past (conjuncts_of c))) ≡ list_all (meant past now) (filter contains_past (conjuncts_of c)) =
     same_bits _ _ (sym (means_held past now p n (conjunction (filter contains_past (conjuncts_of c))) edge.bit.typed edge.bit.type) ∙ edge.value past now p n) in

@@ -1,5 +1,5 @@
 -- Valuations by number, and tables of them.
-use Rattle.std.proofs.Common.{◌≡◌, ℕ, zero, suc, ◌+◌, ◌*◌, ◌/◌, ◌%◌, ◌^◌, ◌<◌, ◌≤◌, Bool, true, false, not, ◌&&◌, ◌||◌, nat_eq, if◌then◌else◌, List, [], ◌∷◌, ◌++◌, length, refl, sym, ap, ◌∙◌, inl, inr, ◌⊎◌, arith, pow-suc, drop, get_or, drop-cons, drop_of_length-le}
+use Rattle.std.proofs.Common.{◌≡◌, ℕ, zero, suc, ◌+◌, ◌*◌, ◌/◌, ◌%◌, ◌^◌, ◌<◌, ◌≤◌, Bool, true, false, not, ◌&&◌, ◌||◌, nat_eq, if◌then◌else◌, List, [], ◌∷◌, ◌++◌, length, refl, sym, ap, ◌∙◌, inl, inr, ◌⊎◌, arith, pow-suc, drop, Some, slice_get, slice_set, get_or, drop-cons, drop_of_length-le}
 use Rattle.std.specs.List.{list_any}
 use Rattle.lh_term.specs.declared.part.Part.{Part}
 use Rattle.lh_term.specs.Same.{nat_eq-is, nat_eq-refl}
@@ -9,6 +9,24 @@ use Rattle.lh_edge.specs.Atoms.{has}
 use Rattle.lh_edge.specs.Valuations.{holds}
 use Rattle.lh_edge.specs.Steps.{is_odd, numbered, is_other, agree, table_from, stays_from, shows_at, shown_from}
 use Rattle.lh_edge.proofs.Bools.{and_left, and_right, and_both, or_cases, or_left, or_right, is_not, true_or, both_ways}
+
+-- a number below the next one is this one or below it
+pub here_or_before : (j i : ℕ) → j < i + 1 → (j ≡ i) ⊎ (j < i)
+here_or_before zero zero l = inl refl
+here_or_before zero (suc i) l = inr (omega arith)
+here_or_before (suc j) zero l = absurd (omega arith)
+here_or_before (suc j) (suc i) l = elim (here_or_before j i (omega arith)) [ inl p ↦ inl (ap suc p) | inr p ↦ inr (omega arith) ]
+
+-- what is got of flags
+pub get_value : (bs : List Bool) (n : ℕ) (b : Bool) → slice_get bs n ≡ Some b → get_or bs n false ≡ b
+get_value [] n b e = cc
+get_value (c ∷ bs) zero b e = cc
+get_value (c ∷ bs) (suc n) b e = get_value bs n b e
+
+pub set_length : (xs : List Bool) (i : ℕ) (b : Bool) → length (slice_set xs i b) ≡ length xs
+set_length [] i b = refl
+set_length (x ∷ xs) zero b = refl
+set_length (x ∷ xs) (suc i) b = omega (arith, set_length xs i b)
 
 -- ---- the number of a valuation
 

@@ -16,6 +16,7 @@ use Rattle.lh_edge.specs.Valuations.{differ}
 use Rattle.lh_edge.specs.Steps.{is_odd, numbered, is_other, agree, stays_from, shows_at, has_bit, bit_of_atom, kept_bits, holds_where, HoldsBy, IsSight, AddsShown, AreMarks}
 use Rattle.lh_edge.specs.declared.shown.Sight.{Sight}
 use Rattle.lh_edge.proofs.Bools.{both_ways}
+use Rattle.lh_edge.proofs.Numbers.{here_or_before, set_length}
 
 -- ---- halves
 
@@ -251,11 +252,6 @@ get_set xs i c b l = at (nat_eq c i) refl
     at true e = get_same xs i c b (nat_eq-is c i e) l
     at false e = get_other xs i c b (λ q. both_ways (nat_eq c i) (eq_of c i q) e)
 
-set_length : (xs : List Bool) (i : ℕ) (b : Bool) → length (slice_set xs i b) ≡ length xs
-set_length [] i b = refl
-set_length (x ∷ xs) zero b = refl
-set_length (x ∷ xs) (suc i) b = omega (arith, set_length xs i b)
-
 holds_cut : (table : List Bool) (kept c i : ℕ) → i < length table → holds_where kept c i (drop i table) ≡ ((get_or table i false || not (nat_eq c (bit_and i kept))) && holds_where kept c (i + 1) (drop (i + 1) table))
 holds_cut table kept c i l =
     let s : suc i ≡ i + 1 = omega arith in
@@ -302,12 +298,6 @@ pub record MarkedTo (table : List Bool) (atoms : List Tree) (p : Part) (old new 
 
 pub marked_start : (table : List Bool) (atoms : List Tree) (p : Part) (old : List Bool) → MarkedTo table atoms p old old 0
 marked_start table atoms p old = record { length_is = refl; done = λ k l m. absurd (omega arith); open_ = λ k l. refl }
-
-here_or_before : (j i : ℕ) → j < i + 1 → (j ≡ i) ⊎ (j < i)
-here_or_before zero zero l = inl refl
-here_or_before zero (suc i) l = inr (omega arith)
-here_or_before (suc j) zero l = absurd (omega arith)
-here_or_before (suc j) (suc i) l = elim (here_or_before j i (omega arith)) [ inl p ↦ inl (ap suc p) | inr p ↦ inr (omega arith) ]
 
 or_no : (b : Bool) → b ≡ (b || false)
 or_no true = refl

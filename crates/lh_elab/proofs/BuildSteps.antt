@@ -1,6 +1,6 @@
 -- Signals that are added, and instances that are to be visited.
 use Rattle.std.proofs.Common.{◌≡◌, ℕ, zero, suc, ◌+◌, ◌-◌, ◌<◌, ◌≤◌, List, [], ◌∷◌, ◌++◌, length, map, take, drop, get_or, Bool, Option, None, refl, ap, sym, ◌∙◌, subst, arith}
-use Rattle.std.proofs.lemmas.List.{append_assoc, append-nil, length-append, length-take-le, map-append, take_more, take_all, take_at, take-append-drop}
+use Rattle.std.proofs.lemmas.List.{append_assoc, append-nil, length-append, length-take-le, map-append, take_more, take_all, take_at, take-append-drop, drop_more}
 use Rattle.lh_types.specs.Types.{bit_count}
 use Rattle.lh_types.specs.Parts.{bits_with, bits_within}
 use Rattle.lh_types.specs.declared.part.Range.{Range}
@@ -19,7 +19,6 @@ use Rattle.lh_unit.specs.Naming.{Naming, arg_text}
 use Rattle.lh_unit.specs.Table.{ArgsWithin}
 use Rattle.lh_elab.specs.Plans.{signal_of, low_at}
 use Rattle.lh_elab.specs.Builds.{signal_text, room_of, AddsSignals, KeepsRest, ranges_by, kid, kids}
-use Rattle.lh_elab.proofs.StaticSteps.{drop-get_or}
 use Rattle.lh_elab.proofs.Numbering.{room-cons, room-append, numbered-append, ranges-append, initial-append}
 
 -- one after the other
@@ -111,7 +110,7 @@ by-all args sigs xs ls i rs h p = let n = length-by xs (map (low_at args sigs) l
 pub kids-more : (a : Arena) (n k : ℕ) (args sigs : List Range) (cs : List PlanChild) (i : ℕ) (c : PlanChild) (old cur new : List Pending) (x : Pending) → i < length cs → c ≡ get_or cs (length cs - 1 - i) c → cur ≡ old ++ kids a n k args sigs (drop (length cs - i) cs) → new ≡ cur ++ x ∷ [] → x ≡ kid a n k args sigs c → new ≡ old ++ kids a n k args sigs (drop (length cs - (i + 1)) cs)
 kids-more a n k args sigs cs i c old cur new x h e p q w =
     let j = length cs - (i + 1) in
-    let f : drop j cs ≡ get_or cs j c ∷ drop (j + 1) cs = drop-get_or cs j c (omega arith) in
+    let f : drop j cs ≡ get_or cs j c ∷ drop (j + 1) cs = drop_more cs j c (omega arith) in
     let g : j + 1 ≡ length cs - i = omega arith in
     let m : length cs - 1 - i ≡ j = omega arith in
     let y : get_or cs j c ≡ c = sym (e ∙ ap (λ t. get_or cs t c) m) in

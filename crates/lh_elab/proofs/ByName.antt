@@ -6,15 +6,15 @@ use Rattle.lh_unit.specs.declared.name.UnitName.{UnitName}
 use Rattle.lh_unit.specs.declared.inst.UnitId.{UnitId}
 use Rattle.lh_unit.specs.declared.inst.UnitKind.{UnitKind}
 use Rattle.lh_unit.specs.declared.inst.UnitKind.TheVariants as kind
-use Rattle.lh_unit.specs.Contents.{UnitText}
 use Rattle.lh_unit.specs.Naming.{Naming, kind_text, arg_text, table_text}
 use Rattle.lh_unit.specs.Table.{Table, FitsKind, entity_block, insts_at}
 use Rattle.lh_unit.specs.Arena.{Arena, IsArena, contents, naming, kind_at, table_at, unit_name_at, unit_text_at}
 use Rattle.lh_unit.specs.Held.{Env}
-use Rattle.lh_unit.specs.Hierarchy.{lines_of, Child, children_of, static_held, Hierarchy, hierarchy_by, hierarchy_of, hierarchies}
+use Rattle.lh_unit.specs.Hierarchy.{lines_of, Child, children_of, static_held, Hierarchy, hierarchy_by, hierarchies}
 use Rattle.lh_unit.specs.Design.{hierarchy_or, hierarchy_in, targets}
-use Rattle.lh_elab.proofs.Names.{hierarchy-by_id, child_ids, children-names, entity-lines}
+use Rattle.lh_elab.proofs.Names.{hierarchy-by_id, child_ids, children-names, entity-lines, by-its-kind}
 use Rattle.lh_elab.proofs.Reading.{entity-blocks}
+use Rattle.lh_elab.proofs.Refusing.{args-of}
 use Rattle.lh_elab.proofs.Underway.{ReadsAll}
 
 -- what is read where the unit may be missing
@@ -38,22 +38,13 @@ by-kind f n t (Some kind.Entity) p q = record {
   units = λ args sigs. any-units f n t (q refl) (static_held (table_text f n t) args sigs) ∙ sym (any-units f n t (q refl) (static_held (table_text f n t) [] []));
 }
 
-args-of : (k : UnitKind) (u : UnitText) → (hierarchy_by k u).args ≡ u.args
-args-of kind.Func u = refl
-args-of kind.Proc u = refl
-args-of kind.Entity u = refl
-
 pub reads : (a : Arena) → IsArena a → ReadsAll a (hierarchies (contents a))
 reads a o u l =
     let k = kind_at a u in
     let t = unit_text_at a u in
     let e : hierarchy_in (hierarchies (contents a)) (unit_name_at a u) ≡ hierarchy_or (option_map (hierarchy_by (kind_text k)) (if is_some k then Some t else None)) =
-    ap hierarchy_or (hierarchy-by_id a u o l ∙ plain k t refl) in
+    ap hierarchy_or (hierarchy-by_id a u o l ∙ by-its-kind k t refl) in
     let missing : k ≡ None → (table_at a u).args ≡ [] = λ n. let P : Option UnitKind → Type 0 = λ x. FitsKind x (table_at a u) in (subst P n (o.tables u l).fits_kind).0 in
     let s : Same (hierarchy_in (hierarchies (contents a)) (unit_name_at a u)) (hierarchy_by (kind_text k) t) =
     subst (λ (x : Hierarchy). Same x (hierarchy_by (kind_text k) t)) (sym e) (by-kind (naming a u) (unit_name_at a u) (table_at a u) k missing (λ x. entity-blocks a u o l x)) in
     record { args = s.args ∙ args-of (kind_text k) t; signals = s.signals; children = s.children; units = s.units }
-  where
-    plain : (k : Option UnitKind) (t : UnitText) → t.kind ≡ kind_text k → option_map hierarchy_of (if is_some k then Some t else None) ≡ option_map (hierarchy_by (kind_text k)) (if is_some k then Some t else None)
-    plain None t e = refl
-    plain (Some k) t e = ap (λ j. Some (hierarchy_by j t)) e

@@ -1,7 +1,7 @@
 -- Where the parts lie that operands name, and the `inst` of an entity.
 use Rattle.std.proofs.Common.{◌≡◌, ℕ, ◌+◌, ◌<◌, ◌≤◌, List, [], ◌∷◌, ◌++◌, length, map, drop, get_or, Option, Some, None, refl, ap, sym, ◌∙◌, subst, arith}
 use Rattle.std.specs.Option.{option_map, option_map_or, option_and_then}
-use Rattle.std.proofs.lemmas.List.{map-append, append-nil, append_assoc}
+use Rattle.std.proofs.lemmas.List.{map-append, append-nil, append_assoc, drop_more, drop_all}
 use Rattle.lh_types.specs.declared.part.Range.{Range}
 use Rattle.lh_unit.specs.Contents.{InstText, sig_text, child_text, LineText}
 use Rattle.lh_unit.specs.Held.{Env, as_part, part_at}
@@ -24,7 +24,6 @@ use Rattle.lh_elab.specs.declared.statics.Statics.{Statics}
 use Rattle.lh_elab.specs.declared.plan.PlanChild.{PlanChild}
 use Rattle.lh_elab.specs.Statics.{by_of, base_lo, moved_slots, Follows}
 use Rattle.lh_elab.specs.Plans.{low_by, lows_by, low_at, child_of, LowSmall, ChildSmall, PartsSmall, ChildLine, ChildWithin}
-use Rattle.lh_elab.proofs.StaticSteps.{drop-get_or, drop-end}
 use Rattle.lh_elab.proofs.Moving.{shifted, length-moved, slot-moved, part-moved}
 
 module _ (args sigs : List Range) (a : Arena) (u : ℕ) (s : Statics) (e : Env) (f : Follows a u args sigs (by_of s) e) where
@@ -87,7 +86,7 @@ more-children e f is k d cur new all h p q =
     ap (λ l. l ++ children_of e (map f (drop (k + 1) is))) p
     ∙ append_assoc cur (child_if e (f (get_or is k d)).inst []) (children_of e (map f (drop (k + 1) is)))
     ∙ ap (λ l. cur ++ l) (child-front e (f (get_or is k d)).inst (children_of e (map f (drop (k + 1) is))))
-    ∙ ap (λ l. cur ++ children_of e (map f l)) (sym (drop-get_or is k d h))
+    ∙ ap (λ l. cur ++ children_of e (map f l)) (sym (drop_more is k d h))
     ∙ q
 
 pub more-signals : (e : Env) (f : InstId → LineText) (is : List InstId) (k : ℕ) (d : InstId) (cur new all : List SignalText) → k < length is → new ≡ cur ++ signal_if e (f (get_or is k d)).inst (f (get_or is k d)).result [] → cur ++ signals_of e (map f (drop k is)) ≡ all → new ++ signals_of e (map f (drop (k + 1) is)) ≡ all
@@ -95,14 +94,14 @@ more-signals e f is k d cur new all h p q =
     ap (λ l. l ++ signals_of e (map f (drop (k + 1) is))) p
     ∙ append_assoc cur (signal_if e (f (get_or is k d)).inst (f (get_or is k d)).result []) (signals_of e (map f (drop (k + 1) is)))
     ∙ ap (λ l. cur ++ l) (signal-front e (f (get_or is k d)).inst (f (get_or is k d)).result (signals_of e (map f (drop (k + 1) is))))
-    ∙ ap (λ l. cur ++ signals_of e (map f l)) (sym (drop-get_or is k d h))
+    ∙ ap (λ l. cur ++ signals_of e (map f l)) (sym (drop_more is k d h))
     ∙ q
 
 pub all-children : (e : Env) (f : InstId → LineText) (is : List InstId) (k : ℕ) (cur all : List Child) → length is ≤ k → cur ++ children_of e (map f (drop k is)) ≡ all → cur ≡ all
-all-children e f is k cur all h q = sym (append-nil cur) ∙ ap (λ l. cur ++ children_of e (map f l)) (sym (drop-end is k h)) ∙ q
+all-children e f is k cur all h q = sym (append-nil cur) ∙ ap (λ l. cur ++ children_of e (map f l)) (sym (drop_all k is h)) ∙ q
 
 pub all-signals : (e : Env) (f : InstId → LineText) (is : List InstId) (k : ℕ) (cur all : List SignalText) → length is ≤ k → cur ++ signals_of e (map f (drop k is)) ≡ all → cur ≡ all
-all-signals e f is k cur all h q = sym (append-nil cur) ∙ ap (λ l. cur ++ signals_of e (map f l)) (sym (drop-end is k h)) ∙ q
+all-signals e f is k cur all h q = sym (append-nil cur) ∙ ap (λ l. cur ++ signals_of e (map f l)) (sym (drop_all k is h)) ∙ q
 
 pub placed-child : (a : Arena) (u : ℕ) (i : Inst) → InstPlaced a u i → ChildWithin (unit_count a) i
 placed-child a u (inst.Child v inputs outputs) p = p.0

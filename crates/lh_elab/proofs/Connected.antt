@@ -17,7 +17,7 @@ use Rattle.lh_design.specs.declared.Design.{Design}
 use Rattle.lh_design.specs.Texts.{design_text}
 use Rattle.lh_sound.specs.Ranges.{RangesFit, arg_types, signal_types, InstanceFits}
 use Rattle.lh_sound.specs.Units.{IsPort}
-use Rattle.lh_sound.proofs.EachItem.{each-split, each-of-map}
+use Rattle.lh_formed.proofs.EachItem.{each-split, each-of-map}
 use Rattle.lh_meaning.proofs.PathsLaw.{designs_have_parents_before}
 use Rattle.lh_elab.specs.declared.plan.PlanChild.{PlanChild}
 use Rattle.lh_elab.specs.declared.plan.Plan.{Plan}

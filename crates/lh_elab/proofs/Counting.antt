@@ -18,10 +18,11 @@ use Rattle.lh_unit.specs.Hierarchy.{SignalText, Entry, hierarchies}
 use Rattle.lh_unit.specs.Design.{hierarchy_in, targets, is_one_of, first_some, cycle_at, cycle_from, nests_deeper, instance_count, bits_below}
 use Rattle.lh_unit.specs.declared.inst.UnitKind.{UnitKind}
 use Rattle.lh_unit.proofs.ById.{same_unit-by_id}
+use Rattle.lh_formed.specs.Graphs.{met_or, is_open, IsIn}
 use Rattle.lh_elab.specs.declared.graph.Node.{Node}
 use Rattle.lh_elab.specs.Graph.{max_counted, no_node, node_at, node_by, targets_at, IsGraph}
-use Rattle.lh_elab.specs.Measures.{nests, count_in, bits_in, cycle_in, met_or, is_open}
-use Rattle.lh_elab.specs.Searches.{NodesWithin, IsIn, HasBusy}
+use Rattle.lh_elab.specs.Measures.{nests, count_in, bits_in, cycle_in}
+use Rattle.lh_elab.specs.Searches.{NodesWithin, HasBusy}
 use Rattle.lh_elab.proofs.Names.{reads-unit}
 
 -- a graph by ids stands for these entries, where ids have these names

@@ -1,4 +1,3 @@
-pub mod Lists
 pub mod Measuring
 pub mod Reading
 pub mod Searching

@@ -195,12 +195,13 @@ reads-kind f n t (Some kind.Func) h = record { targets_are = refl; bits_are = re
 reads-kind f n t (Some kind.Proc) h = record { targets_are = refl; bits_are = refl }
 reads-kind f n t (Some kind.Entity) h = reads-entity f n t (h refl)
 
+-- what is read of a defined unit is read by its kind
+pub by-its-kind : (k : Option UnitKind) (t : UnitText) → t.kind ≡ kind_text k → option_map hierarchy_of (if is_some k then Some t else None) ≡ option_map (hierarchy_by (kind_text k)) (if is_some k then Some t else None)
+by-its-kind None t e = refl
+by-its-kind (Some k) t e = ap (λ j. Some (hierarchy_by j t)) e
+
 -- what is read of a unit by its name is what its graph has of it
 pub reads-unit : (a : Arena) (u : ℕ) → IsArena a → u < unit_count a → Reads (naming a u) (hierarchy_in (hierarchies (contents a)) (unit_name_at a u)) (node_of a u)
 reads-unit a u o l =
-    subst (λ h. Reads (naming a u) (hierarchy_or h) (node_of a u)) (sym (hierarchy-by_id a u o l ∙ plain (kind_at a u) (unit_text_at a u) refl))
+    subst (λ h. Reads (naming a u) (hierarchy_or h) (node_of a u)) (sym (hierarchy-by_id a u o l ∙ by-its-kind (kind_at a u) (unit_text_at a u) refl))
     (reads-kind (naming a u) (unit_name_at a u) (table_at a u) (kind_at a u) (λ e. entity-blocks a u o l e))
-  where
-    plain : (k : Option UnitKind) (t : UnitText) → t.kind ≡ kind_text k → option_map hierarchy_of (if is_some k then Some t else None) ≡ option_map (hierarchy_by (kind_text k)) (if is_some k then Some t else None)
-    plain None t e = refl
-    plain (Some k) t e = ap (λ j. Some (hierarchy_by j t)) e

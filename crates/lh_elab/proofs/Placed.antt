@@ -7,12 +7,13 @@ use Rattle.lh_unit.specs.Design.{first_some}
 use Rattle.lh_unit.specs.Typing.{or_else}
 use Rattle.lh_unit.specs.Within.{Each}
 use Rattle.lh_unit.specs.declared.inst.UnitId.{UnitId}
+use Rattle.lh_formed.specs.Graphs.{is_open, met_or}
 use Rattle.lh_elab.specs.declared.fault.ElabFault.{ElabFault}
 use Rattle.lh_elab.specs.declared.fault.ElabFault.TheVariants as fault
 use Rattle.lh_elab.specs.declared.graph.Node.{Node}
 use Rattle.lh_elab.specs.declared.measure.Measure.{Measure}
 use Rattle.lh_elab.specs.Graph.{targets_at, max_counted, IsGraph}
-use Rattle.lh_elab.specs.Measures.{cycle_in, is_open, met_or}
+use Rattle.lh_elab.specs.Measures.{cycle_in}
 use Rattle.lh_elab.specs.Refusals.{limited, FaultWithin}
 use Rattle.lh_elab.specs.Searches.{NodesWithin, Measures}
 use Rattle.lh_elab.proofs.Counting.{defined, has-busy}

@@ -29,14 +29,14 @@ use Rattle.lh_unit.specs.declared.inst.Inst.{Inst}
 use Rattle.lh_unit.specs.declared.inst.Inst.TheVariants as inst
 use Rattle.lh_formed.specs.Operands.{RowIs}
 use Rattle.lh_eval.specs.Holding.{Holds, datum_in, slot_at}
-use Rattle.lh_eval.specs.Fitting.{Fits}
 use Rattle.lh_eval.proofs.ValuesFit.{datum-held}
 use Rattle.lh_eval.proofs.GivesFit.{part-held}
 use Rattle.lh_eval.proofs.Holding.{holds-nothing}
 use Rattle.lh_eval.proofs.BeginSteps.{entity-lines, entity-insts}
-use Rattle.lh_sound.proofs.EachItem.{each-of-map}
+use Rattle.lh_formed.proofs.EachItem.{each-of-map}
 use Rattle.lh_sound.specs.Ranges.{RangesFit, arg_types, signal_types, type_if_signal, InstanceFits}
 use Rattle.lh_sound.specs.Units.{IsPort, HasPorts, SigWritesData, WritesData, UnitIsSound}
+use Rattle.lh_sound.proofs.Begins.{nothing-fits}
 use Rattle.lh_sound.proofs.FitLaws.{unit-is-sound, begins-fit}
 use Rattle.lh_elab.specs.declared.statics.Base.{Base}
 use Rattle.lh_elab.specs.declared.statics.Base.TheVariants as base
@@ -52,9 +52,6 @@ moved-none args sigs [] zero e = refl
 moved-none args sigs [] (suc n) e = absurd (omega arith)
 moved-none args sigs (b ∷ bs) zero e = absurd (omega arith)
 moved-none args sigs (b ∷ bs) (suc n) e = ap (λ (l : List (Option Held)). None ∷ l) (moved-none args sigs bs n (omega arith))
-
-nothing-fits : (u : UnitText) (w : ℕ) → Fits u w nothing_held
-nothing-fits u w n h t p q = cc
 
 -- ranges from bit 0 on
 abbrev zero_range : TypeTree → Range

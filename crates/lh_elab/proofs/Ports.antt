@@ -34,12 +34,12 @@ use Rattle.lh_eval.proofs.GivesFit.{part-held}
 use Rattle.lh_sound.specs.Ranges.{RangesFit, arg_types, type_if_signal, signal_types, InstanceFits}
 use Rattle.lh_sound.specs.Units.{IsPort, HasPorts, UnitIsSound}
 use Rattle.lh_sound.specs.Finding.{PartsFound}
-use Rattle.lh_sound.proofs.EachItem.{each-contained, each-split, each-of-map}
+use Rattle.lh_formed.proofs.EachItem.{each-contained, each-split, each-of-map}
+use Rattle.lh_formed.proofs.AtPlaces.{lines-from}
 use Rattle.lh_sound.proofs.Finding.{some-of}
 use Rattle.lh_sound.proofs.FindingElab.{parts-are-found}
 use Rattle.lh_sound.proofs.FindingStatic.{static-all-fits}
 use Rattle.lh_sound.proofs.FitLaws.{of-unit, unit-is-sound, begins-fit}
-use Rattle.lh_sound.proofs.SoundLines.{lines-from}
 use Rattle.lh_elab.proofs.PlanSteps.{entity-types}
 
 -- what holds at each instruction of a module without a fault: its unit allows it, and what it names is right

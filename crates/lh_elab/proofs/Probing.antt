@@ -1,8 +1,7 @@
 -- What an entity senses, in each of its instances.
 use Rattle.std.proofs.Common.{◌≡◌, ◌⊎◌, inl, inr, ℕ, ◌+◌, ◌<◌, ◌≤◌, ◌^◌, List, [], ◌∷◌, ◌++◌, length, map, take, drop, get_or, Option, Some, None, Result, Ok, Err, IfOk, refl, ap, sym, ◌∙◌, subst, arith}
 use Rattle.std.specs.Option.{option_map, option_map_or, option_and_then}
-use Rattle.std.proofs.lemmas.List.{map-append, append-nil, append_assoc, take_more, get_or_push, get_or_append_left, get_or_default}
-use Rattle.std.proofs.lemmas.Option.{slice_get-get_or}
+use Rattle.std.proofs.lemmas.List.{map-append, append-nil, append_assoc, take_more, get_or_push, get_or_append_left, get_or_default, drop_more, drop_all}
 use Rattle.lh_types.specs.Types.{TypeTree}
 use Rattle.lh_types.specs.declared.part.Range.{Range}
 use Rattle.lh_unit.specs.declared.inst.InstId.{InstId}
@@ -21,7 +20,7 @@ use Rattle.lh_unit.specs.Arena.{Arena, IsArena, InstPlaced, contents, naming, ta
 use Rattle.lh_unit.specs.ById.{inst_line}
 use Rattle.lh_unit.specs.WellFormed.{IsWellFormed}
 use Rattle.lh_unit.specs.Within.{Each}
-use Rattle.lh_unit.proofs.Lists.{Same, same, other, same_or}
+use Rattle.lh_unit.proofs.Lists.{Same, same, other, same_or, Each-item}
 use Rattle.lh_formed.specs.Operands.{RowIs}
 use Rattle.lh_eval.specs.declared.instance.Instance.{Instance}
 use Rattle.lh_eval.specs.Fitting.{Fits}
@@ -38,11 +37,9 @@ use Rattle.lh_elab.specs.Answer.{InstanceIs}
 use Rattle.lh_elab.specs.Plans.{AreWide, AreOf}
 use Rattle.lh_elab.specs.Probed.{probed_in, probed_by, ProbeLine, probe_by, above, ProbesOf}
 use Rattle.lh_elab.specs.Statics.{by_of, base_lo, moved_slots, Follows}
-use Rattle.lh_elab.proofs.Lists.{Each-get}
 use Rattle.lh_elab.proofs.Moving.{shifted, length-moved, slot-moved, part-moved}
 use Rattle.lh_elab.proofs.PlanSteps.{lines}
 use Rattle.lh_elab.proofs.Ports.{instantiable-there, part-within, static-fits, types-read}
-use Rattle.lh_elab.proofs.StaticSteps.{drop-get_or, drop-end}
 
 above-part : (args sigs : List Range) (b : Base) (p : Option Range) → option_map (above args sigs) (option_map (λ (r : Range). record { base = b; part = r }) p) ≡ option_map (shifted (base_lo args sigs b)) p
 above-part args sigs b None = refl
@@ -89,11 +86,11 @@ more-probes e f is k d cur new all h p q =
     ap (λ l. l ++ probed_parts e (map f (drop (k + 1) is))) p
     ∙ append_assoc cur (part_if_probe e (f (get_or is k d)).inst []) (probed_parts e (map f (drop (k + 1) is)))
     ∙ ap (λ l. cur ++ l) (probe-front e (f (get_or is k d)).inst (probed_parts e (map f (drop (k + 1) is))))
-    ∙ ap (λ l. cur ++ probed_parts e (map f l)) (sym (drop-get_or is k d h))
+    ∙ ap (λ l. cur ++ probed_parts e (map f l)) (sym (drop_more is k d h))
     ∙ q
 
 pub all-probes : (e : Env) (f : InstId → LineText) (is : List InstId) (k : ℕ) (cur all : List Range) → length is ≤ k → cur ++ probed_parts e (map f (drop k is)) ≡ all → cur ≡ all
-all-probes e f is k cur all h q = sym (append-nil cur) ∙ ap (λ l. cur ++ probed_parts e (map f l)) (sym (drop-end is k h)) ∙ q
+all-probes e f is k cur all h q = sym (append-nil cur) ∙ ap (λ l. cur ++ probed_parts e (map f l)) (sym (drop_all k is h)) ∙ q
 
 pub placed-probe : (a : Arena) (u : ℕ) (i : Inst) (n : ℕ) → n ≡ value_count a u → InstPlaced a u i → ProbeLine n i
 placed-probe a u (inst.Prb x) n e p = omega (arith, e, p)
@@ -193,7 +190,7 @@ in-each (Err e) P Q h = tt
 
 -- the instance of a number
 pub instance-is : (a : Arena) (w : ℕ) (is : List Instance) (k : ℕ) (i : Instance) → k < length is → i ≡ get_or is k i → Each (InstanceIs a w) is → InstanceIs a w i
-instance-is a w is k i h e f = Each-get (InstanceIs a w) is k i (slice_get-get_or is k i h ∙ ap (λ (x : Instance). Some x) (sym e)) f
+instance-is a w is k i h e f = Each-item (InstanceIs a w) is k i f h e
 
 -- what its unit senses
 pub unit-senses : (a : Arena) (us : List (List Probe)) (u : ℕ) (ps : List Probe) → u < unit_count a → length us ≡ unit_count a → ps ≡ get_or us u ps → ((v : ℕ) → v < unit_count a → ProbesOf a v (get_or us v [])) → ProbesOf a u ps

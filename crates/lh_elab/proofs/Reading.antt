@@ -14,12 +14,11 @@ use Rattle.lh_unit.specs.declared.inst.UnitKind.{UnitKind}
 use Rattle.lh_unit.specs.declared.inst.UnitKind.TheVariants as kind
 use Rattle.lh_unit.specs.declared.inst.Inst.{Inst}
 use Rattle.lh_unit.specs.declared.inst.Inst.TheVariants as inst
-use Rattle.lh_unit.proofs.Lists.{Same, same, other, same_or, Each-append}
+use Rattle.lh_unit.proofs.Lists.{Same, same, other, same_or, Each-append, Each-at}
 use Rattle.lh_unit.proofs.ModuleLaws.{block-within, block_insts-within}
 use Rattle.lh_elab.specs.declared.graph.Node.{Node}
 use Rattle.lh_elab.specs.Graph.{no_node, node_after, node_from, node_by, node_of, node_at, targets_at, IsGraph}
 use Rattle.lh_elab.specs.Searches.{NodesWithin}
-use Rattle.lh_elab.proofs.Lists.{Each-get}
 
 -- an entity has one block
 pub entity-blocks : (a : Arena) (u : ℕ) → IsArena a → u < unit_count a → kind_at a u ≡ Some kind.Entity → blocks_at a u ≡ entity_block ∷ []
@@ -35,7 +34,7 @@ pub entity-insts : (a : Arena) (u : ℕ) → IsArena a → u < unit_count a → 
 entity-insts a u o p e = block_insts-within a u 0 entity_block o p (first_block a u (entity-blocks a u o p e))
 
 pub each-at : (n i : ℕ) (d : InstId) (xs ys : List InstId) → i < length xs → xs ≡ ys → Each (λ (x : InstId). x.0 < n) ys → (get_or xs i d).0 < n
-each-at n i d xs ys l e h = Each-get (λ (x : InstId). x.0 < n) xs i (get_or xs i d) (slice_get-get_or xs i d l) (subst (Each (λ (x : InstId). x.0 < n)) (sym e) h)
+each-at n i d xs ys l e h = Each-at (λ (x : InstId). x.0 < n) xs i d (subst (Each (λ (x : InstId). x.0 < n)) (sym e) h) l
 
 -- a graph of the first units
 pub record GraphTo (a : Arena) (n : ℕ) (g : List Node) : Type 0 where

@@ -30,7 +30,7 @@ function-of kind.Func u = refl
 function-of kind.Proc u = refl
 function-of kind.Entity u = refl
 
-args-of : (k : UnitKind) (u : UnitText) → (hierarchy_by k u).args ≡ u.args
+pub args-of : (k : UnitKind) (u : UnitText) → (hierarchy_by k u).args ≡ u.args
 args-of kind.Func u = refl
 args-of kind.Proc u = refl
 args-of kind.Entity u = refl

@@ -1,7 +1,6 @@
 -- What an entity begins with, and one constant or operation after the other, for all its instances.
-use Rattle.std.proofs.Common.{◌≡◌, ℕ, zero, suc, ◌+◌, ◌<◌, ◌≤◌, List, [], ◌∷◌, length, map, get_or, drop, Bool, true, false, if◌then◌else◌, Option, Some, None, refl, ap, sym, ◌∙◌, subst, add-one, drop-cons, arith, lit<}
-use Rattle.std.proofs.lemmas.List.{length-set}
-use Rattle.std.proofs.lemmas.Grind.{common_steps}
+use Rattle.std.proofs.Common.{◌≡◌, ℕ, zero, suc, ◌+◌, ◌<◌, ◌≤◌, List, [], ◌∷◌, length, map, get_or, drop, Bool, true, false, if◌then◌else◌, Option, Some, None, refl, ap, sym, ◌∙◌, subst, arith, lit<}
+use Rattle.std.proofs.lemmas.List.{length-set, drop_more, drop_all}
 use Rattle.lh_types.specs.Types.{TypeTree, signal_type, bit_count}
 use Rattle.lh_types.specs.Values.{Datum}
 use Rattle.lh_types.specs.ValueOf.{datum_of}
@@ -44,15 +43,6 @@ use Rattle.lh_elab.specs.declared.statics.Statics.{Statics}
 use Rattle.lh_elab.specs.Statics.{By, by_of, HasSlots, held_by, given_by, from_zero, args_begun, sig_begun, sigs_begun, base_of, no_range, base_lo, moved, Follows, IsSmall, FitsSomething}
 use Rattle.lh_elab.specs.Plans.{AreWide}
 use Rattle.lh_elab.proofs.Moving.{slots-stay, operated-moved, follows-held, follows-given}
-
-pub drop-get_or : {X : Type 0} → (xs : List X) (i : ℕ) (d : X) → i < length xs → drop i xs ≡ get_or xs i d ∷ drop (i + 1) xs
-drop-get_or xs i d h = rw add-one (drop-cons xs i d h)
-
-pub drop-end : {X : Type 0} → (xs : List X) (i : ℕ) → length xs ≤ i → drop i xs ≡ []
-drop-end xs i h = grind (arith, common_steps)
-
-pub each-rest : {X : Type 0} (P : X → Type 0) (xs : List X) (i : ℕ) (d : X) → i < length xs → Each P (drop i xs) → P (get_or xs i d) × Each P (drop (i + 1) xs)
-each-rest P xs i d h e = let f = subst (Each P) (drop-get_or xs i d h) e in (f.0, f.1)
 
 -- the first of what is left, and what is left after it
 pub first-left : {X : Type 0} (xs : List X) (k : ℕ) (d x : X) (more : List X) → drop k xs ≡ x ∷ more → get_or xs k d ≡ x
@@ -191,11 +181,11 @@ module _ (a : Arena) (u : ℕ) (args sigs : List Range) where
   goes-on s t f is k d to h go l = record {
     held = if_held l.held (f (get_or is k d)).result (static_of (unit_text_at a u) l.held (f (get_or is k d)).inst);
     follows = go l.held l.follows;
-    same = sym (ap (λ ys. static_from (unit_text_at a u) l.held (map f ys)) (drop-get_or is k d h)) ∙ l.same;
+    same = sym (ap (λ ys. static_from (unit_text_at a u) l.held (map f ys)) (drop_more is k d h)) ∙ l.same;
   }
 
   pub ends : (s : By) (f : InstId → LineText) (is : List InstId) (k : ℕ) (to : Env) → length is ≤ k → Leads a u args sigs s (map f (drop k is)) to → Follows a u args sigs s to
-  ends s f is k to h l = subst (Follows a u args sigs s) (sym (ap (λ ys. static_from (unit_text_at a u) l.held (map f ys)) (drop-end is k h)) ∙ l.same) l.follows
+  ends s f is k to h l = subst (Follows a u args sigs s) (sym (ap (λ ys. static_from (unit_text_at a u) l.held (map f ys)) (drop_all k is h)) ∙ l.same) l.follows
 
   module _ (o : IsArena a) (h : u < unit_count a) where
     -- a part as it lies in the instance

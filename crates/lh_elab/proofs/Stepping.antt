@@ -5,6 +5,7 @@ use Rattle.std.proofs.lemmas.List.{reverse-append}
 use Rattle.std.proofs.lemmas.List.Sums.{sum_by_push}
 use Rattle.std.proofs.lemmas.Option.{slice_get_within}
 use Rattle.lh_unit.specs.declared.inst.UnitId.{UnitId}
+use Rattle.lh_unit.proofs.Lists.{Each-get}
 use Rattle.lh_elab.specs.declared.fault.ElabFault.{ElabFault}
 use Rattle.lh_elab.specs.declared.fault.ElabFault.TheVariants as fault
 use Rattle.lh_elab.specs.declared.graph.Node.{Node}
@@ -16,7 +17,6 @@ use Rattle.lh_elab.specs.declared.search.Search.{Search}
 use Rattle.lh_elab.specs.Graph.{node_at, targets_at}
 use Rattle.lh_elab.specs.Measures.{around}
 use Rattle.lh_elab.specs.Searches.{mark_at, entered, passed, NodesWithin, Steps, StepsBy, StepsTo, Measures}
-use Rattle.lh_elab.proofs.Lists.{Each-get}
 use Rattle.lh_elab.proofs.Searching.{Below, Over, IsDone, SearchingBy, Searching, Below-enter, Below-pass, Below-finish, Below-cycle, mark-within}
 
 -- a frame was taken from the stack
@@ -40,7 +40,7 @@ next-marked : (g : List Node) (top : ℕ) (f : Frame) (t u : Search) (x : UnitId
 next-marked g top f t u x mark.New o w e q s =
     after g top u (set t.marks.items x.0 mark.Opened) ((t.stack.items ++ f ∷ []) ++ entered x ∷ []) (entered x ∷ f ∷ reverse t.stack.items) s.marks s.stack
     (reversed (t.stack.items ++ f ∷ []) (entered x) ∙ ap (λ l. entered x ∷ l) (reversed t.stack.items f))
-    (Below-enter g top t.marks.items f (reverse t.stack.items) x o e q (subst (λ n. x.0 < n) (sym o.known.long) (Each-get (λ (y : UnitId). y.0 < length g) (targets_at g f.unit.0) f.next x e (w f.unit.0))))
+    (Below-enter g top t.marks.items f (reverse t.stack.items) x o e q (subst (λ n. x.0 < n) (sym o.known.long) (Each-get (λ (y : UnitId). y.0 < length g) (targets_at g f.unit.0) f.next x (w f.unit.0) e)))
 next-marked g top f t u x mark.Opened o w e q s = cc
 next-marked g top f t u x (mark.Done m) o w e q s =
     after g top u t.marks.items (t.stack.items ++ passed f m ∷ []) (passed f m ∷ reverse t.stack.items) s.marks s.stack (reversed t.stack.items (passed f m))
@@ -127,7 +127,7 @@ falls-finish ms mt st sx ss x e h k = omega arith
 smaller-marked : (g : List Node) (top : ℕ) (f : Frame) (s t u : Search) (x : UnitId) (m : Mark) → Below g top t.marks.items f (reverse t.stack.items) → NodesWithin g → Takes f s t → slice_get (targets_at g f.unit.0) f.next ≡ Some x → mark_at t.marks.items x.0 ≡ m → StepsTo m f x t u (Ok tt) → left g u < left g s
 smaller-marked g top f s t u x mark.New o w k e q p =
     falls-enter (to_meet s.marks.items g) (to_meet u.marks.items g) (sum_by (frame_left g) (t.stack.items ++ f ∷ [])) (sum_by (frame_left g) u.stack.items) (sum_by (frame_left g) s.stack.items) (length (targets_at g x.0)) 0 0
-    (ap (λ ms. to_meet ms g + (2 + length (targets_at g x.0))) p.marks ∙ meet-set t.marks.items g x.0 mark.Opened mark.New q (subst (λ n. x.0 < n) (sym o.known.long) (Each-get (λ (y : UnitId). y.0 < length g) (targets_at g f.unit.0) f.next x e (w f.unit.0))) o.known.long ∙ ap (λ ms. to_meet ms g + 0) k.marks)
+    (ap (λ ms. to_meet ms g + (2 + length (targets_at g x.0))) p.marks ∙ meet-set t.marks.items g x.0 mark.Opened mark.New q (subst (λ n. x.0 < n) (sym o.known.long) (Each-get (λ (y : UnitId). y.0 < length g) (targets_at g f.unit.0) f.next x (w f.unit.0) e)) o.known.long ∙ ap (λ ms. to_meet ms g + 0) k.marks)
     (stack-sum g (t.stack.items ++ f ∷ []) u.stack.items (entered x) p.stack)
     (ap (sum_by (frame_left g)) k.stack)
 smaller-marked g top f s t u x mark.Opened o w k e q p = cc

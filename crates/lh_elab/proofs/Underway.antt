@@ -12,7 +12,7 @@ use Rattle.lh_unit.specs.Design as design
 use Rattle.lh_unit.specs.Design.{Design, hierarchy_in, hierarchy_or, targets, numbered, initial_bits, signal_ranges, top_signals, carried_type, only_signals, with_instance, visit, visit_all, visited, design_of, instance_count, bits_below, max_nesting, max_instances, max_bits}
 use Rattle.lh_unit.specs.Within.{Each}
 use Rattle.lh_sound.specs.Ranges.{arg_types}
-use Rattle.lh_sound.proofs.EachItem.{each-split}
+use Rattle.lh_formed.proofs.EachItem.{each-split}
 use Rattle.lh_unit.proofs.Lists.{Each-append}
 use Rattle.lh_elab.specs.declared.plan.PlanSignal.{PlanSignal}
 use Rattle.lh_elab.specs.declared.plan.PlanChild.{PlanChild}

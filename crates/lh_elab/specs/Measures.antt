@@ -1,8 +1,9 @@
 -- What is counted of instances, over a graph of units: how deep they nest, how many there are, how many bits they have.
-use Rattle.std.specs.Prelude.{◌≡◌, ℕ, zero, suc, ◌+◌, ◌≤◌, min, max, nat_lt, nat_eq, List, ◌∷◌, Bool, true, false, sum_by, Option, Some, None}
+use Rattle.std.specs.Prelude.{◌≡◌, ℕ, zero, suc, ◌+◌, ◌≤◌, min, max, nat_lt, List, ◌∷◌, Bool, true, sum_by, Option, None}
 use Rattle.std.specs.List.{list_any}
 use Rattle.lh_unit.specs.Design.{first_some}
 use Rattle.lh_unit.specs.declared.inst.UnitId.{UnitId}
+use Rattle.lh_formed.specs.Graphs.{is_open, met_or}
 use Rattle.lh_elab.specs.declared.graph.Node.{Node}
 use Rattle.lh_elab.specs.declared.measure.Measure.{Measure}
 use Rattle.lh_elab.specs.Graph.{node_at, targets_at, max_counted}
@@ -46,15 +47,6 @@ pub record IsMeasure (g : List Node) (n : ℕ) (m : Measure) : Type 0 where
   pub depth : (k : ℕ) → suc k ≤ depth_end → nests k g n ≡ nat_lt k m.depth
   pub instances : (k : ℕ) → suc k ≤ depth_end → m.depth ≤ k → min (count_in k g n) instances_end ≡ m.instances
   pub bits : (k : ℕ) → suc k ≤ depth_end → m.depth ≤ k → min (bits_in k g n) max_counted ≡ m.bits
-
--- whether one of these is the unit n
-abbrev pub is_open : (opened : List ℕ) → ℕ → Bool
-is_open opened n = list_any (λ m. nat_eq m n) opened
-
--- whether an `inst` names an open unit, and else what is found below it
-abbrev pub met_or : (below : ℕ → Option ℕ) → (is_open : Bool) → ℕ → Option ℕ
-met_or below true n = Some n
-met_or below false n = below n
 
 -- the target of the first `inst`, depth first, that names an open unit; at most `steps` units are open
 abbrev pub cycle_in : (steps : ℕ) → List Node → (opened : List ℕ) → ℕ → Option ℕ

@@ -1,7 +1,8 @@
 -- The search of a graph of units: one step of it, and its answer.
-use Rattle.std.specs.Prelude.{◌≡◌, ℕ, ◌+◌, ◌<◌, List, [], ◌∷◌, ◌++◌, length, Option, Some, None, Result, Ok, Err, slice_get, slice_set, slice_index_or, ◌⊎◌}
+use Rattle.std.specs.Prelude.{◌≡◌, ℕ, ◌+◌, ◌<◌, List, [], ◌∷◌, ◌++◌, length, Option, Some, None, Result, Ok, Err, slice_get, slice_set, slice_index_or}
 use Rattle.lh_unit.specs.Within.{Each}
 use Rattle.lh_unit.specs.declared.inst.UnitId.{UnitId}
+use Rattle.lh_formed.specs.Graphs.{IsIn}
 use Rattle.lh_elab.specs.declared.fault.ElabFault.{ElabFault}
 use Rattle.lh_elab.specs.declared.fault.ElabFault.TheVariants as fault
 use Rattle.lh_elab.specs.declared.graph.Node.{Node}
@@ -69,11 +70,6 @@ StepsBy (Some t) g f old new r = StepsTo (mark_at old.marks.items t.0) f t old n
 -- one step below an open unit
 abbrev pub Steps : List Node → Frame → (old new : Search) → Result (Unit {0}) ElabFault → Type 0
 Steps g f old new r = StepsBy (slice_get (targets_at g f.unit.0) f.next) g f old new r
-
--- n is one of these
-abbrev pub IsIn : List ℕ → ℕ → Type 0
-IsIn [] n = ⊥
-IsIn (x ∷ more) n = (x ≡ n) ⊎ IsIn more n
 
 -- each unit that instantiates another is one of these
 abbrev pub HasBusy : List Node → List ℕ → Type 0

@@ -10,8 +10,9 @@ use Rattle.lh_unit.specs.Names.{IsName}
 use Rattle.lh_unit.specs.Contents.{InstText, const_text, pure_text, prb_text, drv_text, reg_text, LineText, ArgText, UnitText}
 use Rattle.lh_unit.specs.SpellsInst.{SpellsInst, gives_value}
 use Rattle.lh_unit.specs.Within.{Each}
+use Rattle.lh_unit.specs.Hierarchy.{lines_of}
 use Rattle.lh_unit.proofs.Lists.{some_inj}
-use Rattle.lh_spelled.specs.Printable.{HasInstLine, IsPrintable, all_lines, results_repeat}
+use Rattle.lh_spelled.specs.Printable.{HasInstLine, IsPrintable, results_repeat}
 use Rattle.lh_term.specs.Tree.{Tree, constant, now_of}
 use Rattle.lh_term.specs.Types.{FitsTerm, IsValueType}
 use Rattle.lh_term.specs.Make.{is_bit}
@@ -247,8 +248,8 @@ printed : (u y : UnitText) (steps : Part → List PartStep) (h : HasPrintableHea
 printed u y steps h fits e w r t i =
     let v = i (record { short = w.short; times = t }) in
     let z : UnitText = entity_with u e.lines in
-    let new : results_repeat z.args [] (all_lines z.blocks) ≡ false =
-    subst (λ (x : UnitText). results_repeat x.args [] (all_lines x.blocks) ≡ false) w.is r.new_results in
+    let new : results_repeat z.args [] (lines_of z.blocks) ≡ false =
+    subst (λ (x : UnitText). results_repeat x.args [] (lines_of x.blocks) ≡ false) w.is r.new_results in
     let p : IsPrintable z = record {
       headed = headed u.kind u.name u.args u.result h.is_process h.headed;
       shaped = refl;

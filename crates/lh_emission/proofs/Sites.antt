@@ -14,6 +14,7 @@ use Rattle.lh_unit.specs.Within.{Each}
 use Rattle.lh_unit.specs.WellFormed.{values_named, is_undefined, is_wrong_kind, is_wrong_type, is_allowed, phi_is_wrong, arguments_differ, FaultKind, undefined, wrong_kind, wrong_type, not_here, no_terminator, phi_edges, not_defined, arguments, has_wrong_kind, has_no_kind, stands_later, Site, HasFault, NoneHasFault}
 use Rattle.lh_unit.specs.Reads.{args_repeat}
 use Rattle.lh_unit.proofs.Lists.{some_inj}
+use Rattle.lh_unit.proofs.Within.{Each-more}
 use Rattle.lh_spelled.specs.Printable.{results_repeat}
 use Rattle.lh_term.specs.declared.part.Part.{Part}
 use Rattle.lh_emission.specs.Emitted.{PartStep, source_of, Emitted, nothing_emitted, name_if_whole, whole_name}
@@ -38,10 +39,6 @@ none-named : (test : List ℕ → Bool) (xs : List Use) → Each (λ (x : Use). 
 none-named test [] h = refl
 none-named test (x ∷ xs) h = rw h.0 (none-named test xs h.1)
 
-each-so : {X : Type 0} (P Q : X → Type 0) (xs : List X) → ((x : X) → P x → Q x) → Each P xs → Each Q xs
-each-so P Q [] f h = tt
-each-so P Q (x ∷ xs) f h = (f x h.0, each-so P Q xs f h.1)
-
 defined-more : (n : List ℕ) (xs ys : List LineText) → lines_define n xs ≡ true → lines_define n (xs ++ ys) ≡ true
 defined-more n [] ys h = absurd cc
 defined-more n (x ∷ xs) ys h = at (is_result_name n x.result) refl (defined-more n xs ys)
@@ -65,22 +62,22 @@ module _ (u : UnitText) (ls : List LineText) (items : List ItemText) where
         by false q k = let z : lines_define x.value ls ≡ true = ap (lines_define x.value) same ∙ defined-more x.value before rest k in rw (q, z) refl
 
     all-defined : list_any (λ n. not (defines_value n entity)) (map (λ (x : Use). x.value) (uses i)) ≡ false
-    all-defined = none-named (λ n. not (defines_value n entity)) (uses i) (each-so _ _ (uses i) use-defined r.uses)
+    all-defined = none-named (λ n. not (defines_value n entity)) (uses i) (Each-more _ _ (uses i) use-defined r.uses)
 
     right-kinds : list_any (has_wrong_kind entity) (uses i) ≡ false
-    right-kinds = none-of (has_wrong_kind entity) (uses i) (each-so _ _ (uses i) one r.uses)
+    right-kinds = none-of (has_wrong_kind entity) (uses i) (Each-more _ _ (uses i) one r.uses)
       where
         one : (x : Use) → UseRight entity before x → has_wrong_kind entity x ≡ false
         one x h = ap (λ o. option_map_or (λ k. not (Rattle.lh_unit.specs.Kinds.takes x.need k)) o false) h.kind ∙ ap not h.takes
 
     some-kinds : list_any (has_no_kind entity) (uses i) ≡ false
-    some-kinds = none-of (has_no_kind entity) (uses i) (each-so _ _ (uses i) one r.uses)
+    some-kinds = none-of (has_no_kind entity) (uses i) (Each-more _ _ (uses i) one r.uses)
       where
         one : (x : Use) → UseRight entity before x → has_no_kind entity x ≡ false
         one x h = ap (λ o. option_map_or (λ k. false) o true) h.kind
 
     stand-earlier : (p : Place) → p.before ≡ before → list_any (stands_later entity p) (map (λ (x : Use). x.value) (uses i)) ≡ false
-    stand-earlier p q = none-named (stands_later entity p) (uses i) (each-so _ _ (uses i) one r.uses)
+    stand-earlier p q = none-named (stands_later entity p) (uses i) (Each-more _ _ (uses i) one r.uses)
       where
         one : (x : Use) → UseRight entity before x → stands_later entity p x.value ≡ false
         one x h = ap (λ z. not (args_define x.value u.args || lines_define x.value z)) q ∙ ap not h.there

@@ -11,7 +11,8 @@ use Rattle.lh_unit.specs.Places.{places}
 use Rattle.lh_unit.specs.Reads.{args_repeat}
 use Rattle.lh_unit.specs.WellFormed.{NoneHasFault}
 use Rattle.lh_unit.specs.Within.{Each}
-use Rattle.lh_spelled.specs.Printable.{all_lines, results_repeat}
+use Rattle.lh_unit.specs.Hierarchy.{lines_of}
+use Rattle.lh_spelled.specs.Printable.{results_repeat}
 use Rattle.lh_term.specs.declared.part.Part.{Part}
 use Rattle.lh_emission.specs.Given.{Drive, TriggerTree, EdgeRowTree}
 use Rattle.lh_emission.specs.Emitted.{PartStep, source_of}
@@ -138,7 +139,7 @@ HasNoFault y = (items : List ItemText) → NoneHasFault items (map (λ p. record
 
 -- no result of it has the name of an argument or of another result, and none of its instructions has a fault
 pub record IsRightEntity (y : UnitText) : Type 0 where
-  pub new_results : results_repeat y.args [] (all_lines y.blocks) ≡ false
+  pub new_results : results_repeat y.args [] (lines_of y.blocks) ≡ false
   pub no_fault : HasNoFault y
 
 -- a unit with few arguments, no two of one name

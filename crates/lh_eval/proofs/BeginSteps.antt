@@ -5,7 +5,7 @@ use Rattle.lh_types.specs.declared.part.Range.{Range}
 use Rattle.lh_unit.specs.Contents.{LineText}
 use Rattle.lh_unit.specs.Table.{Table, ArgsWithin, ResultWithin, FitsKind, line_at, entity_block}
 use Rattle.lh_unit.specs.Arena.{Arena, IsArena, naming, unit_count, value_count, inst_count, table_at, kind_at, args_at, block_insts_at, unit_text_at}
-use Rattle.lh_unit.specs.ById.{inst_line}
+use Rattle.lh_unit.specs.ById.{inst_line, is_sig}
 use Rattle.lh_unit.specs.Held.{Held, Env, part_held, with_args, nothing_held}
 use Rattle.lh_unit.specs.Hierarchy.{with_parts, signal_names, name_if_signal, lines_of, parts_of}
 use Rattle.lh_unit.specs.Naming.{arg_text, inst_text, maybe_text, block_text}
@@ -22,7 +22,7 @@ use Rattle.lh_eval.specs.Holding.{Holds, MaybeIn, given}
 use Rattle.lh_unit.specs.Within.{Each}
 use Rattle.lh_eval.proofs.GivingText.{block-insts}
 use Rattle.lh_eval.proofs.Holding.{holds-more, holds-given, holds-nothing}
-use Rattle.lh_eval.specs.Beginning.{args_given, signals_given, is_sig, next_given}
+use Rattle.lh_eval.specs.Beginning.{args_given, signals_given, next_given}
 
 -- a result of the unit has a slot
 pub maybe-in : (n : ℕ) (slots : List (Option Held)) (r : Option ValueId) → length slots ≡ n → ResultWithin n r → MaybeIn slots r

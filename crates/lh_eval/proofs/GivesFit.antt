@@ -9,6 +9,7 @@ use Rattle.lh_types.specs.Fits.{FitsType}
 use Rattle.lh_types.specs.Bits.{value_from_bits}
 use Rattle.lh_types.specs.Parts.{part_range}
 use Rattle.lh_types.specs.Apply.{apply}
+use Rattle.lh_types.specs.Classes.{class_of}
 use Rattle.lh_types.specs.declared.op.Op.{Op}
 use Rattle.lh_types.specs.declared.op.Op.TheVariants as op
 use Rattle.lh_types.specs.declared.part.Range.{Range}
@@ -62,9 +63,9 @@ module _ (u : UnitText) (w : ℕ) (e : Env) (f : Fits u w e) where
   -- an operation on values
   values-fit : (o : Op) (os : List OperandText) → RowIs u (pure_text o os) → HasOperands o os → (ds : List Datum) → data_at e os ≡ Some ds → GivenFits w (Some (datum_held (apply o ds))) (operation_type o os)
   values-fit o os row has ds p x t g q =
-      let l = fits-line u w e f o os row has ds p in
-      let k = l.gives t q in
-      as-given w (apply o ds) x t (value-type t k.0) (subst (FitsType (apply o ds)) k.1 (results_fit_lem o ds l.fits.types l.fits.gives l.fits.data_types l.fits.values_fit l.fits.row)) g
+      let l = fits-line u w e f (class_of o) os row has ds p in
+      let k = l.given t q in
+      as-given w (apply o ds) x t (value-type t k.0) (subst (FitsType (apply o ds)) k.1 (results_fit_lem o ds l.types l.gives l.data_types l.values_fit l.row)) g
 
   -- a step into a part of a signal
   stepped-fits : (s : Step) (x : OperandText) (whole of : TypeTree) → IsOf u whole x.value → LeadsTo s whole of → GivenFits w (stepped (value_type u x.value) (part_at e x.value) (Some s)) (Some of)

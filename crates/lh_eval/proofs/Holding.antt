@@ -1,5 +1,5 @@
 -- What is held by ids is what is held under names.
-use Rattle.std.proofs.Common.{◌≡◌, ℕ, ◌+◌, ◌<◌, zero, suc, Bool, if◌then◌else◌, nat_eq, List, [], ◌∷◌, ◌++◌, length, map, drop, replicate, get_or, set, Option, Some, None, refl, ap, sym, ◌∙◌, append_assoc, add-one, drop-cons, arith, get_or-set_same, get_or-set_other}
+use Rattle.std.proofs.Common.{◌≡◌, ℕ, ◌+◌, ◌<◌, zero, suc, Bool, if◌then◌else◌, nat_eq, List, [], ◌∷◌, ◌++◌, length, map, drop, replicate, get_or, set, Option, Some, None, refl, ap, sym, ◌∙◌, append_assoc, arith, get_or-set_same, get_or-set_other}
 use Rattle.std.specs.Option.{option_and_then, option_map}
 use Rattle.std.proofs.lemmas.List.{length-set, length-replicate}
 use Rattle.lh_types.specs.Values.{Datum}
@@ -11,7 +11,7 @@ use Rattle.lh_unit.specs.Naming.{value_text, maybe_text, operand_text}
 use Rattle.lh_unit.specs.Within.{Each}
 use Rattle.lh_unit.specs.declared.inst.ValueId.{ValueId}
 use Rattle.lh_unit.specs.declared.inst.Typed.{Typed}
-use Rattle.lh_unit.proofs.Lists.{Same, same, other, same_or, nat_eq-refl, nat_eq-other}
+use Rattle.lh_unit.proofs.Lists.{Same, same, other, same_or, nat_eq-refl, nat_eq-other, drop-item}
 use Rattle.lh_unit.proofs.ById.{same_value-by_id}
 use Rattle.lh_eval.specs.Holding.{Holds, datum_in, condition_in, data_in, one_datum, two_data, MaybeIn, SameHeld, HoldsSame, HoldsMore, HoldsGiven, HoldsNothing}
 
@@ -101,9 +101,6 @@ data-two slots (o ∷ p ∷ []) d e h = refl
 data-two slots (o ∷ p ∷ q ∷ os) d e h = absurd (omega (arith, h))
 
 -- ---- values one by one
-
-drop-item : {X : Type 0} → (xs : List X) (i : ℕ) (x : X) → i < length xs → x ≡ get_or xs i x → drop i xs ≡ x ∷ drop (i + 1) xs
-drop-item xs i x h e = (rw add-one (drop-cons xs i x h)) ∙ ap (λ y. y ∷ drop (i + 1) xs) (sym e)
 
 front-more : (vs : List Datum) (d : Datum) (r : Option (List Datum)) → option_map (λ ds. (vs ++ d ∷ []) ++ ds) r ≡ option_map (λ ds. vs ++ ds) (front (Some d) r)
 front-more vs d None = refl

@@ -8,20 +8,22 @@ use Rattle.lh_types.specs.Faults.{is_data}
 use Rattle.lh_types.specs.Values.{Datum, data_row}
 use Rattle.lh_types.specs.Fits.{FitsType, FitsRow}
 use Rattle.lh_types.specs.Parts.{Part, part_beyond, part_of, step_part}
-use Rattle.lh_types.specs.ApplyTypes.{FitsOp, RowType, PartHasType}
+use Rattle.lh_types.specs.ApplyTypes.{FitsOp, ClassType, PartHasType}
+use Rattle.lh_types.specs.Classes.{class_of}
 use Rattle.lh_types.specs.declared.op.Op.{Op}
-use Rattle.lh_types.specs.declared.op.Op.TheVariants as op
+use Rattle.lh_types.specs.declared.op.OpClass.{OpClass}
+use Rattle.lh_types.specs.declared.op.OpClass.TheVariants as class
 use Rattle.lh_types.specs.declared.part.Step.{Step}
 use Rattle.lh_types.specs.declared.part.Step.TheVariants.{Field, Slice}
 use Rattle.lh_types.proofs.LawProofs.{parts_are_within}
 use Rattle.lh_unit.specs.Contents.{OperandText, pure_text, UnitText}
-use Rattle.lh_unit.specs.Typing.{first_type, with_type, operand_types, array_made, tuple_made, operation_type}
-use Rattle.lh_unit.specs.TypingRows.{shifts, selects, takes_part, puts_part, part_type}
+use Rattle.lh_unit.specs.Typing.{first_type, with_type, operand_types, array_made, tuple_made, class_type}
+use Rattle.lh_unit.specs.TypingRows.{class_row, shifts, selects, takes_part, puts_part, part_type}
 use Rattle.lh_unit.specs.Held.{Held, datum_held, Env, as_datum, datum_at, data_at, front}
 use Rattle.lh_unit.specs.Within.{Each}
 use Rattle.lh_formed.specs.Operands.{IsOf, IsLike, IsWritten, OperationIs, RowIs}
 use Rattle.lh_eval.specs.Fitting.{IsValueType, Fits}
-use Rattle.lh_eval.specs.Sound.{HasOperands, OperandsFitRows}
+use Rattle.lh_eval.specs.Sound.{ClassHasOperands, HasOperands, OperandsFitRows}
 use Rattle.lh_eval.proofs.TypesMade.{array-made, tuple-made}
 
 -- a value that is held
@@ -65,24 +67,28 @@ data-part (signal_type t) s p d e = absurd cc
 data-part _ s p d e = e
 
 -- the type of an operation's line is a data type, and the one that its row gives
-abbrev pub GivesType : Op → List OperandText → TypeTree → Type 0
-GivesType o os r = (t : TypeTree) → operation_type o os ≡ Some t → IsData t × (r ≡ t)
+abbrev pub GivesType : OpClass → List OperandText → TypeTree → Type 0
+GivesType o os r = (t : TypeTree) → class_type o os ≡ Some t → IsData t × (r ≡ t)
 
--- operands that fit the row, which gives the type of the line
-pub record FitsLine (o : Op) (os : List OperandText) (ds : List Datum) : Type 0 where
-  pub fits : FitsOp o ds
-  pub gives : GivesType o os fits.gives
+-- operands that fit the row of their class, which gives the type of the line
+pub record FitsLine (o : OpClass) (os : List OperandText) (ds : List Datum) : Type 0 where
+  pub types : List TypeTree
+  pub gives : TypeTree
+  pub data_types : AreData (row_of types)
+  pub values_fit : FitsRow (data_row ds) (row_of types)
+  pub row : ClassType o types gives
+  pub given : GivesType o os gives
 
 -- an operation that gives the type that is written first
-gives-first : (o : Op) (os : List OperandText) (r t : TypeTree) → operation_type o os ≡ first_type os → first_type os ≡ Some t → t ≡ r → IsData r → GivesType o os r
+gives-first : (o : OpClass) (os : List OperandText) (r t : TypeTree) → class_type o os ≡ first_type os → first_type os ≡ Some t → t ≡ r → IsData r → GivesType o os r
 gives-first o os r t e f g d s q = let h : r ≡ s = same_Some _ _ (ap Some (sym g) ∙ sym f ∙ sym e ∙ q) in (subst IsData h d, h)
 
 -- one that gives a bit
-gives-bit : (o : Op) (os : List OperandText) → operation_type o os ≡ Some (int_type 1) → GivesType o os (int_type 1)
+gives-bit : (o : OpClass) (os : List OperandText) → class_type o os ≡ Some (int_type 1) → GivesType o os (int_type 1)
 gives-bit o os e t q = let h : int_type 1 ≡ t = same_Some _ _ (sym e ∙ q) in (subst IsData h (omega arith, omega arith), h)
 
 -- one that gives an array of n elements of the type that is written first
-gives-array : (n : ℕ) (o : Op) (os : List OperandText) (t : TypeTree) → operation_type o os ≡ option_and_then (array_made n) (first_type os) → first_type os ≡ Some t → IsData t → GivesType o os (array_type n t)
+gives-array : (n : ℕ) (o : OpClass) (os : List OperandText) (t : TypeTree) → class_type o os ≡ option_and_then (array_made n) (first_type os) → first_type os ≡ Some t → IsData t → GivesType o os (array_type n t)
 gives-array n o os t e f d s q = array-made n t s d (sym (ap (option_and_then (array_made n)) f) ∙ sym e ∙ q)
 
 -- a row of one type is of data types only where the type is one
@@ -110,8 +116,8 @@ module _ (u : UnitText) (w : ℕ) (e : Env) (f : Fits u w e) where
       let more = fit-row os ts x.1 m.1 x.3 in
       (subst (λ (y : List Datum). FitsRow (data_row y) (row_of (t ∷ ts))) x.4 (k.1, more.0), (is-data t m.0.1 k.0, more.1))
 
-  made : (o : Op) (os : List OperandText) (ts : List TypeTree) (r : TypeTree) (ds : List Datum) → Matches os ts → data_at e os ≡ Some ds → RowType o ts r → (AreData (row_of ts) → GivesType o os r) → FitsLine o os ds
-  made o os ts r ds m p k g = let x = fit-row os ts ds m p in record { fits = record { types = ts; gives = r; data_types = x.1; values_fit = x.0; row = k }; gives = g x.1 }
+  made : (o : OpClass) (os : List OperandText) (ts : List TypeTree) (r : TypeTree) (ds : List Datum) → Matches os ts → data_at e os ≡ Some ds → ClassType o ts r → (AreData (row_of ts) → GivesType o os r) → FitsLine o os ds
+  made o os ts r ds m p k g = let x = fit-row os ts ds m p in record { types = ts; gives = r; data_types = x.1; values_fit = x.0; row = k; given = g x.1 }
 
   int-no-time : (n : ℕ) → NoTime (int_type n)
   unfolding NoTime
@@ -159,21 +165,21 @@ module _ (u : UnitText) (w : ℕ) (e : Env) (f : Fits u w e) where
   unfolding Ints Two
   two-ints os t l h = (l.0.0, l.0.1, two os h.0 h.1 (int_type l.0.0) (int-no-time l.0.0) h.2 (int-like os t l.0.0 l.0.1 l.1))
 
-  twos : (o : Op) (os : List OperandText) (t : TypeTree) (ds : List Datum) → operation_type o os ≡ first_type os → first_type os ≡ Some t → Ints os t → Two os → data_at e os ≡ Some ds → ((n : ℕ) → RowType o (int_type n ∷ int_type n ∷ []) (int_type n)) → FitsLine o os ds
+  twos : (o : OpClass) (os : List OperandText) (t : TypeTree) (ds : List Datum) → class_type o os ≡ first_type os → first_type os ≡ Some t → Ints os t → Two os → data_at e os ≡ Some ds → ((n : ℕ) → ClassType o (int_type n ∷ int_type n ∷ []) (int_type n)) → FitsLine o os ds
   twos o os t ds a b l h p k = let x = two-ints os t l h in made o os (int_type x.0 ∷ int_type x.0 ∷ []) (int_type x.0) ds x.2 p (k x.0) (λ d. gives-first o os (int_type x.0) t a b x.1 d.0)
 
-  compares : (o : Op) (os : List OperandText) (t : TypeTree) (ds : List Datum) → operation_type o os ≡ Some (int_type 1) → Ints os t → Two os → data_at e os ≡ Some ds → ((n : ℕ) → RowType o (int_type n ∷ int_type n ∷ []) (int_type 1)) → FitsLine o os ds
+  compares : (o : OpClass) (os : List OperandText) (t : TypeTree) (ds : List Datum) → class_type o os ≡ Some (int_type 1) → Ints os t → Two os → data_at e os ≡ Some ds → ((n : ℕ) → ClassType o (int_type n ∷ int_type n ∷ []) (int_type 1)) → FitsLine o os ds
   compares o os t ds a l h p k = let x = two-ints os t l h in made o os (int_type x.0 ∷ int_type x.0 ∷ []) (int_type 1) ds x.2 p (k x.0) (λ d. gives-bit o os a)
 
-  unary : (o : Op) (os : List OperandText) (t : TypeTree) (ds : List Datum) → operation_type o os ≡ first_type os → first_type os ≡ Some t → Ints os t → (x : OperandText) → os ≡ x ∷ [] → data_at e os ≡ Some ds → ((n : ℕ) → RowType o (int_type n ∷ []) (int_type n)) → FitsLine o os ds
+  unary : (o : OpClass) (os : List OperandText) (t : TypeTree) (ds : List Datum) → class_type o os ≡ first_type os → first_type os ≡ Some t → Ints os t → (x : OperandText) → os ≡ x ∷ [] → data_at e os ≡ Some ds → ((n : ℕ) → ClassType o (int_type n ∷ []) (int_type n)) → FitsLine o os ds
   unfolding Ints
   unary o os t ds a b l x h p k = made o os (int_type l.0.0 ∷ []) (int_type l.0.0) ds (one os x (int_type l.0.0) (int-no-time l.0.0) h (int-like os t l.0.0 l.0.1 l.1)) p (k l.0.0) (λ d. gives-first o os (int_type l.0.0) t a b l.0.1 d.0)
 
-  equals : (o : Op) (os : List OperandText) (t : TypeTree) (ds : List Datum) → operation_type o os ≡ Some (int_type 1) → (is_data t ≡ true) × Each (IsLike u t) os → Two os → data_at e os ≡ Some ds → RowType o (t ∷ t ∷ []) (int_type 1) → FitsLine o os ds
+  equals : (o : OpClass) (os : List OperandText) (t : TypeTree) (ds : List Datum) → class_type o os ≡ Some (int_type 1) → (is_data t ≡ true) × Each (IsLike u t) os → Two os → data_at e os ≡ Some ds → ClassType o (t ∷ t ∷ []) (int_type 1) → FitsLine o os ds
   unfolding Two
   equals o os t ds a l h p k = made o os (t ∷ t ∷ []) (int_type 1) ds (two os h.0 h.1 t (no-time t l.0) h.2 l.1) p k (λ d. gives-bit o os a)
 
-  shift : (o : Op) (os : List OperandText) (t : TypeTree) (ds : List Datum) → operation_type o os ≡ first_type os → first_type os ≡ Some t → OperationIs u shifts t os → data_at e os ≡ Some ds → ((n k : ℕ) → RowType o (int_type n ∷ int_type n ∷ int_type k ∷ []) (int_type n)) → FitsLine o os ds
+  shift : (o : OpClass) (os : List OperandText) (t : TypeTree) (ds : List Datum) → class_type o os ≡ first_type os → first_type os ≡ Some t → OperationIs u shifts t os → data_at e os ≡ Some ds → ((n k : ℕ) → ClassType o (int_type n ∷ int_type n ∷ int_type k ∷ []) (int_type n)) → FitsLine o os ds
   unfolding Matches
   shift o [] t ds a c l p k = absurd l
   shift o (b ∷ []) t ds a c l p k = absurd l
@@ -185,13 +191,13 @@ module _ (u : UnitText) (w : ℕ) (e : Env) (f : Fits u w e) where
       ((l.1.0 ∙ ap Some l.0.1, int-no-time i), ((l.2.0 ∙ ap Some l.0.1, int-no-time i), ((l.3.1, int-no-time j), tt))) p (k i j) (λ d. gives-first o (b ∷ h ∷ n ∷ []) (int_type i) t a c l.0.1 d.0)
   shift o (b ∷ h ∷ n ∷ m ∷ more) t ds a c l p k = absurd l
 
-  select : (os : List OperandText) (t : TypeTree) (ds : List Datum) → first_type os ≡ Some t → OperationIs u selects t os → data_at e os ≡ Some ds → FitsLine op.Mux os ds
+  select : (os : List OperandText) (t : TypeTree) (ds : List Datum) → first_type os ≡ Some t → OperationIs u selects t os → data_at e os ≡ Some ds → FitsLine class.Select os ds
   unfolding Matches
   select [] t ds c l p = absurd l
   select (x ∷ []) t ds c l p = absurd l
   select (x ∷ s ∷ []) t ds c l p =
-      made op.Mux (x ∷ s ∷ []) (array_type l.1.0 t ∷ int_type l.2.0 ∷ []) t ds ((l.1.1, array-no-time l.1.0 t), ((l.2.1, int-no-time l.2.0), tt)) p (l.1.0, l.2.0, refl)
-      (λ d. gives-first op.Mux (x ∷ s ∷ []) t t refl c refl d.0.0)
+      made class.Select (x ∷ s ∷ []) (array_type l.1.0 t ∷ int_type l.2.0 ∷ []) t ds ((l.1.1, array-no-time l.1.0 t), ((l.2.1, int-no-time l.2.0), tt)) p (l.1.0, l.2.0, refl)
+      (λ d. gives-first class.Select (x ∷ s ∷ []) t t refl c refl d.0.0)
   select (x ∷ s ∷ y ∷ more) t ds c l p = absurd l
 
   -- a value of a type that has the part
@@ -207,7 +213,7 @@ module _ (u : UnitText) (w : ℕ) (e : Env) (f : Fits u w e) where
   whole-part s (tuple_type r) t d v g h = (no-time (tuple_type r) refl, h)
   whole-part s _ t d v g h = absurd v
 
-  take-part : (o : Op) (s : Step) (os : List OperandText) (t : TypeTree) (ds : List Datum) → operation_type o os ≡ first_type os → first_type os ≡ Some t → OperationIs u (takes_part s) t os → data_at e os ≡ Some ds → ((whole : TypeTree) → PartHasType whole s t → RowType o (whole ∷ []) t) → FitsLine o os ds
+  take-part : (o : OpClass) (s : Step) (os : List OperandText) (t : TypeTree) (ds : List Datum) → class_type o os ≡ first_type os → first_type os ≡ Some t → OperationIs u (takes_part s) t os → data_at e os ≡ Some ds → ((whole : TypeTree) → PartHasType whole s t → ClassType o (whole ∷ []) t) → FitsLine o os ds
   unfolding Matches
   take-part o s [] t ds a c l p k = absurd l
   take-part o s (x ∷ []) t ds a c l p k =
@@ -217,7 +223,7 @@ module _ (u : UnitText) (w : ℕ) (e : Env) (f : Fits u w e) where
       made o (x ∷ []) (l.0 ∷ []) t ds ((l.1, h.0), tt) p (k l.0 h.1) (λ d. gives-first o (x ∷ []) t t a c refl (part-is-data l.0 s t d.0 h.1))
   take-part o s (x ∷ y ∷ more) t ds a c l p k = absurd l
 
-  put-part : (o : Op) (s : Step) (os : List OperandText) (t : TypeTree) (ds : List Datum) → operation_type o os ≡ first_type os → first_type os ≡ Some t → OperationIs u (puts_part s) t os → data_at e os ≡ Some ds → ((q : TypeTree) → PartHasType t s q → RowType o (t ∷ q ∷ []) t) → FitsLine o os ds
+  put-part : (o : OpClass) (s : Step) (os : List OperandText) (t : TypeTree) (ds : List Datum) → class_type o os ≡ first_type os → first_type os ≡ Some t → OperationIs u (puts_part s) t os → data_at e os ≡ Some ds → ((q : TypeTree) → PartHasType t s q → ClassType o (t ∷ q ∷ []) t) → FitsLine o os ds
   unfolding Matches NoTime
   put-part o s [] t ds a c l p k = absurd l
   put-part o s (x ∷ []) t ds a c l p k = absurd l
@@ -230,50 +236,38 @@ module _ (u : UnitText) (w : ℕ) (e : Env) (f : Fits u w e) where
       made o (x ∷ v ∷ []) (t ∷ l.2.0 ∷ []) t ds ((l.1, no-time t l.0), ((l.2.2, n), tt)) p (k l.2.0 h) (λ r. gives-first o (x ∷ v ∷ []) t t a c refl r.0)
   put-part o s (x ∷ v ∷ y ∷ more) t ds a c l p k = absurd l
 
-  array : (os : List OperandText) (t : TypeTree) (ds : List Datum) → first_type os ≡ Some t → (is_data t ≡ true) × Each (IsLike u t) os → data_at e os ≡ Some ds → FitsLine op.Array os ds
+  array : (os : List OperandText) (t : TypeTree) (ds : List Datum) → first_type os ≡ Some t → (is_data t ≡ true) × Each (IsLike u t) os → data_at e os ≡ Some ds → FitsLine class.Array os ds
   array os t ds first l p =
       let n : length (replicate (length os) t) ≡ length os = length-replicate (length os) t in
-      made op.Array os (replicate (length os) t) (array_type (length (replicate (length os) t)) t) ds (alike-all os t (no-time t l.0) l.1) p
+      made class.Array os (replicate (length os) t) (array_type (length (replicate (length os) t)) t) ds (alike-all os t (no-time t l.0) l.1) p
       (t, omega (arith, n, some-first os t first), ap (λ (k : ℕ). replicate k t) (sym n), refl)
-      (λ d. subst (λ (k : ℕ). GivesType op.Array os (array_type k t)) (sym n) (gives-array (length os) op.Array os t refl first (first-data (length os) t (some-first os t first) d)))
+      (λ d. subst (λ (k : ℕ). GivesType class.Array os (array_type k t)) (sym n) (gives-array (length os) class.Array os t refl first (first-data (length os) t (some-first os t first) d)))
 
-  repeat : (n : ℕ) (os : List OperandText) (t : TypeTree) (ds : List Datum) → first_type os ≡ Some t → (is_data t ≡ true) × Each (IsLike u t) os → (x : OperandText) → os ≡ x ∷ [] → 0 < n → data_at e os ≡ Some ds → FitsLine (op.Repeat n) os ds
-  repeat n os t ds c l x h m p = made (op.Repeat n) os (t ∷ []) (array_type n t) ds (one os x t (no-time t l.0) h l.1) p (t, refl, m, refl) (λ d. gives-array n (op.Repeat n) os t refl c d.0)
+  repeat : (n : ℕ) (os : List OperandText) (t : TypeTree) (ds : List Datum) → first_type os ≡ Some t → (is_data t ≡ true) × Each (IsLike u t) os → (x : OperandText) → os ≡ x ∷ [] → 0 < n → data_at e os ≡ Some ds → FitsLine (class.Repeat n) os ds
+  repeat n os t ds c l x h m p = made (class.Repeat n) os (t ∷ []) (array_type n t) ds (one os x t (no-time t l.0) h l.1) p (t, refl, m, refl) (λ d. gives-array n (class.Repeat n) os t refl c d.0)
 
-  tuple : (os : List OperandText) (t : TypeTree) (ds : List Datum) → first_type os ≡ Some t → Each (λ (o : OperandText). (g : TypeTree) × (is_data g ≡ true) × IsWritten u g o) os → data_at e os ≡ Some ds → FitsLine op.Tuple os ds
+  tuple : (os : List OperandText) (t : TypeTree) (ds : List Datum) → first_type os ≡ Some t → Each (λ (o : OperandText). (g : TypeTree) × (is_data g ≡ true) × IsWritten u g o) os → data_at e os ≡ Some ds → FitsLine class.Tuple os ds
   tuple os t ds first l p =
       let r = fields-match os l in
-      made op.Tuple os r.0 (tuple_type (row_of r.0)) ds r.2 p (omega (arith, r.1, some-first os t first), refl)
+      made class.Tuple os r.0 (tuple_type (row_of r.0)) ds r.2 p (omega (arith, r.1, some-first os t first), refl)
       (λ d s q. tuple-made r.0 s d (sym (ap (option_and_then tuple_made) r.3) ∙ q))
 
-  pub fits-line : (o : Op) (os : List OperandText) → RowIs u (pure_text o os) → HasOperands o os → (ds : List Datum) → data_at e os ≡ Some ds → FitsLine o os ds
+  pub fits-line : (o : OpClass) (os : List OperandText) → ((t : TypeTree) × (first_type os ≡ Some t) × OperationIs u (class_row o) t os) → ClassHasOperands o os → (ds : List Datum) → data_at e os ≡ Some ds → FitsLine o os ds
   unfolding Ints Two
-  fits-line op.Not os r h ds p = unary op.Not os r.0 ds refl r.1 r.2 h.0 h.1 p (λ n. (n, refl, refl))
-  fits-line op.Neg os r h ds p = unary op.Neg os r.0 ds refl r.1 r.2 h.0 h.1 p (λ n. (n, refl, refl))
-  fits-line op.Eq os r h ds p = equals op.Eq os r.0 ds refl r.2 h p (r.0, refl, refl)
-  fits-line op.Neq os r h ds p = equals op.Neq os r.0 ds refl r.2 h p (r.0, refl, refl)
-  fits-line op.Slt os r h ds p = compares op.Slt os r.0 ds refl r.2 h p (λ n. (n, refl, refl))
-  fits-line op.Sgt os r h ds p = compares op.Sgt os r.0 ds refl r.2 h p (λ n. (n, refl, refl))
-  fits-line op.Sle os r h ds p = compares op.Sle os r.0 ds refl r.2 h p (λ n. (n, refl, refl))
-  fits-line op.Sge os r h ds p = compares op.Sge os r.0 ds refl r.2 h p (λ n. (n, refl, refl))
-  fits-line op.Ult os r h ds p = compares op.Ult os r.0 ds refl r.2 h p (λ n. (n, refl, refl))
-  fits-line op.Ugt os r h ds p = compares op.Ugt os r.0 ds refl r.2 h p (λ n. (n, refl, refl))
-  fits-line op.Ule os r h ds p = compares op.Ule os r.0 ds refl r.2 h p (λ n. (n, refl, refl))
-  fits-line op.Uge os r h ds p = compares op.Uge os r.0 ds refl r.2 h p (λ n. (n, refl, refl))
-  fits-line op.Shl os r h ds p = shift op.Shl os r.0 ds refl r.1 r.2 p (λ n k. (n, k, refl, refl))
-  fits-line op.Shr os r h ds p = shift op.Shr os r.0 ds refl r.1 r.2 p (λ n k. (n, k, refl, refl))
-  fits-line op.Mux os r h ds p = select os r.0 ds r.1 r.2 p
-  fits-line (op.Extf k) os r h ds p = take-part (op.Extf k) (Field k) os r.0 ds refl r.1 r.2 p (λ whole q. (whole, refl, q))
-  fits-line (op.Exts at len) os r h ds p = take-part (op.Exts at len) (Slice at len) os r.0 ds refl r.1 r.2 p (λ whole q. (whole, refl, q))
-  fits-line (op.Insf k) os r h ds p = put-part (op.Insf k) (Field k) os r.0 ds refl r.1 r.2 p (λ part q. (part, refl, q))
-  fits-line (op.Inss at len) os r h ds p = put-part (op.Inss at len) (Slice at len) os r.0 ds refl r.1 r.2 p (λ part q. (part, refl, q))
-  fits-line op.Array os r h ds p = array os r.0 ds r.1 r.2 p
-  fits-line (op.Repeat n) os r h ds p = repeat n os r.0 ds r.1 r.2 h.0.0 h.0.1 h.1 p
-  fits-line op.Tuple os r h ds p = tuple os r.0 ds r.1 r.2 p
-  fits-line o os r h ds p = twos o os r.0 ds refl r.1 r.2 h p (λ n. (n, refl, refl))
+  fits-line class.Unary os r h ds p = unary class.Unary os r.0 ds refl r.1 r.2 h.0 h.1 p (λ n. (n, refl, refl))
+  fits-line class.Binary os r h ds p = twos class.Binary os r.0 ds refl r.1 r.2 h p (λ n. (n, refl, refl))
+  fits-line class.Relation os r h ds p = compares class.Relation os r.0 ds refl r.2 h p (λ n. (n, refl, refl))
+  fits-line class.Equality os r h ds p = equals class.Equality os r.0 ds refl r.2 h p (r.0, refl, refl)
+  fits-line class.Shift os r h ds p = shift class.Shift os r.0 ds refl r.1 r.2 p (λ n k. (n, k, refl, refl))
+  fits-line class.Select os r h ds p = select os r.0 ds r.1 r.2 p
+  fits-line (class.TakePart s) os r h ds p = take-part (class.TakePart s) s os r.0 ds refl r.1 r.2 p (λ whole q. (whole, refl, q))
+  fits-line (class.PutPart s) os r h ds p = put-part (class.PutPart s) s os r.0 ds refl r.1 r.2 p (λ part q. (part, refl, q))
+  fits-line class.Array os r h ds p = array os r.0 ds r.1 r.2 p
+  fits-line (class.Repeat n) os r h ds p = repeat n os r.0 ds r.1 r.2 h.0.0 h.0.1 h.1 p
+  fits-line class.Tuple os r h ds p = tuple os r.0 ds r.1 r.2 p
 
   pub fits-row : (o : Op) (os : List OperandText) → RowIs u (pure_text o os) → HasOperands o os → (ds : List Datum) → data_at e os ≡ Some ds → FitsOp o ds
-  fits-row o os r h ds p = (fits-line o os r h ds p).fits
+  fits-row o os r h ds p = let l = fits-line (class_of o) os r h ds p in record { types = l.types; gives = l.gives; data_types = l.data_types; values_fit = l.values_fit; row = l.row }
 
 pub operands-fit-rows : OperandsFitRows
 operands-fit-rows u w e o os f r h ds p = fits-row u w e f o os r h ds p

@@ -1,5 +1,5 @@
 -- A drive names only bits of the signals, where what is held fits.
-use Rattle.std.proofs.Common.{◌≡◌, ℕ, ◌+◌, ◌<◌, ◌≤◌, List, [], ◌∷◌, ◌++◌, length, map, Bool, true, false, unwrap_or, Option, Some, None, refl, arith}
+use Rattle.std.proofs.Common.{◌≡◌, ℕ, ◌+◌, ◌<◌, ◌≤◌, List, [], ◌∷◌, length, Bool, true, false, unwrap_or, Option, Some, None, refl, arith}
 use Rattle.std.specs.declared.cmp.Ordering.{Ordering}
 use Rattle.std.specs.declared.cmp.Ordering.TheVariants.{Less, Equal, Greater}
 use Rattle.std.specs.Ordering.{match_ordering}
@@ -18,6 +18,7 @@ use Rattle.lh_unit.specs.Effects.{condition_at, drive_due, drive_when, driven}
 use Rattle.lh_unit.specs.Held.{datum_held, Env, datum_at, delay_at, part_at}
 use Rattle.lh_unit.specs.Within.{Each}
 use Rattle.lh_formed.specs.Operands.{RowIs, IsOf}
+use Rattle.lh_formed.proofs.EachItem.{each-split, each-of-map}
 use Rattle.lh_eval.specs.Fitting.{Fits}
 use Rattle.lh_eval.specs.Wishing.{WishWithin, BitsWithin}
 use Rattle.lh_eval.specs.WishOf.{bits_due, writes_wish}
@@ -64,14 +65,6 @@ module _ (u : UnitText) (w : ℕ) where
   pub driven-within : (e : Env) (t : Instant) (wish : Wish) (to : OperandText) (value after : List ℕ) (cond : Option (List ℕ)) → Fits u w e → RowIs u (drv_text to value after cond) → WishWithin w wish → WishWithin w (unwrap_or (driven t e wish to value after cond) wish)
   driven-within e t wish to value after cond f row x =
       when-within w (condition_at e cond) wish (drive_due t wish (part_at e to.value) (datum_at e value) (delay_at e after)) x (due-within e t wish to.value value row.0 (delay_at e after) f row.1.1 row.2 x)
-
-each-split : {X : Type 0} (P : X → Type 0) (xs ys : List X) → Each P (xs ++ ys) → Each P xs × Each P ys
-each-split P [] ys e = (tt, e)
-each-split P (x ∷ xs) ys e = let r = each-split P xs ys e.1 in ((e.0, r.0), r.1)
-
-each-of-map : {X Y : Type 0} (P : Y → Type 0) (f : X → Y) (xs : List X) → Each P (map f xs) → Each (λ (x : X). P (f x)) xs
-each-of-map P f [] e = tt
-each-of-map P f (x ∷ xs) e = (e.0, each-of-map P f xs e.1)
 
 -- writes that have the entries of such a wish
 pub writes-within : (w : ℕ) (ds : List (Instant × List (ℕ × Bool))) → WishWithin w (writes_wish ds) → Each (λ (d : Instant × List (ℕ × Bool)). BitsWithin w d.1) ds

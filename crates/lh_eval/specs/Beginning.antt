@@ -1,12 +1,11 @@
 -- What an entity holds where it begins, by ids.
-use Rattle.std.specs.Prelude.{List, [], ◌∷◌, Bool, true, false, if◌then◌else◌, Option, Some, slice_set}
+use Rattle.std.specs.Prelude.{List, [], ◌∷◌, if◌then◌else◌, Option, Some, slice_set}
 use Rattle.lh_types.specs.declared.part.Range.{Range}
 use Rattle.lh_unit.specs.Held.{Held, part_held}
 use Rattle.lh_unit.specs.Table.{Table, line_at}
+use Rattle.lh_unit.specs.ById.{is_sig}
 use Rattle.lh_unit.specs.declared.inst.InstId.{InstId}
 use Rattle.lh_unit.specs.declared.inst.ValueId.{ValueId}
-use Rattle.lh_unit.specs.declared.inst.Inst.{Inst}
-use Rattle.lh_unit.specs.declared.inst.Inst.TheVariants as inst
 use Rattle.lh_unit.specs.declared.inst.Arg.{Arg}
 use Rattle.lh_unit.specs.declared.table.Line.{Line}
 use Rattle.lh_eval.specs.Holding.{given}
@@ -20,11 +19,6 @@ abbrev pub args_given : List Arg → List Range → Slots → Slots
 args_given [] rs slots = slots
 args_given (a ∷ more) [] slots = slots
 args_given (a ∷ more) (r ∷ rs) slots = args_given more rs (slice_set slots a.value.0 (Some (part_held r)))
-
--- a `sig`
-abbrev pub is_sig : Inst → Bool
-is_sig (inst.Sig initial) = true
-is_sig _ = false
 
 -- the next part, under this name, and then the others
 abbrev pub next_given : Option ValueId → List Range → Slots → (List Range → Slots → Slots) → Slots

@@ -1,8 +1,10 @@
 -- What holds of each instruction of a well-formed module: its row, its part, what its text wrote, and the type of its result.
 use Rattle.std.specs.Prelude.{◌≡◌, ℕ, ◌<◌, ◌^◌, List, [], ◌∷◌, Some}
 use Rattle.lh_types.specs.Values.{Datum, int_value}
+use Rattle.lh_types.specs.Classes.{class_of}
 use Rattle.lh_types.specs.declared.op.Op.{Op}
-use Rattle.lh_types.specs.declared.op.Op.TheVariants as op
+use Rattle.lh_types.specs.declared.op.OpClass.{OpClass}
+use Rattle.lh_types.specs.declared.op.OpClass.TheVariants as class
 use Rattle.lh_unit.specs.Contents.{OperandText, InstText, const_text, pure_text, LineText, UnitText}
 use Rattle.lh_unit.specs.Typing.{value_type, result_type}
 use Rattle.lh_types.specs.ApplyTypes.{FitsOp}
@@ -16,21 +18,23 @@ abbrev pub IsWithinWidth : Datum → Type 0
 IsWithinWidth (int_value n bits) = bits < 2 ^ n
 IsWithinWidth _ = Unit {0}
 
--- so many operands as the operation takes, which the types alone do not tell
+-- so many operands as the class takes, which the types alone do not tell
+abbrev pub ClassHasOperands : OpClass → List OperandText → Type 0
+ClassHasOperands class.Unary args = (x : OperandText) × (args ≡ x ∷ [])
+ClassHasOperands class.Binary args = (x y : OperandText) × (args ≡ x ∷ y ∷ [])
+ClassHasOperands class.Relation args = (x y : OperandText) × (args ≡ x ∷ y ∷ [])
+ClassHasOperands class.Equality args = (x y : OperandText) × (args ≡ x ∷ y ∷ [])
+ClassHasOperands class.Shift args = Unit {0}
+ClassHasOperands class.Select args = Unit {0}
+ClassHasOperands (class.TakePart s) args = Unit {0}
+ClassHasOperands (class.PutPart s) args = Unit {0}
+ClassHasOperands class.Array args = Unit {0}
+ClassHasOperands (class.Repeat n) args = ((x : OperandText) × (args ≡ x ∷ [])) × (0 < n)
+ClassHasOperands class.Tuple args = Unit {0}
+
+-- so many operands as the operation takes
 abbrev pub HasOperands : Op → List OperandText → Type 0
-HasOperands op.Not args = (x : OperandText) × (args ≡ x ∷ [])
-HasOperands op.Neg args = (x : OperandText) × (args ≡ x ∷ [])
-HasOperands op.Shl args = Unit {0}
-HasOperands op.Shr args = Unit {0}
-HasOperands op.Mux args = Unit {0}
-HasOperands (op.Extf k) args = Unit {0}
-HasOperands (op.Exts at len) args = Unit {0}
-HasOperands (op.Insf k) args = Unit {0}
-HasOperands (op.Inss at len) args = Unit {0}
-HasOperands op.Array args = Unit {0}
-HasOperands (op.Repeat n) args = ((x : OperandText) × (args ≡ x ∷ [])) × (0 < n)
-HasOperands op.Tuple args = Unit {0}
-HasOperands _ args = (x y : OperandText) × (args ≡ x ∷ y ∷ [])
+HasOperands o args = ClassHasOperands (class_of o) args
 
 -- what the spelling of an instruction tells beyond its types
 abbrev pub IsWrittenRight : InstText → Type 0

@@ -6,13 +6,12 @@ ghost use Rattle.lh_unit.specs.Hierarchy.{parts_of};
 ghost use Rattle.lh_unit.specs.Within.{Each};
 ghost use Rattle.lh_unit.specs.declared.inst.InstId.{InstId as Id};
 ghost use Rattle.lh_eval.specs.Holding.{Holds};
-ghost use Rattle.lh_eval.specs.Beginning as beginning;
 ghost use Rattle.lh_eval.specs.Beginning.{args_given, signals_given};
 
 use crate::held::{Held, Slots};
 use lh_types::part::Range;
 use lh_types::ty::NoMemory;
-use lh_unit::inst::{Arg, Inst, InstId, UnitId, UnitKind};
+use lh_unit::inst::{Arg, InstId, UnitId, UnitKind};
 use lh_unit::module::Module;
 use std::alloc::Global;
 
@@ -61,7 +60,7 @@ fn hold_signals(m: &Module, unit: UnitId, insts: &[InstId], ranges: &[Range], sl
     }
     let mut k = 0;
     for inst in insts {
-        if !is_sig(m.inst(unit, *inst)) {
+        if !m.inst(unit, *inst).is_sig() {
             continue;
         }
         if k >= ranges.len() {
@@ -69,14 +68,5 @@ fn hold_signals(m: &Module, unit: UnitId, insts: &[InstId], ranges: &[Range], sl
         }
         slots.give(m.result_of(unit, *inst), Some(Held::Part(ranges[k])));
         k += 1;
-    }
-}
-
-fn is_sig(inst: &Inst) -> bool
-    ensures { result ≡ beginning.is_sig inst.now }
-{
-    match inst {
-        Inst::Sig(_) => true,
-        _ => false,
     }
 }

@@ -25,7 +25,7 @@ use Rattle.lh_eval.proofs.Holding.{holds-nothing}
 use Rattle.lh_eval.proofs.BeginSteps.{args-held}
 use Rattle.lh_eval.proofs.Wishing.{writes-within}
 use Rattle.lh_sound.specs.Ranges.{RangesFit, arg_types}
-use Rattle.lh_sound.proofs.EachItem.{each-split}
+use Rattle.lh_formed.proofs.EachItem.{each-split}
 use Rattle.lh_sound.proofs.FitLaws.{process-begins}
 use Rattle.lh_exec.specs.declared.machine.Frame.{Frame}
 use Rattle.lh_exec.specs.declared.machine.Call.{Call}

@@ -11,6 +11,7 @@ use Rattle.lh_unit.specs.Naming.{kind_text}
 use Rattle.lh_unit.specs.WellFormed.{in_entity, IsWellFormed}
 use Rattle.lh_unit.specs.declared.inst.UnitKind.{UnitKind}
 use Rattle.lh_unit.specs.declared.inst.UnitKind.TheVariants as kind
+use Rattle.lh_formed.proofs.There.{first-name}
 use Rattle.lh_eval.specs.Holding.{Holds}
 use Rattle.lh_sound.specs.Ranges.{RangesFit, arg_types}
 use Rattle.lh_sound.proofs.FindingPass as passes
@@ -25,7 +26,7 @@ use Rattle.lh_exec.specs.Steady.{Reaches, IsSteady}
 use Rattle.lh_exec.proofs.Rights.{unit-right, functions-right, defined-value}
 use Rattle.lh_exec.proofs.Placed.{UnitSteady, FunctionsSteady, PlacesIn, places-of-items, unit-steady, functions-steady}
 use Rattle.lh_exec.proofs.Paths.{ControlHolds, entry-holds, line-in, edge-holds}
-use Rattle.lh_exec.proofs.Steady.{PointHolds, first-name}
+use Rattle.lh_exec.proofs.Steady.{PointHolds}
 use Rattle.lh_exec.proofs.Reached.{reached, run-holds}
 use Rattle.lh_exec.proofs.Begins.{process-blocks, begin-fits, same-fits}
 

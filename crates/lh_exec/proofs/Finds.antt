@@ -19,17 +19,20 @@ use Rattle.lh_unit.specs.Within.{Each}
 use Rattle.lh_formed.specs.Calls.{ArgumentsAre, FunctionIsRight, AssertIsRight}
 use Rattle.lh_formed.specs.KindsOf.{HasTypeOfKind}
 use Rattle.lh_formed.specs.Operands.{ReturnIs}
-use Rattle.lh_sound.proofs.EachItem.{each-split}
+use Rattle.lh_formed.proofs.EachItem.{each-split}
 use Rattle.lh_sound.proofs.Finding.{some-of, is-some, value-at, test-at}
 use Rattle.lh_sound.proofs.FindingPass.{AllHeld, finds-one}
 use Rattle.lh_formed.specs.Defined.{IsThere}
+use Rattle.lh_formed.proofs.AtPlaces.{place-at}
+use Rattle.lh_formed.proofs.There.{first-name, second-name}
 use Rattle.lh_sound.specs.Finding as sound
+use Rattle.lh_sound.proofs.FindingPass.{held-split}
 use Rattle.lh_exec.specs.Sound.{LineRight, IsLabel, CallersFit, FunctionsRight, PointFits}
 use Rattle.lh_exec.specs.Steady.{Finds}
 use Rattle.lh_exec.proofs.KeepsFit.{function-is}
-use Rattle.lh_exec.proofs.Placed.{PlaceRight, place-at, FunctionsSteady}
+use Rattle.lh_exec.proofs.Placed.{PlaceRight, FunctionsSteady}
 use Rattle.lh_exec.proofs.Paths.{args-held, ControlHolds, entry-holds}
-use Rattle.lh_exec.proofs.Steady.{PointHolds, cell-there, data-used, parts-used, wake-used, as-many, value-is, held-split, entity-apart, no-callers, some-caller, first-name, second-name, here-place, here-right, here-held, leads}
+use Rattle.lh_exec.proofs.Steady.{PointHolds, cell-there, data-used, parts-used, wake-used, as-many, value-is, entity-apart, no-callers, some-caller, here-place, here-right, here-held, leads}
 
 module _ (items : List ItemText) (now : List Bool) (t : Instant) (fs : FunctionsRight items) (ss : FunctionsSteady items) (u : UnitText) where
   abbrev pub scene : Scene

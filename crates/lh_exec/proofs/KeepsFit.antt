@@ -25,7 +25,7 @@ use Rattle.lh_eval.proofs.ValuesFit.{datum-held}
 use Rattle.lh_eval.proofs.GivesFit.{constants-fit, operations-fit, probes-fit, held-still-fits}
 use Rattle.lh_eval.proofs.Wishing.{driven-within}
 use Rattle.lh_sound.specs.Units.{HasItsType}
-use Rattle.lh_sound.proofs.EachItem.{each-split}
+use Rattle.lh_formed.proofs.EachItem.{each-split}
 use Rattle.lh_exec.specs.Sound.{LineRight, UnitRight, FunctionsRight, ControlFits, GivesResult, ResultFits, CallersFit, lowest, PointFits, StandFits, DoneFits}
 use Rattle.lh_exec.proofs.Waiting.{waiting-fits}
 

@@ -20,13 +20,15 @@ use Rattle.lh_unit.specs.Activation.{Scene, Stand, waits, halted, Control, Calle
 use Rattle.lh_formed.specs.Calls.{FunctionIsRight, AssertIsRight}
 use Rattle.lh_formed.specs.Operands.{ReturnIs}
 use Rattle.lh_formed.specs.Defined.{IsThere}
+use Rattle.lh_formed.proofs.There.{first-name, second-name}
 use Rattle.lh_sound.proofs.Finding.{some-of}
 use Rattle.lh_sound.proofs.FindingStatic.{result-is}
+use Rattle.lh_sound.proofs.FindingPass.{held-stays, result-stays, named-held}
 use Rattle.lh_exec.specs.States.{WaitsIn}
 use Rattle.lh_exec.specs.Sound.{FunctionsRight, PointFits, CallersFit, GivesResult, StandHolds}
 use Rattle.lh_exec.proofs.Placed.{FunctionsSteady}
-use Rattle.lh_exec.proofs.Paths.{held-stays, result-stays, result-held, phis-more, ControlHolds}
-use Rattle.lh_exec.proofs.Steady.{CallerHolds, CallersHold, PointHolds, NextHolds, first-name, second-name, here-phis, here-given, here-right, here-split, advance, advances, no-result, leads, calling}
+use Rattle.lh_exec.proofs.Paths.{phis-more, ControlHolds}
+use Rattle.lh_exec.proofs.Steady.{CallerHolds, CallersHold, PointHolds, NextHolds, here-phis, here-given, here-right, here-split, advance, advances, no-result, leads, calling}
 use Rattle.lh_exec.proofs.Finds.{calls, data-found}
 
 module _ (items : List ItemText) (now : List Bool) (t : Instant) (fs : FunctionsRight items) (ss : FunctionsSteady items) (u : UnitText) where
@@ -48,7 +50,7 @@ module _ (items : List ItemText) (now : List Bool) (t : Instant) (fs : Functions
 
     gives-hold : (i : InstText) (x : At i) → is_terminator i ≡ false → (h : Option Held) → NextHolds p.control.unit (gives (past x.1) x.0 h)
     gives-hold i x e None = tt
-    gives-hold i x e (Some h) = advances items now t fs ss u p f k (line x.0 i) x.1 x.2 e (with_result here x.0 h) (λ n s. result-stays here x.0 n h s) (λ n q. result-held here x.0 n h q)
+    gives-hold i x e (Some h) = advances items now t fs ss u p f k (line x.0 i) x.1 x.2 e (with_result here x.0 h) (λ n s. result-stays here x.0 n h s) (λ n q. named-held here x.0 n h q)
 
     -- past an instruction that gives nothing
     plain : (i : InstText) (x : At i) → is_terminator i ≡ false → gives_value i ≡ false → ControlHolds (record p.control { rest = x.1 })
@@ -127,7 +129,7 @@ module _ (items : List ItemText) (now : List Bool) (t : Instant) (fs : Functions
       where
         by : (d : Option Datum) → NextHolds p.control.unit (goes_back (past rest) c more (option_map (λ x. with_result c.control.held c.result (datum_held x)) d))
         by None = tt
-        by (Some d) = caller-goes c more h m rest (with_result c.control.held c.result (datum_held d)) (λ n s. result-stays c.control.held c.result n (datum_held d) s) (λ n q. result-held c.control.held c.result n (datum_held d) q)
+        by (Some d) = caller-goes c more h m rest (with_result c.control.held c.result (datum_held d)) (λ n s. result-stays c.control.held c.result n (datum_held d) s) (λ n q. named-held c.control.held c.result n (datum_held d) q)
 
     returns-hold : (o : Option OperandText) (rest : List LineText) → ReturnIs p.control.unit p.control.unit.result o → NextHolds p.control.unit (returns (past rest) o p.callers)
     returns-hold o rest row = by p.callers refl

@@ -1,5 +1,6 @@
 -- Past the instruction that comes next.
-use Rattle.std.proofs.Common.{◌≡◌, ℕ, zero, suc, ◌+◌, ◌<◌, ◌≤◌, List, [], ◌∷◌, length, map, drop, get_or, Option, Result, IfOk, refl, ap, sym, ◌∙◌, subst, add-one, drop-cons, arith}
+use Rattle.std.proofs.Common.{◌≡◌, ℕ, ◌+◌, ◌<◌, ◌≤◌, List, ◌∷◌, length, map, drop, get_or, Option, Result, IfOk, refl, ap, sym, ◌∙◌, subst}
+use Rattle.std.proofs.lemmas.List.{drop_all, drop_more}
 use Rattle.lh_types.specs.declared.ty.NoMemory.{NoMemory}
 use Rattle.lh_unit.specs.Contents.{LineText, UnitText}
 use Rattle.lh_unit.specs.Activation.{Scene, Point, executes, steps_by, step}
@@ -21,15 +22,6 @@ use Rattle.lh_exec.specs.Standing.{MachineIs, Leads}
 use Rattle.lh_exec.specs.Sound.{LineRight, IsFit}
 use Rattle.lh_exec.proofs.KeepsFit.{past-of}
 use Rattle.lh_exec.proofs.Edges.{insts-within}
-use Rattle.lh_exec.proofs.Lists.{drop-end}
-
-pub each-get : {X : Type 0} → (P : X → Type 0) (xs : List X) (i : ℕ) (d : X) → i < length xs → Each P xs → P (get_or xs i d)
-each-get P [] i d h e = absurd (omega (arith, h))
-each-get P (x ∷ xs) zero d h e = e.0
-each-get P (x ∷ xs) (suc i) d h e = each-get P xs i d (omega (arith, h)) e.1
-
-drop-get : {X : Type 0} → (xs : List X) (i : ℕ) (d : X) → i < length xs → drop i xs ≡ get_or xs i d ∷ drop (i + 1) xs
-drop-get xs i d h = rw add-one (drop-cons xs i d h)
 
 -- the result of an instruction has a slot
 pub name-in : (a : Arena) (u i : ℕ) (slots : List (Option Held)) (r : Option ValueId) → IsArena a → u < unit_count a → length slots ≡ value_count a u → r ≡ result_at a u i → MaybeIn slots r
@@ -61,14 +53,14 @@ module _ (a : Arena) (m : Machine) (p : Point) (k : MachineIs a m p) where
   pub no-more : (s : Scene) (n : Machine) → length (block_insts_at a m.frame.unit.0 m.frame.block.0) ≤ m.frame.next → Leads a n flow.Lost p.control.unit (step s p)
   no-more s n h =
       subst (λ (ls : List LineText). Leads a n flow.Lost p.control.unit (steps_by s p ls))
-      (sym (k.frame.rest ∙ ap (map (inst_line (naming a m.frame.unit.0) (table_at a m.frame.unit.0))) (drop-end (block_insts_at a m.frame.unit.0 m.frame.block.0) m.frame.next h))) tt
+      (sym (k.frame.rest ∙ ap (map (inst_line (naming a m.frame.unit.0) (table_at a m.frame.unit.0))) (drop_all m.frame.next (block_insts_at a m.frame.unit.0 m.frame.block.0) h))) tt
 
   module _ (d : InstId) (h : m.frame.next < length (block_insts_at a m.frame.unit.0 m.frame.block.0)) where
     abbrev pub id : InstId
     id = get_or (block_insts_at a m.frame.unit.0 m.frame.block.0) m.frame.next d
 
     pub rest-is : p.control.rest ≡ inst_line (naming a m.frame.unit.0) (table_at a m.frame.unit.0) id ∷ past.control.rest
-    rest-is = k.frame.rest ∙ ap (map (inst_line (naming a m.frame.unit.0) (table_at a m.frame.unit.0))) (drop-get (block_insts_at a m.frame.unit.0 m.frame.block.0) m.frame.next d h)
+    rest-is = k.frame.rest ∙ ap (map (inst_line (naming a m.frame.unit.0) (table_at a m.frame.unit.0))) (drop_more (block_insts_at a m.frame.unit.0 m.frame.block.0) m.frame.next d h)
 
     -- what the instruction leads to is what the step leads to
     pub stepped : (s : Scene) (n : Machine) (r : Result Flow NoMemory) (i : Inst) (name : Option ValueId) → i ≡ inst_at a m.frame.unit.0 id.0 → name ≡ result_at a m.frame.unit.0 id.0

@@ -1,5 +1,5 @@
 -- What is held along the edges of blocks: each value that is given on every path to a place.
-use Rattle.std.proofs.Common.{◌≡◌, ◌⊎◌, inl, inr, ⊎_elim, ℕ, ◌+◌, List, [], ◌∷◌, ◌++◌, length, Bool, true, false, cond, ◌||◌, if◌then◌else◌, Option, Some, None, IsSome, refl, ap, sym, ◌∙◌, subst, append_assoc, arith}
+use Rattle.std.proofs.Common.{◌≡◌, ◌⊎◌, ⊎_elim, ℕ, ◌+◌, List, [], ◌∷◌, ◌++◌, length, Bool, true, false, cond, ◌||◌, if◌then◌else◌, Option, Some, None, IsSome, refl, ap, sym, ◌∙◌, subst, append_assoc, arith}
 use Rattle.std.specs.List.{list_any}
 use Rattle.std.specs.Option.{option_and_then, option_map}
 use Rattle.std.proofs.lemmas.Bool.{false≢true}
@@ -7,7 +7,7 @@ use Rattle.std.proofs.lemmas.List.Sums.{sum_by-cons}
 use Rattle.std.proofs.lemmas.Option.{same_Some, none-some}
 use Rattle.lh_types.specs.Types.{TypeTree}
 use Rattle.lh_types.specs.Values.{Datum}
-use Rattle.lh_unit.specs.Contents.{EdgeText, InstText, phi_text, br_text, branch_text, wait_text, halt_text, ret_text, LineText, BlockText, ArgText, UnitText, ItemText, same_name, is_result_name, lines_define, blocks_define, args_define, defines_value}
+use Rattle.lh_unit.specs.Contents.{EdgeText, InstText, phi_text, br_text, branch_text, wait_text, halt_text, ret_text, LineText, BlockText, ArgText, UnitText, ItemText, same_name, is_result_name, args_define, defines_value}
 use Rattle.lh_unit.specs.Named.{block_of, label_or}
 use Rattle.lh_unit.specs.Held.{Held, datum_held, Env, with_held, with_result, with_args, datum_at}
 use Rattle.lh_unit.specs.Activation.{Control, edge_from, result_put, phi_taken, phis_taken, entered, entry, at_first}
@@ -24,35 +24,18 @@ use Rattle.lh_formed.specs.Operands.{IsOf, RowIs}
 use Rattle.lh_unit.specs.declared.inst.UnitKind.TheVariants as kind
 use Rattle.lh_formed.proofs.Bools.{each_both}
 use Rattle.lh_eval.specs.Fitting.{Fits}
-use Rattle.lh_sound.proofs.EachItem.{each-split, each-of-map}
+use Rattle.lh_formed.proofs.EachItem.{each-split, each-of-map}
+use Rattle.lh_formed.proofs.AtPlaces.{place-at}
+use Rattle.lh_formed.proofs.There.{there-before, there-after, last-leads}
 use Rattle.lh_sound.proofs.Finding.{value-at}
 use Rattle.lh_sound.proofs.FindingStatic.{result-is}
+use Rattle.lh_sound.proofs.FindingPass.{result-stays, args-stay, named-held}
 use Rattle.lh_exec.specs.States.{HoldsThere}
 use Rattle.lh_exec.specs.Sound.{LineRight, UnitRight}
 use Rattle.lh_exec.proofs.KeepsFit.{block-has}
-use Rattle.lh_exec.proofs.Placed.{UnitSteady, GivesNamed, NotNil, place-at, place-of, entry-no-phi}
+use Rattle.lh_exec.proofs.Placed.{UnitSteady, GivesNamed, NotNil, place-of, entry-no-phi}
 
 -- ---- what is held stays held
-
-pub held-stays : (e : Env) (m n : List ℕ) (h : Held) → IsSome (e n) → IsSome (with_held e m h n)
-held-stays e m n h s = at (same_name m n)
-  where
-    at : (b : Bool) → IsSome (if b then Some h else e n)
-    at true = refl
-    at false = s
-
-pub result-stays : (e : Env) (r : Option (List ℕ)) (n : List ℕ) (h : Held) → IsSome (e n) → IsSome (with_result e r h n)
-result-stays e None n h s = s
-result-stays e (Some m) n h s = held-stays e m n h s
-
-pub result-held : (e : Env) (r : Option (List ℕ)) (n : List ℕ) (h : Held) → is_result_name n r ≡ true → IsSome (with_result e r h n)
-result-held e None n h q = absurd cc
-result-held e (Some m) n h q = rw q refl
-
-args-stay : (e : Env) (xs : List ArgText) (hs : List Held) (n : List ℕ) → IsSome (e n) → IsSome (with_args e xs hs n)
-args-stay e [] hs n s = s
-args-stay e (x ∷ xs) [] n s = s
-args-stay e (x ∷ xs) (h ∷ hs) n s = args-stay (with_held e x.name h) xs hs n (held-stays e x.name n h s)
 
 -- each argument is held, where they are as many
 pub args-held : (e : Env) (xs : List ArgText) (hs : List Held) → length hs ≡ length xs → (n : List ℕ) → args_define n xs ≡ true → IsSome (with_args e xs hs n)
@@ -61,27 +44,8 @@ args-held e (x ∷ xs) [] c n d = absurd cc
 args-held e (x ∷ xs) (h ∷ hs) c n d = at (same_name x.name n) refl d (args-held (with_held e x.name h) xs hs (omega (arith, c)) n)
   where
     at : (b : Bool) → same_name x.name n ≡ b → (b || args_define n xs) ≡ true → (args_define n xs ≡ true → IsSome (with_args (with_held e x.name h) xs hs n)) → IsSome (with_args (with_held e x.name h) xs hs n)
-    at true q k go = args-stay (with_held e x.name h) xs hs n (result-held e (Some x.name) n h q)
+    at true q k go = args-stay (with_held e x.name h) xs hs n (named-held e (Some x.name) n h q)
     at false q k go = go k
-
--- ---- one instruction more
-
-or-cases : (a b : Bool) → (a || b) ≡ true → (a ≡ true) ⊎ (b ≡ true)
-or-cases true b h = inl refl
-or-cases false b h = inr h
-
-defined-last : (n : List ℕ) (before : List LineText) (l : LineText) → is_result_name n l.result ≡ false → lines_define n (before ++ l ∷ []) ≡ true → lines_define n before ≡ true
-defined-last n [] l f h = let q : (is_result_name n l.result || false) ≡ true = h in absurd cc
-defined-last n (x ∷ before) l f h = at (is_result_name n x.result) h (defined-last n before l f)
-  where
-    at : (b : Bool) → (b || lines_define n (before ++ l ∷ [])) ≡ true → (lines_define n (before ++ l ∷ []) ≡ true → lines_define n before ≡ true) → (b || lines_define n before) ≡ true
-    at true q go = refl
-    at false q go = go q
-
--- what is there after an instruction and is not its result was there before it
-pub there-before : (u : UnitText) (b : BlockText) (before : List LineText) (l : LineText) (n : List ℕ) → is_result_name n l.result ≡ false → IsThere u b (before ++ l ∷ []) n → IsThere u b before n
-there-before u b before l n f (inl h) = inl h
-there-before u b before l n f (inr h) = inr (λ earlier path. ⊎_elim (λ q. inl (defined-last n before l f q)) (λ q. inr q) (h earlier path))
 
 -- ---- the end of a block
 
@@ -103,11 +67,6 @@ terminator-gives (wait_text to after signals) e = refl
 terminator-gives halt_text e = refl
 terminator-gives (ret_text o) e = refl
 terminator-gives _ e = absurd cc
-
-pub last-leads : (before : List LineText) (l : LineText) → last_leads_to (before ++ l ∷ []) ≡ leads_to l.inst
-last-leads [] l = refl
-last-leads (x ∷ []) l = refl
-last-leads (x ∷ y ∷ before) l = last-leads (y ∷ before) l
 
 -- ---- the names of blocks
 
@@ -163,7 +122,7 @@ one-taken from e (phi_text ty es) r ls o d k = (
   with_result k.to r (datum_held d.0),
   ap (λ v. result_put r v o) d.1 ∙ ap (result_put r (Some d.0)) k.is,
   λ n s. result-stays k.to r n (datum_held d.0) (k.stays n s),
-  λ n q. result-held k.to r n (datum_held d.0) q,
+  λ n q. named-held k.to r n (datum_held d.0) q,
   phis-more k.to (with_result k.to r (datum_held d.0)) ls (λ n s. result-stays k.to r n (datum_held d.0) s) k.phis,
 )
 one-taken from e _ r ls o d k = (k.to, k.is, k.stays, tt, k.phis)
@@ -286,10 +245,6 @@ module _ (items : List ItemText) (w : ℕ) (u : UnitText) (s : UnitSteady u) (r 
     phis-found seen [] z = tt
     phis-found seen (x ∷ ls) z = (phi-found seen x ls z, phis-found (seen ++ x ∷ []) ls (z ∙ sym (append_assoc seen (x ∷ []) ls)))
 
-    there-after : (n : List ℕ) → IsThere u b [] n → IsThere u text text.lines n
-    there-after n (inl h) = inl h
-    there-after n (inr h) = inr (λ earlier path. ⊎_elim (λ z. absurd (false≢true z)) (λ z. or-cases (lines_define n text.lines) (blocks_define n earlier) z) (h (text ∷ earlier) (edge, ap (λ y. block_of y u.blocks) label-is ∙ t, path)))
-
     -- the edge leads to the block, where each value is held that is there
     pub edge-holds : (c : Control) × (entered u e from to ≡ Some c) × (c.unit ≡ u) × ControlHolds c
     edge-holds =
@@ -303,7 +258,7 @@ module _ (items : List ItemText) (w : ℕ) (u : UnitText) (s : UnitSteady u) (r 
             block = t;
             before = [];
             split = refl;
-            there = λ n d h. k.stays n (end-holds n d (there-after n h));
+            there = λ n d h. k.stays n (end-holds n d (there-after u text b edge (ap (λ y. block_of y u.blocks) label-is ∙ t) n h));
             phis = k.phis;
             more = block-has (λ (x : BlockText). NotNil x.lines) to u.blocks b s.shaped t;
           },

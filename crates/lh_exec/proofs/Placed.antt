@@ -1,6 +1,5 @@
 -- What holds at each instruction of a function or a process of a well-formed module, by where it stands.
-use Rattle.std.proofs.Common.{◌≡◌, ℕ, ◌+◌, List, [], ◌∷◌, ◌++◌, length, map, Bool, true, false, if◌then◌else◌, Option, Some, None, refl, sym, subst, append_assoc}
-use Rattle.std.proofs.lemmas.List.{append-nil}
+use Rattle.std.proofs.Common.{◌≡◌, ℕ, ◌+◌, List, [], ◌∷◌, ◌++◌, length, map, Bool, true, false, if◌then◌else◌, Some, refl, subst}
 use Rattle.std.proofs.lemmas.Option.{same_Some, none-some}
 use Rattle.lh_unit.specs.declared.name.UnitName.{UnitName}
 use Rattle.lh_unit.specs.UnitNames.{same_unit_name}
@@ -9,12 +8,11 @@ use Rattle.lh_unit.specs.Named.{block_of, function_named, is_function}
 use Rattle.lh_unit.specs.Activation.{functions}
 use Rattle.lh_unit.specs.Hierarchy.{lines_of}
 use Rattle.lh_unit.specs.Kinds.{Use, uses}
-use Rattle.lh_unit.specs.Lexemes.{Lexeme}
 use Rattle.lh_unit.specs.Pieces.{lexemes_in}
 use Rattle.lh_unit.specs.Places.{Place, places_in, places_from, places}
 use Rattle.lh_unit.specs.Reads.{has_lines}
 use Rattle.lh_unit.specs.Spells.{inst_item}
-use Rattle.lh_unit.specs.SpellsInst.{gives_value, SpellsLine}
+use Rattle.lh_unit.specs.SpellsInst.{gives_value}
 use Rattle.lh_unit.specs.WellFormed.{Site, sites, is_allowed, in_entity, is_phi, IsFaultless}
 use Rattle.lh_unit.specs.Within.{Each}
 use Rattle.lh_unit.specs.declared.inst.UnitKind.{UnitKind}
@@ -25,11 +23,14 @@ use Rattle.lh_spelled.specs.Printable.{HasInstLine, IsLabelled, HasShape, IsPrin
 use Rattle.lh_formed.specs.Defined.{OperandsThere}
 use Rattle.lh_formed.specs.Shape.{EndsRight, PhiIsRight}
 use Rattle.lh_formed.proofs.Sound.{site_in}
+use Rattle.lh_formed.proofs.AtPlaces.{place-at, in-block}
 use Rattle.lh_formed.proofs.DefinedLaw.{all_there}
 use Rattle.lh_formed.proofs.OperandsLaw.{operands_are_defined}
 use Rattle.lh_formed.proofs.ShapeLaw.{terminators_end, phis_are_right, all_allowed}
-use Rattle.lh_sound.proofs.EachItem.{each-contained, each-split, each-of-map}
+use Rattle.lh_formed.proofs.There.{as-process, function-runs}
+use Rattle.lh_formed.proofs.EachItem.{each-contained, each-split, each-of-map}
 use Rattle.lh_sound.proofs.SoundLines.{lines-printed}
+use Rattle.lh_sound.proofs.FindingPass.{line-gives}
 use Rattle.lh_exec.proofs.Rights.{by-blocks}
 
 -- what holds at an instruction of a unit without a fault
@@ -59,12 +60,6 @@ pub record UnitSteady (u : UnitText) : Type 0 where
   pub blocks : u.blocks ≡ first ∷ more
 
 -- ---- from the module to its units
-
-as-process : (k : UnitKind) (u : UnitText) (p : Place) (i : InstText) → OperandsThere k u p i → in_entity k ≡ false → OperandsThere kind.Proc u p i
-as-process kind.Entity u p i h e = absurd cc
-as-process kind.Func u p (phi_text ty es) h e = h
-as-process kind.Func u p _ h e = h
-as-process kind.Proc u p i h e = h
 
 abbrev SiteRight : Site → Type 0
 SiteRight s = PlaceRight s.unit s.place
@@ -101,10 +96,6 @@ shaped-by kind.Func (b ∷ bs) e h = (b, bs, refl, Each-more IsLabelled (λ (x :
 shaped-by kind.Proc [] e h = absurd h
 shaped-by kind.Proc (b ∷ bs) e h = (b, bs, refl, Each-more IsLabelled (λ (x : BlockText). NotNil x.lines) (b ∷ bs) (λ x q. not-nil x.lines q.1) h)
 
-line-gives : (r : Option (List ℕ)) (i : InstText) (ts : List Lexeme) → SpellsLine r i ts → (n : List ℕ) → r ≡ Some n → gives_value i ≡ true
-line-gives None i ts h n q = absurd (none-some n q)
-line-gives (Some m) i ts h n q = h.2
-
 pub unit-steady : (u : UnitText) → in_entity u.kind ≡ false → IsPrintable u → Each (PlaceRight u) (places u) → UnitSteady u
 unit-steady u e p s =
     let shape = shaped-by u.kind u.blocks e p.shaped in
@@ -117,11 +108,6 @@ unit-steady u e p s =
       more = shape.1;
       blocks = shape.2;
     }
-
-function-runs : (k : UnitKind) → is_function k ≡ true → in_entity k ≡ false
-function-runs kind.Func e = refl
-function-runs kind.Proc e = absurd cc
-function-runs kind.Entity e = absurd cc
 
 -- so are the functions of a module
 abbrev pub FunctionsSteady : List ItemText → Type 0
@@ -141,16 +127,6 @@ functions-steady (unit_text u ∷ items) s p n f e = by (is_function u.kind) ref
         at false r = go r
 
 -- ---- the place of an instruction
-
--- an instruction of a block
-abbrev pub place-at : (number : ℕ) → Bool → BlockText → (before : List LineText) → LineText → (after : List LineText) → Place
-place-at k e b before l after = record { number = k; in_entry = e; block = b; before = before; line = l; after = after }
-
-in-block : (P : Place → Type 0) (k : ℕ) (e : Bool) (b : BlockText) (before seen : List LineText) (l : LineText) (after : List LineText) → Each P (places_in k e b before (seen ++ l ∷ after)) → (j : ℕ) × P (place-at j e b (before ++ seen) l after)
-in-block P k e b before [] l after h = (k, subst (λ (x : List LineText). P (place-at k e b x l after)) (sym (append-nil before)) h.0)
-in-block P k e b before (x ∷ seen) l after h =
-    let r = in-block P (k + 1) e b (before ++ x ∷ []) seen l after h.1 in
-    (r.0, subst (λ (y : List LineText). P (place-at r.0 e b y l after)) (append_assoc before (x ∷ []) seen) r.1)
 
 in-blocks : (P : Place → Type 0) (k : ℕ) (e : Bool) (bs : List BlockText) (n : List ℕ) (b : BlockText) (seen : List LineText) (l : LineText) (after : List LineText) → Each P (places_from k e bs) → block_of n bs ≡ Some b → b.lines ≡ seen ++ l ∷ after
     → (j : ℕ) × (d : Bool) × P (place-at j d b seen l after)

@@ -1,5 +1,5 @@
 -- The units of a well-formed module are right.
-use Rattle.std.proofs.Common.{◌≡◌, ℕ, ◌<◌, suc, List, [], ◌∷◌, ◌++◌, map, Bool, true, false, ◌||◌, if◌then◌else◌, Option, Some, None, IsSome, is_some, refl, ap, sym, ◌∙◌, subst}
+use Rattle.std.proofs.Common.{◌≡◌, ℕ, ◌<◌, suc, List, [], ◌∷◌, map, Bool, true, false, ◌||◌, if◌then◌else◌, Option, Some, None, IsSome, is_some, refl, ap, sym, ◌∙◌, subst}
 use Rattle.std.specs.Prelude.{slice_get}
 use Rattle.std.specs.Option.{option_and_then, option_map}
 use Rattle.std.proofs.lemmas.Option.{same_Some, none-some}
@@ -37,8 +37,9 @@ use Rattle.lh_formed.specs.KindsOf.{ArgsHaveKinds, HasTypeOfKind}
 use Rattle.lh_formed.proofs.KindsLaw.{operands_have_types}
 use Rattle.lh_unit.specs.Kinds.{uses}
 use Rattle.lh_eval.specs.Sound.{IsSound}
-use Rattle.lh_sound.proofs.EachItem.{each-split, each-of-map, each-contained}
-use Rattle.lh_sound.proofs.SoundLines.{lines-from}
+use Rattle.lh_formed.proofs.EachItem.{each-split, each-of-map, each-contained}
+use Rattle.lh_formed.proofs.AtPlaces.{lines-from}
+use Rattle.lh_sound.proofs.NamedOnce.{giving-append}
 use Rattle.lh_sound.proofs.FitLaws.{of-unit, unit-is-sound}
 use Rattle.lh_exec.proofs.Heads.{args-have-kinds}
 use Rattle.lh_exec.specs.Sound.{IsLabel, LineRight, UnitRight, FunctionsRight}
@@ -168,14 +169,6 @@ module _ (a : Arena) (o : IsArena a) (g : IsWellFormed (contents a)) where
           → (if c then Some (arg_text (naming a u) y) else arg_named n (map (arg_text (naming a u)) ys)) ≡ Some x → (v : ValueId) × (v.0 < value_count a u) × (value_name_at a u v.0 ≡ n)
       at true s go r = (y.value, w.0, same_name-is (value_name_at a u y.value.0) n s)
       at false s go r = go r
-
-  giving-append : (n : List ℕ) (xs ys : List LineText) → line_giving n (xs ++ ys) ≡ or_else (line_giving n xs) (line_giving n ys)
-  giving-append n [] ys = refl
-  giving-append n (l ∷ xs) ys = by (is_result_name n l.result) (giving-append n xs ys)
-    where
-      by : (b : Bool) → line_giving n (xs ++ ys) ≡ or_else (line_giving n xs) (line_giving n ys) → (if b then Some l.inst else line_giving n (xs ++ ys)) ≡ or_else (if b then Some l.inst else line_giving n xs) (line_giving n ys)
-      by true e = refl
-      by false e = e
 
   giving-flat : (n : List ℕ) (bs : List BlockText) → inst_giving n bs ≡ line_giving n (flat (map (λ (b : BlockText). b.lines) bs))
   giving-flat n [] = refl

@@ -1,5 +1,5 @@
 -- At each point of an activation each instruction finds what it looks for, and after it what is there is held.
-use Rattle.std.proofs.Common.{◌≡◌, ℕ, List, [], ◌∷◌, ◌++◌, length, map, Bool, true, false, ◌||◌, Option, Some, None, IsSome, refl, ap, sym, ◌∙◌, subst, append_assoc, arith}
+use Rattle.std.proofs.Common.{◌≡◌, ℕ, List, [], ◌∷◌, ◌++◌, length, map, Bool, true, false, Option, Some, None, IsSome, refl, ap, sym, ◌∙◌, subst, append_assoc, arith}
 use Rattle.std.specs.List.{list_any}
 use Rattle.std.specs.Option.{option_and_then, option_map}
 use Rattle.std.proofs.lemmas.Bool.{false≢true}
@@ -20,20 +20,21 @@ use Rattle.lh_unit.specs.Activation.{Scene, Control, Caller, Point, Next, goes, 
 use Rattle.lh_unit.specs.Within.{Each}
 use Rattle.lh_unit.specs.declared.inst.UnitKind.{UnitKind}
 use Rattle.lh_unit.specs.declared.inst.UnitKind.TheVariants as kind
-use Rattle.lh_unit.proofs.Tables.{same_name-refl}
 use Rattle.lh_formed.specs.Calls.{ArgumentsAre}
 use Rattle.lh_formed.specs.Defined.{IsThere}
 use Rattle.lh_formed.specs.KindsOf.{HasTypeOfKind}
 use Rattle.lh_formed.specs.Operands.{IsOf, MayBeOf}
 use Rattle.lh_eval.specs.Fitting.{IsValueType, FitsHeld, Fits}
-use Rattle.lh_sound.proofs.EachItem.{each-split}
+use Rattle.lh_formed.proofs.EachItem.{each-split}
+use Rattle.lh_formed.proofs.AtPlaces.{place-at}
+use Rattle.lh_formed.proofs.There.{there-before}
 use Rattle.lh_sound.proofs.Finding.{some-of, carries-value, part-at, delay-at}
 use Rattle.lh_sound.proofs.FindingPass.{AllHeld, named_in}
 use Rattle.lh_exec.specs.Sound.{LineRight, FunctionsRight, PointFits, IsLabel, StandHolds}
 use Rattle.lh_exec.proofs.Heads.{signal-used}
 use Rattle.lh_exec.proofs.KeepsFit.{block-has}
-use Rattle.lh_exec.proofs.Placed.{PlaceRight, UnitSteady, FunctionsSteady, GivesNamed, NotNil, place-at, place-of}
-use Rattle.lh_exec.proofs.Paths.{there-before, unnamed, PhiHeld, PhisHeld, phis-more, ControlHolds, line-in, edge-holds}
+use Rattle.lh_exec.proofs.Placed.{PlaceRight, UnitSteady, FunctionsSteady, GivesNamed, NotNil, place-of}
+use Rattle.lh_exec.proofs.Paths.{unnamed, PhiHeld, PhisHeld, phis-more, ControlHolds, line-in, edge-holds}
 
 -- ---- points
 
@@ -125,10 +126,6 @@ as-many u [] (x ∷ xs) a = absurd a
 as-many u (o ∷ os) [] a = absurd a
 as-many u (o ∷ os) (x ∷ xs) a = let q = as-many u os xs a.1 in omega (arith, q)
 
-pub held-split : (e : Env) (xs ys : List Use) → AllHeld e (xs ++ ys) → AllHeld e xs × AllHeld e ys
-held-split e [] ys h = (tt, h)
-held-split e (x ∷ xs) ys h = let r = held-split e xs ys h.1 in ((h.0, r.0), r.1)
-
 -- ---- kinds of units
 
 pub function-apart : (k : UnitKind) → is_function k ≡ true → in_process k ≡ true → ⊥
@@ -149,16 +146,6 @@ no-callers u (d ∷ more) k p = absurd (function-apart u.kind k.0 p)
 pub some-caller : (u : UnitText) (cs : List Caller) → CallersHold u cs → in_function u.kind ≡ true → (c : Caller) × (more : List Caller) × (cs ≡ c ∷ more)
 some-caller u [] k p = absurd (process-apart u.kind k p)
 some-caller u (d ∷ more) k p = (d, more, refl)
-
-pub first-name : (n : List ℕ) (more : List (List ℕ)) → list_any (λ m. same_name m n) (n ∷ more) ≡ true
-first-name n more = ap (λ b. b || list_any (λ m. same_name m n) more) (same_name-refl n)
-
-pub second-name : (m n : List ℕ) → list_any (λ x. same_name x n) (m ∷ n ∷ []) ≡ true
-second-name m n = by (same_name m n) (first-name n [])
-  where
-    by : (b : Bool) → list_any (λ x. same_name x n) (n ∷ []) ≡ true → (b || list_any (λ x. same_name x n) (n ∷ [])) ≡ true
-    by true h = refl
-    by false h = h
 
 module _ (items : List ItemText) (now : List Bool) (t : Instant) (fs : FunctionsRight items) (ss : FunctionsSteady items) (u : UnitText) where
   abbrev s : Scene

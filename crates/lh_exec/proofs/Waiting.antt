@@ -15,7 +15,7 @@ use Rattle.lh_unit.specs.Within.{Each}
 use Rattle.lh_formed.specs.KindsOf.{HasTypeOfKind}
 use Rattle.lh_eval.specs.Fitting.{Fits}
 use Rattle.lh_eval.proofs.GivesFit.{part-fits}
-use Rattle.lh_sound.proofs.EachItem.{each-split, each-of-map}
+use Rattle.lh_formed.proofs.EachItem.{each-split, each-of-map}
 use Rattle.lh_exec.specs.States.{WaitsIn, PartsWithin, IsLater}
 use Rattle.lh_exec.specs.Sound.{StandFits}
 use Rattle.lh_exec.proofs.Heads.{signal-used}

@@ -39,10 +39,6 @@ apart-at (x ∷ xs) zero (suc j) a l m e = absurd (differs-at x xs j a.0 (omega 
 apart-at (x ∷ xs) (suc i) zero a l m e = absurd (differs-at x xs i a.0 (omega arith) (sym e))
 apart-at (x ∷ xs) (suc i) (suc j) a l m e = ap suc (apart-at xs i j a.1 (omega arith) (omega arith) e)
 
-pub each-so : (P Q : List ℕ → Type 0) (xs : List (List ℕ)) → ((x : List ℕ) → P x → Q x) → Each P xs → Each Q xs
-each-so P Q [] h p = tt
-each-so P Q (x ∷ xs) h p = (h x p.0, each-so P Q xs h p.1)
-
 -- a name has no mark, and is not empty
 plain_byte : (c : ℕ) (b : Bool) → (is_name_byte c && b) ≡ true → (nat_lt c 256 ≡ true) × (b ≡ true)
 plain_byte c b e = (grind (arith, common_steps), grind (arith, common_steps))

@@ -1,9 +1,8 @@
 -- What a unit calls: the instructions of a module without a fault name functions, and the graph has their names.
-use Rattle.std.proofs.Common.{◌≡◌, ℕ, zero, suc, ◌+◌, ◌<◌, inl, inr, min, Bool, true, false, if◌then◌else◌, List, [], ◌∷◌, ◌++◌, length, map, sum_by, Option, Some, None, IsSome, is_some, refl, ap, sym, ◌∙◌, subst, arith}
-use Rattle.std.specs.List.{Contains, slice_get}
+use Rattle.std.proofs.Common.{◌≡◌, ℕ, suc, ◌+◌, ◌<◌, inl, inr, min, Bool, true, false, if◌then◌else◌, List, [], ◌∷◌, ◌++◌, length, map, sum_by, Option, Some, None, IsSome, is_some, refl, ap, sym, ◌∙◌, subst, arith}
+use Rattle.std.specs.List.{Contains}
 use Rattle.std.proofs.lemmas.List.{append-nil, append_assoc}
 use Rattle.std.proofs.lemmas.List.Sums.{sum_by-cons}
-use Rattle.std.proofs.lemmas.List.Elements.{Contains-append_right}
 use Rattle.std.proofs.lemmas.Option.{same_Some, none-some}
 use Rattle.lh_unit.specs.declared.name.UnitName.{UnitName}
 use Rattle.lh_unit.specs.declared.inst.UnitId.{UnitId}
@@ -18,7 +17,7 @@ use Rattle.lh_unit.specs.Contents.{LineText, BlockText, UnitText, ItemText, unit
 use Rattle.lh_unit.specs.Named.{is_assert, is_function, unit_named}
 use Rattle.lh_unit.specs.Hierarchy.{lines_of}
 use Rattle.lh_unit.specs.Naming.{Naming, block_text, inst_text, kind_text}
-use Rattle.lh_unit.specs.Places.{Place, places_in, places_from, places}
+use Rattle.lh_unit.specs.Places.{places}
 use Rattle.lh_unit.specs.Table.{Table, FitsKind, line_at, insts_at}
 use Rattle.lh_unit.specs.ById.{inst_line}
 use Rattle.lh_unit.specs.Arena.{Arena, IsArena, InstPlaced, contents, item_text_at, unit_text_at, kind_at, table_at, naming, blocks_at, unit_count, unit_name_at}
@@ -29,40 +28,14 @@ use Rattle.lh_unit.proofs.ById.{unit_named-by_id}
 use Rattle.lh_formed.specs.Calls.{NamedIsRight}
 use Rattle.lh_formed.proofs.Sound.{site_in}
 use Rattle.lh_formed.proofs.CallsLaw.{calls_are_right}
+use Rattle.lh_formed.proofs.EachItem.{each-contained, each-of-map, each-at}
+use Rattle.lh_formed.proofs.AtPlaces.{lines-from}
 use Rattle.lh_flat.specs.declared.calls.Node.{Node}
 use Rattle.lh_flat.specs.Calls.{callee_if, callees_in, callees}
 use Rattle.lh_flat.specs.Graph.{max_counted, counted, no_node, callee_of, with_inst, with_insts, with_block, with_blocks, node_of}
 use Rattle.lh_flat.proofs.Reading.{line-placed}
 
 -- ---- what a module's instructions call
-
-each-contained : {X : Type 0} (Q : X → Type 0) (xs : List X) → ((x : X) → Contains xs x → Q x) → Each Q xs
-each-contained Q [] go = tt
-each-contained Q (x ∷ xs) go = (go x (0, omega arith, refl), each-contained Q xs (λ y c. go y (Contains-append_right (x ∷ []) xs y c)))
-
-each-of-map : {X Y : Type 0} (P : Y → Type 0) (f : X → Y) (xs : List X) → Each P (map f xs) → Each (λ (x : X). P (f x)) xs
-each-of-map P f [] e = tt
-each-of-map P f (x ∷ xs) e = (e.0, each-of-map P f xs e.1)
-
-each-at : {X Y : Type 0} (P : Y → Type 0) (f : X → Y) (xs : List X) (i : ℕ) (x : X) → Each P (map f xs) → slice_get xs i ≡ Some x → P (f x)
-each-at P f [] i x e h = absurd (none-some x h)
-each-at P f (y ∷ xs) zero x e h = subst (λ z. P (f z)) (same_Some y x h) e.0
-each-at P f (y ∷ xs) (suc i) x e h = each-at P f xs i x e.1 h
-
--- from the places of a unit to its lines
-abbrev OnLine : (LineText → Type 0) → Place → Type 0
-OnLine P p = P p.line
-
-lines-in : (P : LineText → Type 0) (k : ℕ) (e : Bool) (b : BlockText) (before rest : List LineText) → Each (OnLine P) (places_in k e b before rest) → Each P rest
-lines-in P k e b before [] h = tt
-lines-in P k e b before (l ∷ rest) h = (h.0, lines-in P (k + 1) e b (before ++ l ∷ []) rest h.1)
-
-lines-from : (P : LineText → Type 0) (k : ℕ) (e : Bool) (bs : List BlockText) → Each (OnLine P) (places_from k e bs) → Each P (lines_of bs)
-lines-from P k e [] h = tt
-lines-from P k e (b ∷ more) h =
-    Each-append P b.lines (lines_of more)
-    (lines-in P k e b [] b.lines (Each-left (OnLine P) (places_in k e b [] b.lines) (places_from (k + length b.lines) false more) h))
-    (lines-from P (k + length b.lines) false more (Each-right (OnLine P) (places_in k e b [] b.lines) (places_from (k + length b.lines) false more) h))
 
 -- what holds of each instruction of a module holds of each line of its units
 abbrev OnSite : (List ItemText → UnitText → LineText → Type 0) → List ItemText → Site → Type 0

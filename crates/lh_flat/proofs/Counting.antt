@@ -13,13 +13,13 @@ use Rattle.lh_unit.specs.Hierarchy.{lines_of}
 use Rattle.lh_unit.specs.Within.{Each}
 use Rattle.lh_unit.specs.Design.{is_one_of, first_some, cycle_at}
 use Rattle.lh_unit.proofs.Lists.{nat_eq-other}
+use Rattle.lh_formed.specs.Graphs.{met_or, is_open, IsIn}
 use Rattle.lh_flat.specs.declared.calls.Node.{Node}
 use Rattle.lh_flat.specs.Calls.{callee_if, callees_in, callees, callees_of, recursion_from, nest_deeper}
 use Rattle.lh_flat.specs.Graph.{max_counted, node_at, callees_at}
-use Rattle.lh_flat.specs.Measures.{nests, insts_in, cycle_in, met_or, is_open}
-use Rattle.lh_flat.specs.Searches.{IsIn}
+use Rattle.lh_flat.specs.Measures.{nests, insts_in, cycle_in}
 use Rattle.lh_flat.specs.Lengths.{called_length, copy_length}
-use Rattle.lh_flat.proofs.Lists.{Distinct, no_longer, is_open-in}
+use Rattle.lh_formed.proofs.Graphs.{Distinct, no_longer, is_open-in}
 
 -- a unit that is called is another than the top, and the function of its name has its text
 pub record IsCalled (fs : List UnitText) (name : ℕ → UnitName) (text : ℕ → UnitText) (top : ℕ) (n : ℕ) (t : UnitId) : Type 0 where

@@ -14,6 +14,7 @@ use Rattle.lh_unit.specs.declared.inst.InstId.{InstId}
 use Rattle.lh_unit.proofs.Lists.{Each-append, Same, same, other, same_or, nat_eq-refl, nat_eq-other, or_true}
 use Rattle.lh_unit.proofs.ModuleLaws.{label-by_name}
 use Rattle.lh_unit.proofs.Defined.{blocks-within}
+use Rattle.lh_unit.proofs.Within.{Each-more}
 use Rattle.lh_flat.specs.Graph.{callee_of}
 use Rattle.lh_flat.specs.Copies.{Copy, call_path, copy_at, opened}
 use Rattle.lh_flat.specs.Flat.{FlatBlockText, Pieces, merge_of, with_line, pieces_from, flat_block, flat_copy}
@@ -24,7 +25,7 @@ use Rattle.lh_flat.proofs.Marks.{nothing_behind, longer-apart}
 use Rattle.lh_flat.proofs.Placing.{labels}
 use Rattle.lh_flat.proofs.Copying.{line_text_of, arg_names, opened-none, opened-some, block-named}
 use Rattle.lh_flat.proofs.Nesting.{block-in, copy_names-none, copy_names-next}
-use Rattle.lh_flat.proofs.Apart.{Differs, Apart, differs-from, apart-append, each-so, plain-name, name-there, Begins, At, Under, UnderFrom, from-at, from-first, from-later, at-apart, begins-under, line-apart, plain-under, begins-more}
+use Rattle.lh_flat.proofs.Apart.{Differs, Apart, differs-from, apart-append, plain-name, name-there, Begins, At, Under, UnderFrom, from-at, from-first, from-later, at-apart, begins-under, line-apart, plain-under, begins-more}
 
 -- no block stands twice
 next-place : (i j : ℕ) → suc i ≡ suc j → i ≡ j
@@ -98,14 +99,14 @@ module _ (a : Arena) (o : IsArena a) (fs : List UnitText) (named : UnitsAreNamed
     where
       by : (x : Option UnitId) → callee_of a (line_of a u i).inst ≡ x → Apart (insts_names names a u p m (k + 1) is) × Each (UnderFrom p m (k + 1)) (insts_names names a u p m (k + 1) is) →
           Apart (call_names names (p ++ m ++ (256 + k) ∷ []) x ++ insts_names names a u p m (k + 1) is) × Each (UnderFrom p m k) (call_names names (p ++ m ++ (256 + k) ∷ []) x ++ insts_names names a u p m (k + 1) is)
-      by None e r = (r.0, each-so (UnderFrom p m (k + 1)) (UnderFrom p m k) (insts_names names a u p m (k + 1) is) (from-later p m k) r.1)
+      by None e r = (r.0, Each-more (UnderFrom p m (k + 1)) (UnderFrom p m k) (insts_names names a u p m (k + 1) is) (from-later p m k) r.1)
       by (Some f) e r =
           let q : List ℕ = p ++ m ++ (256 + k) ∷ [] in
           let c : Apart (names f q) × Each (Begins q) (names f q) = h f q (w.0.called f e) in
-          let under : Each (Under p m k) (names f q) = each-so (Begins q) (Under p m k) (names f q) (begins-under p m k) c.1 in (
+          let under : Each (Under p m k) (names f q) = Each-more (Begins q) (Under p m k) (names f q) (begins-under p m k) c.1 in (
             apart-append (Under p m k) (UnderFrom p m (k + 1)) (names f q) (insts_names names a u p m (k + 1) is) c.0 r.0 under r.1 (line-apart p m k),
-            Each-append (UnderFrom p m k) (names f q) (insts_names names a u p m (k + 1) is) (each-so (Under p m k) (UnderFrom p m k) (names f q) (from-first p m k) under)
-                (each-so (UnderFrom p m (k + 1)) (UnderFrom p m k) (insts_names names a u p m (k + 1) is) (from-later p m k) r.1),
+            Each-append (UnderFrom p m k) (names f q) (insts_names names a u p m (k + 1) is) (Each-more (Under p m k) (UnderFrom p m k) (names f q) (from-first p m k) under)
+                (Each-more (UnderFrom p m (k + 1)) (UnderFrom p m k) (insts_names names a u p m (k + 1) is) (from-later p m k) r.1),
           )
 
   under-one-at : (u : ℕ) (p : List ℕ) (bs : List BlockId) (x : List ℕ) → UnderOne a u p bs x → AtOne a u p bs x
@@ -122,8 +123,8 @@ module _ (a : Arena) (o : IsArena a) (fs : List UnitText) (named : UnitsAreNamed
         apart-append (UnderFrom p m 0) (UnderOne a u p bs) (insts_names names a u p m 0 (insts_at (table_at a u) b.0)) (blocks_names names a u p bs) one.0 rest.0 one.1 rest.1
             (λ x y s t e. blocks-apart u l p b bs x y (within-first (label_count a u) b bs w) w.1 gone (from-at p m 0 x s) (under-one-at u p bs y t) e),
         Each-append (UnderOne a u p (b ∷ bs)) (insts_names names a u p m 0 (insts_at (table_at a u) b.0)) (blocks_names names a u p bs)
-            (each-so (UnderFrom p m 0) (UnderOne a u p (b ∷ bs)) (insts_names names a u p m 0 (insts_at (table_at a u) b.0)) (λ x s. (b, first-block b bs, s)) one.1)
-            (each-so (UnderOne a u p bs) (UnderOne a u p (b ∷ bs)) (blocks_names names a u p bs) (λ x s. (s.0, later-block b s.0 bs s.1, s.2)) rest.1),
+            (Each-more (UnderFrom p m 0) (UnderOne a u p (b ∷ bs)) (insts_names names a u p m 0 (insts_at (table_at a u) b.0)) (λ x s. (b, first-block b bs, s)) one.1)
+            (Each-more (UnderOne a u p bs) (UnderOne a u p (b ∷ bs)) (blocks_names names a u p bs) (λ x s. (s.0, later-block b s.0 bs s.1, s.2)) rest.1),
       )
 
   -- those of a unit, and of all copies in it
@@ -136,8 +137,8 @@ module _ (a : Arena) (o : IsArena a) (fs : List UnitText) (named : UnitsAreNamed
       let name : (b : BlockId) → is_block (blocks_at a u) b.0 ≡ true → IsName (label_name_at a u b.0) = λ b e. (named u l).labels b.0 (block-in (label_count a u) (blocks_at a u) b w e) in (
         apart-append (Own p) (UnderOne a u p (blocks_at a u)) (own_names a u p) (blocks_names names a u p (blocks_at a u)) (own-apart p (table_at a u).values (o.tables u l).values_distinct) inner.0 own inner.1
             (λ x y s t e. plain-under p s.0 (label_name_at a u t.0.0) 0 x y (plain-name s.0 s.1) s.2 t.2 e),
-        Each-append (Begins p) (own_names a u p) (blocks_names names a u p (blocks_at a u)) (each-so (Own p) (Begins p) (own_names a u p) (λ x s. (s.0, name-there s.0 s.1, s.2)) own)
-            (each-so (UnderOne a u p (blocks_at a u)) (Begins p) (blocks_names names a u p (blocks_at a u)) (λ x t. begins-more p (label_name_at a u t.0.0) 0 x (name-there (label_name_at a u t.0.0) (name t.0 t.1)) (from-at p (label_name_at a u t.0.0) 0 x t.2)) inner.1),
+        Each-append (Begins p) (own_names a u p) (blocks_names names a u p (blocks_at a u)) (Each-more (Own p) (Begins p) (own_names a u p) (λ x s. (s.0, name-there s.0 s.1, s.2)) own)
+            (Each-more (UnderOne a u p (blocks_at a u)) (Begins p) (blocks_names names a u p (blocks_at a u)) (λ x t. begins-more p (label_name_at a u t.0.0) 0 x (name-there (label_name_at a u t.0.0) (name t.0 t.1)) (from-at p (label_name_at a u t.0.0) 0 x t.2)) inner.1),
       )
 
   pub copies-values : (depth : ℕ) → NamesDiffer (copy_names depth a)
@@ -163,7 +164,7 @@ module _ (a : Arena) (o : IsArena a) (fs : List UnitText) (named : UnitsAreNamed
           let P : Pieces = pieces_from copy_of fs c m (k + 1) (map (line_text_of a u) is) in
           subst (λ y. Apart (labels (with_line copy_of fs c (line_text_of a u i) y P).more) × Each (UnderFrom c.path m k) (labels (with_line copy_of fs c (line_text_of a u i) y P).more))
           (sym (opened-none a fs u c (call_path c m k) (line_of a u i).inst e))
-          (r.0, each-so (UnderFrom c.path m (k + 1)) (UnderFrom c.path m k) (labels P.more) (from-later c.path m k) r.1)
+          (r.0, Each-more (UnderFrom c.path m (k + 1)) (UnderFrom c.path m k) (labels P.more) (from-later c.path m k) r.1)
       by (Some f) e r =
           let P : Pieces = pieces_from copy_of fs c m (k + 1) (map (line_text_of a u) is) in
           let l : LineText = line_text_of a u i in
@@ -173,11 +174,11 @@ module _ (a : Arena) (o : IsArena a) (fs : List UnitText) (named : UnitsAreNamed
           let copies : Apart (labels (copy_of d)) × Each (Begins q) (labels (copy_of d)) = h f q (arg_names c l.inst) (w.0.called f e) in
           let here : Under c.path m k q = ([], sym (append-nil q)) in
           let tail : Apart (q ∷ labels P.more) = (differs-from (UnderFrom c.path m (k + 1)) q (labels P.more) r.1 (λ y t x. line-apart c.path m k q y here t x), r.0) in
-          let behind : Each (λ y. (y ≡ q) ⊎ UnderFrom c.path m (k + 1) y) (q ∷ labels P.more) = (inl refl, each-so (UnderFrom c.path m (k + 1)) (λ y. (y ≡ q) ⊎ UnderFrom c.path m (k + 1) y) (labels P.more) (λ y t. inr t) r.1) in
+          let behind : Each (λ y. (y ≡ q) ⊎ UnderFrom c.path m (k + 1) y) (q ∷ labels P.more) = (inl refl, Each-more (UnderFrom c.path m (k + 1)) (λ y. (y ≡ q) ⊎ UnderFrom c.path m (k + 1) y) (labels P.more) (λ y t. inr t) r.1) in
           let all : Apart (labels (copy_of d) ++ q ∷ labels P.more) = apart-append (Begins q) (λ y. (y ≡ q) ⊎ UnderFrom c.path m (k + 1) y) (labels (copy_of d)) (q ∷ labels P.more) copies.0 tail copies.1 behind (cross q) in
           let each : Each (UnderFrom c.path m k) (labels (copy_of d) ++ q ∷ labels P.more) =
-          Each-append (UnderFrom c.path m k) (labels (copy_of d)) (q ∷ labels P.more) (each-so (Begins q) (UnderFrom c.path m k) (labels (copy_of d)) (λ x s. from-first c.path m k x (begins-under c.path m k x s)) copies.1)
-          (from-first c.path m k q here, each-so (UnderFrom c.path m (k + 1)) (UnderFrom c.path m k) (labels P.more) (from-later c.path m k) r.1) in
+          Each-append (UnderFrom c.path m k) (labels (copy_of d)) (q ∷ labels P.more) (Each-more (Begins q) (UnderFrom c.path m k) (labels (copy_of d)) (λ x s. from-first c.path m k x (begins-under c.path m k x s)) copies.1)
+          (from-first c.path m k q here, Each-more (UnderFrom c.path m (k + 1)) (UnderFrom c.path m k) (labels P.more) (from-later c.path m k) r.1) in
           subst (λ y. Apart (labels (with_line copy_of fs c l y P).more) × Each (UnderFrom c.path m k) (labels (with_line copy_of fs c l y P).more))
           (sym (opened-some a fs u c q (line_of a u i).inst f e (w.0.called f e).named))
           (subst (λ ns. Apart ns × Each (UnderFrom c.path m k) ns) (sym (map-append (λ (b : FlatBlockText). b.label) (copy_of d) (D ∷ P.more))) (all, each))
@@ -194,7 +195,7 @@ module _ (a : Arena) (o : IsArena a) (fs : List UnitText) (named : UnitsAreNamed
       let one : Apart (labels P.more) × Each (UnderFrom c.path m 0) (labels P.more) = insts-labels copy_of h u c m (insts_at (table_at a u) b.0) r 0 in
       subst (λ xs. Apart (labels xs) × Each (At c.path m) (labels xs)) (sym (block-named a fs copy_of u c b k)) (
         (differs-from (UnderFrom c.path m 0) (c.path ++ m) (labels P.more) one.1 (λ y t e. plain-under c.path m m 0 (c.path ++ m) y (plain-name m ((named u l).labels b.0 w)) refl t e), one.0),
-        (([], nothing_behind refl, sym (append-nil (c.path ++ m))), each-so (UnderFrom c.path m 0) (At c.path m) (labels P.more) (from-at c.path m 0) one.1),
+        (([], nothing_behind refl, sym (append-nil (c.path ++ m))), Each-more (UnderFrom c.path m 0) (At c.path m) (labels P.more) (from-at c.path m 0) one.1),
       )
 
   blocks-labels : (copy_of : Copy → List FlatBlockText) → LabelsDiffer copy_of → (u : ℕ) (l : u < unit_count a) (k : HasBlocks (kind_at a u)) (c : Copy) (bs : List BlockId) → AllDistinct bs → BlocksWithin (label_count a u) bs → Each (BlockIsRight a fs u) bs →
@@ -209,8 +210,8 @@ module _ (a : Arena) (o : IsArena a) (fs : List UnitText) (named : UnitsAreNamed
       let gone : is_block bs b.0 ≡ true → ⊥ = λ e. let i = block-place bs b e in distinct-head b bs d i.0 i.1 in
       subst (λ ns. Apart ns × Each (AtOne a u c.path (b ∷ bs)) ns) (sym (map-append (λ (x : FlatBlockText). x.label) X Y)) (
         apart-append (At c.path m) (AtOne a u c.path bs) (labels X) (labels Y) one.0 rest.0 one.1 rest.1 (λ x y s t e. blocks-apart u l c.path b bs x y (within-first (label_count a u) b bs w) w.1 gone s t e),
-        Each-append (AtOne a u c.path (b ∷ bs)) (labels X) (labels Y) (each-so (At c.path m) (AtOne a u c.path (b ∷ bs)) (labels X) (λ x s. (b, first-block b bs, s)) one.1)
-            (each-so (AtOne a u c.path bs) (AtOne a u c.path (b ∷ bs)) (labels Y) (λ x s. (s.0, later-block b s.0 bs s.1, s.2)) rest.1),
+        Each-append (AtOne a u c.path (b ∷ bs)) (labels X) (labels Y) (Each-more (At c.path m) (AtOne a u c.path (b ∷ bs)) (labels X) (λ x s. (b, first-block b bs, s)) one.1)
+            (Each-more (AtOne a u c.path bs) (AtOne a u c.path (b ∷ bs)) (labels Y) (λ x s. (s.0, later-block b s.0 bs s.1, s.2)) rest.1),
       )
 
   -- those of a copy, and of all copies in it
@@ -220,7 +221,7 @@ module _ (a : Arena) (o : IsArena a) (fs : List UnitText) (named : UnitsAreNamed
       let r : Apart (labels (flat_map (flat_block (flat_copy depth fs) fs c) (unit_text_at a u).blocks)) × Each (AtOne a u c.path (blocks_at a u)) (labels (flat_map (flat_block (flat_copy depth fs) fs c) (unit_text_at a u).blocks)) =
       blocks-labels (flat_copy depth fs) h u l k c (blocks_at a u) (o.tables u l).blocks_distinct w (formed u l k) in
       let s : Each (Begins c.path) (labels (flat_map (flat_block (flat_copy depth fs) fs c) (unit_text_at a u).blocks)) =
-      each-so (AtOne a u c.path (blocks_at a u)) (Begins c.path) (labels (flat_map (flat_block (flat_copy depth fs) fs c) (unit_text_at a u).blocks))
+      Each-more (AtOne a u c.path (blocks_at a u)) (Begins c.path) (labels (flat_map (flat_block (flat_copy depth fs) fs c) (unit_text_at a u).blocks))
       (λ x t. begins-more c.path (label_name_at a u t.0.0) 0 x (name-there (label_name_at a u t.0.0) ((named u l).labels t.0.0 (block-in (label_count a u) (blocks_at a u) t.0 w t.1))) t.2) r.1 in
       subst (λ (x : UnitText). Apart (labels (flat_map (flat_block (flat_copy depth fs) fs c) x.blocks)) × Each (Begins c.path) (labels (flat_map (flat_block (flat_copy depth fs) fs c) x.blocks))) (sym e) (r.0, s)
 

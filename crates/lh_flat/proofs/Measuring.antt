@@ -1,11 +1,11 @@
 -- The measure of copies beside each other, and of a copy with others in it.
-use Rattle.std.proofs.Common.{◌≡◌, ℕ, zero, suc, ◌+◌, ◌≤◌, min, max, true, false, ◌||◌, nat_lt, List, [], ◌∷◌, ◌++◌, sum_by, ap, ◌∙◌, arith}
+use Rattle.std.proofs.Common.{◌≡◌, ℕ, zero, suc, ◌+◌, ◌≤◌, min, ◌||◌, nat_lt, List, [], ◌∷◌, ◌++◌, sum_by, ap, ◌∙◌, arith}
 use Rattle.std.specs.List.{list_any}
-use Rattle.std.proofs.lemmas.Grind.{common_steps}
 use Rattle.std.proofs.lemmas.List.Folds.{list_any-append}
 use Rattle.std.proofs.lemmas.List.Sums.{sum_by_push}
 use Rattle.lh_unit.specs.declared.inst.UnitId.{UnitId}
 use Rattle.lh_unit.proofs.Lists.{or_false}
+use Rattle.lh_formed.proofs.Capped.{not_below_zero, zero_capped, below_max, sum_capped, left_max, right_max, first_below, next_below, none_at_zero, below_next, right_capped}
 use Rattle.lh_flat.specs.declared.calls.Node.{Node}
 use Rattle.lh_flat.specs.declared.measure.Measure.{Measure}
 use Rattle.lh_flat.specs.Graph.{node_at, callees_at, max_counted}
@@ -17,26 +17,8 @@ pub record IsSum (g : List Node) (ts : List UnitId) (m : Measure) : Type 0 where
   pub insts : (k : ℕ) → suc k ≤ max_counted → m.depth ≤ k → min (sum_by (λ (t : UnitId). insts_in k g t.0) ts) max_counted ≡ m.insts
   pub blocks : (k : ℕ) → suc k ≤ max_counted → m.depth ≤ k → min (sum_by (λ (t : UnitId). blocks_in k g t.0) ts) max_counted ≡ m.blocks
 
-not_below_zero : (k : ℕ) → false ≡ nat_lt k 0
-not_below_zero k = grind (arith, common_steps)
-
-zero_capped : (e : ℕ) → min 0 e ≡ 0
-zero_capped e = omega arith
-
 pub IsSum-none : (g : List Node) → IsSum g [] nothing
 IsSum-none g = record { depth = λ k l. not_below_zero k; insts = λ k l d. zero_capped max_counted; blocks = λ k l d. zero_capped max_counted }
-
-below_max : (k a b : ℕ) → (nat_lt k a || nat_lt k b) ≡ nat_lt k (max a b)
-below_max k a b = grind (arith, common_steps)
-
-sum_capped : (a b e x y : ℕ) → min a e ≡ x → min b e ≡ y → min (a + b) e ≡ min (x + y) e
-sum_capped a b e x y p q = omega arith
-
-left_max : (a b k : ℕ) → max a b ≤ k → a ≤ k
-left_max a b k h = omega arith
-
-right_max : (a b k : ℕ) → max a b ≤ k → b ≤ k
-right_max a b k h = omega arith
 
 pub IsSum-beside : (g : List Node) (ts : List UnitId) (t : UnitId) (m n : Measure) → IsSum g ts m → IsMeasure g t.0 n → IsSum g (ts ++ t ∷ []) (beside m n)
 IsSum-beside g ts t m n o p = record {
@@ -53,21 +35,6 @@ IsSum-beside g ts t m n o p = record {
       ap (λ x. min x max_counted) (sum_by_push (λ (x : UnitId). blocks_in k g x.0) ts t)
       ∙ sum_capped (sum_by (λ (x : UnitId). blocks_in k g x.0) ts) (blocks_in k g t.0) max_counted m.blocks n.blocks (o.blocks k l (left_max m.depth n.depth k d)) (p.blocks k l (right_max m.depth n.depth k d));
 }
-
-first_below : (d e : ℕ) → 1 ≤ e → true ≡ nat_lt 0 (min (1 + d) e)
-first_below d e h = grind (arith, common_steps)
-
-next_below : (j d e : ℕ) → suc (suc j) ≤ e → nat_lt j d ≡ nat_lt (suc j) (min (1 + d) e)
-next_below j d e h = grind (arith, common_steps)
-
-none_at_zero : (d e : ℕ) → 1 ≤ e → min (1 + d) e ≤ 0 → ⊥
-none_at_zero d e h k = omega arith
-
-below_next : (j d e : ℕ) → suc (suc j) ≤ e → min (1 + d) e ≤ suc j → d ≤ j
-below_next j d e h k = omega arith
-
-right_capped : (a b e y : ℕ) → min b e ≡ y → min (a + b) e ≡ min (a + y) e
-right_capped a b e y q = omega arith
 
 depth-around : (g : List Node) (u : ℕ) (m : Measure) → IsSum g (callees_at g u) m → (k : ℕ) → suc k ≤ max_counted → nests k g u ≡ nat_lt k (min (1 + m.depth) max_counted)
 depth-around g u m o zero l = first_below m.depth max_counted (omega arith)

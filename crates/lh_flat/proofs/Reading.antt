@@ -14,12 +14,11 @@ use Rattle.lh_unit.specs.declared.inst.BlockId.{BlockId}
 use Rattle.lh_unit.specs.declared.inst.InstId.{InstId}
 use Rattle.lh_unit.specs.declared.inst.Inst.{Inst}
 use Rattle.lh_unit.specs.declared.inst.Inst.TheVariants as inst
-use Rattle.lh_unit.proofs.Lists.{Same, same, other, same_or, Each-append}
+use Rattle.lh_unit.proofs.Lists.{Same, same, other, same_or, Each-append, Each-at}
 use Rattle.lh_unit.proofs.ModuleLaws.{block-within, block_insts-within}
 use Rattle.lh_flat.specs.declared.calls.Node.{Node}
 use Rattle.lh_flat.specs.Graph.{no_node, called_of, callee_of, with_inst, with_insts, with_block, with_blocks, node_of, node_at, callees_at, counted, BlockPlaced, IsGraph}
 use Rattle.lh_flat.specs.Searches.{NodesWithin}
-use Rattle.lh_flat.proofs.Lists.{Each-get}
 
 -- a block of a unit has an entry, and so have its instructions
 pub placed-block : (a : Arena) (u i : ℕ) (b : BlockId) → IsArena a → u < unit_count a → slice_get (blocks_at a u) i ≡ Some b → BlockPlaced a u b
@@ -29,7 +28,7 @@ pub placed-at : (a : Arena) (u i : ℕ) (d : BlockId) (xs : List BlockId) → Is
 placed-at a u i d xs o l e k = placed-block a u i (get_or xs i d) o l (ap (λ ys. slice_get ys i) (sym e) ∙ slice_get-get_or xs i d k)
 
 pub each-at : (n i : ℕ) (d : InstId) (xs ys : List InstId) → i < length xs → xs ≡ ys → Each (λ (x : InstId). x.0 < n) ys → (get_or xs i d).0 < n
-each-at n i d xs ys l e h = Each-get (λ (x : InstId). x.0 < n) xs i (get_or xs i d) (slice_get-get_or xs i d l) (subst (Each (λ (x : InstId). x.0 < n)) (sym e) h)
+each-at n i d xs ys l e h = Each-at (λ (x : InstId). x.0 < n) xs i d (subst (Each (λ (x : InstId). x.0 < n)) (sym e) h) l
 
 -- a graph of the first units
 pub record GraphTo (a : Arena) (n : ℕ) (g : List Node) : Type 0 where

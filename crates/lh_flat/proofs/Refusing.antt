@@ -22,6 +22,7 @@ use Rattle.lh_unit.specs.Within.{Each}
 use Rattle.lh_unit.specs.WellFormed.{IsFaultless}
 use Rattle.lh_unit.proofs.ById.{same_unit-by_id}
 use Rattle.lh_unit.proofs.Lists.{nat_eq-is, nat_eq-refl}
+use Rattle.lh_formed.specs.Graphs.{IsIn}
 use Rattle.lh_flat.specs.declared.fault.FlatFault.{FlatFault}
 use Rattle.lh_flat.specs.declared.fault.FlatFault.TheVariants as fault
 use Rattle.lh_flat.specs.declared.calls.Node.{Node}
@@ -31,7 +32,7 @@ use Rattle.lh_flat.specs.Copies.{top_copy}
 use Rattle.lh_flat.specs.Flat.{max_nested, max_flat, inst_count, text_of, refused, flattened, recursive_call, call_too_deep, flat_too_large, flattened_by, flat_in, flat_of}
 use Rattle.lh_flat.specs.Graph.{max_counted, no_node, node_of, with_blocks, node_at, callees_at, IsGraph}
 use Rattle.lh_flat.specs.Measures.{cycle_in}
-use Rattle.lh_flat.specs.Searches.{IsIn, HasBusy, Measures}
+use Rattle.lh_flat.specs.Searches.{HasBusy, Measures}
 use Rattle.lh_flat.specs.Lengths.{copy_length}
 use Rattle.lh_flat.specs.Reads.{refusal_text, GivesRefusal}
 use Rattle.lh_flat.proofs.Lengths.{lengths_add}

@@ -6,6 +6,8 @@ use Rattle.std.proofs.lemmas.List.{length-set, length-replicate, get_or-set_same
 use Rattle.lh_unit.specs.Within.{Each}
 use Rattle.lh_unit.specs.declared.inst.UnitId.{UnitId}
 use Rattle.lh_unit.proofs.Lists.{Each-append, Same, same, other, same_or}
+use Rattle.lh_unit.proofs.Within.{Each-more}
+use Rattle.lh_formed.specs.Graphs.{met_or, is_open, IsIn}
 use Rattle.lh_flat.specs.declared.calls.Node.{Node}
 use Rattle.lh_flat.specs.declared.measure.Measure.{Measure}
 use Rattle.lh_flat.specs.declared.search.Mark.{Mark}
@@ -13,9 +15,9 @@ use Rattle.lh_flat.specs.declared.search.Mark.TheVariants as mark
 use Rattle.lh_flat.specs.declared.search.Frame.{Frame}
 use Rattle.lh_flat.specs.declared.search.Search.{Search}
 use Rattle.lh_flat.specs.Graph.{node_at, callees_at}
-use Rattle.lh_flat.specs.Measures.{around, IsMeasure, cycle_in, met_or, is_open}
-use Rattle.lh_flat.specs.Searches.{mark_at, entered, passed, IsIn, IsDone, IsQuiet, Known, units, Covered, HasBusy}
-use Rattle.lh_flat.proofs.Lists.{Distinct, not_open, is_open-in, first-none, first-at, Each-weaker, no_longer}
+use Rattle.lh_flat.specs.Measures.{around, IsMeasure, cycle_in}
+use Rattle.lh_flat.specs.Searches.{mark_at, entered, passed, IsDone, IsQuiet, Known, units, Covered, HasBusy}
+use Rattle.lh_formed.proofs.Graphs.{Distinct, not_open, is_open-in, first-none, first-at, no_longer}
 use Rattle.lh_flat.proofs.Measuring.{IsSum, IsSum-none, IsSum-beside, IsMeasure-around}
 
 -- an open unit: the search has left its callees before the next one, and has their measure
@@ -63,7 +65,7 @@ IsQuiet-keeps : (g : List Node) (old new : List Mark) (u : ℕ) → Keeps old ne
 IsQuiet-keeps g old new u k q = λ n opened h. q n opened (λ v i d. h v i (IsDone-keeps old new k v d))
 
 Leaves-keeps : (g : List Node) (old new : List Mark) (f : Frame) → Keeps old new → Leaves g old f → Leaves g new f
-Leaves-keeps g old new f k l = record { room = l.room; left = Each-weaker (λ (t : UnitId). IsDone old t.0) (λ (t : UnitId). IsDone new t.0) (take f.next (callees_at g f.unit.0)) (λ t d. IsDone-keeps old new k t.0 d) l.left; inside = l.inside }
+Leaves-keeps g old new f k l = record { room = l.room; left = Each-more (λ (t : UnitId). IsDone old t.0) (λ (t : UnitId). IsDone new t.0) (take f.next (callees_at g f.unit.0)) (λ t d. IsDone-keeps old new k t.0 d) l.left; inside = l.inside }
 
 Waits-keeps : (g : List Node) (old new : List Mark) (top : ℕ) (n : UnitId) (rest : List Frame) → Keeps old new → Waits g old top n rest → Waits g new top n rest
 Waits-keeps g old new top n [] k w = w
@@ -181,7 +183,7 @@ quiet-all : (g : List Node) (marks new : List Mark) (u : ℕ) → Known g marks 
 quiet-all g marks new u o n keeps l zero opened h = refl
 quiet-all g marks new u o n keeps l (suc k) opened h =
     first-none (λ (t : UnitId). met_or (cycle_in k g (u ∷ opened)) (is_open (u ∷ opened) t.0) t.0) (callees_at g u)
-    (Each-weaker (λ (t : UnitId). IsDone marks t.0) (λ (t : UnitId). met_or (cycle_in k g (u ∷ opened)) (is_open (u ∷ opened) t.0) t.0 ≡ None) (callees_at g u) (λ t d. target-quiet g marks k (u ∷ opened) t o avoids d) l)
+    (Each-more (λ (t : UnitId). IsDone marks t.0) (λ (t : UnitId). met_or (cycle_in k g (u ∷ opened)) (is_open (u ∷ opened) t.0) t.0 ≡ None) (callees_at g u) (λ t d. target-quiet g marks k (u ∷ opened) t o avoids d) l)
   where
     avoids : (v : ℕ) → IsIn (u ∷ opened) v → IsDone marks v → ⊥
     avoids v (inl e) d = done_opened (mark_at marks v) d.0 (ap (mark_at marks) (sym e) ∙ n) d.1
@@ -245,7 +247,7 @@ Below-finish g top marks f rest o e = by rest o
 
 -- where the next callee is open, the search from the top finds it first
 before-none : (g : List Node) (top : ℕ) (marks : List Mark) (k : ℕ) (opened : List ℕ) (f : Frame) → Known g marks → ((v : ℕ) → IsIn opened v → mark_at marks v ≡ mark.Opened) → Leaves g marks f → Each (λ (t : UnitId). met_or (cycle_in k g opened) (is_open opened t.0) t.0 ≡ None) (take f.next (callees_at g f.unit.0))
-before-none g top marks k opened f o h l = Each-weaker (λ (t : UnitId). IsDone marks t.0) (λ (t : UnitId). met_or (cycle_in k g opened) (is_open opened t.0) t.0 ≡ None) (take f.next (callees_at g f.unit.0)) (λ t d. target-quiet g marks k opened t o (λ v i x. done_opened (mark_at marks v) x.0 (h v i) x.1) d) l.left
+before-none g top marks k opened f o h l = Each-more (λ (t : UnitId). IsDone marks t.0) (λ (t : UnitId). met_or (cycle_in k g opened) (is_open opened t.0) t.0 ≡ None) (take f.next (callees_at g f.unit.0)) (λ t d. target-quiet g marks k opened t o (λ v i x. done_opened (mark_at marks v) x.0 (h v i) x.1) d) l.left
 
 cycle-here : (g : List Node) (top : ℕ) (marks : List Mark) (f : Frame) (rest : List Frame) (t : UnitId) (k : ℕ) → Below g top marks f rest → slice_get (callees_at g f.unit.0) f.next ≡ Some t → mark_at marks t.0 ≡ mark.Opened → cycle_in (suc k) g (units rest) f.unit.0 ≡ Some t.0
 cycle-here g top marks f rest t k o e q =

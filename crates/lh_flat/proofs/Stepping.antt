@@ -7,6 +7,8 @@ use Rattle.std.proofs.lemmas.Option.{slice_get_within}
 use Rattle.std.proofs.lemmas.List.{length-set}
 use Rattle.lh_unit.specs.Within.{Each}
 use Rattle.lh_unit.specs.declared.inst.UnitId.{UnitId}
+use Rattle.lh_unit.proofs.Lists.{Each-get}
+use Rattle.lh_formed.specs.Graphs.{IsIn}
 use Rattle.lh_flat.specs.declared.fault.FlatFault.{FlatFault}
 use Rattle.lh_flat.specs.declared.fault.FlatFault.TheVariants as fault
 use Rattle.lh_flat.specs.declared.calls.Node.{Node}
@@ -17,8 +19,7 @@ use Rattle.lh_flat.specs.declared.search.Frame.{Frame}
 use Rattle.lh_flat.specs.declared.search.Search.{Search}
 use Rattle.lh_flat.specs.Graph.{node_at, callees_at}
 use Rattle.lh_flat.specs.Measures.{around}
-use Rattle.lh_flat.specs.Searches.{mark_at, IsDone, Covered, InPlace, IsSettled, Settles, Stays, Opens, IsIn, units, entered, passed, NodesWithin, Steps, StepsBy, StepsTo, Measures}
-use Rattle.lh_flat.proofs.Lists.{Each-get}
+use Rattle.lh_flat.specs.Searches.{mark_at, IsDone, Covered, InPlace, IsSettled, Settles, Stays, Opens, units, entered, passed, NodesWithin, Steps, StepsBy, StepsTo, Measures}
 use Rattle.lh_flat.proofs.Searching.{Below, Over, SearchingBy, Searching, Below-first, Below-enter, Below-pass, Below-finish, Below-cycle, Below-covers, Covered-close, Covered-new, mark-within}
 
 -- a frame was taken from the stack
@@ -42,7 +43,7 @@ next-marked : (g : List Node) (top : ℕ) (f : Frame) (t u : Search) (x : UnitId
 next-marked g top f t u x mark.New o w e q s =
     after g top u (set t.marks.items x.0 mark.Opened) ((t.stack.items ++ f ∷ []) ++ entered x ∷ []) (entered x ∷ f ∷ reverse t.stack.items) s.marks s.stack
     (reversed (t.stack.items ++ f ∷ []) (entered x) ∙ ap (λ l. entered x ∷ l) (reversed t.stack.items f))
-    (Below-enter g top t.marks.items f (reverse t.stack.items) x o e q (subst (λ n. x.0 < n) (sym o.known.long) (Each-get (λ (y : UnitId). y.0 < length g) (callees_at g f.unit.0) f.next x e (w f.unit.0))))
+    (Below-enter g top t.marks.items f (reverse t.stack.items) x o e q (subst (λ n. x.0 < n) (sym o.known.long) (Each-get (λ (y : UnitId). y.0 < length g) (callees_at g f.unit.0) f.next x (w f.unit.0) e)))
 next-marked g top f t u x mark.Opened o w e q s = cc
 next-marked g top f t u x (mark.Done m) o w e q s =
     after g top u t.marks.items (t.stack.items ++ passed f m ∷ []) (passed f m ∷ reverse t.stack.items) s.marks s.stack (reversed t.stack.items (passed f m))
@@ -146,7 +147,7 @@ falls-finish ms mt st sx ss x e h k = omega arith
 smaller-marked : (g : List Node) (top : ℕ) (f : Frame) (s t u : Search) (x : UnitId) (m : Mark) → Below g top t.marks.items f (reverse t.stack.items) → NodesWithin g → Takes f s t → slice_get (callees_at g f.unit.0) f.next ≡ Some x → mark_at t.marks.items x.0 ≡ m → StepsTo m f x t u (Ok tt) → left g u < left g s
 smaller-marked g top f s t u x mark.New o w k e q p =
     falls-enter (to_meet s.marks.items g) (to_meet u.marks.items g) (sum_by (frame_left g) (t.stack.items ++ f ∷ [])) (sum_by (frame_left g) u.stack.items) (sum_by (frame_left g) s.stack.items) (length (callees_at g x.0)) 0 0
-    (ap (λ ms. to_meet ms g + (2 + length (callees_at g x.0))) p.marks ∙ meet-set t.marks.items g x.0 mark.Opened mark.New q (subst (λ n. x.0 < n) (sym o.known.long) (Each-get (λ (y : UnitId). y.0 < length g) (callees_at g f.unit.0) f.next x e (w f.unit.0))) o.known.long ∙ ap (λ ms. to_meet ms g + 0) k.marks)
+    (ap (λ ms. to_meet ms g + (2 + length (callees_at g x.0))) p.marks ∙ meet-set t.marks.items g x.0 mark.Opened mark.New q (subst (λ n. x.0 < n) (sym o.known.long) (Each-get (λ (y : UnitId). y.0 < length g) (callees_at g f.unit.0) f.next x (w f.unit.0) e)) o.known.long ∙ ap (λ ms. to_meet ms g + 0) k.marks)
     (stack-sum g (t.stack.items ++ f ∷ []) u.stack.items (entered x) p.stack)
     (ap (sum_by (frame_left g)) k.stack)
 smaller-marked g top f s t u x mark.Opened o w k e q p = cc

@@ -1,8 +1,9 @@
 -- What is counted of copies of units, over the graph of calls: how deep they nest, how many instructions and blocks they have.
-use Rattle.std.specs.Prelude.{◌≡◌, ℕ, zero, suc, ◌+◌, ◌≤◌, min, max, nat_lt, nat_eq, List, ◌∷◌, Bool, true, false, sum_by, Option, Some, None}
+use Rattle.std.specs.Prelude.{◌≡◌, ℕ, zero, suc, ◌+◌, ◌≤◌, min, max, nat_lt, List, ◌∷◌, Bool, true, sum_by, Option, None}
 use Rattle.std.specs.List.{list_any}
 use Rattle.lh_unit.specs.Design.{first_some}
 use Rattle.lh_unit.specs.declared.inst.UnitId.{UnitId}
+use Rattle.lh_formed.specs.Graphs.{is_open, met_or}
 use Rattle.lh_flat.specs.declared.calls.Node.{Node}
 use Rattle.lh_flat.specs.declared.measure.Measure.{Measure}
 use Rattle.lh_flat.specs.Graph.{node_at, callees_at, max_counted, counted}
@@ -39,15 +40,6 @@ pub record IsMeasure (g : List Node) (n : ℕ) (m : Measure) : Type 0 where
   pub depth : (k : ℕ) → suc k ≤ max_counted → nests k g n ≡ nat_lt k m.depth
   pub insts : (k : ℕ) → suc k ≤ max_counted → m.depth ≤ k → min (insts_in k g n) max_counted ≡ m.insts
   pub blocks : (k : ℕ) → suc k ≤ max_counted → m.depth ≤ k → min (blocks_in k g n) max_counted ≡ m.blocks
-
--- whether one of these is the unit n
-abbrev pub is_open : (opened : List ℕ) → ℕ → Bool
-is_open opened n = list_any (λ m. nat_eq m n) opened
-
--- whether a call names an open unit, and else what is found below it
-abbrev pub met_or : (below : ℕ → Option ℕ) → (is_open : Bool) → ℕ → Option ℕ
-met_or below true n = Some n
-met_or below false n = below n
 
 -- the target of the first call, depth first, that names an open unit; at most `steps` units are open
 abbrev pub cycle_in : (steps : ℕ) → List Node → (opened : List ℕ) → ℕ → Option ℕ

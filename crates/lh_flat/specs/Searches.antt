@@ -1,7 +1,8 @@
 -- The search of the graph of calls: what it knows between two questions, one step of it, and its answer.
-use Rattle.std.specs.Prelude.{◌≡◌, ℕ, ◌+◌, ◌<◌, List, [], ◌∷◌, ◌++◌, length, map, Option, Some, None, Result, Ok, Err, slice_get, slice_set, slice_index_or, reverse, ◌⊎◌}
+use Rattle.std.specs.Prelude.{◌≡◌, ℕ, ◌+◌, ◌<◌, List, [], ◌∷◌, ◌++◌, length, map, Option, Some, None, Result, Ok, Err, slice_get, slice_set, slice_index_or, reverse}
 use Rattle.lh_unit.specs.Within.{Each}
 use Rattle.lh_unit.specs.declared.inst.UnitId.{UnitId}
+use Rattle.lh_formed.specs.Graphs.{IsIn}
 use Rattle.lh_flat.specs.declared.fault.FlatFault.{FlatFault}
 use Rattle.lh_flat.specs.declared.fault.FlatFault.TheVariants as fault
 use Rattle.lh_flat.specs.declared.calls.Node.{Node}
@@ -20,11 +21,6 @@ NodesWithin g = (u : ℕ) → Each (λ (t : UnitId). t.0 < length g) (callees_at
 -- the mark of the unit u
 abbrev pub mark_at : List Mark → ℕ → Mark
 mark_at marks u = slice_index_or marks u mark.New
-
--- n is one of these
-abbrev pub IsIn : List ℕ → ℕ → Type 0
-IsIn [] n = ⊥
-IsIn (x ∷ more) n = (x ≡ n) ⊎ IsIn more n
 
 -- the search has left the unit u
 abbrev pub IsDone : List Mark → ℕ → Type 0

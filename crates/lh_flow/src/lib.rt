@@ -6,6 +6,7 @@ pub mod flow;
 mod group;
 mod jumps;
 pub mod laws;
+pub mod numbers;
 mod search;
 mod tops;
 mod tree;

@@ -1,4 +1,9 @@
 pub mod Bools
+pub mod EachItem
+pub mod AtPlaces
+pub mod There
+pub mod Graphs
+pub mod Capped
 pub mod Sound
 pub mod ShapeLaw
 pub mod TypesOf
@@ -7,6 +12,7 @@ pub mod OperandsLaw
 pub mod RowsLaw
 pub mod DefinedLaw
 pub mod PartsLaw
+pub mod PartSteps
 pub mod ResultsLaw
 pub mod ValuesLaw
 pub mod KindsLaw

@@ -70,7 +70,7 @@ inst_some n i (b ∷ more) h g = at (lines_define n b.lines) refl h (λ d. inst_
     at true e d r = ap (λ o. or_else o (inst_giving n more)) (line_some n i b.lines e g.0)
     at false e d r = ap (λ o. or_else o (inst_giving n more)) (line_none n b.lines e) ∙ r d
 
-arg_none : (n : List ℕ) (args : List ArgText) → args_define n args ≡ false → arg_named n args ≡ None
+pub arg_none : (n : List ℕ) (args : List ArgText) → args_define n args ≡ false → arg_named n args ≡ None
 arg_none n [] h = refl
 arg_none n (a ∷ more) h =
     let b = or_parts (same_name a.name n) (args_define n more) h in

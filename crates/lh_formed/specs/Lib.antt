@@ -6,3 +6,4 @@ pub mod Shape
 pub mod Parts
 pub mod Results
 pub mod KindsOf
+pub mod Graphs

@@ -1,5 +1,5 @@
 -- At each place of a flat text the operands are there.
-use Rattle.std.proofs.Common.{◌≡◌, ◌⊎◌, ℕ, zero, suc, List, [], ◌∷◌, ◌++◌, map, Bool, true, false, Option, Some, refl, ap, sym, ◌∙◌, inl, inr, subst}
+use Rattle.std.proofs.Common.{◌≡◌, ◌⊎◌, ℕ, zero, suc, List, ◌∷◌, ◌++◌, map, Bool, true, false, Option, Some, refl, ap, sym, ◌∙◌, inl, inr, subst}
 use Rattle.lh_types.specs.Types.{TypeTree}
 use Rattle.lh_unit.specs.declared.inst.UnitKind.TheVariants as kind
 use Rattle.lh_unit.specs.Contents.{OperandText, EdgeText, InstText, const_text, pure_text, var_text, ld_text, st_text, sig_text, prb_text, drv_text, reg_text, child_text, call_text, phi_text, br_text, branch_text, wait_text, halt_text, ret_text, LineText, BlockText, UnitText, lines_define, blocks_define, args_define}
@@ -7,20 +7,17 @@ use Rattle.lh_unit.specs.Named.{block_of, label_or}
 use Rattle.lh_unit.specs.WellFormed.{values_named, is_phi}
 use Rattle.lh_unit.specs.Within.{Each}
 use Rattle.lh_formed.specs.Defined.{IsThere, IsGiven, IsThereOnEdge, OperandsThere}
+use Rattle.lh_formed.proofs.AtPlaces.{place-at}
 use Rattle.lh_flat.specs.Copies.{Copy, top_copy, last_piece}
 use Rattle.lh_flat.specs.Flat.{flat_copy, max_nested}
-use Rattle.lh_inlined.proofs.Cuts.{Among, Cut}
+use Rattle.lh_inlined.proofs.Cuts.{Among, Cut, all-among}
 use Rattle.lh_inlined.proofs.Spots.{Spot, next_cut, SpotOf, Nested, flat_spot}
 use Rattle.lh_inlined.proofs.SoundCopies.{IsCode}
 use Rattle.lh_inlined.proofs.Lines.{or-cases}
 use Rattle.lh_inlined.proofs.Paths.{as_block, IsGood, CallIsGood, There, Located, goes-on, located}
 use Rattle.lh_inlined.proofs.There.{operand-there}
 use Rattle.lh_inlined.proofs.Phis.{PhisAreGood, phi-there}
-use Rattle.lh_inlined.proofs.Facts.{place-at, label-found}
-
-pub all-among : {A : Type 0} (P : A → Type 0) (xs : List A) → ((x : A) → Among xs x → P x) → Each P xs
-all-among P [] f = tt
-all-among P (x ∷ xs) f = (f x (inl refl), all-among P xs (λ y a. f y (inr a)))
+use Rattle.lh_inlined.proofs.Facts.{label-found}
 
 module _ (fs : List UnitText) (u x : UnitText) (args : x.args ≡ u.args)
     (good : (k : ℕ) (c : Copy) → Nested fs u k c → IsGood fs c.unit) (calls : (k : ℕ) (c : Copy) → Nested fs u k c → (s : Spot) → SpotOf fs c s → (z : Cut) → next_cut fs c s ≡ Some z → CallIsGood fs c z)

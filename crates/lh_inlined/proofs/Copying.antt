@@ -25,6 +25,8 @@ use Rattle.lh_meaning.proofs.Labelled.{EachLabelled, Labelled, AllLabelled}
 use Rattle.lh_formed.specs.Calls.{ArgumentsAre, NamedIsRight}
 use Rattle.lh_formed.specs.Operands.{IsOf, ReturnIs, RowIs}
 use Rattle.lh_formed.specs.Shape.{PhiIsRight}
+use Rattle.lh_formed.proofs.AtPlaces.{place-at}
+use Rattle.lh_formed.proofs.There.{function-runs}
 use Rattle.lh_eval.specs.Sound.{IsSound}
 use Rattle.lh_spelled.specs.ItemLines.{item_line}
 use Rattle.lh_spelled.specs.Printable.{HasInstLine, HasShape, IsPrintableItem}
@@ -37,14 +39,9 @@ use Rattle.lh_inlined.proofs.Spots.{Spot, next_cut, next_lines, SpotOf, Nested, 
 use Rattle.lh_inlined.proofs.SoundCopies.{IsCode}
 use Rattle.lh_inlined.proofs.Paths.{IsGood, CallIsGood, spot-block, nested-right}
 use Rattle.lh_inlined.proofs.Phis.{PhisAreGood, given-by}
-use Rattle.lh_inlined.proofs.Facts.{FactsIn, UnitFacts, each-among, place-at, fact-at, is-good, phis-good, is-code, no-ret}
+use Rattle.lh_inlined.proofs.Facts.{FactsIn, UnitFacts, each-among, fact-at, is-good, phis-good, is-code, no-ret}
 use Rattle.lh_inlined.proofs.Typing.{argument-typed, among-lines, among-middle}
 use Rattle.lh_inlined.proofs.Opening.{Opens, opens-is, cut-opens, argument-named, function-is, any-among, callee-among}
-
-function-runs : (k : UnitKind) → is_function k ≡ true → in_entity k ≡ false
-function-runs kind.Func e = refl
-function-runs kind.Proc e = absurd cc
-function-runs kind.Entity e = absurd cc
 
 labelled-by : (k : UnitKind) (u : UnitText) → in_entity k ≡ false → Labelled k u.blocks → AllLabelled u.blocks
 labelled-by kind.Entity u e h = absurd cc

@@ -1,6 +1,5 @@
 -- What holds of each function and process of a well-formed module, block by block and line by line.
-use Rattle.std.proofs.Common.{◌≡◌, ◌⊎◌, ℕ, ◌+◌, List, [], ◌∷◌, ◌++◌, length, map, Bool, true, false, if◌then◌else◌, Option, Some, None, refl, ap, sym, ◌∙◌, inl, inr, subst, append_assoc}
-use Rattle.std.proofs.lemmas.List.{append-nil}
+use Rattle.std.proofs.Common.{◌≡◌, ◌⊎◌, ℕ, ◌+◌, List, [], ◌∷◌, ◌++◌, length, map, Bool, true, false, if◌then◌else◌, Option, Some, None, refl, ap, sym, ◌∙◌, inl, inr, subst}
 use Rattle.std.proofs.lemmas.Option.{same_Some, none-some}
 use Rattle.lh_types.specs.Types.{TypeTree}
 use Rattle.lh_unit.specs.Contents.{OperandText, EdgeText, InstText, const_text, pure_text, var_text, ld_text, st_text, sig_text, prb_text, drv_text, reg_text, child_text, call_text, phi_text, br_text, branch_text, wait_text, halt_text, ret_text, LineText, BlockText, UnitText, ItemText, unit_text, declare_text, is_result_name}
@@ -20,15 +19,17 @@ use Rattle.lh_formed.specs.KindsOf.{ArgsHaveKinds, HasTypeOfKind}
 use Rattle.lh_formed.specs.Shape.{PhiIsRight}
 use Rattle.lh_formed.proofs.Sound.{site_in}
 use Rattle.lh_formed.proofs.CallsLaw.{calls_are_right}
+use Rattle.lh_formed.proofs.AtPlaces.{place-at, in-block}
 use Rattle.lh_formed.proofs.DefinedLaw.{all_there}
 use Rattle.lh_formed.proofs.KindsLaw.{operands_have_types}
 use Rattle.lh_formed.proofs.ShapeLaw.{labels_are_blocks, phis_are_right, all_allowed}
+use Rattle.lh_formed.proofs.There.{as-process, last-leads}
 use Rattle.lh_eval.specs.Sound.{IsSound}
 use Rattle.lh_spelled.specs.Printable.{IsPrintable}
-use Rattle.lh_sound.proofs.EachItem.{each-contained, each-split, each-of-map}
+use Rattle.lh_formed.proofs.EachItem.{each-contained, each-split, each-of-map}
 use Rattle.lh_inlined.proofs.Cuts.{Among}
 use Rattle.lh_inlined.proofs.SoundCopies.{IsCode}
-use Rattle.lh_inlined.proofs.Lines.{LastOf, no_last, last_is, last-of, last-leads}
+use Rattle.lh_inlined.proofs.Lines.{LastOf, no_last, last_is, last-of}
 use Rattle.lh_inlined.proofs.Paths.{IsGood}
 use Rattle.lh_inlined.proofs.Phis.{PhisAreGood}
 
@@ -40,12 +41,6 @@ pub record PlaceFacts (items : List ItemText) (v : UnitText) (p : Place) : Type 
   pub allowed : is_allowed v.kind p.line.inst ≡ true
   pub calls : NamedIsRight items v p.line.inst
   pub kinds : ArgsHaveKinds v → Each (HasTypeOfKind v) (uses p.line.inst)
-
-as-process : (k : UnitKind) (u : UnitText) (p : Place) (i : InstText) → OperandsThere k u p i → in_entity k ≡ false → OperandsThere kind.Proc u p i
-as-process kind.Entity u p i h e = absurd cc
-as-process kind.Func u p (phi_text ty es) h e = h
-as-process kind.Func u p _ h e = h
-as-process kind.Proc u p i h e = h
 
 abbrev SiteFacts : List ItemText → Site → Type 0
 SiteFacts items s = PlaceFacts items s.unit s.place
@@ -76,16 +71,6 @@ pub record UnitFacts (items : List ItemText) (v : UnitText) : Type 0 where
   pub printable : IsPrintable v
   pub labelled : AllLabelled v.blocks
   pub sound : Each (IsSound v) (lines_of v.blocks)
-
--- an instruction of a block
-abbrev pub place-at : (number : ℕ) → Bool → BlockText → (before : List LineText) → LineText → (after : List LineText) → Place
-place-at k e b before l after = record { number = k; in_entry = e; block = b; before = before; line = l; after = after }
-
-in-block : (P : Place → Type 0) (k : ℕ) (e : Bool) (b : BlockText) (before seen : List LineText) (l : LineText) (after : List LineText) → Each P (places_in k e b before (seen ++ l ∷ after)) → (j : ℕ) × P (place-at j e b (before ++ seen) l after)
-in-block P k e b before [] l after h = (k, subst (λ (x : List LineText). P (place-at k e b x l after)) (sym (append-nil before)) h.0)
-in-block P k e b before (x ∷ seen) l after h =
-    let r = in-block P (k + 1) e b (before ++ x ∷ []) seen l after h.1 in
-    (r.0, subst (λ (y : List LineText). P (place-at r.0 e b y l after)) (append_assoc before (x ∷ []) seen) r.1)
 
 in-blocks : (P : Place → Type 0) (k : ℕ) (e : Bool) (bs : List BlockText) (b : BlockText) (seen : List LineText) (l : LineText) (after : List LineText) → Each P (places_from k e bs) → Among bs b → b.lines ≡ seen ++ l ∷ after
     → (j : ℕ) × (d : Bool) × P (place-at j d b seen l after)

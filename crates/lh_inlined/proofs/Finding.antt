@@ -12,10 +12,10 @@ use Rattle.lh_unit.specs.Typing.{or_else}
 use Rattle.lh_unit.specs.Within.{Each}
 use Rattle.lh_unit.proofs.Lists.{Each-append}
 use Rattle.lh_unit.proofs.Tables.{same_name-is}
+use Rattle.lh_unit.proofs.Within.{Each-more}
 use Rattle.lh_flat.specs.Copies.{Copy, call_path, copy_at, opened, first_piece}
 use Rattle.lh_flat.specs.Flat.{FlatBlockText, Pieces, with_merge, merge_of, with_line, pieces_from, flat_block, flat_copy}
 use Rattle.lh_flat.specs.Marks.{IsPlain}
-use Rattle.lh_flat.proofs.Lists.{Each-weaker}
 use Rattle.lh_flat.proofs.Marks.{not_same, is_same, Behind, nothing_behind, mark_behind, path-apart, longer-apart, not_empty}
 
 -- the first of these blocks with this label
@@ -130,7 +130,7 @@ module _ (fs : List UnitText) (w : AllLabelled fs) where
       let x = opens-is fs c (call_path c label k) l.inst d q in
       let z = opens-path fs c (call_path c label k) l.inst d x in
       Each-append (λ (b : FlatBlockText). Piece c.path label b.label) (copy_of d) (record { label = d.path; merge = merge_of fs c d l.inst l.result; lines = p.rest } ∷ p.more)
-      (Each-weaker (λ (b : FlatBlockText). Under d.path b.label) (λ (b : FlatBlockText). Piece c.path label b.label) (copy_of d) (λ b u. under-piece c.path label b.label k (subst (λ y. Under y b.label) z u)) (h d (opens-labelled c (call_path c label k) l.inst d x)))
+      (Each-more (λ (b : FlatBlockText). Under d.path b.label) (λ (b : FlatBlockText). Piece c.path label b.label) (copy_of d) (λ b u. under-piece c.path label b.label k (subst (λ y. Under y b.label) z u)) (h d (opens-labelled c (call_path c label k) l.inst d x)))
       (record { more = (256 + k) ∷ []; behind = mark_behind k [] refl; is = z }, e)
 
   pieces-labels : (copy_of : Copy → List FlatBlockText) → AllUnder copy_of → (c : Copy) (label : List ℕ) (k : ℕ) (ls : List LineText) → Each (λ (b : FlatBlockText). Piece c.path label b.label) (pieces_from copy_of fs c label k ls).more
@@ -148,7 +148,7 @@ module _ (fs : List UnitText) (w : AllLabelled fs) where
   blocks-under copy_of h c [] e = tt
   blocks-under copy_of h c (b ∷ bs) e =
       Each-append (λ (x : FlatBlockText). Under c.path x.label) (flat_block copy_of fs c b) (flat_map (flat_block copy_of fs c) bs)
-      (Each-weaker (λ (x : FlatBlockText). Piece c.path (label_or b.label) x.label) (λ (x : FlatBlockText). Under c.path x.label) (flat_block copy_of fs c b) (λ x p. record { more = label_or b.label ++ p.more; some = not_empty (label_or b.label) p.more e.0.some; is = p.is ∙ append_assoc c.path (label_or b.label) p.more }) (block-labels copy_of h c b))
+      (Each-more (λ (x : FlatBlockText). Piece c.path (label_or b.label) x.label) (λ (x : FlatBlockText). Under c.path x.label) (flat_block copy_of fs c b) (λ x p. record { more = label_or b.label ++ p.more; some = not_empty (label_or b.label) p.more e.0.some; is = p.is ∙ append_assoc c.path (label_or b.label) p.more }) (block-labels copy_of h c b))
       (blocks-under copy_of h c bs e.1)
 
   copy-under : (k : ℕ) → AllUnder (flat_copy k fs)

@@ -16,17 +16,18 @@ use Rattle.lh_unit.specs.Reads.{args_repeat, has_lines}
 use Rattle.lh_unit.specs.Typing.{value_type, result_type, is_value_type}
 use Rattle.lh_unit.specs.Within.{Each}
 use Rattle.lh_unit.specs.WellFormed.{in_entity, is_phi, labels_named, edges_naming}
+use Rattle.lh_unit.proofs.Lists.{Each-append}
 use Rattle.lh_meaning.proofs.Labelled.{block_of-in}
-use Rattle.lh_spelled.specs.Printable.{HasShape, IsLabelled, all_lines, labels_repeat, results_repeat}
+use Rattle.lh_spelled.specs.Printable.{HasShape, IsLabelled, labels_repeat, results_repeat}
 use Rattle.lh_formed.specs.Calls.{AssertIsRight, NamedIsRight}
 use Rattle.lh_formed.specs.Defined.{OperandsThere}
 use Rattle.lh_formed.specs.KindsOf.{ArgsHaveKinds, HasTypeOfKind}
 use Rattle.lh_formed.specs.Operands.{IsOf, RowIs}
 use Rattle.lh_formed.specs.Shape.{EndsOnce}
+use Rattle.lh_formed.proofs.AtPlaces.{place-at}
 use Rattle.lh_eval.specs.Sound.{IsSound}
 use Rattle.lh_sound.specs.Units.{IsPort, HasPorts}
 use Rattle.lh_sound.proofs.NamedOnce.{lines-typed, args-typed}
-use Rattle.lh_sound.proofs.SoundLines.{same-lines}
 use Rattle.lh_sound.proofs.Spelled.{header-ports}
 use Rattle.lh_flat.specs.Calls.{callees, nest_deeper}
 use Rattle.lh_flat.specs.Copies.{Copy, top_copy, call_path, copy_at, opened, last_piece, copied, copied_line}
@@ -35,13 +36,13 @@ use Rattle.lh_flat.proofs.Apart.{Apart}
 use Rattle.lh_flat.proofs.Placing.{labels}
 use Rattle.lh_inlined.specs.Formed.{IsFormed, PhiFormed, IsWithoutCalls, IsOne}
 use Rattle.lh_inlined.specs.Tidy.{BlockTidy, UnitTidy, FunctionsTidy}
-use Rattle.lh_inlined.proofs.Cuts.{Among, among-right, Cut, behind, lines-cut, piece-lines}
+use Rattle.lh_inlined.proofs.Cuts.{Among, among-right, Cut, behind, lines-cut, piece-lines, among-map, all-among}
 use Rattle.lh_inlined.proofs.Spots.{Spot, next_cut, next_lines, first_spot, SpotOf, begins, goes_on, Nested, outermost, called, flat_spot, spot-stands}
 use Rattle.lh_inlined.proofs.SoundCopies.{IsCode}
 use Rattle.lh_inlined.proofs.Paths.{as_block, IsGood, CallIsGood, spot-block, nested-right}
 use Rattle.lh_inlined.proofs.Phis.{phi-of, PhisAreGood, no-branch, nothing-is, differ, merge-edges}
 use Rattle.lh_inlined.proofs.Splits.{LineOf, is_merge, is_copied, is_branch, line-of}
-use Rattle.lh_inlined.proofs.Facts.{PlaceFacts, UnitFacts, each-among, place-at, fact-at, label-found, among-in}
+use Rattle.lh_inlined.proofs.Facts.{PlaceFacts, UnitFacts, each-among, fact-at, label-found, among-in}
 use Rattle.lh_inlined.proofs.Opening.{opens-is, cut-opens, function-is}
 use Rattle.lh_inlined.proofs.Copying.{ModuleFacts, copy-facts, copies-good, copies-phis, copies-code, process-no-ret, begins-with, copies-calls, copies-arguments, copies-results, copies-sound, copies-merges, copies-returned, copies-naming, not-deep}
 use Rattle.lh_inlined.proofs.Typing.{among-lines, among-middle, typed}
@@ -51,7 +52,7 @@ use Rattle.lh_inlined.proofs.OperandKinds.{kinds-copied}
 use Rattle.lh_inlined.proofs.Labels.{once-found, labels-new, last-apart}
 use Rattle.lh_inlined.proofs.Ending.{spot-ends}
 use Rattle.lh_inlined.proofs.Leading.{copied-leads, branch-leads, merge-leads, calm-opened, copied-calls}
-use Rattle.lh_inlined.proofs.Control.{all-among, line-there}
+use Rattle.lh_inlined.proofs.Control.{line-there}
 
 -- ---- places of a unit, block by block
 
@@ -63,14 +64,10 @@ each-in P k d b before (l ∷ rest) f = (f k before l rest refl, each-in P (k + 
     inner [] l ys = refl
     inner (x ∷ xs) l ys = ap (λ zs. x ∷ zs) (inner xs l ys)
 
-each-both : {A : Type 0} (P : A → Type 0) (xs ys : List A) → Each P xs → Each P ys → Each P (xs ++ ys)
-each-both P [] ys h k = k
-each-both P (x ∷ xs) ys h k = (h.0, each-both P xs ys h.1 k)
-
 each-later : (P : Place → Type 0) (k : ℕ) (bs : List BlockText) → ((j : ℕ) (b : BlockText) (start : List LineText) (l : LineText) (after : List LineText) → Among bs b → b.lines ≡ start ++ l ∷ after → P (place-at j false b start l after)) → Each P (places_from k false bs)
 each-later P k [] f = tt
 each-later P k (b ∷ bs) f =
-    each-both P (places_in k false b [] b.lines) (places_from (k + length b.lines) false bs)
+    Each-append P (places_in k false b [] b.lines) (places_from (k + length b.lines) false bs)
     (each-in P k false b [] b.lines (λ j start l after e. f j b start l after (inl refl) e))
     (each-later P (k + length b.lines) bs (λ j c start l after a q. f j c start l after (inr a) q))
 
@@ -83,7 +80,7 @@ each-place : (P : Place → Type 0) (bs : List BlockText) → ((j : ℕ) (d : Bo
     → Each P (places_from 1 true bs)
 each-place P [] f = tt
 each-place P (b ∷ bs) f =
-    each-both P (places_in 1 true b [] b.lines) (places_from (1 + length b.lines) false bs)
+    Each-append P (places_in 1 true b [] b.lines) (places_from (1 + length b.lines) false bs)
     (each-in P 1 true b [] b.lines (λ j start l after e. f j true b start l after (inl refl) (λ t. (bs, refl)) e))
     (each-later P (1 + length b.lines) bs (λ j c start l after a q. f j false c start l after (inr a) (λ t. absurd cc) q))
 
@@ -94,12 +91,7 @@ every-line P (l ∷ ls) f = (f [] l ls refl, every-line P ls (λ start m after e
 -- and at each line
 each-line : (P : LineText → Type 0) (bs : List BlockText) → ((b : BlockText) (start : List LineText) (l : LineText) (after : List LineText) → Among bs b → b.lines ≡ start ++ l ∷ after → P l) → Each P (lines_of bs)
 each-line P [] f = tt
-each-line P (b ∷ bs) f = each-both P b.lines (lines_of bs) (every-line P b.lines (λ start l after e. f b start l after (inl refl) e)) (each-line P bs (λ c start l after a e. f c start l after (inr a) e))
-
-among-map : {A B : Type 0} (f : A → B) (xs : List A) (y : B) → Among (map f xs) y → (x : A) × Among xs x × (y ≡ f x)
-among-map f [] y a = elim a [ ]
-among-map f (x ∷ xs) y (inl e) = (x, inl refl, sym e)
-among-map f (x ∷ xs) y (inr a) = let r = among-map f xs y a in (r.0, inr r.1, r.2)
+each-line P (b ∷ bs) f = Each-append P b.lines (lines_of bs) (every-line P b.lines (λ start l after e. f b start l after (inl refl) e)) (each-line P bs (λ c start l after a e. f c start l after (inr a) e))
 
 one-of : (es : List EdgeText) (e : EdgeText) → Among es e → IsOne es e
 one-of [] e a = elim a [ ]
@@ -171,7 +163,7 @@ module _ (items : List ItemText) (m : ModuleFacts items items) (u : UnitText) (a
     (kinded : (k : ℕ) (c : Copy) → Nested (functions items) u k c → ArgsHaveKinds c.unit)
     (x : UnitText) (kind_is : x.kind ≡ kind.Proc) (args : x.args ≡ u.args) (blocks : x.blocks ≡ map as_block (flat_copy (suc max_nested) (functions items) (top_copy u)))
     (apart : Apart (labels (flat_copy (suc max_nested) (functions items) (top_copy u))))
-    (new : results_repeat x.args [] (all_lines x.blocks) ≡ false)
+    (new : results_repeat x.args [] (lines_of x.blocks) ≡ false)
     (given : Each (λ (l : LineText). (n : List ℕ) → l.result ≡ Some n → IsSome (value_type x n)) (lines_of x.blocks)) where
   abbrev fs : List UnitText
   fs = functions items
@@ -234,7 +226,7 @@ module _ (items : List ItemText) (m : ModuleFacts items items) (u : UnitText) (a
   once k c n s h = ap (block_of s.label) blocks ∙ once-found (flat_copy (suc max_nested) fs (top_copy u)) (flat_spot fs k c s) apart (spot-stands fs u k c n s h)
 
   gives : (l : LineText) → Among (lines_of x.blocks) l → (n : List ℕ) → l.result ≡ Some n → value_type x n ≡ result_type l.inst
-  gives l a = each-among (λ (l : LineText). (n : List ℕ) → l.result ≡ Some n → value_type x n ≡ result_type l.inst) (lines_of x.blocks) l (lines-typed x (subst (λ ls. results_repeat x.args [] ls ≡ false) (same-lines x.blocks) new)) a
+  gives l a = each-among (λ (l : LineText). (n : List ℕ) → l.result ≡ Some n → value_type x n ≡ result_type l.inst) (lines_of x.blocks) l (lines-typed x new) a
 
   types : (k : ℕ) (c : Copy) → Nested fs u k c → (n : List ℕ) (t : TypeTree) → value_type c.unit n ≡ Some t → value_type x (c.value n) ≡ Some t
   types = typed fs u x args blocks gives code (copies-arguments items m u among process shallow) (copies-results items m u among process shallow)

@@ -10,7 +10,7 @@ use Rattle.lh_flat.specs.Marks.{IsPlain}
 use Rattle.lh_flat.proofs.Marks.{path-apart}
 use Rattle.lh_flat.proofs.Apart.{Differs, Apart}
 use Rattle.lh_flat.proofs.Placing.{labels}
-use Rattle.lh_inlined.proofs.Cuts.{Among}
+use Rattle.lh_inlined.proofs.Cuts.{Among, among-parts}
 use Rattle.lh_inlined.proofs.Finding.{Piece}
 use Rattle.lh_inlined.proofs.LastPieces.{last_piece-is}
 use Rattle.lh_inlined.proofs.Paths.{as_block}
@@ -47,21 +47,12 @@ map-ends : (seen : List FlatBlockText) (b : FlatBlockText) → map as_block seen
 map-ends [] b = refl
 map-ends (x ∷ seen) b = ap (λ bs. as_block x ∷ bs) (map-ends seen b)
 
-parts : {A : Type 0} (xs ys : List A) (x : A) → Among (xs ++ ys) x → Among xs x ⊎ Among ys x
-parts [] ys x a = inr a
-parts (z ∷ xs) ys x (inl e) = inl (inl e)
-parts (z ∷ xs) ys x (inr a) = on (parts xs ys x a)
-  where
-    on : (Among xs x ⊎ Among ys x) → Among (z ∷ xs) x ⊎ Among ys x
-    on (inl b) = inl (inr b)
-    on (inr b) = inr b
-
 labels-new-from : (seen bs : List FlatBlockText) → Apart (labels bs) → ((s y : FlatBlockText) → Among seen s → Among bs y → s.label ≡ y.label → ⊥) → labels_repeat (map as_block seen) (map as_block bs) ≡ false
 labels-new-from seen [] p h = refl
 labels-new-from seen (b ∷ bs) p h =
     ap (λ t. t || labels_repeat (map as_block seen ++ as_block b ∷ []) (map as_block bs)) (none-defines b.label seen (λ s a. h s b a (inl refl)))
     ∙ ap (λ ss. labels_repeat ss (map as_block bs)) (map-ends seen b)
-    ∙ labels-new-from (seen ++ b ∷ []) bs p.1 (λ s y a c e. by s y c e (parts seen (b ∷ []) s a))
+    ∙ labels-new-from (seen ++ b ∷ []) bs p.1 (λ s y a c e. by s y c e (among-parts seen (b ∷ []) s a))
   where
     by : (s y : FlatBlockText) → Among bs y → s.label ≡ y.label → (Among seen s ⊎ Among (b ∷ []) s) → ⊥
     by s y c e (inl a) = h s y a (inr c) e

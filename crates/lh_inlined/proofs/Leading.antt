@@ -46,10 +46,6 @@ last-from fs c (suc k) s h l = by (next_cut fs c s) refl (λ z e. last-from fs c
 pub last-spot : (fs : List UnitText) (c : Copy) (b : BlockText) → Among c.unit.blocks b → LastSpot fs c b
 last-spot fs c b a = last-from fs c (suc (length b.lines)) (first_spot fs c b) (begins b a) (omega arith)
 
-all-among : {A : Type 0} (P : A → Type 0) (xs : List A) → ((x : A) → Among xs x → P x) → Each P xs
-all-among P [] f = tt
-all-among P (x ∷ xs) f = (f x (inl refl), all-among P xs (λ y a. f y (inr a)))
-
 module _ (fs : List UnitText) (u x : UnitText)
     (once : (k : ℕ) (c : Copy) → Nested fs u k c → (s : Spot) → SpotOf fs c s → block_of s.label x.blocks ≡ Some (as_block (flat_spot fs k c s)))
     (leads : (k : ℕ) (c : Copy) → Nested fs u k c → (b : BlockText) (before after : List LineText) (l : LineText) → Among c.unit.blocks b → b.lines ≡ before ++ l ∷ after → (n : List ℕ) → Among (labels_named l.inst) n → (d : BlockText) × (block_of n c.unit.blocks ≡ Some d) × Among c.unit.blocks d × (label_or d.label ≡ n))

@@ -4,6 +4,7 @@ use Rattle.std.specs.List.{list_any}
 use Rattle.lh_unit.specs.Contents.{OperandText, InstText, const_text, pure_text, var_text, ld_text, st_text, sig_text, prb_text, drv_text, reg_text, child_text, call_text, phi_text, br_text, branch_text, wait_text, halt_text, ret_text, LineText, UnitText, same_name, is_result_name, lines_define}
 use Rattle.lh_unit.specs.Places.{leads_to, last_leads_to}
 use Rattle.lh_unit.proofs.Tables.{same_name-is, same_name-refl}
+use Rattle.lh_formed.proofs.There.{last-leads}
 use Rattle.lh_flat.specs.Copies.{Copy, first_piece, copied, copied_line}
 use Rattle.lh_flat.specs.Flat.{MergeText, with_merge}
 use Rattle.lh_inlined.proofs.Cuts.{Among}
@@ -72,11 +73,6 @@ lines-define n None ls h = h
 lines-define n (Some m) ls h = or-right (is_result_name n (Some m.value)) (lines_define n ls) h
 
 -- ---- where the last line leads
-
-pub last-leads : (xs : List LineText) (l : LineText) → last_leads_to (xs ++ l ∷ []) ≡ leads_to l.inst
-last-leads [] l = refl
-last-leads (x ∷ []) l = refl
-last-leads (x ∷ y ∷ xs) l = last-leads (y ∷ xs) l
 
 pub merge-leads : (m : Option MergeText) (xs : List LineText) (l : LineText) → last_leads_to (with_merge m (xs ++ l ∷ [])) ≡ leads_to l.inst
 merge-leads None xs l = last-leads xs l

@@ -1,12 +1,11 @@
 -- The values that an instruction of a copy names are those of the original under their new names.
 use Rattle.std.proofs.Common.{◌≡◌, ◌⊎◌, ℕ, List, [], ◌∷◌, ◌++◌, map, Option, Some, None, option_map, refl, ap, sym, ◌∙◌, inl, inr, subst}
 use Rattle.lh_types.specs.declared.op.Op.{Op}
-use Rattle.lh_types.specs.declared.op.Op.TheVariants.{Not, Neg, Add, Sub, Umul, Smul, Udiv, Sdiv, Umod, Smod, Urem, Srem, And, Or, Xor, Eq, Neq, Slt, Sgt, Sle, Sge, Ult, Ugt, Ule, Uge, Shl, Shr, Mux, Extf, Exts, Insf, Inss, Array, Repeat, Tuple}
 use Rattle.lh_unit.specs.Contents.{OperandText, InstText, const_text, pure_text, var_text, ld_text, st_text, sig_text, prb_text, drv_text, reg_text, child_text, call_text, phi_text, br_text, branch_text, wait_text, halt_text, ret_text, UnitText}
 use Rattle.lh_unit.specs.Kinds.{Need, Use, used, all_used, maybe_used, operation_uses, time_needed, signal_needed, data_needed}
 use Rattle.lh_unit.specs.WellFormed.{values_named, is_phi}
 use Rattle.lh_flat.specs.Copies.{Copy, copied_operand, copied}
-use Rattle.lh_inlined.proofs.Cuts.{Among, among-left, among-right}
+use Rattle.lh_inlined.proofs.Cuts.{Among, among-left, among-right, among-parts}
 use Rattle.lh_inlined.proofs.SoundCopies.{IsCode}
 use Rattle.std.specs.Prelude.{false}
 
@@ -18,41 +17,7 @@ used-values need [] = refl
 used-values need (o ∷ more) = ap (λ ns. o.value ∷ ns) (used-values need more)
 
 operation-values : (o : Op) (args : List OperandText) → map (λ (x : Use). x.value) (operation_uses o args) ≡ map (λ (o : OperandText). o.value) args
-operation-values Not args = used-values _ args
-operation-values Neg args = used-values _ args
-operation-values Add args = used-values _ args
-operation-values Sub args = used-values _ args
-operation-values Umul args = used-values _ args
-operation-values Smul args = used-values _ args
-operation-values Udiv args = used-values _ args
-operation-values Sdiv args = used-values _ args
-operation-values Umod args = used-values _ args
-operation-values Smod args = used-values _ args
-operation-values Urem args = used-values _ args
-operation-values Srem args = used-values _ args
-operation-values And args = used-values _ args
-operation-values Or args = used-values _ args
-operation-values Xor args = used-values _ args
-operation-values Eq args = used-values _ args
-operation-values Neq args = used-values _ args
-operation-values Slt args = used-values _ args
-operation-values Sgt args = used-values _ args
-operation-values Sle args = used-values _ args
-operation-values Sge args = used-values _ args
-operation-values Ult args = used-values _ args
-operation-values Ugt args = used-values _ args
-operation-values Ule args = used-values _ args
-operation-values Uge args = used-values _ args
-operation-values Shl args = used-values _ args
-operation-values Shr args = used-values _ args
-operation-values Mux args = used-values _ args
-operation-values (Extf k) args = used-values _ args
-operation-values (Exts at len) args = used-values _ args
-operation-values (Insf k) args = used-values _ args
-operation-values (Inss at len) args = used-values _ args
-operation-values Array args = used-values _ args
-operation-values (Repeat n) args = used-values _ args
-operation-values Tuple args = used-values _ args
+operation-values o args = used-values _ args
 
 module _ (c : Copy) where
   -- it is the new name of one of these
@@ -91,15 +56,6 @@ module _ (c : Copy) where
   values-parts : (us vs : List Use) → map (λ (x : Use). x.value) (us ++ vs) ≡ map (λ (x : Use). x.value) us ++ map (λ (x : Use). x.value) vs
   values-parts [] vs = refl
   values-parts (u ∷ us) vs = ap (λ ns. u.value ∷ ns) (values-parts us vs)
-
-  among-parts : (ns ms : List (List ℕ)) (n : List ℕ) → Among (ns ++ ms) n → Among ns n ⊎ Among ms n
-  among-parts [] ms n a = inr a
-  among-parts (x ∷ ns) ms n (inl e) = inl (inl e)
-  among-parts (x ∷ ns) ms n (inr a) = on (among-parts ns ms n a)
-    where
-      on : (Among ns n ⊎ Among ms n) → Among (x ∷ ns) n ⊎ Among ms n
-      on (inl b) = inl (inr b)
-      on (inr b) = inr b
 
   pub named-copied : (fs : List UnitText) (i : InstText) → IsCode i → is_phi i ≡ false → (n : List ℕ) → Among (values_named (copied fs c i)) n → IsNew (values_named i) n
   named-copied fs (const_text d) k p n a = elim a [ ]

@@ -1,23 +1,18 @@
 -- The operands of an instruction in a copy have types of their kinds.
-use Rattle.std.proofs.Common.{◌≡◌, ℕ, List, [], ◌∷◌, ◌++◌, map, Option, Some, None, option_map, sym, subst}
+use Rattle.std.proofs.Common.{◌≡◌, ℕ, List, [], ◌∷◌, map, Option, Some, None, option_map, sym, subst}
 use Rattle.lh_types.specs.Types.{TypeTree}
+use Rattle.lh_types.specs.Classes.{class_of, taken_step}
 use Rattle.lh_types.specs.declared.op.Op.{Op}
-use Rattle.lh_types.specs.declared.op.Op.TheVariants.{Not, Neg, Add, Sub, Umul, Smul, Udiv, Sdiv, Umod, Smod, Urem, Srem, And, Or, Xor, Eq, Neq, Slt, Sgt, Sle, Sge, Ult, Ugt, Ule, Uge, Shl, Shr, Mux, Insf, Inss, Array, Repeat, Tuple, Extf, Exts}
+use Rattle.lh_types.specs.declared.part.Step.{Step}
 use Rattle.lh_unit.specs.Contents.{OperandText, EdgeText, InstText, const_text, pure_text, var_text, ld_text, st_text, sig_text, prb_text, drv_text, reg_text, child_text, call_text, phi_text, br_text, branch_text, wait_text, halt_text, ret_text, UnitText}
-use Rattle.lh_unit.specs.Kinds.{Need, pointer_needed, used, all_used, maybe_used, step_need, operation_uses, uses, data_needed, time_needed, signal_needed, data_or_time_needed}
+use Rattle.lh_unit.specs.Kinds.{Need, pointer_needed, used, all_used, maybe_used, step_need, part_need, operation_uses, uses, data_needed, time_needed, signal_needed, data_or_time_needed}
 use Rattle.lh_unit.specs.Typing.{value_type, first_type}
 use Rattle.lh_unit.specs.Within.{Each}
+use Rattle.lh_unit.proofs.Lists.{Each-append}
 use Rattle.lh_formed.specs.KindsOf.{HasTypeOfKind}
+use Rattle.lh_formed.proofs.EachItem.{each-split}
 use Rattle.lh_flat.specs.Copies.{Copy, copied_operand, copied_edge, copied}
 use Rattle.lh_inlined.proofs.SoundCopies.{IsCode, first-type}
-
-parts : {A : Type 0} (P : A → Type 0) (xs ys : List A) → Each P (xs ++ ys) → Each P xs × Each P ys
-parts P [] ys h = (tt, h)
-parts P (x ∷ xs) ys h = let r = parts P xs ys h.1 in ((h.0, r.0), r.1)
-
-both : {A : Type 0} (P : A → Type 0) (xs ys : List A) → Each P xs → Each P ys → Each P (xs ++ ys)
-both P [] ys h k = k
-both P (x ∷ xs) ys h k = (h.0, both P xs ys h.1 k)
 
 module _ (v x : UnitText) (c : Copy) (typed : (n : List ℕ) (t : TypeTree) → value_type v n ≡ Some t → value_type x (c.value n) ≡ Some t) where
   one-kind : (need : Need) (n : List ℕ) → HasTypeOfKind v (used need n) → HasTypeOfKind x (used need (c.value n))
@@ -42,42 +37,12 @@ module _ (v x : UnitText) (c : Copy) (typed : (n : List ℕ) (t : TypeTree) → 
   stepped-kinds : (args : List OperandText) → Each (HasTypeOfKind v) (all_used (step_need (first_type args)) args) → Each (HasTypeOfKind x) (all_used (step_need (first_type (map (copied_operand c) args))) (map (copied_operand c) args))
   stepped-kinds args h = subst (λ t. Each (HasTypeOfKind x) (all_used (step_need t) (map (copied_operand c) args))) (sym (first-type c args)) (all-kinds (step_need (first_type args)) args h)
 
+  part-kinds : (s : Option Step) (args : List OperandText) → Each (HasTypeOfKind v) (all_used (part_need s args) args) → Each (HasTypeOfKind x) (all_used (part_need s (map (copied_operand c) args)) (map (copied_operand c) args))
+  part-kinds None args h = all-kinds data_needed args h
+  part-kinds (Some s) args h = stepped-kinds args h
+
   operation-kinds : (o : Op) (args : List OperandText) → Each (HasTypeOfKind v) (operation_uses o args) → Each (HasTypeOfKind x) (operation_uses o (map (copied_operand c) args))
-  operation-kinds (Extf k) args h = stepped-kinds args h
-  operation-kinds (Exts at len) args h = stepped-kinds args h
-  operation-kinds Not args h = all-kinds data_needed args h
-  operation-kinds Neg args h = all-kinds data_needed args h
-  operation-kinds Add args h = all-kinds data_needed args h
-  operation-kinds Sub args h = all-kinds data_needed args h
-  operation-kinds Umul args h = all-kinds data_needed args h
-  operation-kinds Smul args h = all-kinds data_needed args h
-  operation-kinds Udiv args h = all-kinds data_needed args h
-  operation-kinds Sdiv args h = all-kinds data_needed args h
-  operation-kinds Umod args h = all-kinds data_needed args h
-  operation-kinds Smod args h = all-kinds data_needed args h
-  operation-kinds Urem args h = all-kinds data_needed args h
-  operation-kinds Srem args h = all-kinds data_needed args h
-  operation-kinds And args h = all-kinds data_needed args h
-  operation-kinds Or args h = all-kinds data_needed args h
-  operation-kinds Xor args h = all-kinds data_needed args h
-  operation-kinds Eq args h = all-kinds data_needed args h
-  operation-kinds Neq args h = all-kinds data_needed args h
-  operation-kinds Slt args h = all-kinds data_needed args h
-  operation-kinds Sgt args h = all-kinds data_needed args h
-  operation-kinds Sle args h = all-kinds data_needed args h
-  operation-kinds Sge args h = all-kinds data_needed args h
-  operation-kinds Ult args h = all-kinds data_needed args h
-  operation-kinds Ugt args h = all-kinds data_needed args h
-  operation-kinds Ule args h = all-kinds data_needed args h
-  operation-kinds Uge args h = all-kinds data_needed args h
-  operation-kinds Shl args h = all-kinds data_needed args h
-  operation-kinds Shr args h = all-kinds data_needed args h
-  operation-kinds Mux args h = all-kinds data_needed args h
-  operation-kinds (Insf k) args h = all-kinds data_needed args h
-  operation-kinds (Inss at len) args h = all-kinds data_needed args h
-  operation-kinds Array args h = all-kinds data_needed args h
-  operation-kinds (Repeat n) args h = all-kinds data_needed args h
-  operation-kinds Tuple args h = all-kinds data_needed args h
+  operation-kinds o args h = part-kinds (taken_step (class_of o)) args h
 
   -- the operands of a copied instruction
   pub kinds-copied : (fs : List UnitText) (i : InstText) → IsCode i → Each (HasTypeOfKind v) (uses i) → Each (HasTypeOfKind x) (uses (copied fs c i))
@@ -96,7 +61,7 @@ module _ (v x : UnitText) (c : Copy) (typed : (n : List ℕ) (t : TypeTree) → 
   kinds-copied fs (br_text to) k h = tt
   kinds-copied fs (branch_text cond first second) k h = (one-kind data_needed cond h.0, tt)
   kinds-copied fs (wait_text to after signals) k h =
-      let r = parts (HasTypeOfKind v) (maybe_used time_needed after) (map (used signal_needed) signals) h in
-      both (HasTypeOfKind x) (maybe_used time_needed (option_map c.value after)) (map (used signal_needed) (map c.value signals)) (maybe-kind time_needed after r.0) (signal-kinds signals r.1)
+      let r = each-split (HasTypeOfKind v) (maybe_used time_needed after) (map (used signal_needed) signals) h in
+      Each-append (HasTypeOfKind x) (maybe_used time_needed (option_map c.value after)) (map (used signal_needed) (map c.value signals)) (maybe-kind time_needed after r.0) (signal-kinds signals r.1)
   kinds-copied fs halt_text k h = tt
   kinds-copied fs (ret_text o) k h = tt

@@ -7,11 +7,12 @@ use Rattle.lh_unit.specs.Places.{leads_to, last_leads_to, has_edge, entry_of, Is
 use Rattle.lh_unit.specs.WellFormed.{values_named, is_phi}
 use Rattle.lh_unit.proofs.Tables.{same_name-is, same_name-refl}
 use Rattle.lh_formed.specs.Defined.{IsThere}
+use Rattle.lh_formed.proofs.There.{last-leads}
 use Rattle.lh_flat.specs.Copies.{Copy, top_copy, first_piece, copied, copied_line}
 use Rattle.lh_flat.specs.Flat.{FlatBlockText, merge_of, first_label, branch_into, flat_block, flat_copy, max_nested, with_merge}
 use Rattle.lh_inlined.proofs.Cuts.{Among, Cut, ending, behind, lines-cut, piece-lines}
 use Rattle.lh_inlined.proofs.Spots.{Spot, next_cut, next_lines, first_spot, after_spot, SpotOf, begins, goes_on, Nested, outermost, called, flat_spot}
-use Rattle.lh_inlined.proofs.Lines.{or-cases, or-left, or-right, define-parts, define-left, define-copied, merge-defines, lines-define, last-leads, merge-leads, merge-ends, LastOf, no_last, last_is, last-of, Leads, within, back, leads-copied}
+use Rattle.lh_inlined.proofs.Lines.{or-cases, or-left, or-right, define-parts, define-left, define-copied, merge-defines, lines-define, merge-leads, merge-ends, LastOf, no_last, last_is, last-of, Leads, within, back, leads-copied}
 
 inner : (b : List LineText) (l : LineText) (r : List LineText) → b ++ l ∷ r ≡ (b ++ l ∷ []) ++ r
 inner [] l r = refl

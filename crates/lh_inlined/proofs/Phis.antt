@@ -10,7 +10,7 @@ use Rattle.lh_unit.specs.WellFormed.{values_named, is_phi}
 use Rattle.lh_formed.specs.Defined.{IsThere, IsThereOnEdge}
 use Rattle.lh_flat.specs.Copies.{Copy, top_copy, first_piece, last_from, last_piece, copied_edge, copied}
 use Rattle.lh_flat.specs.Flat.{MergeText, edge_if_given, given_in, given_by, merge_of, first_label, branch_into, flat_copy, max_nested, with_merge}
-use Rattle.lh_inlined.proofs.Cuts.{Among, among-left, among-right, Cut, cut, behind, lines-cut, last_by, last-cut}
+use Rattle.lh_inlined.proofs.Cuts.{Among, among-left, among-right, Cut, cut, behind, lines-cut, last_by, last-cut, among-parts, among-map}
 use Rattle.lh_inlined.proofs.Spots.{Spot, next_cut, next_lines, after_spot, SpotOf, begins, goes_on, Nested, flat_spot}
 use Rattle.lh_inlined.proofs.Lines.{define-left}
 use Rattle.lh_inlined.proofs.Splits.{LineOf, is_merge, is_copied, is_branch, line-of}
@@ -71,15 +71,6 @@ pub record GivenIn (fs : List UnitText) (d : Copy) (bs : List BlockText) (e : Ed
   pub is_one : Among bs from
   pub given : GivenBy d (last_piece fs d from) from.lines e
 
-among-parts : {A : Type 0} (xs ys : List A) (x : A) → Among (xs ++ ys) x → Among xs x ⊎ Among ys x
-among-parts [] ys x a = inr a
-among-parts (z ∷ xs) ys x (inl e) = inl (inl e)
-among-parts (z ∷ xs) ys x (inr a) = on (among-parts xs ys x a)
-  where
-    on : (Among xs x ⊎ Among ys x) → Among (z ∷ xs) x ⊎ Among ys x
-    on (inl b) = inl (inr b)
-    on (inr b) = inr b
-
 pub given-by : (fs : List UnitText) (d : Copy) (bs : List BlockText) (e : EdgeText) → Among (flat_map (λ (b : BlockText). given_in d (last_piece fs d b) b.lines) bs) e → GivenIn fs d bs e
 given-by fs d [] e a = elim a [ ]
 given-by fs d (b ∷ bs) e a = by (among-parts (given_in d (last_piece fs d b) b.lines) _ e a) (given-by fs d bs e)
@@ -136,11 +127,6 @@ phi-of fs c (branch_text x y z) ty es h = cc
 phi-of fs c (wait_text x y z) ty es h = cc
 phi-of fs c halt_text ty es h = cc
 phi-of fs c (ret_text x) ty es h = cc
-
-among-map : {A B : Type 0} (f : A → B) (xs : List A) (y : B) → Among (map f xs) y → (x : A) × Among xs x × (y ≡ f x)
-among-map f [] y a = elim a [ ]
-among-map f (x ∷ xs) y (inl e) = (x, inl refl, sym e)
-among-map f (x ∷ xs) y (inr a) = let r = among-map f xs y a in (r.0, inr r.1, r.2)
 
 pub no-branch : (d : Copy) (l : LineText) (ty : TypeTree) (es : List EdgeText) → l ≡ branch_into d → l.inst ≡ phi_text ty es → ⊥
 no-branch d l ty es f i = let e : br_text (first_piece d (first_label d.unit.blocks)) ≡ phi_text ty es = sym (ap (λ (k : LineText). k.inst) f) ∙ i in cc

@@ -17,12 +17,13 @@ use Rattle.lh_unit.specs.Spells.{inst_item}
 use Rattle.lh_unit.specs.SpellsInst.{written_types, SpellsPure, SpellsInst, SpellsLine}
 use Rattle.lh_unit.specs.Typing.{if_made, with_type, operand_types, operation_type, result_type}
 use Rattle.lh_unit.specs.Within.{Each}
+use Rattle.lh_unit.specs.Hierarchy.{lines_of}
 use Rattle.lh_unit.proofs.Lists.{Each-append, Each-left, Each-right}
 use Rattle.lh_formed.specs.Operands.{RowIs}
 use Rattle.lh_formed.specs.Results.{OperationGives}
 use Rattle.lh_formed.proofs.ResultsLaw.{gives}
 use Rattle.lh_spelled.specs.ItemLines.{item_line}
-use Rattle.lh_spelled.specs.Printable.{all_lines, HasInstLine}
+use Rattle.lh_spelled.specs.Printable.{HasInstLine}
 use Rattle.lh_flat.specs.Copies.{Copy, call_path, opened, copied, copied_line}
 use Rattle.lh_flat.specs.Flat.{MergeText, FlatBlockText, Pieces, merge_of, with_line, pieces_from, with_merge, flat_block, flat_copy}
 use Rattle.lh_inlined.proofs.SoundCopies.{IsCode, result-copied}
@@ -143,13 +144,13 @@ abbrev pub IsTypedCode : LineText → Type 0
 IsTypedCode l = IsCode l.inst × IsTyped l
 
 abbrev AllTyped : List FlatBlockText → Type 0
-AllTyped bs = Each IsTyped (all_lines (map as_block bs))
+AllTyped bs = Each IsTyped (lines_of (map as_block bs))
 
 typed-append : (xs ys : List FlatBlockText) → AllTyped xs → AllTyped ys → AllTyped (xs ++ ys)
 typed-append [] ys h k = k
 typed-append (b ∷ xs) ys h k =
-    Each-append IsTyped (with_merge b.merge b.lines) (all_lines (map as_block (xs ++ ys))) (Each-left IsTyped (with_merge b.merge b.lines) (all_lines (map as_block xs)) h)
-    (typed-append xs ys (Each-right IsTyped (with_merge b.merge b.lines) (all_lines (map as_block xs)) h) k)
+    Each-append IsTyped (with_merge b.merge b.lines) (lines_of (map as_block (xs ++ ys))) (Each-left IsTyped (with_merge b.merge b.lines) (lines_of (map as_block xs)) h)
+    (typed-append xs ys (Each-right IsTyped (with_merge b.merge b.lines) (lines_of (map as_block xs)) h) k)
 
 merge-typed : (m : Option MergeText) (ls : List LineText) → Each IsTyped ls → Each IsTyped (with_merge m ls)
 merge-typed None ls h = h
@@ -174,7 +175,7 @@ module _ (fs : List UnitText) (c : Copy) (copy_of : Copy → List FlatBlockText)
       by (Some d) e =
           let D : FlatBlockText = record { label = d.path; merge = merge_of fs c d l.inst l.result; lines = p.rest } in (
             ((λ n r. absurd (none-some n r)), tt),
-            typed-append (copy_of d) (D ∷ p.more) (copies path l.inst d e) (Each-append IsTyped (with_merge D.merge p.rest) (all_lines (map as_block p.more)) (merge-typed D.merge p.rest q.0) q.1),
+            typed-append (copy_of d) (D ∷ p.more) (copies path l.inst d e) (Each-append IsTyped (with_merge D.merge p.rest) (lines_of (map as_block p.more)) (merge-typed D.merge p.rest q.0) q.1),
           )
 
   pieces-typed : (label : List ℕ) (k : ℕ) (ls : List LineText) → Each IsTypedCode ls → PiecesTyped (pieces_from copy_of fs c label k ls)
@@ -182,15 +183,15 @@ module _ (fs : List UnitText) (c : Copy) (copy_of : Copy → List FlatBlockText)
   pieces-typed label k (l ∷ ls) h = with-line-typed (call_path c label k) l (pieces_from copy_of fs c label (k + 1) ls) h.0 (pieces-typed label (k + 1) ls h.1)
 
   block-typed : (b : BlockText) → Each IsTypedCode b.lines → AllTyped (flat_block copy_of fs c b)
-  block-typed b h = let p = pieces-typed (label_or b.label) 0 b.lines h in Each-append IsTyped (pieces_from copy_of fs c (label_or b.label) 0 b.lines).rest (all_lines (map as_block (pieces_from copy_of fs c (label_or b.label) 0 b.lines).more)) p.0 p.1
+  block-typed b h = let p = pieces-typed (label_or b.label) 0 b.lines h in Each-append IsTyped (pieces_from copy_of fs c (label_or b.label) 0 b.lines).rest (lines_of (map as_block (pieces_from copy_of fs c (label_or b.label) 0 b.lines).more)) p.0 p.1
 
-  blocks-typed : (bs : List BlockText) → Each IsTypedCode (all_lines bs) → AllTyped (flat_map (flat_block copy_of fs c) bs)
+  blocks-typed : (bs : List BlockText) → Each IsTypedCode (lines_of bs) → AllTyped (flat_map (flat_block copy_of fs c) bs)
   blocks-typed [] h = tt
   blocks-typed (b ∷ bs) h =
-      typed-append (flat_block copy_of fs c b) (flat_map (flat_block copy_of fs c) bs) (block-typed b (Each-left IsTypedCode b.lines (all_lines bs) h)) (blocks-typed bs (Each-right IsTypedCode b.lines (all_lines bs) h))
+      typed-append (flat_block copy_of fs c b) (flat_map (flat_block copy_of fs c) bs) (block-typed b (Each-left IsTypedCode b.lines (lines_of bs) h)) (blocks-typed bs (Each-right IsTypedCode b.lines (lines_of bs) h))
 
 -- each line of a flat text is typed, where those of its units are
-pub copies-typed : (fs : List UnitText) → ((n : UnitName) (f : UnitText) → function_named n fs ≡ Some f → Each IsTypedCode (all_lines f.blocks)) → (k : ℕ) (c : Copy) → Each IsTypedCode (all_lines c.unit.blocks) → Each IsTyped (all_lines (map as_block (flat_copy k fs c)))
+pub copies-typed : (fs : List UnitText) → ((n : UnitName) (f : UnitText) → function_named n fs ≡ Some f → Each IsTypedCode (lines_of f.blocks)) → (k : ℕ) (c : Copy) → Each IsTypedCode (lines_of c.unit.blocks) → Each IsTyped (lines_of (map as_block (flat_copy k fs c)))
 copies-typed fs functions zero c h = tt
 copies-typed fs functions (suc k) c h =
     blocks-typed fs c (flat_copy k fs) (λ path i d e. let o : Opens fs c path i d = opens-is fs c path i d e in copies-typed fs functions k d (functions o.callee d.unit o.named)) c.unit.blocks h

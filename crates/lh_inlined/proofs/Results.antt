@@ -7,13 +7,15 @@ use Rattle.lh_unit.specs.declared.name.UnitName.{UnitName}
 use Rattle.lh_unit.specs.Contents.{OperandText, InstText, call_text, LineText, BlockText, ArgText, UnitText, same_name, is_result_name, lines_define, args_define}
 use Rattle.lh_unit.specs.Named.{function_named, label_or}
 use Rattle.lh_unit.specs.Within.{Each}
+use Rattle.lh_unit.specs.Hierarchy.{lines_of}
 use Rattle.lh_unit.proofs.Lists.{Each-append, Each-left, Each-right}
-use Rattle.lh_spelled.specs.Printable.{all_lines, result_repeats, results_repeat}
+use Rattle.lh_unit.proofs.Within.{Each-more}
+use Rattle.lh_spelled.specs.Printable.{result_repeats, results_repeat}
 use Rattle.lh_flat.specs.Copies.{Copy, top_copy, call_path, opened}
 use Rattle.lh_flat.specs.Flat.{FlatBlockText, Pieces, merge_of, with_line, pieces_from, with_merge, flat_block, flat_copy, flat_unit, max_nested, text_of}
 use Rattle.lh_flat.specs.Marks.{IsPlain}
 use Rattle.lh_flat.proofs.Marks.{is_same, not_same}
-use Rattle.lh_flat.proofs.Apart.{Differs, Apart, differs-from, apart-append, each-so, Begins, UnderFrom, from-at, from-first, from-later, at-apart, begins-under, line-apart, plain-under, begins-more}
+use Rattle.lh_flat.proofs.Apart.{Differs, Apart, differs-from, apart-append, Begins, UnderFrom, from-at, from-first, from-later, at-apart, begins-under, line-apart, plain-under, begins-more}
 use Rattle.lh_inlined.proofs.Cuts.{Among, among-left, among-right}
 use Rattle.lh_inlined.proofs.Paths.{as_block}
 use Rattle.lh_inlined.proofs.Facts.{each-among}
@@ -34,7 +36,7 @@ results (l ∷ more) = named l.result (results more)
 
 -- those of the blocks of a flat text
 abbrev pub given : List FlatBlockText → List (List ℕ)
-given bs = results (all_lines (map as_block bs))
+given bs = results (lines_of (map as_block bs))
 
 named-append : (r : Option (List ℕ)) (xs ys : List (List ℕ)) → named r (xs ++ ys) ≡ named r xs ++ ys
 named-append None xs ys = refl
@@ -44,12 +46,12 @@ results-append : (xs ys : List LineText) → results (xs ++ ys) ≡ results xs +
 results-append [] ys = refl
 results-append (l ∷ xs) ys = ap (named l.result) (results-append xs ys) ∙ named-append l.result (results xs) (results ys)
 
-lines-append : (xs ys : List FlatBlockText) → all_lines (map as_block (xs ++ ys)) ≡ all_lines (map as_block xs) ++ all_lines (map as_block ys)
+lines-append : (xs ys : List FlatBlockText) → lines_of (map as_block (xs ++ ys)) ≡ lines_of (map as_block xs) ++ lines_of (map as_block ys)
 lines-append [] ys = refl
-lines-append (b ∷ xs) ys = ap (λ ls. with_merge b.merge b.lines ++ ls) (lines-append xs ys) ∙ sym (append_assoc (with_merge b.merge b.lines) (all_lines (map as_block xs)) (all_lines (map as_block ys)))
+lines-append (b ∷ xs) ys = ap (λ ls. with_merge b.merge b.lines ++ ls) (lines-append xs ys) ∙ sym (append_assoc (with_merge b.merge b.lines) (lines_of (map as_block xs)) (lines_of (map as_block ys)))
 
 given-append : (xs ys : List FlatBlockText) → given (xs ++ ys) ≡ given xs ++ given ys
-given-append xs ys = ap results (lines-append xs ys) ∙ results-append (all_lines (map as_block xs)) (all_lines (map as_block ys))
+given-append xs ys = ap results (lines-append xs ys) ∙ results-append (lines_of (map as_block xs)) (lines_of (map as_block ys))
 
 -- ---- names that stand once
 
@@ -97,7 +99,7 @@ results-new args seen (l ∷ ls) a h = by l.result refl a h (λ x y. results-new
     by : (r : Option (List ℕ)) → l.result ≡ r → Apart (named r (results ls)) → Each (IsNewIn args seen) (named r (results ls))
         → (Apart (results ls) → Each (IsNewIn args (seen ++ l ∷ [])) (results ls) → results_repeat args (seen ++ l ∷ []) ls ≡ false)
         → (result_repeats args seen r || results_repeat args (seen ++ l ∷ []) ls) ≡ false
-    by None e a h go = go a (each-so (IsNewIn args seen) (IsNewIn args (seen ++ l ∷ [])) (results ls) (λ n k. (k.0, define-append n seen l k.1 (ap (is_result_name n) e))) h)
+    by None e a h go = go a (Each-more (IsNewIn args seen) (IsNewIn args (seen ++ l ∷ [])) (results ls) (λ n k. (k.0, define-append n seen l k.1 (ap (is_result_name n) e))) h)
     by (Some m) e a h go =
         or-false (args_define m args || lines_define m seen) (results_repeat args (seen ++ l ∷ []) ls) (or-false (args_define m args) (lines_define m seen) h.0.0 h.0.1)
         (go a.1 (later (results ls) a.0 h.1))
@@ -122,10 +124,10 @@ results-apart args seen (l ∷ ls) h =
         let t : same_name m n ≡ true = is_same m n q in cc
 
     by : (r : Option (List ℕ)) → l.result ≡ r → result_repeats args seen r ≡ false → Apart (results ls) × Each (IsNewIn args (seen ++ l ∷ [])) (results ls) → Apart (named r (results ls)) × Each (IsNewIn args seen) (named r (results ls))
-    by None e p k = (k.0, each-so (IsNewIn args (seen ++ l ∷ [])) (IsNewIn args seen) (results ls) earlier k.1)
+    by None e p k = (k.0, Each-more (IsNewIn args (seen ++ l ∷ [])) (IsNewIn args seen) (results ls) earlier k.1)
     by (Some m) e p k = (
       (differs-from (IsNewIn args (seen ++ l ∷ [])) m (results ls) k.1 (λ n q. other m n e q), k.0),
-      (or_parts (args_define m args) (lines_define m seen) p, each-so (IsNewIn args (seen ++ l ∷ [])) (IsNewIn args seen) (results ls) earlier k.1),
+      (or_parts (args_define m args) (lines_define m seen) p, Each-more (IsNewIn args (seen ++ l ∷ [])) (IsNewIn args seen) (results ls) earlier k.1),
     )
 
 -- ---- a unit and a copy whose names keep apart
@@ -141,9 +143,9 @@ labels_in (b ∷ more) = label_or b.label ∷ labels_in more
 
 -- each result of a unit has a name of its own, and each block a label of its own
 pub record OwnNames (v : UnitText) : Type 0 where
-  pub once : Apart (results (all_lines v.blocks))
-  pub own : Each IsOwn (results (all_lines v.blocks))
-  pub new : Each (λ n. args_define n v.args ≡ false) (results (all_lines v.blocks))
+  pub once : Apart (results (lines_of v.blocks))
+  pub own : Each IsOwn (results (lines_of v.blocks))
+  pub new : Each (λ n. args_define n v.args ≡ false) (results (lines_of v.blocks))
   pub labels : Each IsOwn (labels_in v.blocks)
   pub labels_once : Apart (labels_in v.blocks)
 
@@ -196,7 +198,7 @@ module _ (fs : List UnitText) (c : Copy) (copy_of : Copy → List FlatBlockText)
     with-result k None ns xs a o n h = h
     with-result k (Some r) ns xs a o n h = (
       (differs-from (ResultFrom c.path m k ns) (c.value r) xs h.1 apart, h.0),
-      (inl (r, inl refl, o.0, value r n.0), each-so (ResultFrom c.path m k ns) (ResultFrom c.path m k (r ∷ ns)) xs more h.1),
+      (inl (r, inl refl, o.0, value r n.0), Each-more (ResultFrom c.path m k ns) (ResultFrom c.path m k (r ∷ ns)) xs more h.1),
     )
       where
         apart : (y : List ℕ) → ResultFrom c.path m k ns y → c.value r ≡ y → ⊥
@@ -215,8 +217,8 @@ module _ (fs : List UnitText) (c : Copy) (copy_of : Copy → List FlatBlockText)
     behind-call : (k : ℕ) (ns xs ys : List (List ℕ)) → Apart xs → Each (Begins (call_path c m k)) xs → Apart ys × Each (ResultFrom c.path m (k + 1) ns) ys → Apart (xs ++ ys) × Each (ResultFrom c.path m k ns) (xs ++ ys)
     behind-call k ns xs ys a b h = (
       apart-append (Begins (call_path c m k)) (ResultFrom c.path m (k + 1) ns) xs ys a h.0 b h.1 apart,
-      Each-append (ResultFrom c.path m k ns) xs ys (each-so (Begins (call_path c m k)) (ResultFrom c.path m k ns) xs (λ x w. inr (from-first c.path m k x (begins-under c.path m k x w))) b)
-          (each-so (ResultFrom c.path m (k + 1) ns) (ResultFrom c.path m k ns) ys (earlier k ns) h.1),
+      Each-append (ResultFrom c.path m k ns) xs ys (Each-more (Begins (call_path c m k)) (ResultFrom c.path m k ns) xs (λ x w. inr (from-first c.path m k x (begins-under c.path m k x w))) b)
+          (Each-more (ResultFrom c.path m (k + 1) ns) (ResultFrom c.path m k ns) ys (earlier k ns) h.1),
     )
       where
         apart : (x y : List ℕ) → Begins (call_path c m k) x → ResultFrom c.path m (k + 1) ns y → x ≡ y → ⊥
@@ -238,12 +240,12 @@ module _ (fs : List UnitText) (c : Copy) (copy_of : Copy → List FlatBlockText)
         by : (x : Option Copy) → opened fs c (call_path c m k) l.inst ≡ x → LinesGive k (l ∷ ls) (with_line copy_of fs c l x q)
         by None e =
             subst (λ ns. Apart ns × Each (ResultFrom c.path m k (results (l ∷ ls))) ns) (named-append (option_map c.value l.result) (results q.rest) (given q.more))
-            (here.0, each-so (ResultFrom c.path m (k + 1) (results (l ∷ ls))) (ResultFrom c.path m k (results (l ∷ ls))) (named (option_map c.value l.result) (results q.rest ++ given q.more)) (earlier k (results (l ∷ ls))) here.1)
+            (here.0, Each-more (ResultFrom c.path m (k + 1) (results (l ∷ ls))) (ResultFrom c.path m k (results (l ∷ ls))) (named (option_map c.value l.result) (results q.rest ++ given q.more)) (earlier k (results (l ∷ ls))) here.1)
         by (Some d) e =
             let D : FlatBlockText = record { label = d.path; merge = merge_of fs c d l.inst l.result; lines = q.rest } in
             let copy : (d.path ≡ call_path c m k) × CopyGives copy_of d = copies (call_path c m k) l.inst d e in
             let tail : given (D ∷ q.more) ≡ named (option_map c.value l.result) (results q.rest ++ given q.more) =
-            results-append (with_merge D.merge q.rest) (all_lines (map as_block q.more)) ∙ ap (λ ns. ns ++ given q.more) (merge-named d (call_path c m k) l.inst l.result q.rest e) ∙ sym (named-append (option_map c.value l.result) (results q.rest) (given q.more)) in
+            results-append (with_merge D.merge q.rest) (lines_of (map as_block q.more)) ∙ ap (λ ns. ns ++ given q.more) (merge-named d (call_path c m k) l.inst l.result q.rest e) ∙ sym (named-append (option_map c.value l.result) (results q.rest) (given q.more)) in
             subst (λ ns. Apart ns × Each (ResultFrom c.path m k (results (l ∷ ls))) ns) (sym (given-append (copy_of d) (D ∷ q.more) ∙ ap (λ ns. given (copy_of d) ++ ns) tail))
             (behind-call k (results (l ∷ ls)) (given (copy_of d)) (named (option_map c.value l.result) (results q.rest ++ given q.more)) copy.1.0 (subst (λ p. Each (Begins p) (given (copy_of d))) copy.0 copy.1.1) here)
 
@@ -264,17 +266,17 @@ module _ (fs : List UnitText) (c : Copy) (copy_of : Copy → List FlatBlockText)
   -- ---- the blocks
 
   abbrev BlocksGive : List BlockText → List FlatBlockText → Type 0
-  BlocksGive bs ys = Apart (given ys) × Each (ResultIn c.path (results (all_lines bs)) (labels_in bs)) (given ys)
+  BlocksGive bs ys = Apart (given ys) × Each (ResultIn c.path (results (lines_of bs)) (labels_in bs)) (given ys)
 
   -- one more block in front
-  block-gives : (b : BlockText) (bs : List BlockText) (ys : List FlatBlockText) → Apart (results (all_lines (b ∷ bs))) → Each IsOwn (results (all_lines (b ∷ bs))) → Each (λ n. args_define n c.unit.args ≡ false) (results (all_lines (b ∷ bs))) → Each IsOwn (labels_in (b ∷ bs)) → Apart (labels_in (b ∷ bs))
+  block-gives : (b : BlockText) (bs : List BlockText) (ys : List FlatBlockText) → Apart (results (lines_of (b ∷ bs))) → Each IsOwn (results (lines_of (b ∷ bs))) → Each (λ n. args_define n c.unit.args ≡ false) (results (lines_of (b ∷ bs))) → Each IsOwn (labels_in (b ∷ bs)) → Apart (labels_in (b ∷ bs))
       → BlocksGive bs ys → BlocksGive (b ∷ bs) (flat_block copy_of fs c b ++ ys)
   block-gives b bs ys a o n l d rest =
-      subst (λ ns. Apart ns × Each (ResultIn c.path (results (all_lines (b ∷ bs))) (labels_in (b ∷ bs))) ns) (sym (given-append (flat_block copy_of fs c b) ys ∙ ap (λ ns. ns ++ given ys) block)) (
-        apart-append (ResultFrom c.path m 0 (results b.lines)) (ResultIn c.path (results (all_lines bs)) (labels_in bs)) (results P.rest ++ given P.more) (given ys) first.0 rest.0 first.1 rest.1 apart,
-        Each-append (ResultIn c.path (results (all_lines (b ∷ bs))) (labels_in (b ∷ bs))) (results P.rest ++ given P.more) (given ys)
-            (each-so (ResultFrom c.path m 0 (results b.lines)) (ResultIn c.path (results (all_lines (b ∷ bs))) (labels_in (b ∷ bs))) (results P.rest ++ given P.more) from-first-block first.1)
-            (each-so (ResultIn c.path (results (all_lines bs)) (labels_in bs)) (ResultIn c.path (results (all_lines (b ∷ bs))) (labels_in (b ∷ bs))) (given ys) from-later-block rest.1),
+      subst (λ ns. Apart ns × Each (ResultIn c.path (results (lines_of (b ∷ bs))) (labels_in (b ∷ bs))) ns) (sym (given-append (flat_block copy_of fs c b) ys ∙ ap (λ ns. ns ++ given ys) block)) (
+        apart-append (ResultFrom c.path m 0 (results b.lines)) (ResultIn c.path (results (lines_of bs)) (labels_in bs)) (results P.rest ++ given P.more) (given ys) first.0 rest.0 first.1 rest.1 apart,
+        Each-append (ResultIn c.path (results (lines_of (b ∷ bs))) (labels_in (b ∷ bs))) (results P.rest ++ given P.more) (given ys)
+            (Each-more (ResultFrom c.path m 0 (results b.lines)) (ResultIn c.path (results (lines_of (b ∷ bs))) (labels_in (b ∷ bs))) (results P.rest ++ given P.more) from-first-block first.1)
+            (Each-more (ResultIn c.path (results (lines_of bs)) (labels_in bs)) (ResultIn c.path (results (lines_of (b ∷ bs))) (labels_in (b ∷ bs))) (given ys) from-later-block rest.1),
       )
     where
       m : List ℕ
@@ -283,49 +285,49 @@ module _ (fs : List UnitText) (c : Copy) (copy_of : Copy → List FlatBlockText)
       P : Pieces
       P = pieces_from copy_of fs c m 0 b.lines
 
-      both : results (all_lines (b ∷ bs)) ≡ results b.lines ++ results (all_lines bs)
-      both = results-append b.lines (all_lines bs)
+      both : results (lines_of (b ∷ bs)) ≡ results b.lines ++ results (lines_of bs)
+      both = results-append b.lines (lines_of bs)
 
-      once : Apart (results b.lines ++ results (all_lines bs))
+      once : Apart (results b.lines ++ results (lines_of bs))
       once = subst Apart both a
 
-      own : Each IsOwn (results b.lines ++ results (all_lines bs))
+      own : Each IsOwn (results b.lines ++ results (lines_of bs))
       own = subst (Each IsOwn) both o
 
-      new : Each (λ n. args_define n c.unit.args ≡ false) (results b.lines ++ results (all_lines bs))
+      new : Each (λ n. args_define n c.unit.args ≡ false) (results b.lines ++ results (lines_of bs))
       new = subst (Each (λ n. args_define n c.unit.args ≡ false)) both n
 
       block : given (flat_block copy_of fs c b) ≡ results P.rest ++ given P.more
-      block = results-append P.rest (all_lines (map as_block P.more))
+      block = results-append P.rest (lines_of (map as_block P.more))
 
       first : LinesGive m 0 b.lines P
-      first = lines-give m 0 b.lines (apart-left (results b.lines) (results (all_lines bs)) once) (Each-left IsOwn (results b.lines) (results (all_lines bs)) own) (Each-left (λ n. args_define n c.unit.args ≡ false) (results b.lines) (results (all_lines bs)) new)
+      first = lines-give m 0 b.lines (apart-left (results b.lines) (results (lines_of bs)) once) (Each-left IsOwn (results b.lines) (results (lines_of bs)) own) (Each-left (λ n. args_define n c.unit.args ≡ false) (results b.lines) (results (lines_of bs)) new)
 
-      apart : (x y : List ℕ) → ResultFrom c.path m 0 (results b.lines) x → ResultIn c.path (results (all_lines bs)) (labels_in bs) y → x ≡ y → ⊥
-      apart x y (inl w) (inl z) e = apart-across (results b.lines) (results (all_lines bs)) w.0 z.0 once w.1 z.1 (append_cancel_left c.path w.0 z.0 (sym w.3 ∙ e ∙ z.3))
+      apart : (x y : List ℕ) → ResultFrom c.path m 0 (results b.lines) x → ResultIn c.path (results (lines_of bs)) (labels_in bs) y → x ≡ y → ⊥
+      apart x y (inl w) (inl z) e = apart-across (results b.lines) (results (lines_of bs)) w.0 z.0 once w.1 z.1 (append_cancel_left c.path w.0 z.0 (sym w.3 ∙ e ∙ z.3))
       apart x y (inl w) (inr z) e = plain-under c.path w.0 z.0 0 x y w.2.plain w.3 z.3 e
       apart x y (inr w) (inl z) e = plain-under c.path z.0 m 0 y x z.2.plain z.3 w (sym e)
       apart x y (inr w) (inr z) e = differs-among m z.0 (labels_in bs) d.0 z.1 (at-apart c.path m z.0 x y l.0.plain z.2.plain (from-at c.path m 0 x w) (from-at c.path z.0 0 y z.3) e)
 
-      in-both : (ns : List (List ℕ)) (x : List ℕ) → ((n : List ℕ) → Among ns n → Among (results b.lines ++ results (all_lines bs)) n) → OwnResult c.path ns x → OwnResult c.path (results (all_lines (b ∷ bs))) x
+      in-both : (ns : List (List ℕ)) (x : List ℕ) → ((n : List ℕ) → Among ns n → Among (results b.lines ++ results (lines_of bs)) n) → OwnResult c.path ns x → OwnResult c.path (results (lines_of (b ∷ bs))) x
       in-both ns x f w = (w.0, subst (λ ms. Among ms w.0) (sym both) (f w.0 w.1), w.2, w.3)
 
-      from-first-block : (x : List ℕ) → ResultFrom c.path m 0 (results b.lines) x → ResultIn c.path (results (all_lines (b ∷ bs))) (labels_in (b ∷ bs)) x
-      from-first-block x (inl w) = inl (in-both (results b.lines) x (λ n h. among-left (results b.lines) (results (all_lines bs)) n h) w)
+      from-first-block : (x : List ℕ) → ResultFrom c.path m 0 (results b.lines) x → ResultIn c.path (results (lines_of (b ∷ bs))) (labels_in (b ∷ bs)) x
+      from-first-block x (inl w) = inl (in-both (results b.lines) x (λ n h. among-left (results b.lines) (results (lines_of bs)) n h) w)
       from-first-block x (inr w) = inr (m, inl refl, l.0, w)
 
-      from-later-block : (x : List ℕ) → ResultIn c.path (results (all_lines bs)) (labels_in bs) x → ResultIn c.path (results (all_lines (b ∷ bs))) (labels_in (b ∷ bs)) x
-      from-later-block x (inl w) = inl (in-both (results (all_lines bs)) x (λ n h. among-right (results b.lines) (results (all_lines bs)) n h) w)
+      from-later-block : (x : List ℕ) → ResultIn c.path (results (lines_of bs)) (labels_in bs) x → ResultIn c.path (results (lines_of (b ∷ bs))) (labels_in (b ∷ bs)) x
+      from-later-block x (inl w) = inl (in-both (results (lines_of bs)) x (λ n h. among-right (results b.lines) (results (lines_of bs)) n h) w)
       from-later-block x (inr w) = inr (w.0, inr w.1, w.2, w.3)
 
-  blocks-give : (bs : List BlockText) → Apart (results (all_lines bs)) → Each IsOwn (results (all_lines bs)) → Each (λ n. args_define n c.unit.args ≡ false) (results (all_lines bs)) → Each IsOwn (labels_in bs) → Apart (labels_in bs)
+  blocks-give : (bs : List BlockText) → Apart (results (lines_of bs)) → Each IsOwn (results (lines_of bs)) → Each (λ n. args_define n c.unit.args ≡ false) (results (lines_of bs)) → Each IsOwn (labels_in bs) → Apart (labels_in bs)
       → BlocksGive bs (flat_map (flat_block copy_of fs c) bs)
   blocks-give [] a o n l d = (tt, tt)
   blocks-give (b ∷ bs) a o n l d =
-      let both : results (all_lines (b ∷ bs)) ≡ results b.lines ++ results (all_lines bs) = results-append b.lines (all_lines bs) in
+      let both : results (lines_of (b ∷ bs)) ≡ results b.lines ++ results (lines_of bs) = results-append b.lines (lines_of bs) in
       block-gives b bs (flat_map (flat_block copy_of fs c) bs) a o n l d
-      (blocks-give bs (apart-right (results b.lines) (results (all_lines bs)) (subst Apart both a)) (Each-right IsOwn (results b.lines) (results (all_lines bs)) (subst (Each IsOwn) both o))
-      (Each-right (λ n. args_define n c.unit.args ≡ false) (results b.lines) (results (all_lines bs)) (subst (Each (λ n. args_define n c.unit.args ≡ false)) both n)) l.1 d.1)
+      (blocks-give bs (apart-right (results b.lines) (results (lines_of bs)) (subst Apart both a)) (Each-right IsOwn (results b.lines) (results (lines_of bs)) (subst (Each IsOwn) both o))
+      (Each-right (λ n. args_define n c.unit.args ≡ false) (results b.lines) (results (lines_of bs)) (subst (Each (λ n. args_define n c.unit.args ≡ false)) both n)) l.1 d.1)
 
 -- ---- all copies
 
@@ -351,7 +353,7 @@ module _ (fs : List UnitText) (functions : (n : UnitName) (f : UnitText) → fun
 
   -- what a copy gives stands once, where that of the copies in it does
   copy-in : (k : ℕ) → ((d : Copy) → CopyIsOwn d → CopyGives (flat_copy k fs) d) → (c : Copy) → CopyIsOwn c
-      → Apart (given (flat_copy (suc k) fs c)) × Each (ResultIn c.path (results (all_lines c.unit.blocks)) (labels_in c.unit.blocks)) (given (flat_copy (suc k) fs c))
+      → Apart (given (flat_copy (suc k) fs c)) × Each (ResultIn c.path (results (lines_of c.unit.blocks)) (labels_in c.unit.blocks)) (given (flat_copy (suc k) fs c))
   copy-in k gives c h =
       blocks-give fs c (flat_copy k fs) (λ path i d e. let r = opened-own c path i d e in (r.0, gives d r.1)) h.value c.unit.blocks h.unit.once h.unit.own h.unit.new h.unit.labels h.unit.labels_once
 
@@ -360,7 +362,7 @@ module _ (fs : List UnitText) (functions : (n : UnitName) (f : UnitText) → fun
   copy-gives zero c h = (tt, tt)
   copy-gives (suc k) c h =
       let r = copy-in k (λ d o. copy-gives k d o) c h in
-      (r.0, each-so (ResultIn c.path (results (all_lines c.unit.blocks)) (labels_in c.unit.blocks)) (Begins c.path) (given (flat_copy (suc k) fs c)) (in-begins c.path (results (all_lines c.unit.blocks)) (labels_in c.unit.blocks)) r.1)
+      (r.0, Each-more (ResultIn c.path (results (lines_of c.unit.blocks)) (labels_in c.unit.blocks)) (Begins c.path) (given (flat_copy (suc k) fs c)) (in-begins c.path (results (lines_of c.unit.blocks)) (labels_in c.unit.blocks)) r.1)
 
   -- a name with a mark is no argument, where those are of bytes
   no-argument : (args : List ArgText) (m : List ℕ) (k : ℕ) (x : List ℕ) → Each (λ (a : ArgText). IsPlain a.name) args → UnderFrom [] m k x → args_define x args ≡ false
@@ -369,12 +371,12 @@ module _ (fs : List UnitText) (functions : (n : UnitName) (f : UnitText) → fun
 
   -- Each result of the flat text of a process stands once.
   pub once : (u : UnitText) (name : UnitName) → OwnNames u → Each (λ (a : ArgText). IsPlain a.name) u.args
-      → results_repeat (flat_unit name (text_of fs u)).args [] (all_lines (flat_unit name (text_of fs u)).blocks) ≡ false
+      → results_repeat (flat_unit name (text_of fs u)).args [] (lines_of (flat_unit name (text_of fs u)).blocks) ≡ false
   once u name o p =
       let r = copy-in max_nested (λ d h. copy-gives max_nested d h) (top_copy u) (record { unit = o; value = λ n h. refl }) in
-      results-new u.args [] (all_lines (map as_block (flat_copy (suc max_nested) fs (top_copy u)))) r.0
-      (each-so (ResultIn [] (results (all_lines u.blocks)) (labels_in u.blocks)) (IsNewIn u.args []) (given (flat_copy (suc max_nested) fs (top_copy u))) new r.1)
+      results-new u.args [] (lines_of (map as_block (flat_copy (suc max_nested) fs (top_copy u)))) r.0
+      (Each-more (ResultIn [] (results (lines_of u.blocks)) (labels_in u.blocks)) (IsNewIn u.args []) (given (flat_copy (suc max_nested) fs (top_copy u))) new r.1)
     where
-      new : (x : List ℕ) → ResultIn [] (results (all_lines u.blocks)) (labels_in u.blocks) x → IsNewIn u.args [] x
-      new x (inl w) = (ap (λ n. args_define n u.args) w.3 ∙ each-among (λ n. args_define n u.args ≡ false) (results (all_lines u.blocks)) w.0 o.new w.1, refl)
+      new : (x : List ℕ) → ResultIn [] (results (lines_of u.blocks)) (labels_in u.blocks) x → IsNewIn u.args [] x
+      new x (inl w) = (ap (λ n. args_define n u.args) w.3 ∙ each-among (λ n. args_define n u.args ≡ false) (results (lines_of u.blocks)) w.0 o.new w.1, refl)
       new x (inr w) = (no-argument u.args w.0 0 x p w.3, refl)

@@ -2,15 +2,17 @@
 use Rattle.std.proofs.Common.{◌≡◌, ℕ, List, [], ◌∷◌, true, map, length, Option, Some, None, option_map, option_and_then, refl, ap, ◌∙◌, suc}
 use Rattle.lh_types.specs.Types.{TypeTree}
 use Rattle.lh_types.specs.Faults.{is_data}
+use Rattle.lh_types.specs.Classes.{class_of}
 use Rattle.lh_types.specs.declared.op.Op.{Op}
-use Rattle.lh_types.specs.declared.op.Op.TheVariants.{Not, Neg, Add, Sub, Umul, Smul, Udiv, Sdiv, Umod, Smod, Urem, Srem, And, Or, Xor, Eq, Neq, Slt, Sgt, Sle, Sge, Ult, Ugt, Ule, Uge, Shl, Shr, Mux, Extf, Exts, Insf, Inss, Array, Repeat, Tuple}
+use Rattle.lh_types.specs.declared.op.OpClass.{OpClass}
+use Rattle.lh_types.specs.declared.op.OpClass.TheVariants as class
 use Rattle.lh_unit.specs.Contents.{OperandText, EdgeText, InstText, const_text, pure_text, var_text, ld_text, st_text, sig_text, prb_text, drv_text, reg_text, child_text, call_text, phi_text, br_text, branch_text, wait_text, halt_text, ret_text, UnitText}
-use Rattle.lh_unit.specs.Typing.{value_type, first_type, operand_types, with_type, operation_type, result_type, array_made, tuple_made}
+use Rattle.lh_unit.specs.Typing.{value_type, first_type, operand_types, with_type, class_type, result_type, array_made, tuple_made}
 use Rattle.lh_unit.specs.TypingRows.{OperationRow, integers, alike, shifts, selects, takes_part, puts_part, elements, fields, operation_row}
 use Rattle.lh_unit.specs.Within.{Each}
 use Rattle.lh_formed.specs.Operands.{IsOf, MayBeOf, IsAsWritten, IsWritten, IsLike, OperationIs, RowIs}
 use Rattle.lh_formed.specs.Parts.{PartIs, HasPart}
-use Rattle.lh_eval.specs.Sound.{HasOperands, IsWrittenRight}
+use Rattle.lh_eval.specs.Sound.{ClassHasOperands, HasOperands, IsWrittenRight}
 use Rattle.lh_flat.specs.Copies.{Copy, copied_operand, copied_edge, copied}
 
 -- it may stand in a function or a process
@@ -152,42 +154,16 @@ module _ (c : Copy) where
   two-operands : (args : List OperandText) → ((o p : OperandText) × (args ≡ o ∷ p ∷ [])) → (o p : OperandText) × (map (copied_operand c) args ≡ o ∷ p ∷ [])
   two-operands args h = (copied_operand c h.0, copied_operand c h.1, ap (map (copied_operand c)) h.2)
 
+  class-copied : (k : OpClass) (args : List OperandText) → ClassHasOperands k args → ClassHasOperands k (map (copied_operand c) args)
+  class-copied class.Unary args h = one-operand args h
+  class-copied class.Binary args h = two-operands args h
+  class-copied class.Relation args h = two-operands args h
+  class-copied class.Equality args h = two-operands args h
+  class-copied (class.Repeat n) args h = (one-operand args h.0, h.1)
+  class-copied _ args h = tt
+
   operands-copied : (o : Op) (args : List OperandText) → HasOperands o args → HasOperands o (map (copied_operand c) args)
-  operands-copied Not args h = one-operand args h
-  operands-copied Neg args h = one-operand args h
-  operands-copied Add args h = two-operands args h
-  operands-copied Sub args h = two-operands args h
-  operands-copied Umul args h = two-operands args h
-  operands-copied Smul args h = two-operands args h
-  operands-copied Udiv args h = two-operands args h
-  operands-copied Sdiv args h = two-operands args h
-  operands-copied Umod args h = two-operands args h
-  operands-copied Smod args h = two-operands args h
-  operands-copied Urem args h = two-operands args h
-  operands-copied Srem args h = two-operands args h
-  operands-copied And args h = two-operands args h
-  operands-copied Or args h = two-operands args h
-  operands-copied Xor args h = two-operands args h
-  operands-copied Eq args h = two-operands args h
-  operands-copied Neq args h = two-operands args h
-  operands-copied Slt args h = two-operands args h
-  operands-copied Sgt args h = two-operands args h
-  operands-copied Sle args h = two-operands args h
-  operands-copied Sge args h = two-operands args h
-  operands-copied Ult args h = two-operands args h
-  operands-copied Ugt args h = two-operands args h
-  operands-copied Ule args h = two-operands args h
-  operands-copied Uge args h = two-operands args h
-  operands-copied Shl args h = tt
-  operands-copied Shr args h = tt
-  operands-copied Mux args h = tt
-  operands-copied (Extf k) args h = tt
-  operands-copied (Exts at len) args h = tt
-  operands-copied (Insf k) args h = tt
-  operands-copied (Inss at len) args h = tt
-  operands-copied Array args h = tt
-  operands-copied (Repeat n) args h = (one-operand args h.0, h.1)
-  operands-copied Tuple args h = tt
+  operands-copied o args h = class-copied (class_of o) args h
 
   -- what its text tells
   pub written-copied : (functions : List UnitText) (i : InstText) → IsCode i → IsWrittenRight i → IsWrittenRight (copied functions c i)
@@ -217,42 +193,13 @@ module _ (c : Copy) where
   types-same [] = refl
   types-same (o ∷ more) = ap (with_type o.ty) (types-same more)
 
-  operation-same : (o : Op) (args : List OperandText) → operation_type o (map (copied_operand c) args) ≡ operation_type o args
-  operation-same Not args = first-type c args
-  operation-same Neg args = first-type c args
-  operation-same Add args = first-type c args
-  operation-same Sub args = first-type c args
-  operation-same Umul args = first-type c args
-  operation-same Smul args = first-type c args
-  operation-same Udiv args = first-type c args
-  operation-same Sdiv args = first-type c args
-  operation-same Umod args = first-type c args
-  operation-same Smod args = first-type c args
-  operation-same Urem args = first-type c args
-  operation-same Srem args = first-type c args
-  operation-same And args = first-type c args
-  operation-same Or args = first-type c args
-  operation-same Xor args = first-type c args
-  operation-same Eq args = refl
-  operation-same Neq args = refl
-  operation-same Slt args = refl
-  operation-same Sgt args = refl
-  operation-same Sle args = refl
-  operation-same Sge args = refl
-  operation-same Ult args = refl
-  operation-same Ugt args = refl
-  operation-same Ule args = refl
-  operation-same Uge args = refl
-  operation-same Shl args = first-type c args
-  operation-same Shr args = first-type c args
-  operation-same Mux args = first-type c args
-  operation-same (Extf k) args = first-type c args
-  operation-same (Exts at len) args = first-type c args
-  operation-same (Insf k) args = first-type c args
-  operation-same (Inss at len) args = first-type c args
-  operation-same Array args = (λ j. option_and_then (array_made (length-same args j)) (first-type c args j))
-  operation-same (Repeat n) args = ap (option_and_then (array_made n)) (first-type c args)
-  operation-same Tuple args = ap (option_and_then tuple_made) (types-same args)
+  class-same : (k : OpClass) (args : List OperandText) → class_type k (map (copied_operand c) args) ≡ class_type k args
+  class-same class.Relation args = refl
+  class-same class.Equality args = refl
+  class-same class.Array args = (λ j. option_and_then (array_made (length-same args j)) (first-type c args j))
+  class-same (class.Repeat n) args = ap (option_and_then (array_made n)) (first-type c args)
+  class-same class.Tuple args = ap (option_and_then tuple_made) (types-same args)
+  class-same _ args = first-type c args
 
   -- what it gives has the same type
   pub result-copied : (functions : List UnitText) (i : InstText) → IsCode i → result_type (copied functions c i) ≡ result_type i
@@ -260,7 +207,7 @@ module _ (c : Copy) where
   result-copied functions (reg_text to triggers) k = elim k [ ]
   result-copied functions (child_text v inputs outputs) k = elim k [ ]
   result-copied functions (const_text d) k = refl
-  result-copied functions (pure_text o args) k = operation-same o args
+  result-copied functions (pure_text o args) k = class-same (class_of o) args
   result-copied functions (var_text a) k = refl
   result-copied functions (ld_text p) k = refl
   result-copied functions (st_text to value) k = refl

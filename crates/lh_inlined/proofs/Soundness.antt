@@ -13,7 +13,7 @@ use Rattle.lh_formed.specs.Parts.{HasPart}
 use Rattle.lh_eval.specs.Sound.{IsWrittenRight, IsSound}
 use Rattle.lh_flat.specs.Copies.{Copy, top_copy, copied_line}
 use Rattle.lh_flat.specs.Flat.{MergeText, FlatBlockText, merge_of, branch_into, with_merge, flat_copy, flat_block, max_nested}
-use Rattle.lh_inlined.proofs.Cuts.{Among, Cut, behind, lines-cut, piece-lines, piece-more, blocks-behind}
+use Rattle.lh_inlined.proofs.Cuts.{Among, Cut, behind, lines-cut, piece-lines, piece-more, blocks-behind, among-parts, all-among}
 use Rattle.lh_inlined.proofs.Spots.{Spot, next_cut, next_lines, first_spot, after_spot, SpotOf, begins, goes_on, Nested, outermost, called, flat_spot, flat_behind, behind-cut}
 use Rattle.lh_inlined.proofs.SoundCopies.{IsCode, row-copied, part-copied, written-copied}
 use Rattle.lh_inlined.proofs.Splits.{LineOf, is_merge, is_copied, is_branch, line-of}
@@ -29,15 +29,6 @@ module _ (fs : List UnitText) (u : UnitText) where
     pub spot : Spot
     pub of : SpotOf fs copy spot
     pub is : y ≡ flat_spot fs depth copy spot
-
-  parts : {A : Type 0} (xs ys : List A) (x : A) → Among (xs ++ ys) x → Among xs x ⊎ Among ys x
-  parts [] ys x a = inr a
-  parts (z ∷ xs) ys x (inl e) = inl (inl e)
-  parts (z ∷ xs) ys x (inr a) = on (parts xs ys x a)
-    where
-      on : (Among xs x ⊎ Among ys x) → Among (z ∷ xs) x ⊎ Among ys x
-      on (inl b) = inl (inr b)
-      on (inr b) = inr b
 
   cut-shorter : (c : Copy) (s : Spot) (z : Cut) → next_cut fs c s ≡ Some z → (k : ℕ) → length s.rest < suc k → length z.rest < k
   cut-shorter c s z e k l =
@@ -56,7 +47,7 @@ module _ (fs : List UnitText) (u : UnitText) where
   behind-spots k c n into (suc fuel) s h l y a = by (next_cut fs c s) refl (λ z e b. behind-spots k c n into fuel (after_spot fs c s z) (goes_on s h z e) (cut-shorter c s z e fuel l) y b)
     where
       in-cut : (z : Cut) → next_cut fs c s ≡ Some z → Among (blocks-behind fs c (label_or s.block.label) (flat_copy k fs) (Some z)) y → (Among (flat_behind fs k c (after_spot fs c s z)) y → IsSpot y) → IsSpot y
-      in-cut z e b go = of (parts (flat_copy k fs z.copy) _ y b)
+      in-cut z e b go = of (among-parts (flat_copy k fs z.copy) _ y b)
         where
           of : (Among (flat_copy k fs z.copy) y ⊎ Among (flat_spot fs k c (after_spot fs c s z) ∷ flat_behind fs k c (after_spot fs c s z)) y) → IsSpot y
           of (inl d) = into s h z e y d
@@ -69,7 +60,7 @@ module _ (fs : List UnitText) (u : UnitText) where
 
   flat-out : {A B : Type 0} (f : A → List B) (xs : List A) (y : B) → Among (flat_map f xs) y → (x : A) × Among xs x × Among (f x) y
   flat-out f [] y a = elim a [ ]
-  flat-out {A = A} f (x ∷ xs) y a = on (parts (f x) (flat_map f xs) y a) (flat-out f xs y)
+  flat-out {A = A} f (x ∷ xs) y a = on (among-parts (f x) (flat_map f xs) y a) (flat-out f xs y)
     where
       on : (Among (f x) y ⊎ Among (flat_map f xs) y) → (Among (flat_map f xs) y → (z : A) × Among xs z × Among (f z) y) → (z : A) × Among (x ∷ xs) z × Among (f z) y
       on (inl b) go = (x, inl refl, b)
@@ -104,10 +95,6 @@ module _ (fs : List UnitText) (u x : UnitText)
     (merges : (k : ℕ) (c : Copy) → Nested fs u (suc k) c → (s : Spot) → SpotOf fs c s → (z : Cut) → next_cut fs c s ≡ Some z → (m : MergeText) → merge_of fs c z.copy z.line.inst z.line.result ≡ Some m
     → (is_value_type m.ty ≡ true) × ((e : EdgeText) → Among m.edges e → IsOf x m.ty e.value))
     (deep : (c : Copy) → Nested fs u zero c → (s : Spot) → SpotOf fs c s → (z : Cut) → next_cut fs c s ≡ Some z → ⊥) where
-  all-among : {A : Type 0} (P : A → Type 0) (xs : List A) → ((x : A) → Among xs x → P x) → Each P xs
-  all-among P [] f = tt
-  all-among P (x ∷ xs) f = (f x (inl refl), all-among P xs (λ y a. f y (inr a)))
-
   -- the merge behind a call
   merge-row : (k : ℕ) (c : Copy) → Nested fs u k c → (s : Spot) → SpotOf fs c s → (m : MergeText) → s.merge ≡ Some m → RowIs x (phi_text m.ty m.edges)
   merge-row k c n _ (begins b h) m e = absurd (none-some m e)

@@ -30,19 +30,19 @@ use Rattle.lh_unit.specs.Within.{Each}
 use Rattle.lh_unit.specs.Activation.{functions}
 use Rattle.lh_unit.proofs.Lists.{Each-left, Each-right}
 use Rattle.lh_unit.proofs.Tables.{same_name-is, same_name-refl}
+use Rattle.lh_unit.proofs.Within.{Each-more}
 use Rattle.lh_formed.specs.Calls.{NamedIsRight}
 use Rattle.lh_formed.specs.Operands.{RowIs, ReturnIs}
 use Rattle.lh_formed.specs.Shape.{EndsOnce, EachUnit}
 use Rattle.lh_formed.proofs.ShapeLaw.{blocks_end_once}
 use Rattle.lh_spelled.specs.ItemLines.{item_line}
-use Rattle.lh_spelled.specs.Printable.{HasLine, HasInstLine, HasLabelLine, IsLabelled, HasShape, all_lines, result_repeats, results_repeat}
+use Rattle.lh_spelled.specs.Printable.{HasLine, HasInstLine, HasLabelLine, IsLabelled, HasShape, result_repeats, results_repeat}
 use Rattle.lh_meaning.proofs.Labelled.{read-labelled}
 use Rattle.lh_eval.specs.Sound.{IsSound}
 use Rattle.lh_sound.proofs.SoundLines.{rows-of-items, items-printable}
 use Rattle.lh_flat.specs.Marks.{IsPlain}
 use Rattle.lh_flat.proofs.Apart.{plain-name, name-there}
 use Rattle.lh_inlined.specs.Tidy.{ResultIsNew, EdgesArePlain, AlwaysGives, CallGives, LineTidy, Either, NoPhis, PhisFirst, BlockTidy, ArgsOnce, EntryHasNoPhi, UnitTidy, FunctionsTidy, FunctionsAreTidy, ProcessesAreTidy}
-use Rattle.lh_flat.proofs.Lists.{Each-weaker}
 use Rattle.lh_inlined.proofs.Cuts.{Among}
 use Rattle.lh_inlined.proofs.LastPieces.{label-is, block-each}
 use Rattle.lh_inlined.proofs.Facts.{UnitFacts, fact-at, phis-good, facts-of-items}
@@ -173,20 +173,16 @@ results-new args seen (l ∷ ls) h =
     (λ r e. (or_parts (args_define r args) (lines_define r seen) (ap (result_repeats args seen) (sym e) ∙ p.0)).0, results-new args (seen ++ l ∷ []) ls p.1)
 
 -- from the lines of all blocks to those of each
-by-blocks : (P : LineText → Type 0) (bs : List BlockText) → Each P (all_lines bs) → Each (λ (b : BlockText). Each P b.lines) bs
+by-blocks : (P : LineText → Type 0) (bs : List BlockText) → Each P (lines_of bs) → Each (λ (b : BlockText). Each P b.lines) bs
 by-blocks P [] e = tt
-by-blocks P (b ∷ more) e = (Each-left P b.lines (all_lines more) e, by-blocks P more (Each-right P b.lines (all_lines more) e))
-
-by-unit : (P : LineText → Type 0) (bs : List BlockText) → Each P (lines_of bs) → Each (λ (b : BlockText). Each P b.lines) bs
-by-unit P [] e = tt
-by-unit P (b ∷ more) e = (Each-left P b.lines (lines_of more) e, by-unit P more (Each-right P b.lines (lines_of more) e))
+by-blocks P (b ∷ more) e = (Each-left P b.lines (lines_of more) e, by-blocks P more (Each-right P b.lines (lines_of more) e))
 
 -- ---- a function that gives a value does so at each `ret`
 
 always-gives : (items : List ItemText) (d : UnitText) (t : TypeTree) → UnitFacts items d → d.result ≡ Some t → (t ≡ void_type → ⊥) → AlwaysGives d
 always-gives items d t f e n =
-    by-unit (λ (l : LineText). l.inst ≡ ret_text None → ⊥) d.blocks
-    (Each-weaker (IsSound d) (λ (l : LineText). l.inst ≡ ret_text None → ⊥) (lines_of d.blocks) (λ l s q. n (subst (λ (o : Option TypeTree). ReturnIs d o None) e (subst (RowIs d) q s.row))) f.sound)
+    by-blocks (λ (l : LineText). l.inst ≡ ret_text None → ⊥) d.blocks
+    (Each-more (IsSound d) (λ (l : LineText). l.inst ≡ ret_text None → ⊥) (lines_of d.blocks) (λ l s q. n (subst (λ (o : Option TypeTree). ReturnIs d o None) e (subst (RowIs d) q s.row))) f.sound)
 
 function-result : (k : UnitKind) (n : UnitName) (args : List ArgText) (r : Option TypeTree) → is_function k ≡ true → HasLine (header_item k n args r) → (t : TypeTree) × (r ≡ Some t)
 function-result kind.Func n args (Some t) e h = (t, refl)
@@ -239,7 +235,7 @@ module _ (items : List ItemText) (all : (n : UnitName) (d : UnitText) → functi
   shaped kind.Entity bs e h = absurd cc
 
   labels : Each LabelRight v.blocks
-  labels = Each-weaker IsLabelled LabelRight v.blocks label-right (shaped v.kind v.blocks f.runs f.printable.shaped)
+  labels = Each-more IsLabelled LabelRight v.blocks label-right (shaped v.kind v.blocks f.runs f.printable.shaped)
 
   found-label : (n : List ℕ) (b : BlockText) → block_of n v.blocks ≡ Some b → IsName n
   found-label n b e = subst IsName (label-is n v.blocks b e) (block-each LabelRight n v.blocks b e labels)
@@ -319,7 +315,7 @@ module _ (items : List ItemText) (all : (n : UnitName) (d : UnitText) → functi
   pub unit-tidy : UnitTidy (functions items) v
   unit-tidy = record {
     args = args-once [] v.args f.printable.new_args (header-plain v.kind v.name v.args v.result (spaced-lexed (header v.kind v.name v.args v.result) f.printable.headed.0));
-    blocks = blocks-tidy v.blocks (λ b m. m) labels ends (by-blocks HasInstLine v.blocks f.printable.written) (by-blocks (IsNoArg v.args) v.blocks (results-new v.args [] (all_lines v.blocks) f.printable.new_results));
+    blocks = blocks-tidy v.blocks (λ b m. m) labels ends (by-blocks HasInstLine v.blocks f.printable.written) (by-blocks (IsNoArg v.args) v.blocks (results-new v.args [] (lines_of v.blocks) f.printable.new_results));
     entry = entry-tidy v.blocks refl;
   }
 

@@ -11,16 +11,16 @@ use Rattle.lh_unit.specs.Places.{Place}
 use Rattle.lh_unit.specs.Typing.{value_type}
 use Rattle.lh_unit.specs.WellFormed.{is_allowed, IsWellFormed}
 use Rattle.lh_unit.specs.Within.{Each}
+use Rattle.lh_unit.proofs.Within.{Each-more}
+use Rattle.lh_formed.proofs.AtPlaces.{lines-from}
 use Rattle.lh_meaning.proofs.Labelled.{AllLabelled}
 use Rattle.lh_eval.specs.Sound.{IsSound}
-use Rattle.lh_spelled.specs.Printable.{HasInstLine, all_lines, results_repeat}
+use Rattle.lh_spelled.specs.Printable.{HasInstLine, results_repeat}
 use Rattle.lh_sound.proofs.NamedOnce.{GivesItsType, lines-typed}
-use Rattle.lh_sound.proofs.SoundLines.{lines-from, same-lines}
 use Rattle.lh_flat.specs.Copies.{top_copy}
 use Rattle.lh_flat.specs.Flat.{flat_unit, max_nested, text_of}
 use Rattle.lh_flat.specs.Marks.{IsPlain}
 use Rattle.lh_flat.proofs.Apart.{Differs, Apart, plain-name, name-there}
-use Rattle.lh_flat.proofs.Lists.{Each-weaker}
 use Rattle.lh_flat.proofs.Marks.{is_same}
 use Rattle.lh_inlined.specs.Tidy.{BlockTidy, ArgsOnce, UnitTidy}
 use Rattle.lh_inlined.proofs.Cuts.{Among}
@@ -59,11 +59,11 @@ labels-once (b ∷ bs) a = (subst (λ n. Differs n (labels_in bs)) (sym (ap labe
 
 own-names : (items : List ItemText) (fs : List UnitText) (v : UnitText) → UnitFacts items v → UnitTidy fs v → OwnNames v
 own-names items fs v f t =
-    let r = results-apart v.args [] (all_lines v.blocks) f.printable.new_results in
+    let r = results-apart v.args [] (lines_of v.blocks) f.printable.new_results in
     record {
       once = r.0;
-      own = results-own (all_lines v.blocks) f.printable.written;
-      new = Each-weaker (IsNewIn v.args []) (λ n. args_define n v.args ≡ false) (results (all_lines v.blocks)) (λ n h. h.0) r.1;
+      own = results-own (lines_of v.blocks) f.printable.written;
+      new = Each-more (IsNewIn v.args []) (λ n. args_define n v.args ≡ false) (results (lines_of v.blocks)) (λ n h. h.0) r.1;
       labels = labels-own fs v v.blocks t.blocks;
       labels_once = labels-once v.blocks f.labelled;
     }
@@ -78,11 +78,11 @@ typed-lines : (v : UnitText) (ls : List LineText) → Each HasInstLine ls → Ea
 typed-lines v [] h s a f = tt
 typed-lines v (l ∷ ls) h s a f = (f l a.0 h.0 s.0, typed-lines v ls h.1 s.1 a.1 f)
 
-unit-typed : (items : List ItemText) (v : UnitText) → UnitFacts items v → Each IsTypedCode (all_lines v.blocks)
+unit-typed : (items : List ItemText) (v : UnitText) → UnitFacts items v → Each IsTypedCode (lines_of v.blocks)
 unit-typed items v f =
     let allowed : Each (λ (l : LineText). is_allowed v.kind l.inst ≡ true) (lines_of v.blocks) =
-    lines-from (λ (l : LineText). is_allowed v.kind l.inst ≡ true) 1 true v.blocks (Each-weaker (PlaceFacts items v) (λ (p : Place). is_allowed v.kind p.line.inst ≡ true) _ (λ p h. h.allowed) f.places) in
-    typed-lines v (all_lines v.blocks) f.printable.written (subst (Each (IsSound v)) (sym (same-lines v.blocks)) f.sound) (subst (Each (λ (l : LineText). is_allowed v.kind l.inst ≡ true)) (sym (same-lines v.blocks)) allowed)
+    lines-from (λ (l : LineText). is_allowed v.kind l.inst ≡ true) 1 true v.blocks (Each-more (PlaceFacts items v) (λ (p : Place). is_allowed v.kind p.line.inst ≡ true) _ (λ p h. h.allowed) f.places) in
+    typed-lines v (lines_of v.blocks) f.printable.written f.sound allowed
     (λ l a h s. (is-code v.kind l.inst f.runs a, line-typed v l h s.row))
 
 -- ---- the flat text of a process
@@ -100,7 +100,7 @@ module _ (items : List ItemText) (g : IsWellFormed items) (u : UnitText) (among 
   flat = flat_unit name (text_of (functions items) u)
 
   -- Each result of its flat text stands once.
-  pub results_once : results_repeat flat.args [] (all_lines flat.blocks) ≡ false
+  pub results_once : results_repeat flat.args [] (lines_of flat.blocks) ≡ false
   results_once =
       let t = process-tidy items g u among process in
       once (functions items) (λ n f e. own-names items (functions items) f (function-facts items items (facts items g) n f e) (functions-tidy items g n f e)) u name
@@ -108,10 +108,10 @@ module _ (items : List ItemText) (g : IsWellFormed items) (u : UnitText) (among 
 
   -- Each has the type that its own line tells.
   pub results_tell : Each (GivesItsType flat) (lines_of flat.blocks)
-  results_tell = lines-typed flat (subst (λ ls. results_repeat flat.args [] ls ≡ false) (same-lines flat.blocks) results_once)
+  results_tell = lines-typed flat results_once
 
   -- Each has a type.
   pub results_typed : Each (GivesTyped flat) (lines_of flat.blocks)
   results_typed =
-      let typed : Each IsTyped (all_lines flat.blocks) = copies-typed (functions items) (λ n f e. unit-typed items f (function-facts items items (facts items g) n f e)) (suc max_nested) (top_copy u) (unit-typed items u (process-facts items items (facts items g) u among process)) in
-      value-typed flat (lines_of flat.blocks) (subst (Each IsTyped) (same-lines flat.blocks) typed) results_tell
+      let typed : Each IsTyped (lines_of flat.blocks) = copies-typed (functions items) (λ n f e. unit-typed items f (function-facts items items (facts items g) n f e)) (suc max_nested) (top_copy u) (unit-typed items u (process-facts items items (facts items g) u among process)) in
+      value-typed flat (lines_of flat.blocks) typed results_tell

@@ -10,7 +10,7 @@ use Rattle.lh_unit.specs.Typing.{value_type}
 use Rattle.lh_unit.specs.Reads.{args_repeat}
 use Rattle.lh_unit.specs.Within.{Each}
 use Rattle.lh_unit.specs.WellFormed.{labels_named, is_phi}
-use Rattle.lh_spelled.specs.Printable.{all_lines, labels_repeat, results_repeat}
+use Rattle.lh_spelled.specs.Printable.{labels_repeat, results_repeat}
 use Rattle.lh_formed.specs.Calls.{AssertIsRight}
 use Rattle.lh_formed.specs.Defined.{OperandsThere}
 use Rattle.lh_formed.specs.KindsOf.{HasTypeOfKind}
@@ -61,4 +61,4 @@ pub record IsFormed (u : UnitText) : Type 0 where
   pub phis : Each (λ (p : Place). PhiFormed u p p.line.inst) (places u)
   pub new_args : args_repeat [] u.args ≡ false
   pub new_labels : labels_repeat [] u.blocks ≡ false
-  pub new_results : results_repeat u.args [] (all_lines u.blocks) ≡ false
+  pub new_results : results_repeat u.args [] (lines_of u.blocks) ≡ false

@@ -3,7 +3,7 @@ use Rattle.std.proofs.Common.{◌≡◌, ℕ, ◌+◌, ◌<◌, ◌≤◌, List,
 use Rattle.lh_types.specs.Raised.{raised}
 use Rattle.lh_io.specs.Streams.{FillsFront, Appends, AppendsProperPrefix}
 use Rattle.lh_io.specs.Whole.{Takes}
-use Rattle.std.proofs.lemmas.List.{append-nil, take_at, take-append-drop}
+use Rattle.std.proofs.lemmas.List.{append-nil, take_at, drop_at, drop_all, take-append-drop}
 use Rattle.std.proofs.Math.Seq.{drop-append-add}
 
 -- of the text all but the rest was written
@@ -50,6 +50,27 @@ Wrote-prefix (Err x) was now next text rest w h e = prefix_at was now next text 
 abbrev pub ReadSoFar : Option (List ℕ) → Option (List ℕ) → List ℕ → Type 0
 ReadSoFar None now v = Unit {0}
 ReadSoFar (Some xs) now v = (rest : List ℕ) × (now ≡ Some rest) × (xs ≡ v ++ rest)
+
+pub ReadSoFar-start : (was : Option (List ℕ)) (v : List ℕ) → v ≡ [] → ReadSoFar was was v
+ReadSoFar-start None v none = tt
+ReadSoFar-start (Some xs) v none = (xs, refl, sym (ap (λ ys. ys ++ xs) none))
+
+-- n bytes were read so far, and a read that failed took none
+pub ReadSoFar-told : (was now next : Option (List ℕ)) (v : List ℕ) (n : ℕ) → ReadSoFar was now v → n ≡ length v → next ≡ now → IfSome was (λ bytes. (n ≤ length bytes) × (next ≡ Some (drop n bytes)))
+ReadSoFar-told None now next v n read len e = tt
+ReadSoFar-told (Some xs) now next v n (rest, now_is, xs_is) len e =
+    let all : length xs ≡ length v + length rest = ap length xs_is ∙ length-append v rest in
+    (omega arith, e ∙ now_is ∙ ap Some (sym (ap (drop n) xs_is ∙ drop_at v rest n (sym len))))
+
+-- where nothing is left, all was read
+pub ReadSoFar-all : (was now next : Option (List ℕ)) (v old_room new_room : List ℕ) (n : ℕ) → ReadSoFar was now v → IfSome now (λ left. FillsFront left next old_room new_room n) → IfSome now (λ left. left ≡ []) → IfSome was (λ bytes. (v ≡ bytes) × (next ≡ Some []))
+ReadSoFar-all None now next v old_room new_room n read fills none = tt
+ReadSoFar-all (Some xs) now next v old_room new_room n (rest, now_is, xs_is) fills none =
+    let Fills : Option (List ℕ) → Type 0 = λ o. IfSome o (λ left. FillsFront left next old_room new_room n) in
+    let Gone : Option (List ℕ) → Type 0 = λ o. IfSome o (λ left. left ≡ []) in
+    let of_rest : FillsFront rest next old_room new_room n = subst Fills now_is fills in
+    let empty : rest ≡ [] = subst Gone now_is none in
+    (sym (xs_is ∙ ap (λ r. v ++ r) empty ∙ append-nil v), of_rest.rest ∙ ap Some (ap (drop n) empty ∙ drop_all n [] (omega arith)))
 
 pub raised-raised : (c m n : ℕ) → raised (raised c m) n ≡ raised c (m + n)
 raised-raised c m n = omega arith

@@ -133,17 +133,15 @@ impl MemSink {
         requires { 0 < piece }
         ensures { IfOk result (λ s. s ≡ record { written = []; hold = hold; piece = piece; fails = fails.items; calls = 0; faults = 0 }) }
     {
-        match Vec::with_capacity(alloc, hold) {
-            Ok(bytes) => Ok(MemSink {
-                bytes,
-                hold,
-                piece,
-                fails,
-                calls: 0,
-                faults: 0,
-            }),
-            Err(_) => Err(NoMemory),
-        }
+        let bytes = Vec::with_capacity(alloc, hold)?;
+        Ok(MemSink {
+            bytes,
+            hold,
+            piece,
+            fails,
+            calls: 0,
+            faults: 0,
+        })
     }
 
     /// How many writes failed, at most 2^64 - 1.

@@ -1,19 +1,19 @@
 -- What tells edges apart, and the values that are merged by it.
-use Rattle.std.proofs.Common.{◌≡◌, ℕ, zero, suc, ◌<◌, List, [], ◌∷◌, ◌++◌, length, map, get_or, Bool, true, false, ◌&&◌, not, nat_lt, if◌then◌else◌, refl, ap, sym, ◌∙◌, subst, arith}
+use Rattle.std.proofs.Common.{◌≡◌, ℕ, zero, suc, ◌<◌, List, [], ◌∷◌, ◌++◌, length, map, get_or, Bool, true, false, ◌&&◌, not, nat_lt, refl, ap, sym, ◌∙◌, subst, arith}
 use Rattle.std.specs.List.{filter}
 use Rattle.lh_unit.specs.Within.{Each}
 use Rattle.lh_term.specs.Tree.{Tree}
 use Rattle.lh_term.specs.Types.{type_of, IsTyped}
 use Rattle.lh_term.specs.Make.{make_choice}
 use Rattle.lh_term.specs.Arena.{trees, tree_at, trees_at, ids_below, IsIn, AreIn, Stands, Grows}
-use Rattle.lh_term.specs.Conjuncts.{all_conjuncts, conjuncts_of, conjunction}
+use Rattle.lh_term.specs.Conjuncts.{conjuncts_of, conjunction}
 use Rattle.lh_term.specs.declared.term.TermId.{TermId}
 use Rattle.lh_term.specs.declared.term.Node.{Node}
 use Rattle.lh_term.proofs.Arenas.{lt_of}
 use Rattle.lh_term.proofs.Swaps.{tree_grown, in_grown, stands_grown, grows_on}
 use Rattle.lh_rows.specs.Joins.{Edge as EdgeTo, in_each, selector}
 use Rattle.lh_rows.specs.Typed.{IsCondition, IsOfType}
-use Rattle.lh_term.proofs.Conditions.{AllBits, conjuncts_bits, with_bits}
+use Rattle.lh_term.proofs.Conditions.{AllBits, conjuncts_are_bits, filter-bits}
 use Rattle.lh_rows.proofs.Merging.{made-choice}
 use Rattle.lh_joins.specs.declared.edge.Edge.{Edge}
 use Rattle.lh_joins.specs.declared.joins.Shared.{Shared}
@@ -180,15 +180,7 @@ SelectorsSoFar-none ns es rest c o = record {
 }
 
 bits-of : (t : Tree) → IsCondition t → AllBits (conjuncts_of t)
-bits-of t c = with_bits [] (all_conjuncts t) tt (conjuncts_bits t c.typed c.type)
-
-filter-bits : (f : Tree → Bool) (ts : List Tree) → AllBits ts → AllBits (filter f ts)
-filter-bits f [] h = tt
-filter-bits f (t ∷ ts) h = at (f t) (filter-bits f ts h.1)
-  where
-    at : (b : Bool) → AllBits (filter f ts) → AllBits (if b then t ∷ filter f ts else filter f ts)
-    at true g = (h.0, g)
-    at false g = g
+bits-of t c = conjuncts_are_bits t c.typed c.type
 
 bits-conditions : (ns : List Node) (ts : List TermId) → AreIn ns ts → AllBits (trees_at ns ts) → Each (IsConditionAt ns) ts
 bits-conditions ns [] i b = tt

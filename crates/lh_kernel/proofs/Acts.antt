@@ -1,7 +1,5 @@
 -- The acts of a frame, as the definition has them, by what the code ran.
-use Rattle.std.proofs.Common.{◌≡◌, ℕ, suc, ◌+◌, ◌<◌, List, [], ◌∷◌, ◌++◌, map, length, Bool, true, false, if◌then◌else◌, ◌||◌, Option, Some, None, slice_get, slice_set, refl, ap, sym, ◌∙◌, subst, inl, inr, append_assoc, add-zero, zero-add, length-append, arith}
-use Rattle.std.specs.List.{list_any}
-use Rattle.std.specs.Option.{option_map_or}
+use Rattle.std.proofs.Common.{◌≡◌, ℕ, suc, ◌+◌, ◌<◌, List, [], ◌∷◌, ◌++◌, map, length, Bool, true, false, if◌then◌else◌, Option, Some, None, slice_get, slice_set, refl, ap, sym, ◌∙◌, subst, inl, inr, append_assoc, add-zero, zero-add, length-append, arith}
 use Rattle.std.proofs.lemmas.List.{append-nil}
 use Rattle.std.proofs.lemmas.Option.{same_Some}
 use Rattle.std.proofs.Math.Seq.{set-append_seam}
@@ -15,8 +13,7 @@ use Rattle.lh_unit.specs.Arena.{Arena, IsArena, contents, unit_name_at, unit_tex
 use Rattle.lh_unit.specs.Within.{Each}
 use Rattle.lh_unit.specs.Contents.{UnitText}
 use Rattle.lh_unit.specs.declared.inst.UnitKind.TheVariants as kind
-use Rattle.lh_unit.specs.Hierarchy as hierarchy
-use Rattle.lh_unit.specs.World.{State, Act, Rules, rules_of, runs, rests, act, act_if_woken, acts_from, woken, unit_of, made_by, afters, bit_numbers, bit_differs, is_at, wake_of}
+use Rattle.lh_unit.specs.World.{State, Moment, Act, rules_of, wakes, woken, if_woken, act, acts_from, unit_of, made_by, afters, wake_of}
 use Rattle.lh_unit.specs.Trace.{least_runaway, outcomes_of}
 use Rattle.lh_unit.specs.Frames.{woken_from}
 use Rattle.lh_eval.specs.declared.instance.Instance.{Instance}
@@ -41,8 +38,8 @@ pub record Known (a : Arena) (width : ℕ) (is : List Instance) (ss : List InstS
   pub stand : StatesStand a is ss ps
 
 -- what the instances do by the definition
-abbrev pub acts_by : Arena → (last : Option Instant) → (old now : List Bool) → Instant → List Instance → List State → List Act
-acts_by a last old now t is ps = acts_from (rules_of 1000000 (contents a)) (contents a) last old now t (map (instance_text a) is) ps
+abbrev pub defined_acts : Arena → Moment → List Instance → List State → List Act
+defined_acts a m is ps = acts_from (rules_of 1000000 (contents a)) (contents a) m (map (instance_text a) is) ps
 
 -- the entries of what activations wish
 abbrev pub entries_ran : Instant → List Activation → List Claim
@@ -55,7 +52,7 @@ entries_ran t (x ∷ xs) = due_entries t x.instance x.act.wishes ++ entries_ran 
 abbrev AreNamed : Arena → List Instance → Type 0
 AreNamed a is = Each (λ (i : Instance). unit_of (contents a) (unit_name_at a i.unit.0) ≡ unit_text_at a i.unit.0) is
 
-is-named : (a : Arena) (width : ℕ) (i : Instance) → IsArena a → InstanceIs a width i → unit_of (contents a) (unit_name_at a i.unit.0) ≡ unit_text_at a i.unit.0
+pub is-named : (a : Arena) (width : ℕ) (i : Instance) → IsArena a → InstanceIs a width i → unit_of (contents a) (unit_name_at a i.unit.0) ≡ unit_text_at a i.unit.0
 is-named a width i o h = elim h.kind [ inl e ↦ unit-is_named a i.unit.0 o h.unit kind.Proc e | inr e ↦ unit-is_named a i.unit.0 o h.unit kind.Entity e ]
 
 are-named : (a : Arena) (width : ℕ) (is : List Instance) → IsArena a → Each (InstanceIs a width) is → AreNamed a is
@@ -64,30 +61,9 @@ are-named a width (i ∷ is) o h = (is-named a width i o h.0, are-named a width 
 
 -- ---- who is woken
 
-awakes-same : (a : Arena) (width : ℕ) (i : Instance) (s : InstState) (p : State) (last : Option Instant) (old now : List Bool) (t : Instant) → StateFits a width i s → StateIs a i s p →
-    woken last old now t (unit_text_at a i.unit.0) (instance_text a i) p ≡ awakes a last old now t i s
-awakes-same a width i s p None old now t f k = refl
-awakes-same a width i s p (Some l) old now t f k =
-    ap (λ rs. list_any (bit_differs old now) (bit_numbers rs) || option_map_or (is_at t) (wake_of p) false) (sym (senses-alike a width i s p f k))
-    ∙ ap (λ w. list_any (bit_differs old now) (bit_numbers (parts_sensed s (probed_by a i))) || option_map_or (is_at t) w false) (sym (wakes-alike a i s p k))
-
-woken-from : (k : ℕ) (a : Arena) (width : ℕ) (is : List Instance) (ss : List InstState) (ps : List State) (last : Option Instant) (old now : List Bool) (t : Instant) →
-    AreNamed a is → StatesFit a width is ss → StatesStand a is ss ps →
-    woken_from k (contents a) last old now t (map (instance_text a) is) ps ≡ awake_from k a last old now t is ss
-woken-from k a width [] ss ps last old now t n f h = refl
-woken-from k a width (i ∷ is) [] ps last old now t n f h = absurd f
-woken-from k a width (i ∷ is) (s ∷ ss) [] last old now t n f h = absurd h
-woken-from k a width (i ∷ is) (s ∷ ss) (p ∷ ps) last old now t n f h =
-    let x = instance_text a i in
-    let rest = woken_from (k + 1) (contents a) last old now t (map (instance_text a) is) ps in
-    ap (λ (u : UnitText). if woken last old now t u x p then k ∷ rest else rest) n.0
-    ∙ ap (λ (b : Bool). if b then k ∷ rest else rest) (awakes-same a width i s p last old now t f.0 h.0)
-    ∙ ap (λ (r : List ℕ). if awakes a last old now t i s then k ∷ r else r) (woken-from (k + 1) a width is ss ps last old now t n.1 f.1 h.1)
-
--- the instances that wake by what is kept of them are those that are woken
-pub woken_same : (a : Arena) (width : ℕ) (is : List Instance) (ss : List InstState) (ps : List State) (last : Option Instant) (old now : List Bool) (t : Instant) → Known a width is ss ps →
-    woken_from 0 (contents a) last old now t (map (instance_text a) is) ps ≡ awake_from 0 a last old now t is ss
-woken_same a width is ss ps last old now t h = woken-from 0 a width is ss ps last old now t (are-named a width is h.arena h.instances) h.fit h.stand
+awakes-same : (a : Arena) (width : ℕ) (i : Instance) (s : InstState) (p : State) (m : Moment) → StateFits a width i s → StateIs a i s p → woken m (unit_text_at a i.unit.0) (instance_text a i) p ≡ awakes a m i s
+awakes-same a width i s p m f k =
+    ap (λ rs. wakes m rs (wake_of p)) (sym (senses-alike a width i s p f k)) ∙ ap (wakes m (parts_sensed s (probed_by a i))) (sym (wakes-alike a i s p k))
 
 -- ---- what each instance does, woken or not
 
@@ -98,50 +74,47 @@ record Task : Type 0 where
   is_woken : Bool
   does : Act
 
-abbrev tasks : Arena → (last : Option Instant) → (old now : List Bool) → Instant → List Instance → List State → List Task
-tasks a last old now t [] ps = []
-tasks a last old now t (i ∷ is) [] = []
-tasks a last old now t (i ∷ is) (p ∷ ps) =
-    record { instance = i; state = p; is_woken = woken last old now t (unit_text_at a i.unit.0) (instance_text a i) p; does = done_by a now t i p } ∷ tasks a last old now t is ps
+abbrev tasks : Arena → Moment → List Instance → List State → List Task
+tasks a m [] ps = []
+tasks a m (i ∷ is) [] = []
+tasks a m (i ∷ is) (p ∷ ps) =
+    record { instance = i; state = p; is_woken = woken m (unit_text_at a i.unit.0) (instance_text a i) p; does = done_by a m.now m.at i p } ∷ tasks a m is ps
 
-abbrev act_by : (is_woken : Bool) → Act → State → Act
-act_by true x p = x
-act_by false x p = rests p
-
-abbrev act_of : Task → Act
-act_of x = act_by x.is_woken x.does x.state
+abbrev task_act : Task → Act
+task_act x = if_woken x.is_woken x.does x.state
 
 abbrev numbers_of : ℕ → List Task → List ℕ
 numbers_of k [] = []
 numbers_of k (x ∷ xs) = if x.is_woken then k ∷ numbers_of (k + 1) xs else numbers_of (k + 1) xs
 
-act-chosen : (b : Bool) (r : Rules) (now : List Bool) (t : Instant) (u : UnitText) (i : hierarchy.Instance) (p : State) → act_if_woken b r now t u i p ≡ act_by b (runs r now t u i p) p
-act-chosen true r now t u i p = refl
-act-chosen false r now t u i p = refl
-
-acts-tasks : (a : Arena) (last : Option Instant) (old now : List Bool) (t : Instant) (is : List Instance) (ps : List State) → AreNamed a is →
-    acts_by a last old now t is ps ≡ map act_of (tasks a last old now t is ps)
-acts-tasks a last old now t [] ps n = refl
-acts-tasks a last old now t (i ∷ is) [] n = refl
-acts-tasks a last old now t (i ∷ is) (p ∷ ps) n =
+acts-tasks : (a : Arena) (m : Moment) (is : List Instance) (ps : List State) → AreNamed a is → defined_acts a m is ps ≡ map task_act (tasks a m is ps)
+acts-tasks a m [] ps n = refl
+acts-tasks a m (i ∷ is) [] n = refl
+acts-tasks a m (i ∷ is) (p ∷ ps) n =
     let r = rules_of 1000000 (contents a) in
     let x = instance_text a i in
-    let u = unit_text_at a i.unit.0 in
-    let rest = acts_by a last old now t is ps in
-    ap (λ (v : UnitText). act r last old now t v x p ∷ rest) n.0
-    ∙ ap (λ (d : Act). d ∷ rest) (act-chosen (woken last old now t u x p) r now t u x p)
-    ∙ ap (λ (ds : List Act). act_by (woken last old now t u x p) (runs r now t u x p) p ∷ ds) (acts-tasks a last old now t is ps n.1)
+    ap (λ (v : UnitText). act r m v x p ∷ defined_acts a m is ps) n.0 ∙ ap (λ (ds : List Act). act r m (unit_text_at a i.unit.0) x p ∷ ds) (acts-tasks a m is ps n.1)
 
-numbers-tasks : (k : ℕ) (a : Arena) (last : Option Instant) (old now : List Bool) (t : Instant) (is : List Instance) (ps : List State) → AreNamed a is →
-    woken_from k (contents a) last old now t (map (instance_text a) is) ps ≡ numbers_of k (tasks a last old now t is ps)
-numbers-tasks k a last old now t [] ps n = refl
-numbers-tasks k a last old now t (i ∷ is) [] n = refl
-numbers-tasks k a last old now t (i ∷ is) (p ∷ ps) n =
+numbers-tasks : (k : ℕ) (a : Arena) (m : Moment) (is : List Instance) (ps : List State) → AreNamed a is → woken_from k (contents a) m (map (instance_text a) is) ps ≡ numbers_of k (tasks a m is ps)
+numbers-tasks k a m [] ps n = refl
+numbers-tasks k a m (i ∷ is) [] n = refl
+numbers-tasks k a m (i ∷ is) (p ∷ ps) n =
     let x = instance_text a i in
     let u = unit_text_at a i.unit.0 in
-    let rest = woken_from (k + 1) (contents a) last old now t (map (instance_text a) is) ps in
-    ap (λ (v : UnitText). if woken last old now t v x p then k ∷ rest else rest) n.0
-    ∙ ap (λ (ks : List ℕ). if woken last old now t u x p then k ∷ ks else ks) (numbers-tasks (k + 1) a last old now t is ps n.1)
+    let rest = woken_from (k + 1) (contents a) m (map (instance_text a) is) ps in
+    ap (λ (v : UnitText). if woken m v x p then k ∷ rest else rest) n.0 ∙ ap (λ (ks : List ℕ). if woken m u x p then k ∷ ks else ks) (numbers-tasks (k + 1) a m is ps n.1)
+
+awake-tasks : (k : ℕ) (a : Arena) (width : ℕ) (m : Moment) (is : List Instance) (ss : List InstState) (ps : List State) → StatesFit a width is ss → StatesStand a is ss ps → awake_from k a m is ss ≡ numbers_of k (tasks a m is ps)
+awake-tasks k a width m [] ss ps f h = refl
+awake-tasks k a width m (i ∷ is) [] ps f h = absurd f
+awake-tasks k a width m (i ∷ is) (s ∷ ss) [] f h = absurd h
+awake-tasks k a width m (i ∷ is) (s ∷ ss) (p ∷ ps) f h =
+    ap (λ (ks : List ℕ). if awakes a m i s then k ∷ ks else ks) (awake-tasks (k + 1) a width m is ss ps f.1 h.1)
+    ∙ ap (λ (b : Bool). if b then k ∷ numbers_of (k + 1) (tasks a m is ps) else numbers_of (k + 1) (tasks a m is ps)) (sym (awakes-same a width i s p m f.0 h.0))
+
+-- the instances that wake by what is kept of them are those that are woken
+pub woken_same : (a : Arena) (width : ℕ) (is : List Instance) (ss : List InstState) (ps : List State) (m : Moment) → Known a width is ss ps → woken_from 0 (contents a) m (map (instance_text a) is) ps ≡ awake_from 0 a m is ss
+woken_same a width is ss ps m h = numbers-tasks 0 a m is ps (are-named a width is h.arena h.instances) ∙ sym (awake-tasks 0 a width m is ss ps h.fit h.stand)
 
 -- the first instance of a list did this: it rests, it ran away and ends the list, or it did what the definition has it do
 abbrev DidFirst : Arena → (is_woken : Bool) → (k : ℕ) → Instance → Act → List Activation → Option ℕ → (rest : List Activation → Option ℕ → Type 0) → Type 0
@@ -183,39 +156,39 @@ does-here a now t is₀ is ps₀ ps k i p P h d =
     let f = here-state is₀ is ps₀ ps k i p h d.state d.stands in
     subst (λ (j : Instance). P j (done_by a now t j p)) e (subst (λ (q : State). P d.instance (done_by a now t d.instance q)) f d.does)
 
-did-by : (a : Arena) (last : Option Instant) (old now : List Bool) (t : Instant) (is₀ is : List Instance) (ps₀ ps : List State) (k : ℕ) (xs : List Activation) (r : Option ℕ) → From is₀ is ps₀ ps k →
-    AllRan a now t is₀ ps₀ (numbers_of k (tasks a last old now t is ps)) xs r → Did a (tasks a last old now t is ps) k xs r
-did-by a last old now t is₀ [] ps₀ ps k [] None h q = tt
-did-by a last old now t is₀ [] ps₀ ps k [] (Some j) h q = absurd q
-did-by a last old now t is₀ [] ps₀ ps k (x ∷ xs) r h q = absurd q
-did-by a last old now t is₀ (i ∷ is) ps₀ [] k [] None h q = tt
-did-by a last old now t is₀ (i ∷ is) ps₀ [] k [] (Some j) h q = absurd q
-did-by a last old now t is₀ (i ∷ is) ps₀ [] k (x ∷ xs) r h q = absurd q
-did-by a last old now t is₀ (i ∷ is) ps₀ (p ∷ ps) k xs r h q =
-    by (woken last old now t (unit_text_at a i.unit.0) (instance_text a i) p) xs r q (λ ys s. did-by a last old now t is₀ is ps₀ ps (k + 1) ys s (from-next is₀ is ps₀ ps k i p h))
+did-by : (a : Arena) (m : Moment) (is₀ is : List Instance) (ps₀ ps : List State) (k : ℕ) (xs : List Activation) (r : Option ℕ) → From is₀ is ps₀ ps k →
+    AllRan a m.now m.at is₀ ps₀ (numbers_of k (tasks a m is ps)) xs r → Did a (tasks a m is ps) k xs r
+did-by a m is₀ [] ps₀ ps k [] None h q = tt
+did-by a m is₀ [] ps₀ ps k [] (Some j) h q = absurd q
+did-by a m is₀ [] ps₀ ps k (x ∷ xs) r h q = absurd q
+did-by a m is₀ (i ∷ is) ps₀ [] k [] None h q = tt
+did-by a m is₀ (i ∷ is) ps₀ [] k [] (Some j) h q = absurd q
+did-by a m is₀ (i ∷ is) ps₀ [] k (x ∷ xs) r h q = absurd q
+did-by a m is₀ (i ∷ is) ps₀ (p ∷ ps) k xs r h q =
+    by (woken m (unit_text_at a i.unit.0) (instance_text a i) p) xs r q (λ ys s. did-by a m is₀ is ps₀ ps (k + 1) ys s (from-next is₀ is ps₀ ps k i p h))
   where
-    by : (b : Bool) (xs : List Activation) (r : Option ℕ) → AllRan a now t is₀ ps₀ (if b then k ∷ numbers_of (k + 1) (tasks a last old now t is ps) else numbers_of (k + 1) (tasks a last old now t is ps)) xs r →
-        ((ys : List Activation) (s : Option ℕ) → AllRan a now t is₀ ps₀ (numbers_of (k + 1) (tasks a last old now t is ps)) ys s → Did a (tasks a last old now t is ps) (k + 1) ys s) →
-        DidFirst a b k i (done_by a now t i p) xs r (Did a (tasks a last old now t is ps) (k + 1))
+    by : (b : Bool) (xs : List Activation) (r : Option ℕ) → AllRan a m.now m.at is₀ ps₀ (if b then k ∷ numbers_of (k + 1) (tasks a m is ps) else numbers_of (k + 1) (tasks a m is ps)) xs r →
+        ((ys : List Activation) (s : Option ℕ) → AllRan a m.now m.at is₀ ps₀ (numbers_of (k + 1) (tasks a m is ps)) ys s → Did a (tasks a m is ps) (k + 1) ys s) →
+        DidFirst a b k i (done_by a m.now m.at i p) xs r (Did a (tasks a m is ps) (k + 1))
     by false xs r q ih = ih xs r q
     by true [] None q ih = absurd q
-    by true [] (Some j) q ih = (q.0, does-here a now t is₀ is ps₀ ps k i p (λ _ d. d.ran_away ≡ true) h q.1)
-    by true (x ∷ xs) r q ih = (q.0, does-here a now t is₀ is ps₀ ps k i p (λ j d. ActIs a j x.act d) h q.1, ih xs r q.2)
+    by true [] (Some j) q ih = (q.0, does-here a m.now m.at is₀ is ps₀ ps k i p (λ _ d. d.ran_away ≡ true) h q.1)
+    by true (x ∷ xs) r q ih = (q.0, does-here a m.now m.at is₀ is ps₀ ps k i p (λ j d. ActIs a j x.act d) h q.1, ih xs r q.2)
 
 -- ---- the least that ran away, and the outcomes
 
-runaway-of : (a : Arena) (ts : List Task) (k : ℕ) (xs : List Activation) (r : Option ℕ) → Did a ts k xs r → least_runaway k (map act_of ts) ≡ r
+runaway-of : (a : Arena) (ts : List Task) (k : ℕ) (xs : List Activation) (r : Option ℕ) → Did a ts k xs r → least_runaway k (map task_act ts) ≡ r
 runaway-of a [] k [] None h = refl
 runaway-of a [] k [] (Some j) h = absurd h
 runaway-of a [] k (x ∷ xs) r h = absurd h
 runaway-of a (y ∷ ts) k xs r h = by y.is_woken xs r h (runaway-of a ts (k + 1))
   where
     by : (b : Bool) (xs : List Activation) (r : Option ℕ) → DidFirst a b k y.instance y.does xs r (Did a ts (k + 1)) →
-        ((xs : List Activation) (r : Option ℕ) → Did a ts (k + 1) xs r → least_runaway (k + 1) (map act_of ts) ≡ r) → least_runaway k (act_by b y.does y.state ∷ map act_of ts) ≡ r
+        ((xs : List Activation) (r : Option ℕ) → Did a ts (k + 1) xs r → least_runaway (k + 1) (map task_act ts) ≡ r) → least_runaway k (if_woken b y.does y.state ∷ map task_act ts) ≡ r
     by false xs r h ih = ih xs r h
     by true [] None h ih = absurd h
-    by true [] (Some j) h ih = ap (λ b. if b then Some k else least_runaway (k + 1) (map act_of ts)) h.1 ∙ ap (λ n. Some n) (sym h.0)
-    by true (x ∷ xs) r h ih = ap (λ b. if b then Some k else least_runaway (k + 1) (map act_of ts)) h.1.ends ∙ ih xs r h.2
+    by true [] (Some j) h ih = ap (λ b. if b then Some k else least_runaway (k + 1) (map task_act ts)) h.1 ∙ ap (λ n. Some n) (sym h.0)
+    by true (x ∷ xs) r h ih = ap (λ b. if b then Some k else least_runaway (k + 1) (map task_act ts)) h.1.ends ∙ ih xs r h.2
 
 outcomes_at : ℕ → List Bool → List Outcome
 outcomes_at k bs = map (λ passed. record { instance = k; passed = passed }) bs
@@ -224,7 +197,7 @@ same-outcomes : (a : Arena) (i : Instance) (k : ℕ) (x : Activation) (d : Act) 
 unfolding outcomes_at
 same-outcomes a i k x d e h = ap (λ n. outcomes_at n x.act.outcomes) e ∙ ap (outcomes_at k) h.outcomes
 
-outcomes-of : (a : Arena) (ts : List Task) (k : ℕ) (xs : List Activation) (r : Option ℕ) → Did a ts k xs r → outcomes_ran xs ≡ outcomes_of k (map act_of ts)
+outcomes-of : (a : Arena) (ts : List Task) (k : ℕ) (xs : List Activation) (r : Option ℕ) → Did a ts k xs r → outcomes_ran xs ≡ outcomes_of k (map task_act ts)
 unfolding outcomes_at
 outcomes-of a [] k [] None h = refl
 outcomes-of a [] k [] (Some j) h = absurd h
@@ -232,14 +205,14 @@ outcomes-of a [] k (x ∷ xs) r h = absurd h
 outcomes-of a (y ∷ ts) k xs r h = by y.is_woken xs r h (outcomes-of a ts (k + 1))
   where
     by : (b : Bool) (xs : List Activation) (r : Option ℕ) → DidFirst a b k y.instance y.does xs r (Did a ts (k + 1)) →
-        ((xs : List Activation) (r : Option ℕ) → Did a ts (k + 1) xs r → outcomes_ran xs ≡ outcomes_of (k + 1) (map act_of ts)) → outcomes_ran xs ≡ outcomes_of k (act_by b y.does y.state ∷ map act_of ts)
+        ((xs : List Activation) (r : Option ℕ) → Did a ts (k + 1) xs r → outcomes_ran xs ≡ outcomes_of (k + 1) (map task_act ts)) → outcomes_ran xs ≡ outcomes_of k (if_woken b y.does y.state ∷ map task_act ts)
     by false xs r h ih = ih xs r h
     by true [] None h ih = absurd h
-    by true [] (Some j) h ih = sym (ap (λ b. if b then [] else outcomes_at k y.does.outcomes ++ outcomes_of (k + 1) (map act_of ts)) h.1)
+    by true [] (Some j) h ih = sym (ap (λ b. if b then [] else outcomes_at k y.does.outcomes ++ outcomes_of (k + 1) (map task_act ts)) h.1)
     by true (x ∷ xs) r h ih =
         ap (λ os. os ++ outcomes_ran xs) (same-outcomes a y.instance k x y.does h.0 h.1)
         ∙ ap (λ os. outcomes_at k y.does.outcomes ++ os) (ih xs r h.2)
-        ∙ sym (ap (λ b. if b then [] else outcomes_at k y.does.outcomes ++ outcomes_of (k + 1) (map act_of ts)) h.1.ends)
+        ∙ sym (ap (λ b. if b then [] else outcomes_at k y.does.outcomes ++ outcomes_of (k + 1) (map task_act ts)) h.1.ends)
 
 -- ---- the states that follow, and the entries that are added
 
@@ -259,20 +232,20 @@ set-here : (pre : List InstState) (s v : InstState) (ss : List InstState) (k n :
 set-here pre s v ss k n e f = ap (λ m. slice_set (pre ++ s ∷ ss) m v) (f ∙ sym e) ∙ set-append_seam pre s ss v ∙ sym (append_assoc pre (v ∷ []) ss)
 
 left-after : (a : Arena) (ts : List Task) (k : ℕ) (xs : List Activation) (pre ss : List InstState) → length pre ≡ k → StatesStand a (map (λ (x : Task). x.instance) ts) ss (map (λ (x : Task). x.state) ts) →
-    Did a ts k xs None → AreLeft a (map (λ (x : Task). x.instance) ts) pre (states_after (pre ++ ss) xs) (afters (map act_of ts))
+    Did a ts k xs None → AreLeft a (map (λ (x : Task). x.instance) ts) pre (states_after (pre ++ ss) xs) (afters (map task_act ts))
 left-after a [] k [] pre ss l q h = record { left = ss; same = refl; stand = q }
 left-after a [] k (x ∷ xs) pre ss l q h = absurd h
 left-after a (y ∷ ts) k xs pre [] l q h = absurd q
 left-after a (y ∷ ts) k xs pre (s ∷ ss) l q h = by y.is_woken xs h (λ ys v. left-after a ts (k + 1) ys (pre ++ v ∷ []) ss (one_more pre v k l) q.1)
   where
     by : (b : Bool) (xs : List Activation) → DidFirst a b k y.instance y.does xs None (Did a ts (k + 1)) →
-        ((ys : List Activation) (v : InstState) → Did a ts (k + 1) ys None → AreLeft a (map (λ (x : Task). x.instance) ts) (pre ++ v ∷ []) (states_after ((pre ++ v ∷ []) ++ ss) ys) (afters (map act_of ts))) →
-        AreLeft a (y.instance ∷ map (λ (x : Task). x.instance) ts) pre (states_after (pre ++ s ∷ ss) xs) ((act_by b y.does y.state).after ∷ afters (map act_of ts))
-    by false xs h ih = left-more a y.instance (map (λ (x : Task). x.instance) ts) pre s (states_after (pre ++ s ∷ ss) xs) y.state (afters (map act_of ts)) q.0
-        (subst (λ (all : List InstState). AreLeft a (map (λ (x : Task). x.instance) ts) (pre ++ s ∷ []) (states_after all xs) (afters (map act_of ts))) (append_assoc pre (s ∷ []) ss) (ih xs s h))
+        ((ys : List Activation) (v : InstState) → Did a ts (k + 1) ys None → AreLeft a (map (λ (x : Task). x.instance) ts) (pre ++ v ∷ []) (states_after ((pre ++ v ∷ []) ++ ss) ys) (afters (map task_act ts))) →
+        AreLeft a (y.instance ∷ map (λ (x : Task). x.instance) ts) pre (states_after (pre ++ s ∷ ss) xs) ((if_woken b y.does y.state).after ∷ afters (map task_act ts))
+    by false xs h ih = left-more a y.instance (map (λ (x : Task). x.instance) ts) pre s (states_after (pre ++ s ∷ ss) xs) y.state (afters (map task_act ts)) q.0
+        (subst (λ (all : List InstState). AreLeft a (map (λ (x : Task). x.instance) ts) (pre ++ s ∷ []) (states_after all xs) (afters (map task_act ts))) (append_assoc pre (s ∷ []) ss) (ih xs s h))
     by true [] h ih = absurd h
-    by true (x ∷ xs) h ih = left-more a y.instance (map (λ (x : Task). x.instance) ts) pre x.act.next (states_after (slice_set (pre ++ s ∷ ss) x.instance x.act.next) xs) y.does.after (afters (map act_of ts)) h.1.next
-        (subst (λ (all : List InstState). AreLeft a (map (λ (x : Task). x.instance) ts) (pre ++ x.act.next ∷ []) (states_after all xs) (afters (map act_of ts))) (sym (set-here pre s x.act.next ss k x.instance l h.0)) (ih xs x.act.next h.2))
+    by true (x ∷ xs) h ih = left-more a y.instance (map (λ (x : Task). x.instance) ts) pre x.act.next (states_after (slice_set (pre ++ s ∷ ss) x.instance x.act.next) xs) y.does.after (afters (map task_act ts)) h.1.next
+        (subst (λ (all : List InstState). AreLeft a (map (λ (x : Task). x.instance) ts) (pre ++ x.act.next ∷ []) (states_after all xs) (afters (map task_act ts))) (sym (set-here pre s x.act.next ss k x.instance l h.0)) (ih xs x.act.next h.2))
 
 claims-kept : (t : Instant) (k : ℕ) (w : Wish) → claims (kept t k w) ≡ claims_of t k w
 claims-kept t k [] = refl
@@ -282,78 +255,74 @@ claims-first : (a : Arena) (t : Instant) (i : Instance) (k : ℕ) (x : Activatio
 claims-first a t i k x d e h =
     claims-kept t k d.wish ∙ ap (claims_of t k) (sym h.wish) ∙ wishes_split t k x.act.wishes ∙ ap (λ n. due_entries t n x.act.wishes) (sym e)
 
-claims-of : (a : Arena) (t : Instant) (ts : List Task) (k : ℕ) (xs : List Activation) → Did a ts k xs None → claims (made_by t k (map act_of ts)) ≡ entries_ran t xs
+claims-of : (a : Arena) (t : Instant) (ts : List Task) (k : ℕ) (xs : List Activation) → Did a ts k xs None → claims (made_by t k (map task_act ts)) ≡ entries_ran t xs
 claims-of a t [] k [] h = refl
 claims-of a t [] k (x ∷ xs) h = absurd h
 claims-of a t (y ∷ ts) k xs h = by y.is_woken xs h (claims-of a t ts (k + 1))
   where
     by : (b : Bool) (xs : List Activation) → DidFirst a b k y.instance y.does xs None (Did a ts (k + 1)) →
-        ((xs : List Activation) → Did a ts (k + 1) xs None → claims (made_by t (k + 1) (map act_of ts)) ≡ entries_ran t xs) → claims (made_by t k (act_by b y.does y.state ∷ map act_of ts)) ≡ entries_ran t xs
+        ((xs : List Activation) → Did a ts (k + 1) xs None → claims (made_by t (k + 1) (map task_act ts)) ≡ entries_ran t xs) → claims (made_by t k (if_woken b y.does y.state ∷ map task_act ts)) ≡ entries_ran t xs
     by false xs h ih = ih xs h
     by true [] h ih = absurd h
     by true (x ∷ xs) h ih =
-        histories_join (kept t k y.does.wish) (made_by t (k + 1) (map act_of ts))
-        ∙ ap (λ cs. cs ++ claims (made_by t (k + 1) (map act_of ts))) (claims-first a t y.instance k x y.does h.0 h.1)
+        histories_join (kept t k y.does.wish) (made_by t (k + 1) (map task_act ts))
+        ∙ ap (λ cs. cs ++ claims (made_by t (k + 1) (map task_act ts))) (claims-first a t y.instance k x y.does h.0 h.1)
         ∙ ap (λ cs. due_entries t x.instance x.act.wishes ++ cs) (ih xs h.2)
 
 -- ---- the whole
 
-instances-tasks : (a : Arena) (last : Option Instant) (old now : List Bool) (t : Instant) (is : List Instance) (ss : List InstState) (ps : List State) → StatesStand a is ss ps →
-    map (λ (x : Task). x.instance) (tasks a last old now t is ps) ≡ is
-instances-tasks a last old now t [] ss ps h = refl
-instances-tasks a last old now t (i ∷ is) [] ps h = absurd h
-instances-tasks a last old now t (i ∷ is) (s ∷ ss) [] h = absurd h
-instances-tasks a last old now t (i ∷ is) (s ∷ ss) (p ∷ ps) h = ap (λ js. i ∷ js) (instances-tasks a last old now t is ss ps h.1)
+instances-tasks : (a : Arena) (m : Moment) (is : List Instance) (ss : List InstState) (ps : List State) → StatesStand a is ss ps → map (λ (x : Task). x.instance) (tasks a m is ps) ≡ is
+instances-tasks a m [] ss ps h = refl
+instances-tasks a m (i ∷ is) [] ps h = absurd h
+instances-tasks a m (i ∷ is) (s ∷ ss) [] h = absurd h
+instances-tasks a m (i ∷ is) (s ∷ ss) (p ∷ ps) h = ap (λ js. i ∷ js) (instances-tasks a m is ss ps h.1)
 
-states-tasks : (a : Arena) (last : Option Instant) (old now : List Bool) (t : Instant) (is : List Instance) (ss : List InstState) (ps : List State) → StatesStand a is ss ps →
-    map (λ (x : Task). x.state) (tasks a last old now t is ps) ≡ ps
-states-tasks a last old now t [] [] [] h = refl
-states-tasks a last old now t [] [] (p ∷ ps) h = absurd h
-states-tasks a last old now t [] (s ∷ ss) ps h = absurd h
-states-tasks a last old now t (i ∷ is) [] ps h = absurd h
-states-tasks a last old now t (i ∷ is) (s ∷ ss) [] h = absurd h
-states-tasks a last old now t (i ∷ is) (s ∷ ss) (p ∷ ps) h = ap (λ qs. p ∷ qs) (states-tasks a last old now t is ss ps h.1)
+states-tasks : (a : Arena) (m : Moment) (is : List Instance) (ss : List InstState) (ps : List State) → StatesStand a is ss ps → map (λ (x : Task). x.state) (tasks a m is ps) ≡ ps
+states-tasks a m [] [] [] h = refl
+states-tasks a m [] [] (p ∷ ps) h = absurd h
+states-tasks a m [] (s ∷ ss) ps h = absurd h
+states-tasks a m (i ∷ is) [] ps h = absurd h
+states-tasks a m (i ∷ is) (s ∷ ss) [] h = absurd h
+states-tasks a m (i ∷ is) (s ∷ ss) (p ∷ ps) h = ap (λ qs. p ∷ qs) (states-tasks a m is ss ps h.1)
 
-all-did : (a : Arena) (width : ℕ) (is : List Instance) (ss : List InstState) (ps : List State) (last : Option Instant) (old now : List Bool) (t : Instant) (xs : List Activation) (r : Option ℕ) → Known a width is ss ps →
-    AllRan a now t is ps (awake_from 0 a last old now t is ss) xs r → Did a (tasks a last old now t is ps) 0 xs r
-all-did a width is ss ps last old now t xs r k h =
-    let n = are-named a width is k.arena k.instances in
-    let e = sym (woken_same a width is ss ps last old now t k) ∙ numbers-tasks 0 a last old now t is ps n in
-    did-by a last old now t is is ps ps 0 xs r
-    (record { instances = λ j. ap (slice_get is) (zero-add j); states = λ j. ap (slice_get ps) (zero-add j) })
-    (subst (λ (ks : List ℕ). AllRan a now t is ps ks xs r) e h)
+module _ (a : Arena) (width : ℕ) (is : List Instance) (ss : List InstState) (ps : List State) (m : Moment) (known : Known a width is ss ps) where
+  -- those who wake at the moment did this in turn, up to the first that ran away
+  abbrev TheyRan : List Activation → Option ℕ → Type 0
+  TheyRan xs r = AllRan a m.now m.at is ps (awake_from 0 a m is ss) xs r
 
--- the least instance that ran away is the one at which the runs ended
-pub runaway_same : (a : Arena) (width : ℕ) (is : List Instance) (ss : List InstState) (ps : List State) (last : Option Instant) (old now : List Bool) (t : Instant) (xs : List Activation) (r : Option ℕ) → Known a width is ss ps →
-    AllRan a now t is ps (awake_from 0 a last old now t is ss) xs r → least_runaway 0 (acts_by a last old now t is ps) ≡ r
-runaway_same a width is ss ps last old now t xs r k h =
-    ap (least_runaway 0) (acts-tasks a last old now t is ps (are-named a width is k.arena k.instances)) ∙ runaway-of a (tasks a last old now t is ps) 0 xs r (all-did a width is ss ps last old now t xs r k h)
+  are-tasks : defined_acts a m is ps ≡ map task_act (tasks a m is ps)
+  are-tasks = acts-tasks a m is ps (are-named a width is known.arena known.instances)
 
--- the outcomes of the frame are those of what ran
-pub outcomes_same : (a : Arena) (width : ℕ) (is : List Instance) (ss : List InstState) (ps : List State) (last : Option Instant) (old now : List Bool) (t : Instant) (xs : List Activation) (r : Option ℕ) → Known a width is ss ps →
-    AllRan a now t is ps (awake_from 0 a last old now t is ss) xs r → outcomes_ran xs ≡ outcomes_of 0 (acts_by a last old now t is ps)
-outcomes_same a width is ss ps last old now t xs r k h =
-    outcomes-of a (tasks a last old now t is ps) 0 xs r (all-did a width is ss ps last old now t xs r k h) ∙ sym (ap (outcomes_of 0) (acts-tasks a last old now t is ps (are-named a width is k.arena k.instances)))
+  all-did : (xs : List Activation) (r : Option ℕ) → TheyRan xs r → Did a (tasks a m is ps) 0 xs r
+  all-did xs r h =
+      did-by a m is is ps ps 0 xs r
+      (record { instances = λ j. ap (slice_get is) (zero-add j); states = λ j. ap (slice_get ps) (zero-add j) })
+      (subst (λ (ks : List ℕ). AllRan a m.now m.at is ps ks xs r) (awake-tasks 0 a width m is ss ps known.fit known.stand) h)
 
--- what is kept after the frame stands for the states after it
-pub afters_stand : (a : Arena) (width : ℕ) (is : List Instance) (ss : List InstState) (ps : List State) (last : Option Instant) (old now : List Bool) (t : Instant) (xs : List Activation) → Known a width is ss ps →
-    AllRan a now t is ps (awake_from 0 a last old now t is ss) xs None → StatesStand a is (states_after ss xs) (afters (acts_by a last old now t is ps))
-afters_stand a width is ss ps last old now t xs k h =
-    let ts = tasks a last old now t is ps in
-    let i = instances-tasks a last old now t is ss ps k.stand in
-    let p = states-tasks a last old now t is ss ps k.stand in
-    let q : StatesStand a (map (λ (x : Task). x.instance) ts) ss (map (λ (x : Task). x.state) ts) =
-    subst (λ (js : List Instance). StatesStand a js ss (map (λ (x : Task). x.state) ts)) (sym i) (subst (λ (qs : List State). StatesStand a is ss qs) (sym p) k.stand) in
-    let l = left-after a ts 0 xs [] ss refl q (all-did a width is ss ps last old now t xs None k h) in
-    subst (λ (ds : List Act). StatesStand a is (states_after ss xs) (afters ds)) (sym (acts-tasks a last old now t is ps (are-named a width is k.arena k.instances)))
-    (subst (λ (js : List Instance). StatesStand a js (states_after ss xs) (afters (map act_of ts))) i
-    (subst (λ (new : List InstState). StatesStand a (map (λ (x : Task). x.instance) ts) new (afters (map act_of ts))) (sym l.same) l.stand))
+  -- the least instance that ran away is the one at which the runs ended
+  pub runaway_same : (xs : List Activation) (r : Option ℕ) → TheyRan xs r → least_runaway 0 (defined_acts a m is ps) ≡ r
+  runaway_same xs r h = ap (least_runaway 0) are-tasks ∙ runaway-of a (tasks a m is ps) 0 xs r (all-did xs r h)
 
--- the entries that the frame adds are those of what ran
-pub claims_ran : (a : Arena) (width : ℕ) (is : List Instance) (ss : List InstState) (ps : List State) (last : Option Instant) (old now : List Bool) (t : Instant) (xs : List Activation) → Known a width is ss ps →
-    AllRan a now t is ps (awake_from 0 a last old now t is ss) xs None → claims (made_by t 0 (acts_by a last old now t is ps)) ≡ entries_ran t xs
-claims_ran a width is ss ps last old now t xs k h =
-    ap (λ (ds : List Act). claims (made_by t 0 ds)) (acts-tasks a last old now t is ps (are-named a width is k.arena k.instances)) ∙ claims-of a t (tasks a last old now t is ps) 0 xs (all-did a width is ss ps last old now t xs None k h)
+  -- the outcomes of the frame are those of what ran
+  pub outcomes_same : (xs : List Activation) (r : Option ℕ) → TheyRan xs r → outcomes_ran xs ≡ outcomes_of 0 (defined_acts a m is ps)
+  outcomes_same xs r h = outcomes-of a (tasks a m is ps) 0 xs r (all-did xs r h) ∙ sym (ap (outcomes_of 0) are-tasks)
+
+  -- what is kept after the frame stands for the states after it
+  pub afters_stand : (xs : List Activation) → TheyRan xs None → StatesStand a is (states_after ss xs) (afters (defined_acts a m is ps))
+  afters_stand xs h =
+      let ts = tasks a m is ps in
+      let i = instances-tasks a m is ss ps known.stand in
+      let p = states-tasks a m is ss ps known.stand in
+      let q : StatesStand a (map (λ (x : Task). x.instance) ts) ss (map (λ (x : Task). x.state) ts) =
+      subst (λ (js : List Instance). StatesStand a js ss (map (λ (x : Task). x.state) ts)) (sym i) (subst (λ (qs : List State). StatesStand a is ss qs) (sym p) known.stand) in
+      let l = left-after a ts 0 xs [] ss refl q (all-did xs None h) in
+      subst (λ (ds : List Act). StatesStand a is (states_after ss xs) (afters ds)) (sym are-tasks)
+      (subst (λ (js : List Instance). StatesStand a js (states_after ss xs) (afters (map task_act ts))) i
+      (subst (λ (new : List InstState). StatesStand a (map (λ (x : Task). x.instance) ts) new (afters (map task_act ts))) (sym l.same) l.stand))
+
+  -- the entries that the frame adds are those of what ran
+  pub claims_ran : (xs : List Activation) → TheyRan xs None → claims (made_by m.at 0 (defined_acts a m is ps)) ≡ entries_ran m.at xs
+  claims_ran xs h = ap (λ (ds : List Act). claims (made_by m.at 0 ds)) are-tasks ∙ claims-of a m.at (tasks a m is ps) 0 xs (all-did xs None h)
 
 -- ---- the numbers of what ran
 

@@ -7,9 +7,10 @@ use Rattle.std.specs.declared.cmp.Ordering.TheVariants.{Less, Equal, Greater}
 use Rattle.std.specs.Ordering.{is_eq, is_le, is_lt}
 use Rattle.lh_time.specs.declared.Instant.{Instant}
 use Rattle.lh_time.specs.Order.{instant_cmp, instant_le}
+use Rattle.lh_types.specs.declared.part.Range.{Range}
 use Rattle.lh_unit.specs.Arena.{Arena}
 use Rattle.lh_unit.specs.Within.{Each}
-use Rattle.lh_unit.specs.World.{bit_numbers, bit_differs, is_at}
+use Rattle.lh_unit.specs.World.{bit_numbers, bit_differs, is_at, Moment, wakes}
 use Rattle.lh_eval.specs.declared.instance.Instance.{Instance}
 use Rattle.lh_index.specs.Rising.{Has}
 use Rattle.lh_elab.specs.Probed.{probed_by}
@@ -92,41 +93,41 @@ later_if t None e l = tt
 later_if t (Some u) e l = not_at_later (instant_cmp t u) e (l u refl)
 
 -- who does not wake wakes by itself later, if it does
-sleeps_later : (a : Arena) (last : Option Instant) (old now : List Bool) (t : Instant) (i : Instance) (s : InstState) → awakes a last old now t i s ≡ false →
-    ((u : Instant) → wake_kept s ≡ Some u → instant_le t u ≡ true) → IsLaterIfAny t (wake_kept s)
-sleeps_later a None old now t i s e l = absurd (clash e)
+sleeps_later : (m : Moment) (sensed : List Range) (wake : Option Instant) → wakes m sensed wake ≡ false → ((u : Instant) → wake ≡ Some u → instant_le m.at u ≡ true) → IsLaterIfAny m.at wake
+sleeps_later m sensed wake = by m.before
   where
-    clash : true ≡ false → ⊥
-    clash z = cc
-sleeps_later a (Some last) old now t i s e l = later_if t (wake_kept s) (right_false (list_any (bit_differs old now) (bit_numbers (parts_sensed s (probed_by a i)))) (option_map_or (is_at t) (wake_kept s) false) e) l
+    by : (before : Option (List Bool)) → wakes (record { before = before; now = m.now; at = m.at }) sensed wake ≡ false → ((u : Instant) → wake ≡ Some u → instant_le m.at u ≡ true) → IsLaterIfAny m.at wake
+    by None e l = absurd cc
+    by (Some old) e l = later_if m.at wake (right_false (list_any (bit_differs old m.now) (bit_numbers sensed)) (option_map_or (is_at m.at) wake false) e) l
 
 -- from number n on, each is awake or wakes later
-awake_or_later : (n : ℕ) (a : Arena) (width : ℕ) (last : Option Instant) (old now : List Bool) (t : Instant) (is : List Instance) (ss : List InstState) → StatesFit a width is ss →
-    ((u : Instant) (k : ℕ) → WakesItself ss u k → instant_le t u ≡ true) → (k : ℕ) (s : InstState) → slice_get ss k ≡ Some s →
-    Has (n + k) (awake_from n a last old now t is ss) ⊎ IsLaterIfAny t (wake_kept s)
-awake_or_later n a width last old now t is [] f l k s e = absurd (none_some s e)
-awake_or_later n a width last old now t [] (x ∷ xs) f l k s e = absurd f
-awake_or_later n a width last old now t (i ∷ is) (x ∷ xs) f l zero s e = at (awakes a last old now t i x) refl
+awake_or_later : (n : ℕ) (a : Arena) (width : ℕ) (m : Moment) (is : List Instance) (ss : List InstState) → StatesFit a width is ss →
+    ((u : Instant) (k : ℕ) → WakesItself ss u k → instant_le m.at u ≡ true) → (k : ℕ) (s : InstState) → slice_get ss k ≡ Some s → Has (n + k) (awake_from n a m is ss) ⊎ IsLaterIfAny m.at (wake_kept s)
+awake_or_later n a width m is [] f l k s e = absurd (none_some s e)
+awake_or_later n a width m [] (x ∷ xs) f l k s e = absurd f
+awake_or_later n a width m (i ∷ is) (x ∷ xs) f l zero s e = at (awakes a m i x) refl
   where
     same : x ≡ s
     same = same_some x s e
 
-    at : (b : Bool) → awakes a last old now t i x ≡ b → Has (n + 0) (if b then n ∷ awake_from (n + 1) a last old now t is xs else awake_from (n + 1) a last old now t is xs) ⊎ IsLaterIfAny t (wake_kept s)
+    at : (b : Bool) → awakes a m i x ≡ b → Has (n + 0) (if b then n ∷ awake_from (n + 1) a m is xs else awake_from (n + 1) a m is xs) ⊎ IsLaterIfAny m.at (wake_kept s)
     at true b = inl (inl (omega arith))
-    at false b = inr (subst (λ (z : InstState). IsLaterIfAny t (wake_kept z)) same (sleeps_later a last old now t i x b (λ u w. l u 0 (record { state = x; stands = refl; wakes = w }))))
-awake_or_later n a width last old now t (i ∷ is) (x ∷ xs) f l (suc k) s e = at (awakes a last old now t i x) (subst (λ m. Has m (awake_from (n + 1) a last old now t is xs) ⊎ IsLaterIfAny t (wake_kept s)) same (awake_or_later (n + 1) a width last old now t is xs f.1 (λ u j w. l u (suc j) (record { state = w.state; stands = w.stands; wakes = w.wakes })) k s e))
+    at false b = inr (subst (λ (z : InstState). IsLaterIfAny m.at (wake_kept z)) same
+        (sleeps_later m (parts_sensed x (probed_by a i)) (wake_kept x) b (λ u w. l u 0 (record { state = x; stands = refl; wakes = w }))))
+awake_or_later n a width m (i ∷ is) (x ∷ xs) f l (suc k) s e =
+    at (awakes a m i x) (subst (λ j. Has j (awake_from (n + 1) a m is xs) ⊎ IsLaterIfAny m.at (wake_kept s)) same
+    (awake_or_later (n + 1) a width m is xs f.1 (λ u j w. l u (suc j) (record { state = w.state; stands = w.stands; wakes = w.wakes })) k s e))
   where
     same : n + 1 + k ≡ n + suc k
     same = omega arith
 
-    at : (b : Bool) → Has (n + suc k) (awake_from (n + 1) a last old now t is xs) ⊎ IsLaterIfAny t (wake_kept s) →
-        Has (n + suc k) (if b then n ∷ awake_from (n + 1) a last old now t is xs else awake_from (n + 1) a last old now t is xs) ⊎ IsLaterIfAny t (wake_kept s)
+    at : (b : Bool) → Has (n + suc k) (awake_from (n + 1) a m is xs) ⊎ IsLaterIfAny m.at (wake_kept s) → Has (n + suc k) (if b then n ∷ awake_from (n + 1) a m is xs else awake_from (n + 1) a m is xs) ⊎ IsLaterIfAny m.at (wake_kept s)
     at true h = ⊎_elim (λ p. inl (inr p)) (λ p. inr p) h
     at false h = h
 
 -- after a frame in which exactly the woken did something, all wake later
-pub after_wakes : (a : Arena) (width : ℕ) (last : Option Instant) (old now : List Bool) (t : Instant) (is : List Instance) (ss : List InstState) (xs : List Activation) → StatesFit a width is ss →
-    ((u : Instant) (k : ℕ) → WakesItself ss u k → instant_le t u ≡ true) → instances_of xs ≡ awake_from 0 a last old now t is ss → Each (ActOfOne a width t is) xs →
-    Each (WakesAfter (Some t)) (states_after ss xs)
-after_wakes a width last old now t is ss xs f l e s =
-    after_later a width t is ss xs (subst (λ ks. OthersLater t ks ss) (sym e) (λ k x g. subst (λ m. Has m (awake_from 0 a last old now t is ss) ⊎ IsLaterIfAny t (wake_kept x)) (omega arith) (awake_or_later 0 a width last old now t is ss f l k x g))) s
+pub after_wakes : (a : Arena) (width : ℕ) (m : Moment) (is : List Instance) (ss : List InstState) (xs : List Activation) → StatesFit a width is ss → ((u : Instant) (k : ℕ) → WakesItself ss u k → instant_le m.at u ≡ true) →
+    instances_of xs ≡ awake_from 0 a m is ss → Each (ActOfOne a width m.at is) xs → Each (WakesAfter (Some m.at)) (states_after ss xs)
+after_wakes a width m is ss xs f l e s =
+    after_later a width m.at is ss xs
+    (subst (λ ks. OthersLater m.at ks ss) (sym e) (λ k x g. subst (λ j. Has j (awake_from 0 a m is ss) ⊎ IsLaterIfAny m.at (wake_kept x)) (omega arith) (awake_or_later 0 a width m is ss f l k x g))) s

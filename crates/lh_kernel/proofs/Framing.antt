@@ -11,7 +11,7 @@ use Rattle.lh_history.proofs.Frames.{histories_join}
 use Rattle.lh_history.proofs.Instants.{le_self}
 use Rattle.lh_design.specs.declared.Signal.{Signal}
 use Rattle.lh_unit.specs.Arena.{Arena, contents}
-use Rattle.lh_unit.specs.World.{World, Act, bits_of, acts_from, acts_at, rules_of, made_by, afters}
+use Rattle.lh_unit.specs.World.{Moment, World, Act, bits_before, moment_of, bits_of, acts_at, made_by, afters}
 use Rattle.lh_unit.specs.Trace.{least_runaway, outcomes_of}
 use Rattle.lh_unit.specs.Frames.{woken_from, woken_at, signal_values, changes_by, values_before}
 use Rattle.lh_unit.specs.Within.{Each}
@@ -32,7 +32,7 @@ use Rattle.lh_kernel.specs.Puts.{wishes_ran, WerePut, CanBePut}
 use Rattle.lh_kernel.specs.Kept.{IsKept, IsWaiting, WakesAfter}
 use Rattle.lh_kernel.specs.Simulation.{StandsFor, simulation_of}
 use Rattle.lh_kernel.specs.Stepped.{shows_at, acts_in, world_then}
-use Rattle.lh_kernel.specs.Phases.{ComesNext, IsPlanned, IsAhead, IsFrame, awake_in, looked_at, woken_in}
+use Rattle.lh_kernel.specs.Phases.{ComesNext, IsPlanned, IsAhead, IsFrame, moment_in, awake_in, looked_at, woken_in}
 use Rattle.lh_kernel.specs.declared.machine.Machine.{Machine}
 use Rattle.lh_kernel.specs.declared.plan.Plan.{Plan}
 use Rattle.lh_kernel.specs.declared.noted.Noted.{Noted}
@@ -40,7 +40,7 @@ use Rattle.lh_kernel.specs.declared.noted.Move.{Move}
 use Rattle.lh_kernel.specs.declared.run.Activation.{Activation}
 use Rattle.lh_kernel.proofs.Looking.{length_values, length_fit}
 use Rattle.lh_kernel.proofs.Ahead.{plan_rises, plan_instances}
-use Rattle.lh_kernel.proofs.Acts.{Known, woken_same, acts_by, runaway_same, outcomes_same, afters_stand, claims_ran}
+use Rattle.lh_kernel.proofs.Acts.{Known, woken_same, defined_acts, runaway_same, outcomes_same, afters_stand, claims_ran}
 use Rattle.lh_kernel.proofs.After.{after_fit, after_wakes}
 use Rattle.lh_kernel.proofs.Exact.{fresh_moves, noted_after}
 use Rattle.lh_kernel.proofs.Putting.{entries_put, put_each, put_within, put_names, put_holds}
@@ -85,19 +85,29 @@ from_last old t w comes h = after_from t w.last (subst (λ (o : Option Instant).
 bits_are : (old : Machine) (t : Instant) (w : World) → ComesNext old t → StandsFor (simulation_of old false) w → (b : List Bool) → AreBitsAt old.queue.held old.bits t b → b ≡ bits_at w.history w.init t
 bits_are old t w comes h b r = r w.history w.init w.last h.wishes (from_last old t w comes h) (sym h.bits ∙ bits_same w.history w.init w.last)
 
+-- the moment of the frame is that of the world
+moment_is : (old : Machine) (t : Instant) (w : World) → ComesNext old t → StandsFor (simulation_of old false) w → (b : List Bool) → b ≡ bits_then old.queue.held t old.bits → AreBitsAt old.queue.held old.bits t b →
+    moment_of w t ≡ moment_in (looked_at old t) t
+moment_is old t w comes h b bits values =
+    same (bits_before w) (option_map (λ l. old.bits) old.last) (bits_at w.history w.init t) (bits_then old.queue.held t old.bits) (before_is w.last h.bits ∙ ap (option_map (λ l. old.bits)) h.last)
+    (sym (bits_are old t w comes h b values) ∙ bits)
+  where
+    same : (o p : Option (List Bool)) (x y : List Bool) → o ≡ p → x ≡ y → ◌≡◌ {A = Moment} (record { before = o; now = x; at = t }) (record { before = p; now = y; at = t })
+    same o p x y e f = cc
+
+    before_is : (last : Option Instant) → bits_after w.history w.init last ≡ old.bits → option_map (bits_at w.history w.init) last ≡ option_map (λ l. old.bits) last
+    before_is None e = refl
+    before_is (Some l) e = ap (λ (x : List Bool). Some x) e
+
 -- who wakes by what is kept is who wakes by the definition
-pub woken_are : (old : Machine) (t : Instant) (b : List Bool) → IsKept old → ComesNext old t → b ≡ bits_then old.queue.held t old.bits → AreBitsAt old.queue.held old.bits t b → (w : World) → StandsFor (simulation_of old false) w →
+pub awake_are_woken : (old : Machine) (t : Instant) (b : List Bool) → IsKept old → ComesNext old t → b ≡ bits_then old.queue.held t old.bits → AreBitsAt old.queue.held old.bits t b → (w : World) → StandsFor (simulation_of old false) w →
     awake_in (looked_at old t) t ≡ woken_in old w t
 unfolding woken_at
-woken_are old t b kept comes bits values w h =
+awake_are_woken old t b kept comes bits values w h =
     let a = old.«module».now in
-    let is = map (instance_text a) old.design.instances.items in
-    let now : bits_at w.history w.init t ≡ bits_then old.queue.held t old.bits = sym (bits_are old t w comes h b values) ∙ bits in
     let known : Known a (length old.design.init) old.design.instances.items old.states.items w.states = record { arena = kept.design.arena; instances = kept.design.fits; fit = kept.fit; stand = h.states } in
-    sym (ap (λ (o : Option Instant). woken_from 0 (contents a) o (bits_of w) (bits_at w.history w.init t) t is w.states) h.last
-    ∙ ap (λ (x : List Bool). woken_from 0 (contents a) old.last x (bits_at w.history w.init t) t is w.states) h.bits
-    ∙ ap (λ (x : List Bool). woken_from 0 (contents a) old.last old.bits x t is w.states) now
-    ∙ woken_same a (length old.design.init) old.design.instances.items old.states.items w.states old.last old.bits (bits_then old.queue.held t old.bits) t known)
+    sym (ap (λ (m : Moment). woken_from 0 (contents a) m (map (instance_text a) old.design.instances.items) w.states) (moment_is old t w comes h b bits values)
+    ∙ woken_same a (length old.design.init) old.design.instances.items old.states.items w.states (moment_in (looked_at old t) t) known)
 
 got_within : {A : Type 0} (xs : List A) (k : ℕ) (x : A) → slice_get xs k ≡ Some x → k < length xs
 got_within [] k x e = absurd (nothing e)
@@ -143,7 +153,7 @@ module _ (old : Machine) (t : Instant) (p : Plan) (kept : IsKept old) (comes : C
       let w : length (looked_at old t).looked ≡ length old.design.init = as_wide in
       let itself : (u : Instant) (j : ℕ) → WakesItself old.states.items u j → instant_le t u ≡ true = λ u j h. comes.wakes u j ((kept.noted.wakes u j).1 h) in
       let wakes : Each (WakesAfter (Some t)) (states_after old.states.items p.acts.items) =
-      after_wakes a (length old.design.init) old.last old.bits (looked_at old t).looked t is old.states.items p.acts.items kept.fit itself
+      after_wakes a (length old.design.init) (moment_in (looked_at old t) t) is old.states.items p.acts.items kept.fit itself
       (plan_instances (looked_at old t) t p (length old.design.init) kept.design.fits kept.fit plan r) sound in
       let noted : IsNotedFor a is old.design.signals.items (states_after old.states.items p.acts.items) new.noted =
       noted_after a is old.design.signals.items old.states.items old.probes.items old.noted n new.noted p.acts.items p.moves.items kept.noted kept.probes plan.moves k.entered left
@@ -179,14 +189,12 @@ module _ (old : Machine) (t : Instant) (p : Plan) (kept : IsKept old) (comes : C
       known : Known old.«module».now (length old.design.init) old.design.instances.items old.states.items w.states
       known = record { arena = kept.design.arena; instances = kept.design.fits; fit = kept.fit; stand = h.states }
 
-      acts_are : acts_in (simulation_of old false) w t ≡ acts_by old.«module».now old.last old.bits (bits_then old.queue.held t old.bits) t old.design.instances.items w.states
+      abbrev moment : Moment
+      moment = moment_in (looked_at old t) t
+
+      acts_are : acts_in (simulation_of old false) w t ≡ defined_acts old.«module».now moment old.design.instances.items w.states
       unfolding acts_at
-      acts_are =
-          let a = old.«module».now in
-          let is = map (instance_text a) old.design.instances.items in
-          ap (λ (o : Option Instant). acts_from (rules_of 1000000 (contents a)) (contents a) o (bits_of w) (bits_at w.history w.init t) t is w.states) h.last
-          ∙ ap (λ (x : List Bool). acts_from (rules_of 1000000 (contents a)) (contents a) old.last x (bits_at w.history w.init t) t is w.states) h.bits
-          ∙ ap (λ (x : List Bool). acts_from (rules_of 1000000 (contents a)) (contents a) old.last old.bits x t is w.states) now_is
+      acts_are = ap (λ (m : Moment). defined_acts old.«module».now m old.design.instances.items w.states) (moment_is old t w comes h b bits values)
 
       changes_are : map showing_of p.frame.changes ≡ changes_by (values_before (design_text old.«module».now old.design) w) (signal_values (map signal_text old.design.signals.items) (bits_at w.history w.init t))
       changes_are =
@@ -200,7 +208,7 @@ module _ (old : Machine) (t : Instant) (p : Plan) (kept : IsKept old) (comes : C
       outcomes_are : p.frame.outcomes ≡ outcomes_of 0 (acts_in (simulation_of old false) w t)
       outcomes_are =
           plan.outcomes
-          ∙ outcomes_same old.«module».now (length old.design.init) old.design.instances.items old.states.items w.states old.last old.bits (bits_then old.queue.held t old.bits) t p.acts.items p.runaway known (plan.ran w.states h.states)
+          ∙ outcomes_same old.«module».now (length old.design.init) old.design.instances.items old.states.items w.states moment known p.acts.items p.runaway (plan.ran w.states h.states)
           ∙ ap (outcomes_of 0) (sym acts_are)
 
       same_picture : (t u : Instant) (xs ys : List Showing) (os zs : List Outcome) → t ≡ u → xs ≡ ys → os ≡ zs →
@@ -213,7 +221,7 @@ module _ (old : Machine) (t : Instant) (p : Plan) (kept : IsKept old) (comes : C
       ends_it : least_runaway 0 (acts_in (simulation_of old false) w t) ≡ p.runaway
       ends_it =
           ap (least_runaway 0) acts_are
-          ∙ runaway_same old.«module».now (length old.design.init) old.design.instances.items old.states.items w.states old.last old.bits (bits_then old.queue.held t old.bits) t p.acts.items p.runaway known (plan.ran w.states h.states)
+          ∙ runaway_same old.«module».now (length old.design.init) old.design.instances.items old.states.items w.states moment known p.acts.items p.runaway (plan.ran w.states h.states)
 
       ran_all : p.runaway ≡ None → AllRan old.«module».now (bits_then old.queue.held t old.bits) t old.design.instances.items w.states (awake_in (looked_at old t) t) p.acts.items None
       ran_all r = subst (λ (o : Option ℕ). AllRan old.«module».now (bits_then old.queue.held t old.bits) t old.design.instances.items w.states (awake_in (looked_at old t) t) p.acts.items o) r (plan.ran w.states h.states)
@@ -223,7 +231,7 @@ module _ (old : Machine) (t : Instant) (p : Plan) (kept : IsKept old) (comes : C
           histories_join w.history (made_by t 0 (acts_in (simulation_of old false) w t))
           ∙ ap (λ (cs : List Claim). claims w.history ++ cs)
           (ap (λ (xs : List Act). claims (made_by t 0 xs)) acts_are
-          ∙ claims_ran old.«module».now (length old.design.init) old.design.instances.items old.states.items w.states old.last old.bits (bits_then old.queue.held t old.bits) t p.acts.items known (ran_all r)
+          ∙ claims_ran old.«module».now (length old.design.init) old.design.instances.items old.states.items w.states moment known p.acts.items (ran_all r)
           ∙ sym (entries_same t p.acts.items))
 
       stands_after : (new : Machine) (l : List Bool) (q : List Held) (n : Noted) → new ≡ record old { bits = b; looked = l; last = Some t; states = new.states; queue = new.queue; noted = new.noted } →
@@ -238,8 +246,8 @@ module _ (old : Machine) (t : Instant) (p : Plan) (kept : IsKept old) (comes : C
           each_wish (λ (v : Wish). IsAfter (Some t) v.due) a (length old.design.init) t is p.acts.items (λ i d x y z. z) sound in
           let more : HoldsFor new.queue.held (claims w.history ++ entries_put (wishes_ran t p.acts.items)) (Some t) =
           put_holds q (wishes_ran t p.acts.items) new.queue.held (claims w.history) (Some t) put held later in
-          let stand : StatesStand a is (states_after old.states.items p.acts.items) (afters (acts_by a old.last old.bits (bits_then old.queue.held t old.bits) t is w.states)) =
-          afters_stand a (length old.design.init) is old.states.items w.states old.last old.bits (bits_then old.queue.held t old.bits) t p.acts.items known (ran_all r) in
+          let stand : StatesStand a is (states_after old.states.items p.acts.items) (afters (defined_acts a moment is w.states)) =
+          afters_stand a (length old.design.init) is old.states.items w.states moment known p.acts.items (ran_all r) in
           let f : StandsFor (simulation_of m false) (world_then (simulation_of old false) w t) = record {
             goes_on = refl;
             init = h.init;

@@ -22,7 +22,7 @@ use Rattle.lh_kernel.specs.declared.run.Activation.{Activation}
 use Rattle.lh_kernel.specs.Moves.{AreMoves, SensesFit}
 use Rattle.lh_kernel.proofs.Exact.{senses_fit}
 use Rattle.lh_kernel.specs.Ran.{AllRan, ActOfOne}
-use Rattle.lh_kernel.specs.Phases.{HasLooked, awake_in, RisesWithin}
+use Rattle.lh_kernel.specs.Phases.{HasLooked, moment_in, awake_in, RisesWithin}
 use Rattle.lh_kernel.proofs.Awake.{awake_rises, awake_known}
 use Rattle.lh_kernel.specs.declared.machine.Machine.{Machine}
 
@@ -46,11 +46,11 @@ length_fit a width (i ∷ is) (s ∷ ss) f = ap suc (length_fit a width is ss f.
 
 -- in the first frame all wake
 pub all_awake : (x : Machine) (t : Instant) (touched ks all : List ℕ) → HasLooked x t touched → x.last ≡ None → ks ≡ all →
-    ((a : Arena) (old now : List Bool) (u : Instant) (ss : List InstState) → length ss ≡ length x.design.instances.items → all ≡ awake_from 0 a None old now u x.design.instances.items ss) →
+    ((a : Arena) (now : List Bool) (u : Instant) (ss : List InstState) → length ss ≡ length x.design.instances.items → all ≡ awake_from 0 a (record { before = None; now = now; at = u }) x.design.instances.items ss) →
     ks ≡ awake_in x t
 all_awake x t touched ks all h e v f =
-    v ∙ f x.«module».now x.bits x.looked t x.states.items (length_fit x.«module».now (length x.looked) x.design.instances.items x.states.items (looked_fit x t touched h))
-    ∙ ap (λ (o : Option Instant). awake_from 0 x.«module».now o x.bits x.looked t x.design.instances.items x.states.items) (sym e)
+    v ∙ f x.«module».now x.looked t x.states.items (length_fit x.«module».now (length x.looked) x.design.instances.items x.states.items (looked_fit x t touched h))
+    ∙ ap (λ (o : Option Instant). awake_in (record x { last = o }) t) (sym e)
 
 pub are_asleep : (x : Machine) (t : Instant) (touched : List ℕ) (ss : List InstState) (ps : List (List Range)) → HasLooked x t touched → ss ≡ x.states.items → ps ≡ x.probes.items →
     AreAsleep x.«module».now x.design ss ps x.noted t
@@ -61,18 +61,18 @@ are_asleep x t touched ss ps h e f =
 
 -- in a later frame those that are found wake
 pub some_awake : (x : Machine) (t l : Instant) (touched ks woken : List ℕ) (ss : List InstState) (ps : List (List Range)) → HasLooked x t touched → x.last ≡ Some l → ks ≡ woken → ss ≡ x.states.items → ps ≡ x.probes.items →
-    ((a : Arena) (last : Instant) → AreAsleep a x.design ss ps x.noted t → woken ≡ awake_from 0 a (Some last) x.bits x.looked t x.design.instances.items ss) →
+    ((a : Arena) → AreAsleep a x.design ss ps x.noted t → woken ≡ awake_from 0 a (record { before = Some x.bits; now = x.looked; at = t }) x.design.instances.items ss) →
     ks ≡ awake_in x t
 some_awake x t l touched ks woken ss ps h e v p q f =
-    v ∙ f x.«module».now l (are_asleep x t touched ss ps h p q)
-    ∙ ap (λ (zs : List InstState). awake_from 0 x.«module».now (Some l) x.bits x.looked t x.design.instances.items zs) p
-    ∙ ap (λ (o : Option Instant). awake_from 0 x.«module».now o x.bits x.looked t x.design.instances.items x.states.items) (sym e)
+    v ∙ f x.«module».now (are_asleep x t touched ss ps h p q)
+    ∙ ap (awake_from 0 x.«module».now (record { before = Some x.bits; now = x.looked; at = t }) x.design.instances.items) p
+    ∙ ap (λ (o : Option Instant). awake_in (record x { last = o }) t) (sym e)
 
 pub rises_awake : (x : Machine) (t : Instant) (ks : List ℕ) → ks ≡ awake_in x t → IsRising ks
-rises_awake x t ks e = subst IsRising (sym e) (awake_rises x.«module».now x.last x.bits x.looked t x.design.instances.items x.states.items 0)
+rises_awake x t ks e = subst IsRising (sym e) (awake_rises x.«module».now (moment_in x t) x.design.instances.items x.states.items 0)
 
 pub known_awake : (x : Machine) (t : Instant) (ks : List ℕ) → ks ≡ awake_in x t → (k : ℕ) → Has k ks → k < length x.design.instances.items
-known_awake x t ks e k h = omega (arith, awake_known x.«module».now x.last x.bits x.looked t x.design.instances.items x.states.items 0 k (subst (Has k) e h))
+known_awake x t ks e k h = omega (arith, awake_known x.«module».now (moment_in x t) x.design.instances.items x.states.items 0 k (subst (Has k) e h))
 
 pub ran_by : (a : Arena) (now : List Bool) (t : Instant) (is : List Instance) (ss zs : List InstState) (ks js : List ℕ) (r : Result Ran NoMemory) → zs ≡ ss → js ≡ ks →
     ((ps : List State) → StatesStand a is zs ps → IfOk r (λ (x : Ran). AllRan a now t is ps js x.acts.items x.runaway)) → (ps : List State) → StatesStand a is ss ps → IfOk r (λ (x : Ran). AllRan a now t is ps ks x.acts.items x.runaway)

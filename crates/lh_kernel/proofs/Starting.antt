@@ -27,13 +27,13 @@ use Rattle.lh_elab.specs.Answer.{InstanceIs}
 use Rattle.lh_elab.specs.Probed.{probed_by, AreProbes}
 use Rattle.lh_states.specs.declared.state.InstState.{InstState}
 use Rattle.lh_states.specs.States.{StateIs, StateFits, parts_sensed, wake_kept}
-use Rattle.lh_states.proofs.Standing.{senses-within, wakes-alike, unit-is_named}
+use Rattle.lh_states.proofs.Standing.{senses-within, wakes-alike}
 use Rattle.lh_kernel.specs.States.{StatesStand, StatesFit, SensesSignal, WakesItself}
 use Rattle.lh_kernel.specs.Noted.{IsNotedFor, SensedWithin}
 use Rattle.lh_kernel.specs.Noting.{HasNoted}
 use Rattle.lh_kernel.specs.Kept.{WakesAfter}
 use Rattle.lh_kernel.specs.declared.noted.Noted.{Noted}
-use Rattle.lh_kernel.proofs.Awake.{named}
+use Rattle.lh_kernel.proofs.Acts.{is-named}
 use Rattle.lh_kernel.proofs.Places.{are_within, probed_at}
 use Rattle.lh_kernel.proofs.Exact.{map_back}
 
@@ -76,7 +76,7 @@ pub started_more : (a : Arena) (width : ℕ) (is : List Instance) (k : ℕ) (i :
     StateIs a i s (start (unit_text_at a i.unit.0) (instance_text a i)) → StateFits a width i s → Started a width (take k is) ss → Started a width (take (k + 1) is) new
 started_more a width is k i ss new s m is_are l e n stands fits h =
     let t : take (k + 1) is ≡ take k is ++ i ∷ [] = take_more is k i l ∙ ap (λ (j : Instance). take k is ++ j ∷ []) (sym e) in
-    let u = named a width i m unit-is_named (Each-item (InstanceIs a width) is k i is_are l e) in
+    let u = is-named a width i m (Each-item (InstanceIs a width) is k i is_are l e) in
     let Q : UnitText → Type 0 = λ v. StateIs a i s (start v (instance_text a i)) in
     let g : Started a width (take k is ++ i ∷ []) (ss ++ s ∷ []) = record {
       stand = stand_push a (take k is) ss i s h.stand (subst Q (sym u) stands);

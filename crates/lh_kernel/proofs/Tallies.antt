@@ -10,7 +10,7 @@ use Rattle.lh_kernel.specs.Kept.{IsKept}
 use Rattle.lh_kernel.specs.Simulation.{StandsFor, simulation_of}
 use Rattle.lh_kernel.specs.Phases.{ComesNext, awake_in, looked_at, woken_in, RisesWithin}
 use Rattle.lh_kernel.specs.declared.machine.Machine.{Machine}
-use Rattle.lh_kernel.proofs.Framing.{woken_are}
+use Rattle.lh_kernel.proofs.Framing.{awake_are_woken}
 
 raised_none : (n : ℕ) → n ≡ raised n 0
 raised_none n = omega arith
@@ -21,8 +21,8 @@ rises_none ks old new e = (0, omega arith, e ∙ raised_none old)
 
 pub rises_woken : (x : Machine) (t : Instant) (b : List Bool) (old new : ℕ) → IsKept x → ComesNext x t → b ≡ bits_then x.queue.held t x.bits → AreBitsAt x.queue.held x.bits t b → RisesWithin (awake_in (looked_at x t) t) old new →
     (w : World) → StandsFor (simulation_of x false) w → RisesWithin (woken_in x w t) old new
-rises_woken x t b old new k c e v r w h = subst (λ (ks : List ℕ). RisesWithin ks old new) (woken_are x t b k c e v w h) r
+rises_woken x t b old new k c e v r w h = subst (λ (ks : List ℕ). RisesWithin ks old new) (awake_are_woken x t b k c e v w h) r
 
 pub tally_woken : (x : Machine) (t : Instant) (b : List Bool) (r : Option ℕ) (old new : ℕ) → IsKept x → ComesNext x t → b ≡ bits_then x.queue.held t x.bits → AreBitsAt x.queue.held x.bits t b →
     new ≡ raised old (activated_count r (awake_in (looked_at x t) t)) → (w : World) → StandsFor (simulation_of x false) w → new ≡ raised old (activated_count r (woken_in x w t))
-tally_woken x t b r old new k c e v h w s = subst (λ (ks : List ℕ). new ≡ raised old (activated_count r ks)) (woken_are x t b k c e v w s) h
+tally_woken x t b r old new k c e v h w s = subst (λ (ks : List ℕ). new ≡ raised old (activated_count r ks)) (awake_are_woken x t b k c e v w s) h

@@ -10,7 +10,7 @@ use Rattle.lh_time.specs.declared.Instant.{Instant}
 use Rattle.lh_time.proofs.OrderLemmas.{instant_cmp_total}
 use Rattle.lh_types.specs.declared.part.Range.{Range}
 use Rattle.lh_unit.specs.Arena.{Arena}
-use Rattle.lh_unit.specs.World.{bit_numbers, bit_differs, is_at}
+use Rattle.lh_unit.specs.World.{bit_numbers, bit_differs, is_at, Moment}
 use Rattle.lh_unit.specs.Within.{Each}
 use Rattle.lh_unit.proofs.Lists.{Each-get}
 use Rattle.lh_eval.specs.declared.instance.Instance.{Instance}
@@ -40,10 +40,10 @@ range_push k (suc n) =
     let q : k + 1 + n ≡ k + suc n = omega arith in
     ap (λ (m : ℕ). range_with_len k m) p ∙ ap (λ (xs : List ℕ). k ∷ xs) (range_push (k + 1) n) ∙ ap (λ (j : ℕ). k ∷ (range_with_len (k + 1) n ++ j ∷ [])) q
 
-pub awake_all : (a : Arena) (old now : List Bool) (t : Instant) (is : List Instance) (ss : List InstState) (k : ℕ) → length ss ≡ length is → range_with_len k (length is) ≡ awake_from k a None old now t is ss
-awake_all a old now t [] ss k e = refl
-awake_all a old now t (i ∷ is) [] k e = absurd (omega (arith, e))
-awake_all a old now t (i ∷ is) (s ∷ ss) k e = ap (λ (xs : List ℕ). k ∷ xs) (awake_all a old now t is ss (k + 1) (omega (arith, e)))
+pub awake_all : (a : Arena) (now : List Bool) (t : Instant) (is : List Instance) (ss : List InstState) (k : ℕ) → length ss ≡ length is → range_with_len k (length is) ≡ awake_from k a (record { before = None; now = now; at = t }) is ss
+awake_all a now t [] ss k e = refl
+awake_all a now t (i ∷ is) [] k e = absurd (omega (arith, e))
+awake_all a now t (i ∷ is) (s ∷ ss) k e = ap (λ (xs : List ℕ). k ∷ xs) (awake_all a now t is ss (k + 1) (omega (arith, e)))
 
 -- the numbers of a list, put one by one
 abbrev pub HasFirst : (items : List ℕ) → ℕ → List ℕ → Type 0
@@ -209,8 +209,12 @@ at_some t None e = absurd (false_true e)
 at_some t (Some u) e = ap (λ (x : Instant). Some x) (sym (at_one t u e))
 
 -- exactly those that wake
-module _ (a : Arena) (d : Design) (states : List InstState) (probes : List (List Range)) (n : Noted) (t last : Instant) (old now : List Bool) (touched due woken : List ℕ) (asleep : AreAsleep a d states probes n t) where
-  by_due : (k : ℕ) → IsNoted n.wakes t k → AwakeAt a (Some last) old now t d.instances.items states k
+module _ (a : Arena) (d : Design) (states : List InstState) (probes : List (List Range)) (n : Noted) (t : Instant) (old now : List Bool) (touched due woken : List ℕ) (asleep : AreAsleep a d states probes n t) where
+  -- the moment of a later frame
+  abbrev later : Moment
+  later = record { before = Some old; now = now; at = t }
+
+  by_due : (k : ℕ) → IsNoted n.wakes t k → AwakeAt a later d.instances.items states k
   by_due k h =
       let w = (asleep.noted.wakes t k).0 h in
       let i = instance_at a (length d.init) d.instances.items states k w.state asleep.fit w.stands in
@@ -224,7 +228,7 @@ module _ (a : Arena) (d : Design) (states : List InstState) (probes : List (List
             ∙ or_right (list_any (bit_differs old now) (bit_numbers (parts_sensed w.state (probed_by a i.0))));
       }
 
-  by_bits : (k : ℕ) → IsRoused states probes old now k → AwakeAt a (Some last) old now t d.instances.items states k
+  by_bits : (k : ℕ) → IsRoused states probes old now k → AwakeAt a later d.instances.items states k
   by_bits k r =
       let i = instance_at a (length d.init) d.instances.items states k r.state asleep.fit r.is_kept in
       let e : r.probed ≡ probed_by a i.0 = as_probed a d.instances.items probes k i.0 r.probed asleep.probed i.1 r.is_probed in
@@ -264,27 +268,27 @@ module _ (a : Arena) (d : Design) (states : List InstState) (probes : List (List
       ]
 
   pub woken_are : ((k : ℕ) → Has k due ↔ IsNoted n.wakes t k) → OthersStay d.signals.items touched old now → WokenTo d.signals.items states probes n old now touched (length touched) due woken → IsRising woken →
-      woken ≡ awake_from 0 a (Some last) old now t d.instances.items states
-  woken_are times others w rising = rising_same woken (awake_from 0 a (Some last) old now t d.instances.items states) rising (awake_rises a (Some last) old now t d.instances.items states 0) (λ k. (there k, back k))
+      woken ≡ awake_from 0 a later d.instances.items states
+  woken_are times others w rising = rising_same woken (awake_from 0 a later d.instances.items states) rising (awake_rises a later d.instances.items states 0) (λ k. (there k, back k))
     where
-      first : (k : ℕ) → AwakeAt a (Some last) old now t d.instances.items states k → Has k (awake_from 0 a (Some last) old now t d.instances.items states)
+      first : (k : ℕ) → AwakeAt a later d.instances.items states k → Has k (awake_from 0 a later d.instances.items states)
       first k g =
           let e : 0 + k ≡ k = omega arith in
-          let P : ℕ → Type 0 = λ j. Has j (awake_from 0 a (Some last) old now t d.instances.items states) in
-          subst P e (awake_has a (Some last) old now t d.instances.items states 0 k g)
+          let P : ℕ → Type 0 = λ j. Has j (awake_from 0 a later d.instances.items states) in
+          subst P e (awake_has a later d.instances.items states 0 k g)
 
-      there : (k : ℕ) → Has k woken → Has k (awake_from 0 a (Some last) old now t d.instances.items states)
+      there : (k : ℕ) → Has k woken → Has k (awake_from 0 a later d.instances.items states)
       there k h = elim (w.sound k h) [ inl g ↦ first k (by_due k ((times k).0 g)) | inr r ↦ first k (by_bits k r) ]
 
-      one : (k : ℕ) → AwakeAt a (Some last) old now t d.instances.items states k → Has k woken
+      one : (k : ℕ) → AwakeAt a later d.instances.items states k → Has k woken
       one k g = elim (or_cases (list_any (bit_differs old now) (bit_numbers (parts_sensed g.state (probed_by a g.instance)))) (option_map_or (is_at t) (wake_kept g.state) false) g.awakes) [
         | inl e ↦ roused_is k g.instance g.state g.is_one g.is_kept e others w
         | inr e ↦ w.keeps k ((times k).1 ((asleep.noted.wakes t k).1 (record { state = g.state; stands = g.is_kept; wakes = at_some t (wake_kept g.state) e })))
       ]
 
-      back : (k : ℕ) → Has k (awake_from 0 a (Some last) old now t d.instances.items states) → Has k woken
+      back : (k : ℕ) → Has k (awake_from 0 a later d.instances.items states) → Has k woken
       back k h =
-          let l = has_awake a (Some last) old now t d.instances.items states 0 k h in
+          let l = has_awake a later d.instances.items states 0 k h in
           let e : l.place ≡ k = omega (arith, l.number) in
           let P : ℕ → Type 0 = λ j. Has j woken in
           subst P e (one l.place l.awake)

@@ -8,7 +8,7 @@ use Rattle.lh_types.specs.Values.{Datum}
 use Rattle.lh_types.specs.Pictures.{picture, showing_of}
 use Rattle.lh_types.specs.History.{bits_at}
 use Rattle.lh_types.specs.declared.frame.Frame.{Frame}
-use Rattle.lh_unit.specs.World.{State, World}
+use Rattle.lh_unit.specs.World.{State, Moment, World}
 use Rattle.lh_unit.specs.Trace.{least_runaway}
 use Rattle.lh_unit.specs.Arena.{contents}
 use Rattle.lh_unit.specs.Frames.{woken_at, signal_values, changes_by}
@@ -44,9 +44,13 @@ pub record HasLooked (x : Machine) (t : Instant) (touched : List ℕ) : Type 0 w
   pub known : AreSignals x.design.signals.items touched
   pub others : OthersStay x.design.signals.items touched x.bits x.looked
 
+-- the moment of the frame at `t`, the bits at it being looked at
+abbrev pub moment_in : Machine → Instant → Moment
+moment_in x t = record { before = option_map (λ l. x.bits) x.last; now = x.looked; at = t }
+
 -- the instances that wake in the frame at `t`, by their numbers
 abbrev pub awake_in : Machine → Instant → List ℕ
-awake_in x t = awake_from 0 x.«module».now x.last x.bits x.looked t x.design.instances.items x.states.items
+awake_in x t = awake_from 0 x.«module».now (moment_in x t) x.design.instances.items x.states.items
 
 -- the instances that wake in the frame at `t` of a world
 abbrev pub woken_in : Machine → World → Instant → List ℕ

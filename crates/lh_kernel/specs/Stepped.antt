@@ -61,14 +61,14 @@ woken_next s w None = []
 woken_next s w (Some t) = woken_at (items_of s) (design_of s) w t
 
 -- how many activations and passes the step makes by its answer
-abbrev pub runs_of : SimStep → (woken : List ℕ) → ℕ
-runs_of (AFrame f) ks = length ks
-runs_of (Runaway f i) ks = activated_count (Some i) ks
-runs_of Quiet ks = 0
+abbrev pub runs_made : SimStep → (woken : List ℕ) → ℕ
+runs_made (AFrame f) ks = length ks
+runs_made (Runaway f i) ks = activated_count (Some i) ks
+runs_made Quiet ks = 0
 
 -- The tally rises by exactly the instances that are activated; where memory runs out by at most as many as are woken.
 abbrev pub Tallied : Simulation → World → Result SimStep NoMemory → (old new : ℕ) → Type 0
-Tallied s w (Ok step) old new = new ≡ raised old (runs_of step (woken_next s w (next_instant w)))
+Tallied s w (Ok step) old new = new ≡ raised old (runs_made step (woken_next s w (next_instant w)))
 Tallied s w (Err e) old new = (n : ℕ) × (n ≤ length (woken_next s w (next_instant w))) × (new ≡ raised old n)
 
 -- a signal of the design by its number

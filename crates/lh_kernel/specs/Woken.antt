@@ -1,12 +1,11 @@
 -- Which instances wake in a frame, by what is kept of them.
-use Rattle.std.specs.Prelude.{◌≡◌, ℕ, ◌+◌, ◌≤◌, ◌⊎◌, List, [], ◌∷◌, length, slice_get, Bool, true, false, ◌||◌, if◌then◌else◌, Option, Some, None}
-use Rattle.std.specs.Option.{option_map_or}
+use Rattle.std.specs.Prelude.{◌≡◌, ℕ, ◌+◌, ◌≤◌, ◌⊎◌, List, [], ◌∷◌, length, slice_get, Bool, true, if◌then◌else◌, Some}
 use Rattle.std.specs.List.{list_any}
 use Rattle.lh_time.specs.declared.Instant.{Instant}
 use Rattle.lh_time.specs.Order.{instant_le}
 use Rattle.lh_types.specs.declared.part.Range.{Range}
 use Rattle.lh_unit.specs.Arena.{Arena}
-use Rattle.lh_unit.specs.World.{bit_numbers, bit_differs, is_at}
+use Rattle.lh_unit.specs.World.{bit_numbers, bit_differs, Moment, wakes}
 use Rattle.lh_unit.specs.Within.{Each}
 use Rattle.lh_eval.specs.declared.instance.Instance.{Instance}
 use Rattle.lh_index.specs.Rising.{Has}
@@ -23,17 +22,15 @@ use Rattle.lh_kernel.specs.States.{StatesFit}
 use Rattle.lh_kernel.specs.Noted.{IsNotedFor}
 use Rattle.lh_kernel.specs.declared.noted.Noted.{Noted}
 
--- it wakes at `t`: in the first frame always, in a later one where a bit that it senses differs or its wake time has come
-abbrev pub awakes : Arena → (last : Option Instant) → (old now : List Bool) → Instant → Instance → InstState → Bool
-awakes a None old now t i s = true
-awakes a (Some last) old now t i s = list_any (bit_differs old now) (bit_numbers (parts_sensed s (probed_by a i))) || option_map_or (is_at t) (wake_kept s) false
+-- an instance wakes, by what is kept of it
+abbrev pub awakes : Arena → Moment → Instance → InstState → Bool
+awakes a m i s = wakes m (parts_sensed s (probed_by a i)) (wake_kept s)
 
 -- the numbers of the instances that wake, the first of these having this number
-abbrev pub awake_from : ℕ → Arena → (last : Option Instant) → (old now : List Bool) → Instant → List Instance → List InstState → List ℕ
-awake_from k a last old now t [] ss = []
-awake_from k a last old now t (i ∷ is) [] = []
-awake_from k a last old now t (i ∷ is) (s ∷ ss) =
-    if awakes a last old now t i s then k ∷ awake_from (k + 1) a last old now t is ss else awake_from (k + 1) a last old now t is ss
+abbrev pub awake_from : ℕ → Arena → Moment → List Instance → List InstState → List ℕ
+awake_from k a m [] ss = []
+awake_from k a m (i ∷ is) [] = []
+awake_from k a m (i ∷ is) (s ∷ ss) = if awakes a m i s then k ∷ awake_from (k + 1) a m is ss else awake_from (k + 1) a m is ss
 
 -- What is kept of the instances of a design fits them and is noted exactly, what entities probe lies within the signals, and none wakes by itself before `t`.
 pub record AreAsleep (a : Arena) (d : Design) (states : List InstState) (probes : List (List Range)) (n : Noted) (t : Instant) : Type 0 where

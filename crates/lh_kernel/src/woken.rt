@@ -31,7 +31,7 @@ pub(crate) struct Asleep<'s> {
 pub(crate) fn all_of(alloc: Global, design: &Design) -> Result<Vec<u32>, NoMemory>
     requires { length design.now.instances.items ≤ 65536 }
     ensures { IfOk result
-        (λ ks. (a : Arena) (old now : List Bool) (t : Instant) (states : List InstState) → length states ≡ length design.now.instances.items → ks.items ≡ awake_from 0 a None old now t design.now.instances.items states) }
+        (λ ks. (a : Arena) (now : List Bool) (t : Instant) (states : List InstState) → length states ≡ length design.now.instances.items → ks.items ≡ awake_from 0 a (record { before = None; now = now; at = t }) design.now.instances.items states) }
 {
     let mut all = Vec::new(alloc);
     for number in 0..design.instances().len() {
@@ -57,7 +57,7 @@ impl Asleep<'_> {
         requires known { AreSignals self.now.design.now.signals.items touched.now }
         requires others { OthersStay self.now.design.now.signals.items touched.now old.now now.now }
         ensures { IfOk result
-            (λ ks. (a : Arena) (last : Instant) → AreAsleep a self.now.design.now self.now.states.now self.now.probes.now self.now.noted.now at → ks ≡ awake_from 0 a (Some last) old.now now.now at self.now.design.now.instances.items self.now.states.now) }
+            (λ ks. (a : Arena) → AreAsleep a self.now.design.now self.now.states.now self.now.probes.now self.now.noted.now at → ks ≡ awake_from 0 a (record { before = Some old.now; now = now.now; at = at }) self.now.design.now.instances.items self.now.states.now) }
     {
         let mut woken = self.due(alloc, at)?;
         for &signal in touched.as_slice() {

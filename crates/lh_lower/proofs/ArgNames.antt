@@ -1,5 +1,5 @@
 -- The names of the arguments of a unit, one after another.
-use Rattle.std.proofs.Common.{◌≡◌, ℕ, zero, suc, ◌+◌, ◌<◌, List, [], ◌∷◌, ◌++◌, length, map, take, get_or, refl, ap, sym, ◌∙◌, subst, arith, add-one}
+use Rattle.std.proofs.Common.{◌≡◌, ℕ, ◌+◌, ◌<◌, List, [], ◌∷◌, ◌++◌, length, map, take, get_or, refl, ap, sym, ◌∙◌, subst, add-one}
 use Rattle.std.proofs.Math.Seq.{take-suc}
 use Rattle.std.proofs.lemmas.List.{map-append}
 use Rattle.lh_unit.specs.declared.inst.Arg.{Arg}
@@ -8,15 +8,11 @@ use Rattle.lh_unit.specs.Contents.{ArgText}
 use Rattle.lh_unit.specs.Naming.{arg_text}
 use Rattle.lh_unit.specs.Table.{ArgsWithin}
 use Rattle.lh_lower.proofs.Taking.{take-all}
+use Rattle.lh_copy.proofs.Rests.{arg-within as item-within}
 
 -- the names of the first i arguments
 abbrev pub names_to : Arena → (u : ℕ) → List Arg → (i : ℕ) → List (List ℕ)
 names_to a u xs i = map (λ (x : Arg). value_name_at a u x.value.0) (take i xs)
-
-item-within : (n : ℕ) (xs : List Arg) (i : ℕ) (x : Arg) → ArgsWithin n xs → i < length xs → x ≡ get_or xs i x → x.value.0 < n
-item-within n [] i x w h e = absurd (omega arith)
-item-within n (y ∷ xs) zero x w h e = subst (λ (z : Arg). z.value.0 < n) (sym e) w.0
-item-within n (y ∷ xs) (suc i) x w h e = item-within n xs i x w.1 (omega arith) e
 
 pub arg-within : (a : Arena) (u : ℕ) (xs : List Arg) (i : ℕ) (x : Arg) → IsArena a → u < unit_count a → xs ≡ args_at a u → i < length xs → x ≡ get_or xs i x → x.value.0 < value_count a u
 arg-within a u xs i x o h e l q = item-within (value_count a u) xs i x (subst (ArgsWithin (value_count a u)) (sym e) (o.tables u h).args_within) l q

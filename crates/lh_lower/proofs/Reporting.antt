@@ -1,12 +1,11 @@
 -- The text of a report, row by row.
-use Rattle.std.proofs.Common.{◌≡◌, ℕ, ◌+◌, ◌<◌, List, [], ◌∷◌, ◌++◌, length, map, take, get_or, Some, ap, sym, ◌∙◌, add-one}
+use Rattle.std.proofs.Common.{◌≡◌, ℕ, ◌+◌, ◌<◌, List, [], ◌∷◌, ◌++◌, length, map, take, get_or, ap, sym, ◌∙◌, add-one}
 use Rattle.std.proofs.Math.Seq.{take-suc}
 use Rattle.std.proofs.lemmas.List.{map-append, append-nil}
-use Rattle.std.proofs.lemmas.Option.{slice_get-get_or}
 use Rattle.std.proofs.lemmas.Grind.{flat_map-append}
 use Rattle.lh_unit.specs.Arena.{Arena}
 use Rattle.lh_unit.specs.Within.{Each}
-use Rattle.lh_flat.proofs.Lists.{Each-get}
+use Rattle.lh_unit.proofs.Lists.{Each-item}
 use Rattle.lh_lowered.specs.Report.{RowText, row_line, report_text}
 use Rattle.lh_lower.specs.Lowers.{row_text}
 use Rattle.lh_lower.specs.declared.lowering.ReportRow.{ReportRow}
@@ -27,4 +26,4 @@ pub text-all : (a : Arena) (rows : List ReportRow) (i : ℕ) → i ≡ length ro
 text-all a rows i e = ap (λ (n : ℕ). report_text (map (row_text a) (take n rows))) e ∙ ap (λ (xs : List ReportRow). report_text (map (row_text a) xs)) (take-all rows)
 
 pub row-within : (n : ℕ) (rows : List ReportRow) (i : ℕ) (r : ReportRow) → i < length rows → r ≡ get_or rows i r → Each (λ (x : ReportRow). x.unit.0 < n) rows → r.unit.0 < n
-row-within n rows i r h e w = Each-get (λ (x : ReportRow). x.unit.0 < n) rows i r (slice_get-get_or rows i r h ∙ ap Some (sym e)) w
+row-within n rows i r h e w = Each-item (λ (x : ReportRow). x.unit.0 < n) rows i r w h e

@@ -10,7 +10,7 @@ use Rattle.lh_unit.specs.Held.{Env}
 use Rattle.lh_unit.specs.Activation.{activate}
 use Rattle.lh_unit.specs.Hierarchy.{Instance}
 use Rattle.lh_unit.specs.Pass.{pass}
-use Rattle.lh_unit.specs.World.{State, of_process, of_entity, start_by, Act, act, act_if_woken, runs, bit_numbers, bit_at, bit_differs, Rules}
+use Rattle.lh_unit.specs.World.{State, of_process, of_entity, start_by, Act, runs, if_woken, act, bit_numbers, bit_at, bit_differs, Rules}
 use Rattle.lh_meaning.specs.Replacing.{answer_of}
 use Rattle.lh_meaning.proofs.BitSets.{has, SameSet, IsWithin, bits_read, same_any, any_within, any_agree, read_agree, none_of, not_differ}
 use Rattle.lh_meaning.proofs.Standing.{scene, fresh, waiting_at, EndsAt, sensed, EdgeFor}
@@ -81,7 +81,7 @@ module _ (r : Rules) (x y : UnitText) (i : Instance) (c : EdgeFor r x y i) where
     no_trigger ks w e = not_within (list_any (bit_differs old now) c.triggers) (list_any (bit_differs old now) ks) (any_within (bit_differs old now) c.triggers ks w) e
 
     process_does : (block : List ℕ) (e : Env) (parts : List Range) → c.stands past block e → SameSet (bit_numbers parts) c.on → (w : Bool) → list_any (bit_differs old now) c.on ≡ w
-        → Does (λ a. (p : List Bool) × Waits p now a) (act_if_woken w r now t x i (of_process (waiting_at block c.to parts e))) (wish_at past now t)
+        → Does (λ a. (p : List Bool) × Waits p now a) (if_woken w (runs r now t x i (of_process (waiting_at block c.to parts e))) (of_process (waiting_at block c.to parts e))) (wish_at past now t)
     process_does block e parts k h true f =
         let d : EndsAt (c.stands now) c.to c.on (c.rows past now t) (activate r.bound (scene r now t) x (waiting_at block c.to parts e)) = c.later past now t block e parts k in
         rw d.is (record {
@@ -94,7 +94,7 @@ module _ (r : Rules) (x y : UnitText) (i : Instance) (c : EdgeFor r x y i) where
     }
 
     entity_does : (memory : List Bool) → c.remembers (bits_read old c.triggers) memory → (w : Bool) → list_any (bit_differs old now) (sensed y i) ≡ w
-        → Does (Remembers now) (act_if_woken w r now t y i (of_entity (Some memory))) (wish_at past now t)
+        → Does (Remembers now) (if_woken w (runs r now t y i (of_entity (Some memory))) (of_entity (Some memory))) (wish_at past now t)
     entity_does memory m true f = record {
       answer = ap (λ w. record { wish = w; outcomes = []; ran_away = false; wake = None })
           (pass_is past now memory t (subst (λ bits. c.remembers bits memory) memory_same m) (list_any (bit_differs past now) c.triggers) refl);
@@ -109,9 +109,9 @@ module _ (r : Rules) (x y : UnitText) (i : Instance) (c : EdgeFor r x y i) where
       };
     }
 
-  abbrev EdgeRelated : Option Instant → List Bool → State → State → Type 0
-  EdgeRelated None old a b = (a ≡ of_process (fresh x i)) × (b ≡ of_entity None)
-  EdgeRelated (Some t) old a b = Both old a b
+  abbrev EdgeRelated : (before : Option (List Bool)) → State → State → Type 0
+  EdgeRelated None a b = (a ≡ of_process (fresh x i)) × (b ≡ of_entity None)
+  EdgeRelated (Some old) a b = Both old a b
 
   joined : (now : List Bool) (a b : Act) (wish : Wish) → Does (λ s. (p : List Bool) × Waits p now s) a wish → Does (Remembers now) b wish → Matches (Both now) a b
   joined now a b wish f g = record {
@@ -131,9 +131,10 @@ module _ (r : Rules) (x y : UnitText) (i : Instance) (c : EdgeFor r x y i) where
         };
       })
 
-  edge_keeps : (last : Option Instant) (old now : List Bool) (t : Instant) (a b : State) → EdgeRelated last old a b → Matches (Both now) (act r last old now t x i a) (act r last old now t y i b)
-  edge_keeps None old now t a b h = rw (h.0, h.1) (first_frame now t)
-  edge_keeps (Some l) old now t a b h =
+  edge_keeps : (before : Option (List Bool)) (now : List Bool) (t : Instant) (a b : State) → EdgeRelated before a b
+      → Matches (Both now) (act r (record { before = before; now = now; at = t }) x i a) (act r (record { before = before; now = now; at = t }) y i b)
+  edge_keeps None now t a b h = rw (h.0, h.1) (first_frame now t)
+  edge_keeps (Some old) now t a b h =
       rw (h.process.is, h.entity.is_so, or-false (list_any (bit_differs old now) (bit_numbers h.process.parts)), or-false (list_any (bit_differs old now) (sensed y i)), same_any (bit_differs old now) (bit_numbers h.process.parts) c.on h.process.same_parts)
       (joined now _ _ (wish_at h.past now t)
       (process_does h.past old now t h.process.same_bits h.process.block h.process.held h.process.parts h.process.stands h.process.same_parts (list_any (bit_differs old now) c.on) refl)
@@ -143,5 +144,5 @@ module _ (r : Rules) (x y : UnitText) (i : Instance) (c : EdgeFor r x y i) where
   edge_simulation = record {
     R = EdgeRelated;
     start_of = (ap (λ k. start_by k x i) c.is_process, ap (λ k. start_by k y i) c.is_entity);
-    keeps = edge_keeps;
+    keeps = λ m a b h. edge_keeps m.before m.now m.at a b h;
   }

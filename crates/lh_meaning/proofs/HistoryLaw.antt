@@ -4,11 +4,11 @@ use Rattle.std.specs.declared.cmp.Ordering.TheVariants.{Less, Equal}
 use Rattle.lh_time.specs.declared.Instant.{Instant}
 use Rattle.lh_time.specs.Order.{instant_lt, instant_le}
 use Rattle.lh_types.specs.Wish.{DueBit, due_bit_cmp, Wish}
-use Rattle.lh_types.specs.History.{Made, Claim, claims, claims_of, claim_cmp, IsAmong, bits_at}
+use Rattle.lh_types.specs.History.{Made, Claim, claims, claims_of, claim_cmp, IsAmong}
 use Rattle.lh_unit.specs.Contents.{ItemText}
 use Rattle.lh_unit.specs.Hierarchy.{Instance}
 use Rattle.lh_unit.specs.Design.{Design}
-use Rattle.lh_unit.specs.World.{State, Act, Rules, rules_of, unit_of, World, bits_of, acts_from, acts_at, kept, made_by, first_world, next_world, instant_after, next_instant, IsNext}
+use Rattle.lh_unit.specs.World.{State, Moment, Act, Rules, rules_of, unit_of, World, moment_of, acts_from, acts_at, kept, made_by, next_world, instant_after, next_instant, IsNext}
 use Rattle.lh_meaning.specs.Wishes.{IsBelow, IsInOrder, ActsInOrder, ReachedFrom, at_start, after_frame, IsMadeBy, HistoryIsSound, FirstHistoryIsSound, HistoryStaysSound}
 use Rattle.lh_history.specs.Claims.{MadeTogether}
 use Rattle.lh_history.proofs.Instants.{le_self}
@@ -26,7 +26,7 @@ in_order t = record { holds = IsInOrder; nothing = tt; more = λ w due bit b h a
 
 pub acts_in_order : ActsInOrder
 unfolding in_order
-acts_in_order r last old now t u i s = (act_keeps t (in_order t) r last old now u i s, act_late r last old now t u i s)
+acts_in_order r m u i s = (act_keeps r m (in_order m.at) u i s, act_late r m u i s)
 
 -- an entry of a wish
 abbrev IsEntry : Instant → ℕ → Bool → Wish → Type 0
@@ -98,10 +98,10 @@ abbrev AllInOrder : List Act → Type 0
 AllInOrder [] = Unit {0}
 AllInOrder (a ∷ more) = IsInOrder a.wish × AllInOrder more
 
-all_in_order : (r : Rules) (items : List ItemText) (last : Option Instant) (old now : List Bool) (t : Instant) (is : List Instance) (ss : List State) → AllInOrder (acts_from r items last old now t is ss)
-all_in_order r items last old now t [] ss = tt
-all_in_order r items last old now t (i ∷ is) [] = tt
-all_in_order r items last old now t (i ∷ is) (s ∷ ss) = ((acts_in_order r last old now t (unit_of items i.unit) i s).0, all_in_order r items last old now t is ss)
+all_in_order : (r : Rules) (items : List ItemText) (m : Moment) (is : List Instance) (ss : List State) → AllInOrder (acts_from r items m is ss)
+all_in_order r items m [] ss = tt
+all_in_order r items m (i ∷ is) [] = tt
+all_in_order r items m (i ∷ is) (s ∷ ss) = ((acts_in_order r m (unit_of items i.unit) i s).0, all_in_order r items m is ss)
 
 one_in_frame : (t : Instant) (k : ℕ) (done : List Act) (c d : Claim) → AllInOrder done → IsAmong c (claims (made_by t k done)) → IsAmong d (claims (made_by t k done))
     → c.bit ≡ d.bit → c.due ≡ d.due → c.instance ≡ d.instance → c.value ≡ d.value
@@ -164,7 +164,7 @@ module _ (bound : ℕ) (items : List ItemText) (d : Design) where
       at c e (inl x) (inr y) b l z = absurd (apart c e x y l.made)
       at c e (inr x) (inl y) b l z = absurd (apart e c y x (sym l.made))
       at c e (inr x) (inr y) b l z =
-          one_in_frame t 0 (acts_at bound items d w t) c e (all_in_order (rules_of bound items) items w.last (bits_of w) (bits_at w.history w.init t) t d.instances w.states) x y b l.due l.instance
+          one_in_frame t 0 (acts_at bound items d w t) c e (all_in_order (rules_of bound items) items (moment_of w t) d.instances w.states) x y b l.due l.instance
 
   reached_sound : (from w : World) → HistoryIsSound from → ReachedFrom bound items d from w → HistoryIsSound w
   reached_sound from _ s at_start = s

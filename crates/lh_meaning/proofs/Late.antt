@@ -1,5 +1,5 @@
 -- What an instance wishes at an instant is due later.
-use Rattle.std.proofs.Common.{◌≡◌, List, [], ◌∷◌, Bool, true, Option}
+use Rattle.std.proofs.Common.{◌≡◌, List, [], ◌∷◌, Bool, true}
 use Rattle.std.specs.declared.cmp.Ordering.{Ordering}
 use Rattle.std.specs.declared.cmp.Ordering.TheVariants.{Less, Equal, Greater}
 use Rattle.std.specs.Ordering.{match_ordering}
@@ -9,9 +9,9 @@ use Rattle.lh_time.specs.Order.{instant_lt}
 use Rattle.lh_types.specs.Wish.{DueBit, due_bit_cmp, Wish}
 use Rattle.lh_unit.specs.Contents.{UnitText}
 use Rattle.lh_unit.specs.Hierarchy.{Instance}
-use Rattle.lh_unit.specs.World.{State, act, Rules}
+use Rattle.lh_unit.specs.World.{State, Moment, runs, act, Rules}
 use Rattle.lh_meaning.specs.Wishes.{IsLate}
-use Rattle.lh_meaning.proofs.WishKept.{WishProperty, act_keeps}
+use Rattle.lh_meaning.proofs.WishKept.{WishProperty, runs_keeps, act_keeps}
 
 insert_late : (t : Instant) (k : DueBit) (v : Bool) → instant_lt t k.due ≡ true → (w : Wish) → IsLate t w → IsLate t (insert_entry due_bit_cmp w k v)
 insert_late t k v h [] a = (h, tt)
@@ -25,6 +25,10 @@ insert_late t k v h (e ∷ more) a = at (due_bit_cmp k e.0) (insert_late t k v h
 late : (t : Instant) → WishProperty t
 late t = record { holds = IsLate t; nothing = tt; more = λ w due bit b h a. insert_late t (record { due = due; bit = bit }) b h w a }
 
-pub act_late : (r : Rules) (last : Option Instant) (old now : List Bool) (t : Instant) (u : UnitText) (i : Instance) (state : State) → IsLate t (act r last old now t u i state).wish
+pub runs_late : (r : Rules) (now : List Bool) (t : Instant) (u : UnitText) (i : Instance) (state : State) → IsLate t (runs r now t u i state).wish
 unfolding late
-act_late r last old now t u i state = act_keeps t (late t) r last old now u i state
+runs_late r now t u i state = runs_keeps t (late t) r now u i state
+
+pub act_late : (r : Rules) (m : Moment) (u : UnitText) (i : Instance) (state : State) → IsLate m.at (act r m u i state).wish
+unfolding late
+act_late r m u i state = act_keeps r m (late m.at) u i state

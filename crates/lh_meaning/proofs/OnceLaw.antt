@@ -1,5 +1,5 @@
 -- An entity that gives in its one pass what a process gives before it halts may stand for it.
-use Rattle.std.proofs.Common.{◌≡◌, ℕ, List, [], Bool, true, false, ◌||◌, refl, ap, Option, Some, None}
+use Rattle.std.proofs.Common.{◌≡◌, ℕ, List, [], Bool, false, ◌||◌, refl, ap, Option, Some, None}
 use Rattle.std.specs.List.{list_any}
 use Rattle.lh_time.specs.declared.Instant.{Instant}
 use Rattle.lh_unit.specs.Contents.{UnitText}
@@ -19,22 +19,23 @@ module _ (r : Rules) (x y : UnitText) (i : Instance) (c : OnceFor r x y i) where
     process : a ≡ of_process (record { stand = halted; held = held })
     entity : b ≡ of_entity memory
 
-  abbrev OnceRelated : Option Instant → List Bool → State → State → Type 0
-  OnceRelated None old a b = (a ≡ of_process (fresh x i)) × (b ≡ of_entity None)
-  OnceRelated (Some t) old a b = HasRun a b
+  abbrev OnceRelated : (before : Option (List Bool)) → State → State → Type 0
+  OnceRelated None a b = (a ≡ of_process (fresh x i)) × (b ≡ of_entity None)
+  OnceRelated (Some old) a b = HasRun a b
 
   -- nothing wakes an entity that senses nothing
   never_woken : (test : ℕ → Bool) (ks : List ℕ) → ks ≡ [] → (list_any test ks || false) ≡ false
   never_woken test ks e = ap (λ k. list_any test k || false) e
 
-  once_keeps : (last : Option Instant) (old now : List Bool) (t : Instant) (a b : State) → OnceRelated last old a b → Matches HasRun (act r last old now t x i a) (act r last old now t y i b)
-  once_keeps None old now t a b h =
+  once_keeps : (before : Option (List Bool)) (now : List Bool) (t : Instant) (a b : State) → OnceRelated before a b
+      → Matches HasRun (act r (record { before = before; now = now; at = t }) x i a) (act r (record { before = before; now = now; at = t }) y i b)
+  once_keeps None now t a b h =
       let d = c.once now t in
       rw (h.0, h.1, d.is) (record {
         answer = refl;
         after = record { held = d.held; memory = Some (pass y i.args i.sigs now None t).seen; process = refl; entity = refl };
       })
-  once_keeps (Some l) old now t a b h =
+  once_keeps (Some old) now t a b h =
       rw (h.process, h.entity, never_woken (bit_differs old now) _ c.probes_nothing) (record {
         answer = refl;
         after = record { held = h.held; memory = h.memory; process = refl; entity = refl };
@@ -44,5 +45,5 @@ module _ (r : Rules) (x y : UnitText) (i : Instance) (c : OnceFor r x y i) where
   once_simulation = record {
     R = OnceRelated;
     start_of = (ap (λ k. start_by k x i) c.is_process, ap (λ k. start_by k y i) c.is_entity);
-    keeps = once_keeps;
+    keeps = λ m a b h. once_keeps m.before m.now m.at a b h;
   }

@@ -9,9 +9,9 @@ use Rattle.lh_unit.specs.Named.{is_function, unit_named}
 use Rattle.lh_unit.specs.Activation.{functions}
 use Rattle.lh_unit.specs.Hierarchy.{Instance, Hierarchy, hierarchy_by, hierarchy_of, hierarchies, hierarchy_named}
 use Rattle.lh_unit.specs.Design.{Elaborated, refused, built, hierarchy_or, hierarchy_in, elab_of}
-use Rattle.lh_unit.specs.World.{State, start_by, start, wake_of, Rules, rules_of, unit_of, starts, first_world}
+use Rattle.lh_unit.specs.World.{start_by, start, wake_of, Rules, rules_of, unit_of, starts, first_world}
 use Rattle.lh_unit.specs.Trace.{ran, shown_from, shown_signal, trace_by}
-use Rattle.lh_meaning.specs.Replacing.{Seen, answers, HasWidths, MayStand, AllStand, units_defined, Replaced, ReplacedSameTrace}
+use Rattle.lh_meaning.specs.Replacing.{HasWidths, MayStand, AllStand, units_defined, Replaced, ReplacedSameTrace}
 use Rattle.lh_meaning.proofs.Simulation.{Alike}
 use Rattle.lh_meaning.proofs.Worlds.{Related, same_run}
 use Rattle.lh_meaning.proofs.Widths.{AllWidths, BuiltWidths, elab_widths}
@@ -118,29 +118,24 @@ wake_by kind.Entity u i = refl
 wake_by kind.Proc u i = refl
 wake_by kind.Func u i = refl
 
--- before the first frame there are no earlier bits to look at
-any_bits : (r : Rules) (u : UnitText) (i : Instance) (old : List Bool) (s : State) (frames : List Seen) → answers r u i None old s frames ≡ answers r u i None [] s frames
-any_bits r u i old s [] = refl
-any_bits r u i old s (f ∷ more) = refl
-
-alike_start : (r : Rules) (x y : UnitText) (i : Instance) (old : List Bool) → HasWidths (hierarchy_of x) i → Stands r x y → Alike r x y i None old (start x i) (start y i)
-alike_start r x y i old w (inl e) = let P : UnitText → Type 0 = λ z. Alike r x z i None old (start x i) (start z i) in subst P e (record { wake = refl; shows = λ frames. refl })
-alike_start r x y i old w (inr s) = record {
+alike_start : (r : Rules) (x y : UnitText) (i : Instance) → HasWidths (hierarchy_of x) i → Stands r x y → Alike r x y i None (start x i) (start y i)
+alike_start r x y i w (inl e) = let P : UnitText → Type 0 = λ z. Alike r x z i None (start x i) (start z i) in subst P e (record { wake = refl; shows = λ frames. refl })
+alike_start r x y i w (inr s) = record {
   wake = wake_by x.kind x i ∙ sym (wake_by y.kind y i);
-  shows = λ frames. any_bits r x i old (start x i) frames ∙ s.alike i w frames ∙ sym (any_bits r y i old (start y i) frames);
+  shows = s.alike i w;
 }
 
-starts_related : (r : Rules) (m m' : List ItemText) → Replaced r m m' → (old : List Bool) (is : List Instance) → AllWidths (hierarchies m) is → Related r m m' None old is (starts m is) (starts m' is)
-starts_related r m m' h old [] w = refl
-starts_related r m m' h old (i ∷ more) w =
-    (alike_start r (unit_of m i.unit) (unit_of m' i.unit) i old (rw (hierarchy_of-unit i.unit m) w.0) (units_stand r i.unit m m' h), starts_related r m m' h old more w.1)
+starts_related : (r : Rules) (m m' : List ItemText) → Replaced r m m' → (is : List Instance) → AllWidths (hierarchies m) is → Related r m m' None is (starts m is) (starts m' is)
+starts_related r m m' h [] w = refl
+starts_related r m m' h (i ∷ more) w =
+    (alike_start r (unit_of m i.unit) (unit_of m' i.unit) i (rw (hierarchy_of-unit i.unit m) w.0) (units_stand r i.unit m m' h), starts_related r m m' h more w.1)
 
 same_trace_by : (bound : ℕ) (m m' : List ItemText) → Replaced (rules_of bound m) m m' → (n : ℕ) (e : Elaborated) → BuiltWidths (hierarchies m) e → trace_by bound m n e ≡ trace_by bound m' n e
 same_trace_by bound m m' h n (refused r) w = refl
 same_trace_by bound m m' h n (built d) w =
     ap (ran (shown_from 0 d.instances) (map shown_signal d.signals))
     (same_run bound m m' d (ap (λ fs. record { bound = bound; functions = fs }) (sym (same_functions (rules_of bound m) m m' h))) n (first_world m d) (first_world m' d)
-    (record { init = refl; last = refl; history = refl; states = starts_related (rules_of bound m) m m' h d.init d.instances w }))
+    (record { init = refl; last = refl; history = refl; states = starts_related (rules_of bound m) m m' h d.instances w }))
 
 pub replaced_same_trace : ReplacedSameTrace
 replaced_same_trace bound m m' h top n =

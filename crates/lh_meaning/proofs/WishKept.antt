@@ -16,7 +16,7 @@ use Rattle.lh_unit.specs.Effects.{condition_at, drive_due, drive_when, driven}
 use Rattle.lh_unit.specs.Activation.{Scene, Stand, ProcessState, Control, Caller, Point, Activated, Next, goes, ends, no_step, max_calls, gives, jumps, wishes, tells, stores, opens, goes_back, returns, ends_at, executes, asserted, called, steps_by, step, control_at, start_point, went, run, activate}
 use Rattle.lh_unit.specs.Hierarchy.{Instance, lines_of, parts_of}
 use Rattle.lh_unit.specs.Pass.{Passed, fires, stored, delay_of, triggers_from, passes, pass_from, pass}
-use Rattle.lh_unit.specs.World.{State, of_process, of_entity, act, act_if_woken, process_act, woken, Rules}
+use Rattle.lh_unit.specs.World.{State, of_process, of_entity, Moment, Act, woken, process_act, runs, if_woken, act, Rules}
 use Rattle.lh_meaning.proofs.Instants.{due_later}
 
 -- a property of wishes that holds of none, and is kept by each bit that is due after t
@@ -187,14 +187,18 @@ module _ (t : Instant) (q : WishProperty t) where
   unfolding pass
   pass_keeps u args sigs now memory = pass_from_keeps u now memory (lines_of u.blocks) (record { held = parts_of u args sigs; seen = []; wish = no_wish }) q.nothing
 
-  acts_by_keeps : (p : ProcessState) (o : Option Activated) → IfSome o (λ d. q.holds d.wish) → q.holds (process_act p o).wish
-  acts_by_keeps p None h = q.nothing
-  acts_by_keeps p (Some d) h = h
+  process_keeps : (p : ProcessState) (o : Option Activated) → IfSome o (λ d. q.holds d.wish) → q.holds (process_act p o).wish
+  process_keeps p None h = q.nothing
+  process_keeps p (Some d) h = h
 
-  pub act_keeps : (r : Rules) (last : Option Instant) (old now : List Bool) (u : UnitText) (i : Instance) (state : State) → q.holds (act r last old now t u i state).wish
-  act_keeps r last old now u i state = at (woken last old now t u i state) state
-    where
-      at : (b : Bool) (state : State) → q.holds (act_if_woken b r now t u i state).wish
-      at true (of_process p) = acts_by_keeps p (activate r.bound (scene r.functions now) u p) (activate_keeps r.bound r.functions now u p)
-      at true (of_entity memory) = pass_keeps u i.args i.sigs now memory
-      at false state = q.nothing
+  pub runs_keeps : (r : Rules) (now : List Bool) (u : UnitText) (i : Instance) (state : State) → q.holds (runs r now t u i state).wish
+  runs_keeps r now u i (of_process p) = process_keeps p (activate r.bound (scene r.functions now) u p) (activate_keeps r.bound r.functions now u p)
+  runs_keeps r now u i (of_entity memory) = pass_keeps u i.args i.sigs now memory
+
+  if_woken_keeps : (is_woken : Bool) (a : Act) (state : State) → q.holds a.wish → q.holds (if_woken is_woken a state).wish
+  if_woken_keeps true a state h = h
+  if_woken_keeps false a state h = q.nothing
+
+-- and of what an instance does in a frame
+pub act_keeps : (r : Rules) (m : Moment) (q : WishProperty m.at) (u : UnitText) (i : Instance) (state : State) → q.holds (act r m u i state).wish
+act_keeps r m q u i state = if_woken_keeps m.at q (woken m u i state) (runs r m.now m.at u i state) state (runs_keeps m.at q r m.now u i state)

@@ -1,21 +1,19 @@
 -- Which instances are listed as woken, and which bits toggle.
-use Rattle.std.proofs.Common.{◌≡◌, ◌≤◌, ◌<◌, ◌⊎◌, inl, inr, ⊎_elim, ℕ, zero, suc, ◌+◌, List, [], ◌∷◌, ◌++◌, length, take, drop, Bool, true, false, if◌then◌else◌, refl, ap, sym, ◌∙◌, subst, Option, Some, arith}
+use Rattle.std.proofs.Common.{◌≡◌, ◌≤◌, ◌<◌, ◌⊎◌, inl, inr, ⊎_elim, ℕ, zero, suc, ◌+◌, List, [], ◌∷◌, length, take, drop, Bool, true, false, if◌then◌else◌, refl, ap, sym, ◌∙◌, subst, Some, arith}
 use Rattle.std.specs.Prelude.{◌-◌, slice_get, slice_index, Contains}
 use Rattle.std.specs.List.Sorted.{IsStrictlyIncreasing}
-use Rattle.std.proofs.lemmas.List.{take_all, length-take, length-drop, length-take-le}
-use Rattle.std.proofs.lemmas.List.Elements.{Contains-append_right, Contains-push, Contains-push_cases, Contains-append_cases}
+use Rattle.std.proofs.lemmas.List.{take_all, length-drop, length-take-le}
+use Rattle.std.proofs.lemmas.List.Elements.{Contains-append_right, Contains-push_cases, Contains-append_cases}
 use Rattle.std.proofs.lemmas.Option.{none-some, same_Some}
-use Rattle.lh_time.specs.declared.Instant.{Instant}
-use Rattle.lh_types.specs.Types.{TypeTree, IsData, bit_count}
-use Rattle.lh_types.specs.Bits.{value_bits, value_from_bits}
+use Rattle.lh_types.specs.Types.{IsData, bit_count}
+use Rattle.lh_types.specs.Bits.{value_bits}
 use Rattle.lh_types.specs.Parts.{bits_within}
 use Rattle.lh_types.specs.Flags.{differing}
-use Rattle.lh_types.specs.History.{bits_at}
 use Rattle.lh_types.proofs.ValueBits.{value_bits-value_from_bits}
 use Rattle.lh_unit.specs.Contents.{ItemText}
 use Rattle.lh_unit.specs.Hierarchy.{Instance}
-use Rattle.lh_unit.specs.Design.{Signal, Design}
-use Rattle.lh_unit.specs.World.{State, unit_of, woken, World, bits_of}
+use Rattle.lh_unit.specs.Design.{Signal}
+use Rattle.lh_unit.specs.World.{State, unit_of, Moment, woken, moment_of}
 use Rattle.lh_unit.specs.Trace.{signal_value}
 use Rattle.lh_unit.specs.Frames.{woken_from, woken_at}
 use Rattle.lh_meaning.specs.Frames.{IsWoken, WokenAreListed, WokenRise, ToggledBits}
@@ -50,12 +48,12 @@ rising_first k (x ∷ xs) a r (suc j) h =
     let next : suc (suc j) ≡ suc j + 1 = omega arith in
     subst (λ m. slice_index (x ∷ xs) j < slice_index (k ∷ x ∷ xs) m) next (subst (λ m. slice_index (x ∷ xs) j < slice_index (x ∷ xs) m) here e)
 
-module _ (items : List ItemText) (last : Option Instant) (old now : List Bool) (t : Instant) where
+module _ (items : List ItemText) (m : Moment) where
   abbrev wakes_at : Instance → State → Bool
-  wakes_at i s = woken last old now t (unit_of items i.unit) i s
+  wakes_at i s = woken m (unit_of items i.unit) i s
 
   abbrev numbers : ℕ → List Instance → List State → List ℕ
-  numbers k is ss = woken_from k items last old now t is ss
+  numbers k is ss = woken_from k items m is ss
 
   -- the instance of number j is woken, the first of these having the number k
   record WokenAmong (k : ℕ) (is : List Instance) (ss : List State) (j : ℕ) : Type 0 where
@@ -83,20 +81,20 @@ module _ (items : List ItemText) (last : Option Instant) (old now : List Bool) (
           (λ m. woken_later k j i is s ss (ih m)) (contains-cases k (numbers (k + 1) is ss) j h)
       at false e h ih = woken_later k j i is s ss (ih h)
 
-  in_list : (k : ℕ) (is : List Instance) (ss : List State) (m : ℕ) (i : Instance) (s : State) → slice_get is m ≡ Some i → slice_get ss m ≡ Some s → wakes_at i s ≡ true → Contains (numbers k is ss) (k + m)
-  in_list k [] ss m i s a b w = absurd (none-some i a)
-  in_list k (x ∷ is) [] m i s a b w = absurd (none-some s b)
+  in_list : (k : ℕ) (is : List Instance) (ss : List State) (place : ℕ) (i : Instance) (s : State) → slice_get is place ≡ Some i → slice_get ss place ≡ Some s → wakes_at i s ≡ true → Contains (numbers k is ss) (k + place)
+  in_list k [] ss place i s a b w = absurd (none-some i a)
+  in_list k (x ∷ is) [] place i s a b w = absurd (none-some s b)
   in_list k (x ∷ is) (y ∷ ss) zero i s a b w =
       let e : wakes_at x y ≡ true = ap (λ z. wakes_at z y) (same_Some x i a) ∙ ap (wakes_at i) (same_Some y s b) ∙ w in
       let n : k + zero ≡ k = omega arith in
       rw (e, n) (contains-first k (numbers (k + 1) is ss))
-  in_list k (x ∷ is) (y ∷ ss) (suc m) i s a b w = at (wakes_at x y) (subst (λ j. Contains (numbers (k + 1) is ss) j) sum (in_list (k + 1) is ss m i s a b w))
+  in_list k (x ∷ is) (y ∷ ss) (suc place) i s a b w = at (wakes_at x y) (subst (λ j. Contains (numbers (k + 1) is ss) j) sum (in_list (k + 1) is ss place i s a b w))
     where
-      sum : k + 1 + m ≡ k + suc m
+      sum : k + 1 + place ≡ k + suc place
       sum = omega arith
 
-      at : (b : Bool) → Contains (numbers (k + 1) is ss) (k + suc m) → Contains (if b then k ∷ numbers (k + 1) is ss else numbers (k + 1) is ss) (k + suc m)
-      at true c = contains-next k (numbers (k + 1) is ss) (k + suc m) c
+      at : (b : Bool) → Contains (numbers (k + 1) is ss) (k + suc place) → Contains (if b then k ∷ numbers (k + 1) is ss else numbers (k + 1) is ss) (k + suc place)
+      at true c = contains-next k (numbers (k + 1) is ss) (k + suc place) c
       at false c = c
 
   all_from : (k : ℕ) (is : List Instance) (ss : List State) → AllFrom k (numbers k is ss)
@@ -119,15 +117,15 @@ module _ (items : List ItemText) (last : Option Instant) (old now : List Bool) (
 
 pub woken_are_listed : WokenAreListed
 unfolding woken_at
-woken_are_listed items d w t k = (λ c. shown (listed items w.last (bits_of w) (bits_at w.history w.init t) t 0 d.instances w.states k c), there)
+woken_are_listed items d w t k = (λ c. shown (listed items (moment_of w t) 0 d.instances w.states k c), there)
   where
-    there : IsWoken items d w t k → Contains (woken_from 0 items w.last (bits_of w) (bits_at w.history w.init t) t d.instances w.states) k
+    there : IsWoken items d w t k → Contains (woken_from 0 items (moment_of w t) d.instances w.states) k
     there x =
         let n : 0 + k ≡ k = omega arith in
-        subst (Contains (woken_from 0 items w.last (bits_of w) (bits_at w.history w.init t) t d.instances w.states)) n
-        (in_list items w.last (bits_of w) (bits_at w.history w.init t) t 0 d.instances w.states k x.instance x.state x.is x.stands x.wakes)
+        subst (Contains (woken_from 0 items (moment_of w t) d.instances w.states)) n
+        (in_list items (moment_of w t) 0 d.instances w.states k x.instance x.state x.is x.stands x.wakes)
 
-    shown : WokenAmong items w.last (bits_of w) (bits_at w.history w.init t) t 0 d.instances w.states k → IsWoken items d w t k
+    shown : WokenAmong items (moment_of w t) 0 d.instances w.states k → IsWoken items d w t k
     shown a =
         let same : a.place ≡ k = omega (arith, a.number) in
         record {
@@ -140,7 +138,7 @@ woken_are_listed items d w t k = (λ c. shown (listed items w.last (bits_of w) (
 
 pub woken_rise : WokenRise
 unfolding woken_at
-woken_rise items d w t = rising items w.last (bits_of w) (bits_at w.history w.init t) t 0 d.instances w.states
+woken_rise items d w t = rising items (moment_of w t) 0 d.instances w.states
 
 -- the bits of the value of a signal are its bits
 signal_bits : (s : Signal) (bits : List Bool) → IsData s.ty → s.lo + bit_count s.ty ≤ length bits → value_bits (signal_value bits s) ≡ bits_within s.lo (bit_count s.ty) bits

@@ -10,7 +10,7 @@ use Rattle.lh_unit.specs.declared.name.UnitName.{UnitName}
 use Rattle.lh_unit.specs.Contents.{ItemText}
 use Rattle.lh_unit.specs.Hierarchy.{Instance}
 use Rattle.lh_unit.specs.Design.{Signal, Design}
-use Rattle.lh_unit.specs.World.{State, unit_of, woken, World, next_world, bits_of, IsNext, instant_after}
+use Rattle.lh_unit.specs.World.{State, unit_of, woken, moment_of, World, next_world, bits_of, IsNext, instant_after}
 use Rattle.lh_unit.specs.Trace.{Frame, steps, Run, Trace, refuses, ran, signal_value, run_from, trace_within, SameTraceWithin}
 use Rattle.lh_unit.specs.Frames.{world_later, woken_at, toggled}
 use Rattle.lh_meaning.specs.Wishes.{ReachedFrom}
@@ -80,7 +80,7 @@ pub record IsWoken (items : List ItemText) (d : Design) (w : World) (t : Instant
   pub state : State
   pub is : slice_get d.instances k ≡ Some instance
   pub stands : slice_get w.states k ≡ Some state
-  pub wakes : woken w.last (bits_of w) (bits_at w.history w.init t) t (unit_of items instance.unit) instance state ≡ true
+  pub wakes : woken (moment_of w t) (unit_of items instance.unit) instance state ≡ true
 
 -- The instances that are listed as woken are exactly those that are.
 abbrev pub WokenAreListed : Type 0

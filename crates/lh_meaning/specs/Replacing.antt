@@ -6,7 +6,7 @@ use Rattle.lh_types.specs.Wish.{Wish}
 use Rattle.lh_types.specs.declared.part.Range.{Range}
 use Rattle.lh_unit.specs.Contents.{ArgText, UnitText, ItemText, unit_text, declare_text}
 use Rattle.lh_unit.specs.Hierarchy.{Instance, SignalText, Hierarchy, hierarchy_of}
-use Rattle.lh_unit.specs.World.{State, start, wake_of, Act, act, Rules, rules_of}
+use Rattle.lh_unit.specs.World.{State, start, wake_of, Moment, Act, act, Rules, rules_of}
 use Rattle.lh_unit.specs.Trace.{SameTraceWithin}
 
 -- what an instance shows of itself in a frame: its wish, its outcomes, whether it ran away, and when it will wake by itself
@@ -24,15 +24,18 @@ pub record Seen : Type 0 where
   pub at : Instant
   pub now : List Bool
 
--- what it shows in frames that follow each other, from a state after a frame at `last` with the bits `old`
-abbrev pub answers : Rules → UnitText → Instance → (last : Option Instant) → (old : List Bool) → State → List Seen → List Answer
-answers r u i last old s [] = []
-answers r u i last old s (f ∷ more) =
-    answer_of (act r last old f.now f.at u i s) ∷ answers r u i (Some f.at) f.now (act r last old f.now f.at u i s).after more
+-- the moment of a frame that it sees, where the frame before had these bits
+abbrev pub moment_seen : (before : Option (List Bool)) → Seen → Moment
+moment_seen before f = record { before = before; now = f.now; at = f.at }
+
+-- what it shows in frames that follow each other, from a state after a frame with these bits, none before the first
+abbrev pub answers : Rules → UnitText → Instance → (before : Option (List Bool)) → State → List Seen → List Answer
+answers r u i before s [] = []
+answers r u i before s (f ∷ more) = answer_of (act r (moment_seen before f) u i s) ∷ answers r u i (Some f.now) (act r (moment_seen before f) u i s).after more
 
 -- what it shows from the start on
 abbrev pub answers_to : Rules → UnitText → Instance → List Seen → List Answer
-answers_to r u i frames = answers r u i None [] (start u i) frames
+answers_to r u i frames = answers r u i None (start u i) frames
 
 -- the arguments and signals of an instance have the widths of their types
 pub record HasWidths (h : Hierarchy) (i : Instance) : Type 0 where

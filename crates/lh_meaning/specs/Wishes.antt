@@ -9,7 +9,7 @@ use Rattle.lh_types.specs.History.{Claim, claims, IsAmong}
 use Rattle.lh_unit.specs.Contents.{UnitText, ItemText}
 use Rattle.lh_unit.specs.Hierarchy.{Instance}
 use Rattle.lh_unit.specs.Design.{Design}
-use Rattle.lh_unit.specs.World.{State, act, Rules, World, first_world, next_world, next_instant}
+use Rattle.lh_unit.specs.World.{State, Moment, act, Rules, World, first_world, next_world, next_instant}
 use Rattle.lh_meaning.specs.Values.{OneEach}
 
 -- what a wish gives for a bit at an instant
@@ -33,8 +33,7 @@ LaterDriveReplaces = (w : Wish) (due : Option Instant) (lo : ℕ) (xs ys : List 
 
 -- What an instance wishes in a frame is in order, and due later.
 abbrev pub ActsInOrder : Type 0
-ActsInOrder = (r : Rules) (last : Option Instant) (old now : List Bool) (t : Instant) (u : UnitText) (i : Instance) (s : State) →
-    IsInOrder (act r last old now t u i s).wish × IsLate t (act r last old now t u i s).wish
+ActsInOrder = (r : Rules) (m : Moment) (u : UnitText) (i : Instance) (s : State) → IsInOrder (act r m u i s).wish × IsLate m.at (act r m u i s).wish
 
 -- the worlds that frames come to from a world
 pub data ReachedFrom (bound : ℕ) (items : List ItemText) (d : Design) (from : World) : World → Type 0 where

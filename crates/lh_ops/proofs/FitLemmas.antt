@@ -4,9 +4,11 @@ use Rattle.std.proofs.lemmas.Nat.{pow_pos}
 use Rattle.lh_types.specs.Types.{TypeTree, int_type, row_of, AreData, IsData}
 use Rattle.lh_types.specs.Values.{Datum, int_value, time_value, array_value, tuple_value, data_row}
 use Rattle.lh_types.specs.Fits.{FitsType, FitsRow}
-use Rattle.lh_types.specs.ApplyTypes.{FitsOp, OneInteger, TwoIntegers, ComparesIntegers, TakesIntegers}
+use Rattle.lh_types.specs.Classes.{class_of}
+use Rattle.lh_types.specs.ApplyTypes.{FitsOp, OneInteger, TwoIntegers, ComparesIntegers, ClassType, ClassTakesIntegers, TakesIntegers}
 use Rattle.lh_types.specs.declared.op.Op.{Op}
-use Rattle.lh_types.specs.declared.op.Op.TheVariants.{Not, Neg, Eq, Neq, Slt, Sgt, Sle, Sge, Ult, Ugt, Ule, Uge, Shl, Shr, Mux, Extf, Exts, Insf, Inss, Array, Repeat, Tuple}
+use Rattle.lh_types.specs.declared.op.OpClass.{OpClass}
+use Rattle.lh_types.specs.declared.op.OpClass.TheVariants as class
 
 -- a value that fits an integer type
 pub record IsInt (v : Datum) (n : ℕ) : Type 0 where
@@ -95,28 +97,13 @@ of_two vs ts r d f k = let D : List TypeTree → Type 0 = λ ts. AreData (row_of
 of_compared : (vs : List Datum) (ts : List TypeTree) (r : TypeTree) → AreData (row_of ts) → FitsRow (data_row vs) (row_of ts) → ComparesIntegers ts r → IntegerArgs vs
 of_compared vs ts r d f k = let D : List TypeTree → Type 0 = λ ts. AreData (row_of ts) in let F : List TypeTree → Type 0 = λ ts. FitsRow (data_row vs) (row_of ts) in two_integers vs k.0 (subst D k.1 d) (subst F k.1 f)
 
+-- arguments of a class that takes integers
+class_args : (c : OpClass) (vs : List Datum) (ts : List TypeTree) (r : TypeTree) → ClassTakesIntegers c → AreData (row_of ts) → FitsRow (data_row vs) (row_of ts) → ClassType c ts r → IntegerArgs vs
+class_args class.Unary vs ts r k d f h = of_one vs ts r d f h
+class_args class.Binary vs ts r k d f h = of_two vs ts r d f h
+class_args class.Relation vs ts r k d f h = of_compared vs ts r d f h
+class_args _ vs ts r k d f h = absurd k
+
 -- arguments of a row that takes integers
 pub integer_args : (op : Op) (vs : List Datum) → TakesIntegers op → FitsOp op vs → IntegerArgs vs
-integer_args Not vs k f = of_one vs f.types f.gives f.data_types f.values_fit f.row
-integer_args Neg vs k f = of_one vs f.types f.gives f.data_types f.values_fit f.row
-integer_args Slt vs k f = of_compared vs f.types f.gives f.data_types f.values_fit f.row
-integer_args Sgt vs k f = of_compared vs f.types f.gives f.data_types f.values_fit f.row
-integer_args Sle vs k f = of_compared vs f.types f.gives f.data_types f.values_fit f.row
-integer_args Sge vs k f = of_compared vs f.types f.gives f.data_types f.values_fit f.row
-integer_args Ult vs k f = of_compared vs f.types f.gives f.data_types f.values_fit f.row
-integer_args Ugt vs k f = of_compared vs f.types f.gives f.data_types f.values_fit f.row
-integer_args Ule vs k f = of_compared vs f.types f.gives f.data_types f.values_fit f.row
-integer_args Uge vs k f = of_compared vs f.types f.gives f.data_types f.values_fit f.row
-integer_args Eq vs k f = absurd k
-integer_args Neq vs k f = absurd k
-integer_args Shl vs k f = absurd k
-integer_args Shr vs k f = absurd k
-integer_args Mux vs k f = absurd k
-integer_args (Extf i) vs k f = absurd k
-integer_args (Exts i j) vs k f = absurd k
-integer_args (Insf i) vs k f = absurd k
-integer_args (Inss i j) vs k f = absurd k
-integer_args Array vs k f = absurd k
-integer_args (Repeat i) vs k f = absurd k
-integer_args Tuple vs k f = absurd k
-integer_args op vs k f = of_two vs f.types f.gives f.data_types f.values_fit f.row
+integer_args op vs k f = class_args (class_of op) vs f.types f.gives k f.data_types f.values_fit f.row

@@ -9,10 +9,13 @@ use Rattle.lh_types.specs.Fits.{FitsType, FitsRow, PartsFit, part_count}
 use Rattle.lh_types.specs.Parts.{parts_of, part_by, with_part, field_part}
 use Rattle.lh_types.specs.ApplyInt.{integer_row, row_width, truth, divided, wrapped, moved_up, moved_down}
 use Rattle.lh_types.specs.Apply.{apply, bit_value, no_value, integer_result, shifted, selected, repeated, field_at, slice_at, with_field, with_slice}
-use Rattle.lh_types.specs.ApplyTypes.{PartHasType}
+use Rattle.lh_types.specs.Classes.{class_of}
+use Rattle.lh_types.specs.ApplyTypes.{PartHasType, ClassType}
 use Rattle.lh_types.specs.declared.part.Step.TheVariants.{Field, Slice}
 use Rattle.lh_types.specs.declared.op.Op.{Op}
 use Rattle.lh_types.specs.declared.op.Op.TheVariants.{Not, Neg, Add, Sub, Umul, Smul, Udiv, Sdiv, Umod, Smod, Urem, Srem, And, Or, Xor, Eq, Neq, Slt, Sgt, Sle, Sge, Ult, Ugt, Ule, Uge, Shl, Shr, Mux, Extf, Exts, Insf, Inss, Array, Repeat, Tuple}
+use Rattle.lh_types.specs.declared.op.OpClass.{OpClass}
+use Rattle.lh_types.specs.declared.op.OpClass.TheVariants as class
 use Rattle.lh_ops.specs.Laws.{ResultsFit, OneResultType}
 use Rattle.lh_ops.proofs.FitLemmas.{int_fit, one_arg, two_args, three_args}
 use Rattle.lh_ops.proofs.ShiftLemmas.{scaled_mod, replaced_below}
@@ -292,9 +295,11 @@ results_fit_lem (Repeat n) vs ts r d f k = of_repeat vs ts r d f n k.0 k.1 k.3
 results_fit_lem Tuple vs ts r d f k = gives vs ts r d f (tuple_value (data_row vs)) (tuple_type (row_of ts)) f k.1
 results_fit_lem op vs ts r d f k = of_binary vs ts r d f op k.0 k.0 refl k.1 k.2
 
+-- a class gives one type for its operands' types
+one_class_type : (c : OpClass) (ts : List TypeTree) (r s : TypeTree) → ClassType c ts r → ClassType c ts s → r ≡ s
+one_class_type class.Array [] r s h k = absurd (omega (arith, h.1))
+one_class_type class.Array (t ∷ ts) r s h k = cc
+one_class_type _ ts r s h k = cc
+
 pub one_result_type_lem : OneResultType
-one_result_type_lem Array [] r s h k = absurd (omega (arith, h.1))
-one_result_type_lem Array (t ∷ ts) r s h k = cc
-one_result_type_lem Mux ts r s h k = cc
-one_result_type_lem Tuple ts r s h k = cc
-one_result_type_lem _ ts r s h k = cc
+one_result_type_lem op ts r s h k = one_class_type (class_of op) ts r s h k

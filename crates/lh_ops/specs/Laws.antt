@@ -6,8 +6,11 @@ use Rattle.lh_types.specs.Fits.{FitsType, FitsRow}
 use Rattle.lh_types.specs.ApplyInt.{IsIntegerRow, integer_row, row_width}
 use Rattle.lh_types.specs.Apply.{apply, bit_value}
 use Rattle.lh_types.specs.ApplyTypes.{RowType}
+use Rattle.lh_types.specs.Classes.{class_of}
 use Rattle.lh_types.specs.declared.op.Op.{Op}
-use Rattle.lh_types.specs.declared.op.Op.TheVariants.{Not, Neg, And, Or, Xor, Eq, Neq, Mux}
+use Rattle.lh_types.specs.declared.op.Op.TheVariants.{Not, And, Or, Xor, Eq, Neq, Mux}
+use Rattle.lh_types.specs.declared.op.OpClass.{OpClass}
+use Rattle.lh_types.specs.declared.op.OpClass.TheVariants as class
 
 -- on operands of the types that a row takes, the value is of the type that the row gives
 abbrev pub ResultsFit : Type 0
@@ -63,11 +66,23 @@ pub record EqualityTells : Type 0 where
 abbrev pub MuxChooses : Type 0
 MuxChooses = (c : Bool) (zero one : Datum) → apply Mux (array_value (data_row (zero ∷ one ∷ [])) ∷ bit_value c ∷ []) ≡ (if c then one else zero)
 
+-- of the two values those that an operation of the class on integers of one width takes
+abbrev pub class_operands : OpClass → Datum → Datum → List Datum
+class_operands class.Unary v w = v ∷ []
+class_operands class.Binary v w = v ∷ w ∷ []
+class_operands class.Relation v w = v ∷ w ∷ []
+class_operands class.Equality v w = v ∷ w ∷ []
+class_operands class.Shift v w = v ∷ w ∷ []
+class_operands class.Select v w = v ∷ w ∷ []
+class_operands (class.TakePart s) v w = v ∷ w ∷ []
+class_operands (class.PutPart s) v w = v ∷ w ∷ []
+class_operands class.Array v w = v ∷ w ∷ []
+class_operands (class.Repeat n) v w = v ∷ w ∷ []
+class_operands class.Tuple v w = v ∷ w ∷ []
+
 -- the operands of a row from not to uge: not and neg take the first alone
 abbrev pub integer_operands : Op → Datum → Datum → List Datum
-integer_operands Not v w = v ∷ []
-integer_operands Neg v w = v ∷ []
-integer_operands op v w = v ∷ w ∷ []
+integer_operands op v w = class_operands (class_of op) v w
 
 -- on integers of one width, eq and neq among them, every such row is the one over whole numbers
 abbrev pub IntegerRows : Type 0

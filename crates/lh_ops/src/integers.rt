@@ -4,7 +4,7 @@ ghost use Rattle.lh_types.specs.ApplyInt.{integer_row, row_width, IsIntegerRow};
 
 use crate::signs::{signed_less, signed_modulo, signed_quotient, signed_remainder};
 use crate::words::{difference, ones, product, quotient, remainder, sum};
-use lh_types::op::Op;
+use lh_types::op::{Op, OpClass};
 
 /// The value of a row from `Not` to `Uge` on the integers `a` and `b` of `width` bits, without memory.
 ///
@@ -49,10 +49,8 @@ pub fn apply_int(op: &Op, width: u32, a: u128, b: u128) -> u128
 pub fn result_width(op: &Op, width: u32) -> u32
     ensures { result ≡ row_width op.now width }
 {
-    match op {
-        Op::Eq | Op::Neq => 1,
-        Op::Slt | Op::Sgt | Op::Sle | Op::Sge => 1,
-        Op::Ult | Op::Ugt | Op::Ule | Op::Uge => 1,
+    match op.class() {
+        OpClass::Relation | OpClass::Equality => 1,
         _ => width,
     }
 }

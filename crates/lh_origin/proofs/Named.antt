@@ -10,7 +10,6 @@ use Rattle.lh_types.specs.Parts.{range_of, step_part}
 use Rattle.lh_types.specs.declared.op.Op.{Op}
 use Rattle.lh_types.specs.declared.op.Op.TheVariants as op
 use Rattle.lh_types.specs.declared.part.Step.{Step}
-use Rattle.lh_types.specs.declared.part.Step.TheVariants.{Field, Slice}
 use Rattle.lh_unit.specs.Contents.{OperandText, InstText, pure_text, LineText, ArgText, UnitText, same_name, is_result_name, args_define}
 use Rattle.lh_unit.specs.Effects.{step_of}
 use Rattle.lh_unit.specs.Hierarchy.{lines_of}
@@ -22,8 +21,9 @@ use Rattle.lh_unit.specs.declared.inst.Typed.{Typed}
 use Rattle.lh_unit.specs.declared.inst.Inst.{Inst}
 use Rattle.lh_unit.specs.declared.inst.Inst.TheVariants as inst
 use Rattle.lh_unit.proofs.Tables.{same_name-is}
-use Rattle.lh_formed.specs.Parts.{LeadsTo, TakesPart, HasPart}
+use Rattle.lh_formed.specs.Parts.{TakesPart, HasPart}
 use Rattle.lh_formed.proofs.PartsLaw.{parts_have_ranges}
+use Rattle.lh_formed.proofs.PartSteps.{same-operand, leads-is, takes-part, step-type}
 use Rattle.lh_eval.specs.Sound.{IsSound}
 use Rattle.lh_sound.proofs.NamedOnce.{IsFirst, giving-lines}
 use Rattle.lh_inlined.specs.Formed.{IsFormed}
@@ -104,22 +104,6 @@ by_step f g None = None
 by_step f g (Some s) = option_and_then (extended s) (option_map seen (g (f.value_name s.from.0)))
 
 -- ---- the part to which a step leads
-
-same-operand : (x y : OperandText) → x ∷ [] ≡ y ∷ [] → x ≡ y
-same-operand x y e = cc
-
-leads-is : (s : Step) (w of t : TypeTree) → LeadsTo s w of → w ≡ signal_type t → (z : Parts.Part) × (step_part t s ≡ Some z) × (of ≡ signal_type z.of)
-leads-is s w of t l e = subst (λ x. LeadsTo s x of) e l
-
-takes-part : (u : UnitText) (o : Op) (s : Step) (os : List OperandText) → step_of o ≡ Some s → HasPart u (pure_text o os) → TakesPart u s os
-takes-part u (op.Extf k) s os q h = subst (λ x. TakesPart u x os) (same_Some (Field k) s q) h
-takes-part u (op.Exts at len) s os q h = subst (λ x. TakesPart u x os) (same_Some (Slice at len) s q) h
-takes-part u o s os q h = absurd (none-some s q)
-
-step-type : (o : Op) (s : Step) (x : OperandText) → step_of o ≡ Some s → result_type (pure_text o (x ∷ [])) ≡ x.ty
-step-type (op.Extf k) s x q = refl
-step-type (op.Exts at len) s x q = refl
-step-type o s x q = absurd (none-some s q)
 
 -- the part of a part
 abbrev inner : Part → Parts.Part → Part

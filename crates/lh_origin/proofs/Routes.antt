@@ -16,12 +16,11 @@ use Rattle.lh_unit.specs.Within.{Each}
 use Rattle.lh_unit.specs.declared.name.UnitName.{UnitName}
 use Rattle.lh_unit.specs.declared.inst.ValueId.{ValueId}
 use Rattle.lh_unit.specs.declared.inst.Arg.{Arg}
-use Rattle.lh_unit.proofs.Lists.{Same, same, other, same_or, nat_eq-refl, nat_eq-is, nat_eq-other, not_true}
+use Rattle.lh_unit.proofs.Lists.{Same, same, other, same_or, nat_eq-refl, nat_eq-is, nat_eq-other, not_true, Each-append, Each-left, Each-right}
 use Rattle.lh_unit.proofs.Tables.{same_name-is, same_name-refl}
 use Rattle.lh_spelled.specs.Printable.{results_repeat}
 use Rattle.lh_eval.specs.Sound.{IsSound}
 use Rattle.lh_sound.proofs.NamedOnce.{IsFirst, giving-lines, each-first}
-use Rattle.lh_sound.proofs.SoundLines.{same-lines}
 use Rattle.lh_term.specs.Same.{same_part}
 use Rattle.lh_term.specs.declared.part.Part.{Part}
 use Rattle.lh_flat.specs.declared.flat.FlatInst.{FlatInst}
@@ -117,18 +116,6 @@ module _ (f : Naming) (n : ℕ) (apart : (v w : ℕ) → v < n → w < n → f.v
 
 -- ---- lines
 
-each-append : {X : Type 0} (P : X → Type 0) (xs ys : List X) → Each P xs → Each P ys → Each P (xs ++ ys)
-each-append P [] ys h k = k
-each-append P (x ∷ xs) ys h k = (h.0, each-append P xs ys h.1 k)
-
-each-left : {X : Type 0} (P : X → Type 0) (xs ys : List X) → Each P (xs ++ ys) → Each P xs
-each-left P [] ys h = tt
-each-left P (x ∷ xs) ys h = (h.0, each-left P xs ys h.1)
-
-each-right : {X : Type 0} (P : X → Type 0) (xs ys : List X) → Each P (xs ++ ys) → Each P ys
-each-right P [] ys h = h
-each-right P (x ∷ xs) ys h = each-right P xs ys h.1
-
 each-both : {X : Type 0} (P Q R : X → Type 0) → ((x : X) → P x → Q x → R x) → (xs : List X) → Each P xs → Each Q xs → Each R xs
 each-both P Q R g [] h k = tt
 each-both P Q R g (x ∷ xs) h k = (g x h.0 k.0, each-both P Q R g xs h.1 k.1)
@@ -155,9 +142,9 @@ module _ (f : Naming) (P : LineText → Type 0) where
   lines-each k [] h = tt
   lines-each k (b ∷ bs) h =
       let own = with_merge (option_map (merge_text f) b.merge) (map (flat_line_text f) b.insts) in
-      each-append (λ (l : FlatInst). P (flat_line_text f l)) b.insts (insts_in bs)
-      (each-unmap P (flat_line_text f) b.insts (past-merge b.merge (map (flat_line_text f) b.insts) (each-left P own (lines_from f (k + 1) bs) h)))
-      (lines-each (k + 1) bs (each-right P own (lines_from f (k + 1) bs) h))
+      Each-append (λ (l : FlatInst). P (flat_line_text f l)) b.insts (insts_in bs)
+      (each-unmap P (flat_line_text f) b.insts (past-merge b.merge (map (flat_line_text f) b.insts) (Each-left P own (lines_from f (k + 1) bs) h)))
+      (lines-each (k + 1) bs (Each-right P own (lines_from f (k + 1) bs) h))
 
 -- each line has what merges and instructions have
 module _ (f : Naming) (P : LineText → Type 0) (merges : (m : MergeText) → P (record { result = Some m.value; inst = phi_text m.ty m.edges })) where
@@ -172,9 +159,9 @@ module _ (f : Naming) (P : LineText → Type 0) (merges : (m : MergeText) → P 
   each-line : (k : ℕ) (bs : List FlatBlock) → Each (λ (l : FlatInst). P (flat_line_text f l)) (insts_in bs) → Each P (lines_from f k bs)
   each-line k [] h = tt
   each-line k (b ∷ bs) h =
-      each-append P (with_merge (option_map (merge_text f) b.merge) (map (flat_line_text f) b.insts)) (lines_from f (k + 1) bs)
-      (with-merge (option_map (merge_text f) b.merge) (map (flat_line_text f) b.insts) (each-map b.insts (each-left (λ (l : FlatInst). P (flat_line_text f l)) b.insts (insts_in bs) h)))
-      (each-line (k + 1) bs (each-right (λ (l : FlatInst). P (flat_line_text f l)) b.insts (insts_in bs) h))
+      Each-append P (with_merge (option_map (merge_text f) b.merge) (map (flat_line_text f) b.insts)) (lines_from f (k + 1) bs)
+      (with-merge (option_map (merge_text f) b.merge) (map (flat_line_text f) b.insts) (each-map b.insts (Each-left (λ (l : FlatInst). P (flat_line_text f l)) b.insts (insts_in bs) h)))
+      (each-line (k + 1) bs (Each-right (λ (l : FlatInst). P (flat_line_text f l)) b.insts (insts_in bs) h))
 
 -- ---- the step that gives a value
 
@@ -294,7 +281,7 @@ module _ (t : Flat) (f : Naming) (name : UnitName) (names : Names t f) (below : 
   good-lines : Each (IsGood u) (lines_of u.blocks)
   good-lines =
       let formed = names.formed name in
-      let new : results_repeat u.args [] (lines_of u.blocks) ≡ false = ap (results_repeat u.args []) (sym (same-lines u.blocks)) ∙ formed.new_results in
+      let new : results_repeat u.args [] (lines_of u.blocks) ≡ false = formed.new_results in
       each-both (IsSound u) (IsFirst u.args (lines_of u.blocks)) (IsGood u) (λ l a b. (a, b)) (lines_of u.blocks) formed.lines (each-first u.args (lines_of u.blocks) [] (lines_of u.blocks) refl new)
 
   record IsGoodInst (l : FlatInst) : Type 0 where
@@ -305,7 +292,7 @@ module _ (t : Flat) (f : Naming) (name : UnitName) (names : Names t f) (below : 
   results-below : (bs : List FlatBlock) → Each (BlockBelow t.values (length t.blocks)) bs → Each (λ (l : FlatInst). ValuesBelow t.values (maybe_id l.result)) (insts_in bs)
   results-below [] h = tt
   results-below (b ∷ bs) h =
-      each-append (λ (l : FlatInst). ValuesBelow t.values (maybe_id l.result)) b.insts (insts_in bs)
+      Each-append (λ (l : FlatInst). ValuesBelow t.values (maybe_id l.result)) b.insts (insts_in bs)
       (each-both (InstBelow t.values (length t.blocks)) (InstBelow t.values (length t.blocks)) (λ (l : FlatInst). ValuesBelow t.values (maybe_id l.result)) (λ l a c. a.result) b.insts h.0.insts h.0.insts)
       (results-below bs h.1)
 
@@ -429,9 +416,9 @@ module _ (t : Flat) (f : Naming) (name : UnitName) (names : Names t f) (below : 
         let own = with_merge merge (map (flat_line_text f) b.insts) in
         ap (option_map texts) (first-append g p own (lines_from f (k + 1) bs))
         ∙ or-map (first_steps g p own) (first_steps g p (lines_from f (k + 1) bs))
-        ∙ ap (λ o. or_else (option_map texts o) (option_map texts (first_steps g p (lines_from f (k + 1) bs)))) (merge-first merge (map (flat_line_text f) b.insts) (each-left (IsGood u) own (lines_from f (k + 1) bs) h))
-        ∙ ap (λ o. or_else o (option_map texts (first_steps g p (lines_from f (k + 1) bs)))) (insts-first b.insts (each-left IsGoodInst b.insts (insts_in bs) i))
-        ∙ ap (or_else (first_way way_to p (step_results b.insts))) (blocks-first (k + 1) bs (each-right (IsGood u) own (lines_from f (k + 1) bs) h) (each-right IsGoodInst b.insts (insts_in bs) i))
+        ∙ ap (λ o. or_else (option_map texts o) (option_map texts (first_steps g p (lines_from f (k + 1) bs)))) (merge-first merge (map (flat_line_text f) b.insts) (Each-left (IsGood u) own (lines_from f (k + 1) bs) h))
+        ∙ ap (λ o. or_else o (option_map texts (first_steps g p (lines_from f (k + 1) bs)))) (insts-first b.insts (Each-left IsGoodInst b.insts (insts_in bs) i))
+        ∙ ap (or_else (first_way way_to p (step_results b.insts))) (blocks-first (k + 1) bs (Each-right (IsGood u) own (lines_from f (k + 1) bs) h) (Each-right IsGoodInst b.insts (insts_in bs) i))
         ∙ sym (ap (first_way way_to p) (results-append b.insts (insts_in bs)) ∙ way-append way_to p (step_results b.insts) (step_results (insts_in bs)))
 
     steps-first : texts (steps_in u p) ≡ unwrap_or (first_way way_to p (step_results insts)) []

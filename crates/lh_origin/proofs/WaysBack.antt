@@ -13,6 +13,7 @@ use Rattle.lh_parts.specs.declared.step.PartStep.{PartStep}
 use Rattle.lh_parts.specs.declared.table.PartTable.{PartTable}
 use Rattle.lh_parts.specs.Steps.{step_in, if_result, step_giving, insts_in, argument_of, stepped, part_by, part_found, StepWithin, HasSteps, step_at, part_at, IsPartTable}
 use Rattle.lh_parts.specs.Resolving.{Leads}
+use Rattle.lh_parts.proofs.Following.{Leads-push}
 use Rattle.lh_origin.specs.Firsts.{AreValues, IsWayBack}
 
 -- ---- as many steps as values are enough
@@ -178,10 +179,6 @@ pub record GoingBack (t : Flat) (steps : List (Option PartStep)) (from : ℕ) (w
   pub part : Part
   pub found : part_found left (step_giving (insts_in t.blocks)) (argument_of t.args) v ≡ Some part
 
-leads-push : (steps : List (Option PartStep)) (v : ℕ) (way : List ValueId) (x : ValueId) (s : PartStep) → Leads steps v way x.0 → step_at steps x.0 ≡ Some s → Leads steps v (way ++ x ∷ []) s.from.0
-leads-push steps v [] x s h e = (sym h, (s, subst (λ (k : ℕ). step_at steps k ≡ Some s) (sym h) e, refl))
-leads-push steps v (w ∷ more) x s h e = (h.0, (h.1.0, h.1.1, leads-push steps h.1.0.from.0 more x s h.1.2 e))
-
 pub values-push : (n : ℕ) (vs : List ValueId) (v : ValueId) → AreValues n vs → v.0 < n → AreValues n (vs ++ v ∷ [])
 values-push n [] v h l = (l, tt)
 values-push n (w ∷ vs) v h l = (h.0, values-push n vs v h.1 l)
@@ -229,7 +226,7 @@ back-next t table from way now v s h i b e n =
       back = record {
         is_in = giving-within t.values (insts_in t.blocks) v.0 s h.within given;
         within = subst (AreValues t.values) (sym n) (values-push t.values way v b.within b.is_in);
-        leads = subst (λ (w : List ValueId). Leads table.steps.given.items from w s.from.0) (sym n) (leads-push table.steps.given.items from way v s b.leads e);
+        leads = subst (λ (w : List ValueId). Leads table.steps.given.items from w s.from.0) (sym n) (Leads-push table.steps.given.items from way v s b.leads e);
         left = k.0;
         together = omega (arith, b.together, k.2, long);
         part = k.1;

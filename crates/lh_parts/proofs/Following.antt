@@ -72,7 +72,7 @@ is_on-push (w ∷ more) x u = ap (λ (b : Bool). nat_eq w.0 u || b) (is_on-push 
     assoc true b c = refl
     assoc false b c = refl
 
-Leads-push : (steps : List (Option PartStep)) (v : ℕ) (way : List ValueId) (x : ValueId) (s : PartStep) → Leads steps v way x.0 → step_at steps x.0 ≡ Some s → Leads steps v (way ++ x ∷ []) s.from.0
+pub Leads-push : (steps : List (Option PartStep)) (v : ℕ) (way : List ValueId) (x : ValueId) (s : PartStep) → Leads steps v way x.0 → step_at steps x.0 ≡ Some s → Leads steps v (way ++ x ∷ []) s.from.0
 Leads-push steps v [] x s h e = (sym h, (s, subst (λ (k : ℕ). step_at steps k ≡ Some s) (sym h) e, refl))
 Leads-push steps v (w ∷ more) x s h e = (h.0, (h.1.0, h.1.1, Leads-push steps h.1.0.from.0 more x s h.1.2 e))
 

@@ -5,4 +5,5 @@ pub mod NamedSteps
 pub mod InstsSteps
 pub mod QuietSteps
 pub mod ProbedBits
-pub mod QuietWalks
+pub mod Adding
+pub mod AtRest

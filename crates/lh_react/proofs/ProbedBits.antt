@@ -1,10 +1,10 @@
--- A value that is what a `prb` of an argument gives, or that compares two such ones, by ids.
-use Rattle.std.proofs.Common.{◌≡◌, ℕ, zero, suc, ◌+◌, ◌<◌, ◌≤◌, inl, inr, List, [], ◌∷◌, length, get_or, set, replicate, map, take, drop, Bool, true, false, not, ◌&&◌, nat_eq, if◌then◌else◌, ◌||◌, Option, Some, None, IsSome, refl, ap, sym, ◌∙◌, subst, arith}
+-- A value that is what a `prb` of an argument gives, or that compares two such ones, by ids: where it stands in the signals.
+use Rattle.std.proofs.Common.{◌≡◌, ℕ, zero, suc, ◌+◌, ◌<◌, ◌≤◌, inl, inr, List, [], ◌∷◌, length, get_or, set, replicate, map, take, drop, Bool, true, false, ◌&&◌, nat_eq, if◌then◌else◌, ◌||◌, Option, Some, None, IsSome, refl, ap, sym, ◌∙◌, subst, arith}
 use Rattle.std.specs.Prelude.{slice_get}
 use Rattle.std.specs.Option.{option_map, option_and_then, IfSome}
 use Rattle.std.proofs.lemmas.Bool.{cases_eq}
 use Rattle.std.proofs.lemmas.List.{append-nil, length-set, length-replicate, get_or-set_same, get_or-set_other}
-use Rattle.std.proofs.lemmas.Option.{same_Some, none-some}
+use Rattle.std.proofs.lemmas.Option.{same_Some, none-some, slice_get_within}
 use Rattle.lh_types.specs.Types.{TypeTree, int_type}
 use Rattle.lh_types.specs.Values.{int_value}
 use Rattle.lh_types.specs.Bits.{bits_number}
@@ -16,7 +16,7 @@ use Rattle.lh_unit.specs.Typing.{line_giving, carried}
 use Rattle.lh_unit.specs.Held.{Held, Env, datum_held, part_held, as_part, part_at, as_test}
 use Rattle.lh_unit.specs.Effects.{read_bits}
 use Rattle.lh_unit.specs.Hierarchy.{lines_of, parts_of}
-use Rattle.lh_unit.specs.Naming.{Naming, value_text, maybe_text, operand_text, trigger_text, arg_text, inst_text}
+use Rattle.lh_unit.specs.Naming.{Naming, value_text, maybe_text, operand_text, arg_text, inst_text}
 use Rattle.lh_unit.specs.Table.{Table, IsDefinition, line_at, insts_at, ids_from, flat}
 use Rattle.lh_unit.specs.Within.{Each}
 use Rattle.lh_unit.specs.WellFormed.{IsWellFormed}
@@ -29,18 +29,19 @@ use Rattle.lh_unit.specs.declared.inst.InstId.{InstId}
 use Rattle.lh_unit.specs.declared.inst.ValueId.{ValueId}
 use Rattle.lh_unit.specs.declared.inst.BlockId.{BlockId}
 use Rattle.lh_unit.specs.declared.inst.Typed.{Typed}
-use Rattle.lh_unit.specs.declared.inst.RegTrigger.{RegTrigger}
 use Rattle.lh_unit.specs.declared.inst.Arg.{Arg}
 use Rattle.lh_unit.specs.declared.table.Line.{Line}
+use Rattle.lh_unit.specs.ById.{is_sig}
+use Rattle.lh_unit.proofs.Lists.{nat_eq-refl}
 use Rattle.lh_unit.proofs.Tables.{same_name-refl}
 use Rattle.lh_eval.specs.Holding.{Holds, slot_at}
 use Rattle.lh_eval.proofs.BeginSteps.{entity-blocks, entity-lines, entity-insts, begun}
-use Rattle.lh_eval.specs.Beginning.{args_given, signals_given, next_given, is_sig}
+use Rattle.lh_eval.specs.Beginning.{args_given, signals_given, next_given}
 use Rattle.lh_sound.proofs.FitLaws.{unit-is-sound}
 use Rattle.lh_sound.proofs.NamedOnce.{IsFirst, each-first}
-use Rattle.lh_sound.proofs.SoundLines.{same-lines}
 use Rattle.lh_react.specs.Standing.{line_in}
-use Rattle.lh_react.specs.Quiet.{test_of, IsProbedBit, IsProbedInt, AreCompared, IsComparedBit, IsKnownBit, IsShut, HoldsBack, BeginsBy}
+use Rattle.lh_react.specs.Quiet.{test_of, IsProbedInt, AreCompared}
+use Rattle.lh_react.specs.TriggerBits.{number_at, LiesIn, IsBitAt, IsIntAt, IsSameAt, AreSameAt}
 
 -- one bit of some
 one-bit : (bs : List Bool) (lo : ℕ) (b : Bool) → slice_get bs lo ≡ Some b → take 1 (drop lo bs) ≡ b ∷ []
@@ -51,10 +52,6 @@ one-bit (x ∷ bs) (suc lo) b e = one-bit bs lo b e
 tested : (bs : List Bool) (b : Bool) → bs ≡ b ∷ [] → as_test (int_value 1 (bits_number bs)) ≡ Some b
 tested bs true e = ap (λ x. as_test (int_value 1 (bits_number x))) e
 tested bs false e = ap (λ x. as_test (int_value 1 (bits_number x))) e
-
--- the truth value of a part of one bit
-pub bit-of-part : (now : List Bool) (r : Range) (b : Bool) → r.len ≡ 1 → slice_get now r.lo ≡ Some b → test_of (read_bits now (Some (int_type 1)) (Some r)) ≡ Some b
-bit-of-part now r b one e = tested (take 1 (take r.len (drop r.lo now))) b (ap (λ n. take 1 (take n (drop r.lo now))) one ∙ ap (take 1) (one-bit now r.lo b e))
 
 -- the integer of a part
 take-again : (w : ℕ) (bs : List Bool) → take w (take w bs) ≡ take w bs
@@ -152,9 +149,22 @@ are-compared a u now e xs c d l r b two left right same = record {
   same = same;
 }
 
-pub compared-known : (u : UnitText) (args : List Range) (now : List Bool) (n : List ℕ) (r : Option Bool) → IfSome r (λ b. (e : Env) → BeginsBy u args e → IsComparedBit u now e n b) → IfSome r (λ b. (e : Env) → BeginsBy u args e → IsKnownBit u now e n b)
-compared-known u args now n (Some b) h = λ e g. inr (h e g)
-compared-known u args now n None h = tt
+nat_eq-self : (n m : ℕ) → n ≡ m → nat_eq n m ≡ true
+nat_eq-self n m e = subst (λ (k : ℕ). nat_eq n k ≡ true) e (nat_eq-refl n)
+
+-- the same of the parts that they are
+pub are-same-at : (a : Arena) (u : ℕ) (args : List Range) (xs : List Typed) (c d : Typed) (l r : Range) → length xs ≡ 2 → IsIntAt (unit_text_at a u) args (value_text (naming a u) (get_or xs 0 c).value) l
+    → IsIntAt (unit_text_at a u) args (value_text (naming a u) (get_or xs 1 d).value) r → l.len ≡ r.len → AreSameAt (unit_text_at a u) args (map (operand_text (naming a u)) xs) l r
+are-same-at a u args xs c d l r two left right long = λ now e p q h.
+    are-compared a u now e xs c d (l.len, number_at now l) (r.len, number_at now r) (nat_eq (number_at now l) (number_at now r)) two (left now e p h) (right now e q h)
+    (sym (ap (λ (b : Bool). b && nat_eq (number_at now l) (number_at now r)) (nat_eq-self l.len r.len long)))
+
+-- an integer of one bit, as a truth value
+pub bit-at : (u : UnitText) (args : List Range) (n : List ℕ) (r : Range) → r.len ≡ 1 → IsIntAt u args n r → IsBitAt u args n r.lo
+bit-at u args n r one int = λ now e b at h.
+    let within : LiesIn now r = omega (arith, one, slice_get_within now r.lo b at) in
+    let x : IsProbedInt u now e n r.len (number_at now r) = int now e within h in
+    record { signal = x.signal; probe = x.probe; bit = ap test_of x.int ∙ tested (bits_within r.lo r.len now) b (ap (λ k. take k (drop r.lo now)) one ∙ one-bit now r.lo b at) }
 
 module _ (a : Arena) (u : ℕ) (o : IsArena a) (h : u < unit_count a) (k : kind_at a u ≡ Some kind.Entity) (g : IsWellFormed (contents a)) where
   abbrev here : UnitText
@@ -163,7 +173,7 @@ module _ (a : Arena) (u : ℕ) (o : IsArena a) (h : u < unit_count a) (k : kind_
   pub firsts : Each (IsFirst here.args (lines_of here.blocks)) (lines_of here.blocks)
   firsts =
       let defined : IsSome (kind_at a u) = subst (λ (x : Option UnitKind). IsSome x) (sym k) refl in
-      each-first here.args (lines_of here.blocks) [] (lines_of here.blocks) refl (rw (sym (same-lines here.blocks)) (unit-is-sound a u o h g defined).printable.new_results)
+      each-first here.args (lines_of here.blocks) [] (lines_of here.blocks) refl (unit-is-sound a u o h g defined).printable.new_results
 
   -- the same of the instructions by ids
   pub firsts-of : (insts : List InstId) → insts ≡ block_insts_at a u 0 → Each (IsFirst here.args (lines_of here.blocks)) (map (line_in a u) insts)
@@ -198,28 +208,8 @@ module _ (a : Arena) (u : ℕ) (o : IsArena a) (h : u < unit_count a) (k : kind_
       let all : slot_at (signals_given t (block_insts_at a u 0) sigs (args_given t.args args fresh)) v ≡ Some (part_held (get_or args i d)) = kept ∙ args-slot t.args args fresh v i d arg.1 same l long in
       ap (option_and_then as_part) (sym (held.each v (let m : v.0 < length (signals_given t (block_insts_at a u 0) sigs (args_given t.args args fresh)) = omega (arith, held.long, within) in m)) ∙ all)
 
-  pub probed-bit : (args sigs : List Range) (now : List Bool) (v : ValueId) (j i : ℕ) (s : Typed) (d : Range) (b : Bool) → IsDefinition (table_at a u) v.0 (value_def.Inst (record { 0 = j })) → inst_at a u j ≡ inst.Prb s
-      → IsDefinition (table_at a u) s.value.0 (value_def.Arg i) → s.value.0 < value_count a u → i < length args → option_and_then carried s.ty ≡ Some (int_type 1) → test_of (read_bits now (Some (int_type 1)) (Some (get_or args i d))) ≡ Some b
-      → IsProbedBit here now (parts_of here args sigs) (value_text (naming a u) v) b
-  probed-bit args sigs now v j i s d b def is arg within l ty bit =
-      let e : Env = parts_of here args sigs in
-      record {
-        signal = operand_text (naming a u) s;
-        probe = record {
-          given = gives v.0 j def ∙ ap (λ x. Some (inst_text (naming a u) x)) is;
-          argument = arg-defined (naming a u) (table_at a u).args i s.value arg.1;
-        };
-        bit = ap (λ (x : Option TypeTree). test_of (read_bits now x (part_at e (value_text (naming a u) s.value)))) ty ∙ ap (λ (x : Option Range). test_of (read_bits now (Some (int_type 1)) x)) (argument-part args sigs s.value i d arg within l) ∙ bit;
-      }
-
-  pub probed-bit-on : (r : Option Bool) (args : List Range) (now : List Bool) (v : ValueId) (j i : ℕ) (s : Typed) (d : Range) → IsDefinition (table_at a u) v.0 (value_def.Inst (record { 0 = j })) → inst_at a u j ≡ inst.Prb s
-      → IsDefinition (table_at a u) s.value.0 (value_def.Arg i) → s.value.0 < value_count a u → i < length args → option_and_then carried s.ty ≡ Some (int_type 1) → IfSome r (λ b. test_of (read_bits now (Some (int_type 1)) (Some (get_or args i d))) ≡ Some b)
-      → IfSome r (λ b. (e : Env) → BeginsBy here args e → IsProbedBit here now e (value_text (naming a u) v) b)
-  probed-bit-on (Some b) args now v j i s d def is arg within l ty bit = λ e h. subst (λ (x : Env). IsProbedBit here now x (value_text (naming a u) v) b) (sym h.1) (probed-bit args h.0 now v j i s d b def is arg within l ty bit)
-  probed-bit-on None args now v j i s d def is arg within l ty bit = tt
-
   -- the integer that a probe of an argument gives
-  pub probed-int : (args sigs : List Range) (now : List Bool) (v : ValueId) (j i : ℕ) (s : Typed) (d : Range) (w : ℕ) (r : ℕ × ℕ) → IsDefinition (table_at a u) v.0 (value_def.Inst (record { 0 = j })) → inst_at a u j ≡ inst.Prb s
+  probed-int : (args sigs : List Range) (now : List Bool) (v : ValueId) (j i : ℕ) (s : Typed) (d : Range) (w : ℕ) (r : ℕ × ℕ) → IsDefinition (table_at a u) v.0 (value_def.Inst (record { 0 = j })) → inst_at a u j ≡ inst.Prb s
       → IsDefinition (table_at a u) s.value.0 (value_def.Arg i) → s.value.0 < value_count a u → i < length args → option_and_then carried s.ty ≡ Some (int_type w) → read_bits now (Some (int_type w)) (Some (get_or args i d)) ≡ Some (datum_held (int_value r.0 r.1))
       → IsProbedInt here now (parts_of here args sigs) (value_text (naming a u) v) r.0 r.1
   probed-int args sigs now v j i s d w r def is arg within l ty int =
@@ -233,24 +223,21 @@ module _ (a : Arena) (u : ℕ) (o : IsArena a) (h : u < unit_count a) (k : kind_
         int = ap (λ (x : Option TypeTree). read_bits now x (part_at e (value_text (naming a u) s.value))) ty ∙ ap (λ (x : Option Range). read_bits now (Some (int_type w)) x) (argument-part args sigs s.value i d arg within l) ∙ int;
       }
 
-  pub probed-int-on : (r : Option (ℕ × ℕ)) (args : List Range) (now : List Bool) (v : ValueId) (j i : ℕ) (s : Typed) (d : Range) (w : ℕ) → IsDefinition (table_at a u) v.0 (value_def.Inst (record { 0 = j })) → inst_at a u j ≡ inst.Prb s
-      → IsDefinition (table_at a u) s.value.0 (value_def.Arg i) → s.value.0 < value_count a u → i < length args → option_and_then carried s.ty ≡ Some (int_type w) → IfSome r (λ (x : ℕ × ℕ). read_bits now (Some (int_type w)) (Some (get_or args i d)) ≡ Some (datum_held (int_value x.0 x.1)))
-      → IfSome r (λ (x : ℕ × ℕ). (e : Env) → BeginsBy here args e → IsProbedInt here now e (value_text (naming a u) v) x.0 x.1)
-  probed-int-on (Some x) args now v j i s d w def is arg within l ty int = λ e h. subst (λ (y : Env). IsProbedInt here now y (value_text (naming a u) v) x.0 x.1) (sym h.1) (probed-int args h.0 now v j i s d w x def is arg within l ty int)
-  probed-int-on None args now v j i s d w def is arg within l ty int = tt
+  -- so it is the integer of the argument's part
+  pub int-at : (args : List Range) (v : ValueId) (j i : ℕ) (s : Typed) (d : Range) (w : ℕ) → IsDefinition (table_at a u) v.0 (value_def.Inst (record { 0 = j })) → inst_at a u j ≡ inst.Prb s → IsDefinition (table_at a u) s.value.0 (value_def.Arg i) → s.value.0 < value_count a u
+      → i < length args → option_and_then carried s.ty ≡ Some (int_type w) → (get_or args i d).len ≡ w → IsIntAt here args (value_text (naming a u) v) (get_or args i d)
+  int-at args v j i s d w def is arg within l ty long = λ now e lies h.
+      let r : Range = get_or args i d in
+      let carries : option_and_then carried s.ty ≡ Some (int_type r.len) = ty ∙ ap (λ (n : ℕ). Some (int_type n)) (sym long) in
+      let read : read_bits now (Some (int_type r.len)) (Some r) ≡ Some (datum_held (int_value r.len (number_at now r))) = int-of-part now r r.len (number_at now r) refl refl in
+      subst (λ (x : Env). IsProbedInt here now x (value_text (naming a u) v) r.len (number_at now r)) (sym h.1) (probed-int args h.0 now v j i s d r.len (r.len, number_at now r) def is arg within l carries read)
 
-  -- what compares them
-  pub compared-bit-on : (r : Option Bool) (args : List Range) (now : List Bool) (v : ValueId) (j : ℕ) (xs shown : List Typed) → IsDefinition (table_at a u) v.0 (value_def.Inst (record { 0 = j })) → inst_at a u j ≡ inst.Pure op.Eq xs → shown ≡ xs
-      → IfSome r (λ b. (e : Env) → BeginsBy here args e → AreCompared here now e (map (operand_text (naming a u)) shown) b) → IfSome r (λ b. (e : Env) → BeginsBy here args e → IsComparedBit here now e (value_text (naming a u) v) b)
-  compared-bit-on (Some b) args now v j xs shown def is same h = λ e g. record {
+  -- what compares two such ones
+  pub same-at-on : (r : Option (Range × Range)) (args : List Range) (v : ValueId) (j : ℕ) (xs shown : List Typed) → IsDefinition (table_at a u) v.0 (value_def.Inst (record { 0 = j })) → inst_at a u j ≡ inst.Pure op.Eq xs → shown ≡ xs
+      → IfSome r (λ (p : Range × Range). AreSameAt here args (map (operand_text (naming a u)) shown) p.0 p.1) → IfSome r (λ (p : Range × Range). IsSameAt here args (value_text (naming a u) v) p.0 p.1)
+  same-at-on (Some p) args v j xs shown def is same h = λ now e left right g. record {
     operands = map (operand_text (naming a u)) xs;
     given = gives v.0 j def ∙ ap (λ x. Some (inst_text (naming a u) x)) is;
-    compared = subst (λ (ys : List Typed). AreCompared here now e (map (operand_text (naming a u)) ys) b) same (h e g);
+    compared = subst (λ (ys : List Typed). AreCompared here now e (map (operand_text (naming a u)) ys) (nat_eq (number_at now p.0) (number_at now p.1))) same (h now e left right g);
   }
-  compared-bit-on None args now v j xs shown def is same h = tt
-
--- a trigger whose gate is known to be 0
-pub held-by-gate : (a : Arena) (u : ℕ) (now : List Bool) (e : Env) (past : Option Bool) (b bit : Bool) (g : RegTrigger) (gate : ValueId) → g.gate ≡ Some gate → not bit ≡ true → IsKnownBit (unit_text_at a u) now e (value_text (naming a u) gate) bit
-    → HoldsBack (unit_text_at a u) now e past b (trigger_text (naming a u) g)
-held-by-gate a u now e past b true g gate is shut k = absurd cc
-held-by-gate a u now e past b false g gate is shut k = inr (subst (λ (o : Option ValueId). IsShut (unit_text_at a u) now e (maybe_text (naming a u) o)) (sym is) k)
+  same-at-on None args v j xs shown def is same h = tt

@@ -1,5 +1,5 @@
 -- What a pass knows of the probes of arguments and of what compares them, and triggers that do not fire.
-use Rattle.std.proofs.Common.{◌≡◌, ◌⊎◌, inl, inr, ℕ, List, [], ◌∷◌, ◌++◌, map, Bool, true, false, not, ◌&&◌, ◌||◌, nat_eq, if◌then◌else◌, unwrap_or, Option, Some, None, IsSome, refl, ap, sym, ◌∙◌, subst}
+use Rattle.std.proofs.Common.{◌≡◌, ◌⊎◌, inl, inr, ℕ, List, [], ◌∷◌, ◌++◌, map, Bool, true, false, not, ◌&&◌, nat_eq, if◌then◌else◌, unwrap_or, Option, Some, None, IsSome, refl, ap, sym, ◌∙◌, subst}
 use Rattle.std.specs.Option.{option_and_then, option_map}
 use Rattle.std.proofs.lemmas.Option.{same_Some}
 use Rattle.lh_time.specs.declared.Instant.{Instant}
@@ -16,6 +16,7 @@ use Rattle.lh_unit.specs.Hierarchy.{lines_of, if_held, with_parts, signal_names}
 use Rattle.lh_unit.specs.Pass.{Passed, mode_holds, past_of, trigger_now, fires, stored, triggers_from, passes}
 use Rattle.lh_unit.proofs.Tables.{same_name-is}
 use Rattle.lh_sound.proofs.NamedOnce.{IsFirst}
+use Rattle.lh_sound.proofs.FitLaws.{triggers-hold}
 use Rattle.lh_react.specs.Quiet.{test_of, BeginsBy, IsProbe, IsProbedBit, IsProbedInt, IsComparedBit, IsKnownBit, KnowsProbes, KnowsCompared, Knows, IsShut, HoldsBack}
 
 true_no_false : (b : Bool) → b ≡ true → b ≡ false → ⊥
@@ -71,18 +72,13 @@ module _ (u : UnitText) (now : List Bool) (begun : Env) where
         value = result-known e m h i n s (f m refl).1 gives x (k n s x).part (k n s x).value (same_name m n) refl;
       }
 
-  triggers-held : (memory : Option (List Bool)) (t : Instant) (to : OperandText) (fired : Bool) (p : Passed) (gs : List TriggerText) → (triggers_from memory t to fired p gs).held ≡ p.held
-  triggers-held memory t to fired p [] = refl
-  triggers-held memory t to fired p (g ∷ gs) =
-      triggers-held memory t to (fired || fires memory p g) (record { held = p.held; seen = p.seen ++ trigger_now p.held g ∷ []; wish = if not fired && fires memory p g then stored t to g p else p.wish }) gs
-
   -- a pass still knows the probes after each instruction
   passes-probes : (memory : Option (List Bool)) (t : Instant) (p : Passed) (i : InstText) (r : Option (List ℕ)) → IsFirst u.args (lines_of u.blocks) (record { result = r; inst = i }) → KnowsProbes u now begun p.held → KnowsProbes u now begun (passes u now memory t i r p).held
   passes-probes memory t p (const_text d) r f k = given-known p.held r (Some (datum_held d)) (const_text d) f (λ s q. absurd cc) k
   passes-probes memory t p (pure_text o args) r f k = given-known p.held r _ (pure_text o args) f (λ s q. absurd cc) k
   passes-probes memory t p (prb_text x) r f k = given-known p.held r (probed now p.held x) (prb_text x) f (λ s q. let same : x ≡ s = cc in ap (probed now p.held) same) k
   passes-probes memory t p (drv_text to value after cond) r f k = k
-  passes-probes memory t p (reg_text to gs) r f k = subst (KnowsProbes u now begun) (sym (triggers-held memory t to false p gs)) k
+  passes-probes memory t p (reg_text to gs) r f k = subst (KnowsProbes u now begun) (sym (triggers-hold memory t to false p gs)) k
   passes-probes memory t p _ r f k = k
 
   -- both operands of a comparison are values
@@ -137,7 +133,7 @@ module _ (u : UnitText) (now : List Bool) (begun : Env) where
   passes-compared memory t p (pure_text o args) r f k = given-compared p.held r (operated u p.held o args) (pure_text o args) f (same-operation p.held o args) k
   passes-compared memory t p (prb_text s) r f k = given-compared p.held r (probed now p.held s) (prb_text s) f (λ x y q. absurd cc) k
   passes-compared memory t p (drv_text to value after cond) r f k = k.compared
-  passes-compared memory t p (reg_text to gs) r f k = subst (KnowsCompared u now begun) (sym (triggers-held memory t to false p gs)) k.compared
+  passes-compared memory t p (reg_text to gs) r f k = subst (KnowsCompared u now begun) (sym (triggers-hold memory t to false p gs)) k.compared
   passes-compared memory t p _ r f k = k.compared
 
   pub passes-know : (memory : Option (List Bool)) (t : Instant) (p : Passed) (i : InstText) (r : Option (List ℕ)) → IsFirst u.args (lines_of u.blocks) (record { result = r; inst = i }) → Knows u now begun p.held → Knows u now begun (passes u now memory t i r p).held

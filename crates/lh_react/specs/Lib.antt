@@ -1,4 +1,7 @@
 pub mod Kept
 pub mod Standing
+pub mod State
 pub mod Registers
 pub mod Quiet
+pub mod TriggerBits
+pub mod Resting

@@ -1,4 +1,4 @@
--- Passes in which no register is driven, told by their triggers alone.
+-- What holds of passes in which no register is driven: probes of arguments, what compares them, and triggers that do not fire.
 use Rattle.std.specs.Prelude.{◌≡◌, ◌⊎◌, ℕ, List, [], ◌∷◌, Bool, true, false, ◌&&◌, nat_eq, Option, Some, None}
 use Rattle.std.specs.Option.{option_and_then}
 use Rattle.lh_types.specs.Wish.{no_wish}

@@ -1,7 +1,8 @@
 -- What a run of an entity has come to, as the code keeps it and as a pass defines it.
-use Rattle.std.specs.Prelude.{◌≡◌, ℕ, ◌+◌, ◌<◌, List, [], ◌∷◌, length, map, Bool, Option, Some, None}
+use Rattle.std.specs.Prelude.{◌≡◌, ℕ, ◌+◌, List, [], ◌∷◌, length, map, Bool, Option, Some, None}
 use Rattle.lh_time.specs.declared.Instant.{Instant}
 use Rattle.lh_types.specs.Wish.{Wish}
+use Rattle.lh_types.specs.declared.part.Range.{Range}
 use Rattle.lh_unit.specs.Contents.{InstText, reg_text, LineText, UnitText}
 use Rattle.lh_unit.specs.Held.{Held}
 use Rattle.lh_unit.specs.Pass.{Passed, passes, pass_from}
@@ -20,6 +21,8 @@ use Rattle.lh_eval.specs.WishOf.{writes_wish}
 use Rattle.lh_eval.specs.Grouped.{IsGrouped}
 use Rattle.lh_react.specs.declared.pass.Run.{Run}
 use Rattle.lh_react.specs.declared.entity.EntAct.{EntAct}
+use Rattle.lh_react.specs.State.{EntityState}
+use Rattle.lh_react.specs.TriggerBits.{TriggersFit}
 
 -- the text of an instruction of the unit u with its result
 abbrev pub line_in : Arena → ℕ → InstId → LineText
@@ -77,16 +80,21 @@ abbrev pub trigger_count : List LineText → ℕ
 trigger_count [] = 0
 trigger_count (l ∷ more) = triggers_in l.inst + trigger_count more
 
--- a state fits its unit where it has no memory yet, or one value for each trigger
-abbrev pub StateFits : UnitText → Option (List Bool) → Type 0
-StateFits u None = Unit {0}
-StateFits u (Some values) = length values ≡ trigger_count (lines_of u.blocks)
+-- a memory fits an entity where there is none yet, or one value for each trigger
+abbrev pub MemoryFits : UnitText → Option (List Bool) → Type 0
+MemoryFits u None = Unit {0}
+MemoryFits u (Some values) = length values ≡ trigger_count (lines_of u.blocks)
 
--- What a run of the unit u answers, where the signals have so many bits: what the pass has seen is the next memory, which fits; and
+-- so its memory does, and its triggers are those of the entity, whose arguments have these ranges
+pub record StateFits (u : UnitText) (args : List Range) (s : EntityState) : Type 0 where
+  pub memory : MemoryFits u s.memory
+  pub triggers : TriggersFit u args s.triggers
+
+-- What a run of the unit u answers, whose arguments have these ranges, where the signals have so many bits: what the pass has seen is the next memory, and the next state fits; and
 -- the writes have exactly the entries of its wish. Their instants strictly rise, none is empty and none names a bit twice, and each names only bits of the signals.
-pub record Reacts (u : UnitText) (width : ℕ) (p : Passed) (act : EntAct) : Type 0 where
-  pub next : act.next ≡ Some p.seen
-  pub fits : StateFits u act.next
+pub record Reacts (u : UnitText) (args : List Range) (width : ℕ) (p : Passed) (act : EntAct) : Type 0 where
+  pub next : act.next.memory ≡ Some p.seen
+  pub fits : StateFits u args act.next
   pub wish : writes_wish act.wishes ≡ p.wish
   pub grouped : IsGrouped act.wishes
   pub within : Each (λ (d : Instant × List (ℕ × Bool)). BitsWithin width d.1) act.wishes

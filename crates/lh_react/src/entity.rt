@@ -1,16 +1,22 @@
 //! One pass of an entity.
-ghost use Rattle.std.specs.Prelude.{◌≡◌, ◌<◌, ◌^◌, length, Some, IfOk};
+ghost use Rattle.std.specs.Prelude.{◌≡◌, ◌<◌, ◌^◌, List, Bool, Option, length, Some, IfOk, IfSome};
+ghost use Rattle.std.specs.Option.{IsSomeAnd};
 ghost use Rattle.lh_types.specs.Raised.{raised};
 ghost use Rattle.lh_unit.specs.Arena.{IsArena, unit_count, kind_at, contents, unit_text_at, block_insts_at};
 ghost use Rattle.lh_unit.specs.Pass.{pass};
 ghost use Rattle.lh_unit.specs.WellFormed.{IsWellFormed};
 ghost use Rattle.lh_sound.specs.Ranges.{InstanceFits};
 ghost use Rattle.lh_react.specs.Standing.{Reacts};
+ghost use Rattle.lh_react.specs.TriggerBits.{TriggersFit};
+ghost use Rattle.lh_react.specs.Resting.{AllRest};
 
+use crate::kept::Kept;
 use crate::pass::{Run, run_insts};
+use crate::places::triggers_of;
 use crate::quiet::quiet;
 use crate::seen::Seen;
 use crate::state::EntState;
+use crate::triggers::TriggerBit;
 use lh_eval::begin::begin;
 use lh_eval::instance::Instance;
 use lh_eval::wishes::Wishes;
@@ -52,7 +58,8 @@ pub fn react<T: Tally>(
     requires unit { i.now.unit.0 < unit_count m.now }
     requires entity { kind_at m.now i.now.unit.0 ≡ Some UnitKind.Entity }
     requires fits { InstanceFits (unit_text_at m.now i.now.unit.0) i.now.args i.now.sigs (length now.now) }
-    ensures act { IfOk result (Reacts (unit_text_at m.now i.now.unit.0) (length now.now) (pass (unit_text_at m.now i.now.unit.0) i.now.args i.now.sigs now.now s.now at)) }
+    requires triggers { TriggersFit (unit_text_at m.now i.now.unit.0) i.now.args s.now.triggers }
+    ensures act { IfOk result (Reacts (unit_text_at m.now i.now.unit.0) i.now.args (length now.now) (pass (unit_text_at m.now i.now.unit.0) i.now.args i.now.sigs now.now s.now.memory at)) }
     ensures tick { T.count tally.new ≡ raised (T.count tally.old) 1 }
 {
     tally.tick();
@@ -60,7 +67,7 @@ pub fn react<T: Tally>(
     run_entity(alloc, m, i.unit, args, sigs, now, s, at)
 }
 
-/// One pass of an entity.
+/// One pass of an entity: where its triggers tell that nothing is driven, by them alone.
 fn run_entity(
     alloc: Global,
     m: &Module,
@@ -75,19 +82,57 @@ fn run_entity(
     requires entity { kind_at m.now unit.0 ≡ Some UnitKind.Entity }
     requires formed { IsWellFormed (contents m.now) }
     requires fits { InstanceFits (unit_text_at m.now unit.0) args.now sigs.now (length now.now) }
-    ensures { IfOk result (Reacts (unit_text_at m.now unit.0) (length now.now) (pass (unit_text_at m.now unit.0) args.now sigs.now now.now state.now at)) }
+    requires triggers { TriggersFit (unit_text_at m.now unit.0) args.now state.now.triggers }
+    ensures { IfOk result (Reacts (unit_text_at m.now unit.0) args.now (length now.now) (pass (unit_text_at m.now unit.0) args.now sigs.now now.now state.now.memory at)) }
 {
-    few_bits(now);
-    let block = m.blocks(unit)[0];
-    let insts = m.insts(unit, block);
-    if let Some(seen) = quiet(alloc, m, unit, insts, args, now, state)? {
-        let next = state.after(alloc, seen)?;
+    in_place(m);
+    let triggers = triggers_in(alloc, m, unit, args, state)?;
+    if let Some(seen) = quiet_by(alloc, &triggers, now, state)? {
+        let next = state.after(alloc, seen, triggers)?;
         return Ok(EntAct {
             next,
             wishes: ListOf::new(alloc),
         });
     }
-    run_each(alloc, m, unit, insts, args, sigs, now, state, at)
+    run_each(alloc, m, unit, args, sigs, now, state, triggers, at)
+}
+
+/// The triggers of an entity, where they are known: its first run finds them, and then they are kept.
+fn triggers_in(
+    alloc: Global,
+    m: &Module,
+    unit: UnitId,
+    args: &[Range],
+    state: &EntState,
+) -> Result<Option<Kept<TriggerBit>>, NoMemory>
+    requires unit { unit.0 < unit_count m.now }
+    requires entity { kind_at m.now unit.0 ≡ Some UnitKind.Entity }
+    requires formed { IsWellFormed (contents m.now) }
+    requires triggers { TriggersFit (unit_text_at m.now unit.0) args.now state.now.triggers }
+    ensures { IfOk result (TriggersFit (unit_text_at m.now unit.0) args.now) }
+{
+    if state.memory().is_some() {
+        return state.triggers();
+    }
+    match triggers_of(alloc, m, unit, insts_of(m, unit), args)? {
+        Some(bits) => Ok(Some(Kept::new(alloc, bits)?)),
+        None => Ok(None),
+    }
+}
+
+/// The values of the triggers, where they are known and none of them fires.
+fn quiet_by(
+    alloc: Global,
+    triggers: &Option<Kept<TriggerBit>>,
+    now: &Bits,
+    state: &EntState,
+) -> Result<Option<Seen>, NoMemory>
+    ensures { IfOk result (λ (o : Option (List Bool)). IfSome o (λ values. IsSomeAnd triggers.now (λ bits. AllRest now.now state.now.memory 0 bits values))) }
+{
+    match triggers {
+        Some(bits) => quiet(alloc, bits.list().as_slice(), now, state),
+        None => Ok(None),
+    }
 }
 
 /// One pass of an entity, instruction by instruction. It stands apart, so that a quiet pass is short.
@@ -96,22 +141,22 @@ fn run_each(
     alloc: Global,
     m: &Module,
     unit: UnitId,
-    insts: &[InstId],
     args: &[Range],
     sigs: &[Range],
     now: &Bits,
     state: &EntState,
+    triggers: Option<Kept<TriggerBit>>,
     at: Instant,
 ) -> Result<EntAct, NoMemory>
-    requires arena { IsArena m.now }
     requires unit { unit.0 < unit_count m.now }
     requires entity { kind_at m.now unit.0 ≡ Some UnitKind.Entity }
     requires formed { IsWellFormed (contents m.now) }
-    requires insts { insts.now ≡ block_insts_at m.now unit.0 0 }
-    requires few { length now.now < 2 ^ 32 }
     requires fits { InstanceFits (unit_text_at m.now unit.0) args.now sigs.now (length now.now) }
-    ensures { IfOk result (Reacts (unit_text_at m.now unit.0) (length now.now) (pass (unit_text_at m.now unit.0) args.now sigs.now now.now state.now at)) }
+    requires triggers { TriggersFit (unit_text_at m.now unit.0) args.now triggers }
+    ensures { IfOk result (Reacts (unit_text_at m.now unit.0) args.now (length now.now) (pass (unit_text_at m.now unit.0) args.now sigs.now now.now state.now.memory at)) }
 {
+    few_bits(now);
+    let insts = insts_of(m, unit);
     let slots = begin(alloc, m, unit, insts, args, sigs)?;
     let seen = Seen::new(alloc, state)?;
     let mut run = Run {
@@ -121,9 +166,27 @@ fn run_each(
     };
     run_insts(alloc, m, unit, insts, now, state, at, &mut run)?;
     let Run { seen, wishes, .. } = run;
-    let next = state.after(alloc, seen)?;
+    let next = state.after(alloc, seen, triggers)?;
     let wishes = wishes.into_writes()?;
     Ok(EntAct { next, wishes })
+}
+
+/// The instructions of an entity.
+fn insts_of(m: &Module, unit: UnitId) -> &[InstId]
+    requires unit { unit.0 < unit_count m.now }
+    requires entity { kind_at m.now unit.0 ≡ Some UnitKind.Entity }
+    ensures insts { result.now ≡ block_insts_at m.now unit.0 0 }
+    ensures arena { IsArena m.now }
+{
+    let block = m.blocks(unit)[0];
+    m.insts(unit, block)
+}
+
+/// All ids of a module are in place.
+fn in_place(m: &Module)
+    ensures { IsArena m.now }
+{
+    let _items = m.items();
 }
 
 /// There are fewer than 2 ^ 32 bits.

@@ -1,48 +1,48 @@
-//! Values of triggers that are kept between runs.
+//! Lists that are kept between runs.
 ghost use Rattle.std.specs.Prelude.{◌≡◌, IfOk};
 
-use lh_types::list::BoolList;
+use lh_types::list::ListOf;
 use lh_types::ty::NoMemory;
 use std::alloc::Global;
 use std::marker::Model;
 use std::rc::Rc;
 
-/// Values that are kept between runs, by several owners. Contracts see the list of them.
+/// A list that is kept between runs, by several owners. Contracts see the list.
 #[derive(Drop)]
-pub(crate) struct Kept {
-    values: Rc<BoolList>,
+pub(crate) struct Kept<T: Drop> {
+    items: Rc<ListOf<T>>,
 }
 
-impl Model for Kept {
-    ghost use Rattle.std.specs.Prelude.{Bool, List};
+impl<T: Drop> Model for Kept<T> {
+    ghost use Rattle.std.specs.Prelude.{List};
     ghost use Rattle.std.specs.Rc.{rc_value};
 
-    ghost Value = { List Bool };
+    ghost Value = { List T };
 
-    ghost view = { λ k. rc_value k.values };
+    ghost view = { λ k. rc_value k.items };
 }
 
-impl Kept {
-    /// These values, kept.
-    pub fn new(alloc: Global, values: BoolList) -> Result<Kept, NoMemory>
-        ensures { IfOk result (λ k. k ≡ values) }
+impl<T: Drop> Kept<T> {
+    /// These items, kept.
+    pub fn new(alloc: Global, items: ListOf<T>) -> Result<Kept<T>, NoMemory>
+        ensures { IfOk result (λ k. k ≡ items) }
     {
-        let values = Rc::new(alloc, values)?;
-        Ok(Kept { values })
+        let items = Rc::new(alloc, items)?;
+        Ok(Kept { items })
     }
 
-    /// The same values for one owner more.
-    pub fn share(&self) -> Result<Kept, NoMemory>
+    /// The same items for one owner more.
+    pub fn share(&self) -> Result<Kept<T>, NoMemory>
         ensures { IfOk result (λ k. k ≡ self.now) }
     {
-        let values = self.values.clone()?;
-        Ok(Kept { values })
+        let items = self.items.clone()?;
+        Ok(Kept { items })
     }
 
-    /// The values.
-    pub fn list(&self) -> &BoolList
+    /// The items.
+    pub fn list(&self) -> &ListOf<T>
         ensures { result.now ≡ self.now }
     {
-        &self.values
+        &self.items
     }
 }

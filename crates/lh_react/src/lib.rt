@@ -4,10 +4,12 @@
 mod entity;
 mod kept;
 mod pass;
+mod places;
 mod quiet;
 mod register;
 mod seen;
 mod state;
+mod triggers;
 
 pub use entity::{EntAct, react};
 pub use state::EntState;

@@ -55,7 +55,7 @@ pub(crate) fn run_insts(
     requires sound { Each (λ (i : Id). IsSound (unit_text_at m.now unit.0) (line_in m.now unit.0 i)) insts.now }
     requires few { length now.now < 2 ^ 32 }
     requires fit { IsFit m.now unit.0 (length now.now) run.old }
-    ensures { (p : Passed) → Stands m.now unit.0 p run.old → OnOk result (Stands m.now unit.0 (passed_all m.now unit.0 now.now state.now at p insts.now) run.new) }
+    ensures { (p : Passed) → Stands m.now unit.0 p run.old → OnOk result (Stands m.now unit.0 (passed_all m.now unit.0 now.now state.now.memory at p insts.now) run.new) }
 {
     for inst in insts {
         run_inst(alloc, m, unit, *inst, now, state, at, run)?;
@@ -79,7 +79,7 @@ fn run_inst(
     requires sound { IsSound (unit_text_at m.now unit.0) (line_in m.now unit.0 inst) }
     requires few { length now.now < 2 ^ 32 }
     requires fit { IsFit m.now unit.0 (length now.now) run.old }
-    ensures { (p : Passed) → Stands m.now unit.0 p run.old → OnOk result (Stands m.now unit.0 (passed_all m.now unit.0 now.now state.now at p (inst ∷ [])) run.new) }
+    ensures { (p : Passed) → Stands m.now unit.0 p run.old → OnOk result (Stands m.now unit.0 (passed_all m.now unit.0 now.now state.now.memory at p (inst ∷ [])) run.new) }
 {
     let name = m.result_of(unit, inst);
     let inst = m.inst(unit, inst);
@@ -105,7 +105,7 @@ fn run_named(
     requires sound { IsSound (unit_text_at m.now unit.0) (named_line m.now unit.0 name inst.now) }
     requires few { length now.now < 2 ^ 32 }
     requires fit { IsFit m.now unit.0 (length now.now) run.old }
-    ensures { (p : Passed) → Stands m.now unit.0 p run.old → OnOk result (Stands m.now unit.0 (passed_by m.now unit.0 now.now state.now at p name inst.now) run.new) }
+    ensures { (p : Passed) → Stands m.now unit.0 p run.old → OnOk result (Stands m.now unit.0 (passed_by m.now unit.0 now.now state.now.memory at p name inst.now) run.new) }
 {
     match inst {
         Inst::Const(value) => run_const(value, name, run),

@@ -28,7 +28,7 @@ pub(crate) fn run_reg(
     requires to { to.now.value.0 < length run.old.slots }
     requires within { Each (TriggerIn run.old.slots) triggers.now }
     requires fit { Each (TriggerFits run.old.slots to.now.value) triggers.now }
-    ensures { OnOk result (run.new ≡ tries state.now at to.now.value false run.old triggers.now) }
+    ensures { OnOk result (run.new ≡ tries state.now.memory at to.now.value false run.old triggers.now) }
 {
     let mut fired = false;
     for trigger in triggers {
@@ -50,7 +50,7 @@ fn run_trigger(
     requires to { to.0 < length run.old.slots }
     requires within { TriggerIn run.old.slots trigger.now }
     requires fit { TriggerFits run.old.slots to trigger.now }
-    ensures { IfOk result (λ f. (f ≡ (fired || fires_in state.now run.old trigger.now)) × (run.new ≡ tried state.now at to fired run.old trigger.now)) }
+    ensures { IfOk result (λ f. (f ≡ (fired || fires_in state.now.memory run.old trigger.now)) × (run.new ≡ tried state.now.memory at to fired run.old trigger.now)) }
 {
     let value = test_in(&run.slots, trigger.trigger).unwrap_or(false);
     let fires = mode_holds(trigger.mode, past_of(state, run.seen.len()), value)
@@ -113,7 +113,7 @@ pub(crate) fn mode_holds(mode: Mode, past: Option<bool>, now: bool) -> bool
 
 /// The value of the next trigger at the previous run, where so many were seen in this one.
 pub(crate) fn past_of(state: &EntState, seen: usize) -> Option<bool>
-    ensures { result ≡ option_and_then (λ values. slice_get values seen) state.now }
+    ensures { result ≡ option_and_then (λ values. slice_get values seen) state.now.memory }
 {
     match state.memory() {
         Some(values) => values.as_slice().get(seen).copied(),

@@ -12,7 +12,7 @@ use std::marker::Model;
 /// Values that stand at the front of a list that is kept, or a list of their own.
 #[derive(Drop)]
 pub(crate) enum Values {
-    Front(Kept, usize),
+    Front(Kept<bool>, usize),
     Own(BoolList),
 }
 
@@ -78,7 +78,7 @@ impl Seen {
     }
 
     /// The values to be kept, and whether they are others than those that the state has.
-    pub fn into_kept(self, alloc: Global) -> Result<(Kept, bool), NoMemory>
+    pub fn into_kept(self, alloc: Global) -> Result<(Kept<bool>, bool), NoMemory>
         ensures { IfOk result (λ r. r.0 ≡ self) }
     {
         let Seen { values, turned } = self;

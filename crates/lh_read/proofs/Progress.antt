@@ -1,11 +1,13 @@
 -- How far a text is read.
-use Rattle.std.proofs.Common.{Some, ◌≡◌, ℕ, ◌+◌, ◌<◌, ◌≤◌, List, [], ◌∷◌, length, Result, Ok, Err, IfOk, IfErr, true, false, refl, ap, sym, ◌∙◌, subst, inl, inr, arith}
+use Rattle.std.proofs.Common.{Some, None, ◌≡◌, ℕ, ◌+◌, ◌<◌, ◌≤◌, List, [], ◌∷◌, length, Result, Ok, Err, IfOk, IfErr, true, false, refl, ap, sym, ◌∙◌, subst, inl, inr, arith}
 use Rattle.lh_unit.specs.Contents.{ItemText}
 use Rattle.lh_unit.specs.Lexemes.{Lexeme, lexemes}
 use Rattle.lh_unit.specs.Lines.{lines_of}
 use Rattle.lh_unit.specs.Spells.{LineItem}
 use Rattle.lh_unit.specs.Arena.{Arena, contents}
 use Rattle.lh_unit.specs.Reads.{State, start, Takes, Walk, BadKind, syntax, unit_too_large, duplicate_name, IsBad, FirstBadFrom, Reads, FirstBad}
+use Rattle.lh_scan.specs.declared.fault.ScanFault.{ScanFault}
+use Rattle.lh_scan.specs.declared.fault.ScanFault.TheVariants as scan
 use Rattle.lh_syntax.specs.SpelledBy.{SpelledBy}
 use Rattle.lh_read.specs.declared.faults.LineFault.{LineFault}
 use Rattle.lh_read.specs.declared.faults.LineFault.TheVariants as line
@@ -13,11 +15,12 @@ use Rattle.lh_read.specs.declared.reader.Reader.{Reader}
 use Rattle.lh_read.specs.declared.TextFault.{TextFault}
 use Rattle.lh_read.specs.declared.TextFault.TheVariants.{Syntax, UnitTooLarge, DuplicateName, OutOfMemory}
 use Rattle.lh_read.specs.Places.{is_inside}
+use Rattle.lh_read.specs.FaultOf.{spelling_fault}
 use Rattle.lh_read.specs.InOrder.{IsInOrder, state_of}
 use Rattle.lh_read.specs.Steps.{step}
 use Rattle.lh_read.specs.Building.{Steps, TakesOrIsBad}
 use Rattle.lh_read.specs.Reading.{Gives, Names, Answers, text_fault}
-use Rattle.lh_read.proofs.Texts.{closed, taken-line, bad-line, reads-once, reads-bad}
+use Rattle.lh_read.proofs.Texts.{closed, taken-line, bad-line, unspelled-line, reads-once, reads-bad}
 
 -- what is answered of a line that says an item
 pub line-steps : (o : Result (Unit {0}) LineFault) (s t : State) (l : List ℕ) (ts us : List Lexeme) (i : LineItem) → lexemes l ≡ Some ts → us ≡ ts → SpelledBy us (Some i) → Steps o (step s i) t → TakesOrIsBad o s l t
@@ -26,6 +29,11 @@ line-steps (Err line.Syntax) s t l ts us i e f w p = bad-line s l us i syntax (e
 line-steps (Err line.UnitTooLarge) s t l ts us i e f w p = bad-line s l us i unit_too_large (e ∙ ap Some (sym f)) w p
 line-steps (Err line.DuplicateName) s t l ts us i e f w p = bad-line s l us i duplicate_name (e ∙ ap Some (sym f)) w p
 line-steps (Err line.OutOfMemory) s t l ts us i e f w p = tt
+
+-- what is answered of a line that spells no item
+pub line-unspelled : (e : ScanFault) (s t : State) (l : List ℕ) (ts : List Lexeme) → lexemes l ≡ Some ts → (e ≡ scan.NotSpelled → SpelledBy ts None) → TakesOrIsBad (Err (spelling_fault e)) s l t
+line-unspelled scan.NotSpelled s t l ts e h = unspelled-line s l ts e (h refl)
+line-unspelled scan.OutOfMemory s t l ts e h = tt
 
 -- the lines before this number are read: what follows from here is what the text reads as
 pub record At (text rest : List ℕ) (number : ℕ) (r : Reader) : Type 0 where

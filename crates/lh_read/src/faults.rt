@@ -1,4 +1,5 @@
 //! Why a line is faulty.
+use lh_scan::fault::ScanFault;
 use lh_types::ty::NoMemory;
 use lh_unit::inst::UnitFault;
 
@@ -23,6 +24,21 @@ impl From<NoMemory> for LineFault {
 
     fn from(_: NoMemory) -> LineFault {
         LineFault::OutOfMemory
+    }
+}
+
+/// Tokens that spell nothing are a line that does.
+impl From<ScanFault> for LineFault {
+    ghost use Rattle.std.specs.Prelude.{◌≡◌};
+    ghost use Rattle.lh_read.specs.FaultOf.{spelling_fault};
+
+    ghost from_gives = { λ f e. e ≡ spelling_fault f };
+
+    fn from(fault: ScanFault) -> LineFault {
+        match fault {
+            ScanFault::NotSpelled => LineFault::Syntax,
+            ScanFault::OutOfMemory => LineFault::OutOfMemory,
+        }
     }
 }
 

@@ -47,7 +47,7 @@ pub fn value_id(
         return Err(NoMemory);
     }
     let name = name.to_name(alloc)?;
-    m.value_named(unit, &name)
+    m.enter_value(unit, name)
 }
 
 /// The label of this name in a unit.
@@ -65,7 +65,7 @@ pub fn label_id(
         return Err(NoMemory);
     }
     let name = name.to_name(alloc)?;
-    m.block_named(unit, &name)
+    m.enter_block(unit, name)
 }
 
 /// The value of this name, if there is a name.

@@ -40,8 +40,6 @@ pub fn read_line(alloc: Global, reader: &mut Reader, text: &[u8]) -> Result<(), 
     let Some(tokens) = Tokens::of(text) else {
         return Err(LineFault::Syntax);
     };
-    match item(alloc, &tokens)? {
-        Some(said) => reader.take(alloc, said),
-        None => Err(LineFault::Syntax),
-    }
+    let said = item(alloc, &tokens)?;
+    reader.take(alloc, said)
 }

@@ -16,6 +16,7 @@ use Rattle.lh_unit.specs.Held.{Env, part_held, nothing_held, with_args}
 use Rattle.lh_unit.specs.Within.{Each}
 use Rattle.lh_unit.specs.Activation as machine
 use Rattle.lh_unit.specs.Activation.{Scene, Point, ProcessState, Activated, activate, control_at, start_point, run, went, phis_taken, entered}
+use Rattle.lh_unit.proofs.Within.{Each-more}
 use Rattle.lh_sound.specs.Ranges.{RangesFit, arg_types}
 use Rattle.lh_inlined.specs.Formed.{IsFormed}
 use Rattle.lh_flat.specs.Flat.{FlatBlockText, FlatText, with_merge, flat_unit}
@@ -25,7 +26,7 @@ use Rattle.lh_term.specs.Make.{bit_of}
 use Rattle.lh_term.specs.declared.part.Part.{Part}
 use Rattle.lh_rows.specs.Known.{Knowledge, nothing_known, with_arguments}
 use Rattle.lh_rows.specs.Rows as rows
-use Rattle.lh_rows.specs.Rows.{End, Rows}
+use Rattle.lh_rows.specs.Rows.{End}
 use Rattle.lh_rows.specs.Joins.{Edge}
 use Rattle.lh_rows.specs.Places.{Region}
 use Rattle.lh_rows.specs.Regions.{with_constant, with_constants, begins_with_phi, lines_at, known_first, head_of, edge_into, Course, no_course, comes_to, max_insts, first_region}
@@ -33,7 +34,7 @@ use Rattle.lh_rows.specs.Typed.{Among, IsOfType, JoinEdge}
 use Rattle.lh_rows.specs.Means.{range_in, reads, Shows, Agrees}
 use Rattle.lh_rows.specs.Laws.{EndsAs, max_steps, new_process, WaitsForHead, FirstActivation, AgainFromHead, HeadStaysKnown, RowsAreTyped, DriveTyped, EndTyped}
 use Rattle.lh_rows.specs.Right.{as_block, BlockAt, WayRight}
-use Rattle.lh_rows.proofs.Among.{in-each, each-more}
+use Rattle.lh_rows.proofs.Among.{in-each}
 use Rattle.lh_rows.proofs.Merging.{bit-condition}
 use Rattle.lh_rows.proofs.Labels.{block-labelled}
 use Rattle.lh_rows.proofs.Steps.{RegionOf}
@@ -223,8 +224,8 @@ module _ (name : UnitName) (t : FlatText) (f : IsFormed (flat_unit name t)) (pla
 
   pub rows-typed : Each DriveTyped c.rows.drives × Each (EndTyped u) c.rows.ends
   rows-typed = (
-    each-more (Courses.DriveFine u g r) DriveTyped c.rows.drives (λ d k. record { cond = k.cond; part = k.part; value = k.value; delay = k.delay }) first-fine.drives,
-    each-more (Courses.EndFine u g r) (EndTyped u) c.rows.ends (λ x k. record { cond = k.cond; known = k.known }) first-fine.ends,
+    Each-more (Courses.DriveFine u g r) DriveTyped c.rows.drives (λ d k. record { cond = k.cond; part = k.part; value = k.value; delay = k.delay }) first-fine.drives,
+    Each-more (Courses.EndFine u g r) (EndTyped u) c.rows.ends (λ x k. record { cond = k.cond; known = k.known }) first-fine.ends,
   )
 
 -- ---- the laws

@@ -12,14 +12,6 @@ pub each-among : {X : Type 0} (P : X → Type 0) (xs : List X) → ((x : X) → 
 each-among P [] go = tt
 each-among P (x ∷ xs) go = (go x (inl refl), each-among P xs (λ y a. go y (inr a)))
 
-pub each-more : {X : Type 0} (P Q : X → Type 0) (xs : List X) → ((x : X) → P x → Q x) → Each P xs → Each Q xs
-each-more P Q [] go h = tt
-each-more P Q (x ∷ xs) go h = (go x h.0, each-more P Q xs go h.1)
-
-pub each-append : {X : Type 0} (P : X → Type 0) (xs ys : List X) → Each P xs → Each P ys → Each P (xs ++ ys)
-each-append P [] ys a b = b
-each-append P (x ∷ xs) ys a b = (a.0, each-append P xs ys a.1 b)
-
 pub among-left : {X : Type 0} (x : X) (xs ys : List X) → Among x xs → Among x (xs ++ ys)
 among-left x [] ys a = absurd a
 among-left x (y ∷ xs) ys (inl e) = inl e

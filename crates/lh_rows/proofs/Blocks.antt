@@ -4,11 +4,11 @@ use Rattle.std.specs.List.{list_any}
 use Rattle.std.specs.Option.{option_and_then, option_map}
 use Rattle.std.proofs.lemmas.Bool.{false≢true}
 use Rattle.std.proofs.lemmas.Option.{same_Some, none-some}
+use Rattle.std.proofs.lemmas.List.{map-append}
 use Rattle.lh_time.specs.declared.Instant.{Instant}
-use Rattle.lh_time.specs.declared.Delay.{Delay}
 use Rattle.lh_time.specs.Due.{due_of}
 use Rattle.lh_types.specs.Types.{TypeTree, time_type, void_type, int_type, array_type, tuple_type, pointer_type, signal_type}
-use Rattle.lh_types.specs.Values.{Datum, time_value, int_value, array_value, tuple_value}
+use Rattle.lh_types.specs.Values.{Datum}
 use Rattle.lh_types.specs.Fits.{FitsType}
 use Rattle.lh_types.specs.Apply.{bit_value}
 use Rattle.lh_types.specs.Wish.{Wish}
@@ -25,12 +25,14 @@ use Rattle.lh_unit.specs.WellFormed.{labels_named}
 use Rattle.lh_unit.specs.Within.{Each}
 use Rattle.lh_unit.specs.declared.inst.UnitKind.TheVariants as kind
 use Rattle.lh_unit.specs.Activation as machine
-use Rattle.lh_unit.specs.Activation.{Scene, Control, Point, Activated, Stand, goes, entered, step, executes, run, went}
+use Rattle.lh_unit.specs.Activation.{Scene, Point, Activated, Stand, goes, entered, step, executes, run, went}
 use Rattle.lh_formed.specs.Defined.{IsThere, OperandsThere}
 use Rattle.lh_formed.specs.KindsOf.{HasTypeOfKind}
 use Rattle.lh_formed.specs.Operands.{IsOf, MayBeOf, RowIs}
 use Rattle.lh_flat.specs.Flat.{FlatBlockText, with_merge}
-use Rattle.lh_sound.proofs.EachItem.{each-split}
+use Rattle.lh_formed.proofs.EachItem.{each-split}
+use Rattle.lh_formed.proofs.There.{first-name, second-name}
+use Rattle.lh_formed.proofs.AtPlaces.{place-at}
 use Rattle.lh_inlined.specs.Formed.{IsWithoutCalls}
 use Rattle.lh_term.specs.Tree.{Tree}
 use Rattle.lh_term.specs.Mean.{Valuation, IsFitting, mean}
@@ -44,19 +46,20 @@ use Rattle.lh_rows.specs.Places.{Region, Here, Midst, block_number, both, leads,
 use Rattle.lh_rows.specs.Typed.{KnowsTyped, KnowsThere, IsCondition}
 use Rattle.lh_rows.specs.Means.{range_in, reads, Shows, with_rows}
 use Rattle.lh_rows.specs.Right.{as_block, BlockAt, PhisGiven, JoinsAt}
-use Rattle.lh_rows.proofs.Sites.{Site, site-at, place-at}
+use Rattle.lh_rows.proofs.Sites.{Site, site-at}
 use Rattle.lh_rows.proofs.Merging.{one, mean-bit, and-one, not-one, not-condition}
 use Rattle.lh_rows.proofs.Operations.{IsOfSome, datum-shown, parts-shown, value-known, part-known}
 use Rattle.lh_rows.proofs.Knowing.{phis-more}
-use Rattle.lh_rows.proofs.Steps.{first-name, second-name, RegionOf, Target, target, text-at, Led, led_never, led_edge, led_head, leads-led}
+use Rattle.lh_rows.proofs.Steps.{RegionOf, Target, target, text-at, Led, led_never, led_edge, led_head, leads-led}
 use Rattle.lh_rows.proofs.Taking as Taking
 use Rattle.lh_rows.proofs.Leading as Leading
 use Rattle.lh_rows.proofs.Executing as Executing
 use Rattle.lh_rows.proofs.Living as Living
 use Rattle.lh_rows.proofs.Leaving as Leaving
+use Rattle.lh_rows.proofs.Executing.{delay-of-time}
 
 -- an operand of the kind of signals is a signal
-signal-of : (u : UnitText) (m : List ℕ) → HasTypeOfKind u (used signal_needed m) → (t : TypeTree) × IsOf u (signal_type t) m
+pub signal-of : (u : UnitText) (m : List ℕ) → HasTypeOfKind u (used signal_needed m) → (t : TypeTree) × IsOf u (signal_type t) m
 signal-of u m k = by k.0 k.1 k.2 k.3 k.4
   where
     by : (t : TypeTree) (c : Kind) → value_type u m ≡ Some t → kind_of t ≡ Some c → kind_takes signal_needed c ≡ true → (t : TypeTree) × IsOf u (signal_type t) m
@@ -67,20 +70,6 @@ signal-of u m k = by k.0 k.1 k.2 k.3 k.4
     by time_type c v q w = absurd (false≢true (ap (kind_takes signal_needed) (same_Some a_time c q) ∙ w))
     by (pointer_type t) c v q w = absurd (false≢true (ap (kind_takes signal_needed) (same_Some a_pointer c q) ∙ w))
     by void_type c v q w = absurd (none-some c q)
-
-each-mapped : {X Y : Type 0} (P : Y → Type 0) (f : X → Y) (xs : List X) → Each P (map f xs) → Each (λ (x : X). P (f x)) xs
-each-mapped P f [] e = tt
-each-mapped P f (x ∷ xs) e = (e.0, each-mapped P f xs e.1)
-
-map-append : {X Y : Type 0} (f : X → Y) (xs ys : List X) → map f (xs ++ ys) ≡ map f xs ++ map f ys
-map-append f [] ys = refl
-map-append f (x ∷ xs) ys = ap (λ zs. f x ∷ zs) (map-append f xs ys)
-
-delay-of-time : (d : Datum) → FitsType d time_type → (x : Delay) × (as_delay d ≡ Some x)
-delay-of-time (time_value x) f = (x, refl)
-delay-of-time (int_value n a) f = absurd f
-delay-of-time (array_value vs) f = absurd f
-delay-of-time (tuple_value vs) f = absurd f
 
 test-bit : (b : Bool) → as_test (bit_value b) ≡ Some b
 test-bit true = refl

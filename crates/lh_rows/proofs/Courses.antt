@@ -6,9 +6,10 @@ use Rattle.std.specs.Option.{option_map_or}
 use Rattle.std.proofs.lemmas.Bool.{false≢true}
 use Rattle.std.proofs.lemmas.Bool.Decides.{nat_tests}
 use Rattle.std.proofs.lemmas.Option.{same_Some}
-use Rattle.lh_types.specs.Types.{time_type, IsData}
 use Rattle.lh_unit.specs.Contents.{LineText, BlockText, UnitText}
 use Rattle.lh_unit.specs.Within.{Each}
+use Rattle.lh_unit.proofs.Lists.{Each-right, Each-append}
+use Rattle.lh_unit.proofs.Within.{Each-more}
 use Rattle.lh_flat.specs.Flat.{FlatBlockText, MergeText, with_merge}
 use Rattle.lh_term.specs.Tree.{Tree}
 use Rattle.lh_term.specs.Make.{bit_of}
@@ -16,10 +17,10 @@ use Rattle.lh_rows.specs.Rows.{Drive, End, Rows}
 use Rattle.lh_rows.specs.Joins.{Place, Edge, any_taken, known_at}
 use Rattle.lh_rows.specs.Places.{Region, Here, Midst, takes_all}
 use Rattle.lh_rows.specs.Regions.{RegionRefusal, region_too_large, too_many_turns, Course, no_course, Coursed, stops, comes_to, then_course, max_turns, max_insts, turns_too_often, after_lines, through_block, is_place, edges_to, through_reached, through_all, all_places, region_from}
-use Rattle.lh_rows.specs.Typed.{Among, KnowsTyped, KnowsThere, IsCondition, IsOfType, JoinEdge}
+use Rattle.lh_rows.specs.Typed.{Among, KnowsTyped, KnowsThere, IsCondition, JoinEdge}
 use Rattle.lh_rows.specs.Right as right
 use Rattle.lh_rows.specs.Right.{as_block, BlockAt}
-use Rattle.lh_rows.proofs.Among.{in-each, each-among, each-more, each-append, filter-among}
+use Rattle.lh_rows.proofs.Among.{in-each, each-among, filter-among}
 use Rattle.lh_rows.proofs.Sites.{LineGood, good-lines}
 use Rattle.lh_rows.proofs.Merging.{EachCondition, any-condition, bit-condition}
 use Rattle.lh_rows.proofs.Labels.{block-text}
@@ -119,18 +120,14 @@ module _ (u : UnitText) (g : Region) (r : RegionOf u g) where
     new-edges [] a t = tt
     new-edges (e ∷ es) a t = (record { cond = a.0.cond; turns = t.0; joins = a.0.joins }, new-edges es a.1 t.1)
 
-    drop-each : {X : Type 0} (P : X → Type 0) (xs ys : List X) → Each P (xs ++ ys) → Each P ys
-    drop-each P [] ys h = h
-    drop-each P (x ∷ xs) ys h = drop-each P xs ys h.1
-
     pub place-fine : (c c1 : Course) → CourseFine c → Treated p q (e0 ∷ more) c b c1 → CourseFine c1
     place-fine c c1 f t =
         let a = subst (Adds (start_at (e0 ∷ more) c b)) (sym t.is) (place-adds c) in
         let few : Each (λ (e : Edge). e.to.turns ≤ max_turns) (c.edges ++ a.edges.0) = subst (Each (λ (e : Edge). e.to.turns ≤ max_turns)) a.edges.1 (not-often t.midst.edges t.few) in
         record {
-          edges = subst (Each EdgeFine) (sym (t.edges ∙ a.edges.1)) (each-append EdgeFine c.edges a.edges.0 f.edges (new-edges a.edges.0 a.edges.2 (drop-each (λ (e : Edge). e.to.turns ≤ max_turns) c.edges a.edges.0 few)));
-          ends = subst (Each EndFine) (sym (ap (λ (x : Rows). x.ends) t.rows ∙ a.ends.1)) (each-append EndFine c.rows.ends a.ends.0 f.ends (each-more (EndRight u g (here_at p q b)) EndFine a.ends.0 (λ x k. record { cond = k.cond; known = k.known; way = k.way }) a.ends.2));
-          drives = subst (Each DriveFine) (sym (ap (λ (x : Rows). x.drives) t.rows ∙ a.drives.1)) (each-append DriveFine c.rows.drives a.drives.0 f.drives (each-more (DriveRight (here_at p q b)) DriveFine a.drives.0 (λ x k. record { cond = k.cond; part = k.part; value = k.value; delay = k.delay }) a.drives.2));
+          edges = subst (Each EdgeFine) (sym (t.edges ∙ a.edges.1)) (Each-append EdgeFine c.edges a.edges.0 f.edges (new-edges a.edges.0 a.edges.2 (Each-right (λ (e : Edge). e.to.turns ≤ max_turns) c.edges a.edges.0 few)));
+          ends = subst (Each EndFine) (sym (ap (λ (x : Rows). x.ends) t.rows ∙ a.ends.1)) (Each-append EndFine c.rows.ends a.ends.0 f.ends (Each-more (EndRight u g (here_at p q b)) EndFine a.ends.0 (λ x k. record { cond = k.cond; known = k.known; way = k.way }) a.ends.2));
+          drives = subst (Each DriveFine) (sym (ap (λ (x : Rows). x.drives) t.rows ∙ a.drives.1)) (Each-append DriveFine c.rows.drives a.drives.0 f.drives (Each-more (DriveRight (here_at p q b)) DriveFine a.drives.0 (λ x k. record { cond = k.cond; part = k.part; value = k.value; delay = k.delay }) a.drives.2));
         }
 
   -- ---- a place that edges lead to

@@ -18,11 +18,13 @@ use Rattle.lh_unit.proofs.Tables.{same_name-is, same_name-refl}
 use Rattle.lh_formed.specs.Defined.{IsThere, IsThereOnEdge, OperandsThere}
 use Rattle.lh_formed.specs.Operands.{IsOf, RowIs}
 use Rattle.lh_formed.proofs.Bools.{each_both}
+use Rattle.lh_formed.proofs.AtPlaces.{place-at}
+use Rattle.lh_formed.proofs.There.{there-after, last-leads}
 use Rattle.lh_inlined.specs.Formed.{IsFormed, IsOne, PhiFormed}
 use Rattle.lh_rows.specs.Known.{Knowledge, value_known}
 use Rattle.lh_rows.specs.Joins.{Edge}
 use Rattle.lh_rows.specs.Typed.{KnowsTyped, KnowsThere, IsCondition, PhiKnown, JoinEdge}
-use Rattle.lh_rows.proofs.Sites.{Site, site-at, block-at, place-at, not-result, there-after, last-leads}
+use Rattle.lh_rows.proofs.Sites.{Site, site-at, block-at, not-result}
 use Rattle.lh_rows.proofs.Knowing.{there-past}
 use Rattle.lh_rows.proofs.Operations.{value-known}
 

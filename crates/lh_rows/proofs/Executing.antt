@@ -28,12 +28,13 @@ use Rattle.lh_unit.specs.Typing.{value_type, result_type, operation_type, carrie
 use Rattle.lh_unit.specs.TypingRows.{bit}
 use Rattle.lh_unit.specs.declared.inst.UnitKind.TheVariants as kind
 use Rattle.lh_unit.specs.Activation as machine
-use Rattle.lh_unit.specs.Activation.{Scene, Point, Next, goes, step, executes}
+use Rattle.lh_unit.specs.Activation.{Scene, Point, goes, step, executes}
 use Rattle.lh_formed.specs.Calls.{AssertIsRight, ArgumentsAre}
 use Rattle.lh_formed.specs.Defined.{OperandsThere}
 use Rattle.lh_formed.specs.Operands.{IsOf, RowIs}
 use Rattle.lh_formed.specs.Parts.{HasPart}
 use Rattle.lh_formed.proofs.PartsLaw.{parts_have_ranges}
+use Rattle.lh_formed.proofs.AtPlaces.{place-at}
 use Rattle.lh_eval.specs.Sound.{IsWrittenRight}
 use Rattle.lh_eval.proofs.PartsRead.{of-values, of-signal}
 use Rattle.lh_inlined.specs.Formed.{IsWithoutCalls}
@@ -52,7 +53,7 @@ use Rattle.lh_rows.specs.Places.{Region, Here, Midst, gives, probes, both, drive
 use Rattle.lh_rows.specs.Typed.{KnowsTyped, KnowsThere, IsCondition}
 use Rattle.lh_rows.specs.Means.{range_in, lowest_bit, reads, held_as, Shows, is_one, due_by, with_row, with_rows}
 use Rattle.lh_rows.specs.Right.{as_block, BlockAt}
-use Rattle.lh_rows.proofs.Sites.{Site, place-at}
+use Rattle.lh_rows.proofs.Sites.{Site}
 use Rattle.lh_rows.proofs.Merging.{one, mean-bit, and-one}
 use Rattle.lh_rows.proofs.Operations.{datum-shown, cell-shown, part-shown, data-shown, operands-typed, PartStep}
 use Rattle.lh_rows.proofs.Knowing.{known-shows, given-shows-typed}
@@ -82,7 +83,7 @@ test-bit : (b : Bool) → as_test (bit_value b) ≡ Some b
 test-bit true = refl
 test-bit false = refl
 
-delay-of-time : (d : Datum) → FitsType d time_type → (x : Delay) × (as_delay d ≡ Some x)
+pub delay-of-time : (d : Datum) → FitsType d time_type → (x : Delay) × (as_delay d ≡ Some x)
 delay-of-time (time_value x) f = (x, refl)
 delay-of-time (int_value n a) f = absurd f
 delay-of-time (array_value vs) f = absurd f

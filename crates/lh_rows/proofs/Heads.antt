@@ -17,7 +17,8 @@ use Rattle.lh_unit.specs.Within.{Each}
 use Rattle.lh_unit.specs.Activation.{phi_taken, phis_taken}
 use Rattle.lh_unit.proofs.Tables.{same_name-is}
 use Rattle.lh_sound.specs.Units.{HasItsType, IsPort}
-use Rattle.lh_sound.proofs.EachItem.{each-split}
+use Rattle.lh_formed.proofs.EachItem.{each-split}
+use Rattle.lh_formed.proofs.AtPlaces.{place-at}
 use Rattle.lh_inlined.specs.Formed.{IsFormed, PhiFormed}
 use Rattle.lh_flat.specs.Flat.{FlatBlockText, MergeText, FlatText, with_merge}
 use Rattle.lh_term.specs.Tree.{constant}
@@ -28,8 +29,9 @@ use Rattle.lh_rows.specs.Places.{block_number}
 use Rattle.lh_rows.specs.Regions.{is_constant, with_constant, with_constants, branched_to, leads_on, is_led_to, head_after, begins_with_phi, head_of}
 use Rattle.lh_rows.specs.Typed.{Among, argument_part, PhiKnown}
 use Rattle.lh_rows.specs.Right.{as_block}
-use Rattle.lh_rows.proofs.Sites.{site-at, place-at}
+use Rattle.lh_rows.proofs.Sites.{site-at}
 use Rattle.lh_rows.proofs.Knowing.{given-stays, given-known}
+use Rattle.lh_rows.proofs.PartsNamed.{part-argument}
 
 -- ---- the constants of lines
 
@@ -118,14 +120,6 @@ seen-apart n seen (a ∷ xs) h d =
     by true q z go = absurd (false≢true (sym z ∙ ap (λ m. args_define m seen) (same_name-is a.name n q) ∙ d))
     by false q z go = go
 
-part-defined : (n : List ℕ) (i : ℕ) (xs : List ArgText) (p : Part) → argument_part n i xs ≡ Some p → args_define n xs ≡ true
-part-defined n i [] p q = absurd (none-some p q)
-part-defined n i (a ∷ xs) p q = by (same_name a.name n) q (part-defined n (i + 1) xs p)
-  where
-    by : (b : Bool) → (if b then option_map (whole_argument i) (carried a.ty) else argument_part n (i + 1) xs) ≡ Some p → (argument_part n (i + 1) xs ≡ Some p → args_define n xs ≡ true) → (b || args_define n xs) ≡ true
-    by true g go = refl
-    by false g go = go g
-
 pub arguments-case : (seen : List ArgText) (k : Knowledge) (i : ℕ) (xs : List ArgText) (n : List ℕ) (x : Known) → args_repeat seen xs ≡ false → with_arguments k i xs n ≡ Some x → (k n ≡ Some x) ⊎ ((p : Part) × (x ≡ known_part p) × (argument_part n i xs ≡ Some p))
 arguments-case seen k i [] n x h q = inl q
 arguments-case seen k i (a ∷ xs) n x h q =
@@ -140,7 +134,7 @@ arguments-case seen k i (a ∷ xs) n x h q =
 
     later : (p : Part) → args_repeat (seen ++ a ∷ []) xs ≡ false → argument_part n (i + 1) xs ≡ Some p → (b : Bool) → same_name a.name n ≡ b → (if b then option_map (whole_argument i) (carried a.ty) else argument_part n (i + 1) xs) ≡ Some p
     later p r g false e = g
-    later p r g true e = absurd (false≢true (sym (seen-apart n (seen ++ a ∷ []) xs r (define-last n seen a e)) ∙ part-defined n (i + 1) xs p g))
+    later p r g true e = absurd (false≢true (sym (seen-apart n (seen ++ a ∷ []) xs r (define-last n seen a e)) ∙ part-argument n (i + 1) xs p g))
 
     by : (args_define a.name seen ≡ false) × (args_repeat (seen ++ a ∷ []) xs ≡ false) → (with_given k (Some a.name) (option_map (λ t. known_part (whole_argument i t)) (carried a.ty)) n ≡ Some x) ⊎ ((p : Part) × (x ≡ known_part p) × (argument_part n (i + 1) xs ≡ Some p))
         → (k n ≡ Some x) ⊎ ((p : Part) × (x ≡ known_part p) × (argument_part n i (a ∷ xs) ≡ Some p))

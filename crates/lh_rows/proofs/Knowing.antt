@@ -8,8 +8,8 @@ use Rattle.lh_types.specs.Fits.{FitsType}
 use Rattle.lh_unit.specs.Contents.{InstText, phi_text, LineText, BlockText, UnitText, is_result_name, same_name}
 use Rattle.lh_unit.specs.Held.{Held, Env, with_result, with_held}
 use Rattle.lh_unit.specs.Typing.{value_type}
-use Rattle.lh_unit.specs.Within.{Each}
 use Rattle.lh_unit.proofs.Tables.{same_name-is}
+use Rattle.lh_formed.proofs.There.{there-before}
 use Rattle.lh_eval.specs.Fitting as fitting
 use Rattle.lh_term.specs.Tree.{Tree, constant}
 use Rattle.lh_term.specs.Types.{type_of, IsTyped}
@@ -20,7 +20,6 @@ use Rattle.lh_rows.specs.Known.{Known, Knowledge, with_known, with_given}
 use Rattle.lh_rows.specs.Typed.{known_type, IsTypedKnown, KnowsTyped, KnowsThere}
 use Rattle.lh_rows.specs.Means.{held_as, Shows}
 use Rattle.lh_rows.specs.Right.{PhiGiven, PhisGiven}
-use Rattle.lh_rows.proofs.Sites.{there-before}
 
 -- a value of a type as a term
 pub constant-typed : (d : Datum) (t : TypeTree) → fitting.IsValueType t → FitsType d t → IsTyped (constant d) × (type_of (constant d) ≡ t)

@@ -14,6 +14,8 @@ use Rattle.lh_unit.specs.declared.inst.UnitKind.TheVariants as kind
 use Rattle.lh_formed.specs.Defined.{OperandsThere}
 use Rattle.lh_formed.specs.Operands.{RowIs}
 use Rattle.lh_formed.specs.Parts.{HasPart}
+use Rattle.lh_formed.proofs.There.{first-name, second-name}
+use Rattle.lh_formed.proofs.AtPlaces.{place-at}
 use Rattle.lh_eval.specs.Sound.{IsWrittenRight}
 use Rattle.lh_inlined.specs.Formed.{IsWithoutCalls}
 use Rattle.lh_flat.specs.Flat.{FlatBlockText, with_merge}
@@ -25,10 +27,10 @@ use Rattle.lh_rows.specs.Rows.{halts, waits}
 use Rattle.lh_rows.specs.Places.{Region, Here, Midst, both, ends, leads, branches, wait_way, ends_if, takes, takes_all}
 use Rattle.lh_rows.specs.Typed.{KnowsTyped, KnowsThere, IsCondition}
 use Rattle.lh_rows.specs.Right.{as_block, BlockAt, PhiGiven, PhisGiven, JoinsAt}
-use Rattle.lh_rows.proofs.Sites.{Site, site-at, place-at}
+use Rattle.lh_rows.proofs.Sites.{Site, site-at}
 use Rattle.lh_rows.proofs.Merging.{and-condition, not-condition}
 use Rattle.lh_rows.proofs.Knowing.{phis-more}
-use Rattle.lh_rows.proofs.Steps.{first-name, second-name, More, no-more, one-more, more-more, RegionOf, Under, EdgeRight, EndRight, DriveRight, Target, target, text-at, joins-at, Led, led_never, led_edge, led_head, leads-led}
+use Rattle.lh_rows.proofs.Steps.{More, no-more, one-more, more-more, RegionOf, Under, EdgeRight, EndRight, DriveRight, Target, target, text-at, joins-at, Led, led_never, led_edge, led_head, leads-led}
 use Rattle.lh_rows.proofs.Taking
 
 module _ (u : UnitText) (g : Region) (r : RegionOf u g) (i : ℕ) (b : FlatBlockText) (bat : BlockAt g.blocks i b) (h : Here) (hl : h.label ≡ b.label) (hc : IsCondition h.cond) where

@@ -20,7 +20,7 @@ use Rattle.lh_term.proofs.Sound.{IntTerm, bit_mean, bit_typed, one_wide, operati
 use Rattle.lh_rows.specs.Joins.{Edge, or_any, any_taken, in_each, selector, chosen_from, merged}
 use Rattle.lh_rows.specs.Typed.{Among, IsCondition, IsOfType}
 use Rattle.lh_rows.specs.Means.{is_one}
-use Rattle.lh_term.proofs.Conditions.{AllBits, one_bit, bit_one, holds, holds_with, conjuncts_bits, with_bits, conjuncts_hold, and_typed, from_all}
+use Rattle.lh_term.proofs.Conditions.{AllBits, one_bit, bit_one, holds, holds_with, conjuncts_are_bits, filter-bits, conjuncts_hold, and_typed, from_all}
 use Rattle.lh_rows.proofs.Among.{in-each}
 
 as-bit : (t : Tree) → IsCondition t → IntTerm t 1
@@ -126,15 +126,7 @@ module _ (past now : Valuation) (p : IsFitting past) (n : IsFitting now) where
 -- ---- selectors
 
 bits-of : (t : Tree) → IsCondition t → AllBits (conjuncts_of t)
-bits-of t c = with_bits [] (all_conjuncts t) tt (conjuncts_bits t c.typed c.type)
-
-filter-bits : (f : Tree → Bool) (ts : List Tree) → AllBits ts → AllBits (filter f ts)
-filter-bits f [] h = tt
-filter-bits f (t ∷ ts) h = at (f t) (filter-bits f ts h.1)
-  where
-    at : (b : Bool) → AllBits (filter f ts) → AllBits (if b then t ∷ filter f ts else filter f ts)
-    at true g = (h.0, g)
-    at false g = g
+bits-of t c = conjuncts_are_bits t c.typed c.type
 
 start-bit : IntTerm (bit_of true) 1
 start-bit = record { typed = bit_typed true; type = refl }

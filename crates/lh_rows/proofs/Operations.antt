@@ -10,6 +10,7 @@ use Rattle.lh_types.specs.Fits.{FitsType, FitsRow}
 use Rattle.lh_types.specs.ApplyTypes.{RowType}
 use Rattle.lh_types.specs.Parts as Parts
 use Rattle.lh_types.specs.Parts.{range_of, part_range, step_part}
+use Rattle.lh_types.specs.Classes.{class_of}
 use Rattle.lh_types.specs.declared.op.Op.{Op}
 use Rattle.lh_types.specs.declared.op.Op.TheVariants as op
 use Rattle.lh_types.specs.declared.part.Range.{Range}
@@ -282,14 +283,14 @@ module _ (u : UnitText) (k : Knowledge) (h : KnowsTyped u k) where
   pub operation-typed : (o : Op) (os : List OperandText) → RowIs u (pure_text o os) → HasOperands o os → Each (HasType u) os → (ts : List Tree) → values_known k os ≡ Some ts → (ty : TypeTree) → operation_type o os ≡ Some ty
       → IsTyped (operation_on o ts) × IsOfType ty (make_operation o ts)
   operation-typed o os row has c ts q ty r =
-      let l = fits-line u 65536 (shows k) (shows-fit u k h) o os row has (map shown ts) (data-shown u shown placed k (shows k) (shows-shows u k) os ts c q) in
+      let l = fits-line u 65536 (shows k) (shows-fit u k h) (class_of o) os row has (map shown ts) (data-shown u shown placed k (shows k) (shows-shows u k) os ts c q) in
       let a = typed-values os ts c q in
-      let same = types-same ts l.fits.types a l.fits.values_fit l.fits.data_types in
-      let g = l.gives ty r in
+      let same = types-same ts l.types a l.values_fit l.data_types in
+      let g = l.given ty r in
       let takes : TakesTypes o (types_of (tree_row ts)) = record {
-        gives = l.fits.gives;
-        data_types = subst (λ us. AreData (row_of us)) same l.fits.data_types;
-        row = subst (λ us. RowType o us l.fits.gives) same l.fits.row;
+        gives = l.gives;
+        data_types = subst (λ us. AreData (row_of us)) same l.data_types;
+        row = subst (λ us. RowType o us l.gives) same l.row;
         is_data = subst IsData (sym g.1) g.0;
       } in
       let typed : IsTyped (operation_on o ts) = (a, takes) in

@@ -5,11 +5,12 @@ use Rattle.std.specs.List.{flat_map}
 use Rattle.std.proofs.lemmas.Bool.Decides.{nat_tests}
 use Rattle.std.proofs.lemmas.Bool.{false≢true}
 use Rattle.lh_unit.specs.Within.{Each}
+use Rattle.lh_unit.proofs.Lists.{Each-append}
 use Rattle.lh_rows.specs.Joins.{Place}
 use Rattle.lh_rows.specs.Places.{next_place}
 use Rattle.lh_rows.specs.Regions.{numbers_below, all_places, is_place, max_turns}
 use Rattle.lh_rows.specs.Typed.{Among}
-use Rattle.lh_rows.proofs.Among.{in-each, each-append, among-left, among-right}
+use Rattle.lh_rows.proofs.Among.{in-each, among-left, among-right}
 
 -- by turns, then by block
 abbrev pub Before : Place → Place → Type 0
@@ -31,7 +32,7 @@ Sorted (p ∷ ps) = Each (Before p) ps × Sorted ps
 
 sorted-append : (xs ys : List Place) → Sorted xs → Sorted ys → Each (λ (x : Place). Each (Before x) ys) xs → Sorted (xs ++ ys)
 sorted-append [] ys a b c = b
-sorted-append (x ∷ xs) ys a b c = (each-append (Before x) xs ys a.0 c.0, sorted-append xs ys a.1 b c.1)
+sorted-append (x ∷ xs) ys a b c = (Each-append (Before x) xs ys a.0 c.0, sorted-append xs ys a.1 b c.1)
 
 -- what stands behind a place is after it
 pub sorted-behind : (done : List Place) (p : Place) (more : List Place) → Sorted (done ++ p ∷ more) → Each (Before p) more
@@ -51,7 +52,7 @@ later-behind (x ∷ done) p more s q (inr a) b = later-behind done p more s.1 q 
 
 below : (n : ℕ) → Each (λ (k : ℕ). k < n) (numbers_below n)
 below zero = tt
-below (suc n) = each-append (λ (k : ℕ). k < suc n) (numbers_below n) (n ∷ []) (weaker (numbers_below n) (below n)) (omega arith, tt)
+below (suc n) = Each-append (λ (k : ℕ). k < suc n) (numbers_below n) (n ∷ []) (weaker (numbers_below n) (below n)) (omega arith, tt)
   where
     weaker : (ks : List ℕ) → Each (λ (k : ℕ). k < n) ks → Each (λ (k : ℕ). k < suc n) ks
     weaker [] h = tt
@@ -93,7 +94,7 @@ turns-append n (x ∷ xs) ys = ap (λ zs. at-turn x (numbers_below n) ++ zs) (tu
 -- places of lower turns
 turns-below : (n k : ℕ) (ts : List ℕ) → Each (λ (t : ℕ). t < k) ts → Each (λ (p : Place). p.turns < k) (all-turns n ts)
 turns-below n k [] h = tt
-turns-below n k (t ∷ ts) h = each-append (λ (p : Place). p.turns < k) (at-turn t (numbers_below n)) (all-turns n ts) (row t h.0 (numbers_below n)) (turns-below n k ts h.1)
+turns-below n k (t ∷ ts) h = Each-append (λ (p : Place). p.turns < k) (at-turn t (numbers_below n)) (all-turns n ts) (row t h.0 (numbers_below n)) (turns-below n k ts h.1)
   where
     row : (t : ℕ) → t < k → (bs : List ℕ) → Each (λ (p : Place). p.turns < k) (at-turn t bs)
     row t l [] = tt

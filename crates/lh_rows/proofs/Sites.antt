@@ -1,40 +1,31 @@
 -- What holds at each instruction of a formed process, by its block and what stands before it.
-use Rattle.std.proofs.Common.{◌≡◌, ◌⊎◌, inl, inr, ℕ, zero, suc, ◌+◌, List, [], ◌∷◌, ◌++◌, length, Bool, true, false, ◌||◌, Some, refl, ap, sym, ◌∙◌, subst, append_assoc, ⊎_elim}
+use Rattle.std.proofs.Common.{◌≡◌, ℕ, zero, suc, ◌+◌, List, [], ◌∷◌, ◌++◌, length, Bool, true, false, Some, refl, sym, ◌∙◌, subst}
 use Rattle.std.specs.Prelude.{slice_get}
-use Rattle.std.proofs.lemmas.List.{append-nil}
 use Rattle.std.proofs.lemmas.Bool.{false≢true}
 use Rattle.std.proofs.lemmas.Option.{same_Some, none-some}
 use Rattle.lh_types.specs.Types.{TypeTree}
-use Rattle.lh_unit.specs.Contents.{LineText, BlockText, UnitText, is_result_name, lines_define, blocks_define}
-use Rattle.lh_unit.specs.Named.{block_of, label_or}
+use Rattle.lh_unit.specs.Contents.{LineText, BlockText, UnitText, is_result_name}
+use Rattle.lh_unit.specs.Named.{block_of}
 use Rattle.lh_unit.specs.Hierarchy.{lines_of}
 use Rattle.lh_unit.specs.Kinds.{uses}
-use Rattle.lh_unit.specs.Places.{Place, places_in, places_from, places, is_terminator, leads_to, last_leads_to, has_edge}
+use Rattle.lh_unit.specs.Places.{Place, places_in, places_from, places, is_terminator}
 use Rattle.lh_unit.specs.Typing.{value_type, result_type}
 use Rattle.lh_unit.specs.WellFormed.{labels_named}
 use Rattle.lh_unit.specs.Within.{Each}
 use Rattle.lh_unit.specs.declared.inst.UnitKind.TheVariants as kind
-use Rattle.lh_formed.specs.Defined.{IsThere, OperandsThere}
+use Rattle.lh_formed.specs.Defined.{OperandsThere}
 use Rattle.lh_formed.specs.KindsOf.{HasTypeOfKind}
 use Rattle.lh_formed.specs.Shape.{EndsOnce}
 use Rattle.lh_formed.proofs.Bools.{each_both}
 use Rattle.lh_eval.specs.Sound.{IsSound}
-use Rattle.lh_sound.proofs.EachItem.{each-split}
-use Rattle.lh_spelled.specs.Printable.{all_lines, results_repeat}
+use Rattle.lh_formed.proofs.EachItem.{each-split}
+use Rattle.lh_formed.proofs.AtPlaces.{place-at, in-block}
+use Rattle.lh_spelled.specs.Printable.{results_repeat}
 use Rattle.lh_sound.proofs.FindingStatic.{result-is}
 use Rattle.lh_sound.proofs.NamedOnce.{IsFirst, each-first}
 use Rattle.lh_inlined.specs.Formed.{IsFormed, IsWithoutCalls, PhiFormed}
 
 -- ---- an instruction of a block
-
-abbrev pub place-at : (number : ℕ) → Bool → BlockText → (before : List LineText) → LineText → (after : List LineText) → Place
-place-at k e b before l after = record { number = k; in_entry = e; block = b; before = before; line = l; after = after }
-
-in-block : (P : Place → Type 0) (k : ℕ) (e : Bool) (b : BlockText) (before seen : List LineText) (l : LineText) (after : List LineText) → Each P (places_in k e b before (seen ++ l ∷ after)) → (j : ℕ) × P (place-at j e b (before ++ seen) l after)
-in-block P k e b before [] l after h = (k, subst (λ (x : List LineText). P (place-at k e b x l after)) (sym (append-nil before)) h.0)
-in-block P k e b before (x ∷ seen) l after h =
-    let r = in-block P (k + 1) e b (before ++ x ∷ []) seen l after h.1 in
-    (r.0, subst (λ (y : List LineText). P (place-at r.0 e b y l after)) (append_assoc before (x ∷ []) seen) r.1)
 
 in-blocks : (P : Place → Type 0) (k : ℕ) (e : Bool) (bs : List BlockText) (i : ℕ) (b : BlockText) (seen : List LineText) (l : LineText) (after : List LineText) → Each P (places_from k e bs) → slice_get bs i ≡ Some b → b.lines ≡ seen ++ l ∷ after
     → (j : ℕ) × (d : Bool) × P (place-at j d b seen l after)
@@ -70,10 +61,6 @@ ends-more [] l (m ∷ after) h t e = cc
 ends-more (x ∷ []) l after h t e = ends-more [] l after h.1 t e
 ends-more (x ∷ y ∷ seen) l after h t e = ends-more (y ∷ seen) l after h.1 t e
 
-same-lines : (bs : List BlockText) → all_lines bs ≡ lines_of bs
-same-lines [] = refl
-same-lines (b ∷ bs) = ap (λ ls. b.lines ++ ls) (same-lines bs)
-
 -- what holds at an instruction
 pub record Site (u : UnitText) (b : BlockText) (before : List LineText) (l : LineText) (after : List LineText) : Type 0 where
   pub sound : IsSound u l
@@ -104,7 +91,7 @@ site-at u f i b before l after q s =
     let sound = each-split (IsSound u) before (l ∷ after) (subst (Each (IsSound u)) s (block-lines (IsSound u) u.blocks i b f.lines q)) in
     let calls = each-split (λ (x : LineText). IsWithoutCalls u x.inst) before (l ∷ after) (subst (Each (λ (x : LineText). IsWithoutCalls u x.inst)) s (block-lines (λ (x : LineText). IsWithoutCalls u x.inst) u.blocks i b f.calls q)) in
     let kinds = each-split (λ (x : LineText). Each (HasTypeOfKind u) (uses x.inst)) before (l ∷ after) (subst (Each (λ (x : LineText). Each (HasTypeOfKind u) (uses x.inst))) s (block-lines (λ (x : LineText). Each (HasTypeOfKind u) (uses x.inst)) u.blocks i b f.kinds q)) in
-    let new : results_repeat u.args [] (lines_of u.blocks) ≡ false = ap (results_repeat u.args []) (sym (same-lines u.blocks)) ∙ f.new_results in
+    let new : results_repeat u.args [] (lines_of u.blocks) ≡ false = f.new_results in
     let first = each-split (IsFirst u.args (lines_of u.blocks)) before (l ∷ after) (subst (Each (IsFirst u.args (lines_of u.blocks))) s (block-lines (IsFirst u.args (lines_of u.blocks)) u.blocks i b (each-first u.args (lines_of u.blocks) [] (lines_of u.blocks) refl new) q)) in
     let once : EndsOnce (before ++ l ∷ after) = subst EndsOnce s (block-at (λ (x : BlockText). EndsOnce x.lines) u.blocks i b f.ends q) in
     record {
@@ -128,24 +115,11 @@ LineGood u l = IsSound u l × IsFirst u.args (lines_of u.blocks) l
 -- so is each line of a block
 pub good-lines : (u : UnitText) → IsFormed u → (i : ℕ) (b : BlockText) → slice_get u.blocks i ≡ Some b → Each (LineGood u) b.lines
 good-lines u f i b q =
-    let new : results_repeat u.args [] (lines_of u.blocks) ≡ false = ap (results_repeat u.args []) (sym (same-lines u.blocks)) ∙ f.new_results in
+    let new : results_repeat u.args [] (lines_of u.blocks) ≡ false = f.new_results in
     each_both (IsSound u) (IsFirst u.args (lines_of u.blocks)) (LineGood u) (λ x a c. (a, c)) b.lines (block-lines (IsSound u) u.blocks i b f.lines q)
     (block-lines (IsFirst u.args (lines_of u.blocks)) u.blocks i b (each-first u.args (lines_of u.blocks) [] (lines_of u.blocks) refl new) q)
 
 -- ---- what is there
-
-defined-last : (n : List ℕ) (before : List LineText) (l : LineText) → is_result_name n l.result ≡ false → lines_define n (before ++ l ∷ []) ≡ true → lines_define n before ≡ true
-defined-last n [] l f h = let q : (is_result_name n l.result || false) ≡ true = h in absurd cc
-defined-last n (x ∷ before) l f h = at (is_result_name n x.result) h (defined-last n before l f)
-  where
-    at : (b : Bool) → (b || lines_define n (before ++ l ∷ [])) ≡ true → (lines_define n (before ++ l ∷ []) ≡ true → lines_define n before ≡ true) → (b || lines_define n before) ≡ true
-    at true q go = refl
-    at false q go = go q
-
--- what is there after an instruction and is not its result was there before it
-pub there-before : (u : UnitText) (b : BlockText) (before : List LineText) (l : LineText) (n : List ℕ) → is_result_name n l.result ≡ false → IsThere u b (before ++ l ∷ []) n → IsThere u b before n
-there-before u b before l n f (inl h) = inl h
-there-before u b before l n f (inr h) = inr (λ earlier path. ⊎_elim (λ q. inl (defined-last n before l f q)) (λ q. inr q) (h earlier path))
 
 -- a name whose type is that of no value is no result of an instruction that gives none
 pub not-result : (u : UnitText) (l : LineText) → IsSound u l → (n : List ℕ) (t : TypeTree) → value_type u n ≡ Some t → (result_type l.inst ≡ Some t → ⊥) → is_result_name n l.result ≡ false
@@ -154,17 +128,3 @@ not-result u l s n t v other = at (is_result_name n l.result) refl
     at : (b : Bool) → is_result_name n l.result ≡ b → b ≡ false
     at false q = refl
     at true q = absurd (other (sym (s.gives n (result-is l.result n q)) ∙ v))
-
-or-cases : (a b : Bool) → (a || b) ≡ true → (a ≡ true) ⊎ (b ≡ true)
-or-cases true b h = inl refl
-or-cases false b h = inr h
-
--- what is there at the start of a block is there at the end of each block that leads to it
-pub there-after : (u : UnitText) (from b : BlockText) → has_edge from (label_or b.label) ≡ true → block_of (label_or b.label) u.blocks ≡ Some b → (n : List ℕ) → IsThere u b [] n → IsThere u from from.lines n
-there-after u from b edge t n (inl h) = inl h
-there-after u from b edge t n (inr h) = inr (λ earlier path. ⊎_elim (λ z. absurd (false≢true z)) (λ z. or-cases (lines_define n from.lines) (blocks_define n earlier) z) (h (from ∷ earlier) (edge, t, path)))
-
-pub last-leads : (before : List LineText) (l : LineText) → last_leads_to (before ++ l ∷ []) ≡ leads_to l.inst
-last-leads [] l = refl
-last-leads (x ∷ []) l = refl
-last-leads (x ∷ y ∷ before) l = last-leads (y ∷ before) l

@@ -20,7 +20,7 @@ use Rattle.lh_unit.specs.Reads.{args_repeat}
 use Rattle.lh_unit.specs.Typing.{value_type, is_value_type, result_type, carried, inst_giving}
 use Rattle.lh_unit.specs.Within.{Each}
 use Rattle.lh_unit.specs.Activation as machine
-use Rattle.lh_unit.specs.Activation.{Scene, Point, phis_taken, run, went}
+use Rattle.lh_unit.specs.Activation.{Scene, Point, run, went}
 use Rattle.lh_unit.proofs.Tables.{same_name-is, same_name-refl}
 use Rattle.lh_formed.specs.Defined.{IsThere}
 use Rattle.lh_eval.specs.Sound.{IsWrittenRight}
@@ -40,7 +40,7 @@ use Rattle.lh_rows.specs.Typed.{known_type, Among, argument_part, of_argument, I
 use Rattle.lh_rows.specs.Means.{range_in, lowest_bit, held_as, Shows}
 use Rattle.lh_rows.specs.Right.{as_block, BlockAt}
 use Rattle.lh_rows.proofs.Among.{in-each, among-split}
-use Rattle.lh_rows.proofs.Sites.{LineGood, good-lines, last-leads}
+use Rattle.lh_rows.proofs.Sites.{LineGood, good-lines}
 use Rattle.lh_rows.proofs.Merging.{bit-condition}
 use Rattle.lh_rows.proofs.Knowing.{constant-typed, given-shows-typed}
 use Rattle.lh_rows.proofs.Phis.{const-line}
@@ -49,6 +49,7 @@ use Rattle.lh_rows.proofs.Operations.{term-type, value-known, part-known}
 use Rattle.lh_rows.proofs.Joining.{known-by-value, known-by-part}
 use Rattle.lh_rows.proofs.Edges.{value-no-void}
 use Rattle.lh_formed.specs.Operands.{IsOf}
+use Rattle.lh_formed.proofs.There.{last-leads}
 use Rattle.lh_sound.proofs.NamedOnce.{giving-lines}
 use Rattle.lh_rows.proofs.Labels.{block-text, block-labelled}
 use Rattle.lh_rows.proofs.Heads.{or-false, seen-apart, define-last, ConstantOf, constants-case, constants-stay, constants-known, arguments-case, arguments-known, argument-of, head-behind, entry-plain, NoPhis, no-phis, no-phis-known}

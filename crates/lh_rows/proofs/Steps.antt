@@ -1,5 +1,5 @@
 -- What the lines of a place add: rows and edges on conditions that imply its own; and what is known stays typed and there.
-use Rattle.std.proofs.Common.{◌≡◌, ℕ, List, [], ◌∷◌, ◌++◌, map, Bool, true, false, ◌&&◌, ◌||◌, nat_eq, Some, refl, ap, sym, ◌∙◌, subst, append_assoc, arith}
+use Rattle.std.proofs.Common.{◌≡◌, ℕ, List, [], ◌∷◌, ◌++◌, map, Bool, true, false, ◌&&◌, nat_eq, Some, refl, ap, sym, ◌∙◌, subst, append_assoc, arith}
 use Rattle.std.specs.Bool.{if◌then◌else◌}
 use Rattle.std.specs.Prelude.{slice_get}
 use Rattle.std.specs.List.{list_any}
@@ -11,7 +11,7 @@ use Rattle.lh_unit.specs.Contents.{LineText, BlockText, UnitText, same_name}
 use Rattle.lh_unit.specs.Named.{block_of}
 use Rattle.lh_unit.specs.Places.{is_terminator, leads_to}
 use Rattle.lh_unit.specs.Within.{Each}
-use Rattle.lh_unit.proofs.Tables.{same_name-refl}
+use Rattle.lh_unit.proofs.Lists.{Each-append}
 use Rattle.lh_inlined.specs.Formed.{IsFormed}
 use Rattle.lh_flat.specs.Flat.{FlatBlockText, with_merge}
 use Rattle.lh_term.specs.Tree.{Tree}
@@ -19,15 +19,14 @@ use Rattle.lh_term.specs.Make.{is_zero}
 use Rattle.lh_term.specs.Mean.{Valuation, IsFitting}
 use Rattle.lh_term.specs.declared.part.Part.{Part}
 use Rattle.lh_rows.specs.Known.{Knowledge}
-use Rattle.lh_rows.specs.Rows.{Drive, Way, halts, enters_head, waits, End}
+use Rattle.lh_rows.specs.Rows.{Drive, enters_head, End}
 use Rattle.lh_rows.specs.Joins.{Edge}
 use Rattle.lh_rows.specs.Places.{Region, Here, Midst, block_number, next_place, goes_if, leads, ends}
-use Rattle.lh_rows.specs.Typed.{KnowsTyped, KnowsThere, IsCondition, IsOfType, JoinEdge}
+use Rattle.lh_rows.specs.Typed.{KnowsTyped, KnowsThere, IsCondition, IsOfType}
 use Rattle.lh_rows.specs.Right.{BlockAt, JoinsAt, WayRight, as_block}
 use Rattle.lh_rows.proofs.Merging.{one}
 use Rattle.lh_rows.proofs.Labels.{block-by, block-labelled, block-text}
 use Rattle.lh_rows.proofs.Edges.{edge-joins}
-use Rattle.lh_rows.proofs.Among.{each-append}
 
 -- ---- one list goes on as another
 
@@ -42,19 +41,7 @@ pub one-more : {X : Type 0} (P : X → Type 0) (xs : List X) (x : X) → P x →
 one-more P xs x h = (x ∷ [], refl, (h, tt))
 
 pub more-more : {X : Type 0} (P : X → Type 0) (xs ys zs : List X) → More P xs ys → More P ys zs → More P xs zs
-more-more P xs ys zs a b = (a.0 ++ b.0, b.1 ∙ ap (λ ws. ws ++ b.0) a.1 ∙ append_assoc xs a.0 b.0, each-append P a.0 b.0 a.2 b.2)
-
--- ---- labels
-
-pub first-name : (n : List ℕ) (more : List (List ℕ)) → list_any (λ m. same_name m n) (n ∷ more) ≡ true
-first-name n more = ap (λ b. b || list_any (λ m. same_name m n) more) (same_name-refl n)
-
-pub second-name : (m n : List ℕ) → list_any (λ x. same_name x n) (m ∷ n ∷ []) ≡ true
-second-name m n = by (same_name m n) (first-name n [])
-  where
-    by : (b : Bool) → list_any (λ x. same_name x n) (n ∷ []) ≡ true → (b || list_any (λ x. same_name x n) (n ∷ [])) ≡ true
-    by true h = refl
-    by false h = h
+more-more P xs ys zs a b = (a.0 ++ b.0, b.1 ∙ ap (λ ws. ws ++ b.0) a.1 ∙ append_assoc xs a.0 b.0, Each-append P a.0 b.0 a.2 b.2)
 
 -- ---- a region of a unit
 

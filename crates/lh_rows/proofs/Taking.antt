@@ -8,7 +8,6 @@ use Rattle.lh_types.specs.Types.{TypeTree, time_type, int_type, void_type, array
 use Rattle.lh_types.specs.Values.{Datum}
 use Rattle.lh_types.specs.declared.op.Op.{Op}
 use Rattle.lh_types.specs.declared.op.Op.TheVariants as op
-use Rattle.lh_types.specs.declared.op.Op.TheVariants.{Not}
 use Rattle.lh_types.specs.Faults.{is_data, is_time}
 use Rattle.lh_types.specs.declared.part.Step.TheVariants.{Field, Slice}
 use Rattle.lh_types.proofs.PartLemmas.{step_part-within}
@@ -29,6 +28,7 @@ use Rattle.lh_formed.specs.Defined.{IsThere, OperandsThere}
 use Rattle.lh_formed.specs.Operands.{IsOf, MayBeOf, IsLike, IsWritten, RowIs}
 use Rattle.lh_formed.specs.Parts.{LeadsTo, TakesPart, PutsPart, HasPart}
 use Rattle.lh_formed.proofs.PartsLaw.{parts_have_ranges}
+use Rattle.lh_formed.proofs.AtPlaces.{place-at}
 use Rattle.lh_eval.specs.Sound.{IsWrittenRight}
 use Rattle.lh_eval.proofs.GivesFit.{constants-fit}
 use Rattle.lh_sound.proofs.Finding.{carries-value}
@@ -47,7 +47,7 @@ use Rattle.lh_rows.specs.Regions.{is_constant}
 use Rattle.lh_rows.proofs.Phis.{const-line}
 use Rattle.lh_rows.specs.Typed.{KnowsTyped, KnowsThere, IsConstantOf, of_step, IsCondition, IsOfType}
 use Rattle.lh_rows.specs.Right.{as_block, BlockAt, PhiGiven}
-use Rattle.lh_rows.proofs.Sites.{Site, place-at, not-result}
+use Rattle.lh_rows.proofs.Sites.{Site, not-result}
 use Rattle.lh_rows.proofs.Merging.{one, and-condition, and-one}
 use Rattle.lh_rows.proofs.Operations.{term-type, value-known, cell-known, part-known, HasType, operands-typed, operation-typed, operation-known, PartStep}
 use Rattle.lh_rows.proofs.Knowing.{constant-typed, GivenTyped, known-typed, given-typed, known-stays, given-stays, given-known, there-past}
@@ -66,7 +66,7 @@ pub under-self : (q : Tree) → Under q q
 under-self q past now p n h = h
 
 -- a step into a signal gives a value of the type that is written
-step-first : (o : Op) (s : Step) (os : List OperandText) → step_of o ≡ Some s → operation_type o os ≡ first_type os
+pub step-first : (o : Op) (s : Step) (os : List OperandText) → step_of o ≡ Some s → operation_type o os ≡ first_type os
 step-first (op.Extf k) s os q = refl
 step-first (op.Exts at len) s os q = refl
 step-first o s os q = absurd (none-some s q)

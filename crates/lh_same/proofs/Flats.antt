@@ -12,9 +12,10 @@ use Rattle.lh_unit.specs.Named.{function_named, is_assert, is_function, label_or
 use Rattle.lh_unit.specs.Pieces.{lexemes_in}
 use Rattle.lh_unit.specs.Spells.{inst_item}
 use Rattle.lh_unit.specs.Within.{Each}
+use Rattle.lh_unit.specs.Hierarchy.{lines_of}
 use Rattle.lh_unit.proofs.Lists.{Each-append, Each-left, Each-right}
 use Rattle.lh_spelled.specs.ItemLines.{item_line}
-use Rattle.lh_spelled.specs.Printable.{HasInstLine, all_lines, IsPrintable, IsPrintableItem}
+use Rattle.lh_spelled.specs.Printable.{HasInstLine, IsPrintable, IsPrintableItem}
 use Rattle.lh_flat.specs.Copies.{Copy, top_copy, call_path, copy_at, opened, copied}
 use Rattle.lh_flat.specs.Flat.{FlatBlockText, FlatText, Pieces, flattened, flat_of, flat_copy, flat_block, pieces_from, with_line, merge_of, max_nested, text_of}
 use Rattle.lh_inlined.proofs.Activating.{flat-is}
@@ -31,9 +32,9 @@ lines-fine : (ls : List LineText) → Each HasInstLine ls → Each LineFine ls
 lines-fine [] h = tt
 lines-fine (l ∷ ls) h = (line-fine l (lexemes_in (item_line (inst_item l))) h.0.1, lines-fine ls h.1)
 
-blocks-fine : (bs : List BlockText) → Each HasInstLine (all_lines bs) → Each (λ (b : BlockText). Each LineFine b.lines) bs
+blocks-fine : (bs : List BlockText) → Each HasInstLine (lines_of bs) → Each (λ (b : BlockText). Each LineFine b.lines) bs
 blocks-fine [] h = tt
-blocks-fine (b ∷ bs) h = (lines-fine b.lines (Each-left HasInstLine b.lines (all_lines bs) h), blocks-fine bs (Each-right HasInstLine b.lines (all_lines bs) h))
+blocks-fine (b ∷ bs) h = (lines-fine b.lines (Each-left HasInstLine b.lines (lines_of bs) h), blocks-fine bs (Each-right HasInstLine b.lines (lines_of bs) h))
 
 pub unit-fine : (u : UnitText) → IsPrintable u → UnitFine u
 unit-fine u h = blocks-fine u.blocks h.written

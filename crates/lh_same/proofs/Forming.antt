@@ -10,6 +10,7 @@ use Rattle.lh_unit.specs.Contents.{UnitText, ItemText, unit_text, declare_text, 
 use Rattle.lh_unit.specs.UnitNames.{same_unit_name}
 use Rattle.lh_unit.specs.WellFormed.{IsSpelled}
 use Rattle.lh_unit.specs.Within.{Each}
+use Rattle.lh_unit.proofs.Within.{Each-more}
 use Rattle.lh_spelled.specs.Printable.{IsPrintable, IsPrintableItem}
 use Rattle.lh_spelled.specs.Laws.{IsSpelledAlone, units_repeat, SpelledApart, SpelledTogether, PrintableIsSpelled, SpelledIsPrintable}
 use Rattle.lh_alike.specs.Formed.{FlatTextsAreFormed}
@@ -24,10 +25,6 @@ use Rattle.lh_same.specs.Same.{LoweredIsPrintable, LoweredIsSpelled, LoweredIsFa
 use Rattle.lh_same.proofs.Outcomes.{ItemPlaced, items-placed, process-kind}
 use Rattle.lh_same.proofs.Naming.{unit-like, BecomesRight, none-in-lowered}
 use Rattle.lh_same.proofs.Entities.{ArgsAreFew, becomes-right, becomes-printable}
-
-each-so : {X : Type 0} (P Q : X → Type 0) → ((x : X) → P x → Q x) → (xs : List X) → Each P xs → Each Q xs
-each-so P Q f [] h = tt
-each-so P Q f (x ∷ xs) h = (f x h.0, each-so P Q f xs h.1)
 
 -- ---- no two units have one name
 
@@ -87,11 +84,11 @@ module _ (a : Arena) (items : List ItemText) where
 
 module _ (apart : SpelledApart) (printable : SpelledIsPrintable) where
   pub source-printable : (items : List ItemText) → IsSpelled items → Each IsPrintableItem items
-  source-printable items h = each-so IsSpelledAlone IsPrintableItem printable items (apart items h).0
+  source-printable items h = Each-more IsSpelledAlone IsPrintableItem items printable (apart items h).0
 
   lowered-spelled : SpelledTogether → PrintableIsSpelled → (items : List ItemText) → IsSpelled items → Each IsPrintableItem (lowered items) → IsSpelled (lowered items)
   lowered-spelled together alone items h p =
-      together (lowered items) (each-so IsPrintableItem IsSpelledAlone alone (lowered items) p)
+      together (lowered items) (Each-more IsPrintableItem IsSpelledAlone (lowered items) alone p)
       (sym (repeat-same items [] [] items (source-printable items h) (λ n. refl)) ∙ (apart items h).1)
 
   -- where each item can be printed, the canonical text reads as the lowered module

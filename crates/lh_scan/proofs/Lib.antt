@@ -1,3 +1,4 @@
+pub mod Found
 pub mod Pieces
 pub mod Digits
 pub mod Fronts

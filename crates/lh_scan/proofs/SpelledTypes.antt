@@ -13,9 +13,10 @@ use Rattle.lh_unit.specs.Lexemes.{Lexeme, word, global, local, arrow, minus, pun
 use Rattle.lh_unit.specs.Numerals.{number_of}
 use Rattle.lh_unit.specs.SpellsTypes.{SpellsTree, SpellsRow, SpellsType}
 use Rattle.lh_unit.specs.SpellsParts.{SpellsParts}
+use Rattle.lh_unit.specs.Typing.{if_made}
 use Rattle.lh_scan.specs.Pieces.{◌>>=◌, word_at, punct_at, small, small_number, parts_at}
 use Rattle.lh_scan.specs.Numbers.{number_at}
-use Rattle.lh_scan.specs.Types.{faultless, followed, width_of, int_width, int_before, array_in, tuple_in, marked_in, data_in, data_at, base_or, base_at, suffix_or, suffix_at, type_at, no_suffix}
+use Rattle.lh_scan.specs.Types.{followed, width_of, int_width, int_before, array_in, tuple_in, marked_in, data_in, data_at, base_or, base_at, suffix_or, suffix_at, type_at, no_suffix}
 use Rattle.lh_scan.specs.Shorter.{bind_some}
 use Rattle.lh_scan.proofs.Pieces.{word_at-inv, punct_at-inv, small-inv, small-below}
 pub use Rattle.lh_scan.proofs.TypeFaults.{four_none, is_data-yes, all_data-yes, array-sound, array-again, tuple-sound, tuple-again, data_limited, limited_data, fault_none, pointed_limited, pointed_data}
@@ -27,19 +28,19 @@ abbrev pub SpellsData : TypeTree → List Lexeme → List Lexeme → Type 0
 SpellsData t ts more = SpellsTree t ts more × IsData t
 
 -- a type and what follows it
-faultless-inv : (o : Option TyFault) (t u : TypeTree) → faultless o t ≡ Some u → (o ≡ None) × (t ≡ u)
-faultless-inv None t u p = (refl, cc)
-faultless-inv (Some e) t u p = cc
+if_made-inv : (o : Option TyFault) (t u : TypeTree) → if_made o t ≡ Some u → (o ≡ None) × (t ≡ u)
+if_made-inv None t u p = (refl, cc)
+if_made-inv (Some e) t u p = cc
 
 followed-inv : (o : Option TypeTree) (ts : List Lexeme) (r : TypeTree × List Lexeme) → followed o ts ≡ Some r → (o ≡ Some r.0) × (ts ≡ r.1)
 followed-inv None ts r p = cc
 followed-inv (Some t) ts r p = (cc, cc)
 
-made_inv : (o : Option TyFault) (t : TypeTree) (ts : List Lexeme) (r : TypeTree × List Lexeme) → followed (faultless o t) ts ≡ Some r → (o ≡ None) × ((t, ts) ≡ r)
-made_inv o t ts r p = let f = followed-inv (faultless o t) ts r p in let g = faultless-inv o t r.0 f.0 in (g.0, λ i. (g.1 i, f.1 i))
+made_inv : (o : Option TyFault) (t : TypeTree) (ts : List Lexeme) (r : TypeTree × List Lexeme) → followed (if_made o t) ts ≡ Some r → (o ≡ None) × ((t, ts) ≡ r)
+made_inv o t ts r p = let f = followed-inv (if_made o t) ts r p in let g = if_made-inv o t r.0 f.0 in (g.0, λ i. (g.1 i, f.1 i))
 
-made_again : (o : Option TyFault) (t : TypeTree) (ts : List Lexeme) → o ≡ None → followed (faultless o t) ts ≡ Some (t, ts)
-made_again o t ts e = ap (λ x. followed (faultless x t) ts) e
+made_again : (o : Option TyFault) (t : TypeTree) (ts : List Lexeme) → o ≡ None → followed (if_made o t) ts ≡ Some (t, ts)
+made_again o t ts e = ap (λ x. followed (if_made x t) ts) e
 
 -- integers
 width-sound : (o : Option ℕ) (n : ℕ) → width_of o ≡ Some n → (o ≡ Some n) × (1 ≤ n) × (n ≤ 128)
@@ -174,9 +175,9 @@ module _ (k : ℕ) (p : List Lexeme → Option (TypeTree × List Lexeme)) (again
       → array_in p (word w ∷ word (codes "x") ∷ ts) ≡ Some (array_type n t, us)
   unfolding array_in
   array_in-again n t w ts us h d e s =
-      ap (λ o. o >>= λ m. (word_at (codes "x") m.1 >>= λ vs. (p vs >>= λ x. (punct_at 93 x.1 >>= λ y. followed (faultless (array_fault m.0 x.0) (array_type m.0 x.0)) y))))
+      ap (λ o. o >>= λ m. (word_at (codes "x") m.1 >>= λ vs. (p vs >>= λ x. (punct_at 93 x.1 >>= λ y. followed (if_made (array_fault m.0 x.0) (array_type m.0 x.0)) y))))
       (number_at-again n (word w ∷ word (codes "x") ∷ ts) (word (codes "x") ∷ ts) (w, refl, e, d.2))
-      ∙ ap (λ o. o >>= λ x. (punct_at 93 x.1 >>= λ y. followed (faultless (array_fault n x.0) (array_type n x.0)) y)) (again t ts (punct 93 ∷ us) (h, (s, d.0)))
+      ∙ ap (λ o. o >>= λ x. (punct_at 93 x.1 >>= λ y. followed (if_made (array_fault n x.0) (array_type n x.0)) y)) (again t ts (punct 93 ∷ us) (h, (s, d.0)))
       ∙ made_again (array_fault n t) (array_type n t) us (array-again n t d)
 
   deep-shorter : (t : TypeTree) (ts us : List Lexeme) → SpellsDeep k t ts us → length us < length ts
@@ -185,9 +186,9 @@ module _ (k : ℕ) (p : List Lexeme → Option (TypeTree × List Lexeme)) (again
   tuple_in-again : (r : TypeRow) (ts us : List Lexeme) → depth_of_row r ≤ k → IsData (tuple_type r) → SpellsRow r ts (punct 125 ∷ us) → tuple_in p ts ≡ Some (tuple_type r, us)
   unfolding tuple_in
   tuple_in-again r ts us h d s =
-      ap (λ o. o >>= λ x. (punct_at 125 x.1 >>= λ y. followed (faultless (tuple_fault (row_of x.0)) (tuple_type (row_of x.0))) y))
+      ap (λ o. o >>= λ x. (punct_at 125 x.1 >>= λ y. followed (if_made (tuple_fault (row_of x.0)) (tuple_type (row_of x.0))) y))
       (parts_at-again p (SpellsDeep k) again deep-shorter (length ts) (types_of r) ts (punct 125 ∷ us) (row-again k r ts (punct 125 ∷ us) h d.0 s) (omega arith) refl)
-      ∙ ap (λ q. followed (faultless (tuple_fault q) (tuple_type q)) us) (row_of-types_of r)
+      ∙ ap (λ q. followed (if_made (tuple_fault q) (tuple_type q)) us) (row_of-types_of r)
       ∙ made_again (tuple_fault r) (tuple_type r) us (tuple-again r d)
 
   data_in-again : (t : TypeTree) (ts us : List Lexeme) → SpellsDeep (suc k) t ts us → data_in p ts ≡ Some (t, us)

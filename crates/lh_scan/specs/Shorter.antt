@@ -5,9 +5,10 @@ use lib.Pointwise.{pointwise}
 use Rattle.lh_types.specs.Types.{TypeTree, array_type, tuple_type, row_of}
 use Rattle.lh_types.specs.Faults.{array_fault, tuple_fault}
 use Rattle.lh_unit.specs.Lexemes.{Lexeme, word, local, punct}
+use Rattle.lh_unit.specs.Typing.{if_made}
 use Rattle.lh_scan.specs.Pieces.{◌>>=◌, word_at, any_word_at, local_at, punct_at, below, small_number, front_part, comma_or_end, part_then, parts_at}
 use Rattle.lh_scan.specs.Numbers.{number_at}
-use Rattle.lh_scan.specs.Types.{faultless, followed, int_width, int_before, array_in, tuple_in, data_in, data_at, base_or, base_at, suffix_or, suffix_at, type_at}
+use Rattle.lh_scan.specs.Types.{followed, int_width, int_before, array_in, tuple_in, data_in, data_at, base_or, base_at, suffix_or, suffix_at, type_at}
 
 -- where a chain finds something, so does its first step
 pub bind_some : {A B : Type 0} (o : Option A) (f : A → Option B) (y : B) → (o >>= f) ≡ Some y → (x : A) × (o ≡ Some x) × (f x ≡ Some y)
@@ -83,7 +84,7 @@ module _ (p : List Lexeme → Option (TypeTree × List Lexeme)) (shorter : (ts :
       let b = bind_some (word_at (codes "x") a.0.1) _ r a.2 in
       let c = bind_some (p b.0) _ r b.2 in
       let d = bind_some (punct_at 93 c.0.1) _ r c.2 in
-      let f = followed-rest (faultless (array_fault a.0.0 c.0.0) (array_type a.0.0 c.0.0)) d.0 r d.2 in
+      let f = followed-rest (if_made (array_fault a.0.0 c.0.0) (array_type a.0.0 c.0.0)) d.0 r d.2 in
       omega (arith, number_at-shorter ts a.0 a.1, word_at-shorter (codes "x") a.0.1 b.0 b.1, shorter b.0 c.0 c.1, punct_at-shorter 93 c.0.1 d.0 d.1, ap length f)
 
   tuple_in-shorter : (ts : List Lexeme) (r : TypeTree × List Lexeme) → tuple_in p ts ≡ Some r → length r.1 < length ts
@@ -91,7 +92,7 @@ module _ (p : List Lexeme → Option (TypeTree × List Lexeme)) (shorter : (ts :
   tuple_in-shorter ts r e =
       let a = bind_some (parts_at p (length ts) ts) _ r e in
       let b = bind_some (punct_at 125 a.0.1) _ r a.2 in
-      let f = followed-rest (faultless (tuple_fault (row_of a.0.0)) (tuple_type (row_of a.0.0))) b.0 r b.2 in
+      let f = followed-rest (if_made (tuple_fault (row_of a.0.0)) (tuple_type (row_of a.0.0))) b.0 r b.2 in
       omega (arith, parts_at-shorter p shorter (length ts) ts a.0 a.1, punct_at-shorter 125 a.0.1 b.0 b.1, ap length f)
 
   data_in-shorter : (ts : List Lexeme) (r : TypeTree × List Lexeme) → data_in p ts ≡ Some r → length r.1 < length ts

@@ -3,15 +3,10 @@ use Rattle.std.specs.Prelude.{ℕ, Bool, true, not, ◌&&◌, ◌||◌, nat_eq, 
 use Rattle.std.proofs.Common.{zero, suc}
 use Rattle.lh_types.specs.Types.{TypeTree, int_type, time_type, void_type, array_type, tuple_type, signal_type, pointer_type, row_of}
 use Rattle.lh_types.specs.Faults.{array_fault, tuple_fault, signal_fault, pointer_fault}
-use Rattle.lh_types.specs.declared.ty.TyFault.{TyFault}
 use Rattle.lh_unit.specs.Lexemes.{Lexeme, word, punct}
+use Rattle.lh_unit.specs.Typing.{if_made}
 use Rattle.lh_scan.specs.Pieces.{◌>>=◌, word_at, punct_at, small_number, parts_at}
 use Rattle.lh_scan.specs.Numbers.{number_at}
-
--- a type without a fault
-abbrev pub faultless : Option TyFault → TypeTree → Option TypeTree
-faultless None t = Some t
-faultless (Some e) t = None
 
 -- a type where there is one, and what follows it
 abbrev pub followed : Option TypeTree → List Lexeme → Option (TypeTree × List Lexeme)
@@ -40,14 +35,14 @@ array_in p ts = do
   us ← word_at (codes "x") n.1
   t ← p us
   vs ← punct_at 93 t.1
-  followed (faultless (array_fault n.0 t.0) (array_type n.0 t.0)) vs
+  followed (if_made (array_fault n.0 t.0) (array_type n.0 t.0)) vs
 
 -- `T1, T2}`, where p finds each
 unfoldable pub tuple_in : (List Lexeme → Option (TypeTree × List Lexeme)) → List Lexeme → Option (TypeTree × List Lexeme)
 tuple_in p ts = do
   r ← parts_at p (length ts) ts
   us ← punct_at 125 r.1
-  followed (faultless (tuple_fault (row_of r.0)) (tuple_type (row_of r.0))) us
+  followed (if_made (tuple_fault (row_of r.0)) (tuple_type (row_of r.0))) us
 
 -- what a bracket or a brace begins
 abbrev pub marked_in : (List Lexeme → Option (TypeTree × List Lexeme)) → ℕ → List Lexeme → Option (TypeTree × List Lexeme)
@@ -74,8 +69,8 @@ unfoldable pub base_at : List Lexeme → Option (TypeTree × List Lexeme)
 base_at ts = base_or ts (word_at (codes "time") ts) (word_at (codes "void") ts)
 
 abbrev pub suffix_or : TypeTree → List Lexeme → (dollar star : Option (List Lexeme)) → Option (TypeTree × List Lexeme)
-suffix_or t ts (Some us) o = followed (faultless (signal_fault t) (signal_type t)) us
-suffix_or t ts None (Some us) = followed (faultless (pointer_fault t) (pointer_type t)) us
+suffix_or t ts (Some us) o = followed (if_made (signal_fault t) (signal_type t)) us
+suffix_or t ts None (Some us) = followed (if_made (pointer_fault t) (pointer_type t)) us
 suffix_or t ts None None = Some (t, ts)
 
 -- a type and the `$` or `*` behind it, if one stands there

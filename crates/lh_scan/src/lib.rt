@@ -1,8 +1,10 @@
 //! The pieces that a line is read by: each takes tokens from the front and gives what is left.
 //!
-//! A piece answers `None` where the tokens do not begin so, and want of memory as `NoMemory`.
+//! A piece that takes no memory answers `None` where the tokens do not begin so; one that takes some says which of the two
+//! it lacks, by a `ScanFault`.
 #![tactic(auto)]
 
+pub mod fault;
 pub mod list;
 pub mod numbers;
 pub mod times;

@@ -1,21 +1,23 @@
 //! Lists by comma.
-ghost use Rattle.std.specs.Prelude.{◌≡◌, ◌<◌, ◌+◌, IfOk, IfSome, length, List, Option, Some};
+ghost use Rattle.std.specs.Prelude.{◌≡◌, ◌<◌, ◌+◌, length, List, Option, Some};
 ghost use Rattle.lh_unit.specs.Lexemes.{Lexeme};
+ghost use Rattle.lh_scan.specs.Found.{Finds};
 ghost use Rattle.lh_scan.specs.Pieces.{parts_at, list_at, behind_at};
 
+use crate::fault::ScanFault::{self, NotSpelled};
 use crate::tokens::{NameText, Tokens};
 use crate::types::ty;
 use lh_types::list::ListOf;
-use lh_types::ty::{NoMemory, Ty};
+use lh_types::ty::Ty;
 use std::alloc::Global;
 
 /// What may be a part of a list.
 pub trait Part<'a>: Sized + Drop {
     ghost part_at: { List Lexeme → Option (Self × List Lexeme) };
 
-    /// The part in front, and what follows it; `None` where none begins so.
-    fn part(alloc: Global, tokens: &Tokens<'a>) -> Result<Option<(Self, Tokens<'a>)>, NoMemory>
-        ensures { IfOk result (λ r. r ≡ part_at tokens.now) };
+    /// The part in front, and what follows it.
+    fn part(alloc: Global, tokens: &Tokens<'a>) -> Result<(Self, Tokens<'a>), ScanFault>
+        ensures { Finds result (part_at tokens.now) };
 
     ghost shorter: { (ts : List Lexeme) → (a : Self) → (us : List Lexeme) → part_at ts ≡ Some (a, us) → length us < length ts };
 }
@@ -27,11 +29,11 @@ pub fn list<'a, P: Part<'a>>(
     alloc: Global,
     tokens: &Tokens<'a>,
     close: u8,
-) -> Result<Option<(ListOf<P>, Tokens<'a>)>, NoMemory>
-    ensures { IfOk result (λ r. r ≡ list_at P.part_at close tokens.now) }
+) -> Result<(ListOf<P>, Tokens<'a>), ScanFault>
+    ensures { Finds result (list_at P.part_at close tokens.now) }
 {
     if tokens.punct(close).is_some() {
-        return Ok(Some((ListOf::new(alloc), tokens.copy())));
+        return Ok((ListOf::new(alloc), tokens.copy()));
     }
     parts(alloc, tokens)
 }
@@ -40,12 +42,12 @@ pub fn list<'a, P: Part<'a>>(
 pub fn behind<'a, P: Part<'a>>(
     alloc: Global,
     tokens: &Tokens<'a>,
-) -> Result<Option<(ListOf<P>, Tokens<'a>)>, NoMemory>
-    ensures { IfOk result (λ r. r ≡ behind_at P.part_at tokens.now) }
+) -> Result<(ListOf<P>, Tokens<'a>), ScanFault>
+    ensures { Finds result (behind_at P.part_at tokens.now) }
 {
     match tokens.punct(b',') {
         Some(rest) => parts(alloc, &rest),
-        None => Ok(Some((ListOf::new(alloc), tokens.copy()))),
+        None => Ok((ListOf::new(alloc), tokens.copy())),
     }
 }
 
@@ -53,19 +55,17 @@ pub fn behind<'a, P: Part<'a>>(
 pub fn parts<'a, P: Part<'a>>(
     alloc: Global,
     tokens: &Tokens<'a>,
-) -> Result<Option<(ListOf<P>, Tokens<'a>)>, NoMemory>
-    ensures { IfOk result (λ r. r ≡ parts_at P.part_at (length tokens.now) tokens.now) }
+) -> Result<(ListOf<P>, Tokens<'a>), ScanFault>
+    ensures { Finds result (parts_at P.part_at (length tokens.now) tokens.now) }
 {
     let mut parts = ListOf::new(alloc);
     let mut rest = tokens.copy();
     loop {
-        let Some((part, more)) = P::part(alloc, &rest)? else {
-            return Ok(None);
-        };
+        let (part, more) = P::part(alloc, &rest)?;
         parts.push(part)?;
         match more.punct(b',') {
             Some(next) => rest = next,
-            None => return Ok(Some((parts, more))),
+            None => return Ok((parts, more)),
         }
     }
 }
@@ -77,11 +77,8 @@ impl<'a> Part<'a> for NameText<'a> {
 
     ghost part_at = { local_at };
 
-    fn part(
-        alloc: Global,
-        tokens: &Tokens<'a>,
-    ) -> Result<Option<(NameText<'a>, Tokens<'a>)>, NoMemory> {
-        Ok(tokens.local())
+    fn part(alloc: Global, tokens: &Tokens<'a>) -> Result<(NameText<'a>, Tokens<'a>), ScanFault> {
+        tokens.local().ok_or(NotSpelled)
     }
 
     ghost shorter = { local_part-shorter };
@@ -94,7 +91,7 @@ impl<'a> Part<'a> for Ty {
 
     ghost part_at = { type_at };
 
-    fn part(alloc: Global, tokens: &Tokens<'a>) -> Result<Option<(Ty, Tokens<'a>)>, NoMemory> {
+    fn part(alloc: Global, tokens: &Tokens<'a>) -> Result<(Ty, Tokens<'a>), ScanFault> {
         ty(alloc, tokens)
     }
 

@@ -1,16 +1,19 @@
 //! The type that stands in front of the tokens.
 //!
 //! The recursion stops at the depth limit of types, whatever the tokens nest.
-ghost use Rattle.std.specs.Prelude.{◌≡◌, ◌≤◌, IfOk, IfSome, length, Option};
+ghost use Rattle.std.specs.Prelude.{◌≡◌, ◌≤◌, IfSome, length, Option};
 ghost use Rattle.lh_types.specs.Types.{TypeTree, int_type as int_tree, tuple_type, signal_type, pointer_type, row_of};
 ghost use Rattle.lh_types.specs.Faults.{tuple_fault, signal_fault, pointer_fault, Makes};
 ghost use Rattle.lh_types.specs.declared.ty.TyFault.{TyFault};
+ghost use Rattle.lh_scan.specs.Found.{Finds};
 ghost use Rattle.lh_scan.specs.Pieces.{parts_at};
-ghost use Rattle.lh_scan.specs.Types.{faultless, followed, int_width as width_in, int_before, marked_in, array_in, tuple_in, data_at, base_at, suffix_at, type_at};
+ghost use Rattle.lh_unit.specs.Typing.{if_made};
+ghost use Rattle.lh_scan.specs.Types.{followed, int_width as width_in, int_before, marked_in, array_in, tuple_in, data_at, base_at, suffix_at, type_at};
 
+use crate::fault::ScanFault::{self, NotSpelled};
 use crate::numbers::{count, number};
 use crate::tokens::{Lex, Tokens};
-use lh_types::ty::{NoMemory, Ty, TyFault, TyList};
+use lh_types::ty::{Ty, TyFault, TyList};
 use std::alloc::Global;
 
 /// How deep a data type nests at most.
@@ -54,45 +57,36 @@ fn int_type<'a>(word: &[u8], rest: Tokens<'a>) -> Option<(Ty, Tokens<'a>)>
 }
 
 /// The type that was made, if it has no fault.
-fn faultless_type(made: Result<Ty, TyFault>) -> Result<Option<Ty>, NoMemory>
-    ensures { IfOk result (λ r. (fault : Option TyFault) → (t : TypeTree) → Makes made fault t → r ≡ faultless fault t) }
+fn faultless(made: Result<Ty, TyFault>) -> Result<Ty, ScanFault>
+    ensures { (fault : Option TyFault) → (t : TypeTree) → Makes made fault t → Finds result (if_made fault t) }
 {
     match made {
-        Ok(ty) => Ok(Some(ty)),
-        Err(TyFault::OutOfMemory) => Err(NoMemory),
-        Err(_) => Ok(None),
+        Ok(ty) => Ok(ty),
+        Err(TyFault::OutOfMemory) => Err(ScanFault::OutOfMemory),
+        Err(_) => Err(NotSpelled),
     }
 }
 
 /// The struct of these fields, if it has no fault.
 fn struct_type(fields: TyList) -> Option<Ty>
-    ensures { result ≡ faultless (tuple_fault (row_of fields)) (tuple_type (row_of fields)) }
+    ensures { result ≡ if_made (tuple_fault (row_of fields)) (tuple_type (row_of fields)) }
 {
-    match Ty::tuple(fields) {
-        Ok(ty) => Some(ty),
-        Err(_) => None,
-    }
+    Ty::tuple(fields).ok()
 }
 
 /// A data type in front that nests at most `deep` levels, and what follows it.
 #[cycle(data)]
-fn data<'a>(
-    alloc: Global,
-    deep: u32,
-    tokens: &Tokens<'a>,
-) -> Result<Option<(Ty, Tokens<'a>)>, NoMemory>
-    ensures { IfOk result (λ r. r ≡ data_at deep tokens.now) }
+fn data<'a>(alloc: Global, deep: u32, tokens: &Tokens<'a>) -> Result<(Ty, Tokens<'a>), ScanFault>
+    ensures { Finds result (data_at deep tokens.now) }
 {
     if deep == 0 {
-        return Ok(None);
+        return Err(NotSpelled);
     }
-    let Some((first, rest)) = tokens.first() else {
-        return Ok(None);
-    };
+    let (first, rest) = tokens.first().ok_or(NotSpelled)?;
     match first {
-        Lex::Word(word) => Ok(int_type(word, rest)),
+        Lex::Word(word) => int_type(word, rest).ok_or(NotSpelled),
         Lex::Punct(mark) => marked(alloc, deep - 1, mark, &rest),
-        _ => Ok(None),
+        _ => Err(NotSpelled),
     }
 }
 
@@ -103,8 +97,8 @@ fn marked<'a>(
     deep: u32,
     mark: u8,
     tokens: &Tokens<'a>,
-) -> Result<Option<(Ty, Tokens<'a>)>, NoMemory>
-    ensures { IfOk result (λ r. r ≡ marked_in (data_at deep) mark tokens.now) }
+) -> Result<(Ty, Tokens<'a>), ScanFault>
+    ensures { Finds result (marked_in (data_at deep) mark tokens.now) }
 {
     if mark == b'[' {
         return array(alloc, deep, tokens);
@@ -112,57 +106,33 @@ fn marked<'a>(
     if mark == b'{' {
         return tuple(alloc, deep, tokens);
     }
-    Ok(None)
+    Err(NotSpelled)
 }
 
 /// `N x T]`, and what follows it.
 #[cycle(data)]
 #[tactic(auto, unfolding(crate::specs::Types::array_in))]
-fn array<'a>(
-    alloc: Global,
-    deep: u32,
-    tokens: &Tokens<'a>,
-) -> Result<Option<(Ty, Tokens<'a>)>, NoMemory>
-    ensures { IfOk result (λ r. r ≡ array_in (data_at deep) tokens.now) }
+fn array<'a>(alloc: Global, deep: u32, tokens: &Tokens<'a>) -> Result<(Ty, Tokens<'a>), ScanFault>
+    ensures { Finds result (array_in (data_at deep) tokens.now) }
 {
-    let Some((len, rest)) = count(tokens) else {
-        return Ok(None);
-    };
-    let Some(rest) = rest.word(b"x") else {
-        return Ok(None);
-    };
-    let Some((of, rest)) = data(alloc, deep, &rest)? else {
-        return Ok(None);
-    };
-    let Some(rest) = rest.punct(b']') else {
-        return Ok(None);
-    };
-    let Some(ty) = faultless_type(Ty::array(alloc, len, of))? else {
-        return Ok(None);
-    };
-    Ok(Some((ty, rest)))
+    let (len, rest) = count(tokens).ok_or(NotSpelled)?;
+    let rest = rest.word(b"x").ok_or(NotSpelled)?;
+    let (of, rest) = data(alloc, deep, &rest)?;
+    let rest = rest.punct(b']').ok_or(NotSpelled)?;
+    let ty = faultless(Ty::array(alloc, len, of))?;
+    Ok((ty, rest))
 }
 
 /// `T1, T2}`, and what follows it.
 #[cycle(data)]
 #[tactic(auto, unfolding(crate::specs::Types::tuple_in))]
-fn tuple<'a>(
-    alloc: Global,
-    deep: u32,
-    tokens: &Tokens<'a>,
-) -> Result<Option<(Ty, Tokens<'a>)>, NoMemory>
-    ensures { IfOk result (λ r. r ≡ tuple_in (data_at deep) tokens.now) }
+fn tuple<'a>(alloc: Global, deep: u32, tokens: &Tokens<'a>) -> Result<(Ty, Tokens<'a>), ScanFault>
+    ensures { Finds result (tuple_in (data_at deep) tokens.now) }
 {
-    let Some((fields, rest)) = fields(alloc, deep, tokens)? else {
-        return Ok(None);
-    };
-    let Some(rest) = rest.punct(b'}') else {
-        return Ok(None);
-    };
-    let Some(ty) = struct_type(fields) else {
-        return Ok(None);
-    };
-    Ok(Some((ty, rest)))
+    let (fields, rest) = fields(alloc, deep, tokens)?;
+    let rest = rest.punct(b'}').ok_or(NotSpelled)?;
+    let ty = struct_type(fields).ok_or(NotSpelled)?;
+    Ok((ty, rest))
 }
 
 /// One or more data types by comma, and what follows them.
@@ -171,69 +141,55 @@ fn fields<'a>(
     alloc: Global,
     deep: u32,
     tokens: &Tokens<'a>,
-) -> Result<Option<(TyList, Tokens<'a>)>, NoMemory>
-    ensures { IfOk result (λ r. r ≡ parts_at (data_at deep) (length tokens.now) tokens.now) }
+) -> Result<(TyList, Tokens<'a>), ScanFault>
+    ensures { Finds result (parts_at (data_at deep) (length tokens.now) tokens.now) }
 {
     let mut fields = TyList::new(alloc);
     let mut rest = tokens.copy();
     loop {
-        let Some((field, more)) = data(alloc, deep, &rest)? else {
-            return Ok(None);
-        };
+        let (field, more) = data(alloc, deep, &rest)?;
         fields.push(field)?;
         match more.punct(b',') {
             Some(next) => rest = next,
-            None => return Ok(Some((fields, more))),
+            None => return Ok((fields, more)),
         }
     }
 }
 
 /// `time`, `void` or a data type, and what follows it.
 #[tactic(auto, unfolding(crate::specs::Types::base_at))]
-fn base<'a>(alloc: Global, tokens: &Tokens<'a>) -> Result<Option<(Ty, Tokens<'a>)>, NoMemory>
-    ensures { IfOk result (λ r. r ≡ base_at tokens.now) }
+fn base<'a>(alloc: Global, tokens: &Tokens<'a>) -> Result<(Ty, Tokens<'a>), ScanFault>
+    ensures { Finds result (base_at tokens.now) }
 {
     if let Some(rest) = tokens.word(b"time") {
-        return Ok(Some((Ty::time(), rest)));
+        return Ok((Ty::time(), rest));
     }
     if let Some(rest) = tokens.word(b"void") {
-        return Ok(Some((Ty::void(), rest)));
+        return Ok((Ty::void(), rest));
     }
     data(alloc, MOST_DEEP, tokens)
 }
 
 /// The signal of a type, and what follows it.
-fn signal<'a>(alloc: Global, of: Ty, rest: Tokens<'a>) -> Result<Option<(Ty, Tokens<'a>)>, NoMemory>
-    ensures { IfOk result (λ r. r ≡ followed (faultless (signal_fault of) (signal_type of)) rest.entry) }
+fn signal<'a>(alloc: Global, of: Ty, rest: Tokens<'a>) -> Result<(Ty, Tokens<'a>), ScanFault>
+    ensures { Finds result (followed (if_made (signal_fault of) (signal_type of)) rest.entry) }
 {
-    let Some(ty) = faultless_type(Ty::signal(alloc, of))? else {
-        return Ok(None);
-    };
-    Ok(Some((ty, rest)))
+    let ty = faultless(Ty::signal(alloc, of))?;
+    Ok((ty, rest))
 }
 
 /// The pointer to a type, and what follows it.
-fn pointer<'a>(
-    alloc: Global,
-    of: Ty,
-    rest: Tokens<'a>,
-) -> Result<Option<(Ty, Tokens<'a>)>, NoMemory>
-    ensures { IfOk result (λ r. r ≡ followed (faultless (pointer_fault of) (pointer_type of)) rest.entry) }
+fn pointer<'a>(alloc: Global, of: Ty, rest: Tokens<'a>) -> Result<(Ty, Tokens<'a>), ScanFault>
+    ensures { Finds result (followed (if_made (pointer_fault of) (pointer_type of)) rest.entry) }
 {
-    let Some(ty) = faultless_type(Ty::pointer(alloc, of))? else {
-        return Ok(None);
-    };
-    Ok(Some((ty, rest)))
+    let ty = faultless(Ty::pointer(alloc, of))?;
+    Ok((ty, rest))
 }
 
 /// The type and the `$` or `*` behind it, if one stands there, and what follows.
 #[tactic(auto, unfolding(crate::specs::Types::suffix_at))]
-fn suffixed<'a>(
-    alloc: Global,
-    ty: Ty,
-    tokens: Tokens<'a>,
-) -> Result<Option<(Ty, Tokens<'a>)>, NoMemory>
-    ensures { IfOk result (λ r. r ≡ suffix_at ty tokens.entry) }
+fn suffixed<'a>(alloc: Global, ty: Ty, tokens: Tokens<'a>) -> Result<(Ty, Tokens<'a>), ScanFault>
+    ensures { Finds result (suffix_at ty tokens.entry) }
 {
     if let Some(rest) = tokens.punct(b'$') {
         return signal(alloc, ty, rest);
@@ -241,17 +197,15 @@ fn suffixed<'a>(
     if let Some(rest) = tokens.punct(b'*') {
         return pointer(alloc, ty, rest);
     }
-    Ok(Some((ty, tokens)))
+    Ok((ty, tokens))
 }
 
 /// The type in front within its limits, and what follows it: `iN`, `time`, `void`, `[N x T]` or `{T1, T2}`, and
 /// then at most one `$` or `*`.
 #[tactic(auto, unfolding(crate::specs::Types::type_at))]
-pub fn ty<'a>(alloc: Global, tokens: &Tokens<'a>) -> Result<Option<(Ty, Tokens<'a>)>, NoMemory>
-    ensures { IfOk result (λ r. r ≡ type_at tokens.now) }
+pub fn ty<'a>(alloc: Global, tokens: &Tokens<'a>) -> Result<(Ty, Tokens<'a>), ScanFault>
+    ensures { Finds result (type_at tokens.now) }
 {
-    let Some((ty, rest)) = base(alloc, tokens)? else {
-        return Ok(None);
-    };
+    let (ty, rest) = base(alloc, tokens)?;
     suffixed(alloc, ty, rest)
 }

@@ -10,7 +10,7 @@ use Rattle.lh_term.specs.Tree.{Tree}
 use Rattle.lh_term.specs.Types.{type_of, Chooses}
 use Rattle.lh_term.specs.SameTree.{same_tree}
 use Rattle.lh_term.specs.Make.{make_operation, make_choice}
-use Rattle.lh_term.specs.Conjuncts.{all_conjuncts, conjuncts_of}
+use Rattle.lh_term.specs.Conjuncts.{conjuncts_of}
 use Rattle.lh_term.specs.Arena.{trees, tree_at, trees_at, ids_below, AreIn, Stands, Grows}
 use Rattle.lh_term.specs.declared.part.Part.{Part}
 use Rattle.lh_term.specs.declared.term.Node.{Node}
@@ -21,7 +21,7 @@ use Rattle.lh_rows.specs.Rows as text
 use Rattle.lh_rows.specs.Typed.{IsOfType}
 use Rattle.lh_rows.specs.Joins.{in_each}
 use Rattle.lh_rows.specs.Adjacent.{beyond, drive_merged}
-use Rattle.lh_term.proofs.Conditions.{AllBits, conjuncts_bits, with_bits}
+use Rattle.lh_term.proofs.Conditions.{AllBits, conjuncts_are_bits, filter-bits}
 use Rattle.lh_rows.proofs.Merging.{or-condition, made-choice, beyond-condition}
 use Rattle.lh_joins.specs.Joins.{IsConditionAt, edge_on}
 use Rattle.lh_joins.proofs.Conditions.{condition-grown, stands-condition, grows-none}
@@ -200,14 +200,6 @@ beyond-all c d = filter (λ k. not (list_any (same_tree k) (conjuncts_of c))) (c
 pub one-edge : (c : Tree) (ts : List Tree) → filter (λ k. not (in_each (edge_on c ∷ []) k)) ts ≡ filter (λ k. not (list_any (same_tree k) (conjuncts_of c))) ts
 one-edge c ts = filter-alike (λ k. not (in_each (edge_on c ∷ []) k)) (λ k. not (list_any (same_tree k) (conjuncts_of c))) (λ k. ap not (and-true (list_any (same_tree k) (conjuncts_of c)))) ts
 
-filter-bits : (f : Tree → Bool) (ts : List Tree) → AllBits ts → AllBits (filter f ts)
-filter-bits f [] h = tt
-filter-bits f (t ∷ ts) h = at (f t) (filter-bits f ts h.1)
-  where
-    at : (b : Bool) → AllBits (filter f ts) → AllBits (if b then t ∷ filter f ts else filter f ts)
-    at true g = (h.0, g)
-    at false g = g
-
 bits-conditions : (ns : List Node) (ts : List TermId) → AreIn ns ts → AllBits (trees_at ns ts) → Each (IsConditionAt ns) ts
 bits-conditions ns [] i b = tt
 bits-conditions ns (t ∷ ts) i b =
@@ -218,7 +210,7 @@ bits-conditions ns (t ∷ ts) i b =
 pub beyond-conditions : (ns : List Node) (c d : TermId) (ts : List TermId) → IsConditionAt ns d → AreIn ns ts → trees_at ns ts ≡ beyond-all (tree_at (trees ns) c) (tree_at (trees ns) d) → Each (IsConditionAt ns) ts
 beyond-conditions ns c d ts i w e =
     let x : Tree = tree_at (trees ns) d in
-    let bits : AllBits (conjuncts_of x) = with_bits [] (all_conjuncts x) tt (conjuncts_bits x i.cond.typed i.cond.type) in
+    let bits : AllBits (conjuncts_of x) = conjuncts_are_bits x i.cond.typed i.cond.type in
     bits-conditions ns ts w (subst AllBits (sym e) (filter-bits (λ k. not (list_any (same_tree k) (conjuncts_of (tree_at (trees ns) c)))) (conjuncts_of x) bits))
 
 -- ---- `join`

@@ -51,7 +51,7 @@ module _ (u : UnitText) (w : ℕ) where
   signals-fit (l ∷ ls) a b rs e c f = signal-fits l.inst l.result (signal_names ls) (signal_types ls) a.0.row b.0 a.0.gives (signals-fit ls a.1 b.1) rs e c f
 
 -- where nothing is held, it fits
-nothing-fits : (u : UnitText) (w : ℕ) → Fits u w nothing_held
+pub nothing-fits : (u : UnitText) (w : ℕ) → Fits u w nothing_held
 nothing-fits u w n h t p q = cc
 
 -- What a process begins with fits.

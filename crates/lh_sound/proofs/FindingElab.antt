@@ -26,7 +26,6 @@ use Rattle.lh_unit.specs.Within.{Each}
 use Rattle.lh_unit.proofs.Within.{Each-more}
 use Rattle.lh_unit.proofs.Lists.{Each-append}
 use Rattle.lh_unit.proofs.Tables.{same_name-is}
-use Rattle.lh_spelled.specs.Printable.{results_repeat}
 use Rattle.lh_formed.specs.Operands.{IsOf, RowIs}
 use Rattle.lh_formed.specs.KindsOf.{ArgsHaveKinds, HasTypeOfKind}
 use Rattle.lh_formed.proofs.KindsLaw.{operands_have_types}
@@ -36,9 +35,11 @@ use Rattle.lh_eval.specs.Sound.{IsSound}
 use Rattle.lh_sound.specs.Ranges.{RangesFit, arg_types, signal_types, InstanceFits}
 use Rattle.lh_sound.specs.Units.{HasItsType, IsPort, HasPorts, SigWritesData, WritesData, UnitIsSound}
 use Rattle.lh_sound.specs.Finding.{PartsFound, InitialFound}
-use Rattle.lh_sound.proofs.EachItem.{each-contained, each-split, each-of-map}
+use Rattle.lh_formed.proofs.EachItem.{each-contained, each-split, each-of-map}
+use Rattle.lh_formed.proofs.AtPlaces.{lines-from}
+use Rattle.lh_sound.proofs.Begins.{nothing-fits}
 use Rattle.lh_sound.proofs.NamedOnce.{IsFirst, each-first}
-use Rattle.lh_sound.proofs.SoundLines.{lines-from, lines-printed, same-lines}
+use Rattle.lh_sound.proofs.SoundLines.{lines-printed}
 use Rattle.lh_sound.proofs.FitLaws.{of-unit, unit-is-sound, begins-fit}
 use Rattle.lh_sound.proofs.Finding.{some-of, is-some, part-at}
 use Rattle.lh_sound.proofs.FindingPass.{EntityLines, EntityIn, entities-of-items, fit-lines, named_in, SigsHeld, parts-stay, args-held, sigs-held}
@@ -196,9 +197,6 @@ args-of-none : (e : Env) (args : List ArgText) → with_args e args [] ≡ e
 args-of-none e [] = refl
 args-of-none e (a ∷ args) = refl
 
-nothing-fits : (u : UnitText) (w : ℕ) → Fits u w nothing_held
-nothing-fits u w n h t p q = cc
-
 module _ (a : Arena) (u : ℕ) (o : IsArena a) (h : u < unit_count a) (g : IsWellFormed (contents a)) (k : kind_at a u ≡ Some kind.Entity) where
   abbrev here : UnitText
   here = unit_text_at a u
@@ -225,7 +223,7 @@ module _ (a : Arena) (u : ℕ) (o : IsArena a) (h : u < unit_count a) (g : IsWel
   kinds = told.kinds (port-kinds here.args ports)
 
   firsts : Each (IsFirst here.args lines) lines
-  firsts = each-first here.args lines [] lines refl (subst (λ (ls : List LineText). results_repeat here.args [] ls ≡ false) (same-lines here.blocks) sound.printable.new_results)
+  firsts = each-first here.args lines [] lines refl sound.printable.new_results
 
   abbrev first_at : Instant
   first_at = instant 0 0 0

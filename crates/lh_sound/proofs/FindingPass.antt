@@ -43,20 +43,21 @@ use Rattle.lh_eval.specs.Fitting.{Fits}
 use Rattle.lh_eval.specs.Sound.{IsSound}
 use Rattle.lh_sound.specs.Ranges.{RangesFit, arg_types, signal_types, type_if_signal, InstanceFits}
 use Rattle.lh_sound.specs.Finding.{TriggerFinds, Finds, FindsAll}
-use Rattle.lh_sound.proofs.EachItem.{each-contained, each-split, each-of-map}
-use Rattle.lh_sound.proofs.SoundLines.{lines-from, lines-printed}
+use Rattle.lh_formed.proofs.EachItem.{each-contained, each-split, each-of-map}
+use Rattle.lh_formed.proofs.AtPlaces.{lines-from}
+use Rattle.lh_sound.proofs.SoundLines.{lines-printed}
 use Rattle.lh_sound.proofs.FitLaws.{triggers-hold, keeps-fit, of-unit, unit-is-sound, begins-fit}
 use Rattle.lh_sound.proofs.Finding.{some-of, is-some, carries-value, value-at, part-at, test-at, delay-at, delay-of, condition-at, operated-there}
 
 -- what is held stays held
-held-stays : (e : Env) (m n : List ℕ) (h : Held) → IsSome (e n) → IsSome (with_held e m h n)
+pub held-stays : (e : Env) (m n : List ℕ) (h : Held) → IsSome (e n) → IsSome (with_held e m h n)
 held-stays e m n h s = at (same_name m n)
   where
     at : (b : Bool) → IsSome (if b then Some h else e n)
     at true = refl
     at false = s
 
-result-stays : (e : Env) (r : Option (List ℕ)) (n : List ℕ) (h : Held) → IsSome (e n) → IsSome (with_result e r h n)
+pub result-stays : (e : Env) (r : Option (List ℕ)) (n : List ℕ) (h : Held) → IsSome (e n) → IsSome (with_result e r h n)
 result-stays e None n h s = s
 result-stays e (Some m) n h s = held-stays e m n h s
 
@@ -64,7 +65,7 @@ pub given-stays : (e : Env) (r : Option (List ℕ)) (n : List ℕ) (o : Option H
 given-stays e r n None s = s
 given-stays e r n (Some h) s = result-stays e r n h s
 
-args-stay : (e : Env) (xs : List ArgText) (hs : List Held) (n : List ℕ) → IsSome (e n) → IsSome (with_args e xs hs n)
+pub args-stay : (e : Env) (xs : List ArgText) (hs : List Held) (n : List ℕ) → IsSome (e n) → IsSome (with_args e xs hs n)
 args-stay e [] hs n s = s
 args-stay e (x ∷ xs) [] n s = s
 args-stay e (x ∷ xs) (h ∷ hs) n s = args-stay (with_held e x.name h) xs hs n (held-stays e x.name n h s)
@@ -75,7 +76,7 @@ parts-stay e (m ∷ names) [] n s = s
 parts-stay e (m ∷ names) (r ∷ rs) n s = parts-stay (with_result e m (part_held r)) names rs n (result-stays e m n (part_held r) s)
 
 -- what is given is held under the name of the result
-named-held : (e : Env) (r : Option (List ℕ)) (n : List ℕ) (h : Held) → is_result_name n r ≡ true → IsSome (with_result e r h n)
+pub named-held : (e : Env) (r : Option (List ℕ)) (n : List ℕ) (h : Held) → is_result_name n r ≡ true → IsSome (with_result e r h n)
 named-held e None n h q = absurd cc
 named-held e (Some m) n h q = rw q refl
 
@@ -145,7 +146,7 @@ named_in us = map (λ (x : Use). x.value) us
 abbrev pub AllHeld : Env → List Use → Type 0
 AllHeld e us = Each (λ n. IsSome (e n)) (named_in us)
 
-held-split : (e : Env) (xs ys : List Use) → AllHeld e (xs ++ ys) → AllHeld e xs × AllHeld e ys
+pub held-split : (e : Env) (xs ys : List Use) → AllHeld e (xs ++ ys) → AllHeld e xs × AllHeld e ys
 held-split e [] ys h = (tt, h)
 held-split e (x ∷ xs) ys h = let r = held-split e xs ys h.1 in ((h.0, r.0), r.1)
 
@@ -342,7 +343,7 @@ pub entities-of-items : (items : List ItemText) → IsFaultless items → Each E
 entities-of-items items f = entities-in items (each-contained SiteThere (sites items) (λ s c. (all_there items s f c, allowed-there items s f c)))
 
 -- a line is spelled, so what gives no value has no result
-line-gives : (r : Option (List ℕ)) (i : InstText) (ts : List Lexeme) → SpellsLine r i ts → (n : List ℕ) → r ≡ Some n → gives_value i ≡ true
+pub line-gives : (r : Option (List ℕ)) (i : InstText) (ts : List Lexeme) → SpellsLine r i ts → (n : List ℕ) → r ≡ Some n → gives_value i ≡ true
 line-gives None i ts h n q = absurd (none-some n q)
 line-gives (Some m) i ts h n q = h.2
 

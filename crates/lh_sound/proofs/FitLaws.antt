@@ -23,7 +23,7 @@ use Rattle.lh_eval.specs.Fitting.{Fits}
 use Rattle.lh_eval.specs.Sound.{IsWrittenRight, IsSound}
 use Rattle.lh_sound.specs.Ranges.{RangesFit, arg_types, InstanceFits}
 use Rattle.lh_sound.specs.Units.{UnitIsSound}
-use Rattle.lh_sound.proofs.EachItem.{each-at}
+use Rattle.lh_formed.proofs.EachItem.{each-at}
 use Rattle.lh_sound.proofs.SoundLines.{IsTyped, RowsIn, rows-of-items, items-printable, unit-sound, signals-written, ports-written}
 use Rattle.lh_sound.proofs.NamedOnce.{args-typed}
 use Rattle.lh_sound.proofs.Begins.{process-fits, entity-fits}

@@ -1,4 +1,3 @@
-pub mod EachItem
 pub mod Spelled
 pub mod NamedOnce
 pub mod SoundLines

@@ -1,5 +1,5 @@
 -- Where no name stands twice, the type of a value is that of its argument or of its instruction.
-use Rattle.std.proofs.Common.{◌≡◌, ℕ, List, [], ◌∷◌, ◌++◌, Bool, true, false, if◌then◌else◌, Some, None, refl, ap, sym, ◌∙◌, append_assoc}
+use Rattle.std.proofs.Common.{◌≡◌, ℕ, List, [], ◌∷◌, ◌++◌, Bool, true, false, if◌then◌else◌, Some, refl, ap, sym, ◌∙◌, append_assoc}
 use Rattle.std.specs.Option.{option_and_then, option_map}
 use Rattle.std.proofs.lemmas.Bool.{or_parts}
 use Rattle.lh_unit.specs.Contents.{LineText, BlockText, ArgText, UnitText, same_name, is_result_name, lines_define, args_define}
@@ -8,6 +8,7 @@ use Rattle.lh_unit.specs.Reads.{args_repeat}
 use Rattle.lh_unit.specs.Typing.{or_else, result_type, line_giving, inst_giving, arg_named, value_type}
 use Rattle.lh_unit.specs.Within.{Each}
 use Rattle.lh_unit.proofs.Tables.{same_name-refl}
+use Rattle.lh_formed.proofs.ValuesLaw.{arg_none}
 use Rattle.lh_spelled.specs.Printable.{result_repeats, results_repeat}
 use Rattle.lh_sound.specs.Units.{HasItsType}
 
@@ -24,14 +25,8 @@ past-args n (a ∷ seen) more h =
     let b = or_parts (same_name a.name n) (args_define n seen) h in
     ap (λ x. if x then Some a else arg_named n (seen ++ more)) b.0 ∙ past-args n seen more b.1
 
-no-arg : (n : List ℕ) (args : List ArgText) → args_define n args ≡ false → arg_named n args ≡ None
-no-arg n [] h = refl
-no-arg n (a ∷ more) h =
-    let b = or_parts (same_name a.name n) (args_define n more) h in
-    ap (λ x. if x then Some a else arg_named n more) b.0 ∙ no-arg n more b.1
-
 -- the instruction that gives a value among the blocks, and among their lines
-giving-append : (n : List ℕ) (xs ys : List LineText) → line_giving n (xs ++ ys) ≡ or_else (line_giving n xs) (line_giving n ys)
+pub giving-append : (n : List ℕ) (xs ys : List LineText) → line_giving n (xs ++ ys) ≡ or_else (line_giving n xs) (line_giving n ys)
 giving-append n [] ys = refl
 giving-append n (l ∷ xs) ys = by (is_result_name n l.result) (giving-append n xs ys)
   where
@@ -67,7 +62,7 @@ typed-lines u [] e = tt
 typed-lines u (l ∷ ls) e = (
   λ n r.
       let k = e.0 n r in
-      ap (λ o. or_else (option_map (λ (a : ArgText). a.ty) o) (option_and_then result_type (inst_giving n u.blocks))) (no-arg n u.args k.0)
+      ap (λ o. or_else (option_map (λ (a : ArgText). a.ty) o) (option_and_then result_type (inst_giving n u.blocks))) (arg_none n u.args k.0)
       ∙ ap (option_and_then result_type) (giving-lines n u.blocks ∙ k.1),
   typed-lines u ls e.1,
 )

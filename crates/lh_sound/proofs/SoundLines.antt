@@ -1,28 +1,29 @@
 -- The instructions of a unit of a well-formed module are sound, and what an entity begins with fits.
-use Rattle.std.proofs.Common.{◌≡◌, ℕ, ◌+◌, List, [], ◌∷◌, ◌++◌, length, map, Bool, true, false, Option, refl, ap, sym, ◌∙◌, subst}
+use Rattle.std.proofs.Common.{◌≡◌, ℕ, List, [], ◌∷◌, map, true, Option, sym, ◌∙◌, subst}
 use Rattle.std.proofs.lemmas.Option.{same_Some}
 use Rattle.lh_types.specs.Types.{TypeTree, time_type, void_type, signal_type, pointer_type, IsData, IsLimited}
 use Rattle.lh_types.specs.Faults.{is_data}
-use Rattle.lh_unit.specs.Contents.{InstText, sig_text, LineText, BlockText, UnitText, ItemText, unit_text, declare_text}
+use Rattle.lh_unit.specs.Contents.{InstText, sig_text, LineText, UnitText, ItemText, unit_text, declare_text}
 use Rattle.lh_unit.specs.Hierarchy.{lines_of}
-use Rattle.lh_unit.specs.Places.{Place, places_in, places_from, places}
+use Rattle.lh_unit.specs.Places.{places}
 use Rattle.lh_unit.specs.WellFormed.{Site, sites, IsFaultless, IsSpelled}
 use Rattle.lh_unit.specs.Within.{Each}
-use Rattle.lh_unit.proofs.Lists.{Each-append}
 use Rattle.lh_formed.specs.Operands.{RowIs}
 use Rattle.lh_formed.specs.Parts.{HasPart}
 use Rattle.lh_formed.proofs.Sound.{site_in}
 use Rattle.lh_formed.proofs.RowsLaw.{rows_are}
 use Rattle.lh_formed.proofs.PartsLaw.{parts_are_there}
 use Rattle.lh_spelled.specs.Laws.{IsSpelledAlone}
-use Rattle.lh_spelled.specs.Printable.{HasInstLine, all_lines, results_repeat, IsPrintable, IsPrintableItem}
+use Rattle.lh_spelled.specs.Printable.{HasInstLine, IsPrintable, IsPrintableItem}
 use Rattle.lh_unit.specs.Spells.{header_item}
 use Rattle.lh_unit.specs.Pieces.{lexemes_in}
+use Rattle.lh_unit.proofs.Within.{Each-more}
 use Rattle.lh_spelled.specs.ItemLines.{item_line}
 use Rattle.lh_spelled.proofs.Apart.{spelled_apart}
 use Rattle.lh_spelled.proofs.Printed.{spelled_is_printable}
 use Rattle.lh_eval.specs.Sound.{IsSound}
-use Rattle.lh_sound.proofs.EachItem.{each-contained, each-so, each-split, each-of-map}
+use Rattle.lh_formed.proofs.EachItem.{each-contained, each-split, each-of-map}
+use Rattle.lh_formed.proofs.AtPlaces.{lines-from}
 use Rattle.lh_sound.proofs.Spelled.{SignalWritten, SignalNamed, line-written, signal-written, signal-named, header-ports}
 use Rattle.lh_sound.proofs.NamedOnce.{GivesItsType, lines-typed}
 use Rattle.lh_sound.specs.Units.{HasPorts, SigWritesData, WritesData}
@@ -38,20 +39,6 @@ RowsIn (declare_text d) = Unit {0}
 abbrev SiteTyped : Site → Type 0
 SiteTyped s = IsTyped s.unit s.place.line
 
-abbrev OnLine : (LineText → Type 0) → Place → Type 0
-OnLine P p = P p.line
-
--- from the places of a unit to its lines
-lines-in : (P : LineText → Type 0) (k : ℕ) (e : Bool) (b : BlockText) (before rest : List LineText) → Each (OnLine P) (places_in k e b before rest) → Each P rest
-lines-in P k e b before [] h = tt
-lines-in P k e b before (l ∷ rest) h = (h.0, lines-in P (k + 1) e b (before ++ l ∷ []) rest h.1)
-
-pub lines-from : (P : LineText → Type 0) (k : ℕ) (e : Bool) (bs : List BlockText) → Each (OnLine P) (places_from k e bs) → Each P (lines_of bs)
-lines-from P k e [] h = tt
-lines-from P k e (b ∷ more) h =
-    let r = each-split (OnLine P) (places_in k e b [] b.lines) (places_from (k + length b.lines) false more) h in
-    Each-append P b.lines (lines_of more) (lines-in P k e b [] b.lines r.0) (lines-from P (k + length b.lines) false more r.1)
-
 rows-in : (items : List ItemText) → Each SiteTyped (sites items) → Each RowsIn items
 rows-in [] e = tt
 rows-in (unit_text u ∷ more) e =
@@ -64,21 +51,17 @@ pub rows-of-items : (items : List ItemText) → IsFaultless items → Each RowsI
 rows-of-items items f = rows-in items (each-contained SiteTyped (sites items) (λ s c. (rows_are items s f c, parts_are_there items s f c)))
 
 pub items-printable : (items : List ItemText) → IsSpelled items → Each IsPrintableItem items
-items-printable items s = each-so IsSpelledAlone IsPrintableItem spelled_is_printable items (spelled_apart items s).0
-
-pub same-lines : (bs : List BlockText) → all_lines bs ≡ lines_of bs
-same-lines [] = refl
-same-lines (b ∷ more) = ap (λ ls. b.lines ++ ls) (same-lines more)
+items-printable items s = Each-more IsSpelledAlone IsPrintableItem items spelled_is_printable (spelled_apart items s).0
 
 each-sound : (u : UnitText) (ls : List LineText) → Each (IsTyped u) ls → Each HasInstLine ls → Each (GivesItsType u) ls → Each (IsSound u) ls
 each-sound u [] a b c = tt
 each-sound u (l ∷ ls) a b c = (record { row = a.0.0; part = a.0.1; written = line-written l b.0; gives = c.0 }, each-sound u ls a.1 b.1 c.1)
 
 pub results-typed : (u : UnitText) → IsPrintable u → Each (GivesItsType u) (lines_of u.blocks)
-results-typed u p = lines-typed u (subst (λ (ls : List LineText). results_repeat u.args [] ls ≡ false) (same-lines u.blocks) p.new_results)
+results-typed u p = lines-typed u p.new_results
 
 pub lines-printed : (u : UnitText) → IsPrintable u → Each HasInstLine (lines_of u.blocks)
-lines-printed u p = subst (Each HasInstLine) (same-lines u.blocks) p.written
+lines-printed u p = p.written
 
 -- Each instruction of such a unit is sound.
 pub unit-sound : (u : UnitText) → Each (IsTyped u) (lines_of u.blocks) → IsPrintable u → Each (IsSound u) (lines_of u.blocks)

@@ -6,20 +6,21 @@ use Rattle.std.proofs.lemmas.Bool.{or_parts}
 use Rattle.lh_types.specs.Types.{TypeTree}
 use Rattle.lh_unit.specs.Contents.{ArgText, LineText, BlockText, UnitText, ItemText, unit_text, declare_text, line_at_end, with_block, with_line, line_count, args_define, defines_unit, defines_label_in}
 use Rattle.lh_unit.specs.Canon.{canon}
-use Rattle.lh_unit.specs.Lines.{lines_of}
+use Rattle.lh_unit.specs.Lines.{lines_of as written_lines}
 use Rattle.lh_unit.specs.Spells.{LineItem, empty_item, header_item, declare_item, label_item, inst_item, close_item}
 use Rattle.lh_unit.specs.Reads.{State, outside, has_lines, in_block, in_empty_block, place_after, place_in, may_stand, headed_unit, after, is_full, args_repeat, is_assert, value_again, label_again, most_lines, Walk, start}
 use Rattle.lh_unit.specs.Within.{Each}
+use Rattle.lh_unit.specs.Hierarchy.{lines_of}
 use Rattle.lh_unit.specs.declared.name.UnitName.{UnitName}
 use Rattle.lh_unit.specs.declared.inst.UnitKind.{UnitKind}
 use Rattle.lh_unit.specs.declared.inst.UnitKind.TheVariants as kind
 use Rattle.lh_unit.proofs.Lists.{or_false}
 use Rattle.lh_unit.proofs.ContentsLemmas.{last_unit-push, change_last-push}
 use Rattle.lh_spelled.specs.Laws.{SpelledIsPrintable}
-use Rattle.lh_spelled.specs.Printable.{HasLine, HasInstLine, HasLabelLine, IsLabelled, HasShape, all_lines, result_repeats, results_repeat, label_repeats, labels_repeat, IsPrintable, IsPrintableItem}
+use Rattle.lh_spelled.specs.Printable.{HasLine, HasInstLine, HasLabelLine, IsLabelled, HasShape, result_repeats, results_repeat, label_repeats, labels_repeat, IsPrintable, IsPrintableItem}
 use Rattle.lh_spelled.proofs.Apart.{opened, Fine, alone-stands}
 use Rattle.lh_spelled.proofs.Items.{item-again}
-use Rattle.lh_spelled.proofs.Printing.{unit_of, block, start_blocks, headed-start, all_lines-last, line_count-last, blocks_define-lines}
+use Rattle.lh_spelled.proofs.Printing.{unit_of, block, start_blocks, headed-start, lines_of-last, line_count-last, blocks_define-lines}
 use Rattle.lh_spelled.proofs.Readings.{read_to}
 use Rattle.lh_spelled.proofs.Steps.{block_in, unit-in, no_header, no_declare}
 use Rattle.lh_spelled.proofs.Walks.{HasBlock}
@@ -41,11 +42,11 @@ PartShape _ bs = PartLabelled bs
 record Part (u : UnitText) : Type 0 where
   headed : HasLine (header_item u.kind u.name u.args u.result)
   shaped : PartShape u.kind u.blocks
-  lines : Each HasInstLine (all_lines u.blocks)
+  lines : Each HasInstLine (lines_of u.blocks)
   no_assert : is_assert u.name ≡ false
   new_args : args_repeat [] u.args ≡ false
   new_labels : labels_repeat [] u.blocks ≡ false
-  new_results : results_repeat u.args [] (all_lines u.blocks) ≡ false
+  new_results : results_repeat u.args [] (lines_of u.blocks) ≡ false
   fits : line_count u.blocks ≤ most_lines
 
 -- a header
@@ -79,7 +80,7 @@ labels-push seen (b ∷ bs) n h k =
 
 part-label : (u : UnitText) (n : List ℕ) → HasLine (label_item n) → may_stand (place_in u.kind u.blocks) (label_item n) ≡ true → label_again n (Some u) ≡ false → Part u → Part (with_block n u)
 part-label u n h m d p =
-    let e : all_lines u.blocks ≡ all_lines (u.blocks ++ block (Some n) [] ∷ []) = sym (all_lines-last u.blocks (block (Some n) []) ∙ append-nil (all_lines u.blocks)) in
+    let e : lines_of u.blocks ≡ lines_of (u.blocks ++ block (Some n) [] ∷ []) = sym (lines_of-last u.blocks (block (Some n) []) ∙ append-nil (lines_of u.blocks)) in
     let f : line_count u.blocks ≤ most_lines = p.fits in
     let g : line_count (u.blocks ++ block (Some n) [] ∷ []) ≡ line_count u.blocks + 0 = line_count-last u.blocks (block (Some n) []) in
     record {
@@ -94,10 +95,10 @@ part-label u n h m d p =
     }
 
 -- an instruction
-all_lines-end : (l : LineText) (bs : List BlockText) → HasBlock bs → all_lines (line_at_end l bs) ≡ all_lines bs ++ l ∷ []
-all_lines-end l [] h = absurd h
-all_lines-end l (b ∷ []) h = append-nil (b.lines ++ l ∷ []) ∙ ap (λ q. q ++ l ∷ []) (sym (append-nil b.lines))
-all_lines-end l (b ∷ c ∷ bs) h = ap (λ q. b.lines ++ q) (all_lines-end l (c ∷ bs) tt) ∙ sym (append_assoc b.lines (all_lines (c ∷ bs)) (l ∷ []))
+lines_of-end : (l : LineText) (bs : List BlockText) → HasBlock bs → lines_of (line_at_end l bs) ≡ lines_of bs ++ l ∷ []
+lines_of-end l [] h = absurd h
+lines_of-end l (b ∷ []) h = append-nil (b.lines ++ l ∷ []) ∙ ap (λ q. q ++ l ∷ []) (sym (append-nil b.lines))
+lines_of-end l (b ∷ c ∷ bs) h = ap (λ q. b.lines ++ q) (lines_of-end l (c ∷ bs) tt) ∙ sym (append_assoc b.lines (lines_of (c ∷ bs)) (l ∷ []))
 
 line_count-end : (l : LineText) (bs : List BlockText) → HasBlock bs → line_count (line_at_end l bs) ≡ line_count bs + 1
 line_count-end l [] h = absurd h
@@ -135,7 +136,7 @@ results-push args seen (x ∷ xs) l h k =
     let e : result_repeats args seen x.result ≡ false = p.0 in
     rw e (results-push args (seen ++ x ∷ []) xs l p.1 (subst (λ q. result_repeats args q l.result ≡ false) (sym (append_assoc seen (x ∷ []) xs)) k))
 
-said_new : (u : UnitText) (r : Option (List ℕ)) → value_again r (Some u) ≡ false → result_repeats u.args (all_lines u.blocks) r ≡ false
+said_new : (u : UnitText) (r : Option (List ℕ)) → value_again r (Some u) ≡ false → result_repeats u.args (lines_of u.blocks) r ≡ false
 said_new u None h = refl
 said_new u (Some r) h = ap (λ q. args_define r u.args || q) (sym (blocks_define-lines r u.blocks)) ∙ h
 
@@ -145,15 +146,15 @@ has_room_below n h e = grind (arith, common_steps)
 part-inst : (u : UnitText) (l : LineText) → HasInstLine l → may_stand (place_in u.kind u.blocks) (inst_item l) ≡ true → is_full (Some u) ≡ false → value_again l.result (Some u) ≡ false → Part u → Part (with_line l u)
 part-inst u l h m c d p =
     let b = shape-block u.kind l u.blocks m p.shaped in
-    let e : all_lines u.blocks ++ l ∷ [] ≡ all_lines (line_at_end l u.blocks) = sym (all_lines-end l u.blocks b) in
+    let e : lines_of u.blocks ++ l ∷ [] ≡ lines_of (line_at_end l u.blocks) = sym (lines_of-end l u.blocks b) in
     record {
       headed = p.headed;
       shaped = shape-end u.kind l u.blocks p.shaped;
-      lines = subst (Each HasInstLine) e (Each-push HasInstLine (all_lines u.blocks) l p.lines h);
+      lines = subst (Each HasInstLine) e (Each-push HasInstLine (lines_of u.blocks) l p.lines h);
       no_assert = p.no_assert;
       new_args = p.new_args;
       new_labels = labels-end l [] u.blocks ∙ p.new_labels;
-      new_results = subst (λ q. results_repeat u.args [] q ≡ false) e (results-push u.args [] (all_lines u.blocks) l p.new_results (said_new u l.result d));
+      new_results = subst (λ q. results_repeat u.args [] q ≡ false) e (results-push u.args [] (lines_of u.blocks) l p.new_results (said_new u l.result d));
       fits = subst (λ q. q ≤ most_lines) (sym (line_count-end l u.blocks b)) (has_room_below (line_count u.blocks) p.fits c);
     }
 
@@ -251,4 +252,4 @@ walked-kept (l ∷ ls) s t w c =
     walked-kept ls w.0 t w.2 (subst (λ q. Kept q.inside q.items) (sym k.becomes) m)
 
 pub spelled_is_printable : SpelledIsPrintable
-spelled_is_printable i h = (walked-kept (lines_of (canon (i ∷ []))) start (read_to (i ∷ [])) h tt).0
+spelled_is_printable i h = (walked-kept (written_lines (canon (i ∷ []))) start (read_to (i ∷ [])) h tt).0

@@ -10,6 +10,7 @@ use Rattle.lh_unit.specs.Pieces.{render, lexemes_in}
 use Rattle.lh_unit.specs.Spells.{LineItem, header_item, declare_item, label_item, inst_item, close_item, SpellsHeader}
 use Rattle.lh_unit.specs.Reads.{State, has_lines, in_block, in_empty_block, place_after, place_in, place_of, may_stand, headed_unit, after, too_large, args_repeat, is_assert, value_again, defines_again, most_lines, Takes, Walk, start}
 use Rattle.lh_unit.specs.Within.{Each}
+use Rattle.lh_unit.specs.Hierarchy.{lines_of}
 use Rattle.lh_unit.specs.declared.name.UnitName.{UnitName}
 use Rattle.lh_unit.specs.declared.inst.UnitKind.{UnitKind}
 use Rattle.lh_unit.specs.declared.inst.UnitKind.TheVariants as kind
@@ -17,7 +18,7 @@ use Rattle.lh_unit.specs.declared.inst.Declare.{Declare}
 use Rattle.lh_unit.proofs.Rendering.{lexemes-render}
 use Rattle.lh_spelled.specs.ItemLines.{item_line}
 use Rattle.lh_spelled.specs.Laws.{PrintableIsSpelled}
-use Rattle.lh_spelled.specs.Printable.{HasLine, HasInstLine, HasLabelLine, IsLabelled, all_lines, result_repeats, results_repeat, label_repeats, labels_repeat, IsPrintable}
+use Rattle.lh_spelled.specs.Printable.{HasLine, HasInstLine, HasLabelLine, IsLabelled, result_repeats, results_repeat, label_repeats, labels_repeat, IsPrintable}
 use Rattle.lh_spelled.proofs.Apart.{opened, walk-append}
 use Rattle.lh_spelled.proofs.Readings.{read_to, walked-spelled}
 use Rattle.lh_unit.proofs.Defined.{lines_define-append}
@@ -68,13 +69,13 @@ pub line_count-last : (done : List BlockText) (b : BlockText) → line_count (do
 line_count-last [] b = omega arith
 line_count-last (c ∷ done) b = let e = line_count-last done b in omega arith
 
-pub blocks_define-lines : (n : List ℕ) (bs : List BlockText) → blocks_define n bs ≡ lines_define n (all_lines bs)
+pub blocks_define-lines : (n : List ℕ) (bs : List BlockText) → blocks_define n bs ≡ lines_define n (lines_of bs)
 blocks_define-lines n [] = refl
-blocks_define-lines n (b ∷ bs) = ap (λ q. lines_define n b.lines || q) (blocks_define-lines n bs) ∙ sym (lines_define-append n b.lines (all_lines bs))
+blocks_define-lines n (b ∷ bs) = ap (λ q. lines_define n b.lines || q) (blocks_define-lines n bs) ∙ sym (lines_define-append n b.lines (lines_of bs))
 
-pub all_lines-last : (done : List BlockText) (b : BlockText) → all_lines (done ++ b ∷ []) ≡ all_lines done ++ b.lines
-all_lines-last [] b = append-nil b.lines
-all_lines-last (c ∷ done) b = ap (λ q. c.lines ++ q) (all_lines-last done b) ∙ sym (append_assoc c.lines (all_lines done) b.lines)
+pub lines_of-last : (done : List BlockText) (b : BlockText) → lines_of (done ++ b ∷ []) ≡ lines_of done ++ b.lines
+lines_of-last [] b = append-nil b.lines
+lines_of-last (c ∷ done) b = ap (λ q. c.lines ++ q) (lines_of-last done b) ∙ sym (append_assoc c.lines (lines_of done) b.lines)
 
 -- an instruction may stand in a block, and a label or an end behind one that has instructions
 inst-after : (done : List BlockText) (b : BlockText) (l : LineText) → may_stand (place_after (done ++ b ∷ [])) (inst_item l) ≡ true
@@ -92,7 +93,7 @@ block-after [] b h = rw h refl
 block-after (c ∷ []) b h = block-after [] b h
 block-after (c ∷ d ∷ done) b h = block-after (d ∷ done) b h
 
-new_result : (args : List ArgText) (bs : List BlockText) (u : UnitText) (r : Option (List ℕ)) → u.args ≡ args → u.blocks ≡ bs → result_repeats args (all_lines bs) r ≡ false → value_again r (Some u) ≡ false
+new_result : (args : List ArgText) (bs : List BlockText) (u : UnitText) (r : Option (List ℕ)) → u.args ≡ args → u.blocks ≡ bs → result_repeats args (lines_of bs) r ≡ false → value_again r (Some u) ≡ false
 new_result args bs u None a b h = refl
 new_result args bs u (Some r) a b h = (λ i. args_define r (a i) || blocks_define r (b i)) ∙ ap (λ q. args_define r args || q) (blocks_define-lines r bs) ∙ h
 
@@ -103,7 +104,7 @@ each-split : (xs ys : List LineText) → Each HasInstLine (xs ++ ys) → Each Ha
 each-split [] ys h = (tt, h)
 each-split (x ∷ xs) ys h = let p = each-split xs ys h.1 in ((h.0, p.0), p.1)
 
-results-split : (args : List ArgText) (seen xs ys : List LineText) → results_repeat args seen (xs ++ ys) ≡ false → (results_repeat args seen xs ≡ false) × (results_repeat args (seen ++ xs) ys ≡ false)
+pub results-split : (args : List ArgText) (seen xs ys : List LineText) → results_repeat args seen (xs ++ ys) ≡ false → (results_repeat args seen xs ≡ false) × (results_repeat args (seen ++ xs) ys ≡ false)
 results-split args seen [] ys h = (refl, subst (λ q. results_repeat args q ys ≡ false) (sym (append-nil seen)) h)
 results-split args seen (x ∷ xs) ys h =
     let p = or_parts (result_repeats args seen x.result) (results_repeat args (seen ++ x ∷ []) (xs ++ ys)) h in
@@ -133,21 +134,21 @@ module _ (k : UnitKind) (n : UnitName) (args : List ArgText) (r : Option TypeTre
   abbrev with_blocks : List BlockText → State
   with_blocks bs = opened [] (unit_of k n args r bs)
 
-  inst-way : (done : List BlockText) (b : BlockText) (l : LineText) → HasInstLine l → line_count done + length b.lines < most_lines → result_repeats args (all_lines done ++ b.lines) l.result ≡ false
+  inst-way : (done : List BlockText) (b : BlockText) (l : LineText) → HasInstLine l → line_count done + length b.lines < most_lines → result_repeats args (lines_of done ++ b.lines) l.result ≡ false
       → Way (with_blocks (done ++ b ∷ [])) (with_blocks (done ++ block b.label (b.lines ++ l ∷ []) ∷ []))
   inst-way done b l h c v =
       let bs = done ++ b ∷ [] in
       let m : line_count bs < most_lines = subst (λ q. q < most_lines) (sym (line_count-last done b)) c in
-      let w : result_repeats args (all_lines bs) l.result ≡ false = subst (λ q. result_repeats args q l.result ≡ false) (sym (all_lines-last done b)) v in
+      let w : result_repeats args (lines_of bs) l.result ≡ false = subst (λ q. result_repeats args q l.result ≡ false) (sym (lines_of-last done b)) v in
       let p : Passes (with_blocks bs) (inst_item l) = record { line = h; stands = inst-in k done b l; has_room = not_full (line_count bs) m; is_new = new_result args bs (unit_of k n args r bs) l.result refl refl w } in
       subst (λ q. Way (with_blocks bs) (with_blocks q)) (line_at_end-last l done b) (pass (with_blocks bs) (inst_item l) p)
 
-  insts-way : (done : List BlockText) (label : Option (List ℕ)) (seen rest : List LineText) → Each HasInstLine rest → line_count done + (length seen + length rest) ≤ most_lines → results_repeat args (all_lines done ++ seen) rest ≡ false
+  insts-way : (done : List BlockText) (label : Option (List ℕ)) (seen rest : List LineText) → Each HasInstLine rest → line_count done + (length seen + length rest) ≤ most_lines → results_repeat args (lines_of done ++ seen) rest ≡ false
       → Way (with_blocks (done ++ block label seen ∷ [])) (with_blocks (done ++ block label (seen ++ rest) ∷ []))
   insts-way done label seen [] h c v = subst (λ q. Way (with_blocks (done ++ block label seen ∷ [])) (with_blocks (done ++ block label q ∷ []))) (sym (append-nil seen)) (here (with_blocks (done ++ block label seen ∷ [])))
   insts-way done label seen (l ∷ rest) h c v =
-      let w = or_parts (result_repeats args (all_lines done ++ seen) l.result) (results_repeat args ((all_lines done ++ seen) ++ l ∷ []) rest) v in
-      let m : results_repeat args (all_lines done ++ (seen ++ l ∷ [])) rest ≡ false = subst (λ q. results_repeat args q rest ≡ false) (append_assoc (all_lines done) seen (l ∷ [])) w.1 in
+      let w = or_parts (result_repeats args (lines_of done ++ seen) l.result) (results_repeat args ((lines_of done ++ seen) ++ l ∷ []) rest) v in
+      let m : results_repeat args (lines_of done ++ (seen ++ l ∷ [])) rest ≡ false = subst (λ q. results_repeat args q rest ≡ false) (append_assoc (lines_of done) seen (l ∷ [])) w.1 in
       let a = inst-way done (block label seen) l h.0 (omega arith) w.0 in
       let b = insts-way done label (seen ++ l ∷ []) rest h.1 (omega (arith, length-append seen (l ∷ []))) m in
       subst (λ q. Way (with_blocks (done ++ block label seen ∷ [])) (with_blocks (done ++ block label q ∷ []))) (append_assoc seen (l ∷ []) rest)
@@ -157,23 +158,23 @@ module _ (k : UnitKind) (n : UnitName) (args : List ArgText) (r : Option TypeTre
   label-way done l h m d = pass (with_blocks done) (label_item l) (record { line = h; stands = m; has_room = refl; is_new = d })
 
   block-way : (done : List BlockText) (label : Option (List ℕ)) (lines : List LineText) → HasLabelLine label → Each HasInstLine lines → ((l : List ℕ) → may_stand (place_in k done) (label_item l) ≡ true)
-      → line_count done + length lines ≤ most_lines → label_repeats done label ≡ false → results_repeat args (all_lines done) lines ≡ false → Way (with_blocks done) (with_blocks (done ++ block label lines ∷ []))
+      → line_count done + length lines ≤ most_lines → label_repeats done label ≡ false → results_repeat args (lines_of done) lines ≡ false → Way (with_blocks done) (with_blocks (done ++ block label lines ∷ []))
   block-way done None lines h w m c d v = absurd h
   block-way done (Some l) lines h w m c d v =
       on (with_blocks done) (with_blocks (done ++ block (Some l) [] ∷ [])) (with_blocks (done ++ block (Some l) lines ∷ []))
-      (label-way done l h (m l) d) (insts-way done (Some l) [] lines w (omega arith) (subst (λ q. results_repeat args q lines ≡ false) (sym (append-nil (all_lines done))) v))
+      (label-way done l h (m l) d) (insts-way done (Some l) [] lines w (omega arith) (subst (λ q. results_repeat args q lines ≡ false) (sym (append-nil (lines_of done))) v))
 
-  blocks-way : ((bs : List BlockText) → place_in k bs ≡ place_after bs) → (done rest : List BlockText) → Each IsLabelled rest → Each HasInstLine (all_lines rest) → ((l : List ℕ) → may_stand (place_in k done) (label_item l) ≡ true)
-      → line_count done + line_count rest ≤ most_lines → labels_repeat done rest ≡ false → results_repeat args (all_lines done) (all_lines rest) ≡ false → Way (with_blocks done) (with_blocks (done ++ rest))
+  blocks-way : ((bs : List BlockText) → place_in k bs ≡ place_after bs) → (done rest : List BlockText) → Each IsLabelled rest → Each HasInstLine (lines_of rest) → ((l : List ℕ) → may_stand (place_in k done) (label_item l) ≡ true)
+      → line_count done + line_count rest ≤ most_lines → labels_repeat done rest ≡ false → results_repeat args (lines_of done) (lines_of rest) ≡ false → Way (with_blocks done) (with_blocks (done ++ rest))
   blocks-way f done [] h w m c d v = subst (λ q. Way (with_blocks done) (with_blocks q)) (sym (append-nil done)) (here (with_blocks done))
   blocks-way f done (b ∷ rest) h w m c d v =
-      let ws = each-split b.lines (all_lines rest) w in
+      let ws = each-split b.lines (lines_of rest) w in
       let ds = or_parts (label_repeats done b.label) (labels_repeat (done ++ b ∷ []) rest) d in
-      let vs = results-split args (all_lines done) b.lines (all_lines rest) v in
+      let vs = results-split args (lines_of done) b.lines (lines_of rest) v in
       let e : line_count (done ++ b ∷ []) ≡ line_count done + length b.lines = line_count-last done b in
       let x = block-way done b.label b.lines h.0.0 ws.0 m (omega arith) ds.0 vs.0 in
       let y = blocks-way f (done ++ b ∷ []) rest h.1 ws.1 (λ l. subst (λ q. may_stand q (label_item l) ≡ true) (sym (f (done ++ b ∷ []) ∙ block-after done b h.0.1)) refl) (omega arith) ds.1
-      (subst (λ q. results_repeat args q (all_lines rest) ≡ false) (sym (all_lines-last done b)) vs.1)
+      (subst (λ q. results_repeat args q (lines_of rest) ≡ false) (sym (lines_of-last done b)) vs.1)
       in
       subst (λ q. Way (with_blocks done) (with_blocks q)) (append_assoc done (b ∷ []) rest) (on (with_blocks done) (with_blocks (done ++ b ∷ [])) (with_blocks ((done ++ b ∷ []) ++ rest)) x y)
 

@@ -5,6 +5,7 @@ use Rattle.lh_unit.specs.Pieces.{IsSpaced, lexemes_in}
 use Rattle.lh_unit.specs.Spells.{LineItem, header_item, declare_item, label_item, inst_item, Spells}
 use Rattle.lh_unit.specs.Reads.{has_lines, args_repeat, is_assert, most_lines}
 use Rattle.lh_unit.specs.Within.{Each}
+use Rattle.lh_unit.specs.Hierarchy.{lines_of}
 use Rattle.lh_unit.specs.declared.inst.UnitKind.{UnitKind}
 use Rattle.lh_unit.specs.declared.inst.UnitKind.TheVariants as kind
 use Rattle.lh_spelled.specs.ItemLines.{item_line}
@@ -31,11 +32,6 @@ HasShape kind.Entity _ = ⊥
 HasShape _ [] = ⊥
 HasShape _ (b ∷ more) = Each IsLabelled (b ∷ more)
 
--- the instructions of blocks in order
-abbrev pub all_lines : List BlockText → List LineText
-all_lines [] = []
-all_lines (b ∷ more) = b.lines ++ all_lines more
-
 -- whether a result has the name of an argument or of an earlier result
 abbrev pub result_repeats : List ArgText → (seen : List LineText) → Option (List ℕ) → Bool
 result_repeats args seen None = false
@@ -60,11 +56,11 @@ labels_repeat seen (b ∷ more) = label_repeats seen b.label || labels_repeat (s
 pub record IsPrintable (u : UnitText) : Type 0 where
   pub headed : HasLine (header_item u.kind u.name u.args u.result)
   pub shaped : HasShape u.kind u.blocks
-  pub written : Each HasInstLine (all_lines u.blocks)
+  pub written : Each HasInstLine (lines_of u.blocks)
   pub no_assert : is_assert u.name ≡ false
   pub new_args : args_repeat [] u.args ≡ false
   pub new_labels : labels_repeat [] u.blocks ≡ false
-  pub new_results : results_repeat u.args [] (all_lines u.blocks) ≡ false
+  pub new_results : results_repeat u.args [] (lines_of u.blocks) ≡ false
   pub fits : line_count u.blocks ≤ most_lines
 
 -- an item that can be printed: such a unit, or a declaration with such a line

@@ -6,12 +6,11 @@ use Rattle.std.proofs.lemmas.Bool.{or_parts}
 use Rattle.std.proofs.lemmas.Option.{same_Some, none-some}
 use Rattle.lh_types.specs.Types.{TypeTree, signal_type, IsData}
 use Rattle.lh_types.specs.Parts as Parts
-use Rattle.lh_types.specs.Parts.{range_of, step_part}
+use Rattle.lh_types.specs.Parts.{step_part}
 use Rattle.lh_types.specs.declared.op.Op.{Op}
 use Rattle.lh_types.specs.declared.op.Op.TheVariants as op
 use Rattle.lh_types.specs.declared.op.Op.TheVariants.{Or}
 use Rattle.lh_types.specs.declared.part.Step.{Step}
-use Rattle.lh_types.specs.declared.part.Step.TheVariants.{Field, Slice}
 use Rattle.lh_types.proofs.PartLemmas.{step_part-within}
 use Rattle.lh_unit.specs.Contents.{OperandText, EdgeText, InstText, const_text, pure_text, phi_text, LineText, ArgText, UnitText, same_name, args_define}
 use Rattle.lh_unit.specs.Effects.{step_of}
@@ -20,8 +19,9 @@ use Rattle.lh_unit.specs.Typing.{value_type, result_type, carried, or_else, inst
 use Rattle.lh_unit.specs.Activation.{edge_from}
 use Rattle.lh_unit.specs.Within.{Each}
 use Rattle.lh_unit.proofs.Tables.{same_name-is}
-use Rattle.lh_formed.specs.Parts.{LeadsTo, TakesPart, HasPart}
+use Rattle.lh_formed.specs.Parts.{TakesPart, HasPart}
 use Rattle.lh_formed.proofs.PartsLaw.{parts_have_ranges}
+use Rattle.lh_formed.proofs.PartSteps.{same-operand, leads-is, takes-part, step-type}
 use Rattle.lh_sound.proofs.NamedOnce.{giving-lines}
 use Rattle.lh_inlined.specs.Formed.{IsFormed}
 use Rattle.lh_term.specs.Tree.{Tree, constant}
@@ -33,14 +33,13 @@ use Rattle.lh_rows.specs.Joins.{Edge, or_any, any_taken, in_each, selector, chos
 use Rattle.lh_rows.specs.Places.{stepped, part_stepped, operated}
 use Rattle.lh_rows.specs.Regions.{with_constant, with_constants}
 use Rattle.lh_rows.specs.Typed as rows
-use Rattle.lh_rows.specs.Typed.{Among}
 use Rattle.lh_rows.proofs.Among.{in-each}
 use Rattle.lh_rows.proofs.Heads.{arguments-case, argument-of}
 use Rattle.lh_rows.proofs.Joining.{GiveEach, given-each, merged-of, value_on, cell_on, part_on, JoinCase, of_value, of_cell, of_part, join-case, known-by-value, known-by-cell, known-by-part, first-among}
 use Rattle.lh_rows.proofs.Sites.{LineGood}
 use Rattle.lh_emission.specs.Emitted.{PartStep, source_of}
 use Rattle.lh_emission.specs.Reached as Emit
-use Rattle.lh_emission.specs.Reached.{Reached, as_argument, stepped_by, further, steps_in, IsPartOf}
+use Rattle.lh_emission.specs.Reached.{Reached, stepped_by, further, steps_in, IsPartOf}
 use Rattle.lh_emission.specs.Ways.{part_by, part_by_step, whole, WaitIsGiven, AllParts}
 use Rattle.lh_emission.proofs.Reaching.{part-reached}
 use Rattle.lh_stand.proofs.GivenTrees.{In, AllIn, make-in, choice-in, conjuncts-in, conjunction-in, filter-in}
@@ -79,22 +78,6 @@ argument-named u f n p h =
     record { is_data = z.0; type = z.1; named = record { count = 0; way = way; is_reached = ap (option_map (λ q. record { part = q; steps = [] })) (same-argument n 0 u.args ∙ h); is_part = refl } }
 
 -- ---- the part to which a step leads
-
-same-operand : (x y : OperandText) → x ∷ [] ≡ y ∷ [] → x ≡ y
-same-operand x y e = cc
-
-leads-is : (s : Step) (w of t : TypeTree) → LeadsTo s w of → w ≡ signal_type t → (z : Parts.Part) × (step_part t s ≡ Some z) × (of ≡ signal_type z.of)
-leads-is s w of t l e = subst (λ x. LeadsTo s x of) e l
-
-takes-part : (u : UnitText) (o : Op) (s : Step) (os : List OperandText) → step_of o ≡ Some s → HasPart u (pure_text o os) → TakesPart u s os
-takes-part u (op.Extf k) s os q h = subst (λ x. TakesPart u x os) (same_Some (Field k) s q) h
-takes-part u (op.Exts at len) s os q h = subst (λ x. TakesPart u x os) (same_Some (Slice at len) s q) h
-takes-part u o s os q h = absurd (none-some s q)
-
-step-type : (o : Op) (s : Step) (x : OperandText) → step_of o ≡ Some s → result_type (pure_text o (x ∷ [])) ≡ x.ty
-step-type (op.Extf k) s x q = refl
-step-type (op.Exts at len) s x q = refl
-step-type o s x q = absurd (none-some s q)
 
 -- one operation more
 abbrev further_by : Op → List PartStep → Part → Reached

@@ -1,28 +1,25 @@
 -- Both regions of a formed flat text: their parts are reached, and their terms typed.
-use Rattle.std.proofs.Common.{◌≡◌, ℕ, List, [], ◌∷◌, map, true, false, nat_eq, Some, refl, ap, sym, ◌∙◌, subst}
+use Rattle.std.proofs.Common.{◌≡◌, ℕ, List, [], ◌∷◌, true, false, nat_eq, Some, refl}
 use Rattle.std.specs.Bool.{if◌then◌else◌}
-use Rattle.std.proofs.lemmas.Option.{same_Some, none-some}
 use Rattle.lh_types.specs.Types.{IsData}
 use Rattle.lh_unit.specs.declared.name.UnitName.{UnitName}
 use Rattle.lh_unit.specs.Contents.{UnitText}
 use Rattle.lh_unit.specs.Within.{Each}
+use Rattle.lh_unit.proofs.Within.{Each-more}
 use Rattle.lh_inlined.specs.Formed.{IsFormed}
-use Rattle.lh_flat.specs.Flat.{FlatBlockText, FlatText, flat_unit}
+use Rattle.lh_flat.specs.Flat.{FlatText, flat_unit}
 use Rattle.lh_term.specs.Tree.{Tree, past_of, now_of}
 use Rattle.lh_term.specs.Make.{bit_of}
 use Rattle.lh_term.specs.declared.part.Part.{Part}
-use Rattle.lh_rows.specs.Known.{Knowledge, nothing_known, with_arguments}
-use Rattle.lh_rows.specs.Rows.{Way, halts, enters_head, waits, End}
+use Rattle.lh_rows.specs.Known.{nothing_known, with_arguments}
+use Rattle.lh_rows.specs.Rows.{End}
 use Rattle.lh_rows.specs.Places.{Region}
-use Rattle.lh_rows.specs.Regions.{begins_with_phi, lines_at, head_of, known_first, edge_into, edges_of_ends, waits_for, one_target, Course, comes_to, then_course, region_from, first_region, second_region}
-use Rattle.lh_rows.specs.Typed.{IsOfType, JoinEdge}
-use Rattle.lh_rows.specs.Laws.{DriveTyped, EndTyped}
-use Rattle.lh_rows.specs.Right.{as_block, BlockAt, JoinsAt, WayRight}
-use Rattle.lh_rows.proofs.Among.{each-more}
+use Rattle.lh_rows.specs.Regions.{begins_with_phi, lines_at, head_of, known_first, edge_into, edges_of_ends, one_target, Course, comes_to, region_from, first_region, second_region}
+use Rattle.lh_rows.specs.Typed.{IsOfType}
 use Rattle.lh_rows.proofs.Steps.{RegionOf}
 use Rattle.lh_rows.proofs.Activations as Activations
 use Rattle.lh_rows.proofs.Courses as Courses
-use Rattle.lh_before.proofs.Second.{past-typed, now-typed}
+use Rattle.lh_before.proofs.Second.{past-typed}
 use Rattle.lh_before.proofs.Second as Second
 use Rattle.lh_emission.specs.Emitted.{Source, source_of}
 use Rattle.lh_emission.specs.Reached.{steps_in}
@@ -57,7 +54,7 @@ module _ (name : UnitName) (t : FlatText) (f : IsFormed (flat_unit name t)) wher
   second_of = record { blocks = t.blocks; head = head_of t.blocks; probe = now_of; ends_at_head = true }
 
   reached-each : (ps : List Part) → Each (PartFine u) ps → Each (IsReached s) ps
-  reached-each ps h = each-more (PartFine u) (IsReached s) ps (λ p k. k.part) h
+  reached-each ps h = Each-more (PartFine u) (IsReached s) ps (λ p k. k.part) h
 
   -- ---- the first region
 

@@ -13,6 +13,7 @@ use Rattle.lh_types.specs.declared.part.Range.{Range}
 use Rattle.lh_unit.specs.Held.{as_test}
 use Rattle.lh_unit.specs.Pass.{mode_holds}
 use Rattle.lh_unit.specs.Within.{Each}
+use Rattle.lh_unit.proofs.Lists.{Each-append, Each-left, Each-right}
 use Rattle.lh_term.specs.Tree.{Tree, constant, past_of, now_of, operation, choice_of}
 use Rattle.lh_term.specs.Mean.{Valuation, IsFitting, mean}
 use Rattle.lh_term.specs.Make.{is_constant}
@@ -29,7 +30,6 @@ use Rattle.lh_edge.proofs.Resting.{rests, waited_on}
 use Rattle.lh_rows.specs.Rows.{Drive}
 use Rattle.lh_rows.specs.Means.{range_in, is_one, is_true, due_by, with_row, with_rows}
 use Rattle.lh_rows.specs.Laws.{DriveTyped}
-use Rattle.lh_rows.proofs.Among.{each-append}
 use Rattle.lh_shape.specs.Shapes.{edge_row}
 use Rattle.lh_emission.specs.Entities.{mode_of}
 use Rattle.lh_emission.specs.Registers.{sees, fires, any_fires, register_made, row_seen, triggers_seen}
@@ -37,14 +37,6 @@ use Rattle.lh_emission.specs.Ways.{TriggerIsGiven}
 use Rattle.lh_emission.specs.Emitted.{Source}
 use Rattle.lh_emission.specs.Laws.{row_parts}
 use Rattle.lh_stand.proofs.Bits.{or-cases, or-left, or-right}
-
-each-left : {X : Type 0} (P : X → Type 0) (xs ys : List X) → Each P (xs ++ ys) → Each P xs
-each-left P [] ys h = tt
-each-left P (x ∷ xs) ys h = (h.0, each-left P xs ys h.1)
-
-each-right : {X : Type 0} (P : X → Type 0) (xs ys : List X) → Each P (xs ++ ys) → Each P ys
-each-right P [] ys h = h
-each-right P (x ∷ xs) ys h = each-right P xs ys h.1
 
 test-of : (b : Bool) → unwrap_or (as_test (bit_value b)) false ≡ b
 test-of true = refl
@@ -177,9 +169,9 @@ module _ (past now : Valuation) (p : IsFitting past) (n : IsFitting now) where
   rows-rest laws s waited args at w (d ∷ ds) h e =
       let ps = row_parts (edge_row waited d) in
       let qs = flat_map row_parts (map (edge_row waited) ds) in
-      let zero : mean past now d.cond ≡ bit_value false = rests laws waited d.cond h.0.typed.cond.typed h.0.typed.cond.type h.0.shown past now p n (all-rest (triggers_of waited d.cond) (each-left (λ q. past q ≡ now q) ps qs e)) in
+      let zero : mean past now d.cond ≡ bit_value false = rests laws waited d.cond h.0.typed.cond.typed h.0.typed.cond.type h.0.shown past now p n (all-rest (triggers_of waited d.cond) (Each-left (λ q. past q ≡ now q) ps qs e)) in
       let none : with_row past now args at w d ≡ w = ap (λ b. if b then with_drive w (due_by at (mean past now d.delay)) (range_in args d.part).lo (value_bits (mean past now d.value)) else w) (ap is_one zero) in
-      ap (λ v. with_rows past now args at v ds) none ∙ rows-rest laws s waited args at w ds h.1 (each-right (λ q. past q ≡ now q) ps qs e)
+      ap (λ v. with_rows past now args at v ds) none ∙ rows-rest laws s waited args at w ds h.1 (Each-right (λ q. past q ≡ now q) ps qs e)
 
 -- ---- the parts of the triggers
 
@@ -191,7 +183,7 @@ parts-covered waited (g ∷ gs) h = (h.1, parts-covered waited gs h.2)
 pub triggers-covered : (waited : List Part) (ds : List Drive) → Each (λ q. covers waited q ≡ true) (flat_map row_parts (map (edge_row waited) ds))
 triggers-covered waited [] = tt
 triggers-covered waited (d ∷ ds) =
-    each-append (λ q. covers waited q ≡ true) (row_parts (edge_row waited d)) (flat_map row_parts (map (edge_row waited) ds))
+    Each-append (λ q. covers waited q ≡ true) (row_parts (edge_row waited d)) (flat_map row_parts (map (edge_row waited) ds))
     (parts-covered waited (triggers_of waited d.cond) (waited_on waited d.cond)) (triggers-covered waited ds)
 
 -- ---- what registers remember
@@ -206,6 +198,6 @@ row-seen-same v w (g ∷ gs) h =
 pub seen-same : (v w : Valuation) (rs : List EdgeRowTree) → Each (λ q. v q ≡ w q) (flat_map row_parts rs) → triggers_seen v rs ≡ triggers_seen w rs
 seen-same v w [] h = refl
 seen-same v w (r ∷ rs) h =
-    let here : row_seen v r ≡ row_seen w r = row-seen-same v w r.triggers (each-left (λ q. v q ≡ w q) (row_parts r) (flat_map row_parts rs) h) in
-    let rest = seen-same v w rs (each-right (λ q. v q ≡ w q) (row_parts r) (flat_map row_parts rs) h) in
+    let here : row_seen v r ≡ row_seen w r = row-seen-same v w r.triggers (Each-left (λ q. v q ≡ w q) (row_parts r) (flat_map row_parts rs) h) in
+    let rest = seen-same v w rs (Each-right (λ q. v q ≡ w q) (row_parts r) (flat_map row_parts rs) h) in
     λ i. here i ++ rest i

@@ -25,9 +25,11 @@ use Rattle.lh_exec.specs.States as process
 use Rattle.lh_exec.specs.States.{Answers, waited_by, WakesLater, WakesLaterBy}
 use Rattle.lh_exec.specs.Laws.{wake_of}
 use Rattle.lh_react.specs.declared.entity.EntAct.{EntAct}
+use Rattle.lh_react.specs.Standing as entity
 use Rattle.lh_react.specs.Standing.{Reacts}
+use Rattle.lh_react.specs.State.{EntityState}
 use Rattle.lh_meaning.specs.Wishes.{IsLate}
-use Rattle.lh_meaning.proofs.Late.{act_late}
+use Rattle.lh_meaning.proofs.Late.{runs_late}
 use Rattle.lh_states.specs.declared.state.InstState.{InstState}
 use Rattle.lh_states.specs.States.{StateFits}
 use Rattle.lh_states.specs.declared.state.InstState.TheVariants.{Process, Entity}
@@ -36,8 +38,8 @@ use Rattle.lh_states.specs.Runs.{ActIsSound, IsLaterIfAny}
 pub process-fits : (a : Arena) (width : ℕ) (i : Instance) (s : InstState) (x : ProcState) → s ≡ Process x → StateFits a width i s → (kind_at a i.unit.0 ≡ Some kind.Proc) × process.StateFits a i.unit.0 width x
 process-fits a width i s x e h = subst (StateFits a width i) e h
 
-pub entity-kind : (a : Arena) (width : ℕ) (i : Instance) (s : InstState) (memory : Option (List Bool)) → s ≡ Entity memory → StateFits a width i s → kind_at a i.unit.0 ≡ Some kind.Entity
-entity-kind a width i s memory e h = (subst (StateFits a width i) e h).0
+pub entity-fits : (a : Arena) (width : ℕ) (i : Instance) (s : InstState) (x : EntityState) → s ≡ Entity x → StateFits a width i s → (kind_at a i.unit.0 ≡ Some kind.Entity) × entity.StateFits (unit_text_at a i.unit.0) i.args x
+entity-fits a width i s x e h = subst (StateFits a width i) e h
 
 rest-late : (t u : Instant) (bs : List (ℕ × Bool)) (rest : Wish) → IsLate t (bits_due u bs ++ rest) → IsLate t rest
 rest-late t u [] rest l = l
@@ -73,7 +75,7 @@ pub process-sound : (a : Arena) (width : ℕ) (now : List Bool) (t : Instant) (i
     kind_at a i.unit.0 ≡ Some kind.Proc → Answers a i.unit.0 i.args width (Ok x) (activate 1000000 (scene_of a now t) (unit_text_at a i.unit.0) p) → WakesLater t x.next →
     ActIsSound a width t i (record { next = Process x.next; wishes = x.wishes; outcomes = x.outcomes })
 process-sound a width now t i p x k h later =
-    by (activate 1000000 (scene_of a now t) (unit_text_at a i.unit.0) p) h (act_late (rules_of 1000000 (contents a)) None [] now t (unit_text_at a i.unit.0) (instance_text a i) (of_process p))
+    by (activate 1000000 (scene_of a now t) (unit_text_at a i.unit.0) p) h (runs_late (rules_of 1000000 (contents a)) now t (unit_text_at a i.unit.0) (instance_text a i) (of_process p))
   where
     by : (done : Option Activated) → Answers a i.unit.0 i.args width (Ok x) done → IsLate t (process_act p done).wish → ActIsSound a width t i (record { next = Process x.next; wishes = x.wishes; outcomes = x.outcomes })
     by (Some d) g l = record {
@@ -87,12 +89,12 @@ process-sound a width now t i p x k h later =
 
 -- what a pass gives
 pub entity-sound : (a : Arena) (width : ℕ) (now : List Bool) (t : Instant) (i : Instance) (memory : Option (List Bool)) (x : EntAct) (outcomes : List Bool) →
-    kind_at a i.unit.0 ≡ Some kind.Entity → Reacts (unit_text_at a i.unit.0) width (pass (unit_text_at a i.unit.0) i.args i.sigs now memory t) x →
+    kind_at a i.unit.0 ≡ Some kind.Entity → Reacts (unit_text_at a i.unit.0) i.args width (pass (unit_text_at a i.unit.0) i.args i.sigs now memory t) x →
     ActIsSound a width t i (record { next = Entity x.next; wishes = x.wishes; outcomes = outcomes })
 entity-sound a width now t i memory x outcomes k h = record {
   fits = (k, h.fits);
   wakes = tt;
   grouped = h.grouped;
   within = each-within width x.wishes h.within;
-  later = each-late t x.wishes h.grouped (subst (IsLate t) (sym h.wish) (act_late (rules_of 1000000 (contents a)) None [] now t (unit_text_at a i.unit.0) (instance_text a i) (of_entity memory)));
+  later = each-late t x.wishes h.grouped (subst (IsLate t) (sym h.wish) (runs_late (rules_of 1000000 (contents a)) now t (unit_text_at a i.unit.0) (instance_text a i) (of_entity memory)));
 }

@@ -13,7 +13,7 @@ use Rattle.lh_states.specs.Laws.{FittingStand, SensesAlike, WakesAlike, SensesWi
 
 pub fitting-stand : FittingStand
 fitting-stand a width i (Process s) is h = let w = some-state a i.unit.0 width i.args s.stand h.1 in (of_process w.0, w.1)
-fitting-stand a width i (Entity s) is h = (of_entity s, refl)
+fitting-stand a width i (Entity s) is h = (of_entity s.memory, refl)
 
 pub senses-alike : SensesAlike
 senses-alike a width i (Process s) (of_process p) h k = (waits-as-held a i.unit.0 i.args s.stand p k).0

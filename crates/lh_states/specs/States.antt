@@ -15,13 +15,13 @@ use Rattle.lh_states.specs.declared.state.InstState.TheVariants.{Process, Entity
 -- what is kept of an instance stands for its state
 abbrev pub StateIs : Arena → Instance → InstState → State → Type 0
 StateIs a i (Process s) (of_process p) = process.StandsFor a i.unit.0 i.args s p
-StateIs a i (Entity s) (of_entity memory) = s ≡ memory
+StateIs a i (Entity s) (of_entity memory) = s.memory ≡ memory
 StateIs a i _ _ = ⊥
 
 -- it is of the kind of the instance's unit, and fits, where the signals have so many bits
 abbrev pub StateFits : Arena → (width : ℕ) → Instance → InstState → Type 0
 StateFits a width i (Process s) = (kind_at a i.unit.0 ≡ Some kind.Proc) × process.StateFits a i.unit.0 width s
-StateFits a width i (Entity s) = (kind_at a i.unit.0 ≡ Some kind.Entity) × entity.StateFits (unit_text_at a i.unit.0) s
+StateFits a width i (Entity s) = (kind_at a i.unit.0 ≡ Some kind.Entity) × entity.StateFits (unit_text_at a i.unit.0) i.args s
 
 -- the parts that an instance senses: those that a process waits for, or that an entity probes
 abbrev pub parts_sensed : InstState → (probes : List Range) → List Range

@@ -14,6 +14,7 @@ use Rattle.lh_unit.specs.Numerals.{number_of}
 use Rattle.lh_unit.specs.SpellsTypes.{SpellsType}
 use Rattle.lh_unit.specs.SpellsParts.{SpellsTyped, SpellsOperand, SpellsBare, SpellsWithType, SpellsParts, SpellsBehind}
 use Rattle.lh_unit.specs.SpellsInst.{SpellsInst, written_types}
+use Rattle.lh_unit.specs.Typing.{or_else}
 use Rattle.lh_scan.specs.Pieces.{◌>>=◌, word_at, punct_at, parts_at}
 use Rattle.lh_scan.specs.Numbers.{number_at}
 use Rattle.lh_scan.specs.Shorter.{bind_some}
@@ -22,7 +23,7 @@ use Rattle.lh_scan.proofs.SpelledNumbers.{number_at-sound, number_at-again}
 use Rattle.lh_scan.proofs.TypeStarts.{number_at-type}
 use Rattle.lh_scan.proofs.TypeFaults.{array-again, tuple-sound, tuple-again, limited_data, four_none, array-limited}
 use Rattle.lh_syntax.specs.SyntaxOf.{operand_of, operands_of}
-use Rattle.lh_syntax.specs.Operands.{or_else, typed_at, free_at}
+use Rattle.lh_syntax.specs.Operands.{typed_at, free_at}
 use Rattle.lh_syntax.specs.Operations.{last_mark_at, when, fits_array, repeated_of, repeat_at, all_bare, element_of, array_at, bracket_at, fields_of, fits_tuple, tuple_at}
 use Rattle.lh_syntax.specs.declared.syntax.Operand.{Operand}
 use Rattle.lh_syntax.proofs.SpelledOperands.{operands_as, operands_as-of, typed_at-sound, typed_at-again, bare_free, typed_free}

@@ -24,7 +24,8 @@ use Rattle.lh_scan.proofs.SpelledLists.{list_at-sound, list_at-again}
 use Rattle.lh_syntax.specs.Words.{head_of}
 use Rattle.lh_syntax.specs.Shorter.{param_at-shorter}
 use Rattle.lh_syntax.specs.Operands.{param_at}
-use Rattle.lh_syntax.specs.Headers.{is_value_type, is_result_type, is_signal, each, item_when, are_values, are_ports, params_at, types_at, brace_at, func_at, ports_when, ports_at, unit_at, declare_func_at, declare_unit_at, declare_or, declare_at, named_at, head_at}
+use Rattle.lh_types.specs.TypeTests.{is_value_type, is_signal}
+use Rattle.lh_syntax.specs.Headers.{is_result_type, each, item_when, are_values, are_ports, params_at, types_at, brace_at, func_at, ports_when, ports_at, unit_at, declare_func_at, declare_unit_at, declare_or, declare_at, named_at, head_at}
 use Rattle.lh_syntax.specs.declared.words.Head.{Head}
 use Rattle.lh_syntax.specs.declared.words.Head.TheVariants as head
 use Rattle.lh_syntax.proofs.SpelledWords.{head_word, head_of-sound}

@@ -1,13 +1,15 @@
 -- What is found in the tokens of a line is spelled so, and what is spelled so is found: so a line spells at most one item.
 use Rattle.std.proofs.Common.{◌≡◌, ℕ, Bool, true, false, List, [], ◌∷◌, Option, Some, None, nat_eq, refl, ap, sym, ◌∙◌, subst, arith, inl, inr}
-use Rattle.std.specs.Prelude.{if◌then◌else◌, option_map, Result, Ok, Err, IfOk}
+use Rattle.std.specs.Prelude.{if◌then◌else◌, Result, Ok, Err, IfOk}
 use Rattle.std.proofs.lemmas.Grind.{common_steps}
 use Rattle.std.proofs.lemmas.Option.{cond_some, same_Some}
-use Rattle.lh_types.specs.declared.ty.NoMemory.{NoMemory}
 use Rattle.lh_unit.specs.Contents.{InstText}
 use Rattle.lh_unit.specs.Lexemes.{Lexeme, word, local, punct}
 use Rattle.lh_unit.specs.SpellsInst.{gives_value, may_stand_alone, SpellsLine}
 use Rattle.lh_unit.specs.Spells.{LineItem, empty_item, header_item, declare_item, label_item, inst_item, close_item, Spells, SpellsLabel}
+use Rattle.lh_scan.specs.Found.{FindsAs}
+use Rattle.lh_scan.specs.declared.fault.ScanFault.{ScanFault}
+use Rattle.lh_scan.specs.declared.fault.ScanFault.TheVariants.{NotSpelled, OutOfMemory}
 use Rattle.lh_scan.specs.Pieces.{◌>>=◌, name_at, punct_at, end_at}
 use Rattle.lh_scan.specs.Shorter.{bind_some}
 use Rattle.lh_scan.proofs.Pieces.{name_at-inv, name_at-again, punct_at-inv, end_at-inv}
@@ -146,6 +148,11 @@ pub spelled_by : (ts : List Lexeme) (o : Option LineItem) → o ≡ item_at ts �
 spelled_by ts None e = λ j s. let f : None ≡ Some j = e ∙ item_at-again ts j s in cc
 spelled_by ts (Some i) e = (item_at-sound ts i (sym e), λ j s. same_Some j i (sym (item_at-again ts j s) ∙ sym e))
 
-pub line_spelled_by : (ts : List Lexeme) (r : Result (Option LineSyntax) NoMemory) → IfOk r (λ o. option_map item_of o ≡ item_at ts) → IfOk r (λ o. SpelledBy ts (option_map item_of o))
-line_spelled_by ts (Ok o) h = spelled_by ts (option_map item_of o) h
-line_spelled_by ts (Err e) h = h
+pub line_said : (ts : List Lexeme) (r : Result LineSyntax ScanFault) → FindsAs item_of r (item_at ts) → IfOk r (λ i. SpelledBy ts (Some (item_of i)))
+line_said ts (Ok i) h = spelled_by ts (Some (item_of i)) h
+line_said ts (Err e) h = tt
+
+pub line_nothing : (ts : List Lexeme) (r : Result LineSyntax ScanFault) → FindsAs item_of r (item_at ts) → r ≡ Err NotSpelled → SpelledBy ts None
+line_nothing ts (Ok i) h e = cc
+line_nothing ts (Err NotSpelled) h e = spelled_by ts None h
+line_nothing ts (Err OutOfMemory) h e = cc

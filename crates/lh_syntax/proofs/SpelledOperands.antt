@@ -11,6 +11,7 @@ use Rattle.lh_unit.specs.Spells.{TypedName}
 use Rattle.lh_unit.specs.SpellsTypes.{SpellsType}
 use Rattle.lh_unit.specs.SpellsParts.{SpellsTyped, SpellsOperand, SpellsBare, SpellsWithType, SpellsMaybe, SpellsTrigger, SpellsEdge}
 use Rattle.lh_unit.specs.SpellsInst.{SpellsColumns}
+use Rattle.lh_unit.specs.Typing.{or_else}
 use Rattle.lh_scan.specs.Pieces.{◌>>=◌, word_at, any_word_at, local_at, punct_at}
 use Rattle.lh_scan.specs.Shorter.{bind_some}
 use Rattle.lh_scan.specs.Types.{type_at}
@@ -19,7 +20,7 @@ use Rattle.lh_scan.proofs.TypeStarts.{local_at-type}
 use Rattle.lh_scan.proofs.SpelledTypes.{type_at-sound, type_at-again}
 use Rattle.lh_syntax.specs.SyntaxOf.{operand_of, operands_of, trigger_of, edge_of}
 use Rattle.lh_syntax.specs.Words.{mode_of}
-use Rattle.lh_syntax.specs.Operands.{or_else, typed_at, bare_at, free_at, next_bare_at, next_free_at, one_at, two_at, shift_at, columns_at, maybe_or, maybe_at, trigger_at, edge_at, param_at}
+use Rattle.lh_syntax.specs.Operands.{typed_at, bare_at, free_at, next_bare_at, next_free_at, one_at, two_at, shift_at, columns_at, maybe_or, maybe_at, trigger_at, edge_at, param_at}
 use Rattle.lh_syntax.specs.declared.syntax.Operand.{Operand}
 use Rattle.lh_syntax.specs.declared.syntax.Trigger.{Trigger}
 use Rattle.lh_syntax.specs.declared.syntax.Edge.{Edge}

@@ -1,15 +1,19 @@
 -- The tables of words: what stands beside a word is what it begins, and each word is found.
-use Rattle.std.proofs.Common.{◌≡◌, ℕ, Bool, true, false, List, [], ◌∷◌, Some, nat_eq, refl, ap, sym, subst, inl, inr}
-use Rattle.std.specs.Prelude.{codes, if◌then◌else◌}
+use Rattle.std.proofs.Common.{◌≡◌, ℕ, Bool, true, false, List, [], ◌∷◌, Some, nat_eq, refl, ap, sym, ◌∙◌, subst, inl, inr}
+use Rattle.std.specs.Prelude.{codes, ◌&&◌, ◌||◌, if◌then◌else◌}
+use Rattle.std.proofs.lemmas.Bool.{and_parts}
 use Rattle.std.specs.Cmp.Lexicographic.{same_text}
 use Rattle.std.proofs.lemmas.Option.{same_Some}
 use lib.Pointwise.{pointwise}
+use Rattle.lh_types.specs.Classes.{class_of}
 use Rattle.lh_types.specs.declared.op.Op.{Op}
 use Rattle.lh_types.specs.declared.op.Op.TheVariants as op
+use Rattle.lh_types.specs.declared.op.OpClass.{OpClass}
+use Rattle.lh_types.specs.declared.op.OpClass.TheVariants as class
 use Rattle.lh_unit.specs.declared.inst.Mode.{Mode}
 use Rattle.lh_unit.specs.declared.inst.Mode.TheVariants as mode
 use Rattle.lh_unit.specs.CanonWords.{op_word, mode_word}
-use Rattle.lh_unit.specs.SpellsInst.{Column, typed, bare, free, columns, IsOpWord}
+use Rattle.lh_unit.specs.SpellsInst.{Column, typed, bare, free, class_columns, columns, IsOpWord}
 use Rattle.lh_syntax.specs.Words.{found, head_rows, form_rows, mode_rows, head_of, form_of, mode_of}
 use Rattle.lh_syntax.specs.declared.words.Head.{Head}
 use Rattle.lh_syntax.specs.declared.words.Head.TheVariants as head
@@ -55,12 +59,28 @@ pub head_of-sound : (w : List ℕ) (h : Head) → head_of w ≡ Some h → w ≡
 unfolding head_of
 head_of-sound w h p = found-each (λ v x. v ≡ head_word x) head_rows w h (refl, (refl, (refl, (refl, tt)))) p
 
+-- a truth value that holds
+abbrev pub Holds : Bool → Type 0
+Holds true = Unit {0}
+Holds false = ⊥
+
+-- whether the operations of a class have a word; arrays and structs have brackets in its place
+abbrev pub class_has_word : OpClass → Bool
+class_has_word class.Unary = true
+class_has_word class.Binary = true
+class_has_word class.Relation = true
+class_has_word class.Equality = true
+class_has_word class.Shift = true
+class_has_word class.Select = true
+class_has_word (class.TakePart s) = true
+class_has_word (class.PutPart s) = true
+class_has_word class.Array = false
+class_has_word (class.Repeat n) = false
+class_has_word class.Tuple = false
+
 -- the operations that have a word
 abbrev pub HasWord : Op → Type 0
-HasWord op.Array = ⊥
-HasWord (op.Repeat n) = ⊥
-HasWord op.Tuple = ⊥
-HasWord _ = Unit {0}
+HasWord o = Holds (class_has_word (class_of o))
 
 -- the columns that are written so
 abbrev pub columns_of : Columns → List Column
@@ -68,186 +88,110 @@ columns_of written.One = typed ∷ []
 columns_of written.Two = typed ∷ bare ∷ []
 columns_of written.Shift = typed ∷ free ∷ free ∷ []
 
+-- how the operands of the operations of a class are written
+abbrev pub class_written : OpClass → Columns
+class_written class.Unary = written.One
+class_written class.Binary = written.Two
+class_written class.Relation = written.Two
+class_written class.Equality = written.Two
+class_written class.Shift = written.Shift
+class_written class.Select = written.Two
+class_written (class.TakePart s) = written.One
+class_written (class.PutPart s) = written.Two
+class_written class.Array = written.Two
+class_written (class.Repeat n) = written.Two
+class_written class.Tuple = written.Two
+
+-- how the operands of an operation are written
+abbrev pub written_as : Op → Columns
+written_as o = class_written (class_of o)
+
+class_columns-written : (c : OpClass) → class_columns c ≡ columns_of (class_written c)
+class_columns-written class.Unary = refl
+class_columns-written _ = refl
+
+pub columns-written : (o : Op) → columns o ≡ columns_of (written_as o)
+columns-written o = class_columns-written (class_of o)
+
 -- what a row of an operation says
 pub record IsOpRow (w : List ℕ) (o : Op) (c : Columns) : Type 0 where
   pub word : IsOpWord o w
   pub has : HasWord o
   pub columns : columns o ≡ columns_of c
 
+-- the word of a form
+abbrev pub form_word : Form → List ℕ
+form_word form.Const = codes "const"
+form_word (form.Op o c) = op_word o
+form_word form.Var = codes "var"
+form_word form.Ld = codes "ld"
+form_word form.St = codes "st"
+form_word form.Sig = codes "sig"
+form_word form.Prb = codes "prb"
+form_word form.Drv = codes "drv"
+form_word form.Reg = codes "reg"
+form_word form.Child = codes "inst"
+form_word form.Call = codes "call"
+form_word form.Phi = codes "phi"
+form_word form.Br = codes "br"
+form_word form.Wait = codes "wait"
+form_word form.Halt = codes "halt"
+form_word form.Ret = codes "ret"
+
 -- what a row of the table says
 abbrev pub IsFormRow : List ℕ → Form → Type 0
-IsFormRow w form.Const = w ≡ codes "const"
 IsFormRow w (form.Op o c) = IsOpRow w o c
-IsFormRow w form.Var = w ≡ codes "var"
-IsFormRow w form.Ld = w ≡ codes "ld"
-IsFormRow w form.St = w ≡ codes "st"
-IsFormRow w form.Sig = w ≡ codes "sig"
-IsFormRow w form.Prb = w ≡ codes "prb"
-IsFormRow w form.Drv = w ≡ codes "drv"
-IsFormRow w form.Reg = w ≡ codes "reg"
-IsFormRow w form.Child = w ≡ codes "inst"
-IsFormRow w form.Call = w ≡ codes "call"
-IsFormRow w form.Phi = w ≡ codes "phi"
-IsFormRow w form.Br = w ≡ codes "br"
-IsFormRow w form.Wait = w ≡ codes "wait"
-IsFormRow w form.Halt = w ≡ codes "halt"
-IsFormRow w form.Ret = w ≡ codes "ret"
+IsFormRow w f = w ≡ form_word f
 
--- a row whose word is the operation's own
-row : (o : Op) (c : Columns) → HasWord o → IsOpWord o (op_word o) → columns o ≡ columns_of c → IsOpRow (op_word o) o c
-row o c h w e = record { word = w; has = h; columns = e }
+-- whether the word is one of the operation's
+abbrev is_op_word : Op → List ℕ → Bool
+is_op_word op.Umul w = pointwise nat_eq w (op_word op.Umul) || pointwise nat_eq w (codes "mul")
+is_op_word o w = pointwise nat_eq w (op_word o)
 
--- each row of the table says so
-form_rows-say : EachRow IsFormRow form_rows
-form_rows-say = (
-  refl,
-  (
-    row op.Not written.One tt refl refl,
-    (
-      row op.Neg written.One tt refl refl,
-      (
-        row op.Add written.Two tt refl refl,
-        (
-          row op.Sub written.Two tt refl refl,
-          (
-            row op.Umul written.Two tt (inl refl) refl,
-            (
-              record { word = inr refl; has = tt; columns = refl },
-              (
-                row op.Smul written.Two tt refl refl,
-                (
-                  row op.Udiv written.Two tt refl refl,
-                  (
-                    row op.Sdiv written.Two tt refl refl,
-                    (
-                      row op.Umod written.Two tt refl refl,
-                      (
-                        row op.Smod written.Two tt refl refl,
-                        (
-                          row op.Urem written.Two tt refl refl,
-                          (
-                            row op.Srem written.Two tt refl refl,
-                            (
-                              row op.And written.Two tt refl refl,
-                              (
-                                row op.Or written.Two tt refl refl,
-                                (
-                                  row op.Xor written.Two tt refl refl,
-                                  (
-                                    row op.Eq written.Two tt refl refl,
-                                    (
-                                      row op.Neq written.Two tt refl refl,
-                                      (
-                                        row op.Slt written.Two tt refl refl,
-                                        (
-                                          row op.Sgt written.Two tt refl refl,
-                                          (
-                                            row op.Sle written.Two tt refl refl,
-                                            (
-                                              row op.Sge written.Two tt refl refl,
-                                              (
-                                                row op.Ult written.Two tt refl refl,
-                                                (
-                                                  row op.Ugt written.Two tt refl refl,
-                                                  (
-                                                    row op.Ule written.Two tt refl refl,
-                                                    (
-                                                      row op.Uge written.Two tt refl refl,
-                                                      (
-                                                        row op.Shl written.Shift tt refl refl,
-                                                        (
-                                                          row op.Shr written.Shift tt refl refl,
-                                                          (
-                                                            row op.Mux written.Two tt refl refl,
-                                                            (
-                                                              row (op.Extf 0) written.One tt refl refl,
-                                                              (
-                                                                row (op.Exts 0 0) written.One tt refl refl,
-                                                                (
-                                                                  row (op.Insf 0) written.Two tt refl refl,
-                                                                  (
-                                                                    row (op.Inss 0 0) written.Two tt refl refl,
-                                                                    (
-                                                                      refl,
-                                                                      (
-                                                                        refl,
-                                                                        (
-                                                                          refl,
-                                                                          (
-                                                                            refl,
-                                                                            (
-                                                                              refl,
-                                                                              (
-                                                                                refl,
-                                                                                (
-                                                                                  refl,
-                                                                                  (
-                                                                                    refl,
-                                                                                    (
-                                                                                      refl,
-                                                                                      (
-                                                                                        refl,
-                                                                                        (
-                                                                                          refl,
-                                                                                          (
-                                                                                            refl,
-                                                                                            (
-                                                                                              refl,
-                                                                                              (
-                                                                                                refl,
-                                                                                                tt,
-                                                                                              ),
-                                                                                            ),
-                                                                                          ),
-                                                                                        ),
-                                                                                      ),
-                                                                                    ),
-                                                                                  ),
-                                                                                ),
-                                                                              ),
-                                                                            ),
-                                                                          ),
-                                                                        ),
-                                                                      ),
-                                                                    ),
-                                                                  ),
-                                                                ),
-                                                              ),
-                                                            ),
-                                                          ),
-                                                        ),
-                                                      ),
-                                                    ),
-                                                  ),
-                                                ),
-                                              ),
-                                            ),
-                                          ),
-                                        ),
-                                      ),
-                                    ),
-                                  ),
-                                ),
-                              ),
-                            ),
-                          ),
-                        ),
-                      ),
-                    ),
-                  ),
-                ),
-              ),
-            ),
-          ),
-        ),
-      ),
-    ),
-  ),
-)
+-- whether the columns are the same
+abbrev same_written : Columns → Columns → Bool
+same_written written.One written.One = true
+same_written written.Two written.Two = true
+same_written written.Shift written.Shift = true
+same_written _ _ = false
+
+-- whether a row is as its form has it
+abbrev is_form_row : List ℕ → Form → Bool
+is_form_row w (form.Op o c) = is_op_word o w && (class_has_word (class_of o) && same_written (written_as o) c)
+is_form_row w f = pointwise nat_eq w (form_word f)
+
+abbrev are_form_rows : List (List ℕ × Form) → Bool
+are_form_rows [] = true
+are_form_rows (r ∷ rows) = is_form_row r.0 r.1 && are_form_rows rows
+
+op_word-told : (o : Op) (w : List ℕ) → is_op_word o w ≡ true → IsOpWord o w
+op_word-told op.Umul w h = by (pointwise nat_eq w (op_word op.Umul)) refl h
+  where
+    by : (b : Bool) → pointwise nat_eq w (op_word op.Umul) ≡ b → (b || pointwise nat_eq w (codes "mul")) ≡ true → IsOpWord op.Umul w
+    by true e q = inl (same_text w (op_word op.Umul) (sym e))
+    by false e q = inr (same_text w (codes "mul") (sym q))
+op_word-told o w h = same_text w (op_word o) (sym h)
+
+written-told : (c d : Columns) → same_written c d ≡ true → c ≡ d
+written-told written.One written.One h = refl
+written-told written.Two written.Two h = refl
+written-told written.Shift written.Shift h = refl
+written-told _ _ h = cc
+
+form_row-told : (w : List ℕ) (f : Form) → is_form_row w f ≡ true → IsFormRow w f
+form_row-told w (form.Op o c) h =
+    let p = and_parts (is_op_word o w) (class_has_word (class_of o) && same_written (written_as o) c) h in
+    let q = and_parts (class_has_word (class_of o)) (same_written (written_as o) c) p.1 in
+    record { word = op_word-told o w p.0; has = subst Holds (sym q.0) tt; columns = columns-written o ∙ ap columns_of (written-told (written_as o) c q.1) }
+form_row-told w f h = same_text w (form_word f) (sym h)
+
+form_rows-told : (rows : List (List ℕ × Form)) → are_form_rows rows ≡ true → EachRow IsFormRow rows
+form_rows-told [] h = tt
+form_rows-told (r ∷ rows) h = let p = and_parts (is_form_row r.0 r.1) (are_form_rows rows) h in (form_row-told r.0 r.1 p.0, form_rows-told rows p.1)
 
 pub form_of-sound : (w : List ℕ) (f : Form) → form_of w ≡ Some f → IsFormRow w f
 unfolding form_of
-form_of-sound w f p = found-each IsFormRow form_rows w f form_rows-say p
+form_of-sound w f p = found-each IsFormRow form_rows w f (form_rows-told form_rows refl) p
 
 -- the operation with 0 in place of each number
 abbrev pub unnumbered : Op → Op
@@ -256,20 +200,6 @@ unnumbered (op.Exts at len) = op.Exts 0 0
 unnumbered (op.Insf k) = op.Insf 0
 unnumbered (op.Inss at len) = op.Inss 0 0
 unnumbered o = o
-
--- how the operands of an operation are written
-abbrev pub written_as : Op → Columns
-written_as op.Not = written.One
-written_as op.Neg = written.One
-written_as (op.Extf k) = written.One
-written_as (op.Exts at len) = written.One
-written_as op.Shl = written.Shift
-written_as op.Shr = written.Shift
-written_as o = written.Two
-
-pub columns-written : (o : Op) → columns o ≡ columns_of (written_as o)
-columns-written op.Not = refl
-columns-written _ = refl
 
 -- each word of an operation is found
 pub op_found : (o : Op) (w : List ℕ) → HasWord o → IsOpWord o w → form_of w ≡ Some (form.Op (unnumbered o) (written_as o))

@@ -1,6 +1,7 @@
 -- The heads of units, and units that are defined elsewhere.
 use Rattle.std.specs.Prelude.{Bool, true, false, ◌&&◌, List, [], ◌∷◌, ◌++◌, map, Option, Some, None, if◌then◌else◌}
-use Rattle.lh_types.specs.Types.{TypeTree, void_type, signal_type, pointer_type}
+use Rattle.lh_types.specs.Types.{TypeTree, signal_type, pointer_type}
+use Rattle.lh_types.specs.TypeTests.{is_value_type, is_signal}
 use Rattle.lh_unit.specs.Contents.{ArgText}
 use Rattle.lh_unit.specs.Lexemes.{Lexeme}
 use Rattle.lh_unit.specs.Spells.{TypedName, input_of, output_of, LineItem, header_item, declare_item}
@@ -14,23 +15,11 @@ use Rattle.lh_syntax.specs.Operands.{param_at}
 use Rattle.lh_syntax.specs.declared.words.Head.{Head}
 use Rattle.lh_syntax.specs.declared.words.Head.TheVariants as head
 
--- a data type or `time`
-abbrev pub is_value_type : TypeTree → Bool
-is_value_type void_type = false
-is_value_type (signal_type t) = false
-is_value_type (pointer_type t) = false
-is_value_type _ = true
-
 -- a data type, `time` or `void`
 abbrev pub is_result_type : TypeTree → Bool
 is_result_type (signal_type t) = false
 is_result_type (pointer_type t) = false
 is_result_type _ = true
-
--- the type of a signal
-abbrev pub is_signal : TypeTree → Bool
-is_signal (signal_type t) = true
-is_signal _ = false
 
 -- whether the test holds for each
 abbrev pub each : {A : Type 0} → (A → Bool) → List A → Bool

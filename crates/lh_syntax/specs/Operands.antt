@@ -2,6 +2,7 @@
 use Rattle.std.specs.Prelude.{ℕ, List, [], ◌∷◌, Option, Some, None, codes}
 use Rattle.lh_unit.specs.Lexemes.{Lexeme}
 use Rattle.lh_unit.specs.Spells.{TypedName}
+use Rattle.lh_unit.specs.Typing.{or_else}
 use Rattle.lh_scan.specs.Pieces.{◌>>=◌, word_at, any_word_at, local_at, punct_at}
 use Rattle.lh_scan.specs.Types.{type_at}
 use Rattle.lh_syntax.specs.Words.{mode_of}
@@ -10,11 +11,6 @@ use Rattle.lh_syntax.specs.declared.syntax.Trigger.{Trigger}
 use Rattle.lh_syntax.specs.declared.syntax.Edge.{Edge}
 use Rattle.lh_syntax.specs.declared.words.Columns.{Columns}
 use Rattle.lh_syntax.specs.declared.words.Columns.TheVariants as columns
-
--- the first of two that is found
-abbrev pub or_else : {A : Type 0} → Option A → Option A → Option A
-or_else (Some x) o = Some x
-or_else None o = o
 
 -- `T %a`
 unfoldable pub typed_at : List Lexeme → Option (Operand × List Lexeme)

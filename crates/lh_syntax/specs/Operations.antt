@@ -6,10 +6,11 @@ use Rattle.lh_types.specs.declared.op.Op.{Op}
 use Rattle.lh_types.specs.declared.op.Op.TheVariants as op
 use Rattle.lh_unit.specs.Contents.{InstText, pure_text}
 use Rattle.lh_unit.specs.Lexemes.{Lexeme}
+use Rattle.lh_unit.specs.Typing.{or_else}
 use Rattle.lh_scan.specs.Pieces.{◌>>=◌, word_at, punct_at, end_at, parts_at}
 use Rattle.lh_scan.specs.Numbers.{number_at}
 use Rattle.lh_syntax.specs.SyntaxOf.{operand_of, operands_of}
-use Rattle.lh_syntax.specs.Operands.{or_else, typed_at, free_at, columns_at}
+use Rattle.lh_syntax.specs.Operands.{typed_at, free_at, columns_at}
 use Rattle.lh_syntax.specs.declared.syntax.Operand.{Operand}
 use Rattle.lh_syntax.specs.declared.words.Columns.{Columns}
 

@@ -4,11 +4,12 @@ use Rattle.std.proofs.Common.{arith, ap, subst}
 use Rattle.std.proofs.lemmas.Option.{same_Some}
 use Rattle.lh_unit.specs.Lexemes.{Lexeme}
 use Rattle.lh_unit.specs.Spells.{TypedName}
+use Rattle.lh_unit.specs.Typing.{or_else}
 use Rattle.lh_scan.specs.Pieces.{word_at, any_word_at, local_at, punct_at}
 use Rattle.lh_scan.specs.Types.{type_at}
 use Rattle.lh_scan.specs.Shorter.{bind_some, word_at-shorter, any_word_at-shorter, local_at-shorter, punct_at-shorter, type_at-shorter}
 use Rattle.lh_syntax.specs.Words.{mode_of}
-use Rattle.lh_syntax.specs.Operands.{or_else, typed_at, bare_at, free_at, maybe_or, maybe_at, trigger_at, edge_at, param_at}
+use Rattle.lh_syntax.specs.Operands.{typed_at, bare_at, free_at, maybe_or, maybe_at, trigger_at, edge_at, param_at}
 use Rattle.lh_syntax.specs.declared.syntax.Operand.{Operand}
 use Rattle.lh_syntax.specs.declared.syntax.Trigger.{Trigger}
 use Rattle.lh_syntax.specs.declared.syntax.Edge.{Edge}

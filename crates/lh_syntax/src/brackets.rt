@@ -1,10 +1,12 @@
 //! Arrays and structs, which brackets spell.
 ghost use Rattle.std.specs.Prelude.{◌≡◌, IfOk, option_map, length, Some};
+ghost use Rattle.lh_scan.specs.Found.{FindsAs};
 ghost use Rattle.lh_syntax.specs.SyntaxOf.{inst_of};
 ghost use Rattle.lh_syntax.specs.Operations.{last_mark_at, fits_array, repeated_of, repeat_at, all_bare, element_of, array_at, bracket_at, fields_of, fits_tuple, tuple_at};
 
 use crate::operands::typed;
 use crate::syntax::{InstSyntax, Operand};
+use lh_scan::fault::ScanFault::{self, NotSpelled};
 use lh_scan::list::parts;
 use lh_scan::numbers::count;
 use lh_scan::tokens::Tokens;
@@ -34,42 +36,28 @@ fn is_array(alloc: Global, len: u32, of: &Ty) -> Result<bool, NoMemory>
 
 /// `N x D %a]`
 #[tactic(auto, unfolding(crate::specs::Operations::repeat_at))]
-fn repeat<'a>(alloc: Global, tokens: &Tokens<'a>) -> Result<Option<InstSyntax<'a>>, NoMemory>
-    ensures { IfOk result (λ r. option_map inst_of r ≡ repeat_at tokens.now) }
+fn repeat<'a>(alloc: Global, tokens: &Tokens<'a>) -> Result<InstSyntax<'a>, ScanFault>
+    ensures { FindsAs inst_of result (repeat_at tokens.now) }
 {
-    let Some((len, rest)) = count(tokens) else {
-        return Ok(None);
-    };
-    let Some(rest) = rest.word(b"x") else {
-        return Ok(None);
-    };
-    let Some((operand, rest)) = typed(alloc, &rest)? else {
-        return Ok(None);
-    };
-    if last_mark(&rest, b']').is_none() {
-        return Ok(None);
-    }
+    let (len, rest) = count(tokens).ok_or(NotSpelled)?;
+    let rest = rest.word(b"x").ok_or(NotSpelled)?;
+    let (operand, rest) = typed(alloc, &rest)?;
+    last_mark(&rest, b']').ok_or(NotSpelled)?;
     repeated(alloc, len, operand)
 }
 
 /// The array of so many of an operand, where there is its type.
-fn repeated<'a>(
-    alloc: Global,
-    len: u32,
-    operand: Operand<'a>,
-) -> Result<Option<InstSyntax<'a>>, NoMemory>
-    ensures { IfOk result (λ r. option_map inst_of r ≡ repeated_of len operand.entry) }
+fn repeated<'a>(alloc: Global, len: u32, operand: Operand<'a>) -> Result<InstSyntax<'a>, ScanFault>
+    ensures { FindsAs inst_of result (repeated_of len operand.entry) }
 {
-    let Some(of) = &operand.ty else {
-        return Ok(None);
-    };
+    let of = operand.ty.as_ref().ok_or(NotSpelled)?;
     if !is_array(alloc, len, of)? {
-        return Ok(None);
+        return Err(NotSpelled);
     }
     let mut args = ListOf::new(alloc);
     args.push(operand)?;
     let op = Op::Repeat(len);
-    Ok(Some(InstSyntax::Pure { op, args }))
+    Ok(InstSyntax::Pure { op, args })
 }
 
 /// Whether no operand has a type.
@@ -112,31 +100,27 @@ fn are_elements(alloc: Global, operands: &[Operand]) -> Result<bool, NoMemory>
 
 /// `D %a, %b]`
 #[tactic(auto, unfolding(crate::specs::Operations::array_at))]
-fn array<'a>(alloc: Global, tokens: &Tokens<'a>) -> Result<Option<InstSyntax<'a>>, NoMemory>
-    ensures { IfOk result (λ r. option_map inst_of r ≡ array_at tokens.now) }
+fn array<'a>(alloc: Global, tokens: &Tokens<'a>) -> Result<InstSyntax<'a>, ScanFault>
+    ensures { FindsAs inst_of result (array_at tokens.now) }
 {
-    let Some((args, rest)) = parts(alloc, tokens)? else {
-        return Ok(None);
-    };
-    if last_mark(&rest, b']').is_none() {
-        return Ok(None);
-    }
+    let (args, rest) = parts(alloc, tokens)?;
+    last_mark(&rest, b']').ok_or(NotSpelled)?;
     if !are_elements(alloc, args.as_slice())? {
-        return Ok(None);
+        return Err(NotSpelled);
     }
     let op = Op::Array;
-    Ok(Some(InstSyntax::Pure { op, args }))
+    Ok(InstSyntax::Pure { op, args })
 }
 
 /// An array, behind `[`.
 #[tactic(auto, unfolding(crate::specs::Operations::bracket_at))]
-pub fn bracket<'a>(alloc: Global, tokens: &Tokens<'a>) -> Result<Option<InstSyntax<'a>>, NoMemory>
-    ensures { IfOk result (λ r. option_map inst_of r ≡ bracket_at tokens.now) }
+pub fn bracket<'a>(alloc: Global, tokens: &Tokens<'a>) -> Result<InstSyntax<'a>, ScanFault>
+    ensures { FindsAs inst_of result (bracket_at tokens.now) }
 {
-    if let Some(inst) = repeat(alloc, tokens)? {
-        return Ok(Some(inst));
+    match repeat(alloc, tokens) {
+        Err(NotSpelled) => array(alloc, tokens),
+        read => read,
     }
-    array(alloc, tokens)
 }
 
 /// The types before the operands, where each has one.
@@ -166,18 +150,14 @@ fn are_fields(alloc: Global, operands: &[Operand]) -> Result<bool, NoMemory>
 
 /// A struct, behind `{`.
 #[tactic(auto, unfolding(crate::specs::Operations::tuple_at))]
-pub fn tuple<'a>(alloc: Global, tokens: &Tokens<'a>) -> Result<Option<InstSyntax<'a>>, NoMemory>
-    ensures { IfOk result (λ r. option_map inst_of r ≡ tuple_at tokens.now) }
+pub fn tuple<'a>(alloc: Global, tokens: &Tokens<'a>) -> Result<InstSyntax<'a>, ScanFault>
+    ensures { FindsAs inst_of result (tuple_at tokens.now) }
 {
-    let Some((args, rest)) = parts(alloc, tokens)? else {
-        return Ok(None);
-    };
-    if last_mark(&rest, b'}').is_none() {
-        return Ok(None);
-    }
+    let (args, rest) = parts(alloc, tokens)?;
+    last_mark(&rest, b'}').ok_or(NotSpelled)?;
     if !are_fields(alloc, args.as_slice())? {
-        return Ok(None);
+        return Err(NotSpelled);
     }
     let op = Op::Tuple;
-    Ok(Some(InstSyntax::Pure { op, args }))
+    Ok(InstSyntax::Pure { op, args })
 }

@@ -1,5 +1,6 @@
 //! The instructions, behind `%r = ` where that stands.
-ghost use Rattle.std.specs.Prelude.{◌≡◌, IfOk, option_map};
+ghost use Rattle.std.specs.Prelude.{◌≡◌, option_map};
+ghost use Rattle.lh_scan.specs.Found.{Finds, FindsAs};
 ghost use Rattle.lh_types.specs.ValueOf.{datum_of};
 ghost use Rattle.lh_syntax.specs.SyntaxOf.{inst_of};
 ghost use Rattle.lh_syntax.specs.Insts.{constant_at, const_at, last_typed_at, last_local_at, var_at, ld_at, sig_at, prb_at, target_at, st_at, after_at, if_after_at, delay_at, drv_at, reg_at, operands_at, child_at, call_at, phi_at, branch_at, br_at, wait_at, halt_at, ret_at, form_at, worded_at, marked_at, inst_at};
@@ -9,17 +10,18 @@ use crate::operands::{OperandsAt, maybe, typed};
 use crate::operations::word_op;
 use crate::syntax::{InstSyntax, Operand};
 use crate::words::{Form, find_form};
+use lh_scan::fault::ScanFault::{self, NotSpelled};
 use lh_scan::list::{behind, list, parts};
 use lh_scan::numbers::integer;
 use lh_scan::times::time;
 use lh_scan::tokens::{Lex, NameText, Tokens};
 use lh_scan::types::ty;
-use lh_types::ty::{NoMemory, Ty, TyKind};
+use lh_types::ty::{Ty, TyKind};
 use lh_types::val::Val;
 use std::alloc::Global;
 
 /// An instruction, where the tokens spell one.
-pub type InstAt<'a> = Result<Option<InstSyntax<'a>>, NoMemory>;
+pub type InstAt<'a> = Result<InstSyntax<'a>, ScanFault>;
 
 /// The constant of this type that ends the line.
 fn constant(of: &Ty, tokens: &Tokens) -> Option<Val>
@@ -38,29 +40,21 @@ fn constant(of: &Ty, tokens: &Tokens) -> Option<Val>
 /// Behind `const`.
 #[tactic(auto, unfolding(crate::specs::Insts::const_at))]
 fn const_inst<'a>(alloc: Global, tokens: &Tokens<'a>) -> InstAt<'a>
-    ensures { IfOk result (λ r. option_map inst_of r ≡ const_at tokens.now) }
+    ensures { FindsAs inst_of result (const_at tokens.now) }
 {
-    let Some((of, rest)) = ty(alloc, tokens)? else {
-        return Ok(None);
-    };
-    let Some(value) = constant(&of, &rest) else {
-        return Ok(None);
-    };
-    Ok(Some(InstSyntax::Const(value)))
+    let (of, rest) = ty(alloc, tokens)?;
+    let value = constant(&of, &rest).ok_or(NotSpelled)?;
+    Ok(InstSyntax::Const(value))
 }
 
 /// `T %a` at the end of the line.
 #[tactic(auto, unfolding(crate::specs::Insts::last_typed_at))]
-fn last_typed<'a>(alloc: Global, tokens: &Tokens<'a>) -> Result<Option<Operand<'a>>, NoMemory>
-    ensures { IfOk result (λ r. r ≡ last_typed_at tokens.now) }
+fn last_typed<'a>(alloc: Global, tokens: &Tokens<'a>) -> Result<Operand<'a>, ScanFault>
+    ensures { Finds result (last_typed_at tokens.now) }
 {
-    let Some((operand, rest)) = typed(alloc, tokens)? else {
-        return Ok(None);
-    };
-    if rest.end().is_none() {
-        return Ok(None);
-    }
-    Ok(Some(operand))
+    let (operand, rest) = typed(alloc, tokens)?;
+    rest.end().ok_or(NotSpelled)?;
+    Ok(operand)
 }
 
 /// `%a` at the end of the line.
@@ -76,76 +70,57 @@ fn last_local<'a>(tokens: &Tokens<'a>) -> Option<NameText<'a>>
 /// Behind `var`.
 #[tactic(auto, unfolding(crate::specs::Insts::var_at))]
 fn var<'a>(alloc: Global, tokens: &Tokens<'a>) -> InstAt<'a>
-    ensures { IfOk result (λ r. option_map inst_of r ≡ var_at tokens.now) }
+    ensures { FindsAs inst_of result (var_at tokens.now) }
 {
-    let Some(operand) = last_typed(alloc, tokens)? else {
-        return Ok(None);
-    };
-    Ok(Some(InstSyntax::Var(operand)))
+    let operand = last_typed(alloc, tokens)?;
+    Ok(InstSyntax::Var(operand))
 }
 
 /// Behind `ld`.
 #[tactic(auto, unfolding(crate::specs::Insts::ld_at))]
 fn ld<'a>(alloc: Global, tokens: &Tokens<'a>) -> InstAt<'a>
-    ensures { IfOk result (λ r. option_map inst_of r ≡ ld_at tokens.now) }
+    ensures { FindsAs inst_of result (ld_at tokens.now) }
 {
-    let Some(operand) = last_typed(alloc, tokens)? else {
-        return Ok(None);
-    };
-    Ok(Some(InstSyntax::Ld(operand)))
+    let operand = last_typed(alloc, tokens)?;
+    Ok(InstSyntax::Ld(operand))
 }
 
 /// Behind `sig`.
 #[tactic(auto, unfolding(crate::specs::Insts::sig_at))]
 fn sig<'a>(alloc: Global, tokens: &Tokens<'a>) -> InstAt<'a>
-    ensures { IfOk result (λ r. option_map inst_of r ≡ sig_at tokens.now) }
+    ensures { FindsAs inst_of result (sig_at tokens.now) }
 {
-    let Some(operand) = last_typed(alloc, tokens)? else {
-        return Ok(None);
-    };
-    Ok(Some(InstSyntax::Sig(operand)))
+    let operand = last_typed(alloc, tokens)?;
+    Ok(InstSyntax::Sig(operand))
 }
 
 /// Behind `prb`.
 #[tactic(auto, unfolding(crate::specs::Insts::prb_at))]
 fn prb<'a>(alloc: Global, tokens: &Tokens<'a>) -> InstAt<'a>
-    ensures { IfOk result (λ r. option_map inst_of r ≡ prb_at tokens.now) }
+    ensures { FindsAs inst_of result (prb_at tokens.now) }
 {
-    let Some(operand) = last_typed(alloc, tokens)? else {
-        return Ok(None);
-    };
-    Ok(Some(InstSyntax::Prb(operand)))
+    let operand = last_typed(alloc, tokens)?;
+    Ok(InstSyntax::Prb(operand))
 }
 
 /// `T %a,`, and what follows it.
 #[tactic(auto, unfolding(crate::specs::Insts::target_at))]
-fn target<'a>(
-    alloc: Global,
-    tokens: &Tokens<'a>,
-) -> Result<Option<(Operand<'a>, Tokens<'a>)>, NoMemory>
-    ensures { IfOk result (λ r. r ≡ target_at tokens.now) }
+fn target<'a>(alloc: Global, tokens: &Tokens<'a>) -> Result<(Operand<'a>, Tokens<'a>), ScanFault>
+    ensures { Finds result (target_at tokens.now) }
 {
-    let Some((operand, rest)) = typed(alloc, tokens)? else {
-        return Ok(None);
-    };
-    let Some(rest) = rest.punct(b',') else {
-        return Ok(None);
-    };
-    Ok(Some((operand, rest)))
+    let (operand, rest) = typed(alloc, tokens)?;
+    let rest = rest.punct(b',').ok_or(NotSpelled)?;
+    Ok((operand, rest))
 }
 
 /// Behind `st`.
 #[tactic(auto, unfolding(crate::specs::Insts::st_at))]
 fn st<'a>(alloc: Global, tokens: &Tokens<'a>) -> InstAt<'a>
-    ensures { IfOk result (λ r. option_map inst_of r ≡ st_at tokens.now) }
+    ensures { FindsAs inst_of result (st_at tokens.now) }
 {
-    let Some((to, rest)) = target(alloc, tokens)? else {
-        return Ok(None);
-    };
-    let Some(value) = last_local(&rest) else {
-        return Ok(None);
-    };
-    Ok(Some(InstSyntax::St { to, value }))
+    let (to, rest) = target(alloc, tokens)?;
+    let value = last_local(&rest).ok_or(NotSpelled)?;
+    Ok(InstSyntax::St { to, value })
 }
 
 /// `%d if %c`, where `if %c` may be absent.
@@ -187,121 +162,79 @@ fn delay<'a>(tokens: &Tokens<'a>) -> Option<(NameText<'a>, Option<NameText<'a>>)
 /// Behind `drv`.
 #[tactic(auto, unfolding(crate::specs::Insts::drv_at))]
 fn drv<'a>(alloc: Global, tokens: &Tokens<'a>) -> InstAt<'a>
-    ensures { IfOk result (λ r. option_map inst_of r ≡ drv_at tokens.now) }
+    ensures { FindsAs inst_of result (drv_at tokens.now) }
 {
-    let Some((to, rest)) = target(alloc, tokens)? else {
-        return Ok(None);
-    };
-    let Some((value, rest)) = rest.local() else {
-        return Ok(None);
-    };
-    let Some((after, cond)) = delay(&rest) else {
-        return Ok(None);
-    };
-    Ok(Some(InstSyntax::Drv {
+    let (to, rest) = target(alloc, tokens)?;
+    let (value, rest) = rest.local().ok_or(NotSpelled)?;
+    let (after, cond) = delay(&rest).ok_or(NotSpelled)?;
+    Ok(InstSyntax::Drv {
         to,
         value,
         after,
         cond,
-    }))
+    })
 }
 
 /// Behind `reg`.
 #[tactic(auto, unfolding(crate::specs::Insts::reg_at))]
 fn reg<'a>(alloc: Global, tokens: &Tokens<'a>) -> InstAt<'a>
-    ensures { IfOk result (λ r. option_map inst_of r ≡ reg_at tokens.now) }
+    ensures { FindsAs inst_of result (reg_at tokens.now) }
 {
-    let Some((to, rest)) = target(alloc, tokens)? else {
-        return Ok(None);
-    };
-    let Some((triggers, rest)) = parts(alloc, &rest)? else {
-        return Ok(None);
-    };
-    if rest.end().is_none() {
-        return Ok(None);
-    }
-    Ok(Some(InstSyntax::Reg { to, triggers }))
+    let (to, rest) = target(alloc, tokens)?;
+    let (triggers, rest) = parts(alloc, &rest)?;
+    rest.end().ok_or(NotSpelled)?;
+    Ok(InstSyntax::Reg { to, triggers })
 }
 
 /// Operands in parentheses, and what follows them.
 #[tactic(auto, unfolding(crate::specs::Insts::operands_at))]
-fn operands<'a>(alloc: Global, tokens: &Tokens<'a>) -> Result<OperandsAt<'a>, NoMemory>
-    ensures { IfOk result (λ r. r ≡ operands_at tokens.now) }
+fn operands<'a>(alloc: Global, tokens: &Tokens<'a>) -> OperandsAt<'a>
+    ensures { Finds result (operands_at tokens.now) }
 {
-    let Some(rest) = tokens.punct(b'(') else {
-        return Ok(None);
-    };
-    let Some((operands, rest)) = list(alloc, &rest, b')')? else {
-        return Ok(None);
-    };
-    let Some(rest) = rest.punct(b')') else {
-        return Ok(None);
-    };
-    Ok(Some((operands, rest)))
+    let rest = tokens.punct(b'(').ok_or(NotSpelled)?;
+    let (operands, rest) = list(alloc, &rest, b')')?;
+    let rest = rest.punct(b')').ok_or(NotSpelled)?;
+    Ok((operands, rest))
 }
 
 /// Behind `inst`.
 #[tactic(auto, unfolding(crate::specs::Insts::child_at))]
 fn child<'a>(alloc: Global, tokens: &Tokens<'a>) -> InstAt<'a>
-    ensures { IfOk result (λ r. option_map inst_of r ≡ child_at tokens.now) }
+    ensures { FindsAs inst_of result (child_at tokens.now) }
 {
-    let Some((unit, rest)) = tokens.unit_name() else {
-        return Ok(None);
-    };
-    let Some((inputs, rest)) = operands(alloc, &rest)? else {
-        return Ok(None);
-    };
-    let Some(rest) = rest.arrow() else {
-        return Ok(None);
-    };
-    let Some((outputs, rest)) = operands(alloc, &rest)? else {
-        return Ok(None);
-    };
-    if rest.end().is_none() {
-        return Ok(None);
-    }
-    Ok(Some(InstSyntax::Child {
+    let (unit, rest) = tokens.unit_name().ok_or(NotSpelled)?;
+    let (inputs, rest) = operands(alloc, &rest)?;
+    let rest = rest.arrow().ok_or(NotSpelled)?;
+    let (outputs, rest) = operands(alloc, &rest)?;
+    rest.end().ok_or(NotSpelled)?;
+    Ok(InstSyntax::Child {
         unit,
         inputs,
         outputs,
-    }))
+    })
 }
 
 /// Behind `call`.
 #[tactic(auto, unfolding(crate::specs::Insts::call_at))]
 fn call<'a>(alloc: Global, tokens: &Tokens<'a>) -> InstAt<'a>
-    ensures { IfOk result (λ r. option_map inst_of r ≡ call_at tokens.now) }
+    ensures { FindsAs inst_of result (call_at tokens.now) }
 {
-    let Some((result, rest)) = ty(alloc, tokens)? else {
-        return Ok(None);
-    };
-    let Some((unit, rest)) = rest.unit_name() else {
-        return Ok(None);
-    };
-    let Some((args, rest)) = operands(alloc, &rest)? else {
-        return Ok(None);
-    };
-    if rest.end().is_none() {
-        return Ok(None);
-    }
-    Ok(Some(InstSyntax::Call { unit, result, args }))
+    let (result, rest) = ty(alloc, tokens)?;
+    let (unit, rest) = rest.unit_name().ok_or(NotSpelled)?;
+    let (args, rest) = operands(alloc, &rest)?;
+    rest.end().ok_or(NotSpelled)?;
+    Ok(InstSyntax::Call { unit, result, args })
 }
 
 /// Behind `phi`.
 #[tactic(auto, unfolding(crate::specs::Insts::phi_at))]
 fn phi<'a>(alloc: Global, tokens: &Tokens<'a>) -> InstAt<'a>
-    ensures { IfOk result (λ r. option_map inst_of r ≡ phi_at tokens.now) }
+    ensures { FindsAs inst_of result (phi_at tokens.now) }
 {
-    let Some((ty, rest)) = ty(alloc, tokens)? else {
-        return Ok(None);
-    };
-    let Some((edges, rest)) = parts(alloc, &rest)? else {
-        return Ok(None);
-    };
-    if rest.end().is_none() {
-        return Ok(None);
-    }
-    Ok(Some(InstSyntax::Phi { ty, edges }))
+    let (ty, rest) = ty(alloc, tokens)?;
+    let (edges, rest) = parts(alloc, &rest)?;
+    rest.end().ok_or(NotSpelled)?;
+    Ok(InstSyntax::Phi { ty, edges })
 }
 
 /// `, %f, %t`, behind a condition.
@@ -330,21 +263,13 @@ fn br<'a>(tokens: &Tokens<'a>) -> Option<InstSyntax<'a>>
 /// Behind `wait`.
 #[tactic(auto, unfolding(crate::specs::Insts::wait_at))]
 fn wait<'a>(alloc: Global, tokens: &Tokens<'a>) -> InstAt<'a>
-    ensures { IfOk result (λ r. option_map inst_of r ≡ wait_at tokens.now) }
+    ensures { FindsAs inst_of result (wait_at tokens.now) }
 {
-    let Some((to, rest)) = tokens.local() else {
-        return Ok(None);
-    };
-    let Some((after, rest)) = maybe(b"for", &rest) else {
-        return Ok(None);
-    };
-    let Some((signals, rest)) = behind(alloc, &rest)? else {
-        return Ok(None);
-    };
-    if rest.end().is_none() {
-        return Ok(None);
-    }
-    Ok(Some(InstSyntax::Wait { to, after, signals }))
+    let (to, rest) = tokens.local().ok_or(NotSpelled)?;
+    let (after, rest) = maybe(b"for", &rest).ok_or(NotSpelled)?;
+    let (signals, rest) = behind(alloc, &rest)?;
+    rest.end().ok_or(NotSpelled)?;
+    Ok(InstSyntax::Wait { to, after, signals })
 }
 
 /// Behind `halt`.
@@ -359,20 +284,18 @@ fn halt<'a>(tokens: &Tokens) -> Option<InstSyntax<'a>>
 /// Behind `ret`.
 #[tactic(auto, unfolding(crate::specs::Insts::ret_at))]
 fn ret<'a>(alloc: Global, tokens: &Tokens<'a>) -> InstAt<'a>
-    ensures { IfOk result (λ r. option_map inst_of r ≡ ret_at tokens.now) }
+    ensures { FindsAs inst_of result (ret_at tokens.now) }
 {
     if tokens.end().is_some() {
-        return Ok(Some(InstSyntax::Ret(None)));
+        return Ok(InstSyntax::Ret(None));
     }
-    let Some(value) = last_typed(alloc, tokens)? else {
-        return Ok(None);
-    };
-    Ok(Some(InstSyntax::Ret(Some(value))))
+    let value = last_typed(alloc, tokens)?;
+    Ok(InstSyntax::Ret(Some(value)))
 }
 
 /// What a word begins, behind it.
 fn formed<'a>(alloc: Global, form: Form, tokens: &Tokens<'a>) -> InstAt<'a>
-    ensures { IfOk result (λ r. option_map inst_of r ≡ form_at form tokens.now) }
+    ensures { FindsAs inst_of result (form_at form tokens.now) }
 {
     match form {
         Form::Const => const_inst(alloc, tokens),
@@ -387,9 +310,9 @@ fn formed<'a>(alloc: Global, form: Form, tokens: &Tokens<'a>) -> InstAt<'a>
         Form::Child => child(alloc, tokens),
         Form::Call => call(alloc, tokens),
         Form::Phi => phi(alloc, tokens),
-        Form::Br => Ok(br(tokens)),
+        Form::Br => br(tokens).ok_or(NotSpelled),
         Form::Wait => wait(alloc, tokens),
-        Form::Halt => Ok(halt(tokens)),
+        Form::Halt => halt(tokens).ok_or(NotSpelled),
         Form::Ret => ret(alloc, tokens),
     }
 }
@@ -397,18 +320,16 @@ fn formed<'a>(alloc: Global, form: Form, tokens: &Tokens<'a>) -> InstAt<'a>
 /// An instruction that begins with this word, behind it.
 #[tactic(auto, unfolding(crate::specs::Insts::worded_at))]
 pub fn worded<'a>(alloc: Global, word: &[u8], tokens: &Tokens<'a>) -> InstAt<'a>
-    ensures { IfOk result (λ r. option_map inst_of r ≡ worded_at word.now tokens.now) }
+    ensures { FindsAs inst_of result (worded_at word.now tokens.now) }
 {
-    let Some(form) = find_form(word) else {
-        return Ok(None);
-    };
+    let form = find_form(word).ok_or(NotSpelled)?;
     formed(alloc, form, tokens)
 }
 
 /// An instruction that begins with this mark, behind it.
 #[tactic(auto, unfolding(crate::specs::Insts::marked_at))]
 fn marked<'a>(alloc: Global, mark: u8, tokens: &Tokens<'a>) -> InstAt<'a>
-    ensures { IfOk result (λ r. option_map inst_of r ≡ marked_at mark tokens.now) }
+    ensures { FindsAs inst_of result (marked_at mark tokens.now) }
 {
     if mark == b'[' {
         return bracket(alloc, tokens);
@@ -416,20 +337,18 @@ fn marked<'a>(alloc: Global, mark: u8, tokens: &Tokens<'a>) -> InstAt<'a>
     if mark == b'{' {
         return tuple(alloc, tokens);
     }
-    Ok(None)
+    Err(NotSpelled)
 }
 
 /// The instruction that the tokens spell.
 #[tactic(auto, unfolding(crate::specs::Insts::inst_at))]
 pub fn inst<'a>(alloc: Global, tokens: &Tokens<'a>) -> InstAt<'a>
-    ensures { IfOk result (λ r. option_map inst_of r ≡ inst_at tokens.now) }
+    ensures { FindsAs inst_of result (inst_at tokens.now) }
 {
-    let Some((first, rest)) = tokens.first() else {
-        return Ok(None);
-    };
+    let (first, rest) = tokens.first().ok_or(NotSpelled)?;
     match first {
         Lex::Word(word) => worded(alloc, word, &rest),
         Lex::Punct(mark) => marked(alloc, mark, &rest),
-        _ => Ok(None),
+        _ => Err(NotSpelled),
     }
 }

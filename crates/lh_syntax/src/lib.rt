@@ -1,7 +1,8 @@
 //! From the tokens of a line to what it says.
 #![tactic(auto)]
 
-ghost use Rattle.std.specs.Prelude.{IfOk, option_map};
+ghost use Rattle.std.specs.Prelude.{◌≡◌, IfOk, Some, None, Err};
+ghost use Rattle.lh_scan.specs.declared.fault.ScanFault.TheVariants as fault;
 ghost use Rattle.lh_syntax.specs.SpelledBy.{SpelledBy};
 ghost use Rattle.lh_syntax.specs.SyntaxOf.{item_of};
 
@@ -16,14 +17,15 @@ mod words;
 
 use crate::line::line_item;
 use crate::syntax::LineSyntax;
+use lh_scan::fault::ScanFault;
 use lh_scan::tokens::Tokens;
-use lh_types::ty::NoMemory;
 use std::alloc::Global;
 
-/// What the tokens of a line say, with names where they stand in the line: the one item that they spell, or `None` where
-/// they spell none. The answer speaks of this line alone, and not of where it may stand.
-pub fn item<'a>(alloc: Global, tokens: &Tokens<'a>) -> Result<Option<LineSyntax<'a>>, NoMemory>
-    ensures { IfOk result (λ r. SpelledBy tokens.now (option_map item_of r)) }
+/// What the tokens of a line say, with names where they stand in the line: the one item that they spell, or `NotSpelled`
+/// where they spell none. The answer speaks of this line alone, and not of where it may stand.
+pub fn item<'a>(alloc: Global, tokens: &Tokens<'a>) -> Result<LineSyntax<'a>, ScanFault>
+    ensures said { IfOk result (λ r. SpelledBy tokens.now (Some (item_of r))) }
+    ensures nothing { result ≡ Err fault.NotSpelled → SpelledBy tokens.now None }
 {
     line_item(alloc, tokens)
 }

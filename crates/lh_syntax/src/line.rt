@@ -1,6 +1,7 @@
 //! What the tokens of a line say.
-ghost use Rattle.std.specs.Prelude.{◌≡◌, IfOk, option_map};
-ghost use Rattle.lh_unit.specs.SpellsInst.{is_void as void, gives_value as gives, may_stand_alone as stands_alone};
+ghost use Rattle.std.specs.Prelude.{◌≡◌, option_map};
+ghost use Rattle.lh_scan.specs.Found.{FindsAs};
+ghost use Rattle.lh_unit.specs.SpellsInst.{gives_value as gives, may_stand_alone as stands_alone};
 ghost use Rattle.lh_syntax.specs.SyntaxOf.{inst_of, item_of};
 ghost use Rattle.lh_syntax.specs.Items.{label_at, word_label_at, assigned_at, alone_at, behind_local_at, behind_word_at, close_at, item_at};
 
@@ -8,19 +9,9 @@ use crate::headers::{LineAt, headed};
 use crate::insts::{inst, worded};
 use crate::syntax::{InstSyntax, LineSyntax};
 use crate::words::find_head;
+use lh_scan::fault::ScanFault::NotSpelled;
 use lh_scan::tokens::{Lex, NameText, Tokens};
-use lh_types::ty::{Ty, TyKind};
 use std::alloc::Global;
-
-/// Whether it is `void`.
-fn is_void(ty: &Ty) -> bool
-    ensures { result ≡ void ty.now }
-{
-    match ty.kind() {
-        TyKind::Void => true,
-        _ => false,
-    }
-}
 
 /// Whether the instruction gives a value.
 fn gives_value(inst: &InstSyntax) -> bool
@@ -34,7 +25,7 @@ fn gives_value(inst: &InstSyntax) -> bool
         | InstSyntax::Sig(_)
         | InstSyntax::Prb(_)
         | InstSyntax::Phi { .. } => true,
-        InstSyntax::Call { result, .. } => !is_void(result),
+        InstSyntax::Call { result, .. } => !result.is_void(),
         _ => false,
     }
 }
@@ -70,52 +61,46 @@ fn word_label<'a>(tokens: &Tokens<'a>, rest: &Tokens) -> Option<LineSyntax<'a>>
 /// An instruction, behind the name of its result.
 #[tactic(auto, unfolding(crate::specs::Items::assigned_at))]
 fn assigned<'a>(alloc: Global, name: NameText<'a>, tokens: &Tokens<'a>) -> LineAt<'a>
-    ensures { IfOk result (λ r. option_map item_of r ≡ assigned_at name.entry tokens.now) }
+    ensures { FindsAs item_of result (assigned_at name.entry tokens.now) }
 {
-    let Some(rest) = tokens.punct(b'=') else {
-        return Ok(None);
-    };
-    let Some(inst) = inst(alloc, &rest)? else {
-        return Ok(None);
-    };
+    let rest = tokens.punct(b'=').ok_or(NotSpelled)?;
+    let inst = inst(alloc, &rest)?;
     if !gives_value(&inst) {
-        return Ok(None);
+        return Err(NotSpelled);
     }
     let result = Some(name);
-    Ok(Some(LineSyntax::Inst { result, inst }))
+    Ok(LineSyntax::Inst { result, inst })
 }
 
 /// An instruction without a result, behind its word.
 #[tactic(auto, unfolding(crate::specs::Items::alone_at))]
 fn alone<'a>(alloc: Global, word: &[u8], tokens: &Tokens<'a>) -> LineAt<'a>
-    ensures { IfOk result (λ r. option_map item_of r ≡ alone_at word.now tokens.now) }
+    ensures { FindsAs item_of result (alone_at word.now tokens.now) }
 {
-    let Some(inst) = worded(alloc, word, tokens)? else {
-        return Ok(None);
-    };
+    let inst = worded(alloc, word, tokens)?;
     if !may_stand_alone(&inst) {
-        return Ok(None);
+        return Err(NotSpelled);
     }
     let result = None;
-    Ok(Some(LineSyntax::Inst { result, inst }))
+    Ok(LineSyntax::Inst { result, inst })
 }
 
 /// A line behind `%r`.
 fn behind_local<'a>(alloc: Global, name: NameText<'a>, tokens: &Tokens<'a>) -> LineAt<'a>
-    ensures { IfOk result (λ r. option_map item_of r ≡ behind_local_at name.entry tokens.now) }
+    ensures { FindsAs item_of result (behind_local_at name.entry tokens.now) }
 {
     match tokens.punct(b':') {
-        Some(rest) => Ok(label(name, &rest)),
+        Some(rest) => label(name, &rest).ok_or(NotSpelled),
         None => assigned(alloc, name, tokens),
     }
 }
 
 /// A line behind its first word; `tokens` are all of the line.
 fn behind_word<'a>(alloc: Global, word: &[u8], tokens: &Tokens<'a>, rest: &Tokens<'a>) -> LineAt<'a>
-    ensures { IfOk result (λ r. option_map item_of r ≡ behind_word_at word.now tokens.now rest.now) }
+    ensures { FindsAs item_of result (behind_word_at word.now tokens.now rest.now) }
 {
     if let Some(end) = rest.punct(b':') {
-        return Ok(word_label(tokens, &end));
+        return word_label(tokens, &end).ok_or(NotSpelled);
     }
     match find_head(word) {
         Some(head) => headed(alloc, head, rest),
@@ -138,15 +123,15 @@ fn close<'a>(mark: u8, tokens: &Tokens) -> Option<LineSyntax<'a>>
 /// The item that the tokens spell.
 #[tactic(auto, unfolding(crate::specs::Items::item_at))]
 pub fn line_item<'a>(alloc: Global, tokens: &Tokens<'a>) -> LineAt<'a>
-    ensures { IfOk result (λ r. option_map item_of r ≡ item_at tokens.now) }
+    ensures { FindsAs item_of result (item_at tokens.now) }
 {
     let Some((first, rest)) = tokens.first() else {
-        return Ok(Some(LineSyntax::Empty));
+        return Ok(LineSyntax::Empty);
     };
     match first {
         Lex::Word(word) => behind_word(alloc, word, tokens, &rest),
         Lex::Local(name) => behind_local(alloc, name, &rest),
-        Lex::Punct(mark) => Ok(close(mark, &rest)),
-        _ => Ok(None),
+        Lex::Punct(mark) => close(mark, &rest).ok_or(NotSpelled),
+        _ => Err(NotSpelled),
     }
 }

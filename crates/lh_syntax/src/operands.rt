@@ -1,35 +1,29 @@
 //! The operands in front of the tokens, and the other parts of which lists are made.
-ghost use Rattle.std.specs.Prelude.{◌≡◌, IfOk};
+ghost use Rattle.std.specs.Prelude.{◌≡◌};
+ghost use Rattle.lh_scan.specs.Found.{Finds};
 ghost use Rattle.lh_syntax.specs.Operands.{typed_at, bare_at, free_at, one_at, next_bare_at, next_free_at, two_at, shift_at, columns_at, maybe_at, trigger_at, edge_at, param_at};
 
 use crate::syntax::{Edge, Operand, Param, Trigger};
 use crate::words::{Columns, find_mode};
+use lh_scan::fault::ScanFault::{self, NotSpelled};
 use lh_scan::list::Part;
 use lh_scan::tokens::{NameText, Tokens};
 use lh_scan::types::ty;
 use lh_types::list::ListOf;
-use lh_types::ty::NoMemory;
 use std::alloc::Global;
 
 /// Operands, and what follows them.
-pub type OperandsAt<'a> = Option<(ListOf<Operand<'a>>, Tokens<'a>)>;
+pub type OperandsAt<'a> = Result<(ListOf<Operand<'a>>, Tokens<'a>), ScanFault>;
 
 /// `T %a`, and what follows it.
 #[tactic(auto, unfolding(crate::specs::Operands::typed_at))]
-pub fn typed<'a>(
-    alloc: Global,
-    tokens: &Tokens<'a>,
-) -> Result<Option<(Operand<'a>, Tokens<'a>)>, NoMemory>
-    ensures { IfOk result (λ r. r ≡ typed_at tokens.now) }
+pub fn typed<'a>(alloc: Global, tokens: &Tokens<'a>) -> Result<(Operand<'a>, Tokens<'a>), ScanFault>
+    ensures { Finds result (typed_at tokens.now) }
 {
-    let Some((ty, rest)) = ty(alloc, tokens)? else {
-        return Ok(None);
-    };
-    let Some((value, rest)) = rest.local() else {
-        return Ok(None);
-    };
+    let (ty, rest) = ty(alloc, tokens)?;
+    let (value, rest) = rest.local().ok_or(NotSpelled)?;
     let ty = Some(ty);
-    Ok(Some((Operand { value, ty }, rest)))
+    Ok((Operand { value, ty }, rest))
 }
 
 /// `%a`, and what follows it.
@@ -43,14 +37,11 @@ pub fn bare<'a>(tokens: &Tokens<'a>) -> Option<(Operand<'a>, Tokens<'a>)>
 
 /// `?T %a`, and what follows it.
 #[tactic(auto, unfolding(crate::specs::Operands::free_at))]
-pub fn free<'a>(
-    alloc: Global,
-    tokens: &Tokens<'a>,
-) -> Result<Option<(Operand<'a>, Tokens<'a>)>, NoMemory>
-    ensures { IfOk result (λ r. r ≡ free_at tokens.now) }
+pub fn free<'a>(alloc: Global, tokens: &Tokens<'a>) -> Result<(Operand<'a>, Tokens<'a>), ScanFault>
+    ensures { Finds result (free_at tokens.now) }
 {
     if let Some(operand) = bare(tokens) {
-        return Ok(Some(operand));
+        return Ok(operand);
     }
     typed(alloc, tokens)
 }
@@ -61,10 +52,7 @@ impl<'a> Part<'a> for Operand<'a> {
 
     ghost part_at = { free_at };
 
-    fn part(
-        alloc: Global,
-        tokens: &Tokens<'a>,
-    ) -> Result<Option<(Operand<'a>, Tokens<'a>)>, NoMemory> {
+    fn part(alloc: Global, tokens: &Tokens<'a>) -> Result<(Operand<'a>, Tokens<'a>), ScanFault> {
         free(alloc, tokens)
     }
 
@@ -73,15 +61,13 @@ impl<'a> Part<'a> for Operand<'a> {
 
 /// `D %a`, and what follows it.
 #[tactic(auto, unfolding(crate::specs::Operands::one_at))]
-fn one<'a>(alloc: Global, tokens: &Tokens<'a>) -> Result<OperandsAt<'a>, NoMemory>
-    ensures { IfOk result (λ r. r ≡ one_at tokens.now) }
+fn one<'a>(alloc: Global, tokens: &Tokens<'a>) -> OperandsAt<'a>
+    ensures { Finds result (one_at tokens.now) }
 {
-    let Some((a, rest)) = typed(alloc, tokens)? else {
-        return Ok(None);
-    };
+    let (a, rest) = typed(alloc, tokens)?;
     let mut operands = ListOf::new(alloc);
     operands.push(a)?;
-    Ok(Some((operands, rest)))
+    Ok((operands, rest))
 }
 
 /// `, %a`, and what follows it.
@@ -94,62 +80,43 @@ fn next_bare<'a>(tokens: &Tokens<'a>) -> Option<(Operand<'a>, Tokens<'a>)>
 
 /// `D %a, %b`, and what follows it.
 #[tactic(auto, unfolding(crate::specs::Operands::two_at))]
-fn two<'a>(alloc: Global, tokens: &Tokens<'a>) -> Result<OperandsAt<'a>, NoMemory>
-    ensures { IfOk result (λ r. r ≡ two_at tokens.now) }
+fn two<'a>(alloc: Global, tokens: &Tokens<'a>) -> OperandsAt<'a>
+    ensures { Finds result (two_at tokens.now) }
 {
-    let Some((a, rest)) = typed(alloc, tokens)? else {
-        return Ok(None);
-    };
-    let Some((b, rest)) = next_bare(&rest) else {
-        return Ok(None);
-    };
+    let (a, rest) = typed(alloc, tokens)?;
+    let (b, rest) = next_bare(&rest).ok_or(NotSpelled)?;
     let mut operands = ListOf::new(alloc);
     operands.push(a)?;
     operands.push(b)?;
-    Ok(Some((operands, rest)))
+    Ok((operands, rest))
 }
 
 /// `, ?%a`, and what follows it.
-fn next_free<'a>(
-    alloc: Global,
-    tokens: &Tokens<'a>,
-) -> Result<Option<(Operand<'a>, Tokens<'a>)>, NoMemory>
-    ensures { IfOk result (λ r. r ≡ next_free_at tokens.now) }
+fn next_free<'a>(alloc: Global, tokens: &Tokens<'a>) -> Result<(Operand<'a>, Tokens<'a>), ScanFault>
+    ensures { Finds result (next_free_at tokens.now) }
 {
-    let Some(rest) = tokens.punct(b',') else {
-        return Ok(None);
-    };
+    let rest = tokens.punct(b',').ok_or(NotSpelled)?;
     free(alloc, &rest)
 }
 
 /// `D %b, ?%h, ?%n`, and what follows it.
 #[tactic(auto, unfolding(crate::specs::Operands::shift_at))]
-fn shift<'a>(alloc: Global, tokens: &Tokens<'a>) -> Result<OperandsAt<'a>, NoMemory>
-    ensures { IfOk result (λ r. r ≡ shift_at tokens.now) }
+fn shift<'a>(alloc: Global, tokens: &Tokens<'a>) -> OperandsAt<'a>
+    ensures { Finds result (shift_at tokens.now) }
 {
-    let Some((base, rest)) = typed(alloc, tokens)? else {
-        return Ok(None);
-    };
-    let Some((hidden, rest)) = next_free(alloc, &rest)? else {
-        return Ok(None);
-    };
-    let Some((amount, rest)) = next_free(alloc, &rest)? else {
-        return Ok(None);
-    };
+    let (base, rest) = typed(alloc, tokens)?;
+    let (hidden, rest) = next_free(alloc, &rest)?;
+    let (amount, rest) = next_free(alloc, &rest)?;
     let mut operands = ListOf::new(alloc);
     operands.push(base)?;
     operands.push(hidden)?;
     operands.push(amount)?;
-    Ok(Some((operands, rest)))
+    Ok((operands, rest))
 }
 
 /// The operands of an operation, and what follows them.
-pub fn columns<'a>(
-    alloc: Global,
-    columns: Columns,
-    tokens: &Tokens<'a>,
-) -> Result<OperandsAt<'a>, NoMemory>
-    ensures { IfOk result (λ r. r ≡ columns_at columns tokens.now) }
+pub fn columns<'a>(alloc: Global, columns: Columns, tokens: &Tokens<'a>) -> OperandsAt<'a>
+    ensures { Finds result (columns_at columns tokens.now) }
 {
     match columns {
         Columns::One => one(alloc, tokens),
@@ -200,11 +167,8 @@ impl<'a> Part<'a> for Trigger<'a> {
 
     ghost part_at = { trigger_at };
 
-    fn part(
-        alloc: Global,
-        tokens: &Tokens<'a>,
-    ) -> Result<Option<(Trigger<'a>, Tokens<'a>)>, NoMemory> {
-        Ok(trigger(tokens))
+    fn part(alloc: Global, tokens: &Tokens<'a>) -> Result<(Trigger<'a>, Tokens<'a>), ScanFault> {
+        trigger(tokens).ok_or(NotSpelled)
     }
 
     ghost shorter = { trigger_at-shorter };
@@ -227,11 +191,8 @@ impl<'a> Part<'a> for Edge<'a> {
 
     ghost part_at = { edge_at };
 
-    fn part(
-        alloc: Global,
-        tokens: &Tokens<'a>,
-    ) -> Result<Option<(Edge<'a>, Tokens<'a>)>, NoMemory> {
-        Ok(edge(tokens))
+    fn part(alloc: Global, tokens: &Tokens<'a>) -> Result<(Edge<'a>, Tokens<'a>), ScanFault> {
+        edge(tokens).ok_or(NotSpelled)
     }
 
     ghost shorter = { edge_at-shorter };
@@ -244,17 +205,10 @@ impl<'a> Part<'a> for Param<'a> {
     ghost part_at = { param_at };
 
     #[tactic(auto, unfolding(crate::specs::Operands::param_at))]
-    fn part(
-        alloc: Global,
-        tokens: &Tokens<'a>,
-    ) -> Result<Option<(Param<'a>, Tokens<'a>)>, NoMemory> {
-        let Some((ty, rest)) = ty(alloc, tokens)? else {
-            return Ok(None);
-        };
-        let Some((name, rest)) = rest.local() else {
-            return Ok(None);
-        };
-        Ok(Some((Param { ty, name }, rest)))
+    fn part(alloc: Global, tokens: &Tokens<'a>) -> Result<(Param<'a>, Tokens<'a>), ScanFault> {
+        let (ty, rest) = ty(alloc, tokens)?;
+        let (name, rest) = rest.local().ok_or(NotSpelled)?;
+        Ok((Param { ty, name }, rest))
     }
 
     ghost shorter = { param_at-shorter };

@@ -1,15 +1,16 @@
 //! The operations that have a word.
-ghost use Rattle.std.specs.Prelude.{◌≡◌, IfOk, option_map};
+ghost use Rattle.std.specs.Prelude.{◌≡◌};
+ghost use Rattle.lh_scan.specs.Found.{FindsAs};
 ghost use Rattle.lh_syntax.specs.SyntaxOf.{inst_of};
 ghost use Rattle.lh_syntax.specs.Operations.{behind_number_at, one_number_at, two_numbers_at, numbered_at, word_op_at};
 
 use crate::operands::columns;
 use crate::syntax::InstSyntax;
 use crate::words::Columns;
+use lh_scan::fault::ScanFault::{self, NotSpelled};
 use lh_scan::numbers::count;
 use lh_scan::tokens::Tokens;
 use lh_types::op::Op;
-use lh_types::ty::NoMemory;
 use std::alloc::Global;
 
 /// A comma and a number, and what follows them.
@@ -70,14 +71,10 @@ pub fn word_op<'a>(
     op: Op,
     written: Columns,
     tokens: &Tokens<'a>,
-) -> Result<Option<InstSyntax<'a>>, NoMemory>
-    ensures { IfOk result (λ r. option_map inst_of r ≡ word_op_at op written tokens.now) }
+) -> Result<InstSyntax<'a>, ScanFault>
+    ensures { FindsAs inst_of result (word_op_at op written tokens.now) }
 {
-    let Some((args, rest)) = columns(alloc, written, tokens)? else {
-        return Ok(None);
-    };
-    let Some(op) = numbered(op, &rest) else {
-        return Ok(None);
-    };
-    Ok(Some(InstSyntax::Pure { op, args }))
+    let (args, rest) = columns(alloc, written, tokens)?;
+    let op = numbered(op, &rest).ok_or(NotSpelled)?;
+    Ok(InstSyntax::Pure { op, args })
 }

@@ -1,7 +1,7 @@
 -- A condition means what the conjunction of its conjuncts does.
 use Rattle.std.proofs.Common.{◌≡◌, List, [], ◌∷◌, ◌++◌, Bool, true, false, ◌&&◌, ◌||◌, refl, ap, sym, ◌∙◌, subst}
 use Rattle.std.specs.Bool.{if◌then◌else◌}
-use Rattle.std.specs.List.{list_any}
+use Rattle.std.specs.List.{list_any, filter}
 use Rattle.lh_types.specs.Types.{TypeTree, int_type, row_of, IsData, same_type}
 use Rattle.lh_types.specs.Values.{Datum, int_value, data_row}
 use Rattle.lh_types.specs.Fits.{FitsRow}
@@ -78,6 +78,17 @@ with_bits ks (t ∷ ts) p q = with_bits (with_term ks t) ts (by (list_any (same_
     by : (b : Bool) → AllBits (if b then ks else ks ++ t ∷ [])
     by true = p
     by false = AllBits-append ks (t ∷ []) p (q.0, tt)
+
+pub conjuncts_are_bits : (t : Tree) → IsTyped t → type_of t ≡ int_type 1 → AllBits (conjuncts_of t)
+conjuncts_are_bits t h e = with_bits [] (all_conjuncts t) tt (conjuncts_bits t h e)
+
+pub filter-bits : (f : Tree → Bool) (ts : List Tree) → AllBits ts → AllBits (filter f ts)
+filter-bits f [] h = tt
+filter-bits f (t ∷ ts) h = at (f t) (filter-bits f ts h.1)
+  where
+    at : (b : Bool) → AllBits (filter f ts) → AllBits (if b then t ∷ filter f ts else filter f ts)
+    at true g = (h.0, g)
+    at false g = g
 
 -- ---- their values
 
@@ -212,7 +223,7 @@ from_all k (t ∷ ts) i h =
 pub condition_sound : (t : Tree) → IsTyped t → type_of t ≡ int_type 1 → MeansSame (conjunction (conjuncts_of t)) t
 condition_sound t h e =
     let start : IntTerm (bit_of true) 1 = record { typed = bit_typed true; type = refl } in
-    let r = from_all (bit_of true) (conjuncts_of t) start (with_bits [] (all_conjuncts t) tt (conjuncts_bits t h e)) in
+    let r = from_all (bit_of true) (conjuncts_of t) start (conjuncts_are_bits t h e) in
     let i : IntTerm t 1 = record { typed = h; type = e } in
     record {
       typed = r.bit.typed;

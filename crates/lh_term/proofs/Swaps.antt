@@ -1,10 +1,9 @@
 -- Terms in place of parts' values: their types and what they mean, and what stays as an arena grows.
-use Rattle.std.proofs.Common.{◌≡◌, ℕ, zero, suc, ◌+◌, ◌-◌, ◌<◌, ◌≤◌, Result, Ok, Err, IfOk, List, [], ◌∷◌, ◌++◌, length, map, Bool, true, false, ◌&&◌, nat_lt, refl, ap, sym, ◌∙◌, subst, Option, Some, None, arith, append_assoc, length-append, take, drop, get_or, slice_get, set, replicate, inl, inr, ◌⊎◌}
+use Rattle.std.proofs.Common.{◌≡◌, ℕ, zero, suc, ◌+◌, ◌-◌, ◌<◌, ◌≤◌, Result, Ok, Err, IfOk, List, [], ◌∷◌, ◌++◌, length, map, Bool, true, false, ◌&&◌, nat_lt, refl, ap, sym, ◌∙◌, subst, Some, arith, append_assoc, length-append, take, drop, get_or, slice_get, set, replicate, inl, inr, ◌⊎◌}
 use Rattle.std.specs.Bool.{if◌then◌else◌}
 use Rattle.std.proofs.lemmas.List.{append-nil}
 use Rattle.std.specs.Cmp.{first_so, second_so}
 use Rattle.lh_types.specs.Types.{TypeTree}
-use Rattle.lh_types.specs.Values.{Datum}
 use Rattle.lh_types.specs.ValueOf.{datum_of}
 use Rattle.lh_types.specs.Apply.{apply}
 use Rattle.lh_types.specs.declared.op.Op.{Op}
@@ -17,7 +16,7 @@ use Rattle.lh_term.specs.Make.{make_operation, make_choice}
 use Rattle.lh_term.specs.Arena.{tree_at, term_tree, trees_from, terms_in, trees, trees_at, ids_below, term_below, IsIn, Rising, AllTyped, Stands, Grows}
 use Rattle.lh_term.specs.Subst.{pairs_at, replaced, AreSwaps, SecondsTyped, PairsIn, swapped, swapped_row, past_with, now_with}
 use Rattle.lh_term.specs.Reach.{operands_of, AllSet, Sets, ReachesFrom, Reaches, AllMade, OperandsMade, MadeFor}
-use Rattle.lh_term.specs.Laws.{MeansSame, SwapKeeps}
+use Rattle.lh_term.specs.Laws.{SwapKeeps}
 use Rattle.lh_term.specs.declared.part.Part.{Part}
 use Rattle.lh_term.specs.declared.term.TermId.{TermId}
 use Rattle.lh_term.specs.declared.term.Term.{Term}
@@ -161,7 +160,7 @@ reach_start ns t =
       closed = λ j k h e a. absurd (let p : j < length (set (replicate n false) t.0 true) = get_within _ j true e in omega (arith, len));
     }
 
-here_or_above : (a b : ℕ) → a ≤ b → (b ≡ a) ⊎ (a + 1 ≤ b)
+pub here_or_above : (a b : ℕ) → a ≤ b → (b ≡ a) ⊎ (a + 1 ≤ b)
 here_or_above zero zero h = inl refl
 here_or_above zero (suc b) h = inr (omega arith)
 here_or_above (suc a) zero h = absurd (omega arith)

@@ -1,8 +1,11 @@
 -- The rows of the table of operations that take integers of one width, over whole numbers.
 use Rattle.std.specs.Prelude.{ℕ, ◌+◌, ◌-◌, ◌*◌, ◌/◌, ◌%◌, ◌^◌, Bool, not, ◌==◌, nat_lt, nat_le, if◌then◌else◌, ℤ, pos, negsuc, neg_ℤ, ◌-ℤ◌, unsigned_abs, int_lt, int_le, int_div, int_rem, bit_and, bit_or, bit_xor}
 use Rattle.std.specs.Int.{int_rem_euclid}
+use Rattle.lh_types.specs.Classes.{class_of}
 use Rattle.lh_types.specs.declared.op.Op.{Op}
 use Rattle.lh_types.specs.declared.op.Op.TheVariants.{Not, Neg, Add, Sub, Umul, Smul, Udiv, Sdiv, Umod, Smod, Urem, Srem, And, Or, Xor, Eq, Neq, Slt, Sgt, Sle, Sge, Ult, Ugt, Ule, Uge, Shl, Shr, Mux, Extf, Exts, Insf, Inss, Array, Repeat, Tuple}
+use Rattle.lh_types.specs.declared.op.OpClass.{OpClass}
+use Rattle.lh_types.specs.declared.op.OpClass.TheVariants as class
 
 -- the n bits of a, read in two's complement
 abbrev pub signed : ℕ → ℕ → ℤ
@@ -52,35 +55,53 @@ integer_row Ult n a b = truth (nat_lt a b)
 integer_row Ugt n a b = truth (nat_lt b a)
 integer_row Ule n a b = truth (nat_le a b)
 integer_row Uge n a b = truth (nat_le b a)
-integer_row _ n a b = 0
+-- of no integers of one width, so no row here
+integer_row Shl n a b = 0
+integer_row Shr n a b = 0
+integer_row Mux n a b = 0
+integer_row (Extf k) n a b = 0
+integer_row (Exts at len) n a b = 0
+integer_row (Insf k) n a b = 0
+integer_row (Inss at len) n a b = 0
+integer_row Array n a b = 0
+integer_row (Repeat k) n a b = 0
+integer_row Tuple n a b = 0
+
+-- the operations of the class have a row above
+abbrev pub IsIntegerClass : OpClass → Type 0
+IsIntegerClass class.Unary = Unit {0}
+IsIntegerClass class.Binary = Unit {0}
+IsIntegerClass class.Relation = Unit {0}
+IsIntegerClass class.Equality = Unit {0}
+IsIntegerClass class.Shift = ⊥
+IsIntegerClass class.Select = ⊥
+IsIntegerClass (class.TakePart s) = ⊥
+IsIntegerClass (class.PutPart s) = ⊥
+IsIntegerClass class.Array = ⊥
+IsIntegerClass (class.Repeat n) = ⊥
+IsIntegerClass class.Tuple = ⊥
 
 -- the operations that have a row above
 abbrev pub IsIntegerRow : Op → Type 0
-IsIntegerRow Shl = ⊥
-IsIntegerRow Shr = ⊥
-IsIntegerRow Mux = ⊥
-IsIntegerRow (Extf k) = ⊥
-IsIntegerRow (Exts o n) = ⊥
-IsIntegerRow (Insf k) = ⊥
-IsIntegerRow (Inss o n) = ⊥
-IsIntegerRow Array = ⊥
-IsIntegerRow (Repeat n) = ⊥
-IsIntegerRow Tuple = ⊥
-IsIntegerRow _ = Unit {0}
+IsIntegerRow op = IsIntegerClass (class_of op)
 
--- how many bits the row's value has: one where it compares, else the operands' n
+-- how many bits a row of the class gives: one where it compares, else the operands' n
+abbrev pub class_width : OpClass → ℕ → ℕ
+class_width class.Unary n = n
+class_width class.Binary n = n
+class_width class.Relation n = 1
+class_width class.Equality n = 1
+class_width class.Shift n = n
+class_width class.Select n = n
+class_width (class.TakePart s) n = n
+class_width (class.PutPart s) n = n
+class_width class.Array n = n
+class_width (class.Repeat k) n = n
+class_width class.Tuple n = n
+
+-- how many bits the row's value has
 unfoldable pub row_width : Op → ℕ → ℕ
-row_width Eq n = 1
-row_width Neq n = 1
-row_width Slt n = 1
-row_width Sgt n = 1
-row_width Sle n = 1
-row_width Sge n = 1
-row_width Ult n = 1
-row_width Ugt n = 1
-row_width Ule n = 1
-row_width Uge n = 1
-row_width _ n = n
+row_width op n = class_width (class_of op) n
 
 -- funnel shift up: b moved up k places, the low k bits from the top k bits of h in order
 abbrev pub moved_up : ℕ → ℕ → ℕ → ℕ → ℕ

@@ -5,10 +5,10 @@ use Rattle.lh_types.specs.Values.{Datum, data_row}
 use Rattle.lh_types.specs.Fits.{FitsRow}
 use Rattle.lh_types.specs.Parts.{step_part}
 use Rattle.lh_types.specs.declared.part.Step.{Step}
-use Rattle.lh_types.specs.declared.part.Step.TheVariants.{Field, Slice}
-use Rattle.lh_types.specs.ApplyInt.{IsIntegerRow}
+use Rattle.lh_types.specs.Classes.{class_of}
 use Rattle.lh_types.specs.declared.op.Op.{Op}
-use Rattle.lh_types.specs.declared.op.Op.TheVariants.{Not, Neg, Eq, Neq, Slt, Sgt, Sle, Sge, Ult, Ugt, Ule, Uge, Shl, Shr, Mux, Extf, Exts, Insf, Inss, Array, Repeat, Tuple}
+use Rattle.lh_types.specs.declared.op.OpClass.{OpClass}
+use Rattle.lh_types.specs.declared.op.OpClass.TheVariants as class
 
 -- r is the type of the part of t that the step leads to
 abbrev pub PartHasType : TypeTree → Step → TypeTree → Type 0
@@ -34,37 +34,41 @@ ComparesValues ts r = (t : TypeTree) × (ts ≡ t ∷ t ∷ []) × (r ≡ int_ty
 abbrev pub Shifts : List TypeTree → TypeTree → Type 0
 Shifts ts r = (n w : ℕ) × (ts ≡ int_type n ∷ int_type n ∷ int_type w ∷ []) × (r ≡ int_type n)
 
+-- an operation of the class takes operands of these types and gives a value of type r
+abbrev pub ClassType : OpClass → List TypeTree → TypeTree → Type 0
+ClassType class.Unary ts r = OneInteger ts r
+ClassType class.Binary ts r = TwoIntegers ts r
+ClassType class.Relation ts r = ComparesIntegers ts r
+ClassType class.Equality ts r = ComparesValues ts r
+ClassType class.Shift ts r = Shifts ts r
+ClassType class.Select ts r = (n w : ℕ) × (ts ≡ array_type n r ∷ int_type w ∷ [])
+ClassType (class.TakePart s) ts r = (t : TypeTree) × (ts ≡ t ∷ []) × PartHasType t s r
+ClassType (class.PutPart s) ts r = (p : TypeTree) × (ts ≡ r ∷ p ∷ []) × PartHasType r s p
+ClassType class.Array ts r = (t : TypeTree) × (0 < length ts) × (ts ≡ replicate (length ts) t) × (r ≡ array_type (length ts) t)
+ClassType (class.Repeat n) ts r = (t : TypeTree) × (ts ≡ t ∷ []) × (0 < n) × (r ≡ array_type n t)
+ClassType class.Tuple ts r = (0 < length ts) × (r ≡ tuple_type (row_of ts))
+
 -- the row takes operands of these types and gives a value of type r
 abbrev pub RowType : Op → List TypeTree → TypeTree → Type 0
-RowType Not ts r = OneInteger ts r
-RowType Neg ts r = OneInteger ts r
-RowType Eq ts r = ComparesValues ts r
-RowType Neq ts r = ComparesValues ts r
-RowType Slt ts r = ComparesIntegers ts r
-RowType Sgt ts r = ComparesIntegers ts r
-RowType Sle ts r = ComparesIntegers ts r
-RowType Sge ts r = ComparesIntegers ts r
-RowType Ult ts r = ComparesIntegers ts r
-RowType Ugt ts r = ComparesIntegers ts r
-RowType Ule ts r = ComparesIntegers ts r
-RowType Uge ts r = ComparesIntegers ts r
-RowType Shl ts r = Shifts ts r
-RowType Shr ts r = Shifts ts r
-RowType Mux ts r = (n w : ℕ) × (ts ≡ array_type n r ∷ int_type w ∷ [])
-RowType (Extf k) ts r = (t : TypeTree) × (ts ≡ t ∷ []) × PartHasType t (Field k) r
-RowType (Exts o n) ts r = (t : TypeTree) × (ts ≡ t ∷ []) × PartHasType t (Slice o n) r
-RowType (Insf k) ts r = (p : TypeTree) × (ts ≡ r ∷ p ∷ []) × PartHasType r (Field k) p
-RowType (Inss o n) ts r = (p : TypeTree) × (ts ≡ r ∷ p ∷ []) × PartHasType r (Slice o n) p
-RowType Array ts r = (t : TypeTree) × (0 < length ts) × (ts ≡ replicate (length ts) t) × (r ≡ array_type (length ts) t)
-RowType (Repeat n) ts r = (t : TypeTree) × (ts ≡ t ∷ []) × (0 < n) × (r ≡ array_type n t)
-RowType Tuple ts r = (0 < length ts) × (r ≡ tuple_type (row_of ts))
-RowType _ ts r = TwoIntegers ts r
+RowType op ts r = ClassType (class_of op) ts r
+
+-- the class takes integers of one width alone
+abbrev pub ClassTakesIntegers : OpClass → Type 0
+ClassTakesIntegers class.Unary = Unit {0}
+ClassTakesIntegers class.Binary = Unit {0}
+ClassTakesIntegers class.Relation = Unit {0}
+ClassTakesIntegers class.Equality = ⊥
+ClassTakesIntegers class.Shift = ⊥
+ClassTakesIntegers class.Select = ⊥
+ClassTakesIntegers (class.TakePart s) = ⊥
+ClassTakesIntegers (class.PutPart s) = ⊥
+ClassTakesIntegers class.Array = ⊥
+ClassTakesIntegers (class.Repeat n) = ⊥
+ClassTakesIntegers class.Tuple = ⊥
 
 -- the rows that take integers of one width alone
 abbrev pub TakesIntegers : Op → Type 0
-TakesIntegers Eq = ⊥
-TakesIntegers Neq = ⊥
-TakesIntegers op = IsIntegerRow op
+TakesIntegers op = ClassTakesIntegers (class_of op)
 
 -- the arguments fit the row: they are of data types that the row takes
 pub record FitsOp (op : Op) (vs : List Datum) : Type 0 where

@@ -18,6 +18,7 @@ pub mod PlaceOf
 pub mod SameValue
 pub mod SameValueLaws
 pub mod Laws
+pub mod Classes
 pub mod ApplyInt
 pub mod Apply
 pub mod ApplyTypes

@@ -83,7 +83,7 @@ fn step_into(of: TyKind<'_>, step: Step) -> Option<Place<'_>>
 }
 
 /// Whether `len` items from `at` on are some, and within `n` items.
-fn is_slice(n: u32, at: u32, len: u32) -> bool
+pub fn is_slice(n: u32, at: u32, len: u32) -> bool
     ensures { result ≡ (nat_le 1 len && nat_le (at + len) n) }
 {
     1 <= len && at <= n && len <= n - at

@@ -1,5 +1,5 @@
 -- What is known of the values of a unit, and the unit that it is known of.
-use Rattle.std.specs.Prelude.{◌≡◌, ℕ, suc, ◌<◌, List, length, Bool, true, false, Some, option_map, slice_get}
+use Rattle.std.specs.Prelude.{◌≡◌, ℕ, suc, ◌<◌, List, length, Bool, true, Some, option_map, slice_get}
 use Rattle.std.specs.List.{list_any}
 use Rattle.lh_unit.specs.Contents.{UnitText, ItemText, defines_value, defines_label}
 use Rattle.lh_unit.specs.Typing.{value_type}
@@ -9,6 +9,7 @@ use Rattle.lh_unit.specs.Places.{places}
 use Rattle.lh_unit.specs.WellFormed.{depends_on_probe}
 use Rattle.lh_unit.specs.Naming.{Naming, value_text}
 use Rattle.lh_unit.specs.Within.{Sizes}
+use Rattle.lh_unit.specs.ById.{is_sig}
 use Rattle.lh_unit.specs.Arena.{naming, sizes, table_at, unit_text_at, unit_count, contents}
 use Rattle.lh_unit.specs.declared.inst.ValueId.{ValueId}
 use Rattle.lh_unit.specs.declared.inst.BlockId.{BlockId}
@@ -51,11 +52,6 @@ sizes_in s = sizes s.module.now s.unit.0
 
 unfoldable pub items_in : Scope → List ItemText
 items_in s = contents s.module.now
-
--- an instruction is a `sig`
-abbrev pub is_sig : Inst → Bool
-is_sig (inst.Sig a) = true
-is_sig _ = false
 
 -- one of these instructions is a `sig`
 abbrev pub any_sig : List Line → Bool

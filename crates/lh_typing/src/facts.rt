@@ -64,38 +64,19 @@ fn tell_all(
 fn no_facts(alloc: Global, values: u32) -> Result<Vec<Fact>, NoMemory>
     ensures { IfOk result (λ facts. facts.items ≡ replicate values blank) }
 {
-    let mut facts = Vec::new(alloc);
-    for _ in 0..values {
-        put_blank(&mut facts)?;
-    }
-    Ok(facts)
-}
-
-fn put_blank(facts: &mut Vec<Fact>) -> Result<(), NoMemory>
-    ensures { OnOk result (facts.new.items ≡ facts.old.items ++ blank ∷ []) }
-{
-    let fact = Fact {
+    let blank = Fact {
         defined: false,
         kind: None,
         ty: None,
     };
-    match facts.push(fact) {
-        Ok(()) => Ok(()),
-        Err(_) => Err(NoMemory),
-    }
+    Ok(vec![in alloc; blank; values as usize]?)
 }
 
 /// This many marks of which none is set; an error only for want of memory.
 pub fn no_marks(alloc: Global, values: u32) -> Result<Vec<bool>, NoMemory>
     ensures { IfOk result (λ marks. marks.items ≡ replicate values false) }
 {
-    let mut marks = Vec::new(alloc);
-    for _ in 0..values {
-        if marks.push(false).is_err() {
-            return Err(NoMemory);
-        }
-    }
-    Ok(marks)
+    Ok(vec![in alloc; false; values as usize]?)
 }
 
 /// Tells the results of all instructions; of two that give one value, the first tells.

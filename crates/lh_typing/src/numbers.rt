@@ -161,6 +161,7 @@ impl Types {
     pub fn same(&self, number: u32, other: u32) -> bool
         ensures { (t u : TypeTree) → slice_get self.now number ≡ Some t → slice_get self.now other ≡ Some u → result ≡ same_type t u }
     {
+        // That no type has two numbers is known where the set is named.
         let _ = &self.set;
         number == other
     }

@@ -3,7 +3,7 @@ ghost use Rattle.std.specs.Prelude.{◌≡◌, map};
 ghost use Rattle.std.specs.List.{list_all};
 ghost use Rattle.lh_unit.specs.Naming.{operand_text};
 ghost use Rattle.lh_unit.specs.Typing.{first_type};
-ghost use Rattle.lh_unit.specs.TypingRows.{shifts, selects, takes_part as row_takes_part, puts_part as row_puts_part, operation_row, row_fits as text_row_fits, operation_fits as text_operation_fits};
+ghost use Rattle.lh_unit.specs.TypingRows.{shifts, selects, takes_part as row_takes_part, puts_part as row_puts_part, class_row, operation_row, row_fits as text_row_fits, operation_fits as text_operation_fits};
 ghost use Rattle.lh_unit.specs.Within.{Each, OperandWithin};
 ghost use Rattle.lh_typing.specs.Fitting.{field_fits as text_field_fits};
 ghost use Rattle.lh_typing.specs.Told.{IsScope, text_in, naming_in, sizes_in};
@@ -11,7 +11,7 @@ ghost use Rattle.lh_typing.specs.Told.{IsScope, text_in, naming_in, sizes_in};
 use crate::operands::{agrees, all_have, has_and_agrees, has_array_of, has_integer, has_type};
 use crate::scope::Scope;
 use crate::types::is_part_of;
-use lh_types::op::Op;
+use lh_types::op::{Op, OpClass};
 use lh_types::part::Step;
 use lh_types::ty::{Ty, carries_data};
 use lh_unit::inst::Typed;
@@ -26,29 +26,29 @@ pub fn operation_fits(scope: &Scope<'_>, op: Op, args: &[Typed]) -> bool
         None => false,
         Some((first, _)) => match &first.ty {
             None => false,
-            Some(ty) => row_fits(scope, op, ty, args),
+            Some(ty) => row_fits(scope, op.class(), ty, args),
         },
     }
 }
 
-/// The same, by the type that is written first.
-fn row_fits(scope: &Scope<'_>, op: Op, ty: &Ty, args: &[Typed]) -> bool
+/// Whether the operands fit the row of their class, by the type that is written first.
+fn row_fits(scope: &Scope<'_>, class: OpClass, ty: &Ty, args: &[Typed]) -> bool
     requires scope { IsScope scope.now }
     requires within { Each (OperandWithin (sizes_in scope.now)) args.now }
-    ensures { result ≡ text_row_fits (text_in scope.now) (operation_row op) ty.now (map (operand_text (naming_in scope.now)) args.now) }
+    ensures { result ≡ text_row_fits (text_in scope.now) (class_row class) ty.now (map (operand_text (naming_in scope.now)) args.now) }
 {
-    match op {
-        Op::Eq | Op::Neq | Op::Array | Op::Repeat(_) => {
+    match class {
+        OpClass::Unary | OpClass::Binary | OpClass::Relation => {
+            ty.is_integer() && all_have(scope, ty, args)
+        }
+        OpClass::Equality | OpClass::Array | OpClass::Repeat(_) => {
             carries_data(ty) && all_have(scope, ty, args)
         }
-        Op::Shl | Op::Shr => shift_fits(scope, ty, args),
-        Op::Mux => mux_fits(scope, ty, args),
-        Op::Extf(k) => part_fits(scope, Step::Field(k), ty, args),
-        Op::Exts { at, len } => part_fits(scope, Step::Slice { at, len }, ty, args),
-        Op::Insf(k) => insertion_fits(scope, Step::Field(k), ty, args),
-        Op::Inss { at, len } => insertion_fits(scope, Step::Slice { at, len }, ty, args),
-        Op::Tuple => fields_fit(scope, args),
-        _ => ty.is_integer() && all_have(scope, ty, args),
+        OpClass::Shift => shift_fits(scope, ty, args),
+        OpClass::Select => mux_fits(scope, ty, args),
+        OpClass::TakePart(step) => part_fits(scope, step, ty, args),
+        OpClass::PutPart(step) => insertion_fits(scope, step, ty, args),
+        OpClass::Tuple => fields_fit(scope, args),
     }
 }
 

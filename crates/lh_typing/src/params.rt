@@ -14,9 +14,10 @@ pub type NumberList = ListOf<u32>;
 
 /// By the ids of units, the numbers of the types of their parameters, where a type that has no number yet gets one; an error only for want of memory.
 pub fn params(alloc: Global, m: &Module, types: &mut Types) -> Result<Vec<NumberList>, NoMemory>
-    ensures { IfOk result (λ params. NumbersParams types.new m.now params.items) }
+    ensures numbers { IfOk result (λ params. NumbersParams types.new m.now params.items) }
+    ensures grows { OnOk result (Grows types.old types.new) }
 {
-    let mut params = Vec::new(alloc);
+    let mut params = Vec::with_capacity(alloc, m.units() as usize)?;
     for unit in 0..m.units() {
         let own = m.args(UnitId(unit));
         let numbers = arg_numbers(alloc, own, types)?;
@@ -39,7 +40,7 @@ fn arg_numbers(alloc: Global, args: &[Arg], types: &mut Types) -> Result<NumberL
     ensures numbers { IfOk result (λ list. AreNumbersOf types.new args.now list) }
     ensures grows { OnOk result (Grows types.old types.new) }
 {
-    let mut list = NumberList::new(alloc);
+    let mut list = NumberList::with_room(alloc, args.len())?;
     for arg in args {
         let place = types.number(arg.ty.copy()?)?;
         list.push(place)?;

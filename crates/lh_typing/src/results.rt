@@ -6,12 +6,12 @@ ghost use Rattle.lh_types.specs.Kind.{type_of_kind};
 ghost use Rattle.lh_types.specs.ValueOf.{datum_of};
 ghost use Rattle.lh_types.specs.Faults.{Makes};
 ghost use Rattle.lh_unit.specs.Naming.{Naming, operand_text, inst_text};
-ghost use Rattle.lh_unit.specs.Typing.{if_made, constant_type as datum_type, array_made, tuple_made, first_type as texts_first, operand_types as texts_written, pointer_to, signal_of, pointed, carried, operation_type as texts_type, result_type as text_type};
+ghost use Rattle.lh_unit.specs.Typing.{if_made, constant_type as datum_type, array_made, tuple_made, first_type as texts_first, operand_types as texts_written, pointer_to, signal_of, pointed, carried, class_type as texts_type, result_type as text_type};
 ghost use Rattle.lh_unit.specs.Kinds.{kind_of as type_kind, result_kind as text_kind};
 ghost use Rattle.lh_typing.specs.Told.{kind_as};
 
 use crate::scope::Kind;
-use lh_types::op::Op;
+use lh_types::op::OpClass;
 use lh_types::ty::{NoMemory, Ty, TyFault, TyKind, TyList, carries_data};
 use lh_types::val::Val;
 use lh_unit::inst::{Inst, Typed};
@@ -77,7 +77,7 @@ fn bit_type() -> Result<Option<Ty>, NoMemory>
 fn written_types(alloc: Global, args: &[Typed]) -> Result<Option<TyList>, NoMemory>
     ensures { (f : Naming) → IfOk result (λ o. option_map row_of o ≡ texts_written (map (operand_text f) args.now)) }
 {
-    let mut list = TyList::new(alloc);
+    let mut list = TyList::with_room(alloc, args.len())?;
     for operand in args {
         match &operand.ty {
             None => return Ok(None),
@@ -116,25 +116,17 @@ fn written_type(operand: &Typed) -> Result<Option<Ty>, NoMemory>
     }
 }
 
-/// The type of what an operation gives.
-fn operation_type(alloc: Global, op: Op, args: &[Typed]) -> Result<Option<Ty>, NoMemory>
-    ensures { (f : Naming) → IfOk result (λ o. o ≡ texts_type op (map (operand_text f) args.now)) }
+/// The type of what the operations of a class give.
+fn class_type(alloc: Global, class: OpClass, args: &[Typed]) -> Result<Option<Ty>, NoMemory>
+    ensures { (f : Naming) → IfOk result (λ o. o ≡ texts_type class (map (operand_text f) args.now)) }
 {
-    match op {
-        Op::Eq
-        | Op::Neq
-        | Op::Slt
-        | Op::Sgt
-        | Op::Sle
-        | Op::Sge
-        | Op::Ult
-        | Op::Ugt
-        | Op::Ule
-        | Op::Uge => bit_type(),
-        Op::Array => array_type(alloc, args.len(), args),
-        Op::Repeat(n) => array_type(alloc, n as usize, args),
-        Op::Tuple => struct_of(alloc, args),
-        _ => first_type(args),
+    match class {
+        OpClass::Relation | OpClass::Equality => bit_type(),
+        OpClass::Array => array_type(alloc, args.len(), args),
+        OpClass::Repeat(n) => array_type(alloc, n as usize, args),
+        OpClass::Tuple => struct_of(alloc, args),
+        OpClass::Unary | OpClass::Binary | OpClass::Shift | OpClass::Select => first_type(args),
+        OpClass::TakePart(_) | OpClass::PutPart(_) => first_type(args),
     }
 }
 
@@ -209,7 +201,7 @@ pub fn result_type(alloc: Global, inst: &Inst) -> Result<Option<Ty>, NoMemory>
 {
     match inst {
         Inst::Const(value) => constant_type(value),
-        Inst::Pure { op, args } => operation_type(alloc, *op, args.as_slice()),
+        Inst::Pure { op, args } => class_type(alloc, op.class(), args.as_slice()),
         Inst::Var(of) => pointer_type(alloc, of),
         Inst::Ld(from) => pointed_type(from),
         Inst::Sig(of) => signal_type(alloc, of),

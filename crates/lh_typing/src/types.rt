@@ -1,5 +1,5 @@
 //! Tests of the type of a part.
-ghost use Rattle.std.specs.Prelude.{◌≡◌, ◌+◌, ◌&&◌, nat_le, false};
+ghost use Rattle.std.specs.Prelude.{◌≡◌, ◌&&◌, false};
 ghost use Rattle.std.specs.Option.{option_map_or};
 ghost use Rattle.lh_types.specs.Types.{int_type, array_type, same_type, row_of};
 ghost use Rattle.lh_types.specs.Kind.{type_of_kind};
@@ -7,7 +7,7 @@ ghost use Rattle.lh_types.specs.Parts.{step_part, field_part};
 ghost use Rattle.lh_unit.specs.TypingRows.{part_type};
 ghost use Rattle.lh_typing.specs.Parts.{is_part};
 
-use lh_types::part::Step;
+use lh_types::part::{Step, is_slice};
 use lh_types::ty::{Ty, TyKind, TyList};
 
 /// Whether the part of a data type that a step leads to has this type.
@@ -24,13 +24,6 @@ fn is_data_part(of: TyKind<'_>, step: Step, ty: &Ty) -> bool
         }
         _ => false,
     }
-}
-
-/// Whether `len` items from `at` on are some, and within `n` items.
-fn is_slice(n: u32, at: u32, len: u32) -> bool
-    ensures { result ≡ (nat_le 1 len && nat_le (at + len) n) }
-{
-    1 <= len && at <= n && len <= n - at
 }
 
 fn is_of_width(ty: TyKind<'_>, width: u32) -> bool

@@ -5,11 +5,12 @@ ghost use Rattle.std.specs.Prelude.{◌≡◌, ◌++◌, ◌∷◌, [], IfOk, On
 ghost use Rattle.lh_types.specs.Kind.{type_of_kind};
 ghost use Rattle.lh_typing.specs.Uses.{first_type, uses_of, used, all_used, values_used, maybe_used, edges_used, trigger_uses, triggers_uses, operation_need as need_of_operation, step_need as need_of_step, initial_need as need_of_initial};
 
-use lh_types::list::ListOf;
 use lh_types::op::Op;
 use lh_types::ty::{NoMemory, TyKind};
 use lh_unit::inst::{Inst, PhiEdge, RegTrigger, Typed, ValueId};
+use smallvec::SmallVec;
 use std::alloc::Global;
+use std::marker::Model;
 
 /// What a row takes in one place.
 #[derive(Clone, Copy, Debug, PartialEq, Eq)]
@@ -37,8 +38,58 @@ pub struct Use {
     pub need: Need,
 }
 
-/// A list of operands.
-pub type UseList = ListOf<Use>;
+// What fills a place of a list that no operand has taken.
+impl Default for Use {
+    fn default() -> Use {
+        Use {
+            value: ValueId(0),
+            need: Need::Data,
+        }
+    }
+}
+
+/// A list of operands; up to four, as nearly all instructions have, need no memory of their own.
+#[derive(Drop)]
+pub struct UseList {
+    items: SmallVec<Use, 4>,
+}
+
+impl Model for UseList {
+    ghost use Rattle.std.specs.Prelude.{List};
+    ghost use Rattle.lh_typing.specs.declared.uses.Use.{Use};
+
+    ghost Value = { List Use };
+
+    ghost view = { λ a. a.items.items };
+}
+
+impl UseList {
+    /// An empty list, which takes no memory.
+    fn new(alloc: Global) -> UseList
+        ensures { result ≡ [] }
+    {
+        UseList {
+            items: SmallVec::new(alloc),
+        }
+    }
+
+    /// Adds an operand at the end.
+    fn push(&mut self, operand: Use) -> Result<(), NoMemory>
+        ensures { OnOk result (self.new ≡ self.old ++ operand ∷ []) }
+    {
+        match self.items.push(operand) {
+            Ok(()) => Ok(()),
+            Err(_) => Err(NoMemory),
+        }
+    }
+
+    /// The operands in order.
+    pub fn as_slice(&self) -> &[Use]
+        ensures { result.now ≡ self.now }
+    {
+        self.items.as_slice()
+    }
+}
 
 /// The operands of an instruction, in the order of the spelling; an error only for want of memory.
 pub fn uses(alloc: Global, inst: &Inst) -> Result<UseList, NoMemory>

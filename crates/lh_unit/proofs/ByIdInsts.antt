@@ -4,10 +4,8 @@ use Rattle.std.specs.List.{list_any}
 use Rattle.std.proofs.lemmas.List.{map-append}
 use Rattle.std.proofs.lemmas.Option.{slice_get-get_or, slice_get_within}
 use Rattle.lh_types.specs.declared.op.Op.{Op}
-use Rattle.lh_types.specs.declared.op.Op.TheVariants as op
 use Rattle.lh_unit.specs.Contents.{EdgeText, same_name}
-use Rattle.lh_unit.specs.Kinds.{Use, Need, used, all_used, maybe_used, trigger_uses, operation_uses, step_need, data_needed, time_needed, signal_needed, data_or_time_needed}
-use Rattle.lh_unit.specs.Typing.{first_type}
+use Rattle.lh_unit.specs.Kinds.{Use, Need, used, all_used, maybe_used, trigger_uses, operation_uses, data_needed, time_needed, signal_needed, data_or_time_needed}
 use Rattle.lh_unit.specs.WellFormed.{values_named, labels_named, units_named}
 use Rattle.lh_unit.specs.Places.{leads_to, is_terminator, last_leads_to, has_edge}
 use Rattle.lh_unit.specs.Table.{Table, is_block, line_at, no_line}
@@ -63,9 +61,7 @@ module _ (f : Naming) where
       ∙ sym (map-append (value_text f) (maybe_id g.gate ++ maybe_id g.after) (trigger_ids gs)))
 
   operation-named : (o : Op) (ts : List Typed) → map (λ (x : Use). x.value) (operation_uses o (map (operand_text f) ts)) ≡ map (value_text f) (operand_ids ts)
-  operation-named (op.Extf k) ts = operands-named (step_need (first_type (map (operand_text f) ts))) ts
-  operation-named (op.Exts at len) ts = operands-named (step_need (first_type (map (operand_text f) ts))) ts
-  operation-named _ ts = operands-named data_needed ts
+  operation-named o ts = operands-named _ ts
 
   -- the values that an instruction names
   pub values_named-by_id : (i : Inst) → values_named (inst_text f i) ≡ map (value_text f) (values_used i)

@@ -5,6 +5,7 @@ pub mod Rendering
 pub mod Lists
 pub mod Defining
 pub mod Tables
+mod Entering
 pub mod Within
 pub mod Arenas
 pub mod Texts

@@ -1,10 +1,9 @@
 -- Lists with one more item, distinct keys, maps and lists of lists.
-use Rattle.std.proofs.Common.{◌≡◌, ◌≢◌, ℕ, ◌+◌, ◌-◌, ◌<◌, zero, suc, Bool, true, false, ◌||◌, nat_eq, List, [], ◌∷◌, ◌++◌, length, map, take, drop, get_or, Option, Some, None, is_some, slice_get, position, refl, ap, sym, ◌∙◌, subst, arith, length-append, append_assoc}
+use Rattle.std.proofs.Common.{◌≡◌, ◌≢◌, ℕ, ◌+◌, ◌<◌, zero, suc, Bool, true, false, ◌||◌, nat_eq, List, [], ◌∷◌, ◌++◌, length, map, drop, get_or, Option, Some, None, is_some, slice_get, position, refl, ap, sym, ◌∙◌, subst, arith, length-append, append_assoc}
 use Rattle.std.specs.List.{list_any}
 use Rattle.std.proofs.lemmas.Option.{slice_get-get_or, slice_get_past}
 use Rattle.std.proofs.lemmas.List.Quantifiers.{position-Some}
 use Rattle.std.proofs.lemmas.List.{map-append, drop_more}
-use Rattle.std.proofs.Math.Seq.{take-append_seam}
 use Rattle.std.proofs.lemmas.Grind.{common_steps}
 use Rattle.lh_unit.specs.Table.{AllDistinct, flat}
 use Rattle.lh_unit.specs.Within.{Each}
@@ -175,9 +174,3 @@ Each-part P g (y ∷ xs) (suc i) x p w = Each-part P g xs i x p (Each-right P (g
 pub Each-flat : {X Y : Type 0} (P : Y → Type 0) (g : X → List Y) (xs : List X) → Each P (flat (map g xs)) → Each (λ x. Each P (g x)) xs
 Each-flat P g [] w = tt
 Each-flat P g (x ∷ xs) w = (Each-left P (g x) (flat (map g xs)) w, Each-flat P g xs (Each-right P (g x) (flat (map g xs)) w))
-
--- a push that is taken back
-pub popped : {X : Type 0} (xs ys zs : List X) (y : X) → ys ≡ xs ++ y ∷ [] → zs ≡ take (length ys - 1) ys → zs ≡ xs
-popped xs ys zs y e f =
-    let n : length ys - 1 ≡ length xs = omega (arith, ap (λ l. length l) e, length-append xs (y ∷ [])) in
-    f ∙ ap (λ k. take k ys) n ∙ ap (take (length xs)) e ∙ take-append_seam xs (y ∷ [])

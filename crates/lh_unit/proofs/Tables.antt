@@ -1,5 +1,5 @@
 -- A unit's table stays in order under its calls.
-use Rattle.std.proofs.Common.{◌≡◌, ◌≢◌, ℕ, ◌+◌, ◌-◌, ◌^◌, ◌<◌, ◌≤◌, zero, suc, Bool, true, false, ◌||◌, nat_eq, if◌then◌else◌, List, [], ◌∷◌, ◌++◌, length, map, get_or, set, Option, Some, None, IsSome, is_some, unwrap_or, slice_get, position, refl, ap, sym, ◌∙◌, subst, arith, length-append, length-set, append_assoc, zero-add}
+use Rattle.std.proofs.Common.{◌≡◌, ◌≢◌, ℕ, ◌+◌, ◌-◌, ◌^◌, ◌<◌, ◌≤◌, zero, suc, Bool, true, false, ◌||◌, nat_eq, if◌then◌else◌, List, [], ◌∷◌, ◌++◌, length, map, get_or, set, Option, Some, None, IsSome, is_some, unwrap_or, slice_get, refl, ap, sym, ◌∙◌, subst, arith, length-append, length-set, append_assoc, zero-add}
 use Rattle.std.specs.Cmp.Lexicographic.{same_text}
 use Rattle.std.proofs.lemmas.Option.{slice_get-get_or, slice_get_within}
 use Rattle.std.proofs.lemmas.List.{append-nil, map-append, get_or-set_same, get_or-set_other, get_or_past, get_or_read}
@@ -8,7 +8,7 @@ use Rattle.indexmap.specs.IndexSet.{insert_key}
 use lib.Pointwise.{pointwise, bytes_decides}
 use Rattle.lh_types.specs.Types.{TypeTree}
 use Rattle.lh_unit.specs.Table.{Table, Definitions, IsTable, IsDefinition, FitsKind, HasBlocks, ArgsWithin, ResultWithin, ResultsWithin, BlocksWithin, entity_block, flat, ids_from, insts_at, is_arg, is_made, is_result, is_block, is_defined, result_defined, has_definition, with_definition, defined_among, arg_count, args_among}
-use Rattle.lh_unit.specs.TableCalls.{has_name, with_value, with_label, begun, with_arg, with_result, with_block, with_line, last_block, NamesValue, NamesLabel}
+use Rattle.lh_unit.specs.TableCalls.{has_name, with_value, with_label, begun, with_arg, with_result, with_block, with_line, last_block}
 use Rattle.lh_unit.specs.declared.inst.UnitKind.{UnitKind}
 use Rattle.lh_unit.specs.declared.inst.UnitKind.TheVariants as kind
 use Rattle.lh_unit.specs.declared.inst.BlockId.{BlockId}
@@ -21,7 +21,7 @@ use Rattle.lh_unit.specs.declared.inst.Arg.{Arg}
 use Rattle.lh_unit.specs.declared.table.Line.{Line}
 pub use Rattle.lh_unit.proofs.Defining.{is_arg-push, is_made-push}
 use Rattle.lh_unit.proofs.Defining.{definition-tells, is_defined-with_arg, is_defined-with_line, IsDefinition-with_arg, IsDefinition-with_line, IsDefinition-same, arg-defines, line-defines, once-with_arg, once-with_line}
-use Rattle.lh_unit.proofs.Lists.{Place, before, at, past, place, Same, same, other, same_or, nat_eq-refl, nat_eq-other, or_false, or_true, or-assoc, slice_get-push, slice_get-push_before, get_or-push_default, front_last, AllDistinct-push, other_keys, key_found, map-ext, map-same, flat-append, some_inj}
+use Rattle.lh_unit.proofs.Lists.{Place, before, at, past, place, Same, same, other, same_or, nat_eq-refl, nat_eq-other, or_false, or_true, or-assoc, slice_get-push, slice_get-push_before, get_or-push_default, front_last, AllDistinct-push, other_keys, map-ext, map-same, flat-append, some_inj}
 
 -- the test of two names is equality
 pub same_name-is : (x y : List ℕ) → pointwise nat_eq x y ≡ true → x ≡ y
@@ -529,13 +529,7 @@ not_block t b body o h e f = sym (o.blocks_stand b) ∙ ap is_some (sym (get_or_
 pub is_block-told : (t : Table) (b : ℕ) (body : Option (List InstId)) → IsTable t → b < length t.bodies → body ≡ get_or t.bodies b body → is_some body ≡ true → is_block t.blocks b ≡ true
 is_block-told t b body o h e f = sym (o.blocks_stand b) ∙ ap is_some (sym (get_or_read t.bodies b body h e None)) ∙ f
 
--- a name that is found, or was inserted
-pub found-NamesValue : (t : Table) (n : List ℕ) (i : ℕ) → Some i ≡ position (pointwise nat_eq n) t.values → true ≡ has_name t.values n → NamesValue t t n i
-found-NamesValue t n i p a = let f = key_found (pointwise nat_eq) same_name-is same_name-refl t.values n i p in record { within = f.0; named = f.1; table = rw (← a) refl }
-
-pub found-NamesLabel : (t : Table) (n : List ℕ) (i : ℕ) → Some i ≡ position (pointwise nat_eq n) t.labels → true ≡ has_name t.labels n → NamesLabel t t n i
-found-NamesLabel t n i p a = let f = key_found (pointwise nat_eq) same_name-is same_name-refl t.labels n i p in record { within = f.0; named = f.1; table = rw (← a) refl }
-
+-- a name that was inserted
 pub inserted : (ks new : List (List ℕ)) (n m : List ℕ) → m ≡ n → new ≡ insert_key (pointwise nat_eq) ks m → false ≡ has_name ks n → new ≡ ks ++ n ∷ []
 inserted ks new n m e f g = f ∙ ap (insert_key (pointwise nat_eq) ks) e ∙ rw (← g) refl
 

@@ -20,6 +20,11 @@ use Rattle.lh_unit.specs.declared.inst.Item.{Item}
 use Rattle.lh_unit.specs.declared.inst.Item.TheVariants as item
 use Rattle.lh_unit.specs.declared.table.Line.{Line}
 
+-- an instruction makes a signal
+abbrev pub is_sig : Inst → Bool
+is_sig (inst.Sig initial) = true
+is_sig _ = false
+
 -- the values of operands
 abbrev pub operand_ids : List Typed → List ValueId
 operand_ids os = map (λ (o : Typed). o.value) os

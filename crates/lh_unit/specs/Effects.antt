@@ -10,10 +10,9 @@ use Rattle.lh_types.specs.Bits.{value_bits, value_from_bits}
 use Rattle.lh_types.specs.Parts.{range_of}
 use Rattle.lh_types.specs.Apply.{apply}
 use Rattle.lh_types.specs.Wish.{Wish, with_drive}
+use Rattle.lh_types.specs.Classes.{class_of, taken_step}
 use Rattle.lh_types.specs.declared.op.Op.{Op}
-use Rattle.lh_types.specs.declared.op.Op.TheVariants as op
 use Rattle.lh_types.specs.declared.part.Step.{Step}
-use Rattle.lh_types.specs.declared.part.Step.TheVariants.{Field, Slice}
 use Rattle.lh_types.specs.declared.part.Range.{Range}
 use Rattle.lh_unit.specs.Contents.{OperandText, UnitText}
 use Rattle.lh_unit.specs.Typing.{value_type, carried, or_else}
@@ -21,9 +20,7 @@ use Rattle.lh_unit.specs.Held.{Held, datum_held, part_held, Env, data_at, datum_
 
 -- the step into a signal that an operation takes
 abbrev pub step_of : Op → Option Step
-step_of (op.Extf k) = Some (Field k)
-step_of (op.Exts at len) = Some (Slice at len)
-step_of _ = None
+step_of o = taken_step (class_of o)
 
 -- a part of a part
 abbrev pub within : Range → Range → Range

@@ -10,7 +10,7 @@ use Rattle.lh_types.specs.History.{bits_at}
 use Rattle.lh_unit.specs.Contents.{ItemText}
 use Rattle.lh_unit.specs.Hierarchy.{Instance}
 use Rattle.lh_unit.specs.Design.{Signal, Design}
-use Rattle.lh_unit.specs.World.{State, unit_of, woken, bits_of, acts_at, World, first_world, world_after, next_instant}
+use Rattle.lh_unit.specs.World.{State, unit_of, Moment, woken, moment_of, bits_of, acts_at, World, first_world, world_after, next_instant}
 use Rattle.lh_unit.specs.Trace.{Frame, least_runaway, signal_value}
 
 -- the world after a frame, unless an instance ran away in it
@@ -32,15 +32,15 @@ unfoldable pub world_at : (bound : ℕ) → List ItemText → Design → (k : �
 world_at bound items d k = world_later bound items d k (first_world items d)
 
 -- the numbers of the instances that are woken, the first of these having this number
-abbrev pub woken_from : (number : ℕ) → List ItemText → (last : Option Instant) → (old now : List Bool) → Instant → List Instance → List State → List ℕ
-woken_from k items last old now t [] states = []
-woken_from k items last old now t (i ∷ more) [] = []
-woken_from k items last old now t (i ∷ more) (s ∷ states) =
-    if woken last old now t (unit_of items i.unit) i s then k ∷ woken_from (k + 1) items last old now t more states else woken_from (k + 1) items last old now t more states
+abbrev pub woken_from : (number : ℕ) → List ItemText → Moment → List Instance → List State → List ℕ
+woken_from k items m [] states = []
+woken_from k items m (i ∷ more) [] = []
+woken_from k items m (i ∷ more) (s ∷ states) =
+    if woken m (unit_of items i.unit) i s then k ∷ woken_from (k + 1) items m more states else woken_from (k + 1) items m more states
 
 -- The instances that are woken in the frame at `t`, by their numbers, rising.
 unfoldable pub woken_at : List ItemText → Design → World → Instant → List ℕ
-woken_at items d w t = woken_from 0 items w.last (bits_of w) (bits_at w.history w.init t) t d.instances w.states
+woken_at items d w t = woken_from 0 items (moment_of w t) d.instances w.states
 
 -- how many of the woken instances a frame activates: all, or those up to the least that runs away
 abbrev pub activated_count : (runaway : Option ℕ) → (woken : List ℕ) → ℕ

@@ -3,8 +3,9 @@ use Rattle.std.specs.Prelude.{ℕ, List, [], ◌∷◌, ◌++◌, map, Bool, tru
 use Rattle.std.specs.Option.{option_and_then}
 use Rattle.lh_types.specs.Types.{TypeTree, int_type, time_type, void_type, array_type, tuple_type, signal_type, pointer_type}
 use Rattle.lh_types.specs.Faults.{is_data}
+use Rattle.lh_types.specs.Classes.{class_of, taken_step}
 use Rattle.lh_types.specs.declared.op.Op.{Op}
-use Rattle.lh_types.specs.declared.op.Op.TheVariants as op
+use Rattle.lh_types.specs.declared.part.Step.{Step}
 use Rattle.lh_unit.specs.Contents.{OperandText, TriggerText, EdgeText, InstText, const_text, pure_text, var_text, ld_text, st_text, sig_text, prb_text, drv_text, reg_text, child_text, call_text, phi_text, br_text, branch_text, wait_text, halt_text, ret_text, UnitText}
 use Rattle.lh_unit.specs.Typing.{or_else, first_type, result_type, arg_named, inst_giving}
 
@@ -85,11 +86,14 @@ abbrev pub initial_need : Option TypeTree → Need
 initial_need (Some time_type) = data_or_time_needed
 initial_need _ = data_needed
 
+-- what each operand of an operation is of, by the step to the part that it takes, if it takes one
+abbrev pub part_need : Option Step → List OperandText → Need
+part_need None args = data_needed
+part_need (Some s) args = step_need (first_type args)
+
 -- the operands of an operation
 abbrev pub operation_uses : Op → List OperandText → List Use
-operation_uses (op.Extf k) args = all_used (step_need (first_type args)) args
-operation_uses (op.Exts at len) args = all_used (step_need (first_type args)) args
-operation_uses _ args = all_used data_needed args
+operation_uses o args = all_used (part_need (taken_step (class_of o)) args) args
 
 -- the operands of a register's triggers
 abbrev pub trigger_uses : List TriggerText → List Use

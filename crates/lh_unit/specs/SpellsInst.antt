@@ -3,8 +3,11 @@ use Rattle.std.specs.Prelude.{◌≡◌, ℕ, Bool, true, false, not, List, [], 
 use Rattle.lh_types.specs.Types.{TypeTree, int_type, array_type, tuple_type, IsLimited, row_of}
 pub use Rattle.lh_types.specs.TypeTests.{is_void}
 use Rattle.lh_types.specs.Values.{int_value, time_value}
+use Rattle.lh_types.specs.Classes.{class_of}
 use Rattle.lh_types.specs.declared.op.Op.{Op}
 use Rattle.lh_types.specs.declared.op.Op.TheVariants as op
+use Rattle.lh_types.specs.declared.op.OpClass.{OpClass}
+use Rattle.lh_types.specs.declared.op.OpClass.TheVariants as class
 use Rattle.lh_unit.specs.Contents.{OperandText, InstText, const_text, pure_text, var_text, ld_text, st_text, sig_text, prb_text, drv_text, reg_text, child_text, call_text, phi_text, br_text, branch_text, wait_text, halt_text, ret_text}
 use Rattle.lh_unit.specs.Lexemes.{Lexeme, word, local, arrow}
 use Rattle.lh_unit.specs.Marks.{open_paren, close_paren, open_bracket, close_bracket, open_brace, close_brace, comma, equals}
@@ -23,17 +26,23 @@ pub data Column : Type 0 where
   -- `?%a`
   free : Column
 
+-- the operands of an operation of the class, in order; those of arrays and structs have brackets in the place of columns
+abbrev pub class_columns : OpClass → List Column
+class_columns class.Unary = typed ∷ []
+class_columns class.Binary = typed ∷ bare ∷ []
+class_columns class.Relation = typed ∷ bare ∷ []
+class_columns class.Equality = typed ∷ bare ∷ []
+class_columns class.Shift = typed ∷ free ∷ free ∷ []
+class_columns class.Select = typed ∷ bare ∷ []
+class_columns (class.TakePart s) = typed ∷ []
+class_columns (class.PutPart s) = typed ∷ bare ∷ []
+class_columns class.Array = typed ∷ bare ∷ []
+class_columns (class.Repeat n) = typed ∷ bare ∷ []
+class_columns class.Tuple = typed ∷ bare ∷ []
+
 -- the operands of an operation that has a word, in order
 abbrev pub columns : Op → List Column
-columns op.Not = typed ∷ []
-columns op.Neg = typed ∷ []
-columns op.Shl = typed ∷ free ∷ free ∷ []
-columns op.Shr = typed ∷ free ∷ free ∷ []
-columns (op.Extf k) = typed ∷ []
-columns (op.Exts at len) = typed ∷ []
-columns (op.Insf k) = typed ∷ bare ∷ []
-columns (op.Inss at len) = typed ∷ bare ∷ []
-columns _ = typed ∷ bare ∷ []
+columns o = class_columns (class_of o)
 
 -- an operand as its column says
 abbrev pub SpellsColumn : Column → OperandText → List Lexeme → List Lexeme → Type 0

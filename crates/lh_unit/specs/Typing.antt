@@ -6,8 +6,10 @@ use Rattle.lh_types.specs.Values.{Datum, int_value, time_value}
 use Rattle.lh_types.specs.Faults.{is_data, int_fault, array_fault, tuple_fault}
 pub use Rattle.lh_types.specs.TypeTests.{is_value_type, pointed, carried}
 use Rattle.lh_types.specs.declared.ty.TyFault.{TyFault}
+use Rattle.lh_types.specs.Classes.{class_of}
 use Rattle.lh_types.specs.declared.op.Op.{Op}
-use Rattle.lh_types.specs.declared.op.Op.TheVariants as op
+use Rattle.lh_types.specs.declared.op.OpClass.{OpClass}
+use Rattle.lh_types.specs.declared.op.OpClass.TheVariants as class
 use Rattle.lh_unit.specs.Contents.{OperandText, InstText, const_text, pure_text, var_text, ld_text, sig_text, prb_text, call_text, phi_text, LineText, BlockText, ArgText, UnitText, is_result_name, same_name}
 
 -- the type of a pointer to a value of this type
@@ -52,21 +54,22 @@ operand_types [] = Some no_types
 operand_types (o ∷ more) = with_type o.ty (operand_types more)
 
 -- an operation gives a value of the type that is written first; a comparison gives a bit
+abbrev pub class_type : OpClass → List OperandText → Option TypeTree
+class_type class.Unary args = first_type args
+class_type class.Binary args = first_type args
+class_type class.Relation args = Some (int_type 1)
+class_type class.Equality args = Some (int_type 1)
+class_type class.Shift args = first_type args
+class_type class.Select args = first_type args
+class_type (class.TakePart s) args = first_type args
+class_type (class.PutPart s) args = first_type args
+class_type class.Array args = option_and_then (array_made (length args)) (first_type args)
+class_type (class.Repeat n) args = option_and_then (array_made n) (first_type args)
+class_type class.Tuple args = option_and_then tuple_made (operand_types args)
+
+-- the type of what an operation gives
 abbrev pub operation_type : Op → List OperandText → Option TypeTree
-operation_type op.Eq args = Some (int_type 1)
-operation_type op.Neq args = Some (int_type 1)
-operation_type op.Slt args = Some (int_type 1)
-operation_type op.Sgt args = Some (int_type 1)
-operation_type op.Sle args = Some (int_type 1)
-operation_type op.Sge args = Some (int_type 1)
-operation_type op.Ult args = Some (int_type 1)
-operation_type op.Ugt args = Some (int_type 1)
-operation_type op.Ule args = Some (int_type 1)
-operation_type op.Uge args = Some (int_type 1)
-operation_type op.Array args = option_and_then (array_made (length args)) (first_type args)
-operation_type (op.Repeat n) args = option_and_then (array_made n) (first_type args)
-operation_type op.Tuple args = option_and_then tuple_made (operand_types args)
-operation_type _ args = first_type args
+operation_type o args = class_type (class_of o) args
 
 -- The type of what an instruction gives, where it gives something that has a type: by what its own line writes, also where its row takes no such type.
 abbrev pub result_type : InstText → Option TypeTree

@@ -6,10 +6,11 @@ use Rattle.lh_types.specs.Types.{TypeTree, time_type, void_type, signal_type, sa
 use Rattle.lh_types.specs.Faults.{is_data}
 pub use Rattle.lh_types.specs.TypeTests.{bit, is_integer, is_array_of, is_pointer, is_signal}
 use Rattle.lh_types.specs.Parts.{step_part}
+use Rattle.lh_types.specs.Classes.{class_of}
 use Rattle.lh_types.specs.declared.op.Op.{Op}
-use Rattle.lh_types.specs.declared.op.Op.TheVariants as op
+use Rattle.lh_types.specs.declared.op.OpClass.{OpClass}
+use Rattle.lh_types.specs.declared.op.OpClass.TheVariants as class
 use Rattle.lh_types.specs.declared.part.Step.{Step}
-use Rattle.lh_types.specs.declared.part.Step.TheVariants.{Field, Slice}
 use Rattle.lh_unit.specs.Contents.{OperandText, TriggerText, EdgeText, InstText, const_text, pure_text, var_text, ld_text, st_text, sig_text, prb_text, drv_text, reg_text, child_text, call_text, phi_text, br_text, branch_text, wait_text, halt_text, ret_text, UnitText}
 use Rattle.lh_unit.specs.Typing.{value_type, is_value_type, pointed, carried, first_type}
 
@@ -59,21 +60,23 @@ pub data OperationRow : Type 0 where
   elements : OperationRow
   fields : OperationRow
 
+-- the row of the operations of a class
+abbrev pub class_row : OpClass → OperationRow
+class_row class.Unary = integers
+class_row class.Binary = integers
+class_row class.Relation = integers
+class_row class.Equality = alike
+class_row class.Shift = shifts
+class_row class.Select = selects
+class_row (class.TakePart s) = takes_part s
+class_row (class.PutPart s) = puts_part s
+class_row class.Array = elements
+class_row (class.Repeat n) = elements
+class_row class.Tuple = fields
+
 -- the row of an operation
 abbrev pub operation_row : Op → OperationRow
-operation_row op.Eq = alike
-operation_row op.Neq = alike
-operation_row op.Shl = shifts
-operation_row op.Shr = shifts
-operation_row op.Mux = selects
-operation_row (op.Extf k) = takes_part (Field k)
-operation_row (op.Exts at len) = takes_part (Slice at len)
-operation_row (op.Insf k) = puts_part (Field k)
-operation_row (op.Inss at len) = puts_part (Slice at len)
-operation_row op.Array = elements
-operation_row (op.Repeat n) = elements
-operation_row op.Tuple = fields
-operation_row _ = integers
+operation_row o = class_row (class_of o)
 
 -- by the type t that is written first
 abbrev pub row_fits : UnitText → OperationRow → TypeTree → List OperandText → Bool

@@ -3,8 +3,9 @@ use Rattle.std.specs.Prelude.{◌≡◌, ◌<◌, ◌⊎◌, ℕ, zero, suc, nat
 use Rattle.std.specs.List.{list_any, list_all}
 use Rattle.std.specs.Option.{option_map_or}
 use Rattle.lh_types.specs.Types.{void_type, same_type}
+use Rattle.lh_types.specs.Classes.{class_of, taken_step}
 use Rattle.lh_types.specs.declared.op.Op.{Op}
-use Rattle.lh_types.specs.declared.op.Op.TheVariants as op
+use Rattle.lh_types.specs.declared.part.Step.{Step}
 use Rattle.lh_unit.specs.declared.name.UnitName.{UnitName}
 use Rattle.lh_unit.specs.declared.inst.UnitKind.{UnitKind}
 use Rattle.lh_unit.specs.declared.inst.UnitKind.TheVariants as kind
@@ -128,11 +129,14 @@ abbrev pub in_entity : UnitKind → Bool
 in_entity kind.Entity = true
 in_entity _ = false
 
+-- the part to which a step leads, if one is taken, is of a signal
+abbrev pub is_signal_part : Option Step → List OperandText → Bool
+is_signal_part None args = false
+is_signal_part (Some s) args = option_map_or is_signal (first_type args) false
+
 -- an `extf` or `exts` of a signal
 abbrev pub takes_signal_part : Op → List OperandText → Bool
-takes_signal_part (op.Extf k) args = option_map_or is_signal (first_type args) false
-takes_signal_part (op.Exts at len) args = option_map_or is_signal (first_type args) false
-takes_signal_part _ args = false
+takes_signal_part o args = is_signal_part (taken_step (class_of o)) args
 
 -- the kinds of units in which an instruction is allowed
 abbrev pub is_allowed : UnitKind → InstText → Bool

@@ -1,6 +1,6 @@
 -- A frame: who is woken, what each instance does, the next world, and the next instant.
 use Rattle.std.specs.Prelude.{ℕ, zero, suc, ◌+◌, List, [], ◌∷◌, ◌++◌, map, unwrap_or, slice_get, Bool, true, false, not, ◌&&◌, ◌||◌, Option, Some, None, ◌≡◌, ◌⊎◌}
-use Rattle.std.specs.Option.{option_map_or}
+use Rattle.std.specs.Option.{option_map, option_map_or}
 use Rattle.std.specs.List.{list_any}
 use Rattle.std.specs.Ordering.{is_eq}
 use Rattle.lh_time.specs.declared.Instant.{Instant}
@@ -83,11 +83,20 @@ bit_differs old now k = (bit_at old k && not (bit_at now k)) || (not (bit_at old
 abbrev pub is_at : Instant → Instant → Bool
 is_at t u = is_eq (instant_cmp t u)
 
--- Woken at `t`: at the first instant always; at a later one, `last` being the instant of the frame before and `old` its bits, where a bit that is sensed differs, or the wake time has come.
-abbrev pub woken : (last : Option Instant) → (old now : List Bool) → Instant → UnitText → Instance → State → Bool
-woken None old now t u i state = true
-woken (Some last) old now t u i state =
-    list_any (bit_differs old now) (bit_numbers (senses u i state)) || option_map_or (is_at t) (wake_of state) false
+-- The moment of a frame: its instant, the bits at it, and the bits of the frame before, none in the first frame.
+pub record Moment : Type 0 where
+  pub before : Option (List Bool)
+  pub now : List Bool
+  pub at : Instant
+
+-- A frame wakes who senses these parts and wakes by itself at this instant: the first frame always, a later one where a bit that is sensed differs or the instant has come.
+abbrev pub wakes : Moment → (sensed : List Range) → (wake : Option Instant) → Bool
+wakes m sensed wake =
+    option_map_or (λ old. list_any (bit_differs old m.now) (bit_numbers sensed) || option_map_or (is_at m.at) wake false) m.before true
+
+-- an instance is woken
+abbrev pub woken : Moment → UnitText → Instance → State → Bool
+woken m u i state = wakes m (senses u i state) (wake_of state)
 
 -- what an instance does in a frame: the state after it, its wish, whether each assertion passed, and whether it ran away
 pub record Act : Type 0 where
@@ -114,19 +123,19 @@ pub record Rules : Type 0 where
   pub bound : ℕ
   pub functions : List UnitText
 
--- what an instance does where it is woken
+-- what an instance does where it is woken: a process an activation, an entity a pass
 abbrev pub runs : Rules → (now : List Bool) → Instant → UnitText → Instance → State → Act
 runs r now t u i (of_process p) = process_act p (activate r.bound (record { functions = r.functions; now = now; at = t }) u p)
 runs r now t u i (of_entity memory) = entity_act (pass u i.args i.sigs now memory t)
 
--- what an instance does, woken or not
-abbrev pub act_if_woken : (is_woken : Bool) → Rules → (now : List Bool) → Instant → UnitText → Instance → State → Act
-act_if_woken true r now t u i state = runs r now t u i state
-act_if_woken false r now t u i state = rests state
+-- this, where an instance is woken, and else nothing
+abbrev pub if_woken : (is_woken : Bool) → Act → State → Act
+if_woken true done state = done
+if_woken false done state = rests state
 
--- what an instance does in the frame at `t`
-abbrev pub act : Rules → (last : Option Instant) → (old now : List Bool) → Instant → UnitText → Instance → State → Act
-act r last old now t u i state = act_if_woken (woken last old now t u i state) r now t u i state
+-- what an instance does in a frame
+abbrev pub act : Rules → Moment → UnitText → Instance → State → Act
+act r m u i state = if_woken (woken m u i state) (runs r m.now m.at u i state) state
 
 -- The world between two frames: the bits that the signals begin with, the instant of the last frame, the state of each instance, and all wishes made.
 pub record World : Type 0 where
@@ -148,11 +157,19 @@ first_world items d = record { init = d.init; last = None; states = starts items
 abbrev pub bits_of : World → List Bool
 bits_of w = bits_after w.history w.init w.last
 
--- what each instance does in the frame at `t`
-abbrev pub acts_from : Rules → List ItemText → (last : Option Instant) → (old now : List Bool) → Instant → List Instance → List State → List Act
-acts_from r items last old now t [] states = []
-acts_from r items last old now t (i ∷ more) [] = []
-acts_from r items last old now t (i ∷ more) (s ∷ states) = act r last old now t (unit_of items i.unit) i s ∷ acts_from r items last old now t more states
+-- the bits of the last frame of a world, none before the first
+abbrev pub bits_before : World → Option (List Bool)
+bits_before w = option_map (bits_at w.history w.init) w.last
+
+-- the moment of the frame at `t` of a world
+abbrev pub moment_of : World → Instant → Moment
+moment_of w t = record { before = bits_before w; now = bits_at w.history w.init t; at = t }
+
+-- what each instance does in a frame
+abbrev pub acts_from : Rules → List ItemText → Moment → List Instance → List State → List Act
+acts_from r items m [] states = []
+acts_from r items m (i ∷ more) [] = []
+acts_from r items m (i ∷ more) (s ∷ states) = act r m (unit_of items i.unit) i s ∷ acts_from r items m more states
 
 -- the rules of a module
 abbrev pub rules_of : (bound : ℕ) → List ItemText → Rules
@@ -160,8 +177,7 @@ rules_of bound items = record { bound = bound; functions = functions items }
 
 -- what the instances of a world do in the frame at `t`
 unfoldable pub acts_at : (bound : ℕ) → List ItemText → Design → World → Instant → List Act
-acts_at bound items d w t =
-    acts_from (rules_of bound items) items w.last (bits_of w) (bits_at w.history w.init t) t d.instances w.states
+acts_at bound items d w t = acts_from (rules_of bound items) items (moment_of w t) d.instances w.states
 
 -- the wishes of a frame, by instance
 abbrev pub made_by : Instant → (instance : ℕ) → List Act → List Made

@@ -1,4 +1,7 @@
 //! Instructions, with ids in place of names.
+ghost use Rattle.std.specs.Prelude.{◌≡◌};
+ghost use Rattle.lh_unit.specs.ById.{is_sig};
+
 use crate::name::{Name, UnitName};
 use lh_types::list::ListOf;
 use lh_types::op::Op;
@@ -175,6 +178,18 @@ pub enum Inst {
     Halt,
     /// `ret`
     Ret(Option<Typed>),
+}
+
+impl Inst {
+    /// Whether it makes a signal.
+    pub fn is_sig(&self) -> bool
+        ensures { result ≡ is_sig self.now }
+    {
+        match self {
+            Inst::Sig(_) => true,
+            _ => false,
+        }
+    }
 }
 
 /// An argument of a unit.

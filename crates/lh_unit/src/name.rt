@@ -48,17 +48,18 @@ impl Eq for Name {
     ghost laws = { Prim.search (comparing, rules) };
 }
 
+// The bytes go to the hasher at once, which is a few times as fast as one by one.
 impl Hash for Name {
+    ghost use Rattle.std.specs.Prelude.{[], ◌∷◌};
     ghost use Rattle.std.proofs.Common.{rules};
-    ghost use Rattle.std.specs.Hash as fed;
     ghost use Rattle.std.specs.Cmp.Rules.{hashing};
 
-    ghost hash_input = { fed.slice fed.u8 };
+    ghost hash_input = { λ n. n ∷ [] };
 
     ghost respects_eq = { Prim.search (hashing, rules) };
 
     fn hash<H: Hasher>(&self, state: &mut H) {
-        self.bytes.hash(state);
+        state.write(self.bytes.as_slice());
     }
 }
 
@@ -121,12 +122,12 @@ impl Eq for UnitName {
 }
 
 impl Hash for UnitName {
-    ghost use Rattle.std.specs.Prelude.{◌++◌};
+    ghost use Rattle.std.specs.Prelude.{[], ◌∷◌, ◌++◌};
     ghost use Rattle.std.proofs.Common.{rules};
     ghost use Rattle.std.specs.Hash as fed;
     ghost use Rattle.std.specs.Cmp.Rules.{hashing};
 
-    ghost hash_input = { λ n. fed.u8 n.sigil ++ fed.slice fed.u8 n.name };
+    ghost hash_input = { λ n. fed.u8 n.sigil ++ (n.name ∷ []) };
 
     ghost respects_eq = { Prim.search (hashing, rules) };
 

@@ -1,7 +1,8 @@
 //! One unit of the arena.
-ghost use Rattle.std.specs.Prelude.{◌≡◌, ◌≤◌, ◌<◌, ◌+◌, ◌-◌, ◌^◌, [], ◌∷◌, ◌++◌, length, take, slice_set, slice_index_or, unwrap_or, vec_len, vec_capacity, IsSome, OnOk, OnErr};
+ghost use Rattle.std.specs.Prelude.{◌≡◌, ◌≤◌, ◌<◌, ◌+◌, ◌-◌, ◌^◌, [], ◌∷◌, ◌++◌, length, slice_set, slice_index_or, unwrap_or, vec_len, vec_capacity, IsSome, OnOk, OnErr};
 ghost use Rattle.std.specs.Option.{option_copied};
 ghost use Rattle.lh_unit.specs.Table.{no_table, entity_block, ResultWithin, HasBlocks, IsDefinition, with_definition, defined_among, line_at, insts_at};
+ghost use Rattle.lh_unit.specs.declared.inst.ValueDef.TheVariants as value_def;
 ghost use Rattle.lh_unit.specs.TableCalls.{FindsValueIn, FindsLabelIn, Begins, TakesArg, TakesBlock, TakesLine, with_result};
 
 use crate::inst::{Arg, BlockId, Inst, InstId, UnitFault, UnitKind, ValueDef, ValueId};
@@ -74,41 +75,39 @@ impl UnitTable {
     }
 
     /// The value of this name, which is Missing where the name is new.
-    pub fn value_named(&mut self, name: &Name) -> Result<ValueId, NoMemory>
+    pub fn value_named(&mut self, name: Name) -> Result<ValueId, NoMemory>
         requires { length self.old.values < 2 ^ 32 - 1 }
-        ensures { FindsValueIn result self.old self.new name.now }
+        ensures { FindsValueIn result self.old self.new name }
     {
-        if let Some(i) = self.values.get_index_of(name) {
-            return Ok(ValueId(i as u32));
-        }
-        let name = name.copy()?;
-        if self.defs.push(ValueDef::Missing).is_err() {
+        if self.defs.reserve(1).is_err() {
             return Err(NoMemory);
         }
-        if let Ok((i, _)) = self.values.insert_full(name) {
-            return Ok(ValueId(i as u32));
+        match self.values.insert_full(name) {
+            Err(_) => Err(NoMemory),
+            Ok((i, false)) => Ok(ValueId(i as u32)),
+            Ok((i, true)) => {
+                put_missing(&mut self.defs);
+                Ok(ValueId(i as u32))
+            }
         }
-        self.defs.pop();
-        Err(NoMemory)
     }
 
     /// The label of this name, which is Missing where the name is new.
-    pub fn block_named(&mut self, name: &Name) -> Result<BlockId, NoMemory>
+    pub fn block_named(&mut self, name: Name) -> Result<BlockId, NoMemory>
         requires { length self.old.labels < 2 ^ 32 - 1 }
-        ensures { FindsLabelIn result self.old self.new name.now }
+        ensures { FindsLabelIn result self.old self.new name }
     {
-        if let Some(i) = self.labels.get_index_of(name) {
-            return Ok(BlockId(i as u32));
-        }
-        let name = name.copy()?;
-        if push_body(&mut self.bodies).is_err() {
+        if self.bodies.reserve(1).is_err() {
             return Err(NoMemory);
         }
-        if let Ok((i, _)) = self.labels.insert_full(name) {
-            return Ok(BlockId(i as u32));
+        match self.labels.insert_full(name) {
+            Err(_) => Err(NoMemory),
+            Ok((i, false)) => Ok(BlockId(i as u32)),
+            Ok((i, true)) => {
+                put_body(&mut self.bodies);
+                Ok(BlockId(i as u32))
+            }
         }
-        pop_body(&mut self.bodies);
-        Err(NoMemory)
     }
 
     /// Begins the unit as its header does: the result of a function is `void`, and an entity has its one block.
@@ -261,6 +260,12 @@ impl UnitTable {
         &self.lines[inst.0 as usize]
     }
 
+    pub fn lines(&self) -> usize
+        ensures { result ≡ length self.now.lines }
+    {
+        self.lines.len()
+    }
+
     pub fn value_def(&self, value: ValueId) -> ValueDef
         requires { value.0 < length self.now.values }
         ensures { IsDefinition self.now value.0 result }
@@ -295,21 +300,24 @@ impl UnitTable {
     }
 }
 
-fn push_body(bodies: &mut Vec<Option<InstIdList>>) -> Result<(), NoMemory>
-    ensures ok { OnOk result (bodies.new.items ≡ bodies.old.items ++ None ∷ []) }
-    ensures err { OnErr result (bodies.new.items ≡ bodies.old.items) }
+// Adds a definition that is missing, where memory was reserved for it.
+fn put_missing(defs: &mut Vec<ValueDef>)
+    requires { vec_len defs.old < vec_capacity defs.old }
+    ensures { defs.new.items ≡ defs.old.items ++ value_def.Missing ∷ [] }
 {
-    match bodies.push(None) {
-        Ok(()) => Ok(()),
-        Err(_) => Err(NoMemory),
+    if defs.push(ValueDef::Missing).is_err() {
+        unreachable!();
     }
 }
 
-// Takes back the body that was pushed last.
-fn pop_body(bodies: &mut Vec<Option<InstIdList>>)
-    ensures { bodies.new.items ≡ take (length bodies.old.items - 1) bodies.old.items }
+// Adds the body of a label with no block, where memory was reserved for it.
+fn put_body(bodies: &mut Vec<Option<InstIdList>>)
+    requires { vec_len bodies.old < vec_capacity bodies.old }
+    ensures { bodies.new.items ≡ bodies.old.items ++ None ∷ [] }
 {
-    bodies.pop();
+    if bodies.push(None).is_err() {
+        unreachable!();
+    }
 }
 
 // The one block of an entity, with no instructions.
@@ -325,7 +333,10 @@ fn begin_block(
     if blocks.reserve(1).is_err() {
         return Err(NoMemory);
     }
-    push_body(bodies)?;
+    if bodies.reserve(1).is_err() {
+        return Err(NoMemory);
+    }
+    put_body(bodies);
     bodies[0] = Some(ListOf::new(*blocks.allocator()));
     if blocks.push(BlockId(0)).is_err() {
         unreachable!();

@@ -142,7 +142,7 @@ module _ (f : Naming) (s : Sizes) (marks : List Bool) (D : List ℕ → Bool) (t
   comes-text (inst.Ret (Some x)) h = others (inst.Ret (Some x)) h
 
 -- what holds of each instruction holds of the one that gives a value
-making-has : (P : Inst → Type 0) (ls : List Line) → ((j : ℕ) (l : Line) → slice_get ls j ≡ Some l → P l.inst) → (v : ℕ) (i : Inst) → inst_making ls v ≡ Some i → P i
+pub making-has : (P : Inst → Type 0) (ls : List Line) → ((j : ℕ) (l : Line) → slice_get ls j ≡ Some l → P l.inst) → (v : ℕ) (i : Inst) → inst_making ls v ≡ Some i → P i
 making-has P [] h v i e = absurd cc
 making-has P (x ∷ ls) h v i e = by (is_result x.result v) e (making-has P ls (λ j l g. h (suc j) l g) v i)
   where

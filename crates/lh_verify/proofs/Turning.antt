@@ -1,5 +1,5 @@
 -- Turns that are right tell which values come from a `prb`.
-use Rattle.std.proofs.Common.{◌≡◌, ℕ, ◌+◌, ◌<◌, ◌≤◌, zero, suc, Bool, true, false, not, ◌||◌, ◌&&◌, nat_eq, nat_lt, nat_le, if◌then◌else◌, List, [], ◌∷◌, length, map, get_or, Option, Some, None, slice_get, refl, ap, sym, ◌∙◌, subst, arith}
+use Rattle.std.proofs.Common.{◌≡◌, ℕ, ◌+◌, ◌<◌, ◌≤◌, zero, suc, Bool, true, false, not, ◌||◌, ◌&&◌, nat_eq, nat_lt, nat_le, if◌then◌else◌, List, [], ◌∷◌, length, map, get_or, Option, Some, None, refl, ap, sym, ◌∙◌, subst, arith}
 use Rattle.std.specs.List.{list_any}
 use Rattle.std.specs.Option.{option_map, option_map_or}
 use Rattle.std.proofs.lemmas.Bool.Decides.{nat_tests}
@@ -23,6 +23,7 @@ use Rattle.lh_typing.proofs.UsesText.{uses-text}
 use Rattle.lh_verify.specs.Operands.{UseWithin}
 use Rattle.lh_verify.specs.Marking.{comes_from, Reaches, Advances}
 use Rattle.lh_verify.specs.Turns.{turn_of, is_before, comes_by, result_led, line_led, all_led, with_turns}
+use Rattle.lh_verify.proofs.MarkingSteps.{making-has}
 use Rattle.lh_verify.proofs.Places.{uses-within}
 
 -- ---- truth
@@ -163,15 +164,6 @@ at-most a b e = grind (arith, nat_tests)
 
 not-zero : (a : ℕ) → nat_eq a 0 ≡ false → a ≤ 0 → ⊥
 not-zero a e h = grind (arith, nat_tests)
-
--- what holds of each instruction holds of the one that gives a value
-making-has : (P : Inst → Type 0) (ls : List Line) → ((j : ℕ) (l : Line) → slice_get ls j ≡ Some l → P l.inst) → (v : ℕ) (i : Inst) → inst_making ls v ≡ Some i → P i
-making-has P [] h v i e = absurd cc
-making-has P (x ∷ ls) h v i e = by (is_result x.result v) e (making-has P ls (λ j l g. h (suc j) l g) v i)
-  where
-    by : (c : Bool) → (if c then Some x.inst else inst_making ls v) ≡ Some i → (inst_making ls v ≡ Some i → P i) → P i
-    by true g r = subst P (some_inj x.inst i g) (h 0 x refl)
-    by false g r = r g
 
 module _ (a : Arena) (u : ℕ) (o : IsArena a) (h : u < unit_count a) (turns : List ℕ)
     (led : all_led (inst_count a u) turns (table_at a u).lines ≡ true)

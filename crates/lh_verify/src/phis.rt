@@ -39,13 +39,7 @@ pub fn wrong_phis(
 fn no_counts(alloc: Global, labels: u32) -> Result<Vec<usize>, NoMemory>
     ensures { IfOk result (λ counts. counts.items ≡ replicate labels 0) }
 {
-    let mut counts = Vec::new(alloc);
-    for _ in 0..labels {
-        if counts.push(0).is_err() {
-            return Err(NoMemory);
-        }
-    }
-    Ok(counts)
+    Ok(vec![in alloc; 0usize; labels as usize]?)
 }
 
 fn test_places(
@@ -62,7 +56,7 @@ fn test_places(
     requires counts { Counts (label_count m.now unit.0) [] counts.old }
     ensures { IfOk result (λ wrong. wrong.items ≡ map (wrong_phi_at (table_at m.now unit.0)) places.now) }
 {
-    let mut wrong = Vec::new(alloc);
+    let mut wrong = Vec::with_capacity(alloc, places.len())?;
     for place in places {
         let is_wrong = phi_is_wrong(rows, counts, *place, m.inst(unit, place.inst));
         if wrong.push(is_wrong).is_err() {

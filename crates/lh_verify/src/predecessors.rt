@@ -31,7 +31,7 @@ pub fn predecessors(alloc: Global, m: &Module, unit: UnitId) -> Result<Vec<Block
 fn no_blocks(alloc: Global, labels: u32) -> Result<Vec<BlockList>, NoMemory>
     ensures { IfOk result (λ rows. rows.items ≡ replicate labels []) }
 {
-    let mut rows = Vec::new(alloc);
+    let mut rows = Vec::with_capacity(alloc, labels as usize)?;
     for _ in 0..labels {
         put_empty(alloc, &mut rows)?;
     }

@@ -6,7 +6,7 @@ ghost use Rattle.lh_unit.specs.Arena.{unit_count, value_count, inst_count, table
 ghost use Rattle.lh_unit.specs.declared.table.Line.{Line};
 ghost use Rattle.lh_verify.specs.Marking.{IsProbed, Reaches, Advances, comes_from as inst_comes_from};
 ghost use Rattle.lh_verify.specs.Turns.{turn_of as value_turn, is_before, comes_by, result_led, all_led, with_turns};
-ghost use Rattle.lh_typing.specs.Told.{any_sig, is_sig as inst_is_sig};
+ghost use Rattle.lh_typing.specs.Told.{any_sig};
 
 use crate::turns::turns_of;
 use lh_types::ty::NoMemory;
@@ -154,20 +154,11 @@ fn has_sig(m: &Module, unit: UnitId, insts: u32) -> bool
     ensures { result ≡ any_sig (table_at m.now unit.0).lines }
 {
     for i in 0..insts {
-        if is_sig(m.inst(unit, InstId(i))) {
+        if m.inst(unit, InstId(i)).is_sig() {
             return true;
         }
     }
     false
-}
-
-fn is_sig(inst: &Inst) -> bool
-    ensures { result ≡ inst_is_sig inst.now }
-{
-    match inst {
-        Inst::Sig(_) => true,
-        _ => false,
-    }
 }
 
 /// In each round the values that come from a `prb` by one instruction more are marked, until no value is added.

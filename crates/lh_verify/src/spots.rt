@@ -35,7 +35,7 @@ pub fn spots(alloc: Global, m: &Module, unit: UnitId) -> Result<SpotList, NoMemo
     ensures places { IfOk result (λ list. list ≡ spots_of (table_at m.now unit.0)) }
     ensures sound { IsArena m.now }
 {
-    let mut list = SpotList::new(alloc);
+    let mut list = SpotList::with_room(alloc, m.inst_count(unit) as usize)?;
     put_blocks(&mut list, m, unit, m.blocks(unit))?;
     Ok(list)
 }

@@ -3,6 +3,7 @@
 ghost use Rattle.std.specs.Prelude.{◌≡◌, ◌<◌};
 ghost use Rattle.lh_unit.specs.Arena.{unit_count, inst_count};
 
+use lh_flow::numbers::{at, put};
 use lh_types::ty::NoMemory;
 use lh_typing::uses::uses;
 use lh_unit::inst::{Inst, InstId, UnitId};
@@ -149,20 +150,5 @@ impl Search {
             Ok(()) => Ok(()),
             Err(_) => Err(NoMemory),
         }
-    }
-}
-
-/// The number at a place; 0 where there is none.
-fn at(list: &[u32], i: u32) -> u32 {
-    match list.get(i as usize) {
-        Some(x) => *x,
-        None => 0,
-    }
-}
-
-/// Writes at a place, where there is one.
-fn put(list: &mut [u32], i: u32, x: u32) {
-    if let Some(place) = list.get_mut(i as usize) {
-        *place = x;
     }
 }

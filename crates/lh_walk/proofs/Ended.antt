@@ -2,8 +2,9 @@
 use Rattle.std.proofs.Common.{◌≡◌, inl, inr, ℕ, zero, suc, ◌+◌, ◌<◌, ◌≤◌, Bool, true, false, nat_eq, List, [], ◌∷◌, ◌++◌, length, map, Option, Some, None, IsSome, is_some, slice_get, refl, ap, sym, ◌∙◌, subst, arith}
 use Rattle.std.specs.Option.{option_and_then}
 use Rattle.std.proofs.lemmas.Bool.{false≢true}
-use Rattle.std.proofs.lemmas.Option.{same_Some, none-some}
-use Rattle.lh_types.specs.Types.{TypeTree, int_type, time_type, void_type, array_type, tuple_type, signal_type, pointer_type}
+use Rattle.std.proofs.lemmas.Option.{none-some}
+use Rattle.std.proofs.lemmas.List.{map-append}
+use Rattle.lh_types.specs.Types.{signal_type}
 use Rattle.lh_unit.specs.declared.name.UnitName.{UnitName}
 use Rattle.lh_unit.specs.declared.inst.UnitKind.TheVariants as kind
 use Rattle.lh_unit.specs.declared.inst.BlockId.{BlockId}
@@ -14,14 +15,14 @@ use Rattle.lh_unit.specs.declared.inst.Inst.TheVariants as inst
 use Rattle.lh_unit.specs.ById.{maybe_id, values_used, blocks_named}
 use Rattle.lh_unit.specs.Contents.{LineText, UnitText}
 use Rattle.lh_unit.specs.Held.{front}
-use Rattle.lh_unit.specs.Kinds.{Kind, a_datum, a_time, a_pointer, kind_of, takes as kind_takes, Use, used, uses, maybe_used, signal_needed, time_needed}
+use Rattle.lh_unit.specs.Kinds.{Use, used, uses, maybe_used, signal_needed, time_needed}
 use Rattle.lh_unit.specs.Naming.{Naming, value_text, maybe_text, inst_text}
-use Rattle.lh_unit.specs.Typing.{value_type}
 use Rattle.lh_unit.specs.Within.{Each}
 use Rattle.lh_formed.specs.Defined.{IsThere, OperandsThere}
 use Rattle.lh_formed.specs.KindsOf.{HasTypeOfKind}
-use Rattle.lh_formed.specs.Operands.{IsOf, RowIs}
-use Rattle.lh_sound.proofs.EachItem.{each-split}
+use Rattle.lh_formed.specs.Operands.{RowIs}
+use Rattle.lh_formed.proofs.EachItem.{each-split}
+use Rattle.lh_formed.proofs.AtPlaces.{place-at}
 use Rattle.lh_inlined.specs.Formed.{IsWithoutCalls}
 use Rattle.lh_flat.specs.declared.flat.FlatInst.{FlatInst}
 use Rattle.lh_flat.specs.declared.flat.FlatBlock.{FlatBlock}
@@ -42,7 +43,8 @@ use Rattle.lh_rows.specs.Right.{as_block}
 use Rattle.lh_rows.specs.Typed.{IsCondition}
 use Rattle.lh_rows.proofs.Leading.{branch-known}
 use Rattle.lh_rows.proofs.Operations.{part-known}
-use Rattle.lh_rows.proofs.Sites.{Site, place-at}
+use Rattle.lh_rows.proofs.Sites.{Site}
+use Rattle.lh_rows.proofs.Blocks.{signal-of}
 use Rattle.lh_region.specs.declared.rows.RegionFault.{RegionFault}
 use Rattle.lh_walk.specs.declared.walk.Region.{Region}
 use Rattle.lh_walk.specs.declared.walk.Walk.{Walk}
@@ -69,23 +71,6 @@ term-value k n x e = by (k n) e
     by (Some (known_value y)) e = e
     by (Some (known_cell y)) e = absurd (none-some x e)
     by (Some (known_part p)) e = absurd (none-some x e)
-
--- an operand of the kind of signals is a signal
-signal-of : (u : UnitText) (m : List ℕ) → HasTypeOfKind u (used signal_needed m) → (t : TypeTree) × IsOf u (signal_type t) m
-signal-of u m k = by k.0 k.1 k.2 k.3 k.4
-  where
-    by : (t : TypeTree) (c : Kind) → value_type u m ≡ Some t → kind_of t ≡ Some c → kind_takes signal_needed c ≡ true → (t : TypeTree) × IsOf u (signal_type t) m
-    by (signal_type t) c v q w = (t, v)
-    by (int_type a) c v q w = absurd (false≢true (ap (kind_takes signal_needed) (same_Some a_datum c q) ∙ w))
-    by (array_type a t) c v q w = absurd (false≢true (ap (kind_takes signal_needed) (same_Some a_datum c q) ∙ w))
-    by (tuple_type ts) c v q w = absurd (false≢true (ap (kind_takes signal_needed) (same_Some a_datum c q) ∙ w))
-    by time_type c v q w = absurd (false≢true (ap (kind_takes signal_needed) (same_Some a_time c q) ∙ w))
-    by (pointer_type t) c v q w = absurd (false≢true (ap (kind_takes signal_needed) (same_Some a_pointer c q) ∙ w))
-    by void_type c v q w = absurd (none-some c q)
-
-map-append : {X Y : Type 0} (f : X → Y) (xs ys : List X) → map f (xs ++ ys) ≡ map f xs ++ map f ys
-map-append f [] ys = refl
-map-append f (x ∷ xs) ys = ap (λ zs. f x ∷ zs) (map-append f xs ys)
 
 maybe-some : (f : Naming) (o : Option ValueId) → is_some (maybe_text f o) ≡ is_some o
 maybe-some f None = refl

@@ -4,12 +4,11 @@ use Rattle.std.specs.Option.{option_map, option_and_then}
 use Rattle.std.proofs.lemmas.Option.{same_Some, none-some}
 use Rattle.lh_types.specs.Types.{TypeTree, signal_type, bit_count}
 use Rattle.lh_types.specs.Parts as Parts
-use Rattle.lh_types.specs.Parts.{part_range, step_part}
+use Rattle.lh_types.specs.Parts.{part_range}
 use Rattle.lh_types.specs.declared.op.Op.{Op}
 use Rattle.lh_types.specs.declared.op.Op.TheVariants as op
 use Rattle.lh_types.specs.declared.part.Range.{Range}
 use Rattle.lh_types.specs.declared.part.Step.{Step}
-use Rattle.lh_types.specs.declared.part.Step.TheVariants.{Field, Slice}
 use Rattle.lh_unit.specs.declared.name.UnitName.{UnitName}
 use Rattle.lh_unit.specs.declared.inst.Arg.{Arg}
 use Rattle.lh_unit.specs.declared.inst.Inst.{Inst}
@@ -23,13 +22,15 @@ use Rattle.lh_unit.specs.Hierarchy.{lines_of}
 use Rattle.lh_unit.specs.Naming.{Naming, operand_text, arg_text, inst_text}
 use Rattle.lh_unit.specs.Typing.{carried, or_else, value_type, result_type}
 use Rattle.lh_unit.specs.Within.{Each}
-use Rattle.lh_unit.proofs.Lists.{nat_eq-is}
+use Rattle.lh_unit.proofs.Lists.{nat_eq-is, Each-append}
 use Rattle.lh_unit.proofs.Tables.{same_name-refl}
-use Rattle.lh_formed.specs.Parts.{LeadsTo, TakesPart, HasPart}
+use Rattle.lh_unit.proofs.Within.{Each-more}
+use Rattle.lh_formed.specs.Parts.{TakesPart, HasPart}
 use Rattle.lh_formed.proofs.PartsLaw.{parts_have_ranges}
 use Rattle.lh_eval.specs.Sound.{IsSound}
 use Rattle.lh_sound.specs.Units.{HasItsType}
-use Rattle.lh_sound.proofs.EachItem.{each-split}
+use Rattle.lh_formed.proofs.EachItem.{each-split}
+use Rattle.lh_formed.proofs.PartSteps.{leads-is, takes-part, step-type}
 use Rattle.lh_flat.specs.declared.flat.Flat.{Flat}
 use Rattle.lh_flat.specs.declared.flat.FlatInst.{FlatInst}
 use Rattle.lh_flat.specs.declared.flat.FlatBlock.{FlatBlock}
@@ -42,7 +43,7 @@ use Rattle.lh_parts.specs.Steps.{step_if, step_in, is_result, if_result, step_gi
 use Rattle.lh_parts.specs.declared.step.PartStep.{PartStep}
 use Rattle.lh_rows.specs.Typed.{Among}
 use Rattle.lh_rows.specs.Right.{as_block}
-use Rattle.lh_rows.proofs.Among.{in-each, each-append, each-more}
+use Rattle.lh_rows.proofs.Among.{in-each}
 use Rattle.lh_region.specs.Forms.{Names}
 use Rattle.lh_walk.specs.Walked.{process_by}
 use Rattle.lh_walk.proofs.Parting.{argument-none}
@@ -61,11 +62,11 @@ each-inst : (P : LineText → Type 0) (f : Naming) (k : ℕ) (bs : List FlatBloc
 each-inst P f k [] h = tt
 each-inst P f k (b ∷ bs) h =
     let s = each-split P (with_merge (option_map (merge_text f) b.merge) (map (flat_line_text f) b.insts)) (lines_of (map as_block (flat_blocks_text f (k + 1) bs))) h in
-    each-append (λ (m : FlatInst). P (flat_line_text f m)) b.insts (insts_in bs) (lines-insts P f b.insts (unmerged P f b.merge (map (flat_line_text f) b.insts) s.0)) (each-inst P f (k + 1) bs s.1)
+    Each-append (λ (m : FlatInst). P (flat_line_text f m)) b.insts (insts_in bs) (lines-insts P f b.insts (unmerged P f b.merge (map (flat_line_text f) b.insts) s.0)) (each-inst P f (k + 1) bs s.1)
 
 insts-below : (v n : ℕ) (bs : List FlatBlock) → Each (BlockBelow v n) bs → Each (InstBelow v n) (insts_in bs)
 insts-below v n [] h = tt
-insts-below v n (b ∷ bs) h = each-append (InstBelow v n) b.insts (insts_in bs) h.0.insts (insts-below v n bs h.1)
+insts-below v n (b ∷ bs) h = Each-append (InstBelow v n) b.insts (insts_in bs) h.0.insts (insts-below v n bs h.1)
 
 -- ---- the instruction that a step is
 
@@ -155,19 +156,6 @@ defined a (x ∷ xs) (inr h) = by (same_name x.name a.name) (defined a xs h)
     by false e = e
 
 -- ---- what a step leads to
-
-takes-part : (u : UnitText) (o : Op) (s : Step) (os : List OperandText) → step_of o ≡ Some s → HasPart u (pure_text o os) → TakesPart u s os
-takes-part u (op.Extf k) s os q h = subst (λ (x : Step). TakesPart u x os) (same_Some (Field k) s q) h
-takes-part u (op.Exts at len) s os q h = subst (λ (x : Step). TakesPart u x os) (same_Some (Slice at len) s q) h
-takes-part u o s os q h = absurd (none-some s q)
-
-step-type : (o : Op) (s : Step) (x : OperandText) → step_of o ≡ Some s → result_type (pure_text o (x ∷ [])) ≡ x.ty
-step-type (op.Extf k) s x q = refl
-step-type (op.Exts at len) s x q = refl
-step-type o s x q = absurd (none-some s q)
-
-leads-is : (s : Step) (w of t : TypeTree) → LeadsTo s w of → w ≡ signal_type t → (z : Parts.Part) × (step_part t s ≡ Some z) × (of ≡ signal_type z.of)
-leads-is s w of t l e = subst (λ (x : TypeTree). LeadsTo s x of) e l
 
 same-carried : (x y : TypeTree) → signal_type x ≡ signal_type y → x ≡ y
 same-carried x y e = cc
@@ -278,7 +266,7 @@ module _ (name : UnitName) (f : Naming) (t : Flat) (n : Names t f) (below : IdsB
   has-steps few = record {
     args = below.args;
     few = few;
-    within = each-more Within (λ (m : FlatInst). StepWithin t.values m.result (step_in m.inst)) (insts_in t.blocks) within all-within;
+    within = Each-more Within (λ (m : FlatInst). StepWithin t.values m.result (step_in m.inst)) (insts_in t.blocks) within all-within;
     apart = apart;
     fit = fits;
   }

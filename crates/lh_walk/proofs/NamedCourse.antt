@@ -10,6 +10,7 @@ use Rattle.lh_unit.specs.Kinds.{uses}
 use Rattle.lh_unit.specs.Typing.{value_type, carried}
 use Rattle.lh_unit.specs.Within.{Each}
 use Rattle.lh_unit.proofs.Tables.{same_name-is}
+use Rattle.lh_unit.proofs.Lists.{Each-append}
 use Rattle.lh_inlined.specs.Formed.{IsFormed}
 use Rattle.lh_formed.specs.KindsOf.{HasTypeOfKind}
 use Rattle.lh_sound.specs.Units.{HasItsType}
@@ -23,7 +24,6 @@ use Rattle.lh_rows.specs.Joins.{Place, Edge, joined, with_phi, with_phis, known_
 use Rattle.lh_rows.specs.Places.{Region, Here, Midst, gives, probes, with_drive, drive_cond, drives, asserts, ends, goes, goes_if, both, leads, branches, ends_if, block_number, next_place, takes, takes_all}
 use Rattle.lh_rows.specs.Regions.{Course, comes_to, is_place, edges_to, edges_of_ends, through_block, through, through_reached, head_of, with_constant, with_constants, lines_at, known_first}
 use Rattle.lh_rows.specs.Right.{as_block}
-use Rattle.lh_rows.proofs.Among.{each-append}
 use Rattle.lh_rows.proofs.Sites.{block-lines}
 use Rattle.lh_rows.proofs.Labels.{block-text}
 use Rattle.lh_rows.proofs.Joining.{GiveEach, given-each, value_on, cell_on, part_on, JoinCase, of_value, of_cell, of_part, join-case, merged-of, known-by-value, known-by-cell, known-by-part}
@@ -131,14 +131,14 @@ module _ (u : UnitText) where
   asserts-named m (Some ts) s = record { known = s.known; edges = s.edges; ends = s.ends }
 
   ends-named : (h : Here) (c : Tree) (m : Midst) (w : Way) → MidstNamed u m → MidstNamed u (ends h c m w)
-  ends-named h c m w s = record { known = s.known; edges = s.edges; ends = each-append (EndNamed u) m.rows.ends (record { cond = c; way = w; from = h.label; known = m.known } ∷ []) s.ends (s.known, tt) }
+  ends-named h c m w s = record { known = s.known; edges = s.edges; ends = Each-append (EndNamed u) m.rows.ends (record { cond = c; way = w; from = h.label; known = m.known } ∷ []) s.ends (s.known, tt) }
 
   goes-named : (g : Region) (h : Here) (c : Tree) (m : Midst) (b : ℕ) → MidstNamed u m → MidstNamed u (goes g h c m b)
   goes-named g h c m b s = by (g.ends_at_head && nat_eq b g.head)
     where
       by : (t : Bool) → MidstNamed u (if t then ends h c m enters_head else record m { edges = m.edges ++ record { to = next_place h.place b; from = h.label; cond = c; known = m.known } ∷ [] })
       by true = ends-named h c m enters_head s
-      by false = record { known = s.known; edges = each-append (EdgeNamed u) m.edges (record { to = next_place h.place b; from = h.label; cond = c; known = m.known } ∷ []) s.edges (s.known, tt); ends = s.ends }
+      by false = record { known = s.known; edges = Each-append (EdgeNamed u) m.edges (record { to = next_place h.place b; from = h.label; cond = c; known = m.known } ∷ []) s.edges (s.known, tt); ends = s.ends }
 
   leads-named : (g : Region) (h : Here) (c : Tree) (label : List ℕ) (m : Midst) → MidstNamed u m → MidstNamed u (leads g h c label m)
   leads-named g h c label m s = by (is_zero c) (block_number label g.blocks)

@@ -15,7 +15,7 @@ use Rattle.lh_unit.specs.declared.inst.Typed.{Typed}
 use Rattle.lh_unit.specs.declared.inst.ValueId.{ValueId}
 use Rattle.lh_unit.specs.declared.inst.Arg.{Arg}
 use Rattle.lh_unit.specs.ById.{operand_ids, maybe_id, values_used}
-use Rattle.lh_unit.specs.Contents.{OperandText, InstText, pure_text, LineText, BlockText, ArgText, UnitText, same_name, is_result_name, args_define}
+use Rattle.lh_unit.specs.Contents.{OperandText, InstText, pure_text, LineText, ArgText, UnitText, same_name, is_result_name, args_define}
 use Rattle.lh_unit.specs.Effects.{step_of}
 use Rattle.lh_unit.specs.Hierarchy.{lines_of}
 use Rattle.lh_unit.specs.Naming.{Naming, maybe_text, operand_text, arg_text, inst_text}
@@ -23,10 +23,11 @@ use Rattle.lh_unit.specs.Reads.{args_repeat}
 use Rattle.lh_unit.specs.Typing.{carried, or_else, line_giving, inst_giving}
 use Rattle.lh_unit.specs.WellFormed.{is_phi}
 use Rattle.lh_unit.specs.Within.{Each}
-use Rattle.lh_unit.proofs.Lists.{Same, same, other, same_or, nat_eq-refl, nat_eq-other, nat_eq-is}
+use Rattle.lh_unit.proofs.Lists.{Same, same, other, same_or, nat_eq-refl, nat_eq-other, nat_eq-is, Each-append}
 use Rattle.lh_unit.proofs.Tables.{same_name-is, same_name-refl}
-use Rattle.lh_spelled.specs.Printable.{all_lines, results_repeat}
-use Rattle.lh_sound.proofs.EachItem.{each-split}
+use Rattle.lh_unit.proofs.Within.{Each-more}
+use Rattle.lh_spelled.specs.Printable.{results_repeat}
+use Rattle.lh_formed.proofs.EachItem.{each-split}
 use Rattle.lh_sound.proofs.FindingStatic.{result-is}
 use Rattle.lh_sound.proofs.NamedOnce.{IsFirst, each-first, giving-lines}
 use Rattle.lh_flat.specs.declared.flat.Flat.{Flat}
@@ -45,7 +46,7 @@ use Rattle.lh_rows.specs.Known.{known_part, whole_argument}
 use Rattle.lh_rows.specs.Places.{stepped}
 use Rattle.lh_rows.specs.Typed.{Among, argument_part, IsPartOf, of_argument, of_step}
 use Rattle.lh_rows.specs.Right.{as_block}
-use Rattle.lh_rows.proofs.Among.{in-each, each-append, each-more, among-split, among-left, among-right}
+use Rattle.lh_rows.proofs.Among.{in-each, among-split, among-left, among-right}
 use Rattle.lh_rows.proofs.PartsNamed.{part-argument}
 use Rattle.lh_region.specs.Forms.{Names}
 use Rattle.lh_walk.specs.Walked.{process_by}
@@ -131,10 +132,6 @@ result-same f t n v (Some r) l b = by (same_or r.0 v)
     by (other x) = apart x (same_name (f.value_name r.0) (f.value_name v)) refl ∙ sym (nat_eq-other r.0 v x)
 
 -- ---- lines by their names
-
-same-lines : (bs : List BlockText) → all_lines bs ≡ lines_of bs
-same-lines [] = refl
-same-lines (b ∷ bs) = ap (λ ls. b.lines ++ ls) (same-lines bs)
 
 abbrev GivesOne : (n : List ℕ) → InstText → LineText → Type 0
 GivesOne n j l = (is_result_name n l.result ≡ true) × (l.inst ≡ j)
@@ -279,12 +276,12 @@ module _ (name : UnitName) (f : Naming) (t : Flat) (n : Names t f) (below : IdsB
   blocks-fine k [] h w = tt
   blocks-fine k (b ∷ bs) h w =
       let s = each-split First (with_merge (option_map (merge_text f) b.merge) (map (flat_line_text f) b.insts)) (text_lines f (k + 1) bs) h in
-      each-append Fine b.insts (insts_in bs) (insts-fine b.insts (unmerged b.merge (map (flat_line_text f) b.insts) s.0) w.0.insts) (blocks-fine (k + 1) bs s.1 w.1)
+      Each-append Fine b.insts (insts_in bs) (insts-fine b.insts (unmerged b.merge (map (flat_line_text f) b.insts) s.0) w.0.insts) (blocks-fine (k + 1) bs s.1 w.1)
 
   all-fine : Each Fine (insts_in t.blocks)
   all-fine =
       let c = n.formed name in
-      let new : results_repeat u.args [] (lines_of u.blocks) ≡ false = ap (results_repeat u.args []) (sym (same-lines u.blocks)) ∙ c.new_results in
+      let new : results_repeat u.args [] (lines_of u.blocks) ≡ false = c.new_results in
       blocks-fine 0 t.blocks (each-first u.args (lines_of u.blocks) [] (lines_of u.blocks) refl new) below.blocks
 
   -- the step that gives a value is that of the one line of its name
@@ -294,7 +291,7 @@ module _ (name : UnitName) (f : Naming) (t : Flat) (n : Names t f) (below : IdsB
       let y = among-insts f 0 t.blocks x.0 x.1 (ap is_phi x.2.1) in
       let z = in-each Fine (insts_in t.blocks) y.0 all-fine y.1 in
       let r : is_result v y.0.result ≡ true = sym (result-same f t n v y.0.result l z.1.result) ∙ ap (λ (w : LineText). is_result_name (f.value_name v) w.result) y.2 ∙ x.2.0 in
-      step-found (insts_in t.blocks) v (step_on o args) y.0 y.1 r (each-more Fine (λ (m : FlatInst). is_result v m.result ≡ true → step_in m.inst ≡ step_on o args) (insts_in t.blocks) gives all-fine)
+      step-found (insts_in t.blocks) v (step_on o args) y.0 y.1 r (Each-more Fine (λ (m : FlatInst). is_result v m.result ≡ true → step_in m.inst ≡ step_on o args) (insts_in t.blocks) gives all-fine)
     where
       gives : (m : FlatInst) → Fine m → is_result v m.result ≡ true → step_in m.inst ≡ step_on o args
       gives m h r =
@@ -326,7 +323,7 @@ module _ (name : UnitName) (f : Naming) (t : Flat) (n : Names t f) (below : IdsB
 
   -- an argument is given by no instruction
   pub argument-none : (v : ℕ) → v < t.values → args_define (f.value_name v) u.args ≡ true → step_giving (insts_in t.blocks) v ≡ None
-  argument-none v l d = step-none (insts_in t.blocks) v (each-more Fine (λ (m : FlatInst). is_result v m.result ≡ false) (insts_in t.blocks) (λ m h. by m h (is_result v m.result) refl) all-fine)
+  argument-none v l d = step-none (insts_in t.blocks) v (Each-more Fine (λ (m : FlatInst). is_result v m.result ≡ false) (insts_in t.blocks) (λ m h. by m h (is_result v m.result) refl) all-fine)
     where
       by : (m : FlatInst) → Fine m → (b : Bool) → is_result v m.result ≡ b → b ≡ false
       by m h false e = refl

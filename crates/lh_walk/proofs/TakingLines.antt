@@ -22,7 +22,7 @@ use Rattle.lh_unit.specs.Effects.{step_of}
 use Rattle.lh_unit.specs.Held.{front}
 use Rattle.lh_unit.specs.Kinds.{Use, all_used, data_or_time_needed}
 use Rattle.lh_unit.specs.Naming.{Naming, value_text, maybe_text, operand_text, inst_text}
-use Rattle.lh_unit.specs.Typing.{value_type, is_value_type, result_type, carried, first_type, operation_type}
+use Rattle.lh_unit.specs.Typing.{value_type, is_value_type, result_type, carried, operation_type}
 use Rattle.lh_unit.specs.TypingRows.{bit}
 use Rattle.lh_unit.specs.WellFormed.{assert_args}
 use Rattle.lh_unit.specs.Within.{Each}
@@ -33,7 +33,8 @@ use Rattle.lh_formed.specs.Operands.{IsOf, RowIs}
 use Rattle.lh_formed.specs.Parts.{HasPart}
 use Rattle.lh_eval.specs.Sound.{IsWrittenRight}
 use Rattle.lh_eval.proofs.GivesFit.{constants-fit}
-use Rattle.lh_sound.proofs.EachItem.{each-split}
+use Rattle.lh_formed.proofs.EachItem.{each-split}
+use Rattle.lh_formed.proofs.AtPlaces.{place-at}
 use Rattle.lh_sound.proofs.Finding.{some-of}
 use Rattle.lh_inlined.specs.Formed.{IsWithoutCalls}
 use Rattle.lh_flat.specs.declared.flat.FlatInst.{FlatInst}
@@ -63,10 +64,11 @@ use Rattle.lh_rows.specs.Typed.{known_type, IsTypedKnown, KnowsTyped, IsConditio
 use Rattle.lh_rows.specs.Right.{as_block, BlockAt}
 use Rattle.lh_rows.proofs.Knowing.{phis-more, constant-typed}
 use Rattle.lh_rows.proofs.Operations.{term-type, PartStep}
-use Rattle.lh_rows.proofs.Sites.{Site, place-at, block-lines}
+use Rattle.lh_rows.proofs.Sites.{Site, block-lines}
 use Rattle.lh_rows.proofs.Steps.{RegionOf, text-at}
 use Rattle.lh_rows.proofs.Taking as Taking
 use Rattle.lh_rows.proofs.Leading as Leading
+use Rattle.lh_rows.proofs.Taking.{step-first}
 use Rattle.lh_region.specs.declared.state.Place.{Place}
 use Rattle.lh_region.specs.declared.ahead.Ahead.{Ahead}
 use Rattle.lh_region.specs.declared.rows.Rows.{Rows}
@@ -195,12 +197,6 @@ no-step f o (y ∷ []) n x s t e q h =
     let ty : y.ty ≡ Some (signal_type t) = (λ j. (g j).ty) ∙ h in
     let some : step_on o (y ∷ []) ≡ Some (record { from = y.value; op = o; ty = t }) = λ j. step_if o y.value (q j) (option_and_then carried (ty j)) in
     none-some (record { from = y.value; op = o; ty = t }) (sym n ∙ some)
-
--- a step into a signal gives a value of the type that is written
-step-first : (o : Op) (s : Step) (os : List OperandText) → step_of o ≡ Some s → operation_type o os ≡ first_type os
-step-first (op.Extf k) s os q = refl
-step-first (op.Exts at len) s os q = refl
-step-first o s os q = absurd (none-some s q)
 
 -- what is known of a signal is no term
 part-term : (u : UnitText) (n : List ℕ) (a : Known) (t : TypeTree) → IsTypedKnown u n a → known_type a ≡ signal_type t → as_term a ≡ None

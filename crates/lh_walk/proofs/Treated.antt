@@ -23,7 +23,7 @@ use Rattle.lh_term.specs.declared.term.Node.{Node}
 use Rattle.lh_term.proofs.Arenas.{map_length}
 use Rattle.lh_term.proofs.Swaps.{grows_on}
 use Rattle.lh_joins.proofs.Conditions.{grows-none}
-use Rattle.lh_sound.proofs.EachItem.{each-split}
+use Rattle.lh_formed.proofs.EachItem.{each-split}
 use Rattle.lh_rows.specs.Joins.{Edge as EdgeTo}
 use Rattle.lh_rows.specs.Places.{Region as RegionText, Here, Midst, takes, takes_all}
 use Rattle.lh_rows.specs.Regions.{Course, stops, comes_to, region_too_large, too_many_turns, max_insts, turns_too_often, after_lines}

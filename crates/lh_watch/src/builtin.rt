@@ -146,7 +146,8 @@ impl Watcher for UntilFail {
     }
 }
 
-fn any_failed(outcomes: &[Outcome]) -> bool
+/// Whether an assertion failed, by the outcomes of those that were asked.
+pub fn any_failed(outcomes: &[Outcome]) -> bool
     ensures { result ≡ has_failed outcomes.now }
 {
     outcomes.iter().any(|o| !o.passed)

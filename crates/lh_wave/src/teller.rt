@@ -23,6 +23,7 @@ use lh_io::whole::write_all;
 use lh_kernel::{Sim, SimStep};
 use lh_types::frame::{Frame, Outcome};
 use lh_types::tally::Tally;
+use lh_watch::builtin::any_failed;
 use lh_watch::shows::show;
 use lh_watch::watcher::Watcher;
 use std::alloc::Global;
@@ -213,10 +214,4 @@ fn failed_so_far(before: bool, outcomes: &[Outcome]) -> bool
     ensures { result ≡ before || has_failed outcomes.now }
 {
     before || any_failed(outcomes)
-}
-
-fn any_failed(outcomes: &[Outcome]) -> bool
-    ensures { result ≡ has_failed outcomes.now }
-{
-    outcomes.iter().any(|o| !o.passed)
 }

@@ -1,4 +1,5 @@
 //! Pieces of lines at their limits, worked out by hand.
+use lh_scan::fault::ScanFault;
 use lh_scan::list::{behind, list, parts};
 use lh_scan::numbers::{count, integer, number};
 use lh_scan::times::time;
@@ -6,21 +7,17 @@ use lh_scan::tokens::{NameText, Tokens};
 use lh_scan::types::ty;
 use lh_time::Delay;
 use lh_types::list::ListOf;
-use lh_types::ty::{NoMemory, Ty};
 use std::alloc::Global;
 
 /// Whether the whole text is one type.
-fn is_type(alloc: Global, text: &[u8]) -> Result<bool, NoMemory> {
+fn is_type(alloc: Global, text: &[u8]) -> Result<bool, ScanFault> {
     let Some(tokens) = Tokens::of(text) else {
         return Ok(false);
     };
-    Ok(is_whole(ty(alloc, &tokens)?))
-}
-
-fn is_whole(found: Option<(Ty, Tokens)>) -> bool {
-    match found {
-        Some((_ty, rest)) => rest.end().is_some(),
-        None => false,
+    match ty(alloc, &tokens) {
+        Ok((_ty, rest)) => Ok(rest.end().is_some()),
+        Err(ScanFault::NotSpelled) => Ok(false),
+        Err(fault) => Err(fault),
     }
 }
 
@@ -177,21 +174,22 @@ fn numbers_and_words(rt: HostRuntime) {
 }
 
 /// How many names stand in a list before `)`, behind a comma each, and by comma.
-fn names(alloc: Global, text: &[u8]) -> Result<[Option<usize>; 3], NoMemory> {
+fn names(alloc: Global, text: &[u8]) -> Result<[Option<usize>; 3], ScanFault> {
     let Some(tokens) = Tokens::of(text) else {
         return Ok([None; 3]);
     };
     Ok([
-        len(list(alloc, &tokens, b')')?),
-        len(behind(alloc, &tokens)?),
-        len(parts(alloc, &tokens)?),
+        len(list(alloc, &tokens, b')'))?,
+        len(behind(alloc, &tokens))?,
+        len(parts(alloc, &tokens))?,
     ])
 }
 
-fn len(found: Option<(ListOf<NameText>, Tokens)>) -> Option<usize> {
+fn len(found: Result<(ListOf<NameText>, Tokens), ScanFault>) -> Result<Option<usize>, ScanFault> {
     match found {
-        Some((names, _)) => Some(names.len()),
-        None => None,
+        Ok((names, _)) => Ok(Some(names.len())),
+        Err(ScanFault::NotSpelled) => Ok(None),
+        Err(fault) => Err(fault),
     }
 }
 

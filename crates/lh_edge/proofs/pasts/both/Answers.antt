@@ -1,4 +1,4 @@
-use Rattle.lh_edge.proofs.Meaning.{and_typed}
+use Rattle.lh_term.proofs.Conditions.{and_typed}
 use Rattle.lh_edge.proofs.pasts.both.Goals as goal
 
 pub op-requires-clause-fits : goal.op-requires-clause-fits

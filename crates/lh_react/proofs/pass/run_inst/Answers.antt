@@ -14,6 +14,6 @@ returns c = λ p st.
     let m = c.args.m.now in
     let n = c.result_of-name.ensures.value in
     let i = c.inst-inst.ensures.inst in
-    let e : passed_by m c.args.unit.0 c.args.now.now c.args.state.now c.args.at p c.result_of-name.result c.inst-inst.result.now ≡ passed_all m c.args.unit.0 c.args.now.now c.args.state.now c.args.at p (c.args.inst ∷ []) =
-    λ k. passed_by m c.args.unit.0 c.args.now.now c.args.state.now c.args.at p (n k) (i k) in
+    let e : passed_by m c.args.unit.0 c.args.now.now c.args.state.now.memory c.args.at p c.result_of-name.result c.inst-inst.result.now ≡ passed_all m c.args.unit.0 c.args.now.now c.args.state.now.memory c.args.at p (c.args.inst ∷ []) =
+    λ k. passed_by m c.args.unit.0 c.args.now.now c.args.state.now.memory c.args.at p (n k) (i k) in
     subst (λ (q : Passed). OnOk c.run_named.result (Stands m c.args.unit.0 q c.run_named.new.run)) e (c.run_named.ensures p st)

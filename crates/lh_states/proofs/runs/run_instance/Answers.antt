@@ -1,6 +1,6 @@
 use Rattle.std.proofs.Common.{length}
 use Rattle.lh_exec.proofs.Begins.{some-state}
-use Rattle.lh_states.proofs.Sound.{process-fits, entity-kind, process-sound, entity-sound}
+use Rattle.lh_states.proofs.Sound.{process-fits, entity-fits, process-sound, entity-sound}
 use Rattle.lh_states.proofs.runs.run_instance.Goals as goal
 
 pub returns-in_ok-act-in-Process-clause-sound : goal.returns-in_ok-act-in-Process-clause-sound
@@ -17,5 +17,5 @@ returns-in-Ok-clause-sound g c =
     let m = c.args.m.now in
     let i = c.args.i.now in
     let width = length c.args.now.now in
-    let k = entity-kind m width i c.args.s.now c.in-Entity.entity c.in-Entity.is c.requires.fits in
-    entity-sound m width c.args.now.now c.args.at i c.in-Entity.entity c.in-Ok.act c.new.result k c.in-Ok.ensures.act
+    let f = entity-fits m width i c.args.s.now c.in-Entity.entity c.in-Entity.is c.requires.fits in
+    entity-sound m width c.args.now.now c.args.at i c.in-Entity.entity.memory c.in-Ok.act c.new.result f.0 c.in-Ok.ensures.act

@@ -4,8 +4,8 @@ use Rattle.lh_typing.proofs.params.arg_numbers.Goals as goal
 
 pub loop-arg-init : goal.loop-arg-init
 loop-arg-init c = record {
-  long = long-none c.args.args.now c.new-list.result c.new-list.ensures;
-  numbers = numbers-none c.args.types.now c.args.args.now c.new-list.result c.new-list.ensures;
+  long = long-none c.args.args.now c.in_ok-list.list c.in_ok-list.ensures;
+  numbers = numbers-none c.args.types.now c.args.args.now c.in_ok-list.list c.in_ok-list.ensures;
   grows = λ n t g. g;
 }
 

@@ -3,7 +3,7 @@ use Rattle.lh_unit.specs.Design.{signal_ranges}
 use Rattle.lh_elab.specs.declared.plan.PlanSignal.{PlanSignal}
 use Rattle.lh_elab.specs.Plans.{signal_of, SignalFits}
 use Rattle.lh_elab.specs.Builds.{AddsSignals}
-use Rattle.lh_elab.proofs.StaticSteps.{each-rest}
+use Rattle.lh_formed.proofs.EachItem.{each-rest}
 use Rattle.lh_elab.proofs.BuildSteps.{adds-more, rest-more, ranges-more, more-signals, room-next}
 use Rattle.lh_elab.proofs.build.Building.put_signals.Goals as goal
 

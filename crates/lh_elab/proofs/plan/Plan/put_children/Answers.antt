@@ -5,7 +5,8 @@ use Rattle.lh_unit.specs.Naming.{inst_text}
 use Rattle.lh_unit.specs.declared.inst.Inst.{Inst}
 use Rattle.lh_unit.specs.declared.inst.InstId.{InstId}
 use Rattle.lh_elab.specs.Plans.{child_of}
-use Rattle.lh_elab.proofs.StaticSteps.{line_in, each-rest}
+use Rattle.lh_formed.proofs.EachItem.{each-rest}
+use Rattle.lh_elab.proofs.StaticSteps.{line_in}
 use Rattle.lh_elab.proofs.ChildSteps.{more-children, all-children, placed-child}
 use Rattle.lh_elab.proofs.plan.Plan.put_children.Goals as goal
 

@@ -11,7 +11,8 @@ use Rattle.lh_formed.specs.Operands.{RowIs}
 use Rattle.lh_eval.specs.Sound.{IsSound}
 use Rattle.lh_sound.specs.Units.{WritesData, SigWritesData}
 use Rattle.lh_elab.specs.Plans.{signal_of}
-use Rattle.lh_elab.proofs.StaticSteps.{line_in, each-rest}
+use Rattle.lh_formed.proofs.EachItem.{each-rest}
+use Rattle.lh_elab.proofs.StaticSteps.{line_in}
 use Rattle.lh_elab.proofs.PlanSteps.{signal-line}
 use Rattle.lh_elab.proofs.ChildSteps.{more-signals, all-signals}
 use Rattle.lh_elab.proofs.plan.Plan.put_signals.Goals as goal

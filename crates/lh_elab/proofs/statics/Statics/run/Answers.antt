@@ -10,7 +10,8 @@ use Rattle.lh_unit.proofs.ById.{result-within}
 use Rattle.lh_eval.specs.Sound.{IsSound}
 use Rattle.lh_eval.proofs.BeginSteps.{maybe-in}
 use Rattle.lh_elab.specs.Statics.{by_of, Follows}
-use Rattle.lh_elab.proofs.StaticSteps.{line_in, each-rest, more-fit, goes-on, ends}
+use Rattle.lh_formed.proofs.EachItem.{each-rest}
+use Rattle.lh_elab.proofs.StaticSteps.{line_in, more-fit, goes-on, ends}
 use Rattle.lh_elab.proofs.statics.Statics.run.Goals as goal
 
 pub loop-inst-init : goal.loop-inst-init

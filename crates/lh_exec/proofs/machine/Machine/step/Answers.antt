@@ -2,23 +2,26 @@ use Rattle.std.proofs.Common.{◌<◌, ◌∙◌, List, get_or, length, ap, sym,
 use Rattle.lh_unit.specs.Arena.{block_insts_at, inst_count, inst_at, result_at}
 use Rattle.lh_unit.specs.Within.{Each}
 use Rattle.lh_unit.specs.declared.inst.InstId.{InstId}
+use Rattle.lh_unit.proofs.Lists.{Each-at}
 use Rattle.lh_exec.specs.Standing.{scene_of}
-use Rattle.lh_exec.proofs.Passing.{each-get, name-in, past-is, past, insts-here, stepped, line-right, past-fits}
+use Rattle.lh_exec.proofs.Passing.{name-in, past-is, past, insts-here, stepped, line-right, past-fits}
 use Rattle.lh_exec.proofs.machine.Machine.step.Goals as goal
 
 pub result_of-name-requires-clause-inst : goal.result_of-name-requires-clause-inst
 result_of-name-requires-clause-inst c =
     let d : InstId = record { 0 = 0 } in
     let h : c.args.self.now.frame.next < length c.insts-insts.result.now = omega arith in
-    each-get (λ (i : InstId). i.0 < inst_count c.args.m.now c.args.self.now.frame.unit.0) c.insts-insts.result.now c.args.self.now.frame.next d h
+    Each-at (λ (i : InstId). i.0 < inst_count c.args.m.now c.args.self.now.frame.unit.0) c.insts-insts.result.now c.args.self.now.frame.next d
     (subst (Each (λ (i : InstId). i.0 < inst_count c.args.m.now c.args.self.now.frame.unit.0)) (sym c.insts-insts.ensures.insts) (insts-here c.args.m.now c.args.self.now c.requires.fit.point c.requires.fit.is))
+    h
 
 pub inst-requires-clause-inst : goal.inst-requires-clause-inst
 inst-requires-clause-inst c =
     let d : InstId = record { 0 = 0 } in
     let h : c.args.self.now.frame.next < length c.insts-insts.result.now = omega arith in
-    each-get (λ (i : InstId). i.0 < inst_count c.args.m.now c.args.self.now.frame.unit.0) c.insts-insts.result.now c.args.self.now.frame.next d h
+    Each-at (λ (i : InstId). i.0 < inst_count c.args.m.now c.args.self.now.frame.unit.0) c.insts-insts.result.now c.args.self.now.frame.next d
     (subst (Each (λ (i : InstId). i.0 < inst_count c.args.m.now c.args.self.now.frame.unit.0)) (sym c.insts-insts.ensures.insts) (insts-here c.args.m.now c.args.self.now c.requires.fit.point c.requires.fit.is))
+    h
 
 pub execute-requires-clause-name : goal.execute-requires-clause-name
 execute-requires-clause-name c =

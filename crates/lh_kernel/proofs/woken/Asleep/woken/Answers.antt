@@ -14,8 +14,8 @@ loop-signal-preserved c =
     c.loop-signal-test.true refl c.loop-signal.invariant c.in_ok-rouse.ensures
 
 pub returns : goal.returns
-returns c = λ a last asleep.
+returns c = λ a asleep.
     let x = c.args.self.now in
-    woken_are a x.design.now x.states.now x.probes.now x.noted.now c.args.at last c.args.old.now c.args.now.now c.args.touched.now c.in_ok-woken.woken c.loop-signal.woken asleep c.in_ok-woken.ensures c.requires.others
+    woken_are a x.design.now x.states.now x.probes.now x.noted.now c.args.at c.args.old.now c.args.now.now c.args.touched.now c.in_ok-woken.woken c.loop-signal.woken asleep c.in_ok-woken.ensures c.requires.others
     (woken_end x.design.now.signals.items x.states.now x.probes.now x.noted.now c.args.old.now c.args.now.now c.as_slice-signal-items.result.now c.args.touched.now c.loop-signal.signal-index c.in_ok-woken.woken c.loop-signal.woken c.as_slice-signal-items.ensures.same c.loop-signal-test.false c.loop-signal.invariant)
     c.as_slice.ensures.rising

@@ -1,0 +1,33 @@
+-- What holds of each item of a list.
+use Rattle.std.proofs.Common.{◌≡◌, ℕ, zero, suc, ◌+◌, List, [], ◌∷◌, ◌<◌, ◌++◌, length, drop, get_or, map, Some, refl, subst, arith}
+use Rattle.std.specs.Prelude.{slice_get}
+use Rattle.std.specs.List.{Contains}
+use Rattle.std.proofs.lemmas.List.{drop_more}
+use Rattle.std.proofs.lemmas.List.Elements.{Contains-append_right}
+use Rattle.std.proofs.lemmas.Option.{same_Some, none-some}
+use Rattle.lh_unit.specs.Within.{Each}
+
+-- of each where it holds of what the list contains
+pub each-contained : {X : Type 0} (Q : X → Type 0) (xs : List X) → ((x : X) → Contains xs x → Q x) → Each Q xs
+each-contained Q [] go = tt
+each-contained Q (x ∷ xs) go = (go x (0, omega arith, refl), each-contained Q xs (λ y c. go y (Contains-append_right (x ∷ []) xs y c)))
+
+-- of both parts of a list
+pub each-split : {X : Type 0} (P : X → Type 0) (xs ys : List X) → Each P (xs ++ ys) → Each P xs × Each P ys
+each-split P [] ys e = (tt, e)
+each-split P (x ∷ xs) ys e = let r = each-split P xs ys e.1 in ((e.0, r.0), r.1)
+
+-- what holds of the texts of items holds of the items
+pub each-of-map : {X Y : Type 0} (P : Y → Type 0) (f : X → Y) (xs : List X) → Each P (map f xs) → Each (λ (x : X). P (f x)) xs
+each-of-map P f [] e = tt
+each-of-map P f (x ∷ xs) e = (e.0, each-of-map P f xs e.1)
+
+-- of the text of the item at an index
+pub each-at : {X Y : Type 0} (P : Y → Type 0) (f : X → Y) (xs : List X) (i : ℕ) (x : X) → Each P (map f xs) → slice_get xs i ≡ Some x → P (f x)
+each-at P f [] i x e h = absurd (none-some x h)
+each-at P f (y ∷ xs) zero x e h = subst (λ z. P (f z)) (same_Some y x h) e.0
+each-at P f (y ∷ xs) (suc i) x e h = each-at P f xs i x e.1 h
+
+-- of the next item, and of those after it
+pub each-rest : {X : Type 0} (P : X → Type 0) (xs : List X) (i : ℕ) (d : X) → i < length xs → Each P (drop i xs) → P (get_or xs i d) × Each P (drop (i + 1) xs)
+each-rest P xs i d h e = let f = subst (Each P) (drop_more xs i d h) e in (f.0, f.1)
