@@ -7,7 +7,7 @@ ghost use Rattle.lh_unit.specs.Arena.{contents};
 ghost use Rattle.lh_unit.specs.Canon.{canon};
 ghost use Rattle.lh_unit.specs.Reads.{Reads};
 ghost use Rattle.lh_unit.specs.WellFormed.{IsSpelled};
-ghost use Rattle.lh_read.specs.Reading.{Gives, Names};
+ghost use Rattle.lh_read.specs.Reading.{ModuleOrNoMemory, Names};
 
 use lh_print::print;
 use lh_read::{TextFault, read};
@@ -18,7 +18,7 @@ use std::alloc::Global;
 pub fn read_spelled(alloc: Global, text: &[u8]) -> Result<Module, TextFault>
     requires { length text.now ≤ 67108864 }
     ensures ok { IfOk result (λ m. Reads text.now (contents m)) }
-    ensures only { (items : List ItemText) → Reads text.now items → Gives result items }
+    ensures only { (items : List ItemText) → Reads text.now items → ModuleOrNoMemory result items }
     ensures spelled { IfOk result (λ m. IsSpelled (contents m)) }
     ensures fault { IfErr result (λ e. Names e text.now) }
 {
@@ -29,7 +29,7 @@ pub fn read_spelled(alloc: Global, text: &[u8]) -> Result<Module, TextFault>
 pub fn print_and_read(alloc: Global, m: &Module) -> Result<Module, TextFault>
     requires spelled { IsSpelled (contents m.now) }
     requires short { length (canon (contents m.now)) ≤ 67108864 }
-    ensures { Gives result (contents m.now) }
+    ensures { ModuleOrNoMemory result (contents m.now) }
 {
     match print(alloc, m) {
         Ok(text) => read(alloc, &text),

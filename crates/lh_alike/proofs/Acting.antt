@@ -33,11 +33,13 @@ flat_texts_act a u args now t s process flat name text bound limit done b e m l 
     acts : (process.stand ≡ halted → ⊥) → (d : Activated) × (activate limit (scene_of a now t) (unit_text_at a u) process ≡ Some d) × EndsAlike (functions (contents a)) (unit_text_at a u) d done
     acts h =
         let z = begin-holds a u b.arena b.within b.process b.formed (length now) args b.ranges s.stand b.fits process b.stands h in
-        activates_alike (scene_of a now t) (unit_text_at a u) name text process flat bound limit done e (processes_are_tidy a u b.arena b.formed b.within b.process) (functions_are_tidy (contents a) b.formed) m l
+        activates_alike (scene_of a now t) (unit_text_at a u) name text process flat bound limit done e (processes_are_tidy a u b.arena b.formed b.within b.process)
+        (functions_are_tidy (contents a) b.formed) m l
         record {
           control = z.0;
           begins = z.1;
-          goes_on = goes-on limit (scene_of a now t) (length now) (start_point z.0) (λ points q k. activation-steady a u b.arena b.within b.process b.formed now t args b.ranges s.stand b.fits process b.stands z.0 z.1 points q k);
+          goes_on = goes-on limit (scene_of a now t) (length now) (start_point z.0)
+              (λ points q k. activation-steady a u b.arena b.within b.process b.formed now t args b.ranges s.stand b.fits process b.stands z.0 z.1 points q k);
         }
         r
 

@@ -87,7 +87,8 @@ module _ (p : Point) where
   executes-old s (br_text to) r = jumps-old (entered p.control.unit p.control.held p.control.block to)
   executes-old s (branch_text cond first second) r = jumps-old (option_and_then (entered p.control.unit p.control.held p.control.block) (chosen (test_at p.control.held cond) first second))
   executes-old s (wait_text to after on) r =
-      ends-old p.callers (waiting p.control.block to (parts_at p.control.held on) (wake_at s.at p.control.held after)) (waiting-old p.control.block to (parts_at p.control.held on) (wake_at s.at p.control.held after))
+      ends-old p.callers (waiting p.control.block to (parts_at p.control.held on) (wake_at s.at p.control.held after))
+      (waiting-old p.control.block to (parts_at p.control.held on) (wake_at s.at p.control.held after))
   executes-old s halt_text r = ends-old p.callers (Some halted) (λ e. let x : halted ≡ is_new = same_Some halted is_new e in absurd cc)
   executes-old s (ret_text o) r = returns-old o p.callers
   executes-old s (sig_text a) r = tt
@@ -118,7 +119,8 @@ module _ (items : List ItemText) (now : List Bool) (t : Instant) (fs : Functions
   run-fits zero p f d e = absurd (none-some d e)
   run-fits (suc n) p f d e = by (step scene p) (step-fits items now t fs u p f) e (run-fits n)
     where
-      by : (x : Next) → NextFits items (length now) t u p.control.unit x → went x (run n scene) ≡ Some d → ((q : Point) → PointFits items (length now) u q → (c : Activated) → run n scene q ≡ Some c → DoneFits (length now) t u c) → DoneFits (length now) t u d
+      by : (x : Next) → NextFits items (length now) t u p.control.unit x → went x (run n scene) ≡ Some d
+          → ((q : Point) → PointFits items (length now) u q → (c : Activated) → run n scene q ≡ Some c → DoneFits (length now) t u c) → DoneFits (length now) t u d
       by (goes q) g c go = go q g d c
       by (ends b) g c go = subst (DoneFits (length now) t u) (same_Some b d c) g.0
       by no_step g c go = absurd (none-some d c)

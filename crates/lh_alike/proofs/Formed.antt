@@ -14,7 +14,7 @@ use Rattle.lh_unit.specs.WellFormed.{IsWellFormed}
 use Rattle.lh_unit.specs.Within.{Each}
 use Rattle.lh_formed.specs.Operands.{RowIs}
 use Rattle.lh_formed.specs.Parts.{HasPart}
-use Rattle.lh_eval.specs.Sound.{IsSound}
+use Rattle.lh_eval.specs.Sound.{InstIsSound}
 use Rattle.lh_sound.specs.Units.{UnitIsSound}
 use Rattle.lh_sound.proofs.NamedOnce.{args-typed}
 use Rattle.lh_sound.proofs.SoundLines.{signals-written, ports-written}
@@ -35,7 +35,7 @@ use Rattle.lh_inlined.proofs.Forming.{formed}
 use Rattle.lh_inlined.proofs.WellFormedResults.{results_once, results_typed}
 use Rattle.lh_alike.specs.Formed.{FlatTextsAreFormed}
 
-rows : (v : UnitText) (ls : List LineText) → Each (IsSound v) ls → Each (λ (l : LineText). RowIs v l.inst × HasPart v l.inst) ls
+rows : (v : UnitText) (ls : List LineText) → Each (InstIsSound v) ls → Each (λ (l : LineText). RowIs v l.inst × HasPart v l.inst) ls
 rows v [] h = tt
 rows v (l ∷ ls) h = ((h.0.row, h.0.part), rows v ls h.1)
 
@@ -70,7 +70,8 @@ module _ (a : Arena) (u : ℕ) (name : UnitName) (o : IsArena a) (g : IsWellForm
       formed (contents a) (facts (contents a) g) process listed process-kind shallow (processes_are_tidy a u o g l k) (functions_are_tidy (contents a) g)
       (λ d c n. args-have-kinds c.unit (unit-sound (contents a) c.unit (copy-facts (contents a) (facts (contents a) g) process listed process-kind shallow d c n)))
       flat refl refl refl
-      (unit-labels a o (functions (contents a)) named (units-right a o g.1) max_nested (copies-labels a o (functions (contents a)) named (units-right a o g.1) max_nested) u l (subst HasBlocks (sym k) tt) (top_copy process) refl).0
+      (unit-labels a o (functions (contents a)) named (units-right a o g.1) max_nested (copies-labels a o (functions (contents a)) named (units-right a o g.1) max_nested) u l
+      (subst HasBlocks (sym k) tt) (top_copy process) refl).0
       (results_once (contents a) g process listed process-kind name) (results_typed (contents a) g process listed process-kind name)
 
 pub flat_texts_formed : FlatTextsAreFormed

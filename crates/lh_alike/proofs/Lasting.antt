@@ -84,7 +84,8 @@ module _ (a : Arena) (u : ℕ) (o : IsArena a) (h : u < unit_count a) (process :
   start-fits : (w : ℕ) (c : Control) → Placed (contents a) w (unit_text_at a u) c → PointFits (contents a) w (unit_text_at a u) (start_point c)
   start-fits w c k = record { control = k.0; callers = tt; began = k.1; wish = tt }
 
-  starts : (w : ℕ) (args : List Range) → RangesFit w args (arg_types (unit_text_at a u).args) → (e : Env) → Fits (unit_text_at a u) w e → (s : Stand) → ServesAt (unit_text_at a u) args e s → (s ≡ halted → ⊥) → Starts w e s
+  starts : (w : ℕ) (args : List Range) → RangesFit w args (arg_types (unit_text_at a u).args) → (e : Env) → Fits (unit_text_at a u) w e → (s : Stand) → ServesAt (unit_text_at a u) args e s
+      → (s ≡ halted → ⊥) → Starts w e s
   starts w args r e f is_new k no_halt =
       let v = unit_text_at a u in
       let z = entry-holds v (contents a) steady right e (λ n d. subst (λ (x : Env). IsSome (x n)) (sym k) (passes.args-held w nothing_held v.args args r n d)) in
@@ -106,13 +107,15 @@ serves-again u args e is_new n k = absurd (n refl)
 serves-again u args e (waits block to on wake) n k = k
 serves-again u args e halted n k = tt
 
-module _ (a : Arena) (u : ℕ) (name : UnitName) (text : FlatText) (args : List Range) (process flat : ProcessState) (now : List Bool) (t : Instant) (bound limit : ℕ) (done : Activated) (k : Lasting a u text args process flat) (m : bound ≤ limit) where
+module _ (a : Arena) (u : ℕ) (name : UnitName) (text : FlatText) (args : List Range) (process flat : ProcessState) (now : List Bool) (t : Instant) (bound limit : ℕ) (done : Activated)
+    (k : Lasting a u text args process flat) (m : bound ≤ limit) where
   abbrev enough : List Bool
   enough = padded now k.going.width
 
   -- the ends of both, and that they last
   abbrev Goal : Type 0
-  Goal = (d : Activated) × (activate limit (scene_of a now t) (unit_text_at a u) process ≡ Some d) × EndsAlike (functions (contents a)) (unit_text_at a u) d done × Lasting a u text args d.state done.state
+  Goal = (d : Activated) × (activate limit (scene_of a now t) (unit_text_at a u) process ≡ Some d) × EndsAlike (functions (contents a)) (unit_text_at a u) d done
+      × Lasting a u text args d.state done.state
 
   is-enough : k.going.width ≤ length enough
   is-enough = omega (arith, length-append now (replicate k.going.width false), length-replicate k.going.width false)
@@ -151,7 +154,8 @@ module _ (a : Arena) (u : ℕ) (name : UnitName) (text : FlatText) (args : List 
       let z = starts a u k.arena k.within k.is_process k.formed (length enough) args ranges process.held fits process.stand k.going.serves no_halt in
       let fs = functions-right a k.arena k.formed in
       let hold = functions-hold a u k.arena k.within k.is_process k.formed in
-      let e = activates_alike (scene_of a enough t) (unit_text_at a u) name text process flat bound limit done k.flattens (processes_are_tidy a u k.arena k.formed k.within k.is_process) (functions_are_tidy (contents a) k.formed) k.alike m
+      let e = activates_alike (scene_of a enough t) (unit_text_at a u) name text process flat bound limit done k.flattens (processes_are_tidy a u k.arena k.formed k.within k.is_process)
+      (functions_are_tidy (contents a) k.formed) k.alike m
       record {
         control = z.0;
         begins = z.1;
@@ -183,7 +187,8 @@ lasting_begins a u name text args o g h process e w =
       within = h;
       is_process = process;
       flattens = e;
-      alike = subst (λ (xs : List ArgText). StandsAlike fs v (begun v args) (record { stand = is_new; held = with_args nothing_held xs (map part_held args) })) same (begins_alike fs v args (processes_are_tidy a u o g h process));
+      alike = subst (λ (xs : List ArgText). StandsAlike fs v (begun v args) (record { stand = is_new; held = with_args nothing_held xs (map part_held args) })) same
+          (begins_alike fs v args (processes_are_tidy a u o g h process));
       going = record { serves = refl; width = reach args; ranges = widths_fit args v.args w; fits = process-begins a u o h g process args (reach args) (widths_fit args v.args w) };
     }
 

@@ -92,7 +92,8 @@ same-bit (x ∷ xs) (y ∷ ys) (suc k) h = same-bit xs ys k h.1
 same-parts : (n : ℕ) (f : List Bool → Datum) (w : ℕ) → ((xs ys : List Bool) → Longer xs ys → f xs ≡ f ys) → (xs ys : List Bool) → Longer xs ys → repeat_parts n f w xs ≡ repeat_parts n f w ys
 same-parts zero f w g xs ys h = refl
 same-parts (suc n) f w g xs ys h =
-    ap (λ d. more_values d (repeat_parts n f w (drop w xs))) (g (take w xs) (take w ys) (longer-take w xs ys h)) ∙ ap (more_values (f (take w ys))) (same-parts n f w g (drop w xs) (drop w ys) (longer-drop w xs ys h))
+    ap (λ d. more_values d (repeat_parts n f w (drop w xs))) (g (take w xs) (take w ys) (longer-take w xs ys h))
+    ∙ ap (more_values (f (take w ys))) (same-parts n f w g (drop w xs) (drop w ys) (longer-drop w xs ys h))
 
 mutual
   same-value : (t : TypeTree) (xs ys : List Bool) → Longer xs ys → value_from_bits t xs ≡ value_from_bits t ys
@@ -186,4 +187,5 @@ pub widths_fit : (args : List Range) (xs : List ArgText) → HaveWidths args xs 
 widths_fit args xs e = fits-where args xs (reach args) (omega arith) e
 
 pub padded_ranges : PaddedRanges
-padded_ranges args xs now n e = fits-where args xs (length (padded now (reach args + n))) (omega (arith, length-append now (replicate (reach args + n) false), length-replicate (reach args + n) false)) e
+padded_ranges args xs now n e = fits-where args xs (length (padded now (reach args + n))) (omega (arith, length-append now (replicate (reach args + n) false), length-replicate (reach args + n) false))
+    e

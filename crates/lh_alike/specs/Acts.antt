@@ -7,13 +7,14 @@ use Rattle.lh_unit.specs.Activation.{ProcessState, Activated, activate, function
 use Rattle.lh_unit.specs.Arena.{Arena, contents, unit_text_at}
 use Rattle.lh_exec.specs.declared.state.ProcState.{ProcState}
 use Rattle.lh_exec.specs.Standing.{scene_of}
-use Rattle.lh_exec.specs.Steady.{Begins}
+use Rattle.lh_exec.specs.Steady.{BeginsActivation}
 use Rattle.lh_flat.specs.Flat.{FlatText, flattened, flat_of, flat_unit}
 use Rattle.lh_inlined.specs.Activates.{StandsAlike, EndsAlike}
 
 -- Where the process stands as its flat text does, and an activation of that ends, that of the process does: both then stand alike, with the same wish and the same outcomes.
 abbrev pub FlatTextsAct : Type 0
-FlatTextsAct = (a : Arena) (u : ℕ) (args : List Range) (now : List Bool) (t : Instant) (s : ProcState) (process flat : ProcessState) (name : UnitName) (text : FlatText) (bound limit : ℕ) (done : Activated) →
-    Begins a u args (length now) s process → flat_of (contents a) (unit_text_at a u) ≡ flattened text → StandsAlike (functions (contents a)) (unit_text_at a u) process flat → bound ≤ limit →
+FlatTextsAct = (a : Arena) (u : ℕ) (args : List Range) (now : List Bool) (t : Instant) (s : ProcState) (process flat : ProcessState) (name : UnitName) (text : FlatText) (bound limit : ℕ)
+    (done : Activated) →
+    BeginsActivation a u args (length now) s process → flat_of (contents a) (unit_text_at a u) ≡ flattened text → StandsAlike (functions (contents a)) (unit_text_at a u) process flat → bound ≤ limit →
     activate bound (scene_of a now t) (flat_unit name text) flat ≡ Some done →
     (d : Activated) × (activate limit (scene_of a now t) (unit_text_at a u) process ≡ Some d) × EndsAlike (functions (contents a)) (unit_text_at a u) d done

@@ -18,13 +18,15 @@ use Rattle.lh_flat.specs.Flat.{FlatText, flattened, flat_of, flat_unit}
 use Rattle.lh_inlined.specs.Activates.{begun, StandsAlike, EndsAlike}
 use Rattle.lh_alike.specs.Padding.{HaveWidths}
 
--- What a process holds serves where it stands: a new one holds its arguments, and one that waits does so at a `wait` of its unit and holds a value under each name that is given on every path to that `wait`.
+-- What a process holds serves where it stands: a new one holds its arguments, and one that waits does so at a `wait` of its unit and holds a value under each name that is
+-- given on every path to that `wait`.
 abbrev pub ServesAt : UnitText → List Range → Env → Stand → Type 0
 ServesAt u args e is_new = e ≡ with_args nothing_held u.args (map part_held args)
 ServesAt u args e (waits block to on wake) = (x : WaitsIn u block to) × HoldsThere u x.text x.before e
 ServesAt u args e halted = Unit {0}
 
--- A process of a unit may go on from a state: what it holds serves where it stands, and fits the types of its names, parts within some number of bits. How many do not matter: bits that are missing count as 0.
+-- A process of a unit may go on from a state: what it holds serves where it stands, and fits the types of its names, parts within some number of bits. How many do not
+-- matter: bits that are missing count as 0.
 pub record MayGoOn (u : UnitText) (args : List Range) (p : ProcessState) : Type 0 where
   pub serves : ServesAt u args p.held p.stand
   pub width : ℕ
@@ -43,7 +45,8 @@ pub record Lasting (a : Arena) (u : ℕ) (text : FlatText) (args : List Range) (
 
 -- So they stand as they begin, with arguments that have the widths of their types.
 abbrev pub LastingBegins : Type 0
-LastingBegins = (a : Arena) (u : ℕ) (name : UnitName) (text : FlatText) (args : List Range) → IsArena a → IsWellFormed (contents a) → u < unit_count a → kind_at a u ≡ Some kind.Proc → flat_of (contents a) (unit_text_at a u) ≡ flattened text →
+LastingBegins = (a : Arena) (u : ℕ) (name : UnitName) (text : FlatText) (args : List Range) → IsArena a → IsWellFormed (contents a) → u < unit_count a → kind_at a u ≡ Some kind.Proc
+    → flat_of (contents a) (unit_text_at a u) ≡ flattened text →
     HaveWidths args (unit_text_at a u).args → Lasting a u text args (begun (unit_text_at a u) args) (begun (flat_unit name text) args)
 
 -- Where an activation of the flat text ends, whatever the bits of the signals and the instant are, that of the process does, with the same wish and the same outcomes; and they stand so again.
@@ -54,7 +57,8 @@ LastingActs = (a : Arena) (u : ℕ) (name : UnitName) (text : FlatText) (args : 
 
 -- While they stand so both wait for the same parts, and wake by themselves at the same instant.
 abbrev pub LastingWaits : Type 0
-LastingWaits = (a : Arena) (u : ℕ) (text : FlatText) (args : List Range) (process flat : ProcessState) → Lasting a u text args process flat → (waited process.stand ≡ waited flat.stand) × (wake_at process.stand ≡ wake_at flat.stand)
+LastingWaits = (a : Arena) (u : ℕ) (text : FlatText) (args : List Range) (process flat : ProcessState) → Lasting a u text args process flat → (waited process.stand ≡ waited flat.stand)
+    × (wake_at process.stand ≡ wake_at flat.stand)
 
 -- where a process stands while its flat text stands so
 abbrev pub StandsFrom : (process flat : Stand) → Type 0

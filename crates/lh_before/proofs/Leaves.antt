@@ -3,13 +3,15 @@ use Rattle.std.proofs.Common.{◌≡◌, ℕ, List, [], ◌∷◌, ◌++◌, fil
 use Rattle.std.specs.Bool.{if◌then◌else◌}
 use Rattle.std.specs.List.{list_any}
 use Rattle.std.proofs.lemmas.Option.{same_Some, none-some}
-use Rattle.lh_types.specs.Values.{int_value}
+use Rattle.lh_types.specs.Values.{Datum, int_value}
 use Rattle.lh_types.specs.Apply.{apply}
 use Rattle.lh_types.specs.declared.op.Op.{Op}
 use Rattle.lh_types.specs.declared.op.Op.TheVariants.{Not, And, Or, Eq, Neq}
 use Rattle.lh_unit.specs.Within.{Each}
 use Rattle.lh_unit.proofs.Lists.{Each-append}
 use Rattle.lh_term.specs.Tree.{Tree, TreeRow, constant, past_of, now_of, operation, choice_of, no_trees, more_trees, tree_row, operation_on}
+use Rattle.lh_term.specs.Leaves.{AllLeaves}
+use Rattle.lh_term.specs.declared.part.Part.{Part}
 use Rattle.lh_term.specs.SameTree.{same_tree}
 use Rattle.lh_term.specs.Make.{is_constant, all_constant, value_in, values_in, is_zero, is_ones, is_bit, is_bit_value, negated, is_not_of, anded, halves, zero_like, ones_like, width_in, bit_of, found_or, not_rows, make_not, and_rows, or_rows, eq_rows, neq_rows, rows_of, make_operation, make_choice}
 use Rattle.lh_term.specs.Conjuncts.{joins_bits, all_conjuncts, joined_conjuncts, with_term, with_terms, conjuncts_of, conjunction_from, conjunction}
@@ -29,6 +31,15 @@ pub record IsOfLeaves (In : Tree → Type 0) : Type 0 where
   pub joined : (o : Op) (ts : TreeRow) → RowIn In ts → In (operation o ts)
   pub parted : (o : Op) (ts : TreeRow) → In (operation o ts) → RowIn In ts
   pub chosen : (c f t : Tree) → In c → In f → In t → In (choice_of c f t)
+
+module _ (C : Datum → Type 0) (P : Part → Type 0) where
+  pub leaves-joined : (o : Op) (ts : TreeRow) → RowIn (AllLeaves C P) ts → AllLeaves C P (operation o ts)
+  leaves-joined o no_trees h = tt
+  leaves-joined o (more_trees t ts) h = (h.0, leaves-joined o ts h.1)
+
+  pub leaves-parted : (o : Op) (ts : TreeRow) → AllLeaves C P (operation o ts) → RowIn (AllLeaves C P) ts
+  leaves-parted o no_trees h = tt
+  leaves-parted o (more_trees t ts) h = (h.0, leaves-parted o ts h.1)
 
 module _ (In : Tree → Type 0) (leaves : IsOfLeaves In) where
   abbrev pub AllIn : List Tree → Type 0
@@ -111,7 +122,8 @@ module _ (In : Tree → Type 0) (leaves : IsOfLeaves In) where
 
   or-rows-in : (x y : Tree) → In x → In y → In (or_rows x y)
   or-rows-in x y h k =
-      seven-in (is_zero y) (is_zero x) (is_ones y) (is_ones x) (same_tree x y) (is_not_of y x) (is_not_of x y) x y y x x (ones_like x) (ones_like x) (found_or (halves (anded x) (anded y)) (operation_on Or (x ∷ y ∷ [])))
+      seven-in (is_zero y) (is_zero x) (is_ones y) (is_ones x) (same_tree x y) (is_not_of y x) (is_not_of x y) x y y x x (ones_like x) (ones_like x)
+      (found_or (halves (anded x) (anded y)) (operation_on Or (x ∷ y ∷ [])))
       h k k h h (ones-in x) (ones-in x)
       (found-in (halves (anded x) (anded y)) (operation_on Or (x ∷ y ∷ [])) (λ q e. halves-in (anded x) (anded y) q (λ p f. anded-in x p h f) e) (on Or (x ∷ y ∷ []) (h, (k, tt))))
 

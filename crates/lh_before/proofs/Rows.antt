@@ -17,7 +17,7 @@ use Rattle.lh_term.specs.Make.{is_zero, make_operation}
 use Rattle.lh_term.specs.declared.part.Part.{Part}
 use Rattle.lh_term.proofs.Arenas.{map_append, map_push}
 use Rattle.lh_rows.specs.Known.{Known, known_value, known_cell, known_part, Knowledge, value_known, cell_known, part_known, values_known, parts_known}
-use Rattle.lh_rows.specs.Rows.{Drive, Way, halts, enters_head, End, Rows}
+use Rattle.lh_rows.specs.Rows.{Drive, Way, halts, enters_head, RegionEnd, Rows}
 use Rattle.lh_rows.specs.Places.{Region, Here, Midst, block_number, stepped, part_stepped, operated, gives, probes, both, drive_cond, with_drive, drives, asserts, ends, next_place, goes, goes_if, leads, branches, wait_way, ends_if, takes, takes_all}
 use Rattle.lh_before.proofs.Trees.{turned, all_turned, zero-turned, make-turned}
 use Rattle.lh_before.proofs.Known.{known_turned, all_known_turned, value-known-turned, cell-known-turned, part-known-turned, values-known-turned, parts-known-turned, given-turned, edge_turned, edges_turned}
@@ -27,7 +27,7 @@ use Rattle.lh_before.proofs.Known.{known_turned, all_known_turned, value-known-t
 abbrev pub drive_turned : Drive → Drive
 drive_turned d = record { cond = turned d.cond; part = d.part; value = turned d.value; delay = turned d.delay }
 
-abbrev pub end_turned : End → End
+abbrev pub end_turned : RegionEnd → RegionEnd
 end_turned x = record { cond = turned x.cond; way = x.way; from = x.from; known = all_known_turned x.known }
 
 abbrev pub rows_turned : Rows → Rows
@@ -51,7 +51,8 @@ step-turned (Some p) None s = refl
 step-turned (Some p) (Some t) None = refl
 step-turned (Some p) (Some t) (Some s) = by (range_of p.ty (s ∷ []))
   where
-    by : (o : Option Range) → option_map known_turned (option_map (λ r. known_part (record { arg = p.arg; lo = p.lo + r.lo; ty = t })) o) ≡ option_map (λ r. known_part (record { arg = p.arg; lo = p.lo + r.lo; ty = t })) o
+    by : (o : Option Range) → option_map known_turned (option_map (λ r. known_part (record { arg = p.arg; lo = p.lo + r.lo; ty = t })) o)
+        ≡ option_map (λ r. known_part (record { arg = p.arg; lo = p.lo + r.lo; ty = t })) o
     by None = refl
     by (Some r) = refl
 
@@ -63,7 +64,8 @@ part-stepped-turned k o (x ∷ []) =
     ∙ sym (step-turned (part_known k x.value) (option_and_then carried x.ty) (step_of o))
 
 operated-of : (o : Op) (ts : Option (List Tree)) (p : Option Known) →
-    or_else (option_map (λ ts. known_value (make_operation o ts)) (option_map all_turned ts)) (option_map known_turned p) ≡ option_map known_turned (or_else (option_map (λ ts. known_value (make_operation o ts)) ts) p)
+    or_else (option_map (λ ts. known_value (make_operation o ts)) (option_map all_turned ts)) (option_map known_turned p)
+    ≡ option_map known_turned (or_else (option_map (λ ts. known_value (make_operation o ts)) ts) p)
 operated-of o None p = refl
 operated-of o (Some ts) p = ap (λ t. Some (known_value t)) (sym (make-turned o ts))
 
@@ -109,7 +111,8 @@ more-drives-turned m d = λ i. record {
 with-drive-turned : (m : Midst) (d : Drive) → with_drive (midst_turned m) (drive_turned d) ≡ midst_turned (with_drive m d)
 with-drive-turned m d = (λ i. if zero-turned d.cond i then midst_turned m else more-drives-turned m d i) ∙ midst-if (is_zero d.cond) m (more_drives m d)
 
-drives-turned : (m : Midst) (c : Option Tree) (p : Option Part) (v d : Option Tree) → drives (midst_turned m) (option_map turned c) p (option_map turned v) (option_map turned d) ≡ midst_turned (drives m c p v d)
+drives-turned : (m : Midst) (c : Option Tree) (p : Option Part) (v d : Option Tree) → drives (midst_turned m) (option_map turned c) p (option_map turned v) (option_map turned d)
+    ≡ midst_turned (drives m c p v d)
 drives-turned m None p v d = refl
 drives-turned m (Some c) None v d = refl
 drives-turned m (Some c) (Some p) None d = refl
@@ -180,11 +183,13 @@ module _ (blocks : List FlatBlockText) (head : ℕ) (probe other : Part → Tree
       (λ i. if zero-turned c i then midst_turned m else goes-if-turned h c m (block_number n blocks) i)
       ∙ midst-if (is_zero c) m (goes_if g h c m (block_number n blocks))
 
-  branches-turned : (h : Here) (o : Option Tree) (first second : List ℕ) (m : Midst) → branches g' (here_turned h) (option_map turned o) first second (midst_turned m) ≡ midst_turned (branches g h o first second m)
+  branches-turned : (h : Here) (o : Option Tree) (first second : List ℕ) (m : Midst) → branches g' (here_turned h) (option_map turned o) first second (midst_turned m)
+      ≡ midst_turned (branches g h o first second m)
   branches-turned h None first second m = refl
   branches-turned h (Some c) first second m =
       let m1 : Midst = leads g h (both h.cond (make_operation Not (c ∷ []))) first m in
-      let other-way : both (turned h.cond) (make_operation Not (turned c ∷ [])) ≡ turned (both h.cond (make_operation Not (c ∷ []))) = ap (both (turned h.cond)) (sym (make-turned Not (c ∷ []))) ∙ both-turned h.cond (make_operation Not (c ∷ [])) in
+      let other-way : both (turned h.cond) (make_operation Not (turned c ∷ [])) ≡ turned (both h.cond (make_operation Not (c ∷ []))) = ap (both (turned h.cond)) (sym (make-turned Not (c ∷ [])))
+      ∙ both-turned h.cond (make_operation Not (c ∷ [])) in
       ap (λ z. leads g' (here_turned h) (both (turned h.cond) (turned c)) second (leads g' (here_turned h) z first (midst_turned m))) other-way
       ∙ ap (leads g' (here_turned h) (both (turned h.cond) (turned c)) second) (leads-turned h (both h.cond (make_operation Not (c ∷ []))) first m)
       ∙ ap (λ z. leads g' (here_turned h) z second (midst_turned m1)) (both-turned h.cond c)

@@ -11,7 +11,7 @@ use Rattle.lh_flat.specs.Flat.{FlatBlockText, FlatText, flat_unit}
 use Rattle.lh_term.specs.Tree.{Tree, past_of, now_of}
 use Rattle.lh_term.specs.declared.part.Part.{Part}
 use Rattle.lh_rows.specs.Known.{Knowledge}
-use Rattle.lh_rows.specs.Rows.{Way, halts, enters_head, waits, End}
+use Rattle.lh_rows.specs.Rows.{Way, halts, enters_head, waits, RegionEnd}
 use Rattle.lh_rows.specs.Places.{Region}
 use Rattle.lh_rows.specs.Regions.{begins_with_phi, lines_at, head_of, edge_into, edges_of_ends, waits_for, one_target, Course, comes_to, then_course, region_from, first_region, second_region}
 use Rattle.lh_rows.specs.Typed.{IsOfType, JoinEdge}
@@ -56,26 +56,27 @@ module _ (name : UnitName) (t : FlatText) (f : IsFormed (flat_unit name t)) wher
     pub past-comes : first_region t past_of ≡ comes_to past
     past-comes = (regions-are-alike t c e).1
 
-    pub past-waits : Each (λ (x : End). waits_for x.way ≡ Some n) past.rows.ends
+    pub past-waits : Each (λ (x : RegionEnd). waits_for x.way ≡ Some n) past.rows.ends
     past-waits = targets-are-alike t c past e past-comes n to
 
-    no-end : (xs : List End) → map (λ (x : End). x.way) [] ≡ map (λ (x : End). x.way) xs → (x : End) × (more : List End) × (xs ≡ x ∷ more) → ⊥
-    no-end xs q h = let z : [] ≡ h.0.way ∷ map (λ (x : End). x.way) h.1 = q ∙ ap (map (λ (x : End). x.way)) h.2 in cc
+    no-end : (xs : List RegionEnd) → map (λ (x : RegionEnd). x.way) [] ≡ map (λ (x : RegionEnd). x.way) xs → (x : RegionEnd) × (more : List RegionEnd) × (xs ≡ x ∷ more) → ⊥
+    no-end xs q h = let z : [] ≡ h.0.way ∷ map (λ (x : RegionEnd). x.way) h.1 = q ∙ ap (map (λ (x : RegionEnd). x.way)) h.2 in cc
 
     pub some-end : past.rows.ends ≡ [] → ⊥
-    some-end q = no-end c.rows.ends (ap (map (λ (x : End). x.way)) (sym q) ∙ (regions-are-alike t c e).2.ways) (has-end c.rows.ends n to)
+    some-end q = no-end c.rows.ends (ap (map (λ (x : RegionEnd). x.way)) (sym q) ∙ (regions-are-alike t c e).2.ways) (has-end c.rows.ends n to)
 
     -- the ends join at the first block
     abbrev pub r1 : RegionOf u (first_of past_of)
     r1 = Activations.r name t f plain past_of past-typed past past-comes
 
-    abbrev pub RightEnd : End → Type 0
+    abbrev pub RightEnd : RegionEnd → Type 0
     RightEnd = Courses.EndFine u (first_of past_of) r1
 
     pub past-ends : Each RightEnd past.rows.ends
     past-ends = (Activations.first-fine name t f plain past_of past-typed past past-comes).ends
 
-    pub all-join : (b : FlatBlockText) → BlockAt t.blocks n b → (xs : List End) → Each RightEnd xs → Each (λ (x : End). waits_for x.way ≡ Some n) xs → Each (JoinEdge u (as_block b)) (edges_of_ends n xs)
+    pub all-join : (b : FlatBlockText) → BlockAt t.blocks n b → (xs : List RegionEnd) → Each RightEnd xs → Each (λ (x : RegionEnd). waits_for x.way ≡ Some n) xs
+        → Each (JoinEdge u (as_block b)) (edges_of_ends n xs)
     all-join b at [] h w = tt
     all-join b at (x ∷ xs) h w =
         let j = way-joins u (first_of past_of) x.way n x.from x.known w.0 h.0.way in
@@ -86,11 +87,12 @@ module _ (name : UnitName) (t : FlatText) (f : IsFormed (flat_unit name t)) wher
       pub second-is : region_from second_of n (edges_of_ends n past.rows.ends) ≡ comes_to second
       second-is = ap (λ x. then_course x (λ (d : Course). region_from second_of n (edges_of_ends n d.rows.ends))) (sym past-comes) ∙ e2
 
-      by-ends : (xs : List End) → past.rows.ends ≡ xs → Each RightEnd xs → Each (λ (x : End). waits_for x.way ≡ Some n) xs → Courses.CourseFine u second_of second-region-of second
+      by-ends : (xs : List RegionEnd) → past.rows.ends ≡ xs → Each RightEnd xs → Each (λ (x : RegionEnd). waits_for x.way ≡ Some n) xs → Courses.CourseFine u second_of second-region-of second
       by-ends [] q h w = absurd (some-end q)
       by-ends (x ∷ xs) q h w =
           let j = way-joins u (first_of past_of) x.way n x.from x.known w.0 h.0.way in
-          Courses.region-fine u second_of second-region-of n j.0 j.1 (edge_into n x.from x.cond x.known) (edges_of_ends n xs) (all-join j.0 j.1 (x ∷ xs) h w) second (ap (λ ys. region_from second_of n (edges_of_ends n ys)) (sym q) ∙ second-is)
+          Courses.region-fine u second_of second-region-of n j.0 j.1 (edge_into n x.from x.cond x.known) (edges_of_ends n xs) (all-join j.0 j.1 (x ∷ xs) h w) second
+          (ap (λ ys. region_from second_of n (edges_of_ends n ys)) (sym q) ∙ second-is)
 
       pub second-right : Courses.CourseFine u second_of second-region-of second
       second-right = by-ends past.rows.ends refl past-ends past-waits

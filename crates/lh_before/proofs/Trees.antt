@@ -152,7 +152,8 @@ found-turned (Some t) u = refl
 abbrev pub seven : (a b c d e f g : Bool) (p q r s t u v w : Tree) → Tree
 seven a b c d e f g p q r s t u v w = if a then p else if b then q else if c then r else if d then s else if e then t else if f then u else if g then v else w
 
-seven-turned : (a b c d e f g : Bool) (p q r s t u v w : Tree) → turned (seven a b c d e f g p q r s t u v w) ≡ seven a b c d e f g (turned p) (turned q) (turned r) (turned s) (turned t) (turned u) (turned v) (turned w)
+seven-turned : (a b c d e f g : Bool) (p q r s t u v w : Tree)
+    → turned (seven a b c d e f g p q r s t u v w) ≡ seven a b c d e f g (turned p) (turned q) (turned r) (turned s) (turned t) (turned u) (turned v) (turned w)
 seven-turned true b c d e f g p q r s t u v w = refl
 seven-turned false true c d e f g p q r s t u v w = refl
 seven-turned false false true d e f g p q r s t u v w = refl
@@ -197,14 +198,16 @@ and-rows-turned x y =
     ∙ (λ i. seven (sym (zero-turned y) i) (sym (zero-turned x) i) (sym (ones-turned y) i) (sym (ones-turned x) i) (sym (same-turned x y) i) (sym (not-of-turned y x) i) (sym (not-of-turned x y) i)
     (turned y) (turned x) (turned x) (turned y) (turned x) (sym (zero-like-turned x) i) (sym (zero-like-turned x) i) (operation_on And (turned x ∷ turned y ∷ [])))
 
-or-last-turned : (x y : Tree) → turned (found_or (halves (anded x) (anded y)) (operation_on Or (x ∷ y ∷ []))) ≡ found_or (halves (anded (turned x)) (anded (turned y))) (operation_on Or (turned x ∷ turned y ∷ []))
+or-last-turned : (x y : Tree) → turned (found_or (halves (anded x) (anded y)) (operation_on Or (x ∷ y ∷ [])))
+    ≡ found_or (halves (anded (turned x)) (anded (turned y))) (operation_on Or (turned x ∷ turned y ∷ []))
 or-last-turned x y =
     found-turned (halves (anded x) (anded y)) (operation_on Or (x ∷ y ∷ []))
     ∙ ap (λ o. found_or o (operation_on Or (turned x ∷ turned y ∷ []))) (sym ((λ i. halves (anded-turned x i) (anded-turned y i)) ∙ halves-turned (anded x) (anded y)))
 
 or-rows-turned : (x y : Tree) → turned (or_rows x y) ≡ or_rows (turned x) (turned y)
 or-rows-turned x y =
-    seven-turned (is_zero y) (is_zero x) (is_ones y) (is_ones x) (same_tree x y) (is_not_of y x) (is_not_of x y) x y y x x (ones_like x) (ones_like x) (found_or (halves (anded x) (anded y)) (operation_on Or (x ∷ y ∷ [])))
+    seven-turned (is_zero y) (is_zero x) (is_ones y) (is_ones x) (same_tree x y) (is_not_of y x) (is_not_of x y) x y y x x (ones_like x) (ones_like x)
+    (found_or (halves (anded x) (anded y)) (operation_on Or (x ∷ y ∷ [])))
     ∙ (λ i. seven (sym (zero-turned y) i) (sym (zero-turned x) i) (sym (ones-turned y) i) (sym (ones-turned x) i) (sym (same-turned x y) i) (sym (not-of-turned y x) i) (sym (not-of-turned x y) i)
     (turned x) (turned y) (turned y) (turned x) (turned x) (sym (ones-like-turned x) i) (sym (ones-like-turned x) i) (or-last-turned x y i))
 

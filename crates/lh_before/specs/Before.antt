@@ -5,23 +5,23 @@ use Rattle.lh_unit.specs.Within.{Each}
 use Rattle.lh_inlined.specs.Formed.{IsFormed}
 use Rattle.lh_flat.specs.Flat.{FlatText, flat_unit}
 use Rattle.lh_term.specs.Tree.{past_of, now_of}
-use Rattle.lh_rows.specs.Rows.{Drive, End, Rows}
+use Rattle.lh_rows.specs.Rows.{Drive, RegionEnd, Rows}
 use Rattle.lh_rows.specs.Regions.{begins_with_phi, lines_at, head_of, RegionRefusal, Course, stops, comes_to, first_region, second_region, waits_for, one_target}
 use Rattle.lh_rows.specs.Laws.{DriveTyped, EndTyped}
 
 -- ---- the first region, with values before and with values now
 
 -- The rows are alike but for their terms: the same parts are probed and driven, as many conditions are asserted, and the ends are the same, in the same order.
-pub record AreAlike (x y : Rows) : Type 0 where
+pub record RowsAreAlike (x y : Rows) : Type 0 where
   pub probes : x.probes ≡ y.probes
   pub driven : map (λ (d : Drive). d.part) x.drives ≡ map (λ (d : Drive). d.part) y.drives
   pub asserted : length x.asserts ≡ length y.asserts
-  pub ways : map (λ (e : End). e.way) x.ends ≡ map (λ (e : End). e.way) y.ends
-  pub from : map (λ (e : End). e.from) x.ends ≡ map (λ (e : End). e.from) y.ends
+  pub ways : map (λ (e : RegionEnd). e.way) x.ends ≡ map (λ (e : RegionEnd). e.way) y.ends
+  pub from : map (λ (e : RegionEnd). e.from) x.ends ≡ map (λ (e : RegionEnd). e.from) y.ends
 
 -- Where the first region by values now comes to an end, the one by values before does, with rows alike.
 abbrev pub RegionsAreAlike : Type 0
-RegionsAreAlike = (t : FlatText) (c : Course) → first_region t now_of ≡ comes_to c → (p : Course) × (first_region t past_of ≡ comes_to p) × AreAlike p.rows c.rows
+RegionsAreAlike = (t : FlatText) (c : Course) → first_region t now_of ≡ comes_to c → (p : Course) × (first_region t past_of ≡ comes_to p) × RowsAreAlike p.rows c.rows
 
 -- Where it stops, the other stops for the same reason.
 abbrev pub RefusalsAreAlike : Type 0
@@ -29,7 +29,7 @@ RefusalsAreAlike = (t : FlatText) (r : RegionRefusal) → first_region t now_of 
 
 -- Where the ends by values now all wait for one block, each end by values before waits for it.
 abbrev pub TargetsAreAlike : Type 0
-TargetsAreAlike = (t : FlatText) (c p : Course) → first_region t now_of ≡ comes_to c → first_region t past_of ≡ comes_to p → (target : ℕ) → one_target c.rows.ends ≡ Some target → Each (λ (e : End). waits_for e.way ≡ Some target) p.rows.ends
+TargetsAreAlike = (t : FlatText) (c p : Course) → first_region t now_of ≡ comes_to c → first_region t past_of ≡ comes_to p → (target : ℕ) → one_target c.rows.ends ≡ Some target → Each (λ (e : RegionEnd). waits_for e.way ≡ Some target) p.rows.ends
 
 -- ---- the second region
 

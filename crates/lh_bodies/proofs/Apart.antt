@@ -72,7 +72,8 @@ args-differ : (seen rest : List ArgText) → args_repeat seen rest ≡ false →
 args-differ seen [] h d = subst (λ (xs : List ArgText). NamesDiffer (arg_names xs)) (sym (append-nil seen)) d
 args-differ seen (a ∷ more) h d =
     let z = or-false (args_define a.name seen) (args_repeat (seen ++ a ∷ []) more) h in
-    let one : NamesDiffer (arg_names (seen ++ a ∷ [])) = subst NamesDiffer (sym (map-append (λ (b : ArgText). b.name) seen (a ∷ []))) (differ-push (arg_names seen) a.name d (lacks-args a.name seen z.0)) in
+    let one : NamesDiffer (arg_names (seen ++ a ∷ [])) = subst NamesDiffer (sym (map-append (λ (b : ArgText). b.name) seen (a ∷ [])))
+    (differ-push (arg_names seen) a.name d (lacks-args a.name seen z.0)) in
     subst (λ (xs : List ArgText). NamesDiffer (arg_names xs)) (append_assoc seen (a ∷ []) more) (args-differ (seen ++ a ∷ []) more z.1 one)
 
 -- ---- results

@@ -23,7 +23,7 @@ use Rattle.lh_body.specs.Lines.{most_lines, naming, values_alone, HasRoom, Names
 use Rattle.lh_emit.specs.Operands.{with_type}
 use Rattle.lh_origin.specs.Origins.{source_by}
 use Rattle.lh_emit.specs.Emitting.{IsEmitted, IsNeeded, CanNeed, NeedsTerm, IsTooLarge, NeedsNot, CanReach, IsPartNeeded, NeedsPart, NeedsPartNot}
-use Rattle.lh_bodies.specs.Putting.{PutsInst, IsTested, TestsTerm, TestsTermNot, Tells, TellsCond, CanPutDrive, PutsDrive, DriveTooLarge, PutsDriveNot}
+use Rattle.lh_bodies.specs.Putting.{PutsInst, IsTested, TestsTerm, TestsTermNot, IsIdOfTerm, TellsCond, CanPutDrive, PutsDrive, DriveTooLarge, PutsDriveNot}
 use Rattle.lh_origin.specs.declared.origin.Origin.{Origin}
 use Rattle.lh_emit.specs.declared.emitter.Emitter.{Emitter}
 use Rattle.lh_body.specs.declared.lines.EmitFault.{EmitFault}
@@ -242,12 +242,12 @@ module _ (o : Origin) (row : DriveRow) (ns : List Node) (x : Emitter) where
             abbrev last : Emitted
             last = four src c.drive c.emitted
 
-            value-told : Tells x4.lines.names last c.drive.value v1
+            value-told : IsIdOfTerm x4.lines.names last c.drive.value v1
             value-told =
                 tells-on x1.lines.names x4.lines.names (one src c.drive c.emitted) last (names-then _ _ _ l2 (names-then _ _ _ l3 l4)) (one-four src c.drive c.emitted) c.drive.value v1
                 (tells-needed m1 src c.drive.value c.emitted x1 v1 (value-is c))
 
-            delay-told : Tells x4.lines.names last c.drive.delay v2
+            delay-told : IsIdOfTerm x4.lines.names last c.drive.delay v2
             delay-told =
                 tells-on x2.lines.names x4.lines.names (two src c.drive c.emitted) last (names-then _ _ _ l3 l4) (two-four src c.drive c.emitted) c.drive.delay v2
                 (tells-needed m2 src c.drive.delay (one src c.drive c.emitted) x2 v2 (delay-is c))

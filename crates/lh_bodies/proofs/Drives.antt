@@ -53,10 +53,12 @@ record FirstDrive (s : Source) (ms : List Node) (y : Emitter) (row : DriveRow) (
   same : emit_drives s others (emit_drive s now first) ≡ emit_drives s ds e
   fits : (drive_fits first && list_all drive_fits others) ≡ list_all drive_fits ds
 
-first-drive : (s : Source) (ms : List Node) (y : Emitter) (row : DriveRow) (left : List DriveRow) (ds : List Drive) (e : Emitted) → DrivesLeft s ms y (row ∷ left) ds e → FirstDrive s ms y row left ds e
+first-drive : (s : Source) (ms : List Node) (y : Emitter) (row : DriveRow) (left : List DriveRow) (ds : List Drive) (e : Emitted) → DrivesLeft s ms y (row ∷ left) ds e
+    → FirstDrive s ms y row left ds e
 first-drive s ms y row left ds e l = by l.rest l.are l.given l.same l.fits
   where
-    by : (rest : List Drive) → AreDrives ms (row ∷ left) rest → Each (DriveIsGiven s) rest → emit_drives s rest l.now ≡ emit_drives s ds e → list_all drive_fits rest ≡ list_all drive_fits ds → FirstDrive s ms y row left ds e
+    by : (rest : List Drive) → AreDrives ms (row ∷ left) rest → Each (DriveIsGiven s) rest → emit_drives s rest l.now ≡ emit_drives s ds e → list_all drive_fits rest ≡ list_all drive_fits ds
+        → FirstDrive s ms y row left ds e
     by [] a g q f = absurd a
     by (d ∷ more) a g q f = record { now = l.now; first = d; others = more; is = l.is; are = a; given = g; same = q; fits = f }
 

@@ -79,7 +79,8 @@ mutual
   values-extends s no_values e = extends-same e
   values-extends s (more_values v vs) e = extends-then e (need_value s v e) _ (value-extends s v e) (values-extends s vs (need_value s v e))
 
-pair-extends : (s : Source) (f t : Tree) (need_f need_t : Emitted → Emitted) → ((x : Emitted) → Extends x (need_f x)) → ((x : Emitted) → Extends x (need_t x)) → (e : Emitted) → Extends e (need_pair s f t need_f need_t e)
+pair-extends : (s : Source) (f t : Tree) (need_f need_t : Emitted → Emitted) → ((x : Emitted) → Extends x (need_f x)) → ((x : Emitted) → Extends x (need_t x)) → (e : Emitted)
+    → Extends e (need_pair s f t need_f need_t e)
 pair-extends s f t need_f need_t kf kt e = at (is_constant f && is_constant t)
   where
     at : (b : Bool) → Extends e (if b then need_value s (array_value (more_values (value_in f) (more_values (value_in t) no_values))) e
@@ -87,7 +88,8 @@ pair-extends s f t need_f need_t kf kt e = at (is_constant f && is_constant t)
     at true = value-extends s (array_value (more_values (value_in f) (more_values (value_in t) no_values))) e
     at false =
         unless-extends e (e.terms (operation_on Array (f ∷ t ∷ []))) (λ x. gives_operation s (operation_on Array (f ∷ t ∷ [])) Array (f ∷ t ∷ []) (need_t (need_f x)))
-        (λ q. term-extends s (operation_on Array (f ∷ t ∷ [])) (operation_text (need_t (need_f e)) Array (f ∷ t ∷ [])) e (need_t (need_f e)) q (extends-then e (need_f e) (need_t (need_f e)) (kf e) (kt (need_f e))))
+        (λ q. term-extends s (operation_on Array (f ∷ t ∷ [])) (operation_text (need_t (need_f e)) Array (f ∷ t ∷ [])) e (need_t (need_f e)) q
+        (extends-then e (need_f e) (need_t (need_f e)) (kf e) (kt (need_f e))))
 
 mutual
   pub need-extends : (s : Source) (t : Tree) (e : Emitted) → Extends e (need s t e)

@@ -25,7 +25,7 @@ use Rattle.lh_body.specs.Lines.{most_lines, arg_names, result_name}
 use Rattle.lh_origin.specs.Origins.{source_by, IsOrigin}
 use Rattle.lh_emit.specs.Emitting.{ArgumentsFirst, IsEmitted}
 use Rattle.lh_bodies.specs.Putting.{CanPutDrives, PutsDrives, PutsDrivesNot, CanPutProbes, PutsProbes, PutsProbesNot, CanPutRegisters, PutsRegisters, PutsRegistersNot}
-use Rattle.lh_bodies.specs.Bodies.{NamesDiffer, IsBody, Answers, IsFlatOf, steps_of, DrivesGiven, CanDrive, IsComb, IsOnce, CanRegister, IsEdge}
+use Rattle.lh_bodies.specs.Bodies.{NamesDiffer, IsBody, BodyOrTooLarge, IsFlatOf, steps_of, DrivesGiven, CanDrive, IsComb, IsOnce, CanRegister, IsEdge}
 use Rattle.lh_body.specs.declared.body.Body.{Body}
 use Rattle.lh_origin.specs.declared.origin.Origin.{Origin}
 use Rattle.lh_emit.specs.declared.emitter.Emitter.{Emitter}
@@ -93,9 +93,9 @@ IsNew o x =
     (ns : List Node) (name : UnitName) (f : Naming) → IsOrigin f o → args_repeat [] (flat_text f o.flat.now).args ≡ false →
     IsEmitted ns (source_by name f o.flat.now) x (nothing_emitted (source_by name f o.flat.now))
 
-answers-err : (u : UnitText) (x : Emission) (r : Result Body EmitFault) (g : EmitFault) → IsErrAnd r (λ e. e ≡ g) → Answers u x (Err g) → Answers u x r
+answers-err : (u : UnitText) (x : Emission) (r : Result Body EmitFault) (g : EmitFault) → IsErrAnd r (λ e. e ≡ g) → BodyOrTooLarge u x (Err g) → BodyOrTooLarge u x r
 answers-err u x (Ok b) g h a = absurd h
-answers-err u x (Err e) g h a = subst (λ (z : EmitFault). Answers u x (Err z)) (sym h) a
+answers-err u x (Err e) g h a = subst (λ (z : EmitFault). BodyOrTooLarge u x (Err z)) (sym h) a
 
 -- ---- combinational
 
@@ -119,7 +119,7 @@ module _ (o : Origin) (waited : List Part) (drives : List DriveRow) (ns : List N
     pub comb-probes-not : (g : EmitFault) → PutsProbesNot ns o x waited g → (r : Result Body EmitFault) → IsErrAnd r (λ e. e ≡ g) → IsComb ns o waited drives r
     comb-probes-not g p r h u f ds flat d w = answers-err u _ r g h (by g p)
       where
-        by : (g : EmitFault) → PutsProbesNot ns o x waited g → Answers u (comb_emission u (steps_of u f o) waited ds) (Err g)
+        by : (g : EmitFault) → PutsProbesNot ns o x waited g → BodyOrTooLarge u (comb_emission u (steps_of u f o) waited ds) (Err g)
         by fault.OutOfMemory p = tt
         by fault.EntityTooLarge p =
             let s = source_by u.name f o.flat.now in
@@ -130,7 +130,8 @@ module _ (o : Origin) (waited : List Part) (drives : List DriveRow) (ns : List N
             (inr (subst (λ (q : Source). max_lines < length (comb q waited ds).lines) (source-is u f o flat) z))
 
     module _ (m1 : List Node) (x1 : Emitter) (g1 : Grows ns m1) (p1 : PutsProbes ns o x waited m1 x1) where
-      drives-put : (u : UnitText) (f : Naming) (ds : List Drive) → IsFlatOf u f o → DrivesGiven ns u f o drives ds → Each (WaitIsGiven (source_by u.name f o.flat.now)) waited → CanPutDrives m1 o x1 drives
+      drives-put : (u : UnitText) (f : Naming) (ds : List Drive) → IsFlatOf u f o → DrivesGiven ns u f o drives ds → Each (WaitIsGiven (source_by u.name f o.flat.now)) waited
+          → CanPutDrives m1 o x1 drives
       drives-put u f ds flat d w =
           let s = source_by u.name f o.flat.now in
           record {
@@ -155,7 +156,7 @@ module _ (o : Origin) (waited : List Part) (drives : List DriveRow) (ns : List N
           large (inl q) = inl q
           large (inr k) = inr (subst (λ (q : Source). max_lines < length (comb q waited ds).lines) (source-is u f o flat) k)
 
-          by : (g : EmitFault) → PutsDrivesNot m1 o x1 drives g → Answers u (comb_emission u (steps_of u f o) waited ds) (Err g)
+          by : (g : EmitFault) → PutsDrivesNot m1 o x1 drives g → BodyOrTooLarge u (comb_emission u (steps_of u f o) waited ds) (Err g)
           by fault.OutOfMemory p = tt
           by fault.EntityTooLarge p =
               let z = source_by u.name f o.flat.now in
@@ -171,7 +172,8 @@ module _ (o : Origin) (waited : List Part) (drives : List DriveRow) (ns : List N
                 given = d.given;
               })))
 
-      pub comb-made : CombIsRight → (m2 : List Node) (x2 : Emitter) → PutsDrives m1 o x1 drives m2 x2 → (b : Body) → b.names ≡ x2.lines.names → b.lines ≡ x2.lines.lines → IsComb ns o waited drives (Ok b)
+      pub comb-made : CombIsRight → (m2 : List Node) (x2 : Emitter) → PutsDrives m1 o x1 drives m2 x2 → (b : Body) → b.names ≡ x2.lines.names → b.lines ≡ x2.lines.lines
+          → IsComb ns o waited drives (Ok b)
       comb-made right m2 x2 p b bn bl u f ds flat d w =
           let s = source_by u.name f o.flat.now in
           let same = source-is u f o flat in
@@ -189,7 +191,8 @@ module _ (o : Origin) (waited : List Part) (drives : List DriveRow) (ns : List N
           let gives : comb_emission u (steps_of u f o) waited ds ≡ emits (entity_with u e.lines) =
           subst (λ (q : Source). within_limits u (list_all drive_fits ds) (comb q waited ds).lines ≡ emits (entity_with u e.lines)) same
           (in-limits u (list_all drive_fits ds) e.lines r.fits (short u f o flat m2 x2 e r.is)) in
-          let k = right u (entity_with u e.lines) (steps_of u f o) waited ds gives (apart-args u f o flat m2 x2 e r.is) (subst (λ (q : Source). Each (WaitIsGiven q) waited) same w) (subst (λ (q : Source). Each (DriveIsGiven q) ds) same d.given) in
+          let k = right u (entity_with u e.lines) (steps_of u f o) waited ds gives (apart-args u f o flat m2 x2 e r.is) (subst (λ (q : Source). Each (WaitIsGiven q) waited) same w)
+          (subst (λ (q : Source). Each (DriveIsGiven q) ds) same d.given) in
           (e.lines, gives, is-body u f o flat m2 x2 e r.is b bn bl k.new_results)
 
 -- ---- once
@@ -219,19 +222,37 @@ module _ (o : Origin) (drives : List DriveRow) (ns : List Node) where
         large (inl q) = inl q
         large (inr k) = inr (subst (λ (q : Source). max_lines < length (once q ds).lines) (source-is u f o flat) k)
 
-        by : (g : EmitFault) → PutsDrivesNot ns o x drives g → Answers u (once_emission u (steps_of u f o) ds) (Err g)
+        by : (g : EmitFault) → PutsDrivesNot ns o x drives g → BodyOrTooLarge u (once_emission u (steps_of u f o) ds) (Err g)
         by fault.OutOfMemory p = tt
         by fault.EntityTooLarge p =
             let z = source_by u.name f o.flat.now in
             beyond-limits u (list_all drive_fits ds) (once (source_of u (steps_of u f o)) ds).lines
-            (large (p (record { name = u.name; naming = f; emitted = nothing_emitted z; drives = ds; origin = flat.origin; is = new ns u.name f flat.origin (once-named u f o flat); are = d.are; given = d.given })))
+            (large (p (record {
+              name = u.name;
+              naming = f;
+              emitted = nothing_emitted z;
+              drives = ds;
+              origin = flat.origin;
+              is = new ns u.name f flat.origin (once-named u f o flat);
+              are = d.are;
+              given = d.given;
+            })))
 
     pub once-made : OnceIsRight → (m2 : List Node) (x2 : Emitter) → PutsDrives ns o x drives m2 x2 → (b : Body) → b.names ≡ x2.lines.names → b.lines ≡ x2.lines.lines → IsOnce ns o drives (Ok b)
     once-made right m2 x2 p b bn bl u f ds flat d =
         let s = source_by u.name f o.flat.now in
         let same = source-is u f o flat in
         let e = once s ds in
-        let r = p (record { name = u.name; naming = f; emitted = nothing_emitted s; drives = ds; origin = flat.origin; is = new ns u.name f flat.origin (once-named u f o flat); are = d.are; given = d.given }) in
+        let r = p (record {
+          name = u.name;
+          naming = f;
+          emitted = nothing_emitted s;
+          drives = ds;
+          origin = flat.origin;
+          is = new ns u.name f flat.origin (once-named u f o flat);
+          are = d.are;
+          given = d.given;
+        }) in
         let gives : once_emission u (steps_of u f o) ds ≡ emits (entity_with u e.lines) =
         subst (λ (q : Source). within_limits u (list_all drive_fits ds) (once q ds).lines ≡ emits (entity_with u e.lines)) same
         (in-limits u (list_all drive_fits ds) e.lines r.fits (short u f o flat m2 x2 e r.is)) in
@@ -265,19 +286,37 @@ module _ (o : Origin) (rows : List EdgeRow) (ns : List Node) where
         large (inl q) = inl q
         large (inr k) = inr (subst (λ (q : Source). max_lines < length (edge q rs).lines) (source-is u f o flat) k)
 
-        by : (g : EmitFault) → PutsRegistersNot ns o x rows g → Answers u (edge_emission u (steps_of u f o) rs) (Err g)
+        by : (g : EmitFault) → PutsRegistersNot ns o x rows g → BodyOrTooLarge u (edge_emission u (steps_of u f o) rs) (Err g)
         by fault.OutOfMemory p = tt
         by fault.EntityTooLarge p =
             let z = source_by u.name f o.flat.now in
             beyond-limits u (list_all row_fits rs) (edge (source_of u (steps_of u f o)) rs).lines
-            (large (p (record { name = u.name; naming = f; emitted = nothing_emitted z; registers = rs; origin = flat.origin; is = new ns u.name f flat.origin (once-named u f o flat); are = d.are; given = d.given })))
+            (large (p (record {
+              name = u.name;
+              naming = f;
+              emitted = nothing_emitted z;
+              registers = rs;
+              origin = flat.origin;
+              is = new ns u.name f flat.origin (once-named u f o flat);
+              are = d.are;
+              given = d.given;
+            })))
 
     pub edge-made : EdgeIsRight → (m2 : List Node) (x2 : Emitter) → PutsRegisters ns o x rows m2 x2 → (b : Body) → b.names ≡ x2.lines.names → b.lines ≡ x2.lines.lines → IsEdge ns o rows (Ok b)
     edge-made right m2 x2 p b bn bl u f rs flat d =
         let s = source_by u.name f o.flat.now in
         let same = source-is u f o flat in
         let e = edge s rs in
-        let r = p (record { name = u.name; naming = f; emitted = nothing_emitted s; registers = rs; origin = flat.origin; is = new ns u.name f flat.origin (once-named u f o flat); are = d.are; given = d.given }) in
+        let r = p (record {
+          name = u.name;
+          naming = f;
+          emitted = nothing_emitted s;
+          registers = rs;
+          origin = flat.origin;
+          is = new ns u.name f flat.origin (once-named u f o flat);
+          are = d.are;
+          given = d.given;
+        }) in
         let gives : edge_emission u (steps_of u f o) rs ≡ emits (entity_with u e.lines) =
         subst (λ (q : Source). within_limits u (list_all row_fits rs) (edge q rs).lines ≡ emits (entity_with u e.lines)) same
         (in-limits u (list_all row_fits rs) e.lines r.fits (short u f o flat m2 x2 e r.is)) in

@@ -175,7 +175,8 @@ module _ (o : Origin) (row : EdgeRow) (ns : List Node) (x : Emitter) where
     pub triggers-can : CanTrigger ms o y row g
     triggers-can = can-first so.some
 
-    pub triggers-next : (m2 : List Node) (y2 : Emitter) (t : RegTrigger) (us : List RegTrigger) → us ≡ ts ++ t ∷ [] → Grows ms m2 → NamesGrow y.lines.names y2.lines.names → NeedsTrigger ms o y row g m2 y2 t →
+    pub triggers-next : (m2 : List Node) (y2 : Emitter) (t : RegTrigger) (us : List RegTrigger) → us ≡ ts ++ t ∷ [] → Grows ms m2 → NamesGrow y.lines.names y2.lines.names
+        → NeedsTrigger ms o y row g m2 y2 t →
         TriggersSoFar o row ns x m2 y2 us left
     triggers-next m2 y2 t us added h k n = record {
       grows = grows_on ns ms m2 so.grows h;
@@ -184,7 +185,19 @@ module _ (o : Origin) (row : EdgeRow) (ns : List Node) (x : Emitter) where
           let s = source_by c.name c.naming o.flat.now in
           let r = c.register in
           let l = first-of-all c in
-          let d = n (record { name = c.name; naming = c.naming; emitted = l.now; register = r; trigger = l.first; origin = c.origin; is = l.is; are = l.row_is; given = c.given; trigger_is = l.are.0; trigger_given = l.given.0 }) in
+          let d = n (record {
+            name = c.name;
+            naming = c.naming;
+            emitted = l.now;
+            register = r;
+            trigger = l.first;
+            origin = c.origin;
+            is = l.is;
+            are = l.row_is;
+            given = c.given;
+            trigger_is = l.are.0;
+            trigger_given = l.given.0;
+          }) in
           let e2 = need_trigger s r l.now l.first in
           let before = triggers-on y.lines.names y2.lines.names l.now e2 k (trigger-extends s r l.first l.now) r l.done ts l.tells in
           record {
@@ -208,14 +221,27 @@ module _ (o : Origin) (row : EdgeRow) (ns : List Node) (x : Emitter) where
         let s = source_by c.name c.naming o.flat.now in
         let l = first-of-all c in
         large s c.register c.emitted l
-        (n (record { name = c.name; naming = c.naming; emitted = l.now; register = c.register; trigger = l.first; origin = c.origin; is = l.is; are = l.row_is; given = c.given; trigger_is = l.are.0; trigger_given = l.given.0 }))
+        (n (record {
+          name = c.name;
+          naming = c.naming;
+          emitted = l.now;
+          register = c.register;
+          trigger = l.first;
+          origin = c.origin;
+          is = l.is;
+          are = l.row_is;
+          given = c.given;
+          trigger_is = l.are.0;
+          trigger_given = l.given.0;
+        }))
       where
         large : (s : Source) (r : EdgeRowTree) (e : Emitted) (l : FirstTrigger s ms y g left ts row r e) → RegisterFitsNot r l.first ⊎ (max_lines < length (need_trigger s r l.now l.first).lines) →
             (row_fits r ≡ false) ⊎ (max_lines < length (fold (need_trigger s r) e r.triggers).lines)
         large s r e l (inl q) = inl (subst (λ (gs : List TriggerTree). fits_with r gs ≡ false) l.parts (row-no r l.done l.first l.others q))
         large s r e l (inr w) =
             let k = (triggers-extends s r l.others (need_trigger s r l.now l.first)).longer in
-            let z : length (fold (need_trigger s r) (need_trigger s r l.now l.first) l.others).lines ≡ length (fold (need_trigger s r) e r.triggers).lines = ap (λ (e : Emitted). length e.lines) l.same in
+            let z : length (fold (need_trigger s r) (need_trigger s r l.now l.first) l.others).lines ≡ length (fold (need_trigger s r) e r.triggers).lines =
+            ap (λ (e : Emitted). length e.lines) l.same in
             inr (omega (arith, k, w, z))
 
   pub triggers-end : (ms : List Node) (y : Emitter) (ts : List RegTrigger) (all : List Trigger) → all ≡ [] → TriggersSoFar o row ns x ms y ts all → NeedsTriggers ns o x row ms y ts
@@ -230,7 +256,8 @@ no-triggers ns [] [] q h = refl
 no-triggers ns [] (g ∷ gs) q h = absurd h
 no-triggers ns (t ∷ ts) gs q h = absurd (omega (arith, q))
 
-with-register : (ns : List Node) (s : Source) (r : EdgeRowTree) (e : Emitted) (ts : List Trigger) → (length ts ≡ 0 → ⊥) → AreTriggers ns ts r.triggers → put_register r (need_register s r e) ≡ emit_register s e r
+with-register : (ns : List Node) (s : Source) (r : EdgeRowTree) (e : Emitted) (ts : List Trigger) → (length ts ≡ 0 → ⊥) → AreTriggers ns ts r.triggers
+    → put_register r (need_register s r e) ≡ emit_register s e r
 with-register ns s r e ts some h = by r.triggers refl ts some h
   where
     by : (gs : List TriggerTree) → r.triggers ≡ gs → (ts : List Trigger) → (length ts ≡ 0 → ⊥) → AreTriggers ns ts gs → put_register r (need_register s r e) ≡ emit_register s e r
@@ -252,7 +279,8 @@ module _ (o : Origin) (row : EdgeRow) (ns : List Node) (x : Emitter) where
   reg-is-data c = subst (λ (p : Part). IsData p.ty) (sym c.are.part) c.given.carries
 
   -- the entity with a register is longer than what its triggers need
-  reg-longer : (s : Source) (r : EdgeRowTree) (e z : Emitted) → put_register r (need_register s r e) ≡ emit_register s e r → length z.lines ≤ length (need_register s r e).lines → max_lines < length z.lines →
+  reg-longer : (s : Source) (r : EdgeRowTree) (e z : Emitted) → put_register r (need_register s r e) ≡ emit_register s e r → length z.lines ≤ length (need_register s r e).lines
+      → max_lines < length z.lines →
       max_lines < length (emit_register s e r).lines
   reg-longer s r e z same k w =
       let a = (puts-extends (reg_text (signal (need_register s r e) r.part) (map (trigger_text r (need_register s r e)) r.triggers)) (need_register s r e)).longer in
@@ -378,7 +406,8 @@ record FirstRegister (s : Source) (ms : List Node) (y : Emitter) (row : EdgeRow)
   same : fold (emit_register s) (emit_register s now first) others ≡ fold (emit_register s) e rs
   fits : (row_fits first && list_all row_fits others) ≡ list_all row_fits rs
 
-first-register : (s : Source) (ms : List Node) (y : Emitter) (row : EdgeRow) (left : List EdgeRow) (rs : List EdgeRowTree) (e : Emitted) → RegistersLeft s ms y (row ∷ left) rs e → FirstRegister s ms y row left rs e
+first-register : (s : Source) (ms : List Node) (y : Emitter) (row : EdgeRow) (left : List EdgeRow) (rs : List EdgeRowTree) (e : Emitted) → RegistersLeft s ms y (row ∷ left) rs e
+    → FirstRegister s ms y row left rs e
 first-register s ms y row left rs e l = by l.rest l.are l.given l.same l.fits
   where
     by : (rest : List EdgeRowTree) → AreEdgeRows ms (row ∷ left) rest → Each (RowIsGiven s) rest → fold (emit_register s) l.now rest ≡ fold (emit_register s) e rs →
@@ -389,7 +418,8 @@ first-register s ms y row left rs e l = by l.rest l.are l.given l.same l.fits
 registers-done : (s : Source) (ms : List Node) (y : Emitter) (rs : List EdgeRowTree) (e : Emitted) → RegistersLeft s ms y [] rs e → AreRegistered ms s rs e y
 registers-done s ms y rs e l = by l.rest l.are l.same l.fits
   where
-    by : (rest : List EdgeRowTree) → AreEdgeRows ms [] rest → fold (emit_register s) l.now rest ≡ fold (emit_register s) e rs → list_all row_fits rest ≡ list_all row_fits rs → AreRegistered ms s rs e y
+    by : (rest : List EdgeRowTree) → AreEdgeRows ms [] rest → fold (emit_register s) l.now rest ≡ fold (emit_register s) e rs → list_all row_fits rest ≡ list_all row_fits rs
+        → AreRegistered ms s rs e y
     by [] a q f = record { is = subst (IsEmitted ms s y) q l.is; fits = sym f }
     by (d ∷ more) a q f = absurd a
 
@@ -437,7 +467,8 @@ module _ (o : Origin) (rows : List EdgeRow) (ns : List Node) (x : Emitter) where
     registers-not fault.OutOfMemory p = tt
     registers-not fault.EntityTooLarge p = λ c.
         let l = first-of-rows c in
-        large c (source_by c.name c.naming o.flat.now) l (p (record { name = c.name; naming = c.naming; emitted = l.now; register = l.first; origin = c.origin; is = l.is; are = l.are.0; given = l.given.0 }))
+        large c (source_by c.name c.naming o.flat.now) l
+        (p (record { name = c.name; naming = c.naming; emitted = l.now; register = l.first; origin = c.origin; is = l.is; are = l.are.0; given = l.given.0 }))
       where
         large : (c : CanPutRegisters ns o x rows) (s : Source) (l : FirstRegister s ms y row left c.registers c.emitted) →
             (row_fits l.first ≡ false) ⊎ (max_lines < length (emit_register s l.now l.first).lines) →
@@ -445,7 +476,8 @@ module _ (o : Origin) (rows : List EdgeRow) (ns : List Node) (x : Emitter) where
         large c s l (inl q) = inl (sym l.fits ∙ ap (λ b. b && list_all row_fits l.others) q)
         large c s l (inr w) =
             let k = (registers-extends s l.others (emit_register s l.now l.first)).longer in
-            let z : length (fold (emit_register s) (emit_register s l.now l.first) l.others).lines ≡ length (fold (emit_register s) c.emitted c.registers).lines = ap (λ (e : Emitted). length e.lines) l.same in
+            let z : length (fold (emit_register s) (emit_register s l.now l.first) l.others).lines ≡ length (fold (emit_register s) c.emitted c.registers).lines =
+            ap (λ (e : Emitted). length e.lines) l.same in
             inr (omega (arith, k, w, z))
 
   pub registers-end : (ms : List Node) (y : Emitter) (all : List EdgeRow) → all ≡ [] → RegistersSoFar o rows ns x ms y all → PutsRegisters ns o x rows ms y

@@ -16,7 +16,7 @@ use Rattle.lh_emission.specs.Needs.{need}
 use Rattle.lh_emission.specs.Entities.{need_cond, cond_name, trigger_text}
 use Rattle.lh_body.specs.Lines.{naming, values_alone, NamesGrow}
 use Rattle.lh_emit.specs.Emitting.{IsNeeded}
-use Rattle.lh_bodies.specs.Putting.{IsTested, Tells, TellsCond, TellsSome, TellsTrigger, TellsTriggers}
+use Rattle.lh_bodies.specs.Putting.{IsTested, IsIdOfTerm, TellsCond, TellsSome, TellsTrigger, TellsTriggers}
 use Rattle.lh_emit.specs.declared.emitter.Emitter.{Emitter}
 use Rattle.lh_bodies.proofs.Extending.{Extends, need-named}
 
@@ -36,11 +36,11 @@ names-same a = ([], sym (by a))
 
 -- ---- one term
 
-pub tells-needed : (ms : List Node) (s : Source) (t : Tree) (e : Emitted) (y : Emitter) (v : ValueId) → IsNeeded ms s t e y v → Tells y.lines.names (need s t e) t v
+pub tells-needed : (ms : List Node) (s : Source) (t : Tree) (e : Emitted) (y : Emitter) (v : ValueId) → IsNeeded ms s t e y v → IsIdOfTerm y.lines.names (need s t e) t v
 tells-needed ms s t e y v n = let k = need-named s t e in record { name = n.name; within = n.within; named = (k.name, k.is) }
 
 module _ (old new : List (List ℕ)) (e x : Emitted) (g : NamesGrow old new) (k : Extends e x) where
-  pub tells-on : (t : Tree) (v : ValueId) → Tells old e t v → Tells new x t v
+  pub tells-on : (t : Tree) (v : ValueId) → IsIdOfTerm old e t v → IsIdOfTerm new x t v
   tells-on t v h =
       let a : slice_index_or new v.0 [] ≡ slice_index_or old v.0 [] = ap (λ (l : List (List ℕ)). slice_index_or l v.0 []) g.1 ∙ get_or-append old g.0 [] v.0 h.within in
       let b : x.terms t ≡ Some h.named.0 = k.terms t h.named.0 h.named.1 in
@@ -136,7 +136,8 @@ module _ (names : List (List ℕ)) (e : Emitted) (r : EdgeRowTree) where
       ((h.0.value.within, h.0.now.within, cond-within names e g.gate t.gate h.0.gate, some-within names e r.delay t.after h.0.after), triggers-within gs ts h.1)
 
   -- one more
-  pub triggers-more : (gs : List TriggerTree) (ts : List RegTrigger) (g : TriggerTree) (t : RegTrigger) → TellsTriggers names e r gs ts → TellsTrigger names e r g t → TellsTriggers names e r (gs ++ g ∷ []) (ts ++ t ∷ [])
+  pub triggers-more : (gs : List TriggerTree) (ts : List RegTrigger) (g : TriggerTree) (t : RegTrigger) → TellsTriggers names e r gs ts → TellsTrigger names e r g t
+      → TellsTriggers names e r (gs ++ g ∷ []) (ts ++ t ∷ [])
   triggers-more [] [] g t h k = (k, tt)
   triggers-more [] (u ∷ ts) g t h k = absurd h
   triggers-more (f ∷ gs) [] g t h k = absurd h

@@ -228,7 +228,8 @@ module _ (o : Origin) (row : EdgeRow) (g : Trigger) (ns : List Node) (x : Emitte
               record {
                 is = d.is;
                 tells = record {
-                  value = tells-on x1.lines.names x4.lines.names e1 e4 (names-then _ _ _ l2 (names-then _ _ _ l3 l4)) (one-four s r t c.emitted) r.value v1 (tells-needed m1 s r.value c.emitted x1 v1 va);
+                  value = tells-on x1.lines.names x4.lines.names e1 e4 (names-then _ _ _ l2 (names-then _ _ _ l3 l4)) (one-four s r t c.emitted) r.value v1
+                      (tells-needed m1 s r.value c.emitted x1 v1 va);
                   mode = is_mode ∙ ap mode_of c.trigger_is.rise;
                   now = tells-on x2.lines.names x4.lines.names e2 e4 (names-then _ _ _ l3 l4) (two-four s r t c.emitted) (now_of t.part) v2 (tells-needed m2 s (now_of t.part) e1 x2 v2 na);
                   gate = cond-on x3.lines.names x4.lines.names e3 e4 l4 (three-four s r t c.emitted) t.gate v3 (tells-tested m3 s t.gate e2 x3 v3 ga);

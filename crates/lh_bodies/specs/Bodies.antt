@@ -26,10 +26,10 @@ use Rattle.lh_body.specs.declared.lines.EmitFault.{EmitFault}
 use Rattle.lh_body.specs.declared.lines.EmitFault.TheVariants as fault
 
 -- The body of the entity; or that this is too large, exactly.
-abbrev pub Answers : UnitText → Emission → Result Body EmitFault → Type 0
-Answers u x (Ok b) = (lines : List LineText) × (x ≡ emits (entity_with u lines)) × IsBody u.args b lines
-Answers u x (Err fault.EntityTooLarge) = x ≡ too_large
-Answers u x (Err fault.OutOfMemory) = Unit {0}
+abbrev pub BodyOrTooLarge : UnitText → Emission → Result Body EmitFault → Type 0
+BodyOrTooLarge u x (Ok b) = (lines : List LineText) × (x ≡ emits (entity_with u lines)) × IsBody u.args b lines
+BodyOrTooLarge u x (Err fault.EntityTooLarge) = x ≡ too_large
+BodyOrTooLarge u x (Err fault.OutOfMemory) = Unit {0}
 
 -- a process that has this flat text by some names, with the arguments of the text, no two of one name
 pub record IsFlatOf (u : UnitText) (f : Naming) (o : Origin) : Type 0 where
@@ -58,11 +58,12 @@ pub record CanDrive (ns : List Node) (o : Origin) (waited : List Part) (drives :
 -- The body is that of the combinational entity.
 abbrev pub IsComb : List Node → Origin → List Part → List DriveRow → Result Body EmitFault → Type 0
 IsComb ns o waited drives answer =
-    (u : UnitText) (f : Naming) (ds : List Drive) → IsFlatOf u f o → DrivesGiven ns u f o drives ds → Each (WaitIsGiven (source_by u.name f o.flat.now)) waited → Answers u (comb_emission u (steps_of u f o) waited ds) answer
+    (u : UnitText) (f : Naming) (ds : List Drive) → IsFlatOf u f o → DrivesGiven ns u f o drives ds → Each (WaitIsGiven (source_by u.name f o.flat.now)) waited
+    → BodyOrTooLarge u (comb_emission u (steps_of u f o) waited ds) answer
 
 -- The body is that of the entity that runs once.
 abbrev pub IsOnce : List Node → Origin → List DriveRow → Result Body EmitFault → Type 0
-IsOnce ns o drives answer = (u : UnitText) (f : Naming) (ds : List Drive) → IsFlatOf u f o → DrivesGiven ns u f o drives ds → Answers u (once_emission u (steps_of u f o) ds) answer
+IsOnce ns o drives answer = (u : UnitText) (f : Naming) (ds : List Drive) → IsFlatOf u f o → DrivesGiven ns u f o drives ds → BodyOrTooLarge u (once_emission u (steps_of u f o) ds) answer
 
 -- ---- registers
 
@@ -80,4 +81,4 @@ pub record CanRegister (ns : List Node) (o : Origin) (rows : List EdgeRow) : Typ
 
 -- The body is that of the entity of registers.
 abbrev pub IsEdge : List Node → Origin → List EdgeRow → Result Body EmitFault → Type 0
-IsEdge ns o rows answer = (u : UnitText) (f : Naming) (rs : List EdgeRowTree) → IsFlatOf u f o → RowsGiven ns u f o rows rs → Answers u (edge_emission u (steps_of u f o) rs) answer
+IsEdge ns o rows answer = (u : UnitText) (f : Naming) (rs : List EdgeRowTree) → IsFlatOf u f o → RowsGiven ns u f o rows rs → BodyOrTooLarge u (edge_emission u (steps_of u f o) rs) answer

@@ -149,7 +149,7 @@ abbrev pub RegisterFitsNot : EdgeRowTree → TriggerTree → Type 0
 RegisterFitsNot r g = (choices_fit r.value ≡ false) ⊎ ((choices_fit r.delay ≡ false) ⊎ (choices_fit g.gate ≡ false))
 
 -- the id is that of a term that has a name
-pub record Tells (names : List (List ℕ)) (e : Emitted) (t : Tree) (v : ValueId) : Type 0 where
+pub record IsIdOfTerm (names : List (List ℕ)) (e : Emitted) (t : Tree) (v : ValueId) : Type 0 where
   pub name : value_text (naming names) v ≡ term_name e t
   pub within : v.0 < length names
   pub named : (n : List ℕ) × (e.terms t ≡ Some n)
@@ -157,17 +157,17 @@ pub record Tells (names : List (List ℕ)) (e : Emitted) (t : Tree) (v : ValueId
 -- so for a condition, which has none where it is the constant 1
 abbrev pub TellsCond : List (List ℕ) → Emitted → Tree → Option ValueId → Type 0
 TellsCond names e c None = is_bit 1 c ≡ true
-TellsCond names e c (Some v) = (is_bit 1 c ≡ false) × Tells names e c v
+TellsCond names e c (Some v) = (is_bit 1 c ≡ false) × IsIdOfTerm names e c v
 
 abbrev pub TellsSome : List (List ℕ) → Emitted → Tree → Option ValueId → Type 0
 TellsSome names e t None = ⊥
-TellsSome names e t (Some v) = Tells names e t v
+TellsSome names e t (Some v) = IsIdOfTerm names e t v
 
 -- the trigger of a register is that one, by ids of values
 pub record TellsTrigger (names : List (List ℕ)) (e : Emitted) (r : EdgeRowTree) (g : TriggerTree) (t : RegTrigger) : Type 0 where
-  pub value : Tells names e r.value t.value
+  pub value : IsIdOfTerm names e r.value t.value
   pub mode : t.mode ≡ mode_of g.rise
-  pub now : Tells names e (now_of g.part) t.trigger
+  pub now : IsIdOfTerm names e (now_of g.part) t.trigger
   pub gate : TellsCond names e g.gate t.gate
   pub after : TellsSome names e r.delay t.after
 

@@ -2,7 +2,7 @@
 ghost use Rattle.std.specs.Prelude.{◌≡◌, [], IfOk, IfErr, OnOk};
 ghost use Rattle.lh_term.specs.Arena.{trees, tree_at, IsIn, Grows};
 ghost use Rattle.lh_term.specs.Make.{is_bit};
-ghost use Rattle.lh_emission.specs.Entities.{mode_of as spec_mode_of};
+ghost use Rattle.lh_emission.specs.Entities as spec;
 ghost use Rattle.lh_body.specs.Lines.{NamesGrow};
 ghost use Rattle.lh_emit.specs.Emitting.{CanNeed};
 ghost use Rattle.lh_bodies.specs.Putting.{TestsTerm, TestsTermNot, CanPutDrive, PutsDrive, PutsDriveNot, CanPutDrives, PutsDrives, PutsDrivesNot, CanPutProbes, PutsProbes, PutsProbesNot};
@@ -274,7 +274,7 @@ fn reg_trigger(
 }
 
 fn mode_of(rise: bool) -> Mode
-    ensures { result ≡ spec_mode_of rise }
+    ensures { result ≡ spec.mode_of rise }
 {
     if rise { Mode::Rise } else { Mode::Fall }
 }

@@ -19,7 +19,7 @@ use Rattle.lh_unit.proofs.Texts.{Agree, maybe-same, inst-same}
 use Rattle.lh_emission.specs.Names.{value_name, free_number}
 use Rattle.lh_emission.specs.Emitted.{Source, Emitted, gives, puts, next_name}
 use Rattle.lh_body.specs.Fresh.{IsFresh, PassesOver}
-use Rattle.lh_body.specs.Lines.{most_lines, naming, line_text, values_alone, IsNamedLine, Says, HasRoom, BeginsWith, AddsArg, arg_names, result_name, NamesGrow, GivesValue, GivesOne, PutsOne}
+use Rattle.lh_body.specs.Lines.{most_lines, naming, line_text, values_alone, IsNamedLine, LinesAreEmitted, HasRoom, BeginsWith, AddsArg, arg_names, result_name, NamesGrow, GivesValue, GivesOne, PutsOne}
 use Rattle.lh_body.specs.declared.lines.BodyLine.{BodyLine}
 use Rattle.lh_body.specs.declared.lines.EmitFault.{EmitFault}
 use Rattle.lh_body.specs.declared.lines.EmitFault.TheVariants as fault
@@ -124,7 +124,8 @@ pub begins-none : (ls : Lines) → IsFresh [] ls.fresh → ls.fresh.next ≡ 0 �
 begins-none ls f n l m = record { fresh = f; next = n; lines = l; names = m }
 
 -- one more argument
-pub adds-arg : (old new : Lines) (n : List ℕ) → HasRoom old → old.fresh.count < 4294967295 → PassesOver n old.fresh new.fresh → new.fresh.next ≡ old.fresh.next → new.fresh.count ≡ old.fresh.count + 1 →
+pub adds-arg : (old new : Lines) (n : List ℕ) → HasRoom old → old.fresh.count < 4294967295 → PassesOver n old.fresh new.fresh → new.fresh.next ≡ old.fresh.next → new.fresh.count ≡ old.fresh.count + 1
+    →
     new.names ≡ old.names ++ n ∷ [] → new.lines ≡ old.lines → AddsArg n old new
 adds-arg old new n h few passed next count nn nl = (
   λ args a e b. record {

@@ -46,7 +46,7 @@ abbrev pub result_name : LineText → List (List ℕ)
 result_name l = maybe_name l.result
 
 -- the instructions so far, by ids, are those of the definition; the names are those of the arguments, and then of the results in order
-pub record Says (args : List ArgText) (ls : Lines) (e : Emitted) : Type 0 where
+pub record LinesAreEmitted (args : List ArgText) (ls : Lines) (e : Emitted) : Type 0 where
   pub fresh : IsFresh args ls.fresh
   pub next : ls.fresh.next ≡ e.next
   pub lines : map (line_text ls.names) ls.lines ≡ e.lines
@@ -77,7 +77,7 @@ NamesGrow old new = (more : List (List ℕ)) × (new ≡ old ++ more)
 -- one more instruction, which gives this value: the value has the next name
 abbrev pub GivesValue : Lines → Inst → Lines → ValueId → Type 0
 GivesValue old i new v =
-    ((s : Source) (e : Emitted) → Says s.args old e → Says s.args new (gives s (inst_text (naming old.names) i) e) × (value_text (naming new.names) v ≡ next_name s e))
+    ((s : Source) (e : Emitted) → LinesAreEmitted s.args old e → LinesAreEmitted s.args new (gives s (inst_text (naming old.names) i) e) × (value_text (naming new.names) v ≡ next_name s e))
     × (v.0 < length new.names) × NamesGrow old.names new.names × HasRoom new
 
 -- One more instruction, which gives a value. There is none where the entity would be too large.
@@ -89,7 +89,7 @@ GivesOne old i new (Err fault.OutOfMemory) = Unit {0}
 -- one more instruction, which gives none
 abbrev pub PutsOne : Lines → Inst → Lines → Result (Unit {0}) EmitFault → Type 0
 PutsOne old i new (Ok u) =
-    ((s : Source) (e : Emitted) → Says s.args old e → Says s.args new (puts (inst_text (naming old.names) i) e))
+    ((s : Source) (e : Emitted) → LinesAreEmitted s.args old e → LinesAreEmitted s.args new (puts (inst_text (naming old.names) i) e))
     × (new.names ≡ old.names) × HasRoom new
 PutsOne old i new (Err fault.EntityTooLarge) = length old.lines ≡ most_lines
 PutsOne old i new (Err fault.OutOfMemory) = Unit {0}

@@ -33,7 +33,8 @@ module _ (n : ℕ) where
 
   -- a line that stands behind these has no fault
   abbrev pub IsClean : (before : List LineText) → LineText → Type 0
-  IsClean before l = (k : ℕ) (first : Bool) (b : BlockText) (after : List LineText) (f : FaultKind) → ¬ HasFault items (site y (record { number = k; in_entry = first; block = b; before = before; line = l; after = after })) f
+  IsClean before l = (k : ℕ) (first : Bool) (b : BlockText) (after : List LineText) (f : FaultKind)
+      → ¬ HasFault items (site y (record { number = k; in_entry = first; block = b; before = before; line = l; after = after })) f
 
   -- each of these lines
   abbrev AllClean : (before : List LineText) → List LineText → Type 0
@@ -147,7 +148,8 @@ module _ (n : ℕ) where
 
   wired-right : (before : List LineText) (t : TypeTree) (a : List ℕ) → AllBefore before → Wired (signal_lines n) t a → Right before t a
   wired-right before t a all w =
-      let front : line_giving a (signal_lines n ++ flat_map link_instances (range_with_len 0 n)) ≡ Some w.inst = given-front a (signal_lines n) (flat_map link_instances (range_with_len 0 n)) w.inst w.gives in
+      let front : line_giving a (signal_lines n ++ flat_map link_instances (range_with_len 0 n)) ≡ Some w.inst =
+      given-front a (signal_lines n) (flat_map link_instances (range_with_len 0 n)) w.inst w.gives in
       let whole : line_giving a (chain_lines n) ≡ Some w.inst = given-front a (signal_lines n ++ flat_map link_instances (range_with_len 0 n)) chain_last w.inst front in
       record {
         kind = ap (λ o. option_and_then result_kind (or_else o None)) whole ∙ w.kind;
@@ -168,7 +170,8 @@ module _ (n : ℕ) where
     ff-clean : Right before bit a → Right before word b → Right before word c → IsClean before (instance "ff" (signal bit a ∷ signal word b ∷ []) (signal word c ∷ []))
     ff-clean ra rb rc k first bl after undefined = clash _ (λ j. (not (ra.defined j) || (not (rb.defined j) || (not (rc.defined j) || false))) || false || false)
     ff-clean ra rb rc k first bl after wrong_kind = clash _ (λ j. (wrong (ra.kind j) || (wrong (rb.kind j) || (wrong (rc.kind j) || false))) || false || false)
-    ff-clean ra rb rc k first bl after wrong_type = clash _ (λ j. (none (ra.kind j) || (none (rb.kind j) || (none (rc.kind j) || false))) || not ((ra.has j && (rb.has j && true)) && (rc.has j && true)) || false)
+    ff-clean ra rb rc k first bl after wrong_type = clash _
+        (λ j. (none (ra.kind j) || (none (rb.kind j) || (none (rc.kind j) || false))) || not ((ra.has j && (rb.has j && true)) && (rc.has j && true)) || false)
     ff-clean ra rb rc k first bl after not_here = clash _ refl
     ff-clean ra rb rc k first bl after no_terminator = clash _ refl
     ff-clean ra rb rc k first bl after phi_edges = clash _ refl
@@ -179,7 +182,8 @@ module _ (n : ℕ) where
     comb-clean : Right before word a → Right before word b → Right before word c → IsClean before (instance "comb" (signal word a ∷ signal word b ∷ []) (signal word c ∷ []))
     comb-clean ra rb rc k first bl after undefined = clash _ (λ j. (not (ra.defined j) || (not (rb.defined j) || (not (rc.defined j) || false))) || false || false)
     comb-clean ra rb rc k first bl after wrong_kind = clash _ (λ j. (wrong (ra.kind j) || (wrong (rb.kind j) || (wrong (rc.kind j) || false))) || false || false)
-    comb-clean ra rb rc k first bl after wrong_type = clash _ (λ j. (none (ra.kind j) || (none (rb.kind j) || (none (rc.kind j) || false))) || not ((ra.has j && (rb.has j && true)) && (rc.has j && true)) || false)
+    comb-clean ra rb rc k first bl after wrong_type = clash _
+        (λ j. (none (ra.kind j) || (none (rb.kind j) || (none (rc.kind j) || false))) || not ((ra.has j && (rb.has j && true)) && (rc.has j && true)) || false)
     comb-clean ra rb rc k first bl after not_here = clash _ refl
     comb-clean ra rb rc k first bl after no_terminator = clash _ refl
     comb-clean ra rb rc k first bl after phi_edges = clash _ refl
@@ -212,7 +216,8 @@ module _ (n : ℕ) where
       let all1 : AllBefore (before ++ r ∷ []) = before-more before (r ∷ []) all in
       let all2 : AllBefore ((before ++ r ∷ []) ++ s ∷ []) = before-more (before ++ r ∷ []) (s ∷ []) all1 in
       let k : a + 1 + m ≤ n = omega arith in (
-        ff-clean before (codes "clk") (next_of a) (stage (a + 1)) (wired-right before bit (codes "clk") all clk) (wired-right before word (next_of a) all d) (wired-right before word (stage (a + 1)) all z),
+        ff-clean before (codes "clk") (next_of a) (stage (a + 1)) (wired-right before bit (codes "clk") all clk) (wired-right before word (next_of a) all d)
+            (wired-right before word (stage (a + 1)) all z),
         (
           comb-clean (before ++ r ∷ []) (stage (a + 1)) (stage a) (next_of a) (wired-right (before ++ r ∷ []) word (stage (a + 1)) all1 z) (wired-right (before ++ r ∷ []) word (stage a) all1 x)
               (wired-right (before ++ r ∷ []) word (next_of a) all1 d),

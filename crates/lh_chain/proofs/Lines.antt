@@ -133,7 +133,8 @@ module _ (n : ℕ) (w : Width n) where
     abbrev args : List OperandText
     args = typed (int_type n) a ∷ plain b ∷ []
 
-    pub two-line : ((ts : List Lexeme) → SpellsWordOp o args ts → SpellsInst (pure_text o args) ts) → ((ts : List Lexeme) → SpellsColumns (typed_column ∷ bare_column ∷ []) args ts [] → SpellsColumns (columns o) args ts []) →
+    pub two-line : ((ts : List Lexeme) → SpellsWordOp o args ts → SpellsInst (pure_text o args) ts)
+        → ((ts : List Lexeme) → SpellsColumns (typed_column ∷ bare_column ∷ []) args ts [] → SpellsColumns (columns o) args ts []) →
         SpellsBehind SpellsNumber (op_numbers o) [] [] → IsNamed r → IsNamed a → IsNamed b → HasInstLine (gives r (pure_text o args))
     two-line inst columned none ir ia ib =
         let vs : List Lexeme = type_token n w ∷ local a ∷ comma ∷ local b ∷ [] in
@@ -146,7 +147,8 @@ br-line b ib = line-has None (br_text b) (word (codes "br") ∷ local b ∷ []) 
 
 pub branch-line : (c f t : List ℕ) → IsNamed c → IsNamed f → IsNamed t → HasInstLine (does (branch_text c f t))
 branch-line c f t ic jf it =
-    line-has None (branch_text c f t) (word (codes "br") ∷ local c ∷ comma ∷ local f ∷ comma ∷ local t ∷ []) (word-lexeme (codes "br") refl, (name c ic, (refl, (name f jf, (refl, (name t it, tt)))))) (refl, refl)
+    line-has None (branch_text c f t) (word (codes "br") ∷ local c ∷ comma ∷ local f ∷ comma ∷ local t ∷ []) (word-lexeme (codes "br") refl, (name c ic, (refl, (name f jf, (refl, (name t it, tt))))))
+    (refl, refl)
 
 pub halt-line : HasInstLine (does halt_text)
 halt-line = line-has None halt_text (word (codes "halt") ∷ []) (word-lexeme (codes "halt") refl, tt) (refl, refl)
@@ -155,13 +157,15 @@ halt-line = line-has None halt_text (word (codes "halt") ∷ []) (word-lexeme (c
 pub wait-line : (b d : List ℕ) → IsNamed b → IsNamed d → HasInstLine (does (wait_text b (Some d) []))
 wait-line b d ib id =
     let us : List Lexeme = word (codes "for") ∷ local d ∷ [] in
-    line-has None (wait_text b (Some d) []) (word (codes "wait") ∷ local b ∷ us) (word-lexeme (codes "wait") refl, (name b ib, (word-lexeme (codes "for") refl, (name d id, tt)))) (refl, (us, [], refl, refl, refl))
+    line-has None (wait_text b (Some d) []) (word (codes "wait") ∷ local b ∷ us) (word-lexeme (codes "wait") refl, (name b ib, (word-lexeme (codes "for") refl, (name d id, tt))))
+    (refl, (us, [], refl, refl, refl))
 
 -- a wait for a change of one signal, and of one of two
 pub wait_one-line : (b s : List ℕ) → IsNamed b → IsNamed s → HasInstLine (does (wait_text b None (s ∷ [])))
 wait_one-line b s ib is =
     let vs : List Lexeme = local s ∷ [] in
-    line-has None (wait_text b None (s ∷ [])) (word (codes "wait") ∷ local b ∷ comma ∷ vs) (word-lexeme (codes "wait") refl, (name b ib, (refl, (name s is, tt)))) (refl, (comma ∷ vs, comma ∷ vs, refl, refl, (vs, refl, refl)))
+    line-has None (wait_text b None (s ∷ [])) (word (codes "wait") ∷ local b ∷ comma ∷ vs) (word-lexeme (codes "wait") refl, (name b ib, (refl, (name s is, tt))))
+    (refl, (comma ∷ vs, comma ∷ vs, refl, refl, (vs, refl, refl)))
 
 pub wait_two-line : (b s t : List ℕ) → IsNamed b → IsNamed s → IsNamed t → HasInstLine (does (wait_text b None (s ∷ t ∷ [])))
 wait_two-line b s t ib is it =
@@ -176,7 +180,8 @@ call-line f n w a ig ia =
     let u : UnitName = record { sigil = 64; name = f } in
     let ws : List Lexeme = type_token n w ∷ local a ∷ close_paren ∷ [] in
     let vs : List Lexeme = word (codes "void") ∷ global f ∷ open_paren ∷ ws in
-    line-has None (call_text u void_type (typed (int_type n) a ∷ [])) (word (codes "call") ∷ vs) (word-lexeme (codes "call") refl, (word-lexeme (codes "void") refl, (name f ig, (refl, (w.written, (name a ia, (refl, tt)))))))
+    line-has None (call_text u void_type (typed (int_type n) a ∷ [])) (word (codes "call") ∷ vs)
+    (word-lexeme (codes "call") refl, (word-lexeme (codes "void") refl, (name f ig, (refl, (w.written, (name a ia, (refl, tt)))))))
     (refl, (global f, vs, ws, refl, (refl, tt), inl (refl, refl), type-said n w (local a ∷ close_paren ∷ [])))
 
 -- the operands of an instance: signals of integers
@@ -211,6 +216,23 @@ instance_two-line f a b c ig =
     let ws : List Lexeme = port_tokens c (close_paren ∷ []) in
     let rs : List Lexeme = port_tokens b (close_paren ∷ arrow ∷ open_paren ∷ ws) in
     let vs : List Lexeme = port_tokens a (comma ∷ rs) in
-    line-has None (child_text u (port a ∷ port b ∷ []) (port c ∷ [])) (word (codes "inst") ∷ global f ∷ open_paren ∷ vs)
-    (word-lexeme (codes "inst") refl, (name f ig, (refl, (a.width.written, (refl, (name a.name a.named, (refl, (b.width.written, (refl, (name b.name b.named, (refl, (tt, (refl, (c.width.written, (refl, (name c.name c.named, (refl, tt)))))))))))))))))
+    line-has None (child_text u (port a ∷ port b ∷ []) (port c ∷ [])) (word (codes "inst") ∷ global f ∷ open_paren ∷ vs) (
+      word-lexeme (codes "inst") refl,
+      (
+        name f ig,
+        (
+          refl,
+          (
+            a.width.written,
+            (
+              refl,
+              (
+                name a.name a.named,
+                (refl, (b.width.written, (refl, (name b.name b.named, (refl, (tt, (refl, (c.width.written, (refl, (name c.name c.named, (refl, tt))))))))))),
+              ),
+            ),
+          ),
+        ),
+      ),
+    )
     (refl, (global f, vs, ws, refl, inl (refl, refl), (rs, port-said a (comma ∷ rs), port-said b (close_paren ∷ arrow ∷ open_paren ∷ ws)), port-said c (close_paren ∷ [])))

@@ -80,7 +80,9 @@ results-join : (seen xs ys : List LineText) → results_repeat [] seen xs ≡ fa
 results-join seen [] ys h k = subst (λ z. results_repeat [] z ys ≡ false) (append-nil seen) k
 results-join seen (x ∷ xs) ys h k = at (result_repeats [] seen x.result) h (results-join (seen ++ x ∷ []) xs ys)
   where
-    at : (b : Bool) → (b || results_repeat [] (seen ++ x ∷ []) xs) ≡ false → (results_repeat [] (seen ++ x ∷ []) xs ≡ false → results_repeat [] ((seen ++ x ∷ []) ++ xs) ys ≡ false → results_repeat [] (seen ++ x ∷ []) (xs ++ ys) ≡ false) → (b || results_repeat [] (seen ++ x ∷ []) (xs ++ ys)) ≡ false
+    at : (b : Bool) → (b || results_repeat [] (seen ++ x ∷ []) xs) ≡ false
+        → (results_repeat [] (seen ++ x ∷ []) xs ≡ false → results_repeat [] ((seen ++ x ∷ []) ++ xs) ys ≡ false → results_repeat [] (seen ++ x ∷ []) (xs ++ ys) ≡ false)
+        → (b || results_repeat [] (seen ++ x ∷ []) (xs ++ ys)) ≡ false
     at true q r = absurd cc
     at false q r = r q (subst (λ z. results_repeat [] z ys ≡ false) (sym (append_assoc seen (x ∷ []) xs)) k)
 

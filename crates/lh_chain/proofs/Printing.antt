@@ -72,7 +72,8 @@ process-header f a b i =
       },
     )
 
-process_two-header : (f : List ℕ) (a b c : Port) → IsNamed f → HasLine (header_item kind.Proc (record { sigil = 64; name = f }) (argument_of false a ∷ argument_of false b ∷ argument_of true c ∷ []) None)
+process_two-header : (f : List ℕ) (a b c : Port) → IsNamed f
+    → HasLine (header_item kind.Proc (record { sigil = 64; name = f }) (argument_of false a ∷ argument_of false b ∷ argument_of true c ∷ []) None)
 process_two-header f a b c i =
     let end : List Lexeme = port_tokens c (close_paren ∷ open_brace ∷ []) in
     let vs : List Lexeme = port_tokens b (close_paren ∷ arrow ∷ open_paren ∷ end) in
@@ -83,7 +84,16 @@ process_two-header f a b c i =
         name f i,
         (
           refl,
-          (a.width.written, (refl, (name a.name a.named, (refl, (b.width.written, (refl, (name b.name b.named, (refl, (tt, (refl, (c.width.written, (refl, (name c.name c.named, (refl, (refl, tt))))))))))))))),
+          (
+            a.width.written,
+            (
+              refl,
+              (
+                name a.name a.named,
+                (refl, (b.width.written, (refl, (name b.name b.named, (refl, (tt, (refl, (c.width.written, (refl, (name c.name c.named, (refl, (refl, tt)))))))))))),
+              ),
+            ),
+          ),
         ),
       ),
     ) (
@@ -110,7 +120,18 @@ label n h = let i = name n h in (((i.0, i.2), refl, (refl, refl, tt)), inl (refl
 
 one_delta : (r : List ℕ) → IsNamed r → HasInstLine (gives r (delay 0 1))
 one_delta r h =
-    let n : SpellsFemtoseconds 0 (codes "0s") = record { numeral = codes "0"; unit = codes "s"; together = refl; n = 0; places = 0; says = inl (refl, refl); scale = 10 ^ 15; known = refl; whole = refl; below = omega arith } in
+    let n : SpellsFemtoseconds 0 (codes "0s") = record {
+      numeral = codes "0";
+      unit = codes "s";
+      together = refl;
+      n = 0;
+      places = 0;
+      says = inl (refl, refl);
+      scale = 10 ^ 15;
+      known = refl;
+      whole = refl;
+      below = omega arith;
+    } in
     time-line r (record { fs = 0; delta = 1; eps = 0 }) (word (codes "0s") ∷ word (codes "1d") ∷ []) h (word-lexeme (codes "0s") refl, (word-lexeme (codes "1d") refl, tt))
     (codes "0s", word (codes "1d") ∷ [], [], refl, n, inr (codes "1", refl, refl, omega arith), inl (refl, refl))
 
@@ -128,7 +149,8 @@ two_nanoseconds = record { numeral = codes "2"; unit = codes "ns"; together = re
 
 pub register-printable : IsPrintable register_unit
 register-printable = record {
-  headed = process_two-header (codes "ff") (record { n = 1; width = one; name = codes "clk"; named = refl }) (record { n = 32; width = whole; name = codes "d"; named = refl }) (record { n = 32; width = whole; name = codes "q"; named = refl }) refl;
+  headed = process_two-header (codes "ff") (record { n = 1; width = one; name = codes "clk"; named = refl }) (record { n = 32; width = whole; name = codes "d"; named = refl })
+      (record { n = 32; width = whole; name = codes "q"; named = refl }) refl;
   shaped = ((label (codes "init") refl, refl), ((label (codes "check") refl, refl), ((label (codes "event") refl, refl), tt)));
   written = (
     probe-line 1 one (codes "clk0") (codes "clk") refl refl,
@@ -161,7 +183,8 @@ register-printable = record {
 
 pub adder-printable : IsPrintable adder_unit
 adder-printable = record {
-  headed = process_two-header (codes "comb") (record { n = 32; width = whole; name = codes "q"; named = refl }) (record { n = 32; width = whole; name = codes "x"; named = refl }) (record { n = 32; width = whole; name = codes "d"; named = refl }) refl;
+  headed = process_two-header (codes "comb") (record { n = 32; width = whole; name = codes "q"; named = refl }) (record { n = 32; width = whole; name = codes "x"; named = refl })
+      (record { n = 32; width = whole; name = codes "d"; named = refl }) refl;
   shaped = ((label (codes "entry") refl, refl), tt);
   written = (
     probe-line 32 whole (codes "qp") (codes "q") refl refl,

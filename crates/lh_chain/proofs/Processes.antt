@@ -6,13 +6,13 @@ use Rattle.std.proofs.lemmas.Bool.{and_parts, or_parts, both_ways as clash}
 use Rattle.lh_unit.specs.declared.inst.UnitKind.TheVariants as kind
 use Rattle.lh_unit.specs.Contents.{InstText, phi_text, BlockText, LineText, UnitText, ItemText, same_name, args_define, lines_define, blocks_define}
 use Rattle.lh_unit.specs.Named.{label_or}
-use Rattle.lh_unit.specs.Places.{Place, places, entry_of, IsPath}
+use Rattle.lh_unit.specs.Places.{InstPlaceText, places, entry_of, IsPath}
 use Rattle.lh_unit.specs.WellFormed.{FaultKind, undefined, wrong_kind, wrong_type, not_here, no_terminator, phi_edges, not_defined, arguments, values_named, is_phi, Lacks, SomeValueLacks, LacksIn, Site, has_local, HasFault, NoneHasFault}
 use Rattle.lh_unit.specs.Within.{Each}
 use Rattle.lh_unit.proofs.Lists.{some_inj}
 use Rattle.lh_unit.proofs.Tables.{same_name-refl}
 
-abbrev pub site : UnitText → Place → Site
+abbrev pub site : UnitText → InstPlaceText → Site
 site u p = record { unit = u; place = p }
 
 -- ---- paths
@@ -37,14 +37,15 @@ labels-apart : (e b : BlockText) → same_name (label_or e.label) (label_or b.la
 labels-apart e b h q = clash _ (subst (λ (x : BlockText). same_name (label_or x.label) (label_or b.label) ≡ false) q h) (same_name-refl (label_or b.label))
 
 -- a value is an argument, or given earlier in its block, or in the entry block, which is another
-abbrev pub is_given : UnitText → (entry : BlockText) → Place → List ℕ → Bool
+abbrev pub is_given : UnitText → (entry : BlockText) → InstPlaceText → List ℕ → Bool
 is_given u e p n = args_define n u.args || (lines_define n p.before || (not (same_name (label_or e.label) (label_or p.block.label)) && lines_define n e.lines))
 
-module _ (u : UnitText) (e : BlockText) (begins : entry_of u.blocks ≡ Some e) (p : Place) where
+module _ (u : UnitText) (e : BlockText) (begins : entry_of u.blocks ≡ Some e) (p : InstPlaceText) where
   given-stands : (n : List ℕ) → is_given u e p n ≡ true → (args_define n u.args ≡ false) × Lacks u n p.block p.before → ⊥
   given-stands n h l = at (args_define n u.args) (lines_define n p.before) (same_name (label_or e.label) (label_or p.block.label)) (lines_define n e.lines) refl refl refl h l.0 l.1.not_before
     where
-      at : (a b c d : Bool) → lines_define n p.before ≡ b → same_name (label_or e.label) (label_or p.block.label) ≡ c → lines_define n e.lines ≡ d → (a || (b || (not c && d))) ≡ true → a ≡ false → b ≡ false → ⊥
+      at : (a b c d : Bool) → lines_define n p.before ≡ b → same_name (label_or e.label) (label_or p.block.label) ≡ c → lines_define n e.lines ≡ d → (a || (b || (not c && d))) ≡ true → a ≡ false
+          → b ≡ false → ⊥
       at true b c d q r s k f g = cc
       at false true c d q r s k f g = cc
       at false false true d q r s k f g = cc
@@ -56,7 +57,7 @@ module _ (u : UnitText) (e : BlockText) (begins : entry_of u.blocks ≡ Some e) 
   all-stand (n ∷ ns) h (inl l) = given-stands n (and_parts (is_given u e p n) (list_all (is_given u e p) ns) h).0 l
   all-stand (n ∷ ns) h (inr l) = all-stand ns (and_parts (is_given u e p n) (list_all (is_given u e p) ns) h).1 l
 
-values-lack : (u : UnitText) (p : Place) (i : InstText) → is_phi i ≡ false → LacksIn kind.Proc u p i → SomeValueLacks u p (values_named i)
+values-lack : (u : UnitText) (p : InstPlaceText) (i : InstText) → is_phi i ≡ false → LacksIn kind.Proc u p i → SomeValueLacks u p (values_named i)
 values-lack u p (phi_text ty es) h l = absurd cc
 values-lack u p _ h l = l
 
@@ -85,7 +86,7 @@ none-at items s h d k = at k (none-any (has_local items s) kinds h)
     at arguments f = clash _ f.1.1.1.1.1.1.0
 
 -- an instruction passes the tests
-abbrev pub is_clean : List ItemText → UnitText → (entry : BlockText) → Place → Bool
+abbrev pub is_clean : List ItemText → UnitText → (entry : BlockText) → InstPlaceText → Bool
 is_clean items u e p = not (list_any (has_local items (site u p)) kinds) && (not (is_phi p.line.inst) && list_all (is_given u e p) (values_named p.line.inst))
 
 module _ (items : List ItemText) (u : UnitText) (e : BlockText) (process : u.kind ≡ kind.Proc) (begins : entry_of u.blocks ≡ Some e) where
@@ -93,7 +94,7 @@ module _ (items : List ItemText) (u : UnitText) (e : BlockText) (process : u.kin
   not-true true h = cc
   not-true false h = refl
 
-  clean-place : (p : Place) → is_clean items u e p ≡ true → (k : FaultKind) → ¬ HasFault items (site u p) k
+  clean-place : (p : InstPlaceText) → is_clean items u e p ≡ true → (k : FaultKind) → ¬ HasFault items (site u p) k
   clean-place p h =
       let a = and_parts (not (list_any (has_local items (site u p)) kinds)) (not (is_phi p.line.inst) && list_all (is_given u e p) (values_named p.line.inst)) h in
       let b = and_parts (not (is_phi p.line.inst)) (list_all (is_given u e p) (values_named p.line.inst)) a.1 in
@@ -101,7 +102,7 @@ module _ (items : List ItemText) (u : UnitText) (e : BlockText) (process : u.kin
       none-at items (site u p) none (λ l. all-stand u e begins p (values_named p.line.inst) b.1
       (values-lack u p p.line.inst (not-true _ b.0) (subst (λ k. LacksIn k u p p.line.inst) process l.1)))
 
-  clean-places : (ps : List Place) → list_all (is_clean items u e) ps ≡ true → NoneHasFault items (map (site u) ps)
+  clean-places : (ps : List InstPlaceText) → list_all (is_clean items u e) ps ≡ true → NoneHasFault items (map (site u) ps)
   clean-places [] h = tt
   clean-places (p ∷ ps) h = let b = and_parts (is_clean items u e p) (list_all (is_clean items u e) ps) h in (clean-place p b.0, clean-places ps b.1)
 

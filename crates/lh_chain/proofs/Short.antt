@@ -20,7 +20,8 @@ signals-within m n p q = simp length-append (omega arith)
 register-within : (m n : List ℕ) → length m ≤ 4 → length n ≤ 4 → length (codes "    inst @ff (i1$ %clk, i32$ %d" ++ m ++ codes ") -> (i32$ %x" ++ n ++ codes ")\n") ≤ 112
 register-within m n p q = simp length-append (omega arith)
 
-adder-within : (m n k : List ℕ) → length m ≤ 4 → length n ≤ 4 → length k ≤ 4 → length (codes "    inst @comb (i32$ %x" ++ m ++ codes ", i32$ %x" ++ n ++ codes ") -> (i32$ %d" ++ k ++ codes ")\n") ≤ 112
+adder-within : (m n k : List ℕ) → length m ≤ 4 → length n ≤ 4 → length k ≤ 4 → length (codes "    inst @comb (i32$ %x" ++ m ++ codes ", i32$ %x" ++ n ++ codes ") -> (i32$ %d" ++ k ++ codes ")\n")
+    ≤ 112
 adder-within m n k p q r = simp length-append (omega arith)
 
 signals-short : (i : ℕ) → i < 1000 → length (signals_of i) ≤ 112

@@ -18,7 +18,8 @@ pub given-front : (n : List ℕ) (xs ys : List LineText) (i : InstText) → line
 given-front n [] ys i h = absurd cc
 given-front n (x ∷ xs) ys i h = at (is_result_name n x.result) h (given-front n xs ys i)
   where
-    at : (b : Bool) → (if b then Some x.inst else line_giving n xs) ≡ Some i → (line_giving n xs ≡ Some i → line_giving n (xs ++ ys) ≡ Some i) → (if b then Some x.inst else line_giving n (xs ++ ys)) ≡ Some i
+    at : (b : Bool) → (if b then Some x.inst else line_giving n xs) ≡ Some i → (line_giving n xs ≡ Some i → line_giving n (xs ++ ys) ≡ Some i)
+        → (if b then Some x.inst else line_giving n (xs ++ ys)) ≡ Some i
     at true q r = q
     at false q r = r q
 
@@ -26,7 +27,8 @@ given-behind : (n : List ℕ) (xs ys : List LineText) → line_giving n xs ≡ N
 given-behind n [] ys h = refl
 given-behind n (x ∷ xs) ys h = at (is_result_name n x.result) h (given-behind n xs ys)
   where
-    at : (b : Bool) → (if b then Some x.inst else line_giving n xs) ≡ None → (line_giving n xs ≡ None → line_giving n (xs ++ ys) ≡ line_giving n ys) → (if b then Some x.inst else line_giving n (xs ++ ys)) ≡ line_giving n ys
+    at : (b : Bool) → (if b then Some x.inst else line_giving n xs) ≡ None → (line_giving n xs ≡ None → line_giving n (xs ++ ys) ≡ line_giving n ys)
+        → (if b then Some x.inst else line_giving n (xs ++ ys)) ≡ line_giving n ys
     at true q r = absurd cc
     at false q r = r q
 
@@ -60,9 +62,11 @@ stage-given i a (suc n) l m h = at (same_or a i) (λ k. stage-given i (a + 1) n 
   where
     at : Same a i → (a + 1 ≤ i → line_giving (stage (i + 1)) (links_from (a + 1) n) ≡ Some (begins_with word "z")) → line_giving (stage (i + 1)) (links_from a (suc n)) ≡ Some (begins_with word "z")
     at (same e) r =
-        ap (λ (b : Bool). if b then Some (begins_with word "z") else line_giving (stage (i + 1)) (links_from (a + 1) n)) (ap (λ k. same_name (stage (k + 1)) (stage (i + 1))) e ∙ same_name-refl (stage (i + 1)))
+        ap (λ (b : Bool). if b then Some (begins_with word "z") else line_giving (stage (i + 1)) (links_from (a + 1) n))
+        (ap (λ k. same_name (stage (k + 1)) (stage (i + 1))) e ∙ same_name-refl (stage (i + 1)))
     at (other d) r =
-        ap (λ (b : Bool). if b then Some (begins_with word "z") else line_giving (stage (i + 1)) (links_from (a + 1) n)) (stages-differ (a + 1) (i + 1) (omega arith) (omega arith) (λ e. d (omega arith)))
+        ap (λ (b : Bool). if b then Some (begins_with word "z") else line_giving (stage (i + 1)) (links_from (a + 1) n))
+        (stages-differ (a + 1) (i + 1) (omega arith) (omega arith) (λ e. d (omega arith)))
         ∙ r (omega arith)
 
 -- the constants, and the signals of all links
@@ -91,11 +95,13 @@ next-wired n i h l = record {
 }
 
 first-stage : (n : ℕ) → Wired (signal_lines n) word (stage 0)
-first-stage n = wired-front chain_first (links_from 0 n) word (stage 0) (record { inst = begins_with word "o"; gives = ap (λ (b : Bool). if b then Some (begins_with word "o") else None) (same_name-refl (stage 0)); type = refl; kind = refl })
+first-stage n = wired-front chain_first (links_from 0 n) word (stage 0)
+    (record { inst = begins_with word "o"; gives = ap (λ (b : Bool). if b then Some (begins_with word "o") else None) (same_name-refl (stage 0)); type = refl; kind = refl })
 
 later-stage : (n i : ℕ) → n ≤ 1000 → i < n → Wired (signal_lines n) word (stage (i + 1))
 later-stage n i h l =
-    let none : line_giving (stage (i + 1)) chain_first ≡ None = ap (λ (b : Bool). if b then Some (begins_with word "o") else None) (stages-differ 0 (i + 1) (omega arith) (omega arith) (λ e. omega arith)) in
+    let none : line_giving (stage (i + 1)) chain_first
+    ≡ None = ap (λ (b : Bool). if b then Some (begins_with word "o") else None) (stages-differ 0 (i + 1) (omega arith) (omega arith) (λ e. omega arith)) in
     record {
       inst = begins_with word "z";
       gives = given-behind (stage (i + 1)) chain_first (links_from 0 n) none ∙ stage-given i 0 n (omega arith) (omega arith) (omega arith);

@@ -8,7 +8,7 @@ use Rattle.lh_unit.specs.declared.inst.UnitKind.TheVariants as kind
 use Rattle.lh_unit.specs.Contents.{LineText, unit_text}
 use Rattle.lh_unit.specs.Marks.{close_brace}
 use Rattle.lh_unit.specs.Pieces.{Piece, render, mark}
-use Rattle.lh_unit.specs.Canon.{inst_line, header, item_lines, text_of, canon}
+use Rattle.lh_unit.specs.Canon.{canon_inst_line, header, item_lines, text_of, canon}
 use Rattle.lh_generator.specs.Generated.{chain_begins, signals_of, instances_of, chain_ends, chain, register, adder, testbench, generated}
 use Rattle.lh_generator.specs.Summary.{chain_name}
 use Rattle.lh_chain.specs.Words.{bit, word, signal, gives, begins_with, instance}
@@ -20,10 +20,10 @@ text-append (l ∷ a) b = ap (λ t. render l ++ 10 ∷ t) (text-append a b) ∙ 
 
 -- the text of instructions
 abbrev lines_text : List LineText → List ℕ
-lines_text ls = text_of (map inst_line ls)
+lines_text ls = text_of (map canon_inst_line ls)
 
 lines-append : (a b : List LineText) → lines_text (a ++ b) ≡ lines_text a ++ lines_text b
-lines-append a b = ap text_of (map-append inst_line a b) ∙ text-append (map inst_line a) (map inst_line b)
+lines-append a b = ap text_of (map-append canon_inst_line a b) ∙ text-append (map canon_inst_line a) (map canon_inst_line b)
 
 links-text : (f : ℕ → List LineText) (g : ℕ → List ℕ) → ((i : ℕ) → lines_text (f i) ≡ g i) → (is : List ℕ) → lines_text (flat_map f is) ≡ flat_map g is
 links-text f g h [] = refl
@@ -95,7 +95,7 @@ chain_lines-text n =
 
 chain-text : (n : ℕ) → text_of (item_lines (unit_text (chain_unit n))) ≡ chain n
 chain-text n =
-    let ls : List (List Piece) = map inst_line (chain_lines n) in
+    let ls : List (List Piece) = map canon_inst_line (chain_lines n) in
     let end : List (List Piece) = mark close_brace ∷ [] in
     let ss : List ℕ = flat_map signals_of (range_with_len 0 n) in
     let is : List ℕ = flat_map instances_of (range_with_len 0 n) in

@@ -1,5 +1,5 @@
 -- Signals that fill their bits: which signal has which bit.
-use Rattle.std.proofs.Common.{arith, ◌≡◌, ℕ, zero, suc, ◌+◌, ◌-◌, ◌<◌, ◌≤◌, List, [], ◌∷◌, length, get_or, true, false, Option, Some, refl, ap, sym, ◌∙◌, subst, ◌⊎◌, inl, inr}
+use Rattle.std.proofs.Common.{arith, ◌≡◌, ℕ, zero, suc, ◌+◌, ◌-◌, ◌<◌, ◌≤◌, List, [], ◌∷◌, length, get_or, true, false, Option, Some, refl, ap, sym, ◌∙◌, subst, inl, inr}
 use Rattle.std.specs.Prelude.{nat_le, slice_get}
 use Rattle.std.specs.Option.{IsSomeAnd}
 use Rattle.std.proofs.lemmas.Bool.{cases_lt}
@@ -8,7 +8,7 @@ use Rattle.std.proofs.lemmas.Option.{same_Some, none-some, slice_get_read}
 use Rattle.std.specs.List.Sorted.{IsPartitionedBy, IsPartitionPoint}
 use Rattle.lh_types.specs.Types.{IsData, bit_count}
 use Rattle.lh_types.proofs.Limits.{one_le-bit_count}
-use Rattle.lh_index.specs.Rising.{Has}
+use Rattle.lh_index.specs.Rising.{IsOneOf}
 use Rattle.lh_index.proofs.Places.{has_at}
 use Rattle.lh_design.specs.declared.Signal.{Signal}
 use Rattle.lh_design.specs.Filling.{FillFrom}
@@ -133,7 +133,8 @@ found_at lo hi bit (suc i) (s ∷ ss) f l h n t u = elim (cases_lt bit (lo + bit
     inside : (a b : ℕ) → nat_le a b ≡ true → b < a → ⊥
     inside a b e p = grind (arith, nat_tests)
 
-    first : (i : ℕ) (ss : List Signal) → FillFrom (lo + bit_count s.ty) ss hi → bit < lo + bit_count s.ty → ((k : ℕ) (d : Signal) → k < i → nat_le (get_or ss k d).lo bit ≡ true) → i ≤ length ss → FoundAt lo (s ∷ ss) bit (suc i)
+    first : (i : ℕ) (ss : List Signal) → FillFrom (lo + bit_count s.ty) ss hi → bit < lo + bit_count s.ty → ((k : ℕ) (d : Signal) → k < i → nat_le (get_or ss k d).lo bit ≡ true) → i ≤ length ss
+        → FoundAt lo (s ∷ ss) bit (suc i)
     first zero ss g m t n = record { number = 0; before = omega arith; low = omega arith; has = (omega (arith, f.0), omega (arith, f.0)) }
     first (suc i) [] g m t n = absurd (omega arith)
     first (suc i) (x ∷ more) g m t n = absurd (inside x.lo bit (t 0 x (omega arith)) (omega (arith, g.0)))
@@ -176,7 +177,7 @@ fits_there hi ss xs k s f v l e = at_signal 0 hi ss k s f (there ss xs k s v l e
 
 -- the numbers of signals are below how many there are
 pub known_at : (ss : List Signal) (items touched : List ℕ) (i : ℕ) → items ≡ touched → AreSignals ss touched → i < length items → get_or items i 0 < length ss
-known_at ss items touched i e known l = known (get_or items i 0) (subst (λ (ks : List ℕ). Has (get_or items i 0) ks) e (has_at (get_or items i 0) items i l refl))
+known_at ss items touched i e known l = known (get_or items i 0) (subst (λ (ks : List ℕ). IsOneOf (get_or items i 0) ks) e (has_at (get_or items i 0) items i l refl))
 
 pub found_number : (lo : ℕ) (ss : List Signal) (bit i : ℕ) → FoundAt lo ss bit i → HasBit ss (i - 1) bit
 found_number lo ss bit i f = let e : f.number ≡ i - 1 = omega (arith, f.before) in subst (λ (k : ℕ). HasBit ss k bit) e f.has

@@ -1,23 +1,23 @@
 -- Bits that are the same in two frames, by signals and in rows.
-use Rattle.std.proofs.Common.{arith, ◌≡◌, ℕ, zero, suc, ◌+◌, ◌<◌, ◌≤◌, ◌≢◌, List, [], ◌∷◌, ◌++◌, length, get_or, set, take, drop, Bool, true, false, not, ◌&&◌, ◌||◌, Some, refl, ap, sym, ◌∙◌, subst, ◌⊎◌, inl, inr}
-use Rattle.std.specs.Prelude.{◌↔◌, unwrap_or, slice_get, slice_set}
+use Rattle.std.proofs.Common.{arith, ◌≡◌, ℕ, zero, suc, ◌+◌, ◌<◌, ◌≤◌, List, [], ◌∷◌, ◌++◌, length, get_or, drop, Bool, true, false, not, ◌&&◌, ◌||◌, Some, refl, ap, sym, ◌∙◌, subst, ◌⊎◌, inl, inr}
+use Rattle.std.specs.Prelude.{slice_get, slice_set}
 use Rattle.std.specs.List.{list_any}
 use Rattle.std.proofs.lemmas.Bool.{cases_lt, cases_eq}
-use Rattle.std.proofs.lemmas.List.{drop_more, drop_all, take_all, get_or-set_other, ext_get_or}
+use Rattle.std.proofs.lemmas.List.{drop_more, drop_all, take_all, get_or-set_other}
 use Rattle.std.proofs.lemmas.List.Folds.{list_any-append}
-use Rattle.std.proofs.lemmas.Option.{unwrap_or-slice_get, slice_get-get_or}
+use Rattle.std.proofs.lemmas.Option.{unwrap_or-slice_get}
 use Rattle.lh_types.specs.Types.{IsData, bit_count}
 use Rattle.lh_types.specs.Parts.{bits_within}
 use Rattle.lh_types.specs.Writes.{written}
 use Rattle.lh_types.specs.declared.part.Range.{Range}
 use Rattle.lh_unit.specs.World.{bit_at, bits_from, bit_numbers, bit_differs}
-use Rattle.lh_index.specs.Rising.{Has}
+use Rattle.lh_index.specs.Rising.{IsOneOf}
 use Rattle.lh_design.specs.declared.Signal.{Signal}
 use Rattle.lh_design.specs.Filling.{FillFrom}
-use Rattle.lh_change.specs.Touched.{HasBit, Touches, AreWithin, bits_named, StaysSame, OthersStay}
+use Rattle.lh_change.specs.Touched.{AreWithin, bits_named, StaysSame}
 use Rattle.lh_change.specs.Laws.{PartsStay, OnlyTouchedChange, OnlyWrittenChange, SignalsAreAll}
 use Rattle.lh_change.proofs.Filled.{has_of, of_has, at_signal, some_signal}
-use Rattle.lh_change.proofs.Touching.{in_row, row_in, has_left, has_right, has_either}
+use Rattle.lh_change.proofs.Touching.{in_row, row_in, has_either}
 
 true_false : true ≡ false → ⊥
 true_false e = cc
@@ -70,12 +70,12 @@ or_false : (p q : Bool) → p || q ≡ false → (p ≡ false) × (q ≡ false)
 or_false true q e = absurd (true_false e)
 or_false false q e = (refl, e)
 
-pub none_differ : (x y : List Bool) (bits : List ℕ) → ((b : ℕ) → Has b bits → bit_at x b ≡ bit_at y b) → list_any (bit_differs x y) bits ≡ false
+pub none_differ : (x y : List Bool) (bits : List ℕ) → ((b : ℕ) → IsOneOf b bits → bit_at x b ≡ bit_at y b) → list_any (bit_differs x y) bits ≡ false
 none_differ x y [] h = refl
 none_differ x y (b ∷ bits) h =
     ap (λ (c : Bool). c || list_any (bit_differs x y) bits) (same_differs (bit_at x b) (bit_at y b) (h b (inl refl))) ∙ none_differ x y bits (λ k g. h k (inr g))
 
-pub each_same : (x y : List Bool) (bits : List ℕ) → list_any (bit_differs x y) bits ≡ false → (b : ℕ) → Has b bits → bit_at x b ≡ bit_at y b
+pub each_same : (x y : List Bool) (bits : List ℕ) → list_any (bit_differs x y) bits ≡ false → (b : ℕ) → IsOneOf b bits → bit_at x b ≡ bit_at y b
 each_same x y [] e b h = absurd h
 each_same x y (c ∷ bits) e b (inl p) = subst (λ (k : ℕ). bit_at x k ≡ bit_at y k) p (differs_same (bit_at x c) (bit_at y c) (or_false (bit_differs x y c) (list_any (bit_differs x y) bits) e).0)
 each_same x y (c ∷ bits) e b (inr h) = each_same x y bits (or_false (bit_differs x y c) (list_any (bit_differs x y) bits) e).1 b h
@@ -91,7 +91,7 @@ not_false : (b : Bool) → (b ≡ false → ⊥) → b ≡ true
 not_false true h = refl
 not_false false h = absurd (h refl)
 
-row_differs : (n lo : ℕ) (x y : List Bool) → lo + n ≤ length x → lo + n ≤ length y → (bits_within lo n x ≡ bits_within lo n y → ⊥) → list_any (bit_differs x y) (bits_from lo n) ≡ true
+pub row_differs : (n lo : ℕ) (x y : List Bool) → lo + n ≤ length x → lo + n ≤ length y → (bits_within lo n x ≡ bits_within lo n y → ⊥) → list_any (bit_differs x y) (bits_from lo n) ≡ true
 row_differs n lo x y p q h =
     not_false (list_any (bit_differs x y) (bits_from lo n)) (λ e.
     h (row_of_bits n lo x y p q (λ b l m. each_same x y (bits_from lo n) e b (row_in b lo n l m))))
@@ -120,6 +120,20 @@ part_differs x y parts i r l e p q s d =
 pub no_part_differs : (x y : List Bool) (parts : List Range) (i : ℕ) → length parts ≤ i → DifferFrom parts i x y → false ≡ list_any (bit_differs x y) (bit_numbers parts)
 no_part_differs x y parts i l d = ap (λ (ps : List Range). list_any (bit_differs x y) (bit_numbers ps)) (sym (drop_all i parts l)) ∙ d
 
+or_true : (b : Bool) → b || true ≡ true
+or_true true = refl
+or_true false = refl
+
+-- one of the parts is a row that differs
+pub part_among : (x y : List Bool) (parts : List Range) (i : ℕ) (p r : Range) → i < length parts → p ≡ get_or parts i p → p.lo ≡ r.lo → p.len ≡ r.len → list_any (bit_differs x y) (bits_from r.lo r.len) ≡ true →
+    list_any (bit_differs x y) (bit_numbers parts) ≡ true
+part_among x y [] i p r l e lo len d = absurd (omega arith)
+part_among x y (q ∷ parts) zero p r l e lo len d =
+    let same : bits_from r.lo r.len ≡ bits_from q.lo q.len = ap (λ (m : ℕ). bits_from m r.len) (sym lo) ∙ ap (λ (m : ℕ). bits_from p.lo m) (sym len) ∙ ap (λ (z : Range). bits_from z.lo z.len) e in
+    list_any-append (bit_differs x y) (bits_from q.lo q.len) (bit_numbers parts) ∙ ap (λ (b : Bool). b || list_any (bit_differs x y) (bit_numbers parts)) (ap (λ (bs : List ℕ). list_any (bit_differs x y) bs) (sym same) ∙ d)
+part_among x y (q ∷ parts) (suc i) p r l e lo len d =
+    list_any-append (bit_differs x y) (bits_from q.lo q.len) (bit_numbers parts) ∙ ap (λ (b : Bool). list_any (bit_differs x y) (bits_from q.lo q.len) || b) (part_among x y parts i p r (omega arith) e lo len d) ∙ or_true (list_any (bit_differs x y) (bits_from q.lo q.len))
+
 -- a signal stays exactly where its row does
 pub stays_by_row : (hi : ℕ) (ss : List Signal) (k : ℕ) (s : Signal) (x y : List Bool) → FillFrom 0 ss hi → slice_get ss k ≡ Some s → length x ≡ hi → length y ≡ hi →
     bits_within s.lo (bit_count s.ty) x ≡ bits_within s.lo (bit_count s.ty) y → StaysSame ss x y k
@@ -144,7 +158,7 @@ pub len_by_stays : (hi : ℕ) (ss : List Signal) (k n : ℕ) (s : Signal) (x y :
 len_by_stays hi ss k n s x y f e p q c r = subst (λ (m : ℕ). bits_within s.lo m x ≡ bits_within s.lo m y) (sym c) (row_by_stays hi ss k s x y f e p q r)
 
 -- the laws
-in_parts : (width : ℕ) (parts : List Range) (b : ℕ) → AreWithin width parts → Has b (bit_numbers parts) → b < width
+in_parts : (width : ℕ) (parts : List Range) (b : ℕ) → AreWithin width parts → IsOneOf b (bit_numbers parts) → b < width
 in_parts width [] b w h = absurd h
 in_parts width (r ∷ parts) b w h = elim (has_either b (bits_from r.lo r.len) (bit_numbers parts) h) [
   | inl g ↦ let i : (r.lo ≤ b) × (b < r.lo + r.len) = in_row b r.lo r.len g in omega (arith, i.1, w.0)
@@ -157,14 +171,14 @@ parts_stay ss width parts old now f w h =
     let s = some_signal 0 width ss b f (omega arith) (in_parts width parts b w g) in
     h s.0 (record { bit = b; among = g; has = s.1 }) b s.1)
 
-pub has_or : (b : ℕ) (bits : List ℕ) → Has b bits ⊎ (Has b bits → ⊥)
+pub has_or : (b : ℕ) (bits : List ℕ) → IsOneOf b bits ⊎ (IsOneOf b bits → ⊥)
 has_or b [] = inr (λ h. h)
 has_or b (c ∷ bits) = elim (cases_eq c b) [
   | inl e ↦ inl (inl e)
   | inr n ↦ elim (has_or b bits) [ inl h ↦ inl (inr h) | inr m ↦ inr (neither n m) ]
 ]
   where
-    neither : (c ≡ b → ⊥) → (Has b bits → ⊥) → Has b (c ∷ bits) → ⊥
+    neither : (c ≡ b → ⊥) → (IsOneOf b bits → ⊥) → IsOneOf b (c ∷ bits) → ⊥
     neither n m (inl e) = n e
     neither n m (inr h) = m h
 
@@ -177,7 +191,7 @@ only_touched_change ss bits touched old now same all k other b h = elim (has_or 
 bit_at-other : (bits : List Bool) (n b : ℕ) (v : Bool) → (n ≡ b → ⊥) → bit_at (slice_set bits n v) b ≡ bit_at bits b
 bit_at-other bits n b v h = unwrap_or-slice_get (slice_set bits n v) b false ∙ get_or-set_other bits n b v false (λ e. h (sym e)) ∙ sym (unwrap_or-slice_get bits b false)
 
-written_else : (writes : List (ℕ × Bool)) (bits : List Bool) (b : ℕ) → (Has b (bits_named writes) → ⊥) → bit_at bits b ≡ bit_at (written writes bits) b
+written_else : (writes : List (ℕ × Bool)) (bits : List Bool) (b : ℕ) → (IsOneOf b (bits_named writes) → ⊥) → bit_at bits b ≡ bit_at (written writes bits) b
 written_else [] bits b h = refl
 written_else (w ∷ writes) bits b h = sym (bit_at-other bits w.0 b w.1 (λ e. h (inl e))) ∙ written_else writes (slice_set bits w.0 w.1) b (λ g. h (inr g))
 

@@ -1,28 +1,25 @@
 -- What changes show: all of them, and those of the signals that are touched.
-use Rattle.std.proofs.Common.{arith, ◌≡◌, ℕ, zero, suc, ◌+◌, ◌<◌, ◌≤◌, List, [], ◌∷◌, ◌++◌, append_assoc, length, get_or, map, take, drop, Bool, true, false, nat_eq, if◌then◌else◌, Option, Some, None, refl, ap, sym, ◌∙◌, subst, ◌⊎◌, inl, inr}
+use Rattle.std.proofs.Common.{arith, ◌≡◌, ℕ, suc, ◌+◌, ◌<◌, ◌≤◌, List, [], ◌∷◌, ◌++◌, append_assoc, length, get_or, map, take, drop, Bool, true, false, nat_eq, if◌then◌else◌, Option, Some, None, refl, ap, sym, ◌∙◌, subst, inl, inr}
 use Rattle.std.specs.Prelude.{slice_get}
-use Rattle.std.proofs.lemmas.Bool.{cases_lt, cases_eq}
+use Rattle.std.proofs.lemmas.Bool.{cases_eq}
 use Rattle.std.proofs.lemmas.Bool.Decides.{nat_tests}
 use Rattle.std.proofs.lemmas.List.{drop_more, drop_all, map-append, append-nil, length-drop, length-take-le, take_all}
-use Rattle.std.proofs.lemmas.Option.{none-some, same_Some}
-use Rattle.lh_types.specs.Types.{TypeTree, IsData, bit_count}
+use Rattle.lh_types.specs.Types.{IsData, bit_count}
 use Rattle.lh_types.specs.Values.{Datum}
-use Rattle.lh_types.specs.ValueOf.{datum_of}
 use Rattle.lh_types.specs.Bits.{value_bits, value_from_bits}
-use Rattle.lh_types.specs.Flags.{bit_differs, differing}
+use Rattle.lh_types.specs.Flags.{differing}
 use Rattle.lh_types.specs.Parts.{bits_within}
 use Rattle.lh_types.specs.Pictures.{Showing, showing_of}
 use Rattle.lh_types.specs.declared.frame.Change.{Change}
 use Rattle.lh_types.proofs.ValueBits.{value_bits-value_from_bits, value_from_bits-take}
 use Rattle.lh_unit.specs.Trace.{signal_value}
 use Rattle.lh_unit.specs.Frames.{toggled, all_change, change_if, changed_from, signal_values}
-use Rattle.lh_index.specs.Rising.{Has, AreAbove, IsRising}
+use Rattle.lh_index.specs.Rising.{IsOneOf, AreAbove, IsRising}
 use Rattle.lh_design.specs.declared.Signal.{Signal}
 use Rattle.lh_design.specs.Texts.{signal_text}
 use Rattle.lh_design.specs.Filling.{FillFrom}
 use Rattle.lh_change.specs.Touched.{StaysSame, OthersStay, AreSignals}
 use Rattle.lh_change.specs.Shown.{shown}
-use Rattle.lh_change.proofs.Filled.{at_signal}
 use Rattle.lh_change.proofs.Same.{row_by_stays}
 
 -- the value of a signal by the bits
@@ -68,7 +65,8 @@ one_more old new c x rest e s =
     ∙ append_assoc (map showing_of old) (showing_of c ∷ []) rest
     ∙ ap (λ (y : Showing). map showing_of old ++ (y ∷ rest)) s
 
-pub all_next : (old new : List Change) (c : Change) (i : ℕ) (s : Signal) (ss : List Signal) (now : List Bool) → i < length ss → s ≡ get_or ss i s → new ≡ old ++ c ∷ [] → showing_of c ≡ shown i 0 (value_of now s) →
+pub all_next : (old new : List Change) (c : Change) (i : ℕ) (s : Signal) (ss : List Signal) (now : List Bool) → i < length ss → s ≡ get_or ss i s → new ≡ old ++ c ∷ []
+    → showing_of c ≡ shown i 0 (value_of now s) →
     AllFrom old i ss now → AllFrom new (i + 1) ss now
 all_next old new c i s ss now l e p v a =
     let next : drop i ss ≡ s ∷ drop (i + 1) ss = drop_more ss i s l ∙ ap (λ (x : Signal). x ∷ drop (i + 1) ss) (sym e) in
@@ -132,7 +130,7 @@ from_less : (m n : ℕ) (ks : List ℕ) → m ≤ n → AreFrom n ks → AreFrom
 from_less m n [] l a = tt
 from_less m n (k ∷ ks) l a = (omega (arith, a.0), from_less m n ks l a.1)
 
-missing : (n : ℕ) (ks : List ℕ) → AreFrom (n + 1) ks → Has n ks → ⊥
+missing : (n : ℕ) (ks : List ℕ) → AreFrom (n + 1) ks → IsOneOf n ks → ⊥
 missing n [] a h = h
 missing n (k ∷ ks) a (inl e) = absurd (omega (arith, a.0, e))
 missing n (k ∷ ks) a (inr h) = missing n ks a.1 h
@@ -148,7 +146,7 @@ module _ (hi : ℕ) (all : List Signal) (old now : List Bool) (f : FillFrom 0 al
 
   -- the changes of the signals from one on are those of the touched ones
   abbrev PickedFrom : (n : ℕ) → List Signal → Type 0
-  PickedFrom n ss = (ks : List ℕ) → IsRising ks → AreFrom n ks → ((k : ℕ) → Has k ks → k < n + length ss) → ((k : ℕ) → n ≤ k → (Has k ks → ⊥) → StaysSame all old now k) →
+  PickedFrom n ss = (ks : List ℕ) → IsRising ks → AreFrom n ks → ((k : ℕ) → IsOneOf k ks → k < n + length ss) → ((k : ℕ) → n ≤ k → (IsOneOf k ks → ⊥) → StaysSame all old now k) →
       picked all old now ks ≡ changed_from n (values_of ss old) (values_of ss now)
 
   picked_end : (n : ℕ) → PickedFrom n []
@@ -156,15 +154,17 @@ module _ (hi : ℕ) (all : List Signal) (old now : List Bool) (f : FillFrom 0 al
   picked_end n (k ∷ ks) r a b o = let l : k < n + 0 = b k (inl refl) in absurd (omega (arith, a.0, l))
 
   -- a signal that is not among them
-  passed : (n : ℕ) (s : Signal) (ss : List Signal) (ks : List ℕ) → slice_get all n ≡ Some s → PickedFrom (n + 1) ss → IsRising ks → AreFrom (n + 1) ks → ((k : ℕ) → Has k ks → k < n + length (s ∷ ss)) →
-      ((k : ℕ) → n ≤ k → (Has k ks → ⊥) → StaysSame all old now k) → picked all old now ks ≡ changed_from n (values_of (s ∷ ss) old) (values_of (s ∷ ss) now)
+  passed : (n : ℕ) (s : Signal) (ss : List Signal) (ks : List ℕ) → slice_get all n ≡ Some s → PickedFrom (n + 1) ss → IsRising ks → AreFrom (n + 1) ks
+      → ((k : ℕ) → IsOneOf k ks → k < n + length (s ∷ ss)) →
+      ((k : ℕ) → n ≤ k → (IsOneOf k ks → ⊥) → StaysSame all old now k) → picked all old now ks ≡ changed_from n (values_of (s ∷ ss) old) (values_of (s ∷ ss) now)
   passed n s ss ks here more r a b o =
       more ks r a (λ k h. let l : k < n + length (s ∷ ss) = b k h in omega arith) (λ k l h. o k (omega arith) h)
       ∙ sym (unchanged n s (changed_from (n + 1) (values_of ss old) (values_of ss now)) here (o n (omega arith) (missing n ks a)))
 
   -- the first of them
-  taken : (n : ℕ) (s : Signal) (ss : List Signal) (k : ℕ) (ks : List ℕ) → n ≡ k → slice_get all n ≡ Some s → PickedFrom (n + 1) ss → IsRising (k ∷ ks) → ((j : ℕ) → Has j (k ∷ ks) → j < n + length (s ∷ ss)) →
-      ((j : ℕ) → n ≤ j → (Has j (k ∷ ks) → ⊥) → StaysSame all old now j) → picked all old now (k ∷ ks) ≡ changed_from n (values_of (s ∷ ss) old) (values_of (s ∷ ss) now)
+  taken : (n : ℕ) (s : Signal) (ss : List Signal) (k : ℕ) (ks : List ℕ) → n ≡ k → slice_get all n ≡ Some s → PickedFrom (n + 1) ss → IsRising (k ∷ ks)
+      → ((j : ℕ) → IsOneOf j (k ∷ ks) → j < n + length (s ∷ ss)) →
+      ((j : ℕ) → n ≤ j → (IsOneOf j (k ∷ ks) → ⊥) → StaysSame all old now j) → picked all old now (k ∷ ks) ≡ changed_from n (values_of (s ∷ ss) old) (values_of (s ∷ ss) now)
   taken n s ss k ks e here more r b o =
       let first : AreFrom (n + 1) ks = subst (λ (x : ℕ). AreFrom (x + 1) ks) (sym e) (from_above k ks r.0) in
       let rest : picked all old now ks ≡ changed_from (n + 1) (values_of ss old) (values_of ss now) =
@@ -173,7 +173,7 @@ module _ (hi : ℕ) (all : List Signal) (old now : List Bool) (f : FillFrom 0 al
       ∙ ap (λ (x : Option Signal). change_of x old now n (picked all old now ks)) here
       ∙ ap (λ (ys : List Showing). change_if n (toggled (value_of old s) (value_of now s)) (value_of now s) ys) rest
     where
-      other : (j : ℕ) → n + 1 ≤ j → (Has j ks → ⊥) → Has j (k ∷ ks) → ⊥
+      other : (j : ℕ) → n + 1 ≤ j → (IsOneOf j ks → ⊥) → IsOneOf j (k ∷ ks) → ⊥
       other j l h (inl g) = absurd (omega (arith, e, g, l))
       other j l h (inr g) = h g
 
@@ -207,17 +207,20 @@ picked_next before after i k s ks ss old now l e g c t =
     let rest : List Showing = picked ss old now (drop (i + 1) ks) in
     ap (λ (ys : List Showing). ys ++ rest) c
     ∙ append_assoc (map showing_of before) (change_if k (toggled (value_of old s) (value_of now s)) (value_of now s) []) rest
-    ∙ ap (λ (ys : List Showing). map showing_of before ++ ys) (change_first k (toggled (value_of old s) (value_of now s)) (value_of now s) rest ∙ sym (ap (λ (x : Option Signal). change_of x old now k rest) g))
+    ∙ ap (λ (ys : List Showing). map showing_of before ++ ys) (change_first k (toggled (value_of old s) (value_of now s)) (value_of now s) rest
+    ∙ sym (ap (λ (x : Option Signal). change_of x old now k rest) g))
     ∙ ap (λ (xs : List ℕ). map showing_of before ++ picked ss old now xs) (sym next) ∙ t
 
-pub picked_are : (hi : ℕ) (changes : List Change) (i : ℕ) (ks touched : List ℕ) (ss : List Signal) (old now : List Bool) → ks ≡ touched → FillFrom 0 ss hi → length old ≡ hi → length now ≡ hi → IsRising touched → AreSignals ss touched → OthersStay ss touched old now →
+pub picked_are : (hi : ℕ) (changes : List Change) (i : ℕ) (ks touched : List ℕ) (ss : List Signal) (old now : List Bool) → ks ≡ touched → FillFrom 0 ss hi → length old ≡ hi → length now ≡ hi
+    → IsRising touched → AreSignals ss touched → OthersStay ss touched old now →
     length ks ≤ i → PickedTo changes i ks ss old now → map showing_of changes ≡ changed_from 0 (values_of ss old) (values_of ss now)
 picked_are hi changes i ks touched ss old now v f p q r b o l t =
     sym (append-nil (map showing_of changes)) ∙ ap (λ (xs : List ℕ). map showing_of changes ++ picked ss old now xs) (sym (drop_all i ks l)) ∙ t
     ∙ ap (picked ss old now) v ∙ picked_all hi ss old now f p q touched r b o
 
 -- one change more, or none where no bit toggled
-pub change_added : (before after : List Change) (c : Change) (k n m : ℕ) (v : Datum) → after ≡ before ++ c ∷ [] → showing_of c ≡ shown k n v → n ≡ m → (n ≡ 0 → ⊥) → map showing_of after ≡ map showing_of before ++ change_if k m v []
+pub change_added : (before after : List Change) (c : Change) (k n m : ℕ) (v : Datum) → after ≡ before ++ c ∷ [] → showing_of c ≡ shown k n v → n ≡ m → (n ≡ 0 → ⊥)
+    → map showing_of after ≡ map showing_of before ++ change_if k m v []
 change_added before after c k n m v e s t h =
     let test : nat_eq m 0 ≡ false = not_zero m (λ z. h (t ∙ z)) in
     ap (map showing_of) e ∙ map-append showing_of before (c ∷ [])

@@ -8,33 +8,33 @@ use Rattle.lh_types.specs.declared.bit_run.BitRun.{BitRun}
 use Rattle.lh_types.specs.Writes.{numbered, bits_of, BitsWithin}
 use Rattle.lh_types.proofs.Writing.{bits-push, row-within}
 use Rattle.lh_unit.specs.World.{bits_from, bit_numbers}
-use Rattle.lh_index.specs.Rising.{Has, HasOneMore}
+use Rattle.lh_index.specs.Rising.{IsOneOf, HasOneMore}
 use Rattle.lh_design.specs.declared.Signal.{Signal}
 use Rattle.lh_design.specs.Filling.{FillFrom}
 use Rattle.lh_change.specs.Touched.{HasBit, Touches, AreTouched, TouchesMore, AreWithin, bits_named}
 use Rattle.lh_change.proofs.Filled.{is_below, strict, in_order, some_bit}
 
-pub has_left : (k : ℕ) (xs ys : List ℕ) → Has k xs → Has k (xs ++ ys)
+pub has_left : (k : ℕ) (xs ys : List ℕ) → IsOneOf k xs → IsOneOf k (xs ++ ys)
 has_left k [] ys h = absurd h
 has_left k (x ∷ xs) ys (inl p) = inl p
 has_left k (x ∷ xs) ys (inr h) = inr (has_left k xs ys h)
 
-pub has_right : (k : ℕ) (xs ys : List ℕ) → Has k ys → Has k (xs ++ ys)
+pub has_right : (k : ℕ) (xs ys : List ℕ) → IsOneOf k ys → IsOneOf k (xs ++ ys)
 has_right k [] ys h = h
 has_right k (x ∷ xs) ys h = inr (has_right k xs ys h)
 
-pub has_either : (k : ℕ) (xs ys : List ℕ) → Has k (xs ++ ys) → Has k xs ⊎ Has k ys
+pub has_either : (k : ℕ) (xs ys : List ℕ) → IsOneOf k (xs ++ ys) → IsOneOf k xs ⊎ IsOneOf k ys
 has_either k [] ys h = inr h
 has_either k (x ∷ xs) ys (inl p) = inl (inl p)
 has_either k (x ∷ xs) ys (inr h) = elim (has_either k xs ys h) [ inl g ↦ inl (inr g) | inr g ↦ inr g ]
 
 -- bits in a row
-pub in_row : (b lo n : ℕ) → Has b (bits_from lo n) → (lo ≤ b) × (b < lo + n)
+pub in_row : (b lo n : ℕ) → IsOneOf b (bits_from lo n) → (lo ≤ b) × (b < lo + n)
 in_row b lo zero h = absurd h
 in_row b lo (suc n) (inl p) = (omega arith, omega arith)
 in_row b lo (suc n) (inr h) = let r : (lo + 1 ≤ b) × (b < lo + 1 + n) = in_row b (lo + 1) n h in (omega (arith, r.0), omega (arith, r.1))
 
-pub row_in : (b lo n : ℕ) → lo ≤ b → b < lo + n → Has b (bits_from lo n)
+pub row_in : (b lo n : ℕ) → lo ≤ b → b < lo + n → IsOneOf b (bits_from lo n)
 row_in b lo zero l h = absurd (omega arith)
 row_in b lo (suc n) l h = elim (cases_lt lo b) [
   | inl m ↦ inr (row_in b (lo + 1) n (omega arith) (omega arith))
@@ -69,27 +69,27 @@ module _ (hi : ℕ) (ss : List Signal) (lo len end first last : ℕ) (f : FillFr
 
 -- the new list has the numbers from one up to another, and what the old one has
 abbrev pub EnteredTo : (old : List ℕ) → (from to : ℕ) → (new : List ℕ) → Type 0
-EnteredTo old from to new = (k : ℕ) → Has k new ↔ (((from ≤ k) × (k < to)) ⊎ Has k old)
+EnteredTo old from to new = (k : ℕ) → IsOneOf k new ↔ (((from ≤ k) × (k < to)) ⊎ IsOneOf k old)
 
 pub entered_none : (old : List ℕ) (from : ℕ) → EnteredTo old from from old
 entered_none old from k = (λ h. inr h, λ p. either p)
   where
-    either : ((from ≤ k) × (k < from)) ⊎ Has k old → Has k old
+    either : ((from ≤ k) × (k < from)) ⊎ IsOneOf k old → IsOneOf k old
     either (inl q) = absurd (omega (arith, q.0, q.1))
     either (inr h) = h
 
 pub entered_more : (old now new : List ℕ) (from i : ℕ) → from ≤ i → EnteredTo old from i now → HasOneMore now i new → EnteredTo old from (i + 1) new
 entered_more old now new from i l n m k = (λ h. there ((m k).0 h), λ p. back p)
   where
-    before : ((from ≤ k) × (k < i)) ⊎ Has k old → ((from ≤ k) × (k < i + 1)) ⊎ Has k old
+    before : ((from ≤ k) × (k < i)) ⊎ IsOneOf k old → ((from ≤ k) × (k < i + 1)) ⊎ IsOneOf k old
     before (inl q) = inl (q.0, omega (arith, q.1))
     before (inr h) = inr h
 
-    there : (k ≡ i) ⊎ Has k now → ((from ≤ k) × (k < i + 1)) ⊎ Has k old
+    there : (k ≡ i) ⊎ IsOneOf k now → ((from ≤ k) × (k < i + 1)) ⊎ IsOneOf k old
     there (inl e) = inl (omega arith, omega arith)
     there (inr h) = before ((n k).0 h)
 
-    back : ((from ≤ k) × (k < i + 1)) ⊎ Has k old → Has k new
+    back : ((from ≤ k) × (k < i + 1)) ⊎ IsOneOf k old → IsOneOf k new
     back (inl q) = elim (cases_lt k i) [ inl a ↦ (m k).1 (inr ((n k).1 (inl (q.0, a)))) | inr a ↦ (m k).1 (inl (omega (arith, q.1))) ]
     back (inr h) = (m k).1 (inr ((n k).1 (inr h)))
 
@@ -107,11 +107,11 @@ row_entered hi ss lo len end first last i old new f s e g h out most n k = (λ p
     whole : i ≤ last + 1
     whole = let p : first ≤ last = in_order hi ss first last lo (end - 1) f g h l in most (omega arith)
 
-    there : ((first ≤ k) × (k < i)) ⊎ Has k old → Touches ss (bits_from lo len) k ⊎ Has k old
+    there : ((first ≤ k) × (k < i)) ⊎ IsOneOf k old → Touches ss (bits_from lo len) k ⊎ IsOneOf k old
     there (inl q) = inl (between_row hi ss lo len end first last f some g h l k q.0 (omega (arith, q.1, whole)))
     there (inr p) = inr p
 
-    back : Touches ss (bits_from lo len) k ⊎ Has k old → ((first ≤ k) × (k < i)) ⊎ Has k old
+    back : Touches ss (bits_from lo len) k ⊎ IsOneOf k old → ((first ≤ k) × (k < i)) ⊎ IsOneOf k old
     back (inl t) = let r : (first ≤ k) × (k < last + 1) = row_between hi ss lo len end first last f some g h l k t in inl (r.0, omega (arith, r.1))
     back (inr p) = inr p
 
@@ -119,7 +119,7 @@ row_entered hi ss lo len end first last i old new f s e g h out most n k = (λ p
 pub none_entered : (ss : List Signal) (lo len : ℕ) (old : List ℕ) → len ≡ 0 → TouchesMore ss (bits_from lo len) old old
 none_entered ss lo len old e k = (λ h. inr h, λ p. either p)
   where
-    either : Touches ss (bits_from lo len) k ⊎ Has k old → Has k old
+    either : Touches ss (bits_from lo len) k ⊎ IsOneOf k old → IsOneOf k old
     either (inl t) = let r : (lo ≤ t.bit) × (t.bit < lo + len) = in_row t.bit lo len t.among in absurd (omega (arith, r.0, r.1))
     either (inr h) = h
 
@@ -127,15 +127,15 @@ none_entered ss lo len old e k = (λ h. inr h, λ p. either p)
 pub touches_both : (ss : List Signal) (xs ys old now new : List ℕ) → TouchesMore ss xs old now → TouchesMore ss ys now new → TouchesMore ss (xs ++ ys) old new
 touches_both ss xs ys old now new a b k = (λ h. there ((b k).0 h), λ p. back p)
   where
-    first : Touches ss xs k ⊎ Has k old → Touches ss (xs ++ ys) k ⊎ Has k old
+    first : Touches ss xs k ⊎ IsOneOf k old → Touches ss (xs ++ ys) k ⊎ IsOneOf k old
     first (inl t) = inl (record { bit = t.bit; among = has_left t.bit xs ys t.among; has = t.has })
     first (inr h) = inr h
 
-    there : Touches ss ys k ⊎ Has k now → Touches ss (xs ++ ys) k ⊎ Has k old
+    there : Touches ss ys k ⊎ IsOneOf k now → Touches ss (xs ++ ys) k ⊎ IsOneOf k old
     there (inl t) = inl (record { bit = t.bit; among = has_right t.bit xs ys t.among; has = t.has })
     there (inr h) = first ((a k).0 h)
 
-    back : Touches ss (xs ++ ys) k ⊎ Has k old → Has k new
+    back : Touches ss (xs ++ ys) k ⊎ IsOneOf k old → IsOneOf k new
     back (inl t) = elim (has_either t.bit xs ys t.among) [
       | inl g ↦ (b k).1 (inr ((a k).1 (inl (record { bit = t.bit; among = g; has = t.has }))))
       | inr g ↦ (b k).1 (inl (record { bit = t.bit; among = g; has = t.has }))
@@ -145,7 +145,7 @@ touches_both ss xs ys old now new a b k = (λ h. there ((b k).0 h), λ p. back p
 pub touches_none : (ss : List Signal) (old : List ℕ) → TouchesMore ss [] old old
 touches_none ss old k = (λ h. inr h, λ p. either p)
   where
-    either : Touches ss [] k ⊎ Has k old → Has k old
+    either : Touches ss [] k ⊎ IsOneOf k old → IsOneOf k old
     either (inl t) = absurd t.among
     either (inr h) = h
 
@@ -153,9 +153,9 @@ touches_none ss old k = (λ h. inr h, λ p. either p)
 pub touched_from_none : (ss : List Signal) (bits start new : List ℕ) → start ≡ [] → TouchesMore ss bits start new → AreTouched ss bits new
 touched_from_none ss bits start new e m k = (λ h. there ((m k).0 h), λ t. (m k).1 (inl t))
   where
-    there : Touches ss bits k ⊎ Has k start → Touches ss bits k
+    there : Touches ss bits k ⊎ IsOneOf k start → Touches ss bits k
     there (inl t) = t
-    there (inr h) = absurd (subst (λ (xs : List ℕ). Has k xs) e h)
+    there (inr h) = absurd (subst (λ (xs : List ℕ). IsOneOf k xs) e h)
 
 numbers_push : (xs : List Range) (r : Range) → bit_numbers (xs ++ r ∷ []) ≡ bit_numbers xs ++ bits_from r.lo r.len
 numbers_push [] r = append-nil (bits_from r.lo r.len)
@@ -169,7 +169,8 @@ parts_more ss parts i r old now new l e a b =
     let both : bit_numbers (take (i + 1) parts) ≡ bit_numbers (take i parts) ++ bits_from r.lo r.len = ap bit_numbers next ∙ numbers_push (take i parts) r in
     subst (λ (ns : List ℕ). TouchesMore ss ns old new) (sym both) (touches_both ss (bit_numbers (take i parts)) (bits_from r.lo r.len) old now new a b)
 
-pub parts_all : (ss : List Signal) (parts : List Range) (i : ℕ) (start new : List ℕ) → length parts ≤ i → start ≡ [] → TouchesMore ss (bit_numbers (take i parts)) start new → AreTouched ss (bit_numbers parts) new
+pub parts_all : (ss : List Signal) (parts : List Range) (i : ℕ) (start new : List ℕ) → length parts ≤ i → start ≡ [] → TouchesMore ss (bit_numbers (take i parts)) start new
+    → AreTouched ss (bit_numbers parts) new
 parts_all ss parts i start new l e m = touched_from_none ss (bit_numbers parts) start new e (subst (λ (ps : List Range). TouchesMore ss (bit_numbers ps) start new) (take_all i parts l) m)
 
 pub part_within : (width : ℕ) (parts : List Range) (i : ℕ) (r : Range) → AreWithin width parts → i < length parts → r ≡ get_or parts i r → r.lo + r.len ≤ width
@@ -196,15 +197,18 @@ runs_more ss runs i n r old now new l e c a b =
     ap bits_named (bits-push (take i runs) (take (i + 1) runs) r next) ∙ named_both (bits_of (take i runs)) (numbered r.lo r.bits) ∙ ap (λ ns. bits_named (bits_of (take i runs)) ++ ns) row in
     subst (λ (ns : List ℕ). TouchesMore ss ns old new) (sym both) (touches_both ss (bits_named (bits_of (take i runs))) (bits_from r.lo n) old now new a b)
 
-pub runs_all : (ss : List Signal) (runs : List BitRun) (writes : List (ℕ × Bool)) (i : ℕ) (old new : List ℕ) → length runs ≤ i → bits_of runs ≡ writes → TouchesMore ss (bits_named (bits_of (take i runs))) old new →
+pub runs_all : (ss : List Signal) (runs : List BitRun) (writes : List (ℕ × Bool)) (i : ℕ) (old new : List ℕ) → length runs ≤ i → bits_of runs ≡ writes
+    → TouchesMore ss (bits_named (bits_of (take i runs))) old new →
     TouchesMore ss (bits_named writes) old new
-runs_all ss runs writes i old new l v m = subst (λ (ws : List (ℕ × Bool)). TouchesMore ss (bits_named ws) old new) v (subst (λ (rs : List BitRun). TouchesMore ss (bits_named (bits_of rs)) old new) (take_all i runs l) m)
+runs_all ss runs writes i old new l v m = subst (λ (ws : List (ℕ × Bool)). TouchesMore ss (bits_named ws) old new) v
+    (subst (λ (rs : List BitRun). TouchesMore ss (bits_named (bits_of rs)) old new) (take_all i runs l) m)
 
 within_both : (n : ℕ) (xs ys : List (ℕ × Bool)) → BitsWithin n (xs ++ ys) → BitsWithin n xs × BitsWithin n ys
 within_both n [] ys h = (tt, h)
 within_both n (x ∷ xs) ys h = let r = within_both n xs ys h.1 in ((h.0, r.0), r.1)
 
-pub run_within : (width : ℕ) (runs : List BitRun) (writes : List (ℕ × Bool)) (i n : ℕ) (r : BitRun) → bits_of runs ≡ writes → BitsWithin width writes → i < length runs → r ≡ get_or runs i r → n ≡ length r.bits → r.lo + n ≤ width
+pub run_within : (width : ℕ) (runs : List BitRun) (writes : List (ℕ × Bool)) (i n : ℕ) (r : BitRun) → bits_of runs ≡ writes → BitsWithin width writes → i < length runs → r ≡ get_or runs i r
+    → n ≡ length r.bits → r.lo + n ≤ width
 run_within width runs writes i n r v w l e c =
     let named : BitsWithin width (numbered r.lo r.bits) = run_of runs i (subst (BitsWithin width) (sym v) w) l e in
     let h : r.lo + length r.bits ≤ width = row-within width r.lo r.bits r.filled named in

@@ -8,10 +8,10 @@ use Rattle.lh_types.specs.Types.{IsData, bit_count}
 use Rattle.lh_types.specs.Parts.{bits_within, bits_with}
 use Rattle.lh_types.proofs.PackedParts.{length-bits_with, length-bits_within}
 use Rattle.lh_unit.specs.World.{bit_at}
-use Rattle.lh_index.specs.Rising.{Has}
+use Rattle.lh_index.specs.Rising.{IsOneOf}
 use Rattle.lh_design.specs.declared.Signal.{Signal}
 use Rattle.lh_design.specs.Filling.{FillFrom}
-use Rattle.lh_change.specs.Touched.{HasBit, StaysSame, OthersStay}
+use Rattle.lh_change.specs.Touched.{StaysSame, OthersStay}
 use Rattle.lh_change.proofs.Filled.{has_of, of_has, at_signal, one_signal}
 use Rattle.lh_change.proofs.Touching.{has_left, has_right, has_either}
 use Rattle.lh_change.proofs.Same.{has_or, signals_are_all}
@@ -55,13 +55,14 @@ module _ (lo n : ℕ) (x y : List Bool) (p : lo + n ≤ length x) (q : lo + n �
 -- after the first of these were put
 pub record PutTo (ss : List Signal) (ks : List ℕ) (i : ℕ) (old from now : List Bool) : Type 0 where
   pub len : length now ≡ length old
-  pub put : (k : ℕ) → Has k (take i ks) → StaysSame ss from now k
+  pub put : (k : ℕ) → IsOneOf k (take i ks) → StaysSame ss from now k
   pub others : OthersStay ss (take i ks) old now
 
 pub put_none : (ss : List Signal) (ks : List ℕ) (old from : List Bool) → PutTo ss ks 0 old from old
 put_none ss ks old from = record { len = refl; put = λ k h. absurd h; others = λ k h b g. refl }
 
-module _ (hi : ℕ) (ss : List Signal) (k : ℕ) (s : Signal) (from now new : List Bool) (f : FillFrom 0 ss hi) (e : slice_get ss k ≡ Some s) (p : length from ≡ hi) (q : length now ≡ hi) (w : new ≡ bits_with s.lo (bits_within s.lo (bit_count s.ty) from) now) where
+module _ (hi : ℕ) (ss : List Signal) (k : ℕ) (s : Signal) (from now new : List Bool) (f : FillFrom 0 ss hi) (e : slice_get ss k ≡ Some s) (p : length from ≡ hi) (q : length now ≡ hi)
+    (w : new ≡ bits_with s.lo (bits_within s.lo (bit_count s.ty) from) now) where
   inside : s.lo + bit_count s.ty ≤ hi
   inside = let a : IsData s.ty × (s.lo + bit_count s.ty ≤ hi) = at_signal 0 hi ss k s f e in a.1
 
@@ -89,9 +90,10 @@ put_more hi ss ks i k s old from now new f l g e p o w t = record {
   len = same_len hi ss k s from now new f e p q w ∙ t.len;
   put = λ j h. elim (cases_eq j k) [
     | inl c ↦ subst (λ (m : ℕ). StaysSame ss from new m) (sym c) (put_one hi ss k s from now new f e p q w)
-    | inr c ↦ later j c (has_either j (take i ks) (k ∷ []) (subst (λ (ms : List ℕ). Has j ms) next h))
+    | inr c ↦ later j c (has_either j (take i ks) (k ∷ []) (subst (λ (ms : List ℕ). IsOneOf j ms) next h))
   ];
-  others = λ j h. untouched j (λ c. h (subst (λ (ms : List ℕ). Has j ms) (sym next) (has_right j (take i ks) (k ∷ []) (inl (sym c))))) (λ c. h (subst (λ (ms : List ℕ). Has j ms) (sym next) (has_left j (take i ks) (k ∷ []) c)));
+  others = λ j h. untouched j (λ c. h (subst (λ (ms : List ℕ). IsOneOf j ms) (sym next) (has_right j (take i ks) (k ∷ []) (inl (sym c)))))
+      (λ c. h (subst (λ (ms : List ℕ). IsOneOf j ms) (sym next) (has_left j (take i ks) (k ∷ []) c)));
 }
   where
     q : length now ≡ hi
@@ -103,12 +105,12 @@ put_more hi ss ks i k s old from now new f l g e p o w t = record {
     kept : (j : ℕ) → (j ≡ k → ⊥) → StaysSame ss now new j
     kept j c = others_stay hi ss k s from now new f e p q w j c
 
-    later : (j : ℕ) → (j ≡ k → ⊥) → Has j (take i ks) ⊎ Has j (k ∷ []) → StaysSame ss from new j
+    later : (j : ℕ) → (j ≡ k → ⊥) → IsOneOf j (take i ks) ⊎ IsOneOf j (k ∷ []) → StaysSame ss from new j
     later j c (inl h) b x = t.put j h b x ∙ kept j c b x
     later j c (inr (inl d)) b x = absurd (c (sym d))
     later j c (inr (inr d)) b x = absurd d
 
-    untouched : (j : ℕ) → (j ≡ k → ⊥) → (Has j (take i ks) → ⊥) → StaysSame ss old new j
+    untouched : (j : ℕ) → (j ≡ k → ⊥) → (IsOneOf j (take i ks) → ⊥) → StaysSame ss old new j
     untouched j c h b x = t.others j h b x ∙ kept j c b x
 
 pub put_next : (hi : ℕ) (ss : List Signal) (ks : List ℕ) (i k n : ℕ) (s : Signal) (old from now new : List Bool) → FillFrom 0 ss hi → i < length ks → k ≡ get_or ks i 0 → slice_get ss k ≡ Some s →
@@ -117,12 +119,14 @@ put_next hi ss ks i k n s old from now new f l g e p o c w t =
     put_more hi ss ks i k s old from now new f l g e p o (w ∙ ap (λ (m : ℕ). bits_with s.lo (bits_within s.lo m from) now) c) t
 
 -- after all of them
-pub put_all : (ss : List Signal) (ks touched : List ℕ) (i : ℕ) (old from now : List Bool) → ks ≡ touched → length ks ≤ i → PutTo ss ks i old from now → ((k : ℕ) → Has k touched → StaysSame ss from now k) × OthersStay ss touched old now
+pub put_all : (ss : List Signal) (ks touched : List ℕ) (i : ℕ) (old from now : List Bool) → ks ≡ touched → length ks ≤ i → PutTo ss ks i old from now
+    → ((k : ℕ) → IsOneOf k touched → StaysSame ss from now k) × OthersStay ss touched old now
 put_all ss ks touched i old from now v l t =
-    let P : List ℕ → Type 0 = λ ms. ((k : ℕ) → Has k ms → StaysSame ss from now k) × OthersStay ss ms old now in
+    let P : List ℕ → Type 0 = λ ms. ((k : ℕ) → IsOneOf k ms → StaysSame ss from now k) × OthersStay ss ms old now in
     subst P (take_all i ks l ∙ v) (t.put, t.others)
 
-undone : (hi : ℕ) (ss : List Signal) (ks : List ℕ) (old from now : List Bool) → FillFrom 0 ss hi → length from ≡ hi → length now ≡ hi → ((k : ℕ) → Has k ks → StaysSame ss from now k) → OthersStay ss ks old now → OthersStay ss ks old from →
+undone : (hi : ℕ) (ss : List Signal) (ks : List ℕ) (old from now : List Bool) → FillFrom 0 ss hi → length from ≡ hi → length now ≡ hi → ((k : ℕ) → IsOneOf k ks → StaysSame ss from now k)
+    → OthersStay ss ks old now → OthersStay ss ks old from →
     now ≡ from
 undone hi ss ks old from now f p q put stay same =
     signals_are_all ss hi now from f q p (λ k b h. elim (has_or k ks) [
@@ -130,7 +134,8 @@ undone hi ss ks old from now f p q put stay same =
       | inr g ↦ sym (stay k g b h) ∙ same k g b h
     ])
 
-pub undone_by : (hi : ℕ) (ss : List Signal) (ks touched : List ℕ) (i : ℕ) (old from now : List Bool) → ks ≡ touched → FillFrom 0 ss hi → length from ≡ hi → length old ≡ hi → length ks ≤ i → PutTo ss ks i old from now → OthersStay ss touched old from → now ≡ from
+pub undone_by : (hi : ℕ) (ss : List Signal) (ks touched : List ℕ) (i : ℕ) (old from now : List Bool) → ks ≡ touched → FillFrom 0 ss hi → length from ≡ hi → length old ≡ hi → length ks ≤ i
+    → PutTo ss ks i old from now → OthersStay ss touched old from → now ≡ from
 undone_by hi ss ks touched i old from now v f p o l t same =
     let a = put_all ss ks touched i old from now v l t in
     undone hi ss touched old from now f p (t.len ∙ o) a.0 a.1 same

@@ -4,7 +4,7 @@ use Rattle.std.specs.List.{list_any}
 use Rattle.lh_types.specs.declared.part.Range.{Range}
 use Rattle.lh_types.specs.Writes.{written}
 use Rattle.lh_unit.specs.World.{bit_at, bit_numbers, bit_differs}
-use Rattle.lh_index.specs.Rising.{Has}
+use Rattle.lh_index.specs.Rising.{IsOneOf}
 use Rattle.lh_design.specs.declared.Signal.{Signal}
 use Rattle.lh_design.specs.Filling.{FillFrom}
 use Rattle.lh_change.specs.Touched.{Touches, AreWithin, bits_named, StaysSame, OthersStay}
@@ -16,13 +16,13 @@ PartsStay = (signals : List Signal) (width : ℕ) (parts : List Range) (old now 
 
 -- where no bit changes but some of these, each signal stays that has none of these
 abbrev pub OnlyTouchedChange : Type 0
-OnlyTouchedChange = (signals : List Signal) (bits touched : List ℕ) (old now : List Bool) → ((b : ℕ) → ¬ Has b bits → bit_at old b ≡ bit_at now b) →
-    ((k : ℕ) → Touches signals bits k → Has k touched) → OthersStay signals touched old now
+OnlyTouchedChange = (signals : List Signal) (bits touched : List ℕ) (old now : List Bool) → ((b : ℕ) → ¬ IsOneOf b bits → bit_at old b ≡ bit_at now b) →
+    ((k : ℕ) → Touches signals bits k → IsOneOf k touched) → OthersStay signals touched old now
 
 -- what is written changes only signals that have one of the bits that the writes name
 abbrev pub OnlyWrittenChange : Type 0
 OnlyWrittenChange = (signals : List Signal) (writes : List (ℕ × Bool)) (touched : List ℕ) (bits : List Bool) →
-    ((k : ℕ) → Touches signals (bits_named writes) k → Has k touched) → OthersStay signals touched bits (written writes bits)
+    ((k : ℕ) → Touches signals (bits_named writes) k → IsOneOf k touched) → OthersStay signals touched bits (written writes bits)
 
 -- where all signals have the same bits in both, all bits are the same
 abbrev pub SignalsAreAll : Type 0

@@ -1,6 +1,6 @@
 //! Taking back what a frame changed.
 ghost use Rattle.std.specs.Prelude.{◌≡◌, ℕ, length};
-ghost use Rattle.lh_index.specs.Rising.{Has};
+ghost use Rattle.lh_index.specs.Rising.{IsOneOf};
 ghost use Rattle.lh_design.specs.Filling.{SignalsFill};
 ghost use Rattle.lh_change.specs.Touched.{AreSignals, StaysSame, OthersStay};
 
@@ -17,7 +17,7 @@ pub fn put_signals(now: &mut Bits, from: &Bits, design: &Design, touched: &Risin
     requires from_width { length from.now ≡ length design.now.init }
     requires known { AreSignals design.now.signals.items touched.now }
     ensures len { length now.new ≡ length now.old }
-    ensures put { (k : ℕ) → Has k touched.now → StaysSame design.now.signals.items from.now now.new k }
+    ensures put { (k : ℕ) → IsOneOf k touched.now → StaysSame design.now.signals.items from.now now.new k }
     ensures others { OthersStay design.now.signals.items touched.now now.old now.new }
     ensures undone { OthersStay design.now.signals.items touched.now now.old from.now → now.new ≡ from.now }
 {

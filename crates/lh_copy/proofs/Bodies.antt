@@ -23,7 +23,7 @@ use Rattle.lh_body.specs.Lines.{line_text, values_alone, IsNamedLine}
 use Rattle.lh_body.specs.Bodies.{IsBody}
 use Rattle.lh_body.specs.declared.body.Body.{Body}
 use Rattle.lh_body.specs.declared.lines.BodyLine.{BodyLine}
-use Rattle.lh_copy.specs.Changing.{Becomes, Adds, with_args, with_lines}
+use Rattle.lh_copy.specs.Changing.{Becomes, AddsUnitText, with_args, with_lines}
 use Rattle.lh_copy.specs.Fitting.{ArgsFit, LinesFit}
 use Rattle.lh_copy.specs.Named.{SameUnits, HasValues, NamesValues}
 use Rattle.lh_copy.specs.Copying.{AddsUnit}
@@ -39,9 +39,13 @@ use Rattle.lh_copy.proofs.Texts.{adds-unit}
 abbrev pub PortsLeft : (a old now : Arena) → UnitId → List Arg → Type 0
 PortsLeft a old now u xs = ArgsNamed a now u.0 × Left ArgsFit with_args old now u (map (arg_text (naming a u.0)) xs) (with_args (unit_text_at a u.0).args (unit_text_at old u.0))
 
-pub ports-start : (a old : Arena) (u : UnitId) (xs : List Arg) → xs ≡ args_at a u.0 → ArgsNamed a old u.0 → IsOpen old u → ArgsFit (unit_text_at old u.0) (unit_text_at a u.0).args → PortsLeft a old old u xs
-ports-start a old u xs e s o f =
-    (s, subst (λ ys. Left ArgsFit with_args old old u (map (arg_text (naming a u.0)) ys) (with_args (unit_text_at a u.0).args (unit_text_at old u.0))) (sym e) (left-start ArgsFit with_args old u (unit_text_at a u.0).args o f))
+pub ports-start : (a old : Arena) (u : UnitId) (xs : List Arg) → xs ≡ args_at a u.0 → ArgsNamed a old u.0 → IsOpen old u → ArgsFit (unit_text_at old u.0) (unit_text_at a u.0).args
+    → PortsLeft a old old u xs
+ports-start a old u xs e s o f = (
+  s,
+  subst (λ ys. Left ArgsFit with_args old old u (map (arg_text (naming a u.0)) ys) (with_args (unit_text_at a u.0).args (unit_text_at old u.0))) (sym e)
+      (left-start ArgsFit with_args old u (unit_text_at a u.0).args o f),
+)
 
 named-becomes : (a b c : Arena) (u : UnitId) (t : UnitText) → ArgsNamed a b u.0 → Becomes b c u t → ArgsNamed a c u.0
 named-becomes a b c u t s p = record {
@@ -69,26 +73,31 @@ module _ (a old now : Arena) (u : UnitId) (xs : List Arg) (i : ℕ) (x : Arg) (e
   pub port-new : defines_value (value_name_at now u.0 i) (unit_text_at now u.0) ≡ false
   port-new = ap (λ n. defines_value n (unit_text_at now u.0)) name ∙ ports_now.fit.0
 
-  pub ports-next : (new : Arena) (ty : TypeTree) → IsOpen old u → ty ≡ x.ty → Becomes now new u (with_arg (arg_text (naming now u.0) (record { value = record { 0 = i }; ty = ty; output = x.output })) (unit_text_at now u.0)) → PortsLeft a old new u (drop (i + 1) xs)
+  pub ports-next : (new : Arena) (ty : TypeTree) → IsOpen old u → ty ≡ x.ty
+      → Becomes now new u (with_arg (arg_text (naming now u.0) (record { value = record { 0 = i }; ty = ty; output = x.output })) (unit_text_at now u.0)) → PortsLeft a old new u (drop (i + 1) xs)
   ports-next new ty p r b =
       let y : ArgText = arg_text (naming a u.0) x in
       let t = with_arg y (unit_text_at now u.0) in
       let same : arg_text (naming now u.0) (record { value = record { 0 = i }; ty = ty; output = x.output }) ≡ y = λ k. record { name = name k; ty = r k; output = x.output } in
       let c : Becomes now new u t = subst (λ z. Becomes now new u (with_arg z (unit_text_at now u.0))) same b in (
         named-becomes a now new u t l.0 c,
-        left-next ArgsFit with_args old now new u (y ∷ map (arg_text (naming a u.0)) (drop (i + 1) xs)) (map (arg_text (naming a u.0)) (drop (i + 1) xs)) (with_args (unit_text_at a u.0).args (unit_text_at old u.0)) t p ports_now c (λ g. g.1) refl,
+        left-next ArgsFit with_args old now new u (y ∷ map (arg_text (naming a u.0)) (drop (i + 1) xs)) (map (arg_text (naming a u.0)) (drop (i + 1) xs))
+            (with_args (unit_text_at a u.0).args (unit_text_at old u.0)) t p ports_now c (λ g. g.1) refl,
       )
 
 pub ports-done : (a old now : Arena) (u : UnitId) (rest : List Arg) → rest ≡ [] → PortsLeft a old now u rest → Becomes old now u (with_args (unit_text_at a u.0).args (unit_text_at old u.0))
-ports-done a old now u rest e l = left-done ArgsFit with_args old now u (map (arg_text (naming a u.0)) rest) (with_args (unit_text_at a u.0).args (unit_text_at old u.0)) (λ t. refl) (ap (map (arg_text (naming a u.0))) e) l.1
+ports-done a old now u rest e l = left-done ArgsFit with_args old now u (map (arg_text (naming a u.0)) rest) (with_args (unit_text_at a u.0).args (unit_text_at old u.0)) (λ t. refl)
+    (ap (map (arg_text (naming a u.0))) e) l.1
 
 -- ---- instructions
 
 -- these lines of all are still to be added
 abbrev pub BodyLeft : (old now : Arena) → UnitId → (rest all : List BodyLine) → Type 0
-BodyLeft old now u rest all = Each (IsLineWithin old u.0) rest × Left LinesFit with_lines old now u (map (body_line_at old u.0) rest) (with_lines (map (body_line_at old u.0) all) (unit_text_at old u.0))
+BodyLeft old now u rest all = Each (IsLineWithin old u.0) rest
+    × Left LinesFit with_lines old now u (map (body_line_at old u.0) rest) (with_lines (map (body_line_at old u.0) all) (unit_text_at old u.0))
 
-pub body-start : (old : Arena) (u : UnitId) (ls all : List BodyLine) → ls ≡ all → IsOpen old u → Each (IsLineWithin old u.0) all → LinesFit (unit_text_at old u.0) (map (body_line_at old u.0) all) → BodyLeft old old u ls all
+pub body-start : (old : Arena) (u : UnitId) (ls all : List BodyLine) → ls ≡ all → IsOpen old u → Each (IsLineWithin old u.0) all → LinesFit (unit_text_at old u.0) (map (body_line_at old u.0) all)
+    → BodyLeft old old u ls all
 body-start old u ls all e o w f = subst (λ ys. BodyLeft old old u ys all) (sym e) (w, left-start LinesFit with_lines old u (map (body_line_at old u.0) all) o f)
 
 module _ (old now : Arena) (u : UnitId) (ls more all : List BodyLine) (x : BodyLine) (e : ls ≡ x ∷ more) (l : BodyLeft old now u ls all) where
@@ -116,11 +125,14 @@ module _ (old now : Arena) (u : UnitId) (ls more all : List BodyLine) (x : BodyL
       let t = with_line y (unit_text_at now u.0) in
       let m : Becomes now new u t = subst (λ z. Becomes now new u (with_line z (unit_text_at now u.0))) body-new.line c in (
         body_now.0.1,
-        left-next LinesFit with_lines old now new u (y ∷ map (body_line_at old u.0) more) (map (body_line_at old u.0) more) (with_lines (map (body_line_at old u.0) all) (unit_text_at old u.0)) t p body_now.1 m (λ g. g.2) refl,
+        left-next LinesFit with_lines old now new u (y ∷ map (body_line_at old u.0) more) (map (body_line_at old u.0) more) (with_lines (map (body_line_at old u.0) all) (unit_text_at old u.0)) t p
+            body_now.1 m (λ g. g.2) refl,
       )
 
-pub body-done : (old now : Arena) (u : UnitId) (rest all : List BodyLine) → rest ≡ [] → BodyLeft old now u rest all → Becomes old now u (with_lines (map (body_line_at old u.0) all) (unit_text_at old u.0))
-body-done old now u rest all e l = left-done LinesFit with_lines old now u (map (body_line_at old u.0) rest) (with_lines (map (body_line_at old u.0) all) (unit_text_at old u.0)) (λ t. refl) (ap (map (body_line_at old u.0)) e) l.1
+pub body-done : (old now : Arena) (u : UnitId) (rest all : List BodyLine) → rest ≡ [] → BodyLeft old now u rest all
+    → Becomes old now u (with_lines (map (body_line_at old u.0) all) (unit_text_at old u.0))
+body-done old now u rest all e l = left-done LinesFit with_lines old now u (map (body_line_at old u.0) rest) (with_lines (map (body_line_at old u.0) all) (unit_text_at old u.0)) (λ t. refl)
+    (ap (map (body_line_at old u.0)) e) l.1
 
 pub none-left : (ls : List BodyLine) → length ls ≡ 0 → ls ≡ []
 none-left [] h = refl
@@ -129,7 +141,7 @@ none-left (x ∷ ls) h = cc
 -- ---- the whole entity
 
 -- names that stay
-values-adds : (b c : Arena) (u : UnitId) (t : UnitText) (n : ℕ) (f : ℕ → List ℕ) → HasValues b u.0 n f → Adds b c u t → HasValues c u.0 n f
+values-adds : (b c : Arena) (u : UnitId) (t : UnitText) (n : ℕ) (f : ℕ → List ℕ) → HasValues b u.0 n f → AddsUnitText b c u t → HasValues c u.0 n f
 values-adds b c u t n f s p = record {
   count = omega (arith, p.entries.values u.0, p.no_more.more_values u.0, s.count);
   names = λ v h. p.entries.value_names u.0 v (omega (arith, h, s.count)) ∙ s.names v h;
@@ -174,7 +186,7 @@ module _ (a m : Arena) (u : UnitId) (b : Body) (h : u.0 < unit_count a) (s : Sam
   pub body-undefined : defines_unit (unit_name_at a u.0) (contents m) ≡ false → defines_unit (unit_name_at given u.0) (contents given) ≡ false
   body-undefined d = (λ i. defines_unit (given-name i) (v.only.says i)) ∙ d
 
-  module _ (begun : Arena) (p : Adds given begun u (new_unit (unit_name_at given u.0) kind.Entity)) where
+  module _ (begun : Arena) (p : AddsUnitText given begun u (new_unit (unit_name_at given u.0) kind.Entity)) where
     values : HasValues begun u.0 (length b.names) (λ k. get_or b.names k [])
     values = values-adds given begun u (new_unit (unit_name_at given u.0) kind.Entity) (length b.names) (λ k. get_or b.names k []) v.named p
 
@@ -188,7 +200,8 @@ module _ (a m : Arena) (u : UnitId) (b : Body) (h : u.0 < unit_count a) (s : Sam
           long = omega (arith, n, c.is.arguments.long, values.count);
           few = omega (arith, n, c.is.arguments.long, few);
           named = λ k x g.
-              let i : slice_get (unit_text_at a u.0).args k ≡ Some (arg_text (naming a u.0) x) = slice_get-map (arg_text (naming a u.0)) (args_at a u.0) k ∙ ap (option_map (arg_text (naming a u.0))) g in
+              let i : slice_get (unit_text_at a u.0).args k ≡ Some (arg_text (naming a u.0) x) = slice_get-map (arg_text (naming a u.0)) (args_at a u.0) k
+              ∙ ap (option_map (arg_text (naming a u.0))) g in
               let w : k < length (args_at a u.0) = slice_get_within (args_at a u.0) k x g in
               values.names k (omega (arith, w, n, c.is.arguments.long)) ∙ c.is.arguments.named k (arg_text (naming a u.0) x) i;
         }
@@ -219,7 +232,7 @@ module _ (a m : Arena) (u : UnitId) (b : Body) (h : u.0 < unit_count a) (s : Sam
           let e : entity_with (unit_text_at a u.0) c.lines ≡ entity_with (unit_text_at a u.0) ls = ap (entity_with (unit_text_at a u.0)) (sym c.is.says ∙ is.says) in
           let t : with_lines (map (body_line_at filled u.0) b.lines) (unit_text_at filled u.0) ≡ entity_with (unit_text_at a u.0) c.lines = (λ i. with_lines (lines i) (text i)) ∙ whole.gives in
           let d : Becomes filled new u (entity_with (unit_text_at a u.0) c.lines) = subst (Becomes filled new u) t g in
-          let y : Adds given new u (entity_with (unit_text_at a u.0) c.lines) =
+          let y : AddsUnitText given new u (entity_with (unit_text_at a u.0) c.lines) =
           adds-then given begun new u (new_unit (unit_name_at given u.0) kind.Entity) (entity_with (unit_text_at a u.0) c.lines) p
           (becomes-trans begun filled new u (with_args (unit_text_at a u.0).args (unit_text_at begun u.0)) (entity_with (unit_text_at a u.0) c.lines) p.is_open q d) in
           subst (AddsUnit m new u.0) e (adds-unit m given new u (entity_with (unit_text_at a u.0) c.lines) v.only y)

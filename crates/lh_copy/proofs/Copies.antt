@@ -74,7 +74,8 @@ copies-unit (Ok x) a old new u t n h = λ items c d. record {
       (h.values w other ∙ g.0, h.labels w other ∙ g.1);
 }
 
-pub copies-entity : (r : Result (Unit {0}) NoMemory) (a old new : Arena) (u : ℕ) (b : Body) → IfOk r (λ x. (ls : List LineText) → IsBody (unit_text_at a u).args b ls → AddsUnit old new u (entity_with (unit_text_at a u) ls))
+pub copies-entity : (r : Result (Unit {0}) NoMemory) (a old new : Arena) (u : ℕ) (b : Body)
+    → IfOk r (λ x. (ls : List LineText) → IsBody (unit_text_at a u).args b ls → AddsUnit old new u (entity_with (unit_text_at a u) ls))
     → IfOk r (λ x. (ls : List LineText) → IsBody (unit_text_at a u).args b ls → CopiesUnit a old new u (entity_with (unit_text_at a u) ls))
 copies-entity (Err e) a old new u b h = tt
 copies-entity (Ok x) a old new u b h = λ ls is. copies-unit (Ok tt) a old new u (entity_with (unit_text_at a u) ls) refl (h ls is)

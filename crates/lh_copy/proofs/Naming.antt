@@ -5,7 +5,7 @@ use Rattle.lh_unit.specs.Builders.{FindsUnit, FindsValue, FindsLabel}
 use Rattle.lh_unit.specs.declared.inst.UnitId.{UnitId}
 use Rattle.lh_unit.specs.declared.inst.ValueId.{ValueId}
 use Rattle.lh_unit.specs.declared.inst.BlockId.{BlockId}
-use Rattle.lh_unit.proofs.Lists.{before, at, past, place, nat_eq-refl, nat_eq-other}
+use Rattle.lh_unit.proofs.Lists.{before, at, past, trichotomy, nat_eq-refl, nat_eq-other}
 use Rattle.lh_unit.proofs.ModuleLaws.{KeepsEntries-refl, KeepsEntries-trans, unit-by_name, value-by_name, label-by_name}
 use Rattle.lh_copy.specs.Named.{NamesIn, NamesUnits, NamesValues, NamesLabels}
 
@@ -15,11 +15,12 @@ Differ n f = (j k : ℕ) → j < n → k < n → f j ≡ f k → j ≡ k
 
 -- An id with the name of the next one, where those before it have the names before it, is the next one.
 next-id : {X : Type 0} (n k v count : ℕ) (f g : ℕ → X) → Differ n f → k < n → count ≤ k + 1 → v < count → ((j : ℕ) → j < k → g j ≡ f j) → g v ≡ f k → v ≡ k
-next-id n k v count f g d h c w s e = elim (place k v) [ before b ↦ absurd (let q : v ≡ k = d v k (omega (arith, b, h)) h (sym (s v b) ∙ e) in omega (arith, b, q)) | at q ↦ q | past p ↦ absurd (omega (arith, p, w, c)) ]
+next-id n k v count f g d h c w s e = elim (trichotomy k v)
+    [ before b ↦ absurd (let q : v ≡ k = d v k (omega (arith, b, h)) h (sym (s v b) ∙ e) in omega (arith, b, q)) | at q ↦ q | past p ↦ absurd (omega (arith, p, w, c)) ]
 
 -- one more name
 more-names : {X : Type 0} (k : ℕ) (f g : ℕ → X) → ((j : ℕ) → j < k → g j ≡ f j) → g k ≡ f k → (j : ℕ) → j < k + 1 → g j ≡ f j
-more-names k f g s e j h = elim (place k j) [ before b ↦ s j b | at q ↦ (ap g q ∙ e ∙ ap f (sym q)) | past p ↦ absurd (omega (arith, p, h)) ]
+more-names k f g s e j h = elim (trichotomy k j) [ before b ↦ s j b | at q ↦ (ap g q ∙ e ∙ ap f (sym q)) | past p ↦ absurd (omega (arith, p, h)) ]
 
 -- ---- units
 
@@ -86,7 +87,8 @@ label-in a b u v n f = let k = f.0.grows.entries in record {
 pub values-start : (a : Arena) (u : ℕ) (f : ℕ → List ℕ) → value_count a u ≡ 0 → NamesValues a a u 0 f
 values-start a u f h = record { only = names-refl a u; labels_stay = refl; named = record { count = h; names = λ v g. absurd (omega arith) } }
 
-pub values-next : (a old new : Arena) (u : UnitId) (n k : ℕ) (f : ℕ → List ℕ) (v : ValueId) → Differ n f → k < n → NamesValues a old u.0 k f → FindsValue (Ok v) old new u (f k) → NamesValues a new u.0 (k + 1) f
+pub values-next : (a old new : Arena) (u : UnitId) (n k : ℕ) (f : ℕ → List ℕ) (v : ValueId) → Differ n f → k < n → NamesValues a old u.0 k f → FindsValue (Ok v) old new u (f k)
+    → NamesValues a new u.0 (k + 1) f
 values-next a old new u n k f v d h s w =
     let g = w.0.grows in
     let more : value_count new u.0 ≤ value_count old u.0 + 1 = omega (arith, w.3.more_values u.0, here u.0) in
@@ -109,7 +111,8 @@ values-differ a u o h j k p q e = value-by_name a u j k o h p q e
 pub labels-start : (a : Arena) (u : ℕ) (f : ℕ → List ℕ) → label_count a u ≡ 0 → NamesLabels a a u 0 f
 labels-start a u f h = record { only = names-refl a u; values_stay = refl; named = record { count = h; names = λ v g. absurd (omega arith) } }
 
-pub labels-next : (a old new : Arena) (u : UnitId) (n k : ℕ) (f : ℕ → List ℕ) (v : BlockId) → Differ n f → k < n → NamesLabels a old u.0 k f → FindsLabel (Ok v) old new u (f k) → NamesLabels a new u.0 (k + 1) f
+pub labels-next : (a old new : Arena) (u : UnitId) (n k : ℕ) (f : ℕ → List ℕ) (v : BlockId) → Differ n f → k < n → NamesLabels a old u.0 k f → FindsLabel (Ok v) old new u (f k)
+    → NamesLabels a new u.0 (k + 1) f
 labels-next a old new u n k f v d h s w =
     let g = w.0.grows in
     let more : label_count new u.0 ≤ label_count old u.0 + 1 = omega (arith, w.3.more_labels u.0, here u.0) in

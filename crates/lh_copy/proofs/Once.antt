@@ -99,7 +99,8 @@ pub record Ends (t : UnitText) (bs : List BlockText) : Type 0 where
   pub fit : BlocksFit t bs
   pub gives : with_blocks bs t ≡ record t { blocks = t.blocks ++ bs }
 
-label-fits : (t : UnitText) (n : List ℕ) (b : BlockText) (more : List BlockText) → b.label ≡ Some n → HasLabels t.kind → labels_repeat t.blocks (b ∷ more) ≡ false → (LabelFits t (Some n)) × (labels_repeat (t.blocks ++ b ∷ []) more ≡ false)
+label-fits : (t : UnitText) (n : List ℕ) (b : BlockText) (more : List BlockText) → b.label ≡ Some n → HasLabels t.kind → labels_repeat t.blocks (b ∷ more) ≡ false → (LabelFits t (Some n))
+    × (labels_repeat (t.blocks ++ b ∷ []) more ≡ false)
 label-fits t n b more e k h =
     let p = or_parts (label_repeats t.blocks b.label) (labels_repeat (t.blocks ++ b ∷ []) more) h in
     let q : label_repeats t.blocks (Some n) ≡ false = ap (label_repeats t.blocks) (sym e) ∙ p.0 in
@@ -122,7 +123,8 @@ abbrev pub Labelled : BlockText → Type 0
 Labelled b = (n : List ℕ) × (b.label ≡ Some n)
 
 -- One block and then more of them. The names of blocks are apart from their lines, so that the block is `block n ls`.
-ends-next : (t : UnitText) (n : List ℕ) (ls : List LineText) (more : List BlockText) → LabelFits t (Some n) → results_repeat t.args (lines_of t.blocks) ls ≡ false → line_count t.blocks + length ls ≤ 65536
+ends-next : (t : UnitText) (n : List ℕ) (ls : List LineText) (more : List BlockText) → LabelFits t (Some n) → results_repeat t.args (lines_of t.blocks) ls ≡ false
+    → line_count t.blocks + length ls ≤ 65536
     → Ends (record t { blocks = t.blocks ++ block n ls ∷ [] }) more → Ends t (block n ls ∷ more)
 unfolding block
 ends-next t n ls more l r f e =
@@ -132,7 +134,8 @@ ends-next t n ls more l r f e =
       gives = ap (with_blocks more) a ∙ e.gives ∙ (λ i. record t { blocks = append_assoc t.blocks (block n ls ∷ []) more i });
     }
 
-blocks-end : (t : UnitText) (bs : List BlockText) → HasLabels t.kind → Each Labelled bs → labels_repeat t.blocks bs ≡ false → results_repeat t.args (lines_of t.blocks) (lines_of bs) ≡ false → line_count t.blocks + line_count bs ≤ 65536 → Ends t bs
+blocks-end : (t : UnitText) (bs : List BlockText) → HasLabels t.kind → Each Labelled bs → labels_repeat t.blocks bs ≡ false → results_repeat t.args (lines_of t.blocks) (lines_of bs) ≡ false
+    → line_count t.blocks + line_count bs ≤ 65536 → Ends t bs
 unfolding block
 blocks-end t [] k w l r f = record { fit = tt; gives = sym (λ i. record t { blocks = append-nil t.blocks i }) }
 blocks-end t (b ∷ more) k w l r f =
@@ -143,7 +146,8 @@ blocks-end t (b ∷ more) k w l r f =
     let now : List BlockText = t.blocks ++ block n b.lines ∷ [] in
     let a : lines_of now ≡ lines_of t.blocks ++ b.lines = lines_of-last t.blocks (block n b.lines) in
     let c : line_count now ≡ line_count t.blocks + length b.lines = line_count-last t.blocks (block n b.lines) in
-    let rest = blocks-end (record t { blocks = now }) more k w.1 (subst (λ x. labels_repeat (t.blocks ++ x ∷ []) more ≡ false) same p.1) (subst (λ x. results_repeat t.args x (lines_of more) ≡ false) (sym a) q.1) (omega (arith, c, f)) in
+    let rest = blocks-end (record t { blocks = now }) more k w.1 (subst (λ x. labels_repeat (t.blocks ++ x ∷ []) more ≡ false) same p.1)
+    (subst (λ x. results_repeat t.args x (lines_of more) ≡ false) (sym a) q.1) (omega (arith, c, f)) in
     subst (λ x. Ends t (x ∷ more)) (sym same) (ends-next t n b.lines more p.0 q.0 (omega (arith, f)) rest)
 
 -- ---- a whole unit
@@ -160,15 +164,19 @@ TypeOf kind.Func r = IsSome r
 TypeOf kind.Proc r = r ≡ None
 TypeOf kind.Entity r = r ≡ None
 
-func-headed : (n : UnitName) (args : List ArgText) (r : Option TypeTree) → IsSome r → with_type r (with_args args (new_unit n kind.Func)) ≡ record { kind = kind.Func; name = n; args = args; result = r; blocks = [] }
+func-headed : (n : UnitName) (args : List ArgText) (r : Option TypeTree) → IsSome r
+    → with_type r (with_args args (new_unit n kind.Func)) ≡ record { kind = kind.Func; name = n; args = args; result = r; blocks = [] }
 func-headed n args None h = cc
 func-headed n args (Some ty) h = ap (with_type (Some ty)) (with_args-is args (new_unit n kind.Func))
 
-pub headed-by : (k : UnitKind) (n : UnitName) (args : List ArgText) (r : Option TypeTree) → TypeOf k r → with_type r (with_args args (new_unit n k)) ≡ record { kind = k; name = n; args = args; result = r; blocks = (new_unit n k).blocks }
+pub headed-by : (k : UnitKind) (n : UnitName) (args : List ArgText) (r : Option TypeTree) → TypeOf k r
+    → with_type r (with_args args (new_unit n k)) ≡ record { kind = k; name = n; args = args; result = r; blocks = (new_unit n k).blocks }
 headed-by kind.Func n args r h = func-headed n args r h
-headed-by kind.Proc n args r h = ap (λ q. with_type q (with_args args (new_unit n kind.Proc))) h ∙ with_args-is args (new_unit n kind.Proc) ∙ (λ i. record { kind = kind.Proc; name = n; args = args; result = sym h i; blocks = [] })
+headed-by kind.Proc n args r h = ap (λ q. with_type q (with_args args (new_unit n kind.Proc))) h ∙ with_args-is args (new_unit n kind.Proc)
+    ∙ (λ i. record { kind = kind.Proc; name = n; args = args; result = sym h i; blocks = [] })
 headed-by kind.Entity n args r h =
-    ap (λ q. with_type q (with_args args (new_unit n kind.Entity))) h ∙ with_args-is args (new_unit n kind.Entity) ∙ (λ i. record { kind = kind.Entity; name = n; args = args; result = sym h i; blocks = record { label = None; lines = [] } ∷ [] })
+    ap (λ q. with_type q (with_args args (new_unit n kind.Entity))) h ∙ with_args-is args (new_unit n kind.Entity)
+    ∙ (λ i. record { kind = kind.Entity; name = n; args = args; result = sym h i; blocks = record { label = None; lines = [] } ∷ [] })
 
 -- the blocks of a unit that has its header can be added, and give the unit
 pub record Whole (t : UnitText) : Type 0 where

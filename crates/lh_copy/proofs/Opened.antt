@@ -2,14 +2,14 @@
 use Rattle.std.proofs.Common.{◌≡◌, ℕ, Bool, true, false, List, [], ◌∷◌, ◌++◌, Option, Some, Err, refl, ap, sym, ◌∙◌, arith}
 use Rattle.lh_unit.specs.Contents.{ItemText, UnitText, LineText, ArgText, unit_text, declare_text, change_last, last_unit, line_count, defines_unit, defines_value, defines_label}
 use Rattle.lh_unit.specs.Arena.{Arena, IsOpen, HasFewMore, none_more, contents, unit_text_at, unit_name_at}
-use Rattle.lh_unit.specs.Builders.{Says, BeginsUnit, AddsArg, AddsBlock, AddsLine, HasRoom, HasTwice, defines_result}
+use Rattle.lh_unit.specs.Builders.{HasContents, BeginsUnit, AddsArg, AddsBlock, AddsLine, HasRoom, HasTwice, defines_result}
 use Rattle.lh_unit.specs.declared.inst.UnitId.{UnitId}
 use Rattle.lh_unit.specs.declared.inst.UnitKind.{UnitKind}
 use Rattle.lh_unit.specs.declared.inst.UnitFault.{UnitFault}
 use Rattle.lh_unit.specs.declared.inst.UnitFault.TheVariants as fault
 use Rattle.lh_unit.proofs.ContentsLemmas.{open-text, of-open, last_unit-push, change_last-push}
 use Rattle.lh_unit.proofs.ModuleLaws.{KeepsEntries-refl, KeepsEntries-trans, last_unit-change_last}
-use Rattle.lh_copy.specs.Changing.{Becomes, Adds}
+use Rattle.lh_copy.specs.Changing.{Becomes, AddsUnitText}
 
 -- ---- the last item
 
@@ -70,7 +70,7 @@ becomes-refl a u p = record {
   no_more = no_more-refl a;
 }
 
-pub becomes-by : (a b : Arena) (u : UnitId) (f : UnitText → UnitText) → IsOpen a u → Says a b u (change_last f (contents a)) → Becomes a b u (f (unit_text_at a u.0))
+pub becomes-by : (a b : Arena) (u : UnitId) (f : UnitText → UnitText) → IsOpen a u → HasContents a b u (change_last f (contents a)) → Becomes a b u (f (unit_text_at a u.0))
 becomes-by a b u f p s =
     let t = unit_text_at a u.0 in
     let e : last_unit (contents a) ≡ Some t = open-text a u p in
@@ -91,7 +91,7 @@ becomes-trans a b c u s t o p q = record {
   no_more = no_more-trans a b c p.no_more q.no_more;
 }
 
-pub adds-by : (a b : Arena) (u : UnitId) (t : UnitText) → Says a b u (contents a ++ unit_text t ∷ []) → Adds a b u t
+pub adds-by : (a b : Arena) (u : UnitId) (t : UnitText) → HasContents a b u (contents a ++ unit_text t ∷ []) → AddsUnitText a b u t
 adds-by a b u t s = record {
   is_open = s.is_open;
   text = some_same (last_unit (contents b)) (unit_text_at b u.0) t (open-text b u s.is_open) (ap last_unit s.says ∙ last_unit-push (contents a) t);
@@ -100,7 +100,7 @@ adds-by a b u t s = record {
   no_more = s.no_more;
 }
 
-pub adds-then : (a b c : Arena) (u : UnitId) (s t : UnitText) → Adds a b u s → Becomes b c u t → Adds a c u t
+pub adds-then : (a b c : Arena) (u : UnitId) (s t : UnitText) → AddsUnitText a b u s → Becomes b c u t → AddsUnitText a c u t
 adds-then a b c u s t p q = record {
   is_open = q.is_open;
   text = q.text;

@@ -42,7 +42,8 @@ module _ {X : Type 0} (Fits : UnitText → List X → Type 0) (add : List X → 
   left-start a u xs p f = record { so_far = becomes-refl a u p; fit = f; gives = refl }
 
   -- the unit becomes t, to which the others are added
-  pub left-next : (old now new : Arena) (u : UnitId) (rest more : List X) (all t : UnitText) → IsOpen old u → Left Fits add old now u rest all → Becomes now new u t → (Fits (unit_text_at now u.0) rest → Fits t more) → add rest (unit_text_at now u.0) ≡ add more t
+  pub left-next : (old now new : Arena) (u : UnitId) (rest more : List X) (all t : UnitText) → IsOpen old u → Left Fits add old now u rest all → Becomes now new u t
+      → (Fits (unit_text_at now u.0) rest → Fits t more) → add rest (unit_text_at now u.0) ≡ add more t
       → Left Fits add old new u more all
   left-next old now new u rest more all t o l b f e = record {
     so_far = subst (Becomes old new u) (sym b.text) (becomes-trans old now new u (unit_text_at now u.0) t o l.so_far b);
@@ -107,15 +108,22 @@ arg-within n (y ∷ xs) (suc i) x w h e = arg-within n xs i x w.1 (omega arith) 
 abbrev pub ArgsLeft : (a old now : Arena) → UnitId → List Arg → Type 0
 ArgsLeft a old now u xs = SameNames a now u.0 × Left ArgsFit with_args old now u (map (arg_text (naming a u.0)) xs) (with_args (unit_text_at a u.0).args (unit_text_at old u.0))
 
-pub args-start : (a old : Arena) (u : UnitId) (xs : List Arg) → xs ≡ args_at a u.0 → SameNames a old u.0 → IsOpen old u → ArgsFit (unit_text_at old u.0) (unit_text_at a u.0).args → ArgsLeft a old old u xs
-args-start a old u xs e s o f =
-    (s, subst (λ ys. Left ArgsFit with_args old old u (map (arg_text (naming a u.0)) ys) (with_args (unit_text_at a u.0).args (unit_text_at old u.0))) (sym e) (left-start ArgsFit with_args old u (unit_text_at a u.0).args o f))
+pub args-start : (a old : Arena) (u : UnitId) (xs : List Arg) → xs ≡ args_at a u.0 → SameNames a old u.0 → IsOpen old u → ArgsFit (unit_text_at old u.0) (unit_text_at a u.0).args
+    → ArgsLeft a old old u xs
+args-start a old u xs e s o f = (
+  s,
+  subst (λ ys. Left ArgsFit with_args old old u (map (arg_text (naming a u.0)) ys) (with_args (unit_text_at a u.0).args (unit_text_at old u.0))) (sym e)
+      (left-start ArgsFit with_args old u (unit_text_at a u.0).args o f),
+)
 
-pub arg-placed : (a old now : Arena) (u : UnitId) (xs rest : List Arg) (i : ℕ) (x : Arg) → IsArena a → u.0 < unit_count a → xs ≡ args_at a u.0 → ArgsLeft a old now u rest → i < length xs → x ≡ get_or xs i x → x.value.0 < value_count now u.0
+pub arg-placed : (a old now : Arena) (u : UnitId) (xs rest : List Arg) (i : ℕ) (x : Arg) → IsArena a → u.0 < unit_count a → xs ≡ args_at a u.0 → ArgsLeft a old now u rest → i < length xs
+    → x ≡ get_or xs i x → x.value.0 < value_count now u.0
 arg-placed a old now u xs rest i x o h e l w q =
-    let p : x.value.0 < value_count a u.0 = arg-within (value_count a u.0) xs i x (subst (ArgsWithin (value_count a u.0)) (sym e) (o.tables u.0 h).args_within) w q in omega (arith, p, l.0.values.count)
+    let p : x.value.0 < value_count a u.0 = arg-within (value_count a u.0) xs i x (subst (ArgsWithin (value_count a u.0)) (sym e) (o.tables u.0 h).args_within) w q in
+    omega (arith, p, l.0.values.count)
 
-module _ (a old now : Arena) (u : UnitId) (xs : List Arg) (i : ℕ) (x : Arg) (o : IsArena a) (h : u.0 < unit_count a) (e : xs ≡ args_at a u.0) (l : ArgsLeft a old now u (drop i xs)) (w : i < length xs) (q : x ≡ get_or xs i x) where
+module _ (a old now : Arena) (u : UnitId) (xs : List Arg) (i : ℕ) (x : Arg) (o : IsArena a) (h : u.0 < unit_count a) (e : xs ≡ args_at a u.0) (l : ArgsLeft a old now u (drop i xs)) (w : i < length xs)
+    (q : x ≡ get_or xs i x) where
   args_now : Left ArgsFit with_args old now u (arg_text (naming a u.0) x ∷ map (arg_text (naming a u.0)) (drop (i + 1) xs)) (with_args (unit_text_at a u.0).args (unit_text_at old u.0))
   args_now = subst (λ ys. Left ArgsFit with_args old now u (map (arg_text (naming a u.0)) ys) (with_args (unit_text_at a u.0).args (unit_text_at old u.0))) (drop-item xs i x w q) l.1
 
@@ -125,17 +133,20 @@ module _ (a old now : Arena) (u : UnitId) (xs : List Arg) (i : ℕ) (x : Arg) (o
   pub arg-new : defines_value (value_name_at now u.0 x.value.0) (unit_text_at now u.0) ≡ false
   arg-new = ap (λ n. defines_value n (unit_text_at now u.0)) (l.0.values.names x.value.0 there) ∙ args_now.fit.0
 
-  pub args-next : (new : Arena) (ty : TypeTree) → IsOpen old u → ty ≡ x.ty → Becomes now new u (with_arg (arg_text (naming now u.0) (record { value = x.value; ty = ty; output = x.output })) (unit_text_at now u.0)) → ArgsLeft a old new u (drop (i + 1) xs)
+  pub args-next : (new : Arena) (ty : TypeTree) → IsOpen old u → ty ≡ x.ty
+      → Becomes now new u (with_arg (arg_text (naming now u.0) (record { value = x.value; ty = ty; output = x.output })) (unit_text_at now u.0)) → ArgsLeft a old new u (drop (i + 1) xs)
   args-next new ty p r b =
       let y : ArgText = arg_text (naming a u.0) x in
       let t = with_arg y (unit_text_at now u.0) in
       let c : Becomes now new u t = subst (λ z. Becomes now new u (with_arg z (unit_text_at now u.0))) (arg-is a now u.0 l.0 x ty there r) b in (
         same-becomes a now new u t l.0 c,
-        left-next ArgsFit with_args old now new u (y ∷ map (arg_text (naming a u.0)) (drop (i + 1) xs)) (map (arg_text (naming a u.0)) (drop (i + 1) xs)) (with_args (unit_text_at a u.0).args (unit_text_at old u.0)) t p args_now c (λ g. g.1) refl,
+        left-next ArgsFit with_args old now new u (y ∷ map (arg_text (naming a u.0)) (drop (i + 1) xs)) (map (arg_text (naming a u.0)) (drop (i + 1) xs))
+            (with_args (unit_text_at a u.0).args (unit_text_at old u.0)) t p args_now c (λ g. g.1) refl,
       )
 
 pub args-done : (a old now : Arena) (u : UnitId) (rest : List Arg) → rest ≡ [] → ArgsLeft a old now u rest → Becomes old now u (with_args (unit_text_at a u.0).args (unit_text_at old u.0))
-args-done a old now u rest e l = left-done ArgsFit with_args old now u (map (arg_text (naming a u.0)) rest) (with_args (unit_text_at a u.0).args (unit_text_at old u.0)) (λ t. refl) (ap (map (arg_text (naming a u.0))) e) l.1
+args-done a old now u rest e l = left-done ArgsFit with_args old now u (map (arg_text (naming a u.0)) rest) (with_args (unit_text_at a u.0).args (unit_text_at old u.0)) (λ t. refl)
+    (ap (map (arg_text (naming a u.0))) e) l.1
 
 -- ---- instructions
 
@@ -147,12 +158,17 @@ line_of a u i = line_text (naming a u) (line_at (table_at a u) i.0)
 abbrev pub LinesLeft : (a old now : Arena) → UnitId → BlockId → List InstId → Type 0
 LinesLeft a old now u b is = SameNames a now u.0 × Left LinesFit with_lines old now u (map (line_of a u.0) is) (with_lines (block_at a u.0 b).lines (unit_text_at old u.0))
 
-pub lines-start : (a old : Arena) (u : UnitId) (b : BlockId) (is : List InstId) → is ≡ block_insts_at a u.0 b.0 → SameNames a old u.0 → IsOpen old u → LinesFit (unit_text_at old u.0) (block_at a u.0 b).lines → LinesLeft a old old u b is
-lines-start a old u b is e s o f =
-    (s, subst (λ ys. Left LinesFit with_lines old old u (map (line_of a u.0) ys) (with_lines (block_at a u.0 b).lines (unit_text_at old u.0))) (sym e) (left-start LinesFit with_lines old u (block_at a u.0 b).lines o f))
+pub lines-start : (a old : Arena) (u : UnitId) (b : BlockId) (is : List InstId) → is ≡ block_insts_at a u.0 b.0 → SameNames a old u.0 → IsOpen old u
+    → LinesFit (unit_text_at old u.0) (block_at a u.0 b).lines → LinesLeft a old old u b is
+lines-start a old u b is e s o f = (
+  s,
+  subst (λ ys. Left LinesFit with_lines old old u (map (line_of a u.0) ys) (with_lines (block_at a u.0 b).lines (unit_text_at old u.0))) (sym e)
+      (left-start LinesFit with_lines old u (block_at a u.0 b).lines o f),
+)
 
 -- an instruction of the block has an entry
-pub inst-there : (a : Arena) (u : ℕ) (b : BlockId) (is : List InstId) (i : ℕ) (d : InstId) → IsArena a → u < unit_count a → StandsIn a u b → is ≡ block_insts_at a u b.0 → i < length is → (get_or is i d).0 < inst_count a u
+pub inst-there : (a : Arena) (u : ℕ) (b : BlockId) (is : List InstId) (i : ℕ) (d : InstId) → IsArena a → u < unit_count a → StandsIn a u b → is ≡ block_insts_at a u b.0 → i < length is
+    → (get_or is i d).0 < inst_count a u
 inst-there a u b is i d o h s e w = Each-at (λ (x : InstId). x.0 < inst_count a u) is i d (subst (Each (λ (x : InstId). x.0 < inst_count a u)) (sym e) (block_insts-within a u s.place b o h s.is)) w
 
 -- what is asked of an instruction that is added
@@ -163,7 +179,8 @@ pub record LineNew (now : Arena) (u : ℕ) (v : Option ValueId) (i : Inst) (l : 
   pub line : line_text_at now u v i ≡ l
   pub room : HasRoom (line_text_at now u v i) (unit_text_at now u)
 
-module _ (a old now : Arena) (u : UnitId) (b : BlockId) (is : List InstId) (i : ℕ) (d : InstId) (o : IsArena a) (h : u.0 < unit_count a) (s : StandsIn a u.0 b) (e : is ≡ block_insts_at a u.0 b.0) (l : LinesLeft a old now u b (drop i is)) (w : i < length is) where
+module _ (a old now : Arena) (u : UnitId) (b : BlockId) (is : List InstId) (i : ℕ) (d : InstId) (o : IsArena a) (h : u.0 < unit_count a) (s : StandsIn a u.0 b) (e : is ≡ block_insts_at a u.0 b.0)
+    (l : LinesLeft a old now u b (drop i is)) (w : i < length is) where
   lines_now : Left LinesFit with_lines old now u (line_of a u.0 (get_or is i d) ∷ map (line_of a u.0) (drop (i + 1) is)) (with_lines (block_at a u.0 b).lines (unit_text_at old u.0))
   lines_now = subst (λ ys. Left LinesFit with_lines old now u (map (line_of a u.0) ys) (with_lines (block_at a u.0 b).lines (unit_text_at old u.0))) (drop_more is i d w) l.1
 
@@ -183,22 +200,27 @@ module _ (a old now : Arena) (u : UnitId) (b : BlockId) (is : List InstId) (i : 
         room = subst (λ z. HasRoom z (unit_text_at now u.0)) (sym line) lines_now.fit.1;
       }
 
-  pub lines-next : (new : Arena) (v : Option ValueId) (j : Inst) → IsOpen old u → v ≡ result_at a u.0 (get_or is i d).0 → j ≡ inst_at a u.0 (get_or is i d).0 → Becomes now new u (with_line (line_text_at now u.0 v j) (unit_text_at now u.0)) → LinesLeft a old new u b (drop (i + 1) is)
+  pub lines-next : (new : Arena) (v : Option ValueId) (j : Inst) → IsOpen old u → v ≡ result_at a u.0 (get_or is i d).0 → j ≡ inst_at a u.0 (get_or is i d).0
+      → Becomes now new u (with_line (line_text_at now u.0 v j) (unit_text_at now u.0)) → LinesLeft a old new u b (drop (i + 1) is)
   lines-next new v j p q r c =
       let y = line_of a u.0 (get_or is i d) in
       let t = with_line y (unit_text_at now u.0) in
       let m : Becomes now new u t = subst (λ z. Becomes now new u (with_line z (unit_text_at now u.0))) (line-new v j q r).line c in (
         same-becomes a now new u t l.0 m,
-        left-next LinesFit with_lines old now new u (y ∷ map (line_of a u.0) (drop (i + 1) is)) (map (line_of a u.0) (drop (i + 1) is)) (with_lines (block_at a u.0 b).lines (unit_text_at old u.0)) t p lines_now m (λ g. g.2) refl,
+        left-next LinesFit with_lines old now new u (y ∷ map (line_of a u.0) (drop (i + 1) is)) (map (line_of a u.0) (drop (i + 1) is)) (with_lines (block_at a u.0 b).lines (unit_text_at old u.0)) t p
+            lines_now m (λ g. g.2) refl,
       )
 
-pub lines-done : (a old now : Arena) (u : UnitId) (b : BlockId) (rest : List InstId) → rest ≡ [] → LinesLeft a old now u b rest → Becomes old now u (with_lines (block_at a u.0 b).lines (unit_text_at old u.0))
-lines-done a old now u b rest e l = left-done LinesFit with_lines old now u (map (line_of a u.0) rest) (with_lines (block_at a u.0 b).lines (unit_text_at old u.0)) (λ t. refl) (ap (map (line_of a u.0)) e) l.1
+pub lines-done : (a old now : Arena) (u : UnitId) (b : BlockId) (rest : List InstId) → rest ≡ [] → LinesLeft a old now u b rest
+    → Becomes old now u (with_lines (block_at a u.0 b).lines (unit_text_at old u.0))
+lines-done a old now u b rest e l = left-done LinesFit with_lines old now u (map (line_of a u.0) rest) (with_lines (block_at a u.0 b).lines (unit_text_at old u.0)) (λ t. refl)
+    (ap (map (line_of a u.0)) e) l.1
 
 -- ---- blocks
 
 -- an entity's block has no label
-pub unlabelled : (a m : Arena) (u : UnitId) (b : BlockId) (k : UnitKind) → kind_at a u.0 ≡ Some k → k ≡ kind.Entity → IsOpen m u → Becomes m m u (with_labelled (block_at a u.0 b).label (unit_text_at m u.0))
+pub unlabelled : (a m : Arena) (u : UnitId) (b : BlockId) (k : UnitKind) → kind_at a u.0 ≡ Some k → k ≡ kind.Entity → IsOpen m u
+    → Becomes m m u (with_labelled (block_at a u.0 b).label (unit_text_at m u.0))
 unlabelled a m u b k e f o =
     let l : (block_at a u.0 b).label ≡ None = ap (λ q. label_text (naming a u.0) q b) (e ∙ ap Some f) in
     subst (λ q. Becomes m m u (with_labelled q (unit_text_at m u.0))) (sym l) (becomes-refl m u o)
@@ -217,7 +239,8 @@ pub record LabelNew (a m : Arena) (u : ℕ) (b : BlockId) : Type 0 where
   pub undefined : defines_label (label_name_at m u b.0) (unit_text_at m u) ≡ false
   pub gives : with_block (label_name_at m u b.0) (unit_text_at m u) ≡ with_labelled (block_at a u b).label (unit_text_at m u)
 
-pub label-new : (a m : Arena) (u : ℕ) (b : BlockId) → IsArena a → u < unit_count a → HasBlocks (kind_at a u) → SameNames a m u → StandsIn a u b → LabelFits (unit_text_at m u) (block_at a u b).label → LabelNew a m u b
+pub label-new : (a m : Arena) (u : ℕ) (b : BlockId) → IsArena a → u < unit_count a → HasBlocks (kind_at a u) → SameNames a m u → StandsIn a u b → LabelFits (unit_text_at m u) (block_at a u b).label
+    → LabelNew a m u b
 label-new a m u b o h k s w f =
     let n = label_name_at a u b.0 in
     let g : LabelFits (unit_text_at m u) (Some n) = subst (LabelFits (unit_text_at m u)) (labelled a u b k) f in
@@ -235,11 +258,16 @@ label-new a m u b o h k s w f =
 abbrev pub BlocksLeft : (a old now : Arena) → UnitId → List BlockId → Type 0
 BlocksLeft a old now u bs = SameNames a now u.0 × Left BlocksFit with_blocks old now u (map (block_at a u.0) bs) (with_blocks (unit_text_at a u.0).blocks (unit_text_at old u.0))
 
-pub blocks-start : (a old : Arena) (u : UnitId) (bs : List BlockId) → bs ≡ blocks_at a u.0 → SameNames a old u.0 → IsOpen old u → BlocksFit (unit_text_at old u.0) (unit_text_at a u.0).blocks → BlocksLeft a old old u bs
-blocks-start a old u bs e s o f =
-    (s, subst (λ ys. Left BlocksFit with_blocks old old u (map (block_at a u.0) ys) (with_blocks (unit_text_at a u.0).blocks (unit_text_at old u.0))) (sym e) (left-start BlocksFit with_blocks old u (unit_text_at a u.0).blocks o f))
+pub blocks-start : (a old : Arena) (u : UnitId) (bs : List BlockId) → bs ≡ blocks_at a u.0 → SameNames a old u.0 → IsOpen old u → BlocksFit (unit_text_at old u.0) (unit_text_at a u.0).blocks
+    → BlocksLeft a old old u bs
+blocks-start a old u bs e s o f = (
+  s,
+  subst (λ ys. Left BlocksFit with_blocks old old u (map (block_at a u.0) ys) (with_blocks (unit_text_at a u.0).blocks (unit_text_at old u.0))) (sym e)
+      (left-start BlocksFit with_blocks old u (unit_text_at a u.0).blocks o f),
+)
 
-module _ (a old now : Arena) (u : UnitId) (bs : List BlockId) (i : ℕ) (d : BlockId) (o : IsArena a) (h : u.0 < unit_count a) (e : bs ≡ blocks_at a u.0) (l : BlocksLeft a old now u (drop i bs)) (w : i < length bs) where
+module _ (a old now : Arena) (u : UnitId) (bs : List BlockId) (i : ℕ) (d : BlockId) (o : IsArena a) (h : u.0 < unit_count a) (e : bs ≡ blocks_at a u.0) (l : BlocksLeft a old now u (drop i bs))
+    (w : i < length bs) where
   pub block-stands : StandsIn a u.0 (get_or bs i d)
   block-stands =
       let g : slice_get (blocks_at a u.0) i ≡ Some (get_or bs i d) = ap (λ z. slice_get z i) (sym e) ∙ slice_get-get_or bs i d w in
@@ -248,20 +276,24 @@ module _ (a old now : Arena) (u : UnitId) (bs : List BlockId) (i : ℕ) (d : Blo
   pub block-next : Left BlocksFit with_blocks old now u (block_at a u.0 (get_or bs i d) ∷ map (block_at a u.0) (drop (i + 1) bs)) (with_blocks (unit_text_at a u.0).blocks (unit_text_at old u.0))
   block-next = subst (λ ys. Left BlocksFit with_blocks old now u (map (block_at a u.0) ys) (with_blocks (unit_text_at a u.0).blocks (unit_text_at old u.0))) (drop_more bs i d w) l.1
 
-  pub blocks-next : (new : Arena) → IsOpen old u → Becomes now new u (with_lines (block_at a u.0 (get_or bs i d)).lines (with_labelled (block_at a u.0 (get_or bs i d)).label (unit_text_at now u.0))) → BlocksLeft a old new u (drop (i + 1) bs)
+  pub blocks-next : (new : Arena) → IsOpen old u → Becomes now new u (with_lines (block_at a u.0 (get_or bs i d)).lines (with_labelled (block_at a u.0 (get_or bs i d)).label (unit_text_at now u.0)))
+      → BlocksLeft a old new u (drop (i + 1) bs)
   blocks-next new p c =
       let y = block_at a u.0 (get_or bs i d) in
       let t = with_lines y.lines (with_labelled y.label (unit_text_at now u.0)) in (
         same-becomes a now new u t l.0 c,
-        left-next BlocksFit with_blocks old now new u (y ∷ map (block_at a u.0) (drop (i + 1) bs)) (map (block_at a u.0) (drop (i + 1) bs)) (with_blocks (unit_text_at a u.0).blocks (unit_text_at old u.0)) t p block-next c (λ g. g.2) refl,
+        left-next BlocksFit with_blocks old now new u (y ∷ map (block_at a u.0) (drop (i + 1) bs)) (map (block_at a u.0) (drop (i + 1) bs))
+            (with_blocks (unit_text_at a u.0).blocks (unit_text_at old u.0)) t p block-next c (λ g. g.2) refl,
       )
 
 pub blocks-done : (a old now : Arena) (u : UnitId) (rest : List BlockId) → rest ≡ [] → BlocksLeft a old now u rest → Becomes old now u (with_blocks (unit_text_at a u.0).blocks (unit_text_at old u.0))
-blocks-done a old now u rest e l = left-done BlocksFit with_blocks old now u (map (block_at a u.0) rest) (with_blocks (unit_text_at a u.0).blocks (unit_text_at old u.0)) (λ t. refl) (ap (map (block_at a u.0)) e) l.1
+blocks-done a old now u rest e l = left-done BlocksFit with_blocks old now u (map (block_at a u.0) rest) (with_blocks (unit_text_at a u.0).blocks (unit_text_at old u.0)) (λ t. refl)
+    (ap (map (block_at a u.0)) e) l.1
 
 -- ---- one change after another
 
-pub then-becomes : (r : Result (Unit {0}) NoMemory) (a b c : Arena) (u : UnitId) (s : UnitText) (f : UnitText → UnitText) → IsOpen a u → Becomes a b u s → IfOk r (λ x. Becomes b c u (f (unit_text_at b u.0))) → IfOk r (λ x. Becomes a c u (f s))
+pub then-becomes : (r : Result (Unit {0}) NoMemory) (a b c : Arena) (u : UnitId) (s : UnitText) (f : UnitText → UnitText) → IsOpen a u → Becomes a b u s
+    → IfOk r (λ x. Becomes b c u (f (unit_text_at b u.0))) → IfOk r (λ x. Becomes a c u (f s))
 then-becomes (Ok x) a b c u s f o p q = subst (λ t. Becomes a c u (f t)) p.text (becomes-trans a b c u s (f (unit_text_at b u.0)) o p q)
 then-becomes (Err e) a b c u s f o p q = tt
 

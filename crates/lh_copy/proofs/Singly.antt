@@ -64,7 +64,9 @@ arg-found : (xs : List Arg) (k : ℕ) → is_arg xs k ≡ true → (j : ℕ) × 
 arg-found [] k e = absurd cc
 arg-found (a ∷ xs) k e = by (nat_eq a.value.0 k) refl e (λ q. arg-found xs k q)
   where
-    by : (b : Bool) → nat_eq a.value.0 k ≡ b → (b || is_arg xs k) ≡ true → (is_arg xs k ≡ true → (j : ℕ) × (j < length xs) × (option_map (λ (a : Arg). a.value) (slice_get xs j) ≡ Some (record { 0 = k }))) → (j : ℕ) × (j < length (a ∷ xs)) × (option_map (λ (a : Arg). a.value) (slice_get (a ∷ xs) j) ≡ Some (record { 0 = k }))
+    by : (b : Bool) → nat_eq a.value.0 k ≡ b → (b || is_arg xs k) ≡ true
+        → (is_arg xs k ≡ true → (j : ℕ) × (j < length xs) × (option_map (λ (a : Arg). a.value) (slice_get xs j) ≡ Some (record { 0 = k }))) → (j : ℕ) × (j < length (a ∷ xs))
+        × (option_map (λ (a : Arg). a.value) (slice_get (a ∷ xs) j) ≡ Some (record { 0 = k }))
     by true p q more = let r : a.value.0 ≡ k = nat_eq-is a.value.0 k p in (0, omega arith, λ i. Some (record { 0 = r i }))
     by false p q more = let f = more q in (suc f.0, omega (arith, f.1), f.2)
 
@@ -76,7 +78,8 @@ made-found : (ls : List Line) (k : ℕ) → is_made ls k ≡ true → (j : ℕ) 
 made-found [] k e = absurd cc
 made-found (l ∷ ls) k e = by (is_result l.result k) refl e (λ q. made-found ls k q)
   where
-    by : (b : Bool) → is_result l.result k ≡ b → (b || is_made ls k) ≡ true → (is_made ls k ≡ true → (j : ℕ) × (j < length ls) × ((get_or ls j no_line).result ≡ Some (record { 0 = k }))) → (j : ℕ) × (j < length (l ∷ ls)) × ((get_or (l ∷ ls) j no_line).result ≡ Some (record { 0 = k }))
+    by : (b : Bool) → is_result l.result k ≡ b → (b || is_made ls k) ≡ true → (is_made ls k ≡ true → (j : ℕ) × (j < length ls) × ((get_or ls j no_line).result ≡ Some (record { 0 = k }))) → (j : ℕ)
+        × (j < length (l ∷ ls)) × ((get_or (l ∷ ls) j no_line).result ≡ Some (record { 0 = k }))
     by true p q more = (0, omega arith, result-found l.result k p)
     by false p q more = let f = more q in (suc f.0, omega (arith, f.1), f.2)
 
@@ -84,7 +87,8 @@ block-found : (bs : List BlockId) (k : ℕ) → is_block bs k ≡ true → (j : 
 block-found [] k e = absurd cc
 block-found (b ∷ bs) k e = by (nat_eq b.0 k) refl e (λ q. block-found bs k q)
   where
-    by : (c : Bool) → nat_eq b.0 k ≡ c → (c || is_block bs k) ≡ true → (is_block bs k ≡ true → (j : ℕ) × (j < length bs) × (slice_get bs j ≡ Some (record { 0 = k }))) → (j : ℕ) × (j < length (b ∷ bs)) × (slice_get (b ∷ bs) j ≡ Some (record { 0 = k }))
+    by : (c : Bool) → nat_eq b.0 k ≡ c → (c || is_block bs k) ≡ true → (is_block bs k ≡ true → (j : ℕ) × (j < length bs) × (slice_get bs j ≡ Some (record { 0 = k }))) → (j : ℕ) × (j < length (b ∷ bs))
+        × (slice_get (b ∷ bs) j ≡ Some (record { 0 = k }))
     by true p q more = let r : b.0 ≡ k = nat_eq-is b.0 k p in (0, omega arith, λ i. Some (record { 0 = r i }))
     by false p q more = let f = more q in (suc f.0, omega (arith, f.1), f.2)
 
@@ -104,12 +108,18 @@ apart i j e = cc
 
 module _ (t : Table) (o : IsTable t) where
   arg-here : (seen more : List Arg) (x : Arg) → t.args ≡ seen ++ x ∷ more → IsDefinition t x.value.0 (value_def.Arg (length seen))
-  arg-here seen more x e =
-      (subst (λ (xs : List Arg). length seen < length xs) (sym e) (within-next seen x more), ap (λ xs. option_map (λ (a : Arg). a.value) (slice_get xs (length seen))) e ∙ ap (option_map (λ (a : Arg). a.value)) (at-next seen x more))
+  arg-here seen more x e = (
+    subst (λ (xs : List Arg). length seen < length xs) (sym e) (within-next seen x more),
+    ap (λ xs. option_map (λ (a : Arg). a.value) (slice_get xs (length seen))) e
+        ∙ ap (option_map (λ (a : Arg). a.value)) (at-next seen x more),
+  )
 
   line-here : (seen more : List Line) (x : Line) (v : ValueId) → t.lines ≡ seen ++ x ∷ more → x.result ≡ Some v → IsDefinition t v.0 (value_def.Inst (record { 0 = length seen }))
-  line-here seen more x v e r =
-      (subst (λ (xs : List Line). length seen < length xs) (sym e) (within-next seen x more), ap (λ (xs : List Line). (get_or xs (length seen) no_line).result) e ∙ ap (λ (y : Line). y.result) (get-next seen x more no_line) ∙ r)
+  line-here seen more x v e r = (
+    subst (λ (xs : List Line). length seen < length xs) (sym e) (within-next seen x more),
+    ap (λ (xs : List Line). (get_or xs (length seen) no_line).result) e
+        ∙ ap (λ (y : Line). y.result) (get-next seen x more no_line) ∙ r,
+  )
 
   arg-once : (seen more : List Arg) (x : Arg) → t.args ≡ seen ++ x ∷ more → is_arg seen x.value.0 ≡ false
   arg-once seen more x e = not_true (is_arg seen x.value.0) (λ p.
@@ -134,7 +144,8 @@ module _ (t : Table) (o : IsTable t) where
         subst (λ (xs : List Line). f.0 < length xs) (sym e) (within-left seen (x ∷ more) f.0 f.1),
         ap (λ (xs : List Line). (get_or xs f.0 no_line).result) e ∙ ap (λ (y : Line). y.result) (get_or_append_left seen (x ∷ more) no_line f.0 f.1) ∙ f.2,
       ) in
-      let q : f.0 ≡ length seen = same-inst f.0 (length seen) (o.defined_once v.0 (value_def.Inst (record { 0 = f.0 })) (value_def.Inst (record { 0 = length seen })) d (line-here seen more x v e r)) in
+      let q : f.0 ≡ length seen = same-inst f.0 (length seen) (o.defined_once v.0 (value_def.Inst (record { 0 = f.0 })) (value_def.Inst (record { 0 = length seen })) d
+      (line-here seen more x v e r)) in
       omega (arith, q, f.1))
 
   block-once : (seen more : List BlockId) (x : BlockId) → t.blocks ≡ seen ++ x ∷ more → is_block seen x.0 ≡ false
@@ -155,12 +166,14 @@ module _ (a : Arena) (u : ℕ) (o : IsArena a) (h : u < unit_count a) where
   args-once seen [] e = refl
   args-once seen (x ∷ more) e =
       let w = args-parts (value_count a u) seen (x ∷ more) (subst (ArgsWithin (value_count a u)) e (o.tables u h).args_within) in
-      let p : args_define (value_name_at a u x.value.0) (map (arg_text (naming a u)) seen) ≡ false = arg-ids (unit_name_at a) (table_at a u) (o.tables u h) x.value.0 seen w.1.0 w.0 ∙ arg-once (table_at a u) (o.tables u h) seen more x e in
+      let p : args_define (value_name_at a u x.value.0) (map (arg_text (naming a u)) seen) ≡ false = arg-ids (unit_name_at a) (table_at a u) (o.tables u h) x.value.0 seen w.1.0 w.0
+      ∙ arg-once (table_at a u) (o.tables u h) seen more x e in
       let q : args_repeat (map (arg_text (naming a u)) (seen ++ x ∷ [])) (map (arg_text (naming a u)) more) ≡ false = args-once (seen ++ x ∷ []) more (e ∙ sym (append_assoc seen (x ∷ []) more)) in
       let m : map (arg_text (naming a u)) (seen ++ x ∷ []) ≡ map (arg_text (naming a u)) seen ++ arg_text (naming a u) x ∷ [] = map-append (arg_text (naming a u)) seen (x ∷ []) in
       none-of (args_define (value_name_at a u x.value.0) (map (arg_text (naming a u)) seen)) _ p (ap (λ s. args_repeat s (map (arg_text (naming a u)) more)) (sym m) ∙ q)
 
-  line-once : (seen more : List Line) (x : Line) (r : Option ValueId) → (table_at a u).lines ≡ seen ++ x ∷ more → x.result ≡ r → result_repeats (unit_text_at a u).args (map (line_text (naming a u)) seen) (maybe_text (naming a u) r) ≡ false
+  line-once : (seen more : List Line) (x : Line) (r : Option ValueId) → (table_at a u).lines ≡ seen ++ x ∷ more → x.result ≡ r
+      → result_repeats (unit_text_at a u).args (map (line_text (naming a u)) seen) (maybe_text (naming a u) r) ≡ false
   line-once seen more x None e q = refl
   line-once seen more x (Some v) e q =
       let w = results-parts (value_count a u) seen (x ∷ more) (subst (ResultsWithin (value_count a u)) e (o.tables u h).results_within) in
@@ -172,27 +185,34 @@ module _ (a : Arena) (u : ℕ) (o : IsArena a) (h : u < unit_count a) where
   lines-once : (seen rest : List Line) → (table_at a u).lines ≡ seen ++ rest → results_repeat (unit_text_at a u).args (map (line_text (naming a u)) seen) (map (line_text (naming a u)) rest) ≡ false
   lines-once seen [] e = refl
   lines-once seen (x ∷ more) e =
-      let q : results_repeat (unit_text_at a u).args (map (line_text (naming a u)) (seen ++ x ∷ [])) (map (line_text (naming a u)) more) ≡ false = lines-once (seen ++ x ∷ []) more (e ∙ sym (append_assoc seen (x ∷ []) more)) in
+      let q : results_repeat (unit_text_at a u).args (map (line_text (naming a u)) (seen ++ x ∷ [])) (map (line_text (naming a u)) more)
+      ≡ false = lines-once (seen ++ x ∷ []) more (e ∙ sym (append_assoc seen (x ∷ []) more)) in
       let m : map (line_text (naming a u)) (seen ++ x ∷ []) ≡ map (line_text (naming a u)) seen ++ line_text (naming a u) x ∷ [] = map-append (line_text (naming a u)) seen (x ∷ []) in
       none-of (result_repeats (unit_text_at a u).args (map (line_text (naming a u)) seen) (maybe_text (naming a u) x.result)) _ (line-once seen more x x.result e refl)
       (ap (λ s. results_repeat (unit_text_at a u).args s (map (line_text (naming a u)) more)) (sym m) ∙ q)
 
-  label-ids : (k : HasBlocks (kind_at a u)) (b : ℕ) (xs : List BlockId) → b < label_count a u → BlocksWithin (label_count a u) xs → defines_label_in (label_name_at a u b) (map (block_text (naming a u) (table_at a u)) xs) ≡ is_block xs b
+  label-ids : (k : HasBlocks (kind_at a u)) (b : ℕ) (xs : List BlockId) → b < label_count a u → BlocksWithin (label_count a u) xs
+      → defines_label_in (label_name_at a u b) (map (block_text (naming a u) (table_at a u)) xs) ≡ is_block xs b
   label-ids k b [] w v = refl
   label-ids k b (x ∷ xs) w v =
-      let p : is_result_name (label_name_at a u b) (label_text (naming a u) (kind_at a u) x) ≡ nat_eq x.0 b = ap (is_result_name (label_name_at a u b)) (label_text-named (naming a u) (kind_at a u) x k) ∙ same_label-by_id a u o h x.0 b v.0 w in
+      let p : is_result_name (label_name_at a u b) (label_text (naming a u) (kind_at a u) x) ≡ nat_eq x.0 b =
+      ap (is_result_name (label_name_at a u b)) (label_text-named (naming a u) (kind_at a u) x k) ∙ same_label-by_id a u o h x.0 b v.0 w in
       let r : defines_label_in (label_name_at a u b) (map (block_text (naming a u) (table_at a u)) xs) ≡ is_block xs b = label-ids k b xs w v.1 in λ i. p i || r i
 
-  labels-once : (k : HasBlocks (kind_at a u)) (seen rest : List BlockId) → blocks_at a u ≡ seen ++ rest → labels_repeat (map (block_text (naming a u) (table_at a u)) seen) (map (block_text (naming a u) (table_at a u)) rest) ≡ false
+  labels-once : (k : HasBlocks (kind_at a u)) (seen rest : List BlockId) → blocks_at a u ≡ seen ++ rest
+      → labels_repeat (map (block_text (naming a u) (table_at a u)) seen) (map (block_text (naming a u) (table_at a u)) rest) ≡ false
   labels-once k seen [] e = refl
   labels-once k seen (x ∷ more) e =
       let w = blocks-parts (label_count a u) seen (x ∷ more) (subst (BlocksWithin (label_count a u)) e (blocks-within (kind_at a u) (table_at a u) k (o.tables u h).fits_kind)) in
       let l : label_text (naming a u) (kind_at a u) x ≡ Some (label_name_at a u x.0) = label_text-named (naming a u) (kind_at a u) x k in
       let p : label_repeats (map (block_text (naming a u) (table_at a u)) seen) (label_text (naming a u) (kind_at a u) x) ≡ false =
       ap (label_repeats (map (block_text (naming a u) (table_at a u)) seen)) l ∙ label-ids k x.0 seen w.1.0 w.0 ∙ block-once (table_at a u) (o.tables u h) seen more x e in
-      let q : labels_repeat (map (block_text (naming a u) (table_at a u)) (seen ++ x ∷ [])) (map (block_text (naming a u) (table_at a u)) more) ≡ false = labels-once k (seen ++ x ∷ []) more (e ∙ sym (append_assoc seen (x ∷ []) more)) in
-      let m : map (block_text (naming a u) (table_at a u)) (seen ++ x ∷ []) ≡ map (block_text (naming a u) (table_at a u)) seen ++ block_text (naming a u) (table_at a u) x ∷ [] = map-append (block_text (naming a u) (table_at a u)) seen (x ∷ []) in
-      none-of (label_repeats (map (block_text (naming a u) (table_at a u)) seen) (label_text (naming a u) (kind_at a u) x)) _ p (ap (λ s. labels_repeat s (map (block_text (naming a u) (table_at a u)) more)) (sym m) ∙ q)
+      let q : labels_repeat (map (block_text (naming a u) (table_at a u)) (seen ++ x ∷ [])) (map (block_text (naming a u) (table_at a u)) more)
+      ≡ false = labels-once k (seen ++ x ∷ []) more (e ∙ sym (append_assoc seen (x ∷ []) more)) in
+      let m : map (block_text (naming a u) (table_at a u)) (seen ++ x ∷ []) ≡ map (block_text (naming a u) (table_at a u)) seen ++ block_text (naming a u) (table_at a u) x
+      ∷ [] = map-append (block_text (naming a u) (table_at a u)) seen (x ∷ []) in
+      none-of (label_repeats (map (block_text (naming a u) (table_at a u)) seen) (label_text (naming a u) (kind_at a u) x)) _ p
+      (ap (λ s. labels_repeat s (map (block_text (naming a u) (table_at a u)) more)) (sym m) ∙ q)
 
   -- an entity has one block, and a unit that is Missing has none
   all-labels : (k : Option UnitKind) → kind_at a u ≡ k → FitsKind k (table_at a u) → labels_repeat [] (unit_text_at a u).blocks ≡ false
@@ -205,7 +225,8 @@ module _ (a : Arena) (u : ℕ) (o : IsArena a) (h : u < unit_count a) where
 
   pub is-once : IsOnce (unit_text_at a u)
   is-once =
-      let ls : lines_of (unit_text_at a u).blocks ≡ map (line_text (naming a u)) (table_at a u).lines = lines_of-flat (unit_text_at a u).blocks ∙ flat_lines (naming a u) (table_at a u) (o.tables u h) in
+      let ls : lines_of (unit_text_at a u).blocks ≡ map (line_text (naming a u)) (table_at a u).lines = lines_of-flat (unit_text_at a u).blocks
+      ∙ flat_lines (naming a u) (table_at a u) (o.tables u h) in
       let n : line_count (unit_text_at a u).blocks ≡ length (table_at a u).lines = line_count-ids (naming a u) (unit_name_at a u) (table_at a u) (o.tables u h) in
       record {
         args = args-once [] (args_at a u) refl;

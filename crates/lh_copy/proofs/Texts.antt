@@ -12,7 +12,7 @@ use Rattle.lh_unit.specs.declared.inst.BlockId.{BlockId}
 use Rattle.lh_unit.specs.declared.inst.UnitKind.{UnitKind}
 use Rattle.lh_unit.specs.declared.inst.UnitKind.TheVariants as kind
 use Rattle.lh_unit.proofs.ModuleLaws.{KeepsEntries-trans}
-use Rattle.lh_copy.specs.Changing.{Becomes, Adds, with_args, with_blocks, with_type}
+use Rattle.lh_copy.specs.Changing.{Becomes, AddsUnitText, with_args, with_blocks, with_type}
 use Rattle.lh_copy.specs.Fitting.{ArgsFit, BlocksFit}
 use Rattle.lh_copy.specs.Named.{SameUnits, SameNames, NamesIn, NamesValues, NamesLabels}
 use Rattle.lh_copy.specs.Kept.{TypeFits, block_at}
@@ -22,7 +22,7 @@ use Rattle.lh_copy.proofs.Naming.{names-trans}
 use Rattle.lh_copy.proofs.Rests.{labelled}
 use Rattle.lh_copy.proofs.Once.{Labelled, BlocksOf, TypeOf, Whole, new-args, headed-by, type-fits-by, whole-by}
 
-pub same-adds : (a b c : Arena) (u : UnitId) (t : UnitText) → SameNames a b u.0 → Adds b c u t → SameNames a c u.0
+pub same-adds : (a b c : Arena) (u : UnitId) (t : UnitText) → SameNames a b u.0 → AddsUnitText b c u t → SameNames a c u.0
 same-adds a b c u t s p = let k = p.entries in record {
   units = record {
     units = omega (arith, k.units, p.no_more.more_units, s.units.units);
@@ -79,7 +79,7 @@ module _ (a m : Arena) (u : UnitId) (k : UnitKind) (o : IsArena a) (h : u.0 < un
   pub header-undefined : defines_unit (unit_name_at a u.0) (contents m) ≡ false → defines_unit (unit_name_at m u.0) (contents m) ≡ false
   header-undefined d = ap (λ n. defines_unit n (contents m)) name ∙ d
 
-  module _ (begun : Arena) (p : Adds m begun u (new_unit (unit_name_at m u.0) k)) where
+  module _ (begun : Arena) (p : AddsUnitText m begun u (new_unit (unit_name_at m u.0) k)) where
     pub header-args : ArgsFit (unit_text_at begun u.0) (unit_text_at a u.0).args
     header-args = subst (λ t. ArgsFit t (unit_text_at a u.0).args) (sym p.text) (new-args (unit_name_at m u.0) k (unit_text_at a u.0).args w.args)
 
@@ -100,7 +100,8 @@ module _ (a m : Arena) (u : UnitId) (k : UnitKind) (o : IsArena a) (h : u.0 < un
           ap (with_type (result_type_at a u.0)) text ∙ x
           ∙ (λ i. record { kind = d i; name = unit_name_at a u.0; args = (unit_text_at a u.0).args; result = result_type_at a u.0; blocks = (new_unit (unit_name_at a u.0) (d i)).blocks })
 
-      pub header-done : (r : Result (Unit {0}) NoMemory) (new : Arena) → IfOk r (λ x. Becomes filled new u (with_type (result_type_at a u.0) (unit_text_at filled u.0))) → IfOk r (λ x. Adds m new u (headed (unit_text_at a u.0)))
+      pub header-done : (r : Result (Unit {0}) NoMemory) (new : Arena) → IfOk r (λ x. Becomes filled new u (with_type (result_type_at a u.0) (unit_text_at filled u.0)))
+          → IfOk r (λ x. AddsUnitText m new u (headed (unit_text_at a u.0)))
       header-done (Ok x) new b =
           let g : Becomes filled new u (headed (unit_text_at a u.0)) = subst (Becomes filled new u) whole-header b in
           adds-then m begun new u (new_unit (unit_name_at m u.0) k) (headed (unit_text_at a u.0)) p
@@ -109,11 +110,13 @@ module _ (a m : Arena) (u : UnitId) (k : UnitKind) (o : IsArena a) (h : u.0 < un
 
 -- ---- the blocks
 
-pub blocks-fit : (a : Arena) (u : ℕ) (k : UnitKind) (t : UnitText) → IsArena a → u < unit_count a → kind_at a u ≡ Some k → IsOnce (unit_text_at a u) → t ≡ headed (unit_text_at a u) → BlocksFit t (unit_text_at a u).blocks
+pub blocks-fit : (a : Arena) (u : ℕ) (k : UnitKind) (t : UnitText) → IsArena a → u < unit_count a → kind_at a u ≡ Some k → IsOnce (unit_text_at a u) → t ≡ headed (unit_text_at a u)
+    → BlocksFit t (unit_text_at a u).blocks
 blocks-fit a u k t o h e w q = subst (λ x. BlocksFit x (unit_text_at a u).blocks) (sym q) (unit-whole a u k o h e w).fit
 
-pub text-done : (r : Result (Unit {0}) NoMemory) (a m b c : Arena) (u : UnitId) (k : UnitKind) → IsArena a → u.0 < unit_count a → kind_at a u.0 ≡ Some k → IsOnce (unit_text_at a u.0) → Adds m b u (headed (unit_text_at a u.0))
-    → IfOk r (λ x. Becomes b c u (with_blocks (unit_text_at a u.0).blocks (unit_text_at b u.0))) → IfOk r (λ x. Adds m c u (unit_text_at a u.0))
+pub text-done : (r : Result (Unit {0}) NoMemory) (a m b c : Arena) (u : UnitId) (k : UnitKind) → IsArena a → u.0 < unit_count a → kind_at a u.0 ≡ Some k → IsOnce (unit_text_at a u.0)
+    → AddsUnitText m b u (headed (unit_text_at a u.0))
+    → IfOk r (λ x. Becomes b c u (with_blocks (unit_text_at a u.0).blocks (unit_text_at b u.0))) → IfOk r (λ x. AddsUnitText m c u (unit_text_at a u.0))
 text-done (Ok x) a m b c u k o h e w p q =
     let g : with_blocks (unit_text_at a u.0).blocks (unit_text_at b u.0) ≡ unit_text_at a u.0 = ap (with_blocks (unit_text_at a u.0).blocks) p.text ∙ (unit-whole a u.0 k o h e w).gives in
     adds-then m b c u (headed (unit_text_at a u.0)) (unit_text_at a u.0) p (subst (Becomes b c u) g q)
@@ -138,7 +141,7 @@ pub names-undefined : (n : UnitName) (b c d : Arena) (u : ℕ) → NamesIn b c u
 names-undefined n b c d u p q h = ap (defines_unit n) (q.says ∙ p.says) ∙ h
 
 -- the whole unit is added
-pub adds-unit : (b c d : Arena) (u : UnitId) (t : UnitText) → NamesIn b c u.0 → Adds c d u t → AddsUnit b d u.0 t
+pub adds-unit : (b c d : Arena) (u : UnitId) (t : UnitText) → NamesIn b c u.0 → AddsUnitText c d u t → AddsUnit b d u.0 t
 adds-unit b c d u t n p = let k = p.entries in record {
   says = p.says ∙ ap (λ xs. xs ++ unit_text t ∷ []) n.says;
   entries = KeepsEntries-trans b c d n.entries k;
@@ -147,6 +150,7 @@ adds-unit b c d u t n p = let k = p.entries in record {
   labels = λ w h. omega (arith, k.labels w, p.no_more.more_labels w, n.labels w h);
 }
 
-pub unit-done : (r : Result (Unit {0}) NoMemory) (b c d e : Arena) (u : UnitId) (t : UnitText) → NamesIn b c u.0 → NamesIn c d u.0 → IfOk r (λ x. Adds d e u t) → IfOk r (λ x. AddsUnit b e u.0 t)
+pub unit-done : (r : Result (Unit {0}) NoMemory) (b c d e : Arena) (u : UnitId) (t : UnitText) → NamesIn b c u.0 → NamesIn c d u.0 → IfOk r (λ x. AddsUnitText d e u t)
+    → IfOk r (λ x. AddsUnit b e u.0 t)
 unit-done (Ok x) b c d e u t p q h = adds-unit b d e u t (names-trans b c d u.0 p q) h
 unit-done (Err x) b c d e u t p q h = tt

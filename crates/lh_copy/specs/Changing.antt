@@ -14,7 +14,7 @@ pub record Becomes (old new : Arena) (u : UnitId) (t : UnitText) : Type 0 where
   pub no_more : HasFewMore 0 none_more none_more old new
 
 -- the unit u is added with the text t, and is open from then on
-pub record Adds (old new : Arena) (u : UnitId) (t : UnitText) : Type 0 where
+pub record AddsUnitText (old new : Arena) (u : UnitId) (t : UnitText) : Type 0 where
   pub is_open : IsOpen new u
   pub text : unit_text_at new u.0 ≡ t
   pub says : contents new ≡ contents old ++ unit_text t ∷ []

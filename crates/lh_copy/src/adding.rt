@@ -5,7 +5,7 @@ ghost use Rattle.lh_unit.specs.Within.{MaybeWithin};
 ghost use Rattle.lh_unit.specs.Naming.{arg_text};
 ghost use Rattle.lh_unit.specs.Arena.{IsOpen, InstPlaced, contents, naming, sizes, unit_count, value_count, label_count, unit_name_at, value_name_at, label_name_at, unit_text_at};
 ghost use Rattle.lh_unit.specs.Builders.{HasLabels, HasRoom, line_text_at};
-ghost use Rattle.lh_copy.specs.Changing.{Adds, Becomes};
+ghost use Rattle.lh_copy.specs.Changing.{AddsUnitText, Becomes};
 
 use lh_types::ty::{NoMemory, Ty};
 use lh_unit::inst::{BlockId, Inst, UnitFault, UnitId, UnitKind, ValueId};
@@ -15,7 +15,7 @@ use lh_unit::module::Module;
 pub fn begin(m: &mut Module, unit: UnitId, kind: UnitKind) -> Result<(), NoMemory>
     requires within { unit.0 < unit_count m.old }
     requires undefined { defines_unit (unit_name_at m.old unit.0) (contents m.old) ≡ false }
-    ensures { IfOk result (λ _. Adds m.old m.new unit (new_unit (unit_name_at m.old unit.0) kind)) }
+    ensures { IfOk result (λ _. AddsUnitText m.old m.new unit (new_unit (unit_name_at m.old unit.0) kind)) }
 {
     match m.begin_unit(unit, kind) {
         Ok(()) => Ok(()),

@@ -2,7 +2,7 @@
 ghost use Rattle.std.specs.Prelude.{◌≡◌, ◌<◌, false, Some, IsSome, IfOk};
 ghost use Rattle.lh_unit.specs.Contents.{defines_unit};
 ghost use Rattle.lh_unit.specs.Arena.{IsArena, contents, kind_at, unit_count, value_count, label_count, unit_name_at, unit_text_at};
-ghost use Rattle.lh_copy.specs.Changing.{Adds};
+ghost use Rattle.lh_copy.specs.Changing.{AddsUnitText};
 ghost use Rattle.lh_copy.specs.Named.{SameUnits, SameNames};
 ghost use Rattle.lh_copy.specs.Copying.{AddsUnit, headed};
 
@@ -20,7 +20,7 @@ fn keep_header(m: &mut Module, from: &Module, unit: UnitId, kind: UnitKind) -> R
     requires there { unit.0 < unit_count from.now }
     requires named { SameNames from.now m.old unit.0 }
     requires undefined { defines_unit (unit_name_at from.now unit.0) (contents m.old) ≡ false }
-    ensures { IfOk result (λ _. Adds m.old m.new unit (headed (unit_text_at from.now unit.0))) }
+    ensures { IfOk result (λ _. AddsUnitText m.old m.new unit (headed (unit_text_at from.now unit.0))) }
 {
     begin(m, unit, kind)?;
     keep_args(m, from, unit)?;
@@ -34,7 +34,7 @@ fn keep_text(m: &mut Module, from: &Module, unit: UnitId, kind: UnitKind) -> Res
     requires there { unit.0 < unit_count from.now }
     requires named { SameNames from.now m.old unit.0 }
     requires undefined { defines_unit (unit_name_at from.now unit.0) (contents m.old) ≡ false }
-    ensures { IfOk result (λ _. Adds m.old m.new unit (unit_text_at from.now unit.0)) }
+    ensures { IfOk result (λ _. AddsUnitText m.old m.new unit (unit_text_at from.now unit.0)) }
 {
     keep_header(m, from, unit, kind)?;
     keep_blocks(m, from, unit, kind)

@@ -10,40 +10,40 @@ use Rattle.lh_term.specs.declared.part.Part.{Part}
 use Rattle.lh_cover.specs.declared.Cover.{Cover}
 use Rattle.lh_cover.specs.Bits.{has_bit, is_waited}
 use Rattle.std.proofs.lemmas.Bool.Decides.{nat_tests}
-use Rattle.lh_cover.specs.declared.runs.Run.{Run}
+use Rattle.lh_cover.specs.declared.runs.CoverRun.{CoverRun}
 use Rattle.lh_cover.specs.Runs.{in_run, in_runs, IsBefore, IsBeforeAll, AreApart, IsCover, run_of, runs_of, touches, longer, merged_from, merged}
 
 -- r begins no later than s
-pub record StartsBy (r s : Run) : Type 0 where
+pub record StartsBy (r s : CoverRun) : Type 0 where
   pub arg : r.arg ≤ s.arg
   pub lo : r.arg ≡ s.arg → r.lo ≤ s.lo
 
 -- r begins no later than the first
-abbrev pub StartsFirst : Run → List Run → Type 0
+abbrev pub StartsFirst : CoverRun → List CoverRun → Type 0
 StartsFirst r [] = Unit {0}
 StartsFirst r (s ∷ ss) = StartsBy r s
 
 -- each begins no later than the next
-abbrev pub AreSorted : List Run → Type 0
+abbrev pub AreSorted : List CoverRun → Type 0
 AreSorted [] = Unit {0}
 AreSorted (r ∷ rs) = StartsFirst r rs × AreSorted rs
 
 -- each has bits
-abbrev pub AreFull : List Run → Type 0
+abbrev pub AreFull : List CoverRun → Type 0
 AreFull [] = Unit {0}
 AreFull (r ∷ rs) = (r.lo < r.end) × AreFull rs
 
-longer_starts : (last r : Run) (rs : List Run) → StartsBy last r → StartsFirst r rs → StartsFirst (longer last r) rs
+longer_starts : (last r : CoverRun) (rs : List CoverRun) → StartsBy last r → StartsFirst r rs → StartsFirst (longer last r) rs
 longer_starts last r [] s t = tt
 longer_starts last r (x ∷ xs) s t = record { arg = omega (arith, s.arg, t.arg); lo = λ e. omega (arith, s.arg, t.arg, s.lo, t.lo) }
 
-before_longer : (x last r : Run) → IsBefore x last → IsBefore x (longer last r)
+before_longer : (x last r : CoverRun) → IsBefore x last → IsBefore x (longer last r)
 before_longer x last r b = record { arg = b.arg; end = b.end }
 
-before_next : (x last r : Run) → IsBefore x last → StartsBy last r → IsBefore x r
+before_next : (x last r : CoverRun) → IsBefore x last → StartsBy last r → IsBefore x r
 before_next x last r b s = record { arg = omega (arith, b.arg, s.arg); end = λ e. omega (arith, b.arg, s.arg, b.end, s.lo) }
 
-pub before_merged : (x last : Run) (rs : List Run) → IsBefore x last → StartsFirst last rs → AreSorted rs → IsBeforeAll x (merged_from last rs)
+pub before_merged : (x last : CoverRun) (rs : List CoverRun) → IsBefore x last → StartsFirst last rs → AreSorted rs → IsBeforeAll x (merged_from last rs)
 before_merged x last [] b s u = (b, tt)
 before_merged x last (r ∷ rs) b s u =
     elim (touches last r) as (λ t. IsBeforeAll x (if t then merged_from (longer last r) rs else last ∷ merged_from r rs)) [
@@ -51,13 +51,13 @@ before_merged x last (r ∷ rs) b s u =
       | false ↦ (b, before_merged x r rs (before_next x last r b s) u.0 u.1)
     ]
 
-apart_next : (last r : Run) → StartsBy last r → touches last r ≡ false → IsBefore last r
+apart_next : (last r : CoverRun) → StartsBy last r → touches last r ≡ false → IsBefore last r
 apart_next last r s e = record { arg = s.arg; end = λ a. past last.arg r.arg r.lo last.end e a }
   where
     past : (a b c d : ℕ) → (nat_eq a b && nat_le c d) ≡ false → a ≡ b → d < c
     past a b c d e p = grind (arith, nat_tests)
 
-pub merged_apart : (last : Run) (rs : List Run) → last.lo < last.end → StartsFirst last rs → AreSorted rs → AreFull rs → AreApart (merged_from last rs)
+pub merged_apart : (last : CoverRun) (rs : List CoverRun) → last.lo < last.end → StartsFirst last rs → AreSorted rs → AreFull rs → AreApart (merged_from last rs)
 merged_apart last [] f s u v = (f, tt, tt)
 merged_apart last (r ∷ rs) f s u v =
     elim (touches last r) as (λ t. touches last r ≡ t → AreApart (if t then merged_from (longer last r) rs else last ∷ merged_from r rs)) [
@@ -66,7 +66,7 @@ merged_apart last (r ∷ rs) f s u v =
     ] refl
 
 -- a range with what another has after it
-longer_bits : (last r : Run) → StartsBy last r → touches last r ≡ true → (a b : ℕ) → in_run (longer last r) a b ≡ (in_run last a b || in_run r a b)
+longer_bits : (last r : CoverRun) → StartsBy last r → touches last r ≡ true → (a b : ℕ) → in_run (longer last r) a b ≡ (in_run last a b || in_run r a b)
 longer_bits last r s e a b = bits last.arg last.lo last.end r.arg r.lo r.end a b e s.lo
   where
     bits : (ra rl re sa sl se a b : ℕ) → (nat_eq ra sa && nat_le sl re) ≡ true → (ra ≡ sa → rl ≤ sl) →
@@ -77,7 +77,7 @@ or_assoc : (x y z : Bool) → ((x || y) || z) ≡ (x || (y || z))
 or_assoc true y z = refl
 or_assoc false y z = refl
 
-pub merged_bits : (last : Run) (rs : List Run) → StartsFirst last rs → AreSorted rs → (a b : ℕ) → in_runs (merged_from last rs) a b ≡ (in_run last a b || in_runs rs a b)
+pub merged_bits : (last : CoverRun) (rs : List CoverRun) → StartsFirst last rs → AreSorted rs → (a b : ℕ) → in_runs (merged_from last rs) a b ≡ (in_run last a b || in_runs rs a b)
 merged_bits last [] s u a b = refl
 merged_bits last (r ∷ rs) s u a b =
     elim (touches last r) as (λ t. touches last r ≡ t → in_runs (if t then merged_from (longer last r) rs else last ∷ merged_from r rs) a b ≡ (in_run last a b || (in_run r a b || in_runs rs a b))) [
@@ -88,11 +88,11 @@ merged_bits last (r ∷ rs) s u a b =
       | false ↦ λ e. ap (λ x. in_run last a b || x) (merged_bits r rs u.0 u.1 a b)
     ] refl
 
-pub all_apart : (rs : List Run) → AreSorted rs → AreFull rs → AreApart (merged rs)
+pub all_apart : (rs : List CoverRun) → AreSorted rs → AreFull rs → AreApart (merged rs)
 all_apart [] u v = tt
 all_apart (r ∷ rs) u v = merged_apart r rs v.0 u.0 u.1 v.1
 
-pub all_bits : (rs : List Run) → AreSorted rs → (a b : ℕ) → in_runs (merged rs) a b ≡ in_runs rs a b
+pub all_bits : (rs : List CoverRun) → AreSorted rs → (a b : ℕ) → in_runs (merged rs) a b ≡ in_runs rs a b
 all_bits [] u a b = refl
 all_bits (r ∷ rs) u a b = merged_bits r rs u.0 u.1 a b
 
@@ -120,19 +120,19 @@ runs_bits (p ∷ ps) a b =
     none : (pa l e a b : ℕ) → nat_lt l e ≡ false → (nat_eq pa a && (nat_le l b && nat_lt b e)) ≡ false
     none pa l e a b h = grind (arith, nat_tests)
 
-full_by_index : (rs : List Run) → AreFull rs → All (λ (r : Run). r.lo < r.end) rs
+full_by_index : (rs : List CoverRun) → AreFull rs → All (λ (r : CoverRun). r.lo < r.end) rs
 full_by_index [] f = λ k d l. absurd (omega arith)
-full_by_index (r ∷ rs) f = All-cons (λ (r : Run). r.lo < r.end) r rs f.0 (full_by_index rs f.1)
+full_by_index (r ∷ rs) f = All-cons (λ (r : CoverRun). r.lo < r.end) r rs f.0 (full_by_index rs f.1)
 
-full_from_index : (rs : List Run) → All (λ (r : Run). r.lo < r.end) rs → AreFull rs
+full_from_index : (rs : List CoverRun) → All (λ (r : CoverRun). r.lo < r.end) rs → AreFull rs
 full_from_index [] f = tt
-full_from_index (r ∷ rs) f = (All-head (λ (r : Run). r.lo < r.end) r rs f, full_from_index rs (All-tail (λ (r : Run). r.lo < r.end) r rs f))
+full_from_index (r ∷ rs) f = (All-head (λ (r : CoverRun). r.lo < r.end) r rs f, full_from_index rs (All-tail (λ (r : CoverRun). r.lo < r.end) r rs f))
 
 -- what the sort compares by
-abbrev pub comes_before : Run → Run → Bool
+abbrev pub comes_before : CoverRun → CoverRun → Bool
 comes_before r s = is_lt (ordering_then (nat_cmp r.arg s.arg) (ordering_then (nat_cmp r.lo s.lo) (nat_cmp r.end s.end)))
 
-sorted_next : (rs : List Run) → IsSortedBy comes_before rs → AreSorted rs
+sorted_next : (rs : List CoverRun) → IsSortedBy comes_before rs → AreSorted rs
 sorted_next [] h = tt
 sorted_next (r ∷ []) h = (tt, tt)
 sorted_next (r ∷ s ∷ rs) h = (
@@ -142,16 +142,17 @@ sorted_next (r ∷ s ∷ rs) h = (
       subst (λ (j : ℕ). comes_before (get_or (r ∷ s ∷ rs) j d) (get_or (s ∷ rs) k d) ≡ false) o (h (suc k) d (omega arith) (omega arith))),
 )
   where
-    next : (ra rl re sa sl se : ℕ) → is_lt (ordering_then (nat_cmp sa ra) (ordering_then (nat_cmp sl rl) (nat_cmp se re))) ≡ false → StartsBy (record { arg = ra; lo = rl; end = re }) (record { arg = sa; lo = sl; end = se })
+    next : (ra rl re sa sl se : ℕ) → is_lt (ordering_then (nat_cmp sa ra) (ordering_then (nat_cmp sl rl) (nat_cmp se re))) ≡ false
+        → StartsBy (record { arg = ra; lo = rl; end = re }) (record { arg = sa; lo = sl; end = se })
     next ra rl re sa sl se e = record { arg = grind (arith, nat_tests); lo = λ k. grind (arith, nat_tests) }
 
-pub is_cover : (cover : Cover) (ps : List Part) (sorted : List Run) → IsPermutation (runs_of ps) sorted →
+pub is_cover : (cover : Cover) (ps : List Part) (sorted : List CoverRun) → IsPermutation (runs_of ps) sorted →
     IsSortedBy comes_before sorted →
     cover.runs.items ≡ merged sorted → IsCover cover ps
 is_cover cover ps sorted p s e =
     let u : AreSorted sorted = sorted_next sorted s in
-    let f : AreFull sorted = full_from_index sorted (All-permutation (λ (r : Run). r.lo < r.end) (runs_of ps) sorted p (full_by_index (runs_of ps) (runs_full ps))) in
+    let f : AreFull sorted = full_from_index sorted (All-permutation (λ (r : CoverRun). r.lo < r.end) (runs_of ps) sorted p (full_by_index (runs_of ps) (runs_full ps))) in
     record {
       apart = subst AreApart (sym e) (all_apart sorted u f);
-      bits = λ a b. ap (λ (rs : List Run). in_runs rs a b) e ∙ all_bits sorted u a b ∙ sym (list_any-IsPermutation (λ (r : Run). in_run r a b) (runs_of ps) sorted p) ∙ runs_bits ps a b;
+      bits = λ a b. ap (λ (rs : List CoverRun). in_runs rs a b) e ∙ all_bits sorted u a b ∙ sym (list_any-IsPermutation (λ (r : CoverRun). in_run r a b) (runs_of ps) sorted p) ∙ runs_bits ps a b;
     }

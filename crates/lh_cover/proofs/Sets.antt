@@ -4,7 +4,7 @@ use Rattle.std.specs.List.{list_all}
 use Rattle.std.proofs.lemmas.Bool.Decides.{nat_tests}
 use Rattle.lh_types.specs.Types.{bit_count}
 use Rattle.lh_term.specs.declared.part.Part.{Part}
-use Rattle.lh_cover.specs.declared.runs.Run.{Run}
+use Rattle.lh_cover.specs.declared.runs.CoverRun.{CoverRun}
 use Rattle.lh_cover.specs.declared.Cover.{Cover}
 use Rattle.lh_cover.specs.Bits.{has_bit, is_waited, are_waited, covers, same_bits}
 use Rattle.lh_cover.specs.Runs.{in_run, in_runs, IsBeforeAll, AreApart, IsCover, same_runs}
@@ -12,10 +12,10 @@ use Rattle.lh_cover.proofs.Within.{and_left, and_right, or_cases, in_one, beyond
 
 -- ---- the ranges are told by the bits
 
-abbrev pub Alike : List Run → List Run → Type 0
+abbrev pub Alike : List CoverRun → List CoverRun → Type 0
 Alike rs ss = (a b : ℕ) → in_runs rs a b ≡ in_runs ss a b
 
-own_first : (r : Run) → r.lo < r.end → in_run r r.arg r.lo ≡ true
+own_first : (r : CoverRun) → r.lo < r.end → in_run r r.arg r.lo ≡ true
 own_first r f = own r.arg r.lo r.end f
   where
     own : (a l e : ℕ) → l < e → (nat_eq a a && (nat_le l l && nat_lt l e)) ≡ true
@@ -25,17 +25,17 @@ or_left : (x y : Bool) → x ≡ true → (x || y) ≡ true
 or_left x y e = ap (λ z. z || y) e
 
 -- a bit of ranges is not before the first
-pub record NotBefore (r : Run) (a b : ℕ) : Type 0 where
+pub record NotBefore (r : CoverRun) (a b : ℕ) : Type 0 where
   pub arg : r.arg ≤ a
   pub lo : r.arg ≡ a → r.lo ≤ b
 
-not_before : (r : Run) (rs : List Run) (a b : ℕ) → r.lo < r.end → IsBeforeAll r rs → in_runs (r ∷ rs) a b ≡ true → NotBefore r a b
+not_before : (r : CoverRun) (rs : List CoverRun) (a b : ℕ) → r.lo < r.end → IsBeforeAll r rs → in_runs (r ∷ rs) a b ≡ true → NotBefore r a b
 not_before r rs a b f h e = elim (or_cases (in_run r a b) (in_runs rs a b) e) [
   | inl i ↦ let m = in_one r.arg r.lo r.end a b i in record { arg = omega (arith, m.0); lo = λ k. m.1 }
   | inr i ↦ record { arg = higher rs h i; lo = λ k. let m : r.end < b = beyond r rs a b h k i in omega arith }
 ]
   where
-    higher : (ss : List Run) → IsBeforeAll r ss → in_runs ss a b ≡ true → r.arg ≤ a
+    higher : (ss : List CoverRun) → IsBeforeAll r ss → in_runs ss a b ≡ true → r.arg ≤ a
     higher [] h i = cc
     higher (s ∷ ss) h i = elim (or_cases (in_run s a b) (in_runs ss a b) i) [
       | inl k ↦ let m = in_one s.arg s.lo s.end a b k in omega (arith, m.0, h.0.arg)
@@ -43,7 +43,7 @@ not_before r rs a b f h e = elim (or_cases (in_run r a b) (in_runs rs a b) e) [
     ]
 
 -- of two lists with the same bits, the first ranges begin at one bit ..
-starts_alike : (r s : Run) (rs ss : List Run) → AreApart (r ∷ rs) → AreApart (s ∷ ss) → Alike (r ∷ rs) (s ∷ ss) → (r.arg ≡ s.arg) × (r.lo ≡ s.lo)
+starts_alike : (r s : CoverRun) (rs ss : List CoverRun) → AreApart (r ∷ rs) → AreApart (s ∷ ss) → Alike (r ∷ rs) (s ∷ ss) → (r.arg ≡ s.arg) × (r.lo ≡ s.lo)
 starts_alike r s rs ss p q e =
     let m = not_before s ss r.arg r.lo q.0 q.1 (sym (e r.arg r.lo) ∙ or_left _ (in_runs rs r.arg r.lo) (own_first r p.0)) in
     let n = not_before r rs s.arg s.lo p.0 p.1 (e s.arg s.lo ∙ or_left _ (in_runs ss s.arg s.lo) (own_first s q.0)) in
@@ -51,7 +51,7 @@ starts_alike r s rs ss p q e =
     (a, omega (arith, a, m.lo, n.lo))
 
 -- .. and end at one
-ends_by : (r s : Run) (rs ss : List Run) → AreApart (r ∷ rs) → AreApart (s ∷ ss) → Alike (r ∷ rs) (s ∷ ss) → r.arg ≡ s.arg → r.lo ≡ s.lo → s.end ≤ r.end
+ends_by : (r s : CoverRun) (rs ss : List CoverRun) → AreApart (r ∷ rs) → AreApart (s ∷ ss) → Alike (r ∷ rs) (s ∷ ss) → r.arg ≡ s.arg → r.lo ≡ s.lo → s.end ≤ r.end
 ends_by r s rs ss p q e a l = at (nat_lt r.end s.end) refl
   where
     inside : (sa sl se re : ℕ) → nat_lt re se ≡ true → sl < re → (nat_eq sa sa && (nat_le sl re && nat_lt re se)) ≡ true
@@ -69,21 +69,21 @@ ends_by r s rs ss p q e a l = at (nat_lt r.end s.end) refl
           | inr k ↦ let m : r.end < r.end = beyond r rs s.arg r.end p.1 a k in absurd (omega arith)
         ]
 
-not_later : (r : Run) (rs : List Run) (a b : ℕ) → IsBeforeAll r rs → in_run r a b ≡ true → in_runs rs a b ≡ false
+not_later : (r : CoverRun) (rs : List CoverRun) (a b : ℕ) → IsBeforeAll r rs → in_run r a b ≡ true → in_runs rs a b ≡ false
 not_later r rs a b h i = at (in_runs rs a b) refl
   where
     at : (x : Bool) → in_runs rs a b ≡ x → x ≡ false
     at false e = refl
     at true e = let m = in_one r.arg r.lo r.end a b i in let n : r.end < b = beyond r rs a b h m.0 e in absurd (omega (arith, m.2))
 
-rest_alike : (r : Run) (rs ss : List Run) → IsBeforeAll r rs → IsBeforeAll r ss → Alike (r ∷ rs) (r ∷ ss) → Alike rs ss
+rest_alike : (r : CoverRun) (rs ss : List CoverRun) → IsBeforeAll r rs → IsBeforeAll r ss → Alike (r ∷ rs) (r ∷ ss) → Alike rs ss
 rest_alike r rs ss p q e a b = at (in_run r a b) refl (e a b)
   where
     at : (x : Bool) → in_run r a b ≡ x → (x || in_runs rs a b) ≡ (x || in_runs ss a b) → in_runs rs a b ≡ in_runs ss a b
     at true i k = not_later r rs a b p i ∙ sym (not_later r ss a b q i)
     at false i k = k
 
-pub alike : (rs ss : List Run) → AreApart rs → AreApart ss → Alike rs ss → rs ≡ ss
+pub alike : (rs ss : List CoverRun) → AreApart rs → AreApart ss → Alike rs ss → rs ≡ ss
 alike [] [] p q e = refl
 alike [] (s ∷ ss) p q e = let k : false ≡ true = e s.arg s.lo ∙ or_left _ (in_runs ss s.arg s.lo) (own_first s q.0) in cc
 alike (r ∷ rs) [] p q e = let k : false ≡ true = sym (e r.arg r.lo) ∙ or_left _ (in_runs rs r.arg r.lo) (own_first r p.0) in cc
@@ -92,8 +92,8 @@ alike (r ∷ rs) (s ∷ ss) p q e =
     let f : Alike (s ∷ ss) (r ∷ rs) = λ a k. sym (e a k) in
     let c : r.end ≡ s.end = omega (arith, ends_by r s rs ss p q e b.0 b.1, ends_by s r ss rs q p f (sym b.0) (sym b.1)) in
     let same : r ≡ s = λ i. record { arg = b.0 i; lo = b.1 i; end = c i } in
-    let q' : AreApart (r ∷ ss) = subst (λ (x : Run). AreApart (x ∷ ss)) (sym same) q in
-    let e' : Alike (r ∷ rs) (r ∷ ss) = subst (λ (x : Run). Alike (r ∷ rs) (x ∷ ss)) (sym same) e in
+    let q' : AreApart (r ∷ ss) = subst (λ (x : CoverRun). AreApart (x ∷ ss)) (sym same) q in
+    let e' : Alike (r ∷ rs) (r ∷ ss) = subst (λ (x : CoverRun). Alike (r ∷ rs) (x ∷ ss)) (sym same) e in
     λ i. same i ∷ alike rs ss p.2 q'.2 (rest_alike r rs ss p.1 q'.1 e') i
 
 -- ---- the definition says the same
@@ -155,7 +155,7 @@ alike_bits ps qs h = both _ _ (covers_each ps qs (λ a b e. h a b ∙ e)) (cover
     both : (x y : Bool) → x ≡ true → y ≡ true → (x && y) ≡ true
     both x y p q = rw (p, q) refl
 
-same_runs-is : (rs ss : List Run) → same_runs rs ss ≡ true → rs ≡ ss
+same_runs-is : (rs ss : List CoverRun) → same_runs rs ss ≡ true → rs ≡ ss
 same_runs-is [] [] e = refl
 same_runs-is (r ∷ rs) (s ∷ ss) e =
     let one = same_one r.arg r.lo r.end s.arg s.lo s.end (and_left _ _ e) in
@@ -165,7 +165,7 @@ same_runs-is (r ∷ rs) (s ∷ ss) e =
     same_one a l e b m f h = (grind (arith, nat_tests), grind (arith, nat_tests), grind (arith, nat_tests))
 same_runs-is _ _ e = cc
 
-same_runs-refl : (rs : List Run) → same_runs rs rs ≡ true
+same_runs-refl : (rs : List CoverRun) → same_runs rs rs ≡ true
 same_runs-refl [] = refl
 same_runs-refl (r ∷ rs) = both _ _ (same_one r.arg r.lo r.end) (same_runs-refl rs)
   where
@@ -179,7 +179,7 @@ same_runs-refl (r ∷ rs) = both _ _ (same_one r.arg r.lo r.end) (same_runs-refl
 pub told : (c d : Cover) (ps qs : List Part) (same : Bool) → same ≡ same_runs c.runs.items d.runs.items → IsCover c ps → IsCover d qs → same ≡ same_bits ps qs
 told c d ps qs same t p q =
     same_bool _ _
-    (λ e. alike_bits ps qs (λ a b. sym (p.bits a b) ∙ ap (λ (rs : List Run). in_runs rs a b) (same_runs-is c.runs.items d.runs.items (sym t ∙ e)) ∙ q.bits a b))
+    (λ e. alike_bits ps qs (λ a b. sym (p.bits a b) ∙ ap (λ (rs : List CoverRun). in_runs rs a b) (same_runs-is c.runs.items d.runs.items (sym t ∙ e)) ∙ q.bits a b))
     (λ e.
     let k : c.runs.items ≡ d.runs.items = alike c.runs.items d.runs.items p.apart q.apart (λ a b. p.bits a b ∙ bits_alike ps qs e a b ∙ sym (q.bits a b)) in
     t ∙ ap (same_runs c.runs.items) (sym k) ∙ same_runs-refl c.runs.items)

@@ -5,7 +5,7 @@ use Rattle.std.specs.List.Sorted.{IsPartitionedBy, IsPartitionPoint}
 use Rattle.std.proofs.lemmas.Bool.Decides.{nat_tests}
 use Rattle.lh_types.specs.Types.{bit_count}
 use Rattle.lh_term.specs.declared.part.Part.{Part}
-use Rattle.lh_cover.specs.declared.runs.Run.{Run}
+use Rattle.lh_cover.specs.declared.runs.CoverRun.{CoverRun}
 use Rattle.lh_cover.specs.declared.Cover.{Cover}
 use Rattle.lh_cover.specs.Bits.{is_waited, are_waited, covers}
 use Rattle.lh_cover.specs.Runs.{in_run, in_runs, IsBefore, IsBeforeAll, AreApart, IsCover, run_of, starts_by, ends_within}
@@ -13,18 +13,18 @@ use Rattle.lh_cover.specs.Runs.{in_run, in_runs, IsBefore, IsBeforeAll, AreApart
 -- ---- what the code finds
 
 -- whether some range has all bits of r
-abbrev pub within : List Run → Run → Bool
+abbrev pub within : List CoverRun → CoverRun → Bool
 within ss r = list_any (λ s. starts_by s r && ends_within r s) ss
 
 or_both : (x y : Bool) → x ≡ false → y ≡ false → (x || y) ≡ false
 or_both x y p q = cc
 
-none_within : (r : Run) (ss : List Run) → ((k : ℕ) (d : Run) → k < length ss → starts_by (get_or ss k d) r ≡ false) → within ss r ≡ false
+none_within : (r : CoverRun) (ss : List CoverRun) → ((k : ℕ) (d : CoverRun) → k < length ss → starts_by (get_or ss k d) r ≡ false) → within ss r ≡ false
 none_within r [] h = refl
 none_within r (s ∷ ss) h = or_both _ _ (ap (λ x. x && ends_within r s) (h 0 s (omega arith))) (none_within r ss (λ k d l. h (suc k) d (omega arith)))
 
 -- a range that begins before another that begins no later than r has not all of r
-passed : (s t r : Run) → IsBefore s t → starts_by t r ≡ true → r.lo < r.end → (starts_by s r && ends_within r s) ≡ false
+passed : (s t r : CoverRun) → IsBefore s t → starts_by t r ≡ true → r.lo < r.end → (starts_by s r && ends_within r s) ≡ false
 passed s t r b e f = not_both s.arg s.lo s.end t.arg t.lo r.arg r.lo r.end b.arg b.end e f
   where
     not_both : (sa sl se ta tl ra rl re : ℕ) → sa ≤ ta → (sa ≡ ta → se < tl) → (nat_lt ta ra || (nat_eq ta ra && nat_le tl rl)) ≡ true → rl < re →
@@ -32,8 +32,8 @@ passed s t r b e f = not_both s.arg s.lo s.end t.arg t.lo r.arg r.lo r.end b.arg
     not_both sa sl se ta tl ra rl re p q e f = grind (arith, nat_tests)
 
 -- the range before a partition point is the one that can have it
-pub last_within : (r : Run) (ss : List Run) (n : ℕ) (d : Run) → r.lo < r.end → AreApart ss → n < length ss →
-    ((k : ℕ) (d : Run) → k < n + 1 → starts_by (get_or ss k d) r ≡ true) → ((k : ℕ) (d : Run) → n + 1 ≤ k → k < length ss → starts_by (get_or ss k d) r ≡ false) →
+pub last_within : (r : CoverRun) (ss : List CoverRun) (n : ℕ) (d : CoverRun) → r.lo < r.end → AreApart ss → n < length ss →
+    ((k : ℕ) (d : CoverRun) → k < n + 1 → starts_by (get_or ss k d) r ≡ true) → ((k : ℕ) (d : CoverRun) → n + 1 ≤ k → k < length ss → starts_by (get_or ss k d) r ≡ false) →
     ends_within r (get_or ss n d) ≡ within ss r
 last_within r [] n d f a l t u = absurd (omega arith)
 last_within r (s ∷ ss) zero d f a l t u =
@@ -48,18 +48,18 @@ last_within r (s ∷ x ∷ ss) (suc n) d f a l t u =
     ∙ sym (ap (λ y. y || within (x ∷ ss) r) (passed s x r a.1.0 (t 1 x (omega arith)) f))
 
 -- those that begin no later come first
-before_at : (s : Run) (ss : List Run) (k : ℕ) (d : Run) → IsBeforeAll s ss → k < length ss → IsBefore s (get_or ss k d)
+before_at : (s : CoverRun) (ss : List CoverRun) (k : ℕ) (d : CoverRun) → IsBeforeAll s ss → k < length ss → IsBefore s (get_or ss k d)
 before_at s [] k d b l = absurd (omega arith)
 before_at s (x ∷ ss) zero d b l = b.0
 before_at s (x ∷ ss) (suc k) d b l = before_at s ss k d b.1 (omega arith)
 
-starts_before : (r s t : Run) → s.lo < s.end → IsBefore s t → starts_by t r ≡ true → starts_by s r ≡ true
+starts_before : (r s t : CoverRun) → s.lo < s.end → IsBefore s t → starts_by t r ≡ true → starts_by s r ≡ true
 starts_before r s t f b e = lower s.arg s.lo s.end t.arg t.lo r.arg r.lo f b.arg b.end e
   where
     lower : (sa sl se ta tl ra rl : ℕ) → sl < se → sa ≤ ta → (sa ≡ ta → se < tl) → (nat_lt ta ra || (nat_eq ta ra && nat_le tl rl)) ≡ true → (nat_lt sa ra || (nat_eq sa ra && nat_le sl rl)) ≡ true
     lower sa sl se ta tl ra rl f p q e = grind (arith, nat_tests)
 
-pub parted : (r : Run) (ss : List Run) → AreApart ss → IsPartitionedBy (λ (s : Run). starts_by s r) ss
+pub parted : (r : CoverRun) (ss : List CoverRun) → AreApart ss → IsPartitionedBy (λ (s : CoverRun). starts_by s r) ss
 parted r [] a i j d h l e = absurd (omega arith)
 parted r (s ∷ ss) a zero zero d h l e = e
 parted r (s ∷ ss) a zero (suc j) d h l e = starts_before r s (get_or ss j d) a.0 (before_at s ss j d a.1 (omega arith)) e
@@ -69,7 +69,7 @@ parted r (s ∷ ss) a (suc i) (suc j) d h l e = parted r ss a.2 i j d (omega ari
 -- ---- what the definition says
 
 -- whether each of n bits of an argument is of the set
-abbrev all_in : List Run → ℕ → ℕ → ℕ → Bool
+abbrev all_in : List CoverRun → ℕ → ℕ → ℕ → Bool
 all_in ss a lo zero = true
 all_in ss a lo (suc n) = in_runs ss a (lo + n) && all_in ss a lo n
 
@@ -81,7 +81,7 @@ pub and_right : (x y : Bool) → (x && y) ≡ true → y ≡ true
 and_right true y e = e
 and_right false y e = cc
 
-same_all : (ss : List Run) (ps : List Part) → ((a b : ℕ) → in_runs ss a b ≡ is_waited ps a b) → (a lo n : ℕ) → all_in ss a lo n ≡ are_waited ps a lo n
+same_all : (ss : List CoverRun) (ps : List Part) → ((a b : ℕ) → in_runs ss a b ≡ is_waited ps a b) → (a lo n : ℕ) → all_in ss a lo n ≡ are_waited ps a lo n
 same_all ss ps h a lo zero = refl
 same_all ss ps h a lo (suc n) = rw (h a (lo + n), same_all ss ps h a lo n) refl
 
@@ -93,19 +93,19 @@ or_cases true y e = inl refl
 or_cases false y e = inr e
 
 -- bits of later ranges are beyond the end
-pub beyond : (r : Run) (ss : List Run) (a b : ℕ) → IsBeforeAll r ss → r.arg ≡ a → in_runs ss a b ≡ true → r.end < b
+pub beyond : (r : CoverRun) (ss : List CoverRun) (a b : ℕ) → IsBeforeAll r ss → r.arg ≡ a → in_runs ss a b ≡ true → r.end < b
 beyond r [] a b h e i = cc
 beyond r (s ∷ ss) a b h e i = elim (or_cases (in_run s a b) (in_runs ss a b) i) [
   | inl k ↦ let m = in_one s.arg s.lo s.end a b k in omega (arith, h.0.end, m.0, m.1)
   | inr k ↦ beyond r ss a b h.1 e k
 ]
 
-first_in : (ss : List Run) (a lo n : ℕ) → all_in ss a lo (suc n) ≡ true → in_runs ss a lo ≡ true
+first_in : (ss : List CoverRun) (a lo n : ℕ) → all_in ss a lo (suc n) ≡ true → in_runs ss a lo ≡ true
 first_in ss a lo zero e = subst (λ (b : ℕ). in_runs ss a b ≡ true) (add-zero lo) (and_left _ _ e)
 first_in ss a lo (suc n) e = first_in ss a lo n (and_right _ _ e)
 
 -- where the first bit is of the first range, so are all
-reaches : (r : Run) (ss : List Run) (lo n : ℕ) → IsBeforeAll r ss → lo < r.end → all_in (r ∷ ss) r.arg lo n ≡ true → lo + n ≤ r.end
+reaches : (r : CoverRun) (ss : List CoverRun) (lo n : ℕ) → IsBeforeAll r ss → lo < r.end → all_in (r ∷ ss) r.arg lo n ≡ true → lo + n ≤ r.end
 reaches r ss lo zero h f e = omega arith
 reaches r ss lo (suc n) h f e =
     let k : lo + n ≤ r.end = reaches r ss lo n h f (and_right _ _ e) in
@@ -115,14 +115,14 @@ reaches r ss lo (suc n) h f e =
     ]
 
 -- where it is of a later one, none is of the first
-skips : (r : Run) (ss : List Run) (a lo n : ℕ) → (r.arg ≡ a → r.end ≤ lo) → all_in (r ∷ ss) a lo n ≡ all_in ss a lo n
+skips : (r : CoverRun) (ss : List CoverRun) (a lo n : ℕ) → (r.arg ≡ a → r.end ≤ lo) → all_in (r ∷ ss) a lo n ≡ all_in ss a lo n
 skips r ss a lo zero h = refl
 skips r ss a lo (suc n) h = rw (out r.arg r.lo r.end a lo n h, skips r ss a lo n h) refl
   where
     out : (ra rl re a lo n : ℕ) → (ra ≡ a → re ≤ lo) → (nat_eq ra a && (nat_le rl (lo + n) && nat_lt (lo + n) re)) ≡ false
     out ra rl re a lo n h = grind (arith, nat_tests)
 
-from_all : (ss : List Run) (a lo n : ℕ) → AreApart ss → all_in ss a lo (suc n) ≡ true → within ss (record { arg = a; lo = lo; end = lo + suc n }) ≡ true
+from_all : (ss : List CoverRun) (a lo n : ℕ) → AreApart ss → all_in ss a lo (suc n) ≡ true → within ss (record { arg = a; lo = lo; end = lo + suc n }) ≡ true
 from_all [] a lo n h e = first_in [] a lo n e
 from_all (r ∷ ss) a lo n h e =
     elim (or_cases (in_run r a lo) (in_runs ss a lo) (first_in (r ∷ ss) a lo n e)) [
@@ -141,7 +141,7 @@ from_all (r ∷ ss) a lo n h e =
     or_right true y e = refl
     or_right false y e = e
 
-more_in : (r : Run) (ss : List Run) (a lo n : ℕ) → all_in ss a lo n ≡ true → all_in (r ∷ ss) a lo n ≡ true
+more_in : (r : CoverRun) (ss : List CoverRun) (a lo n : ℕ) → all_in ss a lo n ≡ true → all_in (r ∷ ss) a lo n ≡ true
 more_in r ss a lo zero e = refl
 more_in r ss a lo (suc n) e = both (in_run r a (lo + n)) _ _ (and_left _ _ e) (more_in r ss a lo n (and_right _ _ e))
   where
@@ -149,7 +149,7 @@ more_in r ss a lo (suc n) e = both (in_run r a (lo + n)) _ _ (and_left _ _ e) (m
     both true y z p q = q
     both false y z p q = rw (p, q) refl
 
-fill : (r : Run) (ss : List Run) (a lo n : ℕ) → r.arg ≡ a → r.lo ≤ lo → lo + n ≤ r.end → all_in (r ∷ ss) a lo n ≡ true
+fill : (r : CoverRun) (ss : List CoverRun) (a lo n : ℕ) → r.arg ≡ a → r.lo ≤ lo → lo + n ≤ r.end → all_in (r ∷ ss) a lo n ≡ true
 fill r ss a lo zero p q s = refl
 fill r ss a lo (suc n) p q s = both _ (in_runs ss a (lo + n)) _ (one r.arg r.lo r.end a lo n p q s) (fill r ss a lo n p q (omega arith))
   where
@@ -159,7 +159,7 @@ fill r ss a lo (suc n) p q s = both _ (in_runs ss a (lo + n)) _ (one r.arg r.lo 
     both : (x y z : Bool) → x ≡ true → z ≡ true → ((x || y) && z) ≡ true
     both x y z p q = rw (p, q) refl
 
-to_all : (ss : List Run) (a lo n : ℕ) → within ss (record { arg = a; lo = lo; end = lo + n }) ≡ true → all_in ss a lo n ≡ true
+to_all : (ss : List CoverRun) (a lo n : ℕ) → within ss (record { arg = a; lo = lo; end = lo + n }) ≡ true → all_in ss a lo n ≡ true
 to_all [] a lo n e = cc
 to_all (r ∷ ss) a lo n e =
     elim (or_cases _ (within ss (record { arg = a; lo = lo; end = lo + n })) e) [
@@ -175,7 +175,7 @@ same_bool true y f g = sym (f refl)
 same_bool false true f g = g refl
 same_bool false false f g = refl
 
-pub is_covered : (ss : List Run) (ps : List Part) (p : Part) → AreApart ss → ((a b : ℕ) → in_runs ss a b ≡ is_waited ps a b) → (run_of p).lo < (run_of p).end → within ss (run_of p) ≡ covers ps p
+pub is_covered : (ss : List CoverRun) (ps : List Part) (p : Part) → AreApart ss → ((a b : ℕ) → in_runs ss a b ≡ is_waited ps a b) → (run_of p).lo < (run_of p).end → within ss (run_of p) ≡ covers ps p
 is_covered ss ps p h e f =
     same_bool _ _
     (λ w. sym (same_all ss ps e p.arg p.lo (bit_count p.ty)) ∙ to_all ss p.arg p.lo (bit_count p.ty) w)
@@ -201,26 +201,28 @@ full p h = at (bit_count p.ty) h
     at zero h = absurd (h (sym (add-zero p.lo)))
     at (suc n) h = omega arith
 
-pub covers_before : (cover : Cover) (ps : List Part) (p : Part) (r : Run) (xs : List Run) (n : ℕ) → r ≡ run_of p → xs ≡ cover.runs.items → n ≡ 0 → IsCover cover ps → (r.lo ≡ r.end → ⊥) →
-    IsPartitionPoint (λ (s : Run). starts_by s r ≡ true) (λ (s : Run). starts_by s r ≡ false) xs n → false ≡ covers ps p
+pub covers_before : (cover : Cover) (ps : List Part) (p : Part) (r : CoverRun) (xs : List CoverRun) (n : ℕ) → r ≡ run_of p → xs ≡ cover.runs.items → n ≡ 0 → IsCover cover ps → (r.lo ≡ r.end → ⊥) →
+    IsPartitionPoint (λ (s : CoverRun). starts_by s r ≡ true) (λ (s : CoverRun). starts_by s r ≡ false) xs n → false ≡ covers ps p
 covers_before cover ps p r xs n d e z h f t =
-    let k : covers ps p ≡ within xs r = sym (is_covered xs ps p (subst AreApart (sym e) h.apart) (λ a b. ap (λ (ys : List Run). in_runs ys a b) e ∙ h.bits a b) (full p (λ g. f (ap (λ (q : Run). q.lo) d ∙ g ∙ sym (ap (λ (q : Run). q.end) d))))) ∙ ap (within xs) (sym d) in
+    let k : covers ps p ≡ within xs r = sym (is_covered xs ps p (subst AreApart (sym e) h.apart) (λ a b. ap (λ (ys : List CoverRun). in_runs ys a b) e ∙ h.bits a b)
+    (full p (λ g. f (ap (λ (q : CoverRun). q.lo) d ∙ g ∙ sym (ap (λ (q : CoverRun). q.end) d))))) ∙ ap (within xs) (sym d) in
     sym (k ∙ none_within r xs (λ i y l. t.1 i y (omega arith) l))
 
-pub covers_at : (cover : Cover) (ps : List Part) (p : Part) (r : Run) (xs : List Run) (n : ℕ) (last : Run) (found : Bool) → r ≡ run_of p → xs ≡ cover.runs.items → (n ≡ 0 → ⊥) → n ≤ length xs → IsCover cover ps → (r.lo ≡ r.end → ⊥) →
-    IsPartitionPoint (λ (s : Run). starts_by s r ≡ true) (λ (s : Run). starts_by s r ≡ false) xs n →
+pub covers_at : (cover : Cover) (ps : List Part) (p : Part) (r : CoverRun) (xs : List CoverRun) (n : ℕ) (last : CoverRun) (found : Bool) → r ≡ run_of p → xs ≡ cover.runs.items → (n ≡ 0 → ⊥)
+    → n ≤ length xs → IsCover cover ps → (r.lo ≡ r.end → ⊥) →
+    IsPartitionPoint (λ (s : CoverRun). starts_by s r ≡ true) (λ (s : CoverRun). starts_by s r ≡ false) xs n →
     last ≡ get_or cover.runs.items (n - 1) last → found ≡ ends_within r last → found ≡ covers ps p
 covers_at cover ps p r xs zero last found d e z l h f t g w = absurd (z refl)
 covers_at cover ps p r xs (suc n) last found d e z l h f t g w =
     let o : suc n - 1 ≡ n = omega arith in
     let a : AreApart xs = subst AreApart (sym e) h.apart in
-    let full_p : (run_of p).lo < (run_of p).end = full p (λ m. f (ap (λ (q : Run). q.lo) d ∙ m ∙ sym (ap (λ (q : Run). q.end) d))) in
-    let full_r : r.lo < r.end = subst (λ (q : Run). q.lo < q.end) (sym d) full_p in
-    let there : last ≡ get_or xs n last = g ∙ ap (λ (k : ℕ). get_or cover.runs.items k last) o ∙ ap (λ (ys : List Run). get_or ys n last) (sym e) in
+    let full_p : (run_of p).lo < (run_of p).end = full p (λ m. f (ap (λ (q : CoverRun). q.lo) d ∙ m ∙ sym (ap (λ (q : CoverRun). q.end) d))) in
+    let full_r : r.lo < r.end = subst (λ (q : CoverRun). q.lo < q.end) (sym d) full_p in
+    let there : last ≡ get_or xs n last = g ∙ ap (λ (k : ℕ). get_or cover.runs.items k last) o ∙ ap (λ (ys : List CoverRun). get_or ys n last) (sym e) in
     w ∙ ap (ends_within r) there
     ∙ last_within r xs n last full_r a (omega arith) (λ k y m. t.0 k y (omega arith) (omega arith)) (λ k y m q. t.1 k y (omega arith) q)
     ∙ ap (within xs) d
-    ∙ is_covered xs ps p a (λ x y. ap (λ (ys : List Run). in_runs ys x y) e ∙ h.bits x y) full_p
+    ∙ is_covered xs ps p a (λ x y. ap (λ (ys : List CoverRun). in_runs ys x y) e ∙ h.bits x y) full_p
 
-pub parted_at : (cover : Cover) (ps : List Part) (r : Run) (xs : List Run) → xs ≡ cover.runs.items → IsCover cover ps → IsPartitionedBy (λ (s : Run). starts_by s r) xs
+pub parted_at : (cover : Cover) (ps : List Part) (r : CoverRun) (xs : List CoverRun) → xs ≡ cover.runs.items → IsCover cover ps → IsPartitionedBy (λ (s : CoverRun). starts_by s r) xs
 parted_at cover ps r xs e h = parted r xs (subst AreApart (sym e) h.apart)

@@ -8,7 +8,7 @@ ghost use Rattle.lh_cover.specs.Runs.{IsCover};
 
 mod runs;
 
-use crate::runs::{Run, are_same, bits_from, is_within, merged, run_of, starts_by};
+use crate::runs::{CoverRun, are_same, bits_from, is_within, merged, run_of, starts_by};
 use lh_term::part::{Part, PartList};
 use lh_types::ty::NoMemory;
 use std::alloc::Global;
@@ -16,7 +16,7 @@ use std::alloc::Global;
 /// A set of bits of arguments: in order, ranges of which no two meet or touch.
 #[derive(Drop)]
 pub struct Cover {
-    runs: Vec<Run>,
+    runs: Vec<CoverRun>,
 }
 
 impl Cover {

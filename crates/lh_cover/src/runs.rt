@@ -9,18 +9,18 @@ use std::alloc::Global;
 
 /// The bits of an argument from `lo` to before `end`.
 #[derive(Clone, Copy, PartialEq, Eq, PartialOrd, Ord)]
-pub(crate) struct Run {
+pub(crate) struct CoverRun {
     pub(crate) arg: u32,
     pub(crate) lo: u64,
     pub(crate) end: u64,
 }
 
 /// The bits of a part.
-pub(crate) fn run_of(part: &Part) -> Run
+pub(crate) fn run_of(part: &Part) -> CoverRun
     ensures { result ≡ spec.run_of part.now }
 {
     let lo = u64::from(part.lo);
-    Run {
+    CoverRun {
         arg: part.arg,
         lo,
         end: lo + u64::from(bits_of(&part.ty)),
@@ -39,7 +39,7 @@ fn bits_of(ty: &Ty) -> u32
 }
 
 /// The bits of each part that has some.
-pub(crate) fn bits_from(alloc: Global, parts: &[Part]) -> Result<Vec<Run>, NoMemory>
+pub(crate) fn bits_from(alloc: Global, parts: &[Part]) -> Result<Vec<CoverRun>, NoMemory>
     ensures { IfOk result (λ runs. runs.items ≡ spec.runs_of parts.now) }
 {
     let mut runs = Vec::new(alloc);
@@ -53,7 +53,7 @@ pub(crate) fn bits_from(alloc: Global, parts: &[Part]) -> Result<Vec<Run>, NoMem
 }
 
 /// Sorted ranges, with those that meet or touch made one.
-pub(crate) fn merged(alloc: Global, sorted: &[Run]) -> Result<Vec<Run>, NoMemory>
+pub(crate) fn merged(alloc: Global, sorted: &[CoverRun]) -> Result<Vec<CoverRun>, NoMemory>
     ensures { IfOk result (λ runs. runs.items ≡ spec.merged sorted.now) }
 {
     let mut runs = Vec::new(alloc);
@@ -74,38 +74,36 @@ pub(crate) fn merged(alloc: Global, sorted: &[Run]) -> Result<Vec<Run>, NoMemory
 }
 
 /// Whether a range that begins no earlier than another meets or touches it.
-fn touches(last: &Run, next: &Run) -> bool
+fn touches(last: &CoverRun, next: &CoverRun) -> bool
     ensures { result ≡ spec.touches last.now next.now }
 {
     last.arg == next.arg && next.lo <= last.end
 }
 
 /// Whether a range begins no later than another.
-pub(crate) fn starts_by(run: &Run, other: &Run) -> bool
+pub(crate) fn starts_by(run: &CoverRun, other: &CoverRun) -> bool
     ensures { result ≡ spec.starts_by run.now other.now }
 {
     run.arg < other.arg || run.arg == other.arg && run.lo <= other.lo
 }
 
 /// Whether a range has all bits of another that begins no earlier.
-pub(crate) fn is_within(run: &Run, other: &Run) -> bool
+pub(crate) fn is_within(run: &CoverRun, other: &CoverRun) -> bool
     ensures { result ≡ spec.ends_within run.now other.now }
 {
     run.arg == other.arg && run.end <= other.end
 }
 
 /// Whether these are the same ranges.
-pub(crate) fn are_same(runs: &[Run], others: &[Run]) -> bool
+pub(crate) fn are_same(runs: &[CoverRun], others: &[CoverRun]) -> bool
     ensures { result ≡ spec.same_runs runs.now others.now }
 {
     runs == others
 }
 
-fn put(runs: &mut Vec<Run>, run: Run) -> Result<(), NoMemory>
+fn put(runs: &mut Vec<CoverRun>, run: CoverRun) -> Result<(), NoMemory>
     ensures { OnOk result (runs.new.items ≡ runs.old.items ++ run ∷ []) }
 {
-    match runs.push(run) {
-        Ok(()) => Ok(()),
-        Err(_) => Err(NoMemory),
-    }
+    runs.push(run)?;
+    Ok(())
 }

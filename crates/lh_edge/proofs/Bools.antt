@@ -93,7 +93,8 @@ pub has_filter : (f : Tree → Bool) (xs : List Tree) (t : Tree) → has (filter
 has_filter f [] t h = cc
 has_filter f (x ∷ xs) t h = at (f x) refl (has_filter f xs t) h
   where
-    at : (b : Bool) → f x ≡ b → (has (filter f xs) t ≡ true → (has xs t ≡ true) × (f t ≡ true)) → has (cond b (x ∷ filter f xs) (filter f xs)) t ≡ true → ((same_tree x t || has xs t) ≡ true) × (f t ≡ true)
+    at : (b : Bool) → f x ≡ b → (has (filter f xs) t ≡ true → (has xs t ≡ true) × (f t ≡ true)) → has (cond b (x ∷ filter f xs) (filter f xs)) t ≡ true → ((same_tree x t || has xs t) ≡ true)
+        × (f t ≡ true)
     at true e next h = elim (or_cases (same_tree x t) (has (filter f xs) t) h) [
       | inl s ↦ (or_left (same_tree x t) (has xs t) s, sym (ap f (same_tree-is x t s)) ∙ e)
       | inr r ↦ let k = next r in (or_right (same_tree x t) (has xs t) k.0, k.1)

@@ -12,7 +12,7 @@ use Rattle.lh_edge.specs.Atoms.{edge_part, subterms, has, atoms_of, presents}
 use Rattle.lh_edge.specs.Valuations.{differ, holds}
 use Rattle.lh_edge.specs.Shown.{can_show, showing_parts, has_too_many_atoms, is_edge_shown, Shows, IsEdgeShown}
 use Rattle.lh_edge.specs.Triggers.{in_order, triggers_at, triggers_of}
-use Rattle.lh_edge.specs.Steps.{numbered, table_from, shows_at, stays_from, agree, is_checked, AreDistinct, AreOf, AreThe}
+use Rattle.lh_edge.specs.Steps.{numbered, table_from, shows_at, stays_from, agree, is_checked, AreDistinct, AreIdsOf, AreAllIdsOf}
 use Rattle.lh_edge.proofs.Bools.{and_left, and_right, and_both, same_bool, differ_is, is_differ}
 use Rattle.lh_edge.proofs.Tables.{holds_same, subterm_atom, now_atom, shown_by, is_showing, to_all, from_all}
 use Rattle.lh_edge.proofs.Numbers.{number, number_below, numbered_number, agree_numbers, agree_same, stays_tells, stays_all, shown_tells, shown_all}
@@ -89,7 +89,7 @@ many_true : (k : ℕ) → 12 < k → not (nat_le k 12) ≡ true
 many_true k h = grind (arith, nat_tests)
 
 module _ (ns : List Node) (c e : Tree) (ids : List TermId) (is : e ≡ edge_part c) where
-  pub few_atoms : AreThe ns (atoms_of e) ids → has_too_many_atoms c ≡ false
+  pub few_atoms : AreAllIdsOf ns (atoms_of e) ids → has_too_many_atoms c ≡ false
   unfolding has_too_many_atoms
   few_atoms a =
       let l : length (atoms_of e) ≤ length (trees_at ns ids) = fits_in (atoms_of e) (trees_at ns ids) (atoms_distinct e) a.whole in
@@ -97,20 +97,21 @@ module _ (ns : List Node) (c e : Tree) (ids : List TermId) (is : e ≡ edge_part
       let f = a.few in
       ap (λ u. not (nat_le (length (atoms_of u)) 12)) (sym is) ∙ few_false (length (atoms_of e)) (omega arith)
 
-  pub many_atoms : AreOf ns (atoms_of e) ids → 12 < length ids → has_too_many_atoms c ≡ true
+  pub many_atoms : AreIdsOf ns (atoms_of e) ids → 12 < length ids → has_too_many_atoms c ≡ true
   unfolding has_too_many_atoms
   many_atoms a h =
       let l : length (trees_at ns ids) ≤ length (atoms_of e) = fits_in (trees_at ns ids) (atoms_of e) a.distinct a.sound in
       let m : length (trees_at ns ids) ≡ length ids = map_length (tree_at (trees ns)) ids in
       ap (λ u. not (nat_le (length (atoms_of u)) 12)) (sym is) ∙ many_true (length (atoms_of e)) (omega arith)
 
-  same_has : AreThe ns (atoms_of e) ids → (t : Tree) → has (trees_at ns ids) t ≡ has (atoms_of (edge_part c)) t
+  same_has : AreAllIdsOf ns (atoms_of e) ids → (t : Tree) → has (trees_at ns ids) t ≡ has (atoms_of (edge_part c)) t
   same_has a t = same_bool (has (trees_at ns ids) t) (has (atoms_of e) t) (a.are.sound t) (a.whole t) ∙ ap (λ u. has (atoms_of u) t) is
 
-  pub atoms_check : (waited : List Part) → AreThe ns (atoms_of e) ids → (ps : List Part) → ps ≡ in_order (showing_parts waited (trees_at ns ids)) → is_checked c e (trees_at ns ids) ps ≡ is_edge_shown waited c
+  pub atoms_check : (waited : List Part) → AreAllIdsOf ns (atoms_of e) ids → (ps : List Part) → ps ≡ in_order (showing_parts waited (trees_at ns ids))
+      → is_checked c e (trees_at ns ids) ps ≡ is_edge_shown waited c
   atoms_check waited a ps q = (λ i. is_checked c (is i) (trees_at ns ids) (q i)) ∙ checked_is waited c (trees_at ns ids) (same_has a)
 
-  pub atoms_triggers : (waited : List Part) → AreThe ns (atoms_of e) ids → (ps : List Part) → ps ≡ in_order (showing_parts waited (trees_at ns ids)) → triggers_at c ps ≡ triggers_of waited c
+  pub atoms_triggers : (waited : List Part) → AreAllIdsOf ns (atoms_of e) ids → (ps : List Part) → ps ≡ in_order (showing_parts waited (trees_at ns ids)) → triggers_at c ps ≡ triggers_of waited c
   unfolding triggers_of
   atoms_triggers waited a ps q =
       ap (triggers_at c) (q ∙ showing_one waited (trees_at ns ids) (atoms_of (edge_part c)) a.are.distinct (atoms_distinct (edge_part c)) (same_has a))

@@ -42,7 +42,8 @@ present_past now p (x ∷ qs) q = at (same_part p x || list_any (same_part x) qs
     here true e r = ap now (same_part-is x q e)
     here false e r = r
 
-    at : (b : Bool) → mean now now (replaced (present_swaps p qs) (past_of q)) ≡ now q → mean now now (replaced (if b then present_swaps p qs else (past_of x, now_of x) ∷ present_swaps p qs) (past_of q)) ≡ now q
+    at : (b : Bool) → mean now now (replaced (present_swaps p qs) (past_of q)) ≡ now q
+        → mean now now (replaced (if b then present_swaps p qs else (past_of x, now_of x) ∷ present_swaps p qs) (past_of q)) ≡ now q
     at true r = r
     at false r = here (same_part x q) refl r
 
@@ -50,7 +51,8 @@ present_now : (now : Valuation) (p : Part) (qs : List Part) (q : Part) → mean 
 present_now now p [] q = refl
 present_now now p (x ∷ qs) q = at (same_part p x || list_any (same_part x) qs) (present_now now p qs q)
   where
-    at : (b : Bool) → mean now now (replaced (present_swaps p qs) (now_of q)) ≡ now q → mean now now (replaced (if b then present_swaps p qs else (past_of x, now_of x) ∷ present_swaps p qs) (now_of q)) ≡ now q
+    at : (b : Bool) → mean now now (replaced (present_swaps p qs) (now_of q)) ≡ now q
+        → mean now now (replaced (if b then present_swaps p qs else (past_of x, now_of x) ∷ present_swaps p qs) (now_of q)) ≡ now q
     at true r = r
     at false r = r
 
@@ -87,7 +89,8 @@ not_first p (q ∷ qs) x e =
     other : (q : Part) → same_part x q ≡ false → same_part q x ≡ false
     other q k = false_is (same_part q x) (λ s. both_ways (same_part x q) (ap (same_part x) (same_part-is q x s) ∙ same_part-refl x) k)
 
-    at : (b : Bool) → same_part q x ≡ false → is_first (present_swaps p qs) (past_of x) ≡ false → is_first (if b then present_swaps p qs else (past_of q, now_of q) ∷ present_swaps p qs) (past_of x) ≡ false
+    at : (b : Bool) → same_part q x ≡ false → is_first (present_swaps p qs) (past_of x) ≡ false → is_first (if b then present_swaps p qs else (past_of q, now_of q) ∷ present_swaps p qs) (past_of x)
+        ≡ false
     at true k r = r
     at false k r = ap (λ b. if b then true else is_first (present_swaps p qs) (past_of x)) k ∙ r
 
@@ -98,7 +101,8 @@ own_not_first p (q ∷ qs) = at (same_part p q || list_any (same_part q) qs) ref
     other : (same_part p q || list_any (same_part q) qs) ≡ false → same_part q p ≡ false
     other k = false_is (same_part q p) (λ s. let n = neither (same_part p q) (list_any (same_part q) qs) k in both_ways (same_part p q) (ap (same_part p) (same_part-is q p s) ∙ same_part-refl p) n.0)
 
-    at : (b : Bool) → (same_part p q || list_any (same_part q) qs) ≡ b → is_first (present_swaps p qs) (past_of p) ≡ false → is_first (if b then present_swaps p qs else (past_of q, now_of q) ∷ present_swaps p qs) (past_of p) ≡ false
+    at : (b : Bool) → (same_part p q || list_any (same_part q) qs) ≡ b → is_first (present_swaps p qs) (past_of p) ≡ false
+        → is_first (if b then present_swaps p qs else (past_of q, now_of q) ∷ present_swaps p qs) (past_of p) ≡ false
     at true k r = r
     at false k r = ap (λ b. if b then true else is_first (present_swaps p qs) (past_of p)) (other k) ∙ r
 

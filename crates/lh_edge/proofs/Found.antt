@@ -10,7 +10,7 @@ use Rattle.lh_term.specs.Arena.{tree_at, trees, trees_at, term_tree, ids_below, 
 use Rattle.lh_term.proofs.Arenas.{lt_of, of_lt, map_push, map_append, get_within}
 use Rattle.lh_term.proofs.Swaps.{term_there, tree_grown, in_grown, grows_on}
 use Rattle.lh_edge.specs.Atoms.{is_one_bit, is_connective, subterms, subterms_in, presents, has, atoms_of}
-use Rattle.lh_edge.specs.Steps.{joined_by, is_atom, ReachesFrom, AreDistinct, AreOf, AreThe, FindsThe, found_items, with_missing, with_atom, with_some, present_tree, IsPresent, AddsPresent}
+use Rattle.lh_edge.specs.Steps.{joined_by, is_atom, ReachesFrom, AreDistinct, AreIdsOf, AreAllIdsOf, FindsThe, found_items, with_missing, with_atom, with_some, present_tree, IsPresent, AddsPresent}
 use Rattle.lh_edge.proofs.Bools.{and_both, or_cases, or_left, or_right, false_is, both_ways, has_append, has_left, has_right, has_self, has_once}
 use Rattle.lh_edge.proofs.Joined.{joins, IsJoined, is_joined, found_in, among_below, among_marked}
 use Rattle.lh_edge.proofs.Numbers.{here_or_before}
@@ -55,18 +55,19 @@ module _ (ns : List Node) (ids : List TermId) (x : TermId) where
       at true = h
       at false = ap (λ us. has us t) at_end ∙ has_left (trees_at ns ids) (tree_at (trees ns) x ∷ []) t h
 
-  pub missing_of : (ts : List Tree) → AreOf ns ts ids → IsIn ns x → has ts (tree_at (trees ns) x) ≡ true → AreOf ns ts (with_missing ns ids x)
+  pub missing_of : (ts : List Tree) → AreIdsOf ns ts ids → IsIn ns x → has ts (tree_at (trees ns) x) ≡ true → AreIdsOf ns ts (with_missing ns ids x)
   missing_of ts a i h = at (has (trees_at ns ids) (tree_at (trees ns) x)) refl
     where
-      at : (b : Bool) → has (trees_at ns ids) (tree_at (trees ns) x) ≡ b → AreOf ns ts (if b then ids else ids ++ x ∷ [])
+      at : (b : Bool) → has (trees_at ns ids) (tree_at (trees ns) x) ≡ b → AreIdsOf ns ts (if b then ids else ids ++ x ∷ [])
       at true e = a
       at false e = record {
         are_in = ids_push (length ns) ids x a.are_in i;
         distinct = subst AreDistinct (sym at_end) (distinct_push (trees_at ns ids) (tree_at (trees ns) x) a.distinct e);
-        sound = λ t k. elim (or_cases (has (trees_at ns ids) t) (has (tree_at (trees ns) x ∷ []) t) (sym (has_append (trees_at ns ids) (tree_at (trees ns) x ∷ []) t) ∙ ap (λ us. has us t) (sym at_end) ∙ k)) [
-          | inl p ↦ a.sound t p
-          | inr p ↦ elim (or_cases (same_tree (tree_at (trees ns) x) t) false p) [ inl q ↦ ap (has ts) (sym (same_tree-is _ t q)) ∙ h | inr q ↦ cc ]
-        ];
+        sound = λ t k. elim (or_cases (has (trees_at ns ids) t) (has (tree_at (trees ns) x ∷ []) t) (sym (has_append (trees_at ns ids) (tree_at (trees ns) x ∷ []) t) ∙ ap (λ us. has us t) (sym at_end)
+            ∙ k)) [
+              | inl p ↦ a.sound t p
+              | inr p ↦ elim (or_cases (same_tree (tree_at (trees ns) x) t) false p) [ inl q ↦ ap (has ts) (sym (same_tree-is _ t q)) ∙ h | inr q ↦ cc ]
+            ];
       }
 
   -- what was there stays in front
@@ -77,13 +78,13 @@ module _ (ns : List Node) (ids : List TermId) (x : TermId) where
       at true = ([], sym (append-nil ids))
       at false = (x ∷ [], refl)
 
-none_of : (ns : List Node) (ts : List Tree) → AreOf ns ts []
+none_of : (ns : List Node) (ts : List Tree) → AreIdsOf ns ts []
 none_of ns ts = record { are_in = refl; distinct = tt; sound = λ t h. cc }
 
 -- ---- the subterms found so far
 
 pub record FoundSoFar (ns : List Node) (e : TermId) (flags : List Bool) (found : List TermId) (i : ℕ) : Type 0 where
-  pub of : AreOf ns (subterms (tree_at (trees ns) e)) found
+  pub of : AreIdsOf ns (subterms (tree_at (trees ns) e)) found
   pub each : (j : ℕ) → j < i → slice_get flags j ≡ Some true → is_atom (tree_at (trees ns) (record { 0 = j })) ≡ true → has (trees_at ns found) (tree_at (trees ns) (record { 0 = j })) ≡ true
 
 pub found_start : (ns : List Node) (e : TermId) (flags : List Bool) (found : List TermId) → found ≡ [] → FoundSoFar ns e flags found 0
@@ -157,7 +158,8 @@ module _ (ns : List Node) (e : TermId) (flags : List Bool) (found : List TermId)
       within : j < length flags
       within = get_within flags j true f
 
-      at : (b : Bool) → is_atom J ≡ b → ((i : ℕ) → i < j → slice_get flags i ≡ Some true → has (subterms (tree_at (trees ns) (record { 0 = i }))) t ≡ true → has (trees_at ns found) t ≡ true) → has (trees_at ns found) t ≡ true
+      at : (b : Bool) → is_atom J ≡ b → ((i : ℕ) → i < j → slice_get flags i ≡ Some true → has (subterms (tree_at (trees ns) (record { 0 = i }))) t ≡ true → has (trees_at ns found) t ≡ true)
+          → has (trees_at ns found) t ≡ true
       at true q next =
           let alone : has (J ∷ []) t ≡ true = ap (λ us. has us t) (sym (atom_alone J q)) ∙ h in
           elim (or_cases (same_tree J t) false alone) [ inl p ↦ ap (has (trees_at ns found)) (sym (same_tree-is J t p)) ∙ w.each j within f q | inr p ↦ cc ]
@@ -172,7 +174,8 @@ module _ (ns : List Node) (e : TermId) (flags : List Bool) (found : List TermId)
   pub all_found : has (subterms (tree_at (trees ns) e)) t ≡ true → has (trees_at ns found) t ≡ true
   all_found h = below_all (e.0 + 1) e.0 (omega arith) r.top h
 
-pub finds_all : (ns : List Node) (e : TermId) (flags : List Bool) (found : List TermId) (i : ℕ) → IsIn ns e → ReachesFrom ns e flags 0 → i ≡ length flags → length found ≤ 12 → FoundSoFar ns e flags found i → AreThe ns (subterms (tree_at (trees ns) e)) found
+pub finds_all : (ns : List Node) (e : TermId) (flags : List Bool) (found : List TermId) (i : ℕ) → IsIn ns e → ReachesFrom ns e flags 0 → i ≡ length flags → length found ≤ 12
+    → FoundSoFar ns e flags found i → AreAllIdsOf ns (subterms (tree_at (trees ns) e)) found
 finds_all ns e flags found i l r n few w =
     let v : FoundSoFar ns e flags found (length flags) = subst (λ (k : ℕ). FoundSoFar ns e flags found k) n w in
     record { are = v.of; few = few; whole = λ t h. all_found ns e flags found r v t l h }
@@ -193,7 +196,7 @@ module _ (old cur : List Node) (g : Grows old cur) where
       let l : x.0 < length old = lt_of x.0 (length old) (first_so (nat_lt x.0 (length old)) (ids_below (length old) xs) h) in
       and_both _ _ (of_lt x.0 (length cur) (in_grown old cur g x l)) (ids_grown xs (second_so (nat_lt x.0 (length old)) (ids_below (length old) xs) h))
 
-  pub of_grown : (ts : List Tree) (xs : List TermId) → AreOf old ts xs → AreOf cur ts xs
+  pub of_grown : (ts : List Tree) (xs : List TermId) → AreIdsOf old ts xs → AreIdsOf cur ts xs
   of_grown ts xs a =
       let e = trees_grown xs a.are_in in
       record {
@@ -208,11 +211,11 @@ with_presents e = subterms e ++ presents (subterms e)
 -- the values now of the first k of the subterms are there
 pub record PresentSoFar (old cur : List Node) (e : Tree) (first ids : List TermId) (k : ℕ) : Type 0 where
   pub grows : Grows old cur
-  pub of : AreOf cur (with_presents e) ids
+  pub of : AreIdsOf cur (with_presents e) ids
   pub front : (rest : List TermId) × (ids ≡ first ++ rest)
   pub done : (j : ℕ) (x : TermId) (t : Tree) → j < k → slice_get first j ≡ Some x → present_tree (tree_at (trees old) x) ≡ Some t → has (trees_at cur ids) t ≡ true
 
-pub present_start : (ns : List Node) (e : Tree) (first : List TermId) → AreThe ns (subterms e) first → PresentSoFar ns ns e first first 0
+pub present_start : (ns : List Node) (e : Tree) (first : List TermId) → AreAllIdsOf ns (subterms e) first → PresentSoFar ns ns e first first 0
 present_start ns e first a = record {
   grows = ([], sym (append-nil ns));
   of = record { are_in = a.are.are_in; distinct = a.are.distinct; sound = λ t h. has_left (subterms e) (presents (subterms e)) t (a.are.sound t h) };
@@ -287,7 +290,7 @@ no_present e p t q h = elim (or_cases (has (subterms e) p) (has (presents (subte
   | inr k ↦ let (r, is, m) = present_from (subterms e) p k in let n : None ≡ Some t = ap present_tree (sym is) ∙ q in cc
 ]
 
-module _ (old cur : List Node) (e : Tree) (first ids : List TermId) (k : ℕ) (a : AreThe old (subterms e) first) (s : PresentSoFar old cur e first ids k) (l : k < length first) where
+module _ (old cur : List Node) (e : Tree) (first ids : List TermId) (k : ℕ) (a : AreAllIdsOf old (subterms e) first) (s : PresentSoFar old cur e first ids k) (l : k < length first) where
   here : (d : TermId) → slice_get first k ≡ Some (get_or ids k d)
   here d = let (rest, f) = s.front in get_front first rest k d l ∙ ap (λ xs. Some (get_or xs k d)) (sym f)
 
@@ -350,7 +353,8 @@ module _ (old cur : List Node) (e : Tree) (first ids : List TermId) (k : ℕ) (a
             ];
           })
 
-pub all_present : (old cur : List Node) (e : Tree) (first ids : List TermId) (k : ℕ) → AreThe old (subterms e) first → PresentSoFar old cur e first ids k → k ≡ length first → (t : Tree) → has (with_presents e) t ≡ true → has (trees_at cur ids) t ≡ true
+pub all_present : (old cur : List Node) (e : Tree) (first ids : List TermId) (k : ℕ) → AreAllIdsOf old (subterms e) first → PresentSoFar old cur e first ids k → k ≡ length first → (t : Tree)
+    → has (with_presents e) t ≡ true → has (trees_at cur ids) t ≡ true
 all_present old cur e first ids k a s n t h = elim (or_cases (has (subterms e) t) (has (presents (subterms e)) t) (sym (has_append (subterms e) (presents (subterms e)) t) ∙ h)) [
   | inl p ↦
       let (rest, f) = s.front in
@@ -373,10 +377,11 @@ atoms_has : (e t : Tree) → has (atoms_of e) t ≡ has (with_presents e) t
 unfolding atoms_of
 atoms_has e t = has_once (subterms e ++ presents (subterms e)) t
 
-pub of_atoms : (ns : List Node) (e : Tree) (ids : List TermId) → AreOf ns (with_presents e) ids → AreOf ns (atoms_of e) ids
+pub of_atoms : (ns : List Node) (e : Tree) (ids : List TermId) → AreIdsOf ns (with_presents e) ids → AreIdsOf ns (atoms_of e) ids
 of_atoms ns e ids a = record { are_in = a.are_in; distinct = a.distinct; sound = λ t h. atoms_has e t ∙ a.sound t h }
 
-pub the_atoms : (old cur : List Node) (e : Tree) (first ids : List TermId) (k : ℕ) → AreThe old (subterms e) first → PresentSoFar old cur e first ids k → k ≡ length first → length ids ≤ 12 → AreThe cur (atoms_of e) ids
+pub the_atoms : (old cur : List Node) (e : Tree) (first ids : List TermId) (k : ℕ) → AreAllIdsOf old (subterms e) first → PresentSoFar old cur e first ids k → k ≡ length first → length ids ≤ 12
+    → AreAllIdsOf cur (atoms_of e) ids
 the_atoms old cur e first ids k a s n few = record {
   are = of_atoms cur e ids s.of;
   few = few;
@@ -392,7 +397,7 @@ too_many ns e (ids, a, l) = (ids, of_atoms ns e ids (record { are_in = a.are_in;
 pub found_of_none : {A : Type 0} (ns : List Node) (ts : List Tree) (o : Option (Vec TermId A)) → o ≡ None → FindsThe ns ts (found_items o) → FindsThe ns ts None
 found_of_none {A} ns ts o e h = subst (λ (p : Option (Vec TermId A)). FindsThe ns ts (found_items p)) e h
 
-pub found_of_some : {A : Type 0} (ns : List Node) (ts : List Tree) (o : Option (Vec TermId A)) (v : Vec TermId A) → o ≡ Some v → FindsThe ns ts (found_items o) → AreThe ns ts v.items
+pub found_of_some : {A : Type 0} (ns : List Node) (ts : List Tree) (o : Option (Vec TermId A)) (v : Vec TermId A) → o ≡ Some v → FindsThe ns ts (found_items o) → AreAllIdsOf ns ts v.items
 found_of_some {A} ns ts o v e h = subst (λ (p : Option (Vec TermId A)). FindsThe ns ts (found_items p)) e h
 
 pub more_than : (ns : List Node) (e : Tree) (cur : List Node) (first ids : List TermId) (k : ℕ) → PresentSoFar ns cur e first ids k → 12 < length ids → FindsThe cur (atoms_of e) None

@@ -26,7 +26,8 @@ pub replaced_there : (ps qs : List (Tree × Tree)) (t : Tree) → is_first ps t 
 replaced_there [] qs t h = cc
 replaced_there (p ∷ ps) qs t h = at (same_tree p.0 t) h (replaced_there ps qs t)
   where
-    at : (b : Bool) → (if b then true else is_first ps t) ≡ true → (is_first ps t ≡ true → replaced (ps ++ qs) t ≡ replaced ps t) → (if b then p.1 else replaced (ps ++ qs) t) ≡ (if b then p.1 else replaced ps t)
+    at : (b : Bool) → (if b then true else is_first ps t) ≡ true → (is_first ps t ≡ true → replaced (ps ++ qs) t ≡ replaced ps t)
+        → (if b then p.1 else replaced (ps ++ qs) t) ≡ (if b then p.1 else replaced ps t)
     at true k next = refl
     at false k next = next k
 
@@ -196,7 +197,8 @@ present_past p (x ∷ qs) q n h = at (same_part p x || list_any (same_part x) qs
     at false e true f next = ap (λ (b : Bool). if b then now_of x else replaced (present_swaps p qs) (past_of q)) f ∙ ap now_of (same_part-is x q f)
     at false e false f next = ap (λ (b : Bool). if b then now_of x else replaced (present_swaps p qs) (past_of q)) f ∙ next (other f)
 
-pub gate_is : (rise : Bool) (p : Part) (c : Tree) (ps : List (Tree × Tree)) → SwapSoFar rise p ps → ((q : Part) → list_any (same_part q) (pasts_in c) ≡ true → is_first ps (past_of q) ≡ true) → swapped ps c ≡ gate_of rise p c
+pub gate_is : (rise : Bool) (p : Part) (c : Tree) (ps : List (Tree × Tree)) → SwapSoFar rise p ps → ((q : Part) → list_any (same_part q) (pasts_in c) ≡ true → is_first ps (past_of q) ≡ true)
+    → swapped ps c ≡ gate_of rise p c
 unfolding gate_of
 gate_is rise p c ps s whole = swapped_same ps (edge_swaps rise p c) (λ q. now_at q (same_part p q) refl) c (λ q h. past_at q (same_part p q) refl h)
   where
@@ -204,6 +206,7 @@ gate_is rise p c ps s whole = swapped_same ps (edge_swaps rise p c) (λ q. now_a
     now_at q true e = ap (λ r. replaced ps (now_of r)) (sym (same_part-is p q e)) ∙ s.own_now
     now_at q false e = replaced_none ps (now_of q) (s.other_now q e) ∙ sym (present_now p (pasts_in c) q)
 
-    past_at : (q : Part) (b : Bool) → same_part p q ≡ b → list_any (same_part q) (pasts_in c) ≡ true → replaced ps (past_of q) ≡ (if b then bit_of (not rise) else replaced (present_swaps p (pasts_in c)) (past_of q))
+    past_at : (q : Part) (b : Bool) → same_part p q ≡ b → list_any (same_part q) (pasts_in c) ≡ true
+        → replaced ps (past_of q) ≡ (if b then bit_of (not rise) else replaced (present_swaps p (pasts_in c)) (past_of q))
     past_at q true e h = ap (λ r. replaced ps (past_of r)) (sym (same_part-is p q e)) ∙ s.own_past
     past_at q false e h = s.other_past q e (whole q h) ∙ sym (present_past p (pasts_in c) q e h)

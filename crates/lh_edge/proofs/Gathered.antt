@@ -12,7 +12,7 @@ use Rattle.lh_term.specs.Tree.{Tree, constant, past_of, now_of, operation, choic
 use Rattle.lh_term.specs.Same.{same_part, same_part-is}
 use Rattle.lh_term.specs.SameTree.{same_tree, same_tree-refl}
 use Rattle.lh_term.specs.Make.{bit_of}
-use Rattle.lh_term.specs.Arena.{tree_at, trees, terms_in, term_tree, term_below, ids_below, IsIn, Grows, Stands}
+use Rattle.lh_term.specs.Arena.{tree_at, trees, terms_in, term_tree, term_below, ids_below, IsIn, Grows, StandsForTree}
 use Rattle.lh_term.specs.Subst.{PairsIn, pairs_at, is_first}
 use Rattle.lh_term.specs.Reach.{operands_of, AllSet, Reaches}
 use Rattle.lh_term.proofs.Arenas.{lt_of, trees_grow, tree_below, term_more}
@@ -117,7 +117,8 @@ terms_count [] = refl
 terms_count (x ∷ xs) = ap suc (terms_count xs)
 
 at_before : (old cur : List Node) → Grows old cur → (i : ℕ) → i < length old → (k : Term) → slice_get (terms_in cur) i ≡ Some k → slice_get (terms_in old) i ≡ Some k
-at_before old cur g i l k e = sym (get_front (terms_in old) (terms_in g.0) i (omega (arith, terms_count old))) ∙ ap (λ xs. slice_get xs i) (sym (terms_append old g.0)) ∙ ap (λ ns. slice_get (terms_in ns) i) (sym g.1) ∙ e
+at_before old cur g i l k e = sym (get_front (terms_in old) (terms_in g.0) i (omega (arith, terms_count old))) ∙ ap (λ xs. slice_get xs i) (sym (terms_append old g.0))
+    ∙ ap (λ ns. slice_get (terms_in ns) i) (sym g.1) ∙ e
 
 seen_before : (old cur : List Node) → Grows old cur → (x : TermId) → IsIn old x → SeesTerm cur x → SeesTerm old x
 seen_before old cur g x h s =
@@ -212,12 +213,14 @@ module _ (old cur : List Node) (flags : List Bool) (pairs : List (TermId × Term
       unset : (j : ℕ) → j ≡ i → slice_get flags j ≡ Some true → ⊥
       unset j p o = let w : Some false ≡ Some true = sym n ∙ ap (slice_get flags) (sym p) ∙ o in cc
 
-  pub gather_turn : (new : List Node) (more : List (TermId × TermId)) (f : Bool) → Grows cur new → slice_get flags i ≡ Some f → GathersIf f cur new pairs (record { 0 = i }) more → GatheredSoFar old new flags more (i + 1)
+  pub gather_turn : (new : List Node) (more : List (TermId × TermId)) (f : Bool) → Grows cur new → slice_get flags i ≡ Some f → GathersIf f cur new pairs (record { 0 = i }) more
+      → GatheredSoFar old new flags more (i + 1)
   gather_turn new more true g e h = gather_next new more g h
   gather_turn new more false g e h = gather_skip new more g e h
 
 module _ (old cur : List Node) (c : TermId) (flags : List Bool) (r : Reaches old c flags) (pairs : List (TermId × TermId)) (n : ℕ) (s : GatheredSoFar old cur flags pairs n) (q : Part) where
-  below_all : (m j : ℕ) → j < m → j < n → slice_get flags j ≡ Some true → list_any (same_part q) (pasts_in (tree_at (trees old) (record { 0 = j }))) ≡ true → is_first (pairs_at cur pairs) (past_of q) ≡ true
+  below_all : (m j : ℕ) → j < m → j < n → slice_get flags j ≡ Some true → list_any (same_part q) (pasts_in (tree_at (trees old) (record { 0 = j }))) ≡ true
+      → is_first (pairs_at cur pairs) (past_of q) ≡ true
   below_all zero j l k o h = absurd (omega arith)
   below_all (suc m) j l k o h =
       let t = s.seen j k o in
@@ -226,7 +229,8 @@ module _ (old cur : List Node) (c : TermId) (flags : List Bool) (r : Reaches old
         | inr b ↦ let low = b.lower in below_all m b.id (omega arith) (omega arith) (b.is_set flags (r.closed j t.term (omega arith) o t.at)) b.there
       ]
 
-pub gathered_all : (old cur : List Node) (flags : List Bool) (pairs : List (TermId × TermId)) (c : TermId) (n : ℕ) → Reaches old c flags → n ≡ length flags → GatheredSoFar old cur flags pairs n → IsPresents cur (tree_at (trees old) c) pairs
+pub gathered_all : (old cur : List Node) (flags : List Bool) (pairs : List (TermId × TermId)) (c : TermId) (n : ℕ) → Reaches old c flags → n ≡ length flags → GatheredSoFar old cur flags pairs n
+    → IsPresents cur (tree_at (trees old) c) pairs
 gathered_all old cur flags pairs c n r e s = record {
   pairs_in = s.pairs_in;
   each = s.each;
@@ -243,8 +247,10 @@ pub record GateSoFar (old cur : List Node) (rise : Bool) (p : Part) (presents le
   pub so_far : SwapSoFar rise p (pairs_at cur swap)
   pub done : (t : Tree) → is_first (pairs_at old presents) t ≡ true → (is_first (pairs_at cur swap) t || is_first (pairs_at old left) t) ≡ true
 
-pub gate_start : (old cur : List Node) (rise : Bool) (p : Part) (c : Tree) (presents : List (TermId × TermId)) (past now before after : TermId) (swap : List (TermId × TermId)) → p.ty ≡ int_type 1 → Grows old cur
-    → IsPresents old c presents → Stands cur past (past_of p) → Stands cur now (now_of p) → Stands cur before (bit_of (not rise)) → Stands cur after (bit_of rise) → swap ≡ (past, before) ∷ (now, after) ∷ [] → GateSoFar old cur rise p presents presents swap
+pub gate_start : (old cur : List Node) (rise : Bool) (p : Part) (c : Tree) (presents : List (TermId × TermId)) (past now before after : TermId) (swap : List (TermId × TermId)) → p.ty ≡ int_type 1
+    → Grows old cur
+    → IsPresents old c presents → StandsForTree cur past (past_of p) → StandsForTree cur now (now_of p) → StandsForTree cur before (bit_of (not rise)) → StandsForTree cur after (bit_of rise)
+    → swap ≡ (past, before) ∷ (now, after) ∷ [] → GateSoFar old cur rise p presents presents swap
 gate_start old cur rise p c presents past now before after swap t g i a b d f m =
     let e : pairs_at cur ((past, before) ∷ (now, after) ∷ []) ≡ (past_of p, bit_of (not rise)) ∷ (now_of p, bit_of rise) ∷ [] =
     λ j. (a.tree j, d.tree j) ∷ (b.tree j, f.tree j) ∷ []
@@ -272,7 +278,8 @@ with_in ns ps x h a b = at (is_first (pairs_at ns ps) (tree_at (trees ns) x.0))
     at true = h
     at false = in_append ns ps (x ∷ []) h (a, b, tt)
 
-gate_step : (old cur : List Node) (rise : Bool) (p : Part) (presents left swap : List (TermId × TermId)) (x : TermId × TermId) → GateSoFar old cur rise p presents (x ∷ left) swap → GateSoFar old cur rise p presents left (with_pair cur swap x)
+gate_step : (old cur : List Node) (rise : Bool) (p : Part) (presents left swap : List (TermId × TermId)) (x : TermId × TermId) → GateSoFar old cur rise p presents (x ∷ left) swap
+    → GateSoFar old cur rise p presents left (with_pair cur swap x)
 gate_step old cur rise p presents left swap x s =
     let x0 : IsIn old x.0 = s.left_in.0 in
     let x1 : IsIn old x.1 = s.left_in.1 in
@@ -306,7 +313,8 @@ take_whole (x ∷ xs) = ap (λ r. x ∷ r) (take_whole xs)
 rest_of : (y : TermId × TermId) (r : List (TermId × TermId)) → take (length (y ∷ r) - 1) (drop 1 (y ∷ r)) ≡ r
 rest_of y r = let e : length (y ∷ r) - 1 ≡ length r = omega arith in ap (λ n. take n (drop 1 (y ∷ r))) e ∙ take_whole r
 
-pub gate_next : (old cur : List Node) (rise : Bool) (p : Part) (presents left swap more : List (TermId × TermId)) (d : TermId × TermId) → GateSoFar old cur rise p presents left swap → 1 ≤ length left → more ≡ with_pair cur swap (get_or left 0 d)
+pub gate_next : (old cur : List Node) (rise : Bool) (p : Part) (presents left swap more : List (TermId × TermId)) (d : TermId × TermId) → GateSoFar old cur rise p presents left swap → 1 ≤ length left
+    → more ≡ with_pair cur swap (get_or left 0 d)
     → GateSoFar old cur rise p presents (take (length left - 1) (drop 1 left)) more
 gate_next old cur rise p presents [] swap more d s h m = absurd (omega arith)
 gate_next old cur rise p presents (x ∷ left) swap more d s h m =
@@ -314,11 +322,13 @@ gate_next old cur rise p presents (x ∷ left) swap more d s h m =
     (subst (λ (w : List (TermId × TermId)). GateSoFar old cur rise p presents left w) (sym m) (gate_step old cur rise p presents left swap x s))
 
 -- the first of what is left
-pub gate_first : (old cur : List Node) (rise : Bool) (p : Part) (presents left swap : List (TermId × TermId)) (d : TermId × TermId) → GateSoFar old cur rise p presents left swap → 1 ≤ length left → IsIn cur (get_or left 0 d).0
+pub gate_first : (old cur : List Node) (rise : Bool) (p : Part) (presents left swap : List (TermId × TermId)) (d : TermId × TermId) → GateSoFar old cur rise p presents left swap → 1 ≤ length left
+    → IsIn cur (get_or left 0 d).0
 gate_first old cur rise p presents [] swap d s h = absurd (omega arith)
 gate_first old cur rise p presents (x ∷ left) swap d s h = in_grown old cur s.grows x.0 s.left_in.0
 
-pub gate_last : (old cur : List Node) (rise : Bool) (p : Part) (c : Tree) (presents left swap : List (TermId × TermId)) → IsPresents old c presents → length left ≡ 0 → GateSoFar old cur rise p presents left swap → MakesGate cur rise p c swap
+pub gate_last : (old cur : List Node) (rise : Bool) (p : Part) (c : Tree) (presents left swap : List (TermId × TermId)) → IsPresents old c presents → length left ≡ 0
+    → GateSoFar old cur rise p presents left swap → MakesGate cur rise p c swap
 gate_last old cur rise p c presents (x ∷ left) swap i n s = absurd (omega arith)
 gate_last old cur rise p c presents [] swap i n s = record {
   pairs_in = s.swap_in;

@@ -11,7 +11,7 @@ use Rattle.lh_term.specs.declared.term.Term.TheVariants.{Op as Applied}
 use Rattle.lh_term.specs.declared.term.Node.{Node}
 use Rattle.lh_term.specs.Tree.{Tree, tree_row}
 use Rattle.lh_term.specs.Types.{IsTyped, type_of}
-use Rattle.lh_term.specs.Arena.{tree_at, trees, trees_at, term_tree, term_below, ids_below, IsIn, AreIn, Grows, Stands}
+use Rattle.lh_term.specs.Arena.{tree_at, trees, trees_at, term_tree, term_below, ids_below, IsIn, AreIn, Grows, StandsForTree}
 use Rattle.lh_term.specs.Conjuncts.{conjuncts_of, conjunction, conjunction_from}
 use Rattle.lh_term.specs.Make.{make_operation, bit_of}
 use Rattle.lh_term.proofs.Arenas.{lt_of, ids_more}
@@ -32,7 +32,8 @@ row_past : (ts : List Tree) → list_any contains_past ts ≡ some_past (tree_ro
 row_past [] = refl
 row_past (t ∷ ts) = ap (λ b. contains_past t || b) (row_past ts)
 
-pub op_past : (ns : List Node) (x : TermId) (k : Term) (op : Op) (args ys : List TermId) → k ≡ Applied op args → ys ≡ args → term_tree (trees ns) k ≡ tree_at (trees ns) x → list_any contains_past (trees_at ns ys) ≡ contains_past (tree_at (trees ns) x)
+pub op_past : (ns : List Node) (x : TermId) (k : Term) (op : Op) (args ys : List TermId) → k ≡ Applied op args → ys ≡ args → term_tree (trees ns) k ≡ tree_at (trees ns) x
+    → list_any contains_past (trees_at ns ys) ≡ contains_past (tree_at (trees ns) x)
 op_past ns x k op args ys e f shown =
     ap (λ xs. list_any contains_past (trees_at ns xs)) f ∙ row_past (trees_at ns args) ∙ ap contains_past (ap (term_tree (trees ns)) (sym e) ∙ shown)
 
@@ -74,7 +75,8 @@ pub record TellSoFar (ns : List Node) (flags : List Bool) (i : ℕ) : Type 0 whe
 pub tell_start : (ns : List Node) (flags : List Bool) → flags ≡ [] → TellSoFar ns flags 0
 tell_start ns flags e = subst (λ (fs : List Bool). TellSoFar ns fs 0) (sym e) (record { len = refl; tell = λ i l. absurd (omega arith) })
 
-pub tell_next : (ns : List Node) (flags more : List Bool) (i : ℕ) (b : Bool) → TellSoFar ns flags i → b ≡ contains_past (tree_at (trees ns) (record { 0 = i })) → more ≡ flags ++ b ∷ [] → TellSoFar ns more (i + 1)
+pub tell_next : (ns : List Node) (flags more : List Bool) (i : ℕ) (b : Bool) → TellSoFar ns flags i → b ≡ contains_past (tree_at (trees ns) (record { 0 = i })) → more ≡ flags ++ b ∷ []
+    → TellSoFar ns more (i + 1)
 tell_next ns flags more i b t e m = subst (λ (fs : List Bool). TellSoFar ns fs (i + 1)) (sym m) (record {
   len = omega (arith, length-append flags (b ∷ []), t.len);
   tell = λ j l. elim (here_or_before j i (omega (arith, length-append flags (b ∷ []), t.len))) [
@@ -98,7 +100,8 @@ pub record Conjoining (old cur : List Node) (flags : List Bool) (xs left : List 
   pub within : ids_below (length flags) left ≡ true
   pub same : conjunction_from (tree_at (trees cur) all) (filter contains_past (trees_at old left)) ≡ conjunction (filter contains_past (trees_at old xs))
 
-pub conjoin_start : (old cur : List Node) (flags : List Bool) (xs : List TermId) (all : TermId) → Grows old cur → Stands cur all (bit_of true) → AreIn old xs → AllBits (trees_at old xs) → ids_below (length flags) xs ≡ true → Conjoining old cur flags xs xs all
+pub conjoin_start : (old cur : List Node) (flags : List Bool) (xs : List TermId) (all : TermId) → Grows old cur → StandsForTree cur all (bit_of true) → AreIn old xs → AllBits (trees_at old xs)
+    → ids_below (length flags) xs ≡ true → Conjoining old cur flags xs xs all
 conjoin_start old cur flags xs all g s i b w = record {
   grows = g;
   all_in = s.is_in;
@@ -124,7 +127,8 @@ pub record FirstLeft (old cur : List Node) (flags : List Bool) (x : TermId) : Ty
   pub bit : IntTerm (tree_at (trees cur) x) 1
   pub flag : get_or flags x.0 false ≡ contains_past (tree_at (trees old) x)
 
-pub first_left : (old cur : List Node) (flags : List Bool) (xs left : List TermId) (all d : TermId) → TellPasts old flags → Conjoining old cur flags xs left all → 1 ≤ length left → FirstLeft old cur flags (get_or left 0 d)
+pub first_left : (old cur : List Node) (flags : List Bool) (xs left : List TermId) (all d : TermId) → TellPasts old flags → Conjoining old cur flags xs left all → 1 ≤ length left
+    → FirstLeft old cur flags (get_or left 0 d)
 first_left old cur flags xs [] all d t c h = absurd (omega arith)
 first_left old cur flags xs (x ∷ left) all d t c h =
     let i : x.0 < length old = lt_of x.0 (length old) (first_so (nat_lt x.0 (length old)) (ids_below (length old) left) c.left_in) in
@@ -150,7 +154,8 @@ conjoin_rest old cur flags xs left x all c e = record {
   same = e;
 }
 
-pub conjoin_skip : (old cur : List Node) (flags : List Bool) (xs left : List TermId) (all d : TermId) → TellPasts old flags → Conjoining old cur flags xs left all → 1 ≤ length left → get_or flags (get_or left 0 d).0 false ≡ false → Conjoining old cur flags xs (take (length left - 1) (drop 1 left)) all
+pub conjoin_skip : (old cur : List Node) (flags : List Bool) (xs left : List TermId) (all d : TermId) → TellPasts old flags → Conjoining old cur flags xs left all → 1 ≤ length left
+    → get_or flags (get_or left 0 d).0 false ≡ false → Conjoining old cur flags xs (take (length left - 1) (drop 1 left)) all
 conjoin_skip old cur flags xs [] all d t c h f = absurd (omega arith)
 conjoin_skip old cur flags xs (x ∷ left) all d t c h f =
     let k = first_left old cur flags xs (x ∷ left) all d t c h in
@@ -159,8 +164,10 @@ conjoin_skip old cur flags xs (x ∷ left) all d t c h f =
     subst (λ (r : List TermId). Conjoining old cur flags xs r all) (sym (rest_of x left))
     (conjoin_rest old cur flags xs left x all c (ap (conjunction_from (tree_at (trees cur) all)) (sym e) ∙ c.same))
 
-pub conjoin_next : (old cur new : List Node) (flags : List Bool) (xs left : List TermId) (all more d : TermId) → TellPasts old flags → Conjoining old cur flags xs left all → 1 ≤ length left → get_or flags (get_or left 0 d).0 false ≡ true
-    → Grows cur new → Stands new more (make_operation And (tree_at (trees cur) all ∷ tree_at (trees cur) (get_or left 0 d) ∷ [])) → Conjoining old new flags xs (take (length left - 1) (drop 1 left)) more
+pub conjoin_next : (old cur new : List Node) (flags : List Bool) (xs left : List TermId) (all more d : TermId) → TellPasts old flags → Conjoining old cur flags xs left all → 1 ≤ length left
+    → get_or flags (get_or left 0 d).0 false ≡ true
+    → Grows cur new → StandsForTree new more (make_operation And (tree_at (trees cur) all ∷ tree_at (trees cur) (get_or left 0 d) ∷ []))
+    → Conjoining old new flags xs (take (length left - 1) (drop 1 left)) more
 conjoin_next old cur new flags xs [] all more d t c h f g s = absurd (omega arith)
 conjoin_next old cur new flags xs (x ∷ left) all more d t c h f g s =
     let k = first_left old cur flags xs (x ∷ left) all d t c h in
@@ -181,15 +188,18 @@ conjoin_next old cur new flags xs (x ∷ left) all more d t c h f g s =
           ∙ ap (conjunction_from A) (sym e) ∙ c.same;
     })
 
-pub conjoin_end : (old cur : List Node) (flags : List Bool) (xs left : List TermId) (all : TermId) → length left ≡ 0 → Conjoining old cur flags xs left all → Stands cur all (conjunction (filter contains_past (trees_at old xs)))
+pub conjoin_end : (old cur : List Node) (flags : List Bool) (xs left : List TermId) (all : TermId) → length left ≡ 0 → Conjoining old cur flags xs left all
+    → StandsForTree cur all (conjunction (filter contains_past (trees_at old xs)))
 conjoin_end old cur flags xs [] all n c = record { is_in = c.all_in; tree = c.same }
 conjoin_end old cur flags xs (x ∷ left) all n c = absurd (omega arith)
 
 -- ---- the edge part
 
-pub edge_bits : (ns : List Node) (x : TermId) (xs ys : List TermId) → IsTyped (tree_at (trees ns) x) → type_of (tree_at (trees ns) x) ≡ int_type 1 → trees_at ns xs ≡ conjuncts_of (tree_at (trees ns) x) → ys ≡ xs → AllBits (trees_at ns ys)
+pub edge_bits : (ns : List Node) (x : TermId) (xs ys : List TermId) → IsTyped (tree_at (trees ns) x) → type_of (tree_at (trees ns) x) ≡ int_type 1
+    → trees_at ns xs ≡ conjuncts_of (tree_at (trees ns) x) → ys ≡ xs → AllBits (trees_at ns ys)
 edge_bits ns x xs ys h e c f = subst AllBits (sym (ap (trees_at ns) f ∙ c)) (conjuncts_are_bits (tree_at (trees ns) x) h e)
 
-pub edge_is : (ns : List Node) (x : TermId) (xs ys : List TermId) → trees_at ns xs ≡ conjuncts_of (tree_at (trees ns) x) → ys ≡ xs → conjunction (filter contains_past (trees_at ns ys)) ≡ edge_part (tree_at (trees ns) x)
+pub edge_is : (ns : List Node) (x : TermId) (xs ys : List TermId) → trees_at ns xs ≡ conjuncts_of (tree_at (trees ns) x) → ys ≡ xs
+    → conjunction (filter contains_past (trees_at ns ys)) ≡ edge_part (tree_at (trees ns) x)
 unfolding edge_part
 edge_is ns x xs ys c f = ap (λ ts. conjunction (filter contains_past ts)) (ap (trees_at ns) f ∙ c)

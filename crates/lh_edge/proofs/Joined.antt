@@ -210,7 +210,8 @@ reach_skip ns e flags i r f = record {
 }
 
 -- what a joined term has is of the edge part
-joined_sound : (ns : List Node) (i : ℕ) (k : Term) → IsTerm ns (record { 0 = i }) k → (j : ℕ) (t : Tree) → Among (joined_by (trees ns) k) j → has (subterms (tree_at (trees ns) (record { 0 = j }))) t ≡ true → has (subterms (tree_at (trees ns) (record { 0 = i }))) t ≡ true
+joined_sound : (ns : List Node) (i : ℕ) (k : Term) → IsTerm ns (record { 0 = i }) k → (j : ℕ) (t : Tree) → Among (joined_by (trees ns) k) j
+    → has (subterms (tree_at (trees ns) (record { 0 = j }))) t ≡ true → has (subterms (tree_at (trees ns) (record { 0 = i }))) t ≡ true
 joined_sound ns i k s j t a h = at (is_atom (term_tree (trees ns) k)) refl (is_joined (trees ns) k)
   where
     at : (b : Bool) → is_atom (term_tree (trees ns) k) ≡ b → IsJoined (trees ns) k b → has (subterms (tree_at (trees ns) (record { 0 = i }))) t ≡ true
@@ -252,13 +253,15 @@ take_front [] ys = refl
 take_front (x ∷ xs) ys = ap (λ r. x ∷ r) (take_front xs ys)
 
 -- a turn of the walk
-pub reach_turn : (ns : List Node) (e : TermId) (flags new : List Bool) (i : ℕ) → i < length ns → ReachesFrom ns e flags (i + 1) → slice_get flags i ≡ Some true → MarksJoined ns (record { 0 = i }) flags new → ReachesFrom ns e new i
+pub reach_turn : (ns : List Node) (e : TermId) (flags new : List Bool) (i : ℕ) → i < length ns → ReachesFrom ns e flags (i + 1) → slice_get flags i ≡ Some true
+    → MarksJoined ns (record { 0 = i }) flags new → ReachesFrom ns e new i
 reach_turn ns e flags new i l r f m =
     let (k, at) = term_there ns i l in
     let s = m k at in
     subst (λ (fs : List Bool). ReachesFrom ns e fs i) (sym s.1) (reach_set ns e flags i r f (get_within flags i true f) k at s.0)
 
-pub reached_turn : (ns : List Node) (t : TermId) (flags old new : List Bool) (len i : ℕ) → 0 < i → i ≤ t.0 + 1 → IsIn ns t → ReachesFrom ns t flags i → length flags ≡ len → old ≡ flags → slice_get old (i - 1) ≡ Some true
+pub reached_turn : (ns : List Node) (t : TermId) (flags old new : List Bool) (len i : ℕ) → 0 < i → i ≤ t.0 + 1 → IsIn ns t → ReachesFrom ns t flags i → length flags ≡ len → old ≡ flags
+    → slice_get old (i - 1) ≡ Some true
     → MarksJoined ns (record { 0 = i - 1 }) old new → ReachesFrom ns t (take len (new ++ drop (length new) flags)) (i - 1)
 reached_turn ns t flags old new len i h b in_t r n e f m =
     let back : (i - 1) + 1 ≡ i = omega arith in

@@ -8,7 +8,7 @@ pub mod Numbers
 pub mod Sights
 pub mod Once
 pub mod Joined
-pub mod Held
+pub mod TermValues
 pub mod Found
 pub mod Ids
 pub mod Checked

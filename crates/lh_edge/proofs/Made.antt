@@ -6,7 +6,7 @@ use Rattle.lh_term.specs.declared.term.TermId.{TermId}
 use Rattle.lh_term.specs.declared.term.Node.{Node}
 use Rattle.lh_term.specs.Tree.{Tree, past_of}
 use Rattle.lh_term.specs.Make.{is_bit}
-use Rattle.lh_term.specs.Arena.{tree_at, trees, IsIn, Grows, Stands}
+use Rattle.lh_term.specs.Arena.{tree_at, trees, IsIn, Grows, StandsForTree}
 use Rattle.lh_term.specs.Subst.{pairs_at, swapped, is_first}
 use Rattle.lh_term.proofs.Swaps.{tree_grown, in_grown, grows_on, stands_grown, pairs_grown, pairs_in_grown}
 use Rattle.lh_edge.specs.declared.triggers.Trigger.{Trigger}
@@ -47,17 +47,20 @@ adds_none ns c p rise old e = record {
   are = subst (λ (b : Bool). AreTriggers ns [] (if b then [] else (record { rise = rise; part = p; gate = gate_of rise p c }) ∷ [])) (sym e) tt;
 }
 
-pub adds_one : (ns : List Node) (c : Tree) (p q : Part) (rise : Bool) (gate : TermId) (old new : List Trigger) → q ≡ p → is_bit 0 (gate_of rise p c) ≡ false → Stands ns gate (gate_of rise p c) → new ≡ old ++ (record { rise = rise; part = q; gate = gate }) ∷ []
+pub adds_one : (ns : List Node) (c : Tree) (p q : Part) (rise : Bool) (gate : TermId) (old new : List Trigger) → q ≡ p → is_bit 0 (gate_of rise p c) ≡ false → StandsForTree ns gate (gate_of rise p c)
+    → new ≡ old ++ (record { rise = rise; part = q; gate = gate }) ∷ []
     → AddsTrigger ns old (trigger_at c p rise) new
 adds_one ns c p q rise gate old new f e s m = record {
   more = (record { rise = rise; part = q; gate = gate }) ∷ [];
   added = m;
-  are = subst (λ (b : Bool). AreTriggers ns ((record { rise = rise; part = q; gate = gate }) ∷ []) (if b then [] else (record { rise = rise; part = p; gate = gate_of rise p c }) ∷ [])) (sym e) (record { rise = refl; part = f; gate = s }, tt);
+  are = subst (λ (b : Bool). AreTriggers ns ((record { rise = rise; part = q; gate = gate }) ∷ []) (if b then [] else (record { rise = rise; part = p; gate = gate_of rise p c }) ∷ [])) (sym e)
+      (record { rise = refl; part = f; gate = s }, tt);
 }
 
 -- the gate as `subst` makes it
-pub gate_stands : (old cur new : List Node) (rise : Bool) (p : Part) (cond gate : TermId) (swap : List (TermId × TermId)) → Grows old cur → IsIn old cond → MakesGate cur rise p (tree_at (trees old) cond) swap
-    → Stands new gate (swapped (pairs_at cur swap) (tree_at (trees cur) cond)) → Stands new gate (gate_of rise p (tree_at (trees old) cond))
+pub gate_stands : (old cur new : List Node) (rise : Bool) (p : Part) (cond gate : TermId) (swap : List (TermId × TermId)) → Grows old cur → IsIn old cond
+    → MakesGate cur rise p (tree_at (trees old) cond) swap
+    → StandsForTree new gate (swapped (pairs_at cur swap) (tree_at (trees cur) cond)) → StandsForTree new gate (gate_of rise p (tree_at (trees old) cond))
 gate_stands old cur new rise p cond gate swap g i m s = record {
   is_in = s.is_in;
   tree = s.tree ∙ ap (swapped (pairs_at cur swap)) (tree_grown old cur g cond i) ∙ m.gate;
@@ -81,7 +84,8 @@ presents_grown old cur g c pairs i =
       whole = λ q h. ap (λ ps. is_first ps (past_of q)) e ∙ i.whole q h;
     }
 
-pub made_start : (old cur : List Node) (cond : TermId) (parts : List Part) (presents : List (TermId × TermId)) (ts : List Trigger) → Grows old cur → IsIn old cond → IsPresents cur (tree_at (trees old) cond) presents → ts ≡ [] → MadeSoFar old cur cond parts presents ts 0
+pub made_start : (old cur : List Node) (cond : TermId) (parts : List Part) (presents : List (TermId × TermId)) (ts : List Trigger) → Grows old cur → IsIn old cond
+    → IsPresents cur (tree_at (trees old) cond) presents → ts ≡ [] → MadeSoFar old cur cond parts presents ts 0
 made_start old cur cond parts presents ts g i p m = subst (λ (us : List Trigger). MadeSoFar old cur cond parts presents us 0) (sym m) (record {
   grows = g;
   presents_are = subst (λ (t : Tree). IsPresents cur t presents) (sym (tree_grown old cur g cond i)) p;
@@ -91,12 +95,15 @@ made_start old cur cond parts presents ts g i p m = subst (λ (us : List Trigger
 })
 
 -- the presents after the arena grew
-pub presents_on : (cur new : List Node) (cond : TermId) (presents : List (TermId × TermId)) → Grows cur new → IsIn cur cond → IsPresents cur (tree_at (trees cur) cond) presents → IsPresents new (tree_at (trees new) cond) presents
+pub presents_on : (cur new : List Node) (cond : TermId) (presents : List (TermId × TermId)) → Grows cur new → IsIn cur cond → IsPresents cur (tree_at (trees cur) cond) presents
+    → IsPresents new (tree_at (trees new) cond) presents
 presents_on cur new cond presents g i p =
     subst (λ (t : Tree). IsPresents new t presents) (sym (tree_grown cur new g cond i)) (presents_grown cur new g (tree_at (trees cur) cond) presents p)
 
-pub made_next : (old cur mid new : List Node) (cond : TermId) (parts : List Part) (presents : List (TermId × TermId)) (ts us vs : List Trigger) (k : ℕ) (p : Part) → MadeSoFar old cur cond parts presents ts k → IsIn old cond → k < length parts → p ≡ get_or parts k p
-    → Grows cur mid → AddsTrigger mid ts (trigger_at (tree_at (trees cur) cond) p true) us → Grows mid new → AddsTrigger new us (trigger_at (tree_at (trees mid) cond) p false) vs → MadeSoFar old new cond parts presents vs (k + 1)
+pub made_next : (old cur mid new : List Node) (cond : TermId) (parts : List Part) (presents : List (TermId × TermId)) (ts us vs : List Trigger) (k : ℕ) (p : Part)
+    → MadeSoFar old cur cond parts presents ts k → IsIn old cond → k < length parts → p ≡ get_or parts k p
+    → Grows cur mid → AddsTrigger mid ts (trigger_at (tree_at (trees cur) cond) p true) us → Grows mid new → AddsTrigger new us (trigger_at (tree_at (trees mid) cond) p false) vs
+    → MadeSoFar old new cond parts presents vs (k + 1)
 made_next old cur mid new cond parts presents ts us vs k p s i l is g a h b =
     let c = tree_at (trees old) cond in
     let in_cur : IsIn cur cond = in_grown old cur s.grows cond i in
@@ -107,8 +114,10 @@ made_next old cur mid new cond parts presents ts us vs k p s i l is g a h b =
     let tb : AreTriggers new b.more (trigger_at c p false) = subst (λ (t : Tree). AreTriggers new b.more (trigger_at t p false)) e2 b.are in
     let first : AreTriggers new ts (triggers_at c s.done) = triggers_grown cur new gm ts (triggers_at c s.done) s.are in
     let rise : AreTriggers new a.more (trigger_at c p true) = triggers_grown mid new h a.more (trigger_at c p true) ta in
-    let both : AreTriggers new (a.more ++ (b.more ++ [])) (triggers_at c (p ∷ [])) = triggers_append new a.more (b.more ++ []) (trigger_at c p true) (trigger_at c p false ++ []) rise (triggers_append new b.more [] (trigger_at c p false) [] tb tt) in
-    let all : AreTriggers new (ts ++ (a.more ++ (b.more ++ []))) (triggers_at c s.done ++ triggers_at c (p ∷ [])) = triggers_append new ts (a.more ++ (b.more ++ [])) (triggers_at c s.done) (triggers_at c (p ∷ [])) first both in
+    let both : AreTriggers new (a.more ++ (b.more ++ [])) (triggers_at c (p ∷ [])) = triggers_append new a.more (b.more ++ []) (trigger_at c p true) (trigger_at c p false ++ []) rise
+    (triggers_append new b.more [] (trigger_at c p false) [] tb tt) in
+    let all : AreTriggers new (ts ++ (a.more ++ (b.more ++ []))) (triggers_at c s.done ++ triggers_at c (p ∷ [])) = triggers_append new ts (a.more ++ (b.more ++ [])) (triggers_at c s.done)
+    (triggers_at c (p ∷ [])) first both in
     let vs_is : vs ≡ ts ++ (a.more ++ (b.more ++ [])) = b.added ∙ ap (λ r. r ++ b.more) a.added ∙ append_assoc ts a.more b.more ∙ ap (λ r. ts ++ (a.more ++ r)) (sym (append-nil b.more)) in
     let up : suc k ≡ k + 1 = omega arith in
     let cut : drop k parts ≡ p ∷ drop (k + 1) parts = drop-cons parts k p l ∙ ap (λ q. q ∷ drop (suc k) parts) (sym is) ∙ ap (λ n. p ∷ drop n parts) up in
@@ -121,7 +130,8 @@ made_next old cur mid new cond parts presents ts us vs k p s i l is g a h b =
           (subst (λ (ws : List Trigger). AreTriggers new ws (triggers_at c s.done ++ triggers_at c (p ∷ []))) (sym vs_is) all);
     }
 
-pub made_all : (old cur : List Node) (cond : TermId) (parts : List Part) (presents : List (TermId × TermId)) (ts : List Trigger) (k : ℕ) → MadeSoFar old cur cond parts presents ts k → length parts ≤ k → AreTriggers cur ts (triggers_at (tree_at (trees old) cond) parts)
+pub made_all : (old cur : List Node) (cond : TermId) (parts : List Part) (presents : List (TermId × TermId)) (ts : List Trigger) (k : ℕ) → MadeSoFar old cur cond parts presents ts k → length parts ≤ k
+    → AreTriggers cur ts (triggers_at (tree_at (trees old) cond) parts)
 made_all old cur cond parts presents ts k s l =
     let e : parts ≡ s.done = s.split ∙ ap (λ r. s.done ++ r) (drop_of_length-le parts l) ∙ append-nil s.done in
     subst (λ (ps : List Part). AreTriggers cur ts (triggers_at (tree_at (trees old) cond) ps)) (sym e) s.are
@@ -145,7 +155,8 @@ place_here ps p q k l e h s =
     let z : place_in (drop k ps) p ≡ 0 = place_step ps p q k l e ∙ ap (λ (b : Bool). if b then 0 else place_in (drop (k + 1) ps) p + 1) h in
     omega arith
 
-pub place_on : (ps : List Part) (p q : Part) (k : ℕ) → k < length ps → q ≡ get_or ps k q → comes_first p q ≡ false → k + place_in (drop k ps) p ≡ place_in ps p → (k + 1) + place_in (drop (k + 1) ps) p ≡ place_in ps p
+pub place_on : (ps : List Part) (p q : Part) (k : ℕ) → k < length ps → q ≡ get_or ps k q → comes_first p q ≡ false → k + place_in (drop k ps) p ≡ place_in ps p
+    → (k + 1) + place_in (drop (k + 1) ps) p ≡ place_in ps p
 place_on ps p q k l e h s =
     let z : place_in (drop k ps) p ≡ place_in (drop (k + 1) ps) p + 1 = place_step ps p q k l e ∙ ap (λ (b : Bool). if b then 0 else place_in (drop (k + 1) ps) p + 1) h in
     omega arith
@@ -171,7 +182,8 @@ pub put_in_place : {A B : Type 0} (r : Result A B) (old new : List Part) (p : Pa
 put_in_place (Ok x) old new p k e h = h ∙ put_at old p k e
 put_in_place (Err x) old new p k e h = tt
 
-pub adds_one_ok : {A B : Type 0} (r : Result A B) (ns : List Node) (c : Tree) (p q : Part) (rise : Bool) (gate : TermId) (old new : List Trigger) → q ≡ p → is_bit 0 (gate_of rise p c) ≡ false → Stands ns gate (gate_of rise p c)
+pub adds_one_ok : {A B : Type 0} (r : Result A B) (ns : List Node) (c : Tree) (p q : Part) (rise : Bool) (gate : TermId) (old new : List Trigger) → q ≡ p → is_bit 0 (gate_of rise p c) ≡ false
+    → StandsForTree ns gate (gate_of rise p c)
     → OnOk r (new ≡ old ++ (record { rise = rise; part = q; gate = gate }) ∷ []) → OnOk r (AddsTrigger ns old (trigger_at c p rise) new)
 adds_one_ok (Ok x) ns c p q rise gate old new f e s m = adds_one ns c p q rise gate old new f e s m
 adds_one_ok (Err x) ns c p q rise gate old new f e s m = tt

@@ -75,7 +75,8 @@ module _ (v : Tree → Bool) where
   for_one : (op : Op) → ((x : Bool) → apply op (bit_value x ∷ []) ≡ bit_value (connected op (x ∷ []))) → (ts : TreeRow) (u : TypeTree) → types_of ts ≡ u ∷ [] → IsConnected op ts
   for_one op f ts u e = let r = one_term ts u e in subst (IsConnected op) (sym r.1) (f (holds v r.0))
 
-  for_two : (op : Op) → ((x y : Bool) → apply op (bit_value x ∷ bit_value y ∷ []) ≡ bit_value (connected op (x ∷ y ∷ []))) → (ts : TreeRow) (u w : TypeTree) → types_of ts ≡ u ∷ w ∷ [] → IsConnected op ts
+  for_two : (op : Op) → ((x y : Bool) → apply op (bit_value x ∷ bit_value y ∷ []) ≡ bit_value (connected op (x ∷ y ∷ []))) → (ts : TreeRow) (u w : TypeTree) → types_of ts ≡ u ∷ w ∷ []
+      → IsConnected op ts
   for_two op f ts u w e = let r = two_terms ts u w e in subst (IsConnected op) (sym r.2) (f (holds v r.0) (holds v r.1))
 
   connective_bits : (op : Op) (ts : TreeRow) → connects op ≡ true → TakesTypes op (types_of ts) → IsConnected op ts
@@ -202,7 +203,8 @@ rest_same p q n c = at (conjuncts_of c)
     at (t ∷ ts) = one (contains_past t) refl (at ts)
       where
         one : (b : Bool) → contains_past t ≡ b → list_all (meant p n) (filter (λ t. not (contains_past t)) ts) ≡ list_all (meant q n) (filter (λ t. not (contains_past t)) ts) →
-            list_all (meant p n) (cond (not b) (t ∷ filter (λ t. not (contains_past t)) ts) (filter (λ t. not (contains_past t)) ts)) ≡ list_all (meant q n) (cond (not b) (t ∷ filter (λ t. not (contains_past t)) ts) (filter (λ t. not (contains_past t)) ts))
+            list_all (meant p n) (cond (not b) (t ∷ filter (λ t. not (contains_past t)) ts) (filter (λ t. not (contains_past t)) ts))
+            ≡ list_all (meant q n) (cond (not b) (t ∷ filter (λ t. not (contains_past t)) ts) (filter (λ t. not (contains_past t)) ts))
         one true e r = r
         one false e r = let a : meant p n t ≡ meant q n t = ap (is_bit_value 1) (without_past p q n t e) in λ i. a i && r i
 

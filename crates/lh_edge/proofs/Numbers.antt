@@ -150,7 +150,8 @@ module _ (atoms : List Tree) (e : Tree) where
       at (inr p) = or_right _ _ (ap not p)
 
   module _ (table : List Bool) (parts : List Part) where
-    pub shown_tells : (j n : ℕ) → shown_from table atoms parts j (table_from atoms e j n) ≡ true → (i : ℕ) → j ≤ i → i < j + n → holds (numbered atoms i) e ≡ true → list_any (shows_at table atoms i) parts ≡ true
+    pub shown_tells : (j n : ℕ) → shown_from table atoms parts j (table_from atoms e j n) ≡ true → (i : ℕ) → j ≤ i → i < j + n → holds (numbered atoms i) e ≡ true
+        → list_any (shows_at table atoms i) parts ≡ true
     shown_tells j zero h i l u a = absurd (omega arith)
     shown_tells j (suc n) h i l u a = elim (here_or_later j i n l u) [
       | inl q ↦ elim (or_cases (not (holds (numbered atoms j) e)) (list_any (shows_at table atoms j) parts) (and_left _ _ h)) [
@@ -170,7 +171,8 @@ module _ (atoms : List Tree) (e : Tree) where
 
 -- ---- a turn of each loop over a table
 
-pub stays_step : (b : Tree) (atoms : List Tree) (k j : ℕ) (table : List Bool) → j < length table → stays_from b atoms k j (drop j table) ≡ ((get_or table j false || not (agree b atoms k j)) && stays_from b atoms k (j + 1) (drop (j + 1) table))
+pub stays_step : (b : Tree) (atoms : List Tree) (k j : ℕ) (table : List Bool) → j < length table
+    → stays_from b atoms k j (drop j table) ≡ ((get_or table j false || not (agree b atoms k j)) && stays_from b atoms k (j + 1) (drop (j + 1) table))
 stays_step b atoms k j table l =
     let s : suc j ≡ j + 1 = omega arith in
     ap (stays_from b atoms k j) (drop-cons table j false l) ∙ ap (λ n. (get_or table j false || not (agree b atoms k j)) && stays_from b atoms k (j + 1) (drop n table)) s
@@ -178,10 +180,12 @@ stays_step b atoms k j table l =
 pub stays_end : (b : Tree) (atoms : List Tree) (k j : ℕ) (table : List Bool) → length table ≤ j → stays_from b atoms k j (drop j table) ≡ true
 stays_end b atoms k j table l = ap (stays_from b atoms k j) (drop_of_length-le table l)
 
-pub shown_step : (table : List Bool) (atoms : List Tree) (parts : List Part) (k : ℕ) (all : List Bool) → k < length all → shown_from table atoms parts k (drop k all) ≡ ((not (get_or all k false) || list_any (shows_at table atoms k) parts) && shown_from table atoms parts (k + 1) (drop (k + 1) all))
+pub shown_step : (table : List Bool) (atoms : List Tree) (parts : List Part) (k : ℕ) (all : List Bool) → k < length all
+    → shown_from table atoms parts k (drop k all) ≡ ((not (get_or all k false) || list_any (shows_at table atoms k) parts) && shown_from table atoms parts (k + 1) (drop (k + 1) all))
 shown_step table atoms parts k all l =
     let s : suc k ≡ k + 1 = omega arith in
-    ap (shown_from table atoms parts k) (drop-cons all k false l) ∙ ap (λ n. (not (get_or all k false) || list_any (shows_at table atoms k) parts) && shown_from table atoms parts (k + 1) (drop n all)) s
+    ap (shown_from table atoms parts k) (drop-cons all k false l)
+    ∙ ap (λ n. (not (get_or all k false) || list_any (shows_at table atoms k) parts) && shown_from table atoms parts (k + 1) (drop n all)) s
 
 pub shown_end : (table : List Bool) (atoms : List Tree) (parts : List Part) (k : ℕ) (all : List Bool) → length all ≤ k → shown_from table atoms parts k (drop k all) ≡ true
 shown_end table atoms parts k all l = ap (shown_from table atoms parts k) (drop_of_length-le all l)

@@ -153,7 +153,8 @@ but_any : (p : Part) (qs : List Part) (x : Part) → same_part p x ≡ false →
 but_any p [] x s = refl
 but_any p (q ∷ qs) x s = at (same_part q p) refl (but_any p qs x s)
   where
-    at : (b : Bool) → same_part q p ≡ b → list_any (same_part x) (but p qs) ≡ list_any (same_part x) qs → list_any (same_part x) (if b then qs else q ∷ but p qs) ≡ (same_part x q || list_any (same_part x) qs)
+    at : (b : Bool) → same_part q p ≡ b → list_any (same_part x) (but p qs) ≡ list_any (same_part x) qs
+        → list_any (same_part x) (if b then qs else q ∷ but p qs) ≡ (same_part x q || list_any (same_part x) qs)
     at true k r =
         let n : same_part x q ≡ false = false_is (same_part x q) (λ m. both_ways (same_part p x) (ap (same_part p) (same_part-is x q m ∙ same_part-is q p k) ∙ same_part-refl p) s) in
         ap (λ b. b || list_any (same_part x) qs) (sym n)
@@ -256,7 +257,8 @@ showing_distinct waited (operation op us ∷ ts) d = showing_distinct waited ts 
 showing_distinct waited (choice_of a b t ∷ ts) d = showing_distinct waited ts d.1
 
 -- terms of one set, each once, show the same parts in one order
-pub showing_one : (waited : List Part) (ts us : List Tree) → AreDistinct ts → AreDistinct us → ((x : Tree) → has ts x ≡ has us x) → in_order (showing_parts waited ts) ≡ in_order (showing_parts waited us)
+pub showing_one : (waited : List Part) (ts us : List Tree) → AreDistinct ts → AreDistinct us → ((x : Tree) → has ts x ≡ has us x)
+    → in_order (showing_parts waited ts) ≡ in_order (showing_parts waited us)
 showing_one waited ts us d e s =
     one_order (showing_parts waited ts) (showing_parts waited us) (showing_bit waited ts) (showing_bit waited us) (showing_distinct waited ts d) (showing_distinct waited us e)
     (λ q. showing_any waited ts q ∙ ap (λ b. can_show waited q && b) (s (past_of q)) ∙ sym (showing_any waited us q))

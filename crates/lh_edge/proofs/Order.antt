@@ -20,11 +20,13 @@ showing_put waited (now_of p) ts = refl
 showing_put waited (operation op us) ts = refl
 showing_put waited (choice_of a b t) ts = refl
 
-pub showing_start : (waited : List Part) (ns : List Node) (atoms : List TermId) (parts : List Part) (k : ℕ) → parts ≡ [] → length atoms ≤ k → parts ≡ in_order (showing_parts waited (trees_at ns (drop k atoms)))
+pub showing_start : (waited : List Part) (ns : List Node) (atoms : List TermId) (parts : List Part) (k : ℕ) → parts ≡ [] → length atoms ≤ k
+    → parts ≡ in_order (showing_parts waited (trees_at ns (drop k atoms)))
 showing_start waited ns atoms parts k e l = e ∙ ap (λ xs. in_order (showing_parts waited (trees_at ns xs))) (sym (drop_of_length-le atoms l))
 
 pub showing_turn : (waited : List Part) (ns : List Node) (atoms : List TermId) (k : ℕ) (d : TermId) (old more : List Part) → 0 < k → k ≤ length atoms
-    → old ≡ in_order (showing_parts waited (trees_at ns (drop k atoms))) → more ≡ with_showing (showing_of waited (tree_at (trees ns) (get_or atoms (k - 1) d))) old → more ≡ in_order (showing_parts waited (trees_at ns (drop (k - 1) atoms)))
+    → old ≡ in_order (showing_parts waited (trees_at ns (drop k atoms))) → more ≡ with_showing (showing_of waited (tree_at (trees ns) (get_or atoms (k - 1) d))) old
+    → more ≡ in_order (showing_parts waited (trees_at ns (drop (k - 1) atoms)))
 showing_turn waited ns atoms k d old more h l o m =
     let up : suc (k - 1) ≡ k = omega arith in
     let x = get_or atoms (k - 1) d in
@@ -33,5 +35,6 @@ showing_turn waited ns atoms k d old more h l o m =
     ∙ sym (showing_put waited (tree_at (trees ns) x) (trees_at ns (drop k atoms)))
     ∙ ap (λ xs. in_order (showing_parts waited (trees_at ns xs))) (sym cut)
 
-pub showing_end : (waited : List Part) (ns : List Node) (atoms : List TermId) (k : ℕ) (parts : List Part) → k ≡ 0 → parts ≡ in_order (showing_parts waited (trees_at ns (drop k atoms))) → parts ≡ in_order (showing_parts waited (trees_at ns atoms))
+pub showing_end : (waited : List Part) (ns : List Node) (atoms : List TermId) (k : ℕ) (parts : List Part) → k ≡ 0 → parts ≡ in_order (showing_parts waited (trees_at ns (drop k atoms)))
+    → parts ≡ in_order (showing_parts waited (trees_at ns atoms))
 showing_end waited ns atoms k parts e h = subst (λ (n : ℕ). parts ≡ in_order (showing_parts waited (trees_at ns (drop n atoms)))) e h

@@ -13,14 +13,14 @@ use Rattle.lh_term.proofs.Sound.{bit_mean}
 use Rattle.lh_cover.specs.Bits.{covers}
 use Rattle.lh_edge.specs.Atoms.{edge_part, atoms_of}
 use Rattle.lh_edge.specs.Shown.{can_show, showing_parts, is_edge_shown}
-use Rattle.lh_edge.specs.Triggers.{TriggerTree, gate_of, trigger_at, triggers_at, comes_first, with_part, in_order, triggers_of, SomeFires, AllRest, AreWaited}
+use Rattle.lh_edge.specs.Triggers.{TriggerTree, gate_of, trigger_at, triggers_at, comes_first, with_part, in_order, triggers_of, SomeFires, NoneChanges, AreWaited}
 use Rattle.lh_edge.proofs.Bools.{and_left, and_right, not_own}
 use Rattle.lh_edge.proofs.Meaning.{as_bit, same_bits}
 use Rattle.lh_edge.proofs.Firing.{triggers_show}
 
 -- ---- nothing fires at rest
 
-no_fire : (past now : Valuation) (ts : List TriggerTree) → AllRest past now ts → SomeFires past now ts → ⊥
+no_fire : (past now : Valuation) (ts : List TriggerTree) → NoneChanges past now ts → SomeFires past now ts → ⊥
 no_fire past now [] r h = h
 no_fire past now (t ∷ ts) r h = elim h [
   | inl f ↦ not_own t.rise (same_bits (not t.rise) t.rise (sym f.before ∙ r.0 ∙ f.after))
@@ -28,7 +28,7 @@ no_fire past now (t ∷ ts) r h = elim h [
 ]
 
 pub rests : SwapsKeepMeaning → (waited : List Part) (c : Tree) → IsTyped c → type_of c ≡ int_type 1 → is_edge_shown waited c ≡ true →
-    (past now : Valuation) → IsFitting past → IsFitting now → AllRest past now (triggers_of waited c) → mean past now c ≡ bit_value false
+    (past now : Valuation) → IsFitting past → IsFitting now → NoneChanges past now (triggers_of waited c) → mean past now c ≡ bit_value false
 rests laws waited c h e s past now pf nf r =
     let is : mean past now c ≡ bit_value (is_bit_value 1 (mean past now c)) = as_bit (mean past now c) (bit_mean c (record { typed = h; type = e }) past now pf nf) in
     is ∙ ap bit_value (at (is_bit_value 1 (mean past now c)) is)
@@ -81,8 +81,10 @@ one_waited waited c p rise e = at (is_bit 0 (gate_of rise p c))
 
 each_waited : (waited : List Part) (c : Tree) (ps : List Part) → AllCan waited ps → AreWaited waited (triggers_at c ps)
 each_waited waited c [] h = tt
-each_waited waited c (p ∷ ps) h = join_waited waited (trigger_at c p true) _ (one_waited waited c p true h.0) (join_waited waited (trigger_at c p false) _ (one_waited waited c p false h.0) (each_waited waited c ps h.1))
+each_waited waited c (p ∷ ps) h = join_waited waited (trigger_at c p true) _ (one_waited waited c p true h.0)
+    (join_waited waited (trigger_at c p false) _ (one_waited waited c p false h.0) (each_waited waited c ps h.1))
 
 pub waited_on : (waited : List Part) (c : Tree) → AreWaited waited (triggers_of waited c)
 unfolding triggers_of
-waited_on waited c = each_waited waited c (in_order (showing_parts waited (atoms_of (edge_part c)))) (order_can waited (showing_parts waited (atoms_of (edge_part c))) (showing_can waited (atoms_of (edge_part c))))
+waited_on waited c = each_waited waited c (in_order (showing_parts waited (atoms_of (edge_part c))))
+    (order_can waited (showing_parts waited (atoms_of (edge_part c))) (showing_can waited (atoms_of (edge_part c))))

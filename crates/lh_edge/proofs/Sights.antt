@@ -194,10 +194,12 @@ module _ (ns : List Node) (atoms : List TermId) (k : ℕ) (d : TermId) (h : 0 < 
   cut : drop (k - 1) atoms ≡ get_or atoms (k - 1) d ∷ drop k atoms
   cut = let up : suc (k - 1) ≡ k = omega arith in drop-cons atoms (k - 1) d (omega arith) ∙ ap (λ n. get_or atoms (k - 1) d ∷ drop n atoms) up
 
-  pub bit_turn : (t : Tree) (old new : ℕ) (is : Bool) → old ≡ bit_of_atom (trees_at ns (drop k atoms)) t → is ≡ same_tree (tree_at (trees ns) (get_or atoms (k - 1) d)) t → new ≡ (if is then 1 else 2 * old) → new ≡ bit_of_atom (trees_at ns (drop (k - 1) atoms)) t
+  pub bit_turn : (t : Tree) (old new : ℕ) (is : Bool) → old ≡ bit_of_atom (trees_at ns (drop k atoms)) t → is ≡ same_tree (tree_at (trees ns) (get_or atoms (k - 1) d)) t
+      → new ≡ (if is then 1 else 2 * old) → new ≡ bit_of_atom (trees_at ns (drop (k - 1) atoms)) t
   bit_turn t old new is o s m = m ∙ (λ i. if s i then 1 else 2 * o i) ∙ ap (λ xs. bit_of_atom (trees_at ns xs) t) (sym cut)
 
-  pub kept_turn : (b : Tree) (old new : ℕ) (is : Bool) → old ≡ kept_bits b (trees_at ns (drop k atoms)) → is ≡ is_other b (tree_at (trees ns) (get_or atoms (k - 1) d)) → new ≡ (if is then 2 * old else 1 + 2 * old) → new ≡ kept_bits b (trees_at ns (drop (k - 1) atoms))
+  pub kept_turn : (b : Tree) (old new : ℕ) (is : Bool) → old ≡ kept_bits b (trees_at ns (drop k atoms)) → is ≡ is_other b (tree_at (trees ns) (get_or atoms (k - 1) d))
+      → new ≡ (if is then 2 * old else 1 + 2 * old) → new ≡ kept_bits b (trees_at ns (drop (k - 1) atoms))
   kept_turn b old new is o s m = m ∙ (λ i. if s i then 2 * o i else 1 + 2 * o i) ∙ ap (λ xs. kept_bits b (trees_at ns xs)) (sym cut)
 
 module _ (ns : List Node) (atoms : List TermId) (k : ℕ) (l : length atoms ≤ k) where
@@ -252,7 +254,8 @@ get_set xs i c b l = at (nat_eq c i) refl
     at true e = get_same xs i c b (nat_eq-is c i e) l
     at false e = get_other xs i c b (λ q. both_ways (nat_eq c i) (eq_of c i q) e)
 
-holds_cut : (table : List Bool) (kept c i : ℕ) → i < length table → holds_where kept c i (drop i table) ≡ ((get_or table i false || not (nat_eq c (bit_and i kept))) && holds_where kept c (i + 1) (drop (i + 1) table))
+holds_cut : (table : List Bool) (kept c i : ℕ) → i < length table
+    → holds_where kept c i (drop i table) ≡ ((get_or table i false || not (nat_eq c (bit_and i kept))) && holds_where kept c (i + 1) (drop (i + 1) table))
 holds_cut table kept c i l =
     let s : suc i ≡ i + 1 = omega arith in
     ap (holds_where kept c i) (drop-cons table i false l) ∙ ap (λ n. (get_or table i false || not (nat_eq c (bit_and i kept))) && holds_where kept c (i + 1) (drop n table)) s
@@ -260,16 +263,19 @@ holds_cut table kept c i l =
 pub holds_kept : (table : List Bool) (kept : ℕ) (flags : List Bool) (i : ℕ) → i < length table → get_or table i false ≡ true → HoldsSoFar table kept flags i → HoldsSoFar table kept flags (i + 1)
 holds_kept table kept flags i l t h = record {
   length_is = h.length_is;
-  each = λ c m. ap (λ r. get_or flags c false && r) (sym (holds_cut table kept c i l ∙ ap (λ b. (b || not (nat_eq c (bit_and i kept))) && holds_where kept c (i + 1) (drop (i + 1) table)) t)) ∙ h.each c m;
+  each = λ c m. ap (λ r. get_or flags c false && r) (sym (holds_cut table kept c i l ∙ ap (λ b. (b || not (nat_eq c (bit_and i kept))) && holds_where kept c (i + 1) (drop (i + 1) table)) t))
+      ∙ h.each c m;
 }
 
-pub holds_not : (table : List Bool) (kept : ℕ) (flags more : List Bool) (i : ℕ) → i < length table → get_or table i false ≡ false → more ≡ slice_set flags (bit_and i kept) false → HoldsSoFar table kept flags i → HoldsSoFar table kept more (i + 1)
+pub holds_not : (table : List Bool) (kept : ℕ) (flags more : List Bool) (i : ℕ) → i < length table → get_or table i false ≡ false → more ≡ slice_set flags (bit_and i kept) false
+    → HoldsSoFar table kept flags i → HoldsSoFar table kept more (i + 1)
 holds_not table kept flags more i l t m h = record {
   length_is = ap length m ∙ set_length flags (bit_and i kept) false ∙ h.length_is;
   each = λ c n.
       let r = holds_where kept c (i + 1) (drop (i + 1) table) in
       let e : holds_where kept c i (drop i table) ≡ (not (nat_eq c (bit_and i kept)) && r) = holds_cut table kept c i l ∙ ap (λ b. (b || not (nat_eq c (bit_and i kept))) && r) t in
-      let g : get_or more c false ≡ (if nat_eq c (bit_and i kept) then false else get_or flags c false) = ap (λ xs. get_or xs c false) m ∙ get_set flags (bit_and i kept) c false (omega (arith, and_le_l i kept, h.length_is)) in
+      let g : get_or more c false ≡ (if nat_eq c (bit_and i kept) then false else get_or flags c false) = ap (λ xs. get_or xs c false) m
+      ∙ get_set flags (bit_and i kept) c false (omega (arith, and_le_l i kept, h.length_is)) in
       ap (λ b. b && r) g ∙ at (nat_eq c (bit_and i kept)) (get_or flags c false) r ∙ ap (λ b. get_or flags c false && b) (sym e) ∙ h.each c n;
 }
   where
@@ -307,7 +313,8 @@ or_yes : (b : Bool) → true ≡ (b || true)
 or_yes true = refl
 or_yes false = refl
 
-pub marked_skip : (table : List Bool) (atoms : List Tree) (p : Part) (old cur : List Bool) (i : ℕ) → shows_at table atoms i p ≡ false → MarkedTo table atoms p old cur i → MarkedTo table atoms p old cur (i + 1)
+pub marked_skip : (table : List Bool) (atoms : List Tree) (p : Part) (old cur : List Bool) (i : ℕ) → shows_at table atoms i p ≡ false → MarkedTo table atoms p old cur i
+    → MarkedTo table atoms p old cur (i + 1)
 marked_skip table atoms p old cur i s h = record {
   length_is = h.length_is;
   done = λ k l m. elim (here_or_before k i l) [
@@ -317,11 +324,13 @@ marked_skip table atoms p old cur i s h = record {
   open_ = λ k l. h.open_ k (omega arith);
 }
 
-pub marked_next : (table : List Bool) (atoms : List Tree) (p : Part) (old cur new : List Bool) (i : ℕ) → i < length cur → shows_at table atoms i p ≡ true → new ≡ slice_set cur i true → MarkedTo table atoms p old cur i → MarkedTo table atoms p old new (i + 1)
+pub marked_next : (table : List Bool) (atoms : List Tree) (p : Part) (old cur new : List Bool) (i : ℕ) → i < length cur → shows_at table atoms i p ≡ true → new ≡ slice_set cur i true
+    → MarkedTo table atoms p old cur i → MarkedTo table atoms p old new (i + 1)
 marked_next table atoms p old cur new i l s m h = record {
   length_is = ap length m ∙ set_length cur i true ∙ h.length_is;
   done = λ k n o. elim (here_or_before k i n) [
-    | inl e ↦ read k ∙ ap (λ (b : Bool). if b then true else get_or cur k false) (eq_of k i e) ∙ or_yes (get_or old k false) ∙ ap (λ b. get_or old k false || b) (sym (ap (λ n. shows_at table atoms n p) e ∙ s))
+    | inl e ↦ read k ∙ ap (λ (b : Bool). if b then true else get_or cur k false) (eq_of k i e) ∙ or_yes (get_or old k false)
+        ∙ ap (λ b. get_or old k false || b) (sym (ap (λ n. shows_at table atoms n p) e ∙ s))
     | inr q ↦ read k ∙ ap (λ (b : Bool). if b then true else get_or cur k false) (unequal k i (λ e. absurd (omega (arith, e, q)))) ∙ h.done k q o
   ];
   open_ = λ k n. read k ∙ ap (λ (b : Bool). if b then true else get_or cur k false) (unequal k i (λ e. absurd (omega (arith, e, n)))) ∙ h.open_ k (omega arith);
@@ -359,13 +368,15 @@ or_over : (a b c : Bool) → ((a || b) || c) ≡ (a || (b || c))
 or_over true b c = refl
 or_over false b c = refl
 
-pub marking_next : (table : List Bool) (atoms : List Tree) (parts left : List Part) (shown more : List Bool) (d : Part) → Marking table atoms parts left shown → 1 ≤ length left → AddsShown table atoms (get_or left 0 d) shown more → Marking table atoms parts (take (length left - 1) (drop 1 left)) more
+pub marking_next : (table : List Bool) (atoms : List Tree) (parts left : List Part) (shown more : List Bool) (d : Part) → Marking table atoms parts left shown → 1 ≤ length left
+    → AddsShown table atoms (get_or left 0 d) shown more → Marking table atoms parts (take (length left - 1) (drop 1 left)) more
 marking_next table atoms parts [] shown more d h l a = absurd (omega arith)
 marking_next table atoms parts (p ∷ left) shown more d h l a =
     let n : length (p ∷ left) - 1 ≡ length left = omega arith in
     subst (λ (ps : List Part). Marking table atoms parts ps more) (sym (ap (λ m. take m left) n ∙ take_whole left)) (record {
       length_is = a.length_is ∙ h.length_is;
-      each = λ k m. ap (λ b. b || list_any (shows_at table atoms k) left) (a.each k m) ∙ or_over (get_or shown k false) (shows_at table atoms k p) (list_any (shows_at table atoms k) left) ∙ h.each k m;
+      each = λ k m. ap (λ b. b || list_any (shows_at table atoms k) left) (a.each k m) ∙ or_over (get_or shown k false) (shows_at table atoms k p) (list_any (shows_at table atoms k) left)
+          ∙ h.each k m;
     })
 
 pub marking_end : (table : List Bool) (atoms : List Tree) (parts left : List Part) (shown : List Bool) → length left ≡ 0 → Marking table atoms parts left shown → AreMarks table atoms parts shown

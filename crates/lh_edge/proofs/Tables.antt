@@ -26,7 +26,8 @@ module _ (v w : Tree → Bool) where
     holds_same (now_of p) h = h (now_of p) (has_self (now_of p) [])
     holds_same (operation op ts) h = at (is_connective op ts) h (bits_same ts)
       where
-        at : (b : Bool) → ((x : Tree) → has (if b then subterms_in ts else operation op ts ∷ []) x ≡ true → v x ≡ w x) → (((x : Tree) → has (subterms_in ts) x ≡ true → v x ≡ w x) → bits_of v ts ≡ bits_of w ts) →
+        at : (b : Bool) → ((x : Tree) → has (if b then subterms_in ts else operation op ts ∷ []) x ≡ true → v x ≡ w x)
+            → (((x : Tree) → has (subterms_in ts) x ≡ true → v x ≡ w x) → bits_of v ts ≡ bits_of w ts) →
             (if b then connected op (bits_of v ts) else v (operation op ts)) ≡ (if b then connected op (bits_of w ts) else w (operation op ts))
         at true h next = ap (connected op) (next h)
         at false h next = h (operation op ts) (has_self (operation op ts) [])
@@ -87,7 +88,8 @@ pick_more P a more u v b e r = record {
 pub pick : (P : (Tree → Bool) → Bool) (atoms : List Tree) (u v : Tree → Bool) → list_all P (changed atoms u) ≡ true → Picked P atoms u v
 pick P [] u v h = record { at = u; passes = and_left (P u) true h; on = λ t e. cc; off = λ t e. refl }
 pick P (a ∷ more) u v h =
-    let both : (list_all P (changed more (with_bit a false u)) && list_all P (changed more (with_bit a true u))) ≡ true = sym (list_all-append P (changed more (with_bit a false u)) (changed more (with_bit a true u))) ∙ h in
+    let both : (list_all P (changed more (with_bit a false u)) && list_all P (changed more (with_bit a true u)))
+    ≡ true = sym (list_all-append P (changed more (with_bit a false u)) (changed more (with_bit a true u))) ∙ h in
     elim (true_or (v a)) [
       | inl e ↦ pick_more P a more u v true e (pick P more (with_bit a true u) v (and_right _ _ both))
       | inr e ↦ pick_more P a more u v false e (pick P more (with_bit a false u) v (and_left _ _ both))
@@ -96,7 +98,8 @@ pick P (a ∷ more) u v h =
 either_false : (a b : Bool) → a ≡ false → b ≡ false → (a || b) ≡ false
 either_false a b p q = rw (p, q) refl
 
-pub all_changed : (P : (Tree → Bool) → Bool) (atoms : List Tree) (u : Tree → Bool) → ((w : Tree → Bool) → ((t : Tree) → has atoms t ≡ false → w t ≡ u t) → P w ≡ true) → list_all P (changed atoms u) ≡ true
+pub all_changed : (P : (Tree → Bool) → Bool) (atoms : List Tree) (u : Tree → Bool) → ((w : Tree → Bool) → ((t : Tree) → has atoms t ≡ false → w t ≡ u t) → P w ≡ true)
+    → list_all P (changed atoms u) ≡ true
 all_changed P [] u h = and_both (P u) true (h u (λ t e. refl)) refl
 all_changed P (a ∷ more) u h =
     list_all-append P (changed more (with_bit a false u)) (changed more (with_bit a true u))
@@ -120,7 +123,8 @@ pub shown_by : (waited : List Part) (ts : List Tree) (f : Part → Bool) → lis
 shown_by waited [] f h = cc
 shown_by waited (past_of p ∷ ts) f h = at (can_show waited p) refl (shown_by waited ts f) h
   where
-    at : (b : Bool) → can_show waited p ≡ b → (list_any f (showing_parts waited ts) ≡ true → Showing waited ts f) → list_any f (if b then p ∷ showing_parts waited ts else showing_parts waited ts) ≡ true → Showing waited (past_of p ∷ ts) f
+    at : (b : Bool) → can_show waited p ≡ b → (list_any f (showing_parts waited ts) ≡ true → Showing waited ts f) → list_any f (if b then p ∷ showing_parts waited ts else showing_parts waited ts)
+        ≡ true → Showing waited (past_of p ∷ ts) f
     at true e next h = elim (or_cases (f p) (list_any f (showing_parts waited ts)) h) [
       | inl k ↦ record { part = p; can = e; atom = has_self (past_of p) ts; passes = k }
       | inr k ↦ showing_more waited (past_of p) ts f (next k)
@@ -175,15 +179,17 @@ now_present (choice_of a b t ∷ ts) p h = now_present ts p h
 
 pub now_atom : (e : Tree) (p : Part) → has (atoms_of e) (past_of p) ≡ true → has (atoms_of e) (now_of p) ≡ true
 unfolding atoms_of
-now_atom e p h = elim (or_cases (has (subterms e) (past_of p)) (has (presents (subterms e)) (past_of p)) (sym (has_append (subterms e) (presents (subterms e)) (past_of p)) ∙ sym (has_once (subterms e ++ presents (subterms e)) (past_of p)) ∙ h)) [
-  | inl s ↦ has_once (subterms e ++ presents (subterms e)) (now_of p) ∙ has_right (subterms e) (presents (subterms e)) (now_of p) (now_present (subterms e) p s)
-  | inr r ↦ absurd (no_past_present (subterms e) p r)
-]
+now_atom e p h = elim (or_cases (has (subterms e) (past_of p)) (has (presents (subterms e)) (past_of p))
+    (sym (has_append (subterms e) (presents (subterms e)) (past_of p)) ∙ sym (has_once (subterms e ++ presents (subterms e)) (past_of p)) ∙ h)) [
+      | inl s ↦ has_once (subterms e ++ presents (subterms e)) (now_of p) ∙ has_right (subterms e) (presents (subterms e)) (now_of p) (now_present (subterms e) p s)
+      | inr r ↦ absurd (no_past_present (subterms e) p r)
+    ]
 
 -- ---- the law
 
 module _ (waited : List Part) (edge : Tree) where
-  shows_all : (v : Tree → Bool) (w : Picked (is_shown (showing_parts waited (atoms_of edge)) edge (atoms_of edge)) (atoms_of edge) (λ t. false) v) → holds v edge ≡ true → (p : Part) × Shows waited edge v p
+  shows_all : (v : Tree → Bool) (w : Picked (is_shown (showing_parts waited (atoms_of edge)) edge (atoms_of edge)) (atoms_of edge) (λ t. false) v) → holds v edge ≡ true → (p : Part)
+      × Shows waited edge v p
   shows_all v w h =
       let same : holds w.at edge ≡ true = holds_same w.at v edge (λ x k. w.on x (subterm_atom edge x k)) ∙ h in
       let any : list_any (shows edge (atoms_of edge) w.at) (showing_parts waited (atoms_of edge)) ≡ true =
@@ -223,11 +229,13 @@ pub to_all : (waited : List Part) (c : Tree) → is_edge_shown waited c ≡ true
 unfolding is_edge_shown
 to_all waited c h = record {
   past = and_left (contains_past c) _ h;
-  each = λ v k. shows_all waited (edge_part c) v (pick (is_shown (showing_parts waited (atoms_of (edge_part c))) (edge_part c) (atoms_of (edge_part c))) (atoms_of (edge_part c)) (λ t. false) v (and_right (contains_past c) _ h)) k;
+  each = λ v k. shows_all waited (edge_part c) v
+      (pick (is_shown (showing_parts waited (atoms_of (edge_part c))) (edge_part c) (atoms_of (edge_part c))) (atoms_of (edge_part c)) (λ t. false) v (and_right (contains_past c) _ h)) k;
 }
 
 pub from_all : (waited : List Part) (c : Tree) → IsEdgeShown waited c → is_edge_shown waited c ≡ true
 unfolding is_edge_shown
 from_all waited c h =
     and_both (contains_past c) _ h.past
-    (all_changed (is_shown (showing_parts waited (atoms_of (edge_part c))) (edge_part c) (atoms_of (edge_part c))) (atoms_of (edge_part c)) (λ t. false) (λ w k. all_shown waited (edge_part c) h.each w))
+    (all_changed (is_shown (showing_parts waited (atoms_of (edge_part c))) (edge_part c) (atoms_of (edge_part c))) (atoms_of (edge_part c)) (λ t. false)
+    (λ w k. all_shown waited (edge_part c) h.each w))

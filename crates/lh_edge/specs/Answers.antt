@@ -3,7 +3,7 @@ use Rattle.std.specs.Prelude.{◌≡◌, true, false, List, [], ◌∷◌, ◌++
 use Rattle.lh_term.specs.declared.part.Part.{Part}
 use Rattle.lh_term.specs.declared.term.Node.{Node}
 use Rattle.lh_term.specs.Tree.{Tree}
-use Rattle.lh_term.specs.Arena.{Stands}
+use Rattle.lh_term.specs.Arena.{StandsForTree}
 use Rattle.lh_edge.specs.Shown.{has_too_many_atoms, is_edge_shown}
 use Rattle.lh_edge.specs.Triggers.{TriggerTree, triggers_of}
 use Rattle.lh_edge.specs.declared.triggers.Trigger.{Trigger}
@@ -14,7 +14,7 @@ use Rattle.lh_edge.specs.declared.triggers.EdgeFault.TheVariants.{TooManyAtoms, 
 pub record IsTrigger (ns : List Node) (t : Trigger) (x : TriggerTree) : Type 0 where
   pub rise : t.rise ≡ x.rise
   pub part : t.part ≡ x.part
-  pub gate : Stands ns t.gate x.gate
+  pub gate : StandsForTree ns t.gate x.gate
 
 -- the triggers are those, one by one
 abbrev pub AreTriggers : List Node → List Trigger → List TriggerTree → Type 0
@@ -35,8 +35,8 @@ pub record GivesTriggers (ns : List Node) (waited : List Part) (c : Tree) (ts : 
   pub triggers : AreTriggers ns ts (triggers_of waited c)
 
 -- the triggers; or the first fault: too many atoms, else no edge
-abbrev pub Answers : List Node → List Part → Tree → Result (List Trigger) EdgeFault → Type 0
-Answers ns waited c (Ok ts) = GivesTriggers ns waited c ts
-Answers ns waited c (Err TooManyAtoms) = has_too_many_atoms c ≡ true
-Answers ns waited c (Err NoEdge) = (has_too_many_atoms c ≡ false) × (is_edge_shown waited c ≡ false)
-Answers ns waited c (Err OutOfMemory) = Unit {0}
+abbrev pub TriggersOrFault : List Node → List Part → Tree → Result (List Trigger) EdgeFault → Type 0
+TriggersOrFault ns waited c (Ok ts) = GivesTriggers ns waited c ts
+TriggersOrFault ns waited c (Err TooManyAtoms) = has_too_many_atoms c ≡ true
+TriggersOrFault ns waited c (Err NoEdge) = (has_too_many_atoms c ≡ false) × (is_edge_shown waited c ≡ false)
+TriggersOrFault ns waited c (Err OutOfMemory) = Unit {0}

@@ -82,21 +82,21 @@ AreDistinct [] = Unit {0}
 AreDistinct (t ∷ ts) = (has ts t ≡ false) × AreDistinct ts
 
 -- ids of terms of a list, no two alike
-pub record AreOf (ns : List Node) (ts : List Tree) (ids : List TermId) : Type 0 where
+pub record AreIdsOf (ns : List Node) (ts : List Tree) (ids : List TermId) : Type 0 where
   pub are_in : AreIn ns ids
   pub distinct : AreDistinct (trees_at ns ids)
   pub sound : (t : Tree) → has (trees_at ns ids) t ≡ true → has ts t ≡ true
 
 -- of all terms of the list, which are at most twelve
-pub record AreThe (ns : List Node) (ts : List Tree) (ids : List TermId) : Type 0 where
-  pub are : AreOf ns ts ids
+pub record AreAllIdsOf (ns : List Node) (ts : List Tree) (ids : List TermId) : Type 0 where
+  pub are : AreIdsOf ns ts ids
   pub few : length ids ≤ 12
   pub whole : (t : Tree) → has ts t ≡ true → has (trees_at ns ids) t ≡ true
 
 -- the ids of the terms of a list, or more than twelve of them
 abbrev pub FindsThe : List Node → List Tree → Option (List TermId) → Type 0
-FindsThe ns ts (Some ids) = AreThe ns ts ids
-FindsThe ns ts None = (ids : List TermId) × AreOf ns ts ids × (12 < length ids)
+FindsThe ns ts (Some ids) = AreAllIdsOf ns ts ids
+FindsThe ns ts None = (ids : List TermId) × AreIdsOf ns ts ids × (12 < length ids)
 
 abbrev pub found_items : {A : Type 0} → Option (Vec TermId A) → Option (List TermId)
 found_items (Some v) = Some v.items

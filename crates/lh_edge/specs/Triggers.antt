@@ -84,9 +84,9 @@ SomeFires past now [] = ⊥
 SomeFires past now (t ∷ ts) = Fires past now t ⊎ SomeFires past now ts
 
 -- each trigger's part has one value before and now
-abbrev pub AllRest : Valuation → Valuation → List TriggerTree → Type 0
-AllRest past now [] = Unit {0}
-AllRest past now (t ∷ ts) = (past t.part ≡ now t.part) × AllRest past now ts
+abbrev pub NoneChanges : Valuation → Valuation → List TriggerTree → Type 0
+NoneChanges past now [] = Unit {0}
+NoneChanges past now (t ∷ ts) = (past t.part ≡ now t.part) × NoneChanges past now ts
 
 -- each trigger's part is of one bit, which is waited on
 abbrev pub AreWaited : List Part → List TriggerTree → Type 0

@@ -1,7 +1,7 @@
 //! The atoms of a condition: its maximal subterms that are no connective of bits, and for each value of a part before its value now.
 ghost use Rattle.std.specs.Prelude.{◌≡◌, ◌<◌, ◌≤◌, true, false, Some, length, replicate, slice_get, OnOk, IfOk};
 ghost use Rattle.lh_term.specs.Tree.{tree_row};
-ghost use Rattle.lh_term.specs.Arena.{trees, tree_at, trees_at, ids_below, IsIn, AreIn, Stands, Grows};
+ghost use Rattle.lh_term.specs.Arena.{trees, tree_at, trees_at, ids_below, IsIn, AreIn, StandsForTree, Grows};
 ghost use Rattle.lh_edge.specs.Atoms as spec;
 ghost use Rattle.lh_edge.specs.Gates.{SeesTerm};
 ghost use Rattle.lh_edge.specs.Steps as step;
@@ -88,10 +88,7 @@ pub(crate) fn reached(alloc: Global, terms: &Terms, edge: TermId) -> Result<Vec<
 pub(crate) fn unset(alloc: Global, len: usize) -> Result<Vec<bool>, NoMemory>
     ensures { IfOk result (λ flags. flags.items ≡ replicate len false) }
 {
-    match vec![in alloc; false; len] {
-        Ok(flags) => Ok(flags),
-        Err(_) => Err(NoMemory),
-    }
+    Ok(vec![in alloc; false; len]?)
 }
 
 /// Whether a flag is set.

@@ -3,7 +3,7 @@ ghost use Rattle.std.specs.Prelude.{◌≡◌, ◌≤◌, [], ◌∷◌, ◌++�
 ghost use Rattle.std.specs.List.{list_any, filter, insert};
 ghost use Rattle.lh_types.specs.Types.{int_type};
 ghost use Rattle.lh_term.specs.Types.{type_of};
-ghost use Rattle.lh_term.specs.Arena.{trees, tree_at, trees_at, ids_below, IsIn, AreIn, Stands, Grows};
+ghost use Rattle.lh_term.specs.Arena.{trees, tree_at, trees_at, ids_below, IsIn, AreIn, StandsForTree, Grows};
 ghost use Rattle.lh_term.specs.Conjuncts.{conjunction};
 ghost use Rattle.lh_term.specs.Make.{make_operation};
 ghost use Rattle.lh_term.proofs.Sound.{IntTerm};
@@ -80,7 +80,7 @@ pub(crate) fn edge_part(terms: &mut Terms, cond: TermId, pasts: &[bool]) -> Resu
     requires bit { type_of (tree_at (trees terms.old) cond) ≡ int_type 1 }
     requires tell { TellPasts terms.old pasts.now }
     requires all { length pasts.now ≡ length terms.old }
-    ensures made { IfOk result (λ e. Stands terms.new e (spec.edge_part (tree_at (trees terms.old) cond))) }
+    ensures made { IfOk result (λ e. StandsForTree terms.new e (spec.edge_part (tree_at (trees terms.old) cond))) }
     ensures kept { Grows terms.old terms.new }
 {
     let _typed = terms.view(cond);
@@ -94,7 +94,7 @@ fn conjoined(terms: &mut Terms, xs: &[TermId], flags: &[bool]) -> Result<TermId,
     requires bits { AllBits (trees_at terms.old xs.now) }
     requires within { ids_below (length flags.now) xs.now ≡ true }
     requires tell { TellPasts terms.old flags.now }
-    ensures made { IfOk result (λ e. Stands terms.new e (conjunction (filter spec.contains_past (trees_at terms.old xs.now)))) }
+    ensures made { IfOk result (λ e. StandsForTree terms.new e (conjunction (filter spec.contains_past (trees_at terms.old xs.now)))) }
     ensures kept { Grows terms.old terms.new }
 {
     let mut all = terms.konst(Val::Int { width: 1, bits: 1 })?;
@@ -114,7 +114,7 @@ fn both(terms: &mut Terms, x: TermId, y: TermId) -> Result<TermId, NoMemory>
     requires y_in { IsIn terms.old y }
     requires x_bit { IntTerm (tree_at (trees terms.old) x) 1 }
     requires y_bit { IntTerm (tree_at (trees terms.old) y) 1 }
-    ensures made { IfOk result (λ t. Stands terms.new t (make_operation spec_op.And (tree_at (trees terms.old) x ∷ tree_at (trees terms.old) y ∷ []))) }
+    ensures made { IfOk result (λ t. StandsForTree terms.new t (make_operation spec_op.And (tree_at (trees terms.old) x ∷ tree_at (trees terms.old) y ∷ []))) }
     ensures kept { Grows terms.old terms.new }
 {
     terms.op(&Op::And, &[x, y])
@@ -124,10 +124,8 @@ fn both(terms: &mut Terms, x: TermId, y: TermId) -> Result<TermId, NoMemory>
 pub(crate) fn put<T: Drop>(items: &mut Vec<T>, item: T) -> Result<(), NoMemory>
     ensures { OnOk result (items.new.items ≡ items.old.items ++ item ∷ []) }
 {
-    match items.push(item) {
-        Ok(()) => Ok(()),
-        Err(_) => Err(NoMemory),
-    }
+    items.push(item)?;
+    Ok(())
 }
 
 /// Adds an item before the one at a place.
@@ -135,8 +133,6 @@ pub(crate) fn put_at<T: Drop>(items: &mut Vec<T>, place: usize, item: T) -> Resu
     requires { place ≤ length items.old.items }
     ensures { OnOk result (items.new.items ≡ insert items.old.items place item) }
 {
-    match items.insert(place, item) {
-        Ok(()) => Ok(()),
-        Err(_) => Err(NoMemory),
-    }
+    items.insert(place, item)?;
+    Ok(())
 }

@@ -17,7 +17,7 @@ use std::alloc::Global;
 
 /// What is known of the edge part: at which valuations of its atoms it holds, and in which terms a value before is.
 #[derive(Clone, Copy)]
-pub(crate) struct Known<'a> {
+pub(crate) struct EdgePart<'a> {
     pub(crate) terms: &'a Terms,
     pub(crate) atoms: &'a [TermId],
     pub(crate) table: &'a [bool],
@@ -34,7 +34,7 @@ struct Sight {
     holds: Vec<bool>,
 }
 
-impl Known<'_> {
+impl EdgePart<'_> {
     /// Whether every valuation at which the edge part holds is shown by one of the parts.
     ///
     /// It looks at each valuation twice for each part.
@@ -251,8 +251,5 @@ fn kept_or(is_other: bool, later: usize) -> usize
 fn all_set(alloc: Global, len: usize) -> Result<Vec<bool>, NoMemory>
     ensures { IfOk result (λ flags. flags.items ≡ replicate len true) }
 {
-    match vec![in alloc; true; len] {
-        Ok(flags) => Ok(flags),
-        Err(_) => Err(NoMemory),
-    }
+    Ok(vec![in alloc; true; len]?)
 }

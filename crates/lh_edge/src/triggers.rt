@@ -4,10 +4,10 @@ ghost use Rattle.lh_types.specs.Types.{int_type, same_type};
 ghost use Rattle.lh_term.specs.declared.part.Part.{Part as PartRecord};
 ghost use Rattle.lh_term.specs.Types.{type_of};
 ghost use Rattle.lh_term.specs.Make.{is_bit as is_bit_tree, bit_of};
-ghost use Rattle.lh_term.specs.Arena.{trees, tree_at, trees_at, IsIn, AreIn, Stands, Grows};
+ghost use Rattle.lh_term.specs.Arena.{trees, tree_at, trees_at, IsIn, AreIn, StandsForTree, Grows};
 ghost use Rattle.lh_term.specs.Subst.{PairsIn, pairs_at, is_first as first_in_pair};
 ghost use Rattle.lh_cover.specs.Runs.{IsCover};
-ghost use Rattle.lh_edge.specs.Answers.{Answers, AreTriggers, AddsTrigger};
+ghost use Rattle.lh_edge.specs.Answers.{TriggersOrFault, AreTriggers, AddsTrigger};
 ghost use Rattle.lh_edge.specs.Gates.{AllBit, IsPresents, MakesGate, Gathers, GathersIf, with_pair};
 ghost use Rattle.lh_edge.specs.Shown as spec;
 ghost use Rattle.lh_edge.specs.Triggers as tri;
@@ -17,7 +17,7 @@ ghost use Rattle.lh_edge.specs.Steps.{is_checked, TellPasts, showing_of, with_sh
 use crate::atoms::{atoms_of, is_set, present_of, reached, set_ids};
 use crate::operands::made_of;
 use crate::pasts::{edge_part, past_flags, put, put_at, tell_rest};
-use crate::shown::Known;
+use crate::shown::EdgePart;
 use crate::table::truth_table;
 use lh_cover::Cover;
 use lh_term::part::{Part, PartList};
@@ -91,7 +91,7 @@ pub fn edges(
 ) -> Result<TriggerList, EdgeFault>
     requires is_in { IsIn terms.old cond }
     requires bit { type_of (tree_at (trees terms.old) cond) ≡ int_type 1 }
-    ensures answers { Answers terms.new waited.now (tree_at (trees terms.old) cond) result }
+    ensures answers { TriggersOrFault terms.new waited.now (tree_at (trees terms.old) cond) result }
     ensures kept { Grows terms.old terms.new }
 {
     let mut pasts = past_flags(alloc, terms)?;
@@ -133,7 +133,7 @@ fn is_edge_shown(
     let ids = set_ids(alloc, &flags)?;
     let size = 1 << atoms.len();
     let table = truth_table(alloc, terms, edge, &flags, &ids, atoms, size)?;
-    let known = Known {
+    let known = EdgePart {
         terms,
         atoms,
         table: &table,
@@ -369,7 +369,7 @@ fn add_pair(terms: &Terms, pair: (TermId, TermId), swap: &mut Swap) -> Result<()
 
 /// The constant of a bit.
 fn konst_bit(terms: &mut Terms, value: bool) -> Result<TermId, NoMemory>
-    ensures made { IfOk result (λ t. Stands terms.new t (bit_of value)) }
+    ensures made { IfOk result (λ t. StandsForTree terms.new t (bit_of value)) }
     ensures kept { Grows terms.old terms.new }
 {
     if value {

@@ -41,7 +41,8 @@ adds-more old mid new i ss ts p q = record {
 pub rest-more : (old mid new : Building) → KeepsRest old mid → KeepsRest mid new → KeepsRest old new
 rest-more old mid new p q = record { instances = q.instances ∙ p.instances; pending = q.pending ∙ p.pending }
 
-pub ranges-more : (lo next : ℕ) (ss : List SignalText) (s : SignalText) (rs : List Range) (r : Range) → rs ≡ signal_ranges lo ss → next ≡ lo + room_of ss → r ≡ record { lo = next; len = bit_count s.ty } → rs ++ r ∷ [] ≡ signal_ranges lo (ss ++ s ∷ [])
+pub ranges-more : (lo next : ℕ) (ss : List SignalText) (s : SignalText) (rs : List Range) (r : Range) → rs ≡ signal_ranges lo ss → next ≡ lo + room_of ss
+    → r ≡ record { lo = next; len = bit_count s.ty } → rs ++ r ∷ [] ≡ signal_ranges lo (ss ++ s ∷ [])
 ranges-more lo next ss s rs r p q e = (λ j. p j ++ e j ∷ []) ∙ (λ j. let x : Range = record { lo = q j; len = bit_count s.ty } in signal_ranges lo ss ++ x ∷ []) ∙ sym (ranges-append lo ss (s ∷ []))
 
 -- nothing is added
@@ -55,7 +56,9 @@ bits-put lo new bs h =
     let m : length (take lo bs ++ new) ≡ lo + length new = let x = length-append (take lo bs) new in let y : length (take lo bs) ≡ lo = length-take-le lo bs (omega arith) in omega (arith, x, y) in
     ap (λ n. take (lo + length new) (bits_with lo n bs)) e ∙ take_at (take lo bs ++ new) (drop (lo + length new) bs) (lo + length new) m
 
-pub adds-one : (old new : Building) (i : ℕ) (s : SignalText) (x : Signal) → length s.initial ≡ bit_count s.ty → old.lo + length s.initial ≤ length old.init → new.signals.items ≡ old.signals.items ++ x ∷ [] → signal_text x ≡ record { instance = i; name = s.name; ty = s.ty; lo = old.lo } → new.init ≡ bits_with old.lo (bits_within 0 (length s.initial) s.initial) old.init → new.lo ≡ old.lo + length s.initial → length new.init ≡ length old.init → AddsSignals old new i (s ∷ [])
+pub adds-one : (old new : Building) (i : ℕ) (s : SignalText) (x : Signal) → length s.initial ≡ bit_count s.ty → old.lo + length s.initial ≤ length old.init
+    → new.signals.items ≡ old.signals.items ++ x ∷ [] → signal_text x ≡ record { instance = i; name = s.name; ty = s.ty; lo = old.lo }
+    → new.init ≡ bits_with old.lo (bits_within 0 (length s.initial) s.initial) old.init → new.lo ≡ old.lo + length s.initial → length new.init ≡ length old.init → AddsSignals old new i (s ∷ [])
 adds-one old new i s x f h p e q l long = record {
   signals = ap (map signal_text) p ∙ map-append signal_text old.signals.items (x ∷ []) ∙ ap (λ y. map signal_text old.signals.items ++ y ∷ []) e;
   bits = (λ j. take (l j) (q j)) ∙ bits-put old.lo s.initial old.init h ∙ ap (λ y. take old.lo old.init ++ y) (sym (append-nil s.initial));
@@ -89,25 +92,31 @@ length-by [] los = refl
 length-by (x ∷ xs) [] = let e = length-by xs [] in omega arith
 length-by (x ∷ xs) (l ∷ los) = let e = length-by xs los in omega arith
 
-get-by : (args sigs : List Range) (xs : List Arg) (ls : List (Option Low)) (i : ℕ) (r : Range) (d : Arg) → i < length xs → get_or (ranges_by xs (map (low_at args sigs) ls)) i r ≡ record { lo = low_at args sigs (get_or ls i None); len = bit_count (get_or xs i d).ty }
+get-by : (args sigs : List Range) (xs : List Arg) (ls : List (Option Low)) (i : ℕ) (r : Range) (d : Arg) → i < length xs
+    → get_or (ranges_by xs (map (low_at args sigs) ls)) i r ≡ record { lo = low_at args sigs (get_or ls i None); len = bit_count (get_or xs i d).ty }
 get-by args sigs [] ls i r d h = absurd (omega arith)
 get-by args sigs (x ∷ xs) [] zero r d h = refl
 get-by args sigs (x ∷ xs) [] (suc i) r d h = get-by args sigs xs [] i r d (omega arith) ∙ (λ j. let y : Range = record { lo = nothing-at i args sigs j; len = bit_count (get_or xs i d).ty } in y)
 get-by args sigs (x ∷ xs) (l ∷ ls) zero r d h = refl
 get-by args sigs (x ∷ xs) (l ∷ ls) (suc i) r d h = get-by args sigs xs ls i r d (omega arith)
 
-pub by-more : (args sigs : List Range) (xs : List Arg) (ls : List (Option Low)) (i : ℕ) (x : Arg) (rs : List Range) (r : Range) → i < length xs → x ≡ get_or xs i x → rs ≡ take i (ranges_by xs (map (low_at args sigs) ls)) → r.lo ≡ low_at args sigs (get_or ls i None) → r.len ≡ bit_count x.ty → rs ++ r ∷ [] ≡ take (i + 1) (ranges_by xs (map (low_at args sigs) ls))
+pub by-more : (args sigs : List Range) (xs : List Arg) (ls : List (Option Low)) (i : ℕ) (x : Arg) (rs : List Range) (r : Range) → i < length xs → x ≡ get_or xs i x
+    → rs ≡ take i (ranges_by xs (map (low_at args sigs) ls)) → r.lo ≡ low_at args sigs (get_or ls i None) → r.len ≡ bit_count x.ty
+    → rs ++ r ∷ [] ≡ take (i + 1) (ranges_by xs (map (low_at args sigs) ls))
 by-more args sigs xs ls i x rs r h e p q w =
     let all = ranges_by xs (map (low_at args sigs) ls) in
     let n = length-by xs (map (low_at args sigs) ls) in
     let g : r ≡ get_or all i r = (λ j. let y : Range = record { lo = q j; len = (w ∙ ap (λ (z : Arg). bit_count z.ty) e) j } in y) ∙ sym (get-by args sigs xs ls i r x h) in
     (λ j. p j ++ g j ∷ []) ∙ sym (take_more all i r (omega (arith, n)))
 
-pub by-all : (args sigs : List Range) (xs : List Arg) (ls : List (Option Low)) (i : ℕ) (rs : List Range) → length xs ≤ i → rs ≡ take i (ranges_by xs (map (low_at args sigs) ls)) → rs ≡ ranges_by xs (map (low_at args sigs) ls)
+pub by-all : (args sigs : List Range) (xs : List Arg) (ls : List (Option Low)) (i : ℕ) (rs : List Range) → length xs ≤ i → rs ≡ take i (ranges_by xs (map (low_at args sigs) ls))
+    → rs ≡ ranges_by xs (map (low_at args sigs) ls)
 by-all args sigs xs ls i rs h p = let n = length-by xs (map (low_at args sigs) ls) in p ∙ take_all i (ranges_by xs (map (low_at args sigs) ls)) (omega (arith, n))
 
 -- the instances in an instance, from the last to the first
-pub kids-more : (a : Arena) (n k : ℕ) (args sigs : List Range) (cs : List PlanChild) (i : ℕ) (c : PlanChild) (old cur new : List Pending) (x : Pending) → i < length cs → c ≡ get_or cs (length cs - 1 - i) c → cur ≡ old ++ kids a n k args sigs (drop (length cs - i) cs) → new ≡ cur ++ x ∷ [] → x ≡ kid a n k args sigs c → new ≡ old ++ kids a n k args sigs (drop (length cs - (i + 1)) cs)
+pub kids-more : (a : Arena) (n k : ℕ) (args sigs : List Range) (cs : List PlanChild) (i : ℕ) (c : PlanChild) (old cur new : List Pending) (x : Pending) → i < length cs
+    → c ≡ get_or cs (length cs - 1 - i) c → cur ≡ old ++ kids a n k args sigs (drop (length cs - i) cs) → new ≡ cur ++ x ∷ [] → x ≡ kid a n k args sigs c
+    → new ≡ old ++ kids a n k args sigs (drop (length cs - (i + 1)) cs)
 kids-more a n k args sigs cs i c old cur new x h e p q w =
     let j = length cs - (i + 1) in
     let f : drop j cs ≡ get_or cs j c ∷ drop (j + 1) cs = drop_more cs j c (omega arith) in
@@ -118,10 +127,12 @@ kids-more a n k args sigs cs i c old cur new x h e p q w =
     q ∙ (λ t. p t ++ w t ∷ []) ∙ append_assoc old (kids a n k args sigs (drop (length cs - i) cs)) (kid a n k args sigs c ∷ []) ∙ ap (λ l. old ++ kids a n k args sigs l) (sym z)
 
 -- room for the rest
-pub room-next : (lo next all : ℕ) (xs : List PlanSignal) (k : ℕ) (x : PlanSignal) → k < length xs → x ≡ get_or xs k x → lo + room_of (map signal_of xs) ≤ all → next ≡ lo + room_of (map signal_of (take k xs)) → next + bit_count x.ty ≤ all
+pub room-next : (lo next all : ℕ) (xs : List PlanSignal) (k : ℕ) (x : PlanSignal) → k < length xs → x ≡ get_or xs k x → lo + room_of (map signal_of xs) ≤ all
+    → next ≡ lo + room_of (map signal_of (take k xs)) → next + bit_count x.ty ≤ all
 room-next lo next all xs k x h e r n =
     let a : room_of (map signal_of xs) ≡ room_of (map signal_of (take (k + 1) xs)) + room_of (map signal_of (drop (k + 1) xs)) =
-    ap (λ l. room_of (map signal_of l)) (sym (take-append-drop (k + 1) xs)) ∙ ap room_of (map-append signal_of (take (k + 1) xs) (drop (k + 1) xs)) ∙ room-append (map signal_of (take (k + 1) xs)) (map signal_of (drop (k + 1) xs)) in
+    ap (λ l. room_of (map signal_of l)) (sym (take-append-drop (k + 1) xs)) ∙ ap room_of (map-append signal_of (take (k + 1) xs) (drop (k + 1) xs))
+    ∙ room-append (map signal_of (take (k + 1) xs)) (map signal_of (drop (k + 1) xs)) in
     let b : room_of (map signal_of (take (k + 1) xs)) ≡ room_of (map signal_of (take k xs)) + room_of (signal_of x ∷ []) =
     ap room_of (more-signals xs k x h ∙ ap (λ y. map signal_of (take k xs) ++ signal_of y ∷ []) (sym e)) ∙ room-append (map signal_of (take k xs)) (signal_of x ∷ []) in
     let c = room-cons (signal_of x) [] in
@@ -133,11 +144,14 @@ top_of x = record { name = x.name; ty = carried_type x.ty; initial = zeros (carr
 pub more-args : (xs : List ArgText) (k : ℕ) (x : ArgText) → k < length xs → x ≡ get_or xs k x → top_signals (take (k + 1) xs) ≡ top_signals (take k xs) ++ top_of x ∷ []
 more-args xs k x h e = ap top_signals (take_more xs k x h) ∙ top-append (take k xs) (get_or xs k x ∷ []) ∙ ap (λ y. top_signals (take k xs) ++ top_of y ∷ []) (sym e)
 
-pub room-arg : (lo next all : ℕ) (xs : List ArgText) (k : ℕ) (x : ArgText) → k < length xs → x ≡ get_or xs k x → lo + room_of (top_signals xs) ≤ all → next ≡ lo + room_of (top_signals (take k xs)) → next + bit_count (carried_type x.ty) ≤ all
+pub room-arg : (lo next all : ℕ) (xs : List ArgText) (k : ℕ) (x : ArgText) → k < length xs → x ≡ get_or xs k x → lo + room_of (top_signals xs) ≤ all → next ≡ lo + room_of (top_signals (take k xs))
+    → next + bit_count (carried_type x.ty) ≤ all
 room-arg lo next all xs k x h e r n =
     let a : room_of (top_signals xs) ≡ room_of (top_signals (take (k + 1) xs)) + room_of (top_signals (drop (k + 1) xs)) =
-    ap (λ l. room_of (top_signals l)) (sym (take-append-drop (k + 1) xs)) ∙ ap room_of (top-append (take (k + 1) xs) (drop (k + 1) xs)) ∙ room-append (top_signals (take (k + 1) xs)) (top_signals (drop (k + 1) xs)) in
-    let b : room_of (top_signals (take (k + 1) xs)) ≡ room_of (top_signals (take k xs)) + room_of (top_of x ∷ []) = ap room_of (more-args xs k x h e) ∙ room-append (top_signals (take k xs)) (top_of x ∷ []) in
+    ap (λ l. room_of (top_signals l)) (sym (take-append-drop (k + 1) xs)) ∙ ap room_of (top-append (take (k + 1) xs) (drop (k + 1) xs))
+    ∙ room-append (top_signals (take (k + 1) xs)) (top_signals (drop (k + 1) xs)) in
+    let b : room_of (top_signals (take (k + 1) xs)) ≡ room_of (top_signals (take k xs)) + room_of (top_of x ∷ []) = ap room_of (more-args xs k x h e)
+    ∙ room-append (top_signals (take k xs)) (top_of x ∷ []) in
     let c = room-cons (top_of x) [] in
     omega (arith, a, b, c, r, n)
 

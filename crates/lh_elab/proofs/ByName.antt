@@ -24,10 +24,12 @@ record Same (h k : Hierarchy) : Type 0 where
   pub children : (args sigs : List Range) → h.children args sigs ≡ k.children args sigs
   pub units : (args sigs : List Range) → map (λ (c : Child). c.unit) (h.children args sigs) ≡ targets h
 
-any-units : (f : Naming) (n : UnitName) (t : Table) → t.blocks ≡ entity_block ∷ [] → (e : Env) → map (λ (c : Child). c.unit) (children_of e (lines_of (table_text f n t).blocks)) ≡ map (λ (x : UnitId). f.unit_name x.0) (child_ids t (insts_at t 0))
+any-units : (f : Naming) (n : UnitName) (t : Table) → t.blocks ≡ entity_block ∷ [] → (e : Env) → map (λ (c : Child). c.unit) (children_of e (lines_of (table_text f n t).blocks))
+    ≡ map (λ (x : UnitId). f.unit_name x.0) (child_ids t (insts_at t 0))
 any-units f n t b e = ap (λ ls. map (λ (c : Child). c.unit) (children_of e ls)) (entity-lines f t b) ∙ children-names f e t (insts_at t 0)
 
-by-kind : (f : Naming) (n : UnitName) (t : Table) (k : Option UnitKind) → (k ≡ None → t.args ≡ []) → (k ≡ Some kind.Entity → t.blocks ≡ entity_block ∷ []) → Same (hierarchy_or (option_map (hierarchy_by (kind_text k)) (if is_some k then Some (table_text f n t) else None))) (hierarchy_by (kind_text k) (table_text f n t))
+by-kind : (f : Naming) (n : UnitName) (t : Table) (k : Option UnitKind) → (k ≡ None → t.args ≡ []) → (k ≡ Some kind.Entity → t.blocks ≡ entity_block ∷ [])
+    → Same (hierarchy_or (option_map (hierarchy_by (kind_text k)) (if is_some k then Some (table_text f n t) else None))) (hierarchy_by (kind_text k) (table_text f n t))
 by-kind f n t None p q = record { args = sym (ap (map (arg_text f)) (p refl)); signals = refl; children = λ args sigs. refl; units = λ args sigs. refl }
 by-kind f n t (Some kind.Func) p q = record { args = refl; signals = refl; children = λ args sigs. refl; units = λ args sigs. refl }
 by-kind f n t (Some kind.Proc) p q = record { args = refl; signals = refl; children = λ args sigs. refl; units = λ args sigs. refl }

@@ -22,12 +22,13 @@ use Rattle.lh_elab.specs.declared.statics.Base.{Base}
 use Rattle.lh_elab.specs.declared.statics.Base.TheVariants as base
 use Rattle.lh_elab.specs.declared.statics.Statics.{Statics}
 use Rattle.lh_elab.specs.declared.plan.PlanChild.{PlanChild}
-use Rattle.lh_elab.specs.Statics.{by_of, base_lo, moved_slots, Follows}
+use Rattle.lh_elab.specs.Statics.{by_of, base_lo, moved_slots, StaticsFollow}
 use Rattle.lh_elab.specs.Plans.{low_by, lows_by, low_at, child_of, LowSmall, ChildSmall, PartsSmall, ChildLine, ChildWithin}
 use Rattle.lh_elab.proofs.Moving.{shifted, length-moved, slot-moved, part-moved}
 
-module _ (args sigs : List Range) (a : Arena) (u : ℕ) (s : Statics) (e : Env) (f : Follows a u args sigs (by_of s) e) where
-  low-of-part : (b : Base) (p : Option Range) → low_at args sigs (option_map (λ (r : Range). record { base = b; offset = r.lo }) p) ≡ option_map_or (λ (r : Range). r.lo) (option_map (shifted (base_lo args sigs b)) p) 0
+module _ (args sigs : List Range) (a : Arena) (u : ℕ) (s : Statics) (e : Env) (f : StaticsFollow a u args sigs (by_of s) e) where
+  low-of-part : (b : Base) (p : Option Range) → low_at args sigs (option_map (λ (r : Range). record { base = b; offset = r.lo }) p)
+      ≡ option_map_or (λ (r : Range). r.lo) (option_map (shifted (base_lo args sigs b)) p) 0
   low-of-part b None = refl
   low-of-part b (Some r) = refl
 
@@ -37,7 +38,8 @@ module _ (args sigs : List Range) (a : Arena) (u : ℕ) (s : Statics) (e : Env) 
       let b = get_or s.bases.items v.0 (base.Arg 0) in
       let w' : v.0 < length (moved_slots args sigs s.bases.items s.slots) = omega (arith, n, w) in
       let p : part_at e (value_text (naming a u) v) ≡ option_map (shifted (base_lo args sigs b)) (part_in s.slots v) =
-      sym ((same-held a u (moved_slots args sigs s.bases.items s.slots) e f.holds).part v w') ∙ ap (option_and_then as_part) (slot-moved args sigs s.bases.items s.slots v.0 f.long) ∙ part-moved args sigs b (get_or s.slots v.0 None) in
+      sym ((same-held a u (moved_slots args sigs s.bases.items s.slots) e f.holds).part v w') ∙ ap (option_and_then as_part) (slot-moved args sigs s.bases.items s.slots v.0 f.long)
+      ∙ part-moved args sigs b (get_or s.slots v.0 None) in
       low-of-part b (part_in s.slots v) ∙ ap (λ x. option_map_or (λ (r : Range). r.lo) x 0) (sym p)
 
   pub lows-read : (os : List Typed) → Each (λ (o : Typed). o.value.0 < length s.slots) os → map (low_at args sigs) (lows_by s os) ≡ lows_of e (map (operand_text (naming a u)) os)
@@ -45,7 +47,8 @@ module _ (args sigs : List Range) (a : Arena) (u : ℕ) (s : Statics) (e : Env) 
   lows-read (o ∷ os) w = let p = low-read o.value w.0 in let q = lows-read os w.1 in λ i. p i ∷ q i
 
   -- an `inst`
-  pub child-read : (c : PlanChild) (i : Inst) (v : UnitId) (inputs outputs xs ys : List Typed) → i ≡ inst.Child v inputs outputs → xs ≡ inputs → ys ≡ outputs → ChildLine (length s.slots) i → c.unit ≡ v → c.lows.items ≡ lows_by s (xs ++ ys)
+  pub child-read : (c : PlanChild) (i : Inst) (v : UnitId) (inputs outputs xs ys : List Typed) → i ≡ inst.Child v inputs outputs → xs ≡ inputs → ys ≡ outputs → ChildLine (length s.slots) i
+      → c.unit ≡ v → c.lows.items ≡ lows_by s (xs ++ ys)
       → child_of a args sigs c ∷ [] ≡ child_if e (inst_text (naming a u) i) []
   child-read c i v inputs outputs xs ys g x y w p q =
       let w' = subst (ChildLine (length s.slots)) g w in
@@ -67,7 +70,8 @@ lows-small : (s : Statics) → PartsSmall s → (os : List Typed) → Each (λ (
 lows-small s k [] w = tt
 lows-small s k (o ∷ os) w = (low-small s k o.value w.0, lows-small s k os w.1)
 
-pub child-small : (s : Statics) → PartsSmall s → (c : PlanChild) (i : Inst) (v : UnitId) (inputs outputs xs ys : List Typed) → i ≡ inst.Child v inputs outputs → xs ≡ inputs → ys ≡ outputs → ChildLine (length s.slots) i → c.lows.items ≡ lows_by s (xs ++ ys) → ChildSmall c
+pub child-small : (s : Statics) → PartsSmall s → (c : PlanChild) (i : Inst) (v : UnitId) (inputs outputs xs ys : List Typed) → i ≡ inst.Child v inputs outputs → xs ≡ inputs → ys ≡ outputs
+    → ChildLine (length s.slots) i → c.lows.items ≡ lows_by s (xs ++ ys) → ChildSmall c
 child-small s k c i v inputs outputs xs ys g x y w q =
     let w' = subst (ChildLine (length s.slots)) g w in
     subst (Each LowSmall) (sym (q ∙ (λ j. lows_by s (x j ++ y j)))) (lows-small s k (inputs ++ outputs) (Each-append (λ (o : Typed). o.value.0 < length s.slots) inputs outputs w'.0 w'.1))
@@ -81,7 +85,8 @@ signal-front : (e : Env) (i : InstText) (r : Option (List ℕ)) (more : List Sig
 signal-front e (sig_text x) r more = refl
 signal-front e _ r more = refl
 
-pub more-children : (e : Env) (f : InstId → LineText) (is : List InstId) (k : ℕ) (d : InstId) (cur new all : List Child) → k < length is → new ≡ cur ++ child_if e (f (get_or is k d)).inst [] → cur ++ children_of e (map f (drop k is)) ≡ all → new ++ children_of e (map f (drop (k + 1) is)) ≡ all
+pub more-children : (e : Env) (f : InstId → LineText) (is : List InstId) (k : ℕ) (d : InstId) (cur new all : List Child) → k < length is → new ≡ cur ++ child_if e (f (get_or is k d)).inst []
+    → cur ++ children_of e (map f (drop k is)) ≡ all → new ++ children_of e (map f (drop (k + 1) is)) ≡ all
 more-children e f is k d cur new all h p q =
     ap (λ l. l ++ children_of e (map f (drop (k + 1) is))) p
     ∙ append_assoc cur (child_if e (f (get_or is k d)).inst []) (children_of e (map f (drop (k + 1) is)))
@@ -89,7 +94,8 @@ more-children e f is k d cur new all h p q =
     ∙ ap (λ l. cur ++ children_of e (map f l)) (sym (drop_more is k d h))
     ∙ q
 
-pub more-signals : (e : Env) (f : InstId → LineText) (is : List InstId) (k : ℕ) (d : InstId) (cur new all : List SignalText) → k < length is → new ≡ cur ++ signal_if e (f (get_or is k d)).inst (f (get_or is k d)).result [] → cur ++ signals_of e (map f (drop k is)) ≡ all → new ++ signals_of e (map f (drop (k + 1) is)) ≡ all
+pub more-signals : (e : Env) (f : InstId → LineText) (is : List InstId) (k : ℕ) (d : InstId) (cur new all : List SignalText) → k < length is
+    → new ≡ cur ++ signal_if e (f (get_or is k d)).inst (f (get_or is k d)).result [] → cur ++ signals_of e (map f (drop k is)) ≡ all → new ++ signals_of e (map f (drop (k + 1) is)) ≡ all
 more-signals e f is k d cur new all h p q =
     ap (λ l. l ++ signals_of e (map f (drop (k + 1) is))) p
     ∙ append_assoc cur (signal_if e (f (get_or is k d)).inst (f (get_or is k d)).result []) (signals_of e (map f (drop (k + 1) is)))

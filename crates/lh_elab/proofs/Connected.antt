@@ -23,7 +23,7 @@ use Rattle.lh_elab.specs.declared.plan.PlanChild.{PlanChild}
 use Rattle.lh_elab.specs.declared.plan.Plan.{Plan}
 use Rattle.lh_elab.specs.declared.build.Building.{Building}
 use Rattle.lh_elab.specs.declared.build.Pending.{Pending}
-use Rattle.lh_elab.specs.Plans.{signal_of, child_of, low_at, AreWide, AreOf, IsPlan}
+use Rattle.lh_elab.specs.Plans.{signal_of, child_of, low_at, AreWide, AreRangesOf, IsPlan}
 use Rattle.lh_elab.specs.Builds.{room_of, kid, kids, kids_in, IsStarted, Visits}
 use Rattle.lh_elab.specs.Answer.{InstanceIs, IsDesignOf}
 use Rattle.lh_elab.specs.Refusals.{refusal_at}
@@ -66,7 +66,8 @@ top-kind a top s e = by (is_function (kind_text (kind_at a top))) refl
     by true q = let z = refuses-function a top (sym q) in absurd cc
     by false q = no-function (kind_at a top) s q
 
-pub starts-connected : (a : Arena) (top : UnitId) (bits : ℕ) (b : Building) → IsSome (kind_at a top.0) → refusal_at a top.0 ≡ None → Each IsPort (unit_text_at a top.0).args → room_of (top_signals (unit_text_at a top.0).args) ≤ bits → IsStarted a top bits b → Connected a b
+pub starts-connected : (a : Arena) (top : UnitId) (bits : ℕ) (b : Building) → IsSome (kind_at a top.0) → refusal_at a top.0 ≡ None → Each IsPort (unit_text_at a top.0).args
+    → room_of (top_signals (unit_text_at a top.0).args) ≤ bits → IsStarted a top bits b → Connected a b
 starts-connected a top bits b there e ports room s =
     let xs = (unit_text_at a top.0).args in
     record {
@@ -78,17 +79,24 @@ module _ (a : Arena) (o : IsArena a) (g : IsWellFormed (contents a)) (w : ℕ) (
   kid-is : (k : ℕ) (c : PlanChild) → c.unit.0 < unit_count a → ChildFits a o g w (child_of a args sigs c) → PendingIs a w (kid a n k args sigs c)
   kid-is k c l f =
       let z = f c.unit.0 l refl in
-      record { kind = z.0; fits = subst (λ rs. RangesFit w rs (arg_types (unit_text_at a c.unit.0).args)) (ranges-read (naming a c.unit.0) (args_at a c.unit.0) (map (low_at args sigs) c.lows.items)) z.1 }
+      record {
+        kind = z.0;
+        fits = subst (λ rs. RangesFit w rs (arg_types (unit_text_at a c.unit.0).args)) (ranges-read (naming a c.unit.0) (args_at a c.unit.0) (map (low_at args sigs) c.lows.items))
+            z.1;
+      }
 
-  kids-are : (k : ℕ) (cs : List PlanChild) → Each (λ (c : PlanChild). c.unit.0 < unit_count a) cs → Each (λ (c : PlanChild). ChildFits a o g w (child_of a args sigs c)) cs → Each (PendingIs a w) (kids a n k args sigs cs)
+  kids-are : (k : ℕ) (cs : List PlanChild) → Each (λ (c : PlanChild). c.unit.0 < unit_count a) cs → Each (λ (c : PlanChild). ChildFits a o g w (child_of a args sigs c)) cs
+      → Each (PendingIs a w) (kids a n k args sigs cs)
   kids-are k [] l f = tt
   kids-are k (c ∷ cs) l f = Each-append (PendingIs a w) (kids a n k args sigs cs) (kid a n k args sigs c ∷ []) (kids-are k cs l.1 f.1) (kid-is k c l.0 f.0, tt)
 
-  all-are : (k : ℕ) (cs : List PlanChild) → Each (λ (c : PlanChild). c.unit.0 < unit_count a) cs → Each (λ (c : PlanChild). ChildFits a o g w (child_of a args sigs c)) cs → Each (PendingIs a w) (kids_in a n k args sigs cs)
+  all-are : (k : ℕ) (cs : List PlanChild) → Each (λ (c : PlanChild). c.unit.0 < unit_count a) cs → Each (λ (c : PlanChild). ChildFits a o g w (child_of a args sigs c)) cs
+      → Each (PendingIs a w) (kids_in a n k args sigs cs)
   all-are zero cs l f = tt
   all-are (suc k) cs l f = kids-are k cs l f
 
-module _ (a : Arena) (o : IsArena a) (g : IsWellFormed (contents a)) (table : List Entry) (to : text.Design) (reads : ReadsAll a table) (old mid : Building) (next : Pending) (w : Underway a table to old) (q : Popped old mid next) (p : Plan) (k : IsPlan a next.unit.0 p) (new : Building) (v : Visits a mid new next p) where
+module _ (a : Arena) (o : IsArena a) (g : IsWellFormed (contents a)) (table : List Entry) (to : text.Design) (reads : ReadsAll a table) (old mid : Building) (next : Pending)
+    (w : Underway a table to old) (q : Popped old mid next) (p : Plan) (k : IsPlan a next.unit.0 p) (new : Building) (v : Visits a mid new next p) where
   abbrev width : ℕ
   width = length new.init
 
@@ -118,7 +126,7 @@ module _ (a : Arena) (o : IsArena a) (g : IsWellFormed (contents a)) (table : Li
 
   kids-fit : PendingIs a width next → Each (PendingIs a width) (kids_in a (length mid.instances.items) next.room next.args sigs p.children.items)
   kids-fit x =
-      let wide : AreOf here next.args sigs = record { of_args = fits-here.wide; of_signals = subst (AreWide sigs) (ap (map (λ (s : SignalText). s.ty)) k.signals) (ranges-wide mid.lo ss) } in
+      let wide : AreRangesOf here next.args sigs = record { of_args = fits-here.wide; of_signals = subst (AreWide sigs) (ap (map (λ (s : SignalText). s.ty)) k.signals) (ranges-wide mid.lo ss) } in
       let all : Each (ChildFits a o g width) (map (child_of a next.args sigs) p.children.items) =
       subst (Each (ChildFits a o g width)) (sym (k.children next.args sigs wide)) (all-children-fit a o g next.unit.0 fits-here.unit x.kind next.args sigs width (instance-fits x)) in
       all-are a o g width (length mid.instances.items) next.args sigs next.room p.children.items k.within (each-of-map (ChildFits a o g width) (child_of a next.args sigs) p.children.items all)
@@ -126,17 +134,20 @@ module _ (a : Arena) (o : IsArena a) (g : IsWellFormed (contents a)) (table : Li
   -- one more instance
   pub still-connected : Connected a old → Connected a new
   still-connected c =
-      let before : Each (InstanceIs a width) mid.instances.items = subst (Each (InstanceIs a width)) (sym q.instances) (subst (λ (n : ℕ). Each (InstanceIs a n) old.instances.items) same-width c.instances) in
+      let before : Each (InstanceIs a width) mid.instances.items = subst (Each (InstanceIs a width)) (sym q.instances)
+      (subst (λ (n : ℕ). Each (InstanceIs a n) old.instances.items) same-width c.instances) in
       let all : Each (PendingIs a width) mid.pending.items × Each (PendingIs a width) (next ∷ []) =
       each-split (PendingIs a width) mid.pending.items (next ∷ []) (subst (Each (PendingIs a width)) q.pending (subst (λ (n : ℕ). Each (PendingIs a n) old.pending.items) same-width c.pending)) in
       let x : PendingIs a width next = all.1.0 in
       record {
-        instances = subst (Each (InstanceIs a width)) (sym v.instances) (Each-append (InstanceIs a width) mid.instances.items _ before (record { unit = fits-here.unit; kind = x.kind; fits = instance-fits x }, tt));
+        instances = subst (Each (InstanceIs a width)) (sym v.instances)
+            (Each-append (InstanceIs a width) mid.instances.items _ before (record { unit = fits-here.unit; kind = x.kind; fits = instance-fits x }, tt));
         pending = subst (Each (PendingIs a width)) (sym v.pending) (Each-append (PendingIs a width) mid.pending.items _ all.0 (kids-fit x));
       }
 
 -- what is built in the end
-pub answers : (a : Arena) (top : ℕ) → IsArena a → IsWellFormed (contents a) → (b : Building) (d : Design) → Ends a top b d → Elaborates a top (Ok d) → Connected a b → d.instances.items ≡ b.instances.items → d.init ≡ b.init → IsDesignOf a d
+pub answers : (a : Arena) (top : ℕ) → IsArena a → IsWellFormed (contents a) → (b : Building) (d : Design) → Ends a top b d → Elaborates a top (Ok d) → Connected a b
+    → d.instances.items ≡ b.instances.items → d.init ≡ b.init → IsDesignOf a d
 answers a top o g b d z e c i s = record {
   arena = o;
   formed = g;

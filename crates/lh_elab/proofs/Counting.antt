@@ -19,32 +19,35 @@ use Rattle.lh_unit.specs.Design.{hierarchy_in, targets, is_one_of, first_some, c
 use Rattle.lh_unit.specs.declared.inst.UnitKind.{UnitKind}
 use Rattle.lh_unit.proofs.ById.{same_unit-by_id}
 use Rattle.lh_formed.specs.Graphs.{met_or, is_open, IsIn}
-use Rattle.lh_elab.specs.declared.graph.Node.{Node}
+use Rattle.lh_elab.specs.declared.graph.HierarchyNode.{HierarchyNode}
 use Rattle.lh_elab.specs.Graph.{max_counted, no_node, node_at, node_by, targets_at, IsGraph}
 use Rattle.lh_elab.specs.Measures.{nests, count_in, bits_in, cycle_in}
 use Rattle.lh_elab.specs.Searches.{NodesWithin, HasBusy}
 use Rattle.lh_elab.proofs.Names.{reads-unit}
 
 -- a graph by ids stands for these entries, where ids have these names
-pub record StandsFor (table : List Entry) (name : ℕ → UnitName) (g : List Node) : Type 0 where
+pub record StandsFor (table : List Entry) (name : ℕ → UnitName) (g : List HierarchyNode) : Type 0 where
   pub same : (v w : ℕ) → v < length g → w < length g → same_unit_name (name v) (name w) ≡ nat_eq v w
   pub within : NodesWithin g
   pub targets_are : (u : ℕ) → u < length g → targets (hierarchy_in table (name u)) ≡ map (λ (t : UnitId). name t.0) (targets_at g u)
   pub bits_are : (u : ℕ) → u < length g → min (node_at g u).bits max_counted ≡ min (sum_by (λ (s : SignalText). bit_count s.ty) (hierarchy_in table (name u)).signals) max_counted
 
-pub stands : (a : Arena) (g : List Node) → IsArena a → IsGraph a g → NodesWithin g → StandsFor (hierarchies (contents a)) (unit_name_at a) g
+pub stands : (a : Arena) (g : List HierarchyNode) → IsArena a → IsGraph a g → NodesWithin g → StandsFor (hierarchies (contents a)) (unit_name_at a) g
 stands a g o q w = record {
   same = λ v x l k. same_unit-by_id a v x o (subst (λ n. v < n) q.long l) (subst (λ n. x < n) q.long k);
   within = w;
-  targets_are = λ u l. (reads-unit a u o (subst (λ n. u < n) q.long l)).targets_are ∙ ap (λ (x : Node). map (λ (t : UnitId). unit_name_at a t.0) x.targets) (sym (q.nodes u (subst (λ n. u < n) q.long l)));
-  bits_are = λ u l. ap (λ (x : Node). min x.bits max_counted) (q.nodes u (subst (λ n. u < n) q.long l)) ∙ (reads-unit a u o (subst (λ n. u < n) q.long l)).bits_are;
+  targets_are = λ u l. (reads-unit a u o (subst (λ n. u < n) q.long l)).targets_are
+      ∙ ap (λ (x : HierarchyNode). map (λ (t : UnitId). unit_name_at a t.0) x.targets) (sym (q.nodes u (subst (λ n. u < n) q.long l)));
+  bits_are = λ u l. ap (λ (x : HierarchyNode). min x.bits max_counted) (q.nodes u (subst (λ n. u < n) q.long l)) ∙ (reads-unit a u o (subst (λ n. u < n) q.long l)).bits_are;
 }
 
-any-named : (n : ℕ) (name : ℕ → UnitName) (P : UnitName → Bool) (Q : UnitId → Bool) (ts : List UnitId) → ((t : UnitId) → t.0 < n → P (name t.0) ≡ Q t) → Each (λ (t : UnitId). t.0 < n) ts → list_any P (map (λ (t : UnitId). name t.0) ts) ≡ list_any Q ts
+any-named : (n : ℕ) (name : ℕ → UnitName) (P : UnitName → Bool) (Q : UnitId → Bool) (ts : List UnitId) → ((t : UnitId) → t.0 < n → P (name t.0) ≡ Q t) → Each (λ (t : UnitId). t.0 < n) ts
+    → list_any P (map (λ (t : UnitId). name t.0) ts) ≡ list_any Q ts
 any-named n name P Q [] f h = refl
 any-named n name P Q (t ∷ ts) f h = ap (λ b. b || list_any P (map (λ (x : UnitId). name x.0) ts)) (f t h.0) ∙ ap (λ b. Q t || b) (any-named n name P Q ts f h.1)
 
-sum-named : (n : ℕ) (name : ℕ → UnitName) (F : UnitName → ℕ) (G : UnitId → ℕ) (ts : List UnitId) → ((t : UnitId) → t.0 < n → F (name t.0) ≡ G t) → Each (λ (t : UnitId). t.0 < n) ts → sum_by F (map (λ (t : UnitId). name t.0) ts) ≡ sum_by G ts
+sum-named : (n : ℕ) (name : ℕ → UnitName) (F : UnitName → ℕ) (G : UnitId → ℕ) (ts : List UnitId) → ((t : UnitId) → t.0 < n → F (name t.0) ≡ G t) → Each (λ (t : UnitId). t.0 < n) ts
+    → sum_by F (map (λ (t : UnitId). name t.0) ts) ≡ sum_by G ts
 sum-named n name F G [] f h = refl
 sum-named n name F G (t ∷ ts) f h =
     sum_by-cons F (name t.0) (map (λ (x : UnitId). name x.0) ts) ∙ ap (λ b. b + sum_by F (map (λ (x : UnitId). name x.0) ts)) (f t h.0) ∙ ap (λ b. G t + b) (sum-named n name F G ts f h.1)
@@ -53,29 +56,32 @@ sum-named n name F G (t ∷ ts) f h =
 both_capped : (a b c d e : ℕ) → min a e ≡ min c e → min b e ≡ min d e → min (a + b) e ≡ min (c + d) e
 both_capped a b c d e p q = omega arith
 
-capped-named : (n e : ℕ) (name : ℕ → UnitName) (F : UnitName → ℕ) (G : UnitId → ℕ) (ts : List UnitId) → ((t : UnitId) → t.0 < n → min (F (name t.0)) e ≡ min (G t) e) → Each (λ (t : UnitId). t.0 < n) ts → min (sum_by F (map (λ (t : UnitId). name t.0) ts)) e ≡ min (sum_by G ts) e
+capped-named : (n e : ℕ) (name : ℕ → UnitName) (F : UnitName → ℕ) (G : UnitId → ℕ) (ts : List UnitId) → ((t : UnitId) → t.0 < n → min (F (name t.0)) e ≡ min (G t) e)
+    → Each (λ (t : UnitId). t.0 < n) ts → min (sum_by F (map (λ (t : UnitId). name t.0) ts)) e ≡ min (sum_by G ts) e
 capped-named n e name F G [] f h = refl
 capped-named n e name F G (t ∷ ts) f h =
     ap (λ s. min s e) (sum_by-cons F (name t.0) (map (λ (x : UnitId). name x.0) ts))
     ∙ both_capped (F (name t.0)) (sum_by F (map (λ (x : UnitId). name x.0) ts)) (G t) (sum_by G ts) e (f t h.0) (capped-named n e name F G ts f h.1)
     ∙ sym (ap (λ s. min s e) (sum_by-cons G t ts))
 
-pub nests-named : (k : ℕ) (table : List Entry) (name : ℕ → UnitName) (g : List Node) (u : ℕ) → StandsFor table name g → u < length g → nests_deeper k table (name u) ≡ nests k g u
+pub nests-named : (k : ℕ) (table : List Entry) (name : ℕ → UnitName) (g : List HierarchyNode) (u : ℕ) → StandsFor table name g → u < length g → nests_deeper k table (name u) ≡ nests k g u
 nests-named zero table name g u o l = refl
 nests-named (suc k) table name g u o l =
     ap (list_any (nests_deeper k table)) (o.targets_are u l)
     ∙ any-named (length g) name (nests_deeper k table) (λ (t : UnitId). nests k g t.0) (targets_at g u) (λ t h. nests-named k table name g t.0 o h) (o.within u)
 
-pub count-named : (k : ℕ) (table : List Entry) (name : ℕ → UnitName) (g : List Node) (u : ℕ) → StandsFor table name g → u < length g → instance_count k table (name u) ≡ count_in k g u
+pub count-named : (k : ℕ) (table : List Entry) (name : ℕ → UnitName) (g : List HierarchyNode) (u : ℕ) → StandsFor table name g → u < length g → instance_count k table (name u) ≡ count_in k g u
 count-named zero table name g u o l = refl
 count-named (suc k) table name g u o l =
     ap (λ ts. 1 + sum_by (instance_count k table) ts) (o.targets_are u l)
     ∙ ap (λ s. 1 + s) (sum-named (length g) name (instance_count k table) (λ (t : UnitId). count_in k g t.0) (targets_at g u) (λ t h. count-named k table name g t.0 o h) (o.within u))
 
-pub bits-named : (k : ℕ) (table : List Entry) (name : ℕ → UnitName) (g : List Node) (u : ℕ) → StandsFor table name g → u < length g → min (bits_below k table (name u)) max_counted ≡ min (bits_in k g u) max_counted
+pub bits-named : (k : ℕ) (table : List Entry) (name : ℕ → UnitName) (g : List HierarchyNode) (u : ℕ) → StandsFor table name g → u < length g
+    → min (bits_below k table (name u)) max_counted ≡ min (bits_in k g u) max_counted
 bits-named zero table name g u o l = refl
 bits-named (suc k) table name g u o l =
-    both_capped (sum_by (λ (s : SignalText). bit_count s.ty) (hierarchy_in table (name u)).signals) (sum_by (bits_below k table) (targets (hierarchy_in table (name u)))) (node_at g u).bits (sum_by (λ (t : UnitId). bits_in k g t.0) (targets_at g u)) max_counted
+    both_capped (sum_by (λ (s : SignalText). bit_count s.ty) (hierarchy_in table (name u)).signals) (sum_by (bits_below k table) (targets (hierarchy_in table (name u)))) (node_at g u).bits
+    (sum_by (λ (t : UnitId). bits_in k g t.0) (targets_at g u)) max_counted
     (sym (o.bits_are u l))
     (ap (λ ts. min (sum_by (bits_below k table) ts) max_counted) (o.targets_are u l)
     ∙ capped-named (length g) max_counted name (bits_below k table) (λ (t : UnitId). bits_in k g t.0) (targets_at g u) (λ t h. bits-named k table name g t.0 o h) (o.within u))
@@ -84,11 +90,13 @@ bits-named (suc k) table name g u o l =
 abbrev pub AllBelow : ℕ → List ℕ → Type 0
 AllBelow n xs = Each (λ x. x < n) xs
 
-open-named : (table : List Entry) (name : ℕ → UnitName) (g : List Node) (opened : List ℕ) (t : ℕ) → StandsFor table name g → AllBelow (length g) opened → t < length g → is_one_of (map name opened) (name t) ≡ is_open opened t
+open-named : (table : List Entry) (name : ℕ → UnitName) (g : List HierarchyNode) (opened : List ℕ) (t : ℕ) → StandsFor table name g → AllBelow (length g) opened → t < length g
+    → is_one_of (map name opened) (name t) ≡ is_open opened t
 open-named table name g [] t o h l = refl
 open-named table name g (x ∷ xs) t o h l = ap (λ b. b || is_one_of (map name xs) (name t)) (o.same x t h.0 l) ∙ ap (λ b. nat_eq x t || b) (open-named table name g xs t o h.1 l)
 
-first-named : (n : ℕ) (name : ℕ → UnitName) (F : UnitName → Option UnitName) (G : UnitId → Option ℕ) (ts : List UnitId) → ((t : UnitId) → t.0 < n → F (name t.0) ≡ option_map name (G t)) → Each (λ (t : UnitId). t.0 < n) ts → first_some F (map (λ (t : UnitId). name t.0) ts) ≡ option_map name (first_some G ts)
+first-named : (n : ℕ) (name : ℕ → UnitName) (F : UnitName → Option UnitName) (G : UnitId → Option ℕ) (ts : List UnitId) → ((t : UnitId) → t.0 < n → F (name t.0) ≡ option_map name (G t))
+    → Each (λ (t : UnitId). t.0 < n) ts → first_some F (map (λ (t : UnitId). name t.0) ts) ≡ option_map name (first_some G ts)
 first-named n name F G [] f h = refl
 first-named n name F G (t ∷ ts) f h =
     ap (λ x. or_else x (first_some F (map (λ (y : UnitId). name y.0) ts))) (f t h.0)
@@ -99,16 +107,20 @@ first-named n name F G (t ∷ ts) f h =
     mapped None q = refl
     mapped (Some x) q = refl
 
-met-named : (name : ℕ → UnitName) (F : UnitName → Option UnitName) (G : ℕ → Option ℕ) (b c : Bool) (t : ℕ) → b ≡ c → F (name t) ≡ option_map name (G t) → cycle_at F b (name t) ≡ option_map name (met_or G c t)
+met-named : (name : ℕ → UnitName) (F : UnitName → Option UnitName) (G : ℕ → Option ℕ) (b c : Bool) (t : ℕ) → b ≡ c → F (name t) ≡ option_map name (G t)
+    → cycle_at F b (name t) ≡ option_map name (met_or G c t)
 met-named name F G b true t e f = ap (λ x. cycle_at F x (name t)) e
 met-named name F G b false t e f = ap (λ x. cycle_at F x (name t)) e ∙ f
 
-pub cycle-named : (k : ℕ) (table : List Entry) (name : ℕ → UnitName) (g : List Node) (opened : List ℕ) (u : ℕ) → StandsFor table name g → AllBelow (length g) opened → u < length g → cycle_from k table (map name opened) (name u) ≡ option_map name (cycle_in k g opened u)
+pub cycle-named : (k : ℕ) (table : List Entry) (name : ℕ → UnitName) (g : List HierarchyNode) (opened : List ℕ) (u : ℕ) → StandsFor table name g → AllBelow (length g) opened → u < length g
+    → cycle_from k table (map name opened) (name u) ≡ option_map name (cycle_in k g opened u)
 cycle-named zero table name g opened u o h l = refl
 cycle-named (suc k) table name g opened u o h l =
     ap (first_some (λ t. cycle_at (cycle_from k table (map name (u ∷ opened))) (is_one_of (map name (u ∷ opened)) t) t)) (o.targets_are u l)
-    ∙ first-named (length g) name (λ t. cycle_at (cycle_from k table (map name (u ∷ opened))) (is_one_of (map name (u ∷ opened)) t) t) (λ (t : UnitId). met_or (cycle_in k g (u ∷ opened)) (is_open (u ∷ opened) t.0) t.0) (targets_at g u)
-    (λ t q. met-named name (cycle_from k table (map name (u ∷ opened))) (cycle_in k g (u ∷ opened)) (is_one_of (map name (u ∷ opened)) (name t.0)) (is_open (u ∷ opened) t.0) t.0 (open-named table name g (u ∷ opened) t.0 o (l, h) q) (cycle-named k table name g (u ∷ opened) t.0 o (l, h) q))
+    ∙ first-named (length g) name (λ t. cycle_at (cycle_from k table (map name (u ∷ opened))) (is_one_of (map name (u ∷ opened)) t) t) (λ (t : UnitId). met_or (cycle_in k g (u ∷ opened))
+    (is_open (u ∷ opened) t.0) t.0) (targets_at g u)
+    (λ t q. met-named name (cycle_from k table (map name (u ∷ opened))) (cycle_in k g (u ∷ opened)) (is_one_of (map name (u ∷ opened)) (name t.0)) (is_open (u ∷ opened) t.0) t.0
+    (open-named table name g (u ∷ opened) t.0 o (l, h) q) (cycle-named k table name g (u ∷ opened) t.0 o (l, h) q))
     (o.within u)
 
 -- the units that items define
@@ -143,12 +155,12 @@ busy-begun : (a : Arena) (u i : ℕ) (t : UnitId) (k : Option UnitKind) → slic
 busy-begun a u i t None e = cc
 busy-begun a u i t (Some k) e = refl
 
-pub has-busy : (a : Arena) (g : List Node) → IsArena a → IsGraph a g → HasBusy g (defined a)
+pub has-busy : (a : Arena) (g : List HierarchyNode) → IsArena a → IsGraph a g → HasBusy g (defined a)
 has-busy a g o q u i t e = elim (cases_lt u (unit_count a)) [
-  | inl l ↦ begun-in a u o l (busy-begun a u i t (kind_at a u) (ap (λ (x : Node). slice_get x.targets i) (sym (q.nodes u l)) ∙ e))
+  | inl l ↦ begun-in a u o l (busy-begun a u i t (kind_at a u) (ap (λ (x : HierarchyNode). slice_get x.targets i) (sym (q.nodes u l)) ∙ e))
   | inr l ↦
       let p : node_at g u ≡ no_node = get_or_past g u no_node (subst (λ n. n ≤ u) (sym q.long) l) in
-      let r : slice_get no_node.targets i ≡ Some t = ap (λ (x : Node). slice_get x.targets i) (sym p) ∙ e in absurd (nothing_there i r)
+      let r : slice_get no_node.targets i ≡ Some t = ap (λ (x : HierarchyNode). slice_get x.targets i) (sym p) ∙ e in absurd (nothing_there i r)
 ]
   where
     nothing_there : (i : ℕ) → slice_get no_node.targets i ≡ Some t → ⊥

@@ -44,7 +44,8 @@ named a top o l b = hierarchy-by_id a top o l ∙ by (kind_at a top) b
     by None e = absurd cc
     by (Some k) e = refl
 
-elab-is : (a : Arena) (top : ℕ) → IsArena a → top < unit_count a → IsSome (kind_at a top) → design.elab (contents a) (unit_name_at a top) ≡ elaborated (refusal_at a top) (design_of max_nesting (hierarchies (contents a)) (unit_name_at a top))
+elab-is : (a : Arena) (top : ℕ) → IsArena a → top < unit_count a → IsSome (kind_at a top)
+    → design.elab (contents a) (unit_name_at a top) ≡ elaborated (refusal_at a top) (design_of max_nesting (hierarchies (contents a)) (unit_name_at a top))
 elab-is a top o l b = ap (elab_named (hierarchies (contents a)) (unit_name_at a top)) (named a top o l b)
 
 -- a refusal of the definition
@@ -79,7 +80,8 @@ none-by false None false false false e = (refl, refl)
 kept : (table : List Entry) (top : UnitName) (h : Hierarchy) → refusal_of table top h ≡ None → Kept (instance_count max_nesting table top) (arg_bits h.args + bits_below max_nesting table top)
 unfolding refusal_of
 kept table top h e =
-    let x = none-by h.function (cycle_from (length table) table [] top) (nests_deeper max_nesting table top) (nat_lt max_instances (instance_count max_nesting table top)) (nat_lt max_bits (arg_bits h.args + bits_below max_nesting table top)) e in
+    let x = none-by h.function (cycle_from (length table) table [] top) (nests_deeper max_nesting table top) (nat_lt max_instances (instance_count max_nesting table top))
+    (nat_lt max_bits (arg_bits h.args + bits_below max_nesting table top)) e in
     record { instances_kept = le_from max_instances (instance_count max_nesting table top) x.0; bits_kept = le_from max_bits (arg_bits h.args + bits_below max_nesting table top) x.1 }
 
 -- the arguments of a top that is no function are signals
@@ -126,11 +128,13 @@ top-low bits (r ∷ rs) b e = (omega (arith, e.0), top-low bits rs b e.1)
 abbrev pub final : Arena → ℕ → Design
 final a top = design_of max_nesting (hierarchies (contents a)) (unit_name_at a top)
 
-first-goes : (table : List Entry) (n : UnitName) (xs : List ArgText) → (hierarchy_in table n).args ≡ xs → visited (visit 63 table) None n (hierarchy_in table n) (signal_ranges 0 (top_signals xs)) (only_signals (top_signals xs)) ≡ design_of max_nesting table n
+first-goes : (table : List Entry) (n : UnitName) (xs : List ArgText) → (hierarchy_in table n).args ≡ xs
+    → visited (visit 63 table) None n (hierarchy_in table n) (signal_ranges 0 (top_signals xs)) (only_signals (top_signals xs)) ≡ design_of max_nesting table n
 unfolding design_of
 first-goes table n xs e = ap (λ (ys : List ArgText). visited (visit 63 table) None n (hierarchy_in table n) (signal_ranges 0 (top_signals ys)) (only_signals (top_signals ys))) (sym e)
 
-module _ (a : Arena) (top : UnitId) (o : IsArena a) (l : top.0 < unit_count a) (r : ReadsAll a (hierarchies (contents a))) (bits : ℕ) (q : Refuses a top.0 (Ok bits)) (ports : Each IsPort (unit_text_at a top.0).args) where
+module _ (a : Arena) (top : UnitId) (o : IsArena a) (l : top.0 < unit_count a) (r : ReadsAll a (hierarchies (contents a))) (bits : ℕ) (q : Refuses a top.0 (Ok bits))
+    (ports : Each IsPort (unit_text_at a top.0).args) where
   abbrev pub table : List Entry
   table = hierarchies (contents a)
 
@@ -152,7 +156,8 @@ module _ (a : Arena) (top : UnitId) (o : IsArena a) (l : top.0 < unit_count a) (
   room = ap (λ n. n + bits_below max_nesting table (unit_name_at a top.0)) (top-room xs ports) ∙ q.1
 
   few : bits ≤ 16777216
-  few = let e : arg_bits (hierarchy_of (unit_text_at a top.0)).args ≡ arg_bits xs = ap arg_bits args-same in let z : arg_bits xs + bits_below max_nesting table (unit_name_at a top.0) ≡ bits = q.1 in omega (arith, limits.bits_kept, e, z)
+  few = let e : arg_bits (hierarchy_of (unit_text_at a top.0)).args ≡ arg_bits xs = ap arg_bits args-same in let z : arg_bits xs + bits_below max_nesting table (unit_name_at a top.0) ≡ bits = q.1 in
+      omega (arith, limits.bits_kept, e, z)
 
   -- there is room for the top's arguments
   pub top-fits : room_of (top_signals xs) ≤ bits
@@ -170,8 +175,18 @@ module _ (a : Arena) (top : UnitId) (o : IsArena a) (l : top.0 < unit_count a) (
         count = omega (arith, one, none, limits.instances_kept);
         room = omega (arith, two, room, s.lo, s.long);
         few = omega (arith, few, s.long);
-        fill = subst (λ ys. TextsFill 0 ys b.lo) (sym s.signals) (subst (TextsFill 0 (numbered 0 0 (top_signals xs))) (zero-more (room_of (top_signals xs)) ∙ sym s.lo) (fill-numbered 0 0 (top_signals xs) (top-data xs ports)));
-        pending = subst (Each (PendingFits a)) (sym s.pending) (record { unit = l; room = omega arith; wide = top-wide 0 xs ports; low = top-low bits (signal_ranges 0 (top_signals xs)) few (low-all (signal_ranges 0 (top_signals xs)) (ranges-below 0 (top_signals xs))) }, tt);
+        fill = subst (λ ys. TextsFill 0 ys b.lo) (sym s.signals)
+            (subst (TextsFill 0 (numbered 0 0 (top_signals xs))) (zero-more (room_of (top_signals xs)) ∙ sym s.lo) (fill-numbered 0 0 (top_signals xs) (top-data xs ports)));
+        pending = subst (Each (PendingFits a)) (sym s.pending) (
+          record {
+            unit = l;
+            room = omega arith;
+            wide = top-wide 0 xs ports;
+            low = top-low bits (signal_ranges 0 (top_signals xs)) few
+                (low-all (signal_ranges 0 (top_signals xs)) (ranges-below 0 (top_signals xs)));
+          },
+          tt,
+        );
       }
     where
       zero-more : (n : ℕ) → 0 + n ≡ n
@@ -192,7 +207,8 @@ pub record Ends (a : Arena) (top : ℕ) (b : Building) (d : code.Design) : Type 
   pub few : length d.instances.items ≤ 65536
   pub fill : SignalsFill d
 
-pub ends : (a : Arena) (top : ℕ) (b : Building) (d : code.Design) → Underway a (hierarchies (contents a)) (final a top) b → b.pending.items ≡ [] → d.instances.items ≡ b.instances.items → d.signals.items ≡ b.signals.items → d.init ≡ b.init → Ends a top b d
+pub ends : (a : Arena) (top : ℕ) (b : Building) (d : code.Design) → Underway a (hierarchies (contents a)) (final a top) b → b.pending.items ≡ [] → d.instances.items ≡ b.instances.items
+    → d.signals.items ≡ b.signals.items → d.init ≡ b.init → Ends a top b d
 ends a top b d w e i s z =
     let table = hierarchies (contents a) in
     let none : left a (bits_of table) b.pending.items ≡ 0 = ap (left a (bits_of table)) e in
@@ -201,7 +217,11 @@ ends a top b d w e i s z =
     let goes : w.built ≡ final a top = sym (ap (λ ps. unwound a table ps w.built) e) ∙ w.goes in
     let long : length d.init ≡ length b.init = ap length z in
     let many : length d.instances.items ≡ length b.instances.items = ap length i in
-    let same : design_text a d ≡ w.built = λ j. record { instances = (ap (map (instance_text a)) i ∙ w.stands.instances) j; signals = (ap (map signal_text) s ∙ w.stands.signals) j; init = (z ∙ sym whole ∙ w.stands.bits) j } in
+    let same : design_text a d ≡ w.built = λ j. record {
+      instances = (ap (map (instance_text a)) i ∙ w.stands.instances) j;
+      signals = (ap (map signal_text) s ∙ w.stands.signals) j;
+      init = (z ∙ sym whole ∙ w.stands.bits) j;
+    } in
     record {
       is = same ∙ goes;
       few = omega (arith, w.count, many);

@@ -33,7 +33,8 @@ item-at : (is : List Instance) (k : ℕ) (i : Instance) → k < length is → i 
 item-at is k i h e = slice_get-get_or is k i h ∙ ap (λ (x : Instance). Some x) (sym e)
 
 -- the label of an instance
-pub label-is : (a : Arena) (d : Design) (k : ℕ) (i : Instance) → k < length d.instances.items → i ≡ get_or d.instances.items k i → label_at (shown a d) k ≡ label_by i.parent k (unit_name_at a i.unit.0).name
+pub label-is : (a : Arena) (d : Design) (k : ℕ) (i : Instance) → k < length d.instances.items → i ≡ get_or d.instances.items k i
+    → label_at (shown a d) k ≡ label_by i.parent k (unit_name_at a i.unit.0).name
 label-is a d k i h e = ap (λ o. option_map_or (λ (s : Shown). s.label) o []) (shown-is a d k ∙ ap (option_map (shows a k)) (item-at d.instances.items k i h e))
 
 -- the parent of an instance
@@ -67,7 +68,8 @@ module _ (a : Arena) (d : Design) (b : ParentsComeBefore (shown a d)) where
   path-top k h e = let s = at k h in top_path (shown a d) k s.0 s.1 (s.2 ∙ e) ∙ sym s.3
 
   -- one step up
-  pub path-up : (all : List ℕ) (ks more : List ℕ) (k p : ℕ) → k < length d.instances.items → parent_at d.instances.items k ≡ Some p → more ≡ ks ++ k ∷ [] → all ≡ path_at (shown a d) k ++ dotted (shown a d) ks → all ≡ path_at (shown a d) p ++ dotted (shown a d) more
+  pub path-up : (all : List ℕ) (ks more : List ℕ) (k p : ℕ) → k < length d.instances.items → parent_at d.instances.items k ≡ Some p → more ≡ ks ++ k ∷ []
+      → all ≡ path_at (shown a d) k ++ dotted (shown a d) ks → all ≡ path_at (shown a d) p ++ dotted (shown a d) more
   path-up all ks more k p h e m q =
       let s = at k h in
       let up : path_at (shown a d) k ≡ path_at (shown a d) p ++ 46 ∷ label_at (shown a d) k = child_path (shown a d) k p s.0 b s.1 (s.2 ∙ e) ∙ ap (λ l. path_at (shown a d) p ++ 46 ∷ l) (sym s.3) in
@@ -78,7 +80,8 @@ module _ (a : Arena) (d : Design) (b : ParentsComeBefore (shown a d)) where
       ∙ ap (λ l. path_at (shown a d) p ++ dotted (shown a d) l) (sym m)
 
 -- one step down
-pub down : (all : List Shown) (whole text dot label : List ℕ) (ks less : List ℕ) (k : ℕ) → ks ≡ less ++ k ∷ [] → dot ≡ text ++ 46 ∷ [] → label ≡ dot ++ label_at all k → whole ≡ text ++ dotted all ks → whole ≡ label ++ dotted all less
+pub down : (all : List Shown) (whole text dot label : List ℕ) (ks less : List ℕ) (k : ℕ) → ks ≡ less ++ k ∷ [] → dot ≡ text ++ 46 ∷ [] → label ≡ dot ++ label_at all k → whole ≡ text ++ dotted all ks
+    → whole ≡ label ++ dotted all less
 down all whole text dot label ks less k e p q w =
     w
     ∙ ap (λ l. text ++ dotted all l) e

@@ -6,21 +6,21 @@ use Rattle.std.proofs.lemmas.List.Sums.{sum_by_push}
 use Rattle.lh_unit.specs.declared.inst.UnitId.{UnitId}
 use Rattle.lh_unit.proofs.Lists.{or_false}
 use Rattle.lh_formed.proofs.Capped.{not_below_zero, zero_capped, below_max, sum_capped, left_max, right_max, first_below, next_below, none_at_zero, below_next, right_capped}
-use Rattle.lh_elab.specs.declared.graph.Node.{Node}
+use Rattle.lh_elab.specs.declared.graph.HierarchyNode.{HierarchyNode}
 use Rattle.lh_elab.specs.declared.measure.Measure.{Measure}
 use Rattle.lh_elab.specs.Graph.{node_at, targets_at, max_counted}
 use Rattle.lh_elab.specs.Measures.{depth_end, instances_end, nothing, beside, around, nests, count_in, bits_in, IsMeasure}
 
 -- instances of these units beside each other
-pub record IsSum (g : List Node) (ts : List UnitId) (m : Measure) : Type 0 where
+pub record IsSum (g : List HierarchyNode) (ts : List UnitId) (m : Measure) : Type 0 where
   pub depth : (k : ℕ) → suc k ≤ depth_end → list_any (λ (t : UnitId). nests k g t.0) ts ≡ nat_lt k m.depth
   pub instances : (k : ℕ) → suc k ≤ depth_end → m.depth ≤ k → min (sum_by (λ (t : UnitId). count_in k g t.0) ts) instances_end ≡ m.instances
   pub bits : (k : ℕ) → suc k ≤ depth_end → m.depth ≤ k → min (sum_by (λ (t : UnitId). bits_in k g t.0) ts) max_counted ≡ m.bits
 
-pub IsSum-none : (g : List Node) → IsSum g [] nothing
+pub IsSum-none : (g : List HierarchyNode) → IsSum g [] nothing
 IsSum-none g = record { depth = λ k l. not_below_zero k; instances = λ k l d. zero_capped instances_end; bits = λ k l d. zero_capped max_counted }
 
-pub IsSum-beside : (g : List Node) (ts : List UnitId) (t : UnitId) (m n : Measure) → IsSum g ts m → IsMeasure g t.0 n → IsSum g (ts ++ t ∷ []) (beside m n)
+pub IsSum-beside : (g : List HierarchyNode) (ts : List UnitId) (t : UnitId) (m n : Measure) → IsSum g ts m → IsMeasure g t.0 n → IsSum g (ts ++ t ∷ []) (beside m n)
 IsSum-beside g ts t m n o p = record {
   depth = λ k l.
       list_any-append (λ (x : UnitId). nests k g x.0) ts (t ∷ [])
@@ -30,23 +30,28 @@ IsSum-beside g ts t m n o p = record {
       ∙ below_max k m.depth n.depth;
   instances = λ k l d.
       ap (λ x. min x instances_end) (sum_by_push (λ (x : UnitId). count_in k g x.0) ts t)
-      ∙ sum_capped (sum_by (λ (x : UnitId). count_in k g x.0) ts) (count_in k g t.0) instances_end m.instances n.instances (o.instances k l (left_max m.depth n.depth k d)) (p.instances k l (right_max m.depth n.depth k d));
+      ∙ sum_capped (sum_by (λ (x : UnitId). count_in k g x.0) ts) (count_in k g t.0) instances_end m.instances n.instances (o.instances k l (left_max m.depth n.depth k d)) (p.instances k l
+      (right_max m.depth n.depth k d));
   bits = λ k l d.
       ap (λ x. min x max_counted) (sum_by_push (λ (x : UnitId). bits_in k g x.0) ts t)
       ∙ sum_capped (sum_by (λ (x : UnitId). bits_in k g x.0) ts) (bits_in k g t.0) max_counted m.bits n.bits (o.bits k l (left_max m.depth n.depth k d)) (p.bits k l (right_max m.depth n.depth k d));
 }
 
-depth-around : (g : List Node) (u : ℕ) (m : Measure) → IsSum g (targets_at g u) m → (k : ℕ) → suc k ≤ depth_end → nests k g u ≡ nat_lt k (min (1 + m.depth) depth_end)
+depth-around : (g : List HierarchyNode) (u : ℕ) (m : Measure) → IsSum g (targets_at g u) m → (k : ℕ) → suc k ≤ depth_end → nests k g u ≡ nat_lt k (min (1 + m.depth) depth_end)
 depth-around g u m o zero l = first_below m.depth depth_end (omega arith)
 depth-around g u m o (suc j) l = o.depth j (omega arith) ∙ next_below j m.depth depth_end l
 
-instances-around : (g : List Node) (u : ℕ) (m : Measure) → IsSum g (targets_at g u) m → (k : ℕ) → suc k ≤ depth_end → min (1 + m.depth) depth_end ≤ k → min (count_in k g u) instances_end ≡ min (1 + m.instances) instances_end
+instances-around : (g : List HierarchyNode) (u : ℕ) (m : Measure) → IsSum g (targets_at g u) m → (k : ℕ) → suc k ≤ depth_end → min (1 + m.depth) depth_end ≤ k
+    → min (count_in k g u) instances_end ≡ min (1 + m.instances) instances_end
 instances-around g u m o zero l d = absurd (none_at_zero m.depth depth_end (omega arith) d)
-instances-around g u m o (suc j) l d = right_capped 1 (sum_by (λ (t : UnitId). count_in j g t.0) (targets_at g u)) instances_end m.instances (o.instances j (omega arith) (below_next j m.depth depth_end l d))
+instances-around g u m o (suc j) l d = right_capped 1 (sum_by (λ (t : UnitId). count_in j g t.0) (targets_at g u)) instances_end m.instances
+    (o.instances j (omega arith) (below_next j m.depth depth_end l d))
 
-bits-around : (g : List Node) (u : ℕ) (m : Measure) → IsSum g (targets_at g u) m → (k : ℕ) → suc k ≤ depth_end → min (1 + m.depth) depth_end ≤ k → min (bits_in k g u) max_counted ≡ min ((node_at g u).bits + m.bits) max_counted
+bits-around : (g : List HierarchyNode) (u : ℕ) (m : Measure) → IsSum g (targets_at g u) m → (k : ℕ) → suc k ≤ depth_end → min (1 + m.depth) depth_end ≤ k
+    → min (bits_in k g u) max_counted ≡ min ((node_at g u).bits + m.bits) max_counted
 bits-around g u m o zero l d = absurd (none_at_zero m.depth depth_end (omega arith) d)
-bits-around g u m o (suc j) l d = right_capped (node_at g u).bits (sum_by (λ (t : UnitId). bits_in j g t.0) (targets_at g u)) max_counted m.bits (o.bits j (omega arith) (below_next j m.depth depth_end l d))
+bits-around g u m o (suc j) l d = right_capped (node_at g u).bits (sum_by (λ (t : UnitId). bits_in j g t.0) (targets_at g u)) max_counted m.bits
+    (o.bits j (omega arith) (below_next j m.depth depth_end l d))
 
-pub IsMeasure-around : (g : List Node) (u : ℕ) (m : Measure) → IsSum g (targets_at g u) m → IsMeasure g u (around m (node_at g u).bits)
+pub IsMeasure-around : (g : List HierarchyNode) (u : ℕ) (m : Measure) → IsSum g (targets_at g u) m → IsMeasure g u (around m (node_at g u).bits)
 IsMeasure-around g u m o = record { depth = depth-around g u m o; instances = instances-around g u m o; bits = bits-around g u m o }

@@ -22,7 +22,7 @@ use Rattle.lh_eval.specs.Holding.{Holds, MaybeIn, datum_in, data_in}
 use Rattle.lh_eval.proofs.Holding.{same-held, holds-more}
 use Rattle.lh_elab.specs.declared.statics.Base.{Base}
 use Rattle.lh_elab.specs.declared.statics.Base.TheVariants as base
-use Rattle.lh_elab.specs.Statics.{By, held_by, given_by, base_of, base_lo, moved, moved_slots, Follows}
+use Rattle.lh_elab.specs.Statics.{StaticsById, held_by, given_by, base_of, base_lo, moved, moved_slots, StaticsFollow}
 
 -- a part above another lowest bit
 abbrev pub shifted : ℕ → Range → Range
@@ -36,7 +36,8 @@ module _ (args sigs : List Range) where
   length-moved (b ∷ bs) (h ∷ hs) e = let r = length-moved bs hs (omega arith) in omega arith
 
   -- the slot of a value
-  pub slot-moved : (bs : List Base) (hs : List (Option Held)) (i : ℕ) → length bs ≡ length hs → get_or (moved_slots args sigs bs hs) i None ≡ option_map (moved args sigs (get_or bs i (base.Arg 0))) (get_or hs i None)
+  pub slot-moved : (bs : List Base) (hs : List (Option Held)) (i : ℕ) → length bs ≡ length hs
+      → get_or (moved_slots args sigs bs hs) i None ≡ option_map (moved args sigs (get_or bs i (base.Arg 0))) (get_or hs i None)
   slot-moved [] [] zero e = refl
   slot-moved [] [] (suc i) e = refl
   slot-moved [] (h ∷ hs) i e = absurd (omega arith)
@@ -45,7 +46,8 @@ module _ (args sigs : List Range) where
   slot-moved (b ∷ bs) (h ∷ hs) (suc i) e = slot-moved bs hs i (omega arith)
 
   -- one more
-  pub set-moved : (bs : List Base) (hs : List (Option Held)) (i : ℕ) (b : Base) (h : Held) → length bs ≡ length hs → moved_slots args sigs (set bs i b) (set hs i (Some h)) ≡ set (moved_slots args sigs bs hs) i (Some (moved args sigs b h))
+  pub set-moved : (bs : List Base) (hs : List (Option Held)) (i : ℕ) (b : Base) (h : Held) → length bs ≡ length hs
+      → moved_slots args sigs (set bs i b) (set hs i (Some h)) ≡ set (moved_slots args sigs bs hs) i (Some (moved args sigs b h))
   set-moved [] [] zero c h e = refl
   set-moved [] [] (suc i) c h e = refl
   set-moved [] (g ∷ hs) i c h e = absurd (omega arith)
@@ -79,7 +81,8 @@ module _ (args sigs : List Range) where
   slots-stay z (b ∷ bs) (h ∷ hs) e = let p = held-stays b h (z b) in let q = slots-stay z bs hs (omega arith) in λ i. p i ∷ q i
 
   -- a step into a part
-  in-range : (n : ℕ) (b : Base) (r : Range) (o : Option Range) → base_lo args sigs b ≡ n → option_map (λ q. part_held (within (shifted n r) q)) o ≡ option_map (moved args sigs b) (option_map (λ q. part_held (within r q)) o)
+  in-range : (n : ℕ) (b : Base) (r : Range) (o : Option Range) → base_lo args sigs b ≡ n
+      → option_map (λ q. part_held (within (shifted n r) q)) o ≡ option_map (moved args sigs b) (option_map (λ q. part_held (within r q)) o)
   in-range n b r None e = refl
   in-range n b r (Some q) e = let f : (n + r.lo) + q.lo ≡ base_lo args sigs b + (r.lo + q.lo) = omega arith in ap (λ (k : ℕ). let x : Range = record { lo = k; len = q.len } in Some (part_held x)) f
 
@@ -93,25 +96,28 @@ module _ (args sigs : List Range) where
   stepped-moved b None (Some r) s = refl
 
   -- a value, or else a part
-  first-moved : (b : Base) (f : List Datum → Datum) (ds : Option (List Datum)) (p q : Option Held) → p ≡ option_map (moved args sigs b) q → or_else (option_map (λ xs. datum_held (f xs)) ds) p ≡ option_map (moved args sigs b) (or_else (option_map (λ xs. datum_held (f xs)) ds) q)
+  first-moved : (b : Base) (f : List Datum → Datum) (ds : Option (List Datum)) (p q : Option Held) → p ≡ option_map (moved args sigs b) q
+      → or_else (option_map (λ xs. datum_held (f xs)) ds) p ≡ option_map (moved args sigs b) (or_else (option_map (λ xs. datum_held (f xs)) ds) q)
   first-moved b f None p q e = e
   first-moved b f (Some xs) p q e = refl
 
   data-moved : (bs : List Base) (hs : List (Option Held)) → length bs ≡ length hs → (os : List Typed) → data_in (moved_slots args sigs bs hs) os ≡ data_in hs os
   data-moved bs hs e [] = refl
   data-moved bs hs e (o ∷ os) =
-      let p : datum_in (moved_slots args sigs bs hs) o.value ≡ datum_in hs o.value = ap (option_and_then as_datum) (slot-moved bs hs o.value.0 e) ∙ datum-moved (get_or bs o.value.0 (base.Arg 0)) (get_or hs o.value.0 None) in
+      let p : datum_in (moved_slots args sigs bs hs) o.value ≡ datum_in hs o.value = ap (option_and_then as_datum) (slot-moved bs hs o.value.0 e)
+      ∙ datum-moved (get_or bs o.value.0 (base.Arg 0)) (get_or hs o.value.0 None) in
       let q = data-moved bs hs e os in
       λ i. front (p i) (q i)
 
-  module _ (a : Arena) (u : ℕ) (s : By) (e e0 : Env) (f : Follows a u args sigs s e) (d : Holds a u s.slots e0) where
+  module _ (a : Arena) (u : ℕ) (s : StaticsById) (e e0 : Env) (f : StaticsFollow a u args sigs s e) (d : Holds a u s.slots e0) where
     data-same : (os : List Typed) → Each (λ (o : Typed). o.value.0 < length s.slots) os → data_at e (map (operand_text (naming a u)) os) ≡ data_at e0 (map (operand_text (naming a u)) os)
     data-same os w =
         let n = length-moved s.bases s.slots f.long in
         let w' : Each (λ (o : Typed). o.value.0 < length (moved_slots args sigs s.bases s.slots)) os = subst (λ (k : ℕ). Each (λ (o : Typed). o.value.0 < k) os) (sym n) w in
         sym ((same-held a u (moved_slots args sigs s.bases s.slots) e f.holds).values os w') ∙ data-moved s.bases s.slots f.long os ∙ (same-held a u s.slots e0 d).values os w
 
-    part-same : (v : ValueId) → v.0 < length s.slots → part_at e (value_text (naming a u) v) ≡ option_map (shifted (base_lo args sigs (get_or s.bases v.0 (base.Arg 0)))) (part_at e0 (value_text (naming a u) v))
+    part-same : (v : ValueId) → v.0 < length s.slots
+        → part_at e (value_text (naming a u) v) ≡ option_map (shifted (base_lo args sigs (get_or s.bases v.0 (base.Arg 0)))) (part_at e0 (value_text (naming a u) v))
     part-same v w =
         let n = length-moved s.bases s.slots f.long in
         let w' : v.0 < length (moved_slots args sigs s.bases s.slots) = omega (arith, n, w) in
@@ -122,12 +128,14 @@ module _ (args sigs : List Range) where
         ∙ ap (option_map (shifted (base_lo args sigs b))) ((same-held a u s.slots e0 d).part v w)
 
     -- what an operation gives in an instance
-    pub operated-moved : (o : Op) (os : List Typed) → Each (λ (x : Typed). x.value.0 < length s.slots) os → operated (unit_text_at a u) e o (map (operand_text (naming a u)) os) ≡ option_map (moved args sigs (base_of s.bases os)) (operated (unit_text_at a u) e0 o (map (operand_text (naming a u)) os))
+    pub operated-moved : (o : Op) (os : List Typed) → Each (λ (x : Typed). x.value.0 < length s.slots) os → operated (unit_text_at a u) e o (map (operand_text (naming a u)) os)
+        ≡ option_map (moved args sigs (base_of s.bases os)) (operated (unit_text_at a u) e0 o (map (operand_text (naming a u)) os))
     operated-moved o os w =
         ap (λ ds. or_else (option_map (λ xs. datum_held (apply o xs)) ds) (signal_part (unit_text_at a u) e o (map (operand_text (naming a u)) os))) (data-same os w)
         ∙ first-moved (base_of s.bases os) (apply o) (data_at e0 (map (operand_text (naming a u)) os)) _ _ (part-of os w)
       where
-        part-of : (xs : List Typed) → Each (λ (x : Typed). x.value.0 < length s.slots) xs → signal_part (unit_text_at a u) e o (map (operand_text (naming a u)) xs) ≡ option_map (moved args sigs (base_of s.bases xs)) (signal_part (unit_text_at a u) e0 o (map (operand_text (naming a u)) xs))
+        part-of : (xs : List Typed) → Each (λ (x : Typed). x.value.0 < length s.slots) xs → signal_part (unit_text_at a u) e o (map (operand_text (naming a u)) xs)
+            ≡ option_map (moved args sigs (base_of s.bases xs)) (signal_part (unit_text_at a u) e0 o (map (operand_text (naming a u)) xs))
         part-of [] l = refl
         part-of (x ∷ []) l =
             let ty = value_type (unit_text_at a u) (value_text (naming a u) x.value) in
@@ -137,7 +145,8 @@ module _ (args sigs : List Range) where
 
   module _ (a : Arena) (u : ℕ) (o : IsArena a) (h : u < unit_count a) where
     -- something more is held
-    pub follows-held : (s : By) (e : Env) (v : ValueId) (b : Base) (x : Held) → v.0 < length s.slots → Follows a u args sigs s e → Follows a u args sigs (held_by s v b x) (with_held e (value_text (naming a u) v) (moved args sigs b x))
+    pub follows-held : (s : StaticsById) (e : Env) (v : ValueId) (b : Base) (x : Held) → v.0 < length s.slots → StaticsFollow a u args sigs s e
+        → StaticsFollow a u args sigs (held_by s v b x) (with_held e (value_text (naming a u) v) (moved args sigs b x))
     follows-held s e v b x w f =
         let n = length-moved s.bases s.slots f.long in
         record {
@@ -146,7 +155,8 @@ module _ (args sigs : List Range) where
               (holds-more a u (moved_slots args sigs s.bases s.slots) e v (moved args sigs b x) o h f.holds (omega (arith, n, w)));
         }
 
-    pub follows-given : (s : By) (e : Env) (r : Option ValueId) (b : Base) (x : Option Held) → MaybeIn s.slots r → Follows a u args sigs s e → Follows a u args sigs (given_by s r b x) (if_held e (maybe_text (naming a u) r) (option_map (moved args sigs b) x))
+    pub follows-given : (s : StaticsById) (e : Env) (r : Option ValueId) (b : Base) (x : Option Held) → MaybeIn s.slots r → StaticsFollow a u args sigs s e
+        → StaticsFollow a u args sigs (given_by s r b x) (if_held e (maybe_text (naming a u) r) (option_map (moved args sigs b) x))
     follows-given s e None b None w f = f
     follows-given s e None b (Some x) w f = f
     follows-given s e (Some v) b None w f = f

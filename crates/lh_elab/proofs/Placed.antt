@@ -10,7 +10,7 @@ use Rattle.lh_unit.specs.declared.inst.UnitId.{UnitId}
 use Rattle.lh_formed.specs.Graphs.{is_open, met_or}
 use Rattle.lh_elab.specs.declared.fault.ElabFault.{ElabFault}
 use Rattle.lh_elab.specs.declared.fault.ElabFault.TheVariants as fault
-use Rattle.lh_elab.specs.declared.graph.Node.{Node}
+use Rattle.lh_elab.specs.declared.graph.HierarchyNode.{HierarchyNode}
 use Rattle.lh_elab.specs.declared.measure.Measure.{Measure}
 use Rattle.lh_elab.specs.Graph.{targets_at, max_counted, IsGraph}
 use Rattle.lh_elab.specs.Measures.{cycle_in}
@@ -18,7 +18,8 @@ use Rattle.lh_elab.specs.Refusals.{limited, FaultWithin}
 use Rattle.lh_elab.specs.Searches.{NodesWithin, Measures}
 use Rattle.lh_elab.proofs.Counting.{defined, has-busy}
 
-first-within : (n : ℕ) (f : UnitId → Option ℕ) (ts : List UnitId) → Each (λ (t : UnitId). t.0 < n) ts → ((t : UnitId) (x : ℕ) → t.0 < n → f t ≡ Some x → x < n) → (x : ℕ) → first_some f ts ≡ Some x → x < n
+first-within : (n : ℕ) (f : UnitId → Option ℕ) (ts : List UnitId) → Each (λ (t : UnitId). t.0 < n) ts → ((t : UnitId) (x : ℕ) → t.0 < n → f t ≡ Some x → x < n) → (x : ℕ) → first_some f ts ≡ Some x
+    → x < n
 first-within n f [] w go x e = absurd (none-some x e)
 first-within n f (t ∷ ts) w go x e = by (f t) refl e (first-within n f ts w.1 go x)
   where
@@ -30,14 +31,14 @@ met-within : (n : ℕ) (below : ℕ → Option ℕ) → ((m x : ℕ) → below m
 met-within n below go true t x l e = subst (λ m. m < n) (same_Some t x e) l
 met-within n below go false t x l e = go t x e
 
-cycle-within : (k : ℕ) (g : List Node) (opened : List ℕ) → NodesWithin g → (n x : ℕ) → cycle_in k g opened n ≡ Some x → x < length g
+cycle-within : (k : ℕ) (g : List HierarchyNode) (opened : List ℕ) → NodesWithin g → (n x : ℕ) → cycle_in k g opened n ≡ Some x → x < length g
 cycle-within zero g opened w n x e = absurd (none-some x e)
 cycle-within (suc k) g opened w n x e =
     first-within (length g) (λ (t : UnitId). met_or (cycle_in k g (n ∷ opened)) (is_open (n ∷ opened) t.0) t.0) (targets_at g n) (w n)
     (λ t y l q. met-within (length g) (cycle_in k g (n ∷ opened)) (cycle-within k g (n ∷ opened) w) (is_open (n ∷ opened) t.0) t.0 y l q) x e
 
 -- the refusal of a search
-pub found-within : (a : Arena) (g : List Node) (top : ℕ) (r : Result Measure ElabFault) → IsArena a → IsGraph a g → NodesWithin g → Measures g top r → IfErr r (FaultWithin a)
+pub found-within : (a : Arena) (g : List HierarchyNode) (top : ℕ) (r : Result Measure ElabFault) → IsArena a → IsGraph a g → NodesWithin g → Measures g top r → IfErr r (FaultWithin a)
 found-within a g top (Ok m) o q w h = tt
 found-within a g top (Err (fault.InstCycle v)) o q w h =
     let l : v.0 < length g = cycle-within (length (defined a)) g [] w top v.0 (h (defined a) (has-busy a g o q)) in
@@ -46,7 +47,8 @@ found-within a g top (Err _) o q w h = tt
 
 -- no limit names a unit
 pub limit-within : (a : Arena) (m : Measure) (b : ℕ) (r : Result ℕ ElabFault) → r ≡ limited m b → IfErr r (FaultWithin a)
-limit-within a m b r e = subst (λ (x : Result ℕ ElabFault). IfErr x (FaultWithin a)) (sym e) (by (nat_lt 64 m.depth) (nat_lt 65536 m.instances) (nat_lt 16777216 (min (b + m.bits) max_counted)) (min (b + m.bits) max_counted))
+limit-within a m b r e = subst (λ (x : Result ℕ ElabFault). IfErr x (FaultWithin a)) (sym e)
+    (by (nat_lt 64 m.depth) (nat_lt 65536 m.instances) (nat_lt 16777216 (min (b + m.bits) max_counted)) (min (b + m.bits) max_counted))
   where
     by : (x y z : Bool) (k : ℕ) → IfErr (if x then Err fault.TooDeep else (if y then Err fault.TooManyInstances else (if z then Err fault.TooManyBits else Ok k))) (FaultWithin a)
     by true y z k = tt

@@ -21,7 +21,8 @@ pub none-right : (a : Arena) (ps : List (Option Plan)) → ((v : ℕ) → get_or
 none-right a ps h u x e = let n = h u in absurd cc
 
 -- the plan of one more unit
-pub plan-more : (a : Arena) (ps : List (Option Plan)) (u : ℕ) (p : Plan) → u < length ps → ((v : ℕ) (x : Plan) → get_or ps v None ≡ Some x → IsPlan a v x) → IsPlan a u p → (v : ℕ) (x : Plan) → get_or (set ps u (Some p)) v None ≡ Some x → IsPlan a v x
+pub plan-more : (a : Arena) (ps : List (Option Plan)) (u : ℕ) (p : Plan) → u < length ps → ((v : ℕ) (x : Plan) → get_or ps v None ≡ Some x → IsPlan a v x) → IsPlan a u p → (v : ℕ) (x : Plan)
+    → get_or (set ps u (Some p)) v None ≡ Some x → IsPlan a v x
 plan-more a ps u p l r k v x e = by (same_or v u)
   where
     by : Same v u → IsPlan a v x

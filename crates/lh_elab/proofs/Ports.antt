@@ -102,7 +102,8 @@ in-order is os =
 ports-in-order : (args : List ArgText) (ts : List Lexeme) → SpellsPorts args ts → inputs_of args ++ outputs_of args ≡ args
 ports-in-order args ts s = (λ j. inputs_of (s.together j) ++ outputs_of (s.together j)) ∙ in-order s.inputs s.outputs ∙ sym s.together
 
-args-in-order : (k : UnitKind) (n : UnitName) (args : List ArgText) (r : Option TypeTree) (ts : List Lexeme) → SpellsHeader k n args r ts → is_function k ≡ false → inputs_of args ++ outputs_of args ≡ args
+args-in-order : (k : UnitKind) (n : UnitName) (args : List ArgText) (r : Option TypeTree) (ts : List Lexeme) → SpellsHeader k n args r ts → is_function k ≡ false
+    → inputs_of args ++ outputs_of args ≡ args
 args-in-order kind.Func n args r ts h e = absurd cc
 args-in-order kind.Proc n args (Some r) ts h e = absurd h
 args-in-order kind.Proc n args None ts h e = ports-in-order args h.1 h.4
@@ -123,7 +124,8 @@ module _ (u : UnitText) (w : ℕ) (e : Env) (f : Fits u w e) where
   pub part-within : (n : List ℕ) (r : Range) (t : TypeTree) → part_at e n ≡ Some r → value_type u n ≡ Some (signal_type t) → IsData t × (r.len ≡ bit_count t) × (r.lo + r.len ≤ w)
   part-within n r t p v = f n (part_held r) (signal_type t) (part-held (e n) r p) v
 
-  ranges-fit : (os : List OperandText) (xs : List ArgText) → ArgumentsAre u os xs → Each IsPort xs → Each (λ (o : OperandText). IsSome (part_at e o.value)) os → RangesFit w (arg_ranges xs (lows_of e os)) (arg_types xs)
+  ranges-fit : (os : List OperandText) (xs : List ArgText) → ArgumentsAre u os xs → Each IsPort xs → Each (λ (o : OperandText). IsSome (part_at e o.value)) os
+      → RangesFit w (arg_ranges xs (lows_of e os)) (arg_types xs)
   ranges-fit [] [] h p s = tt
   ranges-fit [] (x ∷ xs) h p s = absurd h
   ranges-fit (o ∷ os) [] h p s = absurd h
@@ -169,14 +171,17 @@ module _ (a : Arena) (o : IsArena a) (g : IsWellFormed (contents a)) where
   ChildFits w c = (j : ℕ) → j < unit_count a → unit_name_at a j ≡ c.unit → IsInstantiable (kind_at a j) × RangesFit w (arg_ranges (unit_text_at a j).args c.lows) (arg_types (unit_text_at a j).args)
 
   module _ (u : UnitText) (w : ℕ) (e : Env) (f : Fits u w e) where
-    connected : (v : UnitName) (inputs outputs : List OperandText) → InstanceIsRight (contents a) u v inputs outputs → Each (λ (x : OperandText). IsSome (part_at e x.value)) (inputs ++ outputs) → ChildFits w (record { unit = v; lows = lows_of e (inputs ++ outputs) })
+    connected : (v : UnitName) (inputs outputs : List OperandText) → InstanceIsRight (contents a) u v inputs outputs → Each (λ (x : OperandText). IsSome (part_at e x.value)) (inputs ++ outputs)
+        → ChildFits w (record { unit = v; lows = lows_of e (inputs ++ outputs) })
     connected v inputs outputs r s j l n =
         let z = target j l r.of (ap (λ m. unit_named m (contents a)) n ∙ r.named) r.no_function in
         let x = unit_text_at a j in
         let sound : UnitIsSound x = unit-is-sound a j o l g (instantiable-there (kind_at a j) z.1) in
         let ports : Each IsPort x.args = instantiable-ports (kind_at a j) x.args z.1 sound.ports in
-        let all : ArgumentsAre u (inputs ++ outputs) (inputs_of r.of.args ++ outputs_of r.of.args) = arguments-append u inputs outputs (inputs_of r.of.args) (outputs_of r.of.args) r.inputs_are r.outputs_are in
-        let same : inputs_of r.of.args ++ outputs_of r.of.args ≡ x.args = ap (λ (y : UnitText). inputs_of y.args ++ outputs_of y.args) z.0 ∙ printed-in-order x sound.printable (sym (ap (λ (y : UnitText). is_function y.kind) z.0) ∙ r.no_function) in
+        let all : ArgumentsAre u (inputs ++ outputs) (inputs_of r.of.args ++ outputs_of r.of.args) = arguments-append u inputs outputs (inputs_of r.of.args) (outputs_of r.of.args) r.inputs_are
+        r.outputs_are in
+        let same : inputs_of r.of.args ++ outputs_of r.of.args ≡ x.args = ap (λ (y : UnitText). inputs_of y.args ++ outputs_of y.args) z.0
+        ∙ printed-in-order x sound.printable (sym (ap (λ (y : UnitText). is_function y.kind) z.0) ∙ r.no_function) in
         (z.1, ranges-fit u w e f (inputs ++ outputs) x.args (subst (ArgumentsAre u (inputs ++ outputs)) same all) ports s)
 
     child-fits : (i : InstText) (more : List Child) → NamedIsRight (contents a) u i → PartsFound e i → Each (ChildFits w) more → Each (ChildFits w) (child_if e i more)
@@ -206,7 +211,8 @@ module _ (a : Arena) (o : IsArena a) (g : IsWellFormed (contents a)) where
     all-children-fit (inr k) args sigs w f =
         let e = static_held here args sigs in
         let b : IsSome (kind_at a u) = instantiable-there (kind_at a u) (inr k) in
-        let all : Each (ChildFits w) (children_of e (lines_of here.blocks)) = children-fit here w e (static-fits k args sigs w f) (lines_of here.blocks) (told b) (parts-are-found a u o l g k args sigs w f) in
+        let all : Each (ChildFits w) (children_of e (lines_of here.blocks)) = children-fit here w e (static-fits k args sigs w f) (lines_of here.blocks) (told b)
+        (parts-are-found a u o l g k args sigs w f) in
         subst (λ (x : UnitKind). Each (ChildFits w) ((hierarchy_by x here).children args sigs)) (sym (ap kind_text k)) all
 
     -- the types of its signals

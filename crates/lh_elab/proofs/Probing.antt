@@ -17,7 +17,7 @@ use Rattle.lh_unit.specs.Hierarchy.{lines_of, static_held, part_if_probe, probed
 use Rattle.lh_unit.specs.Naming.{inst_text, value_text}
 use Rattle.lh_unit.specs.Pass.{probes}
 use Rattle.lh_unit.specs.Arena.{Arena, IsArena, InstPlaced, contents, naming, table_at, kind_at, unit_count, value_count, block_insts_at, unit_text_at}
-use Rattle.lh_unit.specs.ById.{inst_line}
+use Rattle.lh_unit.specs.ById.{inst_line_text}
 use Rattle.lh_unit.specs.WellFormed.{IsWellFormed}
 use Rattle.lh_unit.specs.Within.{Each}
 use Rattle.lh_unit.proofs.Lists.{Same, same, other, same_or, Each-item}
@@ -25,7 +25,7 @@ use Rattle.lh_formed.specs.Operands.{RowIs}
 use Rattle.lh_eval.specs.declared.instance.Instance.{Instance}
 use Rattle.lh_eval.specs.Fitting.{Fits}
 use Rattle.lh_eval.specs.Holding.{part_in}
-use Rattle.lh_eval.specs.Sound.{IsSound}
+use Rattle.lh_eval.specs.Sound.{InstIsSound}
 use Rattle.lh_eval.proofs.Holding.{same-held}
 use Rattle.lh_sound.specs.Ranges.{RangesFit, signal_types}
 use Rattle.lh_sound.proofs.FitLaws.{unit-is-sound}
@@ -34,19 +34,20 @@ use Rattle.lh_elab.specs.declared.statics.Base.{Base}
 use Rattle.lh_elab.specs.declared.statics.Base.TheVariants as base
 use Rattle.lh_elab.specs.declared.statics.Statics.{Statics}
 use Rattle.lh_elab.specs.Answer.{InstanceIs}
-use Rattle.lh_elab.specs.Plans.{AreWide, AreOf}
+use Rattle.lh_elab.specs.Plans.{AreWide, AreRangesOf}
 use Rattle.lh_elab.specs.Probed.{probed_in, probed_by, ProbeLine, probe_by, above, ProbesOf}
-use Rattle.lh_elab.specs.Statics.{by_of, base_lo, moved_slots, Follows}
+use Rattle.lh_elab.specs.Statics.{by_of, base_lo, moved_slots, StaticsFollow}
 use Rattle.lh_elab.proofs.Moving.{shifted, length-moved, slot-moved, part-moved}
 use Rattle.lh_elab.proofs.PlanSteps.{lines}
 use Rattle.lh_elab.proofs.Ports.{instantiable-there, part-within, static-fits, types-read}
 
-above-part : (args sigs : List Range) (b : Base) (p : Option Range) → option_map (above args sigs) (option_map (λ (r : Range). record { base = b; part = r }) p) ≡ option_map (shifted (base_lo args sigs b)) p
+above-part : (args sigs : List Range) (b : Base) (p : Option Range) → option_map (above args sigs) (option_map (λ (r : Range). record { base = b; part = r }) p)
+    ≡ option_map (shifted (base_lo args sigs b)) p
 above-part args sigs b None = refl
 above-part args sigs b (Some r) = refl
 
 -- the parts of a list after one more `prb`
-module _ (args sigs : List Range) (a : Arena) (u : ℕ) (s : Statics) (e : Env) (f : Follows a u args sigs (by_of s) e) where
+module _ (args sigs : List Range) (a : Arena) (u : ℕ) (s : Statics) (e : Env) (f : StaticsFollow a u args sigs (by_of s) e) where
   probe-read : (v : ValueId) → v.0 < length s.slots → part_at e (value_text (naming a u) v) ≡ option_map (above args sigs) (probe_by s v)
   probe-read v w =
       let n = length-moved args sigs s.bases.items s.slots f.long in
@@ -57,7 +58,8 @@ module _ (args sigs : List Range) (a : Arena) (u : ℕ) (s : Statics) (e : Env) 
       ∙ part-moved args sigs b (get_or s.slots v.0 None)
       ∙ sym (above-part args sigs b (part_in s.slots v))
 
-  pub probe-more : (i : Inst) (x : Typed) (p : Probe) (old new : List Probe) → i ≡ inst.Prb x → ProbeLine (length s.slots) i → probe_by s x.value ≡ Some p → new ≡ old ++ p ∷ [] → map (above args sigs) new ≡ map (above args sigs) old ++ part_if_probe e (inst_text (naming a u) i) []
+  pub probe-more : (i : Inst) (x : Typed) (p : Probe) (old new : List Probe) → i ≡ inst.Prb x → ProbeLine (length s.slots) i → probe_by s x.value ≡ Some p → new ≡ old ++ p ∷ []
+      → map (above args sigs) new ≡ map (above args sigs) old ++ part_if_probe e (inst_text (naming a u) i) []
   probe-more i x p old new g w q n =
       let w' : x.value.0 < length s.slots = subst (ProbeLine (length s.slots)) g w in
       let r : part_at e (value_text (naming a u) x.value) ≡ Some (above args sigs p) = probe-read x.value w' ∙ ap (option_map (above args sigs)) q in
@@ -65,7 +67,8 @@ module _ (args sigs : List Range) (a : Arena) (u : ℕ) (s : Statics) (e : Env) 
       ∙ map-append (above args sigs) old (p ∷ [])
       ∙ ap (λ l. map (above args sigs) old ++ l) (sym (ap (λ k. part_if_probe e (inst_text (naming a u) k) []) g ∙ ap (λ o. option_map_or (λ (z : Range). z ∷ []) o []) r))
 
-  pub probe-none : (i : Inst) (x : Typed) (old : List Probe) → i ≡ inst.Prb x → ProbeLine (length s.slots) i → probe_by s x.value ≡ None → map (above args sigs) old ≡ map (above args sigs) old ++ part_if_probe e (inst_text (naming a u) i) []
+  pub probe-none : (i : Inst) (x : Typed) (old : List Probe) → i ≡ inst.Prb x → ProbeLine (length s.slots) i → probe_by s x.value ≡ None
+      → map (above args sigs) old ≡ map (above args sigs) old ++ part_if_probe e (inst_text (naming a u) i) []
   probe-none i x old g w q =
       let w' : x.value.0 < length s.slots = subst (ProbeLine (length s.slots)) g w in
       let r : part_at e (value_text (naming a u) x.value) ≡ None = probe-read x.value w' ∙ ap (option_map (above args sigs)) q in
@@ -81,7 +84,8 @@ probe-front : (e : Env) (i : InstText) (more : List Range) → part_if_probe e i
 probe-front e (prb_text x) more = part-front (part_at e x.value) more
 probe-front e _ more = refl
 
-pub more-probes : (e : Env) (f : InstId → LineText) (is : List InstId) (k : ℕ) (d : InstId) (cur new all : List Range) → k < length is → new ≡ cur ++ part_if_probe e (f (get_or is k d)).inst [] → cur ++ probed_parts e (map f (drop k is)) ≡ all → new ++ probed_parts e (map f (drop (k + 1) is)) ≡ all
+pub more-probes : (e : Env) (f : InstId → LineText) (is : List InstId) (k : ℕ) (d : InstId) (cur new all : List Range) → k < length is → new ≡ cur ++ part_if_probe e (f (get_or is k d)).inst []
+    → cur ++ probed_parts e (map f (drop k is)) ≡ all → new ++ probed_parts e (map f (drop (k + 1) is)) ≡ all
 more-probes e f is k d cur new all h p q =
     ap (λ l. l ++ probed_parts e (map f (drop (k + 1) is))) p
     ∙ append_assoc cur (part_if_probe e (f (get_or is k d)).inst []) (probed_parts e (map f (drop (k + 1) is)))
@@ -98,11 +102,11 @@ placed-probe a u _ n e p = tt
 
 -- the probes of an entity
 pub entity-probes : (a : Arena) (u : ℕ) → IsArena a → u < unit_count a → kind_at a u ≡ Some kind.Entity → (args sigs : List Range) (is : List InstId) → is ≡ block_insts_at a u 0
-    → probed_parts (static_held (unit_text_at a u) args sigs) (map (inst_line (naming a u) (table_at a u)) is) ≡ probed_in (kind_at a u) (unit_text_at a u) args sigs
+    → probed_parts (static_held (unit_text_at a u) args sigs) (map (inst_line_text (naming a u) (table_at a u)) is) ≡ probed_in (kind_at a u) (unit_text_at a u) args sigs
 unfolding probes
 entity-probes a u o h k args sigs is i =
     let e = static_held (unit_text_at a u) args sigs in
-    ap (λ l. probed_parts e (map (inst_line (naming a u) (table_at a u)) l)) i
+    ap (λ l. probed_parts e (map (inst_line_text (naming a u) (table_at a u)) l)) i
     ∙ ap (probed_parts e) (sym (lines a u o h k))
     ∙ sym (ap (λ (x : Option UnitKind). probed_in x (unit_text_at a u) args sigs) k)
 
@@ -120,7 +124,7 @@ module _ (a : Arena) (o : IsArena a) (g : IsWellFormed (contents a)) (w : ℕ) (
   abbrev here : UnitText
   here = unit_text_at a i.unit.0
 
-  pub are-of : AreOf here i.args i.sigs
+  pub are-of : AreRangesOf here i.args i.sigs
   are-of = record {
     of_args = wide w i.args _ f.fits.of_args;
     of_signals = subst (AreWide i.sigs) (sym (types-read a o g i.unit.0 f.unit f.kind)) (wide w i.sigs (signal_types (lines_of here.blocks)) f.fits.of_signals);
@@ -135,7 +139,7 @@ module _ (a : Arena) (o : IsArena a) (g : IsWellFormed (contents a)) (w : ℕ) (
       by (Some p) q = ((part-within here w e fits s.value p r.0 q r.1.1).2, m)
   line-within e fits _ more r m = m
 
-  lines-within : (e : Env) → Fits here w e → (ls : List LineText) → Each (IsSound here) ls → Each (IsWithin w) (probed_parts e ls)
+  lines-within : (e : Env) → Fits here w e → (ls : List LineText) → Each (InstIsSound here) ls → Each (IsWithin w) (probed_parts e ls)
   lines-within e fits [] s = tt
   lines-within e fits (l ∷ ls) s = line-within e fits l.inst (probed_parts e ls) s.0.row (lines-within e fits ls s.1)
 
@@ -160,18 +164,21 @@ lows-few : (w : ℕ) (args sigs : List Range) (ps : List Probe) → w < 2 ^ 32 �
 lows-few w args sigs [] b e = tt
 lows-few w args sigs (p ∷ ps) b e = (omega (arith, e.0, b), lows-few w args sigs ps b e.1)
 
-pub probes-few : (a : Arena) → IsArena a → IsWellFormed (contents a) → (w : ℕ) (i : Instance) → InstanceIs a w i → w < 2 ^ 32 → (ps : List Probe) → ProbesOf a i.unit.0 ps → Each (λ (p : Probe). (above i.args i.sigs p).lo < 2 ^ 32) ps
+pub probes-few : (a : Arena) → IsArena a → IsWellFormed (contents a) → (w : ℕ) (i : Instance) → InstanceIs a w i → w < 2 ^ 32 → (ps : List Probe) → ProbesOf a i.unit.0 ps
+    → Each (λ (p : Probe). (above i.args i.sigs p).lo < 2 ^ 32) ps
 probes-few a o g w i f b ps q = lows-few w i.args i.sigs ps b (subst (Each (IsWithin w)) (sym (q i.args i.sigs (are-of a o g w i f))) (probed-within a o g w i f))
 
 -- one more instance
-pub next-probed : (a : Arena) (is : List Instance) (k : ℕ) (i : Instance) (cur new : List (List Range)) (p : List Range) → k < length is → i ≡ get_or is k i → cur ≡ map (probed_by a) (take k is) → new ≡ cur ++ p ∷ [] → p ≡ probed_by a i → new ≡ map (probed_by a) (take (k + 1) is)
+pub next-probed : (a : Arena) (is : List Instance) (k : ℕ) (i : Instance) (cur new : List (List Range)) (p : List Range) → k < length is → i ≡ get_or is k i → cur ≡ map (probed_by a) (take k is)
+    → new ≡ cur ++ p ∷ [] → p ≡ probed_by a i → new ≡ map (probed_by a) (take (k + 1) is)
 next-probed a is k i cur new p h e c n q =
     n
     ∙ (λ j. c j ++ (q ∙ ap (probed_by a) e) j ∷ [])
     ∙ sym (ap (map (probed_by a)) (take_more is k i h) ∙ map-append (probed_by a) (take k is) (get_or is k i ∷ []))
 
 -- what one more unit senses
-pub table-more : (a : Arena) (n : ℕ) (us new : List (List Probe)) (ps : List Probe) → length us ≡ n → new ≡ us ++ ps ∷ [] → ProbesOf a n ps → ((u : ℕ) → u < n → ProbesOf a u (get_or us u [])) → (u : ℕ) → u < n + 1 → ProbesOf a u (get_or new u [])
+pub table-more : (a : Arena) (n : ℕ) (us new : List (List Probe)) (ps : List Probe) → length us ≡ n → new ≡ us ++ ps ∷ [] → ProbesOf a n ps → ((u : ℕ) → u < n → ProbesOf a u (get_or us u []))
+    → (u : ℕ) → u < n + 1 → ProbesOf a u (get_or new u [])
 table-more a n us new ps l e p f u h = subst (λ (xs : List (List Probe)). ProbesOf a u (get_or xs u [])) (sym e) (by (same_or u n))
   where
     by : Same u n → ProbesOf a u (get_or (us ++ ps ∷ []) u [])
@@ -184,7 +191,8 @@ table-more a n us new ps l e p f u h = subst (λ (xs : List (List Probe)). Probe
         subst (ProbesOf a u) (sym g) (f u less)
 
 -- in each instance, of an answer
-pub in-each : {E : Type 0} (r : Result (List Probe) E) (P : List Range → List Range → Type 0) (Q : List Range → List Range → List Probe → Type 0) → ((args sigs : List Range) → P args sigs → IfOk r (Q args sigs)) → IfOk r (λ ps. (args sigs : List Range) → P args sigs → Q args sigs ps)
+pub in-each : {E : Type 0} (r : Result (List Probe) E) (P : List Range → List Range → Type 0) (Q : List Range → List Range → List Probe → Type 0)
+    → ((args sigs : List Range) → P args sigs → IfOk r (Q args sigs)) → IfOk r (λ ps. (args sigs : List Range) → P args sigs → Q args sigs ps)
 in-each (Ok ps) P Q h = λ args sigs p. h args sigs p
 in-each (Err e) P Q h = tt
 
@@ -193,9 +201,11 @@ pub instance-is : (a : Arena) (w : ℕ) (is : List Instance) (k : ℕ) (i : Inst
 instance-is a w is k i h e f = Each-item (InstanceIs a w) is k i f h e
 
 -- what its unit senses
-pub unit-senses : (a : Arena) (us : List (List Probe)) (u : ℕ) (ps : List Probe) → u < unit_count a → length us ≡ unit_count a → ps ≡ get_or us u ps → ((v : ℕ) → v < unit_count a → ProbesOf a v (get_or us v [])) → ProbesOf a u ps
+pub unit-senses : (a : Arena) (us : List (List Probe)) (u : ℕ) (ps : List Probe) → u < unit_count a → length us ≡ unit_count a → ps ≡ get_or us u ps
+    → ((v : ℕ) → v < unit_count a → ProbesOf a v (get_or us v [])) → ProbesOf a u ps
 unit-senses a us u ps h l e f = subst (ProbesOf a u) (sym (e ∙ get_or_default us u ps [] (omega (arith, h, l)))) (f u h)
 
 -- what it senses
-pub senses : (a : Arena) → IsArena a → IsWellFormed (contents a) → (w : ℕ) (i : Instance) → InstanceIs a w i → (ps : List Probe) (rs : List Range) → ProbesOf a i.unit.0 ps → rs ≡ map (above i.args i.sigs) ps → rs ≡ probed_by a i
+pub senses : (a : Arena) → IsArena a → IsWellFormed (contents a) → (w : ℕ) (i : Instance) → InstanceIs a w i → (ps : List Probe) (rs : List Range) → ProbesOf a i.unit.0 ps
+    → rs ≡ map (above i.args i.sigs) ps → rs ≡ probed_by a i
 senses a o g w i f ps rs q e = e ∙ q i.args i.sigs (are-of a o g w i f)

@@ -16,7 +16,7 @@ use Rattle.lh_unit.specs.declared.inst.Inst.{Inst}
 use Rattle.lh_unit.specs.declared.inst.Inst.TheVariants as inst
 use Rattle.lh_unit.proofs.Lists.{Same, same, other, same_or, Each-append, Each-at}
 use Rattle.lh_unit.proofs.ModuleLaws.{block-within, block_insts-within}
-use Rattle.lh_elab.specs.declared.graph.Node.{Node}
+use Rattle.lh_elab.specs.declared.graph.HierarchyNode.{HierarchyNode}
 use Rattle.lh_elab.specs.Graph.{no_node, node_after, node_from, node_by, node_of, node_at, targets_at, IsGraph}
 use Rattle.lh_elab.specs.Searches.{NodesWithin}
 
@@ -37,14 +37,14 @@ pub each-at : (n i : ℕ) (d : InstId) (xs ys : List InstId) → i < length xs �
 each-at n i d xs ys l e h = Each-at (λ (x : InstId). x.0 < n) xs i d (subst (Each (λ (x : InstId). x.0 < n)) (sym e) h) l
 
 -- a graph of the first units
-pub record GraphTo (a : Arena) (n : ℕ) (g : List Node) : Type 0 where
+pub record GraphTo (a : Arena) (n : ℕ) (g : List HierarchyNode) : Type 0 where
   pub long : length g ≡ n
   pub nodes : (u : ℕ) → u < n → node_at g u ≡ node_of a u
 
-pub GraphTo-none : (a : Arena) (g : List Node) → g ≡ [] → GraphTo a 0 g
+pub GraphTo-none : (a : Arena) (g : List HierarchyNode) → g ≡ [] → GraphTo a 0 g
 GraphTo-none a g e = record { long = ap length e; nodes = λ u l. absurd (omega (arith, l)) }
 
-pub GraphTo-push : (a : Arena) (n : ℕ) (g h : List Node) (x : Node) → GraphTo a n g → h ≡ g ++ x ∷ [] → x ≡ node_of a n → GraphTo a (n + 1) h
+pub GraphTo-push : (a : Arena) (n : ℕ) (g h : List HierarchyNode) (x : HierarchyNode) → GraphTo a n g → h ≡ g ++ x ∷ [] → x ≡ node_of a n → GraphTo a (n + 1) h
 GraphTo-push a n g h x o e f = subst (GraphTo a (n + 1)) (sym e) record {
   long = omega (arith, o.long, length-append g (x ∷ []));
   nodes = λ u l. by u l (same_or u n);
@@ -54,7 +54,7 @@ GraphTo-push a n g h x o e f = subst (GraphTo a (n + 1)) (sym e) record {
     by u l (same q) = get_or_push g x no_node u (omega (arith, o.long, q)) ∙ f ∙ ap (node_of a) (sym q)
     by u l (other q) = get_or_append_left g (x ∷ []) no_node u (omega (arith, o.long, l, q)) ∙ o.nodes u (omega (arith, l, q))
 
-pub GraphTo-all : (a : Arena) (n : ℕ) (g : List Node) → n ≡ unit_count a → GraphTo a n g → IsGraph a g
+pub GraphTo-all : (a : Arena) (n : ℕ) (g : List HierarchyNode) → n ≡ unit_count a → GraphTo a n g → IsGraph a g
 GraphTo-all a n g e o = record { long = o.long ∙ e; nodes = λ u l. o.nodes u (omega (arith, l, e)) }
 
 -- each instruction is placed
@@ -67,7 +67,7 @@ line-placed a u i o = elim (cases_lt i (length (table_at a u).lines)) [
 abbrev Inside : ℕ → List UnitId → Type 0
 Inside n ts = Each (λ (t : UnitId). t.0 < n) ts
 
-after-inside : (a : Arena) (u : ℕ) (n : Node) (i : Inst) → InstPlaced a u i → Inside (unit_count a) n.targets → Inside (unit_count a) (node_after n i).targets
+after-inside : (a : Arena) (u : ℕ) (n : HierarchyNode) (i : Inst) → InstPlaced a u i → Inside (unit_count a) n.targets → Inside (unit_count a) (node_after n i).targets
 after-inside a u n (inst.Child v inputs outputs) p h = Each-append (λ (t : UnitId). t.0 < unit_count a) n.targets (v ∷ []) h (p.0, tt)
 after-inside a u n (inst.Const v) p h = h
 after-inside a u n (inst.Pure op args) p h = h
@@ -86,7 +86,7 @@ after-inside a u n (inst.Wait to after signals) p h = h
 after-inside a u n inst.Halt p h = h
 after-inside a u n (inst.Ret x) p h = h
 
-from-inside : (a : Arena) (u : ℕ) (n : Node) (is : List InstId) → IsArena a → Inside (unit_count a) n.targets → Inside (unit_count a) (node_from (table_at a u) n is).targets
+from-inside : (a : Arena) (u : ℕ) (n : HierarchyNode) (is : List InstId) → IsArena a → Inside (unit_count a) n.targets → Inside (unit_count a) (node_from (table_at a u) n is).targets
 from-inside a u n [] o h = h
 from-inside a u n (i ∷ is) o h = from-inside a u (node_after n (line_at (table_at a u) i.0).inst) is o (after-inside a u n (line_at (table_at a u) i.0).inst (line-placed a u i.0 o) h)
 
@@ -96,7 +96,7 @@ by-inside a u (Some kind.Func) o = tt
 by-inside a u (Some kind.Proc) o = tt
 by-inside a u None o = tt
 
-pub graph-within : (a : Arena) (g : List Node) → IsArena a → IsGraph a g → NodesWithin g
+pub graph-within : (a : Arena) (g : List HierarchyNode) → IsArena a → IsGraph a g → NodesWithin g
 graph-within a g o q u = elim (cases_lt u (length g)) [
   | inl l ↦
       let e : node_at g u ≡ node_of a u = q.nodes u (omega (arith, q.long, l)) in
@@ -108,5 +108,6 @@ drop_at : (is : List InstId) (k : ℕ) (d : InstId) → k < length is → drop k
 drop_at is k d l = rw (add-one, drop-cons is k d) refl
 
 -- the rest of a list at one more
-pub from-next : (t : Table) (n m r : Node) (is : List InstId) (k : ℕ) (d : InstId) → k < length is → m ≡ node_after n (line_at t (get_or is k d).0).inst → node_from t n (drop k is) ≡ r → node_from t m (drop (k + 1) is) ≡ r
+pub from-next : (t : Table) (n m r : HierarchyNode) (is : List InstId) (k : ℕ) (d : InstId) → k < length is → m ≡ node_after n (line_at t (get_or is k d).0).inst → node_from t n (drop k is) ≡ r
+    → node_from t m (drop (k + 1) is) ≡ r
 from-next t n m r is k d l e h = rw e (sym (ap (node_from t n) (drop_at is k d l)) ∙ h)

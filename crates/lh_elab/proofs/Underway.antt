@@ -23,14 +23,14 @@ use Rattle.lh_elab.specs.declared.statics.Base.TheVariants as base
 use Rattle.lh_elab.specs.declared.build.Building.{Building}
 use Rattle.lh_elab.specs.declared.build.Pending.{Pending}
 use Rattle.lh_elab.specs.Statics.{base_lo, no_range}
-use Rattle.lh_elab.specs.Plans.{signal_of, child_of, low_at, LowSmall, ChildSmall, SignalFits, AreWide, AreOf, IsPlan}
+use Rattle.lh_elab.specs.Plans.{signal_of, child_of, low_at, LowSmall, ChildSmall, SignalFits, AreWide, AreRangesOf, IsPlan}
 use Rattle.lh_elab.specs.Builds.{instance_text, signal_text, room_of, ranges_by, kid, kids, kids_in, AreLow, LowsFit, Visits}
 use Rattle.lh_elab.specs.Elaborates.{TextsFill}
 use Rattle.lh_elab.proofs.Walks.{gone, unwound, unwound-append, ReadsArgs, kids-visited, left, left-append, kids-count}
 use Rattle.lh_elab.proofs.Numbering.{room-cons, initial-long}
 
 -- what is built, as the definition has it
-pub record Stands (a : Arena) (b : Building) (d : Design) : Type 0 where
+pub record StandsForDesign (a : Arena) (b : Building) (d : Design) : Type 0 where
   pub instances : map (instance_text a) b.instances.items ≡ d.instances
   pub signals : map signal_text b.signals.items ≡ d.signals
   pub bits : take b.lo b.init ≡ d.init
@@ -65,7 +65,7 @@ bits_of table k n = bits_below k table n
 
 pub record Underway (a : Arena) (table : List Entry) (to : Design) (b : Building) : Type 0 where
   pub built : Design
-  pub stands : Stands a b built
+  pub stands : StandsForDesign a b built
   pub goes : unwound a table b.pending.items built ≡ to
   pub count : length b.instances.items + left a (counts table) b.pending.items ≤ 65536
   pub room : b.lo + left a (bits_of table) b.pending.items ≡ length b.init
@@ -118,7 +118,8 @@ low-of : (k : ℕ) (args sigs : List Range) (l : Option Low) → suc k ≤ 63 �
 low-of k args sigs None h e f s = omega arith
 low-of k args sigs (Some l) h e f s = let z : suc k * 65536 ≤ 21000000 = omega arith in let b = base-of (suc k) args sigs l.base z e f in omega (arith, b, s)
 
-lows-of : (k : ℕ) (args sigs : List Range) (ls : List (Option Low)) → suc k ≤ 63 → ArgsLow (suc k) args → ArgsLow (suc k) sigs → Each LowSmall ls → Each (λ lo. lo + k * 65536 ≤ 21000000) (map (low_at args sigs) ls)
+lows-of : (k : ℕ) (args sigs : List Range) (ls : List (Option Low)) → suc k ≤ 63 → ArgsLow (suc k) args → ArgsLow (suc k) sigs → Each LowSmall ls
+    → Each (λ lo. lo + k * 65536 ≤ 21000000) (map (low_at args sigs) ls)
 lows-of k args sigs [] h e f s = tt
 lows-of k args sigs (l ∷ ls) h e f s = (low-of k args sigs l h e f s.0, lows-of k args sigs ls h e f s.1)
 
@@ -136,7 +137,8 @@ pub children-fit : (a : Arena) (k : ℕ) (args sigs : List Range) (cs : List Pla
 children-fit a k args sigs [] h e f s = tt
 children-fit a k args sigs (c ∷ cs) h e f s = (lows-fit k (length (args_at a c.unit.0)) args sigs c.lows.items h e f s.0, children-fit a k args sigs cs h e f s.1)
 
-kid-fits : (a : Arena) (n k : ℕ) (args sigs : List Range) (c : PlanChild) → c.unit.0 < unit_count a → suc k ≤ 63 → ArgsLow (suc k) args → ArgsLow (suc k) sigs → ChildSmall c → PendingFits a (kid a n k args sigs c)
+kid-fits : (a : Arena) (n k : ℕ) (args sigs : List Range) (c : PlanChild) → c.unit.0 < unit_count a → suc k ≤ 63 → ArgsLow (suc k) args → ArgsLow (suc k) sigs → ChildSmall c
+    → PendingFits a (kid a n k args sigs c)
 kid-fits a n k args sigs c l h e f s = record {
   unit = l;
   room = omega arith;
@@ -144,11 +146,14 @@ kid-fits a n k args sigs c l h e f s = record {
   low = by-low k (args_at a c.unit.0) (map (low_at args sigs) c.lows.items) (omega arith) (lows-of k args sigs c.lows.items h e f s);
 }
 
-kids-fit : (a : Arena) (n k : ℕ) (args sigs : List Range) (cs : List PlanChild) → Each (λ (c : PlanChild). c.unit.0 < unit_count a) cs → suc k ≤ 63 → ArgsLow (suc k) args → ArgsLow (suc k) sigs → Each ChildSmall cs → Each (PendingFits a) (kids a n k args sigs cs)
+kids-fit : (a : Arena) (n k : ℕ) (args sigs : List Range) (cs : List PlanChild) → Each (λ (c : PlanChild). c.unit.0 < unit_count a) cs → suc k ≤ 63 → ArgsLow (suc k) args → ArgsLow (suc k) sigs
+    → Each ChildSmall cs → Each (PendingFits a) (kids a n k args sigs cs)
 kids-fit a n k args sigs [] l h e f s = tt
-kids-fit a n k args sigs (c ∷ cs) l h e f s = Each-append (PendingFits a) (kids a n k args sigs cs) (kid a n k args sigs c ∷ []) (kids-fit a n k args sigs cs l.1 h e f s.1) (kid-fits a n k args sigs c l.0 h e f s.0, tt)
+kids-fit a n k args sigs (c ∷ cs) l h e f s = Each-append (PendingFits a) (kids a n k args sigs cs) (kid a n k args sigs c ∷ []) (kids-fit a n k args sigs cs l.1 h e f s.1)
+    (kid-fits a n k args sigs c l.0 h e f s.0, tt)
 
-all-fit : (a : Arena) (n k : ℕ) (args sigs : List Range) (cs : List PlanChild) → Each (λ (c : PlanChild). c.unit.0 < unit_count a) cs → k ≤ 63 → ArgsLow k args → ArgsLow k sigs → Each ChildSmall cs → Each (PendingFits a) (kids_in a n k args sigs cs)
+all-fit : (a : Arena) (n k : ℕ) (args sigs : List Range) (cs : List PlanChild) → Each (λ (c : PlanChild). c.unit.0 < unit_count a) cs → k ≤ 63 → ArgsLow k args → ArgsLow k sigs → Each ChildSmall cs
+    → Each (PendingFits a) (kids_in a n k args sigs cs)
 all-fit a n zero args sigs cs l h e f s = tt
 all-fit a n (suc k) args sigs cs l h e f s = kids-fit a n k args sigs cs l h e f s
 
@@ -245,7 +250,7 @@ module _ (a : Arena) (table : List Entry) (to : Design) (reads : ReadsAll a tabl
         abbrev pub e : Design
         e = with_instance next.parent name h next.args d
 
-        are-of : AreOf (unit_text_at a next.unit.0) next.args sigs
+        are-of : AreRangesOf (unit_text_at a next.unit.0) next.args sigs
         are-of = record { of_args = next-fits.wide; of_signals = subst (AreWide sigs) (ap (map (λ (s : SignalText). s.ty)) k.signals) (ranges-wide mid.lo ss) }
 
         same-sigs : sigs ≡ signal_ranges (length d.init) h.signals
@@ -254,7 +259,7 @@ module _ (a : Arena) (table : List Entry) (to : Design) (reads : ReadsAll a tabl
         same-children : map (child_of a next.args sigs) p.children.items ≡ h.children next.args sigs
         same-children = k.children next.args sigs are-of ∙ sym ((reads next.unit.0 next-fits.unit).children next.args sigs)
 
-        stands : Stands a new e
+        stands : StandsForDesign a new e
         stands = record {
           instances =
               ap (map (instance_text a)) v.instances
@@ -311,8 +316,13 @@ module _ (a : Arena) (table : List Entry) (to : Design) (reads : ReadsAll a tabl
               omega (arith, w.room, bits-next, left-of (bits_of table) (no-bits table), v.signals.lo, v.signals.long, x, y, q.lo);
           few = let y = ap length q.init in omega (arith, w.few, v.signals.long, y);
           fill =
-              let x : TextsFill 0 (map signal_text mid.signals.items) mid.lo = subst (λ (n : ℕ). TextsFill 0 (map signal_text mid.signals.items) n) (sym q.lo) (subst (λ xs. TextsFill 0 (map signal_text xs) old.lo) (sym q.signals) w.fill) in
-              let y = fill-append 0 mid.lo (mid.lo + room_of ss) (map signal_text mid.signals.items) (numbered (length mid.instances.items) mid.lo ss) x (fill-numbered (length mid.instances.items) mid.lo ss (signals-data p.signals.items k.fit)) in
-              subst (λ xs. TextsFill 0 xs new.lo) (sym v.signals.signals) (subst (TextsFill 0 (map signal_text mid.signals.items ++ numbered (length mid.instances.items) mid.lo ss)) (sym v.signals.lo) y);
-          pending = subst (Each (PendingFits a)) (sym v.pending) (Each-append (PendingFits a) mid.pending.items _ all-pending.0 (all-fit a (length mid.instances.items) next.room next.args sigs p.children.items k.within next-fits.room next-fits.low low-sigs k.small));
+              let x : TextsFill 0 (map signal_text mid.signals.items) mid.lo = subst (λ (n : ℕ). TextsFill 0 (map signal_text mid.signals.items) n) (sym q.lo)
+              (subst (λ xs. TextsFill 0 (map signal_text xs) old.lo) (sym q.signals) w.fill) in
+              let y = fill-append 0 mid.lo (mid.lo + room_of ss) (map signal_text mid.signals.items) (numbered (length mid.instances.items) mid.lo ss) x
+              (fill-numbered (length mid.instances.items) mid.lo ss (signals-data p.signals.items k.fit)) in
+              subst (λ xs. TextsFill 0 xs new.lo) (sym v.signals.signals)
+              (subst (TextsFill 0 (map signal_text mid.signals.items ++ numbered (length mid.instances.items) mid.lo ss)) (sym v.signals.lo) y);
+          pending = subst (Each (PendingFits a)) (sym v.pending)
+              (Each-append (PendingFits a) mid.pending.items _ all-pending.0
+              (all-fit a (length mid.instances.items) next.room next.args sigs p.children.items k.within next-fits.room next-fits.low low-sigs k.small));
         }

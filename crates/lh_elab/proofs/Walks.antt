@@ -51,14 +51,16 @@ module _ (a : Arena) (table : List Entry) (r : ReadsArgs a table) (n : ℕ) (arg
       sym (ranges-read (naming a c.unit.0) (args_at a c.unit.0) lows) ∙ ap (λ xs. arg_ranges xs lows) (sym (r c.unit.0 l)) in
       ap (λ rs. visited (visit k table) (Some n) (unit_name_at a c.unit.0) (hierarchy_in table (unit_name_at a c.unit.0)) rs d) e
 
-  kids-go : (k : ℕ) (cs : List PlanChild) (d : Design) → Each (λ (c : PlanChild). c.unit.0 < unit_count a) cs → unwound a table (kids a n k args sigs cs) d ≡ visit_all (visit (suc k) table n) (map (child_of a args sigs) cs) d
+  kids-go : (k : ℕ) (cs : List PlanChild) (d : Design) → Each (λ (c : PlanChild). c.unit.0 < unit_count a) cs
+      → unwound a table (kids a n k args sigs cs) d ≡ visit_all (visit (suc k) table n) (map (child_of a args sigs) cs) d
   kids-go k [] d l = refl
   kids-go k (c ∷ cs) d l =
       unwound-append a table (kids a n k args sigs cs) (kid a n k args sigs c ∷ []) d
       ∙ ap (unwound a table (kids a n k args sigs cs)) (kid-goes k c d l.0)
       ∙ kids-go k cs (visit (suc k) table n (child_of a args sigs c) d) l.1
 
-  pub kids-visited : (k : ℕ) (cs : List PlanChild) (d : Design) → Each (λ (c : PlanChild). c.unit.0 < unit_count a) cs → unwound a table (kids_in a n k args sigs cs) d ≡ visit_all (visit k table n) (map (child_of a args sigs) cs) d
+  pub kids-visited : (k : ℕ) (cs : List PlanChild) (d : Design) → Each (λ (c : PlanChild). c.unit.0 < unit_count a) cs
+      → unwound a table (kids_in a n k args sigs cs) d ≡ visit_all (visit k table n) (map (child_of a args sigs) cs) d
   kids-visited zero cs d l = sym (visit-none table n (map (child_of a args sigs) cs) d)
   kids-visited (suc k) cs d l = kids-go k cs d l
 

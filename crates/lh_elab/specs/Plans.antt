@@ -92,14 +92,14 @@ AreWide (r ∷ rs) (t ∷ ts) = (r.len ≡ bit_count t) × AreWide rs ts
 AreWide _ _ = ⊥
 
 -- the ranges of an instance have the widths of its unit's arguments and signals
-pub record AreOf (u : UnitText) (args sigs : List Range) : Type 0 where
+pub record AreRangesOf (u : UnitText) (args sigs : List Range) : Type 0 where
   pub of_args : AreWide args (arg_types u.args)
   pub of_signals : AreWide sigs (map (λ (s : SignalText). s.ty) (hierarchy_of u).signals)
 
 -- The plan of the unit u: its signals, and in each instance the instances in it.
 pub record IsPlan (a : Arena) (u : ℕ) (p : Plan) : Type 0 where
   pub signals : map signal_of p.signals.items ≡ (hierarchy_of (unit_text_at a u)).signals
-  pub children : (args sigs : List Range) → AreOf (unit_text_at a u) args sigs → map (child_of a args sigs) p.children.items ≡ (hierarchy_of (unit_text_at a u)).children args sigs
+  pub children : (args sigs : List Range) → AreRangesOf (unit_text_at a u) args sigs → map (child_of a args sigs) p.children.items ≡ (hierarchy_of (unit_text_at a u)).children args sigs
   pub fit : Each SignalFits p.signals.items
   pub within : Each (λ (c : PlanChild). c.unit.0 < unit_count a) p.children.items
   pub small : Each ChildSmall p.children.items

@@ -15,7 +15,7 @@ use Rattle.lh_eval.specs.Holding.{part_in}
 use Rattle.lh_elab.specs.declared.probes.Probe.{Probe}
 use Rattle.lh_elab.specs.declared.statics.Base.TheVariants as base
 use Rattle.lh_elab.specs.declared.statics.Statics.{Statics}
-use Rattle.lh_elab.specs.Plans.{AreOf}
+use Rattle.lh_elab.specs.Plans.{AreRangesOf}
 use Rattle.lh_elab.specs.Statics.{base_lo}
 
 -- an entity senses what its probes name
@@ -46,4 +46,4 @@ above args sigs p = record { lo = base_lo args sigs p.base + p.part.lo; len = p.
 
 -- the parts that the unit u senses, in each instance of it
 abbrev pub ProbesOf : Arena → ℕ → List Probe → Type 0
-ProbesOf a u ps = (args sigs : List Range) → AreOf (unit_text_at a u) args sigs → map (above args sigs) ps ≡ probed_in (kind_at a u) (unit_text_at a u) args sigs
+ProbesOf a u ps = (args sigs : List Range) → AreRangesOf (unit_text_at a u) args sigs → map (above args sigs) ps ≡ probed_in (kind_at a u) (unit_text_at a u) args sigs

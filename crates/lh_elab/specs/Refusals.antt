@@ -8,7 +8,7 @@ use Rattle.lh_unit.specs.declared.inst.Arg.{Arg}
 use Rattle.lh_elab.specs.declared.fault.ElabFault.{ElabFault}
 use Rattle.lh_elab.specs.declared.fault.ElabFault.TheVariants as fault
 use Rattle.lh_elab.specs.declared.measure.Measure.{Measure}
-use Rattle.lh_elab.specs.declared.graph.Node.{Node}
+use Rattle.lh_elab.specs.declared.graph.HierarchyNode.{HierarchyNode}
 use Rattle.lh_elab.specs.Graph.{max_counted, IsGraph}
 use Rattle.lh_elab.specs.Searches.{Measures}
 
@@ -54,4 +54,4 @@ Refuses a top (Err e) = refusal_at a top ≡ refusal_text a e
 
 -- the measure of the unit `top` in the graph of the module
 abbrev pub MeasuresIn : Arena → (top : ℕ) → Result Measure ElabFault → Type 0
-MeasuresIn a top r = ((g : List Node) × IsGraph a g × Measures g top r) ⊎ (r ≡ Err fault.OutOfMemory)
+MeasuresIn a top r = ((g : List HierarchyNode) × IsGraph a g × Measures g top r) ⊎ (r ≡ Err fault.OutOfMemory)

@@ -20,11 +20,11 @@ use Rattle.lh_elab.specs.declared.statics.Base.TheVariants as base
 use Rattle.lh_elab.specs.declared.statics.Statics.{Statics}
 
 -- what is held by the ids of values, and of what each part is a part
-pub record By : Type 0 where
+pub record StaticsById : Type 0 where
   pub slots : List (Option Held)
   pub bases : List Base
 
-abbrev pub by_of : Statics → By
+abbrev pub by_of : Statics → StaticsById
 by_of s = record { slots = s.slots; bases = s.bases.items }
 
 -- each value has a base
@@ -32,11 +32,11 @@ abbrev pub HasSlots : Statics → Type 0
 HasSlots s = length s.bases.items ≡ length s.slots
 
 -- with this held by a value
-abbrev pub held_by : By → ValueId → Base → Held → By
+abbrev pub held_by : StaticsById → ValueId → Base → Held → StaticsById
 held_by s v b h = record { slots = slice_set s.slots v.0 (Some h); bases = slice_set s.bases v.0 b }
 
 -- with what an instruction gives held by its result, where both are there
-abbrev pub given_by : By → Option ValueId → Base → Option Held → By
+abbrev pub given_by : StaticsById → Option ValueId → Base → Option Held → StaticsById
 given_by s (Some v) b (Some h) = held_by s v b h
 given_by s _ b _ = s
 
@@ -45,17 +45,17 @@ abbrev pub from_zero : ℕ → Held
 from_zero len = part_held (record { lo = 0; len = len })
 
 -- the arguments, the first of which has this number
-abbrev pub args_begun : ℕ → List Arg → By → By
+abbrev pub args_begun : ℕ → List Arg → StaticsById → StaticsById
 args_begun k [] s = s
 args_begun k (x ∷ more) s = args_begun (k + 1) more (held_by s x.value (base.Arg k) (from_zero (bit_count x.ty)))
 
 -- the result of an instruction; a `sig` takes the next number
-abbrev pub sig_begun : Inst → Option ValueId → ℕ → By → (ℕ → By → By) → By
+abbrev pub sig_begun : Inst → Option ValueId → ℕ → StaticsById → (ℕ → StaticsById → StaticsById) → StaticsById
 sig_begun (inst.Sig t) r k s others = others (k + 1) (given_by s r (base.Sig k) (Some (from_zero (bit_count (type_or_void t.ty)))))
 sig_begun _ r k s others = others k s
 
 -- the signals of these instructions, the first of which has this number
-abbrev pub sigs_begun : Table → ℕ → List InstId → By → By
+abbrev pub sigs_begun : Table → ℕ → List InstId → StaticsById → StaticsById
 sigs_begun t k [] s = s
 sigs_begun t k (i ∷ more) s = sig_begun (line_at t i.0).inst (line_at t i.0).result k s (λ j x. sigs_begun t j more x)
 
@@ -85,7 +85,7 @@ moved_slots args sigs (b ∷ bs) (h ∷ hs) = option_map (moved args sigs b) h �
 moved_slots args sigs _ _ = []
 
 -- In an instance whose arguments and signals have these bits, what is held is what is held under the names.
-pub record Follows (a : Arena) (u : ℕ) (args sigs : List Range) (s : By) (e : Env) : Type 0 where
+pub record StaticsFollow (a : Arena) (u : ℕ) (args sigs : List Range) (s : StaticsById) (e : Env) : Type 0 where
   pub long : length s.bases ≡ length s.slots
   pub holds : Holds a u (moved_slots args sigs s.bases s.slots) e
 

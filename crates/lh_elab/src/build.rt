@@ -219,10 +219,8 @@ impl Building {
         ensures pending { OnOk result (self.new.pending.items ≡ self.old.pending.items ++ next ∷ []) }
         ensures built { KeepsBuilt self.old self.new }
     {
-        match self.pending.push(next) {
-            Ok(()) => Ok(()),
-            Err(_) => Err(NoMemory),
-        }
+        self.pending.push(next)?;
+        Ok(())
     }
 
     fn put_instance(&mut self, instance: Instance) -> Result<(), NoMemory>
@@ -231,10 +229,8 @@ impl Building {
         ensures bits { (self.new.init ≡ self.old.init) × (self.new.lo ≡ self.old.lo) }
         ensures pending { self.new.pending.items ≡ self.old.pending.items }
     {
-        match self.instances.push(instance) {
-            Ok(()) => Ok(()),
-            Err(_) => Err(NoMemory),
-        }
+        self.instances.push(instance)?;
+        Ok(())
     }
 
     /// The design, where all is built.
@@ -274,10 +270,8 @@ pub fn few_bits(bits: &Bits)
 fn push_signal(signals: &mut Vec<Signal>, signal: Signal) -> Result<(), NoMemory>
     ensures { OnOk result (signals.new.items ≡ signals.old.items ++ signal ∷ []) }
 {
-    match signals.push(signal) {
-        Ok(()) => Ok(()),
-        Err(_) => Err(NoMemory),
-    }
+    signals.push(signal)?;
+    Ok(())
 }
 
 /// The bits of a unit's arguments: each begins at its operand's lowest bit, and has the width of its type.

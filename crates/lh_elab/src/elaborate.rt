@@ -87,8 +87,6 @@ impl Plans {
 fn push_none(plans: &mut Vec<Option<Plan>>) -> Result<(), NoMemory>
     ensures { OnOk result (plans.new.items ≡ plans.old.items ++ None ∷ []) }
 {
-    match plans.push(None) {
-        Ok(()) => Ok(()),
-        Err(_) => Err(NoMemory),
-    }
+    plans.push(None)?;
+    Ok(())
 }

@@ -7,13 +7,14 @@ ghost use Rattle.lh_elab.specs.Graph.{no_node, node_after, node_of, IsGraph, max
 
 use lh_types::list::ListOf;
 use lh_types::ty::{NoMemory, Ty, TyKind, bits};
+use lh_types::written::WrittenTy;
 use lh_unit::inst::{BlockId, Inst, UnitId, UnitKind};
 use lh_unit::module::Module;
 use std::alloc::Global;
 
 /// What is counted of a unit. Only an entity has signals, and only in an entity are instances.
 #[derive(Drop)]
-pub struct Node {
+pub struct HierarchyNode {
     /// The bits of its own signals; the number stands still at one more than are allowed.
     pub bits: u32,
     /// The units that its `inst` instructions name, in text order.
@@ -21,7 +22,7 @@ pub struct Node {
 }
 
 /// The units of a module by their ids.
-pub fn graph(alloc: Global, module: &Module) -> Result<Vec<Node>, NoMemory>
+pub fn graph(alloc: Global, module: &Module) -> Result<Vec<HierarchyNode>, NoMemory>
     ensures graph { IfOk result (λ nodes. IsGraph module.now nodes.items) }
     ensures sound { IsArena module.now }
 {
@@ -32,44 +33,42 @@ pub fn graph(alloc: Global, module: &Module) -> Result<Vec<Node>, NoMemory>
     Ok(nodes)
 }
 
-fn put_node(nodes: &mut Vec<Node>, node: Node) -> Result<(), NoMemory>
+fn put_node(nodes: &mut Vec<HierarchyNode>, node: HierarchyNode) -> Result<(), NoMemory>
     ensures { OnOk result (nodes.new.items ≡ nodes.old.items ++ node ∷ []) }
 {
-    match nodes.push(node) {
-        Ok(()) => Ok(()),
-        Err(_) => Err(NoMemory),
-    }
+    nodes.push(node)?;
+    Ok(())
 }
 
 /// What is counted of a unit.
-fn unit_node(alloc: Global, module: &Module, unit: UnitId) -> Result<Node, NoMemory>
+fn unit_node(alloc: Global, module: &Module, unit: UnitId) -> Result<HierarchyNode, NoMemory>
     requires { unit.0 < unit_count module.now }
     ensures { IfOk result (λ node. node ≡ node_of module.now unit.0) }
 {
     match module.kind(unit) {
         Some(UnitKind::Entity) => entity_node(alloc, module, unit),
-        _ => Ok(Node::new(alloc)),
+        _ => Ok(HierarchyNode::new(alloc)),
     }
 }
 
-fn entity_node(alloc: Global, module: &Module, unit: UnitId) -> Result<Node, NoMemory>
+fn entity_node(alloc: Global, module: &Module, unit: UnitId) -> Result<HierarchyNode, NoMemory>
     requires unit { unit.0 < unit_count module.now }
     requires entity { kind_at module.now unit.0 ≡ Some UnitKind.Entity }
     requires sound { IsArena module.now }
     ensures { IfOk result (λ node. node ≡ node_of module.now unit.0) }
 {
-    let mut node = Node::new(alloc);
+    let mut node = HierarchyNode::new(alloc);
     for inst in module.insts(unit, BlockId(0)) {
         node.take(module.inst(unit, *inst))?;
     }
     Ok(node)
 }
 
-impl Node {
-    fn new(alloc: Global) -> Node
+impl HierarchyNode {
+    fn new(alloc: Global) -> HierarchyNode
         ensures { result ≡ no_node }
     {
-        Node {
+        HierarchyNode {
             bits: 0,
             targets: ListOf::new(alloc),
         }
@@ -101,10 +100,10 @@ pub fn counted(bits: u32, more: u32) -> u32
 pub const MAX_BITS: u32 = 16_777_216;
 
 /// How many bits a signal of a written type has.
-pub fn width(ty: &Option<Ty>) -> u32
+pub fn width(ty: &WrittenTy) -> u32
     ensures { result ≡ bit_count (type_or_void ty.now) }
 {
-    match ty {
+    match ty.get() {
         Some(ty) => width_of(ty),
         None => 0,
     }

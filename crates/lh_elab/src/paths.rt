@@ -100,8 +100,6 @@ fn put_below(
 fn push_number(numbers: &mut Vec<u32>, number: u32) -> Result<(), NoMemory>
     ensures { OnOk result (numbers.new.items ≡ numbers.old.items ++ number ∷ []) }
 {
-    match numbers.push(number) {
-        Ok(()) => Ok(()),
-        Err(_) => Err(NoMemory),
-    }
+    numbers.push(number)?;
+    Ok(())
 }

@@ -5,7 +5,7 @@ ghost use Rattle.lh_types.specs.Fits.{FitsData};
 ghost use Rattle.lh_types.specs.Bits.{value_bits};
 ghost use Rattle.lh_types.specs.declared.part.Range.{Range as Part};
 ghost use Rattle.lh_unit.specs.Arena.{Arena, IsArena, unit_count, value_count, inst_count, kind_at, naming, table_at, unit_text_at, block_insts_at, contents};
-ghost use Rattle.lh_unit.specs.ById.{inst_line};
+ghost use Rattle.lh_unit.specs.ById.{inst_line_text};
 ghost use Rattle.lh_unit.specs.Held.{Env};
 ghost use Rattle.lh_unit.specs.Hierarchy.{static_held, signal_if, signals_of, child_if, children_of, type_or_void, zeros};
 ghost use Rattle.lh_unit.specs.Naming.{maybe_text, inst_text, operand_text};
@@ -15,10 +15,10 @@ ghost use Rattle.lh_unit.specs.declared.inst.InstId.{InstId as Id};
 ghost use Rattle.lh_unit.specs.declared.inst.Typed.{Typed as Operand};
 ghost use Rattle.lh_eval.specs.Holding as holding;
 ghost use Rattle.lh_eval.specs.Holding.{Holds};
-ghost use Rattle.lh_eval.specs.Sound.{IsSound};
+ghost use Rattle.lh_eval.specs.Sound.{InstIsSound};
 ghost use Rattle.lh_sound.specs.Units.{WritesData};
-ghost use Rattle.lh_elab.specs.Statics.{by_of, HasSlots, Follows, FitsSomething};
-ghost use Rattle.lh_elab.specs.Plans.{signal_of, signal_by, child_of, low_by, lows_by, AreOf, IsPlan, SignalFits, SignalIs, SignalLine, ChildLine, ChildWithin, ChildSmall, PartsSmall};
+ghost use Rattle.lh_elab.specs.Statics.{by_of, HasSlots, StaticsFollow, FitsSomething};
+ghost use Rattle.lh_elab.specs.Plans.{signal_of, signal_by, child_of, low_by, lows_by, AreRangesOf, IsPlan, SignalFits, SignalIs, SignalLine, ChildLine, ChildWithin, ChildSmall, PartsSmall};
 ghost use Rattle.lh_elab.specs.declared.plan.PlanChild.{PlanChild as Child};
 
 use crate::graph::width;
@@ -116,7 +116,7 @@ pub fn parts(alloc: Global, m: &Module, unit: UnitId, insts: &[InstId]) -> Resul
     ensures slots { IfOk result HasSlots }
     ensures long { IfOk result (λ s. length s.slots ≡ value_count m.now unit.0) }
     ensures small { IfOk result PartsSmall }
-    ensures follows { (args sigs : List Part) → AreOf (unit_text_at m.now unit.0) args sigs → IfOk result (λ s. Follows m.now unit.0 args sigs (by_of s) (static_held (unit_text_at m.now unit.0) args sigs)) }
+    ensures follows { (args sigs : List Part) → AreRangesOf (unit_text_at m.now unit.0) args sigs → IfOk result (λ s. StaticsFollow m.now unit.0 args sigs (by_of s) (static_held (unit_text_at m.now unit.0) args sigs)) }
 {
     let mut statics = Statics::new(alloc, m, unit)?;
     statics.hold_args(m.args(unit));
@@ -149,10 +149,10 @@ impl Plan {
         requires arena { IsArena m.now }
         requires unit { unit.0 < unit_count m.now }
         requires insts { Each (λ (i : Id). i.0 < inst_count m.now unit.0) insts.now }
-        requires sound { Each (λ (i : Id). IsSound (unit_text_at m.now unit.0) (inst_line (naming m.now unit.0) (table_at m.now unit.0) i)) insts.now }
-        requires writes { Each (λ (i : Id). WritesData (inst_line (naming m.now unit.0) (table_at m.now unit.0) i)) insts.now }
+        requires sound { Each (λ (i : Id). InstIsSound (unit_text_at m.now unit.0) (inst_line_text (naming m.now unit.0) (table_at m.now unit.0) i)) insts.now }
+        requires writes { Each (λ (i : Id). WritesData (inst_line_text (naming m.now unit.0) (table_at m.now unit.0) i)) insts.now }
         requires fit { FitsSomething m.now unit.0 values.now }
-        ensures signals { (e : Env) → Holds m.now unit.0 values.now.slots e → OnOk result (map signal_of self.new.signals.items ≡ map signal_of self.old.signals.items ++ signals_of e (map (inst_line (naming m.now unit.0) (table_at m.now unit.0)) insts.now)) }
+        ensures signals { (e : Env) → Holds m.now unit.0 values.now.slots e → OnOk result (map signal_of self.new.signals.items ≡ map signal_of self.old.signals.items ++ signals_of e (map (inst_line_text (naming m.now unit.0) (table_at m.now unit.0)) insts.now)) }
         ensures fit { Each SignalFits self.old.signals.items → OnOk result (Each SignalFits self.new.signals.items) }
         ensures children { self.new.children.items ≡ self.old.children.items }
     {
@@ -198,10 +198,8 @@ impl Plan {
         ensures signals { OnOk result (self.new.signals.items ≡ self.old.signals.items ++ signal ∷ []) }
         ensures children { self.new.children.items ≡ self.old.children.items }
     {
-        match self.signals.push(signal) {
-            Ok(()) => Ok(()),
-            Err(_) => Err(NoMemory),
-        }
+        self.signals.push(signal)?;
+        Ok(())
     }
 
     /// Adds the instances of these instructions.
@@ -218,7 +216,7 @@ impl Plan {
         requires long { length statics.now.slots ≡ value_count m.now unit.0 }
         requires slots { HasSlots statics.now }
         ensures small { Each ChildSmall self.old.children.items → PartsSmall statics.now → OnOk result (Each ChildSmall self.new.children.items) }
-        ensures children { (args sigs : List Part) (e : Env) → Follows m.now unit.0 args sigs (by_of statics.now) e → OnOk result (map (child_of m.now args sigs) self.new.children.items ≡ map (child_of m.now args sigs) self.old.children.items ++ children_of e (map (inst_line (naming m.now unit.0) (table_at m.now unit.0)) insts.now)) }
+        ensures children { (args sigs : List Part) (e : Env) → StaticsFollow m.now unit.0 args sigs (by_of statics.now) e → OnOk result (map (child_of m.now args sigs) self.new.children.items ≡ map (child_of m.now args sigs) self.old.children.items ++ children_of e (map (inst_line_text (naming m.now unit.0) (table_at m.now unit.0)) insts.now)) }
         ensures within { Each (λ (c : Child). c.unit.0 < unit_count m.now) self.old.children.items → OnOk result (Each (λ (c : Child). c.unit.0 < unit_count m.now) self.new.children.items) }
         ensures signals { self.new.signals.items ≡ self.old.signals.items }
     {
@@ -237,7 +235,7 @@ impl Plan {
     ) -> Result<(), NoMemory>
         requires slots { HasSlots statics.now }
         requires operands { ChildLine (length statics.now.slots) inst.now }
-        ensures children { (a : Arena) (u : ℕ) (args sigs : List Part) (e : Env) → Follows a u args sigs (by_of statics.now) e → OnOk result (map (child_of a args sigs) self.new.children.items ≡ map (child_of a args sigs) self.old.children.items ++ child_if e (inst_text (naming a u) inst.now) []) }
+        ensures children { (a : Arena) (u : ℕ) (args sigs : List Part) (e : Env) → StaticsFollow a u args sigs (by_of statics.now) e → OnOk result (map (child_of a args sigs) self.new.children.items ≡ map (child_of a args sigs) self.old.children.items ++ child_if e (inst_text (naming a u) inst.now) []) }
         ensures small { Each ChildSmall self.old.children.items → PartsSmall statics.now → OnOk result (Each ChildSmall self.new.children.items) }
         ensures within { (n : ℕ) → ChildWithin n inst.now → Each (λ (c : Child). c.unit.0 < n) self.old.children.items → OnOk result (Each (λ (c : Child). c.unit.0 < n) self.new.children.items) }
         ensures signals { self.new.signals.items ≡ self.old.signals.items }
@@ -259,10 +257,8 @@ impl Plan {
         ensures children { OnOk result (self.new.children.items ≡ self.old.children.items ++ child ∷ []) }
         ensures signals { self.new.signals.items ≡ self.old.signals.items }
     {
-        match self.children.push(child) {
-            Ok(()) => Ok(()),
-            Err(_) => Err(NoMemory),
-        }
+        self.children.push(child)?;
+        Ok(())
     }
 }
 
@@ -280,7 +276,7 @@ fn signal(
     ensures signal { (e : Env) → Holds m.now unit.0 slots.now e → IfOk result (λ s. signal_of s ≡ signal_by e (maybe_text (naming m.now unit.0) name) (operand_text (naming m.now unit.0) initial.now)) }
     ensures fit { IfOk result SignalFits }
 {
-    let (Some(value), Some(ty)) = (name, &initial.ty) else {
+    let (Some(value), Some(ty)) = (name, initial.ty.get()) else {
         unreachable!()
     };
     Ok(PlanSignal {
@@ -353,8 +349,6 @@ fn low_in(statics: &Statics, value: ValueId) -> Option<Low>
 fn push_low(lows: &mut Vec<Option<Low>>, low: Option<Low>) -> Result<(), NoMemory>
     ensures { OnOk result (lows.new.items ≡ lows.old.items ++ low ∷ []) }
 {
-    match lows.push(low) {
-        Ok(()) => Ok(()),
-        Err(_) => Err(NoMemory),
-    }
+    lows.push(low)?;
+    Ok(())
 }

@@ -2,7 +2,7 @@
 ghost use Rattle.std.specs.Prelude.{◌≡◌, ℕ, ◌+◌, ◌<◌, ◌≤◌, ◌++◌, ◌∷◌, ◌^◌, [], List, length, map, Some, IfOk, OnOk, slice_index_or};
 ghost use Rattle.lh_types.specs.declared.part.Range.{Range as Part};
 ghost use Rattle.lh_unit.specs.Arena.{Arena, IsArena, unit_count, value_count, inst_count, kind_at, naming, table_at, contents};
-ghost use Rattle.lh_unit.specs.ById.{inst_line};
+ghost use Rattle.lh_unit.specs.ById.{inst_line_text};
 ghost use Rattle.lh_unit.specs.Held.{Env};
 ghost use Rattle.lh_unit.specs.Hierarchy.{part_if_probe, probed_parts};
 ghost use Rattle.lh_unit.specs.Naming.{inst_text};
@@ -11,7 +11,7 @@ ghost use Rattle.lh_unit.specs.Within.{Each};
 ghost use Rattle.lh_unit.specs.declared.inst.InstId.{InstId as Id};
 ghost use Rattle.lh_elab.specs.Answer.{IsDesignOf};
 ghost use Rattle.lh_elab.specs.Probed.{AreProbes, ProbeLine, ProbesOf, probe_by, above};
-ghost use Rattle.lh_elab.specs.Statics.{by_of, HasSlots, Follows};
+ghost use Rattle.lh_elab.specs.Statics.{by_of, HasSlots, StaticsFollow};
 ghost use Rattle.lh_elab.specs.declared.probes.Probe.{Probe as Sensed};
 
 use crate::build::{base_lo, few_bits};
@@ -104,7 +104,7 @@ fn probes_in(
     requires insts { Each (λ (i : Id). i.0 < inst_count m.now unit.0) insts.now }
     requires long { length statics.now.slots ≡ value_count m.now unit.0 }
     requires slots { HasSlots statics.now }
-    ensures { (args sigs : List Part) (e : Env) → Follows m.now unit.0 args sigs (by_of statics.now) e → IfOk result (λ ps. map (above args sigs) ps ≡ probed_parts e (map (inst_line (naming m.now unit.0) (table_at m.now unit.0)) insts.now)) }
+    ensures { (args sigs : List Part) (e : Env) → StaticsFollow m.now unit.0 args sigs (by_of statics.now) e → IfOk result (λ ps. map (above args sigs) ps ≡ probed_parts e (map (inst_line_text (naming m.now unit.0) (table_at m.now unit.0)) insts.now)) }
 {
     let mut probes = ListOf::new(alloc);
     for inst in insts {
@@ -117,7 +117,7 @@ fn probes_in(
 fn put_if_probe(probes: &mut ListOf<Probe>, inst: &Inst, statics: &Statics) -> Result<(), NoMemory>
     requires slots { HasSlots statics.now }
     requires operand { ProbeLine (length statics.now.slots) inst.now }
-    ensures { (a : Arena) (u : ℕ) (args sigs : List Part) (e : Env) → Follows a u args sigs (by_of statics.now) e → OnOk result (map (above args sigs) probes.new ≡ map (above args sigs) probes.old ++ part_if_probe e (inst_text (naming a u) inst.now) []) }
+    ensures { (a : Arena) (u : ℕ) (args sigs : List Part) (e : Env) → StaticsFollow a u args sigs (by_of statics.now) e → OnOk result (map (above args sigs) probes.new ≡ map (above args sigs) probes.old ++ part_if_probe e (inst_text (naming a u) inst.now) []) }
 {
     match inst {
         Inst::Prb(signal) => match probe_in(statics, signal.value) {
@@ -165,17 +165,13 @@ fn parts_at(alloc: Global, probes: &[Probe], instance: &Instance) -> Result<Rang
 fn push_probes(all: &mut Vec<ListOf<Probe>>, probes: ListOf<Probe>) -> Result<(), NoMemory>
     ensures { OnOk result (all.new.items ≡ all.old.items ++ probes ∷ []) }
 {
-    match all.push(probes) {
-        Ok(()) => Ok(()),
-        Err(_) => Err(NoMemory),
-    }
+    all.push(probes)?;
+    Ok(())
 }
 
 fn push_parts(all: &mut Vec<RangeList>, parts: RangeList) -> Result<(), NoMemory>
     ensures { OnOk result (all.new.items ≡ all.old.items ++ parts ∷ []) }
 {
-    match all.push(parts) {
-        Ok(()) => Ok(()),
-        Err(_) => Err(NoMemory),
-    }
+    all.push(parts)?;
+    Ok(())
 }

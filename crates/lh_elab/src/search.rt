@@ -6,7 +6,7 @@ ghost use Rattle.lh_elab.specs.Measures.{around, beside};
 ghost use Rattle.lh_elab.specs.Searches.{entered, passed, NodesWithin, Enters, Passes, Steps, Measures};
 
 use crate::fault::ElabFault;
-use crate::graph::Node;
+use crate::graph::HierarchyNode;
 use crate::measure::Measure;
 use lh_types::ty::NoMemory;
 use lh_unit::inst::UnitId;
@@ -25,7 +25,7 @@ enum Mark {
 
 /// An open unit.
 #[derive(Clone, Copy)]
-struct Frame {
+struct OpenUnit {
     unit: UnitId,
     /// How many of its targets the search has left.
     next: usize,
@@ -37,13 +37,13 @@ struct Frame {
 #[derive(Drop)]
 struct Search {
     marks: Vec<Mark>,
-    stack: Vec<Frame>,
+    stack: Vec<OpenUnit>,
 }
 
 /// The measure of a unit. `InstCycle` comes exactly where a unit below it is instantiated in itself, and names the target of the
 /// first `inst`, depth first, that names an open unit. Work grows with the size of the graph, and not with the number of
 /// instances.
-pub fn measure_of(alloc: Global, nodes: &[Node], top: UnitId) -> Result<Measure, ElabFault>
+pub fn measure_of(alloc: Global, nodes: &[HierarchyNode], top: UnitId) -> Result<Measure, ElabFault>
     requires within { NodesWithin nodes.now }
     requires top { top.0 < length nodes.now }
     ensures { Measures nodes.now top.0 result }
@@ -59,7 +59,7 @@ pub fn measure_of(alloc: Global, nodes: &[Node], top: UnitId) -> Result<Measure,
 }
 
 /// The next target of an open unit.
-fn next_target(nodes: &[Node], frame: Frame) -> Option<UnitId>
+fn next_target(nodes: &[HierarchyNode], frame: OpenUnit) -> Option<UnitId>
     requires { frame.unit.0 < length nodes.now }
     ensures target { result ≡ slice_get (targets_at nodes.now frame.unit.0) frame.next }
     ensures next { IsSome result → frame.next < 2 ^ 64 - 1 }
@@ -78,12 +78,12 @@ impl Search {
         let mut marks = vec![in alloc; Mark::New; units]?;
         marks[top.0 as usize] = Mark::Opened;
         let mut stack = Vec::new(alloc);
-        stack.push(Frame::new(top))?;
+        stack.push(OpenUnit::new(top))?;
         Ok(Search { marks, stack })
     }
 
     /// One step below the innermost open unit, which was taken from the stack.
-    fn step(&mut self, nodes: &[Node], frame: Frame) -> Result<(), ElabFault>
+    fn step(&mut self, nodes: &[HierarchyNode], frame: OpenUnit) -> Result<(), ElabFault>
         requires unit { frame.unit.0 < length nodes.now }
         requires marks { vec_len self.old.marks ≡ length nodes.now }
         requires within { NodesWithin nodes.now }
@@ -101,7 +101,7 @@ impl Search {
     }
 
     /// Leaves a unit that has no more targets and signals of so many bits.
-    fn finish(&mut self, frame: Frame, bits: u32)
+    fn finish(&mut self, frame: OpenUnit, bits: u32)
         requires { frame.unit.0 < vec_len self.old.marks }
         ensures marks { self.new.marks.items ≡ slice_set self.old.marks.items frame.unit.0 (Mark.Done (around frame.inside bits)) }
         ensures stack { self.new.stack.items ≡ self.old.stack.items }
@@ -110,18 +110,18 @@ impl Search {
     }
 
     /// Goes into a target.
-    fn enter(&mut self, frame: Frame, target: UnitId) -> Result<(), ElabFault>
+    fn enter(&mut self, frame: OpenUnit, target: UnitId) -> Result<(), ElabFault>
         requires { target.0 < vec_len self.old.marks }
         ensures { Enters frame target self.old self.new result }
     {
         self.marks[target.0 as usize] = Mark::Opened;
         put_frame(&mut self.stack, frame)?;
-        put_frame(&mut self.stack, Frame::new(target))?;
+        put_frame(&mut self.stack, OpenUnit::new(target))?;
         Ok(())
     }
 
     /// Passes a target that the search has left.
-    fn pass(&mut self, frame: Frame, measure: Measure) -> Result<(), ElabFault>
+    fn pass(&mut self, frame: OpenUnit, measure: Measure) -> Result<(), ElabFault>
         requires { frame.next < 2 ^ 64 - 1 }
         ensures { Passes frame measure self.old self.new result }
     {
@@ -130,12 +130,12 @@ impl Search {
     }
 }
 
-impl Frame {
+impl OpenUnit {
     /// A unit that is just opened.
-    fn new(unit: UnitId) -> Frame
+    fn new(unit: UnitId) -> OpenUnit
         ensures { result ≡ entered unit }
     {
-        Frame {
+        OpenUnit {
             unit,
             next: 0,
             inside: Measure::nothing(),
@@ -143,11 +143,11 @@ impl Frame {
     }
 
     /// Its next target has this measure.
-    fn past(self, measure: Measure) -> Frame
+    fn past(self, measure: Measure) -> OpenUnit
         requires { self.next < 2 ^ 64 - 1 }
         ensures { result ≡ passed self measure }
     {
-        Frame {
+        OpenUnit {
             unit: self.unit,
             next: self.next + 1,
             inside: self.inside.beside(measure),
@@ -155,11 +155,9 @@ impl Frame {
     }
 }
 
-fn put_frame(stack: &mut Vec<Frame>, frame: Frame) -> Result<(), NoMemory>
+fn put_frame(stack: &mut Vec<OpenUnit>, frame: OpenUnit) -> Result<(), NoMemory>
     ensures { OnOk result (stack.new.items ≡ stack.old.items ++ frame ∷ []) }
 {
-    match stack.push(frame) {
-        Ok(()) => Ok(()),
-        Err(_) => Err(NoMemory),
-    }
+    stack.push(frame)?;
+    Ok(())
 }

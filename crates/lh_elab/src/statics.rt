@@ -6,7 +6,7 @@ ghost use Rattle.std.specs.Prelude.{◌≡◌, ℕ, ◌<◌, ◌++◌, ◌∷◌
 ghost use Rattle.lh_types.specs.ValueOf.{datum_of};
 ghost use Rattle.lh_types.specs.declared.part.Range.{Range as Part};
 ghost use Rattle.lh_unit.specs.Arena.{IsArena, unit_count, value_count, inst_count, sizes, naming, table_at, unit_text_at, InstPlaced};
-ghost use Rattle.lh_unit.specs.ById.{inst_line};
+ghost use Rattle.lh_unit.specs.ById.{inst_line_text};
 ghost use Rattle.lh_unit.specs.Held.{Env};
 ghost use Rattle.lh_unit.specs.Hierarchy.{if_held, static_of, static_from};
 ghost use Rattle.lh_unit.specs.Naming.{maybe_text, inst_text};
@@ -17,8 +17,8 @@ ghost use Rattle.lh_unit.specs.declared.inst.Typed.{Typed as Operand};
 ghost use Rattle.lh_eval.specs.HeldOf.{held_of, maybe_held};
 ghost use Rattle.lh_eval.specs.Fitting.{OperandsFit};
 ghost use Rattle.lh_eval.specs.Holding.{MaybeIn};
-ghost use Rattle.lh_eval.specs.Sound.{IsSound};
-ghost use Rattle.lh_elab.specs.Statics.{by_of, held_by, given_by, args_begun, sigs_begun, HasSlots, Follows, FitsSomething, base_of};
+ghost use Rattle.lh_eval.specs.Sound.{InstIsSound};
+ghost use Rattle.lh_elab.specs.Statics.{by_of, held_by, given_by, args_begun, sigs_begun, HasSlots, StaticsFollow, FitsSomething, base_of};
 
 use crate::graph::{width, width_of};
 use lh_eval::held::{Held, Slots};
@@ -51,10 +51,8 @@ impl Statics {
         ensures bases { IfOk result (λ s. s.bases.items ≡ replicate (value_count m.now unit.0) (Base.Arg 0)) }
     {
         let slots = Slots::new(alloc, m.values(unit))?;
-        match vec![in alloc; Base::Arg(0); m.values(unit) as usize] {
-            Ok(bases) => Ok(Statics { slots, bases }),
-            Err(_) => Err(NoMemory),
-        }
+        let bases = vec![in alloc; Base::Arg(0); m.values(unit) as usize]?;
+        Ok(Statics { slots, bases })
     }
 
     /// Holds this by a value.
@@ -140,12 +138,12 @@ impl Statics {
         requires arena { IsArena m.now }
         requires unit { unit.0 < unit_count m.now }
         requires insts { Each (λ (i : Id). i.0 < inst_count m.now unit.0) insts.now }
-        requires sound { Each (λ (i : Id). IsSound (unit_text_at m.now unit.0) (inst_line (naming m.now unit.0) (table_at m.now unit.0) i)) insts.now }
+        requires sound { Each (λ (i : Id). InstIsSound (unit_text_at m.now unit.0) (inst_line_text (naming m.now unit.0) (table_at m.now unit.0) i)) insts.now }
         requires slots { HasSlots self.old }
         requires fit { FitsSomething m.now unit.0 self.old }
         ensures slots { HasSlots self.new }
         ensures fit { OnOk result (FitsSomething m.now unit.0 self.new) }
-        ensures follows { (args sigs : List Part) (e : Env) → Follows m.now unit.0 args sigs (by_of self.old) e → OnOk result (Follows m.now unit.0 args sigs (by_of self.new) (static_from (unit_text_at m.now unit.0) e (map (inst_line (naming m.now unit.0) (table_at m.now unit.0)) insts.now))) }
+        ensures follows { (args sigs : List Part) (e : Env) → StaticsFollow m.now unit.0 args sigs (by_of self.old) e → OnOk result (StaticsFollow m.now unit.0 args sigs (by_of self.new) (static_from (unit_text_at m.now unit.0) e (map (inst_line_text (naming m.now unit.0) (table_at m.now unit.0)) insts.now))) }
     {
         for inst in insts {
             self.run_inst(
@@ -172,11 +170,11 @@ impl Statics {
         requires unit { unit.0 < unit_count m.now }
         requires placed { InstPlaced m.now unit.0 inst.now }
         requires name { MaybeIn self.old.slots name }
-        requires sound { IsSound (unit_text_at m.now unit.0) (record { result = maybe_text (naming m.now unit.0) name; inst = inst_text (naming m.now unit.0) inst.now }) }
+        requires sound { InstIsSound (unit_text_at m.now unit.0) (record { result = maybe_text (naming m.now unit.0) name; inst = inst_text (naming m.now unit.0) inst.now }) }
         requires slots { HasSlots self.old }
         requires fit { FitsSomething m.now unit.0 self.old }
         ensures slots { HasSlots self.new }
-        ensures follows { (args sigs : List Part) (e : Env) → Follows m.now unit.0 args sigs (by_of self.old) e → OnOk result (Follows m.now unit.0 args sigs (by_of self.new) (if_held e (maybe_text (naming m.now unit.0) name) (static_of (unit_text_at m.now unit.0) e (inst_text (naming m.now unit.0) inst.now)))) }
+        ensures follows { (args sigs : List Part) (e : Env) → StaticsFollow m.now unit.0 args sigs (by_of self.old) e → OnOk result (StaticsFollow m.now unit.0 args sigs (by_of self.new) (if_held e (maybe_text (naming m.now unit.0) name) (static_of (unit_text_at m.now unit.0) e (inst_text (naming m.now unit.0) inst.now)))) }
     {
         match inst {
             Inst::Const(value) => {

@@ -71,7 +71,8 @@ module _ (f : Frame) (few : HasFewArgs f.unit) where
     pub puts-means : passes y f.now f.memory f.at i None (after f few y e.lines) ≡ record { held = (after f few y e.lines).held; seen = us; wish = x } → Means f few x us y (puts i e)
     puts-means g =
         let line : LineText = record { result = None; inst = i } in
-        let passed : after f few y (e.lines ++ line ∷ []) ≡ record { held = (after f few y e.lines).held; seen = us; wish = x } = pass_from-then y f.now f.memory f.at e.lines (line ∷ []) (start f few) ∙ g in
+        let passed : after f few y (e.lines ++ line ∷ []) ≡ record { held = (after f few y e.lines).held; seen = us; wish = x } = pass_from-then y f.now f.memory f.at e.lines (line ∷ []) (start f few)
+        ∙ g in
         let on = λ (n : List ℕ). ap (λ (q : Passed). q.held n) passed in
         let q : length (e.lines ++ line ∷ []) ≡ length e.lines + 1 = length-append e.lines (line ∷ []) in
         record {
@@ -140,7 +141,11 @@ module _ (f : Frame) (few : HasFewArgs f.unit) where
         let m = n4.inv y (begins-before f few y x.lines _ a) in
         puts-means w (with_row (reads f.args f.now) (reads f.args f.now) f.args f.at w d) ts ts y x _ a m
         (let p = m.wish in let o = m.seen in let z = drive-gives w ts y x m d g.cond.typed g.is_condition v l q n4.named in
-        (λ i. record { held = (after f few y x.lines).held; seen = o i; wish = unwrap_or (driven f.at (after f few y x.lines).held (p i) (signal x d.part) (term_name x d.value) (term_name x d.delay) (cond_name x d.cond)) (p i) })
+        (λ i. record {
+          held = (after f few y x.lines).held;
+          seen = o i;
+          wish = unwrap_or (driven f.at (after f few y x.lines).held (p i) (signal x d.part) (term_name x d.value) (term_name x d.delay) (cond_name x d.cond)) (p i);
+        })
         ∙ (λ i. record { held = (after f few y x.lines).held; seen = ts; wish = z i }))
 
   -- drives are emitted, one after the other

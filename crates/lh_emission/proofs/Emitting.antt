@@ -14,7 +14,8 @@ use Rattle.lh_emission.specs.Given.{Drive, TriggerTree, EdgeRowTree}
 use Rattle.lh_emission.specs.Emitted.{Source, Emitted, puts, need_part}
 use Rattle.lh_emission.specs.Needs.{need}
 use Rattle.lh_emission.specs.Entities.{need_cond, put_drive, emit_drive, emit_drives, emit_probes, need_trigger, need_register, put_register, emit_register_by, emit_register, choices_fit, drive_fits, row_fits}
-use Rattle.lh_emission.specs.Ways.{IsReached, AllParts}
+use Rattle.lh_term.specs.Leaves.{AllParts}
+use Rattle.lh_emission.specs.Ways.{IsReached}
 use Rattle.lh_emission.proofs.Induction.{IsNamed, IsNamedPart, Kept, kept-same, kept-then}
 use Rattle.lh_emission.proofs.Needing.{Keeps, Needed, need-needed, part-needed}
 use Rattle.lh_emission.proofs.Driving.{CondNamed}

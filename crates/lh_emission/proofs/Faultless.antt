@@ -220,7 +220,8 @@ module _ (f : Frame) (few : HasFewArgs f.unit) where
       step-right y e (h y (begins-before f few y e.lines _ b)) q st.to n st.op l.0 (w y (begins-before f few y e.lines _ b)) in
       steps-kept p st.to (next_name (source f few) e) more (gives (source f few) i e)
       (λ y b. gives-typed f few y e i b (h y (begins-before f few y e.lines _ b)) (right y b))
-      (λ y b. given-named f few y e i b (h y (begins-before f few y e.lines _ b)) (right y b) (signal_type st.to.ty) (step-gives q st.to n st.op l.0) (ap (option_and_then kind_of) (step-gives q st.to n st.op l.0)))
+      (λ y b. given-named f few y e i b (h y (begins-before f few y e.lines _ b)) (right y b) (signal_type st.to.ty) (step-gives q st.to n st.op l.0)
+      (ap (option_and_then kind_of) (step-gives q st.to n st.op l.0)))
       l.1
 
   pub no-fault_kept : KeepsRows (source f few) (IsReached (source f few)) NoFault

@@ -20,10 +20,10 @@ use Rattle.lh_emission.proofs.Passing.{Frame, HasFewArgs, source, start, after, 
 
 module _ (f : Frame) (few : HasFewArgs f.unit) (w : Wish) (ts : List Bool) (y : UnitText) where
   -- the instruction gives this under every name
-  abbrev pub Gives : InstText → Held → Passed → Type 0
-  Gives i h p = (n : List ℕ) → passes y f.now f.memory f.at i (Some n) p ≡ record p { held = with_held p.held n h }
+  abbrev pub GivesHeld : InstText → Held → Passed → Type 0
+  GivesHeld i h p = (n : List ℕ) → passes y f.now f.memory f.at i (Some n) p ≡ record p { held = with_held p.held n h }
 
-  module _ (e : Emitted) (i : InstText) (h : Held) (b : Begins f few y (gives (source f few) i e).lines) (m : Means f few w ts y e) (g : Gives i h (after f few y e.lines)) where
+  module _ (e : Emitted) (i : InstText) (h : Held) (b : Begins f few y (gives (source f few) i e).lines) (m : Means f few w ts y e) (g : GivesHeld i h (after f few y e.lines)) where
     abbrev name : List ℕ
     name = next_name (source f few) e
 
@@ -114,5 +114,5 @@ module _ (f : Frame) (few : HasFewArgs f.unit) (w : Wish) (ts : List Bool) (y : 
 
   -- an instruction that gives the value of a term
   pub term-means : (e : Emitted) (t : Tree) (i : InstText) → Begins f few y (gives (source f few) i e).lines → Means f few w ts y e →
-      Gives i (datum_held (value (reads f.args f.now) t)) (after f few y e.lines) → Means f few w ts y (gives_term (source f few) t i e)
+      GivesHeld i (datum_held (value (reads f.args f.now) t)) (after f few y e.lines) → Means f few w ts y (gives_term (source f few) t i e)
   term-means e t i b m g = names-term (gives (source f few) i e) t (next_name (source f few) e) (gives-means e i _ b m g) (held-new e i _ b m g)

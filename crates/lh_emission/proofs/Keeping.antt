@@ -30,7 +30,7 @@ use Rattle.lh_emission.proofs.Computing.{value, values, Computes}
 use Rattle.lh_emission.proofs.Induction.{IsNamed, IsNamedPart}
 use Rattle.lh_emission.proofs.Needing.{IsScalar, IsProbe, Keeps}
 use Rattle.lh_emission.proofs.Passing.{Frame, HasFewArgs, source, after, Begins, HoldsPart, Means, Inv, begins-before}
-use Rattle.lh_emission.proofs.Giving.{Gives, held-new, type-new, gives-means, names-part, term-means}
+use Rattle.lh_emission.proofs.Giving.{GivesHeld, held-new, type-new, gives-means, names-part, term-means}
 
 -- an operation on values
 values-operated : (y : UnitText) (e : Env) (o : Op) (xs : List OperandText) (ds : List Datum) → data_at e xs ≡ Some ds → operated y e o xs ≡ Some (datum_held (apply o ds))
@@ -94,7 +94,7 @@ module _ (f : Frame) (few : HasFewArgs f.unit) where
 
     -- an operation gives the value of its term
     pub operation-gives : (o : Op) (xs : List Tree) (t : Tree) → Computes o xs t → Each (IsNamed e) xs →
-        Gives f few w ts y (operation_text e o xs) (datum_held (value (reads f.args f.now) t)) (after f few y e.lines)
+        GivesHeld f few w ts y (operation_text e o xs) (datum_held (value (reads f.args f.now) t)) (after f few y e.lines)
     operation-gives o xs t c h n =
         let d = operands-held o xs h (writes_each o) in
         let g : operated y held o (if writes_each o then each_typed e xs else first_typed e (written_type o (types_of_all xs)) xs) ≡ Some (datum_held (value (reads f.args f.now) t)) =
@@ -102,7 +102,7 @@ module _ (f : Frame) (few : HasFewArgs f.unit) where
         λ i. record (after f few y e.lines) { held = if_held held (Some n) (g i) }
 
     -- a probe gives the value of its part
-    pub probe-gives : (p : Part) (t : Tree) → IsProbe p t → IsNamedPart e p → Gives f few w ts y (prb_text (signal e p)) (datum_held (value (reads f.args f.now) t)) (after f few y e.lines)
+    pub probe-gives : (p : Part) (t : Tree) → IsProbe p t → IsNamedPart e p → GivesHeld f few w ts y (prb_text (signal e p)) (datum_held (value (reads f.args f.now) t)) (after f few y e.lines)
     probe-gives p t c h n =
         let b = part-held p h in
         let g : read_bits f.now (Some p.ty) (part_at held (part_name e p)) ≡ Some (datum_held (value (reads f.args f.now) t)) =
@@ -110,7 +110,7 @@ module _ (f : Frame) (few : HasFewArgs f.unit) where
         λ i. record (after f few y e.lines) { held = if_held held (Some n) (g i) }
 
     step-gives : (n : List ℕ) (q to : Part) (o : Op) → HoldsPart f few y held n q → part_by q o ≡ Some to →
-        Gives f few w ts y (pure_text o (typed n (signal_type to.ty) ∷ [])) (part_held (range_in f.args to)) (after f few y e.lines)
+        GivesHeld f few w ts y (pure_text o (typed n (signal_type to.ty) ∷ [])) (part_held (range_in f.args to)) (after f few y e.lines)
     step-gives n q to o b h k =
         let g = step-operated y held n q to o b h in
         λ i. record (after f few y e.lines) { held = if_held held (Some k) (g i) }
@@ -139,7 +139,7 @@ module _ (f : Frame) (few : HasFewArgs f.unit) where
         })
         l.1
 
-    scalar-gives : (v : Datum) → IsScalar v → (y : UnitText) (p : Passed) → Gives f few w ts y (const_text v) (datum_held v) p
+    scalar-gives : (v : Datum) → IsScalar v → (y : UnitText) (p : Passed) → GivesHeld f few w ts y (const_text v) (datum_held v) p
     scalar-gives v h y p n = refl
 
     pub keeps : Keeps (source f few) (IsReached (source f few)) (Inv f few w ts)

@@ -18,7 +18,8 @@ use Rattle.lh_term.specs.declared.part.Part.{Part}
 use Rattle.lh_emission.specs.Emitted.{Source, Emitted, gives_term, takes_steps, arg_name, unless_there, need_part}
 use Rattle.lh_emission.specs.Needs.{gives_operation, constants, need_value, need_values, operands_in, probe, pair_of, need_pair, need, need_all}
 use Rattle.lh_emission.specs.Entities.{choices_fit, all_choices_fit}
-use Rattle.lh_emission.specs.Ways.{IsReached, AllParts, AllPartsIn}
+use Rattle.lh_term.specs.Leaves.{AllParts, AllPartsIn}
+use Rattle.lh_emission.specs.Ways.{IsReached}
 use Rattle.lh_emission.proofs.Induction.{IsNamed, IsNamedPart, Kept, kept-same, kept-then, term-named, term-kept, steps-named, steps-kept}
 use Rattle.lh_emission.proofs.Computing.{value, Computes, operation-computes, array-computes, tuple-computes, array-parts, tuple-parts, choice-computes, pair-constant, pair-else}
 use Rattle.lh_emission.proofs.Pairs.{pair-typed, pair-constant_typed}
@@ -99,9 +100,11 @@ module _ (s : Source) (Good : Part → Type 0) (reached : (p : Part) → Good p 
     value-needed (int_value n b) w e i = scalar-needed (int_value n b) tt w e i
     value-needed (time_value d) w e i = scalar-needed (time_value d) tt w e i
     value-needed (array_value vs) w e i =
-        unless-needed e (constant (array_value vs)) _ i (after-operation e _ Array (constants vs) (constant (array_value vs)) (array-computes vs w) (array-constant_row vs w) tt (values-needed vs (array-parts vs w) e i))
+        unless-needed e (constant (array_value vs)) _ i
+        (after-operation e _ Array (constants vs) (constant (array_value vs)) (array-computes vs w) (array-constant_row vs w) tt (values-needed vs (array-parts vs w) e i))
     value-needed (tuple_value vs) w e i =
-        unless-needed e (constant (tuple_value vs)) _ i (after-operation e _ Tuple (constants vs) (constant (tuple_value vs)) (tuple-computes vs w) (tuple-constant_row vs w) tt (values-needed vs (tuple-parts vs w) e i))
+        unless-needed e (constant (tuple_value vs)) _ i
+        (after-operation e _ Tuple (constants vs) (constant (tuple_value vs)) (tuple-computes vs w) (tuple-constant_row vs w) tt (values-needed vs (tuple-parts vs w) e i))
 
     values-needed : (vs : DatumRow) → Each FitsTerm (parts_of vs) → (e : Emitted) → Inv e → AllNeeded Inv e (need_values s vs e) (constants vs)
     values-needed no_values w e i = record { inv = i; named = tt; kept = kept-same e }
@@ -133,7 +136,8 @@ module _ (s : Source) (Good : Part → Type 0) (reached : (p : Part) → Good p 
       other q =
           subst (Needed Inv e (need_pair s f t need_f need_t e)) (sym (pair-else f t q))
           (rw q (unless-needed e (operation_on Array (f ∷ t ∷ [])) _ i
-          (after-operation e _ Array (f ∷ t ∷ []) (operation_on Array (f ∷ t ∷ [])) (operation-computes Array _ (pair-typed c f t w h)) (operation-row Array (tree_row (f ∷ t ∷ [])) (pair-typed c f t w h)) tt (two-needed e _ _ f t a b))))
+          (after-operation e _ Array (f ∷ t ∷ []) (operation_on Array (f ∷ t ∷ [])) (operation-computes Array _ (pair-typed c f t w h))
+          (operation-row Array (tree_row (f ∷ t ∷ [])) (pair-typed c f t w h)) tt (two-needed e _ _ f t a b))))
 
       at : (x y : Bool) → is_constant f ≡ x → is_constant t ≡ y → Needed Inv e (need_pair s f t need_f need_t e) (pair_of f t)
       at true true p q =
@@ -157,7 +161,8 @@ module _ (s : Source) (Good : Part → Type 0) (reached : (p : Part) → Good p 
         let b = need-needed t w.2 g2.0 r.2 (need s f e) a.inv in
         let p = pair-needed c f t (need s f) (need s t) w g.0 e i a b in
         let d = need-needed c w.0 g2.1 r.0 (need_pair s f t (need s f) (need s t) e) p.inv in
-        unless-needed e (choice_of c f t) _ i (after-operation e _ Mux (pair_of f t ∷ c ∷ []) (choice_of c f t) (choice-computes c f t w) (choice-row c f t w g.0) tt (two-needed e _ _ (pair_of f t) c p d))
+        unless-needed e (choice_of c f t) _ i (after-operation e _ Mux (pair_of f t ∷ c ∷ []) (choice_of c f t) (choice-computes c f t w) (choice-row c f t w g.0) tt
+        (two-needed e _ _ (pair_of f t) c p d))
 
     pub all-needed : (ts : TreeRow) → AreTyped ts → all_choices_fit ts ≡ true → AllPartsIn Good ts → (e : Emitted) → Inv e → AllNeeded Inv e (need_all s ts e) (operands_in ts)
     all-needed no_trees w h r e i = record { inv = i; named = tt; kept = kept-same e }

@@ -26,36 +26,38 @@ use Rattle.lh_emission.specs.Emitted.{Emitted, term_name, typed, bare}
 use Rattle.lh_emission.specs.Needs.{types_of_all, each_typed, first_typed, operation_text}
 use Rattle.lh_emission.specs.Ways.{part_by}
 use Rattle.lh_emission.proofs.Stepping.{has-small, StepsWell, step-well}
-use Rattle.lh_emission.proofs.Spelling.{each-append, Says, Spelt, limited, type-says, typed-says, free-says, bare-says, number-says, comma-says, parts-says, behind-says}
+use Rattle.lh_emission.proofs.Spelling.{each-append, SpeltInFront, Spelt, limited, type-says, typed-says, free-says, bare-says, number-says, comma-says, parts-says, behind-says}
 
 -- ---- operations that have a word
 
-word-spelt : (o : Op) (args : List OperandText) → IsLexeme (word (op_word o)) → IsOpWord o (op_word o) → Says (SpellsColumns (columns o) args) → Says (SpellsBehind SpellsNumber (op_numbers o)) → Spelt (SpellsWordOp o args)
+word-spelt : (o : Op) (args : List OperandText) → IsLexeme (word (op_word o)) → IsOpWord o (op_word o) → SpeltInFront (SpellsColumns (columns o) args)
+    → SpeltInFront (SpellsBehind SpellsNumber (op_numbers o)) → Spelt (SpellsWordOp o args)
 word-spelt o args w i c n = record {
   toks = word (op_word o) ∷ (c.toks ++ n.toks);
   written = (w, each-append IsLexeme c.toks n.toks c.written n.written);
   spelled = (op_word o, c.toks ++ n.toks, n.toks, refl, i, c.spelled n.toks, subst (λ z. SpellsBehind SpellsNumber (op_numbers o) z []) (append-nil n.toks) (n.spelled []));
 }
 
-no-numbers : Says (SpellsBehind SpellsNumber [])
+no-numbers : SpeltInFront (SpellsBehind SpellsNumber [])
 no-numbers = record { toks = []; written = tt; spelled = λ more. refl }
 
-numbers-says : (ns : List ℕ) → Each (λ n. n < 2 ^ 32) ns → Each (λ n. Says (SpellsNumber n)) ns
+numbers-says : (ns : List ℕ) → Each (λ n. n < 2 ^ 32) ns → Each (λ n. SpeltInFront (SpellsNumber n)) ns
 numbers-says [] h = tt
 numbers-says (n ∷ ns) h = (number-says n h.0, numbers-says ns h.1)
 
-one-typed : (n : List ℕ) (t : TypeTree) → IsName n → IsData t → Says (SpellsColumns (typed_column ∷ []) (typed n t ∷ []))
+one-typed : (n : List ℕ) (t : TypeTree) → IsName n → IsData t → SpeltInFront (SpellsColumns (typed_column ∷ []) (typed n t ∷ []))
 one-typed n t i d = let s = typed-says n t i (limited t d) in record { toks = s.toks; written = s.written; spelled = λ more. s.spelled more }
 
 -- a step to a part
-one-signal : (n : List ℕ) (t : TypeTree) → IsName n → IsData t → Says (SpellsColumns (typed_column ∷ []) (typed n (signal_type t) ∷ []))
+one-signal : (n : List ℕ) (t : TypeTree) → IsName n → IsData t → SpeltInFront (SpellsColumns (typed_column ∷ []) (typed n (signal_type t) ∷ []))
 one-signal n t i d = let s = typed-says n (signal_type t) i d in record { toks = s.toks; written = s.written; spelled = λ more. s.spelled more }
 
 pub step-spelt : (q to : Part) (n : List ℕ) (o : Op) → part_by q o ≡ Some to → IsData q.ty → IsName n → Spelt (SpellsInst (pure_text o (typed n (signal_type to.ty) ∷ [])))
 step-spelt q to n (op.Extf k) h d i =
     let w : StepsWell to (Field k) = step-well q to (Field k) d h in
     let b : k < 2 ^ 32 = w.small in
-    let s = word-spelt (op.Extf k) (typed n (signal_type to.ty) ∷ []) (word-lexeme (codes "extf") refl) refl (one-signal n to.ty i w.is_data) (behind-says SpellsNumber (k ∷ []) (number-says k b, tt)) in
+    let s = word-spelt (op.Extf k) (typed n (signal_type to.ty) ∷ []) (word-lexeme (codes "extf") refl) refl (one-signal n to.ty i w.is_data)
+    (behind-says SpellsNumber (k ∷ []) (number-says k b, tt)) in
     record { toks = s.toks; written = s.written; spelled = s.spelled }
 step-spelt q to n (op.Exts at len) h d i =
     let w : StepsWell to (Slice at len) = step-well q to (Slice at len) d h in
@@ -67,10 +69,11 @@ step-spelt q to n _ h d i = absurd cc
 
 -- ---- operands
 
-two-columns : (o p : OperandText) → Says (SpellsWithType o) → Says (SpellsBare p) → Says (SpellsColumns (typed_column ∷ bare_column ∷ []) (o ∷ p ∷ []))
+two-columns : (o p : OperandText) → SpeltInFront (SpellsWithType o) → SpeltInFront (SpellsBare p) → SpeltInFront (SpellsColumns (typed_column ∷ bare_column ∷ []) (o ∷ p ∷ []))
 two-columns o p a b = let s = comma-says (SpellsWithType o) (SpellsBare p) a b in record { toks = s.toks; written = s.written; spelled = λ more. s.spelled more }
 
-three-columns : (o p q : OperandText) → Says (SpellsWithType o) → Says (SpellsOperand p) → Says (SpellsOperand q) → Says (SpellsColumns (typed_column ∷ free_column ∷ free_column ∷ []) (o ∷ p ∷ q ∷ []))
+three-columns : (o p q : OperandText) → SpeltInFront (SpellsWithType o) → SpeltInFront (SpellsOperand p) → SpeltInFront (SpellsOperand q)
+    → SpeltInFront (SpellsColumns (typed_column ∷ free_column ∷ free_column ∷ []) (o ∷ p ∷ q ∷ []))
 three-columns o p q a b c =
     let s = comma-says (SpellsOperand p) (SpellsOperand q) b c in
     let r = comma-says (SpellsWithType o) (λ ts more. (us : List Lexeme) × SpellsOperand p ts (comma ∷ us) × SpellsOperand q us more) a s in
@@ -85,31 +88,34 @@ module _ (e : Emitted) where
   abbrev pub TermWritten : Tree → Type 0
   TermWritten t = IsName (term_name e t)
 
-  first-one : (w : TypeTree) (ts : List Tree) (a : TypeTree) → types_of_all ts ≡ a ∷ [] → IsData w → Each TermWritten ts → Says (SpellsColumns (typed_column ∷ []) (first_typed e w ts))
+  first-one : (w : TypeTree) (ts : List Tree) (a : TypeTree) → types_of_all ts ≡ a ∷ [] → IsData w → Each TermWritten ts → SpeltInFront (SpellsColumns (typed_column ∷ []) (first_typed e w ts))
   first-one w [] a q d n = absurd cc
   first-one w (t ∷ []) a q d n = one-typed (term_name e t) w n.0 d
   first-one w (t ∷ u ∷ ts) a q d n = absurd cc
 
-  first-two : (w : TypeTree) (ts : List Tree) (a b : TypeTree) → types_of_all ts ≡ a ∷ b ∷ [] → IsData w → Each TermWritten ts → Says (SpellsColumns (typed_column ∷ bare_column ∷ []) (first_typed e w ts))
+  first-two : (w : TypeTree) (ts : List Tree) (a b : TypeTree) → types_of_all ts ≡ a ∷ b ∷ [] → IsData w → Each TermWritten ts
+      → SpeltInFront (SpellsColumns (typed_column ∷ bare_column ∷ []) (first_typed e w ts))
   first-two w [] a b q d n = absurd cc
   first-two w (t ∷ []) a b q d n = absurd cc
   first-two w (t ∷ u ∷ []) a b q d n = two-columns (typed (term_name e t) w) (bare (term_name e u)) (typed-says (term_name e t) w n.0 (limited w d)) (bare-says (term_name e u) n.1.0)
   first-two w (t ∷ u ∷ v ∷ ts) a b q d n = absurd cc
 
-  each-three : (ts : List Tree) (a b c : TypeTree) → types_of_all ts ≡ a ∷ b ∷ c ∷ [] → AreData (row_of (types_of_all ts)) → Each TermWritten ts → Says (SpellsColumns (typed_column ∷ free_column ∷ free_column ∷ []) (each_typed e ts))
+  each-three : (ts : List Tree) (a b c : TypeTree) → types_of_all ts ≡ a ∷ b ∷ c ∷ [] → AreData (row_of (types_of_all ts)) → Each TermWritten ts
+      → SpeltInFront (SpellsColumns (typed_column ∷ free_column ∷ free_column ∷ []) (each_typed e ts))
   each-three [] a b c q d n = absurd cc
   each-three (t ∷ []) a b c q d n = absurd cc
   each-three (t ∷ u ∷ []) a b c q d n = absurd cc
   each-three (t ∷ u ∷ v ∷ []) a b c q d n =
       three-columns (typed (term_name e t) (type_of t)) (typed (term_name e u) (type_of u)) (typed (term_name e v) (type_of v))
-      (typed-says (term_name e t) (type_of t) n.0 (limited (type_of t) d.0)) (free-says (term_name e u) (type_of u) n.1.0 (limited (type_of u) d.1.0)) (free-says (term_name e v) (type_of v) n.1.1.0 (limited (type_of v) d.1.1.0))
+      (typed-says (term_name e t) (type_of t) n.0 (limited (type_of t) d.0)) (free-says (term_name e u) (type_of u) n.1.0 (limited (type_of u) d.1.0))
+      (free-says (term_name e v) (type_of v) n.1.1.0 (limited (type_of v) d.1.1.0))
   each-three (t ∷ u ∷ v ∷ x ∷ ts) a b c q d n = absurd cc
 
-  bares-say : (ts : List Tree) → Each TermWritten ts → Each (λ o. Says (SpellsBare o)) (map (λ u. bare (term_name e u)) ts)
+  bares-say : (ts : List Tree) → Each TermWritten ts → Each (λ o. SpeltInFront (SpellsBare o)) (map (λ u. bare (term_name e u)) ts)
   bares-say [] n = tt
   bares-say (t ∷ ts) n = (bare-says (term_name e t) n.0, bares-say ts n.1)
 
-  each-say : (ts : List Tree) → AreData (row_of (types_of_all ts)) → Each TermWritten ts → Each (λ o. Says (SpellsWithType o)) (each_typed e ts)
+  each-say : (ts : List Tree) → AreData (row_of (types_of_all ts)) → Each TermWritten ts → Each (λ o. SpeltInFront (SpellsWithType o)) (each_typed e ts)
   each-say [] d n = tt
   each-say (t ∷ ts) d n = (typed-says (term_name e t) (type_of t) n.0 (limited (type_of t) d.0), each-say ts d.1 n.1)
 

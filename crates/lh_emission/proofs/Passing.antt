@@ -133,5 +133,6 @@ module _ (f : Frame) (few : HasFewArgs f.unit) where
       ap (line_giving n) (append_assoc ls (record { result = Some n; inst = i } ∷ []) b.more)
       ∙ line_giving-later n ls _ g ∙ ap (λ x. if x then Some i else line_giving n b.more) (same_name-refl n) in
       ap (λ x. value_type x n) b.is
-      ∙ ap (λ x. or_else (option_map (λ (a : ArgText). a.ty) x) (option_and_then result_type (or_else (line_giving n ((ls ++ record { result = Some n; inst = i } ∷ []) ++ b.more)) None))) (no-argument-named n f.unit.args d)
+      ∙ ap (λ x. or_else (option_map (λ (a : ArgText). a.ty) x) (option_and_then result_type (or_else (line_giving n ((ls ++ record { result = Some n; inst = i } ∷ []) ++ b.more)) None)))
+      (no-argument-named n f.unit.args d)
       ∙ ap (λ x. option_and_then result_type (or_else x None)) g1

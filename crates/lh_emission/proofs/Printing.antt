@@ -167,7 +167,8 @@ module _ (u : UnitText) (steps : Part → List PartStep) (few : length u.args < 
 
   -- ---- drives and registers
 
-  drive-written : (d : Drive) (e : Emitted) → DriveHas (IsReached s) s d → DriveNamed e d → Written e → Written (puts (drv_text (signal e d.part) (term_name e d.value) (term_name e d.delay) (cond_name e d.cond)) e)
+  drive-written : (d : Drive) (e : Emitted) → DriveHas (IsReached s) s d → DriveNamed e d → Written e
+      → Written (puts (drv_text (signal e d.part) (term_name e d.value) (term_name e d.delay) (cond_name e d.cond)) e)
   drive-written d e g n w =
       let i : InstText = drv_text (signal e d.part) (term_name e d.value) (term_name e d.delay) (cond_name e d.cond) in
       puts-written e i w (plain-line i refl (drive-spelt (part_name e d.part) d.part.ty (term_name e d.value) (term_name e d.delay) (cond_name e d.cond)
@@ -187,13 +188,15 @@ module _ (u : UnitText) (steps : Part → List PartStep) (few : length u.args < 
     triggers-written (x ∷ xs) k = (trigger-written x k.0, triggers-written xs k.1)
 
     row-spelt : (x : TriggerTree) (xs : List TriggerTree) → Each (TriggerNamed e) (x ∷ xs) → Spelt (SpellsInst (reg_text (signal e r.part) (map (trigger_text r e) (x ∷ xs))))
-    row-spelt x xs k = register-spelt (part_name e r.part) r.part.ty (trigger_text r e x) (map (trigger_text r e) xs) (part-written e r.part w n.part) g.carries (trigger-written x k.0) (triggers-written xs k.1)
+    row-spelt x xs k = register-spelt (part_name e r.part) r.part.ty (trigger_text r e x) (map (trigger_text r e) xs) (part-written e r.part w n.part) g.carries (trigger-written x k.0)
+        (triggers-written xs k.1)
 
     register-written : Lines (puts (reg_text (signal e r.part) (map (trigger_text r e) r.triggers)) e).lines → Written (puts (reg_text (signal e r.part) (map (trigger_text r e) r.triggers)) e)
     register-written l = puts-written e (reg_text (signal e r.part) (map (trigger_text r e) r.triggers)) w (at r.triggers refl)
       where
         at : (xs : List TriggerTree) → r.triggers ≡ xs → HasInstLine (record { result = None; inst = reg_text (signal e r.part) (map (trigger_text r e) r.triggers) })
-        at [] q = absurd (subst (λ (y : List TriggerTree). TimeFits (reg_text (signal e r.part) (map (trigger_text r e) y))) q (the-last e.lines (record { result = None; inst = reg_text (signal e r.part) (map (trigger_text r e) r.triggers) }) l.times))
+        at [] q = absurd (subst (λ (y : List TriggerTree). TimeFits (reg_text (signal e r.part) (map (trigger_text r e) y))) q
+            (the-last e.lines (record { result = None; inst = reg_text (signal e r.part) (map (trigger_text r e) r.triggers) }) l.times))
         at (x ∷ xs) q =
             let k : Each (TriggerNamed e) (x ∷ xs) = subst (Each (TriggerNamed e)) q n.triggers in
             let h : HasInstLine (record { result = None; inst = reg_text (signal e r.part) (map (trigger_text r e) (x ∷ xs)) }) =
@@ -280,7 +283,8 @@ once-printable u y steps ds q h gs ls =
     let few = h.arguments.few in
     let args = args-written u.kind u.name u.args u.result h.is_process h.headed in
     let w = within u y (list_all drive_fits ds) (once s ds).lines q in
-    let d = drives-kept s (IsReached s) (λ p r. r) (Inv u steps few args) (written-kept u steps few args) ds (given-drives u steps ds gs) w.all_fit (nothing_emitted s) (none-written u steps few args) in
+    let d = drives-kept s (IsReached s) (λ p r. r) (Inv u steps few args) (written-kept u steps few args) ds (given-drives u steps ds gs) w.all_fit (nothing_emitted s)
+    (none-written u steps few args) in
     let t = drives-timed s ds gs w.all_fit ls (nothing_emitted s) tt in
     printed u y steps h (list_all drive_fits ds) (once s ds) w (once-no_fault u y steps ds q h.arguments gs) t d.inv
 

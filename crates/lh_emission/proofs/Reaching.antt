@@ -122,7 +122,8 @@ step-leads u o from r l h = at (part_by from.part o) refl h
           carries = l.carries;
           there = ap (λ n. slice_get u.args n) a ∙ l.there;
           signal = l.signal;
-          leads = subst (λ n. StepsLead (whole n l.carries) (from.steps ++ record { op = o; to = to } ∷ []) to) (sym a) (steps-then (whole from.part.arg l.carries) from.part to from.steps o l.leads q);
+          leads = subst (λ n. StepsLead (whole n l.carries) (from.steps ++ record { op = o; to = to } ∷ []) to) (sym a)
+              (steps-then (whole from.part.arg l.carries) from.part to from.steps o l.leads q);
         } in
         subst (Leads u) (some_inj _ r k) y
 
@@ -135,7 +136,8 @@ pub reached-leads : (k : ℕ) (u : UnitText) (n : List ℕ) (r : Reached) → re
 reached-leads zero u n r h = argument-leads u n r h
 reached-leads (suc k) u n r h = by (or-else-is (as_argument u n) (further (reached k u) (inst_giving n u.blocks)) r h) (λ m x e. reached-leads k u m x e)
   where
-    by : (as_argument u n ≡ Some r) ⊎ ((as_argument u n ≡ None) × (further (reached k u) (inst_giving n u.blocks) ≡ Some r)) → ((m : List ℕ) (x : Reached) → reached k u m ≡ Some x → Leads u x) → Leads u r
+    by : (as_argument u n ≡ Some r) ⊎ ((as_argument u n ≡ None) × (further (reached k u) (inst_giving n u.blocks) ≡ Some r)) → ((m : List ℕ) (x : Reached) → reached k u m ≡ Some x → Leads u x)
+        → Leads u r
     by (inl a) f = argument-leads u n r a
     by (inr b) f = let s = further-is (reached k u) (inst_giving n u.blocks) r b.1 in step-leads u s.op s.from r (f s.operand.value s.from s.reaches) s.steps
 
@@ -313,7 +315,8 @@ module _ (u : UnitText) where
       next : suc d + length lines ≡ suc (d + length lines)
       next = omega arith
 
-      at : (o : Option Reached) → reached (d + length lines) u n ≡ o → ((x : Reached) → reached (d + length lines) u n ≡ Some x → reached (length lines) u n ≡ Some x) → reached (length lines) u n ≡ Some r
+      at : (o : Option Reached) → reached (d + length lines) u n ≡ o → ((x : Reached) → reached (d + length lines) u n ≡ Some x → reached (length lines) u n ≡ Some x)
+          → reached (length lines) u n ≡ Some r
       at None q f = absurd (let l = new-few (d + length lines) n (record { way = r; before = q; after = ap (λ k. reached k u n) (sym next) ∙ h }) in omega (arith, l))
       at (Some x) q f =
           let e : Some x ≡ Some r = sym (one-more (d + length lines) u n x q) ∙ ap (λ k. reached k u n) (sym next) ∙ h in
@@ -363,7 +366,8 @@ finds : (f : List ℕ → Option Reached) (p : Part) (n : List ℕ) (r : Reached
 finds f p n r [] a e g = absurd g
 finds f p n r (l ∷ more) a e (inl q) =
     let b : steps_if p (option_and_then f l.result) ≡ Some r.steps =
-    ap (λ o. steps_if p (option_and_then f o)) q ∙ ap (steps_if p) a ∙ ap (λ (x : Part). if same_part x p then Some r.steps else None) e ∙ ap (λ b. if b then Some r.steps else None) (same_part-refl p) in
+    ap (λ o. steps_if p (option_and_then f o)) q ∙ ap (steps_if p) a ∙ ap (λ (x : Part). if same_part x p then Some r.steps else None) e
+    ∙ ap (λ b. if b then Some r.steps else None) (same_part-refl p) in
     (r.steps, ap (λ o. or_else o (first_steps f p more)) b)
 finds f p n r (l ∷ more) a e (inr g) = at (steps_if p (option_and_then f l.result)) (finds f p n r more a e g)
   where

@@ -183,7 +183,8 @@ module _ (f : Frame) (few : HasFewArgs f.unit) where
         let n3 = part-needed s (IsReached s) (λ p r. r) (Inv f few w ts) (keeps f few w ts) r.part g.part e2 n2.inv in
         let k = kept-then e1 e2 e3 n2.kept n3.kept in
         let all : Each (TriggerNamed e3) (h ∷ hs) = (trigger-kept e1 e3 h k n1.named, triggers-kept e2 e3 hs n3.kept n2.named) in
-        let put : Inv f few (if fires_from ts (h ∷ hs) then register_drives v f.args f.at w r else w) (ts ++ map (λ (g : TriggerTree). sees v g.part) (h ∷ hs)) (puts (reg_text (signal e3 r.part) (map (trigger_text r e3) (h ∷ hs))) e3) =
+        let put : Inv f few (if fires_from ts (h ∷ hs) then register_drives v f.args f.at w r else w) (ts ++ map (λ (g : TriggerTree). sees v g.part) (h ∷ hs))
+        (puts (reg_text (signal e3 r.part) (map (trigger_text r e3) (h ∷ hs))) e3) =
         λ y a.
         let m = n3.inv y (begins-before f few y e3.lines _ a) in
         puts-means f few w _ ts _ y e3 _ a m (register-gives w ts y e3 m r (k.terms r.value n1.value) (k.terms r.delay n1.delay) n3.named (h ∷ hs) all) in

@@ -15,7 +15,8 @@ use Rattle.lh_emission.proofs.Emitting.{KeepsRows}
 
 module _ (f : Frame) (few : HasFewArgs f.unit) (Good : Part → Type 0) where
   -- an instruction that gives nothing and probes nothing
-  puts-probes : (i : InstText) → ((y : UnitText) (x : Env) → static_of y x i ≡ None) → ((x : Env) (ps : List Range) → part_if_probe x i ps ≡ ps) → (e : Emitted) → Probes f few Good e → Probes f few Good (puts i e)
+  puts-probes : (i : InstText) → ((y : UnitText) (x : Env) → static_of y x i ≡ None) → ((x : Env) (ps : List Range) → part_if_probe x i ps ≡ ps) → (e : Emitted) → Probes f few Good e
+      → Probes f few Good (puts i e)
   puts-probes i none probes e h = record {
     parts = h.parts;
     good = h.good;

@@ -195,7 +195,8 @@ module _ (f : Frame) (few : HasFewArgs f.unit) where
       probed = λ x w.
           let z : part_at x (part_name e p) ≡ Some (range_in f.args p) = ap (λ o. part_at x (unwrap_or o [])) n.is ∙ ap (option_and_then as_part) (w p n.name n.is) in
           probed-then x e.lines _ ∙ (λ j. h.probed x w j ++ option_map_or (λ r. r ∷ []) (z j) []) ∙ sym (map-append (range_in f.args) h.parts (p ∷ []));
-      senses = λ y b. let m = gives-senses h.parts (h.parts ++ p ∷ []) y e (prb_text (signal e p)) b (h.senses y (begins-before f few y e.lines _ b)) in record { parts = m.parts; args = m.args; new = m.new; room = m.room };
+      senses = λ y b. let m = gives-senses h.parts (h.parts ++ p ∷ []) y e (prb_text (signal e p)) b (h.senses y (begins-before f few y e.lines _ b)) in
+          record { parts = m.parts; args = m.args; new = m.new; room = m.room };
     }
       where
         by : (q : Part) → (t ≡ now_of p) ⊎ (t ≡ past_of p) → t ≡ now_of q → Among q (h.parts ++ p ∷ [])

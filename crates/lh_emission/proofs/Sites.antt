@@ -7,7 +7,7 @@ use Rattle.lh_types.specs.Same.{and_both, same-is}
 use Rattle.lh_unit.specs.declared.inst.UnitKind.TheVariants as kind
 use Rattle.lh_unit.specs.Contents.{InstText, const_text, pure_text, prb_text, drv_text, reg_text, LineText, BlockText, ArgText, UnitText, ItemText, args_define, lines_define, defines_value, is_result_name}
 use Rattle.lh_unit.specs.Kinds.{Use, uses, kind_of, result_kind, value_kind}
-use Rattle.lh_unit.specs.Places.{Place, places_in, places}
+use Rattle.lh_unit.specs.Places.{InstPlaceText, places_in, places}
 use Rattle.lh_unit.specs.Typing.{value_type, or_else, result_type, inst_giving}
 use Rattle.lh_unit.specs.TypingRows.{types_fit}
 use Rattle.lh_unit.specs.Within.{Each}
@@ -76,7 +76,7 @@ module _ (u : UnitText) (ls : List LineText) (items : List ItemText) where
         one : (x : Use) → UseRight entity before x → has_no_kind entity x ≡ false
         one x h = ap (λ o. option_map_or (λ k. false) o true) h.kind
 
-    stand-earlier : (p : Place) → p.before ≡ before → list_any (stands_later entity p) (map (λ (x : Use). x.value) (uses i)) ≡ false
+    stand-earlier : (p : InstPlaceText) → p.before ≡ before → list_any (stands_later entity p) (map (λ (x : Use). x.value) (uses i)) ≡ false
     stand-earlier p q = none-named (stands_later entity p) (uses i) (Each-more _ _ (uses i) one r.uses)
       where
         one : (x : Use) → UseRight entity before x → stands_later entity p x.value ≡ false
@@ -116,7 +116,7 @@ module _ (u : UnitText) (ls : List LineText) (items : List ItemText) where
   place-none (reg_text to ts) m = refl
   place-none _ m = absurd m
 
-  phi-none : (p : Place) (i : InstText) → IsEmitted i → phi_is_wrong entity p i ≡ false
+  phi-none : (p : InstPlaceText) (i : InstText) → IsEmitted i → phi_is_wrong entity p i ≡ false
   phi-none p (const_text d) m = refl
   phi-none p (pure_text o args) m = refl
   phi-none p (prb_text s) m = refl
@@ -137,7 +137,8 @@ module _ (u : UnitText) (ls : List LineText) (items : List ItemText) where
   not-both false p q = cc
 
   -- an instruction that is right has no fault at its place
-  none-at : (p : Place) (rest : List LineText) → ls ≡ p.before ++ rest → IsEmitted p.line.inst → IsRight entity p.before p.line.inst → (k : FaultKind) → HasFault items (record { unit = entity; place = p }) k → ⊥
+  none-at : (p : InstPlaceText) (rest : List LineText) → ls ≡ p.before ++ rest → IsEmitted p.line.inst → IsRight entity p.before p.line.inst → (k : FaultKind)
+      → HasFault items (record { unit = entity; place = p }) k → ⊥
   none-at p rest s m r undefined h = not-both _ h (undefined-none p.line.inst m (all-defined p.before rest s p.line.inst r))
   none-at p rest s m r wrong_kind h = not-both _ h (kind-none p.line.inst m (right-kinds p.before rest s p.line.inst r))
   none-at p rest s m r wrong_type h = not-both _ h (type-none p.line.inst m (some-kinds p.before rest s p.line.inst r) r.types)
@@ -147,7 +148,7 @@ module _ (u : UnitText) (ls : List LineText) (items : List ItemText) where
   none-at p rest s m r not_defined h = not-both _ h.1 (stand-earlier p.before rest s p.line.inst r p refl)
   none-at p rest s m r arguments h = not-both _ h (arguments-none p.line.inst m)
 
-  abbrev site : Place → Site
+  abbrev site : InstPlaceText → Site
   site p = record { unit = entity; place = p }
 
   -- none of the rest of its block has
@@ -218,7 +219,8 @@ module _ (f : Frame) (few : HasFewArgs f.unit) (once : args_repeat [] f.unit.arg
 abbrev nowhere : UnitText → (Part → List PartStep) → Frame
 nowhere u steps = record { unit = u; steps = steps; args = []; now = []; memory = None; at = record { fs = 0; delta = 0; eps = 0 } }
 
-no-fault : (u y : UnitText) (steps : Part → List PartStep) (fits : Bool) (e : Emitted) (few : HasFewArgs u) → IsWithin u y fits e.lines → Each (λ (l : LineText). IsEmitted l.inst) e.lines → NoFault (nowhere u steps) few e → IsRightEntity y
+no-fault : (u y : UnitText) (steps : Part → List PartStep) (fits : Bool) (e : Emitted) (few : HasFewArgs u) → IsWithin u y fits e.lines → Each (λ (l : LineText). IsEmitted l.inst) e.lines
+    → NoFault (nowhere u steps) few e → IsRightEntity y
 no-fault u y steps fits e few w m h =
     let b : Begins (nowhere u steps) few (entity_with u e.lines) e.lines = record {
       more = [];

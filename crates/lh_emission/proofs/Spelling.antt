@@ -41,7 +41,7 @@ lexemes_in-tokens [] = refl
 lexemes_in-tokens (t ∷ ts) = ap (λ q. t ∷ q) (lexemes_in-tokens ts)
 
 -- tokens that can be written and spell what S says, whatever follows them
-pub record Says (S : List Lexeme → List Lexeme → Type 0) : Type 0 where
+pub record SpeltInFront (S : List Lexeme → List Lexeme → Type 0) : Type 0 where
   pub toks : List Lexeme
   pub written : Each IsLexeme toks
   pub spelled : (more : List Lexeme) → S (toks ++ more) more
@@ -63,7 +63,7 @@ limited void_type d = absurd d
 limited (signal_type t) d = absurd d
 limited (pointer_type t) d = absurd d
 
-pub type-says : (t : TypeTree) → IsLimited t → Says (SpellsType t)
+pub type-says : (t : TypeTree) → IsLimited t → SpeltInFront (SpellsType t)
 type-says t d =
     let s = type-stands t d in
     record {
@@ -79,7 +79,7 @@ type-says t d =
     }
 
 -- a type and a name
-pub operand-says : (n : List ℕ) (t : TypeTree) → IsName n → IsLimited t → Says (λ ts more. SpellsType t ts (local n ∷ more))
+pub operand-says : (n : List ℕ) (t : TypeTree) → IsName n → IsLimited t → SpeltInFront (λ ts more. SpellsType t ts (local n ∷ more))
 operand-says n t i d =
     let s = type-says t d in
     record {
@@ -88,16 +88,16 @@ operand-says n t i d =
       spelled = λ more. subst (λ z. SpellsType t z (local n ∷ more)) (sym (append_assoc s.toks (local n ∷ []) more)) (s.spelled (local n ∷ more));
     }
 
-pub typed-says : (n : List ℕ) (t : TypeTree) → IsName n → IsLimited t → Says (SpellsWithType (typed n t))
+pub typed-says : (n : List ℕ) (t : TypeTree) → IsName n → IsLimited t → SpeltInFront (SpellsWithType (typed n t))
 typed-says n t i d = let s = operand-says n t i d in record { toks = s.toks; written = s.written; spelled = λ more. (t, refl, s.spelled more) }
 
-pub free-says : (n : List ℕ) (t : TypeTree) → IsName n → IsLimited t → Says (SpellsOperand (typed n t))
+pub free-says : (n : List ℕ) (t : TypeTree) → IsName n → IsLimited t → SpeltInFront (SpellsOperand (typed n t))
 free-says n t i d = let s = operand-says n t i d in record { toks = s.toks; written = s.written; spelled = λ more. s.spelled more }
 
-pub bare-says : (n : List ℕ) → IsName n → Says (SpellsBare (bare n))
+pub bare-says : (n : List ℕ) → IsName n → SpeltInFront (SpellsBare (bare n))
 bare-says n i = record { toks = local n ∷ []; written = (i, tt); spelled = λ more. (refl, refl) }
 
-pub number-says : (n : ℕ) → n < 2 ^ 32 → Says (SpellsNumber n)
+pub number-says : (n : ℕ) → n < 2 ^ 32 → SpeltInFront (SpellsNumber n)
 number-says n b =
     let s : n < 10 ^ 64 = omega arith in
     record { toks = word (decimal n) ∷ []; written = (number-lexeme n s, tt); spelled = λ more. (decimal n, refl, number_of-decimal n s, b) }
@@ -107,12 +107,12 @@ abbrev pub MaybeName : Option (List ℕ) → Type 0
 MaybeName None = Unit {0}
 MaybeName (Some n) = IsName n
 
-pub maybe-says : (w : List ℕ) (o : Option (List ℕ)) → IsLexeme (word w) → MaybeName o → Says (SpellsMaybe w o)
+pub maybe-says : (w : List ℕ) (o : Option (List ℕ)) → IsLexeme (word w) → MaybeName o → SpeltInFront (SpellsMaybe w o)
 maybe-says w None i h = record { toks = []; written = tt; spelled = λ more. refl }
 maybe-says w (Some n) i h = record { toks = word w ∷ local n ∷ []; written = (i, (h, tt)); spelled = λ more. refl }
 
 -- one after another, with a comma between them
-pub comma-says : (S T : List Lexeme → List Lexeme → Type 0) → Says S → Says T → Says (λ ts more. (us : List Lexeme) × S ts (comma ∷ us) × T us more)
+pub comma-says : (S T : List Lexeme → List Lexeme → Type 0) → SpeltInFront S → SpeltInFront T → SpeltInFront (λ ts more. (us : List Lexeme) × S ts (comma ∷ us) × T us more)
 comma-says S T a b = record {
   toks = a.toks ++ comma ∷ b.toks;
   written = each-append IsLexeme a.toks (comma ∷ b.toks) a.written (refl, b.written);
@@ -124,14 +124,14 @@ comma-says S T a b = record {
 }
 
 module _ {A : Type 0} (P : A → List Lexeme → List Lexeme → Type 0) where
-  pub parts-says : (a : A) (xs : List A) → Says (P a) → Each (λ x. Says (P x)) xs → Says (SpellsParts P (a ∷ xs))
+  pub parts-says : (a : A) (xs : List A) → SpeltInFront (P a) → Each (λ x. SpeltInFront (P x)) xs → SpeltInFront (SpellsParts P (a ∷ xs))
   parts-says a [] h k = record { toks = h.toks; written = h.written; spelled = λ more. h.spelled more }
   parts-says a (b ∷ xs) h k =
       let r = parts-says b xs k.0 k.1 in
       let s = comma-says (P a) (SpellsParts P (b ∷ xs)) h r in
       record { toks = s.toks; written = s.written; spelled = λ more. s.spelled more }
 
-  pub behind-says : (xs : List A) → Each (λ x. Says (P x)) xs → Says (SpellsBehind P xs)
+  pub behind-says : (xs : List A) → Each (λ x. SpeltInFront (P x)) xs → SpeltInFront (SpellsBehind P xs)
   behind-says [] k = record { toks = []; written = tt; spelled = λ more. refl }
   behind-says (a ∷ xs) k =
       let r = parts-says a xs k.0 k.1 in
@@ -202,7 +202,7 @@ time-spelt d a b c =
 
 -- ---- parts of signals
 
-worded : (w : List ℕ) (o : OperandText) → IsLexeme (word w) → Says (SpellsWithType o) → Says (SpellsWordTyped w o)
+worded : (w : List ℕ) (o : OperandText) → IsLexeme (word w) → SpeltInFront (SpellsWithType o) → SpeltInFront (SpellsWordTyped w o)
 worded w o i s = record { toks = word w ∷ s.toks; written = (i, s.written); spelled = λ more. (s.toks ++ more, refl, s.spelled more) }
 
 pub probe-spelt : (n : List ℕ) (t : TypeTree) → IsName n → IsData t → Spelt (SpellsInst (prb_text (typed n (signal_type t))))
@@ -210,7 +210,8 @@ probe-spelt n t i d =
     let s = worded (codes "prb") (typed n (signal_type t)) (word-lexeme (codes "prb") refl) (typed-says n (signal_type t) i d) in
     record { toks = s.toks; written = s.written; spelled = subst (λ z. SpellsWordTyped (codes "prb") (typed n (signal_type t)) z []) (append-nil s.toks) (s.spelled []) }
 
-pub drive-spelt : (n : List ℕ) (t : TypeTree) (v d : List ℕ) (c : Option (List ℕ)) → IsName n → IsData t → IsName v → IsName d → MaybeName c → Spelt (SpellsInst (drv_text (typed n (signal_type t)) v d c))
+pub drive-spelt : (n : List ℕ) (t : TypeTree) (v d : List ℕ) (c : Option (List ℕ)) → IsName n → IsData t → IsName v → IsName d → MaybeName c
+    → Spelt (SpellsInst (drv_text (typed n (signal_type t)) v d c))
 drive-spelt n t v d c i k iv id ic =
     let o : OperandText = typed n (signal_type t) in
     let s = worded (codes "drv") o (word-lexeme (codes "drv") refl) (typed-says n (signal_type t) i k) in
@@ -236,7 +237,7 @@ pub record TriggerWritten (g : TriggerText) : Type 0 where
   pub gate : MaybeName g.gate
   pub after : MaybeName g.after
 
-pub trigger-says : (g : TriggerText) → TriggerWritten g → Says (SpellsTrigger g)
+pub trigger-says : (g : TriggerText) → TriggerWritten g → SpeltInFront (SpellsTrigger g)
 trigger-says g h =
     let a = maybe-says (codes "if") g.gate (word-lexeme (codes "if") refl) h.gate in
     let b = maybe-says (codes "after") g.after (word-lexeme (codes "after") refl) h.after in
@@ -270,6 +271,6 @@ register-spelt n t g gs i d h hs =
       spelled = (p.toks, s.spelled (comma ∷ p.toks), subst (λ z. SpellsParts SpellsTrigger (g ∷ gs) z []) (append-nil p.toks) (p.spelled []));
     }
   where
-    all : (gs : List TriggerText) → Each TriggerWritten gs → Each (λ x. Says (SpellsTrigger x)) gs
+    all : (gs : List TriggerText) → Each TriggerWritten gs → Each (λ x. SpeltInFront (SpellsTrigger x)) gs
     all [] hs = tt
     all (g ∷ gs) hs = (trigger-says g hs.0, all gs hs.1)

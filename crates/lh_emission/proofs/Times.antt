@@ -105,7 +105,8 @@ module _ (s : Source) where
   operation-timed : (t : Tree) (op : Op) (ts : List Tree) (x : Emitted) → Timed x → Timed (gives_operation s t op ts x)
   operation-timed t op ts x h = each-append TimeLine x.lines _ h (tt, tt)
 
-  pair-timed : (f t : Tree) (need_f need_t : Emitted → Emitted) → NoTime (value_in f) → NoTime (value_in t) → (e : Emitted) → Timed e → Timed (need_t (need_f e)) → Timed (need_pair s f t need_f need_t e)
+  pair-timed : (f t : Tree) (need_f need_t : Emitted → Emitted) → NoTime (value_in f) → NoTime (value_in t) → (e : Emitted) → Timed e → Timed (need_t (need_f e))
+      → Timed (need_pair s f t need_f need_t e)
   pair-timed f t need_f need_t nf nt e h k = at (is_constant f && is_constant t) refl
     where
       at : (b : Bool) → (is_constant f && is_constant t) ≡ b → Timed (need_pair s f t need_f need_t e)

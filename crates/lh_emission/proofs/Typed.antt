@@ -51,7 +51,8 @@ right-push y seen (x ∷ ls) l h k = (h.0, right-push y (seen ++ x ∷ []) ls l 
 
 -- ---- results stand once
 
-pub once-push : (xs : List ArgText) (seen ls : List LineText) (l : LineText) → results_repeat xs seen ls ≡ false → result_repeats xs (seen ++ ls) l.result ≡ false → results_repeat xs seen (ls ++ l ∷ []) ≡ false
+pub once-push : (xs : List ArgText) (seen ls : List LineText) (l : LineText) → results_repeat xs seen ls ≡ false → result_repeats xs (seen ++ ls) l.result ≡ false
+    → results_repeat xs seen (ls ++ l ∷ []) ≡ false
 once-push xs seen [] l h k =
     let q : result_repeats xs seen l.result ≡ false = subst (λ z. result_repeats xs z l.result ≡ false) (append-nil seen) k in
     ap (λ b. b || false) q
@@ -179,7 +180,8 @@ module _ (f : Frame) (few : HasFewArgs f.unit) where
       ap (line_giving n) (append_assoc ls (record { result = Some n; inst = i } ∷ []) b.more)
       ∙ line_giving-later n ls _ g ∙ ap (λ x. if x then Some i else line_giving n b.more) (same_name-refl n) in
       ap (λ x. value_kind x n) b.is
-      ∙ ap (λ x. or_else (option_and_then (λ (a : ArgText). kind_of a.ty) x) (option_and_then result_kind (or_else (line_giving n ((ls ++ record { result = Some n; inst = i } ∷ []) ++ b.more)) None))) (no-argument-named n f.unit.args d)
+      ∙ ap (λ x. or_else (option_and_then (λ (a : ArgText). kind_of a.ty) x) (option_and_then result_kind (or_else (line_giving n ((ls ++ record { result = Some n; inst = i } ∷ []) ++ b.more)) None)))
+      (no-argument-named n f.unit.args d)
       ∙ ap (λ x. option_and_then result_kind (or_else x None)) g1
 
   module _ (y : UnitText) (e : Emitted) (i : InstText) (b : Begins f few y (gives (source f few) i e).lines) (m : Typed y e) (r : IsRight y e.lines i) where

@@ -18,7 +18,8 @@ use Rattle.lh_emission.specs.Emitted.{PartStep, source_of, Emitted, nothing_emit
 use Rattle.lh_emission.specs.Entities.{Emission, too_large, emits, entity_with, within_limits, comb, edge, once, emit_probes, drive_fits, row_fits}
 use Rattle.lh_emission.specs.Reads.{range_in, reads}
 use Rattle.lh_emission.specs.Registers.{triggers_seen}
-use Rattle.lh_emission.specs.Ways.{IsReached, AllParts, AllPartsIn, WaitIsGiven, DriveIsGiven, TriggerIsGiven, RowIsGiven}
+use Rattle.lh_term.specs.Leaves.{AllParts, AllPartsIn}
+use Rattle.lh_emission.specs.Ways.{IsReached, WaitIsGiven, DriveIsGiven, TriggerIsGiven, RowIsGiven}
 use Rattle.lh_emission.specs.Laws.{DriveReads, Among, Passes, CombPasses, CombSenses, OncePasses, OnceSenses, EdgePasses, row_parts, EdgeSenses}
 use Rattle.lh_emission.proofs.Induction.{IsNamed, Kept}
 use Rattle.lh_emission.proofs.Passing.{Frame, HasFewArgs, after, Begins, Inv}
@@ -91,7 +92,8 @@ comb-passes u y steps waited ds args h fit ws gs now memory t =
     let f = frame u steps args now memory t in
     let w = within u y (list_all drive_fits ds) (comb (source_of u steps) waited ds).lines h in
     let p = probes-emitted f fit.few waited ws no_wish [] (nothing_emitted (source_of u steps)) (begins f fit) in
-    wish-is f fit y (list_all drive_fits ds) (comb (source_of u steps) waited ds) w _ [] (drives-emitted f fit.few ds gs w.all_fit no_wish [] (emit_probes (source_of u steps) waited (nothing_emitted (source_of u steps))) p)
+    wish-is f fit y (list_all drive_fits ds) (comb (source_of u steps) waited ds) w _ []
+    (drives-emitted f fit.few ds gs w.all_fit no_wish [] (emit_probes (source_of u steps) waited (nothing_emitted (source_of u steps))) p)
 
 pub once-passes : OncePasses
 once-passes u y steps ds args h fit gs now memory t =
@@ -163,7 +165,8 @@ module _ (u : UnitText) (steps : Part → List PartStep) (P : Part → Type 0) w
   good-waited (p ∷ ps) w r = ((w.0.is_data, (w.0.part, r.0)), good-waited ps w.1 r.1)
 
 -- what has a name is probed
-all-probed : (f : Frame) (few : HasFewArgs f.unit) (Q : Part → Type 0) (e x : Emitted) (ps : List Part) → Kept e x → Each (λ p. IsNamed e (now_of p)) ps → (p : Probes f few Q x) → Each (λ q. Among q p.parts) ps
+all-probed : (f : Frame) (few : HasFewArgs f.unit) (Q : Part → Type 0) (e x : Emitted) (ps : List Part) → Kept e x → Each (λ p. IsNamed e (now_of p)) ps → (p : Probes f few Q x)
+    → Each (λ q. Among q p.parts) ps
 all-probed f few Q e x [] k h p = tt
 all-probed f few Q e x (q ∷ ps) k h p = (p.all q (k.terms (now_of q) h.0), all-probed f few Q e x ps k h.1 p)
 
@@ -232,7 +235,8 @@ trigger-parts : (e : Emitted) (P : Part → Type 0) (gs : List TriggerTree) → 
 trigger-parts e P [] a h = tt
 trigger-parts e P (g ∷ gs) a h = (a g.part h.0.now, trigger-parts e P gs a h.1)
 
-rows-parts : (e : Emitted) (P : Part → Type 0) (rs : List EdgeRowTree) → ((p : Part) → IsNamed e (now_of p) → P p) → Each (λ (r : EdgeRowTree). Each (TriggerNamed e) r.triggers) rs → Each P (flat_map row_parts rs)
+rows-parts : (e : Emitted) (P : Part → Type 0) (rs : List EdgeRowTree) → ((p : Part) → IsNamed e (now_of p) → P p) → Each (λ (r : EdgeRowTree). Each (TriggerNamed e) r.triggers) rs
+    → Each P (flat_map row_parts rs)
 rows-parts e P [] a h = tt
 rows-parts e P (r ∷ rs) a h = each-append P (row_parts r) (flat_map row_parts rs) (trigger-parts e P r.triggers a h.0) (rows-parts e P rs a h.1)
 

@@ -20,7 +20,8 @@ use Rattle.lh_emission.specs.Entities.{emits, entity_with, comb_emission, edge_e
 use Rattle.lh_emission.specs.Reads.{range_in, reads, with_rows}
 use Rattle.lh_emission.specs.Registers.{registers_wish, triggers_seen}
 use Rattle.lh_emission.specs.Reached.{steps_in, IsPartOf}
-use Rattle.lh_emission.specs.Ways.{AllParts, IsReached, WaitIsGiven, DriveIsGiven, RowIsGiven}
+use Rattle.lh_term.specs.Leaves.{AllParts}
+use Rattle.lh_emission.specs.Ways.{IsReached, WaitIsGiven, DriveIsGiven, RowIsGiven}
 
 -- the arguments of a unit in an instance: few, no two of one name, each with as many bits as its type has
 pub record ArgumentsFit (u : UnitText) (args : List Range) : Type 0 where

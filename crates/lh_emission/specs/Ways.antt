@@ -7,7 +7,8 @@ use Rattle.lh_types.specs.declared.op.Op.{Op}
 use Rattle.lh_types.specs.declared.part.Step.{Step}
 use Rattle.lh_unit.specs.Contents.{ArgText}
 use Rattle.lh_unit.specs.Effects.{step_of}
-use Rattle.lh_term.specs.Tree.{Tree, TreeRow, constant, past_of, now_of, operation, choice_of, no_trees, more_trees}
+use Rattle.lh_term.specs.Tree.{Tree}
+use Rattle.lh_term.specs.Leaves.{AllParts}
 use Rattle.lh_term.specs.declared.part.Part.{Part}
 use Rattle.lh_term.specs.Types.{IsTyped, type_of}
 use Rattle.lh_unit.specs.Within.{Each}
@@ -38,19 +39,6 @@ pub record IsReached (s : Source) (p : Part) : Type 0 where
   pub there : slice_get s.args p.arg ≡ Some arg
   pub signal : arg.ty ≡ signal_type carries
   pub leads : StepsLead (whole p.arg carries) (s.steps p) p
-
-abbrev mutual
-  -- each part in a term has this
-  pub AllParts : (Part → Type 0) → Tree → Type 0
-  AllParts P (constant v) = Unit {0}
-  AllParts P (past_of p) = P p
-  AllParts P (now_of p) = P p
-  AllParts P (operation op ts) = AllPartsIn P ts
-  AllParts P (choice_of c f t) = AllParts P c × AllParts P f × AllParts P t
-
-  pub AllPartsIn : (Part → Type 0) → TreeRow → Type 0
-  AllPartsIn P no_trees = Unit {0}
-  AllPartsIn P (more_trees t ts) = AllParts P t × AllPartsIn P ts
 
 -- the term is typed, and its parts are reached
 pub record IsGiven (s : Source) (t : Tree) : Type 0 where

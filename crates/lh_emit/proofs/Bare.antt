@@ -21,7 +21,8 @@ adds-next all so_far more (v ∷ vs) d h l m =
     (λ i. m i ++ map without_type (r i)) ∙ append_assoc so_far (without_type v ∷ []) (map without_type vs) ∙ h
 
 -- the first with a type, and then the others
-pub first-added : (t : TypeTree) (one all : List Typed) (vs : List ValueId) (d : ValueId) → 1 ≤ length vs → one ≡ with_type t (get_or vs 0 d) ∷ [] → all ≡ one ++ map without_type (take (length vs - 1) (drop 1 vs)) →
+pub first-added : (t : TypeTree) (one all : List Typed) (vs : List ValueId) (d : ValueId) → 1 ≤ length vs → one ≡ with_type t (get_or vs 0 d) ∷ []
+    → all ≡ one ++ map without_type (take (length vs - 1) (drop 1 vs)) →
     all ≡ first_with_type t vs
 first-added t one all [] d l p q = absurd (omega (arith, l))
 first-added t one all (v ∷ vs) d l p q =

@@ -12,7 +12,7 @@ use Rattle.lh_term.specs.declared.term.TermId.{TermId}
 use Rattle.lh_term.specs.declared.term.Node.{Node}
 use Rattle.lh_term.proofs.Arenas.{map_length}
 use Rattle.lh_emission.specs.Emitted.{Source, nothing_emitted, whole_name}
-use Rattle.lh_body.specs.Lines.{naming, line_text, arg_names, HasRoom, BeginsWith, AddsArg, Says}
+use Rattle.lh_body.specs.Lines.{naming, line_text, arg_names, HasRoom, BeginsWith, AddsArg, LinesAreEmitted}
 use Rattle.lh_emit.specs.Begun.{HasArgs}
 use Rattle.lh_emit.specs.Emitting.{ArgumentsFirst, IsEmitted}
 use Rattle.lh_emit.specs.Parts.{part_in, KnowsParts}
@@ -54,7 +54,8 @@ split-first : (xs : List (List ℕ)) (d : List ℕ) → 1 ≤ length xs → xs �
 split-first [] d l = absurd (omega (arith, l))
 split-first (x ∷ xs) d l = let e : length (x ∷ xs) - 1 ≡ length xs = omega arith in ap (λ ys. x ∷ ys) (sym (ap (λ n. take n xs) e ∙ take-length xs))
 
-pub args-next : (names : List (List ℕ)) (old new : Lines) (left : List (List ℕ)) (n : List ℕ) → AddingArgs names old left → 1 ≤ length left → n ≡ get_or left 0 n → AddsArg n old new → AddingArgs names new (take (length left - 1) (drop 1 left))
+pub args-next : (names : List (List ℕ)) (old new : Lines) (left : List (List ℕ)) (n : List ℕ) → AddingArgs names old left → 1 ≤ length left → n ≡ get_or left 0 n → AddsArg n old new
+    → AddingArgs names new (take (length left - 1) (drop 1 left))
 args-next names old new left n k l e h =
     let rest = take (length left - 1) (drop 1 left) in
     let same : left ≡ n ∷ rest = split-first left n l ∙ ap (λ y. y ∷ rest) (sym e) in
@@ -87,7 +88,8 @@ or-none : {A : Type 0} (x y : Option A) → y ≡ None → x ≡ or_else x y
 or-none None y e = sym e
 or-none (Some a) y e = refl
 
-pub begins-emitted : (ns : List Node) (s : Source) (ls : Lines) (vs : Values) (ps : Parts) → HasRoom ls → BeginsWith s.args ls → ((x : TermId) → value_in vs x ≡ None) → ((p : Part) → part_in ps p ≡ None) →
+pub begins-emitted : (ns : List Node) (s : Source) (ls : Lines) (vs : Values) (ps : Parts) → HasRoom ls → BeginsWith s.args ls → ((x : TermId) → value_in vs x ≡ None)
+    → ((p : Part) → part_in ps p ≡ None) →
     IsEmitted ns s record { lines = ls; values = vs; parts = ps } (nothing_emitted s)
 begins-emitted ns s ls vs ps room b no_values no_parts = record {
   room = room;

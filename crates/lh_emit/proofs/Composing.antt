@@ -14,7 +14,7 @@ use Rattle.lh_types.specs.declared.op.Op.TheVariants.{Array}
 use Rattle.lh_unit.specs.Within.{Each}
 use Rattle.lh_term.specs.Tree.{Tree, TreeRow, constant, past_of, now_of, operation, choice_of, no_trees, more_trees, operation_on, tree_row}
 use Rattle.lh_term.specs.Types.{FitsTerm, IsTyped, type_of}
-use Rattle.lh_term.specs.Arena.{trees, tree_at, trees_at, term_tree, term_below, ids_below, IsIn, AreIn, Grows, Stands}
+use Rattle.lh_term.specs.Arena.{trees, tree_at, trees_at, term_tree, term_below, ids_below, IsIn, AreIn, Grows, StandsForTree}
 use Rattle.lh_term.specs.declared.term.TermId.{TermId}
 use Rattle.lh_term.specs.declared.term.Node.{Node}
 use Rattle.lh_term.specs.declared.term.Term.{Term}
@@ -76,12 +76,13 @@ constants-first old ns ds xs left n x e f = record {
 rest-of : (v : Val) (vs : List Val) → take (length (v ∷ vs) - 1) (drop 1 (v ∷ vs)) ≡ vs
 rest-of v vs = let e : length (v ∷ vs) - 1 ≡ length vs = omega arith in ap (λ n. take n vs) e ∙ take-length vs
 
-pub constants-fit : (old : List Node) (ds : List Datum) (ns : List Node) (xs : List TermId) (left : List Val) (d : Val) → ConstantsSoFar old ds ns xs left → 1 ≤ length left → FitsTerm (datum_of (get_or left 0 d))
+pub constants-fit : (old : List Node) (ds : List Datum) (ns : List Node) (xs : List TermId) (left : List Val) (d : Val) → ConstantsSoFar old ds ns xs left → 1 ≤ length left
+    → FitsTerm (datum_of (get_or left 0 d))
 constants-fit old ds ns xs [] d k l = absurd (omega (arith, l))
 constants-fit old ds ns xs (v ∷ vs) d k l = k.fit.0
 
 pub constants-next : (old : List Node) (ds : List Datum) (ns ms : List Node) (xs more : List TermId) (left : List Val) (d : Val) (x : TermId) → ConstantsSoFar old ds ns xs left → 1 ≤ length left →
-    Grows ns ms → Stands ms x (constant (datum_of (get_or left 0 d))) → more ≡ xs ++ x ∷ [] → ConstantsSoFar old ds ms more (take (length left - 1) (drop 1 left))
+    Grows ns ms → StandsForTree ms x (constant (datum_of (get_or left 0 d))) → more ≡ xs ++ x ∷ [] → ConstantsSoFar old ds ms more (take (length left - 1) (drop 1 left))
 constants-next old ds ns ms xs more [] d x k l g s e = absurd (omega (arith, l))
 constants-next old ds ns ms xs more (v ∷ vs) d x k l g s e =
     let r : take (length (v ∷ vs) - 1) (drop 1 (v ∷ vs)) ≡ vs = rest-of v vs in
@@ -155,7 +156,8 @@ no-pair ns t c f g fault.EntityTooLarge e h = ap has_pair e ∙ h
 pub pair-takes : (c f t : Tree) → IsTyped (choice_of c f t) → is_none (array_fault 2 (type_of f)) ≡ true → IsTyped (operation_on Array (f ∷ t ∷ []))
 pair-takes c f t w h = pair-typed c f t w h
 
-pub chosen-made : (ns ms : List Node) (c f t : TermId) (pair : TermId) (xs : List TermId) → Grows ns ms → IsIn ns c → Stands ms pair (pair_of (tree_at (trees ns) f) (tree_at (trees ns) t)) → xs ≡ pair ∷ c ∷ [] →
+pub chosen-made : (ns ms : List Node) (c f t : TermId) (pair : TermId) (xs : List TermId) → Grows ns ms → IsIn ns c → StandsForTree ms pair (pair_of (tree_at (trees ns) f) (tree_at (trees ns) t))
+    → xs ≡ pair ∷ c ∷ [] →
     is_none (array_fault 2 (type_of (tree_at (trees ns) f))) ≡ true → AreChosen (tree_at (trees ns) c) (tree_at (trees ns) f) (tree_at (trees ns) t) ms xs
 chosen-made ns ms c f t pair xs g c_in s e h = record {
   within = subst (AreIn ms) (sym e) (ids-in-append ms (pair ∷ []) (c ∷ []) (one-in ms pair s.is_in) (one-in ms c (in_grown ns ms g c c_in)));
@@ -174,7 +176,8 @@ parts-copied v vs (Err e) p h = tt
 parts-copied v vs (Ok ws) (inl p) h = h ∙ sym (parts-row vs) ∙ sym (ap (λ (x : Val). parts_in (datum_of x)) p)
 parts-copied v vs (Ok ws) (inr p) h = h ∙ sym (parts-row vs) ∙ sym (ap (λ (x : Val). parts_in (datum_of x)) p)
 
-pub made-op : (ns : List Node) (t : TermId) (k : Term) (op : Op) (args xs : List TermId) → k ≡ Applied op args → term_tree (trees ns) k ≡ tree_at (trees ns) t → term_below t.0 k ≡ true → IsIn ns t → xs ≡ args → AreMade ns ns t xs
+pub made-op : (ns : List Node) (t : TermId) (k : Term) (op : Op) (args xs : List TermId) → k ≡ Applied op args → term_tree (trees ns) k ≡ tree_at (trees ns) t → term_below t.0 k ≡ true → IsIn ns t
+    → xs ≡ args → AreMade ns ns t xs
 made-op ns t k op args xs e shown below is_in q =
     made-operands ns t op args xs (sym shown ∙ ap (term_tree (trees ns)) e) (ids_more t.0 (length ns) (omega (arith, is_in)) args (sym (ap (term_below t.0) e) ∙ below)) q
 
@@ -187,5 +190,6 @@ values-made ns ms t n vs xs e h k = let (d, p, q, f) = subst (IsMadeBy ns t) e h
 pub choice-parts : (ns : List Node) (t : TermId) (n : Needs) (c f g : TermId) → n ≡ Chosen c f g → IsMadeBy ns t n → IsMadeBy ns t (Chosen c f g)
 choice-parts ns t n c f g e h = subst (IsMadeBy ns t) e h
 
-pub choice-typed : (ns : List Node) (t : TermId) (n : Needs) (c f g : TermId) → n ≡ Chosen c f g → IsMadeBy ns t n → IsTyped (choice_of (tree_at (trees ns) c) (tree_at (trees ns) f) (tree_at (trees ns) g))
+pub choice-typed : (ns : List Node) (t : TermId) (n : Needs) (c f g : TermId) → n ≡ Chosen c f g → IsMadeBy ns t n
+    → IsTyped (choice_of (tree_at (trees ns) c) (tree_at (trees ns) f) (tree_at (trees ns) g))
 choice-typed ns t n c f g e h = let k = choice-parts ns t n c f g e h in subst IsTyped k.3 k.4

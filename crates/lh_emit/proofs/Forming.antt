@@ -17,7 +17,8 @@ use Rattle.lh_term.specs.declared.part.Part.{Part}
 use Rattle.lh_emission.specs.Emitted.{Source, Emitted, gives_term, signal, need_part}
 use Rattle.lh_emission.specs.Entities.{choices_fit, all_choices_fit}
 use Rattle.lh_emission.specs.Needs.{gives_operation, constants, operands_in, pair_of, writes_result, types_of_all}
-use Rattle.lh_emission.specs.Ways.{AllParts, AllPartsIn, IsGiven, IsReached}
+use Rattle.lh_term.specs.Leaves.{AllParts, AllPartsIn}
+use Rattle.lh_emission.specs.Ways.{IsGiven, IsReached}
 use Rattle.lh_emission.proofs.Computing.{pair-constant, pair-else, array-parts, tuple-parts}
 use Rattle.lh_emission.proofs.Pairs.{pair-typed, pair-constant_typed}
 use Rattle.lh_emit.specs.Making.{form_of, IsProbed}

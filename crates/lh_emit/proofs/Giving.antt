@@ -28,7 +28,7 @@ use Rattle.lh_emission.specs.Emitted.{Source, Emitted, gives_term, with_term, ne
 use Rattle.lh_emission.specs.Entities.{max_lines, choices_fit}
 use Rattle.lh_emission.specs.Needs.{operation_text, types_of_all}
 use Rattle.lh_emission.specs.Ways.{IsReached}
-use Rattle.lh_body.specs.Lines.{naming, most_lines, values_alone, Says, HasRoom, NamesGrow, GivesValue}
+use Rattle.lh_body.specs.Lines.{naming, most_lines, values_alone, LinesAreEmitted, HasRoom, NamesGrow, GivesValue}
 use Rattle.lh_emit.specs.Emitting.{ArgumentsFirst, IsEmitted}
 use Rattle.lh_emit.specs.Making.{AreMade, HasNoPair, form_of, IsProbed}
 use Rattle.lh_emit.specs.Operands.{with_type}
@@ -42,7 +42,7 @@ use Rattle.std.specs.Result.{IsErrAnd}
 use Rattle.lh_body.specs.declared.lines.EmitFault.{EmitFault}
 use Rattle.lh_body.specs.declared.lines.EmitFault.TheVariants as fault
 use Rattle.lh_term.proofs.Arenas.{map_length}
-use Rattle.lh_emit.specs.Values.{value_in, Keeps, Knows}
+use Rattle.lh_emit.specs.Values.{value_in, Keeps, ValuesNameTerms}
 use Rattle.lh_emit.specs.declared.emitter.Emitter.{Emitter}
 use Rattle.lh_body.specs.declared.lines.Lines.{Lines}
 use Rattle.lh_emit.specs.declared.making.Form.TheVariants.{Scalar, Joined}
@@ -117,7 +117,8 @@ module _ (ns : List Node) (s : Source) (x : Emitter) (t : TermId) (e : Emitted) 
     made-values = have-values ms x.lines.names x.values e grown.terms xs m.within (subst (Each (HasName e)) (sym m.made) r.made)
 
     -- an operation on these
-    pub joined-inst : (op : Op) (given : List ValueId) (d : TypeTree) (args : List Typed) → form_of tree ≡ Joined op → AreValues x.values xs given → d ≡ type_of tree → args ≡ operands_of ms op xs d given →
+    pub joined-inst : (op : Op) (given : List ValueId) (d : TypeTree) (args : List Typed) → form_of tree ≡ Joined op → AreValues x.values xs given → d ≡ type_of tree
+        → args ≡ operands_of ms op xs d given →
         IsInstOf ns s t e ms x (inst.Pure op args)
     joined-inst op given d args f a q z =
         let k = values-named ms x.lines.names x.values e grown.terms xs given m.within a in
@@ -149,20 +150,20 @@ module _ (ns : List Node) (s : Source) (x : Emitter) (t : TermId) (e : Emitted) 
     pub inst-made : (new : Lines) (v : ValueId) (vs : Values) → GivesValue y.lines i new v → Keeps y.values t v vs → IsMade ns s t e ms record { lines = new; values = vs; parts = y.parts }
     inst-made new v vs h keeps = record { is = subst (IsEmitted ms s record { lines = new; values = vs; parts = y.parts }) (sym k.makes) after }
       where
-        said : Says s.args new end
+        said : LinesAreEmitted s.args new end
         said = let z = (h.0 s k.emitted k.is.says).0 in record { fresh = z.fresh; next = z.next; lines = z.lines; names = z.names }
 
         named : value_text (naming new.names) v ≡ next_name s k.emitted
         named = (h.0 s k.emitted k.is.says).1
 
-        knows : Knows ms new.names vs end
+        knows : ValuesNameTerms ms new.names vs end
         knows =
             let names2 : List (List ℕ) = y.lines.names ++ h.2.0 in
             let q : with_term k.emitted.terms tree (next_name s k.emitted) ≡ with_term k.emitted.terms (tree_at (trees ms) t) (value_text (naming names2) v) =
             (λ j. with_term k.emitted.terms (sym same-tree j) (sym named j)) ∙ ap (λ ns. with_term k.emitted.terms (tree_at (trees ms) t) (value_text (naming ns) v)) h.2.1 in
             let z = knows-kept ms y.lines.names h.2.0 y.values vs k.emitted t v one (in_grown ns ms g t r.is_in) k.is.terms (subst (λ (ns : List (List ℕ)). v.0 < length ns) h.2.1 h.1) keeps
             (with_term k.emitted.terms tree (next_name s k.emitted)) q in
-            subst (λ (ns : List (List ℕ)). Knows ms ns vs end) (sym h.2.1) (record { named = z.named; within = z.within; held = z.held; among = z.among })
+            subst (λ (ns : List (List ℕ)). ValuesNameTerms ms ns vs end) (sym h.2.1) (record { named = z.named; within = z.within; held = z.held; among = z.among })
 
         fit : (u : Tree) (n : List ℕ) (b : Bool) → same_tree tree u ≡ b → (if b then Some (next_name s k.emitted) else k.emitted.terms u) ≡ Some n → choices_fit u ≡ true
         fit u n true q z = ap choices_fit (sym (same_tree-is tree u q)) ∙ k.fits
@@ -189,15 +190,18 @@ module _ (ns : List Node) (s : Source) (x : Emitter) (t : TermId) (e : Emitted) 
 
 -- ---- by contracts
 
-pub inst-no-memory : (ns : List Node) (o : Origin) (x : Emitter) (t : TermId) (ms : List Node) (y : Emitter) (r : Result Inst EmitFault) → IsErrAnd r (λ f. f ≡ fault.OutOfMemory) → GivesInstOr ns o x t ms y r
+pub inst-no-memory : (ns : List Node) (o : Origin) (x : Emitter) (t : TermId) (ms : List Node) (y : Emitter) (r : Result Inst EmitFault) → IsErrAnd r (λ f. f ≡ fault.OutOfMemory)
+    → GivesInstOr ns o x t ms y r
 inst-no-memory ns o x t ms y (Ok v) h = absurd h
 inst-no-memory ns o x t ms y (Err f) h = subst (MakesNot ns o x t) (sym h) tt
 
-pub inst-cause : (ns : List Node) (o : Origin) (x : Emitter) (t : TermId) (ms : List Node) (y : Emitter) (r : Result Inst EmitFault) (f : EmitFault) → IsErrAnd r (λ e. e ≡ f) → MakesNot ns o x t f → GivesInstOr ns o x t ms y r
+pub inst-cause : (ns : List Node) (o : Origin) (x : Emitter) (t : TermId) (ms : List Node) (y : Emitter) (r : Result Inst EmitFault) (f : EmitFault) → IsErrAnd r (λ e. e ≡ f) → MakesNot ns o x t f
+    → GivesInstOr ns o x t ms y r
 inst-cause ns o x t ms y (Ok v) f h g = absurd h
 inst-cause ns o x t ms y (Err e) f h g = subst (MakesNot ns o x t) (sym h) g
 
-pub gives-scalar : (ns : List Node) (o : Origin) (x : Emitter) (t : TermId) (v : Val) → tree_at (trees ns) t ≡ constant (datum_of v) → form_of (tree_at (trees ns) t) ≡ Scalar → GivesInstOr ns o x t ns x (Ok (inst.Const v))
+pub gives-scalar : (ns : List Node) (o : Origin) (x : Emitter) (t : TermId) (v : Val) → tree_at (trees ns) t ≡ constant (datum_of v) → form_of (tree_at (trees ns) t) ≡ Scalar
+    → GivesInstOr ns o x t ns x (Ok (inst.Const v))
 gives-scalar ns o x t v q h = (grows-same x.lines.names x.lines.names refl, λ s e src r. scalar-inst ns s x t e r v q h)
 
 pub can-probe : (ns : List Node) (o : Origin) (x : Emitter) (t : TermId) (p : Part) → CanMake ns o x t → IsProbed (tree_at (trees ns) t) p → CanTakePart ns o x p
@@ -209,7 +213,8 @@ can-probe ns o x t p c h = record {
   given = probe-reached c.source (tree_at (trees ns) t) p h c.is.given.parts;
 }
 
-pub gives-probe : (ns : List Node) (o : Origin) (x : Emitter) (t : TermId) (p : Part) (y : Emitter) (v : ValueId) (from : Typed) → IsProbed (tree_at (trees ns) t) p → TakesPartOr ns o x p y (Ok v) → from ≡ with_type (signal_type p.ty) v →
+pub gives-probe : (ns : List Node) (o : Origin) (x : Emitter) (t : TermId) (p : Part) (y : Emitter) (v : ValueId) (from : Typed) → IsProbed (tree_at (trees ns) t) p → TakesPartOr ns o x p y (Ok v)
+    → from ≡ with_type (signal_type p.ty) v →
     GivesInstOr ns o x t ns y (Ok (inst.Prb from))
 gives-probe ns o x t p y v from h k q = (
   k.0,
@@ -221,8 +226,10 @@ probe-not ns o x t p fault.OutOfMemory h g = tt
 probe-not ns o x t p fault.EntityTooLarge h g = λ s e src r.
     let tree = tree_at (trees ns) t in
     let far : max_lines < length (need_part s p e).lines = g s e src r.is (probe-reached s tree p h r.given.parts) in
-    let long : length (gives_term s tree (prb_text (signal (need_part s p e) p)) (need_part s p e)).lines ≡ length (need_part s p e).lines + 1 = gives-longer s tree (prb_text (signal (need_part s p e) p)) (need_part s p e) in
-    let same : length (makes s tree e).lines ≡ length (gives_term s tree (prb_text (signal (need_part s p e) p)) (need_part s p e)).lines = ap (λ (z : Emitted). length z.lines) (probe-makes s tree p e h) in
+    let long : length (gives_term s tree (prb_text (signal (need_part s p e) p)) (need_part s p e)).lines ≡ length (need_part s p e).lines
+    + 1 = gives-longer s tree (prb_text (signal (need_part s p e) p)) (need_part s p e) in
+    let same : length (makes s tree e).lines ≡ length (gives_term s tree (prb_text (signal (need_part s p e) p)) (need_part s p e)).lines =
+    ap (λ (z : Emitted). length z.lines) (probe-makes s tree p e h) in
     inr (omega (arith, far, long, same))
 
 pub have-made : (ns : List Node) (o : Origin) (x : Emitter) (t : TermId) (ms : List Node) (xs : List TermId) → CanMake ns o x t → Grows ns ms → OneId ms → AreMade ns ms t xs → HaveValues x.values xs
@@ -231,8 +238,10 @@ have-made ns o x t ms xs c g one m = made-values ns c.source x t c.emitted c.is 
 pub values-length : (vs : Values) (xs : List TermId) (given : List ValueId) → AreValues vs xs given → length given ≡ length xs
 values-length vs xs given a = sym (map_length {X = ValueId} {Y = Option ValueId} Some given) ∙ ap length a ∙ map_length (value_in vs) xs
 
-pub gives-joined : (ns : List Node) (o : Origin) (x : Emitter) (t : TermId) (op : Op) (ms : List Node) (xs : List TermId) (given : List ValueId) (d : TypeTree) (args : List Typed) → form_of (tree_at (trees ns) t) ≡ Joined op → IsIn ns t →
-    Grows ns ms → OneId ms → AreMade ns ms t xs → AreValues x.values xs given → d ≡ type_of (tree_at (trees ms) t) → args ≡ operands_of ms op xs d given → GivesInstOr ns o x t ms x (Ok (inst.Pure op args))
+pub gives-joined : (ns : List Node) (o : Origin) (x : Emitter) (t : TermId) (op : Op) (ms : List Node) (xs : List TermId) (given : List ValueId) (d : TypeTree) (args : List Typed)
+    → form_of (tree_at (trees ns) t) ≡ Joined op → IsIn ns t →
+    Grows ns ms → OneId ms → AreMade ns ms t xs → AreValues x.values xs given → d ≡ type_of (tree_at (trees ms) t) → args ≡ operands_of ms op xs d given
+    → GivesInstOr ns o x t ms x (Ok (inst.Pure op args))
 gives-joined ns o x t op ms xs given d args f h g one m a q z = (
   grows-same x.lines.names x.lines.names refl,
   λ s e src r. joined-inst ns s x t e r ms g one xs m op given d args f a (q ∙ ap type_of (tree_grown ns ms g t h)) z,
@@ -244,24 +253,29 @@ joined-not ns o x t fault.EntityTooLarge h = λ s e src r. inl (no-pair-fits (tr
 
 -- ---- the whole instruction
 
-pub make-no-memory : (ns : List Node) (o : Origin) (x : Emitter) (t : TermId) (ms : List Node) (y : Emitter) (r : Result (Unit {0}) EmitFault) → IsErrAnd r (λ f. f ≡ fault.OutOfMemory) → MakesOr ns o x t ms y r
+pub make-no-memory : (ns : List Node) (o : Origin) (x : Emitter) (t : TermId) (ms : List Node) (y : Emitter) (r : Result (Unit {0}) EmitFault) → IsErrAnd r (λ f. f ≡ fault.OutOfMemory)
+    → MakesOr ns o x t ms y r
 make-no-memory ns o x t ms y (Ok v) h = absurd h
 make-no-memory ns o x t ms y (Err f) h = subst (MakesNot ns o x t) (sym h) tt
 
-pub make-cause : (ns : List Node) (o : Origin) (x : Emitter) (t : TermId) (ms : List Node) (y : Emitter) (r : Result (Unit {0}) EmitFault) (f : EmitFault) → IsErrAnd r (λ e. e ≡ f) → MakesNot ns o x t f → MakesOr ns o x t ms y r
+pub make-cause : (ns : List Node) (o : Origin) (x : Emitter) (t : TermId) (ms : List Node) (y : Emitter) (r : Result (Unit {0}) EmitFault) (f : EmitFault) → IsErrAnd r (λ e. e ≡ f)
+    → MakesNot ns o x t f → MakesOr ns o x t ms y r
 make-cause ns o x t ms y (Ok v) f h g = absurd h
 make-cause ns o x t ms y (Err e) f h g = subst (MakesNot ns o x t) (sym h) g
 
-pub can-give : (ns : List Node) (o : Origin) (x : Emitter) (t : TermId) (ms : List Node) (y : Emitter) (i : Inst) → CanMake ns o x t → GivesInstOr ns o x t ms y (Ok i) → HasRoom y.lines × InstWithin (values_alone (length y.lines.names)) i
+pub can-give : (ns : List Node) (o : Origin) (x : Emitter) (t : TermId) (ms : List Node) (y : Emitter) (i : Inst) → CanMake ns o x t → GivesInstOr ns o x t ms y (Ok i) → HasRoom y.lines
+    × InstWithin (values_alone (length y.lines.names)) i
 can-give ns o x t ms y i c k = let m = k.1 c.source c.emitted c.origin c.is in (m.is.room, m.within)
 
-pub makes-inst : (ns : List Node) (o : Origin) (x : Emitter) (t : TermId) (ms : List Node) (y : Emitter) (i : Inst) (new : Lines) (v : ValueId) (vs : Values) → Grows ns ms → OneId ms → GivesInstOr ns o x t ms y (Ok i) → GivesValue y.lines i new v →
+pub makes-inst : (ns : List Node) (o : Origin) (x : Emitter) (t : TermId) (ms : List Node) (y : Emitter) (i : Inst) (new : Lines) (v : ValueId) (vs : Values) → Grows ns ms → OneId ms
+    → GivesInstOr ns o x t ms y (Ok i) → GivesValue y.lines i new v →
     Keeps y.values t v vs → MakesOr ns o x t ms record { lines = new; values = vs; parts = y.parts } (Ok tt)
 makes-inst ns o x t ms y i new v vs g one k h keeps = (
   grows-then x.lines.names y.lines.names new.names k.0 h.2,
   λ s e src r. inst-made ns s x t e r ms y i g one (k.1 s e src r) new v vs h keeps,
 )
 
-pub makes-not : (ns : List Node) (o : Origin) (x : Emitter) (t : TermId) (ms : List Node) (y : Emitter) (i : Inst) (f : EmitFault) → Grows ns ms → OneId ms → GivesInstOr ns o x t ms y (Ok i) → GivesFault y.lines f → MakesNot ns o x t f
+pub makes-not : (ns : List Node) (o : Origin) (x : Emitter) (t : TermId) (ms : List Node) (y : Emitter) (i : Inst) (f : EmitFault) → Grows ns ms → OneId ms → GivesInstOr ns o x t ms y (Ok i)
+    → GivesFault y.lines f → MakesNot ns o x t f
 makes-not ns o x t ms y i fault.OutOfMemory g one k h = tt
 makes-not ns o x t ms y i fault.EntityTooLarge g one k h = λ s e src r. inst-not ns s x t e r ms y i g one (k.1 s e src r) h

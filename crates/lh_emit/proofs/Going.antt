@@ -23,7 +23,7 @@ use Rattle.lh_emit.specs.Emitting.{IsEmitted}
 use Rattle.lh_emit.specs.Making.{AreMade, HasNoPair}
 use Rattle.lh_origin.specs.Origins.{IsSource}
 use Rattle.lh_emit.specs.Tasks.{made_of, makes, has_pair, Step, need_of, make_of, takes, HasName, AreReady, steps_size}
-use Rattle.lh_emit.specs.Underway.{step_of, steps_at, term_of, tops, IsTask, FitsTask, IsUnderway, CanGo, HasGone, Goes, IsTooMuch, GoesNot, IsReady, CanMake, IsMade, Makes, IsTooMuchToMake, MakesNot, GoesOr, MakesOr, HasTerm, CanTakeTerm, GivesNoTerm, TakesTermOr}
+use Rattle.lh_emit.specs.Underway.{step_of, steps_at, term_of, tops, IsTask, FitsTask, IsUnderway, CanGo, HasGone, Goes, IsTooMuch, GoesNot, IsReady, CanMake, IsMade, MakesTerm, IsTooMuchToMake, MakesNot, GoesOr, MakesOr, HasTerm, CanTakeTerm, GivesNoTerm, TakesTermOr}
 use Rattle.std.specs.Prelude.{Result, Ok, Err}
 use Rattle.std.specs.Result.{IsErrAnd}
 use Rattle.lh_emit.proofs.Operating.{have-value, value-named}
@@ -155,7 +155,8 @@ goes-there ns o x t rest h q s e src u = at (value_in x.values t) refl
     at None p = let z : is_some (value_in x.values t) ≡ false = ap is_some p in absurd cc
     at (Some v) p = gone-there ns s x t rest e u (value_text (naming x.lines.names) v) (u.is.terms.named t h ∙ ap (option_map (value_text (naming x.lines.names))) p)
 
-pub goes-open : (ns : List Node) (o : Origin) (x : Emitter) (t : TermId) (rest all : List Task) (ms : List Node) (xs : List TermId) → IsIn ns t → value_in x.values t ≡ None → Grows ns ms → OneId ms → AreMade ns ms t xs →
+pub goes-open : (ns : List Node) (o : Origin) (x : Emitter) (t : TermId) (rest all : List Task) (ms : List Node) (xs : List TermId) → IsIn ns t → value_in x.values t ≡ None → Grows ns ms → OneId ms
+    → AreMade ns ms t xs →
     all ≡ map Need xs ++ Make t ∷ rest → Goes ns o x (Need t ∷ rest) ms x all
 goes-open ns o x t rest all ms xs h q g one m a s e src u =
     subst (HasGone ns s (Need t ∷ rest) e ms x) (sym a)
@@ -165,7 +166,8 @@ pub goes-not-open : (ns : List Node) (o : Origin) (x : Emitter) (t : TermId) (re
 goes-not-open ns o x t rest fault.OutOfMemory h = tt
 goes-not-open ns o x t rest fault.EntityTooLarge h = λ s e src u. open-not ns s x t rest e u fault.EntityTooLarge h refl
 
-pub goes-make : (ns : List Node) (o : Origin) (x : Emitter) (t : TermId) (rest : List Task) (ms : List Node) (y : Emitter) → Grows ns ms → Makes ns o x t ms y → Goes ns o x (Make t ∷ rest) ms y rest
+pub goes-make : (ns : List Node) (o : Origin) (x : Emitter) (t : TermId) (rest : List Task) (ms : List Node) (y : Emitter) → Grows ns ms → MakesTerm ns o x t ms y
+    → Goes ns o x (Make t ∷ rest) ms y rest
 goes-make ns o x t rest ms y g k s e src u = gone-make ns s x t rest e u ms y g (k s e src (ready-make ns s x t rest e u))
 
 pub goes-not-make : (ns : List Node) (o : Origin) (x : Emitter) (t : TermId) (rest : List Task) (f : EmitFault) → MakesNot ns o x t f → GoesNot ns o x (Make t ∷ rest) f
@@ -183,24 +185,28 @@ make-in ns o x t rest c = c.is.given.0.is_in
 
 -- less is left
 
-pub less-make : (ns : List Node) (o : Origin) (x : Emitter) (t : TermId) (rest : List Task) (ms : List Node) → CanGo ns o x (Make t ∷ rest) → Grows ns ms → steps_size (steps_at ms rest) < steps_size (steps_at ns (Make t ∷ rest))
+pub less-make : (ns : List Node) (o : Origin) (x : Emitter) (t : TermId) (rest : List Task) (ms : List Node) → CanGo ns o x (Make t ∷ rest) → Grows ns ms
+    → steps_size (steps_at ms rest) < steps_size (steps_at ns (Make t ∷ rest))
 less-make ns o x t rest ms c g =
     subst (λ ys. steps_size ys < steps_size (steps_at ns (Make t ∷ rest))) (sym (steps-grown ns ms g c.source rest c.is.given.1)) (smaller-made (tree_at (trees ns) t) (steps_at ns rest))
 
 less-there : (ns : List Node) (t : TermId) (rest : List Task) → steps_size (steps_at ns rest) < steps_size (steps_at ns (Need t ∷ rest))
 less-there ns t rest = smaller-there (tree_at (trees ns) t) (steps_at ns rest)
 
-less-open : (ns : List Node) (o : Origin) (x : Emitter) (t : TermId) (rest all : List Task) (ms : List Node) (xs : List TermId) → CanGo ns o x (Need t ∷ rest) → Grows ns ms → AreMade ns ms t xs → all ≡ map Need xs ++ Make t ∷ rest →
+less-open : (ns : List Node) (o : Origin) (x : Emitter) (t : TermId) (rest all : List Task) (ms : List Node) (xs : List TermId) → CanGo ns o x (Need t ∷ rest) → Grows ns ms → AreMade ns ms t xs
+    → all ≡ map Need xs ++ Make t ∷ rest →
     steps_size (steps_at ms all) < steps_size (steps_at ns (Need t ∷ rest))
 less-open ns o x t rest all ms xs c g m e =
     subst (λ ys. steps_size ys < steps_size (steps_at ns (Need t ∷ rest))) (sym (ap (steps_at ms) e ∙ open-steps ns ms c.source t xs rest g m c.is.given.0.is_in c.is.given.1))
     (smaller-new (tree_at (trees ns) t) (steps_at ns rest))
 
 -- a term that has a value, and one that has none
-pub go-there : (ns : List Node) (o : Origin) (x : Emitter) (t : TermId) (rest : List Task) → CanGo ns o x (Need t ∷ rest) → is_some (value_in x.values t) ≡ true → GoesOr ns o x (Need t ∷ rest) ns x rest (Ok tt)
+pub go-there : (ns : List Node) (o : Origin) (x : Emitter) (t : TermId) (rest : List Task) → CanGo ns o x (Need t ∷ rest) → is_some (value_in x.values t) ≡ true
+    → GoesOr ns o x (Need t ∷ rest) ns x rest (Ok tt)
 go-there ns o x t rest c q = (grows-same x.lines.names x.lines.names refl, goes-there ns o x t rest c.is.given.0.is_in q, less-there ns t rest)
 
-pub go-open : (ns : List Node) (o : Origin) (x : Emitter) (t : TermId) (rest mid all : List Task) (ms : List Node) (xs : List TermId) → CanGo ns o x (Need t ∷ rest) → is_some (value_in x.values t) ≡ false → Grows ns ms → OneId ms →
+pub go-open : (ns : List Node) (o : Origin) (x : Emitter) (t : TermId) (rest mid all : List Task) (ms : List Node) (xs : List TermId) → CanGo ns o x (Need t ∷ rest)
+    → is_some (value_in x.values t) ≡ false → Grows ns ms → OneId ms →
     AreMade ns ms t xs → mid ≡ Make t ∷ rest → all ≡ map Need xs ++ mid → GoesOr ns o x (Need t ∷ rest) ms x all (Ok tt)
 go-open ns o x t rest mid all ms xs c q g one m e f =
     let a : all ≡ map Need xs ++ Make t ∷ rest = f ∙ ap (λ ys. map Need xs ++ ys) e in (
@@ -221,11 +227,13 @@ goes-then ns o x left ms y mid ls z rest f g s e src u =
     let b = g s a.emitted src a.is in
     record { emitted = b.emitted; is = b.is; same = b.same ∙ a.same; fit = λ h. b.fit (a.fit h) }
 
-too-much-then : (ns : List Node) (s : Source) (left : List Task) (e : Emitted) (ms : List Node) (y : Emitter) (mid : List Task) (a : HasGone ns s left e ms y mid) → IsTooMuch ms s mid a.emitted → IsTooMuch ns s left e
+too-much-then : (ns : List Node) (s : Source) (left : List Task) (e : Emitted) (ms : List Node) (y : Emitter) (mid : List Task) (a : HasGone ns s left e ms y mid) → IsTooMuch ms s mid a.emitted
+    → IsTooMuch ns s left e
 too-much-then ns s left e ms y mid a (inl h) = inl (λ k. h (a.fit k))
 too-much-then ns s left e ms y mid a (inr h) = inr (subst (λ (z : Emitted). max_lines < length z.lines) a.same h)
 
-pub goes-not-then : (ns : List Node) (o : Origin) (x : Emitter) (left : List Task) (ms : List Node) (y : Emitter) (mid : List Task) (f : EmitFault) → Goes ns o x left ms y mid → GoesNot ms o y mid f → GoesNot ns o x left f
+pub goes-not-then : (ns : List Node) (o : Origin) (x : Emitter) (left : List Task) (ms : List Node) (y : Emitter) (mid : List Task) (f : EmitFault) → Goes ns o x left ms y mid → GoesNot ms o y mid f
+    → GoesNot ns o x left f
 goes-not-then ns o x left ms y mid fault.OutOfMemory g n = tt
 goes-not-then ns o x left ms y mid fault.EntityTooLarge g n = λ s e src u. on s e (g s e src u) src
   where
@@ -237,16 +245,19 @@ can-go-on ns o x left ms y mid c g = let a = g c.source c.emitted c.origin c.is 
 
 -- ---- results
 
-pub go-no-memory : (ns : List Node) (o : Origin) (x : Emitter) (left : List Task) (ms : List Node) (y : Emitter) (rest : List Task) (r : Result (Unit {0}) EmitFault) → IsErrAnd r (λ f. f ≡ fault.OutOfMemory) → GoesOr ns o x left ms y rest r
+pub go-no-memory : (ns : List Node) (o : Origin) (x : Emitter) (left : List Task) (ms : List Node) (y : Emitter) (rest : List Task) (r : Result (Unit {0}) EmitFault)
+    → IsErrAnd r (λ f. f ≡ fault.OutOfMemory) → GoesOr ns o x left ms y rest r
 go-no-memory ns o x left ms y rest (Ok u) h = absurd h
 go-no-memory ns o x left ms y rest (Err f) h = subst (GoesNot ns o x left) (sym h) tt
 
-pub go-cause : (ns : List Node) (o : Origin) (x : Emitter) (left : List Task) (ms : List Node) (y : Emitter) (rest : List Task) (r : Result (Unit {0}) EmitFault) (f : EmitFault) → IsErrAnd r (λ e. e ≡ f) → GoesNot ns o x left f → GoesOr ns o x left ms y rest r
+pub go-cause : (ns : List Node) (o : Origin) (x : Emitter) (left : List Task) (ms : List Node) (y : Emitter) (rest : List Task) (r : Result (Unit {0}) EmitFault) (f : EmitFault)
+    → IsErrAnd r (λ e. e ≡ f) → GoesNot ns o x left f → GoesOr ns o x left ms y rest r
 go-cause ns o x left ms y rest (Ok u) f h g = absurd h
 go-cause ns o x left ms y rest (Err e) f h g = subst (GoesNot ns o x left) (sym h) g
 
 -- the step of an instruction
-pub go-make : (ns : List Node) (o : Origin) (x : Emitter) (t : TermId) (rest : List Task) (ms : List Node) (y : Emitter) (r : Result (Unit {0}) EmitFault) → CanGo ns o x (Make t ∷ rest) → Grows ns ms → MakesOr ns o x t ms y r →
+pub go-make : (ns : List Node) (o : Origin) (x : Emitter) (t : TermId) (rest : List Task) (ms : List Node) (y : Emitter) (r : Result (Unit {0}) EmitFault) → CanGo ns o x (Make t ∷ rest) → Grows ns ms
+    → MakesOr ns o x t ms y r →
     GoesOr ns o x (Make t ∷ rest) ms y rest r
 go-make ns o x t rest ms y (Ok u) c g k = (k.0, goes-make ns o x t rest ms y g k.1, less-make ns o x t rest ms c g)
 go-make ns o x t rest ms y (Err f) c g k = goes-not-make ns o x t rest f k
@@ -259,7 +270,8 @@ first-underway ns s x t e w h g = record { is = w; ready = tt; given = (record {
 pub can-go-first : (ns : List Node) (o : Origin) (x : Emitter) (t : TermId) → CanTakeTerm ns o x t → CanGo ns o x (Need t ∷ [])
 can-go-first ns o x t c = record { source = c.source; emitted = c.emitted; origin = c.origin; is = first-underway ns c.source x t c.emitted c.is c.within c.given }
 
-pub takes-term : (ns : List Node) (o : Origin) (x : Emitter) (t : TermId) (ms : List Node) (y : Emitter) (v : ValueId) → IsIn ns t → Grows ns ms → NamesGrow x.lines.names y.lines.names → Goes ns o x (Need t ∷ []) ms y [] → Some v ≡ value_in y.values t →
+pub takes-term : (ns : List Node) (o : Origin) (x : Emitter) (t : TermId) (ms : List Node) (y : Emitter) (v : ValueId) → IsIn ns t → Grows ns ms → NamesGrow x.lines.names y.lines.names
+    → Goes ns o x (Need t ∷ []) ms y [] → Some v ≡ value_in y.values t →
     TakesTermOr ns o x t ms y (Ok v)
 takes-term ns o x t ms y v h g names k q = (names, λ s e src w given. on s e src w given (k s e src (first-underway ns s x t e w h given)))
   where
@@ -288,16 +300,19 @@ no-term ns o x t fault.EntityTooLarge h k = λ s e src w given. on s e (k s e sr
     on s e (inr far) = inr far
     on s e (inl out) = inl (false-of (choices_fit (tree_at (trees ns) t)) (λ p. out (p, tt)))
 
-pub term-no-memory : (ns : List Node) (o : Origin) (x : Emitter) (t : TermId) (ms : List Node) (y : Emitter) (r : Result ValueId EmitFault) → IsErrAnd r (λ f. f ≡ fault.OutOfMemory) → TakesTermOr ns o x t ms y r
+pub term-no-memory : (ns : List Node) (o : Origin) (x : Emitter) (t : TermId) (ms : List Node) (y : Emitter) (r : Result ValueId EmitFault) → IsErrAnd r (λ f. f ≡ fault.OutOfMemory)
+    → TakesTermOr ns o x t ms y r
 term-no-memory ns o x t ms y (Ok v) h = absurd h
 term-no-memory ns o x t ms y (Err f) h = subst (GivesNoTerm ns o x t) (sym h) tt
 
-pub term-cause : (ns : List Node) (o : Origin) (x : Emitter) (t : TermId) (ms : List Node) (y : Emitter) (r : Result ValueId EmitFault) (f : EmitFault) → IsErrAnd r (λ e. e ≡ f) → GivesNoTerm ns o x t f → TakesTermOr ns o x t ms y r
+pub term-cause : (ns : List Node) (o : Origin) (x : Emitter) (t : TermId) (ms : List Node) (y : Emitter) (r : Result ValueId EmitFault) (f : EmitFault) → IsErrAnd r (λ e. e ≡ f)
+    → GivesNoTerm ns o x t f → TakesTermOr ns o x t ms y r
 term-cause ns o x t ms y (Ok v) f h g = absurd h
 term-cause ns o x t ms y (Err e) f h g = subst (GivesNoTerm ns o x t) (sym h) g
 
 -- the term has a value in the end
-pub term-valued : (ns : List Node) (o : Origin) (x : Emitter) (t : TermId) (ms : List Node) (y : Emitter) → CanTakeTerm ns o x t → Grows ns ms → Goes ns o x (Need t ∷ []) ms y [] → is_some (value_in y.values t) ≡ true
+pub term-valued : (ns : List Node) (o : Origin) (x : Emitter) (t : TermId) (ms : List Node) (y : Emitter) → CanTakeTerm ns o x t → Grows ns ms → Goes ns o x (Need t ∷ []) ms y []
+    → is_some (value_in y.values t) ≡ true
 term-valued ns o x t ms y c g k =
     let s = c.source in
     let tree = tree_at (trees ns) t in
@@ -321,7 +336,8 @@ gone-first ns o x t tasks e = record {
   goes = subst (Goes ns o x (Need t ∷ []) ns x) (sym e) (goes-same ns o x (Need t ∷ []));
 }
 
-module _ (ns : List Node) (o : Origin) (x : Emitter) (t : TermId) (ms : List Node) (y : Emitter) (tasks left : List Task) (k : Task) (e : tasks ≡ left ++ k ∷ []) (w : GoneSoFar ns o x t ms y tasks) where
+module _ (ns : List Node) (o : Origin) (x : Emitter) (t : TermId) (ms : List Node) (y : Emitter) (tasks left : List Task) (k : Task) (e : tasks ≡ left ++ k ∷ [])
+    (w : GoneSoFar ns o x t ms y tasks) where
   popped : Goes ns o x (Need t ∷ []) ms y (k ∷ tops left)
   popped = subst (Goes ns o x (Need t ∷ []) ms y) (pushed tasks left k e) w.goes
 
@@ -338,8 +354,10 @@ module _ (ns : List Node) (o : Origin) (x : Emitter) (t : TermId) (ms : List Nod
   pub step-cause : (f : EmitFault) → IsIn ns t → GoesNot ms o y (k ∷ tops left) f → GivesNoTerm ns o x t f
   step-cause f h g = no-term ns o x t f h (goes-not-then ns o x (Need t ∷ []) ms y (k ∷ tops left) f popped g)
 
-  pub less-left : (ls : List Node) (z : Emitter) (more : List Task) → GoesOr ms o y (k ∷ tops left) ls z (tops more) (Ok tt) → steps_size (steps_at ls (tops more)) < steps_size (steps_at ms (tops tasks))
+  pub less-left : (ls : List Node) (z : Emitter) (more : List Task) → GoesOr ms o y (k ∷ tops left) ls z (tops more) (Ok tt)
+      → steps_size (steps_at ls (tops more)) < steps_size (steps_at ms (tops tasks))
   less-left ls z more h = subst (λ ys. steps_size (steps_at ls (tops more)) < steps_size (steps_at ms ys)) (sym (pushed tasks left k e)) h.2
 
-pub nothing-left : (ns : List Node) (o : Origin) (x : Emitter) (t : TermId) (ms : List Node) (y : Emitter) (tasks : List Task) → tasks ≡ [] → GoneSoFar ns o x t ms y tasks → Goes ns o x (Need t ∷ []) ms y []
+pub nothing-left : (ns : List Node) (o : Origin) (x : Emitter) (t : TermId) (ms : List Node) (y : Emitter) (tasks : List Task) → tasks ≡ [] → GoneSoFar ns o x t ms y tasks
+    → Goes ns o x (Need t ∷ []) ms y []
 nothing-left ns o x t ms y tasks e w = subst (λ ys. Goes ns o x (Need t ∷ []) ms y (tops ys)) e w.goes

@@ -7,7 +7,7 @@ use Rattle.std.proofs.Math.ListN.{get_or-append}
 use Rattle.lh_unit.specs.Naming.{value_text}
 use Rattle.lh_unit.specs.declared.inst.ValueId.{ValueId}
 use Rattle.lh_term.specs.Tree.{Tree}
-use Rattle.lh_term.specs.Arena.{tree_at, trees, IsIn, Stands, OneId, Grows}
+use Rattle.lh_term.specs.Arena.{tree_at, trees, IsIn, StandsForTree, OneId, Grows}
 use Rattle.lh_term.proofs.Swaps.{tree_grown, in_grown}
 use Rattle.lh_term.specs.Same.{nat_eq-is, nat_eq-refl}
 use Rattle.lh_term.specs.SameTree.{same_tree, same_tree-is, same_tree-refl}
@@ -15,7 +15,7 @@ use Rattle.lh_term.specs.declared.term.TermId.{TermId}
 use Rattle.lh_term.specs.declared.term.Node.{Node}
 use Rattle.lh_emission.specs.Emitted.{Emitted, with_term}
 use Rattle.lh_body.specs.Lines.{naming}
-use Rattle.lh_emit.specs.Values.{value_in, Keeps, Knows}
+use Rattle.lh_emit.specs.Values.{value_in, Keeps, ValuesNameTerms}
 use Rattle.lh_emit.specs.declared.values.Values.{Values}
 
 -- the names of values stay as they were where names are added
@@ -29,8 +29,8 @@ not-below a k b i = let q : nat_lt a k ≡ true = of_lt a k i in absurd cc
 
 module _ (ns : List Node) (names more : List (List ℕ)) (old new : Values) (e : Emitted) (t : TermId) (v : ValueId) where
   -- the value of one more term
-  pub knows-kept : OneId ns → IsIn ns t → Knows ns names old e → v.0 < length (names ++ more) → Keeps old t v new → (terms : Tree → Option (List ℕ)) →
-      terms ≡ with_term e.terms (tree_at (trees ns) t) (value_text (naming (names ++ more)) v) → Knows ns (names ++ more) new record e { terms = terms }
+  pub knows-kept : OneId ns → IsIn ns t → ValuesNameTerms ns names old e → v.0 < length (names ++ more) → Keeps old t v new → (terms : Tree → Option (List ℕ)) →
+      terms ≡ with_term e.terms (tree_at (trees ns) t) (value_text (naming (names ++ more)) v) → ValuesNameTerms ns (names ++ more) new record e { terms = terms }
   knows-kept one is_in k w keeps terms q = record {
     named = λ x h. ap (λ f. f (tree_at (trees ns) x)) q ∙ named x h (nat_eq x.0 t.0) refl ∙ ap (option_map (value_text (naming (names ++ more)))) (sym (keeps x));
     within = λ x u h. within x u (nat_eq x.0 t.0) (sym (keeps x) ∙ h);
@@ -65,12 +65,12 @@ module _ (ns : List Node) (names more : List (List ℕ)) (old new : Values) (e :
       held x u true p h = let d : x.0 ≡ t.0 = nat_eq-is x.0 t.0 p in omega (arith, d, is_in)
       held x u false p h = k.held x u h
 
-      among : (y : Tree) (n : List ℕ) (b : Bool) → same_tree (tree_at (trees ns) t) y ≡ b → (if b then Some n2 else e.terms y) ≡ Some n → (x : TermId) × Stands ns x y
+      among : (y : Tree) (n : List ℕ) (b : Bool) → same_tree (tree_at (trees ns) t) y ≡ b → (if b then Some n2 else e.terms y) ≡ Some n → (x : TermId) × StandsForTree ns x y
       among y n true g h = (t, record { is_in = is_in; tree = same_tree-is (tree_at (trees ns) t) y g })
       among y n false g h = k.among y n h
 
 -- more names, and another entity with the same terms
-pub knows-more : (ns : List Node) (names more : List (List ℕ)) (vs : Values) (e x : Emitted) → Knows ns names vs e → x.terms ≡ e.terms → Knows ns (names ++ more) vs x
+pub knows-more : (ns : List Node) (names more : List (List ℕ)) (vs : Values) (e x : Emitted) → ValuesNameTerms ns names vs e → x.terms ≡ e.terms → ValuesNameTerms ns (names ++ more) vs x
 knows-more ns names more vs e x k q = record {
   named = λ y h. ap (λ f. f (tree_at (trees ns) y)) q ∙ k.named y h ∙ sym (text-more names more (value_in vs y) (k.within y));
   within = λ y v h. let d : v.0 < length names = k.within y v h in omega (arith, d, length-append names more);
@@ -79,7 +79,7 @@ knows-more ns names more vs e x k q = record {
 }
 
 -- no term has a value
-pub knows-none : (ns : List Node) (names : List (List ℕ)) (vs : Values) (e : Emitted) → ((x : TermId) → value_in vs x ≡ None) → ((t : Tree) → e.terms t ≡ None) → Knows ns names vs e
+pub knows-none : (ns : List Node) (names : List (List ℕ)) (vs : Values) (e : Emitted) → ((x : TermId) → value_in vs x ≡ None) → ((t : Tree) → e.terms t ≡ None) → ValuesNameTerms ns names vs e
 knows-none ns names vs e none empty = record {
   named = λ x h. empty (tree_at (trees ns) x) ∙ sym (ap (option_map (value_text (naming names))) (none x));
   within = λ x v h. let z = none x in absurd cc;
@@ -89,7 +89,7 @@ knows-none ns names vs e none empty = record {
 
 -- terms that are added have no value
 module _ (ns ms : List Node) (g : Grows ns ms) (one : OneId ms) (names : List (List ℕ)) (vs : Values) (e : Emitted) where
-  pub knows-grown : Knows ns names vs e → Knows ms names vs e
+  pub knows-grown : ValuesNameTerms ns names vs e → ValuesNameTerms ms names vs e
   knows-grown k = record {
     named = λ x h. at x h (nat_lt x.0 (length ns)) refl;
     within = k.within;
@@ -97,7 +97,8 @@ module _ (ns ms : List Node) (g : Grows ns ms) (one : OneId ms) (names : List (L
     among = λ t n h. let (x, w) = k.among t n h in (x, record { is_in = in_grown ns ms g x w.is_in; tree = tree_grown ns ms g x w.is_in ∙ w.tree });
   }
     where
-      new : (x : TermId) → IsIn ms x → (IsIn ns x → ⊥) → (o : Option (List ℕ)) → e.terms (tree_at (trees ms) x) ≡ o → (w : Option ValueId) → value_in vs x ≡ w → o ≡ option_map (value_text (naming names)) w
+      new : (x : TermId) → IsIn ms x → (IsIn ns x → ⊥) → (o : Option (List ℕ)) → e.terms (tree_at (trees ms) x) ≡ o → (w : Option ValueId) → value_in vs x ≡ w
+          → o ≡ option_map (value_text (naming names)) w
       new x h out o p (Some v) q = absurd (out (k.held x v q))
       new x h out None p None q = refl
       new x h out (Some n) p None q =

@@ -25,7 +25,7 @@ use Rattle.lh_body.specs.Lines.{naming, values_alone}
 use Rattle.lh_emit.specs.Operands.{with_type, without_type, first_with_type}
 use Rattle.lh_emit.specs.Operations.{HaveValues, AreValues, each_with_type, operands_of}
 use Rattle.lh_emit.specs.Tasks.{HasName}
-use Rattle.lh_emit.specs.Values.{value_in, Knows}
+use Rattle.lh_emit.specs.Values.{value_in, ValuesNameTerms}
 use Rattle.lh_emit.specs.declared.values.Values.{Values}
 
 -- ---- one operand after the other
@@ -68,7 +68,8 @@ each-end ns (x ∷ xs) [] (suc k) h = none (drop k xs)
     none (y ∷ ys) = refl
 each-end ns (x ∷ xs) (v ∷ vs) (suc k) h = each-end ns xs vs k (omega (arith, h))
 
-pub each-all : (ns : List Node) (xs : List TermId) (vs : List ValueId) (k : ℕ) (all : List Typed) → length vs ≤ k → all ++ each_with_type ns (drop k xs) (drop k vs) ≡ each_with_type ns xs vs → all ≡ each_with_type ns xs vs
+pub each-all : (ns : List Node) (xs : List TermId) (vs : List ValueId) (k : ℕ) (all : List Typed) → length vs ≤ k → all ++ each_with_type ns (drop k xs) (drop k vs) ≡ each_with_type ns xs vs
+    → all ≡ each_with_type ns xs vs
 each-all ns xs vs k all l h = sym (append-nil all) ∙ ap (λ ts. all ++ ts) (sym (each-end ns xs vs k l)) ∙ h
 
 -- ---- values of terms
@@ -107,7 +108,7 @@ pub no-operands : (xs : List TermId) (vs : List ValueId) (d : TypeTree) → leng
 no-operands xs [] d e l = refl
 no-operands xs (v ∷ vs) d e l = absurd (omega (arith, e, l))
 
-module _ (ns : List Node) (names : List (List ℕ)) (vs : Values) (e : Emitted) (k : Knows ns names vs e) where
+module _ (ns : List Node) (names : List (List ℕ)) (vs : Values) (e : Emitted) (k : ValuesNameTerms ns names vs e) where
   -- terms that were emitted have values
   pub have-value : (x : TermId) → IsIn ns x → HasName e (tree_at (trees ns) x) → is_some (value_in vs x) ≡ true
   have-value x h (n, q) = at (value_in vs x) refl
@@ -165,7 +166,8 @@ module _ (f : Naming) (e : Emitted) where
       let m = bare-text vs ts r in
       λ i. record { value = p i; ty = Some d } ∷ m i
 
-  each-text : (ns : List Node) (xs : List TermId) (vs : List ValueId) → map (value_text f) vs ≡ map (term_name e) (trees_at ns xs) → map (operand_text f) (each_with_type ns xs vs) ≡ each_typed e (trees_at ns xs)
+  each-text : (ns : List Node) (xs : List TermId) (vs : List ValueId) → map (value_text f) vs ≡ map (term_name e) (trees_at ns xs)
+      → map (operand_text f) (each_with_type ns xs vs) ≡ each_typed e (trees_at ns xs)
   each-text ns [] vs q = refl
   each-text ns (x ∷ xs) [] q = absurd cc
   each-text ns (x ∷ xs) (v ∷ vs) q =
@@ -201,7 +203,8 @@ each-within n ns [] vs h = tt
 each-within n ns (x ∷ xs) [] h = tt
 each-within n ns (x ∷ xs) (v ∷ vs) h = (h.0, each-within n ns xs vs h.1)
 
-pub operands-within : (n : ℕ) (ns : List Node) (op : Op) (xs : List TermId) (d : TypeTree) (vs : List ValueId) → Each (λ (v : ValueId). v.0 < n) vs → Each (OperandWithin (values_alone n)) (operands_of ns op xs d vs)
+pub operands-within : (n : ℕ) (ns : List Node) (op : Op) (xs : List TermId) (d : TypeTree) (vs : List ValueId) → Each (λ (v : ValueId). v.0 < n) vs
+    → Each (OperandWithin (values_alone n)) (operands_of ns op xs d vs)
 operands-within n ns op xs d vs h = at (writes_each op)
   where
     at : (a : Bool) → Each (OperandWithin (values_alone n)) (if a then each_with_type ns xs vs else first_with_type (if writes_result op then d else first_of (types_of_all (trees_at ns xs))) vs)

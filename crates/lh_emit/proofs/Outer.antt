@@ -6,7 +6,7 @@ use Rattle.lh_unit.specs.Naming.{Naming, value_text}
 use Rattle.lh_unit.specs.declared.name.UnitName.{UnitName}
 use Rattle.lh_unit.specs.declared.inst.ValueId.{ValueId}
 use Rattle.lh_term.specs.Tree.{Tree, now_of}
-use Rattle.lh_term.specs.Arena.{trees, tree_at, IsIn, OneId, Grows, Stands}
+use Rattle.lh_term.specs.Arena.{trees, tree_at, IsIn, OneId, Grows, StandsForTree}
 use Rattle.lh_term.specs.declared.part.Part.{Part}
 use Rattle.lh_term.specs.declared.term.TermId.{TermId}
 use Rattle.lh_term.specs.declared.term.Node.{Node}
@@ -30,12 +30,15 @@ use Rattle.lh_emit.proofs.Sourcing.{source-of}
 pub can-term : (ns : List Node) (o : Origin) (x : Emitter) (t : TermId) → CanNeed ns o x t → CanTakeTerm ns o x t
 can-term ns o x t c = record { source = source_by c.name c.naming o.flat.now; emitted = c.emitted; origin = source-of o c.name c.naming c.origin; is = c.is; within = c.within; given = c.given }
 
-pub term-grows : (ns : List Node) (o : Origin) (x : Emitter) (t : TermId) (ms : List Node) (y : Emitter) (r : Result ValueId EmitFault) → TakesTermOr ns o x t ms y r → OnOk r (NamesGrow x.lines.names y.lines.names)
+pub term-grows : (ns : List Node) (o : Origin) (x : Emitter) (t : TermId) (ms : List Node) (y : Emitter) (r : Result ValueId EmitFault) → TakesTermOr ns o x t ms y r
+    → OnOk r (NamesGrow x.lines.names y.lines.names)
 term-grows ns o x t ms y (Ok v) h = h.0
 term-grows ns o x t ms y (Err f) h = tt
 
-pub term-needed : (ns : List Node) (o : Origin) (x : Emitter) (t : TermId) (ms : List Node) (y : Emitter) (r : Result ValueId EmitFault) → TakesTermOr ns o x t ms y r → IfOk r (λ v. NeedsTerm ns o x t ms y v)
-term-needed ns o x t ms y (Ok v) h = λ name f e origin w given. let k = h.1 (source_by name f o.flat.now) e (source-of o name f origin) w given in record { is = k.is; name = k.name; within = k.within; fits = k.fits }
+pub term-needed : (ns : List Node) (o : Origin) (x : Emitter) (t : TermId) (ms : List Node) (y : Emitter) (r : Result ValueId EmitFault) → TakesTermOr ns o x t ms y r
+    → IfOk r (λ v. NeedsTerm ns o x t ms y v)
+term-needed ns o x t ms y (Ok v) h = λ name f e origin w given. let k = h.1 (source_by name f o.flat.now) e (source-of o name f origin) w given in
+    record { is = k.is; name = k.name; within = k.within; fits = k.fits }
 term-needed ns o x t ms y (Err f) h = tt
 
 pub term-not : (ns : List Node) (o : Origin) (x : Emitter) (t : TermId) (ms : List Node) (y : Emitter) (r : Result ValueId EmitFault) → TakesTermOr ns o x t ms y r → IfErr r (NeedsNot ns o x t)
@@ -66,7 +69,7 @@ part-not ns o x p y (Err fault.EntityTooLarge) h = λ name f e origin w given. h
 now-given : (s : Source) (p : Part) → WaitIsGiven s p → IsGiven s (now_of p)
 now-given s p w = record { typed = w.is_data; parts = w.part }
 
-module _ (ns ms : List Node) (o : Origin) (x : Emitter) (p : Part) (t : TermId) (g : Grows ns ms) (one : OneId ms) (st : Stands ms t (now_of p)) where
+module _ (ns ms : List Node) (o : Origin) (x : Emitter) (p : Part) (t : TermId) (g : Grows ns ms) (one : OneId ms) (st : StandsForTree ms t (now_of p)) where
   pub can-now : CanProbe ns o x p → CanNeed ms o x t
   can-now c = record {
     name = c.name;

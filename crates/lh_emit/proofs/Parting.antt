@@ -21,7 +21,7 @@ use Rattle.lh_term.specs.declared.term.Node.{Node}
 use Rattle.lh_emission.specs.Emitted.{PartStep, Source, Emitted, whole_name, name_if_whole, arg_name, with_part, takes_steps, unless_there, need_part, part_name}
 use Rattle.lh_emission.specs.Entities.{max_lines, choices_fit}
 use Rattle.lh_emission.specs.Ways.{part_by, part_by_step, StepsLead, whole, IsReached}
-use Rattle.lh_body.specs.Lines.{naming, most_lines, Says, HasRoom, NamesGrow}
+use Rattle.lh_body.specs.Lines.{naming, most_lines, LinesAreEmitted, HasRoom, NamesGrow}
 use Rattle.lh_emit.specs.Emitting.{ArgumentsFirst, IsEmitted}
 use Rattle.lh_origin.specs.Origins.{AreStepsOf, step_text, route_text, args_of, IsSource}
 use Rattle.lh_emit.specs.Parts.{part_in, KeepsPart, KnowsParts}
@@ -31,7 +31,7 @@ use Rattle.std.specs.Result.{IsErrAnd}
 use Rattle.lh_body.specs.declared.lines.EmitFault.{EmitFault}
 use Rattle.lh_emit.specs.Underway.{TakesPart, CanTakePart, GivesNoPart, TakesPartOr, Looks, IsNewPart}
 use Rattle.lh_emit.specs.Whole.{is_whole}
-use Rattle.lh_emit.specs.Values.{Knows}
+use Rattle.lh_emit.specs.Values.{ValuesNameTerms}
 use Rattle.lh_emit.specs.declared.emitter.Emitter.{Emitter}
 use Rattle.lh_body.specs.declared.lines.EmitFault.TheVariants as fault
 use Rattle.lh_body.specs.declared.lines.Lines.{Lines}
@@ -50,7 +50,8 @@ get-within (y ∷ xs) zero x h = omega arith
 get-within (y ∷ xs) (suc k) x h = omega (arith, get-within xs k x h)
 
 -- the items at one place of lists that agree
-same-type : (xs : List Arg) (ys : List ArgText) (k : ℕ) (y : ArgText) (d : Arg) → map (λ (a : Arg). a.ty) xs ≡ map (λ (a : ArgText). a.ty) ys → slice_get ys k ≡ Some y → (k < length xs) × ((get_or xs k d).ty ≡ y.ty)
+same-type : (xs : List Arg) (ys : List ArgText) (k : ℕ) (y : ArgText) (d : Arg) → map (λ (a : Arg). a.ty) xs ≡ map (λ (a : ArgText). a.ty) ys → slice_get ys k ≡ Some y → (k < length xs)
+    × ((get_or xs k d).ty ≡ y.ty)
 same-type [] [] k y d e h = absurd cc
 same-type [] (z ∷ ys) k y d e h = absurd cc
 same-type (x ∷ xs) [] k y d e h = absurd cc
@@ -153,13 +154,15 @@ module _ (o : Origin) (s : Source) (src : IsSource o s) (p : Part) (r : IsReache
         WalksNot route x.lines record { 0 = p.arg } fault.EntityTooLarge → max_lines < length (need_part s p e).lines
     unfolding most_lines
     steps-fault b route q t h a f =
-        let same : length (need_part s p e).lines ≡ length (walk s (value_text (naming x.lines.names) record { 0 = p.arg }) (s.steps p) e).lines = ap (λ (z : Emitted). length z.lines) (need-new b q t h) in
+        let same : length (need_part s p e).lines ≡ length (walk s (value_text (naming x.lines.names) record { 0 = p.arg }) (s.steps p) e).lines =
+        ap (λ (z : Emitted). length z.lines) (need-new b q t h) in
         let far : 65536 < length (walk s (value_text (naming x.lines.names) record { 0 = p.arg }) (s.steps p) e).lines = f s e (s.steps p) w.says a in
         omega (arith, same, far)
 
     -- ---- a part that is new
 
-    module _ (b : Bool) (route : List RouteStep) (new : Lines) (v : ValueId) (ps : Parts) (q : b ≡ is_whole p (get_or (args_of o) p.arg d).ty) (t : b ≡ false) (h : part_in x.parts p ≡ None) (a : AreStepsOf (s.steps p) route)
+    module _ (b : Bool) (route : List RouteStep) (new : Lines) (v : ValueId) (ps : Parts) (q : b ≡ is_whole p (get_or (args_of o) p.arg d).ty) (t : b ≡ false) (h : part_in x.parts p ≡ None)
+        (a : AreStepsOf (s.steps p) route)
         (k : Walks route x.lines record { 0 = p.arg } new v []) (keeps : KeepsPart x.parts p v ps) where
       abbrev from : List ℕ
       from = value_text (naming x.lines.names) record { 0 = p.arg }
@@ -170,7 +173,8 @@ module _ (o : Origin) (s : Source) (src : IsSource o s) (p : Part) (r : IsReache
       still : StillWalks s from (s.steps p) e new v []
       still = k.walks s e (s.steps p) w.says a
 
-      no-rest : (xs : List PartStep) (z : Emitted) → AreStepsOf xs [] → (walk s (value_text (naming new.names) v) xs z ≡ z) × (walk_name s (value_text (naming new.names) v) xs z ≡ value_text (naming new.names) v)
+      no-rest : (xs : List PartStep) (z : Emitted) → AreStepsOf xs [] → (walk s (value_text (naming new.names) v) xs z ≡ z)
+          × (walk_name s (value_text (naming new.names) v) xs z ≡ value_text (naming new.names) v)
       no-rest [] z g = (refl, refl)
       no-rest (y ∷ xs) z g = absurd cc
 
@@ -183,9 +187,9 @@ module _ (o : Origin) (s : Source) (src : IsSource o s) (p : Part) (r : IsReache
       abbrev after : Emitted
       after = record end { parts = with_part e.parts p (walk_name s from (s.steps p) e) }
 
-      says : Says s.args new after
+      says : LinesAreEmitted s.args new after
       says =
-          let y : Says s.args new end = subst (Says s.args new) entity-is still.says in
+          let y : LinesAreEmitted s.args new end = subst (LinesAreEmitted s.args new) entity-is still.says in
           record { fresh = y.fresh; next = y.next; lines = y.lines; names = y.names }
 
       more-names : (names : List (List ℕ)) → (y : Option ValueId) → ((u : ValueId) → y ≡ Some u → u.0 < length x.lines.names) → (m : List (List ℕ)) → names ≡ x.lines.names ++ m →
@@ -224,7 +228,8 @@ module _ (o : Origin) (s : Source) (src : IsSource o s) (p : Part) (r : IsReache
         room = k.room;
         says = says;
         arguments = args-first;
-        terms = subst (λ (names : List (List ℕ)). Knows ns names x.values after) (sym k.grows.1) (knows-more ns x.lines.names k.grows.0 x.values e after w.terms (walk-terms s from (s.steps p) e));
+        terms = subst (λ (names : List (List ℕ)). ValuesNameTerms ns names x.values after) (sym k.grows.1)
+            (knows-more ns x.lines.names k.grows.0 x.values e after w.terms (walk-terms s from (s.steps p) e));
         parts = record {
           named = λ z. parts-named z (same_part p z) refl ∙ ap (λ y. or_else (whole_name s.args z) (option_map (value_text (naming new.names)) y)) (sym (keeps z));
           within = λ z u g. part-within z u (same_part p z) (sym (keeps z) ∙ g);
@@ -261,7 +266,8 @@ takes-whole ns o x p args b e k t = (
   λ s em src w r. let l = subst (λ xs. Looks xs p b) e k in whole-taken o s src p r l.arg ns x em w b l.whole t,
 )
 
-pub takes-known : (ns : List Node) (o : Origin) (x : Emitter) (p : Part) (args : List Arg) (b : Bool) (v : ValueId) → args ≡ args_of o → Looks args p b → b ≡ false → part_in x.parts p ≡ Some v → TakesPartOr ns o x p x (Ok v)
+pub takes-known : (ns : List Node) (o : Origin) (x : Emitter) (p : Part) (args : List Arg) (b : Bool) (v : ValueId) → args ≡ args_of o → Looks args p b → b ≡ false → part_in x.parts p ≡ Some v
+    → TakesPartOr ns o x p x (Ok v)
 takes-known ns o x p args b v e k t h = (
   grows-same x.lines.names x.lines.names refl,
   λ s em src w r. let l = subst (λ xs. Looks xs p b) e k in known-taken o s src p r l.arg ns x em w b v l.whole t h,
@@ -270,7 +276,8 @@ takes-known ns o x p args b v e k t h = (
 pub new-part : (o : Origin) (x : Emitter) (p : Part) (args : List Arg) (b : Bool) → args ≡ args_of o → Looks args p b → b ≡ false → part_in x.parts p ≡ None → IsNewPart o x p
 new-part o x p args b e k t h = record { looks = subst (Looks (args_of o) p) t (subst (λ xs. Looks xs p b) e k); none = h }
 
-pub new-types : (ns : List Node) (o : Origin) (x : Emitter) (p : Part) (route : List RouteStep) → CanTakePart ns o x p → IsNewPart o x p → ((s : Source) → IsSource o s → AreStepsOf (s.steps p) route) → AllData route
+pub new-types : (ns : List Node) (o : Origin) (x : Emitter) (p : Part) (route : List RouteStep) → CanTakePart ns o x p → IsNewPart o x p → ((s : Source) → IsSource o s → AreStepsOf (s.steps p) route)
+    → AllData route
 new-types ns o x p route c k a = route-types o c.source c.origin p c.given k.looks.arg route k.looks.limited (a c.source c.origin)
 
 pub new-from : (ns : List Node) (o : Origin) (x : Emitter) (p : Part) → CanTakePart ns o x p → p.arg < length x.lines.names
@@ -279,7 +286,8 @@ new-from ns o x p c = from-within o c.source c.origin p c.given d ns x c.emitted
     d : Arg
     d = record { value = record { 0 = 0 }; ty = int_type 1; output = false }
 
-pub takes-new : (ns : List Node) (o : Origin) (x : Emitter) (p : Part) (route : List RouteStep) (new : Lines) (v : ValueId) (ps : Parts) → IsNewPart o x p → ((s : Source) → IsSource o s → AreStepsOf (s.steps p) route) →
+pub takes-new : (ns : List Node) (o : Origin) (x : Emitter) (p : Part) (route : List RouteStep) (new : Lines) (v : ValueId) (ps : Parts) → IsNewPart o x p
+    → ((s : Source) → IsSource o s → AreStepsOf (s.steps p) route) →
     Walks route x.lines record { 0 = p.arg } new v [] → KeepsPart x.parts p v ps → TakesPartOr ns o x p record { lines = new; values = x.values; parts = ps } (Ok v)
 takes-new ns o x p route new v ps k a w keeps = (
   w.grows,
@@ -291,6 +299,7 @@ pub takes-not : (ns : List Node) (o : Origin) (x : Emitter) (p : Part) (route : 
 takes-not ns o x p route fault.OutOfMemory k a w = tt
 takes-not ns o x p route fault.EntityTooLarge k a w = λ s em src i r. steps-fault o s src p r k.looks.arg ns x em i false route k.looks.whole refl k.none (a s src) w
 
-pub part-cause : (ns : List Node) (o : Origin) (x : Emitter) (p : Part) (y : Emitter) (r : Result ValueId EmitFault) (f : EmitFault) → IsErrAnd r (λ e. e ≡ f) → GivesNoPart ns o x p f → TakesPartOr ns o x p y r
+pub part-cause : (ns : List Node) (o : Origin) (x : Emitter) (p : Part) (y : Emitter) (r : Result ValueId EmitFault) (f : EmitFault) → IsErrAnd r (λ e. e ≡ f) → GivesNoPart ns o x p f
+    → TakesPartOr ns o x p y r
 part-cause ns o x p y (Ok v) f h g = absurd h
 part-cause ns o x p y (Err e) f h g = subst (GivesNoPart ns o x p) (sym h) g

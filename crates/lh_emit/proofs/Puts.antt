@@ -5,12 +5,12 @@ use Rattle.lh_unit.specs.Naming.{inst_text}
 use Rattle.lh_unit.specs.declared.inst.Inst.{Inst}
 use Rattle.lh_term.specs.declared.term.Node.{Node}
 use Rattle.lh_emission.specs.Emitted.{Source, Emitted, puts}
-use Rattle.lh_body.specs.Lines.{naming, Says, PutsOne}
+use Rattle.lh_body.specs.Lines.{naming, LinesAreEmitted, PutsOne}
 use Rattle.lh_body.specs.declared.lines.EmitFault.{EmitFault}
 use Rattle.lh_body.specs.declared.lines.EmitFault.TheVariants as fault
 use Rattle.lh_emit.specs.Emitting.{ArgumentsFirst, IsEmitted, PutsInst}
 use Rattle.lh_emit.specs.Parts.{KnowsParts}
-use Rattle.lh_emit.specs.Values.{Knows}
+use Rattle.lh_emit.specs.Values.{ValuesNameTerms}
 use Rattle.lh_emit.specs.declared.emitter.Emitter.{Emitter}
 use Rattle.lh_body.specs.declared.lines.Lines.{Lines}
 
@@ -18,13 +18,14 @@ use Rattle.lh_body.specs.declared.lines.Lines.{Lines}
 pub puts-emitted : (ns : List Node) (s : Source) (x : Emitter) (e : Emitted) (i : Inst) (new : Lines) → IsEmitted ns s x e → PutsOne x.lines i new (Ok tt) →
     IsEmitted ns s record { lines = new; values = x.values; parts = x.parts } (puts (inst_text (naming x.lines.names) i) e)
 puts-emitted ns s x e i new w h =
-    let k : Knows ns x.lines.names x.values (puts (inst_text (naming x.lines.names) i) e) = record { named = w.terms.named; within = w.terms.within; held = w.terms.held; among = w.terms.among } in
+    let k : ValuesNameTerms ns x.lines.names x.values (puts (inst_text (naming x.lines.names) i) e) = record
+    { named = w.terms.named; within = w.terms.within; held = w.terms.held; among = w.terms.among } in
     let p : KnowsParts s.args x.lines.names x.parts (puts (inst_text (naming x.lines.names) i) e) = record { named = w.parts.named; within = w.parts.within } in
     record {
       room = h.2;
       says = h.0 s e w.says;
       arguments = subst (ArgumentsFirst s.args) (sym h.1) w.arguments;
-      terms = subst (λ (names : List (List ℕ)). Knows ns names x.values (puts (inst_text (naming x.lines.names) i) e)) (sym h.1) k;
+      terms = subst (λ (names : List (List ℕ)). ValuesNameTerms ns names x.values (puts (inst_text (naming x.lines.names) i) e)) (sym h.1) k;
       parts = subst (λ (names : List (List ℕ)). KnowsParts s.args names x.parts (puts (inst_text (naming x.lines.names) i) e)) (sym h.1) p;
       fit = w.fit;
     }

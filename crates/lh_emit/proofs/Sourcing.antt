@@ -30,7 +30,8 @@ pub source-names : (o : Origin) (s : Source) → IsSource o s → arg_names s.ar
 source-names o s src = ap (λ (z : Source). arg_names z.args) src.is ∙ texts-named src.naming (args_of o) ∙ src.origin.named
 
 -- the steps by names are those of each source
-pub route-steps : (o : Origin) (p : Part) (route : List RouteStep) → ((f : Naming) (name : UnitName) → IsOrigin f o → AreStepsOf (steps_in (flat_unit name (flat_text f o.flat.now)) p) route) → (s : Source) → IsSource o s → AreStepsOf (s.steps p) route
+pub route-steps : (o : Origin) (p : Part) (route : List RouteStep) → ((f : Naming) (name : UnitName) → IsOrigin f o → AreStepsOf (steps_in (flat_unit name (flat_text f o.flat.now)) p) route)
+    → (s : Source) → IsSource o s → AreStepsOf (s.steps p) route
 route-steps o p route h s src = subst (λ (z : Source). AreStepsOf (z.steps p) route) (sym src.is) (h src.naming src.name src.origin)
 
 -- a text by some names is a source

@@ -22,7 +22,8 @@ pub needs-first : (terms : List TermId) (tasks : List Task) (k : ℕ) → k ≡ 
 needs-first terms tasks k e = ap (λ xs. map Need xs ++ tops tasks) (past-end terms k (omega (arith, e)))
 
 -- one more on top
-pub needs-next : (terms : List TermId) (old now more : List Task) (k j : ℕ) (d : TermId) → j < length terms → k ≡ j + 1 → map Need (drop k terms) ++ tops old ≡ tops now → tops more ≡ Need (get_or terms j d) ∷ tops now →
+pub needs-next : (terms : List TermId) (old now more : List Task) (k j : ℕ) (d : TermId) → j < length terms → k ≡ j + 1 → map Need (drop k terms) ++ tops old ≡ tops now
+    → tops more ≡ Need (get_or terms j d) ∷ tops now →
     map Need (drop j terms) ++ tops old ≡ tops more
 needs-next terms old now more k j d l e h q =
     let r : drop j terms ≡ get_or terms j d ∷ drop k terms = drop-cons terms j d l ∙ ap (λ n. get_or terms j d ∷ drop n terms) (sym (e ∙ add-one j)) in

@@ -13,7 +13,7 @@ use Rattle.lh_unit.specs.declared.inst.Inst.{Inst}
 use Rattle.lh_unit.specs.declared.inst.Inst.TheVariants as inst
 use Rattle.lh_term.specs.declared.part.Part.{Part}
 use Rattle.lh_emission.specs.Emitted.{PartStep, Source, Emitted, gives, next_name, typed, takes_steps, with_part}
-use Rattle.lh_body.specs.Lines.{naming, line_text, most_lines, values_alone, Says, HasRoom, NamesGrow, GivesValue, GivesOne}
+use Rattle.lh_body.specs.Lines.{naming, line_text, most_lines, values_alone, LinesAreEmitted, HasRoom, NamesGrow, GivesValue, GivesOne}
 use Rattle.std.specs.Prelude.{Result, Ok, Err}
 use Rattle.std.specs.Result.{IsErrAnd, IfErr}
 use Rattle.lh_emit.specs.Operands.{with_type}
@@ -46,7 +46,7 @@ walk-longer s n (st ∷ more) e =
     omega (arith, k, length-append {A = LineText})
 
 -- as many instructions by ids
-pub says-length : (s : Source) (ls : Lines) (e : Emitted) → Says s.args ls e → length e.lines ≡ length ls.lines
+pub says-length : (s : Source) (ls : Lines) (e : Emitted) → LinesAreEmitted s.args ls e → length e.lines ≡ length ls.lines
 says-length s ls e y = ap length (sym y.lines) ∙ map_length (line_text ls.names) ls.lines
 
 pub grows-then : (a b c : List (List ℕ)) → NamesGrow a b → NamesGrow b c → NamesGrow a c
@@ -110,12 +110,14 @@ module _ (all : List RouteStep) (old : Lines) (from : ValueId) (now : Lines) (v 
     walks = λ s e xs y h. on s e xs (w.walks s e xs y h);
   }
     where
-      on : (s : Source) (e : Emitted) (xs : List PartStep) → StillWalks s (value_text (naming old.names) from) xs e now v (st ∷ left) → StillWalks s (value_text (naming old.names) from) xs e new u left
+      on : (s : Source) (e : Emitted) (xs : List PartStep) → StillWalks s (value_text (naming old.names) from) xs e now v (st ∷ left)
+          → StillWalks s (value_text (naming old.names) from) xs e new u left
       on s e xs k =
           let d = heads k.rest st left k.steps in
           let n = value_text (naming now.names) v in
           let one = g.0 s k.entity k.says in
-          let after : gives s (inst_text (naming now.names) step) k.entity ≡ gives s (pure_text d.head.op (typed n (signal_type d.head.to.ty) ∷ [])) k.entity = step-gives s n d.head st k.entity d.op d.ty in
+          let after : gives s (inst_text (naming now.names) step) k.entity ≡ gives s (pure_text d.head.op (typed n (signal_type d.head.to.ty) ∷ [])) k.entity =
+          step-gives s n d.head st k.entity d.op d.ty in
           record {
             rest = d.tail;
             entity = gives s (inst_text (naming now.names) step) k.entity;
@@ -131,8 +133,10 @@ module _ (all : List RouteStep) (old : Lines) (from : ValueId) (now : Lines) (v 
       let k = w.walks s e xs y h in
       let d = heads k.rest st left k.steps in
       let n = value_text (naming now.names) v in
-      let more : length (gives s (pure_text d.head.op (typed n (signal_type d.head.to.ty) ∷ [])) k.entity).lines ≤ length (walk s n (d.head ∷ d.tail) k.entity).lines = walk-longer s (next_name s k.entity) d.tail _ in
-      let same : length (walk s n (d.head ∷ d.tail) k.entity).lines ≡ length (walk s (value_text (naming old.names) from) xs e).lines = ap (λ (z : Emitted). length z.lines) (ap (λ ys. walk s n ys k.entity) (sym d.is) ∙ k.same) in
+      let more : length (gives s (pure_text d.head.op (typed n (signal_type d.head.to.ty) ∷ [])) k.entity).lines ≤ length (walk s n (d.head ∷ d.tail) k.entity).lines =
+      walk-longer s (next_name s k.entity) d.tail _ in
+      let same : length (walk s n (d.head ∷ d.tail) k.entity).lines ≡ length (walk s (value_text (naming old.names) from) xs e).lines =
+      ap (λ (z : Emitted). length z.lines) (ap (λ ys. walk s n ys k.entity) (sym d.is) ∙ k.same) in
       let len : length k.entity.lines ≡ most_lines = says-length s now k.entity k.says ∙ full in
       omega (arith, more, same, len, length-append {A = LineText})
 
@@ -150,7 +154,8 @@ none-left (x ∷ xs) l = absurd (omega (arith, l))
 head-is : (xs : List RouteStep) (st : RouteStep) → 1 ≤ length xs → st ≡ get_or xs 0 st → xs ≡ st ∷ take (length xs - 1) (drop 1 xs)
 head-is xs st l e = split-first xs st l ∙ ap (λ y. y ∷ take (length xs - 1) (drop 1 xs)) (sym e)
 
-module _ (all : List RouteStep) (old : Lines) (from : ValueId) (now : Lines) (v : ValueId) (xs : List RouteStep) (st : RouteStep) (i : Inst) (w : Walks all old from now v xs) (l : 1 ≤ length xs) (e : st ≡ get_or xs 0 st) (q : i ≡ inst.Pure st.op (with_type (signal_type st.ty) v ∷ [])) where
+module _ (all : List RouteStep) (old : Lines) (from : ValueId) (now : Lines) (v : ValueId) (xs : List RouteStep) (st : RouteStep) (i : Inst) (w : Walks all old from now v xs) (l : 1 ≤ length xs)
+    (e : st ≡ get_or xs 0 st) (q : i ≡ inst.Pure st.op (with_type (signal_type st.ty) v ∷ [])) where
   at-head : Walks all old from now v (st ∷ take (length xs - 1) (drop 1 xs))
   at-head = subst (Walks all old from now v) (head-is xs st l e) w
 

@@ -14,9 +14,9 @@ use Rattle.lh_emission.specs.Emitted.{Source, Emitted, puts, term_name, part_nam
 use Rattle.lh_emission.specs.Needs.{need}
 use Rattle.lh_emission.specs.Entities.{max_lines, choices_fit}
 use Rattle.lh_emission.specs.Ways.{IsGiven, IsReached, WaitIsGiven}
-use Rattle.lh_body.specs.Lines.{most_lines, naming, Says, HasRoom, NamesGrow}
+use Rattle.lh_body.specs.Lines.{most_lines, naming, LinesAreEmitted, HasRoom, NamesGrow}
 use Rattle.lh_origin.specs.Origins.{source_by, IsOrigin}
-use Rattle.lh_emit.specs.Values.{Knows}
+use Rattle.lh_emit.specs.Values.{ValuesNameTerms}
 use Rattle.lh_emit.specs.Parts.{KnowsParts}
 use Rattle.lh_origin.specs.declared.origin.Origin.{Origin}
 use Rattle.lh_emit.specs.declared.emitter.Emitter.{Emitter}
@@ -27,9 +27,9 @@ pub use Rattle.lh_body.specs.Bodies.{ArgumentsFirst}
 -- The instructions by ids are those of the definition; the terms and parts that have names there have values here, of these names; and each term that was emitted has only choices that fit.
 pub record IsEmitted (ns : List Node) (s : Source) (x : Emitter) (e : Emitted) : Type 0 where
   pub room : HasRoom x.lines
-  pub says : Says s.args x.lines e
+  pub says : LinesAreEmitted s.args x.lines e
   pub arguments : ArgumentsFirst s.args x.lines.names
-  pub terms : Knows ns x.lines.names x.values e
+  pub terms : ValuesNameTerms ns x.lines.names x.values e
   pub parts : KnowsParts s.args x.lines.names x.parts e
   pub fit : (t : Tree) (n : List ℕ) → e.terms t ≡ Some n → choices_fit t ≡ true
 

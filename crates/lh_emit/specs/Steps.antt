@@ -6,7 +6,7 @@ use Rattle.lh_unit.specs.Naming.{value_text}
 use Rattle.lh_unit.specs.Within.{Each}
 use Rattle.lh_unit.specs.declared.inst.ValueId.{ValueId}
 use Rattle.lh_emission.specs.Emitted.{PartStep, Source, Emitted, gives, next_name, typed}
-use Rattle.lh_body.specs.Lines.{naming, most_lines, Says, HasRoom, NamesGrow}
+use Rattle.lh_body.specs.Lines.{naming, most_lines, LinesAreEmitted, HasRoom, NamesGrow}
 use Rattle.lh_origin.specs.Origins.{AreStepsOf}
 use Rattle.lh_body.specs.declared.lines.Lines.{Lines}
 use Rattle.lh_body.specs.declared.lines.EmitFault.{EmitFault}
@@ -30,7 +30,7 @@ AllData route = Each (λ (st : RouteStep). IsData st.ty) route
 pub record StillWalks (s : Source) (n : List ℕ) (xs : List PartStep) (e : Emitted) (now : Lines) (v : ValueId) (left : List RouteStep) : Type 0 where
   pub rest : List PartStep
   pub entity : Emitted
-  pub says : Says s.args now entity
+  pub says : LinesAreEmitted s.args now entity
   pub steps : AreStepsOf rest left
   pub same : walk s (value_text (naming now.names) v) rest entity ≡ walk s n xs e
   pub name : walk_name s (value_text (naming now.names) v) rest entity ≡ walk_name s n xs e
@@ -40,10 +40,10 @@ pub record Walks (all : List RouteStep) (old : Lines) (from : ValueId) (now : Li
   pub room : HasRoom now
   pub within : v.0 < length now.names
   pub grows : NamesGrow old.names now.names
-  pub walks : (s : Source) (e : Emitted) (xs : List PartStep) → Says s.args old e → AreStepsOf xs all → StillWalks s (value_text (naming old.names) from) xs e now v left
+  pub walks : (s : Source) (e : Emitted) (xs : List PartStep) → LinesAreEmitted s.args old e → AreStepsOf xs all → StillWalks s (value_text (naming old.names) from) xs e now v left
 
 -- A fault has its cause.
 abbrev pub WalksNot : List RouteStep → Lines → ValueId → EmitFault → Type 0
 WalksNot all old from fault.OutOfMemory = Unit {0}
 WalksNot all old from fault.EntityTooLarge =
-    (s : Source) (e : Emitted) (xs : List PartStep) → Says s.args old e → AreStepsOf xs all → most_lines < length (walk s (value_text (naming old.names) from) xs e).lines
+    (s : Source) (e : Emitted) (xs : List PartStep) → LinesAreEmitted s.args old e → AreStepsOf xs all → most_lines < length (walk s (value_text (naming old.names) from) xs e).lines

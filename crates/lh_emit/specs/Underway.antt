@@ -159,8 +159,8 @@ GivesInst ns o x t ms y i = (s : Source) (e : Emitted) → IsSource o s → IsRe
 pub record IsMade (ns : List Node) (s : Source) (t : TermId) (e : Emitted) (ms : List Node) (y : Emitter) : Type 0 where
   pub is : IsEmitted ms s y (makes s (tree_at (trees ns) t) e)
 
-abbrev pub Makes : List Node → Origin → Emitter → TermId → List Node → Emitter → Type 0
-Makes ns o x t ms y = (s : Source) (e : Emitted) → IsSource o s → IsReady ns s x t e → IsMade ns s t e ms y
+abbrev pub MakesTerm : List Node → Origin → Emitter → TermId → List Node → Emitter → Type 0
+MakesTerm ns o x t ms y = (s : Source) (e : Emitted) → IsSource o s → IsReady ns s x t e → IsMade ns s t e ms y
 
 abbrev pub IsTooMuchToMake : Source → Tree → Emitted → Type 0
 IsTooMuchToMake s t e = (choices_fit t ≡ false) ⊎ (max_lines < length (makes s t e).lines)
@@ -174,7 +174,7 @@ GivesInstOr ns o x t ms y (Ok i) = NamesGrow x.lines.names y.lines.names × Give
 GivesInstOr ns o x t ms y (Err f) = MakesNot ns o x t f
 
 abbrev pub MakesOr : List Node → Origin → Emitter → TermId → List Node → Emitter → Result (Unit {0}) EmitFault → Type 0
-MakesOr ns o x t ms y (Ok u) = NamesGrow x.lines.names y.lines.names × Makes ns o x t ms y
+MakesOr ns o x t ms y (Ok u) = NamesGrow x.lines.names y.lines.names × MakesTerm ns o x t ms y
 MakesOr ns o x t ms y (Err f) = MakesNot ns o x t f
 
 -- ---- all

@@ -2,7 +2,7 @@
 use Rattle.std.specs.Prelude.{◌≡◌, ◌<◌, ℕ, nat_eq, if◌then◌else◌, List, length, slice_index_or, Option, Some, None}
 use Rattle.std.specs.Option.{option_map}
 use Rattle.lh_term.specs.Tree.{Tree}
-use Rattle.lh_term.specs.Arena.{tree_at, trees, IsIn, Stands}
+use Rattle.lh_term.specs.Arena.{tree_at, trees, IsIn, StandsForTree}
 use Rattle.lh_term.specs.declared.term.Node.{Node}
 use Rattle.lh_term.specs.declared.term.TermId.{TermId}
 use Rattle.lh_unit.specs.Naming.{value_text}
@@ -20,8 +20,8 @@ abbrev pub Keeps : Values → TermId → ValueId → Values → Type 0
 Keeps old t v new = (x : TermId) → value_in new x ≡ (if nat_eq x.0 t.0 then Some v else value_in old x)
 
 -- The values are the names of terms: each value names its term, and no other term has a name.
-pub record Knows (ns : List Node) (names : List (List ℕ)) (vs : Values) (e : Emitted) : Type 0 where
+pub record ValuesNameTerms (ns : List Node) (names : List (List ℕ)) (vs : Values) (e : Emitted) : Type 0 where
   pub named : (x : TermId) → IsIn ns x → e.terms (tree_at (trees ns) x) ≡ option_map (value_text (naming names)) (value_in vs x)
   pub within : (x : TermId) (v : ValueId) → value_in vs x ≡ Some v → v.0 < length names
   pub held : (x : TermId) (v : ValueId) → value_in vs x ≡ Some v → IsIn ns x
-  pub among : (t : Tree) (n : List ℕ) → e.terms t ≡ Some n → (x : TermId) × Stands ns x t
+  pub among : (t : Tree) (n : List ℕ) → e.terms t ≡ Some n → (x : TermId) × StandsForTree ns x t

@@ -32,7 +32,7 @@ use lh_term::term::TermId;
 use lh_term::terms::Terms;
 use lh_types::op::Op;
 use lh_types::ty::{NoMemory, Ty, TyKind};
-use lh_unit::inst::{Arg, Inst, ValueId};
+use lh_unit::inst::{Arg, Inst, OperandList, ValueId};
 use lh_unit::name::Name;
 use std::alloc::Global;
 
@@ -234,6 +234,7 @@ impl Emitter {
             values.as_slice(),
             terms.ty(t),
         )?;
+        let args = OperandList::from_list(args);
         Ok(Inst::Pure { op, args })
     }
 

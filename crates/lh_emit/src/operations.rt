@@ -74,7 +74,7 @@ fn each_typed(
     let mut operands = TypedList::new(alloc);
     let mut k = 0;
     while k < values.len() {
-        let operand = typed(values[k], terms.ty(of[k]))?;
+        let operand = typed(alloc, values[k], terms.ty(of[k]))?;
         operands.push(operand)?;
         k += 1;
     }

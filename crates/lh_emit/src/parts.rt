@@ -85,9 +85,7 @@ impl Parts {
     pub fn keep(&mut self, key: PartKey, value: ValueId) -> Result<(), NoMemory>
         ensures { OnOk result (KeepsPart self.old key.part value self.new) }
     {
-        match self.values.insert(key, value) {
-            Ok(_) => Ok(()),
-            Err(_) => Err(NoMemory),
-        }
+        self.values.insert(key, value)?;
+        Ok(())
     }
 }

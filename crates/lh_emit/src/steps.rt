@@ -10,7 +10,7 @@ use crate::operands::signal;
 use lh_body::lines::{EmitFault, Lines};
 use lh_origin::origin::RouteStep;
 use lh_types::ty::NoMemory;
-use lh_unit::inst::{Inst, TypedList, ValueId};
+use lh_unit::inst::{Inst, OperandList, TypedList, ValueId};
 use std::alloc::Global;
 
 /// Emits steps from a value on; the value of the last one, or the value itself where there are none.
@@ -43,5 +43,6 @@ fn step_inst(alloc: Global, from: ValueId, step: &RouteStep) -> Result<Inst, NoM
 {
     let mut args = TypedList::new(alloc);
     args.push(signal(alloc, from, &step.ty)?)?;
+    let args = OperandList::from_list(args);
     Ok(Inst::Pure { op: step.op, args })
 }

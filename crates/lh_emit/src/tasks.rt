@@ -38,8 +38,6 @@ pub fn push_needs(tasks: &mut Vec<Task>, terms: &[TermId]) -> Result<(), NoMemor
 pub fn push(tasks: &mut Vec<Task>, task: Task) -> Result<(), NoMemory>
     ensures { OnOk result (tops tasks.new.items ≡ task ∷ tops tasks.old.items) }
 {
-    match tasks.push(task) {
-        Ok(()) => Ok(()),
-        Err(_) => Err(NoMemory),
-    }
+    tasks.push(task)?;
+    Ok(())
 }

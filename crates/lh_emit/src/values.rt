@@ -60,8 +60,6 @@ fn make_room(items: &mut Vec<Option<ValueId>>, place: usize) -> Result<(), NoMem
 fn push_none(items: &mut Vec<Option<ValueId>>) -> Result<(), NoMemory>
     ensures { IfOk result (λ _. items.new.items ≡ items.old.items ++ None ∷ []) }
 {
-    match items.push(None) {
-        Ok(()) => Ok(()),
-        Err(_) => Err(NoMemory),
-    }
+    items.push(None)?;
+    Ok(())
 }

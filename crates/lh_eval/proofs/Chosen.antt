@@ -18,10 +18,12 @@ mux-is : (vs : List Datum) (w s : ℕ) → apply Mux (array_value (data_row vs) 
 unfolding apply
 mux-is vs w s = ap (λ (ws : List Datum). slice_index_or ws (min s (length ws - 1)) no_value) (parts_of-data_row vs)
 
-pub chosen-is : (o : Op) (a b d : Datum) (elements : List Datum) (xs : List Val) (w s : ℕ) → o ≡ Mux → a ≡ array_value (data_row elements) → b ≡ int_value w s → map datum_of xs ≡ elements → d ≡ slice_index_or (map datum_of xs) (min s (length xs - 1)) no_value
+pub chosen-is : (o : Op) (a b d : Datum) (elements : List Datum) (xs : List Val) (w s : ℕ) → o ≡ Mux → a ≡ array_value (data_row elements) → b ≡ int_value w s → map datum_of xs ≡ elements
+    → d ≡ slice_index_or (map datum_of xs) (min s (length xs - 1)) no_value
     → d ≡ apply o (a ∷ b ∷ [])
 chosen-is o a b d elements xs w s is_mux is_array is_int same h =
     let count : length (map datum_of xs) ≡ length xs = length-map xs datum_of in
     let at : slice_index_or (map datum_of xs) (min s (length xs - 1)) no_value ≡ apply Mux (array_value (data_row (map datum_of xs)) ∷ int_value w s ∷ []) =
     ap (λ (n : ℕ). slice_index_or (map datum_of xs) (min s (n - 1)) no_value) (sym count) ∙ sym (mux-is (map datum_of xs) w s) in
-    h ∙ at ∙ ap (λ (vs : List Datum). apply Mux (array_value (data_row vs) ∷ int_value w s ∷ [])) same ∙ sym (ap (λ (x : Op). apply x (a ∷ b ∷ [])) is_mux ∙ ap (λ (x : Datum). apply Mux (x ∷ b ∷ [])) is_array ∙ ap (λ (x : Datum). apply Mux (array_value (data_row elements) ∷ x ∷ [])) is_int)
+    h ∙ at ∙ ap (λ (vs : List Datum). apply Mux (array_value (data_row vs) ∷ int_value w s ∷ [])) same
+    ∙ sym (ap (λ (x : Op). apply x (a ∷ b ∷ [])) is_mux ∙ ap (λ (x : Datum). apply Mux (x ∷ b ∷ [])) is_array ∙ ap (λ (x : Datum). apply Mux (array_value (data_row elements) ∷ x ∷ [])) is_int)

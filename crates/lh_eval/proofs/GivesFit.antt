@@ -61,7 +61,8 @@ module _ (u : UnitText) (w : ℕ) (e : Env) (f : Fits u w e) where
   part-fits n r t p q = f n (part_held r) (signal_type t) (part-held (e n) r p) q
 
   -- an operation on values
-  values-fit : (o : Op) (os : List OperandText) → RowIs u (pure_text o os) → HasOperands o os → (ds : List Datum) → data_at e os ≡ Some ds → GivenFits w (Some (datum_held (apply o ds))) (operation_type o os)
+  values-fit : (o : Op) (os : List OperandText) → RowIs u (pure_text o os) → HasOperands o os → (ds : List Datum) → data_at e os ≡ Some ds
+      → GivenFits w (Some (datum_held (apply o ds))) (operation_type o os)
   values-fit o os row has ds p x t g q =
       let l = fits-line u w e f (class_of o) os row has ds p in
       let k = l.given t q in
@@ -80,13 +81,15 @@ module _ (u : UnitText) (w : ℕ) (e : Env) (f : Fits u w e) where
           let ty : signal_type leads.0.of ≡ t = sym leads.2 ∙ same_Some of t q in
           let fits : FitsHeld w (part_held (within r (part_range leads.0))) (signal_type leads.0.of) = (m.is_data, refl, omega (arith, m.inside, k.1, k.2)) in
           subst (λ (y : Held). FitsHeld w y t) held (subst (FitsHeld w (part_held (within r (part_range leads.0)))) ty fits)
-  stepped-fits s x whole of is leads h t g q = absurd (none-some h (no-signal (Some whole) (part_at e x.value) (Some s) refl ∙ sym (ap (λ (o : Option TypeTree). stepped o (part_at e x.value) (Some s)) is) ∙ g))
+  stepped-fits s x whole of is leads h t g q = absurd
+      (none-some h (no-signal (Some whole) (part_at e x.value) (Some s) refl ∙ sym (ap (λ (o : Option TypeTree). stepped o (part_at e x.value) (Some s)) is) ∙ g))
 
   -- `extf` or `exts` of a signal
   takes-fits : (o : Op) (s : Step) (os : List OperandText) → step_of o ≡ Some s → operation_type o os ≡ first_type os → TakesPart u s os → GivenFits w (signal_part u e o os) (operation_type o os)
   takes-fits o s os a b p h t g q =
       let of : Some p.of ≡ Some t = sym (ap first_type p.operands ∙ p.written) ∙ sym b ∙ q in
-      let there : stepped (value_type u p.operand.value) (part_at e p.operand.value) (Some s) ≡ Some h = sym (ap (signal_part u e o) p.operands ∙ ap (stepped (value_type u p.operand.value) (part_at e p.operand.value)) a) ∙ g in
+      let there : stepped (value_type u p.operand.value) (part_at e p.operand.value) (Some s) ≡ Some h =
+      sym (ap (signal_part u e o) p.operands ∙ ap (stepped (value_type u p.operand.value) (part_at e p.operand.value)) a) ∙ g in
       stepped-fits s p.operand p.whole p.of p.is p.leads h t there of
 
   -- no other operation is of a signal

@@ -106,7 +106,8 @@ front-more : (vs : List Datum) (d : Datum) (r : Option (List Datum)) → option_
 front-more vs d None = refl
 front-more vs d (Some ds) = ap Some (append_assoc vs (d ∷ []) ds)
 
-pub data-step : (slots : List (Option Held)) (os : List Typed) (i : ℕ) (o : Typed) (vs ws : List Datum) (d : Datum) (z : Option (List Datum)) → i < length os → o ≡ get_or os i o → datum_in slots o.value ≡ Some d → ws ≡ vs ++ d ∷ []
+pub data-step : (slots : List (Option Held)) (os : List Typed) (i : ℕ) (o : Typed) (vs ws : List Datum) (d : Datum) (z : Option (List Datum)) → i < length os → o ≡ get_or os i o
+    → datum_in slots o.value ≡ Some d → ws ≡ vs ++ d ∷ []
     → option_map (λ ds. vs ++ ds) (data_in slots (drop i os)) ≡ z → option_map (λ ds. ws ++ ds) (data_in slots (drop (i + 1) os)) ≡ z
 data-step slots os i o vs ws d z l e f g h =
     ap (λ (xs : List Datum). option_map (λ ds. xs ++ ds) (data_in slots (drop (i + 1) os))) g

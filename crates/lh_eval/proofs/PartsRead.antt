@@ -71,7 +71,8 @@ pub of-signal : (u : UnitText) (e : Env) (o : Op) (os : List OperandText) → da
 of-signal u e o os p = ap (λ (x : Option (List Datum)). or_else (option_map (λ (vs : List Datum). datum_held (apply o vs)) x) (signal_part u e o os)) p
 
 -- what an operation gives of values, where each operand holds one
-pub of-applied : (u : UnitText) (e : Env) (o : Op) (os : List OperandText) (z : Option (List Datum)) (d : Datum) → data_at e os ≡ z → Some d ≡ option_map (apply o) z → operated u e o os ≡ Some (datum_held d)
+pub of-applied : (u : UnitText) (e : Env) (o : Op) (os : List OperandText) (z : Option (List Datum)) (d : Datum) → data_at e os ≡ z → Some d ≡ option_map (apply o) z
+    → operated u e o os ≡ Some (datum_held d)
 of-applied u e o os None d p q = cc
 of-applied u e o os (Some ds) d p q = let r : apply o ds ≡ d = cc in of-values u e o os ds p ∙ ap (λ (x : Datum). Some (datum_held x)) r
 
@@ -80,7 +81,8 @@ of-not_applied u e o os None p q = of-signal u e o os p
 of-not_applied u e o os (Some ds) p q = cc
 
 -- a probe of a part
-pub probe-is : (now : List Bool) (e : Env) (s : OperandText) (r : Range) (t : TypeTree) (d : Datum) → Some t ≡ option_and_then carried s.ty → Some r ≡ part_at e s.value → IsData t → (r.len ≡ bit_count t) × (r.lo + r.len ≤ length now) → d ≡ value_from_bits t (drop r.lo now) → Some (datum_held d) ≡ probed now e s
+pub probe-is : (now : List Bool) (e : Env) (s : OperandText) (r : Range) (t : TypeTree) (d : Datum) → Some t ≡ option_and_then carried s.ty → Some r ≡ part_at e s.value → IsData t
+    → (r.len ≡ bit_count t) × (r.lo + r.len ≤ length now) → d ≡ value_from_bits t (drop r.lo now) → Some (datum_held d) ≡ probed now e s
 probe-is now e s r t d p q x f g =
     let same : Some (datum_held d) ≡ read_bits now (Some t) (Some r) = ap (λ (v : Datum). Some (datum_held v)) (g ∙ read-is t r now x f.0 f.1) in
     let there : read_bits now (Some t) (Some r) ≡ read_bits now (option_and_then carried s.ty) (part_at e s.value) = λ i. read_bits now (p i) (q i) in

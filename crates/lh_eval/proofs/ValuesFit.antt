@@ -88,7 +88,8 @@ gives-bit : (o : OpClass) (os : List OperandText) → class_type o os ≡ Some (
 gives-bit o os e t q = let h : int_type 1 ≡ t = same_Some _ _ (sym e ∙ q) in (subst IsData h (omega arith, omega arith), h)
 
 -- one that gives an array of n elements of the type that is written first
-gives-array : (n : ℕ) (o : OpClass) (os : List OperandText) (t : TypeTree) → class_type o os ≡ option_and_then (array_made n) (first_type os) → first_type os ≡ Some t → IsData t → GivesType o os (array_type n t)
+gives-array : (n : ℕ) (o : OpClass) (os : List OperandText) (t : TypeTree) → class_type o os ≡ option_and_then (array_made n) (first_type os) → first_type os ≡ Some t → IsData t
+    → GivesType o os (array_type n t)
 gives-array n o os t e f d s q = array-made n t s d (sym (ap (option_and_then (array_made n)) f) ∙ sym e ∙ q)
 
 -- a row of one type is of data types only where the type is one
@@ -116,7 +117,8 @@ module _ (u : UnitText) (w : ℕ) (e : Env) (f : Fits u w e) where
       let more = fit-row os ts x.1 m.1 x.3 in
       (subst (λ (y : List Datum). FitsRow (data_row y) (row_of (t ∷ ts))) x.4 (k.1, more.0), (is-data t m.0.1 k.0, more.1))
 
-  made : (o : OpClass) (os : List OperandText) (ts : List TypeTree) (r : TypeTree) (ds : List Datum) → Matches os ts → data_at e os ≡ Some ds → ClassType o ts r → (AreData (row_of ts) → GivesType o os r) → FitsLine o os ds
+  made : (o : OpClass) (os : List OperandText) (ts : List TypeTree) (r : TypeTree) (ds : List Datum) → Matches os ts → data_at e os ≡ Some ds → ClassType o ts r
+      → (AreData (row_of ts) → GivesType o os r) → FitsLine o os ds
   made o os ts r ds m p k g = let x = fit-row os ts ds m p in record { types = ts; gives = r; data_types = x.1; values_fit = x.0; row = k; given = g x.1 }
 
   int-no-time : (n : ℕ) → NoTime (int_type n)
@@ -147,7 +149,8 @@ module _ (u : UnitText) (w : ℕ) (e : Env) (f : Fits u w e) where
   some-first [] t p = absurd cc
   some-first (o ∷ os) t p = omega arith
 
-  fields-match : (os : List OperandText) → Each (λ (o : OperandText). (t : TypeTree) × (is_data t ≡ true) × IsWritten u t o) os → (ts : List TypeTree) × (length ts ≡ length os) × Matches os ts × (operand_types os ≡ Some (row_of ts))
+  fields-match : (os : List OperandText) → Each (λ (o : OperandText). (t : TypeTree) × (is_data t ≡ true) × IsWritten u t o) os → (ts : List TypeTree) × (length ts ≡ length os) × Matches os ts
+      × (operand_types os ≡ Some (row_of ts))
   unfolding Matches
   fields-match [] l = ([], refl, tt, refl)
   fields-match (o ∷ os) l =
@@ -165,21 +168,27 @@ module _ (u : UnitText) (w : ℕ) (e : Env) (f : Fits u w e) where
   unfolding Ints Two
   two-ints os t l h = (l.0.0, l.0.1, two os h.0 h.1 (int_type l.0.0) (int-no-time l.0.0) h.2 (int-like os t l.0.0 l.0.1 l.1))
 
-  twos : (o : OpClass) (os : List OperandText) (t : TypeTree) (ds : List Datum) → class_type o os ≡ first_type os → first_type os ≡ Some t → Ints os t → Two os → data_at e os ≡ Some ds → ((n : ℕ) → ClassType o (int_type n ∷ int_type n ∷ []) (int_type n)) → FitsLine o os ds
+  twos : (o : OpClass) (os : List OperandText) (t : TypeTree) (ds : List Datum) → class_type o os ≡ first_type os → first_type os ≡ Some t → Ints os t → Two os → data_at e os ≡ Some ds
+      → ((n : ℕ) → ClassType o (int_type n ∷ int_type n ∷ []) (int_type n)) → FitsLine o os ds
   twos o os t ds a b l h p k = let x = two-ints os t l h in made o os (int_type x.0 ∷ int_type x.0 ∷ []) (int_type x.0) ds x.2 p (k x.0) (λ d. gives-first o os (int_type x.0) t a b x.1 d.0)
 
-  compares : (o : OpClass) (os : List OperandText) (t : TypeTree) (ds : List Datum) → class_type o os ≡ Some (int_type 1) → Ints os t → Two os → data_at e os ≡ Some ds → ((n : ℕ) → ClassType o (int_type n ∷ int_type n ∷ []) (int_type 1)) → FitsLine o os ds
+  compares : (o : OpClass) (os : List OperandText) (t : TypeTree) (ds : List Datum) → class_type o os ≡ Some (int_type 1) → Ints os t → Two os → data_at e os ≡ Some ds
+      → ((n : ℕ) → ClassType o (int_type n ∷ int_type n ∷ []) (int_type 1)) → FitsLine o os ds
   compares o os t ds a l h p k = let x = two-ints os t l h in made o os (int_type x.0 ∷ int_type x.0 ∷ []) (int_type 1) ds x.2 p (k x.0) (λ d. gives-bit o os a)
 
-  unary : (o : OpClass) (os : List OperandText) (t : TypeTree) (ds : List Datum) → class_type o os ≡ first_type os → first_type os ≡ Some t → Ints os t → (x : OperandText) → os ≡ x ∷ [] → data_at e os ≡ Some ds → ((n : ℕ) → ClassType o (int_type n ∷ []) (int_type n)) → FitsLine o os ds
+  unary : (o : OpClass) (os : List OperandText) (t : TypeTree) (ds : List Datum) → class_type o os ≡ first_type os → first_type os ≡ Some t → Ints os t → (x : OperandText) → os ≡ x ∷ []
+      → data_at e os ≡ Some ds → ((n : ℕ) → ClassType o (int_type n ∷ []) (int_type n)) → FitsLine o os ds
   unfolding Ints
-  unary o os t ds a b l x h p k = made o os (int_type l.0.0 ∷ []) (int_type l.0.0) ds (one os x (int_type l.0.0) (int-no-time l.0.0) h (int-like os t l.0.0 l.0.1 l.1)) p (k l.0.0) (λ d. gives-first o os (int_type l.0.0) t a b l.0.1 d.0)
+  unary o os t ds a b l x h p k = made o os (int_type l.0.0 ∷ []) (int_type l.0.0) ds (one os x (int_type l.0.0) (int-no-time l.0.0) h (int-like os t l.0.0 l.0.1 l.1)) p (k l.0.0)
+      (λ d. gives-first o os (int_type l.0.0) t a b l.0.1 d.0)
 
-  equals : (o : OpClass) (os : List OperandText) (t : TypeTree) (ds : List Datum) → class_type o os ≡ Some (int_type 1) → (is_data t ≡ true) × Each (IsLike u t) os → Two os → data_at e os ≡ Some ds → ClassType o (t ∷ t ∷ []) (int_type 1) → FitsLine o os ds
+  equals : (o : OpClass) (os : List OperandText) (t : TypeTree) (ds : List Datum) → class_type o os ≡ Some (int_type 1) → (is_data t ≡ true) × Each (IsLike u t) os → Two os → data_at e os ≡ Some ds
+      → ClassType o (t ∷ t ∷ []) (int_type 1) → FitsLine o os ds
   unfolding Two
   equals o os t ds a l h p k = made o os (t ∷ t ∷ []) (int_type 1) ds (two os h.0 h.1 t (no-time t l.0) h.2 l.1) p k (λ d. gives-bit o os a)
 
-  shift : (o : OpClass) (os : List OperandText) (t : TypeTree) (ds : List Datum) → class_type o os ≡ first_type os → first_type os ≡ Some t → OperationIs u shifts t os → data_at e os ≡ Some ds → ((n k : ℕ) → ClassType o (int_type n ∷ int_type n ∷ int_type k ∷ []) (int_type n)) → FitsLine o os ds
+  shift : (o : OpClass) (os : List OperandText) (t : TypeTree) (ds : List Datum) → class_type o os ≡ first_type os → first_type os ≡ Some t → OperationIs u shifts t os → data_at e os ≡ Some ds
+      → ((n k : ℕ) → ClassType o (int_type n ∷ int_type n ∷ int_type k ∷ []) (int_type n)) → FitsLine o os ds
   unfolding Matches
   shift o [] t ds a c l p k = absurd l
   shift o (b ∷ []) t ds a c l p k = absurd l
@@ -213,7 +222,8 @@ module _ (u : UnitText) (w : ℕ) (e : Env) (f : Fits u w e) where
   whole-part s (tuple_type r) t d v g h = (no-time (tuple_type r) refl, h)
   whole-part s _ t d v g h = absurd v
 
-  take-part : (o : OpClass) (s : Step) (os : List OperandText) (t : TypeTree) (ds : List Datum) → class_type o os ≡ first_type os → first_type os ≡ Some t → OperationIs u (takes_part s) t os → data_at e os ≡ Some ds → ((whole : TypeTree) → PartHasType whole s t → ClassType o (whole ∷ []) t) → FitsLine o os ds
+  take-part : (o : OpClass) (s : Step) (os : List OperandText) (t : TypeTree) (ds : List Datum) → class_type o os ≡ first_type os → first_type os ≡ Some t → OperationIs u (takes_part s) t os
+      → data_at e os ≡ Some ds → ((whole : TypeTree) → PartHasType whole s t → ClassType o (whole ∷ []) t) → FitsLine o os ds
   unfolding Matches
   take-part o s [] t ds a c l p k = absurd l
   take-part o s (x ∷ []) t ds a c l p k =
@@ -223,7 +233,8 @@ module _ (u : UnitText) (w : ℕ) (e : Env) (f : Fits u w e) where
       made o (x ∷ []) (l.0 ∷ []) t ds ((l.1, h.0), tt) p (k l.0 h.1) (λ d. gives-first o (x ∷ []) t t a c refl (part-is-data l.0 s t d.0 h.1))
   take-part o s (x ∷ y ∷ more) t ds a c l p k = absurd l
 
-  put-part : (o : OpClass) (s : Step) (os : List OperandText) (t : TypeTree) (ds : List Datum) → class_type o os ≡ first_type os → first_type os ≡ Some t → OperationIs u (puts_part s) t os → data_at e os ≡ Some ds → ((q : TypeTree) → PartHasType t s q → ClassType o (t ∷ q ∷ []) t) → FitsLine o os ds
+  put-part : (o : OpClass) (s : Step) (os : List OperandText) (t : TypeTree) (ds : List Datum) → class_type o os ≡ first_type os → first_type os ≡ Some t → OperationIs u (puts_part s) t os
+      → data_at e os ≡ Some ds → ((q : TypeTree) → PartHasType t s q → ClassType o (t ∷ q ∷ []) t) → FitsLine o os ds
   unfolding Matches NoTime
   put-part o s [] t ds a c l p k = absurd l
   put-part o s (x ∷ []) t ds a c l p k = absurd l
@@ -243,16 +254,19 @@ module _ (u : UnitText) (w : ℕ) (e : Env) (f : Fits u w e) where
       (t, omega (arith, n, some-first os t first), ap (λ (k : ℕ). replicate k t) (sym n), refl)
       (λ d. subst (λ (k : ℕ). GivesType class.Array os (array_type k t)) (sym n) (gives-array (length os) class.Array os t refl first (first-data (length os) t (some-first os t first) d)))
 
-  repeat : (n : ℕ) (os : List OperandText) (t : TypeTree) (ds : List Datum) → first_type os ≡ Some t → (is_data t ≡ true) × Each (IsLike u t) os → (x : OperandText) → os ≡ x ∷ [] → 0 < n → data_at e os ≡ Some ds → FitsLine (class.Repeat n) os ds
+  repeat : (n : ℕ) (os : List OperandText) (t : TypeTree) (ds : List Datum) → first_type os ≡ Some t → (is_data t ≡ true) × Each (IsLike u t) os → (x : OperandText) → os ≡ x ∷ [] → 0 < n
+      → data_at e os ≡ Some ds → FitsLine (class.Repeat n) os ds
   repeat n os t ds c l x h m p = made (class.Repeat n) os (t ∷ []) (array_type n t) ds (one os x t (no-time t l.0) h l.1) p (t, refl, m, refl) (λ d. gives-array n (class.Repeat n) os t refl c d.0)
 
-  tuple : (os : List OperandText) (t : TypeTree) (ds : List Datum) → first_type os ≡ Some t → Each (λ (o : OperandText). (g : TypeTree) × (is_data g ≡ true) × IsWritten u g o) os → data_at e os ≡ Some ds → FitsLine class.Tuple os ds
+  tuple : (os : List OperandText) (t : TypeTree) (ds : List Datum) → first_type os ≡ Some t → Each (λ (o : OperandText). (g : TypeTree) × (is_data g ≡ true) × IsWritten u g o) os
+      → data_at e os ≡ Some ds → FitsLine class.Tuple os ds
   tuple os t ds first l p =
       let r = fields-match os l in
       made class.Tuple os r.0 (tuple_type (row_of r.0)) ds r.2 p (omega (arith, r.1, some-first os t first), refl)
       (λ d s q. tuple-made r.0 s d (sym (ap (option_and_then tuple_made) r.3) ∙ q))
 
-  pub fits-line : (o : OpClass) (os : List OperandText) → ((t : TypeTree) × (first_type os ≡ Some t) × OperationIs u (class_row o) t os) → ClassHasOperands o os → (ds : List Datum) → data_at e os ≡ Some ds → FitsLine o os ds
+  pub fits-line : (o : OpClass) (os : List OperandText) → ((t : TypeTree) × (first_type os ≡ Some t) × OperationIs u (class_row o) t os) → ClassHasOperands o os → (ds : List Datum)
+      → data_at e os ≡ Some ds → FitsLine o os ds
   unfolding Ints Two
   fits-line class.Unary os r h ds p = unary class.Unary os r.0 ds refl r.1 r.2 h.0 h.1 p (λ n. (n, refl, refl))
   fits-line class.Binary os r h ds p = twos class.Binary os r.0 ds refl r.1 r.2 h p (λ n. (n, refl, refl))

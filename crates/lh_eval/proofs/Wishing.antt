@@ -49,7 +49,8 @@ when-within w (Some false) wish d x y = x
 
 module _ (u : UnitText) (w : ℕ) where
   -- a drive of a value to a signal that carries its type
-  pub due-within : (e : Env) (t : Instant) (wish : Wish) (to value : List ℕ) (ty : TypeTree) (d : Option Delay) → Fits u w e → IsOf u (signal_type ty) to → IsOf u ty value → WishWithin w wish → WishWithin w (unwrap_or (drive_due t wish (part_at e to) (datum_at e value) d) wish)
+  pub due-within : (e : Env) (t : Instant) (wish : Wish) (to value : List ℕ) (ty : TypeTree) (d : Option Delay) → Fits u w e → IsOf u (signal_type ty) to → IsOf u ty value → WishWithin w wish
+      → WishWithin w (unwrap_or (drive_due t wish (part_at e to) (datum_at e value) d) wish)
   due-within e t wish to value ty d f p q x = by (part_at e to) (datum_at e value) d refl refl
     where
       by : (o : Option Range) (v : Option Datum) (z : Option Delay) → part_at e to ≡ o → datum_at e value ≡ v → WishWithin w (unwrap_or (drive_due t wish o v z) wish)
@@ -62,9 +63,11 @@ module _ (u : UnitText) (w : ℕ) where
           drive-within w wish (due_of t z) r.lo (value_bits y) (omega (arith, bits_are_counted y ty n.1, k.1, k.2)) x
 
   -- a `drv`
-  pub driven-within : (e : Env) (t : Instant) (wish : Wish) (to : OperandText) (value after : List ℕ) (cond : Option (List ℕ)) → Fits u w e → RowIs u (drv_text to value after cond) → WishWithin w wish → WishWithin w (unwrap_or (driven t e wish to value after cond) wish)
+  pub driven-within : (e : Env) (t : Instant) (wish : Wish) (to : OperandText) (value after : List ℕ) (cond : Option (List ℕ)) → Fits u w e → RowIs u (drv_text to value after cond) → WishWithin w wish
+      → WishWithin w (unwrap_or (driven t e wish to value after cond) wish)
   driven-within e t wish to value after cond f row x =
-      when-within w (condition_at e cond) wish (drive_due t wish (part_at e to.value) (datum_at e value) (delay_at e after)) x (due-within e t wish to.value value row.0 (delay_at e after) f row.1.1 row.2 x)
+      when-within w (condition_at e cond) wish (drive_due t wish (part_at e to.value) (datum_at e value) (delay_at e after)) x
+      (due-within e t wish to.value value row.0 (delay_at e after) f row.1.1 row.2 x)
 
 -- writes that have the entries of such a wish
 pub writes-within : (w : ℕ) (ds : List (Instant × List (ℕ × Bool))) → WishWithin w (writes_wish ds) → Each (λ (d : Instant × List (ℕ × Bool)). BitsWithin w d.1) ds

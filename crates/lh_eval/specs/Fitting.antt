@@ -38,7 +38,8 @@ Fits u width e = (n : List ℕ) (h : Held) (t : TypeTree) → e n ≡ Some h →
 
 -- a part of a signal that is held, from its lowest bit on as long as its type says, ends below bit 2 ^ 32
 abbrev pub PartFits : (a : Arena) (u : ℕ) (slots : List (Option Held)) → ValueId → Type 0
-PartFits a u slots v = (r : Range) (t : TypeTree) → part_in slots v ≡ Some r → value_type (unit_text_at a u) (value_text (naming a u) v) ≡ Some (signal_type t) → IsData t × (r.lo + bit_count t < 2 ^ 32)
+PartFits a u slots v = (r : Range) (t : TypeTree) → part_in slots v ≡ Some r → value_type (unit_text_at a u) (value_text (naming a u) v) ≡ Some (signal_type t) → IsData t
+    × (r.lo + bit_count t < 2 ^ 32)
 
 -- what an operation asks of its operands: values fit the row, and so do parts of signals
 pub record OperandsFit (a : Arena) (u : ℕ) (slots : List (Option Held)) (op : Op) (args : List Typed) : Type 0 where

@@ -24,7 +24,8 @@ ConstantsFit = (width : ℕ) (d : Datum) → IsWithinWidth d → GivenFits width
 
 -- what an operation gives, of values and of a signal
 abbrev pub OperationsFit : Type 0
-OperationsFit = (u : UnitText) (width : ℕ) (e : Env) (o : Op) (args : List OperandText) → Fits u width e → RowIs u (pure_text o args) → HasPart u (pure_text o args) → HasOperands o args → GivenFits width (operated u e o args) (operation_type o args)
+OperationsFit = (u : UnitText) (width : ℕ) (e : Env) (o : Op) (args : List OperandText) → Fits u width e → RowIs u (pure_text o args) → HasPart u (pure_text o args) → HasOperands o args
+    → GivenFits width (operated u e o args) (operation_type o args)
 
 -- what a probe gives
 abbrev pub ProbesFit : Type 0
@@ -32,4 +33,5 @@ ProbesFit = (u : UnitText) (now : List Bool) (e : Env) (s : OperandText) → Fit
 
 -- where what is given under a name fits, what is held still fits
 abbrev pub HeldStillFits : Type 0
-HeldStillFits = (u : UnitText) (width : ℕ) (e : Env) (result : Option (List ℕ)) (h : Option Held) → Fits u width e → ((n : List ℕ) → result ≡ Some n → GivenFits width h (value_type u n)) → Fits u width (if_held e result h)
+HeldStillFits = (u : UnitText) (width : ℕ) (e : Env) (result : Option (List ℕ)) (h : Option Held) → Fits u width e → ((n : List ℕ) → result ≡ Some n → GivenFits width h (value_type u n))
+    → Fits u width (if_held e result h)

@@ -43,7 +43,7 @@ IsWrittenRight (pure_text o args) = HasOperands o args
 IsWrittenRight _ = Unit {0}
 
 -- an instruction of a unit
-pub record IsSound (u : UnitText) (l : LineText) : Type 0 where
+pub record InstIsSound (u : UnitText) (l : LineText) : Type 0 where
   pub row : RowIs u l.inst
   pub part : HasPart u l.inst
   pub written : IsWrittenRight l.inst
@@ -51,4 +51,5 @@ pub record IsSound (u : UnitText) (l : LineText) : Type 0 where
 
 -- Where what is held fits, the values of an operation's operands fit its row.
 abbrev pub OperandsFitRows : Type 0
-OperandsFitRows = (u : UnitText) (width : ℕ) (e : Env) (o : Op) (args : List OperandText) → Fits u width e → RowIs u (pure_text o args) → HasOperands o args → (ds : List Datum) → data_at e args ≡ Some ds → FitsOp o ds
+OperandsFitRows = (u : UnitText) (width : ℕ) (e : Env) (o : Op) (args : List OperandText) → Fits u width e → RowIs u (pure_text o args) → HasOperands o args → (ds : List Datum)
+    → data_at e args ≡ Some ds → FitsOp o ds

@@ -52,7 +52,7 @@ fn carried_of(operand: &Typed) -> Option<&Ty>
     ensures carried { option_copied result ≡ option_and_then typing.carried operand.now.ty }
     ensures data { IfSome result (λ t. IsData t.now) }
 {
-    match &operand.ty {
+    match operand.ty.get() {
         Some(ty) => ty.carried(),
         None => None,
     }

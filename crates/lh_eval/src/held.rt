@@ -102,6 +102,7 @@ impl Slots {
     }
 
     /// Holds this by a value, in place of what it held.
+    #[inline(always)]
     pub fn set(&mut self, value: ValueId, held: Held)
         requires { value.0 < length self.old }
         ensures { self.new ≡ slice_set self.old value.0 (Some (held_of held)) }
@@ -110,6 +111,7 @@ impl Slots {
     }
 
     /// Holds what an instruction gives by the value that names its result, where both are there.
+    #[inline(always)]
     pub fn give(&mut self, name: Option<ValueId>, held: Option<Held>)
         requires { MaybeIn self.old name }
         ensures { self.new ≡ given self.old name (maybe_held held) }
@@ -124,10 +126,8 @@ fn push_copy(slots: &mut Vec<Option<Held>>, slot: &Option<Held>) -> Result<(), N
     ensures { OnOk result (map maybe_held slots.new.items ≡ map maybe_held slots.old.items ++ maybe_held slot.now ∷ []) }
 {
     let copied = copy_slot(slot)?;
-    match slots.push(copied) {
-        Ok(()) => Ok(()),
-        Err(_) => Err(NoMemory),
-    }
+    slots.push(copied)?;
+    Ok(())
 }
 
 fn copy_slot(slot: &Option<Held>) -> Result<Option<Held>, NoMemory>

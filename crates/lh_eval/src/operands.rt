@@ -117,8 +117,6 @@ fn push_copy(values: &mut Vec<Val>, value: &Val) -> Result<(), NoMemory>
     ensures { OnOk result (map datum_of values.new.items ≡ map datum_of values.old.items ++ datum_of value.now ∷ []) }
 {
     let value = value.copy()?;
-    match values.push(value) {
-        Ok(()) => Ok(()),
-        Err(_) => Err(NoMemory),
-    }
+    values.push(value)?;
+    Ok(())
 }

@@ -48,7 +48,7 @@ fn carried_by_inst(inst: &Inst) -> Option<&Ty>
 fn data(operand: &Typed) -> Option<&Ty>
     ensures { option_copied result ≡ option_and_then typing.carried (option_and_then signal_of operand.now.ty) }
 {
-    match &operand.ty {
+    match operand.ty.get() {
         Some(ty) if carries_data(ty) => Some(ty),
         _ => None,
     }
@@ -58,7 +58,7 @@ fn data(operand: &Typed) -> Option<&Ty>
 fn carried_twice(operand: &Typed) -> Option<&Ty>
     ensures { option_copied result ≡ option_and_then typing.carried (option_and_then typing.carried operand.now.ty) }
 {
-    match &operand.ty {
+    match operand.ty.get() {
         Some(ty) => ty.carried()?.carried(),
         None => None,
     }
@@ -68,7 +68,7 @@ fn carried_twice(operand: &Typed) -> Option<&Ty>
 fn carried_behind(operand: &Typed) -> Option<&Ty>
     ensures { option_copied result ≡ option_and_then typing.carried (option_and_then typing.pointed operand.now.ty) }
 {
-    match &operand.ty {
+    match operand.ty.get() {
         Some(ty) => ty.pointed()?.carried(),
         None => None,
     }
@@ -103,7 +103,7 @@ fn carried_first(args: &[Typed]) -> Option<&Ty>
     if args.is_empty() {
         return None;
     }
-    match &args[0].ty {
+    match args[0].ty.get() {
         Some(ty) => ty.carried(),
         None => None,
     }

@@ -56,7 +56,8 @@ module _ (a : Arena) (u : ℕ) (o : IsArena a) (h : u < unit_count a) (process :
     start-holds : (c : Control) → c.unit ≡ unit_text_at a u → ControlHolds c → PointHolds (start_point c)
     start-holds c e k = record { control = k; callers = ap (λ (v : UnitText). v.kind) e ∙ is-kind }
 
-    pub begin-holds : (s : declared.Stand) → FitsBy a u w s → (p : ProcessState) → StandsBy a u args s p → (p.stand ≡ halted → ⊥) → (c : Control) × (control_at (unit_text_at a u) p ≡ Some c) × PointHolds (start_point c)
+    pub begin-holds : (s : declared.Stand) → FitsBy a u w s → (p : ProcessState) → StandsBy a u args s p → (p.stand ≡ halted → ⊥) → (c : Control) × (control_at (unit_text_at a u) p ≡ Some c)
+        × PointHolds (start_point c)
     begin-holds stand.New f p k no_halt =
         let v = unit_text_at a u in
         let z = entry-holds v (contents a) steady right (begun v args).held (λ n d. passes.args-held w nothing_held v.args args r n d) in
@@ -69,7 +70,8 @@ module _ (a : Arena) (u : ℕ) (o : IsArena a) (h : u < unit_count a) (process :
         let there : HoldsThere v f.stands.text f.stands.before p.held = λ n d q. subst (λ (y : Option Held). IsSome y) (same-held w x.slots p.held f.held k.1 n d) (f.there n d q) in
         let fits = same-fits a u o h (process-blocks a u process) g w x.slots p.held f.held k.1 in
         let label = (line-in (contents a) v right from f.stands.text f.stands.stands f.stands.before l f.stands.after f.stands.split).labels.0 in
-        let z = edge-holds (contents a) w v steady right p.held fits from f.stands.text f.stands.stands f.stands.before l f.stands.after f.stands.split refl there to label.0 label.1 (first-name to []) in
+        let z = edge-holds (contents a) w v steady right p.held fits from f.stands.text f.stands.stands f.stands.before l f.stands.after f.stands.split refl there to label.0 label.1
+        (first-name to []) in
         (z.0, ap (control_from v p.held) k.0 ∙ z.1, start-holds z.0 z.2 z.3)
     begin-holds stand.Halted f p k no_halt = absurd (no_halt k)
 
@@ -81,20 +83,25 @@ module _ (a : Arena) (u : ℕ) (o : IsArena a) (h : u < unit_count a) (process :
         let z = begin-holds s f p k (not-halted p c e) in
         subst (λ (x : Control). PointHolds (start_point x)) (same_Some z.0 c (sym z.1 ∙ e)) z.2
 
-    begun-fits : (s : declared.Stand) → FitsBy a u w s → (p : ProcessState) → StandsBy a u args s p → (c : Control) → control_at (unit_text_at a u) p ≡ Some c → PointFits (contents a) w (unit_text_at a u) (start_point c)
+    begun-fits : (s : declared.Stand) → FitsBy a u w s → (p : ProcessState) → StandsBy a u args s p → (c : Control) → control_at (unit_text_at a u) p ≡ Some c
+        → PointFits (contents a) w (unit_text_at a u) (start_point c)
     begun-fits s f p k c e = begin-fits a u o h (process-blocks a u process) g w process args r s f p k c e
 
   -- at the end of an activation what is there is held
-  pub activation-holds : (now : List Bool) (t : Instant) (args : List Range) → RangesFit (length now) args (arg_types (unit_text_at a u).args) → (s : declared.Stand) → FitsBy a u (length now) s → (p : ProcessState) → StandsBy a u args s p → (c : Control) → control_at (unit_text_at a u) p ≡ Some c
+  pub activation-holds : (now : List Bool) (t : Instant) (args : List Range) → RangesFit (length now) args (arg_types (unit_text_at a u).args) → (s : declared.Stand) → FitsBy a u (length now) s
+      → (p : ProcessState) → StandsBy a u args s p → (c : Control) → control_at (unit_text_at a u) p ≡ Some c
       → (limit : ℕ) → EndHolds (unit_text_at a u) (run limit (scene_of a now t) (start_point c))
   activation-holds now t args r s f p k c e limit = by (run limit (scene_of a now t) (start_point c)) refl
     where
       by : (d : Option Activated) → run limit (scene_of a now t) (start_point c) ≡ d → EndHolds (unit_text_at a u) d
       by None q = tt
-      by (Some d) q = run-holds (contents a) now t (functions-right a o g) functions-hold (unit_text_at a u) limit (start_point c) (begun-fits (length now) args r s f p k c e) (begun-holds (length now) args r s f p k c e) d q
+      by (Some d) q = run-holds (contents a) now t (functions-right a o g) functions-hold (unit_text_at a u) limit (start_point c) (begun-fits (length now) args r s f p k c e)
+          (begun-holds (length now) args r s f p k c e) d q
 
   -- at each point that it reaches nothing goes wrong
-  pub activation-steady : (now : List Bool) (t : Instant) (args : List Range) → RangesFit (length now) args (arg_types (unit_text_at a u).args) → (s : declared.Stand) → FitsBy a u (length now) s → (p : ProcessState) → StandsBy a u args s p → (c : Control) → control_at (unit_text_at a u) p ≡ Some c
+  pub activation-steady : (now : List Bool) (t : Instant) (args : List Range) → RangesFit (length now) args (arg_types (unit_text_at a u).args) → (s : declared.Stand) → FitsBy a u (length now) s
+      → (p : ProcessState) → StandsBy a u args s p → (c : Control) → control_at (unit_text_at a u) p ≡ Some c
       → (points : List Point) (q : Point) → Reaches (scene_of a now t) (start_point c) points q → IsSteady (scene_of a now t) (length now) q
   activation-steady now t args r s f p k c e points q x =
-      reached (contents a) now t (functions-right a o g) functions-hold (unit_text_at a u) points (start_point c) q (begun-fits (length now) args r s f p k c e) (begun-holds (length now) args r s f p k c e) x
+      reached (contents a) now t (functions-right a o g) functions-hold (unit_text_at a u) points (start_point c) q (begun-fits (length now) args r s f p k c e)
+      (begun-holds (length now) args r s f p k c e) x

@@ -28,7 +28,7 @@ use Rattle.lh_formed.proofs.There.{first-name, second-name}
 use Rattle.lh_sound.specs.Finding as sound
 use Rattle.lh_sound.proofs.FindingPass.{held-split}
 use Rattle.lh_exec.specs.Sound.{LineRight, IsLabel, CallersFit, FunctionsRight, PointFits}
-use Rattle.lh_exec.specs.Steady.{Finds}
+use Rattle.lh_exec.specs.Steady.{FindsOperands}
 use Rattle.lh_exec.proofs.KeepsFit.{function-is}
 use Rattle.lh_exec.proofs.Placed.{PlaceRight, FunctionsSteady}
 use Rattle.lh_exec.proofs.Paths.{args-held, ControlHolds, entry-holds}
@@ -42,7 +42,8 @@ module _ (items : List ItemText) (now : List Bool) (t : Instant) (fs : Functions
   line r i = record { result = r; inst = i }
 
   -- what a call of a function begins
-  pub calls : (v : UnitText) (e : Env) (name : UnitName) (ty : TypeTree) (os : List OperandText) (ds : List Datum) → data_at e os ≡ Some ds → length ds ≡ length os → (r : FunctionIsRight items v name ty os)
+  pub calls : (v : UnitText) (e : Env) (name : UnitName) (ty : TypeTree) (os : List OperandText) (ds : List Datum) → data_at e os ≡ Some ds → length ds ≡ length os
+      → (r : FunctionIsRight items v name ty os)
       → (c : Control) × (called (function_named name (functions items)) (data_at e os) ≡ Some c) × (c.unit ≡ r.of) × ControlHolds c
   calls v e name ty os ds q n r =
       let g : UnitText = r.of in
@@ -64,7 +65,8 @@ module _ (items : List ItemText) (now : List Bool) (t : Instant) (fs : Functions
     of-operands [] h = tt
     of-operands (o ∷ os) h = (h.0, of-operands os h.1)
 
-    back : (o : Option OperandText) (c : Caller) → ReturnIs p.control.unit p.control.unit.result o → IsSome p.control.unit.result → ((a : OperandText) → o ≡ Some a → IsSome (here a.value)) → IsSome (given_back here o c)
+    back : (o : Option OperandText) (c : Caller) → ReturnIs p.control.unit p.control.unit.result o → IsSome p.control.unit.result → ((a : OperandText) → o ≡ Some a → IsSome (here a.value))
+        → IsSome (given_back here o c)
     back None c row some h = refl
     back (Some a) c row some h = by p.control.unit.result row some
       where
@@ -85,13 +87,16 @@ module _ (items : List ItemText) (now : List Bool) (t : Instant) (fs : Functions
     held : (i : InstText) (x : At i) → Each (IsThere p.control.unit k.control.text k.control.before) (values_named i) → AllHeld here (uses i)
     held i x h = here-held items now t fs ss u p f k (line x.0 i) x.1 x.2 (uses i) (place i x).2.defined h
 
-    edge : (i : InstText) (x : At i) → is_terminator i ≡ true → (to : List ℕ) → IsLabel p.control.unit to → list_any (λ m. same_name m to) (leads_to i) ≡ true → IsSome (entered p.control.unit here p.control.block to)
+    edge : (i : InstText) (x : At i) → is_terminator i ≡ true → (to : List ℕ) → IsLabel p.control.unit to → list_any (λ m. same_name m to) (leads_to i) ≡ true
+        → IsSome (entered p.control.unit here p.control.block to)
     edge i x e to b n = let z = leads items now t fs ss u p f k (line x.0 i) x.1 x.2 e to b n in is-some (entered p.control.unit here p.control.block to) z.0 z.1
 
-    one : (i : InstText) (x : At i) → Each (IsThere p.control.unit k.control.text k.control.before) (values_named i) → sound.Finds p.control.unit now t (record { held = here; seen = []; wish = p.wish }) i
+    one : (i : InstText) (x : At i) → Each (IsThere p.control.unit k.control.text k.control.before) (values_named i)
+        → sound.FindsInPass p.control.unit now t (record { held = here; seen = []; wish = p.wish }) i
     one i x h = finds-one p.control.unit now None t (record { held = here; seen = []; wish = p.wish }) f.control.fits i (right i x).sound.row (right i x).sound.part (held i x h)
 
-    branches : (cond first second : List ℕ) (x : At (branch_text cond first second)) → (b : Bool) → test_at here cond ≡ Some b → IsSome (option_and_then (entered p.control.unit here p.control.block) (chosen (test_at here cond) first second))
+    branches : (cond first second : List ℕ) (x : At (branch_text cond first second)) → (b : Bool) → test_at here cond ≡ Some b
+        → IsSome (option_and_then (entered p.control.unit here p.control.block) (chosen (test_at here cond) first second))
     branches cond first second x b q =
         subst (λ o. IsSome (option_and_then (entered p.control.unit here p.control.block) (chosen o first second))) (sym q) (at b)
       where
@@ -102,16 +107,19 @@ module _ (items : List ItemText) (now : List Bool) (t : Instant) (fs : Functions
         at false = edge (branch_text cond first second) x refl first labels.0 (first-name first (second ∷ []))
         at true = edge (branch_text cond first second) x refl second labels.1.0 (second-name first second)
 
-    waits-there : (to : List ℕ) (after : Option (List ℕ)) (on : List (List ℕ)) (x : At (wait_text to after on)) → AllHeld here (uses (wait_text to after on)) → IsSome (waiting p.control.block to (parts_at here on) (wake_at t here after))
+    waits-there : (to : List ℕ) (after : Option (List ℕ)) (on : List (List ℕ)) (x : At (wait_text to after on)) → AllHeld here (uses (wait_text to after on))
+        → IsSome (waiting p.control.block to (parts_at here on) (wake_at t here after))
     waits-there to after on x h =
         let both = held-split here (maybe_used time_needed after) (map (used signal_needed) on) h in
         let q = right (wait_text to after on) x in
         let ks = each-split (HasTypeOfKind p.control.unit) (maybe_used time_needed after) (map (used signal_needed) on) q.kinds in
         let rs = parts-used p.control.unit (length now) here f.control.fits on ks.1 both.1 in
         let o = wake-used p.control.unit (length now) here f.control.fits t after q.sound.row both.0 in
-        is-some (waiting p.control.block to (parts_at here on) (wake_at t here after)) (waits p.control.block to rs.0 o.0) (ap (λ z. waiting p.control.block to z (wake_at t here after)) rs.1 ∙ ap (waiting p.control.block to (Some rs.0)) o.1)
+        is-some (waiting p.control.block to (parts_at here on) (wake_at t here after)) (waits p.control.block to rs.0 o.0)
+        (ap (λ z. waiting p.control.block to z (wake_at t here after)) rs.1 ∙ ap (waiting p.control.block to (Some rs.0)) o.1)
 
-    gives-back : (o : Option OperandText) (x : At (ret_text o)) → ((a : OperandText) → o ≡ Some a → IsSome (here a.value)) → in_function p.control.unit.kind ≡ true → (c : Caller) × (more : List Caller) × (p.callers ≡ c ∷ more) × IsSome (given_back here o c)
+    gives-back : (o : Option OperandText) (x : At (ret_text o)) → ((a : OperandText) → o ≡ Some a → IsSome (here a.value)) → in_function p.control.unit.kind ≡ true → (c : Caller)
+        × (more : List Caller) × (p.callers ≡ c ∷ more) × IsSome (given_back here o c)
     gives-back o x h i =
         let c = some-caller p.control.unit p.callers k.callers i in
         (c.0, c.1, c.2, back o c.0 (right (ret_text o) x).sound.row (subst (CallersFit items (length now) p.control.unit) c.2 f.callers).1.0 h)
@@ -125,7 +133,7 @@ module _ (items : List ItemText) (now : List Bool) (t : Instant) (fs : Functions
         let i = call_text g ty os in
         data-used p.control.unit (length now) here f.control.fits os (right i x).kinds (held i x ((place i x).2.there k.control.steady.runs))
 
-    pub finds : (i : InstText) → At i → Finds scene p i
+    pub finds : (i : InstText) → At i → FindsOperands scene p i
     finds (const_text d) x = tt
     finds (pure_text o os) x = one (pure_text o os) x ((place (pure_text o os) x).2.there k.control.steady.runs)
     finds (var_text a) x =
@@ -149,7 +157,7 @@ module _ (items : List ItemText) (now : List Bool) (t : Instant) (fs : Functions
         h : AllHeld here (uses (call_text g ty os))
         h = held (call_text g ty os) x ((place (call_text g ty os) x).2.there k.control.steady.runs)
 
-        by : ((is_assert g ≡ true) × AssertIsRight p.control.unit ty os) ⊎ ((is_assert g ≡ false) × FunctionIsRight items p.control.unit g ty os) → Finds scene p (call_text g ty os)
+        by : ((is_assert g ≡ true) × AssertIsRight p.control.unit ty os) ⊎ ((is_assert g ≡ false) × FunctionIsRight items p.control.unit g ty os) → FindsOperands scene p (call_text g ty os)
         by (inl a) = inl (a.0, assertion os a.1.args_are (of-operands os h))
         by (inr a) =
             let ds = data-found g ty os x in
@@ -158,7 +166,8 @@ module _ (items : List ItemText) (now : List Bool) (t : Instant) (fs : Functions
     finds (phi_text ty es) x = tt
     finds (br_text to) x = edge (br_text to) x refl to (right (br_text to) x).labels.0 (first-name to [])
     finds (branch_text cond first second) x =
-        let b = some-of (test_at here cond) (test-at p.control.unit (length now) here f.control.fits cond (right (branch_text cond first second) x).sound.row (held (branch_text cond first second) x ((place (branch_text cond first second) x).2.there k.control.steady.runs)).0) in
+        let b = some-of (test_at here cond) (test-at p.control.unit (length now) here f.control.fits cond (right (branch_text cond first second) x).sound.row
+        (held (branch_text cond first second) x ((place (branch_text cond first second) x).2.there k.control.steady.runs)).0) in
         branches cond first second x b.0 b.1
     finds (wait_text to after on) x = (
       no-callers p.control.unit p.callers k.callers (place (wait_text to after on) x).2.allowed,

@@ -55,7 +55,8 @@ function-is n (unit_text u ∷ items) f e k = by (same_unit_name u.name n) refl 
     rest true s q = ap (λ x. if x then Some u else function_named n (functions items)) s ∙ q
     rest false s q = q
 
-    by : (s : Bool) → same_unit_name u.name n ≡ s → (b : Bool) → is_function u.kind ≡ b → (unit_named n items ≡ Some f → function_named n (functions items) ≡ Some f) → function_named n (if is_function u.kind then u ∷ functions items else functions items) ≡ Some f
+    by : (s : Bool) → same_unit_name u.name n ≡ s → (b : Bool) → is_function u.kind ≡ b → (unit_named n items ≡ Some f → function_named n (functions items) ≡ Some f)
+        → function_named n (if is_function u.kind then u ∷ functions items else functions items) ≡ Some f
     by true s b g go =
         let same : u ≡ f = same_Some u f (sym (ap (λ x. if x then Some u else unit_named n items) s) ∙ e) in
         ap (λ x. function_named n (if x then u ∷ functions items else functions items)) (ap (λ (x : UnitText). is_function x.kind) same ∙ k)
@@ -109,19 +110,22 @@ edge-is u t from (x ∷ es) n e h = by (edge-is u t from es n e.1) (same_name x.
     by go false q = go q
 
 module _ (items : List ItemText) (u : UnitText) (w : ℕ) (from : List ℕ) (e : Env) (f : Fits u w e) where
-  phi-fits : (ty : TypeTree) (es : List EdgeText) (r : Option (List ℕ)) → RowIs u (phi_text ty es) → ((n : List ℕ) → r ≡ Some n → value_type u n ≡ Some ty) → (acc : Option Env) → MaybeFits u w acc → MaybeFits u w (result_put r (option_and_then (datum_at e) (edge_from from es)) acc)
+  phi-fits : (ty : TypeTree) (es : List EdgeText) (r : Option (List ℕ)) → RowIs u (phi_text ty es) → ((n : List ℕ) → r ≡ Some n → value_type u n ≡ Some ty) → (acc : Option Env) → MaybeFits u w acc
+      → MaybeFits u w (result_put r (option_and_then (datum_at e) (edge_from from es)) acc)
   phi-fits ty es r row g acc m = by (edge_from from es) refl
     where
       put : (n : List ℕ) → edge_from from es ≡ Some n → (v : Option Datum) → datum_at e n ≡ v → (a : Option Env) → MaybeFits u w a → MaybeFits u w (result_put r v a)
       put n q None p a k = tt
       put n q (Some d) p None k = tt
-      put n q (Some d) p (Some a) k = held-still-fits u w a r (Some (datum_held d)) k (λ x y z t h c. as-held w (datum_held d) z ty t (datum-fits u w e f n d ty p (edge-is u ty from es n row.1 q)) h (sym (g x y) ∙ c))
+      put n q (Some d) p (Some a) k = held-still-fits u w a r (Some (datum_held d)) k
+          (λ x y z t h c. as-held w (datum_held d) z ty t (datum-fits u w e f n d ty p (edge-is u ty from es n row.1 q)) h (sym (g x y) ∙ c))
 
       by : (o : Option (List ℕ)) → edge_from from es ≡ o → MaybeFits u w (result_put r (option_and_then (datum_at e) o) acc)
       by None q = tt
       by (Some n) q = put n q (datum_at e n) refl acc m
 
-  one-phi : (i : InstText) (r : Option (List ℕ)) (acc : Option Env) → RowIs u i → ((n : List ℕ) → r ≡ Some n → value_type u n ≡ result_type i) → MaybeFits u w acc → MaybeFits u w (phi_taken from e i r acc)
+  one-phi : (i : InstText) (r : Option (List ℕ)) (acc : Option Env) → RowIs u i → ((n : List ℕ) → r ≡ Some n → value_type u n ≡ result_type i) → MaybeFits u w acc
+      → MaybeFits u w (phi_taken from e i r acc)
   one-phi (phi_text ty es) r acc row g m = phi-fits ty es r row g acc m
   one-phi _ r acc row g m = m
 
@@ -171,13 +175,15 @@ module _ (items : List ItemText) (w : ℕ) where
   front-some (Some d) None ds h = absurd (none-some ds h)
   front-some (Some d) (Some more) ds h = (d, more, refl, refl, same_Some (d ∷ more) ds h)
 
-  args-fit : (v g : UnitText) (e : Env) → Fits v w e → (xs : List ArgText) (os : List OperandText) (ds : List Datum) (to : Env) → Each (HasItsType g) xs → ArgumentsAre v os xs → data_at e os ≡ Some ds → Fits g w to → Fits g w (with_args to xs (map datum_held ds))
+  args-fit : (v g : UnitText) (e : Env) → Fits v w e → (xs : List ArgText) (os : List OperandText) (ds : List Datum) (to : Env) → Each (HasItsType g) xs → ArgumentsAre v os xs → data_at e os ≡ Some ds
+      → Fits g w to → Fits g w (with_args to xs (map datum_held ds))
   args-fit v g e f [] os ds to t are h k = k
   args-fit v g e f (x ∷ xs) [] ds to t are h k = absurd are
   args-fit v g e f (x ∷ xs) (o ∷ os) ds to t are h k =
       let q = front-some (datum_at e o.value) (data_at e os) ds h in
       let next : Fits g w (with_held to x.name (datum_held q.0)) =
-      held-still-fits g w to (Some x.name) (Some (datum_held q.0)) k (λ n m y z p c. as-held w (datum_held q.0) y x.ty z (datum-fits v w e f o.value q.0 x.ty q.2 are.0) p (sym t.0 ∙ ap (value_type g) (same_Some x.name n m) ∙ c)) in
+      held-still-fits g w to (Some x.name) (Some (datum_held q.0)) k
+      (λ n m y z p c. as-held w (datum_held q.0) y x.ty z (datum-fits v w e f o.value q.0 x.ty q.2 are.0) p (sym t.0 ∙ ap (value_type g) (same_Some x.name n m) ∙ c)) in
       subst (λ (l : List Datum). Fits g w (with_args to (x ∷ xs) (map datum_held l))) q.4
       (args-fit v g e f xs os q.1 (with_held to x.name (datum_held q.0)) t.1 are.1 q.3 next)
 
@@ -207,7 +213,8 @@ module _ (items : List ItemText) (w : ℕ) where
     }
 
     holds-more : (e : Env) → Fits p.control.unit w e → PointFits items w u (record p { control = record p.control { held = e } })
-    holds-more e k = goes-in (record p.control { held = e }) (record { right = f.control.right; text = f.control.text; block = f.control.block; before = f.control.before; split = f.control.split; fits = k }, refl)
+    holds-more e k = goes-in (record p.control { held = e })
+        (record { right = f.control.right; text = f.control.text; block = f.control.block; before = f.control.before; split = f.control.split; fits = k }, refl)
 
   module _ (time : Instant) (u : UnitText) (p : Point) (f : PointFits items w u p) where
     gives-fit : (r : Option (List ℕ)) (h : Option Held) → ((n : List ℕ) → r ≡ Some n → GivenFits w h (value_type p.control.unit n)) → NextFits items w time u p.control.unit (gives p r h)
@@ -233,7 +240,8 @@ module _ (items : List ItemText) (w : ℕ) where
     tells-fit None = tt
     tells-fit (Some b) = record { control = f.control; callers = f.callers; began = f.began; wish = f.wish }
 
-    stores-fit : (to value : List ℕ) (t : TypeTree) → IsOf p.control.unit (pointer_type t) to → IsOf p.control.unit t value → NextFits items w time u p.control.unit (stores p to (cell_at p.control.held to) (datum_at p.control.held value))
+    stores-fit : (to value : List ℕ) (t : TypeTree) → IsOf p.control.unit (pointer_type t) to → IsOf p.control.unit t value
+        → NextFits items w time u p.control.unit (stores p to (cell_at p.control.held to) (datum_at p.control.held value))
     stores-fit to value t a b = by (cell_at p.control.held to) (datum_at p.control.held value) refl
       where
         by : (x y : Option Datum) → datum_at p.control.held value ≡ y → NextFits items w time u p.control.unit (stores p to x y)
@@ -241,9 +249,12 @@ module _ (items : List ItemText) (w : ℕ) where
         by (Some x) None e = tt
         by (Some x) (Some d) e =
             let k : FitsHeld w (cell_held d) (pointer_type t) = datum-fits p.control.unit w p.control.held f.control.fits value d t e b in
-            holds-more u p f (with_held p.control.held to (cell_held d)) (held-still-fits p.control.unit w p.control.held (Some to) (Some (cell_held d)) f.control.fits (λ n m y s h c. as-held w (cell_held d) y (pointer_type t) s k h (sym a ∙ ap (value_type p.control.unit) (same_Some to n m) ∙ c)))
+            holds-more u p f (with_held p.control.held to (cell_held d))
+            (held-still-fits p.control.unit w p.control.held (Some to) (Some (cell_held d)) f.control.fits
+            (λ n m y s h c. as-held w (cell_held d) y (pointer_type t) s k h (sym a ∙ ap (value_type p.control.unit) (same_Some to n m) ∙ c)))
 
-    opens-fit : (r : Option (List ℕ)) (o : Option Control) → ((c : Control) → o ≡ Some c → ControlFits items w c × ResultFits c.unit (record { control = p.control; result = r })) → NextFits items w time u p.control.unit (opens p r o)
+    opens-fit : (r : Option (List ℕ)) (o : Option Control) → ((c : Control) → o ≡ Some c → ControlFits items w c × ResultFits c.unit (record { control = p.control; result = r }))
+        → NextFits items w time u p.control.unit (opens p r o)
     opens-fit r None g = tt
     opens-fit r (Some c) g = by (nat_lt (length p.callers) 256)
       where
@@ -251,7 +262,8 @@ module _ (items : List ItemText) (w : ℕ) where
         by false = tt
         by true = let k = g c refl in record { control = k.0; callers = (f.control, k.1, f.callers); began = f.began; wish = f.wish }
 
-    back-fits : (o : Option OperandText) (c : Caller) (more : List Caller) (e : Env) → p.callers ≡ c ∷ more → Fits c.control.unit w e → PointFits items w u (record p { control = record c.control { held = e }; callers = more })
+    back-fits : (o : Option OperandText) (c : Caller) (more : List Caller) (e : Env) → p.callers ≡ c ∷ more → Fits c.control.unit w e
+        → PointFits items w u (record p { control = record c.control { held = e }; callers = more })
     back-fits o c more e q k =
         let cs = subst (CallersFit items w p.control.unit) q f.callers in
         let b : lowest c.control more ≡ u = sym (ap (lowest p.control) q) ∙ f.began in
@@ -262,23 +274,28 @@ module _ (items : List ItemText) (w : ℕ) where
           wish = f.wish;
         }
 
-    returned-fits : (a : OperandText) (c : Caller) → ReturnIs p.control.unit p.control.unit.result (Some a) → IsSome p.control.unit.result → GivesResult p.control.unit c → (n : List ℕ) → c.result ≡ Some n → (d : Datum) → datum_at p.control.held a.value ≡ Some d → GivenFits w (Some (datum_held d)) (value_type c.control.unit n)
+    returned-fits : (a : OperandText) (c : Caller) → ReturnIs p.control.unit p.control.unit.result (Some a) → IsSome p.control.unit.result → GivesResult p.control.unit c → (n : List ℕ)
+        → c.result ≡ Some n → (d : Datum) → datum_at p.control.held a.value ≡ Some d → GivenFits w (Some (datum_held d)) (value_type c.control.unit n)
     returned-fits a c row some g n m d h y s q z = by p.control.unit.result refl row some
       where
         by : (o : Option TypeTree) → p.control.unit.result ≡ o → ReturnIs p.control.unit o (Some a) → IsSome o → FitsHeld w y s
         by None e r i = absurd cc
         by (Some t) e r i = as-held w (datum_held d) y t s (datum-fits p.control.unit w p.control.held f.control.fits a.value d t h r.1.1) q (sym (g n t m e) ∙ z)
 
-    returns-fit : (o : Option OperandText) → ReturnIs p.control.unit p.control.unit.result o → ((c : Caller) (more : List Caller) → p.callers ≡ c ∷ more → IsSome p.control.unit.result) → NextFits items w time u p.control.unit (returns p o p.callers)
+    returns-fit : (o : Option OperandText) → ReturnIs p.control.unit p.control.unit.result o → ((c : Caller) (more : List Caller) → p.callers ≡ c ∷ more → IsSome p.control.unit.result)
+        → NextFits items w time u p.control.unit (returns p o p.callers)
     returns-fit o row some = by p.callers refl
       where
-        with_value : (c : Caller) (more : List Caller) → p.callers ≡ c ∷ more → (a : OperandText) → ReturnIs p.control.unit p.control.unit.result (Some a) → (v : Option Datum) → datum_at p.control.held a.value ≡ v → NextFits items w time u p.control.unit (goes_back p c more (option_map (λ x. with_result c.control.held c.result (datum_held x)) v))
+        with_value : (c : Caller) (more : List Caller) → p.callers ≡ c ∷ more → (a : OperandText) → ReturnIs p.control.unit p.control.unit.result (Some a) → (v : Option Datum)
+            → datum_at p.control.held a.value ≡ v → NextFits items w time u p.control.unit (goes_back p c more (option_map (λ x. with_result c.control.held c.result (datum_held x)) v))
         with_value c more q a r None h = tt
         with_value c more q a r (Some d) h =
             let cs = subst (CallersFit items w p.control.unit) q f.callers in
-            back-fits (Some a) c more (with_result c.control.held c.result (datum_held d)) q (held-still-fits c.control.unit w c.control.held c.result (Some (datum_held d)) cs.0.fits (λ n m. returned-fits a c r (some c more q) cs.1.1 n m d h))
+            back-fits (Some a) c more (with_result c.control.held c.result (datum_held d)) q
+            (held-still-fits c.control.unit w c.control.held c.result (Some (datum_held d)) cs.0.fits (λ n m. returned-fits a c r (some c more q) cs.1.1 n m d h))
 
-        goes-back : (c : Caller) (more : List Caller) → p.callers ≡ c ∷ more → (x : Option OperandText) → ReturnIs p.control.unit p.control.unit.result x → NextFits items w time u p.control.unit (goes_back p c more (given_back p.control.held x c))
+        goes-back : (c : Caller) (more : List Caller) → p.callers ≡ c ∷ more → (x : Option OperandText) → ReturnIs p.control.unit p.control.unit.result x
+            → NextFits items w time u p.control.unit (goes_back p c more (given_back p.control.held x c))
         goes-back c more q None r = back-fits None c more c.control.held q (subst (CallersFit items w p.control.unit) q f.callers).0.fits
         goes-back c more q (Some a) r = with_value c more q a r (datum_at p.control.held a.value) refl
 
@@ -289,9 +306,13 @@ module _ (items : List ItemText) (w : ℕ) where
     ends-fit : (o : Option Stand) → ((s : Stand) → o ≡ Some s → StandFits w time p.control.unit s) → NextFits items w time u p.control.unit (ends_at p p.callers o)
     ends-fit o g = by p.callers f.began o g
       where
-        by : (cs : List Caller) → lowest p.control cs ≡ u → (x : Option Stand) → ((s : Stand) → x ≡ Some s → StandFits w time p.control.unit s) → NextFits items w time u p.control.unit (ends_at p cs x)
+        by : (cs : List Caller) → lowest p.control cs ≡ u → (x : Option Stand) → ((s : Stand) → x ≡ Some s → StandFits w time p.control.unit s)
+            → NextFits items w time u p.control.unit (ends_at p cs x)
         by [] b None k = tt
-        by [] b (Some s) k = (record { stand = subst (λ (v : UnitText). StandFits w time v s) b (k s refl); held = subst (λ (v : UnitText). Fits v w p.control.held) b f.control.fits; wish = f.wish }, b)
+        by [] b (Some s) k = (
+          record { stand = subst (λ (v : UnitText). StandFits w time v s) b (k s refl); held = subst (λ (v : UnitText). Fits v w p.control.held) b f.control.fits; wish = f.wish },
+          b,
+        )
         by (c ∷ cs) b None k = tt
         by (c ∷ cs) b (Some s) k = tt
 
@@ -309,14 +330,24 @@ pub record Past (items : List ItemText) (w : ℕ) (u : UnitText) (l : LineText) 
   pub some : (c : Caller) (more : List Caller) → p.callers ≡ c ∷ more → IsSome p.control.unit.result
 
 -- past the next instruction
-pub past-of : (items : List ItemText) (w : ℕ) (u : UnitText) (p : Point) (l : LineText) (rest : List LineText) → PointFits items w u p → p.control.rest ≡ l ∷ rest → Past items w u l (record p { control = record p.control { rest = rest } })
+pub past-of : (items : List ItemText) (w : ℕ) (u : UnitText) (p : Point) (l : LineText) (rest : List LineText) → PointFits items w u p → p.control.rest ≡ l ∷ rest
+    → Past items w u l (record p { control = record p.control { rest = rest } })
 past-of items w u p l rest f e =
     let here : f.control.text.lines ≡ f.control.before ++ l ∷ rest = f.control.split ∙ ap (λ ls. f.control.before ++ ls) e in
     let right = block-has (λ (b : BlockText). Each (LineRight items p.control.unit) b.lines) p.control.block p.control.unit.blocks f.control.text f.control.right.lines f.control.block in
     let all = each-split (LineRight items p.control.unit) f.control.before (l ∷ rest) (subst (Each (LineRight items p.control.unit)) here right) in
     record {
-      fits = goes-in items w u p f (record p.control { rest = rest })
-          (record { right = f.control.right; text = f.control.text; block = f.control.block; before = f.control.before ++ l ∷ []; split = here ∙ sym (append_assoc f.control.before (l ∷ []) rest); fits = f.control.fits }, refl);
+      fits = goes-in items w u p f (record p.control { rest = rest }) (
+        record {
+          right = f.control.right;
+          text = f.control.text;
+          block = f.control.block;
+          before = f.control.before ++ l ∷ [];
+          split = here ∙ sym (append_assoc f.control.before (l ∷ []) rest);
+          fits = f.control.fits;
+        },
+        refl,
+      );
       right = all.1.0;
       text = f.control.text;
       block = f.control.block;
@@ -334,11 +365,13 @@ module _ (items : List ItemText) (now : List Bool) (t : Instant) (fs : Functions
   s = record { functions = functions items; now = now; at = t }
 
   -- a call, or an assertion
-  call-fits : (p : Point) (f : UnitName) (ty : TypeTree) (os : List OperandText) (r : Option (List ℕ)) → PointFits items (length now) u p → ((n : List ℕ) → r ≡ Some n → value_type p.control.unit n ≡ Some ty)
+  call-fits : (p : Point) (f : UnitName) (ty : TypeTree) (os : List OperandText) (r : Option (List ℕ)) → PointFits items (length now) u p
+      → ((n : List ℕ) → r ≡ Some n → value_type p.control.unit n ≡ Some ty)
       → ((is_assert f ≡ true) × AssertIsRight p.control.unit ty os) ⊎ ((is_assert f ≡ false) × FunctionIsRight items p.control.unit f ty os)
       → NextFits items (length now) t u p.control.unit (executes s (call_text f ty os) r p)
   call-fits p f ty os r k g (inl a) =
-      subst (λ (b : Bool). NextFits items (length now) t u p.control.unit (if b then tells p (asserted p.control.held os) else opens p r (called (function_named f (functions items)) (data_at p.control.held os)))) (sym a.0)
+      subst (λ (b : Bool). NextFits items (length now) t u p.control.unit
+      (if b then tells p (asserted p.control.held os) else opens p r (called (function_named f (functions items)) (data_at p.control.held os)))) (sym a.0)
       (tells-fit items (length now) t u p k (asserted p.control.held os))
   call-fits p f ty os r k g (inr a) =
       let named : function_named f (functions items) ≡ Some a.1.of = function-is f items a.1.of a.1.named a.1.function in
@@ -348,18 +381,24 @@ module _ (items : List ItemText) (now : List Bool) (t : Instant) (fs : Functions
       (λ c e.
       let z = called-fits items (length now) p.control.unit a.1.of p.control.held os c right.0 k.control.fits a.1.args_are e in
       (z.0, (subst (λ (v : UnitText). IsSome v.result) (sym z.1) right.1, λ n y q h. g n q ∙ ap Some (a.1.gives y (sym (ap (λ (v : UnitText). v.result) z.1) ∙ h))))) in
-      subst (λ (b : Bool). NextFits items (length now) t u p.control.unit (if b then tells p (asserted p.control.held os) else opens p r (called (function_named f (functions items)) (data_at p.control.held os)))) (sym a.0)
+      subst (λ (b : Bool). NextFits items (length now) t u p.control.unit
+      (if b then tells p (asserted p.control.held os) else opens p r (called (function_named f (functions items)) (data_at p.control.held os)))) (sym a.0)
       (subst (λ (o : Option UnitText). NextFits items (length now) t u p.control.unit (opens p r (called o (data_at p.control.held os)))) (sym named) opened)
 
   exec-fits : (i : InstText) (r : Option (List ℕ)) (p : Point) → Past items (length now) u (record { result = r; inst = i }) p → NextFits items (length now) t u p.control.unit (executes s i r p)
-  exec-fits (const_text d) r p k = gives-fit items (length now) t u p k.fits r (Some (datum_held d)) (λ n e x y g q. constants-fit (length now) d k.right.sound.written x y g (sym (k.right.sound.gives n e) ∙ q))
+  exec-fits (const_text d) r p k = gives-fit items (length now) t u p k.fits r (Some (datum_held d))
+      (λ n e x y g q. constants-fit (length now) d k.right.sound.written x y g (sym (k.right.sound.gives n e) ∙ q))
   exec-fits (pure_text o os) r p k =
       gives-fit items (length now) t u p k.fits r (operated p.control.unit p.control.held o os)
-      (λ n e x y g q. operations-fit p.control.unit (length now) p.control.held o os k.fits.control.fits k.right.sound.row k.right.sound.part k.right.sound.written x y g (sym (k.right.sound.gives n e) ∙ q))
-  exec-fits (var_text a) r p k = gives-fit items (length now) t u p k.fits r (option_map cell_held (datum_at p.control.held a.value)) (λ n e. new-cell-fits p.control.unit (length now) p.control.held k.fits.control.fits a (value_type p.control.unit n) k.right.sound.row (k.right.sound.gives n e))
-  exec-fits (ld_text a) r p k = gives-fit items (length now) t u p k.fits r (option_map datum_held (cell_at p.control.held a.value)) (λ n e. stored-fits p.control.unit (length now) p.control.held k.fits.control.fits a (value_type p.control.unit n) k.right.sound.row (k.right.sound.gives n e))
+      (λ n e x y g q. operations-fit p.control.unit (length now) p.control.held o os k.fits.control.fits k.right.sound.row k.right.sound.part k.right.sound.written x y g
+      (sym (k.right.sound.gives n e) ∙ q))
+  exec-fits (var_text a) r p k = gives-fit items (length now) t u p k.fits r (option_map cell_held (datum_at p.control.held a.value))
+      (λ n e. new-cell-fits p.control.unit (length now) p.control.held k.fits.control.fits a (value_type p.control.unit n) k.right.sound.row (k.right.sound.gives n e))
+  exec-fits (ld_text a) r p k = gives-fit items (length now) t u p k.fits r (option_map datum_held (cell_at p.control.held a.value))
+      (λ n e. stored-fits p.control.unit (length now) p.control.held k.fits.control.fits a (value_type p.control.unit n) k.right.sound.row (k.right.sound.gives n e))
   exec-fits (st_text to value) r p k = stores-fit items (length now) t u p k.fits to.value value k.right.sound.row.0 k.right.sound.row.1.1 k.right.sound.row.2
-  exec-fits (prb_text a) r p k = gives-fit items (length now) t u p k.fits r (probed now p.control.held a) (λ n e x y g q. probes-fit p.control.unit now p.control.held a k.fits.control.fits k.right.sound.row x y g (sym (k.right.sound.gives n e) ∙ q))
+  exec-fits (prb_text a) r p k = gives-fit items (length now) t u p k.fits r (probed now p.control.held a)
+      (λ n e x y g q. probes-fit p.control.unit now p.control.held a k.fits.control.fits k.right.sound.row x y g (sym (k.right.sound.gives n e) ∙ q))
   exec-fits (drv_text to value after cond) r p k =
       wishes-fit items (length now) t u p k.fits (driven t p.control.held p.wish to value after cond)
       (driven-within p.control.unit (length now) p.control.held t p.wish to value after cond k.fits.control.fits k.right.sound.row k.fits.wish)

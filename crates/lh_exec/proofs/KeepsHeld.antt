@@ -76,7 +76,8 @@ module _ (items : List ItemText) (now : List Bool) (t : Instant) (fs : Functions
     jumps-hold rest o c e v h =
         subst (λ (y : Option Control). NextHolds p.control.unit (jumps (past rest) y)) (sym e) (record { control = h; callers = subst (λ (y : UnitText). CallersHold y p.callers) (sym v) k.callers })
 
-    branch-holds : (cond first second : List ℕ) (x : At (branch_text cond first second)) (o : Option Bool) → NextHolds p.control.unit (jumps (past x.1) (option_and_then (entered p.control.unit here p.control.block) (chosen o first second)))
+    branch-holds : (cond first second : List ℕ) (x : At (branch_text cond first second)) (o : Option Bool)
+        → NextHolds p.control.unit (jumps (past x.1) (option_and_then (entered p.control.unit here p.control.block) (chosen o first second)))
     branch-holds cond first second x None = tt
     branch-holds cond first second x (Some false) =
         let l = line x.0 (branch_text cond first second) in
@@ -87,16 +88,19 @@ module _ (items : List ItemText) (now : List Bool) (t : Instant) (fs : Functions
         let z = leads items now t fs ss u p f k l x.1 x.2 refl second (here-right items now t fs ss u p f k l x.1 x.2).labels.1.0 (second-name first second) in
         jumps-hold x.1 (entered p.control.unit here p.control.block second) z.0 z.1 z.2 z.3
 
-    opens-hold : (i : InstText) (x : At i) → is_terminator i ≡ false → ((n : List ℕ) → x.0 ≡ Some n → value_type p.control.unit n ≡ Some void_type → ⊥) → (o : Option Control) (c : Control) → o ≡ Some c → is_function c.unit.kind ≡ true → ControlHolds c
+    opens-hold : (i : InstText) (x : At i) → is_terminator i ≡ false → ((n : List ℕ) → x.0 ≡ Some n → value_type p.control.unit n ≡ Some void_type → ⊥) → (o : Option Control) (c : Control)
+        → o ≡ Some c → is_function c.unit.kind ≡ true → ControlHolds c
         → NextHolds p.control.unit (opens (past x.1) x.0 o)
     opens-hold i x e v o c q g h = subst (λ (y : Option Control). NextHolds p.control.unit (opens (past x.1) x.0 y)) (sym q) (by (nat_lt (length p.callers) max_calls))
       where
-        by : (b : Bool) → NextHolds p.control.unit (if b then goes (record (past x.1) { control = c; callers = record { control = record p.control { rest = x.1 }; result = x.0 } ∷ p.callers }) else no_step)
+        by : (b : Bool) → NextHolds p.control.unit (if b then goes (record (past x.1) { control = c; callers = record { control = record p.control { rest = x.1 }; result = x.0 } ∷ p.callers })
+            else no_step)
         by false = tt
         by true = record { control = h; callers = (g, calling items now t fs ss u p f k (line x.0 i) x.1 x.2 e v, k.callers) }
 
     -- the last open call goes on
-    caller-goes : (c : Caller) (more : List Caller) → CallerHolds c → CallersHold c.control.unit more → (rest : List LineText) (e : Env) → ((n : List ℕ) → IsSome (c.control.held n) → IsSome (e n)) → ((n : List ℕ) → is_result_name n c.result ≡ true → IsSome (e n))
+    caller-goes : (c : Caller) (more : List Caller) → CallerHolds c → CallersHold c.control.unit more → (rest : List LineText) (e : Env) → ((n : List ℕ) → IsSome (c.control.held n) → IsSome (e n))
+        → ((n : List ℕ) → is_result_name n c.result ≡ true → IsSome (e n))
         → PointHolds (record (past rest) { control = record c.control { held = e }; callers = more })
     caller-goes c more h m rest e stays result = record {
       control = record {
@@ -116,20 +120,23 @@ module _ (items : List ItemText) (now : List Bool) (t : Instant) (fs : Functions
         at n d g true q = result n q
         at n d g false q = stays n (h.there n d g q)
 
-    void-result : (c : Caller) → CallerHolds c → GivesResult p.control.unit c → ReturnIs p.control.unit p.control.unit.result None → IsSome p.control.unit.result → (n : List ℕ) → is_result_name n c.result ≡ true → IsSome (c.control.held n)
+    void-result : (c : Caller) → CallerHolds c → GivesResult p.control.unit c → ReturnIs p.control.unit p.control.unit.result None → IsSome p.control.unit.result → (n : List ℕ)
+        → is_result_name n c.result ≡ true → IsSome (c.control.held n)
     void-result c h g row some n q =
         let r = some-of p.control.unit.result some in
         let v : r.0 ≡ void_type = subst (λ (o : Option TypeTree). ReturnIs p.control.unit o None) r.1 row in
         absurd (h.valued n (result-is c.result n q) (g n r.0 (result-is c.result n q) r.1 ∙ ap Some v))
 
-    back-holds : (o : Option OperandText) (rest : List LineText) (c : Caller) (more : List Caller) → CallerHolds c → CallersHold c.control.unit more → GivesResult p.control.unit c → IsSome p.control.unit.result → ReturnIs p.control.unit p.control.unit.result o
+    back-holds : (o : Option OperandText) (rest : List LineText) (c : Caller) (more : List Caller) → CallerHolds c → CallersHold c.control.unit more → GivesResult p.control.unit c
+        → IsSome p.control.unit.result → ReturnIs p.control.unit p.control.unit.result o
         → NextHolds p.control.unit (goes_back (past rest) c more (given_back here o c))
     back-holds None rest c more h m g some row = caller-goes c more h m rest c.control.held (λ n s. s) (void-result c h g row some)
     back-holds (Some a) rest c more h m g some row = by (datum_at here a.value)
       where
         by : (d : Option Datum) → NextHolds p.control.unit (goes_back (past rest) c more (option_map (λ x. with_result c.control.held c.result (datum_held x)) d))
         by None = tt
-        by (Some d) = caller-goes c more h m rest (with_result c.control.held c.result (datum_held d)) (λ n s. result-stays c.control.held c.result n (datum_held d) s) (λ n q. named-held c.control.held c.result n (datum_held d) q)
+        by (Some d) = caller-goes c more h m rest (with_result c.control.held c.result (datum_held d)) (λ n s. result-stays c.control.held c.result n (datum_held d) s)
+            (λ n q. named-held c.control.held c.result n (datum_held d) q)
 
     returns-hold : (o : Option OperandText) (rest : List LineText) → ReturnIs p.control.unit p.control.unit.result o → NextHolds p.control.unit (returns (past rest) o p.callers)
     returns-hold o rest row = by p.callers refl
@@ -150,7 +157,8 @@ module _ (items : List ItemText) (now : List Bool) (t : Instant) (fs : Functions
     halts : (x : Stand) → Some halted ≡ Some x → StandHolds p.control.unit here x
     halts x e = subst (StandHolds p.control.unit here) (same_Some halted x e) tt
 
-    waits-hold : (to : List ℕ) (after : Option (List ℕ)) (signals : List (List ℕ)) (x : At (wait_text to after signals)) (on : Option (List Range)) (wake : Option (Option Instant)) (y : Stand) → waiting p.control.block to on wake ≡ Some y → StandHolds p.control.unit here y
+    waits-hold : (to : List ℕ) (after : Option (List ℕ)) (signals : List (List ℕ)) (x : At (wait_text to after signals)) (on : Option (List Range)) (wake : Option (Option Instant)) (y : Stand)
+        → waiting p.control.block to on wake ≡ Some y → StandHolds p.control.unit here y
     waits-hold to after signals x None wake y e = absurd (none-some y e)
     waits-hold to after signals x (Some on) None y e = absurd (none-some y e)
     waits-hold to after signals x (Some on) (Some wake) y e =
@@ -167,16 +175,19 @@ module _ (items : List ItemText) (now : List Bool) (t : Instant) (fs : Functions
         } in
         subst (StandHolds p.control.unit here) (same_Some (waits p.control.block to on wake) y e) (at, k.control.there)
 
-    call-holds : (g : UnitName) (ty : TypeTree) (os : List OperandText) (x : At (call_text g ty os)) → ((is_assert g ≡ true) × AssertIsRight p.control.unit ty os) ⊎ ((is_assert g ≡ false) × FunctionIsRight items p.control.unit g ty os)
+    call-holds : (g : UnitName) (ty : TypeTree) (os : List OperandText) (x : At (call_text g ty os))
+        → ((is_assert g ≡ true) × AssertIsRight p.control.unit ty os) ⊎ ((is_assert g ≡ false) × FunctionIsRight items p.control.unit g ty os)
         → NextHolds p.control.unit (executes scene (call_text g ty os) x.0 (past x.1))
     call-holds g ty os x (inl a) =
-        subst (λ (b : Bool). NextHolds p.control.unit (if b then tells (past x.1) (asserted here os) else opens (past x.1) x.0 (called (function_named g (functions items)) (data_at here os)))) (sym a.0)
+        subst (λ (b : Bool). NextHolds p.control.unit (if b then tells (past x.1) (asserted here os) else opens (past x.1) x.0 (called (function_named g (functions items)) (data_at here os))))
+        (sym a.0)
         (tells-hold (call_text g ty os) x refl (ap (λ y. not (is_void y)) a.1.gives) (asserted here os))
     call-holds g ty os x (inr a) =
         let l = line x.0 (call_text g ty os) in
         let ds = data-found items now t fs ss u p f k g ty os x in
         let z = calls items now t fs ss u p.control.unit here g ty os ds.0 ds.1 ds.2 a.1 in
-        subst (λ (b : Bool). NextHolds p.control.unit (if b then tells (past x.1) (asserted here os) else opens (past x.1) x.0 (called (function_named g (functions items)) (data_at here os)))) (sym a.0)
+        subst (λ (b : Bool). NextHolds p.control.unit (if b then tells (past x.1) (asserted here os) else opens (past x.1) x.0 (called (function_named g (functions items)) (data_at here os))))
+        (sym a.0)
         (opens-hold (call_text g ty os) x refl valued (called (function_named g (functions items)) (data_at here os)) z.0 z.1 (ap (λ (y : UnitText). is_function y.kind) z.2 ∙ a.1.function) z.3)
       where
         valued : (n : List ℕ) → x.0 ≡ Some n → value_type p.control.unit n ≡ Some void_type → ⊥
@@ -202,7 +213,8 @@ module _ (items : List ItemText) (now : List Bool) (t : Instant) (fs : Functions
         let z = leads items now t fs ss u p f k l x.1 x.2 refl to (here-right items now t fs ss u p f k l x.1 x.2).labels.0 (first-name to []) in
         jumps-hold x.1 (entered p.control.unit here p.control.block to) z.0 z.1 z.2 z.3
     exec-holds (branch_text cond first second) x = branch-holds cond first second x (test_at here cond)
-    exec-holds (wait_text to after on) x = ends-hold x.1 p.callers (waiting p.control.block to (parts_at here on) (wake_at t here after)) (waits-hold to after on x (parts_at here on) (wake_at t here after))
+    exec-holds (wait_text to after on) x = ends-hold x.1 p.callers (waiting p.control.block to (parts_at here on) (wake_at t here after))
+        (waits-hold to after on x (parts_at here on) (wake_at t here after))
     exec-holds halt_text x = ends-hold x.1 p.callers (Some halted) halts
     exec-holds (ret_text o) x = returns-hold o x.1 (here-right items now t fs ss u p f k (line x.0 (ret_text o)) x.1 x.2).sound.row
     exec-holds (sig_text a) x = tt

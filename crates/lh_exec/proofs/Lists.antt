@@ -33,8 +33,10 @@ pub each-front : {X : Type 0} (P : X → Type 0) (xs : List X) (x : X) → Each 
 each-front P [] x e = (tt, e.0)
 each-front P (y ∷ ys) x e = let r = each-front P ys x e.1 in ((e.0, r.0), r.1)
 
-pub put-step : (items front : List Taken) (x : Taken) (slots new : List (Option Held)) (z : List (Option Held)) → items ≡ front ++ x ∷ [] → new ≡ set slots x.name.0 (Some (datum_held (datum_of x.value))) → put_all (map taken_of items) slots ≡ z
-    → Each (λ (t : ValueId × Datum). t.0.0 < length slots) (map taken_of items) → (put_all (map taken_of front) new ≡ z) × Each (λ (t : ValueId × Datum). t.0.0 < length new) (map taken_of front) × (x.name.0 < length slots)
+pub put-step : (items front : List Taken) (x : Taken) (slots new : List (Option Held)) (z : List (Option Held)) → items ≡ front ++ x ∷ []
+    → new ≡ set slots x.name.0 (Some (datum_held (datum_of x.value))) → put_all (map taken_of items) slots ≡ z
+    → Each (λ (t : ValueId × Datum). t.0.0 < length slots) (map taken_of items) → (put_all (map taken_of front) new ≡ z) × Each (λ (t : ValueId × Datum). t.0.0 < length new) (map taken_of front)
+    × (x.name.0 < length slots)
 put-step items front x slots new z e g h w =
     let all : map taken_of items ≡ map taken_of front ++ taken_of x ∷ [] = ap (map taken_of) e ∙ map-append taken_of front (x ∷ []) in
     let r = each-front (λ (t : ValueId × Datum). t.0.0 < length slots) (map taken_of front) (taken_of x) (subst (Each (λ (t : ValueId × Datum). t.0.0 < length slots)) all w) in
@@ -59,12 +61,15 @@ module _ (from : BlockId) (slots : List (Option Held)) (t : Table) (insts : List
   split : drop i insts ≡ get_or insts i (record { 0 = 0 }) ∷ drop (i + 1) insts
   split = rw add-one (drop-cons insts i (record { 0 = 0 }) h)
 
-  pub take-stops : (old : List (ValueId × Datum)) (z : Option (List (ValueId × Datum))) → one_taken from slots (line_at t (get_or insts i (record { 0 = 0 })).0).inst (line_at t (get_or insts i (record { 0 = 0 })).0).result (all_taken from slots t (drop (i + 1) insts)) ≡ None
+  pub take-stops : (old : List (ValueId × Datum)) (z : Option (List (ValueId × Datum)))
+      → one_taken from slots (line_at t (get_or insts i (record { 0 = 0 })).0).inst (line_at t (get_or insts i (record { 0 = 0 })).0).result (all_taken from slots t (drop (i + 1) insts)) ≡ None
       → option_map (λ ys. old ++ ys) (all_taken from slots t (drop i insts)) ≡ z → z ≡ None
   take-stops old z e g = no-more old (all_taken from slots t (drop i insts)) z (ap (all_taken from slots t) split ∙ e) g
 
   pub take-goes : (old new : List (ValueId × Datum)) (z : Option (List (ValueId × Datum)))
-      → option_map (λ ys. new ++ ys) (all_taken from slots t (drop (i + 1) insts)) ≡ option_map (λ ys. old ++ ys) (one_taken from slots (line_at t (get_or insts i (record { 0 = 0 })).0).inst (line_at t (get_or insts i (record { 0 = 0 })).0).result (all_taken from slots t (drop (i + 1) insts)))
+      → option_map (λ ys. new ++ ys) (all_taken from slots t (drop (i + 1) insts))
+      ≡ option_map (λ ys. old ++ ys) (one_taken from slots (line_at t (get_or insts i (record { 0 = 0 })).0).inst (line_at t (get_or insts i (record { 0 = 0 })).0).result (all_taken from slots t
+      (drop (i + 1) insts)))
       → option_map (λ ys. old ++ ys) (all_taken from slots t (drop i insts)) ≡ z → option_map (λ ys. new ++ ys) (all_taken from slots t (drop (i + 1) insts)) ≡ z
   take-goes old new z e g = e ∙ sym (ap (λ (l : List InstId). option_map (λ ys. old ++ ys) (all_taken from slots t l)) split) ∙ g
 
@@ -91,7 +96,8 @@ part-more : (rs : List Range) (r : Range) (o : Option (List Range)) → option_m
 part-more rs r None = refl
 part-more rs r (Some xs) = ap Some (append_assoc rs (r ∷ []) xs)
 
-pub part-step : (slots : List (Option Held)) (vs : List ValueId) (i : ℕ) (v : ValueId) (rs : List Range) (r : Range) (z : Option (List Range)) → i < length vs → v ≡ get_or vs i v → part_in slots v ≡ Some r
+pub part-step : (slots : List (Option Held)) (vs : List ValueId) (i : ℕ) (v : ValueId) (rs : List Range) (r : Range) (z : Option (List Range)) → i < length vs → v ≡ get_or vs i v
+    → part_in slots v ≡ Some r
     → option_map (λ xs. rs ++ xs) (parts_in slots (drop i vs)) ≡ z → option_map (λ xs. (rs ++ r ∷ []) ++ xs) (parts_in slots (drop (i + 1) vs)) ≡ z
 part-step slots vs i v rs r z l e f h =
     part-more rs r (parts_in slots (drop (i + 1) vs))

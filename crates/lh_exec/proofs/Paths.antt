@@ -43,7 +43,8 @@ args-held e [] hs c n d = absurd cc
 args-held e (x ∷ xs) [] c n d = absurd cc
 args-held e (x ∷ xs) (h ∷ hs) c n d = at (same_name x.name n) refl d (args-held (with_held e x.name h) xs hs (omega (arith, c)) n)
   where
-    at : (b : Bool) → same_name x.name n ≡ b → (b || args_define n xs) ≡ true → (args_define n xs ≡ true → IsSome (with_args (with_held e x.name h) xs hs n)) → IsSome (with_args (with_held e x.name h) xs hs n)
+    at : (b : Bool) → same_name x.name n ≡ b → (b || args_define n xs) ≡ true → (args_define n xs ≡ true → IsSome (with_args (with_held e x.name h) xs hs n))
+        → IsSome (with_args (with_held e x.name h) xs hs n)
     at true q k go = args-stay (with_held e x.name h) xs hs n (named-held e (Some x.name) n h q)
     at false q k go = go k
 
@@ -161,7 +162,8 @@ abbrev pub at-block : UnitText → List ℕ → List LineText → Env → Contro
 at-block v to ls e = record { unit = v; block = to; rest = ls; held = e }
 
 -- the entry of a unit, whose arguments are held
-pub entry-holds : (u : UnitText) (items : List ItemText) → UnitSteady u → UnitRight items u → (e : Env) → ((n : List ℕ) → args_define n u.args ≡ true → IsSome (e n)) → (c : Control) × (entry u e ≡ Some c) × (c.unit ≡ u) × ControlHolds c
+pub entry-holds : (u : UnitText) (items : List ItemText) → UnitSteady u → UnitRight items u → (e : Env) → ((n : List ℕ) → args_define n u.args ≡ true → IsSome (e n)) → (c : Control)
+    × (entry u e ≡ Some c) × (c.unit ≡ u) × ControlHolds c
 entry-holds u items s r e k =
     let b = s.first in
     let labelled = subst (Each (λ (x : BlockText). x.label ≡ Some (label_or x.label))) s.blocks r.labelled in
@@ -185,12 +187,14 @@ entry-holds u items s r e k =
     )
 
 -- a line of a block, by what stands before it
-pub line-in : (items : List ItemText) (u : UnitText) → UnitRight items u → (n : List ℕ) (b : BlockText) → block_of n u.blocks ≡ Some b → (before : List LineText) (l : LineText) (after : List LineText) → b.lines ≡ before ++ l ∷ after → LineRight items u l
+pub line-in : (items : List ItemText) (u : UnitText) → UnitRight items u → (n : List ℕ) (b : BlockText) → block_of n u.blocks ≡ Some b → (before : List LineText) (l : LineText) (after : List LineText)
+    → b.lines ≡ before ++ l ∷ after → LineRight items u l
 line-in items u r n b q before l after e =
     (each-split (LineRight items u) before (l ∷ after) (subst (Each (LineRight items u)) e (block-has (λ (x : BlockText). Each (LineRight items u) x.lines) n u.blocks b r.lines q))).1.0
 
 -- The end of a block: a terminator, and what is held there.
-module _ (items : List ItemText) (w : ℕ) (u : UnitText) (s : UnitSteady u) (r : UnitRight items u) (e : Env) (f : Fits u w e) (from : List ℕ) (text : BlockText) (q : block_of from u.blocks ≡ Some text)
+module _ (items : List ItemText) (w : ℕ) (u : UnitText) (s : UnitSteady u) (r : UnitRight items u) (e : Env) (f : Fits u w e) (from : List ℕ) (text : BlockText)
+    (q : block_of from u.blocks ≡ Some text)
     (before : List LineText) (l : LineText) (after : List LineText) (split : text.lines ≡ before ++ l ∷ after) (ends : is_terminator l.inst ≡ true) (there : HoldsThere u text before e) where
   last-line : text.lines ≡ before ++ l ∷ []
   last-line =
@@ -225,14 +229,18 @@ module _ (items : List ItemText) (w : ℕ) (u : UnitText) (s : UnitSteady u) (r 
 
     -- so each `phi` has its value
     phi-found : (seen : List LineText) (x : LineText) (more : List LineText) → b.lines ≡ seen ++ x ∷ more → PhiFound from e x.inst
-    phi-found seen x more z = at x.inst (place-of u s to b seen x more t z).2.phi ((place-of u s to b seen x more t z).2.there s.runs) (place-of u s to b seen x more t z).2.defined (line-in items u r to b t seen x more z).sound.row
+    phi-found seen x more z = at x.inst (place-of u s to b seen x more t z).2.phi ((place-of u s to b seen x more t z).2.there s.runs) (place-of u s to b seen x more t z).2.defined
+        (line-in items u r to b t seen x more z).sound.row
       where
-        at : (i : InstText) → PhiIsRight u (place-at (place-of u s to b seen x more t z).0 (place-of u s to b seen x more t z).1 b seen x more) i → OperandsThere kind.Proc u (place-at (place-of u s to b seen x more t z).0 (place-of u s to b seen x more t z).1 b seen x more) i
+        at : (i : InstText) → PhiIsRight u (place-at (place-of u s to b seen x more t z).0 (place-of u s to b seen x more t z).1 b seen x more) i
+            → OperandsThere kind.Proc u (place-at (place-of u s to b seen x more t z).0 (place-of u s to b seen x more t z).1 b seen x more) i
             → Each (λ (y : Use). defines_value y.value u ≡ true) (uses i) → RowIs u i → PhiFound from e i
         at (phi_text ty es) p o k row =
             let once : edges_naming from es ≡ 1 = ap (λ y. edges_naming y es) (sym (ap label_or (block-named from u.blocks text q))) ∙ block-has' p.2 in
-            let both = each_both (IsThereOnEdge u (label_or b.label)) (λ (y : EdgeText). IsOf u ty y.value) (λ (y : EdgeText). IsThereOnEdge u (label_or b.label) y × IsOf u ty y.value) (λ y a c. (a, c)) es o row.1 in
-            let all = each_both (λ (y : EdgeText). IsThereOnEdge u (label_or b.label) y × IsOf u ty y.value) (λ (y : EdgeText). defines_value y.value u ≡ true) (EdgeGood ty) (λ y a c. (a, c)) es both (each-of-map (λ (y : Use). defines_value y.value u ≡ true) (λ (y : EdgeText). used data_or_time_needed y.value) es k) in
+            let both = each_both (IsThereOnEdge u (label_or b.label)) (λ (y : EdgeText). IsOf u ty y.value) (λ (y : EdgeText). IsThereOnEdge u (label_or b.label) y × IsOf u ty y.value)
+            (λ y a c. (a, c)) es o row.1 in
+            let all = each_both (λ (y : EdgeText). IsThereOnEdge u (label_or b.label) y × IsOf u ty y.value) (λ (y : EdgeText). defines_value y.value u ≡ true) (EdgeGood ty) (λ y a c. (a, c)) es both
+            (each-of-map (λ (y : Use). defines_value y.value u ≡ true) (λ (y : EdgeText). used data_or_time_needed y.value) es k) in
             let x = edge-found (EdgeGood ty) from es all once in
             let d = edge-value ty row.0 x.0 x.1 x.2 in
             (d.0, ap (option_and_then (datum_at e)) x.3 ∙ d.1)

@@ -9,7 +9,7 @@ use Rattle.lh_unit.specs.Activation.{functions}
 use Rattle.lh_unit.specs.Hierarchy.{lines_of}
 use Rattle.lh_unit.specs.Kinds.{Use, uses}
 use Rattle.lh_unit.specs.Pieces.{lexemes_in}
-use Rattle.lh_unit.specs.Places.{Place, places_in, places_from, places}
+use Rattle.lh_unit.specs.Places.{InstPlaceText, places_in, places_from, places}
 use Rattle.lh_unit.specs.Reads.{has_lines}
 use Rattle.lh_unit.specs.Spells.{inst_item}
 use Rattle.lh_unit.specs.SpellsInst.{gives_value}
@@ -34,7 +34,7 @@ use Rattle.lh_sound.proofs.FindingPass.{line-gives}
 use Rattle.lh_exec.proofs.Rights.{by-blocks}
 
 -- what holds at an instruction of a unit without a fault
-pub record PlaceRight (u : UnitText) (p : Place) : Type 0 where
+pub record PlaceRight (u : UnitText) (p : InstPlaceText) : Type 0 where
   pub there : in_entity u.kind ≡ false → OperandsThere kind.Proc u p p.line.inst
   pub defined : Each (λ (x : Use). defines_value x.value u ≡ true) (uses p.line.inst)
   pub allowed : is_allowed u.kind p.line.inst ≡ true
@@ -118,7 +118,8 @@ functions-steady [] s p n f e = absurd (none-some f e)
 functions-steady (declare_text d ∷ items) s p n f e = functions-steady items s.1 p.1 n f e
 functions-steady (unit_text u ∷ items) s p n f e = by (is_function u.kind) refl e (functions-steady items s.1 p.1 n f)
   where
-    by : (b : Bool) → is_function u.kind ≡ b → function_named n (if b then u ∷ functions items else functions items) ≡ Some f → (function_named n (functions items) ≡ Some f → UnitSteady f) → UnitSteady f
+    by : (b : Bool) → is_function u.kind ≡ b → function_named n (if b then u ∷ functions items else functions items) ≡ Some f → (function_named n (functions items) ≡ Some f → UnitSteady f)
+        → UnitSteady f
     by false k q go = go q
     by true k q go = at (same_unit_name u.name n) q
       where
@@ -128,7 +129,8 @@ functions-steady (unit_text u ∷ items) s p n f e = by (is_function u.kind) ref
 
 -- ---- the place of an instruction
 
-in-blocks : (P : Place → Type 0) (k : ℕ) (e : Bool) (bs : List BlockText) (n : List ℕ) (b : BlockText) (seen : List LineText) (l : LineText) (after : List LineText) → Each P (places_from k e bs) → block_of n bs ≡ Some b → b.lines ≡ seen ++ l ∷ after
+in-blocks : (P : InstPlaceText → Type 0) (k : ℕ) (e : Bool) (bs : List BlockText) (n : List ℕ) (b : BlockText) (seen : List LineText) (l : LineText) (after : List LineText)
+    → Each P (places_from k e bs) → block_of n bs ≡ Some b → b.lines ≡ seen ++ l ∷ after
     → (j : ℕ) × (d : Bool) × P (place-at j d b seen l after)
 in-blocks P k e [] n b seen l after h q s = absurd (none-some b q)
 in-blocks P k e (c ∷ bs) n b seen l after h q s = by (is_result_name n c.label) q (λ p. in-blocks P (k + length c.lines) false bs n b seen l after r.1 p s)
@@ -136,19 +138,21 @@ in-blocks P k e (c ∷ bs) n b seen l after h q s = by (is_result_name n c.label
     r : Each P (places_in k e c [] c.lines) × Each P (places_from (k + length c.lines) false bs)
     r = each-split P (places_in k e c [] c.lines) (places_from (k + length c.lines) false bs) h
 
-    by : (x : Bool) → (if x then Some c else block_of n bs) ≡ Some b → (block_of n bs ≡ Some b → (j : ℕ) × (d : Bool) × P (place-at j d b seen l after)) → (j : ℕ) × (d : Bool) × P (place-at j d b seen l after)
+    by : (x : Bool) → (if x then Some c else block_of n bs) ≡ Some b → (block_of n bs ≡ Some b → (j : ℕ) × (d : Bool) × P (place-at j d b seen l after)) → (j : ℕ) × (d : Bool)
+        × P (place-at j d b seen l after)
     by true p go =
         let here : Each P (places_in k e b [] b.lines) = subst (λ (x : BlockText). Each P (places_in k e x [] x.lines)) (same_Some c b p) r.0 in
         let z = in-block P k e b [] seen l after (subst (λ (ls : List LineText). Each P (places_in k e b [] ls)) s here) in
         (z.0, e, z.1)
     by false p go = go p
 
-pub place-of : (u : UnitText) → UnitSteady u → (n : List ℕ) (b : BlockText) (seen : List LineText) (l : LineText) (after : List LineText) → block_of n u.blocks ≡ Some b → b.lines ≡ seen ++ l ∷ after → (j : ℕ) × (d : Bool) × PlaceRight u (place-at j d b seen l after)
+pub place-of : (u : UnitText) → UnitSteady u → (n : List ℕ) (b : BlockText) (seen : List LineText) (l : LineText) (after : List LineText) → block_of n u.blocks ≡ Some b → b.lines ≡ seen ++ l ∷ after
+    → (j : ℕ) × (d : Bool) × PlaceRight u (place-at j d b seen l after)
 place-of u s n b seen l after q e = in-blocks (PlaceRight u) 1 true u.blocks n b seen l after s.places q e
 
 -- ---- the entry block has no `phi`
 
-no-phi : (u : UnitText) (p : Place) (i : InstText) → p.in_entry ≡ true → PhiIsRight u p i → is_phi i ≡ false
+no-phi : (u : UnitText) (p : InstPlaceText) (i : InstText) → p.in_entry ≡ true → PhiIsRight u p i → is_phi i ≡ false
 no-phi u p (phi_text ty es) e h = absurd cc
 no-phi u p _ e h = refl
 

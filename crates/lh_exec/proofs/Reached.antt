@@ -14,7 +14,7 @@ use Rattle.lh_unit.specs.Held.{Held, datum_held, cell_held, Env, datum_at, cell_
 use Rattle.lh_unit.specs.Effects.{operated, probed, driven}
 use Rattle.lh_unit.specs.Activation.{Scene, Stand, Control, Caller, Point, Activated, Next, goes, ends, no_step, entered, gives, jumps, wishes, tells, stores, opens, asserted, called, given_back, goes_back, returns, chosen, ends_at, wake_at, waiting, executes, steps_by, step, run, went, functions, max_calls}
 use Rattle.lh_exec.specs.Sound.{FunctionsRight, PointFits, StandHolds}
-use Rattle.lh_exec.specs.Steady.{Finds, FindsFirst, CallsFirst, IsSteady, Reaches}
+use Rattle.lh_exec.specs.Steady.{FindsOperands, FindsFirst, CallsFirst, IsSteady, Reaches}
 use Rattle.lh_exec.proofs.KeepsFit.{NextFits, step-fits}
 use Rattle.lh_exec.proofs.Placed.{FunctionsSteady, NotNil}
 use Rattle.lh_exec.proofs.Steady.{PointHolds, NextHolds}
@@ -58,7 +58,8 @@ module _ (s : Scene) (p : Point) (rest : List LineText) (call : Type 0) where
   opens-on y r None h = absurd cc
   opens-on y r (Some c) h = by (nat_lt (length p.callers) max_calls) refl
     where
-      by : (b : Bool) → nat_lt (length p.callers) max_calls ≡ b → GoesOrFull call (if b then goes (record past { control = c; callers = record { control = past.control; result = r } ∷ p.callers }) else no_step) p
+      by : (b : Bool) → nat_lt (length p.callers) max_calls ≡ b
+          → GoesOrFull call (if b then goes (record past { control = c; callers = record { control = past.control; result = r } ∷ p.callers }) else no_step) p
       by true q = tt
       by false q = (y, grind (arith, common_steps))
 
@@ -78,15 +79,18 @@ module _ (s : Scene) (p : Point) (rest : List LineText) (call : Type 0) where
   mapped f None h = absurd cc
   mapped f (Some x) h = refl
 
-  call-on : (f : UnitName) → (is_assert f ≡ false → call) → (os : List OperandText) (r : Option (List ℕ)) → ((is_assert f ≡ true) × IsSome (asserted p.control.held os)) ⊎ ((is_assert f ≡ false) × IsSome (called (function_named f s.functions) (data_at p.control.held os)))
+  call-on : (f : UnitName) → (is_assert f ≡ false → call) → (os : List OperandText) (r : Option (List ℕ))
+      → ((is_assert f ≡ true) × IsSome (asserted p.control.held os)) ⊎ ((is_assert f ≡ false) × IsSome (called (function_named f s.functions) (data_at p.control.held os)))
       → GoesOrFull call (if is_assert f then tells past (asserted p.control.held os) else opens past r (called (function_named f s.functions) (data_at p.control.held os))) p
   call-on f y os r (inl h) =
-      subst (λ (b : Bool). GoesOrFull call (if b then tells past (asserted p.control.held os) else opens past r (called (function_named f s.functions) (data_at p.control.held os))) p) (sym h.0) (tells-on (asserted p.control.held os) h.1)
+      subst (λ (b : Bool). GoesOrFull call (if b then tells past (asserted p.control.held os) else opens past r (called (function_named f s.functions) (data_at p.control.held os))) p) (sym h.0)
+      (tells-on (asserted p.control.held os) h.1)
   call-on f y os r (inr h) =
       subst (λ (b : Bool). GoesOrFull call (if b then tells past (asserted p.control.held os) else opens past r (called (function_named f s.functions) (data_at p.control.held os))) p) (sym h.0)
       (opens-on (y h.0) r (called (function_named f s.functions) (data_at p.control.held os)) h.1)
 
-  exec-on : (i : InstText) (r : Option (List ℕ)) → ((f : UnitName) (ty : TypeTree) (args : List OperandText) → i ≡ call_text f ty args → is_assert f ≡ false → call) → Finds s p i → GoesOrFull call (executes s i r past) p
+  exec-on : (i : InstText) (r : Option (List ℕ)) → ((f : UnitName) (ty : TypeTree) (args : List OperandText) → i ≡ call_text f ty args → is_assert f ≡ false → call) → FindsOperands s p i
+      → GoesOrFull call (executes s i r past) p
   exec-on (const_text d) r y h = tt
   exec-on (pure_text o os) r y h = gives-on r (operated p.control.unit p.control.held o os) h
   exec-on (var_text a) r y h = gives-on r (option_map cell_held (datum_at p.control.held a.value)) (mapped cell_held (datum_at p.control.held a.value) h)
@@ -140,7 +144,8 @@ module _ (items : List ItemText) (now : List Bool) (t : Instant) (fs : Functions
   run-holds zero p f k d e = absurd (none-some d e)
   run-holds (suc n) p f k d e = by (step scene p) (step-fits items now t fs u p f) (step-holds items now t fs ss u p f k) e (run-holds n)
     where
-      by : (x : Next) → NextFits items (length now) t u p.control.unit x → NextHolds p.control.unit x → went x (run n scene) ≡ Some d → ((q : Point) → PointFits items (length now) u q → PointHolds q → (c : Activated) → run n scene q ≡ Some c → StandHolds u c.state.held c.state.stand)
+      by : (x : Next) → NextFits items (length now) t u p.control.unit x → NextHolds p.control.unit x → went x (run n scene) ≡ Some d
+          → ((q : Point) → PointFits items (length now) u q → PointHolds q → (c : Activated) → run n scene q ≡ Some c → StandHolds u c.state.held c.state.stand)
           → StandHolds u d.state.held d.state.stand
       by (goes q) g h c go = go q g h d c
       by (ends b) g h c go = subst (λ (y : Activated). StandHolds u y.state.held y.state.stand) (same_Some b d c) (subst (λ (v : UnitText). StandHolds v b.state.held b.state.stand) g.1 h)

@@ -36,7 +36,7 @@ use Rattle.lh_formed.proofs.ShapeLaw.{labels_are_blocks}
 use Rattle.lh_formed.specs.KindsOf.{ArgsHaveKinds, HasTypeOfKind}
 use Rattle.lh_formed.proofs.KindsLaw.{operands_have_types}
 use Rattle.lh_unit.specs.Kinds.{uses}
-use Rattle.lh_eval.specs.Sound.{IsSound}
+use Rattle.lh_eval.specs.Sound.{InstIsSound}
 use Rattle.lh_formed.proofs.EachItem.{each-split, each-of-map, each-contained}
 use Rattle.lh_formed.proofs.AtPlaces.{lines-from}
 use Rattle.lh_sound.proofs.NamedOnce.{giving-append}
@@ -70,7 +70,7 @@ pub by-blocks : (P : LineText → Type 0) (bs : List BlockText) → Each P (line
 by-blocks P [] e = tt
 by-blocks P (b ∷ more) e = let r = each-split P b.lines (lines_of more) e in (r.0, by-blocks P more r.1)
 
-both : (items : List ItemText) (u : UnitText) → ArgsHaveKinds u → (ls : List LineText) → Each (IsSound u) ls → Each (Leading items u) ls → Each (LineRight items u) ls
+both : (items : List ItemText) (u : UnitText) → ArgsHaveKinds u → (ls : List LineText) → Each (InstIsSound u) ls → Each (Leading items u) ls → Each (LineRight items u) ls
 both items u k [] s e = tt
 both items u k (l ∷ ls) s e = (record { sound = s.0; named = e.0.0; labels = e.0.1; kinds = e.0.2 k }, both items u k ls s.1 e.1)
 
@@ -89,7 +89,8 @@ module _ (a : Arena) (o : IsArena a) (g : IsWellFormed (contents a)) where
       let s = unit-is-sound a u o h g (some-kind (kind_at a u) k) in
       record {
         lines = by-blocks (LineRight (contents a) (unit_text_at a u)) (unit_text_at a u).blocks
-            (both (contents a) (unit_text_at a u) (args-have-kinds (unit_text_at a u) s) (lines_of (unit_text_at a u).blocks) s.lines (of-unit a u o h g (some-kind (kind_at a u) k) (LeadingIn (contents a)) (leading-items (contents a) g.1)));
+            (both (contents a) (unit_text_at a u) (args-have-kinds (unit_text_at a u) s) (lines_of (unit_text_at a u).blocks) s.lines
+            (of-unit a u o h g (some-kind (kind_at a u) k) (LeadingIn (contents a)) (leading-items (contents a) g.1)));
         labelled = all-labelled a u k (blocks_at a u);
         args = s.args;
       }
@@ -108,18 +109,22 @@ module _ (a : Arena) (o : IsArena a) (g : IsWellFormed (contents a)) where
   func-blocks u e = subst HasBlocks (sym e) tt
 
   -- a function of the module is a unit by its id
-  by-id : (n : UnitName) (items : List Item) (f : UnitText) → ((i : ℕ) (v : UnitId) → slice_get items i ≡ Some (item.Unit v) → (v.0 < unit_count a) × IsSome (kind_at a v.0)) → function_named n (functions (map (item_text_at a) items)) ≡ Some f
+  by-id : (n : UnitName) (items : List Item) (f : UnitText) → ((i : ℕ) (v : UnitId) → slice_get items i ≡ Some (item.Unit v) → (v.0 < unit_count a) × IsSome (kind_at a v.0))
+      → function_named n (functions (map (item_text_at a) items)) ≡ Some f
       → (v : ℕ) × (v < unit_count a) × (kind_at a v ≡ Some kind.Func) × (f ≡ unit_text_at a v)
   by-id n [] f w e = absurd (none-some f e)
   by-id n (item.Declare d ∷ items) f w e = by-id n items f (λ i v q. w (suc i) v q) e
   by-id n (item.Unit x ∷ items) f w e = by (is_function (kind_text (kind_at a x.0))) refl (by-id n items f (λ i v q. w (suc i) v q)) e
     where
-      by : (b : Bool) → is_function (kind_text (kind_at a x.0)) ≡ b → (function_named n (functions (map (item_text_at a) items)) ≡ Some f → (v : ℕ) × (v < unit_count a) × (kind_at a v ≡ Some kind.Func) × (f ≡ unit_text_at a v))
-          → function_named n (if b then unit_text_at a x.0 ∷ functions (map (item_text_at a) items) else functions (map (item_text_at a) items)) ≡ Some f → (v : ℕ) × (v < unit_count a) × (kind_at a v ≡ Some kind.Func) × (f ≡ unit_text_at a v)
+      by : (b : Bool) → is_function (kind_text (kind_at a x.0)) ≡ b
+          → (function_named n (functions (map (item_text_at a) items)) ≡ Some f → (v : ℕ) × (v < unit_count a) × (kind_at a v ≡ Some kind.Func) × (f ≡ unit_text_at a v))
+          → function_named n (if b then unit_text_at a x.0 ∷ functions (map (item_text_at a) items) else functions (map (item_text_at a) items)) ≡ Some f → (v : ℕ) × (v < unit_count a)
+          × (kind_at a v ≡ Some kind.Func) × (f ≡ unit_text_at a v)
       by false k go q = go q
       by true k go q = at (same_unit_name (unit_text_at a x.0).name n) q
         where
-          at : (c : Bool) → (if c then Some (unit_text_at a x.0) else function_named n (functions (map (item_text_at a) items))) ≡ Some f → (v : ℕ) × (v < unit_count a) × (kind_at a v ≡ Some kind.Func) × (f ≡ unit_text_at a v)
+          at : (c : Bool) → (if c then Some (unit_text_at a x.0) else function_named n (functions (map (item_text_at a) items))) ≡ Some f → (v : ℕ) × (v < unit_count a)
+              × (kind_at a v ≡ Some kind.Func) × (f ≡ unit_text_at a v)
           at true r = let z = w 0 x refl in (x.0, z.0, function-kind (kind_at a x.0) z.1 k, sym (same_Some (unit_text_at a x.0) f r))
           at false r = go r
 
@@ -148,20 +153,24 @@ module _ (a : Arena) (o : IsArena a) (g : IsWellFormed (contents a)) where
       by false q = absurd (none-some x.0 q)
 
   -- a name that has a type is that of a value by its id
-  named-line : (n : List ℕ) (u : ℕ) (ls : List Line) (i : InstText) → ResultsWithin (value_count a u) ls → line_giving n (map (line_text (naming a u)) ls) ≡ Some i → (v : ValueId) × (v.0 < value_count a u) × (value_name_at a u v.0 ≡ n)
+  named-line : (n : List ℕ) (u : ℕ) (ls : List Line) (i : InstText) → ResultsWithin (value_count a u) ls → line_giving n (map (line_text (naming a u)) ls) ≡ Some i → (v : ValueId)
+      × (v.0 < value_count a u) × (value_name_at a u v.0 ≡ n)
   named-line n u [] i w e = absurd (none-some i e)
   named-line n u (l ∷ ls) i w e = by l.result w.0 (named-line n u ls i w.1) e
     where
       by : (r : Option ValueId) → ResultWithin (value_count a u) r → (line_giving n (map (line_text (naming a u)) ls) ≡ Some i → (v : ValueId) × (v.0 < value_count a u) × (value_name_at a u v.0 ≡ n))
-          → (if is_result_name n (maybe_text (naming a u) r) then Some (line_text (naming a u) l).inst else line_giving n (map (line_text (naming a u)) ls)) ≡ Some i → (v : ValueId) × (v.0 < value_count a u) × (value_name_at a u v.0 ≡ n)
+          → (if is_result_name n (maybe_text (naming a u) r) then Some (line_text (naming a u) l).inst else line_giving n (map (line_text (naming a u)) ls)) ≡ Some i → (v : ValueId)
+          × (v.0 < value_count a u) × (value_name_at a u v.0 ≡ n)
       by None t go q = go q
       by (Some v) t go q = at (same_name (value_name_at a u v.0) n) refl q
         where
-          at : (c : Bool) → same_name (value_name_at a u v.0) n ≡ c → (if c then Some (line_text (naming a u) l).inst else line_giving n (map (line_text (naming a u)) ls)) ≡ Some i → (y : ValueId) × (y.0 < value_count a u) × (value_name_at a u y.0 ≡ n)
+          at : (c : Bool) → same_name (value_name_at a u v.0) n ≡ c → (if c then Some (line_text (naming a u) l).inst else line_giving n (map (line_text (naming a u)) ls)) ≡ Some i → (y : ValueId)
+              × (y.0 < value_count a u) × (value_name_at a u y.0 ≡ n)
           at true s r = (v, t, same_name-is (value_name_at a u v.0) n s)
           at false s r = go r
 
-  named-arg : (n : List ℕ) (u : ℕ) (xs : List Arg) (x : ArgText) → ArgsWithin (value_count a u) xs → arg_named n (map (arg_text (naming a u)) xs) ≡ Some x → (v : ValueId) × (v.0 < value_count a u) × (value_name_at a u v.0 ≡ n)
+  named-arg : (n : List ℕ) (u : ℕ) (xs : List Arg) (x : ArgText) → ArgsWithin (value_count a u) xs → arg_named n (map (arg_text (naming a u)) xs) ≡ Some x → (v : ValueId) × (v.0 < value_count a u)
+      × (value_name_at a u v.0 ≡ n)
   named-arg n u [] x w e = absurd (none-some x e)
   named-arg n u (y ∷ ys) x w e = at (same_name (value_name_at a u y.value.0) n) refl (named-arg n u ys x w.1) e
     where
@@ -180,11 +189,13 @@ module _ (a : Arena) (o : IsArena a) (g : IsWellFormed (contents a)) where
       made : inst_giving n (unit_text_at a u).blocks ≡ line_giving n (map (line_text (naming a u)) (table_at a u).lines)
       made = giving-flat n (unit_text_at a u).blocks ∙ ap (line_giving n) (flat_lines (naming a u) (table_at a u) (o.tables u h))
 
-      from : (i : Option InstText) → line_giving n (map (line_text (naming a u)) (table_at a u).lines) ≡ i → option_and_then result_type i ≡ Some t → (v : ValueId) × (v.0 < value_count a u) × (value_name_at a u v.0 ≡ n)
+      from : (i : Option InstText) → line_giving n (map (line_text (naming a u)) (table_at a u).lines) ≡ i → option_and_then result_type i ≡ Some t → (v : ValueId) × (v.0 < value_count a u)
+          × (value_name_at a u v.0 ≡ n)
       from None q r = absurd (none-some t r)
       from (Some i) q r = named-line n u (table_at a u).lines i (o.tables u h).results_within q
 
-      by : (x : Option ArgText) → arg_named n (unit_text_at a u).args ≡ x → or_else (option_map (λ (y : ArgText). y.ty) x) (option_and_then result_type (inst_giving n (unit_text_at a u).blocks)) ≡ Some t → (v : ValueId) × (v.0 < value_count a u) × (value_name_at a u v.0 ≡ n)
+      by : (x : Option ArgText) → arg_named n (unit_text_at a u).args ≡ x → or_else (option_map (λ (y : ArgText). y.ty) x) (option_and_then result_type (inst_giving n (unit_text_at a u).blocks))
+          ≡ Some t → (v : ValueId) × (v.0 < value_count a u) × (value_name_at a u v.0 ≡ n)
       by (Some x) q r = named-arg n u (table_at a u).args x (o.tables u h).args_within q
       by None q r = from (line_giving n (map (line_text (naming a u)) (table_at a u).lines)) refl (sym (ap (option_and_then result_type) made) ∙ r)
 
@@ -202,7 +213,8 @@ module _ (a : Arena) (o : IsArena a) (g : IsWellFormed (contents a)) where
   defines-line n [] e = absurd cc
   defines-line n (l ∷ ls) e = by (is_result_name n l.result) e (defines-line n ls)
     where
-      by : (b : Bool) → (b || lines_define n ls) ≡ true → (lines_define n ls ≡ true → (i : InstText) × (line_giving n ls ≡ Some i)) → (i : InstText) × ((if b then Some l.inst else line_giving n ls) ≡ Some i)
+      by : (b : Bool) → (b || lines_define n ls) ≡ true → (lines_define n ls ≡ true → (i : InstText) × (line_giving n ls ≡ Some i)) → (i : InstText)
+          × ((if b then Some l.inst else line_giving n ls) ≡ Some i)
       by true q go = (l.inst, refl)
       by false q go = go q
 
@@ -214,7 +226,8 @@ module _ (a : Arena) (o : IsArena a) (g : IsWellFormed (contents a)) where
   defines-block n [] e = absurd cc
   defines-block n (b ∷ bs) e = by (lines_define n b.lines) refl e (defines-block n bs)
     where
-      by : (c : Bool) → lines_define n b.lines ≡ c → (c || blocks_define n bs) ≡ true → (blocks_define n bs ≡ true → (i : InstText) × (inst_giving n bs ≡ Some i)) → (i : InstText) × (or_else (line_giving n b.lines) (inst_giving n bs) ≡ Some i)
+      by : (c : Bool) → lines_define n b.lines ≡ c → (c || blocks_define n bs) ≡ true → (blocks_define n bs ≡ true → (i : InstText) × (inst_giving n bs ≡ Some i)) → (i : InstText)
+          × (or_else (line_giving n b.lines) (inst_giving n bs) ≡ Some i)
       by true p q go = let z = defines-line n b.lines p in (z.0, ap (λ (o : Option InstText). or_else o (inst_giving n bs)) z.1)
       by false p q go = given-first (line_giving n b.lines) (inst_giving n bs) (go q)
 

@@ -101,7 +101,8 @@ module _ (u : UnitText) (w : ℕ) (e : Env) (f : Fits u w e) where
       let d = cell-of w x.0 t (f n x.0 (pointer_type t) x.1 o) in
       (d.0, ap (option_and_then as_cell) x.1 ∙ d.1, d.2)
 
-  pub data-used : (os : List OperandText) → Each (HasTypeOfKind u) (all_used data_or_time_needed os) → AllHeld e (all_used data_or_time_needed os) → (ds : List Datum) × (data_at e os ≡ Some ds) × (length ds ≡ length os)
+  pub data-used : (os : List OperandText) → Each (HasTypeOfKind u) (all_used data_or_time_needed os) → AllHeld e (all_used data_or_time_needed os) → (ds : List Datum) × (data_at e os ≡ Some ds)
+      × (length ds ≡ length os)
   data-used [] k h = ([], refl, refl)
   data-used (o ∷ os) k h =
       let d = datum-used o.value k.0 h.0 in
@@ -171,7 +172,8 @@ module _ (items : List ItemText) (now : List Bool) (t : Instant) (fs : Functions
         let all = block-has (λ (b : BlockText). Each GivesNamed b.lines) p.control.block p.control.unit.blocks k.control.text k.control.steady.given k.control.block in
         (each-split GivesNamed k.control.before (l ∷ rest) (subst (Each GivesNamed) here-split all)).1.0
 
-    pub here-held : (us : List Use) → Each (λ (x : Use). defines_value x.value p.control.unit ≡ true) us → Each (IsThere p.control.unit k.control.text k.control.before) (named_in us) → AllHeld p.control.held us
+    pub here-held : (us : List Use) → Each (λ (x : Use). defines_value x.value p.control.unit ≡ true) us → Each (IsThere p.control.unit k.control.text k.control.before) (named_in us)
+        → AllHeld p.control.held us
     here-held [] d h = tt
     here-held (x ∷ us) d h = (k.control.there x.value d.0 h.0, here-held us d.1 h.1)
 
@@ -186,7 +188,8 @@ module _ (items : List ItemText) (now : List Bool) (t : Instant) (fs : Functions
     here-phis = subst (PhisHeld p.control.held) e k.control.phis
 
     -- past it, where its result is held
-    pub advance : is_terminator l.inst ≡ false → (e' : Env) → ((n : List ℕ) → IsSome (p.control.held n) → IsSome (e' n)) → ((n : List ℕ) → is_result_name n l.result ≡ true → IsSome (e' n)) → ControlHolds (record p.control { rest = rest; held = e' })
+    pub advance : is_terminator l.inst ≡ false → (e' : Env) → ((n : List ℕ) → IsSome (p.control.held n) → IsSome (e' n)) → ((n : List ℕ) → is_result_name n l.result ≡ true → IsSome (e' n))
+        → ControlHolds (record p.control { rest = rest; held = e' })
     advance inner e' stays result = record {
       steady = k.control.steady;
       text = k.control.text;
@@ -202,7 +205,8 @@ module _ (items : List ItemText) (now : List Bool) (t : Instant) (fs : Functions
         at n d h true q = result n q
         at n d h false q = stays n (k.control.there n d (there-before p.control.unit k.control.text k.control.before l n q h))
 
-    pub advances : is_terminator l.inst ≡ false → (e' : Env) → ((n : List ℕ) → IsSome (p.control.held n) → IsSome (e' n)) → ((n : List ℕ) → is_result_name n l.result ≡ true → IsSome (e' n)) → PointHolds (record p { control = record p.control { rest = rest; held = e' } })
+    pub advances : is_terminator l.inst ≡ false → (e' : Env) → ((n : List ℕ) → IsSome (p.control.held n) → IsSome (e' n)) → ((n : List ℕ) → is_result_name n l.result ≡ true → IsSome (e' n))
+        → PointHolds (record p { control = record p.control { rest = rest; held = e' } })
     advances inner e' stays result = record { control = advance inner e' stays result; callers = k.callers }
 
     -- what gives no value has inner result
@@ -210,12 +214,15 @@ module _ (items : List ItemText) (now : List Bool) (t : Instant) (fs : Functions
     no-result inner n q = absurd (false≢true (sym (unnamed l here-given inner n) ∙ q))
 
     -- the edge to a block
-    pub leads : is_terminator l.inst ≡ true → (to : List ℕ) → IsLabel p.control.unit to → list_any (λ m. same_name m to) (leads_to l.inst) ≡ true → (c : Control) × (entered p.control.unit p.control.held p.control.block to ≡ Some c) × (c.unit ≡ p.control.unit) × ControlHolds c
+    pub leads : is_terminator l.inst ≡ true → (to : List ℕ) → IsLabel p.control.unit to → list_any (λ m. same_name m to) (leads_to l.inst) ≡ true → (c : Control)
+        × (entered p.control.unit p.control.held p.control.block to ≡ Some c) × (c.unit ≡ p.control.unit) × ControlHolds c
     leads last to b named =
-        edge-holds items w p.control.unit k.control.steady f.control.right p.control.held f.control.fits p.control.block k.control.text k.control.block k.control.before l rest here-split last k.control.there to b.0 b.1 named
+        edge-holds items w p.control.unit k.control.steady f.control.right p.control.held f.control.fits p.control.block k.control.text k.control.block k.control.before l rest here-split last
+        k.control.there to b.0 b.1 named
 
     -- the caller of a call
-    pub calling : is_terminator l.inst ≡ false → ((n : List ℕ) → l.result ≡ Some n → value_type p.control.unit n ≡ Some void_type → ⊥) → CallerHolds (record { control = record p.control { rest = rest }; result = l.result })
+    pub calling : is_terminator l.inst ≡ false → ((n : List ℕ) → l.result ≡ Some n → value_type p.control.unit n ≡ Some void_type → ⊥)
+        → CallerHolds (record { control = record p.control { rest = rest }; result = l.result })
     calling inner valued = record {
       steady = k.control.steady;
       text = k.control.text;

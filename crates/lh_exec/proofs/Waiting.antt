@@ -52,13 +52,15 @@ wake-later t e (Some n) = by (delay_at e n)
     by None = tt
     by (Some d) = due-later t d
 
-stands-fit : (w : ℕ) (t : Instant) (v : UnitText) (block to : List ℕ) (on : Option (List Range)) (wake : Option (Option Instant)) (x : Stand) → WaitsIn v block to → MaybeWithin w on → MaybeLater t wake → waiting block to on wake ≡ Some x → StandFits w t v x
+stands-fit : (w : ℕ) (t : Instant) (v : UnitText) (block to : List ℕ) (on : Option (List Range)) (wake : Option (Option Instant)) (x : Stand) → WaitsIn v block to → MaybeWithin w on
+    → MaybeLater t wake → waiting block to on wake ≡ Some x → StandFits w t v x
 stands-fit w t v block to None wake x k p l h = absurd (none-some x h)
 stands-fit w t v block to (Some on) None x k p l h = absurd (none-some x h)
 stands-fit w t v block to (Some on) (Some wake) x k p l h = subst (StandFits w t v) (same_Some (waits block to on wake) x h) (k, p, l)
 
 -- where a process waits that holds what fits
-pub waiting-fits : (w : ℕ) (t : Instant) (v : UnitText) (e : Env) → Fits v w e → (block to : List ℕ) (after : Option (List ℕ)) (signals : List (List ℕ)) (x : Stand) → Each (HasTypeOfKind v) (uses (wait_text to after signals)) → WaitsIn v block to
+pub waiting-fits : (w : ℕ) (t : Instant) (v : UnitText) (e : Env) → Fits v w e → (block to : List ℕ) (after : Option (List ℕ)) (signals : List (List ℕ)) (x : Stand)
+    → Each (HasTypeOfKind v) (uses (wait_text to after signals)) → WaitsIn v block to
     → waiting block to (parts_at e signals) (wake_at t e after) ≡ Some x → StandFits w t v x
 waiting-fits w t v e f block to after signals x k s h =
     let ks = each-of-map (HasTypeOfKind v) (used signal_needed) signals (each-split (HasTypeOfKind v) (maybe_used time_needed after) (map (used signal_needed) signals) k).1 in

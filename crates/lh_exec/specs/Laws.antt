@@ -7,7 +7,7 @@ use Rattle.lh_unit.specs.World.{waited, wake_at}
 use Rattle.lh_unit.specs.Arena.{Arena}
 use Rattle.lh_exec.specs.declared.state.WaitOn.{WaitOn}
 use Rattle.lh_exec.specs.declared.state.ProcState.{ProcState}
-use Rattle.lh_exec.specs.States.{StandsFor, StateFits, PartsWithin, waited_on}
+use Rattle.lh_exec.specs.States.{StandsForState, StateFits, PartsWithin, waited_on}
 
 -- the parts for which a process waits, none where it does not wait
 abbrev pub parts_of : Option WaitOn → List Range
@@ -21,11 +21,12 @@ wake_of (Some on) = on.wake
 
 -- Each state that fits stands for some state.
 abbrev pub FittingStands : Type 0
-FittingStands = (a : Arena) (u width : ℕ) (args : List Range) (s : ProcState) → StateFits a u width s → (p : ProcessState) × StandsFor a u args s p
+FittingStands = (a : Arena) (u width : ℕ) (args : List Range) (s : ProcState) → StateFits a u width s → (p : ProcessState) × StandsForState a u args s p
 
 -- A state waits for the parts, and until the instant, for which what it stands for does.
 abbrev pub WaitsAsHeld : Type 0
-WaitsAsHeld = (a : Arena) (u : ℕ) (args : List Range) (s : ProcState) (p : ProcessState) → StandsFor a u args s p → (parts_of (waited_on s) ≡ waited p.stand) × (wake_of (waited_on s) ≡ wake_at p.stand)
+WaitsAsHeld = (a : Arena) (u : ℕ) (args : List Range) (s : ProcState) (p : ProcessState) → StandsForState a u args s p → (parts_of (waited_on s) ≡ waited p.stand)
+    × (wake_of (waited_on s) ≡ wake_at p.stand)
 
 -- A state that fits waits for parts within the signals.
 abbrev pub WaitsWithin : Type 0

@@ -15,10 +15,10 @@ use Rattle.lh_unit.specs.Within.{Each}
 use Rattle.lh_formed.specs.Calls.{NamedIsRight}
 use Rattle.lh_formed.specs.KindsOf.{HasTypeOfKind}
 use Rattle.lh_eval.specs.Fitting.{Fits}
-use Rattle.lh_eval.specs.Sound.{IsSound}
+use Rattle.lh_eval.specs.Sound.{InstIsSound}
 use Rattle.lh_eval.specs.Wishing.{WishWithin}
 use Rattle.lh_sound.specs.Units.{HasItsType}
-use Rattle.lh_exec.specs.declared.machine.Frame.{Frame}
+use Rattle.lh_exec.specs.declared.machine.UnitFrame.{UnitFrame}
 use Rattle.lh_exec.specs.declared.machine.Machine.{Machine}
 use Rattle.lh_exec.specs.declared.machine.Flow.{Flow}
 use Rattle.lh_exec.specs.declared.machine.Flow.TheVariants as flow
@@ -33,7 +33,7 @@ IsLabel u n = (b : BlockText) × (block_of n u.blocks ≡ Some b)
 
 -- an instruction of a unit is sound, what it calls is right, its labels are of blocks, and its operands have types of their kinds
 pub record LineRight (items : List ItemText) (u : UnitText) (l : LineText) : Type 0 where
-  pub sound : IsSound u l
+  pub sound : InstIsSound u l
   pub named : NamedIsRight items u l.inst
   pub labels : Each (IsLabel u) (labels_named l.inst)
   pub kinds : Each (HasTypeOfKind u) (uses l.inst)
@@ -106,7 +106,7 @@ EndHolds u None = Unit {0}
 EndHolds u (Some done) = StandHolds u done.state.held done.state.stand
 
 -- the machine stands for a point that fits
-pub record IsFit (a : Arena) (width : ℕ) (m : Machine) : Type 0 where
+pub record MachineFits (a : Arena) (width : ℕ) (m : Machine) : Type 0 where
   pub unit : UnitText
   pub point : Point
   pub is : MachineIs a m point
@@ -121,19 +121,20 @@ BeginsAt a _ _ = ⊥
 -- what the code answers, and the machine after it, are what an activation of the unit u at an instant gives, or that there is none
 abbrev pub Finishes : Arena → (u : ℕ) → (width : ℕ) → Instant → Machine → Flow → Option Activated → Type 0
 Finishes a u width t m (flow.Waits to on) (Some done) =
-    (to.0 < label_count a m.frame.unit.0) × Ends a m (unit_text_at a u) (waits (label_name_at a m.frame.unit.0 m.frame.block.0) (label_name_at a m.frame.unit.0 to.0) on.parts on.wake) done × DoneFits width t (unit_text_at a u) done
+    (to.0 < label_count a m.frame.unit.0) × Ends a m (unit_text_at a u) (waits (label_name_at a m.frame.unit.0 m.frame.block.0) (label_name_at a m.frame.unit.0 to.0) on.parts on.wake) done
+    × DoneFits width t (unit_text_at a u) done
 Finishes a u width t m flow.Halts (Some done) = Ends a m (unit_text_at a u) halted done × DoneFits width t (unit_text_at a u) done
 Finishes a u width t m flow.Lost None = Unit {0}
 Finishes a u width t m _ _ = ⊥
 
 -- where a process stands whose activation ends in this frame
-abbrev pub stood : Frame → Flow → Option declared.Stand
+abbrev pub stood : UnitFrame → Flow → Option declared.Stand
 stood f (flow.Waits to on) = Some (stand.Waits (record { block = f.block; to = to; slots = f.slots; on = on }))
 stood f flow.Halts = Some stand.Halted
 stood f _ = None
 
 -- The machine stands for a point that fits, and so many more instructions lead from it to this.
-pub record Continues (a : Arena) (s : Scene) (u : ℕ) (width : ℕ) (left : ℕ) (m : Machine) (to : Option Activated) : Type 0 where
+pub record ContinuesActivation (a : Arena) (s : Scene) (u : ℕ) (width : ℕ) (left : ℕ) (m : Machine) (to : Option Activated) : Type 0 where
   pub point : Point
   pub is : MachineIs a m point
   pub fits : PointFits (contents a) width (unit_text_at a u) point

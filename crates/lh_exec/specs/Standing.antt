@@ -11,12 +11,12 @@ use Rattle.lh_unit.specs.Held.{Held, datum_held, front}
 use Rattle.lh_unit.specs.Hierarchy.{if_held}
 use Rattle.lh_unit.specs.Table.{HasBlocks, is_block}
 use Rattle.lh_unit.specs.Arena.{Arena, IsArena, naming, table_at, kind_at, blocks_at, block_insts_at, unit_count, label_count, label_name_at, unit_text_at, contents}
-use Rattle.lh_unit.specs.ById.{inst_line}
+use Rattle.lh_unit.specs.ById.{inst_line_text}
 use Rattle.lh_unit.specs.Naming.{maybe_text}
 use Rattle.lh_unit.specs.declared.inst.ValueId.{ValueId}
 use Rattle.lh_unit.specs.declared.inst.Typed.{Typed}
 use Rattle.lh_eval.specs.Holding.{Holds, MaybeIn, datum_in, part_in, test_in, delay_in}
-use Rattle.lh_exec.specs.declared.machine.Frame.{Frame}
+use Rattle.lh_exec.specs.declared.machine.UnitFrame.{UnitFrame}
 use Rattle.lh_exec.specs.declared.machine.Call.{Call}
 use Rattle.lh_exec.specs.declared.machine.Machine.{Machine}
 use Rattle.lh_exec.specs.declared.machine.Flow.{Flow}
@@ -27,14 +27,14 @@ abbrev pub scene_of : Arena → (now : List Bool) → Instant → Scene
 scene_of a now t = record { functions = functions (contents a); now = now; at = t }
 
 -- A frame stands for a place of control: it is in a block of a function or a process, so many instructions of which are executed, and holds the same.
-pub record FrameIs (a : Arena) (f : Frame) (c : Control) : Type 0 where
+pub record FrameIs (a : Arena) (f : UnitFrame) (c : Control) : Type 0 where
   pub within : f.unit.0 < unit_count a
   pub has_blocks : HasBlocks (kind_at a f.unit.0)
   pub label : f.block.0 < label_count a f.unit.0
   pub stands : is_block (blocks_at a f.unit.0) f.block.0 ≡ true
   pub unit : c.unit ≡ unit_text_at a f.unit.0
   pub block : c.block ≡ label_name_at a f.unit.0 f.block.0
-  pub rest : c.rest ≡ map (inst_line (naming a f.unit.0) (table_at a f.unit.0)) (drop f.next (block_insts_at a f.unit.0 f.block.0))
+  pub rest : c.rest ≡ map (inst_line_text (naming a f.unit.0) (table_at a f.unit.0)) (drop f.next (block_insts_at a f.unit.0 f.block.0))
   pub held : Holds a f.unit.0 f.slots c.held
 
 -- an open call stands for one
@@ -74,20 +74,20 @@ pub record Ends (a : Arena) (m : Machine) (v : UnitText) (at : Stand) (done : Ac
   pub outcomes : m.outcomes ≡ done.outcomes
 
 -- What the code answers, and the machine after it, are what an instruction of the unit v leads to.
-abbrev pub Leads : Arena → Machine → Flow → UnitText → Next → Type 0
-Leads a m flow.Goes v (goes q) = MachineIs a m q
-Leads a m (flow.Waits to on) v (ends done) =
+abbrev pub InstLeads : Arena → Machine → Flow → UnitText → Next → Type 0
+InstLeads a m flow.Goes v (goes q) = MachineIs a m q
+InstLeads a m (flow.Waits to on) v (ends done) =
     (to.0 < label_count a m.frame.unit.0) × Ends a m v (waits (label_name_at a m.frame.unit.0 m.frame.block.0) (label_name_at a m.frame.unit.0 to.0) on.parts on.wake) done
-Leads a m flow.Halts v (ends done) = Ends a m v halted done
-Leads a m flow.Lost v no_step = Unit {0}
-Leads a m _ v _ = ⊥
+InstLeads a m flow.Halts v (ends done) = Ends a m v halted done
+InstLeads a m flow.Lost v no_step = Unit {0}
+InstLeads a m _ v _ = ⊥
 
 -- at every point for which the machine stands
 abbrev pub Does : Result Flow NoMemory → Arena → (old new : Machine) → (Point → Next) → Type 0
-Does r a old new f = (p : Point) → MachineIs a old p → IfOk r (λ fl. Leads a new fl p.control.unit (f p))
+Does r a old new f = (p : Point) → MachineIs a old p → IfOk r (λ fl. InstLeads a new fl p.control.unit (f p))
 
 -- a frame, where there is one, stands for a place of control
-abbrev pub MaybeFrame : Arena → Option Frame → Option Control → Type 0
+abbrev pub MaybeFrame : Arena → Option UnitFrame → Option Control → Type 0
 MaybeFrame a None None = Unit {0}
 MaybeFrame a (Some f) (Some c) = FrameIs a f c
 MaybeFrame a _ _ = ⊥

@@ -45,8 +45,8 @@ StandsBy a u args (stand.Waits w) p = (p.stand ≡ waits (label_name_at a u w.bl
 StandsBy a u args stand.Halted p = p.stand ≡ halted
 
 -- the same of a state
-abbrev pub StandsFor : Arena → ℕ → (args : List Range) → ProcState → ProcessState → Type 0
-StandsFor a u args s p = StandsBy a u args s.stand p
+abbrev pub StandsForState : Arena → ℕ → (args : List Range) → ProcState → ProcessState → Type 0
+StandsForState a u args s p = StandsBy a u args s.stand p
 
 -- a `wait` stands in this block of the unit, and leads to that one
 pub record WaitsIn (u : UnitText) (block to : List ℕ) : Type 0 where
@@ -110,8 +110,8 @@ WakesLater at s = WakesLaterBy at s.stand
 
 -- What an activation gives, as the code answers it: the next state stands for the one that is left, and fits; the writes have exactly the entries of its wish, their
 -- instants strictly rise, none is empty and none names a bit twice, and each names only bits of the signals; and the outcomes are the same.
-pub record Gives (a : Arena) (u : ℕ) (args : List Range) (width : ℕ) (act : Act) (done : Activated) : Type 0 where
-  pub next : StandsFor a u args act.next done.state
+pub record GivesActivation (a : Arena) (u : ℕ) (args : List Range) (width : ℕ) (act : Act) (done : Activated) : Type 0 where
+  pub next : StandsForState a u args act.next done.state
   pub fits : StateFits a u width act.next
   pub wish : writes_wish act.wishes ≡ done.wish
   pub grouped : IsGrouped act.wishes
@@ -120,13 +120,13 @@ pub record Gives (a : Arena) (u : ℕ) (args : List Range) (width : ℕ) (act : 
 
 -- the activation, or none where there is none
 abbrev pub GivesMaybe : Arena → ℕ → (args : List Range) → (width : ℕ) → Option Act → Option Activated → Type 0
-GivesMaybe a u args width (Some act) (Some done) = Gives a u args width act done
+GivesMaybe a u args width (Some act) (Some done) = GivesActivation a u args width act done
 GivesMaybe a u args width None None = Unit {0}
 GivesMaybe a u args width _ _ = ⊥
 
 -- what `activate` answers: exactly the activation, or a runaway exactly where there is none
-abbrev pub Answers : Arena → ℕ → (args : List Range) → (width : ℕ) → Result Act ExecFault → Option Activated → Type 0
-Answers a u args width (Ok act) (Some done) = Gives a u args width act done
-Answers a u args width (Err fault.Runaway) None = Unit {0}
-Answers a u args width (Err fault.OutOfMemory) _ = Unit {0}
-Answers a u args width _ _ = ⊥
+abbrev pub ActivationOrRunaway : Arena → ℕ → (args : List Range) → (width : ℕ) → Result Act ExecFault → Option Activated → Type 0
+ActivationOrRunaway a u args width (Ok act) (Some done) = GivesActivation a u args width act done
+ActivationOrRunaway a u args width (Err fault.Runaway) None = Unit {0}
+ActivationOrRunaway a u args width (Err fault.OutOfMemory) _ = Unit {0}
+ActivationOrRunaway a u args width _ _ = ⊥

@@ -17,40 +17,41 @@ use Rattle.lh_eval.specs.Fitting.{Fits}
 use Rattle.lh_sound.specs.Ranges.{RangesFit, arg_types}
 use Rattle.lh_exec.specs.declared.state.ProcState.{ProcState}
 use Rattle.lh_exec.specs.Standing.{scene_of}
-use Rattle.lh_exec.specs.States.{StandsFor, StateFits}
+use Rattle.lh_exec.specs.States.{StandsForState, StateFits}
 
 -- An instruction finds what it looks for: its operands, the block to which it leads with the values of its `phi`, the function that it calls, and what it ends. Those of entities do not come.
-abbrev pub Finds : Scene → Point → InstText → Type 0
-Finds s p (const_text d) = Unit {0}
-Finds s p (pure_text o args) = IsSome (operated p.control.unit p.control.held o args)
-Finds s p (var_text a) = IsSome (datum_at p.control.held a.value)
-Finds s p (ld_text a) = IsSome (cell_at p.control.held a.value)
-Finds s p (st_text to value) = IsSome (cell_at p.control.held to.value) × IsSome (datum_at p.control.held value)
-Finds s p (prb_text a) = IsSome (probed s.now p.control.held a)
-Finds s p (drv_text to value after cond) = IsSome (driven s.at p.control.held p.wish to value after cond)
-Finds s p (call_text f ty args) =
+abbrev pub FindsOperands : Scene → Point → InstText → Type 0
+FindsOperands s p (const_text d) = Unit {0}
+FindsOperands s p (pure_text o args) = IsSome (operated p.control.unit p.control.held o args)
+FindsOperands s p (var_text a) = IsSome (datum_at p.control.held a.value)
+FindsOperands s p (ld_text a) = IsSome (cell_at p.control.held a.value)
+FindsOperands s p (st_text to value) = IsSome (cell_at p.control.held to.value) × IsSome (datum_at p.control.held value)
+FindsOperands s p (prb_text a) = IsSome (probed s.now p.control.held a)
+FindsOperands s p (drv_text to value after cond) = IsSome (driven s.at p.control.held p.wish to value after cond)
+FindsOperands s p (call_text f ty args) =
     ((is_assert f ≡ true) × IsSome (asserted p.control.held args)) ⊎ ((is_assert f ≡ false) × IsSome (called (function_named f s.functions) (data_at p.control.held args)))
-Finds s p (phi_text ty edges) = Unit {0}
-Finds s p (br_text to) = IsSome (entered p.control.unit p.control.held p.control.block to)
-Finds s p (branch_text cond first second) = IsSome (option_and_then (entered p.control.unit p.control.held p.control.block) (chosen (test_at p.control.held cond) first second))
-Finds s p (wait_text to after signals) = (p.callers ≡ []) × IsSome (waiting p.control.block to (parts_at p.control.held signals) (wake_at s.at p.control.held after))
-Finds s p halt_text = p.callers ≡ []
-Finds s p (ret_text o) = (c : Caller) × (more : List Caller) × (p.callers ≡ c ∷ more) × IsSome (given_back p.control.held o c)
-Finds s p (sig_text a) = ⊥
-Finds s p (reg_text to triggers) = ⊥
-Finds s p (child_text v inputs outputs) = ⊥
+FindsOperands s p (phi_text ty edges) = Unit {0}
+FindsOperands s p (br_text to) = IsSome (entered p.control.unit p.control.held p.control.block to)
+FindsOperands s p (branch_text cond first second) = IsSome (option_and_then (entered p.control.unit p.control.held p.control.block) (chosen (test_at p.control.held cond) first second))
+FindsOperands s p (wait_text to after signals) = (p.callers ≡ []) × IsSome (waiting p.control.block to (parts_at p.control.held signals) (wake_at s.at p.control.held after))
+FindsOperands s p halt_text = p.callers ≡ []
+FindsOperands s p (ret_text o) = (c : Caller) × (more : List Caller) × (p.callers ≡ c ∷ more) × IsSome (given_back p.control.held o c)
+FindsOperands s p (sig_text a) = ⊥
+FindsOperands s p (reg_text to triggers) = ⊥
+FindsOperands s p (child_text v inputs outputs) = ⊥
 
 -- an instruction comes next, and it finds what it looks for
 abbrev pub FindsFirst : Scene → Point → List LineText → Type 0
 FindsFirst s p [] = ⊥
-FindsFirst s p (l ∷ rest) = Finds s p l.inst
+FindsFirst s p (l ∷ rest) = FindsOperands s p l.inst
 
 -- a call of a function comes next
 abbrev pub CallsFirst : List LineText → Type 0
 CallsFirst [] = ⊥
 CallsFirst (l ∷ rest) = (f : UnitName) × (ty : TypeTree) × (args : List OperandText) × (l.inst ≡ call_text f ty args) × (is_assert f ≡ false)
 
--- A point of an activation where nothing goes wrong: what is held fits the types of its names, the next instruction finds what it looks for, and nothing but a call of a function stops it, where as many as may be are open.
+-- A point of an activation where nothing goes wrong: what is held fits the types of its names, the next instruction finds what it looks for, and nothing but a call of a
+-- function stops it, where as many as may be are open.
 pub record IsSteady (s : Scene) (width : ℕ) (p : Point) : Type 0 where
   pub fits : Fits p.control.unit width p.control.held
   pub finds : FindsFirst s p p.control.rest
@@ -62,20 +63,22 @@ Reaches s p [] q = p ≡ q
 Reaches s p (x ∷ more) q = (step s p ≡ goes x) × Reaches s x more q
 
 -- an activation of the process u of the module begins in this state, with arguments and signals that fit
-pub record Begins (a : Arena) (u : ℕ) (args : List Range) (width : ℕ) (s : ProcState) (p : ProcessState) : Type 0 where
+pub record BeginsActivation (a : Arena) (u : ℕ) (args : List Range) (width : ℕ) (s : ProcState) (p : ProcessState) : Type 0 where
   pub arena : IsArena a
   pub within : u < unit_count a
   pub process : kind_at a u ≡ Some kind.Proc
   pub formed : IsWellFormed (contents a)
   pub ranges : RangesFit width args (arg_types (unit_text_at a u).args)
   pub fits : StateFits a u width s
-  pub stands : StandsFor a u args s p
+  pub stands : StandsForState a u args s p
 
 -- Each activation has a place to begin, but that of a process that has halted.
 abbrev pub ActivationsBegin : Type 0
-ActivationsBegin = (a : Arena) (u : ℕ) (args : List Range) (width : ℕ) (s : ProcState) (p : ProcessState) → Begins a u args width s p → (p.stand ≡ halted → ⊥) → IsSome (control_at (unit_text_at a u) p)
+ActivationsBegin = (a : Arena) (u : ℕ) (args : List Range) (width : ℕ) (s : ProcState) (p : ProcessState) → BeginsActivation a u args width s p → (p.stand ≡ halted → ⊥)
+    → IsSome (control_at (unit_text_at a u) p)
 
 -- At each point that it reaches nothing goes wrong, whatever the bits of the signals and the instant are.
 abbrev pub ActivationsAreSteady : Type 0
-ActivationsAreSteady = (a : Arena) (u : ℕ) (args : List Range) (now : List Bool) (t : Instant) (s : ProcState) (p : ProcessState) → Begins a u args (length now) s p → (c : Control) → control_at (unit_text_at a u) p ≡ Some c → (points : List Point) (q : Point)
+ActivationsAreSteady = (a : Arena) (u : ℕ) (args : List Range) (now : List Bool) (t : Instant) (s : ProcState) (p : ProcessState) → BeginsActivation a u args (length now) s p → (c : Control)
+    → control_at (unit_text_at a u) p ≡ Some c → (points : List Point) (q : Point)
     → Reaches (scene_of a now t) (start_point c) points q → IsSteady (scene_of a now t) (length now) q

@@ -55,9 +55,9 @@ data_given (a ∷ more) [] slots = slots
 data_given (a ∷ more) (h ∷ hs) slots = data_given more hs (slice_set slots a.value.0 (Some h))
 
 -- all were there and these are taken, or one was not there
-abbrev pub Takes : Bool → List (ValueId × Datum) → Option (List (ValueId × Datum)) → Type 0
-Takes true xs all = all ≡ Some xs
-Takes false xs all = all ≡ None
+abbrev pub TakesValues : Bool → List (ValueId × Datum) → Option (List (ValueId × Datum)) → Type 0
+TakesValues true xs all = all ≡ Some xs
+TakesValues false xs all = all ≡ None
 
 -- behind what was taken so far, one instruction and then more
 abbrev pub TakesMore : Bool → (old new : List (ValueId × Datum)) → (more all : Option (List (ValueId × Datum))) → Type 0

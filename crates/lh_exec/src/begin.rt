@@ -8,7 +8,7 @@ ghost use Rattle.lh_exec.specs.States.{StandsBy, FitsBy, PauseFits, begun};
 ghost use Rattle.lh_exec.specs.Sound.{BeginsAt};
 
 use crate::calls::first_frame;
-use crate::machine::{Flow, Frame, Machine};
+use crate::machine::{Flow, Machine, UnitFrame};
 use crate::state::{Pause, Stand};
 use lh_eval::begin::hold_args;
 use lh_eval::held::Slots;
@@ -82,7 +82,7 @@ fn begin_from(
     let slots = pause.slots.copy(alloc)?;
     let mut machine = machine_at(
         alloc,
-        Frame {
+        UnitFrame {
             unit,
             block: pause.block,
             next: 0,
@@ -96,7 +96,7 @@ fn begin_from(
 }
 
 /// A machine in this frame, with no open call, which has given nothing yet.
-fn machine_at(alloc: Global, frame: Frame) -> Machine
+fn machine_at(alloc: Global, frame: UnitFrame) -> Machine
     ensures frame { result.frame ≡ frame }
     ensures callers { result.callers.items ≡ [] }
     ensures wishes { result.wishes ≡ no_wish }

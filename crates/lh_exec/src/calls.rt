@@ -15,10 +15,10 @@ ghost use Rattle.lh_unit.specs.Within.{Each};
 ghost use Rattle.lh_unit.specs.declared.inst.Typed.{Typed as Operand};
 ghost use Rattle.lh_eval.specs.HeldOf.{maybe_held};
 ghost use Rattle.lh_eval.specs.Holding.{Holds, MaybeIn};
-ghost use Rattle.lh_exec.specs.Standing.{MachineIs, HasPoint, FrameIs, Leads, Does, MaybeFrame, asserted_in, returned_in, back};
+ghost use Rattle.lh_exec.specs.Standing.{MachineIs, HasPoint, FrameIs, InstLeads, Does, MaybeFrame, asserted_in, returned_in, back};
 ghost use Rattle.lh_exec.specs.Taking.{data_given};
 
-use crate::machine::{Call, Flow, Frame, Machine};
+use crate::machine::{Call, Flow, Machine, UnitFrame};
 use lh_eval::held::{Held, Slots};
 use lh_eval::operands::{data_in, datum_in, test_in};
 use lh_types::ty::NoMemory;
@@ -92,7 +92,7 @@ impl Machine {
     }
 
     /// Goes on in a frame, above the one that it was in.
-    fn push(&mut self, frame: Frame, name: Option<ValueId>) -> Result<Flow, NoMemory>
+    fn push(&mut self, frame: UnitFrame, name: Option<ValueId>) -> Result<Flow, NoMemory>
         requires name { MaybeIn self.old.frame.slots name }
         requires few { length self.old.callers.items < 256 }
         ensures { (a : Arena) (c : act.Control) → FrameIs a frame c → Does result a self.old self.new (λ p. opens p (maybe_text (naming a self.old.frame.unit.0) name) (Some c)) }
@@ -123,7 +123,7 @@ impl Machine {
     /// Goes on in the last open call, with this held by the name of its result.
     fn go_back(&mut self, held: Option<Held>) -> Flow
         requires { HasPoint self.old }
-        ensures { (a : Arena) (p : Point) (h : Option Content) → MachineIs a self.old p → maybe_held held ≡ h → Leads a self.new result p.control.unit (back p h p.callers) }
+        ensures { (a : Arena) (p : Point) (h : Option Content) → MachineIs a self.old p → maybe_held held ≡ h → InstLeads a self.new result p.control.unit (back p h p.callers) }
     {
         match self.callers.pop() {
             Some(call) => {
@@ -139,10 +139,8 @@ impl Machine {
 fn push_call(calls: &mut Vec<Call>, call: Call) -> Result<(), NoMemory>
     ensures { OnOk result (calls.new.items ≡ calls.old.items ++ call ∷ []) }
 {
-    match calls.push(call) {
-        Ok(()) => Ok(()),
-        Err(_) => Err(NoMemory),
-    }
+    calls.push(call)?;
+    Ok(())
 }
 
 /// Whether the one argument of an assertion is not 0.
@@ -180,7 +178,7 @@ fn called_frame(
     unit: UnitId,
     args: &[Typed],
     slots: &Slots,
-) -> Result<Option<Frame>, NoMemory>
+) -> Result<Option<UnitFrame>, NoMemory>
     requires unit { unit.0 < unit_count m.now }
     requires blocks { HasBlocks (kind_at m.now unit.0) }
     requires args { Each (λ (o : Operand). o.value.0 < length slots.now) args.now }
@@ -198,7 +196,7 @@ fn function_frame(
     m: &Module,
     unit: UnitId,
     values: &[Val],
-) -> Result<Option<Frame>, NoMemory>
+) -> Result<Option<UnitFrame>, NoMemory>
     requires unit { unit.0 < unit_count m.now }
     requires blocks { HasBlocks (kind_at m.now unit.0) }
     ensures { IfOk result (λ f. MaybeFrame m.now f (entry (unit_text_at m.now unit.0) (with_args nothing_held (unit_text_at m.now unit.0).args (map datum_held (map datum_of values.now))))) }
@@ -224,7 +222,7 @@ fn hold_data(args: &[Arg], values: &[Val], slots: &mut Slots) -> Result<(), NoMe
 }
 
 /// The frame in which a unit begins, in its entry block, where it has one.
-pub(crate) fn first_frame(m: &Module, unit: UnitId, slots: Slots) -> Option<Frame>
+pub(crate) fn first_frame(m: &Module, unit: UnitId, slots: Slots) -> Option<UnitFrame>
     requires unit { unit.0 < unit_count m.now }
     requires blocks { HasBlocks (kind_at m.now unit.0) }
     ensures { (e : Env) → Holds m.now unit.0 slots e → MaybeFrame m.now result (entry (unit_text_at m.now unit.0) e) }
@@ -233,7 +231,7 @@ pub(crate) fn first_frame(m: &Module, unit: UnitId, slots: Slots) -> Option<Fram
     if blocks.is_empty() {
         return None;
     }
-    Some(Frame {
+    Some(UnitFrame {
         unit,
         block: blocks[0],
         next: 0,

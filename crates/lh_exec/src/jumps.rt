@@ -17,9 +17,9 @@ ghost use Rattle.lh_eval.specs.Holding as holding;
 ghost use Rattle.lh_eval.specs.Holding.{MaybeIn};
 ghost use Rattle.lh_exec.specs.Standing as standing;
 ghost use Rattle.lh_exec.specs.Standing.{Does, wake_in};
-ghost use Rattle.lh_exec.specs.Taking.{edge_in, taken_of, one_taken, all_taken, in_front, put_all, Takes, TakesMore};
+ghost use Rattle.lh_exec.specs.Taking.{edge_in, taken_of, one_taken, all_taken, in_front, put_all, TakesValues, TakesMore};
 
-use crate::machine::{Flow, Frame, Machine, Taken};
+use crate::machine::{Flow, Machine, Taken, UnitFrame};
 use crate::state::WaitOn;
 use lh_eval::held::{Held, Slots};
 use lh_eval::operands::{datum_in, delay_in, part_in, test_in};
@@ -104,7 +104,7 @@ impl Machine {
     fn wait_on(&self, at: Instant, to: BlockId, after: Option<ValueId>, parts: RangeList) -> Flow
         requires after { MaybeIn self.now.frame.slots after }
         requires calls { self.now.callers.items ≡ [] }
-        ensures { (a : Arena) (signals : List Value) → to.0 < label_count a self.now.frame.unit.0 → Each (λ (v : Value). v.0 < length self.now.frame.slots) signals → standing.parts_in self.now.frame.slots signals ≡ Some parts → (p : Point) → standing.MachineIs a self.now p → let f = naming a self.now.frame.unit.0 in standing.Leads a self.now result p.control.unit (ends_at p p.callers (waiting p.control.block (f.label_name to.0) (parts_at p.control.held (map (value_text f) signals)) (act.wake_at at p.control.held (maybe_text f after)))) }
+        ensures { (a : Arena) (signals : List Value) → to.0 < label_count a self.now.frame.unit.0 → Each (λ (v : Value). v.0 < length self.now.frame.slots) signals → standing.parts_in self.now.frame.slots signals ≡ Some parts → (p : Point) → standing.MachineIs a self.now p → let f = naming a self.now.frame.unit.0 in standing.InstLeads a self.now result p.control.unit (ends_at p p.callers (waiting p.control.block (f.label_name to.0) (parts_at p.control.held (map (value_text f) signals)) (act.wake_at at p.control.held (maybe_text f after)))) }
     {
         match wake(at, &self.frame.slots, after) {
             Some(wake) => Flow::Waits {
@@ -117,7 +117,7 @@ impl Machine {
 
     /// Halts; there is no call open then.
     pub(crate) fn run_halt(&self) -> Flow
-        ensures { (a : Arena) (p : Point) → standing.MachineIs a self.now p → standing.Leads a self.now result p.control.unit (ends_at p p.callers (Some act.halted)) }
+        ensures { (a : Arena) (p : Point) → standing.MachineIs a self.now p → standing.InstLeads a self.now result p.control.unit (ends_at p p.callers (Some act.halted)) }
     {
         if self.callers.is_empty() {
             Flow::Halts
@@ -130,7 +130,7 @@ impl Machine {
 /// Takes the values of the `phi` among these instructions; false where one of them is not there.
 fn take_phis(
     m: &Module,
-    frame: &Frame,
+    frame: &UnitFrame,
     insts: &[InstId],
     taken: &mut Vec<Taken>,
 ) -> Result<bool, NoMemory>
@@ -138,7 +138,7 @@ fn take_phis(
     requires insts { Each (λ (i : Id). i.0 < inst_count m.now frame.now.unit.0) insts.now }
     requires slots { length frame.now.slots ≡ value_count m.now frame.now.unit.0 }
     requires none { taken.old.items ≡ [] }
-    ensures { IfOk result (λ there. Takes there (map taken_of taken.new.items) (all_taken frame.now.block frame.now.slots (table_at m.now frame.now.unit.0) insts.now)) }
+    ensures { IfOk result (λ there. TakesValues there (map taken_of taken.new.items) (all_taken frame.now.block frame.now.slots (table_at m.now frame.now.unit.0) insts.now)) }
 {
     for inst in insts {
         if !take_phi(m, frame, *inst, taken)? {
@@ -151,7 +151,7 @@ fn take_phis(
 /// Takes the value of an instruction, if it is a `phi`; false where that is not there.
 fn take_phi(
     m: &Module,
-    frame: &Frame,
+    frame: &UnitFrame,
     inst: InstId,
     taken: &mut Vec<Taken>,
 ) -> Result<bool, NoMemory>
@@ -171,7 +171,7 @@ fn take_phi(
 
 /// Takes the value of a `phi` with these edges and this name; false where it is not there.
 fn take_edge(
-    frame: &Frame,
+    frame: &UnitFrame,
     edges: &[PhiEdge],
     name: Option<ValueId>,
     taken: &mut Vec<Taken>,
@@ -207,10 +207,8 @@ fn push_copy(taken: &mut Vec<Taken>, name: ValueId, value: &Val) -> Result<(), N
     ensures { OnOk result (map taken_of taken.new.items ≡ map taken_of taken.old.items ++ (name, datum_of value.now) ∷ []) }
 {
     let value = value.copy()?;
-    match taken.push(Taken { name, value }) {
-        Ok(()) => Ok(()),
-        Err(_) => Err(NoMemory),
-    }
+    taken.push(Taken { name, value })?;
+    Ok(())
 }
 
 /// Holds by its name each of the values that were taken, the last one first.

@@ -7,7 +7,7 @@ ghost use Rattle.lh_unit.specs.Naming.{maybe_text};
 ghost use Rattle.lh_unit.specs.Held.{Held as Content};
 ghost use Rattle.lh_eval.specs.HeldOf.{maybe_held};
 ghost use Rattle.lh_eval.specs.Holding.{MaybeIn};
-ghost use Rattle.lh_exec.specs.Standing.{MachineIs, Leads, goes_on};
+ghost use Rattle.lh_exec.specs.Standing.{MachineIs, InstLeads, goes_on};
 
 use crate::state::WaitOn;
 use lh_eval::held::{Held, Slots};
@@ -18,7 +18,7 @@ use lh_unit::inst::{BlockId, UnitId, ValueId};
 
 /// A unit in execution: the block, how many of its instructions were executed, and what is held.
 #[derive(Drop)]
-pub(crate) struct Frame {
+pub(crate) struct UnitFrame {
     pub unit: UnitId,
     pub block: BlockId,
     pub next: usize,
@@ -28,7 +28,7 @@ pub(crate) struct Frame {
 /// An open call: where it goes on, and the value that names its result.
 #[derive(Drop)]
 pub(crate) struct Call {
-    pub frame: Frame,
+    pub frame: UnitFrame,
     pub result: Option<ValueId>,
 }
 
@@ -43,7 +43,7 @@ pub(crate) struct Taken {
 /// so far. The list of values that the `phi` of a block take is empty between two instructions.
 #[derive(Drop)]
 pub(crate) struct Machine {
-    pub frame: Frame,
+    pub frame: UnitFrame,
     pub callers: Vec<Call>,
     pub wishes: Wishes,
     pub outcomes: BoolList,
@@ -64,7 +64,7 @@ impl Machine {
     /// Holds by this name what an instruction gives, if it gives something.
     pub(crate) fn give(&mut self, name: Option<ValueId>, held: Option<Held>) -> Flow
         requires { MaybeIn self.old.frame.slots name }
-        ensures { (a : Arena) (p : Point) (h : Option Content) → MachineIs a self.old p → maybe_held held ≡ h → Leads a self.new result p.control.unit (gives p (maybe_text (naming a self.old.frame.unit.0) name) h) }
+        ensures { (a : Arena) (p : Point) (h : Option Content) → MachineIs a self.old p → maybe_held held ≡ h → InstLeads a self.new result p.control.unit (gives p (maybe_text (naming a self.old.frame.unit.0) name) h) }
     {
         match held {
             Some(held) => {

@@ -8,11 +8,11 @@ ghost use Rattle.lh_unit.specs.Arena.{Arena, IsArena, unit_count, kind_at, conte
 ghost use Rattle.lh_unit.specs.WellFormed.{IsWellFormed};
 ghost use Rattle.lh_sound.specs.Ranges.{RangesFit, arg_types};
 ghost use Rattle.lh_exec.specs.Standing.{scene_of};
-ghost use Rattle.lh_exec.specs.States.{StandsFor, StandsBy, StateFits, FitsBy, Answers, GivesMaybe, WakesLater};
+ghost use Rattle.lh_exec.specs.States.{StandsForState, StandsBy, StateFits, FitsBy, ActivationOrRunaway, GivesMaybe, WakesLater};
 ghost use Rattle.lh_exec.specs.Sound.{Finishes, EndHolds, stood};
 
 use crate::begin::begin;
-use crate::machine::{Flow, Frame, Machine};
+use crate::machine::{Flow, Machine, UnitFrame};
 use crate::state::{Parked, Pause, ProcState, Stand};
 use lh_eval::instance::Instance;
 use lh_time::Instant;
@@ -72,7 +72,7 @@ pub fn activate<T: Tally>(
     requires process { kind_at m.now i.now.unit.0 ≡ Some UnitKind.Proc }
     requires args { RangesFit (length now.now) i.now.args (arg_types (unit_text_at m.now i.now.unit.0).args) }
     requires fits { StateFits m.now i.now.unit.0 (length now.now) s.now }
-    ensures act { (p : ProcessState) → StandsFor m.now i.now.unit.0 i.now.args s.now p → Answers m.now i.now.unit.0 i.now.args (length now.now) result (activation 1000000 (scene_of m.now now.now at) (unit_text_at m.now i.now.unit.0) p) }
+    ensures act { (p : ProcessState) → StandsForState m.now i.now.unit.0 i.now.args s.now p → ActivationOrRunaway m.now i.now.unit.0 i.now.args (length now.now) result (activation 1000000 (scene_of m.now now.now at) (unit_text_at m.now i.now.unit.0) p) }
     ensures late { IfOk result (λ act. WakesLater at act.next) }
     ensures tick { T.count tally.new ≡ raised (T.count tally.old) 1 }
 {
@@ -86,7 +86,7 @@ pub fn activate<T: Tally>(
 
 /// The answer where memory did not run out.
 fn answered(given: Option<Act>) -> Result<Act, ExecFault>
-    ensures act { (a : Arena) (u w : ℕ) (args : List Bounds) (done : Option Activated) → GivesMaybe a u args w given done → Answers a u args w result done }
+    ensures act { (a : Arena) (u w : ℕ) (args : List Bounds) (done : Option Activated) → GivesMaybe a u args w given done → ActivationOrRunaway a u args w result done }
     ensures late { (t : When) → IfSome given (λ act. WakesLater t act.next) → IfOk result (λ act. WakesLater t act.next) }
 {
     match given {
@@ -141,7 +141,7 @@ fn finish(alloc: Global, machine: Machine, flow: Flow) -> Result<Option<Act>, No
 }
 
 /// Where a process stands whose activation ends in this frame.
-fn stand_at(alloc: Global, frame: Frame, flow: Flow) -> Result<Option<Stand>, NoMemory>
+fn stand_at(alloc: Global, frame: UnitFrame, flow: Flow) -> Result<Option<Stand>, NoMemory>
     ensures { IfOk result (λ s. s ≡ stood frame flow) }
 {
     match flow {

@@ -6,8 +6,8 @@ ghost use Rattle.lh_unit.specs.Arena.{InstPlaced, contents, naming, unit_text_at
 ghost use Rattle.lh_unit.specs.Naming.{inst_text, maybe_text};
 ghost use Rattle.lh_unit.specs.WellFormed.{IsWellFormed};
 ghost use Rattle.lh_eval.specs.Holding.{MaybeIn};
-ghost use Rattle.lh_exec.specs.Standing.{MachineIs, Leads, Does, scene_of};
-ghost use Rattle.lh_exec.specs.Sound.{LineRight, IsFit, PointFits, Finishes};
+ghost use Rattle.lh_exec.specs.Standing.{MachineIs, InstLeads, Does, scene_of};
+ghost use Rattle.lh_exec.specs.Sound.{LineRight, MachineFits, PointFits, Finishes};
 
 use crate::machine::{Flow, Machine};
 use lh_time::Instant;
@@ -29,7 +29,7 @@ impl Machine {
     ) -> Result<Flow, NoMemory>
         requires formed { IsWellFormed (contents m.now) }
         requires few { length now.now < 2 ^ 32 }
-        requires fit { IsFit m.now (length now.now) self.old }
+        requires fit { MachineFits m.now (length now.now) self.old }
         ensures { (u : ℕ) (p : Point) → MachineIs m.now self.old p → PointFits (contents m.now) (length now.now) (unit_text_at m.now u) p → IfOk result (λ fl. Finishes m.now u (length now.now) at self.new fl (act.run limit (scene_of m.now now.now at) p)) }
     {
         for i in 0..limit {
@@ -45,7 +45,7 @@ impl Machine {
     fn step(&mut self, alloc: Global, m: &Module, now: &Bits, at: Instant) -> Result<Flow, NoMemory>
         requires formed { IsWellFormed (contents m.now) }
         requires few { length now.now < 2 ^ 32 }
-        requires fit { IsFit m.now (length now.now) self.old }
+        requires fit { MachineFits m.now (length now.now) self.old }
         ensures { Does result m.now self.old self.new (act.step (scene_of m.now now.now at)) }
     {
         let unit = self.frame.unit;
@@ -74,7 +74,7 @@ impl Machine {
         requires placed { InstPlaced m.now self.old.frame.unit.0 inst.now }
         requires name { MaybeIn self.old.frame.slots name }
         requires right { LineRight (contents m.now) (unit_text_at m.now self.old.frame.unit.0) (record { result = maybe_text (naming m.now self.old.frame.unit.0) name; inst = inst_text (naming m.now self.old.frame.unit.0) inst.now }) }
-        requires fit { IsFit m.now (length now.now) self.old }
+        requires fit { MachineFits m.now (length now.now) self.old }
         ensures { let f = naming m.now self.old.frame.unit.0 in Does result m.now self.old self.new (executes (scene_of m.now now.now at) (inst_text f inst.now) (maybe_text f name)) }
     {
         match inst {

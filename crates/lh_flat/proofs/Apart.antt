@@ -108,7 +108,8 @@ marks-plain p n e = marks-append p n ∙ ap (λ x. marks p + x) e ∙ none (mark
 marks-under : (p m : List ℕ) (k : ℕ) (x : List ℕ) → Under p m k x → marks p < marks x
 marks-under p m k x h =
     let e : marks x ≡ marks p + marks m + suc (marks h.0) =
-    ap marks (h.1 ∙ append_assoc (p ++ m) ((256 + k) ∷ []) h.0) ∙ marks-append (p ++ m) ((256 + k) ∷ h.0) ∙ ap (λ y. y + marks ((256 + k) ∷ h.0)) (marks-append p m) ∙ ap (λ y. marks p + marks m + y) (marks-mark k h.0) in
+    ap marks (h.1 ∙ append_assoc (p ++ m) ((256 + k) ∷ []) h.0) ∙ marks-append (p ++ m) ((256 + k) ∷ h.0) ∙ ap (λ y. y + marks ((256 + k) ∷ h.0)) (marks-append p m)
+    ∙ ap (λ y. marks p + marks m + y) (marks-mark k h.0) in
     more (marks p) (marks m) (marks h.0) (marks x) e
   where
     more : (a b c d : ℕ) → d ≡ a + b + suc c → a < d

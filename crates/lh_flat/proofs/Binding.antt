@@ -48,14 +48,18 @@ get_or-map f (x ∷ xs) (suc i) d e l = get_or-map f xs i d e (omega arith)
 
 module _ (a : Arena) (o : IsArena a) (u : ℕ) (l : u < unit_count a) (g : Naming) where
   -- each value has its name behind the path, and a parameter that of its argument
-  bound-named : (ps : List Arg) (xs vs : List ValueId) (v : ValueId) (path : List ℕ) → ArgsWithin (value_count a u) ps → length vs ≡ value_count a u → v.0 < value_count a u → value_text g (get_or vs v.0 v) ≡ path ++ value_name_at a u v.0 →
+  bound-named : (ps : List Arg) (xs vs : List ValueId) (v : ValueId) (path : List ℕ) → ArgsWithin (value_count a u) ps → length vs ≡ value_count a u → v.0 < value_count a u
+      → value_text g (get_or vs v.0 v) ≡ path ++ value_name_at a u v.0 →
       value_text g (get_or (bound ps xs vs) v.0 v) ≡ argument_or (map (arg_text (naming a u)) ps) (map (value_text g) xs) (path ++ value_name_at a u v.0) (value_name_at a u v.0)
   bound-named [] xs vs v path w long k e = e
   bound-named (p ∷ ps) [] vs v path w long k e = e
   bound-named (p ∷ ps) (x ∷ xs) vs v path w long k e = by (same_or p.value.0 v.0) (bound-named ps xs vs v path w.1 long k e)
     where
-      by : Same p.value.0 v.0 → value_text g (get_or (bound ps xs vs) v.0 v) ≡ argument_or (map (arg_text (naming a u)) ps) (map (value_text g) xs) (path ++ value_name_at a u v.0) (value_name_at a u v.0) → value_text g (get_or (set (bound ps xs vs) p.value.0 x) v.0 v) ≡
-          (if same_name (value_name_at a u p.value.0) (value_name_at a u v.0) then value_text g x else argument_or (map (arg_text (naming a u)) ps) (map (value_text g) xs) (path ++ value_name_at a u v.0) (value_name_at a u v.0))
+      by : Same p.value.0 v.0 → value_text g (get_or (bound ps xs vs) v.0 v)
+          ≡ argument_or (map (arg_text (naming a u)) ps) (map (value_text g) xs) (path ++ value_name_at a u v.0) (value_name_at a u v.0)
+          → value_text g (get_or (set (bound ps xs vs) p.value.0 x) v.0 v) ≡
+          (if same_name (value_name_at a u p.value.0) (value_name_at a u v.0) then value_text g x else argument_or (map (arg_text (naming a u)) ps) (map (value_text g) xs)
+          (path ++ value_name_at a u v.0) (value_name_at a u v.0))
       by (same q) ih =
           let here : get_or (set (bound ps xs vs) v.0 x) v.0 v ≡ x = get_or-set_same (bound ps xs vs) v.0 x v (omega (arith, length-bound ps xs vs, long, k)) in
           let yes : same_name (value_name_at a u p.value.0) (value_name_at a u v.0) ≡ true = same_value-by_id a u o l p.value.0 v.0 w.0 k ∙ ap (λ n. nat_eq n v.0) q ∙ nat_eq-refl v.0 in
@@ -67,14 +71,17 @@ module _ (a : Arena) (o : IsArena a) (u : ℕ) (l : u < unit_count a) (g : Namin
           ∙ sym (ap (λ b. if b then value_text g x else argument_or (map (arg_text (naming a u)) ps) (map (value_text g) xs) (path ++ value_name_at a u v.0) (value_name_at a u v.0)) no)
 
   -- a new id stands for its value's name behind the path
-  pub new-named : (path : List ℕ) (from : ℕ) (v : ValueId) → NamedFrom g.value_name from (map (λ n. path ++ n) (table_at a u).values) → v.0 < value_count a u → value_text g (get_or (new_ids from (value_count a u)) v.0 v) ≡ path ++ value_name_at a u v.0
+  pub new-named : (path : List ℕ) (from : ℕ) (v : ValueId) → NamedFrom g.value_name from (map (λ n. path ++ n) (table_at a u).values) → v.0 < value_count a u
+      → value_text g (get_or (new_ids from (value_count a u)) v.0 v) ≡ path ++ value_name_at a u v.0
   new-named path from v h k =
       ap (value_text g) (get_or-map-range_with_len (λ (n : ℕ). record { 0 = n }) from (value_count a u) v.0 (from + v.0) v k refl)
       ∙ named-at g.value_name from (map (λ n. path ++ n) (table_at a u).values) v.0 h (omega (arith, k, length-map (table_at a u).values (λ n. path ++ n)))
       ∙ get_or-map (λ n. path ++ n) (table_at a u).values v.0 [] [] k
 
-  pub values-named : (path : List ℕ) (from : ℕ) (xs : List ValueId) (v : ValueId) → length (new_ids from (value_count a u)) ≡ value_count a u → NamedFrom g.value_name from (map (λ n. path ++ n) (table_at a u).values) → v.0 < value_count a u →
-      value_text g (get_or (bound (args_at a u) xs (new_ids from (value_count a u))) v.0 v) ≡ argument_or (map (arg_text (naming a u)) (args_at a u)) (map (value_text g) xs) (path ++ value_name_at a u v.0) (value_name_at a u v.0)
+  pub values-named : (path : List ℕ) (from : ℕ) (xs : List ValueId) (v : ValueId) → length (new_ids from (value_count a u)) ≡ value_count a u
+      → NamedFrom g.value_name from (map (λ n. path ++ n) (table_at a u).values) → v.0 < value_count a u →
+      value_text g (get_or (bound (args_at a u) xs (new_ids from (value_count a u))) v.0 v)
+      ≡ argument_or (map (arg_text (naming a u)) (args_at a u)) (map (value_text g) xs) (path ++ value_name_at a u v.0) (value_name_at a u v.0)
   values-named path from xs v long h k = bound-named (args_at a u) xs (new_ids from (value_count a u)) v path (o.tables u l).args_within long k (new-named path from v h k)
 
 -- the names of a call's arguments
@@ -83,21 +90,24 @@ args-named : (a : Arena) (fs : List UnitText) (g : Naming) (u : ℕ) (c : Copy) 
 args-named a fs g u c r k [] w = refl
 args-named a fs g u c r k (t ∷ os) w = cc (k.agrees.values t.value (subst (λ n. t.value.0 < n) (sym k.fits.values) w.0), args-named a fs g u c r k os w.1)
 
-pub call_args-named : (a : Arena) (fs : List UnitText) (g : Naming) (u : ℕ) (c : Copy) (r : Renaming) → CopyIs a fs g u c r → (i : Inst) → InstPlaced a u i → map (value_text g) (call_args r i) ≡ arg_names c (inst_text (naming a u) i)
+pub call_args-named : (a : Arena) (fs : List UnitText) (g : Naming) (u : ℕ) (c : Copy) (r : Renaming) → CopyIs a fs g u c r → (i : Inst) → InstPlaced a u i
+    → map (value_text g) (call_args r i) ≡ arg_names c (inst_text (naming a u) i)
 call_args-named a fs g u c r k (inst.Call f ty args) p = args-named a fs g u c r k args p.1
 call_args-named a fs g u c r k (inst.Ret None) p = refl
 call_args-named a fs g u c r k (inst.Ret (Some t)) p = refl
 call_args-named a fs g u c r k _ p = refl
 
 -- what an instruction of a copy gives back
-edge-given : (a : Arena) (fs : List UnitText) (g : Naming) (u : ℕ) (c : Copy) (r : Renaming) → CopyIs a fs g u c r → (b : BlockId) (block : List ℕ) → g.label_name (last_in r b).0 ≡ block → (i : Inst) → InstPlaced a u i → (more : List MergeEdge) (texts : List EdgeText) → map (merge_edge_text g) more ≡ texts →
+edge-given : (a : Arena) (fs : List UnitText) (g : Naming) (u : ℕ) (c : Copy) (r : Renaming) → CopyIs a fs g u c r → (b : BlockId) (block : List ℕ) → g.label_name (last_in r b).0 ≡ block → (i : Inst)
+    → InstPlaced a u i → (more : List MergeEdge) (texts : List EdgeText) → map (merge_edge_text g) more ≡ texts →
     map (merge_edge_text g) (edge_given r b i more) ≡ edge_if_given c block (inst_text (naming a u) i) texts
 edge-given a fs g u c r k b block e (inst.Ret None) p more texts h = h
 edge-given a fs g u c r k b block e (inst.Ret (Some t)) p more texts h = cc (k.agrees.values t.value (subst (λ n. t.value.0 < n) (sym k.fits.values) p), e, h)
 edge-given a fs g u c r k b block e _ p more texts h = h
 
 module _ (a : Arena) (o : IsArena a) (fs : List UnitText) (g : Naming) (u : ℕ) (c : Copy) (r : Renaming) (k : CopyIs a fs g u c r) where
-  insts-given : (b : BlockId) (block : List ℕ) → g.label_name (last_in r b).0 ≡ block → (is : List InstId) → map (merge_edge_text g) (insts_give a u r b is) ≡ given_in c block (map (line_text_of a u) is)
+  insts-given : (b : BlockId) (block : List ℕ) → g.label_name (last_in r b).0 ≡ block → (is : List InstId)
+      → map (merge_edge_text g) (insts_give a u r b is) ≡ given_in c block (map (line_text_of a u) is)
   insts-given b block e [] = refl
   insts-given b block e (i ∷ is) =
       edge-given a fs g u c r k b block e (line_of a u i).inst (line-placed a u i.0 o) (insts_give a u r b is) (given_in c block (map (line_text_of a u) is)) (insts-given b block e is)

@@ -71,7 +71,8 @@ arg-within n (p ∷ ps) (suc k) d h l = arg-within n ps k d h.1 (omega arith)
 pub length-new_ids : (from n : ℕ) → length (new_ids from n) ≡ n
 length-new_ids from n = length-map-range_with_len (λ (k : ℕ). record { 0 = k }) from n
 
-pub args-fit : (a : Arena) (u from n : ℕ) (vs : List ValueId) (args : List Arg) → IsArena a → u < unit_count a → vs ≡ new_ids from n → n ≡ value_count a u → args ≡ args_at a u → ArgsWithin (length vs) args
+pub args-fit : (a : Arena) (u from n : ℕ) (vs : List ValueId) (args : List Arg) → IsArena a → u < unit_count a → vs ≡ new_ids from n → n ≡ value_count a u → args ≡ args_at a u
+    → ArgsWithin (length vs) args
 args-fit a u from n vs args o l e f h =
     subst (λ xs. ArgsWithin (length vs) xs) (sym h) (subst (λ m. ArgsWithin m (args_at a u)) (sym (ap length e ∙ length-new_ids from n ∙ f)) (o.tables u l).args_within)
 
@@ -90,14 +91,16 @@ length-spans room a u at (b ∷ bs) ss =
 pub length-spans_of : (room : Option UnitId → ℕ) (a : Arena) (u at : ℕ) → length (spans_of room a u at) ≡ label_count a u
 length-spans_of room a u at = length-spans room a u at (blocks_at a u) (replicate (label_count a u) no_span) ∙ length-replicate (label_count a u) no_span
 
-pub ids-fit : (room : Option UnitId → ℕ) (a : Arena) (u at from n : ℕ) (ps : List Arg) (xs vs ws : List ValueId) (ss : List Span) (b : BlockId) → vs ≡ new_ids from n → n ≡ value_count a u → ws ≡ bound ps xs vs → ss ≡ spans_of room a u at → IdsFit a u (record { values = ws; spans = ss; back = b })
+pub ids-fit : (room : Option UnitId → ℕ) (a : Arena) (u at from n : ℕ) (ps : List Arg) (xs vs ws : List ValueId) (ss : List Span) (b : BlockId) → vs ≡ new_ids from n → n ≡ value_count a u
+    → ws ≡ bound ps xs vs → ss ≡ spans_of room a u at → IdsFit a u (record { values = ws; spans = ss; back = b })
 ids-fit room a u at from n ps xs vs ws ss b e f g h = record {
   values = ap length g ∙ length-bound ps xs vs ∙ ap length e ∙ length-new_ids from n ∙ f;
   labels = ap length h ∙ length-spans_of room a u at;
 }
 
 -- the result of an instruction has a new id
-pub maybe-within : (a : Arena) (o : IsArena a) (u : ℕ) (l : u < unit_count a) (r : Renaming) (f : IdsFit a u r) (n i : ℕ) (v : Option ValueId) → v ≡ (line_of a u (record { 0 = i })).result → MaybeWithin (sizes_in n r) v
+pub maybe-within : (a : Arena) (o : IsArena a) (u : ℕ) (l : u < unit_count a) (r : Renaming) (f : IdsFit a u r) (n i : ℕ) (v : Option ValueId) → v ≡ (line_of a u (record { 0 = i })).result
+    → MaybeWithin (sizes_in n r) v
 maybe-within a o u l r f n i v e = subst (λ w. MaybeWithin (sizes_in n r) w) (sym e) (by (line_of a u (record { 0 = i })).result (result-within a u o l i))
   where
     by : (w : Option ValueId) → ResultWithin (value_count a u) w → MaybeWithin (sizes_in n r) w
@@ -119,11 +122,14 @@ call_added-next k a f r l t = refl
 abbrev call_made : (j : ℕ) (f : UnitId) (r : Renaming) (l : Line) (t : Text) (b : Arena) (h : UnitId) (ids : Renaming) → Text
 call_made j f r l t b h ids = merging (merge_in r (blocks_give b h.0 ids (blocks_at b h.0)) l.inst l.result) (blocks_added (call_added j b) b h.0 ids (blocks_at b h.0) (entering b h t))
 
-pub call_added-is : (k : ℕ) (a b : Arena) (f h : UnitId) (r ids : Renaming) (l : Line) (t s v z : Text) (m : Option Merge) → (k ≡ 0 → ⊥) → b ≡ a → h ≡ f → ids ≡ call_ids (call_room (k - 1) a) a f r l t →
-    m ≡ merge_in r (blocks_give b h.0 ids (blocks_at b h.0)) l.inst l.result → s ≡ entering b h t → v ≡ blocks_added (call_added (k - 1) b) b h.0 ids (blocks_at b h.0) s → z ≡ merging m v → z ≡ call_added k a f r l t
+pub call_added-is : (k : ℕ) (a b : Arena) (f h : UnitId) (r ids : Renaming) (l : Line) (t s v z : Text) (m : Option Merge) → (k ≡ 0 → ⊥) → b ≡ a → h ≡ f
+    → ids ≡ call_ids (call_room (k - 1) a) a f r l t →
+    m ≡ merge_in r (blocks_give b h.0 ids (blocks_at b h.0)) l.inst l.result → s ≡ entering b h t → v ≡ blocks_added (call_added (k - 1) b) b h.0 ids (blocks_at b h.0) s → z ≡ merging m v
+    → z ≡ call_added k a f r l t
 call_added-is zero a b f h r ids l t s v z m n eb eh ei em es ev ez = absurd (n refl)
 call_added-is (suc j) a b f h r ids l t s v z m n eb eh ei em es ev ez =
-    ez ∙ ap (λ x. merging x v) em ∙ ap (merging (merge_in r (blocks_give b h.0 ids (blocks_at b h.0)) l.inst l.result)) (ev ∙ ap (blocks_added (call_added (suc j - 1) b) b h.0 ids (blocks_at b h.0)) es)
+    ez ∙ ap (λ x. merging x v) em ∙ ap (merging (merge_in r (blocks_give b h.0 ids (blocks_at b h.0)) l.inst l.result)) (ev
+    ∙ ap (blocks_added (call_added (suc j - 1) b) b h.0 ids (blocks_at b h.0)) es)
     ∙ ap (λ i. call_made i f r l t b h ids) (sym (less_one j))
     ∙ ap (λ x. call_made j f r l t x h ids) eb
     ∙ ap (λ x. call_made j f r l t a x ids) eh

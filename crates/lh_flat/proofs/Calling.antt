@@ -19,7 +19,7 @@ use Rattle.lh_unit.specs.Hierarchy.{lines_of}
 use Rattle.lh_unit.specs.Naming.{Naming, block_text, inst_text, kind_text}
 use Rattle.lh_unit.specs.Places.{places}
 use Rattle.lh_unit.specs.Table.{Table, FitsKind, line_at, insts_at}
-use Rattle.lh_unit.specs.ById.{inst_line}
+use Rattle.lh_unit.specs.ById.{inst_line_text}
 use Rattle.lh_unit.specs.Arena.{Arena, IsArena, InstPlaced, contents, item_text_at, unit_text_at, kind_at, table_at, naming, blocks_at, unit_count, unit_name_at}
 use Rattle.lh_unit.specs.WellFormed.{Site, sites, IsFaultless}
 use Rattle.lh_unit.specs.Within.{Each}
@@ -30,7 +30,7 @@ use Rattle.lh_formed.proofs.Sound.{site_in}
 use Rattle.lh_formed.proofs.CallsLaw.{calls_are_right}
 use Rattle.lh_formed.proofs.EachItem.{each-contained, each-of-map, each-at}
 use Rattle.lh_formed.proofs.AtPlaces.{lines-from}
-use Rattle.lh_flat.specs.declared.calls.Node.{Node}
+use Rattle.lh_flat.specs.declared.calls.CallNode.{CallNode}
 use Rattle.lh_flat.specs.Calls.{callee_if, callees_in, callees}
 use Rattle.lh_flat.specs.Graph.{max_counted, counted, no_node, callee_of, with_inst, with_insts, with_block, with_blocks, node_of}
 use Rattle.lh_flat.proofs.Reading.{line-placed}
@@ -70,7 +70,8 @@ unit-lines P law a u o f l = by (kind_at a u) refl
     by (Some k) e =
         let v : UnitId = record { 0 = u } in
         let i = o.items_defined v l (subst (λ (x : Option UnitKind). IsSome x) (sym e) refl) in
-        each-at (OnItem P (contents a)) (item_text_at a) a.items i.0 (item.Unit v) (on-items P (contents a) (contents a) (each-contained (OnSite P (contents a)) (sites (contents a)) (λ s c. law (contents a) s f c))) i.1
+        each-at (OnItem P (contents a)) (item_text_at a) a.items i.0 (item.Unit v)
+        (on-items P (contents a) (contents a) (each-contained (OnSite P (contents a)) (sites (contents a)) (λ s c. law (contents a) s f c))) i.1
 
 unit-names : (a : Arena) (u : ℕ) → IsArena a → IsFaultless (contents a) → u < unit_count a → Each (LineNames (contents a) (unit_text_at a u)) (lines_of (unit_text_at a u).blocks)
 unit-names a u o f l = unit-lines LineNames calls_are_right a u o f l
@@ -101,7 +102,8 @@ CallsFunction a (Some t) = IsFunction a t
 pub call-right : (a : Arena) (u : ℕ) (i : Inst) → IsArena a → InstPlaced a u i → NamedIsRight (contents a) (unit_text_at a u) (inst_text (naming a u) i) → CallsFunction a (callee_of a i)
 call-right a u (inst.Call f result args) o p n = by (is_assert (unit_name_at a f.0)) refl n
   where
-    by : (b : Bool) → is_assert (unit_name_at a f.0) ≡ b → NamedIsRight (contents a) (unit_text_at a u) (inst_text (naming a u) (inst.Call f result args)) → CallsFunction a (if b then None else Some f)
+    by : (b : Bool) → is_assert (unit_name_at a f.0) ≡ b → NamedIsRight (contents a) (unit_text_at a u) (inst_text (naming a u) (inst.Call f result args))
+        → CallsFunction a (if b then None else Some f)
     by true e q = tt
     by false e (inl q) = absurd cc
     by false e (inr q) = named-function a f.0 q.1.of o p.0 q.1.named q.1.function
@@ -122,27 +124,31 @@ call-right a u (inst.Wait to after signals) o p n = tt
 call-right a u inst.Halt o p n = tt
 call-right a u (inst.Ret x) o p n = tt
 
-with-right : (a : Arena) (n : Node) (c : Option UnitId) → CallsFunction a c → Each (IsFunction a) n.callees → Each (IsFunction a) (with_inst n c).callees
+with-right : (a : Arena) (n : CallNode) (c : Option UnitId) → CallsFunction a c → Each (IsFunction a) n.callees → Each (IsFunction a) (with_inst n c).callees
 with-right a n None p h = h
 with-right a n (Some f) p h = Each-append (IsFunction a) n.callees (f ∷ []) h (p, tt)
 
 -- a unit with one more piece
-abbrev next_piece : Node → Node
+abbrev next_piece : CallNode → CallNode
 next_piece n = record { insts = n.insts; blocks = counted n.blocks 1; callees = n.callees }
 
-insts-right : (a : Arena) (u : ℕ) (n : Node) (is : List InstId) → IsArena a → Each (LineNames (contents a) (unit_text_at a u)) (map (inst_line (naming a u) (table_at a u)) is) → Each (IsFunction a) n.callees → Each (IsFunction a) (with_insts a u n is).callees
+insts-right : (a : Arena) (u : ℕ) (n : CallNode) (is : List InstId) → IsArena a → Each (LineNames (contents a) (unit_text_at a u)) (map (inst_line_text (naming a u) (table_at a u)) is)
+    → Each (IsFunction a) n.callees → Each (IsFunction a) (with_insts a u n is).callees
 insts-right a u n [] o e h = h
 insts-right a u n (i ∷ is) o e h =
     insts-right a u (with_inst n (callee_of a (line_at (table_at a u) i.0).inst)) is o e.1
     (with-right a n (callee_of a (line_at (table_at a u) i.0).inst) (call-right a u (line_at (table_at a u) i.0).inst o (line-placed a u i.0 o) e.0) h)
 
-blocks-right : (a : Arena) (u : ℕ) (n : Node) (bs : List BlockId) → IsArena a → Each (LineNames (contents a) (unit_text_at a u)) (lines_of (map (block_text (naming a u) (table_at a u)) bs)) → Each (IsFunction a) n.callees → Each (IsFunction a) (with_blocks a u n bs).callees
+blocks-right : (a : Arena) (u : ℕ) (n : CallNode) (bs : List BlockId) → IsArena a → Each (LineNames (contents a) (unit_text_at a u)) (lines_of (map (block_text (naming a u) (table_at a u)) bs))
+    → Each (IsFunction a) n.callees → Each (IsFunction a) (with_blocks a u n bs).callees
 blocks-right a u n [] o e h = h
 blocks-right a u n (b ∷ bs) o e h =
     blocks-right a u (with_block a u n b) bs o
-    (Each-right (LineNames (contents a) (unit_text_at a u)) (map (inst_line (naming a u) (table_at a u)) (insts_at (table_at a u) b.0)) (lines_of (map (block_text (naming a u) (table_at a u)) bs)) e)
+    (Each-right (LineNames (contents a) (unit_text_at a u)) (map (inst_line_text (naming a u) (table_at a u)) (insts_at (table_at a u) b.0))
+    (lines_of (map (block_text (naming a u) (table_at a u)) bs)) e)
     (insts-right a u (next_piece n) (insts_at (table_at a u) b.0) o
-    (Each-left (LineNames (contents a) (unit_text_at a u)) (map (inst_line (naming a u) (table_at a u)) (insts_at (table_at a u) b.0)) (lines_of (map (block_text (naming a u) (table_at a u)) bs)) e) h)
+    (Each-left (LineNames (contents a) (unit_text_at a u)) (map (inst_line_text (naming a u) (table_at a u)) (insts_at (table_at a u) b.0)) (lines_of (map (block_text (naming a u) (table_at a u)) bs))
+    e) h)
 
 -- each unit that is called is a function
 pub callees-functions : (a : Arena) (u : ℕ) → IsArena a → IsFaultless (contents a) → u < unit_count a → Each (IsFunction a) (node_of a u).callees
@@ -159,18 +165,19 @@ abbrev insts_call : Arena → ℕ → List InstId → List UnitId
 insts_call a u [] = []
 insts_call a u (i ∷ more) = after_callee (callee_of a (line_at (table_at a u) i.0).inst) (insts_call a u more)
 
-with-callees : (n : Node) (c : Option UnitId) (more : List UnitId) → (with_inst n c).callees ++ more ≡ n.callees ++ after_callee c more
+with-callees : (n : CallNode) (c : Option UnitId) (more : List UnitId) → (with_inst n c).callees ++ more ≡ n.callees ++ after_callee c more
 with-callees n None more = refl
 with-callees n (Some t) more = append_assoc n.callees (t ∷ []) more
 
-insts-callees : (a : Arena) (u : ℕ) (n : Node) (is : List InstId) → (with_insts a u n is).callees ≡ n.callees ++ insts_call a u is
+insts-callees : (a : Arena) (u : ℕ) (n : CallNode) (is : List InstId) → (with_insts a u n is).callees ≡ n.callees ++ insts_call a u is
 insts-callees a u n [] = sym (append-nil n.callees)
 insts-callees a u n (i ∷ is) =
     insts-callees a u (with_inst n (callee_of a (line_at (table_at a u) i.0).inst)) is
     ∙ with-callees n (callee_of a (line_at (table_at a u) i.0).inst) (insts_call a u is)
 
 -- the names of callees, in front of others
-call-names : (a : Arena) (u : ℕ) (i : Inst) (more : List UnitName) (ids : List UnitId) → more ≡ map (λ (t : UnitId). unit_name_at a t.0) ids → callee_if (inst_text (naming a u) i) more ≡ map (λ (t : UnitId). unit_name_at a t.0) (after_callee (callee_of a i) ids)
+call-names : (a : Arena) (u : ℕ) (i : Inst) (more : List UnitName) (ids : List UnitId) → more ≡ map (λ (t : UnitId). unit_name_at a t.0) ids
+    → callee_if (inst_text (naming a u) i) more ≡ map (λ (t : UnitId). unit_name_at a t.0) (after_callee (callee_of a i) ids)
 call-names a u (inst.Call f result args) more ids e = by (is_assert (unit_name_at a f.0))
   where
     by : (b : Bool) → (if b then more else unit_name_at a f.0 ∷ more) ≡ map (λ (t : UnitId). unit_name_at a t.0) (after_callee (if b then None else Some f) ids)
@@ -194,10 +201,11 @@ call-names a u inst.Halt more ids e = e
 call-names a u (inst.Ret None) more ids e = e
 call-names a u (inst.Ret (Some x)) more ids e = e
 
-lines-names : (a : Arena) (u : ℕ) (is : List InstId) (ls : List LineText) (ids : List UnitId) → callees_in ls ≡ map (λ (t : UnitId). unit_name_at a t.0) ids → callees_in (map (inst_line (naming a u) (table_at a u)) is ++ ls) ≡ map (λ (t : UnitId). unit_name_at a t.0) (insts_call a u is ++ ids)
+lines-names : (a : Arena) (u : ℕ) (is : List InstId) (ls : List LineText) (ids : List UnitId) → callees_in ls ≡ map (λ (t : UnitId). unit_name_at a t.0) ids
+    → callees_in (map (inst_line_text (naming a u) (table_at a u)) is ++ ls) ≡ map (λ (t : UnitId). unit_name_at a t.0) (insts_call a u is ++ ids)
 lines-names a u [] ls ids e = e
 lines-names a u (i ∷ is) ls ids e =
-    call-names a u (line_at (table_at a u) i.0).inst (callees_in (map (inst_line (naming a u) (table_at a u)) is ++ ls)) (insts_call a u is ++ ids) (lines-names a u is ls ids e)
+    call-names a u (line_at (table_at a u) i.0).inst (callees_in (map (inst_line_text (naming a u) (table_at a u)) is ++ ls)) (insts_call a u is ++ ids) (lines-names a u is ls ids e)
     ∙ ap (map (λ (t : UnitId). unit_name_at a t.0)) (front (callee_of a (line_at (table_at a u) i.0).inst))
   where
     front : (c : Option UnitId) → after_callee c (insts_call a u is ++ ids) ≡ after_callee c (insts_call a u is) ++ ids
@@ -208,7 +216,7 @@ abbrev blocks_call : Arena → ℕ → List BlockId → List UnitId
 blocks_call a u [] = []
 blocks_call a u (b ∷ more) = insts_call a u (insts_at (table_at a u) b.0) ++ blocks_call a u more
 
-blocks-callees : (a : Arena) (u : ℕ) (n : Node) (bs : List BlockId) → (with_blocks a u n bs).callees ≡ n.callees ++ blocks_call a u bs
+blocks-callees : (a : Arena) (u : ℕ) (n : CallNode) (bs : List BlockId) → (with_blocks a u n bs).callees ≡ n.callees ++ blocks_call a u bs
 blocks-callees a u n [] = sym (append-nil n.callees)
 blocks-callees a u n (b ∷ bs) =
     blocks-callees a u (with_block a u n b) bs
@@ -236,11 +244,11 @@ plus_zero b e = omega arith
 one_more : (x e n : ℕ) → min (min (x + 1) e + n) e ≡ min (x + suc n) e
 one_more x e n = omega arith
 
-with-insts_count : (n : Node) (c : Option UnitId) (k : ℕ) → min ((with_inst n c).insts + k) max_counted ≡ min (n.insts + suc k) max_counted
+with-insts_count : (n : CallNode) (c : Option UnitId) (k : ℕ) → min ((with_inst n c).insts + k) max_counted ≡ min (n.insts + suc k) max_counted
 with-insts_count n None k = one_more n.insts max_counted k
 with-insts_count n (Some t) k = one_more n.insts max_counted k
 
-insts-count : (a : Arena) (u : ℕ) (n : Node) (is : List InstId) (k : ℕ) → min ((with_insts a u n is).insts + k) max_counted ≡ min (n.insts + (length is + k)) max_counted
+insts-count : (a : Arena) (u : ℕ) (n : CallNode) (is : List InstId) (k : ℕ) → min ((with_insts a u n is).insts + k) max_counted ≡ min (n.insts + (length is + k)) max_counted
 insts-count a u n [] k = ap (λ m. min (n.insts + m) max_counted) (sym (zero_first k))
 insts-count a u n (i ∷ is) k =
     insts-count a u (with_inst n (callee_of a (line_at (table_at a u) i.0).inst)) is k
@@ -250,11 +258,12 @@ insts-count a u n (i ∷ is) k =
 abbrev lines_sum : List BlockText → ℕ
 lines_sum bs = sum_by (λ (b : BlockText). length b.lines) bs
 
-length-text : (f : Naming) (t : Table) (is : List InstId) → length (map (inst_line f t) is) ≡ length is
+length-text : (f : Naming) (t : Table) (is : List InstId) → length (map (inst_line_text f t) is) ≡ length is
 length-text f t [] = refl
 length-text f t (i ∷ is) = ap suc (length-text f t is)
 
-blocks-count : (a : Arena) (u : ℕ) (n : Node) (bs : List BlockId) → min (with_blocks a u n bs).insts max_counted ≡ min (n.insts + lines_sum (map (block_text (naming a u) (table_at a u)) bs)) max_counted
+blocks-count : (a : Arena) (u : ℕ) (n : CallNode) (bs : List BlockId)
+    → min (with_blocks a u n bs).insts max_counted ≡ min (n.insts + lines_sum (map (block_text (naming a u) (table_at a u)) bs)) max_counted
 blocks-count a u n [] = plus_zero n.insts max_counted
 blocks-count a u n (b ∷ bs) =
     blocks-count a u (with_block a u n b) bs
@@ -267,11 +276,12 @@ pub insts-counted : (a : Arena) (u : ℕ) → min (node_of a u).insts max_counte
 insts-counted a u = blocks-count a u no_node (blocks_at a u) ∙ ap (λ k. min k max_counted) (zero_first (lines_sum (unit_text_at a u).blocks))
 
 -- the pieces of a block are one more than its calls
-with-pieces : (n : Node) (c : Option UnitId) (k : ℕ) (more : List UnitId) → min ((with_inst n c).blocks + (length more + k)) max_counted ≡ min (n.blocks + (length (after_callee c more) + k)) max_counted
+with-pieces : (n : CallNode) (c : Option UnitId) (k : ℕ) (more : List UnitId)
+    → min ((with_inst n c).blocks + (length more + k)) max_counted ≡ min (n.blocks + (length (after_callee c more) + k)) max_counted
 with-pieces n None k more = refl
 with-pieces n (Some t) k more = one_more n.blocks max_counted (length more + k) ∙ ap (λ m. min (n.blocks + m) max_counted) (one_first (length more) k)
 
-insts-pieces : (a : Arena) (u : ℕ) (n : Node) (is : List InstId) (k : ℕ) → min ((with_insts a u n is).blocks + k) max_counted ≡ min (n.blocks + (length (insts_call a u is) + k)) max_counted
+insts-pieces : (a : Arena) (u : ℕ) (n : CallNode) (is : List InstId) (k : ℕ) → min ((with_insts a u n is).blocks + k) max_counted ≡ min (n.blocks + (length (insts_call a u is) + k)) max_counted
 insts-pieces a u n [] k = ap (λ m. min (n.blocks + m) max_counted) (sym (zero_first k))
 insts-pieces a u n (i ∷ is) k =
     insts-pieces a u (with_inst n (callee_of a (line_at (table_at a u) i.0).inst)) is k
@@ -285,7 +295,7 @@ length-both (x ∷ xs) ys = ap suc (length-both xs ys) ∙ one_first (length xs)
 next_block : (b e m n k x : ℕ) → x ≡ m + n → min (min (b + 1) e + (m + (k + n))) e ≡ min (b + (suc k + x)) e
 next_block b e m n k x h = omega arith
 
-blocks-pieces : (a : Arena) (u : ℕ) (n : Node) (bs : List BlockId) → min (with_blocks a u n bs).blocks max_counted ≡ min (n.blocks + (length bs + length (blocks_call a u bs))) max_counted
+blocks-pieces : (a : Arena) (u : ℕ) (n : CallNode) (bs : List BlockId) → min (with_blocks a u n bs).blocks max_counted ≡ min (n.blocks + (length bs + length (blocks_call a u bs))) max_counted
 blocks-pieces a u n [] = plus_zero n.blocks max_counted
 blocks-pieces a u n (b ∷ bs) =
     blocks-pieces a u (with_block a u n b) bs

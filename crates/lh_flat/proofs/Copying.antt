@@ -51,7 +51,8 @@ arg_names c i = map (λ (o : OperandText). c.value o.value) (call_operands i)
 -- what no function is called by is not replaced
 pub opened-none : (a : Arena) (fs : List UnitText) (u : ℕ) (c : Copy) (path : List ℕ) (i : Inst) → callee_of a i ≡ None → opened fs c path (inst_text (naming a u) i) ≡ None
 opened-none a fs u c path (inst.Call f ty args) =
-    elim (is_assert (unit_name_at a f.0)) as (λ b. (if b then None else Some f) ≡ None → (if b then None else option_map (copy_at path (map (λ (o : OperandText). c.value o.value) (map (operand_text (naming a u)) args))) (function_named (unit_name_at a f.0) fs)) ≡ None) [
+    elim (is_assert (unit_name_at a f.0)) as (λ b. (if b then None else Some f) ≡ None
+    → (if b then None else option_map (copy_at path (map (λ (o : OperandText). c.value o.value) (map (operand_text (naming a u)) args))) (function_named (unit_name_at a f.0) fs)) ≡ None) [
       | true ↦ λ e. refl
       | false ↦ λ e. cc
     ]
@@ -60,13 +61,16 @@ opened-none a fs u c path (inst.Ret (Some t)) = λ e. refl
 opened-none a fs u c path _ = λ e. refl
 
 -- a call is replaced by the copy of the function
-pub opened-some : (a : Arena) (fs : List UnitText) (u : ℕ) (c : Copy) (path : List ℕ) (i : Inst) (f : UnitId) → callee_of a i ≡ Some f → function_named (unit_name_at a f.0) fs ≡ Some (unit_text_at a f.0) →
+pub opened-some : (a : Arena) (fs : List UnitText) (u : ℕ) (c : Copy) (path : List ℕ) (i : Inst) (f : UnitId) → callee_of a i ≡ Some f
+    → function_named (unit_name_at a f.0) fs ≡ Some (unit_text_at a f.0) →
     opened fs c path (inst_text (naming a u) i) ≡ Some (copy_at path (arg_names c (inst_text (naming a u) i)) (unit_text_at a f.0))
 opened-some a fs u c path (inst.Call h ty args) f =
     elim (is_assert (unit_name_at a h.0)) as (λ b. (if b then None else Some h) ≡ Some f → function_named (unit_name_at a f.0) fs ≡ Some (unit_text_at a f.0) →
-    (if b then None else option_map (copy_at path (map (λ (o : OperandText). c.value o.value) (map (operand_text (naming a u)) args))) (function_named (unit_name_at a h.0) fs)) ≡ Some (copy_at path (map (λ (o : OperandText). c.value o.value) (map (operand_text (naming a u)) args)) (unit_text_at a f.0))) [
+    (if b then None else option_map (copy_at path (map (λ (o : OperandText). c.value o.value) (map (operand_text (naming a u)) args))) (function_named (unit_name_at a h.0) fs))
+    ≡ Some (copy_at path (map (λ (o : OperandText). c.value o.value) (map (operand_text (naming a u)) args)) (unit_text_at a f.0))) [
       | true ↦ λ e n. cc
-      | false ↦ λ e n. let q : h ≡ f = cc in ap (λ (x : UnitId). option_map (copy_at path (map (λ (o : OperandText). c.value o.value) (map (operand_text (naming a u)) args))) (function_named (unit_name_at a x.0) fs)) q ∙ ap (option_map (copy_at path (map (λ (o : OperandText). c.value o.value) (map (operand_text (naming a u)) args)))) n
+      | false ↦ λ e n. let q : h ≡ f = cc in ap (λ (x : UnitId). option_map (copy_at path (map (λ (o : OperandText). c.value o.value) (map (operand_text (naming a u)) args)))
+          (function_named (unit_name_at a x.0) fs)) q ∙ ap (option_map (copy_at path (map (λ (o : OperandText). c.value o.value) (map (operand_text (naming a u)) args)))) n
     ]
 opened-some a fs u c path _ f = λ e n. cc
 
@@ -83,7 +87,8 @@ or_right : (x y : Bool) → (x || y) ≡ false → y ≡ false
 or_right true y e = cc
 or_right false y e = e
 
-pub tested : (test : UnitName → Bool) (a : Arena) (u : ℕ) (i : Inst) (more : List UnitName) → list_any test (callee_if (inst_text (naming a u) i) more) ≡ false → Tested test a (callee_of a i) × (list_any test more ≡ false)
+pub tested : (test : UnitName → Bool) (a : Arena) (u : ℕ) (i : Inst) (more : List UnitName) → list_any test (callee_if (inst_text (naming a u) i) more) ≡ false → Tested test a (callee_of a i)
+    × (list_any test more ≡ false)
 tested test a u (inst.Call f ty args) more =
     elim (is_assert (unit_name_at a f.0)) as (λ b. list_any test (if b then more else unit_name_at a f.0 ∷ more) ≡ false → Tested test a (if b then None else Some f) × (list_any test more ≡ false)) [
       | true ↦ λ e. (tt, e)
@@ -98,7 +103,8 @@ callees-append [] ys = refl
 callees-append (x ∷ xs) ys = ap (callee_if x.inst) (callees-append xs ys) ∙ by x.inst
   where
     by : (i : InstText) → callee_if i (callees_in xs ++ callees_in ys) ≡ callee_if i (callees_in xs) ++ callees_in ys
-    by (call_text f ty args) = elim (is_assert f) as (λ b. (if b then callees_in xs ++ callees_in ys else f ∷ (callees_in xs ++ callees_in ys)) ≡ (if b then callees_in xs else f ∷ callees_in xs) ++ callees_in ys) [ true ↦ refl | false ↦ refl ]
+    by (call_text f ty args) = elim (is_assert f) as
+        (λ b. (if b then callees_in xs ++ callees_in ys else f ∷ (callees_in xs ++ callees_in ys)) ≡ (if b then callees_in xs else f ∷ callees_in xs) ++ callees_in ys) [ true ↦ refl | false ↦ refl ]
     by _ = refl
 
 pub any-append : (test : UnitName → Bool) (xs ys : List UnitName) → list_any test (xs ++ ys) ≡ false → (list_any test xs ≡ false) × (list_any test ys ≡ false)
@@ -117,14 +123,16 @@ pub record CopyIs (a : Arena) (fs : List UnitText) (g : Naming) (u : ℕ) (c : C
 
 -- what is built for a call reads as the branch into the copy, and the copy
 pub record CallReads (fs : List UnitText) (g : Naming) (c d : Copy) (l : LineText) (copies : List FlatBlockText) (names : List (List ℕ)) (t t' : Text) : Type 0 where
-  pub blocks : read g t'.blocks ≡ read g t.blocks ++ (record { label = g.label_name (length t.blocks); merge = option_map (merge_text g) t.current.merge; lines = map (flat_line_text g) t.current.insts ++ branch_into d ∷ [] } ∷ copies)
+  pub blocks : read g t'.blocks ≡ read g t.blocks
+      ++ (record { label = g.label_name (length t.blocks); merge = option_map (merge_text g) t.current.merge; lines = map (flat_line_text g) t.current.insts ++ branch_into d ∷ [] } ∷ copies)
   pub merge : option_map (merge_text g) t'.current.merge ≡ merge_of fs c d l.inst l.result
   pub insts : t'.current.insts ≡ []
   pub values : t'.values ≡ t.values + length names
 
 -- what is built for the rest of a block reads as the pieces of that
 pub record LinesRead (g : Naming) (p : Pieces) (names : List (List ℕ)) (t t' : Text) : Type 0 where
-  pub blocks : read g (put t').blocks ≡ read g t.blocks ++ (record { label = g.label_name (length t.blocks); merge = option_map (merge_text g) t.current.merge; lines = map (flat_line_text g) t.current.insts ++ p.rest } ∷ p.more)
+  pub blocks : read g (put t').blocks ≡ read g t.blocks
+      ++ (record { label = g.label_name (length t.blocks); merge = option_map (merge_text g) t.current.merge; lines = map (flat_line_text g) t.current.insts ++ p.rest } ∷ p.more)
   pub values : t'.values ≡ t.values + length names
 
 -- what is built for blocks reads as these
@@ -134,13 +142,16 @@ pub record BlocksRead (g : Naming) (texts : List FlatBlockText) (names : List (L
   pub values : t'.values ≡ t.values + length names
 
 -- what is built for each call reads as its copy
-abbrev pub CallsRead : (a : Arena) (fs : List UnitText) (g : Naming) (called : UnitId → Renaming → Line → Text → Text) (copy_of : Copy → List FlatBlockText) (names : UnitId → List ℕ → List (List ℕ)) (test : UnitName → Bool) → Type 0
+abbrev pub CallsRead : (a : Arena) (fs : List UnitText) (g : Naming) (called : UnitId → Renaming → Line → Text → Text) (copy_of : Copy → List FlatBlockText) (names : UnitId → List ℕ
+    → List (List ℕ)) (test : UnitName → Bool) → Type 0
 CallsRead a fs g called copy_of names test =
-    (u : ℕ) (c : Copy) (r : Renaming) (i : InstId) (f : UnitId) (path : List ℕ) (t : Text) → CopyIs a fs g u c r → callee_of a (line_of a u i).inst ≡ Some f → IsCallable a fs f → test (unit_name_at a f.0) ≡ false →
+    (u : ℕ) (c : Copy) (r : Renaming) (i : InstId) (f : UnitId) (path : List ℕ) (t : Text) → CopyIs a fs g u c r → callee_of a (line_of a u i).inst ≡ Some f → IsCallable a fs f
+    → test (unit_name_at a f.0) ≡ false →
     NamedFrom g.label_name (length t.blocks + 1) (labels (copy_of (copy_at path (arg_names c (line_text_of a u i).inst) (unit_text_at a f.0)))) →
     g.label_name (length t.blocks + 1 + length (copy_of (copy_at path (arg_names c (line_text_of a u i).inst) (unit_text_at a f.0)))) ≡ path →
     NamedFrom g.value_name t.values (names f path) →
-    CallReads fs g c (copy_at path (arg_names c (line_text_of a u i).inst) (unit_text_at a f.0)) (line_text_of a u i) (copy_of (copy_at path (arg_names c (line_text_of a u i).inst) (unit_text_at a f.0))) (names f path) t (called f r (line_of a u i) t)
+    CallReads fs g c (copy_at path (arg_names c (line_text_of a u i).inst) (unit_text_at a f.0)) (line_text_of a u i)
+    (copy_of (copy_at path (arg_names c (line_text_of a u i).inst) (unit_text_at a f.0))) (names f path) t (called f r (line_of a u i) t)
 
 abbrev sized : ℕ → ℕ → ℕ → Sizes
 sized n v x = record { units = n; values = v; labels = x }
@@ -180,25 +191,34 @@ summed : (v w x m n : ℕ) → v ≡ w + n → w ≡ x + m → v ≡ x + (m + n)
 summed v w x m n e f = omega arith
 
 -- the first piece of a block, and what stands after it
-pub block-named : (a : Arena) (fs : List UnitText) (copy_of : Copy → List FlatBlockText) (u : ℕ) (c : Copy) (x : BlockId) → HasBlocks (kind_at a u) → flat_block copy_of fs c (block_text (naming a u) (table_at a u) x) ≡ in_order c (label_name_at a u x.0) (pieces_from copy_of fs c (label_name_at a u x.0) 0 (map (line_text_of a u) (insts_at (table_at a u) x.0)))
+pub block-named : (a : Arena) (fs : List UnitText) (copy_of : Copy → List FlatBlockText) (u : ℕ) (c : Copy) (x : BlockId) → HasBlocks (kind_at a u)
+    → flat_block copy_of fs c (block_text (naming a u) (table_at a u) x)
+    ≡ in_order c (label_name_at a u x.0) (pieces_from copy_of fs c (label_name_at a u x.0) 0 (map (line_text_of a u) (insts_at (table_at a u) x.0)))
 block-named a fs copy_of u c x k =
     ap (λ m. in_order c m (pieces_from copy_of fs c m 0 (map (line_text_of a u) (insts_at (table_at a u) x.0)))) (ap label_or (label_text-named (naming a u) (kind_at a u) x k))
 
-module _ (a : Arena) (o : IsArena a) (fs : List UnitText) (g : Naming) (called : UnitId → Renaming → Line → Text → Text) (copy_of : Copy → List FlatBlockText) (names : UnitId → List ℕ → List (List ℕ)) (test : UnitName → Bool) (calls : CallsRead a fs g called copy_of names test) where
-  line-same : (u : ℕ) (c : Copy) (r : Renaming) (i : InstId) → CopyIs a fs g u c r → InstIsRight a fs u (line_of a u i).inst → flat_line_text g (line_in r (line_of a u i)) ≡ copied_line fs c (line_text_of a u i)
+module _ (a : Arena) (o : IsArena a) (fs : List UnitText) (g : Naming) (called : UnitId → Renaming → Line → Text → Text) (copy_of : Copy → List FlatBlockText) (names : UnitId → List ℕ → List (List ℕ))
+    (test : UnitName → Bool) (calls : CallsRead a fs g called copy_of names test) where
+  line-same : (u : ℕ) (c : Copy) (r : Renaming) (i : InstId) → CopyIs a fs g u c r → InstIsRight a fs u (line_of a u i).inst
+      → flat_line_text g (line_in r (line_of a u i)) ≡ copied_line fs c (line_text_of a u i)
   line-same u c r i k w =
-      line-records (maybe_text g (option_map (value_in r) (line_of a u i).result)) (option_map c.value (maybe_text (naming a u) (line_of a u i).result)) (inst_text g (renamed r (line_of a u i).inst)) (copied fs c (inst_text (naming a u) (line_of a u i).inst))
-      (maybe-same (naming a u) g fs (blocks_at a u) (is_function (kind_text (kind_at a u))) c r (unit_count a) k.agrees (line_of a u i).result (maybe-within a o u k.within r k.fits (unit_count a) i.0 (line_of a u i).result refl))
-      (renames_as_copied (naming a u) g fs (blocks_at a u) (is_function (kind_text (kind_at a u))) c r (unit_count a) k.agrees (line_of a u i).inst w.code (inst-fits a u r (line_of a u i).inst k.fits (line-placed a u i.0 o)) w.blocks)
+      line-records (maybe_text g (option_map (value_in r) (line_of a u i).result)) (option_map c.value (maybe_text (naming a u) (line_of a u i).result)) (inst_text g (renamed r (line_of a u i).inst))
+      (copied fs c (inst_text (naming a u) (line_of a u i).inst))
+      (maybe-same (naming a u) g fs (blocks_at a u) (is_function (kind_text (kind_at a u))) c r (unit_count a) k.agrees (line_of a u i).result
+      (maybe-within a o u k.within r k.fits (unit_count a) i.0 (line_of a u i).result refl))
+      (renames_as_copied (naming a u) g fs (blocks_at a u) (is_function (kind_text (kind_at a u))) c r (unit_count a) k.agrees (line_of a u i).inst w.code
+      (inst-fits a u r (line_of a u i).inst k.fits (line-placed a u i.0 o)) w.blocks)
 
   -- the lines of a block from line n on
-  pub lines-read : (u : ℕ) (c : Copy) (r : Renaming) (k : CopyIs a fs g u c r) (label : List ℕ) (is : List InstId) → Each (λ (i : InstId). InstIsRight a fs u (line_of a u i).inst) is → (n : ℕ) → list_any test (callees_in (map (line_text_of a u) is)) ≡ false → (t : Text) →
+  pub lines-read : (u : ℕ) (c : Copy) (r : Renaming) (k : CopyIs a fs g u c r) (label : List ℕ) (is : List InstId) → Each (λ (i : InstId). InstIsRight a fs u (line_of a u i).inst) is → (n : ℕ)
+      → list_any test (callees_in (map (line_text_of a u) is)) ≡ false → (t : Text) →
       NamedFrom g.label_name (length t.blocks + 1) (labels (pieces_from copy_of fs c label n (map (line_text_of a u) is)).more) →
       NamedFrom g.value_name t.values (insts_names names a u c.path label n is) →
       LinesRead g (pieces_from copy_of fs c label n (map (line_text_of a u) is)) (insts_names names a u c.path label n is) t (insts_added called a u r is t)
   lines-read u c r k label [] w n q t h v = record {
     blocks = read-one_more g t.blocks t.current
-        ∙ ap (λ (xs : List LineText). read g t.blocks ++ record { label = g.label_name (length t.blocks); merge = option_map (merge_text g) t.current.merge; lines = xs } ∷ []) (sym (append-nil (map (flat_line_text g) t.current.insts)));
+        ∙ ap (λ (xs : List LineText). read g t.blocks ++ record { label = g.label_name (length t.blocks); merge = option_map (merge_text g) t.current.merge; lines = xs } ∷ [])
+        (sym (append-nil (map (flat_line_text g) t.current.insts)));
     values = plus_none t.values;
   }
   lines-read u c r k label (i ∷ more) w n q t h v =
@@ -209,9 +229,12 @@ module _ (a : Arena) (o : IsArena a) (fs : List UnitText) (g : Naming) (called :
       path = call_path c label n
 
       by : (x : Option UnitId) → callee_of a (line_of a u i).inst ≡ x → Tested test a x →
-          ((s : Text) → NamedFrom g.label_name (length s.blocks + 1) (labels (pieces_from copy_of fs c label (n + 1) (map (line_text_of a u) more)).more) → NamedFrom g.value_name s.values (insts_names names a u c.path label (n + 1) more) →
+          ((s : Text) → NamedFrom g.label_name (length s.blocks + 1) (labels (pieces_from copy_of fs c label (n + 1) (map (line_text_of a u) more)).more)
+          → NamedFrom g.value_name s.values (insts_names names a u c.path label (n + 1) more) →
           LinesRead g (pieces_from copy_of fs c label (n + 1) (map (line_text_of a u) more)) (insts_names names a u c.path label (n + 1) more) s (insts_added called a u r more s)) →
-          NamedFrom g.label_name (length t.blocks + 1) (labels (with_line copy_of fs c (line_text_of a u i) (opened fs c (call_path c label n) (line_text_of a u i).inst) (pieces_from copy_of fs c label (n + 1) (map (line_text_of a u) more))).more) →
+          NamedFrom g.label_name (length t.blocks + 1)
+          (labels (with_line copy_of fs c (line_text_of a u i) (opened fs c (call_path c label n) (line_text_of a u i).inst)
+          (pieces_from copy_of fs c label (n + 1) (map (line_text_of a u) more))).more) →
           NamedFrom g.value_name t.values (call_names names (call_path c label n) x ++ insts_names names a u c.path label (n + 1) more) →
           LinesRead g (with_line copy_of fs c (line_text_of a u i) (opened fs c (call_path c label n) (line_text_of a u i).inst) (pieces_from copy_of fs c label (n + 1) (map (line_text_of a u) more)))
           (call_names names (call_path c label n) x ++ insts_names names a u c.path label (n + 1) more) t (insts_added called a u r more (line_added called r (line_of a u i) x t))
@@ -236,12 +259,19 @@ module _ (a : Arena) (o : IsArena a) (fs : List UnitText) (g : Naming) (called :
           let some : opened fs c (call_path c label n) l.inst ≡ Some d = opened-some a fs u c (call_path c label n) (line_of a u i).inst f e ok.named in
           let D : FlatBlockText = record { label = d.path; merge = merge_of fs c d l.inst l.result; lines = p.rest } in
           let ns : List (List ℕ) = insts_names names a u c.path label (n + 1) more in
-          let hs : NamedFrom g.label_name (length t.blocks + 1) (labels (copy_of d ++ D ∷ p.more)) = subst (λ y. NamedFrom g.label_name (length t.blocks + 1) (labels (with_line copy_of fs c l y p).more)) some hl in
+          let hs : NamedFrom g.label_name (length t.blocks + 1) (labels (copy_of d ++ D ∷ p.more)) = subst
+          (λ y. NamedFrom g.label_name (length t.blocks + 1) (labels (with_line copy_of fs c l y p).more)) some hl in
           let right : NamedFrom g.label_name (length t.blocks + 1 + length (copy_of d)) (labels (D ∷ p.more)) = labels-right g.label_name (length t.blocks + 1) (copy_of d) (D ∷ p.more) hs in
           let s : Text = called f r (line_of a u i) t in
           let one : CallReads fs g c d l (copy_of d) (names f (call_path c label n)) t s =
-          calls u c r i f (call_path c label n) t k e ok z (labels-left g.label_name (length t.blocks + 1) (copy_of d) (D ∷ p.more) hs) right.0 (named-left g.value_name t.values (names f (call_path c label n)) ns hv) in
-          let B : FlatBlockText = record { label = g.label_name (length t.blocks); merge = option_map (merge_text g) t.current.merge; lines = map (flat_line_text g) t.current.insts ++ branch_into d ∷ [] } in
+          calls u c r i f (call_path c label n) t k e ok z (labels-left g.label_name (length t.blocks + 1) (copy_of d) (D ∷ p.more) hs) right.0
+          (named-left g.value_name t.values (names f (call_path c label n)) ns hv) in
+          let B : FlatBlockText = record {
+            label = g.label_name (length t.blocks);
+            merge = option_map (merge_text g) t.current.merge;
+            lines = map (flat_line_text g) t.current.insts ++ branch_into d
+                ∷ [];
+          } in
           let long : length s.blocks ≡ length t.blocks + suc (length (copy_of d)) = long-by_text g t.blocks s.blocks (B ∷ copy_of d) one.blocks in
           let rest : LinesRead g p ns s (insts_added called a u r more s) =
           ih s (moved g.label_name (length t.blocks + 1 + length (copy_of d) + 1) (length s.blocks + 1) (labels p.more) (behind (length s.blocks) (length t.blocks) (length (copy_of d)) long) right.1)
@@ -259,7 +289,8 @@ module _ (a : Arena) (o : IsArena a) (fs : List UnitText) (g : Naming) (called :
           }
 
   -- blocks, one after the other
-  pub blocks-read : (u : ℕ) (c : Copy) (r : Renaming) (k : CopyIs a fs g u c r) (bs : List BlockId) → Each (BlockIsRight a fs u) bs → list_any test (callees_in (lines_of (map (block_text (naming a u) (table_at a u)) bs))) ≡ false → (t : Text) → t.current ≡ no_block →
+  pub blocks-read : (u : ℕ) (c : Copy) (r : Renaming) (k : CopyIs a fs g u c r) (bs : List BlockId) → Each (BlockIsRight a fs u) bs
+      → list_any test (callees_in (lines_of (map (block_text (naming a u) (table_at a u)) bs))) ≡ false → (t : Text) → t.current ≡ no_block →
       NamedFrom g.label_name (length t.blocks) (labels (flat_map (flat_block copy_of fs c) (map (block_text (naming a u) (table_at a u)) bs))) →
       NamedFrom g.value_name t.values (blocks_names names a u c.path bs) →
       BlocksRead g (flat_map (flat_block copy_of fs c) (map (block_text (naming a u) (table_at a u)) bs)) (blocks_names names a u c.path bs) t (blocks_added called a u r bs t)
@@ -275,14 +306,17 @@ module _ (a : Arena) (o : IsArena a) (fs : List UnitText) (g : Naming) (called :
       let qs : (list_any test (callees_in (map (line_text_of a u) is)) ≡ false) × (list_any test (callees_in (lines_of (map (block_text (naming a u) (table_at a u)) bs))) ≡ false) =
       any-append test (callees_in (map (line_text_of a u) is)) (callees_in (lines_of (map (block_text (naming a u) (table_at a u)) bs)))
       (ap (list_any test) (sym (callees-append (map (line_text_of a u) is) (lines_of (map (block_text (naming a u) (table_at a u)) bs)))) ∙ q) in
-      let hs : NamedFrom g.label_name (length t.blocks) (labels (in_order c m p)) = subst (λ zs. NamedFrom g.label_name (length t.blocks) (labels zs)) e (labels-left g.label_name (length t.blocks) X Y h) in
+      let hs : NamedFrom g.label_name (length t.blocks) (labels (in_order c m p)) = subst (λ zs. NamedFrom g.label_name (length t.blocks) (labels zs)) e
+      (labels-left g.label_name (length t.blocks) X Y h) in
       let s : Text = put (insts_added called a u r is t) in
       let one : LinesRead g p ns t (insts_added called a u r is t) = lines-read u c r k m is w.0 0 qs.0 t hs.1 (named-left g.value_name t.values ns (blocks_names names a u c.path bs) v) in
       let head : blocked (g.label_name (length t.blocks)) (option_map (merge_text g) t.current.merge) (map (flat_line_text g) t.current.insts ++ p.rest) ≡ blocked (first_piece c m) None p.rest =
-      block-records (g.label_name (length t.blocks)) (first_piece c m) (option_map (merge_text g) t.current.merge) None (map (flat_line_text g) t.current.insts ++ p.rest) p.rest hs.0 (ap (λ b. option_map (merge_text g) b.merge) z) (ap (λ b. map (flat_line_text g) b.insts ++ p.rest) z) in
+      block-records (g.label_name (length t.blocks)) (first_piece c m) (option_map (merge_text g) t.current.merge) None (map (flat_line_text g) t.current.insts ++ p.rest) p.rest hs.0
+      (ap (λ b. option_map (merge_text g) b.merge) z) (ap (λ b. map (flat_line_text g) b.insts ++ p.rest) z) in
       let got : read g s.blocks ≡ read g t.blocks ++ X = one.blocks ∙ ap (λ b. read g t.blocks ++ b ∷ p.more) head ∙ ap (λ zs. read g t.blocks ++ zs) (sym e) in
       let rest : BlocksRead g Y (blocks_names names a u c.path bs) s (blocks_added called a u r bs s) =
-      blocks-read u c r k bs w.1 qs.1 s refl (moved g.label_name (length t.blocks + length X) (length s.blocks) (labels Y) (sym (long-by_text g t.blocks s.blocks X got)) (labels-right g.label_name (length t.blocks) X Y h))
+      blocks-read u c r k bs w.1 qs.1 s refl (moved g.label_name (length t.blocks + length X) (length s.blocks) (labels Y) (sym (long-by_text g t.blocks s.blocks X got))
+      (labels-right g.label_name (length t.blocks) X Y h))
       (moved g.value_name (t.values + length ns) s.values (blocks_names names a u c.path bs) (sym one.values) (named-right g.value_name t.values ns (blocks_names names a u c.path bs) v)) in
       record {
         blocks = rest.blocks ∙ ap (λ xs. xs ++ Y) got ∙ append_assoc (read g t.blocks) X Y;

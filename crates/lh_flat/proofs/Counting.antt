@@ -14,7 +14,7 @@ use Rattle.lh_unit.specs.Within.{Each}
 use Rattle.lh_unit.specs.Design.{is_one_of, first_some, cycle_at}
 use Rattle.lh_unit.proofs.Lists.{nat_eq-other}
 use Rattle.lh_formed.specs.Graphs.{met_or, is_open, IsIn}
-use Rattle.lh_flat.specs.declared.calls.Node.{Node}
+use Rattle.lh_flat.specs.declared.calls.CallNode.{CallNode}
 use Rattle.lh_flat.specs.Calls.{callee_if, callees_in, callees, callees_of, recursion_from, nest_deeper}
 use Rattle.lh_flat.specs.Graph.{max_counted, node_at, callees_at}
 use Rattle.lh_flat.specs.Measures.{nests, insts_in, cycle_in}
@@ -28,7 +28,7 @@ pub record IsCalled (fs : List UnitText) (name : ℕ → UnitName) (text : ℕ �
   pub named : function_named (name t.0) fs ≡ Some (text t.0)
 
 -- a graph by ids stands for these functions and a process, where ids have these names and texts
-pub record StandsFor (fs : List UnitText) (name : ℕ → UnitName) (text : ℕ → UnitText) (top : ℕ) (g : List Node) : Type 0 where
+pub record StandsFor (fs : List UnitText) (name : ℕ → UnitName) (text : ℕ → UnitText) (top : ℕ) (g : List CallNode) : Type 0 where
   pub same : (v w : ℕ) → v < length g → w < length g → same_unit_name (name v) (name w) ≡ nat_eq v w
   pub called : (u : ℕ) → u < length g → Each (IsCalled fs name text top (length g)) (callees_at g u)
   pub callees_are : (u : ℕ) → u < length g → callees (text u) ≡ map (λ (t : UnitId). name t.0) (callees_at g u)
@@ -37,21 +37,24 @@ pub record StandsFor (fs : List UnitText) (name : ℕ → UnitName) (text : ℕ 
 
 -- ---- lists of names and of ids
 
-any-named : {P : UnitId → Type 0} (name : ℕ → UnitName) (F : UnitName → Bool) (G : UnitId → Bool) (ts : List UnitId) → ((t : UnitId) → P t → F (name t.0) ≡ G t) → Each P ts → list_any F (map (λ (t : UnitId). name t.0) ts) ≡ list_any G ts
+any-named : {P : UnitId → Type 0} (name : ℕ → UnitName) (F : UnitName → Bool) (G : UnitId → Bool) (ts : List UnitId) → ((t : UnitId) → P t → F (name t.0) ≡ G t) → Each P ts
+    → list_any F (map (λ (t : UnitId). name t.0) ts) ≡ list_any G ts
 any-named name F G [] f h = refl
 any-named name F G (t ∷ ts) f h = ap (λ b. b || list_any F (map (λ (x : UnitId). name x.0) ts)) (f t h.0) ∙ ap (λ b. G t || b) (any-named name F G ts f h.1)
 
 pub both_capped : (a b c d e : ℕ) → min a e ≡ min c e → min b e ≡ min d e → min (a + b) e ≡ min (c + d) e
 both_capped a b c d e p q = omega arith
 
-pub capped-named : {P : UnitId → Type 0} (e : ℕ) (name : ℕ → UnitName) (F : UnitName → ℕ) (G : UnitId → ℕ) (ts : List UnitId) → ((t : UnitId) → P t → min (F (name t.0)) e ≡ min (G t) e) → Each P ts → min (sum_by F (map (λ (t : UnitId). name t.0) ts)) e ≡ min (sum_by G ts) e
+pub capped-named : {P : UnitId → Type 0} (e : ℕ) (name : ℕ → UnitName) (F : UnitName → ℕ) (G : UnitId → ℕ) (ts : List UnitId) → ((t : UnitId) → P t → min (F (name t.0)) e ≡ min (G t) e) → Each P ts
+    → min (sum_by F (map (λ (t : UnitId). name t.0) ts)) e ≡ min (sum_by G ts) e
 capped-named e name F G [] f h = refl
 capped-named e name F G (t ∷ ts) f h =
     ap (λ s. min s e) (sum_by-cons F (name t.0) (map (λ (x : UnitId). name x.0) ts))
     ∙ both_capped (F (name t.0)) (sum_by F (map (λ (x : UnitId). name x.0) ts)) (G t) (sum_by G ts) e (f t h.0) (capped-named e name F G ts f h.1)
     ∙ sym (ap (λ s. min s e) (sum_by-cons G t ts))
 
-first-named : {P : UnitId → Type 0} (name : ℕ → UnitName) (F : UnitName → Option UnitName) (G : UnitId → Option ℕ) (ts : List UnitId) → ((t : UnitId) → P t → F (name t.0) ≡ option_map name (G t)) → Each P ts → first_some F (map (λ (t : UnitId). name t.0) ts) ≡ option_map name (first_some G ts)
+first-named : {P : UnitId → Type 0} (name : ℕ → UnitName) (F : UnitName → Option UnitName) (G : UnitId → Option ℕ) (ts : List UnitId) → ((t : UnitId) → P t → F (name t.0) ≡ option_map name (G t))
+    → Each P ts → first_some F (map (λ (t : UnitId). name t.0) ts) ≡ option_map name (first_some G ts)
 first-named name F G [] f h = refl
 first-named name F G (t ∷ ts) f h =
     ap (λ x. or_else x (first_some F (map (λ (y : UnitId). name y.0) ts))) (f t h.0)
@@ -94,7 +97,7 @@ sum-apart F F' (b ∷ bs) =
 
 -- ---- depth
 
-module _ (fs : List UnitText) (name : ℕ → UnitName) (text : ℕ → UnitText) (top : ℕ) (g : List Node) (o : StandsFor fs name text top g) where
+module _ (fs : List UnitText) (name : ℕ → UnitName) (text : ℕ → UnitText) (top : ℕ) (g : List CallNode) (o : StandsFor fs name text top g) where
   abbrev Called : UnitId → Type 0
   Called t = IsCalled fs name text top (length g) t
 
@@ -124,11 +127,13 @@ module _ (fs : List UnitText) (name : ℕ → UnitName) (text : ℕ → UnitText
   met-named F G b true t e f = ap (λ x. cycle_at F x (name t)) e
   met-named F G b false t e f = ap (λ x. cycle_at F x (name t)) e ∙ f
 
-  pub recursion-named : (k : ℕ) (xs opened : List ℕ) (u : ℕ) → u ∷ opened ≡ xs ++ top ∷ [] → AllBelow xs → u < length g → recursion_from k fs (map name xs) (callees (text u)) ≡ option_map name (cycle_in k g opened u)
+  pub recursion-named : (k : ℕ) (xs opened : List ℕ) (u : ℕ) → u ∷ opened ≡ xs ++ top ∷ [] → AllBelow xs → u < length g
+      → recursion_from k fs (map name xs) (callees (text u)) ≡ option_map name (cycle_in k g opened u)
   recursion-named zero xs opened u e h l = refl
   recursion-named (suc k) xs opened u e h l =
       ap (first_some (λ f. cycle_at (λ n. recursion_from k fs (n ∷ map name xs) (callees_of fs n)) (is_one_of (map name xs) f) f)) (o.callees_are u l)
-      ∙ first-named name (λ f. cycle_at (λ n. recursion_from k fs (n ∷ map name xs) (callees_of fs n)) (is_one_of (map name xs) f) f) (λ (t : UnitId). met_or (cycle_in k g (u ∷ opened)) (is_open (u ∷ opened) t.0) t.0) (callees_at g u)
+      ∙ first-named name (λ f. cycle_at (λ n. recursion_from k fs (n ∷ map name xs) (callees_of fs n)) (is_one_of (map name xs) f) f) (λ (t : UnitId). met_or (cycle_in k g (u ∷ opened))
+      (is_open (u ∷ opened) t.0) t.0) (callees_at g u)
       (λ t c. met-named (λ n. recursion_from k fs (n ∷ map name xs) (callees_of fs n)) (cycle_in k g (u ∷ opened)) (is_one_of (map name xs) (name t.0)) (is_open (u ∷ opened) t.0) t.0
       (open-named xs t h c ∙ sym (ap (λ ys. is_open ys t.0) e))
       (ap (recursion_from k fs (map name (t.0 ∷ xs))) (callees-of t c) ∙ recursion-named k (t.0 ∷ xs) (u ∷ opened) t.0 (ap (λ ys. t.0 ∷ ys) e) (c.within, h) c.within))
@@ -139,11 +144,13 @@ module _ (fs : List UnitText) (name : ℕ → UnitName) (text : ℕ → UnitText
     too_few : (n : ℕ) (opened : List ℕ) → Distinct (n ∷ opened) → ((v : ℕ) → IsIn (n ∷ opened) v → IsIn may v) → length may ≤ 0 + length opened → ⊥
     too_few n opened d i h = omega (arith, no_longer (n ∷ opened) may d i)
 
-    pub cycle-stays : (k j : ℕ) (opened : List ℕ) (n : ℕ) → Distinct (n ∷ opened) → ((v : ℕ) → IsIn (n ∷ opened) v → IsIn may v) → length may ≤ k + length opened → length may ≤ j + length opened → cycle_in k g opened n ≡ cycle_in j g opened n
+    pub cycle-stays : (k j : ℕ) (opened : List ℕ) (n : ℕ) → Distinct (n ∷ opened) → ((v : ℕ) → IsIn (n ∷ opened) v → IsIn may v) → length may ≤ k + length opened → length may ≤ j + length opened
+        → cycle_in k g opened n ≡ cycle_in j g opened n
     cycle-stays zero j opened n d i h q = absurd (too_few n opened d i h)
     cycle-stays (suc k) zero opened n d i h q = absurd (too_few n opened d i q)
     cycle-stays (suc k) (suc j) opened n d i h q =
-        first-same (λ (t : UnitId). met_or (cycle_in k g (n ∷ opened)) (is_open (n ∷ opened) t.0) t.0) (λ (t : UnitId). met_or (cycle_in j g (n ∷ opened)) (is_open (n ∷ opened) t.0) t.0) (callees_at g n)
+        first-same (λ (t : UnitId). met_or (cycle_in k g (n ∷ opened)) (is_open (n ∷ opened) t.0) t.0) (λ (t : UnitId). met_or (cycle_in j g (n ∷ opened)) (is_open (n ∷ opened) t.0) t.0)
+        (callees_at g n)
         (λ t c. by t c (is_open (n ∷ opened) t.0) refl (λ f. cycle-stays k j (n ∷ opened) t.0 (f, d) (inside t c) (moved k (length may) h) (moved j (length may) q))) (all n)
       where
         moved : (m p : ℕ) → p ≤ suc m + length opened → p ≤ m + length (n ∷ opened)
@@ -153,7 +160,8 @@ module _ (fs : List UnitText) (name : ℕ → UnitName) (text : ℕ → UnitText
         inside t c v (inl z) = subst (IsIn may) z c
         inside t c v (inr z) = i v z
 
-        by : (t : UnitId) → IsIn may t.0 → (b : Bool) → is_open (n ∷ opened) t.0 ≡ b → ((IsIn (n ∷ opened) t.0 → ⊥) → cycle_in k g (n ∷ opened) t.0 ≡ cycle_in j g (n ∷ opened) t.0) → met_or (cycle_in k g (n ∷ opened)) b t.0 ≡ met_or (cycle_in j g (n ∷ opened)) b t.0
+        by : (t : UnitId) → IsIn may t.0 → (b : Bool) → is_open (n ∷ opened) t.0 ≡ b → ((IsIn (n ∷ opened) t.0 → ⊥) → cycle_in k g (n ∷ opened) t.0 ≡ cycle_in j g (n ∷ opened) t.0)
+            → met_or (cycle_in k g (n ∷ opened)) b t.0 ≡ met_or (cycle_in j g (n ∷ opened)) b t.0
         by t c true e f = refl
         by t c false e f = f (λ z. let y : is_open (n ∷ opened) t.0 ≡ true = is_open-in (n ∷ opened) t.0 z in cc)
 
@@ -163,7 +171,8 @@ module _ (fs : List UnitText) (name : ℕ → UnitName) (text : ℕ → UnitText
   length-named zero u l = refl
   length-named (suc k) u l =
       ap (λ n. min n max_counted) (sum-apart (λ (b : BlockText). length b.lines) (called_length (copy_length k fs) fs) (text u).blocks)
-      ∙ both_capped (sum_by (λ (b : BlockText). length b.lines) (text u).blocks) (sum_by (called_length (copy_length k fs) fs) (callees (text u))) (node_at g u).insts (sum_by (λ (t : UnitId). insts_in k g t.0) (callees_at g u)) max_counted
+      ∙ both_capped (sum_by (λ (b : BlockText). length b.lines) (text u).blocks) (sum_by (called_length (copy_length k fs) fs) (callees (text u))) (node_at g u).insts (sum_by
+      (λ (t : UnitId). insts_in k g t.0) (callees_at g u)) max_counted
       (sym (o.insts_are u l))
       (ap (λ ns. min (sum_by (called_length (copy_length k fs) fs) ns) max_counted) (o.callees_are u l)
       ∙ capped-named max_counted name (called_length (copy_length k fs) fs) (λ (t : UnitId). insts_in k g t.0) (callees_at g u)

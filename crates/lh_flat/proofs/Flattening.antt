@@ -16,7 +16,7 @@ use Rattle.lh_unit.specs.declared.inst.UnitKind.TheVariants as kind
 use Rattle.lh_unit.specs.declared.inst.ValueId.{ValueId}
 use Rattle.lh_unit.specs.declared.inst.Arg.{Arg}
 use Rattle.lh_flat.specs.declared.fault.FlatFault.{FlatFault}
-use Rattle.lh_flat.specs.declared.calls.Node.{Node}
+use Rattle.lh_flat.specs.declared.calls.CallNode.{CallNode}
 use Rattle.lh_flat.specs.declared.measure.Measure.{Measure}
 use Rattle.lh_flat.specs.declared.flat.Flat.{Flat}
 use Rattle.lh_flat.specs.declared.rename.Renaming.{Renaming}
@@ -80,7 +80,8 @@ unbound : (ps : List ArgText) (other n : List ℕ) → argument_or ps [] other n
 unbound [] other n = refl
 unbound (p ∷ ps) other n = refl
 
-module _ (a : Arena) (o : IsArena a) (f : IsFaultless (contents a)) (named : UnitsAreNamed a) (top : ℕ) (l : top < unit_count a) (k : HasBlocks (kind_at a top)) (p : kind_at a top ≡ Some kind.Proc) where
+module _ (a : Arena) (o : IsArena a) (f : IsFaultless (contents a)) (named : UnitsAreNamed a) (top : ℕ) (l : top < unit_count a) (k : HasBlocks (kind_at a top))
+    (p : kind_at a top ≡ Some kind.Proc) where
   abbrev fs : List UnitText
   fs = functions (contents a)
 
@@ -121,11 +122,13 @@ module _ (a : Arena) (o : IsArena a) (f : IsFaultless (contents a)) (named : Uni
 
       top-is : CopyIs a fs g top (top_copy text) ids
       top-is = copy-is a o fs (units-right a o f) g gu depth top (top_copy text) 0 0 0 [] starts (λ y. absurd (no-function (kind_at a top) p y))
-          (λ v w. values-named a o top l g [] 0 [] v (length-new_ids 0 (value_count a top)) starts.values w ∙ unbound (map (arg_text (naming a top)) (args_at a top)) (value_name_at a top v.0) (value_name_at a top v.0))
+          (λ v w. values-named a o top l g [] 0 [] v (length-new_ids 0 (value_count a top)) starts.values w
+          ∙ unbound (map (arg_text (naming a top)) (args_at a top)) (value_name_at a top v.0) (value_name_at a top v.0))
 
       made-by : BlocksRead g blocks inner (no_text (value_count a top)) made
       made-by =
-          blocks-read a o fs g (call_added depth a) (flat_copy depth fs) (copy_names depth a) (nests_below depth fs) (calls-read a o fs (units-right a o f) g gu depth) top (top_copy text) ids top-is (blocks_at a top)
+          blocks-read a o fs g (call_added depth a) (flat_copy depth fs) (copy_names depth a) (nests_below depth fs) (calls-read a o fs (units-right a o f) g gu depth) top (top_copy text) ids top-is
+          (blocks_at a top)
           (units-right a o f top l k) starts.nests (no_text (value_count a top)) refl gl
           (moved g.value_name (0 + length own) (value_count a top) inner (from_zero (length own) ∙ own-long) (named-right g.value_name 0 own inner gv))
 
@@ -158,8 +161,10 @@ module _ (a : Arena) (o : IsArena a) (f : IsFaultless (contents a)) (named : Uni
 
     pub below : (t : Flat) → t.args ≡ args_at a top → t.blocks ≡ made.blocks → t.values ≡ made.values → IdsBelow t
     below t ea eb ev = record {
-      args = subst (λ xs. Each (λ (x : Arg). x.value.0 < t.values) xs) (sym ea) (subst (λ n. Each (λ (x : Arg). x.value.0 < n) (args_at a top)) (sym ev) (args-below (args_at a top) (o.tables top l).args_within));
-      blocks = blocks-below names marked t.values (length t.blocks) (λ v e. subst (λ n. v < n) (sym (ev ∙ all-values)) (inside (own ++ inner) v e)) (λ b e. subst (λ n. b < n) (sym (ap length eb ∙ all-blocks)) (inside (labels blocks) b e))
+      args = subst (λ xs. Each (λ (x : Arg). x.value.0 < t.values) xs) (sym ea)
+          (subst (λ n. Each (λ (x : Arg). x.value.0 < n) (args_at a top)) (sym ev) (args-below (args_at a top) (o.tables top l).args_within));
+      blocks = blocks-below names marked t.values (length t.blocks) (λ v e. subst (λ n. v < n) (sym (ev ∙ all-values)) (inside (own ++ inner) v e))
+          (λ b e. subst (λ n. b < n) (sym (ap length eb ∙ all-blocks)) (inside (labels blocks) b e))
           0 t.blocks (ap (read names) eb ∙ made-reads.blocks ∙ sym made-marked.blocks ∙ sym (ap (read marked) eb));
     }
 
@@ -179,8 +184,10 @@ module _ (a : Arena) (o : IsArena a) (f : IsFaultless (contents a)) (named : Uni
     reads t ea eb ev = record {
       naming = names;
       units = refl;
-      says = texts (map (arg_text names) t.args) text.args (read names t.blocks) blocks (ap (map (arg_text names)) ea ∙ args-read (args_at a top) (o.tables top l).args_within) (ap (read names) eb ∙ made-reads.blocks);
-      values = λ v w h j e. apart-at (own ++ inner) v w (unit-values a o fs named (units-right a o f) (copy_names depth a) (copies-values a o fs named (units-right a o f) depth) top l k []).0 (subst (λ n. v < n) (ev ∙ all-values) h) (subst (λ n. w < n) (ev ∙ all-values) j) e;
+      says = texts (map (arg_text names) t.args) text.args (read names t.blocks) blocks (ap (map (arg_text names)) ea ∙ args-read (args_at a top) (o.tables top l).args_within)
+          (ap (read names) eb ∙ made-reads.blocks);
+      values = λ v w h j e. apart-at (own ++ inner) v w (unit-values a o fs named (units-right a o f) (copy_names depth a) (copies-values a o fs named (units-right a o f) depth) top l k []).0
+          (subst (λ n. v < n) (ev ∙ all-values) h) (subst (λ n. w < n) (ev ∙ all-values) j) e;
       labels = λ i j h q e. apart-at (labels blocks) i j (unit-labels a o fs named (units-right a o f) depth (copies-labels a o fs named (units-right a o f) depth) top l k (top_copy text) refl).0
           (subst (λ n. i < n) (ap length eb ∙ all-blocks) h) (subst (λ n. j < n) (ap length eb ∙ all-blocks) q) e;
     }
@@ -202,7 +209,7 @@ process-blocks : (k : Option UnitKind) → k ≡ Some kind.Proc → HasBlocks k
 process-blocks k e = subst HasBlocks (sym e) tt
 
 -- each answer, by the measure of the process
-module _ (a : Arena) (g h : List Node) (top : ℕ) (o : IsArena a) (f : IsFaultless (contents a)) (q : IsGraph a h) (e : g ≡ h) (l : top < unit_count a) (p : kind_at a top ≡ Some kind.Proc) where
+module _ (a : Arena) (g h : List CallNode) (top : ℕ) (o : IsArena a) (f : IsFaultless (contents a)) (q : IsGraph a h) (e : g ≡ h) (l : top < unit_count a) (p : kind_at a top ≡ Some kind.Proc) where
   graph : IsGraph a g
   graph = subst (IsGraph a) (sym e) q
 
@@ -215,13 +222,16 @@ module _ (a : Arena) (g h : List Node) (top : ℕ) (o : IsArena a) (f : IsFaultl
   pub flat-large : (m : Measure) → Measures g top (Ok m) → m.depth ≤ 65 → 65536 < m.insts → flat_of (contents a) (unit_text_at a top) ≡ refused flat_too_large
   flat-large m w d n = Refuses-large a g top o f graph l p m w (above_false 65 m.depth d) (above_true 65536 m.insts n)
 
-  pub flat-made : UnitsAreNamed a → (m : Measure) → Measures g top (Ok m) → m.depth ≤ 65 → m.insts ≤ 65536 → (b : Arena) (u : UnitId) (t : Flat) → b ≡ a → u.0 ≡ top → IsMade b u.0 t → Flattens a top (Ok t)
+  pub flat-made : UnitsAreNamed a → (m : Measure) → Measures g top (Ok m) → m.depth ≤ 65 → m.insts ≤ 65536 → (b : Arena) (u : UnitId) (t : Flat) → b ≡ a → u.0 ≡ top → IsMade b u.0 t
+      → Flattens a top (Ok t)
   flat-made n m w d i b u t eb eu t-made = (
     text_of (functions (contents a)) (unit_text_at a top),
     Flattens-measured a g top o f graph l p m w (above_false 65 m.depth d) (above_false 65536 m.insts i),
-    made_reads a o f n top l (process-blocks (kind_at a top) p) p (not-deep a g top o f graph l p m w (above_false 65 m.depth d)) t (subst (λ x. IsMade a x t) eu (subst (λ x. IsMade x u.0 t) eb t-made)),
+    made_reads a o f n top l (process-blocks (kind_at a top) p) p (not-deep a g top o f graph l p m w (above_false 65 m.depth d)) t
+        (subst (λ x. IsMade a x t) eu (subst (λ x. IsMade x u.0 t) eb t-made)),
   )
 
   pub flat-below : UnitsAreNamed a → (m : Measure) → Measures g top (Ok m) → m.depth ≤ 65 → (b : Arena) (u : UnitId) (t : Flat) → b ≡ a → u.0 ≡ top → IsMade b u.0 t → IdsBelow t
   flat-below n m w d b u t eb eu t-made =
-      made_below a o f n top l (process-blocks (kind_at a top) p) p (not-deep a g top o f graph l p m w (above_false 65 m.depth d)) t (subst (λ x. IsMade a x t) eu (subst (λ x. IsMade x u.0 t) eb t-made))
+      made_below a o f n top l (process-blocks (kind_at a top) p) p (not-deep a g top o f graph l p m w (above_false 65 m.depth d)) t
+      (subst (λ x. IsMade a x t) eu (subst (λ x. IsMade x u.0 t) eb t-made))

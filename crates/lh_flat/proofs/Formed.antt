@@ -9,7 +9,7 @@ use Rattle.lh_unit.specs.declared.inst.UnitKind.{UnitKind}
 use Rattle.lh_unit.specs.declared.inst.UnitKind.TheVariants as kind
 use Rattle.lh_unit.specs.declared.inst.Inst.{Inst}
 use Rattle.lh_unit.specs.declared.inst.Inst.TheVariants as inst
-use Rattle.lh_unit.specs.ById.{blocks_named, inst_line}
+use Rattle.lh_unit.specs.ById.{blocks_named, inst_line_text}
 use Rattle.lh_unit.specs.Contents.{EdgeText, LineText, BlockText, UnitText, ItemText}
 use Rattle.lh_unit.specs.Named.{block_of, is_function}
 use Rattle.lh_unit.specs.Hierarchy.{lines_of}
@@ -62,7 +62,9 @@ module _ (a : Arena) (u : ℕ) (o : IsArena a) (l : u < unit_count a) (k : HasBl
       by true e = refl
       by false e = absurd (none-some x.0 e)
 
-  edges-blocks : (es : List PhiEdge) → Each (λ (e : PhiEdge). e.block.0 < label_count a u) es → Each (λ n. (b : BlockText) × (block_of n (unit_text_at a u).blocks ≡ Some b)) (map (λ (e : EdgeText). e.block) (map (edge_text (naming a u)) es)) → Each (IsBlockOf (blocks_at a u)) (map (λ (e : PhiEdge). e.block) es)
+  edges-blocks : (es : List PhiEdge) → Each (λ (e : PhiEdge). e.block.0 < label_count a u) es
+      → Each (λ n. (b : BlockText) × (block_of n (unit_text_at a u).blocks ≡ Some b)) (map (λ (e : EdgeText). e.block) (map (edge_text (naming a u)) es))
+      → Each (IsBlockOf (blocks_at a u)) (map (λ (e : PhiEdge). e.block) es)
   edges-blocks [] h w = tt
   edges-blocks (e ∷ es) h w = (is-block e.block h.0 w.0, edges-blocks es h.1 w.1)
 
@@ -70,7 +72,8 @@ module _ (a : Arena) (u : ℕ) (o : IsArena a) (l : u < unit_count a) (k : HasBl
   second [] h = tt
   second (e ∷ es) h = (h.0.1, second es h.1)
 
-  named-blocks : (i : Inst) → InstPlaced a u i → Each (λ n. (b : BlockText) × (block_of n (unit_text_at a u).blocks ≡ Some b)) (labels_named (inst_text (naming a u) i)) → Each (IsBlockOf (blocks_at a u)) (blocks_named i)
+  named-blocks : (i : Inst) → InstPlaced a u i → Each (λ n. (b : BlockText) × (block_of n (unit_text_at a u).blocks ≡ Some b)) (labels_named (inst_text (naming a u) i))
+      → Each (IsBlockOf (blocks_at a u)) (blocks_named i)
   named-blocks (inst.Phi ty edges) p w = edges-blocks edges (second edges p) w
   named-blocks (inst.Br to) p w = (is-block to p w.0, tt)
   named-blocks (inst.Branch cond zero one) p w = (is-block zero p.1 w.0, (is-block one p.2 w.1.0, tt))
@@ -90,7 +93,9 @@ callable a o (Some t) h k f e =
 pub units-right : (a : Arena) → IsArena a → IsFaultless (contents a) → UnitsAreRight a (functions (contents a))
 units-right a o f u l k = blocks (blocks_at a u) (unit-lines LineAllowed all_allowed a u o f l) (unit-lines LineLabels labels_are_blocks a u o f l) (unit-lines LineNames calls_are_right a u o f l)
   where
-    insts : (is : List InstId) → Each (LineAllowed (contents a) (unit_text_at a u)) (map (inst_line (naming a u) (table_at a u)) is) → Each (LineLabels (contents a) (unit_text_at a u)) (map (inst_line (naming a u) (table_at a u)) is) → Each (LineNames (contents a) (unit_text_at a u)) (map (inst_line (naming a u) (table_at a u)) is) →
+    insts : (is : List InstId) → Each (LineAllowed (contents a) (unit_text_at a u)) (map (inst_line_text (naming a u) (table_at a u)) is)
+        → Each (LineLabels (contents a) (unit_text_at a u)) (map (inst_line_text (naming a u) (table_at a u)) is)
+        → Each (LineNames (contents a) (unit_text_at a u)) (map (inst_line_text (naming a u) (table_at a u)) is) →
         Each (λ (i : InstId). InstIsRight a (functions (contents a)) u (line_of a u i).inst) is
     insts [] p q r = tt
     insts (i ∷ is) p q r = (
@@ -102,12 +107,16 @@ units-right a o f u l k = blocks (blocks_at a u) (unit-lines LineAllowed all_all
       insts is p.1 q.1 r.1,
     )
 
-    blocks : (bs : List BlockId) → Each (LineAllowed (contents a) (unit_text_at a u)) (lines_of (map (block_text (naming a u) (table_at a u)) bs)) → Each (LineLabels (contents a) (unit_text_at a u)) (lines_of (map (block_text (naming a u) (table_at a u)) bs)) → Each (LineNames (contents a) (unit_text_at a u)) (lines_of (map (block_text (naming a u) (table_at a u)) bs)) →
+    blocks : (bs : List BlockId) → Each (LineAllowed (contents a) (unit_text_at a u)) (lines_of (map (block_text (naming a u) (table_at a u)) bs))
+        → Each (LineLabels (contents a) (unit_text_at a u)) (lines_of (map (block_text (naming a u) (table_at a u)) bs))
+        → Each (LineNames (contents a) (unit_text_at a u)) (lines_of (map (block_text (naming a u) (table_at a u)) bs)) →
         Each (BlockIsRight a (functions (contents a)) u) bs
     blocks [] p q r = tt
     blocks (b ∷ bs) p q r =
-        let is : List LineText = map (inst_line (naming a u) (table_at a u)) (insts_at (table_at a u) b.0) in
+        let is : List LineText = map (inst_line_text (naming a u) (table_at a u)) (insts_at (table_at a u) b.0) in
         let rest : List LineText = lines_of (map (block_text (naming a u) (table_at a u)) bs) in (
-          insts (insts_at (table_at a u) b.0) (Each-left (LineAllowed (contents a) (unit_text_at a u)) is rest p) (Each-left (LineLabels (contents a) (unit_text_at a u)) is rest q) (Each-left (LineNames (contents a) (unit_text_at a u)) is rest r),
-          blocks bs (Each-right (LineAllowed (contents a) (unit_text_at a u)) is rest p) (Each-right (LineLabels (contents a) (unit_text_at a u)) is rest q) (Each-right (LineNames (contents a) (unit_text_at a u)) is rest r),
+          insts (insts_at (table_at a u) b.0) (Each-left (LineAllowed (contents a) (unit_text_at a u)) is rest p) (Each-left (LineLabels (contents a) (unit_text_at a u)) is rest q)
+              (Each-left (LineNames (contents a) (unit_text_at a u)) is rest r),
+          blocks bs (Each-right (LineAllowed (contents a) (unit_text_at a u)) is rest p) (Each-right (LineLabels (contents a) (unit_text_at a u)) is rest q)
+              (Each-right (LineNames (contents a) (unit_text_at a u)) is rest r),
         )

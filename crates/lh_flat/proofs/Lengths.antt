@@ -19,11 +19,14 @@ named-length : (length_of : UnitText → ℕ) (path : List ℕ) (args : List (Li
 named-length length_of path args None = refl
 named-length length_of path args (Some f) = refl
 
-pub callee-length : (length_of : UnitText → ℕ) (fs : List UnitText) (c : Copy) (path : List ℕ) (i : InstText) (more : List UnitName) → sum_by (called_length length_of fs) (callee_if i more) ≡ opened_length length_of (opened fs c path i) + sum_by (called_length length_of fs) more
+pub callee-length : (length_of : UnitText → ℕ) (fs : List UnitText) (c : Copy) (path : List ℕ) (i : InstText) (more : List UnitName)
+    → sum_by (called_length length_of fs) (callee_if i more) ≡ opened_length length_of (opened fs c path i) + sum_by (called_length length_of fs) more
 callee-length length_of fs c path (call_text f t args) more =
-    elim (is_assert f) as (λ b. sum_by (called_length length_of fs) (if b then more else f ∷ more) ≡ opened_length length_of (if b then None else option_map (copy_at path (map (λ (o : OperandText). c.value o.value) args)) (function_named f fs)) + sum_by (called_length length_of fs) more) [
+    elim (is_assert f) as (λ b. sum_by (called_length length_of fs) (if b then more else f ∷ more)
+    ≡ opened_length length_of (if b then None else option_map (copy_at path (map (λ (o : OperandText). c.value o.value) args)) (function_named f fs)) + sum_by (called_length length_of fs) more) [
       | true ↦ sym (zero-add (sum_by (called_length length_of fs) more))
-      | false ↦ sum_by-cons (called_length length_of fs) f more ∙ ap (λ n. n + sum_by (called_length length_of fs) more) (named-length length_of path (map (λ (o : OperandText). c.value o.value) args) (function_named f fs))
+      | false ↦ sum_by-cons (called_length length_of fs) f more
+          ∙ ap (λ n. n + sum_by (called_length length_of fs) more) (named-length length_of path (map (λ (o : OperandText). c.value o.value) args) (function_named f fs))
     ]
 callee-length length_of fs c path _ more = sym (zero-add (sum_by (called_length length_of fs) more))
 
@@ -36,7 +39,8 @@ both a b c d e f = omega arith
 one_line : (n m : ℕ) → suc n + m ≡ 1 + (0 + (n + m))
 one_line n m = omega arith
 
-line-length : (length_of : UnitText → ℕ) (copy_of : Copy → List FlatBlockText) → ((d : Copy) → inst_count (copy_of d) ≡ length_of d.unit) → (fs : List UnitText) (c : Copy) (l : LineText) (o : Option Copy) (p : Pieces) → pieces_length (with_line copy_of fs c l o p) ≡ 1 + (opened_length length_of o + pieces_length p)
+line-length : (length_of : UnitText → ℕ) (copy_of : Copy → List FlatBlockText) → ((d : Copy) → inst_count (copy_of d) ≡ length_of d.unit)
+    → (fs : List UnitText) (c : Copy) (l : LineText) (o : Option Copy) (p : Pieces) → pieces_length (with_line copy_of fs c l o p) ≡ 1 + (opened_length length_of o + pieces_length p)
 line-length length_of copy_of h fs c l None p = one_line (length p.rest) (inst_count p.more)
 line-length length_of copy_of h fs c l (Some d) p =
     ap (λ n. 1 + n)
@@ -47,7 +51,9 @@ line-length length_of copy_of h fs c l (Some d) p =
 arranged : (x p n s t : ℕ) → p ≡ n + s → t ≡ x + s → 1 + (x + p) ≡ suc n + t
 arranged x p n s t e f = omega arith
 
-pieces-length : (length_of : UnitText → ℕ) (copy_of : Copy → List FlatBlockText) → ((d : Copy) → inst_count (copy_of d) ≡ length_of d.unit) → (fs : List UnitText) (c : Copy) (label : List ℕ) (k : ℕ) (ls : List LineText) → pieces_length (pieces_from copy_of fs c label k ls) ≡ length ls + sum_by (called_length length_of fs) (callees_in ls)
+pieces-length : (length_of : UnitText → ℕ) (copy_of : Copy → List FlatBlockText) → ((d : Copy) → inst_count (copy_of d) ≡ length_of d.unit)
+    → (fs : List UnitText) (c : Copy) (label : List ℕ) (k : ℕ) (ls : List LineText)
+    → pieces_length (pieces_from copy_of fs c label k ls) ≡ length ls + sum_by (called_length length_of fs) (callees_in ls)
 pieces-length length_of copy_of h fs c label k [] = refl
 pieces-length length_of copy_of h fs c label k (l ∷ more) =
     line-length length_of copy_of h fs c l (opened fs c (call_path c label k) l.inst) (pieces_from copy_of fs c label (k + 1) more)
@@ -59,7 +65,8 @@ pieces-length length_of copy_of h fs c label k (l ∷ more) =
 first-length : (c : Copy) (label : List ℕ) (p : Pieces) → inst_count (in_order c label p) ≡ pieces_length p
 first-length c label p = sum_by-cons (λ (b : FlatBlockText). length b.lines) (record { label = first_piece c label; merge = None; lines = p.rest }) p.more
 
-blocks-length : (length_of : UnitText → ℕ) (copy_of : Copy → List FlatBlockText) → ((d : Copy) → inst_count (copy_of d) ≡ length_of d.unit) → (fs : List UnitText) (c : Copy) (bs : List BlockText) → inst_count (flat_map (flat_block copy_of fs c) bs) ≡ sum_by (block_length length_of fs) bs
+blocks-length : (length_of : UnitText → ℕ) (copy_of : Copy → List FlatBlockText) → ((d : Copy) → inst_count (copy_of d) ≡ length_of d.unit) → (fs : List UnitText) (c : Copy) (bs : List BlockText)
+    → inst_count (flat_map (flat_block copy_of fs c) bs) ≡ sum_by (block_length length_of fs) bs
 blocks-length length_of copy_of h fs c [] = refl
 blocks-length length_of copy_of h fs c (b ∷ bs) =
     sum_by-append (λ (x : FlatBlockText). length x.lines) (flat_block copy_of fs c b) (flat_map (flat_block copy_of fs c) bs)

@@ -6,21 +6,21 @@ use Rattle.std.proofs.lemmas.List.Sums.{sum_by_push}
 use Rattle.lh_unit.specs.declared.inst.UnitId.{UnitId}
 use Rattle.lh_unit.proofs.Lists.{or_false}
 use Rattle.lh_formed.proofs.Capped.{not_below_zero, zero_capped, below_max, sum_capped, left_max, right_max, first_below, next_below, none_at_zero, below_next, right_capped}
-use Rattle.lh_flat.specs.declared.calls.Node.{Node}
+use Rattle.lh_flat.specs.declared.calls.CallNode.{CallNode}
 use Rattle.lh_flat.specs.declared.measure.Measure.{Measure}
 use Rattle.lh_flat.specs.Graph.{node_at, callees_at, max_counted}
 use Rattle.lh_flat.specs.Measures.{nothing, beside, around, nests, insts_in, blocks_in, IsMeasure}
 
 -- copies of these units beside each other
-pub record IsSum (g : List Node) (ts : List UnitId) (m : Measure) : Type 0 where
+pub record IsSum (g : List CallNode) (ts : List UnitId) (m : Measure) : Type 0 where
   pub depth : (k : ℕ) → suc k ≤ max_counted → list_any (λ (t : UnitId). nests k g t.0) ts ≡ nat_lt k m.depth
   pub insts : (k : ℕ) → suc k ≤ max_counted → m.depth ≤ k → min (sum_by (λ (t : UnitId). insts_in k g t.0) ts) max_counted ≡ m.insts
   pub blocks : (k : ℕ) → suc k ≤ max_counted → m.depth ≤ k → min (sum_by (λ (t : UnitId). blocks_in k g t.0) ts) max_counted ≡ m.blocks
 
-pub IsSum-none : (g : List Node) → IsSum g [] nothing
+pub IsSum-none : (g : List CallNode) → IsSum g [] nothing
 IsSum-none g = record { depth = λ k l. not_below_zero k; insts = λ k l d. zero_capped max_counted; blocks = λ k l d. zero_capped max_counted }
 
-pub IsSum-beside : (g : List Node) (ts : List UnitId) (t : UnitId) (m n : Measure) → IsSum g ts m → IsMeasure g t.0 n → IsSum g (ts ++ t ∷ []) (beside m n)
+pub IsSum-beside : (g : List CallNode) (ts : List UnitId) (t : UnitId) (m n : Measure) → IsSum g ts m → IsMeasure g t.0 n → IsSum g (ts ++ t ∷ []) (beside m n)
 IsSum-beside g ts t m n o p = record {
   depth = λ k l.
       list_any-append (λ (x : UnitId). nests k g x.0) ts (t ∷ [])
@@ -30,23 +30,29 @@ IsSum-beside g ts t m n o p = record {
       ∙ below_max k m.depth n.depth;
   insts = λ k l d.
       ap (λ x. min x max_counted) (sum_by_push (λ (x : UnitId). insts_in k g x.0) ts t)
-      ∙ sum_capped (sum_by (λ (x : UnitId). insts_in k g x.0) ts) (insts_in k g t.0) max_counted m.insts n.insts (o.insts k l (left_max m.depth n.depth k d)) (p.insts k l (right_max m.depth n.depth k d));
+      ∙ sum_capped (sum_by (λ (x : UnitId). insts_in k g x.0) ts) (insts_in k g t.0) max_counted m.insts n.insts (o.insts k l (left_max m.depth n.depth k d)) (p.insts k l
+      (right_max m.depth n.depth k d));
   blocks = λ k l d.
       ap (λ x. min x max_counted) (sum_by_push (λ (x : UnitId). blocks_in k g x.0) ts t)
-      ∙ sum_capped (sum_by (λ (x : UnitId). blocks_in k g x.0) ts) (blocks_in k g t.0) max_counted m.blocks n.blocks (o.blocks k l (left_max m.depth n.depth k d)) (p.blocks k l (right_max m.depth n.depth k d));
+      ∙ sum_capped (sum_by (λ (x : UnitId). blocks_in k g x.0) ts) (blocks_in k g t.0) max_counted m.blocks n.blocks (o.blocks k l (left_max m.depth n.depth k d)) (p.blocks k l
+      (right_max m.depth n.depth k d));
 }
 
-depth-around : (g : List Node) (u : ℕ) (m : Measure) → IsSum g (callees_at g u) m → (k : ℕ) → suc k ≤ max_counted → nests k g u ≡ nat_lt k (min (1 + m.depth) max_counted)
+depth-around : (g : List CallNode) (u : ℕ) (m : Measure) → IsSum g (callees_at g u) m → (k : ℕ) → suc k ≤ max_counted → nests k g u ≡ nat_lt k (min (1 + m.depth) max_counted)
 depth-around g u m o zero l = first_below m.depth max_counted (omega arith)
 depth-around g u m o (suc j) l = o.depth j (omega arith) ∙ next_below j m.depth max_counted l
 
-insts-around : (g : List Node) (u : ℕ) (m : Measure) → IsSum g (callees_at g u) m → (k : ℕ) → suc k ≤ max_counted → min (1 + m.depth) max_counted ≤ k → min (insts_in k g u) max_counted ≡ min ((node_at g u).insts + m.insts) max_counted
+insts-around : (g : List CallNode) (u : ℕ) (m : Measure) → IsSum g (callees_at g u) m → (k : ℕ) → suc k ≤ max_counted → min (1 + m.depth) max_counted ≤ k
+    → min (insts_in k g u) max_counted ≡ min ((node_at g u).insts + m.insts) max_counted
 insts-around g u m o zero l d = absurd (none_at_zero m.depth max_counted (omega arith) d)
-insts-around g u m o (suc j) l d = right_capped (node_at g u).insts (sum_by (λ (t : UnitId). insts_in j g t.0) (callees_at g u)) max_counted m.insts (o.insts j (omega arith) (below_next j m.depth max_counted l d))
+insts-around g u m o (suc j) l d = right_capped (node_at g u).insts (sum_by (λ (t : UnitId). insts_in j g t.0) (callees_at g u)) max_counted m.insts
+    (o.insts j (omega arith) (below_next j m.depth max_counted l d))
 
-blocks-around : (g : List Node) (u : ℕ) (m : Measure) → IsSum g (callees_at g u) m → (k : ℕ) → suc k ≤ max_counted → min (1 + m.depth) max_counted ≤ k → min (blocks_in k g u) max_counted ≡ min ((node_at g u).blocks + m.blocks) max_counted
+blocks-around : (g : List CallNode) (u : ℕ) (m : Measure) → IsSum g (callees_at g u) m → (k : ℕ) → suc k ≤ max_counted → min (1 + m.depth) max_counted ≤ k
+    → min (blocks_in k g u) max_counted ≡ min ((node_at g u).blocks + m.blocks) max_counted
 blocks-around g u m o zero l d = absurd (none_at_zero m.depth max_counted (omega arith) d)
-blocks-around g u m o (suc j) l d = right_capped (node_at g u).blocks (sum_by (λ (t : UnitId). blocks_in j g t.0) (callees_at g u)) max_counted m.blocks (o.blocks j (omega arith) (below_next j m.depth max_counted l d))
+blocks-around g u m o (suc j) l d = right_capped (node_at g u).blocks (sum_by (λ (t : UnitId). blocks_in j g t.0) (callees_at g u)) max_counted m.blocks
+    (o.blocks j (omega arith) (below_next j m.depth max_counted l d))
 
-pub IsMeasure-around : (g : List Node) (u : ℕ) (m : Measure) → IsSum g (callees_at g u) m → IsMeasure g u (around m (node_at g u))
+pub IsMeasure-around : (g : List CallNode) (u : ℕ) (m : Measure) → IsSum g (callees_at g u) m → IsMeasure g u (around m (node_at g u))
 IsMeasure-around g u m o = record { depth = depth-around g u m o; insts = insts-around g u m o; blocks = blocks-around g u m o }

@@ -54,7 +54,8 @@ below-any (suc k) fs calls = refl
 callees-named : (a : Arena) (fs : List UnitText) (f : UnitId) → IsCallable a fs f → callees_of fs (unit_name_at a f.0) ≡ callees (unit_text_at a f.0)
 callees-named a fs f k = ap (λ o. option_map_or callees o []) k.named
 
-nests-named : (a : Arena) (fs : List UnitText) (depth : ℕ) (f : UnitId) → IsCallable a fs f → nests_below (suc depth) fs (unit_name_at a f.0) ≡ false → list_any (nests_below depth fs) (callees (unit_text_at a f.0)) ≡ false
+nests-named : (a : Arena) (fs : List UnitText) (depth : ℕ) (f : UnitId) → IsCallable a fs f → nests_below (suc depth) fs (unit_name_at a f.0) ≡ false
+    → list_any (nests_below depth fs) (callees (unit_text_at a f.0)) ≡ false
 nests-named a fs depth f k e = sym (below-any depth fs (callees (unit_text_at a f.0))) ∙ ap (nest_deeper depth fs) (sym (callees-named a fs f k)) ∙ e
 
 -- each block of a unit is one of its blocks
@@ -101,17 +102,20 @@ module _ (a : Arena) (o : IsArena a) (fs : List UnitText) (formed : UnitsAreRigh
   room-is zero f path args k e = cc
   room-is (suc j) f path args k e =
       ap (λ n. n + 1)
-      (blocks-room a fs (flat_copy j fs) (call_room j a) (nests_below j fs) (no_room j a) (room-is j) f.0 (copy_at path args (unit_text_at a f.0)) (blocks_at a f.0) k.blocks (formed f.0 k.within k.blocks) (nests-named a fs j f k e))
+      (blocks-room a fs (flat_copy j fs) (call_room j a) (nests_below j fs) (no_room j a) (room-is j) f.0 (copy_at path args (unit_text_at a f.0)) (blocks_at a f.0) k.blocks
+      (formed f.0 k.within k.blocks) (nests-named a fs j f k e))
       ∙ sym (room-next j a f)
 
   -- how many blocks a copy has
-  pub unit-room-is : (depth u : ℕ) (c : Copy) → u < unit_count a → HasBlocks (kind_at a u) → c.unit ≡ unit_text_at a u → list_any (nests_below depth fs) (callees (unit_text_at a u)) ≡ false → length (flat_copy (suc depth) fs c) ≡ unit_room (call_room depth a) a u
+  pub unit-room-is : (depth u : ℕ) (c : Copy) → u < unit_count a → HasBlocks (kind_at a u) → c.unit ≡ unit_text_at a u → list_any (nests_below depth fs) (callees (unit_text_at a u)) ≡ false
+      → length (flat_copy (suc depth) fs c) ≡ unit_room (call_room depth a) a u
   unit-room-is depth u c l k e n =
       ap (λ (x : UnitText). length (flat_map (flat_block (flat_copy depth fs) fs c) x.blocks)) e
       ∙ blocks-room a fs (flat_copy depth fs) (call_room depth a) (nests_below depth fs) (no_room depth a) (room-is depth) u c (blocks_at a u) k (formed u l k) n
 
   -- the pieces of each block have their labels
-  pieces-named : (depth u : ℕ) (c : Copy) (at from : ℕ) → CopyStarts a fs g depth u c at from → (b : BlockId) → IsBlockOf (blocks_at a u) b → SpanIsRight a fs g u c (spans_of (call_room depth a) a u at) b
+  pieces-named : (depth u : ℕ) (c : Copy) (at from : ℕ) → CopyStarts a fs g depth u c at from → (b : BlockId) → IsBlockOf (blocks_at a u) b
+      → SpanIsRight a fs g u c (spans_of (call_room depth a) a u at) b
   pieces-named depth u c at from s b h =
       spans-right a fs (flat_copy depth fs) (call_room depth a) (nests_below depth fs) (no_room depth a) (room-is depth) g u c b s.blocks
       (block-in (label_count a u) (blocks_at a u) b (blocks-within (kind_at a u) (table_at a u) s.blocks (o.tables u s.within).fits_kind) h)
@@ -119,7 +123,8 @@ module _ (a : Arena) (o : IsArena a) (fs : List UnitText) (formed : UnitsAreRigh
       (subst (λ (x : UnitText). NamedFrom g.label_name at (labels (flat_map (flat_block (flat_copy depth fs) fs c) x.blocks))) s.unit s.labels) (inl h)
 
   -- the last piece of a block by its label
-  last-named : (u : ℕ) (c : Copy) (b : BlockId) → u < unit_count a → HasBlocks (kind_at a u) → c.unit ≡ unit_text_at a u → IsBlockOf (blocks_at a u) b → last_piece fs c (block_text (naming a u) (table_at a u) b) ≡ last_piece_of fs c (label_name_at a u b.0)
+  last-named : (u : ℕ) (c : Copy) (b : BlockId) → u < unit_count a → HasBlocks (kind_at a u) → c.unit ≡ unit_text_at a u → IsBlockOf (blocks_at a u) b
+      → last_piece fs c (block_text (naming a u) (table_at a u) b) ≡ last_piece_of fs c (label_name_at a u b.0)
   last-named u c b l k e h =
       let found : block_of (label_name_at a u b.0) (unit_text_at a u).blocks ≡ Some (block_text (naming a u) (table_at a u) b) =
       block_of-by_id a u o l b.0 k (block-in (label_count a u) (blocks_at a u) b (blocks-within (kind_at a u) (table_at a u) k (o.tables u l).fits_kind) h)
@@ -128,12 +133,14 @@ module _ (a : Arena) (o : IsArena a) (fs : List UnitText) (formed : UnitsAreRigh
       ∙ ap (λ x. option_map_or (last_piece fs c) x (first_piece c (label_name_at a u b.0))) found)
 
   -- the ids of a copy on these arguments agree with its names
-  pub copy-is : (depth u : ℕ) (c : Copy) (at from back : ℕ) (xs : List ValueId) → CopyStarts a fs g depth u c at from → (is_function (kind_text (kind_at a u)) ≡ true → back ≡ at + unit_room (call_room depth a) a u) →
+  pub copy-is : (depth u : ℕ) (c : Copy) (at from back : ℕ) (xs : List ValueId) → CopyStarts a fs g depth u c at from
+      → (is_function (kind_text (kind_at a u)) ≡ true → back ≡ at + unit_room (call_room depth a) a u) →
       ((v : ValueId) → v.0 < value_count a u → value_text g (get_or (bound (args_at a u) xs (new_ids from (value_count a u))) v.0 v) ≡ c.value (value_name_at a u v.0)) →
       CopyIs a fs g u c (ids_for (call_room depth a) a u xs at from back)
   copy-is depth u c at from back xs s e h =
       let fits : IdsFit a u (ids_for (call_room depth a) a u xs at from back) =
-      ids-fit (call_room depth a) a u at from (value_count a u) (args_at a u) xs (new_ids from (value_count a u)) (bound (args_at a u) xs (new_ids from (value_count a u))) (spans_of (call_room depth a) a u at) (record { 0 = back }) refl refl refl refl in
+      ids-fit (call_room depth a) a u at from (value_count a u) (args_at a u) xs (new_ids from (value_count a u)) (bound (args_at a u) xs (new_ids from (value_count a u)))
+      (spans_of (call_room depth a) a u at) (record { 0 = back }) refl refl refl refl in
       record {
         within = s.within;
         blocks = s.blocks;
@@ -149,7 +156,8 @@ module _ (a : Arena) (o : IsArena a) (fs : List UnitText) (formed : UnitsAreRigh
       }
 
   -- a merge of what a copy gives back
-  merge-named : (u : ℕ) (c d : Copy) (r q : Renaming) (f : ℕ) (i : InstId) → CopyIs a fs g u c r → CopyIs a fs g f d q → Each (λ (b : BlockId). g.label_name (last_in q b).0 ≡ last_piece fs d (block_text (naming a f) (table_at a f) b)) (blocks_at a f) →
+  merge-named : (u : ℕ) (c d : Copy) (r q : Renaming) (f : ℕ) (i : InstId) → CopyIs a fs g u c r → CopyIs a fs g f d q
+      → Each (λ (b : BlockId). g.label_name (last_in q b).0 ≡ last_piece fs d (block_text (naming a f) (table_at a f) b)) (blocks_at a f) →
       option_map (merge_text g) (merge_in r (blocks_give a f q (blocks_at a f)) (line_of a u i).inst (line_of a u i).result) ≡ merge_of fs c d (line_text_of a u i).inst (line_text_of a u i).result
   merge-named u c d r q f i k m w =
       by (line_of a u i).inst (line_of a u i).result (maybe-within a o u k.within r k.fits 0 i.0 (line_of a u i).result refl)
@@ -164,10 +172,12 @@ module _ (a : Arena) (o : IsArena a) (fs : List UnitText) (formed : UnitsAreRigh
       by _ v l e = refl
 
   -- the entry of a copy
-  entry-named : (depth u : ℕ) (c : Copy) (at from : ℕ) → CopyStarts a fs g depth u c at from → g.label_name (at + length (flat_copy (suc depth) fs c)) ≡ c.path → g.label_name at ≡ first_piece c (first_label c.unit.blocks)
+  entry-named : (depth u : ℕ) (c : Copy) (at from : ℕ) → CopyStarts a fs g depth u c at from → g.label_name (at + length (flat_copy (suc depth) fs c)) ≡ c.path
+      → g.label_name at ≡ first_piece c (first_label c.unit.blocks)
   entry-named depth u c at from s hb = by c.unit.blocks s.labels hb
     where
-      by : (bs : List BlockText) → NamedFrom g.label_name at (labels (flat_map (flat_block (flat_copy depth fs) fs c) bs)) → g.label_name (at + length (flat_map (flat_block (flat_copy depth fs) fs c) bs)) ≡ c.path → g.label_name at ≡ first_piece c (first_label bs)
+      by : (bs : List BlockText) → NamedFrom g.label_name at (labels (flat_map (flat_block (flat_copy depth fs) fs c) bs))
+          → g.label_name (at + length (flat_map (flat_block (flat_copy depth fs) fs c) bs)) ≡ c.path → g.label_name at ≡ first_piece c (first_label bs)
       by [] h e = ap g.label_name (plus_none at) ∙ e ∙ sym (append-nil c.path)
       by (b ∷ bs) h e = h.0
 
@@ -193,12 +203,19 @@ module _ (a : Arena) (o : IsArena a) (fs : List UnitText) (formed : UnitsAreRigh
       } in
       let m : CopyIs a fs g f.0 d q = copy-is j f.0 d (length t.blocks + 1) t.values (length t.blocks + 1 + unit_room (call_room j a) a f.0) (call_args r l.inst) starts (λ y. refl)
       (λ v w. values-named a o f.0 ok.within g path t.values (call_args r l.inst) v (length-new_ids t.values (value_count a f.0)) starts.values w
-      ∙ ap (λ xs. argument_or (map (arg_text (naming a f.0)) (args_at a f.0)) xs (path ++ value_name_at a f.0 v.0) (value_name_at a f.0 v.0)) (call_args-named a fs g u c r k l.inst (line-placed a u i.0 o))) in
+      ∙ ap (λ xs. argument_or (map (arg_text (naming a f.0)) (args_at a f.0)) xs (path ++ value_name_at a f.0 v.0) (value_name_at a f.0 v.0)) (call_args-named a fs g u c r k l.inst
+      (line-placed a u i.0 o))) in
       let s : Text = entering a f t in
-      let B : FlatBlockText = record { label = g.label_name (length t.blocks); merge = option_map (merge_text g) t.current.merge; lines = map (flat_line_text g) t.current.insts ++ branch_into d ∷ [] } in
+      let B : FlatBlockText = record {
+        label = g.label_name (length t.blocks);
+        merge = option_map (merge_text g) t.current.merge;
+        lines = map (flat_line_text g) t.current.insts ++ branch_into d
+            ∷ [];
+      } in
       let entered : read g s.blocks ≡ read g t.blocks ++ B ∷ [] = read-one_more g t.blocks (taken (branch_to (length t.blocks + 1)) t).current
       ∙ ap (λ (xs : List LineText). read g t.blocks ++ record { label = g.label_name (length t.blocks); merge = option_map (merge_text g) t.current.merge; lines = xs } ∷ [])
-      (map-append (flat_line_text g) t.current.insts (branch_to (length t.blocks + 1) ∷ []) ∙ ap (λ x. map (flat_line_text g) t.current.insts ++ branched x ∷ []) (entry-named j f.0 d (length t.blocks + 1) t.values starts hb)) in
+      (map-append (flat_line_text g) t.current.insts (branch_to (length t.blocks + 1) ∷ [])
+      ∙ ap (λ x. map (flat_line_text g) t.current.insts ++ branched x ∷ []) (entry-named j f.0 d (length t.blocks + 1) t.values starts hb)) in
       let long : length s.blocks ≡ length t.blocks + 1 = long-by_text g t.blocks s.blocks (B ∷ []) entered in
       let inside : BlocksRead g copies inner s (blocks_added (call_added j a) a f.0 q (blocks_at a f.0) s) =
       blocks-read a o fs g (call_added j a) (flat_copy j fs) (copy_names j a) (nests_below j fs) (calls-read j) f.0 d q m (blocks_at a f.0) (formed f.0 ok.within ok.blocks) starts.nests s refl
@@ -207,7 +224,8 @@ module _ (a : Arena) (o : IsArena a) (fs : List UnitText) (formed : UnitsAreRigh
       let z : Text = blocks_added (call_added j a) a f.0 q (blocks_at a f.0) s in
       subst (λ x. CallReads fs g c d (line_text_of a u i) copies (copy_names (suc j) a f path) t x) (sym (call_added-next j a f r l t)) record {
         blocks = inside.blocks ∙ ap (λ xs. xs ++ copies) entered ∙ append_assoc (read g t.blocks) (B ∷ []) copies;
-        merge = merge-named u c d r q f.0 i k m (each-block (λ b. g.label_name (last_in q b).0 ≡ last_piece fs d (block_text (naming a f.0) (table_at a f.0) b)) (blocks_at a f.0) (blocks_at a f.0) (λ b w. m.agrees.lasts b w ∙ sym (last-named f.0 d b ok.within ok.blocks refl w)) (λ b w. w));
+        merge = merge-named u c d r q f.0 i k m (each-block (λ b. g.label_name (last_in q b).0 ≡ last_piece fs d (block_text (naming a f.0) (table_at a f.0) b)) (blocks_at a f.0) (blocks_at a f.0)
+            (λ b w. m.agrees.lasts b w ∙ sym (last-named f.0 d b ok.within ok.blocks refl w)) (λ b w. w));
         insts = ap (λ b. b.insts) inside.current;
         values = inside.values ∙ add_assoc t.values (value_count a f.0) (length inner)
             ∙ ap (λ x. t.values + (x + length inner)) (sym (length-map (table_at a f.0).values (λ x. path ++ x)))

@@ -7,7 +7,7 @@ use Rattle.lh_unit.specs.declared.name.UnitName.{UnitName}
 use Rattle.lh_unit.specs.declared.inst.UnitId.{UnitId}
 use Rattle.lh_unit.specs.Contents.{LineText, BlockText, UnitText}
 use Rattle.lh_unit.specs.Named.{label_or}
-use Rattle.lh_flat.specs.declared.calls.Node.{Node}
+use Rattle.lh_flat.specs.declared.calls.CallNode.{CallNode}
 use Rattle.lh_flat.specs.Calls.{callees_in, callees}
 use Rattle.lh_flat.specs.Copies.{Copy, call_path, opened}
 use Rattle.lh_flat.specs.Flat.{FlatBlockText, Pieces, merge_of, with_line, pieces_from, flat_block, flat_copy}
@@ -35,25 +35,29 @@ length-both (x ∷ xs) ys = ap suc (length-both xs ys) ∙ next (length xs) (len
     next : (m n : ℕ) → suc (m + n) ≡ suc m + n
     next m n = omega arith
 
-line-blocks : (blocks_of : UnitText → ℕ) (copy_of : Copy → List FlatBlockText) → ((d : Copy) → length (copy_of d) ≡ blocks_of d.unit) → (fs : List UnitText) (c : Copy) (l : LineText) (o : Option Copy) (p : Pieces) → length (with_line copy_of fs c l o p).more ≡ opened_length (λ u. 1 + blocks_of u) o + length p.more
+line-blocks : (blocks_of : UnitText → ℕ) (copy_of : Copy → List FlatBlockText) → ((d : Copy) → length (copy_of d) ≡ blocks_of d.unit)
+    → (fs : List UnitText) (c : Copy) (l : LineText) (o : Option Copy) (p : Pieces) → length (with_line copy_of fs c l o p).more ≡ opened_length (λ u. 1 + blocks_of u) o + length p.more
 line-blocks blocks_of copy_of h fs c l None p = zero_first (length p.more)
   where
     zero_first : (n : ℕ) → n ≡ 0 + n
     zero_first n = omega arith
 line-blocks blocks_of copy_of h fs c l (Some d) p =
-    length-both (copy_of d) (record { label = d.path; merge = merge_of fs c d l.inst l.result; lines = p.rest } ∷ p.more) ∙ ap (λ n. n + suc (length p.more)) (h d) ∙ moved (blocks_of d.unit) (length p.more)
+    length-both (copy_of d) (record { label = d.path; merge = merge_of fs c d l.inst l.result; lines = p.rest } ∷ p.more) ∙ ap (λ n. n + suc (length p.more)) (h d)
+    ∙ moved (blocks_of d.unit) (length p.more)
   where
     moved : (m n : ℕ) → m + suc n ≡ 1 + m + n
     moved m n = omega arith
 
-pieces-blocks : (blocks_of : UnitText → ℕ) (copy_of : Copy → List FlatBlockText) → ((d : Copy) → length (copy_of d) ≡ blocks_of d.unit) → (fs : List UnitText) (c : Copy) (label : List ℕ) (k : ℕ) (ls : List LineText) → length (pieces_from copy_of fs c label k ls).more ≡ more_blocks blocks_of fs ls
+pieces-blocks : (blocks_of : UnitText → ℕ) (copy_of : Copy → List FlatBlockText) → ((d : Copy) → length (copy_of d) ≡ blocks_of d.unit)
+    → (fs : List UnitText) (c : Copy) (label : List ℕ) (k : ℕ) (ls : List LineText) → length (pieces_from copy_of fs c label k ls).more ≡ more_blocks blocks_of fs ls
 pieces-blocks blocks_of copy_of h fs c label k [] = refl
 pieces-blocks blocks_of copy_of h fs c label k (l ∷ more) =
     line-blocks blocks_of copy_of h fs c l (opened fs c (call_path c label k) l.inst) (pieces_from copy_of fs c label (k + 1) more)
     ∙ ap (λ n. opened_length (λ u. 1 + blocks_of u) (opened fs c (call_path c label k) l.inst) + n) (pieces-blocks blocks_of copy_of h fs c label (k + 1) more)
     ∙ sym (callee-length (λ u. 1 + blocks_of u) fs c (call_path c label k) l.inst (callees_in more))
 
-units-blocks : (blocks_of : UnitText → ℕ) (copy_of : Copy → List FlatBlockText) → ((d : Copy) → length (copy_of d) ≡ blocks_of d.unit) → (fs : List UnitText) (c : Copy) (bs : List BlockText) → length (flat_map (flat_block copy_of fs c) bs) ≡ sum_by (λ (b : BlockText). 1 + more_blocks blocks_of fs b.lines) bs
+units-blocks : (blocks_of : UnitText → ℕ) (copy_of : Copy → List FlatBlockText) → ((d : Copy) → length (copy_of d) ≡ blocks_of d.unit) → (fs : List UnitText) (c : Copy) (bs : List BlockText)
+    → length (flat_map (flat_block copy_of fs c) bs) ≡ sum_by (λ (b : BlockText). 1 + more_blocks blocks_of fs b.lines) bs
 units-blocks blocks_of copy_of h fs c [] = refl
 units-blocks blocks_of copy_of h fs c (b ∷ bs) =
     length-both (flat_block copy_of fs c b) (flat_map (flat_block copy_of fs c) bs)
@@ -90,15 +94,17 @@ next_capped a b e h = omega arith
 regrouped : (a b c x e : ℕ) → min x e ≡ min (a + b) e → min (a + (b + c)) e ≡ min (x + c) e
 regrouped a b c x e h = omega arith
 
-module _ (fs : List UnitText) (name : ℕ → UnitName) (text : ℕ → UnitText) (top : ℕ) (g : List Node) (o : StandsFor fs name text top g) where
+module _ (fs : List UnitText) (name : ℕ → UnitName) (text : ℕ → UnitText) (top : ℕ) (g : List CallNode) (o : StandsFor fs name text top g) where
   pub blocks-named : (k u : ℕ) → u < length g → min (copy_blocks k fs (text u)) max_counted ≡ min (blocks_in k g u) max_counted
   blocks-named zero u l = refl
   blocks-named (suc k) u l =
       ap (λ n. min n max_counted) (sum-apart (λ (b : BlockText). 1) (called_length (λ v. 1 + copy_blocks k fs v) fs) (text u).blocks)
-      ∙ both_capped (sum_by (λ (b : BlockText). 1) (text u).blocks) (sum_by (called_length (λ v. 1 + copy_blocks k fs v) fs) (callees (text u))) (length (text u).blocks) (length (callees_at g u) + sum_by (λ (t : UnitId). blocks_in k g t.0) (callees_at g u)) max_counted
+      ∙ both_capped (sum_by (λ (b : BlockText). 1) (text u).blocks) (sum_by (called_length (λ v. 1 + copy_blocks k fs v) fs) (callees (text u))) (length (text u).blocks) (length (callees_at g u)
+      + sum_by (λ (t : UnitId). blocks_in k g t.0) (callees_at g u)) max_counted
       (ap (λ n. min n max_counted) (one_each (text u).blocks))
       (ap (λ ns. min (sum_by (called_length (λ v. 1 + copy_blocks k fs v) fs) ns) max_counted) (o.callees_are u l)
       ∙ capped-named max_counted name (called_length (λ v. 1 + copy_blocks k fs v) fs) (λ (t : UnitId). 1 + blocks_in k g t.0) (callees_at g u)
-      (λ t c. ap (λ f. min (option_map_or (λ v. 1 + copy_blocks k fs v) f 0) max_counted) c.named ∙ next_capped (copy_blocks k fs (text t.0)) (blocks_in k g t.0) max_counted (blocks-named k t.0 c.within)) (o.called u l)
+      (λ t c. ap (λ f. min (option_map_or (λ v. 1 + copy_blocks k fs v) f 0) max_counted) c.named
+      ∙ next_capped (copy_blocks k fs (text t.0)) (blocks_in k g t.0) max_counted (blocks-named k t.0 c.within)) (o.called u l)
       ∙ ap (λ n. min n max_counted) (ones (λ (t : UnitId). blocks_in k g t.0) (callees_at g u)))
       ∙ regrouped (length (text u).blocks) (length (callees_at g u)) (sum_by (λ (t : UnitId). blocks_in k g t.0) (callees_at g u)) (node_at g u).blocks max_counted (o.blocks_are u l)

@@ -16,7 +16,7 @@ use Rattle.lh_unit.specs.declared.inst.Inst.{Inst}
 use Rattle.lh_unit.specs.declared.inst.Inst.TheVariants as inst
 use Rattle.lh_unit.proofs.Lists.{Same, same, other, same_or, Each-append, Each-at}
 use Rattle.lh_unit.proofs.ModuleLaws.{block-within, block_insts-within}
-use Rattle.lh_flat.specs.declared.calls.Node.{Node}
+use Rattle.lh_flat.specs.declared.calls.CallNode.{CallNode}
 use Rattle.lh_flat.specs.Graph.{no_node, called_of, callee_of, with_inst, with_insts, with_block, with_blocks, node_of, node_at, callees_at, counted, BlockPlaced, IsGraph}
 use Rattle.lh_flat.specs.Searches.{NodesWithin}
 
@@ -31,14 +31,14 @@ pub each-at : (n i : ℕ) (d : InstId) (xs ys : List InstId) → i < length xs �
 each-at n i d xs ys l e h = Each-at (λ (x : InstId). x.0 < n) xs i d (subst (Each (λ (x : InstId). x.0 < n)) (sym e) h) l
 
 -- a graph of the first units
-pub record GraphTo (a : Arena) (n : ℕ) (g : List Node) : Type 0 where
+pub record GraphTo (a : Arena) (n : ℕ) (g : List CallNode) : Type 0 where
   pub long : length g ≡ n
   pub nodes : (u : ℕ) → u < n → node_at g u ≡ node_of a u
 
-pub GraphTo-none : (a : Arena) (g : List Node) → g ≡ [] → GraphTo a 0 g
+pub GraphTo-none : (a : Arena) (g : List CallNode) → g ≡ [] → GraphTo a 0 g
 GraphTo-none a g e = record { long = ap length e; nodes = λ u l. absurd (omega (arith, l)) }
 
-pub GraphTo-push : (a : Arena) (n : ℕ) (g h : List Node) (x : Node) → GraphTo a n g → h ≡ g ++ x ∷ [] → x ≡ node_of a n → GraphTo a (n + 1) h
+pub GraphTo-push : (a : Arena) (n : ℕ) (g h : List CallNode) (x : CallNode) → GraphTo a n g → h ≡ g ++ x ∷ [] → x ≡ node_of a n → GraphTo a (n + 1) h
 GraphTo-push a n g h x o e f = subst (GraphTo a (n + 1)) (sym e) record {
   long = omega (arith, o.long, length-append g (x ∷ []));
   nodes = λ u l. by u l (same_or u n);
@@ -48,7 +48,7 @@ GraphTo-push a n g h x o e f = subst (GraphTo a (n + 1)) (sym e) record {
     by u l (same q) = get_or_push g x no_node u (omega (arith, o.long, q)) ∙ f ∙ ap (node_of a) (sym q)
     by u l (other q) = get_or_append_left g (x ∷ []) no_node u (omega (arith, o.long, l, q)) ∙ o.nodes u (omega (arith, l, q))
 
-pub GraphTo-all : (a : Arena) (n : ℕ) (g : List Node) → n ≡ unit_count a → GraphTo a n g → IsGraph a g
+pub GraphTo-all : (a : Arena) (n : ℕ) (g : List CallNode) → n ≡ unit_count a → GraphTo a n g → IsGraph a g
 GraphTo-all a n g e o = record { long = o.long ∙ e; nodes = λ u l. o.nodes u (omega (arith, l, e)) }
 
 -- each instruction is placed
@@ -88,21 +88,22 @@ callee-in a u (inst.Wait to after signals) p = tt
 callee-in a u inst.Halt p = tt
 callee-in a u (inst.Ret x) p = tt
 
-with-inside : (n : ℕ) (x : Node) (c : Option UnitId) → CalleeIn n c → Inside n x.callees → Inside n (with_inst x c).callees
+with-inside : (n : ℕ) (x : CallNode) (c : Option UnitId) → CalleeIn n c → Inside n x.callees → Inside n (with_inst x c).callees
 with-inside n x None p h = h
 with-inside n x (Some f) p h = Each-append (λ (t : UnitId). t.0 < n) x.callees (f ∷ []) h (p, tt)
 
-insts-inside : (a : Arena) (u : ℕ) (n : Node) (is : List InstId) → IsArena a → Inside (unit_count a) n.callees → Inside (unit_count a) (with_insts a u n is).callees
+insts-inside : (a : Arena) (u : ℕ) (n : CallNode) (is : List InstId) → IsArena a → Inside (unit_count a) n.callees → Inside (unit_count a) (with_insts a u n is).callees
 insts-inside a u n [] o h = h
 insts-inside a u n (i ∷ is) o h =
     insts-inside a u (with_inst n (callee_of a (line_at (table_at a u) i.0).inst)) is o
     (with-inside (unit_count a) n (callee_of a (line_at (table_at a u) i.0).inst) (callee-in a u (line_at (table_at a u) i.0).inst (line-placed a u i.0 o)) h)
 
-blocks-inside : (a : Arena) (u : ℕ) (n : Node) (bs : List BlockId) → IsArena a → Inside (unit_count a) n.callees → Inside (unit_count a) (with_blocks a u n bs).callees
+blocks-inside : (a : Arena) (u : ℕ) (n : CallNode) (bs : List BlockId) → IsArena a → Inside (unit_count a) n.callees → Inside (unit_count a) (with_blocks a u n bs).callees
 blocks-inside a u n [] o h = h
-blocks-inside a u n (b ∷ bs) o h = blocks-inside a u (with_block a u n b) bs o (insts-inside a u (record { insts = n.insts; blocks = counted n.blocks 1; callees = n.callees }) (insts_at (table_at a u) b.0) o h)
+blocks-inside a u n (b ∷ bs) o h = blocks-inside a u (with_block a u n b) bs o
+    (insts-inside a u (record { insts = n.insts; blocks = counted n.blocks 1; callees = n.callees }) (insts_at (table_at a u) b.0) o h)
 
-pub graph-within : (a : Arena) (g : List Node) → IsArena a → IsGraph a g → NodesWithin g
+pub graph-within : (a : Arena) (g : List CallNode) → IsArena a → IsGraph a g → NodesWithin g
 graph-within a g o q u = elim (cases_lt u (length g)) [
   | inl l ↦
       let e : node_at g u ≡ node_of a u = q.nodes u (omega (arith, q.long, l)) in
@@ -114,9 +115,11 @@ drop_at : {A : Type 0} (xs : List A) (k : ℕ) (d : A) → k < length xs → dro
 drop_at xs k d l = rw (add-one, drop-cons xs k d) refl
 
 -- the rest of a block's instructions at one more
-pub insts-next : (a : Arena) (u : ℕ) (n m r : Node) (is : List InstId) (k : ℕ) (d : InstId) → k < length is → m ≡ with_inst n (callee_of a (line_at (table_at a u) (get_or is k d).0).inst) → with_insts a u n (drop k is) ≡ r → with_insts a u m (drop (k + 1) is) ≡ r
+pub insts-next : (a : Arena) (u : ℕ) (n m r : CallNode) (is : List InstId) (k : ℕ) (d : InstId) → k < length is → m ≡ with_inst n (callee_of a (line_at (table_at a u) (get_or is k d).0).inst)
+    → with_insts a u n (drop k is) ≡ r → with_insts a u m (drop (k + 1) is) ≡ r
 insts-next a u n m r is k d l e h = rw e (sym (ap (with_insts a u n) (drop_at is k d l)) ∙ h)
 
 -- the rest of a unit's blocks at one more
-pub blocks-next : (a : Arena) (u : ℕ) (n m r : Node) (bs : List BlockId) (k : ℕ) (d : BlockId) → k < length bs → m ≡ with_block a u n (get_or bs k d) → with_blocks a u n (drop k bs) ≡ r → with_blocks a u m (drop (k + 1) bs) ≡ r
+pub blocks-next : (a : Arena) (u : ℕ) (n m r : CallNode) (bs : List BlockId) (k : ℕ) (d : BlockId) → k < length bs → m ≡ with_block a u n (get_or bs k d) → with_blocks a u n (drop k bs) ≡ r
+    → with_blocks a u m (drop (k + 1) bs) ≡ r
 blocks-next a u n m r bs k d l e h = rw e (sym (ap (with_blocks a u n) (drop_at bs k d l)) ∙ h)

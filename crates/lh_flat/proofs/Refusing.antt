@@ -25,7 +25,7 @@ use Rattle.lh_unit.proofs.Lists.{nat_eq-is, nat_eq-refl}
 use Rattle.lh_formed.specs.Graphs.{IsIn}
 use Rattle.lh_flat.specs.declared.fault.FlatFault.{FlatFault}
 use Rattle.lh_flat.specs.declared.fault.FlatFault.TheVariants as fault
-use Rattle.lh_flat.specs.declared.calls.Node.{Node}
+use Rattle.lh_flat.specs.declared.calls.CallNode.{CallNode}
 use Rattle.lh_flat.specs.declared.measure.Measure.{Measure}
 use Rattle.lh_flat.specs.Calls.{callees, recursion_from, nest_deeper}
 use Rattle.lh_flat.specs.Copies.{top_copy}
@@ -47,15 +47,18 @@ use Rattle.lh_flat.proofs.Reading.{graph-within}
 abbrev UnitsWithin : ℕ → List Item → Type 0
 UnitsWithin n items = (i : ℕ) (w : UnitId) → slice_get items i ≡ Some (item.Unit w) → w.0 < n
 
-function-among : (a : Arena) (u : UnitId) (items : List Item) (i : ℕ) → IsArena a → u.0 < unit_count a → kind_at a u.0 ≡ Some kind.Func → UnitsWithin (unit_count a) items → slice_get items i ≡ Some (item.Unit u)
+function-among : (a : Arena) (u : UnitId) (items : List Item) (i : ℕ) → IsArena a → u.0 < unit_count a → kind_at a u.0 ≡ Some kind.Func → UnitsWithin (unit_count a) items
+    → slice_get items i ≡ Some (item.Unit u)
     → function_named (unit_name_at a u.0) (functions (map (item_text_at a) items)) ≡ Some (unit_text_at a u.0)
 function-among a u [] i o l k w e = absurd (none-some (item.Unit u) e)
 function-among a u (item.Declare d ∷ items) zero o l k w e = cc
 function-among a u (item.Declare d ∷ items) (suc i) o l k w e = function-among a u items i o l k (λ j v q. w (suc j) v q) e
 function-among a u (item.Unit x ∷ items) zero o l k w e =
     let q : x.0 ≡ u.0 = ap (λ (y : Item). unit_of y) (same_Some (item.Unit x) (item.Unit u) e) in
-    ap (λ b. function_named (unit_name_at a u.0) (if b then unit_text_at a x.0 ∷ functions (map (item_text_at a) items) else functions (map (item_text_at a) items))) (ap (λ n. is_function (kind_text (kind_at a n))) q ∙ ap (λ z. is_function (kind_text z)) k)
-    ∙ ap (λ b. if b then Some (unit_text_at a x.0) else function_named (unit_name_at a u.0) (functions (map (item_text_at a) items))) (same_unit-by_id a x.0 u.0 o (w 0 x refl) l ∙ ap (λ n. nat_eq n u.0) q ∙ nat_eq-refl u.0)
+    ap (λ b. function_named (unit_name_at a u.0) (if b then unit_text_at a x.0 ∷ functions (map (item_text_at a) items) else functions (map (item_text_at a) items)))
+    (ap (λ n. is_function (kind_text (kind_at a n))) q ∙ ap (λ z. is_function (kind_text z)) k)
+    ∙ ap (λ b. if b then Some (unit_text_at a x.0) else function_named (unit_name_at a u.0) (functions (map (item_text_at a) items))) (same_unit-by_id a x.0 u.0 o (w 0 x refl) l
+    ∙ ap (λ n. nat_eq n u.0) q ∙ nat_eq-refl u.0)
     ∙ ap (λ n. Some (unit_text_at a n)) q
   where
     unit_of : Item → ℕ
@@ -63,12 +66,16 @@ function-among a u (item.Unit x ∷ items) zero o l k w e =
     unit_of (item.Declare d) = 0
 function-among a u (item.Unit x ∷ items) (suc i) o l k w e = by (is_function (kind_text (kind_at a x.0))) (function-among a u items i o l k (λ j v q. w (suc j) v q) e)
   where
-    by : (b : Bool) → function_named (unit_name_at a u.0) (functions (map (item_text_at a) items)) ≡ Some (unit_text_at a u.0) → function_named (unit_name_at a u.0) (if b then unit_text_at a x.0 ∷ functions (map (item_text_at a) items) else functions (map (item_text_at a) items)) ≡ Some (unit_text_at a u.0)
+    by : (b : Bool) → function_named (unit_name_at a u.0) (functions (map (item_text_at a) items)) ≡ Some (unit_text_at a u.0)
+        → function_named (unit_name_at a u.0) (if b then unit_text_at a x.0 ∷ functions (map (item_text_at a) items) else functions (map (item_text_at a) items)) ≡ Some (unit_text_at a u.0)
     by false go = go
     by true go = at (nat_eq x.0 u.0) (same_unit-by_id a x.0 u.0 o (w 0 x refl) l) refl
       where
-        at : (c : Bool) → same_unit_name (unit_name_at a x.0) (unit_name_at a u.0) ≡ c → nat_eq x.0 u.0 ≡ c → (if same_unit_name (unit_name_at a x.0) (unit_name_at a u.0) then Some (unit_text_at a x.0) else function_named (unit_name_at a u.0) (functions (map (item_text_at a) items))) ≡ Some (unit_text_at a u.0)
-        at true s q = ap (λ c. if c then Some (unit_text_at a x.0) else function_named (unit_name_at a u.0) (functions (map (item_text_at a) items))) s ∙ ap (λ n. Some (unit_text_at a n)) (nat_eq-is x.0 u.0 q)
+        at : (c : Bool) → same_unit_name (unit_name_at a x.0) (unit_name_at a u.0) ≡ c → nat_eq x.0 u.0 ≡ c
+            → (if same_unit_name (unit_name_at a x.0) (unit_name_at a u.0) then Some (unit_text_at a x.0) else function_named (unit_name_at a u.0) (functions (map (item_text_at a) items)))
+            ≡ Some (unit_text_at a u.0)
+        at true s q = ap (λ c. if c then Some (unit_text_at a x.0) else function_named (unit_name_at a u.0) (functions (map (item_text_at a) items))) s
+            ∙ ap (λ n. Some (unit_text_at a n)) (nat_eq-is x.0 u.0 q)
         at false s q = ap (λ c. if c then Some (unit_text_at a x.0) else function_named (unit_name_at a u.0) (functions (map (item_text_at a) items))) s ∙ go
 
 -- a function has its text under its name
@@ -86,7 +93,8 @@ length-functions a [] = refl
 length-functions a (item.Declare d ∷ items) = length-functions a items
 length-functions a (item.Unit u ∷ items) = by (is_function (kind_text (kind_at a u.0))) (length-functions a items)
   where
-    by : (b : Bool) → length (function_ids a items) ≡ length (functions (map (item_text_at a) items)) → length (if b then u.0 ∷ function_ids a items else function_ids a items) ≡ length (if b then unit_text_at a u.0 ∷ functions (map (item_text_at a) items) else functions (map (item_text_at a) items))
+    by : (b : Bool) → length (function_ids a items) ≡ length (functions (map (item_text_at a) items)) → length (if b then u.0 ∷ function_ids a items else function_ids a items)
+        ≡ length (if b then unit_text_at a u.0 ∷ functions (map (item_text_at a) items) else functions (map (item_text_at a) items))
     by true e = ap suc e
     by false e = e
 
@@ -135,7 +143,7 @@ busy-unit a u i t o l e = by (kind_at a u) refl
     by None q = absurd (nothing_there i t (ap (λ (bs : List BlockId). slice_get (with_blocks a u no_node bs).callees i) (sym (missing-none a u o l q)) ∙ e))
     by (Some k) q = let r = o.items_defined record { 0 = u } l (subst (λ (x : Option UnitKind). IsSome x) (sym q) refl) in in-units a.items r.0 record { 0 = u } r.1
 
-module _ (a : Arena) (g : List Node) (top : ℕ) (o : IsArena a) (f : IsFaultless (contents a)) (q : IsGraph a g) (l : top < unit_count a) (p : kind_at a top ≡ Some kind.Proc) where
+module _ (a : Arena) (g : List CallNode) (top : ℕ) (o : IsArena a) (f : IsFaultless (contents a)) (q : IsGraph a g) (l : top < unit_count a) (p : kind_at a top ≡ Some kind.Proc) where
   abbrev fs : List UnitText
   fs = functions (contents a)
 
@@ -160,15 +168,16 @@ module _ (a : Arena) (g : List Node) (top : ℕ) (o : IsArena a) (f : IsFaultles
   called (t ∷ ts) w k = (record { within = w.0; not_top = no_process t k.0; named = callee-text a t o (within t.0 w.0) k.0 }, called ts w.1 k.1)
 
   functions-at : (u : ℕ) → u < length g → Each (IsFunction a) (callees_at g u)
-  functions-at u h = subst (λ (n : Node). Each (IsFunction a) n.callees) (sym (q.nodes u (within u h))) (callees-functions a u o f (within u h))
+  functions-at u h = subst (λ (n : CallNode). Each (IsFunction a) n.callees) (sym (q.nodes u (within u h))) (callees-functions a u o f (within u h))
 
   pub stands : StandsFor fs (unit_name_at a) (unit_text_at a) top g
   stands = record {
     same = λ v w h k. same_unit-by_id a v w o (within v h) (within w k);
     called = λ u h. called (callees_at g u) (graph-within a g o q u) (functions-at u h);
-    callees_are = λ u h. callees-names a u ∙ ap (λ (n : Node). map (λ (t : UnitId). unit_name_at a t.0) n.callees) (sym (q.nodes u (within u h)));
-    insts_are = λ u h. ap (λ (n : Node). min n.insts max_counted) (q.nodes u (within u h)) ∙ insts-counted a u;
-    blocks_are = λ u h. ap (λ (n : Node). min n.blocks max_counted) (q.nodes u (within u h)) ∙ pieces-counted a u ∙ ap (λ (n : Node). min (length (unit_text_at a u).blocks + length n.callees) max_counted) (sym (q.nodes u (within u h)));
+    callees_are = λ u h. callees-names a u ∙ ap (λ (n : CallNode). map (λ (t : UnitId). unit_name_at a t.0) n.callees) (sym (q.nodes u (within u h)));
+    insts_are = λ u h. ap (λ (n : CallNode). min n.insts max_counted) (q.nodes u (within u h)) ∙ insts-counted a u;
+    blocks_are = λ u h. ap (λ (n : CallNode). min n.blocks max_counted) (q.nodes u (within u h)) ∙ pieces-counted a u
+        ∙ ap (λ (n : CallNode). min (length (unit_text_at a u).blocks + length n.callees) max_counted) (sym (q.nodes u (within u h)));
   }
 
   -- ---- recursion
@@ -187,7 +196,7 @@ module _ (a : Arena) (g : List Node) (top : ℕ) (o : IsArena a) (f : IsFaultles
   may-all : (u : ℕ) → Each (λ (t : UnitId). IsIn may t.0) (callees_at g u)
   may-all u = elim (cases_lt u (length g)) [
     | inl h ↦ may-callees (callees_at g u) (graph-within a g o q u) (functions-at u h)
-    | inr h ↦ let e : node_at g u ≡ no_node = get_or_past g u no_node h in subst (λ (n : Node). Each (λ (t : UnitId). IsIn may t.0) n.callees) (sym e) tt
+    | inr h ↦ let e : node_at g u ≡ no_node = get_or_past g u no_node h in subst (λ (n : CallNode). Each (λ (t : UnitId). IsIn may t.0) n.callees) (sym e) tt
   ]
 
   -- those, and all units that call a function
@@ -196,10 +205,10 @@ module _ (a : Arena) (g : List Node) (top : ℕ) (o : IsArena a) (f : IsFaultles
 
   has-busy : HasBusy g busy
   has-busy u i t e = elim (cases_lt u (unit_count a)) [
-    | inl h ↦ in-right may (item_units a.items) u (busy-unit a u i t o h (ap (λ (n : Node). slice_get n.callees i) (sym (q.nodes u h)) ∙ e))
+    | inl h ↦ in-right may (item_units a.items) u (busy-unit a u i t o h (ap (λ (n : CallNode). slice_get n.callees i) (sym (q.nodes u h)) ∙ e))
     | inr h ↦
         let z : node_at g u ≡ no_node = get_or_past g u no_node (subst (λ n. n ≤ u) (sym q.long) h) in
-        absurd (nothing_there i t (ap (λ (n : Node). slice_get n.callees i) (sym z) ∙ e))
+        absurd (nothing_there i t (ap (λ (n : CallNode). slice_get n.callees i) (sym z) ∙ e))
   ]
 
   may_length : length may ≡ suc (length fs)
@@ -218,7 +227,8 @@ module _ (a : Arena) (g : List Node) (top : ℕ) (o : IsArena a) (f : IsFaultles
 
   -- as many steps as there are functions, and one more, are enough
   steps-enough : cycle_in (length busy) g [] top ≡ cycle_in (suc (length fs)) g [] top
-  steps-enough = cycle-stays fs (unit_name_at a) (unit_text_at a) top g stands may may-all (length busy) (suc (length fs)) [] top ((λ h. h), tt) alone (longer may (item_units a.items)) (just (length may) (suc (length fs)) may_length)
+  steps-enough = cycle-stays fs (unit_name_at a) (unit_text_at a) top g stands may may-all (length busy) (suc (length fs)) [] top ((λ h. h), tt) alone (longer may (item_units a.items))
+      (just (length may) (suc (length fs)) may_length)
 
   recursion : recursion_from (suc (length fs)) fs [] (callees text) ≡ option_map (unit_name_at a) (cycle_in (suc (length fs)) g [] top)
   recursion = recursion-named fs (unit_name_at a) (unit_text_at a) top g stands (suc (length fs)) [] [] top refl tt top-within
@@ -266,10 +276,12 @@ module _ (a : Arena) (g : List Node) (top : ℕ) (o : IsArena a) (f : IsFaultles
 
     module _ (d : nat_lt 65 m.depth ≡ false) where
       insts-at : (k : ℕ) → k ≡ 65 → min (copy_length k fs text) max_counted ≡ m.insts
-      insts-at k e = length-named fs (unit_name_at a) (unit_text_at a) top g stands k top top-within ∙ w.1.insts k (small k max_counted e refl) (subst (λ n. m.depth ≤ n) (sym e) (le_from 65 m.depth d))
+      insts-at k e = length-named fs (unit_name_at a) (unit_text_at a) top g stands k top top-within
+          ∙ w.1.insts k (small k max_counted e refl) (subst (λ n. m.depth ≤ n) (sym e) (le_from 65 m.depth d))
 
       blocks-at : (k : ℕ) → k ≡ 65 → min (copy_blocks k fs text) max_counted ≡ m.blocks
-      blocks-at k e = blocks-named fs (unit_name_at a) (unit_text_at a) top g stands k top top-within ∙ w.1.blocks k (small k max_counted e refl) (subst (λ n. m.depth ≤ n) (sym e) (le_from 65 m.depth d))
+      blocks-at k e = blocks-named fs (unit_name_at a) (unit_text_at a) top g stands k top top-within
+          ∙ w.1.blocks k (small k max_counted e refl) (subst (λ n. m.depth ≤ n) (sym e) (le_from 65 m.depth d))
 
       pub insts-measured : min (inst_count (text_of fs text).blocks) max_counted ≡ m.insts
       insts-measured = ap (λ n. min n max_counted) (lengths_add 65 fs (top_copy text)) ∙ insts-at 65 refl

@@ -8,32 +8,32 @@ use Rattle.lh_unit.specs.declared.inst.UnitId.{UnitId}
 use Rattle.lh_unit.proofs.Lists.{Each-append, Same, same, other, same_or}
 use Rattle.lh_unit.proofs.Within.{Each-more}
 use Rattle.lh_formed.specs.Graphs.{met_or, is_open, IsIn}
-use Rattle.lh_flat.specs.declared.calls.Node.{Node}
+use Rattle.lh_flat.specs.declared.calls.CallNode.{CallNode}
 use Rattle.lh_flat.specs.declared.measure.Measure.{Measure}
 use Rattle.lh_flat.specs.declared.search.Mark.{Mark}
 use Rattle.lh_flat.specs.declared.search.Mark.TheVariants as mark
-use Rattle.lh_flat.specs.declared.search.Frame.{Frame}
+use Rattle.lh_flat.specs.declared.search.OpenUnit.{OpenUnit}
 use Rattle.lh_flat.specs.declared.search.Search.{Search}
 use Rattle.lh_flat.specs.Graph.{node_at, callees_at}
 use Rattle.lh_flat.specs.Measures.{around, IsMeasure, cycle_in}
-use Rattle.lh_flat.specs.Searches.{mark_at, entered, passed, IsDone, IsQuiet, Known, units, Covered, HasBusy}
+use Rattle.lh_flat.specs.Searches.{mark_at, entered, passed, IsDone, IsQuiet, LeftUnitsAreKnown, units, Covered, HasBusy}
 use Rattle.lh_formed.proofs.Graphs.{Distinct, not_open, is_open-in, first-none, first-at, no_longer}
 use Rattle.lh_flat.proofs.Measuring.{IsSum, IsSum-none, IsSum-beside, IsMeasure-around}
 
 -- an open unit: the search has left its callees before the next one, and has their measure
-pub record Leaves (g : List Node) (marks : List Mark) (f : Frame) : Type 0 where
+pub record Leaves (g : List CallNode) (marks : List Mark) (f : OpenUnit) : Type 0 where
   pub room : f.next ≤ length (callees_at g f.unit.0)
   pub left : Each (λ (t : UnitId). IsDone marks t.0) (take f.next (callees_at g f.unit.0))
   pub inside : IsSum g (take f.next (callees_at g f.unit.0)) f.inside
 
 -- the unit n is the next callee of the unit that was open before it, and so on to the top
-abbrev pub Waits : List Node → List Mark → (top : ℕ) → UnitId → List Frame → Type 0
+abbrev pub Waits : List CallNode → List Mark → (top : ℕ) → UnitId → List OpenUnit → Type 0
 Waits g marks top n [] = n.0 ≡ top
 Waits g marks top n (p ∷ rest) = Leaves g marks p × (slice_get (callees_at g p.unit.0) p.next ≡ Some n) × Waits g marks top p.unit rest
 
 -- the search is below the unit of f
-pub record Below (g : List Node) (top : ℕ) (marks : List Mark) (f : Frame) (rest : List Frame) : Type 0 where
-  pub known : Known g marks
+pub record Below (g : List CallNode) (top : ℕ) (marks : List Mark) (f : OpenUnit) (rest : List OpenUnit) : Type 0 where
+  pub known : LeftUnitsAreKnown g marks
   pub opened : (u : ℕ) → mark_at marks u ≡ mark.Opened → IsIn (units (f ∷ rest)) u
   pub marked : (u : ℕ) → IsIn (units (f ∷ rest)) u → mark_at marks u ≡ mark.Opened
   pub distinct : Distinct (units (f ∷ rest))
@@ -41,17 +41,17 @@ pub record Below (g : List Node) (top : ℕ) (marks : List Mark) (f : Frame) (re
   pub waits : Waits g marks top f.unit rest
 
 -- the search has left the top
-pub record Over (g : List Node) (top : ℕ) (marks : List Mark) : Type 0 where
-  pub known : Known g marks
+pub record Over (g : List CallNode) (top : ℕ) (marks : List Mark) : Type 0 where
+  pub known : LeftUnitsAreKnown g marks
   pub top_done : IsDone marks top
   pub none_open : (u : ℕ) → mark_at marks u ≡ mark.Opened → ⊥
 
 -- by the open units, the innermost first
-abbrev pub SearchingBy : List Node → (top : ℕ) → List Mark → List Frame → Type 0
+abbrev pub SearchingBy : List CallNode → (top : ℕ) → List Mark → List OpenUnit → Type 0
 SearchingBy g top marks [] = Over g top marks
 SearchingBy g top marks (f ∷ rest) = Below g top marks f rest
 
-abbrev pub Searching : List Node → (top : ℕ) → Search → Type 0
+abbrev pub Searching : List CallNode → (top : ℕ) → Search → Type 0
 Searching g top s = SearchingBy g top s.marks.items (reverse s.stack.items)
 
 -- what was left stays left
@@ -61,13 +61,18 @@ Keeps old new = (u : ℕ) (m : Measure) → mark_at old u ≡ mark.Done m → ma
 IsDone-keeps : (old new : List Mark) → Keeps old new → (u : ℕ) → IsDone old u → IsDone new u
 IsDone-keeps old new k u d = (d.0, k u d.0 d.1)
 
-IsQuiet-keeps : (g : List Node) (old new : List Mark) (u : ℕ) → Keeps old new → IsQuiet g old u → IsQuiet g new u
+IsQuiet-keeps : (g : List CallNode) (old new : List Mark) (u : ℕ) → Keeps old new → IsQuiet g old u → IsQuiet g new u
 IsQuiet-keeps g old new u k q = λ n opened h. q n opened (λ v i d. h v i (IsDone-keeps old new k v d))
 
-Leaves-keeps : (g : List Node) (old new : List Mark) (f : Frame) → Keeps old new → Leaves g old f → Leaves g new f
-Leaves-keeps g old new f k l = record { room = l.room; left = Each-more (λ (t : UnitId). IsDone old t.0) (λ (t : UnitId). IsDone new t.0) (take f.next (callees_at g f.unit.0)) (λ t d. IsDone-keeps old new k t.0 d) l.left; inside = l.inside }
+Leaves-keeps : (g : List CallNode) (old new : List Mark) (f : OpenUnit) → Keeps old new → Leaves g old f → Leaves g new f
+Leaves-keeps g old new f k l = record {
+  room = l.room;
+  left = Each-more (λ (t : UnitId). IsDone old t.0) (λ (t : UnitId). IsDone new t.0) (take f.next (callees_at g f.unit.0))
+      (λ t d. IsDone-keeps old new k t.0 d) l.left;
+  inside = l.inside;
+}
 
-Waits-keeps : (g : List Node) (old new : List Mark) (top : ℕ) (n : UnitId) (rest : List Frame) → Keeps old new → Waits g old top n rest → Waits g new top n rest
+Waits-keeps : (g : List CallNode) (old new : List Mark) (top : ℕ) (n : UnitId) (rest : List OpenUnit) → Keeps old new → Waits g old top n rest → Waits g new top n rest
 Waits-keeps g old new top n [] k w = w
 Waits-keeps g old new top n (p ∷ rest) k w = (Leaves-keeps g old new p k w.0, w.1, Waits-keeps g old new top p.unit rest k w.2)
 
@@ -99,8 +104,8 @@ Keeps-set marks u x h v m e = by (same_or v u)
     by (other q) = mark-other marks u v x q ∙ e
 
 -- to go into a callee
-Known-enter : (g : List Node) (marks : List Mark) (t : ℕ) → Known g marks → mark_at marks t ≡ mark.New → t < length marks → Known g (set marks t mark.Opened)
-Known-enter g marks t o n l = record {
+LeftUnitsAreKnown-enter : (g : List CallNode) (marks : List Mark) (t : ℕ) → LeftUnitsAreKnown g marks → mark_at marks t ≡ mark.New → t < length marks → LeftUnitsAreKnown g (set marks t mark.Opened)
+LeftUnitsAreKnown-enter g marks t o n l = record {
   long = length-set marks t mark.Opened ∙ o.long;
   measure = λ u m e. o.measure u m (back u m e (same_or u t));
   quiet = λ u d. IsQuiet-keeps g marks (set marks t mark.Opened) u (Keeps-set marks t mark.Opened (λ m e. done_new (mark_at marks t) m n e)) (o.quiet u (d.0, back u d.0 d.1 (same_or u t)));
@@ -110,12 +115,13 @@ Known-enter g marks t o n l = record {
     back u m e (same q) = absurd (done_opened (mark_at (set marks t mark.Opened) u) m (ap (mark_at (set marks t mark.Opened)) q ∙ mark-same marks t mark.Opened l) e)
     back u m e (other q) = sym (mark-other marks t u mark.Opened q) ∙ e
 
-fresh : (g : List Node) (marks : List Mark) (t : UnitId) → Leaves g marks (entered t)
+fresh : (g : List CallNode) (marks : List Mark) (t : UnitId) → Leaves g marks (entered t)
 fresh g marks t = record { room = omega arith; left = tt; inside = IsSum-none g }
 
-pub Below-enter : (g : List Node) (top : ℕ) (marks : List Mark) (f : Frame) (rest : List Frame) (t : UnitId) → Below g top marks f rest → slice_get (callees_at g f.unit.0) f.next ≡ Some t → mark_at marks t.0 ≡ mark.New → t.0 < length marks → Below g top (set marks t.0 mark.Opened) (entered t) (f ∷ rest)
+pub Below-enter : (g : List CallNode) (top : ℕ) (marks : List Mark) (f : OpenUnit) (rest : List OpenUnit) (t : UnitId) → Below g top marks f rest → slice_get (callees_at g f.unit.0) f.next ≡ Some t
+    → mark_at marks t.0 ≡ mark.New → t.0 < length marks → Below g top (set marks t.0 mark.Opened) (entered t) (f ∷ rest)
 Below-enter g top marks f rest t o e n l = record {
-  known = Known-enter g marks t.0 o.known n l;
+  known = LeftUnitsAreKnown-enter g marks t.0 o.known n l;
   opened = λ u q. opens u q (same_or u t.0);
   marked = λ u i. marks_of u i;
   distinct = (λ i. new_opened (mark_at marks t.0) n (o.marked t.0 i), o.distinct);
@@ -151,7 +157,8 @@ within (y ∷ ys) (suc k) x e = up k (length ys) (within ys k x e)
     up : (k n : ℕ) → k + 1 ≤ n → suc k + 1 ≤ suc n
     up k n h = omega arith
 
-pub Below-pass : (g : List Node) (top : ℕ) (marks : List Mark) (f : Frame) (rest : List Frame) (t : UnitId) (m : Measure) → Below g top marks f rest → slice_get (callees_at g f.unit.0) f.next ≡ Some t → mark_at marks t.0 ≡ mark.Done m → Below g top marks (passed f m) rest
+pub Below-pass : (g : List CallNode) (top : ℕ) (marks : List Mark) (f : OpenUnit) (rest : List OpenUnit) (t : UnitId) (m : Measure) → Below g top marks f rest
+    → slice_get (callees_at g f.unit.0) f.next ≡ Some t → mark_at marks t.0 ≡ mark.Done m → Below g top marks (passed f m) rest
 Below-pass g top marks f rest t m o e d = record {
   known = o.known;
   opened = o.opened;
@@ -159,8 +166,10 @@ Below-pass g top marks f rest t m o e d = record {
   distinct = o.distinct;
   here = record {
     room = within (callees_at g f.unit.0) f.next t e;
-    left = subst (Each (λ (x : UnitId). IsDone marks x.0)) (sym (take_next (callees_at g f.unit.0) f.next t e)) (Each-append (λ (x : UnitId). IsDone marks x.0) (take f.next (callees_at g f.unit.0)) (t ∷ []) o.here.left ((m, d), tt));
-    inside = subst (λ l. IsSum g l (passed f m).inside) (sym (take_next (callees_at g f.unit.0) f.next t e)) (IsSum-beside g (take f.next (callees_at g f.unit.0)) t f.inside m o.here.inside (o.known.measure t.0 m d));
+    left = subst (Each (λ (x : UnitId). IsDone marks x.0)) (sym (take_next (callees_at g f.unit.0) f.next t e))
+        (Each-append (λ (x : UnitId). IsDone marks x.0) (take f.next (callees_at g f.unit.0)) (t ∷ []) o.here.left ((m, d), tt));
+    inside = subst (λ l. IsSum g l (passed f m).inside) (sym (take_next (callees_at g f.unit.0) f.next t e))
+        (IsSum-beside g (take f.next (callees_at g f.unit.0)) t f.inside m o.here.inside (o.known.measure t.0 m d));
   };
   waits = o.waits;
 }
@@ -176,21 +185,25 @@ taken_all (y ∷ ys) zero e = cc
 taken_all (y ∷ ys) (suc k) e = ap (λ l. y ∷ l) (taken_all ys k e)
 
 -- no unit that was left is open, so neither is a callee that was left
-target-quiet : (g : List Node) (marks : List Mark) (k : ℕ) (opened : List ℕ) (t : UnitId) → Known g marks → ((v : ℕ) → IsIn opened v → IsDone marks v → ⊥) → IsDone marks t.0 → met_or (cycle_in k g opened) (is_open opened t.0) t.0 ≡ None
+target-quiet : (g : List CallNode) (marks : List Mark) (k : ℕ) (opened : List ℕ) (t : UnitId) → LeftUnitsAreKnown g marks → ((v : ℕ) → IsIn opened v → IsDone marks v → ⊥) → IsDone marks t.0
+    → met_or (cycle_in k g opened) (is_open opened t.0) t.0 ≡ None
 target-quiet g marks k opened t o h d = ap (λ b. met_or (cycle_in k g opened) b t.0) (not_open opened t.0 (λ i. h t.0 i d)) ∙ o.quiet t.0 d k opened h
 
-quiet-all : (g : List Node) (marks new : List Mark) (u : ℕ) → Known g marks → mark_at marks u ≡ mark.Opened → Keeps marks new → Each (λ (t : UnitId). IsDone marks t.0) (callees_at g u) → IsQuiet g new u
+quiet-all : (g : List CallNode) (marks new : List Mark) (u : ℕ) → LeftUnitsAreKnown g marks → mark_at marks u ≡ mark.Opened → Keeps marks new → Each (λ (t : UnitId). IsDone marks t.0) (callees_at g u)
+    → IsQuiet g new u
 quiet-all g marks new u o n keeps l zero opened h = refl
 quiet-all g marks new u o n keeps l (suc k) opened h =
     first-none (λ (t : UnitId). met_or (cycle_in k g (u ∷ opened)) (is_open (u ∷ opened) t.0) t.0) (callees_at g u)
-    (Each-more (λ (t : UnitId). IsDone marks t.0) (λ (t : UnitId). met_or (cycle_in k g (u ∷ opened)) (is_open (u ∷ opened) t.0) t.0 ≡ None) (callees_at g u) (λ t d. target-quiet g marks k (u ∷ opened) t o avoids d) l)
+    (Each-more (λ (t : UnitId). IsDone marks t.0) (λ (t : UnitId). met_or (cycle_in k g (u ∷ opened)) (is_open (u ∷ opened) t.0) t.0 ≡ None) (callees_at g u)
+    (λ t d. target-quiet g marks k (u ∷ opened) t o avoids d) l)
   where
     avoids : (v : ℕ) → IsIn (u ∷ opened) v → IsDone marks v → ⊥
     avoids v (inl e) d = done_opened (mark_at marks v) d.0 (ap (mark_at marks) (sym e) ∙ n) d.1
     avoids v (inr i) d = h v i (IsDone-keeps marks new keeps v d)
 
-Known-finish : (g : List Node) (marks : List Mark) (u : ℕ) (m : Measure) → Known g marks → mark_at marks u ≡ mark.Opened → u < length marks → Each (λ (t : UnitId). IsDone marks t.0) (callees_at g u) → IsMeasure g u m → Known g (set marks u (mark.Done m))
-Known-finish g marks u m o n l done is = record {
+LeftUnitsAreKnown-finish : (g : List CallNode) (marks : List Mark) (u : ℕ) (m : Measure) → LeftUnitsAreKnown g marks → mark_at marks u ≡ mark.Opened → u < length marks
+    → Each (λ (t : UnitId). IsDone marks t.0) (callees_at g u) → IsMeasure g u m → LeftUnitsAreKnown g (set marks u (mark.Done m))
+LeftUnitsAreKnown-finish g marks u m o n l done is = record {
   long = length-set marks u (mark.Done m) ∙ o.long;
   measure = λ v x e. measures v x e (same_or v u);
   quiet = λ v d. quiets v d (same_or v u);
@@ -200,7 +213,8 @@ Known-finish g marks u m o n l done is = record {
     keeps = Keeps-set marks u (mark.Done m) (λ x e. done_opened (mark_at marks u) x n e)
 
     measures : (v : ℕ) (x : Measure) → mark_at (set marks u (mark.Done m)) v ≡ mark.Done x → Same v u → IsMeasure g v x
-    measures v x e (same q) = let p : m ≡ x = same_done m x (sym (mark-same marks u (mark.Done m) l) ∙ ap (mark_at (set marks u (mark.Done m))) (sym q) ∙ e) in subst (λ y. IsMeasure g y x) (sym q) (subst (IsMeasure g u) p is)
+    measures v x e (same q) = let p : m ≡ x = same_done m x (sym (mark-same marks u (mark.Done m) l) ∙ ap (mark_at (set marks u (mark.Done m))) (sym q) ∙ e) in
+        subst (λ y. IsMeasure g y x) (sym q) (subst (IsMeasure g u) p is)
     measures v x e (other q) = o.measure v x (sym (mark-other marks u v (mark.Done m) q) ∙ e)
 
     quiets : (v : ℕ) → IsDone (set marks u (mark.Done m)) v → Same v u → IsQuiet g (set marks u (mark.Done m)) v
@@ -210,32 +224,40 @@ Known-finish g marks u m o n l done is = record {
 pub mark-within : (marks : List Mark) (u : ℕ) → mark_at marks u ≡ mark.Opened → u < length marks
 mark-within marks u e = elim (cases_lt u (length marks)) [ inl l ↦ l | inr l ↦ absurd (new_opened (mark_at marks u) (get_or_past marks u mark.New l) e) ]
 
-pub Below-finish : (g : List Node) (top : ℕ) (marks : List Mark) (f : Frame) (rest : List Frame) → Below g top marks f rest → slice_get (callees_at g f.unit.0) f.next ≡ None → SearchingBy g top (set marks f.unit.0 (mark.Done (around f.inside (node_at g f.unit.0)))) rest
+pub Below-finish : (g : List CallNode) (top : ℕ) (marks : List Mark) (f : OpenUnit) (rest : List OpenUnit) → Below g top marks f rest → slice_get (callees_at g f.unit.0) f.next ≡ None
+    → SearchingBy g top (set marks f.unit.0 (mark.Done (around f.inside (node_at g f.unit.0)))) rest
 Below-finish g top marks f rest o e = by rest o
   where
-    opened : (rest : List Frame) → Below g top marks f rest → mark_at marks f.unit.0 ≡ mark.Opened
+    opened : (rest : List OpenUnit) → Below g top marks f rest → mark_at marks f.unit.0 ≡ mark.Opened
     opened rest o = o.marked f.unit.0 (inl refl)
 
     all : take f.next (callees_at g f.unit.0) ≡ callees_at g f.unit.0
     all = taken_all (callees_at g f.unit.0) f.next e
 
-    known : (rest : List Frame) → Below g top marks f rest → Known g (set marks f.unit.0 (mark.Done (around f.inside (node_at g f.unit.0))))
-    known rest o = Known-finish g marks f.unit.0 (around f.inside (node_at g f.unit.0)) o.known (opened rest o) (mark-within marks f.unit.0 (opened rest o))
+    known : (rest : List OpenUnit) → Below g top marks f rest → LeftUnitsAreKnown g (set marks f.unit.0 (mark.Done (around f.inside (node_at g f.unit.0))))
+    known rest o = LeftUnitsAreKnown-finish g marks f.unit.0 (around f.inside (node_at g f.unit.0)) o.known (opened rest o) (mark-within marks f.unit.0 (opened rest o))
         (subst (Each (λ (t : UnitId). IsDone marks t.0)) all o.here.left)
         (IsMeasure-around g f.unit.0 f.inside (subst (λ l. IsSum g l f.inside) all o.here.inside))
 
-    keeps : (rest : List Frame) → Below g top marks f rest → Keeps marks (set marks f.unit.0 (mark.Done (around f.inside (node_at g f.unit.0))))
+    keeps : (rest : List OpenUnit) → Below g top marks f rest → Keeps marks (set marks f.unit.0 (mark.Done (around f.inside (node_at g f.unit.0))))
     keeps rest o = Keeps-set marks f.unit.0 (mark.Done (around f.inside (node_at g f.unit.0))) (λ x q. done_opened (mark_at marks f.unit.0) x (opened rest o) q)
 
-    here : (rest : List Frame) → Below g top marks f rest → mark_at (set marks f.unit.0 (mark.Done (around f.inside (node_at g f.unit.0)))) f.unit.0 ≡ mark.Done (around f.inside (node_at g f.unit.0))
+    here : (rest : List OpenUnit) → Below g top marks f rest → mark_at (set marks f.unit.0 (mark.Done (around f.inside (node_at g f.unit.0)))) f.unit.0
+        ≡ mark.Done (around f.inside (node_at g f.unit.0))
     here rest o = mark-same marks f.unit.0 (mark.Done (around f.inside (node_at g f.unit.0))) (mark-within marks f.unit.0 (opened rest o))
 
-    opens : (rest : List Frame) → Below g top marks f rest → (u : ℕ) → mark_at (set marks f.unit.0 (mark.Done (around f.inside (node_at g f.unit.0)))) u ≡ mark.Opened → Same u f.unit.0 → IsIn (units rest) u
-    opens rest o u q (same z) = absurd (done_opened (mark_at (set marks f.unit.0 (mark.Done (around f.inside (node_at g f.unit.0)))) u) (around f.inside (node_at g f.unit.0)) q (ap (mark_at (set marks f.unit.0 (mark.Done (around f.inside (node_at g f.unit.0))))) z ∙ here rest o))
+    opens : (rest : List OpenUnit) → Below g top marks f rest → (u : ℕ) → mark_at (set marks f.unit.0 (mark.Done (around f.inside (node_at g f.unit.0)))) u ≡ mark.Opened → Same u f.unit.0
+        → IsIn (units rest) u
+    opens rest o u q (same z) = absurd (done_opened (mark_at (set marks f.unit.0 (mark.Done (around f.inside (node_at g f.unit.0)))) u) (around f.inside (node_at g f.unit.0)) q
+        (ap (mark_at (set marks f.unit.0 (mark.Done (around f.inside (node_at g f.unit.0))))) z ∙ here rest o))
     opens rest o u q (other z) = elim (o.opened u (sym (mark-other marks f.unit.0 u (mark.Done (around f.inside (node_at g f.unit.0))) z) ∙ q)) [ inl k ↦ absurd (z (sym k)) | inr i ↦ i ]
 
-    by : (rest : List Frame) → Below g top marks f rest → SearchingBy g top (set marks f.unit.0 (mark.Done (around f.inside (node_at g f.unit.0)))) rest
-    by [] o = record { none_open = λ u q. opens [] o u q (same_or u f.unit.0); known = known [] o; top_done = (around f.inside (node_at g f.unit.0), ap (mark_at (set marks f.unit.0 (mark.Done (around f.inside (node_at g f.unit.0))))) (sym o.waits) ∙ here [] o) }
+    by : (rest : List OpenUnit) → Below g top marks f rest → SearchingBy g top (set marks f.unit.0 (mark.Done (around f.inside (node_at g f.unit.0)))) rest
+    by [] o = record {
+      none_open = λ u q. opens [] o u q (same_or u f.unit.0);
+      known = known [] o;
+      top_done = (around f.inside (node_at g f.unit.0), ap (mark_at (set marks f.unit.0 (mark.Done (around f.inside (node_at g f.unit.0))))) (sym o.waits) ∙ here [] o);
+    }
     by (p ∷ rest) o = record {
       known = known (p ∷ rest) o;
       opened = λ u q. opens (p ∷ rest) o u q (same_or u f.unit.0);
@@ -246,10 +268,13 @@ Below-finish g top marks f rest o e = by rest o
     }
 
 -- where the next callee is open, the search from the top finds it first
-before-none : (g : List Node) (top : ℕ) (marks : List Mark) (k : ℕ) (opened : List ℕ) (f : Frame) → Known g marks → ((v : ℕ) → IsIn opened v → mark_at marks v ≡ mark.Opened) → Leaves g marks f → Each (λ (t : UnitId). met_or (cycle_in k g opened) (is_open opened t.0) t.0 ≡ None) (take f.next (callees_at g f.unit.0))
-before-none g top marks k opened f o h l = Each-more (λ (t : UnitId). IsDone marks t.0) (λ (t : UnitId). met_or (cycle_in k g opened) (is_open opened t.0) t.0 ≡ None) (take f.next (callees_at g f.unit.0)) (λ t d. target-quiet g marks k opened t o (λ v i x. done_opened (mark_at marks v) x.0 (h v i) x.1) d) l.left
+before-none : (g : List CallNode) (top : ℕ) (marks : List Mark) (k : ℕ) (opened : List ℕ) (f : OpenUnit) → LeftUnitsAreKnown g marks → ((v : ℕ) → IsIn opened v → mark_at marks v ≡ mark.Opened)
+    → Leaves g marks f → Each (λ (t : UnitId). met_or (cycle_in k g opened) (is_open opened t.0) t.0 ≡ None) (take f.next (callees_at g f.unit.0))
+before-none g top marks k opened f o h l = Each-more (λ (t : UnitId). IsDone marks t.0) (λ (t : UnitId). met_or (cycle_in k g opened) (is_open opened t.0) t.0 ≡ None)
+    (take f.next (callees_at g f.unit.0)) (λ t d. target-quiet g marks k opened t o (λ v i x. done_opened (mark_at marks v) x.0 (h v i) x.1) d) l.left
 
-cycle-here : (g : List Node) (top : ℕ) (marks : List Mark) (f : Frame) (rest : List Frame) (t : UnitId) (k : ℕ) → Below g top marks f rest → slice_get (callees_at g f.unit.0) f.next ≡ Some t → mark_at marks t.0 ≡ mark.Opened → cycle_in (suc k) g (units rest) f.unit.0 ≡ Some t.0
+cycle-here : (g : List CallNode) (top : ℕ) (marks : List Mark) (f : OpenUnit) (rest : List OpenUnit) (t : UnitId) (k : ℕ) → Below g top marks f rest → slice_get (callees_at g f.unit.0) f.next ≡ Some t
+    → mark_at marks t.0 ≡ mark.Opened → cycle_in (suc k) g (units rest) f.unit.0 ≡ Some t.0
 cycle-here g top marks f rest t k o e q =
     first-at (λ (x : UnitId). met_or (cycle_in k g (units (f ∷ rest))) (is_open (units (f ∷ rest)) x.0) x.0) (callees_at g f.unit.0) f.next t t.0 e
     (before-none g top marks k (units (f ∷ rest)) f o.known o.marked o.here)
@@ -261,7 +286,9 @@ plus_none k m e = omega arith
 plus_next : (k m n : ℕ) → m ≡ k + suc n → m ≡ suc k + n
 plus_next k m n e = omega arith
 
-cycle-out : (g : List Node) (top : ℕ) (marks : List Mark) (k m x : ℕ) (n : UnitId) (rest : List Frame) → Known g marks → m ≡ k + length rest → ((v : ℕ) → IsIn (n.0 ∷ units rest) v → mark_at marks v ≡ mark.Opened) → Distinct (n.0 ∷ units rest) → Waits g marks top n rest → cycle_in k g (units rest) n.0 ≡ Some x → cycle_in m g [] top ≡ Some x
+cycle-out : (g : List CallNode) (top : ℕ) (marks : List Mark) (k m x : ℕ) (n : UnitId) (rest : List OpenUnit) → LeftUnitsAreKnown g marks → m ≡ k + length rest
+    → ((v : ℕ) → IsIn (n.0 ∷ units rest) v → mark_at marks v ≡ mark.Opened) → Distinct (n.0 ∷ units rest) → Waits g marks top n rest → cycle_in k g (units rest) n.0 ≡ Some x
+    → cycle_in m g [] top ≡ Some x
 cycle-out g top marks k m x n [] o e h d w c = ap (λ j. cycle_in j g [] top) (plus_none k m e) ∙ ap (λ u. cycle_in k g [] u) (sym w) ∙ c
 cycle-out g top marks k m x n (p ∷ rest) o e h d w c =
     cycle-out g top marks (suc k) m x p.unit rest o (plus_next k m (length rest) e) (λ v i. h v (inr i)) d.1 w.2
@@ -269,19 +296,20 @@ cycle-out g top marks k m x n (p ∷ rest) o e h d w c =
     (before-none g top marks k (units (p ∷ rest)) p o (λ v i. h v (inr i)) w.0)
     (ap (λ b. met_or (cycle_in k g (units (p ∷ rest))) b n.0) (not_open (units (p ∷ rest)) n.0 d.0) ∙ c))
 
-busy-rest : (g : List Node) (marks : List Mark) (top : ℕ) (us : List ℕ) (n : UnitId) (rest : List Frame) → HasBusy g us → Waits g marks top n rest → (v : ℕ) → IsIn (units rest) v → IsIn us v
+busy-rest : (g : List CallNode) (marks : List Mark) (top : ℕ) (us : List ℕ) (n : UnitId) (rest : List OpenUnit) → HasBusy g us → Waits g marks top n rest → (v : ℕ) → IsIn (units rest) v → IsIn us v
 busy-rest g marks top us n [] b w v i = absurd i
 busy-rest g marks top us n (p ∷ rest) b w v (inl e) = subst (IsIn us) e (b p.unit.0 p.next n w.1)
 busy-rest g marks top us n (p ∷ rest) b w v (inr i) = busy-rest g marks top us p.unit rest b w.2 v i
 
-length-units : (fs : List Frame) → length (units fs) ≡ length fs
+length-units : (fs : List OpenUnit) → length (units fs) ≡ length fs
 length-units [] = refl
 length-units (f ∷ fs) = ap suc (length-units fs)
 
 enough : (n m : ℕ) → suc n ≤ m → m ≡ suc (m - suc n) + n
 enough n m h = omega arith
 
-pub Below-cycle : (g : List Node) (top : ℕ) (marks : List Mark) (f : Frame) (rest : List Frame) (t : UnitId) (us : List ℕ) → Below g top marks f rest → slice_get (callees_at g f.unit.0) f.next ≡ Some t → mark_at marks t.0 ≡ mark.Opened → HasBusy g us → cycle_in (length us) g [] top ≡ Some t.0
+pub Below-cycle : (g : List CallNode) (top : ℕ) (marks : List Mark) (f : OpenUnit) (rest : List OpenUnit) (t : UnitId) (us : List ℕ) → Below g top marks f rest
+    → slice_get (callees_at g f.unit.0) f.next ≡ Some t → mark_at marks t.0 ≡ mark.Opened → HasBusy g us → cycle_in (length us) g [] top ≡ Some t.0
 Below-cycle g top marks f rest t us o e q b =
     cycle-out g top marks (suc (length us - suc (length rest))) (length us) t.0 f.unit rest o.known (enough (length rest) (length us) long) o.marked o.distinct o.waits
     (cycle-here g top marks f rest t (length us - suc (length rest)) o e q)
@@ -294,9 +322,10 @@ Below-cycle g top marks f rest t us o e q b =
     long = subst (λ n. n ≤ length us) (length-units (f ∷ rest)) (no_longer (units (f ∷ rest)) us o.distinct all_in)
 
 -- a unit that was not met is opened
-pub Below-first : (g : List Node) (top : UnitId) (marks : List Mark) → Covered g marks [] → mark_at marks top.0 ≡ mark.New → top.0 < length g → Below g top.0 (set marks top.0 mark.Opened) (entered top) []
+pub Below-first : (g : List CallNode) (top : UnitId) (marks : List Mark) → Covered g marks [] → mark_at marks top.0 ≡ mark.New → top.0 < length g
+    → Below g top.0 (set marks top.0 mark.Opened) (entered top) []
 Below-first g top marks o n l = record {
-  known = Known-enter g marks top.0 o.known n within;
+  known = LeftUnitsAreKnown-enter g marks top.0 o.known n within;
   opened = λ u q. opens u q (same_or u top.0);
   marked = λ u i. marked u i;
   distinct = ((λ h. h), tt);
@@ -316,7 +345,7 @@ Below-first g top marks o n l = record {
     marked u (inr h) = absurd h
 
 -- a search that is given up
-pub Below-covers : (g : List Node) (top : ℕ) (marks : List Mark) (f : Frame) (rest : List Frame) → Below g top marks f rest → Covered g marks (f ∷ rest)
+pub Below-covers : (g : List CallNode) (top : ℕ) (marks : List Mark) (f : OpenUnit) (rest : List OpenUnit) → Below g top marks f rest → Covered g marks (f ∷ rest)
 Below-covers g top marks f rest o = record { known = o.known; opened = o.opened; waiting = λ u i d. done_opened (mark_at marks u) d.0 (o.marked u i) d.1 }
 
 mark-unset : (marks : List Mark) (u : ℕ) → mark_at (set marks u mark.New) u ≡ mark.New
@@ -325,7 +354,7 @@ mark-unset marks u = elim (cases_lt u (length marks)) [
   | inr l ↦ get_or_past (set marks u mark.New) u mark.New (subst (λ k. k ≤ u) (sym (length-set marks u mark.New)) l)
 ]
 
-pub Covered-close : (g : List Node) (marks : List Mark) (f : Frame) (rest : List Frame) → Covered g marks (f ∷ rest) → Covered g (set marks f.unit.0 mark.New) rest
+pub Covered-close : (g : List CallNode) (marks : List Mark) (f : OpenUnit) (rest : List OpenUnit) → Covered g marks (f ∷ rest) → Covered g (set marks f.unit.0 mark.New) rest
 Covered-close g marks f rest o = record {
   known = record {
     long = length-set marks f.unit.0 mark.New ∙ o.known.long;
@@ -351,7 +380,7 @@ Covered-close g marks f rest o = record {
 unmet : (n u : ℕ) → mark_at (replicate n mark.New) u ≡ mark.New
 unmet n u = elim (cases_lt u n) [ inl l ↦ get_or-replicate n u mark.New mark.New l | inr l ↦ get_or_past (replicate n mark.New) u mark.New (subst (λ m. m ≤ u) (sym (length-replicate n mark.New)) l) ]
 
-pub Covered-new : (g : List Node) (n : ℕ) → length g ≡ n → Covered g (replicate n mark.New) []
+pub Covered-new : (g : List CallNode) (n : ℕ) → length g ≡ n → Covered g (replicate n mark.New) []
 Covered-new g n e = record {
   known = record {
     long = length-replicate n mark.New ∙ sym e;

@@ -34,12 +34,14 @@ further : (n c m : ℕ) → n + 1 + c + m ≡ n + (c + suc m)
 further n c m = omega arith
 
 -- the label of the last piece of a block
-pub last-label : (copy_of : Copy → List FlatBlockText) (fs : List UnitText) (g : Naming) (c : Copy) (label : List ℕ) (ls : List LineText) (k n : ℕ) (here : List ℕ) → g.label_name n ≡ here → NamedFrom g.label_name (n + 1) (labels (pieces_from copy_of fs c label k ls).more) →
+pub last-label : (copy_of : Copy → List FlatBlockText) (fs : List UnitText) (g : Naming) (c : Copy) (label : List ℕ) (ls : List LineText) (k n : ℕ) (here : List ℕ) → g.label_name n ≡ here
+    → NamedFrom g.label_name (n + 1) (labels (pieces_from copy_of fs c label k ls).more) →
     g.label_name (n + length (pieces_from copy_of fs c label k ls).more) ≡ last_from fs c label here k ls
 last-label copy_of fs g c label [] k n here e h = ap g.label_name (plus_none n) ∙ e
 last-label copy_of fs g c label (l ∷ ls) k n here e h = by (opened fs c (call_path c label k) l.inst) (λ m there f q. last-label copy_of fs g c label ls (k + 1) m there f q) h
   where
-    by : (w : Option Copy) → ((m : ℕ) (there : List ℕ) → g.label_name m ≡ there → NamedFrom g.label_name (m + 1) (labels (pieces_from copy_of fs c label (k + 1) ls).more) → g.label_name (m + length (pieces_from copy_of fs c label (k + 1) ls).more) ≡ last_from fs c label there (k + 1) ls) →
+    by : (w : Option Copy) → ((m : ℕ) (there : List ℕ) → g.label_name m ≡ there → NamedFrom g.label_name (m + 1) (labels (pieces_from copy_of fs c label (k + 1) ls).more)
+        → g.label_name (m + length (pieces_from copy_of fs c label (k + 1) ls).more) ≡ last_from fs c label there (k + 1) ls) →
         NamedFrom g.label_name (n + 1) (labels (with_line copy_of fs c l w (pieces_from copy_of fs c label (k + 1) ls)).more) →
         g.label_name (n + length (with_line copy_of fs c l w (pieces_from copy_of fs c label (k + 1) ls)).more) ≡ last_from fs c label (option_map_or (λ (d : Copy). d.path) w here) (k + 1) ls
     by None ih q = ih n here e q
@@ -52,7 +54,8 @@ last-label copy_of fs g c label (l ∷ ls) k n here e h = by (opened fs c (call_
 
 -- how many blocks the pieces of blocks are, where each call takes as much room as its copy
 abbrev pub RoomIs : (a : Arena) (fs : List UnitText) (copy_of : Copy → List FlatBlockText) (room : Option UnitId → ℕ) (test : UnitName → Bool) → Type 0
-RoomIs a fs copy_of room test = (f : UnitId) (path : List ℕ) (args : List (List ℕ)) → IsCallable a fs f → test (unit_name_at a f.0) ≡ false → length (copy_of (copy_at path args (unit_text_at a f.0))) + 1 ≡ room (Some f)
+RoomIs a fs copy_of room test = (f : UnitId) (path : List ℕ) (args : List (List ℕ)) → IsCallable a fs f → test (unit_name_at a f.0) ≡ false
+    → length (copy_of (copy_at path args (unit_text_at a f.0))) + 1 ≡ room (Some f)
 
 -- the pieces of a block have the labels that the copy gives
 abbrev pub SpanIsRight : (a : Arena) (fs : List UnitText) (g : Naming) (u : ℕ) (c : Copy) → List Span → BlockId → Type 0
@@ -67,7 +70,8 @@ module _ (a : Arena) (fs : List UnitText) (copy_of : Copy → List FlatBlockText
   no_call : (m n z : ℕ) → z ≡ 0 → m ≡ n → m ≡ z + n
   no_call m n z e f = omega arith
 
-  pub insts-room : (u : ℕ) (c : Copy) (label : List ℕ) (is : List InstId) → Each (λ (i : InstId). InstIsRight a fs u (line_of a u i).inst) is → (k : ℕ) → list_any test (callees_in (map (line_text_of a u) is)) ≡ false →
+  pub insts-room : (u : ℕ) (c : Copy) (label : List ℕ) (is : List InstId) → Each (λ (i : InstId). InstIsRight a fs u (line_of a u i).inst) is → (k : ℕ)
+      → list_any test (callees_in (map (line_text_of a u) is)) ≡ false →
       length (pieces_from copy_of fs c label k (map (line_text_of a u) is)).more ≡ insts_room room a u is
   insts-room u c label [] w k q = refl
   insts-room u c label (i ∷ is) w k q =
@@ -76,7 +80,8 @@ module _ (a : Arena) (fs : List UnitText) (copy_of : Copy → List FlatBlockText
     where
       by : (x : Option UnitId) → callee_of a (line_of a u i).inst ≡ x → Tested test a x →
           length (pieces_from copy_of fs c label (k + 1) (map (line_text_of a u) is)).more ≡ insts_room room a u is →
-          length (with_line copy_of fs c (line_text_of a u i) (opened fs c (call_path c label k) (line_text_of a u i).inst) (pieces_from copy_of fs c label (k + 1) (map (line_text_of a u) is))).more ≡ room x + insts_room room a u is
+          length (with_line copy_of fs c (line_text_of a u i) (opened fs c (call_path c label k) (line_text_of a u i).inst) (pieces_from copy_of fs c label (k + 1) (map (line_text_of a u) is))).more
+          ≡ room x + insts_room room a u is
       by None e z ih =
           let p : Pieces = pieces_from copy_of fs c label (k + 1) (map (line_text_of a u) is) in
           ap (λ w. length (with_line copy_of fs c (line_text_of a u i) w p).more) (opened-none a fs u c (call_path c label k) (line_of a u i).inst e)
@@ -92,7 +97,8 @@ module _ (a : Arena) (fs : List UnitText) (copy_of : Copy → List FlatBlockText
   more_blocks : (m n r s : ℕ) → m ≡ r → n ≡ s → suc m + n ≡ r + 1 + s
   more_blocks m n r s e f = omega arith
 
-  pub blocks-room : (u : ℕ) (c : Copy) (bs : List BlockId) → HasBlocks (kind_at a u) → Each (BlockIsRight a fs u) bs → list_any test (callees_in (lines_of (map (block_text (naming a u) (table_at a u)) bs))) ≡ false →
+  pub blocks-room : (u : ℕ) (c : Copy) (bs : List BlockId) → HasBlocks (kind_at a u) → Each (BlockIsRight a fs u) bs
+      → list_any test (callees_in (lines_of (map (block_text (naming a u) (table_at a u)) bs))) ≡ false →
       length (flat_map (flat_block copy_of fs c) (map (block_text (naming a u) (table_at a u)) bs)) ≡ blocks_room room a u bs
   blocks-room u c [] k w q = refl
   blocks-room u c (x ∷ bs) k w q =
@@ -101,7 +107,8 @@ module _ (a : Arena) (fs : List UnitText) (copy_of : Copy → List FlatBlockText
       any-append test (callees_in (map (line_text_of a u) is)) (callees_in (lines_of (map (block_text (naming a u) (table_at a u)) bs)))
       (ap (list_any test) (sym (callees-append (map (line_text_of a u) is) (lines_of (map (block_text (naming a u) (table_at a u)) bs)))) ∙ q) in
       length-append (flat_block copy_of fs c (block_text (naming a u) (table_at a u) x)) (flat_map (flat_block copy_of fs c) (map (block_text (naming a u) (table_at a u)) bs))
-      ∙ more_blocks (length (pieces_from copy_of fs c (label_or (label_text (naming a u) (kind_at a u) x)) 0 (map (line_text_of a u) is)).more) (length (flat_map (flat_block copy_of fs c) (map (block_text (naming a u) (table_at a u)) bs)))
+      ∙ more_blocks (length (pieces_from copy_of fs c (label_or (label_text (naming a u) (kind_at a u) x)) 0 (map (line_text_of a u) is)).more) (length
+      (flat_map (flat_block copy_of fs c) (map (block_text (naming a u) (table_at a u)) bs)))
       (insts_room room a u is) (blocks_room room a u bs)
       (insts-room u c (label_or (label_text (naming a u) (kind_at a u) x)) is w.0 0 qs.0) (blocks-room u c bs k w.1 qs.1)
 
@@ -122,7 +129,8 @@ module _ (a : Arena) (fs : List UnitText) (copy_of : Copy → List FlatBlockText
       let e : get_or (set ss x.0 S) b.0 no_span ≡ get_or ss b.0 no_span = get_or-set_other ss x.0 b.0 S no_span (λ z. o (sym z)) in
       inr (ap (λ (z : Span). g.label_name z.first.0) e ∙ s.0, ap (λ (z : Span). g.label_name z.last.0) e ∙ s.1)
 
-  pub spans-right : (g : Naming) (u : ℕ) (c : Copy) (b : BlockId) → HasBlocks (kind_at a u) → b.0 < label_count a u → (bs : List BlockId) → Each (BlockIsRight a fs u) bs → list_any test (callees_in (lines_of (map (block_text (naming a u) (table_at a u)) bs))) ≡ false →
+  pub spans-right : (g : Naming) (u : ℕ) (c : Copy) (b : BlockId) → HasBlocks (kind_at a u) → b.0 < label_count a u → (bs : List BlockId) → Each (BlockIsRight a fs u) bs
+      → list_any test (callees_in (lines_of (map (block_text (naming a u) (table_at a u)) bs))) ≡ false →
       (at : ℕ) (ss : List Span) → length ss ≡ label_count a u →
       NamedFrom g.label_name at (labels (flat_map (flat_block copy_of fs c) (map (block_text (naming a u) (table_at a u)) bs))) →
       (is_block bs b.0 ≡ true) ⊎ SpanIsRight a fs g u c ss b → SpanIsRight a fs g u c (spans_with room a u at bs ss) b
@@ -146,5 +154,6 @@ module _ (a : Arena) (fs : List UnitText) (copy_of : Copy → List FlatBlockText
       ap (λ n. g.label_name (at + n)) (sym size) ∙ last-label copy_of fs g c m (map (line_text_of a u) is) 0 at (first_piece c m) here.0 here.1
       ∙ ap (λ n. last_from fs c n (first_piece c n) 0 (map (line_text_of a u) is)) (sym labelled) in
       spans-right g u c b k l bs w.1 qs.1 (at + block_room room a u x) (set ss x.0 S) (length-set ss x.0 S ∙ long)
-      (moved g.label_name (at + length X) (at + block_room room a u x) (labels Y) (ap (λ (zs : List FlatBlockText). at + length zs) named ∙ before_next at (length P.more) (insts_room room a u is) size) (labels-right g.label_name at X Y h))
+      (moved g.label_name (at + length X) (at + block_room room a u x) (labels Y)
+      (ap (λ (zs : List FlatBlockText). at + length zs) named ∙ before_next at (length P.more) (insts_room room a u is) size) (labels-right g.label_name at X Y h))
       (span-set g u c ss S x b bs (subst (λ n. b.0 < n) (sym long) l) (here.0, last) (same_or x.0 b.0) y)

@@ -35,5 +35,6 @@ IsCode returns _ = Unit {0}
 
 -- Where each new id has the name that a copy gives, an instruction with new ids says what the copy of its text says.
 abbrev pub RenamesAsCopied : Type 0
-RenamesAsCopied = (f g : Naming) (functions : List UnitText) (blocks : List BlockId) (returns : Bool) (c : Copy) (r : Renaming) (units : ℕ) → Agrees f g functions blocks returns c r → (i : Inst) → IsCode returns i → InstWithin (sizes_in units r) i → Each (IsBlockOf blocks) (blocks_named i) →
+RenamesAsCopied = (f g : Naming) (functions : List UnitText) (blocks : List BlockId) (returns : Bool) (c : Copy) (r : Renaming) (units : ℕ) → Agrees f g functions blocks returns c r → (i : Inst)
+    → IsCode returns i → InstWithin (sizes_in units r) i → Each (IsBlockOf blocks) (blocks_named i) →
     inst_text g (renamed r i) ≡ copied functions c (inst_text f i)

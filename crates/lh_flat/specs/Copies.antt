@@ -59,7 +59,8 @@ copied_operand c o = record { value = c.value o.value; ty = o.ty }
 abbrev pub copied_edge : List UnitText → Copy → EdgeText → EdgeText
 copied_edge functions c e = record { value = c.value e.value; block = last_piece_of functions c e.block }
 
--- An instruction in a copy. A branch or `wait` leads to the first piece of a block, and `ret` to the rest of the block that was cut after the call: its label is the copy's path. `sig`, `reg` and `inst` stand in entities alone.
+-- An instruction in a copy. A branch or `wait` leads to the first piece of a block, and `ret` to the rest of the block that was cut after the call: its label is the copy's
+-- path. `sig`, `reg` and `inst` stand in entities alone.
 abbrev pub copied : List UnitText → Copy → InstText → InstText
 copied functions c (const_text d) = const_text d
 copied functions c (pure_text op args) = pure_text op (map (copied_operand c) args)

@@ -6,7 +6,7 @@ ghost use Rattle.lh_flat.specs.Building.{line_of, call_room, call_ids, put, take
 ghost use Rattle.lh_flat.specs.CopyOf.{IsCopy};
 
 use crate::calls::callee;
-use crate::copy::{Place, UnitCopy};
+use crate::copy::{CopyPlace, UnitCopy};
 use crate::flat::{FlatBlock, FlatBlockList, FlatInst, Merge};
 use crate::layout::{plus, unit_room};
 use lh_types::ty::NoMemory;
@@ -147,7 +147,7 @@ impl Text {
         let args = copy.args(self.blocks.allocator(), id)?;
         let at = self.next()?;
         let back = plus(at, unit_room(depth, view)?)?;
-        let place = Place {
+        let place = CopyPlace {
             at,
             from: self.values,
             back,

@@ -12,7 +12,7 @@ use std::alloc::Global;
 
 /// What is counted of a unit. Each number stands still at its type's end.
 #[derive(Drop)]
-pub struct Node {
+pub struct CallNode {
     /// How many instructions it has.
     pub insts: u32,
     /// How many pieces its calls cut its blocks into.
@@ -54,7 +54,7 @@ fn called(module: &Module, unit: UnitId) -> Option<UnitId>
 }
 
 /// The units of a module by their ids.
-pub fn graph(alloc: Global, module: &Module) -> Result<Vec<Node>, NoMemory>
+pub fn graph(alloc: Global, module: &Module) -> Result<Vec<CallNode>, NoMemory>
     ensures graph { IfOk result (λ nodes. IsGraph module.now nodes.items) }
     ensures sound { IsArena module.now }
 {
@@ -65,20 +65,18 @@ pub fn graph(alloc: Global, module: &Module) -> Result<Vec<Node>, NoMemory>
     Ok(nodes)
 }
 
-fn put_node(nodes: &mut Vec<Node>, node: Node) -> Result<(), NoMemory>
+fn put_node(nodes: &mut Vec<CallNode>, node: CallNode) -> Result<(), NoMemory>
     ensures { OnOk result (nodes.new.items ≡ nodes.old.items ++ node ∷ []) }
 {
-    match nodes.push(node) {
-        Ok(()) => Ok(()),
-        Err(_) => Err(NoMemory),
-    }
+    nodes.push(node)?;
+    Ok(())
 }
 
 /// What is counted of a unit.
-fn unit_node(alloc: Global, view: UnitView<'_>) -> Result<Node, NoMemory>
+fn unit_node(alloc: Global, view: UnitView<'_>) -> Result<CallNode, NoMemory>
     ensures { IfOk result (λ node. node ≡ node_of view.entry.module.now view.entry.unit.0) }
 {
-    let mut node = Node {
+    let mut node = CallNode {
         insts: 0,
         blocks: 0,
         callees: ListOf::new(alloc),
@@ -89,7 +87,7 @@ fn unit_node(alloc: Global, view: UnitView<'_>) -> Result<Node, NoMemory>
     Ok(node)
 }
 
-impl Node {
+impl CallNode {
     /// Takes one more block into account.
     fn take_block(&mut self, view: UnitView<'_>, block: BlockId) -> Result<(), NoMemory>
         requires { BlockPlaced view.module.now view.unit.0 block }

@@ -27,7 +27,7 @@ pub struct UnitCopy<'m> {
 
 /// Where a copy stands.
 #[derive(Clone, Copy)]
-pub struct Place {
+pub struct CopyPlace {
     /// The place of its first block.
     pub at: u32,
     /// The first new id of its values.
@@ -82,7 +82,7 @@ impl<'m> UnitCopy<'m> {
         depth: u32,
         view: UnitView<'m>,
         args: &[ValueId],
-        place: Place,
+        place: CopyPlace,
     ) -> Result<UnitCopy<'m>, NoMemory>
         ensures { let a = view.entry.module.now in IfOk result (λ c. IsCopy a view.entry.unit (ids_for (call_room depth a) a view.entry.unit.0 args.now place.at place.from place.back) c) }
     {

@@ -11,8 +11,8 @@ ghost use Rattle.lh_flat.specs.Below.{IdsBelow};
 ghost use Rattle.lh_flat.specs.Reads.{Flattens};
 
 use crate::build::Text;
-use crate::calls::{Node, graph};
-use crate::copy::{Place, UnitCopy};
+use crate::calls::{CallNode, graph};
+use crate::copy::{CopyPlace, UnitCopy};
 use crate::fault::FlatFault;
 use crate::flat::{ArgList, Flat};
 use crate::named::read_names;
@@ -50,7 +50,7 @@ pub fn flat(alloc: Global, m: &Module, unit: UnitId) -> Result<Flat, FlatFault>
 pub struct Flattener<'m> {
     alloc: Global,
     m: &'m Module,
-    nodes: Vec<Node>,
+    nodes: Vec<CallNode>,
     search: Search,
     ghost graph: { IsGraph m.now nodes.items },
     ghost settled: { IsSettled nodes.items search },
@@ -104,7 +104,7 @@ fn made(alloc: Global, view: UnitView<'_>) -> Result<Flat, NoMemory>
     ensures { IfOk result (IsMade view.entry.module.now view.entry.unit.0) }
 {
     let args = copied(alloc, view.args())?;
-    let place = Place {
+    let place = CopyPlace {
         at: 0,
         from: 0,
         back: 0,

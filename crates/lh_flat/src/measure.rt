@@ -3,7 +3,7 @@ ghost use Rattle.std.specs.Prelude.{◌≡◌};
 ghost use Rattle.lh_flat.specs.Graph.{counted};
 ghost use Rattle.lh_flat.specs.Measures.{nothing, beside, around};
 
-use crate::calls::{Node, counted};
+use crate::calls::{CallNode, counted};
 
 /// What is counted of copies of units: of one with all that is copied into it, or of some beside each other. Each number stands still
 /// at its type's end.
@@ -41,7 +41,7 @@ impl Measure {
     }
 
     /// A copy of a unit that has these in it.
-    pub fn around(self, unit: &Node) -> Measure
+    pub fn around(self, unit: &CallNode) -> Measure
         ensures { result ≡ around self unit.now }
     {
         Measure {

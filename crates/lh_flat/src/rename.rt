@@ -11,8 +11,10 @@ use lh_types::list::ListOf;
 use lh_types::op::Op;
 use lh_types::ty::{NoMemory, Ty};
 use lh_unit::inst::{
-    BlockId, Inst, PhiEdge, PhiEdgeList, Typed, TypedList, UnitId, ValueId, ValueIdList,
+    BlockId, Inst, OperandList, PhiEdge, PhiEdgeList, Typed, TypedList, UnitId, ValueId,
+    ValueIdList,
 };
+use std::alloc::Global;
 
 /// The first and the last piece of a block in the flat text.
 #[derive(Clone, Copy)]
@@ -95,20 +97,18 @@ impl Renaming {
         requires { operand.now.value.0 < length self.now.values }
         ensures { IfOk result (λ o. o ≡ operand_in self.now operand.now) }
     {
-        let Typed { ty, .. } = operand.copy()?;
         Ok(Typed {
             value: self.value(operand.value),
-            ty,
+            ty: operand.ty.share()?,
         })
     }
 
-    fn operands(&self, operands: &TypedList) -> Result<TypedList, NoMemory>
+    fn operands(&self, alloc: Global, operands: &[Typed]) -> Result<TypedList, NoMemory>
         requires { Each (λ (o : Operand). o.value.0 < length self.now.values) operands.now }
         ensures { IfOk result (λ list. list ≡ map (operand_in self.now) operands.now) }
     {
-        let items = operands.as_slice();
-        let mut to = TypedList::new(operands.allocator());
-        for operand in items {
+        let mut to = TypedList::new(alloc);
+        for operand in operands {
             to.push(self.operand(operand)?)?;
         }
         Ok(to)
@@ -161,11 +161,12 @@ impl Renaming {
         Ok(to)
     }
 
-    fn pure_inst(&self, op: Op, args: &TypedList) -> Result<Inst, NoMemory>
+    fn pure_inst(&self, op: Op, args: &OperandList) -> Result<Inst, NoMemory>
         requires { Each (λ (o : Operand). o.value.0 < length self.now.values) args.now }
         ensures { IfOk result (λ i. i ≡ Inst.Pure op (map (operand_in self.now) args.now)) }
     {
-        let args = self.operands(args)?;
+        let args = self.operands(args.allocator(), args.as_slice())?;
+        let args = OperandList::from_list(args);
         Ok(Inst::Pure { op, args })
     }
 
@@ -208,7 +209,7 @@ impl Renaming {
         ensures { IfOk result (λ i. i ≡ Inst.Call unit ty.now (map (operand_in self.now) args.now)) }
     {
         let ty = ty.copy()?;
-        let args = self.operands(args)?;
+        let args = self.operands(args.allocator(), args.as_slice())?;
         Ok(Inst::Call {
             unit,
             result: ty,

@@ -5,7 +5,7 @@ ghost use Rattle.lh_flat.specs.Graph.{node_at, callees_at};
 ghost use Rattle.lh_flat.specs.Measures.{around};
 ghost use Rattle.lh_flat.specs.Searches.{mark_at, entered, passed, NodesWithin, InPlace, IsSettled, StartsSettled, Settles, Opens, Finishes, Passed, Done, Steps, Measures};
 
-use crate::calls::Node;
+use crate::calls::CallNode;
 use crate::fault::FlatFault;
 use crate::measure::Measure;
 use lh_types::ty::NoMemory;
@@ -25,7 +25,7 @@ enum Mark {
 
 /// An open unit.
 #[derive(Clone, Copy)]
-struct Frame {
+struct OpenUnit {
     unit: UnitId,
     /// How many of its callees the search has left.
     next: usize,
@@ -37,11 +37,11 @@ struct Frame {
 #[derive(Drop)]
 pub struct Search {
     marks: Vec<Mark>,
-    stack: Vec<Frame>,
+    stack: Vec<OpenUnit>,
 }
 
 /// The next callee of an open unit.
-fn next_callee(nodes: &[Node], frame: Frame) -> Option<UnitId>
+fn next_callee(nodes: &[CallNode], frame: OpenUnit) -> Option<UnitId>
     requires { frame.unit.0 < length nodes.now }
     ensures callee { result ≡ slice_get (callees_at nodes.now frame.unit.0) frame.next }
     ensures next { IsSome result → frame.next < 2 ^ 64 - 1 }
@@ -65,7 +65,7 @@ impl Search {
     /// The measure of a unit. `RecursiveCall` comes exactly where a function that it reaches by calls calls itself, and names the target of
     /// the first call, depth first, that names an open one. Work grows with the graph, and not with the copies; a unit that was measured
     /// before costs nothing.
-    pub fn measure_of(&mut self, nodes: &[Node], top: UnitId) -> Result<Measure, FlatFault>
+    pub fn measure_of(&mut self, nodes: &[CallNode], top: UnitId) -> Result<Measure, FlatFault>
         requires within { NodesWithin nodes.now }
         requires top { top.0 < length nodes.now }
         requires settled { IsSettled nodes.now self.old }
@@ -80,7 +80,7 @@ impl Search {
     }
 
     /// The measure of a unit that was not met.
-    fn search(&mut self, nodes: &[Node], top: UnitId) -> Result<Measure, FlatFault>
+    fn search(&mut self, nodes: &[CallNode], top: UnitId) -> Result<Measure, FlatFault>
         requires within { NodesWithin nodes.now }
         requires top { top.0 < length nodes.now }
         requires settled { IsSettled nodes.now self.old }
@@ -106,7 +106,7 @@ impl Search {
         requires { top.0 < vec_len self.old.marks }
         ensures { Done result self.old self.new (Opens [] top self.old self.new) }
     {
-        match self.stack.push(Frame::new(top)) {
+        match self.stack.push(OpenUnit::new(top)) {
             Ok(()) => {
                 self.marks[top.0 as usize] = Mark::Opened;
                 Ok(())
@@ -116,7 +116,7 @@ impl Search {
     }
 
     /// Gives the search up below an open unit, which was taken from the stack: no unit is open then.
-    fn close(&mut self, frame: Frame)
+    fn close(&mut self, frame: OpenUnit)
         requires { InPlace self.old frame }
         ensures { Settles self.old self.new frame }
     {
@@ -127,7 +127,7 @@ impl Search {
     }
 
     /// One step below the innermost open unit, which was taken from the stack.
-    fn step(&mut self, nodes: &[Node], frame: Frame) -> Result<(), FlatFault>
+    fn step(&mut self, nodes: &[CallNode], frame: OpenUnit) -> Result<(), FlatFault>
         requires unit { frame.unit.0 < length nodes.now }
         requires marks { vec_len self.old.marks ≡ length nodes.now }
         requires within { NodesWithin nodes.now }
@@ -145,7 +145,7 @@ impl Search {
     }
 
     /// Leaves a unit that has no more callees.
-    fn finish(&mut self, frame: Frame, node: &Node)
+    fn finish(&mut self, frame: OpenUnit, node: &CallNode)
         requires { frame.unit.0 < vec_len self.old.marks }
         ensures { Finishes frame node.now self.old self.new }
     {
@@ -153,11 +153,11 @@ impl Search {
     }
 
     /// Goes into a callee.
-    fn enter(&mut self, frame: Frame, callee: UnitId) -> Result<(), FlatFault>
+    fn enter(&mut self, frame: OpenUnit, callee: UnitId) -> Result<(), FlatFault>
         requires { callee.0 < vec_len self.old.marks }
         ensures { Done result self.old self.new (Opens (frame ∷ []) callee self.old self.new) }
     {
-        let frames = [frame, Frame::new(callee)];
+        let frames = [frame, OpenUnit::new(callee)];
         match self.stack.extend_from_slice(&frames) {
             Ok(()) => {
                 self.marks[callee.0 as usize] = Mark::Opened;
@@ -168,7 +168,7 @@ impl Search {
     }
 
     /// Passes a callee that the search has left.
-    fn pass(&mut self, frame: Frame, measure: Measure) -> Result<(), FlatFault>
+    fn pass(&mut self, frame: OpenUnit, measure: Measure) -> Result<(), FlatFault>
         requires { frame.next < 2 ^ 64 - 1 }
         ensures { Done result self.old self.new (Passed frame measure self.old self.new) }
     {
@@ -179,12 +179,12 @@ impl Search {
     }
 }
 
-impl Frame {
+impl OpenUnit {
     /// A unit that is just opened.
-    fn new(unit: UnitId) -> Frame
+    fn new(unit: UnitId) -> OpenUnit
         ensures { result ≡ entered unit }
     {
-        Frame {
+        OpenUnit {
             unit,
             next: 0,
             inside: Measure::nothing(),
@@ -192,11 +192,11 @@ impl Frame {
     }
 
     /// Its next callee has this measure.
-    fn past(self, measure: Measure) -> Frame
+    fn past(self, measure: Measure) -> OpenUnit
         requires { self.next < 2 ^ 64 - 1 }
         ensures { result ≡ passed self measure }
     {
-        Frame {
+        OpenUnit {
             unit: self.unit,
             next: self.next + 1,
             inside: self.inside.beside(measure),

@@ -18,7 +18,8 @@ step from at len = record { from = value from; op = Exts at len; ty = int_type l
 abbrev given : ℕ → Option PartStep
 given v = step_giving (insts_in sample.blocks) v
 
-fits : (carried : ℕ → Option TypeTree) (a s : PartStep) (of whole : TypeTree) (q r : Range) → Some a ≡ Some s → carried a.from.0 ≡ Some of → range_by of a.op ≡ Some q → q.len ≡ bit_count a.ty → carried s.from.0 ≡ Some whole → range_by whole s.op ≡ Some r → r.len ≡ bit_count s.ty
+fits : (carried : ℕ → Option TypeTree) (a s : PartStep) (of whole : TypeTree) (q r : Range) → Some a ≡ Some s → carried a.from.0 ≡ Some of → range_by of a.op ≡ Some q → q.len ≡ bit_count a.ty
+    → carried s.from.0 ≡ Some whole → range_by whole s.op ≡ Some r → r.len ≡ bit_count s.ty
 fits carried a s of whole q r e c d l f g =
     let one : a ≡ s = same_Some a s e in
     let types : of ≡ whole = same_Some of whole (sym c ∙ ap (λ (x : PartStep). carried x.from.0) one ∙ f) in
@@ -41,7 +42,8 @@ fit v s whole r e f g = by (same_or 3 v) (same_or 2 v) (same_or 1 v)
     by (other z) (other y) (same x) = fits (type_carried sample) (step 0 0 16) s (int_type 32) whole (record { lo = 0; len = 16 }) r (subst (λ (k : ℕ). given k ≡ Some s) (sym x) e) refl refl refl f g
     by (other z) (other y) (other x) =
         let none : given v ≡ None =
-        (λ i. or_else (or_else (or_else None (if nat_eq-other 3 v z i then Some (step 0 4 8) else None)) (if nat_eq-other 2 v y i then Some (step 1 4 8) else None)) (if nat_eq-other 1 v x i then Some (step 0 0 16) else None)) in
+        (λ i. or_else (or_else (or_else None (if nat_eq-other 3 v z i then Some (step 0 4 8) else None)) (if nat_eq-other 2 v y i then Some (step 1 4 8) else None))
+        (if nat_eq-other 1 v x i then Some (step 0 0 16) else None)) in
         absurd (none-some s (sym none ∙ e))
 
 pub sample_steps : (t : Flat) → t ≡ sample → HasSteps t

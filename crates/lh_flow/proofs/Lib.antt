@@ -3,6 +3,6 @@ pub mod Keeping
 pub mod Spreading
 pub mod Searching
 pub mod Routing
-pub mod Answering
+pub mod LackingBits
 pub mod EveryRoute
 pub mod Above

@@ -1,5 +1,5 @@
 pub mod Routes
-pub mod Asks
+pub mod Questions
 pub mod Words
 pub mod Searches
 pub mod Groups

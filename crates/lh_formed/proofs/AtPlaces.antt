@@ -3,12 +3,12 @@ use Rattle.std.proofs.Common.{ℕ, ◌+◌, List, [], ◌∷◌, ◌++◌, lengt
 use Rattle.std.proofs.lemmas.List.{append-nil}
 use Rattle.lh_unit.specs.Contents.{LineText, BlockText}
 use Rattle.lh_unit.specs.Hierarchy.{lines_of}
-use Rattle.lh_unit.specs.Places.{Place, places_in, places_from}
+use Rattle.lh_unit.specs.Places.{InstPlaceText, places_in, places_from}
 use Rattle.lh_unit.specs.Within.{Each}
 use Rattle.lh_unit.proofs.Lists.{Each-append}
 use Rattle.lh_formed.proofs.EachItem.{each-split}
 
-abbrev pub OnLine : (LineText → Type 0) → Place → Type 0
+abbrev pub OnLine : (LineText → Type 0) → InstPlaceText → Type 0
 OnLine P p = P p.line
 
 lines-in : (P : LineText → Type 0) (k : ℕ) (e : Bool) (b : BlockText) (before rest : List LineText) → Each (OnLine P) (places_in k e b before rest) → Each P rest
@@ -22,10 +22,11 @@ lines-from P k e (b ∷ more) h =
     Each-append P b.lines (lines_of more) (lines-in P k e b [] b.lines r.0) (lines-from P (k + length b.lines) false more r.1)
 
 -- an instruction of a block
-abbrev pub place-at : (number : ℕ) → Bool → BlockText → (before : List LineText) → LineText → (after : List LineText) → Place
+abbrev pub place-at : (number : ℕ) → Bool → BlockText → (before : List LineText) → LineText → (after : List LineText) → InstPlaceText
 place-at k e b before l after = record { number = k; in_entry = e; block = b; before = before; line = l; after = after }
 
-pub in-block : (P : Place → Type 0) (k : ℕ) (e : Bool) (b : BlockText) (before seen : List LineText) (l : LineText) (after : List LineText) → Each P (places_in k e b before (seen ++ l ∷ after)) → (j : ℕ) × P (place-at j e b (before ++ seen) l after)
+pub in-block : (P : InstPlaceText → Type 0) (k : ℕ) (e : Bool) (b : BlockText) (before seen : List LineText) (l : LineText) (after : List LineText)
+    → Each P (places_in k e b before (seen ++ l ∷ after)) → (j : ℕ) × P (place-at j e b (before ++ seen) l after)
 in-block P k e b before [] l after h = (k, subst (λ (x : List LineText). P (place-at k e b x l after)) (sym (append-nil before)) h.0)
 in-block P k e b before (x ∷ seen) l after h =
     let r = in-block P (k + 1) e b (before ++ x ∷ []) seen l after h.1 in

@@ -21,7 +21,8 @@ unit_found n [] h = absurd (false≢true h)
 unit_found n (declare_text d ∷ more) h = unit_found n more h
 unit_found n (unit_text u ∷ more) h = at (same_unit_name u.name n) (unit_found n more) h
   where
-    at : (x : Bool) → (defines_unit n more ≡ true → (w : UnitText) × (unit_named n more ≡ Some w)) → (x || defines_unit n more) ≡ true → (w : UnitText) × ((if x then Some u else unit_named n more) ≡ Some w)
+    at : (x : Bool) → (defines_unit n more ≡ true → (w : UnitText) × (unit_named n more ≡ Some w)) → (x || defines_unit n more) ≡ true → (w : UnitText)
+        × ((if x then Some u else unit_named n more) ≡ Some w)
     at true r g = (u, refl)
     at false r g = r g
 
@@ -50,7 +51,8 @@ instance_right items u n inputs outputs d f h =
     let a : is_assert n ≡ false = (or_parts (option_map_or (λ (v : UnitText). is_function v.kind) (unit_named n items) false) (is_assert n) f).1 in
     let w = defined_unit n items a d in
     let g = ap (λ o. option_map_or (λ args. not (arguments_fit u inputs (inputs_of args) && arguments_fit u outputs (outputs_of args))) o false) (sym (its_args n items w.0 w.1 a)) ∙ h in
-    let b = and_parts (arguments_fit u inputs (inputs_of w.0.args)) (arguments_fit u outputs (outputs_of w.0.args)) (not-false (arguments_fit u inputs (inputs_of w.0.args) && arguments_fit u outputs (outputs_of w.0.args)) g) in
+    let b = and_parts (arguments_fit u inputs (inputs_of w.0.args)) (arguments_fit u outputs (outputs_of w.0.args))
+    (not-false (arguments_fit u inputs (inputs_of w.0.args) && arguments_fit u outputs (outputs_of w.0.args)) g) in
     record {
       of = w.0;
       named = w.1;
@@ -70,9 +72,11 @@ call_right items u n r args d f p h = at (is_assert n) refl
   where
     at : (b : Bool) → is_assert n ≡ b → ((is_assert n ≡ true) × AssertIsRight u r args) ⊎ ((is_assert n ≡ false) × FunctionIsRight items u n r args)
     at true a =
-        let q : same_type r void_type ≡ true = ap (λ b. if b then same_type r void_type else option_map_or (λ (v : UnitText). option_map_or (same_type r) v.result true) (unit_named n items) true) (sym a) ∙ p in
+        let q : same_type r void_type ≡ true = ap (λ b. if b then same_type r void_type else option_map_or (λ (v : UnitText). option_map_or (same_type r) v.result true) (unit_named n items) true) (sym
+        a) ∙ p in
         let g : not (arguments_fit u args assert_args) ≡ false =
-        ap (λ b. option_map_or (λ params. not (arguments_fit u args params)) (if b then Some assert_args else option_map_or (λ (v : UnitText). Some v.args) (unit_named n items) None) false) (sym a) ∙ h in
+        ap (λ b. option_map_or (λ params. not (arguments_fit u args params)) (if b then Some assert_args else option_map_or (λ (v : UnitText). Some v.args) (unit_named n items) None) false) (sym a)
+        ∙ h in
         inl (a, record { gives = same-is r void_type q; args_are = arguments-are u args assert_args (not-false (arguments_fit u args assert_args) g) })
     at false a =
         let w = defined_unit n items a d in
@@ -91,7 +95,8 @@ call_right items u n r args d f p h = at (is_assert n) refl
           },
         )
 
-named_right : (items : List ItemText) (u : UnitText) (i : InstText) → is_undefined items u i ≡ false → names_wrong_unit items i ≡ false → not (result_fits items i) ≡ false → arguments_differ items u i ≡ false → NamedIsRight items u i
+named_right : (items : List ItemText) (u : UnitText) (i : InstText) → is_undefined items u i ≡ false → names_wrong_unit items i ≡ false → not (result_fits items i) ≡ false
+    → arguments_differ items u i ≡ false → NamedIsRight items u i
 named_right items u (child_text n inputs outputs) d w r a =
     let f = all_found items u (child_text n inputs outputs) d in instance_right items u n inputs outputs (not-false (defines_unit n items || is_assert n) f.2.0) w a
 named_right items u (call_text n r args) d w q a =
@@ -102,4 +107,5 @@ named_right items u _ d w r a = tt
 pub calls_are_right : CallsAreRight
 calls_are_right items s f c =
     let u = s.unit in let i = s.place.line.inst in let a = at_site items s f c in
-    named_right items u i (false_from_ne_true (is_undefined items u i) (a.none undefined)) (kinds_right items s a).1 (types_right items s a).2 (false_from_ne_true (arguments_differ items u i) (a.none arguments))
+    named_right items u i (false_from_ne_true (is_undefined items u i) (a.none undefined)) (kinds_right items s a).1 (types_right items s a).2
+    (false_from_ne_true (arguments_differ items u i) (a.none arguments))

@@ -6,7 +6,7 @@ use Rattle.lh_unit.specs.declared.inst.UnitKind.{UnitKind}
 use Rattle.lh_unit.specs.declared.inst.UnitKind.TheVariants as kind
 use Rattle.lh_unit.specs.Contents.{EdgeText, InstText, phi_text, LineText, BlockText, UnitText, lines_define, blocks_define, args_define}
 use Rattle.lh_unit.specs.Named.{label_or}
-use Rattle.lh_unit.specs.Places.{Place}
+use Rattle.lh_unit.specs.Places.{InstPlaceText}
 use Rattle.lh_unit.specs.Within.{Each}
 use Rattle.lh_unit.specs.WellFormed.{not_defined, values_named, Lacks, SomeEdgeLacks, SomeValueLacks, stands_later, LacksIn}
 use Rattle.lh_formed.specs.Defined.{IsGiven, IsThere, IsThereOnEdge, IsEarlier, OperandsThere, AllThere}
@@ -30,7 +30,7 @@ there u b before n k = at (args_define n u.args) refl
     at true p = inl p
     at false p = inr (given u b before n (λ l. k (p, l)))
 
-all_given : (u : UnitText) (p : Place) (ns : List (List ℕ)) → ¬ SomeValueLacks u p ns → Each (IsThere u p.block p.before) ns
+all_given : (u : UnitText) (p : InstPlaceText) (ns : List (List ℕ)) → ¬ SomeValueLacks u p ns → Each (IsThere u p.block p.before) ns
 all_given u p [] k = tt
 all_given u p (n ∷ more) k = (there u p.block p.before n (λ l. k (inl l)), all_given u p more (λ l. k (inr l)))
 
@@ -39,7 +39,7 @@ edges_given u to [] k = tt
 edges_given u to (e ∷ more) k =
     (λ last named edge. there u last last.lines e.value (λ l. k (inl (l.0, record { last = last; named = named; edge = edge; lacks = l.1 }))), edges_given u to more (λ l. k (inr l)))
 
-earlier_of : (u : UnitText) (p : Place) (n : List ℕ) → stands_later u p n ≡ false → IsEarlier u p.before n
+earlier_of : (u : UnitText) (p : InstPlaceText) (n : List ℕ) → stands_later u p n ≡ false → IsEarlier u p.before n
 earlier_of u p n h = at (args_define n u.args) (lines_define n p.before) refl refl (not-false (args_define n u.args || lines_define n p.before) h)
   where
     at : (x y : Bool) → args_define n u.args ≡ x → lines_define n p.before ≡ y → (x || y) ≡ true → IsEarlier u p.before n
@@ -47,12 +47,12 @@ earlier_of u p n h = at (args_define n u.args) (lines_define n p.before) refl re
     at false true a b g = inr b
     at false false a b g = inr (b ∙ g)
 
-all_earlier : (u : UnitText) (p : Place) (i : InstText) → ¬ (list_any (stands_later u p) (values_named i) ≡ true) → Each (IsEarlier u p.before) (values_named i)
+all_earlier : (u : UnitText) (p : InstPlaceText) (i : InstText) → ¬ (list_any (stands_later u p) (values_named i) ≡ true) → Each (IsEarlier u p.before) (values_named i)
 all_earlier u p i k =
     Each-more (λ n. stands_later u p n ≡ false) (IsEarlier u p.before) (values_named i) (earlier_of u p)
     (none_passes (stands_later u p) (values_named i) (false_from_ne_true (list_any (stands_later u p) (values_named i)) k))
 
-operands_there : (k : UnitKind) (u : UnitText) (p : Place) (i : InstText) → ¬ LacksIn k u p i → OperandsThere k u p i
+operands_there : (k : UnitKind) (u : UnitText) (p : InstPlaceText) (i : InstText) → ¬ LacksIn k u p i → OperandsThere k u p i
 operands_there kind.Entity u p i n = all_earlier u p i n
 operands_there _ u p (phi_text ty edges) n = edges_given u (label_or p.block.label) edges n
 operands_there _ u p i n = all_given u p (values_named i) n

@@ -10,7 +10,7 @@ use Rattle.lh_unit.specs.TypingRows.{types_fit}
 use Rattle.lh_unit.specs.Places.{places_in, places_from, places}
 use Rattle.lh_unit.specs.Within.{Each}
 use Rattle.lh_unit.specs.WellFormed.{Site, has_paths, NoneHasFault}
-use Rattle.lh_formed.specs.Results.{Gives}
+use Rattle.lh_formed.specs.Results.{GivesTypeOfRow}
 use Rattle.lh_formed.specs.KindsOf.{ArgsHaveKinds, HasTypeOfKind, OperandsHaveTypes}
 use Rattle.lh_formed.proofs.Sound.{Sound, site_in, at_site}
 use Rattle.lh_formed.proofs.ShapeLaw.{none-places}
@@ -27,32 +27,34 @@ none_is_none : {A : Type 0} → (x : A) → None ≡ Some x → ⊥
 none_is_none x h = subst IsSome (sym h) tt
 
 -- what each line of a unit gives
-lines_give : (items : List ItemText) (u : UnitText) → has_paths items u ≡ true → NoneHasFault items (map (site_in u) (places u)) → (k : ℕ) (e : Bool) (b : BlockText) (before rest : List LineText) → NoneHasFault items (map (site_in u) (places_in k e b before rest)) → Each (λ (l : LineText). Gives l.inst) rest
+lines_give : (items : List ItemText) (u : UnitText) → has_paths items u ≡ true → NoneHasFault items (map (site_in u) (places u)) → (k : ℕ) (e : Bool) (b : BlockText) (before rest : List LineText)
+    → NoneHasFault items (map (site_in u) (places_in k e b before rest)) → Each (λ (l : LineText). GivesTypeOfRow l.inst) rest
 lines_give items u q w k e b before [] n = tt
 lines_give items u q w k e b before (l ∷ rest) n =
     let s : Site = site_in u (record { number = k; in_entry = e; block = b; before = before; line = l; after = rest }) in
     let f : Sound items s = record { none = n.0; paths = q; others = w } in
     (gives u l.inst (row_is u l.inst (not-false (types_fit u l.inst) (types_right items s f).1)), lines_give items u q w (k + 1) e b (before ++ l ∷ []) rest n.1)
 
-blocks_give : (items : List ItemText) (u : UnitText) → has_paths items u ≡ true → NoneHasFault items (map (site_in u) (places u)) → (k : ℕ) (e : Bool) (bs : List BlockText) → NoneHasFault items (map (site_in u) (places_from k e bs)) → Each (λ (b : BlockText). Each (λ (l : LineText). Gives l.inst) b.lines) bs
+blocks_give : (items : List ItemText) (u : UnitText) → has_paths items u ≡ true → NoneHasFault items (map (site_in u) (places u)) → (k : ℕ) (e : Bool) (bs : List BlockText)
+    → NoneHasFault items (map (site_in u) (places_from k e bs)) → Each (λ (b : BlockText). Each (λ (l : LineText). GivesTypeOfRow l.inst) b.lines) bs
 blocks_give items u q w k e [] n = tt
 blocks_give items u q w k e (b ∷ more) n =
     let r = none-places items u (places_in k e b [] b.lines) (places_from (k + length b.lines) false more) n in
     (lines_give items u q w k e b [] b.lines r.0, blocks_give items u q w (k + length b.lines) false more r.1)
 
-line_gives : (n : List ℕ) (i : InstText) (ls : List LineText) → Each (λ (l : LineText). Gives l.inst) ls → line_giving n ls ≡ Some i → Gives i
+line_gives : (n : List ℕ) (i : InstText) (ls : List LineText) → Each (λ (l : LineText). GivesTypeOfRow l.inst) ls → line_giving n ls ≡ Some i → GivesTypeOfRow i
 line_gives n i [] g h = absurd (none_is_none i h)
 line_gives n i (l ∷ more) g h = at (is_result_name n l.result) (line_gives n i more g.1) h
   where
-    at : (x : Bool) → (line_giving n more ≡ Some i → Gives i) → (if x then Some l.inst else line_giving n more) ≡ Some i → Gives i
-    at true r e = let q : l.inst ≡ i = cc in subst Gives q g.0
+    at : (x : Bool) → (line_giving n more ≡ Some i → GivesTypeOfRow i) → (if x then Some l.inst else line_giving n more) ≡ Some i → GivesTypeOfRow i
+    at true r e = let q : l.inst ≡ i = cc in subst GivesTypeOfRow q g.0
     at false r e = r e
 
-inst_gives : (n : List ℕ) (i : InstText) (bs : List BlockText) → Each (λ (b : BlockText). Each (λ (l : LineText). Gives l.inst) b.lines) bs → inst_giving n bs ≡ Some i → Gives i
+inst_gives : (n : List ℕ) (i : InstText) (bs : List BlockText) → Each (λ (b : BlockText). Each (λ (l : LineText). GivesTypeOfRow l.inst) b.lines) bs → inst_giving n bs ≡ Some i → GivesTypeOfRow i
 inst_gives n i [] g h = absurd (none_is_none i h)
 inst_gives n i (b ∷ more) g h = at (line_giving n b.lines) refl (inst_gives n i more g.1) h
   where
-    at : (o : Option InstText) → line_giving n b.lines ≡ o → (inst_giving n more ≡ Some i → Gives i) → or_else o (inst_giving n more) ≡ Some i → Gives i
+    at : (o : Option InstText) → line_giving n b.lines ≡ o → (inst_giving n more ≡ Some i → GivesTypeOfRow i) → or_else o (inst_giving n more) ≡ Some i → GivesTypeOfRow i
     at (Some j) e r q = line_gives n i b.lines g.0 (e ∙ q)
     at None e r q = r q
 
@@ -61,7 +63,7 @@ kind_found : (o : Option TypeTree) (k : Kind) → option_and_then kind_of o ≡ 
 kind_found None k h = absurd (none_is_none k h)
 kind_found (Some t) k h = (t, refl, h)
 
-typed : (i : InstText) (k : Kind) → Gives i → result_kind i ≡ Some k → (t : TypeTree) × (result_type i ≡ Some t) × (kind_of t ≡ Some k)
+typed : (i : InstText) (k : Kind) → GivesTypeOfRow i → result_kind i ≡ Some k → (t : TypeTree) × (result_type i ≡ Some t) × (kind_of t ≡ Some k)
 typed (var_text a) k g h = (pointer_type g.0, g.2, h)
 typed (sig_text a) k g h = (signal_type g.0, g.2, h)
 typed i k g h = kind_found (result_type i) k h
@@ -75,7 +77,8 @@ arg_kind n (x ∷ more) a g h = at (same_name x.name n) (arg_kind n more a g.1) 
     at true r e = let q : x ≡ a = cc in let P : ArgText → Type 0 = λ z. (k : Kind) × (kind_of z.ty ≡ Some k) in subst P q g.0
     at false r e = r e
 
-value_typed : (u : UnitText) (n : List ℕ) (k : Kind) → ArgsHaveKinds u → Each (λ (b : BlockText). Each (λ (l : LineText). Gives l.inst) b.lines) u.blocks → value_kind u n ≡ Some k → (t : TypeTree) × (value_type u n ≡ Some t) × (kind_of t ≡ Some k)
+value_typed : (u : UnitText) (n : List ℕ) (k : Kind) → ArgsHaveKinds u → Each (λ (b : BlockText). Each (λ (l : LineText). GivesTypeOfRow l.inst) b.lines) u.blocks → value_kind u n ≡ Some k
+    → (t : TypeTree) × (value_type u n ≡ Some t) × (kind_of t ≡ Some k)
 value_typed u n k args g h = at (arg_named n u.args) refl h
   where
     from : (o : Option InstText) → inst_giving n u.blocks ≡ o → option_and_then result_kind o ≡ Some k → (t : TypeTree) × (option_and_then result_type o ≡ Some t) × (kind_of t ≡ Some k)

@@ -27,14 +27,16 @@ pub kinds_right : (items : List ItemText) (s : Site) → Sound items s
 kinds_right items s f =
     let u = s.unit in let i = s.place.line.inst in
     none_of_three (list_any (has_wrong_kind u) (uses i)) (names_wrong_unit items i) (probes_for_signal u i)
-    (asked_not (is_asked u i) (list_any (has_wrong_kind u) (uses i) || names_wrong_unit items i || probes_for_signal u i) (is_asked_all items s f) (false_from_ne_true (is_wrong_kind items u i) (f.none wrong_kind)))
+    (asked_not (is_asked u i) (list_any (has_wrong_kind u) (uses i) || names_wrong_unit items i || probes_for_signal u i) (is_asked_all items s f)
+    (false_from_ne_true (is_wrong_kind items u i) (f.none wrong_kind)))
 
 pub types_right : (items : List ItemText) (s : Site) → Sound items s
     → (list_any (has_no_kind s.unit) (uses s.place.line.inst) ≡ false) × (not (types_fit s.unit s.place.line.inst) ≡ false) × (not (result_fits items s.place.line.inst) ≡ false)
 types_right items s f =
     let u = s.unit in let i = s.place.line.inst in
     none_of_three (list_any (has_no_kind u) (uses i)) (not (types_fit u i)) (not (result_fits items i))
-    (asked_not (is_asked u i) (list_any (has_no_kind u) (uses i) || not (types_fit u i) || not (result_fits items i)) (is_asked_all items s f) (false_from_ne_true (is_wrong_type items u i) (f.none wrong_type)))
+    (asked_not (is_asked u i) (list_any (has_no_kind u) (uses i) || not (types_fit u i) || not (result_fits items i)) (is_asked_all items s f)
+    (false_from_ne_true (is_wrong_type items u i) (f.none wrong_type)))
 
 pub operands_are_defined : OperandsAreDefined
 operands_are_defined items s f c =

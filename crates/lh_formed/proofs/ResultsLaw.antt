@@ -9,7 +9,7 @@ use Rattle.lh_unit.specs.Contents.{OperandText, InstText, pure_text, var_text, l
 use Rattle.lh_unit.specs.Typing.{if_made, array_made, tuple_made, pointer_to, signal_of, pointed, carried, first_type, with_type, operand_types}
 use Rattle.lh_unit.specs.Within.{Each}
 use Rattle.lh_formed.specs.Operands.{IsWritten, RowIs}
-use Rattle.lh_formed.specs.Results.{OperationGives, Gives, ResultsHaveTypes}
+use Rattle.lh_formed.specs.Results.{OperationGives, GivesTypeOfRow, ResultsHaveTypes}
 use Rattle.lh_formed.proofs.RowsLaw.{rows_are}
 
 array_given : (n : ℕ) (o : Option TypeTree) (t : TypeTree) → o ≡ Some t → array_fault n t ≡ None → option_and_then (array_made n) o ≡ Some (array_type n t)
@@ -39,7 +39,7 @@ operation_gives u op.Tuple args h =
     (w.0, w.1, λ f. ap (option_and_then tuple_made) w.1 ∙ ap (λ x. if_made x (tuple_type w.0)) f)
 operation_gives u _ args h = (h.0, h.1, h.1)
 
-pub gives : (u : UnitText) (i : InstText) → RowIs u i → Gives i
+pub gives : (u : UnitText) (i : InstText) → RowIs u i → GivesTypeOfRow i
 gives u (pure_text o args) h = operation_gives u o args h
 gives u (var_text a) h = (h.0, h.2.0, ap (option_and_then pointer_to) h.2.0 ∙ ap (λ b. if b then Some (pointer_type h.0) else None) h.1)
 gives u (ld_text p) h = (h.0, h.1.0, ap (option_and_then pointed) h.1.0)

@@ -18,7 +18,8 @@ use Rattle.lh_formed.proofs.OperandsLaw.{types_fit_all}
 use Rattle.lh_unit.proofs.Within.{Each-more}
 
 each_like : (u : UnitText) (t : TypeTree) (args : List OperandText) → all_have u t args ≡ true → Each (IsLike u t) args
-each_like u t args h = Each-more (λ (o : OperandText). (has_type u t o.value && agrees u o) ≡ true) (IsLike u t) args (like u t) (each_passes (λ (o : OperandText). has_type u t o.value && agrees u o) args h)
+each_like u t args h = Each-more (λ (o : OperandText). (has_type u t o.value && agrees u o) ≡ true) (IsLike u t) args (like u t)
+    (each_passes (λ (o : OperandText). has_type u t o.value && agrees u o) args h)
 
 each_written : (u : UnitText) (os : List OperandText) → all_agree u os ≡ true → Each (IsAsWritten u) os
 each_written u os h = Each-more (λ o. agrees u o ≡ true) (IsAsWritten u) os (as_written u) (each_passes (agrees u) os h)
@@ -30,7 +31,8 @@ some_array : (u : UnitText) (t : TypeTree) (n : List ℕ) → type_satisfies u (
 some_array u t n h = let s = satisfies u (is_array_of t) n h in let i = array_is t s.0 s.2 in (i.0, s.1 ∙ ap Some i.1)
 
 -- the part is of the type that is written
-part_found : (s : Step) (t : TypeTree) (o : Option TypeTree) → option_map_or (same_type t) (option_and_then (part_type s) o) false ≡ true → (whole : TypeTree) × (o ≡ Some whole) × (part_type s whole ≡ Some t)
+part_found : (s : Step) (t : TypeTree) (o : Option TypeTree) → option_map_or (same_type t) (option_and_then (part_type s) o) false ≡ true → (whole : TypeTree) × (o ≡ Some whole)
+    × (part_type s whole ≡ Some t)
 part_found s t None h = absurd (false≢true h)
 part_found s t (Some w) h = (w, refl, at (part_type s w) h)
   where
@@ -111,8 +113,11 @@ row_is u (reg_text to triggers) h =
 row_is u (child_text v inputs outputs) h = let b = and_parts (all_agree u inputs) (all_agree u outputs) h in (each_written u inputs b.0, each_written u outputs b.1)
 row_is u (call_text f result args) h = each_written u args h
 row_is u (phi_text ty edges) h =
-    let b = and_parts (is_value_type ty) (list_all (λ (e : EdgeText). has_type u ty e.value) edges) h in
-    (b.0, Each-more (λ (e : EdgeText). has_type u ty e.value ≡ true) (λ (e : EdgeText). IsOf u ty e.value) edges (λ e g. has_type-is u ty e.value g) (each_passes (λ (e : EdgeText). has_type u ty e.value) edges b.1))
+    let b = and_parts (is_value_type ty) (list_all (λ (e : EdgeText). has_type u ty e.value) edges) h in (
+      b.0,
+      Each-more (λ (e : EdgeText). has_type u ty e.value ≡ true) (λ (e : EdgeText). IsOf u ty e.value) edges (λ e g. has_type-is u ty e.value g)
+          (each_passes (λ (e : EdgeText). has_type u ty e.value) edges b.1),
+    )
 row_is u (br_text to) h = tt
 row_is u (branch_text c first second) h = has_type-is u bit c h
 row_is u (wait_text to after signals) h = may-be u time_type after h

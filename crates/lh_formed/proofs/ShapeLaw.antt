@@ -5,7 +5,7 @@ use Rattle.std.specs.List.{list_any}
 use Rattle.std.proofs.lemmas.Bool.{false≢true, true≢false, false_from_ne_true, not-false}
 use Rattle.lh_unit.specs.Contents.{InstText, phi_text, LineText, BlockText, UnitText, ItemText, unit_text, declare_text, is_result_name, defines_label_in, defines_label, defines_value, defines_unit}
 use Rattle.lh_unit.specs.Named.{block_of, label_or, is_assert}
-use Rattle.lh_unit.specs.Places.{Place, places_in, places_from, places, is_terminator, has_edge}
+use Rattle.lh_unit.specs.Places.{InstPlaceText, places_in, places_from, places, is_terminator, has_edge}
 use Rattle.lh_unit.specs.Within.{Each}
 use Rattle.lh_unit.specs.WellFormed.{undefined, not_here, no_terminator, phi_edges, Site, sites, values_named, labels_named, units_named, is_undefined, is_allowed, in_entity, is_empty, ends_wrong, is_phi, edges_naming, names_predecessors, phi_is_wrong, NoneHasFault}
 use Rattle.lh_formed.specs.Shape.{EndsRight, TerminatorsEnd, EndsOnce, EachUnit, BlocksEndOnce, LabelsAreBlocks, PhiIsRight, PhisAreRight, AllAllowed}
@@ -33,7 +33,8 @@ ends_right s w h = let r = ends_at (in_entity s.unit.kind) s.place.after (is_ter
 pub terminators_end : TerminatorsEnd
 terminators_end items s f c h = ends_right s (false_from_ne_true (ends_wrong s.unit s.place) ((at_site items s f c).none no_terminator)) h
 
-block_ends : (items : List ItemText) (u : UnitText) → in_entity u.kind ≡ false → (k : ℕ) (e : Bool) (b : BlockText) (before rest : List LineText) → NoneHasFault items (map (site_in u) (places_in k e b before rest)) → EndsOnce rest
+block_ends : (items : List ItemText) (u : UnitText) → in_entity u.kind ≡ false → (k : ℕ) (e : Bool) (b : BlockText) (before rest : List LineText)
+    → NoneHasFault items (map (site_in u) (places_in k e b before rest)) → EndsOnce rest
 block_ends items u h k e b before [] n = tt
 block_ends items u h k e b before (l ∷ []) n =
     let s : Site = site_in u (record { number = k; in_entry = e; block = b; before = before; line = l; after = [] }) in
@@ -44,11 +45,13 @@ block_ends items u h k e b before (l ∷ m ∷ more) n =
       block_ends items u h (k + 1) e b (before ++ l ∷ []) (m ∷ more) n.1,
     )
 
-pub none-places : (items : List ItemText) (u : UnitText) (ps qs : List Place) → NoneHasFault items (map (site_in u) (ps ++ qs)) → NoneHasFault items (map (site_in u) ps) × NoneHasFault items (map (site_in u) qs)
+pub none-places : (items : List ItemText) (u : UnitText) (ps qs : List InstPlaceText) → NoneHasFault items (map (site_in u) (ps ++ qs)) → NoneHasFault items (map (site_in u) ps)
+    × NoneHasFault items (map (site_in u) qs)
 none-places items u [] qs n = (tt, n)
 none-places items u (p ∷ ps) qs n = let r = none-places items u ps qs n.1 in ((n.0, r.0), r.1)
 
-blocks_end : (items : List ItemText) (u : UnitText) → in_entity u.kind ≡ false → (k : ℕ) (e : Bool) (bs : List BlockText) → NoneHasFault items (map (site_in u) (places_from k e bs)) → Each (λ (b : BlockText). EndsOnce b.lines) bs
+blocks_end : (items : List ItemText) (u : UnitText) → in_entity u.kind ≡ false → (k : ℕ) (e : Bool) (bs : List BlockText) → NoneHasFault items (map (site_in u) (places_from k e bs))
+    → Each (λ (b : BlockText). EndsOnce b.lines) bs
 blocks_end items u h k e [] n = tt
 blocks_end items u h k e (b ∷ more) n =
     let r = none-places items u (places_in k e b [] b.lines) (places_from (k + length b.lines) false more) n in
@@ -68,16 +71,23 @@ block_found : (n : List ℕ) (bs : List BlockText) → defines_label_in n bs ≡
 block_found n [] h = absurd (false≢true h)
 block_found n (b ∷ more) h = at (is_result_name n b.label) (block_found n more) h
   where
-    at : (x : Bool) → (defines_label_in n more ≡ true → (c : BlockText) × (block_of n more ≡ Some c)) → (x || defines_label_in n more) ≡ true → (c : BlockText) × ((if x then Some b else block_of n more) ≡ Some c)
+    at : (x : Bool) → (defines_label_in n more ≡ true → (c : BlockText) × (block_of n more ≡ Some c)) → (x || defines_label_in n more) ≡ true → (c : BlockText)
+        × ((if x then Some b else block_of n more) ≡ Some c)
     at true r g = (b, refl)
     at false r g = r g
 
 -- nothing that an instruction names is undefined
 pub all_found : (items : List ItemText) (u : UnitText) (i : InstText) → is_undefined items u i ≡ false
-    → Each (λ n. not (defines_value n u) ≡ false) (values_named i) × Each (λ n. not (defines_label n u) ≡ false) (labels_named i) × Each (λ n. not (defines_unit n items || is_assert n) ≡ false) (units_named i)
+    → Each (λ n. not (defines_value n u) ≡ false) (values_named i) × Each (λ n. not (defines_label n u) ≡ false) (labels_named i)
+    × Each (λ n. not (defines_unit n items || is_assert n) ≡ false) (units_named i)
 all_found items u i h =
-    let r = none_of_three (list_any (λ n. not (defines_value n u)) (values_named i)) (list_any (λ n. not (defines_label n u)) (labels_named i)) (list_any (λ n. not (defines_unit n items || is_assert n)) (units_named i)) h in
-    (none_passes (λ n. not (defines_value n u)) (values_named i) r.0, none_passes (λ n. not (defines_label n u)) (labels_named i) r.1, none_passes (λ n. not (defines_unit n items || is_assert n)) (units_named i) r.2)
+    let r = none_of_three (list_any (λ n. not (defines_value n u)) (values_named i)) (list_any (λ n. not (defines_label n u)) (labels_named i))
+    (list_any (λ n. not (defines_unit n items || is_assert n)) (units_named i)) h in (
+      none_passes (λ n. not (defines_value n u)) (values_named i) r.0,
+      none_passes (λ n. not (defines_label n u)) (labels_named i) r.1,
+      none_passes (λ n. not (defines_unit n items || is_assert n))
+          (units_named i) r.2,
+    )
 
 pub labels_are_blocks : LabelsAreBlocks
 labels_are_blocks items s f c =
@@ -89,13 +99,15 @@ once : (a : Bool) (m n : ℕ) → (not a || nat_eq m n) ≡ true → a ≡ true 
 once true m n h e = let g : nat_eq m n ≡ true = h in grind (arith, common_steps)
 once false m n h e = absurd (false≢true e)
 
-phi_right : (u : UnitText) (p : Place) (i : InstText) → phi_is_wrong u p i ≡ false → PhiIsRight u p i
+phi_right : (u : UnitText) (p : InstPlaceText) (i : InstText) → phi_is_wrong u p i ≡ false → PhiIsRight u p i
 phi_right u p (phi_text ty edges) h =
     let to = label_or p.block.label in
     let r = none_of_three (list_any (λ (l : LineText). not (is_phi l.inst)) p.before) p.in_entry (not (names_predecessors u to edges)) h in (
-      Each-more (λ (l : LineText). not (is_phi l.inst) ≡ false) (λ (l : LineText). is_phi l.inst ≡ true) p.before (λ l g. not-false (is_phi l.inst) g) (none_passes (λ (l : LineText). not (is_phi l.inst)) p.before r.0),
+      Each-more (λ (l : LineText). not (is_phi l.inst) ≡ false) (λ (l : LineText). is_phi l.inst ≡ true) p.before (λ l g. not-false (is_phi l.inst) g)
+          (none_passes (λ (l : LineText). not (is_phi l.inst)) p.before r.0),
       r.1,
-      Each-more (λ (b : BlockText). (not (has_edge b to) || nat_eq (edges_naming (label_or b.label) edges) 1) ≡ true) (λ (b : BlockText). has_edge b to ≡ true → edges_naming (label_or b.label) edges ≡ 1)
+      Each-more (λ (b : BlockText). (not (has_edge b to) || nat_eq (edges_naming (label_or b.label) edges) 1) ≡ true)
+          (λ (b : BlockText). has_edge b to ≡ true → edges_naming (label_or b.label) edges ≡ 1)
           u.blocks (λ b g e. once (has_edge b to) (edges_naming (label_or b.label) edges) 1 g e)
           (each_passes (λ (b : BlockText). not (has_edge b to) || nat_eq (edges_naming (label_or b.label) edges) 1) u.blocks (not-false (names_predecessors u to edges) r.2)),
     )

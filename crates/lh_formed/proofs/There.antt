@@ -4,7 +4,7 @@ use Rattle.std.specs.List.{list_any}
 use Rattle.std.proofs.lemmas.Bool.{or_cases, false≢true}
 use Rattle.lh_unit.specs.Contents.{InstText, phi_text, LineText, BlockText, UnitText, same_name, is_result_name, lines_define, blocks_define}
 use Rattle.lh_unit.specs.Named.{block_of, label_or, is_function}
-use Rattle.lh_unit.specs.Places.{Place, leads_to, last_leads_to, has_edge}
+use Rattle.lh_unit.specs.Places.{InstPlaceText, leads_to, last_leads_to, has_edge}
 use Rattle.lh_unit.specs.WellFormed.{in_entity}
 use Rattle.lh_unit.specs.declared.inst.UnitKind.{UnitKind}
 use Rattle.lh_unit.specs.declared.inst.UnitKind.TheVariants as kind
@@ -12,7 +12,7 @@ use Rattle.lh_unit.proofs.Tables.{same_name-refl}
 use Rattle.lh_formed.specs.Defined.{IsThere, OperandsThere}
 
 -- a function's operands are there as a process's are
-pub as-process : (k : UnitKind) (u : UnitText) (p : Place) (i : InstText) → OperandsThere k u p i → in_entity k ≡ false → OperandsThere kind.Proc u p i
+pub as-process : (k : UnitKind) (u : UnitText) (p : InstPlaceText) (i : InstText) → OperandsThere k u p i → in_entity k ≡ false → OperandsThere kind.Proc u p i
 as-process kind.Entity u p i h e = absurd cc
 as-process kind.Func u p (phi_text ty es) h e = h
 as-process kind.Func u p _ h e = h
@@ -38,9 +38,11 @@ there-before u b before l n f (inl h) = inl h
 there-before u b before l n f (inr h) = inr (λ earlier path. ⊎_elim (λ q. inl (defined-last n before l f q)) (λ q. inr q) (h earlier path))
 
 -- what is there at the start of a block is there at the end of each block that leads to it
-pub there-after : (u : UnitText) (from b : BlockText) → has_edge from (label_or b.label) ≡ true → block_of (label_or b.label) u.blocks ≡ Some b → (n : List ℕ) → IsThere u b [] n → IsThere u from from.lines n
+pub there-after : (u : UnitText) (from b : BlockText) → has_edge from (label_or b.label) ≡ true → block_of (label_or b.label) u.blocks ≡ Some b → (n : List ℕ) → IsThere u b [] n
+    → IsThere u from from.lines n
 there-after u from b edge t n (inl h) = inl h
-there-after u from b edge t n (inr h) = inr (λ earlier path. ⊎_elim (λ z. absurd (false≢true z)) (λ z. or_cases (lines_define n from.lines) (blocks_define n earlier) z) (h (from ∷ earlier) (edge, t, path)))
+there-after u from b edge t n (inr h) = inr
+    (λ earlier path. ⊎_elim (λ z. absurd (false≢true z)) (λ z. or_cases (lines_define n from.lines) (blocks_define n earlier) z) (h (from ∷ earlier) (edge, t, path)))
 
 pub last-leads : (before : List LineText) (l : LineText) → last_leads_to (before ++ l ∷ []) ≡ leads_to l.inst
 last-leads [] l = refl

@@ -36,7 +36,8 @@ as_written u o h t e = let P : Option TypeTree → Type 0 = λ w. option_map_or 
 pub like : (u : UnitText) (t : TypeTree) (o : OperandText) → (has_type u t o.value && agrees u o) ≡ true → IsLike u t o
 like u t o h = let b = and_parts (has_type u t o.value) (agrees u o) h in (has_type-is u t o.value b.0, as_written u o b.1)
 
-found_written : (u : UnitText) (test : TypeTree → Bool) (n : List ℕ) (w : Option TypeTree) → option_map_or (λ t. test t && has_type u t n) w false ≡ true → (t : TypeTree) × (test t ≡ true) × ((w ≡ Some t) × IsOf u t n)
+found_written : (u : UnitText) (test : TypeTree → Bool) (n : List ℕ) (w : Option TypeTree) → option_map_or (λ t. test t && has_type u t n) w false ≡ true → (t : TypeTree) × (test t ≡ true)
+    × ((w ≡ Some t) × IsOf u t n)
 found_written u test n None h = absurd (false≢true h)
 found_written u test n (Some t) h = let b = and_parts (test t) (has_type u t n) h in (t, b.0, (refl, has_type-is u t n b.1))
 

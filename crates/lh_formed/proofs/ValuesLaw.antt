@@ -6,7 +6,7 @@ use Rattle.std.proofs.lemmas.List.Elements.{All-nil, All-cons, All-contains}
 use Rattle.std.proofs.lemmas.Bool.{false≢true, or_parts, or_left, or_right}
 use Rattle.lh_unit.specs.Contents.{InstText, LineText, BlockText, ArgText, UnitText, ItemText, unit_text, declare_text, same_name, is_result_name, lines_define, blocks_define, args_define}
 use Rattle.lh_unit.specs.Typing.{or_else, result_type, line_giving, inst_giving, arg_named}
-use Rattle.lh_unit.specs.Places.{Place, places_in, places_from}
+use Rattle.lh_unit.specs.Places.{InstPlaceText, places_in, places_from}
 use Rattle.lh_unit.specs.Within.{Each}
 use Rattle.lh_unit.specs.WellFormed.{Site, sites}
 use Rattle.lh_formed.specs.Results.{ValuesHaveTypes}
@@ -21,13 +21,13 @@ lines_defined : (u : UnitText) (k : ℕ) (e : Bool) (b : BlockText) (before rest
     → (more : List Site) → All IsDefined more → All IsDefined (map (site_in u) (places_in k e b before rest) ++ more)
 lines_defined u k e b before [] d more a = a
 lines_defined u k e b before (l ∷ rest) d more a =
-    let p : Place = record { number = k; in_entry = e; block = b; before = before; line = l; after = rest } in
+    let p : InstPlaceText = record { number = k; in_entry = e; block = b; before = before; line = l; after = rest } in
     All-cons IsDefined (site_in u p) (map (site_in u) (places_in (k + 1) e b (before ++ l ∷ []) rest) ++ more)
     (λ n h. d n (or_left (is_result_name n l.result) (lines_define n rest) h))
     (lines_defined u (k + 1) e b (before ++ l ∷ []) rest (λ n h. d n (or_right (is_result_name n l.result) (lines_define n rest) h)) more a)
 
 -- sites of places, one list after another
-site-append : (u : UnitText) (ps qs : List Place) (more : List Site) → map (site_in u) ps ++ (map (site_in u) qs ++ more) ≡ map (site_in u) (ps ++ qs) ++ more
+site-append : (u : UnitText) (ps qs : List InstPlaceText) (more : List Site) → map (site_in u) ps ++ (map (site_in u) qs ++ more) ≡ map (site_in u) (ps ++ qs) ++ more
 site-append u [] qs more = refl
 site-append u (p ∷ ps) qs more = ap (λ l. site_in u p ∷ l) (site-append u ps qs more)
 
@@ -58,7 +58,8 @@ line_some : (n : List ℕ) (i : InstText) (ls : List LineText) → lines_define 
 line_some n i [] h g = absurd (false≢true h)
 line_some n i (l ∷ more) h g = at (is_result_name n l.result) refl h (λ d. line_some n i more d g.1)
   where
-    at : (x : Bool) → is_result_name n l.result ≡ x → (x || lines_define n more) ≡ true → (lines_define n more ≡ true → line_giving n more ≡ Some i) → (if x then Some l.inst else line_giving n more) ≡ Some i
+    at : (x : Bool) → is_result_name n l.result ≡ x → (x || lines_define n more) ≡ true → (lines_define n more ≡ true → line_giving n more ≡ Some i)
+        → (if x then Some l.inst else line_giving n more) ≡ Some i
     at true e d r = ap Some (g.0 e)
     at false e d r = r d
 
@@ -66,7 +67,8 @@ inst_some : (n : List ℕ) (i : InstText) (bs : List BlockText) → blocks_defin
 inst_some n i [] h g = absurd (false≢true h)
 inst_some n i (b ∷ more) h g = at (lines_define n b.lines) refl h (λ d. inst_some n i more d g.1)
   where
-    at : (x : Bool) → lines_define n b.lines ≡ x → (x || blocks_define n more) ≡ true → (blocks_define n more ≡ true → inst_giving n more ≡ Some i) → or_else (line_giving n b.lines) (inst_giving n more) ≡ Some i
+    at : (x : Bool) → lines_define n b.lines ≡ x → (x || blocks_define n more) ≡ true → (blocks_define n more ≡ true → inst_giving n more ≡ Some i)
+        → or_else (line_giving n b.lines) (inst_giving n more) ≡ Some i
     at true e d r = ap (λ o. or_else o (inst_giving n more)) (line_some n i b.lines e g.0)
     at false e d r = ap (λ o. or_else o (inst_giving n more)) (line_none n b.lines e) ∙ r d
 

@@ -39,7 +39,8 @@ later_within w lo len more h = omega (arith, h)
 
 field_within : (r : TypeRow) (k : ℕ) (p : Part) → field_part r k ≡ Some p → LiesIn (bit_count_row r) p
 field_within no_types k p h = absurd (subst IsSome (sym h) tt)
-field_within (more_types t ts) zero p h = let q : Part = record { lo = 0; of = t } in let e : q ≡ p = cc in subst (LiesIn (bit_count t + bit_count_row ts)) e (first_within (bit_count t) (bit_count_row ts))
+field_within (more_types t ts) zero p h = let q : Part = record { lo = 0; of = t } in let e : q ≡ p = cc in
+    subst (LiesIn (bit_count t + bit_count_row ts)) e (first_within (bit_count t) (bit_count_row ts))
 field_within (more_types t ts) (suc k) p h = at (field_part ts k) (field_within ts k) h
   where
     at : (o : Option Part) → ((q : Part) → o ≡ Some q → LiesIn (bit_count_row ts) q) → option_map (part_beyond (bit_count t)) o ≡ Some p → LiesIn (bit_count t + bit_count_row ts) p
@@ -49,7 +50,9 @@ field_within (more_types t ts) (suc k) p h = at (field_part ts k) (field_within 
 pub parts_lie_within : PartsLieWithin
 parts_lie_within (array_type n t) (Field k) p h = chosen (nat_lt k n) (k * bit_count t) t (n * bit_count t) p (element_within k n (bit_count t)) h
 parts_lie_within (tuple_type ts) (Field k) p h = field_within ts k p h
-parts_lie_within (int_type n) (Slice at len) p h = chosen (nat_le 1 len && nat_le (at + len) n) at (int_type len) n p (λ b. bits_within_it at len n (and_parts (nat_le 1 len) (nat_le (at + len) n) b).1) h
+parts_lie_within (int_type n) (Slice at len) p h = chosen (nat_le 1 len && nat_le (at + len) n) at (int_type len) n p
+    (λ b. bits_within_it at len n (and_parts (nat_le 1 len) (nat_le (at + len) n) b).1) h
 parts_lie_within (array_type n t) (Slice at len) p h =
-    chosen (nat_le 1 len && nat_le (at + len) n) (at * bit_count t) (array_type len t) (n * bit_count t) p (λ b. slice_within at len n (bit_count t) (and_parts (nat_le 1 len) (nat_le (at + len) n) b).1) h
+    chosen (nat_le 1 len && nat_le (at + len) n) (at * bit_count t) (array_type len t) (n * bit_count t) p
+    (λ b. slice_within at len n (bit_count t) (and_parts (nat_le 1 len) (nat_le (at + len) n) b).1) h
 parts_lie_within _ _ p h = absurd (subst IsSome (sym h) tt)

@@ -4,7 +4,7 @@ use Rattle.lh_unit.specs.declared.inst.UnitKind.{UnitKind}
 use Rattle.lh_unit.specs.declared.inst.UnitKind.TheVariants as kind
 use Rattle.lh_unit.specs.Contents.{EdgeText, InstText, phi_text, LineText, BlockText, UnitText, lines_define, blocks_define, args_define}
 use Rattle.lh_unit.specs.Named.{block_of, label_or}
-use Rattle.lh_unit.specs.Places.{Place, has_edge, IsPath}
+use Rattle.lh_unit.specs.Places.{InstPlaceText, has_edge, IsPath}
 use Rattle.lh_unit.specs.Within.{Each}
 use Rattle.lh_unit.specs.WellFormed.{values_named}
 use Rattle.lh_formed.specs.Sites.{AtEachSite}
@@ -26,7 +26,7 @@ abbrev pub IsEarlier : UnitText → (before : List LineText) → List ℕ → Ty
 IsEarlier u before n = (args_define n u.args ≡ true) ⊎ (lines_define n before ≡ true)
 
 -- by the kind of the unit
-abbrev pub OperandsThere : UnitKind → UnitText → Place → InstText → Type 0
+abbrev pub OperandsThere : UnitKind → UnitText → InstPlaceText → InstText → Type 0
 OperandsThere kind.Entity u p i = Each (IsEarlier u p.before) (values_named i)
 OperandsThere _ u p (phi_text ty edges) = Each (IsThereOnEdge u (label_or p.block.label)) edges
 OperandsThere _ u p i = Each (IsThere u p.block p.before) (values_named i)

@@ -2,12 +2,14 @@
 use Rattle.std.specs.Prelude.{◌≡◌, ℕ, List, length, true, false, Some, None}
 use Rattle.lh_types.specs.Types.{TypeTree, TypeRow, array_type, tuple_type, signal_type, pointer_type}
 use Rattle.lh_types.specs.Faults.{array_fault, tuple_fault}
+use Rattle.lh_types.specs.Classes.{class_of}
 use Rattle.lh_types.specs.declared.op.Op.{Op}
-use Rattle.lh_types.specs.declared.op.Op.TheVariants as op
+use Rattle.lh_types.specs.declared.op.OpClass.{OpClass}
+use Rattle.lh_types.specs.declared.op.OpClass.TheVariants as class
 use Rattle.lh_unit.specs.Contents.{OperandText, InstText, pure_text, var_text, ld_text, sig_text, prb_text, phi_text, LineText, BlockText, UnitText, args_define, is_result_name}
 use Rattle.lh_unit.specs.Typing.{first_type, operand_types, operation_type, result_type, value_type}
 use Rattle.lh_unit.specs.TypingRows.{bit}
-use Rattle.lh_unit.specs.Places.{Place}
+use Rattle.lh_unit.specs.Places.{InstPlaceText}
 use Rattle.lh_unit.specs.Within.{Each}
 use Rattle.lh_formed.specs.Sites.{AtEachSite}
 
@@ -20,38 +22,39 @@ abbrev pub GivesArray : ℕ → Op → List OperandText → Type 0
 GivesArray n o args = (t : TypeTree) × (first_type args ≡ Some t) × (array_fault n t ≡ None → operation_type o args ≡ Some (array_type n t))
 
 -- a comparison gives a bit, and a struct has fields of the types that are written, where the language has it
+abbrev pub ClassGives : OpClass → Op → List OperandText → Type 0
+ClassGives class.Unary o args = GivesFirst o args
+ClassGives class.Binary o args = GivesFirst o args
+ClassGives class.Relation o args = operation_type o args ≡ Some bit
+ClassGives class.Equality o args = operation_type o args ≡ Some bit
+ClassGives class.Shift o args = GivesFirst o args
+ClassGives class.Select o args = GivesFirst o args
+ClassGives (class.TakePart s) o args = GivesFirst o args
+ClassGives (class.PutPart s) o args = GivesFirst o args
+ClassGives class.Array o args = GivesArray (length args) o args
+ClassGives (class.Repeat n) o args = GivesArray n o args
+ClassGives class.Tuple o args = (r : TypeRow) × (operand_types args ≡ Some r) × (tuple_fault r ≡ None → operation_type o args ≡ Some (tuple_type r))
+
+-- the type of what an operation gives, by its class
 abbrev pub OperationGives : Op → List OperandText → Type 0
-OperationGives op.Eq args = operation_type op.Eq args ≡ Some bit
-OperationGives op.Neq args = operation_type op.Neq args ≡ Some bit
-OperationGives op.Slt args = operation_type op.Slt args ≡ Some bit
-OperationGives op.Sgt args = operation_type op.Sgt args ≡ Some bit
-OperationGives op.Sle args = operation_type op.Sle args ≡ Some bit
-OperationGives op.Sge args = operation_type op.Sge args ≡ Some bit
-OperationGives op.Ult args = operation_type op.Ult args ≡ Some bit
-OperationGives op.Ugt args = operation_type op.Ugt args ≡ Some bit
-OperationGives op.Ule args = operation_type op.Ule args ≡ Some bit
-OperationGives op.Uge args = operation_type op.Uge args ≡ Some bit
-OperationGives op.Array args = GivesArray (length args) op.Array args
-OperationGives (op.Repeat n) args = GivesArray n (op.Repeat n) args
-OperationGives op.Tuple args = (r : TypeRow) × (operand_types args ≡ Some r) × (tuple_fault r ≡ None → operation_type op.Tuple args ≡ Some (tuple_type r))
-OperationGives o args = GivesFirst o args
+OperationGives o args = ClassGives (class_of o) o args
 
 -- the type of what an instruction gives, by row
-abbrev pub Gives : InstText → Type 0
-Gives (pure_text o args) = OperationGives o args
-Gives (var_text a) = (t : TypeTree) × (a.ty ≡ Some t) × (result_type (var_text a) ≡ Some (pointer_type t))
-Gives (ld_text p) = (t : TypeTree) × (p.ty ≡ Some (pointer_type t)) × (result_type (ld_text p) ≡ Some t)
-Gives (sig_text a) = (t : TypeTree) × (a.ty ≡ Some t) × (result_type (sig_text a) ≡ Some (signal_type t))
-Gives (prb_text s) = (t : TypeTree) × (s.ty ≡ Some (signal_type t)) × (result_type (prb_text s) ≡ Some t)
-Gives (phi_text ty edges) = result_type (phi_text ty edges) ≡ Some ty
-Gives _ = Unit {0}
+abbrev pub GivesTypeOfRow : InstText → Type 0
+GivesTypeOfRow (pure_text o args) = OperationGives o args
+GivesTypeOfRow (var_text a) = (t : TypeTree) × (a.ty ≡ Some t) × (result_type (var_text a) ≡ Some (pointer_type t))
+GivesTypeOfRow (ld_text p) = (t : TypeTree) × (p.ty ≡ Some (pointer_type t)) × (result_type (ld_text p) ≡ Some t)
+GivesTypeOfRow (sig_text a) = (t : TypeTree) × (a.ty ≡ Some t) × (result_type (sig_text a) ≡ Some (signal_type t))
+GivesTypeOfRow (prb_text s) = (t : TypeTree) × (s.ty ≡ Some (signal_type t)) × (result_type (prb_text s) ≡ Some t)
+GivesTypeOfRow (phi_text ty edges) = result_type (phi_text ty edges) ≡ Some ty
+GivesTypeOfRow _ = Unit {0}
 
 -- Each instruction gives a value of a type, which its own line tells.
 abbrev pub ResultsHaveTypes : Type 0
-ResultsHaveTypes = AtEachSite (λ items s. Gives s.place.line.inst)
+ResultsHaveTypes = AtEachSite (λ items s. GivesTypeOfRow s.place.line.inst)
 
 -- no argument of the unit has this name, and no other instruction gives it
-pub record IsOnly (u : UnitText) (p : Place) (n : List ℕ) : Type 0 where
+pub record IsOnly (u : UnitText) (p : InstPlaceText) (n : List ℕ) : Type 0 where
   pub named : is_result_name n p.line.result ≡ true
   pub no_argument : args_define n u.args ≡ false
   pub no_other : Each (λ (b : BlockText). Each (λ (l : LineText). is_result_name n l.result ≡ true → l.inst ≡ p.line.inst) b.lines) u.blocks

@@ -2,7 +2,7 @@
 use Rattle.std.specs.Prelude.{◌≡◌, List, [], ◌∷◌, true, false, Some}
 use Rattle.lh_unit.specs.Contents.{InstText, phi_text, LineText, BlockText, UnitText, ItemText, unit_text, declare_text}
 use Rattle.lh_unit.specs.Named.{block_of, label_or}
-use Rattle.lh_unit.specs.Places.{Place, is_terminator, has_edge}
+use Rattle.lh_unit.specs.Places.{InstPlaceText, is_terminator, has_edge}
 use Rattle.lh_unit.specs.Within.{Each}
 use Rattle.lh_unit.specs.WellFormed.{Site, is_allowed, in_entity, is_phi, edges_naming, labels_named, IsFaultless}
 use Rattle.lh_formed.specs.Sites.{AtEachSite}
@@ -36,7 +36,7 @@ abbrev pub LabelsAreBlocks : Type 0
 LabelsAreBlocks = AtEachSite (λ items s. Each (λ n. (b : BlockText) × (block_of n s.unit.blocks ≡ Some b)) (labels_named s.place.line.inst))
 
 -- A `phi` stands behind other `phi` alone, not in the entry block, and names each block that has an edge to its own exactly once.
-abbrev pub PhiIsRight : UnitText → Place → InstText → Type 0
+abbrev pub PhiIsRight : UnitText → InstPlaceText → InstText → Type 0
 PhiIsRight u p (phi_text ty edges) =
     Each (λ (l : LineText). is_phi l.inst ≡ true) p.before
     × (p.in_entry ≡ false)

@@ -10,18 +10,21 @@ three start one second now a b d e g h = two start second now (a ++ b) d (two st
 four : (start one second third now a b d f : List ℕ) → one ≡ start ++ a → second ≡ one ++ b → third ≡ second ++ d → now ≡ third ++ f → now ≡ start ++ (a ++ b ++ d ++ f)
 four start one second third now a b d f e g h k = two start third now (a ++ b ++ d) f (three start one second third a b d e g h) k
 
-pub last-of-four : {T E : Type 0} (r : Result T E) (start one second third now a b d f : List ℕ) → one ≡ start ++ a → second ≡ one ++ b → third ≡ second ++ d → OnOk r (now ≡ third ++ f) → OnOk r (now ≡ start ++ (a ++ b ++ d ++ f))
+pub last-of-four : {T E : Type 0} (r : Result T E) (start one second third now a b d f : List ℕ) → one ≡ start ++ a → second ≡ one ++ b → third ≡ second ++ d → OnOk r (now ≡ third ++ f)
+    → OnOk r (now ≡ start ++ (a ++ b ++ d ++ f))
 last-of-four (Err x) start one second third now a b d f e g h k = tt
 last-of-four (Ok x) start one second third now a b d f e g h k = four start one second third now a b d f e g h k
 
 -- words and a number, words and a number, and words
-pub two-numbers : {T E : Type 0} (r : Result T E) (start one second now a m b n d : List ℕ) → one ≡ start ++ (a ++ m) → second ≡ one ++ (b ++ n) → OnOk r (now ≡ second ++ d) → OnOk r (now ≡ start ++ (a ++ m ++ b ++ n ++ d))
+pub two-numbers : {T E : Type 0} (r : Result T E) (start one second now a m b n d : List ℕ) → one ≡ start ++ (a ++ m) → second ≡ one ++ (b ++ n) → OnOk r (now ≡ second ++ d)
+    → OnOk r (now ≡ start ++ (a ++ m ++ b ++ n ++ d))
 two-numbers (Err x) start one second now a m b n d e g h = tt
 two-numbers (Ok x) start one second now a m b n d e g h =
     three start one second now (a ++ m) (b ++ n) d e g h ∙ ap (λ l. start ++ (l ++ d)) (sym (append_assoc (a ++ m) b n))
 
 -- words and a number three times, and words
-pub three-numbers : {T E : Type 0} (r : Result T E) (start one second third now a m b n d k f : List ℕ) → one ≡ start ++ (a ++ m) → second ≡ one ++ (b ++ n) → third ≡ second ++ (d ++ k) → OnOk r (now ≡ third ++ f) → OnOk r (now ≡ start ++ (a ++ m ++ b ++ n ++ d ++ k ++ f))
+pub three-numbers : {T E : Type 0} (r : Result T E) (start one second third now a m b n d k f : List ℕ) → one ≡ start ++ (a ++ m) → second ≡ one ++ (b ++ n) → third ≡ second ++ (d ++ k)
+    → OnOk r (now ≡ third ++ f) → OnOk r (now ≡ start ++ (a ++ m ++ b ++ n ++ d ++ k ++ f))
 three-numbers (Err x) start one second third now a m b n d k f e g h i = tt
 three-numbers (Ok x) start one second third now a m b n d k f e g h i =
     four start one second third now (a ++ m) (b ++ n) (d ++ k) f e g h i

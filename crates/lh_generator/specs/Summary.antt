@@ -10,7 +10,7 @@ use Rattle.lh_unit.specs.Trace.{End, quiet, steps, runaway, Run, Trace, refuses,
 use Rattle.lh_generator.specs.declared.summary.Ending.{Ending}
 use Rattle.lh_generator.specs.declared.summary.Ending.TheVariants.{Quiet, Steps, Runaway}
 use Rattle.lh_generator.specs.declared.summary.Counts.{Counts}
-use Rattle.lh_generator.specs.declared.summary.Course.{Course}
+use Rattle.lh_generator.specs.declared.summary.RunSummary.{RunSummary}
 use Rattle.lh_generator.specs.declared.summary.Units.{Units}
 
 -- how a run ended, without the instance that ran away
@@ -42,11 +42,11 @@ counts_of shown =
     }
 
 -- how a run went
-abbrev pub course_of : Run → Course
+abbrev pub course_of : Run → RunSummary
 course_of r = record { counts = counts_of (pictures None r.frames); ending = ending_of r.end }
 
 -- the trace is of a module that elaborates, and its run went so
-abbrev pub WentSo : Trace → Course → Type 0
+abbrev pub WentSo : Trace → RunSummary → Type 0
 WentSo (refuses why) course = ⊥
 WentSo (ran instances signals run) course = course ≡ course_of run
 
@@ -61,13 +61,13 @@ abbrev pub units_line : Units → List ℕ
 units_line u = codes "units " ++ decimal u.all ++ codes " lowered " ++ decimal u.lowered ++ codes " left " ++ decimal u.left ++ codes "\n"
 
 -- the line of a run, under a name
-abbrev pub course_line : (name : List ℕ) → Course → List ℕ
+abbrev pub course_line : (name : List ℕ) → RunSummary → List ℕ
 course_line name c =
     name ++ codes " frames " ++ decimal c.counts.frames ++ codes " changes " ++ decimal c.counts.changes
     ++ codes " ok " ++ decimal c.counts.passed ++ codes " failed " ++ decimal c.counts.failed ++ codes " " ++ ending_word c.ending ++ codes "\n"
 
 -- The summary: the units, the run of the module, and the run of the lowered module.
-abbrev pub summary : Units → (original lowered : Course) → List ℕ
+abbrev pub summary : Units → (original lowered : RunSummary) → List ℕ
 summary u c c' = units_line u ++ course_line (codes "original") c ++ course_line (codes "lowered") c'
 
 -- the top of the design
@@ -81,4 +81,4 @@ max_frames = 1000000
 -- The text is the summary of the traces of a module and of the lowered module, each from `@chain` down.
 abbrev pub IsSummaryOf : (original lowered : List ItemText) → Units → (text : List ℕ) → Type 0
 IsSummaryOf m m' units text =
-    (c : Course) × (c' : Course) × WentSo (trace m chain_name max_frames) c × WentSo (trace m' chain_name max_frames) c' × (text ≡ summary units c c')
+    (c : RunSummary) × (c' : RunSummary) × WentSo (trace m chain_name max_frames) c × WentSo (trace m' chain_name max_frames) c' × (text ≡ summary units c c')

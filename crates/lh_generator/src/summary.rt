@@ -80,7 +80,7 @@ impl Counts {
 
 /// How a run went: what its frames show, and how it ended.
 #[derive(Clone, Copy)]
-pub struct Course {
+pub struct RunSummary {
     pub counts: Counts,
     pub ending: Ending,
 }
@@ -98,8 +98,8 @@ pub struct Units {
 pub fn put_summary(
     to: &mut Vec<u8>,
     units: Units,
-    original: &Course,
-    lowered: &Course,
+    original: &RunSummary,
+    lowered: &RunSummary,
 ) -> Result<(), NoMemory>
     ensures { OnOk result (to.new.items ≡ to.old.items ++ text.summary units original.now lowered.now) }
 {
@@ -122,7 +122,7 @@ fn put_units(to: &mut Vec<u8>, units: Units) -> Result<(), NoMemory>
 }
 
 /// Puts the line of a run at the end of a text.
-fn put_course(to: &mut Vec<u8>, name: &[u8], course: &Course) -> Result<(), NoMemory>
+fn put_course(to: &mut Vec<u8>, name: &[u8], course: &RunSummary) -> Result<(), NoMemory>
     ensures { OnOk result (to.new.items ≡ to.old.items ++ course_line name.now course.now) }
 {
     put(to, name)?;

@@ -29,7 +29,12 @@ module _ (bit : ℕ) (t : Instant) where
   -- one that does not count changes nothing
   skipped : (b : Option Claim) (x : Claim) (xs : List Claim) (r : Option Claim) → is_due_by bit t x ≡ false → Result b xs r → Result b (x ∷ xs) r
   skipped b x xs None e h = (h.0, λ d m. ⊎_elim (λ p. ap (is_due_by bit t) (sym p) ∙ e) (λ q. h.1 d q) m)
-  skipped b x xs (Some c) e h = record { from = ⊎_elim inl (λ q. inr (inr q.0, q.1)) h.from; start = h.start; rest = λ d m k. ⊎_elim (λ p. absurd (clash (sym k ∙ ap (is_due_by bit t) (sym p) ∙ e))) (λ q. h.rest d q k) m }
+  skipped b x xs (Some c) e h = record {
+    from = ⊎_elim inl (λ q. inr (inr q.0, q.1)) h.from;
+    start = h.start;
+    rest = λ d m k. ⊎_elim (λ p. absurd (clash (sym k ∙ ap (is_due_by bit t) (sym p) ∙ e)))
+        (λ q. h.rest d q k) m;
+  }
     where
       clash : true ≡ false → ⊥
       clash z = cc

@@ -24,4 +24,5 @@ HistoriesJoin = (before more : List Made) → claims (before ++ more) ≡ claims
 
 -- A history with the wishes of a frame has its entries before, and then those of each instance in order, one due instant after the other; an instance that wishes nothing adds none.
 abbrev pub FramesSplit : Type 0
-FramesSplit = (history : List Made) (made : Instant) (wishes : List (List (Instant × List (ℕ × Bool)))) → claims (history ++ made_from made 0 (map writes_wish wishes)) ≡ claims history ++ frame_entries made 0 wishes
+FramesSplit = (history : List Made) (made : Instant) (wishes : List (List (Instant × List (ℕ × Bool)))) → claims (history ++ made_from made 0 (map writes_wish wishes)) ≡ claims history
+    ++ frame_entries made 0 wishes

@@ -8,7 +8,7 @@ use Rattle.std.specs.declared.cmp.Ordering.TheVariants.{Less}
 use Rattle.std.proofs.lemmas.Bool.Decides.{nat_tests}
 use Rattle.std.proofs.lemmas.List.{get_or_default}
 use Rattle.std.proofs.lemmas.List.Sorted.{searched}
-use Rattle.lh_index.specs.Rising.{Has, AreAbove, IsRising, HasOneMore, HasOneLess}
+use Rattle.lh_index.specs.Rising.{IsOneOf, AreAbove, IsRising, HasOneMore, HasOneLess}
 
 -- each number of a list at which each place is above is above
 pub all_above : (n : ℕ) (xs : List ℕ) → ((k : ℕ) → k < length xs → n < get_or xs k 0) → AreAbove n xs
@@ -20,7 +20,7 @@ above_at x [] i a l = absurd (omega arith)
 above_at x (y ∷ ys) zero a l = a.0
 above_at x (y ∷ ys) (suc i) a l = above_at x ys i a.1 (omega arith)
 
-has_above : (x k : ℕ) (xs : List ℕ) → AreAbove x xs → Has k xs → x < k
+has_above : (x k : ℕ) (xs : List ℕ) → AreAbove x xs → IsOneOf k xs → x < k
 has_above x k [] a h = absurd h
 has_above x k (y ∷ ys) a (inl p) = subst (λ z. x < z) p a.0
 has_above x k (y ∷ ys) a (inr h) = has_above x k ys a.1 h
@@ -37,18 +37,18 @@ pub found : (xs : List ℕ) (n : ℕ) (r : Result ℕ ℕ) → IsRising xs → I
     MatchResult r (λ i. (i < length xs) × (get_or xs i 0 ≡ n)) (λ i. (i ≤ length xs) × ((k : ℕ) → k < i → get_or xs k 0 < n) × ((k : ℕ) → i ≤ k → k < length xs → n < get_or xs k 0))
 found xs n r up s = searched xs n r s (rises xs up)
 
-pub has_at : (n : ℕ) (xs : List ℕ) (i : ℕ) → i < length xs → get_or xs i 0 ≡ n → Has n xs
+pub has_at : (n : ℕ) (xs : List ℕ) (i : ℕ) → i < length xs → get_or xs i 0 ≡ n → IsOneOf n xs
 has_at n [] i l e = absurd (omega arith)
 has_at n (x ∷ xs) zero l e = inl e
 has_at n (x ∷ xs) (suc i) l e = inr (has_at n xs i (omega arith) e)
 
-has_none : (n : ℕ) (xs : List ℕ) → ((k : ℕ) → k < length xs → get_or xs k 0 ≢ n) → Has n xs → ⊥
+has_none : (n : ℕ) (xs : List ℕ) → ((k : ℕ) → k < length xs → get_or xs k 0 ≢ n) → IsOneOf n xs → ⊥
 has_none n [] h p = p
 has_none n (x ∷ xs) h (inl p) = h 0 (omega arith) p
 has_none n (x ∷ xs) h (inr p) = has_none n xs (λ k l. h (suc k) (omega arith)) p
 
 -- it is not there, where those before its place are less and the others greater
-pub absent : (n i : ℕ) (xs : List ℕ) → ((k : ℕ) → k < i → get_or xs k 0 < n) → ((k : ℕ) → i ≤ k → k < length xs → n < get_or xs k 0) → Has n xs → ⊥
+pub absent : (n i : ℕ) (xs : List ℕ) → ((k : ℕ) → k < i → get_or xs k 0 < n) → ((k : ℕ) → i ≤ k → k < length xs → n < get_or xs k 0) → IsOneOf n xs → ⊥
 absent n i xs below above = has_none n xs (λ k l e. neither k l e (below k) (above k))
   where
     neither : (k : ℕ) → k < length xs → get_or xs k 0 ≡ n → (k < i → get_or xs k 0 < n) → (i ≤ k → k < length xs → n < get_or xs k 0) → ⊥
@@ -68,11 +68,11 @@ rising_put n (suc i) (x ∷ xs) l r below above = (
   rising_put n i xs (omega arith) r.1 (λ k a. below (suc k) (omega arith)) (λ k a b. above (suc k) (omega arith) (omega arith)),
 )
 
-further : (k n x : ℕ) (xs : List ℕ) → (k ≡ n) ⊎ Has k xs → (k ≡ n) ⊎ Has k (x ∷ xs)
+further : (k n x : ℕ) (xs : List ℕ) → (k ≡ n) ⊎ IsOneOf k xs → (k ≡ n) ⊎ IsOneOf k (x ∷ xs)
 further k n x xs (inl p) = inl p
 further k n x xs (inr h) = inr (inr h)
 
-has_put : (k n i : ℕ) (xs : List ℕ) → Has k (insert xs i n) → (k ≡ n) ⊎ Has k xs
+has_put : (k n i : ℕ) (xs : List ℕ) → IsOneOf k (insert xs i n) → (k ≡ n) ⊎ IsOneOf k xs
 has_put k n zero xs (inl p) = inl (sym p)
 has_put k n zero xs (inr h) = inr h
 has_put k n (suc i) [] (inl p) = inl (sym p)
@@ -80,7 +80,7 @@ has_put k n (suc i) [] (inr h) = absurd h
 has_put k n (suc i) (x ∷ xs) (inl p) = inr (inl p)
 has_put k n (suc i) (x ∷ xs) (inr h) = further k n x xs (has_put k n i xs h)
 
-put_has : (k n i : ℕ) (xs : List ℕ) → (k ≡ n) ⊎ Has k xs → Has k (insert xs i n)
+put_has : (k n i : ℕ) (xs : List ℕ) → (k ≡ n) ⊎ IsOneOf k xs → IsOneOf k (insert xs i n)
 put_has k n zero xs (inl p) = inl (sym p)
 put_has k n zero xs (inr h) = inr h
 put_has k n (suc i) [] (inl p) = inl (sym p)
@@ -102,11 +102,11 @@ pub put_behind : (n i : ℕ) (xs new : List ℕ) → i ≡ length xs → new ≡
 put_behind n i xs new l e = e ∙ sym (end_put n xs) ∙ ap (λ (k : ℕ). insert xs k n) (sym l)
 
 -- a number that was there
-pub there_already : (n : ℕ) (xs : List ℕ) → Has n xs → HasOneMore xs n xs
+pub there_already : (n : ℕ) (xs : List ℕ) → IsOneOf n xs → HasOneMore xs n xs
 there_already n xs h k = (λ p. inr p, λ p. either k p)
   where
-    either : (k : ℕ) → (k ≡ n) ⊎ Has k xs → Has k xs
-    either k (inl e) = subst (λ z. Has z xs) (sym e) h
+    either : (k : ℕ) → (k ≡ n) ⊎ IsOneOf k xs → IsOneOf k xs
+    either k (inl e) = subst (λ z. IsOneOf z xs) (sym e) h
     either k (inr p) = p
 
 above_cut : (x i : ℕ) (xs : List ℕ) → AreAbove x xs → AreAbove x (remove xs i)
@@ -121,20 +121,20 @@ rising_cut zero (x ∷ xs) r = r.1
 rising_cut (suc i) [] r = tt
 rising_cut (suc i) (x ∷ xs) r = (above_cut x i xs r.0, rising_cut i xs r.1)
 
-has_cut : (k i : ℕ) (xs : List ℕ) → Has k (remove xs i) → Has k xs
+has_cut : (k i : ℕ) (xs : List ℕ) → IsOneOf k (remove xs i) → IsOneOf k xs
 has_cut k zero [] h = h
 has_cut k zero (x ∷ xs) h = inr h
 has_cut k (suc i) [] h = h
 has_cut k (suc i) (x ∷ xs) (inl p) = inl p
 has_cut k (suc i) (x ∷ xs) (inr h) = inr (has_cut k i xs h)
 
-other_cut : (k n i : ℕ) (xs : List ℕ) → IsRising xs → i < length xs → get_or xs i 0 ≡ n → Has k (remove xs i) → k ≢ n
+other_cut : (k n i : ℕ) (xs : List ℕ) → IsRising xs → i < length xs → get_or xs i 0 ≡ n → IsOneOf k (remove xs i) → k ≢ n
 other_cut k n i [] r l e h = absurd (omega arith)
 other_cut k n zero (x ∷ xs) r l e h = let f : x < k = has_above x k xs r.0 h in λ p. omega arith
 other_cut k n (suc i) (x ∷ xs) r l e (inl p) = let f : x < get_or xs i 0 = above_at x xs i r.0 (omega arith) in λ q. omega arith
 other_cut k n (suc i) (x ∷ xs) r l e (inr h) = other_cut k n i xs r.1 (omega arith) e h
 
-cut_has : (k n i : ℕ) (xs : List ℕ) → i < length xs → get_or xs i 0 ≡ n → Has k xs → k ≢ n → Has k (remove xs i)
+cut_has : (k n i : ℕ) (xs : List ℕ) → i < length xs → get_or xs i 0 ≡ n → IsOneOf k xs → k ≢ n → IsOneOf k (remove xs i)
 cut_has k n i [] l e h o = absurd h
 cut_has k n zero (x ∷ xs) l e (inl p) o = absurd (o (sym p ∙ e))
 cut_has k n zero (x ∷ xs) l e (inr h) o = h
@@ -146,8 +146,8 @@ pub one_less : (n i : ℕ) (xs : List ℕ) → IsRising xs → i < length xs →
 one_less n i xs r l e k = (λ h. (has_cut k i xs h, other_cut k n i xs r l e h), λ p. cut_has k n i xs l e p.0 p.1)
 
 -- a number that was not there
-pub gone_already : (n : ℕ) (xs : List ℕ) → (Has n xs → ⊥) → HasOneLess xs n xs
-gone_already n xs missing k = (λ h. (h, λ e. missing (subst (λ z. Has z xs) e h)), λ p. p.0)
+pub gone_already : (n : ℕ) (xs : List ℕ) → (IsOneOf n xs → ⊥) → HasOneLess xs n xs
+gone_already n xs missing k = (λ h. (h, λ e. missing (subst (λ z. IsOneOf z xs) e h)), λ p. p.0)
 
 -- A search of a rising list, seen as `now` and searched as `sought`, has found the number, and it is taken out.
 pub found_out : (items now sought new : List ℕ) (n i : ℕ) → items ≡ now → sought ≡ items → IsRising items → IsBinarySearchResult (λ y. nat_cmp y n) sought (Ok i) →
@@ -157,17 +157,17 @@ found_out items now sought new n i v w r s e =
     in subst (λ z. HasOneLess z n new) v (subst (λ z. HasOneLess items n z) (sym e) (one_less n i items r f.0 f.1))
 
 -- it has found that the number is there
-pub found_there : (items now sought : List ℕ) (n i : ℕ) → items ≡ now → sought ≡ items → IsRising items → IsBinarySearchResult (λ y. nat_cmp y n) sought (Ok i) → Has n now
+pub found_there : (items now sought : List ℕ) (n i : ℕ) → items ≡ now → sought ≡ items → IsRising items → IsBinarySearchResult (λ y. nat_cmp y n) sought (Ok i) → IsOneOf n now
 found_there items now sought n i v w r s =
     let f : (i < length items) × (get_or items i 0 ≡ n) = found items n (Ok i) r (subst (λ z. IsBinarySearchResult (λ y. nat_cmp y n) z (Ok i)) w s)
-    in subst (λ z. Has n z) v (has_at n items i f.0 f.1)
+    in subst (λ z. IsOneOf n z) v (has_at n items i f.0 f.1)
 
 -- it has found that the number is not there
-pub found_missing : (items now sought : List ℕ) (n i : ℕ) → items ≡ now → sought ≡ items → IsRising items → IsBinarySearchResult (λ y. nat_cmp y n) sought (Err i) → Has n now → ⊥
+pub found_missing : (items now sought : List ℕ) (n i : ℕ) → items ≡ now → sought ≡ items → IsRising items → IsBinarySearchResult (λ y. nat_cmp y n) sought (Err i) → IsOneOf n now → ⊥
 found_missing items now sought n i v w r s h =
     let f : (i ≤ length items) × ((k : ℕ) → k < i → get_or items k 0 < n) × ((k : ℕ) → i ≤ k → k < length items → n < get_or items k 0) =
     found items n (Err i) r (subst (λ z. IsBinarySearchResult (λ y. nat_cmp y n) z (Err i)) w s)
-    in absent n i items f.1 f.2 (subst (λ z. Has n z) (sym v) h)
+    in absent n i items f.1 f.2 (subst (λ z. IsOneOf n z) (sym v) h)
 
 -- the number is put in at the place that it has found
 pub found_in : (items now sought new : List ℕ) (n i : ℕ) → items ≡ now → sought ≡ items → IsRising items → IsBinarySearchResult (λ y. nat_cmp y n) sought (Err i) →
@@ -186,10 +186,20 @@ less_is x n l = grind (arith, nat_tests)
 -- where the last number is below, the place is at the end
 pub place_behind : (xs : List ℕ) (n : ℕ) → IsRising xs → 0 < length xs → get_or xs (length xs - 1) 0 < n → IsBinarySearchResult (λ y. nat_cmp y n) xs (Err (length xs))
 place_behind xs n r some below = λ sorted. (
-  λ k d low high. let l : get_or xs k d < n = (let e : get_or xs k d ≡ get_or xs k 0 = get_or_default xs k d 0 high in let le : get_or xs k 0 ≤ get_or xs (length xs - 1) 0 = rises xs r k (length xs - 1) (omega arith) (omega arith) in omega arith) in less_is (get_or xs k d) n l,
+  λ k d low high. let l : get_or xs k d < n = (let e : get_or xs k d ≡ get_or xs k 0 = get_or_default xs k d 0 high in
+      let le : get_or xs k 0 ≤ get_or xs (length xs - 1) 0 = rises xs r k (length xs - 1) (omega arith) (omega arith) in omega arith) in less_is (get_or xs k d) n l,
   λ k d low high. absurd (omega arith),
 )
 
 -- the place lies within the list or at its end
 pub place_within : (items now sought : List ℕ) (n i : ℕ) → items ≡ now → sought ≡ items → IsRising items → IsBinarySearchResult (λ y. nat_cmp y n) sought (Err i) → i ≤ length items
 place_within items now sought n i v w r s = (found items n (Err i) r (subst (λ z. IsBinarySearchResult (λ y. nat_cmp y n) z (Err i)) w s)).0
+
+-- the number is put in at the end, where the last one is below
+pub put_last : (items now sought new : List ℕ) (n : ℕ) → items ≡ now → sought ≡ items → IsRising items → 0 < length sought → get_or sought (length sought - 1) 0 < n → new ≡ items ++ n ∷ [] →
+    (IsRising new × HasOneMore now n new) × (IsOneOf n now → ⊥)
+put_last items now sought new n v w r some below e =
+    let s = place_behind sought n (subst IsRising (sym w) r) some below in (
+      found_in items now sought new n (length sought) v w r s (put_behind n (length sought) items new (ap (λ (xs : List ℕ). length xs) w) e),
+      found_missing items now sought n (length sought) v w r s,
+    )

@@ -13,7 +13,7 @@ use Rattle.lh_time.specs.Order.{instant_cmp, instant_le}
 use Rattle.lh_history.proofs.Orders.{then_equal, nat_one}
 use Rattle.lh_history.proofs.Instants.{instant_one, le_self}
 use Rattle.lh_time.proofs.OrderLemmas.{instant_cmp_total}
-use Rattle.lh_index.specs.Rising.{Has, AreAbove, IsRising}
+use Rattle.lh_index.specs.Rising.{IsOneOf, AreAbove, IsRising}
 use Rattle.lh_index.specs.declared.wakes.Wake.{Wake}
 use Rattle.lh_index.specs.Waking.{IsNoted, NotesOneMore, NotesOneLess, IsSoonest, first_at, AreDue}
 
@@ -177,13 +177,13 @@ unfolding IsStrictlySortedBy
 rising_first t [] o = tt
 rising_first t (x ∷ xs) o = rising_if (is_eq (instant_cmp x.at t)) x t xs refl o.0 (rising_first t xs o.1)
 
-in_if : (b : Bool) (k : ℕ) (x : Wake) (t : Instant) (xs : List Wake) → is_eq (instant_cmp x.at t) ≡ b → (Has k (first_at t xs) → IsNoted xs t k) →
-    Has k (if b then x.instance ∷ first_at t xs else []) → IsNoted (x ∷ xs) t k
+in_if : (b : Bool) (k : ℕ) (x : Wake) (t : Instant) (xs : List Wake) → is_eq (instant_cmp x.at t) ≡ b → (IsOneOf k (first_at t xs) → IsNoted xs t k) →
+    IsOneOf k (if b then x.instance ∷ first_at t xs else []) → IsNoted (x ∷ xs) t k
 in_if false k x t xs f g h = absurd h
 in_if true k x t xs f g (inl p) = inl (instant_one x.at t (is_equal _ f), p)
 in_if true k x t xs f g (inr h) = inr (g h)
 
-in_first : (k : ℕ) (t : Instant) (xs : List Wake) → Has k (first_at t xs) → IsNoted xs t k
+in_first : (k : ℕ) (t : Instant) (xs : List Wake) → IsOneOf k (first_at t xs) → IsNoted xs t k
 in_first k t [] h = absurd h
 in_first k t (x ∷ xs) h = in_if (is_eq (instant_cmp x.at t)) k x t xs refl (in_first k t xs) h
 
@@ -197,7 +197,7 @@ abbrev pub NoneBefore : List Wake → Instant → Type 0
 NoneBefore xs t = (u : Instant) (k : ℕ) → IsNoted xs u k → instant_le t u ≡ true
 
 has_if : (b : Bool) (k : ℕ) (x : Wake) (t : Instant) (xs : List Wake) → is_eq (instant_cmp x.at t) ≡ b → instant_le t x.at ≡ true → AllByRecursion (λ y. wake_cmp x y ≡ Less) xs →
-    (IsNoted xs t k → Has k (first_at t xs)) → IsNoted (x ∷ xs) t k → Has k (if b then x.instance ∷ first_at t xs else [])
+    (IsNoted xs t k → IsOneOf k (first_at t xs)) → IsNoted (x ∷ xs) t k → IsOneOf k (if b then x.instance ∷ first_at t xs else [])
 has_if true k x t xs f l a g (inl p) = inl p.1
 has_if true k x t xs f l a g (inr h) = inr (g h)
 has_if false k x t xs f l a g (inl p) =
@@ -205,7 +205,7 @@ has_if false k x t xs f l a g (inl p) =
     absurd (true_false (sym (one_instant t x.at l q) ∙ f))
 has_if false k x t xs f l a g (inr h) = absurd (true_false (sym (one_instant t x.at l (noted_later x t k xs a h)) ∙ f))
 
-first_has : (k : ℕ) (t : Instant) (xs : List Wake) → IsStrictlySortedBy wake_cmp xs → NoneBefore xs t → IsNoted xs t k → Has k (first_at t xs)
+first_has : (k : ℕ) (t : Instant) (xs : List Wake) → IsStrictlySortedBy wake_cmp xs → NoneBefore xs t → IsNoted xs t k → IsOneOf k (first_at t xs)
 unfolding IsStrictlySortedBy
 first_has k t [] o n h = absurd h
 first_has k t (x ∷ xs) o n h =

@@ -2,9 +2,9 @@
 use Rattle.std.specs.Prelude.{ℕ, ◌<◌, List, [], ◌∷◌, ◌≡◌, ◌≢◌, ◌⊎◌, ◌↔◌}
 
 -- it is one of these
-abbrev pub Has : ℕ → List ℕ → Type 0
-Has k [] = ⊥
-Has k (x ∷ more) = (x ≡ k) ⊎ Has k more
+abbrev pub IsOneOf : ℕ → List ℕ → Type 0
+IsOneOf k [] = ⊥
+IsOneOf k (x ∷ more) = (x ≡ k) ⊎ IsOneOf k more
 
 -- each of these is greater
 abbrev pub AreAbove : ℕ → List ℕ → Type 0
@@ -18,8 +18,8 @@ IsRising (x ∷ more) = AreAbove x more × IsRising more
 
 -- the new list has this number and what the old one has
 abbrev pub HasOneMore : (old : List ℕ) → ℕ → (new : List ℕ) → Type 0
-HasOneMore old n new = (k : ℕ) → Has k new ↔ ((k ≡ n) ⊎ Has k old)
+HasOneMore old n new = (k : ℕ) → IsOneOf k new ↔ ((k ≡ n) ⊎ IsOneOf k old)
 
 -- the new list has what the old one has, but for this number
 abbrev pub HasOneLess : (old : List ℕ) → ℕ → (new : List ℕ) → Type 0
-HasOneLess old n new = (k : ℕ) → Has k new ↔ (Has k old × (k ≢ n))
+HasOneLess old n new = (k : ℕ) → IsOneOf k new ↔ (IsOneOf k old × (k ≢ n))

@@ -3,7 +3,7 @@ use Rattle.std.specs.Prelude.{ℕ, List, [], ◌∷◌, true, if◌then◌else�
 use Rattle.lh_time.specs.declared.Instant.{Instant}
 use Rattle.std.specs.Ordering.{is_eq}
 use Rattle.lh_time.specs.Order.{instant_cmp, instant_le}
-use Rattle.lh_index.specs.Rising.{Has, IsRising}
+use Rattle.lh_index.specs.Rising.{IsOneOf, IsRising}
 use Rattle.lh_index.specs.declared.wakes.Wake.{Wake}
 
 -- it is noted that the instance wakes by itself at the instant
@@ -32,4 +32,4 @@ first_at t (w ∷ more) = if is_eq (instant_cmp w.at t) then w.instance ∷ firs
 -- exactly the instances that wake by themselves at the instant, rising
 pub record AreDue (wakes : List Wake) (t : Instant) (due : List ℕ) : Type 0 where
   pub rising : IsRising due
-  pub all : (k : ℕ) → Has k due ↔ IsNoted wakes t k
+  pub all : (k : ℕ) → IsOneOf k due ↔ IsNoted wakes t k

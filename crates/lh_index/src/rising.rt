@@ -1,9 +1,7 @@
 //! A list of rising numbers.
-ghost use Rattle.std.specs.Prelude.{◌≡◌, ◌≤◌, [], ℕ, false, true, vec_len, IfOk, OnOk, OnErr, ◌↔◌};
+ghost use Rattle.std.specs.Prelude.{◌≡◌, ◌<◌, ◌≤◌, ◌-◌, [], false, true, length, get_or, vec_len, IfOk, OnOk, OnErr, IsTrue, ◌↔◌};
 ghost use Rattle.std.specs.List.{insert};
-ghost use Rattle.std.specs.List.Sorted.{IsBinarySearchResult};
-ghost use Rattle.std.specs.Ordering.{nat_cmp};
-ghost use Rattle.lh_index.specs.Rising.{Has, IsRising, HasOneMore, HasOneLess};
+ghost use Rattle.lh_index.specs.Rising.{IsOneOf, IsRising, HasOneMore, HasOneLess};
 
 use lh_types::ty::NoMemory;
 use std::alloc::Global;
@@ -49,7 +47,7 @@ impl Rising {
 
     /// Whether a number is there.
     pub fn has(&self, n: u32) -> bool
-        ensures { (result ≡ true) ↔ Has n self.now }
+        ensures { (result ≡ true) ↔ IsOneOf n self.now }
     {
         match self.numbers.binary_search(&n) {
             Ok(_) => true,
@@ -58,12 +56,28 @@ impl Rising {
     }
 
     /// Adds a number, unless it is there; answers whether it was added. After `NoMemory` the list is as it was.
+    #[inline]
     pub fn enter(&mut self, n: u32) -> Result<bool, NoMemory>
         ensures has { IfOk result (λ added. HasOneMore self.old n self.new) }
-        ensures there { IfOk result (λ added. (added ≡ false) ↔ Has n self.old) }
+        ensures there { IfOk result (λ added. (added ≡ false) ↔ IsOneOf n self.old) }
         ensures err { OnErr result (self.new ≡ self.old) }
     {
-        match place_of(self.numbers.as_slice(), n) {
+        // Most numbers come in order.
+        if comes_last(self.numbers.as_slice(), self.numbers.capacity(), n) {
+            self.numbers.push_reserved(n);
+            return Ok(true);
+        }
+        self.enter_in_place(n)
+    }
+
+    /// The same, wherever the number comes.
+    #[inline(never)]
+    fn enter_in_place(&mut self, n: u32) -> Result<bool, NoMemory>
+        ensures has { IfOk result (λ added. HasOneMore self.old n self.new) }
+        ensures there { IfOk result (λ added. (added ≡ false) ↔ IsOneOf n self.old) }
+        ensures err { OnErr result (self.new ≡ self.old) }
+    {
+        match self.numbers.binary_search(&n) {
             Ok(_) => Ok(false),
             Err(place) => {
                 begin_with_room(&mut self.numbers)?;
@@ -107,14 +121,15 @@ fn begin_with_room(numbers: &mut Vec<u32>) -> Result<(), NoMemory>
     Ok(())
 }
 
-/// Where a number stands among rising ones, or is to be put in. The last is looked at first: most numbers come in order.
-fn place_of(numbers: &[u32], n: u32) -> Result<usize, usize>
-    requires { IsRising numbers.now }
-    ensures { IsBinarySearchResult (λ (y : ℕ). nat_cmp y n) numbers.now result }
+/// Whether a number is greater than the last one, where there is room for it.
+fn comes_last(numbers: &[u32], room: usize, n: u32) -> bool
+    ensures some { IsTrue result → 0 < length numbers.now }
+    ensures last { IsTrue result → get_or numbers.now (length numbers.now - 1) 0 < n }
+    ensures room { IsTrue result → length numbers.now < room }
 {
     let len = numbers.len();
-    if len > 0 && numbers[len - 1] < n {
-        return Err(len);
+    if len == 0 || len >= room {
+        return false;
     }
-    numbers.binary_search(&n)
+    numbers[len - 1] < n
 }

@@ -1,6 +1,6 @@
 //! The index from signals to the instances that sense them.
 ghost use Rattle.std.specs.Prelude.{◌≡◌, ◌<◌, ◌↔◌, ℕ, true, length, IfOk, OnErr};
-ghost use Rattle.lh_index.specs.Rising.{Has, IsRising};
+ghost use Rattle.lh_index.specs.Rising.{IsOneOf, IsRising};
 ghost use Rattle.lh_index.specs.Sensed.{sensed_by, Senses, SensesOneMore, SensesOneLess};
 
 use crate::rising::Rising;

@@ -65,13 +65,15 @@ goes-fewer (suc n) (suc m) s p l g = (g.0, λ q e. goes-fewer n m s q (omega (ar
 
 module _ (s : Scene) (u : UnitText) (name : UnitName) (top : ℕ) (w : FunctionsTidy s.functions) where
   -- a line that opens no copy
-  past-alike : (p f : Point) (a : Alike s u name top w p f) (l : LineText) (rest : List LineText) → p.control.rest ≡ l ∷ rest → opened s.functions a.copy (call_path a.copy p.control.block (length a.runs.before)) l.inst ≡ None
+  past-alike : (p f : Point) (a : Alike s u name top w p f) (l : LineText) (rest : List LineText) → p.control.rest ≡ l ∷ rest
+      → opened s.functions a.copy (call_path a.copy p.control.block (length a.runs.before)) l.inst ≡ None
       → Alike s u name top w (past s u name top w p rest) (past s u name top w f (pieces_from (flat_copy a.left s.functions) s.functions a.copy p.control.block (length a.runs.before + 1) rest).rest)
   past-alike p f a l rest e q = record {
     copy = a.copy;
     left = a.left;
     place = a.place;
-    runs = runs-past s u name top w a.left a.copy p.control f.control.block f.control.block rest (pieces_from (flat_copy a.left s.functions) s.functions a.copy p.control.block (length a.runs.before + 1) rest).rest l a.runs.text a.runs.before a.runs.unit a.runs.stands
+    runs = runs-past s u name top w a.left a.copy p.control f.control.block f.control.block rest
+        (pieces_from (flat_copy a.left s.functions) s.functions a.copy p.control.block (length a.runs.before + 1) rest).rest l a.runs.text a.runs.before a.runs.unit a.runs.stands
         (a.runs.split ∙ ap (λ ls. a.runs.before ++ ls) e) a.runs.here (sym (ap (λ o. option_map_or (λ (d : Copy). d.path) o f.control.block) q)) refl;
     unit = a.unit;
     holds = a.holds;
@@ -96,14 +98,17 @@ module _ (s : Scene) (u : UnitText) (name : UnitName) (top : ℕ) (w : Functions
     line-tidy = each-middle (LineTidy s.functions a.copy.unit) a.runs.before rest l a.runs.text.lines split tidy.lines
 
     -- the flat text executes the copy of the line
-    copied-step : opened s.functions a.copy (call_path a.copy p.control.block (length a.runs.before)) l.inst ≡ None → step s f ≡ executes s (copied s.functions a.copy l.inst) (option_map a.copy.value l.result) (past s u name top w f behind)
+    copied-step : opened s.functions a.copy (call_path a.copy p.control.block (length a.runs.before)) l.inst ≡ None
+        → step s f ≡ executes s (copied s.functions a.copy l.inst) (option_map a.copy.value l.result) (past s u name top w f behind)
     copied-step q =
         ap (steps_by s f)
         (a.runs.next
         ∙ ap (λ ls. (pieces_from (flat_copy a.left s.functions) s.functions a.copy p.control.block (length a.runs.before) ls).rest) e
-        ∙ ap (λ z. (with_line (flat_copy a.left s.functions) s.functions a.copy l z (pieces_from (flat_copy a.left s.functions) s.functions a.copy p.control.block (length a.runs.before + 1) rest)).rest) q)
+        ∙ ap (λ z. (with_line (flat_copy a.left s.functions) s.functions a.copy l z
+        (pieces_from (flat_copy a.left s.functions) s.functions a.copy p.control.block (length a.runs.before + 1) rest)).rest) q)
 
-    simple : Simple s u name top w l.inst → opened s.functions a.copy (call_path a.copy p.control.block (length a.runs.before)) l.inst ≡ None → Follows s u name top w (executes s l.inst l.result (past s u name top w p rest)) (step s f)
+    simple : Simple s u name top w l.inst → opened s.functions a.copy (call_path a.copy p.control.block (length a.runs.before)) l.inst ≡ None
+        → Follows s u name top w (executes s l.inst l.result (past s u name top w p rest)) (step s f)
     unfolding past-alike
     simple m q =
         subst (Follows s u name top w (executes s l.inst l.result (past s u name top w p rest))) (sym (copied-step q))
@@ -111,25 +116,31 @@ module _ (s : Scene) (u : UnitText) (name : UnitName) (top : ℕ) (w : Functions
         (λ t. ends-last a.runs.before rest l (subst EndsOnce split tidy.ends) t))
 
     -- no function has the name
-    nothing-called : (g : UnitName) (ty : TypeTree) (args : List OperandText) → is_assert g ≡ false → opened s.functions a.copy (call_path a.copy p.control.block (length a.runs.before)) (call_text g ty args) ≡ None → function_named g s.functions ≡ None
+    nothing-called : (g : UnitName) (ty : TypeTree) (args : List OperandText) → is_assert g ≡ false
+        → opened s.functions a.copy (call_path a.copy p.control.block (length a.runs.before)) (call_text g ty args) ≡ None → function_named g s.functions ≡ None
     nothing-called g ty args b q = by (is_assert g) b (function_named g s.functions) q
       where
-        by : (c : Bool) → c ≡ false → (o : Option UnitText) → (if c then None else option_map (copy_at (call_path a.copy p.control.block (length a.runs.before)) (map (λ (x : OperandText). a.copy.value x.value) args)) o) ≡ None → o ≡ None
+        by : (c : Bool) → c ≡ false → (o : Option UnitText)
+            → (if c then None else option_map (copy_at (call_path a.copy p.control.block (length a.runs.before)) (map (λ (x : OperandText). a.copy.value x.value) args)) o) ≡ None → o ≡ None
         by true z o r = absurd cc
         by false z None r = refl
         by false z (Some v) r = absurd (none-some _ (sym r))
 
-    call-by : (g : UnitName) (ty : TypeTree) (args : List OperandText) → l.inst ≡ call_text g ty args → opened s.functions a.copy (call_path a.copy p.control.block (length a.runs.before)) l.inst ≡ None → (b : Bool) → is_assert g ≡ b
+    call-by : (g : UnitName) (ty : TypeTree) (args : List OperandText) → l.inst ≡ call_text g ty args → opened s.functions a.copy (call_path a.copy p.control.block (length a.runs.before)) l.inst
+        ≡ None → (b : Bool) → is_assert g ≡ b
         → Follows s u name top w (executes s l.inst l.result (past s u name top w p rest)) (step s f)
     call-by g ty args i q true b = simple (subst (Simple s u name top w) (sym i) b) q
     call-by g ty args i q false b =
         subst (λ x. Follows s u name top w x (step s f))
         (sym (ap (λ j. executes s j l.result (past s u name top w p rest)) i
-        ∙ ap (λ c. if c then tells (past s u name top w p rest) (asserted p.control.held args) else opens (past s u name top w p rest) l.result (called (function_named g s.functions) (data_at p.control.held args))) b
-        ∙ ap (λ o. opens (past s u name top w p rest) l.result (called o (data_at p.control.held args))) (nothing-called g ty args b (ap (opened s.functions a.copy (call_path a.copy p.control.block (length a.runs.before))) (sym i) ∙ q))))
+        ∙ ap (λ c. if c then tells (past s u name top w p rest) (asserted p.control.held args) else opens (past s u name top w p rest) l.result
+        (called (function_named g s.functions) (data_at p.control.held args))) b
+        ∙ ap (λ o. opens (past s u name top w p rest) l.result (called o (data_at p.control.held args))) (nothing-called g ty args b
+        (ap (opened s.functions a.copy (call_path a.copy p.control.block (length a.runs.before))) (sym i) ∙ q))))
         tt
 
-    by-inst : (i : InstText) → l.inst ≡ i → opened s.functions a.copy (call_path a.copy p.control.block (length a.runs.before)) l.inst ≡ None → Follows s u name top w (executes s l.inst l.result (past s u name top w p rest)) (step s f)
+    by-inst : (i : InstText) → l.inst ≡ i → opened s.functions a.copy (call_path a.copy p.control.block (length a.runs.before)) l.inst ≡ None
+        → Follows s u name top w (executes s l.inst l.result (past s u name top w p rest)) (step s f)
     by-inst (ret_text o) i q = subst (λ j. Follows s u name top w (executes s j l.result (past s u name top w p rest)) (step s f)) (sym i) (ret-follows s u name top w p f a l rest o e i)
     by-inst (call_text g ty args) i q = call-by g ty args i q (is_assert g) refl
     by-inst (const_text d) i q = simple (subst (Simple s u name top w) (sym i) tt) q
@@ -148,7 +159,8 @@ module _ (s : Scene) (u : UnitText) (name : UnitName) (top : ℕ) (w : Functions
     by-inst (wait_text to after signals) i q = simple (subst (Simple s u name top w) (sym i) tt) q
     by-inst halt_text i q = simple (subst (Simple s u name top w) (sym i) tt) q
 
-    by-copy : (o : Option Copy) → opened s.functions a.copy (call_path a.copy p.control.block (length a.runs.before)) l.inst ≡ o → Follows s u name top w (executes s l.inst l.result (past s u name top w p rest)) (step s f)
+    by-copy : (o : Option Copy) → opened s.functions a.copy (call_path a.copy p.control.block (length a.runs.before)) l.inst ≡ o
+        → Follows s u name top w (executes s l.inst l.result (past s u name top w p rest)) (step s f)
     by-copy None q = by-inst l.inst refl q
     by-copy (Some d) q = call-follows s u name top w p f a l rest d e q
 
@@ -172,7 +184,8 @@ module _ (s : Scene) (u : UnitText) (name : UnitName) (top : ℕ) (w : Functions
   few : (m n t : ℕ) → m + n ≡ t → t < 256 → 256 ≤ m → ⊥
   few m n t e l h = omega arith
 
-  meets-comes : (n : ℕ) (p q g : Point) (done : Activated) → step s p ≡ goes q → ((h : Point) → Alike s u name top w q h → run n s h ≡ Some done → Comes n q done) → ((m : ℕ) (h : Point) → n ≡ suc m → Alike s u name top w q h → run m s h ≡ Some done → Comes m q done)
+  meets-comes : (n : ℕ) (p q g : Point) (done : Activated) → step s p ≡ goes q → ((h : Point) → Alike s u name top w q h → run n s h ≡ Some done → Comes n q done)
+      → ((m : ℕ) (h : Point) → n ≡ suc m → Alike s u name top w q h → run m s h ≡ Some done → Comes m q done)
       → Meets s u name top w q g → run n s g ≡ Some done → Comes (suc n) p done
   meets-comes n p q g done e first other (inl a) r = let c = first g a r in record { end = c.end; comes = ap (λ x. went x (run n s)) e ∙ c.comes; alike = c.alike }
   meets-comes zero p q g done e first other (inr h) r = absurd (none-some done r)
@@ -188,12 +201,14 @@ module _ (s : Scene) (u : UnitText) (name : UnitName) (top : ℕ) (w : Functions
       (λ q h z x y. run-within limit n q h done (omega (arith, m)) l x (g.1 q z) y)
       (λ q k h i z x y. run-within limit k q h done (omega (arith, m, i)) l x (goes-fewer k n s q (omega (arith, i)) (g.1 q z)) y)
     where
-      by : (x : Next) → step s p ≡ x → (y : Next) → step s f ≡ y → Follows s u name top w x y → ((q h : Point) → step s p ≡ goes q → Alike s u name top w q h → run n s h ≡ Some done → Comes n q done) → ((q : Point) (m : ℕ) (h : Point) → n ≡ suc m → step s p ≡ goes q → Alike s u name top w q h → run m s h ≡ Some done → Comes m q done) → Comes (suc n) p done
+      by : (x : Next) → step s p ≡ x → (y : Next) → step s f ≡ y → Follows s u name top w x y → ((q h : Point) → step s p ≡ goes q → Alike s u name top w q h → run n s h ≡ Some done → Comes n q done)
+          → ((q : Point) (m : ℕ) (h : Point) → n ≡ suc m → step s p ≡ goes q → Alike s u name top w q h → run m s h ≡ Some done → Comes m q done) → Comes (suc n) p done
       by no_step e y z t go other = absurd (few (length p.callers) a.left top a.count l (g.0 e))
       by (goes q) e (goes h) z t go other = meets-comes n p q h done e (λ k. go q k e) (λ m k i. other q m k i e) t (sym (ap (λ y. went y (run n s)) z) ∙ r)
       by (goes q) e (ends d) z t go other = absurd t
       by (goes q) e no_step z t go other = absurd t
-      by (ends d) e (ends y) z t go other = record { end = d; comes = ap (λ x. went x (run n s)) e; alike = subst (EndsAlike s.functions u d) (same_Some y done (sym (ap (λ x. went x (run n s)) z) ∙ r)) t }
+      by (ends d) e (ends y) z t go other = record
+          { end = d; comes = ap (λ x. went x (run n s)) e; alike = subst (EndsAlike s.functions u d) (same_Some y done (sym (ap (λ x. went x (run n s)) z) ∙ r)) t }
       by (ends d) e (goes h) z t go other = absurd t
       by (ends d) e no_step z t go other = absurd t
 
@@ -212,7 +227,8 @@ module _ (s : Scene) (u : UnitText) (name : UnitName) (top : ℕ) (w : Functions
     zero_first : (m : ℕ) → 0 + m ≡ m
     zero_first m = omega arith
 
-    begin-alike : (c g : Control) → g.unit ≡ flat s u name top w → Runs s u name top w top (top_copy u) c g.block g.rest → Holds u (top_copy u) c.held g.held → Alike s u name top w (start_point c) (start_point g)
+    begin-alike : (c g : Control) → g.unit ≡ flat s u name top w → Runs s u name top w top (top_copy u) c g.block g.rest → Holds u (top_copy u) c.held g.held
+        → Alike s u name top w (start_point c) (start_point g)
     begin-alike c g x r h = record {
       copy = top_copy u;
       left = top;
@@ -236,13 +252,19 @@ module _ (s : Scene) (u : UnitText) (name : UnitName) (top : ℕ) (w : Functions
     new-begun : (e f : Env) (c : Control) → HoldsMore e f → entry u e ≡ Some c → Begun c (entry (flat s u name top w) f)
     new-begun e f c h q = by u.blocks refl q
       where
-        by : (bs : List BlockText) → u.blocks ≡ bs → at_first u e bs ≡ Some c → Begun c (at_first (flat s u name top w) f (map as_block (flat_map (flat_block (flat_copy top s.functions) s.functions (top_copy u)) u.blocks)))
+        by : (bs : List BlockText) → u.blocks ≡ bs → at_first u e bs ≡ Some c
+            → Begun c (at_first (flat s u name top w) f (map as_block (flat_map (flat_block (flat_copy top s.functions) s.functions (top_copy u)) u.blocks)))
         by [] z r = absurd (none-some c r)
         by (b ∷ more) z r =
             let tidy : BlockTidy s.functions u b = (subst (Each (BlockTidy s.functions u)) z t.blocks).0 in
             let found : block_of (label_or b.label) u.blocks ≡ Some b = ap (block_of (label_or b.label)) z ∙ first-named b more record { some = tidy.labelled; plain = tidy.plain } in
             let k : Control = record { unit = u; block = label_or b.label; rest = b.lines; held = e } in
-            let g : Control = record { unit = flat s u name top w; block = first_piece (top_copy u) (label_or b.label); rest = (pieces_from (flat_copy top s.functions) s.functions (top_copy u) (label_or b.label) 0 b.lines).rest; held = f } in
+            let g : Control = record {
+              unit = flat s u name top w;
+              block = first_piece (top_copy u) (label_or b.label);
+              rest = (pieces_from (flat_copy top s.functions) s.functions (top_copy u) (label_or b.label) 0 b.lines).rest;
+              held = f;
+            } in
             subst (λ x. Begun x (at_first (flat s u name top w) f (map as_block (flat_map (flat_block (flat_copy top s.functions) s.functions (top_copy u)) u.blocks)))) (same_Some k c r)
             record {
               control = g;
@@ -250,7 +272,8 @@ module _ (s : Scene) (u : UnitText) (name : UnitName) (top : ℕ) (w : Functions
               alike = begin-alike k g refl (first-runs s u name top w top (top_copy u) (label_or b.label) b e found) (top-holds e f h);
             }
 
-    waits-begun : (e f : Env) (c : Control) (block to : List ℕ) → HoldsMore e f → IsPlain block → entered u e block to ≡ Some c → Begun c (entered (flat s u name top w) f (last_piece_of s.functions (top_copy u) block) to)
+    waits-begun : (e f : Env) (c : Control) (block to : List ℕ) → HoldsMore e f → IsPlain block → entered u e block to ≡ Some c
+        → Begun c (entered (flat s u name top w) f (last_piece_of s.functions (top_copy u) block) to)
     waits-begun e f c block to h p q =
         let x = enters s u name top w top (top_copy u) e f block to c top-place (top-holds e f h) p q in
         record { control = x.control; begins = x.enters; alike = begin-alike c x.control x.unit x.runs x.gives.holds }
@@ -263,12 +286,14 @@ module _ (s : Scene) (u : UnitText) (name : UnitName) (top : ℕ) (w : Functions
     begun : (process text : ProcessState) (c : Control) → StandsAlike s.functions u process text → control_at u process ≡ Some c → Begun c (control_at (flat s u name top w) text)
     begun process text c a q = subst (λ v. Begun c (control_from (flat s u name top w) text.held v)) (sym a.stand) (stand-begun process.stand process.held text.held c a.held a.plain q)
 
-    pub activates : (process text : ProcessState) (bound limit : ℕ) (done : Activated) → top < 256 → StandsAlike s.functions u process text → bound ≤ limit → Proceeds limit s u process → activate bound s (flat s u name top w) text ≡ Some done
+    pub activates : (process text : ProcessState) (bound limit : ℕ) (done : Activated) → top < 256 → StandsAlike s.functions u process text → bound ≤ limit → Proceeds limit s u process
+        → activate bound s (flat s u name top w) text ≡ Some done
         → (d : Activated) × (activate limit s u process ≡ Some d) × EndsAlike s.functions u d done
     unfolding activate
     activates process text bound limit done l a m p r =
         let b = begun process text p.control a p.begins in
-        let x = run-follows bound (start_point p.control) (start_point b.control) done l b.alike (goes-fewer bound limit s (start_point p.control) m p.goes_on) (sym (ap (option_and_then (λ c. run bound s (start_point c))) b.begins) ∙ r) in
+        let x = run-follows bound (start_point p.control) (start_point b.control) done l b.alike (goes-fewer bound limit s (start_point p.control) m p.goes_on)
+        (sym (ap (option_and_then (λ c. run bound s (start_point c))) b.begins) ∙ r) in
         (x.end, ap (option_and_then (λ c. run limit s (start_point c))) p.begins ∙ run-longer bound limit s (start_point p.control) x.end m x.comes, x.alike)
 
 -- what a flat text is
@@ -295,7 +320,8 @@ activates_alike s u name t process text bound limit done e tidy w a m p r =
     activates s u name 64 w tidy x.shallow process text bound limit done below_max a m p (ap (λ y. activate bound s (flat_unit name y) text) x.same ∙ r)
 
 -- what is held at the beginning is held under names of bytes
-plain-args : (args : List ArgText) (parts : List Range) (before : Env) (n : List ℕ) (h : Held) → ArgsOnce args → with_args before args (map part_held parts) n ≡ Some h → IsPlain n ⊎ (before n ≡ Some h)
+plain-args : (args : List ArgText) (parts : List Range) (before : Env) (n : List ℕ) (h : Held) → ArgsOnce args → with_args before args (map part_held parts) n ≡ Some h
+    → IsPlain n ⊎ (before n ≡ Some h)
 plain-args [] parts before n h t e = inr e
 plain-args (a ∷ args) [] before n h t e = inr e
 plain-args (a ∷ args) (r ∷ parts) before n h t e = by (plain-args args parts (with_held before a.name (part_held r)) n h t.2 e) (names a.name n)

@@ -17,7 +17,7 @@ use Rattle.lh_flat.specs.Copies.{Copy, top_copy, call_path, opened, first_piece,
 use Rattle.lh_flat.specs.Flat.{FlatBlockText, with_line, pieces_from, flat_copy, flat_unit}
 use Rattle.lh_flat.specs.Marks.{marks, IsPlain}
 use Rattle.lh_inlined.specs.Tidy.{Either, EdgesArePlain, ResultIsNew, LineTidy, BlockTidy, UnitTidy, FunctionsTidy, NoPhis, PhisFirst}
-use Rattle.lh_inlined.proofs.Finding.{IsLabelled, UnitLabelled, AllLabelled, opens-is, opens-path, Stands}
+use Rattle.lh_inlined.proofs.Finding.{IsLabelled, UnitLabelled, AllLabelled, opens-is, opens-path, BlocksAreFound}
 use Rattle.lh_inlined.proofs.Holding.{CopyFits, Holds, Holds-put, Holds-below, Below, Below-put, Below-same, Below-then, keeps-datum}
 use Rattle.lh_inlined.proofs.LastPieces.{label-is, block-each, edge-copied}
 use Rattle.lh_inlined.proofs.TopTypes.{path-marks}
@@ -37,11 +37,12 @@ pub Below-less : (j k : ℕ) (f g : Env) → j ≤ k → Below k f g → Below j
 Below-less j k f g l b = record { keeps = λ n h. b.keeps n (omega (arith, l, h)) }
 
 -- what an instruction gives is held in both
-pub record Gives (u : UnitText) (c : Copy) (e f g : Env) : Type 0 where
+pub record GivesInBoth (u : UnitText) (c : Copy) (e f g : Env) : Type 0 where
   pub holds : Holds u c e g
   pub below : Below (marks c.path) f g
 
-pub gives-result : (u : UnitText) (c : Copy) (e f : Env) (r : Option (List ℕ)) (h : Held) → CopyFits c → Holds u c e f → ResultIsNew c.unit r → ((x : Range) → h ≡ part_held x → c ≡ top_copy u) → Gives u c (with_result e r h) f (with_result f (option_map c.value r) h)
+pub gives-result : (u : UnitText) (c : Copy) (e f : Env) (r : Option (List ℕ)) (h : Held) → CopyFits c → Holds u c e f → ResultIsNew c.unit r → ((x : Range) → h ≡ part_held x → c ≡ top_copy u)
+    → GivesInBoth u c (with_result e r h) f (with_result f (option_map c.value r) h)
 gives-result u c e f None h o k t p = record { holds = k; below = Below-same (marks c.path) f }
 gives-result u c e f (Some n) h o k t p = record { holds = Holds-put u c e f n h o k t.0 (o.own n t.1) p; below = Below-put c f n h (o.own n t.1) }
 
@@ -59,7 +60,7 @@ module _ (s : Scene) (u : UnitText) (name : UnitName) (top : ℕ) (w : Functions
   -- a copy in the flat text, in which no more than so many calls nest
   pub record InPlace (left : ℕ) (c : Copy) : Type 0 where
     pub tidy : UnitTidy s.functions c.unit
-    pub stands : Stands s.functions (functions-labelled s.functions w) all (suc left) c
+    pub stands : BlocksAreFound s.functions (functions-labelled s.functions w) all (suc left) c
     pub nests : nest_deeper left s.functions (callees c.unit) ≡ false
     pub fits : CopyFits c
 
@@ -141,7 +142,7 @@ module _ (s : Scene) (u : UnitText) (name : UnitName) (top : ℕ) (w : Functions
   pub record Taken (c : Copy) (e f : Env) (x : Option Env) : Type 0 where
     pub after : Env
     pub taken : x ≡ Some after
-    pub gives : Gives u c e f after
+    pub gives : GivesInBoth u c e f after
 
   no_phi-taken : (from : List ℕ) (e : Env) (i : InstText) (r : Option (List ℕ)) (x : Option Env) → is_phi i ≡ false → phi_taken from e i r x ≡ x
   no_phi-taken from e (phi_text ty edges) r x q = absurd cc
@@ -199,15 +200,18 @@ module _ (s : Scene) (u : UnitText) (name : UnitName) (top : ℕ) (w : Functions
   phi-is _ q = absurd cc
 
   -- one `phi`
-  one-taken : (c : Copy) (e f e' x : Env) (from : List ℕ) (ty : TypeTree) (edges : List EdgeText) (r : Option (List ℕ)) (y : Option Env) → CopyFits c → Holds u c e f → ResultIsNew c.unit r → IsPlain from → Each (λ (g : EdgeText). IsPlain g.block) edges
-      → y ≡ Some x → phi_taken from e (phi_text ty edges) r y ≡ Some e' → (z : Option Env) → Taken c x f z → Taken c e' f (phi_taken (last_piece_of s.functions c from) f (phi_text ty (map (copied_edge s.functions c) edges)) (option_map c.value r) z)
+  one-taken : (c : Copy) (e f e' x : Env) (from : List ℕ) (ty : TypeTree) (edges : List EdgeText) (r : Option (List ℕ)) (y : Option Env) → CopyFits c → Holds u c e f → ResultIsNew c.unit r
+      → IsPlain from → Each (λ (g : EdgeText). IsPlain g.block) edges
+      → y ≡ Some x → phi_taken from e (phi_text ty edges) r y ≡ Some e' → (z : Option Env) → Taken c x f z
+      → Taken c e' f (phi_taken (last_piece_of s.functions c from) f (phi_text ty (map (copied_edge s.functions c) edges)) (option_map c.value r) z)
   one-taken c e f e' x from ty edges r y o k t p g a q z m = by (edge_from from edges) refl (sym (ap (λ v. result_put r (option_and_then (datum_at e) (edge_from from edges)) v) a) ∙ q)
     where
       none : (n : Option (List ℕ)) (b : Option Env) → result_put n None b ≡ None
       none None b = refl
       none (Some n) b = refl
 
-      at : (n : List ℕ) (v : Option Datum) → datum_at e n ≡ v → edge_from from edges ≡ Some n → result_put r v (Some x) ≡ Some e' → Taken c e' f (result_put (option_map c.value r) (option_and_then (datum_at f) (edge_from (last_piece_of s.functions c from) (map (copied_edge s.functions c) edges))) z)
+      at : (n : List ℕ) (v : Option Datum) → datum_at e n ≡ v → edge_from from edges ≡ Some n → result_put r v (Some x) ≡ Some e'
+          → Taken c e' f (result_put (option_map c.value r) (option_and_then (datum_at f) (edge_from (last_piece_of s.functions c from) (map (copied_edge s.functions c) edges))) z)
       at n None b d h = absurd (none-some e' (sym (none r (Some x)) ∙ h))
       at n (Some v) b d h =
           let there : option_and_then (datum_at f) (edge_from (last_piece_of s.functions c from) (map (copied_edge s.functions c) edges)) ≡ Some v =
@@ -217,22 +221,27 @@ module _ (s : Scene) (u : UnitText) (name : UnitName) (top : ℕ) (w : Functions
           record {
             after = with_result m.after (option_map c.value r) (datum_held v);
             taken = ap (λ i. result_put (option_map c.value r) i z) there ∙ ap (result_put (option_map c.value r) (Some v)) m.taken;
-            gives = subst (λ i. Gives u c i f (with_result m.after (option_map c.value r) (datum_held v))) put (record { holds = both.holds; below = Below-then (marks c.path) f m.after (with_result m.after (option_map c.value r) (datum_held v)) m.gives.below both.below });
+            gives = subst (λ i. GivesInBoth u c i f (with_result m.after (option_map c.value r) (datum_held v))) put
+                (record { holds = both.holds; below = Below-then (marks c.path) f m.after (with_result m.after (option_map c.value r) (datum_held v)) m.gives.below both.below });
           }
         where
           no_part : (y : Range) → datum_held v ≡ part_held y → ⊥
           no_part y q = cc
 
-      by : (n : Option (List ℕ)) → edge_from from edges ≡ n → result_put r (option_and_then (datum_at e) (edge_from from edges)) (Some x) ≡ Some e' → Taken c e' f (result_put (option_map c.value r) (option_and_then (datum_at f) (edge_from (last_piece_of s.functions c from) (map (copied_edge s.functions c) edges))) z)
+      by : (n : Option (List ℕ)) → edge_from from edges ≡ n → result_put r (option_and_then (datum_at e) (edge_from from edges)) (Some x) ≡ Some e'
+          → Taken c e' f (result_put (option_map c.value r) (option_and_then (datum_at f) (edge_from (last_piece_of s.functions c from) (map (copied_edge s.functions c) edges))) z)
       by None d h = absurd (none-some e' (sym (ap (λ v. result_put r (option_and_then (datum_at e) v) (Some x)) d ∙ none r (Some x)) ∙ h))
       by (Some n) d h = at n (datum_at e n) refl d (sym (ap (λ v. result_put r (option_and_then (datum_at e) v) (Some x)) d) ∙ h)
 
-  pub phis-copied : (copy_of : Copy → List FlatBlockText) (c : Copy) (e f e' : Env) (from label : List ℕ) (k : ℕ) (ls : List LineText) → CopyFits c → Holds u c e f → IsPlain from → Each (LineTidy s.functions c.unit) ls → PhisFirst ls
+  pub phis-copied : (copy_of : Copy → List FlatBlockText) (c : Copy) (e f e' : Env) (from label : List ℕ) (k : ℕ) (ls : List LineText) → CopyFits c → Holds u c e f → IsPlain from
+      → Each (LineTidy s.functions c.unit) ls → PhisFirst ls
       → phis_taken from e ls ≡ Some e' → Taken c e' f (phis_taken (last_piece_of s.functions c from) f (pieces_from copy_of s.functions c label k ls).rest)
-  phis-copied copy_of c e f e' from label k [] o h p t g q = record { after = f; taken = refl; gives = record { holds = subst (λ i. Holds u c i f) (same_Some e e' q) h; below = Below-same (marks c.path) f } }
+  phis-copied copy_of c e f e' from label k [] o h p t g q = record
+      { after = f; taken = refl; gives = record { holds = subst (λ i. Holds u c i f) (same_Some e e' q) h; below = Below-same (marks c.path) f } }
   phis-copied copy_of c e f e' from label k (l ∷ ls) o h p t g q = by (is_phi l.inst) refl (λ x m i. phis-copied copy_of c e f x from label (k + 1) ls o h p t.1 i m) g q
     where
-      rest-none : NoPhis ls → is_phi l.inst ≡ false → phi_taken from e l.inst l.result (phis_taken from e ls) ≡ Some e' → Taken c e' f (phis_taken (last_piece_of s.functions c from) f (pieces_from copy_of s.functions c label k (l ∷ ls)).rest)
+      rest-none : NoPhis ls → is_phi l.inst ≡ false → phi_taken from e l.inst l.result (phis_taken from e ls) ≡ Some e'
+          → Taken c e' f (phis_taken (last_piece_of s.functions c from) f (pieces_from copy_of s.functions c label k (l ∷ ls)).rest)
       rest-none n z y = record {
         after = f;
         taken = no_phis-taken (last_piece_of s.functions c from) f (pieces_from copy_of s.functions c label k (l ∷ ls)).rest (no_phis-copied copy_of c label k (l ∷ ls) (z, n));
@@ -242,9 +251,13 @@ module _ (s : Scene) (u : UnitText) (name : UnitName) (top : ℕ) (w : Functions
       phi-not-call : (ty : TypeTree) (edges : List EdgeText) → l.inst ≡ phi_text ty edges → opened s.functions c (call_path c label k) l.inst ≡ None
       phi-not-call ty edges i = ap (opened s.functions c (call_path c label k)) i
 
-      with-phi : (ty : TypeTree) (edges : List EdgeText) → l.inst ≡ phi_text ty edges → (y : Option Env) → phis_taken from e ls ≡ y → ((x : Env) → phis_taken from e ls ≡ Some x → PhisFirst ls → Taken c x f (phis_taken (last_piece_of s.functions c from) f (pieces_from copy_of s.functions c label (k + 1) ls).rest))
-          → PhisFirst ls → phi_taken from e l.inst l.result (phis_taken from e ls) ≡ Some e' → Taken c e' f (phis_taken (last_piece_of s.functions c from) f (pieces_from copy_of s.functions c label k (l ∷ ls)).rest)
-      with-phi ty edges i None y go a b = absurd (none-some e' (sym (none l.result (option_and_then (datum_at e) (edge_from from edges))) ∙ sym (ap (λ v. phi_taken from e (phi_text ty edges) l.result v) y) ∙ sym (ap (λ j. phi_taken from e j l.result (phis_taken from e ls)) i) ∙ b))
+      with-phi : (ty : TypeTree) (edges : List EdgeText) → l.inst ≡ phi_text ty edges → (y : Option Env) → phis_taken from e ls ≡ y
+          → ((x : Env) → phis_taken from e ls ≡ Some x → PhisFirst ls → Taken c x f (phis_taken (last_piece_of s.functions c from) f (pieces_from copy_of s.functions c label (k + 1) ls).rest))
+          → PhisFirst ls → phi_taken from e l.inst l.result (phis_taken from e ls) ≡ Some e'
+          → Taken c e' f (phis_taken (last_piece_of s.functions c from) f (pieces_from copy_of s.functions c label k (l ∷ ls)).rest)
+      with-phi ty edges i None y go a b = absurd
+          (none-some e' (sym (none l.result (option_and_then (datum_at e) (edge_from from edges))) ∙ sym (ap (λ v. phi_taken from e (phi_text ty edges) l.result v) y)
+          ∙ sym (ap (λ j. phi_taken from e j l.result (phis_taken from e ls)) i) ∙ b))
         where
           none : (n : Option (List ℕ)) (v : Option Datum) → result_put n v None ≡ None
           none None None = refl
@@ -254,11 +267,16 @@ module _ (s : Scene) (u : UnitText) (name : UnitName) (top : ℕ) (w : Functions
       with-phi ty edges i (Some x) y go a b =
           let m = go x y a in
           let tidy = subst (λ j. EdgesArePlain j) i t.0.edges in
-          let r = one-taken c e f e' x from ty edges l.result (phis_taken from e ls) o h t.0.result p tidy y (sym (ap (λ j. phi_taken from e j l.result (phis_taken from e ls)) i) ∙ b) (phis_taken (last_piece_of s.functions c from) f (pieces_from copy_of s.functions c label (k + 1) ls).rest) m in
-          subst (λ z. Taken c e' f (phis_taken (last_piece_of s.functions c from) f (with_line copy_of s.functions c l z (pieces_from copy_of s.functions c label (k + 1) ls)).rest)) (sym (phi-not-call ty edges i))
-          (subst (λ j. Taken c e' f (phi_taken (last_piece_of s.functions c from) f (copied s.functions c j) (option_map c.value l.result) (phis_taken (last_piece_of s.functions c from) f (pieces_from copy_of s.functions c label (k + 1) ls).rest))) (sym i) r)
+          let r = one-taken c e f e' x from ty edges l.result (phis_taken from e ls) o h t.0.result p tidy y (sym (ap (λ j. phi_taken from e j l.result (phis_taken from e ls)) i) ∙ b)
+          (phis_taken (last_piece_of s.functions c from) f (pieces_from copy_of s.functions c label (k + 1) ls).rest) m in
+          subst (λ z. Taken c e' f (phis_taken (last_piece_of s.functions c from) f (with_line copy_of s.functions c l z (pieces_from copy_of s.functions c label (k + 1) ls)).rest))
+          (sym (phi-not-call ty edges i))
+          (subst (λ j. Taken c e' f (phi_taken (last_piece_of s.functions c from) f (copied s.functions c j) (option_map c.value l.result)
+          (phis_taken (last_piece_of s.functions c from) f (pieces_from copy_of s.functions c label (k + 1) ls).rest))) (sym i) r)
 
-      by : (b : Bool) → is_phi l.inst ≡ b → ((x : Env) → phis_taken from e ls ≡ Some x → PhisFirst ls → Taken c x f (phis_taken (last_piece_of s.functions c from) f (pieces_from copy_of s.functions c label (k + 1) ls).rest))
-          → Either (is_phi l.inst) (PhisFirst ls) (NoPhis ls) → phi_taken from e l.inst l.result (phis_taken from e ls) ≡ Some e' → Taken c e' f (phis_taken (last_piece_of s.functions c from) f (pieces_from copy_of s.functions c label k (l ∷ ls)).rest)
+      by : (b : Bool) → is_phi l.inst ≡ b → ((x : Env) → phis_taken from e ls ≡ Some x → PhisFirst ls
+          → Taken c x f (phis_taken (last_piece_of s.functions c from) f (pieces_from copy_of s.functions c label (k + 1) ls).rest))
+          → Either (is_phi l.inst) (PhisFirst ls) (NoPhis ls) → phi_taken from e l.inst l.result (phis_taken from e ls) ≡ Some e'
+          → Taken c e' f (phis_taken (last_piece_of s.functions c from) f (pieces_from copy_of s.functions c label k (l ∷ ls)).rest)
       by false d go a z = rest-none (subst (λ x. Either x (PhisFirst ls) (NoPhis ls)) d a) d z
       by true d go a z = let x = phi-is l.inst d in with-phi x.0 x.1 x.2 (phis_taken from e ls) refl go (subst (λ x. Either x (PhisFirst ls) (NoPhis ls)) d a) z

@@ -24,11 +24,13 @@ use Rattle.lh_inlined.proofs.Alike.{tidy-labelled, functions-labelled, flat, all
 use Rattle.lh_inlined.proofs.Entering.{Follows, first-block, first-runs, past}
 
 -- what the operands of a call name has no more marks than the path of the copy
-args-low : (u : UnitText) (c : Copy) (e f : Env) (args : List OperandText) (ds : List Datum) → CopyFits c → Holds u c e f → data_at e args ≡ Some ds → Each (λ (n : List ℕ). marks n ≤ marks c.path) (map (λ (o : OperandText). c.value o.value) args)
+args-low : (u : UnitText) (c : Copy) (e f : Env) (args : List OperandText) (ds : List Datum) → CopyFits c → Holds u c e f → data_at e args ≡ Some ds
+    → Each (λ (n : List ℕ). marks n ≤ marks c.path) (map (λ (o : OperandText). c.value o.value) args)
 args-low u c e f [] ds o k q = tt
 args-low u c e f (x ∷ args) ds o k q = by (datum_at e x.value) refl (data_at e args) refl q (λ xs y. args-low u c e f args xs o k y)
   where
-    by : (v : Option Datum) → datum_at e x.value ≡ v → (vs : Option (List Datum)) → data_at e args ≡ vs → front v vs ≡ Some ds → ((xs : List Datum) → data_at e args ≡ Some xs → Each (λ (n : List ℕ). marks n ≤ marks c.path) (map (λ (o : OperandText). c.value o.value) args))
+    by : (v : Option Datum) → datum_at e x.value ≡ v → (vs : Option (List Datum)) → data_at e args ≡ vs → front v vs ≡ Some ds
+        → ((xs : List Datum) → data_at e args ≡ Some xs → Each (λ (n : List ℕ). marks n ≤ marks c.path) (map (λ (o : OperandText). c.value o.value) args))
         → Each (λ (n : List ℕ). marks n ≤ marks c.path) (map (λ (o : OperandText). c.value o.value) (x ∷ args))
     by None a vs b r go = absurd (none-some ds r)
     by (Some v) a None b r go = absurd (none-some ds r)
@@ -53,8 +55,10 @@ module _ (s : Scene) (u : UnitText) (name : UnitName) (top : ℕ) (w : Functions
   not_zero e = cc
 
   -- a function that is called is in place
-  called-place : (left : ℕ) (c d : Copy) (label : List ℕ) (text : BlockText) (before rest : List LineText) (l : LineText) → InPlace s u name top w left c → block_of label c.unit.blocks ≡ Some text → text.lines ≡ before ++ l ∷ rest
-      → opened s.functions c (call_path c label (length before)) l.inst ≡ Some d → (o : Opens s.functions c (call_path c label (length before)) l.inst d) → Each (λ (n : List ℕ). marks n ≤ marks c.path) (map (λ (x : OperandText). c.value x.value) o.args)
+  called-place : (left : ℕ) (c d : Copy) (label : List ℕ) (text : BlockText) (before rest : List LineText) (l : LineText) → InPlace s u name top w left c → block_of label c.unit.blocks ≡ Some text
+      → text.lines ≡ before ++ l ∷ rest
+      → opened s.functions c (call_path c label (length before)) l.inst ≡ Some d → (o : Opens s.functions c (call_path c label (length before)) l.inst d)
+      → Each (λ (n : List ℕ). marks n ≤ marks c.path) (map (λ (x : OperandText). c.value x.value) o.args)
       → (below : ℕ) × (left ≡ suc below) × InPlace s u name top w below d
   called-place zero c d label text before rest l p b y q o h = absurd (not_zero (none-called (λ f. true) c.unit.blocks label text before rest l o.callee o.ty o.args p.nests b y o.inst o.no_assert))
   called-place (suc left) c d label text before rest l p b y q o h = (
@@ -62,14 +66,16 @@ module _ (s : Scene) (u : UnitText) (name : UnitName) (top : ℕ) (w : Functions
     refl,
     record {
       tidy = w o.callee d.unit o.named;
-      stands = call-stands s.functions (functions-labelled s.functions w) (all s u name top w) (suc left) c p.stands (tidy-labelled s.functions c.unit p.tidy) label text b (label-plain s u name top w (suc left) c label text p b) (sym (label-is label c.unit.blocks text b)) before rest l d y q;
+      stands = call-stands s.functions (functions-labelled s.functions w) (all s u name top w) (suc left) c p.stands (tidy-labelled s.functions c.unit p.tidy) label text b
+          (label-plain s u name top w (suc left) c label text p b) (sym (label-is label c.unit.blocks text b)) before rest l d y q;
       nests = ap (λ g. nest_deeper left s.functions (option_map_or callees g [])) (sym o.named)
           ∙ none-called (λ f. nest_deeper left s.functions (callees_of s.functions f)) c.unit.blocks label text before rest l o.callee o.ty o.args p.nests b y o.inst o.no_assert;
       fits = record {
         own = opens-own s.functions c (call_path c label (length before)) l.inst d o;
         low = λ n. subst (λ (x : Copy). (x.value n ≡ x.path ++ n) ⊎ (marks (x.value n) < marks x.path)) o.copy
             (low-name (marks (call_path c label (length before))) d.unit.args (map (λ (x : OperandText). c.value x.value) o.args) (call_path c label (length before) ++ n) n
-            (each-below (marks c.path) (marks (call_path c label (length before))) (map (λ (x : OperandText). c.value x.value) o.args) (path-marks c label (length before) (label-plain s u name top w (suc left) c label text p b)) h));
+            (each-below (marks c.path) (marks (call_path c label (length before))) (map (λ (x : OperandText). c.value x.value) o.args)
+            (path-marks c label (length before) (label-plain s u name top w (suc left) c label text p b)) h));
       };
     },
   )
@@ -81,7 +87,8 @@ module _ (s : Scene) (u : UnitText) (name : UnitName) (top : ℕ) (w : Functions
   no_part v r e = cc
 
   -- it begins with its arguments
-  called-holds : (c d : Copy) (path : List ℕ) (i : InstText) (e f : Env) (ds : List Datum) (o : Opens s.functions c path i d) → Holds u c e f → UnitTidy s.functions d.unit → data_at e o.args ≡ Some ds → Holds u d (with_args nothing_held d.unit.args (map datum_held ds)) f
+  called-holds : (c d : Copy) (path : List ℕ) (i : InstText) (e f : Env) (ds : List Datum) (o : Opens s.functions c path i d) → Holds u c e f → UnitTidy s.functions d.unit → data_at e o.args ≡ Some ds
+      → Holds u d (with_args nothing_held d.unit.args (map datum_held ds)) f
   called-holds c d path i e f ds o k t q = record {
     plain = λ n h z. (given n h z).plain;
     same = λ n h z. (given n h z).same;
@@ -95,11 +102,13 @@ module _ (s : Scene) (u : UnitText) (name : UnitName) (top : ℕ) (w : Functions
   moved : (m n t : ℕ) → m + suc n ≡ t → suc m + n ≡ t
   moved m n t e = omega arith
 
-  pub call-follows : (p f : Point) (a : Alike s u name top w p f) (l : LineText) (rest : List LineText) (d : Copy) → p.control.rest ≡ l ∷ rest → opened s.functions a.copy (call_path a.copy p.control.block (length a.runs.before)) l.inst ≡ Some d
+  pub call-follows : (p f : Point) (a : Alike s u name top w p f) (l : LineText) (rest : List LineText) (d : Copy) → p.control.rest ≡ l ∷ rest
+      → opened s.functions a.copy (call_path a.copy p.control.block (length a.runs.before)) l.inst ≡ Some d
       → Follows s u name top w (executes s l.inst l.result (past s u name top w p rest)) (step s f)
   call-follows p f a l rest d e q =
       subst (λ i. Follows s u name top w (executes s i l.result (past s u name top w p rest)) (step s f)) (sym o.inst)
-      (subst (λ b. Follows s u name top w (if b then tells (past s u name top w p rest) (asserted p.control.held o.args) else opens (past s u name top w p rest) l.result (called (function_named o.callee s.functions) (data_at p.control.held o.args))) (step s f)) (sym o.no_assert)
+      (subst (λ b. Follows s u name top w (if b then tells (past s u name top w p rest) (asserted p.control.held o.args) else opens (past s u name top w p rest) l.result
+      (called (function_named o.callee s.functions) (data_at p.control.held o.args))) (step s f)) (sym o.no_assert)
       (subst (λ g. Follows s u name top w (opens (past s u name top w p rest) l.result (called g (data_at p.control.held o.args))) (step s f)) (sym o.named)
       (by-data (data_at p.control.held o.args) refl)))
     where
@@ -114,15 +123,22 @@ module _ (s : Scene) (u : UnitText) (name : UnitName) (top : ℕ) (w : Functions
       branches =
           a.runs.next
           ∙ ap (λ ls. (pieces_from (flat_copy a.left s.functions) s.functions a.copy p.control.block (length a.runs.before) ls).rest) e
-          ∙ ap (λ x. (with_line (flat_copy a.left s.functions) s.functions a.copy l x (pieces_from (flat_copy a.left s.functions) s.functions a.copy p.control.block (length a.runs.before + 1) rest)).rest) q
+          ∙ ap (λ x. (with_line (flat_copy a.left s.functions) s.functions a.copy l x
+          (pieces_from (flat_copy a.left s.functions) s.functions a.copy p.control.block (length a.runs.before + 1) rest)).rest) q
 
       stepped : (x : Option Control) → entered f.control.unit f.control.held f.control.block (first_piece d (first_label d.unit.blocks)) ≡ x → step s f ≡ jumps (past s u name top w f []) x
       stepped x z = ap (steps_by s f) branches ∙ ap (jumps (past s u name top w f [])) z
 
       alike : (ds : List Datum) → data_at p.control.held o.args ≡ Some ds → (b : BlockText) (more : List BlockText) → d.unit.blocks ≡ b ∷ more
-          → Follows s u name top w (goes (record p { control = record { unit = d.unit; block = label_or b.label; rest = b.lines; held = with_args nothing_held d.unit.args (map datum_held ds) }; callers = record { control = record p.control { rest = rest }; result = l.result } ∷ p.callers })) (step s f)
+          → Follows s u name top w (goes (record p {
+            control = record { unit = d.unit; block = label_or b.label; rest = b.lines; held = with_args nothing_held d.unit.args (map datum_held ds) };
+            callers = record { control = record p.control { rest = rest }; result = l.result } ∷ p.callers;
+          })) (step s f)
       alike ds h b more z =
-          subst (Follows s u name top w (goes (record p { control = record { unit = d.unit; block = label_or b.label; rest = b.lines; held = with_args nothing_held d.unit.args (map datum_held ds) }; callers = record { control = record p.control { rest = rest }; result = l.result } ∷ p.callers })))
+          subst (Follows s u name top w (goes (record p {
+            control = record { unit = d.unit; block = label_or b.label; rest = b.lines; held = with_args nothing_held d.unit.args (map datum_held ds) };
+            callers = record { control = record p.control { rest = rest }; result = l.result } ∷ p.callers;
+          })))
           (sym (stepped (Some there) into))
           (inl record {
             copy = d;
@@ -154,7 +170,8 @@ module _ (s : Scene) (u : UnitText) (name : UnitName) (top : ℕ) (w : Functions
           })
         where
           below : (n : ℕ) × (a.left ≡ suc n) × InPlace s u name top w n d
-          below = called-place a.left a.copy d p.control.block a.runs.text a.runs.before rest l a.place a.runs.stands split q o (args-low u a.copy p.control.held f.control.held o.args ds a.place.fits a.holds h)
+          below = called-place a.left a.copy d p.control.block a.runs.text a.runs.before rest l a.place a.runs.stands split q o
+              (args-low u a.copy p.control.held f.control.held o.args ds a.place.fits a.holds h)
 
           tidy-b : BlockTidy s.functions d.unit b
           tidy-b = (subst (Each (BlockTidy s.functions d.unit)) z below.2.tidy.blocks).0
@@ -166,24 +183,41 @@ module _ (s : Scene) (u : UnitText) (name : UnitName) (top : ℕ) (w : Functions
           none-phi = subst EntryHasNoPhi z below.2.tidy.entry
 
           there : Control
-          there = record { unit = flat s u name top w; block = first_piece d (label_or b.label); rest = (pieces_from (flat_copy below.0 s.functions) s.functions d (label_or b.label) 0 b.lines).rest; held = f.control.held }
+          there = record {
+            unit = flat s u name top w;
+            block = first_piece d (label_or b.label);
+            rest = (pieces_from (flat_copy below.0 s.functions) s.functions d (label_or b.label) 0 b.lines).rest;
+            held = f.control.held;
+          }
 
           into : entered f.control.unit f.control.held f.control.block (first_piece d (first_label d.unit.blocks)) ≡ Some there
           into =
               ap (λ v. entered v f.control.held f.control.block (first_piece d (first_label d.unit.blocks))) a.unit
               ∙ ap (λ bs. entered (flat s u name top w) f.control.held f.control.block (first_piece d (first_label bs))) z
-              ∙ ap (option_and_then (λ (x : BlockText). option_map (λ (v : Env). record { unit = flat s u name top w; block = first_piece d (label_or b.label); rest = x.lines; held = v }) (phis_taken f.control.block f.control.held x.lines))) (first-block s u name top w below.0 d (label_or b.label) b below.2 found-b)
-              ∙ ap (option_map (λ (v : Env). record { unit = flat s u name top w; block = first_piece d (label_or b.label); rest = (pieces_from (flat_copy below.0 s.functions) s.functions d (label_or b.label) 0 b.lines).rest; held = v }))
-              (no_phis-taken s u name top w f.control.block f.control.held (pieces_from (flat_copy below.0 s.functions) s.functions d (label_or b.label) 0 b.lines).rest (no_phis-copied s u name top w (flat_copy below.0 s.functions) d (label_or b.label) 0 b.lines none-phi))
+              ∙ ap (option_and_then (λ (x : BlockText). option_map (λ (v : Env). record { unit = flat s u name top w; block = first_piece d (label_or b.label); rest = x.lines; held = v })
+              (phis_taken f.control.block f.control.held x.lines))) (first-block s u name top w below.0 d (label_or b.label) b below.2 found-b)
+              ∙ ap (option_map (λ (v : Env). record {
+                unit = flat s u name top w;
+                block = first_piece d (label_or b.label);
+                rest = (pieces_from (flat_copy below.0 s.functions) s.functions d (label_or b.label) 0 b.lines).rest;
+                held = v;
+              }))
+              (no_phis-taken s u name top w f.control.block f.control.held (pieces_from (flat_copy below.0 s.functions) s.functions d (label_or b.label) 0 b.lines).rest
+              (no_phis-copied s u name top w (flat_copy below.0 s.functions) d (label_or b.label) 0 b.lines none-phi))
 
       by-room : (t : Bool) (x y : Next) → Follows s u name top w x y → Follows s u name top w (if t then x else no_step) y
       by-room true x y h = h
       by-room false x y h = tt
 
-      by-blocks : (ds : List Datum) → data_at p.control.held o.args ≡ Some ds → (bs : List BlockText) → d.unit.blocks ≡ bs → Follows s u name top w (opens (past s u name top w p rest) l.result (at_first d.unit (with_args nothing_held d.unit.args (map datum_held ds)) bs)) (step s f)
+      by-blocks : (ds : List Datum) → data_at p.control.held o.args ≡ Some ds → (bs : List BlockText) → d.unit.blocks ≡ bs
+          → Follows s u name top w (opens (past s u name top w p rest) l.result (at_first d.unit (with_args nothing_held d.unit.args (map datum_held ds)) bs)) (step s f)
       by-blocks ds h [] z = tt
       by-blocks ds h (b ∷ more) z =
-          by-room (nat_lt (length p.callers) max_calls) (goes (record p { control = record { unit = d.unit; block = label_or b.label; rest = b.lines; held = with_args nothing_held d.unit.args (map datum_held ds) }; callers = record { control = record p.control { rest = rest }; result = l.result } ∷ p.callers })) (step s f) (alike ds h b more z)
+          by-room (nat_lt (length p.callers) max_calls)
+          (goes (record p {
+            control = record { unit = d.unit; block = label_or b.label; rest = b.lines; held = with_args nothing_held d.unit.args (map datum_held ds) };
+            callers = record { control = record p.control { rest = rest }; result = l.result } ∷ p.callers;
+          })) (step s f) (alike ds h b more z)
 
       by-data : (x : Option (List Datum)) → data_at p.control.held o.args ≡ x → Follows s u name top w (opens (past s u name top w p rest) l.result (called (Some d.unit) x)) (step s f)
       by-data None h = tt

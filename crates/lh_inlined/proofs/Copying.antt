@@ -27,7 +27,7 @@ use Rattle.lh_formed.specs.Operands.{IsOf, ReturnIs, RowIs}
 use Rattle.lh_formed.specs.Shape.{PhiIsRight}
 use Rattle.lh_formed.proofs.AtPlaces.{place-at}
 use Rattle.lh_formed.proofs.There.{function-runs}
-use Rattle.lh_eval.specs.Sound.{IsSound}
+use Rattle.lh_eval.specs.Sound.{InstIsSound}
 use Rattle.lh_spelled.specs.ItemLines.{item_line}
 use Rattle.lh_spelled.specs.Printable.{HasInstLine, HasShape, IsPrintableItem}
 use Rattle.lh_sound.proofs.SoundLines.{RowsIn, lines-printed, unit-sound}
@@ -35,9 +35,9 @@ use Rattle.lh_flat.specs.Calls.{callees, callees_of, nest_deeper}
 use Rattle.lh_flat.specs.Copies.{Copy, call_path}
 use Rattle.lh_flat.specs.Flat.{MergeText, given_by, merge_of, with_merge, max_nested}
 use Rattle.lh_inlined.proofs.Cuts.{Among, Cut, behind, lines-cut}
-use Rattle.lh_inlined.proofs.Spots.{Spot, next_cut, next_lines, SpotOf, Nested, outermost, called}
+use Rattle.lh_inlined.proofs.CopyPieces.{CopyPiece, next_cut, next_lines, CopyPieceOf, Nested, outermost, called}
 use Rattle.lh_inlined.proofs.SoundCopies.{IsCode}
-use Rattle.lh_inlined.proofs.Paths.{IsGood, CallIsGood, spot-block, nested-right}
+use Rattle.lh_inlined.proofs.Paths.{IsGood, CallIsGood, copy_piece-block, nested-right}
 use Rattle.lh_inlined.proofs.Phis.{PhisAreGood, given-by}
 use Rattle.lh_inlined.proofs.Facts.{FactsIn, UnitFacts, each-among, fact-at, is-good, phis-good, is-code, no-ret}
 use Rattle.lh_inlined.proofs.Typing.{argument-typed, among-lines, among-middle}
@@ -68,7 +68,8 @@ function-facts all [] m n f e = absurd (none-some f e)
 function-facts all (declare_text d ∷ items) m n f e = function-facts all items (rest-of all (declare_text d) items m) n f e
 function-facts all (unit_text u ∷ items) m n f e = by (is_function u.kind) refl e (function-facts all items (rest-of all (unit_text u) items m) n f)
   where
-    by : (b : Bool) → is_function u.kind ≡ b → function_named n (if b then u ∷ functions items else functions items) ≡ Some f → (function_named n (functions items) ≡ Some f → UnitFacts all f) → UnitFacts all f
+    by : (b : Bool) → is_function u.kind ≡ b → function_named n (if b then u ∷ functions items else functions items) ≡ Some f → (function_named n (functions items) ≡ Some f → UnitFacts all f)
+        → UnitFacts all f
     by false k q go = go q
     by true k q go = at (same_unit_name u.name n) q
       where
@@ -94,7 +95,8 @@ module _ (items : List ItemText) (m : ModuleFacts items items) (u : UnitText) (a
   -- each copy is of a unit of the module
   pub copy-facts : (k : ℕ) (c : Copy) → Nested fs u k c → UnitFacts items c.unit
   copy-facts _ _ outermost = process-facts items items m u among process
-  copy-facts _ _ (called k c n s h z e) = let o = opens-is fs c (call_path c (label_or s.block.label) z.number) z.line.inst z.copy (cut-opens fs c (label_or s.block.label) s.number s.rest z e) in function-facts items items m o.callee z.copy.unit o.named
+  copy-facts _ _ (called k c n s h z e) = let o = opens-is fs c (call_path c (label_or s.block.label) z.number) z.line.inst z.copy (cut-opens fs c (label_or s.block.label) s.number s.rest z e) in
+      function-facts items items m o.callee z.copy.unit o.named
 
   pub copies-good : (k : ℕ) (c : Copy) → Nested fs u k c → IsGood fs c.unit
   copies-good k c n = is-good items c.unit (copy-facts k c n) fs
@@ -109,9 +111,9 @@ module _ (items : List ItemText) (m : ModuleFacts items items) (u : UnitText) (a
   process-no-ret b before after l a e o i = let p = fact-at items u (process-facts items items m u among process) b before after l a e in no-ret u.kind l.inst o process p.2.allowed i
 
   -- the line of a call that is replaced, in its block
-  cut-lines : (c : Copy) (s : Spot) → SpotOf fs c s → (z : Cut) → next_cut fs c s ≡ Some z → s.block.lines ≡ (s.before ++ next_lines fs c s) ++ z.line ∷ z.rest
+  cut-lines : (c : Copy) (s : CopyPiece) → CopyPieceOf fs c s → (z : Cut) → next_cut fs c s ≡ Some z → s.block.lines ≡ (s.before ++ next_lines fs c s) ++ z.line ∷ z.rest
   cut-lines c s h z e =
-      (spot-block fs c s h).1
+      (copy_piece-block fs c s h).1
       ∙ ap (λ ls. s.before ++ ls) (lines-cut fs c (label_or s.block.label) s.number s.rest ∙ ap (λ o. next_lines fs c s ++ behind fs c (label_or s.block.label) o) e)
       ∙ sym (nested-right s.before (next_lines fs c s) (z.line ∷ z.rest))
 
@@ -126,7 +128,7 @@ module _ (items : List ItemText) (m : ModuleFacts items items) (u : UnitText) (a
   begins-with k c n = let f = copy-facts k c n in shaped c.unit.kind c.unit.blocks f.runs f.printable.shaped
 
   -- what a call that is replaced says of its arguments
-  pub call-args : (k : ℕ) (c : Copy) → Nested fs u k c → (s : Spot) → (h : SpotOf fs c s) → (z : Cut) → (e : next_cut fs c s ≡ Some z)
+  pub call-args : (k : ℕ) (c : Copy) → Nested fs u k c → (s : CopyPiece) → (h : CopyPieceOf fs c s) → (z : Cut) → (e : next_cut fs c s ≡ Some z)
       → ArgumentsAre c.unit (opens-is fs c (call_path c (label_or s.block.label) z.number) z.line.inst z.copy (cut-opens fs c (label_or s.block.label) s.number s.rest z e)).args z.copy.unit.args
   call-args k c n s h z e = named-args right
     where
@@ -136,7 +138,7 @@ module _ (items : List ItemText) (m : ModuleFacts items items) (u : UnitText) (a
       right : NamedIsRight items c.unit (call_text opens.callee opens.ty opens.args)
       right =
           let f = copy-facts k c n in
-          let p = fact-at items c.unit f s.block (s.before ++ next_lines fs c s) z.rest z.line (spot-block fs c s h).0 (cut-lines c s h z e) in
+          let p = fact-at items c.unit f s.block (s.before ++ next_lines fs c s) z.rest z.line (copy_piece-block fs c s h).0 (cut-lines c s h z e) in
           subst (NamedIsRight items c.unit) opens.inst p.2.calls
 
       named-args : NamedIsRight items c.unit (call_text opens.callee opens.ty opens.args) → ArgumentsAre c.unit opens.args z.copy.unit.args
@@ -144,9 +146,10 @@ module _ (items : List ItemText) (m : ModuleFacts items items) (u : UnitText) (a
         where
           differ : (b : Bool) → b ≡ false → b ≡ true → ⊥
           differ b p q = cc
-      named-args (inr r) = let g = r.1 in subst (λ (v : UnitText). ArgumentsAre c.unit opens.args v.args) (same_Some g.of z.copy.unit (sym (function-is items opens.callee g.of g.named g.function) ∙ opens.named)) g.args_are
+      named-args (inr r) = let g = r.1 in subst (λ (v : UnitText). ArgumentsAre c.unit opens.args v.args)
+          (same_Some g.of z.copy.unit (sym (function-is items opens.callee g.of g.named g.function) ∙ opens.named)) g.args_are
 
-  pub copies-calls : (k : ℕ) (c : Copy) → Nested fs u k c → (s : Spot) → SpotOf fs c s → (z : Cut) → next_cut fs c s ≡ Some z → CallIsGood fs c z
+  pub copies-calls : (k : ℕ) (c : Copy) → Nested fs u k c → (s : CopyPiece) → CopyPieceOf fs c s → (z : Cut) → next_cut fs c s ≡ Some z → CallIsGood fs c z
   copies-calls k c n s h z e = record {
     arguments = arguments;
     entry = let f = function-facts items items m opens.callee z.copy.unit opens.named in shaped z.copy.unit.kind z.copy.unit.blocks f.runs f.printable.shaped;
@@ -170,7 +173,8 @@ module _ (items : List ItemText) (m : ModuleFacts items items) (u : UnitText) (a
           ∙ ap (λ b. b || false) (ap (λ y. same_name (c.value w) (c.value y)) (sym one) ∙ same_name-refl (c.value w))
 
   -- an argument of a copy has the type of the value that the call names
-  pub copies-arguments : (k : ℕ) (c : Copy) → Nested fs u (suc k) c → (s : Spot) → SpotOf fs c s → (z : Cut) → next_cut fs c s ≡ Some z → (n : List ℕ) (a : ArgText) → arg_named n z.copy.unit.args ≡ Some a
+  pub copies-arguments : (k : ℕ) (c : Copy) → Nested fs u (suc k) c → (s : CopyPiece) → CopyPieceOf fs c s → (z : Cut) → next_cut fs c s ≡ Some z → (n : List ℕ) (a : ArgText)
+      → arg_named n z.copy.unit.args ≡ Some a
       → (w : List ℕ) × (value_type c.unit w ≡ Some a.ty) × (z.copy.value n ≡ c.value w)
   copies-arguments k c nest s h z e n a q =
       let o = opens-is fs c (call_path c (label_or s.block.label) z.number) z.line.inst z.copy (cut-opens fs c (label_or s.block.label) s.number s.rest z e) in
@@ -178,14 +182,15 @@ module _ (items : List ItemText) (m : ModuleFacts items items) (u : UnitText) (a
       (r.0, r.1, ap (λ (x : Copy). x.value n) o.copy ∙ r.2)
 
   -- a result of a call is that of the merge behind it, and of its type
-  pub copies-results : (k : ℕ) (c : Copy) → Nested fs u k c → (s : Spot) → SpotOf fs c s → (z : Cut) → next_cut fs c s ≡ Some z → (n : List ℕ) → is_result_name n z.line.result ≡ true
+  pub copies-results : (k : ℕ) (c : Copy) → Nested fs u k c → (s : CopyPiece) → CopyPieceOf fs c s → (z : Cut) → next_cut fs c s ≡ Some z → (n : List ℕ) → is_result_name n z.line.result ≡ true
       → (w : MergeText) × (merge_of fs c z.copy z.line.inst z.line.result ≡ Some w) × (w.value ≡ c.value n) × (result_type z.line.inst ≡ Some w.ty)
   copies-results k c nest s h z e n d = by z.line.result refl d
     where
       opens : Opens fs c (call_path c (label_or s.block.label) z.number) z.line.inst z.copy
       opens = opens-is fs c (call_path c (label_or s.block.label) z.number) z.line.inst z.copy (cut-opens fs c (label_or s.block.label) s.number s.rest z e)
 
-      by : (r : Option (List ℕ)) → z.line.result ≡ r → is_result_name n r ≡ true → (w : MergeText) × (merge_of fs c z.copy z.line.inst z.line.result ≡ Some w) × (w.value ≡ c.value n) × (result_type z.line.inst ≡ Some w.ty)
+      by : (r : Option (List ℕ)) → z.line.result ≡ r → is_result_name n r ≡ true → (w : MergeText) × (merge_of fs c z.copy z.line.inst z.line.result ≡ Some w) × (w.value ≡ c.value n)
+          × (result_type z.line.inst ≡ Some w.ty)
       by None q d = absurd cc
       by (Some m) q d = (
         record { value = c.value m; ty = opens.ty; edges = given_by fs z.copy },
@@ -195,9 +200,9 @@ module _ (items : List ItemText) (m : ModuleFacts items items) (u : UnitText) (a
       )
 
   -- each line of a copied unit is sound
-  pub copies-sound : (k : ℕ) (c : Copy) → Nested fs u k c → (b : BlockText) (before after : List LineText) (l : LineText) → Among c.unit.blocks b → b.lines ≡ before ++ l ∷ after → IsSound c.unit l
+  pub copies-sound : (k : ℕ) (c : Copy) → Nested fs u k c → (b : BlockText) (before after : List LineText) (l : LineText) → Among c.unit.blocks b → b.lines ≡ before ++ l ∷ after → InstIsSound c.unit l
   copies-sound k c n b before after l a e =
-      each-among (IsSound c.unit) (lines_of c.unit.blocks) l (copy-facts k c n).sound (among-lines c.unit.blocks b l a (subst (λ ls. Among ls l) (sym e) (among-middle before after l)))
+      each-among (InstIsSound c.unit) (lines_of c.unit.blocks) l (copy-facts k c n).sound (among-lines c.unit.blocks b l a (subst (λ ls. Among ls l) (sym e) (among-middle before after l)))
 
   -- a function has a result
   has-result : (k : UnitKind) (n : UnitName) (args : List ArgText) (r : Option TypeTree) (ts : List Lexeme) → is_function k ≡ true → SpellsHeader k n args r ts → (t : TypeTree) × (r ≡ Some t)
@@ -226,13 +231,13 @@ module _ (items : List ItemText) (m : ModuleFacts items items) (u : UnitText) (a
   value-kind (tuple_type ts) e f = refl
 
   -- the callee of a call that is replaced gives a result of the type that the call writes
-  pub record CalleeTyped (c : Copy) (s : Spot) (z : Cut) (written : TypeTree) : Type 0 where
+  pub record CalleeTyped (c : Copy) (s : CopyPiece) (z : Cut) (written : TypeTree) : Type 0 where
     pub ty : TypeTree
     pub result : z.copy.unit.result ≡ Some ty
     pub same : written ≡ ty
     pub fits : IsResultType ty
 
-  callee-typed : (k : ℕ) (c : Copy) → Nested fs u (suc k) c → (s : Spot) → (h : SpotOf fs c s) → (z : Cut) → (e : next_cut fs c s ≡ Some z)
+  callee-typed : (k : ℕ) (c : Copy) → Nested fs u (suc k) c → (s : CopyPiece) → (h : CopyPieceOf fs c s) → (z : Cut) → (e : next_cut fs c s ≡ Some z)
       → CalleeTyped c s z (opens-is fs c (call_path c (label_or s.block.label) z.number) z.line.inst z.copy (cut-opens fs c (label_or s.block.label) s.number s.rest z e)).ty
   callee-typed k c nest s h z e = record { ty = result.0; result = result.1; same = right.1 result.0 result.1; fits = fits }
     where
@@ -255,19 +260,24 @@ module _ (items : List ItemText) (m : ModuleFacts items items) (u : UnitText) (a
       right : (is_function z.copy.unit.kind ≡ true) × ((t : TypeTree) → z.copy.unit.result ≡ Some t → opens.ty ≡ t)
       right =
           let f = copy-facts (suc k) c nest in
-          let p = fact-at items c.unit f s.block (s.before ++ next_lines fs c s) z.rest z.line (spot-block fs c s h).0 (cut-lines c s h z e) in
+          let p = fact-at items c.unit f s.block (s.before ++ next_lines fs c s) z.rest z.line (copy_piece-block fs c s h).0 (cut-lines c s h z e) in
           function (subst (NamedIsRight items c.unit) opens.inst p.2.calls)
 
       result : (t : TypeTree) × (z.copy.unit.result ≡ Some t)
-      result = let f = copy-facts k z.copy inner in has-result z.copy.unit.kind z.copy.unit.name z.copy.unit.args z.copy.unit.result (lexemes_in (item_line (header_item z.copy.unit.kind z.copy.unit.name z.copy.unit.args z.copy.unit.result))) right.0 f.printable.headed.1
+      result = let f = copy-facts k z.copy inner in
+          has-result z.copy.unit.kind z.copy.unit.name z.copy.unit.args z.copy.unit.result (lexemes_in (item_line (header_item z.copy.unit.kind z.copy.unit.name z.copy.unit.args z.copy.unit.result)))
+          right.0 f.printable.headed.1
 
       fits : IsResultType result.0
-      fits = let g = copy-facts k z.copy inner in header-fits z.copy.unit.kind z.copy.unit.name z.copy.unit.args result.0 (lexemes_in (item_line (header_item z.copy.unit.kind z.copy.unit.name z.copy.unit.args z.copy.unit.result))) right.0
-          (subst (λ r. SpellsHeader z.copy.unit.kind z.copy.unit.name z.copy.unit.args r (lexemes_in (item_line (header_item z.copy.unit.kind z.copy.unit.name z.copy.unit.args z.copy.unit.result)))) result.1 g.printable.headed.1)
+      fits = let g = copy-facts k z.copy inner in
+          header-fits z.copy.unit.kind z.copy.unit.name z.copy.unit.args result.0 (lexemes_in (item_line (header_item z.copy.unit.kind z.copy.unit.name z.copy.unit.args z.copy.unit.result))) right.0
+          (subst (λ r. SpellsHeader z.copy.unit.kind z.copy.unit.name z.copy.unit.args r (lexemes_in (item_line (header_item z.copy.unit.kind z.copy.unit.name z.copy.unit.args z.copy.unit.result))))
+          result.1 g.printable.headed.1)
 
   -- what a merge takes is of the type of the call
   pub copies-merges : (x : UnitText) → ((k : ℕ) (c : Copy) → Nested fs u k c → (n : List ℕ) (t : TypeTree) → value_type c.unit n ≡ Some t → value_type x (c.value n) ≡ Some t)
-      → (k : ℕ) (c : Copy) → Nested fs u (suc k) c → (s : Spot) → SpotOf fs c s → (z : Cut) → next_cut fs c s ≡ Some z → (w : MergeText) → merge_of fs c z.copy z.line.inst z.line.result ≡ Some w
+      → (k : ℕ) (c : Copy) → Nested fs u (suc k) c → (s : CopyPiece) → CopyPieceOf fs c s → (z : Cut) → next_cut fs c s ≡ Some z → (w : MergeText)
+      → merge_of fs c z.copy z.line.inst z.line.result ≡ Some w
       → (is_value_type w.ty ≡ true) × ((e : EdgeText) → Among w.edges e → IsOf x w.ty e.value)
   copies-merges x typed k c nest s h z e w q = by z.line.result refl q
     where
@@ -277,8 +287,8 @@ module _ (items : List ItemText) (m : ModuleFacts items items) (u : UnitText) (a
       inner : Nested fs u k z.copy
       inner = called k c nest s h z e
 
-      line-is : IsSound c.unit z.line
-      line-is = copies-sound (suc k) c nest s.block (s.before ++ next_lines fs c s) z.rest z.line (spot-block fs c s h).0 (cut-lines c s h z e)
+      line-is : InstIsSound c.unit z.line
+      line-is = copies-sound (suc k) c nest s.block (s.before ++ next_lines fs c s) z.rest z.line (copy_piece-block fs c s h).0 (cut-lines c s h z e)
 
       typing : CalleeTyped c s z opens.ty
       typing = callee-typed k c nest s h z e
@@ -291,7 +301,7 @@ module _ (items : List ItemText) (m : ModuleFacts items items) (u : UnitText) (a
       edge : (e : EdgeText) → Among (given_by fs z.copy) e → (is_value_type opens.ty ≡ true) × IsOf x opens.ty e.value
       edge e a =
           let g = given-by fs z.copy z.copy.unit.blocks e a in
-          let l : IsSound z.copy.unit g.given.line = copies-sound k z.copy inner g.from g.given.before g.given.after g.given.line g.is_one g.given.splits in
+          let l : InstIsSound z.copy.unit g.given.line = copies-sound k z.copy inner g.from g.given.before g.given.after g.given.line g.is_one g.given.splits in
           let r = returns g.given.operand (subst (RowIs z.copy.unit) g.given.ret l.row) in
           (r.0, ap (value_type x) g.given.value ∙ typed k z.copy inner g.given.operand.value opens.ty r.1)
 
@@ -299,8 +309,11 @@ module _ (items : List ItemText) (m : ModuleFacts items items) (u : UnitText) (a
       value-named : (n : List ℕ) → z.line.result ≡ Some n → is_value_type opens.ty ≡ true
       value-named n p =
           let f = copy-facts (suc k) c nest in
-          let printed : HasInstLine z.line = each-among HasInstLine (lines_of c.unit.blocks) z.line (lines-printed c.unit f.printable) (among-lines c.unit.blocks s.block z.line (spot-block fs c s h).0 (subst (λ ls. Among ls z.line) (sym (cut-lines c s h z e)) (among-middle (s.before ++ next_lines fs c s) z.rest z.line))) in
-          let gives : gives_value (call_text opens.callee opens.ty opens.args) ≡ true = subst (λ i. gives_value i ≡ true) opens.inst (line-gives z.line.result z.line.inst (lexemes_in (item_line (inst_item z.line))) printed.1 n p) in
+          let printed : HasInstLine z.line = each-among HasInstLine (lines_of c.unit.blocks) z.line (lines-printed c.unit f.printable)
+          (among-lines c.unit.blocks s.block z.line (copy_piece-block fs c s h).0
+          (subst (λ ls. Among ls z.line) (sym (cut-lines c s h z e)) (among-middle (s.before ++ next_lines fs c s) z.rest z.line))) in
+          let gives : gives_value (call_text opens.callee opens.ty opens.args)
+          ≡ true = subst (λ i. gives_value i ≡ true) opens.inst (line-gives z.line.result z.line.inst (lexemes_in (item_line (inst_item z.line))) printed.1 n p) in
           value-kind opens.ty gives (subst IsResultType (sym typing.same) typing.fits)
 
       by : (r : Option (List ℕ)) → z.line.result ≡ r → merge_of fs c z.copy z.line.inst z.line.result ≡ Some w → (is_value_type w.ty ≡ true) × ((e : EdgeText) → Among w.edges e → IsOf x w.ty e.value)
@@ -312,8 +325,10 @@ module _ (items : List ItemText) (m : ModuleFacts items items) (u : UnitText) (a
 
   -- each `ret` of a copy behind which a merge stands gives a value
   pub copies-returned : (x : UnitText) → ((k : ℕ) (c : Copy) → Nested fs u k c → (n : List ℕ) (t : TypeTree) → value_type c.unit n ≡ Some t → value_type x (c.value n) ≡ Some t)
-      → (k : ℕ) (c : Copy) → Nested fs u (suc k) c → (s : Spot) → SpotOf fs c s → (z : Cut) → next_cut fs c s ≡ Some z → (w : MergeText) → merge_of fs c z.copy z.line.inst z.line.result ≡ Some w
-      → (b : BlockText) (before after : List LineText) (l : LineText) → Among z.copy.unit.blocks b → b.lines ≡ before ++ l ∷ after → (o : Option OperandText) → l.inst ≡ ret_text o → (a : OperandText) × (o ≡ Some a)
+      → (k : ℕ) (c : Copy) → Nested fs u (suc k) c → (s : CopyPiece) → CopyPieceOf fs c s → (z : Cut) → next_cut fs c s ≡ Some z → (w : MergeText)
+      → merge_of fs c z.copy z.line.inst z.line.result ≡ Some w
+      → (b : BlockText) (before after : List LineText) (l : LineText) → Among z.copy.unit.blocks b → b.lines ≡ before ++ l ∷ after → (o : Option OperandText) → l.inst ≡ ret_text o → (a : OperandText)
+      × (o ≡ Some a)
   copies-returned x typed k c nest s h z e w q b before after l a r (Some o) i = (o, refl)
   copies-returned x typed k c nest s h z e w q b before after l a r None i =
       let t = callee-typed k c nest s h z e in
@@ -325,12 +340,15 @@ module _ (items : List ItemText) (m : ModuleFacts items items) (u : UnitText) (a
       no-void : (t : TypeTree) → is_value_type t ≡ true → t ≡ void_type → ⊥
       no-void t v e = let f : is_value_type void_type ≡ true = ap is_value_type (sym e) ∙ v in cc
 
-      merge-type : (i : InstText) (r : Option (List ℕ)) (f : UnitName) (ty : TypeTree) (args : List OperandText) → i ≡ call_text f ty args → (w : MergeText) → merge_of fs c z.copy i r ≡ Some w → w.ty ≡ ty
+      merge-type : (i : InstText) (r : Option (List ℕ)) (f : UnitName) (ty : TypeTree) (args : List OperandText) → i ≡ call_text f ty args → (w : MergeText) → merge_of fs c z.copy i r ≡ Some w
+          → w.ty ≡ ty
       merge-type i None f ty args p w q = absurd (none-some w (sym (ap (λ i. merge_of fs c z.copy i None) p) ∙ q))
-      merge-type i (Some n) f ty args p w q = sym (ap (λ (m : MergeText). m.ty) (same_Some (record { value = c.value n; ty = ty; edges = given_by fs z.copy }) w (sym (ap (λ i. merge_of fs c z.copy i (Some n)) p) ∙ q)))
+      merge-type i (Some n) f ty args p w q = sym
+          (ap (λ (m : MergeText). m.ty) (same_Some (record { value = c.value n; ty = ty; edges = given_by fs z.copy }) w (sym (ap (λ i. merge_of fs c z.copy i (Some n)) p) ∙ q)))
 
   -- a `phi` names each block of its unit that leads to its own once
-  pub copies-naming : (k : ℕ) (c : Copy) → Nested fs u k c → (d b : BlockText) (before after : List LineText) (l : LineText) (ty : TypeTree) (es : List EdgeText) → Among c.unit.blocks d → d.lines ≡ before ++ l ∷ after → l.inst ≡ phi_text ty es
+  pub copies-naming : (k : ℕ) (c : Copy) → Nested fs u k c → (d b : BlockText) (before after : List LineText) (l : LineText) (ty : TypeTree) (es : List EdgeText) → Among c.unit.blocks d
+      → d.lines ≡ before ++ l ∷ after → l.inst ≡ phi_text ty es
       → Among c.unit.blocks b → has_edge b (label_or d.label) ≡ true → edges_naming (label_or b.label) es ≡ 1
   copies-naming k c n d b before after l ty es a e i a' edge =
       let p = fact-at items c.unit (copy-facts k c n) d before after l a e in
@@ -341,13 +359,13 @@ module _ (items : List ItemText) (m : ModuleFacts items items) (u : UnitText) (a
   nested-shallow _ _ outermost = shallow
   nested-shallow _ _ (called k c n s h z e) =
       let o = opens-is fs c (call_path c (label_or s.block.label) z.number) z.line.inst z.copy (cut-opens fs c (label_or s.block.label) s.number s.rest z e) in
-      let a = callee-among c.unit s.block (s.before ++ next_lines fs c s) z.rest z.line o.callee o.ty o.args (spot-block fs c s h).0 (cut-lines c s h z e) o.inst o.no_assert in
+      let a = callee-among c.unit s.block (s.before ++ next_lines fs c s) z.rest z.line o.callee o.ty o.args (copy_piece-block fs c s h).0 (cut-lines c s h z e) o.inst o.no_assert in
       ap (λ f. nest_deeper k fs (option_map_or callees f [])) (sym o.named) ∙ any-among (λ f. nest_deeper k fs (callees_of fs f)) (callees c.unit) o.callee (nested-shallow (suc k) c n) a
 
-  pub not-deep : (c : Copy) → Nested fs u zero c → (s : Spot) → SpotOf fs c s → (z : Cut) → next_cut fs c s ≡ Some z → ⊥
+  pub not-deep : (c : Copy) → Nested fs u zero c → (s : CopyPiece) → CopyPieceOf fs c s → (z : Cut) → next_cut fs c s ≡ Some z → ⊥
   not-deep c n s h z e =
       let o = opens-is fs c (call_path c (label_or s.block.label) z.number) z.line.inst z.copy (cut-opens fs c (label_or s.block.label) s.number s.rest z e) in
-      let a = callee-among c.unit s.block (s.before ++ next_lines fs c s) z.rest z.line o.callee o.ty o.args (spot-block fs c s h).0 (cut-lines c s h z e) o.inst o.no_assert in
+      let a = callee-among c.unit s.block (s.before ++ next_lines fs c s) z.rest z.line o.callee o.ty o.args (copy_piece-block fs c s h).0 (cut-lines c s h z e) o.inst o.no_assert in
       let f : true ≡ false = any-among (λ (f : UnitName). true) (callees c.unit) o.callee (nested-shallow zero c n) a in
       differ f
     where

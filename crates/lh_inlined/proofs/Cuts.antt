@@ -100,7 +100,9 @@ module _ (fs : List UnitText) (c : Copy) (label : List ℕ) where
     piece-lines k [] = refl
     piece-lines k (l ∷ more) = by-case (piece-lines (k + 1) more) (opened fs c (call_path c label k) l.inst)
       where
-        by-case : ((pieces_from copy_of fs c label (k + 1) more).rest ≡ map (copied_line fs c) (calm (k + 1) more) ++ ending (cut (k + 1) more)) → (o : Option Copy) → (with_line copy_of fs c l o (pieces_from copy_of fs c label (k + 1) more)).rest ≡ map (copied_line fs c) (calm_by o l (calm (k + 1) more)) ++ ending (cut_by o k l more (cut (k + 1) more))
+        by-case : ((pieces_from copy_of fs c label (k + 1) more).rest ≡ map (copied_line fs c) (calm (k + 1) more) ++ ending (cut (k + 1) more)) → (o : Option Copy)
+            → (with_line copy_of fs c l o (pieces_from copy_of fs c label (k + 1) more)).rest ≡ map (copied_line fs c) (calm_by o l (calm (k + 1) more))
+            ++ ending (cut_by o k l more (cut (k + 1) more))
         by-case h None = ap (λ ls. copied_line fs c l ∷ ls) h
         by-case h (Some d) = refl
 
@@ -109,7 +111,8 @@ module _ (fs : List UnitText) (c : Copy) (label : List ℕ) where
     piece-more k [] = refl
     piece-more k (l ∷ more) = by-case (piece-more (k + 1) more) (opened fs c (call_path c label k) l.inst)
       where
-        by-case : ((pieces_from copy_of fs c label (k + 1) more).more ≡ blocks-behind (cut (k + 1) more)) → (o : Option Copy) → (with_line copy_of fs c l o (pieces_from copy_of fs c label (k + 1) more)).more ≡ blocks-behind (cut_by o k l more (cut (k + 1) more))
+        by-case : ((pieces_from copy_of fs c label (k + 1) more).more ≡ blocks-behind (cut (k + 1) more)) → (o : Option Copy)
+            → (with_line copy_of fs c l o (pieces_from copy_of fs c label (k + 1) more)).more ≡ blocks-behind (cut_by o k l more (cut (k + 1) more))
         by-case h None = h
         by-case h (Some d) = refl
 
@@ -122,6 +125,7 @@ module _ (fs : List UnitText) (c : Copy) (label : List ℕ) where
   last-cut here k [] = refl
   last-cut here k (l ∷ more) = by-case (last-cut here (k + 1) more) (opened fs c (call_path c label k) l.inst)
     where
-      by-case : (last_from fs c label here (k + 1) more ≡ last_by (cut (k + 1) more) here) → (o : Option Copy) → last_from fs c label (option_map_or (λ (d : Copy). d.path) o here) (k + 1) more ≡ last_by (cut_by o k l more (cut (k + 1) more)) here
+      by-case : (last_from fs c label here (k + 1) more ≡ last_by (cut (k + 1) more) here) → (o : Option Copy) → last_from fs c label (option_map_or (λ (d : Copy). d.path) o here) (k + 1) more
+          ≡ last_by (cut_by o k l more (cut (k + 1) more)) here
       by-case h None = h
       by-case h (Some d) = refl

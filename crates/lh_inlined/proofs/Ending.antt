@@ -7,8 +7,8 @@ use Rattle.lh_formed.specs.Shape.{EndsOnce}
 use Rattle.lh_flat.specs.Copies.{Copy, copied, copied_line}
 use Rattle.lh_flat.specs.Flat.{MergeText, branch_into, with_merge, flat_copy}
 use Rattle.lh_inlined.proofs.Cuts.{Among, Cut, ending, behind, lines-cut, piece-lines}
-use Rattle.lh_inlined.proofs.Spots.{Spot, next_cut, next_lines, after_spot, SpotOf, begins, goes_on, flat_spot}
-use Rattle.lh_inlined.proofs.Paths.{as_block, spot-block, nested-right}
+use Rattle.lh_inlined.proofs.CopyPieces.{CopyPiece, next_cut, next_lines, after_copy_piece, CopyPieceOf, begins, goes_on, flat_copy_piece}
+use Rattle.lh_inlined.proofs.Paths.{as_block, copy_piece-block, nested-right}
 
 -- a copied instruction is a terminator where the original is one
 pub terminator-copied : (fs : List UnitText) (c : Copy) (i : InstText) → is_terminator (copied fs c i) ≡ is_terminator i
@@ -71,28 +71,28 @@ no-rest (l ∷ ls) = ap (λ ms. l ∷ ms) (no-rest ls)
 abbrev Ends : List LineText → Type 0
 Ends ls = EndsOnce ls × ((l : LineText) × (more : List LineText) × (ls ≡ l ∷ more))
 
--- some line stands in a spot, or a call behind it
-pub data Filled (fs : List UnitText) (c : Copy) (s : Spot) : Type 0 where
+-- some line stands in a piece, or a call behind it
+pub data Filled (fs : List UnitText) (c : Copy) (s : CopyPiece) : Type 0 where
   has_line : (l : LineText) (ls : List LineText) → s.rest ≡ l ∷ ls → Filled fs c s
 
 module _ (fs : List UnitText) (c : Copy)
     (ends : (b : BlockText) → Among c.unit.blocks b → EndsOnce b.lines)
     (has : (b : BlockText) → Among c.unit.blocks b → (l : LineText) × (ls : List LineText) × (b.lines ≡ l ∷ ls))
-    (call : (s : Spot) → SpotOf fs c s → (z : Cut) → next_cut fs c s ≡ Some z → is_terminator z.line.inst ≡ false) where
-  -- a spot has lines
-  pub filled : (s : Spot) → SpotOf fs c s → Filled fs c s
+    (call : (s : CopyPiece) → CopyPieceOf fs c s → (z : Cut) → next_cut fs c s ≡ Some z → is_terminator z.line.inst ≡ false) where
+  -- a piece has lines
+  pub filled : (s : CopyPiece) → CopyPieceOf fs c s → Filled fs c s
   filled _ (begins b a) = let r = has b a in has_line r.0 r.1 r.2
   filled _ (goes_on s h z e) = by z.rest refl
     where
       whole : s.block.lines ≡ (s.before ++ next_lines fs c s) ++ z.line ∷ z.rest
-      whole = (spot-block fs c s h).1
+      whole = (copy_piece-block fs c s h).1
           ∙ ap (λ ls. s.before ++ ls) (lines-cut fs c (label_or s.block.label) s.number s.rest ∙ ap (λ o. next_lines fs c s ++ behind fs c (label_or s.block.label) o) e)
           ∙ sym (nested-right s.before (next_lines fs c s) (z.line ∷ z.rest))
 
-      by : (ls : List LineText) → z.rest ≡ ls → Filled fs c (after_spot fs c s z)
+      by : (ls : List LineText) → z.rest ≡ ls → Filled fs c (after_copy_piece fs c s z)
       by (l ∷ ls) q = has_line l ls q
       by [] q =
-          let last : EndsOnce (z.line ∷ z.rest) = ends-behind (s.before ++ next_lines fs c s) z.line z.rest (subst EndsOnce whole (ends s.block (spot-block fs c s h).0)) in
+          let last : EndsOnce (z.line ∷ z.rest) = ends-behind (s.before ++ next_lines fs c s) z.line z.rest (subst EndsOnce whole (ends s.block (copy_piece-block fs c s h).0)) in
           let t : is_terminator z.line.inst ≡ true = subst (λ ls. EndsOnce (z.line ∷ ls)) q last in
           absurd (differ (is_terminator z.line.inst) (call s h z e) t)
         where
@@ -100,8 +100,9 @@ module _ (fs : List UnitText) (c : Copy)
           differ b p q = cc
 
   -- and ends with one terminator
-  pub spot-ends : (k : ℕ) (s : Spot) → SpotOf fs c s → EndsOnce (as_block (flat_spot fs k c s)).lines × ((l : LineText) × (ls : List LineText) × ((as_block (flat_spot fs k c s)).lines ≡ l ∷ ls))
-  spot-ends k s h = subst Ends (ap (with_merge s.merge) (sym (piece-lines fs c (label_or s.block.label) (flat_copy k fs) s.number s.rest))) (by (next_cut fs c s) refl (filled s h))
+  pub copy_piece-ends : (k : ℕ) (s : CopyPiece) → CopyPieceOf fs c s → EndsOnce (as_block (flat_copy_piece fs k c s)).lines
+      × ((l : LineText) × (ls : List LineText) × ((as_block (flat_copy_piece fs k c s)).lines ≡ l ∷ ls))
+  copy_piece-ends k s h = subst Ends (ap (with_merge s.merge) (sym (piece-lines fs c (label_or s.block.label) (flat_copy k fs) s.number s.rest))) (by (next_cut fs c s) refl (filled s h))
     where
       merged : (l : LineText) (ls : List LineText) → EndsOnce (l ∷ ls) → EndsOnce (with_merge s.merge (l ∷ ls)) × ((k : LineText) × (more : List LineText) × (with_merge s.merge (l ∷ ls) ≡ k ∷ more))
       merged l ls q = (with-merge-ends s.merge l ls q, first s.merge)
@@ -110,27 +111,36 @@ module _ (fs : List UnitText) (c : Copy)
           first None = (l, ls, refl)
           first (Some m) = (record { result = Some m.value; inst = phi_text m.ty m.edges }, l ∷ ls, refl)
 
-      any : (ls : List LineText) → EndsOnce ls → ((l : LineText) × (more : List LineText) × (ls ≡ l ∷ more)) → EndsOnce (with_merge s.merge ls) × ((k : LineText) × (more : List LineText) × (with_merge s.merge ls ≡ k ∷ more))
+      any : (ls : List LineText) → EndsOnce ls → ((l : LineText) × (more : List LineText) × (ls ≡ l ∷ more)) → EndsOnce (with_merge s.merge ls)
+          × ((k : LineText) × (more : List LineText) × (with_merge s.merge ls ≡ k ∷ more))
       any [] q r = absurd cc
       any (l ∷ ls) q r = merged l ls q
 
       block-ends : EndsOnce (s.before ++ s.rest)
-      block-ends = let r = spot-block fs c s h in subst EndsOnce r.1 (ends s.block r.0)
+      block-ends = let r = copy_piece-block fs c s h in subst EndsOnce r.1 (ends s.block r.0)
 
-      by : (o : Option Cut) → next_cut fs c s ≡ o → Filled fs c s → EndsOnce (with_merge s.merge (map (copied_line fs c) (next_lines fs c s) ++ ending fs c (label_or s.block.label) (flat_copy k fs) (next_cut fs c s))) × ((l : LineText) × (more : List LineText) × (with_merge s.merge (map (copied_line fs c) (next_lines fs c s) ++ ending fs c (label_or s.block.label) (flat_copy k fs) (next_cut fs c s)) ≡ l ∷ more))
+      by : (o : Option Cut) → next_cut fs c s ≡ o → Filled fs c s
+          → EndsOnce (with_merge s.merge (map (copied_line fs c) (next_lines fs c s) ++ ending fs c (label_or s.block.label) (flat_copy k fs) (next_cut fs c s)))
+          × ((l : LineText) × (more : List LineText)
+          × (with_merge s.merge (map (copied_line fs c) (next_lines fs c s) ++ ending fs c (label_or s.block.label) (flat_copy k fs) (next_cut fs c s)) ≡ l ∷ more))
       by None e (has_line l ls q) =
-          let rest : s.rest ≡ next_lines fs c s = lines-cut fs c (label_or s.block.label) s.number s.rest ∙ ap (λ o. next_lines fs c s ++ behind fs c (label_or s.block.label) o) e ∙ no-rest (next_lines fs c s) in
+          let rest : s.rest ≡ next_lines fs c s = lines-cut fs c (label_or s.block.label) s.number s.rest ∙ ap (λ o. next_lines fs c s ++ behind fs c (label_or s.block.label) o) e
+          ∙ no-rest (next_lines fs c s) in
           let here : EndsOnce (l ∷ ls) = ends-behind s.before l ls (subst (λ ms. EndsOnce (s.before ++ ms)) q block-ends) in
           subst (λ ms. EndsOnce (with_merge s.merge ms) × ((k : LineText) × (more : List LineText) × (with_merge s.merge ms ≡ k ∷ more)))
-          (ap (map (copied_line fs c)) (sym q ∙ rest) ∙ sym (no-rest (map (copied_line fs c) (next_lines fs c s))) ∙ ap (λ o. map (copied_line fs c) (next_lines fs c s) ++ ending fs c (label_or s.block.label) (flat_copy k fs) o) (sym e))
+          (ap (map (copied_line fs c)) (sym q ∙ rest) ∙ sym (no-rest (map (copied_line fs c) (next_lines fs c s)))
+          ∙ ap (λ o. map (copied_line fs c) (next_lines fs c s) ++ ending fs c (label_or s.block.label) (flat_copy k fs) o) (sym e))
           (any (map (copied_line fs c) (l ∷ ls)) (ends-copied fs c (l ∷ ls) here) (copied_line fs c l, map (copied_line fs c) ls, refl))
       by (Some z) e f =
           let whole : s.before ++ s.rest ≡ (s.before ++ next_lines fs c s) ++ z.line ∷ z.rest =
-          ap (λ ls. s.before ++ ls) (lines-cut fs c (label_or s.block.label) s.number s.rest ∙ ap (λ o. next_lines fs c s ++ behind fs c (label_or s.block.label) o) e) ∙ sym (nested-right s.before (next_lines fs c s) (z.line ∷ z.rest)) in
+          ap (λ ls. s.before ++ ls) (lines-cut fs c (label_or s.block.label) s.number s.rest ∙ ap (λ o. next_lines fs c s ++ behind fs c (label_or s.block.label) o) e)
+          ∙ sym (nested-right s.before (next_lines fs c s) (z.line ∷ z.rest)) in
           let none : NoEnd (next_lines fs c s) = behind-none s.before (next_lines fs c s) (no-end-before (s.before ++ next_lines fs c s) z.line z.rest (subst EndsOnce whole block-ends)) in
           subst (λ ms. EndsOnce (with_merge s.merge ms) × ((k : LineText) × (more : List LineText) × (with_merge s.merge ms ≡ k ∷ more)))
           (ap (λ o. map (copied_line fs c) (next_lines fs c s) ++ ending fs c (label_or s.block.label) (flat_copy k fs) o) (sym e))
-          (any (map (copied_line fs c) (next_lines fs c s) ++ branch_into z.copy ∷ []) (with-end (map (copied_line fs c) (next_lines fs c s)) (branch_into z.copy) (no-end-copied fs c (next_lines fs c s) none) refl) (some-first (map (copied_line fs c) (next_lines fs c s)) (branch_into z.copy)))
+          (any (map (copied_line fs c) (next_lines fs c s) ++ branch_into z.copy ∷ [])
+          (with-end (map (copied_line fs c) (next_lines fs c s)) (branch_into z.copy) (no-end-copied fs c (next_lines fs c s) none) refl)
+          (some-first (map (copied_line fs c) (next_lines fs c s)) (branch_into z.copy)))
         where
           behind-none : (xs ys : List LineText) → NoEnd (xs ++ ys) → NoEnd ys
           behind-none [] ys h = h

@@ -18,7 +18,7 @@ use Rattle.lh_inlined.specs.Activates.{flat_stand, StandIsPlain, EndsAlike}
 use Rattle.lh_inlined.proofs.Finding.{as_block, found-block, first_of, first-found}
 use Rattle.lh_inlined.proofs.Holding.{Keeps, Holds}
 use Rattle.lh_inlined.proofs.LastPieces.{label-is, last-append}
-use Rattle.lh_inlined.proofs.Alike.{functions-labelled, tidy-labelled, Gives, gives-result, flat, all, InPlace, Runs, Callers, Alike, block-tidy, label-plain, callers-below, phis-copied}
+use Rattle.lh_inlined.proofs.Alike.{functions-labelled, tidy-labelled, GivesInBoth, gives-result, flat, all, InPlace, Runs, Callers, Alike, block-tidy, label-plain, callers-below, phis-copied}
 
 module _ (s : Scene) (u : UnitText) (name : UnitName) (top : ℕ) (w : FunctionsTidy s.functions) where
   -- a copy's block is found in the flat text by the label of its first piece
@@ -27,7 +27,8 @@ module _ (s : Scene) (u : UnitText) (name : UnitName) (top : ℕ) (w : Functions
   first-block left c label b o e =
       found-block (first_piece c label) (all s u name top w)
       ∙ ap (option_map as_block)
-      (first-found s.functions (functions-labelled s.functions w) (all s u name top w) left c o.stands (tidy-labelled s.functions c.unit o.tidy) label b e (label-plain s u name top w left c label b o e) (sym (label-is label c.unit.blocks b e)))
+      (first-found s.functions (functions-labelled s.functions w) (all s u name top w) left c o.stands (tidy-labelled s.functions c.unit o.tidy) label b e
+      (label-plain s u name top w left c label b o e) (sym (label-is label c.unit.blocks b e)))
 
   -- ---- into a block
 
@@ -37,11 +38,12 @@ module _ (s : Scene) (u : UnitText) (name : UnitName) (top : ℕ) (w : Functions
     pub enters : y ≡ Some control
     pub unit : control.unit ≡ flat s u name top w
     pub runs : Runs s u name top w left c k control.block control.rest
-    pub gives : Gives u c k.held f control.held
+    pub gives : GivesInBoth u c k.held f control.held
 
   -- the control at the first piece of a block
   pub first-runs : (left : ℕ) (c : Copy) (label : List ℕ) (b : BlockText) (e : Env) → block_of label c.unit.blocks ≡ Some b
-      → Runs s u name top w left c (record { unit = c.unit; block = label; rest = b.lines; held = e }) (first_piece c label) (pieces_from (flat_copy left s.functions) s.functions c (label_or b.label) 0 b.lines).rest
+      → Runs s u name top w left c (record { unit = c.unit; block = label; rest = b.lines; held = e }) (first_piece c label) (pieces_from (flat_copy left s.functions) s.functions c (label_or b.label)
+      0 b.lines).rest
   first-runs left c label b e z = record {
     text = b;
     before = [];
@@ -56,7 +58,8 @@ module _ (s : Scene) (u : UnitText) (name : UnitName) (top : ℕ) (w : Functions
       → Enters left c k f (entered (flat s u name top w) f (last_piece_of s.functions c from) (first_piece c to))
   enters left c e f from to k o h p q = by (block_of to c.unit.blocks) refl q
     where
-      at : (b : BlockText) → block_of to c.unit.blocks ≡ Some b → (x : Option Env) → phis_taken from e b.lines ≡ x → option_map (λ e'. record { unit = c.unit; block = to; rest = b.lines; held = e' }) x ≡ Some k
+      at : (b : BlockText) → block_of to c.unit.blocks ≡ Some b → (x : Option Env) → phis_taken from e b.lines ≡ x
+          → option_map (λ e'. record { unit = c.unit; block = to; rest = b.lines; held = e' }) x ≡ Some k
           → Enters left c k f (entered (flat s u name top w) f (last_piece_of s.functions c from) (first_piece c to))
       at b z None y g = absurd (none-some k g)
       at b z (Some e') y g =
@@ -64,16 +67,28 @@ module _ (s : Scene) (u : UnitText) (name : UnitName) (top : ℕ) (w : Functions
           let m = phis-copied s u name top w (flat_copy left s.functions) c e f e' from (label_or b.label) 0 b.lines o.fits h p tidy.lines tidy.phis y in
           let i : record { unit = c.unit; block = to; rest = b.lines; held = e' } ≡ k = same_Some (record { unit = c.unit; block = to; rest = b.lines; held = e' }) k g in
           subst (λ j. Enters left c j f (entered (flat s u name top w) f (last_piece_of s.functions c from) (first_piece c to))) i record {
-            control = record { unit = flat s u name top w; block = first_piece c to; rest = (pieces_from (flat_copy left s.functions) s.functions c (label_or b.label) 0 b.lines).rest; held = m.after };
+            control = record {
+              unit = flat s u name top w;
+              block = first_piece c to;
+              rest = (pieces_from (flat_copy left s.functions) s.functions c (label_or b.label) 0 b.lines).rest;
+              held = m.after;
+            };
             enters =
-                ap (option_and_then (λ (x : BlockText). option_map (λ (v : Env). record { unit = flat s u name top w; block = first_piece c to; rest = x.lines; held = v }) (phis_taken (last_piece_of s.functions c from) f x.lines))) (first-block left c to b o z)
-                ∙ ap (option_map (λ (v : Env). record { unit = flat s u name top w; block = first_piece c to; rest = (pieces_from (flat_copy left s.functions) s.functions c (label_or b.label) 0 b.lines).rest; held = v })) m.taken;
+                ap (option_and_then (λ (x : BlockText). option_map (λ (v : Env). record { unit = flat s u name top w; block = first_piece c to; rest = x.lines; held = v })
+                (phis_taken (last_piece_of s.functions c from) f x.lines))) (first-block left c to b o z)
+                ∙ ap (option_map (λ (v : Env). record {
+                  unit = flat s u name top w;
+                  block = first_piece c to;
+                  rest = (pieces_from (flat_copy left s.functions) s.functions c (label_or b.label) 0 b.lines).rest;
+                  held = v;
+                })) m.taken;
             unit = refl;
             runs = first-runs left c to b e' z;
             gives = m.gives;
           }
 
-      by : (b : Option BlockText) → block_of to c.unit.blocks ≡ b → option_and_then (λ (x : BlockText). option_map (λ (v : Env). record { unit = c.unit; block = to; rest = x.lines; held = v }) (phis_taken from e x.lines)) b ≡ Some k
+      by : (b : Option BlockText) → block_of to c.unit.blocks ≡ b
+          → option_and_then (λ (x : BlockText). option_map (λ (v : Env). record { unit = c.unit; block = to; rest = x.lines; held = v }) (phis_taken from e x.lines)) b ≡ Some k
           → Enters left c k f (entered (flat s u name top w) f (last_piece_of s.functions c from) (first_piece c to))
       by None z g = absurd (none-some k g)
       by (Some b) z g = at b z (phis_taken from e b.lines) refl g
@@ -91,7 +106,8 @@ module _ (s : Scene) (u : UnitText) (name : UnitName) (top : ℕ) (w : Functions
   Follows _ _ = ⊥
 
   -- with more held
-  pub alike-held : (p f : Point) (a : Alike s u name top w p f) (e g : Env) → Gives u a.copy e f.control.held g → Alike s u name top w (record p { control = record p.control { held = e } }) (record f { control = record f.control { held = g } })
+  pub alike-held : (p f : Point) (a : Alike s u name top w p f) (e g : Env) → GivesInBoth u a.copy e f.control.held g
+      → Alike s u name top w (record p { control = record p.control { held = e } }) (record f { control = record f.control { held = g } })
   alike-held p f a e g h = record {
     copy = a.copy;
     left = a.left;
@@ -106,15 +122,18 @@ module _ (s : Scene) (u : UnitText) (name : UnitName) (top : ℕ) (w : Functions
     outcomes = a.outcomes;
   }
 
-  pub gives-follows : (p f : Point) (a : Alike s u name top w p f) (r : Option (List ℕ)) (x y : Option Held) → ResultIsNew a.copy.unit r → Keeps x y → ((h : Held) (m : Range) → x ≡ Some h → h ≡ part_held m → a.copy ≡ top_copy u)
+  pub gives-follows : (p f : Point) (a : Alike s u name top w p f) (r : Option (List ℕ)) (x y : Option Held) → ResultIsNew a.copy.unit r → Keeps x y
+      → ((h : Held) (m : Range) → x ≡ Some h → h ≡ part_held m → a.copy ≡ top_copy u)
       → Follows (gives p r x) (gives f (option_map a.copy.value r) y)
   gives-follows p f a r None y t k m = tt
   gives-follows p f a r (Some h) y t k m =
       subst (λ z. Follows (gives p r (Some h)) (gives f (option_map a.copy.value r) z)) (sym (k h refl))
-      (inl (alike-held p f a (with_result p.control.held r h) (with_result f.control.held (option_map a.copy.value r) h) (gives-result u a.copy p.control.held f.control.held r h a.place.fits a.holds t (λ n e. m h n refl e))))
+      (inl (alike-held p f a (with_result p.control.held r h) (with_result f.control.held (option_map a.copy.value r) h)
+      (gives-result u a.copy p.control.held f.control.held r h a.place.fits a.holds t (λ n e. m h n refl e))))
 
   -- another control in the same copy
-  pub alike-control : (p f : Point) (a : Alike s u name top w p f) (k g : Control) → g.unit ≡ flat s u name top w → Runs s u name top w a.left a.copy k g.block g.rest → Gives u a.copy k.held f.control.held g.held
+  pub alike-control : (p f : Point) (a : Alike s u name top w p f) (k g : Control) → g.unit ≡ flat s u name top w → Runs s u name top w a.left a.copy k g.block g.rest
+      → GivesInBoth u a.copy k.held f.control.held g.held
       → Alike s u name top w (record p { control = k }) (record f { control = g })
   alike-control p f a k g x r h = record {
     copy = a.copy;
@@ -138,13 +157,38 @@ module _ (s : Scene) (u : UnitText) (name : UnitName) (top : ℕ) (w : Functions
 
   pub wish-follows : (p f : Point) (a : Alike s u name top w p f) (x y : Option Wish) → Keeps x y → Follows (wishes p x) (wishes f y)
   wish-follows p f a None y k = tt
-  wish-follows p f a (Some v) y k = subst (λ z. Follows (wishes p (Some v)) (wishes f z)) (sym (k v refl)) (inl (record { copy = a.copy; left = a.left; place = a.place; runs = a.runs; unit = a.unit; holds = a.holds; callers = a.callers; none = a.none; count = a.count; wish = refl; outcomes = a.outcomes }))
+  wish-follows p f a (Some v) y k = subst (λ z. Follows (wishes p (Some v)) (wishes f z)) (sym (k v refl))
+      (inl (record {
+        copy = a.copy;
+        left = a.left;
+        place = a.place;
+        runs = a.runs;
+        unit = a.unit;
+        holds = a.holds;
+        callers = a.callers;
+        none = a.none;
+        count = a.count;
+        wish = refl;
+        outcomes = a.outcomes;
+      }))
 
   pub tell-follows : (p f : Point) (a : Alike s u name top w p f) (x y : Option Bool) → Keeps x y → Follows (tells p x) (tells f y)
   tell-follows p f a None y k = tt
   tell-follows p f a (Some v) y k =
       subst (λ z. Follows (tells p (Some v)) (tells f z)) (sym (k v refl))
-      (inl (record { copy = a.copy; left = a.left; place = a.place; runs = a.runs; unit = a.unit; holds = a.holds; callers = a.callers; none = a.none; count = a.count; wish = a.wish; outcomes = ap (λ l. l ++ v ∷ []) a.outcomes }))
+      (inl (record {
+        copy = a.copy;
+        left = a.left;
+        place = a.place;
+        runs = a.runs;
+        unit = a.unit;
+        holds = a.holds;
+        callers = a.callers;
+        none = a.none;
+        count = a.count;
+        wish = a.wish;
+        outcomes = ap (λ l. l ++ v ∷ []) a.outcomes;
+      }))
 
   -- at an end no call is open
   pub ends-follows : (p f : Point) (a : Alike s u name top w p f) (xs : List Caller) (x y : Option Stand) → Callers s u name top w xs a.left a.copy f.control.held
@@ -176,7 +220,8 @@ module _ (s : Scene) (u : UnitText) (name : UnitName) (top : ℕ) (w : Functions
       next n = omega arith
 
   -- what runs goes on behind a line, in the same piece or in the one that follows
-  pub runs-past : (left : ℕ) (c : Copy) (at : Control) (block here : List ℕ) (rest lines : List LineText) (l : LineText) (text : BlockText) (before : List LineText) → at.unit ≡ c.unit → block_of at.block c.unit.blocks ≡ Some text → text.lines ≡ before ++ l ∷ rest
+  pub runs-past : (left : ℕ) (c : Copy) (at : Control) (block here : List ℕ) (rest lines : List LineText) (l : LineText) (text : BlockText) (before : List LineText) → at.unit ≡ c.unit
+      → block_of at.block c.unit.blocks ≡ Some text → text.lines ≡ before ++ l ∷ rest
       → block ≡ last_from s.functions c at.block (first_piece c at.block) 0 before
       → here ≡ option_map_or (λ (d : Copy). d.path) (opened s.functions c (call_path c at.block (length before)) l.inst) block
       → lines ≡ (pieces_from (flat_copy left s.functions) s.functions c at.block (length before + 1) rest).rest
@@ -189,7 +234,8 @@ module _ (s : Scene) (u : UnitText) (name : UnitName) (top : ℕ) (w : Functions
     split = y ∙ sym (append_assoc before (l ∷ []) rest);
     here = h
         ∙ ap (option_map_or (λ (d : Copy). d.path) (opened s.functions c (call_path c at.block (length before)) l.inst)) g
-        ∙ ap (λ n. option_map_or (λ (d : Copy). d.path) (opened s.functions c (call_path c at.block n) l.inst) (last_from s.functions c at.block (first_piece c at.block) 0 before)) (sym (zero_first (length before)))
+        ∙ ap (λ n. option_map_or (λ (d : Copy). d.path) (opened s.functions c (call_path c at.block n) l.inst) (last_from s.functions c at.block (first_piece c at.block) 0 before)) (sym
+        (zero_first (length before)))
         ∙ sym (last-append s.functions c at.block (first_piece c at.block) 0 before (l ∷ []));
     next = m ∙ ap (λ n. (pieces_from (flat_copy left s.functions) s.functions c at.block n rest).rest) (sym (length-next before l));
   }

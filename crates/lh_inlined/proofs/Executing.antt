@@ -80,7 +80,8 @@ module _ (s : Scene) (u : UnitText) (name : UnitName) (top : ℕ) (w : Functions
   -- ---- operations
 
   -- a part of a signal stands in the process alone
-  part-top : (c : Copy) (e f : Env) (o : Op) (args : List OperandText) (h : Held) → Holds u c e f → signal_part c.unit e o args ≡ Some h → (x : OperandText) × (r : Range) × (args ≡ x ∷ []) × (e x.value ≡ Some (part_held r))
+  part-top : (c : Copy) (e f : Env) (o : Op) (args : List OperandText) (h : Held) → Holds u c e f → signal_part c.unit e o args ≡ Some h → (x : OperandText) × (r : Range) × (args ≡ x ∷ [])
+      × (e x.value ≡ Some (part_held r))
   part-top c e f o [] h k q = absurd (none-some h q)
   part-top c e f o (x ∷ []) h k q = let r = stepped-part (value_type c.unit x.value) (part_at e x.value) (step_of o) h q in (x, r.part, refl, held-part (e x.value) r.part r.is)
   part-top c e f o (x ∷ y ∷ more) h k q = absurd (none-some h q)
@@ -95,10 +96,12 @@ module _ (s : Scene) (u : UnitText) (name : UnitName) (top : ℕ) (w : Functions
       ∙ ap (λ v. stepped (value_type u x.value) (option_and_then as_part v) (step_of o)) (there ∙ sym z)
       ∙ q
 
-  keeps-operated : (left : ℕ) (c : Copy) (e f : Env) (o : Op) (args : List OperandText) → InPlace s u name top w left c → Holds u c e f → Keeps (operated c.unit e o args) (operated (flat s u name top w) f o (map (copied_operand c) args))
+  keeps-operated : (left : ℕ) (c : Copy) (e f : Env) (o : Op) (args : List OperandText) → InPlace s u name top w left c → Holds u c e f
+      → Keeps (operated c.unit e o args) (operated (flat s u name top w) f o (map (copied_operand c) args))
   keeps-operated left c e f o args p k h q = by (data_at e args) refl q
     where
-      parted : (x : OperandText) (r : Range) → args ≡ x ∷ [] → e x.value ≡ Some (part_held r) → signal_part c.unit e o args ≡ Some h → (d : Copy) → d ≡ c → (d ≡ top_copy u → UnitTidy s.functions u → Holds u d e f → signal_part d.unit e o (x ∷ []) ≡ Some h → operated (flat s u name top w) f o (map (copied_operand d) (x ∷ [])) ≡ Some h)
+      parted : (x : OperandText) (r : Range) → args ≡ x ∷ [] → e x.value ≡ Some (part_held r) → signal_part c.unit e o args ≡ Some h → (d : Copy) → d ≡ c
+          → (d ≡ top_copy u → UnitTidy s.functions u → Holds u d e f → signal_part d.unit e o (x ∷ []) ≡ Some h → operated (flat s u name top w) f o (map (copied_operand d) (x ∷ [])) ≡ Some h)
           → operated (flat s u name top w) f o (map (copied_operand c) args) ≡ Some h
       parted x r a z y d i go =
           let t : c ≡ top_copy u = k.parts x.value r z in
@@ -107,12 +110,14 @@ module _ (s : Scene) (u : UnitText) (name : UnitName) (top : ℕ) (w : Functions
           ∙ ap (λ (v : Copy). operated (flat s u name top w) f o (map (copied_operand v) (x ∷ []))) (sym i)
           ∙ go (i ∙ t) tidy (subst (λ (v : Copy). Holds u v e f) (sym i) k) (subst (λ (v : Copy). signal_part v.unit e o (x ∷ []) ≡ Some h) (sym i) (ap (signal_part c.unit e o) (sym a) ∙ y))
 
-      at-top : (x : OperandText) (r : Range) → e x.value ≡ Some (part_held r) → (d : Copy) → d ≡ top_copy u → UnitTidy s.functions u → Holds u d e f → signal_part d.unit e o (x ∷ []) ≡ Some h → operated (flat s u name top w) f o (map (copied_operand d) (x ∷ [])) ≡ Some h
+      at-top : (x : OperandText) (r : Range) → e x.value ≡ Some (part_held r) → (d : Copy) → d ≡ top_copy u → UnitTidy s.functions u → Holds u d e f → signal_part d.unit e o (x ∷ []) ≡ Some h
+          → operated (flat s u name top w) f o (map (copied_operand d) (x ∷ [])) ≡ Some h
       at-top x r z d i t m y =
           ap (λ (v : Copy). operated (flat s u name top w) f o (map (copied_operand v) (x ∷ []))) i
           ∙ part-same e f o x r h t (subst (λ (v : Copy). Holds u v e f) i m) z (subst (λ (v : Copy). signal_part v.unit e o (x ∷ []) ≡ Some h) i y)
 
-      by : (v : Option (List Datum)) → data_at e args ≡ v → or_else (option_map (λ ds. datum_held (apply o ds)) v) (signal_part c.unit e o args) ≡ Some h → operated (flat s u name top w) f o (map (copied_operand c) args) ≡ Some h
+      by : (v : Option (List Datum)) → data_at e args ≡ v → or_else (option_map (λ ds. datum_held (apply o ds)) v) (signal_part c.unit e o args) ≡ Some h
+          → operated (flat s u name top w) f o (map (copied_operand c) args) ≡ Some h
       by (Some ds) d y = ap (λ v. or_else (option_map (λ xs. datum_held (apply o xs)) v) (signal_part (flat s u name top w) f o (map (copied_operand c) args))) (keeps-data u c e f k args ds d) ∙ y
       by None d y = let m = part-top c e f o args h k y in parted m.0 m.1 m.2 m.3 y c refl (at-top m.0 m.1 m.3 c)
 
@@ -125,7 +130,8 @@ module _ (s : Scene) (u : UnitText) (name : UnitName) (top : ℕ) (w : Functions
 
   -- ---- stores
 
-  store-follows : (p f : Point) (a : Alike s u name top w p f) (n : List ℕ) (x : Option Datum) (y : Option Datum) (v z : Option Datum) → cell_at p.control.held n ≡ x → Keeps x y → Keeps v z → Follows s u name top w (stores p n x v) (stores f (a.copy.value n) y z)
+  store-follows : (p f : Point) (a : Alike s u name top w p f) (n : List ℕ) (x : Option Datum) (y : Option Datum) (v z : Option Datum) → cell_at p.control.held n ≡ x → Keeps x y → Keeps v z
+      → Follows s u name top w (stores p n x v) (stores f (a.copy.value n) y z)
   store-follows p f a n None y v z e k l = tt
   store-follows p f a n (Some old) y None z e k l = tt
   store-follows p f a n (Some old) y (Some d) z e k l =
@@ -151,27 +157,35 @@ module _ (s : Scene) (u : UnitText) (name : UnitName) (top : ℕ) (w : Functions
   into p f a to k e q =
       subst (λ v. Enters s u name top w a.left a.copy k f.control.held (entered v f.control.held f.control.block (first_piece a.copy to))) (sym a.unit)
       (subst (λ v. Enters s u name top w a.left a.copy k f.control.held (entered (flat s u name top w) f.control.held v (first_piece a.copy to))) (sym (at-end p f a e))
-      (enters s u name top w a.left a.copy p.control.held f.control.held p.control.block to k a.place a.holds (plain-block p f a) (ap (λ v. entered v p.control.held p.control.block to) (sym a.runs.unit) ∙ q)))
+      (enters s u name top w a.left a.copy p.control.held f.control.held p.control.block to k a.place a.holds (plain-block p f a)
+      (ap (λ v. entered v p.control.held p.control.block to) (sym a.runs.unit) ∙ q)))
 
-  br-follows : (p f : Point) (a : Alike s u name top w p f) (to : List ℕ) → p.control.rest ≡ [] → Follows s u name top w (jumps p (entered p.control.unit p.control.held p.control.block to)) (jumps f (entered f.control.unit f.control.held f.control.block (first_piece a.copy to)))
-  br-follows p f a to e = jump-follows s u name top w p f a (entered p.control.unit p.control.held p.control.block to) (entered f.control.unit f.control.held f.control.block (first_piece a.copy to)) (λ k q. into p f a to k e q)
+  br-follows : (p f : Point) (a : Alike s u name top w p f) (to : List ℕ) → p.control.rest ≡ []
+      → Follows s u name top w (jumps p (entered p.control.unit p.control.held p.control.block to)) (jumps f (entered f.control.unit f.control.held f.control.block (first_piece a.copy to)))
+  br-follows p f a to e = jump-follows s u name top w p f a (entered p.control.unit p.control.held p.control.block to) (entered f.control.unit f.control.held f.control.block (first_piece a.copy to))
+      (λ k q. into p f a to k e q)
 
   branch-follows : (p f : Point) (a : Alike s u name top w p f) (first second : List ℕ) (x y : Option Bool) → p.control.rest ≡ [] → Keeps x y
-      → Follows s u name top w (jumps p (option_and_then (entered p.control.unit p.control.held p.control.block) (chosen x first second))) (jumps f (option_and_then (entered f.control.unit f.control.held f.control.block) (chosen y (first_piece a.copy first) (first_piece a.copy second))))
+      → Follows s u name top w (jumps p (option_and_then (entered p.control.unit p.control.held p.control.block) (chosen x first second))) (jumps f
+      (option_and_then (entered f.control.unit f.control.held f.control.block) (chosen y (first_piece a.copy first) (first_piece a.copy second))))
   branch-follows p f a first second None y e k = tt
   branch-follows p f a first second (Some false) y e k =
-      subst (λ z. Follows s u name top w (jumps p (entered p.control.unit p.control.held p.control.block first)) (jumps f (option_and_then (entered f.control.unit f.control.held f.control.block) (chosen z (first_piece a.copy first) (first_piece a.copy second))))) (sym (k false refl))
+      subst (λ z. Follows s u name top w (jumps p (entered p.control.unit p.control.held p.control.block first))
+      (jumps f (option_and_then (entered f.control.unit f.control.held f.control.block) (chosen z (first_piece a.copy first) (first_piece a.copy second))))) (sym (k false refl))
       (br-follows p f a first e)
   branch-follows p f a first second (Some true) y e k =
-      subst (λ z. Follows s u name top w (jumps p (entered p.control.unit p.control.held p.control.block second)) (jumps f (option_and_then (entered f.control.unit f.control.held f.control.block) (chosen z (first_piece a.copy first) (first_piece a.copy second))))) (sym (k true refl))
+      subst (λ z. Follows s u name top w (jumps p (entered p.control.unit p.control.held p.control.block second))
+      (jumps f (option_and_then (entered f.control.unit f.control.held f.control.block) (chosen z (first_piece a.copy first) (first_piece a.copy second))))) (sym (k true refl))
       (br-follows p f a second e)
 
   -- ---- ends
 
-  end-follows : (p f : Point) (a : Alike s u name top w p f) (x y : Option Stand) → (a.copy ≡ top_copy u → (v : Stand) → x ≡ Some v → (y ≡ Some (flat_stand s.functions u v)) × StandIsPlain v) → Follows s u name top w (ends_at p p.callers x) (ends_at f f.callers y)
+  end-follows : (p f : Point) (a : Alike s u name top w p f) (x y : Option Stand) → (a.copy ≡ top_copy u → (v : Stand) → x ≡ Some v → (y ≡ Some (flat_stand s.functions u v)) × StandIsPlain v)
+      → Follows s u name top w (ends_at p p.callers x) (ends_at f f.callers y)
   end-follows p f a x y h = subst (λ cs. Follows s u name top w (ends_at p p.callers x) (ends_at f cs y)) (sym a.none) (ends-follows s u name top w p f a p.callers x y a.callers h)
 
-  waits-same : (c : Copy) (block here to : List ℕ) (on on' : Option (List Range)) (wake wake' : Option (Option Instant)) → IsPlain block → here ≡ last_piece_of s.functions c block → Keeps on on' → Keeps wake wake' → c ≡ top_copy u → (v : Stand) → waiting block to on wake ≡ Some v
+  waits-same : (c : Copy) (block here to : List ℕ) (on on' : Option (List Range)) (wake wake' : Option (Option Instant)) → IsPlain block → here ≡ last_piece_of s.functions c block → Keeps on on'
+      → Keeps wake wake' → c ≡ top_copy u → (v : Stand) → waiting block to on wake ≡ Some v
       → (waiting here (first_piece c to) on' wake' ≡ Some (flat_stand s.functions u v)) × StandIsPlain v
   waits-same c block here to None on' wake wake' p e k l t v q = absurd (none-some v q)
   waits-same c block here to (Some x) on' None wake' p e k l t v q = absurd (none-some v q)
@@ -200,10 +214,12 @@ module _ (s : Scene) (u : UnitText) (name : UnitName) (top : ℕ) (w : Functions
 
   pub executes-follow : (p f : Point) (a : Alike s u name top w p f) (i : InstText) (r : Option (List ℕ)) → ResultIsNew a.copy.unit r → Simple i → (is_terminator i ≡ true → p.control.rest ≡ [])
       → Follows s u name top w (executes s i r p) (executes s (copied s.functions a.copy i) (option_map a.copy.value r) f)
-  executes-follow p f a (const_text d) r t m e = gives-follows s u name top w p f a r (Some (datum_held d)) (Some (datum_held d)) t (keeps-same (Some (datum_held d))) (λ h x q z. absurd (datum_no_part d x (same_Some (datum_held d) h q ∙ z)))
+  executes-follow p f a (const_text d) r t m e = gives-follows s u name top w p f a r (Some (datum_held d)) (Some (datum_held d)) t (keeps-same (Some (datum_held d)))
+      (λ h x q z. absurd (datum_no_part d x (same_Some (datum_held d) h q ∙ z)))
   executes-follow p f a (pure_text o args) r t m e =
       gives-follows s u name top w p f a r (operated p.control.unit p.control.held o args) (operated f.control.unit f.control.held o (map (copied_operand a.copy) args)) t
-      (λ h q. ap (λ v. operated v f.control.held o (map (copied_operand a.copy) args)) a.unit ∙ keeps-operated a.left a.copy p.control.held f.control.held o args a.place a.holds h (ap (λ v. operated v p.control.held o args) (sym a.runs.unit) ∙ q))
+      (λ h q. ap (λ v. operated v f.control.held o (map (copied_operand a.copy) args)) a.unit
+      ∙ keeps-operated a.left a.copy p.control.held f.control.held o args a.place a.holds h (ap (λ v. operated v p.control.held o args) (sym a.runs.unit) ∙ q))
       (λ h x q z. operated-part a.copy p.control.held f.control.held o args a.holds h x (ap (λ v. operated v p.control.held o args) (sym a.runs.unit) ∙ q) z)
   executes-follow p f a (var_text x) r t m e =
       gives-follows s u name top w p f a r (option_map cell_held (datum_at p.control.held x.value)) (option_map cell_held (datum_at f.control.held (a.copy.value x.value))) t
@@ -214,25 +230,33 @@ module _ (s : Scene) (u : UnitText) (name : UnitName) (top : ℕ) (w : Functions
       (keeps-map datum_held (cell_at p.control.held x.value) (cell_at f.control.held (a.copy.value x.value)) (keeps-cell u a.copy p.control.held f.control.held a.holds x.value))
       (λ h y q z. absurd (map-no_part datum_held (cell_at p.control.held x.value) h y (λ d. datum_no_part d y) q z))
   executes-follow p f a (st_text to value) r t m e =
-      store-follows p f a to.value (cell_at p.control.held to.value) (cell_at f.control.held (a.copy.value to.value)) (datum_at p.control.held value) (datum_at f.control.held (a.copy.value value)) refl
+      store-follows p f a to.value (cell_at p.control.held to.value) (cell_at f.control.held (a.copy.value to.value)) (datum_at p.control.held value) (datum_at f.control.held (a.copy.value value))
+      refl
       (keeps-cell u a.copy p.control.held f.control.held a.holds to.value) (keeps-datum u a.copy p.control.held f.control.held a.holds value)
   executes-follow p f a (prb_text x) r t m e =
-      gives-follows s u name top w p f a r (probed s.now p.control.held x) (probed s.now f.control.held (copied_operand a.copy x)) t (keeps-probed u a.copy p.control.held f.control.held a.holds s.now x)
+      gives-follows s u name top w p f a r (probed s.now p.control.held x) (probed s.now f.control.held (copied_operand a.copy x)) t
+      (keeps-probed u a.copy p.control.held f.control.held a.holds s.now x)
       (λ h y q z. absurd (probed-no_part s.now p.control.held x h y q z))
   executes-follow p f a (drv_text to value after cond) r t m e =
-      wish-follows s u name top w p f a (driven s.at p.control.held p.wish to value after cond) (driven s.at f.control.held f.wish (copied_operand a.copy to) (a.copy.value value) (a.copy.value after) (option_map a.copy.value cond))
-      (λ v q. ap (λ x. driven s.at f.control.held x (copied_operand a.copy to) (a.copy.value value) (a.copy.value after) (option_map a.copy.value cond)) a.wish ∙ keeps-driven u a.copy p.control.held f.control.held a.holds s.at p.wish to value after cond v q)
+      wish-follows s u name top w p f a (driven s.at p.control.held p.wish to value after cond)
+      (driven s.at f.control.held f.wish (copied_operand a.copy to) (a.copy.value value) (a.copy.value after) (option_map a.copy.value cond))
+      (λ v q. ap (λ x. driven s.at f.control.held x (copied_operand a.copy to) (a.copy.value value) (a.copy.value after) (option_map a.copy.value cond)) a.wish
+      ∙ keeps-driven u a.copy p.control.held f.control.held a.holds s.at p.wish to value after cond v q)
   executes-follow p f a (call_text g ty args) r t m e =
       first-follows (is_assert g) (tells p (asserted p.control.held args)) (opens p r (called (function_named g s.functions) (data_at p.control.held args)))
-      (tells f (asserted f.control.held (map (copied_operand a.copy) args))) (opens f (option_map a.copy.value r) (called (function_named g s.functions) (data_at f.control.held (map (copied_operand a.copy) args)))) m
-      (tell-follows s u name top w p f a (asserted p.control.held args) (asserted f.control.held (map (copied_operand a.copy) args)) (keeps-asserted u a.copy p.control.held f.control.held a.holds args))
+      (tells f (asserted f.control.held (map (copied_operand a.copy) args)))
+      (opens f (option_map a.copy.value r) (called (function_named g s.functions) (data_at f.control.held (map (copied_operand a.copy) args)))) m
+      (tell-follows s u name top w p f a (asserted p.control.held args) (asserted f.control.held (map (copied_operand a.copy) args))
+      (keeps-asserted u a.copy p.control.held f.control.held a.holds args))
   executes-follow p f a (phi_text ty edges) r t m e = inl a
   executes-follow p f a (br_text to) r t m e = br-follows p f a to (e refl)
   executes-follow p f a (branch_text cond first second) r t m e =
       branch-follows p f a first second (test_at p.control.held cond) (test_at f.control.held (a.copy.value cond)) (e refl) (keeps-test u a.copy p.control.held f.control.held a.holds cond)
   executes-follow p f a (wait_text to after signals) r t m e =
-      end-follows p f a (waiting p.control.block to (parts_at p.control.held signals) (wake_at s.at p.control.held after)) (waiting f.control.block (first_piece a.copy to) (parts_at f.control.held (map a.copy.value signals)) (wake_at s.at f.control.held (option_map a.copy.value after)))
-      (waits-same a.copy p.control.block f.control.block to (parts_at p.control.held signals) (parts_at f.control.held (map a.copy.value signals)) (wake_at s.at p.control.held after) (wake_at s.at f.control.held (option_map a.copy.value after)) (plain-block p f a) (at-end p f a (e refl))
+      end-follows p f a (waiting p.control.block to (parts_at p.control.held signals) (wake_at s.at p.control.held after))
+      (waiting f.control.block (first_piece a.copy to) (parts_at f.control.held (map a.copy.value signals)) (wake_at s.at f.control.held (option_map a.copy.value after)))
+      (waits-same a.copy p.control.block f.control.block to (parts_at p.control.held signals) (parts_at f.control.held (map a.copy.value signals)) (wake_at s.at p.control.held after)
+      (wake_at s.at f.control.held (option_map a.copy.value after)) (plain-block p f a) (at-end p f a (e refl))
       (keeps-parts u a.copy p.control.held f.control.held a.holds signals) (keeps-wake u a.copy p.control.held f.control.held a.holds s.at after))
   executes-follow p f a halt_text r t m e = end-follows p f a (Some halted) (Some halted) (λ c. halts-same)
   executes-follow p f a (ret_text o) r t m e = absurd m

@@ -6,7 +6,7 @@ use Rattle.lh_unit.specs.Contents.{OperandText, EdgeText, InstText, const_text, 
 use Rattle.lh_unit.specs.Named.{block_of, label_or}
 use Rattle.lh_unit.specs.Hierarchy.{lines_of}
 use Rattle.lh_unit.specs.Kinds.{uses}
-use Rattle.lh_unit.specs.Places.{Place, places_in, places_from, places, leads_to, last_leads_to}
+use Rattle.lh_unit.specs.Places.{InstPlaceText, places_in, places_from, places, leads_to, last_leads_to}
 use Rattle.lh_unit.specs.WellFormed.{Site, sites, is_allowed, in_entity, is_phi, values_named, labels_named, IsFaultless}
 use Rattle.lh_unit.specs.Within.{Each}
 use Rattle.lh_unit.specs.declared.inst.UnitKind.{UnitKind}
@@ -24,7 +24,7 @@ use Rattle.lh_formed.proofs.DefinedLaw.{all_there}
 use Rattle.lh_formed.proofs.KindsLaw.{operands_have_types}
 use Rattle.lh_formed.proofs.ShapeLaw.{labels_are_blocks, phis_are_right, all_allowed}
 use Rattle.lh_formed.proofs.There.{as-process, last-leads}
-use Rattle.lh_eval.specs.Sound.{IsSound}
+use Rattle.lh_eval.specs.Sound.{InstIsSound}
 use Rattle.lh_spelled.specs.Printable.{IsPrintable}
 use Rattle.lh_formed.proofs.EachItem.{each-contained, each-split, each-of-map}
 use Rattle.lh_inlined.proofs.Cuts.{Among}
@@ -34,7 +34,7 @@ use Rattle.lh_inlined.proofs.Paths.{IsGood}
 use Rattle.lh_inlined.proofs.Phis.{PhisAreGood}
 
 -- what holds at an instruction of a unit without a fault
-pub record PlaceFacts (items : List ItemText) (v : UnitText) (p : Place) : Type 0 where
+pub record PlaceFacts (items : List ItemText) (v : UnitText) (p : InstPlaceText) : Type 0 where
   pub there : in_entity v.kind ≡ false → OperandsThere kind.Proc v p p.line.inst
   pub leads : Each (λ n. (b : BlockText) × (block_of n v.blocks ≡ Some b)) (labels_named p.line.inst)
   pub phi : PhiIsRight v p p.line.inst
@@ -70,9 +70,10 @@ pub record UnitFacts (items : List ItemText) (v : UnitText) : Type 0 where
   pub places : Each (PlaceFacts items v) (places v)
   pub printable : IsPrintable v
   pub labelled : AllLabelled v.blocks
-  pub sound : Each (IsSound v) (lines_of v.blocks)
+  pub sound : Each (InstIsSound v) (lines_of v.blocks)
 
-in-blocks : (P : Place → Type 0) (k : ℕ) (e : Bool) (bs : List BlockText) (b : BlockText) (seen : List LineText) (l : LineText) (after : List LineText) → Each P (places_from k e bs) → Among bs b → b.lines ≡ seen ++ l ∷ after
+in-blocks : (P : InstPlaceText → Type 0) (k : ℕ) (e : Bool) (bs : List BlockText) (b : BlockText) (seen : List LineText) (l : LineText) (after : List LineText) → Each P (places_from k e bs)
+    → Among bs b → b.lines ≡ seen ++ l ∷ after
     → (j : ℕ) × (d : Bool) × P (place-at j d b seen l after)
 in-blocks P k e [] b seen l after h a s = elim a [ ]
 in-blocks P k e (c ∷ bs) b seen l after h a s = by a (λ p. in-blocks P (k + length c.lines) false bs b seen l after r.1 p s)
@@ -136,7 +137,7 @@ leads-named halt_text n a = elim a [ ]
 leads-named (ret_text x) n a = elim a [ ]
 
 -- operands of a line that is no `phi`
-there-named : (v : UnitText) (p : Place) (i : InstText) → is_phi i ≡ false → OperandsThere kind.Proc v p i → Each (IsThere v p.block p.before) (values_named i)
+there-named : (v : UnitText) (p : InstPlaceText) (i : InstText) → is_phi i ≡ false → OperandsThere kind.Proc v p i → Each (IsThere v p.block p.before) (values_named i)
 there-named v p (phi_text ty edges) q h = absurd cc
 there-named v p (const_text x) q h = h
 there-named v p (pure_text x y) q h = h
@@ -181,7 +182,8 @@ no-ret kind.Entity i o e h q = absurd cc
 no-ret kind.Proc i o e h q = let r : is_allowed kind.Proc (ret_text o) ≡ true = ap (is_allowed kind.Proc) (sym q) ∙ h in absurd cc
 
 module _ (items : List ItemText) (v : UnitText) (f : UnitFacts items v) where
-  pub fact-at : (b : BlockText) (before after : List LineText) (l : LineText) → Among v.blocks b → b.lines ≡ before ++ l ∷ after → (j : ℕ) × (d : Bool) × PlaceFacts items v (place-at j d b before l after)
+  pub fact-at : (b : BlockText) (before after : List LineText) (l : LineText) → Among v.blocks b → b.lines ≡ before ++ l ∷ after → (j : ℕ) × (d : Bool)
+      × PlaceFacts items v (place-at j d b before l after)
   fact-at b before after l a e = in-blocks (PlaceFacts items v) 1 true v.blocks b before l after f.places a e
 
   -- the unit is as the paths of copies ask
@@ -189,27 +191,31 @@ module _ (items : List ItemText) (v : UnitText) (f : UnitFacts items v) where
   is-good fs = record {
     leads = λ b a n h. by b a n h (last-of b.lines);
     self = λ b a. own_block v.blocks b f.labelled (in-among v.blocks b a);
-    there = λ b before after l a e p n h. let z = fact-at b before after l a e in each-among (IsThere v b before) (values_named l.inst) n (there-named v (place-at z.0 z.1 b before l after) l.inst p (z.2.there f.runs)) h;
+    there = λ b before after l a e p n h. let z = fact-at b before after l a e in
+        each-among (IsThere v b before) (values_named l.inst) n (there-named v (place-at z.0 z.1 b before l after) l.inst p (z.2.there f.runs)) h;
   }
     where
       found : (n : List ℕ) → ((d : BlockText) × (block_of n v.blocks ≡ Some d)) → (d : BlockText) × (block_of n v.blocks ≡ Some d) × Among v.blocks d × (label_or d.label ≡ n)
       found n r = (r.0, r.1, among-in v.blocks r.0 (block_of-in n v.blocks r.0 r.1), label-found n v.blocks r.0 r.1)
 
-      at-last : (b : BlockText) → Among v.blocks b → (n : List ℕ) → (ls : List LineText) → b.lines ≡ ls → Among (last_leads_to ls) n → LastOf ls → (d : BlockText) × (block_of n v.blocks ≡ Some d) × Among v.blocks d × (label_or d.label ≡ n)
+      at-last : (b : BlockText) → Among v.blocks b → (n : List ℕ) → (ls : List LineText) → b.lines ≡ ls → Among (last_leads_to ls) n → LastOf ls → (d : BlockText) × (block_of n v.blocks ≡ Some d)
+          × Among v.blocks d × (label_or d.label ≡ n)
       at-last b a n _ e h no_last = elim h [ ]
       at-last b a n _ e h (last_is xs l) =
           let z = fact-at b xs [] l a e in
           found n (each-among (λ m. (d : BlockText) × (block_of m v.blocks ≡ Some d)) (labels_named l.inst) n z.2.leads (leads-named l.inst n (subst (λ ns. Among ns n) (last-leads xs l) h)))
 
-      by : (b : BlockText) → Among v.blocks b → (n : List ℕ) → Among (last_leads_to b.lines) n → LastOf b.lines → (d : BlockText) × (block_of n v.blocks ≡ Some d) × Among v.blocks d × (label_or d.label ≡ n)
+      by : (b : BlockText) → Among v.blocks b → (n : List ℕ) → Among (last_leads_to b.lines) n → LastOf b.lines → (d : BlockText) × (block_of n v.blocks ≡ Some d) × Among v.blocks d
+          × (label_or d.label ≡ n)
       by b a n h o = at-last b a n b.lines refl h o
 
-  entry-lines : (k : ℕ) (b : BlockText) (before rest : List LineText) → Each (PlaceFacts items v) (places_in k true b before rest) → (seen after : List LineText) (l : LineText) → rest ≡ seen ++ l ∷ after → is_phi l.inst ≡ false
+  entry-lines : (k : ℕ) (b : BlockText) (before rest : List LineText) → Each (PlaceFacts items v) (places_in k true b before rest) → (seen after : List LineText) (l : LineText)
+      → rest ≡ seen ++ l ∷ after → is_phi l.inst ≡ false
   entry-lines k b before rest h seen after l e =
       let z = in-block (PlaceFacts items v) k true b before seen l after (subst (λ ls. Each (PlaceFacts items v) (places_in k true b before ls)) e h) in
       no-phi l.inst (place-at z.0 true b (before ++ seen) l after) refl z.1.phi
     where
-      no-phi : (i : InstText) (p : Place) → p.in_entry ≡ true → PhiIsRight v p i → is_phi i ≡ false
+      no-phi : (i : InstText) (p : InstPlaceText) → p.in_entry ≡ true → PhiIsRight v p i → is_phi i ≡ false
       no-phi (phi_text ty es) p e h = absurd cc
       no-phi (const_text x) p e h = refl
       no-phi (pure_text x y) p e h = refl
@@ -233,10 +239,12 @@ module _ (items : List ItemText) (v : UnitText) (f : UnitFacts items v) where
   phis-good = record {
     edges = λ d before after l ty es a e q m h. by d before after l ty es a e q m h;
     first = λ d before after l a e p k h. let z = fact-at d before after l a e in firsts l.inst (place-at z.0 z.1 d before l after) p z.2.phi k h;
-    entry = λ b more e before after l q. entry-lines 1 b [] b.lines (each-split (PlaceFacts items v) (places_in 1 true b [] b.lines) (places_from (1 + length b.lines) false more) (subst (λ bs. Each (PlaceFacts items v) (places_from 1 true bs)) e f.places)).0 before after l q;
+    entry = λ b more e before after l q. entry-lines 1 b [] b.lines
+        (each-split (PlaceFacts items v) (places_in 1 true b [] b.lines) (places_from (1 + length b.lines) false more) (subst (λ bs. Each (PlaceFacts items v) (places_from 1 true bs)) e f.places)).0
+        before after l q;
   }
     where
-      firsts : (i : InstText) (p : Place) → is_phi i ≡ true → PhiIsRight v p i → (k : LineText) → Among p.before k → is_phi k.inst ≡ true
+      firsts : (i : InstText) (p : InstPlaceText) → is_phi i ≡ true → PhiIsRight v p i → (k : LineText) → Among p.before k → is_phi k.inst ≡ true
       firsts (phi_text ty es) p e h k a = each-among (λ (l : LineText). is_phi l.inst ≡ true) p.before k h.0 a
       firsts (const_text x) p e h k a = absurd cc
       firsts (pure_text x y) p e h k a = absurd cc
@@ -255,7 +263,8 @@ module _ (items : List ItemText) (v : UnitText) (f : UnitFacts items v) where
       firsts halt_text p e h k a = absurd cc
       firsts (ret_text x) p e h k a = absurd cc
 
-      labels-of : (es : List EdgeText) (m : EdgeText) → Among es m → Each (λ n. (b : BlockText) × (block_of n v.blocks ≡ Some b)) (map (λ (e : EdgeText). e.block) es) → (b : BlockText) × (block_of m.block v.blocks ≡ Some b)
+      labels-of : (es : List EdgeText) (m : EdgeText) → Among es m → Each (λ n. (b : BlockText) × (block_of n v.blocks ≡ Some b)) (map (λ (e : EdgeText). e.block) es) → (b : BlockText)
+          × (block_of m.block v.blocks ≡ Some b)
       labels-of [] m a h = elim a [ ]
       labels-of (e ∷ es) m (inl q) h = subst (λ (x : EdgeText). (b : BlockText) × (block_of x.block v.blocks ≡ Some b)) q h.0
       labels-of (e ∷ es) m (inr a) h = labels-of es m a h.1

@@ -31,7 +31,8 @@ pub found-block : (n : List ℕ) (bs : List FlatBlockText) → block_of n (map a
 found-block n [] = refl
 found-block n (b ∷ bs) = by (same_name b.label n) (found-block n bs)
   where
-    by : (c : Bool) → block_of n (map as_block bs) ≡ option_map as_block (found n bs) → (if c then Some (as_block b) else block_of n (map as_block bs)) ≡ option_map as_block (if c then Some b else found n bs)
+    by : (c : Bool) → block_of n (map as_block bs) ≡ option_map as_block (found n bs)
+        → (if c then Some (as_block b) else block_of n (map as_block bs)) ≡ option_map as_block (if c then Some b else found n bs)
     by true e = refl
     by false e = e
 
@@ -67,7 +68,8 @@ pub record Opens (fs : List UnitText) (c : Copy) (path : List ℕ) (i : InstText
 pub opens-is : (fs : List UnitText) (c : Copy) (path : List ℕ) (i : InstText) (d : Copy) → opened fs c path i ≡ Some d → Opens fs c path i d
 opens-is fs c path (call_text f r args) d e = by (is_assert f) refl (function_named f fs) refl e
   where
-    by : (b : Bool) → is_assert f ≡ b → (o : Option UnitText) → function_named f fs ≡ o → (if b then None else option_map (copy_at path (map (λ (o : OperandText). c.value o.value) args)) o) ≡ Some d → Opens fs c path (call_text f r args) d
+    by : (b : Bool) → is_assert f ≡ b → (o : Option UnitText) → function_named f fs ≡ o → (if b then None else option_map (copy_at path (map (λ (o : OperandText). c.value o.value) args)) o) ≡ Some d
+        → Opens fs c path (call_text f r args) d
     by true a o n q = absurd (none-some d q)
     by false a None n q = absurd (none-some d q)
     by false a (Some g) n q =
@@ -123,32 +125,39 @@ module _ (fs : List UnitText) (w : AllLabelled fs) where
   opens-labelled : (c : Copy) (path : List ℕ) (i : InstText) (d : Copy) → Opens fs c path i d → UnitLabelled d.unit
   opens-labelled c path i d o = w o.callee d.unit o.named
 
-  line-labels : (copy_of : Copy → List FlatBlockText) → AllUnder copy_of → (c : Copy) (label : List ℕ) (k : ℕ) (l : LineText) (o : Option Copy) (p : Pieces) → opened fs c (call_path c label k) l.inst ≡ o
+  line-labels : (copy_of : Copy → List FlatBlockText) → AllUnder copy_of → (c : Copy) (label : List ℕ) (k : ℕ) (l : LineText) (o : Option Copy) (p : Pieces)
+      → opened fs c (call_path c label k) l.inst ≡ o
       → Each (λ (b : FlatBlockText). Piece c.path label b.label) p.more → Each (λ (b : FlatBlockText). Piece c.path label b.label) (with_line copy_of fs c l o p).more
   line-labels copy_of h c label k l None p q e = e
   line-labels copy_of h c label k l (Some d) p q e =
       let x = opens-is fs c (call_path c label k) l.inst d q in
       let z = opens-path fs c (call_path c label k) l.inst d x in
       Each-append (λ (b : FlatBlockText). Piece c.path label b.label) (copy_of d) (record { label = d.path; merge = merge_of fs c d l.inst l.result; lines = p.rest } ∷ p.more)
-      (Each-more (λ (b : FlatBlockText). Under d.path b.label) (λ (b : FlatBlockText). Piece c.path label b.label) (copy_of d) (λ b u. under-piece c.path label b.label k (subst (λ y. Under y b.label) z u)) (h d (opens-labelled c (call_path c label k) l.inst d x)))
+      (Each-more (λ (b : FlatBlockText). Under d.path b.label) (λ (b : FlatBlockText). Piece c.path label b.label) (copy_of d)
+      (λ b u. under-piece c.path label b.label k (subst (λ y. Under y b.label) z u)) (h d (opens-labelled c (call_path c label k) l.inst d x)))
       (record { more = (256 + k) ∷ []; behind = mark_behind k [] refl; is = z }, e)
 
-  pieces-labels : (copy_of : Copy → List FlatBlockText) → AllUnder copy_of → (c : Copy) (label : List ℕ) (k : ℕ) (ls : List LineText) → Each (λ (b : FlatBlockText). Piece c.path label b.label) (pieces_from copy_of fs c label k ls).more
+  pieces-labels : (copy_of : Copy → List FlatBlockText) → AllUnder copy_of → (c : Copy) (label : List ℕ) (k : ℕ) (ls : List LineText)
+      → Each (λ (b : FlatBlockText). Piece c.path label b.label) (pieces_from copy_of fs c label k ls).more
   pieces-labels copy_of h c label k [] = tt
   pieces-labels copy_of h c label k (l ∷ ls) =
       line-labels copy_of h c label k l (opened fs c (call_path c label k) l.inst) (pieces_from copy_of fs c label (k + 1) ls) refl (pieces-labels copy_of h c label (k + 1) ls)
 
-  block-labels : (copy_of : Copy → List FlatBlockText) → AllUnder copy_of → (c : Copy) (b : BlockText) → Each (λ (x : FlatBlockText). Piece c.path (label_or b.label) x.label) (flat_block copy_of fs c b)
+  block-labels : (copy_of : Copy → List FlatBlockText) → AllUnder copy_of → (c : Copy) (b : BlockText)
+      → Each (λ (x : FlatBlockText). Piece c.path (label_or b.label) x.label) (flat_block copy_of fs c b)
   block-labels copy_of h c b = (
     record { more = []; behind = nothing_behind refl; is = sym (append-nil (c.path ++ label_or b.label)) },
     pieces-labels copy_of h c (label_or b.label) 0 b.lines,
   )
 
-  blocks-under : (copy_of : Copy → List FlatBlockText) → AllUnder copy_of → (c : Copy) (bs : List BlockText) → Each IsLabelled bs → Each (λ (x : FlatBlockText). Under c.path x.label) (flat_map (flat_block copy_of fs c) bs)
+  blocks-under : (copy_of : Copy → List FlatBlockText) → AllUnder copy_of → (c : Copy) (bs : List BlockText) → Each IsLabelled bs
+      → Each (λ (x : FlatBlockText). Under c.path x.label) (flat_map (flat_block copy_of fs c) bs)
   blocks-under copy_of h c [] e = tt
   blocks-under copy_of h c (b ∷ bs) e =
       Each-append (λ (x : FlatBlockText). Under c.path x.label) (flat_block copy_of fs c b) (flat_map (flat_block copy_of fs c) bs)
-      (Each-more (λ (x : FlatBlockText). Piece c.path (label_or b.label) x.label) (λ (x : FlatBlockText). Under c.path x.label) (flat_block copy_of fs c b) (λ x p. record { more = label_or b.label ++ p.more; some = not_empty (label_or b.label) p.more e.0.some; is = p.is ∙ append_assoc c.path (label_or b.label) p.more }) (block-labels copy_of h c b))
+      (Each-more (λ (x : FlatBlockText). Piece c.path (label_or b.label) x.label) (λ (x : FlatBlockText). Under c.path x.label) (flat_block copy_of fs c b)
+      (λ x p. record { more = label_or b.label ++ p.more; some = not_empty (label_or b.label) p.more e.0.some; is = p.is ∙ append_assoc c.path (label_or b.label) p.more })
+      (block-labels copy_of h c b))
       (blocks-under copy_of h c bs e.1)
 
   copy-under : (k : ℕ) → AllUnder (flat_copy k fs)
@@ -168,7 +177,8 @@ module _ (fs : List UnitText) (w : AllLabelled fs) where
           → found ((c.path ++ label) ++ z) (flat_block (flat_copy k fs) fs c y ++ flat_map (flat_block (flat_copy k fs) fs c) bs) ≡ Some x
       by true r q go =
           let m : b ≡ y = sym (same_Some y b q) in
-          found-left ((c.path ++ label) ++ z) (flat_block (flat_copy k fs) fs c y) (flat_map (flat_block (flat_copy k fs) fs c) bs) x (subst (λ v. found ((c.path ++ label) ++ z) (flat_block (flat_copy k fs) fs c v) ≡ Some x) m f)
+          found-left ((c.path ++ label) ++ z) (flat_block (flat_copy k fs) fs c y) (flat_map (flat_block (flat_copy k fs) fs c) bs) x
+          (subst (λ v. found ((c.path ++ label) ++ z) (flat_block (flat_copy k fs) fs c v) ≡ Some x) m f)
       by false r q go =
           found-right ((c.path ++ label) ++ z) (flat_block (flat_copy k fs) fs c y) (flat_map (flat_block (flat_copy k fs) fs c) bs)
           (found-none ((c.path ++ label) ++ z) (flat_block (flat_copy k fs) fs c y) other (block-labels (flat_copy k fs) (copy-under k) c y))
@@ -215,7 +225,8 @@ module _ (fs : List UnitText) (w : AllLabelled fs) where
           found-right ((c.path ++ label) ++ ((256 + m) ∷ z)) (flat_copy k fs d) _
           (found-none ((c.path ++ label) ++ ((256 + m) ∷ z)) (flat_copy k fs d) (λ n u g. other n u.more (u.is ∙ ap (λ v. v ++ u.more) s ∙ append_assoc (c.path ++ label) ((256 + j) ∷ []) u.more) g)
           (copy-under k d (opens-labelled c (call_path c label j) y.inst d w)))
-          ∙ ap (λ b. if b then Some (record { label = d.path; merge = merge_of fs c d y.inst y.result; lines = (pieces_from (flat_copy k fs) fs c label (j + 1) (before ++ l ∷ rest)).rest }) else found ((c.path ++ label) ++ ((256 + m) ∷ z)) (pieces_from (flat_copy k fs) fs c label (j + 1) (before ++ l ∷ rest)).more)
+          ∙ ap (λ b. if b then Some (record { label = d.path; merge = merge_of fs c d y.inst y.result; lines = (pieces_from (flat_copy k fs) fs c label (j + 1) (before ++ l ∷ rest)).rest }) else found
+          ((c.path ++ label) ++ ((256 + m) ∷ z)) (pieces_from (flat_copy k fs) fs c label (j + 1) (before ++ l ∷ rest)).more)
           (not_same d.path ((c.path ++ label) ++ ((256 + m) ∷ z)) (λ g. other d.path [] s g))
           ∙ go
 
@@ -227,10 +238,11 @@ module _ (fs : List UnitText) (w : AllLabelled fs) where
   next_of k c d label at l rest = record { label = d.path; merge = merge_of fs c d l.inst l.result; lines = (pieces_from (flat_copy k fs) fs c label (at + 1) rest).rest }
 
   -- all that is found in a copy is found in all
-  pub record Stands (all : List FlatBlockText) (k : ℕ) (c : Copy) : Type 0 where
+  pub record BlocksAreFound (all : List FlatBlockText) (k : ℕ) (c : Copy) : Type 0 where
     pub at : (z : List ℕ) (x : FlatBlockText) → (z ≡ [] → ⊥) → found (c.path ++ z) (flat_copy k fs c) ≡ Some x → found (c.path ++ z) all ≡ Some x
 
-  module _ (all : List FlatBlockText) (k : ℕ) (c : Copy) (o : Stands all (suc k) c) (v : UnitLabelled c.unit) (label : List ℕ) (b : BlockText) (s : block_of label c.unit.blocks ≡ Some b) (p : IsPlain label) (e : label ≡ label_or b.label) where
+  module _ (all : List FlatBlockText) (k : ℕ) (c : Copy) (o : BlocksAreFound all (suc k) c) (v : UnitLabelled c.unit) (label : List ℕ) (b : BlockText) (s : block_of label c.unit.blocks ≡ Some b)
+      (p : IsPlain label) (e : label ≡ label_or b.label) where
     not_nothing : label ≡ [] → ⊥
     not_nothing q = nonempty c.unit.blocks v s
       where
@@ -271,25 +283,29 @@ module _ (fs : List UnitText) (w : AllLabelled fs) where
       zero_first n = omega arith
 
       -- what is found behind the call is found in all
-      in-call : (z : List ℕ) (x : FlatBlockText) → found ((c.path ++ label) ++ ((256 + length before) ∷ z)) (with_line (flat_copy k fs) fs c l (Some d) (pieces_from (flat_copy k fs) fs c label (length before + 1) rest)).more ≡ Some x
+      in-call : (z : List ℕ) (x : FlatBlockText)
+          → found ((c.path ++ label) ++ ((256 + length before) ∷ z)) (with_line (flat_copy k fs) fs c l (Some d) (pieces_from (flat_copy k fs) fs c label (length before + 1) rest)).more ≡ Some x
           → found ((c.path ++ label) ++ ((256 + length before) ∷ z)) all ≡ Some x
       in-call z x f =
           whole ((256 + length before) ∷ z) x (mark_behind (length before) z refl)
           (ap (λ t. if t then Some (first_of k c b) else found ((c.path ++ label) ++ ((256 + length before) ∷ z)) (pieces_from (flat_copy k fs) fs c (label_or b.label) 0 b.lines).more)
-          (not_same (c.path ++ label_or b.label) ((c.path ++ label) ++ ((256 + length before) ∷ z)) (λ g. longer-apart (c.path ++ label) ((256 + length before) ∷ z) (λ r. marked r) (sym g ∙ ap (λ n. c.path ++ n) (sym e))))
+          (not_same (c.path ++ label_or b.label) ((c.path ++ label) ++ ((256 + length before) ∷ z))
+          (λ g. longer-apart (c.path ++ label) ((256 + length before) ∷ z) (λ r. marked r) (sym g ∙ ap (λ n. c.path ++ n) (sym e))))
           ∙ subst (λ n. found ((c.path ++ label) ++ ((256 + length before) ∷ z)) (pieces_from (flat_copy k fs) fs c n 0 b.lines).more ≡ Some x) e
           (subst (λ ls. found ((c.path ++ label) ++ ((256 + length before) ∷ z)) (pieces_from (flat_copy k fs) fs c label 0 ls).more ≡ Some x) (sym y)
           (in-pieces k c label z 0 (length before) before rest l x (zero_first (length before))
-          (subst (λ o. found ((c.path ++ label) ++ ((256 + length before) ∷ z)) (with_line (flat_copy k fs) fs c l o (pieces_from (flat_copy k fs) fs c label (length before + 1) rest)).more ≡ Some x) (sym q) f))))
+          (subst (λ o. found ((c.path ++ label) ++ ((256 + length before) ∷ z)) (with_line (flat_copy k fs) fs c l o (pieces_from (flat_copy k fs) fs c label (length before + 1) rest)).more ≡ Some x)
+          (sym q) f))))
         where
           marked : (256 + length before) ∷ z ≡ [] → ⊥
           marked r = cc
 
-      pub call-stands : Stands all k d
+      pub call-stands : BlocksAreFound all k d
       call-stands = record {
         at = λ z x n f.
             subst (λ g. found g all ≡ Some x) (sym (ap (λ g. g ++ z) path-is ∙ append_assoc (c.path ++ label) ((256 + length before) ∷ []) z))
-            (in-call z x (found-left ((c.path ++ label) ++ ((256 + length before) ∷ z)) (flat_copy k fs d) _ x (subst (λ g. found g (flat_copy k fs d) ≡ Some x) (ap (λ g. g ++ z) path-is ∙ append_assoc (c.path ++ label) ((256 + length before) ∷ []) z) f)));
+            (in-call z x (found-left ((c.path ++ label) ++ ((256 + length before) ∷ z)) (flat_copy k fs d) _ x
+            (subst (λ g. found g (flat_copy k fs d) ≡ Some x) (ap (λ g. g ++ z) path-is ∙ append_assoc (c.path ++ label) ((256 + length before) ∷ []) z) f)));
       }
 
       pub next-found : found d.path all ≡ Some (next_of k c d label (length before) l rest)
@@ -297,6 +313,8 @@ module _ (fs : List UnitText) (w : AllLabelled fs) where
           subst (λ g. found g all ≡ Some (next_of k c d label (length before) l rest)) (sym path-is)
           (in-call [] (next_of k c d label (length before) l rest)
           (found-right ((c.path ++ label) ++ (256 + length before) ∷ []) (flat_copy k fs d) _
-          (found-none ((c.path ++ label) ++ (256 + length before) ∷ []) (flat_copy k fs d) (λ n u g. longer-apart d.path u.more u.some (sym u.is ∙ g ∙ sym path-is)) (copy-under k d (opens-labelled c (call_path c label (length before)) l.inst d opens)))
-          ∙ ap (λ t. if t then Some (next_of k c d label (length before) l rest) else found ((c.path ++ label) ++ (256 + length before) ∷ []) (pieces_from (flat_copy k fs) fs c label (length before + 1) rest).more)
+          (found-none ((c.path ++ label) ++ (256 + length before) ∷ []) (flat_copy k fs d) (λ n u g. longer-apart d.path u.more u.some (sym u.is ∙ g ∙ sym path-is))
+          (copy-under k d (opens-labelled c (call_path c label (length before)) l.inst d opens)))
+          ∙ ap (λ t. if t then Some (next_of k c d label (length before) l rest) else found ((c.path ++ label) ++ (256 + length before) ∷ [])
+          (pieces_from (flat_copy k fs) fs c label (length before + 1) rest).more)
           (is_same d.path ((c.path ++ label) ++ (256 + length before) ∷ []) path-is)))

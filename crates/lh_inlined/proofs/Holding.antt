@@ -64,7 +64,8 @@ name-marks c n o p = by (o.low n)
     by (inr l) = omega (arith, l)
 
 -- what is held under a name of its own is given in both
-pub Holds-put : (u : UnitText) (c : Copy) (e f : Env) (n : List ℕ) (h : Held) → CopyFits c → Holds u c e f → IsPlain n → c.value n ≡ c.path ++ n → ((r : Range) → h ≡ part_held r → c ≡ top_copy u) → Holds u c (with_held e n h) (with_held f (c.value n) h)
+pub Holds-put : (u : UnitText) (c : Copy) (e f : Env) (n : List ℕ) (h : Held) → CopyFits c → Holds u c e f → IsPlain n → c.value n ≡ c.path ++ n → ((r : Range) → h ≡ part_held r → c ≡ top_copy u)
+    → Holds u c (with_held e n h) (with_held f (c.value n) h)
 Holds-put u c e f n h o k p w t = record {
   plain = λ m g q. plain m g (names n m) q;
   same = λ m g q. same m g (names n m) q;
@@ -171,11 +172,13 @@ module _ (u : UnitText) (c : Copy) (e f : Env) (k : Holds u c e f) where
   keeps-condition None = keeps-same (Some true)
   keeps-condition (Some n) = keeps-test n
 
-  pub keeps-driven : (t : Instant) (w : Wish) (to : OperandText) (value after : List ℕ) (cond : Option (List ℕ)) → Keeps (driven t e w to value after cond) (driven t f w (copied_operand c to) (c.value value) (c.value after) (option_map c.value cond))
+  pub keeps-driven : (t : Instant) (w : Wish) (to : OperandText) (value after : List ℕ) (cond : Option (List ℕ))
+      → Keeps (driven t e w to value after cond) (driven t f w (copied_operand c to) (c.value value) (c.value after) (option_map c.value cond))
   keeps-driven t w to value after cond =
       when (condition_at e cond) (condition_at f (option_map c.value cond)) (keeps-condition cond)
       (drive_due t w (part_at e to.value) (datum_at e value) (delay_at e after)) (drive_due t w (part_at f (c.value to.value)) (datum_at f (c.value value)) (delay_at f (c.value after)))
-      (due (part_at e to.value) (part_at f (c.value to.value)) (keeps-part to.value) (datum_at e value) (datum_at f (c.value value)) (keeps-datum value) (delay_at e after) (delay_at f (c.value after)) (keeps-delay after))
+      (due (part_at e to.value) (part_at f (c.value to.value)) (keeps-part to.value) (datum_at e value) (datum_at f (c.value value)) (keeps-datum value) (delay_at e after) (delay_at f (c.value after))
+      (keeps-delay after))
     where
       due : (x y : Option Range) → Keeps x y → (v z : Option Datum) → Keeps v z → (d g : Option Delay) → Keeps d g → Keeps (drive_due t w x v d) (drive_due t w y z g)
       due None y a v z b d g h r q = absurd (none-some r q)
@@ -213,12 +216,14 @@ other-name (p ∷ ps) (a ∷ args) other n e = by (same_name p.name n) e (other-
     by false q go = go q
 
 -- a name is that of an argument, or the other
-pub low-name : (limit : ℕ) (ps : List ArgText) (args : List (List ℕ)) (other n : List ℕ) → Each (λ a. marks a < limit) args → (argument_or ps args other n ≡ other) ⊎ (marks (argument_or ps args other n) < limit)
+pub low-name : (limit : ℕ) (ps : List ArgText) (args : List (List ℕ)) (other n : List ℕ) → Each (λ a. marks a < limit) args
+    → (argument_or ps args other n ≡ other) ⊎ (marks (argument_or ps args other n) < limit)
 low-name limit [] args other n h = inl refl
 low-name limit (p ∷ ps) [] other n h = inl refl
 low-name limit (p ∷ ps) (a ∷ args) other n h = by (same_name p.name n) (low-name limit ps args other n h.1)
   where
-    by : (b : Bool) → (argument_or ps args other n ≡ other) ⊎ (marks (argument_or ps args other n) < limit) → ((if b then a else argument_or ps args other n) ≡ other) ⊎ (marks (if b then a else argument_or ps args other n) < limit)
+    by : (b : Bool) → (argument_or ps args other n ≡ other) ⊎ (marks (argument_or ps args other n) < limit)
+        → ((if b then a else argument_or ps args other n) ≡ other) ⊎ (marks (if b then a else argument_or ps args other n) < limit)
     by true r = inr h.0
     by false r = r
 
@@ -234,7 +239,8 @@ skipped [] e hs n q = refl
 skipped (p ∷ ps) e [] n q = refl
 skipped (p ∷ ps) e (h ∷ hs) n q = by (same_name p.name n) refl q (λ r. skipped ps (with_held e p.name h) hs n r)
   where
-    by : (b : Bool) → same_name p.name n ≡ b → (b || args_define n ps) ≡ false → (args_define n ps ≡ false → with_args (with_held e p.name h) ps hs n ≡ with_held e p.name h n) → with_args (with_held e p.name h) ps hs n ≡ e n
+    by : (b : Bool) → same_name p.name n ≡ b → (b || args_define n ps) ≡ false → (args_define n ps ≡ false → with_args (with_held e p.name h) ps hs n ≡ with_held e p.name h n)
+        → with_args (with_held e p.name h) ps hs n ≡ e n
     by true s r go = absurd (none r)
       where
         none : true ≡ false → ⊥
@@ -248,7 +254,8 @@ held-datum (Some (datum_held x)) d e = ap (λ v. Some (datum_held v)) (same_Some
 held-datum (Some (cell_held x)) d e = absurd (none-some d e)
 held-datum (Some (part_held x)) d e = absurd (none-some d e)
 
-pub begins-given : (u : UnitText) (c : Copy) (e f : Env) → Holds u c e f → (ps : List ArgText) (os : List OperandText) (ds : List Datum) (before : Env) (other n : List ℕ) (h : Held) → ArgsOnce ps → data_at e os ≡ Some ds → before n ≡ None
+pub begins-given : (u : UnitText) (c : Copy) (e f : Env) → Holds u c e f → (ps : List ArgText) (os : List OperandText) (ds : List Datum) (before : Env) (other n : List ℕ) (h : Held) → ArgsOnce ps
+    → data_at e os ≡ Some ds → before n ≡ None
     → with_args before ps (map datum_held ds) n ≡ Some h → Given f (argument_or ps (map (λ (o : OperandText). c.value o.value) os) other n) n h
 begins-given u c e f k [] os ds before other n h w d b q = absurd (none-some h (sym b ∙ q))
 begins-given u c e f k (p ∷ ps) [] ds before other n h w d b q =
@@ -256,10 +263,14 @@ begins-given u c e f k (p ∷ ps) [] ds before other n h w d b q =
 begins-given u c e f k (p ∷ ps) (o ∷ os) ds before other n h w d b q =
     first (datum_at e o.value) refl (data_at e os) refl d (λ x xs t z y. begins-given u c e f k ps os xs (with_held before p.name (datum_held x)) other n h w.2 t z y)
   where
-    both : (x : Datum) (xs : List Datum) → datum_at e o.value ≡ Some x → data_at e os ≡ Some xs → with_args (with_held before p.name (datum_held x)) ps (map datum_held xs) n ≡ Some h → Names p.name n → ((x : Datum) (xs : List Datum) → data_at e os ≡ Some xs → with_held before p.name (datum_held x) n ≡ None → with_args (with_held before p.name (datum_held x)) ps (map datum_held xs) n ≡ Some h → Given f (argument_or ps (map (λ (o : OperandText). c.value o.value) os) other n) n h) → Given f (if same_name p.name n then c.value o.value else argument_or ps (map (λ (o : OperandText). c.value o.value) os) other n) n h
+    both : (x : Datum) (xs : List Datum) → datum_at e o.value ≡ Some x → data_at e os ≡ Some xs → with_args (with_held before p.name (datum_held x)) ps (map datum_held xs) n ≡ Some h → Names p.name n
+        → ((x : Datum) (xs : List Datum) → data_at e os ≡ Some xs → with_held before p.name (datum_held x) n ≡ None → with_args (with_held before p.name (datum_held x)) ps (map datum_held xs) n
+        ≡ Some h → Given f (argument_or ps (map (λ (o : OperandText). c.value o.value) os) other n) n h)
+        → Given f (if same_name p.name n then c.value o.value else argument_or ps (map (λ (o : OperandText). c.value o.value) os) other n) n h
     both x xs r t z (one y g) go =
         let v : h ≡ datum_held x =
-        same_Some h (datum_held x) (sym z ∙ skipped ps (with_held before p.name (datum_held x)) (map datum_held xs) n (subst (λ m. args_define m ps ≡ false) y w.1) ∙ ap (λ c. if c then Some (datum_held x) else before n) g) in
+        same_Some h (datum_held x) (sym z ∙ skipped ps (with_held before p.name (datum_held x)) (map datum_held xs) n (subst (λ m. args_define m ps ≡ false) y w.1)
+        ∙ ap (λ c. if c then Some (datum_held x) else before n) g) in
         subst (λ (a : Bool). Given f (if a then c.value o.value else argument_or ps (map (λ (o : OperandText). c.value o.value) os) other n) n h) (sym g) record {
           value = x;
           is = v;
@@ -267,9 +278,13 @@ begins-given u c e f k (p ∷ ps) (o ∷ os) ds before other n h w d b q =
           same = k.same o.value (datum_held x) (held-datum (e o.value) x r) ∙ ap Some (sym v);
         }
     both x xs r t z (two y g) go =
-        subst (λ (a : Bool). Given f (if a then c.value o.value else argument_or ps (map (λ (o : OperandText). c.value o.value) os) other n) n h) (sym g) (go x xs t (ap (λ a. if a then Some (datum_held x) else before n) g ∙ b) z)
+        subst (λ (a : Bool). Given f (if a then c.value o.value else argument_or ps (map (λ (o : OperandText). c.value o.value) os) other n) n h) (sym g)
+        (go x xs t (ap (λ a. if a then Some (datum_held x) else before n) g ∙ b) z)
 
-    first : (x : Option Datum) → datum_at e o.value ≡ x → (xs : Option (List Datum)) → data_at e os ≡ xs → front x xs ≡ Some ds → ((x : Datum) (xs : List Datum) → data_at e os ≡ Some xs → with_held before p.name (datum_held x) n ≡ None → with_args (with_held before p.name (datum_held x)) ps (map datum_held xs) n ≡ Some h → Given f (argument_or ps (map (λ (o : OperandText). c.value o.value) os) other n) n h) → Given f (if same_name p.name n then c.value o.value else argument_or ps (map (λ (o : OperandText). c.value o.value) os) other n) n h
+    first : (x : Option Datum) → datum_at e o.value ≡ x → (xs : Option (List Datum)) → data_at e os ≡ xs → front x xs ≡ Some ds
+        → ((x : Datum) (xs : List Datum) → data_at e os ≡ Some xs → with_held before p.name (datum_held x) n ≡ None → with_args (with_held before p.name (datum_held x)) ps (map datum_held xs) n
+        ≡ Some h → Given f (argument_or ps (map (λ (o : OperandText). c.value o.value) os) other n) n h)
+        → Given f (if same_name p.name n then c.value o.value else argument_or ps (map (λ (o : OperandText). c.value o.value) os) other n) n h
     first None r xs s t go = absurd (none-some ds t)
     first (Some x) r None s t go = absurd (none-some ds t)
     first (Some x) r (Some xs) s t go =

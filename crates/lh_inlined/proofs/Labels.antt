@@ -47,7 +47,8 @@ map-ends : (seen : List FlatBlockText) (b : FlatBlockText) → map as_block seen
 map-ends [] b = refl
 map-ends (x ∷ seen) b = ap (λ bs. as_block x ∷ bs) (map-ends seen b)
 
-labels-new-from : (seen bs : List FlatBlockText) → Apart (labels bs) → ((s y : FlatBlockText) → Among seen s → Among bs y → s.label ≡ y.label → ⊥) → labels_repeat (map as_block seen) (map as_block bs) ≡ false
+labels-new-from : (seen bs : List FlatBlockText) → Apart (labels bs) → ((s y : FlatBlockText) → Among seen s → Among bs y → s.label ≡ y.label → ⊥)
+    → labels_repeat (map as_block seen) (map as_block bs) ≡ false
 labels-new-from seen [] p h = refl
 labels-new-from seen (b ∷ bs) p h =
     ap (λ t. t || labels_repeat (map as_block seen ++ as_block b ∷ []) (map as_block bs)) (none-defines b.label seen (λ s a. h s b a (inl refl)))
@@ -64,7 +65,8 @@ pub labels-new : (bs : List FlatBlockText) → Apart (labels bs) → labels_repe
 labels-new bs p = labels-new-from [] bs p (λ s y a c e. elim a [ ])
 
 -- blocks of a copy that end in one piece are one
-pub last-apart : (fs : List UnitText) (c : Copy) (b d : BlockText) → IsPlain (label_or b.label) → IsPlain (label_or d.label) → block_of (label_or b.label) c.unit.blocks ≡ Some b → block_of (label_or d.label) c.unit.blocks ≡ Some d → last_piece fs c b ≡ last_piece fs c d → b ≡ d
+pub last-apart : (fs : List UnitText) (c : Copy) (b d : BlockText) → IsPlain (label_or b.label) → IsPlain (label_or d.label) → block_of (label_or b.label) c.unit.blocks ≡ Some b
+    → block_of (label_or d.label) c.unit.blocks ≡ Some d → last_piece fs c b ≡ last_piece fs c d → b ≡ d
 last-apart fs c b d p q r s e =
     let x : Piece c.path (label_or b.label) (last_piece fs c b) = last_piece-is fs c b in
     let y : Piece c.path (label_or d.label) (last_piece fs c d) = last_piece-is fs c d in

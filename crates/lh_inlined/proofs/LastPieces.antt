@@ -115,7 +115,8 @@ none-called P (y ∷ bs) label b before rest l f ty args n s e i a = by (is_resu
 
 -- ---- the last piece of a block
 
-pub last-append : (fs : List UnitText) (c : Copy) (label here : List ℕ) (k : ℕ) (xs ys : List LineText) → last_from fs c label here k (xs ++ ys) ≡ last_from fs c label (last_from fs c label here k xs) (k + length xs) ys
+pub last-append : (fs : List UnitText) (c : Copy) (label here : List ℕ) (k : ℕ) (xs ys : List LineText)
+    → last_from fs c label here k (xs ++ ys) ≡ last_from fs c label (last_from fs c label here k xs) (k + length xs) ys
 last-append fs c label here k [] ys = ap (λ n. last_from fs c label here n ys) (more_zero k)
   where
     more_zero : (k : ℕ) → k ≡ k + 0
@@ -129,7 +130,8 @@ last-append fs c label here k (x ∷ xs) ys =
 
 last-is : (fs : List UnitText) (c : Copy) (label here : List ℕ) (k : ℕ) (ls : List LineText) → Piece c.path label here → Piece c.path label (last_from fs c label here k ls)
 last-is fs c label here k [] p = p
-last-is fs c label here k (l ∷ ls) p = last-is fs c label (option_map_or (λ (d : Copy). d.path) (opened fs c (call_path c label k) l.inst) here) (k + 1) ls (by (opened fs c (call_path c label k) l.inst) refl)
+last-is fs c label here k (l ∷ ls) p = last-is fs c label (option_map_or (λ (d : Copy). d.path) (opened fs c (call_path c label k) l.inst) here) (k + 1) ls
+    (by (opened fs c (call_path c label k) l.inst) refl)
   where
     by : (o : Option Copy) → opened fs c (call_path c label k) l.inst ≡ o → Piece c.path label (option_map_or (λ (d : Copy). d.path) o here)
     by None q = p
@@ -160,13 +162,15 @@ last-same fs c m n a b = by (names m n)
     by (two e s) = pieces-apart c.path m n (last_piece_of fs c m) (last_piece_of fs c n) a b (last_piece_of-is fs c m) (last_piece_of-is fs c n) e ∙ sym s
 
 -- the edge of a `phi` in a copy
-pub edge-copied : (fs : List UnitText) (c : Copy) (from : List ℕ) (edges : List EdgeText) → IsPlain from → Each (λ (e : EdgeText). IsPlain e.block) edges → edge_from (last_piece_of fs c from) (map (copied_edge fs c) edges) ≡ option_map c.value (edge_from from edges)
+pub edge-copied : (fs : List UnitText) (c : Copy) (from : List ℕ) (edges : List EdgeText) → IsPlain from → Each (λ (e : EdgeText). IsPlain e.block) edges
+    → edge_from (last_piece_of fs c from) (map (copied_edge fs c) edges) ≡ option_map c.value (edge_from from edges)
 edge-copied fs c from [] p h = refl
 edge-copied fs c from (e ∷ edges) p h =
     ap (λ b. if b then Some (c.value e.value) else edge_from (last_piece_of fs c from) (map (copied_edge fs c) edges)) (last-same fs c e.block from h.0 p)
     ∙ by (same_name e.block from) (edge-copied fs c from edges p h.1)
   where
-    by : (b : Bool) → edge_from (last_piece_of fs c from) (map (copied_edge fs c) edges) ≡ option_map c.value (edge_from from edges) → (if b then Some (c.value e.value) else edge_from (last_piece_of fs c from) (map (copied_edge fs c) edges)) ≡ option_map c.value (if b then Some e.value else edge_from from edges)
+    by : (b : Bool) → edge_from (last_piece_of fs c from) (map (copied_edge fs c) edges) ≡ option_map c.value (edge_from from edges)
+        → (if b then Some (c.value e.value) else edge_from (last_piece_of fs c from) (map (copied_edge fs c) edges)) ≡ option_map c.value (if b then Some e.value else edge_from from edges)
     by true q = refl
     by false q = q
 
@@ -176,7 +180,8 @@ edge-right : (here : List ℕ) (xs ys : List EdgeText) → edge_from here xs ≡
 edge-right here [] ys e = refl
 edge-right here (x ∷ xs) ys e = by (same_name x.block here) e (edge-right here xs ys)
   where
-    by : (b : Bool) → (if b then Some x.value else edge_from here xs) ≡ None → (edge_from here xs ≡ None → edge_from here (xs ++ ys) ≡ edge_from here ys) → (if b then Some x.value else edge_from here (xs ++ ys)) ≡ edge_from here ys
+    by : (b : Bool) → (if b then Some x.value else edge_from here xs) ≡ None → (edge_from here xs ≡ None → edge_from here (xs ++ ys) ≡ edge_from here ys)
+        → (if b then Some x.value else edge_from here (xs ++ ys)) ≡ edge_from here ys
     by true q go = absurd (none-some x.value (sym q))
     by false q go = go q
 
@@ -184,7 +189,8 @@ edge-left : (here : List ℕ) (xs ys : List EdgeText) (v : List ℕ) → edge_fr
 edge-left here [] ys v e = absurd (none-some v e)
 edge-left here (x ∷ xs) ys v e = by (same_name x.block here) e (edge-left here xs ys v)
   where
-    by : (b : Bool) → (if b then Some x.value else edge_from here xs) ≡ Some v → (edge_from here xs ≡ Some v → edge_from here (xs ++ ys) ≡ Some v) → (if b then Some x.value else edge_from here (xs ++ ys)) ≡ Some v
+    by : (b : Bool) → (if b then Some x.value else edge_from here xs) ≡ Some v → (edge_from here xs ≡ Some v → edge_from here (xs ++ ys) ≡ Some v)
+        → (if b then Some x.value else edge_from here (xs ++ ys)) ≡ Some v
     by true q go = q
     by false q go = go q
 
@@ -199,19 +205,23 @@ given-elsewhere d block here (l ∷ ls) e = by l.inst (given-elsewhere d block h
     by _ q = q
 
 -- the one that ends the block
-given-here : (d : Copy) (block : List ℕ) (before : List LineText) (l : LineText) (o : OperandText) → Each (λ (x : LineText). is_terminator x.inst ≡ false) before → l.inst ≡ ret_text (Some o) → edge_from block (given_in d block (before ++ l ∷ [])) ≡ Some (d.value o.value)
+given-here : (d : Copy) (block : List ℕ) (before : List LineText) (l : LineText) (o : OperandText) → Each (λ (x : LineText). is_terminator x.inst ≡ false) before → l.inst ≡ ret_text (Some o)
+    → edge_from block (given_in d block (before ++ l ∷ [])) ≡ Some (d.value o.value)
 given-here d block [] l o h e =
     ap (λ i. edge_from block (edge_if_given d block i [])) e
     ∙ ap (λ b. if b then Some (d.value o.value) else None) (is_same block block refl)
 given-here d block (x ∷ before) l o h e = by x.inst h.0 (given-here d block before l o h.1 e)
   where
-    by : (i : InstText) → is_terminator i ≡ false → edge_from block (given_in d block (before ++ l ∷ [])) ≡ Some (d.value o.value) → edge_from block (edge_if_given d block i (given_in d block (before ++ l ∷ []))) ≡ Some (d.value o.value)
+    by : (i : InstText) → is_terminator i ≡ false → edge_from block (given_in d block (before ++ l ∷ [])) ≡ Some (d.value o.value)
+        → edge_from block (edge_if_given d block i (given_in d block (before ++ l ∷ []))) ≡ Some (d.value o.value)
     by (ret_text (Some y)) t q = absurd cc
     by (ret_text None) t q = q
     by _ t q = q
 
-given-blocks : (fs : List UnitText) (d : Copy) (label : List ℕ) (text : BlockText) (before : List LineText) (l : LineText) (o : OperandText) (bs : List BlockText) → Each IsLabelled bs → IsPlain label → block_of label bs ≡ Some text → text.lines ≡ before ++ l ∷ []
-    → Each (λ (x : LineText). is_terminator x.inst ≡ false) before → l.inst ≡ ret_text (Some o) → edge_from (last_piece fs d text) (flat_map (λ b. given_in d (last_piece fs d b) b.lines) bs) ≡ Some (d.value o.value)
+given-blocks : (fs : List UnitText) (d : Copy) (label : List ℕ) (text : BlockText) (before : List LineText) (l : LineText) (o : OperandText) (bs : List BlockText) → Each IsLabelled bs → IsPlain label
+    → block_of label bs ≡ Some text → text.lines ≡ before ++ l ∷ []
+    → Each (λ (x : LineText). is_terminator x.inst ≡ false) before → l.inst ≡ ret_text (Some o) → edge_from (last_piece fs d text) (flat_map (λ b. given_in d (last_piece fs d b) b.lines) bs)
+    ≡ Some (d.value o.value)
 given-blocks fs d label text before l o [] w p s e h i = absurd (none-some text s)
 given-blocks fs d label text before l o (y ∷ bs) w p s e h i = by (is_result_name label y.label) refl s (λ q. given-blocks fs d label text before l o bs w.1 p q e h i)
   where
@@ -230,13 +240,15 @@ given-blocks fs d label text before l o (y ∷ bs) w p s e h i = by (is_result_n
     by false r q go =
         edge-right (last_piece fs d text) (given_in d (last_piece fs d y) y.lines) (flat_map (λ b. given_in d (last_piece fs d b) b.lines) bs)
         (given-elsewhere d (last_piece fs d y) (last_piece fs d text) y.lines
-        (pieces-apart d.path (label_or y.label) label (last_piece fs d y) (last_piece fs d text) w.0.plain p (last_piece-is fs d y) (subst (λ n. Piece d.path n (last_piece fs d text)) (label-is label bs text q) (last_piece-is fs d text)) other))
+        (pieces-apart d.path (label_or y.label) label (last_piece fs d y) (last_piece fs d text) w.0.plain p (last_piece-is fs d y)
+        (subst (λ n. Piece d.path n (last_piece fs d text)) (label-is label bs text q) (last_piece-is fs d text)) other))
         ∙ go q
       where
         other : label_or y.label ≡ label → ⊥
         other g = let n : is_result_name label y.label ≡ true = labels y.label g w.0.some in cc
 
 -- the value that a `ret` gives is on the edge from its block
-pub edge-given : (fs : List UnitText) (d : Copy) (label : List ℕ) (text : BlockText) (before : List LineText) (l : LineText) (o : OperandText) → Each IsLabelled d.unit.blocks → IsPlain label → block_of label d.unit.blocks ≡ Some text → text.lines ≡ before ++ l ∷ []
+pub edge-given : (fs : List UnitText) (d : Copy) (label : List ℕ) (text : BlockText) (before : List LineText) (l : LineText) (o : OperandText) → Each IsLabelled d.unit.blocks → IsPlain label
+    → block_of label d.unit.blocks ≡ Some text → text.lines ≡ before ++ l ∷ []
     → EndsOnce text.lines → l.inst ≡ ret_text (Some o) → edge_from (last_piece fs d text) (given_by fs d) ≡ Some (d.value o.value)
 edge-given fs d label text before l o w p s e h i = given-blocks fs d label text before l o d.unit.blocks w p s e (ends-before before [] l (subst EndsOnce e h)) i

@@ -13,21 +13,22 @@ use Rattle.lh_flat.specs.Copies.{Copy, call_path, first_piece, last_piece, opene
 use Rattle.lh_flat.specs.Flat.{first_label, branch_into, given_by}
 use Rattle.lh_inlined.specs.Formed.{IsWithoutCalls}
 use Rattle.lh_inlined.proofs.Cuts.{Among, Cut, behind, lines-cut, calm, calm_by}
-use Rattle.lh_inlined.proofs.Spots.{Spot, next_cut, next_lines, first_spot, after_spot, SpotOf, begins, goes_on, Nested, outermost, called, flat_spot}
+use Rattle.lh_inlined.proofs.CopyPieces.{CopyPiece, next_cut, next_lines, first_copy_piece, after_copy_piece, CopyPieceOf, begins, goes_on, Nested, outermost, called, flat_copy_piece}
 use Rattle.lh_inlined.proofs.SoundCopies.{IsCode}
 use Rattle.lh_inlined.proofs.Phis.{own-last, given-by}
 use Rattle.lh_inlined.proofs.Paths.{as_block}
 
 -- the last piece of a block
-pub record LastSpot (fs : List UnitText) (c : Copy) (b : BlockText) : Type 0 where
-  pub spot : Spot
-  pub of : SpotOf fs c spot
-  pub same : spot.block ≡ b
-  pub none : next_cut fs c spot ≡ None
+pub record LastCopyPiece (fs : List UnitText) (c : Copy) (b : BlockText) : Type 0 where
+  pub piece : CopyPiece
+  pub of : CopyPieceOf fs c piece
+  pub same : piece.block ≡ b
+  pub none : next_cut fs c piece ≡ None
 
-shorter : (fs : List UnitText) (c : Copy) (s : Spot) (z : Cut) → next_cut fs c s ≡ Some z → (k : ℕ) → length s.rest < suc k → length z.rest < k
+shorter : (fs : List UnitText) (c : Copy) (s : CopyPiece) (z : Cut) → next_cut fs c s ≡ Some z → (k : ℕ) → length s.rest < suc k → length z.rest < k
 shorter fs c s z e k l =
-    let w : length s.rest ≡ length (next_lines fs c s ++ z.line ∷ z.rest) = ap length (lines-cut fs c (label_or s.block.label) s.number s.rest ∙ ap (λ o. next_lines fs c s ++ behind fs c (label_or s.block.label) o) e) in
+    let w : length s.rest ≡ length (next_lines fs c s ++ z.line ∷ z.rest) =
+    ap length (lines-cut fs c (label_or s.block.label) s.number s.rest ∙ ap (λ o. next_lines fs c s ++ behind fs c (label_or s.block.label) o) e) in
     let q : length z.rest < length (next_lines fs c s ++ z.line ∷ z.rest) = longer (next_lines fs c s) in
     omega (arith, w, q, l)
   where
@@ -35,40 +36,43 @@ shorter fs c s z e k l =
     longer [] = omega arith
     longer (x ∷ xs) = let r = longer xs in omega (arith, r)
 
-last-from : (fs : List UnitText) (c : Copy) (fuel : ℕ) (s : Spot) → SpotOf fs c s → length s.rest < fuel → LastSpot fs c s.block
+last-from : (fs : List UnitText) (c : Copy) (fuel : ℕ) (s : CopyPiece) → CopyPieceOf fs c s → length s.rest < fuel → LastCopyPiece fs c s.block
 last-from fs c zero s h l = absurd (omega (arith, l))
-last-from fs c (suc k) s h l = by (next_cut fs c s) refl (λ z e. last-from fs c k (after_spot fs c s z) (goes_on s h z e) (shorter fs c s z e k l))
+last-from fs c (suc k) s h l = by (next_cut fs c s) refl (λ z e. last-from fs c k (after_copy_piece fs c s z) (goes_on s h z e) (shorter fs c s z e k l))
   where
-    by : (o : Option Cut) → next_cut fs c s ≡ o → ((z : Cut) → next_cut fs c s ≡ Some z → LastSpot fs c s.block) → LastSpot fs c s.block
-    by None e go = record { spot = s; of = h; same = refl; none = e }
+    by : (o : Option Cut) → next_cut fs c s ≡ o → ((z : Cut) → next_cut fs c s ≡ Some z → LastCopyPiece fs c s.block) → LastCopyPiece fs c s.block
+    by None e go = record { piece = s; of = h; same = refl; none = e }
     by (Some z) e go = go z e
 
-pub last-spot : (fs : List UnitText) (c : Copy) (b : BlockText) → Among c.unit.blocks b → LastSpot fs c b
-last-spot fs c b a = last-from fs c (suc (length b.lines)) (first_spot fs c b) (begins b a) (omega arith)
+pub last-copy_piece : (fs : List UnitText) (c : Copy) (b : BlockText) → Among c.unit.blocks b → LastCopyPiece fs c b
+last-copy_piece fs c b a = last-from fs c (suc (length b.lines)) (first_copy_piece fs c b) (begins b a) (omega arith)
 
 module _ (fs : List UnitText) (u x : UnitText)
-    (once : (k : ℕ) (c : Copy) → Nested fs u k c → (s : Spot) → SpotOf fs c s → block_of s.label x.blocks ≡ Some (as_block (flat_spot fs k c s)))
-    (leads : (k : ℕ) (c : Copy) → Nested fs u k c → (b : BlockText) (before after : List LineText) (l : LineText) → Among c.unit.blocks b → b.lines ≡ before ++ l ∷ after → (n : List ℕ) → Among (labels_named l.inst) n → (d : BlockText) × (block_of n c.unit.blocks ≡ Some d) × Among c.unit.blocks d × (label_or d.label ≡ n))
+    (once : (k : ℕ) (c : Copy) → Nested fs u k c → (s : CopyPiece) → CopyPieceOf fs c s → block_of s.label x.blocks ≡ Some (as_block (flat_copy_piece fs k c s)))
+    (leads : (k : ℕ) (c : Copy) → Nested fs u k c → (b : BlockText) (before after : List LineText) (l : LineText) → Among c.unit.blocks b → b.lines ≡ before ++ l ∷ after → (n : List ℕ)
+    → Among (labels_named l.inst) n → (d : BlockText) × (block_of n c.unit.blocks ≡ Some d) × Among c.unit.blocks d × (label_or d.label ≡ n))
     (no_ret : (b : BlockText) (before after : List LineText) (l : LineText) → Among u.blocks b → b.lines ≡ before ++ l ∷ after → (o : Option OperandText) → l.inst ≡ ret_text o → ⊥) where
   -- a block of the flat text has the label
   abbrev pub IsBlock : List ℕ → Type 0
   IsBlock n = (b : BlockText) × (block_of n x.blocks ≡ Some b)
 
-  spot-is : (k : ℕ) (c : Copy) → Nested fs u k c → (s : Spot) → SpotOf fs c s → (n : List ℕ) → s.label ≡ n → IsBlock n
-  spot-is k c nest s h n e = (as_block (flat_spot fs k c s), ap (λ m. block_of m x.blocks) (sym e) ∙ once k c nest s h)
+  copy_piece-is : (k : ℕ) (c : Copy) → Nested fs u k c → (s : CopyPiece) → CopyPieceOf fs c s → (n : List ℕ) → s.label ≡ n → IsBlock n
+  copy_piece-is k c nest s h n e = (as_block (flat_copy_piece fs k c s), ap (λ m. block_of m x.blocks) (sym e) ∙ once k c nest s h)
 
   first-is : (k : ℕ) (c : Copy) → Nested fs u k c → (d : BlockText) → Among c.unit.blocks d → (n : List ℕ) → label_or d.label ≡ n → IsBlock (first_piece c n)
-  first-is k c nest d a n e = spot-is k c nest (first_spot fs c d) (begins d a) (first_piece c n) (ap (first_piece c) e)
+  first-is k c nest d a n e = copy_piece-is k c nest (first_copy_piece fs c d) (begins d a) (first_piece c n) (ap (first_piece c) e)
 
   last-is : (k : ℕ) (c : Copy) → Nested fs u k c → (d : BlockText) → Among c.unit.blocks d → IsBlock (last_piece fs c d)
-  last-is k c nest d a = let r = last-spot fs c d a in spot-is k c nest r.spot r.of (last_piece fs c d) (own-last fs c r.spot r.of r.none ∙ ap (last_piece fs c) r.same)
+  last-is k c nest d a = let r = last-copy_piece fs c d a in copy_piece-is k c nest r.piece r.of (last_piece fs c d) (own-last fs c r.piece r.of r.none ∙ ap (last_piece fs c) r.same)
 
   -- behind the call of a copy
-  back-is : (k : ℕ) (c : Copy) → Nested fs u k c → (b : BlockText) (before after : List LineText) (l : LineText) → Among c.unit.blocks b → b.lines ≡ before ++ l ∷ after → (o : Option OperandText) → l.inst ≡ ret_text o → IsBlock c.path
+  back-is : (k : ℕ) (c : Copy) → Nested fs u k c → (b : BlockText) (before after : List LineText) (l : LineText) → Among c.unit.blocks b → b.lines ≡ before ++ l ∷ after → (o : Option OperandText)
+      → l.inst ≡ ret_text o → IsBlock c.path
   back-is _ _ outermost b before after l a e o i = elim (no_ret b before after l a e o i) [ ]
-  back-is _ _ (called k c nest s h z q) b before after l a e o i = spot-is (suc k) c nest (after_spot fs c s z) (goes_on s h z q) z.copy.path refl
+  back-is _ _ (called k c nest s h z q) b before after l a e o i = copy_piece-is (suc k) c nest (after_copy_piece fs c s z) (goes_on s h z q) z.copy.path refl
 
-  edges-in : (k : ℕ) (c : Copy) → Nested fs u k c → (es : List EdgeText) → ((n : List ℕ) → Among (map (λ (e : EdgeText). e.block) es) n → (d : BlockText) × (block_of n c.unit.blocks ≡ Some d) × Among c.unit.blocks d × (label_or d.label ≡ n))
+  edges-in : (k : ℕ) (c : Copy) → Nested fs u k c → (es : List EdgeText)
+      → ((n : List ℕ) → Among (map (λ (e : EdgeText). e.block) es) n → (d : BlockText) × (block_of n c.unit.blocks ≡ Some d) × Among c.unit.blocks d × (label_or d.label ≡ n))
       → Each IsBlock (map (λ (e : EdgeText). e.block) (map (copied_edge fs c) es))
   edges-in k c nest [] f = tt
   edges-in k c nest (e ∷ es) f =
@@ -76,13 +80,15 @@ module _ (fs : List UnitText) (u x : UnitText)
       (subst IsBlock (sym (ap (λ o. option_map_or (last_piece fs c) o (first_piece c e.block)) d.1)) (last-is k c nest d.0 d.2), edges-in k c nest es (λ n a. f n (inr a)))
 
   -- a copied line
-  pub copied-leads : (k : ℕ) (c : Copy) → Nested fs u k c → (b : BlockText) (before after : List LineText) (l : LineText) → Among c.unit.blocks b → b.lines ≡ before ++ l ∷ after → IsCode l.inst → Each IsBlock (labels_named (copied fs c l.inst))
+  pub copied-leads : (k : ℕ) (c : Copy) → Nested fs u k c → (b : BlockText) (before after : List LineText) (l : LineText) → Among c.unit.blocks b → b.lines ≡ before ++ l ∷ after → IsCode l.inst
+      → Each IsBlock (labels_named (copied fs c l.inst))
   copied-leads k c nest b before after l a e code = by l.inst refl (leads k c nest b before after l a e)
     where
       one : (n : List ℕ) → ((d : BlockText) × (block_of n c.unit.blocks ≡ Some d) × Among c.unit.blocks d × (label_or d.label ≡ n)) → IsBlock (first_piece c n)
       one n d = first-is k c nest d.0 d.2 n d.3
 
-      by : (i : InstText) → l.inst ≡ i → ((n : List ℕ) → Among (labels_named l.inst) n → (d : BlockText) × (block_of n c.unit.blocks ≡ Some d) × Among c.unit.blocks d × (label_or d.label ≡ n)) → Each IsBlock (labels_named (copied fs c i))
+      by : (i : InstText) → l.inst ≡ i → ((n : List ℕ) → Among (labels_named l.inst) n → (d : BlockText) × (block_of n c.unit.blocks ≡ Some d) × Among c.unit.blocks d × (label_or d.label ≡ n))
+          → Each IsBlock (labels_named (copied fs c i))
       by (br_text to) q f = (one to (f to (subst (λ i. Among (labels_named i) to) (sym q) (inl refl))), tt)
       by (branch_text cond y z) q f = (one y (f y (subst (λ i. Among (labels_named i) y) (sym q) (inl refl))), (one z (f z (subst (λ i. Among (labels_named i) z) (sym q) (inr (inl refl)))), tt))
       by (wait_text to after signals) q f = (one to (f to (subst (λ i. Among (labels_named i) to) (sym q) (inl refl))), tt)
@@ -116,7 +122,8 @@ module _ (fs : List UnitText) (u x : UnitText)
 -- ---- calls
 
 -- a line that is not replaced, of a well-formed module, calls no function
-pub calm-opened : (fs : List UnitText) (c : Copy) (label : List ℕ) (k : ℕ) (ls : List LineText) (start rest : List LineText) (l : LineText) → calm fs c label k ls ≡ start ++ l ∷ rest → (j : ℕ) × (opened fs c (call_path c label j) l.inst ≡ None)
+pub calm-opened : (fs : List UnitText) (c : Copy) (label : List ℕ) (k : ℕ) (ls : List LineText) (start rest : List LineText) (l : LineText) → calm fs c label k ls ≡ start ++ l ∷ rest → (j : ℕ)
+    × (opened fs c (call_path c label j) l.inst ≡ None)
 calm-opened fs c label k [] [] rest l e = absurd cc
 calm-opened fs c label k [] (x ∷ start) rest l e = absurd cc
 calm-opened fs c label k (m ∷ ls) start rest l e = by (opened fs c (call_path c label k) m.inst) refl start e (λ s q. calm-opened fs c label (k + 1) ls s rest l q)
@@ -134,13 +141,15 @@ calm-opened fs c label k (m ∷ ls) start rest l e = by (opened fs c (call_path 
     by (Some d) q [] e go = absurd cc
     by (Some d) q (y ∷ start) e go = absurd cc
 
-arguments-copied : (v x : UnitText) (c : Copy) → ((n : List ℕ) (t : TypeTree) → value_type v n ≡ Some t → value_type x (c.value n) ≡ Some t) → (os : List OperandText) (ps : List ArgText) → ArgumentsAre v os ps → ArgumentsAre x (map (copied_operand c) os) ps
+arguments-copied : (v x : UnitText) (c : Copy) → ((n : List ℕ) (t : TypeTree) → value_type v n ≡ Some t → value_type x (c.value n) ≡ Some t) → (os : List OperandText) (ps : List ArgText)
+    → ArgumentsAre v os ps → ArgumentsAre x (map (copied_operand c) os) ps
 arguments-copied v x c typed [] [] h = tt
 arguments-copied v x c typed [] (p ∷ ps) h = elim h [ ]
 arguments-copied v x c typed (o ∷ os) [] h = elim h [ ]
 arguments-copied v x c typed (o ∷ os) (p ∷ ps) h = (typed o.value p.ty h.0, arguments-copied v x c typed os ps h.1)
 
-pub copied-calls : (fs : List UnitText) (v x : UnitText) (c : Copy) → ((n : List ℕ) (t : TypeTree) → value_type v n ≡ Some t → value_type x (c.value n) ≡ Some t) → (path : List ℕ) (i : InstText) → IsCode i
+pub copied-calls : (fs : List UnitText) (v x : UnitText) (c : Copy) → ((n : List ℕ) (t : TypeTree) → value_type v n ≡ Some t → value_type x (c.value n) ≡ Some t) → (path : List ℕ) (i : InstText)
+    → IsCode i
     → (asserts : (f : UnitName) (ty : TypeTree) (args : List OperandText) → i ≡ call_text f ty args → (is_assert f ≡ true) × AssertIsRight v ty args) → IsWithoutCalls x (copied fs c i)
 copied-calls fs v x c typed path (call_text f ty args) k a = let r = a f ty args refl in (r.0, record { gives = r.1.gives; args_are = arguments-copied v x c typed args assert_args r.1.args_are })
 copied-calls fs v x c typed path (const_text y) k a = tt

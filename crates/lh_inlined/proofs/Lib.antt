@@ -1,6 +1,6 @@
 mod SoundCopies
 pub mod Cuts
-mod Spots
+mod CopyPieces
 mod Lines
 mod Paths
 mod Named

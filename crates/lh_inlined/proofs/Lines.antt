@@ -26,7 +26,8 @@ pub define-parts : (n : List ℕ) (xs ys : List LineText) → lines_define n (xs
 define-parts n [] ys h = inr h
 define-parts n (x ∷ xs) ys h = first-or (or-cases (is_result_name n x.result) (lines_define n (xs ++ ys)) h) (define-parts n xs ys)
   where
-    first-or : ((is_result_name n x.result ≡ true) ⊎ (lines_define n (xs ++ ys) ≡ true)) → (lines_define n (xs ++ ys) ≡ true → (lines_define n xs ≡ true) ⊎ (lines_define n ys ≡ true)) → (lines_define n (x ∷ xs) ≡ true) ⊎ (lines_define n ys ≡ true)
+    first-or : ((is_result_name n x.result ≡ true) ⊎ (lines_define n (xs ++ ys) ≡ true)) → (lines_define n (xs ++ ys) ≡ true → (lines_define n xs ≡ true) ⊎ (lines_define n ys ≡ true))
+        → (lines_define n (x ∷ xs) ≡ true) ⊎ (lines_define n ys ≡ true)
     first-or (inl e) more = inl (or-left (is_result_name n x.result) (lines_define n xs) e)
     first-or (inr e) more = later (more e)
       where
@@ -37,7 +38,8 @@ define-parts n (x ∷ xs) ys h = first-or (or-cases (is_result_name n x.result) 
 pub define-left : (n : List ℕ) (xs ys : List LineText) → lines_define n xs ≡ true → lines_define n (xs ++ ys) ≡ true
 define-left n (x ∷ xs) ys h = first-or (or-cases (is_result_name n x.result) (lines_define n xs) h) (define-left n xs ys)
   where
-    first-or : ((is_result_name n x.result ≡ true) ⊎ (lines_define n xs ≡ true)) → (lines_define n xs ≡ true → lines_define n (xs ++ ys) ≡ true) → is_result_name n x.result || lines_define n (xs ++ ys) ≡ true
+    first-or : ((is_result_name n x.result ≡ true) ⊎ (lines_define n xs ≡ true)) → (lines_define n xs ≡ true → lines_define n (xs ++ ys) ≡ true)
+        → is_result_name n x.result || lines_define n (xs ++ ys) ≡ true
     first-or (inl e) more = or-left (is_result_name n x.result) (lines_define n (xs ++ ys)) e
     first-or (inr e) more = or-right (is_result_name n x.result) (lines_define n (xs ++ ys)) (more e)
 define-left n [] ys h = cc
@@ -55,7 +57,8 @@ pub define-copied : (fs : List UnitText) (c : Copy) (n : List ℕ) (ls : List Li
 define-copied fs c n [] h = cc
 define-copied fs c n (l ∷ more) h = by (or-cases (is_result_name n l.result) (lines_define n more) h) (define-copied fs c n more)
   where
-    by : ((is_result_name n l.result ≡ true) ⊎ (lines_define n more ≡ true)) → (lines_define n more ≡ true → lines_define (c.value n) (map (copied_line fs c) more) ≡ true) → is_result_name (c.value n) (option_map c.value l.result) || lines_define (c.value n) (map (copied_line fs c) more) ≡ true
+    by : ((is_result_name n l.result ≡ true) ⊎ (lines_define n more ≡ true)) → (lines_define n more ≡ true → lines_define (c.value n) (map (copied_line fs c) more) ≡ true)
+        → is_result_name (c.value n) (option_map c.value l.result) || lines_define (c.value n) (map (copied_line fs c) more) ≡ true
     by (inl e) rest = or-left (is_result_name (c.value n) (option_map c.value l.result)) (lines_define (c.value n) (map (copied_line fs c) more)) (result-copied c n l.result e)
     by (inr e) rest = or-right (is_result_name (c.value n) (option_map c.value l.result)) (lines_define (c.value n) (map (copied_line fs c) more)) (rest e)
 

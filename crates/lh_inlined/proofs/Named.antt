@@ -39,13 +39,15 @@ module _ (c : Copy) where
   operands-map [] = refl
   operands-map (o ∷ more) = ap (λ ns. c.value o.value ∷ ns) (operands-map more)
 
-  new-operands : (us vs : List (List ℕ)) (args : List OperandText) (n : List ℕ) → us ≡ map (λ (o : OperandText). o.value) args → vs ≡ map (λ (o : OperandText). o.value) (map (copied_operand c) args) → Among vs n → IsNew us n
+  new-operands : (us vs : List (List ℕ)) (args : List OperandText) (n : List ℕ) → us ≡ map (λ (o : OperandText). o.value) args → vs ≡ map (λ (o : OperandText). o.value) (map (copied_operand c) args)
+      → Among vs n → IsNew us n
   new-operands us vs args n e f a = subst (λ ns. IsNew ns n) (sym e) (new-map (map (λ (o : OperandText). o.value) args) n (subst (λ ns. Among ns n) (f ∙ operands-map args) a))
 
   new-one : (m n : List ℕ) → Among (c.value m ∷ []) n → IsNew (m ∷ []) n
   new-one m n a = new-map (m ∷ []) n a
 
-  new-maybe : (need : Need) (o : Option (List ℕ)) (n : List ℕ) → Among (map (λ (x : Use). x.value) (maybe_used need (option_map c.value o))) n → IsNew (map (λ (x : Use). x.value) (maybe_used need o)) n
+  new-maybe : (need : Need) (o : Option (List ℕ)) (n : List ℕ) → Among (map (λ (x : Use). x.value) (maybe_used need (option_map c.value o))) n
+      → IsNew (map (λ (x : Use). x.value) (maybe_used need o)) n
   new-maybe need None n a = elim a [ ]
   new-maybe need (Some m) n a = new-one m n a
 
@@ -65,9 +67,11 @@ module _ (c : Copy) where
   named-copied fs (st_text to v) k p n a = new-map (to.value ∷ v ∷ []) n a
   named-copied fs (sig_text o) k p n a = elim k [ ]
   named-copied fs (prb_text o) k p n a = new-one o.value n a
-  named-copied fs (drv_text to v after cond) k p n a = by (among-parts (c.value to.value ∷ c.value v ∷ c.value after ∷ []) (map (λ (x : Use). x.value) (maybe_used data_needed (option_map c.value cond))) n a)
+  named-copied fs (drv_text to v after cond) k p n a = by
+      (among-parts (c.value to.value ∷ c.value v ∷ c.value after ∷ []) (map (λ (x : Use). x.value) (maybe_used data_needed (option_map c.value cond))) n a)
     where
-      by : (Among (c.value to.value ∷ c.value v ∷ c.value after ∷ []) n ⊎ Among (map (λ (x : Use). x.value) (maybe_used data_needed (option_map c.value cond))) n) → IsNew (to.value ∷ v ∷ after ∷ map (λ (x : Use). x.value) (maybe_used data_needed cond)) n
+      by : (Among (c.value to.value ∷ c.value v ∷ c.value after ∷ []) n ⊎ Among (map (λ (x : Use). x.value) (maybe_used data_needed (option_map c.value cond))) n)
+          → IsNew (to.value ∷ v ∷ after ∷ map (λ (x : Use). x.value) (maybe_used data_needed cond)) n
       by (inl b) = new-left (to.value ∷ v ∷ after ∷ []) (map (λ (x : Use). x.value) (maybe_used data_needed cond)) n (new-map (to.value ∷ v ∷ after ∷ []) n b)
       by (inr b) = new-right (to.value ∷ v ∷ after ∷ []) (map (λ (x : Use). x.value) (maybe_used data_needed cond)) n (new-maybe data_needed cond n b)
   named-copied fs (reg_text to ts) k p n a = elim k [ ]
@@ -79,8 +83,11 @@ module _ (c : Copy) where
   named-copied fs (wait_text to after signals) k p n a =
       by (among-parts _ _ n (subst (λ ns. Among ns n) (values-parts (maybe_used time_needed (option_map c.value after)) (map (used signal_needed) (map c.value signals))) a))
     where
-      by : (Among (map (λ (x : Use). x.value) (maybe_used time_needed (option_map c.value after))) n ⊎ Among (map (λ (x : Use). x.value) (map (used signal_needed) (map c.value signals))) n) → IsNew (map (λ (x : Use). x.value) (maybe_used time_needed after ++ map (used signal_needed) signals)) n
+      by : (Among (map (λ (x : Use). x.value) (maybe_used time_needed (option_map c.value after))) n ⊎ Among (map (λ (x : Use). x.value) (map (used signal_needed) (map c.value signals))) n)
+          → IsNew (map (λ (x : Use). x.value) (maybe_used time_needed after ++ map (used signal_needed) signals)) n
       by (inl b) = subst (λ ns. IsNew ns n) (sym (values-parts (maybe_used time_needed after) (map (used signal_needed) signals))) (new-left _ _ n (new-maybe time_needed after n b))
-      by (inr b) = subst (λ ns. IsNew ns n) (sym (values-parts (maybe_used time_needed after) (map (used signal_needed) signals))) (new-right (map (λ (x : Use). x.value) (maybe_used time_needed after)) _ n (subst (λ ns. IsNew ns n) (sym (signals-map signals)) (new-map signals n (subst (λ ns. Among ns n) (signals-map (map c.value signals)) b))))
+      by (inr b) = subst (λ ns. IsNew ns n) (sym (values-parts (maybe_used time_needed after) (map (used signal_needed) signals)))
+          (new-right (map (λ (x : Use). x.value) (maybe_used time_needed after)) _ n
+          (subst (λ ns. IsNew ns n) (sym (signals-map signals)) (new-map signals n (subst (λ ns. Among ns n) (signals-map (map c.value signals)) b))))
   named-copied fs halt_text k p n a = elim a [ ]
   named-copied fs (ret_text o) k p n a = elim a [ ]

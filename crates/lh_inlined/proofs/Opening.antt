@@ -28,14 +28,16 @@ pub record Opens (fs : List UnitText) (c : Copy) (path : List ℕ) (i : InstText
 pub opens-is : (fs : List UnitText) (c : Copy) (path : List ℕ) (i : InstText) (d : Copy) → opened fs c path i ≡ Some d → Opens fs c path i d
 opens-is fs c path (call_text f ty args) d h = by (is_assert f) refl h
   where
-    made : (o : Option UnitText) → function_named f fs ≡ o → option_map (copy_at path (map (λ (o : OperandText). c.value o.value) args)) o ≡ Some d → is_assert f ≡ false → Opens fs c path (call_text f ty args) d
+    made : (o : Option UnitText) → function_named f fs ≡ o → option_map (copy_at path (map (λ (o : OperandText). c.value o.value) args)) o ≡ Some d → is_assert f ≡ false
+        → Opens fs c path (call_text f ty args) d
     made None e q n = absurd (none-some d q)
     made (Some g) e q n =
         let k : copy_at path (map (λ (o : OperandText). c.value o.value) args) g ≡ d = same_Some _ d q in
         let w : g ≡ d.unit = ap (λ (x : Copy). x.unit) k in
         record { callee = f; ty = ty; args = args; inst = refl; no_assert = n; named = e ∙ ap Some w; copy = sym k ∙ ap (copy_at path (map (λ (o : OperandText). c.value o.value) args)) w }
 
-    by : (b : Bool) → is_assert f ≡ b → (if b then None else option_map (copy_at path (map (λ (o : OperandText). c.value o.value) args)) (function_named f fs)) ≡ Some d → Opens fs c path (call_text f ty args) d
+    by : (b : Bool) → is_assert f ≡ b → (if b then None else option_map (copy_at path (map (λ (o : OperandText). c.value o.value) args)) (function_named f fs)) ≡ Some d
+        → Opens fs c path (call_text f ty args) d
     by true n q = absurd (none-some d q)
     by false n q = made (function_named f fs) refl q n
 opens-is fs c path (const_text x) d h = absurd (none-some d h)
@@ -56,13 +58,16 @@ opens-is fs c path halt_text d h = absurd (none-some d h)
 opens-is fs c path (ret_text x) d h = absurd (none-some d h)
 
 -- the call at which lines are cut is replaced by the copy, and its path is that of its line
-pub cut-opens : (fs : List UnitText) (c : Copy) (label : List ℕ) (k : ℕ) (ls : List LineText) (z : Cut) → cut fs c label k ls ≡ Some z → opened fs c (call_path c label z.number) z.line.inst ≡ Some z.copy
+pub cut-opens : (fs : List UnitText) (c : Copy) (label : List ℕ) (k : ℕ) (ls : List LineText) (z : Cut) → cut fs c label k ls ≡ Some z
+    → opened fs c (call_path c label z.number) z.line.inst ≡ Some z.copy
 cut-opens fs c label k [] z e = absurd (none-some z e)
 cut-opens fs c label k (l ∷ more) z e = by (opened fs c (call_path c label k) l.inst) refl e (cut-opens fs c label (k + 1) more z)
   where
-    by : (o : Option Copy) → opened fs c (call_path c label k) l.inst ≡ o → cut_by fs c label o k l more (cut fs c label (k + 1) more) ≡ Some z → (cut fs c label (k + 1) more ≡ Some z → opened fs c (call_path c label z.number) z.line.inst ≡ Some z.copy) → opened fs c (call_path c label z.number) z.line.inst ≡ Some z.copy
+    by : (o : Option Copy) → opened fs c (call_path c label k) l.inst ≡ o → cut_by fs c label o k l more (cut fs c label (k + 1) more) ≡ Some z
+        → (cut fs c label (k + 1) more ≡ Some z → opened fs c (call_path c label z.number) z.line.inst ≡ Some z.copy) → opened fs c (call_path c label z.number) z.line.inst ≡ Some z.copy
     by None q r go = go r
-    by (Some d) q r go = let w : record { line = l; number = k; copy = d; rest = more } ≡ z = same_Some _ z r in subst (λ (z : Cut). opened fs c (call_path c label z.number) z.line.inst ≡ Some z.copy) w q
+    by (Some d) q r go = let w : record { line = l; number = k; copy = d; rest = more } ≡ z = same_Some _ z r in
+        subst (λ (z : Cut). opened fs c (call_path c label z.number) z.line.inst ≡ Some z.copy) w q
 
 -- ---- arguments
 
@@ -75,8 +80,10 @@ argument-named v (p ∷ ps) [] c other n h d = elim h [ ]
 argument-named v (p ∷ ps) (o ∷ os) c other n h d = by (same_name p.name n) refl d (argument-named v ps os c other n h.1)
   where
     by : (b : Bool) → same_name p.name n ≡ b → b || args_define n ps ≡ true
-        → (args_define n ps ≡ true → (m : List ℕ) × Among (map (λ (x : Use). x.value) (all_used data_or_time_needed os)) m × (argument_or ps (map (λ (o : OperandText). c.value o.value) os) other n ≡ c.value m))
-        → (m : List ℕ) × Among (o.value ∷ map (λ (x : Use). x.value) (all_used data_or_time_needed os)) m × ((if b then c.value o.value else argument_or ps (map (λ (o : OperandText). c.value o.value) os) other n) ≡ c.value m)
+        → (args_define n ps ≡ true → (m : List ℕ) × Among (map (λ (x : Use). x.value) (all_used data_or_time_needed os)) m
+        × (argument_or ps (map (λ (o : OperandText). c.value o.value) os) other n ≡ c.value m))
+        → (m : List ℕ) × Among (o.value ∷ map (λ (x : Use). x.value) (all_used data_or_time_needed os)) m
+        × ((if b then c.value o.value else argument_or ps (map (λ (o : OperandText). c.value o.value) os) other n) ≡ c.value m)
     by true e q go = (o.value, inl refl, refl)
     by false e q go = let r = go q in (r.0, inr r.1, r.2)
 
@@ -88,7 +95,8 @@ function-is [] n v e h = absurd (none-some v e)
 function-is (declare_text d ∷ more) n v e h = function-is more n v e h
 function-is (unit_text w ∷ more) n v e h = by (same_unit_name w.name n) refl e (is_function w.kind) refl (λ q. function-is more n v q h)
   where
-    by : (b : Bool) → same_unit_name w.name n ≡ b → (if b then Some w else unit_named n more) ≡ Some v → (d : Bool) → is_function w.kind ≡ d → (unit_named n more ≡ Some v → function_named n (functions more) ≡ Some v)
+    by : (b : Bool) → same_unit_name w.name n ≡ b → (if b then Some w else unit_named n more) ≡ Some v → (d : Bool) → is_function w.kind ≡ d
+        → (unit_named n more ≡ Some v → function_named n (functions more) ≡ Some v)
         → function_named n (if d then w ∷ functions more else functions more) ≡ Some v
     by true q r true s go = ap (λ b. if b then Some w else function_named n (functions more)) q ∙ r
     by true q r false s go = absurd (bad (same_Some w v r))
@@ -114,7 +122,8 @@ any-among p (y ∷ xs) x h (inr a) = by (p y) h (λ r. any-among p xs x r a)
     by false r go = go r
 
 -- a call that a line makes is one of the unit's
-callees-line : (before after : List LineText) (l : LineText) (f : UnitName) (ty : TypeTree) (args : List OperandText) → l.inst ≡ call_text f ty args → is_assert f ≡ false → Among (callees_in (before ++ l ∷ after)) f
+callees-line : (before after : List LineText) (l : LineText) (f : UnitName) (ty : TypeTree) (args : List OperandText) → l.inst ≡ call_text f ty args → is_assert f ≡ false
+    → Among (callees_in (before ++ l ∷ after)) f
 callees-line [] after l f ty args i n = subst (λ i. Among (callee_if i (callees_in after)) f) (sym i) (subst (λ b. Among (if b then callees_in after else f ∷ callees_in after) f) (sym n) (inl refl))
 callees-line (x ∷ before) after l f ty args i n = more x.inst (callees-line before after l f ty args i n)
   where
@@ -150,7 +159,8 @@ lines-around (c ∷ bs) b (inr a) = let r = lines-around bs b a in (c.lines ++ r
     in-three [] y z = refl
     in-three (l ∷ x) y z = ap (λ ls. l ∷ ls) (in-three x y z)
 
-pub callee-among : (v : UnitText) (b : BlockText) (before after : List LineText) (l : LineText) (f : UnitName) (ty : TypeTree) (args : List OperandText) → Among v.blocks b → b.lines ≡ before ++ l ∷ after → l.inst ≡ call_text f ty args → is_assert f ≡ false → Among (callees v) f
+pub callee-among : (v : UnitText) (b : BlockText) (before after : List LineText) (l : LineText) (f : UnitName) (ty : TypeTree) (args : List OperandText) → Among v.blocks b
+    → b.lines ≡ before ++ l ∷ after → l.inst ≡ call_text f ty args → is_assert f ≡ false → Among (callees v) f
 callee-among v b before after l f ty args a e i n =
     let r = lines-around v.blocks b a in
     let whole : lines_of v.blocks ≡ (r.0 ++ before) ++ l ∷ (after ++ r.1) =

@@ -30,14 +30,17 @@ module _ (v x : UnitText) (c : Copy) (typed : (n : List ℕ) (t : TypeTree) → 
   signal-kinds [] h = tt
   signal-kinds (s ∷ ss) h = (one-kind signal_needed s h.0, signal-kinds ss h.1)
 
-  edge-kinds : (fs : List UnitText) (es : List EdgeText) → Each (HasTypeOfKind v) (map (λ (e : EdgeText). used data_or_time_needed e.value) es) → Each (HasTypeOfKind x) (map (λ (e : EdgeText). used data_or_time_needed e.value) (map (copied_edge fs c) es))
+  edge-kinds : (fs : List UnitText) (es : List EdgeText) → Each (HasTypeOfKind v) (map (λ (e : EdgeText). used data_or_time_needed e.value) es)
+      → Each (HasTypeOfKind x) (map (λ (e : EdgeText). used data_or_time_needed e.value) (map (copied_edge fs c) es))
   edge-kinds fs [] h = tt
   edge-kinds fs (e ∷ es) h = (one-kind data_or_time_needed e.value h.0, edge-kinds fs es h.1)
 
-  stepped-kinds : (args : List OperandText) → Each (HasTypeOfKind v) (all_used (step_need (first_type args)) args) → Each (HasTypeOfKind x) (all_used (step_need (first_type (map (copied_operand c) args))) (map (copied_operand c) args))
+  stepped-kinds : (args : List OperandText) → Each (HasTypeOfKind v) (all_used (step_need (first_type args)) args)
+      → Each (HasTypeOfKind x) (all_used (step_need (first_type (map (copied_operand c) args))) (map (copied_operand c) args))
   stepped-kinds args h = subst (λ t. Each (HasTypeOfKind x) (all_used (step_need t) (map (copied_operand c) args))) (sym (first-type c args)) (all-kinds (step_need (first_type args)) args h)
 
-  part-kinds : (s : Option Step) (args : List OperandText) → Each (HasTypeOfKind v) (all_used (part_need s args) args) → Each (HasTypeOfKind x) (all_used (part_need s (map (copied_operand c) args)) (map (copied_operand c) args))
+  part-kinds : (s : Option Step) (args : List OperandText) → Each (HasTypeOfKind v) (all_used (part_need s args) args)
+      → Each (HasTypeOfKind x) (all_used (part_need s (map (copied_operand c) args)) (map (copied_operand c) args))
   part-kinds None args h = all-kinds data_needed args h
   part-kinds (Some s) args h = stepped-kinds args h
 
@@ -53,7 +56,8 @@ module _ (v x : UnitText) (c : Copy) (typed : (n : List ℕ) (t : TypeTree) → 
   kinds-copied fs (st_text to value) k h = (one-kind pointer_needed to.value h.0, (one-kind data_or_time_needed value h.1.0, tt))
   kinds-copied fs (sig_text a) k h = elim k [ ]
   kinds-copied fs (prb_text s) k h = (one-kind signal_needed s.value h.0, tt)
-  kinds-copied fs (drv_text to value after cond) k h = (one-kind signal_needed to.value h.0, (one-kind data_needed value h.1.0, (one-kind time_needed after h.1.1.0, maybe-kind data_needed cond h.1.1.1)))
+  kinds-copied fs (drv_text to value after cond) k
+      h = (one-kind signal_needed to.value h.0, (one-kind data_needed value h.1.0, (one-kind time_needed after h.1.1.0, maybe-kind data_needed cond h.1.1.1)))
   kinds-copied fs (reg_text to ts) k h = elim k [ ]
   kinds-copied fs (child_text w inputs outputs) k h = elim k [ ]
   kinds-copied fs (call_text f result args) k h = all-kinds data_or_time_needed args h

@@ -1,4 +1,4 @@
--- A path of blocks of a flat text goes through spots of copies; what was given in them on the way was given on the path.
+-- A path of blocks of a flat text goes through pieces of copies; what was given in them on the way was given on the path.
 use Rattle.std.proofs.Common.{◌≡◌, ◌⊎◌, ℕ, zero, suc, List, [], ◌∷◌, ◌++◌, map, true, false, Option, Some, None, refl, ap, sym, ◌∙◌, inl, inr, subst}
 use Rattle.std.specs.List.{list_any, flat_map}
 use Rattle.lh_unit.specs.Contents.{OperandText, ret_text, LineText, BlockText, UnitText, same_name, is_result_name, lines_define, blocks_define, args_define}
@@ -11,7 +11,7 @@ use Rattle.lh_formed.proofs.There.{last-leads}
 use Rattle.lh_flat.specs.Copies.{Copy, top_copy, first_piece, copied, copied_line}
 use Rattle.lh_flat.specs.Flat.{FlatBlockText, merge_of, first_label, branch_into, flat_block, flat_copy, max_nested, with_merge}
 use Rattle.lh_inlined.proofs.Cuts.{Among, Cut, ending, behind, lines-cut, piece-lines}
-use Rattle.lh_inlined.proofs.Spots.{Spot, next_cut, next_lines, first_spot, after_spot, SpotOf, begins, goes_on, Nested, outermost, called, flat_spot}
+use Rattle.lh_inlined.proofs.CopyPieces.{CopyPiece, next_cut, next_lines, first_copy_piece, after_copy_piece, CopyPieceOf, begins, goes_on, Nested, outermost, called, flat_copy_piece}
 use Rattle.lh_inlined.proofs.Lines.{or-cases, or-left, or-right, define-parts, define-left, define-copied, merge-defines, lines-define, merge-leads, merge-ends, LastOf, no_last, last_is, last-of, Leads, within, back, leads-copied}
 
 inner : (b : List LineText) (l : LineText) (r : List LineText) → b ++ l ∷ r ≡ (b ++ l ∷ []) ++ r
@@ -40,7 +40,8 @@ module _ (fs : List UnitText) where
   pub record IsGood (v : UnitText) : Type 0 where
     pub leads : (b : BlockText) → Among v.blocks b → (n : List ℕ) → Among (last_leads_to b.lines) n → (d : BlockText) × (block_of n v.blocks ≡ Some d) × Among v.blocks d × (label_or d.label ≡ n)
     pub self : (b : BlockText) → Among v.blocks b → block_of (label_or b.label) v.blocks ≡ Some b
-    pub there : (b : BlockText) (before after : List LineText) (l : LineText) → Among v.blocks b → b.lines ≡ before ++ l ∷ after → is_phi l.inst ≡ false → (n : List ℕ) → Among (values_named l.inst) n → IsThere v b before n
+    pub there : (b : BlockText) (before after : List LineText) (l : LineText) → Among v.blocks b → b.lines ≡ before ++ l ∷ after → is_phi l.inst ≡ false → (n : List ℕ) → Among (values_named l.inst) n
+        → IsThere v b before n
 
   -- what is asked of a call that is replaced: an argument of the copy is a value that the call names; the copy has an entry; and a result
   -- of the call is that of the merge behind it
@@ -50,11 +51,11 @@ module _ (fs : List UnitText) where
     pub no_phi : is_phi x.line.inst ≡ false
     pub result : (n : List ℕ) → is_result_name n x.line.result ≡ true → lines_define (c.value n) (with_merge (merge_of fs c x.copy x.line.inst x.line.result) []) ≡ true
 
-  -- the block of a spot is one of the unit, and its lines are those before the spot and those from it on
-  pub spot-block : (c : Copy) (s : Spot) → SpotOf fs c s → Among c.unit.blocks s.block × (s.block.lines ≡ s.before ++ s.rest)
-  spot-block c _ (begins b h) = (h, refl)
-  spot-block c _ (goes_on s h z e) =
-      let p = spot-block c s h in
+  -- the block of a piece is one of the unit, and its lines are those before the piece and those from it on
+  pub copy_piece-block : (c : Copy) (s : CopyPiece) → CopyPieceOf fs c s → Among c.unit.blocks s.block × (s.block.lines ≡ s.before ++ s.rest)
+  copy_piece-block c _ (begins b h) = (h, refl)
+  copy_piece-block c _ (goes_on s h z e) =
+      let p = copy_piece-block c s h in
       let cuts : s.rest ≡ next_lines fs c s ++ z.line ∷ z.rest = lines-cut fs c (label_or s.block.label) s.number s.rest ∙ ap (λ o. next_lines fs c s ++ behind fs c (label_or s.block.label) o) e in
       (p.0, p.1 ∙ ap (λ ls. s.before ++ ls) cuts ∙ regrouped s.before (next_lines fs c s) z.line z.rest)
 
@@ -66,11 +67,11 @@ module _ (fs : List UnitText) where
   no-rest [] = refl
   no-rest (l ∷ ls) = ap (λ ms. l ∷ ms) (no-rest ls)
 
-  -- where the block of a spot leads
-  module _ (y : BlockText) (k : ℕ) (c : Copy) (s : Spot) (of : SpotOf fs c s) (is : y ≡ as_block (flat_spot fs k c s)) where
+  -- where the block of a piece leads
+  module _ (y : BlockText) (k : ℕ) (c : Copy) (s : CopyPiece) (of : CopyPieceOf fs c s) (is : y ≡ as_block (flat_copy_piece fs k c s)) where
     pub whole-block : next_cut fs c s ≡ None → s.block.lines ≡ s.before ++ next_lines fs c s
     whole-block e =
-        (spot-block c s of).1
+        (copy_piece-block c s of).1
         ∙ ap (λ ls. s.before ++ ls) (lines-cut fs c (label_or s.block.label) s.number s.rest ∙ ap (λ o. next_lines fs c s ++ behind fs c (label_or s.block.label) o) e ∙ no-rest (next_lines fs c s))
 
     block-lines : y.lines ≡ with_merge s.merge (map (copied_line fs c) (next_lines fs c s) ++ ending fs c (label_or s.block.label) (flat_copy k fs) (next_cut fs c s))
@@ -114,8 +115,9 @@ module _ (fs : List UnitText) where
             on : s.block.lines ≡ (s.before ++ xs) ++ l ∷ [] → Leads c l.inst m → LeadsOn m
             on lines (within to a r) =
                 let ends : last_leads_to s.block.lines ≡ leads_to l.inst = ap last_leads_to lines ∙ last-leads (s.before ++ xs) l in
-                let d = g.leads s.block (spot-block c s of).0 to (subst (λ ns. Among ns to) (sym ends) a) in
-                within_unit e d.0 d.2 (ap (λ ns. list_any (λ x. same_name x (label_or d.0.label)) ns) ends ∙ among-named (leads_to l.inst) to (label_or d.0.label) a (sym d.3)) (ap (first_piece c) d.3 ∙ sym r)
+                let d = g.leads s.block (copy_piece-block c s of).0 to (subst (λ ns. Among ns to) (sym ends) a) in
+                within_unit e d.0 d.2 (ap (λ ns. list_any (λ x. same_name x (label_or d.0.label)) ns) ends ∙ among-named (leads_to l.inst) to (label_or d.0.label) a (sym d.3))
+                (ap (first_piece c) d.3 ∙ sym r)
             on lines (back o i r) = back_from e (s.before ++ xs) l o lines i r
 
         by-last : next_cut fs c s ≡ None → (ls : List LineText) → next_lines fs c s ≡ ls → LastOf ls → LeadsOn m
@@ -158,16 +160,17 @@ module _ (fs : List UnitText) where
     -- the same of each call that is open, and of the lines before it
     pub data Waits (earlier : List BlockText) : (k : ℕ) (c : Copy) → Nested fs u k c → Type 0 where
       none_waits : Waits earlier max_nested (top_copy u) outermost
-      waits_at : (k : ℕ) (c : Copy) (n : Nested fs u (suc k) c) (s : Spot) (h : SpotOf fs c s) (z : Cut) (e : next_cut fs c s ≡ Some z) (q : List BlockText)
-          → Came earlier c s.block q → ((m : List ℕ) → lines_define m (s.before ++ next_lines fs c s) ≡ true → There earlier (c.value m)) → Waits earlier (suc k) c n → Waits earlier k z.copy (called k c n s h z e)
+      waits_at : (k : ℕ) (c : Copy) (n : Nested fs u (suc k) c) (s : CopyPiece) (h : CopyPieceOf fs c s) (z : Cut) (e : next_cut fs c s ≡ Some z) (q : List BlockText)
+          → Came earlier c s.block q → ((m : List ℕ) → lines_define m (s.before ++ next_lines fs c s) ≡ true → There earlier (c.value m)) → Waits earlier (suc k) c n
+          → Waits earlier k z.copy (called k c n s h z e)
 
     waits-later : (y : BlockText) (earlier : List BlockText) (k : ℕ) (c : Copy) (n : Nested fs u k c) → Waits earlier k c n → Waits (y ∷ earlier) k c n
     waits-later y earlier _ _ _ none_waits = none_waits
     waits-later y earlier _ _ _ (waits_at k c n s h z e q came lines w) =
         waits_at k c n s h z e q (came-later y earlier c s.block q came) (λ m d. there-later y earlier (c.value m) (lines m d)) (waits-later y earlier (suc k) c n w)
 
-    -- given before the lines of a spot: before its block, or by the merge with which it begins
-    abbrev pub Begun : List BlockText → Copy → Spot → Type 0
+    -- given before the lines of a piece: before its block, or by the merge with which it begins
+    abbrev pub Begun : List BlockText → Copy → CopyPiece → Type 0
     Begun earlier c s = (n : List ℕ) → lines_define n s.before ≡ true → There earlier (c.value n) ⊎ (lines_define (c.value n) (with_merge s.merge []) ≡ true)
 
     -- a block of a path, and what was given before it
@@ -175,94 +178,101 @@ module _ (fs : List UnitText) where
       pub depth : ℕ
       pub copy : Copy
       pub nested : Nested fs u depth copy
-      pub spot : Spot
-      pub of : SpotOf fs copy spot
-      pub is : y ≡ as_block (flat_spot fs depth copy spot)
+      pub piece : CopyPiece
+      pub of : CopyPieceOf fs copy piece
+      pub is : y ≡ as_block (flat_copy_piece fs depth copy piece)
       pub waits : Waits earlier depth copy nested
       pub taken : List BlockText
-      pub came : Came earlier copy spot.block taken
-      pub begun : Begun earlier copy spot
+      pub came : Came earlier copy piece.block taken
+      pub begun : Begun earlier copy piece
 
-    -- the block of a spot ends with a `ret`
-    pub record EndsInRet (s : Spot) : Type 0 where
+    -- the block of a piece ends with a `ret`
+    pub record EndsInRet (s : CopyPiece) : Type 0 where
       pub before : List LineText
       pub line : LineText
       pub operand : Option OperandText
       pub splits : s.block.lines ≡ before ++ line ∷ []
       pub ret : line.inst ≡ ret_text operand
 
-    -- from a spot of a copy to the next: to a block of the same copy, behind the call that made the copy, or into the copy of a call
-    pub data Step (c0 : Copy) (s0 : Spot) : Copy → Spot → Type 0 where
-      jumps : (d : BlockText) → Among c0.unit.blocks d → next_cut fs c0 s0 ≡ None → has_edge s0.block (label_or d.label) ≡ true → Step c0 s0 c0 (first_spot fs c0 d)
-      returns : (k : ℕ) (c : Copy) → Nested fs u k c → (s : Spot) → SpotOf fs c s → (z : Cut) → next_cut fs c s ≡ Some z → z.copy ≡ c0 → next_cut fs c0 s0 ≡ None → EndsInRet s0 → Step c0 s0 c (after_spot fs c s z)
-      enters : (z : Cut) → next_cut fs c0 s0 ≡ Some z → (b : BlockText) (more : List BlockText) → z.copy.unit.blocks ≡ b ∷ more → Step c0 s0 z.copy (first_spot fs z.copy b)
+    -- from a piece of a copy to the next: to a block of the same copy, behind the call that made the copy, or into the copy of a call
+    pub data Step (c0 : Copy) (s0 : CopyPiece) : Copy → CopyPiece → Type 0 where
+      jumps : (d : BlockText) → Among c0.unit.blocks d → next_cut fs c0 s0 ≡ None → has_edge s0.block (label_or d.label) ≡ true → Step c0 s0 c0 (first_copy_piece fs c0 d)
+      returns : (k : ℕ) (c : Copy) → Nested fs u k c → (s : CopyPiece) → CopyPieceOf fs c s → (z : Cut) → next_cut fs c s ≡ Some z → z.copy ≡ c0 → next_cut fs c0 s0 ≡ None → EndsInRet s0
+          → Step c0 s0 c (after_copy_piece fs c s z)
+      enters : (z : Cut) → next_cut fs c0 s0 ≡ Some z → (b : BlockText) (more : List BlockText) → z.copy.unit.blocks ≡ b ∷ more → Step c0 s0 z.copy (first_copy_piece fs z.copy b)
 
-    -- a spot to which a path goes on from a spot of a copy
-    pub record GoesOn (m : List ℕ) (earlier : List BlockText) (c0 : Copy) (s0 : Spot) : Type 0 where
+    -- a piece to which a path goes on from a piece of a copy
+    pub record GoesOn (m : List ℕ) (earlier : List BlockText) (c0 : Copy) (s0 : CopyPiece) : Type 0 where
       pub depth : ℕ
       pub copy : Copy
       pub nested : Nested fs u depth copy
-      pub spot : Spot
-      pub of : SpotOf fs copy spot
-      pub is : spot.label ≡ m
-      pub step : Step c0 s0 copy spot
+      pub piece : CopyPiece
+      pub of : CopyPieceOf fs copy piece
+      pub is : piece.label ≡ m
+      pub step : Step c0 s0 copy piece
       pub waits : Waits earlier depth copy nested
       pub taken : List BlockText
-      pub came : Came earlier copy spot.block taken
-      pub begun : Begun earlier copy spot
+      pub came : Came earlier copy piece.block taken
+      pub begun : Begun earlier copy piece
 
-    module _ (good : (k : ℕ) (c : Copy) → Nested fs u k c → IsGood c.unit) (calls : (k : ℕ) (c : Copy) → Nested fs u k c → (s : Spot) → SpotOf fs c s → (z : Cut) → next_cut fs c s ≡ Some z → CallIsGood c z)
-        (deep : (c : Copy) → Nested fs u zero c → (s : Spot) → SpotOf fs c s → (z : Cut) → next_cut fs c s ≡ Some z → ⊥)
+    module _ (good : (k : ℕ) (c : Copy) → Nested fs u k c → IsGood c.unit) (calls : (k : ℕ) (c : Copy) → Nested fs u k c → (s : CopyPiece) → CopyPieceOf fs c s → (z : Cut) → next_cut fs c s ≡ Some z
+        → CallIsGood c z)
+        (deep : (c : Copy) → Nested fs u zero c → (s : CopyPiece) → CopyPieceOf fs c s → (z : Cut) → next_cut fs c s ≡ Some z → ⊥)
         (no_ret : (b : BlockText) (before after : List LineText) (l : LineText) → Among u.blocks b → b.lines ≡ before ++ l ∷ after → (o : Option OperandText) → l.inst ≡ ret_text o → ⊥) where
-      -- the lines of a spot that are no merge
-      pub spot-lines : (k : ℕ) (c : Copy) (s : Spot) → (flat_spot fs k c s).lines ≡ map (copied_line fs c) (next_lines fs c s) ++ ending fs c (label_or s.block.label) (flat_copy k fs) (next_cut fs c s)
-      spot-lines k c s = piece-lines fs c (label_or s.block.label) (flat_copy k fs) s.number s.rest
+      -- the lines of a piece that are no merge
+      pub copy_piece-lines : (k : ℕ) (c : Copy) (s : CopyPiece) → (flat_copy_piece fs k c s).lines ≡ map (copied_line fs c) (next_lines fs c s)
+          ++ ending fs c (label_or s.block.label) (flat_copy k fs) (next_cut fs c s)
+      copy_piece-lines k c s = piece-lines fs c (label_or s.block.label) (flat_copy k fs) s.number s.rest
 
       module _ (y : BlockText) (earlier : List BlockText) (at : Located y earlier) where
         -- the lines of the block at which a path stands
-        pub lines-are : y.lines ≡ with_merge at.spot.merge (map (copied_line fs at.copy) (next_lines fs at.copy at.spot) ++ ending fs at.copy (label_or at.spot.block.label) (flat_copy at.depth fs) (next_cut fs at.copy at.spot))
-        lines-are = ap (λ (b : BlockText). b.lines) at.is ∙ ap (with_merge at.spot.merge) (spot-lines at.depth at.copy at.spot)
+        pub lines-are : y.lines ≡ with_merge at.piece.merge (map (copied_line fs at.copy) (next_lines fs at.copy at.piece)
+            ++ ending fs at.copy (label_or at.piece.block.label) (flat_copy at.depth fs) (next_cut fs at.copy at.piece))
+        lines-are = ap (λ (b : BlockText). b.lines) at.is ∙ ap (with_merge at.piece.merge) (copy_piece-lines at.depth at.copy at.piece)
 
-        -- what the lines of the spot give is given by the block
-        pub calm-given : (n : List ℕ) → lines_define n (next_lines fs at.copy at.spot) ≡ true → lines_define (at.copy.value n) y.lines ≡ true
+        -- what the lines of the piece give is given by the block
+        pub calm-given : (n : List ℕ) → lines_define n (next_lines fs at.copy at.piece) ≡ true → lines_define (at.copy.value n) y.lines ≡ true
         calm-given n h =
             ap (lines_define (at.copy.value n)) lines-are
-            ∙ lines-define (at.copy.value n) at.spot.merge _ (define-left (at.copy.value n) (map (copied_line fs at.copy) (next_lines fs at.copy at.spot)) _ (define-copied fs at.copy n (next_lines fs at.copy at.spot) h))
+            ∙ lines-define (at.copy.value n) at.piece.merge _ (define-left (at.copy.value n) (map (copied_line fs at.copy) (next_lines fs at.copy at.piece)) _
+            (define-copied fs at.copy n (next_lines fs at.copy at.piece) h))
 
         -- so is what the merge gives
-        merge-given : (n : List ℕ) → lines_define n (with_merge at.spot.merge []) ≡ true → lines_define n y.lines ≡ true
-        merge-given n h = ap (lines_define n) lines-are ∙ merge-defines n at.spot.merge _ h
+        merge-given : (n : List ℕ) → lines_define n (with_merge at.piece.merge []) ≡ true → lines_define n y.lines ≡ true
+        merge-given n h = ap (lines_define n) lines-are ∙ merge-defines n at.piece.merge _ h
 
-        -- what is given before a line of the spot is there behind the block
-        pub lines-there : (n : List ℕ) → lines_define n (at.spot.before ++ next_lines fs at.copy at.spot) ≡ true → There (y ∷ earlier) (at.copy.value n)
-        lines-there n h = by (define-parts n at.spot.before (next_lines fs at.copy at.spot) h)
+        -- what is given before a line of the piece is there behind the block
+        pub lines-there : (n : List ℕ) → lines_define n (at.piece.before ++ next_lines fs at.copy at.piece) ≡ true → There (y ∷ earlier) (at.copy.value n)
+        lines-there n h = by (define-parts n at.piece.before (next_lines fs at.copy at.piece) h)
           where
-            by : ((lines_define n at.spot.before ≡ true) ⊎ (lines_define n (next_lines fs at.copy at.spot) ≡ true)) → There (y ∷ earlier) (at.copy.value n)
+            by : ((lines_define n at.piece.before ≡ true) ⊎ (lines_define n (next_lines fs at.copy at.piece) ≡ true)) → There (y ∷ earlier) (at.copy.value n)
             by (inr k) = there-now y earlier (at.copy.value n) (calm-given n k)
             by (inl k) = begun (at.begun n k)
               where
-                begun : (There earlier (at.copy.value n) ⊎ (lines_define (at.copy.value n) (with_merge at.spot.merge []) ≡ true)) → There (y ∷ earlier) (at.copy.value n)
+                begun : (There earlier (at.copy.value n) ⊎ (lines_define (at.copy.value n) (with_merge at.piece.merge []) ≡ true)) → There (y ∷ earlier) (at.copy.value n)
                 begun (inl t) = there-later y earlier (at.copy.value n) t
                 begun (inr m) = there-now y earlier (at.copy.value n) (merge-given (at.copy.value n) m)
 
-        came-on : Came (y ∷ earlier) at.copy at.spot.block at.taken
-        came-on = came-later y earlier at.copy at.spot.block at.taken at.came
+        came-on : Came (y ∷ earlier) at.copy at.piece.block at.taken
+        came-on = came-later y earlier at.copy at.piece.block at.taken at.came
 
-        -- a value that is there at a line behind the spot's is there behind the block
-        pub value-there : (n : List ℕ) → IsThere at.copy.unit at.spot.block (at.spot.before ++ next_lines fs at.copy at.spot) n → There (y ∷ earlier) (at.copy.value n)
+        -- a value that is there at a line behind the piece's is there behind the block
+        pub value-there : (n : List ℕ) → IsThere at.copy.unit at.piece.block (at.piece.before ++ next_lines fs at.copy at.piece) n → There (y ∷ earlier) (at.copy.value n)
         value-there n (inl h) = came-on.arguments n h
         value-there n (inr h) = by (h at.taken at.came.path)
           where
-            by : ((lines_define n (at.spot.before ++ next_lines fs at.copy at.spot) ≡ true) ⊎ (blocks_define n at.taken ≡ true)) → There (y ∷ earlier) (at.copy.value n)
+            by : ((lines_define n (at.piece.before ++ next_lines fs at.copy at.piece) ≡ true) ⊎ (blocks_define n at.taken ≡ true)) → There (y ∷ earlier) (at.copy.value n)
             by (inl k) = lines-there n k
             by (inr k) = came-on.given n k
 
         -- where all lines of a block are behind, its results are there
-        block-there : next_cut fs at.copy at.spot ≡ None → (n : List ℕ) → lines_define n at.spot.block.lines ≡ true → There (y ∷ earlier) (at.copy.value n)
+        block-there : next_cut fs at.copy at.piece ≡ None → (n : List ℕ) → lines_define n at.piece.block.lines ≡ true → There (y ∷ earlier) (at.copy.value n)
         block-there e n h =
-            let whole : at.spot.block.lines ≡ at.spot.before ++ (next_lines fs at.copy at.spot ++ []) =
-            (spot-block at.copy at.spot at.of).1 ∙ ap (λ ls. at.spot.before ++ ls) (lines-cut fs at.copy (label_or at.spot.block.label) at.spot.number at.spot.rest ∙ ap (λ o. next_lines fs at.copy at.spot ++ behind fs at.copy (label_or at.spot.block.label) o) e) in
-            lines-there n (subst (λ ls. lines_define n ls ≡ true) (whole ∙ ap (λ ls. at.spot.before ++ ls) (none-behind (next_lines fs at.copy at.spot))) h)
+            let whole : at.piece.block.lines ≡ at.piece.before ++ (next_lines fs at.copy at.piece ++ []) =
+            (copy_piece-block at.copy at.piece at.of).1
+            ∙ ap (λ ls. at.piece.before ++ ls) (lines-cut fs at.copy (label_or at.piece.block.label) at.piece.number at.piece.rest
+            ∙ ap (λ o. next_lines fs at.copy at.piece ++ behind fs at.copy (label_or at.piece.block.label) o) e) in
+            lines-there n (subst (λ ls. lines_define n ls ≡ true) (whole ∙ ap (λ ls. at.piece.before ++ ls) (none-behind (next_lines fs at.copy at.piece))) h)
           where
             none-behind : (ls : List LineText) → ls ++ [] ≡ ls
             none-behind [] = refl
@@ -270,15 +280,17 @@ module _ (fs : List UnitText) where
 
       -- behind a `ret` the path goes on in the copy that called
       abbrev HasRet : Copy → Type 0
-      HasRet c = (b : BlockText) × (before : List LineText) × (after : List LineText) × (l : LineText) × (o : Option OperandText) × Among c.unit.blocks b × (b.lines ≡ before ++ l ∷ after) × (l.inst ≡ ret_text o)
+      HasRet c = (b : BlockText) × (before : List LineText) × (after : List LineText) × (l : LineText) × (o : Option OperandText) × Among c.unit.blocks b × (b.lines ≡ before ++ l ∷ after)
+          × (l.inst ≡ ret_text o)
 
-      popped : (path : List BlockText) (m : List ℕ) (s0 : Spot) (k : ℕ) (c : Copy) (n : Nested fs u k c) → Waits path k c n → next_cut fs c s0 ≡ None → EndsInRet s0 → HasRet c → m ≡ c.path → GoesOn m path c s0
+      popped : (path : List BlockText) (m : List ℕ) (s0 : CopyPiece) (k : ℕ) (c : Copy) (n : Nested fs u k c) → Waits path k c n → next_cut fs c s0 ≡ None → EndsInRet s0 → HasRet c → m ≡ c.path
+          → GoesOn m path c s0
       popped path m s0 _ _ _ none_waits none ret r q = elim (no_ret r.0 r.1 r.2 r.3 r.5 r.6 r.4 r.7) [ ]
       popped path m s0 _ _ _ (waits_at k c n s h z e taken came lines w) none ret r q = record {
         depth = suc k;
         copy = c;
         nested = n;
-        spot = after_spot fs c s z;
+        piece = after_copy_piece fs c s z;
         of = goes_on s h z e;
         is = sym q;
         step = returns (suc k) c n s h z e refl none ret;
@@ -288,16 +300,18 @@ module _ (fs : List UnitText) where
         begun = λ a d. by a (define-parts a (s.before ++ next_lines fs c s) (z.line ∷ []) d);
       }
         where
-          by : (a : List ℕ) → ((lines_define a (s.before ++ next_lines fs c s) ≡ true) ⊎ (lines_define a (z.line ∷ []) ≡ true)) → There path (c.value a) ⊎ (lines_define (c.value a) (with_merge (merge_of fs c z.copy z.line.inst z.line.result) []) ≡ true)
+          by : (a : List ℕ) → ((lines_define a (s.before ++ next_lines fs c s) ≡ true) ⊎ (lines_define a (z.line ∷ []) ≡ true))
+              → There path (c.value a) ⊎ (lines_define (c.value a) (with_merge (merge_of fs c z.copy z.line.inst z.line.result) []) ≡ true)
           by a (inl d) = inl (lines a d)
           by a (inr d) = last (or-cases (is_result_name a z.line.result) false d)
             where
-              last : ((is_result_name a z.line.result ≡ true) ⊎ (false ≡ true)) → There path (c.value a) ⊎ (lines_define (c.value a) (with_merge (merge_of fs c z.copy z.line.inst z.line.result) []) ≡ true)
+              last : ((is_result_name a z.line.result ≡ true) ⊎ (false ≡ true))
+                  → There path (c.value a) ⊎ (lines_define (c.value a) (with_merge (merge_of fs c z.copy z.line.inst z.line.result) []) ≡ true)
               last (inl d) = inr ((calls (suc k) c n s h z e).result a d)
               last (inr d) = cc
 
       -- a branch into a copy leads to its entry
-      entered : (path : List BlockText) (m : List ℕ) (k : ℕ) (c : Copy) (n : Nested fs u k c) (s : Spot) (h : SpotOf fs c s) (z : Cut) (e : next_cut fs c s ≡ Some z) (q : List BlockText)
+      entered : (path : List BlockText) (m : List ℕ) (k : ℕ) (c : Copy) (n : Nested fs u k c) (s : CopyPiece) (h : CopyPieceOf fs c s) (z : Cut) (e : next_cut fs c s ≡ Some z) (q : List BlockText)
           → Came path c s.block q → ((a : List ℕ) → lines_define a (s.before ++ next_lines fs c s) ≡ true → There path (c.value a)) → Waits path k c n
           → ((a : List ℕ) → args_define a z.copy.unit.args ≡ true → There path (z.copy.value a)) → (b : BlockText) × (more : List BlockText) × (z.copy.unit.blocks ≡ b ∷ more)
           → m ≡ first_piece z.copy (first_label z.copy.unit.blocks) → GoesOn m path c s
@@ -306,7 +320,7 @@ module _ (fs : List UnitText) where
         depth = k;
         copy = z.copy;
         nested = called k c n s h z e;
-        spot = first_spot fs z.copy b.0;
+        piece = first_copy_piece fs z.copy b.0;
         of = begins b.0 (subst (λ bs. Among bs b.0) (sym b.2) (inl refl));
         is = sym (r ∙ ap (λ bs. first_piece z.copy (first_label bs)) b.2);
         step = enters z e b.0 b.1 b.2;
@@ -317,57 +331,62 @@ module _ (fs : List UnitText) where
       }
 
       module _ (y : BlockText) (earlier : List BlockText) (at : Located y earlier) where
-        cut-block : (z : Cut) → next_cut fs at.copy at.spot ≡ Some z → at.spot.block.lines ≡ (at.spot.before ++ next_lines fs at.copy at.spot) ++ z.line ∷ z.rest
+        cut-block : (z : Cut) → next_cut fs at.copy at.piece ≡ Some z → at.piece.block.lines ≡ (at.piece.before ++ next_lines fs at.copy at.piece) ++ z.line ∷ z.rest
         cut-block z e =
-            (spot-block at.copy at.spot at.of).1
-            ∙ ap (λ ls. at.spot.before ++ ls) (lines-cut fs at.copy (label_or at.spot.block.label) at.spot.number at.spot.rest ∙ ap (λ o. next_lines fs at.copy at.spot ++ behind fs at.copy (label_or at.spot.block.label) o) e)
-            ∙ sym (nested-right at.spot.before (next_lines fs at.copy at.spot) (z.line ∷ z.rest))
+            (copy_piece-block at.copy at.piece at.of).1
+            ∙ ap (λ ls. at.piece.before ++ ls) (lines-cut fs at.copy (label_or at.piece.block.label) at.piece.number at.piece.rest
+            ∙ ap (λ o. next_lines fs at.copy at.piece ++ behind fs at.copy (label_or at.piece.block.label) o) e)
+            ∙ sym (nested-right at.piece.before (next_lines fs at.copy at.piece) (z.line ∷ z.rest))
 
-        jumped : (m : List ℕ) → next_cut fs at.copy at.spot ≡ None → (d : BlockText) → Among at.copy.unit.blocks d → has_edge at.spot.block (label_or d.label) ≡ true → first_piece at.copy (label_or d.label) ≡ m → GoesOn m (y ∷ earlier) at.copy at.spot
+        jumped : (m : List ℕ) → next_cut fs at.copy at.piece ≡ None → (d : BlockText) → Among at.copy.unit.blocks d → has_edge at.piece.block (label_or d.label) ≡ true
+            → first_piece at.copy (label_or d.label) ≡ m → GoesOn m (y ∷ earlier) at.copy at.piece
         jumped m e d a edge r = record {
           depth = at.depth;
           copy = at.copy;
           nested = at.nested;
-          spot = first_spot fs at.copy d;
+          piece = first_copy_piece fs at.copy d;
           of = begins d a;
           is = r;
           step = jumps d a e edge;
           waits = waits-later y earlier at.depth at.copy at.nested at.waits;
-          taken = at.spot.block ∷ at.taken;
+          taken = at.piece.block ∷ at.taken;
           came = record {
             path = (edge, (good at.depth at.copy at.nested).self d a, at.came.path);
             arguments = (came-on y earlier at).arguments;
-            given = λ n h. by-block n (or-cases (lines_define n at.spot.block.lines) (blocks_define n at.taken) h);
+            given = λ n h. by-block n (or-cases (lines_define n at.piece.block.lines) (blocks_define n at.taken) h);
           };
           begun = λ n h. cc;
         }
           where
-            by-block : (n : List ℕ) → ((lines_define n at.spot.block.lines ≡ true) ⊎ (blocks_define n at.taken ≡ true)) → There (y ∷ earlier) (at.copy.value n)
+            by-block : (n : List ℕ) → ((lines_define n at.piece.block.lines ≡ true) ⊎ (blocks_define n at.taken ≡ true)) → There (y ∷ earlier) (at.copy.value n)
             by-block n (inl h) = block-there y earlier at e n h
             by-block n (inr h) = (came-on y earlier at).given n h
 
-        pushed : (m : List ℕ) (z : Cut) → next_cut fs at.copy at.spot ≡ Some z → m ≡ first_piece z.copy (first_label z.copy.unit.blocks) → GoesOn m (y ∷ earlier) at.copy at.spot
+        pushed : (m : List ℕ) (z : Cut) → next_cut fs at.copy at.piece ≡ Some z → m ≡ first_piece z.copy (first_label z.copy.unit.blocks) → GoesOn m (y ∷ earlier) at.copy at.piece
         pushed m z e r =
-            let c : CallIsGood at.copy z = calls at.depth at.copy at.nested at.spot at.of z e in
-            entered (y ∷ earlier) m at.depth at.copy at.nested at.spot at.of z e at.taken (came-on y earlier at) (lines-there y earlier at) (waits-later y earlier at.depth at.copy at.nested at.waits)
-            (λ a h. let v = c.arguments a h in subst (There (y ∷ earlier)) (sym v.2) (value-there y earlier at v.0 ((good at.depth at.copy at.nested).there at.spot.block (at.spot.before ++ next_lines fs at.copy at.spot) z.rest z.line (spot-block at.copy at.spot at.of).0 (cut-block z e) c.no_phi v.0 v.1)))
+            let c : CallIsGood at.copy z = calls at.depth at.copy at.nested at.piece at.of z e in
+            entered (y ∷ earlier) m at.depth at.copy at.nested at.piece at.of z e at.taken (came-on y earlier at) (lines-there y earlier at) (waits-later y earlier at.depth at.copy at.nested at.waits)
+            (λ a h. let v = c.arguments a h in subst (There (y ∷ earlier)) (sym v.2)
+            (value-there y earlier at v.0 ((good at.depth at.copy at.nested).there at.piece.block (at.piece.before ++ next_lines fs at.copy at.piece) z.rest z.line
+            (copy_piece-block at.copy at.piece at.of).0 (cut-block z e) c.no_phi v.0 v.1)))
             c.entry r
 
-        -- the path goes on to the spot of the label
-        pub goes-on : (m : List ℕ) → has_edge y m ≡ true → GoesOn m (y ∷ earlier) at.copy at.spot
-        goes-on m h = by (leads-on y at.depth at.copy at.spot at.of at.is (good at.depth at.copy at.nested) m h)
+        -- the path goes on to the piece of the label
+        pub goes-on : (m : List ℕ) → has_edge y m ≡ true → GoesOn m (y ∷ earlier) at.copy at.piece
+        goes-on m h = by (leads-on y at.depth at.copy at.piece at.of at.is (good at.depth at.copy at.nested) m h)
           where
-            by : LeadsOn y at.depth at.copy at.spot at.of at.is m → GoesOn m (y ∷ earlier) at.copy at.spot
+            by : LeadsOn y at.depth at.copy at.piece at.of at.is m → GoesOn m (y ∷ earlier) at.copy at.piece
             by (into z e r) = pushed m z e r
             by (within_unit e d a edge r) = jumped m e d a edge r
             by (back_from e before l o lines i r) =
-                popped (y ∷ earlier) m at.spot at.depth at.copy at.nested (waits-later y earlier at.depth at.copy at.nested at.waits) e (record { before = before; line = l; operand = o; splits = lines; ret = i }) (at.spot.block, before, [], l, o, (spot-block at.copy at.spot at.of).0, lines, i) r
+                popped (y ∷ earlier) m at.piece at.depth at.copy at.nested (waits-later y earlier at.depth at.copy at.nested at.waits) e
+                (record { before = before; line = l; operand = o; splits = lines; ret = i }) (at.piece.block, before, [], l, o, (copy_piece-block at.copy at.piece at.of).0, lines, i) r
 
       module _ (blocks : x.blocks ≡ map as_block (flat_copy (suc max_nested) fs (top_copy u)))
-          (once : (k : ℕ) (c : Copy) → Nested fs u k c → (s : Spot) → SpotOf fs c s → block_of s.label x.blocks ≡ Some (as_block (flat_spot fs k c s)))
+          (once : (k : ℕ) (c : Copy) → Nested fs u k c → (s : CopyPiece) → CopyPieceOf fs c s → block_of s.label x.blocks ≡ Some (as_block (flat_copy_piece fs k c s)))
           (begin : (b : BlockText) × (more : List BlockText) × (u.blocks ≡ b ∷ more)) where
         -- the first block of the flat text is the first piece of the process's first block
-        first-is : entry_of x.blocks ≡ Some (as_block (flat_spot fs max_nested (top_copy u) (first_spot fs (top_copy u) begin.0)))
+        first-is : entry_of x.blocks ≡ Some (as_block (flat_copy_piece fs max_nested (top_copy u) (first_copy_piece fs (top_copy u) begin.0)))
         first-is = ap entry_of blocks ∙ ap (λ bs. entry_of (map as_block (flat_map (flat_block (flat_copy max_nested fs) fs (top_copy u)) bs))) begin.2
 
         at-entry : (y : BlockText) → entry_of x.blocks ≡ Some y → Located y []
@@ -375,7 +394,7 @@ module _ (fs : List UnitText) where
           depth = max_nested;
           copy = top_copy u;
           nested = outermost;
-          spot = first_spot fs (top_copy u) begin.0;
+          piece = first_copy_piece fs (top_copy u) begin.0;
           of = begins begin.0 (subst (λ bs. Among bs begin.0) (sym begin.2) (inl refl));
           is = same-one y _ (sym e ∙ first-is);
           waits = none_waits;
@@ -387,19 +406,19 @@ module _ (fs : List UnitText) where
             same-one : (a b : BlockText) → Some a ≡ Some b → a ≡ b
             same-one a b h = cc
 
-        -- so each block of a path is that of a spot
+        -- so each block of a path is that of a piece
         pub located : (y : BlockText) (earlier : List BlockText) → IsPath x (y ∷ earlier) → Located y earlier
         located y [] p = at-entry y p
-        located y (b ∷ more) p = let at = located b more p.2 in on at.copy at.spot (goes-on b more at (label_or y.label) p.0)
+        located y (b ∷ more) p = let at = located b more p.2 in on at.copy at.piece (goes-on b more at (label_or y.label) p.0)
           where
-            on : (c0 : Copy) (s0 : Spot) → GoesOn (label_or y.label) (b ∷ more) c0 s0 → Located y (b ∷ more)
+            on : (c0 : Copy) (s0 : CopyPiece) → GoesOn (label_or y.label) (b ∷ more) c0 s0 → Located y (b ∷ more)
             on c0 s0 g = record {
               depth = g.depth;
               copy = g.copy;
               nested = g.nested;
-              spot = g.spot;
+              piece = g.piece;
               of = g.of;
-              is = same-one y _ (sym p.1 ∙ ap (λ n. block_of n x.blocks) (sym g.is) ∙ once g.depth g.copy g.nested g.spot g.of);
+              is = same-one y _ (sym p.1 ∙ ap (λ n. block_of n x.blocks) (sym g.is) ∙ once g.depth g.copy g.nested g.piece g.of);
               waits = g.waits;
               taken = g.taken;
               came = g.came;

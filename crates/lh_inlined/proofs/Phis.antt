@@ -11,19 +11,19 @@ use Rattle.lh_formed.specs.Defined.{IsThere, IsThereOnEdge}
 use Rattle.lh_flat.specs.Copies.{Copy, top_copy, first_piece, last_from, last_piece, copied_edge, copied}
 use Rattle.lh_flat.specs.Flat.{MergeText, edge_if_given, given_in, given_by, merge_of, first_label, branch_into, flat_copy, max_nested, with_merge}
 use Rattle.lh_inlined.proofs.Cuts.{Among, among-left, among-right, Cut, cut, behind, lines-cut, last_by, last-cut, among-parts, among-map}
-use Rattle.lh_inlined.proofs.Spots.{Spot, next_cut, next_lines, after_spot, SpotOf, begins, goes_on, Nested, flat_spot}
+use Rattle.lh_inlined.proofs.CopyPieces.{CopyPiece, next_cut, next_lines, after_copy_piece, CopyPieceOf, begins, goes_on, Nested, flat_copy_piece}
 use Rattle.lh_inlined.proofs.Lines.{define-left}
 use Rattle.lh_inlined.proofs.Splits.{LineOf, is_merge, is_copied, is_branch, line-of}
-use Rattle.lh_inlined.proofs.Paths.{as_block, IsGood, CallIsGood, There, Located, Step, jumps, returns, enters, spot-block, spot-lines, whole-block, value-there, nested-right}
+use Rattle.lh_inlined.proofs.Paths.{as_block, IsGood, CallIsGood, There, Located, Step, jumps, returns, enters, copy_piece-block, copy_piece-lines, whole-block, value-there, nested-right}
 
--- the label of the piece in which a block ends, by any spot of it
-pub spot-last : (fs : List UnitText) (c : Copy) (s : Spot) → SpotOf fs c s → last_from fs c (label_or s.block.label) s.label s.number s.rest ≡ last_piece fs c s.block
-spot-last fs c _ (begins b h) = refl
-spot-last fs c _ (goes_on s h z e) = sym (last-cut fs c (label_or s.block.label) s.label s.number s.rest ∙ ap (λ o. last_by fs c (label_or s.block.label) o s.label) e) ∙ spot-last fs c s h
+-- the label of the piece in which a block ends, by any piece of it
+pub copy_piece-last : (fs : List UnitText) (c : Copy) (s : CopyPiece) → CopyPieceOf fs c s → last_from fs c (label_or s.block.label) s.label s.number s.rest ≡ last_piece fs c s.block
+copy_piece-last fs c _ (begins b h) = refl
+copy_piece-last fs c _ (goes_on s h z e) = sym (last-cut fs c (label_or s.block.label) s.label s.number s.rest ∙ ap (λ o. last_by fs c (label_or s.block.label) o s.label) e) ∙ copy_piece-last fs c s h
 
 -- where no call is behind it, that is its own
-pub own-last : (fs : List UnitText) (c : Copy) (s : Spot) → SpotOf fs c s → next_cut fs c s ≡ None → s.label ≡ last_piece fs c s.block
-own-last fs c s h e = sym (last-cut fs c (label_or s.block.label) s.label s.number s.rest ∙ ap (λ o. last_by fs c (label_or s.block.label) o s.label) e) ∙ spot-last fs c s h
+pub own-last : (fs : List UnitText) (c : Copy) (s : CopyPiece) → CopyPieceOf fs c s → next_cut fs c s ≡ None → s.label ≡ last_piece fs c s.block
+own-last fs c s h e = sym (last-cut fs c (label_or s.block.label) s.label s.number s.rest ∙ ap (λ o. last_by fs c (label_or s.block.label) o s.label) e) ∙ copy_piece-last fs c s h
 
 -- ---- what a merge has of a copy
 
@@ -46,7 +46,16 @@ given-in d label (l ∷ ls) e a = by (λ b. later (given-in d label ls e b)) l.i
     later r = record { before = l ∷ r.before; line = r.line; after = r.after; splits = ap (λ ms. l ∷ ms) r.splits; operand = r.operand; ret = r.ret; value = r.value; block = r.block }
 
     by : (Among (given_in d label ls) e → GivenBy d label (l ∷ ls) e) → (i : InstText) → l.inst ≡ i → Among (edge_if_given d label i (given_in d label ls)) e → GivenBy d label (l ∷ ls) e
-    by go (ret_text (Some o)) q (inl h) = record { before = []; line = l; after = ls; splits = refl; operand = o; ret = q; value = ap (λ (x : EdgeText). x.value) (sym h); block = ap (λ (x : EdgeText). x.block) (sym h) }
+    by go (ret_text (Some o)) q (inl h) = record {
+      before = [];
+      line = l;
+      after = ls;
+      splits = refl;
+      operand = o;
+      ret = q;
+      value = ap (λ (x : EdgeText). x.value) (sym h);
+      block = ap (λ (x : EdgeText). x.block) (sym h);
+    }
     by go (ret_text (Some o)) q (inr b) = go b
     by go (ret_text None) q b = go b
     by go (const_text x) q b = go b
@@ -75,7 +84,8 @@ pub given-by : (fs : List UnitText) (d : Copy) (bs : List BlockText) (e : EdgeTe
 given-by fs d [] e a = elim a [ ]
 given-by fs d (b ∷ bs) e a = by (among-parts (given_in d (last_piece fs d b) b.lines) _ e a) (given-by fs d bs e)
   where
-    by : (Among (given_in d (last_piece fs d b) b.lines) e ⊎ Among (flat_map (λ (b : BlockText). given_in d (last_piece fs d b) b.lines) bs) e) → (Among (flat_map (λ (b : BlockText). given_in d (last_piece fs d b) b.lines) bs) e → GivenIn fs d bs e) → GivenIn fs d (b ∷ bs) e
+    by : (Among (given_in d (last_piece fs d b) b.lines) e ⊎ Among (flat_map (λ (b : BlockText). given_in d (last_piece fs d b) b.lines) bs) e)
+        → (Among (flat_map (λ (b : BlockText). given_in d (last_piece fs d b) b.lines) bs) e → GivenIn fs d bs e) → GivenIn fs d (b ∷ bs) e
     by (inl h) more = record { from = b; is_one = inl refl; given = given-in d (last_piece fs d b) b.lines e h }
     by (inr h) more = let r = more h in record { from = r.from; is_one = inr r.is_one; given = r.given }
 
@@ -141,100 +151,115 @@ differ b e f = cc
 pub record PhisAreGood (v : UnitText) : Type 0 where
   pub edges : (d : BlockText) (before after : List LineText) (l : LineText) (ty : TypeTree) (es : List EdgeText) → Among v.blocks d → d.lines ≡ before ++ l ∷ after → l.inst ≡ phi_text ty es
       → (e : EdgeText) → Among es e → ((b : BlockText) × (block_of e.block v.blocks ≡ Some b) × Among v.blocks b) × IsThereOnEdge v (label_or d.label) e
-  pub first : (d : BlockText) (before after : List LineText) (l : LineText) → Among v.blocks d → d.lines ≡ before ++ l ∷ after → is_phi l.inst ≡ true → (k : LineText) → Among before k → is_phi k.inst ≡ true
+  pub first : (d : BlockText) (before after : List LineText) (l : LineText) → Among v.blocks d → d.lines ≡ before ++ l ∷ after → is_phi l.inst ≡ true → (k : LineText) → Among before k
+      → is_phi k.inst ≡ true
   pub entry : (b : BlockText) (more : List BlockText) → v.blocks ≡ b ∷ more → (before after : List LineText) (l : LineText) → b.lines ≡ before ++ l ∷ after → is_phi l.inst ≡ false
 
 module _ (fs : List UnitText) (u x : UnitText) (args : x.args ≡ u.args)
-    (good : (k : ℕ) (c : Copy) → Nested fs u k c → IsGood fs c.unit) (calls : (k : ℕ) (c : Copy) → Nested fs u k c → (s : Spot) → SpotOf fs c s → (z : Cut) → next_cut fs c s ≡ Some z → CallIsGood fs c z)
-    (deep : (c : Copy) → Nested fs u zero c → (s : Spot) → SpotOf fs c s → (z : Cut) → next_cut fs c s ≡ Some z → ⊥)
+    (good : (k : ℕ) (c : Copy) → Nested fs u k c → IsGood fs c.unit) (calls : (k : ℕ) (c : Copy) → Nested fs u k c → (s : CopyPiece) → CopyPieceOf fs c s → (z : Cut) → next_cut fs c s ≡ Some z
+    → CallIsGood fs c z)
+    (deep : (c : Copy) → Nested fs u zero c → (s : CopyPiece) → CopyPieceOf fs c s → (z : Cut) → next_cut fs c s ≡ Some z → ⊥)
     (no_ret : (b : BlockText) (before after : List LineText) (l : LineText) → Among u.blocks b → b.lines ≡ before ++ l ∷ after → (o : Option OperandText) → l.inst ≡ ret_text o → ⊥)
     (phis : (k : ℕ) (c : Copy) → Nested fs u k c → PhisAreGood c.unit)
     (apart : (k : ℕ) (c : Copy) → Nested fs u k c → (b d : BlockText) → Among c.unit.blocks b → Among c.unit.blocks d → last_piece fs c b ≡ last_piece fs c d → b ≡ d)
     (blocks : x.blocks ≡ map as_block (flat_copy (suc max_nested) fs (top_copy u)))
-    (once : (k : ℕ) (c : Copy) → Nested fs u k c → (s : Spot) → SpotOf fs c s → block_of s.label x.blocks ≡ Some (as_block (flat_spot fs k c s)))
+    (once : (k : ℕ) (c : Copy) → Nested fs u k c → (s : CopyPiece) → CopyPieceOf fs c s → block_of s.label x.blocks ≡ Some (as_block (flat_copy_piece fs k c s)))
     (begin : (b : BlockText) × (more : List BlockText) × (u.blocks ≡ b ∷ more)) where
   module _ (last : BlockText) (earlier : List BlockText) (at : Located fs u x args last earlier) (e : EdgeText) (named : label_or last.label ≡ e.block) where
-    block-is : Among at.copy.unit.blocks at.spot.block
-    block-is = (spot-block fs at.copy at.spot at.of).0
+    block-is : Among at.copy.unit.blocks at.piece.block
+    block-is = (copy_piece-block fs at.copy at.piece at.of).0
 
-    -- the edge names the piece in which the spot's block ends
-    ends-there : next_cut fs at.copy at.spot ≡ None → last_piece fs at.copy at.spot.block ≡ e.block
-    ends-there none = sym (own-last fs at.copy at.spot at.of none) ∙ sym (ap (λ (b : BlockText). label_or b.label) at.is) ∙ named
+    -- the edge names the piece in which the piece's block ends
+    ends-there : next_cut fs at.copy at.piece ≡ None → last_piece fs at.copy at.piece.block ≡ e.block
+    ends-there none = sym (own-last fs at.copy at.piece at.of none) ∙ sym (ap (λ (b : BlockText). label_or b.label) at.is) ∙ named
 
     -- a value that is there at some line of the block
-    there-at : next_cut fs at.copy at.spot ≡ None → (n : List ℕ) → IsThere at.copy.unit at.spot.block at.spot.block.lines n → There fs u x args (last ∷ earlier) (at.copy.value n)
-    there-at none n h = value-there fs u x args good calls deep no_ret last earlier at n (subst (λ ls. IsThere at.copy.unit at.spot.block ls n) (whole-block fs last at.depth at.copy at.spot at.of at.is none) h)
+    there-at : next_cut fs at.copy at.piece ≡ None → (n : List ℕ) → IsThere at.copy.unit at.piece.block at.piece.block.lines n → There fs u x args (last ∷ earlier) (at.copy.value n)
+    there-at none n h = value-there fs u x args good calls deep no_ret last earlier at n
+        (subst (λ ls. IsThere at.copy.unit at.piece.block ls n) (whole-block fs last at.depth at.copy at.piece at.of at.is none) h)
 
     -- a copied `phi`, within the copy
-    within-copy : next_cut fs at.copy at.spot ≡ None → (d : BlockText) → Among at.copy.unit.blocks d → has_edge at.spot.block (label_or d.label) ≡ true → (before after : List LineText) (k : LineText) → d.lines ≡ before ++ k ∷ after
+    within-copy : next_cut fs at.copy at.piece ≡ None → (d : BlockText) → Among at.copy.unit.blocks d → has_edge at.piece.block (label_or d.label) ≡ true
+        → (before after : List LineText) (k : LineText) → d.lines ≡ before ++ k ∷ after
         → (ty : TypeTree) (es : List EdgeText) → copied fs at.copy k.inst ≡ phi_text ty es → Among es e → There fs u x args (last ∷ earlier) e.value
     within-copy none d b edge before after k q ty es i a =
         let f = phi-of fs at.copy k.inst ty es i in
         let m = among-map (copied_edge fs at.copy) f.edges e (subst (λ xs. Among xs e) f.copies a) in
         let g = (phis at.depth at.copy at.nested).edges d before after k f.ty f.edges b q f.is m.0 m.1 in
-        let one : last_piece fs at.copy at.spot.block ≡ last_piece fs at.copy g.0.0 =
+        let one : last_piece fs at.copy at.piece.block ≡ last_piece fs at.copy g.0.0 =
         ends-there none ∙ ap (λ (x : EdgeText). x.block) m.2 ∙ ap (λ o. option_map_or (last_piece fs at.copy) o (first_piece at.copy m.0.block)) g.0.1 in
-        let same : at.spot.block ≡ g.0.0 = apart at.depth at.copy at.nested at.spot.block g.0.0 block-is g.0.2 one in
+        let same : at.piece.block ≡ g.0.0 = apart at.depth at.copy at.nested at.piece.block g.0.0 block-is g.0.2 one in
         subst (There fs u x args (last ∷ earlier)) (sym (ap (λ (x : EdgeText). x.value) m.2))
-        (there-at none m.0.value (g.1 at.spot.block (g.0.1 ∙ ap Some (sym same)) edge))
+        (there-at none m.0.value (g.1 at.piece.block (g.0.1 ∙ ap Some (sym same)) edge))
 
     -- what a `ret` gives to a merge
-    from-ret : next_cut fs at.copy at.spot ≡ None → GivenIn fs at.copy at.copy.unit.blocks e → There fs u x args (last ∷ earlier) e.value
+    from-ret : next_cut fs at.copy at.piece ≡ None → GivenIn fs at.copy at.copy.unit.blocks e → There fs u x args (last ∷ earlier) e.value
     from-ret none g =
-        let same : at.spot.block ≡ g.from = apart at.depth at.copy at.nested at.spot.block g.from block-is g.is_one (ends-there none ∙ g.given.block) in
-        let lines : at.spot.block.lines ≡ g.given.before ++ g.given.line ∷ g.given.after = ap (λ (b : BlockText). b.lines) same ∙ g.given.splits in
-        let there : IsThere at.copy.unit at.spot.block g.given.before g.given.operand.value =
-        (good at.depth at.copy at.nested).there at.spot.block g.given.before g.given.after g.given.line block-is lines (ap is_phi g.given.ret) g.given.operand.value
+        let same : at.piece.block ≡ g.from = apart at.depth at.copy at.nested at.piece.block g.from block-is g.is_one (ends-there none ∙ g.given.block) in
+        let lines : at.piece.block.lines ≡ g.given.before ++ g.given.line ∷ g.given.after = ap (λ (b : BlockText). b.lines) same ∙ g.given.splits in
+        let there : IsThere at.copy.unit at.piece.block g.given.before g.given.operand.value =
+        (good at.depth at.copy at.nested).there at.piece.block g.given.before g.given.after g.given.line block-is lines (ap is_phi g.given.ret) g.given.operand.value
         (subst (λ i. Among (values_named i) g.given.operand.value) (sym g.given.ret) (inl refl)) in
         subst (There fs u x args (last ∷ earlier)) (sym g.given.value) (there-at none g.given.operand.value (wider g.given.before g.given.line g.given.after g.given.operand.value lines there))
       where
-        wider : (before : List LineText) (l : LineText) (after : List LineText) (n : List ℕ) → at.spot.block.lines ≡ before ++ l ∷ after → IsThere at.copy.unit at.spot.block before n → IsThere at.copy.unit at.spot.block at.spot.block.lines n
+        wider : (before : List LineText) (l : LineText) (after : List LineText) (n : List ℕ) → at.piece.block.lines ≡ before ++ l ∷ after → IsThere at.copy.unit at.piece.block before n
+            → IsThere at.copy.unit at.piece.block at.piece.block.lines n
         wider before l after n q (inl h) = inl h
         wider before l after n q (inr h) = inr (λ earlier path. more earlier (h earlier path))
           where
-            more : (earlier : List BlockText) → ((lines_define n before ≡ true) ⊎ (blocks_define n earlier ≡ true)) → (lines_define n at.spot.block.lines ≡ true) ⊎ (blocks_define n earlier ≡ true)
+            more : (earlier : List BlockText) → ((lines_define n before ≡ true) ⊎ (blocks_define n earlier ≡ true)) → (lines_define n at.piece.block.lines ≡ true) ⊎ (blocks_define n earlier ≡ true)
             more earlier (inl h) = inl (ap (lines_define n) q ∙ define-left n before (l ∷ after) h)
             more earlier (inr h) = inr h
 
-    -- the block to which the edge leads is that of the next spot
+    -- the block to which the edge leads is that of the next piece
     pub phi-there : (y : BlockText) (before after : List LineText) (l : LineText) (ty : TypeTree) (es : List EdgeText) → y.lines ≡ before ++ l ∷ after → l.inst ≡ phi_text ty es → Among es e
-        → (k : ℕ) (c : Copy) (n : Nested fs u k c) (s : Spot) → SpotOf fs c s → y ≡ as_block (flat_spot fs k c s) → Step fs u x args at.copy at.spot c s → There fs u x args (last ∷ earlier) e.value
+        → (k : ℕ) (c : Copy) (n : Nested fs u k c) (s : CopyPiece) → CopyPieceOf fs c s → y ≡ as_block (flat_copy_piece fs k c s) → Step fs u x args at.copy at.piece c s
+        → There fs u x args (last ∷ earlier) e.value
     phi-there y before after l ty es q i a k c n s h is step =
-        by (line-of fs c s (flat_copy k fs) before after l (sym (ap (λ (b : BlockText). b.lines) is ∙ ap (with_merge s.merge) (spot-lines fs u x args good calls deep no_ret k c s)) ∙ q)) step
+        by (line-of fs c s (flat_copy k fs) before after l (sym (ap (λ (b : BlockText). b.lines) is ∙ ap (with_merge s.merge) (copy_piece-lines fs u x args good calls deep no_ret k c s)) ∙ q)) step
       where
-        lines-of : (start : List LineText) (j : LineText) (rest : List LineText) → next_lines fs c s ≡ start ++ j ∷ rest → s.block.lines ≡ (s.before ++ start) ++ j ∷ (rest ++ behind fs c (label_or s.block.label) (next_cut fs c s))
+        lines-of : (start : List LineText) (j : LineText) (rest : List LineText) → next_lines fs c s ≡ start ++ j ∷ rest
+            → s.block.lines ≡ (s.before ++ start) ++ j ∷ (rest ++ behind fs c (label_or s.block.label) (next_cut fs c s))
         lines-of start j rest r =
-            (spot-block fs c s h).1
-            ∙ ap (λ ls. s.before ++ ls) (lines-cut fs c (label_or s.block.label) s.number s.rest ∙ ap (λ ls. ls ++ behind fs c (label_or s.block.label) (next_cut fs c s)) r ∙ nested-right start (j ∷ rest) _)
+            (copy_piece-block fs c s h).1
+            ∙ ap (λ ls. s.before ++ ls) (lines-cut fs c (label_or s.block.label) s.number s.rest ∙ ap (λ ls. ls ++ behind fs c (label_or s.block.label) (next_cut fs c s)) r
+            ∙ nested-right start (j ∷ rest) _)
             ∙ sym (nested-right s.before start _)
 
-        by : LineOf fs c s before l → Step fs u x args at.copy at.spot c s → There fs u x args (last ∷ earlier) e.value
+        by : LineOf fs c s before l → Step fs u x args at.copy at.piece c s → There fs u x args (last ∷ earlier) e.value
         by (is_branch z r f) st = elim (no-branch z.copy l ty es f i) [ ]
         by (is_merge m r f b) st = merge-step st m r (ap (λ (j : LineText). j.inst) (sym f) ∙ i)
           where
             edges-are : (m : MergeText) → phi_text m.ty m.edges ≡ phi_text ty es → m.edges ≡ es
             edges-are m g = cc
 
-            merge-step : {c' : Copy} {s' : Spot} → Step fs u x args at.copy at.spot c' s' → (m : MergeText) → s'.merge ≡ Some m → phi_text m.ty m.edges ≡ phi_text ty es → There fs u x args (last ∷ earlier) e.value
+            merge-step : {c' : Copy} {s' : CopyPiece} → Step fs u x args at.copy at.piece c' s' → (m : MergeText) → s'.merge ≡ Some m → phi_text m.ty m.edges ≡ phi_text ty es
+                → There fs u x args (last ∷ earlier) e.value
             merge-step (jumps d b none edge) m r g = elim (nothing-is m r) [ ]
             merge-step (enters z r' b more bs) m r g = elim (nothing-is m r) [ ]
             merge-step (returns k' c' n' s' h' z r' zc none ret) m r g =
-                from-ret none (given-by fs at.copy at.copy.unit.blocks e (subst (λ xs. Among xs e) (sym (edges-are m g) ∙ merge-edges fs c' z.copy z.line.inst z.line.result m r ∙ ap (given_by fs) zc) a))
+                from-ret none (given-by fs at.copy at.copy.unit.blocks e
+                (subst (λ xs. Among xs e) (sym (edges-are m g) ∙ merge-edges fs c' z.copy z.line.inst z.line.result m r ∙ ap (given_by fs) zc) a))
         by (is_copied start j rest r f b) st = copied-step st start j rest r (ap (λ (j : LineText). j.inst) (sym f) ∙ i) h n
           where
-            copied-step : {c' : Copy} {s' : Spot} → Step fs u x args at.copy at.spot c' s' → (start : List LineText) (j : LineText) (rest : List LineText) → next_lines fs c' s' ≡ start ++ j ∷ rest → copied fs c' j.inst ≡ phi_text ty es → SpotOf fs c' s' → Nested fs u k c' → There fs u x args (last ∷ earlier) e.value
+            copied-step : {c' : Copy} {s' : CopyPiece} → Step fs u x args at.copy at.piece c' s' → (start : List LineText) (j : LineText) (rest : List LineText)
+                → next_lines fs c' s' ≡ start ++ j ∷ rest → copied fs c' j.inst ≡ phi_text ty es → CopyPieceOf fs c' s' → Nested fs u k c' → There fs u x args (last ∷ earlier) e.value
             copied-step (jumps d b none edge) start j rest r g h' n' =
-                within-copy none d b edge start _ j (lines-cut fs at.copy (label_or d.label) 0 d.lines ∙ ap (λ ls. ls ++ behind fs at.copy (label_or d.label) (cut fs at.copy (label_or d.label) 0 d.lines)) r ∙ nested-right start (j ∷ rest) _) ty es g a
+                within-copy none d b edge start _ j (lines-cut fs at.copy (label_or d.label) 0 d.lines
+                ∙ ap (λ ls. ls ++ behind fs at.copy (label_or d.label) (cut fs at.copy (label_or d.label) 0 d.lines)) r ∙ nested-right start (j ∷ rest) _) ty es g a
             copied-step (enters z r' b more bs) start j rest r g h' n' =
                 let f = phi-of fs z.copy j.inst ty es g in
-                let no : is_phi j.inst ≡ false = (phis k z.copy n').entry b more bs start _ j (lines-cut fs z.copy (label_or b.label) 0 b.lines ∙ ap (λ ls. ls ++ behind fs z.copy (label_or b.label) (cut fs z.copy (label_or b.label) 0 b.lines)) r ∙ nested-right start (j ∷ rest) _) in
+                let no : is_phi j.inst ≡ false = (phis k z.copy n').entry b more bs start _ j (lines-cut fs z.copy (label_or b.label) 0 b.lines
+                ∙ ap (λ ls. ls ++ behind fs z.copy (label_or b.label) (cut fs z.copy (label_or b.label) 0 b.lines)) r ∙ nested-right start (j ∷ rest) _) in
                 elim (differ (is_phi j.inst) no (ap is_phi f.is)) [ ]
             copied-step (returns k' c' n0 s' h0 z r' zc none ret) start j rest r g h' n' =
                 let f = phi-of fs c' j.inst ty es g in
-                let lines : s'.block.lines ≡ (((s'.before ++ next_lines fs c' s') ++ z.line ∷ []) ++ start) ++ j ∷ (rest ++ behind fs c' (label_or s'.block.label) (cut fs c' (label_or s'.block.label) (z.number + 1) z.rest)) =
-                (spot-block fs c' (after_spot fs c' s' z) h').1
-                ∙ ap (λ ls. ((s'.before ++ next_lines fs c' s') ++ z.line ∷ []) ++ ls) (lines-cut fs c' (label_or s'.block.label) (z.number + 1) z.rest ∙ ap (λ ls. ls ++ behind fs c' (label_or s'.block.label) (cut fs c' (label_or s'.block.label) (z.number + 1) z.rest)) r ∙ nested-right start (j ∷ rest) _)
+                let lines : s'.block.lines ≡ (((s'.before ++ next_lines fs c' s') ++ z.line ∷ []) ++ start) ++ j
+                ∷ (rest ++ behind fs c' (label_or s'.block.label) (cut fs c' (label_or s'.block.label) (z.number + 1) z.rest)) =
+                (copy_piece-block fs c' (after_copy_piece fs c' s' z) h').1
+                ∙ ap (λ ls. ((s'.before ++ next_lines fs c' s') ++ z.line ∷ []) ++ ls) (lines-cut fs c' (label_or s'.block.label) (z.number + 1) z.rest
+                ∙ ap (λ ls. ls ++ behind fs c' (label_or s'.block.label) (cut fs c' (label_or s'.block.label) (z.number + 1) z.rest)) r ∙ nested-right start (j ∷ rest) _)
                 ∙ sym (nested-right ((s'.before ++ next_lines fs c' s') ++ z.line ∷ []) start _) in
-                let yes : is_phi z.line.inst ≡ true = (phis k c' n').first s'.block _ _ j (spot-block fs c' s' h0).0 lines (ap is_phi f.is) z.line
+                let yes : is_phi z.line.inst ≡ true = (phis k c' n').first s'.block _ _ j (copy_piece-block fs c' s' h0).0 lines (ap is_phi f.is) z.line
                 (among-left ((s'.before ++ next_lines fs c' s') ++ z.line ∷ []) start z.line (among-right (s'.before ++ next_lines fs c' s') (z.line ∷ []) z.line (inl refl))) in
                 elim (differ (is_phi z.line.inst) (calls k' c' n0 s' h0 z r').no_phi yes) [ ]

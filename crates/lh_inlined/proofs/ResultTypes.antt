@@ -73,7 +73,8 @@ types-written : (args : List OperandText) (r : TypeRow) → operand_types args �
 types-written [] r e = same_Some no_types r e
 types-written (o ∷ args) r e = by o.ty (operand_types args) refl e (types-written args)
   where
-    by : (t : Option TypeTree) (ts : Option TypeRow) → operand_types args ≡ ts → with_type t ts ≡ Some r → ((r : TypeRow) → operand_types args ≡ Some r → row_of (written_types args) ≡ r) → row_of (elim t [ None ↦ written_types args | Some t ↦ t ∷ written_types args ]) ≡ r
+    by : (t : Option TypeTree) (ts : Option TypeRow) → operand_types args ≡ ts → with_type t ts ≡ Some r → ((r : TypeRow) → operand_types args ≡ Some r → row_of (written_types args) ≡ r)
+        → row_of (elim t [ None ↦ written_types args | Some t ↦ t ∷ written_types args ]) ≡ r
     by None ts q p go = absurd (none-some r p)
     by (Some t) None q p go = absurd (none-some r p)
     by (Some t) (Some s) q p go = ap (more_types t) (go s q) ∙ same_Some (more_types t s) r p
@@ -183,15 +184,18 @@ module _ (fs : List UnitText) (c : Copy) (copy_of : Copy → List FlatBlockText)
   pieces-typed label k (l ∷ ls) h = with-line-typed (call_path c label k) l (pieces_from copy_of fs c label (k + 1) ls) h.0 (pieces-typed label (k + 1) ls h.1)
 
   block-typed : (b : BlockText) → Each IsTypedCode b.lines → AllTyped (flat_block copy_of fs c b)
-  block-typed b h = let p = pieces-typed (label_or b.label) 0 b.lines h in Each-append IsTyped (pieces_from copy_of fs c (label_or b.label) 0 b.lines).rest (lines_of (map as_block (pieces_from copy_of fs c (label_or b.label) 0 b.lines).more)) p.0 p.1
+  block-typed b h = let p = pieces-typed (label_or b.label) 0 b.lines h in
+      Each-append IsTyped (pieces_from copy_of fs c (label_or b.label) 0 b.lines).rest (lines_of (map as_block (pieces_from copy_of fs c (label_or b.label) 0 b.lines).more)) p.0 p.1
 
   blocks-typed : (bs : List BlockText) → Each IsTypedCode (lines_of bs) → AllTyped (flat_map (flat_block copy_of fs c) bs)
   blocks-typed [] h = tt
   blocks-typed (b ∷ bs) h =
-      typed-append (flat_block copy_of fs c b) (flat_map (flat_block copy_of fs c) bs) (block-typed b (Each-left IsTypedCode b.lines (lines_of bs) h)) (blocks-typed bs (Each-right IsTypedCode b.lines (lines_of bs) h))
+      typed-append (flat_block copy_of fs c b) (flat_map (flat_block copy_of fs c) bs) (block-typed b (Each-left IsTypedCode b.lines (lines_of bs) h))
+      (blocks-typed bs (Each-right IsTypedCode b.lines (lines_of bs) h))
 
 -- each line of a flat text is typed, where those of its units are
-pub copies-typed : (fs : List UnitText) → ((n : UnitName) (f : UnitText) → function_named n fs ≡ Some f → Each IsTypedCode (lines_of f.blocks)) → (k : ℕ) (c : Copy) → Each IsTypedCode (lines_of c.unit.blocks) → Each IsTyped (lines_of (map as_block (flat_copy k fs c)))
+pub copies-typed : (fs : List UnitText) → ((n : UnitName) (f : UnitText) → function_named n fs ≡ Some f → Each IsTypedCode (lines_of f.blocks)) → (k : ℕ) (c : Copy)
+    → Each IsTypedCode (lines_of c.unit.blocks) → Each IsTyped (lines_of (map as_block (flat_copy k fs c)))
 copies-typed fs functions zero c h = tt
 copies-typed fs functions (suc k) c h =
     blocks-typed fs c (flat_copy k fs) (λ path i d e. let o : Opens fs c path i d = opens-is fs c path i d e in copies-typed fs functions k d (functions o.callee d.unit o.named)) c.unit.blocks h

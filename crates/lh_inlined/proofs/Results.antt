@@ -123,7 +123,8 @@ results-apart args seen (l ∷ ls) h =
         let f : same_name m n ≡ false = ap (is_result_name n) (sym e) ∙ (define-parts n seen l k.1).1 in
         let t : same_name m n ≡ true = is_same m n q in cc
 
-    by : (r : Option (List ℕ)) → l.result ≡ r → result_repeats args seen r ≡ false → Apart (results ls) × Each (IsNewIn args (seen ++ l ∷ [])) (results ls) → Apart (named r (results ls)) × Each (IsNewIn args seen) (named r (results ls))
+    by : (r : Option (List ℕ)) → l.result ≡ r → result_repeats args seen r ≡ false → Apart (results ls) × Each (IsNewIn args (seen ++ l ∷ [])) (results ls) → Apart (named r (results ls))
+        × Each (IsNewIn args seen) (named r (results ls))
     by None e p k = (k.0, Each-more (IsNewIn args (seen ++ l ∷ [])) (IsNewIn args seen) (results ls) earlier k.1)
     by (Some m) e p k = (
       (differs-from (IsNewIn args (seen ++ l ∷ [])) m (results ls) k.1 (λ n q. other m n e q), k.0),
@@ -182,12 +183,14 @@ module _ (fs : List UnitText) (c : Copy) (copy_of : Copy → List FlatBlockText)
   -- ---- the lines of a block
 
   -- a merge gives what the call gave
-  merge-named : (d : Copy) (path : List ℕ) (i : InstText) (r : Option (List ℕ)) (ls : List LineText) → opened fs c path i ≡ Some d → results (with_merge (merge_of fs c d i r) ls) ≡ named (option_map c.value r) (results ls)
+  merge-named : (d : Copy) (path : List ℕ) (i : InstText) (r : Option (List ℕ)) (ls : List LineText) → opened fs c path i ≡ Some d
+      → results (with_merge (merge_of fs c d i r) ls) ≡ named (option_map c.value r) (results ls)
   merge-named d path i r ls e =
       let o : Opens fs c path i d = opens-is fs c path i d e in
       ap (λ j. results (with_merge (merge_of fs c d j r) ls)) o.inst ∙ by r
     where
-      by : (r : Option (List ℕ)) → results (with_merge (merge_of fs c d (call_text (opens-is fs c path i d e).callee (opens-is fs c path i d e).ty (opens-is fs c path i d e).args) r) ls) ≡ named (option_map c.value r) (results ls)
+      by : (r : Option (List ℕ)) → results (with_merge (merge_of fs c d (call_text (opens-is fs c path i d e).callee (opens-is fs c path i d e).ty (opens-is fs c path i d e).args) r) ls)
+          ≡ named (option_map c.value r) (results ls)
       by None = refl
       by (Some n) = refl
 
@@ -214,7 +217,8 @@ module _ (fs : List UnitText) (c : Copy) (copy_of : Copy → List FlatBlockText)
     earlier k ns x (inr w) = inr (from-later c.path m k x w)
 
     -- the results of a copy, and those behind the call
-    behind-call : (k : ℕ) (ns xs ys : List (List ℕ)) → Apart xs → Each (Begins (call_path c m k)) xs → Apart ys × Each (ResultFrom c.path m (k + 1) ns) ys → Apart (xs ++ ys) × Each (ResultFrom c.path m k ns) (xs ++ ys)
+    behind-call : (k : ℕ) (ns xs ys : List (List ℕ)) → Apart xs → Each (Begins (call_path c m k)) xs → Apart ys × Each (ResultFrom c.path m (k + 1) ns) ys → Apart (xs ++ ys)
+        × Each (ResultFrom c.path m k ns) (xs ++ ys)
     behind-call k ns xs ys a b h = (
       apart-append (Begins (call_path c m k)) (ResultFrom c.path m (k + 1) ns) xs ys a h.0 b h.1 apart,
       Each-append (ResultFrom c.path m k ns) xs ys (Each-more (Begins (call_path c m k)) (ResultFrom c.path m k ns) xs (λ x w. inr (from-first c.path m k x (begins-under c.path m k x w))) b)
@@ -230,24 +234,31 @@ module _ (fs : List UnitText) (c : Copy) (copy_of : Copy → List FlatBlockText)
     LinesGive k ls p = Apart (results p.rest ++ given p.more) × Each (ResultFrom c.path m k (results ls)) (results p.rest ++ given p.more)
 
     -- one more line in front
-    line-gives : (k : ℕ) (l : LineText) (ls : List LineText) (q : Pieces) → Apart (results (l ∷ ls)) → Each IsOwn (results (l ∷ ls)) → Each (λ n. args_define n c.unit.args ≡ false) (results (l ∷ ls)) → LinesGive (k + 1) ls q
+    line-gives : (k : ℕ) (l : LineText) (ls : List LineText) (q : Pieces) → Apart (results (l ∷ ls)) → Each IsOwn (results (l ∷ ls)) → Each (λ n. args_define n c.unit.args ≡ false) (results (l ∷ ls))
+        → LinesGive (k + 1) ls q
         → LinesGive k (l ∷ ls) (with_line copy_of fs c l (opened fs c (call_path c m k) l.inst) q)
     line-gives k l ls q a o n behind = by (opened fs c (call_path c m k) l.inst) refl
       where
-        here : Apart (named (option_map c.value l.result) (results q.rest ++ given q.more)) × Each (ResultFrom c.path m (k + 1) (results (l ∷ ls))) (named (option_map c.value l.result) (results q.rest ++ given q.more))
+        here : Apart (named (option_map c.value l.result) (results q.rest ++ given q.more))
+            × Each (ResultFrom c.path m (k + 1) (results (l ∷ ls))) (named (option_map c.value l.result) (results q.rest ++ given q.more))
         here = with-result (k + 1) l.result (results ls) (results q.rest ++ given q.more) a o n behind
 
         by : (x : Option Copy) → opened fs c (call_path c m k) l.inst ≡ x → LinesGive k (l ∷ ls) (with_line copy_of fs c l x q)
         by None e =
-            subst (λ ns. Apart ns × Each (ResultFrom c.path m k (results (l ∷ ls))) ns) (named-append (option_map c.value l.result) (results q.rest) (given q.more))
-            (here.0, Each-more (ResultFrom c.path m (k + 1) (results (l ∷ ls))) (ResultFrom c.path m k (results (l ∷ ls))) (named (option_map c.value l.result) (results q.rest ++ given q.more)) (earlier k (results (l ∷ ls))) here.1)
+            subst (λ ns. Apart ns × Each (ResultFrom c.path m k (results (l ∷ ls))) ns) (named-append (option_map c.value l.result) (results q.rest) (given q.more)) (
+              here.0,
+              Each-more (ResultFrom c.path m (k + 1) (results (l ∷ ls))) (ResultFrom c.path m k (results (l ∷ ls))) (named (option_map c.value l.result) (results q.rest ++ given q.more))
+                  (earlier k (results (l ∷ ls))) here.1,
+            )
         by (Some d) e =
             let D : FlatBlockText = record { label = d.path; merge = merge_of fs c d l.inst l.result; lines = q.rest } in
             let copy : (d.path ≡ call_path c m k) × CopyGives copy_of d = copies (call_path c m k) l.inst d e in
             let tail : given (D ∷ q.more) ≡ named (option_map c.value l.result) (results q.rest ++ given q.more) =
-            results-append (with_merge D.merge q.rest) (lines_of (map as_block q.more)) ∙ ap (λ ns. ns ++ given q.more) (merge-named d (call_path c m k) l.inst l.result q.rest e) ∙ sym (named-append (option_map c.value l.result) (results q.rest) (given q.more)) in
+            results-append (with_merge D.merge q.rest) (lines_of (map as_block q.more)) ∙ ap (λ ns. ns ++ given q.more) (merge-named d (call_path c m k) l.inst l.result q.rest e)
+            ∙ sym (named-append (option_map c.value l.result) (results q.rest) (given q.more)) in
             subst (λ ns. Apart ns × Each (ResultFrom c.path m k (results (l ∷ ls))) ns) (sym (given-append (copy_of d) (D ∷ q.more) ∙ ap (λ ns. given (copy_of d) ++ ns) tail))
-            (behind-call k (results (l ∷ ls)) (given (copy_of d)) (named (option_map c.value l.result) (results q.rest ++ given q.more)) copy.1.0 (subst (λ p. Each (Begins p) (given (copy_of d))) copy.0 copy.1.1) here)
+            (behind-call k (results (l ∷ ls)) (given (copy_of d)) (named (option_map c.value l.result) (results q.rest ++ given q.more)) copy.1.0
+            (subst (λ p. Each (Begins p) (given (copy_of d))) copy.0 copy.1.1) here)
 
     named-apart : (r : Option (List ℕ)) (ns : List (List ℕ)) → Apart (named r ns) → Apart ns
     named-apart None ns h = h
@@ -257,7 +268,8 @@ module _ (fs : List UnitText) (c : Copy) (copy_of : Copy → List FlatBlockText)
     named-each P None ns h = h
     named-each P (Some x) ns h = h.1
 
-    lines-give : (k : ℕ) (ls : List LineText) → Apart (results ls) → Each IsOwn (results ls) → Each (λ n. args_define n c.unit.args ≡ false) (results ls) → LinesGive k ls (pieces_from copy_of fs c m k ls)
+    lines-give : (k : ℕ) (ls : List LineText) → Apart (results ls) → Each IsOwn (results ls) → Each (λ n. args_define n c.unit.args ≡ false) (results ls)
+        → LinesGive k ls (pieces_from copy_of fs c m k ls)
     lines-give k [] a o n = (tt, tt)
     lines-give k (l ∷ ls) a o n =
         line-gives k l ls (pieces_from copy_of fs c m (k + 1) ls) a o n
@@ -269,7 +281,8 @@ module _ (fs : List UnitText) (c : Copy) (copy_of : Copy → List FlatBlockText)
   BlocksGive bs ys = Apart (given ys) × Each (ResultIn c.path (results (lines_of bs)) (labels_in bs)) (given ys)
 
   -- one more block in front
-  block-gives : (b : BlockText) (bs : List BlockText) (ys : List FlatBlockText) → Apart (results (lines_of (b ∷ bs))) → Each IsOwn (results (lines_of (b ∷ bs))) → Each (λ n. args_define n c.unit.args ≡ false) (results (lines_of (b ∷ bs))) → Each IsOwn (labels_in (b ∷ bs)) → Apart (labels_in (b ∷ bs))
+  block-gives : (b : BlockText) (bs : List BlockText) (ys : List FlatBlockText) → Apart (results (lines_of (b ∷ bs))) → Each IsOwn (results (lines_of (b ∷ bs)))
+      → Each (λ n. args_define n c.unit.args ≡ false) (results (lines_of (b ∷ bs))) → Each IsOwn (labels_in (b ∷ bs)) → Apart (labels_in (b ∷ bs))
       → BlocksGive bs ys → BlocksGive (b ∷ bs) (flat_block copy_of fs c b ++ ys)
   block-gives b bs ys a o n l d rest =
       subst (λ ns. Apart ns × Each (ResultIn c.path (results (lines_of (b ∷ bs))) (labels_in (b ∷ bs))) ns) (sym (given-append (flat_block copy_of fs c b) ys ∙ ap (λ ns. ns ++ given ys) block)) (
@@ -301,7 +314,8 @@ module _ (fs : List UnitText) (c : Copy) (copy_of : Copy → List FlatBlockText)
       block = results-append P.rest (lines_of (map as_block P.more))
 
       first : LinesGive m 0 b.lines P
-      first = lines-give m 0 b.lines (apart-left (results b.lines) (results (lines_of bs)) once) (Each-left IsOwn (results b.lines) (results (lines_of bs)) own) (Each-left (λ n. args_define n c.unit.args ≡ false) (results b.lines) (results (lines_of bs)) new)
+      first = lines-give m 0 b.lines (apart-left (results b.lines) (results (lines_of bs)) once) (Each-left IsOwn (results b.lines) (results (lines_of bs)) own)
+          (Each-left (λ n. args_define n c.unit.args ≡ false) (results b.lines) (results (lines_of bs)) new)
 
       apart : (x y : List ℕ) → ResultFrom c.path m 0 (results b.lines) x → ResultIn c.path (results (lines_of bs)) (labels_in bs) y → x ≡ y → ⊥
       apart x y (inl w) (inl z) e = apart-across (results b.lines) (results (lines_of bs)) w.0 z.0 once w.1 z.1 (append_cancel_left c.path w.0 z.0 (sym w.3 ∙ e ∙ z.3))
@@ -309,7 +323,8 @@ module _ (fs : List UnitText) (c : Copy) (copy_of : Copy → List FlatBlockText)
       apart x y (inr w) (inl z) e = plain-under c.path z.0 m 0 y x z.2.plain z.3 w (sym e)
       apart x y (inr w) (inr z) e = differs-among m z.0 (labels_in bs) d.0 z.1 (at-apart c.path m z.0 x y l.0.plain z.2.plain (from-at c.path m 0 x w) (from-at c.path z.0 0 y z.3) e)
 
-      in-both : (ns : List (List ℕ)) (x : List ℕ) → ((n : List ℕ) → Among ns n → Among (results b.lines ++ results (lines_of bs)) n) → OwnResult c.path ns x → OwnResult c.path (results (lines_of (b ∷ bs))) x
+      in-both : (ns : List (List ℕ)) (x : List ℕ) → ((n : List ℕ) → Among ns n → Among (results b.lines ++ results (lines_of bs)) n) → OwnResult c.path ns x
+          → OwnResult c.path (results (lines_of (b ∷ bs))) x
       in-both ns x f w = (w.0, subst (λ ms. Among ms w.0) (sym both) (f w.0 w.1), w.2, w.3)
 
       from-first-block : (x : List ℕ) → ResultFrom c.path m 0 (results b.lines) x → ResultIn c.path (results (lines_of (b ∷ bs))) (labels_in (b ∷ bs)) x
@@ -320,7 +335,8 @@ module _ (fs : List UnitText) (c : Copy) (copy_of : Copy → List FlatBlockText)
       from-later-block x (inl w) = inl (in-both (results (lines_of bs)) x (λ n h. among-right (results b.lines) (results (lines_of bs)) n h) w)
       from-later-block x (inr w) = inr (w.0, inr w.1, w.2, w.3)
 
-  blocks-give : (bs : List BlockText) → Apart (results (lines_of bs)) → Each IsOwn (results (lines_of bs)) → Each (λ n. args_define n c.unit.args ≡ false) (results (lines_of bs)) → Each IsOwn (labels_in bs) → Apart (labels_in bs)
+  blocks-give : (bs : List BlockText) → Apart (results (lines_of bs)) → Each IsOwn (results (lines_of bs)) → Each (λ n. args_define n c.unit.args ≡ false) (results (lines_of bs))
+      → Each IsOwn (labels_in bs) → Apart (labels_in bs)
       → BlocksGive bs (flat_map (flat_block copy_of fs c) bs)
   blocks-give [] a o n l d = (tt, tt)
   blocks-give (b ∷ bs) a o n l d =
@@ -361,8 +377,11 @@ module _ (fs : List UnitText) (functions : (n : UnitName) (f : UnitText) → fun
   copy-gives : (k : ℕ) (c : Copy) → CopyIsOwn c → CopyGives (flat_copy k fs) c
   copy-gives zero c h = (tt, tt)
   copy-gives (suc k) c h =
-      let r = copy-in k (λ d o. copy-gives k d o) c h in
-      (r.0, Each-more (ResultIn c.path (results (lines_of c.unit.blocks)) (labels_in c.unit.blocks)) (Begins c.path) (given (flat_copy (suc k) fs c)) (in-begins c.path (results (lines_of c.unit.blocks)) (labels_in c.unit.blocks)) r.1)
+      let r = copy-in k (λ d o. copy-gives k d o) c h in (
+        r.0,
+        Each-more (ResultIn c.path (results (lines_of c.unit.blocks)) (labels_in c.unit.blocks)) (Begins c.path) (given (flat_copy (suc k) fs c))
+            (in-begins c.path (results (lines_of c.unit.blocks)) (labels_in c.unit.blocks)) r.1,
+      )
 
   -- a name with a mark is no argument, where those are of bytes
   no-argument : (args : List ArgText) (m : List ℕ) (k : ℕ) (x : List ℕ) → Each (λ (a : ArgText). IsPlain a.name) args → UnderFrom [] m k x → args_define x args ≡ false

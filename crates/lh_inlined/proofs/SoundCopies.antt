@@ -48,11 +48,13 @@ module _ (u x : UnitText) (c : Copy) (typed : (n : List ℕ) (t : TypeTree) → 
   all-like t [] h = tt
   all-like t (o ∷ more) h = (like t o h.0, all-like t more h.1)
 
-  all-fields : (args : List OperandText) → Each (λ (o : OperandText). (f : TypeTree) × (is_data f ≡ true) × IsWritten u f o) args → Each (λ (o : OperandText). (f : TypeTree) × (is_data f ≡ true) × IsWritten x f o) (map (copied_operand c) args)
+  all-fields : (args : List OperandText) → Each (λ (o : OperandText). (f : TypeTree) × (is_data f ≡ true) × IsWritten u f o) args
+      → Each (λ (o : OperandText). (f : TypeTree) × (is_data f ≡ true) × IsWritten x f o) (map (copied_operand c) args)
   all-fields [] h = tt
   all-fields (o ∷ more) h = ((h.0.0, h.0.1, written h.0.0 o h.0.2), all-fields more h.1)
 
-  all-edges : (functions : List UnitText) (t : TypeTree) (es : List EdgeText) → Each (λ (e : EdgeText). IsOf u t e.value) es → Each (λ (e : EdgeText). IsOf x t e.value) (map (copied_edge functions c) es)
+  all-edges : (functions : List UnitText) (t : TypeTree) (es : List EdgeText) → Each (λ (e : EdgeText). IsOf u t e.value) es
+      → Each (λ (e : EdgeText). IsOf x t e.value) (map (copied_edge functions c) es)
   all-edges functions t [] h = tt
   all-edges functions t (e ∷ more) h = (typed e.value t h.0, all-edges functions t more h.1)
 

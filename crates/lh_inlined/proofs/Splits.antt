@@ -5,7 +5,7 @@ use Rattle.lh_unit.specs.Named.{label_or}
 use Rattle.lh_flat.specs.Copies.{Copy, copied_line}
 use Rattle.lh_flat.specs.Flat.{MergeText, FlatBlockText, branch_into, with_merge}
 use Rattle.lh_inlined.proofs.Cuts.{Cut, ending}
-use Rattle.lh_inlined.proofs.Spots.{Spot, next_cut, next_lines}
+use Rattle.lh_inlined.proofs.CopyPieces.{CopyPiece, next_cut, next_lines}
 
 -- where a line stands in two lists one after the other
 pub data InParts {A : Type 0} (xs ys before : List A) (l : A) (after : List A) : Type 0 where
@@ -53,30 +53,35 @@ abbrev pub merge_line : MergeText → LineText
 merge_line m = record { result = Some m.value; inst = phi_text m.ty m.edges }
 
 -- what a line of a piece is, and what stands before it
-pub data LineOf (fs : List UnitText) (c : Copy) (s : Spot) (before : List LineText) (l : LineText) : Type 0 where
+pub data LineOf (fs : List UnitText) (c : Copy) (s : CopyPiece) (before : List LineText) (l : LineText) : Type 0 where
   is_merge : (m : MergeText) → s.merge ≡ Some m → l ≡ merge_line m → before ≡ [] → LineOf fs c s before l
-  is_copied : (start : List LineText) (k : LineText) (rest : List LineText) → next_lines fs c s ≡ start ++ k ∷ rest → l ≡ copied_line fs c k → before ≡ with_merge s.merge (map (copied_line fs c) start) → LineOf fs c s before l
+  is_copied : (start : List LineText) (k : LineText) (rest : List LineText) → next_lines fs c s ≡ start ++ k ∷ rest → l ≡ copied_line fs c k
+      → before ≡ with_merge s.merge (map (copied_line fs c) start) → LineOf fs c s before l
   is_branch : (z : Cut) → next_cut fs c s ≡ Some z → l ≡ branch_into z.copy → LineOf fs c s before l
 
-module _ (fs : List UnitText) (c : Copy) (s : Spot) (copy_of : Copy → List FlatBlockText) where
-  ending-line : (o : Option Cut) → next_cut fs c s ≡ o → (start : List LineText) (before after : List LineText) (l : LineText) → ending fs c (label_or s.block.label) copy_of o ≡ start ++ l ∷ after → LineOf fs c s before l
+module _ (fs : List UnitText) (c : Copy) (s : CopyPiece) (copy_of : Copy → List FlatBlockText) where
+  ending-line : (o : Option Cut) → next_cut fs c s ≡ o → (start : List LineText) (before after : List LineText) (l : LineText) → ending fs c (label_or s.block.label) copy_of o ≡ start ++ l ∷ after
+      → LineOf fs c s before l
   ending-line None e [] before after l h = cc
   ending-line None e (x ∷ start) before after l h = cc
   ending-line (Some z) e [] before after l h = is_branch z e (sym (heads (branch_into z.copy) l [] after h))
   ending-line (Some z) e (x ∷ []) before after l h = let r : [] ≡ l ∷ after = tails (branch_into z.copy) x [] (l ∷ after) h in cc
   ending-line (Some z) e (x ∷ y ∷ start) before after l h = let r : [] ≡ y ∷ (start ++ l ∷ after) = tails (branch_into z.copy) x [] (y ∷ (start ++ l ∷ after)) h in cc
 
-  plain-line : (prefix : List LineText → List LineText) → ((a : List LineText) → prefix a ≡ with_merge s.merge a) → (before after : List LineText) (l : LineText) → map (copied_line fs c) (next_lines fs c s) ++ ending fs c (label_or s.block.label) copy_of (next_cut fs c s) ≡ before ++ l ∷ after → LineOf fs c s (prefix before) l
+  plain-line : (prefix : List LineText → List LineText) → ((a : List LineText) → prefix a ≡ with_merge s.merge a) → (before after : List LineText) (l : LineText)
+      → map (copied_line fs c) (next_lines fs c s) ++ ending fs c (label_or s.block.label) copy_of (next_cut fs c s) ≡ before ++ l ∷ after → LineOf fs c s (prefix before) l
   plain-line prefix p before after l h = by (in-parts (map (copied_line fs c) (next_lines fs c s)) (ending fs c (label_or s.block.label) copy_of (next_cut fs c s)) before l after h)
     where
       by : InParts (map (copied_line fs c) (next_lines fs c s)) (ending fs c (label_or s.block.label) copy_of (next_cut fs c s)) before l after → LineOf fs c s (prefix before) l
       by (in_first rest e f) = let r = in-map (copied_line fs c) (next_lines fs c s) before l rest e in is_copied r.start r.item r.rest r.splits r.is (p before ∙ ap (with_merge s.merge) r.is_before)
       by (in_second start e f) = ending-line (next_cut fs c s) refl start (prefix before) after l e
 
-  pub line-of : (before after : List LineText) (l : LineText) → with_merge s.merge (map (copied_line fs c) (next_lines fs c s) ++ ending fs c (label_or s.block.label) copy_of (next_cut fs c s)) ≡ before ++ l ∷ after → LineOf fs c s before l
+  pub line-of : (before after : List LineText) (l : LineText) → with_merge s.merge (map (copied_line fs c) (next_lines fs c s) ++ ending fs c (label_or s.block.label) copy_of (next_cut fs c s))
+      ≡ before ++ l ∷ after → LineOf fs c s before l
   line-of before after l h = by s.merge refl before h
     where
-      by : (m : Option MergeText) → s.merge ≡ m → (before : List LineText) → with_merge m (map (copied_line fs c) (next_lines fs c s) ++ ending fs c (label_or s.block.label) copy_of (next_cut fs c s)) ≡ before ++ l ∷ after → LineOf fs c s before l
+      by : (m : Option MergeText) → s.merge ≡ m → (before : List LineText) → with_merge m (map (copied_line fs c) (next_lines fs c s) ++ ending fs c (label_or s.block.label) copy_of (next_cut fs c s))
+          ≡ before ++ l ∷ after → LineOf fs c s before l
       by None e before h = plain-line (λ a. a) (λ a. ap (λ m. with_merge m a) (sym e)) before after l h
       by (Some m) e [] h = is_merge m e (sym (heads (merge_line m) l _ after h)) refl
       by (Some m) e (b ∷ before) h =

@@ -38,7 +38,7 @@ use Rattle.lh_formed.proofs.ShapeLaw.{blocks_end_once}
 use Rattle.lh_spelled.specs.ItemLines.{item_line}
 use Rattle.lh_spelled.specs.Printable.{HasLine, HasInstLine, HasLabelLine, IsLabelled, HasShape, result_repeats, results_repeat}
 use Rattle.lh_meaning.proofs.Labelled.{read-labelled}
-use Rattle.lh_eval.specs.Sound.{IsSound}
+use Rattle.lh_eval.specs.Sound.{InstIsSound}
 use Rattle.lh_sound.proofs.SoundLines.{rows-of-items, items-printable}
 use Rattle.lh_flat.specs.Marks.{IsPlain}
 use Rattle.lh_flat.proofs.Apart.{plain-name, name-there}
@@ -90,7 +90,8 @@ both-sides : (args : List ArgText) → Each ArgPlain (side_of false args) → Ea
 both-sides [] h k = tt
 both-sides (a ∷ args) h k = by a.output h k (both-sides args)
   where
-    by : (b : Bool) → Each ArgPlain (if not b then a ∷ side_of false args else side_of false args) → Each ArgPlain (if b then a ∷ side_of true args else side_of true args) → (Each ArgPlain (side_of false args) → Each ArgPlain (side_of true args) → Each ArgPlain args)
+    by : (b : Bool) → Each ArgPlain (if not b then a ∷ side_of false args else side_of false args) → Each ArgPlain (if b then a ∷ side_of true args else side_of true args)
+        → (Each ArgPlain (side_of false args) → Each ArgPlain (side_of true args) → Each ArgPlain args)
         → Each ArgPlain (a ∷ args)
     by true x y go = (y.0, go x y.1)
     by false x y go = (x.0, go x.1 y)
@@ -182,7 +183,7 @@ by-blocks P (b ∷ more) e = (Each-left P b.lines (lines_of more) e, by-blocks P
 always-gives : (items : List ItemText) (d : UnitText) (t : TypeTree) → UnitFacts items d → d.result ≡ Some t → (t ≡ void_type → ⊥) → AlwaysGives d
 always-gives items d t f e n =
     by-blocks (λ (l : LineText). l.inst ≡ ret_text None → ⊥) d.blocks
-    (Each-more (IsSound d) (λ (l : LineText). l.inst ≡ ret_text None → ⊥) (lines_of d.blocks) (λ l s q. n (subst (λ (o : Option TypeTree). ReturnIs d o None) e (subst (RowIs d) q s.row))) f.sound)
+    (Each-more (InstIsSound d) (λ (l : LineText). l.inst ≡ ret_text None → ⊥) (lines_of d.blocks) (λ l s q. n (subst (λ (o : Option TypeTree). ReturnIs d o None) e (subst (RowIs d) q s.row))) f.sound)
 
 function-result : (k : UnitKind) (n : UnitName) (args : List ArgText) (r : Option TypeTree) → is_function k ≡ true → HasLine (header_item k n args r) → (t : TypeTree) × (r ≡ Some t)
 function-result kind.Func n args (Some t) e h = (t, refl)
@@ -196,7 +197,8 @@ no_void t e q = let r : not (is_void void_type) ≡ true = ap (λ x. not (is_voi
 spelled-value : (r : List ℕ) (i : InstText) → HasInstLine (record { result = Some r; inst = i }) → gives_value i ≡ true
 spelled-value r i h = h.1.2
 
-module _ (items : List ItemText) (all : (n : UnitName) (d : UnitText) → function_named n (functions items) ≡ Some d → UnitFacts items d) (v : UnitText) (f : UnitFacts items v) (ends : Each (λ (b : BlockText). EndsOnce b.lines) v.blocks) where
+module _ (items : List ItemText) (all : (n : UnitName) (d : UnitText) → function_named n (functions items) ≡ Some d → UnitFacts items d) (v : UnitText) (f : UnitFacts items v)
+    (ends : Each (λ (b : BlockText). EndsOnce b.lines) v.blocks) where
   -- the function of a call with a named result
   call-gives : (i : InstText) (r : Option (List ℕ)) → NamedIsRight items v i → HasInstLine (record { result = r; inst = i }) → CallGives (functions items) i r
   call-gives (call_text g ty args) (Some n) (inl (a, x)) h = λ b d e. absurd (not-both (is_assert g) a b)
@@ -296,9 +298,17 @@ module _ (items : List ItemText) (all : (n : UnitName) (d : UnitText) → functi
         by false q go = none-behind l (before ++ l ∷ []) rest next (among-last before l) q
 
     block-tidy : LabelRight b → EndsOnce b.lines → Each HasInstLine b.lines → Each (IsNoArg v.args) b.lines → BlockTidy (functions items) v b
-    block-tidy n e h k = record { labelled = name-there (label_or b.label) n; plain = plain-name (label_or b.label) n; ends = e; phis = phis-first [] b.lines refl; lines = lines-tidy [] b.lines refl h k }
+    block-tidy n e h k = record {
+      labelled = name-there (label_or b.label) n;
+      plain = plain-name (label_or b.label) n;
+      ends = e;
+      phis = phis-first [] b.lines refl;
+      lines = lines-tidy [] b.lines refl h
+          k;
+    }
 
-  blocks-tidy : (bs : List BlockText) → ((b : BlockText) → Among bs b → Among v.blocks b) → Each LabelRight bs → Each (λ (b : BlockText). EndsOnce b.lines) bs → Each (λ (b : BlockText). Each HasInstLine b.lines) bs → Each (λ (b : BlockText). Each (IsNoArg v.args) b.lines) bs
+  blocks-tidy : (bs : List BlockText) → ((b : BlockText) → Among bs b → Among v.blocks b) → Each LabelRight bs → Each (λ (b : BlockText). EndsOnce b.lines) bs
+      → Each (λ (b : BlockText). Each HasInstLine b.lines) bs → Each (λ (b : BlockText). Each (IsNoArg v.args) b.lines) bs
       → Each (BlockTidy (functions items) v) bs
   blocks-tidy [] m n e h k = tt
   blocks-tidy (b ∷ bs) m n e h k = (block-tidy b (m b (inl refl)) n.0 e.0 h.0 k.0, blocks-tidy bs (λ x y. m x (inr y)) n.1 e.1 h.1 k.1)
@@ -315,18 +325,21 @@ module _ (items : List ItemText) (all : (n : UnitName) (d : UnitText) → functi
   pub unit-tidy : UnitTidy (functions items) v
   unit-tidy = record {
     args = args-once [] v.args f.printable.new_args (header-plain v.kind v.name v.args v.result (spaced-lexed (header v.kind v.name v.args v.result) f.printable.headed.0));
-    blocks = blocks-tidy v.blocks (λ b m. m) labels ends (by-blocks HasInstLine v.blocks f.printable.written) (by-blocks (IsNoArg v.args) v.blocks (results-new v.args [] (lines_of v.blocks) f.printable.new_results));
+    blocks = blocks-tidy v.blocks (λ b m. m) labels ends (by-blocks HasInstLine v.blocks f.printable.written)
+        (by-blocks (IsNoArg v.args) v.blocks (results-new v.args [] (lines_of v.blocks) f.printable.new_results));
     entry = entry-tidy v.blocks refl;
   }
 
 -- ---- of a module
 
-ends-of : (items : List ItemText) → EachUnit (λ u. in_entity u.kind ≡ false → Each (λ (b : BlockText). EndsOnce b.lines) u.blocks) items → (n : UnitName) (d : UnitText) → function_named n (functions items) ≡ Some d → in_entity d.kind ≡ false → Each (λ (b : BlockText). EndsOnce b.lines) d.blocks
+ends-of : (items : List ItemText) → EachUnit (λ u. in_entity u.kind ≡ false → Each (λ (b : BlockText). EndsOnce b.lines) u.blocks) items → (n : UnitName) (d : UnitText)
+    → function_named n (functions items) ≡ Some d → in_entity d.kind ≡ false → Each (λ (b : BlockText). EndsOnce b.lines) d.blocks
 ends-of [] h n d e k = absurd (none-some d e)
 ends-of (declare_text x ∷ items) h n d e k = ends-of items h n d e k
 ends-of (unit_text u ∷ items) h n d e k = by (is_function u.kind) e (λ q. ends-of items h.1 n d q k)
   where
-    by : (b : Bool) → function_named n (if b then u ∷ functions items else functions items) ≡ Some d → (function_named n (functions items) ≡ Some d → Each (λ (x : BlockText). EndsOnce x.lines) d.blocks) → Each (λ (x : BlockText). EndsOnce x.lines) d.blocks
+    by : (b : Bool) → function_named n (if b then u ∷ functions items else functions items) ≡ Some d
+        → (function_named n (functions items) ≡ Some d → Each (λ (x : BlockText). EndsOnce x.lines) d.blocks) → Each (λ (x : BlockText). EndsOnce x.lines) d.blocks
     by false q go = go q
     by true q go = at (same_unit_name u.name n) q
       where
@@ -334,7 +347,8 @@ ends-of (unit_text u ∷ items) h n d e k = by (is_function u.kind) e (λ q. end
         at true r = let m : u ≡ d = same_Some u d r in subst (λ (x : UnitText). in_entity x.kind ≡ false → Each (λ (y : BlockText). EndsOnce y.lines) x.blocks) m h.0 k
         at false r = go r
 
-ends-among : (items : List ItemText) → EachUnit (λ u. in_entity u.kind ≡ false → Each (λ (b : BlockText). EndsOnce b.lines) u.blocks) items → (u : UnitText) → Among items (unit_text u) → in_entity u.kind ≡ false → Each (λ (b : BlockText). EndsOnce b.lines) u.blocks
+ends-among : (items : List ItemText) → EachUnit (λ u. in_entity u.kind ≡ false → Each (λ (b : BlockText). EndsOnce b.lines) u.blocks) items → (u : UnitText) → Among items (unit_text u)
+    → in_entity u.kind ≡ false → Each (λ (b : BlockText). EndsOnce b.lines) u.blocks
 ends-among [] h u a k = elim a [ ]
 ends-among (unit_text v ∷ items) h u (inl e) k = let m : v ≡ u = cc in subst (λ (x : UnitText). in_entity x.kind ≡ false → Each (λ (y : BlockText). EndsOnce y.lines) x.blocks) m h.0 k
 ends-among (unit_text v ∷ items) h u (inr a) k = ends-among items h.1 u a k

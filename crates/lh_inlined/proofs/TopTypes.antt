@@ -54,7 +54,8 @@ module _ (fs : List UnitText) (w : FunctionsTidy fs) (n : List ℕ) (p : IsPlain
 
   giving-append : (xs ys : List FlatBlockText) → inst_giving n (map as_block (xs ++ ys)) ≡ or_else (inst_giving n (map as_block xs)) (inst_giving n (map as_block ys))
   giving-append [] ys = refl
-  giving-append (x ∷ xs) ys = ap (or_else (line_giving n (as_block x).lines)) (giving-append xs ys) ∙ assoc (line_giving n (as_block x).lines) (inst_giving n (map as_block xs)) (inst_giving n (map as_block ys))
+  giving-append (x ∷ xs) ys = ap (or_else (line_giving n (as_block x).lines)) (giving-append xs ys)
+      ∙ assoc (line_giving n (as_block x).lines) (inst_giving n (map as_block xs)) (inst_giving n (map as_block ys))
     where
       assoc : (a b c : Option InstText) → or_else a (or_else b c) ≡ or_else (or_else a b) c
       assoc None b c = refl
@@ -70,12 +71,14 @@ module _ (fs : List UnitText) (w : FunctionsTidy fs) (n : List ℕ) (p : IsPlain
   abbrev NonePieces : Pieces → Type 0
   NonePieces q = (line_giving n q.rest ≡ None) × NoneGive q.more
 
-  merge-none : (c d : Copy) (i : InstText) (r : Option (List ℕ)) (ls : List LineText) → is_result_name n (option_map c.value r) ≡ false → line_giving n ls ≡ None → line_giving n (with_merge (merge_of fs c d i r) ls) ≡ None
+  merge-none : (c d : Copy) (i : InstText) (r : Option (List ℕ)) (ls : List LineText) → is_result_name n (option_map c.value r) ≡ false → line_giving n ls ≡ None
+      → line_giving n (with_merge (merge_of fs c d i r) ls) ≡ None
   merge-none c d (call_text f ty args) None ls e h = h
   merge-none c d (call_text f ty args) (Some m) ls e h = ap (λ b. if b then Some (phi_text ty (given_by fs d)) else line_giving n ls) e ∙ h
   merge-none c d _ r ls e h = h
 
-  line-none : (copy_of : Copy → List FlatBlockText) → ((d : Copy) → Marked fs d → NoneGive (copy_of d)) → (c : Copy) (label : List ℕ) (k : ℕ) (l : LineText) (o : Option Copy) (q : Pieces) → IsPlain label → Marked fs c → ResultIsNew c.unit l.result
+  line-none : (copy_of : Copy → List FlatBlockText) → ((d : Copy) → Marked fs d → NoneGive (copy_of d)) → (c : Copy) (label : List ℕ) (k : ℕ) (l : LineText) (o : Option Copy) (q : Pieces)
+      → IsPlain label → Marked fs c → ResultIsNew c.unit l.result
       → opened fs c (call_path c label k) l.inst ≡ o → NonePieces q → NonePieces (with_line copy_of fs c l o q)
   line-none copy_of h c label k l None q a m r e s = (ap (λ b. if b then Some (copied fs c l.inst) else line_giving n q.rest) (other-result c m l.result r) ∙ s.0, s.1)
   line-none copy_of h c label k l (Some d) q a m r e s = (
@@ -85,12 +88,14 @@ module _ (fs : List UnitText) (w : FunctionsTidy fs) (n : List ℕ) (p : IsPlain
         (ap (λ o. or_else o (inst_giving n (map as_block q.more))) (merge-none c d l.inst l.result q.rest (other-result c m l.result r) s.0) ∙ s.1),
   )
 
-  pieces-none : (copy_of : Copy → List FlatBlockText) → ((d : Copy) → Marked fs d → NoneGive (copy_of d)) → (c : Copy) (label : List ℕ) (k : ℕ) (ls : List LineText) → IsPlain label → Marked fs c → Each (LineTidy fs c.unit) ls → NonePieces (pieces_from copy_of fs c label k ls)
+  pieces-none : (copy_of : Copy → List FlatBlockText) → ((d : Copy) → Marked fs d → NoneGive (copy_of d)) → (c : Copy) (label : List ℕ) (k : ℕ) (ls : List LineText) → IsPlain label → Marked fs c
+      → Each (LineTidy fs c.unit) ls → NonePieces (pieces_from copy_of fs c label k ls)
   pieces-none copy_of h c label k [] a m t = (refl, refl)
   pieces-none copy_of h c label k (l ∷ ls) a m t =
       line-none copy_of h c label k l (opened fs c (call_path c label k) l.inst) (pieces_from copy_of fs c label (k + 1) ls) a m t.0.result refl (pieces-none copy_of h c label (k + 1) ls a m t.1)
 
-  blocks-none : (copy_of : Copy → List FlatBlockText) → ((d : Copy) → Marked fs d → NoneGive (copy_of d)) → (c : Copy) (bs : List BlockText) → Marked fs c → Each (BlockTidy fs c.unit) bs → NoneGive (flat_map (flat_block copy_of fs c) bs)
+  blocks-none : (copy_of : Copy → List FlatBlockText) → ((d : Copy) → Marked fs d → NoneGive (copy_of d)) → (c : Copy) (bs : List BlockText) → Marked fs c → Each (BlockTidy fs c.unit) bs
+      → NoneGive (flat_map (flat_block copy_of fs c) bs)
   blocks-none copy_of h c [] m t = refl
   blocks-none copy_of h c (b ∷ bs) m t =
       let r = pieces-none copy_of h c (label_or b.label) 0 b.lines t.0.plain m t.0.lines in
@@ -153,21 +158,28 @@ module _ (fs : List UnitText) (w : FunctionsTidy fs) (n : List ℕ) (p : IsPlain
   abbrev given_by_pieces : Pieces → Option InstText
   given_by_pieces q = or_else (line_giving n q.rest) (inst_giving n (map as_block q.more))
 
-  merge-same : (u : UnitText) (d : Copy) (i : InstText) (r : Option (List ℕ)) (f : UnitName) (ty : TypeTree) (args : List OperandText) (q : Pieces) (x : Option InstText) → i ≡ call_text f ty args → SameType (given_by_pieces q) x
+  merge-same : (u : UnitText) (d : Copy) (i : InstText) (r : Option (List ℕ)) (f : UnitName) (ty : TypeTree) (args : List OperandText) (q : Pieces) (x : Option InstText) → i ≡ call_text f ty args
+      → SameType (given_by_pieces q) x
       → SameType (or_else (line_giving n (with_merge (merge_of fs (top_copy u) d i r) q.rest)) (inst_giving n (map as_block q.more))) (if is_result_name n r then Some i else x)
-  merge-same u d i r f ty args q x e s = subst (λ j. SameType (or_else (line_giving n (with_merge (merge_of fs (top_copy u) d j r) q.rest)) (inst_giving n (map as_block q.more))) (if is_result_name n r then Some j else x)) (sym e) (by r)
+  merge-same u d i r f ty args q x e s = subst
+      (λ j. SameType (or_else (line_giving n (with_merge (merge_of fs (top_copy u) d j r) q.rest)) (inst_giving n (map as_block q.more))) (if is_result_name n r then Some j else x)) (sym e) (by r)
     where
-      by : (r : Option (List ℕ)) → SameType (or_else (line_giving n (with_merge (merge_of fs (top_copy u) d (call_text f ty args) r) q.rest)) (inst_giving n (map as_block q.more))) (if is_result_name n r then Some (call_text f ty args) else x)
+      by : (r : Option (List ℕ)) → SameType (or_else (line_giving n (with_merge (merge_of fs (top_copy u) d (call_text f ty args) r) q.rest)) (inst_giving n (map as_block q.more))) (if is_result_name
+          n r then Some (call_text f ty args) else x)
       by None = s
       by (Some m) = at (same_name m n)
         where
-          at : (b : Bool) → SameType (or_else (if b then Some (phi_text ty (given_by fs d)) else line_giving n q.rest) (inst_giving n (map as_block q.more))) (if b then Some (call_text f ty args) else x)
+          at : (b : Bool) → SameType (or_else (if b then Some (phi_text ty (given_by fs d)) else line_giving n q.rest) (inst_giving n (map as_block q.more))) (if b then Some
+              (call_text f ty args) else x)
           at true = refl
           at false = s
 
-  line-same : (k : ℕ) (u : UnitText) (label : List ℕ) (j : ℕ) (l : LineText) (o : Option Copy) (q : Pieces) (x : Option InstText) → IsPlain label → opened fs (top_copy u) (call_path (top_copy u) label j) l.inst ≡ o → SameType (given_by_pieces q) x
+  line-same : (k : ℕ) (u : UnitText) (label : List ℕ) (j : ℕ) (l : LineText) (o : Option Copy) (q : Pieces) (x : Option InstText) → IsPlain label
+      → opened fs (top_copy u) (call_path (top_copy u) label j) l.inst ≡ o → SameType (given_by_pieces q) x
       → SameType (given_by_pieces (with_line (flat_copy k fs) fs (top_copy u) l o q)) (if is_result_name n l.result then Some l.inst else x)
-  line-same k u label j l None q x a e s = subst (λ b. SameType (or_else (if b then Some (copied fs (top_copy u) l.inst) else line_giving n q.rest) (inst_giving n (map as_block q.more))) (if is_result_name n l.result then Some l.inst else x)) (sym (result-same l.result)) (by (is_result_name n l.result))
+  line-same k u label j l None q x a e s = subst
+      (λ b. SameType (or_else (if b then Some (copied fs (top_copy u) l.inst) else line_giving n q.rest) (inst_giving n (map as_block q.more))) (if is_result_name n l.result then Some l.inst else x))
+      (sym (result-same l.result)) (by (is_result_name n l.result))
     where
       by : (b : Bool) → SameType (or_else (if b then Some (copied fs (top_copy u) l.inst) else line_giving n q.rest) (inst_giving n (map as_block q.more))) (if b then Some l.inst else x)
       by true = copied-type u l.inst
@@ -176,19 +188,25 @@ module _ (fs : List UnitText) (w : FunctionsTidy fs) (n : List ℕ) (p : IsPlain
       let o = opens-is fs (top_copy u) (call_path (top_copy u) label j) l.inst d e in
       subst (λ y. SameType y (if is_result_name n l.result then Some l.inst else x))
       (sym (giving-append (flat_copy k fs d) (record { label = d.path; merge = merge_of fs (top_copy u) d l.inst l.result; lines = q.rest } ∷ q.more)
-      ∙ ap (λ y. or_else y (inst_giving n (map as_block (record { label = d.path; merge = merge_of fs (top_copy u) d l.inst l.result; lines = q.rest } ∷ q.more)))) (copy-none k d (opens-marked (top_copy u) label j l.inst d a o))))
+      ∙ ap (λ y. or_else y (inst_giving n (map as_block (record { label = d.path; merge = merge_of fs (top_copy u) d l.inst l.result; lines = q.rest } ∷ q.more)))) (copy-none k d
+      (opens-marked (top_copy u) label j l.inst d a o))))
       (merge-same u d l.inst l.result o.callee o.ty o.args q x o.inst s)
 
-  pieces-same : (k : ℕ) (u : UnitText) (label : List ℕ) (j : ℕ) (ls : List LineText) → IsPlain label → SameType (given_by_pieces (pieces_from (flat_copy k fs) fs (top_copy u) label j ls)) (line_giving n ls)
+  pieces-same : (k : ℕ) (u : UnitText) (label : List ℕ) (j : ℕ) (ls : List LineText) → IsPlain label
+      → SameType (given_by_pieces (pieces_from (flat_copy k fs) fs (top_copy u) label j ls)) (line_giving n ls)
   pieces-same k u label j [] a = tt
   pieces-same k u label j (l ∷ ls) a =
-      line-same k u label j l (opened fs (top_copy u) (call_path (top_copy u) label j) l.inst) (pieces_from (flat_copy k fs) fs (top_copy u) label (j + 1) ls) (line_giving n ls) a refl (pieces-same k u label (j + 1) ls a)
+      line-same k u label j l (opened fs (top_copy u) (call_path (top_copy u) label j) l.inst) (pieces_from (flat_copy k fs) fs (top_copy u) label (j + 1) ls) (line_giving n ls) a refl
+      (pieces-same k u label (j + 1) ls a)
 
-  blocks-same : (k : ℕ) (u : UnitText) (bs : List BlockText) → Each (BlockTidy fs u) bs → SameType (inst_giving n (map as_block (flat_map (flat_block (flat_copy k fs) fs (top_copy u)) bs))) (inst_giving n bs)
+  blocks-same : (k : ℕ) (u : UnitText) (bs : List BlockText) → Each (BlockTidy fs u) bs
+      → SameType (inst_giving n (map as_block (flat_map (flat_block (flat_copy k fs) fs (top_copy u)) bs))) (inst_giving n bs)
   blocks-same k u [] t = tt
   blocks-same k u (b ∷ bs) t =
-      subst (λ y. SameType y (or_else (line_giving n b.lines) (inst_giving n bs))) (sym (giving-append (flat_block (flat_copy k fs) fs (top_copy u) b) (flat_map (flat_block (flat_copy k fs) fs (top_copy u)) bs)))
-      (same-or (inst_giving n (map as_block (flat_block (flat_copy k fs) fs (top_copy u) b))) (line_giving n b.lines) (inst_giving n (map as_block (flat_map (flat_block (flat_copy k fs) fs (top_copy u)) bs))) (inst_giving n bs)
+      subst (λ y. SameType y (or_else (line_giving n b.lines) (inst_giving n bs)))
+      (sym (giving-append (flat_block (flat_copy k fs) fs (top_copy u) b) (flat_map (flat_block (flat_copy k fs) fs (top_copy u)) bs)))
+      (same-or (inst_giving n (map as_block (flat_block (flat_copy k fs) fs (top_copy u) b))) (line_giving n b.lines)
+      (inst_giving n (map as_block (flat_map (flat_block (flat_copy k fs) fs (top_copy u)) bs))) (inst_giving n bs)
       (pieces-same k u (label_or b.label) 0 b.lines t.0.plain) (blocks-same k u bs t.1))
 
   -- so the value has the type that it has in the process

@@ -7,14 +7,14 @@ use Rattle.lh_unit.specs.Contents.{LineText, BlockText, ArgText, UnitText, ItemT
 use Rattle.lh_unit.specs.Named.{label_or}
 use Rattle.lh_unit.specs.Activation.{functions}
 use Rattle.lh_unit.specs.Hierarchy.{lines_of}
-use Rattle.lh_unit.specs.Places.{Place}
+use Rattle.lh_unit.specs.Places.{InstPlaceText}
 use Rattle.lh_unit.specs.Typing.{value_type}
 use Rattle.lh_unit.specs.WellFormed.{is_allowed, IsWellFormed}
 use Rattle.lh_unit.specs.Within.{Each}
 use Rattle.lh_unit.proofs.Within.{Each-more}
 use Rattle.lh_formed.proofs.AtPlaces.{lines-from}
 use Rattle.lh_meaning.proofs.Labelled.{AllLabelled}
-use Rattle.lh_eval.specs.Sound.{IsSound}
+use Rattle.lh_eval.specs.Sound.{InstIsSound}
 use Rattle.lh_spelled.specs.Printable.{HasInstLine, results_repeat}
 use Rattle.lh_sound.proofs.NamedOnce.{GivesItsType, lines-typed}
 use Rattle.lh_flat.specs.Copies.{top_copy}
@@ -74,14 +74,16 @@ args-plain (a ∷ args) h = (h.0, args-plain args h.2)
 
 -- ---- the types of its lines
 
-typed-lines : (v : UnitText) (ls : List LineText) → Each HasInstLine ls → Each (IsSound v) ls → Each (λ (l : LineText). is_allowed v.kind l.inst ≡ true) ls → ((l : LineText) → is_allowed v.kind l.inst ≡ true → HasInstLine l → IsSound v l → IsTypedCode l) → Each IsTypedCode ls
+typed-lines : (v : UnitText) (ls : List LineText) → Each HasInstLine ls → Each (InstIsSound v) ls → Each (λ (l : LineText). is_allowed v.kind l.inst ≡ true) ls
+    → ((l : LineText) → is_allowed v.kind l.inst ≡ true → HasInstLine l → InstIsSound v l → IsTypedCode l) → Each IsTypedCode ls
 typed-lines v [] h s a f = tt
 typed-lines v (l ∷ ls) h s a f = (f l a.0 h.0 s.0, typed-lines v ls h.1 s.1 a.1 f)
 
 unit-typed : (items : List ItemText) (v : UnitText) → UnitFacts items v → Each IsTypedCode (lines_of v.blocks)
 unit-typed items v f =
     let allowed : Each (λ (l : LineText). is_allowed v.kind l.inst ≡ true) (lines_of v.blocks) =
-    lines-from (λ (l : LineText). is_allowed v.kind l.inst ≡ true) 1 true v.blocks (Each-more (PlaceFacts items v) (λ (p : Place). is_allowed v.kind p.line.inst ≡ true) _ (λ p h. h.allowed) f.places) in
+    lines-from (λ (l : LineText). is_allowed v.kind l.inst ≡ true) 1 true v.blocks
+    (Each-more (PlaceFacts items v) (λ (p : InstPlaceText). is_allowed v.kind p.line.inst ≡ true) _ (λ p h. h.allowed) f.places) in
     typed-lines v (lines_of v.blocks) f.printable.written f.sound allowed
     (λ l a h s. (is-code v.kind l.inst f.runs a, line-typed v l h s.row))
 
@@ -113,5 +115,6 @@ module _ (items : List ItemText) (g : IsWellFormed items) (u : UnitText) (among 
   -- Each has a type.
   pub results_typed : Each (GivesTyped flat) (lines_of flat.blocks)
   results_typed =
-      let typed : Each IsTyped (lines_of flat.blocks) = copies-typed (functions items) (λ n f e. unit-typed items f (function-facts items items (facts items g) n f e)) (suc max_nested) (top_copy u) (unit-typed items u (process-facts items items (facts items g) u among process)) in
+      let typed : Each IsTyped (lines_of flat.blocks) = copies-typed (functions items) (λ n f e. unit-typed items f (function-facts items items (facts items g) n f e)) (suc max_nested) (top_copy u)
+      (unit-typed items u (process-facts items items (facts items g) u among process)) in
       value-typed flat (lines_of flat.blocks) typed results_tell

@@ -5,7 +5,7 @@ use Rattle.lh_unit.specs.Contents.{EdgeText, phi_text, InstText, sig_text, reg_t
 use Rattle.lh_unit.specs.Named.{block_of, is_assert, label_or}
 use Rattle.lh_unit.specs.Hierarchy.{lines_of}
 use Rattle.lh_unit.specs.Kinds.{uses}
-use Rattle.lh_unit.specs.Places.{Place, places, has_edge}
+use Rattle.lh_unit.specs.Places.{InstPlaceText, places, has_edge}
 use Rattle.lh_unit.specs.Typing.{value_type}
 use Rattle.lh_unit.specs.Reads.{args_repeat}
 use Rattle.lh_unit.specs.Within.{Each}
@@ -15,7 +15,7 @@ use Rattle.lh_formed.specs.Calls.{AssertIsRight}
 use Rattle.lh_formed.specs.Defined.{OperandsThere}
 use Rattle.lh_formed.specs.KindsOf.{HasTypeOfKind}
 use Rattle.lh_formed.specs.Shape.{EndsOnce}
-use Rattle.lh_eval.specs.Sound.{IsSound}
+use Rattle.lh_eval.specs.Sound.{InstIsSound}
 use Rattle.lh_sound.specs.Units.{HasItsType, IsPort}
 
 -- it may stand in a process whose calls were replaced: each call is an assertion of one truth value
@@ -33,12 +33,12 @@ IsOne [] e = ⊥
 IsOne (x ∷ more) e = (x ≡ e) ⊎ IsOne more e
 
 -- A `phi` stands behind other `phi` alone and not in the entry block, and names each block that has an edge to its own.
-pub record IsPhiFormed (u : UnitText) (p : Place) (es : List EdgeText) : Type 0 where
+pub record IsPhiFormed (u : UnitText) (p : InstPlaceText) (es : List EdgeText) : Type 0 where
   pub first : Each (λ (l : LineText). is_phi l.inst ≡ true) p.before
   pub no_entry : p.in_entry ≡ false
   pub named : Each (λ (b : BlockText). has_edge b (label_or p.block.label) ≡ true → (e : EdgeText) × IsOne es e × (e.block ≡ label_or b.label)) u.blocks
 
-abbrev pub PhiFormed : UnitText → Place → InstText → Type 0
+abbrev pub PhiFormed : UnitText → InstPlaceText → InstText → Type 0
 PhiFormed u p (phi_text ty es) = IsPhiFormed u p es
 PhiFormed u p _ = Unit {0}
 
@@ -50,15 +50,15 @@ pub record IsFormed (u : UnitText) : Type 0 where
   pub filled : Each (λ (b : BlockText). (l : LineText) × (more : List LineText) × (b.lines ≡ l ∷ more)) u.blocks
   pub labelled : Each (λ (b : BlockText). (n : List ℕ) × (b.label ≡ Some n)) u.blocks
   pub ends : Each (λ (b : BlockText). EndsOnce b.lines) u.blocks
-  pub lines : Each (IsSound u) (lines_of u.blocks)
+  pub lines : Each (InstIsSound u) (lines_of u.blocks)
   pub given : Each (λ (l : LineText). (n : List ℕ) → l.result ≡ Some n → IsSome (value_type u n)) (lines_of u.blocks)
   pub kinds : Each (λ (l : LineText). Each (HasTypeOfKind u) (uses l.inst)) (lines_of u.blocks)
   pub calls : Each (λ (l : LineText). IsWithoutCalls u l.inst) (lines_of u.blocks)
   pub args : Each (HasItsType u) u.args
   pub ports : Each IsPort u.args
-  pub there : Each (λ (p : Place). OperandsThere kind.Proc u p p.line.inst) (places u)
-  pub leads : Each (λ (p : Place). Each (λ n. (b : BlockText) × (block_of n u.blocks ≡ Some b)) (labels_named p.line.inst)) (places u)
-  pub phis : Each (λ (p : Place). PhiFormed u p p.line.inst) (places u)
+  pub there : Each (λ (p : InstPlaceText). OperandsThere kind.Proc u p p.line.inst) (places u)
+  pub leads : Each (λ (p : InstPlaceText). Each (λ n. (b : BlockText) × (block_of n u.blocks ≡ Some b)) (labels_named p.line.inst)) (places u)
+  pub phis : Each (λ (p : InstPlaceText). PhiFormed u p p.line.inst) (places u)
   pub new_args : args_repeat [] u.args ≡ false
   pub new_labels : labels_repeat [] u.blocks ≡ false
   pub new_results : results_repeat u.args [] (lines_of u.blocks) ≡ false

@@ -2,7 +2,7 @@
 use Rattle.std.proofs.Common.{◌≡◌, ℕ, ◌+◌, ◌<◌, ◌≤◌, List, [], ◌++◌, length, take, drop, refl, ap, sym, ◌∙◌, subst, Option, Some, None, IfSome, arith, append_assoc, length-append, Result, Ok, Err, OnErr}
 use Rattle.lh_types.specs.Raised.{raised}
 use Rattle.lh_io.specs.Streams.{FillsFront, Appends, AppendsProperPrefix}
-use Rattle.lh_io.specs.Whole.{Takes}
+use Rattle.lh_io.specs.Whole.{TakesBytes}
 use Rattle.std.proofs.lemmas.List.{append-nil, take_at, drop_at, drop_all, take-append-drop}
 use Rattle.std.proofs.Math.Seq.{drop-append-add}
 
@@ -42,7 +42,8 @@ prefix_at was now next text rest w h e = record {
 }
 
 -- a write that failed left what was written before it
-pub Wrote-prefix : {T E : Type 0} (r : Result T E) (was now next : Option (List ℕ)) (text rest : List ℕ) → Wrote was now text rest → 0 < length rest → next ≡ now → OnErr r (AppendsProperPrefix was next text)
+pub Wrote-prefix : {T E : Type 0} (r : Result T E) (was now next : Option (List ℕ)) (text rest : List ℕ) → Wrote was now text rest → 0 < length rest → next ≡ now
+    → OnErr r (AppendsProperPrefix was next text)
 Wrote-prefix (Ok x) was now next text rest w h e = tt
 Wrote-prefix (Err x) was now next text rest w h e = prefix_at was now next text rest w h e
 
@@ -63,7 +64,8 @@ ReadSoFar-told (Some xs) now next v n (rest, now_is, xs_is) len e =
     (omega arith, e ∙ now_is ∙ ap Some (sym (ap (drop n) xs_is ∙ drop_at v rest n (sym len))))
 
 -- where nothing is left, all was read
-pub ReadSoFar-all : (was now next : Option (List ℕ)) (v old_room new_room : List ℕ) (n : ℕ) → ReadSoFar was now v → IfSome now (λ left. FillsFront left next old_room new_room n) → IfSome now (λ left. left ≡ []) → IfSome was (λ bytes. (v ≡ bytes) × (next ≡ Some []))
+pub ReadSoFar-all : (was now next : Option (List ℕ)) (v old_room new_room : List ℕ) (n : ℕ) → ReadSoFar was now v → IfSome now (λ left. FillsFront left next old_room new_room n)
+    → IfSome now (λ left. left ≡ []) → IfSome was (λ bytes. (v ≡ bytes) × (next ≡ Some []))
 ReadSoFar-all None now next v old_room new_room n read fills none = tt
 ReadSoFar-all (Some xs) now next v old_room new_room n (rest, now_is, xs_is) fills none =
     let Fills : Option (List ℕ) → Type 0 = λ o. IfSome o (λ left. FillsFront left next old_room new_room n) in
@@ -75,7 +77,8 @@ ReadSoFar-all (Some xs) now next v old_room new_room n (rest, now_is, xs_is) fil
 pub raised-raised : (c m n : ℕ) → raised (raised c m) n ≡ raised c (m + n)
 raised-raised c m n = omega arith
 
-left_after : (was now next : Option (List ℕ)) (v old_room new_room : List ℕ) (n : ℕ) → ReadSoFar was now v → IfSome now (λ left. FillsFront left next old_room new_room n) → IfSome was (λ bytes. (length v + n ≤ length bytes) × (next ≡ Some (drop (length v + n) bytes)))
+left_after : (was now next : Option (List ℕ)) (v old_room new_room : List ℕ) (n : ℕ) → ReadSoFar was now v → IfSome now (λ left. FillsFront left next old_room new_room n)
+    → IfSome was (λ bytes. (length v + n ≤ length bytes) × (next ≡ Some (drop (length v + n) bytes)))
 left_after None now next v old_room new_room n read fills = tt
 left_after (Some xs) now next v old_room new_room n (rest, now_is, xs_is) fills =
     let Fills : Option (List ℕ) → Type 0 = λ o. IfSome o (λ left. FillsFront left next old_room new_room n) in
@@ -85,8 +88,9 @@ left_after (Some xs) now next v old_room new_room n (rest, now_is, xs_is) fills 
     (omega arith, of_rest.rest ∙ ap Some (sym (ap (drop (length v + n)) xs_is ∙ drop-append-add v rest n)))
 
 -- after the k bytes read so far a read took n more
-pub Takes-more : (was now next : Option (List ℕ)) (v old_room new_room : List ℕ) (was_taken taken next_taken k n all : ℕ) → ReadSoFar was now v → k ≡ length v → taken ≡ raised was_taken k → IfSome now (λ left. FillsFront left next old_room new_room n) → next_taken ≡ raised taken n → k + n ≡ all → Takes was next was_taken next_taken all
-Takes-more was now next v old_room new_room was_taken taken next_taken k n all read len counted fills next_counted sum = record {
+pub TakesBytes-more : (was now next : Option (List ℕ)) (v old_room new_room : List ℕ) (was_taken taken next_taken k n all : ℕ) → ReadSoFar was now v → k ≡ length v → taken ≡ raised was_taken k
+    → IfSome now (λ left. FillsFront left next old_room new_room n) → next_taken ≡ raised taken n → k + n ≡ all → TakesBytes was next was_taken next_taken all
+TakesBytes-more was now next v old_room new_room was_taken taken next_taken k n all read len counted fills next_counted sum = record {
   counted = next_counted ∙ ap (λ t. raised t n) counted ∙ raised-raised was_taken k n ∙ ap (raised was_taken) sum;
   told =
       let Told : ℕ → Type 0 = λ m. IfSome was (λ bytes. (m ≤ length bytes) × (next ≡ Some (drop m bytes))) in

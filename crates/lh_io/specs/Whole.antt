@@ -11,6 +11,6 @@ IsCountWithin TooLong limit n = n ≡ limit + 1
 IsCountWithin OutOfMemory limit n = n ≤ limit
 
 -- n bytes were taken: what is left lacks that many in front, and the count rose by them
-pub record Takes (was_left left : Option (List ℕ)) (was_taken taken n : ℕ) : Type 0 where
+pub record TakesBytes (was_left left : Option (List ℕ)) (was_taken taken n : ℕ) : Type 0 where
   pub counted : taken ≡ raised was_taken n
   pub told : IfSome was_left (λ bytes. (n ≤ length bytes) × (left ≡ Some (drop n bytes)))

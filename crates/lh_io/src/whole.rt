@@ -1,7 +1,7 @@
 //! Reading a source to its end, and writing a whole text.
 ghost use Rattle.std.specs.Prelude.{◌≡◌, ◌≤◌, ◌<◌, ◌+◌, ◌^◌, ◌++◌, ℕ, [], Some, IfOk, OnOk, IfErr, OnErr, IfSome, IsErrOf, vec_len};
 ghost use Rattle.lh_io.specs.Streams.{Rose, Appends, AppendsProperPrefix};
-ghost use Rattle.lh_io.specs.Whole.{IsCountWithin, Takes};
+ghost use Rattle.lh_io.specs.Whole.{IsCountWithin, TakesBytes};
 
 use crate::stream::{Failed, Sink, Source};
 use std::alloc::Global;
@@ -51,8 +51,8 @@ pub fn read_all<S: Source>(
 ) -> Result<Vec<u8>, ReadAllFault>
     requires { limit < 2 ^ 32 }
     ensures whole { IfOk result (λ v. IfSome (S.left src.old) (λ was. (v.items ≡ was) × (S.left src.new ≡ Some []))) }
-    ensures count { IfOk result (λ v. (vec_len v ≤ limit) × Takes (S.left src.old) (S.left src.new) (S.taken src.old) (S.taken src.new) (vec_len v)) }
-    ensures fault_count { IfErr result (λ e. (n : ℕ) × IsCountWithin e limit n × Takes (S.left src.old) (S.left src.new) (S.taken src.old) (S.taken src.new) n) }
+    ensures count { IfOk result (λ v. (vec_len v ≤ limit) × TakesBytes (S.left src.old) (S.left src.new) (S.taken src.old) (S.taken src.new) (vec_len v)) }
+    ensures fault_count { IfErr result (λ e. (n : ℕ) × IsCountWithin e limit n × TakesBytes (S.left src.old) (S.left src.new) (S.taken src.old) (S.taken src.new) n) }
     ensures rose { IsErrOf result ReadAllFault.ReadFault → Rose (S.faults src.old) (S.faults src.new) }
     ensures never_fall { S.faults src.old ≤ S.faults src.new }
 {

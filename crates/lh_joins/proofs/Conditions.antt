@@ -4,7 +4,7 @@ use Rattle.lh_types.specs.Types.{TypeTree, int_type, IsData}
 use Rattle.lh_types.specs.declared.op.Op.TheVariants.{And, Or}
 use Rattle.lh_term.specs.Tree.{Tree}
 use Rattle.lh_term.specs.Types.{type_of, TakesTypes}
-use Rattle.lh_term.specs.Arena.{Stands, Grows}
+use Rattle.lh_term.specs.Arena.{StandsForTree, Grows}
 use Rattle.lh_term.specs.declared.term.TermId.{TermId}
 use Rattle.lh_term.specs.declared.term.Node.{Node}
 use Rattle.lh_term.proofs.Sound.{one_wide}
@@ -42,7 +42,7 @@ edges-grown old new (e ∷ more) g c =
     λ i. edge_on (a i) ∷ b i
 
 -- a term that stands for a condition
-pub stands-condition : (ns : List Node) (t : TermId) (x : Tree) → Stands ns t x → IsCondition x → IsConditionAt ns t
+pub stands-condition : (ns : List Node) (t : TermId) (x : Tree) → StandsForTree ns t x → IsCondition x → IsConditionAt ns t
 stands-condition ns t x s c = record { is_in = s.is_in; cond = subst IsCondition (sym s.tree) c }
 
 pub grows-none : (ns : List Node) → Grows ns ns

@@ -9,7 +9,7 @@ use Rattle.lh_types.specs.declared.op.Op.TheVariants.{Or, And}
 use Rattle.lh_unit.specs.Within.{Each}
 use Rattle.lh_term.specs.Tree.{Tree}
 use Rattle.lh_term.specs.Make.{bit_of, make_operation}
-use Rattle.lh_term.specs.Arena.{trees, tree_at, trees_at, ids_below, IsIn, AreIn, OneId, Stands, Grows}
+use Rattle.lh_term.specs.Arena.{trees, tree_at, trees_at, ids_below, IsIn, AreIn, OneId, StandsForTree, Grows}
 use Rattle.lh_term.specs.Conjuncts.{conjuncts_of, conjunction_from, conjunction}
 use Rattle.lh_term.specs.SameTree.{same_tree, same_tree-is, same_tree-refl}
 use Rattle.lh_term.specs.declared.term.TermId.{TermId}
@@ -32,7 +32,7 @@ pub record AnySoFar (old now : List Node) (any : TermId) (rest all : List Edge) 
   pub conds : AreConditions old rest
   pub so_far : or_any (tree_at (trees now) any) (edges_on old rest) ≡ any_taken (edges_on old all)
 
-pub AnySoFar-none : (old now : List Node) (any : TermId) (all : List Edge) → Grows old now → Stands now any (bit_of false) → AreConditions old all → AnySoFar old now any all all
+pub AnySoFar-none : (old now : List Node) (any : TermId) (all : List Edge) → Grows old now → StandsForTree now any (bit_of false) → AreConditions old all → AnySoFar old now any all all
 AnySoFar-none old now any all g s c = record {
   grows = g;
   any_is = stands-condition now any (bit_of false) s (bit-condition false);
@@ -43,7 +43,8 @@ AnySoFar-none old now any all g s c = record {
 pub AnySoFar-first : (old now : List Node) (any : TermId) (rest all : List Edge) (e : Edge) (more : List Edge) → rest ≡ e ∷ more → AnySoFar old now any rest all → IsConditionAt now e.cond
 AnySoFar-first old now any rest all e more p s = condition-grown old now e.cond s.grows (subst (AreConditions old) p s.conds).0
 
-pub AnySoFar-next : (old now new : List Node) (any next : TermId) (rest all : List Edge) (e : Edge) (more : List Edge) → rest ≡ e ∷ more → Grows now new → Stands new next (make_operation Or (tree_at (trees now) any ∷ tree_at (trees now) e.cond ∷ [])) → AnySoFar old now any rest all → AnySoFar old new next more all
+pub AnySoFar-next : (old now new : List Node) (any next : TermId) (rest all : List Edge) (e : Edge) (more : List Edge) → rest ≡ e ∷ more → Grows now new
+    → StandsForTree new next (make_operation Or (tree_at (trees now) any ∷ tree_at (trees now) e.cond ∷ [])) → AnySoFar old now any rest all → AnySoFar old new next more all
 AnySoFar-next old now new any next rest all e more p g m s =
     let c = subst (AreConditions old) p s.conds in
     let same : tree_at (trees now) e.cond ≡ tree_at (trees old) e.cond = tree_grown old now s.grows e.cond c.0.is_in in
@@ -69,7 +70,7 @@ pub record AllSoFar (old now : List Node) (all : TermId) (rest conds : List Term
   pub each : Each (IsConditionAt old) rest
   pub so_far : conjunction_from (tree_at (trees now) all) (trees_at old rest) ≡ conjunction (trees_at old conds)
 
-pub AllSoFar-none : (old now : List Node) (all : TermId) (conds : List TermId) → Grows old now → Stands now all (bit_of true) → Each (IsConditionAt old) conds → AllSoFar old now all conds conds
+pub AllSoFar-none : (old now : List Node) (all : TermId) (conds : List TermId) → Grows old now → StandsForTree now all (bit_of true) → Each (IsConditionAt old) conds → AllSoFar old now all conds conds
 AllSoFar-none old now all conds g s c = record {
   grows = g;
   all_is = stands-condition now all (bit_of true) s (bit-condition true);
@@ -80,7 +81,8 @@ AllSoFar-none old now all conds g s c = record {
 pub AllSoFar-first : (old now : List Node) (all : TermId) (rest conds : List TermId) (t : TermId) (more : List TermId) → rest ≡ t ∷ more → AllSoFar old now all rest conds → IsConditionAt now t
 AllSoFar-first old now all rest conds t more p s = condition-grown old now t s.grows (subst (Each (IsConditionAt old)) p s.each).0
 
-pub AllSoFar-next : (old now new : List Node) (all next : TermId) (rest conds : List TermId) (t : TermId) (more : List TermId) → rest ≡ t ∷ more → Grows now new → Stands new next (make_operation And (tree_at (trees now) all ∷ tree_at (trees now) t ∷ [])) → AllSoFar old now all rest conds → AllSoFar old new next more conds
+pub AllSoFar-next : (old now new : List Node) (all next : TermId) (rest conds : List TermId) (t : TermId) (more : List TermId) → rest ≡ t ∷ more → Grows now new
+    → StandsForTree new next (make_operation And (tree_at (trees now) all ∷ tree_at (trees now) t ∷ [])) → AllSoFar old now all rest conds → AllSoFar old new next more conds
 AllSoFar-next old now new all next rest conds t more p g m s =
     let c = subst (Each (IsConditionAt old)) p s.each in
     let same : tree_at (trees now) t ≡ tree_at (trees old) t = tree_grown old now s.grows t c.0.is_in in
@@ -113,7 +115,8 @@ raised-all n k b l = by (same_or k n) b
         yes : k ≡ n → nat_eq k n ≡ true
         yes f = subst (λ (m : ℕ). nat_eq k m ≡ true) f (nat_eq-refl k)
     by (same e) false = and-false (nat_eq k n) k (n + 1) ∙ nat_eq-other k (n + 1) (λ f. absurd (omega arith)) ∙ sym (and-no (nat_eq k n))
-    by (other m) b = ap (λ (x : Bool). nat_eq (if x && b then n + 1 else k) (n + 1)) (nat_eq-other k n m) ∙ nat_eq-other k (n + 1) (λ f. absurd (omega arith)) ∙ ap (λ (x : Bool). x && b) (sym (nat_eq-other k n m))
+    by (other m) b = ap (λ (x : Bool). nat_eq (if x && b then n + 1 else k) (n + 1)) (nat_eq-other k n m) ∙ nat_eq-other k (n + 1) (λ f. absurd (omega arith))
+        ∙ ap (λ (x : Bool). x && b) (sym (nat_eq-other k n m))
 
 -- two terms of an arena are one where their numbers are
 same-id : (ns : List Node) (c t : TermId) → OneId ns → IsIn ns c → IsIn ns t → nat_eq c.0 t.0 ≡ same_tree (tree_at (trees ns) t) (tree_at (trees ns) c)
@@ -144,7 +147,8 @@ listed-same ns (c ∷ ts) t o i j =
 pub Shared-none : (ns : List Node) (s : Shared) → s.edges ≡ 0 → ((q : ℕ) → count_of s.counts q ≡ 0) → IsShared ns [] s
 Shared-none ns s e c = record { edges = e; below = λ q. omega (arith, c q); counts = λ t i. ap (λ (k : ℕ). nat_eq k 0) (c t.0) }
 
-pub Shared-next : (ns : List Node) (before : List Edge) (e : Edge) (s new : Shared) (ts : List TermId) → OneId ns → AreIn ns ts → trees_at ns ts ≡ conjuncts_of (tree_at (trees ns) e.cond) → new.edges ≡ s.edges + 1 → ((q : ℕ) → count_of new.counts q ≡ raised s.edges (is_listed ts q) (count_of s.counts q)) → IsShared ns before s → IsShared ns (before ++ e ∷ []) new
+pub Shared-next : (ns : List Node) (before : List Edge) (e : Edge) (s new : Shared) (ts : List TermId) → OneId ns → AreIn ns ts → trees_at ns ts ≡ conjuncts_of (tree_at (trees ns) e.cond)
+    → new.edges ≡ s.edges + 1 → ((q : ℕ) → count_of new.counts q ≡ raised s.edges (is_listed ts q) (count_of s.counts q)) → IsShared ns before s → IsShared ns (before ++ e ∷ []) new
 Shared-next ns before e s new ts o i c p q h = record {
   edges = p ∙ ap (λ (n : ℕ). n + 1) h.edges ∙ sym (length_push before e);
   below = λ x. at-most x;
@@ -169,13 +173,16 @@ Shared-next ns before e s new ts o i c p q h = record {
     at-most : (x : ℕ) → count_of new.counts x ≤ length (before ++ e ∷ [])
     at-most x = omega (arith, q x, raised-below s.edges (count_of s.counts x) (is_listed ts x) (omega (arith, h.below x, h.edges)), length_push before e, h.edges)
 
-    each-push : (es : List Edge) (t : TermId) → in_each (edges_on ns (es ++ e ∷ [])) (tree_at (trees ns) t) ≡ in_each (edges_on ns es) (tree_at (trees ns) t) && list_any (same_tree (tree_at (trees ns) t)) (conjuncts_of (tree_at (trees ns) e.cond))
+    each-push : (es : List Edge) (t : TermId) → in_each (edges_on ns (es ++ e ∷ [])) (tree_at (trees ns) t) ≡ in_each (edges_on ns es) (tree_at (trees ns) t)
+        && list_any (same_tree (tree_at (trees ns) t)) (conjuncts_of (tree_at (trees ns) e.cond))
     each-push [] t = and-true (list_any (same_tree (tree_at (trees ns) t)) (conjuncts_of (tree_at (trees ns) e.cond)))
       where
         and-true : (b : Bool) → b && true ≡ b
         and-true true = refl
         and-true false = refl
-    each-push (x ∷ es) t = ap (λ (b : Bool). list_any (same_tree (tree_at (trees ns) t)) (conjuncts_of (tree_at (trees ns) x.cond)) && b) (each-push es t) ∙ and-all (list_any (same_tree (tree_at (trees ns) t)) (conjuncts_of (tree_at (trees ns) x.cond))) (in_each (edges_on ns es) (tree_at (trees ns) t)) (list_any (same_tree (tree_at (trees ns) t)) (conjuncts_of (tree_at (trees ns) e.cond)))
+    each-push (x ∷ es) t = ap (λ (b : Bool). list_any (same_tree (tree_at (trees ns) t)) (conjuncts_of (tree_at (trees ns) x.cond)) && b) (each-push es t)
+        ∙ and-all (list_any (same_tree (tree_at (trees ns) t)) (conjuncts_of (tree_at (trees ns) x.cond))) (in_each (edges_on ns es) (tree_at (trees ns) t)) (list_any
+        (same_tree (tree_at (trees ns) t)) (conjuncts_of (tree_at (trees ns) e.cond)))
       where
         and-all : (a b c : Bool) → a && (b && c) ≡ (a && b) && c
         and-all true b c = refl
@@ -206,21 +213,25 @@ nil-end : (xs : List Tree) → xs ++ [] ≡ xs
 nil-end [] = refl
 nil-end (x ∷ xs) = ap (λ (ys : List Tree). x ∷ ys) (nil-end xs)
 
-has-each : (ns : List Node) (s : Shared) (es : List Edge) (c : TermId) (b : Bool) → IsIn ns c → b ≡ nat_eq (count_of s.counts c.0) s.edges → IsShared ns es s → in_each (edges_on ns es) (tree_at (trees ns) c) ≡ b
+has-each : (ns : List Node) (s : Shared) (es : List Edge) (c : TermId) (b : Bool) → IsIn ns c → b ≡ nat_eq (count_of s.counts c.0) s.edges → IsShared ns es s
+    → in_each (edges_on ns es) (tree_at (trees ns) c) ≡ b
 has-each ns s es c b i e h = sym (h.counts c i) ∙ ap (nat_eq (count_of s.counts c.0)) (sym h.edges) ∙ sym e
 
 pub OthersSoFar-none : (ns : List Node) (s : Shared) → OthersSoFar ns s [] []
 OthersSoFar-none ns s = record { within = refl; kept = λ es h. refl }
 
-pub OthersSoFar-skip : (ns : List Node) (s : Shared) (others seen after : List TermId) (c : TermId) → after ≡ seen ++ c ∷ [] → IsIn ns c → true ≡ nat_eq (count_of s.counts c.0) s.edges → OthersSoFar ns s others seen → OthersSoFar ns s others after
+pub OthersSoFar-skip : (ns : List Node) (s : Shared) (others seen after : List TermId) (c : TermId) → after ≡ seen ++ c ∷ [] → IsIn ns c → true ≡ nat_eq (count_of s.counts c.0) s.edges
+    → OthersSoFar ns s others seen → OthersSoFar ns s others after
 OthersSoFar-skip ns s others seen after c f i e o = subst (OthersSoFar ns s others) (sym f) (record {
   within = o.within;
   kept = λ es h.
       let p = λ (x : Tree). not (in_each (edges_on ns es) x) in
-      o.kept es h ∙ sym (ap (filter p) (trees-push ns seen c) ∙ filter-push p (trees_at ns seen) (tree_at (trees ns) c) false (ap not (has-each ns s es c true i e h)) ∙ nil-end (filter p (trees_at ns seen)));
+      o.kept es h ∙ sym (ap (filter p) (trees-push ns seen c) ∙ filter-push p (trees_at ns seen) (tree_at (trees ns) c) false (ap not (has-each ns s es c true i e h))
+      ∙ nil-end (filter p (trees_at ns seen)));
 })
 
-pub OthersSoFar-push : (ns : List Node) (s : Shared) (others more seen after : List TermId) (c : TermId) → after ≡ seen ++ c ∷ [] → IsIn ns c → false ≡ nat_eq (count_of s.counts c.0) s.edges → more ≡ others ++ c ∷ [] → OthersSoFar ns s others seen → OthersSoFar ns s more after
+pub OthersSoFar-push : (ns : List Node) (s : Shared) (others more seen after : List TermId) (c : TermId) → after ≡ seen ++ c ∷ [] → IsIn ns c → false ≡ nat_eq (count_of s.counts c.0) s.edges
+    → more ≡ others ++ c ∷ [] → OthersSoFar ns s others seen → OthersSoFar ns s more after
 OthersSoFar-push ns s others more seen after c f i e q o = subst (OthersSoFar ns s more) (sym f) (record {
   within = subst (AreIn ns) (sym q) (in-push ns others c o.within i);
   kept = λ es h.

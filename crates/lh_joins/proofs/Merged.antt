@@ -6,24 +6,24 @@ use Rattle.lh_term.specs.Tree.{Tree}
 use Rattle.lh_term.specs.SameTree.{same_tree}
 use Rattle.lh_term.specs.Make.{bit_of, make_operation, make_choice}
 use Rattle.lh_term.specs.Conjuncts.{conjuncts_of, conjunction}
-use Rattle.lh_rows.specs.Joins.{Edge, or_any, in_each, selector, chosen_from}
+use Rattle.lh_rows.specs.Joins.{RegionEdge, or_any, in_each, selector, chosen_from}
 use Rattle.lh_joins.specs.Joins.{edge_on, on_conditions, chosen_by, MergedByConditions, TakenByConditions}
 
-or-same : (c : Tree) (es : List Edge) → or_any c es ≡ or_any c (on_conditions es)
+or-same : (c : Tree) (es : List RegionEdge) → or_any c es ≡ or_any c (on_conditions es)
 or-same c [] = refl
 or-same c (e ∷ more) = or-same (make_operation Or (c ∷ e.cond ∷ [])) more
 
 pub taken-by-conditions : TakenByConditions
 taken-by-conditions es = or-same (bit_of false) es
 
-in-same : (es : List Edge) (c : Tree) → in_each es c ≡ in_each (on_conditions es) c
+in-same : (es : List RegionEdge) (c : Tree) → in_each es c ≡ in_each (on_conditions es) c
 in-same [] c = refl
 in-same (e ∷ more) c = let r = in-same more c in ap (λ (b : Bool). list_any (same_tree c) (conjuncts_of e.cond) && b) r
 
-selector-same : (es : List Edge) (e : Edge) → selector es e ≡ selector (on_conditions es) (edge_on e.cond)
+selector-same : (es : List RegionEdge) (e : RegionEdge) → selector es e ≡ selector (on_conditions es) (edge_on e.cond)
 selector-same es e = λ i. conjunction (filter (λ c. not (in-same es c i)) (conjuncts_of e.cond))
 
-chosen-same : (all : List Edge) (t : Tree) (es : List Edge) (vs : List Tree) → chosen_from all t es vs ≡ chosen_by (map (selector (on_conditions all)) (on_conditions es)) t vs
+chosen-same : (all : List RegionEdge) (t : Tree) (es : List RegionEdge) (vs : List Tree) → chosen_from all t es vs ≡ chosen_by (map (selector (on_conditions all)) (on_conditions es)) t vs
 chosen-same all t [] vs = refl
 chosen-same all t (e ∷ es) [] = refl
 chosen-same all t (e ∷ es) (v ∷ vs) =

@@ -5,13 +5,13 @@ use Rattle.lh_unit.specs.Within.{Each}
 use Rattle.lh_term.specs.Tree.{Tree}
 use Rattle.lh_term.specs.Types.{type_of, IsTyped}
 use Rattle.lh_term.specs.Make.{make_choice}
-use Rattle.lh_term.specs.Arena.{trees, tree_at, trees_at, ids_below, IsIn, AreIn, Stands, Grows}
+use Rattle.lh_term.specs.Arena.{trees, tree_at, trees_at, ids_below, IsIn, AreIn, StandsForTree, Grows}
 use Rattle.lh_term.specs.Conjuncts.{conjuncts_of, conjunction}
 use Rattle.lh_term.specs.declared.term.TermId.{TermId}
 use Rattle.lh_term.specs.declared.term.Node.{Node}
 use Rattle.lh_term.proofs.Arenas.{lt_of}
 use Rattle.lh_term.proofs.Swaps.{tree_grown, in_grown, stands_grown, grows_on}
-use Rattle.lh_rows.specs.Joins.{Edge as EdgeTo, in_each, selector}
+use Rattle.lh_rows.specs.Joins.{RegionEdge, in_each, selector}
 use Rattle.lh_rows.specs.Typed.{IsCondition, IsOfType}
 use Rattle.lh_term.proofs.Conditions.{AllBits, conjuncts_are_bits, filter-bits}
 use Rattle.lh_rows.proofs.Merging.{made-choice}
@@ -38,7 +38,8 @@ edges-later ns (e ∷ es) = refl
 pub record EachSoFar (ns : List Node) (s : Shared) (seen : List Edge) (lists : List (List TermId)) : Type 0 where
   pub each : (es : List Edge) → IsShared ns es s → AreOthers ns (edges_on ns es) (edges_on ns seen) lists
 
-others-push : (ns : List Node) (all xs : List EdgeTo) (lists : List (List TermId)) (e : EdgeTo) (ts : List TermId) → AreOthers ns all xs lists → AreIn ns ts → trees_at ns ts ≡ filter (λ (c : Tree). not (in_each all c)) (conjuncts_of e.cond) → AreOthers ns all (xs ++ e ∷ []) (lists ++ ts ∷ [])
+others-push : (ns : List Node) (all xs : List RegionEdge) (lists : List (List TermId)) (e : RegionEdge) (ts : List TermId) → AreOthers ns all xs lists → AreIn ns ts
+    → trees_at ns ts ≡ filter (λ (c : Tree). not (in_each all c)) (conjuncts_of e.cond) → AreOthers ns all (xs ++ e ∷ []) (lists ++ ts ∷ [])
 others-push ns all [] [] e ts h i k = (i, k, tt)
 others-push ns all [] (l ∷ ls) e ts h i k = absurd h
 others-push ns all (x ∷ xs) [] e ts h i k = absurd h
@@ -46,16 +47,18 @@ others-push ns all (x ∷ xs) (l ∷ ls) e ts h i k = (h.0, h.1, others-push ns 
 
 edges-push : (ns : List Node) (es : List Edge) (e : Edge) → edges_on ns (es ++ e ∷ []) ≡ edges_on ns es ++ edge_on (tree_at (trees ns) e.cond) ∷ []
 edges-push ns [] e = refl
-edges-push ns (x ∷ es) e = ap (λ (ys : List EdgeTo). edge_on (tree_at (trees ns) x.cond) ∷ ys) (edges-push ns es e)
+edges-push ns (x ∷ es) e = ap (λ (ys : List RegionEdge). edge_on (tree_at (trees ns) x.cond) ∷ ys) (edges-push ns es e)
 
 pub EachSoFar-none : (ns : List Node) (s : Shared) → EachSoFar ns s [] []
 EachSoFar-none ns s = record { each = λ es h. tt }
 
-pub EachSoFar-next : (ns : List Node) (s : Shared) (seen after : List Edge) (lists more : List (List TermId)) (e : Edge) (ts : List TermId) → after ≡ seen ++ e ∷ [] → more ≡ lists ++ ts ∷ [] → AreIn ns ts → ((es : List Edge) → IsShared ns es s → trees_at ns ts ≡ filter (λ (c : Tree). not (in_each (edges_on ns es) c)) (conjuncts_of (tree_at (trees ns) e.cond))) → EachSoFar ns s seen lists → EachSoFar ns s after more
+pub EachSoFar-next : (ns : List Node) (s : Shared) (seen after : List Edge) (lists more : List (List TermId)) (e : Edge) (ts : List TermId) → after ≡ seen ++ e ∷ [] → more ≡ lists ++ ts ∷ []
+    → AreIn ns ts → ((es : List Edge) → IsShared ns es s → trees_at ns ts ≡ filter (λ (c : Tree). not (in_each (edges_on ns es) c)) (conjuncts_of (tree_at (trees ns) e.cond)))
+    → EachSoFar ns s seen lists → EachSoFar ns s after more
 EachSoFar-next ns s seen after lists more e ts p q i k h = record {
   each = λ es f.
       subst (λ (x : List Edge). AreOthers ns (edges_on ns es) (edges_on ns x) more) (sym p)
-      (subst (λ (x : List EdgeTo). AreOthers ns (edges_on ns es) x more) (sym (edges-push ns seen e))
+      (subst (λ (x : List RegionEdge). AreOthers ns (edges_on ns es) x more) (sym (edges-push ns seen e))
       (subst (AreOthers ns (edges_on ns es) (edges_on ns seen ++ edge_on (tree_at (trees ns) e.cond) ∷ [])) (sym q)
       (others-push ns (edges_on ns es) (edges_on ns seen) lists (edge_on (tree_at (trees ns) e.cond)) ts (h.each es f) i (k es f))));
 }
@@ -82,7 +85,8 @@ MergeSoFar-none ns first ss vs c = record {
   so_far = refl;
 }
 
-pub MergeSoFar-can : (old now : List Node) (first merged : TermId) (ss vs all_ss all_vs : List TermId) (s v : TermId) (ms mv : List TermId) → ss ≡ s ∷ ms → vs ≡ v ∷ mv → MergeSoFar old now first merged ss vs all_ss all_vs → CanChoose now s merged v
+pub MergeSoFar-can : (old now : List Node) (first merged : TermId) (ss vs all_ss all_vs : List TermId) (s v : TermId) (ms mv : List TermId) → ss ≡ s ∷ ms → vs ≡ v ∷ mv
+    → MergeSoFar old now first merged ss vs all_ss all_vs → CanChoose now s merged v
 MergeSoFar-can old now first merged ss vs all_ss all_vs s v ms mv p q h =
     let c = (subst (Each (IsConditionAt old)) p h.conds).0 in
     let a = (subst (Each (λ (x : TermId). IsIn old x × IsTyped (tree_at (trees old) x) × (type_of (tree_at (trees old) first) ≡ type_of (tree_at (trees old) x)))) q h.alike).0 in
@@ -95,14 +99,17 @@ MergeSoFar-can old now first merged ss vs all_ss all_vs s v ms mv p q h =
       alike = h.merged_is.type ∙ a.2 ∙ ap type_of (sym same);
     }
 
-pub MergeSoFar-next : (old now new : List Node) (first merged next : TermId) (ss vs all_ss all_vs : List TermId) (s v : TermId) (ms mv : List TermId) → ss ≡ s ∷ ms → vs ≡ v ∷ mv → Grows now new → Stands new next (make_choice (tree_at (trees now) s) (tree_at (trees now) merged) (tree_at (trees now) v)) → MergeSoFar old now first merged ss vs all_ss all_vs → MergeSoFar old new first next ms mv all_ss all_vs
+pub MergeSoFar-next : (old now new : List Node) (first merged next : TermId) (ss vs all_ss all_vs : List TermId) (s v : TermId) (ms mv : List TermId) → ss ≡ s ∷ ms → vs ≡ v ∷ mv → Grows now new
+    → StandsForTree new next (make_choice (tree_at (trees now) s) (tree_at (trees now) merged) (tree_at (trees now) v)) → MergeSoFar old now first merged ss vs all_ss all_vs
+    → MergeSoFar old new first next ms mv all_ss all_vs
 MergeSoFar-next old now new first merged next ss vs all_ss all_vs s v ms mv p q g m h =
     let c = subst (Each (IsConditionAt old)) p h.conds in
     let a = subst (Each (λ (x : TermId). IsIn old x × IsTyped (tree_at (trees old) x) × (type_of (tree_at (trees old) first) ≡ type_of (tree_at (trees old) x)))) q h.alike in
     let same_v : tree_at (trees now) v ≡ tree_at (trees old) v = tree_grown old now h.grows v a.0.0 in
     let same_s : tree_at (trees now) s ≡ tree_at (trees old) s = tree_grown old now h.grows s c.0.is_in in
     let ty = type_of (tree_at (trees old) first) in
-    let made = made-choice (tree_at (trees now) s) (tree_at (trees now) merged) (tree_at (trees now) v) ty (condition-grown old now s h.grows c.0).cond h.merged_is (record { typed = subst IsTyped (sym same_v) a.0.1; type = ap type_of same_v ∙ sym a.0.2 }) in
+    let made = made-choice (tree_at (trees now) s) (tree_at (trees now) merged) (tree_at (trees now) v) ty (condition-grown old now s h.grows c.0).cond h.merged_is
+    (record { typed = subst IsTyped (sym same_v) a.0.1; type = ap type_of same_v ∙ sym a.0.2 }) in
     record {
       grows = grows_on old now new h.grows g;
       merged_in = m.is_in;
@@ -119,8 +126,10 @@ MergeSoFar-next old now new first merged next ss vs all_ss all_vs s v ms mv p q 
     one-less : suc (length ms) ≡ suc (length mv) → length ms ≡ length mv
     one-less e = omega arith
 
-pub MergeSoFar-end : (old now : List Node) (first merged : TermId) (ss vs all_ss all_vs : List TermId) → ss ≡ [] → MergeSoFar old now first merged ss vs all_ss all_vs → Stands now merged (chosen_by (trees_at old all_ss) (tree_at (trees old) first) (trees_at old all_vs))
-MergeSoFar-end old now first merged ss vs all_ss all_vs p h = record { is_in = h.merged_in; tree = ap (λ (x : List TermId). chosen_by (trees_at old x) (tree_at (trees now) merged) (trees_at old vs)) (sym p) ∙ h.so_far }
+pub MergeSoFar-end : (old now : List Node) (first merged : TermId) (ss vs all_ss all_vs : List TermId) → ss ≡ [] → MergeSoFar old now first merged ss vs all_ss all_vs
+    → StandsForTree now merged (chosen_by (trees_at old all_ss) (tree_at (trees old) first) (trees_at old all_vs))
+MergeSoFar-end old now first merged ss vs all_ss all_vs p h = record
+    { is_in = h.merged_in; tree = ap (λ (x : List TermId). chosen_by (trees_at old x) (tree_at (trees now) merged) (trees_at old vs)) (sym p) ∙ h.so_far }
 
 -- ---- selectors
 
@@ -130,7 +139,7 @@ made-grown old new [] (x ∷ xs) g h = h
 made-grown old new (t ∷ ts) [] g h = h
 made-grown old new (t ∷ ts) (x ∷ xs) g h = (stands_grown old new g t x h.0, made-grown old new ts xs g h.1)
 
-pub made-push : (ns : List Node) (ts : List TermId) (xs : List Tree) (t : TermId) (x : Tree) → AreMade ns ts xs → Stands ns t x → AreMade ns (ts ++ t ∷ []) (xs ++ x ∷ [])
+pub made-push : (ns : List Node) (ts : List TermId) (xs : List Tree) (t : TermId) (x : Tree) → AreMade ns ts xs → StandsForTree ns t x → AreMade ns (ts ++ t ∷ []) (xs ++ x ∷ [])
 made-push ns [] [] t x h s = (s, tt)
 made-push ns [] (y ∷ xs) t x h s = absurd h
 made-push ns (u ∷ ts) [] t x h s = absurd h
@@ -148,27 +157,28 @@ trees-grown old new (t ∷ ts) g i =
     both-of true b e = (refl, e)
     both-of false b e = cc
 
-abbrev pub EachCond : List EdgeTo → Type 0
-EachCond es = Each (λ (e : EdgeTo). IsCondition e.cond) es
+abbrev pub EachCond : List RegionEdge → Type 0
+EachCond es = Each (λ (e : RegionEdge). IsCondition e.cond) es
 
 each-cond : (ns : List Node) (es : List Edge) → AreConditions ns es → EachCond (edges_on ns es)
 each-cond ns [] h = tt
 each-cond ns (e ∷ es) h = (h.0.cond, each-cond ns es h.1)
 
-later-cond : (es : List EdgeTo) → EachCond es → EachCond (after_first es)
+later-cond : (es : List RegionEdge) → EachCond es → EachCond (after_first es)
 later-cond [] h = tt
 later-cond (e ∷ es) h = h.1
 
-pub record SelectorsSoFar (old now : List Node) (all : List EdgeTo) (ids : List TermId) (rest : List (List TermId)) : Type 0 where
+pub record SelectorsSoFar (old now : List Node) (all : List RegionEdge) (ids : List TermId) (rest : List (List TermId)) : Type 0 where
   pub grows : Grows old now
-  pub done : List EdgeTo
-  pub left : List EdgeTo
+  pub done : List RegionEdge
+  pub left : List RegionEdge
   pub parts : after_first all ≡ done ++ left
   pub made : AreMade now ids (map (selector all) done)
   pub others : AreOthers old all left rest
   pub conds : EachCond left
 
-pub SelectorsSoFar-none : (ns : List Node) (es : List Edge) (rest : List (List TermId)) → AreConditions ns es → AreOthers ns (edges_on ns es) (after_first (edges_on ns es)) rest → SelectorsSoFar ns ns (edges_on ns es) [] rest
+pub SelectorsSoFar-none : (ns : List Node) (es : List Edge) (rest : List (List TermId)) → AreConditions ns es → AreOthers ns (edges_on ns es) (after_first (edges_on ns es)) rest
+    → SelectorsSoFar ns ns (edges_on ns es) [] rest
 SelectorsSoFar-none ns es rest c o = record {
   grows = grows-none ns;
   done = [];
@@ -197,9 +207,9 @@ each-grown old new [] g h = tt
 each-grown old new (t ∷ ts) g h = (condition-grown old new t g h.0, each-grown old new ts g h.1)
 
 -- the next edge, with its conjuncts
-record NextOthers (old : List Node) (all left : List EdgeTo) (conds : List TermId) (more : List (List TermId)) : Type 0 where
-  edge : EdgeTo
-  edges : List EdgeTo
+record NextOthers (old : List Node) (all left : List RegionEdge) (conds : List TermId) (more : List (List TermId)) : Type 0 where
+  edge : RegionEdge
+  edges : List RegionEdge
   parts : left ≡ edge ∷ edges
   within : AreIn old conds
   trees : trees_at old conds ≡ filter (λ (c : Tree). not (in_each all c)) (conjuncts_of edge.cond)
@@ -207,26 +217,31 @@ record NextOthers (old : List Node) (all left : List EdgeTo) (conds : List TermI
   cond : IsCondition edge.cond
   each_cond : EachCond edges
 
-next-others : (old : List Node) (all left : List EdgeTo) (rest : List (List TermId)) (conds : List TermId) (more : List (List TermId)) → rest ≡ conds ∷ more → AreOthers old all left rest → EachCond left → NextOthers old all left conds more
+next-others : (old : List Node) (all left : List RegionEdge) (rest : List (List TermId)) (conds : List TermId) (more : List (List TermId)) → rest ≡ conds ∷ more → AreOthers old all left rest
+    → EachCond left → NextOthers old all left conds more
 next-others old all [] rest conds more e o c = absurd (subst (AreOthers old all []) e o)
 next-others old all (x ∷ xs) rest conds more e o c =
     let p = subst (AreOthers old all (x ∷ xs)) e o in
     record { edge = x; edges = xs; parts = refl; within = p.0; trees = p.1; others = p.2; cond = c.0; each_cond = c.1 }
 
-pub SelectorsSoFar-conds : (old now : List Node) (all : List EdgeTo) (ids : List TermId) (rest : List (List TermId)) (conds : List TermId) (more : List (List TermId)) → rest ≡ conds ∷ more → SelectorsSoFar old now all ids rest → Each (IsConditionAt now) conds
+pub SelectorsSoFar-conds : (old now : List Node) (all : List RegionEdge) (ids : List TermId) (rest : List (List TermId)) (conds : List TermId) (more : List (List TermId)) → rest ≡ conds ∷ more
+    → SelectorsSoFar old now all ids rest → Each (IsConditionAt now) conds
 SelectorsSoFar-conds old now all ids rest conds more e s =
     let n = next-others old all s.left rest conds more e s.others s.conds in
-    each-grown old now conds s.grows (bits-conditions old conds n.within (subst AllBits (sym n.trees) (filter-bits (λ (c : Tree). not (in_each all c)) (conjuncts_of n.edge.cond) (bits-of n.edge.cond n.cond))))
+    each-grown old now conds s.grows (bits-conditions old conds n.within
+    (subst AllBits (sym n.trees) (filter-bits (λ (c : Tree). not (in_each all c)) (conjuncts_of n.edge.cond) (bits-of n.edge.cond n.cond))))
 
-append-one : (xs : List EdgeTo) (y : EdgeTo) (ys : List EdgeTo) → xs ++ y ∷ ys ≡ (xs ++ y ∷ []) ++ ys
+append-one : (xs : List RegionEdge) (y : RegionEdge) (ys : List RegionEdge) → xs ++ y ∷ ys ≡ (xs ++ y ∷ []) ++ ys
 append-one [] y ys = refl
-append-one (x ∷ xs) y ys = ap (λ (zs : List EdgeTo). x ∷ zs) (append-one xs y ys)
+append-one (x ∷ xs) y ys = ap (λ (zs : List RegionEdge). x ∷ zs) (append-one xs y ys)
 
-map-one : (f : EdgeTo → Tree) (xs : List EdgeTo) (y : EdgeTo) → map f (xs ++ y ∷ []) ≡ map f xs ++ f y ∷ []
+map-one : (f : RegionEdge → Tree) (xs : List RegionEdge) (y : RegionEdge) → map f (xs ++ y ∷ []) ≡ map f xs ++ f y ∷ []
 map-one f [] y = refl
 map-one f (x ∷ xs) y = ap (λ (zs : List Tree). f x ∷ zs) (map-one f xs y)
 
-pub SelectorsSoFar-next : (old now new : List Node) (all : List EdgeTo) (ids longer : List TermId) (rest : List (List TermId)) (conds : List TermId) (more : List (List TermId)) (t : TermId) → rest ≡ conds ∷ more → longer ≡ ids ++ t ∷ [] → Grows now new → Stands new t (conjunction (trees_at now conds)) → SelectorsSoFar old now all ids rest → SelectorsSoFar old new all longer more
+pub SelectorsSoFar-next : (old now new : List Node) (all : List RegionEdge) (ids longer : List TermId) (rest : List (List TermId)) (conds : List TermId) (more : List (List TermId)) (t : TermId)
+    → rest ≡ conds ∷ more → longer ≡ ids ++ t ∷ [] → Grows now new → StandsForTree new t (conjunction (trees_at now conds)) → SelectorsSoFar old now all ids rest
+    → SelectorsSoFar old new all longer more
 SelectorsSoFar-next old now new all ids longer rest conds more t e q g m s =
     let n = next-others old all s.left rest conds more e s.others s.conds in
     let same : conjunction (trees_at now conds) ≡ selector all n.edge = ap conjunction (trees-grown old now conds s.grows n.within ∙ n.trees) in
@@ -234,22 +249,24 @@ SelectorsSoFar-next old now new all ids longer rest conds more t e q g m s =
       grows = grows_on old now new s.grows g;
       done = s.done ++ n.edge ∷ [];
       left = n.edges;
-      parts = s.parts ∙ ap (λ (x : List EdgeTo). s.done ++ x) n.parts ∙ append-one s.done n.edge n.edges;
+      parts = s.parts ∙ ap (λ (x : List RegionEdge). s.done ++ x) n.parts ∙ append-one s.done n.edge n.edges;
       made =
           subst (λ (x : List Tree). AreMade new longer x) (sym (map-one (selector all) s.done n.edge))
           (subst (λ (x : List TermId). AreMade new x (map (selector all) s.done ++ selector all n.edge ∷ [])) (sym q)
-          (made-push new ids (map (selector all) s.done) t (selector all n.edge) (made-grown now new ids (map (selector all) s.done) g s.made) (subst (Stands new t) same m)));
+          (made-push new ids (map (selector all) s.done) t (selector all n.edge) (made-grown now new ids (map (selector all) s.done) g s.made) (subst (StandsForTree new t) same m)));
       others = n.others;
       conds = n.each_cond;
     }
 
-pub SelectorsSoFar-end : (old now : List Node) (all : List EdgeTo) (ids : List TermId) (rest : List (List TermId)) → rest ≡ [] → SelectorsSoFar old now all ids rest → AreMade now ids (map (selector all) (after_first all))
-SelectorsSoFar-end old now all ids rest e s = subst (λ (x : List EdgeTo). AreMade now ids (map (selector all) x)) (sym (s.parts ∙ ap (λ (x : List EdgeTo). s.done ++ x) (none s.left (subst (AreOthers old all s.left) e s.others)) ∙ nil s.done)) s.made
+pub SelectorsSoFar-end : (old now : List Node) (all : List RegionEdge) (ids : List TermId) (rest : List (List TermId)) → rest ≡ [] → SelectorsSoFar old now all ids rest
+    → AreMade now ids (map (selector all) (after_first all))
+SelectorsSoFar-end old now all ids rest e s = subst (λ (x : List RegionEdge). AreMade now ids (map (selector all) x))
+    (sym (s.parts ∙ ap (λ (x : List RegionEdge). s.done ++ x) (none s.left (subst (AreOthers old all s.left) e s.others)) ∙ nil s.done)) s.made
   where
-    none : (left : List EdgeTo) → AreOthers old all left [] → left ≡ []
+    none : (left : List RegionEdge) → AreOthers old all left [] → left ≡ []
     none [] o = refl
     none (x ∷ xs) o = absurd o
 
-    nil : (xs : List EdgeTo) → xs ++ [] ≡ xs
+    nil : (xs : List RegionEdge) → xs ++ [] ≡ xs
     nil [] = refl
-    nil (x ∷ xs) = ap (λ (ys : List EdgeTo). x ∷ ys) (nil xs)
+    nil (x ∷ xs) = ap (λ (ys : List RegionEdge). x ∷ ys) (nil xs)

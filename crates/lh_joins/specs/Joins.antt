@@ -4,14 +4,14 @@ use Rattle.std.specs.List.{list_any, filter}
 use Rattle.std.specs.HashMap.{HashMap, get}
 use Rattle.lh_unit.specs.Within.{Each}
 use Rattle.lh_term.specs.Tree.{Tree}
-use Rattle.lh_term.specs.Arena.{trees, tree_at, trees_at, IsIn, AreIn, Stands}
+use Rattle.lh_term.specs.Arena.{trees, tree_at, trees_at, IsIn, AreIn, StandsForTree}
 use Rattle.lh_term.specs.Conjuncts.{conjuncts_of}
 use Rattle.lh_term.specs.Make.{make_choice}
 use Rattle.lh_term.specs.Types.{IsTyped, type_of}
 use Rattle.lh_term.specs.declared.term.TermId.{TermId}
 use Rattle.lh_term.specs.declared.term.Node.{Node}
 use Rattle.lh_rows.specs.Known.{nothing_known}
-use Rattle.lh_rows.specs.Joins.{Edge as EdgeTo, any_taken, in_each, selector, merged}
+use Rattle.lh_rows.specs.Joins.{RegionEdge, any_taken, in_each, selector, merged}
 use Rattle.lh_rows.specs.Typed.{IsCondition}
 use Rattle.lh_joins.specs.declared.edge.Edge.{Edge}
 use Rattle.lh_joins.specs.declared.joins.Shared.{Shared}
@@ -26,10 +26,10 @@ abbrev pub AreConditions : List Node → List Edge → Type 0
 AreConditions ns es = Each (λ (e : Edge). IsConditionAt ns e.cond) es
 
 -- an edge on this condition, wherever it comes from and leads
-abbrev pub edge_on : Tree → EdgeTo
+abbrev pub edge_on : Tree → RegionEdge
 edge_on c = record { to = record { turns = 0; block = 0 }; from = []; cond = c; known = nothing_known }
 
-abbrev pub edges_on : List Node → List Edge → List EdgeTo
+abbrev pub edges_on : List Node → List Edge → List RegionEdge
 edges_on ns es = map (λ (e : Edge). edge_on (tree_at (trees ns) e.cond)) es
 
 -- ---- which conjuncts all of some edges have
@@ -60,11 +60,11 @@ after_first (x ∷ more) = more
 -- each id stands for its tree
 abbrev pub AreMade : List Node → List TermId → List Tree → Type 0
 AreMade ns [] [] = Unit {0}
-AreMade ns (t ∷ ts) (x ∷ xs) = Stands ns t x × AreMade ns ts xs
+AreMade ns (t ∷ ts) (x ∷ xs) = StandsForTree ns t x × AreMade ns ts xs
 AreMade ns _ _ = ⊥
 
 -- the conjuncts of each of these edges that not all have
-abbrev pub AreOthers : List Node → (all : List EdgeTo) → List EdgeTo → List (List TermId) → Type 0
+abbrev pub AreOthers : List Node → (all : List RegionEdge) → List RegionEdge → List (List TermId) → Type 0
 AreOthers ns all [] [] = Unit {0}
 AreOthers ns all (e ∷ es) (ts ∷ more) = AreIn ns ts × (trees_at ns ts ≡ filter (λ c. not (in_each all c)) (conjuncts_of e.cond)) × AreOthers ns all es more
 AreOthers ns all _ _ = ⊥
@@ -93,13 +93,13 @@ pub record CanMerge (ns : List Node) (selectors : List TermId) (first : TermId) 
 -- ---- laws
 
 -- the same edges, of which the conditions alone are told
-abbrev pub on_conditions : List EdgeTo → List EdgeTo
-on_conditions es = map (λ (e : EdgeTo). edge_on e.cond) es
+abbrev pub on_conditions : List RegionEdge → List RegionEdge
+on_conditions es = map (λ (e : RegionEdge). edge_on e.cond) es
 
 -- Control comes by some of the edges where one of their conditions is 1.
 abbrev pub TakenByConditions : Type 0
-TakenByConditions = (es : List EdgeTo) → any_taken es ≡ any_taken (on_conditions es)
+TakenByConditions = (es : List RegionEdge) → any_taken es ≡ any_taken (on_conditions es)
 
 -- What is merged depends on the conditions of edges alone: the first value, and each further one by its selector.
 abbrev pub MergedByConditions : Type 0
-MergedByConditions = (e : EdgeTo) (es : List EdgeTo) (v : Tree) (vs : List Tree) → merged (e ∷ es) (v ∷ vs) ≡ Some (chosen_by (map (selector (on_conditions (e ∷ es))) (on_conditions es)) v vs)
+MergedByConditions = (e : RegionEdge) (es : List RegionEdge) (v : Tree) (vs : List Tree) → merged (e ∷ es) (v ∷ vs) ≡ Some (chosen_by (map (selector (on_conditions (e ∷ es))) (on_conditions es)) v vs)

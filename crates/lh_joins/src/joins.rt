@@ -2,7 +2,7 @@
 ghost use Rattle.std.specs.Prelude.{◌≡◌, ◌<◌, ◌+◌, ◌^◌, not, ℕ, List, map, nat_eq, IfOk, OnOk};
 ghost use Rattle.std.specs.List.{filter, list_all};
 ghost use Rattle.lh_unit.specs.Within.{Each};
-ghost use Rattle.lh_term.specs.Arena.{trees, tree_at, trees_at, AreIn, Stands, Grows};
+ghost use Rattle.lh_term.specs.Arena.{trees, tree_at, trees_at, AreIn, StandsForTree, Grows};
 ghost use Rattle.lh_term.specs.Conjuncts.{conjuncts_of, conjunction};
 ghost use Rattle.lh_rows.specs.Joins.{any_taken, in_each, selector};
 ghost use Rattle.lh_term.specs.Make.{make_choice};
@@ -22,7 +22,7 @@ use std::collections::HashMap;
 /// The conditions of edges, one or the other, from the left.
 pub fn any_of(terms: &mut Terms, edges: &[Edge]) -> Result<TermId, NoMemory>
     requires { AreConditions terms.old edges.now }
-    ensures made { IfOk result (λ t. Stands terms.new t (any_taken (edges_on terms.old edges.now))) }
+    ensures made { IfOk result (λ t. StandsForTree terms.new t (any_taken (edges_on terms.old edges.now))) }
     ensures kept { Grows terms.old terms.new }
 {
     let mut any = bit(terms, false)?;
@@ -79,10 +79,8 @@ impl Shared {
         if self.count(conjunct) != self.edges {
             return Ok(());
         }
-        match self.counts.insert(conjunct.0, self.edges + 1) {
-            Ok(_) => Ok(()),
-            Err(_) => Err(NoMemory),
-        }
+        self.counts.insert(conjunct.0, self.edges + 1)?;
+        Ok(())
     }
 
     fn count(&self, conjunct: TermId) -> usize
@@ -134,7 +132,7 @@ impl Shared {
 /// The conjunction of conditions, from the left.
 pub fn conjunction(terms: &mut Terms, conds: &[TermId]) -> Result<TermId, NoMemory>
     requires { Each (IsConditionAt terms.old) conds.now }
-    ensures made { IfOk result (λ t. Stands terms.new t (conjunction (trees_at terms.old conds.now))) }
+    ensures made { IfOk result (λ t. StandsForTree terms.new t (conjunction (trees_at terms.old conds.now))) }
     ensures kept { Grows terms.old terms.new }
 {
     let mut all = bit(terms, true)?;
@@ -195,7 +193,7 @@ pub fn merge(
     others: &[TermId],
 ) -> Result<TermId, NoMemory>
     requires { CanMerge terms.old selectors.now first others.now }
-    ensures made { IfOk result (λ t. Stands terms.new t (chosen_by (trees_at terms.old selectors.now) (tree_at (trees terms.old) first) (trees_at terms.old others.now))) }
+    ensures made { IfOk result (λ t. StandsForTree terms.new t (chosen_by (trees_at terms.old selectors.now) (tree_at (trees terms.old) first) (trees_at terms.old others.now))) }
     ensures kept { Grows terms.old terms.new }
 {
     let mut merged = first;
@@ -213,7 +211,7 @@ fn choose(
     value: TermId,
 ) -> Result<TermId, NoMemory>
     requires { CanChoose terms.old selector so_far value }
-    ensures made { IfOk result (λ t. Stands terms.new t (make_choice (tree_at (trees terms.old) selector) (tree_at (trees terms.old) so_far) (tree_at (trees terms.old) value))) }
+    ensures made { IfOk result (λ t. StandsForTree terms.new t (make_choice (tree_at (trees terms.old) selector) (tree_at (trees terms.old) so_far) (tree_at (trees terms.old) value))) }
     ensures kept { Grows terms.old terms.new }
 {
     terms.choice(selector, so_far, value)

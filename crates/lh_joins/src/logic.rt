@@ -1,7 +1,7 @@
 //! Conditions: terms of one bit.
 ghost use Rattle.std.specs.Prelude.{◌≡◌, ◌∷◌, [], IfOk};
 ghost use Rattle.lh_types.specs.declared.op.Op.TheVariants.{And as AndOf, Or as OrOf};
-ghost use Rattle.lh_term.specs.Arena.{trees, tree_at, Stands, Grows};
+ghost use Rattle.lh_term.specs.Arena.{trees, tree_at, StandsForTree, Grows};
 ghost use Rattle.lh_term.specs.Make.{bit_of, is_zero, make_operation};
 ghost use Rattle.lh_joins.specs.Joins.{IsConditionAt};
 
@@ -13,7 +13,7 @@ use lh_types::val::Val;
 
 /// A condition that always holds, or never does.
 pub fn bit(terms: &mut Terms, is_set: bool) -> Result<TermId, NoMemory>
-    ensures made { IfOk result (λ t. Stands terms.new t (bit_of is_set)) }
+    ensures made { IfOk result (λ t. StandsForTree terms.new t (bit_of is_set)) }
     ensures kept { Grows terms.old terms.new }
 {
     let bits = if is_set { 1 } else { 0 };
@@ -24,7 +24,7 @@ pub fn bit(terms: &mut Terms, is_set: bool) -> Result<TermId, NoMemory>
 pub fn and(terms: &mut Terms, a: TermId, b: TermId) -> Result<TermId, NoMemory>
     requires a_holds { IsConditionAt terms.old a }
     requires b_holds { IsConditionAt terms.old b }
-    ensures made { IfOk result (λ t. Stands terms.new t (make_operation AndOf (tree_at (trees terms.old) a ∷ tree_at (trees terms.old) b ∷ []))) }
+    ensures made { IfOk result (λ t. StandsForTree terms.new t (make_operation AndOf (tree_at (trees terms.old) a ∷ tree_at (trees terms.old) b ∷ []))) }
     ensures kept { Grows terms.old terms.new }
 {
     terms.op(&Op::And, &[a, b])
@@ -34,7 +34,7 @@ pub fn and(terms: &mut Terms, a: TermId, b: TermId) -> Result<TermId, NoMemory>
 pub fn or(terms: &mut Terms, a: TermId, b: TermId) -> Result<TermId, NoMemory>
     requires a_holds { IsConditionAt terms.old a }
     requires b_holds { IsConditionAt terms.old b }
-    ensures made { IfOk result (λ t. Stands terms.new t (make_operation OrOf (tree_at (trees terms.old) a ∷ tree_at (trees terms.old) b ∷ []))) }
+    ensures made { IfOk result (λ t. StandsForTree terms.new t (make_operation OrOf (tree_at (trees terms.old) a ∷ tree_at (trees terms.old) b ∷ []))) }
     ensures kept { Grows terms.old terms.new }
 {
     terms.op(&Op::Or, &[a, b])

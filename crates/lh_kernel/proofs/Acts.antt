@@ -31,7 +31,7 @@ use Rattle.lh_kernel.specs.Woken.{awakes, awake_from}
 use Rattle.lh_kernel.specs.Ran.{done_by, DoesSo, AllRan, outcomes_by, outcomes_ran, states_after}
 
 -- what is known of the instances of a design and of what is kept of them
-pub record Known (a : Arena) (width : ℕ) (is : List Instance) (ss : List InstState) (ps : List State) : Type 0 where
+pub record InstancesAreKnown (a : Arena) (width : ℕ) (is : List Instance) (ss : List InstState) (ps : List State) : Type 0 where
   pub arena : IsArena a
   pub instances : Each (InstanceIs a width) is
   pub fit : StatesFit a width is ss
@@ -113,7 +113,7 @@ awake-tasks k a width m (i ∷ is) (s ∷ ss) (p ∷ ps) f h =
     ∙ ap (λ (b : Bool). if b then k ∷ numbers_of (k + 1) (tasks a m is ps) else numbers_of (k + 1) (tasks a m is ps)) (sym (awakes-same a width i s p m f.0 h.0))
 
 -- the instances that wake by what is kept of them are those that are woken
-pub woken_same : (a : Arena) (width : ℕ) (is : List Instance) (ss : List InstState) (ps : List State) (m : Moment) → Known a width is ss ps → woken_from 0 (contents a) m (map (instance_text a) is) ps ≡ awake_from 0 a m is ss
+pub woken_same : (a : Arena) (width : ℕ) (is : List Instance) (ss : List InstState) (ps : List State) (m : Moment) → InstancesAreKnown a width is ss ps → woken_from 0 (contents a) m (map (instance_text a) is) ps ≡ awake_from 0 a m is ss
 woken_same a width is ss ps m h = numbers-tasks 0 a m is ps (are-named a width is h.arena h.instances) ∙ sym (awake-tasks 0 a width m is ss ps h.fit h.stand)
 
 -- the first instance of a list did this: it rests, it ran away and ends the list, or it did what the definition has it do
@@ -285,7 +285,7 @@ states-tasks a m (i ∷ is) [] ps h = absurd h
 states-tasks a m (i ∷ is) (s ∷ ss) [] h = absurd h
 states-tasks a m (i ∷ is) (s ∷ ss) (p ∷ ps) h = ap (λ qs. p ∷ qs) (states-tasks a m is ss ps h.1)
 
-module _ (a : Arena) (width : ℕ) (is : List Instance) (ss : List InstState) (ps : List State) (m : Moment) (known : Known a width is ss ps) where
+module _ (a : Arena) (width : ℕ) (is : List Instance) (ss : List InstState) (ps : List State) (m : Moment) (known : InstancesAreKnown a width is ss ps) where
   -- those who wake at the moment did this in turn, up to the first that ran away
   abbrev TheyRan : List Activation → Option ℕ → Type 0
   TheyRan xs r = AllRan a m.now m.at is ps (awake_from 0 a m is ss) xs r

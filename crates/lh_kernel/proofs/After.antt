@@ -12,7 +12,7 @@ use Rattle.lh_unit.specs.Arena.{Arena}
 use Rattle.lh_unit.specs.Within.{Each}
 use Rattle.lh_unit.specs.World.{bit_numbers, bit_differs, is_at, Moment, wakes}
 use Rattle.lh_eval.specs.declared.instance.Instance.{Instance}
-use Rattle.lh_index.specs.Rising.{Has}
+use Rattle.lh_index.specs.Rising.{IsOneOf}
 use Rattle.lh_elab.specs.Probed.{probed_by}
 use Rattle.lh_states.specs.declared.state.InstState.{InstState}
 use Rattle.lh_states.specs.States.{StateFits, parts_sensed, wake_kept}
@@ -58,12 +58,12 @@ get_set (y ∷ ys) (suc k) (suc j) s x e = ⊎_elim (λ p. inl (ap suc p.0, p.1)
 
 -- each is one of these, or wakes by itself later, if it does
 abbrev pub OthersLater : Instant → List ℕ → List InstState → Type 0
-OthersLater t ks ss = (k : ℕ) (s : InstState) → slice_get ss k ≡ Some s → Has k ks ⊎ IsLaterIfAny t (wake_kept s)
+OthersLater t ks ss = (k : ℕ) (s : InstState) → slice_get ss k ≡ Some s → IsOneOf k ks ⊎ IsLaterIfAny t (wake_kept s)
 
 one_later : (t : Instant) (ks : List ℕ) (ss : List InstState) (k : ℕ) (s : InstState) → OthersLater t (k ∷ ks) ss → IsLaterIfAny t (wake_kept s) → OthersLater t ks (slice_set ss k s)
 one_later t ks ss k s h l j x e = ⊎_elim (λ p. inr (subst (λ (z : InstState). IsLaterIfAny t (wake_kept z)) p.1 l)) (λ p. drop p.0 (h j x p.1)) (get_set ss k j s x e)
   where
-    drop : k ≢ j → Has j (k ∷ ks) ⊎ IsLaterIfAny t (wake_kept x) → Has j ks ⊎ IsLaterIfAny t (wake_kept x)
+    drop : k ≢ j → IsOneOf j (k ∷ ks) ⊎ IsLaterIfAny t (wake_kept x) → IsOneOf j ks ⊎ IsLaterIfAny t (wake_kept x)
     drop n (inl (inl p)) = absurd (n p)
     drop n (inl (inr p)) = inl p
     drop n (inr p) = inr p
@@ -102,7 +102,7 @@ sleeps_later m sensed wake = by m.before
 
 -- from number n on, each is awake or wakes later
 awake_or_later : (n : ℕ) (a : Arena) (width : ℕ) (m : Moment) (is : List Instance) (ss : List InstState) → StatesFit a width is ss →
-    ((u : Instant) (k : ℕ) → WakesItself ss u k → instant_le m.at u ≡ true) → (k : ℕ) (s : InstState) → slice_get ss k ≡ Some s → Has (n + k) (awake_from n a m is ss) ⊎ IsLaterIfAny m.at (wake_kept s)
+    ((u : Instant) (k : ℕ) → WakesItself ss u k → instant_le m.at u ≡ true) → (k : ℕ) (s : InstState) → slice_get ss k ≡ Some s → IsOneOf (n + k) (awake_from n a m is ss) ⊎ IsLaterIfAny m.at (wake_kept s)
 awake_or_later n a width m is [] f l k s e = absurd (none_some s e)
 awake_or_later n a width m [] (x ∷ xs) f l k s e = absurd f
 awake_or_later n a width m (i ∷ is) (x ∷ xs) f l zero s e = at (awakes a m i x) refl
@@ -110,18 +110,18 @@ awake_or_later n a width m (i ∷ is) (x ∷ xs) f l zero s e = at (awakes a m i
     same : x ≡ s
     same = same_some x s e
 
-    at : (b : Bool) → awakes a m i x ≡ b → Has (n + 0) (if b then n ∷ awake_from (n + 1) a m is xs else awake_from (n + 1) a m is xs) ⊎ IsLaterIfAny m.at (wake_kept s)
+    at : (b : Bool) → awakes a m i x ≡ b → IsOneOf (n + 0) (if b then n ∷ awake_from (n + 1) a m is xs else awake_from (n + 1) a m is xs) ⊎ IsLaterIfAny m.at (wake_kept s)
     at true b = inl (inl (omega arith))
     at false b = inr (subst (λ (z : InstState). IsLaterIfAny m.at (wake_kept z)) same
         (sleeps_later m (parts_sensed x (probed_by a i)) (wake_kept x) b (λ u w. l u 0 (record { state = x; stands = refl; wakes = w }))))
 awake_or_later n a width m (i ∷ is) (x ∷ xs) f l (suc k) s e =
-    at (awakes a m i x) (subst (λ j. Has j (awake_from (n + 1) a m is xs) ⊎ IsLaterIfAny m.at (wake_kept s)) same
+    at (awakes a m i x) (subst (λ j. IsOneOf j (awake_from (n + 1) a m is xs) ⊎ IsLaterIfAny m.at (wake_kept s)) same
     (awake_or_later (n + 1) a width m is xs f.1 (λ u j w. l u (suc j) (record { state = w.state; stands = w.stands; wakes = w.wakes })) k s e))
   where
     same : n + 1 + k ≡ n + suc k
     same = omega arith
 
-    at : (b : Bool) → Has (n + suc k) (awake_from (n + 1) a m is xs) ⊎ IsLaterIfAny m.at (wake_kept s) → Has (n + suc k) (if b then n ∷ awake_from (n + 1) a m is xs else awake_from (n + 1) a m is xs) ⊎ IsLaterIfAny m.at (wake_kept s)
+    at : (b : Bool) → IsOneOf (n + suc k) (awake_from (n + 1) a m is xs) ⊎ IsLaterIfAny m.at (wake_kept s) → IsOneOf (n + suc k) (if b then n ∷ awake_from (n + 1) a m is xs else awake_from (n + 1) a m is xs) ⊎ IsLaterIfAny m.at (wake_kept s)
     at true h = ⊎_elim (λ p. inl (inr p)) (λ p. inr p) h
     at false h = h
 
@@ -130,4 +130,4 @@ pub after_wakes : (a : Arena) (width : ℕ) (m : Moment) (is : List Instance) (s
     instances_of xs ≡ awake_from 0 a m is ss → Each (ActOfOne a width m.at is) xs → Each (WakesAfter (Some m.at)) (states_after ss xs)
 after_wakes a width m is ss xs f l e s =
     after_later a width m.at is ss xs
-    (subst (λ ks. OthersLater m.at ks ss) (sym e) (λ k x g. subst (λ j. Has j (awake_from 0 a m is ss) ⊎ IsLaterIfAny m.at (wake_kept x)) (omega arith) (awake_or_later 0 a width m is ss f l k x g))) s
+    (subst (λ ks. OthersLater m.at ks ss) (sym e) (λ k x g. subst (λ j. IsOneOf j (awake_from 0 a m is ss) ⊎ IsLaterIfAny m.at (wake_kept x)) (omega arith) (awake_or_later 0 a width m is ss f l k x g))) s

@@ -4,7 +4,7 @@ use Rattle.std.specs.Prelude.{◌↔◌, slice_get}
 use Rattle.lh_unit.specs.Arena.{Arena}
 use Rattle.lh_unit.specs.World.{Moment}
 use Rattle.lh_eval.specs.declared.instance.Instance.{Instance}
-use Rattle.lh_index.specs.Rising.{Has, AreAbove, IsRising}
+use Rattle.lh_index.specs.Rising.{IsOneOf, AreAbove, IsRising}
 use Rattle.lh_states.specs.declared.state.InstState.{InstState}
 use Rattle.lh_kernel.specs.Woken.{awakes, awake_from}
 
@@ -36,18 +36,18 @@ module _ (a : Arena) (m : Moment) where
     awake = record { instance = l.awake.instance; state = l.awake.state; is_one = l.awake.is_one; is_kept = l.awake.is_kept; awakes = l.awake.awakes };
   }
 
-  pub has_awake : (is : List Instance) (ss : List InstState) (k n : ℕ) → Has n (awake_from k a m is ss) → Later is ss k n
+  pub has_awake : (is : List Instance) (ss : List InstState) (k n : ℕ) → IsOneOf n (awake_from k a m is ss) → Later is ss k n
   has_awake [] ss k n h = absurd h
   has_awake (i ∷ is) [] k n h = absurd h
   has_awake (i ∷ is) (s ∷ ss) k n h = at (awakes a m i s) refl h (has_awake is ss (k + 1) n)
     where
-      at : (b : Bool) → awakes a m i s ≡ b → Has n (if b then k ∷ awake_from (k + 1) a m is ss else awake_from (k + 1) a m is ss) →
-          (Has n (awake_from (k + 1) a m is ss) → Later is ss (k + 1) n) → Later (i ∷ is) (s ∷ ss) k n
+      at : (b : Bool) → awakes a m i s ≡ b → IsOneOf n (if b then k ∷ awake_from (k + 1) a m is ss else awake_from (k + 1) a m is ss) →
+          (IsOneOf n (awake_from (k + 1) a m is ss) → Later is ss (k + 1) n) → Later (i ∷ is) (s ∷ ss) k n
       at true e (inl p) ih = record { place = 0; number = omega (arith, p); awake = record { instance = i; state = s; is_one = refl; is_kept = refl; awakes = e } }
       at true e (inr g) ih = one_later i is s ss k n (ih g)
       at false e g ih = one_later i is s ss k n (ih g)
 
-  pub awake_has : (is : List Instance) (ss : List InstState) (k j : ℕ) → AwakeAt a m is ss j → Has (k + j) (awake_from k a m is ss)
+  pub awake_has : (is : List Instance) (ss : List InstState) (k j : ℕ) → AwakeAt a m is ss j → IsOneOf (k + j) (awake_from k a m is ss)
   awake_has [] ss k zero w = absurd (none w.instance w.is_one)
     where
       none : (i : Instance) → None ≡ Some i → ⊥
@@ -67,20 +67,20 @@ module _ (a : Arena) (m : Moment) where
   awake_has (i ∷ is) (s ∷ ss) k zero w =
       let e : awakes a m i s ≡ true =
       ap (λ (x : Instance). awakes a m x s) (same_instance i w.instance w.is_one) ∙ ap (λ (x : InstState). awakes a m w.instance x) (same_state s w.state w.is_kept) ∙ w.awakes in
-      let P : Bool → Type 0 = λ b. Has (k + 0) (if b then k ∷ awake_from (k + 1) a m is ss else awake_from (k + 1) a m is ss) in
+      let P : Bool → Type 0 = λ b. IsOneOf (k + 0) (if b then k ∷ awake_from (k + 1) a m is ss else awake_from (k + 1) a m is ss) in
       subst P (sym e) (inl (omega arith))
   awake_has (i ∷ is) (s ∷ ss) k (suc j) w =
-      let r : Has (k + 1 + j) (awake_from (k + 1) a m is ss) = awake_has is ss (k + 1) j (record { instance = w.instance; state = w.state; is_one = w.is_one; is_kept = w.is_kept; awakes = w.awakes }) in
+      let r : IsOneOf (k + 1 + j) (awake_from (k + 1) a m is ss) = awake_has is ss (k + 1) j (record { instance = w.instance; state = w.state; is_one = w.is_one; is_kept = w.is_kept; awakes = w.awakes }) in
       let q : k + 1 + j ≡ k + suc j = omega arith in
-      let Q : ℕ → Type 0 = λ n. Has n (awake_from (k + 1) a m is ss) in
+      let Q : ℕ → Type 0 = λ n. IsOneOf n (awake_from (k + 1) a m is ss) in
       either (awakes a m i s) (subst Q q r)
     where
-      either : (b : Bool) → Has (k + suc j) (awake_from (k + 1) a m is ss) → Has (k + suc j) (if b then k ∷ awake_from (k + 1) a m is ss else awake_from (k + 1) a m is ss)
+      either : (b : Bool) → IsOneOf (k + suc j) (awake_from (k + 1) a m is ss) → IsOneOf (k + suc j) (if b then k ∷ awake_from (k + 1) a m is ss else awake_from (k + 1) a m is ss)
       either true h = inr h
       either false h = h
 
   -- the numbers rise, and are numbers of instances
-  above_each : (k : ℕ) (xs : List ℕ) → ((n : ℕ) → Has n xs → k < n) → AreAbove k xs
+  above_each : (k : ℕ) (xs : List ℕ) → ((n : ℕ) → IsOneOf n xs → k < n) → AreAbove k xs
   above_each k [] h = tt
   above_each k (x ∷ xs) h = (h x (inl refl), above_each k xs (λ n g. h n (inr g)))
 
@@ -93,32 +93,32 @@ module _ (a : Arena) (m : Moment) where
       at true r = (above_each k (awake_from (k + 1) a m is ss) (λ n h. let l = has_awake is ss (k + 1) n h in omega (arith, l.number)), r)
       at false r = r
 
-  pub awake_known : (is : List Instance) (ss : List InstState) (k n : ℕ) → Has n (awake_from k a m is ss) → n < k + length is
+  pub awake_known : (is : List Instance) (ss : List InstState) (k n : ℕ) → IsOneOf n (awake_from k a m is ss) → n < k + length is
   awake_known [] ss k n h = absurd h
   awake_known (i ∷ is) [] k n h = absurd h
   awake_known (i ∷ is) (s ∷ ss) k n h = at (awakes a m i s) h (awake_known is ss (k + 1) n)
     where
-      at : (b : Bool) → Has n (if b then k ∷ awake_from (k + 1) a m is ss else awake_from (k + 1) a m is ss) → (Has n (awake_from (k + 1) a m is ss) → n < k + 1 + length is) → n < k + suc (length is)
+      at : (b : Bool) → IsOneOf n (if b then k ∷ awake_from (k + 1) a m is ss else awake_from (k + 1) a m is ss) → (IsOneOf n (awake_from (k + 1) a m is ss) → n < k + 1 + length is) → n < k + suc (length is)
       at true (inl p) ih = omega (arith, p)
       at true (inr g) ih = let r : n < k + 1 + length is = ih g in omega arith
       at false g ih = let r : n < k + 1 + length is = ih g in omega arith
 
 -- rising lists that have the same are the same
-above_has : (k n : ℕ) (xs : List ℕ) → AreAbove k xs → Has n xs → k < n
+above_has : (k n : ℕ) (xs : List ℕ) → AreAbove k xs → IsOneOf n xs → k < n
 above_has k n [] a h = absurd h
 above_has k n (x ∷ xs) a (inl p) = let l : k < x = a.0 in omega (arith, p)
 above_has k n (x ∷ xs) a (inr h) = above_has k n xs a.1 h
 
-least : (x y : ℕ) (xs ys : List ℕ) → AreAbove y ys → Has x (y ∷ ys) → AreAbove x xs → Has y (x ∷ xs) → x ≡ y
+least : (x y : ℕ) (xs ys : List ℕ) → AreAbove y ys → IsOneOf x (y ∷ ys) → AreAbove x xs → IsOneOf y (x ∷ xs) → x ≡ y
 least x y xs ys b (inl p) a h = sym p
 least x y xs ys b (inr g) a (inl p) = p
 least x y xs ys b (inr g) a (inr h) = let l : x < y = above_has x y xs a h in let m : y < x = above_has y x ys b g in omega arith
 
-rest : (x n : ℕ) (xs ys : List ℕ) → AreAbove x xs → Has n xs → Has n (x ∷ ys) → Has n ys
+rest : (x n : ℕ) (xs ys : List ℕ) → AreAbove x xs → IsOneOf n xs → IsOneOf n (x ∷ ys) → IsOneOf n ys
 rest x n xs ys a h (inl p) = let l : x < n = above_has x n xs a h in absurd (omega arith)
 rest x n xs ys a h (inr g) = g
 
-pub rising_same : (xs ys : List ℕ) → IsRising xs → IsRising ys → ((k : ℕ) → Has k xs ↔ Has k ys) → xs ≡ ys
+pub rising_same : (xs ys : List ℕ) → IsRising xs → IsRising ys → ((k : ℕ) → IsOneOf k xs ↔ IsOneOf k ys) → xs ≡ ys
 rising_same [] [] r q h = refl
 rising_same [] (y ∷ ys) r q h = absurd ((h y).1 (inl refl))
 rising_same (x ∷ xs) [] r q h = absurd ((h x).0 (inl refl))
@@ -126,7 +126,7 @@ rising_same (x ∷ xs) (y ∷ ys) r q h =
     let e : x ≡ y = least x y xs ys q.0 ((h x).0 (inl refl)) r.0 ((h y).1 (inl refl)) in
     let P : ℕ → Type 0 = λ z. AreAbove z ys in
     let b : AreAbove x ys = subst P (sym e) q.0 in
-    let Q : ℕ → Type 0 = λ z. (k : ℕ) → Has k (x ∷ xs) ↔ Has k (z ∷ ys) in
-    let g : (k : ℕ) → Has k (x ∷ xs) ↔ Has k (x ∷ ys) = subst Q (sym e) h in
+    let Q : ℕ → Type 0 = λ z. (k : ℕ) → IsOneOf k (x ∷ xs) ↔ IsOneOf k (z ∷ ys) in
+    let g : (k : ℕ) → IsOneOf k (x ∷ xs) ↔ IsOneOf k (x ∷ ys) = subst Q (sym e) h in
     let t : xs ≡ ys = rising_same xs ys r.1 q.1 (λ k. (λ m. rest x k xs ys r.0 m ((g k).0 (inr m)), λ m. rest x k ys xs b m ((g k).1 (inr m)))) in
     ap (λ (z : ℕ). z ∷ xs) e ∙ ap (λ (zs : List ℕ). y ∷ zs) t

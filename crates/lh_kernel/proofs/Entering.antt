@@ -2,7 +2,7 @@
 use Rattle.std.proofs.Common.{arith, ◌≡◌, ℕ, zero, suc, ◌+◌, ◌<◌, ◌≤◌, List, [], ◌∷◌, ◌++◌, length, get_or, take, refl, ap, sym, ◌∙◌, subst, ◌⊎◌, inl, inr, Some}
 use Rattle.std.specs.Prelude.{◌↔◌}
 use Rattle.std.proofs.lemmas.List.{take_more, take_all}
-use Rattle.lh_index.specs.Rising.{Has}
+use Rattle.lh_index.specs.Rising.{IsOneOf}
 use Rattle.lh_index.specs.Sensed.{Senses}
 use Rattle.lh_index.specs.Waking.{IsNoted}
 use Rattle.lh_design.specs.declared.Signal.{Signal}
@@ -51,7 +51,7 @@ known_first ss (m ∷ ms) (suc i) k = (k.0, k.1, known_first ss ms i k.2)
 
 pub fresh_first : (ms : List Move) (i : ℕ) (n : Noted) → AreFresh ms n → AreFresh (take i ms) n
 fresh_first ms i n f = record {
-  senses = λ s k h. f.senses s k (one_first (λ (m : Move). (m.instance ≡ k) × Has s m.came) ms i h);
+  senses = λ s k h. f.senses s k (one_first (λ (m : Move). (m.instance ≡ k) × IsOneOf s m.came) ms i h);
   wakes = λ t k h. f.wakes t k (one_first (λ (m : Move). (m.instance ≡ k) × (m.wake_came ≡ Some t)) ms i h);
 }
 
@@ -79,13 +79,13 @@ module _ (ms : List Move) (i : ℕ) (m : Move) (l : i < length ms) (e : m ≡ ge
       subst Q (sym s) (one_push P (take i ms) m)
 
   comes : IsEither (ComesTo (take i ms)) (OfSignal m.instance m.came) (ComesTo (take (i + 1) ms))
-  comes s k = one_next (λ (y : Move). (y.instance ≡ k) × Has s y.came)
+  comes s k = one_next (λ (y : Move). (y.instance ≡ k) × IsOneOf s y.came)
 
   wake_comes : IsEither (WakeComes (take i ms)) (OfWake m.instance m.wake_came) (WakeComes (take (i + 1) ms))
   wake_comes t k = one_next (λ (y : Move). (y.instance ≡ k) × (y.wake_came ≡ Some t))
 
   goes : IsEither (GoesFrom (take i ms)) (OfSignal m.instance m.gone) (GoesFrom (take (i + 1) ms))
-  goes s k = one_next (λ (y : Move). (y.instance ≡ k) × Has s y.gone)
+  goes s k = one_next (λ (y : Move). (y.instance ≡ k) × IsOneOf s y.gone)
 
   wake_goes : IsEither (WakeGoes (take i ms)) (OfWake m.instance m.wake_gone) (WakeGoes (take (i + 1) ms))
   wake_goes t k = one_next (λ (y : Move). (y.instance ≡ k) × (y.wake_gone ≡ Some t))
@@ -148,8 +148,8 @@ back_again ms before a b f h t = record {
 }
 
 -- the signals of a move are those of the index
-pub came_known : (ss : List Signal) (ms : List Move) (i : ℕ) (m : Move) (n w : ℕ) → i < length ms → m ≡ get_or ms i m → n ≡ length ss → w ≡ n → MovesKnown ss ms → (s : ℕ) → Has s m.came → s < w
+pub came_known : (ss : List Signal) (ms : List Move) (i : ℕ) (m : Move) (n w : ℕ) → i < length ms → m ≡ get_or ms i m → n ≡ length ss → w ≡ n → MovesKnown ss ms → (s : ℕ) → IsOneOf s m.came → s < w
 came_known ss ms i m n w l e p q k s h = let b : s < length ss = (known_at ss ms i m l e k).0 s h in omega arith
 
-pub gone_known : (ss : List Signal) (ms : List Move) (i : ℕ) (m : Move) (n w : ℕ) → i < length ms → m ≡ get_or ms i m → n ≡ length ss → w ≡ n → MovesKnown ss ms → (s : ℕ) → Has s m.gone → s < w
+pub gone_known : (ss : List Signal) (ms : List Move) (i : ℕ) (m : Move) (n w : ℕ) → i < length ms → m ≡ get_or ms i m → n ≡ length ss → w ≡ n → MovesKnown ss ms → (s : ℕ) → IsOneOf s m.gone → s < w
 gone_known ss ms i m n w l e p q k s h = let b : s < length ss = (known_at ss ms i m l e k).1 s h in omega arith

@@ -14,7 +14,7 @@ use Rattle.lh_unit.specs.World.{bit_numbers, is_at}
 use Rattle.lh_unit.specs.Within.{Each}
 use Rattle.lh_unit.proofs.Lists.{Each-get}
 use Rattle.lh_eval.specs.declared.instance.Instance.{Instance}
-use Rattle.lh_index.specs.Rising.{Has, AreAbove, IsRising}
+use Rattle.lh_index.specs.Rising.{IsOneOf, AreAbove, IsRising}
 use Rattle.lh_index.specs.Sensed.{Senses}
 use Rattle.lh_index.specs.Waking.{IsNoted}
 use Rattle.lh_design.specs.declared.Signal.{Signal}
@@ -77,7 +77,7 @@ touches_or ss (b ∷ bits) k = elim (bit_or_not ss k b) [
   ]
 ]
   where
-    neither : (HasBit ss k b → ⊥) → (Touches ss bits k → ⊥) → (x : ℕ) → Has x (b ∷ bits) → HasBit ss k x → ⊥
+    neither : (HasBit ss k b → ⊥) → (Touches ss bits k → ⊥) → (x : ℕ) → IsOneOf x (b ∷ bits) → HasBit ss k x → ⊥
     neither n m x (inl p) h = n (let P : ℕ → Type 0 = HasBit ss k in subst P (sym p) h)
     neither n m x (inr g) h = m (record { bit = x; among = g; has = h })
 
@@ -137,8 +137,8 @@ pub record Acted (signals : List Signal) (probes : List (List Range)) (states fr
   pub at : act.instance ≡ k
   pub moved : IsMoveOf signals probes states act move
   pub after : slice_get (states_after from acts) k ≡ Some act.act.next
-  pub comes : (s : ℕ) → ComesTo ms s k ↔ Has s move.came
-  pub goes : (s : ℕ) → GoesFrom ms s k ↔ Has s move.gone
+  pub comes : (s : ℕ) → ComesTo ms s k ↔ IsOneOf s move.came
+  pub goes : (s : ℕ) → GoesFrom ms s k ↔ IsOneOf s move.gone
   pub wake_comes : (t : Instant) → WakeComes ms t k ↔ (move.wake_came ≡ Some t)
   pub wake_goes : (t : Instant) → WakeGoes ms t k ↔ (move.wake_gone ≡ Some t)
 
@@ -194,8 +194,8 @@ module _ (signals : List Signal) (probes : List (List Range)) (states : List Ins
             at = e;
             moved = h.0;
             after = subst Q e (after_else x.instance (slice_set from x.instance x.act.next) xs r.0 ∙ get_same from x.instance x.act.next below);
-            comes = λ s. first_only (λ (y : Move). Has s y.came) k m ms i n;
-            goes = λ s. first_only (λ (y : Move). Has s y.gone) k m ms i n;
+            comes = λ s. first_only (λ (y : Move). IsOneOf s y.came) k m ms i n;
+            goes = λ s. first_only (λ (y : Move). IsOneOf s y.gone) k m ms i n;
             wake_comes = λ t. first_only (λ (y : Move). y.wake_came ≡ Some t) k m ms i n;
             wake_goes = λ t. first_only (λ (y : Move). y.wake_gone ≡ Some t) k m ms i n;
           }
@@ -209,8 +209,8 @@ module _ (signals : List Signal) (probes : List (List Range)) (states : List Ins
             at = a.at;
             moved = a.moved;
             after = a.after;
-            comes = λ s. others_only (λ (y : Move). Has s y.came) k m ms (Has s a.move.came) n (a.comes s);
-            goes = λ s. others_only (λ (y : Move). Has s y.gone) k m ms (Has s a.move.gone) n (a.goes s);
+            comes = λ s. others_only (λ (y : Move). IsOneOf s y.came) k m ms (IsOneOf s a.move.came) n (a.comes s);
+            goes = λ s. others_only (λ (y : Move). IsOneOf s y.gone) k m ms (IsOneOf s a.move.gone) n (a.goes s);
             wake_comes = λ t. others_only (λ (y : Move). y.wake_came ≡ Some t) k m ms (a.move.wake_came ≡ Some t) n (a.wake_comes t);
             wake_goes = λ t. others_only (λ (y : Move). y.wake_gone ≡ Some t) k m ms (a.move.wake_gone ≡ Some t) n (a.wake_goes t);
           }
@@ -326,8 +326,8 @@ module _ (a : Arena) (is : List Instance) (signals : List Signal) (ss : List Ins
     -- of one that was not
     rested_senses : (s k : ℕ) → Rested ss acts ms k → Senses n2.index s k ↔ SensesSignal a is signals (states_after ss acts) s k
     rested_senses s k r =
-        let no_came : ComesTo ms s k → ⊥ = λ h. r.none (one_of (λ (m : Move). (m.instance ≡ k) × Has s m.came) (λ (m : Move). m.instance ≡ k) ms (λ m p. p.0) h) in
-        let no_gone : GoesFrom ms s k → ⊥ = λ h. r.none (one_of (λ (m : Move). (m.instance ≡ k) × Has s m.gone) (λ (m : Move). m.instance ≡ k) ms (λ m p. p.0) h) in (
+        let no_came : ComesTo ms s k → ⊥ = λ h. r.none (one_of (λ (m : Move). (m.instance ≡ k) × IsOneOf s m.came) (λ (m : Move). m.instance ≡ k) ms (λ m p. p.0) h) in
+        let no_gone : GoesFrom ms s k → ⊥ = λ h. r.none (one_of (λ (m : Move). (m.instance ≡ k) × IsOneOf s m.gone) (λ (m : Move). m.instance ≡ k) ms (λ m p. p.0) h) in (
           λ h. elim ((entered.senses s k).0 ((left.senses s k).0 h).0) [ inl c ↦ absurd (no_came c) | inr o ↦ senses_same ss (states_after ss acts) k s (sym r.after) ((noted.senses s k).0 o) ],
           λ h. (left.senses s k).1 ((entered.senses s k).1 (inr ((noted.senses s k).1 (senses_same (states_after ss acts) ss k s r.after h))), no_gone),
         )

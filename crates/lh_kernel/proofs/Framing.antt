@@ -18,7 +18,7 @@ use Rattle.lh_unit.specs.Within.{Each}
 use Rattle.lh_meaning.proofs.TraceLaw.{bits_stay_law}
 use Rattle.lh_eval.specs.declared.instance.Instance.{Instance}
 use Rattle.lh_queue.specs.declared.wish.Wish.{Wish}
-use Rattle.lh_queue.specs.Held.{Held, due_later, BitsWithin, EachWithin, EachNames}
+use Rattle.lh_queue.specs.Queued.{QueuedWish, due_later, BitsWithin, EachWithin, EachNames}
 use Rattle.lh_queue.specs.Holds.{entries, HoldsFor, IsAfter, IsFrom, AreBitsAt, HoldsOn}
 use Rattle.lh_queue.proofs.Keeping.{later_within, later_names}
 use Rattle.lh_design.specs.Texts.{instance_text, signal_text, design_text}
@@ -33,21 +33,21 @@ use Rattle.lh_kernel.specs.Kept.{IsKept, IsWaiting, WakesAfter}
 use Rattle.lh_kernel.specs.Simulation.{StandsFor, simulation_of}
 use Rattle.lh_kernel.specs.Stepped.{shows_at, acts_in, world_then}
 use Rattle.lh_kernel.specs.Phases.{ComesNext, IsPlanned, IsAhead, IsFrame, moment_in, awake_in, looked_at, woken_in}
-use Rattle.lh_kernel.specs.declared.machine.Machine.{Machine}
-use Rattle.lh_kernel.specs.declared.plan.Plan.{Plan}
+use Rattle.lh_kernel.specs.declared.machine.SimState.{SimState}
+use Rattle.lh_kernel.specs.declared.plan.FramePlan.{FramePlan}
 use Rattle.lh_kernel.specs.declared.noted.Noted.{Noted}
 use Rattle.lh_kernel.specs.declared.noted.Move.{Move}
 use Rattle.lh_kernel.specs.declared.run.Activation.{Activation}
 use Rattle.lh_kernel.proofs.Looking.{length_values, length_fit}
 use Rattle.lh_kernel.proofs.Ahead.{plan_rises, plan_instances}
-use Rattle.lh_kernel.proofs.Acts.{Known, woken_same, defined_acts, runaway_same, outcomes_same, afters_stand, claims_ran}
+use Rattle.lh_kernel.proofs.Acts.{InstancesAreKnown, woken_same, defined_acts, runaway_same, outcomes_same, afters_stand, claims_ran}
 use Rattle.lh_kernel.proofs.After.{after_fit, after_wakes}
 use Rattle.lh_kernel.proofs.Exact.{fresh_moves, noted_after}
 use Rattle.lh_kernel.proofs.Putting.{entries_put, put_each, put_within, put_names, put_holds}
 use Rattle.lh_kernel.proofs.Wished.{can_all, each_wish, each_grouped, filled_names, entries_same, later_each, later_waits, made_before, IsMadeElsewhen}
 
 -- What is known once the bits of a planned frame are taken, in terms of the machine before.
-pub record IsTaken (old : Machine) (t : Instant) (p : Plan) (b l : List Bool) (q : List Held) (n : Noted) : Type 0 where
+pub record IsTaken (old : SimState) (t : Instant) (p : FramePlan) (b l : List Bool) (q : List QueuedWish) (n : Noted) : Type 0 where
   pub plan : IsPlanned (looked_at old t) t p
   pub bits : b ≡ bits_then old.queue.held t old.bits
   pub looked : l ≡ bits_then old.queue.held t old.bits
@@ -56,17 +56,17 @@ pub record IsTaken (old : Machine) (t : Instant) (p : Plan) (b l : List Bool) (q
   pub holds : HoldsOn old.queue.held t q
   pub entered : HasEntered p.moves.items old.noted n
 
-pub is_taken : (old mid : Machine) (t : Instant) (p : Plan) (b : List Bool) (q : List Held) → mid ≡ record old { looked = mid.looked; queue = mid.queue; noted = mid.noted } → IsAhead old t p mid →
+pub is_taken : (old mid : SimState) (t : Instant) (p : FramePlan) (b : List Bool) (q : List QueuedWish) → mid ≡ record old { looked = mid.looked; queue = mid.queue; noted = mid.noted } → IsAhead old t p mid →
     q ≡ due_later t mid.queue.held → b ≡ values_by (entries mid.queue.held) t 0 mid.bits → AreBitsAt mid.queue.held mid.bits t b → HoldsOn mid.queue.held t q → IsTaken old t p b mid.looked q mid.noted
 is_taken old mid t p b q e a l v r h =
-    let be : mid.bits ≡ old.bits = ap (λ (m : Machine). m.bits) e in
+    let be : mid.bits ≡ old.bits = ap (λ (m : SimState). m.bits) e in
     record {
       plan = a.plan;
-      bits = v ∙ ap (λ (x : List Held). values_by (entries x) t 0 mid.bits) a.held ∙ ap (λ (x : List Bool). values_by (entries old.queue.held) t 0 x) be;
+      bits = v ∙ ap (λ (x : List QueuedWish). values_by (entries x) t 0 mid.bits) a.held ∙ ap (λ (x : List Bool). values_by (entries old.queue.held) t 0 x) be;
       looked = a.looked;
       later = l ∙ ap (due_later t) a.held;
-      values = subst (λ (x : List Bool). AreBitsAt old.queue.held x t b) be (subst (λ (x : List Held). AreBitsAt x mid.bits t b) a.held r);
-      holds = subst (λ (x : List Held). HoldsOn x t q) a.held h;
+      values = subst (λ (x : List Bool). AreBitsAt old.queue.held x t b) be (subst (λ (x : List QueuedWish). AreBitsAt x mid.bits t b) a.held r);
+      holds = subst (λ (x : List QueuedWish). HoldsOn x t q) a.held h;
       entered = a.noted;
     }
 
@@ -78,15 +78,15 @@ after_from : (t : Instant) (o : Option Instant) → IsAfter o t → IsFrom o t
 after_from t None a = tt
 after_from t (Some l) a = instant_le-lt l t a
 
-from_last : (old : Machine) (t : Instant) (w : World) → ComesNext old t → StandsFor (simulation_of old false) w → IsFrom w.last t
+from_last : (old : SimState) (t : Instant) (w : World) → ComesNext old t → StandsFor (simulation_of old false) w → IsFrom w.last t
 from_last old t w comes h = after_from t w.last (subst (λ (o : Option Instant). IsAfter o t) (sym h.last) comes.after)
 
 -- the bits taken are those of the frame
-bits_are : (old : Machine) (t : Instant) (w : World) → ComesNext old t → StandsFor (simulation_of old false) w → (b : List Bool) → AreBitsAt old.queue.held old.bits t b → b ≡ bits_at w.history w.init t
+bits_are : (old : SimState) (t : Instant) (w : World) → ComesNext old t → StandsFor (simulation_of old false) w → (b : List Bool) → AreBitsAt old.queue.held old.bits t b → b ≡ bits_at w.history w.init t
 bits_are old t w comes h b r = r w.history w.init w.last h.wishes (from_last old t w comes h) (sym h.bits ∙ bits_same w.history w.init w.last)
 
 -- the moment of the frame is that of the world
-moment_is : (old : Machine) (t : Instant) (w : World) → ComesNext old t → StandsFor (simulation_of old false) w → (b : List Bool) → b ≡ bits_then old.queue.held t old.bits → AreBitsAt old.queue.held old.bits t b →
+moment_is : (old : SimState) (t : Instant) (w : World) → ComesNext old t → StandsFor (simulation_of old false) w → (b : List Bool) → b ≡ bits_then old.queue.held t old.bits → AreBitsAt old.queue.held old.bits t b →
     moment_of w t ≡ moment_in (looked_at old t) t
 moment_is old t w comes h b bits values =
     same (bits_before w) (option_map (λ l. old.bits) old.last) (bits_at w.history w.init t) (bits_then old.queue.held t old.bits) (before_is w.last h.bits ∙ ap (option_map (λ l. old.bits)) h.last)
@@ -100,12 +100,12 @@ moment_is old t w comes h b bits values =
     before_is (Some l) e = ap (λ (x : List Bool). Some x) e
 
 -- who wakes by what is kept is who wakes by the definition
-pub awake_are_woken : (old : Machine) (t : Instant) (b : List Bool) → IsKept old → ComesNext old t → b ≡ bits_then old.queue.held t old.bits → AreBitsAt old.queue.held old.bits t b → (w : World) → StandsFor (simulation_of old false) w →
+pub awake_are_woken : (old : SimState) (t : Instant) (b : List Bool) → IsKept old → ComesNext old t → b ≡ bits_then old.queue.held t old.bits → AreBitsAt old.queue.held old.bits t b → (w : World) → StandsFor (simulation_of old false) w →
     awake_in (looked_at old t) t ≡ woken_in old w t
 unfolding woken_at
 awake_are_woken old t b kept comes bits values w h =
     let a = old.«module».now in
-    let known : Known a (length old.design.init) old.design.instances.items old.states.items w.states = record { arena = kept.design.arena; instances = kept.design.fits; fit = kept.fit; stand = h.states } in
+    let known : InstancesAreKnown a (length old.design.init) old.design.instances.items old.states.items w.states = record { arena = kept.design.arena; instances = kept.design.fits; fit = kept.fit; stand = h.states } in
     sym (ap (λ (m : Moment). woken_from 0 (contents a) m (map (instance_text a) old.design.instances.items) w.states) (moment_is old t w comes h b bits values)
     ∙ woken_same a (length old.design.init) old.design.instances.items old.states.items w.states (moment_in (looked_at old t) t) known)
 
@@ -122,13 +122,13 @@ all_there : (a : Arena) (width n : ℕ) (t : Instant) (is : List Instance) (xs :
 all_there a width n t is [] e s = tt
 all_there a width n t is (x ∷ xs) e s = (subst (λ (m : ℕ). x.instance < m) (sym e) (got_within is x.instance s.0.instance s.0.is), all_there a width n t is xs e s.1)
 
-pub there_ahead : (old mid : Machine) (t : Instant) (p : Plan) → mid ≡ record old { looked = mid.looked; queue = mid.queue; noted = mid.noted } → IsKept old → IsAhead old t p mid →
+pub there_ahead : (old mid : SimState) (t : Instant) (p : FramePlan) → mid ≡ record old { looked = mid.looked; queue = mid.queue; noted = mid.noted } → IsKept old → IsAhead old t p mid →
     Each (λ (x : Activation). x.instance < length mid.states.items) p.acts.items
 there_ahead old mid t p e k a =
     all_there old.«module».now (length (looked_at old t).looked) (length mid.states.items) t old.design.instances.items p.acts.items
-    (ap (λ (m : Machine). length m.states.items) e ∙ length_fit old.«module».now (length old.design.init) old.design.instances.items old.states.items k.fit) a.plan.sound
+    (ap (λ (m : SimState). length m.states.items) e ∙ length_fit old.«module».now (length old.design.init) old.design.instances.items old.states.items k.fit) a.plan.sound
 
-module _ (old : Machine) (t : Instant) (p : Plan) (kept : IsKept old) (comes : ComesNext old t) (plan : IsPlanned (looked_at old t) t p) where
+module _ (old : SimState) (t : Instant) (p : FramePlan) (kept : IsKept old) (comes : ComesNext old t) (plan : IsPlanned (looked_at old t) t p) where
   as_wide : length (looked_at old t).looked ≡ length old.design.init
   as_wide = length_values (entries old.queue.held) t 0 old.bits ∙ kept.width
 
@@ -136,15 +136,15 @@ module _ (old : Machine) (t : Instant) (p : Plan) (kept : IsKept old) (comes : C
   sound = subst (λ (n : ℕ). Each (ActOfOne old.«module».now n t old.design.instances.items) p.acts.items) as_wide plan.sound
 
   -- the wishes can be put
-  pub can_taken : (q : List Held) → q ≡ due_later t old.queue.held → CanBePut q (wishes_ran t p.acts.items)
+  pub can_taken : (q : List QueuedWish) → q ≡ due_later t old.queue.held → CanBePut q (wishes_ran t p.acts.items)
   can_taken q e =
-      subst (λ (x : List Held). CanBePut x (wishes_ran t p.acts.items)) (sym e)
+      subst (λ (x : List QueuedWish). CanBePut x (wishes_ran t p.acts.items)) (sym e)
       (can_all (due_later t old.queue.held) t p.acts.items (later_each (IsMadeElsewhen t) t old.queue.held (made_before t old.last old.queue.held comes.after kept.waiting))
       (each_grouped old.«module».now (length old.design.init) t old.design.instances.items p.acts.items sound)
       (plan_rises (looked_at old t) t p (length old.design.init) kept.design.fits kept.fit plan))
 
   -- what is kept after the frame, where none ran away
-  pub kept_frame : (new : Machine) (b l : List Bool) (q : List Held) (n : Noted) → new ≡ record old { bits = b; looked = l; last = Some t; states = new.states; queue = new.queue; noted = new.noted } →
+  pub kept_frame : (new : SimState) (b l : List Bool) (q : List QueuedWish) (n : Noted) → new ≡ record old { bits = b; looked = l; last = Some t; states = new.states; queue = new.queue; noted = new.noted } →
       IsTaken old t p b l q n → p.runaway ≡ None → new.states.items ≡ states_after old.states.items p.acts.items → WerePut q (wishes_ran t p.acts.items) new.queue.held →
       HasLeft p.moves.items n new.noted → IsKept new
   kept_frame new b l q n e k r s put left =
@@ -161,7 +161,7 @@ module _ (old : Machine) (t : Instant) (p : Plan) (kept : IsKept old) (comes : C
       let held : EachWithin (length old.design.init) q = subst (EachWithin (length old.design.init)) (sym k.later) (later_within (length old.design.init) old.queue.held t kept.within) in
       let named : EachNames q = subst EachNames (sym k.later) (later_names old.queue.held t kept.names) in
       let waits : Each (IsWaiting (Some t)) q = subst (Each (IsWaiting (Some t))) (sym k.later) (later_waits t old.last old.queue.held comes.after kept.waiting) in
-      let m : Machine = record old { bits = b; looked = l; last = Some t; states = new.states; queue = new.queue; noted = new.noted } in
+      let m : SimState = record old { bits = b; looked = l; last = Some t; states = new.states; queue = new.queue; noted = new.noted } in
       let f : IsKept m = record {
         design = kept.design;
         width = ap length k.bits ∙ length_values (entries old.queue.held) t 0 old.bits ∙ kept.width;
@@ -186,7 +186,7 @@ module _ (old : Machine) (t : Instant) (p : Plan) (kept : IsKept old) (comes : C
       now_is : bits_at w.history w.init t ≡ bits_then old.queue.held t old.bits
       now_is = sym (bits_are old t w comes h b values) ∙ bits
 
-      known : Known old.«module».now (length old.design.init) old.design.instances.items old.states.items w.states
+      known : InstancesAreKnown old.«module».now (length old.design.init) old.design.instances.items old.states.items w.states
       known = record { arena = kept.design.arena; instances = kept.design.fits; fit = kept.fit; stand = h.states }
 
       abbrev moment : Moment
@@ -234,13 +234,13 @@ module _ (old : Machine) (t : Instant) (p : Plan) (kept : IsKept old) (comes : C
           ∙ claims_ran old.«module».now (length old.design.init) old.design.instances.items old.states.items w.states moment known p.acts.items (ran_all r)
           ∙ sym (entries_same t p.acts.items))
 
-      stands_after : (new : Machine) (l : List Bool) (q : List Held) (n : Noted) → new ≡ record old { bits = b; looked = l; last = Some t; states = new.states; queue = new.queue; noted = new.noted } →
+      stands_after : (new : SimState) (l : List Bool) (q : List QueuedWish) (n : Noted) → new ≡ record old { bits = b; looked = l; last = Some t; states = new.states; queue = new.queue; noted = new.noted } →
           IsTaken old t p b l q n → p.runaway ≡ None → new.states.items ≡ states_after old.states.items p.acts.items → WerePut q (wishes_ran t p.acts.items) new.queue.held →
           StandsFor (simulation_of new false) (world_then (simulation_of old false) w t)
       stands_after new l q n e k r s put =
           let a = old.«module».now in
           let is = old.design.instances.items in
-          let m : Machine = record old { bits = b; looked = l; last = Some t; states = new.states; queue = new.queue; noted = new.noted } in
+          let m : SimState = record old { bits = b; looked = l; last = Some t; states = new.states; queue = new.queue; noted = new.noted } in
           let held : HoldsFor q (claims w.history) (Some t) = k.holds (claims w.history) w.last h.wishes (from_last old t w comes h) in
           let later : Each (λ (v : Wish). IsAfter (Some t) v.due) (wishes_ran t p.acts.items) =
           each_wish (λ (v : Wish). IsAfter (Some t) v.due) a (length old.design.init) t is p.acts.items (λ i d x y z. z) sound in
@@ -257,20 +257,20 @@ module _ (old : Machine) (t : Instant) (p : Plan) (kept : IsKept old) (comes : C
             states = subst (λ (zs : List InstState). StatesStand a is zs (afters (acts_in (simulation_of old false) w t))) (sym s)
                 (subst (λ (xs : List Act). StatesStand a is (states_after old.states.items p.acts.items) (afters xs)) (sym acts_are) stand);
           } in
-          subst (λ (x : Machine). StandsFor (simulation_of x false) (world_then (simulation_of old false) w t)) (sym e) f
+          subst (λ (x : SimState). StandsFor (simulation_of x false) (world_then (simulation_of old false) w t)) (sym e) f
 
   -- it is the frame that each such world has next
-  pub frame_goes_on : (new : Machine) (b l : List Bool) (q : List Held) (n : Noted) → new ≡ record old { bits = b; looked = l; last = Some t; states = new.states; queue = new.queue; noted = new.noted } →
+  pub frame_goes_on : (new : SimState) (b l : List Bool) (q : List QueuedWish) (n : Noted) → new ≡ record old { bits = b; looked = l; last = Some t; states = new.states; queue = new.queue; noted = new.noted } →
       IsTaken old t p b l q n → p.runaway ≡ None → new.states.items ≡ states_after old.states.items p.acts.items → WerePut q (wishes_ran t p.acts.items) new.queue.held → IsFrame old new t p.frame None
   frame_goes_on new b l q n e k r s put = record {
     at = plan.at;
     shows = λ w h. shows_it w h b k.bits k.values;
     ends = λ w h. ends_it w h b k.bits k.values ∙ r;
-    bits = λ w h. ap (λ (m : Machine). m.bits) e ∙ bits_are old t w comes h b k.values;
+    bits = λ w h. ap (λ (m : SimState). m.bits) e ∙ bits_are old t w comes h b k.values;
     goes_on = λ x w h. stands_after w h b k.bits k.values new l q n e k r s put;
   }
 
-  pub frame_ends : (new : Machine) (b l : List Bool) (q : List Held) (n : Noted) (i : ℕ) → new.bits ≡ b → IsTaken old t p b l q n → p.runaway ≡ Some i → IsFrame old new t p.frame (Some i)
+  pub frame_ends : (new : SimState) (b l : List Bool) (q : List QueuedWish) (n : Noted) (i : ℕ) → new.bits ≡ b → IsTaken old t p b l q n → p.runaway ≡ Some i → IsFrame old new t p.frame (Some i)
   frame_ends new b l q n i e k r = record {
     at = plan.at;
     shows = λ w h. shows_it w h b k.bits k.values;
@@ -283,7 +283,7 @@ module _ (old : Machine) (t : Instant) (p : Plan) (kept : IsKept old) (comes : C
       clash z = cc
 
 -- what was entered is taken back
-pub back_same : (old : Machine) (t : Instant) (p : Plan) (b l : List Bool) (q : List Held) (n new : Noted) (ms : List Move) → IsKept old → IsTaken old t p b l q n → ms ≡ p.moves.items →
+pub back_same : (old : SimState) (t : Instant) (p : FramePlan) (b l : List Bool) (q : List QueuedWish) (n new : Noted) (ms : List Move) → IsKept old → IsTaken old t p b l q n → ms ≡ p.moves.items →
     ((before : Noted) → AreFresh ms before → HasEntered ms before n → IsSameNoted before new) → IsSameNoted old.noted new
 back_same old t p b l q n new ms kept k e f =
     let fresh : AreFresh p.moves.items old.noted =
@@ -299,11 +299,11 @@ same_noted a is signals ss n m h s = record {
 }
 
 -- where an instance ran away, what is kept is kept on
-pub kept_runaway : (old new : Machine) (t : Instant) (p : Plan) (b l : List Bool) (q : List Held) (n : Noted) → IsKept old → new ≡ record old { bits = b; looked = l; queue = new.queue; noted = new.noted } →
+pub kept_runaway : (old new : SimState) (t : Instant) (p : FramePlan) (b l : List Bool) (q : List QueuedWish) (n : Noted) → IsKept old → new ≡ record old { bits = b; looked = l; queue = new.queue; noted = new.noted } →
     IsTaken old t p b l q n → new.queue.held ≡ q → IsSameNoted old.noted new.noted → IsKept new
 kept_runaway old new t p b l q n kept e k held s =
     let eq : new.queue.held ≡ due_later t old.queue.held = held ∙ k.later in
-    let m : Machine = record old { bits = b; looked = l; queue = new.queue; noted = new.noted } in
+    let m : SimState = record old { bits = b; looked = l; queue = new.queue; noted = new.noted } in
     let f : IsKept m = record {
       design = kept.design;
       width = ap length k.bits ∙ length_values (entries old.queue.held) t 0 old.bits ∙ kept.width;
@@ -320,10 +320,10 @@ kept_runaway old new t p b l q n kept e k held s =
     subst IsKept (sym e) f
 
 -- for want of memory all is kept as it was
-pub kept_same : (old new : Machine) → IsKept old → new ≡ record old { looked = new.looked; queue = new.queue; noted = new.noted } → new.looked ≡ old.bits → new.queue.held ≡ old.queue.held →
+pub kept_same : (old new : SimState) → IsKept old → new ≡ record old { looked = new.looked; queue = new.queue; noted = new.noted } → new.looked ≡ old.bits → new.queue.held ≡ old.queue.held →
     IsSameNoted old.noted new.noted → IsKept new
 kept_same old new kept e l eq s =
-    let m : Machine = record old { looked = new.looked; queue = new.queue; noted = new.noted } in
+    let m : SimState = record old { looked = new.looked; queue = new.queue; noted = new.noted } in
     let f : IsKept m = record {
       design = kept.design;
       width = kept.width;

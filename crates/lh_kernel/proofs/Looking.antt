@@ -10,7 +10,7 @@ use Rattle.lh_unit.specs.Arena.{Arena}
 use Rattle.lh_unit.specs.World.{State}
 use Rattle.lh_unit.specs.Frames.{activated_count}
 use Rattle.lh_eval.specs.declared.instance.Instance.{Instance}
-use Rattle.lh_index.specs.Rising.{Has, IsRising}
+use Rattle.lh_index.specs.Rising.{IsOneOf, IsRising}
 use Rattle.lh_states.specs.declared.state.InstState.{InstState}
 use Rattle.lh_kernel.specs.declared.run.Ran.{Ran}
 use Rattle.lh_kernel.specs.States.{StatesStand, StatesFit}
@@ -24,17 +24,17 @@ use Rattle.lh_kernel.proofs.Exact.{senses_fit}
 use Rattle.lh_kernel.specs.Ran.{AllRan, ActOfOne}
 use Rattle.lh_kernel.specs.Phases.{HasLooked, moment_in, awake_in, RisesWithin}
 use Rattle.lh_kernel.proofs.Awake.{awake_rises, awake_known}
-use Rattle.lh_kernel.specs.declared.machine.Machine.{Machine}
+use Rattle.lh_kernel.specs.declared.machine.SimState.{SimState}
 
 pub length_values : (cs : List Claim) (t : Instant) (k : ℕ) (bits : List Bool) → length (values_by cs t k bits) ≡ length bits
 length_values cs t k [] = refl
 length_values cs t k (b ∷ bits) = ap suc (length_values cs t (k + 1) bits)
 
 -- there are as many as the signals have
-pub looked_width : (x : Machine) (t : Instant) (touched : List ℕ) → HasLooked x t touched → length x.looked ≡ length x.design.init
+pub looked_width : (x : SimState) (t : Instant) (touched : List ℕ) → HasLooked x t touched → length x.looked ≡ length x.design.init
 looked_width x t touched h = ap length h.looked ∙ length_values (entries x.queue.held) t 0 x.bits ∙ h.kept.width
 
-pub looked_fit : (x : Machine) (t : Instant) (touched : List ℕ) → HasLooked x t touched → StatesFit x.«module».now (length x.looked) x.design.instances.items x.states.items
+pub looked_fit : (x : SimState) (t : Instant) (touched : List ℕ) → HasLooked x t touched → StatesFit x.«module».now (length x.looked) x.design.instances.items x.states.items
 looked_fit x t touched h = subst (λ n. StatesFit x.«module».now n x.design.instances.items x.states.items) (sym (looked_width x t touched h)) h.kept.fit
 
 -- of as many instances as there are something is kept
@@ -45,14 +45,14 @@ length_fit a width (i ∷ is) [] f = absurd f
 length_fit a width (i ∷ is) (s ∷ ss) f = ap suc (length_fit a width is ss f.1)
 
 -- in the first frame all wake
-pub all_awake : (x : Machine) (t : Instant) (touched ks all : List ℕ) → HasLooked x t touched → x.last ≡ None → ks ≡ all →
+pub all_awake : (x : SimState) (t : Instant) (touched ks all : List ℕ) → HasLooked x t touched → x.last ≡ None → ks ≡ all →
     ((a : Arena) (now : List Bool) (u : Instant) (ss : List InstState) → length ss ≡ length x.design.instances.items → all ≡ awake_from 0 a (record { before = None; now = now; at = u }) x.design.instances.items ss) →
     ks ≡ awake_in x t
 all_awake x t touched ks all h e v f =
     v ∙ f x.«module».now x.looked t x.states.items (length_fit x.«module».now (length x.looked) x.design.instances.items x.states.items (looked_fit x t touched h))
     ∙ ap (λ (o : Option Instant). awake_in (record x { last = o }) t) (sym e)
 
-pub are_asleep : (x : Machine) (t : Instant) (touched : List ℕ) (ss : List InstState) (ps : List (List Range)) → HasLooked x t touched → ss ≡ x.states.items → ps ≡ x.probes.items →
+pub are_asleep : (x : SimState) (t : Instant) (touched : List ℕ) (ss : List InstState) (ps : List (List Range)) → HasLooked x t touched → ss ≡ x.states.items → ps ≡ x.probes.items →
     AreAsleep x.«module».now x.design ss ps x.noted t
 are_asleep x t touched ss ps h e f =
     subst (λ (zs : List InstState). AreAsleep x.«module».now x.design zs ps x.noted t) (sym e)
@@ -60,7 +60,7 @@ are_asleep x t touched ss ps h e f =
     (record { fill = h.kept.design.fill; fit = h.kept.fit; probed = h.kept.probes; probed_within = h.kept.probes_within; noted = h.kept.noted; to_come = h.comes.wakes }))
 
 -- in a later frame those that are found wake
-pub some_awake : (x : Machine) (t l : Instant) (touched ks woken : List ℕ) (ss : List InstState) (ps : List (List Range)) → HasLooked x t touched → x.last ≡ Some l → ks ≡ woken → ss ≡ x.states.items → ps ≡ x.probes.items →
+pub some_awake : (x : SimState) (t l : Instant) (touched ks woken : List ℕ) (ss : List InstState) (ps : List (List Range)) → HasLooked x t touched → x.last ≡ Some l → ks ≡ woken → ss ≡ x.states.items → ps ≡ x.probes.items →
     ((a : Arena) → AreAsleep a x.design ss ps x.noted t → woken ≡ awake_from 0 a (record { before = Some x.bits; now = x.looked; at = t }) x.design.instances.items ss) →
     ks ≡ awake_in x t
 some_awake x t l touched ks woken ss ps h e v p q f =
@@ -68,11 +68,11 @@ some_awake x t l touched ks woken ss ps h e v p q f =
     ∙ ap (awake_from 0 x.«module».now (record { before = Some x.bits; now = x.looked; at = t }) x.design.instances.items) p
     ∙ ap (λ (o : Option Instant). awake_in (record x { last = o }) t) (sym e)
 
-pub rises_awake : (x : Machine) (t : Instant) (ks : List ℕ) → ks ≡ awake_in x t → IsRising ks
+pub rises_awake : (x : SimState) (t : Instant) (ks : List ℕ) → ks ≡ awake_in x t → IsRising ks
 rises_awake x t ks e = subst IsRising (sym e) (awake_rises x.«module».now (moment_in x t) x.design.instances.items x.states.items 0)
 
-pub known_awake : (x : Machine) (t : Instant) (ks : List ℕ) → ks ≡ awake_in x t → (k : ℕ) → Has k ks → k < length x.design.instances.items
-known_awake x t ks e k h = omega (arith, awake_known x.«module».now (moment_in x t) x.design.instances.items x.states.items 0 k (subst (Has k) e h))
+pub known_awake : (x : SimState) (t : Instant) (ks : List ℕ) → ks ≡ awake_in x t → (k : ℕ) → IsOneOf k ks → k < length x.design.instances.items
+known_awake x t ks e k h = omega (arith, awake_known x.«module».now (moment_in x t) x.design.instances.items x.states.items 0 k (subst (IsOneOf k) e h))
 
 pub ran_by : (a : Arena) (now : List Bool) (t : Instant) (is : List Instance) (ss zs : List InstState) (ks js : List ℕ) (r : Result Ran NoMemory) → zs ≡ ss → js ≡ ks →
     ((ps : List State) → StatesStand a is zs ps → IfOk r (λ (x : Ran). AllRan a now t is ps js x.acts.items x.runaway)) → (ps : List State) → StatesStand a is ss ps → IfOk r (λ (x : Ran). AllRan a now t is ps ks x.acts.items x.runaway)
@@ -86,7 +86,7 @@ pub err_by : (old new : ℕ) (ks js : List ℕ) (r : Result Ran NoMemory) → js
 err_by old new ks js r f h = subst (λ (ls : List ℕ). OnErr r (RisesWithin ls old new)) f h
 
 -- what the instances sensed and will sense lies within the signals
-pub moves_fit : (x : Machine) (t : Instant) (touched : List ℕ) (xs : List Activation) → HasLooked x t touched → Each (ActOfOne x.«module».now (length x.looked) t x.design.instances.items) xs →
+pub moves_fit : (x : SimState) (t : Instant) (touched : List ℕ) (xs : List Activation) → HasLooked x t touched → Each (ActOfOne x.«module».now (length x.looked) t x.design.instances.items) xs →
     (ps : List (List Range)) (ss : List InstState) (acts : List Activation) → ps ≡ x.probes.items → ss ≡ x.states.items → acts ≡ xs → Each (SensesFit (length x.design.init) ps ss) acts
 moves_fit x t touched xs h sound ps ss acts p s e =
     let w : Each (ActOfOne x.«module».now (length x.design.init) t x.design.instances.items) xs =

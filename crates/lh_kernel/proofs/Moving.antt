@@ -12,7 +12,7 @@ use Rattle.lh_types.specs.declared.part.Range.{Range}
 use Rattle.lh_unit.specs.World.{bit_numbers}
 use Rattle.lh_unit.specs.Within.{Each}
 use Rattle.lh_unit.proofs.Lists.{Each-item}
-use Rattle.lh_index.specs.Rising.{Has, HasOneMore}
+use Rattle.lh_index.specs.Rising.{IsOneOf, HasOneMore}
 use Rattle.lh_design.specs.declared.Signal.{Signal}
 use Rattle.lh_change.specs.Touched.{Touches, AreSignals, AreTouched, AreWithin}
 use Rattle.lh_change.proofs.Filled.{is_below}
@@ -26,31 +26,31 @@ use Rattle.lh_kernel.proofs.Relations.{has_next}
 
 -- those of the first numbers of a list that are not in the other
 abbrev pub LeftOver : (items those : List ℕ) → ℕ → (rest : List ℕ) → Type 0
-LeftOver items those i rest = (k : ℕ) → Has k rest ↔ (Has k (take i items) × ¬ Has k those)
+LeftOver items those i rest = (k : ℕ) → IsOneOf k rest ↔ (IsOneOf k (take i items) × ¬ IsOneOf k those)
 
 pub over_none : (items those rest : List ℕ) → rest ≡ [] → LeftOver items those 0 rest
-over_none items those rest e k = let P : List ℕ → Type 0 = λ xs. Has k xs ↔ (Has k [] × ¬ Has k those) in subst P (sym e) (λ h. absurd h, λ h. h.0)
+over_none items those rest e k = let P : List ℕ → Type 0 = λ xs. IsOneOf k xs ↔ (IsOneOf k [] × ¬ IsOneOf k those) in subst P (sym e) (λ h. absurd h, λ h. h.0)
 
 module _ (items those : List ℕ) (i y : ℕ) (l : i < length items) (e : y ≡ get_or items i 0) where
-  pub over_more : (rest new : List ℕ) → ¬ Has y those → LeftOver items those i rest → HasOneMore rest y new → LeftOver items those (i + 1) new
+  pub over_more : (rest new : List ℕ) → ¬ IsOneOf y those → LeftOver items those i rest → HasOneMore rest y new → LeftOver items those (i + 1) new
   over_more rest new no_more h m k = (
     λ g. elim ((m k).0 g) [
-      | inl p ↦ ((has_next k items i y l e).1 (inr (sym p)), λ q. no_more (let P : ℕ → Type 0 = λ j. Has j those in subst P p q))
+      | inl p ↦ ((has_next k items i y l e).1 (inr (sym p)), λ q. no_more (let P : ℕ → Type 0 = λ j. IsOneOf j those in subst P p q))
       | inr o ↦ ((has_next k items i y l e).1 (inl ((h k).0 o).0), ((h k).0 o).1)
     ],
     λ g. elim ((has_next k items i y l e).0 g.0) [ inl o ↦ (m k).1 (inr ((h k).1 (o, g.1))) | inr p ↦ (m k).1 (inl (sym p)) ],
   )
 
-  pub over_same : (rest : List ℕ) → Has y those → LeftOver items those i rest → LeftOver items those (i + 1) rest
+  pub over_same : (rest : List ℕ) → IsOneOf y those → LeftOver items those i rest → LeftOver items those (i + 1) rest
   over_same rest there h k = (
     λ g. ((has_next k items i y l e).1 (inl ((h k).0 g).0), ((h k).0 g).1),
-    λ g. elim ((has_next k items i y l e).0 g.0) [ inl o ↦ (h k).1 (o, g.1) | inr p ↦ absurd (g.1 (let P : ℕ → Type 0 = λ j. Has j those in subst P p there)) ],
+    λ g. elim ((has_next k items i y l e).0 g.0) [ inl o ↦ (h k).1 (o, g.1) | inr p ↦ absurd (g.1 (let P : ℕ → Type 0 = λ j. IsOneOf j those in subst P p there)) ],
   )
 
-pub over_all : (items these those : List ℕ) (i : ℕ) (rest : List ℕ) → items ≡ these → length items ≤ i → LeftOver items those i rest → (k : ℕ) → Has k rest ↔ (Has k these × ¬ Has k those)
+pub over_all : (items these those : List ℕ) (i : ℕ) (rest : List ℕ) → items ≡ these → length items ≤ i → LeftOver items those i rest → (k : ℕ) → IsOneOf k rest ↔ (IsOneOf k these × ¬ IsOneOf k those)
 over_all items these those i rest e l h =
     let s : take i items ≡ these = take_all i items l ∙ e in
-    let P : List ℕ → Type 0 = λ xs. (k : ℕ) → Has k rest ↔ (Has k xs × ¬ Has k those) in
+    let P : List ℕ → Type 0 = λ xs. (k : ℕ) → IsOneOf k rest ↔ (IsOneOf k xs × ¬ IsOneOf k those) in
     subst P s h
 
 -- between the same parts nothing comes or goes
@@ -61,12 +61,12 @@ between_same signals left entered came gone e c g =
     let into : P left = subst P (sym e) (λ s t. t) in
     let out : Q left = subst Q (sym e) (λ s t. t) in
     record {
-      enters = λ s. (λ h. let R : List ℕ → Type 0 = Has s in absurd (subst R c h), λ h. absurd (h.1 (into s h.0)));
-      leaves = λ s. (λ h. let R : List ℕ → Type 0 = Has s in absurd (subst R g h), λ h. absurd (h.1 (out s h.0)));
+      enters = λ s. (λ h. let R : List ℕ → Type 0 = IsOneOf s in absurd (subst R c h), λ h. absurd (h.1 (into s h.0)));
+      leaves = λ s. (λ h. let R : List ℕ → Type 0 = IsOneOf s in absurd (subst R g h), λ h. absurd (h.1 (out s h.0)));
     }
 
 pub between_are : (signals : List Signal) (left entered : List Range) (before after came gone : List ℕ) → AreTouched signals (bit_numbers left) before → AreTouched signals (bit_numbers entered) after →
-    ((k : ℕ) → Has k came ↔ (Has k after × ¬ Has k before)) → ((k : ℕ) → Has k gone ↔ (Has k before × ¬ Has k after)) → AreBetween signals left entered came gone
+    ((k : ℕ) → IsOneOf k came ↔ (IsOneOf k after × ¬ IsOneOf k before)) → ((k : ℕ) → IsOneOf k gone ↔ (IsOneOf k before × ¬ IsOneOf k after)) → AreBetween signals left entered came gone
 between_are signals left entered before after came gone b a c g = record {
   enters = λ s. (λ h. ((a s).0 ((c s).0 h).0, λ t. ((c s).0 h).1 ((b s).1 t)), λ h. (c s).1 ((a s).1 h.0, λ t. h.1 ((b s).0 t)));
   leaves = λ s. (λ h. ((b s).0 ((g s).0 h).0, λ t. ((g s).0 h).1 ((a s).1 t)), λ h. (g s).1 ((b s).1 h.0, λ t. h.1 ((a s).0 t)));
@@ -84,8 +84,8 @@ none_push P all ms m n e = (λ h. elim ((one_push P all m).0 h) [ inl o ↦ e.0 
 
 same_push : (all ms : List Move) (m : Move) → MoveTheSame all ms → MoveTheSame (all ++ m ∷ []) (ms ++ m ∷ [])
 same_push all ms m e = record {
-  comes = λ s k. both_push (λ (n : Move). (n.instance ≡ k) × Has s n.came) all ms m (e.comes s k);
-  goes = λ s k. both_push (λ (n : Move). (n.instance ≡ k) × Has s n.gone) all ms m (e.goes s k);
+  comes = λ s k. both_push (λ (n : Move). (n.instance ≡ k) × IsOneOf s n.came) all ms m (e.comes s k);
+  goes = λ s k. both_push (λ (n : Move). (n.instance ≡ k) × IsOneOf s n.gone) all ms m (e.goes s k);
   wake_comes = λ t k. both_push (λ (n : Move). (n.instance ≡ k) × (n.wake_came ≡ Some t)) all ms m (e.wake_comes t k);
   wake_goes = λ t k. both_push (λ (n : Move). (n.instance ≡ k) × (n.wake_gone ≡ Some t)) all ms m (e.wake_goes t k);
 }
@@ -99,8 +99,8 @@ none_some t e = cc
 
 same_still : (all ms : List Move) (j : ℕ) → MoveTheSame all ms → MoveTheSame (all ++ still j ∷ []) ms
 same_still all ms j e = record {
-  comes = λ s k. none_push (λ (n : Move). (n.instance ≡ k) × Has s n.came) all ms (still j) (λ h. h.1) (e.comes s k);
-  goes = λ s k. none_push (λ (n : Move). (n.instance ≡ k) × Has s n.gone) all ms (still j) (λ h. h.1) (e.goes s k);
+  comes = λ s k. none_push (λ (n : Move). (n.instance ≡ k) × IsOneOf s n.came) all ms (still j) (λ h. h.1) (e.comes s k);
+  goes = λ s k. none_push (λ (n : Move). (n.instance ≡ k) × IsOneOf s n.gone) all ms (still j) (λ h. h.1) (e.goes s k);
   wake_comes = λ t k. none_push (λ (n : Move). (n.instance ≡ k) × (n.wake_came ≡ Some t)) all ms (still j) (λ h. none_some t h.1) (e.wake_comes t k);
   wake_goes = λ t k. none_push (λ (n : Move). (n.instance ≡ k) × (n.wake_gone ≡ Some t)) all ms (still j) (λ h. none_some t h.1) (e.wake_goes t k);
 }

@@ -11,7 +11,7 @@ use Rattle.lh_types.specs.History.{claims, sooner, soonest_due}
 use Rattle.lh_history.proofs.Instants.{le_trans, not_lt_le}
 use Rattle.lh_unit.specs.World.{World, soonest_wake, instant_after, next_instant}
 use Rattle.lh_unit.specs.Within.{Each}
-use Rattle.lh_queue.specs.Held.{Held, OneDueAt, NoneDueBefore, IsLeastDue}
+use Rattle.lh_queue.specs.Queued.{QueuedWish, OneDueAt, NoneDueBefore, IsLeastDue}
 use Rattle.lh_queue.specs.Holds.{HoldsFor, IsAfter, IsSoonestDue}
 use Rattle.lh_queue.proofs.Keeping.{sooner_due}
 use Rattle.lh_index.specs.Waking.{IsNoted, IsSoonest}
@@ -23,11 +23,11 @@ use Rattle.lh_kernel.specs.States.{WakesItself}
 use Rattle.lh_kernel.specs.Kept.{IsKept, IsWaiting, WakesAfter}
 use Rattle.lh_kernel.specs.Simulation.{StandsFor, simulation_of}
 use Rattle.lh_kernel.specs.Phases.{ComesNext}
-use Rattle.lh_kernel.specs.declared.machine.Machine.{Machine}
+use Rattle.lh_kernel.specs.declared.machine.SimState.{SimState}
 use Rattle.lh_kernel.proofs.Soonest.{soonest_noted, soonest_alike}
 
 -- what is due comes after the last frame, where all that is held waits
-due_after : (l t : Instant) (held : List Held) → Each (IsWaiting (Some l)) held → OneDueAt t held → instant_lt l t ≡ true
+due_after : (l t : Instant) (held : List QueuedWish) → Each (IsWaiting (Some l)) held → OneDueAt t held → instant_lt l t ≡ true
 due_after l t [] w h = absurd h
 due_after l t (x ∷ xs) w (inl e) = subst (λ (u : Instant). instant_lt l u ≡ true) e w.0.1
 due_after l t (x ∷ xs) w (inr h) = due_after l t xs w.1 h
@@ -45,7 +45,7 @@ wake_after l u (s ∷ ss) zero w h = subst (λ (o : Option Instant). IsLaterIfAn
 wake_after l u (s ∷ ss) (suc k) w h = wake_after l u ss k w.1 (record { state = h.state; stands = h.stands; wakes = h.wakes })
 
 -- The sooner of the least due instant and the soonest wake is the next instant of each world that the simulation stands for.
-pub next_is : (x : Machine) (l : Instant) (due wake : Option Instant) → IsKept x → x.last ≡ Some l → IsSoonestDue x.queue.held due → IsSoonest x.noted.wakes wake →
+pub next_is : (x : SimState) (l : Instant) (due wake : Option Instant) → IsKept x → x.last ≡ Some l → IsSoonestDue x.queue.held due → IsSoonest x.noted.wakes wake →
     (w : World) → StandsFor (simulation_of x false) w → sooner due wake ≡ next_instant w
 next_is x l due wake k e d s w h =
     let last : w.last ≡ Some l = h.last ∙ e in
@@ -57,7 +57,7 @@ next_is x l due wake k e d s w h =
     ap (λ (o : Option Instant). sooner o wake) p ∙ ap (sooner (soonest_due l (claims w.history))) q ∙ sym (ap (λ (o : Option Instant). instant_after o w.history w.states) last)
 
 -- nothing is to come before it
-pub next_comes : (x : Machine) (l : Instant) (due wake : Option Instant) → IsKept x → x.last ≡ Some l → IsLeastDue x.queue.held due → IsSoonest x.noted.wakes wake → IfSome (sooner due wake) (ComesNext x)
+pub next_comes : (x : SimState) (l : Instant) (due wake : Option Instant) → IsKept x → x.last ≡ Some l → IsLeastDue x.queue.held due → IsSoonest x.noted.wakes wake → IfSome (sooner due wake) (ComesNext x)
 next_comes x l due wake k e = by due wake
   where
     waits : Each (IsWaiting (Some l)) x.queue.held
@@ -110,9 +110,9 @@ some_by None b e h = absurd (clash (e ∙ ap not h))
 some_by (Some x) b e h = (x, refl)
 
 -- the first instant is no later than any
-pub first_comes : (x : Machine) → x.last ≡ None → ComesNext x (instant 0 0 0)
+pub first_comes : (x : SimState) → x.last ≡ None → ComesNext x (instant 0 0 0)
 first_comes x e = record { after = subst (λ (o : Option Instant). IsAfter o (instant 0 0 0)) (sym e) tt; due = none_due x.queue.held; wakes = λ u k n. first_le u }
   where
-    none_due : (held : List Held) → NoneDueBefore (instant 0 0 0) held
+    none_due : (held : List QueuedWish) → NoneDueBefore (instant 0 0 0) held
     none_due [] = tt
     none_due (y ∷ ys) = (first_le y.wish.due, none_due ys)

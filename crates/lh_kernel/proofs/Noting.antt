@@ -4,7 +4,7 @@ use Rattle.std.specs.Prelude.{Result, Ok, Err, IfOk, OnErr, true, false}
 use Rattle.std.specs.Result.{is_err}
 use Rattle.std.proofs.lemmas.List.{take_all}
 use Rattle.lh_time.specs.declared.Instant.{Instant}
-use Rattle.lh_index.specs.Rising.{Has}
+use Rattle.lh_index.specs.Rising.{IsOneOf}
 use Rattle.lh_index.specs.Sensed.{Senses, SensesOneMore, SensesOneLess}
 use Rattle.lh_index.specs.Waking.{IsNoted, NotesOneMore, NotesOneLess}
 use Rattle.lh_kernel.specs.declared.noted.Noted.{Noted}
@@ -14,7 +14,7 @@ use Rattle.lh_kernel.proofs.Relations.{With, WithSome, Without, IsEither, with_n
 
 -- what is said of an instance: of a signal, and of an instant
 abbrev pub OfSignal : (k : ℕ) → List ℕ → (s j : ℕ) → Type 0
-OfSignal k signals s j = (k ≡ j) × Has s signals
+OfSignal k signals s j = (k ≡ j) × IsOneOf s signals
 
 abbrev pub OfWake : (k : ℕ) → Option Instant → Instant → (j : ℕ) → Type 0
 OfWake k wake t j = (k ≡ j) × (wake ≡ Some t)
@@ -123,7 +123,7 @@ module _ (k : ℕ) (items : List ℕ) (i : ℕ) (a b : Noted) where
     -- where memory ran out, some of it is noted
     pub noted_some : (index : List (List ℕ)) (wakes : List Wake) → HasNoted k (take i items) None a b → index ≡ b.index → wakes ≡ b.wakes → HasNotedSome k signals wake a (noted index wakes)
     noted_some index wakes h p q =
-        let first : (s j : ℕ) → OfSignal k (take i items) s j → OfSignal k signals s j = λ s j g. (g.0, let R : List ℕ → Type 0 = Has s in subst R e (has_first s items i g.1)) in
+        let first : (s j : ℕ) → OfSignal k (take i items) s j → OfSignal k signals s j = λ s j g. (g.0, let R : List ℕ → Type 0 = IsOneOf s in subst R e (has_first s items i g.1)) in
         let S : List (List ℕ) → Type 0 = λ x. WithSome (OfSignal k signals) (Senses a.index) (Senses x) in
         let W : List Wake → Type 0 = λ x. WithSome (OfWake k wake) (IsNoted a.wakes) (IsNoted x) in
         record {
@@ -133,10 +133,10 @@ module _ (k : ℕ) (items : List ℕ) (i : ℕ) (a b : Noted) where
         }
 
 -- the signals that are noted are those of the index
-pub known_next : (items signals : List ℕ) (n m i : ℕ) → items ≡ signals → ((s : ℕ) → Has s signals → s < n) → m ≡ n → i < length items → get_or items i 0 < m
+pub known_next : (items signals : List ℕ) (n m i : ℕ) → items ≡ signals → ((s : ℕ) → IsOneOf s signals → s < n) → m ≡ n → i < length items → get_or items i 0 < m
 known_next items signals n m i e known q l =
-    let h : Has (get_or items i 0) items = has_place items i (get_or items i 0) l refl in
-    let R : List ℕ → Type 0 = Has (get_or items i 0) in
+    let h : IsOneOf (get_or items i 0) items = has_place items i (get_or items i 0) l refl in
+    let R : List ℕ → Type 0 = IsOneOf (get_or items i 0) in
     let b : get_or items i 0 < n = known (get_or items i 0) (subst R e h) in
     omega arith
 

@@ -2,7 +2,7 @@
 use Rattle.std.proofs.Common.{arith, ◌≡◌, ℕ, zero, suc, ◌+◌, ◌<◌, List, [], ◌∷◌, ◌++◌, length, get_or, take, ap, sym, ◌∙◌, subst, ◌⊎◌, inl, inr}
 use Rattle.std.specs.Prelude.{◌↔◌}
 use Rattle.std.proofs.lemmas.List.{take_more}
-use Rattle.lh_index.specs.Rising.{Has}
+use Rattle.lh_index.specs.Rising.{IsOneOf}
 
 -- what stands in the new relation is P, or stood in the old one
 abbrev pub With : {X : Type 0} → (P old new : X → ℕ → Type 0) → Type 0
@@ -85,36 +85,36 @@ without_same P Q old new e a x k = (
 )
 
 -- a number is among the first of a list and one more
-pub has_push : (k : ℕ) (xs : List ℕ) (y : ℕ) → Has k (xs ++ y ∷ []) ↔ (Has k xs ⊎ (y ≡ k))
+pub has_push : (k : ℕ) (xs : List ℕ) (y : ℕ) → IsOneOf k (xs ++ y ∷ []) ↔ (IsOneOf k xs ⊎ (y ≡ k))
 has_push k xs y = (there xs, back xs)
   where
-    there : (xs : List ℕ) → Has k (xs ++ y ∷ []) → Has k xs ⊎ (y ≡ k)
+    there : (xs : List ℕ) → IsOneOf k (xs ++ y ∷ []) → IsOneOf k xs ⊎ (y ≡ k)
     there [] (inl p) = inr p
     there [] (inr h) = absurd h
     there (x ∷ xs) (inl p) = inl (inl p)
     there (x ∷ xs) (inr h) = elim (there xs h) [ inl g ↦ inl (inr g) | inr q ↦ inr q ]
 
-    back : (xs : List ℕ) → Has k xs ⊎ (y ≡ k) → Has k (xs ++ y ∷ [])
+    back : (xs : List ℕ) → IsOneOf k xs ⊎ (y ≡ k) → IsOneOf k (xs ++ y ∷ [])
     back [] (inl h) = absurd h
     back [] (inr q) = inl q
     back (x ∷ xs) (inl (inl p)) = inl p
     back (x ∷ xs) (inl (inr h)) = inr (back xs (inl h))
     back (x ∷ xs) (inr q) = inr (back xs (inr q))
 
-pub has_next : (k : ℕ) (xs : List ℕ) (i y : ℕ) → i < length xs → y ≡ get_or xs i 0 → Has k (take (i + 1) xs) ↔ (Has k (take i xs) ⊎ (y ≡ k))
+pub has_next : (k : ℕ) (xs : List ℕ) (i y : ℕ) → i < length xs → y ≡ get_or xs i 0 → IsOneOf k (take (i + 1) xs) ↔ (IsOneOf k (take i xs) ⊎ (y ≡ k))
 has_next k xs i y l e =
     let s : take (i + 1) xs ≡ take i xs ++ y ∷ [] = take_more xs i 0 l ∙ ap (λ (z : ℕ). take i xs ++ z ∷ []) (sym e) in
-    let P : List ℕ → Type 0 = λ zs. Has k zs ↔ (Has k (take i xs) ⊎ (y ≡ k)) in
+    let P : List ℕ → Type 0 = λ zs. IsOneOf k zs ↔ (IsOneOf k (take i xs) ⊎ (y ≡ k)) in
     subst P (sym s) (has_push k (take i xs) y)
 
-pub has_first : (k : ℕ) (xs : List ℕ) (i : ℕ) → Has k (take i xs) → Has k xs
+pub has_first : (k : ℕ) (xs : List ℕ) (i : ℕ) → IsOneOf k (take i xs) → IsOneOf k xs
 has_first k [] zero h = h
 has_first k [] (suc i) h = h
 has_first k (x ∷ xs) zero h = absurd h
 has_first k (x ∷ xs) (suc i) (inl p) = inl p
 has_first k (x ∷ xs) (suc i) (inr h) = inr (has_first k xs i h)
 
-pub has_place : (xs : List ℕ) (i y : ℕ) → i < length xs → y ≡ get_or xs i 0 → Has y xs
+pub has_place : (xs : List ℕ) (i y : ℕ) → i < length xs → y ≡ get_or xs i 0 → IsOneOf y xs
 has_place [] i y l e = absurd (omega arith)
 has_place (x ∷ xs) zero y l e = inl (sym e)
 has_place (x ∷ xs) (suc i) y l e = inr (has_place xs i y (omega arith) e)

@@ -13,10 +13,10 @@ use Rattle.lh_unit.specs.Within.{Each}
 use Rattle.lh_unit.specs.World.{State}
 use Rattle.lh_unit.specs.Frames.{activated_count}
 use Rattle.lh_eval.specs.declared.instance.Instance.{Instance}
-use Rattle.lh_index.specs.Rising.{Has, IsRising, AreAbove}
+use Rattle.lh_index.specs.Rising.{IsOneOf, IsRising, AreAbove}
 use Rattle.lh_states.specs.declared.state.InstState.{InstState}
 use Rattle.lh_states.specs.States.{StateIs, StateFits}
-use Rattle.lh_states.specs.declared.runs.InstAct.{InstAct}
+use Rattle.lh_states.specs.Acts.{ActDone}
 use Rattle.lh_states.specs.Runs.{ActIs, ActIsSound}
 use Rattle.lh_kernel.specs.declared.run.Activation.{Activation}
 use Rattle.lh_kernel.specs.States.{StatesStand, StatesFit}
@@ -80,7 +80,7 @@ ran-off a now t is ps [] (y ∷ xs) k rest h d = absurd h
 ran-off a now t is ps (j ∷ ks) [] k rest h d = absurd h
 ran-off a now t is ps (j ∷ ks) (y ∷ xs) k rest h d = (h.0, h.1, ran-off a now t is ps ks xs k rest h.2 d)
 
-pub has-at : (ks : List ℕ) (j d : ℕ) → j < length ks → Has (get_or ks j d) ks
+pub has-at : (ks : List ℕ) (j d : ℕ) → j < length ks → IsOneOf (get_or ks j d) ks
 has-at [] j d l = absurd (omega arith)
 has-at (k ∷ ks) zero d l = inl refl
 has-at (k ∷ ks) (suc j) d l = inr (has-at ks j d (omega arith))
@@ -137,7 +137,7 @@ on-err (Err e) P p = p
 pub in-place : {X : Type 0} → (xs ys : List X) (k : ℕ) (x : X) → ys ≡ xs → k < length xs → x ≡ get_or ys k x → slice_get xs k ≡ Some x
 in-place xs ys k x e l h = there xs k x l (h ∙ ap (λ zs. get_or zs k x) e)
 
-pub known-at : {X : Type 0} → (ks : List ℕ) (j : ℕ) (xs : List X) → j < length ks → ((k : ℕ) → Has k ks → k < length xs) → get_or ks j 0 < length xs
+pub known-at : {X : Type 0} → (ks : List ℕ) (j : ℕ) (xs : List X) → j < length ks → ((k : ℕ) → IsOneOf k ks → k < length xs) → get_or ks j 0 < length xs
 known-at ks j xs l h = h (get_or ks j 0) (has-at ks j 0 l)
 
 -- the j-th that is woken ran away
@@ -151,7 +151,7 @@ turn-off a now t is ss ps ks xs j i s l e f h g q =
     (ran-off a now t is ps (take j ks) xs k (drop (suc j) ks) q (record { instance = i; state = w.state; is = e; stands = w.at; does = g w.state w.stands }))
 
 -- the j-th that is woken did this
-pub turn-on : (a : Arena) (now : List Bool) (t : Instant) (is : List Instance) (ss : List InstState) (ps : List State) (ks : List ℕ) (xs zs : List Activation) (j : ℕ) (i : Instance) (s : InstState) (x : InstAct) → j < length ks →
+pub turn-on : (a : Arena) (now : List Bool) (t : Instant) (is : List Instance) (ss : List InstState) (ps : List State) (ks : List ℕ) (xs zs : List Activation) (j : ℕ) (i : Instance) (s : InstState) (x : ActDone) → j < length ks →
     slice_get is (get_or ks j 0) ≡ Some i → slice_get ss (get_or ks j 0) ≡ Some s → StatesStand a is ss ps → ((p : State) → StateIs a i s p → ActIs a i x (done_by a now t i p)) →
     zs ≡ xs ++ record { instance = get_or ks j 0; act = x } ∷ [] → AllRan a now t is ps (take j ks) xs None → AllRan a now t is ps (take (j + 1) ks) zs None
 turn-on a now t is ss ps ks xs zs j i s x l e f h g z q =
@@ -163,7 +163,7 @@ turn-on a now t is ss ps ks xs zs j i s x l e f h g z q =
     (ran-more a now t is ps (take j ks) xs k y q refl (record { instance = i; state = w.state; is = e; stands = w.at; does = g w.state w.stands })))
 
 -- its act is sound
-pub turn-sound : (a : Arena) (width : ℕ) (t : Instant) (is : List Instance) (xs zs : List Activation) (k : ℕ) (i : Instance) (x : InstAct) → slice_get is k ≡ Some i → ActIsSound a width t i x →
+pub turn-sound : (a : Arena) (width : ℕ) (t : Instant) (is : List Instance) (xs zs : List Activation) (k : ℕ) (i : Instance) (x : ActDone) → slice_get is k ≡ Some i → ActIsSound a width t i x →
     zs ≡ xs ++ record { instance = k; act = x } ∷ [] → Each (ActOfOne a width t is) xs → Each (ActOfOne a width t is) zs
 turn-sound a width t is xs zs k i x e h z q =
     let y : Activation = record { instance = k; act = x } in

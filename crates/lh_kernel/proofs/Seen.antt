@@ -10,30 +10,30 @@ use Rattle.lh_types.specs.declared.val.Val.{Val}
 use Rattle.lh_types.specs.declared.ty.NoMemory.{NoMemory}
 use Rattle.lh_unit.specs.Design as text
 use Rattle.lh_unit.specs.Trace.{signal_value}
-use Rattle.lh_index.specs.Rising.{Has}
+use Rattle.lh_index.specs.Rising.{IsOneOf}
 use Rattle.lh_index.specs.Sensed.{sensed_by}
 use Rattle.lh_design.specs.declared.Signal.{Signal}
 use Rattle.lh_design.specs.Texts.{signal_text}
 use Rattle.lh_change.proofs.Filled.{there, fits_there}
 use Rattle.lh_change.proofs.Shows.{read_value}
-use Rattle.lh_kernel.specs.declared.machine.Machine.{Machine}
+use Rattle.lh_kernel.specs.declared.machine.SimState.{SimState}
 use Rattle.lh_kernel.specs.States.{SensesSignal}
 use Rattle.lh_kernel.specs.Kept.{IsKept}
 use Rattle.lh_kernel.specs.Simulation.{Simulation, simulation_of}
 use Rattle.lh_kernel.specs.Stepped.{signal_of}
 
 -- who senses a signal
-pub seen_senses : (x : Machine) (ended : Bool) (s : Simulation) (signal : ℕ) (ks : List ℕ) → simulation_of x ended ≡ s → IsKept x → ks ≡ sensed_by x.noted.index signal →
-    (k : ℕ) → Has k ks ↔ SensesSignal s.arena s.design.instances.items s.design.signals.items s.states signal k
+pub seen_senses : (x : SimState) (ended : Bool) (s : Simulation) (signal : ℕ) (ks : List ℕ) → simulation_of x ended ≡ s → IsKept x → ks ≡ sensed_by x.noted.index signal →
+    (k : ℕ) → IsOneOf k ks ↔ SensesSignal s.arena s.design.instances.items s.design.signals.items s.states signal k
 seen_senses x ended s signal ks v kept e =
-    subst (λ (z : Simulation). (k : ℕ) → Has k ks ↔ SensesSignal z.arena z.design.instances.items z.design.signals.items z.states signal k) v
-    (λ k. (λ h. (kept.noted.senses signal k).0 (subst (Has k) e h), λ h. subst (Has k) (sym e) ((kept.noted.senses signal k).1 h)))
+    subst (λ (z : Simulation). (k : ℕ) → IsOneOf k ks ↔ SensesSignal z.arena z.design.instances.items z.design.signals.items z.states signal k) v
+    (λ k. (λ h. (kept.noted.senses signal k).0 (subst (IsOneOf k) e h), λ h. subst (IsOneOf k) (sym e) ((kept.noted.senses signal k).1 h)))
 
-known_seen : (x : Machine) (ended : Bool) (s : Simulation) (signal : ℕ) → simulation_of x ended ≡ s → signal < length s.design.signals.items → signal < length x.design.signals.items
+known_seen : (x : SimState) (ended : Bool) (s : Simulation) (signal : ℕ) → simulation_of x ended ≡ s → signal < length s.design.signals.items → signal < length x.design.signals.items
 known_seen x ended s signal v h = subst (λ (n : ℕ). signal < n) (sym (ap (λ (z : Simulation). length z.design.signals.items) v)) h
 
 -- a signal of the design lies within the bits
-pub seen_fits : (x : Machine) (ended : Bool) (s : Simulation) (signal : ℕ) (xs : List Signal) (g : Signal) → simulation_of x ended ≡ s → IsKept x → signal < length s.design.signals.items → xs ≡ x.design.signals.items → g ≡ get_or xs signal g →
+pub seen_fits : (x : SimState) (ended : Bool) (s : Simulation) (signal : ℕ) (xs : List Signal) (g : Signal) → simulation_of x ended ≡ s → IsKept x → signal < length s.design.signals.items → xs ≡ x.design.signals.items → g ≡ get_or xs signal g →
     IsData g.ty × (g.lo + bit_count g.ty ≤ length x.bits)
 seen_fits x ended s signal xs g v kept h e i =
     let f = fits_there (length x.design.init) x.design.signals.items xs signal g kept.design.fill e (known_seen x ended s signal v h) i in
@@ -51,7 +51,7 @@ got_map (y ∷ ys) zero g e = ap (λ (z : Signal). Some (signal_text z)) (same e
 got_map (y ∷ ys) (suc k) g e = got_map ys k g e
 
 -- the value of a signal
-pub seen_value : (x : Machine) (ended : Bool) (s : Simulation) (signal : ℕ) (xs : List Signal) (g : Signal) (r : Result Val NoMemory) → simulation_of x ended ≡ s → IsKept x → signal < length s.design.signals.items →
+pub seen_value : (x : SimState) (ended : Bool) (s : Simulation) (signal : ℕ) (xs : List Signal) (g : Signal) (r : Result Val NoMemory) → simulation_of x ended ≡ s → IsKept x → signal < length s.design.signals.items →
     xs ≡ x.design.signals.items → g ≡ get_or xs signal g → IfOk r (λ (v : Val). datum_of v ≡ value_from_bits g.ty (drop g.lo x.bits)) →
     IfOk r (λ (v : Val). IsSomeAnd (signal_of s signal) (λ (t : text.Signal). datum_of v ≡ signal_value s.bits t))
 seen_value x ended s signal xs g r v kept h e i o =

@@ -16,7 +16,7 @@ use Rattle.lh_unit.specs.World.{unit_of, start_by, start, starts, wake_of, bit_n
 use Rattle.lh_unit.specs.Within.{Each}
 use Rattle.lh_unit.proofs.Lists.{Each-item}
 use Rattle.lh_eval.specs.declared.instance.Instance.{Instance}
-use Rattle.lh_index.specs.Rising.{Has}
+use Rattle.lh_index.specs.Rising.{IsOneOf}
 use Rattle.lh_index.specs.Sensed.{Senses}
 use Rattle.lh_index.specs.Waking.{IsNoted}
 use Rattle.lh_design.specs.declared.Signal.{Signal}
@@ -208,7 +208,7 @@ module _ (signals : List Signal) (ss : List InstState) (ps : List (List Range)) 
       back s k x = (below k x.state x.stands, record { state = x.state; probed = probed_by a x.instance; is_kept = x.stands; is_probed = probed_at a is ps k x.instance p x.is; touches = x.touches })
 
 -- the signals of parts are signals
-pub touched_known : (signals : List Signal) (bits touched : List ℕ) (n : ℕ) → n ≡ length signals → AreTouched signals bits touched → (s : ℕ) → Has s touched → s < n
+pub touched_known : (signals : List Signal) (bits touched : List ℕ) (n : ℕ) → n ≡ length signals → AreTouched signals bits touched → (s : ℕ) → IsOneOf s touched → s < n
 touched_known signals bits touched n e t s h = let w = (t s).0 h in let b : s < length signals = is_below signals s w.bit w.has in omega arith
 
 -- a state and what is probed, as they are read

@@ -9,7 +9,7 @@ use Rattle.lh_kernel.specs.Touched.{bits_then}
 use Rattle.lh_kernel.specs.Kept.{IsKept}
 use Rattle.lh_kernel.specs.Simulation.{StandsFor, simulation_of}
 use Rattle.lh_kernel.specs.Phases.{ComesNext, awake_in, looked_at, woken_in, RisesWithin}
-use Rattle.lh_kernel.specs.declared.machine.Machine.{Machine}
+use Rattle.lh_kernel.specs.declared.machine.SimState.{SimState}
 use Rattle.lh_kernel.proofs.Framing.{awake_are_woken}
 
 raised_none : (n : ℕ) → n ≡ raised n 0
@@ -19,10 +19,10 @@ raised_none n = omega arith
 pub rises_none : (ks : List ℕ) (old new : ℕ) → new ≡ old → RisesWithin ks old new
 rises_none ks old new e = (0, omega arith, e ∙ raised_none old)
 
-pub rises_woken : (x : Machine) (t : Instant) (b : List Bool) (old new : ℕ) → IsKept x → ComesNext x t → b ≡ bits_then x.queue.held t x.bits → AreBitsAt x.queue.held x.bits t b → RisesWithin (awake_in (looked_at x t) t) old new →
+pub rises_woken : (x : SimState) (t : Instant) (b : List Bool) (old new : ℕ) → IsKept x → ComesNext x t → b ≡ bits_then x.queue.held t x.bits → AreBitsAt x.queue.held x.bits t b → RisesWithin (awake_in (looked_at x t) t) old new →
     (w : World) → StandsFor (simulation_of x false) w → RisesWithin (woken_in x w t) old new
 rises_woken x t b old new k c e v r w h = subst (λ (ks : List ℕ). RisesWithin ks old new) (awake_are_woken x t b k c e v w h) r
 
-pub tally_woken : (x : Machine) (t : Instant) (b : List Bool) (r : Option ℕ) (old new : ℕ) → IsKept x → ComesNext x t → b ≡ bits_then x.queue.held t x.bits → AreBitsAt x.queue.held x.bits t b →
+pub tally_woken : (x : SimState) (t : Instant) (b : List Bool) (r : Option ℕ) (old new : ℕ) → IsKept x → ComesNext x t → b ≡ bits_then x.queue.held t x.bits → AreBitsAt x.queue.held x.bits t b →
     new ≡ raised old (activated_count r (awake_in (looked_at x t) t)) → (w : World) → StandsFor (simulation_of x false) w → new ≡ raised old (activated_count r (woken_in x w t))
 tally_woken x t b r old new k c e v h w s = subst (λ (ks : List ℕ). new ≡ raised old (activated_count r ks)) (awake_are_woken x t b k c e v w s) h

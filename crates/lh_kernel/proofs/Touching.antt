@@ -5,7 +5,7 @@ use Rattle.lh_types.specs.History.{values_by}
 use Rattle.lh_types.specs.Writes.{written}
 use Rattle.lh_design.specs.declared.Signal.{Signal}
 use Rattle.lh_queue.specs.declared.wish.Wish.{Wish}
-use Rattle.lh_queue.specs.Held.{Held, is_at, AreInOrder, KeysDiffer, NoneDueBefore, wish_at}
+use Rattle.lh_queue.specs.Queued.{QueuedWish, is_at, AreInOrder, KeysDiffer, NoneDueBefore, wish_at}
 use Rattle.lh_queue.specs.Holds.{entries}
 use Rattle.lh_queue.specs.Buckets.{buckets_of, next_in}
 use Rattle.lh_queue.specs.Places.{first_key, rest_from}
@@ -16,20 +16,20 @@ use Rattle.lh_change.proofs.Same.{only_written_change}
 use Rattle.lh_kernel.specs.Touched.{first_in, bits_then, MayChange}
 
 -- from any bits: those after the wishes so far, which differ from these only at the signals so far, and from which the rest leads to the bits then
-pub record Seen (signals : List Signal) (held : List Held) (t : Instant) (touched : List ℕ) (key : Option ℕ) (bits : List Bool) : Type 0 where
+pub record Seen (signals : List Signal) (held : List QueuedWish) (t : Instant) (touched : List ℕ) (key : Option ℕ) (bits : List Bool) : Type 0 where
   pub seen : List Bool
   pub others : OthersStay signals touched bits seen
   pub rest : values_by (entries (rest_from held key)) t 0 seen ≡ bits_then held t bits
 
-pub record TouchedTo (signals : List Signal) (width : ℕ) (held : List Held) (t : Instant) (touched : List ℕ) (key : Option ℕ) : Type 0 where
+pub record TouchedTo (signals : List Signal) (width : ℕ) (held : List QueuedWish) (t : Instant) (touched : List ℕ) (key : Option ℕ) : Type 0 where
   pub known : AreSignals signals touched
   pub seen : (bits : List Bool) → Seen signals held t touched key bits
 
-module _ (signals : List Signal) (width : ℕ) (held : List Held) (t : Instant) where
+module _ (signals : List Signal) (width : ℕ) (held : List QueuedWish) (t : Instant) where
   first_is : first_in (buckets_of held) ≡ first_key held
   first_is = by held
     where
-      by : (xs : List Held) → first_in (buckets_of xs) ≡ first_key xs
+      by : (xs : List QueuedWish) → first_in (buckets_of xs) ≡ first_key xs
       by [] = refl
       by (x ∷ more) = refl
 
@@ -39,7 +39,7 @@ module _ (signals : List Signal) (width : ℕ) (held : List Held) (t : Instant) 
     seen = λ bits. record {
       seen = bits;
       others = λ k n b h. refl;
-      rest = ap (λ (k : Option ℕ). values_by (entries (rest_from held k)) t 0 bits) (e ∙ first_is) ∙ ap (λ (xs : List Held). values_by (entries xs) t 0 bits) (rest_first held);
+      rest = ap (λ (k : Option ℕ). values_by (entries (rest_from held k)) t 0 bits) (e ∙ first_is) ∙ ap (λ (xs : List QueuedWish). values_by (entries xs) t 0 bits) (rest_first held);
     };
   }
 
@@ -90,7 +90,7 @@ module _ (signals : List Signal) (width : ℕ) (held : List Held) (t : Instant) 
   pub touched_gone : (touched : List ℕ) (key : Option ℕ) (k : ℕ) → key ≡ Some k → wish_at held k ≡ None → TouchedTo signals width held t touched key → MayChange signals width held t touched
   touched_gone touched key k e n s =
       let gone : rest_from held key ≡ [] = ap (rest_from held) e ∙ rest_none held k n in
-      ends touched key (λ seen. looked_none t seen ∙ ap (λ (xs : List Held). values_by (entries xs) t 0 seen) (sym gone)) s
+      ends touched key (λ seen. looked_none t seen ∙ ap (λ (xs : List QueuedWish). values_by (entries xs) t 0 seen) (sym gone)) s
 
   pub touched_late : (touched : List ℕ) (key : Option ℕ) (k : ℕ) (w : Wish) → AreInOrder held → KeysDiffer held → NoneDueBefore t held → key ≡ Some k → wish_at held k ≡ Some w → is_at w.due t ≡ false → TouchedTo signals width held t touched key →
       MayChange signals width held t touched

@@ -14,7 +14,7 @@ use Rattle.lh_unit.specs.World.{bit_numbers, bit_differs, is_at, Moment}
 use Rattle.lh_unit.specs.Within.{Each}
 use Rattle.lh_unit.proofs.Lists.{Each-get}
 use Rattle.lh_eval.specs.declared.instance.Instance.{Instance}
-use Rattle.lh_index.specs.Rising.{Has, IsRising, HasOneMore}
+use Rattle.lh_index.specs.Rising.{IsOneOf, IsRising, HasOneMore}
 use Rattle.lh_index.specs.Sensed.{sensed_by, Senses}
 use Rattle.lh_index.specs.Waking.{IsNoted}
 use Rattle.lh_design.specs.declared.Signal.{Signal}
@@ -47,7 +47,7 @@ awake_all a now t (i ∷ is) (s ∷ ss) k e = ap (λ (xs : List ℕ). k ∷ xs) 
 
 -- the numbers of a list, put one by one
 abbrev pub HasFirst : (items : List ℕ) → ℕ → List ℕ → Type 0
-HasFirst items i xs = (k : ℕ) → Has k xs ↔ Has k (take i items)
+HasFirst items i xs = (k : ℕ) → IsOneOf k xs ↔ IsOneOf k (take i items)
 
 pub first_none : (items : List ℕ) → HasFirst items 0 []
 first_none items k = (λ h. h, λ h. h)
@@ -58,18 +58,18 @@ first_more items i y old new l e h m k = (
   λ g. elim ((has_next k items i y l e).0 g) [ inl o ↦ (m k).1 (inr ((h k).1 o)) | inr p ↦ (m k).1 (inl (sym p)) ],
 )
 
-pub first_due : (ws : List ℕ) (items : List ℕ) (i : ℕ) (xs : List ℕ) (P : ℕ → Type 0) → items ≡ ws → length items ≤ i → HasFirst items i xs → ((k : ℕ) → Has k ws ↔ P k) → (k : ℕ) → Has k xs ↔ P k
+pub first_due : (ws : List ℕ) (items : List ℕ) (i : ℕ) (xs : List ℕ) (P : ℕ → Type 0) → items ≡ ws → length items ≤ i → HasFirst items i xs → ((k : ℕ) → IsOneOf k ws ↔ P k) → (k : ℕ) → IsOneOf k xs ↔ P k
 first_due ws items i xs P e l h d k =
     let s : take i items ≡ ws = take_all i items l ∙ e in
-    let Q : List ℕ → Type 0 = λ zs. Has k xs ↔ Has k zs in
-    let g : Has k xs ↔ Has k ws = subst Q s (h k) in
+    let Q : List ℕ → Type 0 = λ zs. IsOneOf k xs ↔ IsOneOf k zs in
+    let g : IsOneOf k xs ↔ IsOneOf k ws = subst Q s (h k) in
     (λ p. (d k).0 (g.0 p), λ p. g.1 ((d k).1 p))
 
 -- those who sense a signal, one by one
 pub record RousedTo (states : List InstState) (probes : List (List Range)) (old now : List Bool) (items : List ℕ) (i : ℕ) (before after : List ℕ) : Type 0 where
-  pub keeps : (k : ℕ) → Has k before → Has k after
-  pub sound : (k : ℕ) → Has k after → Has k before ⊎ IsRoused states probes old now k
-  pub all : (k : ℕ) → Has k (take i items) → IsRoused states probes old now k → Has k after
+  pub keeps : (k : ℕ) → IsOneOf k before → IsOneOf k after
+  pub sound : (k : ℕ) → IsOneOf k after → IsOneOf k before ⊎ IsRoused states probes old now k
+  pub all : (k : ℕ) → IsOneOf k (take i items) → IsRoused states probes old now k → IsOneOf k after
 
 false_true : false ≡ true → ⊥
 false_true e = cc
@@ -116,7 +116,7 @@ pub roused_all : (signals : List Signal) (states : List InstState) (probes : Lis
     RousedTo states probes old now items i before after → HasRoused signals states probes n old now signal before after
 roused_all signals states probes n old now signal items i before after e l r =
     let s : take i items ≡ sensed_by n.index signal = take_all i items l ∙ e in
-    let Q : List ℕ → Type 0 = λ zs. (k : ℕ) → Has k zs → IsRoused states probes old now k → Has k after in
+    let Q : List ℕ → Type 0 = λ zs. (k : ℕ) → IsOneOf k zs → IsRoused states probes old now k → IsOneOf k after in
     record { keeps = r.keeps; sound = r.sound; all = inr (subst Q s r.all) }
 
 -- what is kept of one that senses a signal
@@ -146,8 +146,8 @@ module _ (a : Arena) (d : Design) (states : List InstState) (probes : List (List
   -- the same, of one in the list of a signal
   pub sensed_item : (signal : ℕ) (items : List ℕ) (i y : ℕ) → items ≡ sensed_by n.index signal → i < length items → y ≡ get_or items i 0 → SensedAt d states probes y
   sensed_item signal items i y e l q =
-      let h : Has y items = has_first y items (i + 1) ((has_next y items i y l q).1 (inr refl)) in
-      let P : List ℕ → Type 0 = Has y in
+      let h : IsOneOf y items = has_first y items (i + 1) ((has_next y items i y l q).1 (inr refl)) in
+      let P : List ℕ → Type 0 = IsOneOf y in
       sensed_at signal y (subst P e h)
 
 -- the state and what is probed as they are read
@@ -163,9 +163,9 @@ read_within d states probes k s rs parts bits w p q e m =
 
 -- the signals that are touched, one by one
 pub record WokenTo (signals : List Signal) (states : List InstState) (probes : List (List Range)) (n : Noted) (old now : List Bool) (touched : List ℕ) (i : ℕ) (due woken : List ℕ) : Type 0 where
-  pub keeps : (k : ℕ) → Has k due → Has k woken
-  pub sound : (k : ℕ) → Has k woken → Has k due ⊎ IsRoused states probes old now k
-  pub all : (j : ℕ) → Has j (take i touched) → StaysSame signals old now j ⊎ ((k : ℕ) → Senses n.index j k → IsRoused states probes old now k → Has k woken)
+  pub keeps : (k : ℕ) → IsOneOf k due → IsOneOf k woken
+  pub sound : (k : ℕ) → IsOneOf k woken → IsOneOf k due ⊎ IsRoused states probes old now k
+  pub all : (j : ℕ) → IsOneOf j (take i touched) → StaysSame signals old now j ⊎ ((k : ℕ) → Senses n.index j k → IsRoused states probes old now k → IsOneOf k woken)
 
 module _ (signals : List Signal) (states : List InstState) (probes : List (List Range)) (n : Noted) (old now : List Bool) (touched : List ℕ) where
   pub woken_none : (due : List ℕ) → WokenTo signals states probes n old now touched 0 due due
@@ -180,7 +180,7 @@ module _ (signals : List Signal) (states : List InstState) (probes : List (List 
       | inl g ↦ elim (w.all j g) [ inl s ↦ inl s | inr f ↦ inr (λ k p q. r.keeps k (f k p q)) ]
       | inr o ↦ elim r.all [
         | inl s ↦ inl (let P : ℕ → Type 0 = StaysSame signals old now in subst P o s)
-        | inr f ↦ inr (let P : ℕ → Type 0 = λ m. (k : ℕ) → Senses n.index m k → IsRoused states probes old now k → Has k woken in subst P o f)
+        | inr f ↦ inr (let P : ℕ → Type 0 = λ m. (k : ℕ) → Senses n.index m k → IsRoused states probes old now k → IsOneOf k woken in subst P o f)
       ]
     ];
   }
@@ -189,7 +189,7 @@ pub woken_end : (signals : List Signal) (states : List InstState) (probes : List
     WokenTo signals states probes n old now items i due woken → WokenTo signals states probes n old now touched (length touched) due woken
 woken_end signals states probes n old now items touched i due woken e l w =
     let s : take i items ≡ take (length touched) touched = take_all i items l ∙ e ∙ sym (take_all (length touched) touched (omega arith)) in
-    let P : List ℕ → Type 0 = λ xs. (j : ℕ) → Has j xs → StaysSame signals old now j ⊎ ((k : ℕ) → Senses n.index j k → IsRoused states probes old now k → Has k woken) in
+    let P : List ℕ → Type 0 = λ xs. (j : ℕ) → IsOneOf j xs → StaysSame signals old now j ⊎ ((k : ℕ) → Senses n.index j k → IsRoused states probes old now k → IsOneOf k woken) in
     record { keeps = w.keeps; sound = w.sound; all = subst P s w.all }
 
 -- what a `Bool` says
@@ -243,7 +243,7 @@ module _ (a : Arena) (d : Design) (states : List InstState) (probes : List (List
 
   -- one that senses a bit that differs is among the woken
   roused_is : (k : ℕ) (i : Instance) (s : InstState) → slice_get d.instances.items k ≡ Some i → slice_get states k ≡ Some s → list_any (bit_differs old now) (bit_numbers (parts_sensed s (probed_by a i))) ≡ true →
-      OthersStay d.signals.items touched old now → WokenTo d.signals.items states probes n old now touched (length touched) due woken → Has k woken
+      OthersStay d.signals.items touched old now → WokenTo d.signals.items states probes n old now touched (length touched) due woken → IsOneOf k woken
   roused_is k i s p q e others w = elim (has_or k woken) [
     | inl h ↦ h
     | inr m ↦ absurd (false_true (sym (parts_stay d.signals.items (length d.init) (parts_sensed s (probed_by a i)) old now asleep.fill within (λ j g. stays m j g)) ∙ e))
@@ -256,39 +256,39 @@ module _ (a : Arena) (d : Design) (states : List InstState) (probes : List (List
       within = are_within (length d.init) (parts_sensed s (probed_by a i)) (senses-within a (length d.init) i s (probed_by a i) (fit_at a (length d.init) d.instances.items states k i s asleep.fit p q)
           (Each-get (λ (rs : List Range). Each (λ (x : Range). x.lo + x.len ≤ length d.init) rs) probes k (probed_by a i) asleep.probed_within probed))
 
-      stays : (Has k woken → ⊥) → (j : ℕ) → Touches d.signals.items (bit_numbers (parts_sensed s (probed_by a i))) j → StaysSame d.signals.items old now j
+      stays : (IsOneOf k woken → ⊥) → (j : ℕ) → Touches d.signals.items (bit_numbers (parts_sensed s (probed_by a i))) j → StaysSame d.signals.items old now j
       stays m j g = elim (has_or j touched) [
         | inr o ↦ others j o
         | inl h ↦
-            let P : List ℕ → Type 0 = Has j in
+            let P : List ℕ → Type 0 = IsOneOf j in
             elim (w.all j (subst P (sym (take_all (length touched) touched (omega arith))) h)) [
               | inl same ↦ same
               | inr f ↦ absurd (m (f k ((asleep.noted.senses j k).1 (record { instance = i; state = s; is = p; stands = q; touches = g })) (record { state = s; probed = probed_by a i; is_kept = q; is_probed = probed; differs = e })))
             ]
       ]
 
-  pub woken_are : ((k : ℕ) → Has k due ↔ IsNoted n.wakes t k) → OthersStay d.signals.items touched old now → WokenTo d.signals.items states probes n old now touched (length touched) due woken → IsRising woken →
+  pub woken_are : ((k : ℕ) → IsOneOf k due ↔ IsNoted n.wakes t k) → OthersStay d.signals.items touched old now → WokenTo d.signals.items states probes n old now touched (length touched) due woken → IsRising woken →
       woken ≡ awake_from 0 a later d.instances.items states
   woken_are times others w rising = rising_same woken (awake_from 0 a later d.instances.items states) rising (awake_rises a later d.instances.items states 0) (λ k. (there k, back k))
     where
-      first : (k : ℕ) → AwakeAt a later d.instances.items states k → Has k (awake_from 0 a later d.instances.items states)
+      first : (k : ℕ) → AwakeAt a later d.instances.items states k → IsOneOf k (awake_from 0 a later d.instances.items states)
       first k g =
           let e : 0 + k ≡ k = omega arith in
-          let P : ℕ → Type 0 = λ j. Has j (awake_from 0 a later d.instances.items states) in
+          let P : ℕ → Type 0 = λ j. IsOneOf j (awake_from 0 a later d.instances.items states) in
           subst P e (awake_has a later d.instances.items states 0 k g)
 
-      there : (k : ℕ) → Has k woken → Has k (awake_from 0 a later d.instances.items states)
+      there : (k : ℕ) → IsOneOf k woken → IsOneOf k (awake_from 0 a later d.instances.items states)
       there k h = elim (w.sound k h) [ inl g ↦ first k (by_due k ((times k).0 g)) | inr r ↦ first k (by_bits k r) ]
 
-      one : (k : ℕ) → AwakeAt a later d.instances.items states k → Has k woken
+      one : (k : ℕ) → AwakeAt a later d.instances.items states k → IsOneOf k woken
       one k g = elim (or_cases (list_any (bit_differs old now) (bit_numbers (parts_sensed g.state (probed_by a g.instance)))) (option_map_or (is_at t) (wake_kept g.state) false) g.awakes) [
         | inl e ↦ roused_is k g.instance g.state g.is_one g.is_kept e others w
         | inr e ↦ w.keeps k ((times k).1 ((asleep.noted.wakes t k).1 (record { state = g.state; stands = g.is_kept; wakes = at_some t (wake_kept g.state) e })))
       ]
 
-      back : (k : ℕ) → Has k (awake_from 0 a later d.instances.items states) → Has k woken
+      back : (k : ℕ) → IsOneOf k (awake_from 0 a later d.instances.items states) → IsOneOf k woken
       back k h =
           let l = has_awake a later d.instances.items states 0 k h in
           let e : l.place ≡ k = omega (arith, l.number) in
-          let P : ℕ → Type 0 = λ j. Has j woken in
+          let P : ℕ → Type 0 = λ j. IsOneOf j woken in
           subst P e (one l.place l.awake)

@@ -21,7 +21,7 @@ use Rattle.lh_history.proofs.Orders.{is_less}
 use Rattle.lh_unit.specs.Within.{Each}
 use Rattle.lh_eval.specs.Grouped.{is_filled, IsBefore, IsAbove, BitsRise, IsGrouped}
 use Rattle.lh_queue.specs.declared.wish.Wish.{Wish}
-use Rattle.lh_queue.specs.Held.{Held, NoneCompetes, NamesOnce, IsUnnamed, BitsWithin, due_later}
+use Rattle.lh_queue.specs.Queued.{QueuedWish, NoneCompetes, NamesOnce, IsUnnamed, BitsWithin, due_later}
 use Rattle.lh_queue.proofs.Keeping.{different_apart}
 use Rattle.lh_kernel.specs.Puts.{wishes_by, wishes_ran, AreApart, CanBePut}
 
@@ -83,15 +83,15 @@ apart_higher w t [] h = tt
 apart_higher w t (x ∷ xs) h = apart_join w (wishes_by t x.instance x.act.wishes) (wishes_ran t xs) (apart_other w t x.instance x.act.wishes (λ e. omega (arith, h.0, e))) (apart_higher w t xs h.1)
 
 -- none that is held was made at the instant
-abbrev pub IsMadeElsewhen : Instant → Held → Type 0
+abbrev pub IsMadeElsewhen : Instant → QueuedWish → Type 0
 IsMadeElsewhen t x = x.wish.made ≢ t
 
-none_competes : (w : Wish) (held : List Held) → Each (IsMadeElsewhen w.made) held → NoneCompetes w held
+none_competes : (w : Wish) (held : List QueuedWish) → Each (IsMadeElsewhen w.made) held → NoneCompetes w held
 none_competes w [] h = tt
 none_competes w (x ∷ xs) h = (different_apart w x.wish (inr (inl (λ e. h.0 (sym e)))), none_competes w xs h.1)
 
 -- the wishes of one instance can be put, and then others
-can_by : (held : List Held) (t : Instant) (k : ℕ) (ds : List (Instant × List (ℕ × Bool))) (ws : List Wish) → Each (IsMadeElsewhen t) held → IsGrouped ds →
+can_by : (held : List QueuedWish) (t : Instant) (k : ℕ) (ds : List (Instant × List (ℕ × Bool))) (ws : List Wish) → Each (IsMadeElsewhen t) held → IsGrouped ds →
     ((d : Instant) (bits : List (ℕ × Bool)) → AreApart (record { made = t; instance = k; due = d; bits = bits }) ws) → CanBePut held ws → CanBePut held (wishes_by t k ds ++ ws)
 can_by held t k [] ws e g a c = c
 can_by held t k (d ∷ ds) ws e g a c =
@@ -99,7 +99,7 @@ can_by held t k (d ∷ ds) ws e g a c =
     (none_competes w held e, rising_once d.1 g.1, apart_join w (wishes_by t k ds) ws (apart_later w t k ds (grouped_later d.0 ds g.2 g.3)) (a d.0 d.1), can_by held t k ds ws e g.3 a c)
 
 -- all wishes of a frame can be put
-pub can_all : (held : List Held) (t : Instant) (xs : List Activation) → Each (IsMadeElsewhen t) held → Each (λ (x : Activation). IsGrouped x.act.wishes) xs → IsRising (instances_of xs) → CanBePut held (wishes_ran t xs)
+pub can_all : (held : List QueuedWish) (t : Instant) (xs : List Activation) → Each (IsMadeElsewhen t) held → Each (λ (x : Activation). IsGrouped x.act.wishes) xs → IsRising (instances_of xs) → CanBePut held (wishes_ran t xs)
 can_all held t [] e g r = tt
 can_all held t (x ∷ xs) e g r =
     can_by held t x.instance x.act.wishes (wishes_ran t xs) e g.0 (λ d bits. apart_higher (record { made = t; instance = x.instance; due = d; bits = bits }) t xs r.0) (can_all held t xs e g.1 r.1)
@@ -146,7 +146,7 @@ entries_same t (x ∷ xs) = entries_by t x.instance x.act.wishes (wishes_ran t x
 
 -- ---- what is held and due later
 
-pub later_each : (P : Held → Type 0) (t : Instant) (held : List Held) → Each P held → Each P (due_later t held)
+pub later_each : (P : QueuedWish → Type 0) (t : Instant) (held : List QueuedWish) → Each P held → Each P (due_later t held)
 later_each P t [] h = tt
 later_each P t (x ∷ xs) h = at (instant_lt t x.wish.due) (later_each P t xs h.1)
   where
@@ -155,7 +155,7 @@ later_each P t (x ∷ xs) h = at (instant_lt t x.wish.due) (later_each P t xs h.
     at false r = r
 
 -- what was made before `t` and is due later waits after it
-pub later_waits : (t : Instant) (last : Option Instant) (held : List Held) → IsAfter last t → Each (IsWaiting last) held → Each (IsWaiting (Some t)) (due_later t held)
+pub later_waits : (t : Instant) (last : Option Instant) (held : List QueuedWish) → IsAfter last t → Each (IsWaiting last) held → Each (IsWaiting (Some t)) (due_later t held)
 later_waits t None [] a h = tt
 later_waits t None (x ∷ xs) a h = absurd h.0
 later_waits t (Some l) [] a h = tt
@@ -166,7 +166,7 @@ later_waits t (Some l) (x ∷ xs) a h = at (instant_lt t x.wish.due) refl (later
     at false e r = r
 
 -- none of what waits was made at `t`
-pub made_before : (t : Instant) (last : Option Instant) (held : List Held) → IsAfter last t → Each (IsWaiting last) held → Each (IsMadeElsewhen t) held
+pub made_before : (t : Instant) (last : Option Instant) (held : List QueuedWish) → IsAfter last t → Each (IsWaiting last) held → Each (IsMadeElsewhen t) held
 made_before t last [] a h = tt
 made_before t None (x ∷ xs) a h = absurd h.0
 made_before t (Some l) (x ∷ xs) a h = (λ e. clash (subst (λ (m : Instant). instant_le m l ≡ true) e h.0.0), made_before t (Some l) xs a h.1)

@@ -4,7 +4,7 @@ use Rattle.lh_time.specs.declared.Instant.{Instant}
 use Rattle.lh_time.specs.Order.{instant_lt, instant_le}
 use Rattle.lh_types.specs.declared.part.Range.{Range}
 use Rattle.lh_unit.specs.Within.{Each}
-use Rattle.lh_queue.specs.Held.{Held, EachWithin, EachNames}
+use Rattle.lh_queue.specs.Queued.{QueuedWish, EachWithin, EachNames}
 use Rattle.lh_elab.specs.Answer.{IsDesignOf}
 use Rattle.lh_elab.specs.Probed.{AreProbes}
 use Rattle.lh_states.specs.declared.state.InstState.{InstState}
@@ -12,10 +12,10 @@ use Rattle.lh_states.specs.States.{wake_kept}
 use Rattle.lh_states.specs.Runs.{IsLaterIfAny}
 use Rattle.lh_kernel.specs.States.{StatesFit}
 use Rattle.lh_kernel.specs.Noted.{IsNotedFor}
-use Rattle.lh_kernel.specs.declared.machine.Machine.{Machine}
+use Rattle.lh_kernel.specs.declared.machine.SimState.{SimState}
 
 -- a wish was made by the last frame and is due after it; before the first frame there is none
-abbrev pub IsWaiting : (last : Option Instant) → Held → Type 0
+abbrev pub IsWaiting : (last : Option Instant) → QueuedWish → Type 0
 IsWaiting None x = ⊥
 IsWaiting (Some l) x = (instant_le x.wish.made l ≡ true) × (instant_lt l x.wish.due ≡ true)
 
@@ -26,7 +26,7 @@ WakesAfter (Some l) s = IsLaterIfAny l (wake_kept s)
 
 -- The design is that of a well-formed module; what is kept of the instances fits them and is noted; the wishes that are held and the wake times are to come;
 -- and the second list of bits, in which the next frame is looked at, has the bits of the last one.
-pub record IsKept (x : Machine) : Type 0 where
+pub record IsKept (x : SimState) : Type 0 where
   pub design : IsDesignOf x.«module».now x.design
   pub width : length x.bits ≡ length x.design.init
   pub same : x.looked ≡ x.bits

@@ -4,7 +4,7 @@ use Rattle.lh_time.specs.declared.Instant.{Instant}
 use Rattle.lh_types.specs.declared.part.Range.{Range}
 use Rattle.lh_unit.specs.World.{bit_numbers}
 use Rattle.lh_design.specs.declared.Signal.{Signal}
-use Rattle.lh_index.specs.Rising.{Has}
+use Rattle.lh_index.specs.Rising.{IsOneOf}
 use Rattle.lh_index.specs.Sensed.{Senses}
 use Rattle.lh_index.specs.Waking.{IsNoted}
 use Rattle.lh_change.specs.Touched.{Touches, AreSignals, AreWithin}
@@ -18,15 +18,15 @@ use Rattle.lh_kernel.specs.declared.run.Activation.{Activation}
 -- and when it comes to wake by itself and when no more.
 pub record IsMove (signals : List Signal) (probes : List Range) (k : ℕ) (old new : InstState) (m : Move) : Type 0 where
   pub instance : m.instance ≡ k
-  pub came : (s : ℕ) → Has s m.came ↔ (Touches signals (bit_numbers (parts_sensed new probes)) s × ¬ Touches signals (bit_numbers (parts_sensed old probes)) s)
-  pub gone : (s : ℕ) → Has s m.gone ↔ (Touches signals (bit_numbers (parts_sensed old probes)) s × ¬ Touches signals (bit_numbers (parts_sensed new probes)) s)
+  pub came : (s : ℕ) → IsOneOf s m.came ↔ (Touches signals (bit_numbers (parts_sensed new probes)) s × ¬ Touches signals (bit_numbers (parts_sensed old probes)) s)
+  pub gone : (s : ℕ) → IsOneOf s m.gone ↔ (Touches signals (bit_numbers (parts_sensed old probes)) s × ¬ Touches signals (bit_numbers (parts_sensed new probes)) s)
   pub wake_came : (t : Instant) → (m.wake_came ≡ Some t) ↔ ((wake_kept new ≡ Some t) × (wake_kept old ≢ Some t))
   pub wake_gone : (t : Instant) → (m.wake_gone ≡ Some t) ↔ ((wake_kept old ≡ Some t) × (wake_kept new ≢ Some t))
 
 -- the signals that have a bit of the one parts and none of the others, and the other way about
 pub record AreBetween (signals : List Signal) (left entered : List Range) (came gone : List ℕ) : Type 0 where
-  pub enters : (s : ℕ) → Has s came ↔ (Touches signals (bit_numbers entered) s × ¬ Touches signals (bit_numbers left) s)
-  pub leaves : (s : ℕ) → Has s gone ↔ (Touches signals (bit_numbers left) s × ¬ Touches signals (bit_numbers entered) s)
+  pub enters : (s : ℕ) → IsOneOf s came ↔ (Touches signals (bit_numbers entered) s × ¬ Touches signals (bit_numbers left) s)
+  pub leaves : (s : ℕ) → IsOneOf s gone ↔ (Touches signals (bit_numbers left) s × ¬ Touches signals (bit_numbers entered) s)
 
 -- what the instance of an activation sensed and will sense lies within so many bits
 pub record SensesFit (width : ℕ) (probes : List (List Range)) (states : List InstState) (x : Activation) : Type 0 where
@@ -58,10 +58,10 @@ OneMove P (m ∷ ms) = P m ⊎ OneMove P ms
 
 -- a move has an instance come to a signal, or to an instant
 abbrev pub ComesTo : List Move → (signal k : ℕ) → Type 0
-ComesTo moves signal k = OneMove (λ (m : Move). (m.instance ≡ k) × Has signal m.came) moves
+ComesTo moves signal k = OneMove (λ (m : Move). (m.instance ≡ k) × IsOneOf signal m.came) moves
 
 abbrev pub GoesFrom : List Move → (signal k : ℕ) → Type 0
-GoesFrom moves signal k = OneMove (λ (m : Move). (m.instance ≡ k) × Has signal m.gone) moves
+GoesFrom moves signal k = OneMove (λ (m : Move). (m.instance ≡ k) × IsOneOf signal m.gone) moves
 
 abbrev pub WakeComes : List Move → Instant → (k : ℕ) → Type 0
 WakeComes moves t k = OneMove (λ (m : Move). (m.instance ≡ k) × (m.wake_came ≡ Some t)) moves

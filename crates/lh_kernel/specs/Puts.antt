@@ -3,7 +3,7 @@ use Rattle.std.specs.Prelude.{◌≡◌, ◌≢◌, ℕ, List, [], ◌∷◌, �
 use Rattle.std.specs.declared.cmp.Ordering.TheVariants.{Equal}
 use Rattle.lh_time.specs.declared.Instant.{Instant}
 use Rattle.lh_queue.specs.declared.wish.Wish.{Wish}
-use Rattle.lh_queue.specs.Held.{Held, with_held, wish_cmp, NoneCompetes, NamesOnce}
+use Rattle.lh_queue.specs.Queued.{QueuedWish, with_held, wish_cmp, NoneCompetes, NamesOnce}
 use Rattle.lh_queue.specs.Holds.{HoldsMore}
 use Rattle.lh_kernel.specs.declared.run.Activation.{Activation}
 
@@ -18,15 +18,15 @@ wishes_ran made [] = []
 wishes_ran made (x ∷ xs) = wishes_by made x.instance x.act.wishes ++ wishes_ran made xs
 
 -- one wish more is held
-pub record WasPut (old : List Held) (w : Wish) (new : List Held) : Type 0 where
+pub record WasPut (old : List QueuedWish) (w : Wish) (new : List QueuedWish) : Type 0 where
   pub key : ℕ
   pub adds : new ≡ with_held old (record { key = key; wish = w })
   pub holds : HoldsMore old w new
 
 -- these wishes more are held, put one after the other
-abbrev pub WerePut : (old : List Held) → List Wish → (new : List Held) → Type 0
+abbrev pub WerePut : (old : List QueuedWish) → List Wish → (new : List QueuedWish) → Type 0
 WerePut old [] new = new ≡ old
-WerePut old (w ∷ ws) new = (mid : List Held) × WasPut old w mid × WerePut mid ws new
+WerePut old (w ∷ ws) new = (mid : List QueuedWish) × WasPut old w mid × WerePut mid ws new
 
 -- none of these competes with the wish
 abbrev pub AreApart : Wish → List Wish → Type 0
@@ -34,6 +34,6 @@ AreApart w [] = Unit {0}
 AreApart w (v ∷ vs) = (wish_cmp v w ≢ Equal) × AreApart w vs
 
 -- Each names no bit twice, and competes with none that is held and with none of the others.
-abbrev pub CanBePut : (held : List Held) → List Wish → Type 0
+abbrev pub CanBePut : (held : List QueuedWish) → List Wish → Type 0
 CanBePut held [] = Unit {0}
 CanBePut held (w ∷ ws) = NoneCompetes w held × NamesOnce w.bits × AreApart w ws × CanBePut held ws

@@ -4,12 +4,12 @@ use Rattle.lh_time.specs.declared.Instant.{Instant}
 use Rattle.lh_types.specs.History.{claims}
 use Rattle.lh_unit.specs.Arena.{Arena}
 use Rattle.lh_unit.specs.World.{World, bits_of}
-use Rattle.lh_queue.specs.Held.{Held}
+use Rattle.lh_queue.specs.Queued.{QueuedWish}
 use Rattle.lh_queue.specs.Holds.{HoldsFor}
 use Rattle.lh_design.specs.declared.Design.{Design}
 use Rattle.lh_states.specs.declared.state.InstState.{InstState}
 use Rattle.lh_kernel.specs.States.{StatesStand}
-use Rattle.lh_kernel.specs.declared.machine.Machine.{Machine}
+use Rattle.lh_kernel.specs.declared.machine.SimState.{SimState}
 
 -- The module, the design, the bits of the last frame, before the first the initial ones, its instant, what is kept of each instance, the wishes that are still due, and whether a runaway has
 -- ended the run.
@@ -19,10 +19,10 @@ pub record Simulation : Type 0 where
   pub bits : List Bool
   pub last : Option Instant
   pub states : List InstState
-  pub held : List Held
+  pub held : List QueuedWish
   pub ended : Bool
 
-abbrev pub simulation_of : Machine → (ended : Bool) → Simulation
+abbrev pub simulation_of : SimState → (ended : Bool) → Simulation
 simulation_of x ended = record {
   arena = x.«module».now;
   design = x.design;

@@ -8,7 +8,7 @@ use Rattle.lh_unit.specs.Arena.{Arena}
 use Rattle.lh_unit.specs.World.{bit_numbers, bit_differs, Moment, wakes}
 use Rattle.lh_unit.specs.Within.{Each}
 use Rattle.lh_eval.specs.declared.instance.Instance.{Instance}
-use Rattle.lh_index.specs.Rising.{Has}
+use Rattle.lh_index.specs.Rising.{IsOneOf}
 use Rattle.lh_index.specs.Sensed.{Senses}
 use Rattle.lh_index.specs.Waking.{IsNoted}
 use Rattle.lh_design.specs.declared.Signal.{Signal}
@@ -51,6 +51,6 @@ pub record IsRoused (states : List InstState) (probes : List (List Range)) (old 
 
 -- Of a signal that does not stay the same each instance that senses it and a bit that differs is now among these; beside those before there are only such as sense a bit that differs.
 pub record HasRoused (signals : List Signal) (states : List InstState) (probes : List (List Range)) (n : Noted) (old now : List Bool) (signal : ℕ) (before after : List ℕ) : Type 0 where
-  pub keeps : (k : ℕ) → Has k before → Has k after
-  pub sound : (k : ℕ) → Has k after → Has k before ⊎ IsRoused states probes old now k
-  pub all : StaysSame signals old now signal ⊎ ((k : ℕ) → Senses n.index signal k → IsRoused states probes old now k → Has k after)
+  pub keeps : (k : ℕ) → IsOneOf k before → IsOneOf k after
+  pub sound : (k : ℕ) → IsOneOf k after → IsOneOf k before ⊎ IsRoused states probes old now k
+  pub all : StaysSame signals old now signal ⊎ ((k : ℕ) → Senses n.index signal k → IsRoused states probes old now k → IsOneOf k after)

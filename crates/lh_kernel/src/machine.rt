@@ -16,7 +16,7 @@ ghost use Rattle.lh_kernel.specs.Simulation.{StandsFor, simulation_of};
 ghost use Rattle.lh_kernel.specs.Phases.{ComesNext, HasLooked, IsPlanned, IsAhead, IsFrame, awake_in, woken_in, looked_at, RisesWithin};
 
 use crate::noted::{Move, Noted};
-use crate::plan::{Plan, plan_frame};
+use crate::plan::{FramePlan, plan_frame};
 use crate::puts::take_acts;
 use crate::run::Activation;
 use crate::touched::touched_at;
@@ -37,7 +37,7 @@ use std::alloc::Global;
 /// A simulation between two steps. The bits stand twice: a frame is looked at in `looked`, and only then taken into `bits`, so that no
 /// step copies them all.
 #[derive(Drop)]
-pub(crate) struct Machine<'m> {
+pub(crate) struct SimState<'m> {
     pub module: &'m Module,
     pub design: Design,
     pub bits: Bits,
@@ -50,7 +50,7 @@ pub(crate) struct Machine<'m> {
     pub alloc: Global,
 }
 
-impl Machine<'_> {
+impl SimState<'_> {
     /// The next instant: the first, and then the soonest at which a wish is due or an instance wakes by itself.
     pub fn next(&self) -> Option<Instant>
         requires { IsKept self.now }
@@ -83,7 +83,7 @@ impl Machine<'_> {
         ensures tally { IfOk result (λ (r : shown.Frame × Option ℕ). (w : World) → StandsFor (simulation_of self.old false) w → T.count tally.new ≡ raised (T.count tally.old) (activated_count r.1 (woken_in self.old w at))) }
         ensures err_tally { OnErr result ((w : World) → StandsFor (simulation_of self.old false) w → RisesWithin (woken_in self.old w at) (T.count tally.old) (T.count tally.new)) }
     {
-        let Plan {
+        let FramePlan {
             frame,
             acts,
             moves,
@@ -104,7 +104,7 @@ impl Machine<'_> {
     }
 
     /// Looks at the bits of an instant, works out its frame and makes room for what it brings. After `NoMemory` all that contracts see is as it was.
-    fn ahead<T: Tally>(&mut self, at: Instant, tally: &mut T) -> Result<Plan, NoMemory>
+    fn ahead<T: Tally>(&mut self, at: Instant, tally: &mut T) -> Result<FramePlan, NoMemory>
         requires kept { IsKept self.old }
         requires next { ComesNext self.old at }
         ensures same { self.new ≡ record self.old { looked = self.new.looked; queue = self.new.queue; noted = self.new.noted } }
@@ -130,7 +130,7 @@ impl Machine<'_> {
         at: Instant,
         touched: &Rising,
         tally: &mut T,
-    ) -> Result<Plan, NoMemory>
+    ) -> Result<FramePlan, NoMemory>
         requires looked { HasLooked self.old at touched.now }
         ensures same { self.new ≡ record self.old { queue = self.new.queue; noted = self.new.noted } }
         ensures held { self.new.queue.held ≡ self.old.queue.held }
@@ -159,7 +159,7 @@ impl Machine<'_> {
         ensures states { self.new.states.items ≡ states_after self.old.states.items acts.items }
     {
         self.noted.leave(moves);
-        take_acts(&mut self.queue, &mut self.states, at, acts);
+        take_acts(self.alloc, &mut self.queue, &mut self.states, at, acts);
         self.last = Some(at);
     }
 }

@@ -2,7 +2,7 @@
 ghost use Rattle.std.specs.Prelude.{◌≡◌, ◌≢◌, ◌↔◌, ℕ, Some, length, IfOk, IsTrue};
 ghost use Rattle.lh_unit.specs.World.{bit_numbers};
 ghost use Rattle.lh_unit.specs.Within.{Each};
-ghost use Rattle.lh_index.specs.Rising.{Has};
+ghost use Rattle.lh_index.specs.Rising.{IsOneOf};
 ghost use Rattle.lh_design.specs.Filling.{SignalsFill};
 ghost use Rattle.lh_change.specs.Touched.{Touches, AreWithin};
 ghost use Rattle.lh_states.specs.States.{parts_sensed};
@@ -35,7 +35,7 @@ pub(crate) fn moves_of(
     let mut moves = Vec::new(alloc);
     for done in acts {
         let k = done.instance as usize;
-        let (probed, old, new) = (&probes[k], &states[k], &done.act.next);
+        let (probed, old, new) = (&probes[k], &states[k], done.act.next());
         if !senses_as_before(old, new) {
             moves.push(move_of(alloc, design, probed, done.instance, old, new)?)?;
         }
@@ -101,7 +101,7 @@ fn between(
 
 /// The numbers of the one list that are not in the other.
 fn without(alloc: Global, these: &Rising, those: &Rising) -> Result<Rising, NoMemory>
-    ensures { IfOk result (λ rest. (k : ℕ) → Has k rest ↔ (Has k these.now × ¬ Has k those.now)) }
+    ensures { IfOk result (λ rest. (k : ℕ) → IsOneOf k rest ↔ (IsOneOf k these.now × ¬ IsOneOf k those.now)) }
 {
     let mut rest = Rising::new(alloc);
     for &number in these.as_slice() {

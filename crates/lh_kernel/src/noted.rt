@@ -1,7 +1,7 @@
 //! Who senses which signal and who wakes by itself when: what is noted of all instances, and how it moves.
 ghost use Rattle.std.specs.Prelude.{◌≡◌, ◌<◌, ℕ, List, length, IfOk, OnErr};
 ghost use Rattle.lh_design.specs.declared.Signal.{Signal};
-ghost use Rattle.lh_index.specs.Rising.{Has};
+ghost use Rattle.lh_index.specs.Rising.{IsOneOf};
 ghost use Rattle.lh_kernel.specs.Moves.{MovesKnown, AreFresh, HasEntered, HasEnteredSome, HasLeft, IsSameNoted};
 ghost use Rattle.lh_kernel.specs.Noting.{HasNoted, HasNotedSome, HasForgotten};
 
@@ -77,7 +77,7 @@ impl Noted {
         signals: &Rising,
         wake: Option<Instant>,
     ) -> Result<(), NoMemory>
-        requires known { (s : ℕ) → Has s signals.now → s < length self.old.index }
+        requires known { (s : ℕ) → IsOneOf s signals.now → s < length self.old.index }
         ensures noted { IfOk result (λ done. HasNoted instance signals.now wake self.old self.new) }
         ensures err { OnErr result (HasNotedSome instance signals.now wake self.old self.new) }
     {
@@ -92,7 +92,7 @@ impl Noted {
 
     /// Forgets of one instance that it senses these signals and wakes by itself at this instant. It takes no memory.
     fn forget(&mut self, instance: u32, signals: &Rising, wake: Option<Instant>)
-        requires known { (s : ℕ) → Has s signals.now → s < length self.old.index }
+        requires known { (s : ℕ) → IsOneOf s signals.now → s < length self.old.index }
         ensures { HasForgotten instance signals.now wake self.old self.new }
     {
         for &signal in signals.as_slice() {

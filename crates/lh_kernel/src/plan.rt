@@ -12,7 +12,7 @@ ghost use Rattle.lh_kernel.specs.Ran.{AllRan, ActOfOne};
 ghost use Rattle.lh_kernel.specs.Puts.{wishes_ran};
 ghost use Rattle.lh_kernel.specs.Phases.{HasLooked, IsPlanned, awake_in, values_kept, RisesWithin};
 
-use crate::machine::Machine;
+use crate::machine::SimState;
 use crate::moves::moves_of;
 use crate::noted::Move;
 use crate::run::{Activation, Ran, outcomes_of, run_all};
@@ -27,7 +27,7 @@ use std::alloc::Global;
 
 /// A frame, and what it brings: what its instances did, what of what is noted moves, how many wishes are made, and who ran away.
 #[derive(Drop)]
-pub(crate) struct Plan {
+pub(crate) struct FramePlan {
     pub frame: Frame,
     pub acts: Vec<Activation>,
     pub moves: Vec<Move>,
@@ -38,11 +38,11 @@ pub(crate) struct Plan {
 /// The frame at an instant, where the bits at it were looked at and only signals that are touched may differ from the frame before.
 pub(crate) fn plan_frame<T: Tally>(
     alloc: Global,
-    x: &Machine<'_>,
+    x: &SimState<'_>,
     at: Instant,
     touched: &Rising,
     tally: &mut T,
-) -> Result<Plan, NoMemory>
+) -> Result<FramePlan, NoMemory>
     requires looked { HasLooked x.now at touched.now }
     ensures planned { IfOk result (IsPlanned x.now at) }
     ensures tally { IfOk result (λ p. T.count tally.new ≡ raised (T.count tally.old) (activated_count p.runaway (awake_in x.now at))) }
@@ -55,11 +55,11 @@ pub(crate) fn plan_frame<T: Tally>(
 /// The frame in which the woken instances did this.
 fn plan_ran(
     alloc: Global,
-    x: &Machine<'_>,
+    x: &SimState<'_>,
     at: Instant,
     touched: &Rising,
     ran: Ran,
-) -> Result<Plan, NoMemory>
+) -> Result<FramePlan, NoMemory>
     requires looked { HasLooked x.now at touched.now }
     requires ran { (ps : List State) → StatesStand x.now.«module».now x.now.design.instances.items x.now.states.items ps → AllRan x.now.«module».now x.now.looked at x.now.design.instances.items ps (awake_in x.now at) ran.acts.items ran.runaway }
     requires sound { Each (ActOfOne x.now.«module».now (length x.now.looked) at x.now.design.instances.items) ran.acts.items }
@@ -73,7 +73,7 @@ fn plan_ran(
     };
     let moves = moves_of(alloc, &x.design, &x.probes, &x.states, &ran.acts)?;
     let wishes = wish_count(&ran.acts)?;
-    Ok(Plan {
+    Ok(FramePlan {
         frame,
         acts: ran.acts,
         moves,
@@ -85,7 +85,7 @@ fn plan_ran(
 /// What the instances do that the frame wakes.
 fn run_woken<T: Tally>(
     alloc: Global,
-    x: &Machine<'_>,
+    x: &SimState<'_>,
     at: Instant,
     touched: &Rising,
     tally: &mut T,
@@ -125,7 +125,7 @@ fn run_woken<T: Tally>(
 /// The changes that the frame shows.
 fn changes_in(
     alloc: Global,
-    x: &Machine<'_>,
+    x: &SimState<'_>,
     at: Instant,
     touched: &Rising,
 ) -> Result<ChangeList, NoMemory>
@@ -144,7 +144,7 @@ fn wish_count(acts: &[Activation]) -> Result<usize, NoMemory>
 {
     let mut count: usize = 0;
     for done in acts {
-        let Some(more) = count.checked_add(done.act.wishes.len()) else {
+        let Some(more) = count.checked_add(done.act.wish_count()) else {
             // So many are in no memory.
             return Err(NoMemory);
         };

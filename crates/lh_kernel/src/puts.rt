@@ -11,9 +11,11 @@ use lh_queue::wish::Wish;
 use lh_states::state::InstState;
 use lh_time::Instant;
 use lh_types::writes::DueWrites;
+use std::alloc::Global;
 
 /// Takes what the instances did at an instant: their wishes into the queue, and their states. It takes no memory.
 pub(crate) fn take_acts(
+    alloc: Global,
     queue: &mut Queue,
     states: &mut Vec<InstState>,
     at: Instant,
@@ -27,8 +29,9 @@ pub(crate) fn take_acts(
 {
     for done in acts {
         let Activation { instance, act } = done;
-        put_wishes(queue, at, instance, act.wishes);
-        set_state(states, instance, act.next);
+        let (next, wishes) = act.into_parts(alloc);
+        put_wishes(queue, at, instance, wishes);
+        set_state(states, instance, next);
     }
 }
 

@@ -5,7 +5,7 @@ ghost use Rattle.lh_types.specs.declared.frame.Outcome as outcome;
 ghost use Rattle.lh_unit.specs.World.{State};
 ghost use Rattle.lh_unit.specs.Frames.{activated_count};
 ghost use Rattle.lh_unit.specs.Within.{Each};
-ghost use Rattle.lh_index.specs.Rising.{Has, IsRising};
+ghost use Rattle.lh_index.specs.Rising.{IsOneOf, IsRising};
 ghost use Rattle.lh_elab.specs.Answer.{IsDesignOf};
 ghost use Rattle.lh_kernel.specs.States.{StatesStand, StatesFit};
 ghost use Rattle.lh_kernel.specs.Ran.{AllRan, ActOfOne, outcomes_ran, outcomes_by};
@@ -52,7 +52,7 @@ pub(crate) fn run_all<T: Tally>(
     requires width { length now.now ≡ length design.now.init }
     requires fit { StatesFit m.now (length now.now) design.now.instances.items states.now }
     requires rising { IsRising woken.now }
-    requires known { (k : ℕ) → Has k woken.now → k < length design.now.instances.items }
+    requires known { (k : ℕ) → IsOneOf k woken.now → k < length design.now.instances.items }
     ensures ran { (ps : List State) → StatesStand m.now design.now.instances.items states.now ps → IfOk result (λ r. AllRan m.now now.now at design.now.instances.items ps woken.now r.acts.items r.runaway) }
     ensures sound { IfOk result (λ r. Each (ActOfOne m.now (length now.now) at design.now.instances.items) r.acts.items) }
     ensures tally { IfOk result (λ r. T.count tally.new ≡ raised (T.count tally.old) (activated_count r.runaway woken.now)) }
@@ -103,7 +103,7 @@ pub(crate) fn outcomes_of(alloc: Global, acts: &[Activation]) -> Result<OutcomeL
 fn add_outcomes(outcomes: &mut OutcomeList, done: &Activation) -> Result<(), NoMemory>
     ensures { IfOk result (λ u. outcomes.new ≡ outcomes.old ++ outcomes_by done.now) }
 {
-    for &passed in done.act.outcomes.as_slice() {
+    for &passed in done.act.outcomes() {
         outcomes.push(Outcome {
             instance: done.instance,
             passed,

@@ -7,13 +7,13 @@ ghost use Rattle.lh_unit.specs.Design as text;
 ghost use Rattle.lh_unit.specs.World.{World, first_world, next_instant};
 ghost use Rattle.lh_unit.specs.Trace.{signal_value};
 ghost use Rattle.lh_design.specs.Texts.{design_text};
-ghost use Rattle.lh_index.specs.Rising.{Has, IsRising};
+ghost use Rattle.lh_index.specs.Rising.{IsOneOf, IsRising};
 ghost use Rattle.lh_elab.specs.Answer.{IsDesignOf};
 ghost use Rattle.lh_kernel.specs.States.{SensesSignal};
 ghost use Rattle.lh_kernel.specs.Simulation.{StandsFor};
 ghost use Rattle.lh_kernel.specs.Stepped.{Stepped, Tallied, signal_of};
 
-use crate::machine::Machine;
+use crate::machine::SimState;
 use lh_design::Design;
 use lh_time::Instant;
 use lh_types::frame::Frame;
@@ -43,7 +43,7 @@ pub enum SimStep {
 /// the definition it stands for.
 #[derive(Drop)]
 pub struct Sim<'m> {
-    machine: Machine<'m>,
+    machine: SimState<'m>,
     ended: bool,
 }
 
@@ -74,7 +74,7 @@ impl<'m> Sim<'m> {
         ensures design { IfOk result (λ s. s.design ≡ d) }
     {
         Ok(Sim {
-            machine: Machine::started(alloc, m, d)?,
+            machine: SimState::started(alloc, m, d)?,
             ended: false,
         })
     }
@@ -116,7 +116,7 @@ impl<'m> Sim<'m> {
     /// The numbers of the instances that sense a bit of a signal now, rising.
     pub fn sensing(&self, signal: u32) -> &[u32]
         requires known { signal < length self.now.design.signals.items }
-        ensures senses { (k : ℕ) → Has k result.now ↔ SensesSignal self.now.arena self.now.design.instances.items self.now.design.signals.items self.now.states signal k }
+        ensures senses { (k : ℕ) → IsOneOf k result.now ↔ SensesSignal self.now.arena self.now.design.instances.items self.now.design.signals.items self.now.states signal k }
         ensures rising { IsRising result.now }
     {
         self.machine.noted.index.sensing(signal)

@@ -12,7 +12,7 @@ ghost use Rattle.lh_kernel.specs.Noted.{IsNotedFor, SensedWithin};
 ghost use Rattle.lh_kernel.specs.Kept.{IsKept, WakesAfter};
 ghost use Rattle.lh_kernel.specs.Simulation.{StandsFor, simulation_of};
 
-use crate::machine::Machine;
+use crate::machine::SimState;
 use crate::noted::Noted;
 use lh_change::signals::signals_of;
 use lh_design::Design;
@@ -26,9 +26,9 @@ use lh_types::ty::NoMemory;
 use lh_unit::module::Module;
 use std::alloc::Global;
 
-impl<'m> Machine<'m> {
+impl<'m> SimState<'m> {
     /// The parts of the simulation of a design before its first frame.
-    pub fn started(alloc: Global, m: &'m Module, d: Design) -> Result<Machine<'m>, NoMemory>
+    pub fn started(alloc: Global, m: &'m Module, d: Design) -> Result<SimState<'m>, NoMemory>
         requires { IsDesignOf m.now d }
         ensures kept { IfOk result IsKept }
         ensures stands { IfOk result
@@ -41,7 +41,7 @@ impl<'m> Machine<'m> {
         let noted = noted_for(alloc, &d, &states, &probes)?;
         let bits = d.init().copy()?;
         let looked = d.init().copy()?;
-        Ok(Machine {
+        Ok(SimState {
             module: m,
             design: d,
             bits,

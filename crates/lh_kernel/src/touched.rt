@@ -1,7 +1,7 @@
 //! The signals that wishes due at an instant may change.
 ghost use Rattle.std.specs.Prelude.{◌≡◌, length, IfOk};
 ghost use Rattle.lh_design.specs.Filling.{SignalsFill};
-ghost use Rattle.lh_queue.specs.Held.{NoneDueBefore, EachWithin, is_at};
+ghost use Rattle.lh_queue.specs.Queued.{NoneDueBefore, EachWithin, is_at};
 ghost use Rattle.lh_kernel.specs.Touched.{MayChange, first_in};
 
 use lh_change::signals::touch_written;

@@ -2,13 +2,13 @@
 ghost use Rattle.std.specs.Prelude.{◌≡◌, ◌≤◌, ◌<◌, ◌↔◌, ℕ, List, Bool, true, length, IfOk, Some, None};
 ghost use Rattle.lh_time.specs.Order.{instant_le};
 ghost use Rattle.lh_unit.specs.Arena.{Arena};
-ghost use Rattle.lh_index.specs.Rising.{Has};
+ghost use Rattle.lh_index.specs.Rising.{IsOneOf};
 ghost use Rattle.lh_index.specs.Waking.{IsNoted};
 ghost use Rattle.lh_change.specs.Touched.{AreSignals, OthersStay};
 ghost use Rattle.lh_kernel.specs.Woken.{awake_from, AreAsleep, HasRoused};
 
 use crate::noted::Noted;
-use lh_change::differ::{differs, stays};
+use lh_change::differ::{changed_part, differs_with};
 use lh_design::Design;
 use lh_index::rising::Rising;
 use lh_states::state::InstState;
@@ -71,7 +71,7 @@ impl Asleep<'_> {
     /// The instances whose wake time has come. None may wake before it.
     fn due(&self, alloc: Global, at: Instant) -> Result<Rising, NoMemory>
         requires { (t : Instant) (k : ℕ) → IsNoted self.now.noted.now.wakes t k → instant_le at t ≡ true }
-        ensures { IfOk result (λ ks. (k : ℕ) → Has k ks ↔ IsNoted self.now.noted.now.wakes at k) }
+        ensures { IfOk result (λ ks. (k : ℕ) → IsOneOf k ks ↔ IsNoted self.now.noted.now.wakes at k) }
     {
         let mut due = Rising::new(alloc);
         for &instance in self.noted.wakes.due(alloc, at)?.as_slice() {
@@ -89,13 +89,13 @@ impl Asleep<'_> {
         ensures { IfOk result
             (λ done. HasRoused self.now.design.now.signals.items self.now.states.now self.now.probes.now self.now.noted.now old.now now.now signal woken.old woken.new) }
     {
-        if stays(self.design, signal, old, now) {
+        let Some(changed) = changed_part(self.design, signal, old, now) else {
             return Ok(());
-        }
+        };
         for &instance in self.noted.index.sensing(signal) {
             let probes = &self.probes[instance as usize];
             let parts = self.states[instance as usize].senses(probes);
-            if differs(parts, old, now) {
+            if differs_with(parts, changed, old, now) {
                 woken.enter(instance)?;
             }
         }

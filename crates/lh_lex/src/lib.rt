@@ -6,7 +6,8 @@
 
 ghost use Rattle.std.specs.Prelude.{◌≡◌, ◌≤◌, ◌+◌, [], ◌∷◌, IfOk, IfErr, IfSome, IfNone, length, map, drop, false, Some, None, Result, Ok};
 ghost use Rattle.lh_unit.specs.Names.{is_name_byte, IsName};
-ghost use Rattle.lh_unit.specs.Lexemes.{lexemes, front, first_lexeme, run_len, is_white as white_byte, begins, is_comment, is_punct, local as a_local, word as a_word};
+ghost use Rattle.lh_unit.specs.Lexemes as spec;
+ghost use Rattle.lh_unit.specs.Lexemes.{lexemes, front, first_lexeme, run_len, begins, is_comment, is_punct};
 ghost use Rattle.lh_unit.specs.Tokens.{tokens, first_token, first_bad as bad_place, named, lexeme_of, lexeme_at, IsSpelling, AreTokensOf, Covers};
 ghost use Rattle.lh_lex.specs.Faults.{NamesFault, Refuses};
 ghost use Rattle.lh_lex.specs.Front.{taken, length_of, begins_word, HasTokens, IsSettled};
@@ -34,7 +35,7 @@ fn is_name(b: u8) -> bool
 }
 
 fn is_white(b: u8) -> bool
-    ensures { result ≡ white_byte b }
+    ensures { result ≡ spec.is_white b }
 {
     matches!(b, b' ' | b'\t' | b'\r')
 }
@@ -219,7 +220,7 @@ pub fn split(text: &[u8]) -> Option<(TokenKind, &[u8], &[u8])>
 /// The word in front, and the bytes from the next token on; `None` where another byte stands in front.
 pub fn word(text: &[u8]) -> Option<(&[u8], &[u8])>
     requires { IsSettled text.now }
-    ensures taken { IfSome result (λ r. lexemes text.now ≡ front (a_word r.0.now) (lexemes r.1.now)) }
+    ensures taken { IfSome result (λ r. lexemes text.now ≡ front (spec.word r.0.now) (lexemes r.1.now)) }
     ensures settled { IfSome result (λ r. IsSettled r.1.now) }
     ensures other { IfNone result (begins_word text.now ≡ false) }
 {
@@ -235,7 +236,7 @@ pub fn word(text: &[u8]) -> Option<(&[u8], &[u8])>
 pub fn local(text: &[u8]) -> Option<(&[u8], &[u8])>
     requires tokens { HasTokens text.now }
     requires settled { IsSettled text.now }
-    ensures taken { IfSome result (λ r. lexemes text.now ≡ front (a_local r.0.now) (lexemes r.1.now)) }
+    ensures taken { IfSome result (λ r. lexemes text.now ≡ front (spec.local r.0.now) (lexemes r.1.now)) }
     ensures name { IfSome result (λ r. IsName r.0.now) }
     ensures settled { IfSome result (λ r. IsSettled r.1.now) }
     ensures other { IfNone result (begins 37 text.now ≡ false) }

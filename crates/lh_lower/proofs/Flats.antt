@@ -3,7 +3,7 @@ use Rattle.std.proofs.Common.{◌≡◌, List, refl, sym, subst}
 use Rattle.std.specs.Prelude.{Ok}
 use Rattle.lh_term.specs.declared.term.Node.{Node}
 use Rattle.lh_rows.specs.Regions.{Regions as RegionsOf, RegionRefusal, Regioned, no_regions}
-use Rattle.lh_region.specs.Stands.{AreRegions, Answers}
+use Rattle.lh_region.specs.Stands.{AreRegions, RegionsOrReason}
 use Rattle.lh_region.specs.declared.rows.Regions.{Regions}
 use Rattle.lh_shape.specs.Answers.{IsShape}
 use Rattle.lh_shape.specs.Reasons.{region_reason}
@@ -12,7 +12,8 @@ use Rattle.lh_shape.specs.declared.kinds.Shape.{Shape}
 use Rattle.lh_shape.specs.declared.kinds.Shape.TheVariants as kind
 
 -- by the rows of regions that stand for those of the definition
-pub by-regions : (ns ms : List Node) (r : Regions) (s : Shape) (x : Regioned) → Answers ns x (Ok r) → ((y : RegionsOf) → AreRegions ns r y → IsShape ms s (shape_by_rows y)) → IsShape ms s (shape_by_regions x)
+pub by-regions : (ns ms : List Node) (r : Regions) (s : Shape) (x : Regioned) → RegionsOrReason ns x (Ok r) → ((y : RegionsOf) → AreRegions ns r y → IsShape ms s (shape_by_rows y))
+    → IsShape ms s (shape_by_regions x)
 by-regions ns ms r s x a h = subst (λ (z : Regioned). IsShape ms s (shape_by_regions z)) (sym a.1) (h a.0 a.2)
 
 -- the process stays, where there are no regions

@@ -75,11 +75,13 @@ module _ (a : Arena) (o : IsArena a) (u : UnitId) (seen : List Item) (b : IsBehi
   other-name : (i : ℕ) (v : UnitId) → slice_get seen i ≡ Some (item.Unit v) → same_unit_name (unit_name_at a v.0) (unit_name_at a u.0) ≡ false
   other-name i v e = names-apart a o v u (o.items_within i v (there i v e)) within (other-id i v e)
 
-  fresh-in : (is : List Item) → ((i : ℕ) (v : UnitId) → slice_get is i ≡ Some (item.Unit v) → same_unit_name (unit_name_at a v.0) (unit_name_at a u.0) ≡ false) → defines_unit (unit_name_at a u.0) (map (lowered_item (contents a)) (map (item_text_at a) is)) ≡ false
+  fresh-in : (is : List Item) → ((i : ℕ) (v : UnitId) → slice_get is i ≡ Some (item.Unit v) → same_unit_name (unit_name_at a v.0) (unit_name_at a u.0) ≡ false)
+      → defines_unit (unit_name_at a u.0) (map (lowered_item (contents a)) (map (item_text_at a) is)) ≡ false
   fresh-in [] h = refl
   fresh-in (item.Unit v ∷ is) h =
       let x : UnitText = unit_text_at a v.0 in
-      let n : same_unit_name (lowered_as x.kind (contents a) x).name (unit_name_at a u.0) ≡ false = ap (λ (m : UnitName). same_unit_name m (unit_name_at a u.0)) (unit-name (contents a) x x.kind) ∙ h 0 v refl in
+      let n : same_unit_name (lowered_as x.kind (contents a) x).name (unit_name_at a u.0) ≡ false = ap (λ (m : UnitName). same_unit_name m (unit_name_at a u.0)) (unit-name (contents a) x x.kind)
+      ∙ h 0 v refl in
       ap (λ (t : Bool). t || defines_unit (unit_name_at a u.0) (map (lowered_item (contents a)) (map (item_text_at a) is))) n ∙ fresh-in is (λ i w p. h (suc i) w p)
   fresh-in (item.Declare d ∷ is) h = fresh-in is (λ i w p. h (suc i) w p)
 
@@ -89,7 +91,8 @@ module _ (a : Arena) (o : IsArena a) (u : UnitId) (seen : List Item) (b : IsBehi
 -- ---- one more item
 
 module _ (a : Arena) (seen : List Item) (i : Item) where
-  pub lowered-more : map (lowered_item (contents a)) (map (item_text_at a) (seen ++ i ∷ [])) ≡ map (lowered_item (contents a)) (map (item_text_at a) seen) ++ lowered_item (contents a) (item_text_at a i) ∷ []
+  pub lowered-more : map (lowered_item (contents a)) (map (item_text_at a) (seen ++ i ∷ [])) ≡ map (lowered_item (contents a)) (map (item_text_at a) seen)
+      ++ lowered_item (contents a) (item_text_at a i) ∷ []
   lowered-more = ap (map (lowered_item (contents a))) (map-append (item_text_at a) seen (i ∷ [])) ∙ map-append (lowered_item (contents a)) (map (item_text_at a) seen) (item_text_at a i ∷ [])
 
   pub rows-more : flat_map (item_row (contents a)) (map (item_text_at a) (seen ++ i ∷ [])) ≡ flat_map (item_row (contents a)) (map (item_text_at a) seen) ++ item_row (contents a) (item_text_at a i)
@@ -103,7 +106,8 @@ as-kept items u unit_kind.Proc e n = absurd (n refl)
 as-kept items u unit_kind.Func e n = (ap (λ (k : UnitKind). unit_text (lowered_as k items u)) e, ap (λ (k : UnitKind). row_as k items u) e)
 as-kept items u unit_kind.Entity e n = (ap (λ (k : UnitKind). unit_text (lowered_as k items u)) e, ap (λ (k : UnitKind). row_as k items u) e)
 
-pub as-process : (items : List ItemText) (u : UnitText) (o : Outcome) → u.kind ≡ unit_kind.Proc → outcome_in items u ≡ o → (lowered_item items (unit_text u) ≡ unit_text (in_place u o)) × (item_row items (unit_text u) ≡ record { unit = u.name; verdict = verdict_of o } ∷ [])
+pub as-process : (items : List ItemText) (u : UnitText) (o : Outcome) → u.kind ≡ unit_kind.Proc → outcome_in items u ≡ o → (lowered_item items (unit_text u) ≡ unit_text (in_place u o))
+    × (item_row items (unit_text u) ≡ record { unit = u.name; verdict = verdict_of o } ∷ [])
 as-process items u o e f = (
   ap (λ (k : UnitKind). unit_text (lowered_as k items u)) e ∙ ap (λ (x : Outcome). unit_text (in_place u x)) f,
   ap (λ (k : UnitKind). row_as k items u) e ∙ ap (λ (x : Outcome). record { unit = u.name; verdict = verdict_of x } ∷ []) f,

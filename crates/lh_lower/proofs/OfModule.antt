@@ -54,7 +54,8 @@ module _ (a : Arena) (u : ℕ) where
   pub left-as : (y : FlatRefusal) → flat_of (contents a) x ≡ refused y → IsOutcomeAt a u (outcome.Left (flat_reason y))
   left-as y e = ap (text.outcome_of_text x) e
 
-  module _ (o : IsArena a) (formed : IsWellFormed (contents a)) (named : UnitsAreNamed a) (law : FlatTextsAreFormed) (within : u < unit_count a) (process : kind_at a u ≡ Some unit_kind.Proc) (t : Flat) (below : IdsBelow t) (fl : Flattens a u (Ok t)) where
+  module _ (o : IsArena a) (formed : IsWellFormed (contents a)) (named : UnitsAreNamed a) (law : FlatTextsAreFormed) (within : u < unit_count a) (process : kind_at a u ≡ Some unit_kind.Proc)
+      (t : Flat) (below : IdsBelow t) (fl : Flattens a u (Ok t)) where
     read : ReadsAs a t fl.0
     read = fl.2
 
@@ -87,7 +88,8 @@ module _ (a : Arena) (u : ℕ) where
 pub has-form : (ns : List (List ℕ)) (t : Flat) → HasArgs ns t → HasForm t
 has-form ns t h = record { below = h.below; naming = h.naming; names = h.is }
 
-module _ (combs : CombIsGiven) (edges : EdgeIsGiven) (onces : OnceIsGiven) (ns : List Node) (o : Origin) (h : HasArgs o.names o.flat.now) (table : IsPartTable o.flat.now o.parts.now) (firsts : AreFirsts o) (s : Shape)
+module _ (combs : CombIsGiven) (edges : EdgeIsGiven) (onces : OnceIsGiven) (ns : List Node) (o : Origin) (h : HasArgs o.names o.flat.now) (table : IsPartTable o.flat.now o.parts.now)
+    (firsts : AreFirsts o) (s : Shape)
     (is : (f : Naming) → Names o.flat.now f → IsShape ns s (shape_of_text (flat_text f o.flat.now))) where
   origin-by : (f : Naming) → Names o.flat.now f → o.names ≡ map (λ (b : ArgText). b.name) (flat_text f o.flat.now).args → IsOrigin f o
   origin-by f n e = record {
@@ -107,14 +109,17 @@ module _ (combs : CombIsGiven) (edges : EdgeIsGiven) (onces : OnceIsGiven) (ns :
         unit = u;
         naming = h.naming;
         text = shape_of_text (flat_text h.naming o.flat.now);
-        has = has-shape combs edges onces ns o s u h.naming (origin-by h.naming h.is h.named) refl (h.is.formed name).new_args (subst (λ (n : ℕ). n < 2 ^ 32) (sym (length-map o.flat.now.args (arg_text h.naming))) h.few) (is h.naming h.is);
+        has = has-shape combs edges onces ns o s u h.naming (origin-by h.naming h.is h.named) refl (h.is.formed name).new_args
+            (subst (λ (n : ℕ). n < 2 ^ 32) (sym (length-map o.flat.now.args (arg_text h.naming))) h.few) (is h.naming h.is);
       }
 
   pub outcome-by : (y : Outcome) → IsOutcomeOf ns o s y → IsOutcomeBy o.names o.flat.now y
-  outcome-by y k u f n args once few e = k u f (shape_of_text (flat_text f o.flat.now)) (has-shape combs edges onces ns o s u f (origin-by f n (e ∙ ap (map (λ (b : ArgText). b.name)) args)) args once few (is f n))
+  outcome-by y k u f n args once few e = k u f (shape_of_text (flat_text f o.flat.now))
+      (has-shape combs edges onces ns o s u f (origin-by f n (e ∙ ap (map (λ (b : ArgText). b.name)) args)) args once few (is f n))
 
 -- the same of an origin that was made of these
-module _ (combs : CombIsGiven) (edges : EdgeIsGiven) (onces : OnceIsGiven) (ns : List Node) (names : List (List ℕ)) (t : Flat) (p : PartTable) (h : HasArgs names t) (table : IsPartTable t p) (o : Origin) (same-flat : o.flat.now ≡ t) (same-parts : o.parts.now ≡ p)
+module _ (combs : CombIsGiven) (edges : EdgeIsGiven) (onces : OnceIsGiven) (ns : List Node) (names : List (List ℕ)) (t : Flat) (p : PartTable) (h : HasArgs names t) (table : IsPartTable t p)
+    (o : Origin) (same-flat : o.flat.now ≡ t) (same-parts : o.parts.now ≡ p)
     (same-names : o.names ≡ names) (firsts : AreFirsts o) (s : Shape) (is : (f : Naming) → Names t f → IsShape ns s (shape_of_text (flat_text f t))) where
   args-there : HasArgs o.names o.flat.now
   args-there = subst (λ (xs : List (List ℕ)). HasArgs xs o.flat.now) (sym same-names) (subst (λ (y : Flat). HasArgs names y) (sym same-flat) h)
@@ -129,10 +134,12 @@ module _ (combs : CombIsGiven) (edges : EdgeIsGiven) (onces : OnceIsGiven) (ns :
   can-emit-made = can-emit combs edges onces ns o args-there table-there firsts s shape-there
 
   pub outcome-made : (y : Outcome) → IsOutcomeOf ns o s y → IsOutcomeBy names t y
-  outcome-made y k = subst (λ (xs : List (List ℕ)). IsOutcomeBy xs t y) same-names (subst (λ (z : Flat). IsOutcomeBy o.names z y) same-flat (outcome-by combs edges onces ns o args-there table-there firsts s shape-there y k))
+  outcome-made y k = subst (λ (xs : List (List ℕ)). IsOutcomeBy xs t y) same-names
+      (subst (λ (z : Flat). IsOutcomeBy o.names z y) same-flat (outcome-by combs edges onces ns o args-there table-there firsts s shape-there y k))
 
 -- a refusal of the flattener, by the module that it stands for
-pub refused-in : (a b : Arena) (u : ℕ) (x y : FlatFault) → b ≡ a → x ≡ y → GivesRefusal (flat_of (contents b) (unit_text_at b u)) (refusal_text b x) → GivesRefusal (flat_of (contents a) (unit_text_at a u)) (refusal_text a y)
+pub refused-in : (a b : Arena) (u : ℕ) (x y : FlatFault) → b ≡ a → x ≡ y → GivesRefusal (flat_of (contents b) (unit_text_at b u)) (refusal_text b x)
+    → GivesRefusal (flat_of (contents a) (unit_text_at a u)) (refusal_text a y)
 refused-in a b u x y e f g =
     subst (λ (z : FlatFault). GivesRefusal (flat_of (contents a) (unit_text_at a u)) (refusal_text a z)) f
     (subst (λ (z : Arena). GivesRefusal (flat_of (contents z) (unit_text_at z u)) (refusal_text z x)) e g)

@@ -26,7 +26,7 @@ use Rattle.lh_emission.specs.Entities.{Emission, emits, entity_with, comb_emissi
 use Rattle.lh_emission.specs.Laws.{IsEntityOf, IsRightEntity, HasApartArgs, CombIsEntity, CombIsRight, EdgeIsEntity, EdgeIsRight, OnceIsEntity, OnceIsRight}
 use Rattle.lh_emission.specs.Ways.{WaitIsGiven, DriveIsGiven, RowIsGiven}
 use Rattle.lh_origin.specs.Origins.{source_by, IsOrigin}
-use Rattle.lh_bodies.specs.Bodies.{IsBody, Answers, IsFlatOf, steps_of, DrivesGiven, CanDrive, IsComb, IsOnce, RowsGiven, CanRegister, IsEdge}
+use Rattle.lh_bodies.specs.Bodies.{IsBody, BodyOrTooLarge, IsFlatOf, steps_of, DrivesGiven, CanDrive, IsComb, IsOnce, RowsGiven, CanRegister, IsEdge}
 use Rattle.lh_origin.specs.declared.origin.Origin.{Origin}
 use Rattle.lh_body.specs.declared.body.Body.{Body}
 use Rattle.lh_body.specs.declared.lines.EmitFault.{EmitFault}
@@ -62,9 +62,11 @@ is-body u b lines is r distinct = record {
   new_results = ap (results_repeat u.args []) (sym (append-nil lines)) ∙ r.right.new_results;
 }
 
-by-answer : (u : UnitText) (k : Kind) (x : Emission) (r : Result Body EmitFault) (o : Outcome) → Answers u x r → IsOutcomeWith k r o → ((lines : List LineText) → x ≡ emits (entity_with u lines) → IsRight u lines) → args_repeat [] u.args ≡ false
+by-answer : (u : UnitText) (k : Kind) (x : Emission) (r : Result Body EmitFault) (o : Outcome) → BodyOrTooLarge u x r → IsOutcomeWith k r o
+    → ((lines : List LineText) → x ≡ emits (entity_with u lines) → IsRight u lines) → args_repeat [] u.args ≡ false
     → IsOutcome u (text.outcome_of_emission k x) o
-by-answer u k x (Ok b) o a w right distinct = subst (λ (y : Outcome). IsOutcome u (text.outcome_of_emission k x) y) (sym w) (a.0, ap (text.outcome_of_emission k) a.1, is-body u b a.0 a.2 (right a.0 a.1) distinct)
+by-answer u k x (Ok b) o a w right distinct = subst (λ (y : Outcome). IsOutcome u (text.outcome_of_emission k x) y) (sym w)
+    (a.0, ap (text.outcome_of_emission k) a.1, is-body u b a.0 a.2 (right a.0 a.1) distinct)
 by-answer u k x (Err emit.EntityTooLarge) o a w right distinct = subst (λ (y : Outcome). IsOutcome u (text.outcome_of_emission k x) y) (sym w) (ap (text.outcome_of_emission k) a)
 by-answer u k x (Err emit.OutOfMemory) o a w right distinct = absurd w
 
@@ -81,7 +83,8 @@ module _ (ns : List Node) (o : Origin) (u : UnitText) (f : Naming) where
     waits : Each (WaitIsGiven source) waited
 
   comb-has : (waited : List Part) (ds : List DriveRow) (x : ShapeText) → IsShape ns (shape.Comb waited ds) x → IsShapeGiven source x → CombHas waited ds x
-  comb-has waited ds (comb on xs) i g = record { texts = xs; is = ap (λ (w : List Part). comb w xs) (sym i.0); drives = record { are = i.1; given = g.1 }; waits = subst (Each (WaitIsGiven source)) (sym i.0) g.0 }
+  comb-has waited ds (comb on xs) i g = record
+      { texts = xs; is = ap (λ (w : List Part). comb w xs) (sym i.0); drives = record { are = i.1; given = g.1 }; waits = subst (Each (WaitIsGiven source)) (sym i.0) g.0 }
   comb-has waited ds (edge rs) i g = absurd i
   comb-has waited ds (once xs) i g = absurd i
   comb-has waited ds (left r) i g = absurd i
@@ -134,7 +137,8 @@ module _ (ns : List Node) (o : Origin) (u : UnitText) (f : Naming) where
     rows-by : (rs : List EdgeRowTree) → Each (RowIsGiven source) rs → Each (RowIsGiven (source_of u steps)) rs
     rows-by rs = subst (λ (s : Source). Each (RowIsGiven s) rs) same-source
 
-    comb-outcome : CombIsEntity → CombIsRight → (waited : List Part) (ds : List DriveRow) (x : ShapeText) (r : Result Body EmitFault) (y : Outcome) → IsShape ns (shape.Comb waited ds) x → IsShapeGiven source x → IsComb ns o waited ds r → IsOutcomeWith kind.Comb r y
+    comb-outcome : CombIsEntity → CombIsRight → (waited : List Part) (ds : List DriveRow) (x : ShapeText) (r : Result Body EmitFault) (y : Outcome) → IsShape ns (shape.Comb waited ds) x
+        → IsShapeGiven source x → IsComb ns o waited ds r → IsOutcomeWith kind.Comb r y
         → IsOutcome u (text.outcome_of_shape u steps x) y
     comb-outcome entity right waited ds x r y i g is w =
         let h = comb-has waited ds x i g in
@@ -144,7 +148,8 @@ module _ (ns : List Node) (o : Origin) (u : UnitText) (f : Naming) where
         (by-answer u kind.Comb (comb_emission u steps waited h.texts) r y (is u f h.texts fl h.drives h.waits) w
         (λ lines q. record { entity = entity u (entity_with u lines) steps waited h.texts q ws ds'; right = right u (entity_with u lines) steps waited h.texts q apart ws ds' }) fl.once)
 
-    edge-outcome : EdgeIsEntity → EdgeIsRight → (rows : List EdgeRow) (x : ShapeText) (r : Result Body EmitFault) (y : Outcome) → IsShape ns (shape.Edge rows) x → IsShapeGiven source x → IsEdge ns o rows r → IsOutcomeWith kind.Edge r y
+    edge-outcome : EdgeIsEntity → EdgeIsRight → (rows : List EdgeRow) (x : ShapeText) (r : Result Body EmitFault) (y : Outcome) → IsShape ns (shape.Edge rows) x → IsShapeGiven source x
+        → IsEdge ns o rows r → IsOutcomeWith kind.Edge r y
         → IsOutcome u (text.outcome_of_shape u steps x) y
     edge-outcome entity right rows x r y i g is w =
         let h = edge-has rows x i g in
@@ -153,7 +158,8 @@ module _ (ns : List Node) (o : Origin) (u : UnitText) (f : Naming) where
         (by-answer u kind.Edge (edge_emission u steps h.texts) r y (is u f h.texts fl h.rows_given) w
         (λ lines q. record { entity = entity u (entity_with u lines) steps h.texts q rs; right = right u (entity_with u lines) steps h.texts q apart rs }) fl.once)
 
-    once-outcome : OnceIsEntity → OnceIsRight → (ds : List DriveRow) (x : ShapeText) (r : Result Body EmitFault) (y : Outcome) → IsShape ns (shape.Once ds) x → IsShapeGiven source x → IsOnce ns o ds r → IsOutcomeWith kind.Once r y
+    once-outcome : OnceIsEntity → OnceIsRight → (ds : List DriveRow) (x : ShapeText) (r : Result Body EmitFault) (y : Outcome) → IsShape ns (shape.Once ds) x → IsShapeGiven source x → IsOnce ns o ds r
+        → IsOutcomeWith kind.Once r y
         → IsOutcome u (text.outcome_of_shape u steps x) y
     once-outcome entity right ds x r y i g is w =
         let h = once-has ds x i g in
@@ -184,13 +190,16 @@ can-register ns o rows c =
 
 -- ---- the outcome of a shape
 
-pub comb-of : (ns : List Node) (o : Origin) (waited : List Part) (ds : List DriveRow) (r : Result Body EmitFault) (y : Outcome) → CombIsEntity → CombIsRight → IsComb ns o waited ds r → IsOutcomeWith kind.Comb r y → IsOutcomeOf ns o (shape.Comb waited ds) y
+pub comb-of : (ns : List Node) (o : Origin) (waited : List Part) (ds : List DriveRow) (r : Result Body EmitFault) (y : Outcome) → CombIsEntity → CombIsRight → IsComb ns o waited ds r
+    → IsOutcomeWith kind.Comb r y → IsOutcomeOf ns o (shape.Comb waited ds) y
 comb-of ns o waited ds r y entity right is w u f x h = comb-outcome ns o u f h.flat h.few entity right waited ds x r y h.is h.given is w
 
-pub edge-of : (ns : List Node) (o : Origin) (rows : List EdgeRow) (r : Result Body EmitFault) (y : Outcome) → EdgeIsEntity → EdgeIsRight → IsEdge ns o rows r → IsOutcomeWith kind.Edge r y → IsOutcomeOf ns o (shape.Edge rows) y
+pub edge-of : (ns : List Node) (o : Origin) (rows : List EdgeRow) (r : Result Body EmitFault) (y : Outcome) → EdgeIsEntity → EdgeIsRight → IsEdge ns o rows r → IsOutcomeWith kind.Edge r y
+    → IsOutcomeOf ns o (shape.Edge rows) y
 edge-of ns o rows r y entity right is w u f x h = edge-outcome ns o u f h.flat h.few entity right rows x r y h.is h.given is w
 
-pub once-of : (ns : List Node) (o : Origin) (ds : List DriveRow) (r : Result Body EmitFault) (y : Outcome) → OnceIsEntity → OnceIsRight → IsOnce ns o ds r → IsOutcomeWith kind.Once r y → IsOutcomeOf ns o (shape.Once ds) y
+pub once-of : (ns : List Node) (o : Origin) (ds : List DriveRow) (r : Result Body EmitFault) (y : Outcome) → OnceIsEntity → OnceIsRight → IsOnce ns o ds r → IsOutcomeWith kind.Once r y
+    → IsOutcomeOf ns o (shape.Once ds) y
 once-of ns o ds r y entity right is w u f x h = once-outcome ns o u f h.flat h.few entity right ds x r y h.is h.given is w
 
 pub left-of : (ns : List Node) (o : Origin) (r : Reason) → IsOutcomeOf ns o (shape.Left r) (outcome.Left r)
@@ -209,7 +218,8 @@ given-of combs edges onces name t f (edge rs) e = edges name t f rs e
 given-of combs edges onces name t f (once ds) e = (onces name t f ds e).0
 given-of combs edges onces name t f (left r) e = tt
 
-pub has-shape : CombIsGiven → EdgeIsGiven → OnceIsGiven → (ns : List Node) (o : Origin) (s : Shape) (u : UnitText) (f : Naming) → IsOrigin f o → u.args ≡ (flat_text f o.flat.now).args → args_repeat [] u.args ≡ false → length u.args < 2 ^ 32
+pub has-shape : CombIsGiven → EdgeIsGiven → OnceIsGiven → (ns : List Node) (o : Origin) (s : Shape) (u : UnitText) (f : Naming) → IsOrigin f o → u.args ≡ (flat_text f o.flat.now).args
+    → args_repeat [] u.args ≡ false → length u.args < 2 ^ 32
     → IsShape ns s (shape_of_text (flat_text f o.flat.now)) → HasShape ns o s u f (shape_of_text (flat_text f o.flat.now))
 has-shape combs edges onces ns o s u f origin args distinct few is = record {
   flat = record { origin = origin; arguments = args; once = distinct };

@@ -20,7 +20,8 @@ text-next a rows i r h e =
     let f : ReportRow → RowText = row_text a in
     let x : ReportRow = get_or rows i r in
     ap (λ (n : ℕ). report_text (map f (take n rows))) (add-one i) ∙ ap (λ (xs : List ReportRow). report_text (map f xs)) (take-suc rows i r h) ∙ ap report_text (map-append f (take i rows) (x ∷ []))
-    ∙ flat_map-append row_line (map f (take i rows)) (f x ∷ []) ∙ ap (λ (xs : List ℕ). text_to a rows i ++ xs) (append-nil (row_line (f x))) ∙ ap (λ (y : ReportRow). text_to a rows i ++ row_line (f y)) (sym e)
+    ∙ flat_map-append row_line (map f (take i rows)) (f x ∷ []) ∙ ap (λ (xs : List ℕ). text_to a rows i ++ xs) (append-nil (row_line (f x)))
+    ∙ ap (λ (y : ReportRow). text_to a rows i ++ row_line (f y)) (sym e)
 
 pub text-all : (a : Arena) (rows : List ReportRow) (i : ℕ) → i ≡ length rows → text_to a rows i ≡ report_text (map (row_text a) rows)
 text-all a rows i e = ap (λ (n : ℕ). report_text (map (row_text a) (take n rows))) e ∙ ap (λ (xs : List ReportRow). report_text (map (row_text a) xs)) (take-all rows)

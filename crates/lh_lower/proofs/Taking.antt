@@ -27,7 +27,7 @@ use Rattle.lh_lowered.specs.Lowering.{lowered, lowered_item, item_row, outcome_i
 use Rattle.lh_lowered.specs.Report.{RowText}
 use Rattle.lh_shape.specs.declared.reason.Reason.{Reason}
 use Rattle.lh_lower.specs.Outcomes.{IsOutcomeAt}
-use Rattle.lh_lower.specs.Lowers.{row_text, IsLowering, IsBehind, IsNext, Lowers}
+use Rattle.lh_lower.specs.Lowers.{row_text, IsLowering, IsBehind, IsNext, LowersItem}
 use Rattle.lh_lower.specs.declared.outcome.Outcome.{Outcome}
 use Rattle.lh_lower.specs.declared.outcome.Outcome.TheVariants as outcome
 use Rattle.lh_lower.specs.declared.lowering.ReportRow.{ReportRow}
@@ -68,8 +68,9 @@ one-more a seen i m k = record {
 
 -- ---- a declaration
 
-pub declare-lowers : (r : Result (Unit {0}) NoMemory) (l m : Lowering) (d e : Declare) → e ≡ d → m.from.now ≡ l.from.now → m.flattener.m.now ≡ l.flattener.m.now → m.copying.from.now ≡ l.copying.from.now → m.report ≡ l.report
-    → IfOk r (λ _. CopiesMore l.copying.from.now l.copying.to m.copying.to (declare_text e)) → OnOk r (Lowers l (item.Declare d) m)
+pub declare-lowers : (r : Result (Unit {0}) NoMemory) (l m : Lowering) (d e : Declare) → e ≡ d → m.from.now ≡ l.from.now → m.flattener.m.now ≡ l.flattener.m.now
+    → m.copying.from.now ≡ l.copying.from.now → m.report ≡ l.report
+    → IfOk r (λ _. CopiesMore l.copying.from.now l.copying.to m.copying.to (declare_text e)) → OnOk r (LowersItem l (item.Declare d) m)
 declare-lowers (Err x) l m d e same from fl co rows h = tt
 declare-lowers (Ok x) l m d e same from fl co rows h = λ seen w b.
     let a = l.from.now in
@@ -78,7 +79,8 @@ declare-lowers (Ok x) l m d e same from fl co rows h = λ seen w b.
       from = from;
       flattens = fl ∙ w.flattens;
       copied = co ∙ w.copied;
-      copies = subst (λ (z : Declare). IsCopying a m.copying.to (items-of a seen ++ declare_text z ∷ [])) same (subst (λ (z : Arena). CopiesMore z l.copying.to m.copying.to (declare_text e)) w.copied h (items-of a seen) w.copies);
+      copies = subst (λ (z : Declare). IsCopying a m.copying.to (items-of a seen ++ declare_text z ∷ [])) same
+          (subst (λ (z : Arena). CopiesMore z l.copying.to m.copying.to (declare_text e)) w.copied h (items-of a seen) w.copies);
       report = ap (map (row_text a)) rows ∙ same-rows a seen l.report [] w.report refl;
       within = subst (Each (λ (z : ReportRow). z.unit.0 < unit_count a)) (sym rows) w.within;
     }
@@ -126,15 +128,17 @@ module _ (l m : Lowering) (u : UnitId) (o : IsArena l.from.now) where
   abbrev t : UnitText
   t = unit_text_at b u.0
 
-  copied-more : (x : UnitText) (seen : List Item) → IsLowering b l seen → IsBehind b seen (item.Unit u) → CopiesUnit l.copying.from.now l.copying.to m.copying.to u.0 x → lowered_item (contents b) (unit_text t) ≡ unit_text x
+  copied-more : (x : UnitText) (seen : List Item) → IsLowering b l seen → IsBehind b seen (item.Unit u) → CopiesUnit l.copying.from.now l.copying.to m.copying.to u.0 x
+      → lowered_item (contents b) (unit_text t) ≡ unit_text x
       → IsCopying b m.copying.to (items-of b seen ++ lowered_item (contents b) (unit_text t) ∷ [])
   copied-more x seen w h c e =
       subst (λ (z : ItemText). IsCopying b m.copying.to (items-of b seen ++ z ∷ [])) (sym e)
       (subst (λ (z : Arena). CopiesUnit z l.copying.to m.copying.to u.0 x) w.copied c (items-of b seen) w.copies (fresh b o u seen h))
 
   -- a unit that is no process stays
-  pub kept-lowers : (r : Result (Unit {0}) NoMemory) → m.from.now ≡ b → m.flattener.m.now ≡ l.flattener.m.now → m.copying.from.now ≡ l.copying.from.now → m.report ≡ l.report → IsSome (kind_at b u.0) → (kind_at b u.0 ≡ Some unit_kind.Proc → ⊥)
-      → IfOk r (λ _. CopiesUnit l.copying.from.now l.copying.to m.copying.to u.0 (unit_text_at l.copying.from.now u.0)) → l.copying.from.now ≡ b → OnOk r (Lowers l (item.Unit u) m)
+  pub kept-lowers : (r : Result (Unit {0}) NoMemory) → m.from.now ≡ b → m.flattener.m.now ≡ l.flattener.m.now → m.copying.from.now ≡ l.copying.from.now → m.report ≡ l.report → IsSome (kind_at b u.0)
+      → (kind_at b u.0 ≡ Some unit_kind.Proc → ⊥)
+      → IfOk r (λ _. CopiesUnit l.copying.from.now l.copying.to m.copying.to u.0 (unit_text_at l.copying.from.now u.0)) → l.copying.from.now ≡ b → OnOk r (LowersItem l (item.Unit u) m)
   kept-lowers (Err x) from fl co rows begins n h e = tt
   kept-lowers (Ok x) from fl co rows begins n h e = λ seen w behind.
       let k = as-kept (contents b) t t.kind refl (no-process (kind_at b u.0) begins n) in
@@ -149,9 +153,10 @@ module _ (l m : Lowering) (u : UnitId) (o : IsArena l.from.now) where
       }
 
   -- a process gets a row
-  module _ (v : Verdict) (x : text.Outcome) (is : outcome_in (contents b) t ≡ x) (told : text.verdict_of x ≡ v) (process : kind_at b u.0 ≡ Some unit_kind.Proc) (from : m.from.now ≡ b) (fl : m.flattener.m.now ≡ b) (co : m.copying.from.now ≡ b)
+  module _ (v : Verdict) (x : text.Outcome) (is : outcome_in (contents b) t ≡ x) (told : text.verdict_of x ≡ v) (process : kind_at b u.0 ≡ Some unit_kind.Proc) (from : m.from.now ≡ b)
+      (fl : m.flattener.m.now ≡ b) (co : m.copying.from.now ≡ b)
       (c : CopiesUnit l.copying.from.now l.copying.to m.copying.to u.0 (text.in_place t x)) where
-    process-lowers : (r : Result (Unit {0}) NoMemory) → OnOk r (m.report ≡ l.report ++ record { unit = u; verdict = v } ∷ []) → OnOk r (Lowers l (item.Unit u) m)
+    process-lowers : (r : Result (Unit {0}) NoMemory) → OnOk r (m.report ≡ l.report ++ record { unit = u; verdict = v } ∷ []) → OnOk r (LowersItem l (item.Unit u) m)
     process-lowers (Err y) rows = tt
     process-lowers (Ok y) rows = λ seen w behind.
         let k = as-process (contents b) t x (kind-is (kind_at b u.0) unit_kind.Proc process) is in
@@ -167,17 +172,20 @@ module _ (l m : Lowering) (u : UnitId) (o : IsArena l.from.now) where
           within = subst (Each (λ (z : ReportRow). z.unit.0 < unit_count b)) (sym rows) (within-push (unit_count b) l.report row w.within (within b o u seen behind));
         }
 
-  module _ (n : IsNext l (item.Unit u)) (process : kind_at b u.0 ≡ Some unit_kind.Proc) (x : Outcome) (is : IsOutcomeAt b u.0 x) (from : m.from.now ≡ b) (fl : m.flattener.m.now ≡ l.flattener.m.now) (co : m.copying.from.now ≡ l.copying.from.now) (r : Result (Unit {0}) NoMemory) where
+  module _ (n : IsNext l (item.Unit u)) (process : kind_at b u.0 ≡ Some unit_kind.Proc) (x : Outcome) (is : IsOutcomeAt b u.0 x) (from : m.from.now ≡ b) (fl : m.flattener.m.now ≡ l.flattener.m.now)
+      (co : m.copying.from.now ≡ l.copying.from.now) (r : Result (Unit {0}) NoMemory) where
     pub entity-lowers : (k : Kind) (body : Body) → x ≡ outcome.Entity k body
-        → ((lines : List LineText) → IsBody (unit_text_at l.copying.from.now u.0).args body lines → CopiesUnit l.copying.from.now l.copying.to m.copying.to u.0 (entity_with (unit_text_at l.copying.from.now u.0) lines))
-        → OnOk r (m.report ≡ l.report ++ record { unit = u; verdict = verdict.Lowered k } ∷ []) → OnOk r (Lowers l (item.Unit u) m)
+        → ((lines : List LineText) → IsBody (unit_text_at l.copying.from.now u.0).args body lines
+        → CopiesUnit l.copying.from.now l.copying.to m.copying.to u.0 (entity_with (unit_text_at l.copying.from.now u.0) lines))
+        → OnOk r (m.report ≡ l.report ++ record { unit = u; verdict = verdict.Lowered k } ∷ []) → OnOk r (LowersItem l (item.Unit u) m)
     entity-lowers k body e c rows =
         let h : IsOutcomeAt b u.0 (outcome.Entity k body) = subst (IsOutcomeAt b u.0) e is in
-        let there = subst (λ (z : Arena). (lines : List LineText) → IsBody (unit_text_at z u.0).args body lines → CopiesUnit l.copying.from.now l.copying.to m.copying.to u.0 (entity_with (unit_text_at z u.0) lines)) (copies-same l u n) c in
+        let there = subst (λ (z : Arena). (lines : List LineText) → IsBody (unit_text_at z u.0).args body lines
+        → CopiesUnit l.copying.from.now l.copying.to m.copying.to u.0 (entity_with (unit_text_at z u.0) lines)) (copies-same l u n) c in
         process-lowers (verdict.Lowered k) (text.becomes k (entity_with t h.0)) h.1 refl process from (fl ∙ flattens-same l u n) (co ∙ copies-same l u n) (there h.0 h.2.is) r rows
 
     pub left-lowers : (s : Reason) → x ≡ outcome.Left s → CopiesUnit l.copying.from.now l.copying.to m.copying.to u.0 (unit_text_at l.copying.from.now u.0)
-        → OnOk r (m.report ≡ l.report ++ record { unit = u; verdict = verdict.Left s } ∷ []) → OnOk r (Lowers l (item.Unit u) m)
+        → OnOk r (m.report ≡ l.report ++ record { unit = u; verdict = verdict.Left s } ∷ []) → OnOk r (LowersItem l (item.Unit u) m)
     left-lowers s e c rows =
         let h : IsOutcomeAt b u.0 (outcome.Left s) = subst (IsOutcomeAt b u.0) e is in
         process-lowers (verdict.Left s) (text.stays s) h refl process from (fl ∙ flattens-same l u n) (co ∙ copies-same l u n)

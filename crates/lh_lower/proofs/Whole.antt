@@ -6,7 +6,7 @@ use Rattle.lh_unit.specs.Trace.{SameTrace}
 use Rattle.lh_unit.specs.WellFormed.{IsWellFormed}
 use Rattle.lh_flat.specs.Marks.{UnitsAreNamed}
 use Rattle.lh_same.specs.Same.{IsSourceModule, LoweredIsWellFormed, LoweredSameTrace}
-use Rattle.lh_lower.specs.Lowers.{IsLowered, IsLowering, IsBehind, IsNext, Lowers}
+use Rattle.lh_lower.specs.Lowers.{IsLowered, IsLowering, IsBehind, IsNext, LowersItem}
 use Rattle.lh_lower.specs.declared.lowering.Lowering.{Lowering}
 use Rattle.lh_lower.proofs.Taking.{all-seen, behind, take-next}
 
@@ -30,7 +30,7 @@ module _ (a : Arena) (xs : List Item) (same : xs ≡ a.items) (l : Lowering) (i 
     pub is-next : IsNext l x
     is-next = record { seen = take i a.items; lowering = here; behind = behind-here }
 
-    pub one-item-more : (m : Lowering) → Lowers l x m → IsLowering a m (take (i + 1) xs)
+    pub one-item-more : (m : Lowering) → LowersItem l x m → IsLowering a m (take (i + 1) xs)
     one-item-more m step =
         subst (λ (ys : List Item). IsLowering a m (take (i + 1) ys)) (sym same)
         (subst (λ (ys : List Item). IsLowering a m ys) (sym (take-next a.items i x short at))

@@ -42,5 +42,5 @@ pub record IsNext (l : Lowering) (i : Item) : Type 0 where
   pub behind : IsBehind l.from.now seen i
 
 -- The item is lowered too.
-abbrev pub Lowers : Lowering → Item → Lowering → Type 0
-Lowers l i m = (seen : List Item) → IsLowering l.from.now l seen → IsBehind l.from.now seen i → IsLowering l.from.now m (seen ++ i ∷ [])
+abbrev pub LowersItem : Lowering → Item → Lowering → Type 0
+LowersItem l i m = (seen : List Item) → IsLowering l.from.now l seen → IsBehind l.from.now seen i → IsLowering l.from.now m (seen ++ i ∷ [])

@@ -90,4 +90,5 @@ pub record HasArgs (names : List (List ℕ)) (t : Flat) : Type 0 where
 -- The outcome is that of the flat text, for a process whose arguments have these names.
 abbrev pub IsOutcomeBy : List (List ℕ) → Flat → Outcome → Type 0
 IsOutcomeBy names t y =
-    (u : UnitText) (f : Naming) → Names t f → u.args ≡ (flat_text f t).args → args_repeat [] u.args ≡ false → length u.args < 2 ^ 32 → names ≡ map (λ (a : ArgText). a.name) u.args → IsOutcome u (text.outcome_of_text u (flattened (flat_text f t))) y
+    (u : UnitText) (f : Naming) → Names t f → u.args ≡ (flat_text f t).args → args_repeat [] u.args ≡ false → length u.args < 2 ^ 32 → names ≡ map (λ (a : ArgText). a.name) u.args
+    → IsOutcome u (text.outcome_of_text u (flattened (flat_text f t))) y

@@ -6,7 +6,7 @@ ghost use Rattle.lh_unit.specs.WellFormed.{IsWellFormed};
 ghost use Rattle.lh_unit.specs.declared.inst.Item.{Item as Entry};
 ghost use Rattle.lh_unit.specs.declared.inst.UnitKind.TheVariants.{Proc};
 ghost use Rattle.lh_flat.specs.Marks.{UnitsAreNamed};
-ghost use Rattle.lh_lower.specs.Lowers.{IsLowered, IsLowering, IsNext, Lowers};
+ghost use Rattle.lh_lower.specs.Lowers.{IsLowered, IsLowering, IsNext, LowersItem};
 
 use crate::outcome::{Outcome, outcome_of};
 use lh_copy::Copying;
@@ -95,7 +95,7 @@ impl<'m> Lowering<'m> {
         requires formed { IsWellFormed (contents self.old.from.now) }
         requires next { IsNext self.old item.now }
         ensures from { self.new.from.now ≡ self.old.from.now }
-        ensures lowers { OnOk result (Lowers self.old item.now self.new) }
+        ensures lowers { OnOk result (LowersItem self.old item.now self.new) }
     {
         match item {
             Item::Declare(declare) => self.copying.add_declare(declare.copy()?),
@@ -108,7 +108,7 @@ impl<'m> Lowering<'m> {
         requires formed { IsWellFormed (contents self.old.from.now) }
         requires next { IsNext self.old (Entry.Unit unit) }
         ensures from { self.new.from.now ≡ self.old.from.now }
-        ensures lowers { OnOk result (Lowers self.old (Entry.Unit unit) self.new) }
+        ensures lowers { OnOk result (LowersItem self.old (Entry.Unit unit) self.new) }
     {
         if is_process(self.from, unit) {
             self.take_process(unit)
@@ -123,7 +123,7 @@ impl<'m> Lowering<'m> {
         requires next { IsNext self.old (Entry.Unit unit) }
         requires process { kind_at self.old.from.now unit.0 ≡ Some Proc }
         ensures from { self.new.from.now ≡ self.old.from.now }
-        ensures lowers { OnOk result (Lowers self.old (Entry.Unit unit) self.new) }
+        ensures lowers { OnOk result (LowersItem self.old (Entry.Unit unit) self.new) }
     {
         match outcome_of(self.alloc, self.from, &mut self.flattener, unit)? {
             Outcome::Entity(kind, body) => {

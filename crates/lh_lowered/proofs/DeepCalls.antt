@@ -12,7 +12,7 @@ use Rattle.lh_unit.specs.Activation.{functions}
 use Rattle.lh_term.specs.Tree.{now_of}
 use Rattle.lh_term.specs.Make.{bit_of}
 use Rattle.lh_flat.specs.Flat.{FlatText, flattened, flat_in, flat_of, flat_unit, text_of}
-use Rattle.lh_rows.specs.Joins.{Edge}
+use Rattle.lh_rows.specs.Joins.{RegionEdge}
 use Rattle.lh_rows.specs.Places.{Region}
 use Rattle.lh_rows.specs.Regions.{Course, Coursed, stops, comes_to, then_course, no_course, through, through_all, edges_to, edge_into, head_of, begins_with_phi, lines_at, known_first, region_from, first_region, all_places, one_target, second_if, with_first}
 use Rattle.lh_shape.specs.Shapes.{comb, shape_by_regions, shape_of_text}
@@ -29,13 +29,13 @@ use Rattle.lh_lowered.proofs.Turns.{place, turns, rest-passed}
 abbrev region_in : FlatText → Region
 region_in t = record { blocks = t.blocks; head = 0; probe = now_of; ends_at_head = false }
 
-abbrev edges_in : FlatText → List Edge
+abbrev edges_in : FlatText → List RegionEdge
 edges_in t = edge_into 0 [] (bit_of true) (known_first t) ∷ []
 
-abbrev leads_forward : Edge → Bool
+abbrev leads_forward : RegionEdge → Bool
 leads_forward e = nat_eq 0 e.to.turns
 
-none-later : (es : List Edge) → list_all leads_forward es ≡ true → (t b : ℕ) → 1 ≤ t → edges_to (place t b) es ≡ []
+none-later : (es : List RegionEdge) → list_all leads_forward es ≡ true → (t b : ℕ) → 1 ≤ t → edges_to (place t b) es ≡ []
 none-later [] h t b l = refl
 none-later (e ∷ es) h t b l =
     let k = and_both (leads_forward e) (list_all leads_forward es) h in
@@ -46,7 +46,7 @@ none-later (e ∷ es) h t b l =
     later : (n : ℕ) → nat_eq 0 n ≡ true → nat_eq n t ≡ false
     later n p = grind (arith, nat_tests, l)
 
-region-as : (g : Region) (es : List Edge) (n : ℕ) (c : Course) → length g.blocks ≡ n → through g (place 0 0) (bit_of true) es no_course ≡ comes_to c →
+region-as : (g : Region) (es : List RegionEdge) (n : ℕ) (c : Course) → length g.blocks ≡ n → through g (place 0 0) (bit_of true) es no_course ≡ comes_to c →
     region_from g 0 es ≡ through_all g (turns n 257) c
 unfolding region_from
 region-as g es n c l h =

@@ -57,13 +57,15 @@ no-steps : (n i : ℕ) → steps_for n (whole i) ≡ []
 no-steps n i = refl
 
 -- within the limits the process is lowered
-within-lowers : (u : UnitText) (fits : Bool) → fits ≡ true → (ls : List LineText) → nat_lt 65536 (length ls) ≡ false → verdict_of (outcome_of_emission kind.Comb (within_limits u fits ls)) ≡ verdict.Lowered kind.Comb
+within-lowers : (u : UnitText) (fits : Bool) → fits ≡ true → (ls : List LineText) → nat_lt 65536 (length ls) ≡ false → verdict_of (outcome_of_emission kind.Comb (within_limits u fits ls))
+    ≡ verdict.Lowered kind.Comb
 within-lowers u fits h ls k = rw (h, k) refl
 
 emission-lowers : (k : ℕ) → k ≤ 257 → verdict_of (outcome_of_emission kind.Comb (comb_emission (lp_unit k) (steps_for k) (whole 0 ∷ []) (drive_of (sum_of k) ∷ []))) ≡ verdict.Lowered kind.Comb
 emission-lowers k l =
     let ls = (made.comb (source_of (lp_unit k) (steps_for k)) (whole 0 ∷ []) (drive_of (sum_of k) ∷ [])).lines in
-    let m : length (made.comb (source_of (lp_unit k) (steps_for k)) (whole 0 ∷ []) (drive_of (sum_of k) ∷ [])).lines ≤ 2 * k + 4 = entity-at-most (source_of (lp_unit k) (steps_for k)) (no-steps k) k in
+    let m : length (made.comb (source_of (lp_unit k) (steps_for k)) (whole 0 ∷ []) (drive_of (sum_of k) ∷ [])).lines ≤ 2 * k
+    + 4 = entity-at-most (source_of (lp_unit k) (steps_for k)) (no-steps k) k in
     let b : nat_lt 65536 (length (made.comb (source_of (lp_unit k) (steps_for k)) (whole 0 ∷ []) (drive_of (sum_of k) ∷ [])).lines) ≡ false = grind (arith, nat_tests, m, l) in
     within-lowers (lp_unit k) (drive_fits (drive_of (sum_of k)) && true) (rw (drive-fits k) refl) ls b
 

@@ -13,8 +13,8 @@ use Rattle.lh_term.specs.Tree.{Tree, constant, now_of, operation_on}
 use Rattle.lh_term.specs.Make.{bit_of, make_operation}
 use Rattle.lh_flat.specs.Flat.{FlatBlockText, FlatText}
 use Rattle.lh_rows.specs.Known.{known_value, known_cell, known_part, Knowledge, with_known}
-use Rattle.lh_rows.specs.Rows.{Drive, waits, End, Rows}
-use Rattle.lh_rows.specs.Joins.{Edge, any_taken, joined}
+use Rattle.lh_rows.specs.Rows.{Drive, waits, RegionEnd, Rows}
+use Rattle.lh_rows.specs.Joins.{RegionEdge, any_taken, joined}
 use Rattle.lh_rows.specs.Places.{Region, Here, Midst, branches, takes_all}
 use Rattle.lh_rows.specs.Regions.{Course, stops, comes_to, then_course, too_many_turns, no_course, max_turns, max_insts, turns_too_often, after_lines, through, edges_to, through_reached, through_all, edge_into, known_first, region_from, first_region}
 use Rattle.lh_lowered.specs.Modules.{lp_args, lp_entry, lp_body, lp_done}
@@ -100,7 +100,7 @@ known_after n x s k =
 abbrev in_body : (t : ℕ) → Here
 in_body t = record { place = place t 1; label = codes "loop"; cond = bit_of true }
 
-module _ (n t : ℕ) (x : Datum) (s : Tree) (k : Knowledge) (es : List Edge) (rows : Rows) where
+module _ (n t : ℕ) (x : Datum) (s : Tree) (k : Knowledge) (es : List RegionEdge) (rows : Rows) where
   -- up to its branch
   pub body-taken : takes_all (loop_region n) (in_body t) lp_body (record { known = known_loop n (constant x) s k; edges = es; rows = rows })
       ≡ branches (loop_region n) (in_body t) (Some (constant (compared n x))) (codes "done") (codes "loop") (record { known = known_after n x s k; edges = es; rows = rows })
@@ -115,7 +115,7 @@ unfolding apply integer_row row_width
 compared-is n j h = ap (λ y. apply Ult (y ∷ integer n ∷ [])) h
 
 -- an edge of the loop
-abbrev edge_on : (t b : ℕ) → (from : List ℕ) → Knowledge → Edge
+abbrev edge_on : (t b : ℕ) → (from : List ℕ) → Knowledge → RegionEdge
 edge_on t b from k = record { to = place t b; from = from; cond = bit_of true; known = k }
 
 branch-on : (n t : ℕ) (m : Midst) → branches (loop_region n) (in_body t) (Some (bit_of true)) (codes "done") (codes "loop") m
@@ -128,7 +128,7 @@ branch-out : (n t : ℕ) (m : Midst) → branches (loop_region n) (in_body t) (S
 unfolding apply integer_row row_width
 branch-out n t m = refl
 
-one-taken : (e : Edge) → e.cond ≡ bit_of true → any_taken (e ∷ []) ≡ bit_of true
+one-taken : (e : RegionEdge) → e.cond ≡ bit_of true → any_taken (e ∷ []) ≡ bit_of true
 unfolding apply integer_row row_width
 one-taken e h = rw h refl
 
@@ -145,15 +145,15 @@ pub record Turned (n j : ℕ) (s : Tree) (c : Course) : Type 0 where
   pub later : (t b : ℕ) → j < t → edges_to (place t b) c.edges ≡ []
   pub beside : (b : ℕ) → nat_eq 1 b ≡ false → edges_to (place j b) c.edges ≡ []
 
-abbrev with_edge : Course → (insts : ℕ) → Edge → Course
+abbrev with_edge : Course → (insts : ℕ) → RegionEdge → Course
 with_edge c k e = record { insts = c.insts + k; edges = c.edges ++ e ∷ []; rows = c.rows }
 
 -- turns stay few with one edge more
-few-more : (es : List Edge) (e : Edge) → turns_too_often es ≡ false → nat_lt 256 e.to.turns ≡ false → turns_too_often (es ++ e ∷ []) ≡ false
-few-more es e h k = list_any-append (λ (x : Edge). nat_lt max_turns x.to.turns) es (e ∷ []) ∙ rw (h, k) refl
+few-more : (es : List RegionEdge) (e : RegionEdge) → turns_too_often es ≡ false → nat_lt 256 e.to.turns ≡ false → turns_too_often (es ++ e ∷ []) ≡ false
+few-more es e h k = list_any-append (λ (x : RegionEdge). nat_lt max_turns x.to.turns) es (e ∷ []) ∙ rw (h, k) refl
 
-too-many : (es : List Edge) (e : Edge) → turns_too_often es ≡ false → nat_lt 256 e.to.turns ≡ true → turns_too_often (es ++ e ∷ []) ≡ true
-too-many es e h k = list_any-append (λ (x : Edge). nat_lt max_turns x.to.turns) es (e ∷ []) ∙ rw (h, k) refl
+too-many : (es : List RegionEdge) (e : RegionEdge) → turns_too_often es ≡ false → nat_lt 256 e.to.turns ≡ true → turns_too_often (es ++ e ∷ []) ≡ true
+too-many es e h k = list_any-append (λ (x : RegionEdge). nat_lt max_turns x.to.turns) es (e ∷ []) ∙ rw (h, k) refl
 
 fits-more : (j k : ℕ) → j ≤ 256 → k ≤ 16 → nat_lt 65536 (8 * j + 8 + k) ≡ false
 fits-more j k h l = grind (arith, nat_tests)
@@ -168,12 +168,13 @@ module _ (n j : ℕ) (s : Tree) (c : Course) (h : Turned n j s c) (l : j ≤ 256
       → reached (loop_region n) (place j 1) c ≡ after_lines (c.insts + 8) m
   body-comes b w m e =
       let g = loop_region n in
-      let x : Edge = edge_on j 1 h.from (known_loop n (constant (integer j)) s h.known) in
+      let x : RegionEdge = edge_on j 1 h.from (known_loop n (constant (integer j)) s h.known) in
       let a : reached g (place j 1) c ≡ through g (place j 1) (any_taken (x ∷ [])) (x ∷ []) c = ap (λ es. through_reached g (place j 1) es c) h.next in
       let q : any_taken (x ∷ []) ≡ bit_of true = one-taken x refl in
       let d : through g (place j 1) (any_taken (x ∷ [])) (x ∷ []) c ≡ through g (place j 1) (bit_of true) (x ∷ []) c = ap (λ z. through g (place j 1) z (x ∷ []) c) q in
       let fits : nat_lt max_insts (c.insts + 8) ≡ false = ap (λ z. nat_lt max_insts (z + 8)) h.insts ∙ fits-more j 8 l (omega arith) in
-      let f : through g (place j 1) (bit_of true) (x ∷ []) c ≡ after_lines (c.insts + 8) (takes_all g (in_body j) lp_body (record { known = joined (x ∷ []); edges = c.edges; rows = c.rows })) = rw fits refl in
+      let f : through g (place j 1) (bit_of true) (x ∷ []) c ≡ after_lines (c.insts + 8) (takes_all g (in_body j) lp_body (record { known = joined (x ∷ []); edges = c.edges; rows = c.rows })) =
+      rw fits refl in
       let k = ap (λ z. after_lines (c.insts + 8) (takes_all g (in_body j) lp_body (record { known = z; edges = c.edges; rows = c.rows }))) (joined-one x) in
       let y : compared n (integer j) ≡ bit_value b = compared-is n j (counted-is j (omega (arith, l))) ∙ ap bit_value w in
       let p = ap (λ z. after_lines (c.insts + 8) (branches g (in_body j) (Some (constant z)) (codes "done") (codes "loop") (record { known = after; edges = c.edges; rows = c.rows }))) y in
@@ -185,7 +186,7 @@ module _ (n j : ℕ) (s : Tree) (c : Course) (h : Turned n j s c) (l : j ≤ 256
   -- ---- a turn that is not the last
 
   module _ (w : nat_lt (j + 1) n ≡ true) where
-    abbrev on : Edge
+    abbrev on : RegionEdge
     on = edge_on (j + 1) 1 (codes "loop") after
 
     body-on : reached (loop_region n) (place j 1) c ≡ after_lines (c.insts + 8) (record { known = after; edges = c.edges ++ on ∷ []; rows = c.rows })
@@ -251,7 +252,7 @@ module _ (n j : ℕ) (s : Tree) (c : Course) (h : Turned n j s c) (l : j ≤ 256
   -- ---- the last turn
 
   module _ (w : nat_lt (j + 1) n ≡ false) where
-    abbrev out : Edge
+    abbrev out : RegionEdge
     out = edge_on j 2 (codes "loop") after
 
     few-out : turns_too_often (c.edges ++ out ∷ []) ≡ false
@@ -265,7 +266,7 @@ module _ (n j : ℕ) (s : Tree) (c : Course) (h : Turned n j s c) (l : j ≤ 256
     abbrev drive_row : Drive
     drive_row = record { cond = bit_of true; part = whole 1; value = added s; delay = constant (time_value (record { fs = 0; delta = 1; eps = 0 })) }
 
-    abbrev end_row : Knowledge → End
+    abbrev end_row : Knowledge → RegionEnd
     end_row k = record { cond = bit_of true; way = waits 0 true (whole 0 ∷ []) false; from = codes "done"; known = k }
 
     abbrev rows_out : Rows → Rows
@@ -274,7 +275,7 @@ module _ (n j : ℕ) (s : Tree) (c : Course) (h : Turned n j s c) (l : j ≤ 256
     abbrev in_done : Here
     in_done = record { place = place j 2; label = codes "done"; cond = bit_of true }
 
-    done-taken : (es : List Edge) (r : Rows) → takes_all (loop_region n) in_done lp_done (record { known = after; edges = es; rows = r })
+    done-taken : (es : List RegionEdge) (r : Rows) → takes_all (loop_region n) in_done lp_done (record { known = after; edges = es; rows = r })
         ≡ record { known = with_known after (codes "r") (known_value (added s)); edges = es; rows = rows_out r }
     done-taken es r = refl
 
@@ -295,7 +296,8 @@ module _ (n j : ℕ) (s : Tree) (c : Course) (h : Turned n j s c) (l : j ≤ 256
         let q = ap (λ z. through g (place j 2) z (out ∷ []) d) (one-taken out refl) in
         let fits : nat_lt max_insts (c.insts + 8 + 3) ≡ false =
         ap (λ z. nat_lt max_insts (z + 8 + 3)) h.insts ∙ (let e : nat_lt 65536 (8 * j + 8 + 8 + 3) ≡ false = grind (arith, nat_tests) in e) in
-        let f : through g (place j 2) (bit_of true) (out ∷ []) d ≡ after_lines (c.insts + 8 + 3) (takes_all g in_done lp_done (record { known = joined (out ∷ []); edges = d.edges; rows = c.rows })) = rw fits refl in
+        let f : through g (place j 2) (bit_of true) (out ∷ []) d ≡ after_lines (c.insts + 8 + 3) (takes_all g in_done lp_done (record { known = joined (out ∷ []); edges = d.edges; rows = c.rows })) =
+        rw fits refl in
         let k = ap (λ z. after_lines (c.insts + 8 + 3) (takes_all g in_done lp_done (record { known = z; edges = d.edges; rows = c.rows }))) (joined-one out) in
         let y : after_lines (c.insts + 8 + 3) (takes_all g in_done lp_done (record { known = after; edges = d.edges; rows = c.rows })) ≡ comes_to finished =
         ap (after_lines (c.insts + 8 + 3)) (done-taken d.edges c.rows) ∙ rw few-out refl in
@@ -311,7 +313,7 @@ module _ (n j : ℕ) (s : Tree) (c : Course) (h : Turned n j s c) (l : j ≤ 256
 
 -- ---- from the head
 
-abbrev head_edge : (n : ℕ) → Edge
+abbrev head_edge : (n : ℕ) → RegionEdge
 head_edge n = edge_into 0 [] (bit_of true) (known_first (loop_text n))
 
 -- after the entry

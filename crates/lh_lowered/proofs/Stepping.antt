@@ -38,7 +38,8 @@ module _ (items : List ItemText) where
   still-same before i after h = ap functions (append_assoc before (i ∷ []) after) ∙ h
 
   -- the entity in the place of a process changes no function
-  entity-same : (before after : List ItemText) (u y : UnitText) → u.kind ≡ unit_kind.Proc → y.kind ≡ unit_kind.Entity → SameFunctions (before ++ unit_text u ∷ after) → SameFunctions (before ++ unit_text y ∷ after)
+  entity-same : (before after : List ItemText) (u y : UnitText) → u.kind ≡ unit_kind.Proc → y.kind ≡ unit_kind.Entity → SameFunctions (before ++ unit_text u ∷ after)
+      → SameFunctions (before ++ unit_text y ∷ after)
   entity-same before after u y p q h =
       let a : functions (unit_text u ∷ after) ≡ functions after = ap (λ k. if is_function k then u ∷ functions after else functions after) p in
       let b : functions (unit_text y ∷ after) ≡ functions after = ap (λ k. if is_function k then y ∷ functions after else functions after) q in

@@ -9,14 +9,14 @@ use Rattle.std.proofs.lemmas.Grind.{flat_map-append}
 use Rattle.lh_unit.specs.Contents.{same_name}
 use Rattle.lh_unit.proofs.Tables.{same_name-is}
 use Rattle.lh_rows.specs.Known.{Known, known_value, known_cell, known_part, Knowledge, with_known}
-use Rattle.lh_rows.specs.Joins.{Place, Edge, joined}
+use Rattle.lh_rows.specs.Joins.{RegionPlace, RegionEdge, joined}
 use Rattle.lh_rows.specs.Places.{Region}
 use Rattle.lh_rows.specs.Regions.{Course, Coursed, stops, comes_to, then_course, is_place, edges_to, through_reached, through_all, numbers_below}
 
 -- ---- what is known
 
 -- where one edge leads, what is known on it
-pub joined-one : (e : Edge) → joined (e ∷ []) ≡ e.known
+pub joined-one : (e : RegionEdge) → joined (e ∷ []) ≡ e.known
 joined-one e = fun_ext (λ n. at n (e.known n) refl)
   where
     at : (n : List ℕ) (x : Option Known) → e.known n ≡ x → joined (e ∷ []) n ≡ e.known n
@@ -35,38 +35,38 @@ known-already k n x h = fun_ext (λ m. at m (same_name n m) refl)
 
 -- ---- places
 
-abbrev pub place : (turns block : ℕ) → Place
+abbrev pub place : (turns block : ℕ) → RegionPlace
 place t b = record { turns = t; block = b }
 
 -- those of one turn, where there are so many blocks, and those of the first turns
-abbrev pub turn : (blocks : ℕ) → ℕ → List Place
+abbrev pub turn : (blocks : ℕ) → ℕ → List RegionPlace
 turn n t = map (place t) (numbers_below n)
 
-abbrev pub turns : (blocks : ℕ) → ℕ → List Place
+abbrev pub turns : (blocks : ℕ) → ℕ → List RegionPlace
 turns n m = flat_map (turn n) (numbers_below m)
 
-pub edges-more : (p : Place) (es : List Edge) (e : Edge) → edges_to p (es ++ e ∷ []) ≡ edges_to p es ++ edges_to p (e ∷ [])
-edges-more p es e = filter-append (λ (x : Edge). is_place x.to p) es (e ∷ [])
+pub edges-more : (p : RegionPlace) (es : List RegionEdge) (e : RegionEdge) → edges_to p (es ++ e ∷ []) ≡ edges_to p es ++ edges_to p (e ∷ [])
+edges-more p es e = filter-append (λ (x : RegionEdge). is_place x.to p) es (e ∷ [])
 
 pub and-false : (b : Bool) → (b && false) ≡ false
 and-false true = refl
 and-false false = refl
 
 -- an edge to another turn, and to another block
-pub other-turn : (e : Edge) (t b : ℕ) → nat_eq e.to.turns t ≡ false → edges_to (place t b) (e ∷ []) ≡ []
+pub other-turn : (e : RegionEdge) (t b : ℕ) → nat_eq e.to.turns t ≡ false → edges_to (place t b) (e ∷ []) ≡ []
 other-turn e t b h = rw h refl
 
-pub other-block : (e : Edge) (t b : ℕ) → nat_eq e.to.block b ≡ false → edges_to (place t b) (e ∷ []) ≡ []
+pub other-block : (e : RegionEdge) (t b : ℕ) → nat_eq e.to.block b ≡ false → edges_to (place t b) (e ∷ []) ≡ []
 other-block e t b h = rw (h, and-false (nat_eq e.to.turns t)) refl
 
 module _ (g : Region) where
-  abbrev pub reached : Place → Course → Coursed
+  abbrev pub reached : RegionPlace → Course → Coursed
   reached p c = through_reached g p (edges_to p c.edges) c
 
-  pub passed : (p : Place) (c : Course) → edges_to p c.edges ≡ [] → reached p c ≡ comes_to c
+  pub passed : (p : RegionPlace) (c : Course) → edges_to p c.edges ≡ [] → reached p c ≡ comes_to c
   passed p c h = ap (λ es. through_reached g p es c) h
 
-  pub all-then : (ps qs : List Place) (c : Course) → through_all g (ps ++ qs) c ≡ then_course (through_all g ps c) (through_all g qs)
+  pub all-then : (ps qs : List RegionPlace) (c : Course) → through_all g (ps ++ qs) c ≡ then_course (through_all g ps c) (through_all g qs)
   all-then [] qs c = refl
   all-then (p ∷ ps) qs c = at (λ d. all-then ps qs d) (reached p c)
     where
@@ -83,13 +83,13 @@ module _ (g : Region) where
       ∙ ap (λ x. then_course x (through_all g (turn n m))) h
 
   -- three places one after the other, and where the second stops
-  pub three : (p q r : Place) (c d e f : Course) → reached p c ≡ comes_to d → reached q d ≡ comes_to e → reached r e ≡ comes_to f → through_all g (p ∷ q ∷ r ∷ []) c ≡ comes_to f
+  pub three : (p q r : RegionPlace) (c d e f : Course) → reached p c ≡ comes_to d → reached q d ≡ comes_to e → reached r e ≡ comes_to f → through_all g (p ∷ q ∷ r ∷ []) c ≡ comes_to f
   three p q r c d e f x y z =
       ap (λ v. then_course v (through_all g (q ∷ r ∷ []))) x
       ∙ ap (λ v. then_course v (through_all g (r ∷ []))) y
       ∙ ap (λ v. then_course v (through_all g [])) z
 
-  pub then-stops : (p q r : Place) (c d : Course) (x : Coursed) → reached p c ≡ comes_to d → reached q d ≡ x → through_all g (p ∷ q ∷ r ∷ []) c ≡ then_course x (through_all g (r ∷ []))
+  pub then-stops : (p q r : RegionPlace) (c d : Course) (x : Coursed) → reached p c ≡ comes_to d → reached q d ≡ x → through_all g (p ∷ q ∷ r ∷ []) c ≡ then_course x (through_all g (r ∷ []))
   then-stops p q r c d x h k = ap (λ v. then_course v (through_all g (q ∷ r ∷ []))) h ∙ ap (λ v. then_course v (through_all g (r ∷ []))) k
 
   -- nothing leads to a place of the turn a or a later one

@@ -11,7 +11,7 @@ use Rattle.lh_unit.specs.Pass.{pass}
 use Rattle.lh_unit.specs.World.{State, of_process, of_entity, start_by, process_act, entity_act, runs, if_woken, act, bit_numbers, bit_differs, Rules}
 use Rattle.lh_meaning.proofs.BitSets.{SameSet, same_any}
 use Rattle.lh_meaning.proofs.Standing.{scene, fresh, waiting_at, EndsAt, sensed, CombFor}
-use Rattle.lh_meaning.proofs.Simulation.{Matches, Simulation}
+use Rattle.lh_meaning.proofs.Simulation.{Matches, SimulationRelation}
 
 module _ (r : Rules) (x y : UnitText) (i : Instance) (c : CombFor r x y i) where
   -- after the first frame the process waits, and the entity has run
@@ -52,7 +52,7 @@ module _ (r : Rules) (x y : UnitText) (i : Instance) (c : CombFor r x y i) where
       rw (h.process, h.entity, same_any (bit_differs old now) (bit_numbers h.on) (sensed y i) h.same_parts)
       (both_or_none (list_any (bit_differs old now) (sensed y i) || false) now t h.block h.held h.on h.memory h.known h.same_parts)
 
-  pub comb_simulation : Simulation r x y i
+  pub comb_simulation : SimulationRelation r x y i
   comb_simulation = record {
     R = CombRelated;
     start_of = (ap (λ k. start_by k x i) c.is_process, ap (λ k. start_by k y i) c.is_entity);

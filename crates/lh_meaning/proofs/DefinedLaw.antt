@@ -7,7 +7,7 @@ use Rattle.lh_unit.specs.Contents.{EdgeText, InstText, const_text, pure_text, va
 use Rattle.lh_unit.specs.Named.{block_of, label_or}
 use Rattle.lh_unit.specs.Held.{Held, datum_held, Env, with_held, datum_at}
 use Rattle.lh_unit.specs.Activation.{edge_from, phi_taken, phis_taken}
-use Rattle.lh_unit.specs.Places.{Place, has_edge}
+use Rattle.lh_unit.specs.Places.{InstPlaceText, has_edge}
 use Rattle.lh_unit.specs.WellFormed.{Lacks, SomeEdgeLacks, SomeValueLacks}
 use Rattle.lh_unit.proofs.Defined.{lines_define-append}
 
@@ -54,7 +54,8 @@ module _ (u : UnitText) (fits : List ℕ → Held → Type 0) (fits_same : (m n 
   not_later b before l n q (inr d) = inr (λ k. d (lacks_after u n b before l q k))
 
   -- after a line that gives a value, and after one that gives none
-  pub line_keeps : (b : BlockText) (before : List LineText) (l : LineText) (e : Env) (r : List ℕ) (h : Held) → l.result ≡ Some r → fits r h → HoldsDefined b before e → HoldsDefined b (before ++ l ∷ []) (with_held e r h)
+  pub line_keeps : (b : BlockText) (before : List LineText) (l : LineText) (e : Env) (r : List ℕ) (h : Held) → l.result ≡ Some r → fits r h → HoldsDefined b before e
+      → HoldsDefined b (before ++ l ∷ []) (with_held e r h)
   line_keeps b before l e r h q f k n v d = put_held e r h n f (λ s. k n v (not_later b before l n (ap (is_result_name n) q ∙ s) d))
 
   pub bare_keeps : (b : BlockText) (before : List LineText) (l : LineText) (e : Env) → l.result ≡ None → HoldsDefined b before e → HoldsDefined b (before ++ l ∷ []) e
@@ -81,7 +82,8 @@ module _ (u : UnitText) (fits : List ℕ → Held → Type 0) (fits_same : (m n 
     pub is : phis_taken from before ls ≡ Some after
     pub kept : (n : List ℕ) → IsHeld before n → IsHeld after n
 
-  phi_step : (from : List ℕ) (before : Env) (i : InstText) (r : Option (List ℕ)) (o : Option Env) (after : Env) → o ≡ Some after → ((n : List ℕ) → IsHeld before n → IsHeld after n) → PhiFinds from before i r
+  phi_step : (from : List ℕ) (before : Env) (i : InstText) (r : Option (List ℕ)) (o : Option Env) (after : Env) → o ≡ Some after → ((n : List ℕ) → IsHeld before n → IsHeld after n)
+      → PhiFinds from before i r
       → (e : Env) × (phi_taken from before i r o ≡ Some e) × ((n : List ℕ) → IsHeld before n → IsHeld e n)
   phi_step from before (phi_text ty edges) None o after q k f = absurd f
   phi_step from before (phi_text ty edges) (Some r) o after q k f = (with_held after r (datum_held f.0), rw (f.1, q) refl, λ n h. put_held after r (datum_held f.0) n f.2 (λ s. k n h))
@@ -110,11 +112,11 @@ module _ (u : UnitText) (fits : List ℕ → Held → Type 0) (fits_same : (m n 
       record { after = p.0; is = p.1; kept = p.2 }
 
   -- each operand of an instruction without fault 7 is defined at its place
-  abbrev pub AllDefined : Place → List (List ℕ) → Type 0
+  abbrev pub AllDefined : InstPlaceText → List (List ℕ) → Type 0
   AllDefined p [] = Unit {0}
   AllDefined p (n ∷ more) = IsDefinedAt p.block p.before n × AllDefined p more
 
-  pub uses_are_defined : (p : Place) (ns : List (List ℕ)) → ¬ SomeValueLacks u p ns → AllDefined p ns
+  pub uses_are_defined : (p : InstPlaceText) (ns : List (List ℕ)) → ¬ SomeValueLacks u p ns → AllDefined p ns
   uses_are_defined p [] none = tt
   uses_are_defined p (n ∷ more) none = (at (args_define n u.args) refl, uses_are_defined p more (λ k. none (inr k)))
     where

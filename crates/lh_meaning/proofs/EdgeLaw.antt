@@ -14,7 +14,7 @@ use Rattle.lh_unit.specs.World.{State, of_process, of_entity, start_by, Act, run
 use Rattle.lh_meaning.specs.Replacing.{answer_of}
 use Rattle.lh_meaning.proofs.BitSets.{has, SameSet, IsWithin, bits_read, same_any, any_within, any_agree, read_agree, none_of, not_differ}
 use Rattle.lh_meaning.proofs.Standing.{scene, fresh, waiting_at, EndsAt, sensed, EdgeFor}
-use Rattle.lh_meaning.proofs.Simulation.{Matches, Simulation}
+use Rattle.lh_meaning.proofs.Simulation.{Matches, SimulationRelation}
 
 module _ (r : Rules) (x y : UnitText) (i : Instance) (c : EdgeFor r x y i) where
   -- The process waits at the start of its second region. It holds what an activation at `past` leaves, and on the waited bits these are the values of the last frame.
@@ -89,8 +89,20 @@ module _ (r : Rules) (x y : UnitText) (i : Instance) (c : EdgeFor r x y i) where
           after = (now, record { block = d.block; held = d.held; parts = d.parts; stands = d.known; same_parts = d.same_parts; same_bits = λ n q. refl; is = refl });
         })
     process_does block e parts k h false f = record {
-      answer = ap (λ w. record { wish = w; outcomes = []; ran_away = false; wake = None }) (none_is past now t (list_any (bit_differs past now) c.triggers) (triggers_same ∙ no_trigger c.on c.waited f));
-      after = (past, record { block = block; held = e; parts = parts; stands = k; same_parts = h; same_bits = λ n q. same n q ∙ not_differ old now n (none_of (bit_differs old now) c.on f n q); is = refl });
+      answer = ap (λ w. record { wish = w; outcomes = []; ran_away = false; wake = None })
+          (none_is past now t (list_any (bit_differs past now) c.triggers) (triggers_same ∙ no_trigger c.on c.waited f));
+      after = (
+        past,
+        record {
+          block = block;
+          held = e;
+          parts = parts;
+          stands = k;
+          same_parts = h;
+          same_bits = λ n q. same n q ∙ not_differ old now n (none_of (bit_differs old now) c.on f n q);
+          is = refl;
+        },
+      );
     }
 
     entity_does : (memory : List Bool) → c.remembers (bits_read old c.triggers) memory → (w : Bool) → list_any (bit_differs old now) (sensed y i) ≡ w
@@ -101,10 +113,12 @@ module _ (r : Rules) (x y : UnitText) (i : Instance) (c : EdgeFor r x y i) where
       after = record { memory = (pass y i.args i.sigs now (Some memory) t).seen; remembers = c.keeps now t (Some memory); is_so = refl };
     }
     entity_does memory m false f = record {
-      answer = ap (λ w. record { wish = w; outcomes = []; ran_away = false; wake = None }) (none_is past now t (list_any (bit_differs past now) c.triggers) (triggers_same ∙ no_trigger (sensed y i) c.probed f));
+      answer = ap (λ w. record { wish = w; outcomes = []; ran_away = false; wake = None })
+          (none_is past now t (list_any (bit_differs past now) c.triggers) (triggers_same ∙ no_trigger (sensed y i) c.probed f));
       after = record {
         memory = memory;
-        remembers = subst (λ bits. c.remembers bits memory) (read_agree old now c.triggers (λ n h. not_differ old now n (none_of (bit_differs old now) c.triggers (no_trigger (sensed y i) c.probed f) n h))) m;
+        remembers = subst (λ bits. c.remembers bits memory)
+            (read_agree old now c.triggers (λ n h. not_differ old now n (none_of (bit_differs old now) c.triggers (no_trigger (sensed y i) c.probed f) n h))) m;
         is_so = refl;
       };
     }
@@ -135,12 +149,18 @@ module _ (r : Rules) (x y : UnitText) (i : Instance) (c : EdgeFor r x y i) where
       → Matches (Both now) (act r (record { before = before; now = now; at = t }) x i a) (act r (record { before = before; now = now; at = t }) y i b)
   edge_keeps None now t a b h = rw (h.0, h.1) (first_frame now t)
   edge_keeps (Some old) now t a b h =
-      rw (h.process.is, h.entity.is_so, or-false (list_any (bit_differs old now) (bit_numbers h.process.parts)), or-false (list_any (bit_differs old now) (sensed y i)), same_any (bit_differs old now) (bit_numbers h.process.parts) c.on h.process.same_parts)
+      rw (
+        h.process.is,
+        h.entity.is_so,
+        or-false (list_any (bit_differs old now) (bit_numbers h.process.parts)),
+        or-false (list_any (bit_differs old now) (sensed y i)),
+        same_any (bit_differs old now) (bit_numbers h.process.parts) c.on h.process.same_parts,
+      )
       (joined now _ _ (wish_at h.past now t)
       (process_does h.past old now t h.process.same_bits h.process.block h.process.held h.process.parts h.process.stands h.process.same_parts (list_any (bit_differs old now) c.on) refl)
       (entity_does h.past old now t h.process.same_bits h.entity.memory h.entity.remembers (list_any (bit_differs old now) (sensed y i)) refl))
 
-  pub edge_simulation : Simulation r x y i
+  pub edge_simulation : SimulationRelation r x y i
   edge_simulation = record {
     R = EdgeRelated;
     start_of = (ap (λ k. start_by k x i) c.is_process, ap (λ k. start_by k y i) c.is_entity);

@@ -122,7 +122,8 @@ at_check e = record { unit = as_process; block = codes "check"; rest = check_lin
 module _ (r : Rules) (enough : 10 ≤ r.bound) (c k o : Range) (c1 : c.len ≡ 1) where
   -- what is held after the check, and after the event
   abbrev checked : List Bool → Env → (p n : Bool) → Env
-  checked now e p n = with_held (with_held (with_held e (codes "clk1") (datum_held (int_value 1 (number n)))) (codes "chg") (datum_held (int_value 1 (number (rose p n || (p && not n)))))) (codes "posedge") (datum_held (int_value 1 (number (rose p n))))
+  checked now e p n = with_held (with_held (with_held e (codes "clk1") (datum_held (int_value 1 (number n)))) (codes "chg") (datum_held (int_value 1 (number (rose p n || (p && not n))))))
+      (codes "posedge") (datum_held (int_value 1 (number (rose p n))))
 
   abbrev through : List Bool → Env → (p n : Bool) → Env
   through now e p n = if rose p n then with_held (with_held (checked now e p n) (codes "dp") (datum_held (value_in now k))) (codes "delay") (datum_held (delay 0 1 0)) else checked now e p n
@@ -143,11 +144,13 @@ module _ (r : Rules) (enough : 10 ≤ r.bound) (c k o : Range) (c1 : c.len ≡ 1
   from_check now t e false true h d q z m = rw (h, z) (rw m (rw d (rw q (rw h (rw h (rw m refl))))))
   from_check now t e false false h d q z m = rw (h, z) (rw m (rw h (rw h (rw m refl))))
 
-  runs_from : (now : List Bool) (t : Instant) (steps : ℕ) (from : Control) (done : Activated) → steps ≤ 10 → run steps (scene r now t) (start_point from) ≡ Some done → run r.bound (scene r now t) (start_point from) ≡ Some done
+  runs_from : (now : List Bool) (t : Instant) (steps : ℕ) (from : Control) (done : Activated) → steps ≤ 10 → run steps (scene r now t) (start_point from) ≡ Some done
+      → run r.bound (scene r now t) (start_point from) ≡ Some done
   runs_from now t steps from done l h = run_enough (scene r now t) steps r.bound (start_point from) done (omega (arith, enough, l)) h
 
   -- what is held then stands for the present bits
-  stands_then : (now : List Bool) (e : Env) (p : Bool) (past : List Bool) → Stands c k o past e → Stands c k o now (with_held (through now e p (bit_at now c.lo)) (codes "clk0") (datum_held (int_value 1 (number (bit_at now c.lo)))))
+  stands_then : (now : List Bool) (e : Env) (p : Bool) (past : List Bool) → Stands c k o past e
+      → Stands c k o now (with_held (through now e p (bit_at now c.lo)) (codes "clk0") (datum_held (int_value 1 (number (bit_at now c.lo)))))
   stands_then now e p past s = record { clk = clk_of p (bit_at now c.lo); d = d_of p (bit_at now c.lo); q = q_of p (bit_at now c.lo); clk0 = refl }
     where
       clk_of : (p n : Bool) → through now e p n (codes "clk") ≡ Some (part_held c)

@@ -125,7 +125,8 @@ one_in_frame t k (a ∷ more) c d o h j b u i = at (among_made (kept t k a.wish)
 
 later_than : (w : World) (t : Instant) (o : Option Instant) → w.last ≡ o → next_instant w ≡ Some t → (c : Claim) → IsMadeBy o c → instant_lt c.made t ≡ true
 later_than w t None e n c m = absurd m
-later_than w t (Some l) e n c m = instant_lt-le_lt c.made l t m (after (instant_after (Some l) w.history w.states) (next_computes l w.history w.states) (ap (λ x. instant_after x w.history w.states) (sym e) ∙ n))
+later_than w t (Some l) e n c m = instant_lt-le_lt c.made l t m
+    (after (instant_after (Some l) w.history w.states) (next_computes l w.history w.states) (ap (λ x. instant_after x w.history w.states) (sym e) ∙ n))
   where
     same : (u : Instant) → Some u ≡ Some t → u ≡ t
     same u z = cc
@@ -158,7 +159,8 @@ module _ (bound : ℕ) (items : List ItemText) (d : Design) where
       apart : (c e : Claim) → IsAmong c (claims w.history) → IsAmong e (claims (made_by t 0 (acts_at bound items d w t))) → c.made ≡ e.made → ⊥
       apart c e x y m = let f = from_frame t 0 (acts_at bound items d w t) e y in lt_self t (ap (λ u. instant_lt u t) (sym (m ∙ f.when)) ∙ before c x)
 
-      at : (c e : Claim) → IsAmong c (claims w.history) ⊎ IsAmong c (claims (made_by t 0 (acts_at bound items d w t))) → IsAmong e (claims w.history) ⊎ IsAmong e (claims (made_by t 0 (acts_at bound items d w t)))
+      at : (c e : Claim) → IsAmong c (claims w.history) ⊎ IsAmong c (claims (made_by t 0 (acts_at bound items d w t)))
+          → IsAmong e (claims w.history) ⊎ IsAmong e (claims (made_by t 0 (acts_at bound items d w t)))
           → c.bit ≡ e.bit → MadeTogether c e → claim_cmp c e ≡ Equal → c.value ≡ e.value
       at c e (inl x) (inl y) b l z = s.one_each c e x y b z
       at c e (inl x) (inr y) b l z = absurd (apart c e x y l.made)

@@ -7,7 +7,7 @@ use Rattle.lh_unit.specs.Contents.{ArgText, LineText, BlockText, UnitText, ItemT
 use Rattle.lh_unit.specs.Named.{block_of, label_or}
 use Rattle.lh_unit.specs.Spells.{LineItem, empty_item, header_item, declare_item, label_item, inst_item, close_item}
 use Rattle.lh_unit.specs.Lines.{lines_of}
-use Rattle.lh_unit.specs.Reads.{State, headed_unit, after, label_again, defines_again, Takes, Walk, start, Reads}
+use Rattle.lh_unit.specs.Reads.{ReadState, headed_unit, after, label_again, defines_again, Takes, Walk, start, Reads}
 use Rattle.lh_unit.specs.declared.name.UnitName.{UnitName}
 use Rattle.lh_unit.specs.declared.inst.UnitKind.{UnitKind}
 use Rattle.lh_unit.specs.declared.inst.UnitKind.TheVariants as kind
@@ -78,7 +78,8 @@ line-kind kind.Func l bs a = line-labelled l bs a
 line-kind kind.Proc l bs a = line-labelled l bs a
 
 -- the last unit changed
-last-changed : (f : UnitText → UnitText) (items : List ItemText) → ((u : UnitText) → last_unit items ≡ Some u → Labelled u.kind u.blocks → Labelled (f u).kind (f u).blocks) → EachLabelled items → EachLabelled (change_last f items)
+last-changed : (f : UnitText → UnitText) (items : List ItemText) → ((u : UnitText) → last_unit items ≡ Some u → Labelled u.kind u.blocks → Labelled (f u).kind (f u).blocks) → EachLabelled items
+    → EachLabelled (change_last f items)
 last-changed f [] k e = tt
 last-changed f (unit_text u ∷ []) k e = (k u refl e.0, tt)
 last-changed f (declare_text d ∷ []) k e = tt
@@ -102,7 +103,7 @@ again-none : (n : List ℕ) (o : Option UnitText) (u : UnitText) → o ≡ Some 
 again-none n None u e p = cc
 again-none n (Some v) u e p = let f : v ≡ u = cc in subst (λ (x : UnitText). defines_label_in n x.blocks ≡ false) f p
 
-after-labelled : (s : State) (i : LineItem) → defines_again s i ≡ false → EachLabelled s.items → EachLabelled (after s i).items
+after-labelled : (s : ReadState) (i : LineItem) → defines_again s i ≡ false → EachLabelled s.items → EachLabelled (after s i).items
 after-labelled s empty_item p e = e
 after-labelled s (header_item k n args r) p e = each-append s.items (unit_text (headed_unit k n args r) ∷ []) e (headed k n args r, tt)
 after-labelled s (declare_item d) p e = each-append s.items (declare_text d ∷ []) e tt
@@ -110,12 +111,12 @@ after-labelled s (label_item n) p e = last-changed (with_block n) s.items (λ u 
 after-labelled s (inst_item l) p e = last-changed (with_line l) s.items (λ u q a. line-kind u.kind l u.blocks a) e
 after-labelled s close_item p e = e
 
-walk-labelled : (ls : List (List ℕ)) (s t : State) → Walk ls s t → EachLabelled s.items → EachLabelled t.items
-walk-labelled [] s t w e = subst (λ (x : State). EachLabelled x.items) w e
+walk-labelled : (ls : List (List ℕ)) (s t : ReadState) → Walk ls s t → EachLabelled s.items → EachLabelled t.items
+walk-labelled [] s t w e = subst (λ (x : ReadState). EachLabelled x.items) w e
 walk-labelled (l ∷ ls) s t w e =
     let k : Takes s l w.0 = w.1 in
     let a : EachLabelled (after s k.item).items = after-labelled s k.item k.is_new e in
-    walk-labelled ls w.0 t w.2 (subst (λ (x : State). EachLabelled x.items) (sym k.becomes) a)
+    walk-labelled ls w.0 t w.2 (subst (λ (x : ReadState). EachLabelled x.items) (sym k.becomes) a)
 
 pub read-labelled : (text : List ℕ) (items : List ItemText) → Reads text items → EachLabelled items
 read-labelled text items r = walk-labelled (lines_of text) start (record { items = items; inside = false }) r tt
@@ -131,9 +132,11 @@ own (c ∷ bs) b a (inr i) = at (own bs b a.3 i)
   where
     other : (n : List ℕ) → defines_label_in n bs ≡ true → (x : Bool) → same_name a.0 n ≡ x → x ≡ false
     other n d false q = refl
-    other n d true q = let e : a.0 ≡ n = same_name-is a.0 n q in let g : defines_label_in a.0 bs ≡ true = subst (λ m. defines_label_in m bs ≡ true) (sym e) d in let f : defines_label_in a.0 bs ≡ false = a.2 in cc
+    other n d true q = let e : a.0 ≡ n = same_name-is a.0 n q in let g : defines_label_in a.0 bs ≡ true = subst (λ m. defines_label_in m bs ≡ true) (sym e) d in
+        let f : defines_label_in a.0 bs ≡ false = a.2 in cc
 
-    at : ((n : List ℕ) × (b.label ≡ Some n) × (defines_label_in n bs ≡ true) × (block_of n bs ≡ Some b)) → (n : List ℕ) × (b.label ≡ Some n) × (defines_label_in n (c ∷ bs) ≡ true) × (block_of n (c ∷ bs) ≡ Some b)
+    at : ((n : List ℕ) × (b.label ≡ Some n) × (defines_label_in n bs ≡ true) × (block_of n bs ≡ Some b)) → (n : List ℕ) × (b.label ≡ Some n) × (defines_label_in n (c ∷ bs) ≡ true)
+        × (block_of n (c ∷ bs) ≡ Some b)
     at o =
         let f : is_result_name o.0 c.label ≡ false = ap (is_result_name o.0) a.1 ∙ other o.0 o.2 (same_name a.0 o.0) refl in
         (o.0, o.1, ap (λ x. x || defines_label_in o.0 bs) f ∙ o.2, rw f o.3)

@@ -40,7 +40,8 @@ module _ (bound : ℕ) (items : List ItemText) (d : Design) where
     joined_after f None u h ih = let j = ih h in (let one : length (run_from bound items d k u).frames ≡ k = j.0 in omega (arith, one), ap (before f) j.1)
 
     joined_at : (w : World) (o : Option Instant) → option_and_then (world_later bound items d k) (option_and_then (world_past bound items d w) o) ≡ Some v
-        → ((u : World) → world_later bound items d k u ≡ Some v → GoesOn k n u v) → Joined (suc k) (run_at bound items d w o (run_from bound items d k)) (run_at bound items d w o (run_from bound items d (k + n)))
+        → ((u : World) → world_later bound items d k u ≡ Some v → GoesOn k n u v)
+        → Joined (suc k) (run_at bound items d w o (run_from bound items d k)) (run_at bound items d w o (run_from bound items d (k + n)))
     joined_at w None h ih = absurd (none-some v h)
     joined_at w (Some t) h ih = joined_after _ (least_runaway 0 (acts_at bound items d w t)) (world_after w t (acts_at bound items d w t)) h (ih (world_after w t (acts_at bound items d w t)))
 
@@ -52,7 +53,8 @@ module _ (bound : ℕ) (items : List ItemText) (d : Design) where
 
   module _ (k n : ℕ) where
     ended_after : (f : Frame) (q : Option ℕ) (u : World) → option_and_then (world_later bound items d k) (world_unless q u) ≡ None
-        → (world_later bound items d k u ≡ None → run_from bound items d (k + n) u ≡ run_from bound items d k u) → goes_on f q (run_from bound items d (k + n) u) ≡ goes_on f q (run_from bound items d k u)
+        → (world_later bound items d k u ≡ None → run_from bound items d (k + n) u ≡ run_from bound items d k u)
+        → goes_on f q (run_from bound items d (k + n) u) ≡ goes_on f q (run_from bound items d k u)
     ended_after f (Some i) u h ih = refl
     ended_after f None u h ih = ap (before f) (ih h)
 

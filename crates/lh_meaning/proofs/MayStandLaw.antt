@@ -7,7 +7,7 @@ use Rattle.lh_unit.specs.Held.{Env}
 use Rattle.lh_unit.specs.Hierarchy.{Instance, SignalText, Child, Hierarchy, lines_of, static_held, signal_if, signals_of, child_if, children_of, hierarchy_by, hierarchy_of}
 use Rattle.lh_unit.specs.World.{Rules}
 use Rattle.lh_meaning.specs.Replacing.{HasWidths, MayStand}
-use Rattle.lh_meaning.proofs.Simulation.{Simulation, same_answers}
+use Rattle.lh_meaning.proofs.Simulation.{SimulationRelation, same_answers}
 use Rattle.lh_meaning.proofs.Standing.{CombFor, EdgeFor, OnceFor}
 use Rattle.lh_meaning.proofs.CombLaw.{comb_simulation}
 use Rattle.lh_meaning.proofs.EdgeLaw.{edge_simulation}
@@ -87,7 +87,7 @@ no_function x p = ap (λ k. (hierarchy_by k x).function) p
 
 -- A unit may stand for a process that it simulates in each instance.
 pub may_stand : (r : Rules) (x y : UnitText) → x.name ≡ y.name → x.kind ≡ kind.Proc → y.kind ≡ kind.Entity → x.args ≡ y.args → AllPlain (lines_of y.blocks)
-    → ((i : Instance) → HasWidths (hierarchy_of x) i → Simulation r x y i) → MayStand r x y
+    → ((i : Instance) → HasWidths (hierarchy_of x) i → SimulationRelation r x y i) → MayStand r x y
 may_stand r x y n p e g a sim = record {
   name = n;
   hierarchy = same_hierarchy x y p e g a;

@@ -9,7 +9,7 @@ use Rattle.lh_unit.specs.Hierarchy.{Instance}
 use Rattle.lh_unit.specs.Pass.{pass}
 use Rattle.lh_unit.specs.World.{State, of_process, of_entity, start_by, act, bit_differs, Rules}
 use Rattle.lh_meaning.proofs.Standing.{fresh, OnceFor}
-use Rattle.lh_meaning.proofs.Simulation.{Matches, Simulation}
+use Rattle.lh_meaning.proofs.Simulation.{Matches, SimulationRelation}
 
 module _ (r : Rules) (x y : UnitText) (i : Instance) (c : OnceFor r x y i) where
   -- after the first frame the process has halted, and the entity has run
@@ -41,7 +41,7 @@ module _ (r : Rules) (x y : UnitText) (i : Instance) (c : OnceFor r x y i) where
         after = record { held = h.held; memory = h.memory; process = refl; entity = refl };
       })
 
-  pub once_simulation : Simulation r x y i
+  pub once_simulation : SimulationRelation r x y i
   once_simulation = record {
     R = OnceRelated;
     start_of = (ap (λ k. start_by k x i) c.is_process, ap (λ k. start_by k y i) c.is_entity);

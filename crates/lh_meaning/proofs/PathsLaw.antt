@@ -55,7 +55,8 @@ module _ (all : List Shown) (before : ParentsComeBefore all) where
   labels_lead zero k l w = absurd (none_below k l)
   labels_lead (suc n) k l w = let x = item_at all k w in at x.0 x.1 x.0.parent refl (λ j a b. labels_lead n j a b)
     where
-      at : (s : Shown) → slice_get all k ≡ Some s → (q : Option ℕ) → s.parent ≡ q → ((j : ℕ) → j < n → j < length all → LabelsTo all j (labels_to n all j)) → LabelsTo all k (labels_by (labels_to n all) (slice_get all k))
+      at : (s : Shown) → slice_get all k ≡ Some s → (q : Option ℕ) → s.parent ≡ q → ((j : ℕ) → j < n → j < length all → LabelsTo all j (labels_to n all j))
+          → LabelsTo all k (labels_by (labels_to n all) (slice_get all k))
       at s e None p ih =
           let r : labels_by (labels_to n all) (slice_get all k) ≡ s.label ∷ [] = rw (e, p) refl in
           subst (LabelsTo all k) (sym r) (of_top k s e p)
@@ -153,21 +154,24 @@ module _ (table : List Entry) where
         below = below_append 0 d.instances _ a (subst (λ k. IsParentBelow k parent) (sym zero_sum) p);
         many = omega (arith, one);
       } in
-      let rest = all_grow (length d.instances) (visit (length d.instances)) (g (length d.instances)) (h.children args (signal_ranges (length d.init) h.signals)) (with_instance parent n h args d) there in
+      let rest = all_grow (length d.instances) (visit (length d.instances)) (g (length d.instances)) (h.children args (signal_ranges (length d.init) h.signals)) (with_instance parent n h args d)
+      there in
       record { below = rest.below; many = let x = rest.many in omega (arith, one, x) }
 
   visit_grows : (k : ℕ) (parent : ℕ) → Grows (visit k table parent) parent
   unfolding visit
   visit_grows zero parent c d a = record { below = a.below; many = omega arith }
   visit_grows (suc k) parent c d a =
-      let r = visited_grows (visit k table) (visit_grows k) (Some parent) c.unit (hierarchy_in table c.unit) (arg_ranges (hierarchy_in table c.unit).args c.lows) d a.below (let m = a.many in omega (arith, m)) in
+      let r = visited_grows (visit k table) (visit_grows k) (Some parent) c.unit (hierarchy_in table c.unit) (arg_ranges (hierarchy_in table c.unit).args c.lows) d a.below (let m = a.many in
+      omega (arith, m)) in
       record { below = r.below; many = let m = r.many in omega (arith, m) }
 
   design_below : (k : ℕ) (top : UnitName) → AllBelow 0 (design_of k table top).instances
   unfolding design_of
   design_below zero top = tt
   design_below (suc k) top =
-      (visited_grows (visit k table) (visit_grows k) None top (hierarchy_in table top) (signal_ranges 0 (top_signals (hierarchy_in table top).args)) (only_signals (top_signals (hierarchy_in table top).args)) tt tt).below
+      (visited_grows (visit k table) (visit_grows k) None top (hierarchy_in table top) (signal_ranges 0 (top_signals (hierarchy_in table top).args))
+      (only_signals (top_signals (hierarchy_in table top).args)) tt tt).below
 
   abbrev BuiltBelow : Elaborated → Type 0
   BuiltBelow (refused r) = Unit {0}

@@ -10,8 +10,8 @@ use Rattle.lh_unit.proofs.Tables.{same_name-is, same_name-refl}
 use Rattle.lh_meaning.proofs.Labelled.{In, AllLabelled, own_block, block_of-in}
 
 -- one way or the other
-abbrev pub Told : Type 0 → Type 0
-Told A = A ⊎ (A → ⊥)
+abbrev pub Decided : Type 0 → Type 0
+Decided A = A ⊎ (A → ⊥)
 
 -- which blocks are reached over others, whatever leads from block to block
 module _ (leads : BlockText → BlockText → Bool) where
@@ -43,19 +43,19 @@ module _ (leads : BlockText → BlockText → Bool) where
       at (inr i) (inl r) = inl (m ∷ r.0, (i, o.1, r.1))
       at (inr i) (inr r) = inr (r.0, (m ∷ r.1.0, (i, o.1, r.1.1)))
 
-  pub reaches-told : (within : List BlockText) (s t : BlockText) → Told (Reaches within s t)
+  pub reaches-told : (within : List BlockText) (s t : BlockText) → Decided (Reaches within s t)
   reaches-told [] s t = at (leads s t) refl
     where
       none : leads s t ≡ false → (ms : List BlockText) → Over [] s ms t → ⊥
       none e [] o = cc
       none e (m ∷ ms) o = absurd o.0
 
-      at : (b : Bool) → leads s t ≡ b → Told (Reaches [] s t)
+      at : (b : Bool) → leads s t ≡ b → Decided (Reaches [] s t)
       at true e = inl ([], e)
       at false e = inr (λ r. none e r.0 r.1)
   reaches-told (x ∷ within) s t = at (reaches-told within s t) (reaches-told within s x) (reaches-told within x t)
     where
-      at : Told (Reaches within s t) → Told (Reaches within s x) → Told (Reaches within x t) → Told (Reaches (x ∷ within) s t)
+      at : Decided (Reaches within s t) → Decided (Reaches within s x) → Decided (Reaches within x t) → Decided (Reaches (x ∷ within) s t)
       at (inl r) b c = inl (r.0, wider x within s r.0 t r.1)
       at (inr n) (inl p) (inl q) = inl (joined x within s t q.0 p q.1)
       at (inr n) (inl p) (inr k) = inr (λ r. elim (parted x within s r.0 t r.1) [ inl a ↦ n a | inr a ↦ k a.1 ])
@@ -102,37 +102,38 @@ module _ (u : UnitText) (n : List ℕ) where
         (m ∷ w.0, (t.0, own_block u.blocks b a i, w.1), ap (λ x. x || blocks_define n w.0) (not-true (lines_define n m.lines) t.1) ∙ w.2)
 
     -- one block of the unit is another where their labels are one
-    same_block-told : (b c : BlockText) → In b u.blocks → In c u.blocks → Told (b ≡ c)
+    same_block-told : (b c : BlockText) → In b u.blocks → In c u.blocks → Decided (b ≡ c)
     same_block-told b c i j = at (same_name (label_or b.label) (label_or c.label)) refl
       where
-        at : (x : Bool) → same_name (label_or b.label) (label_or c.label) ≡ x → Told (b ≡ c)
+        at : (x : Bool) → same_name (label_or b.label) (label_or c.label) ≡ x → Decided (b ≡ c)
         at true p =
             let l : label_or b.label ≡ label_or c.label = same_name-is (label_or b.label) (label_or c.label) p in
             let f : Some b ≡ Some c = sym (own_block u.blocks b a i) ∙ ap (λ y. block_of y u.blocks) l ∙ own_block u.blocks c a j in
             inl cc
-        at false p = inr (λ e. let f : same_name (label_or b.label) (label_or c.label) ≡ true = subst (λ (z : BlockText). same_name (label_or b.label) (label_or z.label) ≡ true) e (same_name-refl (label_or b.label)) in cc)
+        at false p = inr (λ e. let f : same_name (label_or b.label) (label_or c.label)
+            ≡ true = subst (λ (z : BlockText). same_name (label_or b.label) (label_or z.label) ≡ true) e (same_name-refl (label_or b.label)) in cc)
 
-    path-told : (b : BlockText) → In b u.blocks → Told (PathWithout b)
+    path-told : (b : BlockText) → In b u.blocks → Decided (PathWithout b)
     path-told b i = at (entry_of u.blocks) refl
       where
         no_entry : (c : BlockText) (earlier : List BlockText) → entry_of u.blocks ≡ None → IsPath u (c ∷ earlier) → ⊥
         no_entry c [] q p = let f : None ≡ Some c = sym q ∙ p in cc
         no_entry c (d ∷ more) q p = no_entry d more q p.2
 
-        by : (e : BlockText) → entry_of u.blocks ≡ Some e → Told (b ≡ e) → Told (Reaches passes u.blocks e b) → Told (PathWithout b)
+        by : (e : BlockText) → entry_of u.blocks ≡ Some e → Decided (b ≡ e) → Decided (Reaches passes u.blocks e b) → Decided (PathWithout b)
         by e q (inl s) r = inl ([], q ∙ ap Some (sym s), refl)
         by e q (inr s) (inl r) = inl (walked e b r.0 q i r.1)
         by e q (inr s) (inr k) = inr (λ w. elim (reached e b w.0 q w.1 w.2) [ inl h ↦ s h | inr h ↦ k h ])
 
-        at : (o : Option BlockText) → entry_of u.blocks ≡ o → Told (PathWithout b)
+        at : (o : Option BlockText) → entry_of u.blocks ≡ o → Decided (PathWithout b)
         at None q = inr (λ w. no_entry b w.0 q w.1)
         at (Some e) q = by e q (same_block-told b e i (entry-in u.blocks e q)) (reaches-told passes u.blocks e b)
 
     -- whether the value is lacked in a block behind these lines
-    pub lacks-told : (b : BlockText) (before : List LineText) → In b u.blocks → Told (Lacks u n b before)
+    pub lacks-told : (b : BlockText) (before : List LineText) → In b u.blocks → Decided (Lacks u n b before)
     lacks-told b before i = at (lines_define n before) refl (path-told b i)
       where
-        at : (x : Bool) → lines_define n before ≡ x → Told (PathWithout b) → Told (Lacks u n b before)
+        at : (x : Bool) → lines_define n before ≡ x → Decided (PathWithout b) → Decided (Lacks u n b before)
         at true p t = inr (λ l. let f : lines_define n before ≡ false = l.not_before in cc)
         at false p (inl w) = inl (record { earlier = w.0; path = w.1; not_before = p; not_earlier = w.2 })
         at false p (inr k) = inr (λ l. k (l.earlier, l.path, l.not_earlier))

@@ -8,7 +8,7 @@ use Rattle.lh_types.specs.Values.{int_value}
 use Rattle.lh_types.specs.declared.op.Op.TheVariants as op
 use Rattle.lh_unit.specs.declared.inst.UnitKind.TheVariants as kind
 use Rattle.lh_unit.specs.Contents.{InstText, const_text, pure_text, sig_text, prb_text, halt_text, call_text, phi_text, br_text, branch_text, ret_text, LineText, BlockText, UnitText, ItemText, unit_text, lines_define}
-use Rattle.lh_unit.specs.Places.{Place}
+use Rattle.lh_unit.specs.Places.{InstPlaceText}
 use Rattle.lh_unit.specs.WellFormed.{FaultKind, undefined, wrong_kind, wrong_type, not_here, no_terminator, phi_edges, not_defined, arguments, number_of, has_local, Lacks, SomeEdgeLacks, Site, sites, HasFault, IsFirstFault, IsFaultless}
 use Rattle.lh_meaning.proofs.Samples.{global, line, bare, typed, input, bit, bit_signal, block, entity, process}
 
@@ -72,10 +72,10 @@ byte = int_type 8
 abbrev function : List BlockText → UnitText
 function blocks = record { kind = kind.Func; name = global (codes "f"); args = input (codes "c") bit ∷ []; result = Some byte; blocks = blocks }
 
-abbrev place : ℕ → Bool → BlockText → List LineText → LineText → List LineText → Place
+abbrev place : ℕ → Bool → BlockText → List LineText → LineText → List LineText → InstPlaceText
 place k e b before l after = record { number = k; in_entry = e; block = b; before = before; line = l; after = after }
 
-abbrev site : UnitText → Place → Site
+abbrev site : UnitText → InstPlaceText → Site
 site u p = record { unit = u; place = p }
 
 -- A value that is defined on one way alone.

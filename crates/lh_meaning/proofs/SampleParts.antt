@@ -122,7 +122,8 @@ pair_of n b = tuple_value (data_row (int_value 4 n ∷ int_value 8 b ∷ [])) �
 
 -- bits 2 to 4 of the byte become 0, 1, 0
 pub parts_trace : trace parts (global (codes "t")) 6 ≡
-    ran (record { label = codes "t"; parent = None } ∷ record { label = codes "u_1"; parent = Some 0 } ∷ []) (signal (codes "s") pair ∷ []) (ended quiet (frame 0 0 (pair_of 5 255) ∷ frame 5 0 (pair_of 5 235) ∷ []))
+    ran (record { label = codes "t"; parent = None } ∷ record { label = codes "u_1"; parent = Some 0 } ∷ []) (signal (codes "s") pair ∷ [])
+    (ended quiet (frame 0 0 (pair_of 5 255) ∷ frame 5 0 (pair_of 5 235) ∷ []))
 unfolding activate pass probes visit design_of refusal_of bits_at acts_at apply integer_row row_width digits
 parts_trace = refl
 

@@ -11,12 +11,12 @@ pub record Matches (R : State → State → Type 0) (a b : Act) : Type 0 where
   pub after : R a.after b.after
 
 -- A relation between the states of two units, at the bits of the last frame, none before the first, that every frame keeps.
-pub record Simulation (r : Rules) (x y : UnitText) (i : Instance) : Type 1 where
+pub record SimulationRelation (r : Rules) (x y : UnitText) (i : Instance) : Type 1 where
   pub R : (before : Option (List Bool)) → State → State → Type 0
   pub start_of : R None (start x i) (start y i)
   pub keeps : (m : Moment) (a b : State) → R m.before a b → Matches (R (Some m.now)) (act r m x i a) (act r m y i b)
 
-module _ (r : Rules) (x y : UnitText) (i : Instance) (sim : Simulation r x y i) where
+module _ (r : Rules) (x y : UnitText) (i : Instance) (sim : SimulationRelation r x y i) where
   answers_from : (frames : List Seen) (before : Option (List Bool)) (a b : State) → sim.R before a b → answers r x i before a frames ≡ answers r y i before b frames
   answers_from [] before a b h = refl
   answers_from (f ∷ more) before a b h =

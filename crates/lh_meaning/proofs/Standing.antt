@@ -49,8 +49,10 @@ pub record CombFor (r : Rules) (x y : UnitText) (i : Instance) : Type 1 where
   pub later : (now : List Bool) (t : Instant) (memory : Option (List Bool)) (block : List ℕ) (e : Env) (on : List Range) → holds block e →
       EndsAt holds to (sensed y i) (pass y i.args i.sigs now memory t).wish (activate r.bound (scene r now t) x (waiting_at block to on e))
 
--- Where one of the triggers' bits changes, the entity's registers give the wish that the process gives with the bits of its last activation, `past`, and the present ones; at no other run do they give anything.
--- `stands past block e` says that the process holds in this block what an activation at `past` leaves; `remembers bits memory` says that the entity has this memory after a run at which the triggers' bits are these. A trigger that can never fire may have any value in the memory.
+-- Where one of the triggers' bits changes, the entity's registers give the wish that the process gives with the bits of its last activation, `past`, and the present ones;
+-- at no other run do they give anything.
+-- `stands past block e` says that the process holds in this block what an activation at `past` leaves; `remembers bits memory` says that the entity has this memory after a
+-- run at which the triggers' bits are these. A trigger that can never fire may have any value in the memory.
 pub record EdgeFor (r : Rules) (x y : UnitText) (i : Instance) : Type 1 where
   pub is_process : x.kind ≡ kind.Proc
   pub is_entity : y.kind ≡ kind.Entity

@@ -20,7 +20,8 @@ one_more_first f None None = inr (refl, (f, refl))
 one_more_first f None (Some t) = inr (refl, (f, refl))
 
 module _ (bound : ℕ) (items : List ItemText) (d : Design) where
-  one_more_at : (w : World) (o : Option Instant) (more more' : World → Run) → ((v : World) → HasOneMore (more v) (more' v)) → HasOneMore (run_at bound items d w o more) (run_at bound items d w o more')
+  one_more_at : (w : World) (o : Option Instant) (more more' : World → Run) → ((v : World) → HasOneMore (more v) (more' v))
+      → HasOneMore (run_at bound items d w o more) (run_at bound items d w o more')
   one_more_at w None more more' h = inl refl
   one_more_at w (Some t) more more' h = one_more_before _ (least_runaway 0 (acts_at bound items d w t)) _ _ (h (world_after w t (acts_at bound items d w t)))
 

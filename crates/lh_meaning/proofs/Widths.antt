@@ -54,7 +54,8 @@ module _ (table : List Entry) where
       → map (λ (r : Range). r.len) args ≡ map (λ (a : ArgText). bit_count a.ty) (hierarchy_in table n).args
       → AllWidths table d.instances → AllWidths table (visited visit parent n (hierarchy_in table n) args d).instances
   visited_keeps visit k parent n args d e a =
-      all_keep (visit (length d.instances)) (k (length d.instances)) ((hierarchy_in table n).children args (signal_ranges (length d.init) (hierarchy_in table n).signals)) (with_instance parent n (hierarchy_in table n) args d)
+      all_keep (visit (length d.instances)) (k (length d.instances)) ((hierarchy_in table n).children args (signal_ranges (length d.init) (hierarchy_in table n).signals))
+      (with_instance parent n (hierarchy_in table n) args d)
       (widths_append table d.instances _ a (record { args = e; sigs = signal_widths (length d.init) (hierarchy_in table n).signals }))
 
   visit_keeps : (k : ℕ) (parent : ℕ) → Keeps (visit k table parent)
@@ -66,7 +67,8 @@ module _ (table : List Entry) where
   unfolding design_of
   design_widths zero top = tt
   design_widths (suc k) top =
-      visited_keeps (visit k table) (visit_keeps k) None top _ (only_signals (top_signals (hierarchy_in table top).args)) (signal_widths 0 (top_signals (hierarchy_in table top).args) ∙ top_widths (hierarchy_in table top).args) tt
+      visited_keeps (visit k table) (visit_keeps k) None top _ (only_signals (top_signals (hierarchy_in table top).args))
+      (signal_widths 0 (top_signals (hierarchy_in table top).args) ∙ top_widths (hierarchy_in table top).args) tt
 
   -- where there is a design, its instances have the widths
   abbrev pub BuiltWidths : Elaborated → Type 0

@@ -160,7 +160,8 @@ module _ (t : Instant) (q : WishProperty t) where
   triggers_keeps memory to [] fired p a = a
   triggers_keeps memory to (g ∷ more) fired p a = triggers_keeps memory to more _ _ (if_keeps (not fired && fires memory p g) _ _ (stored_keeps to g p a) a)
 
-  passes_keeps : (u : UnitText) (now : List Bool) (memory : Option (List Bool)) (i : InstText) (result : Option (List ℕ)) (p : Passed) → q.holds p.wish → q.holds (passes u now memory t i result p).wish
+  passes_keeps : (u : UnitText) (now : List Bool) (memory : Option (List Bool)) (i : InstText) (result : Option (List ℕ)) (p : Passed) → q.holds p.wish
+      → q.holds (passes u now memory t i result p).wish
   passes_keeps u now memory (const_text d) result p a = a
   passes_keeps u now memory (pure_text o args) result p a = a
   passes_keeps u now memory (prb_text s) result p a = a

@@ -37,7 +37,8 @@ look-insert k j v (e ∷ es) = at (due_bit_cmp j e.0) refl (look-insert k j v es
         → look k (match_ordering o ((j, v) ∷ e ∷ es) ((e.0, v) ∷ es) (e ∷ insert_entry due_bit_cmp es j v)) ≡ (if is_eq (due_bit_cmp k j) then Some v else look k (e ∷ es))
     at Less p ih = refl
     at Equal p ih = rw (due_bit_one j e.0 p) (once (is_eq (due_bit_cmp k e.0)) (Some v) (Some e.1) (look k es))
-    at Greater p ih = rw ih (swapped (is_eq (due_bit_cmp k e.0)) (is_eq (due_bit_cmp k j)) (Some e.1) (Some v) (look k es) (λ a b. apart (due_bit_one k e.0 ((Equal-is _).0 a)) (due_bit_one k j ((Equal-is _).0 b)) p))
+    at Greater p ih = rw ih (swapped (is_eq (due_bit_cmp k e.0)) (is_eq (due_bit_cmp k j)) (Some e.1) (Some v) (look k es)
+        (λ a b. apart (due_bit_one k e.0 ((Equal-is _).0 a)) (due_bit_one k j ((Equal-is _).0 b)) p))
       where
         apart : k ≡ e.0 → k ≡ j → due_bit_cmp j e.0 ≡ Greater → ⊥
         apart x y q = clash (sym (due_bit_self e.0) ∙ ap (λ u. due_bit_cmp u e.0) (sym x ∙ y) ∙ q)
@@ -127,7 +128,8 @@ last_hit : (k : DueBit) (t : Instant) (xs : List (ℕ × Bool)) (o p : Option Bo
 last_hit k t [] o p h = cc
 last_hit k t (x ∷ xs) o p h = at (is_eq (due_bit_cmp k (due_bit t x.0))) h (λ u v. last_hit k t xs u v)
   where
-    at : (b : Bool) → (b || hit k t xs) ≡ true → ((u v : Option Bool) → hit k t xs ≡ true → last_at k t xs u ≡ last_at k t xs v) → last_at k t xs (if b then Some x.1 else o) ≡ last_at k t xs (if b then Some x.1 else p)
+    at : (b : Bool) → (b || hit k t xs) ≡ true → ((u v : Option Bool) → hit k t xs ≡ true → last_at k t xs u ≡ last_at k t xs v)
+        → last_at k t xs (if b then Some x.1 else o) ≡ last_at k t xs (if b then Some x.1 else p)
     at true q ih = refl
     at false q ih = ih o p q
 

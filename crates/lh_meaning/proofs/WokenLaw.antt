@@ -81,7 +81,8 @@ module _ (items : List ItemText) (m : Moment) where
           (λ m. woken_later k j i is s ss (ih m)) (contains-cases k (numbers (k + 1) is ss) j h)
       at false e h ih = woken_later k j i is s ss (ih h)
 
-  in_list : (k : ℕ) (is : List Instance) (ss : List State) (place : ℕ) (i : Instance) (s : State) → slice_get is place ≡ Some i → slice_get ss place ≡ Some s → wakes_at i s ≡ true → Contains (numbers k is ss) (k + place)
+  in_list : (k : ℕ) (is : List Instance) (ss : List State) (place : ℕ) (i : Instance) (s : State) → slice_get is place ≡ Some i → slice_get ss place ≡ Some s → wakes_at i s ≡ true
+      → Contains (numbers k is ss) (k + place)
   in_list k [] ss place i s a b w = absurd (none-some i a)
   in_list k (x ∷ is) [] place i s a b w = absurd (none-some s b)
   in_list k (x ∷ is) (y ∷ ss) zero i s a b w =

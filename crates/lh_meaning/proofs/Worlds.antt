@@ -44,7 +44,8 @@ greatest_append_late bit t b (c ∷ more) fresh a = greatest_append_late bit t (
 values_append_late : (t : Instant) (cs fresh : List Claim) → AllLate t fresh → (k : ℕ) (init : List Bool) → values_by (cs ++ fresh) t k init ≡ values_by cs t k init
 values_append_late t cs fresh a k [] = refl
 values_append_late t cs fresh a k (b ∷ more) =
-    ap (λ o. option_map_or (λ (c : Claim). c.value) o b ∷ values_by (cs ++ fresh) t (k + 1) more) (greatest_append_late k t None cs fresh a) ∙ ap (λ vs. value_by cs b k t ∷ vs) (values_append_late t cs fresh a (k + 1) more)
+    ap (λ o. option_map_or (λ (c : Claim). c.value) o b ∷ values_by (cs ++ fresh) t (k + 1) more) (greatest_append_late k t None cs fresh a)
+    ∙ ap (λ vs. value_by cs b k t ∷ vs) (values_append_late t cs fresh a (k + 1) more)
 
 -- The wishes of a frame do not change the bits of that frame.
 pub bits_stay : (bound : ℕ) (items : List ItemText) (d : Design) (w : World) (t : Instant) → bits_at (next_world bound items d w t).history w.init t ≡ bits_at w.history w.init t

@@ -61,7 +61,8 @@ units_defined [] = []
 units_defined (unit_text u ∷ more) = u ∷ units_defined more
 units_defined (declare_text d ∷ more) = units_defined more
 
--- One by one, in order, the second module defines the same unit as the first, or one that may stand for it. Declarations do not matter: neither what they say, nor how many there are, nor where they stand.
+-- One by one, in order, the second module defines the same unit as the first, or one that may stand for it. Declarations do not matter: neither what they say, nor how many
+-- there are, nor where they stand.
 abbrev pub Replaced : Rules → List ItemText → List ItemText → Type 0
 Replaced r m m' = AllStand r (units_defined m) (units_defined m')
 

@@ -50,7 +50,8 @@ second_is (x ∷ []) v d e ds q p = cc
 second_is (x ∷ y ∷ xs) v d e ds q p = cc
 
 -- two integers: what the code reads of them
-module _ (xs : List Val) (v w : Val) (of a b : ℕ) (args : IntegerArgs (map datum_of xs)) (two : length xs ≢ 1) (v_is : v ≡ get_or xs 0 v) (w_is : w ≡ get_or xs 1 w) (of_is : of ≡ width_of (datum_of v)) (a_is : a ≡ number_of (datum_of v)) (b_is : b ≡ number_of (datum_of w)) where
+module _ (xs : List Val) (v w : Val) (of a b : ℕ) (args : IntegerArgs (map datum_of xs)) (two : length xs ≢ 1) (v_is : v ≡ get_or xs 0 v) (w_is : w ≡ get_or xs 1 w)
+    (of_is : of ≡ width_of (datum_of v)) (a_is : a ≡ number_of (datum_of v)) (b_is : b ≡ number_of (datum_of w)) where
   all_two : map datum_of xs ≡ int_value args.n args.a ∷ int_value args.n args.b ∷ []
   all_two = elim args.is [ inl k ↦ absurd (two (sym (length-map xs datum_of) ∙ ap length k.0)) | inr k ↦ k ]
 
@@ -90,7 +91,8 @@ pub bits_part : (w o n : ℕ) (r : TypeTree) → PartHasType (int_type w) (Slice
 bits_part w o n r h = let e = there (leb 1 n && leb (o + n) w) o (int_type n) r h in let b = and_parts (leb 1 n) (leb (o + n) w) e.0 in (leb-true 1 n b.0, leb-true (o + n) w b.1, e.1)
 
 pub elements_part : (m : ℕ) (t : TypeTree) (o n : ℕ) (r : TypeTree) → PartHasType (array_type m t) (Slice o n) r → (1 ≤ n) × (o + n ≤ m) × (array_type n t ≡ r)
-elements_part m t o n r h = let e = there (leb 1 n && leb (o + n) m) (o * bit_count t) (array_type n t) r h in let b = and_parts (leb 1 n) (leb (o + n) m) e.0 in (leb-true 1 n b.0, leb-true (o + n) m b.1, e.1)
+elements_part m t o n r h = let e = there (leb 1 n && leb (o + n) m) (o * bit_count t) (array_type n t) r h in let b = and_parts (leb 1 n) (leb (o + n) m) e.0 in
+    (leb-true 1 n b.0, leb-true (o + n) m b.1, e.1)
 
 -- a value of the type is a value of an equal type
 pub as_type : (x : Datum) (t r : TypeTree) → FitsType x t → t ≡ r → FitsType x r
@@ -101,7 +103,8 @@ beyond_of b None = refl
 beyond_of b (Some p) = refl
 
 -- field k of a struct is there, and of its type
-pub field_fits : (vs : DatumRow) (ts : TypeRow) (k : ℕ) (r : TypeTree) (d : Datum) → FitsRow vs ts → PartHasType (tuple_type ts) (Field k) r → (k < length (parts_of vs)) × FitsType (get_or (parts_of vs) k d) r
+pub field_fits : (vs : DatumRow) (ts : TypeRow) (k : ℕ) (r : TypeTree) (d : Datum) → FitsRow vs ts → PartHasType (tuple_type ts) (Field k) r → (k < length (parts_of vs))
+    × FitsType (get_or (parts_of vs) k d) r
 field_fits no_values no_types k r d f h = cc
 field_fits no_values (more_types t ts) k r d f h = absurd f
 field_fits (more_values v vs) no_types k r d f h = absurd f
@@ -140,9 +143,11 @@ module _ (xs : List Val) (ts : List TypeTree) (t : TypeTree) (v : Val) (fits : F
   pub only_fits : FitsType (datum_of v) t
   only_fits = let o = one_arg (map datum_of xs) t (fits_as _ _ _ fits ts_is) in type_at _ _ t o.fits_x (sym (first_is xs v o.x [] o.is v_is))
 
-module _ (xs : List Val) (ts : List TypeTree) (t u : TypeTree) (v w : Val) (fits : FitsRow (data_row (map datum_of xs)) (row_of ts)) (ts_is : ts ≡ t ∷ u ∷ []) (v_is : v ≡ get_or xs 0 v) (w_is : w ≡ get_or xs 1 w) where
+module _ (xs : List Val) (ts : List TypeTree) (t u : TypeTree) (v w : Val) (fits : FitsRow (data_row (map datum_of xs)) (row_of ts)) (ts_is : ts ≡ t ∷ u ∷ []) (v_is : v ≡ get_or xs 0 v)
+    (w_is : w ≡ get_or xs 1 w) where
   pub both_args : map datum_of xs ≡ datum_of v ∷ datum_of w ∷ []
-  both_args = let o = two_args (map datum_of xs) t u (fits_as _ _ _ fits ts_is) in o.is ∙ ap (λ x. x ∷ o.y ∷ []) (sym (first_is xs v o.x _ o.is v_is)) ∙ ap (λ y. datum_of v ∷ y ∷ []) (sym (second_is xs w o.x o.y [] o.is w_is))
+  both_args = let o = two_args (map datum_of xs) t u (fits_as _ _ _ fits ts_is) in
+      o.is ∙ ap (λ x. x ∷ o.y ∷ []) (sym (first_is xs v o.x _ o.is v_is)) ∙ ap (λ y. datum_of v ∷ y ∷ []) (sym (second_is xs w o.x o.y [] o.is w_is))
 
   pub fits_first : FitsType (datum_of v) t
   fits_first = let o = two_args (map datum_of xs) t u (fits_as _ _ _ fits ts_is) in type_at _ _ t o.fits_x (sym (first_is xs v o.x _ o.is v_is))
@@ -171,7 +176,8 @@ module _ (xs : List Val) (v : Val) (k : ℕ) (items : List Val) (args : FitsOp (
       let e = ap (λ ds. field_at k ds) (only_arg xs args.types args.row.0 v args.values_fit args.row.1 v_is) in
       sym (e ∙ field_is (datum_of v) k parts_within_k ∙ ap (λ ds. get_or ds k no_value) (sym items_are) ∙ get_or-map datum_of items k part no_value extf_within ∙ ap datum_of (sym p))
 
-module _ (xs : List Val) (v : Val) (o n : ℕ) (items : List Val) (r : List Datum) (args : FitsOp (Exts o n) (map datum_of xs)) (v_is : v ≡ get_or xs 0 v) (array : datum_of v ≡ array_value (data_row r)) (items_are : map datum_of items ≡ r) where
+module _ (xs : List Val) (v : Val) (o n : ℕ) (items : List Val) (r : List Datum) (args : FitsOp (Exts o n) (map datum_of xs)) (v_is : v ≡ get_or xs 0 v) (array : datum_of v ≡ array_value (data_row r))
+    (items_are : map datum_of items ≡ r) where
   pub exts_within : o + n ≤ length items
   exts_within =
       let f = type_at _ _ args.row.0 (only_fits xs args.types args.row.0 v args.values_fit args.row.1 v_is) array in
@@ -195,7 +201,8 @@ insf_two xs k f = insf_length xs f.types f.gives f.row.0 f.values_fit f.row.1
 pub inss_two : (xs : List Val) (o n : ℕ) → FitsOp (Inss o n) (map datum_of xs) → 1 < length xs
 inss_two xs o n f = insf_length xs f.types f.gives f.row.0 f.values_fit f.row.1
 
-module _ (xs : List Val) (v w : Val) (k : ℕ) (items : List Val) (r : List Datum) (args : FitsOp (Insf k) (map datum_of xs)) (v_is : v ≡ get_or xs 0 v) (w_is : w ≡ get_or xs 1 w) (items_are : map datum_of items ≡ r) where
+module _ (xs : List Val) (v w : Val) (k : ℕ) (items : List Val) (r : List Datum) (args : FitsOp (Insf k) (map datum_of xs)) (v_is : v ≡ get_or xs 0 v) (w_is : w ≡ get_or xs 1 w)
+    (items_are : map datum_of items ≡ r) where
   whole_fits : FitsType (datum_of v) args.gives
   whole_fits = fits_first xs args.types args.gives args.row.0 v w args.values_fit args.row.1 v_is w_is
 
@@ -223,7 +230,8 @@ new_elements (array_value vs) y r (array_type m t) u o n e f g h = array_of y t 
 new_elements (array_value vs) y r _ u o n e f g h = absurd f
 new_elements _ y r t u o n e f g h = cc
 
-module _ (xs : List Val) (v w : Val) (o n : ℕ) (items new : List Val) (r : List Datum) (args : FitsOp (Inss o n) (map datum_of xs)) (v_is : v ≡ get_or xs 0 v) (w_is : w ≡ get_or xs 1 w) (array : datum_of v ≡ array_value (data_row r)) (items_are : map datum_of items ≡ r) (new_are : map datum_of new ≡ parts_within (datum_of w)) where
+module _ (xs : List Val) (v w : Val) (o n : ℕ) (items new : List Val) (r : List Datum) (args : FitsOp (Inss o n) (map datum_of xs)) (v_is : v ≡ get_or xs 0 v) (w_is : w ≡ get_or xs 1 w)
+    (array : datum_of v ≡ array_value (data_row r)) (items_are : map datum_of items ≡ r) (new_are : map datum_of new ≡ parts_within (datum_of w)) where
   old_fits : FitsType (datum_of v) args.gives
   old_fits = fits_first xs args.types args.gives args.row.0 v w args.values_fit args.row.1 v_is w_is
 

@@ -86,16 +86,28 @@ two_integers vs n d f =
     let o = two_args vs (int_type n) (int_type n) f in
     let x = int_fit o.x n d.0 o.fits_x in
     let y = int_fit o.y n d.0 o.fits_y in
-    record { n = n; a = x.bits; b = y.bits; low = x.low; high = x.high; below_a = x.below; below_b = y.below; is = inr (o.is ∙ ap (λ v. v ∷ o.y ∷ []) x.is ∙ ap (λ v. int_value n x.bits ∷ v ∷ []) y.is) }
+    record {
+      n = n;
+      a = x.bits;
+      b = y.bits;
+      low = x.low;
+      high = x.high;
+      below_a = x.below;
+      below_b = y.below;
+      is = inr (o.is ∙ ap (λ v. v ∷ o.y ∷ []) x.is ∙ ap (λ v. int_value n x.bits ∷ v ∷ []) y.is);
+    }
 
 of_one : (vs : List Datum) (ts : List TypeTree) (r : TypeTree) → AreData (row_of ts) → FitsRow (data_row vs) (row_of ts) → OneInteger ts r → IntegerArgs vs
-of_one vs ts r d f k = let D : List TypeTree → Type 0 = λ ts. AreData (row_of ts) in let F : List TypeTree → Type 0 = λ ts. FitsRow (data_row vs) (row_of ts) in one_integer vs k.0 (subst D k.1 d) (subst F k.1 f)
+of_one vs ts r d f k = let D : List TypeTree → Type 0 = λ ts. AreData (row_of ts) in let F : List TypeTree → Type 0 = λ ts. FitsRow (data_row vs) (row_of ts) in
+    one_integer vs k.0 (subst D k.1 d) (subst F k.1 f)
 
 of_two : (vs : List Datum) (ts : List TypeTree) (r : TypeTree) → AreData (row_of ts) → FitsRow (data_row vs) (row_of ts) → TwoIntegers ts r → IntegerArgs vs
-of_two vs ts r d f k = let D : List TypeTree → Type 0 = λ ts. AreData (row_of ts) in let F : List TypeTree → Type 0 = λ ts. FitsRow (data_row vs) (row_of ts) in two_integers vs k.0 (subst D k.1 d) (subst F k.1 f)
+of_two vs ts r d f k = let D : List TypeTree → Type 0 = λ ts. AreData (row_of ts) in let F : List TypeTree → Type 0 = λ ts. FitsRow (data_row vs) (row_of ts) in
+    two_integers vs k.0 (subst D k.1 d) (subst F k.1 f)
 
 of_compared : (vs : List Datum) (ts : List TypeTree) (r : TypeTree) → AreData (row_of ts) → FitsRow (data_row vs) (row_of ts) → ComparesIntegers ts r → IntegerArgs vs
-of_compared vs ts r d f k = let D : List TypeTree → Type 0 = λ ts. AreData (row_of ts) in let F : List TypeTree → Type 0 = λ ts. FitsRow (data_row vs) (row_of ts) in two_integers vs k.0 (subst D k.1 d) (subst F k.1 f)
+of_compared vs ts r d f k = let D : List TypeTree → Type 0 = λ ts. AreData (row_of ts) in let F : List TypeTree → Type 0 = λ ts. FitsRow (data_row vs) (row_of ts) in
+    two_integers vs k.0 (subst D k.1 d) (subst F k.1 f)
 
 -- arguments of a class that takes integers
 class_args : (c : OpClass) (vs : List Datum) (ts : List TypeTree) (r : TypeTree) → ClassTakesIntegers c → AreData (row_of ts) → FitsRow (data_row vs) (row_of ts) → ClassType c ts r → IntegerArgs vs

@@ -110,7 +110,8 @@ mod_apart s true p (suc q) h k e = rw (e, add-one) (ap neg_ℤ (euclid_neg p (su
 divided_by : (b r : ℕ) → (b ≡ 0 → ⊥) → divided b r ≡ r
 divided_by b r h = rw (ne_eqb b 0 h) refl
 
-module _ (n a b x y : ℕ) (t : Bool) (fits : (a < 2 ^ n) × (b < 2 ^ n)) (nonzero : b ≡ 0 → ⊥) (x_is : x ≡ unsigned_abs (signed n a)) (y_is : y ≡ unsigned_abs (signed n b)) (t_is : t ≡ has_sign n b) where
+module _ (n a b x y : ℕ) (t : Bool) (fits : (a < 2 ^ n) × (b < 2 ^ n)) (nonzero : b ≡ 0 → ⊥) (x_is : x ≡ unsigned_abs (signed n a)) (y_is : y ≡ unsigned_abs (signed n b))
+    (t_is : t ≡ has_sign n b) where
   y_positive : 0 < y
   y_positive = let k : 0 < b = pos_of_ne-zero nonzero in omega (arith, y_is, abs_positive n b t fits.1 k (sym t_is))
 

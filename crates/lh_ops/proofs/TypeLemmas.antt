@@ -69,7 +69,8 @@ one_fits op vs n d f =
     let x = int_fit o.x n d.0 o.fits_x in
     rw (o.is, x.is) (refl, row_below op n x.bits 0 x.below (pow_pos n))
 
-two_fit : (op : Op) (vs : List Datum) (n : ℕ) → AreData (row_of (int_type n ∷ int_type n ∷ [])) → FitsRow (data_row vs) (row_of (int_type n ∷ int_type n ∷ [])) → FitsType (integer_result op vs) (int_type (row_width op n))
+two_fit : (op : Op) (vs : List Datum) (n : ℕ) → AreData (row_of (int_type n ∷ int_type n ∷ [])) → FitsRow (data_row vs) (row_of (int_type n ∷ int_type n ∷ []))
+    → FitsType (integer_result op vs) (int_type (row_width op n))
 two_fit op vs n d f =
     let o = two_args vs (int_type n) (int_type n) f in
     let x = int_fit o.x n d.0 o.fits_x in
@@ -101,7 +102,8 @@ down_below n b h k f g l =
     let t : k + (n - k) ≡ n = omega arith in
     two_parts (h % 2 ^ k) (b / 2 ^ k) k (n - k) n (mod_below h (2 ^ k) (pow_pos k)) (shr_below b (n - k) k (rw s f)) t
 
-shifts_fit : (move : ℕ → ℕ → ℕ → ℕ → ℕ) (vs : List Datum) (n w : ℕ) → ((b h k : ℕ) → b < 2 ^ n → h < 2 ^ n → k ≤ n → move n b h k < 2 ^ n) → AreData (row_of (int_type n ∷ int_type n ∷ int_type w ∷ [])) → FitsRow (data_row vs) (row_of (int_type n ∷ int_type n ∷ int_type w ∷ [])) → FitsType (shifted move vs) (int_type n)
+shifts_fit : (move : ℕ → ℕ → ℕ → ℕ → ℕ) (vs : List Datum) (n w : ℕ) → ((b h k : ℕ) → b < 2 ^ n → h < 2 ^ n → k ≤ n → move n b h k < 2 ^ n)
+    → AreData (row_of (int_type n ∷ int_type n ∷ int_type w ∷ [])) → FitsRow (data_row vs) (row_of (int_type n ∷ int_type n ∷ int_type w ∷ [])) → FitsType (shifted move vs) (int_type n)
 shifts_fit move vs n w below d f =
     let o = three_args vs (int_type n) (int_type n) (int_type w) f in
     let x = int_fit o.x n d.0 o.fits_x in
@@ -203,8 +205,11 @@ inss_fits (array_value vs) w (array_type m t) p o n f g h = let e = elements_par
         let l : length (parts_of vs) ≡ m = parts_count vs ∙ f.0 in
         let k : length (parts_of ws) ≡ n = parts_count ws ∙ g.0 in
         let all = take o (parts_of vs) ++ parts_of ws ++ drop (o + n) (parts_of vs) in
-        let c : length all ≡ m = simp (length-append, length-drop) (omega (arith, l, k, e, length-take-le o (parts_of vs) (omega arith))) in
-        (count_row all ∙ c, fit_append (take o (parts_of vs) ++ parts_of ws) (drop (o + n) (parts_of vs)) t (fit_append (take o (parts_of vs)) (parts_of ws) t (fit_take o (parts_of vs) t (parts_fit vs t f.1)) (parts_fit ws t g.1)) (fit_drop (o + n) (parts_of vs) t (parts_fit vs t f.1)))
+        let c : length all ≡ m = simp (length-append, length-drop) (omega (arith, l, k, e, length-take-le o (parts_of vs) (omega arith))) in (
+          count_row all ∙ c,
+          fit_append (take o (parts_of vs) ++ parts_of ws) (drop (o + n) (parts_of vs)) t
+              (fit_append (take o (parts_of vs)) (parts_of ws) t (fit_take o (parts_of vs) t (parts_fit vs t f.1)) (parts_fit ws t g.1)) (fit_drop (o + n) (parts_of vs) t (parts_fit vs t f.1)),
+        )
     new_elements (int_value l c) g e = absurd g
     new_elements (time_value d) g e = absurd g
     new_elements (tuple_value ws) g e = absurd g

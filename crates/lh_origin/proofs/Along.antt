@@ -9,7 +9,8 @@ use Rattle.lh_origin.specs.Firsts.{AreValues, step_texts, texts_along}
 
 along-push : (steps : List (Option PartStep)) (way : List ValueId) (v : ValueId) → texts_along steps (way ++ v ∷ []) ≡ step_texts (step_at steps v.0) ++ texts_along steps way
 along-push steps [] v = sym (append-nil (step_texts (step_at steps v.0)))
-along-push steps (w ∷ way) v = ap (λ (x : List (Op × TypeTree)). x ++ step_texts (step_at steps w.0)) (along-push steps way v) ∙ append_assoc (step_texts (step_at steps v.0)) (texts_along steps way) (step_texts (step_at steps w.0))
+along-push steps (w ∷ way) v = ap (λ (x : List (Op × TypeTree)). x ++ step_texts (step_at steps w.0)) (along-push steps way v)
+    ∙ append_assoc (step_texts (step_at steps v.0)) (texts_along steps way) (step_texts (step_at steps w.0))
 
 values-front : (n : ℕ) (vs : List ValueId) (v : ValueId) → AreValues n (vs ++ v ∷ []) → AreValues n vs
 values-front n [] v h = tt
@@ -19,7 +20,8 @@ pub record GoesForth (n : ℕ) (steps : List (Option PartStep)) (now : List Valu
   pub within : AreValues n now
   pub texts : new ++ texts_along steps now ≡ all
 
-pub forth-next : (n : ℕ) (steps : List (Option PartStep)) (way now : List ValueId) (v : ValueId) (old new all : List (Op × TypeTree)) → way ≡ now ++ v ∷ [] → AreValues n way → old ++ texts_along steps way ≡ all → new ≡ old ++ step_texts (step_at steps v.0) → GoesForth n steps now new all
+pub forth-next : (n : ℕ) (steps : List (Option PartStep)) (way now : List ValueId) (v : ValueId) (old new all : List (Op × TypeTree)) → way ≡ now ++ v ∷ [] → AreValues n way
+    → old ++ texts_along steps way ≡ all → new ≡ old ++ step_texts (step_at steps v.0) → GoesForth n steps now new all
 forth-next n steps way now v old new all e w a b = record {
   within = values-front n now v (subst (AreValues n) e w);
   texts =

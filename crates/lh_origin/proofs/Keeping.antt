@@ -40,7 +40,8 @@ or-none (Some v) = refl
 last-other : (parts : List (Option Part)) (v : ValueId) (p : Part) (o : Option Part) → part_at parts v.0 ≡ o → is_the_part p o ≡ false → last_if parts v p ≡ None
 last-other parts v p o e f = ap (λ (x : Option Part). if is_the_part p x then Some v else None) e ∙ ap (λ (b : Bool). if b then Some v else None) f
 
-pub not-one-more : (parts : List (Option Part)) (vs : List ValueId) (v : ValueId) (p : Part) (o : Option Part) → part_at parts v.0 ≡ o → is_the_part p o ≡ false → first_result parts (vs ++ v ∷ []) p ≡ first_result parts vs p
+pub not-one-more : (parts : List (Option Part)) (vs : List ValueId) (v : ValueId) (p : Part) (o : Option Part) → part_at parts v.0 ≡ o → is_the_part p o ≡ false
+    → first_result parts (vs ++ v ∷ []) p ≡ first_result parts vs p
 not-one-more parts vs v p o e f = first-push parts vs v p ∙ ap (or_else (first_result parts vs p)) (last-other parts v p o e f) ∙ or-none (first_result parts vs p)
 
 module _ {S : Type 0} (parts : List (Option Part)) (v : ValueId) where
@@ -58,7 +59,8 @@ module _ {S : Type 0} (parts : List (Option Part)) (v : ValueId) where
           let there : first_result parts results p ≡ Some w = subst (λ (x : Part). first_result parts results x ≡ Some w) (same_part-is q p k) (sym (h.first q) ∙ f) in
           there ∙ sym (first-push parts results v p ∙ ap (λ (o : Option ValueId). or_else o (last_if parts v p)) there)
 
-  pub takes-seen : (m : HashMap (ℕ × ℕ) (List ValueId) S) (q : Part) (o : Option ValueId) (vs : List ValueId) → part_at parts v.0 ≡ Some q → vs ≡ kept_for m q → o ≡ first_result parts vs q → true ≡ is_some o → KeepsOneMore parts v m m
+  pub takes-seen : (m : HashMap (ℕ × ℕ) (List ValueId) S) (q : Part) (o : Option ValueId) (vs : List ValueId) → part_at parts v.0 ≡ Some q → vs ≡ kept_for m q → o ≡ first_result parts vs q
+      → true ≡ is_some o → KeepsOneMore parts v m m
   takes-seen m q None vs e k f t = absurd (let z : true ≡ false = t in cc)
   takes-seen m q (Some w) vs e k f t = takes-again m q w e (ap (λ (x : List ValueId). first_result parts x q) (sym k) ∙ sym f)
 
@@ -68,14 +70,16 @@ module _ {S : Type 0} (parts : List (Option Part)) (v : ValueId) where
   takes-new m n q key e c l adds = λ results h. record { within = λ k. within-at results h k (same_key key k) refl; first = λ p. at results h p (same_key key (key_of p)) refl }
     where
       within-at : (results : List ValueId) → KeepsFirsts parts results m → (k : ℕ × ℕ) (b : Bool) → same_key key k ≡ b → AreValues (length parts) (kept_at n k)
-      within-at results h k true f = subst (AreValues (length parts)) (sym (adds.kept k ∙ ap (λ (x : Bool). if x then kept_at m key ++ v ∷ [] else kept_at m k) f)) (values-push (length parts) (kept_at m key) v (h.within key) l)
+      within-at results h k true f = subst (AreValues (length parts)) (sym (adds.kept k ∙ ap (λ (x : Bool). if x then kept_at m key ++ v ∷ [] else kept_at m k) f))
+          (values-push (length parts) (kept_at m key) v (h.within key) l)
       within-at results h k false f = subst (AreValues (length parts)) (sym (adds.kept k ∙ ap (λ (x : Bool). if x then kept_at m key ++ v ∷ [] else kept_at m k) f)) (h.within k)
 
       at : (results : List ValueId) → KeepsFirsts parts results m → (p : Part) (b : Bool) → same_key key (key_of p) ≡ b → first_result parts (kept_for n p) p ≡ first_result parts (results ++ v ∷ []) p
       at results h p true f =
           let (f0, f1) = and_both (nat_eq key.0 p.arg) (nat_eq key.1 p.lo) f in
           let same : key ≡ key_of p = (λ i. (nat_eq-is key.0 p.arg f0 i, nat_eq-is key.1 p.lo f1 i)) in
-          ap (λ (vs : List ValueId). first_result parts vs p) (adds.kept (key_of p) ∙ ap (λ (x : Bool). if x then kept_at m key ++ v ∷ [] else kept_for m p) f ∙ ap (λ (k : ℕ × ℕ). kept_at m k ++ v ∷ []) same)
+          ap (λ (vs : List ValueId). first_result parts vs p)
+          (adds.kept (key_of p) ∙ ap (λ (x : Bool). if x then kept_at m key ++ v ∷ [] else kept_for m p) f ∙ ap (λ (k : ℕ × ℕ). kept_at m k ++ v ∷ []) same)
           ∙ first-push parts (kept_for m p) v p
           ∙ ap (λ (o : Option ValueId). or_else o (last_if parts v p)) (h.first p)
           ∙ sym (first-push parts results v p)
@@ -97,7 +101,8 @@ module _ {S : Type 0} (parts : List (Option Part)) (v : ValueId) where
 -- ---- one more value at a key
 
 -- what was kept at a key is taken out, and put back with one more value
-pub kept-updated : {S : Type 0} (m k n : HashMap (ℕ × ℕ) (List ValueId) S) (key : ℕ × ℕ) (v : ValueId) (old new : List ValueId) → old ≡ kept_at m key → ((q : ℕ × ℕ) → same_key key q ≡ false → kept_at k q ≡ kept_at m q)
+pub kept-updated : {S : Type 0} (m k n : HashMap (ℕ × ℕ) (List ValueId) S) (key : ℕ × ℕ) (v : ValueId) (old new : List ValueId) → old ≡ kept_at m key
+    → ((q : ℕ × ℕ) → same_key key q ≡ false → kept_at k q ≡ kept_at m q)
     → new ≡ old ++ v ∷ [] → ((q : ℕ × ℕ) → get same_key n q ≡ (if same_key key q then Some new else get same_key k q)) → AddsAt key v m n
 kept-updated m k n key v old new o others e u = record { kept = λ q. ap (λ (x : Option (List ValueId)). unwrap_or x []) (u q) ∙ by q (same_key key q) refl }
   where
@@ -135,17 +140,20 @@ pub first-some : (n : ℕ) (parts : List (Option Part)) (vs : List ValueId) (p :
 first-some n parts [] p v h e = absurd (none-some v e)
 first-some n parts (w ∷ vs) p v h e = at (part_at parts w.0) refl e (first-some n parts vs p v h.1)
   where
-    by : (q : Part) → part_at parts w.0 ≡ Some q → (b : Bool) → same_part q p ≡ b → (if b then Some w else first_result parts vs p) ≡ Some v → (first_result parts vs p ≡ Some v → (v.0 < n) × (part_at parts v.0 ≡ Some p)) → (v.0 < n) × (part_at parts v.0 ≡ Some p)
+    by : (q : Part) → part_at parts w.0 ≡ Some q → (b : Bool) → same_part q p ≡ b → (if b then Some w else first_result parts vs p) ≡ Some v
+        → (first_result parts vs p ≡ Some v → (v.0 < n) × (part_at parts v.0 ≡ Some p)) → (v.0 < n) × (part_at parts v.0 ≡ Some p)
     by q f false t k go = go k
     by q f true t k go =
         let same : w ≡ v = same_Some w v k in
         (subst (λ (x : ValueId). x.0 < n) same h.0, ap (λ (x : ValueId). part_at parts x.0) (sym same) ∙ f ∙ ap Some (same_part-is q p t))
 
-    at : (o : Option Part) → part_at parts w.0 ≡ o → (if is_the_part p o then Some w else first_result parts vs p) ≡ Some v → (first_result parts vs p ≡ Some v → (v.0 < n) × (part_at parts v.0 ≡ Some p)) → (v.0 < n) × (part_at parts v.0 ≡ Some p)
+    at : (o : Option Part) → part_at parts w.0 ≡ o → (if is_the_part p o then Some w else first_result parts vs p) ≡ Some v
+        → (first_result parts vs p ≡ Some v → (v.0 < n) × (part_at parts v.0 ≡ Some p)) → (v.0 < n) × (part_at parts v.0 ≡ Some p)
     at None f k go = go k
     at (Some q) f k go = by q f (same_part q p) refl k go
 
-pub first-met : (parts : List (Option Part)) (o : Option ValueId) (vs ws : List ValueId) (p : Part) (v : ValueId) → o ≡ first_result parts vs p → vs ≡ ws → o ≡ Some v → first_result parts ws p ≡ Some v
+pub first-met : (parts : List (Option Part)) (o : Option ValueId) (vs ws : List ValueId) (p : Part) (v : ValueId) → o ≡ first_result parts vs p → vs ≡ ws → o ≡ Some v
+    → first_result parts ws p ≡ Some v
 first-met parts o vs ws p v a b c = ap (λ (x : List ValueId). first_result parts x p) (sym b) ∙ sym a ∙ c
 
 pub first-missed : (parts : List (Option Part)) (o : Option ValueId) (vs ws : List ValueId) (p : Part) → o ≡ first_result parts vs p → vs ≡ ws → o ≡ None → first_result parts ws p ≡ None

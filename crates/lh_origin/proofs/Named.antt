@@ -24,7 +24,7 @@ use Rattle.lh_unit.proofs.Tables.{same_name-is}
 use Rattle.lh_formed.specs.Parts.{TakesPart, HasPart}
 use Rattle.lh_formed.proofs.PartsLaw.{parts_have_ranges}
 use Rattle.lh_formed.proofs.PartSteps.{same-operand, leads-is, takes-part, step-type}
-use Rattle.lh_eval.specs.Sound.{IsSound}
+use Rattle.lh_eval.specs.Sound.{InstIsSound}
 use Rattle.lh_sound.proofs.NamedOnce.{IsFirst, giving-lines}
 use Rattle.lh_inlined.specs.Formed.{IsFormed}
 use Rattle.lh_term.specs.declared.part.Part.{Part}
@@ -133,7 +133,7 @@ taken u x s q t v =
 
 -- a line is sound, and the only one that gives its result
 abbrev pub IsGood : UnitText → LineText → Type 0
-IsGood u l = IsSound u l × IsFirst u.args (lines_of u.blocks) l
+IsGood u l = InstIsSound u l × IsFirst u.args (lines_of u.blocks) l
 
 pub record Giving (G : LineText → Type 0) (n : List ℕ) (i : InstText) : Type 0 where
   pub line : LineText
@@ -185,7 +185,8 @@ further-is g _ r h = absurd (none-some r h)
 steps-by : (o : Op) (from r : Reached) → stepped_by o from ≡ Some r → (s : Step) × (step_of o ≡ Some s)
 steps-by o from r h = at (step_of o) refl h
   where
-    at : (x : Option Step) → step_of o ≡ x → option_map (λ p. let z : Reached = record { part = p; steps = from.steps ++ record { op = o; to = p } ∷ [] } in z) (option_and_then (part_by_step from.part) x) ≡ Some r → (s : Step) × (step_of o ≡ Some s)
+    at : (x : Option Step) → step_of o ≡ x → option_map (λ p. let z : Reached = record { part = p; steps = from.steps ++ record { op = o; to = p } ∷ [] } in
+        z) (option_and_then (part_by_step from.part) x) ≡ Some r → (s : Step) × (step_of o ≡ Some s)
     at None q k = absurd (none-some r k)
     at (Some s) q k = (s, q)
 
@@ -202,7 +203,8 @@ module _ (u : UnitText) (formed : IsFormed u) (good : Each (IsGood u) (lines_of 
           ∙ ap (λ (z : Reached). Some (signal_type z.part.ty)) (same_Some (as_reached p) r k)
 
   -- the result of a step from a signal
-  step-typed : (n : List ℕ) (o : Op) (x : OperandText) (from r : Reached) → Giving (IsGood u) n (pure_text o (x ∷ [])) → value_type u x.value ≡ Some (signal_type from.part.ty) → stepped_by o from ≡ Some r → value_type u n ≡ Some (signal_type r.part.ty)
+  step-typed : (n : List ℕ) (o : Op) (x : OperandText) (from r : Reached) → Giving (IsGood u) n (pure_text o (x ∷ [])) → value_type u x.value ≡ Some (signal_type from.part.ty)
+      → stepped_by o from ≡ Some r → value_type u n ≡ Some (signal_type r.part.ty)
   step-typed n o x from r l t h =
       let s = steps-by o from r h in
       let k = taken u x s.0 from.part (takes-part u o s.0 (x ∷ []) s.1 (subst (HasPart u) l.inst l.good.0.part)) t in
@@ -218,7 +220,8 @@ module _ (u : UnitText) (formed : IsFormed u) (good : Each (IsGood u) (lines_of 
   reached-typed zero n r h = argument-typed n r h
   reached-typed (suc k) n r h = by (or-else-is (as_argument u n) (further (reached k u) (inst_giving n u.blocks)) r h) (λ m x e. reached-typed k m x e)
     where
-      by : (as_argument u n ≡ Some r) ⊎ (further (reached k u) (inst_giving n u.blocks) ≡ Some r) → ((m : List ℕ) (x : Reached) → reached k u m ≡ Some x → value_type u m ≡ Some (signal_type x.part.ty)) → value_type u n ≡ Some (signal_type r.part.ty)
+      by : (as_argument u n ≡ Some r) ⊎ (further (reached k u) (inst_giving n u.blocks) ≡ Some r)
+          → ((m : List ℕ) (x : Reached) → reached k u m ≡ Some x → value_type u m ≡ Some (signal_type x.part.ty)) → value_type u n ≡ Some (signal_type r.part.ty)
       by (inl a) go = argument-typed n r a
       by (inr b) go =
           let s = further-is (reached k u) (inst_giving n u.blocks) r b in
@@ -235,11 +238,13 @@ module _ (u : UnitText) (formed : IsFormed u) (good : Each (IsGood u) (lines_of 
     no-step o v (Some s) (Some t) e = ap (λ (z : Option Reached). option_and_then (extended (record { from = v; op = o; ty = t })) (option_map seen z)) e
 
     -- the step is the operation on a signal
-    step-given : (o : Op) (x : Typed) (s : Step) (r : Reached) → step_of o ≡ Some s → reached k u (f.value_name x.value.0) ≡ Some r → Taken u (operand_text f x) s r.part → option_map seen (stepped_by o r) ≡ by_step f (reached k u) (step_if o x.value (step_of o) (option_and_then carried x.ty))
+    step-given : (o : Op) (x : Typed) (s : Step) (r : Reached) → step_of o ≡ Some s → reached k u (f.value_name x.value.0) ≡ Some r → Taken u (operand_text f x) s r.part
+        → option_map seen (stepped_by o r) ≡ by_step f (reached k u) (step_if o x.value (step_of o) (option_and_then carried x.ty))
     step-given o x s r so e t =
         let q = inner r.part t.part in
         let left : option_map seen (stepped_by o r) ≡ Some (record { part = q; steps = map step_text (r.steps ++ record { op = o; to = q } ∷ []) }) =
-        ap (λ (z : Option Part). option_map seen (option_map (λ p. let y : Reached = record { part = p; steps = r.steps ++ record { op = o; to = p } ∷ [] } in y) z)) (part-led o s r.part t.part so t.leads) in
+        ap (λ (z : Option Part). option_map seen (option_map (λ p. let y : Reached = record { part = p; steps = r.steps ++ record { op = o; to = p } ∷ [] } in y) z))
+        (part-led o s r.part t.part so t.leads) in
         let is : step_if o x.value (step_of o) (option_and_then carried x.ty) ≡ Some (record { from = x.value; op = o; ty = t.part.of }) =
         (λ i. step_if o x.value (so i) (option_and_then carried (t.written i))) in
         let right : by_step f (reached k u) (step_if o x.value (step_of o) (option_and_then carried x.ty)) ≡ Some (record { part = q; steps = map step_text r.steps ++ (o, t.part.of) ∷ [] }) =
@@ -248,16 +253,20 @@ module _ (u : UnitText) (formed : IsFormed u) (good : Each (IsGood u) (lines_of 
         ∙ ap (option_map (with_step (seen r) (record { from = x.value; op = o; ty = t.part.of }))) (id-led o s r.part t.part x.value so t.leads) in
         left ∙ ap (λ (ss : List (Op × TypeTree)). let y : Way = record { part = q; steps = ss } in Some y) (map-append step_text r.steps (record { op = o; to = q } ∷ [])) ∙ sym right
 
-    one-given : (o : Op) (x : Typed) → HasPart u (pure_text o (operand_text f x ∷ [])) → option_map seen (option_and_then (stepped_by o) (reached k u (f.value_name x.value.0))) ≡ by_step f (reached k u) (step_if o x.value (step_of o) (option_and_then carried x.ty))
+    one-given : (o : Op) (x : Typed) → HasPart u (pure_text o (operand_text f x ∷ [])) → option_map seen (option_and_then (stepped_by o) (reached k u (f.value_name x.value.0)))
+        ≡ by_step f (reached k u) (step_if o x.value (step_of o) (option_and_then carried x.ty))
     one-given o x h = by (reached k u (f.value_name x.value.0)) refl
       where
-        at : (r : Reached) → reached k u (f.value_name x.value.0) ≡ Some r → (s : Option Step) → step_of o ≡ s → option_map seen (stepped_by o r) ≡ by_step f (reached k u) (step_if o x.value (step_of o) (option_and_then carried x.ty))
+        at : (r : Reached) → reached k u (f.value_name x.value.0) ≡ Some r → (s : Option Step) → step_of o ≡ s
+            → option_map seen (stepped_by o r) ≡ by_step f (reached k u) (step_if o x.value (step_of o) (option_and_then carried x.ty))
         at r e (Some s) so = step-given o x s r so e (taken u (operand_text f x) s r.part (takes-part u o s (operand_text f x ∷ []) so h) (reached-typed k (f.value_name x.value.0) r e))
         at r e None so =
-            ap (λ (z : Option Step). option_map seen (option_map (λ p. let y : Reached = record { part = p; steps = r.steps ++ record { op = o; to = p } ∷ [] } in y) (option_and_then (part_by_step r.part) z))) so
+            ap (λ (z : Option Step). option_map seen (option_map (λ p. let y : Reached = record { part = p; steps = r.steps ++ record { op = o; to = p } ∷ [] } in y)
+            (option_and_then (part_by_step r.part) z))) so
             ∙ sym (ap (λ (z : Option Step). by_step f (reached k u) (step_if o x.value z (option_and_then carried x.ty))) so)
 
-        by : (z : Option Reached) → reached k u (f.value_name x.value.0) ≡ z → option_map seen (option_and_then (stepped_by o) (reached k u (f.value_name x.value.0))) ≡ by_step f (reached k u) (step_if o x.value (step_of o) (option_and_then carried x.ty))
+        by : (z : Option Reached) → reached k u (f.value_name x.value.0) ≡ z → option_map seen (option_and_then (stepped_by o) (reached k u (f.value_name x.value.0)))
+            ≡ by_step f (reached k u) (step_if o x.value (step_of o) (option_and_then carried x.ty))
         by None e = ap (λ (z : Option Reached). option_map seen (option_and_then (stepped_by o) z)) e ∙ sym (no-step o x.value (step_of o) (option_and_then carried x.ty) e)
         by (Some r) e = ap (λ (z : Option Reached). option_map seen (option_and_then (stepped_by o) z)) e ∙ at r e (step_of o) refl
 

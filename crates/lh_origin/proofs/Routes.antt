@@ -19,7 +19,7 @@ use Rattle.lh_unit.specs.declared.inst.Arg.{Arg}
 use Rattle.lh_unit.proofs.Lists.{Same, same, other, same_or, nat_eq-refl, nat_eq-is, nat_eq-other, not_true, Each-append, Each-left, Each-right}
 use Rattle.lh_unit.proofs.Tables.{same_name-is, same_name-refl}
 use Rattle.lh_spelled.specs.Printable.{results_repeat}
-use Rattle.lh_eval.specs.Sound.{IsSound}
+use Rattle.lh_eval.specs.Sound.{InstIsSound}
 use Rattle.lh_sound.proofs.NamedOnce.{IsFirst, giving-lines, each-first}
 use Rattle.lh_term.specs.Same.{same_part}
 use Rattle.lh_term.specs.declared.part.Part.{Part}
@@ -34,7 +34,7 @@ use Rattle.lh_region.specs.Forms.{Names}
 use Rattle.lh_parts.specs.declared.table.PartTable.{PartTable}
 use Rattle.lh_parts.specs.declared.step.PartStep.{PartStep as IdStep}
 use Rattle.lh_parts.specs.Steps.{step_in, if_result, with_result, step_giving, step_results, insts_in, whole_of, argument_from, argument_of, part_found, stepped, StepWithin, HasSteps, step_at, part_at, IsPartTable}
-use Rattle.lh_parts.specs.Resolving.{Leads}
+use Rattle.lh_parts.specs.Resolving.{StepsLeadAlong}
 use Rattle.lh_emission.specs.Emitted.{PartStep}
 use Rattle.lh_emission.specs.Reached.{Reached, argument_part, as_argument, further, reached, steps_if, first_steps, steps_in}
 use Rattle.lh_emission.specs.Ways.{whole}
@@ -84,7 +84,8 @@ module _ (f : Naming) (n : ℕ) (apart : (v w : ℕ) → v < n → w < n → f.v
       let rest = none-later (seen ++ arg_text f a ∷ []) (i + 1) v xs b.1 (define-more (f.value_name v) seen (arg_text f a) d) in
       ap (λ o. or_else o (if nat_eq a.value.0 v then option_map (whole_of i) (carried a.ty) else None)) rest ∙ ap (λ c. if c then option_map (whole_of i) (carried a.ty) else None) no
 
-  argument-ids : (seen : List ArgText) (i v : ℕ) (xs : List Arg) → v < n → Each (λ (a : Arg). a.value.0 < n) xs → args_repeat seen (map (arg_text f) xs) ≡ false → argument_part (f.value_name v) i (map (arg_text f) xs) ≡ argument_from i xs v
+  argument-ids : (seen : List ArgText) (i v : ℕ) (xs : List Arg) → v < n → Each (λ (a : Arg). a.value.0 < n) xs → args_repeat seen (map (arg_text f) xs) ≡ false
+      → argument_part (f.value_name v) i (map (arg_text f) xs) ≡ argument_from i xs v
   argument-ids seen i v [] l w h = refl
   argument-ids seen i v (a ∷ xs) l w h =
       let b = or_parts (args_define (f.value_name a.value.0) seen) (args_repeat (seen ++ arg_text f a ∷ []) (map (arg_text f) xs)) h in
@@ -192,7 +193,8 @@ giving-none : (v : ℕ) (ls : List FlatInst) → step_giving ls v ≡ None → E
 giving-none v [] e = tt
 giving-none v (l ∷ ls) e = by (step_giving ls v) refl e (giving-none v ls)
   where
-    by : (o : Option IdStep) → step_giving ls v ≡ o → or_else o (if_result v l.result (step_in l.inst)) ≡ None → (step_giving ls v ≡ None → Each (λ (m : FlatInst). if_result v m.result (step_in m.inst) ≡ None) ls) → Each (λ (m : FlatInst). if_result v m.result (step_in m.inst) ≡ None) (l ∷ ls)
+    by : (o : Option IdStep) → step_giving ls v ≡ o → or_else o (if_result v l.result (step_in l.inst)) ≡ None
+        → (step_giving ls v ≡ None → Each (λ (m : FlatInst). if_result v m.result (step_in m.inst) ≡ None) ls) → Each (λ (m : FlatInst). if_result v m.result (step_in m.inst) ≡ None) (l ∷ ls)
     by None q k go = (k, go q)
     by (Some x) q k go = absurd (none-some x (sym k))
 
@@ -217,7 +219,8 @@ first-append : (g : List ℕ → Option Reached) (p : Part) (xs ys : List LineTe
 first-append g p [] ys = refl
 first-append g p (l ∷ xs) ys = by (steps_if p (option_and_then g l.result)) (first-append g p xs ys)
   where
-    by : (o : Option (List PartStep)) → first_steps g p (xs ++ ys) ≡ or_else (first_steps g p xs) (first_steps g p ys) → or_else o (first_steps g p (xs ++ ys)) ≡ or_else (or_else o (first_steps g p xs)) (first_steps g p ys)
+    by : (o : Option (List PartStep)) → first_steps g p (xs ++ ys) ≡ or_else (first_steps g p xs) (first_steps g p ys)
+        → or_else o (first_steps g p (xs ++ ys)) ≡ or_else (or_else o (first_steps g p xs)) (first_steps g p ys)
     by None e = e
     by (Some s) e = refl
 
@@ -225,7 +228,8 @@ way-append : (g : ℕ → Option Way) (p : Part) (xs ys : List ValueId) → firs
 way-append g p [] ys = refl
 way-append g p (v ∷ xs) ys = by (steps_of_if p (g v.0)) (way-append g p xs ys)
   where
-    by : (o : Option (List (Op × TypeTree))) → first_way g p (xs ++ ys) ≡ or_else (first_way g p xs) (first_way g p ys) → or_else o (first_way g p (xs ++ ys)) ≡ or_else (or_else o (first_way g p xs)) (first_way g p ys)
+    by : (o : Option (List (Op × TypeTree))) → first_way g p (xs ++ ys) ≡ or_else (first_way g p xs) (first_way g p ys)
+        → or_else o (first_way g p (xs ++ ys)) ≡ or_else (or_else o (first_way g p xs)) (first_way g p ys)
     by None e = e
     by (Some s) e = refl
 
@@ -282,7 +286,8 @@ module _ (t : Flat) (f : Naming) (name : UnitName) (names : Names t f) (below : 
   good-lines =
       let formed = names.formed name in
       let new : results_repeat u.args [] (lines_of u.blocks) ≡ false = formed.new_results in
-      each-both (IsSound u) (IsFirst u.args (lines_of u.blocks)) (IsGood u) (λ l a b. (a, b)) (lines_of u.blocks) formed.lines (each-first u.args (lines_of u.blocks) [] (lines_of u.blocks) refl new)
+      each-both (InstIsSound u) (IsFirst u.args (lines_of u.blocks)) (IsGood u) (λ l a b. (a, b)) (lines_of u.blocks) formed.lines
+      (each-first u.args (lines_of u.blocks) [] (lines_of u.blocks) refl new)
 
   record IsGoodInst (l : FlatInst) : Type 0 where
     text : IsGood u (flat_line_text f l)
@@ -293,14 +298,16 @@ module _ (t : Flat) (f : Naming) (name : UnitName) (names : Names t f) (below : 
   results-below [] h = tt
   results-below (b ∷ bs) h =
       Each-append (λ (l : FlatInst). ValuesBelow t.values (maybe_id l.result)) b.insts (insts_in bs)
-      (each-both (InstBelow t.values (length t.blocks)) (InstBelow t.values (length t.blocks)) (λ (l : FlatInst). ValuesBelow t.values (maybe_id l.result)) (λ l a c. a.result) b.insts h.0.insts h.0.insts)
+      (each-both (InstBelow t.values (length t.blocks)) (InstBelow t.values (length t.blocks)) (λ (l : FlatInst). ValuesBelow t.values (maybe_id l.result)) (λ l a c. a.result) b.insts h.0.insts
+      h.0.insts)
       (results-below bs h.1)
 
   good-insts : Each IsGoodInst insts
   good-insts =
       each-both (λ (l : FlatInst). IsGood u (flat_line_text f l) × ValuesBelow t.values (maybe_id l.result)) (λ (l : FlatInst). StepWithin t.values l.result (step_in l.inst)) IsGoodInst
       (λ l a b. record { text = a.0; result = a.1; step = b }) insts
-      (each-both (λ (l : FlatInst). IsGood u (flat_line_text f l)) (λ (l : FlatInst). ValuesBelow t.values (maybe_id l.result)) (λ (l : FlatInst). IsGood u (flat_line_text f l) × ValuesBelow t.values (maybe_id l.result)) (λ l a b. (a, b)) insts
+      (each-both (λ (l : FlatInst). IsGood u (flat_line_text f l)) (λ (l : FlatInst). ValuesBelow t.values (maybe_id l.result))
+      (λ (l : FlatInst). IsGood u (flat_line_text f l) × ValuesBelow t.values (maybe_id l.result)) (λ l a b. (a, b)) insts
       (lines-each f (IsGood u) 0 t.blocks good-lines) (results-below t.blocks below.blocks))
       has_steps.within
 
@@ -335,7 +342,9 @@ module _ (t : Flat) (f : Naming) (name : UnitName) (names : Names t f) (below : 
   no-other : (v : ℕ) → v < t.values → F v ≡ None → (i : InstText) → inst_giving (f.value_name v) u.blocks ≡ Some i → (k : ℕ) → further (reached k u) (Some i) ≡ None
   no-other v l e i h k =
       let all : Each (GivesNone v) (lines_of u.blocks) =
-      each-line f (GivesNone v) (λ m r j. refl) 0 t.blocks (each-both IsGoodInst (λ (x : FlatInst). if_result v x.result (step_in x.inst) ≡ None) (λ (x : FlatInst). GivesNone v (flat_line_text f x)) (inst-gives_none v l) insts good-insts (giving-none v insts e)) in
+      each-line f (GivesNone v) (λ m r j. refl) 0 t.blocks
+      (each-both IsGoodInst (λ (x : FlatInst). if_result v x.result (step_in x.inst) ≡ None) (λ (x : FlatInst). GivesNone v (flat_line_text f x)) (inst-gives_none v l) insts good-insts
+      (giving-none v insts e)) in
       let g = giving-at (GivesNone v) (f.value_name v) (lines_of u.blocks) i all (sym (giving-lines (f.value_name v) u.blocks) ∙ h) in
       ap (λ x. further (reached k u) (Some x)) (sym g.inst) ∙ g.good g.result k
 
@@ -359,7 +368,8 @@ module _ (t : Flat) (f : Naming) (name : UnitName) (names : Names t f) (below : 
           ap (option_map seen) none.0 ∙ sym (ap (λ o. way_by (way_found zero F A) o (A v)) e)
   by-names (suc k) v l = at (F v) refl (λ w m. by-names k w m)
     where
-      at : (o : Option IdStep) → F v ≡ o → ((w : ℕ) → w < t.values → option_map seen (reached k u (f.value_name w)) ≡ way_found (suc k) F A w) → option_map seen (reached (suc k) u (f.value_name v)) ≡ way_found (suc (suc k)) F A v
+      at : (o : Option IdStep) → F v ≡ o → ((w : ℕ) → w < t.values → option_map seen (reached k u (f.value_name w)) ≡ way_found (suc k) F A w)
+          → option_map seen (reached (suc k) u (f.value_name v)) ≡ way_found (suc (suc k)) F A v
       at None e go = none-way (suc k) v l e
       at (Some s) e go =
           let g = giving-is IsGoodInst v s insts good-insts e in
@@ -392,7 +402,8 @@ module _ (t : Flat) (f : Naming) (name : UnitName) (names : Names t f) (below : 
             ∙ h
             ∙ sym ((λ j. first_way way_to p (with_result (r j) (e j) vs)))
         by (Some v) r (Some s) e =
-            let is_in : v.0 < t.values = (let w : StepWithin t.values (Some v) (Some s) = (subst (λ o. StepWithin t.values (Some v) o) e (subst (λ o. StepWithin t.values o (step_in l.inst)) r i.step)) in w.0) in
+            let is_in : v.0 < t.values = (let w : StepWithin t.values (Some v)
+            (Some s) = (subst (λ o. StepWithin t.values (Some v) o) e (subst (λ o. StepWithin t.values o (step_in l.inst)) r i.step)) in w.0) in
             ap (λ o. option_map texts (or_else (steps_if p (option_and_then g (maybe_text f o))) more)) r
             ∙ or-map (steps_if p (g (f.value_name v.0))) more
             ∙ (λ j. or_else ((steps-seen p (g (f.value_name v.0)) ∙ ap (steps_of_if p) (by-names (length (lines_of u.blocks)) v.0 is_in)) j) (h j))
@@ -409,14 +420,16 @@ module _ (t : Flat) (f : Naming) (name : UnitName) (names : Names t f) (below : 
         line-none u (names.formed name) good-lines (record { result = Some m.value; inst = phi_text m.ty m.edges }) m.value h.0 refl (λ k. refl) (length (lines_of u.blocks)) in
         ap (λ o. or_else (steps_if p o) (first_steps g p ls)) none
 
-    blocks-first : (k : ℕ) (bs : List FlatBlock) → Each (IsGood u) (lines_from f k bs) → Each IsGoodInst (insts_in bs) → option_map texts (first_steps g p (lines_from f k bs)) ≡ first_way way_to p (step_results (insts_in bs))
+    blocks-first : (k : ℕ) (bs : List FlatBlock) → Each (IsGood u) (lines_from f k bs) → Each IsGoodInst (insts_in bs)
+        → option_map texts (first_steps g p (lines_from f k bs)) ≡ first_way way_to p (step_results (insts_in bs))
     blocks-first k [] h i = refl
     blocks-first k (b ∷ bs) h i =
         let merge = option_map (merge_text f) b.merge in
         let own = with_merge merge (map (flat_line_text f) b.insts) in
         ap (option_map texts) (first-append g p own (lines_from f (k + 1) bs))
         ∙ or-map (first_steps g p own) (first_steps g p (lines_from f (k + 1) bs))
-        ∙ ap (λ o. or_else (option_map texts o) (option_map texts (first_steps g p (lines_from f (k + 1) bs)))) (merge-first merge (map (flat_line_text f) b.insts) (Each-left (IsGood u) own (lines_from f (k + 1) bs) h))
+        ∙ ap (λ o. or_else (option_map texts o) (option_map texts (first_steps g p (lines_from f (k + 1) bs)))) (merge-first merge (map (flat_line_text f) b.insts)
+        (Each-left (IsGood u) own (lines_from f (k + 1) bs) h))
         ∙ ap (λ o. or_else o (option_map texts (first_steps g p (lines_from f (k + 1) bs)))) (insts-first b.insts (Each-left IsGoodInst b.insts (insts_in bs) i))
         ∙ ap (or_else (first_way way_to p (step_results b.insts))) (blocks-first (k + 1) bs (Each-right (IsGood u) own (lines_from f (k + 1) bs) h) (Each-right IsGoodInst b.insts (insts_in bs) i))
         ∙ sym (ap (first_way way_to p) (results-append b.insts (insts_in bs)) ∙ way-append way_to p (step_results b.insts) (step_results (insts_in bs)))
@@ -468,11 +481,13 @@ module _ (t : Flat) (f : Naming) (name : UnitName) (names : Names t f) (below : 
     first-is p [] h = refl
     first-is p (v ∷ vs) h = at (way_to v.0) refl (first-is p vs h.1)
       where
-        by : (w : Way) → way_to v.0 ≡ Some w → (b : Bool) → first_way way_to p vs ≡ option_and_then steps_to (first_result parts vs p) → or_else (if b then Some w.steps else None) (first_way way_to p vs) ≡ option_and_then steps_to (if b then Some v else first_result parts vs p)
+        by : (w : Way) → way_to v.0 ≡ Some w → (b : Bool) → first_way way_to p vs ≡ option_and_then steps_to (first_result parts vs p)
+            → or_else (if b then Some w.steps else None) (first_way way_to p vs) ≡ option_and_then steps_to (if b then Some v else first_result parts vs p)
         by w e true go = sym (ap (option_map way_steps) e)
         by w e false go = go
 
-        at : (o : Option Way) → way_to v.0 ≡ o → first_way way_to p vs ≡ option_and_then steps_to (first_result parts vs p) → first_way way_to p (v ∷ vs) ≡ option_and_then steps_to (first_result parts (v ∷ vs) p)
+        at : (o : Option Way) → way_to v.0 ≡ o → first_way way_to p vs ≡ option_and_then steps_to (first_result parts vs p)
+            → first_way way_to p (v ∷ vs) ≡ option_and_then steps_to (first_result parts (v ∷ vs) p)
         at None e go =
             ap (λ o. or_else (steps_of_if p o) (first_way way_to p vs)) e
             ∙ go
@@ -483,7 +498,8 @@ module _ (t : Flat) (f : Naming) (name : UnitName) (names : Names t f) (below : 
             ∙ sym (ap (λ o. option_and_then steps_to (if is_the_part p o then Some v else first_result parts vs p)) (part-is v.0 h.0 ∙ ap (option_map way_part) e))
 
     -- the steps on the way to a value are those on the way back from it
-    way-texts : (n v : ℕ) (way : List ValueId) (end : ℕ) (w : Way) → v < t.values → way_found n F A v ≡ Some w → Leads steps v way end → step_at steps end ≡ None → texts_along steps way ≡ w.steps
+    way-texts : (n v : ℕ) (way : List ValueId) (end : ℕ) (w : Way) → v < t.values → way_found n F A v ≡ Some w → StepsLeadAlong steps v way end → step_at steps end ≡ None
+        → texts_along steps way ≡ w.steps
     way-texts zero v way end w l e h z = absurd (none-some w e)
     way-texts (suc n) v [] end w l e h z = at (A v) (sym (ap (λ o. way_by (way_found n F A) o (A v)) none) ∙ e)
       where
@@ -503,7 +519,8 @@ module _ (t : Flat) (f : Naming) (name : UnitName) (names : Names t f) (below : 
         last y (Some q) k = ap (λ (x : Way). x.steps) (sym (same_Some (with_step y h.1.0 q) w k))
 
         at : (o : Option Way) → way_found n F A h.1.0.from.0 ≡ o → option_and_then (extended h.1.0) o ≡ Some w
-            → ((y : Way) → h.1.0.from.0 < t.values → way_found n F A h.1.0.from.0 ≡ Some y → Leads steps h.1.0.from.0 more end → step_at steps end ≡ None → texts_along steps more ≡ y.steps) → texts_along steps (x ∷ more) ≡ w.steps
+            → ((y : Way) → h.1.0.from.0 < t.values → way_found n F A h.1.0.from.0 ≡ Some y → StepsLeadAlong steps h.1.0.from.0 more end → step_at steps end ≡ None → texts_along steps more ≡ y.steps)
+            → texts_along steps (x ∷ more) ≡ w.steps
         at None k i go = absurd (none-some w i)
         at (Some y) k i go =
             let rest = go y (giving-within t.values insts v h.1.0 has_steps.within given) k h.1.2 z in
@@ -518,16 +535,19 @@ module _ (f : Naming) (o : Origin) (is : IsOrigin f o) (name : UnitName) (p : Pa
   all-values : AreValues o.flat.now.values (step_results (insts_in o.flat.now.blocks))
   all-values = subst (AreValues o.flat.now.values) is.table.results (subst (λ n. AreValues n o.parts.now.steps.results.items) is.table.long (results-values o.flat.now o.parts.now is.steps is.table))
 
-  all-steps : map step_text (steps_in (flat_unit name (flat_text f o.flat.now)) p) ≡ unwrap_or (option_and_then (λ (v : ValueId). option_map way_steps (way_to o.flat.now f name is.names is.below is.steps v.0)) first) []
+  all-steps : map step_text (steps_in (flat_unit name (flat_text f o.flat.now)) p)
+      ≡ unwrap_or (option_and_then (λ (v : ValueId). option_map way_steps (way_to o.flat.now f name is.names is.below is.steps v.0)) first) []
   all-steps =
       steps-first o.flat.now f name is.names is.below is.steps p
       ∙ ap (λ x. unwrap_or x []) (first-is o.flat.now f name is.names is.below is.steps o.parts.now is.table p (step_results (insts_in o.flat.now.blocks)) all-values)
-      ∙ ap (λ x. unwrap_or (option_and_then (λ (v : ValueId). option_map way_steps (way_to o.flat.now f name is.names is.below is.steps v.0)) x) []) (sym (is.firsts.first p ∙ ap (λ vs. first_result o.parts.now.parts.items vs p) is.table.results))
+      ∙ ap (λ x. unwrap_or (option_and_then (λ (v : ValueId). option_map way_steps (way_to o.flat.now f name is.names is.below is.steps v.0)) x) []) (sym
+      (is.firsts.first p ∙ ap (λ vs. first_result o.parts.now.parts.items vs p) is.table.results))
 
   pub route-none : first ≡ None → AreStepsOf (steps_in (flat_unit name (flat_text f o.flat.now)) p) []
   route-none e = sym (all-steps ∙ ap (λ x. unwrap_or (option_and_then (λ (v : ValueId). option_map way_steps (way_to o.flat.now f name is.names is.below is.steps v.0)) x) []) e)
 
-  pub route-some : (v : ValueId) (route : List RouteStep) → first ≡ Some v → IsRouteTo o.parts.now.steps.given.items v.0 (map route_text route) → AreStepsOf (steps_in (flat_unit name (flat_text f o.flat.now)) p) route
+  pub route-some : (v : ValueId) (route : List RouteStep) → first ≡ Some v → IsRouteTo o.parts.now.steps.given.items v.0 (map route_text route)
+      → AreStepsOf (steps_in (flat_unit name (flat_text f o.flat.now)) p) route
   route-some v route e r = at (way_to o.flat.now f name is.names is.below is.steps v.0) refl
     where
       is_first : (v.0 < length o.parts.now.parts.items) × (part_at o.parts.now.parts.items v.0 ≡ Some p)
@@ -543,15 +563,18 @@ module _ (f : Naming) (o : Origin) (is : IsOrigin f o) (name : UnitName) (p : Pa
       at None k = absurd (none-some p (sym (ap (option_map way_part) k) ∙ sym (part-is o.flat.now f name is.names is.below is.steps o.parts.now is.table v.0 is_in) ∙ is_first.1))
       at (Some w) k =
           r.2
-          ∙ way-texts o.flat.now f name is.names is.below is.steps o.parts.now is.table (suc (length (lines_of (flat_unit name (flat_text f o.flat.now)).blocks))) v.0 r.0 r.1.end w is_in k r.1.leads r.1.stops
+          ∙ way-texts o.flat.now f name is.names is.below is.steps o.parts.now is.table (suc (length (lines_of (flat_unit name (flat_text f o.flat.now)).blocks))) v.0 r.0 r.1.end w is_in k r.1.leads
+          r.1.stops
           ∙ sym (given ∙ ap (λ x. unwrap_or (option_map way_steps x) []) k)
 
 -- ---- what is answered
 
-pub steps-given : (o : Origin) (p : Part) (v : ValueId) (r : Result (List RouteStep) NoMemory) → first_result o.parts.now.parts.items (kept_for o.firsts p) p ≡ Some v → IfOk r (λ route. IsRouteTo o.parts.now.steps.given.items v.0 (map route_text route))
+pub steps-given : (o : Origin) (p : Part) (v : ValueId) (r : Result (List RouteStep) NoMemory) → first_result o.parts.now.parts.items (kept_for o.firsts p) p ≡ Some v
+    → IfOk r (λ route. IsRouteTo o.parts.now.steps.given.items v.0 (map route_text route))
     → IfOk r (λ route. (f : Naming) (name : UnitName) → IsOrigin f o → AreStepsOf (steps_in (flat_unit name (flat_text f o.flat.now)) p) route)
 steps-given o p v (Ok route) e h = λ f name is. route-some f o is name p v route e h
 steps-given o p v (Err x) e h = tt
 
-pub none-given : (o : Origin) (p : Part) (route : List RouteStep) → first_result o.parts.now.parts.items (kept_for o.firsts p) p ≡ None → route ≡ [] → (f : Naming) (name : UnitName) → IsOrigin f o → AreStepsOf (steps_in (flat_unit name (flat_text f o.flat.now)) p) route
+pub none-given : (o : Origin) (p : Part) (route : List RouteStep) → first_result o.parts.now.parts.items (kept_for o.firsts p) p ≡ None → route ≡ [] → (f : Naming) (name : UnitName) → IsOrigin f o
+    → AreStepsOf (steps_in (flat_unit name (flat_text f o.flat.now)) p) route
 none-given o p route e n f name is = subst (AreStepsOf (steps_in (flat_unit name (flat_text f o.flat.now)) p)) (sym n) (route-none f o is name p e)

@@ -12,8 +12,8 @@ use Rattle.lh_flat.specs.declared.flat.Flat.{Flat}
 use Rattle.lh_parts.specs.declared.step.PartStep.{PartStep}
 use Rattle.lh_parts.specs.declared.table.PartTable.{PartTable}
 use Rattle.lh_parts.specs.Steps.{step_in, if_result, step_giving, insts_in, argument_of, stepped, part_by, part_found, StepWithin, HasSteps, step_at, part_at, IsPartTable}
-use Rattle.lh_parts.specs.Resolving.{Leads}
-use Rattle.lh_parts.proofs.Following.{Leads-push}
+use Rattle.lh_parts.specs.Resolving.{StepsLeadAlong}
+use Rattle.lh_parts.proofs.Following.{StepsLeadAlong-push}
 use Rattle.lh_origin.specs.Firsts.{AreValues, IsWayBack}
 
 -- ---- as many steps as values are enough
@@ -23,11 +23,13 @@ module _ (f : ℕ → Option PartStep) (a : ℕ → Option Part) where
   one-more zero v p h = absurd (none-some p h)
   one-more (suc n) v p h = by (f v) h (λ u q k. one-more n u q k)
     where
-      by : (o : Option PartStep) → part_by (part_found n f a) o (a v) ≡ Some p → ((u : ℕ) (q : Part) → part_found n f a u ≡ Some q → part_found (suc n) f a u ≡ Some q) → part_by (part_found (suc n) f a) o (a v) ≡ Some p
+      by : (o : Option PartStep) → part_by (part_found n f a) o (a v) ≡ Some p → ((u : ℕ) (q : Part) → part_found n f a u ≡ Some q → part_found (suc n) f a u ≡ Some q)
+          → part_by (part_found (suc n) f a) o (a v) ≡ Some p
       by None k g = k
       by (Some s) k g = at (part_found n f a s.from.0) refl k
         where
-          at : (x : Option Part) → part_found n f a s.from.0 ≡ x → option_and_then (λ (q : Part). stepped q s) x ≡ Some p → option_and_then (λ (q : Part). stepped q s) (part_found (suc n) f a s.from.0) ≡ Some p
+          at : (x : Option Part) → part_found n f a s.from.0 ≡ x → option_and_then (λ (q : Part). stepped q s) x ≡ Some p
+              → option_and_then (λ (q : Part). stepped q s) (part_found (suc n) f a s.from.0) ≡ Some p
           at None q l = absurd (none-some p l)
           at (Some x) q l = ap (option_and_then (λ (y : Part). stepped y s)) (g s.from.0 x q) ∙ l
 
@@ -85,7 +87,8 @@ module _ (f : ℕ → Option PartStep) (a : ℕ → Option Part) where
       last false true p q k = omega (arith, k)
       last false false p q k = absurd cc
 
-      before : (x y : Bool) → is_found n m ≡ x → is_found (suc n) m ≡ y → count n m < count (suc n) m → (if x then suc (count n m) else count n m) < (if y then suc (count (suc n) m) else count (suc n) m)
+      before : (x y : Bool) → is_found n m ≡ x → is_found (suc n) m ≡ y → count n m < count (suc n) m
+          → (if x then suc (count n m) else count n m) < (if y then suc (count (suc n) m) else count (suc n) m)
       before true true p q k = omega (arith, k)
       before true false p q k = let z : true ≡ false = sym (found-more n m p) ∙ q in absurd cc
       before false true p q k = omega (arith, k)
@@ -173,7 +176,7 @@ giving-within n (l ∷ more) v s h e = by (step_giving more v) e (λ f. giving-w
 pub record GoingBack (t : Flat) (steps : List (Option PartStep)) (from : ℕ) (way : List ValueId) (v : ℕ) : Type 0 where
   pub is_in : v < t.values
   pub within : AreValues t.values way
-  pub leads : Leads steps from way v
+  pub leads : StepsLeadAlong steps from way v
   pub left : ℕ
   pub together : left + length way ≡ t.values
   pub part : Part
@@ -183,7 +186,8 @@ pub values-push : (n : ℕ) (vs : List ValueId) (v : ValueId) → AreValues n vs
 values-push n [] v h l = (l, tt)
 values-push n (w ∷ vs) v h l = (h.0, values-push n vs v h.1 l)
 
-pub back-none : (t : Flat) (table : PartTable) (v : ℕ) (p : Part) → HasSteps t → IsPartTable t table → v < length table.parts.items → part_at table.parts.items v ≡ Some p → GoingBack t table.steps.given.items v [] v
+pub back-none : (t : Flat) (table : PartTable) (v : ℕ) (p : Part) → HasSteps t → IsPartTable t table → v < length table.parts.items → part_at table.parts.items v ≡ Some p
+    → GoingBack t table.steps.given.items v [] v
 back-none t table v p h i l e =
     let is_in : v < t.values = subst (λ (n : ℕ). v < n) i.long l in
     let k = i.sound v p e in
@@ -197,7 +201,8 @@ back-none t table v p h i l e =
       found = in-few (step_giving (insts_in t.blocks)) (argument_of t.args) t.values (λ u s f. giving-within t.values (insts_in t.blocks) u s h.within f) k.0 v p is_in k.1;
     }
 
-pub back-start : (t : Flat) (table : PartTable) (v : ℕ) (way : List ValueId) → HasSteps t → IsPartTable t table → v < length table.parts.items → IsSome (part_at table.parts.items v) → way ≡ [] → GoingBack t table.steps.given.items v way v
+pub back-start : (t : Flat) (table : PartTable) (v : ℕ) (way : List ValueId) → HasSteps t → IsPartTable t table → v < length table.parts.items → IsSome (part_at table.parts.items v) → way ≡ []
+    → GoingBack t table.steps.given.items v way v
 back-start t table v way h i l k e = at (part_at table.parts.items v) refl k
   where
     at : (o : Option Part) → part_at table.parts.items v ≡ o → IsSome o → GoingBack t table.steps.given.items v way v
@@ -205,7 +210,8 @@ back-start t table v way h i l k e = at (part_at table.parts.items v) refl k
     at (Some p) f z = subst (λ (w : List ValueId). GoingBack t table.steps.given.items v w v) (sym e) (back-none t table v p h i l f)
 
 -- what is found by a step is found from where the step comes
-found-from : (f : ℕ → Option PartStep) (a : ℕ → Option Part) (n v : ℕ) (s : PartStep) (p : Part) → f v ≡ Some s → part_found n f a v ≡ Some p → (k : ℕ) × (q : Part) × (n ≡ suc k) × (part_found k f a s.from.0 ≡ Some q)
+found-from : (f : ℕ → Option PartStep) (a : ℕ → Option Part) (n v : ℕ) (s : PartStep) (p : Part) → f v ≡ Some s → part_found n f a v ≡ Some p → (k : ℕ) × (q : Part) × (n ≡ suc k)
+    × (part_found k f a s.from.0 ≡ Some q)
 found-from f a zero v s p e h = absurd (none-some p h)
 found-from f a (suc n) v s p e h = at (part_found n f a s.from.0) refl (ap (λ o. part_by (part_found n f a) o (a v)) (sym e) ∙ h)
   where
@@ -217,7 +223,8 @@ pub record GoesOn (t : Flat) (steps : List (Option PartStep)) (from : ℕ) (way 
   pub back : GoingBack t steps from now v
   pub fewer : t.values - length now < t.values - length way
 
-pub back-next : (t : Flat) (table : PartTable) (from : ℕ) (way now : List ValueId) (v : ValueId) (s : PartStep) → HasSteps t → IsPartTable t table → GoingBack t table.steps.given.items from way v.0 → step_at table.steps.given.items v.0 ≡ Some s → now ≡ way ++ v ∷ [] → GoesOn t table.steps.given.items from way now s.from.0
+pub back-next : (t : Flat) (table : PartTable) (from : ℕ) (way now : List ValueId) (v : ValueId) (s : PartStep) → HasSteps t → IsPartTable t table → GoingBack t table.steps.given.items from way v.0
+    → step_at table.steps.given.items v.0 ≡ Some s → now ≡ way ++ v ∷ [] → GoesOn t table.steps.given.items from way now s.from.0
 back-next t table from way now v s h i b e n =
     let given : step_giving (insts_in t.blocks) v.0 ≡ Some s = sym (i.steps v.0 b.is_in) ∙ e in
     let k = found-from (step_giving (insts_in t.blocks)) (argument_of t.args) b.left v.0 s b.part given b.found in
@@ -226,7 +233,7 @@ back-next t table from way now v s h i b e n =
       back = record {
         is_in = giving-within t.values (insts_in t.blocks) v.0 s h.within given;
         within = subst (AreValues t.values) (sym n) (values-push t.values way v b.within b.is_in);
-        leads = subst (λ (w : List ValueId). Leads table.steps.given.items from w s.from.0) (sym n) (Leads-push table.steps.given.items from way v s b.leads e);
+        leads = subst (λ (w : List ValueId). StepsLeadAlong table.steps.given.items from w s.from.0) (sym n) (StepsLeadAlong-push table.steps.given.items from way v s b.leads e);
         left = k.0;
         together = omega (arith, b.together, k.2, long);
         part = k.1;
@@ -235,5 +242,6 @@ back-next t table from way now v s h i b e n =
       fewer = omega (arith, b.together, k.2, long);
     }
 
-pub back-end : (t : Flat) (table : PartTable) (from : ℕ) (way : List ValueId) (v : ℕ) → IsPartTable t table → GoingBack t table.steps.given.items from way v → step_at table.steps.given.items v ≡ None → IsWayBack table.steps.given.items from way
+pub back-end : (t : Flat) (table : PartTable) (from : ℕ) (way : List ValueId) (v : ℕ) → IsPartTable t table → GoingBack t table.steps.given.items from way v → step_at table.steps.given.items v ≡ None
+    → IsWayBack table.steps.given.items from way
 back-end t table from way v i b e = record { end = v; within = subst (λ (n : ℕ). AreValues n way) (sym i.long_steps) b.within; leads = b.leads; stops = e }

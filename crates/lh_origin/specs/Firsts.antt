@@ -8,7 +8,7 @@ use Rattle.lh_unit.specs.declared.inst.ValueId.{ValueId}
 use Rattle.lh_term.specs.Same.{same_part}
 use Rattle.lh_term.specs.declared.part.Part.{Part}
 use Rattle.lh_parts.specs.Steps.{step_at, part_at}
-use Rattle.lh_parts.specs.Resolving.{Leads}
+use Rattle.lh_parts.specs.Resolving.{StepsLeadAlong}
 use Rattle.lh_parts.specs.declared.step.PartStep.{PartStep}
 use Rattle.lh_origin.specs.declared.origin.Origin.{Origin}
 
@@ -78,7 +78,7 @@ texts_along steps (v ∷ more) = texts_along steps more ++ step_texts (step_at s
 pub record IsWayBack (steps : List (Option PartStep)) (from : ℕ) (way : List ValueId) : Type 0 where
   pub end : ℕ
   pub within : AreValues (length steps) way
-  pub leads : Leads steps from way end
+  pub leads : StepsLeadAlong steps from way end
   pub stops : step_at steps end ≡ None
 
 -- the operations and types of the steps that lead to a value

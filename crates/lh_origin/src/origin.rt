@@ -188,10 +188,8 @@ fn add(alloc: Global, firsts: &mut Firsts, key: (u32, u32), value: ValueId) -> R
 {
     let mut values = take_out(alloc, firsts, key);
     values.push(value)?;
-    match firsts.insert(key, values) {
-        Ok(_) => Ok(()),
-        Err(_) => Err(NoMemory),
-    }
+    firsts.insert(key, values)?;
+    Ok(())
 }
 
 /// Takes out what is kept at an argument and a lowest bit.

@@ -8,7 +8,7 @@ use Rattle.lh_unit.proofs.Lists.{Same, same, other, same_or, nat_eq-refl, nat_eq
 use Rattle.lh_term.specs.declared.part.Part.{Part}
 use Rattle.lh_parts.specs.declared.step.PartStep.{PartStep}
 use Rattle.lh_parts.specs.Steps.{stepped, part_by, part_found, IsFound, step_at, part_at}
-use Rattle.lh_parts.specs.Resolving.{part_by_step, settled, is_met, is_on, comes_from, InPlace, StepsFrom, CanStep, AreWithin, AreFound, Steppable, Leads, AreNew, GoesBack, IsSettled, Follows}
+use Rattle.lh_parts.specs.Resolving.{part_by_step, settled, is_met, is_on, comes_from, InPlace, StepsFrom, CanStep, AreWithin, AreFound, Steppable, StepsLeadAlong, AreNew, GoesBack, IsSettled, StepsAreFollowed}
 
 -- ---- tests
 
@@ -72,9 +72,10 @@ is_on-push (w ∷ more) x u = ap (λ (b : Bool). nat_eq w.0 u || b) (is_on-push 
     assoc true b c = refl
     assoc false b c = refl
 
-pub Leads-push : (steps : List (Option PartStep)) (v : ℕ) (way : List ValueId) (x : ValueId) (s : PartStep) → Leads steps v way x.0 → step_at steps x.0 ≡ Some s → Leads steps v (way ++ x ∷ []) s.from.0
-Leads-push steps v [] x s h e = (sym h, (s, subst (λ (k : ℕ). step_at steps k ≡ Some s) (sym h) e, refl))
-Leads-push steps v (w ∷ more) x s h e = (h.0, (h.1.0, h.1.1, Leads-push steps h.1.0.from.0 more x s h.1.2 e))
+pub StepsLeadAlong-push : (steps : List (Option PartStep)) (v : ℕ) (way : List ValueId) (x : ValueId) (s : PartStep) → StepsLeadAlong steps v way x.0 → step_at steps x.0 ≡ Some s
+    → StepsLeadAlong steps v (way ++ x ∷ []) s.from.0
+StepsLeadAlong-push steps v [] x s h e = (sym h, (s, subst (λ (k : ℕ). step_at steps k ≡ Some s) (sym h) e, refl))
+StepsLeadAlong-push steps v (w ∷ more) x s h e = (h.0, (h.1.0, h.1.1, StepsLeadAlong-push steps h.1.0.from.0 more x s h.1.2 e))
 
 AreNew-push : (met : List Bool) (way : List ValueId) (x : ValueId) → AreNew met way → is_met met x.0 ≡ false → is_on way x.0 ≡ false → AreNew met (way ++ x ∷ [])
 AreNew-push met [] x h m o = (m, refl, tt)
@@ -86,7 +87,7 @@ AreNew-push met (w ∷ more) x h m o = (
 
 -- a way back that is not at its end
 pub record OnWay (steps : List (Option PartStep)) (old : List Bool) (from : ℕ) (new : List Bool) (way : List ValueId) (at : ℕ) : Type 0 where
-  pub leads : Leads steps from way at
+  pub leads : StepsLeadAlong steps from way at
   pub new_ones : AreNew old way
   pub met : (v : ℕ) → is_met new v ≡ (is_met old v || is_on way v)
   pub long : length new ≡ length old
@@ -115,12 +116,13 @@ met-set met x v l = by (same_or x v)
     by (same e) = subst (λ (k : ℕ). is_met (set met x true) k ≡ (is_met met k || nat_eq x k)) e (get_or-set_same met x true false l ∙ sym (or_second (is_met met x) (nat_eq x x) (nat_eq-refl x)))
     by (other n) = get_or-set_other met x v true false (λ h. n (sym h)) ∙ sym (ap (λ (b : Bool). is_met met v || b) (nat_eq-other x v n) ∙ or_false (is_met met v))
 
-pub OnWay-next : (steps : List (Option PartStep)) (old new : List Bool) (from : ℕ) (way : List ValueId) (x n : ValueId) → x.0 < length new → OnWay steps old from new way x.0 → Some n ≡ comes_from (step_at steps x.0) (is_met new x.0) → OnWay steps old from (set new x.0 true) (way ++ x ∷ []) n.0
+pub OnWay-next : (steps : List (Option PartStep)) (old new : List Bool) (from : ℕ) (way : List ValueId) (x n : ValueId) → x.0 < length new → OnWay steps old from new way x.0
+    → Some n ≡ comes_from (step_at steps x.0) (is_met new x.0) → OnWay steps old from (set new x.0 true) (way ++ x ∷ []) n.0
 OnWay-next steps old new from way x n l w e =
     let i = next-is (step_at steps x.0) (is_met new x.0) n (sym e) in
     let off : (is_met old x.0 || is_on way x.0) ≡ false = sym (w.met x.0) ∙ i.3 in
     record {
-      leads = subst (λ (k : ValueId). Leads steps from (way ++ x ∷ []) k.0) i.2 (Leads-push steps from way x i.0 w.leads i.1);
+      leads = subst (λ (k : ValueId). StepsLeadAlong steps from (way ++ x ∷ []) k.0) i.2 (StepsLeadAlong-push steps from way x i.0 w.leads i.1);
       new_ones = AreNew-push old way x w.new_ones (or_left (is_met old x.0) (is_on way x.0) off) (or_right (is_met old x.0) (is_on way x.0) off);
       met = λ v.
           met-set new x.0 v l
@@ -134,7 +136,8 @@ OnWay-next steps old new from way x n l w e =
     assoc true b c = refl
     assoc false b c = refl
 
-pub GoesBack-end : (steps : List (Option PartStep)) (old new : List Bool) (from : ℕ) (way : List ValueId) (x : ℕ) → OnWay steps old from new way x → None ≡ comes_from (step_at steps x) (is_met new x) → GoesBack steps old from new way
+pub GoesBack-end : (steps : List (Option PartStep)) (old new : List Bool) (from : ℕ) (way : List ValueId) (x : ℕ) → OnWay steps old from new way x → None ≡ comes_from (step_at steps x) (is_met new x)
+    → GoesBack steps old from new way
 GoesBack-end steps old new from way x w e = record {
   end = x;
   leads = w.leads;
@@ -158,21 +161,24 @@ fewer-unmet (true ∷ more) (suc x) l e = fewer-unmet more x (omega arith) e
 fewer-unmet (false ∷ more) (suc x) l e = omega (arith, fewer-unmet more x (omega arith) e)
 
 -- values on a way are in place
-pub within-way : (steps : List (Option PartStep)) (v : ℕ) (way : List ValueId) (x : ℕ) → ((u : ℕ) (s : PartStep) → step_at steps u ≡ Some s → s.from.0 < length steps) → v < length steps → Leads steps v way x → AreWithin (length steps) way
+pub within-way : (steps : List (Option PartStep)) (v : ℕ) (way : List ValueId) (x : ℕ) → ((u : ℕ) (s : PartStep) → step_at steps u ≡ Some s → s.from.0 < length steps) → v < length steps
+    → StepsLeadAlong steps v way x → AreWithin (length steps) way
 within-way steps v [] x f l h = tt
 within-way steps v (w ∷ more) x f l h = (subst (λ (k : ℕ). k < length steps) (sym h.0) l, within-way steps h.1.0.from.0 more x f (f v h.1.0 h.1.1) h.1.2)
 
 -- ---- parts on the way forth
 
 -- a step can be taken from the part that is there
-pub steps-from : (steps : List (Option PartStep)) (base parts : List (Option Part)) (v : ℕ) (s : PartStep) → CanStep steps base → AreFound steps base parts → step_at steps v ≡ Some s → StepsFrom (part_at parts s.from.0) s
+pub steps-from : (steps : List (Option PartStep)) (base parts : List (Option Part)) (v : ℕ) (s : PartStep) → CanStep steps base → AreFound steps base parts → step_at steps v ≡ Some s
+    → StepsFrom (part_at parts s.from.0) s
 steps-from steps base parts v s can found e = by (part_at parts s.from.0) refl
   where
     by : (o : Option Part) → part_at parts s.from.0 ≡ o → StepsFrom o s
     by None h = tt
     by (Some p) h = can v s p e (found s.from.0 p h)
 
-step-found : (steps : List (Option PartStep)) (base parts : List (Option Part)) (w : ℕ) (p : Part) → AreFound steps base parts → (o : Option PartStep) → step_at steps w ≡ o → part_by_step parts o ≡ Some p → IsFound (step_at steps) (part_at base) w p
+step-found : (steps : List (Option PartStep)) (base parts : List (Option Part)) (w : ℕ) (p : Part) → AreFound steps base parts → (o : Option PartStep) → step_at steps w ≡ o
+    → part_by_step parts o ≡ Some p → IsFound (step_at steps) (part_at base) w p
 step-found steps base parts w p f None e h = cc
 step-found steps base parts w p f (Some s) e h = by (part_at parts s.from.0) refl h
   where
@@ -185,7 +191,8 @@ step-found steps base parts w p f (Some s) e h = by (part_at parts s.from.0) ref
               ∙ ap (λ (o : Option Part). option_and_then (λ (q : Part). stepped q s) o) n.1 ∙ k,
         )
 
-pub found-set : (steps : List (Option PartStep)) (base parts : List (Option Part)) (w : ℕ) → w < length parts → AreFound steps base parts → AreFound steps base (set parts w (part_by_step parts (step_at steps w)))
+pub found-set : (steps : List (Option PartStep)) (base parts : List (Option Part)) (w : ℕ) → w < length parts → AreFound steps base parts
+    → AreFound steps base (set parts w (part_by_step parts (step_at steps w)))
 found-set steps base parts w l f v p e = by (same_or w v)
   where
     by : Same w v → IsFound (step_at steps) (part_at base) v p
@@ -196,7 +203,8 @@ found-set steps base parts w l f v p e = by (same_or w v)
     by (other n) = f v p (sym (get_or-set_other parts w v (part_by_step parts (step_at steps w)) None (λ h. n (sym h))) ∙ e)
 
 -- the last one is taken first
-pub settled-last : (steps : List (Option PartStep)) (parts : List (Option Part)) (way : List ValueId) (w : ValueId) → settled steps parts (way ++ w ∷ []) ≡ settled steps (set parts w.0 (part_by_step parts (step_at steps w.0))) way
+pub settled-last : (steps : List (Option PartStep)) (parts : List (Option Part)) (way : List ValueId) (w : ValueId)
+    → settled steps parts (way ++ w ∷ []) ≡ settled steps (set parts w.0 (part_by_step parts (step_at steps w.0))) way
 settled-last steps parts [] w = refl
 settled-last steps parts (x ∷ more) w = ap (λ (rest : List (Option Part)). set rest x.0 (part_by_step rest (step_at steps x.0))) (settled-last steps parts more w)
 
@@ -211,12 +219,18 @@ pub record Forth (steps : List (Option PartStep)) (start parts : List (Option Pa
   pub within : AreWithin (length steps) way
   pub made : settled steps parts way ≡ settled steps start all
 
-pub Forth-next : (steps : List (Option PartStep)) (start parts new : List (Option Part)) (all way more : List ValueId) (w : ValueId) → way ≡ more ++ w ∷ [] → new ≡ set parts w.0 (part_by_step parts (step_at steps w.0)) → Forth steps start parts all way → Forth steps start new all more
+pub Forth-next : (steps : List (Option PartStep)) (start parts new : List (Option Part)) (all way more : List ValueId) (w : ValueId) → way ≡ more ++ w ∷ []
+    → new ≡ set parts w.0 (part_by_step parts (step_at steps w.0)) → Forth steps start parts all way → Forth steps start new all more
 Forth-next steps start parts new all way more w e q f =
     let r = within-last (length steps) more w (subst (AreWithin (length steps)) e f.within) in
     record {
       in_place = record { long = ap length q ∙ length-set parts w.0 (part_by_step parts (step_at steps w.0)) ∙ f.in_place.long; within = f.in_place.within };
-      found = record { base = f.found.base; can_step = f.found.can_step; found = subst (AreFound steps f.found.base) (sym q) (found-set steps f.found.base parts w.0 (subst (λ (k : ℕ). w.0 < k) (sym f.in_place.long) r.1) f.found.found) };
+      found = record {
+        base = f.found.base;
+        can_step = f.found.can_step;
+        found = subst (AreFound steps f.found.base) (sym q)
+            (found-set steps f.found.base parts w.0 (subst (λ (k : ℕ). w.0 < k) (sym f.in_place.long) r.1) f.found.found);
+      };
       within = r.0;
       made =
           ap (λ (x : List (Option Part)). settled steps x more) q
@@ -232,18 +246,20 @@ read-step steps v d s l e = get_or_default steps v None d l ∙ e
 -- ---- after the way back and forth
 
 -- where the step of the first on a way comes from: one after it, or the end
-source-first : (steps : List (Option PartStep)) (v : ℕ) (w : ValueId) (more : List ValueId) (x u : ℕ) (s : PartStep) → Leads steps v (w ∷ more) x → w.0 ≡ u → step_at steps u ≡ Some s → (is_on more s.from.0 ≡ true) ⊎ (s.from.0 ≡ x)
+source-first : (steps : List (Option PartStep)) (v : ℕ) (w : ValueId) (more : List ValueId) (x u : ℕ) (s : PartStep) → StepsLeadAlong steps v (w ∷ more) x → w.0 ≡ u → step_at steps u ≡ Some s
+    → (is_on more s.from.0 ≡ true) ⊎ (s.from.0 ≡ x)
 source-first steps v w more x u s h k e =
     let g : step_at steps u ≡ Some h.1.0 = subst (λ (i : ℕ). step_at steps i ≡ Some h.1.0) (sym h.0 ∙ k) h.1.1 in
     let same_step : h.1.0 ≡ s = cc in
     subst (λ (z : PartStep). (is_on more z.from.0 ≡ true) ⊎ (z.from.0 ≡ x)) same_step (start h.1.0.from.0 more h.1.2)
   where
-    start : (f : ℕ) (rest : List ValueId) → Leads steps f rest x → (is_on rest f ≡ true) ⊎ (f ≡ x)
+    start : (f : ℕ) (rest : List ValueId) → StepsLeadAlong steps f rest x → (is_on rest f ≡ true) ⊎ (f ≡ x)
     start f [] l = inr l
     start f (y ∷ rest) l = inl (or_first (nat_eq y.0 f) (is_on rest f) (subst (λ (i : ℕ). nat_eq y.0 i ≡ true) l.0 (nat_eq-refl y.0)))
 
 -- where the step of one on a way comes from: another on it, or its end
-source : (steps : List (Option PartStep)) (v : ℕ) (way : List ValueId) (x u : ℕ) (s : PartStep) → Leads steps v way x → is_on way u ≡ true → step_at steps u ≡ Some s → (is_on way s.from.0 ≡ true) ⊎ (s.from.0 ≡ x)
+source : (steps : List (Option PartStep)) (v : ℕ) (way : List ValueId) (x u : ℕ) (s : PartStep) → StepsLeadAlong steps v way x → is_on way u ≡ true → step_at steps u ≡ Some s
+    → (is_on way s.from.0 ≡ true) ⊎ (s.from.0 ≡ x)
 source steps v [] x u s h o e = absurd (not_both false o refl)
 source steps v (w ∷ more) x u s h o e = by (λ k. source steps h.1.0.from.0 more x u s h.1.2 k e) (either (nat_eq w.0 u) (is_on more u) o)
   where
@@ -263,7 +279,7 @@ on-unmet met (w ∷ more) u h o = by (λ k. on-unmet met more u h.2 k) (either (
     by f (inl k) = subst (λ (i : ℕ). is_met met i ≡ false) (nat_eq-is w.0 u k) h.0
     by f (inr k) = f k
 
-on-step : (steps : List (Option PartStep)) (v : ℕ) (way : List ValueId) (x u : ℕ) → Leads steps v way x → is_on way u ≡ true → (s : PartStep) × (step_at steps u ≡ Some s)
+on-step : (steps : List (Option PartStep)) (v : ℕ) (way : List ValueId) (x u : ℕ) → StepsLeadAlong steps v way x → is_on way u ≡ true → (s : PartStep) × (step_at steps u ≡ Some s)
 on-step steps v [] x u h o = absurd (not_both false o refl)
 on-step steps v (w ∷ more) x u h o = by (λ k. on-step steps h.1.0.from.0 more x u h.1.2 k) (either (nat_eq w.0 u) (is_on more u) o)
   where
@@ -277,7 +293,8 @@ length-settled steps ps (w ∷ more) = length-set (settled steps ps more) w.0 (p
 
 found-settled : (steps : List (Option PartStep)) (base ps : List (Option Part)) (way : List ValueId) → AreWithin (length ps) way → AreFound steps base ps → AreFound steps base (settled steps ps way)
 found-settled steps base ps [] l f = f
-found-settled steps base ps (w ∷ more) l f = found-set steps base (settled steps ps more) w.0 (subst (λ (k : ℕ). w.0 < k) (sym (length-settled steps ps more)) l.0) (found-settled steps base ps more l.1 f)
+found-settled steps base ps (w ∷ more) l f = found-set steps base (settled steps ps more) w.0 (subst (λ (k : ℕ). w.0 < k) (sym (length-settled steps ps more)) l.0)
+    (found-settled steps base ps more l.1 f)
 
 settled-off : (steps : List (Option PartStep)) (ps : List (Option Part)) (way : List ValueId) (u : ℕ) → is_on way u ≡ false → part_at (settled steps ps way) u ≡ part_at ps u
 settled-off steps ps [] u o = refl
@@ -294,7 +311,8 @@ Has : List (Option PartStep) → List (Option Part) → ValueId → Type 0
 Has steps ps w = part_at ps w.0 ≡ part_by_step ps (step_at steps w.0)
 
 -- a way to an end that is not on it
-settled-each : (steps : List (Option PartStep)) (met : List Bool) (ps : List (Option Part)) (v : ℕ) (way : List ValueId) (x : ℕ) → Leads steps v way x → AreNew met way → AreWithin (length ps) way → is_on way x ≡ false → Each (Has steps (settled steps ps way)) way
+settled-each : (steps : List (Option PartStep)) (met : List Bool) (ps : List (Option Part)) (v : ℕ) (way : List ValueId) (x : ℕ) → StepsLeadAlong steps v way x → AreNew met way
+    → AreWithin (length ps) way → is_on way x ≡ false → Each (Has steps (settled steps ps way)) way
 unfolding Has
 settled-each steps met ps v [] x h n l o = tt
 settled-each steps met ps v (w ∷ more) x h n l o =
@@ -317,7 +335,9 @@ settled-each steps met ps v (w ∷ more) x h n l o =
     not-w rest p s (inl k) = get_or-set_other rest w.0 s.from.0 p None (λ e. not_both (is_on more s.from.0) k (subst (λ (i : ℕ). is_on more i ≡ false) (sym e) n.1))
     not-w rest p s (inr k) = get_or-set_other rest w.0 s.from.0 p None (λ e. apart w.0 x (or_left (nat_eq w.0 x) (is_on more x) o) (sym k ∙ e))
 
-    more-each : (rest : List (Option Part)) → Each (Has steps rest) more → ((u : ℕ) → is_on (w ∷ more) u ≡ true → part_by_step (set rest w.0 (part_by_step rest (step_at steps w.0))) (step_at steps u) ≡ part_by_step rest (step_at steps u)) → Each (Has steps (set rest w.0 (part_by_step rest (step_at steps w.0)))) more
+    more-each : (rest : List (Option Part)) → Each (Has steps rest) more
+        → ((u : ℕ) → is_on (w ∷ more) u ≡ true → part_by_step (set rest w.0 (part_by_step rest (step_at steps w.0))) (step_at steps u) ≡ part_by_step rest (step_at steps u))
+        → Each (Has steps (set rest w.0 (part_by_step rest (step_at steps w.0)))) more
     more-each rest h f =
         each-map (Has steps rest) (Has steps (set rest w.0 (part_by_step rest (step_at steps w.0)))) more
         (λ u on p.
@@ -326,7 +346,8 @@ settled-each steps met ps v (w ∷ more) x h n l o =
         h
 
 -- a way round in a circle, on which nothing is a part
-settled-none : (steps : List (Option PartStep)) (ps : List (Option Part)) (way : List ValueId) → Each (λ (w : ValueId). (part_at ps w.0 ≡ None) × (part_by_step ps (step_at steps w.0) ≡ None)) way → settled steps ps way ≡ ps
+settled-none : (steps : List (Option PartStep)) (ps : List (Option Part)) (way : List ValueId) → Each (λ (w : ValueId). (part_at ps w.0 ≡ None) × (part_by_step ps (step_at steps w.0) ≡ None)) way
+    → settled steps ps way ≡ ps
 settled-none steps ps [] h = refl
 settled-none steps ps (w ∷ more) h =
     ap (λ (rest : List (Option Part)). set rest w.0 (part_by_step rest (step_at steps w.0))) (settled-none steps ps more h.1)
@@ -343,13 +364,15 @@ record Back (steps : List (Option PartStep)) (base ps : List (Option Part)) (ms 
   back : GoesBack steps ms v ns way
   within : AreWithin (length ps) way
 
-on-none : (steps : List (Option PartStep)) (base ps : List (Option Part)) (ms ns : List Bool) (v : ℕ) (way : List ValueId) → Back steps base ps ms ns v way → (u : ℕ) → is_on way u ≡ true → part_at ps u ≡ None
+on-none : (steps : List (Option PartStep)) (base ps : List (Option Part)) (ms ns : List Bool) (v : ℕ) (way : List ValueId) → Back steps base ps ms ns v way → (u : ℕ) → is_on way u ≡ true
+    → part_at ps u ≡ None
 on-none steps base ps ms ns v way b u o =
     let s = on-step steps v way b.back.end u b.back.leads o in
     b.settled_so_far.unmet u s.0 s.1 (on-unmet ms way u b.back.new_ones o)
 
 -- on a circle no part is made
-circle : (steps : List (Option PartStep)) (base ps : List (Option Part)) (ms ns : List Bool) (v : ℕ) (way : List ValueId) (b : Back steps base ps ms ns v way) → is_on way b.back.end ≡ true → settled steps ps way ≡ ps
+circle : (steps : List (Option PartStep)) (base ps : List (Option Part)) (ms ns : List Bool) (v : ℕ) (way : List ValueId) (b : Back steps base ps ms ns v way) → is_on way b.back.end ≡ true
+    → settled steps ps way ≡ ps
 circle steps base ps ms ns v way b c =
     settled-none steps ps way (each-of (λ (w : ValueId). (part_at ps w.0 ≡ None) × (part_by_step ps (step_at steps w.0) ≡ None)) way
     (λ u o. (on-none steps base ps ms ns v way b u.0 o, by u o (on-step steps v way b.back.end u.0 b.back.leads o))))
@@ -371,7 +394,8 @@ met-off steps v ms ns way u b h = by (is_on way u) refl h
     by true e (inl k) = let s = on-step steps v way b.end u b.leads e in let q : step_at steps u ≡ Some s.0 = s.1 in cc
 
 -- each met value has the part to which its step leads
-stepped-after : (steps : List (Option PartStep)) (base ps : List (Option Part)) (ms ns : List Bool) (v : ℕ) (way : List ValueId) → Back steps base ps ms ns v way → (u : ℕ) (s : PartStep) → step_at steps u ≡ Some s → is_met ns u ≡ true → part_at (settled steps ps way) u ≡ part_by_step (settled steps ps way) (Some s)
+stepped-after : (steps : List (Option PartStep)) (base ps : List (Option Part)) (ms ns : List Bool) (v : ℕ) (way : List ValueId) → Back steps base ps ms ns v way → (u : ℕ) (s : PartStep)
+    → step_at steps u ≡ Some s → is_met ns u ≡ true → part_at (settled steps ps way) u ≡ part_by_step (settled steps ps way) (Some s)
 unfolding Has
 stepped-after steps base ps ms ns v way b u s e m = by (is_on way b.back.end) refl (is_on way u) refl
   where
@@ -382,7 +406,8 @@ stepped-after steps base ps ms ns v way b u s e m = by (is_on way b.back.end) re
     old : is_on way u ≡ false → part_at (settled steps ps way) u ≡ part_by_step (settled steps ps way) (Some s)
     old o =
         settled-off steps ps way u o ∙ b.settled_so_far.stepped u s e (before o)
-        ∙ ap (λ (x : Option Part). option_and_then (λ (p : Part). stepped p s) x) (sym (settled-off steps ps way s.from.0 (met-off steps v ms ns way s.from.0 b.back (b.settled_so_far.closed u s e (before o)))))
+        ∙ ap (λ (x : Option Part). option_and_then (λ (p : Part). stepped p s) x) (sym
+        (settled-off steps ps way s.from.0 (met-off steps v ms ns way s.from.0 b.back (b.settled_so_far.closed u s e (before o)))))
 
     round : is_on way b.back.end ≡ true → is_on way u ≡ true → is_on way s.from.0 ≡ true
     round c o = elim (source steps v way b.back.end u s b.back.leads o e) [ inl k ↦ k | inr k ↦ subst (λ (i : ℕ). is_on way i ≡ true) (sym k) c ]
@@ -390,7 +415,8 @@ stepped-after steps base ps ms ns v way b u s e m = by (is_on way b.back.end) re
     by : (c : Bool) → is_on way b.back.end ≡ c → (o : Bool) → is_on way u ≡ o → part_at (settled steps ps way) u ≡ part_by_step (settled steps ps way) (Some s)
     by c ce false oe = old oe
     by false ce true oe =
-        each-on (λ (i : ℕ). part_at (settled steps ps way) i ≡ part_by_step (settled steps ps way) (step_at steps i)) way u (settled-each steps ms ps v way b.back.end b.back.leads b.back.new_ones b.within ce) oe
+        each-on (λ (i : ℕ). part_at (settled steps ps way) i ≡ part_by_step (settled steps ps way) (step_at steps i)) way u
+        (settled-each steps ms ps v way b.back.end b.back.leads b.back.new_ones b.within ce) oe
         ∙ ap (part_by_step (settled steps ps way)) e
     by true ce true oe =
         let same : settled steps ps way ≡ ps = circle steps base ps ms ns v way b ce in
@@ -398,7 +424,8 @@ stepped-after steps base ps ms ns v way b u s e m = by (is_on way b.back.end) re
         (on-none steps base ps ms ns v way b u oe ∙ ap (λ (x : Option Part). option_and_then (λ (p : Part). stepped p s) x) (sym (on-none steps base ps ms ns v way b s.from.0 (round ce oe))))
 
 -- Following the steps of a value keeps all right.
-pub follows : (steps : List (Option PartStep)) (ps : List (Option Part)) (ms ns : List Bool) (v : ℕ) (way : List ValueId) → AreWithin (length ps) way → GoesBack steps ms v ns way → Follows steps v ps (settled steps ps way) ms ns
+pub follows : (steps : List (Option PartStep)) (ps : List (Option Part)) (ms ns : List Bool) (v : ℕ) (way : List ValueId) → AreWithin (length ps) way → GoesBack steps ms v ns way
+    → StepsAreFollowed steps v ps (settled steps ps way) ms ns
 follows steps ps ms ns v way l g base h =
     let b : Back steps base ps ms ns v way = record { settled_so_far = h; back = g; within = l } in (
       record {
@@ -430,7 +457,7 @@ follows steps ps ms ns v way l g base h =
       | inr o ↦ subst (λ (i : ℕ). (step_at steps i ≡ None) ⊎ (is_met ns i ≡ true)) (sym o) g.stops
     ]
 
-    first-met : (w : List ValueId) → Leads steps v w g.end → ((u : ℕ) → is_on w u ≡ true → is_met ns u ≡ true) → (step_at steps v ≡ None) ⊎ (is_met ns v ≡ true)
+    first-met : (w : List ValueId) → StepsLeadAlong steps v w g.end → ((u : ℕ) → is_on w u ≡ true → is_met ns u ≡ true) → (step_at steps v ≡ None) ⊎ (is_met ns v ≡ true)
     first-met [] k f = subst (λ (i : ℕ). (step_at steps i ≡ None) ⊎ (is_met ns i ≡ true)) (sym k) g.stops
     first-met (x ∷ more) k f = inr (f v (or_first (nat_eq x.0 v) (is_on more v) (subst (λ (i : ℕ). nat_eq x.0 i ≡ true) k.0 (nat_eq-refl x.0))))
 
@@ -440,7 +467,9 @@ pub record Walking (steps : List (Option PartStep)) (old : List Bool) (from : �
   pub is_in : next < length steps
   pub on_way : OnWay steps old from new way next
 
-pub Walking-next : (steps : List (Option PartStep)) (old : List Bool) (from : ℕ) (now : List (Option PartStep)) (was : List Bool) (way : List ValueId) (x n : ValueId) (new : List Bool) (longer : List ValueId) → ((u : ℕ) (s : PartStep) → step_at steps u ≡ Some s → s.from.0 < length steps) → length old ≡ length steps → now ≡ steps → x.0 < length steps → OnWay steps old from was way x.0 → Some n ≡ comes_from (step_at now x.0) (is_met was x.0) → new ≡ set was x.0 true → longer ≡ way ++ x ∷ [] → Walking steps old from was new longer n.0
+pub Walking-next : (steps : List (Option PartStep)) (old : List Bool) (from : ℕ) (now : List (Option PartStep)) (was : List Bool) (way : List ValueId) (x n : ValueId) (new : List Bool)
+    (longer : List ValueId) → ((u : ℕ) (s : PartStep) → step_at steps u ≡ Some s → s.from.0 < length steps) → length old ≡ length steps → now ≡ steps → x.0 < length steps
+    → OnWay steps old from was way x.0 → Some n ≡ comes_from (step_at now x.0) (is_met was x.0) → new ≡ set was x.0 true → longer ≡ way ++ x ∷ [] → Walking steps old from was new longer n.0
 Walking-next steps old from now was way x n new longer within long at l w e p q =
     let f : Some n ≡ comes_from (step_at steps x.0) (is_met was x.0) = e ∙ ap (λ (ss : List (Option PartStep)). comes_from (step_at ss x.0) (is_met was x.0)) at in
     let i = next-is (step_at steps x.0) (is_met was x.0) n (sym f) in
@@ -448,7 +477,8 @@ Walking-next steps old from now was way x n new longer within long at l w e p q 
     record {
       fewer = subst (λ (m : List Bool). unmet_count m < unmet_count was) (sym p) (fewer-unmet was x.0 in_was i.3);
       is_in = subst (λ (k : ValueId). k.0 < length steps) i.2 (within x.0 i.0 i.1);
-      on_way = subst (λ (m : List Bool). OnWay steps old from m longer n.0) (sym p) (subst (λ (o : List ValueId). OnWay steps old from (set was x.0 true) o n.0) (sym q) (OnWay-next steps old was from way x n in_was w f));
+      on_way = subst (λ (m : List Bool). OnWay steps old from m longer n.0) (sym p)
+          (subst (λ (o : List ValueId). OnWay steps old from (set was x.0 true) o n.0) (sym q) (OnWay-next steps old was from way x n in_was w f));
     }
 
 -- ---- the steps of one value
@@ -456,11 +486,13 @@ Walking-next steps old from now was way x n new longer within long at l w e p q 
 pub follow-found : (ss ts : List (Option PartStep)) (ps qs : List (Option Part)) → ts ≡ ss → qs ≡ ps → Steppable ss ps → Steppable ts qs
 follow-found ss ts ps qs e f s = subst (λ (x : List (Option PartStep)). Steppable x qs) (sym e) (subst (Steppable ss) (sym f) s)
 
-pub follow-within : (ss ts : List (Option PartStep)) (v : ℕ) (ps : List (Option Part)) (ms ns : List Bool) (way : List ValueId) → ts ≡ ss → InPlace ss ps → v < length ss → GoesBack ss ms v ns way → AreWithin (length ts) way
+pub follow-within : (ss ts : List (Option PartStep)) (v : ℕ) (ps : List (Option Part)) (ms ns : List Bool) (way : List ValueId) → ts ≡ ss → InPlace ss ps → v < length ss → GoesBack ss ms v ns way
+    → AreWithin (length ts) way
 follow-within ss ts v ps ms ns way e p l g = subst (λ (x : List (Option PartStep)). AreWithin (length x) way) (sym e) (within-way ss v way g.end p.within l g.leads)
 
-pub follow-follows : (ss ts : List (Option PartStep)) (v : ℕ) (ps qs rs : List (Option Part)) (ms ns os : List Bool) (way : List ValueId) → ts ≡ ss → InPlace ss ps → v < length ss → GoesBack ss ms v ns way → qs ≡ ps → rs ≡ settled ts qs way → os ≡ ns → Follows ss v ps rs ms os
+pub follow-follows : (ss ts : List (Option PartStep)) (v : ℕ) (ps qs rs : List (Option Part)) (ms ns os : List Bool) (way : List ValueId) → ts ≡ ss → InPlace ss ps → v < length ss
+    → GoesBack ss ms v ns way → qs ≡ ps → rs ≡ settled ts qs way → os ≡ ns → StepsAreFollowed ss v ps rs ms os
 follow-follows ss ts v ps qs rs ms ns os way e p l g f r o =
-    subst (λ (x : List Bool). Follows ss v ps rs ms x) (sym o)
-    (subst (λ (x : List (Option Part)). Follows ss v ps x ms ns) (sym (r ∙ ap (λ (x : List (Option PartStep)). settled x qs way) e ∙ ap (λ (x : List (Option Part)). settled ss x way) f))
+    subst (λ (x : List Bool). StepsAreFollowed ss v ps rs ms x) (sym o)
+    (subst (λ (x : List (Option Part)). StepsAreFollowed ss v ps x ms ns) (sym (r ∙ ap (λ (x : List (Option PartStep)). settled x qs way) e ∙ ap (λ (x : List (Option Part)). settled ss x way) f))
     (follows ss ps ms ns v way (subst (λ (k : ℕ). AreWithin k way) (sym p.long) (within-way ss v way g.end p.within l g.leads)) g))

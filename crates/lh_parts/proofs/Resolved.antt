@@ -19,7 +19,7 @@ use Rattle.lh_flat.specs.declared.flat.Flat.{Flat}
 use Rattle.lh_parts.specs.declared.step.PartStep.{PartStep}
 use Rattle.lh_parts.specs.declared.table.PartTable.{PartTable}
 use Rattle.lh_parts.specs.Steps.{step_in, if_result, step_giving, step_results, insts_in, argument_of, range_by, part_within, stepped, part_by, part_found, IsFound, type_carried, StepWithin, HasSteps, step_at, part_at, IsPartTable}
-use Rattle.lh_parts.specs.Resolving.{with_steps, with_args, part_by_step, is_met, InPlace, StepsCarry, PartsCarry, CanStep, AreFound, AreSteps, Steppable, IsResolved, IsSettled, Follows}
+use Rattle.lh_parts.specs.Resolving.{with_steps, with_args, part_by_step, is_met, InPlace, StepsCarry, PartsCarry, CanStep, AreFound, AreSteps, Steppable, IsResolved, IsSettled, StepsAreFollowed}
 use Rattle.lh_parts.proofs.Tables.{or-none, at-none, length-steps, steps-with, length-args, args-with}
 
 -- ---- the values so far
@@ -58,7 +58,8 @@ SoFar-none steps base n e i a = record {
     never : (v : ℕ) → is_met (replicate n false) v ≡ true → ⊥
     never v m = let f : get_or (replicate n false) v false ≡ false = at-false n v in cc
 
-pub SoFar-next : (steps : List (Option PartStep)) (base ps qs : List (Option Part)) (ms ns : List Bool) (k : ℕ) → Follows steps k ps qs ms ns → SoFar steps base ps ms k → SoFar steps base qs ns (k + 1)
+pub SoFar-next : (steps : List (Option PartStep)) (base ps qs : List (Option Part)) (ms ns : List Bool) (k : ℕ) → StepsAreFollowed steps k ps qs ms ns → SoFar steps base ps ms k
+    → SoFar steps base qs ns (k + 1)
 SoFar-next steps base ps qs ms ns k f s = let r = f base s.settled in record { settled = r.0; done = λ v l. by v l (same_or k v) }
   where
     by : (v : ℕ) → v < k + 1 → Same k v → (step_at steps v ≡ None) ⊎ (is_met ns v ≡ true)
@@ -83,8 +84,8 @@ SoFar-in_place steps now base ps ms k e i s = subst (λ (x : List (Option PartSt
 pub SoFar-steppable : (steps now : List (Option PartStep)) (base ps : List (Option Part)) (ms : List Bool) (k : ℕ) → now ≡ steps → CanStep steps base → SoFar steps base ps ms k → Steppable now ps
 SoFar-steppable steps now base ps ms k e c s = subst (λ (x : List (Option PartStep)). Steppable x ps) (sym e) (record { base = base; can_step = c; found = s.settled.found })
 
-pub follows-in : (steps now : List (Option PartStep)) (v : ℕ) (ps qs : List (Option Part)) (ms ns : List Bool) → now ≡ steps → Follows now v ps qs ms ns → Follows steps v ps qs ms ns
-follows-in steps now v ps qs ms ns e f = subst (λ (x : List (Option PartStep)). Follows x v ps qs ms ns) e f
+pub follows-in : (steps now : List (Option PartStep)) (v : ℕ) (ps qs : List (Option Part)) (ms ns : List Bool) → now ≡ steps → StepsAreFollowed now v ps qs ms ns → StepsAreFollowed steps v ps qs ms ns
+follows-in steps now v ps qs ms ns e f = subst (λ (x : List (Option PartStep)). StepsAreFollowed x v ps qs ms ns) e f
 
 -- ---- a step that is taken has room
 
@@ -104,7 +105,9 @@ pub record Typed (steps : List (Option PartStep)) (base : List (Option Part)) : 
   pub steps_data : StepsCarry steps
   pub args_data : PartsCarry base
   pub apart : AreSteps steps base
-  pub fit : (v : ℕ) (s : PartStep) (whole : TypeTree) (r : Range) → step_at steps v ≡ Some s → or_else (option_map (λ (x : PartStep). x.ty) (step_at steps s.from.0)) (option_map (λ (x : Part). x.ty) (part_at base s.from.0)) ≡ Some whole → range_by whole s.op ≡ Some r → r.len ≡ bit_count s.ty
+  pub fit : (v : ℕ) (s : PartStep) (whole : TypeTree) (r : Range) → step_at steps v ≡ Some s
+      → or_else (option_map (λ (x : PartStep). x.ty) (step_at steps s.from.0)) (option_map (λ (x : Part). x.ty) (part_at base s.from.0)) ≡ Some whole → range_by whole s.op ≡ Some r
+      → r.len ≡ bit_count s.ty
 
 record Room (steps : List (Option PartStep)) (base : List (Option Part)) (v : ℕ) (p : Part) : Type 0 where
   is_data : IsData p.ty
@@ -122,7 +125,8 @@ room-base steps base t v p e f = let a = t.args_data v p f in record {
 room-arith : (a b c d e n : ℕ) → a + b ≤ n → c + d ≤ b → d ≡ e → (a + c) + e ≤ n
 room-arith a b c d e n p q r = omega arith
 
-room-step : (steps : List (Option PartStep)) (base : List (Option Part)) → Typed steps base → (v : ℕ) (s : PartStep) (q p : Part) → step_at steps v ≡ Some s → Room steps base s.from.0 q → stepped q s ≡ Some p → Room steps base v p
+room-step : (steps : List (Option PartStep)) (base : List (Option Part)) → Typed steps base → (v : ℕ) (s : PartStep) (q p : Part) → step_at steps v ≡ Some s → Room steps base s.from.0 q
+    → stepped q s ≡ Some p → Room steps base v p
 unfolding type_at
 room-step steps base t v s q p e m f = by (range_by q.ty s.op) refl f
   where
@@ -140,7 +144,8 @@ room-found : (steps : List (Option PartStep)) (base : List (Option Part)) → Ty
 room-found steps base t zero v p e = cc
 room-found steps base t (suc n) v p e = by (step_at steps v) refl e (λ u q f. room-found steps base t n u q f)
   where
-    by : (o : Option PartStep) → step_at steps v ≡ o → part_by (part_found n (step_at steps) (part_at base)) o (part_at base v) ≡ Some p → ((u : ℕ) (q : Part) → part_found n (step_at steps) (part_at base) u ≡ Some q → Room steps base u q) → Room steps base v p
+    by : (o : Option PartStep) → step_at steps v ≡ o → part_by (part_found n (step_at steps) (part_at base)) o (part_at base v) ≡ Some p
+        → ((u : ℕ) (q : Part) → part_found n (step_at steps) (part_at base) u ≡ Some q → Room steps base u q) → Room steps base v p
     by None f g h = room-base steps base t v p f g
     by (Some s) f g h = at (part_found n (step_at steps) (part_at base) s.from.0) refl g
       where
@@ -242,7 +247,8 @@ found-same (suc n) f g a b v h k =
     ∙ by-same (part_found n f a) (part_found n g b) (g v) (b v) (λ u. found-same n f g a b u h k)
 
 -- a part that is found is in the table
-whole-found : (t : Flat) (steps : List (Option PartStep)) (base ps : List (Option Part)) → Made t steps base → IsResolved steps base ps → (n v : ℕ) (p : Part) → v < t.values → part_found n (step_giving (insts_in t.blocks)) (argument_of t.args) v ≡ Some p → part_at ps v ≡ Some p
+whole-found : (t : Flat) (steps : List (Option PartStep)) (base ps : List (Option Part)) → Made t steps base → IsResolved steps base ps → (n v : ℕ) (p : Part) → v < t.values
+    → part_found n (step_giving (insts_in t.blocks)) (argument_of t.args) v ≡ Some p → part_at ps v ≡ Some p
 whole-found t steps base ps m r zero v p l e = cc
 whole-found t steps base ps m r (suc n) v p l e = by (step_giving (insts_in t.blocks) v) refl e (λ u q k f. whole-found t steps base ps m r n u q k f)
   where
@@ -258,12 +264,17 @@ whole-found t steps base ps m r (suc n) v p l e = by (step_giving (insts_in t.bl
             ∙ ap (option_and_then (λ (x : Part). stepped x s)) (h s.from.0 q (giving-within t.values (insts_in t.blocks) v s m.text.within f) j)
             ∙ k
 
-pub made-table : (t : Flat) (table : PartTable) (base : List (Option Part)) → Made t table.steps.given.items base → table.steps.results.items ≡ step_results (insts_in t.blocks) → IsResolved table.steps.given.items base table.parts.items → IsPartTable t table
+pub made-table : (t : Flat) (table : PartTable) (base : List (Option Part)) → Made t table.steps.given.items base → table.steps.results.items ≡ step_results (insts_in t.blocks)
+    → IsResolved table.steps.given.items base table.parts.items → IsPartTable t table
 made-table t table base m e r = record {
   long = r.long ∙ made-long t table.steps.given.items base m;
   long_steps = made-long t table.steps.given.items base m;
   steps = λ v l. made-step t table.steps.given.items base m v;
   results = e;
-  sound = λ v p f. let g = r.found v p f in (g.0, sym (found-same g.0 (step_at table.steps.given.items) (step_giving (insts_in t.blocks)) (part_at base) (argument_of t.args) v (made-step t table.steps.given.items base m) (made-arg t table.steps.given.items base m)) ∙ g.1);
+  sound = λ v p f. let g = r.found v p f in (
+    g.0,
+    sym (found-same g.0 (step_at table.steps.given.items) (step_giving (insts_in t.blocks)) (part_at base) (argument_of t.args) v (made-step t table.steps.given.items base m)
+        (made-arg t table.steps.given.items base m)) ∙ g.1,
+  );
   whole = λ v p l f. whole-found t table.steps.given.items base table.parts.items m r f.0 v p l f.1;
 }

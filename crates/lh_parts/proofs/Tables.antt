@@ -48,7 +48,8 @@ length-step ss None x = refl
 length-step ss (Some v) None = refl
 length-step ss (Some v) (Some s) = length-set ss v.0 (Some s)
 
-step-with : (n : ℕ) (ss : List (Option PartStep)) (r : Option ValueId) (x : Option PartStep) (v : ℕ) → length ss ≡ n → StepWithin n r x → step_at (with_step ss r x) v ≡ or_else (if_result v r x) (step_at ss v)
+step-with : (n : ℕ) (ss : List (Option PartStep)) (r : Option ValueId) (x : Option PartStep) (v : ℕ) → length ss ≡ n → StepWithin n r x
+    → step_at (with_step ss r x) v ≡ or_else (if_result v r x) (step_at ss v)
 step-with n ss None x v e h = refl
 step-with n ss (Some w) None v e h = if-none (nat_eq w.0 v) (step_at ss v)
 step-with n ss (Some w) (Some s) v e h = at-set ss w.0 v s (subst (λ (k : ℕ). w.0 < k) (sym e) h.0)
@@ -57,7 +58,8 @@ pub length-steps : (ss : List (Option PartStep)) (ls : List FlatInst) → length
 length-steps ss [] = refl
 length-steps ss (l ∷ more) = length-steps (with_step ss l.result (step_in l.inst)) more ∙ length-step ss l.result (step_in l.inst)
 
-pub steps-with : (n : ℕ) (ss : List (Option PartStep)) (ls : List FlatInst) (v : ℕ) → length ss ≡ n → Each (λ (l : FlatInst). StepWithin n l.result (step_in l.inst)) ls → step_at (with_steps ss ls) v ≡ or_else (step_giving ls v) (step_at ss v)
+pub steps-with : (n : ℕ) (ss : List (Option PartStep)) (ls : List FlatInst) (v : ℕ) → length ss ≡ n → Each (λ (l : FlatInst). StepWithin n l.result (step_in l.inst)) ls
+    → step_at (with_steps ss ls) v ≡ or_else (step_giving ls v) (step_at ss v)
 steps-with n ss [] v e h = refl
 steps-with n ss (l ∷ more) v e h =
     steps-with n (with_step ss l.result (step_in l.inst)) more v (length-step ss l.result (step_in l.inst) ∙ e) h.1
@@ -79,7 +81,8 @@ results-append (l ∷ more) ys = ap (with_result l.result (step_in l.inst)) (res
 
 -- the results so far, and one more line
 pub results-line : (before : List ValueId) (l : FlatInst) (more : List FlatInst) → (before ++ with_result l.result (step_in l.inst) []) ++ step_results more ≡ before ++ step_results (l ∷ more)
-results-line before l more = append_assoc before (with_result l.result (step_in l.inst) []) (step_results more) ∙ ap (λ (r : List ValueId). before ++ r) (sym (result-append l.result (step_in l.inst) [] (step_results more)))
+results-line before l more = append_assoc before (with_result l.result (step_in l.inst) []) (step_results more)
+    ∙ ap (λ (r : List ValueId). before ++ r) (sym (result-append l.result (step_in l.inst) [] (step_results more)))
 
 -- the results so far, and one more block
 pub results-block : (before : List ValueId) (b : FlatBlock) (more : List FlatBlock) → (before ++ step_results b.insts) ++ step_results (insts_in more) ≡ before ++ step_results (insts_in (b ∷ more))
@@ -99,7 +102,8 @@ pub length-args : (ps : List (Option Part)) (k : ℕ) (args : List Arg) → leng
 length-args ps k [] = refl
 length-args ps k (a ∷ more) = length-args (with_part ps a.value.0 (option_map (whole_of k) (carried a.ty))) (k + 1) more ∙ length-part ps a.value.0 (option_map (whole_of k) (carried a.ty))
 
-pub args-with : (n : ℕ) (ps : List (Option Part)) (k : ℕ) (args : List Arg) (v : ℕ) → length ps ≡ n → Each (λ (a : Arg). a.value.0 < n) args → part_at (with_args ps k args) v ≡ or_else (argument_from k args v) (part_at ps v)
+pub args-with : (n : ℕ) (ps : List (Option Part)) (k : ℕ) (args : List Arg) (v : ℕ) → length ps ≡ n → Each (λ (a : Arg). a.value.0 < n) args
+    → part_at (with_args ps k args) v ≡ or_else (argument_from k args v) (part_at ps v)
 args-with n ps k [] v e h = refl
 args-with n ps k (a ∷ more) v e h =
     let o = option_map (whole_of k) (carried a.ty) in
@@ -116,15 +120,18 @@ pub record Taking (n : ℕ) (g : List (Option PartStep)) (r : List ValueId) (res
   pub long : length g ≡ n
   pub within : Each (λ (l : FlatInst). StepWithin n l.result (step_in l.inst)) (insts_in rest)
 
-pub Taking-within : (n : ℕ) (g : List (Option PartStep)) (r : List ValueId) (rest all : List FlatBlock) (b : FlatBlock) (more : List FlatBlock) → rest ≡ b ∷ more → Taking n g r rest all → Each (λ (l : FlatInst). StepWithin (length g) l.result (step_in l.inst)) b.insts
+pub Taking-within : (n : ℕ) (g : List (Option PartStep)) (r : List ValueId) (rest all : List FlatBlock) (b : FlatBlock) (more : List FlatBlock) → rest ≡ b ∷ more → Taking n g r rest all
+    → Each (λ (l : FlatInst). StepWithin (length g) l.result (step_in l.inst)) b.insts
 Taking-within n g r rest all b more e t =
     subst (λ (k : ℕ). Each (λ (l : FlatInst). StepWithin k l.result (step_in l.inst)) b.insts) (sym t.long)
     (Each-left (λ (l : FlatInst). StepWithin n l.result (step_in l.inst)) b.insts (insts_in more)
     (subst (λ (bs : List FlatBlock). Each (λ (l : FlatInst). StepWithin n l.result (step_in l.inst)) (insts_in bs)) e t.within))
 
-pub Taking-block : (n : ℕ) (g h : List (Option PartStep)) (r s : List ValueId) (rest all : List FlatBlock) (b : FlatBlock) (more : List FlatBlock) → rest ≡ b ∷ more → h ≡ with_steps g b.insts → s ≡ r ++ step_results b.insts → Taking n g r rest all → Taking n h s more all
+pub Taking-block : (n : ℕ) (g h : List (Option PartStep)) (r s : List ValueId) (rest all : List FlatBlock) (b : FlatBlock) (more : List FlatBlock) → rest ≡ b ∷ more → h ≡ with_steps g b.insts
+    → s ≡ r ++ step_results b.insts → Taking n g r rest all → Taking n h s more all
 Taking-block n g h r s rest all b more e p q t = record {
-  given = ap (λ (x : List (Option PartStep)). with_steps x (insts_in more)) p ∙ sym (steps-append g b.insts (insts_in more)) ∙ ap (λ (bs : List FlatBlock). with_steps g (insts_in bs)) (sym e) ∙ t.given;
+  given = ap (λ (x : List (Option PartStep)). with_steps x (insts_in more)) p ∙ sym (steps-append g b.insts (insts_in more)) ∙ ap (λ (bs : List FlatBlock). with_steps g (insts_in bs)) (sym e)
+      ∙ t.given;
   results = ap (λ (x : List ValueId). x ++ step_results (insts_in more)) q ∙ results-block r b more ∙ ap (λ (bs : List FlatBlock). r ++ step_results (insts_in bs)) (sym e) ∙ t.results;
   long = ap length p ∙ length-steps g b.insts ∙ t.long;
   within =
@@ -142,7 +149,9 @@ pub record TakingLines (n : ℕ) (old g : List (Option PartStep)) (was r : List 
   pub within : Each (λ (l : FlatInst). StepWithin n l.result (step_in l.inst)) rest
   pub carried : StepsCarry old → StepsCarry g
 
-pub TakingLines-line : (n : ℕ) (old g h : List (Option PartStep)) (was r s : List ValueId) (rest all : List FlatInst) (l : FlatInst) (more : List FlatInst) → rest ≡ l ∷ more → h ≡ with_step g l.result (step_in l.inst) → s ≡ r ++ with_result l.result (step_in l.inst) [] → (StepsCarry g → StepsCarry h) → TakingLines n old g was r rest all → TakingLines n old h was s more all
+pub TakingLines-line : (n : ℕ) (old g h : List (Option PartStep)) (was r s : List ValueId) (rest all : List FlatInst) (l : FlatInst) (more : List FlatInst) → rest ≡ l ∷ more
+    → h ≡ with_step g l.result (step_in l.inst) → s ≡ r ++ with_result l.result (step_in l.inst) [] → (StepsCarry g → StepsCarry h) → TakingLines n old g was r rest all
+    → TakingLines n old h was s more all
 TakingLines-line n old g h was r s rest all l more e p q f t = record {
   given = ap (λ (x : List (Option PartStep)). with_steps x more) p ∙ ap (with_steps g) (sym e) ∙ t.given;
   results = ap (λ (x : List ValueId). x ++ step_results more) q ∙ results-line r l more ∙ ap (λ (x : List FlatInst). r ++ step_results x) (sym e) ∙ t.results;
@@ -158,7 +167,8 @@ pub record TakingArgs (n : ℕ) (ps : List (Option Part)) (k : ℕ) (rest all : 
   pub within : Each (λ (a : Arg). a.value.0 < n) rest
   pub carried : PartsCarry ps
 
-pub TakingArgs-arg : (n : ℕ) (ps qs : List (Option Part)) (k : ℕ) (rest all : List Arg) (a : Arg) (more : List Arg) → rest ≡ a ∷ more → qs ≡ with_part ps a.value.0 (option_map (whole_of k) (carried a.ty)) → (PartsCarry ps → PartsCarry qs) → TakingArgs n ps k rest all → TakingArgs n qs (k + 1) more all
+pub TakingArgs-arg : (n : ℕ) (ps qs : List (Option Part)) (k : ℕ) (rest all : List Arg) (a : Arg) (more : List Arg) → rest ≡ a ∷ more
+    → qs ≡ with_part ps a.value.0 (option_map (whole_of k) (carried a.ty)) → (PartsCarry ps → PartsCarry qs) → TakingArgs n ps k rest all → TakingArgs n qs (k + 1) more all
 TakingArgs-arg n ps qs k rest all a more e q f t = record {
   parts = ap (λ (x : List (Option Part)). with_args x (k + 1) more) q ∙ ap (with_args ps k) (sym e) ∙ t.parts;
   long = ap length q ∙ length-part ps a.value.0 (option_map (whole_of k) (carried a.ty)) ∙ t.long;
@@ -172,7 +182,8 @@ TakingArgs-none n all w = record { parts = refl; long = length-replicate n None;
     none : (v : ℕ) (p : Part) → part_at (replicate n None) v ≡ None → part_at (replicate n None) v ≡ Some p → IsData p.ty × (p.lo ≡ 0)
     none v p f e = cc
 
-pub TakingLines-within : (n : ℕ) (old g : List (Option PartStep)) (was r : List ValueId) (rest all : List FlatInst) (l : FlatInst) (more : List FlatInst) → rest ≡ l ∷ more → TakingLines n old g was r rest all → StepWithin (length g) l.result (step_in l.inst)
+pub TakingLines-within : (n : ℕ) (old g : List (Option PartStep)) (was r : List ValueId) (rest all : List FlatInst) (l : FlatInst) (more : List FlatInst) → rest ≡ l ∷ more
+    → TakingLines n old g was r rest all → StepWithin (length g) l.result (step_in l.inst)
 TakingLines-within n old g was r rest all l more e t =
     subst (λ (k : ℕ). StepWithin k l.result (step_in l.inst)) (sym t.long) (subst (Each (λ (x : FlatInst). StepWithin n x.result (step_in x.inst))) e t.within).0
 

@@ -96,9 +96,9 @@ pub record Steppable (steps : List (Option PartStep)) (parts : List (Option Part
   pub found : AreFound steps base parts
 
 -- steps lead from a value along these to another
-abbrev pub Leads : List (Option PartStep) → (from : ℕ) → (way : List ValueId) → (to : ℕ) → Type 0
-Leads steps v [] x = v ≡ x
-Leads steps v (w ∷ more) x = (w.0 ≡ v) × ((s : PartStep) × (step_at steps v ≡ Some s) × Leads steps s.from.0 more x)
+abbrev pub StepsLeadAlong : List (Option PartStep) → (from : ℕ) → (way : List ValueId) → (to : ℕ) → Type 0
+StepsLeadAlong steps v [] x = v ≡ x
+StepsLeadAlong steps v (w ∷ more) x = (w.0 ≡ v) × ((s : PartStep) × (step_at steps v ≡ Some s) × StepsLeadAlong steps s.from.0 more x)
 
 -- each is new: neither met before nor one of those after it
 abbrev pub AreNew : List Bool → List ValueId → Type 0
@@ -112,7 +112,7 @@ AreSteps steps base = (v : ℕ) (s : PartStep) → step_at steps v ≡ Some s �
 -- the way back from a value, which ends where there is no step or one that was met
 pub record GoesBack (steps : List (Option PartStep)) (old : List Bool) (from : ℕ) (new : List Bool) (way : List ValueId) : Type 0 where
   pub end : ℕ
-  pub leads : Leads steps from way end
+  pub leads : StepsLeadAlong steps from way end
   pub new_ones : AreNew old way
   pub met : (v : ℕ) → is_met new v ≡ (is_met old v || is_on way v)
   pub stops : (step_at steps end ≡ None) ⊎ (is_met new end ≡ true)
@@ -136,5 +136,6 @@ pub record IsSettled (steps : List (Option PartStep)) (base parts : List (Option
   pub found : AreFound steps base parts
 
 -- the steps of a value are followed
-abbrev pub Follows : List (Option PartStep) → (v : ℕ) → (old_parts new_parts : List (Option Part)) → (old_met new_met : List Bool) → Type 0
-Follows steps v ps qs ms ns = (base : List (Option Part)) → IsSettled steps base ps ms → IsSettled steps base qs ns × ((step_at steps v ≡ None) ⊎ (is_met ns v ≡ true)) × ((u : ℕ) → is_met ms u ≡ true → is_met ns u ≡ true)
+abbrev pub StepsAreFollowed : List (Option PartStep) → (v : ℕ) → (old_parts new_parts : List (Option Part)) → (old_met new_met : List Bool) → Type 0
+StepsAreFollowed steps v ps qs ms ns = (base : List (Option Part)) → IsSettled steps base ps ms → IsSettled steps base qs ns × ((step_at steps v ≡ None) ⊎ (is_met ns v ≡ true))
+    × ((u : ℕ) → is_met ms u ≡ true → is_met ns u ≡ true)

@@ -126,7 +126,8 @@ pub record HasSteps (t : Flat) : Type 0 where
   pub few : length t.args < 2 ^ 32
   pub within : Each (λ (l : FlatInst). StepWithin t.values l.result (step_in l.inst)) (insts_in t.blocks)
   pub apart : (v : ℕ) (p : Part) → argument_of t.args v ≡ Some p → step_giving (insts_in t.blocks) v ≡ None
-  pub fit : (v : ℕ) (s : PartStep) (whole : TypeTree) (r : Range) → step_giving (insts_in t.blocks) v ≡ Some s → type_carried t s.from.0 ≡ Some whole → range_by whole s.op ≡ Some r → r.len ≡ bit_count s.ty
+  pub fit : (v : ℕ) (s : PartStep) (whole : TypeTree) (r : Range) → step_giving (insts_in t.blocks) v ≡ Some s → type_carried t s.from.0 ≡ Some whole → range_by whole s.op ≡ Some r
+      → r.len ≡ bit_count s.ty
 
 -- what is kept of value v
 abbrev pub step_at : List (Option PartStep) → ℕ → Option PartStep

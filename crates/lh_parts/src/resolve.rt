@@ -2,7 +2,7 @@
 //! however many steps come from it.
 ghost use Rattle.std.specs.Prelude.{◌≡◌, ◌<◌, ◌++◌, ◌∷◌, [], length, replicate, true, false, slice_set, IfOk, OnOk};
 ghost use Rattle.lh_parts.specs.Steps.{step_at, part_at};
-ghost use Rattle.lh_parts.specs.Resolving.{part_by_step, settled, is_met, comes_from, InPlace, StepsFrom, CanStep, Steppable, AreSteps, AreWithin, GoesBack, IsResolved, Follows};
+ghost use Rattle.lh_parts.specs.Resolving.{part_by_step, settled, is_met, comes_from, InPlace, StepsFrom, CanStep, Steppable, AreSteps, AreWithin, GoesBack, IsResolved, StepsAreFollowed};
 
 use crate::step::{PartStep, stepped};
 use crate::table::Steps;
@@ -48,10 +48,7 @@ pub fn resolved(
 fn not_met(alloc: Global, count: u32) -> Result<Vec<bool>, NoMemory>
     ensures { IfOk result (λ met. met.items ≡ replicate count false) }
 {
-    match vec![in alloc; false; count as usize] {
-        Ok(met) => Ok(met),
-        Err(_) => Err(NoMemory),
-    }
+    Ok(vec![in alloc; false; count as usize]?)
 }
 
 impl Resolver<'_> {
@@ -64,7 +61,7 @@ impl Resolver<'_> {
         requires empty { self.old.way.items ≡ [] }
         ensures steps { OnOk result (self.new.steps.now ≡ self.old.steps.now) }
         ensures empty { OnOk result (self.new.way.items ≡ []) }
-        ensures follows { OnOk result (Follows self.old.steps.now value.0 self.old.parts.items self.new.parts.items self.old.met.items self.new.met.items) }
+        ensures follows { OnOk result (StepsAreFollowed self.old.steps.now value.0 self.old.parts.items self.new.parts.items self.old.met.items self.new.met.items) }
     {
         self.go_back(value)?;
         self.go_forth()?;
@@ -112,10 +109,8 @@ impl Resolver<'_> {
         ensures way { OnOk result (self.new.way.items ≡ self.old.way.items ++ value ∷ []) }
     {
         self.met[value.0 as usize] = true;
-        match self.way.push(value) {
-            Ok(()) => Ok(()),
-            Err(_) => Err(NoMemory),
-        }
+        self.way.push(value)?;
+        Ok(())
     }
 
     /// Makes the parts of the noted values, from the last one on.

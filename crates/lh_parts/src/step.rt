@@ -11,7 +11,7 @@ use lh_term::part::Part;
 use lh_types::op::Op;
 use lh_types::part::{Range, Step, range_of};
 use lh_types::ty::{NoMemory, Ty, TyKind};
-use lh_unit::inst::{Inst, Typed, TypedList, ValueId};
+use lh_unit::inst::{Inst, OperandList, Typed, ValueId};
 
 /// A step from one signal to a part of it: the value that it starts from, the operation, and the type of the part.
 #[derive(Drop)]
@@ -32,7 +32,7 @@ pub fn step_in(inst: &Inst) -> Result<Option<PartStep>, NoMemory>
     }
 }
 
-fn step_on(op: Op, args: &TypedList) -> Result<Option<PartStep>, NoMemory>
+fn step_on(op: Op, args: &OperandList) -> Result<Option<PartStep>, NoMemory>
     ensures step { IfOk result (λ step. step ≡ spec.step_on op args.now) }
     ensures data { IfOk result (λ step. IfSome step (λ s. IsData s.ty)) }
 {
@@ -49,7 +49,7 @@ fn step_from(op: Op, whole: &Typed) -> Result<Option<PartStep>, NoMemory>
     let Some(_) = step_into(op) else {
         return Ok(None);
     };
-    match &whole.ty {
+    match whole.ty.get() {
         Some(ty) => step_of_signal(op, whole.value, ty),
         None => Ok(None),
     }

@@ -121,10 +121,8 @@ impl Steps {
         ensures carried { OnOk result (StepsCarry self.old.given.items → StepsCarry self.new.given.items) }
     {
         self.given[value.0 as usize] = Some(step);
-        match self.results.push(value) {
-            Ok(()) => Ok(()),
-            Err(_) => Err(NoMemory),
-        }
+        self.results.push(value)?;
+        Ok(())
     }
 }
 
@@ -133,10 +131,7 @@ fn no_steps(alloc: Global, count: u32) -> Result<Vec<Option<PartStep>>, NoMemory
 {
     let mut steps = Vec::new(alloc);
     for _ in 0..count {
-        match steps.push(None) {
-            Ok(()) => {}
-            Err(_) => return Err(NoMemory),
-        }
+        steps.push(None)?;
     }
     Ok(steps)
 }
@@ -146,10 +141,7 @@ fn no_parts(alloc: Global, count: u32) -> Result<Vec<Option<Part>>, NoMemory>
 {
     let mut parts = Vec::new(alloc);
     for _ in 0..count {
-        match parts.push(None) {
-            Ok(()) => {}
-            Err(_) => return Err(NoMemory),
-        }
+        parts.push(None)?;
     }
     Ok(parts)
 }

@@ -9,7 +9,8 @@ use Rattle.lh_unit.proofs.Rendering.{render-append, text_of-append}
 pub ruleset steps = (render-append, text_of-append, append_assoc, append-nil)
 
 -- one more part behind a comma
-pub behind_step : (out new all : List ℕ) (part rest whole : List Piece) → whole ≡ token comma ∷ space ∷ part ++ rest → new ≡ out ++ (44 ∷ 32 ∷ render part) → out ++ render whole ≡ all → new ++ render rest ≡ all
+pub behind_step : (out new all : List ℕ) (part rest whole : List Piece) → whole ≡ token comma ∷ space ∷ part ++ rest → new ≡ out ++ (44 ∷ 32 ∷ render part) → out ++ render whole ≡ all
+    → new ++ render rest ≡ all
 behind_step out new all part rest whole w n a =
     ap (λ l. l ++ render rest) n
     ∙ append_assoc out (44 ∷ 32 ∷ render part) (render rest)

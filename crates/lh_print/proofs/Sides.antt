@@ -15,9 +15,11 @@ pub side_of-other : (output : Bool) (a : ArgText) (more : List ArgText) → on_s
 side_of-other output a more e = rw e refl
 
 -- the first argument and the others behind it
-pub side_of-parts : (output : Bool) (a : ArgText) (more : List ArgText) → behind_commas (map argument (side_of output (a ∷ more))) ≡ behind_commas (map argument (side_of output (a ∷ []))) ++ behind_commas (map argument (side_of output more))
+pub side_of-parts : (output : Bool) (a : ArgText) (more : List ArgText) → behind_commas (map argument (side_of output (a ∷ more))) ≡ behind_commas (map argument (side_of output (a ∷ [])))
+    ++ behind_commas (map argument (side_of output more))
 side_of-parts output a more = by_side (on_side output a) refl
   where
-    by_side : (b : Bool) → on_side output a ≡ b → behind_commas (map argument (side_of output (a ∷ more))) ≡ behind_commas (map argument (side_of output (a ∷ []))) ++ behind_commas (map argument (side_of output more))
+    by_side : (b : Bool) → on_side output a ≡ b → behind_commas (map argument (side_of output (a ∷ more))) ≡ behind_commas (map argument (side_of output (a ∷ [])))
+        ++ behind_commas (map argument (side_of output more))
     by_side true e = rw e (ap (λ l. token comma ∷ space ∷ l) (ap (λ l. l ++ behind_commas (map argument (side_of output more))) (sym (append-nil (argument a)))))
     by_side false e = rw e refl

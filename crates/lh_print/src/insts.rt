@@ -3,9 +3,9 @@
 
 ghost use Rattle.std.specs.Prelude.{◌≡◌, ◌<◌, ◌++◌, [], map, OnOk};
 ghost use Rattle.lh_unit.specs.Contents.{st_text, drv_text, reg_text, child_text, call_text, phi_text, br_text, branch_text, wait_text, ret_text};
-ghost use Rattle.lh_unit.specs.Arena.{label_count, naming, sizes, inst_text_at, InstPlaced};
-ghost use Rattle.lh_unit.specs.Within.{InstWithin, OperandWithin, ValueWithin, MaybeWithin};
-ghost use Rattle.lh_unit.specs.Naming.{operand_text, value_text, maybe_text};
+ghost use Rattle.lh_unit.specs.Arena.{unit_count, label_count, naming, sizes, inst_text_at, InstPlaced};
+ghost use Rattle.lh_unit.specs.Within.{Each, InstWithin, OperandWithin, TriggerWithin, EdgeWithin, ValueWithin, MaybeWithin};
+ghost use Rattle.lh_unit.specs.Naming.{operand_text, trigger_text, edge_text, value_text, maybe_text};
 ghost use Rattle.lh_unit.specs.Pieces.{render, percent, keyword, ◌␣◌, ◌⸴◌};
 ghost use Rattle.lh_unit.specs.Canon.{inst_pieces};
 
@@ -17,7 +17,7 @@ use crate::types::put_type;
 use crate::values::put_const;
 use lh_types::text::put;
 use lh_types::ty::{NoMemory, Ty};
-use lh_unit::inst::{BlockId, Inst, PhiEdge, RegTrigger, Typed, ValueId};
+use lh_unit::inst::{BlockId, Inst, PhiEdge, RegTrigger, Typed, UnitId, ValueId};
 use lh_unit::view::UnitView;
 
 /// Writes `st V* %p, %v`.
@@ -70,6 +70,116 @@ fn put_drive(
     put_maybe(out, b"if", view, cond)
 }
 
+/// Writes `reg S %q, [%v, mode %t if %g after %d]`.
+fn put_register(
+    out: &mut Vec<u8>,
+    view: UnitView<'_>,
+    to: &Typed,
+    triggers: &[RegTrigger],
+) -> Result<(), NoMemory>
+    requires to { OperandWithin (sizes view.module.now view.unit.0) to.now }
+    requires triggers { Each (TriggerWithin (sizes view.module.now view.unit.0)) triggers.now }
+    ensures { let f = naming view.entry.module.now view.entry.unit.0 in OnOk result (out.new.items ≡ out.old.items ++ render (inst_pieces (reg_text (operand_text f to.now) (map (trigger_text f) triggers.now)))) }
+{
+    put_operand(out, b"reg ", view, to)?;
+    put_triggers_behind(out, view, triggers)
+}
+
+/// Writes `inst @u (S1 %a1) -> (S2 %a2)`.
+fn put_child(
+    out: &mut Vec<u8>,
+    view: UnitView<'_>,
+    unit: UnitId,
+    inputs: &[Typed],
+    outputs: &[Typed],
+) -> Result<(), NoMemory>
+    requires unit { unit.0 < unit_count view.module.now }
+    requires inputs { Each (OperandWithin (sizes view.module.now view.unit.0)) inputs.now }
+    requires outputs { Each (OperandWithin (sizes view.module.now view.unit.0)) outputs.now }
+    ensures { let f = naming view.entry.module.now view.entry.unit.0 in OnOk result (out.new.items ≡ out.old.items ++ render (inst_pieces (child_text (f.unit_name unit.0) (map (operand_text f) inputs.now) (map (operand_text f) outputs.now)))) }
+{
+    put(out, b"inst ")?;
+    put_unit_name(out, view.module().unit_name(unit))?;
+    put(out, b" (")?;
+    put_operands(out, view, inputs)?;
+    put(out, b") -> (")?;
+    put_operands(out, view, outputs)?;
+    put(out, b")")
+}
+
+/// Writes `call R @f (V1 %a1)`.
+fn put_call(
+    out: &mut Vec<u8>,
+    view: UnitView<'_>,
+    unit: UnitId,
+    result_type: &Ty,
+    args: &[Typed],
+) -> Result<(), NoMemory>
+    requires unit { unit.0 < unit_count view.module.now }
+    requires args { Each (OperandWithin (sizes view.module.now view.unit.0)) args.now }
+    ensures { let f = naming view.entry.module.now view.entry.unit.0 in OnOk result (out.new.items ≡ out.old.items ++ render (inst_pieces (call_text (f.unit_name unit.0) result_type.now (map (operand_text f) args.now)))) }
+{
+    put(out, b"call ")?;
+    put_type(out, result_type)?;
+    put(out, b" ")?;
+    put_unit_name(out, view.module().unit_name(unit))?;
+    put(out, b" (")?;
+    put_operands(out, view, args)?;
+    put(out, b")")
+}
+
+/// Writes `phi V [%v, %b]`.
+fn put_phi(
+    out: &mut Vec<u8>,
+    view: UnitView<'_>,
+    ty: &Ty,
+    edges: &[PhiEdge],
+) -> Result<(), NoMemory>
+    requires { Each (EdgeWithin (sizes view.module.now view.unit.0)) edges.now }
+    ensures { OnOk result (out.new.items ≡ out.old.items ++ render (inst_pieces (phi_text ty.now (map (edge_text (naming view.entry.module.now view.entry.unit.0)) edges.now)))) }
+{
+    put(out, b"phi ")?;
+    put_type(out, ty)?;
+    put(out, b" ")?;
+    put_edges(out, view, edges)
+}
+
+/// Writes `br %c, %f, %t`.
+fn put_branch(
+    out: &mut Vec<u8>,
+    view: UnitView<'_>,
+    cond: ValueId,
+    zero: BlockId,
+    one: BlockId,
+) -> Result<(), NoMemory>
+    requires cond { ValueWithin (sizes view.module.now view.unit.0) cond }
+    requires zero { zero.0 < label_count view.module.now view.unit.0 }
+    requires one { one.0 < label_count view.module.now view.unit.0 }
+    ensures { let f = naming view.entry.module.now view.entry.unit.0 in OnOk result (out.new.items ≡ out.old.items ++ render (inst_pieces (branch_text (value_text f cond) (f.label_name zero.0) (f.label_name one.0)))) }
+{
+    put_value(out, b"br %", view, cond)?;
+    put_label(out, b", %", view, zero)?;
+    put_label(out, b", %", view, one)
+}
+
+/// Writes `wait %b for %d, %s1, %s2`.
+fn put_wait(
+    out: &mut Vec<u8>,
+    view: UnitView<'_>,
+    to: BlockId,
+    after: Option<ValueId>,
+    signals: &[ValueId],
+) -> Result<(), NoMemory>
+    requires to { to.0 < label_count view.module.now view.unit.0 }
+    requires after { MaybeWithin (sizes view.module.now view.unit.0) after }
+    requires signals { Each (ValueWithin (sizes view.module.now view.unit.0)) signals.now }
+    ensures { let f = naming view.entry.module.now view.entry.unit.0 in OnOk result (out.new.items ≡ out.old.items ++ render (inst_pieces (wait_text (f.label_name to.0) (maybe_text f after) (map (value_text f) signals.now)))) }
+{
+    put_label(out, b"wait %", view, to)?;
+    put_maybe(out, b"for", view, after)?;
+    put_signals_behind(out, view, signals)
+}
+
 /// Writes an instruction, without its result.
 pub fn put_inst(out: &mut Vec<u8>, view: UnitView<'_>, inst: &Inst) -> Result<(), NoMemory>
     requires placed { InstPlaced view.module.now view.unit.0 inst.now }
@@ -89,53 +199,17 @@ pub fn put_inst(out: &mut Vec<u8>, view: UnitView<'_>, inst: &Inst) -> Result<()
             after,
             cond,
         } => put_drive(out, view, to, *value, *after, *cond),
-        Inst::Reg { to, triggers } => {
-            put_operand(out, b"reg ", view, to)?;
-            put_triggers_behind(out, view, triggers.as_slice())
-        }
+        Inst::Reg { to, triggers } => put_register(out, view, to, triggers.as_slice()),
         Inst::Child {
-            unit: child,
+            unit,
             inputs,
             outputs,
-        } => {
-            put(out, b"inst ")?;
-            put_unit_name(out, view.module().unit_name(*child))?;
-            put(out, b" (")?;
-            put_operands(out, view, inputs.as_slice())?;
-            put(out, b") -> (")?;
-            put_operands(out, view, outputs.as_slice())?;
-            put(out, b")")
-        }
-        Inst::Call {
-            unit: callee,
-            result,
-            args,
-        } => {
-            put(out, b"call ")?;
-            put_type(out, result)?;
-            put(out, b" ")?;
-            put_unit_name(out, view.module().unit_name(*callee))?;
-            put(out, b" (")?;
-            put_operands(out, view, args.as_slice())?;
-            put(out, b")")
-        }
-        Inst::Phi { ty, edges } => {
-            put(out, b"phi ")?;
-            put_type(out, ty)?;
-            put(out, b" ")?;
-            put_edges(out, view, edges.as_slice())
-        }
+        } => put_child(out, view, *unit, inputs.as_slice(), outputs.as_slice()),
+        Inst::Call { unit, result, args } => put_call(out, view, *unit, result, args.as_slice()),
+        Inst::Phi { ty, edges } => put_phi(out, view, ty, edges.as_slice()),
         Inst::Br(to) => put_label(out, b"br %", view, *to),
-        Inst::Branch { cond, zero, one } => {
-            put_value(out, b"br %", view, *cond)?;
-            put_label(out, b", %", view, *zero)?;
-            put_label(out, b", %", view, *one)
-        }
-        Inst::Wait { to, after, signals } => {
-            put_label(out, b"wait %", view, *to)?;
-            put_maybe(out, b"for", view, *after)?;
-            put_signals_behind(out, view, signals.as_slice())
-        }
+        Inst::Branch { cond, zero, one } => put_branch(out, view, *cond, *zero, *one),
+        Inst::Wait { to, after, signals } => put_wait(out, view, *to, *after, signals.as_slice()),
         Inst::Halt => put(out, b"halt"),
         Inst::Ret(None) => put(out, b"ret"),
         Inst::Ret(Some(v)) => put_operand(out, b"ret ", view, v),

@@ -6,7 +6,8 @@ ghost use Rattle.lh_unit.specs.Arena.{naming, sizes};
 ghost use Rattle.lh_unit.specs.Naming.{operand_text, trigger_text, edge_text, value_text};
 ghost use Rattle.lh_unit.specs.Within.{Each, OperandWithin, TriggerWithin, EdgeWithin, ValueWithin};
 ghost use Rattle.lh_unit.specs.Pieces.{render, commas, behind_commas, percent, number};
-ghost use Rattle.lh_unit.specs.CanonWords.{op_word as word_of_op, op_numbers};
+ghost use Rattle.lh_unit.specs.CanonWords as spec;
+ghost use Rattle.lh_unit.specs.CanonWords.{op_numbers};
 ghost use Rattle.lh_unit.specs.Canon.{operand, operands, operation, trigger, edge};
 
 use crate::names::{put_label, put_maybe, put_value};
@@ -23,7 +24,7 @@ fn put_typed(out: &mut Vec<u8>, view: UnitView<'_>, typed: &Typed) -> Result<(),
     requires placed { OperandWithin (sizes view.module.now view.unit.0) typed.now }
     ensures { OnOk result (out.new.items ≡ out.old.items ++ render (operand (operand_text (naming view.entry.module.now view.entry.unit.0) typed.now))) }
 {
-    match &typed.ty {
+    match typed.ty.get() {
         None => put_value(out, b"%", view, typed.value),
         Some(ty) => {
             put_type(out, ty)?;
@@ -203,7 +204,7 @@ fn put_bracketed(
 /// Writes an operation that has a word.
 fn put_worded(out: &mut Vec<u8>, view: UnitView<'_>, op: Op, args: &[Typed]) -> Result<(), NoMemory>
     requires placed { Each (OperandWithin (sizes view.module.now view.unit.0)) args.now }
-    ensures { OnOk result (out.new.items ≡ out.old.items ++ (word_of_op op ++ (32 ∷ (render (operands (map (operand_text (naming view.entry.module.now view.entry.unit.0)) args.now)) ++ render (behind_commas (map number (op_numbers op))))))) }
+    ensures { OnOk result (out.new.items ≡ out.old.items ++ (spec.op_word op ++ (32 ∷ (render (operands (map (operand_text (naming view.entry.module.now view.entry.unit.0)) args.now)) ++ render (behind_commas (map number (op_numbers op))))))) }
 {
     put(out, op_word(op))?;
     put_bracketed(out, b" ", view, args, b"")?;

@@ -8,7 +8,7 @@ ghost use Rattle.lh_unit.specs.Naming.{maybe_text, line_text, label_text, block_
 ghost use Rattle.lh_unit.specs.Within.{Each, MaybeWithin};
 ghost use Rattle.lh_unit.specs.Arena.{value_count, inst_count, naming, sizes, table_at, kind_at, blocks_at, unit_text_at, item_text_at, contents};
 ghost use Rattle.lh_unit.specs.Pieces.{render};
-ghost use Rattle.lh_unit.specs.Canon.{assigned, inst_line, label_lines, block_lines, blocks_lines, header, declaration, item_lines, text_of, canon};
+ghost use Rattle.lh_unit.specs.Canon.{assigned, canon_inst_line, label_lines, block_lines, blocks_lines, header, declaration, item_lines, text_of, canon};
 ghost use Rattle.lh_unit.specs.Placed.{IsInstOf, IsLabelled, IsBlockOf, IsItemOf};
 
 use crate::arguments::{put_ports, put_signature};
@@ -42,7 +42,7 @@ fn put_assigned(
 /// Writes the line of an instruction.
 fn put_line(out: &mut Vec<u8>, view: UnitView<'_>, inst: InstId) -> Result<(), NoMemory>
     requires inst { IsInstOf view.module.now view.unit.0 inst }
-    ensures { OnOk result (out.new.items ≡ out.old.items ++ text_of (inst_line (line_text (naming view.entry.module.now view.entry.unit.0) (line_at (table_at view.entry.module.now view.entry.unit.0) inst.0)) ∷ [])) }
+    ensures { OnOk result (out.new.items ≡ out.old.items ++ text_of (canon_inst_line (line_text (naming view.entry.module.now view.entry.unit.0) (line_at (table_at view.entry.module.now view.entry.unit.0) inst.0)) ∷ [])) }
 {
     put(out, b"    ")?;
     put_assigned(out, view, view.result_of(inst))?;
@@ -53,7 +53,7 @@ fn put_line(out: &mut Vec<u8>, view: UnitView<'_>, inst: InstId) -> Result<(), N
 /// Writes the lines of instructions.
 fn put_lines(out: &mut Vec<u8>, view: UnitView<'_>, insts: &[InstId]) -> Result<(), NoMemory>
     requires insts { Each (IsInstOf view.module.now view.unit.0) insts.now }
-    ensures { OnOk result (out.new.items ≡ out.old.items ++ text_of (map inst_line (map (λ i. line_text (naming view.entry.module.now view.entry.unit.0) (line_at (table_at view.entry.module.now view.entry.unit.0) i.0)) insts.now))) }
+    ensures { OnOk result (out.new.items ≡ out.old.items ++ text_of (map canon_inst_line (map (λ i. line_text (naming view.entry.module.now view.entry.unit.0) (line_at (table_at view.entry.module.now view.entry.unit.0) i.0)) insts.now))) }
 {
     for inst in insts {
         put_line(out, view, *inst)?;

@@ -1,13 +1,13 @@
 //! The words of the language, one row each.
 ghost use Rattle.std.specs.Prelude.{◌≡◌};
-ghost use Rattle.lh_unit.specs.CanonWords.{op_word as word_of_op, mode_word as word_of_mode};
+ghost use Rattle.lh_unit.specs.CanonWords as spec;
 
 use lh_types::op::Op;
 use lh_unit::inst::Mode;
 
 /// The word of an operation; none of those that brackets write.
 pub fn op_word(op: Op) -> &'static [u8]
-    ensures { result.now ≡ word_of_op op }
+    ensures { result.now ≡ spec.op_word op }
 {
     match op {
         Op::Not => b"not",
@@ -48,7 +48,7 @@ pub fn op_word(op: Op) -> &'static [u8]
 
 /// The word of a register's trigger.
 pub fn mode_word(mode: Mode) -> &'static [u8]
-    ensures { result.now ≡ word_of_mode mode }
+    ensures { result.now ≡ spec.mode_word mode }
 {
     match mode {
         Mode::Rise => b"rise",

@@ -8,7 +8,7 @@ use Rattle.lh_types.specs.History.{Claim, claim_cmp, IsAmong, entries_of}
 use Rattle.lh_history.proofs.Orders.{is_less}
 use Rattle.lh_history.proofs.Claims.{among_parts}
 use Rattle.lh_queue.specs.declared.wish.Wish.{Wish}
-use Rattle.lh_queue.specs.Held.{Held, is_before, IsBeforeAll, AreInOrder, NamesOnce, IsUnnamed, EachNamesOnce, with_held, due_later}
+use Rattle.lh_queue.specs.Queued.{QueuedWish, is_before, IsBeforeAll, AreInOrder, NamesOnce, IsUnnamed, EachNamesOnce, with_held, due_later}
 use Rattle.lh_queue.specs.Holds.{wish_entries, entries, IsAfter, IsFrom, HoldsFor, HoldsOn, HoldsMore}
 
 pub among_left : (xs ys : List Claim) (c : Claim) → IsAmong c xs → IsAmong c (xs ++ ys)
@@ -37,7 +37,8 @@ unnamed due made i bit (e ∷ es) c u (inl p) b = u.0 (ap (λ (d : Claim). d.bit
 unnamed due made i bit (e ∷ es) c u (inr h) b = unnamed due made i bit es c u.1 h b
 
 -- a wish gives a bit once
-one_of : (due made : Instant) (i : ℕ) (es : List (ℕ × Bool)) (c d : Claim) → NamesOnce es → IsAmong c (entries_of due made i es) → IsAmong d (entries_of due made i es) → c.bit ≡ d.bit → c.value ≡ d.value
+one_of : (due made : Instant) (i : ℕ) (es : List (ℕ × Bool)) (c d : Claim) → NamesOnce es → IsAmong c (entries_of due made i es) → IsAmong d (entries_of due made i es) → c.bit ≡ d.bit
+    → c.value ≡ d.value
 one_of due made i [] c d n h k b = absurd h
 one_of due made i (e ∷ es) c d n (inl p) (inl q) b = ap (λ (x : Claim). x.value) (sym p ∙ q)
 one_of due made i (e ∷ es) c d n (inl p) (inr k) b = absurd (unnamed due made i e.0 es d n.0 k (sym b ∙ ap (λ (x : Claim). x.bit) (sym p)))
@@ -64,12 +65,13 @@ before_of w y c d h k b =
         → claim_cmp (record { due = w.due; made = w.made; instance = w.instance; bit = c.bit; value = c.value }) d ≡ Less
     at d t u i p q r l = rw (p, q, r) l
 
-before_each : (w : Wish) (more : List Held) (c d : Claim) → IsAmong c (wish_entries w) → IsBeforeAll w more → IsAmong d (entries more) → claim_cmp c d ≡ Less
+before_each : (w : Wish) (more : List QueuedWish) (c d : Claim) → IsAmong c (wish_entries w) → IsBeforeAll w more → IsAmong d (entries more) → claim_cmp c d ≡ Less
 before_each w [] c d h b k = absurd k
 before_each w (y ∷ ys) c d h b k = ⊎_elim (λ l. before_of w y.wish c d h l b.0) (λ l. before_each w ys c d h b.1 l) (among_parts (wish_entries y.wish) (entries ys) d k)
 
 -- no two entries of held wishes compete
-pub one_each : (held : List Held) → AreInOrder held → EachNamesOnce held → (c d : Claim) → IsAmong c (entries held) → IsAmong d (entries held) → c.bit ≡ d.bit → claim_cmp c d ≡ Equal → claim_cmp d c ≡ Equal → c.value ≡ d.value
+pub one_each : (held : List QueuedWish) → AreInOrder held → EachNamesOnce held → (c d : Claim) → IsAmong c (entries held) → IsAmong d (entries held) → c.bit ≡ d.bit → claim_cmp c d ≡ Equal
+    → claim_cmp d c ≡ Equal → c.value ≡ d.value
 one_each [] o n c d h k b e f = absurd h
 one_each (x ∷ more) o n c d h k b e f =
     at (among_parts (wish_entries x.wish) (entries more) c h) (among_parts (wish_entries x.wish) (entries more) d k) (λ p q. one_each more o.1 n.1 c d p q b e f)
@@ -85,16 +87,17 @@ one_each (x ∷ more) o n c d h k b e f =
     at (inr p) (inr q) ih = ih p q
 
 -- with one wish more
-more_to : (held : List Held) (x : Held) (c : Claim) → IsAmong c (entries (with_held held x)) → IsAmong c (entries held) ⊎ IsAmong c (wish_entries x.wish)
+more_to : (held : List QueuedWish) (x : QueuedWish) (c : Claim) → IsAmong c (entries (with_held held x)) → IsAmong c (entries held) ⊎ IsAmong c (wish_entries x.wish)
 more_to [] x c h = ⊎_elim inr (λ k. absurd k) (among_parts (wish_entries x.wish) [] c h)
 more_to (y ∷ ys) x c h = at (is_before x.wish y.wish) h (more_to ys x c)
   where
     at : (b : Bool) → IsAmong c (entries (if b then x ∷ y ∷ ys else y ∷ with_held ys x)) → (IsAmong c (entries (with_held ys x)) → IsAmong c (entries ys) ⊎ IsAmong c (wish_entries x.wish))
         → IsAmong c (entries (y ∷ ys)) ⊎ IsAmong c (wish_entries x.wish)
     at true k ih = ⊎_elim inr inl (among_parts (wish_entries x.wish) (entries (y ∷ ys)) c k)
-    at false k ih = ⊎_elim (λ l. inl (among_left (wish_entries y.wish) (entries ys) c l)) (λ l. ⊎_elim (λ m. inl (among_right (wish_entries y.wish) (entries ys) c m)) inr (ih l)) (among_parts (wish_entries y.wish) (entries (with_held ys x)) c k)
+    at false k ih = ⊎_elim (λ l. inl (among_left (wish_entries y.wish) (entries ys) c l)) (λ l. ⊎_elim (λ m. inl (among_right (wish_entries y.wish) (entries ys) c m)) inr (ih l))
+        (among_parts (wish_entries y.wish) (entries (with_held ys x)) c k)
 
-more_from : (held : List Held) (x : Held) (c : Claim) → IsAmong c (entries held) ⊎ IsAmong c (wish_entries x.wish) → IsAmong c (entries (with_held held x))
+more_from : (held : List QueuedWish) (x : QueuedWish) (c : Claim) → IsAmong c (entries held) ⊎ IsAmong c (wish_entries x.wish) → IsAmong c (entries (with_held held x))
 more_from [] x c h = ⊎_elim (λ k. absurd k) (λ k. among_left (wish_entries x.wish) [] c k) h
 more_from (y ∷ ys) x c h = at (is_before x.wish y.wish) h (more_from ys x c)
   where
@@ -102,12 +105,13 @@ more_from (y ∷ ys) x c h = at (is_before x.wish y.wish) h (more_from ys x c)
         → IsAmong c (entries (if b then x ∷ y ∷ ys else y ∷ with_held ys x))
     at true k ih = ⊎_elim (λ l. among_right (wish_entries x.wish) (entries (y ∷ ys)) c l) (λ l. among_left (wish_entries x.wish) (entries (y ∷ ys)) c l) k
     at false k ih = ⊎_elim
-        (λ l. ⊎_elim (λ m. among_left (wish_entries y.wish) (entries (with_held ys x)) c m) (λ m. among_right (wish_entries y.wish) (entries (with_held ys x)) c (ih (inl m))) (among_parts (wish_entries y.wish) (entries ys) c l))
+        (λ l. ⊎_elim (λ m. among_left (wish_entries y.wish) (entries (with_held ys x)) c m) (λ m. among_right (wish_entries y.wish) (entries (with_held ys x)) c (ih (inl m)))
+        (among_parts (wish_entries y.wish) (entries ys) c l))
         (λ l. among_right (wish_entries y.wish) (entries (with_held ys x)) c (ih (inr l))) k
 
-pub holds_more : (old new : List Held) (x : Held) → new ≡ with_held old x → HoldsMore old x.wish new
+pub holds_more : (old new : List QueuedWish) (x : QueuedWish) → new ≡ with_held old x → HoldsMore old x.wish new
 holds_more old new x e all last h a =
-    let P : List Held → Type 0 = λ xs. HoldsFor xs (all ++ wish_entries x.wish) last in
+    let P : List QueuedWish → Type 0 = λ xs. HoldsFor xs (all ++ wish_entries x.wish) last in
     subst P (sym e) (record {
       due = λ c. (
         λ k. ⊎_elim (λ l. let p = (h.due c).0 l in (among_left all (wish_entries x.wish) c p.0, p.1)) (λ l. (among_right all (wish_entries x.wish) c l, after c l)) (more_to old x c k),
@@ -119,11 +123,12 @@ holds_more old new x e all last h a =
     after c l = let Q : Instant → Type 0 = λ t. IsAfter last t in let o = origin x.wish.due x.wish.made x.wish.instance x.wish.bits c l in subst Q (sym o.when) a
 
 -- those due later
-later_to : (t : Instant) (held : List Held) (c : Claim) → IsAmong c (entries (due_later t held)) → IsAmong c (entries held) × (instant_lt t c.due ≡ true)
+later_to : (t : Instant) (held : List QueuedWish) (c : Claim) → IsAmong c (entries (due_later t held)) → IsAmong c (entries held) × (instant_lt t c.due ≡ true)
 later_to t [] c h = absurd h
 later_to t (x ∷ more) c h = at (instant_lt t x.wish.due) refl h (later_to t more c)
   where
-    at : (b : Bool) → instant_lt t x.wish.due ≡ b → IsAmong c (entries (if b then x ∷ due_later t more else due_later t more)) → (IsAmong c (entries (due_later t more)) → IsAmong c (entries more) × (instant_lt t c.due ≡ true))
+    at : (b : Bool) → instant_lt t x.wish.due ≡ b → IsAmong c (entries (if b then x ∷ due_later t more else due_later t more))
+        → (IsAmong c (entries (due_later t more)) → IsAmong c (entries more) × (instant_lt t c.due ≡ true))
         → IsAmong c (entries (x ∷ more)) × (instant_lt t c.due ≡ true)
     at true e k ih = ⊎_elim
         (λ l. let o = origin x.wish.due x.wish.made x.wish.instance x.wish.bits c l in (among_left (wish_entries x.wish) (entries more) c l, ap (instant_lt t) o.when ∙ e))
@@ -131,7 +136,7 @@ later_to t (x ∷ more) c h = at (instant_lt t x.wish.due) refl h (later_to t mo
         (among_parts (wish_entries x.wish) (entries (due_later t more)) c k)
     at false e k ih = let p = ih k in (among_right (wish_entries x.wish) (entries more) c p.0, p.1)
 
-later_from : (t : Instant) (held : List Held) (c : Claim) → IsAmong c (entries held) → instant_lt t c.due ≡ true → IsAmong c (entries (due_later t held))
+later_from : (t : Instant) (held : List QueuedWish) (c : Claim) → IsAmong c (entries held) → instant_lt t c.due ≡ true → IsAmong c (entries (due_later t held))
 later_from t [] c h l = absurd h
 later_from t (x ∷ more) c h l = at (instant_lt t x.wish.due) refl (among_parts (wish_entries x.wish) (entries more) c h) (λ k. later_from t more c k l)
   where
@@ -145,9 +150,9 @@ later_from t (x ∷ more) c h l = at (instant_lt t x.wish.due) refl (among_parts
     at false e (inl k) ih = let o = origin x.wish.due x.wish.made x.wish.instance x.wish.bits c k in absurd (clash (sym l ∙ ap (instant_lt t) o.when ∙ e))
     at false e (inr k) ih = ih k
 
-pub holds_on : (old new : List Held) (t : Instant) → new ≡ due_later t old → HoldsOn old t new
+pub holds_on : (old new : List QueuedWish) (t : Instant) → new ≡ due_later t old → HoldsOn old t new
 holds_on old new t e all last h f =
-    let P : List Held → Type 0 = λ xs. HoldsFor xs all (Some t) in
+    let P : List QueuedWish → Type 0 = λ xs. HoldsFor xs all (Some t) in
     subst P (sym e) (record {
       due = λ c. (
         λ k. let p = later_to t old c k in (((h.due c).0 p.0).0, p.1),
@@ -160,5 +165,5 @@ holds_on old new t e all last h f =
     after (Some l) c g k = instant_lt-le_lt l t c.due g k
 
 -- where nothing was wished, nothing is held
-pub holds_nothing : (held : List Held) → held ≡ [] → HoldsFor held [] None
-holds_nothing held e = let P : List Held → Type 0 = λ xs. HoldsFor xs [] None in subst P (sym e) (record { due = λ c. (λ k. absurd k, λ k. absurd k.0) })
+pub holds_nothing : (held : List QueuedWish) → held ≡ [] → HoldsFor held [] None
+holds_nothing held e = let P : List QueuedWish → Type 0 = λ xs. HoldsFor xs [] None in subst P (sym e) (record { due = λ c. (λ k. absurd k, λ k. absurd k.0) })

@@ -14,7 +14,7 @@ use Rattle.lh_types.specs.History.{Claim, claim_cmp, is_due_by, greater, greates
 use Rattle.lh_history.proofs.Instants.{instant_one}
 use Rattle.lh_history.proofs.Claims.{AllLate, greatest_late}
 use Rattle.lh_queue.specs.declared.wish.Wish.{Wish}
-use Rattle.lh_queue.specs.Held.{Held, wish_cmp, is_before, is_at, IsBeforeAll, AreInOrder, NoneDueBefore, due_later}
+use Rattle.lh_queue.specs.Queued.{QueuedWish, wish_cmp, is_before, is_at, IsBeforeAll, AreInOrder, NoneDueBefore, due_later}
 use Rattle.lh_queue.specs.Holds.{entries}
 use Rattle.lh_types.specs.Writes.{written}
 use Rattle.lh_queue.specs.Places.{starts_at}
@@ -30,22 +30,26 @@ abbrev pub UptoAll : Claim → List Claim → Type 0
 UptoAll c [] = Unit {0}
 UptoAll c (d ∷ more) = (is_le (claim_cmp c d) ≡ true) × UptoAll c more
 
-steady : (bit : ℕ) (t : Instant) (c : Claim) (cs : List Claim) (x y : Bool) → option_map_or (λ (d : Claim). d.value) (greatest_from bit t (Some c) cs) x ≡ option_map_or (λ (d : Claim). d.value) (greatest_from bit t (Some c) cs) y
+steady : (bit : ℕ) (t : Instant) (c : Claim) (cs : List Claim) (x y : Bool) → option_map_or (λ (d : Claim). d.value) (greatest_from bit t (Some c) cs) x
+    ≡ option_map_or (λ (d : Claim). d.value) (greatest_from bit t (Some c) cs) y
 steady bit t c [] x y = refl
 steady bit t c (d ∷ more) x y = at (is_due_by bit t d) (λ e. steady bit t e more x y)
   where
     at : (b : Bool) → ((e : Claim) → option_map_or (λ (f : Claim). f.value) (greatest_from bit t (Some e) more) x ≡ option_map_or (λ (f : Claim). f.value) (greatest_from bit t (Some e) more) y)
-        → option_map_or (λ (f : Claim). f.value) (greatest_from bit t (if b then Some (greater (Some c) d) else Some c) more) x ≡ option_map_or (λ (f : Claim). f.value) (greatest_from bit t (if b then Some (greater (Some c) d) else Some c) more) y
+        → option_map_or (λ (f : Claim). f.value) (greatest_from bit t (if b then Some (greater (Some c) d) else Some c) more) x
+        ≡ option_map_or (λ (f : Claim). f.value) (greatest_from bit t (if b then Some (greater (Some c) d) else Some c) more) y
     at true ih = ih (greater (Some c) d)
     at false ih = ih c
 
 -- an entry below the others only stands where none of them does
-over : (bit : ℕ) (t : Instant) (c : Claim) (cs : List Claim) (x : Bool) → UptoAll c cs → option_map_or (λ (d : Claim). d.value) (greatest_from bit t (Some c) cs) x ≡ option_map_or (λ (d : Claim). d.value) (greatest_from bit t None cs) c.value
+over : (bit : ℕ) (t : Instant) (c : Claim) (cs : List Claim) (x : Bool) → UptoAll c cs → option_map_or (λ (d : Claim). d.value) (greatest_from bit t (Some c) cs) x
+    ≡ option_map_or (λ (d : Claim). d.value) (greatest_from bit t None cs) c.value
 over bit t c [] x u = refl
 over bit t c (d ∷ more) x u = at (is_due_by bit t d) (over bit t c more x u.1)
   where
     at : (b : Bool) → option_map_or (λ (e : Claim). e.value) (greatest_from bit t (Some c) more) x ≡ option_map_or (λ (e : Claim). e.value) (greatest_from bit t None more) c.value
-        → option_map_or (λ (e : Claim). e.value) (greatest_from bit t (if b then Some (greater (Some c) d) else Some c) more) x ≡ option_map_or (λ (e : Claim). e.value) (greatest_from bit t (if b then Some (greater None d) else None) more) c.value
+        → option_map_or (λ (e : Claim). e.value) (greatest_from bit t (if b then Some (greater (Some c) d) else Some c) more) x
+        ≡ option_map_or (λ (e : Claim). e.value) (greatest_from bit t (if b then Some (greater None d) else None) more) c.value
     at true ih = rw u.0 (steady bit t d more x c.value)
     at false ih = ih
 
@@ -78,7 +82,8 @@ value_first : (t : Instant) (c : Claim) (cs : List Claim) (b : Bool) (j : ℕ) �
 value_first t c cs b j e u = at (nat_eq c.bit j) (ap is_le (ap (instant_cmp c.due) (sym e) ∙ tied_itself instant_cmp_total c.due))
   where
     at : (x : Bool) → instant_le c.due t ≡ true
-        → option_map_or (λ (d : Claim). d.value) (greatest_from j t (if x && instant_le c.due t then Some (greater None c) else None) cs) b ≡ option_map_or (λ (d : Claim). d.value) (greatest_from j t None cs) (if x then c.value else b)
+        → option_map_or (λ (d : Claim). d.value) (greatest_from j t (if x && instant_le c.due t then Some (greater None c) else None) cs) b
+        ≡ option_map_or (λ (d : Claim). d.value) (greatest_from j t None cs) (if x then c.value else b)
     at true h = rw h (over j t c cs b u)
     at false h = refl
 
@@ -107,27 +112,32 @@ upto_same : (w : Wish) (bit : ℕ) (v : Bool) (es : List (ℕ × Bool)) (cs : Li
 upto_same w bit v [] cs u = u
 upto_same w bit v (e ∷ es) cs u = (ap is_le (tied_itself wish_total w), upto_same w bit v es cs u)
 
-upto_later : (w : Wish) (bit : ℕ) (v : Bool) (y : Wish) (es : List (ℕ × Bool)) (cs : List Claim) → is_before w y ≡ true → UptoAll (record { due = w.due; made = w.made; instance = w.instance; bit = bit; value = v }) cs
+upto_later : (w : Wish) (bit : ℕ) (v : Bool) (y : Wish) (es : List (ℕ × Bool)) (cs : List Claim) → is_before w y ≡ true
+    → UptoAll (record { due = w.due; made = w.made; instance = w.instance; bit = bit; value = v }) cs
     → UptoAll (record { due = w.due; made = w.made; instance = w.instance; bit = bit; value = v }) (entries_of y.due y.made y.instance es ++ cs)
 upto_later w bit v y [] cs b u = u
 upto_later w bit v y (e ∷ es) cs b u = (lt_is_le (wish_cmp w y) b, upto_later w bit v y es cs b u)
 
-upto_entries : (w : Wish) (bit : ℕ) (v : Bool) (more : List Held) → IsBeforeAll w more → UptoAll (record { due = w.due; made = w.made; instance = w.instance; bit = bit; value = v }) (entries more)
+upto_entries : (w : Wish) (bit : ℕ) (v : Bool) (more : List QueuedWish) → IsBeforeAll w more
+    → UptoAll (record { due = w.due; made = w.made; instance = w.instance; bit = bit; value = v }) (entries more)
 upto_entries w bit v [] b = tt
 upto_entries w bit v (y ∷ ys) b = upto_later w bit v y.wish y.wish.bits (entries ys) b.0 (upto_entries w bit v ys b.1)
 
-values_written : (t : Instant) (w : Wish) (es : List (ℕ × Bool)) (more : List Held) (bits : List Bool) → w.due ≡ t → IsBeforeAll w more → values_by (entries_of w.due w.made w.instance es ++ entries more) t 0 bits ≡ values_by (entries more) t 0 (written es bits)
+values_written : (t : Instant) (w : Wish) (es : List (ℕ × Bool)) (more : List QueuedWish) (bits : List Bool) → w.due ≡ t → IsBeforeAll w more
+    → values_by (entries_of w.due w.made w.instance es ++ entries more) t 0 bits ≡ values_by (entries more) t 0 (written es bits)
 values_written t w [] more bits e b = refl
 values_written t w (x ∷ es) more bits e b =
-    values_set t (record { due = w.due; made = w.made; instance = w.instance; bit = x.0; value = x.1 }) (entries_of w.due w.made w.instance es ++ entries more) bits e (upto_same w x.0 x.1 es (entries more) (upto_entries w x.0 x.1 more b))
+    values_set t (record { due = w.due; made = w.made; instance = w.instance; bit = x.0; value = x.1 }) (entries_of w.due w.made w.instance es ++ entries more) bits e
+    (upto_same w x.0 x.1 es (entries more) (upto_entries w x.0 x.1 more b))
     ∙ values_written t w es more (set bits x.0 x.1) e b
 
 -- the first of wishes in order sets its bits, where it is due
-pub values_of_first : (t : Instant) (x : Held) (more : List Held) (bits : List Bool) → AreInOrder (x ∷ more) → x.wish.due ≡ t → values_by (entries (x ∷ more)) t 0 bits ≡ values_by (entries more) t 0 (written x.wish.bits bits)
+pub values_of_first : (t : Instant) (x : QueuedWish) (more : List QueuedWish) (bits : List Bool) → AreInOrder (x ∷ more) → x.wish.due ≡ t
+    → values_by (entries (x ∷ more)) t 0 bits ≡ values_by (entries more) t 0 (written x.wish.bits bits)
 values_of_first t x more bits o e = values_written t x.wish x.wish.bits more bits e o.0
 
 -- each held wish is due later
-abbrev pub EachLater : Instant → List Held → Type 0
+abbrev pub EachLater : Instant → List QueuedWish → Type 0
 EachLater t [] = Unit {0}
 EachLater t (x ∷ more) = (instant_lt t x.wish.due ≡ true) × EachLater t more
 
@@ -135,18 +145,18 @@ late_of : (t : Instant) (w : Wish) (es : List (ℕ × Bool)) (cs : List Claim) �
 late_of t w [] cs h a = a
 late_of t w (e ∷ es) cs h a = (h, late_of t w es cs h a)
 
-late_entries : (t : Instant) (xs : List Held) → EachLater t xs → AllLate t (entries xs)
+late_entries : (t : Instant) (xs : List QueuedWish) → EachLater t xs → AllLate t (entries xs)
 late_entries t [] e = tt
 late_entries t (x ∷ more) e = late_of t x.wish x.wish.bits (entries more) e.0 (late_entries t more e.1)
 
-pub values_of_later : (t : Instant) (xs : List Held) (bits : List Bool) → EachLater t xs → values_by (entries xs) t 0 bits ≡ bits
+pub values_of_later : (t : Instant) (xs : List QueuedWish) (bits : List Bool) → EachLater t xs → values_by (entries xs) t 0 bits ≡ bits
 values_of_later t xs bits e = values_late t (entries xs) (late_entries t xs e) 0 bits
 
-pub later_stay : (t : Instant) (xs : List Held) → EachLater t xs → due_later t xs ≡ xs
+pub later_stay : (t : Instant) (xs : List QueuedWish) → EachLater t xs → due_later t xs ≡ xs
 later_stay t [] e = refl
 later_stay t (x ∷ more) e = rw e.0 (ap (λ ys. x ∷ ys) (later_stay t more e.1))
 
-pub due_goes : (t : Instant) (x : Held) (more : List Held) → x.wish.due ≡ t → due_later t (x ∷ more) ≡ due_later t more
+pub due_goes : (t : Instant) (x : QueuedWish) (more : List QueuedWish) → x.wish.due ≡ t → due_later t (x ∷ more) ≡ due_later t more
 due_goes t x more e =
     let n : instant_lt t x.wish.due ≡ false = ap (instant_lt t) e ∙ ap is_lt (tied_itself instant_cmp_total t) in
     rw n refl
@@ -170,7 +180,7 @@ lt_le_trans a b c h k = at (instant_le c a) refl
     at true e = absurd (clash (sym (instant_lt-le_lt c a b e h) ∙ instant_lt-not_le c b ∙ ap not k))
     at false e = instant_lt-not_le a c ∙ ap not e
 
-pub all_later : (t : Instant) (w : Wish) (xs : List Held) → instant_lt t w.due ≡ true → IsBeforeAll w xs → EachLater t xs
+pub all_later : (t : Instant) (w : Wish) (xs : List QueuedWish) → instant_lt t w.due ≡ true → IsBeforeAll w xs → EachLater t xs
 all_later t w [] h b = tt
 all_later t w (x ∷ more) h b = (lt_le_trans t w.due x.wish.due h (due_upto w x.wish b.0), all_later t w more h b.1)
 
@@ -180,12 +190,13 @@ apart_lt Equal h n = cc
 apart_lt Greater h n = refl
 
 -- where the first is not due, all are due later
-pub not_due_later : (t : Instant) (x : Held) (more : List Held) → AreInOrder (x ∷ more) → instant_le t x.wish.due ≡ true → is_at x.wish.due t ≡ false → EachLater t (x ∷ more)
+pub not_due_later : (t : Instant) (x : QueuedWish) (more : List QueuedWish) → AreInOrder (x ∷ more) → instant_le t x.wish.due ≡ true → is_at x.wish.due t ≡ false → EachLater t (x ∷ more)
 not_due_later t x more o le n =
-    let h : instant_lt t x.wish.due ≡ true = ap is_lt (instant_cmp_total.antisymm t x.wish.due) ∙ apart_lt (instant_cmp x.wish.due t) (ap is_le (sym (instant_cmp_total.antisymm t x.wish.due)) ∙ le) n in
+    let h : instant_lt t x.wish.due ≡ true = ap is_lt (instant_cmp_total.antisymm t x.wish.due)
+    ∙ apart_lt (instant_cmp x.wish.due t) (ap is_le (sym (instant_cmp_total.antisymm t x.wish.due)) ∙ le) n in
     (h, all_later t x.wish more h o.0)
 
-pub not_started : (t : Instant) (held : List Held) → AreInOrder held → NoneDueBefore t held → starts_at t held ≡ false → EachLater t held
+pub not_started : (t : Instant) (held : List QueuedWish) → AreInOrder held → NoneDueBefore t held → starts_at t held ≡ false → EachLater t held
 not_started t [] o d n = tt
 not_started t (x ∷ more) o d n = not_due_later t x more o d.0 n
 

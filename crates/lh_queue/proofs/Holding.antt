@@ -16,7 +16,7 @@ use Rattle.lh_history.proofs.Instants.{instant_one, le_self, le_trans, not_lt_le
 use Rattle.lh_history.proofs.Claims.{claim_total, due_bit, due_time, among_parts}
 use Rattle.lh_history.proofs.Greatest.{greatest_is_found}
 use Rattle.lh_queue.specs.declared.wish.Wish.{Wish}
-use Rattle.lh_queue.specs.Held.{Held, AreInOrder, EachNamesOnce, IsBeforeAll, NoneDueBefore, IsLeastDue}
+use Rattle.lh_queue.specs.Queued.{QueuedWish, AreInOrder, EachNamesOnce, IsBeforeAll, NoneDueBefore, IsLeastDue}
 use Rattle.lh_queue.specs.Holds.{wish_entries, entries, IsAfter, IsFrom, HoldsFor, AreBitsAt, IsSoonestDue}
 use Rattle.lh_queue.specs.Places.{first_wish}
 use Rattle.lh_queue.proofs.Among.{one_each, among_left, origin}
@@ -56,7 +56,8 @@ value_after : List Claim → Bool → ℕ → Option Instant → Bool
 value_after cs b bit None = b
 value_after cs b bit (Some l) = value_by cs b bit l
 
-module _ (held : List Held) (cs : List Claim) (last : Option Instant) (t : Instant) (o : AreInOrder held) (n : EachNamesOnce held) (h : HoldsFor held cs last) (f : IsFrom last t) (bit : ℕ) (b : Bool) where
+module _ (held : List QueuedWish) (cs : List Claim) (last : Option Instant) (t : Instant) (o : AreInOrder held) (n : EachNamesOnce held) (h : HoldsFor held cs last) (f : IsFrom last t) (bit : ℕ)
+    (b : Bool) where
   -- one of the held entries is the greatest
   some_value : (c : Claim) (r : Option Claim) → IsGreatest bit t (entries held) c → IsGreatestIfAny bit t cs r → c.value ≡ option_map_or (λ (d : Claim). d.value) r b
   some_value c None k q = absurd (both_ways (is_due_by bit t c) (q c ((h.due c).0 k.among).0) k.is_due)
@@ -105,7 +106,7 @@ unfolding values_after
 values_after_none cs None k = refl
 values_after_none cs (Some l) k = refl
 
-values_held : (held : List Held) (cs : List Claim) (last : Option Instant) (t : Instant) → AreInOrder held → EachNamesOnce held → HoldsFor held cs last → IsFrom last t
+values_held : (held : List QueuedWish) (cs : List Claim) (last : Option Instant) (t : Instant) → AreInOrder held → EachNamesOnce held → HoldsFor held cs last → IsFrom last t
     → (k : ℕ) (bits : List Bool) → values_by (entries held) t k (values_after cs last k bits) ≡ values_by cs t k bits
 values_held held cs last t o n h f k [] = ap (values_by (entries held) t k) (values_after_none cs last k)
 values_held held cs last t o n h f k (b ∷ more) =
@@ -119,7 +120,7 @@ bits_after_is history initial None = refl
 bits_after_is history initial (Some l) = refl
 
 -- the bits by the held wishes are those by the history
-pub bits_held : (held : List Held) (old : List Bool) (t : Instant) (new : List Bool) → AreInOrder held → EachNamesOnce held → new ≡ values_by (entries held) t 0 old → AreBitsAt held old t new
+pub bits_held : (held : List QueuedWish) (old : List Bool) (t : Instant) (new : List Bool) → AreInOrder held → EachNamesOnce held → new ≡ values_by (entries held) t 0 old → AreBitsAt held old t new
 unfolding bits_at
 bits_held held old t new o n e history initial last h f b =
     e ∙ ap (values_by (entries held) t 0) (b ∙ bits_after_is history initial last) ∙ values_held held (claims history) last t o n h f 0 initial
@@ -133,7 +134,8 @@ at_least last t (x ∷ more) h = at (instant_lt last x.due) refl (at_least last 
     both None p q = p
     both (Some u) p q = elim (instant_lt u x.due) as (λ b. instant_le t (if b then u else x.due) ≡ true) [ true ↦ q | false ↦ p ]
 
-    at : (b : Bool) → instant_lt last x.due ≡ b → IfSome (soonest_due last more) (λ u. instant_le t u ≡ true) → IfSome (sooner (if b then Some x.due else None) (soonest_due last more)) (λ u. instant_le t u ≡ true)
+    at : (b : Bool) → instant_lt last x.due ≡ b → IfSome (soonest_due last more) (λ u. instant_le t u ≡ true)
+        → IfSome (sooner (if b then Some x.due else None) (soonest_due last more)) (λ u. instant_le t u ≡ true)
     at true e ih = both (soonest_due last more) (h x (inl refl) e) ih
     at false e ih = ih
 
@@ -153,7 +155,8 @@ equal_of Less h k = cc
 equal_of Equal h k = refl
 equal_of Greater h k = cc
 
-soonest_is : (last t : Instant) (all : List Claim) (c : Claim) → IsAmong c all → c.due ≡ t → instant_lt last t ≡ true → ((d : Claim) → IsAmong d all → instant_lt last d.due ≡ true → instant_le t d.due ≡ true) → soonest_due last all ≡ Some t
+soonest_is : (last t : Instant) (all : List Claim) (c : Claim) → IsAmong c all → c.due ≡ t → instant_lt last t ≡ true
+    → ((d : Claim) → IsAmong d all → instant_lt last d.due ≡ true → instant_le t d.due ≡ true) → soonest_due last all ≡ Some t
 soonest_is last t [] c m e l h = absurd m
 soonest_is last t (x ∷ more) c (inl p) e l h = at (instant_lt last x.due) (ap (instant_lt last) here ∙ l) (at_least last t more (λ d m. h d (inr m)))
   where
@@ -178,13 +181,13 @@ soonest_is last t (x ∷ more) c (inr m) e l h = at (instant_lt last x.due) refl
     at false k ih = ih
 
 -- each entry of wishes in order is due no earlier than the first
-due_from_first : (w : Wish) (more : List Held) (d : Claim) → IsBeforeAll w more → IsAmong d (entries more) → instant_le w.due d.due ≡ true
+due_from_first : (w : Wish) (more : List QueuedWish) (d : Claim) → IsBeforeAll w more → IsAmong d (entries more) → instant_le w.due d.due ≡ true
 due_from_first w [] d b m = absurd m
 due_from_first w (y ∷ ys) d b m = ⊎_elim
     (λ l. let o = origin y.wish.due y.wish.made y.wish.instance y.wish.bits d l in ap (instant_le w.due) o.when ∙ due_upto w y.wish b.0)
     (λ l. due_from_first w ys d b.1 l) (among_parts (wish_entries y.wish) (entries ys) d m)
 
-pub soonest_first : (held : List Held) (w : Wish) → AreInOrder held → Some w ≡ first_wish held → IsSoonestDue held (Some w.due)
+pub soonest_first : (held : List QueuedWish) (w : Wish) → AreInOrder held → Some w ≡ first_wish held → IsSoonestDue held (Some w.due)
 soonest_first [] w o e all last h n = absurd (clash e)
   where
     clash : Some w ≡ None → ⊥
@@ -209,18 +212,18 @@ soonest_first (x ∷ more) w o e all last h n = ap (λ (v : Wish). Some v.due) (
         let p = (h.due c).0 there in
         soonest_is last x.wish.due all c p.0 refl p.1 upto
 
-pub soonest_no : (held : List Held) → None ≡ first_wish held → IsSoonestDue held None
+pub soonest_no : (held : List QueuedWish) → None ≡ first_wish held → IsSoonestDue held None
 soonest_no [] e all last h n = sym (soonest_none last all (λ d m l. (h.due d).1 (m, l)))
 soonest_no (x ∷ more) e all last h n = absurd (clash e)
   where
     clash : None ≡ Some x.wish → ⊥
     clash z = cc
 
-none_before : (w : Wish) (xs : List Held) → IsBeforeAll w xs → NoneDueBefore w.due xs
+none_before : (w : Wish) (xs : List QueuedWish) → IsBeforeAll w xs → NoneDueBefore w.due xs
 none_before w [] b = tt
 none_before w (y ∷ ys) b = (due_upto w y.wish b.0, none_before w ys b.1)
 
-pub least_first : (held : List Held) (w : Wish) → AreInOrder held → Some w ≡ first_wish held → IsLeastDue held (Some w.due)
+pub least_first : (held : List QueuedWish) (w : Wish) → AreInOrder held → Some w ≡ first_wish held → IsLeastDue held (Some w.due)
 least_first [] w o e = absurd (clash e)
   where
     clash : Some w ≡ None → ⊥

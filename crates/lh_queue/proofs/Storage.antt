@@ -6,21 +6,21 @@ use Rattle.slab.specs.Slab.{Slab, get, slab_len, Updates}
 use Rattle.lh_queue.specs.declared.queue.Linked.{Linked}
 use Rattle.lh_queue.specs.declared.queue.Bucket.{Bucket}
 use Rattle.lh_queue.specs.declared.wish.Wish.{Wish}
-use Rattle.lh_queue.specs.Held.{Held, Waiting, NoneHas, wish_at}
+use Rattle.lh_queue.specs.Queued.{QueuedWish, Waiting, NoneHas, wish_at}
 use Rattle.lh_queue.specs.Buckets.{time, link, next_in, bucket, buckets_after, buckets_of}
 use Rattle.lh_queue.specs.Places.{first_key}
 use Rattle.lh_queue.specs.Stored.{chain, linked_from, chains_from, held_by, AreLinked, IsStored, StoresSome}
 
 -- those at the front that are due at a time, and the others
-run : ℕ → List Held → List Held
+run : ℕ → List QueuedWish → List QueuedWish
 run fs [] = []
 run fs (x ∷ more) = if nat_eq (time x) fs then x ∷ run fs more else []
 
-rest : ℕ → List Held → List Held
+rest : ℕ → List QueuedWish → List QueuedWish
 rest fs [] = []
 rest fs (x ∷ more) = if nat_eq (time x) fs then rest fs more else x ∷ more
 
-run_rest : (fs : ℕ) (xs : List Held) → run fs xs ++ rest fs xs ≡ xs
+run_rest : (fs : ℕ) (xs : List QueuedWish) → run fs xs ++ rest fs xs ≡ xs
 unfolding run rest
 run_rest fs [] = refl
 run_rest fs (x ∷ more) = at (nat_eq (time x) fs) (run_rest fs more)
@@ -30,7 +30,7 @@ run_rest fs (x ∷ more) = at (nat_eq (time x) fs) (run_rest fs more)
     at false ih = refl
 
 -- a chain leads to those of its time
-chain_run : (links : Slab Linked) (n : ℕ) (x : Held) (more : List Held) → length more ≤ n → AreLinked links more → chain links.slots n (link x more) ≡ run (time x) more
+chain_run : (links : Slab Linked) (n : ℕ) (x : QueuedWish) (more : List QueuedWish) → length more ≤ n → AreLinked links more → chain links.slots n (link x more) ≡ run (time x) more
 unfolding run
 chain_run links zero x [] le l = refl
 chain_run links (suc n) x [] le l = refl
@@ -43,13 +43,13 @@ chain_run links (suc n) x (y ∷ ys) le l =
     at true e follows = follows ∙ ap (λ fs. y ∷ run fs ys) (eqb-true (time y) (time x) e)
     at false e follows = refl
 
-chain_from : (links : Slab Linked) (n : ℕ) (x : Held) (more : List Held) → suc (length more) ≤ n → AreLinked links (x ∷ more) → chain links.slots n (Some x.key) ≡ x ∷ run (time x) more
+chain_from : (links : Slab Linked) (n : ℕ) (x : QueuedWish) (more : List QueuedWish) → suc (length more) ≤ n → AreLinked links (x ∷ more) → chain links.slots n (Some x.key) ≡ x ∷ run (time x) more
 chain_from links zero x more le l = absurd (omega arith)
 chain_from links (suc n) x more le l =
     ap (λ o. linked_from x.key o (λ j. chain links.slots n j)) l.0
     ∙ ap (λ xs. x ∷ xs) (chain_run links n x more (omega arith) l.1)
 
-chains_rest : (links : Slab Linked) (n fs : ℕ) (xs : List Held) → length xs ≤ n → AreLinked links xs → chains_from links.slots n (buckets_after fs xs) ≡ rest fs xs
+chains_rest : (links : Slab Linked) (n fs : ℕ) (xs : List QueuedWish) → length xs ≤ n → AreLinked links xs → chains_from links.slots n (buckets_after fs xs) ≡ rest fs xs
 unfolding run rest
 chains_rest links n fs [] le l = refl
 chains_rest links n fs (x ∷ more) le l = at (nat_eq (time x) fs) (λ f. chains_rest links n f more (omega arith) l.1)
@@ -62,7 +62,7 @@ chains_rest links n fs (x ∷ more) le l = at (nat_eq (time x) fs) (λ f. chains
         ∙ ap (λ ys. x ∷ run (time x) more ++ ys) (ih (time x))
         ∙ ap (λ ys. x ∷ ys) (run_rest (time x) more)
 
-chains_all : (links : Slab Linked) (n : ℕ) (xs : List Held) → length xs ≤ n → AreLinked links xs → chains_from links.slots n (buckets_of xs) ≡ xs
+chains_all : (links : Slab Linked) (n : ℕ) (xs : List QueuedWish) → length xs ≤ n → AreLinked links xs → chains_from links.slots n (buckets_of xs) ≡ xs
 unfolding run rest
 chains_all links n [] le l = refl
 chains_all links n (x ∷ more) le l =
@@ -71,19 +71,20 @@ chains_all links n (x ∷ more) le l =
     ∙ ap (λ ys. x ∷ ys) (run_rest (time x) more)
 
 -- what is stored is what is seen
-pub seen : (links : Slab Linked) (buckets : List Bucket) (held : List Held) → IsStored links buckets held → held_by links buckets ≡ held
+pub seen : (links : Slab Linked) (buckets : List Bucket) (held : List QueuedWish) → IsStored links buckets held → held_by links buckets ≡ held
 unfolding held_by
 seen links buckets held s =
     ap (λ bs. chains_from links.slots (slab_len links) bs) s.buckets_are
     ∙ chains_all links (slab_len links) held (omega (arith, s.counted)) s.linked
 
-pub stored : (links : Slab Linked) (buckets : List Bucket) (spare : ℕ) (v : Waiting) → StoresSome links buckets → record { held = held_by links buckets; spare = spare } ≡ v → IsStored links buckets v.held
+pub stored : (links : Slab Linked) (buckets : List Bucket) (spare : ℕ) (v : Waiting) → StoresSome links buckets → record { held = held_by links buckets; spare = spare } ≡ v
+    → IsStored links buckets v.held
 stored links buckets spare v i e =
-    let P : List Held → Type 0 = λ held. IsStored links buckets held in
+    let P : List QueuedWish → Type 0 = λ held. IsStored links buckets held in
     subst P (sym (seen links buckets i.0 i.1) ∙ ap (λ (w : Waiting). w.held) e) i.1
 
 -- a wish by its key
-pub wish_by : (links : Slab Linked) (held : List Held) (k : ℕ) → AreLinked links held → (NoneHas k held → get links k ≡ None) → option_map (λ (l : Linked). l.wish) (get links k) ≡ wish_at held k
+pub wish_by : (links : Slab Linked) (held : List QueuedWish) (k : ℕ) → AreLinked links held → (NoneHas k held → get links k ≡ None) → option_map (λ (l : Linked). l.wish) (get links k) ≡ wish_at held k
 wish_by links [] k l v = ap (option_map (λ (m : Linked). m.wish)) (v tt)
 wish_by links (x ∷ more) k l v = at (nat_eq x.key k) refl (λ n. wish_by links more k l.1 (λ h. v (n, h)))
   where
@@ -93,7 +94,7 @@ wish_by links (x ∷ more) k l v = at (nat_eq x.key k) refl (λ n. wish_by links
     at false e ih = ih (eqb-false x.key k e)
 
 -- the next key by a key
-pub next_by : (links : Slab Linked) (held : List Held) (k : ℕ) (here : Linked) → AreLinked links held → IsSome (wish_at held k) → get links k ≡ Some here → here.next ≡ next_in held k
+pub next_by : (links : Slab Linked) (held : List QueuedWish) (k : ℕ) (here : Linked) → AreLinked links held → IsSome (wish_at held k) → get links k ≡ Some here → here.next ≡ next_in held k
 next_by links [] k here l s g = absurd (clash s)
   where
     clash : false ≡ true → ⊥
@@ -108,37 +109,37 @@ next_by links (x ∷ more) k here l s g = at (nat_eq x.key k) refl s (λ h. next
     at true e h ih = same here _ (sym g ∙ ap (get links) (sym (eqb-true x.key k e)) ∙ l.0)
     at false e h ih = ih h
 
-pub lacks_at : (held : List Held) (k : ℕ) → NoneHas k held → wish_at held k ≡ None
+pub lacks_at : (held : List QueuedWish) (k : ℕ) → NoneHas k held → wish_at held k ≡ None
 lacks_at [] k h = refl
 lacks_at (x ∷ more) k h = rw (ne_eqb x.key k h.0) (lacks_at more k h.1)
 
 -- both slabs have the same under the keys of these
-abbrev pub Agrees : Slab Linked → Slab Linked → List Held → Type 0
+abbrev pub Agrees : Slab Linked → Slab Linked → List QueuedWish → Type 0
 Agrees s t [] = Unit {0}
 Agrees s t (x ∷ more) = (get t x.key ≡ get s x.key) × Agrees s t more
 
-pub agrees_but : (s t : Slab Linked) (k : ℕ) (xs : List Held) → ((j : ℕ) → j ≢ k → get t j ≡ get s j) → NoneHas k xs → Agrees s t xs
+pub agrees_but : (s t : Slab Linked) (k : ℕ) (xs : List QueuedWish) → ((j : ℕ) → j ≢ k → get t j ≡ get s j) → NoneHas k xs → Agrees s t xs
 agrees_but s t k [] h n = tt
 agrees_but s t k (x ∷ more) h n = (h x.key n.0, agrees_but s t k more h n.1)
 
-pub agrees_two : (s t : Slab Linked) (k i : ℕ) (xs : List Held) → ((j : ℕ) → j ≢ k → j ≢ i → get t j ≡ get s j) → NoneHas k xs → NoneHas i xs → Agrees s t xs
+pub agrees_two : (s t : Slab Linked) (k i : ℕ) (xs : List QueuedWish) → ((j : ℕ) → j ≢ k → j ≢ i → get t j ≡ get s j) → NoneHas k xs → NoneHas i xs → Agrees s t xs
 agrees_two s t k i [] h n m = tt
 agrees_two s t k i (x ∷ more) h n m = (h x.key n.0 m.0, agrees_two s t k i more h n.1 m.1)
 
-pub agrees_back : (s t : Slab Linked) (front back : List Held) → Agrees s t (front ++ back) → Agrees s t back
+pub agrees_back : (s t : Slab Linked) (front back : List QueuedWish) → Agrees s t (front ++ back) → Agrees s t back
 agrees_back s t [] back a = a
 agrees_back s t (z ∷ zs) back a = agrees_back s t zs back a.1
 
-pub linked_same : (s t : Slab Linked) (xs : List Held) → AreLinked s xs → Agrees s t xs → AreLinked t xs
+pub linked_same : (s t : Slab Linked) (xs : List QueuedWish) → AreLinked s xs → Agrees s t xs → AreLinked t xs
 linked_same s t [] l a = tt
 linked_same s t (x ∷ more) l a = (a.0 ∙ l.0, linked_same s t more l.1 a.1)
 
-pub linked_back : (s : Slab Linked) (front back : List Held) → AreLinked s (front ++ back) → AreLinked s back
+pub linked_back : (s : Slab Linked) (front back : List QueuedWish) → AreLinked s (front ++ back) → AreLinked s back
 linked_back s [] back l = l
 linked_back s (z ∷ zs) back l = linked_back s zs back l.1
 
 -- where the first of a bucket is taken out and others are left in it, the next one is the first
-pub popped_on : (x : Held) (more : List Held) (k : ℕ) → link x more ≡ Some k → buckets_of more ≡ record { fs = time x; first = k } ∷ buckets_after (time x) more
+pub popped_on : (x : QueuedWish) (more : List QueuedWish) (k : ℕ) → link x more ≡ Some k → buckets_of more ≡ record { fs = time x; first = k } ∷ buckets_after (time x) more
 popped_on x [] k h = absurd (none k h)
   where
     none : (k : ℕ) → None ≡ Some k → ⊥
@@ -162,7 +163,7 @@ popped_on x (y ∷ ys) k h = at (nat_eq (time y) (time x)) refl h
     at false e z = absurd (none z)
 
 -- where none is left in it, the bucket goes
-pub popped_out : (x : Held) (more : List Held) → link x more ≡ None → buckets_of more ≡ buckets_after (time x) more
+pub popped_out : (x : QueuedWish) (more : List QueuedWish) → link x more ≡ None → buckets_of more ≡ buckets_after (time x) more
 popped_out x [] h = refl
 popped_out x (y ∷ ys) h = at (nat_eq (time y) (time x)) h
   where
@@ -174,7 +175,8 @@ popped_out x (y ∷ ys) h = at (nat_eq (time y) (time x)) h
     at false z = refl
 
 -- the first wish is taken out
-pub stored_rest : (s t : Slab Linked) (buckets : List Bucket) (x : Held) (more : List Held) → (before : List Bucket) → IsStored s before (x ∷ more) → Updates s t x.key None → slab_len t + 1 ≡ slab_len s → buckets ≡ buckets_of more → IsStored t buckets more
+pub stored_rest : (s t : Slab Linked) (buckets : List Bucket) (x : QueuedWish) (more : List QueuedWish) → (before : List Bucket) → IsStored s before (x ∷ more) → Updates s t x.key None
+    → slab_len t + 1 ≡ slab_len s → buckets ≡ buckets_of more → IsStored t buckets more
 stored_rest s t buckets x more before i u n b = record {
   linked = linked_same s t more i.linked.1 (agrees_but s t x.key more u.others i.keys.0);
   vacant = λ k h. ⊎_elim (λ e. ap (get t) e ∙ u.changed) (λ d. u.others k d ∙ i.vacant k (λ e. d (sym e), h)) (cases_eq k x.key);
@@ -190,7 +192,7 @@ some_map None h = h
 some_map (Some l) h = h
 
 -- the first key of the first bucket is that of the first wish
-pub first_by : (held : List Held) (o : Option Bucket) (buckets : List Bucket) → buckets ≡ buckets_of held → o ≡ slice_get buckets 0 → option_map (λ (b : Bucket). b.first) o ≡ first_key held
+pub first_by : (held : List QueuedWish) (o : Option Bucket) (buckets : List Bucket) → buckets ≡ buckets_of held → o ≡ slice_get buckets 0 → option_map (λ (b : Bucket). b.first) o ≡ first_key held
 first_by [] o buckets e h = ap (option_map (λ (b : Bucket). b.first)) (h ∙ ap (λ bs. slice_get bs 0) e)
 first_by (x ∷ more) o buckets e h = ap (option_map (λ (b : Bucket). b.first)) (h ∙ ap (λ bs. slice_get bs 0) e)
 
@@ -206,12 +208,12 @@ nothing_stored links buckets e b = record {
   once = tt;
 }
 
-agrees_slots : (s t : Slab Linked) (xs : List Held) → ((j : ℕ) → get t j ≡ get s j) → Agrees s t xs
+agrees_slots : (s t : Slab Linked) (xs : List QueuedWish) → ((j : ℕ) → get t j ≡ get s j) → Agrees s t xs
 agrees_slots s t [] h = tt
 agrees_slots s t (x ∷ more) h = (h x.key, agrees_slots s t more h)
 
 -- the same is stored where the slots and buckets are the same
-pub stored_same : (s t : Slab Linked) (buckets bs : List Bucket) (held : List Held) → IsStored s buckets held → t.slots ≡ s.slots → bs ≡ buckets → IsStored t bs held
+pub stored_same : (s t : Slab Linked) (buckets bs : List Bucket) (held : List QueuedWish) → IsStored s buckets held → t.slots ≡ s.slots → bs ≡ buckets → IsStored t bs held
 stored_same s t buckets bs held i e b = record {
   linked = linked_same s t held i.linked (agrees_slots s t held (λ j. ap (λ ss. slice_index_or ss j None) e));
   vacant = λ k h. ap (λ ss. slice_index_or ss k None) e ∙ i.vacant k h;
@@ -223,27 +225,28 @@ stored_same s t buckets bs held i e b = record {
 }
 
 -- the first wish is taken out, and the others are stored so
-abbrev pub Takes : Slab Linked → List Bucket → List Held → Wish → Type 0
-Takes t bs held w = (key : ℕ) × (more : List Held) × IsStored t bs more × (held ≡ record { key = key; wish = w } ∷ more)
+abbrev pub TakesFirstWish : Slab Linked → List Bucket → List QueuedWish → Wish → Type 0
+TakesFirstWish t bs held w = (key : ℕ) × (more : List QueuedWish) × IsStored t bs more × (held ≡ record { key = key; wish = w } ∷ more)
 
-pub some_bucket : (s : Slab Linked) (buckets : List Bucket) (held : List Held) → IsStored s buckets held → held ≢ [] → 0 < length buckets
+pub some_bucket : (s : Slab Linked) (buckets : List Bucket) (held : List QueuedWish) → IsStored s buckets held → held ≢ [] → 0 < length buckets
 some_bucket s buckets [] i h = absurd (h refl)
 some_bucket s buckets (x ∷ more) i h = let P : List Bucket → Type 0 = λ bs. 0 < length bs in subst P (sym i.buckets_are) (omega arith)
 
-first_bucket : (s : Slab Linked) (buckets : List Bucket) (x : Held) (more : List Held) (b : Bucket) → IsStored s buckets (x ∷ more) → b ≡ get_or buckets 0 b → b ≡ bucket x
+first_bucket : (s : Slab Linked) (buckets : List Bucket) (x : QueuedWish) (more : List QueuedWish) (b : Bucket) → IsStored s buckets (x ∷ more) → b ≡ get_or buckets 0 b → b ≡ bucket x
 first_bucket s buckets x more b i e = e ∙ ap (λ bs. get_or bs 0 b) i.buckets_are
 
-pub first_there : (s : Slab Linked) (buckets : List Bucket) (held : List Held) (b : Bucket) → IsStored s buckets held → held ≢ [] → b ≡ get_or buckets 0 b → IsSome (get s b.first)
+pub first_there : (s : Slab Linked) (buckets : List Bucket) (held : List QueuedWish) (b : Bucket) → IsStored s buckets held → held ≢ [] → b ≡ get_or buckets 0 b → IsSome (get s b.first)
 first_there s buckets [] b i h e = absurd (h refl)
 first_there s buckets (x ∷ more) b i h e = ap (λ (d : Bucket). is_some (get s d.first)) (first_bucket s buckets x more b i e) ∙ ap is_some i.linked.0
 
 -- what the first bucket leads to
-record IsFirst (s t : Slab Linked) (x : Held) (more : List Held) (l : Linked) : Type 0 where
+record IsFirst (s t : Slab Linked) (x : QueuedWish) (more : List QueuedWish) (l : Linked) : Type 0 where
   wish : l.wish ≡ x.wish
   next : l.next ≡ link x more
   updates : Updates s t x.key None
 
-is_first : (s t : Slab Linked) (buckets : List Bucket) (x : Held) (more : List Held) (b : Bucket) (l : Linked) → IsStored s buckets (x ∷ more) → b ≡ get_or buckets 0 b → get s b.first ≡ Some l → Updates s t b.first None → IsFirst s t x more l
+is_first : (s t : Slab Linked) (buckets : List Bucket) (x : QueuedWish) (more : List QueuedWish) (b : Bucket) (l : Linked) → IsStored s buckets (x ∷ more) → b ≡ get_or buckets 0 b
+    → get s b.first ≡ Some l → Updates s t b.first None → IsFirst s t x more l
 is_first s t buckets x more b l i e g u =
     let key : b.first ≡ x.key = ap (λ (d : Bucket). d.first) (first_bucket s buckets x more b i e) in
     let same : Some l ≡ Some (record { wish = x.wish; next = link x more }) = sym g ∙ ap (get s) key ∙ i.linked.0 in
@@ -253,11 +256,12 @@ is_first s t buckets x more b l i e g u =
     some_same : (m n : Linked) → Some m ≡ Some n → m ≡ n
     some_same m n z = cc
 
-held_first : (x : Held) (more : List Held) (w : Wish) → w ≡ x.wish → (x ∷ more) ≡ (record { key = x.key; wish = w } ∷ more)
+held_first : (x : QueuedWish) (more : List QueuedWish) (w : Wish) → w ≡ x.wish → (x ∷ more) ≡ (record { key = x.key; wish = w } ∷ more)
 held_first x more w e = ap (λ v. record { key = x.key; wish = v } ∷ more) (sym e)
 
-pub taken_on : (s t : Slab Linked) (buckets bs : List Bucket) (held : List Held) (b d : Bucket) (l : Linked) (key : ℕ) → IsStored s buckets held → held ≢ [] → b ≡ get_or buckets 0 b → get s b.first ≡ Some l
-    → Updates s t b.first None → slab_len t + 1 ≡ slab_len s → l.next ≡ Some key → d ≡ get_or buckets 0 d → bs ≡ set buckets 0 (record { fs = d.fs; first = key }) → Takes t bs held l.wish
+pub taken_on : (s t : Slab Linked) (buckets bs : List Bucket) (held : List QueuedWish) (b d : Bucket) (l : Linked) (key : ℕ) → IsStored s buckets held → held ≢ [] → b ≡ get_or buckets 0 b
+    → get s b.first ≡ Some l
+    → Updates s t b.first None → slab_len t + 1 ≡ slab_len s → l.next ≡ Some key → d ≡ get_or buckets 0 d → bs ≡ set buckets 0 (record { fs = d.fs; first = key }) → TakesFirstWish t bs held l.wish
 taken_on s t buckets bs [] b d l key i h e g u n k f m = absurd (h refl)
 taken_on s t buckets bs (x ∷ more) b d l key i h e g u n k f m =
     let o = is_first s t buckets x more b l i e g u in
@@ -267,8 +271,9 @@ taken_on s t buckets bs (x ∷ more) b d l key i h e g u n k f m =
     m ∙ ap (λ cs. set cs 0 (record { fs = d.fs; first = key })) i.buckets_are ∙ ap (λ f. record { fs = f; first = key } ∷ buckets_after (time x) more) fs in
     (x.key, more, stored_rest s t bs x more buckets i o.updates n (now ∙ sym (popped_on x more key at)), held_first x more l.wish o.wish)
 
-pub taken_out : (s t : Slab Linked) (buckets bs : List Bucket) (held : List Held) (b : Bucket) (l : Linked) → IsStored s buckets held → held ≢ [] → b ≡ get_or buckets 0 b → get s b.first ≡ Some l
-    → Updates s t b.first None → slab_len t + 1 ≡ slab_len s → l.next ≡ None → bs ≡ drop 1 buckets → Takes t bs held l.wish
+pub taken_out : (s t : Slab Linked) (buckets bs : List Bucket) (held : List QueuedWish) (b : Bucket) (l : Linked) → IsStored s buckets held → held ≢ [] → b ≡ get_or buckets 0 b
+    → get s b.first ≡ Some l
+    → Updates s t b.first None → slab_len t + 1 ≡ slab_len s → l.next ≡ None → bs ≡ drop 1 buckets → TakesFirstWish t bs held l.wish
 taken_out s t buckets bs [] b l i h e g u n k f = absurd (h refl)
 taken_out s t buckets bs (x ∷ more) b l i h e g u n k f =
     let o = is_first s t buckets x more b l i e g u in

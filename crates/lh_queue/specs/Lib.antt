@@ -1,4 +1,4 @@
-pub mod Held
+pub mod Queued
 pub mod Holds
 pub mod Buckets
 pub mod Line

@@ -3,11 +3,11 @@ use Rattle.std.specs.Prelude.{ℕ, ◌+◌, ◌<◌, ◌≤◌, List, [], ◌∷
 use Rattle.std.specs.Option.{option_map_or}
 use Rattle.lh_time.specs.declared.Instant.{Instant}
 use Rattle.lh_queue.specs.declared.wish.Wish.{Wish}
-use Rattle.lh_queue.specs.Held.{Held, Waiting, is_before, is_at, IsBeforeAll, NoneHas, wish_at, with_held}
+use Rattle.lh_queue.specs.Queued.{QueuedWish, Waiting, is_before, is_at, IsBeforeAll, NoneHas, wish_at, with_held}
 use Rattle.lh_queue.specs.Buckets.{time, buckets_of, next_in}
 use Rattle.lh_queue.specs.declared.queue.Bucket.{Bucket}
-use Rattle.lh_queue.specs.declared.queue.Place.{Place}
-use Rattle.lh_queue.specs.declared.queue.Place.TheVariants.{Alone, First, After}
+use Rattle.lh_queue.specs.declared.queue.Insertion.{Insertion}
+use Rattle.lh_queue.specs.declared.queue.Insertion.TheVariants.{Alone, First, After}
 
 -- how many buckets at the front are of earlier times
 abbrev pub earlier : ℕ → List Bucket → ℕ
@@ -15,34 +15,34 @@ earlier fs [] = 0
 earlier fs (b ∷ more) = if nat_lt b.fs fs then suc (earlier fs more) else 0
 
 -- each is due at an earlier time
-abbrev pub AreEarlier : ℕ → List Held → Type 0
+abbrev pub AreEarlier : ℕ → List QueuedWish → Type 0
 AreEarlier fs [] = Unit {0}
 AreEarlier fs (x ∷ more) = (time x < fs) × AreEarlier fs more
 
 -- each is due at a later time
-abbrev pub AreLater : ℕ → List Held → Type 0
+abbrev pub AreLater : ℕ → List QueuedWish → Type 0
 AreLater fs [] = Unit {0}
 AreLater fs (x ∷ more) = (fs < time x) × AreLater fs more
 
 -- each comes before the wish
-abbrev pub AllBefore : List Held → Wish → Type 0
+abbrev pub AllBefore : List QueuedWish → Wish → Type 0
 AllBefore [] w = Unit {0}
 AllBefore (x ∷ more) w = (is_before x.wish w ≡ true) × AllBefore more w
 
 -- alone, in a new bucket
-pub record GoesAlone (held : List Held) (w : Wish) (k : ℕ) : Type 0 where
-  pub front : List Held
-  pub back : List Held
+pub record GoesAlone (held : List QueuedWish) (w : Wish) (k : ℕ) : Type 0 where
+  pub front : List QueuedWish
+  pub back : List QueuedWish
   pub split : held ≡ front ++ back
   pub place : length (buckets_of front) ≡ k
   pub earlier : AreEarlier w.due.fs front
   pub later : AreLater w.due.fs back
 
 -- first in a bucket
-pub record GoesFirst (held : List Held) (w : Wish) (k : ℕ) : Type 0 where
-  pub front : List Held
-  pub next : Held
-  pub back : List Held
+pub record GoesFirst (held : List QueuedWish) (w : Wish) (k : ℕ) : Type 0 where
+  pub front : List QueuedWish
+  pub next : QueuedWish
+  pub back : List QueuedWish
   pub split : held ≡ front ++ next ∷ back
   pub place : length (buckets_of front) ≡ k
   pub earlier : AreEarlier w.due.fs front
@@ -50,10 +50,10 @@ pub record GoesFirst (held : List Held) (w : Wish) (k : ℕ) : Type 0 where
   pub before : IsBeforeAll w (next ∷ back)
 
 -- behind the wish of a key, in its bucket
-pub record GoesAfter (held : List Held) (w : Wish) (k : ℕ) : Type 0 where
-  pub front : List Held
-  pub near : Held
-  pub back : List Held
+pub record GoesAfter (held : List QueuedWish) (w : Wish) (k : ℕ) : Type 0 where
+  pub front : List QueuedWish
+  pub near : QueuedWish
+  pub back : List QueuedWish
   pub split : held ≡ front ++ near ∷ back
   pub key : near.key ≡ k
   pub same : time near ≡ w.due.fs
@@ -61,43 +61,43 @@ pub record GoesAfter (held : List Held) (w : Wish) (k : ℕ) : Type 0 where
   pub before : IsBeforeAll w back
 
 -- a place for a wish
-abbrev pub IsPlace : List Held → Wish → Place → Type 0
+abbrev pub IsPlace : List QueuedWish → Wish → Insertion → Type 0
 IsPlace held w (Alone k) = GoesAlone held w k
 IsPlace held w (First k) = GoesFirst held w k
 IsPlace held w (After k near) = GoesAfter held w near
 
 -- the wish of a key is in the bucket of a wish, and comes before it
-pub record IsBehind (held : List Held) (w : Wish) (k : ℕ) : Type 0 where
-  pub front : List Held
-  pub near : Held
-  pub back : List Held
+pub record IsBehind (held : List QueuedWish) (w : Wish) (k : ℕ) : Type 0 where
+  pub front : List QueuedWish
+  pub near : QueuedWish
+  pub back : List QueuedWish
   pub split : held ≡ front ++ near ∷ back
   pub key : near.key ≡ k
   pub same : time near ≡ w.due.fs
   pub after : AllBefore (front ++ near ∷ []) w
 
 -- the key of the first wish
-abbrev pub first_key : List Held → Option ℕ
+abbrev pub first_key : List QueuedWish → Option ℕ
 first_key [] = None
 first_key (x ∷ more) = Some x.key
 
 -- the first wish
-abbrev pub first_wish : List Held → Option Wish
+abbrev pub first_wish : List QueuedWish → Option Wish
 first_wish [] = None
 first_wish (x ∷ more) = Some x.wish
 
 -- whether the first wish is due at an instant
-abbrev pub starts_at : Instant → List Held → Bool
+abbrev pub starts_at : Instant → List QueuedWish → Bool
 starts_at t [] = false
 starts_at t (x ∷ more) = is_at x.wish.due t
 
 -- those from the wish of a key on
-abbrev pub from_key : List Held → ℕ → List Held
+abbrev pub from_key : List QueuedWish → ℕ → List QueuedWish
 from_key [] k = []
 from_key (x ∷ more) k = if nat_eq x.key k then x ∷ more else from_key more k
 
 -- the same, where there may be no key
-abbrev pub rest_from : List Held → Option ℕ → List Held
+abbrev pub rest_from : List QueuedWish → Option ℕ → List QueuedWish
 rest_from held None = []
 rest_from held (Some k) = from_key held k
 
@@ -107,20 +107,20 @@ first_of None fs = None
 first_of (Some b) fs = if nat_eq b.fs fs then Some b.first else None
 
 -- whether the wish of a key comes before a wish
-abbrev pub comes_before : List Held → ℕ → Wish → Bool
+abbrev pub comes_before : List QueuedWish → ℕ → Wish → Bool
 comes_before held k w = option_map_or (λ x. is_before x w) (wish_at held k) false
 
 -- whether the wish of a key is due at the physical time of a wish, and comes before it
-abbrev pub is_near : List Held → ℕ → Wish → Bool
+abbrev pub is_near : List QueuedWish → ℕ → Wish → Bool
 is_near held k w = option_map_or (λ x. nat_eq x.due.fs w.due.fs && is_before x w) (wish_at held k) false
 
 -- a key, where its wish comes before a wish
-abbrev pub if_before : List Held → Wish → Option ℕ → Option ℕ
+abbrev pub if_before : List QueuedWish → Wish → Option ℕ → Option ℕ
 if_before held w None = None
 if_before held w (Some k) = if comes_before held k w then Some k else None
 
 -- the key of the next wish of the bucket, where it comes before a wish
-abbrev pub next_before : List Held → ℕ → Wish → Option ℕ
+abbrev pub next_before : List QueuedWish → ℕ → Wish → Option ℕ
 next_before held k w = if_before held w (next_in held k)
 
 -- a wish is put under a key that was free
@@ -131,6 +131,6 @@ pub record IsPut (old new : Waiting) (w : Wish) : Type 0 where
   pub spare : old.spare ≤ new.spare + 1
 
 -- those behind the wish of a key
-abbrev pub behind : List Held → ℕ → List Held
+abbrev pub behind : List QueuedWish → ℕ → List QueuedWish
 behind [] k = []
 behind (x ∷ more) k = if nat_eq x.key k then more else behind more k

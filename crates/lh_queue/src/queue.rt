@@ -1,7 +1,7 @@
 //! A queue of wishes in buckets, a bucket for each physical time, with the wishes themselves in a slab.
 ghost use Rattle.std.specs.Prelude.{◌≡◌, ◌≢◌, ◌≤◌, ◌<◌, ◌+◌, ◌∷◌, ℕ, [], length, IsSome, None, OnOk, slice_get, option_copied};
 ghost use Rattle.lh_types.specs.History.{values_by};
-ghost use Rattle.lh_queue.specs.Held.{Held, with_held, wish_at, due_later, NoneDueBefore, NoneCompetes, NamesOnce, EachWithin, IsLeastDue, AreInOrder, KeysDiffer};
+ghost use Rattle.lh_queue.specs.Queued.{QueuedWish, with_held, wish_at, due_later, NoneDueBefore, NoneCompetes, NamesOnce, EachWithin, IsLeastDue, AreInOrder, KeysDiffer};
 ghost use Rattle.lh_queue.specs.Holds.{entries, HoldsFor, AreBitsAt, HoldsOn, HoldsMore, IsSoonestDue};
 ghost use Rattle.lh_queue.specs.Buckets.{buckets_of, next_in, AreBuckets};
 ghost use Rattle.lh_queue.specs.Places.{IsPlace, GoesAlone, GoesFirst, GoesAfter, IsBehind, IsPut, earlier, first_key, first_wish, starts_at, first_of, comes_before, next_before, is_near};
@@ -35,7 +35,7 @@ struct Linked {
 /// Where a wish goes: alone into a new bucket of this number, first into the bucket of this number, or in the bucket of the
 /// first number behind the wish of the key that stands second.
 #[derive(Clone, Copy)]
-enum Place {
+enum Insertion {
     Alone(usize),
     First(usize),
     After(usize, usize),
@@ -54,7 +54,7 @@ pub struct Queue {
 }
 
 impl Model for Queue {
-    ghost use Rattle.lh_queue.specs.Held.{Waiting};
+    ghost use Rattle.lh_queue.specs.Queued.{Waiting};
 
     ghost Value = { Waiting };
 
@@ -108,9 +108,9 @@ impl Queue {
         ensures holds { HoldsMore self.old.held w self.new.held }
     {
         match self.place(&w) {
-            Place::Alone(k) => self.put_alone(k, w),
-            Place::First(k) => self.put_first(k, w),
-            Place::After(k, near) => self.put_after(k, near, w),
+            Insertion::Alone(k) => self.put_alone(k, w),
+            Insertion::First(k) => self.put_first(k, w),
+            Insertion::After(k, near) => self.put_after(k, near, w),
         }
     }
 
@@ -249,19 +249,19 @@ impl Queue {
     }
 
     /// Where a wish goes.
-    fn place(&self, w: &Wish) -> Place
+    fn place(&self, w: &Wish) -> Insertion
         requires { NoneCompetes w.now self.now.held }
         ensures { IsPlace self.now.held w.now result }
     {
         let k = self.first_from(w.due.fs);
         match self.first_of(k, w.due.fs) {
-            None => Place::Alone(k),
+            None => Insertion::Alone(k),
             Some(first) => {
                 if self.comes_before(first, w) {
                     let near = self.near(k, first, w);
-                    Place::After(k, self.last_before(near, w))
+                    Insertion::After(k, self.last_before(near, w))
                 } else {
-                    Place::First(k)
+                    Insertion::First(k)
                 }
             }
         }

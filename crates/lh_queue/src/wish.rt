@@ -1,7 +1,7 @@
 //! A wish as a queue holds it: what one instance wished at one instant for one due instant.
 ghost use Rattle.std.specs.Prelude.{◌≡◌, length};
 ghost use Rattle.lh_types.specs.Writes.{written, BitsWithin};
-ghost use Rattle.lh_queue.specs.Held.{is_before, is_at};
+ghost use Rattle.lh_queue.specs.Queued.{is_before, is_at};
 
 use lh_time::Instant;
 use lh_types::bits::Bits;

@@ -1,7 +1,7 @@
 -- Triggers that are found one after the other, and triggers that rest one after the other.
 use Rattle.std.proofs.Common.{◌≡◌, ℕ, ◌+◌, ◌<◌, ◌≤◌, List, [], ◌∷◌, ◌++◌, length, get_or, take, map, Bool, Option, Some, None, refl, ap, sym, ◌∙◌, subst, arith}
 use Rattle.std.specs.Prelude.{slice_get, Result, Ok, Err, IfOk, IsTrue}
-use Rattle.std.proofs.lemmas.List.{append_assoc, append-nil, map-append, take_more, take_all}
+use Rattle.std.proofs.lemmas.List.{append_assoc, append-nil, map-append, length-take-le, take_more, take_all}
 use Rattle.lh_types.specs.declared.part.Range.{Range}
 use Rattle.lh_unit.specs.Arena.{Arena, IsArena, unit_count, kind_at, naming, inst_at, unit_text_at, block_insts_at}
 use Rattle.lh_unit.specs.Hierarchy.{lines_of}
@@ -20,29 +20,48 @@ use Rattle.lh_unit.specs.declared.inst.RegTrigger.{RegTrigger}
 use Rattle.lh_react.specs.Standing.{line_in}
 use Rattle.lh_react.specs.declared.triggers.TriggerBit.{TriggerBit}
 use Rattle.lh_react.specs.TriggerBits.{IsTriggerBit, AreTriggerBits, triggers_by, triggers_of, IsNoDrive, AddsTriggers, HasTriggers}
-use Rattle.lh_react.specs.Resting.{IsHeld, past_at, Rests, AllRest}
+use Rattle.lh_react.specs.Resting.{IsHeld, past_at, Rests, NoneFires, IsQuiet}
+use Rattle.lh_react.specs.State.{EntityState, values_of, state_of}
+use Rattle.lh_react.specs.declared.state.Known.{Known}
 
 -- one more that rests
-rests-next : (now : List Bool) (memory : Option (List Bool)) (n : ℕ) (bits : List TriggerBit) (values : List Bool) (b : TriggerBit) (v : Bool) → AllRest now memory n bits values → Rests now memory (n + length bits) b v → AllRest now memory n (bits ++ b ∷ []) (values ++ v ∷ [])
+rests-next : (now : List Bool) (memory : Option (List Bool)) (n : ℕ) (bits : List TriggerBit) (values : List Bool) (b : TriggerBit) (v : Bool) → NoneFires now memory n bits values → Rests now memory (n + length bits) b v → NoneFires now memory n (bits ++ b ∷ []) (values ++ v ∷ [])
 rests-next now memory n [] [] b v all is = (subst (λ (m : ℕ). Rests now memory m b v) (omega arith) is, tt)
 rests-next now memory n [] (w ∷ values) b v all is = absurd all
 rests-next now memory n (c ∷ bits) [] b v all is = absurd all
 rests-next now memory n (c ∷ bits) (w ∷ values) b v all is = (all.0, rests-next now memory (n + 1) bits values b v all.1 (subst (λ (m : ℕ). Rests now memory m b v) (omega arith) is))
 
-rests-long : (now : List Bool) (memory : Option (List Bool)) (n : ℕ) (bits : List TriggerBit) (values : List Bool) → AllRest now memory n bits values → length bits ≡ length values
+rests-long : (now : List Bool) (memory : Option (List Bool)) (n : ℕ) (bits : List TriggerBit) (values : List Bool) → NoneFires now memory n bits values → length bits ≡ length values
 rests-long now memory n [] [] all = refl
 rests-long now memory n [] (w ∷ values) all = absurd all
 rests-long now memory n (c ∷ bits) [] all = absurd all
 rests-long now memory n (c ∷ bits) (w ∷ values) all = let more = rests-long now memory (n + 1) bits values all.1 in omega arith
 
-pub rests-more : (now : List Bool) (memory : Option (List Bool)) (all : List TriggerBit) (i : ℕ) (d : TriggerBit) (seen new : List Bool) (n : ℕ) (v : Bool) (past : Option Bool) → i < length all → AllRest now memory 0 (take i all) seen → n ≡ length seen → slice_get now (get_or all i d).at ≡ Some v
-    → past ≡ past_at memory n → IsHeld now past v (get_or all i d) → new ≡ seen ++ v ∷ [] → AllRest now memory 0 (take (i + 1) all) new
+pub rests-more : (now : List Bool) (memory : Option (List Bool)) (all : List TriggerBit) (i : ℕ) (d : TriggerBit) (seen new : List Bool) (n : ℕ) (v : Bool) (past : Option Bool) → i < length all → NoneFires now memory 0 (take i all) seen → n ≡ length seen → slice_get now (get_or all i d).at ≡ Some v
+    → past ≡ past_at memory n → IsHeld now past v (get_or all i d) → new ≡ seen ++ v ∷ [] → NoneFires now memory 0 (take (i + 1) all) new
 rests-more now memory all i d seen new n v past l rest long is was held more =
     let b : TriggerBit = get_or all i d in
     let first : Rests now memory n b v = record { is = is; held = subst (λ (o : Option Bool). IsHeld now o v b) was held } in
     let here : Rests now memory (0 + length (take i all)) b v = subst (λ (m : ℕ). Rests now memory m b v) (omega (arith, long, rests-long now memory 0 (take i all) seen rest)) first in
-    let next : AllRest now memory 0 (take i all ++ b ∷ []) (seen ++ v ∷ []) = rests-next now memory 0 (take i all) seen b v rest here in
-    subst (λ (bs : List TriggerBit). AllRest now memory 0 bs new) (sym (take_more all i d l)) (subst (λ (vs : List Bool). AllRest now memory 0 (take i all ++ b ∷ []) vs) (sym more) next)
+    let next : NoneFires now memory 0 (take i all ++ b ∷ []) (seen ++ v ∷ []) = rests-next now memory 0 (take i all) seen b v rest here in
+    subst (λ (bs : List TriggerBit). NoneFires now memory 0 bs new) (sym (take_more all i d l)) (subst (λ (vs : List Bool). NoneFires now memory 0 (take i all ++ b ∷ []) vs) (sym more) next)
+
+-- the same of one trigger more, which has the next of these values
+pub rests-both : (now last : List Bool) (all : List TriggerBit) (values : List Bool) (i : ℕ) (d : TriggerBit) (v : Bool) (past : Option Bool) → i < length all → i < length values → past ≡ slice_get last i → slice_get now (get_or all i d).at ≡ Some (get_or values i v) → IsHeld now past (get_or values i v) (get_or all i d)
+    → NoneFires now (Some last) 0 (take i all) (take i values) → NoneFires now (Some last) 0 (take (i + 1) all) (take (i + 1) values)
+rests-both now last all values i d v past l k is-past is held rest =
+    rests-more now (Some last) all i d (take i values) (take (i + 1) values) i (get_or values i v) past l rest (sym (length-take-le i values (omega (arith, k)))) is is-past held (take_more values i v k)
+
+-- where these values rest that are known, a pass is quiet
+pub quiet-known : (now : List Bool) (old new : EntityState) (k : Known) (s t : Bool) (bits : List TriggerBit) (last values : List Bool) → old ≡ state_of k s → new ≡ state_of k t → k.triggers ≡ Some bits → last ≡ values_of k s → values ≡ values_of k t → NoneFires now (Some last) 0 bits values → IsQuiet now old new
+quiet-known now old new k s t bits last values o n is l v rest = record {
+  bits = bits;
+  values = values;
+  known = ap (λ (x : EntityState). x.triggers) o ∙ is;
+  kept = ap (λ (x : EntityState). x.triggers) n ∙ sym (ap (λ (x : EntityState). x.triggers) o);
+  seen = ap (λ (x : EntityState). x.memory) n ∙ ap Some (sym v);
+  rest = subst (λ (m : Option (List Bool)). NoneFires now m 0 bits values) (ap Some l ∙ sym (ap (λ (x : EntityState). x.memory) o)) rest;
+}
 
 module _ (u : UnitText) (args : List Range) where
   are-next : (gs : List TriggerText) (bits : List TriggerBit) (g : TriggerText) (b : TriggerBit) → AreTriggerBits u args gs bits → IsTriggerBit u args g b → AreTriggerBits u args (gs ++ g ∷ []) (bits ++ b ∷ [])

@@ -13,12 +13,12 @@ use Rattle.lh_eval.specs.Holding.{datum_in, part_in, MaybeIn}
 use Rattle.lh_eval.specs.Fitting.{OperandsFit, ProbeFits, DriveFits}
 use Rattle.lh_eval.specs.Sound.{HasOperands}
 use Rattle.lh_types.specs.declared.op.Op.{Op}
-use Rattle.lh_react.specs.declared.pass.Run.{Run}
-use Rattle.lh_react.specs.Standing.{IsFit}
+use Rattle.lh_react.specs.declared.pass.PassRun.{PassRun}
+use Rattle.lh_react.specs.Standing.{RunFits}
 use Rattle.lh_react.specs.Registers.{TriggerIn, TriggerFits}
 use Rattle.lh_sound.proofs.SlotsFit.{operation-has, probe-has, drive-has}
 
-module _ (a : Arena) (u w : ℕ) (r : Run) (f : IsFit a u w r) where
+module _ (a : Arena) (u w : ℕ) (r : PassRun) (f : RunFits a u w r) where
   pub slots-long : length r.slots ≡ value_count a u
   slots-long = f.stands.holds.long
 

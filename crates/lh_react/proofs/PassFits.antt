@@ -8,7 +8,7 @@ use Rattle.lh_unit.specs.Pass.{Passed, trigger_now, fires, delay_of, stored, tri
 use Rattle.lh_unit.specs.Within.{Each}
 use Rattle.lh_formed.specs.Operands.{RowIs, IsOf, TriggerIs}
 use Rattle.lh_eval.specs.Fitting.{Fits}
-use Rattle.lh_eval.specs.Sound.{IsSound}
+use Rattle.lh_eval.specs.Sound.{InstIsSound}
 use Rattle.lh_eval.specs.Wishing.{WishWithin}
 use Rattle.lh_eval.proofs.Wishing.{due-within, driven-within}
 use Rattle.lh_react.specs.Standing.{triggers_in, trigger_count}
@@ -51,6 +51,6 @@ module _ (u : UnitText) (now : List Bool) (memory : Option (List Bool)) (t : Ins
       pass-seen ls (passes u now memory t l.inst l.result p) ∙ here
 
   -- only bits of the signals
-  pub pass-within : (ls : List LineText) (p : Passed) → Each (IsSound u) ls → Fits u (length now) p.held → WishWithin (length now) p.wish → WishWithin (length now) (pass_from u now memory t p ls).wish
+  pub pass-within : (ls : List LineText) (p : Passed) → Each (InstIsSound u) ls → Fits u (length now) p.held → WishWithin (length now) p.wish → WishWithin (length now) (pass_from u now memory t p ls).wish
   pass-within [] p s f x = x
   pass-within (l ∷ ls) p s f x = pass-within ls (passes u now memory t l.inst l.result p) s.1 (keeps-fit u now memory t p l s.0 f) (inst-within u (length now) now memory t l.inst l.result p f s.0.row x)

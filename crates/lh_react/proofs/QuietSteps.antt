@@ -17,7 +17,7 @@ use Rattle.lh_unit.specs.Pass.{Passed, mode_holds, past_of, trigger_now, fires, 
 use Rattle.lh_unit.proofs.Tables.{same_name-is}
 use Rattle.lh_sound.proofs.NamedOnce.{IsFirst}
 use Rattle.lh_sound.proofs.FitLaws.{triggers-hold}
-use Rattle.lh_react.specs.Quiet.{test_of, BeginsBy, IsProbe, IsProbedBit, IsProbedInt, IsComparedBit, IsKnownBit, KnowsProbes, KnowsCompared, Knows, IsShut, HoldsBack}
+use Rattle.lh_react.specs.Quiet.{test_of, BeginsBy, IsProbe, IsProbedBit, IsProbedInt, IsComparedBit, IsKnownBit, KnowsProbes, KnowsCompared, KnowsProbedBits, IsShut, HoldsBack}
 
 true_no_false : (b : Bool) → b ≡ true → b ≡ false → ⊥
 true_no_false b t f = absurd (let gone : true ≡ false = sym t ∙ f in cc)
@@ -101,7 +101,7 @@ module _ (u : UnitText) (now : List Bool) (begun : Env) where
       let F : Option Held → Option Held → Option Bool = λ p q. test_of (or_else (option_map (λ ds. datum_held (apply Eq ds)) (front (option_and_then as_datum p) (front (option_and_then as_datum q) (Some [])))) None) in
       ap (λ (p : Option Held). F p (e y.value)) left ∙ ap (F (Some (datum_held (int_value v k)))) right ∙ test-same v k w l
 
-  result-compared : (e : Env) (m : List ℕ) (h : Held) (i : InstText) (n : List ℕ) (b : Bool) → line_giving m (lines_of u.blocks) ≡ Some i → ((x y : OperandText) → i ≡ pure_text Eq (x ∷ y ∷ []) → Some h ≡ operated u e Eq (x ∷ y ∷ [])) → Knows u now begun e → IsComparedBit u now begun n b
+  result-compared : (e : Env) (m : List ℕ) (h : Held) (i : InstText) (n : List ℕ) (b : Bool) → line_giving m (lines_of u.blocks) ≡ Some i → ((x y : OperandText) → i ≡ pure_text Eq (x ∷ y ∷ []) → Some h ≡ operated u e Eq (x ∷ y ∷ [])) → KnowsProbedBits u now begun e → IsComparedBit u now begun n b
       → (c : Bool) → same_name m n ≡ c → (test_of (if c then Some h else e n) ≡ None) ⊎ (test_of (if c then Some h else e n) ≡ Some b)
   result-compared e m h i n b giving gives k x true q =
       let c = x.compared in
@@ -115,7 +115,7 @@ module _ (u : UnitText) (now : List Bool) (begun : Env) where
       inr (ap test_of is ∙ compared-test e c.left c.right c.left_width c.left_bits c.right_width c.right_bits left right ∙ ap (λ (z : Bool). Some z) (sym c.same))
   result-compared e m h i n b giving gives k x false q = k.compared n b x
 
-  given-compared : (e : Env) (r : Option (List ℕ)) (o : Option Held) (i : InstText) → IsFirst u.args (lines_of u.blocks) (record { result = r; inst = i }) → ((x y : OperandText) → i ≡ pure_text Eq (x ∷ y ∷ []) → o ≡ operated u e Eq (x ∷ y ∷ [])) → Knows u now begun e
+  given-compared : (e : Env) (r : Option (List ℕ)) (o : Option Held) (i : InstText) → IsFirst u.args (lines_of u.blocks) (record { result = r; inst = i }) → ((x y : OperandText) → i ≡ pure_text Eq (x ∷ y ∷ []) → o ≡ operated u e Eq (x ∷ y ∷ [])) → KnowsProbedBits u now begun e
       → KnowsCompared u now begun (if_held e r o)
   given-compared e None None i f gives k = k.compared
   given-compared e None (Some h) i f gives k = k.compared
@@ -128,7 +128,7 @@ module _ (u : UnitText) (now : List Bool) (begun : Env) where
       let right : args ≡ x ∷ y ∷ [] = cc in
       ap (λ (z : Op). operated u e z args) left ∙ ap (operated u e Eq) right
 
-  passes-compared : (memory : Option (List Bool)) (t : Instant) (p : Passed) (i : InstText) (r : Option (List ℕ)) → IsFirst u.args (lines_of u.blocks) (record { result = r; inst = i }) → Knows u now begun p.held → KnowsCompared u now begun (passes u now memory t i r p).held
+  passes-compared : (memory : Option (List Bool)) (t : Instant) (p : Passed) (i : InstText) (r : Option (List ℕ)) → IsFirst u.args (lines_of u.blocks) (record { result = r; inst = i }) → KnowsProbedBits u now begun p.held → KnowsCompared u now begun (passes u now memory t i r p).held
   passes-compared memory t p (const_text d) r f k = given-compared p.held r (Some (datum_held d)) (const_text d) f (λ x y q. absurd cc) k
   passes-compared memory t p (pure_text o args) r f k = given-compared p.held r (operated u p.held o args) (pure_text o args) f (same-operation p.held o args) k
   passes-compared memory t p (prb_text s) r f k = given-compared p.held r (probed now p.held s) (prb_text s) f (λ x y q. absurd cc) k
@@ -136,18 +136,18 @@ module _ (u : UnitText) (now : List Bool) (begun : Env) where
   passes-compared memory t p (reg_text to gs) r f k = subst (KnowsCompared u now begun) (sym (triggers-hold memory t to false p gs)) k.compared
   passes-compared memory t p _ r f k = k.compared
 
-  pub passes-know : (memory : Option (List Bool)) (t : Instant) (p : Passed) (i : InstText) (r : Option (List ℕ)) → IsFirst u.args (lines_of u.blocks) (record { result = r; inst = i }) → Knows u now begun p.held → Knows u now begun (passes u now memory t i r p).held
+  pub passes-know : (memory : Option (List Bool)) (t : Instant) (p : Passed) (i : InstText) (r : Option (List ℕ)) → IsFirst u.args (lines_of u.blocks) (record { result = r; inst = i }) → KnowsProbedBits u now begun p.held → KnowsProbedBits u now begun (passes u now memory t i r p).held
   passes-know memory t p i r f k = record { probes = passes-probes memory t p i r f k.probes; compared = passes-compared memory t p i r f k }
 
   -- what a trigger or a gate is, where that is a known bit
-  pub probe-tests : (e : Env) (n : List ℕ) (b : Bool) → Knows u now begun e → IsProbedBit u now begun n b → IsSome (test_at e n) → test_at e n ≡ Some b
+  pub probe-tests : (e : Env) (n : List ℕ) (b : Bool) → KnowsProbedBits u now begun e → IsProbedBit u now begun n b → IsSome (test_at e n) → test_at e n ≡ Some b
   probe-tests e n b k x there = by (k.probes n x.signal x.probe).value
     where
       by : (datum_at e n ≡ None) ⊎ (e n ≡ probed now begun x.signal) → test_at e n ≡ Some b
       by (inl missing) = absurd (not-there (test_at e n) (ap (option_and_then as_test) missing) there)
       by (inr is) = ap test_of is ∙ x.bit
 
-  known-tests : (e : Env) (n : List ℕ) (b : Bool) → Knows u now begun e → IsKnownBit u now begun n b → IsSome (test_at e n) → test_at e n ≡ Some b
+  known-tests : (e : Env) (n : List ℕ) (b : Bool) → KnowsProbedBits u now begun e → IsKnownBit u now begun n b → IsSome (test_at e n) → test_at e n ≡ Some b
   known-tests e n b k (inl x) there = probe-tests e n b k x there
   known-tests e n b k (inr x) there = by (k.compared n b x)
     where
@@ -160,7 +160,7 @@ module _ (u : UnitText) (now : List Bool) (begun : Env) where
   and-false false = refl
 
   -- a trigger that is held back does not fire
-  pub held-back : (memory : Option (List Bool)) (p : Passed) (g : TriggerText) (past : Option Bool) (b : Bool) → past ≡ past_of memory p.seen → Knows u now begun p.held → HoldsBack u now begun past b g → test_at p.held g.trigger ≡ Some b → IsSome (condition_at p.held g.gate)
+  pub held-back : (memory : Option (List Bool)) (p : Passed) (g : TriggerText) (past : Option Bool) (b : Bool) → past ≡ past_of memory p.seen → KnowsProbedBits u now begun p.held → HoldsBack u now begun past b g → test_at p.held g.trigger ≡ Some b → IsSome (condition_at p.held g.gate)
       → fires memory p g ≡ false
   held-back memory p g past b was k back is there =
       let F : Option Bool → Bool → Bool = λ o x. mode_holds g.mode o x && unwrap_or (condition_at p.held g.gate) false in

@@ -1,4 +1,3 @@
-pub mod Kept
 pub mod Standing
 pub mod State
 pub mod Registers

@@ -70,7 +70,7 @@ abbrev pub KnowsCompared : UnitText → List Bool → (begun e : Env) → Type 0
 KnowsCompared u now begun e = (n : List ℕ) (b : Bool) → IsComparedBit u now begun n b → (test_at e n ≡ None) ⊎ (test_at e n ≡ Some b)
 
 -- what a pass that began so knows of both
-pub record Knows (u : UnitText) (now : List Bool) (begun e : Env) : Type 0 where
+pub record KnowsProbedBits (u : UnitText) (now : List Bool) (begun e : Env) : Type 0 where
   pub probes : KnowsProbes u now begun e
   pub compared : KnowsCompared u now begun e
 

@@ -11,7 +11,7 @@ use Rattle.lh_unit.specs.declared.inst.RegTrigger.{RegTrigger}
 use Rattle.lh_eval.specs.Holding as holding
 use Rattle.lh_eval.specs.Holding.{MaybeIn, datum_in, part_in, test_in, condition_in}
 use Rattle.lh_eval.specs.Fitting.{DriveFits}
-use Rattle.lh_react.specs.declared.pass.Run.{Run}
+use Rattle.lh_react.specs.declared.pass.PassRun.{PassRun}
 
 -- each operand of a trigger has a slot
 pub record TriggerIn (slots : List (Option Held)) (g : RegTrigger) : Type 0 where
@@ -34,18 +34,18 @@ abbrev pub value_in : List (Option Held) → RegTrigger → Bool
 value_in slots g = unwrap_or (test_in slots g.trigger) false
 
 -- the mode holds and the gate is 1
-abbrev pub fires_in : (memory : Option (List Bool)) → Run → RegTrigger → Bool
+abbrev pub fires_in : (memory : Option (List Bool)) → PassRun → RegTrigger → Bool
 fires_in memory r g = mode_holds g.mode (past_of memory r.seen) (value_in r.slots g) && unwrap_or (condition_in r.slots g.gate) false
 
 -- the wish after a trigger has fired
-abbrev pub stored_in : Instant → (to : ValueId) → Run → RegTrigger → Wish
+abbrev pub stored_in : Instant → (to : ValueId) → PassRun → RegTrigger → Wish
 stored_in t to r g = unwrap_or (drive_due t r.wishes (part_in r.slots to) (datum_in r.slots g.value) (delay_in r.slots g.after)) r.wishes
 
 -- the run after a trigger
-abbrev pub tried : (memory : Option (List Bool)) → Instant → (to : ValueId) → (fired : Bool) → Run → RegTrigger → Run
+abbrev pub tried : (memory : Option (List Bool)) → Instant → (to : ValueId) → (fired : Bool) → PassRun → RegTrigger → PassRun
 tried memory t to fired r g = record { slots = r.slots; seen = r.seen ++ value_in r.slots g ∷ []; wishes = if not fired && fires_in memory r g then stored_in t to r g else r.wishes }
 
 -- the run after the triggers of a register, in order
-abbrev pub tries : (memory : Option (List Bool)) → Instant → (to : ValueId) → (fired : Bool) → Run → List RegTrigger → Run
+abbrev pub tries : (memory : Option (List Bool)) → Instant → (to : ValueId) → (fired : Bool) → PassRun → List RegTrigger → PassRun
 tries memory t to fired r [] = r
 tries memory t to fired r (g ∷ more) = tries memory t to (fired || fires_in memory r g) (tried memory t to fired r g) more

@@ -6,6 +6,7 @@ use Rattle.lh_unit.specs.Pass.{mode_holds}
 use Rattle.lh_react.specs.declared.triggers.Gate.{Gate}
 use Rattle.lh_react.specs.declared.triggers.Gate.TheVariants as gate
 use Rattle.lh_react.specs.declared.triggers.TriggerBit.{TriggerBit}
+use Rattle.lh_react.specs.State.{EntityState}
 use Rattle.lh_react.specs.TriggerBits.{number_at, LiesIn}
 
 -- two parts have different integers
@@ -34,7 +35,16 @@ pub record Rests (now : List Bool) (memory : Option (List Bool)) (n : ℕ) (b : 
   pub held : IsHeld now (past_at memory n) value b
 
 -- triggers from this number on have these values, and none fires
-abbrev pub AllRest : (now : List Bool) → (memory : Option (List Bool)) → ℕ → List TriggerBit → (values : List Bool) → Type 0
-AllRest now memory n [] [] = Unit {0}
-AllRest now memory n (b ∷ bs) (value ∷ values) = Rests now memory n b value × AllRest now memory (n + 1) bs values
-AllRest now memory n _ _ = ⊥
+abbrev pub NoneFires : (now : List Bool) → (memory : Option (List Bool)) → ℕ → List TriggerBit → (values : List Bool) → Type 0
+NoneFires now memory n [] [] = Unit {0}
+NoneFires now memory n (b ∷ bs) (value ∷ values) = Rests now memory n b value × NoneFires now memory (n + 1) bs values
+NoneFires now memory n _ _ = ⊥
+
+-- a state is followed by this one in a pass in which its triggers, which are known, have these values and none fires
+pub record IsQuiet (now : List Bool) (old new : EntityState) : Type 0 where
+  pub bits : List TriggerBit
+  pub values : List Bool
+  pub known : old.triggers ≡ Some bits
+  pub kept : new.triggers ≡ old.triggers
+  pub seen : new.memory ≡ Some values
+  pub rest : NoneFires now old.memory 0 bits values

@@ -9,7 +9,7 @@ use Rattle.lh_unit.specs.Pass.{Passed, passes, pass_from}
 use Rattle.lh_unit.specs.Hierarchy.{lines_of}
 use Rattle.lh_unit.specs.Within.{Each}
 use Rattle.lh_unit.specs.Arena.{Arena, naming, table_at, unit_text_at}
-use Rattle.lh_unit.specs.ById.{inst_line}
+use Rattle.lh_unit.specs.ById.{inst_line_text}
 use Rattle.lh_unit.specs.Naming.{inst_text, maybe_text}
 use Rattle.lh_unit.specs.declared.inst.Inst.{Inst}
 use Rattle.lh_unit.specs.declared.inst.InstId.{InstId}
@@ -19,14 +19,14 @@ use Rattle.lh_eval.specs.Wishing.{BitsWithin}
 use Rattle.lh_eval.specs.Fitting.{Fits}
 use Rattle.lh_eval.specs.WishOf.{writes_wish}
 use Rattle.lh_eval.specs.Grouped.{IsGrouped}
-use Rattle.lh_react.specs.declared.pass.Run.{Run}
+use Rattle.lh_react.specs.declared.pass.PassRun.{PassRun}
 use Rattle.lh_react.specs.declared.entity.EntAct.{EntAct}
 use Rattle.lh_react.specs.State.{EntityState}
 use Rattle.lh_react.specs.TriggerBits.{TriggersFit}
 
 -- the text of an instruction of the unit u with its result
 abbrev pub line_in : Arena → ℕ → InstId → LineText
-line_in a u i = inst_line (naming a u) (table_at a u) i
+line_in a u i = inst_line_text (naming a u) (table_at a u) i
 
 -- the text of an instruction, the result of which has this name
 abbrev pub named_line : Arena → ℕ → Option ValueId → Inst → LineText
@@ -41,31 +41,31 @@ abbrev pub passed_all : Arena → ℕ → (now : List Bool) → (memory : Option
 passed_all a u now memory t p is = pass_from (unit_text_at a u) now memory t p (map (line_in a u) is)
 
 -- the code's run stands for what a pass has come to
-pub record Stands (a : Arena) (u : ℕ) (p : Passed) (r : Run) : Type 0 where
+pub record StandsForPass (a : Arena) (u : ℕ) (p : Passed) (r : PassRun) : Type 0 where
   pub holds : Holds a u r.slots p.held
   pub seen : r.seen ≡ p.seen
   pub wish : r.wishes ≡ p.wish
 
 -- it stands for something in which what is held fits
-pub record IsFit (a : Arena) (u : ℕ) (width : ℕ) (r : Run) : Type 0 where
+pub record RunFits (a : Arena) (u : ℕ) (width : ℕ) (r : PassRun) : Type 0 where
   pub passed : Passed
-  pub stands : Stands a u passed r
+  pub stands : StandsForPass a u passed r
   pub fits : Fits (unit_text_at a u) width passed.held
 
 -- a run stands for something from which a pass comes to this after the rest
-pub record Continues (a : Arena) (u : ℕ) (now : List Bool) (memory : Option (List Bool)) (t : Instant) (r : Run) (rest : List InstId) (to : Passed) : Type 0 where
+pub record ContinuesPass (a : Arena) (u : ℕ) (now : List Bool) (memory : Option (List Bool)) (t : Instant) (r : PassRun) (rest : List InstId) (to : Passed) : Type 0 where
   pub passed : Passed
-  pub stands : Stands a u passed r
+  pub stands : StandsForPass a u passed r
   pub same : passed_all a u now memory t passed rest ≡ to
 
 -- an instruction has given this, and nothing else has changed
-pub record HasGiven (old : Run) (name : Option ValueId) (h : Option Held) (new : Run) : Type 0 where
+pub record HasGiven (old : PassRun) (name : Option ValueId) (h : Option Held) (new : PassRun) : Type 0 where
   pub slots : new.slots ≡ given old.slots name h
   pub seen : new.seen ≡ old.seen
   pub wishes : new.wishes ≡ old.wishes
 
 -- this is wished now, and nothing else has changed
-pub record HasWished (old : Run) (w : Wish) (new : Run) : Type 0 where
+pub record HasWished (old : PassRun) (w : Wish) (new : PassRun) : Type 0 where
   pub slots : new.slots ≡ old.slots
   pub seen : new.seen ≡ old.seen
   pub wishes : new.wishes ≡ w

@@ -1,6 +1,5 @@
 //! One pass of an entity.
-ghost use Rattle.std.specs.Prelude.{◌≡◌, ◌<◌, ◌^◌, List, Bool, Option, length, Some, IfOk, IfSome};
-ghost use Rattle.std.specs.Option.{IsSomeAnd};
+ghost use Rattle.std.specs.Prelude.{◌≡◌, ◌<◌, ◌^◌, length, Some, IfOk};
 ghost use Rattle.lh_types.specs.Raised.{raised};
 ghost use Rattle.lh_unit.specs.Arena.{IsArena, unit_count, kind_at, contents, unit_text_at, block_insts_at};
 ghost use Rattle.lh_unit.specs.Pass.{pass};
@@ -8,21 +7,18 @@ ghost use Rattle.lh_unit.specs.WellFormed.{IsWellFormed};
 ghost use Rattle.lh_sound.specs.Ranges.{InstanceFits};
 ghost use Rattle.lh_react.specs.Standing.{Reacts};
 ghost use Rattle.lh_react.specs.TriggerBits.{TriggersFit};
-ghost use Rattle.lh_react.specs.Resting.{AllRest};
 
 use crate::kept::Kept;
-use crate::pass::{Run, run_insts};
+use crate::pass::{PassRun, run_insts};
 use crate::places::triggers_of;
 use crate::quiet::quiet;
-use crate::seen::Seen;
-use crate::state::EntState;
-use crate::triggers::TriggerBit;
+use crate::state::{EntState, state_after};
 use lh_eval::begin::begin;
 use lh_eval::instance::Instance;
 use lh_eval::wishes::Wishes;
 use lh_time::Instant;
 use lh_types::bits::Bits;
-use lh_types::list::ListOf;
+use lh_types::list::{BoolList, ListOf};
 use lh_types::part::Range;
 use lh_types::tally::Tally;
 use lh_types::ty::NoMemory;
@@ -86,57 +82,16 @@ fn run_entity(
     ensures { IfOk result (Reacts (unit_text_at m.now unit.0) args.now (length now.now) (pass (unit_text_at m.now unit.0) args.now sigs.now now.now state.now.memory at)) }
 {
     in_place(m);
-    let triggers = triggers_in(alloc, m, unit, args, state)?;
-    if let Some(seen) = quiet_by(alloc, &triggers, now, state)? {
-        let next = state.after(alloc, seen, triggers)?;
+    if let Some(next) = quiet(state, now)? {
         return Ok(EntAct {
             next,
             wishes: ListOf::new(alloc),
         });
     }
-    run_each(alloc, m, unit, args, sigs, now, state, triggers, at)
+    run_each(alloc, m, unit, args, sigs, now, state, at)
 }
 
-/// The triggers of an entity, where they are known: its first run finds them, and then they are kept.
-fn triggers_in(
-    alloc: Global,
-    m: &Module,
-    unit: UnitId,
-    args: &[Range],
-    state: &EntState,
-) -> Result<Option<Kept<TriggerBit>>, NoMemory>
-    requires unit { unit.0 < unit_count m.now }
-    requires entity { kind_at m.now unit.0 ≡ Some UnitKind.Entity }
-    requires formed { IsWellFormed (contents m.now) }
-    requires triggers { TriggersFit (unit_text_at m.now unit.0) args.now state.now.triggers }
-    ensures { IfOk result (TriggersFit (unit_text_at m.now unit.0) args.now) }
-{
-    if state.memory().is_some() {
-        return state.triggers();
-    }
-    match triggers_of(alloc, m, unit, insts_of(m, unit), args)? {
-        Some(bits) => Ok(Some(Kept::new(alloc, bits)?)),
-        None => Ok(None),
-    }
-}
-
-/// The values of the triggers, where they are known and none of them fires.
-fn quiet_by(
-    alloc: Global,
-    triggers: &Option<Kept<TriggerBit>>,
-    now: &Bits,
-    state: &EntState,
-) -> Result<Option<Seen>, NoMemory>
-    ensures { IfOk result (λ (o : Option (List Bool)). IfSome o (λ values. IsSomeAnd triggers.now (λ bits. AllRest now.now state.now.memory 0 bits values))) }
-{
-    match triggers {
-        Some(bits) => quiet(alloc, bits.list().as_slice(), now, state),
-        None => Ok(None),
-    }
-}
-
-/// One pass of an entity, instruction by instruction. It stands apart, so that a quiet pass is short.
-#[inline(never)]
+/// One pass of an entity, instruction by instruction.
 fn run_each(
     alloc: Global,
     m: &Module,
@@ -145,30 +100,54 @@ fn run_each(
     sigs: &[Range],
     now: &Bits,
     state: &EntState,
-    triggers: Option<Kept<TriggerBit>>,
     at: Instant,
 ) -> Result<EntAct, NoMemory>
     requires unit { unit.0 < unit_count m.now }
     requires entity { kind_at m.now unit.0 ≡ Some UnitKind.Entity }
     requires formed { IsWellFormed (contents m.now) }
     requires fits { InstanceFits (unit_text_at m.now unit.0) args.now sigs.now (length now.now) }
-    requires triggers { TriggersFit (unit_text_at m.now unit.0) args.now triggers }
+    requires triggers { TriggersFit (unit_text_at m.now unit.0) args.now state.now.triggers }
     ensures { IfOk result (Reacts (unit_text_at m.now unit.0) args.now (length now.now) (pass (unit_text_at m.now unit.0) args.now sigs.now now.now state.now.memory at)) }
 {
     few_bits(now);
     let insts = insts_of(m, unit);
     let slots = begin(alloc, m, unit, insts, args, sigs)?;
-    let seen = Seen::new(alloc, state)?;
-    let mut run = Run {
+    let mut run = PassRun {
         slots,
-        seen,
+        seen: ListOf::new(alloc),
         wishes: Wishes::new(alloc),
     };
     run_insts(alloc, m, unit, insts, now, state, at, &mut run)?;
-    let Run { seen, wishes, .. } = run;
-    let next = state.after(alloc, seen, triggers)?;
+    let PassRun { seen, wishes, .. } = run;
+    let next = next_state(alloc, m, unit, args, state, seen)?;
     let wishes = wishes.into_writes()?;
     Ok(EntAct { next, wishes })
+}
+
+/// The state after a pass in which the triggers had these values. The first pass finds which bits they are, and then that is kept.
+fn next_state(
+    alloc: Global,
+    m: &Module,
+    unit: UnitId,
+    args: &[Range],
+    state: &EntState,
+    seen: BoolList,
+) -> Result<EntState, NoMemory>
+    requires unit { unit.0 < unit_count m.now }
+    requires entity { kind_at m.now unit.0 ≡ Some UnitKind.Entity }
+    requires formed { IsWellFormed (contents m.now) }
+    requires triggers { TriggersFit (unit_text_at m.now unit.0) args.now state.now.triggers }
+    ensures memory { IfOk result (λ s. s.memory ≡ Some seen) }
+    ensures triggers { IfOk result (λ s. TriggersFit (unit_text_at m.now unit.0) args.now s.triggers) }
+{
+    if let Some((known, second)) = state.known() {
+        return state_after(alloc, known, second, seen);
+    }
+    let triggers = match triggers_of(alloc, m, unit, insts_of(m, unit), args)? {
+        Some(bits) => Some(Kept::new(alloc, bits)?),
+        None => None,
+    };
+    EntState::first(alloc, seen, triggers)
 }
 
 /// The instructions of an entity.

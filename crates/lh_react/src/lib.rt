@@ -7,7 +7,6 @@ mod pass;
 mod places;
 mod quiet;
 mod register;
-mod seen;
 mod state;
 mod triggers;
 

@@ -11,11 +11,10 @@ ghost use Rattle.lh_unit.specs.declared.inst.InstId.{InstId as Id};
 ghost use Rattle.lh_eval.specs.Holding as holding;
 ghost use Rattle.lh_eval.specs.Holding.{Holds, MaybeIn};
 ghost use Rattle.lh_eval.specs.Fitting.{OperandsFit, ProbeFits, DriveFits};
-ghost use Rattle.lh_eval.specs.Sound.{IsSound};
-ghost use Rattle.lh_react.specs.Standing.{Stands, IsFit, HasGiven, HasWished, line_in, named_line, passed_by, passed_all};
+ghost use Rattle.lh_eval.specs.Sound.{InstIsSound};
+ghost use Rattle.lh_react.specs.Standing.{StandsForPass, RunFits, HasGiven, HasWished, line_in, named_line, passed_by, passed_all};
 
 use crate::register::run_reg;
-use crate::seen::Seen;
 use crate::state::EntState;
 use lh_eval::effects::{drive, probe};
 use lh_eval::held::{Held, Slots};
@@ -23,6 +22,7 @@ use lh_eval::operate::operate;
 use lh_eval::wishes::Wishes;
 use lh_time::Instant;
 use lh_types::bits::Bits;
+use lh_types::list::BoolList;
 use lh_types::op::Op;
 use lh_types::ty::NoMemory;
 use lh_types::val::Val;
@@ -32,9 +32,9 @@ use std::alloc::Global;
 
 /// What a run has come to: what is held, the value of each trigger so far, and the wishes.
 #[derive(Drop)]
-pub(crate) struct Run {
+pub(crate) struct PassRun {
     pub slots: Slots,
-    pub seen: Seen,
+    pub seen: BoolList,
     pub wishes: Wishes,
 }
 
@@ -47,15 +47,15 @@ pub(crate) fn run_insts(
     now: &Bits,
     state: &EntState,
     at: Instant,
-    run: &mut Run,
+    run: &mut PassRun,
 ) -> Result<(), NoMemory>
     requires arena { IsArena m.now }
     requires unit { unit.0 < unit_count m.now }
     requires insts { Each (λ (i : Id). i.0 < inst_count m.now unit.0) insts.now }
-    requires sound { Each (λ (i : Id). IsSound (unit_text_at m.now unit.0) (line_in m.now unit.0 i)) insts.now }
+    requires sound { Each (λ (i : Id). InstIsSound (unit_text_at m.now unit.0) (line_in m.now unit.0 i)) insts.now }
     requires few { length now.now < 2 ^ 32 }
-    requires fit { IsFit m.now unit.0 (length now.now) run.old }
-    ensures { (p : Passed) → Stands m.now unit.0 p run.old → OnOk result (Stands m.now unit.0 (passed_all m.now unit.0 now.now state.now.memory at p insts.now) run.new) }
+    requires fit { RunFits m.now unit.0 (length now.now) run.old }
+    ensures { (p : Passed) → StandsForPass m.now unit.0 p run.old → OnOk result (StandsForPass m.now unit.0 (passed_all m.now unit.0 now.now state.now.memory at p insts.now) run.new) }
 {
     for inst in insts {
         run_inst(alloc, m, unit, *inst, now, state, at, run)?;
@@ -72,14 +72,14 @@ fn run_inst(
     now: &Bits,
     state: &EntState,
     at: Instant,
-    run: &mut Run,
+    run: &mut PassRun,
 ) -> Result<(), NoMemory>
     requires unit { unit.0 < unit_count m.now }
     requires inst { inst.0 < inst_count m.now unit.0 }
-    requires sound { IsSound (unit_text_at m.now unit.0) (line_in m.now unit.0 inst) }
+    requires sound { InstIsSound (unit_text_at m.now unit.0) (line_in m.now unit.0 inst) }
     requires few { length now.now < 2 ^ 32 }
-    requires fit { IsFit m.now unit.0 (length now.now) run.old }
-    ensures { (p : Passed) → Stands m.now unit.0 p run.old → OnOk result (Stands m.now unit.0 (passed_all m.now unit.0 now.now state.now.memory at p (inst ∷ [])) run.new) }
+    requires fit { RunFits m.now unit.0 (length now.now) run.old }
+    ensures { (p : Passed) → StandsForPass m.now unit.0 p run.old → OnOk result (StandsForPass m.now unit.0 (passed_all m.now unit.0 now.now state.now.memory at p (inst ∷ [])) run.new) }
 {
     let name = m.result_of(unit, inst);
     let inst = m.inst(unit, inst);
@@ -96,16 +96,16 @@ fn run_named(
     now: &Bits,
     state: &EntState,
     at: Instant,
-    run: &mut Run,
+    run: &mut PassRun,
 ) -> Result<(), NoMemory>
     requires arena { IsArena m.now }
     requires unit { unit.0 < unit_count m.now }
     requires placed { InstPlaced m.now unit.0 inst.now }
     requires name { MaybeIn run.old.slots name }
-    requires sound { IsSound (unit_text_at m.now unit.0) (named_line m.now unit.0 name inst.now) }
+    requires sound { InstIsSound (unit_text_at m.now unit.0) (named_line m.now unit.0 name inst.now) }
     requires few { length now.now < 2 ^ 32 }
-    requires fit { IsFit m.now unit.0 (length now.now) run.old }
-    ensures { (p : Passed) → Stands m.now unit.0 p run.old → OnOk result (Stands m.now unit.0 (passed_by m.now unit.0 now.now state.now.memory at p name inst.now) run.new) }
+    requires fit { RunFits m.now unit.0 (length now.now) run.old }
+    ensures { (p : Passed) → StandsForPass m.now unit.0 p run.old → OnOk result (StandsForPass m.now unit.0 (passed_by m.now unit.0 now.now state.now.memory at p name inst.now) run.new) }
 {
     match inst {
         Inst::Const(value) => run_const(value, name, run),
@@ -122,7 +122,7 @@ fn run_named(
     }
 }
 
-fn run_const(value: &Val, name: Option<ValueId>, run: &mut Run) -> Result<(), NoMemory>
+fn run_const(value: &Val, name: Option<ValueId>, run: &mut PassRun) -> Result<(), NoMemory>
     requires { MaybeIn run.old.slots name }
     ensures { OnOk result (HasGiven run.old name (Some (datum_held (datum_of value.now))) run.new) }
 {
@@ -138,7 +138,7 @@ fn run_pure(
     op: &Op,
     args: &[Typed],
     name: Option<ValueId>,
-    run: &mut Run,
+    run: &mut PassRun,
 ) -> Result<(), NoMemory>
     requires unit { unit.0 < unit_count m.now }
     requires args { Each (OperandWithin (sizes m.now unit.0)) args.now }
@@ -157,7 +157,7 @@ fn run_prb(
     signal: &Typed,
     name: Option<ValueId>,
     now: &Bits,
-    run: &mut Run,
+    run: &mut PassRun,
 ) -> Result<(), NoMemory>
     requires within { signal.now.value.0 < length run.old.slots }
     requires name { MaybeIn run.old.slots name }
@@ -176,7 +176,7 @@ fn run_drv(
     value: ValueId,
     after: ValueId,
     cond: Option<ValueId>,
-    run: &mut Run,
+    run: &mut PassRun,
 ) -> Result<(), NoMemory>
     requires to_within { to.now.value.0 < length run.old.slots }
     requires value_within { value.0 < length run.old.slots }

@@ -239,7 +239,7 @@ fn probed_part(m: &Module, unit: UnitId, value: ValueId, args: &[Range]) -> Opti
 fn carried_width(operand: &Typed) -> Option<u32>
     ensures { IfSome result (λ n. option_and_then carried operand.now.ty ≡ Some (int_type n)) }
 {
-    match &operand.ty {
+    match operand.ty.get() {
         Some(ty) => signal_width(ty),
         None => None,
     }

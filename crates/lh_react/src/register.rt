@@ -6,7 +6,7 @@ ghost use Rattle.lh_unit.specs.Within.{Each};
 ghost use Rattle.lh_eval.specs.Holding as holding;
 ghost use Rattle.lh_react.specs.Registers.{TriggerIn, TriggerFits, delay_in as delay_of, tried, tries, fires_in, stored_in};
 
-use crate::pass::Run;
+use crate::pass::PassRun;
 use crate::state::EntState;
 use lh_eval::effects::wish;
 use lh_eval::held::Slots;
@@ -23,7 +23,7 @@ pub(crate) fn run_reg(
     to: &Typed,
     triggers: &[RegTrigger],
     state: &EntState,
-    run: &mut Run,
+    run: &mut PassRun,
 ) -> Result<(), NoMemory>
     requires to { to.now.value.0 < length run.old.slots }
     requires within { Each (TriggerIn run.old.slots) triggers.now }
@@ -45,7 +45,7 @@ fn run_trigger(
     trigger: &RegTrigger,
     state: &EntState,
     fired: bool,
-    run: &mut Run,
+    run: &mut PassRun,
 ) -> Result<bool, NoMemory>
     requires to { to.0 < length run.old.slots }
     requires within { TriggerIn run.old.slots trigger.now }
@@ -55,7 +55,7 @@ fn run_trigger(
     let value = test_in(&run.slots, trigger.trigger).unwrap_or(false);
     let fires = mode_holds(trigger.mode, past_of(state, run.seen.len()), value)
         && condition_in(&run.slots, trigger.gate).unwrap_or(false);
-    run.seen.push(value, state)?;
+    run.seen.push(value)?;
     if fires && !fired {
         store(alloc, at, to, trigger, run)?;
     }
@@ -68,7 +68,7 @@ fn store(
     at: Instant,
     to: ValueId,
     trigger: &RegTrigger,
-    run: &mut Run,
+    run: &mut PassRun,
 ) -> Result<(), NoMemory>
     requires to { to.0 < length run.old.slots }
     requires within { TriggerIn run.old.slots trigger.now }

@@ -8,7 +8,7 @@ use Rattle.lh_types.specs.Types.{TypeTree}
 use Rattle.lh_unit.specs.Contents.{ArgText, UnitText, ItemText, unit_text, new_unit, last_unit, change_last, with_arg, with_result, defines_value, blocks_define}
 use Rattle.lh_unit.specs.Spells.{TypedName}
 use Rattle.lh_unit.specs.Arena.{Arena, Grows, OfOpen, IsOpen, contents, unit_count}
-use Rattle.lh_unit.specs.Builders.{Says, AddsArg, SetsResult}
+use Rattle.lh_unit.specs.Builders.{HasContents, AddsArg, SetsResult}
 use Rattle.lh_unit.specs.Reads.{headed_unit, args_repeat}
 use Rattle.lh_unit.specs.declared.inst.UnitId.{UnitId}
 use Rattle.lh_unit.specs.declared.name.UnitName.{UnitName}
@@ -19,7 +19,7 @@ use Rattle.lh_unit.specs.declared.inst.UnitFault.TheVariants as fault
 use Rattle.lh_read.specs.declared.faults.LineFault.{LineFault}
 use Rattle.lh_read.specs.declared.faults.LineFault.TheVariants as line
 use Rattle.lh_read.specs.FaultOf.{fault_of}
-use Rattle.lh_read.specs.Building.{arg_of, Begins, AddsArgs, Heads, with_args, args_again}
+use Rattle.lh_read.specs.Building.{arg_of, UnitBegunOrFault, AddsArgs, Heads, with_args, args_again}
 use Rattle.lh_read.proofs.LastUnit.{last_unit-is, last_unit-has, change_last-twice, change_last-none, with_args-none, with_args-push, with_args-both, args_again-push, args_again-both, args_again-repeat}
 use Rattle.lh_unit.proofs.ContentsLemmas.{last_unit-push, change_last-push}
 use Rattle.lh_unit.proofs.ModuleLaws.{last_unit-change_last}
@@ -42,7 +42,8 @@ At-start old u w o b =
     }
 
 -- the unit to which the next argument is added
-next_unit : (old now : Arena) (u : UnitId) (done : List ArgText) (P : UnitText → Type 0) → At old now u done → OfOpen now P → (t : UnitText) × (last_unit (contents old) ≡ Some t) × P (with_args done t) × (args_again t done ≡ false)
+next_unit : (old now : Arena) (u : UnitId) (done : List ArgText) (P : UnitText → Type 0) → At old now u done → OfOpen now P → (t : UnitText) × (last_unit (contents old) ≡ Some t)
+    × P (with_args done t) × (args_again t done ≡ false)
 next_unit old now u done P a h =
     let t = last_unit-is (last_unit (contents old)) a.fresh in
     let e : last_unit (contents now) ≡ Some (with_args done t.0) = ap last_unit a.says ∙ last_unit-change_last (with_args done) (contents old) t.0 t.1 in
@@ -57,7 +58,8 @@ At-grown old now mid u done a f = record {
   fresh = a.fresh;
 }
 
-pub At-next : (old now new : Arena) (u : UnitId) (done : List ArgText) (a : ArgText) → At old now u done → OfOpen now (λ t. defines_value a.name t ≡ false) → Says now new u (change_last (with_arg a) (contents now))
+pub At-next : (old now new : Arena) (u : UnitId) (done : List ArgText) (a : ArgText) → At old now u done → OfOpen now (λ t. defines_value a.name t ≡ false)
+    → HasContents now new u (change_last (with_arg a) (contents now))
     → At old new u (done ++ a ∷ [])
 At-next old now new u done a w h s =
     let t = next_unit old now u done (λ t. defines_value a.name t ≡ false) w h in
@@ -82,7 +84,8 @@ At-again old now u done a more w h =
     ∙ ap (λ b. b || args_again (with_args (done ++ a ∷ []) t.0) more) (args_again-push done a t.0 ∙ ap (λ b. args_again t.0 done || b) t.2 ∙ or-true (args_again t.0 done)))
 
 -- the parameters up to the next one
-pub done_next : (output : Bool) (ps : List TypedName) (i : ℕ) (p : TypedName) → i < length ps → p ≡ get_or ps i p → map (arg_of output) (take (i + 1) ps) ≡ map (arg_of output) (take i ps) ++ arg_of output p ∷ []
+pub done_next : (output : Bool) (ps : List TypedName) (i : ℕ) (p : TypedName) → i < length ps → p ≡ get_or ps i p → map (arg_of output) (take (i + 1) ps) ≡ map (arg_of output) (take i ps)
+    ++ arg_of output p ∷ []
 done_next output ps i p h e =
     ap (λ n. map (arg_of output) (take n ps)) (add-one i) ∙ ap (map (arg_of output)) (take-suc ps i p h) ∙ map-append (arg_of output) (take i ps) (get_or ps i p ∷ [])
     ∙ ap (λ q. map (arg_of output) (take i ps) ++ arg_of output q ∷ []) (sym e)
@@ -91,7 +94,8 @@ done_next output ps i p h e =
 pub done_rest : (output : Bool) (ps : List TypedName) (i : ℕ) → map (arg_of output) ps ≡ map (arg_of output) (take i ps) ++ map (arg_of output) (drop i ps)
 done_rest output ps i = ap (map (arg_of output)) (sym (take-append-drop i ps)) ∙ map-append (arg_of output) (take i ps) (drop i ps)
 
-pub args-refused : (old mid new : Arena) (u : UnitId) (done : List ArgText) (a b : ArgText) (all more : List ArgText) (f : UnitFault) → At old mid u done → b ≡ a → all ≡ (done ++ a ∷ []) ++ more → AddsArg (Err f) mid new u b
+pub args-refused : (old mid new : Arena) (u : UnitId) (done : List ArgText) (a b : ArgText) (all more : List ArgText) (f : UnitFault) → At old mid u done → b ≡ a → all ≡ (done ++ a ∷ []) ++ more
+    → AddsArg (Err f) mid new u b
     → AddsArgs (Err (fault_of f)) old new u all
 args-refused old mid new u done a b all more fault.UnitTooLarge w e l h = absurd h
 args-refused old mid new u done a b all more fault.DuplicateName w e l h =
@@ -99,7 +103,8 @@ args-refused old mid new u done a b all more fault.DuplicateName w e l h =
 args-refused old mid new u done a b all more fault.OutOfMemory w e l h = tt
 
 -- a fault that is passed on
-pub adds-err : (r : Result (Unit {0}) LineFault) (f : LineFault) (old new : Arena) (u : UnitId) (args : List ArgText) → IsErrAnd r (λ e. e ≡ f) → AddsArgs (Err f) old new u args → AddsArgs r old new u args
+pub adds-err : (r : Result (Unit {0}) LineFault) (f : LineFault) (old new : Arena) (u : UnitId) (args : List ArgText) → IsErrAnd r (λ e. e ≡ f) → AddsArgs (Err f) old new u args
+    → AddsArgs r old new u args
 adds-err (Ok x) f old new u args h w = absurd h
 adds-err (Err e) f old new u args h w = subst (λ x. AddsArgs (Err x) old new u args) (sym h) w
 
@@ -145,11 +150,11 @@ adds-begun old new u xs a =
 begun_unit : (items : List ItemText) (x t : UnitText) → last_unit (items ++ unit_text x ∷ []) ≡ Some t → t ≡ x
 begun_unit items x t e = same_last (last_unit (items ++ unit_text x ∷ [])) t x e (last_unit-push items x)
 
-pub begun-open : (u : UnitId) (old new : Arena) (n : UnitName) (k : UnitKind) → Begins (Ok u) old new n k → OfOpen new (λ _. ⊤)
+pub begun-open : (u : UnitId) (old new : Arena) (n : UnitName) (k : UnitKind) → UnitBegunOrFault (Ok u) old new n k → OfOpen new (λ _. ⊤)
 begun-open u old new n k b = last_unit-has (λ _. ⊤) (last_unit (contents new)) (new_unit n k) (ap last_unit b.1 ∙ last_unit-push (contents old) (new_unit n k)) tt
 
 -- what holds of the unit that was just begun
-of_begun : (u : UnitId) (old mid : Arena) (n : UnitName) (k : UnitKind) (P : UnitText → Type 0) → Begins (Ok u) old mid n k → OfOpen mid P → P (new_unit n k)
+of_begun : (u : UnitId) (old mid : Arena) (n : UnitName) (k : UnitKind) (P : UnitText → Type 0) → UnitBegunOrFault (Ok u) old mid n k → OfOpen mid P → P (new_unit n k)
 of_begun u old mid n k P b h =
     let t = last_unit-is (last_unit (contents mid)) h in
     subst P (begun_unit (contents old) (new_unit n k) t.0 (ap last_unit (sym b.1) ∙ t.1)) t.2
@@ -174,14 +179,16 @@ headed n kind.Proc args = refl
 headed n kind.Entity args = refl
 
 -- what is said once the arguments are added
-args_said : (u : UnitId) (old mid new : Arena) (n : UnitName) (k : UnitKind) (args : List ArgText) → Begins (Ok u) old mid n k → AddsArgs (Ok tt) mid new u args
+args_said : (u : UnitId) (old mid new : Arena) (n : UnitName) (k : UnitKind) (args : List ArgText) → UnitBegunOrFault (Ok u) old mid n k → AddsArgs (Ok tt) mid new u args
     → contents new ≡ contents old ++ unit_text (with_args args (new_unit n k)) ∷ []
 args_said u old mid new n k args b a = a.1 ∙ ap (change_last (with_args args)) b.1 ∙ change_last-push (with_args args) (contents old) (new_unit n k)
 
-fresh_args : (u : UnitId) (old mid new : Arena) (n : UnitName) (k : UnitKind) (args : List ArgText) → Begins (Ok u) old mid n k → AddsArgs (Ok tt) mid new u args → args_repeat [] args ≡ false
+fresh_args : (u : UnitId) (old mid new : Arena) (n : UnitName) (k : UnitKind) (args : List ArgText) → UnitBegunOrFault (Ok u) old mid n k → AddsArgs (Ok tt) mid new u args
+    → args_repeat [] args ≡ false
 fresh_args u old mid new n k args b a = sym (repeats n k args) ∙ of_begun u old mid n k (λ t. args_again t args ≡ false) b a.0
 
-pub heads-ok : (u : UnitId) (old mid new : Arena) (n : UnitName) (k : UnitKind) (args : List ArgText) → Begins (Ok u) old mid n k → AddsArgs (Ok tt) mid new u args → Heads (Ok u) old new n k args None
+pub heads-ok : (u : UnitId) (old mid new : Arena) (n : UnitName) (k : UnitKind) (args : List ArgText) → UnitBegunOrFault (Ok u) old mid n k → AddsArgs (Ok tt) mid new u args
+    → Heads (Ok u) old new n k args None
 heads-ok u old mid new n k args b a = (
   b.0,
   fresh_args u old mid new n k args b a,
@@ -191,12 +198,14 @@ heads-ok u old mid new n k args b a = (
 )
 
 -- a function has its result from then on
-pub is_function : (u : UnitId) (old mid new : Arena) (n : UnitName) (args : List ArgText) → Begins (Ok u) old mid n kind.Func → AddsArgs (Ok tt) mid new u args → OfOpen new (λ t. t.kind ≡ kind.Func)
+pub is_function : (u : UnitId) (old mid new : Arena) (n : UnitName) (args : List ArgText) → UnitBegunOrFault (Ok u) old mid n kind.Func → AddsArgs (Ok tt) mid new u args
+    → OfOpen new (λ t. t.kind ≡ kind.Func)
 is_function u old mid new n args b a =
     last_unit-has (λ t. t.kind ≡ kind.Func) (last_unit (contents new)) (with_args args (new_unit n kind.Func))
     (ap last_unit (args_said u old mid new n kind.Func args b a) ∙ last_unit-push (contents old) (with_args args (new_unit n kind.Func))) refl
 
-pub heads-function : (u : UnitId) (old mid now new : Arena) (n : UnitName) (args : List ArgText) (ty : TypeTree) → Begins (Ok u) old mid n kind.Func → AddsArgs (Ok tt) mid now u args → SetsResult now new u ty
+pub heads-function : (u : UnitId) (old mid now new : Arena) (n : UnitName) (args : List ArgText) (ty : TypeTree) → UnitBegunOrFault (Ok u) old mid n kind.Func → AddsArgs (Ok tt) mid now u args
+    → SetsResult now new u ty
     → Heads (Ok u) old new n kind.Func args (Some ty)
 heads-function u old mid now new n args ty b a s = (
   b.0,
@@ -206,13 +215,15 @@ heads-function u old mid now new n args ty b a s = (
   omega (arith, a.3, s.entries.units),
 )
 
-pub heads-err : (e : LineFault) (u : UnitId) (old mid new after : Arena) (n : UnitName) (k : UnitKind) (args : List ArgText) (r : Option TypeTree) → Begins (Ok u) old mid n k → AddsArgs (Err e) mid new u args
+pub heads-err : (e : LineFault) (u : UnitId) (old mid new after : Arena) (n : UnitName) (k : UnitKind) (args : List ArgText) (r : Option TypeTree) → UnitBegunOrFault (Ok u) old mid n k
+    → AddsArgs (Err e) mid new u args
     → Heads (Err e) old after n k args r
 heads-err line.DuplicateName u old mid new after n k args r b a = inr (sym (repeats n k args) ∙ of_begun u old mid n k (λ t. args_again t args ≡ true) b a)
 heads-err line.OutOfMemory u old mid new after n k args r b a = tt
 heads-err line.UnitTooLarge u old mid new after n k args r b a = absurd a
 heads-err line.Syntax u old mid new after n k args r b a = absurd a
 
-pub heads-passed : (o : Result UnitId LineFault) (e : LineFault) (old new : Arena) (n : UnitName) (k : UnitKind) (args : List ArgText) (r : Option TypeTree) → IsErrAnd o (λ x. x ≡ e) → Heads (Err e) old new n k args r → Heads o old new n k args r
+pub heads-passed : (o : Result UnitId LineFault) (e : LineFault) (old new : Arena) (n : UnitName) (k : UnitKind) (args : List ArgText) (r : Option TypeTree) → IsErrAnd o (λ x. x ≡ e)
+    → Heads (Err e) old new n k args r → Heads o old new n k args r
 heads-passed (Ok x) e old new n k args r h w = absurd h
 heads-passed (Err x) e old new n k args r h w = subst (λ y. Heads (Err y) old new n k args r) (sym h) w

@@ -4,7 +4,7 @@ use Rattle.lh_unit.specs.Contents.{ItemText}
 use Rattle.lh_unit.specs.Lexemes.{Lexeme, lexemes}
 use Rattle.lh_unit.specs.Lines.{lines_of}
 use Rattle.lh_unit.specs.Spells.{LineItem}
-use Rattle.lh_unit.specs.Reads.{State, start, Takes, Walk, BadKind, syntax, IsBad, FirstBadFrom, Reads, FirstBad}
+use Rattle.lh_unit.specs.Reads.{ReadState, start, Takes, Walk, BadKind, syntax, IsBad, FirstBadFrom, Reads, FirstBad}
 use Rattle.lh_syntax.specs.Items.{item_at}
 use Rattle.lh_syntax.specs.SpelledBy.{SpelledBy}
 use Rattle.lh_syntax.proofs.SpelledItems.{spelled_by}
@@ -12,7 +12,7 @@ use Rattle.lh_read.specs.Steps.{step}
 use Rattle.lh_read.specs.Reading.{ReadsOrIsBad}
 use Rattle.lh_read.proofs.Texts.{closed, taken-line, bad-line, unspelled-line, unlexed-line, reads-once, reads-bad, first_bad-once}
 
-abbrev pub step_item : State → Option LineItem → Result State BadKind
+abbrev pub step_item : ReadState → Option LineItem → Result ReadState BadKind
 step_item s None = Err syntax
 step_item s (Some i) = step s i
 
@@ -21,11 +21,11 @@ item_of None = None
 item_of (Some ts) = item_at ts
 
 -- the state after a line, or its fault
-abbrev pub step_line : State → List ℕ → Result State BadKind
+abbrev pub step_line : ReadState → List ℕ → Result ReadState BadKind
 step_line s l = step_item s (item_of (lexemes l))
 
 -- goes on from a state, or names the line
-abbrev pub or_fault : ℕ → Result State BadKind → (State → Result (List ItemText) (ℕ × BadKind)) → Result (List ItemText) (ℕ × BadKind)
+abbrev pub or_fault : ℕ → Result ReadState BadKind → (ReadState → Result (List ItemText) (ℕ × BadKind)) → Result (List ItemText) (ℕ × BadKind)
 or_fault n (Err e) f = Err (n, e)
 or_fault n (Ok s) f = f s
 
@@ -35,7 +35,7 @@ at_end true n items = Err (n, syntax)
 at_end false n items = Ok items
 
 -- the items of these lines, or the first faulty one, where the next line has the number n
-abbrev pub read_lines : List (List ℕ) → ℕ → State → Result (List ItemText) (ℕ × BadKind)
+abbrev pub read_lines : List (List ℕ) → ℕ → ReadState → Result (List ItemText) (ℕ × BadKind)
 read_lines [] n s = at_end s.inside n s.items
 read_lines (l ∷ ls) n s = or_fault n (step_line s l) (λ t. read_lines ls (n + 1) t)
 
@@ -43,14 +43,14 @@ abbrev pub read_of : List ℕ → Result (List ItemText) (ℕ × BadKind)
 read_of text = read_lines (lines_of text) 1 start
 
 -- a line that is taken, or its fault
-abbrev Answered : State → List ℕ → Result State BadKind → Type 0
+abbrev Answered : ReadState → List ℕ → Result ReadState BadKind → Type 0
 Answered s l (Ok t) = Takes s l t
 Answered s l (Err why) = IsBad s l why
 
-line-answered : (s : State) (l : List ℕ) → Answered s l (step_line s l)
+line-answered : (s : ReadState) (l : List ℕ) → Answered s l (step_line s l)
 line-answered s l = lexed (lexemes l) refl
   where
-    stepped : (ts : List Lexeme) (i : LineItem) → lexemes l ≡ Some ts → SpelledBy ts (Some i) → (r : Result State BadKind) → step s i ≡ r → Answered s l r
+    stepped : (ts : List Lexeme) (i : LineItem) → lexemes l ≡ Some ts → SpelledBy ts (Some i) → (r : Result ReadState BadKind) → step s i ≡ r → Answered s l r
     stepped ts i e w (Ok t) p = taken-line s t l ts i e w p
     stepped ts i e w (Err why) p = bad-line s l ts i why e w p
 
@@ -63,24 +63,24 @@ line-answered s l = lexed (lexemes l) refl
     lexed (Some ts) e = spelled ts e (item_at ts) (spelled_by ts (item_at ts) refl)
 
 -- these lines lead to the end of a text, or one of them is the first faulty one
-abbrev AllAnswered : List (List ℕ) → ℕ → State → Result (List ItemText) (ℕ × BadKind) → Type 0
+abbrev AllAnswered : List (List ℕ) → ℕ → ReadState → Result (List ItemText) (ℕ × BadKind) → Type 0
 AllAnswered ls n s (Ok items) = Walk ls s (closed items)
 AllAnswered ls n s (Err b) = FirstBadFrom ls n s b.0 b.1
 
-end-answered : (n : ℕ) (s : State) (b : Bool) → s.inside ≡ b → AllAnswered [] n s (at_end b n s.items)
+end-answered : (n : ℕ) (s : ReadState) (b : Bool) → s.inside ≡ b → AllAnswered [] n s (at_end b n s.items)
 end-answered n s true e = (e, refl, refl)
 end-answered n s false e = λ i. record { items = s.items; inside = e i }
 
-next-answered : (l : List ℕ) (ls : List (List ℕ)) (n : ℕ) (s t : State) → Takes s l t → (r : Result (List ItemText) (ℕ × BadKind)) → AllAnswered ls (n + 1) t r → AllAnswered (l ∷ ls) n s r
+next-answered : (l : List ℕ) (ls : List (List ℕ)) (n : ℕ) (s t : ReadState) → Takes s l t → (r : Result (List ItemText) (ℕ × BadKind)) → AllAnswered ls (n + 1) t r → AllAnswered (l ∷ ls) n s r
 next-answered l ls n s t w (Ok items) v = (t, w, v)
 next-answered l ls n s t w (Err b) v = inr (t, w, v)
 
-first-answered : (l : List ℕ) (ls : List (List ℕ)) (n : ℕ) (s : State) (r : Result State BadKind) → Answered s l r → ((t : State) → AllAnswered ls (n + 1) t (read_lines ls (n + 1) t))
+first-answered : (l : List ℕ) (ls : List (List ℕ)) (n : ℕ) (s : ReadState) (r : Result ReadState BadKind) → Answered s l r → ((t : ReadState) → AllAnswered ls (n + 1) t (read_lines ls (n + 1) t))
     → AllAnswered (l ∷ ls) n s (or_fault n r (λ t. read_lines ls (n + 1) t))
 first-answered l ls n s (Err why) w f = inl (refl, w)
 first-answered l ls n s (Ok t) w f = next-answered l ls n s t w (read_lines ls (n + 1) t) (f t)
 
-lines-answered : (ls : List (List ℕ)) (n : ℕ) (s : State) → AllAnswered ls n s (read_lines ls n s)
+lines-answered : (ls : List (List ℕ)) (n : ℕ) (s : ReadState) → AllAnswered ls n s (read_lines ls n s)
 lines-answered [] n s = end-answered n s s.inside refl
 lines-answered (l ∷ ls) n s = first-answered l ls n s (step_line s l) (line-answered s l) (λ t. lines-answered ls (n + 1) t)
 

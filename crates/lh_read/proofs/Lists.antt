@@ -45,7 +45,8 @@ module _ {X T : Type 0} {W : Sizes → X → Type 0} {text : Naming → X → T}
   still a b u (x ∷ xs) k h = λ i. keeps.says a b u k x h.0 i ∷ still a b u xs k h.1 i
 
   -- one part more
-  pub next-placed : (a b c : Arena) (u : UnitId) (xs zs : List X) (x : X) (ts us : List T) (t : T) → AllPlaced W text a b u xs ts → Placed W text b c u x t → zs ≡ xs ++ x ∷ [] → us ≡ ts ++ t ∷ [] → AllPlaced W text a c u zs us
+  pub next-placed : (a b c : Arena) (u : UnitId) (xs zs : List X) (x : X) (ts us : List T) (t : T) → AllPlaced W text a b u xs ts → Placed W text b c u x t → zs ≡ xs ++ x ∷ [] → us ≡ ts ++ t ∷ []
+      → AllPlaced W text a c u zs us
   next-placed a b c u xs zs x ts us t p q z e =
       let k = q.grows.entries in
       record {
@@ -56,7 +57,8 @@ module _ {X T : Type 0} {W : Sizes → X → Type 0} {text : Naming → X → T}
       }
 
 -- an `inst`, whose unit is found before its operands
-pub child-placed : (a b c d : Arena) (u f : UnitId) (ins outs : List Typed) (n : UnitName) (ss rs : List OperandText) → FindsUnit (Ok f) a b n → OperandsPlaced b c u ins ss → OperandsPlaced c d u outs rs
+pub child-placed : (a b c d : Arena) (u f : UnitId) (ins outs : List Typed) (n : UnitName) (ss rs : List OperandText) → FindsUnit (Ok f) a b n → OperandsPlaced b c u ins ss
+    → OperandsPlaced c d u outs rs
     → InstPlacedAs a d u (inst.Child f ins outs) (child_text n ss rs)
 child-placed a b c d u f ins outs n ss rs p q r =
     let k = KeepsEntries-trans b c d q.grows.entries r.grows.entries in

@@ -5,7 +5,7 @@ use Rattle.lh_unit.specs.Lexemes.{Lexeme, lexemes}
 use Rattle.lh_unit.specs.Lines.{lines_of}
 use Rattle.lh_unit.specs.Spells.{LineItem}
 use Rattle.lh_unit.specs.Arena.{Arena, contents}
-use Rattle.lh_unit.specs.Reads.{State, start, Takes, Walk, BadKind, syntax, unit_too_large, duplicate_name, IsBad, FirstBadFrom, Reads, FirstBad}
+use Rattle.lh_unit.specs.Reads.{ReadState, start, Takes, Walk, BadKind, syntax, unit_too_large, duplicate_name, IsBad, FirstBadFrom, Reads, FirstBad}
 use Rattle.lh_scan.specs.declared.fault.ScanFault.{ScanFault}
 use Rattle.lh_scan.specs.declared.fault.ScanFault.TheVariants as scan
 use Rattle.lh_syntax.specs.SpelledBy.{SpelledBy}
@@ -19,11 +19,12 @@ use Rattle.lh_read.specs.FaultOf.{spelling_fault}
 use Rattle.lh_read.specs.InOrder.{IsInOrder, state_of}
 use Rattle.lh_read.specs.Steps.{step}
 use Rattle.lh_read.specs.Building.{Steps, TakesOrIsBad}
-use Rattle.lh_read.specs.Reading.{Gives, Names, Answers, text_fault}
+use Rattle.lh_read.specs.Reading.{ModuleOrNoMemory, Names, ModuleOrFault, text_fault}
 use Rattle.lh_read.proofs.Texts.{closed, taken-line, bad-line, unspelled-line, reads-once, reads-bad}
 
 -- what is answered of a line that says an item
-pub line-steps : (o : Result (Unit {0}) LineFault) (s t : State) (l : List ℕ) (ts us : List Lexeme) (i : LineItem) → lexemes l ≡ Some ts → us ≡ ts → SpelledBy us (Some i) → Steps o (step s i) t → TakesOrIsBad o s l t
+pub line-steps : (o : Result (Unit {0}) LineFault) (s t : ReadState) (l : List ℕ) (ts us : List Lexeme) (i : LineItem) → lexemes l ≡ Some ts → us ≡ ts → SpelledBy us (Some i) → Steps o (step s i) t
+    → TakesOrIsBad o s l t
 line-steps (Ok _) s t l ts us i e f w p = taken-line s t l us i (e ∙ ap Some (sym f)) w p
 line-steps (Err line.Syntax) s t l ts us i e f w p = bad-line s l us i syntax (e ∙ ap Some (sym f)) w p
 line-steps (Err line.UnitTooLarge) s t l ts us i e f w p = bad-line s l us i unit_too_large (e ∙ ap Some (sym f)) w p
@@ -31,7 +32,7 @@ line-steps (Err line.DuplicateName) s t l ts us i e f w p = bad-line s l us i du
 line-steps (Err line.OutOfMemory) s t l ts us i e f w p = tt
 
 -- what is answered of a line that spells no item
-pub line-unspelled : (e : ScanFault) (s t : State) (l : List ℕ) (ts : List Lexeme) → lexemes l ≡ Some ts → (e ≡ scan.NotSpelled → SpelledBy ts None) → TakesOrIsBad (Err (spelling_fault e)) s l t
+pub line-unspelled : (e : ScanFault) (s t : ReadState) (l : List ℕ) (ts : List Lexeme) → lexemes l ≡ Some ts → (e ≡ scan.NotSpelled → SpelledBy ts None) → TakesOrIsBad (Err (spelling_fault e)) s l t
 line-unspelled scan.NotSpelled s t l ts e h = unspelled-line s l ts e (h refl)
 line-unspelled scan.OutOfMemory s t l ts e h = tt
 
@@ -62,10 +63,12 @@ At-next text rest first more number r q a l s t o = record {
   short = omega (arith, a.short);
 }
 
-stopped : (text rest first more : List ℕ) (number : ℕ) (r : Reader) (why : BadKind) → At text rest number r → lines_of rest ≡ first ∷ lines_of more → IsBad (state_of r) first why → FirstBad text number why
+stopped : (text rest first more : List ℕ) (number : ℕ) (r : Reader) (why : BadKind) → At text rest number r → lines_of rest ≡ first ∷ lines_of more → IsBad (state_of r) first why
+    → FirstBad text number why
 stopped text rest first more number r why a l b = a.bad number why (subst (λ ls. FirstBadFrom ls number (state_of r) number why) (sym l) (inl (refl, b)))
 
-pub At-fault : (text rest first more : List ℕ) (number : ℕ) (r : Reader) (f : LineFault) (s : State) → At text rest number r → lines_of rest ≡ first ∷ lines_of more → TakesOrIsBad (Err f) (state_of r) first s → Answers (Err (text_fault number f)) text
+pub At-fault : (text rest first more : List ℕ) (number : ℕ) (r : Reader) (f : LineFault) (s : ReadState) → At text rest number r → lines_of rest ≡ first ∷ lines_of more
+    → TakesOrIsBad (Err f) (state_of r) first s → ModuleOrFault (Err (text_fault number f)) text
 At-fault text rest first more number r line.Syntax s a l b = stopped text rest first more number r syntax a l b
 At-fault text rest first more number r line.UnitTooLarge s a l b = stopped text rest first more number r unit_too_large a l b
 At-fault text rest first more number r line.DuplicateName s a l b = stopped text rest first more number r duplicate_name a l b
@@ -79,17 +82,17 @@ pub At-open : (text rest : List ℕ) (number : ℕ) (r : Reader) → At text res
 At-open text rest number r a e o = a.bad number syntax (subst (λ t. FirstBadFrom (lines_of t) number (state_of r) number syntax) (sym e) (o, refl, refl))
 
 -- what the caller is told
-pub told-ok : (r : Result Arena TextFault) (text : List ℕ) → Answers r text → IfOk r (λ m. Reads text (contents m))
+pub told-ok : (r : Result Arena TextFault) (text : List ℕ) → ModuleOrFault r text → IfOk r (λ m. Reads text (contents m))
 told-ok (Ok m) text a = a
 told-ok (Err e) text a = tt
 
-pub told-only : (r : Result Arena TextFault) (text : List ℕ) → Answers r text → (items : List ItemText) → Reads text items → Gives r items
+pub told-only : (r : Result Arena TextFault) (text : List ℕ) → ModuleOrFault r text → (items : List ItemText) → Reads text items → ModuleOrNoMemory r items
 told-only (Ok m) text a items w = reads-once text items (contents m) w a
 told-only (Err (Syntax n)) text a items w = reads-bad text items n syntax w a
 told-only (Err (UnitTooLarge n)) text a items w = reads-bad text items n unit_too_large w a
 told-only (Err (DuplicateName n)) text a items w = reads-bad text items n duplicate_name w a
 told-only (Err OutOfMemory) text a items w = tt
 
-pub told-fault : (r : Result Arena TextFault) (text : List ℕ) → Answers r text → IfErr r (λ e. Names e text)
+pub told-fault : (r : Result Arena TextFault) (text : List ℕ) → ModuleOrFault r text → IfErr r (λ e. Names e text)
 told-fault (Ok m) text a = tt
 told-fault (Err e) text a = a

@@ -52,24 +52,40 @@ unfolding first_lexeme step
 nothing = read_of-reads ([]) ([]) refl
 
 -- a constant and a signal from it, with a comment
-an_entity : Reads (text_of (codes "entity @t(i1$ %c)->(i8$ %q){" ∷ codes "%z=const i8 -1 ; ones" ∷ codes "%a = sig i8 %z" ∷ codes "}" ∷ [])) (unit kind.Entity (codes "t") (input (codes "c") (signal_type (int_type 1)) ∷ output (codes "q") (signal_type (int_type 8)) ∷ []) None (body (gives (codes "z") (const_text (int_value 8 255)) ∷ gives (codes "a") (sig_text (record { value = codes "z"; ty = Some (int_type 8) })) ∷ [])) ∷ [])
-unfolding first_lexeme step params_at brace_at ports_at unit_at head_at const_at last_typed_at sig_at worded_at inst_at assigned_at close_at item_at typed_at param_at head_of form_of integer_at data_at base_at suffix_at type_at
-an_entity = read_of-reads (text_of (codes "entity @t(i1$ %c)->(i8$ %q){" ∷ codes "%z=const i8 -1 ; ones" ∷ codes "%a = sig i8 %z" ∷ codes "}" ∷ [])) (unit kind.Entity (codes "t") (input (codes "c") (signal_type (int_type 1)) ∷ output (codes "q") (signal_type (int_type 8)) ∷ []) None (body (gives (codes "z") (const_text (int_value 8 255)) ∷ gives (codes "a") (sig_text (record { value = codes "z"; ty = Some (int_type 8) })) ∷ [])) ∷ []) refl
+an_entity : Reads (text_of (codes "entity @t(i1$ %c)->(i8$ %q){" ∷ codes "%z=const i8 -1 ; ones" ∷ codes "%a = sig i8 %z" ∷ codes "}" ∷ []))
+    (unit kind.Entity (codes "t") (input (codes "c") (signal_type (int_type 1)) ∷ output (codes "q") (signal_type (int_type 8)) ∷ []) None
+    (body (gives (codes "z") (const_text (int_value 8 255)) ∷ gives (codes "a") (sig_text (record { value = codes "z"; ty = Some (int_type 8) })) ∷ [])) ∷ [])
+unfolding first_lexeme step params_at brace_at ports_at unit_at head_at const_at last_typed_at sig_at worded_at inst_at assigned_at close_at item_at typed_at param_at head_of form_of integer_at
+    data_at base_at suffix_at type_at
+an_entity = read_of-reads (text_of (codes "entity @t(i1$ %c)->(i8$ %q){" ∷ codes "%z=const i8 -1 ; ones" ∷ codes "%a = sig i8 %z" ∷ codes "}" ∷ []))
+    (unit kind.Entity (codes "t") (input (codes "c") (signal_type (int_type 1)) ∷ output (codes "q") (signal_type (int_type 8)) ∷ []) None
+    (body (gives (codes "z") (const_text (int_value 8 255)) ∷ gives (codes "a") (sig_text (record { value = codes "z"; ty = Some (int_type 8) })) ∷ [])) ∷ []) refl
 
 -- a process, with a label that stands before its block
-a_process : Reads (text_of (codes "proc @p () -> () {" ∷ codes "a:" ∷ codes "br %b" ∷ codes "%b:" ∷ codes "wait %a" ∷ codes "}" ∷ [])) (unit kind.Proc (codes "p") [] None (block (codes "a") (does (br_text (codes "b")) ∷ []) ∷ block (codes "b") (does (wait_text (codes "a") None []) ∷ []) ∷ []) ∷ [])
+a_process : Reads (text_of (codes "proc @p () -> () {" ∷ codes "a:" ∷ codes "br %b" ∷ codes "%b:" ∷ codes "wait %a" ∷ codes "}" ∷ []))
+    (unit kind.Proc (codes "p") [] None (block (codes "a") (does (br_text (codes "b")) ∷ []) ∷ block (codes "b") (does (wait_text (codes "a") None []) ∷ []) ∷ []) ∷ [])
 unfolding first_lexeme step params_at brace_at ports_at unit_at head_at last_local_at br_at wait_at worded_at label_at word_label_at alone_at close_at item_at maybe_at head_of form_of name_at
-a_process = read_of-reads (text_of (codes "proc @p () -> () {" ∷ codes "a:" ∷ codes "br %b" ∷ codes "%b:" ∷ codes "wait %a" ∷ codes "}" ∷ [])) (unit kind.Proc (codes "p") [] None (block (codes "a") (does (br_text (codes "b")) ∷ []) ∷ block (codes "b") (does (wait_text (codes "a") None []) ∷ []) ∷ []) ∷ []) refl
+a_process = read_of-reads (text_of (codes "proc @p () -> () {" ∷ codes "a:" ∷ codes "br %b" ∷ codes "%b:" ∷ codes "wait %a" ∷ codes "}" ∷ []))
+    (unit kind.Proc (codes "p") [] None (block (codes "a") (does (br_text (codes "b")) ∷ []) ∷ block (codes "b") (does (wait_text (codes "a") None []) ∷ []) ∷ []) ∷ []) refl
 
 -- a function with its result
-a_function : Reads (text_of (codes "func @f (i8 %a) i8 {" ∷ codes "a:" ∷ codes "ret i8 %a" ∷ codes "}" ∷ [])) (unit kind.Func (codes "f") (input (codes "a") (int_type 8) ∷ []) (Some (int_type 8)) (block (codes "a") (does (ret_text (Some (record { value = codes "a"; ty = Some (int_type 8) }))) ∷ []) ∷ []) ∷ [])
-unfolding first_lexeme step params_at brace_at func_at head_at last_typed_at ret_at worded_at label_at word_label_at alone_at close_at item_at typed_at param_at head_of form_of name_at data_at base_at suffix_at type_at
-a_function = read_of-reads (text_of (codes "func @f (i8 %a) i8 {" ∷ codes "a:" ∷ codes "ret i8 %a" ∷ codes "}" ∷ [])) (unit kind.Func (codes "f") (input (codes "a") (int_type 8) ∷ []) (Some (int_type 8)) (block (codes "a") (does (ret_text (Some (record { value = codes "a"; ty = Some (int_type 8) }))) ∷ []) ∷ []) ∷ []) refl
+a_function : Reads (text_of (codes "func @f (i8 %a) i8 {" ∷ codes "a:" ∷ codes "ret i8 %a" ∷ codes "}" ∷ []))
+    (unit kind.Func (codes "f") (input (codes "a") (int_type 8) ∷ []) (Some (int_type 8)) (block (codes "a") (does (ret_text (Some (record { value = codes "a"; ty = Some (int_type 8) }))) ∷ []) ∷ [])
+    ∷ [])
+unfolding first_lexeme step params_at brace_at func_at head_at last_typed_at ret_at worded_at label_at word_label_at alone_at close_at item_at typed_at param_at head_of form_of name_at data_at base_at
+    suffix_at type_at
+a_function = read_of-reads (text_of (codes "func @f (i8 %a) i8 {" ∷ codes "a:" ∷ codes "ret i8 %a" ∷ codes "}" ∷ []))
+    (unit kind.Func (codes "f") (input (codes "a") (int_type 8) ∷ []) (Some (int_type 8)) (block (codes "a") (does (ret_text (Some (record { value = codes "a"; ty = Some (int_type 8) }))) ∷ []) ∷ [])
+    ∷ []) refl
 
 -- a unit is declared as often as wanted
-declared_twice : Reads (text_of (codes "declare @f (i8) i1" ∷ codes "declare @f (i8) i1" ∷ [])) (declare_text (declare.Func (record { sigil = 64; name = codes "f" }) (int_type 8 ∷ []) (int_type 1)) ∷ declare_text (declare.Func (record { sigil = 64; name = codes "f" }) (int_type 8 ∷ []) (int_type 1)) ∷ [])
+declared_twice : Reads (text_of (codes "declare @f (i8) i1" ∷ codes "declare @f (i8) i1" ∷ []))
+    (declare_text (declare.Func (record { sigil = 64; name = codes "f" }) (int_type 8 ∷ []) (int_type 1))
+    ∷ declare_text (declare.Func (record { sigil = 64; name = codes "f" }) (int_type 8 ∷ []) (int_type 1)) ∷ [])
 unfolding first_lexeme step types_at declare_func_at declare_at head_at item_at head_of data_at base_at suffix_at type_at
-declared_twice = read_of-reads (text_of (codes "declare @f (i8) i1" ∷ codes "declare @f (i8) i1" ∷ [])) (declare_text (declare.Func (record { sigil = 64; name = codes "f" }) (int_type 8 ∷ []) (int_type 1)) ∷ declare_text (declare.Func (record { sigil = 64; name = codes "f" }) (int_type 8 ∷ []) (int_type 1)) ∷ []) refl
+declared_twice = read_of-reads (text_of (codes "declare @f (i8) i1" ∷ codes "declare @f (i8) i1" ∷ []))
+    (declare_text (declare.Func (record { sigil = 64; name = codes "f" }) (int_type 8 ∷ []) (int_type 1))
+    ∷ declare_text (declare.Func (record { sigil = 64; name = codes "f" }) (int_type 8 ∷ []) (int_type 1)) ∷ []) refl
 
 -- 256 is no constant of 8 bits
 past_the_width : FirstBad (text_of (codes "entity @t () -> () {" ∷ codes "%a = const i8 256" ∷ codes "}" ∷ [])) 2 syntax

@@ -42,4 +42,5 @@ none_at (x ∷ xs) h k l = by (nat_eq x 10) refl h k l (none_at xs)
     by false e h (suc k) l r = r (omega arith) k (omega arith)
 
 pub lines-None : (xs : List ℕ) → 0 < length xs → None ≡ position (λ b. nat_eq b 10) xs → lines_of xs ≡ xs ∷ lines_of (take (length xs - length xs) (drop (length xs) xs))
-lines-None xs h p = lines_all xs h (none_at xs (none_long (position_or_len (λ b. nat_eq b 10) xs) (length xs) p)) ∙ ap (λ l. xs ∷ lines_of l) (sym (take_rest xs (length xs) ∙ drop_all (length xs) xs (omega arith)))
+lines-None xs h p = lines_all xs h (none_at xs (none_long (position_or_len (λ b. nat_eq b 10) xs) (length xs) p))
+    ∙ ap (λ l. xs ∷ lines_of l) (sym (take_rest xs (length xs) ∙ drop_all (length xs) xs (omega arith)))

@@ -5,7 +5,7 @@ use Rattle.lh_unit.specs.Contents.{ItemText}
 use Rattle.lh_unit.specs.Lexemes.{Lexeme, lexemes}
 use Rattle.lh_unit.specs.Lines.{lines_of}
 use Rattle.lh_unit.specs.Spells.{LineItem, Spells}
-use Rattle.lh_unit.specs.Reads.{State, start, place_of, may_stand, too_large, defines_again, after, Says, Takes, Walk, Reads, BadKind, syntax, unit_too_large, duplicate_name, IsBad, FirstBadFrom, FirstBad}
+use Rattle.lh_unit.specs.Reads.{ReadState, start, place_of, may_stand, too_large, defines_again, after, LineSpells, Takes, Walk, Reads, BadKind, syntax, unit_too_large, duplicate_name, IsBad, FirstBadFrom, FirstBad}
 use Rattle.lh_syntax.specs.Items.{item_at}
 use Rattle.lh_syntax.specs.SpelledBy.{SpelledBy}
 use Rattle.lh_syntax.proofs.SpelledItems.{spelled_by}
@@ -13,11 +13,11 @@ use Rattle.lh_read.specs.Steps.{step}
 use Rattle.lh_read.proofs.Stepping.{IsFree, step-free, HasFault, step-fault}
 
 -- no unit is open at the end of these items
-abbrev pub closed : List ItemText → State
+abbrev pub closed : List ItemText → ReadState
 closed items = record { items = items; inside = false }
 
 -- a line of these tokens, which spell this item
-pub taken-line : (s t : State) (l : List ℕ) (ts : List Lexeme) (i : LineItem) → lexemes l ≡ Some ts → SpelledBy ts (Some i) → step s i ≡ Ok t → Takes s l t
+pub taken-line : (s t : ReadState) (l : List ℕ) (ts : List Lexeme) (i : LineItem) → lexemes l ≡ Some ts → SpelledBy ts (Some i) → step s i ≡ Ok t → Takes s l t
 taken-line s t l ts i e w p =
     let f : IsFree s i t = step-free s i t p in
     record { item = i; said = record { tokens = ts; lexed = e; spelled = w.0; stands = f.stands }; has_room = f.has_room; is_new = f.is_new; becomes = f.becomes }
@@ -25,10 +25,10 @@ taken-line s t l ts i e w p =
 same_tokens : (l : List ℕ) (ts us : List Lexeme) → lexemes l ≡ Some ts → lexemes l ≡ Some us → us ≡ ts
 same_tokens l ts us p q = cc
 
-said-spelled : (s : State) (l : List ℕ) (ts : List Lexeme) (j : LineItem) → lexemes l ≡ Some ts → Says s l j → Spells ts j
+said-spelled : (s : ReadState) (l : List ℕ) (ts : List Lexeme) (j : LineItem) → lexemes l ≡ Some ts → LineSpells s l j → Spells ts j
 said-spelled s l ts j e w = subst (λ us. Spells us j) (same_tokens l ts w.tokens e w.lexed) w.spelled
 
-pub bad-line : (s : State) (l : List ℕ) (ts : List Lexeme) (i : LineItem) (why : BadKind) → lexemes l ≡ Some ts → SpelledBy ts (Some i) → step s i ≡ Err why → IsBad s l why
+pub bad-line : (s : ReadState) (l : List ℕ) (ts : List Lexeme) (i : LineItem) (why : BadKind) → lexemes l ≡ Some ts → SpelledBy ts (Some i) → step s i ≡ Err why → IsBad s l why
 bad-line s l ts i why e w p = by why (step-fault s i why p)
   where
     by : (b : BadKind) → HasFault s i b → IsBad s l b
@@ -36,13 +36,13 @@ bad-line s l ts i why e w p = by why (step-fault s i why p)
     by unit_too_large f = (i, record { tokens = ts; lexed = e; spelled = w.0; stands = f.0 }, f.1)
     by duplicate_name f = (i, record { tokens = ts; lexed = e; spelled = w.0; stands = f.0 }, f.1, f.2)
 
-pub unspelled-line : (s : State) (l : List ℕ) (ts : List Lexeme) → lexemes l ≡ Some ts → SpelledBy ts None → IsBad s l syntax
+pub unspelled-line : (s : ReadState) (l : List ℕ) (ts : List Lexeme) → lexemes l ≡ Some ts → SpelledBy ts None → IsBad s l syntax
 unspelled-line s l ts e w = λ j v. w j (said-spelled s l ts j e v)
 
 no_tokens : (l : List ℕ) (ts : List Lexeme) → lexemes l ≡ None → lexemes l ≡ Some ts → ⊥
 no_tokens l ts p q = cc
 
-pub unlexed-line : (s : State) (l : List ℕ) → lexemes l ≡ None → IsBad s l syntax
+pub unlexed-line : (s : ReadState) (l : List ℕ) → lexemes l ≡ None → IsBad s l syntax
 unlexed-line s l e = λ j v. no_tokens l v.tokens e v.lexed
 
 -- tokens spell one item
@@ -53,18 +53,18 @@ spells-once ts i j v w = by (item_at ts) (spelled_by ts (item_at ts) refl)
     by None s = absurd (s i v)
     by (Some k) s = s.1 i v ∙ sym (s.1 j w)
 
-said-once : (s : State) (l : List ℕ) (i j : LineItem) → Says s l i → Says s l j → i ≡ j
+said-once : (s : ReadState) (l : List ℕ) (i j : LineItem) → LineSpells s l i → LineSpells s l j → i ≡ j
 said-once s l i j v w = spells-once v.tokens i j v.spelled (said-spelled s l v.tokens j v.lexed w)
 
-taken-once : (s t u : State) (l : List ℕ) → Takes s l t → Takes s l u → t ≡ u
+taken-once : (s t u : ReadState) (l : List ℕ) → Takes s l t → Takes s l u → t ≡ u
 taken-once s t u l v w = v.becomes ∙ ap (after s) (said-once s l v.item w.item v.said w.said) ∙ sym w.becomes
 
-bad-taken : (s t : State) (l : List ℕ) (why : BadKind) → IsBad s l why → Takes s l t → ⊥
+bad-taken : (s t : ReadState) (l : List ℕ) (why : BadKind) → IsBad s l why → Takes s l t → ⊥
 bad-taken s t l syntax b w = b w.item w.said
 bad-taken s t l unit_too_large b w = both_ways (too_large s b.0) (ap (too_large s) (said-once s l b.0 w.item b.1 w.said) ∙ w.has_room) b.2
 bad-taken s t l duplicate_name b w = both_ways (defines_again s b.0) (ap (defines_again s) (said-once s l b.0 w.item b.1 w.said) ∙ w.is_new) b.3
 
-bad-once : (s : State) (l : List ℕ) (e f : BadKind) → IsBad s l e → IsBad s l f → e ≡ f
+bad-once : (s : ReadState) (l : List ℕ) (e f : BadKind) → IsBad s l e → IsBad s l f → e ≡ f
 bad-once s l syntax syntax b c = refl
 bad-once s l syntax unit_too_large b c = absurd (b c.0 c.1)
 bad-once s l syntax duplicate_name b c = absurd (b c.0 c.1)
@@ -76,18 +76,18 @@ bad-once s l duplicate_name unit_too_large b c = absurd (both_ways (too_large s 
 bad-once s l duplicate_name duplicate_name b c = refl
 
 -- line after line
-walk-once : (ls : List (List ℕ)) (s t u : State) → Walk ls s t → Walk ls s u → t ≡ u
+walk-once : (ls : List (List ℕ)) (s t u : ReadState) → Walk ls s t → Walk ls s u → t ≡ u
 walk-once [] s t u v w = sym v ∙ w
 walk-once (l ∷ ls) s t u v w = walk-once ls w.0 t u (subst (λ m. Walk ls m t) (taken-once s v.0 w.0 l v.1 w.1) v.2) w.2
 
-walk-bad : (ls : List (List ℕ)) (n : ℕ) (s : State) (items : List ItemText) (k : ℕ) (why : BadKind) → Walk ls s (closed items) → FirstBadFrom ls n s k why → ⊥
+walk-bad : (ls : List (List ℕ)) (n : ℕ) (s : ReadState) (items : List ItemText) (k : ℕ) (why : BadKind) → Walk ls s (closed items) → FirstBadFrom ls n s k why → ⊥
 walk-bad [] n s items k why w b = both_ways s.inside (ap (λ x. x.inside) w) b.0
 walk-bad (l ∷ ls) n s items k why w b = elim b [
   | inl f ↦ bad-taken s w.0 l why f.1 w.1
   | inr f ↦ walk-bad ls (n + 1) f.0 items k why (subst (λ m. Walk ls m (closed items)) (taken-once s w.0 f.0 l w.1 f.1) w.2) f.2
 ]
 
-first-once : (ls : List (List ℕ)) (n : ℕ) (s : State) (k m : ℕ) (e f : BadKind) → FirstBadFrom ls n s k e → FirstBadFrom ls n s m f → (m ≡ k) × (f ≡ e)
+first-once : (ls : List (List ℕ)) (n : ℕ) (s : ReadState) (k m : ℕ) (e f : BadKind) → FirstBadFrom ls n s k e → FirstBadFrom ls n s m f → (m ≡ k) × (f ≡ e)
 first-once [] n s k m e f b c = (c.1 ∙ sym b.1, c.2 ∙ sym b.2)
 first-once (l ∷ ls) n s k m e f b c = elim b [
   | inl x ↦ elim c [ inl y ↦ (y.0 ∙ sym x.0, bad-once s l f e y.1 x.1) | inr y ↦ absurd (bad-taken s y.0 l e x.1 y.1) ]

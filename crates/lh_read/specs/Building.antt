@@ -4,7 +4,7 @@ use Rattle.lh_types.specs.Types.{TypeTree}
 use Rattle.lh_unit.specs.Contents.{ArgText, UnitText, unit_text, new_unit, change_last, with_arg, defines_unit, defines_value}
 use Rattle.lh_unit.specs.Spells.{TypedName}
 use Rattle.lh_unit.specs.Arena.{Arena, IsOpen, OfOpen, contents, unit_count}
-use Rattle.lh_unit.specs.Reads.{State, headed_unit, args_repeat, Takes, BadKind, syntax, unit_too_large, duplicate_name, IsBad}
+use Rattle.lh_unit.specs.Reads.{ReadState, headed_unit, args_repeat, Takes, BadKind, syntax, unit_too_large, duplicate_name, IsBad}
 use Rattle.lh_unit.specs.declared.name.UnitName.{UnitName}
 use Rattle.lh_unit.specs.declared.inst.UnitId.{UnitId}
 use Rattle.lh_unit.specs.declared.inst.UnitKind.{UnitKind}
@@ -16,11 +16,11 @@ abbrev pub arg_of : Bool → TypedName → ArgText
 arg_of output a = record { name = a.name; ty = a.ty; output = output }
 
 -- a unit is begun, or its name is defined
-abbrev pub Begins : Result UnitId LineFault → Arena → Arena → UnitName → UnitKind → Type 0
-Begins (Ok u) old new n k = (defines_unit n (contents old) ≡ false) × (contents new ≡ contents old ++ unit_text (new_unit n k) ∷ []) × IsOpen new u × (u.0 < unit_count new)
-Begins (Err fault.DuplicateName) old new n k = defines_unit n (contents old) ≡ true
-Begins (Err fault.OutOfMemory) old new n k = Unit {0}
-Begins (Err _) old new n k = ⊥
+abbrev pub UnitBegunOrFault : Result UnitId LineFault → Arena → Arena → UnitName → UnitKind → Type 0
+UnitBegunOrFault (Ok u) old new n k = (defines_unit n (contents old) ≡ false) × (contents new ≡ contents old ++ unit_text (new_unit n k) ∷ []) × IsOpen new u × (u.0 < unit_count new)
+UnitBegunOrFault (Err fault.DuplicateName) old new n k = defines_unit n (contents old) ≡ true
+UnitBegunOrFault (Err fault.OutOfMemory) old new n k = Unit {0}
+UnitBegunOrFault (Err _) old new n k = ⊥
 
 abbrev pub with_args : List ArgText → UnitText → UnitText
 with_args args t = record t { args = t.args ++ args }
@@ -39,13 +39,14 @@ AddsArgs (Err _) old new u args = ⊥
 
 -- a unit is begun as its header says it, or its name or that of an argument is defined again
 abbrev pub Heads : Result UnitId LineFault → Arena → Arena → UnitName → UnitKind → List ArgText → Option TypeTree → Type 0
-Heads (Ok u) old new n k args r = (defines_unit n (contents old) ≡ false) × (args_repeat [] args ≡ false) × (contents new ≡ contents old ++ unit_text (headed_unit k n args r) ∷ []) × IsOpen new u × (u.0 < unit_count new)
+Heads (Ok u) old new n k args r = (defines_unit n (contents old) ≡ false) × (args_repeat [] args ≡ false) × (contents new ≡ contents old ++ unit_text (headed_unit k n args r) ∷ []) × IsOpen new u
+    × (u.0 < unit_count new)
 Heads (Err fault.DuplicateName) old new n k args r = (defines_unit n (contents old) ≡ true) ⊎ (args_repeat [] args ≡ true)
 Heads (Err fault.OutOfMemory) old new n k args r = Unit {0}
 Heads (Err _) old new n k args r = ⊥
 
 -- the new state, or the fault; of want of memory nothing is said
-abbrev pub Steps : Result (Unit {0}) LineFault → Result State BadKind → State → Type 0
+abbrev pub Steps : Result (Unit {0}) LineFault → Result ReadState BadKind → ReadState → Type 0
 Steps (Ok _) step new = step ≡ Ok new
 Steps (Err fault.Syntax) step new = step ≡ Err syntax
 Steps (Err fault.UnitTooLarge) step new = step ≡ Err unit_too_large
@@ -53,7 +54,7 @@ Steps (Err fault.DuplicateName) step new = step ≡ Err duplicate_name
 Steps (Err fault.OutOfMemory) step new = Unit {0}
 
 -- the line is taken, or is faulty; of want of memory nothing is said
-abbrev pub TakesOrIsBad : Result (Unit {0}) LineFault → State → List ℕ → State → Type 0
+abbrev pub TakesOrIsBad : Result (Unit {0}) LineFault → ReadState → List ℕ → ReadState → Type 0
 TakesOrIsBad (Ok _) s line new = Takes s line new
 TakesOrIsBad (Err fault.Syntax) s line new = IsBad s line syntax
 TakesOrIsBad (Err fault.UnitTooLarge) s line new = IsBad s line unit_too_large

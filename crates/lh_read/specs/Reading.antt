@@ -9,10 +9,10 @@ use Rattle.lh_read.specs.declared.TextFault.{TextFault}
 use Rattle.lh_read.specs.declared.TextFault.TheVariants.{Syntax, UnitTooLarge, DuplicateName, OutOfMemory}
 
 -- the module with these contents, or want of memory
-abbrev pub Gives : Result Arena TextFault → List ItemText → Type 0
-Gives (Ok m) items = contents m ≡ items
-Gives (Err OutOfMemory) items = Unit {0}
-Gives (Err _) items = ⊥
+abbrev pub ModuleOrNoMemory : Result Arena TextFault → List ItemText → Type 0
+ModuleOrNoMemory (Ok m) items = contents m ≡ items
+ModuleOrNoMemory (Err OutOfMemory) items = Unit {0}
+ModuleOrNoMemory (Err _) items = ⊥
 
 -- the fault names the first faulty line of the text; want of memory names none
 abbrev pub Names : TextFault → List ℕ → Type 0
@@ -22,9 +22,9 @@ Names (DuplicateName n) text = FirstBad text n duplicate_name
 Names OutOfMemory text = Unit {0}
 
 -- the text reads as the module says, or its first faulty line is named; of want of memory nothing is said
-abbrev pub Answers : Result Arena TextFault → List ℕ → Type 0
-Answers (Ok m) text = Reads text (contents m)
-Answers (Err e) text = Names e text
+abbrev pub ModuleOrFault : Result Arena TextFault → List ℕ → Type 0
+ModuleOrFault (Ok m) text = Reads text (contents m)
+ModuleOrFault (Err e) text = Names e text
 
 -- the text reads as exactly these items, and has no faulty line
 pub record ReadsOnlyAs (text : List ℕ) (items : List ItemText) : Type 0 where

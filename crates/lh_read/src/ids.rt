@@ -10,9 +10,10 @@ ghost use Rattle.lh_syntax.specs.SyntaxOf.{operand_of, operands_of, trigger_of, 
 ghost use Rattle.lh_read.specs.Placing.{ValuePlaced, MaybePlaced, LabelPlaced, OperandPlaced, TriggerPlaced, EdgePlaced, OperandsPlaced, TriggersPlaced, EdgesPlaced, SignalsPlaced};
 
 use lh_scan::tokens::{NameText, UnitNameText};
-use lh_syntax::syntax::{Edge, Operand, Trigger};
+use lh_syntax::syntax::{EdgeSyntax, Operand, TriggerSyntax};
 use lh_types::list::ListOf;
-use lh_types::ty::{NoMemory, Ty};
+use lh_types::ty::NoMemory;
+use lh_types::written::SharedTypes;
 use lh_unit::inst::{
     BlockId, PhiEdge, PhiEdgeList, RegTrigger, RegTriggerList, Typed, TypedList, UnitId, ValueId,
     ValueIdList,
@@ -84,19 +85,10 @@ pub fn maybe_id(
     }
 }
 
-/// An equal type, if there is one.
-fn copy_type(ty: &Option<Ty>) -> Result<Option<Ty>, NoMemory>
-    ensures { IfOk result (λ t. t ≡ ty.now) }
-{
-    match ty {
-        Some(ty) => Ok(Some(ty.copy()?)),
-        None => Ok(None),
-    }
-}
-
-/// The operand.
+/// The operand; the operands of a file share their types.
 pub fn operand(
     alloc: Global,
+    types: &mut SharedTypes,
     m: &mut Module,
     unit: UnitId,
     from: &Operand,
@@ -105,7 +97,7 @@ pub fn operand(
     ensures { IfOk result (λ t. OperandPlaced m.old m.new unit t (operand_of from.now)) }
 {
     let value = value_id(alloc, m, unit, &from.value)?;
-    let ty = copy_type(&from.ty)?;
+    let ty = types.share(alloc, from.ty.as_ref())?;
     Ok(Typed { value, ty })
 }
 
@@ -114,7 +106,7 @@ fn trigger(
     alloc: Global,
     m: &mut Module,
     unit: UnitId,
-    from: &Trigger,
+    from: &TriggerSyntax,
 ) -> Result<RegTrigger, NoMemory>
     requires { unit.0 < unit_count m.old }
     ensures { IfOk result (λ t. TriggerPlaced m.old m.new unit t (trigger_of from.now)) }
@@ -134,7 +126,7 @@ fn trigger(
 }
 
 /// The edge of a `phi`.
-fn edge(alloc: Global, m: &mut Module, unit: UnitId, from: &Edge) -> Result<PhiEdge, NoMemory>
+fn edge(alloc: Global, m: &mut Module, unit: UnitId, from: &EdgeSyntax) -> Result<PhiEdge, NoMemory>
     requires { unit.0 < unit_count m.old }
     ensures { IfOk result (λ e. EdgePlaced m.old m.new unit e (edge_of from.now)) }
 {
@@ -146,6 +138,7 @@ fn edge(alloc: Global, m: &mut Module, unit: UnitId, from: &Edge) -> Result<PhiE
 /// The operands.
 pub fn operands(
     alloc: Global,
+    types: &mut SharedTypes,
     m: &mut Module,
     unit: UnitId,
     from: &[Operand],
@@ -155,7 +148,7 @@ pub fn operands(
 {
     let mut to = ListOf::with_room(alloc, from.len())?;
     for one in from {
-        let placed = operand(alloc, m, unit, one)?;
+        let placed = operand(alloc, types, m, unit, one)?;
         to.push(placed)?;
     }
     Ok(to)
@@ -166,7 +159,7 @@ pub fn triggers(
     alloc: Global,
     m: &mut Module,
     unit: UnitId,
-    from: &[Trigger],
+    from: &[TriggerSyntax],
 ) -> Result<RegTriggerList, NoMemory>
     requires { unit.0 < unit_count m.old }
     ensures { IfOk result (λ list. TriggersPlaced m.old m.new unit list (map trigger_of from.now)) }
@@ -184,7 +177,7 @@ pub fn edges(
     alloc: Global,
     m: &mut Module,
     unit: UnitId,
-    from: &[Edge],
+    from: &[EdgeSyntax],
 ) -> Result<PhiEdgeList, NoMemory>
     requires { unit.0 < unit_count m.old }
     ensures { IfOk result (λ list. EdgesPlaced m.old m.new unit list (map edge_of from.now)) }

@@ -12,16 +12,18 @@ use crate::ids::{
     edges, label_id, maybe_id, operand, operands, signals, triggers, unit_id, value_id,
 };
 use lh_scan::tokens::{NameText, UnitNameText};
-use lh_syntax::syntax::{Edge, InstSyntax, Operand, Trigger};
+use lh_syntax::syntax::{EdgeSyntax, InstSyntax, Operand, TriggerSyntax};
 use lh_types::op::Op;
 use lh_types::ty::{NoMemory, Ty};
-use lh_unit::inst::{Inst, UnitId};
+use lh_types::written::SharedTypes;
+use lh_unit::inst::{Inst, OperandList, UnitId};
 use lh_unit::module::Module;
 use std::alloc::Global;
 
 /// The instruction, with ids in place of names.
 pub fn instruction(
     alloc: Global,
+    types: &mut SharedTypes,
     m: &mut Module,
     unit: UnitId,
     inst: InstSyntax,
@@ -31,29 +33,37 @@ pub fn instruction(
 {
     match inst {
         InstSyntax::Const(value) => Ok(Inst::Const(value)),
-        InstSyntax::Pure { op, args } => pure(alloc, m, unit, op, args.as_slice()),
-        InstSyntax::Var(of) => Ok(Inst::Var(operand(alloc, m, unit, &of)?)),
-        InstSyntax::Ld(of) => Ok(Inst::Ld(operand(alloc, m, unit, &of)?)),
-        InstSyntax::St { to, value } => st(alloc, m, unit, &to, &value),
-        InstSyntax::Sig(of) => Ok(Inst::Sig(operand(alloc, m, unit, &of)?)),
-        InstSyntax::Prb(of) => Ok(Inst::Prb(operand(alloc, m, unit, &of)?)),
+        InstSyntax::Pure { op, args } => pure(alloc, types, m, unit, op, args.as_slice()),
+        InstSyntax::Var(of) => Ok(Inst::Var(operand(alloc, types, m, unit, &of)?)),
+        InstSyntax::Ld(of) => Ok(Inst::Ld(operand(alloc, types, m, unit, &of)?)),
+        InstSyntax::St { to, value } => st(alloc, types, m, unit, &to, &value),
+        InstSyntax::Sig(of) => Ok(Inst::Sig(operand(alloc, types, m, unit, &of)?)),
+        InstSyntax::Prb(of) => Ok(Inst::Prb(operand(alloc, types, m, unit, &of)?)),
         InstSyntax::Drv {
             to,
             value,
             after,
             cond,
-        } => drv(alloc, m, unit, &to, &value, &after, &cond),
-        InstSyntax::Reg { to, triggers: by } => reg(alloc, m, unit, &to, by.as_slice()),
+        } => drv(alloc, types, m, unit, &to, &value, &after, &cond),
+        InstSyntax::Reg { to, triggers: by } => reg(alloc, types, m, unit, &to, by.as_slice()),
         InstSyntax::Child {
             unit: name,
             inputs,
             outputs,
-        } => child(alloc, m, unit, &name, inputs.as_slice(), outputs.as_slice()),
+        } => child(
+            alloc,
+            types,
+            m,
+            unit,
+            &name,
+            inputs.as_slice(),
+            outputs.as_slice(),
+        ),
         InstSyntax::Call {
             unit: name,
             result,
             args,
-        } => call(alloc, m, unit, &name, result, args.as_slice()),
+        } => call(alloc, types, m, unit, &name, result, args.as_slice()),
         InstSyntax::Phi { ty, edges: from } => phi(alloc, m, unit, ty, from.as_slice()),
         InstSyntax::Br(to) => Ok(Inst::Br(label_id(alloc, m, unit, &to)?)),
         InstSyntax::Branch { cond, zero, one } => branch(alloc, m, unit, &cond, &zero, &one),
@@ -63,12 +73,13 @@ pub fn instruction(
             signals: named,
         } => wait(alloc, m, unit, &to, &after, named.as_slice()),
         InstSyntax::Halt => Ok(Inst::Halt),
-        InstSyntax::Ret(of) => ret(alloc, m, unit, &of),
+        InstSyntax::Ret(of) => ret(alloc, types, m, unit, &of),
     }
 }
 
 fn pure(
     alloc: Global,
+    types: &mut SharedTypes,
     m: &mut Module,
     unit: UnitId,
     op: Op,
@@ -77,12 +88,13 @@ fn pure(
     requires { unit.0 < unit_count m.old }
     ensures { IfOk result (λ i. InstPlacedAs m.old m.new unit i (pure_text op (operands_of args.now))) }
 {
-    let args = operands(alloc, m, unit, args)?;
+    let args = OperandList::from_list(operands(alloc, types, m, unit, args)?);
     Ok(Inst::Pure { op, args })
 }
 
 fn st(
     alloc: Global,
+    types: &mut SharedTypes,
     m: &mut Module,
     unit: UnitId,
     to: &Operand,
@@ -91,13 +103,14 @@ fn st(
     requires { unit.0 < unit_count m.old }
     ensures { IfOk result (λ i. InstPlacedAs m.old m.new unit i (st_text (operand_of to.now) value.now)) }
 {
-    let to = operand(alloc, m, unit, to)?;
+    let to = operand(alloc, types, m, unit, to)?;
     let value = value_id(alloc, m, unit, value)?;
     Ok(Inst::St { to, value })
 }
 
 fn drv(
     alloc: Global,
+    types: &mut SharedTypes,
     m: &mut Module,
     unit: UnitId,
     to: &Operand,
@@ -108,7 +121,7 @@ fn drv(
     requires { unit.0 < unit_count m.old }
     ensures { IfOk result (λ i. InstPlacedAs m.old m.new unit i (drv_text (operand_of to.now) value.now after.now cond.now)) }
 {
-    let to = operand(alloc, m, unit, to)?;
+    let to = operand(alloc, types, m, unit, to)?;
     let value = value_id(alloc, m, unit, value)?;
     let after = value_id(alloc, m, unit, after)?;
     let cond = maybe_id(alloc, m, unit, cond)?;
@@ -122,21 +135,23 @@ fn drv(
 
 fn reg(
     alloc: Global,
+    types: &mut SharedTypes,
     m: &mut Module,
     unit: UnitId,
     to: &Operand,
-    by: &[Trigger],
+    by: &[TriggerSyntax],
 ) -> Result<Inst, NoMemory>
     requires { unit.0 < unit_count m.old }
     ensures { IfOk result (λ i. InstPlacedAs m.old m.new unit i (reg_text (operand_of to.now) (map trigger_of by.now))) }
 {
-    let to = operand(alloc, m, unit, to)?;
+    let to = operand(alloc, types, m, unit, to)?;
     let triggers = triggers(alloc, m, unit, by)?;
     Ok(Inst::Reg { to, triggers })
 }
 
 fn child(
     alloc: Global,
+    types: &mut SharedTypes,
     m: &mut Module,
     unit: UnitId,
     name: &UnitNameText,
@@ -147,8 +162,8 @@ fn child(
     ensures { IfOk result (λ i. InstPlacedAs m.old m.new unit i (child_text (unit_name_of name.now) (operands_of inputs.now) (operands_of outputs.now))) }
 {
     let of = unit_id(alloc, m, name)?;
-    let inputs = operands(alloc, m, unit, inputs)?;
-    let outputs = operands(alloc, m, unit, outputs)?;
+    let inputs = operands(alloc, types, m, unit, inputs)?;
+    let outputs = operands(alloc, types, m, unit, outputs)?;
     Ok(Inst::Child {
         unit: of,
         inputs,
@@ -158,6 +173,7 @@ fn child(
 
 fn call(
     alloc: Global,
+    types: &mut SharedTypes,
     m: &mut Module,
     unit: UnitId,
     name: &UnitNameText,
@@ -168,7 +184,7 @@ fn call(
     ensures { IfOk result (λ i. InstPlacedAs m.old m.new unit i (call_text (unit_name_of name.now) ty (operands_of args.now))) }
 {
     let of = unit_id(alloc, m, name)?;
-    let args = operands(alloc, m, unit, args)?;
+    let args = operands(alloc, types, m, unit, args)?;
     Ok(Inst::Call {
         unit: of,
         result: ty,
@@ -176,7 +192,13 @@ fn call(
     })
 }
 
-fn phi(alloc: Global, m: &mut Module, unit: UnitId, ty: Ty, from: &[Edge]) -> Result<Inst, NoMemory>
+fn phi(
+    alloc: Global,
+    m: &mut Module,
+    unit: UnitId,
+    ty: Ty,
+    from: &[EdgeSyntax],
+) -> Result<Inst, NoMemory>
     requires { unit.0 < unit_count m.old }
     ensures { IfOk result (λ i. InstPlacedAs m.old m.new unit i (phi_text ty (map edge_of from.now))) }
 {
@@ -218,12 +240,18 @@ fn wait(
     Ok(Inst::Wait { to, after, signals })
 }
 
-fn ret(alloc: Global, m: &mut Module, unit: UnitId, of: &Option<Operand>) -> Result<Inst, NoMemory>
+fn ret(
+    alloc: Global,
+    types: &mut SharedTypes,
+    m: &mut Module,
+    unit: UnitId,
+    of: &Option<Operand>,
+) -> Result<Inst, NoMemory>
     requires { unit.0 < unit_count m.old }
     ensures { IfOk result (λ i. InstPlacedAs m.old m.new unit i (ret_text (maybe_operand_of of.now))) }
 {
     match of {
-        Some(of) => Ok(Inst::Ret(Some(operand(alloc, m, unit, of)?))),
+        Some(of) => Ok(Inst::Ret(Some(operand(alloc, types, m, unit, of)?))),
         None => Ok(Inst::Ret(None)),
     }
 }

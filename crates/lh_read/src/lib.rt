@@ -7,7 +7,7 @@ ghost use Rattle.std.specs.Prelude.{◌≡◌, ◌≤◌, ℕ, List, length, IfO
 ghost use Rattle.lh_unit.specs.Contents.{ItemText};
 ghost use Rattle.lh_unit.specs.Arena.{contents};
 ghost use Rattle.lh_unit.specs.Reads.{Reads};
-ghost use Rattle.lh_read.specs.Reading.{Gives, Names, Answers, ReadsOrIsBad, text_fault};
+ghost use Rattle.lh_read.specs.Reading.{ModuleOrNoMemory, Names, ModuleOrFault, ReadsOrIsBad, text_fault};
 
 mod faults;
 mod ids;
@@ -62,7 +62,7 @@ pub fn read(alloc: Global, text: &[u8]) -> Result<Module, TextFault>
     // What is read reads so.
     ensures ok { IfOk result (λ m. Reads text.now (contents m)) }
     // What reads is read, unless memory runs out.
-    ensures only { (items : List ItemText) → Reads text.now items → Gives result items }
+    ensures only { (items : List ItemText) → Reads text.now items → ModuleOrNoMemory result items }
     // A fault names the first faulty line.
     ensures fault { IfErr result (λ e. Names e text.now) }
 {
@@ -72,7 +72,7 @@ pub fn read(alloc: Global, text: &[u8]) -> Result<Module, TextFault>
 /// Reads the text of a file, or names its first faulty line.
 fn read_exact(alloc: Global, text: &[u8]) -> Result<Module, TextFault>
     requires { length text.now ≤ 67108864 }
-    ensures { Answers result text.now }
+    ensures { ModuleOrFault result text.now }
 {
     let mut reader = Reader::new(alloc);
     let mut rest = text;

@@ -6,7 +6,7 @@ use lh_unit::inst::{UnitId, UnitKind};
 
 /// The place in which the next line stands, with the unit that is open there.
 #[derive(Clone, Copy, Debug, PartialEq, Eq)]
-pub enum Place {
+pub enum LinePlace {
     /// Outside of any unit.
     Outside,
     /// In an entity.
@@ -19,15 +19,15 @@ pub enum Place {
     InBlock(UnitId),
 }
 
-impl Place {
+impl LinePlace {
     /// The place behind the header of a unit.
-    pub fn behind_header(kind: UnitKind, unit: UnitId) -> Place
+    pub fn behind_header(kind: UnitKind, unit: UnitId) -> LinePlace
         ensures { result ≡ behind_header kind unit }
     {
         match kind {
-            UnitKind::Entity => Place::InEntity(unit),
-            UnitKind::Func => Place::BeforeLabels(unit),
-            UnitKind::Proc => Place::BeforeLabels(unit),
+            UnitKind::Entity => LinePlace::InEntity(unit),
+            UnitKind::Func => LinePlace::BeforeLabels(unit),
+            UnitKind::Proc => LinePlace::BeforeLabels(unit),
         }
     }
 
@@ -36,11 +36,11 @@ impl Place {
         ensures { result ≡ is_inside self }
     {
         match self {
-            Place::Outside => false,
-            Place::InEntity(_) => true,
-            Place::BeforeLabels(_) => true,
-            Place::InEmptyBlock(_) => true,
-            Place::InBlock(_) => true,
+            LinePlace::Outside => false,
+            LinePlace::InEntity(_) => true,
+            LinePlace::BeforeLabels(_) => true,
+            LinePlace::InEmptyBlock(_) => true,
+            LinePlace::InBlock(_) => true,
         }
     }
 
@@ -49,11 +49,11 @@ impl Place {
         ensures { result ≡ block_unit self }
     {
         match self {
-            Place::Outside => None,
-            Place::InEntity(unit) => Some(unit),
-            Place::BeforeLabels(_) => None,
-            Place::InEmptyBlock(unit) => Some(unit),
-            Place::InBlock(unit) => Some(unit),
+            LinePlace::Outside => None,
+            LinePlace::InEntity(unit) => Some(unit),
+            LinePlace::BeforeLabels(_) => None,
+            LinePlace::InEmptyBlock(unit) => Some(unit),
+            LinePlace::InBlock(unit) => Some(unit),
         }
     }
 
@@ -62,11 +62,11 @@ impl Place {
         ensures { result ≡ label_unit self }
     {
         match self {
-            Place::Outside => None,
-            Place::InEntity(_) => None,
-            Place::BeforeLabels(unit) => Some(unit),
-            Place::InEmptyBlock(_) => None,
-            Place::InBlock(unit) => Some(unit),
+            LinePlace::Outside => None,
+            LinePlace::InEntity(_) => None,
+            LinePlace::BeforeLabels(unit) => Some(unit),
+            LinePlace::InEmptyBlock(_) => None,
+            LinePlace::InBlock(unit) => Some(unit),
         }
     }
 
@@ -75,20 +75,20 @@ impl Place {
         ensures { result ≡ may_close self }
     {
         match self {
-            Place::Outside => false,
-            Place::InEntity(_) => true,
-            Place::BeforeLabels(_) => false,
-            Place::InEmptyBlock(_) => false,
-            Place::InBlock(_) => true,
+            LinePlace::Outside => false,
+            LinePlace::InEntity(_) => true,
+            LinePlace::BeforeLabels(_) => false,
+            LinePlace::InEmptyBlock(_) => false,
+            LinePlace::InBlock(_) => true,
         }
     }
 
     /// The place behind an instruction that stands here.
-    pub fn behind_inst(self) -> Place
+    pub fn behind_inst(self) -> LinePlace
         ensures { result ≡ behind_inst self }
     {
         match self {
-            Place::InEmptyBlock(unit) => Place::InBlock(unit),
+            LinePlace::InEmptyBlock(unit) => LinePlace::InBlock(unit),
             place => place,
         }
     }

@@ -11,11 +11,12 @@ ghost use Rattle.lh_read.specs.InOrder.{state_of, IsInOrder};
 use crate::faults::LineFault;
 use crate::ids::{label_id, maybe_id};
 use crate::insts::instruction;
-use crate::places::Place;
+use crate::places::LinePlace;
 use crate::units::{begin_function, begin_with_ports};
 use lh_scan::tokens::{NameText, UnitNameText};
 use lh_syntax::syntax::{InstSyntax, LineSyntax, Param, Ports};
 use lh_types::ty::{NoMemory, Ty, TyList};
+use lh_types::written::SharedTypes;
 use lh_unit::inst::{Declare, UnitKind};
 use lh_unit::module::Module;
 use std::alloc::Global;
@@ -61,7 +62,9 @@ fn declare_unit(
 #[derive(Drop)]
 pub struct Reader {
     pub module: Module,
-    pub place: Place,
+    pub place: LinePlace,
+    // Those that the lines before have written.
+    types: SharedTypes,
 }
 
 impl Reader {
@@ -72,7 +75,8 @@ impl Reader {
     {
         Reader {
             module: Module::new(alloc),
-            place: Place::Outside,
+            place: LinePlace::Outside,
+            types: SharedTypes::new(alloc),
         }
     }
 
@@ -129,7 +133,7 @@ impl Reader {
             return Err(LineFault::DuplicateName);
         }
         let unit = begin_function(alloc, &mut self.module, name, params, result_type)?;
-        self.place = Place::behind_header(UnitKind::Func, unit);
+        self.place = LinePlace::behind_header(UnitKind::Func, unit);
         Ok(())
     }
 
@@ -151,7 +155,7 @@ impl Reader {
             return Err(LineFault::DuplicateName);
         }
         let unit = begin_with_ports(alloc, &mut self.module, kind, name, ports)?;
-        self.place = Place::behind_header(kind, unit);
+        self.place = LinePlace::behind_header(kind, unit);
         Ok(())
     }
 
@@ -177,7 +181,7 @@ impl Reader {
         };
         let block = label_id(alloc, &mut self.module, unit, name)?;
         self.module.add_block(unit, block)?;
-        self.place = Place::InEmptyBlock(unit);
+        self.place = LinePlace::InEmptyBlock(unit);
         Ok(())
     }
 
@@ -195,7 +199,7 @@ impl Reader {
             return Err(LineFault::Syntax);
         };
         let value = maybe_id(alloc, &mut self.module, unit, name)?;
-        let inst = instruction(alloc, &mut self.module, unit, inst)?;
+        let inst = instruction(alloc, &mut self.types, &mut self.module, unit, inst)?;
         self.module.add_inst(unit, value, inst)?;
         self.place = self.place.behind_inst();
         Ok(())
@@ -210,7 +214,7 @@ impl Reader {
             return Err(LineFault::Syntax);
         }
         self.module.shrink();
-        self.place = Place::Outside;
+        self.place = LinePlace::Outside;
         Ok(())
     }
 }

@@ -4,7 +4,7 @@ ghost use Rattle.lh_unit.specs.Arena.{IsOpen, OfOpen, unit_count};
 ghost use Rattle.lh_unit.specs.Spells.{input_of};
 ghost use Rattle.lh_scan.specs.LexemeOf.{unit_name_of};
 ghost use Rattle.lh_syntax.specs.SyntaxOf.{ports_of};
-ghost use Rattle.lh_read.specs.Building.{arg_of, Begins, AddsArgs, Heads};
+ghost use Rattle.lh_read.specs.Building.{arg_of, UnitBegunOrFault, AddsArgs, Heads};
 
 use crate::faults::LineFault;
 use crate::ids::{unit_id, value_id};
@@ -22,7 +22,7 @@ fn begin(
     name: &UnitNameText,
     kind: UnitKind,
 ) -> Result<UnitId, LineFault>
-    ensures { Begins result m.old m.new (unit_name_of name.now) kind }
+    ensures { UnitBegunOrFault result m.old m.new (unit_name_of name.now) kind }
 {
     let unit = unit_id(alloc, m, name)?;
     m.begin_unit(unit, kind)?;

@@ -41,7 +41,8 @@ by-last f (inst.Ret None) = refl
 by-last f (inst.Ret (Some t)) = refl
 by-last f _ = refl
 
-by-next : (f : Naming) (i : Inst) (o : Option (List ℕ)) (n : Option BlockId) → IsNoBranch i → o ≡ option_map (label_of f) n → (if rows.is_constant (inst_text f i) then o else None) ≡ option_map (label_of f) (leads_then i n)
+by-next : (f : Naming) (i : Inst) (o : Option (List ℕ)) (n : Option BlockId) → IsNoBranch i → o ≡ option_map (label_of f) n
+    → (if rows.is_constant (inst_text f i) then o else None) ≡ option_map (label_of f) (leads_then i n)
 by-next f (inst.Const v) o n h e = e
 by-next f (inst.Br to) o n h e = absurd h
 by-next f (inst.Ret None) o n h e = refl
@@ -69,11 +70,13 @@ inst-leads f n (inst.Ret None) d z h = refl
 inst-leads f n (inst.Ret (Some t)) d z h = refl
 inst-leads f n _ d z h = refl
 
-lines-lead : (f : Naming) (n : ℕ) (ls : List FlatInst) → LabelsDiffer f n → 0 < n → Each (λ (l : FlatInst). LeadsWithin n l.inst) ls → list_any (λ (l : LineText). list_any (same_name (f.label_name 0)) (places.leads_to l.inst)) (map (flat_line_text f) ls) ≡ names entry_id ls
+lines-lead : (f : Naming) (n : ℕ) (ls : List FlatInst) → LabelsDiffer f n → 0 < n → Each (λ (l : FlatInst). LeadsWithin n l.inst) ls
+    → list_any (λ (l : LineText). list_any (same_name (f.label_name 0)) (places.leads_to l.inst)) (map (flat_line_text f) ls) ≡ names entry_id ls
 lines-lead f n [] d z h = refl
 lines-lead f n (l ∷ more) d z h = let a = inst-leads f n l.inst d z h.0 in let b = lines-lead f n more d z h.1 in λ i. a i || b i
 
-blocks-lead : (f : Naming) (n k : ℕ) (bs : List FlatBlock) → LabelsDiffer f n → 0 < n → Each (λ (b : FlatBlock). Each (λ (l : FlatInst). LeadsWithin n l.inst) b.insts) bs → rows.is_led_to (f.label_name 0) (flat_blocks_text f k bs) ≡ is_named entry_id bs
+blocks-lead : (f : Naming) (n k : ℕ) (bs : List FlatBlock) → LabelsDiffer f n → 0 < n → Each (λ (b : FlatBlock). Each (λ (l : FlatInst). LeadsWithin n l.inst) b.insts) bs
+    → rows.is_led_to (f.label_name 0) (flat_blocks_text f k bs) ≡ is_named entry_id bs
 blocks-lead f n k [] d z h = refl
 blocks-lead f n k (b ∷ more) d z h = let a = lines-lead f n b.insts d z h.0 in let c = blocks-lead f n (k + 1) more d z h.1 in λ i. a i || c i
 
@@ -81,12 +84,14 @@ blocks-lead f n k (b ∷ more) d z h = let a = lines-lead f n b.insts d z h.0 in
 
 pub number-of : (f : Naming) (n j i : ℕ) (bs : List FlatBlock) → LabelsDiffer f n → j + length bs ≡ n → i < length bs → block_number (f.label_name (j + i)) (flat_blocks_text f j bs) ≡ Some i
 number-of f n j i [] d e l = absurd (omega arith)
-number-of f n j zero (b ∷ more) d e l = ap (λ (x : Bool). if x then Some 0 else option_map (λ (k : ℕ). k + 1) (block_number (f.label_name (j + 0)) (flat_blocks_text f (j + 1) more))) (label-same f n j (j + 0) d (omega (arith, e)) (omega (arith, e)) ∙ ap (λ (k : ℕ). nat_eq k j) zero-more ∙ nat_eq-refl j)
+number-of f n j zero (b ∷ more) d e l = ap (λ (x : Bool). if x then Some 0 else option_map (λ (k : ℕ). k + 1) (block_number (f.label_name (j + 0)) (flat_blocks_text f (j + 1) more)))
+    (label-same f n j (j + 0) d (omega (arith, e)) (omega (arith, e)) ∙ ap (λ (k : ℕ). nat_eq k j) zero-more ∙ nat_eq-refl j)
   where
     zero-more : j + 0 ≡ j
     zero-more = omega arith
 number-of f n j (suc i) (b ∷ more) d e l =
-    ap (λ (x : Bool). if x then Some 0 else option_map (λ (k : ℕ). k + 1) (block_number (f.label_name (j + suc i)) (flat_blocks_text f (j + 1) more))) (label-same f n j (j + suc i) d (omega (arith, e)) (omega (arith, e)) ∙ nat_eq-other (j + suc i) j (λ x. absurd (omega (arith, x))))
+    ap (λ (x : Bool). if x then Some 0 else option_map (λ (k : ℕ). k + 1) (block_number (f.label_name (j + suc i)) (flat_blocks_text f (j + 1) more)))
+    (label-same f n j (j + suc i) d (omega (arith, e)) (omega (arith, e)) ∙ nat_eq-other (j + suc i) j (λ x. absurd (omega (arith, x))))
     ∙ ap (λ (k : ℕ). option_map (λ (m : ℕ). m + 1) (block_number (f.label_name k) (flat_blocks_text f (j + 1) more))) shift
     ∙ ap (option_map (λ (m : ℕ). m + 1)) (number-of f n (j + 1) i more d (omega (arith, e)) (omega arith))
     ∙ ap Some one-more
@@ -110,18 +115,24 @@ leads-within n (l ∷ more) b h e = by l.inst h.0 e (λ x. leads-within n more b
 pub heads-agree : HeadsAgree
 heads-agree f t d h = by t.blocks refl
   where
-    of : (n : ℕ) (entry : FlatBlock) (more : List FlatBlock) → n ≡ length (entry ∷ more) → LabelsDiffer f n → Each (λ (b : FlatBlock). Each (λ (l : FlatInst). LeadsWithin n l.inst) b.insts) (entry ∷ more) → BranchIsLast entry.insts → rows.head_of (flat_blocks_text f 0 (entry ∷ more)) ≡ head_in (entry ∷ more)
+    of : (n : ℕ) (entry : FlatBlock) (more : List FlatBlock) → n ≡ length (entry ∷ more) → LabelsDiffer f n
+        → Each (λ (b : FlatBlock). Each (λ (l : FlatInst). LeadsWithin n l.inst) b.insts) (entry ∷ more) → BranchIsLast entry.insts
+        → rows.head_of (flat_blocks_text f 0 (entry ∷ more)) ≡ head_in (entry ∷ more)
     of n entry more e d w last =
-        ap (λ (x : Bool). unwrap_or (if x then None else option_and_then (λ (m : List ℕ). block_number m (flat_blocks_text f 0 (entry ∷ more))) (rows.leads_on (map (flat_line_text f) entry.insts))) 0) (blocks-lead f n 0 (entry ∷ more) d (omega (arith, e)) w)
-        ∙ ap (λ (x : Option (List ℕ)). unwrap_or (if is_named entry_id (entry ∷ more) then None else option_and_then (λ (m : List ℕ). block_number m (flat_blocks_text f 0 (entry ∷ more))) x) 0) (leads-text f entry.insts last)
+        ap (λ (x : Bool). unwrap_or (if x then None else option_and_then (λ (m : List ℕ). block_number m (flat_blocks_text f 0 (entry ∷ more))) (rows.leads_on (map (flat_line_text f) entry.insts))) 0)
+        (blocks-lead f n 0 (entry ∷ more) d (omega (arith, e)) w)
+        ∙ ap (λ (x : Option (List ℕ)). unwrap_or (if is_named entry_id (entry ∷ more) then None else option_and_then (λ (m : List ℕ). block_number m (flat_blocks_text f 0 (entry ∷ more))) x) 0)
+        (leads-text f entry.insts last)
         ∙ pick (is_named entry_id (entry ∷ more)) (leads_on entry.insts) refl
       where
-        pick : (x : Bool) (o : Option BlockId) → leads_on entry.insts ≡ o → unwrap_or (if x then None else option_and_then (λ (m : List ℕ). block_number m (flat_blocks_text f 0 (entry ∷ more))) (option_map (label_of f) o)) 0 ≡ head_if x o
+        pick : (x : Bool) (o : Option BlockId) → leads_on entry.insts ≡ o
+            → unwrap_or (if x then None else option_and_then (λ (m : List ℕ). block_number m (flat_blocks_text f 0 (entry ∷ more))) (option_map (label_of f) o)) 0 ≡ head_if x o
         pick true o g = refl
         pick false None g = refl
         pick false (Some b) g =
             let l : b.0 < n = leads-within n entry.insts b w.0 g in
-            ap (λ (o : Option ℕ). unwrap_or o 0) (ap (λ (k : ℕ). block_number (f.label_name k) (flat_blocks_text f 0 (entry ∷ more))) (sym zero-less) ∙ number-of f n 0 b.0 (entry ∷ more) d (zero-length ∙ sym e) (subst (λ (k : ℕ). b.0 < k) e l))
+            ap (λ (o : Option ℕ). unwrap_or o 0) (ap (λ (k : ℕ). block_number (f.label_name k) (flat_blocks_text f 0 (entry ∷ more))) (sym zero-less)
+            ∙ number-of f n 0 b.0 (entry ∷ more) d (zero-length ∙ sym e) (subst (λ (k : ℕ). b.0 < k) e l))
           where
             zero-less : 0 + b.0 ≡ b.0
             zero-less = omega arith
@@ -133,5 +144,6 @@ heads-agree f t d h = by t.blocks refl
     by [] e = ap (λ (x : List FlatBlock). rows.head_of (flat_blocks_text f 0 x)) e ∙ ap head_in (sym e)
     by (entry ∷ more) e =
         ap (λ (x : List FlatBlock). rows.head_of (flat_blocks_text f 0 x)) e
-        ∙ of (length t.blocks) entry more (ap length e) d (subst (Each (λ (b : FlatBlock). Each (λ (l : FlatInst). LeadsWithin (length t.blocks) l.inst) b.insts)) e h.within) (subst (Each (λ (b : FlatBlock). BranchIsLast b.insts)) e h.last).0
+        ∙ of (length t.blocks) entry more (ap length e) d (subst (Each (λ (b : FlatBlock). Each (λ (l : FlatInst). LeadsWithin (length t.blocks) l.inst) b.insts)) e h.within) (subst
+        (Each (λ (b : FlatBlock). BranchIsLast b.insts)) e h.last).0
         ∙ ap head_in (sym e)

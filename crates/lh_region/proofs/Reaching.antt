@@ -40,7 +40,8 @@ module _ (led : List (List Edge)) (i : ℕ) (es : List Edge) (l : i < length led
   set-led j = by (same_or i j)
     where
       by : Same i j → led_to (slice_set led i es) j ≡ (if nat_eq i j then es else led_to led j)
-      by (same e) = subst (λ (k : ℕ). led_to (slice_set led i es) k ≡ es) e (set-here led i es l) ∙ sym (if-true (nat_eq i j) es (led_to led j) (subst (λ (k : ℕ). nat_eq i k ≡ true) e (nat_eq-refl i)))
+      by (same e) = subst (λ (k : ℕ). led_to (slice_set led i es) k ≡ es) e (set-here led i es l)
+          ∙ sym (if-true (nat_eq i j) es (led_to led j) (subst (λ (k : ℕ). nat_eq i k ≡ true) e (nat_eq-refl i)))
       by (other n) = set-other led i j es n ∙ sym (if-false (nat_eq i j) es (led_to led j) (nat_eq-other i j n))
 
 pub led-also : (led : List (List Edge)) (i : ℕ) (es fs : List Edge) (e : Edge) → i < length led → es ≡ get_or led i es → fs ≡ es ++ e ∷ [] → IsLedAlso led i e (slice_set led i fs)
@@ -51,7 +52,8 @@ led-also led i es fs e l a b = record {
   where
     by : (j : ℕ) → Same i j → (if nat_eq i j then fs else led_to led j) ≡ (if nat_eq i j then led_to led j ++ e ∷ [] else led_to led j)
     by j (same k) = subst (λ (m : ℕ). (if nat_eq i m then fs else led_to led m) ≡ (if nat_eq i m then led_to led m ++ e ∷ [] else led_to led m)) k
-        (if-true (nat_eq i i) fs (led_to led i) (nat_eq-refl i) ∙ b ∙ ap (λ (xs : List Edge). xs ++ e ∷ []) (sym (led-at led i es l a)) ∙ sym (if-true (nat_eq i i) (led_to led i ++ e ∷ []) (led_to led i) (nat_eq-refl i)))
+        (if-true (nat_eq i i) fs (led_to led i) (nat_eq-refl i) ∙ b ∙ ap (λ (xs : List Edge). xs ++ e ∷ []) (sym (led-at led i es l a))
+        ∙ sym (if-true (nat_eq i i) (led_to led i ++ e ∷ []) (led_to led i) (nat_eq-refl i)))
     by j (other n) = let k = nat_eq-other i j n in if-false (nat_eq i j) fs (led_to led j) k ∙ sym (if-false (nat_eq i j) (led_to led j ++ e ∷ []) (led_to led j) k)
 
 pub reached : (led : List (List Edge)) (i : ℕ) (es : List Edge) → i < length led → es ≡ [] → IsReached led i (slice_set led i es)

@@ -4,7 +4,7 @@ use Rattle.std.specs.Option.{is_some}
 use Rattle.lh_unit.specs.declared.inst.Typed.{Typed}
 use Rattle.lh_term.specs.Tree.{Tree}
 use Rattle.lh_term.specs.Make.{is_zero}
-use Rattle.lh_term.specs.Arena.{trees, tree_at, Stands, Grows}
+use Rattle.lh_term.specs.Arena.{trees, tree_at, StandsForTree, Grows}
 use Rattle.lh_term.specs.declared.part.Part.{Part}
 use Rattle.lh_term.specs.declared.term.TermId.{TermId}
 use Rattle.lh_term.specs.declared.term.Node.{Node}
@@ -12,7 +12,7 @@ use Rattle.lh_term.proofs.Swaps.{stands_grown, tree_grown, in_grown, grows_on}
 use Rattle.lh_rows.specs.Rows as text
 use Rattle.lh_rows.specs.Places.{Midst}
 use Rattle.lh_joins.specs.Joins.{IsConditionAt, AreMade}
-use Rattle.lh_region.specs.declared.state.Place.{Place}
+use Rattle.lh_region.specs.declared.state.PlaceState.{PlaceState}
 use Rattle.lh_region.specs.declared.rows.Rows.{Rows}
 use Rattle.lh_region.specs.declared.rows.DriveRow.{DriveRow}
 use Rattle.lh_region.specs.declared.rows.EndRow.{EndRow}
@@ -40,7 +40,7 @@ terms-grown ns ms [] (x ∷ xs) g h = absurd h
 terms-grown ns ms (t ∷ ts) [] g h = absurd h
 terms-grown ns ms (t ∷ ts) (x ∷ xs) g h = (stands_grown ns ms g t x h.0, terms-grown ns ms ts xs g h.1)
 
-pub ends-grown : (ns ms : List Node) (es : List EndRow) (xs : List text.End) → Grows ns ms → AreEnds ns es xs → AreEnds ms es xs
+pub ends-grown : (ns ms : List Node) (es : List EndRow) (xs : List text.RegionEnd) → Grows ns ms → AreEnds ns es xs → AreEnds ms es xs
 ends-grown ns ms [] [] g h = tt
 ends-grown ns ms [] (x ∷ xs) g h = absurd h
 ends-grown ns ms (e ∷ es) [] g h = absurd h
@@ -62,7 +62,7 @@ drives-push ns [] (y ∷ ys) d x h i = absurd h
 drives-push ns (e ∷ es) [] d x h i = absurd h
 drives-push ns (e ∷ es) (y ∷ ys) d x h i = (h.0, drives-push ns es ys d x h.1 i)
 
-ends-push : (ns : List Node) (es : List EndRow) (xs : List text.End) (e : EndRow) (x : text.End) → AreEnds ns es xs → IsEnd ns e x → AreEnds ns (es ++ e ∷ []) (xs ++ x ∷ [])
+ends-push : (ns : List Node) (es : List EndRow) (xs : List text.RegionEnd) (e : EndRow) (x : text.RegionEnd) → AreEnds ns es xs → IsEnd ns e x → AreEnds ns (es ++ e ∷ []) (xs ++ x ∷ [])
 ends-push ns [] [] e x h i = (i, tt)
 ends-push ns [] (y ∷ ys) e x h i = absurd h
 ends-push ns (d ∷ ds) [] e x h i = absurd h
@@ -98,19 +98,20 @@ probed-more ns ms r q p g e d a n h result m s =
 abbrev after_drive : Bool → Midst → text.Drive → text.Rows
 after_drive b m d = (if b then m else record m { rows = record m.rows { drives = m.rows.drives ++ d ∷ [] } }).rows
 
-pub driven-never : (ns : List Node) (ps : List Place) (r : Rows) (d : DriveAt) (p : Part) → is_zero (tree_at (trees ns) d.cond) ≡ true → IsDriven ns ps r ns r d p
+pub driven-never : (ns : List Node) (ps : List PlaceState) (r : Rows) (d : DriveAt) (p : Part) → is_zero (tree_at (trees ns) d.cond) ≡ true → IsDriven ns ps r ns r d p
 driven-never ns ps r d p z told x y m t hx hy s =
     subst (λ (b : Bool). AreRows ns r (after_drive b m (record { cond = tree_at (trees ns) d.cond; part = p; value = x; delay = y }))) (sym z) s
 
-module _ (ns ms : List Node) (ps qs : List Place) (d : DriveAt) (t : TermId) (g : Grows ns ms) (still : StillTold ns ps ms qs d.value d.place) (told : IsTold ns ps ms d.value d.place t) where
+module _ (ns ms : List Node) (ps qs : List PlaceState) (d : DriveAt) (t : TermId) (g : Grows ns ms) (still : StillTold ns ps ms qs d.value d.place) (told : IsTold ns ps ms d.value d.place t) where
   pub delay-asked : CanDrive ns ps d → CanAsk ms qs d.after d.place
   delay-asked c = record { told = c.told; tells = still c.told c.tells c.value; there = c.delay }
 
-  module _ (os : List Node) (rs : List Place) (u : TermId) (h : Grows ms os) (later : StillTold ms qs os rs d.after d.place) (delay : IsTold ms qs os d.after d.place u) where
+  module _ (os : List Node) (rs : List PlaceState) (u : TermId) (h : Grows ms os) (later : StillTold ms qs os rs d.after d.place) (delay : IsTold ms qs os d.after d.place u) where
     pub driven-still : StillDriven ns ps os rs d
     driven-still f t a b = later f (still f t a) b
 
-    pub driven-more : (r q : Rows) (p : Part) (c : DriveRow) → IsConditionAt ns d.cond → is_zero (tree_at (trees ns) d.cond) ≡ false → c.cond ≡ d.cond → c.part ≡ p → c.value ≡ t → c.delay ≡ u → q.probes ≡ r.probes → q.drives ≡ r.drives ++ c ∷ [] → q.asserts ≡ r.asserts → q.ends ≡ r.ends → IsDriven ns ps r os q d p
+    pub driven-more : (r q : Rows) (p : Part) (c : DriveRow) → IsConditionAt ns d.cond → is_zero (tree_at (trees ns) d.cond) ≡ false → c.cond ≡ d.cond → c.part ≡ p → c.value ≡ t → c.delay ≡ u
+        → q.probes ≡ r.probes → q.drives ≡ r.drives ++ c ∷ [] → q.asserts ≡ r.asserts → q.ends ≡ r.ends → IsDriven ns ps r os q d p
     driven-more r q p c i z cc-is cp cv cd eb ed ea en f x y m tl hx hy s =
         let k = grows_on ns ms os g h in
         let w = rows-grown ns os r m.rows k s in
@@ -121,10 +122,10 @@ module _ (ns ms : List Node) (ps qs : List Place) (d : DriveAt) (t : TermId) (g 
         let vy : Some y1 ≡ Some y = sym fy ∙ hy in
         let wy : y1 ≡ y = cc in
         let one : IsDrive os c (record { cond = tree_at (trees ns) d.cond; part = p; value = x; delay = y }) = record {
-          cond = subst (λ (a : TermId). Stands os a (tree_at (trees ns) d.cond)) (sym cc-is) (record { is_in = in_grown ns os k d.cond i.is_in; tree = tree_grown ns os k d.cond i.is_in });
+          cond = subst (λ (a : TermId). StandsForTree os a (tree_at (trees ns) d.cond)) (sym cc-is) (record { is_in = in_grown ns os k d.cond i.is_in; tree = tree_grown ns os k d.cond i.is_in });
           part = cp;
-          value = subst (λ (a : TermId). Stands os a x) (sym cv) (stands_grown ms os h t x (subst (Stands ms t) wx sx));
-          delay = subst (λ (a : TermId). Stands os a y) (sym cd) (subst (Stands os u) wy sy);
+          value = subst (λ (a : TermId). StandsForTree os a x) (sym cv) (stands_grown ms os h t x (subst (StandsForTree ms t) wx sx));
+          delay = subst (λ (a : TermId). StandsForTree os a y) (sym cd) (subst (StandsForTree os u) wy sy);
         } in
         let all : AreRows os q (after_drive false m (record { cond = tree_at (trees ns) d.cond; part = p; value = x; delay = y })) = record {
           probes = eb ∙ w.probes;
@@ -148,7 +149,8 @@ append-append : (ts us : List TermId) (t : TermId) → (ts ++ us) ++ t ∷ [] �
 append-append [] us t = refl
 append-append (x ∷ ts) us t = ap (λ (xs : List TermId). x ∷ xs) (append-append ts us t)
 
-pub asserts-next : (r p q : Rows) (ts after : List TermId) (t : TermId) → after ≡ ts ++ t ∷ [] → q.probes ≡ p.probes → q.drives ≡ p.drives → q.ends ≡ p.ends → q.asserts ≡ p.asserts ++ t ∷ [] → IsWithAsserts r ts p → IsWithAsserts r after q
+pub asserts-next : (r p q : Rows) (ts after : List TermId) (t : TermId) → after ≡ ts ++ t ∷ [] → q.probes ≡ p.probes → q.drives ≡ p.drives → q.ends ≡ p.ends → q.asserts ≡ p.asserts ++ t ∷ []
+    → IsWithAsserts r ts p → IsWithAsserts r after q
 asserts-next r p q ts after t e eb ed en ea h = record {
   probes_stay = eb ∙ h.probes_stay;
   drives_stay = ed ∙ h.drives_stay;
@@ -156,7 +158,8 @@ asserts-next r p q ts after t e eb ed en ea h = record {
   more = ea ∙ ap (λ (us : List TermId). us ++ t ∷ []) h.more ∙ append-append r.asserts ts t ∙ ap (λ (us : List TermId). r.asserts ++ us) (sym e);
 }
 
-pub asserted-more : (ns ms : List Node) (ps : List Place) (r q : Rows) (i : ℕ) (xs : List Typed) (ts : List TermId) → Grows ns ms → AreTold ns ps ms (asks_at i xs) ts → IsWithAsserts r ts q → AreAsserted ns ps r ms q i xs
+pub asserted-more : (ns ms : List Node) (ps : List PlaceState) (r q : Rows) (i : ℕ) (xs : List Typed) (ts : List TermId) → Grows ns ms → AreTold ns ps ms (asks_at i xs) ts → IsWithAsserts r ts q
+    → AreAsserted ns ps r ms q i xs
 asserted-more ns ms ps r q i xs ts g told h f ys m t e s =
     let w = rows-grown ns ms r m.rows g s in
     record {
@@ -168,9 +171,11 @@ asserted-more ns ms ps r q i xs ts g told h f ys m t e s =
 
 -- ---- ends
 
-pub ended-more : (r q : Rows) (e : EndRow) (cond : TermId) (way : Way) → e.cond ≡ cond → e.way ≡ way → q.probes ≡ r.probes → q.drives ≡ r.drives → q.asserts ≡ r.asserts → q.ends ≡ r.ends ++ e ∷ [] → IsEnded r q cond way
+pub ended-more : (r q : Rows) (e : EndRow) (cond : TermId) (way : Way) → e.cond ≡ cond → e.way ≡ way → q.probes ≡ r.probes → q.drives ≡ r.drives → q.asserts ≡ r.asserts → q.ends ≡ r.ends ++ e ∷ []
+    → IsEnded r q cond way
 ended-more r q e cond way ec ew eb ed ea en ns h c m st s =
-    let one : IsEnd ns e (record { cond = c; way = way_text way; from = h.label; known = m.known }) = record { cond = subst (λ (t : TermId). Stands ns t c) (sym ec) st; way = ap way_text ew } in
+    let one : IsEnd ns e (record { cond = c; way = way_text way; from = h.label; known = m.known }) = record
+    { cond = subst (λ (t : TermId). StandsForTree ns t c) (sym ec) st; way = ap way_text ew } in
     record {
       probes = eb ∙ s.probes;
       drives = subst (λ (zs : List DriveRow). AreDrives ns zs m.rows.drives) (sym ed) s.drives;

@@ -8,7 +8,7 @@ use Rattle.lh_term.specs.declared.term.TermId.{TermId}
 use Rattle.lh_term.specs.declared.term.Node.{Node}
 use Rattle.lh_term.proofs.Swaps.{stands_grown, grows_on}
 use Rattle.lh_joins.proofs.Conditions.{grows-none}
-use Rattle.lh_region.specs.declared.state.Place.{Place}
+use Rattle.lh_region.specs.declared.state.PlaceState.{PlaceState}
 use Rattle.lh_region.specs.Asked.{kept_by}
 use Rattle.lh_region.specs.Starts.{constant_as, constant_given, StandsMaybe, KnowsConstants, IsTaken, TakesConstant}
 
@@ -35,17 +35,18 @@ taken-maybe ms None old new before t s = subst (λ (o : Option TermId). StandsMa
 taken-maybe ms (Some x) old new before t s = subst (λ (o : Option TermId). StandsMaybe ms o (Some x)) (sym t.1) t.2
 
 -- the constants of the instructions so far are known
-pub record StartSoFar (old now : List Node) (first p : Place) (seen : List FlatInst) : Type 0 where
+pub record StartSoFar (old now : List Node) (first p : PlaceState) (seen : List FlatInst) : Type 0 where
   pub grows : Grows old now
   pub block : p.block ≡ first.block
   pub edges : p.edges ≡ first.edges
   pub selectors : p.selectors ≡ first.selectors
   pub known : KnowsConstants now p seen
 
-pub start-none : (ns : List Node) (p : Place) → ((v : ℕ) → kept_by v p ≡ None) → StartSoFar ns ns p p []
+pub start-none : (ns : List Node) (p : PlaceState) → ((v : ℕ) → kept_by v p ≡ None) → StartSoFar ns ns p p []
 start-none ns p h = record { grows = grows-none ns; block = refl; edges = refl; selectors = refl; known = λ v. subst (λ (o : Option TermId). StandsMaybe ns o None) (sym (h v)) tt }
 
-pub start-next : (old now new : List Node) (first p q : Place) (seen after : List FlatInst) (l : FlatInst) → after ≡ seen ++ l ∷ [] → Grows now new → TakesConstant new p l q → StartSoFar old now first p seen → StartSoFar old new first q after
+pub start-next : (old now new : List Node) (first p q : PlaceState) (seen after : List FlatInst) (l : FlatInst) → after ≡ seen ++ l ∷ [] → Grows now new → TakesConstant new p l q
+    → StartSoFar old now first p seen → StartSoFar old new first q after
 start-next old now new first p q seen after l e g t s = record {
   grows = grows_on old now new s.grows g;
   block = t.block ∙ s.block;

@@ -19,11 +19,11 @@ abbrev pub first_way : List EndRow → text.Way
 first_way [] = text.halts
 first_way (e ∷ es) = way_text e.way
 
-alike-ends : (n : ℕ) (w : text.Way) (es : List text.End) → list_all (λ (f : text.End). texts.waits_alike n w f.way) es ≡ all_alike n w (map (λ (x : text.End). x.way) es)
+alike-ends : (n : ℕ) (w : text.Way) (es : List text.RegionEnd) → list_all (λ (f : text.RegionEnd). texts.waits_alike n w f.way) es ≡ all_alike n w (map (λ (x : text.RegionEnd). x.way) es)
 alike-ends n w [] = refl
 alike-ends n w (e ∷ es) = ap (λ (b : Bool). texts.waits_alike n w e.way && b) (alike-ends n w es)
 
-alike-ways : (n : ℕ) (w : text.Way) (vs : List text.Way) → list_all (λ (f : text.End). texts.waits_alike n w f.way) (map end_by vs) ≡ all_alike n w vs
+alike-ways : (n : ℕ) (w : text.Way) (vs : List text.Way) → list_all (λ (f : text.RegionEnd). texts.waits_alike n w f.way) (map end_by vs) ≡ all_alike n w vs
 alike-ways n w [] = refl
 alike-ways n w (v ∷ vs) = ap (λ (b : Bool). texts.waits_alike n w v && b) (alike-ways n w vs)
 
@@ -33,7 +33,7 @@ target-is w vs = λ i. option_and_then (λ (n : ℕ). texts.target_if (alike-way
 
 pub target-by-ways : TargetByWays
 target-by-ways [] = refl
-target-by-ways (e ∷ es) = (λ i. option_and_then (λ (n : ℕ). texts.target_if (alike-ends n e.way es i) n) (texts.waits_for e.way)) ∙ sym (target-is e.way (map (λ (x : text.End). x.way) es))
+target-by-ways (e ∷ es) = (λ i. option_and_then (λ (n : ℕ). texts.target_if (alike-ends n e.way es i) n) (texts.waits_for e.way)) ∙ sym (target-is e.way (map (λ (x : text.RegionEnd). x.way) es))
 
 pub target-none : (w : text.Way) (vs : List text.Way) → texts.waits_for w ≡ None → target_by (w ∷ vs) ≡ None
 target-none w vs e = target-is w vs ∙ ap (option_and_then (λ (n : ℕ). texts.target_if (all_alike n w vs) n)) e
@@ -43,7 +43,8 @@ target-some w vs n b e h = target-is w vs ∙ ap (option_and_then (λ (n : ℕ).
 
 -- ---- the others, one by one
 
-pub alike-first : (n : ℕ) (w : text.Way) (os : List EndRow) (i : ℕ) (e : EndRow) (b : Bool) → i < length os → e ≡ get_or os i e → texts.waits_alike n w (way_text e.way) ≡ b → all_alike n w (ways_of (drop i os)) ≡ (b && all_alike n w (ways_of (drop (i + 1) os)))
+pub alike-first : (n : ℕ) (w : text.Way) (os : List EndRow) (i : ℕ) (e : EndRow) (b : Bool) → i < length os → e ≡ get_or os i e → texts.waits_alike n w (way_text e.way) ≡ b
+    → all_alike n w (ways_of (drop i os)) ≡ (b && all_alike n w (ways_of (drop (i + 1) os)))
 alike-first n w os i e b l h k = ap (λ (xs : List EndRow). all_alike n w (ways_of xs)) (drop-item os i e l h) ∙ ap (λ (x : Bool). x && all_alike n w (ways_of (drop (i + 1) os))) k
 
 pub alike-end : (n : ℕ) (w : text.Way) (os : List EndRow) (i : ℕ) → length os ≤ i → all_alike n w (ways_of (drop i os)) ≡ true

@@ -6,13 +6,13 @@ use Rattle.lh_unit.specs.Within.{Each}
 use Rattle.lh_unit.proofs.Lists.{Same, same, other, same_or, nat_eq-refl, nat_eq-other}
 use Rattle.lh_unit.proofs.Tables.{same_name-is, same_name-refl}
 use Rattle.lh_term.specs.Tree.{Tree}
-use Rattle.lh_term.specs.Arena.{Stands}
+use Rattle.lh_term.specs.Arena.{StandsForTree}
 use Rattle.lh_term.specs.declared.term.TermId.{TermId}
 use Rattle.lh_term.specs.declared.term.Node.{Node}
 use Rattle.lh_rows.specs.Known.{Known, Knowledge, with_known}
 use Rattle.lh_joins.specs.declared.edge.Edge.{Edge}
-use Rattle.lh_region.specs.declared.state.Place.{Place}
-use Rattle.lh_region.specs.Asked.{kept_at, keeps, source_of, edges_at, sources, IsBelow, Told, Joins, Tells, SamePlaces, IsWithAt}
+use Rattle.lh_region.specs.declared.state.PlaceState.{PlaceState}
+use Rattle.lh_region.specs.Asked.{kept_at, keeps, source_of, edges_at, sources, IsBelow, KnownTerms, Joins, Tells, SamePlaces, IsWithAt}
 use Rattle.lh_region.specs.Walking.{as_term, term_known, Story, TellsKnown}
 use Rattle.lh_region.specs.Gives.{with_term, ValuesDiffer, GivesTerm}
 use Rattle.lh_region.proofs.Placing.{each-map, same-edges, same-sources, Kept, new_one, old_one, kept-with, with-same}
@@ -27,23 +27,23 @@ if-false true x y e = cc
 if-false false x y e = refl
 
 -- the sources of a place are below the last one
-get-within : (ps : List Place) (i : ℕ) (p : Place) → slice_get ps i ≡ Some p → i < length ps
+get-within : (ps : List PlaceState) (i : ℕ) (p : PlaceState) → slice_get ps i ≡ Some p → i < length ps
 get-within [] i p e = absurd cc
 get-within (y ∷ ps) zero p e = omega arith
 get-within (y ∷ ps) (suc i) p e = omega (arith, get-within ps i p e)
 
-sources-last : (ps : List Place) (i j : ℕ) → i + 1 ≡ length ps → Each (IsBelow j) (sources ps j) → Each (IsBelow i) (sources ps j)
+sources-last : (ps : List PlaceState) (i j : ℕ) → i + 1 ≡ length ps → Each (IsBelow j) (sources ps j) → Each (IsBelow i) (sources ps j)
 sources-last ps i j n h = by (slice_get ps j) refl
   where
-    by : (o : Option Place) → slice_get ps j ≡ o → Each (IsBelow i) (sources ps j)
-    by None e = subst (Each (IsBelow i)) (sym (ap (λ (o : Option Place). map source_of (option_map_or (λ (p : Place). p.edges.items) o [])) e)) tt
+    by : (o : Option PlaceState) → slice_get ps j ≡ o → Each (IsBelow i) (sources ps j)
+    by None e = subst (Each (IsBelow i)) (sym (ap (λ (o : Option PlaceState). map source_of (option_map_or (λ (p : PlaceState). p.edges.items) o [])) e)) tt
     by (Some p) e = let l = get-within ps j p e in each-map (IsBelow j) (IsBelow i) (sources ps j) (λ m k. omega (arith, l, k, n)) h
 
 below-other : (i n : ℕ) → i < n → n ≢ i
 below-other i n l e = omega (arith, l, e)
 
 module _ (s : Story) (i v : ℕ) (x : Tree) where
-  abbrev told_now : Told
+  abbrev told_now : KnownTerms
   told_now = (with_term s i v x).told
 
   told-given : (j w : ℕ) → i ≡ j → v ≡ w → told_now j w ≡ Some x
@@ -81,7 +81,8 @@ module _ (s : Story) (i v : ℕ) (x : Tree) where
     where
       here : v ≡ w → told_now i w ≡ term_known (with_known k (s.naming.value_name v) a) (s.naming.value_name w)
       here f =
-          let g : same_name (s.naming.value_name v) (s.naming.value_name w) ≡ true = subst (λ (u : ℕ). same_name (s.naming.value_name v) (s.naming.value_name u) ≡ true) f (same_name-refl (s.naming.value_name v)) in
+          let g : same_name (s.naming.value_name v) (s.naming.value_name w)
+          ≡ true = subst (λ (u : ℕ). same_name (s.naming.value_name v) (s.naming.value_name u) ≡ true) f (same_name-refl (s.naming.value_name v)) in
           told-given i w refl f ∙ sym e ∙ sym (ap (option_and_then as_term) (if-true (same_name (s.naming.value_name v) (s.naming.value_name w)) (Some a) (k (s.naming.value_name w)) g))
 
       differs : v ≢ w → (b : Bool) → same_name (s.naming.value_name v) (s.naming.value_name w) ≡ b → told_now i w ≡ option_and_then as_term (if b then Some a else k (s.naming.value_name w))
@@ -92,12 +93,13 @@ module _ (s : Story) (i v : ℕ) (x : Tree) where
       by (same f) = here f
       by (other q) = differs q (same_name (s.naming.value_name v) (s.naming.value_name w)) refl
 
-module _ (ns : List Node) (ps qs : List Place) (s : Story) (i v : ℕ) (t : TermId) (x : Tree) (a : IsWithAt ps i v t qs) (tells : Tells ns ps s.told) (last : i + 1 ≡ length ps) (st : Stands ns t x) where
+module _ (ns : List Node) (ps qs : List PlaceState) (s : Story) (i v : ℕ) (t : TermId) (x : Tree) (a : IsWithAt ps i v t qs) (tells : Tells ns ps s.told) (last : i + 1 ≡ length ps)
+    (st : StandsForTree ns t x) where
   same_now : SamePlaces ps qs
   same_now = with-same ps qs v i t a
 
-  kept-now : (j w : ℕ) (y : TermId) → kept_at qs w j ≡ Some y → Kept ps qs v i t w j → (z : Tree) × ((with_term s i v x).told j w ≡ Some z) × Stands ns y z
-  kept-now j w y e (new_one p q r) = let f : Some t ≡ Some y = sym r ∙ e in let g : t ≡ y = cc in (x, told-given s i v x j w p q, subst (λ (u : TermId). Stands ns u x) g st)
+  kept-now : (j w : ℕ) (y : TermId) → kept_at qs w j ≡ Some y → Kept ps qs v i t w j → (z : Tree) × ((with_term s i v x).told j w ≡ Some z) × StandsForTree ns y z
+  kept-now j w y e (new_one p q r) = let f : Some t ≡ Some y = sym r ∙ e in let g : t ≡ y = cc in (x, told-given s i v x j w p q, subst (λ (u : TermId). StandsForTree ns u x) g st)
   kept-now j w y e (old_one r n) = let (z, f, h) = tells.kept j w y (sym r ∙ e) in (z, told-else s i v x j w n ∙ f, h)
 
   joins-now : (j w : ℕ) (y : Tree) → keeps qs w j ≡ false → (with_term s i v x).told j w ≡ Some y → Kept ps qs v i t w j → Joins ns (with_term s i v x).told w (edges_at qs j) y
@@ -114,7 +116,7 @@ module _ (ns : List Node) (ps qs : List Place) (s : Story) (i v : ℕ) (t : Term
     joins = λ j w y e f. joins-now j w y e f (kept-with ps qs v i t a w j);
   }
 
-pub gives-term : (ps qs : List Place) (i v : ℕ) (t : TermId) → IsWithAt ps i v t qs → GivesTerm ps i v t qs
+pub gives-term : (ps qs : List PlaceState) (i v : ℕ) (t : TermId) → IsWithAt ps i v t qs → GivesTerm ps i v t qs
 gives-term ps qs i v t w ns s k a x tells count last l d e st known = record {
   tells = tells-given ns ps qs s i v t x w tells (last ∙ count) st;
   known = known-given s i v x k a l d e known;

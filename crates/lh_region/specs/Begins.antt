@@ -6,10 +6,10 @@ use Rattle.lh_term.specs.Tree.{Tree}
 use Rattle.lh_term.specs.Types.{IsTyped, type_of}
 use Rattle.lh_term.specs.declared.term.Node.{Node}
 use Rattle.lh_rows.specs.Known.{Knowledge}
-use Rattle.lh_rows.specs.Joins.{Edge as EdgeTo, joined}
+use Rattle.lh_rows.specs.Joins.{RegionEdge, joined}
 use Rattle.lh_rows.specs.Typed.{IsCondition}
 use Rattle.lh_joins.specs.declared.edge.Edge.{Edge}
-use Rattle.lh_region.specs.declared.state.Place.{Place}
+use Rattle.lh_region.specs.declared.state.PlaceState.{PlaceState}
 use Rattle.lh_region.specs.Asked.{kept_by, Tells}
 use Rattle.lh_region.specs.Walking.{Story, term_known, TellsKnown, AreEdges}
 
@@ -22,17 +22,17 @@ abbrev pub with_place : Story → Knowledge → Story
 with_place s k = record { naming = s.naming; values = s.values; blocks = s.blocks; places = s.places + 1; told = λ i v. if nat_eq i s.places then told_by s k v else s.told i v }
 
 -- a term that is known under a name on one of these edges is typed, and of this type
-abbrev pub AreOfType : TypeTree → List ℕ → List EdgeTo → Type 0
-AreOfType ty n xs = Each (λ (x : EdgeTo). (t : Tree) → term_known x.known n ≡ Some t → IsTyped t × (type_of t ≡ ty)) xs
+abbrev pub AreOfType : TypeTree → List ℕ → List RegionEdge → Type 0
+AreOfType ty n xs = Each (λ (x : RegionEdge). (t : Tree) → term_known x.known n ≡ Some t → IsTyped t × (type_of t ≡ ty)) xs
 
 -- The edges are taken on conditions, and the terms of one value are of one type on all of them.
-pub record CanBegin (s : Story) (xs : List EdgeTo) : Type 0 where
-  pub conds : Each (λ (x : EdgeTo). IsCondition x.cond) xs
+pub record CanBegin (s : Story) (xs : List RegionEdge) : Type 0 where
+  pub conds : Each (λ (x : RegionEdge). IsCondition x.cond) xs
   pub typed : (v : ℕ) → v < s.values → (ty : TypeTree) × AreOfType ty (s.naming.value_name v) xs
 
 -- the places with one more of this block, to which these edges lead
-pub record IsBegun (ps : List Place) (block : ℕ) (es : List Edge) (qs : List Place) : Type 0 where
-  pub new : Place
+pub record IsBegun (ps : List PlaceState) (block : ℕ) (es : List Edge) (qs : List PlaceState) : Type 0 where
+  pub new : PlaceState
   pub put : qs ≡ ps ++ new ∷ []
   pub block_is : new.block ≡ block
   pub edges_are : new.edges.items ≡ es
@@ -44,12 +44,13 @@ abbrev pub StaysKnown : Story → Story → Type 0
 StaysKnown s r = (i : ℕ) (k : Knowledge) → i < s.places → TellsKnown s i k → TellsKnown r i k
 
 -- What was told is told still, and at the new place what the edges that lead there join.
-pub record TellsJoined (ns : List Node) (qs : List Place) (s : Story) (xs : List EdgeTo) : Type 0 where
+pub record TellsJoined (ns : List Node) (qs : List PlaceState) (s : Story) (xs : List RegionEdge) : Type 0 where
   pub tells : Tells ns qs (with_place s (joined xs)).told
   pub known : TellsKnown (with_place s (joined xs)) s.places (joined xs)
   pub before : StaysKnown s (with_place s (joined xs))
   pub count : s.places + 1 ≡ length qs
 
 -- The place begins with what its edges join, of whatever is told so far.
-abbrev pub BeginsJoined : List Place → List Edge → List Place → Type 0
-BeginsJoined ps es qs = (ns : List Node) (s : Story) (x : EdgeTo) (xs : List EdgeTo) → Tells ns ps s.told → s.places ≡ length ps → AreEdges ns s es (x ∷ xs) → CanBegin s (x ∷ xs) → TellsJoined ns qs s (x ∷ xs)
+abbrev pub BeginsJoined : List PlaceState → List Edge → List PlaceState → Type 0
+BeginsJoined ps es qs = (ns : List Node) (s : Story) (x : RegionEdge) (xs : List RegionEdge) → Tells ns ps s.told → s.places ≡ length ps → AreEdges ns s es (x ∷ xs) → CanBegin s (x ∷ xs)
+    → TellsJoined ns qs s (x ∷ xs)

@@ -3,17 +3,17 @@ use Rattle.std.specs.Prelude.{◌≡◌, ℕ, List, [], ◌∷◌, Some}
 use Rattle.lh_types.specs.declared.op.Op.TheVariants.{Not}
 use Rattle.lh_term.specs.Tree.{Tree}
 use Rattle.lh_term.specs.Make.{make_operation}
-use Rattle.lh_term.specs.Arena.{Stands}
+use Rattle.lh_term.specs.Arena.{StandsForTree}
 use Rattle.lh_term.specs.declared.term.TermId.{TermId}
 use Rattle.lh_term.specs.declared.term.Node.{Node}
 use Rattle.lh_rows.specs.Typed.{IsCondition}
 use Rattle.lh_rows.specs.Places.{both}
-use Rattle.lh_region.specs.declared.state.Place.{Place}
-use Rattle.lh_region.specs.Asked.{Told, Tells}
+use Rattle.lh_region.specs.declared.state.PlaceState.{PlaceState}
+use Rattle.lh_region.specs.Asked.{KnownTerms, Tells}
 
 -- a condition is told of value v at a place
-pub record CanTest (ns : List Node) (ps : List Place) (v i : ℕ) : Type 0 where
-  pub told : Told
+pub record CanTest (ns : List Node) (ps : List PlaceState) (v i : ℕ) : Type 0 where
+  pub told : KnownTerms
   pub tells : Tells ns ps told
   pub cond : Tree
   pub is : told i v ≡ Some cond
@@ -23,9 +23,9 @@ abbrev pub negation : Tree → Tree
 negation x = make_operation Not (x ∷ [])
 
 -- The term is the condition c and what is told of value v at a place.
-abbrev pub IsAnd : List Node → List Place → List Node → (v i : ℕ) → Tree → TermId → Type 0
-IsAnd ns ps ms v i c t = (told : Told) (x : Tree) → Tells ns ps told → told i v ≡ Some x → Stands ms t (both c x)
+abbrev pub IsAnd : List Node → List PlaceState → List Node → (v i : ℕ) → Tree → TermId → Type 0
+IsAnd ns ps ms v i c t = (told : KnownTerms) (x : Tree) → Tells ns ps told → told i v ≡ Some x → StandsForTree ms t (both c x)
 
 -- The term is the condition c where what is told of value v at a place is 0.
-abbrev pub IsAndNot : List Node → List Place → List Node → (v i : ℕ) → Tree → TermId → Type 0
-IsAndNot ns ps ms v i c t = (told : Told) (x : Tree) → Tells ns ps told → told i v ≡ Some x → Stands ms t (both c (negation x))
+abbrev pub IsAndNot : List Node → List PlaceState → List Node → (v i : ℕ) → Tree → TermId → Type 0
+IsAndNot ns ps ms v i c t = (told : KnownTerms) (x : Tree) → Tells ns ps told → told i v ≡ Some x → StandsForTree ms t (both c (negation x))

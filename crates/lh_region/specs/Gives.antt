@@ -1,11 +1,11 @@
 -- The place that is treated, which is the last one, gives a term to a value or a variable.
 use Rattle.std.specs.Prelude.{◌≡◌, ℕ, ◌+◌, ◌<◌, List, ◌&&◌, length, nat_eq, if◌then◌else◌, Some}
 use Rattle.lh_term.specs.Tree.{Tree}
-use Rattle.lh_term.specs.Arena.{Stands}
+use Rattle.lh_term.specs.Arena.{StandsForTree}
 use Rattle.lh_term.specs.declared.term.TermId.{TermId}
 use Rattle.lh_term.specs.declared.term.Node.{Node}
 use Rattle.lh_rows.specs.Known.{Known, Knowledge, with_known}
-use Rattle.lh_region.specs.declared.state.Place.{Place}
+use Rattle.lh_region.specs.declared.state.PlaceState.{PlaceState}
 use Rattle.lh_region.specs.Asked.{Tells}
 use Rattle.lh_region.specs.Walking.{as_term, Story, TellsKnown}
 
@@ -18,13 +18,14 @@ abbrev pub ValuesDiffer : Story → Type 0
 ValuesDiffer s = (v w : ℕ) → v < s.values → w < s.values → s.naming.value_name v ≡ s.naming.value_name w → v ≡ w
 
 -- What was told is told still but of this value at this place, where it is the new term; and this is known there under its name.
-pub record TellsGiven (ns : List Node) (qs : List Place) (s : Story) (i v : ℕ) (k : Knowledge) (a : Known) (x : Tree) : Type 0 where
+pub record TellsGiven (ns : List Node) (qs : List PlaceState) (s : Story) (i v : ℕ) (k : Knowledge) (a : Known) (x : Tree) : Type 0 where
   pub tells : Tells ns qs (with_term s i v x).told
   pub known : TellsKnown (with_term s i v x) i (with_known k (s.naming.value_name v) a)
   pub before : (j w : ℕ) → j < i → (with_term s i v x).told j w ≡ s.told j w
 
 -- The last place gives the term to a value, of whatever is told and known so far.
-abbrev pub GivesTerm : List Place → (i v : ℕ) → TermId → List Place → Type 0
+abbrev pub GivesTerm : List PlaceState → (i v : ℕ) → TermId → List PlaceState → Type 0
 GivesTerm ps i v t qs =
-    (ns : List Node) (s : Story) (k : Knowledge) (a : Known) (x : Tree) → Tells ns ps s.told → s.places ≡ length ps → i + 1 ≡ s.places → v < s.values → ValuesDiffer s → as_term a ≡ Some x → Stands ns t x → TellsKnown s i k →
+    (ns : List Node) (s : Story) (k : Knowledge) (a : Known) (x : Tree) → Tells ns ps s.told → s.places ≡ length ps → i + 1 ≡ s.places → v < s.values → ValuesDiffer s → as_term a ≡ Some x
+    → StandsForTree ns t x → TellsKnown s i k →
     TellsGiven ns qs s i v k a x

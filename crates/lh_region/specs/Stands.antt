@@ -5,7 +5,7 @@ use Rattle.lh_unit.specs.Within.{Each}
 use Rattle.lh_term.specs.declared.term.TermId.{TermId}
 use Rattle.lh_term.specs.declared.term.Node.{Node}
 use Rattle.lh_term.specs.Tree.{Tree}
-use Rattle.lh_term.specs.Arena.{trees, tree_at, IsIn, Stands}
+use Rattle.lh_term.specs.Arena.{trees, tree_at, IsIn, StandsForTree}
 use Rattle.lh_rows.specs.Rows as text
 use Rattle.lh_rows.specs.Regions as texts
 use Rattle.lh_rows.specs.Typed.{IsOfType}
@@ -22,10 +22,10 @@ use Rattle.lh_region.specs.declared.rows.RegionFault.TheVariants as fault
 
 -- the drive is that one
 pub record IsDrive (ns : List Node) (d : DriveRow) (x : text.Drive) : Type 0 where
-  pub cond : Stands ns d.cond x.cond
+  pub cond : StandsForTree ns d.cond x.cond
   pub part : d.part ≡ x.part
-  pub value : Stands ns d.value x.value
-  pub delay : Stands ns d.delay x.delay
+  pub value : StandsForTree ns d.value x.value
+  pub delay : StandsForTree ns d.delay x.delay
 
 -- the drives are those, one by one
 abbrev pub AreDrives : List Node → List DriveRow → List text.Drive → Type 0
@@ -36,7 +36,7 @@ AreDrives ns _ _ = ⊥
 -- each id stands for its term
 abbrev pub AreTerms : List Node → List TermId → List Tree → Type 0
 AreTerms ns [] [] = Unit {0}
-AreTerms ns (t ∷ ts) (x ∷ xs) = Stands ns t x × AreTerms ns ts xs
+AreTerms ns (t ∷ ts) (x ∷ xs) = StandsForTree ns t x × AreTerms ns ts xs
 AreTerms ns _ _ = ⊥
 
 -- how a region ends, where blocks have the numbers of their places
@@ -46,11 +46,11 @@ way_text way.Head = text.enters_head
 way_text (way.Wait target to_head parts timed) = text.waits target to_head parts timed
 
 -- the end is that one; what is known there is not kept
-pub record IsEnd (ns : List Node) (e : EndRow) (x : text.End) : Type 0 where
-  pub cond : Stands ns e.cond x.cond
+pub record IsEnd (ns : List Node) (e : EndRow) (x : text.RegionEnd) : Type 0 where
+  pub cond : StandsForTree ns e.cond x.cond
   pub way : way_text e.way ≡ x.way
 
-abbrev pub AreEnds : List Node → List EndRow → List text.End → Type 0
+abbrev pub AreEnds : List Node → List EndRow → List text.RegionEnd → Type 0
 AreEnds ns [] [] = Unit {0}
 AreEnds ns (e ∷ es) (x ∷ xs) = IsEnd ns e x × AreEnds ns es xs
 AreEnds ns _ _ = ⊥
@@ -84,9 +84,9 @@ IsRefused x None = Unit {0}
 IsRefused x (Some r) = x ≡ no_regions r
 
 -- The answer is the regions of the definition, or the reason why there are none.
-abbrev pub Answers : List Node → Regioned → Result Regions RegionFault → Type 0
-Answers ns x (Ok r) = (y : texts.Regions) × (x ≡ has_regions y) × AreRegions ns r y
-Answers ns x (Err e) = IsRefused x (refusal_of e)
+abbrev pub RegionsOrReason : List Node → Regioned → Result Regions RegionFault → Type 0
+RegionsOrReason ns x (Ok r) = (y : texts.Regions) × (x ≡ has_regions y) × AreRegions ns r y
+RegionsOrReason ns x (Err e) = IsRefused x (refusal_of e)
 
 -- ---- what is asked of the terms of rows
 

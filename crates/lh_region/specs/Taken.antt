@@ -9,67 +9,67 @@ use Rattle.lh_unit.specs.declared.inst.PhiEdge.{PhiEdge}
 use Rattle.lh_term.specs.Tree.{Tree, tree_row}
 use Rattle.lh_term.specs.Types.{TakesTypes, types_of}
 use Rattle.lh_term.specs.Make.{make_operation}
-use Rattle.lh_term.specs.Arena.{Stands}
+use Rattle.lh_term.specs.Arena.{StandsForTree}
 use Rattle.lh_term.specs.declared.term.TermId.{TermId}
 use Rattle.lh_term.specs.declared.term.Node.{Node}
 use Rattle.lh_joins.specs.declared.edge.Edge.{Edge}
 use Rattle.lh_joins.specs.Joins.{AreMade}
-use Rattle.lh_region.specs.declared.state.Place.{Place}
-use Rattle.lh_region.specs.declared.taking.Ask.{Ask}
+use Rattle.lh_region.specs.declared.state.PlaceState.{PlaceState}
+use Rattle.lh_region.specs.declared.taking.PlaceValue.{PlaceValue}
 use Rattle.lh_region.specs.Operands.{operand_in}
-use Rattle.lh_region.specs.Asked.{Told, Tells, AreAlike, edges_at, joined_by}
+use Rattle.lh_region.specs.Asked.{KnownTerms, Tells, AreOfOneType, edges_at, joined_by}
 
 -- what is told of the value that is asked for
-abbrev pub told_of : Told → Ask → Option Tree
+abbrev pub told_of : KnownTerms → PlaceValue → Option Tree
 told_of told a = told a.place a.value
 
 -- something is told of each
-abbrev pub AllThere : Told → List Ask → Type 0
-AllThere told asks = Each (λ (a : Ask). is_some (told_of told a) ≡ true) asks
+abbrev pub AllThere : KnownTerms → List PlaceValue → Type 0
+AllThere told asks = Each (λ (a : PlaceValue). is_some (told_of told a) ≡ true) asks
 
 -- each is asked for at a place that is there, and something is told of it
-pub record CanAskAll (ns : List Node) (ps : List Place) (asks : List Ask) : Type 0 where
-  pub told : Told
+pub record CanAskAll (ns : List Node) (ps : List PlaceState) (asks : List PlaceValue) : Type 0 where
+  pub told : KnownTerms
   pub tells : Tells ns ps told
-  pub within : Each (λ (a : Ask). a.place < length ps) asks
+  pub within : Each (λ (a : PlaceValue). a.place < length ps) asks
   pub there : AllThere told asks
 
 -- What was told before is told still.
-abbrev pub StillToldAll : List Node → List Place → List Node → List Place → List Ask → Type 0
-StillToldAll ns ps ms qs asks = (told : Told) → Tells ns ps told → AllThere told asks → Tells ms qs told
+abbrev pub StillToldAll : List Node → List PlaceState → List Node → List PlaceState → List PlaceValue → Type 0
+StillToldAll ns ps ms qs asks = (told : KnownTerms) → Tells ns ps told → AllThere told asks → Tells ms qs told
 
 -- The terms are what is told of the values.
-abbrev pub AreTold : List Node → List Place → List Node → List Ask → List TermId → Type 0
-AreTold ns ps ms asks ts = (told : Told) (ys : List Tree) → Tells ns ps told → map (told_of told) asks ≡ map Some ys → AreMade ms ts ys
+abbrev pub AreTold : List Node → List PlaceState → List Node → List PlaceValue → List TermId → Type 0
+AreTold ns ps ms asks ts = (told : KnownTerms) (ys : List Tree) → Tells ns ps told → map (told_of told) asks ≡ map Some ys → AreMade ms ts ys
 
 -- ---- operations
 
 -- a value at the place of this number
-abbrev pub ask_at : ℕ → Typed → Ask
+abbrev pub ask_at : ℕ → Typed → PlaceValue
 ask_at i x = record { place = i; value = x.value.0 }
 
-abbrev pub asks_at : ℕ → List Typed → List Ask
+abbrev pub asks_at : ℕ → List Typed → List PlaceValue
 asks_at i xs = map (ask_at i) xs
 
 -- these are told of the operands at a place, and the operation takes them
-pub record IsOperation (ns : List Node) (ps : List Place) (i : ℕ) (o : Op) (xs : List Typed) : Type 0 where
-  pub told : Told
+pub record IsOperation (ns : List Node) (ps : List PlaceState) (i : ℕ) (o : Op) (xs : List Typed) : Type 0 where
+  pub told : KnownTerms
   pub tells : Tells ns ps told
   pub operands : List Tree
   pub each : map (told_of told) (asks_at i xs) ≡ map Some operands
   pub fits : TakesTypes o (types_of (tree_row operands))
 
 -- The term is the operation on what is told of the operands.
-abbrev pub IsOperated : List Node → List Place → List Node → ℕ → Op → List Typed → TermId → Type 0
-IsOperated ns ps ms i o xs t = (told : Told) (ys : List Tree) → Tells ns ps told → map (told_of told) (asks_at i xs) ≡ map Some ys → Stands ms t (make_operation o ys)
+abbrev pub IsOperated : List Node → List PlaceState → List Node → ℕ → Op → List Typed → TermId → Type 0
+IsOperated ns ps ms i o xs t = (told : KnownTerms) (ys : List Tree) → Tells ns ps told → map (told_of told) (asks_at i xs) ≡ map Some ys → StandsForTree ms t (make_operation o ys)
 
 -- ---- `phi`
 
 -- the value that a `phi` names for an edge, where it comes from
-abbrev pub phi_ask : List PhiEdge → Edge → Ask
+abbrev pub phi_ask : List PhiEdge → Edge → PlaceValue
 phi_ask operands e = record { place = e.from; value = option_map_or (λ (v : ValueId). v.0) (operand_in e.block operands) 0 }
 
-abbrev pub phi_asks : List PhiEdge → List Edge → List Ask
+abbrev pub phi_asks : List PhiEdge → List Edge → List PlaceValue
 phi_asks operands es = map (phi_ask operands) es
 
 -- the `phi` names a value for each of these edges
@@ -77,16 +77,17 @@ abbrev pub NamesEach : List PhiEdge → List Edge → Type 0
 NamesEach operands es = Each (λ (e : Edge). is_some (operand_in e.block operands) ≡ true) es
 
 -- the values that a `phi` at a place names are told, and of one type
-pub record IsMerge (ns : List Node) (ps : List Place) (i : ℕ) (operands : List PhiEdge) : Type 0 where
-  pub told : Told
+pub record IsMerge (ns : List Node) (ps : List PlaceState) (i : ℕ) (operands : List PhiEdge) : Type 0 where
+  pub told : KnownTerms
   pub tells : Tells ns ps told
   pub names : NamesEach operands (edges_at ps i)
   pub first : Tree
   pub others : List Tree
   pub each : map (told_of told) (phi_asks operands (edges_at ps i)) ≡ map Some (first ∷ others)
-  pub alike : AreAlike first others
+  pub alike : AreOfOneType first others
 
 -- The term is what is told of the values that a `phi` at a place names, merged.
-abbrev pub IsMerged : List Node → List Place → List Node → ℕ → List PhiEdge → TermId → Type 0
+abbrev pub IsMerged : List Node → List PlaceState → List Node → ℕ → List PhiEdge → TermId → Type 0
 IsMerged ns ps ms i operands t =
-    (told : Told) (y : Tree) (ys : List Tree) → Tells ns ps told → map (told_of told) (phi_asks operands (edges_at ps i)) ≡ map Some (y ∷ ys) → Stands ms t (joined_by ns (edges_at ps i) y ys)
+    (told : KnownTerms) (y : Tree) (ys : List Tree) → Tells ns ps told → map (told_of told) (phi_asks operands (edges_at ps i)) ≡ map Some (y ∷ ys)
+    → StandsForTree ms t (joined_by ns (edges_at ps i) y ys)

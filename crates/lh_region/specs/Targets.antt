@@ -12,7 +12,7 @@ abbrev pub ways_of : List EndRow → List text.Way
 ways_of es = map (λ (e : EndRow). way_text e.way) es
 
 -- an end of which the way alone is told
-abbrev pub end_by : text.Way → text.End
+abbrev pub end_by : text.Way → text.RegionEnd
 end_by w = record { cond = bit_of true; way = w; from = []; known = nothing_known }
 
 -- the one block for which ends of these ways wait
@@ -21,4 +21,4 @@ target_by ws = texts.one_target (map end_by ws)
 
 -- The block depends on the ways alone.
 abbrev pub TargetByWays : Type 0
-TargetByWays = (es : List text.End) → texts.one_target es ≡ target_by (map (λ (x : text.End). x.way) es)
+TargetByWays = (es : List text.RegionEnd) → texts.one_target es ≡ target_by (map (λ (x : text.RegionEnd). x.way) es)

@@ -101,10 +101,8 @@ fn no_edges(alloc: Global, blocks: usize) -> Result<Vec<EdgeList>, NoMemory>
 fn put(led: &mut Vec<EdgeList>, edges: EdgeList) -> Result<(), NoMemory>
     ensures { OnOk result (led.new.items ≡ led.old.items ++ edges ∷ []) }
 {
-    match led.push(edges) {
-        Ok(()) => Ok(()),
-        Err(_) => Err(NoMemory),
-    }
+    led.push(edges)?;
+    Ok(())
 }
 
 fn lead(led: &mut Vec<EdgeList>, block: u32, edge: Edge) -> Result<(), NoMemory>

@@ -4,7 +4,7 @@ ghost use Rattle.lh_region.specs.Begins.{IsBegun, BeginsJoined};
 
 use crate::ahead::EdgeList;
 use crate::places::Places;
-use crate::state::Place;
+use crate::state::PlaceState;
 use lh_types::ty::NoMemory;
 use std::alloc::Global;
 
@@ -18,7 +18,7 @@ pub fn begin(
     ensures place { OnOk result (IsBegun places.old.items block edges places.new.items) }
     ensures joined { OnOk result (BeginsJoined places.old.items edges places.new.items) }
 {
-    let mut place = Place::new(alloc, block);
+    let mut place = PlaceState::new(alloc, block);
     place.edges = edges.into_vec();
     places.push(place)?;
     Ok(())

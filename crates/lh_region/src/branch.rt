@@ -1,6 +1,6 @@
 //! Conditions at a place: those of drives, and of the edges of a branch.
 ghost use Rattle.std.specs.Prelude.{◌≡◌, ◌<◌, length, IfOk, OnOk};
-ghost use Rattle.lh_term.specs.Arena.{trees, tree_at, Stands, Grows};
+ghost use Rattle.lh_term.specs.Arena.{trees, tree_at, StandsForTree, Grows};
 ghost use Rattle.lh_joins.specs.Joins.{IsConditionAt};
 ghost use Rattle.lh_region.specs.Asked.{SamePlaces, StillTold};
 ghost use Rattle.lh_region.specs.Branches.{CanTest, negation, IsAnd, IsAndNot};
@@ -71,7 +71,7 @@ pub fn sides_at(
 /// The opposite of a condition.
 fn not(terms: &mut Terms, cond: TermId) -> Result<TermId, NoMemory>
     requires { IsConditionAt terms.old cond }
-    ensures made { IfOk result (λ t. Stands terms.new t (negation (tree_at (trees terms.old) cond))) }
+    ensures made { IfOk result (λ t. StandsForTree terms.new t (negation (tree_at (trees terms.old) cond))) }
     ensures kept { Grows terms.old terms.new }
 {
     terms.op(&Op::Not, &[cond])

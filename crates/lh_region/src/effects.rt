@@ -1,7 +1,7 @@
 //! What instructions do besides giving values: they probe, drive and assert, and they end a region.
 ghost use Rattle.std.specs.Prelude.{◌≡◌, ◌<◌, ◌++◌, ◌∷◌, [], length, Some, IsSome, IfOk, OnOk};
 ghost use Rattle.lh_types.specs.Types.{IsData};
-ghost use Rattle.lh_term.specs.Arena.{Stands, Grows};
+ghost use Rattle.lh_term.specs.Arena.{StandsForTree, Grows};
 ghost use Rattle.lh_parts.specs.Steps.{part_at};
 ghost use Rattle.lh_joins.specs.Joins.{IsConditionAt};
 ghost use Rattle.lh_region.specs.Asked.{SamePlaces};
@@ -45,7 +45,7 @@ pub fn probe(
     requires { IsData part.ty }
     ensures kept { Grows terms.old terms.new }
     ensures rows { OnOk result (effects.IsProbed terms.old rows.old terms.new rows.new part) }
-    ensures made { IfOk result (λ t. Stands terms.new t (effects.probed is_past part)) }
+    ensures made { IfOk result (λ t. StandsForTree terms.new t (effects.probed is_past part)) }
 {
     let term = value_of(terms, &part, is_past)?;
     rows.probes.push(part)?;
@@ -55,7 +55,7 @@ pub fn probe(
 fn value_of(terms: &mut Terms, part: &Part, is_past: bool) -> Result<TermId, NoMemory>
     requires { IsData part.now.ty }
     ensures kept { Grows terms.old terms.new }
-    ensures made { IfOk result (λ t. Stands terms.new t (effects.probed is_past part.now)) }
+    ensures made { IfOk result (λ t. StandsForTree terms.new t (effects.probed is_past part.now)) }
 {
     if is_past {
         terms.past(part)

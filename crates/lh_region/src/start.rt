@@ -5,7 +5,7 @@ ghost use Rattle.lh_flat.specs.declared.flat.FlatInst.{FlatInst as Line};
 ghost use Rattle.lh_term.specs.Arena.{Grows};
 ghost use Rattle.lh_region.specs.Starts.{GivenFits, lines_left, KnowsConstants, TakesConstant};
 
-use crate::state::Place;
+use crate::state::PlaceState;
 use lh_flat::{Flat, FlatInst};
 use lh_term::terms::Terms;
 use lh_types::ty::NoMemory;
@@ -13,7 +13,12 @@ use lh_unit::inst::Inst;
 use std::alloc::Global;
 
 /// The start of a process: the head, with the constants of an entry that is left.
-pub fn start_of(alloc: Global, flat: &Flat, head: u32, terms: &mut Terms) -> Result<Place, NoMemory>
+pub fn start_of(
+    alloc: Global,
+    flat: &Flat,
+    head: u32,
+    terms: &mut Terms,
+) -> Result<PlaceState, NoMemory>
     requires { Each (λ (l : Line). GivenFits l.result l.inst) (lines_left flat.now.blocks head) }
     ensures kept { Grows terms.old terms.new }
     ensures block { IfOk result (λ place. place.block ≡ head) }
@@ -21,7 +26,7 @@ pub fn start_of(alloc: Global, flat: &Flat, head: u32, terms: &mut Terms) -> Res
     ensures selectors { IfOk result (λ place. place.selectors ≡ None) }
     ensures known { IfOk result (λ place. KnowsConstants terms.new place (lines_left flat.now.blocks head)) }
 {
-    let mut start = Place::new(alloc, head);
+    let mut start = PlaceState::new(alloc, head);
     for line in lines_left(flat, head) {
         take_constant(terms, &mut start, line)?;
     }
@@ -39,7 +44,7 @@ fn lines_left(flat: &Flat, head: u32) -> &[FlatInst]
 }
 
 /// Makes the constant known that an instruction is, if it is one.
-fn take_constant(terms: &mut Terms, start: &mut Place, line: &FlatInst) -> Result<(), NoMemory>
+fn take_constant(terms: &mut Terms, start: &mut PlaceState, line: &FlatInst) -> Result<(), NoMemory>
     requires { GivenFits line.now.result line.now.inst }
     ensures kept { Grows terms.old terms.new }
     ensures taken { OnOk result (TakesConstant terms.new start.old line.now start.new) }

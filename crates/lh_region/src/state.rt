@@ -14,7 +14,7 @@ use std::collections::HashMap;
 
 /// A place: a block after a number of turns.
 #[derive(Drop)]
-pub struct Place {
+pub struct PlaceState {
     pub block: u32,
     /// The edges to it, in the order of their sources.
     pub edges: Vec<Edge>,
@@ -24,15 +24,15 @@ pub struct Place {
     pub known: HashMap<u32, TermId>,
 }
 
-impl Place {
+impl PlaceState {
     /// A place that nothing leads to yet.
-    pub fn new(alloc: Global, block: u32) -> Place
+    pub fn new(alloc: Global, block: u32) -> PlaceState
         ensures block { result.block ≡ block }
         ensures edges { result.edges.items ≡ [] }
         ensures selectors { result.selectors ≡ None }
         ensures known { (v : ℕ) → kept_by v result ≡ None }
     {
-        Place {
+        PlaceState {
             block,
             edges: Vec::new(alloc),
             selectors: None,
@@ -60,10 +60,8 @@ impl Place {
         ensures err { OnErr result ((w : ℕ) → kept_by w self.new ≡ kept_by w self.old) }
         ensures shape { shape_of self.new ≡ shape_of self.old }
     {
-        match self.known.insert(value, term) {
-            Ok(_) => Ok(()),
-            Err(_) => Err(NoMemory),
-        }
+        self.known.insert(value, term)?;
+        Ok(())
     }
 
     /// The value of the edge that is taken, of one for each edge to the place.

@@ -12,12 +12,12 @@ use lh_term::term::{TermId, TermList};
 use lh_term::terms::Terms;
 use lh_types::op::Op;
 use lh_types::ty::NoMemory;
-use lh_unit::inst::{PhiEdge, Typed, TypedList};
+use lh_unit::inst::{OperandList, PhiEdge, Typed};
 use std::alloc::Global;
 
 /// A value that is asked for at a place.
 #[derive(Clone, Copy)]
-pub struct Ask {
+pub struct PlaceValue {
     pub place: usize,
     pub value: u32,
 }
@@ -27,7 +27,7 @@ pub fn ask_all(
     alloc: Global,
     terms: &mut Terms,
     places: &mut Places,
-    asks: &[Ask],
+    asks: &[PlaceValue],
 ) -> Result<TermList, NoMemory>
     requires { taken.CanAskAll terms.old places.old.items asks.now }
     ensures kept { Grows terms.old terms.new }
@@ -50,7 +50,7 @@ pub fn operate(
     places: &mut Places,
     at: usize,
     op: Op,
-    args: &TypedList,
+    args: &OperandList,
 ) -> Result<TermId, NoMemory>
     requires is_in { at < length places.old.items }
     requires operation { taken.IsOperation terms.old places.old.items at op args.now }
@@ -66,14 +66,14 @@ pub fn operate(
 }
 
 /// What is asked for as the operands of an instruction at a place.
-pub fn asks_at(alloc: Global, at: usize, args: &[Typed]) -> Result<Vec<Ask>, NoMemory>
+pub fn asks_at(alloc: Global, at: usize, args: &[Typed]) -> Result<Vec<PlaceValue>, NoMemory>
     ensures { IfOk result (λ asks. asks.items ≡ taken.asks_at at args.now) }
 {
     let mut asks = Vec::new(alloc);
     for arg in args {
         put(
             &mut asks,
-            Ask {
+            PlaceValue {
                 place: at,
                 value: arg.value.0,
             },
@@ -82,13 +82,11 @@ pub fn asks_at(alloc: Global, at: usize, args: &[Typed]) -> Result<Vec<Ask>, NoM
     Ok(asks)
 }
 
-fn put(asks: &mut Vec<Ask>, ask: Ask) -> Result<(), NoMemory>
+fn put(asks: &mut Vec<PlaceValue>, ask: PlaceValue) -> Result<(), NoMemory>
     ensures { OnOk result (asks.new.items ≡ asks.old.items ++ ask ∷ []) }
 {
-    match asks.push(ask) {
-        Ok(()) => Ok(()),
-        Err(_) => Err(NoMemory),
-    }
+    asks.push(ask)?;
+    Ok(())
 }
 
 /// What a `phi` at a place gives: the value of the edge that was taken.
@@ -113,7 +111,11 @@ pub fn phi_at(
 }
 
 /// The value that a `phi` names for each of these edges.
-fn phi_asks(alloc: Global, edges: &[Edge], operands: &[PhiEdge]) -> Result<Vec<Ask>, NoMemory>
+fn phi_asks(
+    alloc: Global,
+    edges: &[Edge],
+    operands: &[PhiEdge],
+) -> Result<Vec<PlaceValue>, NoMemory>
     requires { taken.NamesEach operands.now edges.now }
     ensures { IfOk result (λ asks. asks.items ≡ taken.phi_asks operands.now edges.now) }
 {
@@ -122,7 +124,7 @@ fn phi_asks(alloc: Global, edges: &[Edge], operands: &[PhiEdge]) -> Result<Vec<A
         let value = operand_from(operands, edge.block);
         put(
             &mut asks,
-            Ask {
+            PlaceValue {
                 place: edge.from,
                 value: value.0,
             },

@@ -26,12 +26,12 @@ use Rattle.lh_term.specs.Make.{bit_of}
 use Rattle.lh_term.specs.declared.part.Part.{Part}
 use Rattle.lh_rows.specs.Known.{Knowledge, nothing_known, with_arguments}
 use Rattle.lh_rows.specs.Rows as rows
-use Rattle.lh_rows.specs.Rows.{End}
-use Rattle.lh_rows.specs.Joins.{Edge}
+use Rattle.lh_rows.specs.Rows.{RegionEnd}
+use Rattle.lh_rows.specs.Joins.{RegionEdge}
 use Rattle.lh_rows.specs.Places.{Region}
 use Rattle.lh_rows.specs.Regions.{with_constant, with_constants, begins_with_phi, lines_at, known_first, head_of, edge_into, Course, no_course, comes_to, max_insts, first_region}
 use Rattle.lh_rows.specs.Typed.{Among, IsOfType, JoinEdge}
-use Rattle.lh_rows.specs.Means.{range_in, reads, Shows, Agrees}
+use Rattle.lh_rows.specs.Means.{range_in, reads, KnownIsHeld, Agrees}
 use Rattle.lh_rows.specs.Laws.{EndsAs, max_steps, new_process, WaitsForHead, FirstActivation, AgainFromHead, HeadStaysKnown, RowsAreTyped, DriveTyped, EndTyped}
 use Rattle.lh_rows.specs.Right.{as_block, BlockAt, WayRight}
 use Rattle.lh_rows.proofs.Among.{in-each}
@@ -52,7 +52,8 @@ more-steps s q steps bound done h go = ap (λ x. run x s q) (rest steps bound h)
     rest : (a b : ℕ) → a ≤ b → b ≡ a + (b - a)
     rest a b l = omega (arith, l)
 
-module _ (name : UnitName) (t : FlatText) (f : IsFormed (flat_unit name t)) (plain : begins_with_phi (lines_at t.blocks (head_of t.blocks)) ≡ false) (probe : Part → Tree) (pt : (p : Part) → IsData p.ty → IsOfType p.ty (probe p)) (c : Course) (e : first_region t probe ≡ comes_to c) where
+module _ (name : UnitName) (t : FlatText) (f : IsFormed (flat_unit name t)) (plain : begins_with_phi (lines_at t.blocks (head_of t.blocks)) ≡ false) (probe : Part → Tree)
+    (pt : (p : Part) → IsData p.ty → IsOfType p.ty (probe p)) (c : Course) (e : first_region t probe ≡ comes_to c) where
   abbrev pub u : UnitText
   u = flat_unit name t
 
@@ -68,7 +69,7 @@ module _ (name : UnitName) (t : FlatText) (f : IsFormed (flat_unit name t)) (pla
   abbrev pub head-at : BlockAt t.blocks (head_of t.blocks) hb
   head-at = (Start.head-block name t f plain).at
 
-  abbrev e0 : Edge
+  abbrev e0 : RegionEdge
   e0 = edge_into (head_of t.blocks) [] (bit_of true) (known_first t)
 
   joins : Each (JoinEdge u (as_block hb)) (e0 ∷ [])
@@ -76,7 +77,7 @@ module _ (name : UnitName) (t : FlatText) (f : IsFormed (flat_unit name t)) (pla
 
   module _ (s : Scene) (args : List Range) (past now : Valuation) (p : IsFitting past) (n : IsFitting now) (means : (x : Part) → mean past now (probe x) ≡ reads args s.now x) where
     abbrev shows : Knowledge → Env → Type 0
-    shows = Shows u (mean past now) (range_in args)
+    shows = KnownIsHeld u (mean past now) (range_in args)
 
     abbrev pub head-point : Env → Wish → List Bool → Point
     head-point held w o = Walk.point u g r s args past now p n means hb held w o
@@ -86,8 +87,8 @@ module _ (name : UnitName) (t : FlatText) (f : IsFormed (flat_unit name t)) (pla
         Walk.region-runs u g r s args past now p n means (head_of t.blocks) hb head-at e0 [] joins c e [] held held
         (record { edge = e0; among = inl refl; taken = refl; each = λ x a k. all x a }) (no-phis-taken [] held (with_merge hb.merge hb.lines) (Start.head-lines name t f plain)) w o
       where
-        all : (x : Edge) → Among x (e0 ∷ []) → (x.from ≡ []) × shows x.known held
-        all x (inl q) = (ap (λ (y : Edge). y.from) (sym q), subst (λ (y : Edge). shows y.known held) q sh)
+        all : (x : RegionEdge) → Among x (e0 ∷ []) → (x.from ≡ []) × shows x.known held
+        all x (inl q) = (ap (λ (y : RegionEdge). y.from) (sym q), subst (λ (y : RegionEdge). shows y.known held) q sh)
         all x (inr a) = absurd a
 
     -- from the head on
@@ -105,7 +106,8 @@ module _ (name : UnitName) (t : FlatText) (f : IsFormed (flat_unit name t)) (pla
         by : Walk.Result u g r s args past now p n means (head-point held w o) no_course c → FromHead held w o
         by x = at x.how x.runs
           where
-            at : (h : Walk.Finish u g r s args past now p n means x.end x.held) → ((k : ℕ) → run (x.steps + k) s (head-point held w o) ≡ Walk.finish_on u g r s args past now p n means x.end x.held h x.wish x.outcomes k) → FromHead held w o
+            at : (h : Walk.Finish u g r s args past now p n means x.end x.held)
+                → ((k : ℕ) → run (x.steps + k) s (head-point held w o) ≡ Walk.finish_on u g r s args past now p n means x.end x.held h x.wish x.outcomes k) → FromHead held w o
             at (headed i y en) runs = absurd (false≢true i)
             at (stood st st-is) runs = record {
               done = record { state = record { stand = st; held = x.held }; wish = x.wish; outcomes = x.outcomes };
@@ -121,7 +123,8 @@ module _ (name : UnitName) (t : FlatText) (f : IsFormed (flat_unit name t)) (pla
 
     -- ---- where the process waits for the head
 
-    again-runs : (st : ProcessState) → WaitsForHead u t past now args st → (bound : ℕ) → max_steps ≤ bound → (done : Activated) × (activate bound s u st ≡ Some done) × EndsAs u t past now args s.at no_wish [] c.rows done
+    again-runs : (st : ProcessState) → WaitsForHead u t past now args st → (bound : ℕ) → max_steps ≤ bound → (done : Activated) × (activate bound s u st ≡ Some done)
+        × EndsAs u t past now args s.at no_wish [] c.rows done
     unfolding activate
     again-runs st w bound h =
         let x = from-head st.held w.known no_wish [] in
@@ -129,7 +132,8 @@ module _ (name : UnitName) (t : FlatText) (f : IsFormed (flat_unit name t)) (pla
         let stands : block_of hb.label u.blocks ≡ Some (as_block hb) = block-labelled t.blocks hb.label (head_of t.blocks) hb head-at.at head-at.number in
         let into : entered u st.held w.from hb.label ≡ Some (record { unit = u; block = hb.label; rest = with_merge hb.merge hb.lines; held = st.held }) =
         ap (option_and_then (λ (b : BlockText). option_map (λ e'. record { unit = u; block = hb.label; rest = b.lines; held = e' }) (phis_taken w.from st.held b.lines))) stands
-        ∙ ap (option_map (λ e'. record { unit = u; block = hb.label; rest = with_merge hb.merge hb.lines; held = e' })) (no-phis-taken w.from st.held (with_merge hb.merge hb.lines) (Start.head-lines name t f plain)) in
+        ∙ ap (option_map (λ e'. record { unit = u; block = hb.label; rest = with_merge hb.merge hb.lines; held = e' })) (no-phis-taken w.from st.held (with_merge hb.merge hb.lines)
+        (Start.head-lines name t f plain)) in
         let control : control_at u st ≡ Some (record { unit = u; block = hb.label; rest = with_merge hb.merge hb.lines; held = st.held }) =
         ap (machine.control_from u st.held) (w.stand ∙ ap (λ (b : FlatBlockText). machine.waits w.from b.label w.on w.wake) same) ∙ into in
         (x.done, ap (option_and_then (λ k. run bound s (start_point k))) control ∙ x.runs bound h, x.ends)
@@ -162,18 +166,21 @@ module _ (name : UnitName) (t : FlatText) (f : IsFormed (flat_unit name t)) (pla
     append-constants k (x ∷ ls) l = append-constants (with_constant k x.inst x.result) ls l
 
     -- where it is not, its constants are executed
-    behind-runs : shows K held0 → nat_eq (head_of t.blocks) 0 ≡ false → (bound : ℕ) → max_steps + length (lines_at t.blocks 0) ≤ bound → (done : Activated) × (run bound s entry-point ≡ Some done) × EndsAs u t past now args s.at no_wish [] c.rows done
+    behind-runs : shows K held0 → nat_eq (head_of t.blocks) 0 ≡ false → (bound : ℕ) → max_steps + length (lines_at t.blocks 0) ≤ bound → (done : Activated) × (run bound s entry-point ≡ Some done)
+        × EndsAs u t past now args s.at no_wish [] c.rows done
     behind-runs sh q bound h =
         let l = Start.leading name t f plain q in
         let text : with_merge eb.merge eb.lines ≡ l.constants ++ l.last ∷ [] = sym (Start.entry-lines name t f plain) ∙ l.are in
         let x = Start.constants-run name t f plain s (mean past now) (range_in args) (λ d. refl) eb.label l.constants (l.last ∷ []) l.all held0 K sh in
         let known : known_first t ≡ with_constants K l.constants =
-        ap (λ b. with_constants K (if b then [] else lines_at t.blocks 0)) q ∙ ap (with_constants K) l.are ∙ append-constants K l.constants l.last ∙ ap (λ i. with_constant (with_constants K l.constants) i l.last.result) l.branch in
+        ap (λ b. with_constants K (if b then [] else lines_at t.blocks 0)) q ∙ ap (with_constants K) l.are ∙ append-constants K l.constants l.last
+        ∙ ap (λ i. with_constant (with_constants K l.constants) i l.last.result) l.branch in
         let y = from-head x.held (subst (λ k. shows k x.held) (sym known) x.shown) no_wish [] in
         let stands : block_of hb.label u.blocks ≡ Some (as_block hb) = block-labelled t.blocks hb.label (head_of t.blocks) hb head-at.at head-at.number in
         let into : entered u x.held eb.label hb.label ≡ Some (record { unit = u; block = hb.label; rest = with_merge hb.merge hb.lines; held = x.held }) =
         ap (option_and_then (λ (b : BlockText). option_map (λ e'. record { unit = u; block = hb.label; rest = b.lines; held = e' }) (phis_taken eb.label x.held b.lines))) stands
-        ∙ ap (option_map (λ e'. record { unit = u; block = hb.label; rest = with_merge hb.merge hb.lines; held = e' })) (no-phis-taken eb.label x.held (with_merge hb.merge hb.lines) (Start.head-lines name t f plain)) in
+        ∙ ap (option_map (λ e'. record { unit = u; block = hb.label; rest = with_merge hb.merge hb.lines; held = e' })) (no-phis-taken eb.label x.held (with_merge hb.merge hb.lines)
+        (Start.head-lines name t f plain)) in
         let here : Point = Start.point name t f plain s (mean past now) (range_in args) (λ d. refl) eb.label [] x.held in
         let branch : machine.step s (Start.point name t f plain s (mean past now) (range_in args) (λ d. refl) eb.label (l.last ∷ []) x.held) ≡ machine.goes (head-point x.held no_wish []) =
         ap (λ i. machine.executes s i l.last.result here) l.branch ∙ ap (machine.jumps here) into in
@@ -187,7 +194,8 @@ module _ (name : UnitName) (t : FlatText) (f : IsFormed (flat_unit name t)) (pla
           y.ends,
         )
 
-    pub first-runs : RangesFit (length s.now) args (arg_types t.args) → (bound : ℕ) → max_steps + length (lines_at t.blocks 0) ≤ bound → (done : Activated) × (activate bound s u (new_process t args) ≡ Some done) × EndsAs u t past now args s.at no_wish [] c.rows done
+    pub first-runs : RangesFit (length s.now) args (arg_types t.args) → (bound : ℕ) → max_steps + length (lines_at t.blocks 0) ≤ bound → (done : Activated)
+        × (activate bound s u (new_process t args) ≡ Some done) × EndsAs u t past now args s.at no_wish [] c.rows done
     unfolding activate
     first-runs fit bound h =
         let z = by (nat_eq (head_of t.blocks) 0) refl in
@@ -201,8 +209,12 @@ module _ (name : UnitName) (t : FlatText) (f : IsFormed (flat_unit name t)) (pla
         by true q =
             let same = entry-head q in
             let known : known_first t ≡ K = ap (λ b. with_constants K (if b then [] else lines_at t.blocks 0)) q in
-            let y = from-head held0 (subst (λ k. shows k held0) (sym known) sh) no_wish [] in
-            (y.done, ap (λ (b : FlatBlockText). run bound s (Start.point name t f plain s (mean past now) (range_in args) (λ d. refl) b.label (with_merge b.merge b.lines) held0)) same ∙ y.runs bound (omega (arith, h)), y.ends)
+            let y = from-head held0 (subst (λ k. shows k held0) (sym known) sh) no_wish [] in (
+              y.done,
+              ap (λ (b : FlatBlockText). run bound s (Start.point name t f plain s (mean past now) (range_in args) (λ d. refl) b.label (with_merge b.merge b.lines) held0)) same
+                  ∙ y.runs bound (omega (arith, h)),
+              y.ends,
+            )
 
   -- ---- what holds of the rows, whatever the values are
 
@@ -211,15 +223,17 @@ module _ (name : UnitName) (t : FlatText) (f : IsFormed (flat_unit name t)) (pla
   first-fine = Courses.region-fine u g r (head_of t.blocks) hb head-at e0 [] joins c e
 
   -- where an end waits for the head, what the first region starts with is held
-  stays : (x : End) → Courses.EndFine u g r x → (to_head : Bool) (parts : List Part) (timed : Bool) → x.way ≡ rows.waits (head_of t.blocks) to_head parts timed → (args : List Range) (past now past' now' : Valuation) (held : Env) → Agrees u past now args x.known held → Agrees u past' now' args (known_first t) held
+  stays : (x : RegionEnd) → Courses.EndFine u g r x → (to_head : Bool) (parts : List Part) (timed : Bool) → x.way ≡ rows.waits (head_of t.blocks) to_head parts timed
+      → (args : List Range) (past now past' now' : Valuation) (held : Env) → Agrees u past now args x.known held → Agrees u past' now' args (known_first t) held
   stays x fine to_head parts timed way args past now past' now' held sh =
       let j = subst (λ w. WayRight u g w x.from x.known) way fine.way in
-      let e1 : Edge = edge_into (head_of t.blocks) x.from (bit_of true) x.known in
+      let e1 : RegionEdge = edge_into (head_of t.blocks) x.from (bit_of true) x.known in
       let same : j.0 ≡ hb = same_Some j.0 hb (sym j.1.at ∙ head-at.at) in
       let joined : JoinEdge u (as_block hb) e1 = subst (λ (b : FlatBlockText). JoinEdge u (as_block b) e1) same (j.2 e1 refl refl (bit-condition true)) in
       Start.held-again name t f plain (mean past now) (mean past' now') (range_in args) x.known held (λ d. refl) (λ d. refl) joined.known joined.there sh
 
-  pub stays-known : (x : End) → Among x c.rows.ends → (to_head : Bool) (parts : List Part) (timed : Bool) → x.way ≡ rows.waits (head_of t.blocks) to_head parts timed → (args : List Range) (past now past' now' : Valuation) (held : Env) → Agrees u past now args x.known held → Agrees u past' now' args (known_first t) held
+  pub stays-known : (x : RegionEnd) → Among x c.rows.ends → (to_head : Bool) (parts : List Part) (timed : Bool) → x.way ≡ rows.waits (head_of t.blocks) to_head parts timed
+      → (args : List Range) (past now past' now' : Valuation) (held : Env) → Agrees u past now args x.known held → Agrees u past' now' args (known_first t) held
   stays-known x a = stays x (in-each (Courses.EndFine u g r) c.rows.ends x first-fine.ends a)
 
   pub rows-typed : Each DriveTyped c.rows.drives × Each (EndTyped u) c.rows.ends
@@ -237,7 +251,8 @@ pub again-from-head : AgainFromHead
 again-from-head name t args s i probe past now pr c e st w bound h = again-runs name t i.formed i.plain probe pr.typed c e s args past now pr.past_fits pr.now_fits pr.means st w bound h
 
 pub head-stays-known : HeadStaysKnown
-head-stays-known name t f plain probe pt c e x a to_head parts timed way args past now past' now' held sh = stays-known name t f plain probe pt c e x a to_head parts timed way args past now past' now' held sh
+head-stays-known name t f plain probe pt c e x a to_head parts timed way args past now past' now' held sh = stays-known name t f plain probe pt c e x a to_head parts timed way args past now past' now'
+    held sh
 
 pub rows-are-typed : RowsAreTyped
 rows-are-typed name t f plain probe pt c e = rows-typed name t f plain probe pt c e

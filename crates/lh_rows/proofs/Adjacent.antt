@@ -89,7 +89,8 @@ put-both [] t i j a b h = rw (key-above t i j h, key-below t i j h) refl
 put-both (e ∷ es) t i j a b h = by (due_bit_cmp (key t i) e.0) refl (due_bit_cmp (key t j) e.0) refl (put-both es t i j a b h)
   where
     by : (o : Ordering) → due_bit_cmp (key t i) e.0 ≡ o → (r : Ordering) → due_bit_cmp (key t j) e.0 ≡ r → put (put es (key t i) a) (key t j) b ≡ put (put es (key t j) b) (key t i) a
-        → put (match_ordering o ((key t i, a) ∷ e ∷ es) ((e.0, a) ∷ es) (e ∷ put es (key t i) a)) (key t j) b ≡ put (match_ordering r ((key t j, b) ∷ e ∷ es) ((e.0, b) ∷ es) (e ∷ put es (key t j) b)) (key t i) a
+        → put (match_ordering o ((key t i, a) ∷ e ∷ es) ((e.0, a) ∷ es) (e ∷ put es (key t i) a)) (key t j) b
+        ≡ put (match_ordering r ((key t j, b) ∷ e ∷ es) ((e.0, b) ∷ es) (e ∷ put es (key t j) b)) (key t i) a
     by Less q Less r ih = rw (key-above t i j h, key-below t i j h, r) refl
     by Less q Equal r ih = rw (key-above t i j h, r, q) refl
     by Less q Greater r ih = rw (key-above t i j h, r, q) refl
@@ -121,7 +122,8 @@ drive-twice w (Some t) lo as' bs h = bits-twice w t lo as' bs h
 -- ---- the drives
 
 both-one : (w : Wish) (x y : Bool) (due : Option Instant) (lo : ℕ) (va vb vc : List Bool) → length va ≡ length vb → ((x || y) ≡ true → vc ≡ (if y then vb else va))
-    → (if y then wishes.with_drive (if x then wishes.with_drive w due lo va else w) due lo vb else (if x then wishes.with_drive w due lo va else w)) ≡ (if x || y then wishes.with_drive w due lo vc else w)
+    → (if y then wishes.with_drive (if x then wishes.with_drive w due lo va else w) due lo vb else (if x then wishes.with_drive w due lo va else w))
+    ≡ (if x || y then wishes.with_drive w due lo vc else w)
 both-one w true true due lo va vb vc h e = drive-twice w due lo va vb h ∙ ap (wishes.with_drive w due lo) (sym (e refl))
 both-one w true false due lo va vb vc h e = ap (wishes.with_drive w due lo) (sym (e refl))
 both-one w false true due lo va vb vc h e = ap (wishes.with_drive w due lo) (sym (e refl))
@@ -136,12 +138,16 @@ adjacent-drives-merge past now p n args at w a b ta tb part delay =
     let cond : is_one (mean past now merged.cond) ≡ x || y = or-one past now p n a.cond b.cond ta.cond tb.cond in
     let fa : FitsType (mean past now a.value) a.part.ty = subst (FitsType (mean past now a.value)) ta.value.type (mean_fits past now p n a.value ta.value.typed) in
     let fb : FitsType (mean past now b.value) a.part.ty = subst (FitsType (mean past now b.value)) vb.type (mean_fits past now p n b.value vb.typed) in
-    let long : length (value_bits (mean past now a.value)) ≡ length (value_bits (mean past now b.value)) = length-value_bits (mean past now a.value) a.part.ty fa ∙ sym (length-value_bits (mean past now b.value) a.part.ty fb) in
+    let long : length (value_bits (mean past now a.value)) ≡ length (value_bits (mean past now b.value)) = length-value_bits (mean past now a.value) a.part.ty fa
+    ∙ sym (length-value_bits (mean past now b.value) a.part.ty fb) in
     let value : x || y ≡ true → value_bits (mean past now merged.value) ≡ (if y then value_bits (mean past now b.value) else value_bits (mean past now a.value)) = λ h.
     let s = beyond-one past now p n a.cond b.cond ta.cond tb.cond h in
     ap value_bits (choose past now p n (beyond a.cond b.cond) a.value b.value a.part.ty (beyond-condition a.cond b.cond tb.cond) ta.value vb y s) ∙ split y in
-    (λ i. if y then wishes.with_drive (if x then wishes.with_drive w (due_by at (mean past now a.delay)) (range_in args a.part).lo (value_bits (mean past now a.value)) else w) (due_by at (mean past now (delay i))) (range_in args (part i)).lo (value_bits (mean past now b.value)) else (if x then wishes.with_drive w (due_by at (mean past now a.delay)) (range_in args a.part).lo (value_bits (mean past now a.value)) else w))
-    ∙ both-one w x y (due_by at (mean past now a.delay)) (range_in args a.part).lo (value_bits (mean past now a.value)) (value_bits (mean past now b.value)) (value_bits (mean past now merged.value)) long value
+    (λ i. if y then wishes.with_drive (if x then wishes.with_drive w (due_by at (mean past now a.delay)) (range_in args a.part).lo (value_bits (mean past now a.value)) else w)
+    (due_by at (mean past now (delay i))) (range_in args (part i)).lo
+    (value_bits (mean past now b.value)) else (if x then wishes.with_drive w (due_by at (mean past now a.delay)) (range_in args a.part).lo (value_bits (mean past now a.value)) else w))
+    ∙ both-one w x y (due_by at (mean past now a.delay)) (range_in args a.part).lo (value_bits (mean past now a.value)) (value_bits (mean past now b.value)) (value_bits (mean past now merged.value))
+    long value
     ∙ ap (λ c. if c then wishes.with_drive w (due_by at (mean past now a.delay)) (range_in args a.part).lo (value_bits (mean past now merged.value)) else w) (sym cond)
   where
     split : (y : Bool) → value_bits (if y then mean past now b.value else mean past now a.value) ≡ (if y then value_bits (mean past now b.value) else value_bits (mean past now a.value))

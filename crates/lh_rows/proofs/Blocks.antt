@@ -40,11 +40,11 @@ use Rattle.lh_term.specs.Make.{make_operation}
 use Rattle.lh_term.specs.declared.part.Part.{Part}
 use Rattle.lh_term.proofs.Typing.{mean_fits}
 use Rattle.lh_rows.specs.Known.{Knowledge, value_known, parts_known}
-use Rattle.lh_rows.specs.Rows.{halts, waits, End}
-use Rattle.lh_rows.specs.Joins.{Place, Edge}
+use Rattle.lh_rows.specs.Rows.{halts, waits, RegionEnd}
+use Rattle.lh_rows.specs.Joins.{RegionPlace, RegionEdge}
 use Rattle.lh_rows.specs.Places.{Region, Here, Midst, block_number, both, leads, branches, wait_way, ends_if, takes, takes_all}
 use Rattle.lh_rows.specs.Typed.{KnowsTyped, KnowsThere, IsCondition}
-use Rattle.lh_rows.specs.Means.{range_in, reads, Shows, with_rows}
+use Rattle.lh_rows.specs.Means.{range_in, reads, KnownIsHeld, with_rows}
 use Rattle.lh_rows.specs.Right.{as_block, BlockAt, PhisGiven, JoinsAt}
 use Rattle.lh_rows.proofs.Sites.{Site, site-at}
 use Rattle.lh_rows.proofs.Merging.{one, mean-bit, and-one, not-one, not-condition}
@@ -76,20 +76,21 @@ test-bit true = refl
 test-bit false = refl
 
 module _ (u : UnitText) (g : Region) (r : RegionOf u g) (i : ℕ) (b : FlatBlockText) (bat : BlockAt g.blocks i b) (h : Here) (hl : h.label ≡ b.label) (hc : IsCondition h.cond)
-    (s : Scene) (args : List Range) (past now : Valuation) (p : IsFitting past) (n : IsFitting now) (probe : (x : Part) → mean past now (g.probe x) ≡ reads args s.now x) (more : List Place) where
+    (s : Scene) (args : List Range) (past now : Valuation) (p : IsFitting past) (n : IsFitting now) (probe : (x : Part) → mean past now (g.probe x) ≡ reads args s.now x)
+    (more : List RegionPlace) where
   abbrev v : Tree → Datum
   v = mean past now
 
   abbrev shows : Knowledge → Env → Type 0
-  shows = Shows u v (range_in args)
+  shows = KnownIsHeld u v (range_in args)
 
   abbrev true-here : Tree → Bool
   true-here = one past now p n
 
-  abbrev NoLive : List Edge → Type 0
+  abbrev NoLive : List RegionEdge → Type 0
   NoLive es = Living.NoLive u args past now more es
 
-  abbrev NoEnd : List End → Type 0
+  abbrev NoEnd : List RegionEnd → Type 0
   NoEnd xs = Living.NoEnd u args past now xs
 
   abbrev pub Left : Midst → Env → Type 0
@@ -108,8 +109,10 @@ module _ (u : UnitText) (g : Region) (r : RegionOf u g) (i : ℕ) (b : FlatBlock
     drives : m'.rows.drives ≡ m.rows.drives
     asserts : m'.rows.asserts ≡ m.rows.asserts
 
-  module _ (before : List LineText) (l : LineText) (after : List LineText) (split : with_merge b.merge b.lines ≡ before ++ l ∷ after) (site : Site u (as_block b) before l after) (last : is_terminator l.inst ≡ true)
-      (m : Midst) (typed : KnowsTyped u m.known) (there : KnowsThere u (as_block b) before m.known) (e : Env) (sh : shows m.known e) (w : Wish) (o : List Bool) (reached : true-here h.cond ≡ true) (none : NoLive m.edges) (clear : NoEnd m.rows.ends) where
+  module _ (before : List LineText) (l : LineText) (after : List LineText) (split : with_merge b.merge b.lines ≡ before ++ l ∷ after) (site : Site u (as_block b) before l after)
+      (last : is_terminator l.inst ≡ true)
+      (m : Midst) (typed : KnowsTyped u m.known) (there : KnowsThere u (as_block b) before m.known) (e : Env) (sh : shows m.known e) (w : Wish) (o : List Bool) (reached : true-here h.cond ≡ true)
+      (none : NoLive m.edges) (clear : NoEnd m.rows.ends) where
     abbrev Operands : InstText → Type 0
     Operands j = OperandsThere kind.Proc u (place-at site.number site.entry (as_block b) before l after) j
 
@@ -141,11 +144,13 @@ module _ (u : UnitText) (g : Region) (r : RegionOf u g) (i : ℕ) (b : FlatBlock
         let en = Leaving.enters u g r i b bat h hl hc s args past now p n more t.number m.known e j sh in
         record { target = t; entered = en; label = ap (λ (x : FlatBlockText). x.label) (same_Some en.block t.block (sym en.at.at ∙ t.at.at)) ∙ t.label }
 
-    entered-is : (to : List ℕ) (x : Into to) → machine.entered u e b.label to ≡ Some (record { unit = u; block = x.entered.block.label; rest = with_merge x.entered.block.merge x.entered.block.lines; held = x.entered.held })
+    entered-is : (to : List ℕ) (x : Into to) → machine.entered u e b.label to
+        ≡ Some (record { unit = u; block = x.entered.block.label; rest = with_merge x.entered.block.merge x.entered.block.lines; held = x.entered.held })
     entered-is to x = Leaving.entered-is u g r i b bat h hl hc s args past now p n more to x.target.number e x.entered x.label
 
     -- led by a condition that holds
-    ended-by : (c : Tree) (m1 : Midst) (to : List ℕ) (x : Into to) → LedHere c m1 x.target.number (leads g h c to m1) → true-here c ≡ true → NoLive m1.edges → NoEnd m1.rows.ends → shows m1.known e → step s (point e (l ∷ after) w o) ≡ machine.jumps here (machine.entered u e b.label to)
+    ended-by : (c : Tree) (m1 : Midst) (to : List ℕ) (x : Into to) → LedHere c m1 x.target.number (leads g h c to m1) → true-here c ≡ true → NoLive m1.edges → NoEnd m1.rows.ends → shows m1.known e
+        → step s (point e (l ∷ after) w o) ≡ machine.jumps here (machine.entered u e b.label to)
         → (y : Left (leads g h c to m1) e) × ((k : ℕ) → run (suc k) s (point e (l ∷ after) w o) ≡ goes_on (leads g h c to m1) e y w o k)
     ended-by c m1 to x d t a z sh1 go =
         let y = Leaving.led-taken u g r i b bat h hl hc s args past now p n more before l split' last m.known typed there c m1 x.target.number (leads g h c to m1) d t a z e sh1 x.entered in
@@ -174,13 +179,16 @@ module _ (u : UnitText) (g : Region) (r : RegionOf u g) (i : ℕ) (b : FlatBlock
     branch-goes : (c first second : List ℕ) → l.inst ≡ branch_text c first second → IsOf u bit c → (t : Tree) → value_known m.known c ≡ Some t → IsCondition t → (d : Bool) → true-here t ≡ d
         → step s (point e (l ∷ after) w o) ≡ machine.jumps here (option_and_then (machine.entered u e b.label) (machine.chosen (Some d) first second))
     branch-goes c first second q row t kn ct d f =
-        let tested : test_at e c ≡ Some d = ap (option_and_then as_test) (datum-shown u v (range_in args) m.known e sh c bit t row kn) ∙ ap as_test (mean-bit past now p n t ct) ∙ test-bit (true-here t) ∙ ap Some f in
+        let tested : test_at e c ≡ Some d = ap (option_and_then as_test) (datum-shown u v (range_in args) m.known e sh c bit t row kn) ∙ ap as_test (mean-bit past now p n t ct)
+        ∙ test-bit (true-here t) ∙ ap Some f in
         step-is (branch_text c first second) q ∙ ap (λ y. machine.jumps here (option_and_then (machine.entered u e b.label) (machine.chosen y first second))) tested
 
-    branch-second : (first second : List ℕ) (t : Tree) → IsCondition t → Into first → Into second → true-here t ≡ true → step s (point e (l ∷ after) w o) ≡ machine.jumps here (machine.entered u e b.label second)
+    branch-second : (first second : List ℕ) (t : Tree) → IsCondition t → Into first → Into second → true-here t ≡ true
+        → step s (point e (l ∷ after) w o) ≡ machine.jumps here (machine.entered u e b.label second)
         → Ended l after e w o m (leads g h (both h.cond t) second (leads g h (not-first t) first m))
     branch-second first second t ct z0 z1 f go =
-        let n0 : true-here (not-first t) ≡ false = and-one past now p n h.cond (make_operation Not (t ∷ [])) hc (not-condition t ct) ∙ ap (λ x. x && true-here (make_operation Not (t ∷ []))) reached ∙ not-one past now p n t ct ∙ ap not f in
+        let n0 : true-here (not-first t) ≡ false = and-one past now p n h.cond (make_operation Not (t ∷ [])) hc (not-condition t ct) ∙ ap (λ x. x && true-here (make_operation Not (t ∷ []))) reached
+        ∙ not-one past now p n t ct ∙ ap not f in
         let n1 : true-here (both h.cond t) ≡ true = and-one past now p n h.cond t hc ct ∙ ap (λ x. x && true-here t) reached ∙ f in
         let d0 = led (not-first t) m first z0 in
         let d1 = led (both h.cond t) (leads g h (not-first t) first m) second z1 in
@@ -190,10 +198,12 @@ module _ (u : UnitText) (g : Region) (r : RegionOf u g) (i : ℕ) (b : FlatBlock
         let y = ended-by (both h.cond t) (leads g h (not-first t) first m) second z1 d1 n1 (un.0 none) (un.1 clear) (subst (λ k. shows k e) (sym un.2) sh) go in
         record { left = y.0; runs = y.1; drives = a1.0 ∙ a0.0; asserts = a1.1 ∙ a0.1 }
 
-    branch-first : (first second : List ℕ) (t : Tree) → IsCondition t → Into first → Into second → true-here t ≡ false → step s (point e (l ∷ after) w o) ≡ machine.jumps here (machine.entered u e b.label first)
+    branch-first : (first second : List ℕ) (t : Tree) → IsCondition t → Into first → Into second → true-here t ≡ false
+        → step s (point e (l ∷ after) w o) ≡ machine.jumps here (machine.entered u e b.label first)
         → Ended l after e w o m (leads g h (both h.cond t) second (leads g h (not-first t) first m))
     branch-first first second t ct z0 z1 f go =
-        let n0 : true-here (not-first t) ≡ true = and-one past now p n h.cond (make_operation Not (t ∷ [])) hc (not-condition t ct) ∙ ap (λ x. x && true-here (make_operation Not (t ∷ []))) reached ∙ not-one past now p n t ct ∙ ap not f in
+        let n0 : true-here (not-first t) ≡ true = and-one past now p n h.cond (make_operation Not (t ∷ [])) hc (not-condition t ct) ∙ ap (λ x. x && true-here (make_operation Not (t ∷ []))) reached
+        ∙ not-one past now p n t ct ∙ ap not f in
         let n1 : true-here (both h.cond t) ≡ false = and-one past now p n h.cond t hc ct ∙ ap (λ x. x && true-here t) reached ∙ f in
         let m1 : Midst = leads g h (not-first t) first m in
         let m2 : Midst = leads g h (both h.cond t) second m1 in
@@ -201,25 +211,28 @@ module _ (u : UnitText) (g : Region) (r : RegionOf u g) (i : ℕ) (b : FlatBlock
         let d1 = led (both h.cond t) (leads g h (not-first t) first m) second z1 in
         let a0 = led-drives (not-first t) m z0.target.number (leads g h (not-first t) first m) d0 in
         let a1 = led-drives (both h.cond t) (leads g h (not-first t) first m) z1.target.number (leads g h (both h.cond t) second (leads g h (not-first t) first m)) d1 in
-        let un = Leaving.untaken u g r i b bat h hl hc s args past now p n more before l split' last m.known typed there (both h.cond t) (leads g h (not-first t) first m) z1.target.number (leads g h (both h.cond t) second (leads g h (not-first t) first m)) d1 n1 in
+        let un = Leaving.untaken u g r i b bat h hl hc s args past now p n more before l split' last m.known typed there (both h.cond t) (leads g h (not-first t) first m) z1.target.number
+        (leads g h (both h.cond t) second (leads g h (not-first t) first m)) d1 n1 in
         let y = ended-by (not-first t) m first z0 d0 n0 none clear sh go in
         let z = Leaving.left-more u g r i b bat h hl hc s args past now p n more m1 m2 e y.0 un.0 un.3 un.1 un.4 in
         record { left = z.0; runs = λ k. y.1 k ∙ sym (z.1 w o k); drives = a1.0 ∙ a0.0; asserts = a1.1 ∙ a0.1 }
 
-    branch-ended : (c first second : List ℕ) → l.inst ≡ branch_text c first second → RowIs u (branch_text c first second) → Operands (branch_text c first second) → Labels (branch_text c first second) → Ended l after e w o m (takes g h (branch_text c first second) l.result m)
+    branch-ended : (c first second : List ℕ) → l.inst ≡ branch_text c first second → RowIs u (branch_text c first second) → Operands (branch_text c first second) → Labels (branch_text c first second)
+        → Ended l after e w o m (takes g h (branch_text c first second) l.result m)
     branch-ended c first second q row k x =
         let t = Taking.bit-known u g r i b bat h hl hc before l after site m typed there c row k.0 in
         let z0 = into first (ap (λ j. list_any (λ m. same_name m first) (leads_to j)) q ∙ first-name first (second ∷ [])) x.0 in
         let z1 = into second (ap (λ j. list_any (λ m. same_name m second) (leads_to j)) q ∙ second-name first second) x.1.0 in
         subst (λ y. Ended l after e w o m (branches g h y first second m)) (sym t.1) (by t.0 t.1 t.2 z0 z1 (true-here t.0) refl)
       where
-        by : (t : Tree) → value_known m.known c ≡ Some t → IsCondition t → Into first → Into second → (d : Bool) → true-here t ≡ d → Ended l after e w o m (leads g h (both h.cond t) second (leads g h (not-first t) first m))
+        by : (t : Tree) → value_known m.known c ≡ Some t → IsCondition t → Into first → Into second → (d : Bool) → true-here t ≡ d
+            → Ended l after e w o m (leads g h (both h.cond t) second (leads g h (not-first t) first m))
         by t kn ct z0 z1 true f = branch-second first second t ct z0 z1 f (branch-goes c first second q row t kn ct true f)
         by t kn ct z0 z1 false f = branch-first first second t ct z0 z1 f (branch-goes c first second q row t kn ct false f)
 
     halt-ended : l.inst ≡ halt_text → Ended l after e w o m (takes g h halt_text l.result m)
     halt-ended q =
-        let x : End = record { cond = h.cond; way = halts; from = h.label; known = m.known } in
+        let x : RegionEnd = record { cond = h.cond; way = halts; from = h.label; known = m.known } in
         record {
           left = Leaving.stops machine.halted none x (Living.new-end u args past now m.rows.ends x clear reached) refl refl sh;
           runs = λ k. ap (λ y. went y (run k s)) (step-is halt_text q);
@@ -228,7 +241,8 @@ module _ (u : UnitText) (g : Region) (r : RegionOf u g) (i : ℕ) (b : FlatBlock
         }
 
     -- the parts of a `wait` are known, and held
-    signals-known : (ns : List (List ℕ)) → Each (HasTypeOfKind u) (map (used signal_needed) ns) → Each (IsThere u (as_block b) before) (map (λ (x : Use). x.value) (map (used signal_needed) ns)) → (ps : List Part) × (parts_known m.known ns ≡ Some ps) × Each (IsOfSome u) ns
+    signals-known : (ns : List (List ℕ)) → Each (HasTypeOfKind u) (map (used signal_needed) ns) → Each (IsThere u (as_block b) before) (map (λ (x : Use). x.value) (map (used signal_needed) ns))
+        → (ps : List Part) × (parts_known m.known ns ≡ Some ps) × Each (IsOfSome u) ns
     signals-known [] a c = ([], refl, tt)
     signals-known (x ∷ ns) a c =
         let t = signal-of u x a.0 in
@@ -236,7 +250,8 @@ module _ (u : UnitText) (g : Region) (r : RegionOf u g) (i : ℕ) (b : FlatBlock
         let ys = signals-known ns a.1 c.1 in
         (y.0 ∷ ys.0, ap (λ z. front z (parts_known m.known ns)) y.1 ∙ ap (front (Some y.0)) ys.1, ((signal_type t.0, t.1), ys.2))
 
-    wake-known : (after' : Option (List ℕ)) → MayBeOf u time_type after' → Each (IsThere u (as_block b) before) (map (λ (x : Use). x.value) (maybe_used time_needed after')) → (wake : Option Instant) × (machine.wake_at s.at e after' ≡ Some wake) × (is_some after' ≡ false → wake ≡ None)
+    wake-known : (after' : Option (List ℕ)) → MayBeOf u time_type after' → Each (IsThere u (as_block b) before) (map (λ (x : Use). x.value) (maybe_used time_needed after')) → (wake : Option Instant)
+        × (machine.wake_at s.at e after' ≡ Some wake) × (is_some after' ≡ false → wake ≡ None)
     wake-known None a c = (None, refl, λ z. refl)
     wake-known (Some x) a c =
         let t = value-known u m.known typed x time_type a refl (there x time_type a (λ z. cc) c.0) in
@@ -244,16 +259,18 @@ module _ (u : UnitText) (g : Region) (r : RegionOf u g) (i : ℕ) (b : FlatBlock
         let held : delay_at e x ≡ Some d.0 = ap (option_and_then as_delay) (datum-shown u v (range_in args) m.known e sh x time_type t.0 a t.1) ∙ d.1 in
         (due_of s.at d.0, ap (option_map (due_of s.at)) held, λ z. absurd (false≢true (sym z)))
 
-    wait-ended : (to : List ℕ) (after' : Option (List ℕ)) (on : List (List ℕ)) → l.inst ≡ wait_text to after' on → RowIs u (wait_text to after' on) → Operands (wait_text to after' on) → Labels (wait_text to after' on) → Each (HasTypeOfKind u) (uses (wait_text to after' on)) → Ended l after e w o m (takes g h (wait_text to after' on) l.result m)
+    wait-ended : (to : List ℕ) (after' : Option (List ℕ)) (on : List (List ℕ)) → l.inst ≡ wait_text to after' on → RowIs u (wait_text to after' on) → Operands (wait_text to after' on)
+        → Labels (wait_text to after' on) → Each (HasTypeOfKind u) (uses (wait_text to after' on)) → Ended l after e w o m (takes g h (wait_text to after' on) l.result m)
     wait-ended to after' on q row k x c =
         let t = target u g r i b bat h hl to x.0 in
-        let k' : Each (IsThere u (as_block b) before) (map (λ (x : Use). x.value) (maybe_used time_needed after') ++ map (λ (x : Use). x.value) (map (used signal_needed) on)) = subst (Each (IsThere u (as_block b) before)) (map-append (λ (x : Use). x.value) (maybe_used time_needed after') (map (used signal_needed) on)) k in
+        let k' : Each (IsThere u (as_block b) before) (map (λ (x : Use). x.value) (maybe_used time_needed after') ++ map (λ (x : Use). x.value) (map (used signal_needed) on)) = subst
+        (Each (IsThere u (as_block b) before)) (map-append (λ (x : Use). x.value) (maybe_used time_needed after') (map (used signal_needed) on)) k in
         let ks = each-split (IsThere u (as_block b) before) (map (λ (x : Use). x.value) (maybe_used time_needed after')) (map (λ (x : Use). x.value) (map (used signal_needed) on)) k' in
         let cs = each-split (HasTypeOfKind u) (maybe_used time_needed after') (map (used signal_needed) on) c in
         let ps = signals-known on cs.1 ks.1 in
         let wake = wake-known after' row ks.0 in
         let parts = parts-shown u v (range_in args) m.known e sh on ps.0 ps.2 ps.1 in
-        let y : End = record { cond = h.cond; way = waits t.number (nat_eq t.number g.head) ps.0 (is_some after'); from = h.label; known = m.known } in
+        let y : RegionEnd = record { cond = h.cond; way = waits t.number (nat_eq t.number g.head) ps.0 (is_some after'); from = h.label; known = m.known } in
         let st : Stand = machine.waits b.label to (map (range_in args) ps.0) wake.0 in
         let stood : machine.waiting b.label to (parts_at e on) (machine.wake_at s.at e after') ≡ Some st = λ j. machine.waiting b.label to (parts j) (wake.1 j) in
         let way : wait_way g (is_some after') (block_number to g.blocks) (parts_known m.known on) ≡ Some y.way = λ j. wait_way g (is_some after') (t.is j) (ps.1 j) in
@@ -269,7 +286,8 @@ module _ (u : UnitText) (g : Region) (r : RegionOf u g) (i : ℕ) (b : FlatBlock
     ended : Ended l after e w o m (takes g h l.inst l.result m)
     ended = by l.inst refl last site.sound.row site.calls site.there site.leads site.kinds
       where
-        by : (j : InstText) → l.inst ≡ j → is_terminator j ≡ true → RowIs u j → IsWithoutCalls u j → Operands j → Labels j → Each (HasTypeOfKind u) (uses j) → Ended l after e w o m (takes g h j l.result m)
+        by : (j : InstText) → l.inst ≡ j → is_terminator j ≡ true → RowIs u j → IsWithoutCalls u j → Operands j → Labels j → Each (HasTypeOfKind u) (uses j)
+            → Ended l after e w o m (takes g h j l.result m)
         by (br_text to) q t row c k x y = br-ended to q x
         by (branch_text f first second) q t row c k x y = branch-ended f first second q row k x
         by (wait_text to after' on) q t row c k x y = wait-ended to after' on q row k x y
@@ -297,20 +315,24 @@ module _ (u : UnitText) (g : Region) (r : RegionOf u g) (i : ℕ) (b : FlatBlock
   one-more : (x k : ℕ) → suc x + k ≡ suc (x + k)
   one-more x k = omega arith
 
-  pub lines-run : (before ls : List LineText) → with_merge b.merge b.lines ≡ before ++ ls → (ls ≡ [] → ⊥) → (m : Midst) → KnowsTyped u m.known → KnowsThere u (as_block b) before m.known → PhisGiven m.known ls → (e : Env) → shows m.known e → (w : Wish) (o : List Bool) → true-here h.cond ≡ true → NoLive m.edges → NoEnd m.rows.ends
+  pub lines-run : (before ls : List LineText) → with_merge b.merge b.lines ≡ before ++ ls → (ls ≡ [] → ⊥) → (m : Midst) → KnowsTyped u m.known → KnowsThere u (as_block b) before m.known
+      → PhisGiven m.known ls → (e : Env) → shows m.known e → (w : Wish) (o : List Bool) → true-here h.cond ≡ true → NoLive m.edges → NoEnd m.rows.ends
       → Ran ls e w o m (takes_all g h ls m)
   lines-run before [] split full m typed there ph e sh w o reached none clear = absurd (full refl)
   lines-run before (l ∷ ls) split full m typed there ph e sh w o reached none clear =
-      by (is_terminator l.inst) refl (site-at u r.formed i (as_block b) before l ls (text-at u g r i b bat h hl i b bat) split) (lines-run (before ++ l ∷ []) ls (split ∙ sym (append_assoc before (l ∷ []) ls)))
+      by (is_terminator l.inst) refl (site-at u r.formed i (as_block b) before l ls (text-at u g r i b bat h hl i b bat) split)
+      (lines-run (before ++ l ∷ []) ls (split ∙ sym (append_assoc before (l ∷ []) ls)))
     where
       inner : is_terminator l.inst ≡ false → (site : Site u (as_block b) before l ls)
-          → ((ls ≡ [] → ⊥) → (m : Midst) → KnowsTyped u m.known → KnowsThere u (as_block b) (before ++ l ∷ []) m.known → PhisGiven m.known ls → (e : Env) → shows m.known e → (w : Wish) (o : List Bool) → true-here h.cond ≡ true → NoLive m.edges → NoEnd m.rows.ends → Ran ls e w o m (takes_all g h ls m))
+          → ((ls ≡ [] → ⊥) → (m : Midst) → KnowsTyped u m.known → KnowsThere u (as_block b) (before ++ l ∷ []) m.known → PhisGiven m.known ls → (e : Env) → shows m.known e → (w : Wish) (o : List Bool)
+          → true-here h.cond ≡ true → NoLive m.edges → NoEnd m.rows.ends → Ran ls e w o m (takes_all g h ls m))
           → Ran (l ∷ ls) e w o m (takes_all g h (l ∷ ls) m)
       inner t site go =
           let m1 : Midst = takes g h l.inst l.result m in
           let d = Leading.takes-took u g r i b bat h hl hc before l ls split site m typed there ph.0 in
           let x = Executing.executed u g r i b bat h hl hc s args past now p n probe before l ls site m typed there e sh w o reached t in
-          let f = go (site.more t) m1 d.typed d.there (phis-more m.known m1.known ls d.stays ph.1) x.held x.shown x.wish x.outcomes reached (subst NoLive (sym x.edges) none) (subst NoEnd (sym x.ends) clear) in
+          let f = go (site.more t) m1 d.typed d.there (phis-more m.known m1.known ls d.stays ph.1) x.held x.shown x.wish x.outcomes reached (subst NoLive (sym x.edges) none)
+          (subst NoEnd (sym x.ends) clear) in
           record {
             steps = suc f.steps;
             within = omega (arith, f.within);
@@ -342,7 +364,8 @@ module _ (u : UnitText) (g : Region) (r : RegionOf u g) (i : ℕ) (b : FlatBlock
           zero-more k = omega arith
 
       by : (t : Bool) → is_terminator l.inst ≡ t → Site u (as_block b) before l ls
-          → ((ls ≡ [] → ⊥) → (m : Midst) → KnowsTyped u m.known → KnowsThere u (as_block b) (before ++ l ∷ []) m.known → PhisGiven m.known ls → (e : Env) → shows m.known e → (w : Wish) (o : List Bool) → true-here h.cond ≡ true → NoLive m.edges → NoEnd m.rows.ends → Ran ls e w o m (takes_all g h ls m))
+          → ((ls ≡ [] → ⊥) → (m : Midst) → KnowsTyped u m.known → KnowsThere u (as_block b) (before ++ l ∷ []) m.known → PhisGiven m.known ls → (e : Env) → shows m.known e → (w : Wish) (o : List Bool)
+          → true-here h.cond ≡ true → NoLive m.edges → NoEnd m.rows.ends → Ran ls e w o m (takes_all g h ls m))
           → Ran (l ∷ ls) e w o m (takes_all g h (l ∷ ls) m)
       by true t site go = last t site
       by false t site go = inner t site go

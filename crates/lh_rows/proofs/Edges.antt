@@ -22,14 +22,15 @@ use Rattle.lh_formed.proofs.AtPlaces.{place-at}
 use Rattle.lh_formed.proofs.There.{there-after, last-leads}
 use Rattle.lh_inlined.specs.Formed.{IsFormed, IsOne, PhiFormed}
 use Rattle.lh_rows.specs.Known.{Knowledge, value_known}
-use Rattle.lh_rows.specs.Joins.{Edge}
+use Rattle.lh_rows.specs.Joins.{RegionEdge}
 use Rattle.lh_rows.specs.Typed.{KnowsTyped, KnowsThere, IsCondition, PhiKnown, JoinEdge}
 use Rattle.lh_rows.proofs.Sites.{Site, site-at, block-at, not-result}
 use Rattle.lh_rows.proofs.Knowing.{there-past}
 use Rattle.lh_rows.proofs.Operations.{value-known}
 
 -- an edge that is named is found
-edge-found : (P : EdgeText → Type 0) (from : List ℕ) (es : List EdgeText) → Each P es → (e : EdgeText) → IsOne es e → e.block ≡ from → (x : EdgeText) × P x × (x.block ≡ from) × (edge_from from es ≡ Some x.value)
+edge-found : (P : EdgeText → Type 0) (from : List ℕ) (es : List EdgeText) → Each P es → (e : EdgeText) → IsOne es e → e.block ≡ from → (x : EdgeText) × P x × (x.block ≡ from)
+    × (edge_from from es ≡ Some x.value)
 edge-found P from [] h e o q = elim o [ ]
 edge-found P from (x ∷ es) h e o q = at (same_name x.block from) refl o (λ m. edge-found P from es h.1 e m q)
   where
@@ -53,8 +54,10 @@ terminator-gives _ t e r = absurd cc
 pub value-no-void : (t : TypeTree) → is_value_type t ≡ true → t ≡ void_type → ⊥
 value-no-void t v e = let q : is_value_type void_type ≡ true = sym (ap is_value_type e) ∙ v in cc
 
-module _ (u : UnitText) (f : IsFormed u) (i : ℕ) (from : List ℕ) (text : BlockText) (at : slice_get u.blocks i ≡ Some text) (named : block_of from u.blocks ≡ Some text) (label : text.label ≡ Some from)
-    (before : List LineText) (l : LineText) (split : text.lines ≡ before ++ l ∷ []) (ends : is_terminator l.inst ≡ true) (k : Knowledge) (typed : KnowsTyped u k) (there : KnowsThere u text before k) where
+module _ (u : UnitText) (f : IsFormed u) (i : ℕ) (from : List ℕ) (text : BlockText) (at : slice_get u.blocks i ≡ Some text) (named : block_of from u.blocks ≡ Some text)
+    (label : text.label ≡ Some from)
+    (before : List LineText) (l : LineText) (split : text.lines ≡ before ++ l ∷ []) (ends : is_terminator l.inst ≡ true) (k : Knowledge) (typed : KnowsTyped u k)
+    (there : KnowsThere u text before k) where
   -- at the end of the block what is there is known
   pub end-known : KnowsThere u text text.lines k
   end-known =
@@ -64,7 +67,8 @@ module _ (u : UnitText) (f : IsFormed u) (i : ℕ) (from : List ℕ) (text : Blo
       clash : (n : List ℕ) (t : TypeTree) → value_type u n ≡ Some t → is_result_name n l.result ≡ true → Site u text before l [] → ⊥
       clash n t v q s = let z = not-result u l s.sound n t v (terminator-gives l.inst t ends) in cc
 
-  module _ (to : List ℕ) (j : ℕ) (b : BlockText) (here : slice_get u.blocks j ≡ Some b) (stands : block_of to u.blocks ≡ Some b) (called : b.label ≡ Some to) (leads : list_any (λ m. same_name m to) (leads_to l.inst) ≡ true) where
+  module _ (to : List ℕ) (j : ℕ) (b : BlockText) (here : slice_get u.blocks j ≡ Some b) (stands : block_of to u.blocks ≡ Some b) (called : b.label ≡ Some to)
+      (leads : list_any (λ m. same_name m to) (leads_to l.inst) ≡ true) where
     label-is : label_or b.label ≡ to
     label-is = ap label_or called
 
@@ -74,7 +78,7 @@ module _ (u : UnitText) (f : IsFormed u) (i : ℕ) (from : List ℕ) (text : Blo
     pub start-known : KnowsThere u b [] k
     start-known n t v w h = end-known n t v w (there-after u text b edge (ap (λ x. block_of x u.blocks) label-is ∙ stands) n h)
 
-    module _ (e : Edge) (known : e.known ≡ k) (left : e.from ≡ from) where
+    module _ (e : RegionEdge) (known : e.known ≡ k) (left : e.from ≡ from) where
       abbrev Good : TypeTree → EdgeText → Type 0
       Good ty x = IsThereOnEdge u (label_or b.label) x × IsOf u ty x.value
 

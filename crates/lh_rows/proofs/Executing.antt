@@ -51,7 +51,7 @@ use Rattle.lh_rows.specs.Known.{Known, known_value, known_cell, known_part, Know
 use Rattle.lh_rows.specs.Rows.{Drive}
 use Rattle.lh_rows.specs.Places.{Region, Here, Midst, gives, probes, both, drive_cond, with_drive, drives, asserts, takes, operated}
 use Rattle.lh_rows.specs.Typed.{KnowsTyped, KnowsThere, IsCondition}
-use Rattle.lh_rows.specs.Means.{range_in, lowest_bit, reads, held_as, Shows, is_one, due_by, with_row, with_rows}
+use Rattle.lh_rows.specs.Means.{range_in, lowest_bit, reads, held_as, KnownIsHeld, is_one, due_by, with_row, with_rows}
 use Rattle.lh_rows.specs.Right.{as_block, BlockAt}
 use Rattle.lh_rows.proofs.Sites.{Site}
 use Rattle.lh_rows.proofs.Merging.{one, mean-bit, and-one}
@@ -89,7 +89,8 @@ delay-of-time (int_value n a) f = absurd f
 delay-of-time (array_value vs) f = absurd f
 delay-of-time (tuple_value vs) f = absurd f
 
-pub rows-append : (past now : Valuation) (args : List Range) (at : Instant) (w : Wish) (ds : List Drive) (d : Drive) → with_rows past now args at w (ds ++ d ∷ []) ≡ with_row past now args at (with_rows past now args at w ds) d
+pub rows-append : (past now : Valuation) (args : List Range) (at : Instant) (w : Wish) (ds : List Drive) (d : Drive)
+    → with_rows past now args at w (ds ++ d ∷ []) ≡ with_row past now args at (with_rows past now args at w ds) d
 rows-append past now args at w [] d = refl
 rows-append past now args at w (x ∷ ds) d = rows-append past now args at (with_row past now args at w x) ds d
 
@@ -103,7 +104,7 @@ module _ (u : UnitText) (g : Region) (r : RegionOf u g) (i : ℕ) (b : FlatBlock
   v = mean past now
 
   abbrev pub shows : Knowledge → Env → Type 0
-  shows = Shows u v (range_in args)
+  shows = KnownIsHeld u v (range_in args)
 
   abbrev pub true-here : Tree → Bool
   true-here = one past now p n
@@ -124,7 +125,8 @@ module _ (u : UnitText) (g : Region) (r : RegionOf u g) (i : ℕ) (b : FlatBlock
     pub wished : (w0 : Wish) → w ≡ with_rows past now args s.at w0 m.rows.drives → wish ≡ with_rows past now args s.at w0 m'.rows.drives
     pub told : m'.rows.asserts ≡ [] → (outcomes ≡ o) × (m.rows.asserts ≡ [])
 
-  module _ (before : List LineText) (l : LineText) (after : List LineText) (site : Site u (as_block b) before l after) (m : Midst) (typed : KnowsTyped u m.known) (there : KnowsThere u (as_block b) before m.known)
+  module _ (before : List LineText) (l : LineText) (after : List LineText) (site : Site u (as_block b) before l after) (m : Midst) (typed : KnowsTyped u m.known)
+      (there : KnowsThere u (as_block b) before m.known)
       (e : Env) (sh : shows m.known e) (w : Wish) (o : List Bool) (reached : true-here h.cond ≡ true) where
     abbrev Operands : InstText → Type 0
     Operands j = OperandsThere kind.Proc u (place-at site.number site.entry (as_block b) before l after) j
@@ -136,8 +138,10 @@ module _ (u : UnitText) (g : Region) (r : RegionOf u g) (i : ℕ) (b : FlatBlock
     step-is j q = ap (λ x. executes s x l.result here) q
 
     -- something is given
-    gives-done : (x : Known) (y : Held) (m1 : Midst) → step s (point e (l ∷ after) w o) ≡ machine.gives here l.result (Some y) → ((n : List ℕ) (t : TypeTree) → l.result ≡ Some n → value_type u n ≡ Some t → y ≡ held_as v (range_in args) x)
-        → m1.known ≡ m.known → m1.edges ≡ m.edges → m1.rows.drives ≡ m.rows.drives → m1.rows.ends ≡ m.rows.ends → m1.rows.asserts ≡ m.rows.asserts → Executed l after e w o m (gives m1 l.result (Some x))
+    gives-done : (x : Known) (y : Held) (m1 : Midst) → step s (point e (l ∷ after) w o) ≡ machine.gives here l.result (Some y)
+        → ((n : List ℕ) (t : TypeTree) → l.result ≡ Some n → value_type u n ≡ Some t → y ≡ held_as v (range_in args) x)
+        → m1.known ≡ m.known → m1.edges ≡ m.edges → m1.rows.drives ≡ m.rows.drives → m1.rows.ends ≡ m.rows.ends → m1.rows.asserts ≡ m.rows.asserts
+        → Executed l after e w o m (gives m1 l.result (Some x))
     gives-done x y m1 q go k ed dr en az = record {
       held = with_result e l.result y;
       wish = w;
@@ -153,7 +157,8 @@ module _ (u : UnitText) (g : Region) (r : RegionOf u g) (i : ℕ) (b : FlatBlock
     const-done : (d : Datum) → l.inst ≡ const_text d → Executed l after e w o m (takes g h (const_text d) l.result m)
     const-done d q = gives-done (known_value (constant d)) (datum_held d) m (step-is (const_text d) q) (λ n t z f. refl) refl refl refl refl refl
 
-    option-done : (x : Option Known) (z : Known) (y : Held) → x ≡ Some z → step s (point e (l ∷ after) w o) ≡ machine.gives here l.result (Some y) → ((n : List ℕ) (t : TypeTree) → l.result ≡ Some n → value_type u n ≡ Some t → y ≡ held_as v (range_in args) z) → Executed l after e w o m (gives m l.result x)
+    option-done : (x : Option Known) (z : Known) (y : Held) → x ≡ Some z → step s (point e (l ∷ after) w o) ≡ machine.gives here l.result (Some y)
+        → ((n : List ℕ) (t : TypeTree) → l.result ≡ Some n → value_type u n ≡ Some t → y ≡ held_as v (range_in args) z) → Executed l after e w o m (gives m l.result x)
     option-done x z y q go f = subst (λ k. Executed l after e w o m (gives m l.result k)) (sym q) (gives-done z y m go f refl refl refl refl refl)
 
     var-done : (a : OperandText) → l.inst ≡ var_text a → RowIs u (var_text a) → Operands (var_text a) → Executed l after e w o m (takes g h (var_text a) l.result m)
@@ -172,14 +177,16 @@ module _ (u : UnitText) (g : Region) (r : RegionOf u g) (i : ℕ) (b : FlatBlock
     prb-done a q row k =
         let x = Taking.prb-known u g r i b bat h hl hc before l after site m typed there a row k in
         let read : effects.probed s.now e a ≡ Some (datum_held (value_from_bits x.0 (bits_in s.now (range_in args x.1)))) =
-        ap (λ y. effects.read_bits s.now (option_and_then carried y) (part_at e a.value)) x.2 ∙ ap (effects.read_bits s.now (Some x.0)) (part-shown u v (range_in args) m.known e sh a.value (signal_type x.0) x.1 x.6 x.3) in
+        ap (λ y. effects.read_bits s.now (option_and_then carried y) (part_at e a.value)) x.2
+        ∙ ap (effects.read_bits s.now (Some x.0)) (part-shown u v (range_in args) m.known e sh a.value (signal_type x.0) x.1 x.6 x.3) in
         let same : value_from_bits x.0 (bits_in s.now (range_in args x.1)) ≡ v (g.probe x.1) = ap (λ y. value_from_bits y (bits_in s.now (range_in args x.1))) (sym x.5) ∙ sym (probe x.1) in
         subst (λ y. Executed l after e w o m (probes g m l.result y)) (sym x.3)
         (gives-done (known_value (g.probe x.1)) (datum_held (v (g.probe x.1))) (record m { rows = record m.rows { probes = m.rows.probes ++ x.1 ∷ [] } })
         (step-is (prb_text a) q ∙ ap (machine.gives here l.result) (read ∙ ap (λ y. Some (datum_held y)) same)) (λ n t z f. refl) refl refl refl refl refl)
 
     -- the part that a step leads to
-    part-done : (f : Op) (os : List OperandText) → (x : PartStep u m.known f os) → effects.operated u e f os ≡ Some (part_held (range_in args (record { arg = x.whole.arg; lo = x.whole.lo + x.part.lo; ty = x.part.of })))
+    part-done : (f : Op) (os : List OperandText) → (x : PartStep u m.known f os)
+        → effects.operated u e f os ≡ Some (part_held (range_in args (record { arg = x.whole.arg; lo = x.whole.lo + x.part.lo; ty = x.part.of })))
     part-done f os x =
         let there : part_at e x.operand.value ≡ Some (range_in args x.whole) = part-shown u v (range_in args) m.known e sh x.operand.value (signal_type x.whole.ty) x.whole x.is x.known in
         let none : data_at e os ≡ None = ap (data_at e) x.operands ∙ no-datum (e x.operand.value) (range_in args x.whole) there in
@@ -200,18 +207,22 @@ module _ (u : UnitText) (g : Region) (r : RegionOf u g) (i : ℕ) (b : FlatBlock
         no-datum (Some (datum_held t)) z q = absurd (none-some z q)
         no-datum (Some (cell_held t)) z q = refl
 
-    pure-done : (f : Op) (os : List OperandText) → l.inst ≡ pure_text f os → RowIs u (pure_text f os) → HasPart u (pure_text f os) → IsWrittenRight (pure_text f os) → Operands (pure_text f os) → Executed l after e w o m (takes g h (pure_text f os) l.result m)
+    pure-done : (f : Op) (os : List OperandText) → l.inst ≡ pure_text f os → RowIs u (pure_text f os) → HasPart u (pure_text f os) → IsWrittenRight (pure_text f os) → Operands (pure_text f os)
+        → Executed l after e w o m (takes g h (pure_text f os) l.result m)
     pure-done f os q row part written k = by (Taking.op-known u g r i b bat h hl hc before l after site m typed there f os q row part written k)
       where
-        values : (x : Taking.Operated u g r i b bat h hl hc before l after site m typed there f os) (ts : List Tree) → values_known m.known os ≡ Some ts → x.known ≡ known_value (make_operation f ts) → ((t : TypeTree) → operation_type f os ≡ Some t → IsTyped (operation_on f ts)) → Executed l after e w o m (gives m l.result (operated m.known f os))
+        values : (x : Taking.Operated u g r i b bat h hl hc before l after site m typed there f os) (ts : List Tree) → values_known m.known os ≡ Some ts → x.known ≡ known_value (make_operation f ts)
+            → ((t : TypeTree) → operation_type f os ≡ Some t → IsTyped (operation_on f ts)) → Executed l after e w o m (gives m l.result (operated m.known f os))
         values x ts a same fits =
-            let got : effects.operated u e f os ≡ Some (datum_held (apply f (map v ts))) = of-values u e f os (map v ts) (data-shown u v (range_in args) m.known e sh os ts (operands-typed u f os row part) a) in
+            let got : effects.operated u e f os ≡ Some (datum_held (apply f (map v ts))) =
+            of-values u e f os (map v ts) (data-shown u v (range_in args) m.known e sh os ts (operands-typed u f os row part) a) in
             option-done (operated m.known f os) x.known (datum_held (apply f (map v ts))) x.is (step-is (pure_text f os) q ∙ ap (machine.gives here l.result) got)
             (λ n1 t z y.
             let made = operation_sound f ts (fits t (sym (site.sound.gives n1 z ∙ ap result_type q) ∙ y)) in
             ap datum_held (ap (apply f) (sym (means-map past now ts)) ∙ sym (made.mean past now p n)) ∙ ap (held_as v (range_in args)) (sym same))
 
-        parts : (x : Taking.Operated u g r i b bat h hl hc before l after site m typed there f os) (y : PartStep u m.known f os) → x.known ≡ known_part (record { arg = y.whole.arg; lo = y.whole.lo + y.part.lo; ty = y.part.of }) → Executed l after e w o m (gives m l.result (operated m.known f os))
+        parts : (x : Taking.Operated u g r i b bat h hl hc before l after site m typed there f os) (y : PartStep u m.known f os)
+            → x.known ≡ known_part (record { arg = y.whole.arg; lo = y.whole.lo + y.part.lo; ty = y.part.of }) → Executed l after e w o m (gives m l.result (operated m.known f os))
         parts x y same =
             option-done (operated m.known f os) x.known (part_held (range_in args (record { arg = y.whole.arg; lo = y.whole.lo + y.part.lo; ty = y.part.of }))) x.is
             (step-is (pure_text f os) q ∙ ap (machine.gives here l.result) (part-done f os y)) (λ n t z w. ap (held_as v (range_in args)) (sym same))
@@ -219,7 +230,8 @@ module _ (u : UnitText) (g : Region) (r : RegionOf u g) (i : ℕ) (b : FlatBlock
         by : Taking.Operated u g r i b bat h hl hc before l after site m typed there f os → Executed l after e w o m (gives m l.result (operated m.known f os))
         by x = ⊎_elim (λ a. values x a.0 a.1 a.2 a.3) (λ a. parts x a.0 a.1) x.how
 
-    st-done : (to : OperandText) (value : List ℕ) → l.inst ≡ st_text to value → RowIs u (st_text to value) → Operands (st_text to value) → Executed l after e w o m (takes g h (st_text to value) l.result m)
+    st-done : (to : OperandText) (value : List ℕ) → l.inst ≡ st_text to value → RowIs u (st_text to value) → Operands (st_text to value)
+        → Executed l after e w o m (takes g h (st_text to value) l.result m)
     st-done to value q row k =
         let x = Taking.st-known u g r i b bat h hl hc before l after site m typed there to value row k in
         let old = cell-shown u v (range_in args) m.known e sh to.value (pointer_type x.0) x.1 x.6 x.3 in
@@ -237,19 +249,24 @@ module _ (u : UnitText) (g : Region) (r : RegionOf u g) (i : ℕ) (b : FlatBlock
         })
 
     -- a drive
-    drv-done : (to : OperandText) (value after' : List ℕ) (cond : Option (List ℕ)) → l.inst ≡ drv_text to value after' cond → RowIs u (drv_text to value after' cond) → Operands (drv_text to value after' cond) → Executed l after e w o m (takes g h (drv_text to value after' cond) l.result m)
+    drv-done : (to : OperandText) (value after' : List ℕ) (cond : Option (List ℕ)) → l.inst ≡ drv_text to value after' cond → RowIs u (drv_text to value after' cond)
+        → Operands (drv_text to value after' cond) → Executed l after e w o m (takes g h (drv_text to value after' cond) l.result m)
     drv-done to value after' cond q row k =
         let d = Taking.drv-known u g r i b bat h hl hc before l after site m typed there to value after' cond row k in
         let x : Drive = record { cond = d.when; part = d.part; value = d.term; delay = d.delay } in
-        let done : drives m (drive_cond m.known h.cond cond) (part_known m.known to.value) (value_known m.known value) (value_known m.known after') ≡ with_drive m x = λ j. drives m (d.when_is j) (d.part_is j) (d.term_is j) (d.delay_is j) in
+        let done : drives m (drive_cond m.known h.cond cond) (part_known m.known to.value) (value_known m.known value) (value_known m.known after') ≡ with_drive m x =
+        λ j. drives m (d.when_is j) (d.part_is j) (d.term_is j) (d.delay_is j) in
         let time = delay-of-time (v d.delay) (subst (FitsType (v d.delay)) d.right.delay.type (mean_fits past now p n d.delay d.right.delay.typed)) in
         let delay : delay_at e after' ≡ Some time.0 = ap (option_and_then as_delay) (datum-shown u v (range_in args) m.known e sh after' time_type d.delay d.after_type d.delay_is) ∙ time.1 in
         let part = part-shown u v (range_in args) m.known e sh to.value (signal_type d.part.ty) d.part d.to_type d.part_is in
         let term = datum-shown u v (range_in args) m.known e sh value d.part.ty d.term d.value_type_is d.term_is in
         let due : due_by s.at (v d.delay) ≡ due_of s.at time.0 = ap (option_and_then (due_of s.at)) time.1 in
-        let all : effects.drive_due s.at w (part_at e to.value) (datum_at e value) (delay_at e after') ≡ Some (wishes.with_drive w (due_by s.at (v d.delay)) (range_in args d.part).lo (value_bits (v d.term))) =
+        let all : effects.drive_due s.at w (part_at e to.value) (datum_at e value) (delay_at e after')
+        ≡ Some (wishes.with_drive w (due_by s.at (v d.delay)) (range_in args d.part).lo (value_bits (v d.term))) =
         (λ j. effects.drive_due s.at w (part j) (term j) (delay j)) ∙ ap (λ y. Some (wishes.with_drive w y (range_in args d.part).lo (value_bits (v d.term)))) (sym due) in
-        let drove : effects.driven s.at e w to value after' cond ≡ Some (with_row past now args s.at w x) = ap (λ c. effects.drive_when c w (effects.drive_due s.at w (part_at e to.value) (datum_at e value) (delay_at e after'))) (condition d d.how) ∙ ap (effects.drive_when (Some (true-here d.when)) w) all ∙ chosen (true-here d.when) _ in
+        let drove : effects.driven s.at e w to value after' cond ≡ Some (with_row past now args s.at w x) =
+        ap (λ c. effects.drive_when c w (effects.drive_due s.at w (part_at e to.value) (datum_at e value) (delay_at e after'))) (condition d d.how)
+        ∙ ap (effects.drive_when (Some (true-here d.when)) w) all ∙ chosen (true-here d.when) _ in
         subst (Executed l after e w o m) (sym done) (by x (step-is (drv_text to value after' cond) q ∙ ap (machine.wishes here) drove) (is_zero x.cond) refl)
       where
         chosen : (c : Bool) (y : Wish) → effects.drive_when (Some c) w (Some y) ≡ Some (if c then y else w)
@@ -257,14 +274,16 @@ module _ (u : UnitText) (g : Region) (r : RegionOf u g) (i : ℕ) (b : FlatBlock
         chosen false y = refl
 
         condition : (d : Taking.Driven u g r i b bat h hl hc before l after site m typed there to value after' cond)
-            → ((cond ≡ None) × (d.when ≡ h.cond)) ⊎ ((c : List ℕ) × (t : Tree) × (cond ≡ Some c) × (value_known m.known c ≡ Some t) × IsCondition t × IsOf u bit c × (d.when ≡ both h.cond t)) → effects.condition_at e cond ≡ Some (true-here d.when)
+            → ((cond ≡ None) × (d.when ≡ h.cond)) ⊎ ((c : List ℕ) × (t : Tree) × (cond ≡ Some c) × (value_known m.known c ≡ Some t) × IsCondition t × IsOf u bit c × (d.when ≡ both h.cond t))
+            → effects.condition_at e cond ≡ Some (true-here d.when)
         condition d (inl a) = ap (effects.condition_at e) a.0 ∙ ap Some (sym (ap true-here a.1 ∙ reached))
         condition d (inr a) =
             let c = datum-shown u v (range_in args) m.known e sh a.0 bit a.1 a.5 a.3 in
             let t : true-here d.when ≡ true-here a.1 = ap true-here a.6 ∙ and-one past now p n h.cond a.1 hc a.4 ∙ ap (λ x. x && true-here a.1) reached in
             ap (effects.condition_at e) a.2 ∙ ap (option_and_then as_test) c ∙ ap as_test (mean-bit past now p n a.1 a.4) ∙ test-bit (true-here a.1) ∙ ap Some (sym t)
 
-        by : (x : Drive) → step s (point e (l ∷ after) w o) ≡ goes (point e after (with_row past now args s.at w x) o) → (z : Bool) → is_zero x.cond ≡ z → Executed l after e w o m (if z then m else record m { rows = record m.rows { drives = m.rows.drives ++ x ∷ [] } })
+        by : (x : Drive) → step s (point e (l ∷ after) w o) ≡ goes (point e after (with_row past now args s.at w x) o) → (z : Bool) → is_zero x.cond ≡ z
+            → Executed l after e w o m (if z then m else record m { rows = record m.rows { drives = m.rows.drives ++ x ∷ [] } })
         by x go false z = record {
           held = e;
           wish = with_row past now args s.at w x;
@@ -289,10 +308,14 @@ module _ (u : UnitText) (g : Region) (r : RegionOf u g) (i : ℕ) (b : FlatBlock
         }
 
     -- an assertion
-    call-done : (f : UnitName) (ty : TypeTree) (os : List OperandText) → l.inst ≡ call_text f ty os → (is_assert f ≡ true) × AssertIsRight u ty os → Operands (call_text f ty os) → Executed l after e w o m (takes g h (call_text f ty os) l.result m)
-    call-done f ty os q a k = by os a.1.args_are k (step-is (call_text f ty os) q ∙ ap (λ x. if x then machine.tells here (machine.asserted e os) else machine.opens here l.result (machine.called (function_named f s.functions) (data_at e os))) a.0)
+    call-done : (f : UnitName) (ty : TypeTree) (os : List OperandText) → l.inst ≡ call_text f ty os → (is_assert f ≡ true) × AssertIsRight u ty os → Operands (call_text f ty os)
+        → Executed l after e w o m (takes g h (call_text f ty os) l.result m)
+    call-done f ty os q a k = by os a.1.args_are k
+        (step-is (call_text f ty os) q ∙ ap (λ x. if x then machine.tells here (machine.asserted e os) else machine.opens here l.result (machine.called (function_named f s.functions) (data_at e os)))
+        a.0)
       where
-        by : (os : List OperandText) → ArgumentsAre u os assert_args → Operands (call_text f ty os) → step s (point e (l ∷ after) w o) ≡ machine.tells here (machine.asserted e os) → Executed l after e w o m (asserts m (values_known m.known os))
+        by : (os : List OperandText) → ArgumentsAre u os assert_args → Operands (call_text f ty os) → step s (point e (l ∷ after) w o) ≡ machine.tells here (machine.asserted e os)
+            → Executed l after e w o m (asserts m (values_known m.known os))
         by [] a k go = absurd a
         by (x ∷ y ∷ more) a k go = absurd a.1
         by (x ∷ []) a k go =

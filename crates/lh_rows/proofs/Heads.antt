@@ -9,7 +9,7 @@ use Rattle.lh_types.specs.Types.{TypeTree, signal_type, IsData}
 use Rattle.lh_types.specs.Values.{Datum}
 use Rattle.lh_unit.specs.Contents.{InstText, const_text, phi_text, br_text, LineText, BlockText, ArgText, UnitText, same_name, is_result_name, args_define, lines_define}
 use Rattle.lh_unit.specs.Held.{Env}
-use Rattle.lh_unit.specs.Places.{Place, places_in, places_from}
+use Rattle.lh_unit.specs.Places.{InstPlaceText, places_in, places_from}
 use Rattle.lh_unit.specs.Reads.{args_repeat}
 use Rattle.lh_unit.specs.Typing.{value_type, carried}
 use Rattle.lh_unit.specs.WellFormed.{is_phi}
@@ -24,7 +24,7 @@ use Rattle.lh_flat.specs.Flat.{FlatBlockText, MergeText, FlatText, with_merge}
 use Rattle.lh_term.specs.Tree.{constant}
 use Rattle.lh_term.specs.declared.part.Part.{Part}
 use Rattle.lh_rows.specs.Known.{Known, known_value, known_part, Knowledge, with_given, whole_argument, with_arguments}
-use Rattle.lh_rows.specs.Joins.{Edge}
+use Rattle.lh_rows.specs.Joins.{RegionEdge}
 use Rattle.lh_rows.specs.Places.{block_number}
 use Rattle.lh_rows.specs.Regions.{is_constant, with_constant, with_constants, branched_to, leads_on, is_led_to, head_after, begins_with_phi, head_of}
 use Rattle.lh_rows.specs.Typed.{Among, argument_part, PhiKnown}
@@ -75,7 +75,8 @@ constants-stay k [] n s = s
 constants-stay k (l ∷ ls) n s = constants-stay (with_constant k l.inst l.result) ls n (one-stays k l.inst l.result n s)
 
 -- where each line that gives this name is a constant, it is known
-pub constants-known : (k : Knowledge) (ls : List LineText) (n : List ℕ) → ((l : LineText) → Among l ls → is_result_name n l.result ≡ true → is_constant l.inst ≡ true) → lines_define n ls ≡ true → IsSome (with_constants k ls n)
+pub constants-known : (k : Knowledge) (ls : List LineText) (n : List ℕ) → ((l : LineText) → Among l ls → is_result_name n l.result ≡ true → is_constant l.inst ≡ true) → lines_define n ls ≡ true
+    → IsSome (with_constants k ls n)
 constants-known k [] n h d = absurd (false≢true d)
 constants-known k (l ∷ ls) n h d = by (is_result_name n l.result) refl d (constants-known (with_constant k l.inst l.result) ls n (λ x a q. h x (inr a) q))
   where
@@ -83,7 +84,8 @@ constants-known k (l ∷ ls) n h d = by (is_result_name n l.result) refl d (cons
     one (const_text d) c q = given-known k l.result n (known_value (constant d)) q
     one _ c q = absurd (false≢true c)
 
-    by : (b : Bool) → is_result_name n l.result ≡ b → (b || lines_define n ls) ≡ true → (lines_define n ls ≡ true → IsSome (with_constants (with_constant k l.inst l.result) ls n)) → IsSome (with_constants (with_constant k l.inst l.result) ls n)
+    by : (b : Bool) → is_result_name n l.result ≡ b → (b || lines_define n ls) ≡ true → (lines_define n ls ≡ true → IsSome (with_constants (with_constant k l.inst l.result) ls n))
+        → IsSome (with_constants (with_constant k l.inst l.result) ls n)
     by true q f go = constants-stay (with_constant k l.inst l.result) ls n (one l.inst (h l (inl refl) q) q)
     by false q f go = go f
 
@@ -120,36 +122,47 @@ seen-apart n seen (a ∷ xs) h d =
     by true q z go = absurd (false≢true (sym z ∙ ap (λ m. args_define m seen) (same_name-is a.name n q) ∙ d))
     by false q z go = go
 
-pub arguments-case : (seen : List ArgText) (k : Knowledge) (i : ℕ) (xs : List ArgText) (n : List ℕ) (x : Known) → args_repeat seen xs ≡ false → with_arguments k i xs n ≡ Some x → (k n ≡ Some x) ⊎ ((p : Part) × (x ≡ known_part p) × (argument_part n i xs ≡ Some p))
+pub arguments-case : (seen : List ArgText) (k : Knowledge) (i : ℕ) (xs : List ArgText) (n : List ℕ) (x : Known) → args_repeat seen xs ≡ false → with_arguments k i xs n ≡ Some x
+    → (k n ≡ Some x) ⊎ ((p : Part) × (x ≡ known_part p) × (argument_part n i xs ≡ Some p))
 arguments-case seen k i [] n x h q = inl q
 arguments-case seen k i (a ∷ xs) n x h q =
     by (or-false (args_define a.name seen) (args_repeat (seen ++ a ∷ []) xs) h)
-    (arguments-case (seen ++ a ∷ []) (with_given k (Some a.name) (option_map (λ t. known_part (whole_argument i t)) (carried a.ty))) (i + 1) xs n x (or-false (args_define a.name seen) (args_repeat (seen ++ a ∷ []) xs) h).1 q)
+    (arguments-case (seen ++ a ∷ []) (with_given k (Some a.name) (option_map (λ t. known_part (whole_argument i t)) (carried a.ty))) (i + 1) xs n x
+    (or-false (args_define a.name seen) (args_repeat (seen ++ a ∷ []) xs) h).1 q)
   where
     first : (o : Option TypeTree) → carried a.ty ≡ o → (b : Bool) → same_name a.name n ≡ b → with_given k (Some a.name) (option_map (λ t. known_part (whole_argument i t)) o) n ≡ Some x
         → (k n ≡ Some x) ⊎ ((p : Part) × (x ≡ known_part p) × ((if b then option_map (whole_argument i) (carried a.ty) else argument_part n (i + 1) xs) ≡ Some p))
     first None c b e g = inl g
-    first (Some t) c true e g = inr (whole_argument i t, sym (same_Some (known_part (whole_argument i t)) x (sym (ap (λ b. if b then Some (known_part (whole_argument i t)) else k n) e) ∙ g)), ap (option_map (whole_argument i)) c)
+    first (Some t) c true e g = inr (
+      whole_argument i t,
+      sym (same_Some (known_part (whole_argument i t)) x (sym (ap (λ b. if b then Some (known_part (whole_argument i t)) else k n) e) ∙ g)),
+      ap (option_map (whole_argument i)) c,
+    )
     first (Some t) c false e g = inl (sym (ap (λ b. if b then Some (known_part (whole_argument i t)) else k n) e) ∙ g)
 
-    later : (p : Part) → args_repeat (seen ++ a ∷ []) xs ≡ false → argument_part n (i + 1) xs ≡ Some p → (b : Bool) → same_name a.name n ≡ b → (if b then option_map (whole_argument i) (carried a.ty) else argument_part n (i + 1) xs) ≡ Some p
+    later : (p : Part) → args_repeat (seen ++ a ∷ []) xs ≡ false → argument_part n (i + 1) xs ≡ Some p → (b : Bool) → same_name a.name n ≡ b
+        → (if b then option_map (whole_argument i) (carried a.ty) else argument_part n (i + 1) xs) ≡ Some p
     later p r g false e = g
     later p r g true e = absurd (false≢true (sym (seen-apart n (seen ++ a ∷ []) xs r (define-last n seen a e)) ∙ part-argument n (i + 1) xs p g))
 
-    by : (args_define a.name seen ≡ false) × (args_repeat (seen ++ a ∷ []) xs ≡ false) → (with_given k (Some a.name) (option_map (λ t. known_part (whole_argument i t)) (carried a.ty)) n ≡ Some x) ⊎ ((p : Part) × (x ≡ known_part p) × (argument_part n (i + 1) xs ≡ Some p))
+    by : (args_define a.name seen ≡ false) × (args_repeat (seen ++ a ∷ []) xs ≡ false) → (with_given k (Some a.name) (option_map (λ t. known_part (whole_argument i t)) (carried a.ty)) n ≡ Some x)
+        ⊎ ((p : Part) × (x ≡ known_part p) × (argument_part n (i + 1) xs ≡ Some p))
         → (k n ≡ Some x) ⊎ ((p : Part) × (x ≡ known_part p) × (argument_part n i (a ∷ xs) ≡ Some p))
     by z (inl g) = first (carried a.ty) refl (same_name a.name n) refl g
     by z (inr g) = inr (g.0, g.1, later g.0 z.1 g.2 (same_name a.name n) refl)
 
 arguments-stay : (k : Knowledge) (i : ℕ) (xs : List ArgText) (n : List ℕ) → IsSome (k n) → IsSome (with_arguments k i xs n)
 arguments-stay k i [] n s = s
-arguments-stay k i (a ∷ xs) n s = arguments-stay (with_given k (Some a.name) (option_map (λ t. known_part (whole_argument i t)) (carried a.ty))) (i + 1) xs n (given-stays k (Some a.name) n (option_map (λ t. known_part (whole_argument i t)) (carried a.ty)) s)
+arguments-stay k i (a ∷ xs) n s = arguments-stay (with_given k (Some a.name) (option_map (λ t. known_part (whole_argument i t)) (carried a.ty))) (i + 1) xs n
+    (given-stays k (Some a.name) n (option_map (λ t. known_part (whole_argument i t)) (carried a.ty)) s)
 
 pub arguments-known : (k : Knowledge) (i : ℕ) (xs : List ArgText) (n : List ℕ) → Each IsPort xs → args_define n xs ≡ true → IsSome (with_arguments k i xs n)
 arguments-known k i [] n p d = absurd (false≢true d)
 arguments-known k i (a ∷ xs) n p d = by (same_name a.name n) refl d (arguments-known (with_given k (Some a.name) (option_map (λ t. known_part (whole_argument i t)) (carried a.ty))) (i + 1) xs n p.1)
   where
-    by : (b : Bool) → same_name a.name n ≡ b → (b || args_define n xs) ≡ true → (args_define n xs ≡ true → IsSome (with_arguments (with_given k (Some a.name) (option_map (λ t. known_part (whole_argument i t)) (carried a.ty))) (i + 1) xs n)) → IsSome (with_arguments (with_given k (Some a.name) (option_map (λ t. known_part (whole_argument i t)) (carried a.ty))) (i + 1) xs n)
+    by : (b : Bool) → same_name a.name n ≡ b → (b || args_define n xs) ≡ true
+        → (args_define n xs ≡ true → IsSome (with_arguments (with_given k (Some a.name) (option_map (λ t. known_part (whole_argument i t)) (carried a.ty))) (i + 1) xs n))
+        → IsSome (with_arguments (with_given k (Some a.name) (option_map (λ t. known_part (whole_argument i t)) (carried a.ty))) (i + 1) xs n)
     by true q f go =
         let t = p.0.0 in
         let c : carried a.ty ≡ Some t = ap carried p.0.1 in
@@ -158,11 +171,13 @@ arguments-known k i (a ∷ xs) n p d = by (same_name a.name n) refl d (arguments
     by false q f go = go f
 
 -- the argument of a part
-pub argument-of : (u : UnitText) (n : List ℕ) (i : ℕ) (xs : List ArgText) (p : Part) → Each (HasItsType u) xs → Each IsPort xs → argument_part n i xs ≡ Some p → IsData p.ty × (value_type u n ≡ Some (signal_type p.ty))
+pub argument-of : (u : UnitText) (n : List ℕ) (i : ℕ) (xs : List ArgText) (p : Part) → Each (HasItsType u) xs → Each IsPort xs → argument_part n i xs ≡ Some p → IsData p.ty
+    × (value_type u n ≡ Some (signal_type p.ty))
 argument-of u n i [] p t k q = absurd (none-some p q)
 argument-of u n i (a ∷ xs) p t k q = by (same_name a.name n) refl q (argument-of u n (i + 1) xs p t.1 k.1)
   where
-    by : (b : Bool) → same_name a.name n ≡ b → (if b then option_map (whole_argument i) (carried a.ty) else argument_part n (i + 1) xs) ≡ Some p → (argument_part n (i + 1) xs ≡ Some p → IsData p.ty × (value_type u n ≡ Some (signal_type p.ty))) → IsData p.ty × (value_type u n ≡ Some (signal_type p.ty))
+    by : (b : Bool) → same_name a.name n ≡ b → (if b then option_map (whole_argument i) (carried a.ty) else argument_part n (i + 1) xs) ≡ Some p
+        → (argument_part n (i + 1) xs ≡ Some p → IsData p.ty × (value_type u n ≡ Some (signal_type p.ty))) → IsData p.ty × (value_type u n ≡ Some (signal_type p.ty))
     by true e f go =
         let c : carried a.ty ≡ Some k.0.0 = ap carried k.0.1 in
         let same : whole_argument i k.0.0 ≡ p = same_Some (whole_argument i k.0.0) p (sym (ap (option_map (whole_argument i)) c) ∙ f) in
@@ -204,14 +219,25 @@ pub record HeadBehind (t : FlatText) : Type 0 where
 pub head-behind : (t : FlatText) → nat_eq (head_of t.blocks) 0 ≡ false → HeadBehind t
 head-behind t z = by t.blocks refl z
   where
-    number : (entry : FlatBlockText) (more : List FlatBlockText) → t.blocks ≡ entry ∷ more → (n : List ℕ) → leads_on entry.lines ≡ Some n → (o : Option ℕ) → block_number n (entry ∷ more) ≡ o → head_after (entry ∷ more) ≡ o → nat_eq (unwrap_or o 0) 0 ≡ false → HeadBehind t
+    number : (entry : FlatBlockText) (more : List FlatBlockText) → t.blocks ≡ entry ∷ more → (n : List ℕ) → leads_on entry.lines ≡ Some n → (o : Option ℕ) → block_number n (entry ∷ more) ≡ o
+        → head_after (entry ∷ more) ≡ o → nat_eq (unwrap_or o 0) 0 ≡ false → HeadBehind t
     number entry more e n l None q h z = absurd (false≢true (sym z))
-    number entry more e n l (Some k) q h z = record { entry = entry; more = more; blocks = e; label = n; leads = leads-on entry.lines n l; number = ap (block_number n) e ∙ q ∙ ap (λ o. Some (unwrap_or o 0)) (sym h) ∙ ap (λ bs. Some (head_of bs)) (sym e) }
+    number entry more e n l (Some k) q h z = record {
+      entry = entry;
+      more = more;
+      blocks = e;
+      label = n;
+      leads = leads-on entry.lines n l;
+      number = ap (block_number n) e ∙ q
+          ∙ ap (λ o. Some (unwrap_or o 0)) (sym h) ∙ ap (λ bs. Some (head_of bs)) (sym e);
+    }
 
-    at : (entry : FlatBlockText) (more : List FlatBlockText) → t.blocks ≡ entry ∷ more → (b : Bool) → is_led_to entry.label (entry ∷ more) ≡ b → (o : Option (List ℕ)) → leads_on entry.lines ≡ o → nat_eq (unwrap_or (if b then None else option_and_then (λ n. block_number n (entry ∷ more)) o) 0) 0 ≡ false → HeadBehind t
+    at : (entry : FlatBlockText) (more : List FlatBlockText) → t.blocks ≡ entry ∷ more → (b : Bool) → is_led_to entry.label (entry ∷ more) ≡ b → (o : Option (List ℕ)) → leads_on entry.lines ≡ o
+        → nat_eq (unwrap_or (if b then None else option_and_then (λ n. block_number n (entry ∷ more)) o) 0) 0 ≡ false → HeadBehind t
     at entry more e true q o l z = absurd (false≢true (sym z))
     at entry more e false q None l z = absurd (false≢true (sym z))
-    at entry more e false q (Some n) l z = number entry more e n l (block_number n (entry ∷ more)) refl (ap (λ b. if b then None else option_and_then (λ n. block_number n (entry ∷ more)) (leads_on entry.lines)) q ∙ ap (option_and_then (λ n. block_number n (entry ∷ more))) l) z
+    at entry more e false q (Some n) l z = number entry more e n l (block_number n (entry ∷ more)) refl
+        (ap (λ b. if b then None else option_and_then (λ n. block_number n (entry ∷ more)) (leads_on entry.lines)) q ∙ ap (option_and_then (λ n. block_number n (entry ∷ more))) l) z
 
     by : (bs : List FlatBlockText) → t.blocks ≡ bs → nat_eq (head_of bs) 0 ≡ false → HeadBehind t
     by [] e z = absurd (false≢true (sym z))
@@ -219,12 +245,15 @@ head-behind t z = by t.blocks refl z
 
 -- no `phi` and no merge stands in the entry
 pub entry-plain : (u : UnitText) (b : FlatBlockText) (more : List BlockText) → u.blocks ≡ as_block b ∷ more → IsFormed u → b.merge ≡ None
-entry-plain u b more e f = by b.merge refl (subst (λ bs. Each (λ (p : Place). PhiFormed u p p.line.inst) (places_from 1 true bs)) e f.phis)
+entry-plain u b more e f = by b.merge refl (subst (λ bs. Each (λ (p : InstPlaceText). PhiFormed u p p.line.inst) (places_from 1 true bs)) e f.phis)
   where
-    by : (o : Option MergeText) → b.merge ≡ o → Each (λ (p : Place). PhiFormed u p p.line.inst) (places_from 1 true (as_block b ∷ more)) → o ≡ None
+    by : (o : Option MergeText) → b.merge ≡ o → Each (λ (p : InstPlaceText). PhiFormed u p p.line.inst) (places_from 1 true (as_block b ∷ more)) → o ≡ None
     by None q h = refl
     by (Some m) q h =
-        let h' : Each (λ (p : Place). PhiFormed u p p.line.inst) (places_in 1 true (as_block b) [] (with_merge (Some m) b.lines)) = subst (λ x. Each (λ (p : Place). PhiFormed u p p.line.inst) (places_in 1 true (as_block b) [] (with_merge x b.lines))) q (each-split (λ (p : Place). PhiFormed u p p.line.inst) (places_in 1 true (as_block b) [] (with_merge b.merge b.lines)) (places_from (1 + length (with_merge b.merge b.lines)) false more) h).0 in
+        let h' : Each (λ (p : InstPlaceText). PhiFormed u p p.line.inst) (places_in 1 true (as_block b) [] (with_merge (Some m) b.lines)) = subst
+        (λ x. Each (λ (p : InstPlaceText). PhiFormed u p p.line.inst) (places_in 1 true (as_block b) [] (with_merge x b.lines))) q
+        (each-split (λ (p : InstPlaceText). PhiFormed u p p.line.inst) (places_in 1 true (as_block b) [] (with_merge b.merge b.lines))
+        (places_from (1 + length (with_merge b.merge b.lines)) false more) h).0 in
         let z : true ≡ false = h'.0.no_entry in
         absurd (false≢true (sym z))
 
@@ -263,7 +292,7 @@ no-phis-taken from e (l ∷ ls) h = by l.inst h.0 ∙ no-phis-taken from e ls h.
     by (phi_text ty es) q = absurd (false≢true (sym q))
     by _ q = refl
 
-pub no-phis-known : (e : Edge) (ls : List LineText) → NoPhis ls → Each (λ (l : LineText). PhiKnown e l.inst) ls
+pub no-phis-known : (e : RegionEdge) (ls : List LineText) → NoPhis ls → Each (λ (l : LineText). PhiKnown e l.inst) ls
 no-phis-known e [] h = tt
 no-phis-known e (l ∷ ls) h = (by l.inst h.0, no-phis-known e ls h.1)
   where

@@ -18,7 +18,7 @@ use Rattle.lh_term.specs.declared.part.Part.{Part}
 use Rattle.lh_types.specs.declared.part.Range.{Range}
 use Rattle.lh_rows.specs.Known.{Known, Knowledge, with_known, with_given}
 use Rattle.lh_rows.specs.Typed.{known_type, IsTypedKnown, KnowsTyped, KnowsThere}
-use Rattle.lh_rows.specs.Means.{held_as, Shows}
+use Rattle.lh_rows.specs.Means.{held_as, KnownIsHeld}
 use Rattle.lh_rows.specs.Right.{PhiGiven, PhisGiven}
 
 -- a value of a type as a term
@@ -71,7 +71,8 @@ given-known k None n x q = absurd cc
 given-known k (Some m) n x q = rw q refl
 
 -- past an instruction, where its result is known
-pub there-past : (u : UnitText) (b : BlockText) (before : List LineText) (l : LineText) (k j : Knowledge) → KnowsThere u b before k → ((n : List ℕ) → IsSome (k n) → IsSome (j n)) → ((n : List ℕ) (t : TypeTree) → value_type u n ≡ Some t → (t ≡ void_type → ⊥) → is_result_name n l.result ≡ true → IsSome (j n))
+pub there-past : (u : UnitText) (b : BlockText) (before : List LineText) (l : LineText) (k j : Knowledge) → KnowsThere u b before k → ((n : List ℕ) → IsSome (k n) → IsSome (j n))
+    → ((n : List ℕ) (t : TypeTree) → value_type u n ≡ Some t → (t ≡ void_type → ⊥) → is_result_name n l.result ≡ true → IsSome (j n))
     → KnowsThere u b (before ++ l ∷ []) j
 there-past u b before l k j h stays gives n t v w i = by (is_result_name n l.result) refl
   where
@@ -92,7 +93,7 @@ phis-more k j (l ∷ ls) m h = (phi-more k j l.inst l.result m h.0, phis-more k 
 -- ---- what is known is held
 
 module _ (u : UnitText) (v : Tree → Datum) (r : Part → Range) where
-  pub known-shows : (k : Knowledge) (e : Env) (m : List ℕ) (x : Known) → Shows u v r k e → Shows u v r (with_known k m x) (with_held e m (held_as v r x))
+  pub known-shows : (k : Knowledge) (e : Env) (m : List ℕ) (x : Known) → KnownIsHeld u v r k e → KnownIsHeld u v r (with_known k m x) (with_held e m (held_as v r x))
   known-shows k e m x s n y t q o = by (same_name m n) q
     where
       by : (b : Bool) → (if b then Some x else k n) ≡ Some y → (if b then Some (held_as v r x) else e n) ≡ Some (held_as v r y)
@@ -100,7 +101,8 @@ module _ (u : UnitText) (v : Tree → Datum) (r : Part → Range) where
       by false z = s n y t z o
 
   -- what is given is held, where its name has a type
-  pub given-shows-typed : (k : Knowledge) (e : Env) (n : Option (List ℕ)) (x : Known) (h : Held) → Shows u v r k e → ((m : List ℕ) (t : TypeTree) → n ≡ Some m → value_type u m ≡ Some t → h ≡ held_as v r x) → Shows u v r (with_given k n (Some x)) (with_result e n h)
+  pub given-shows-typed : (k : Knowledge) (e : Env) (n : Option (List ℕ)) (x : Known) (h : Held) → KnownIsHeld u v r k e
+      → ((m : List ℕ) (t : TypeTree) → n ≡ Some m → value_type u m ≡ Some t → h ≡ held_as v r x) → KnownIsHeld u v r (with_given k n (Some x)) (with_result e n h)
   given-shows-typed k e None x h s go n y t q o = s n y t q o
   given-shows-typed k e (Some m) x h s go n y t q o = by (same_name m n) refl q
     where
@@ -108,6 +110,6 @@ module _ (u : UnitText) (v : Tree → Datum) (r : Part → Range) where
       by true z q = ap Some (go n t (ap Some (same_name-is m n z)) o) ∙ ap (λ w. Some (held_as v r w)) (same_Some x y q)
       by false z q = s n y t q o
 
-  pub given-shows : (k : Knowledge) (e : Env) (n : Option (List ℕ)) (x : Known) → Shows u v r k e → Shows u v r (with_given k n (Some x)) (with_result e n (held_as v r x))
+  pub given-shows : (k : Knowledge) (e : Env) (n : Option (List ℕ)) (x : Known) → KnownIsHeld u v r k e → KnownIsHeld u v r (with_given k n (Some x)) (with_result e n (held_as v r x))
   given-shows k e None x s = s
   given-shows k e (Some m) x s = known-shows k e m x s

@@ -15,16 +15,19 @@ one-more : (o : Option ℕ) (i : ℕ) → o ≡ Some i → option_map (λ k. k +
 one-more o i q = ap (option_map (λ k. k + 1)) q ∙ (let e : i + 1 ≡ suc i = omega arith in ap Some e)
 
 -- a label that is that of a block of the unit has a number
-pub number-of : (n : List ℕ) (bs : List FlatBlockText) (c : BlockText) → block_of n (map as_block bs) ≡ Some c → (i : ℕ) × (b : FlatBlockText) × (block_number n bs ≡ Some i) × (slice_get bs i ≡ Some b) × (b.label ≡ n) × (as_block b ≡ c)
+pub number-of : (n : List ℕ) (bs : List FlatBlockText) (c : BlockText) → block_of n (map as_block bs) ≡ Some c → (i : ℕ) × (b : FlatBlockText) × (block_number n bs ≡ Some i)
+    × (slice_get bs i ≡ Some b) × (b.label ≡ n) × (as_block b ≡ c)
 number-of n [] c q = absurd (none-some c q)
 number-of n (b ∷ bs) c q = at (number-of n bs c) (same_name b.label n) refl q
   where
-    at : (block_of n (map as_block bs) ≡ Some c → (i : ℕ) × (b : FlatBlockText) × (block_number n bs ≡ Some i) × (slice_get bs i ≡ Some b) × (b.label ≡ n) × (as_block b ≡ c)) → (x : Bool) → same_name b.label n ≡ x → (if x then Some (as_block b) else block_of n (map as_block bs)) ≡ Some c
+    at : (block_of n (map as_block bs) ≡ Some c → (i : ℕ) × (b : FlatBlockText) × (block_number n bs ≡ Some i) × (slice_get bs i ≡ Some b) × (b.label ≡ n) × (as_block b ≡ c)) → (x : Bool)
+        → same_name b.label n ≡ x → (if x then Some (as_block b) else block_of n (map as_block bs)) ≡ Some c
         → (i : ℕ) × (d : FlatBlockText) × ((if x then Some 0 else option_map (λ k. k + 1) (block_number n bs)) ≡ Some i) × (slice_get (b ∷ bs) i ≡ Some d) × (d.label ≡ n) × (as_block d ≡ c)
     at go true e h = (0, b, refl, refl, same_name-is b.label n e, same_Some (as_block b) c h)
     at go false e h = let r = go h in (suc r.0, r.1, one-more (block_number n bs) r.0 r.2, r.3, r.4, r.5)
 
-pub block-by : (n : List ℕ) (bs : List FlatBlockText) (c : BlockText) → block_of n (map as_block bs) ≡ Some c → (i : ℕ) × (b : FlatBlockText) × (block_number n bs ≡ Some i) × BlockAt bs i b × (b.label ≡ n) × (as_block b ≡ c)
+pub block-by : (n : List ℕ) (bs : List FlatBlockText) (c : BlockText) → block_of n (map as_block bs) ≡ Some c → (i : ℕ) × (b : FlatBlockText) × (block_number n bs ≡ Some i) × BlockAt bs i b
+    × (b.label ≡ n) × (as_block b ≡ c)
 block-by n bs c q = let r = number-of n bs c q in (r.0, r.1, r.2, record { at = r.3; number = ap (λ m. block_number m bs) r.4 ∙ r.2 }, r.4, r.5)
 
 -- the block of a number is that of its label in the unit
@@ -32,7 +35,9 @@ pub block-labelled : (bs : List FlatBlockText) (n : List ℕ) (i : ℕ) (b : Fla
 block-labelled [] n i b q h = absurd (none-some b q)
 block-labelled (c ∷ bs) n i b q h = at (block-labelled bs n) (same_name c.label n) i h q
   where
-    at : ((j : ℕ) (d : FlatBlockText) → slice_get bs j ≡ Some d → block_number n bs ≡ Some j → block_of n (map as_block bs) ≡ Some (as_block d)) → (x : Bool) → (j : ℕ) → (if x then Some 0 else option_map (λ k. k + 1) (block_number n bs)) ≡ Some j → slice_get (c ∷ bs) j ≡ Some b → (if x then Some (as_block c) else block_of n (map as_block bs)) ≡ Some (as_block b)
+    at : ((j : ℕ) (d : FlatBlockText) → slice_get bs j ≡ Some d → block_number n bs ≡ Some j → block_of n (map as_block bs) ≡ Some (as_block d)) → (x : Bool) → (j : ℕ)
+        → (if x then Some 0 else option_map (λ k. k + 1) (block_number n bs)) ≡ Some j → slice_get (c ∷ bs) j ≡ Some b
+        → (if x then Some (as_block c) else block_of n (map as_block bs)) ≡ Some (as_block b)
     at go true j h q = let e : 0 ≡ j = same_Some 0 j h in let z : slice_get (c ∷ bs) 0 ≡ Some b = ap (slice_get (c ∷ bs)) e ∙ q in ap (λ x. Some (as_block x)) (same_Some c b z)
     at go false j h q = by (block_number n bs) refl h
       where

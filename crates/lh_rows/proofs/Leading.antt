@@ -54,7 +54,8 @@ module _ (u : UnitText) (g : Region) (r : RegionOf u g) (i : ℕ) (b : FlatBlock
     asserts = b.asserts ∙ a.asserts;
   }
 
-  module _ (before : List LineText) (l : LineText) (after : List LineText) (split : with_merge b.merge b.lines ≡ before ++ l ∷ after) (s : Site u (as_block b) before l after) (last : is_terminator l.inst ≡ true)
+  module _ (before : List LineText) (l : LineText) (after : List LineText) (split : with_merge b.merge b.lines ≡ before ++ l ∷ after) (s : Site u (as_block b) before l after)
+      (last : is_terminator l.inst ≡ true)
       (k : Knowledge) (typed : KnowsTyped u k) (there : KnowsThere u (as_block b) before k) where
     pub ends-here : with_merge b.merge b.lines ≡ before ++ l ∷ []
     ends-here = split ∙ ap (λ ls. before ++ l ∷ ls) (s.last last)
@@ -65,7 +66,8 @@ module _ (u : UnitText) (g : Region) (r : RegionOf u g) (i : ℕ) (b : FlatBlock
     pub joins-here : (to : List ℕ) → list_any (λ m. same_name m to) (leads_to l.inst) ≡ true → (t : Target u g r i b bat h hl to) → JoinsAt u g t.number h.label k
     joins-here = joins-at u g r i b bat h hl before l ends-here last k typed there
 
-    led-leads : (c : Tree) → IsCondition c → Under h.cond c → (m : Midst) → m.known ≡ k → (to : List ℕ) → list_any (λ m. same_name m to) (leads_to l.inst) ≡ true → (t : Target u g r i b bat h hl to) → (m' : Midst) → LedHere c m t.number m' → Leads m m'
+    led-leads : (c : Tree) → IsCondition c → Under h.cond c → (m : Midst) → m.known ≡ k → (to : List ℕ) → list_any (λ m. same_name m to) (leads_to l.inst) ≡ true → (t : Target u g r i b bat h hl to)
+        → (m' : Midst) → LedHere c m t.number m' → Leads m m'
     led-leads c ic uc m e to named t _ (led_never z) = record { known = refl; edges = no-more (EdgeRight u g h) m.edges; drives = refl; ends = no-more (EndRight u g h) m.rows.ends; asserts = refl }
     led-leads c ic uc m e to named t _ led_edge =
         let j = joins-here to named t in
@@ -82,16 +84,26 @@ module _ (u : UnitText) (g : Region) (r : RegionOf u g) (i : ℕ) (b : FlatBlock
           known = refl;
           edges = no-more (EdgeRight u g h) m.edges;
           drives = refl;
-          ends = one-more (EndRight u g h) m.rows.ends _ (record { cond = ic; under = uc; from = refl; known = subst (KnowsTyped u) (sym e) typed; way = subst (λ x. JoinsAt u g x h.label m.known) q (subst (JoinsAt u g t.number h.label) (sym e) j) });
+          ends = one-more (EndRight u g h) m.rows.ends _
+              (record {
+                cond = ic;
+                under = uc;
+                from = refl;
+                known = subst (KnowsTyped u) (sym e) typed;
+                way = subst (λ x. JoinsAt u g x h.label m.known) q
+                    (subst (JoinsAt u g t.number h.label) (sym e) j);
+              });
           asserts = refl;
         }
 
-    pub leads-right : (c : Tree) → IsCondition c → Under h.cond c → (m : Midst) → m.known ≡ k → (to : List ℕ) → list_any (λ m. same_name m to) (leads_to l.inst) ≡ true → (x : (c : BlockText) × (block_of to u.blocks ≡ Some c)) → Leads m (leads g h c to m)
+    pub leads-right : (c : Tree) → IsCondition c → Under h.cond c → (m : Midst) → m.known ≡ k → (to : List ℕ) → list_any (λ m. same_name m to) (leads_to l.inst) ≡ true
+        → (x : (c : BlockText) × (block_of to u.blocks ≡ Some c)) → Leads m (leads g h c to m)
     leads-right c ic uc m e to named x =
         let t = target u g r i b bat h hl to x in
         led-leads c ic uc m e to named t (leads g h c to m) (leads-led u g r i b bat h hl before l ends-here last k typed there c m to t)
 
-  module _ (before : List LineText) (l : LineText) (after : List LineText) (split : with_merge b.merge b.lines ≡ before ++ l ∷ after) (s : Site u (as_block b) before l after) (m : Midst) (typed : KnowsTyped u m.known) (there : KnowsThere u (as_block b) before m.known) where
+  module _ (before : List LineText) (l : LineText) (after : List LineText) (split : with_merge b.merge b.lines ≡ before ++ l ∷ after) (s : Site u (as_block b) before l after) (m : Midst)
+      (typed : KnowsTyped u m.known) (there : KnowsThere u (as_block b) before m.known) where
     abbrev Operands : InstText → Type 0
     Operands j = OperandsThere kind.Proc u (place-at s.number s.entry (as_block b) before l after) j
 
@@ -103,7 +115,8 @@ module _ (u : UnitText) (g : Region) (r : RegionOf u g) (i : ℕ) (b : FlatBlock
         (subst (More (DriveRight h) m.rows.drives) (sym d.drives) (no-more (DriveRight h) m.rows.drives)) d.ends
         (subst (More (λ (t : Tree). Unit {0}) m.rows.asserts) (sym d.asserts) (no-more (λ (t : Tree). Unit {0}) m.rows.asserts))
 
-    abbrev LeadsRight : (last : is_terminator l.inst ≡ true) → (c : Tree) → IsCondition c → Under h.cond c → (m1 : Midst) → m1.known ≡ m.known → (to : List ℕ) → list_any (λ m. same_name m to) (leads_to l.inst) ≡ true → (x : (c : BlockText) × (block_of to u.blocks ≡ Some c)) → Leads m1 (leads g h c to m1)
+    abbrev LeadsRight : (last : is_terminator l.inst ≡ true) → (c : Tree) → IsCondition c → Under h.cond c → (m1 : Midst) → m1.known ≡ m.known → (to : List ℕ)
+        → list_any (λ m. same_name m to) (leads_to l.inst) ≡ true → (x : (c : BlockText) × (block_of to u.blocks ≡ Some c)) → Leads m1 (leads g h c to m1)
     LeadsRight last = leads-right before l after split s last m.known typed there
 
     br-took : (to : List ℕ) → l.inst ≡ br_text to → Labels (br_text to) → Took before l m (takes g h (br_text to) l.result m)
@@ -116,15 +129,18 @@ module _ (u : UnitText) (g : Region) (r : RegionOf u g) (i : ℕ) (b : FlatBlock
     pub branch-known : (c first second : List ℕ) → RowIs u (branch_text c first second) → Operands (branch_text c first second) → (t : Tree) × (value_known m.known c ≡ Some t) × IsCondition t
     branch-known c first second row k = Taking.bit-known u g r i b bat h hl hc before l after s m typed there c row k.0
 
-    branch-took : (c first second : List ℕ) → l.inst ≡ branch_text c first second → RowIs u (branch_text c first second) → Operands (branch_text c first second) → Labels (branch_text c first second) → Took before l m (takes g h (branch_text c first second) l.result m)
+    branch-took : (c first second : List ℕ) → l.inst ≡ branch_text c first second → RowIs u (branch_text c first second) → Operands (branch_text c first second) → Labels (branch_text c first second)
+        → Took before l m (takes g h (branch_text c first second) l.result m)
     branch-took c first second e row k x =
         let last : is_terminator l.inst ≡ true = ap is_terminator e in
         let t = branch-known c first second row k in
         let n = not-condition t.0 t.2 in
         let q0 : Tree = both h.cond (make_operation Not (t.0 ∷ [])) in
         let m1 : Midst = leads g h q0 first m in
-        let a = LeadsRight last q0 (and-condition h.cond (make_operation Not (t.0 ∷ [])) hc n) (Taking.under-both h.cond (make_operation Not (t.0 ∷ [])) hc n) m refl first (ap (λ j. list_any (λ m. same_name m first) (leads_to j)) e ∙ first-name first (second ∷ [])) x.0 in
-        let b = LeadsRight last (both h.cond t.0) (and-condition h.cond t.0 hc t.2) (Taking.under-both h.cond t.0 hc t.2) m1 a.known second (ap (λ j. list_any (λ m. same_name m second) (leads_to j)) e ∙ second-name first second) x.1.0 in
+        let a = LeadsRight last q0 (and-condition h.cond (make_operation Not (t.0 ∷ [])) hc n) (Taking.under-both h.cond (make_operation Not (t.0 ∷ [])) hc n) m refl first
+        (ap (λ j. list_any (λ m. same_name m first) (leads_to j)) e ∙ first-name first (second ∷ [])) x.0 in
+        let b = LeadsRight last (both h.cond t.0) (and-condition h.cond t.0 hc t.2) (Taking.under-both h.cond t.0 hc t.2) m1 a.known second
+        (ap (λ j. list_any (λ m. same_name m second) (leads_to j)) e ∙ second-name first second) x.1.0 in
         subst (λ o. Took before l m (branches g h o first second m)) (sym t.1)
         (leads-took (leads g h (both h.cond t.0) second m1) last (λ t q. none-some t (sym (ap result_type e) ∙ q)) (leads-both m m1 (leads g h (both h.cond t.0) second m1) a b))
 
@@ -140,7 +156,8 @@ module _ (u : UnitText) (g : Region) (r : RegionOf u g) (i : ℕ) (b : FlatBlock
           asserts = refl;
         })
 
-    wait-took : (to : List ℕ) (after' : Option (List ℕ)) (on : List (List ℕ)) → l.inst ≡ wait_text to after' on → Labels (wait_text to after' on) → Took before l m (takes g h (wait_text to after' on) l.result m)
+    wait-took : (to : List ℕ) (after' : Option (List ℕ)) (on : List (List ℕ)) → l.inst ≡ wait_text to after' on → Labels (wait_text to after' on)
+        → Took before l m (takes g h (wait_text to after' on) l.result m)
     wait-took to after' on e x =
         let last : is_terminator l.inst ≡ true = ap is_terminator e in
         let t = target u g r i b bat h hl to x.0 in
@@ -149,7 +166,8 @@ module _ (u : UnitText) (g : Region) (r : RegionOf u g) (i : ℕ) (b : FlatBlock
         (by last t.number (parts_known m.known on) j)
       where
         by : (last : is_terminator l.inst ≡ true) (k : ℕ) (o : Option (List Part)) → JoinsAt u g k h.label m.known → Took before l m (ends_if h m (wait_way g (is_some after') (Some k) o))
-        by last k None j = leads-took m last (λ t q. none-some t (sym (ap result_type e) ∙ q)) (record { known = refl; edges = no-more (EdgeRight u g h) m.edges; drives = refl; ends = no-more (EndRight u g h) m.rows.ends; asserts = refl })
+        by last k None j = leads-took m last (λ t q. none-some t (sym (ap result_type e) ∙ q))
+            (record { known = refl; edges = no-more (EdgeRight u g h) m.edges; drives = refl; ends = no-more (EndRight u g h) m.rows.ends; asserts = refl })
         by last k (Some ps) j = leads-took (ends h h.cond m (waits k (nat_eq k g.head) ps (is_some after'))) last (λ t q. none-some t (sym (ap result_type e) ∙ q))
             (record {
               known = refl;
@@ -163,7 +181,8 @@ module _ (u : UnitText) (g : Region) (r : RegionOf u g) (i : ℕ) (b : FlatBlock
     pub takes-took : PhiGiven m.known l.inst l.result → Took before l m (takes g h l.inst l.result m)
     takes-took p = by l.inst refl s.sound.row s.sound.part s.sound.written s.calls s.there s.leads p
       where
-        by : (j : InstText) → l.inst ≡ j → RowIs u j → HasPart u j → IsWrittenRight j → IsWithoutCalls u j → Operands j → Labels j → PhiGiven m.known j l.result → Took before l m (takes g h j l.result m)
+        by : (j : InstText) → l.inst ≡ j → RowIs u j → HasPart u j → IsWrittenRight j → IsWithoutCalls u j → Operands j → Labels j → PhiGiven m.known j l.result
+            → Took before l m (takes g h j l.result m)
         by (const_text d) e row part w c k x p = Taking.const-took u g r i b bat h hl hc before l after s m typed there d e w
         by (pure_text o os) e row part w c k x p = Taking.pure-took u g r i b bat h hl hc before l after s m typed there o os e row part w k
         by (var_text a) e row part w c k x p = Taking.var-took u g r i b bat h hl hc before l after s m typed there a e row k
@@ -191,8 +210,14 @@ module _ (u : UnitText) (g : Region) (r : RegionOf u g) (i : ℕ) (b : FlatBlock
     pub ends : More (EndRight u g h) m.rows.ends m'.rows.ends
     pub asserts : More (λ (t : Tree). Unit {0}) m.rows.asserts m'.rows.asserts
 
-  pub lines-add : (before ls : List LineText) → with_merge b.merge b.lines ≡ before ++ ls → (m : Midst) → KnowsTyped u m.known → KnowsThere u (as_block b) before m.known → PhisGiven m.known ls → Adds m (takes_all g h ls m)
-  lines-add before [] split m typed there p = record { edges = no-more (EdgeRight u g h) m.edges; drives = no-more (DriveRight h) m.rows.drives; ends = no-more (EndRight u g h) m.rows.ends; asserts = no-more (λ (t : Tree). Unit {0}) m.rows.asserts }
+  pub lines-add : (before ls : List LineText) → with_merge b.merge b.lines ≡ before ++ ls → (m : Midst) → KnowsTyped u m.known → KnowsThere u (as_block b) before m.known → PhisGiven m.known ls
+      → Adds m (takes_all g h ls m)
+  lines-add before [] split m typed there p = record {
+    edges = no-more (EdgeRight u g h) m.edges;
+    drives = no-more (DriveRight h) m.rows.drives;
+    ends = no-more (EndRight u g h) m.rows.ends;
+    asserts = no-more (λ (t : Tree). Unit {0}) m.rows.asserts;
+  }
   lines-add before (l ∷ ls) split m typed there p =
       let s = site-at u r.formed i (as_block b) before l ls (text-at u g r i b bat h hl i b bat) split in
       let m1 : Midst = takes g h l.inst l.result m in

@@ -17,7 +17,7 @@ use Rattle.lh_term.specs.SameTree.{same_tree, same_tree-is}
 use Rattle.lh_term.specs.Make.{bit_of, make_operation, make_choice}
 use Rattle.lh_term.specs.Conjuncts.{all_conjuncts, conjuncts_of, conjunction}
 use Rattle.lh_term.proofs.Sound.{IntTerm, bit_mean, bit_typed, one_wide, operation_sound, choice_sound, not_typed}
-use Rattle.lh_rows.specs.Joins.{Edge, or_any, any_taken, in_each, selector, chosen_from, merged}
+use Rattle.lh_rows.specs.Joins.{RegionEdge, or_any, any_taken, in_each, selector, chosen_from, merged}
 use Rattle.lh_rows.specs.Typed.{Among, IsCondition, IsOfType}
 use Rattle.lh_rows.specs.Means.{is_one}
 use Rattle.lh_term.proofs.Conditions.{AllBits, one_bit, bit_one, holds, holds_with, conjuncts_are_bits, filter-bits, conjuncts_hold, and_typed, from_all}
@@ -78,14 +78,14 @@ module _ (past now : Valuation) (p : IsFitting past) (n : IsFitting now) where
 
 -- ---- some edge is taken
 
-abbrev pub EachCondition : List Edge → Type 0
-EachCondition es = Each (λ (e : Edge). IsCondition e.cond) es
+abbrev pub EachCondition : List RegionEdge → Type 0
+EachCondition es = Each (λ (e : RegionEdge). IsCondition e.cond) es
 
-or_any-condition : (c : Tree) (es : List Edge) → IsCondition c → EachCondition es → IsCondition (or_any c es)
+or_any-condition : (c : Tree) (es : List RegionEdge) → IsCondition c → EachCondition es → IsCondition (or_any c es)
 or_any-condition c [] i h = i
 or_any-condition c (e ∷ es) i h = or_any-condition (make_operation Or (c ∷ e.cond ∷ [])) es (or-condition c e.cond i h.0) h.1
 
-pub any-condition : (es : List Edge) → EachCondition es → IsCondition (any_taken es)
+pub any-condition : (es : List RegionEdge) → EachCondition es → IsCondition (any_taken es)
 any-condition es h = or_any-condition (bit_of false) es (bit-condition false) h
 
 or_assoc : (a b c : Bool) → (a || b) || c ≡ a || (b || c)
@@ -97,20 +97,20 @@ or_false true = refl
 or_false false = refl
 
 module _ (past now : Valuation) (p : IsFitting past) (n : IsFitting now) where
-  abbrev pub taken : Edge → Bool
+  abbrev pub taken : RegionEdge → Bool
   taken e = one past now p n e.cond
 
-  or_any-one : (c : Tree) (es : List Edge) → IsCondition c → EachCondition es → one past now p n (or_any c es) ≡ one past now p n c || list_any taken es
+  or_any-one : (c : Tree) (es : List RegionEdge) → IsCondition c → EachCondition es → one past now p n (or_any c es) ≡ one past now p n c || list_any taken es
   or_any-one c [] i h = sym (or_false (one past now p n c))
   or_any-one c (e ∷ es) i h =
       or_any-one (make_operation Or (c ∷ e.cond ∷ [])) es (or-condition c e.cond i h.0) h.1
       ∙ ap (λ b. b || list_any taken es) (or-one past now p n c e.cond i h.0)
       ∙ or_assoc (one past now p n c) (taken e) (list_any taken es)
 
-  pub any-one : (es : List Edge) → EachCondition es → one past now p n (any_taken es) ≡ list_any taken es
+  pub any-one : (es : List RegionEdge) → EachCondition es → one past now p n (any_taken es) ≡ list_any taken es
   any-one es h = or_any-one (bit_of false) es (bit-condition false) h
 
-  pub any-taken : (es : List Edge) (e : Edge) → Among e es → taken e ≡ true → list_any taken es ≡ true
+  pub any-taken : (es : List RegionEdge) (e : RegionEdge) → Among e es → taken e ≡ true → list_any taken es ≡ true
   any-taken [] e a h = absurd a
   any-taken (x ∷ es) e (inl q) h = rw (ap taken q ∙ h) refl
   any-taken (x ∷ es) e (inr a) h = at (taken x) (any-taken es e a h)
@@ -119,7 +119,7 @@ module _ (past now : Valuation) (p : IsFitting past) (n : IsFitting now) where
       at true g = refl
       at false g = g
 
-  pub none-taken : (es : List Edge) → ((e : Edge) → Among e es → taken e ≡ false) → list_any taken es ≡ false
+  pub none-taken : (es : List RegionEdge) → ((e : RegionEdge) → Among e es → taken e ≡ false) → list_any taken es ≡ false
   none-taken [] h = refl
   none-taken (x ∷ es) h = rw (h x (inl refl)) (none-taken es (λ e a. h e (inr a)))
 
@@ -131,7 +131,7 @@ bits-of t c = conjuncts_are_bits t c.typed c.type
 start-bit : IntTerm (bit_of true) 1
 start-bit = record { typed = bit_typed true; type = refl }
 
-pub selector-condition : (es : List Edge) (e : Edge) → IsCondition e.cond → IsCondition (selector es e)
+pub selector-condition : (es : List RegionEdge) (e : RegionEdge) → IsCondition e.cond → IsCondition (selector es e)
 selector-condition es e c =
     let r = from_all (bit_of true) (filter (λ c. not (in_each es c)) (conjuncts_of e.cond)) start-bit (filter-bits (λ c. not (in_each es c)) (conjuncts_of e.cond) (bits-of e.cond c)) in
     is-condition (selector es e) r.bit
@@ -145,19 +145,21 @@ module _ (past now : Valuation) (p : IsFitting past) (n : IsFitting now) where
   held-one c [] a h = absurd (false≢true a)
   held-one c (t ∷ ts) a h = at (same_tree c t) refl (one past now p n t) refl a h (held-one c ts)
     where
-      at : (b : Bool) → same_tree c t ≡ b → (x : Bool) → one past now p n t ≡ x → (b || list_any (same_tree c) ts) ≡ true → (x && holds past now ts) ≡ true → (list_any (same_tree c) ts ≡ true → holds past now ts ≡ true → one past now p n c ≡ true) → one past now p n c ≡ true
+      at : (b : Bool) → same_tree c t ≡ b → (x : Bool) → one past now p n t ≡ x → (b || list_any (same_tree c) ts) ≡ true → (x && holds past now ts) ≡ true
+          → (list_any (same_tree c) ts ≡ true → holds past now ts ≡ true → one past now p n c ≡ true) → one past now p n c ≡ true
       at true q true r a h go = ap (one past now p n) (same_tree-is c t q) ∙ r
       at b q false r a h go = absurd (false≢true h)
       at false q true r a h go = go a h
 
   -- what stands in each edge's condition stands in that of one
-  in-one : (es : List Edge) (c : Tree) (e : Edge) → Among e es → in_each es c ≡ true → list_any (same_tree c) (conjuncts_of e.cond) ≡ true
+  in-one : (es : List RegionEdge) (c : Tree) (e : RegionEdge) → Among e es → in_each es c ≡ true → list_any (same_tree c) (conjuncts_of e.cond) ≡ true
   in-one [] c e a h = absurd a
   in-one (x ∷ es) c e a h = at (in-one es c e) (list_any (same_tree c) (conjuncts_of x.cond)) refl h a
     where
-      at : (Among e es → in_each es c ≡ true → list_any (same_tree c) (conjuncts_of e.cond) ≡ true) → (b : Bool) → list_any (same_tree c) (conjuncts_of x.cond) ≡ b → (b && in_each es c) ≡ true → Among e (x ∷ es) → list_any (same_tree c) (conjuncts_of e.cond) ≡ true
+      at : (Among e es → in_each es c ≡ true → list_any (same_tree c) (conjuncts_of e.cond) ≡ true) → (b : Bool) → list_any (same_tree c) (conjuncts_of x.cond) ≡ b → (b && in_each es c) ≡ true
+          → Among e (x ∷ es) → list_any (same_tree c) (conjuncts_of e.cond) ≡ true
       at go false q h a = absurd (false≢true h)
-      at go true q h (inl r) = subst (λ (y : Edge). list_any (same_tree c) (conjuncts_of y.cond) ≡ true) r q
+      at go true q h (inl r) = subst (λ (y : RegionEdge). list_any (same_tree c) (conjuncts_of y.cond) ≡ true) r q
       at go true q h (inr b) = go b h
 
   -- terms that hold may be left out
@@ -165,12 +167,14 @@ module _ (past now : Valuation) (p : IsFitting past) (n : IsFitting now) where
   left-out f go [] = refl
   left-out f go (t ∷ ts) = at (f t) refl (left-out f go ts)
     where
-      at : (b : Bool) → f t ≡ b → holds past now (filter (λ c. not (f c)) ts) ≡ holds past now ts → holds past now (if not b then t ∷ filter (λ c. not (f c)) ts else filter (λ c. not (f c)) ts) ≡ one past now p n t && holds past now ts
+      at : (b : Bool) → f t ≡ b → holds past now (filter (λ c. not (f c)) ts) ≡ holds past now ts → holds past now (if not b then t ∷ filter (λ c. not (f c)) ts else filter (λ c. not (f c)) ts)
+          ≡ one past now p n t && holds past now ts
       at true q ih = ih ∙ ap (λ b. b && holds past now ts) (sym (go t q))
       at false q ih = ap (λ b. one past now p n t && b) ih
 
   -- Where some edge is taken, the selector of an edge tells whether that one is.
-  pub selector-one : (es : List Edge) (e : Edge) → IsCondition e.cond → (x : Edge) → Among x es → IsCondition x.cond → taken past now p n x ≡ true → one past now p n (selector es e) ≡ taken past now p n e
+  pub selector-one : (es : List RegionEdge) (e : RegionEdge) → IsCondition e.cond → (x : RegionEdge) → Among x es → IsCondition x.cond → taken past now p n x ≡ true
+      → one past now p n (selector es e) ≡ taken past now p n e
   selector-one es e c x a d h =
       let f : Tree → Bool = in_each es in
       let r = from_all (bit_of true) (filter (λ c. not (f c)) (conjuncts_of e.cond)) start-bit (filter-bits (λ c. not (f c)) (conjuncts_of e.cond) (bits-of e.cond c)) in
@@ -193,20 +197,24 @@ module _ (past now : Valuation) (p : IsFitting past) (n : IsFitting now) where
   filter-holds f [] h = refl
   filter-holds f (t ∷ ts) h = at (f t) (one past now p n t) refl h (filter-holds f ts)
     where
-      at : (b x : Bool) → one past now p n t ≡ x → (x && holds past now ts) ≡ true → (holds past now ts ≡ true → holds past now (filter f ts) ≡ true) → holds past now (if b then t ∷ filter f ts else filter f ts) ≡ true
+      at : (b x : Bool) → one past now p n t ≡ x → (x && holds past now ts) ≡ true → (holds past now ts ≡ true → holds past now (filter f ts) ≡ true)
+          → holds past now (if b then t ∷ filter f ts else filter f ts) ≡ true
       at b false q h go = absurd (false≢true h)
       at true true q h go = rw q (go h)
       at false true q h go = go h
 
   -- where one of two conditions holds, the conjuncts that the second has beyond the first tell whether the second does
-  pub beyond-one : (c d : Tree) → IsCondition c → IsCondition d → (one past now p n c || one past now p n d) ≡ true → one past now p n (conjunction (filter (λ k. not (list_any (same_tree k) (conjuncts_of c))) (conjuncts_of d))) ≡ one past now p n d
+  pub beyond-one : (c d : Tree) → IsCondition c → IsCondition d → (one past now p n c || one past now p n d) ≡ true
+      → one past now p n (conjunction (filter (λ k. not (list_any (same_tree k) (conjuncts_of c))) (conjuncts_of d))) ≡ one past now p n d
   beyond-one c d i j h =
       let f : Tree → Bool = λ k. list_any (same_tree k) (conjuncts_of c) in
       let r = from_all (bit_of true) (filter (λ k. not (f k)) (conjuncts_of d)) start-bit (filter-bits (λ k. not (f k)) (conjuncts_of d) (bits-of d j)) in
       ap is_one (r.value past now p n) ∙ one_bit (holds past now (filter (λ k. not (f k)) (conjuncts_of d))) ∙ at (one past now p n c) refl (one past now p n d) refl h
     where
-      at : (x : Bool) → one past now p n c ≡ x → (y : Bool) → one past now p n d ≡ y → (x || y) ≡ true → holds past now (filter (λ k. not (list_any (same_tree k) (conjuncts_of c))) (conjuncts_of d)) ≡ one past now p n d
-      at true q y r h = left-out past now p n (λ k. list_any (same_tree k) (conjuncts_of c)) (λ k z. held-one past now p n k (conjuncts_of c) z (conjuncts-one past now p n c i ∙ q)) (conjuncts_of d) ∙ conjuncts-one past now p n d j
+      at : (x : Bool) → one past now p n c ≡ x → (y : Bool) → one past now p n d ≡ y → (x || y) ≡ true → holds past now (filter (λ k. not (list_any (same_tree k) (conjuncts_of c))) (conjuncts_of d))
+          ≡ one past now p n d
+      at true q y r h = left-out past now p n (λ k. list_any (same_tree k) (conjuncts_of c)) (λ k z. held-one past now p n k (conjuncts_of c) z (conjuncts-one past now p n c i ∙ q)) (conjuncts_of d)
+          ∙ conjuncts-one past now p n d j
       at false q true r h = filter-holds (λ k. not (list_any (same_tree k) (conjuncts_of c))) (conjuncts_of d) (conjuncts-one past now p n d j ∙ r) ∙ sym r
       at false q false r h = absurd (false≢true h)
 
@@ -222,27 +230,28 @@ made-choice c f t ty i j k = let s = choice_sound c f t (choice-typed c f t ty i
 abbrev pub AllOf : TypeTree → List Tree → Type 0
 AllOf ty ts = Each (IsOfType ty) ts
 
-chosen-typed : (all : List Edge) (t : Tree) (ty : TypeTree) → IsOfType ty t → (es : List Edge) (ts : List Tree) → EachCondition es → AllOf ty ts → IsOfType ty (chosen_from all t es ts)
+chosen-typed : (all : List RegionEdge) (t : Tree) (ty : TypeTree) → IsOfType ty t → (es : List RegionEdge) (ts : List Tree) → EachCondition es → AllOf ty ts → IsOfType ty (chosen_from all t es ts)
 chosen-typed all t ty h [] ts c k = h
 chosen-typed all t ty h (e ∷ es) [] c k = h
 chosen-typed all t ty h (e ∷ es) (v ∷ vs) c k = chosen-typed all (make_choice (selector all e) t v) ty (made-choice (selector all e) t v ty (selector-condition all e c.0) h k.0) es vs c.1 k.1
 
-pub merged-typed : (es : List Edge) (ts : List Tree) (t : Tree) (ty : TypeTree) → EachCondition es → AllOf ty ts → merged es ts ≡ Some t → IsOfType ty t
+pub merged-typed : (es : List RegionEdge) (ts : List Tree) (t : Tree) (ty : TypeTree) → EachCondition es → AllOf ty ts → merged es ts ≡ Some t → IsOfType ty t
 merged-typed [] ts t ty c k e = absurd (none-some t e)
 merged-typed (x ∷ es) [] t ty c k e = absurd (none-some t e)
 merged-typed (x ∷ es) (v ∷ vs) t ty c k e = subst (IsOfType ty) (same_Some (chosen_from (x ∷ es) v es vs) t e) (chosen-typed (x ∷ es) v ty k.0 es vs c.1 k.1)
 
-pub merged-some : (e : Edge) (es : List Edge) (v : Tree) (vs : List Tree) → IsSome (merged (e ∷ es) (v ∷ vs))
+pub merged-some : (e : RegionEdge) (es : List RegionEdge) (v : Tree) (vs : List Tree) → IsSome (merged (e ∷ es) (v ∷ vs))
 merged-some e es v vs = refl
 
 module _ (past now : Valuation) (p : IsFitting past) (n : IsFitting now) where
   -- the edges with what they give: what a taken edge gives means d
-  abbrev pub EachMeans : Datum → List Edge → List Tree → Type 0
+  abbrev pub EachMeans : Datum → List RegionEdge → List Tree → Type 0
   EachMeans d [] [] = Unit {0}
   EachMeans d (e ∷ es) (t ∷ ts) = (taken past now p n e ≡ true → mean past now t ≡ d) × EachMeans d es ts
   EachMeans d _ _ = ⊥
 
-  pub choose : (c f t : Tree) (ty : TypeTree) → IsCondition c → IsOfType ty f → IsOfType ty t → (b : Bool) → one past now p n c ≡ b → mean past now (make_choice c f t) ≡ (if b then mean past now t else mean past now f)
+  pub choose : (c f t : Tree) (ty : TypeTree) → IsCondition c → IsOfType ty f → IsOfType ty t → (b : Bool) → one past now p n c ≡ b
+      → mean past now (make_choice c f t) ≡ (if b then mean past now t else mean past now f)
   choose c f t ty i j k b q =
       let s = choice_sound c f t (choice-typed c f t ty i j k) in
       s.mean past now p n ∙ ap (λ v. chosen v (mean past now f) (mean past now t)) (mean-bit past now p n c i ∙ ap bit_value q) ∙ by b
@@ -251,7 +260,8 @@ module _ (past now : Valuation) (p : IsFitting past) (n : IsFitting now) where
       by true = refl
       by false = refl
 
-  chosen-means : (all : List Edge) (x : Edge) → Among x all → IsCondition x.cond → taken past now p n x ≡ true → (d : Datum) (t : Tree) (ty : TypeTree) → IsOfType ty t → (es : List Edge) (ts : List Tree) → EachCondition es → AllOf ty ts → EachMeans d es ts
+  chosen-means : (all : List RegionEdge) (x : RegionEdge) → Among x all → IsCondition x.cond → taken past now p n x ≡ true → (d : Datum) (t : Tree) (ty : TypeTree) → IsOfType ty t
+      → (es : List RegionEdge) (ts : List Tree) → EachCondition es → AllOf ty ts → EachMeans d es ts
       → (mean past now t ≡ d) ⊎ (list_any (taken past now p n) es ≡ true) → mean past now (chosen_from all t es ts) ≡ d
   chosen-means all x a c h d t ty i [] [] f k m (inl e) = e
   chosen-means all x a c h d t ty i [] [] f k m (inr e) = absurd (false≢true e)
@@ -260,20 +270,23 @@ module _ (past now : Valuation) (p : IsFitting past) (n : IsFitting now) where
   chosen-means all x a c h d t ty i (y ∷ es) (v ∷ vs) f k m e =
       let s : one past now p n (selector all y) ≡ taken past now p n y = selector-one past now p n all y f.0 x a c h in
       let q = choose (selector all y) t v ty (selector-condition all y f.0) i k.0 in
-      chosen-means all x a c h d (make_choice (selector all y) t v) ty (made-choice (selector all y) t v ty (selector-condition all y f.0) i k.0) es vs f.1 k.1 m.1 (at (taken past now p n y) refl (λ b r. q b (s ∙ r)) e)
+      chosen-means all x a c h d (make_choice (selector all y) t v) ty (made-choice (selector all y) t v ty (selector-condition all y f.0) i k.0) es vs f.1 k.1 m.1
+      (at (taken past now p n y) refl (λ b r. q b (s ∙ r)) e)
     where
-      at : (b : Bool) → taken past now p n y ≡ b → ((b : Bool) → taken past now p n y ≡ b → mean past now (make_choice (selector all y) t v) ≡ (if b then mean past now v else mean past now t)) → (mean past now t ≡ d) ⊎ ((b || list_any (taken past now p n) es) ≡ true) → (mean past now (make_choice (selector all y) t v) ≡ d) ⊎ (list_any (taken past now p n) es ≡ true)
+      at : (b : Bool) → taken past now p n y ≡ b → ((b : Bool) → taken past now p n y ≡ b → mean past now (make_choice (selector all y) t v) ≡ (if b then mean past now v else mean past now t))
+          → (mean past now t ≡ d) ⊎ ((b || list_any (taken past now p n) es) ≡ true) → (mean past now (make_choice (selector all y) t v) ≡ d) ⊎ (list_any (taken past now p n) es ≡ true)
       at true r q e = inl (q true r ∙ m.0 r)
       at false r q (inl e) = inl (q false r ∙ e)
       at false r q (inr e) = inr e
 
   -- The merged value is what the edge that is taken gives.
-  pub merged-means : (es : List Edge) (x : Edge) → Among x es → taken past now p n x ≡ true → EachCondition es → (ts : List Tree) (ty : TypeTree) → AllOf ty ts → (d : Datum) → EachMeans d es ts → (t : Tree) → merged es ts ≡ Some t → mean past now t ≡ d
+  pub merged-means : (es : List RegionEdge) (x : RegionEdge) → Among x es → taken past now p n x ≡ true → EachCondition es → (ts : List Tree) (ty : TypeTree) → AllOf ty ts → (d : Datum)
+      → EachMeans d es ts → (t : Tree) → merged es ts ≡ Some t → mean past now t ≡ d
   merged-means [] x a h c ts ty k d m t e = absurd a
   merged-means (y ∷ es) x a h c [] ty k d m t e = absurd m
   merged-means (y ∷ es) x a h c (v ∷ vs) ty k d m t e =
       ap (mean past now) (sym (same_Some (chosen_from (y ∷ es) v es vs) t e))
-      ∙ chosen-means (y ∷ es) x a (in-each (λ (z : Edge). IsCondition z.cond) (y ∷ es) x c a) h d v ty k.0 es vs c.1 k.1 m.1 (first a)
+      ∙ chosen-means (y ∷ es) x a (in-each (λ (z : RegionEdge). IsCondition z.cond) (y ∷ es) x c a) h d v ty k.0 es vs c.1 k.1 m.1 (first a)
     where
       first : Among x (y ∷ es) → (mean past now v ≡ d) ⊎ (list_any (taken past now p n) es ≡ true)
       first (inl q) = inl (m.0 (ap (taken past now p n) q ∙ h))

@@ -40,7 +40,7 @@ use Rattle.lh_term.proofs.Sound.{operation_sound}
 use Rattle.lh_term.proofs.Typing.{value_is, value_typed, mean_fits, gives_is}
 use Rattle.lh_rows.specs.Known.{Known, known_value, known_cell, known_part, Knowledge, as_value, as_cell as as_known_cell, as_part as as_known_part, value_known, cell_known, part_known, values_known, parts_known}
 use Rattle.lh_rows.specs.Typed.{known_type, IsPartOf, IsTypedKnown, KnowsTyped, IsOfType}
-use Rattle.lh_rows.specs.Means.{reads, held_as, Shows}
+use Rattle.lh_rows.specs.Means.{reads, held_as, KnownIsHeld}
 use Rattle.lh_rows.proofs.Reading.{reads-fit}
 
 -- ---- what is held where something is known
@@ -53,7 +53,7 @@ HasType u o = (ty : TypeTree) × IsOf u ty o.value
 abbrev pub IsOfSome : UnitText → List ℕ → Type 0
 IsOfSome u n = (ty : TypeTree) × IsOf u ty n
 
-module _ (u : UnitText) (v : Tree → Datum) (r : Part → Range) (k : Knowledge) (e : Env) (s : Shows u v r k e) where
+module _ (u : UnitText) (v : Tree → Datum) (r : Part → Range) (k : Knowledge) (e : Env) (s : KnownIsHeld u v r k e) where
   pub datum-shown : (n : List ℕ) (ty : TypeTree) (t : Tree) → IsOf u ty n → value_known k n ≡ Some t → datum_at e n ≡ Some (v t)
   datum-shown n ty t i q = by (k n) refl q
     where
@@ -85,7 +85,8 @@ module _ (u : UnitText) (v : Tree → Datum) (r : Part → Range) (k : Knowledge
   data-shown [] ts c q = ap (λ xs. Some (map v xs)) (same_Some [] ts q)
   data-shown (o ∷ os) ts c q = by (λ xs. data-shown os xs c.1) (value_known k o.value) refl (values_known k os) refl q
     where
-      by : ((xs : List Tree) → values_known k os ≡ Some xs → data_at e os ≡ Some (map v xs)) → (a : Option Tree) → value_known k o.value ≡ a → (b : Option (List Tree)) → values_known k os ≡ b → front a b ≡ Some ts → front (datum_at e o.value) (data_at e os) ≡ Some (map v ts)
+      by : ((xs : List Tree) → values_known k os ≡ Some xs → data_at e os ≡ Some (map v xs)) → (a : Option Tree) → value_known k o.value ≡ a → (b : Option (List Tree)) → values_known k os ≡ b
+          → front a b ≡ Some ts → front (datum_at e o.value) (data_at e os) ≡ Some (map v ts)
       by go None p b g h = absurd (none-some ts h)
       by go (Some x) p None g h = absurd (none-some ts h)
       by go (Some x) p (Some xs) g h = ap (λ y. front y (data_at e os)) (datum-shown o.value c.0.0 x c.0.1 p) ∙ ap (front (Some (v x))) (go xs g) ∙ ap (λ ys. Some (map v ys)) (same_Some (x ∷ xs) ts h)
@@ -94,7 +95,8 @@ module _ (u : UnitText) (v : Tree → Datum) (r : Part → Range) (k : Knowledge
   parts-shown [] ps c q = ap (λ xs. Some (map r xs)) (same_Some [] ps q)
   parts-shown (n ∷ ns) ps c q = by (λ xs. parts-shown ns xs c.1) (part_known k n) refl (parts_known k ns) refl q
     where
-      by : ((xs : List Part) → parts_known k ns ≡ Some xs → parts_at e ns ≡ Some (map r xs)) → (a : Option Part) → part_known k n ≡ a → (b : Option (List Part)) → parts_known k ns ≡ b → front a b ≡ Some ps → front (part_at e n) (parts_at e ns) ≡ Some (map r ps)
+      by : ((xs : List Part) → parts_known k ns ≡ Some xs → parts_at e ns ≡ Some (map r xs)) → (a : Option Part) → part_known k n ≡ a → (b : Option (List Part)) → parts_known k ns ≡ b
+          → front a b ≡ Some ps → front (part_at e n) (parts_at e ns) ≡ Some (map r ps)
       by go None p b g h = absurd (none-some ps h)
       by go (Some x) p None g h = absurd (none-some ps h)
       by go (Some x) p (Some xs) g h = ap (λ y. front y (parts_at e ns)) (part-shown n c.0.0 x c.0.1 p) ∙ ap (front (Some (r x))) (go xs g) ∙ ap (λ ys. Some (map r ys)) (same_Some (x ∷ xs) ps h)
@@ -168,7 +170,7 @@ placed p = record { lo = 0; len = bit_count p.ty }
 abbrev shows : Knowledge → Env
 shows k n = option_map (held_as shown placed) (k n)
 
-shows-shows : (u : UnitText) (k : Knowledge) → Shows u shown placed k (shows k)
+shows-shows : (u : UnitText) (k : Knowledge) → KnownIsHeld u shown placed k (shows k)
 shows-shows u k n x t q v = ap (option_map (held_as shown placed)) q
 
 data-value : (t : TypeTree) → IsData t → IsValueType t
@@ -272,7 +274,8 @@ module _ (u : UnitText) (k : Knowledge) (h : KnowsTyped u k) where
   typed-values [] ts c q = subst (λ xs. AreTyped (tree_row xs)) (same_Some [] ts q) tt
   typed-values (o ∷ os) ts c q = by (λ xs. typed-values os xs c.1) (k o.value) refl (values_known k os) refl q
     where
-      by : ((xs : List Tree) → values_known k os ≡ Some xs → AreTyped (tree_row xs)) → (a : Option Known) → k o.value ≡ a → (b : Option (List Tree)) → values_known k os ≡ b → front (option_and_then as_value a) b ≡ Some ts → AreTyped (tree_row ts)
+      by : ((xs : List Tree) → values_known k os ≡ Some xs → AreTyped (tree_row xs)) → (a : Option Known) → k o.value ≡ a → (b : Option (List Tree)) → values_known k os ≡ b
+          → front (option_and_then as_value a) b ≡ Some ts → AreTyped (tree_row ts)
       by go None p b g e = absurd (none-some ts e)
       by go (Some (known_cell x)) p b g e = absurd (none-some ts e)
       by go (Some (known_part x)) p b g e = absurd (none-some ts e)
@@ -280,7 +283,8 @@ module _ (u : UnitText) (k : Knowledge) (h : KnowsTyped u k) where
       by go (Some (known_value x)) p (Some xs) g e = subst (λ ys. AreTyped (tree_row ys)) (same_Some (x ∷ xs) ts e) ((h o.value (known_value x) c.0.0 p c.0.1).0.0, go xs g)
 
   -- an operation of values is typed, and of the type of its line
-  pub operation-typed : (o : Op) (os : List OperandText) → RowIs u (pure_text o os) → HasOperands o os → Each (HasType u) os → (ts : List Tree) → values_known k os ≡ Some ts → (ty : TypeTree) → operation_type o os ≡ Some ty
+  pub operation-typed : (o : Op) (os : List OperandText) → RowIs u (pure_text o os) → HasOperands o os → Each (HasType u) os → (ts : List Tree) → values_known k os ≡ Some ts → (ty : TypeTree)
+      → operation_type o os ≡ Some ty
       → IsTyped (operation_on o ts) × IsOfType ty (make_operation o ts)
   operation-typed o os row has c ts q ty r =
       let l = fits-line u 65536 (shows k) (shows-fit u k h) (class_of o) os row has (map shown ts) (data-shown u shown placed k (shows k) (shows-shows u k) os ts c q) in
@@ -326,7 +330,8 @@ no-data k (o ∷ os) q = by (no-data k os) (k o.value) (values_known k os) refl 
     none None = refl
     none (Some x) = refl
 
-    by : (values_known k os ≡ None → data_at (shows k) os ≡ None) → (a : Option Known) → (b : Option (List Tree)) → values_known k os ≡ b → front (option_and_then as_value a) b ≡ None → front (option_and_then as_datum (option_map (held_as shown placed) a)) (data_at (shows k) os) ≡ None
+    by : (values_known k os ≡ None → data_at (shows k) os ≡ None) → (a : Option Known) → (b : Option (List Tree)) → values_known k os ≡ b → front (option_and_then as_value a) b ≡ None
+        → front (option_and_then as_datum (option_map (held_as shown placed) a)) (data_at (shows k) os) ≡ None
     by go None b g e = refl
     by go (Some (known_cell x)) b g e = refl
     by go (Some (known_part x)) b g e = refl
@@ -334,7 +339,8 @@ no-data k (o ∷ os) q = by (no-data k os) (k o.value) (values_known k os) refl 
     by go (Some (known_value x)) (Some xs) g e = absurd cc
 
 module _ (u : UnitText) (k : Knowledge) (h : KnowsTyped u k) where
-  step-known : (o : Op) (s : Step) (os : List OperandText) → step_of o ≡ Some s → TakesPart u s os → Each (λ (x : OperandText). IsSome (k x.value)) os → IsSome (signal_part u (shows k) o os) → PartStep u k o os
+  step-known : (o : Op) (s : Step) (os : List OperandText) → step_of o ≡ Some s → TakesPart u s os → Each (λ (x : OperandText). IsSome (k x.value)) os → IsSome (signal_part u (shows k) o os)
+      → PartStep u k o os
   step-known o s os so p c y = by p.whole p.is p.leads
     where
       held : IsSome (k p.operand.value)
@@ -381,7 +387,8 @@ module _ (u : UnitText) (k : Knowledge) (h : KnowsTyped u k) where
   signal-known o os p c y = absurd (no-takes o os refl y)
 
   -- An operation has values, or takes a part of a signal.
-  pub operation-known : (o : Op) (os : List OperandText) → RowIs u (pure_text o os) → HasPart u (pure_text o os) → Each (λ (x : OperandText). IsSome (k x.value)) os → ((ts : List Tree) × (values_known k os ≡ Some ts)) ⊎ PartStep u k o os
+  pub operation-known : (o : Op) (os : List OperandText) → RowIs u (pure_text o os) → HasPart u (pure_text o os) → Each (λ (x : OperandText). IsSome (k x.value)) os
+      → ((ts : List Tree) × (values_known k os ≡ Some ts)) ⊎ PartStep u k o os
   operation-known o os r p c = by (values_known k os) refl
     where
       there : IsSome (operated u (shows k) o os)

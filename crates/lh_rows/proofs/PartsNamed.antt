@@ -18,7 +18,8 @@ pub part-argument : (n : List ℕ) (i : ℕ) (xs : List ArgText) (p : Part) → 
 part-argument n i [] p q = absurd (none-some p q)
 part-argument n i (a ∷ xs) p q = by (same_name a.name n) q (part-argument n (i + 1) xs p)
   where
-    by : (b : Bool) → (if b then option_map (whole_argument i) (carried a.ty) else argument_part n (i + 1) xs) ≡ Some p → (argument_part n (i + 1) xs ≡ Some p → args_define n xs ≡ true) → (b || args_define n xs) ≡ true
+    by : (b : Bool) → (if b then option_map (whole_argument i) (carried a.ty) else argument_part n (i + 1) xs) ≡ Some p → (argument_part n (i + 1) xs ≡ Some p → args_define n xs ≡ true)
+        → (b || args_define n xs) ≡ true
     by true g go = refl
     by false g go = go g
 

@@ -19,7 +19,8 @@ take-few (suc n) (x ∷ xs) = let h = take-few n xs in omega (arith, h)
 pow-more : (a b n : ℕ) → a ≤ b → n < 2 ^ a → n < 2 ^ b
 pow-more a b n h l = let m : 2 ^ a ≤ 2 ^ b = pow-le-pow_right (omega arith) h in omega (arith, m, l)
 
-parts-fit : (w : ℕ) (t : TypeTree) (f : List Bool → Datum) → ((bs : List Bool) → FitsType (f bs) t) → (n : ℕ) (bs : List Bool) → (part_count (repeat_parts n f w bs) ≡ n) × PartsFit (repeat_parts n f w bs) t
+parts-fit : (w : ℕ) (t : TypeTree) (f : List Bool → Datum) → ((bs : List Bool) → FitsType (f bs) t) → (n : ℕ) (bs : List Bool) → (part_count (repeat_parts n f w bs) ≡ n)
+    × PartsFit (repeat_parts n f w bs) t
 parts-fit w t f each zero bs = (refl, tt)
 parts-fit w t f each (suc n) bs = let rest = parts-fit w t f each n (drop w bs) in (omega (arith, rest.0), (each (take w bs), rest.1))
 

@@ -11,7 +11,7 @@ use Rattle.lh_term.specs.Tree.{Tree, constant, now_of, past_of, operation_on, ch
 use Rattle.lh_term.specs.Make.{bit_of}
 use Rattle.lh_term.specs.declared.part.Part.{Part}
 use Rattle.std.specs.Option.{option_map}
-use Rattle.lh_rows.specs.Rows.{Drive, Way, enters_head, waits, End, Rows}
+use Rattle.lh_rows.specs.Rows.{Drive, Way, enters_head, waits, RegionEnd, Rows}
 use Rattle.lh_rows.specs.Regions.{Coursed, stops, comes_to, head_phi, Regioned, no_regions, has_regions, region_from, first_region, regions_of, head_of}
 
 -- ---- writing texts
@@ -55,7 +55,7 @@ drives_in (comes_to c) = c.rows.drives
 -- the condition of an end, and how it ends
 abbrev ends_in : Coursed → List (Tree × Way)
 ends_in (stops r) = []
-ends_in (comes_to c) = map (λ (e : End). (e.cond, e.way)) c.rows.ends
+ends_in (comes_to c) = map (λ (e : RegionEnd). (e.cond, e.way)) c.rows.ends
 
 -- ---- the logic of an accumulator: a default, and an override where it is enabled
 
@@ -112,7 +112,7 @@ rises = operation_on op.And (operation_on op.Neq (past_of clk ∷ now_of clk ∷
 
 abbrev rows_of_second : Regioned → Option (List Drive × List (Tree × Way))
 rows_of_second (no_regions r) = None
-rows_of_second (has_regions g) = option_map (λ (r : Rows). (r.drives, map (λ (e : End). (e.cond, e.way)) r.ends)) g.second
+rows_of_second (has_regions g) = option_map (λ (r : Rows). (r.drives, map (λ (e : RegionEnd). (e.cond, e.way)) r.ends)) g.second
 
 ff_first : ends_in (first_region acc_ff now_of) ≡ (bit_of true, waits 1 false (clk ∷ []) false) ∷ []
 unfolding region_from
@@ -184,7 +184,8 @@ abbrev head_with_phi : FlatText
 head_with_phi = record {
   args = [];
   blocks = block (codes "entry") (gives (codes "k") (const_text (int_value 1 0)) ∷ does (br_text (codes "head")) ∷ [])
-      ∷ block (codes "head") (gives (codes "p") (phi_text bit (record { value = codes "k"; block = codes "entry" } ∷ record { value = codes "k"; block = codes "head" } ∷ [])) ∷ does (wait_text (codes "head") None []) ∷ [])
+      ∷ block (codes "head") (gives (codes "p") (phi_text bit (record { value = codes "k"; block = codes "entry" } ∷ record { value = codes "k"; block = codes "head" } ∷ []))
+      ∷ does (wait_text (codes "head") None []) ∷ [])
       ∷ [];
 }
 

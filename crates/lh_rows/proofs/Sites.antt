@@ -8,7 +8,7 @@ use Rattle.lh_unit.specs.Contents.{LineText, BlockText, UnitText, is_result_name
 use Rattle.lh_unit.specs.Named.{block_of}
 use Rattle.lh_unit.specs.Hierarchy.{lines_of}
 use Rattle.lh_unit.specs.Kinds.{uses}
-use Rattle.lh_unit.specs.Places.{Place, places_in, places_from, places, is_terminator}
+use Rattle.lh_unit.specs.Places.{InstPlaceText, places_in, places_from, places, is_terminator}
 use Rattle.lh_unit.specs.Typing.{value_type, result_type}
 use Rattle.lh_unit.specs.WellFormed.{labels_named}
 use Rattle.lh_unit.specs.Within.{Each}
@@ -17,7 +17,7 @@ use Rattle.lh_formed.specs.Defined.{OperandsThere}
 use Rattle.lh_formed.specs.KindsOf.{HasTypeOfKind}
 use Rattle.lh_formed.specs.Shape.{EndsOnce}
 use Rattle.lh_formed.proofs.Bools.{each_both}
-use Rattle.lh_eval.specs.Sound.{IsSound}
+use Rattle.lh_eval.specs.Sound.{InstIsSound}
 use Rattle.lh_formed.proofs.EachItem.{each-split}
 use Rattle.lh_formed.proofs.AtPlaces.{place-at, in-block}
 use Rattle.lh_spelled.specs.Printable.{results_repeat}
@@ -27,7 +27,8 @@ use Rattle.lh_inlined.specs.Formed.{IsFormed, IsWithoutCalls, PhiFormed}
 
 -- ---- an instruction of a block
 
-in-blocks : (P : Place → Type 0) (k : ℕ) (e : Bool) (bs : List BlockText) (i : ℕ) (b : BlockText) (seen : List LineText) (l : LineText) (after : List LineText) → Each P (places_from k e bs) → slice_get bs i ≡ Some b → b.lines ≡ seen ++ l ∷ after
+in-blocks : (P : InstPlaceText → Type 0) (k : ℕ) (e : Bool) (bs : List BlockText) (i : ℕ) (b : BlockText) (seen : List LineText) (l : LineText) (after : List LineText) → Each P (places_from k e bs)
+    → slice_get bs i ≡ Some b → b.lines ≡ seen ++ l ∷ after
     → (j : ℕ) × (d : Bool) × P (place-at j d b seen l after)
 in-blocks P k e [] i b seen l after h q s = absurd (none-some b q)
 in-blocks P k e (c ∷ bs) zero b seen l after h q s =
@@ -63,7 +64,7 @@ ends-more (x ∷ y ∷ seen) l after h t e = ends-more (y ∷ seen) l after h.1 
 
 -- what holds at an instruction
 pub record Site (u : UnitText) (b : BlockText) (before : List LineText) (l : LineText) (after : List LineText) : Type 0 where
-  pub sound : IsSound u l
+  pub sound : InstIsSound u l
   pub calls : IsWithoutCalls u l.inst
   pub kinds : Each (HasTypeOfKind u) (uses l.inst)
   pub number : ℕ
@@ -75,24 +76,30 @@ pub record Site (u : UnitText) (b : BlockText) (before : List LineText) (l : Lin
   pub last : is_terminator l.inst ≡ true → after ≡ []
   pub more : is_terminator l.inst ≡ false → after ≡ [] → ⊥
 
-pub record Rights (u : UnitText) (p : Place) : Type 0 where
+pub record Rights (u : UnitText) (p : InstPlaceText) : Type 0 where
   pub there : OperandsThere kind.Proc u p p.line.inst
   pub leads : Each (λ n. (c : BlockText) × (block_of n u.blocks ≡ Some c)) (labels_named p.line.inst)
   pub phi : PhiFormed u p p.line.inst
 
-rights : (u : UnitText) (ps : List Place) → Each (λ (p : Place). OperandsThere kind.Proc u p p.line.inst) ps → Each (λ (p : Place). Each (λ n. (b : BlockText) × (block_of n u.blocks ≡ Some b)) (labels_named p.line.inst)) ps
-    → Each (λ (p : Place). PhiFormed u p p.line.inst) ps → Each (Rights u) ps
+rights : (u : UnitText) (ps : List InstPlaceText) → Each (λ (p : InstPlaceText). OperandsThere kind.Proc u p p.line.inst) ps
+    → Each (λ (p : InstPlaceText). Each (λ n. (b : BlockText) × (block_of n u.blocks ≡ Some b)) (labels_named p.line.inst)) ps
+    → Each (λ (p : InstPlaceText). PhiFormed u p p.line.inst) ps → Each (Rights u) ps
 rights u [] a b c = tt
 rights u (p ∷ ps) a b c = (record { there = a.0; leads = b.0; phi = c.0 }, rights u ps a.1 b.1 c.1)
 
-pub site-at : (u : UnitText) → IsFormed u → (i : ℕ) (b : BlockText) (before : List LineText) (l : LineText) (after : List LineText) → slice_get u.blocks i ≡ Some b → b.lines ≡ before ++ l ∷ after → Site u b before l after
+pub site-at : (u : UnitText) → IsFormed u → (i : ℕ) (b : BlockText) (before : List LineText) (l : LineText) (after : List LineText) → slice_get u.blocks i ≡ Some b → b.lines ≡ before ++ l ∷ after
+    → Site u b before l after
 site-at u f i b before l after q s =
     let r = in-blocks (Rights u) 1 true u.blocks i b before l after (rights u (places u) f.there f.leads f.phis) q s in
-    let sound = each-split (IsSound u) before (l ∷ after) (subst (Each (IsSound u)) s (block-lines (IsSound u) u.blocks i b f.lines q)) in
-    let calls = each-split (λ (x : LineText). IsWithoutCalls u x.inst) before (l ∷ after) (subst (Each (λ (x : LineText). IsWithoutCalls u x.inst)) s (block-lines (λ (x : LineText). IsWithoutCalls u x.inst) u.blocks i b f.calls q)) in
-    let kinds = each-split (λ (x : LineText). Each (HasTypeOfKind u) (uses x.inst)) before (l ∷ after) (subst (Each (λ (x : LineText). Each (HasTypeOfKind u) (uses x.inst))) s (block-lines (λ (x : LineText). Each (HasTypeOfKind u) (uses x.inst)) u.blocks i b f.kinds q)) in
+    let sound = each-split (InstIsSound u) before (l ∷ after) (subst (Each (InstIsSound u)) s (block-lines (InstIsSound u) u.blocks i b f.lines q)) in
+    let calls = each-split (λ (x : LineText). IsWithoutCalls u x.inst) before (l ∷ after)
+    (subst (Each (λ (x : LineText). IsWithoutCalls u x.inst)) s (block-lines (λ (x : LineText). IsWithoutCalls u x.inst) u.blocks i b f.calls q)) in
+    let kinds = each-split (λ (x : LineText). Each (HasTypeOfKind u) (uses x.inst)) before (l ∷ after)
+    (subst (Each (λ (x : LineText). Each (HasTypeOfKind u) (uses x.inst))) s (block-lines (λ (x : LineText). Each (HasTypeOfKind u) (uses x.inst)) u.blocks i b f.kinds q)) in
     let new : results_repeat u.args [] (lines_of u.blocks) ≡ false = f.new_results in
-    let first = each-split (IsFirst u.args (lines_of u.blocks)) before (l ∷ after) (subst (Each (IsFirst u.args (lines_of u.blocks))) s (block-lines (IsFirst u.args (lines_of u.blocks)) u.blocks i b (each-first u.args (lines_of u.blocks) [] (lines_of u.blocks) refl new) q)) in
+    let first = each-split (IsFirst u.args (lines_of u.blocks)) before (l ∷ after)
+    (subst (Each (IsFirst u.args (lines_of u.blocks))) s
+    (block-lines (IsFirst u.args (lines_of u.blocks)) u.blocks i b (each-first u.args (lines_of u.blocks) [] (lines_of u.blocks) refl new) q)) in
     let once : EndsOnce (before ++ l ∷ after) = subst EndsOnce s (block-at (λ (x : BlockText). EndsOnce x.lines) u.blocks i b f.ends q) in
     record {
       sound = sound.1.0;
@@ -110,19 +117,19 @@ site-at u f i b before l after q s =
 
 -- a line is sound, and the only one that gives its result
 abbrev pub LineGood : UnitText → LineText → Type 0
-LineGood u l = IsSound u l × IsFirst u.args (lines_of u.blocks) l
+LineGood u l = InstIsSound u l × IsFirst u.args (lines_of u.blocks) l
 
 -- so is each line of a block
 pub good-lines : (u : UnitText) → IsFormed u → (i : ℕ) (b : BlockText) → slice_get u.blocks i ≡ Some b → Each (LineGood u) b.lines
 good-lines u f i b q =
     let new : results_repeat u.args [] (lines_of u.blocks) ≡ false = f.new_results in
-    each_both (IsSound u) (IsFirst u.args (lines_of u.blocks)) (LineGood u) (λ x a c. (a, c)) b.lines (block-lines (IsSound u) u.blocks i b f.lines q)
+    each_both (InstIsSound u) (IsFirst u.args (lines_of u.blocks)) (LineGood u) (λ x a c. (a, c)) b.lines (block-lines (InstIsSound u) u.blocks i b f.lines q)
     (block-lines (IsFirst u.args (lines_of u.blocks)) u.blocks i b (each-first u.args (lines_of u.blocks) [] (lines_of u.blocks) refl new) q)
 
 -- ---- what is there
 
 -- a name whose type is that of no value is no result of an instruction that gives none
-pub not-result : (u : UnitText) (l : LineText) → IsSound u l → (n : List ℕ) (t : TypeTree) → value_type u n ≡ Some t → (result_type l.inst ≡ Some t → ⊥) → is_result_name n l.result ≡ false
+pub not-result : (u : UnitText) (l : LineText) → InstIsSound u l → (n : List ℕ) (t : TypeTree) → value_type u n ≡ Some t → (result_type l.inst ≡ Some t → ⊥) → is_result_name n l.result ≡ false
 not-result u l s n t v other = at (is_result_name n l.result) refl
   where
     at : (b : Bool) → is_result_name n l.result ≡ b → b ≡ false

@@ -37,7 +37,7 @@ use Rattle.lh_rows.specs.Known.{Known, known_value, known_part, Knowledge, nothi
 use Rattle.lh_rows.specs.Places.{block_number}
 use Rattle.lh_rows.specs.Regions.{is_constant, with_constant, with_constants, begins_with_phi, lines_at, known_first, head_of, edge_into}
 use Rattle.lh_rows.specs.Typed.{known_type, Among, argument_part, of_argument, IsTypedKnown, KnowsTyped, KnowsThere, JoinEdge}
-use Rattle.lh_rows.specs.Means.{range_in, lowest_bit, held_as, Shows}
+use Rattle.lh_rows.specs.Means.{range_in, lowest_bit, held_as, KnownIsHeld}
 use Rattle.lh_rows.specs.Right.{as_block, BlockAt}
 use Rattle.lh_rows.proofs.Among.{in-each, among-split}
 use Rattle.lh_rows.proofs.Sites.{LineGood, good-lines}
@@ -62,7 +62,8 @@ number-is : (n : List ℕ) (bs : List FlatBlockText) (k : ℕ) → block_number 
 number-is n [] k q = absurd (none-some k q)
 number-is n (c ∷ bs) k q = by (same_name c.label n) refl q (number-is n bs)
   where
-    by : (x : Bool) → same_name c.label n ≡ x → (if x then Some 0 else option_map (λ j. j + 1) (block_number n bs)) ≡ Some k → ((j : ℕ) → block_number n bs ≡ Some j → (b : FlatBlockText) × (slice_get bs j ≡ Some b) × (b.label ≡ n)) → (b : FlatBlockText) × (slice_get (c ∷ bs) k ≡ Some b) × (b.label ≡ n)
+    by : (x : Bool) → same_name c.label n ≡ x → (if x then Some 0 else option_map (λ j. j + 1) (block_number n bs)) ≡ Some k
+        → ((j : ℕ) → block_number n bs ≡ Some j → (b : FlatBlockText) × (slice_get bs j ≡ Some b) × (b.label ≡ n)) → (b : FlatBlockText) × (slice_get (c ∷ bs) k ≡ Some b) × (b.label ≡ n)
     by true e f go = (c, ap (slice_get (c ∷ bs)) (sym (same_Some 0 k f)), same_name-is c.label n e)
     by false e f go = at (block_number n bs) refl f
       where
@@ -81,14 +82,16 @@ args-else e [] hs n d = refl
 args-else e (a ∷ xs) [] n d = refl
 args-else e (a ∷ xs) (h ∷ hs) n d = by (same_name a.name n) refl d (args-else (with_held e a.name h) xs hs n)
   where
-    by : (b : Bool) → same_name a.name n ≡ b → (b || args_define n xs) ≡ false → (args_define n xs ≡ false → with_args (with_held e a.name h) xs hs n ≡ with_held e a.name h n) → with_args (with_held e a.name h) xs hs n ≡ e n
+    by : (b : Bool) → same_name a.name n ≡ b → (b || args_define n xs) ≡ false → (args_define n xs ≡ false → with_args (with_held e a.name h) xs hs n ≡ with_held e a.name h n)
+        → with_args (with_held e a.name h) xs hs n ≡ e n
     by true q f go = absurd (false≢true (sym f))
     by false q f go = go f ∙ ap (λ b. if b then Some h else e n) q
 
 range-is : (a b : Range) → a.lo ≡ b.lo → a.len ≡ b.len → a ≡ b
 range-is a b p q = λ i. record { lo = p i; len = q i }
 
-pub args-held : (seen : List ArgText) (e : Env) (i : ℕ) (xs : List ArgText) (rs all : List Range) (w : ℕ) (n : List ℕ) (p : Part) → args_repeat seen xs ≡ false → RangesFit w rs (arg_types xs) → Each IsPort xs → ((j : ℕ) → slice_get rs j ≡ slice_get all (i + j)) → argument_part n i xs ≡ Some p → with_args e xs (map part_held rs) n ≡ Some (part_held (range_in all p))
+pub args-held : (seen : List ArgText) (e : Env) (i : ℕ) (xs : List ArgText) (rs all : List Range) (w : ℕ) (n : List ℕ) (p : Part) → args_repeat seen xs ≡ false → RangesFit w rs (arg_types xs)
+    → Each IsPort xs → ((j : ℕ) → slice_get rs j ≡ slice_get all (i + j)) → argument_part n i xs ≡ Some p → with_args e xs (map part_held rs) n ≡ Some (part_held (range_in all p))
 args-held seen e i [] rs all w n p new fit ports at q = absurd (none-some p q)
 args-held seen e i (a ∷ xs) [] all w n p new fit ports at q = absurd fit
 args-held seen e i (a ∷ xs) (r ∷ rs) all w n p new fit ports at q =
@@ -101,7 +104,9 @@ args-held seen e i (a ∷ xs) (r ∷ rs) all w n p new fit ports at q =
     zero-more : (i : ℕ) → i ≡ i + 0
     zero-more i = omega arith
 
-    by : (b : Bool) → same_name a.name n ≡ b → (if b then option_map (whole_argument i) (carried a.ty) else argument_part n (i + 1) xs) ≡ Some p → args_repeat (seen ++ a ∷ []) xs ≡ false → (argument_part n (i + 1) xs ≡ Some p → with_args (with_held e a.name (part_held r)) xs (map part_held rs) n ≡ Some (part_held (range_in all p))) → with_args (with_held e a.name (part_held r)) xs (map part_held rs) n ≡ Some (part_held (range_in all p))
+    by : (b : Bool) → same_name a.name n ≡ b → (if b then option_map (whole_argument i) (carried a.ty) else argument_part n (i + 1) xs) ≡ Some p → args_repeat (seen ++ a ∷ []) xs ≡ false
+        → (argument_part n (i + 1) xs ≡ Some p → with_args (with_held e a.name (part_held r)) xs (map part_held rs) n ≡ Some (part_held (range_in all p)))
+        → with_args (with_held e a.name (part_held r)) xs (map part_held rs) n ≡ Some (part_held (range_in all p))
     by false m f u go = go f
     by true m f u go =
         let t = ports.0.0 in
@@ -112,7 +117,8 @@ args-held seen e i (a ∷ xs) (r ∷ rs) all w n p new fit ports at q =
         let low : r.lo ≡ lowest_bit all i + 0 = (zero-more r.lo ∙ ap (λ x. x + 0) (sym (ap (λ o. option_map_or (λ (y : Range). y.lo) o 0) here))) in
         let len : r.len ≡ bit_count t = fit.0 ∙ ap bit_count ports.0.1 in
         let range : r ≡ range_in all (whole_argument i t) = range-is r (range_in all (whole_argument i t)) low len in
-        args-else (with_held e a.name (part_held r)) xs (map part_held rs) n apart ∙ ap (λ b. if b then Some (part_held r) else e n) m ∙ ap (λ y. Some (part_held y)) range ∙ ap (λ y. Some (part_held (range_in all y))) same
+        args-else (with_held e a.name (part_held r)) xs (map part_held rs) n apart ∙ ap (λ b. if b then Some (part_held r) else e n) m ∙ ap (λ y. Some (part_held y)) range
+        ∙ ap (λ y. Some (part_held (range_in all y))) same
 
 -- ---- the head
 
@@ -137,7 +143,11 @@ module _ (name : UnitName) (t : FlatText) (f : IsFormed (flat_unit name t)) (pla
   eb = entry-of.block
 
   pub entry-at : BlockAt t.blocks 0 eb
-  entry-at = record { at = ap (λ bs. slice_get bs 0) entry-of.are; number = ap (block_number eb.label) entry-of.are ∙ ap (λ b. if b then Some 0 else option_map (λ k. k + 1) (block_number eb.label entry-of.more)) (same_name-refl eb.label) }
+  entry-at = record {
+    at = ap (λ bs. slice_get bs 0) entry-of.are;
+    number = ap (block_number eb.label) entry-of.are
+        ∙ ap (λ b. if b then Some 0 else option_map (λ k. k + 1) (block_number eb.label entry-of.more)) (same_name-refl eb.label);
+  }
 
   pub entry-text : slice_get u.blocks 0 ≡ Some (as_block eb)
   entry-text = block-text t.blocks 0 eb entry-at.at
@@ -170,7 +180,8 @@ module _ (name : UnitName) (t : FlatText) (f : IsFormed (flat_unit name t)) (pla
   hb = head-block.block
 
   pub head-lines : NoPhis (with_merge hb.merge hb.lines)
-  head-lines = no-phis u f (head_of t.blocks) (as_block hb) (block-text t.blocks (head_of t.blocks) hb head-block.at.at) (sym (ap (λ o. begins_with_phi (option_map_or (λ (b : FlatBlockText). with_merge b.merge b.lines) o [])) head-block.at.at) ∙ plain)
+  head-lines = no-phis u f (head_of t.blocks) (as_block hb) (block-text t.blocks (head_of t.blocks) hb head-block.at.at)
+      (sym (ap (λ o. begins_with_phi (option_map_or (λ (b : FlatBlockText). with_merge b.merge b.lines) o [])) head-block.at.at) ∙ plain)
 
   -- ---- what is known there
 
@@ -184,10 +195,12 @@ module _ (name : UnitName) (t : FlatText) (f : IsFormed (flat_unit name t)) (pla
       by true a = absurd a
       by false a = in-each (LineGood u) (with_merge eb.merge eb.lines) l (good-lines u f 0 (as_block eb) entry-text) (subst (Among l) entry-lines a)
 
-  argument-known : (n : List ℕ) (x : Known) (ty : TypeTree) → with_arguments nothing_known 0 t.args n ≡ Some x → value_type u n ≡ Some ty → IsTypedKnown u n x × (p : Part) × (x ≡ known_part p) × (argument_part n 0 t.args ≡ Some p) × (signal_type p.ty ≡ ty)
+  argument-known : (n : List ℕ) (x : Known) (ty : TypeTree) → with_arguments nothing_known 0 t.args n ≡ Some x → value_type u n ≡ Some ty → IsTypedKnown u n x × (p : Part) × (x ≡ known_part p)
+      × (argument_part n 0 t.args ≡ Some p) × (signal_type p.ty ≡ ty)
   argument-known n x ty q v = by (arguments-case [] nothing_known 0 t.args n x f.new_args q)
     where
-      by : (nothing_known n ≡ Some x) ⊎ ((p : Part) × (x ≡ known_part p) × (argument_part n 0 t.args ≡ Some p)) → IsTypedKnown u n x × (p : Part) × (x ≡ known_part p) × (argument_part n 0 t.args ≡ Some p) × (signal_type p.ty ≡ ty)
+      by : (nothing_known n ≡ Some x) ⊎ ((p : Part) × (x ≡ known_part p) × (argument_part n 0 t.args ≡ Some p)) → IsTypedKnown u n x × (p : Part) × (x ≡ known_part p)
+          × (argument_part n 0 t.args ≡ Some p) × (signal_type p.ty ≡ ty)
       by (inl z) = absurd (none-some x z)
       by (inr z) =
           let k = argument-of u n 0 t.args z.0 f.args f.ports z.2 in
@@ -249,9 +262,12 @@ module _ (name : UnitName) (t : FlatText) (f : IsFormed (flat_unit name t)) (pla
           let text : with_merge eb.merge eb.lines ≡ h0.constants ++ h0.last ∷ [] = sym entry-lines ∙ h0.are in
           let stands : block_of hb.label u.blocks ≡ Some (as_block hb) = block-labelled t.blocks hb.label (head_of t.blocks) hb head-block.at.at head-block.at.number in
           let edge : has_edge (as_block eb) hb.label ≡ true =
-          ap (λ ls. list_any (λ m. same_name m hb.label) (last_leads_to ls)) text ∙ ap (list_any (λ m. same_name m hb.label)) (last-leads h0.constants h0.last ∙ ap leads_to h0.branch) ∙ ap (λ b. b || false) (same_name-refl hb.label) in
-          let given : lines_define n (with_merge eb.merge eb.lines) ≡ true = ⊎_elim (λ e. absurd (false≢true e)) (λ e. right (lines_define n (with_merge eb.merge eb.lines)) e) (h (as_block eb ∷ []) (edge, stands, entry-first)) in
-          constants-known (with_arguments nothing_known 0 t.args) (lines_at t.blocks 0) n (λ l a r. constant-line h0 l (subst (Among l) h0.are a) (subst (Among l) entry-lines a) r) (ap (lines_define n) entry-lines ∙ given)
+          ap (λ ls. list_any (λ m. same_name m hb.label) (last_leads_to ls)) text ∙ ap (list_any (λ m. same_name m hb.label)) (last-leads h0.constants h0.last ∙ ap leads_to h0.branch)
+          ∙ ap (λ b. b || false) (same_name-refl hb.label) in
+          let given : lines_define n (with_merge eb.merge eb.lines)
+          ≡ true = ⊎_elim (λ e. absurd (false≢true e)) (λ e. right (lines_define n (with_merge eb.merge eb.lines)) e) (h (as_block eb ∷ []) (edge, stands, entry-first)) in
+          constants-known (with_arguments nothing_known 0 t.args) (lines_at t.blocks 0) n (λ l a r. constant-line h0 l (subst (Among l) h0.are a) (subst (Among l) entry-lines a) r)
+          (ap (lines_define n) entry-lines ∙ given)
         where
           is-last : (h0 : Leading) (l : LineText) → h0.last ≡ l → Among l (with_merge eb.merge eb.lines) → is_result_name n l.result ≡ true → is_constant l.inst ≡ true
           is-last h0 l e b r =
@@ -329,7 +345,8 @@ module _ (name : UnitName) (t : FlatText) (f : IsFormed (flat_unit name t)) (pla
               false≢true (sym q ∙ ap (λ k. nat_eq k 0) (sym same))
 
   -- Where what is there at the head is known and held, what the first region starts with is held.
-  pub held-again : (v v' : Tree → Datum) (r : Part → Range) (k : Knowledge) (e : Env) → ((d : Datum) → v (constant d) ≡ d) → ((d : Datum) → v' (constant d) ≡ d) → KnowsTyped u k → KnowsThere u (as_block hb) [] k → Shows u v r k e → Shows u v' r (known_first t) e
+  pub held-again : (v v' : Tree → Datum) (r : Part → Range) (k : Knowledge) (e : Env) → ((d : Datum) → v (constant d) ≡ d) → ((d : Datum) → v' (constant d) ≡ d) → KnowsTyped u k
+      → KnowsThere u (as_block hb) [] k → KnownIsHeld u v r k e → KnownIsHeld u v' r (known_first t) e
   held-again v v' r k e cv cv' typed there sh n x ty q o = by (constants-case (with_arguments nothing_known 0 t.args) constants n x q)
     where
       by : (with_arguments nothing_known 0 t.args n ≡ Some x) ⊎ ConstantOf constants n x → e n ≡ Some (held_as v' r x)
@@ -351,7 +368,8 @@ module _ (name : UnitName) (t : FlatText) (f : IsFormed (flat_unit name t)) (pla
           sh n (known_value w.0) ty kn o ∙ ap (λ d. Some (datum_held (v d))) same ∙ ap (λ d. Some (datum_held d)) (cv c.value ∙ sym (cv' c.value)) ∙ ap (λ z. Some (held_as v' r z)) (sym c.is)
 
   -- the arguments of a new process are held
-  pub held-new : (v : Tree → Datum) (w : ℕ) (args : List Range) → RangesFit w args (arg_types t.args) → Shows u v (range_in args) (with_arguments nothing_known 0 t.args) (with_args nothing_held t.args (map part_held args))
+  pub held-new : (v : Tree → Datum) (w : ℕ) (args : List Range) → RangesFit w args (arg_types t.args)
+      → KnownIsHeld u v (range_in args) (with_arguments nothing_known 0 t.args) (with_args nothing_held t.args (map part_held args))
   held-new v w args fit n x ty q o =
       let a = argument-known n x ty q o in
       args-held [] nothing_held 0 t.args args args w n a.1 f.new_args fit f.ports (λ j. ap (slice_get args) (zero-less j)) a.3 ∙ ap (λ y. Some (held_as v (range_in args) y)) (sym a.2)
@@ -367,10 +385,10 @@ module _ (name : UnitName) (t : FlatText) (f : IsFormed (flat_unit name t)) (pla
 
     pub record ConstantsRun (b : List ℕ) (ls rest : List LineText) (e : Env) (k : Knowledge) : Type 0 where
       pub held : Env
-      pub shown : Shows u v r (with_constants k ls) held
+      pub shown : KnownIsHeld u v r (with_constants k ls) held
       pub runs : (m : ℕ) → run (length ls + m) s (point b (ls ++ rest) e) ≡ run m s (point b rest held)
 
-    pub constants-run : (b : List ℕ) (ls rest : List LineText) → Each (λ (l : LineText). is_constant l.inst ≡ true) ls → (e : Env) (k : Knowledge) → Shows u v r k e → ConstantsRun b ls rest e k
+    pub constants-run : (b : List ℕ) (ls rest : List LineText) → Each (λ (l : LineText). is_constant l.inst ≡ true) ls → (e : Env) (k : Knowledge) → KnownIsHeld u v r k e → ConstantsRun b ls rest e k
     constants-run b [] rest h e k sh = record { held = e; shown = sh; runs = λ m. ap (λ x. run x s (point b rest e)) (zero-less m) }
       where
         zero-less : (m : ℕ) → 0 + m ≡ m
@@ -380,14 +398,16 @@ module _ (name : UnitName) (t : FlatText) (f : IsFormed (flat_unit name t)) (pla
         more : (a m : ℕ) → suc a + m ≡ suc (a + m)
         more a m = omega arith
 
-        by : (i : InstText) → l.inst ≡ i → is_constant i ≡ true → ((e : Env) (k : Knowledge) → Shows u v r k e → ConstantsRun b ls rest e k) → ConstantsRun b (l ∷ ls) rest e k
+        by : (i : InstText) → l.inst ≡ i → is_constant i ≡ true → ((e : Env) (k : Knowledge) → KnownIsHeld u v r k e → ConstantsRun b ls rest e k) → ConstantsRun b (l ∷ ls) rest e k
         by (const_text d) q c go =
             let e' : Env = with_result e l.result (datum_held d) in
-            let sh' : Shows u v r (with_given k l.result (Some (known_value (constant d)))) e' = given-shows-typed u v r k e l.result (known_value (constant d)) (datum_held d) sh (λ n t z w. ap datum_held (sym (cv d))) in
+            let sh' : KnownIsHeld u v r (with_given k l.result (Some (known_value (constant d)))) e' = given-shows-typed u v r k e l.result (known_value (constant d)) (datum_held d) sh
+            (λ n t z w. ap datum_held (sym (cv d))) in
             let z = go e' (with_given k l.result (Some (known_value (constant d)))) sh' in
             record {
               held = z.held;
-              shown = subst (λ i. Shows u v r (with_constants (with_constant k i l.result) ls) z.held) (sym q) z.shown;
-              runs = λ m. ap (λ x. run x s (point b ((l ∷ ls) ++ rest) e)) (more (length ls) m) ∙ ap (λ i. went (machine.executes s i l.result (point b (ls ++ rest) e)) (run (length ls + m) s)) q ∙ z.runs m;
+              shown = subst (λ i. KnownIsHeld u v r (with_constants (with_constant k i l.result) ls) z.held) (sym q) z.shown;
+              runs = λ m. ap (λ x. run x s (point b ((l ∷ ls) ++ rest) e)) (more (length ls) m) ∙ ap (λ i. went (machine.executes s i l.result (point b (ls ++ rest) e)) (run (length ls + m) s)) q
+                  ∙ z.runs m;
             }
         by _ q c go = absurd (false≢true c)

@@ -19,8 +19,8 @@ use Rattle.lh_term.specs.Make.{is_zero}
 use Rattle.lh_term.specs.Mean.{Valuation, IsFitting}
 use Rattle.lh_term.specs.declared.part.Part.{Part}
 use Rattle.lh_rows.specs.Known.{Knowledge}
-use Rattle.lh_rows.specs.Rows.{Drive, enters_head, End}
-use Rattle.lh_rows.specs.Joins.{Edge}
+use Rattle.lh_rows.specs.Rows.{Drive, enters_head, RegionEnd}
+use Rattle.lh_rows.specs.Joins.{RegionEdge}
 use Rattle.lh_rows.specs.Places.{Region, Here, Midst, block_number, next_place, goes_if, leads, ends}
 use Rattle.lh_rows.specs.Typed.{KnowsTyped, KnowsThere, IsCondition, IsOfType}
 use Rattle.lh_rows.specs.Right.{BlockAt, JoinsAt, WayRight, as_block}
@@ -55,7 +55,7 @@ abbrev pub Under : (q c : Tree) → Type 0
 Under q c = (past now : Valuation) (p : IsFitting past) (n : IsFitting now) → one past now p n c ≡ true → one past now p n q ≡ true
 
 -- an edge that a place makes
-pub record EdgeRight (u : UnitText) (g : Region) (h : Here) (e : Edge) : Type 0 where
+pub record EdgeRight (u : UnitText) (g : Region) (h : Here) (e : RegionEdge) : Type 0 where
   pub cond : IsCondition e.cond
   pub under : Under h.cond e.cond
   pub from : e.from ≡ h.label
@@ -63,7 +63,7 @@ pub record EdgeRight (u : UnitText) (g : Region) (h : Here) (e : Edge) : Type 0 
   pub joins : JoinsAt u g e.to.block e.from e.known
 
 -- an end of a place
-pub record EndRight (u : UnitText) (g : Region) (h : Here) (x : End) : Type 0 where
+pub record EndRight (u : UnitText) (g : Region) (h : Here) (x : RegionEnd) : Type 0 where
   pub cond : IsCondition x.cond
   pub under : Under h.cond x.cond
   pub from : x.from ≡ h.label
@@ -98,7 +98,8 @@ module _ (u : UnitText) (g : Region) (r : RegionOf u g) (i : ℕ) (b : FlatBlock
   pub target : (to : List ℕ) → (c : BlockText) × (block_of to u.blocks ≡ Some c) → Target to
   target to c = let z = block-by to g.blocks c.0 (sym (ap (block_of to) r.blocks) ∙ c.1) in record { number = z.0; block = z.1; is = z.2; at = z.3; label = z.4 }
 
-  module _ (before : List LineText) (l : LineText) (split : with_merge b.merge b.lines ≡ before ++ l ∷ []) (last : is_terminator l.inst ≡ true) (k : Knowledge) (typed : KnowsTyped u k) (there : KnowsThere u (as_block b) before k) where
+  module _ (before : List LineText) (l : LineText) (split : with_merge b.merge b.lines ≡ before ++ l ∷ []) (last : is_terminator l.inst ≡ true) (k : Knowledge) (typed : KnowsTyped u k)
+      (there : KnowsThere u (as_block b) before k) where
     -- an edge to it may join others there
     pub joins-at : (to : List ℕ) → list_any (λ m. same_name m to) (leads_to l.inst) ≡ true → (t : Target to) → JoinsAt u g t.number h.label k
     joins-at to named t = (
@@ -119,7 +120,8 @@ module _ (u : UnitText) (g : Region) (r : RegionOf u g) (i : ℕ) (b : FlatBlock
     pub leads-led : (c : Tree) (m : Midst) (to : List ℕ) (t : Target to) → Led c m t.number (leads g h c to m)
     leads-led c m to t = by (is_zero c) refl
       where
-        goes-led : (x : Bool) → (g.ends_at_head && nat_eq t.number g.head) ≡ x → Led c m t.number (if x then ends h c m enters_head else record m { edges = m.edges ++ record { to = next_place h.place t.number; from = h.label; cond = c; known = m.known } ∷ [] })
+        goes-led : (x : Bool) → (g.ends_at_head && nat_eq t.number g.head) ≡ x
+            → Led c m t.number (if x then ends h c m enters_head else record m { edges = m.edges ++ record { to = next_place h.place t.number; from = h.label; cond = c; known = m.known } ∷ [] })
         goes-led false q = led_edge
         goes-led true q = at g.ends_at_head refl (nat_eq t.number g.head) refl q
           where

@@ -185,7 +185,8 @@ module _ (u : UnitText) (g : Region) (r : RegionOf u g) (i : ℕ) (b : FlatBlock
     pub ends : More (EndRight u g h) m.rows.ends m'.rows.ends
     pub asserts : More (λ (t : Tree). Unit {0}) m.rows.asserts m'.rows.asserts
 
-  module _ (before : List LineText) (l : LineText) (after : List LineText) (s : Site u (as_block b) before l after) (m : Midst) (typed : KnowsTyped u m.known) (there : KnowsThere u (as_block b) before m.known) where
+  module _ (before : List LineText) (l : LineText) (after : List LineText) (s : Site u (as_block b) before l after) (m : Midst) (typed : KnowsTyped u m.known)
+      (there : KnowsThere u (as_block b) before m.known) where
     abbrev Operands : InstText → Type 0
     Operands j = OperandsThere kind.Proc u (place-at s.number s.entry (as_block b) before l after) j
 
@@ -198,11 +199,13 @@ module _ (u : UnitText) (g : Region) (r : RegionOf u g) (i : ℕ) (b : FlatBlock
     not-constant j e c n q x d i = absurd (false≢true (sym c ∙ ap is_constant (sym e ∙ const-line u l s.first n d q i)))
 
     -- the result is given
-    pub given-took : (x : Known) → GivenTyped u l.result x → (m1 : Midst) → m1.known ≡ m.known → m1.edges ≡ m.edges → m1.rows.drives ≡ m.rows.drives → m1.rows.ends ≡ m.rows.ends → m1.rows.asserts ≡ m.rows.asserts → Took before l m (gives m1 l.result (Some x))
+    pub given-took : (x : Known) → GivenTyped u l.result x → (m1 : Midst) → m1.known ≡ m.known → m1.edges ≡ m.edges → m1.rows.drives ≡ m.rows.drives → m1.rows.ends ≡ m.rows.ends
+        → m1.rows.asserts ≡ m.rows.asserts → Took before l m (gives m1 l.result (Some x))
     given-took x t m1 k e d n a = record {
       typed = subst (λ j. KnowsTyped u (with_given j l.result (Some x))) (sym k) (given-typed u m.known l.result x typed t);
       there = subst (λ j. KnowsThere u (as_block b) (before ++ l ∷ []) (with_given j l.result (Some x))) (sym k)
-          (there-past u (as_block b) before l m.known (with_given m.known l.result (Some x)) there (λ n z. given-stays m.known l.result n (Some x) z) (λ n t v w q. given-known m.known l.result n x q));
+          (there-past u (as_block b) before l m.known (with_given m.known l.result (Some x)) there (λ n z. given-stays m.known l.result n (Some x) z)
+          (λ n t v w q. given-known m.known l.result n x q));
       stays = λ n z. subst (λ j. IsSome (with_given j l.result (Some x) n)) (sym k) (given-stays m.known l.result n (Some x) z);
       edges = subst (More (EdgeRight u g h) m.edges) (sym e) (no-more (EdgeRight u g h) m.edges);
       drives = subst (More (DriveRight h) m.rows.drives) (sym d) (no-more (DriveRight h) m.rows.drives);
@@ -240,7 +243,8 @@ module _ (u : UnitText) (g : Region) (r : RegionOf u g) (i : ℕ) (b : FlatBlock
         by (Some (known_cell t)) e = absurd (none-some p e)
         by (Some (known_part x)) e = refl
 
-    pub op-known : (o : Op) (os : List OperandText) → l.inst ≡ pure_text o os → RowIs u (pure_text o os) → HasPart u (pure_text o os) → IsWrittenRight (pure_text o os) → Operands (pure_text o os) → Operated o os
+    pub op-known : (o : Op) (os : List OperandText) → l.inst ≡ pure_text o os → RowIs u (pure_text o os) → HasPart u (pure_text o os) → IsWrittenRight (pure_text o os) → Operands (pure_text o os)
+        → Operated o os
     op-known o os e row part written k =
         let c = operands-known u (as_block b) before m.known typed there o os row part (each-named (IsThere u (as_block b) before) o os k) in
         by (operation-known u m.known typed o os row part c)
@@ -256,7 +260,8 @@ module _ (u : UnitText) (g : Region) (r : RegionOf u g) (i : ℕ) (b : FlatBlock
             ap (λ y. stepped (Some p.whole) (option_and_then carried y) (step_of o)) p.written
             ∙ ap (stepped (Some p.whole) (Some p.part.of)) p.takes
             ∙ ap (option_map (λ y. known_part (record { arg = p.whole.arg; lo = p.whole.lo + y.lo; ty = p.part.of }))) (parts_have_ranges p.whole.ty p.step p.part p.leads) in
-            let steps : part_stepped m.known o os ≡ Some (known_part x) = ap (part_stepped m.known o) p.operands ∙ ap (λ y. stepped y (option_and_then carried p.operand.ty) (step_of o)) p.known ∙ led in
+            let steps : part_stepped m.known o os ≡ Some (known_part x) = ap (part_stepped m.known o) p.operands ∙ ap (λ y. stepped y (option_and_then carried p.operand.ty) (step_of o)) p.known
+            ∙ led in
             record {
               known = known_part x;
               is = ap (λ y. or_else (option_map (λ ts. known_value (make_operation o ts)) y) (part_stepped m.known o os)) none ∙ steps;
@@ -274,7 +279,8 @@ module _ (u : UnitText) (g : Region) (r : RegionOf u g) (i : ℕ) (b : FlatBlock
             let ty : Each (HasType u) os = operands-typed u o os row part in record {
               known = known_value (make_operation o x.0);
               is = ap (λ y. or_else (option_map (λ ts. known_value (make_operation o ts)) y) (part_stepped m.known o os)) x.1;
-              fits = λ n t q v. let z = (operation-typed u m.known typed o os row written ty x.0 x.1 t (line-type n t q v)).1 in ((z.typed, not-constant (pure_text o os) e refl n q (make_operation o x.0)), z.type);
+              fits = λ n t q v. let z = (operation-typed u m.known typed o os row written ty x.0 x.1 t (line-type n t q v)).1 in
+                  ((z.typed, not-constant (pure_text o os) e refl n q (make_operation o x.0)), z.type);
               how = inl (x.0, x.1, refl, λ t q. (operation-typed u m.known typed o os row written ty x.0 x.1 t q).0);
             }
 
@@ -282,7 +288,8 @@ module _ (u : UnitText) (g : Region) (r : RegionOf u g) (i : ℕ) (b : FlatBlock
     pub option-took : (x : Option Known) (y : Known) → x ≡ Some y → GivenTyped u l.result y → Took before l m (gives m l.result x)
     option-took x y q t = subst (λ z. Took before l m (gives m l.result z)) (sym q) (given-took y t m refl refl refl refl refl)
 
-    pub var-known : (a : OperandText) → RowIs u (var_text a) → Operands (var_text a) → (t : TypeTree) × (v : Tree) × (a.ty ≡ Some t) × (value_known m.known a.value ≡ Some v) × IsOfType t v × IsOf u t a.value × (is_value_type t ≡ true)
+    pub var-known : (a : OperandText) → RowIs u (var_text a) → Operands (var_text a) → (t : TypeTree) × (v : Tree) × (a.ty ≡ Some t) × (value_known m.known a.value ≡ Some v) × IsOfType t v
+        × IsOf u t a.value × (is_value_type t ≡ true)
     var-known a row k =
         let v = value-known u m.known typed a.value row.0 row.2.1 row.1 (named-known a.value row.0 row.2.1 (no-void row.0 row.1) k.0) in
         (row.0, v.0, row.2.0, v.1, v.2, row.2.1, row.1)
@@ -295,7 +302,8 @@ module _ (u : UnitText) (g : Region) (r : RegionOf u g) (i : ℕ) (b : FlatBlock
         let same : pointer_type v.0 ≡ t = same_Some (pointer_type v.0) t (sym made ∙ sym (s.sound.gives n q ∙ ap result_type e) ∙ w) in
         (v.4.typed, ap pointer_type v.4.type ∙ same))
 
-    pub ld-known : (a : OperandText) → RowIs u (ld_text a) → Operands (ld_text a) → (t : TypeTree) × (v : Tree) × (a.ty ≡ Some (pointer_type t)) × (cell_known m.known a.value ≡ Some v) × IsOfType t v × IsOf u (pointer_type t) a.value
+    pub ld-known : (a : OperandText) → RowIs u (ld_text a) → Operands (ld_text a) → (t : TypeTree) × (v : Tree) × (a.ty ≡ Some (pointer_type t)) × (cell_known m.known a.value ≡ Some v) × IsOfType t v
+        × IsOf u (pointer_type t) a.value
     ld-known a row k =
         let v = cell-known u m.known typed a.value row.0 row.1.1 (named-known a.value (pointer_type row.0) row.1.1 (λ z. cc) k.0) in
         (row.0, v.0, row.1.0, v.1, v.2, row.1.1)
@@ -307,7 +315,8 @@ module _ (u : UnitText) (g : Region) (r : RegionOf u g) (i : ℕ) (b : FlatBlock
         let same : v.0 ≡ t = same_Some v.0 t (sym (ap (option_and_then pointed) v.2) ∙ sym (s.sound.gives n q ∙ ap result_type e) ∙ w) in
         ((v.4.typed, not-constant (ld_text a) e refl n q v.1), v.4.type ∙ same))
 
-    pub prb-known : (a : OperandText) → RowIs u (prb_text a) → Operands (prb_text a) → (t : TypeTree) × (p : Part) × (a.ty ≡ Some (signal_type t)) × (part_known m.known a.value ≡ Some p) × IsData p.ty × (p.ty ≡ t) × IsOf u (signal_type t) a.value
+    pub prb-known : (a : OperandText) → RowIs u (prb_text a) → Operands (prb_text a) → (t : TypeTree) × (p : Part) × (a.ty ≡ Some (signal_type t)) × (part_known m.known a.value ≡ Some p) × IsData p.ty
+        × (p.ty ≡ t) × IsOf u (signal_type t) a.value
     prb-known a row k =
         let v = part-known u m.known typed a.value row.0 row.1.1 (named-known a.value (signal_type row.0) row.1.1 (λ z. cc) k.0) in
         (row.0, v.0, row.1.0, v.1, v.2, v.3, row.1.1)
@@ -321,7 +330,8 @@ module _ (u : UnitText) (g : Region) (r : RegionOf u g) (i : ℕ) (b : FlatBlock
         let same : v.0 ≡ t = same_Some v.0 t (sym (ap (option_and_then carried) v.2) ∙ sym (s.sound.gives n q ∙ ap result_type e) ∙ w) in
         ((z.typed, not-constant (prb_text a) e refl n q (g.probe v.1)), z.type ∙ v.5 ∙ same)) (record m { rows = record m.rows { probes = m.rows.probes ++ v.1 ∷ [] } }) refl refl refl refl refl)
 
-    pub pure-took : (o : Op) (os : List OperandText) → l.inst ≡ pure_text o os → RowIs u (pure_text o os) → HasPart u (pure_text o os) → IsWrittenRight (pure_text o os) → Operands (pure_text o os) → Took before l m (takes g h (pure_text o os) l.result m)
+    pub pure-took : (o : Op) (os : List OperandText) → l.inst ≡ pure_text o os → RowIs u (pure_text o os) → HasPart u (pure_text o os) → IsWrittenRight (pure_text o os) → Operands (pure_text o os)
+        → Took before l m (takes g h (pure_text o os) l.result m)
     pure-took o os e row part written k = let x = op-known o os e row part written k in option-took (operated m.known o os) x.known x.is x.fits
 
     -- ---- what gives nothing
@@ -335,7 +345,8 @@ module _ (u : UnitText) (g : Region) (r : RegionOf u g) (i : ℕ) (b : FlatBlock
         let v = value-known u m.known typed value row.0 row.2 i (named-known value row.0 row.2 (no-void row.0 i) k.1.0) in
         (row.0, c.0, v.0, c.1, v.1, v.2, row.1.1, row.2)
 
-    pub same-took : (m1 : Midst) → m1.known ≡ m.known → ((t : TypeTree) → (t ≡ void_type → ⊥) → result_type l.inst ≡ Some t → ⊥) → More (EdgeRight u g h) m.edges m1.edges → More (DriveRight h) m.rows.drives m1.rows.drives → More (EndRight u g h) m.rows.ends m1.rows.ends → More (λ (t : Tree). Unit {0}) m.rows.asserts m1.rows.asserts → Took before l m m1
+    pub same-took : (m1 : Midst) → m1.known ≡ m.known → ((t : TypeTree) → (t ≡ void_type → ⊥) → result_type l.inst ≡ Some t → ⊥) → More (EdgeRight u g h) m.edges m1.edges
+        → More (DriveRight h) m.rows.drives m1.rows.drives → More (EndRight u g h) m.rows.ends m1.rows.ends → More (λ (t : Tree). Unit {0}) m.rows.asserts m1.rows.asserts → Took before l m m1
     same-took m1 k none e d n a = record {
       typed = subst (KnowsTyped u) (sym k) typed;
       there = subst (KnowsThere u (as_block b) (before ++ l ∷ [])) (sym k) (nothing-there none);
@@ -393,7 +404,8 @@ module _ (u : UnitText) (g : Region) (r : RegionOf u g) (i : ℕ) (b : FlatBlock
     pub bit-known : (n : List ℕ) → IsOf u bit n → IsThere u (as_block b) before n → (t : Tree) × (value_known m.known n ≡ Some t) × IsCondition t
     bit-known n o k = let v = value-known u m.known typed n bit o refl (named-known n bit o (λ z. cc) k) in (v.0, v.1, record { typed = v.2.typed; type = v.2.type })
 
-    pub drv-known : (to : OperandText) (value after' : List ℕ) (cond : Option (List ℕ)) → RowIs u (drv_text to value after' cond) → Operands (drv_text to value after' cond) → Driven to value after' cond
+    pub drv-known : (to : OperandText) (value after' : List ℕ) (cond : Option (List ℕ)) → RowIs u (drv_text to value after' cond) → Operands (drv_text to value after' cond)
+        → Driven to value after' cond
     drv-known to value after' cond row k =
         let p = part-known u m.known typed to.value row.0 row.1.1 (named-known to.value (signal_type row.0) row.1.1 (λ z. cc) k.0) in
         let d : IsData row.0 = subst IsData p.3 p.2 in
@@ -401,7 +413,9 @@ module _ (u : UnitText) (g : Region) (r : RegionOf u g) (i : ℕ) (b : FlatBlock
         let t = value-known u m.known typed after' time_type row.3 refl (named-known after' time_type row.3 (λ z. cc) k.1.1.0) in
         by cond row.4 k.1.1.1 p.0 p.1 p.2 p.3 v.0 v.1 v.2 t.0 t.1 t.2
       where
-        by : (cond : Option (List ℕ)) → MayBeOf u bit cond → Each (IsThere u (as_block b) before) (map (λ (x : Use). x.value) (maybe_used data_needed cond)) → (p : Part) → part_known m.known to.value ≡ Some p → IsData p.ty → p.ty ≡ row.0 → (v : Tree) → value_known m.known value ≡ Some v → IsOfType row.0 v → (t : Tree) → value_known m.known after' ≡ Some t → IsOfType time_type t → Driven to value after' cond
+        by : (cond : Option (List ℕ)) → MayBeOf u bit cond → Each (IsThere u (as_block b) before) (map (λ (x : Use). x.value) (maybe_used data_needed cond)) → (p : Part)
+            → part_known m.known to.value ≡ Some p → IsData p.ty → p.ty ≡ row.0 → (v : Tree) → value_known m.known value ≡ Some v → IsOfType row.0 v → (t : Tree) → value_known m.known after' ≡ Some t
+            → IsOfType time_type t → Driven to value after' cond
         by None o k p pq pd pt v vq vt t tq tt' = record {
           part = p;
           term = v;
@@ -434,15 +448,18 @@ module _ (u : UnitText) (g : Region) (r : RegionOf u g) (i : ℕ) (b : FlatBlock
               how = inr (c, w.0, refl, w.1, w.2, o, refl);
             }
 
-    pub drv-took : (to : OperandText) (value after' : List ℕ) (cond : Option (List ℕ)) → l.inst ≡ drv_text to value after' cond → RowIs u (drv_text to value after' cond) → Operands (drv_text to value after' cond) → Took before l m (takes g h (drv_text to value after' cond) l.result m)
+    pub drv-took : (to : OperandText) (value after' : List ℕ) (cond : Option (List ℕ)) → l.inst ≡ drv_text to value after' cond → RowIs u (drv_text to value after' cond)
+        → Operands (drv_text to value after' cond) → Took before l m (takes g h (drv_text to value after' cond) l.result m)
     drv-took to value after' cond e row k =
         let d = drv-known to value after' cond row k in
         let none : (t : TypeTree) → (t ≡ void_type → ⊥) → result_type l.inst ≡ Some t → ⊥ = λ t w z. none-some t (sym (ap result_type e) ∙ z) in
         let x : Drive = record { cond = d.when; part = d.part; value = d.term; delay = d.delay } in
-        let done : drives m (drive_cond m.known h.cond cond) (part_known m.known to.value) (value_known m.known value) (value_known m.known after') ≡ with_drive m x = λ j. drives m (d.when_is j) (d.part_is j) (d.term_is j) (d.delay_is j) in
+        let done : drives m (drive_cond m.known h.cond cond) (part_known m.known to.value) (value_known m.known value) (value_known m.known after') ≡ with_drive m x =
+        λ j. drives m (d.when_is j) (d.part_is j) (d.term_is j) (d.delay_is j) in
         subst (Took before l m) (sym done) (by x d.right none (is_zero d.when))
       where
-        by : (x : Drive) → DriveRight h x → ((t : TypeTree) → (t ≡ void_type → ⊥) → result_type l.inst ≡ Some t → ⊥) → (z : Bool) → Took before l m (if z then m else record m { rows = record m.rows { drives = m.rows.drives ++ x ∷ [] } })
+        by : (x : Drive) → DriveRight h x → ((t : TypeTree) → (t ≡ void_type → ⊥) → result_type l.inst ≡ Some t → ⊥) → (z : Bool)
+            → Took before l m (if z then m else record m { rows = record m.rows { drives = m.rows.drives ++ x ∷ [] } })
         by x right none true = same-took m refl none no-edges no-drives no-ends no-asserts
         by x right none false = same-took (record m { rows = record m.rows { drives = m.rows.drives ++ x ∷ [] } }) refl none no-edges (one-more (DriveRight h) m.rows.drives x right) no-ends no-asserts
 
@@ -450,7 +467,8 @@ module _ (u : UnitText) (g : Region) (r : RegionOf u g) (i : ℕ) (b : FlatBlock
     each-true [] = tt
     each-true (x ∷ xs) = (tt, each-true xs)
 
-    pub call-took : (f : UnitName) (ty : TypeTree) (os : List OperandText) → l.inst ≡ call_text f ty os → (is_assert f ≡ true) × AssertIsRight u ty os → Took before l m (takes g h (call_text f ty os) l.result m)
+    pub call-took : (f : UnitName) (ty : TypeTree) (os : List OperandText) → l.inst ≡ call_text f ty os → (is_assert f ≡ true) × AssertIsRight u ty os
+        → Took before l m (takes g h (call_text f ty os) l.result m)
     call-took f ty os e a = by (values_known m.known os)
       where
         none : (t : TypeTree) → (t ≡ void_type → ⊥) → result_type l.inst ≡ Some t → ⊥

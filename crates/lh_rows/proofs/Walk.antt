@@ -18,12 +18,12 @@ use Rattle.lh_term.specs.Make.{bit_of}
 use Rattle.lh_term.specs.declared.part.Part.{Part}
 use Rattle.lh_term.proofs.Arenas.{get_within}
 use Rattle.lh_rows.specs.Known.{Knowledge}
-use Rattle.lh_rows.specs.Rows.{Drive, enters_head, End, Rows}
-use Rattle.lh_rows.specs.Joins.{Place, Edge, any_taken, known_at}
+use Rattle.lh_rows.specs.Rows.{Drive, enters_head, RegionEnd, Rows}
+use Rattle.lh_rows.specs.Joins.{RegionPlace, RegionEdge, any_taken, known_at}
 use Rattle.lh_rows.specs.Places.{Region, Midst, takes_all, next_place}
 use Rattle.lh_rows.specs.Regions.{Course, no_course, comes_to, max_turns, is_place, edges_to, through_all, all_places, region_from}
 use Rattle.lh_rows.specs.Typed.{Among, IsCondition, JoinEdge}
-use Rattle.lh_rows.specs.Means.{range_in, reads, Shows, is_one, with_row, with_rows}
+use Rattle.lh_rows.specs.Means.{range_in, reads, KnownIsHeld, is_one, with_row, with_rows}
 use Rattle.lh_rows.specs.Ending.{StandsAs}
 use Rattle.lh_rows.specs.Right.{as_block, BlockAt}
 use Rattle.lh_rows.proofs.Among.{in-each, among-filter, filter-among, among-split}
@@ -39,7 +39,8 @@ use Rattle.lh_rows.proofs.Leaving.{to_block, to_head, stops}
 use Rattle.lh_rows.proofs.Blocks as Blocks
 use Rattle.lh_rows.proofs.Courses as Courses
 
-rows-split : (past now : Valuation) (args : List Range) (at : Instant) (w : Wish) (xs ys : List Drive) → with_rows past now args at w (xs ++ ys) ≡ with_rows past now args at (with_rows past now args at w xs) ys
+rows-split : (past now : Valuation) (args : List Range) (at : Instant) (w : Wish) (xs ys : List Drive)
+    → with_rows past now args at w (xs ++ ys) ≡ with_rows past now args at (with_rows past now args at w xs) ys
 rows-split past now args at w [] ys = refl
 rows-split past now args at w (x ∷ xs) ys = rows-split past now args at (with_row past now args at w x) xs ys
 
@@ -63,20 +64,21 @@ lines-there (Some m) [] e f = absurd (false≢true e)
 lines-filled : (ls : List LineText) → (l : LineText) × (more : List LineText) × (ls ≡ l ∷ more) → ls ≡ [] → ⊥
 lines-filled ls f e = let z : [] ≡ f.0 ∷ f.1 = sym e ∙ f.2 in cc
 
-module _ (u : UnitText) (g : Region) (r : RegionOf u g) (s : Scene) (args : List Range) (past now : Valuation) (p : IsFitting past) (n : IsFitting now) (probe : (x : Part) → mean past now (g.probe x) ≡ reads args s.now x) where
+module _ (u : UnitText) (g : Region) (r : RegionOf u g) (s : Scene) (args : List Range) (past now : Valuation) (p : IsFitting past) (n : IsFitting now)
+    (probe : (x : Part) → mean past now (g.probe x) ≡ reads args s.now x) where
   abbrev pub shows : Knowledge → Env → Type 0
-  shows = Shows u (mean past now) (range_in args)
+  shows = KnownIsHeld u (mean past now) (range_in args)
 
   abbrev pub true-here : Tree → Bool
   true-here = one past now p n
 
-  abbrev pub NoLive : List Place → List Edge → Type 0
+  abbrev pub NoLive : List RegionPlace → List RegionEdge → Type 0
   NoLive = Living.NoLive u args past now
 
-  abbrev pub NoEnd : List End → Type 0
+  abbrev pub NoEnd : List RegionEnd → Type 0
   NoEnd = Living.NoEnd u args past now
 
-  abbrev pub OneEnd : List End → End → Type 0
+  abbrev pub OneEnd : List RegionEnd → RegionEnd → Type 0
   OneEnd = Living.OneEnd u args past now
 
   abbrev pub CourseFine : Course → Type 0
@@ -94,11 +96,11 @@ module _ (u : UnitText) (g : Region) (r : RegionOf u g) (s : Scene) (args : List
     pub phis : phis_taken from e (with_merge block.merge block.lines) ≡ Some held
 
   -- how the region ends: where the process stands, or by entering the head
-  pub data Finish (x : End) (held : Env) : Type 0 where
+  pub data Finish (x : RegionEnd) (held : Env) : Type 0 where
     stood : (st : Stand) → StandsAs g.blocks args x.way x.from st → Finish x held
     headed : (g.ends_at_head ≡ true) → x.way ≡ enters_head → Enters g.head x.from held → Finish x held
 
-  abbrev pub finish_on : (x : End) (held : Env) → Finish x held → Wish → List Bool → ℕ → Option Activated
+  abbrev pub finish_on : (x : RegionEnd) (held : Env) → Finish x held → Wish → List Bool → ℕ → Option Activated
   finish_on x held (stood st a) w o k = Some (record { state = record { stand = st; held = held }; wish = w; outcomes = o })
   finish_on x held (headed i a t) w o k = run k s (point t.block t.held w o)
 
@@ -106,7 +108,7 @@ module _ (u : UnitText) (g : Region) (r : RegionOf u g) (s : Scene) (args : List
   pub record Result (q : Point) (c c' : Course) : Type 0 where
     pub steps : ℕ
     pub within : (steps + c.insts) + c.insts ≤ c'.insts + c'.insts
-    pub end : End
+    pub end : RegionEnd
     pub only : OneEnd c'.rows.ends end
     pub held : Env
     pub wish : Wish
@@ -121,10 +123,10 @@ module _ (u : UnitText) (g : Region) (r : RegionOf u g) (s : Scene) (args : List
 
   -- nothing that holds was added
   pub record Passed (c c1 : Course) : Type 0 where
-    pub edges : List Edge
+    pub edges : List RegionEdge
     pub edges_are : c1.edges ≡ c.edges ++ edges
     pub edges_off : Living.NoneTaken u args past now edges
-    pub ends : List End
+    pub ends : List RegionEnd
     pub ends_are : c1.rows.ends ≡ c.rows.ends ++ ends
     pub ends_off : NoEnd ends
     pub rows : (w : Wish) → with_rows past now args s.at w c1.rows.drives ≡ with_rows past now args s.at w c.rows.drives
@@ -155,10 +157,11 @@ module _ (u : UnitText) (g : Region) (r : RegionOf u g) (s : Scene) (args : List
   is-false true h = absurd (h refl)
   is-false false h = refl
 
-  passed-place : (q : Place) (c c1 : Course) (a : Courses.At u g r q c c1) → true-here (any_taken (a.first ∷ a.more)) ≡ false → Passed c c1
+  passed-place : (q : RegionPlace) (c c1 : Course) (a : Courses.At u g r q c c1) → true-here (any_taken (a.first ∷ a.more)) ≡ false → Passed c c1
   passed-place q c c1 a off =
       let cond = any_taken (a.first ∷ a.more) in
-      let x = subst (Courses.Adds u g r q a.block a.at cond a.cond a.first a.more a.join (Courses.start_at u g r (a.first ∷ a.more) c a.block)) (sym a.done.is) (Courses.place-adds u g r q a.block a.at cond a.cond a.first a.more a.join c) in
+      let x = subst (Courses.Adds u g r q a.block a.at cond a.cond a.first a.more a.join (Courses.start_at u g r (a.first ∷ a.more) c a.block)) (sym a.done.is)
+      (Courses.place-adds u g r q a.block a.at cond a.cond a.first a.more a.join c) in
       record {
         edges = x.edges.0;
         edges_are = a.done.edges ∙ x.edges.1;
@@ -166,7 +169,8 @@ module _ (u : UnitText) (g : Region) (r : RegionOf u g) (s : Scene) (args : List
         ends = x.ends.0;
         ends_are = ap (λ (y : Rows). y.ends) a.done.rows ∙ x.ends.1;
         ends_off = λ e b t. not-true (true-here cond) off ((in-each (EndRight u g (Courses.here_at u g r q cond a.block)) x.ends.0 e x.ends.2 b).under past now p n t);
-        rows = λ w. ap (with_rows past now args s.at w) (ap (λ (y : Rows). y.drives) a.done.rows ∙ x.drives.1) ∙ rows-split past now args s.at w c.rows.drives x.drives.0 ∙ rows-off past now args s.at (with_rows past now args s.at w c.rows.drives) x.drives.0 (offs x.drives.0 x.drives.2);
+        rows = λ w. ap (with_rows past now args s.at w) (ap (λ (y : Rows). y.drives) a.done.rows ∙ x.drives.1) ∙ rows-split past now args s.at w c.rows.drives x.drives.0
+            ∙ rows-off past now args s.at (with_rows past now args s.at w c.rows.drives) x.drives.0 (offs x.drives.0 x.drives.2);
         asserts = λ z. no-more-left c.rows.asserts x.asserts.0 (sym (ap (λ (y : Rows). y.asserts) a.done.rows ∙ x.asserts.1) ∙ z);
         insts = let i = a.done.insts in omega (arith, i);
       }
@@ -176,26 +180,29 @@ module _ (u : UnitText) (g : Region) (r : RegionOf u g) (s : Scene) (args : List
       offs (d ∷ ds) h = (is-false (true-here d.cond) (λ t. not-true (true-here (any_taken (a.first ∷ a.more))) off (h.0.under past now p n t)), offs ds h.1)
 
   -- where none of the edges to a place is taken, control is not there
-  not-there : (q : Place) (c c1 : Course) (a : Courses.At u g r q c c1) → ((e : Edge) → Among e c.edges → true-here e.cond ≡ true → e.to ≡ q → ⊥) → true-here (any_taken (a.first ∷ a.more)) ≡ false
+  not-there : (q : RegionPlace) (c c1 : Course) (a : Courses.At u g r q c c1) → ((e : RegionEdge) → Among e c.edges → true-here e.cond ≡ true → e.to ≡ q → ⊥)
+      → true-here (any_taken (a.first ∷ a.more)) ≡ false
   not-there q c c1 a none =
       any-one past now p n (a.first ∷ a.more) (conditions (a.first ∷ a.more) a.join)
       ∙ none-taken past now p n (a.first ∷ a.more) (λ e b. is-false (true-here e.cond) (λ t.
-      let k = filter-among (λ (e : Edge). is_place e.to q) e c.edges (subst (Among e) (sym a.are) b) in
+      let k = filter-among (λ (e : RegionEdge). is_place e.to q) e c.edges (subst (Among e) (sym a.are) b) in
       none e k.0 t (place-is e.to q k.1)))
     where
-      conditions : (es : List Edge) → Each (JoinEdge u (as_block a.block)) es → EachCondition es
+      conditions : (es : List RegionEdge) → Each (JoinEdge u (as_block a.block)) es → EachCondition es
       conditions [] h = tt
       conditions (e ∷ es) h = (h.0.cond, conditions es h.1)
 
   -- ---- after the end
 
-  pub dead : (ps : List Place) (c c' : Course) → CourseFine c → through_all g ps c ≡ comes_to c' → NoLive ps c.edges → Passed c c'
+  pub dead : (ps : List RegionPlace) (c c' : Course) → CourseFine c → through_all g ps c ≡ comes_to c' → NoLive ps c.edges → Passed c c'
   dead [] c c' f e none = same-passed c c' (Courses.coursed-is c c' e)
   dead (q ∷ ps) c c' f e none =
       let o = Courses.onward u g r q ps c c' e in
-      let x : Passed c o.course = ⊎_elim (λ z. same-passed c o.course z.1) (λ a. passed-place q c o.course a (not-there q c o.course a (λ e b t w. none e b t (inl (sym w))))) (Courses.reached-place u g r q c o.course f o.here) in
+      let x : Passed c o.course = ⊎_elim (λ z. same-passed c o.course z.1) (λ a. passed-place q c o.course a (not-there q c o.course a (λ e b t w. none e b t (inl (sym w)))))
+      (Courses.reached-place u g r q c o.course f o.here) in
       let f1 = Courses.step-fine u g r q c o.course f o.here in
-      let y = dead ps o.course c' f1 o.there (subst (NoLive ps) (sym x.edges_are) (Living.no-live-more u args past now ps c.edges x.edges (Living.no-live-later u args past now q ps c.edges none) x.edges_off)) in
+      let y = dead ps o.course c' f1 o.there (subst (NoLive ps) (sym x.edges_are)
+      (Living.no-live-more u args past now ps c.edges x.edges (Living.no-live-later u args past now q ps c.edges none) x.edges_off)) in
       passed-both c o.course c' x y
     where
       passed-both : (a b d : Course) → Passed a b → Passed b d → Passed a d
@@ -213,29 +220,37 @@ module _ (u : UnitText) (g : Region) (r : RegionOf u g) (s : Scene) (args : List
 
   -- ---- a place where control is
 
-  abbrev pub RanAt : (ps : List Place) (q : Place) (b : FlatBlockText) → BlockAt g.blocks q.block b → (cond : Tree) → IsCondition cond → List LineText → Env → Wish → List Bool → Midst → Midst → Type 0
+  abbrev pub RanAt : (ps : List RegionPlace) (q : RegionPlace) (b : FlatBlockText) → BlockAt g.blocks q.block b → (cond : Tree) → IsCondition cond → List LineText → Env → Wish → List Bool → Midst
+      → Midst → Type 0
   RanAt ps q b bat cond hc = Blocks.Ran u g r q.block b bat (Courses.here_at u g r q cond b) refl hc s args past now p n probe ps
 
   -- the edges to a place, of which some is taken, and each that is taken leaves this block with what is known on it held
-  pub record Arrives (es : List Edge) (from : List ℕ) (before : Env) : Type 0 where
-    pub edge : Edge
+  pub record Arrives (es : List RegionEdge) (from : List ℕ) (before : Env) : Type 0 where
+    pub edge : RegionEdge
     pub among : Among edge es
     pub taken : true-here edge.cond ≡ true
-    pub each : (e : Edge) → Among e es → true-here e.cond ≡ true → (e.from ≡ from) × shows e.known before
+    pub each : (e : RegionEdge) → Among e es → true-here e.cond ≡ true → (e.from ≡ from) × shows e.known before
 
-  pub treat : (ps : List Place) (q : Place) (b : FlatBlockText) (bat : BlockAt g.blocks q.block b) (cond : Tree) (hc : IsCondition cond) (e0 : Edge) (more : List Edge) (j : Each (JoinEdge u (as_block b)) (e0 ∷ more)) (c : Course)
-      → true-here cond ≡ true → NoLive ps c.edges → NoEnd c.rows.ends → (from : List ℕ) (before held : Env) → Arrives (e0 ∷ more) from before → phis_taken from before (with_merge b.merge b.lines) ≡ Some held → (w : Wish) (o : List Bool)
-      → RanAt ps q b bat cond hc (with_merge b.merge b.lines) held w o (Courses.start_at u g r (e0 ∷ more) c b) (takes_all g (Courses.here_at u g r q cond b) (with_merge b.merge b.lines) (Courses.start_at u g r (e0 ∷ more) c b))
+  pub treat : (ps : List RegionPlace) (q : RegionPlace) (b : FlatBlockText) (bat : BlockAt g.blocks q.block b) (cond : Tree) (hc : IsCondition cond) (e0 : RegionEdge) (more : List RegionEdge)
+      (j : Each (JoinEdge u (as_block b)) (e0 ∷ more)) (c : Course)
+      → true-here cond ≡ true → NoLive ps c.edges → NoEnd c.rows.ends → (from : List ℕ) (before held : Env) → Arrives (e0 ∷ more) from before
+      → phis_taken from before (with_merge b.merge b.lines) ≡ Some held → (w : Wish) (o : List Bool)
+      → RanAt ps q b bat cond hc (with_merge b.merge b.lines) held w o (Courses.start_at u g r (e0 ∷ more) c b) (takes_all g (Courses.here_at u g r q cond b) (with_merge b.merge b.lines)
+      (Courses.start_at u g r (e0 ∷ more) c b))
   treat ps q b bat cond hc e0 more j c reached none clear from before held a ph w o =
       let sound = Courses.sound-here u g r q b bat cond hc e0 more j in
       let z = known-shows-at u (as_block b) e0 more j past now p n (range_in args) from before a.edge a.among a.taken a.each sound in
       let same : z.0 ≡ held = same_Some z.0 held (sym z.1 ∙ ph) in
-      let filled = block-at (λ (x : BlockText). (l : LineText) × (more : List LineText) × (x.lines ≡ l ∷ more)) u.blocks q.block (as_block b) r.formed.filled (ap (λ bs. slice_get bs q.block) r.blocks ∙ block-text g.blocks q.block b bat.at) in
-      Blocks.lines-run u g r q.block b bat (Courses.here_at u g r q cond b) refl hc s args past now p n probe ps [] (with_merge b.merge b.lines) refl (lines-filled (with_merge b.merge b.lines) filled) (Courses.start_at u g r (e0 ∷ more) c b)
-      (Courses.start-typed u g r q b bat cond hc e0 more j) (Courses.start-there u g r q b bat cond hc e0 more j) (phis-given-at u (as_block b) e0 more j sound) held (subst (shows (known_at (e0 ∷ more) (with_merge b.merge b.lines))) same z.2) w o reached none clear
+      let filled = block-at (λ (x : BlockText). (l : LineText) × (more : List LineText) × (x.lines ≡ l ∷ more)) u.blocks q.block (as_block b) r.formed.filled
+      (ap (λ bs. slice_get bs q.block) r.blocks ∙ block-text g.blocks q.block b bat.at) in
+      Blocks.lines-run u g r q.block b bat (Courses.here_at u g r q cond b) refl hc s args past now p n probe ps [] (with_merge b.merge b.lines) refl (lines-filled (with_merge b.merge b.lines) filled)
+      (Courses.start_at u g r (e0 ∷ more) c b)
+      (Courses.start-typed u g r q b bat cond hc e0 more j) (Courses.start-there u g r q b bat cond hc e0 more j) (phis-given-at u (as_block b) e0 more j sound) held
+      (subst (shows (known_at (e0 ∷ more) (with_merge b.merge b.lines))) same z.2) w o reached none clear
 
   -- a place counts for as many instructions as it has, and for a merge no more
-  pub counted : (q : Place) (b : FlatBlockText) → BlockAt g.blocks q.block b → (c c1 : Course) (k : ℕ) → k ≤ length (with_merge b.merge b.lines) → c1.insts ≡ c.insts + length b.lines → (k + c.insts) + c.insts ≤ c1.insts + c1.insts
+  pub counted : (q : RegionPlace) (b : FlatBlockText) → BlockAt g.blocks q.block b → (c c1 : Course) (k : ℕ) → k ≤ length (with_merge b.merge b.lines) → c1.insts ≡ c.insts + length b.lines
+      → (k + c.insts) + c.insts ≤ c1.insts + c1.insts
   counted q b bat c c1 k h e =
       let at = ap (λ bs. slice_get bs q.block) r.blocks ∙ block-text g.blocks q.block b bat.at in
       let filled = block-at (λ (x : BlockText). (l : LineText) × (more : List LineText) × (x.lines ≡ l ∷ more)) u.blocks q.block (as_block b) r.formed.filled at in
@@ -245,8 +260,8 @@ module _ (u : UnitText) (g : Region) (r : RegionOf u g) (s : Scene) (args : List
       omega (arith, h, e, one-line, most)
 
   -- control stands before the lines of a place to which some edge that is taken leads
-  pub record Live (ps : List Place) (c : Course) : Type 0 where
-    pub place : Place
+  pub record Live (ps : List RegionPlace) (c : Course) : Type 0 where
+    pub place : RegionPlace
     pub from : List ℕ
     pub before : Env
     pub live : Living.OneLive u args past now ps c.edges place from before
@@ -254,11 +269,12 @@ module _ (u : UnitText) (g : Region) (r : RegionOf u g) (s : Scene) (args : List
     pub clear : NoEnd c.rows.ends
     pub enters : Enters place.block from before
 
-  abbrev pub live_point : (ps : List Place) (c : Course) → Live ps c → Wish → List Bool → Point
+  abbrev pub live_point : (ps : List RegionPlace) (c : Course) → Live ps c → Wish → List Bool → Point
   live_point ps c a w o = point a.enters.block a.enters.held w o
 
   -- what is left of a block: its edge leads on, or it is the end
-  module _ (ps : List Place) (q : Place) (b : FlatBlockText) (bat : BlockAt g.blocks q.block b) (cond : Tree) (hc : IsCondition cond) (e0 : Edge) (more : List Edge) (j : Each (JoinEdge u (as_block b)) (e0 ∷ more)) (c c1 c' : Course)
+  module _ (ps : List RegionPlace) (q : RegionPlace) (b : FlatBlockText) (bat : BlockAt g.blocks q.block b) (cond : Tree) (hc : IsCondition cond) (e0 : RegionEdge) (more : List RegionEdge)
+      (j : Each (JoinEdge u (as_block b)) (e0 ∷ more)) (c c1 c' : Course)
       (t : Courses.Treated u g r q cond (e0 ∷ more) c b c1) (f1 : CourseFine c1) (all : through_all g ps c1 ≡ comes_to c')
       (further : (k : ℕ) (d : FlatBlockText) → BlockAt g.blocks k d → (next_place q k).turns ≤ max_turns → Among (next_place q k) ps)
       (go : (a : Live ps c1) (w : Wish) (o : List Bool) → Result (live_point ps c1 a w o) c1 c') (held : Env) (w : Wish) (o : List Bool) where
@@ -274,7 +290,8 @@ module _ (u : UnitText) (g : Region) (r : RegionOf u g) (s : Scene) (args : List
     sum : (a b k : ℕ) → (a + b) + k ≡ a + (b + k)
     sum a b k = omega arith
 
-    ended-result : (x : RanAt ps q b bat cond hc (with_merge b.merge b.lines) held w o (Courses.start_at u g r (e0 ∷ more) c b) done) (y : End) → NoLive ps done.edges → OneEnd done.rows.ends y → shows y.known x.held → (h : Finish y x.held) → ((k : ℕ) → run (x.steps + k) s (point b held w o) ≡ finish_on y x.held h x.wish x.outcomes k) → Result (point b held w o) c c'
+    ended-result : (x : RanAt ps q b bat cond hc (with_merge b.merge b.lines) held w o (Courses.start_at u g r (e0 ∷ more) c b) done) (y : RegionEnd) → NoLive ps done.edges → OneEnd done.rows.ends y
+        → shows y.known x.held → (h : Finish y x.held) → ((k : ℕ) → run (x.steps + k) s (point b held w o) ≡ finish_on y x.held h x.wish x.outcomes k) → Result (point b held w o) c c'
     ended-result x y none only sh h runs =
         let d = dead ps c1 c' f1 all (subst (NoLive ps) (sym edges-are) none) in
         record {
@@ -292,7 +309,8 @@ module _ (u : UnitText) (g : Region) (r : RegionOf u g) (s : Scene) (args : List
           told = λ z. x.told (ap (λ (rs : Rows). rs.asserts) (sym rows-are) ∙ d.asserts z);
         }
 
-    goes-result : (x : RanAt ps q b bat cond hc (with_merge b.merge b.lines) held w o (Courses.start_at u g r (e0 ∷ more) c b) done) (a : Live ps c1) → ((k : ℕ) → run (x.steps + k) s (point b held w o) ≡ run k s (live_point ps c1 a x.wish x.outcomes)) → Result (point b held w o) c c'
+    goes-result : (x : RanAt ps q b bat cond hc (with_merge b.merge b.lines) held w o (Courses.start_at u g r (e0 ∷ more) c b) done) (a : Live ps c1)
+        → ((k : ℕ) → run (x.steps + k) s (point b held w o) ≡ run k s (live_point ps c1 a x.wish x.outcomes)) → Result (point b held w o) c c'
     goes-result x a runs =
         let z = go a x.wish x.outcomes in
         record {
@@ -313,10 +331,13 @@ module _ (u : UnitText) (g : Region) (r : RegionOf u g) (s : Scene) (args : List
     pub ran-result : RanAt ps q b bat cond hc (with_merge b.merge b.lines) held w o (Courses.start_at u g r (e0 ∷ more) c b) done → Result (point b held w o) c c'
     ran-result x = by x.left x.runs
       where
-        by : (y : Blocks.Left u g r q.block b bat (Courses.here_at u g r q cond b) refl hc s args past now p n probe ps done x.held) → ((k : ℕ) → run (x.steps + k) s (point b held w o) ≡ Blocks.goes_on u g r q.block b bat (Courses.here_at u g r q cond b) refl hc s args past now p n probe ps done x.held y x.wish x.outcomes k) → Result (point b held w o) c c'
+        by : (y : Blocks.Left u g r q.block b bat (Courses.here_at u g r q cond b) refl hc s args past now p n probe ps done x.held)
+            → ((k : ℕ) → run (x.steps + k) s (point b held w o)
+            ≡ Blocks.goes_on u g r q.block b bat (Courses.here_at u g r q cond b) refl hc s args past now p n probe ps done x.held y x.wish x.outcomes k) → Result (point b held w o) c c'
         by (to_block k en live clear) runs =
             let live1 = subst (λ es. Living.OneLive u args past now ps es (next_place q k) b.label x.held) (sym edges-are) live in
-            let turns : (next_place q k).turns ≤ max_turns = subst (λ (y : Place). y.turns ≤ max_turns) live1.to (in-each (Courses.EdgeFine u g r) c1.edges live1.edge f1.edges live1.among).turns in
+            let turns : (next_place q k).turns ≤ max_turns =
+            subst (λ (y : RegionPlace). y.turns ≤ max_turns) live1.to (in-each (Courses.EdgeFine u g r) c1.edges live1.edge f1.edges live1.among).turns in
             goes-result x (record {
               place = next_place q k;
               from = b.label;
@@ -327,7 +348,8 @@ module _ (u : UnitText) (g : Region) (r : RegionOf u g) (s : Scene) (args : List
               enters = record { block = en.block; at = en.at; held = en.held; phis = en.phis };
             }) runs
         by (to_head i en none y only way from sh) runs =
-            ended-result x y none only sh (headed i way (record { block = en.block; at = en.at; held = en.held; phis = ap (λ f. phis_taken f x.held (with_merge en.block.merge en.block.lines)) from ∙ en.phis })) runs
+            ended-result x y none only sh (headed i way
+            (record { block = en.block; at = en.at; held = en.held; phis = ap (λ f. phis_taken f x.held (with_merge en.block.merge en.block.lines)) from ∙ en.phis })) runs
         by (stops st none y only way from sh) runs = ended-result x y none only sh (stood st way) runs
 
   -- ---- all places
@@ -348,19 +370,20 @@ module _ (u : UnitText) (g : Region) (r : RegionOf u g) (s : Scene) (args : List
     told = λ y. let d = z.told y in (d.0, x.asserts d.1);
   }
 
-  live-after : (q : Place) (ps : List Place) (c c1 : Course) → Passed c c1 → (a : Live (q ∷ ps) c) → Among a.place ps → Live ps c1
+  live-after : (q : RegionPlace) (ps : List RegionPlace) (c c1 : Course) → Passed c c1 → (a : Live (q ∷ ps) c) → Among a.place ps → Live ps c1
   live-after q ps c c1 x a b = record {
     place = a.place;
     from = a.from;
     before = a.before;
-    live = subst (λ es. Living.OneLive u args past now ps es a.place a.from a.before) (sym x.edges_are) (Living.one-live-more u args past now ps c.edges x.edges a.place a.from a.before (Living.one-live-later u args past now q ps c.edges a.place a.from a.before a.live) x.edges_off);
+    live = subst (λ es. Living.OneLive u args past now ps es a.place a.from a.before) (sym x.edges_are)
+        (Living.one-live-more u args past now ps c.edges x.edges a.place a.from a.before (Living.one-live-later u args past now q ps c.edges a.place a.from a.before a.live) x.edges_off);
     among = b;
     clear = subst NoEnd (sym x.ends_are) (Living.no-ends-more u args past now c.rows.ends x.ends a.clear x.ends_off);
     enters = a.enters;
   }
 
   -- where the place is that to which the live edge leads
-  module _ (before ps : List Place) (q : Place) (sorted : Sorted (before ++ q ∷ ps)) (c c1 c' : Course) (f : CourseFine c) (a : Live (q ∷ ps) c) where
+  module _ (before ps : List RegionPlace) (q : RegionPlace) (sorted : Sorted (before ++ q ∷ ps)) (c c1 c' : Course) (f : CourseFine c) (a : Live (q ∷ ps) c) where
     not-later : a.place ≡ q → NoLive ps c.edges
     not-later e x b t k =
         let z : x.to ≡ q = (a.live.each x b t (inr k)).0 ∙ e in
@@ -368,15 +391,15 @@ module _ (u : UnitText) (g : Region) (r : RegionOf u g) (s : Scene) (args : List
 
     -- it is among the edges to the place
     live-there : a.place ≡ q → Among a.live.edge (edges_to q c.edges)
-    live-there e = among-filter (λ (x : Edge). is_place x.to q) a.live.edge c.edges a.live.among (subst (λ y. is_place y q ≡ true) (sym (a.live.to ∙ e)) (place-self q))
+    live-there e = among-filter (λ (x : RegionEdge). is_place x.to q) a.live.edge c.edges a.live.among (subst (λ y. is_place y q ≡ true) (sym (a.live.to ∙ e)) (place-self q))
 
-    arrives : a.place ≡ q → (e0 : Edge) (more : List Edge) → edges_to q c.edges ≡ e0 ∷ more → Arrives (e0 ∷ more) a.from a.before
+    arrives : a.place ≡ q → (e0 : RegionEdge) (more : List RegionEdge) → edges_to q c.edges ≡ e0 ∷ more → Arrives (e0 ∷ more) a.from a.before
     arrives e e0 more are = record {
       edge = a.live.edge;
       among = subst (Among a.live.edge) are (live-there e);
       taken = a.live.taken;
       each = λ x b t.
-          let k = filter-among (λ (y : Edge). is_place y.to q) x c.edges (subst (Among x) (sym are) b) in
+          let k = filter-among (λ (y : RegionEdge). is_place y.to q) x c.edges (subst (Among x) (sym are) b) in
           let z = a.live.each x k.0 t (inl (sym (place-is x.to q k.1))) in (z.1, z.2);
     }
 
@@ -387,7 +410,8 @@ module _ (u : UnitText) (g : Region) (r : RegionOf u g) (s : Scene) (args : List
     passed : (a.place ≡ q → ⊥) → (x : Courses.At u g r q c c1) → Passed c c1
     passed no' x = passed-place q c c1 x (not-there q c c1 x (λ e b t w. no' (sym (a.live.each e b t (inl (sym w))).0 ∙ w)))
 
-  pub walk : (before ps : List Place) → before ++ ps ≡ all_places (length g.blocks) → (c c' : Course) → CourseFine c → through_all g ps c ≡ comes_to c' → (a : Live ps c) (w : Wish) (o : List Bool) → Result (live_point ps c a w o) c c'
+  pub walk : (before ps : List RegionPlace) → before ++ ps ≡ all_places (length g.blocks) → (c c' : Course) → CourseFine c → through_all g ps c ≡ comes_to c'
+      → (a : Live ps c) (w : Wish) (o : List Bool) → Result (live_point ps c a w o) c c'
   unfolding live-after
   walk before [] all c c' f e a w o = absurd a.among
   walk before (q ∷ ps) all c c' f e a w o = by (Courses.onward u g r q ps c c' e) (walk (before ++ q ∷ []) ps (append_assoc before (q ∷ []) ps ∙ all))
@@ -396,34 +420,41 @@ module _ (u : UnitText) (g : Region) (r : RegionOf u g) (s : Scene) (args : List
       sorted = subst Sorted (sym all) (places-sorted (length g.blocks))
 
       further : (k : ℕ) (d : FlatBlockText) → BlockAt g.blocks k d → (next_place q k).turns ≤ max_turns → Among (next_place q k) ps
-      further k d bat turns = later-behind before q ps sorted (next_place q k) (subst (Among (next_place q k)) (sym all) (place-among (length g.blocks) (next_place q k) turns (get_within g.blocks k d bat.at))) (next-later q (next_place q k) refl)
+      further k d bat turns = later-behind before q ps sorted (next_place q k)
+          (subst (Among (next_place q k)) (sym all) (place-among (length g.blocks) (next_place q k) turns (get_within g.blocks k d bat.at))) (next-later q (next_place q k) refl)
 
       skipped : (c1 : Course) → Passed c c1 → Among a.place ps → ((b : Live ps c1) (w : Wish) (o : List Bool) → Result (live_point ps c1 b w o) c1 c') → Result (live_point (q ∷ ps) c a w o) c c'
       skipped c1 x k go = result-after (live_point (q ∷ ps) c a w o) c c1 c' x (go (live-after q ps c c1 x a k) w o)
 
-      here : (c1 : Course) → a.place ≡ q → (x : Courses.At u g r q c c1) → through_all g ps c1 ≡ comes_to c' → ((b : Live ps c1) (w : Wish) (o : List Bool) → Result (live_point ps c1 b w o) c1 c') → Result (live_point (q ∷ ps) c a w o) c c'
+      here : (c1 : Course) → a.place ≡ q → (x : Courses.At u g r q c c1) → through_all g ps c1 ≡ comes_to c' → ((b : Live ps c1) (w : Wish) (o : List Bool) → Result (live_point ps c1 b w o) c1 c')
+          → Result (live_point (q ∷ ps) c a w o) c c'
       here c1 e x there go =
-          let at : slice_get g.blocks q.block ≡ Some a.enters.block = subst (λ (y : Place). slice_get g.blocks y.block ≡ Some a.enters.block) e a.enters.at.at in
+          let at : slice_get g.blocks q.block ≡ Some a.enters.block = subst (λ (y : RegionPlace). slice_get g.blocks y.block ≡ Some a.enters.block) e a.enters.at.at in
           let same : x.block ≡ a.enters.block = same_Some x.block a.enters.block (sym x.at.at ∙ at) in
           let arrive = arrives before ps q sorted c c1 c' f a e x.first x.more x.are in
-          let reached : true-here (any_taken (x.first ∷ x.more)) ≡ true = any-one past now p n (x.first ∷ x.more) (conditions x.block (x.first ∷ x.more) x.join) ∙ any-taken past now p n (x.first ∷ x.more) arrive.edge arrive.among arrive.taken in
-          let ph : phis_taken a.from a.before (with_merge x.block.merge x.block.lines) ≡ Some a.enters.held = ap (λ (y : FlatBlockText). phis_taken a.from a.before (with_merge y.merge y.lines)) same ∙ a.enters.phis in
-          let ran = treat ps q x.block x.at (any_taken (x.first ∷ x.more)) x.cond x.first x.more x.join c reached (not-later before ps q sorted c c1 c' f a e) a.clear a.from a.before a.enters.held arrive ph w o in
+          let reached : true-here (any_taken (x.first ∷ x.more)) ≡ true = any-one past now p n (x.first ∷ x.more) (conditions x.block (x.first ∷ x.more) x.join)
+          ∙ any-taken past now p n (x.first ∷ x.more) arrive.edge arrive.among arrive.taken in
+          let ph : phis_taken a.from a.before (with_merge x.block.merge x.block.lines) ≡ Some a.enters.held = ap (λ (y : FlatBlockText). phis_taken a.from a.before (with_merge y.merge y.lines)) same
+          ∙ a.enters.phis in
+          let ran = treat ps q x.block x.at (any_taken (x.first ∷ x.more)) x.cond x.first x.more x.join c reached (not-later before ps q sorted c c1 c' f a e) a.clear a.from a.before a.enters.held
+          arrive ph w o in
           let z = ran-result ps q x.block x.at (any_taken (x.first ∷ x.more)) x.cond x.first x.more x.join c c1 c' x.done (Courses.at-fine u g r q c c1 f x) there further go a.enters.held w o ran in
           subst (λ (y : FlatBlockText). Result (point y a.enters.held w o) c c') same z
         where
-          conditions : (b : FlatBlockText) (es : List Edge) → Each (JoinEdge u (as_block b)) es → EachCondition es
+          conditions : (b : FlatBlockText) (es : List RegionEdge) → Each (JoinEdge u (as_block b)) es → EachCondition es
           conditions b [] h = tt
           conditions b (e ∷ es) h = (h.0.cond, conditions b es h.1)
 
-      by : Courses.Onward u g r q ps c c' → ((c c' : Course) → CourseFine c → through_all g ps c ≡ comes_to c' → (a : Live ps c) (w : Wish) (o : List Bool) → Result (live_point ps c a w o) c c') → Result (live_point (q ∷ ps) c a w o) c c'
+      by : Courses.Onward u g r q ps c c' → ((c c' : Course) → CourseFine c → through_all g ps c ≡ comes_to c' → (a : Live ps c) (w : Wish) (o : List Bool) → Result (live_point ps c a w o) c c')
+          → Result (live_point (q ∷ ps) c a w o) c c'
       by x go = at (is_place a.place q) refl (Courses.reached-place u g r q c x.course f x.here)
         where
           next : (b : Live ps x.course) (w : Wish) (o : List Bool) → Result (live_point ps x.course b w o) x.course c'
           next = go x.course c' (Courses.step-fine u g r q c x.course f x.here) x.there
 
           at : (b : Bool) → is_place a.place q ≡ b → ((edges_to q c.edges ≡ []) × (c ≡ x.course)) ⊎ Courses.At u g r q c x.course → Result (live_point (q ∷ ps) c a w o) c c'
-          at b k (inl z) = skipped x.course (same-passed c x.course z.1) (other before ps q sorted c x.course c' f a (λ e. subst (Among a.live.edge) z.0 (live-there before ps q sorted c x.course c' f a e))) next
+          at b k (inl z) = skipped x.course (same-passed c x.course z.1)
+              (other before ps q sorted c x.course c' f a (λ e. subst (Among a.live.edge) z.0 (live-there before ps q sorted c x.course c' f a e))) next
           at true k (inr z) = here x.course (place-is a.place q k) z x.there next
           at false k (inr z) =
               let no' : a.place ≡ q → ⊥ = λ e. false≢true (sym k ∙ ap (λ y. is_place y q) e ∙ place-self q) in
@@ -432,11 +463,13 @@ module _ (u : UnitText) (g : Region) (r : RegionOf u g) (s : Scene) (args : List
   -- ---- a region
 
   -- An activation that enters the block where a region starts comes to the one end whose condition holds, with the drives of the rows.
-  pub region-runs : (b : ℕ) (blk : FlatBlockText) → BlockAt g.blocks b blk → (e0 : Edge) (more : List Edge) → Each (JoinEdge u (as_block blk)) (e0 ∷ more) → (c' : Course) → region_from g b (e0 ∷ more) ≡ comes_to c'
-      → (from : List ℕ) (before held : Env) → Arrives (e0 ∷ more) from before → phis_taken from before (with_merge blk.merge blk.lines) ≡ Some held → (w : Wish) (o : List Bool) → Result (point blk held w o) no_course c'
+  pub region-runs : (b : ℕ) (blk : FlatBlockText) → BlockAt g.blocks b blk → (e0 : RegionEdge) (more : List RegionEdge) → Each (JoinEdge u (as_block blk)) (e0 ∷ more) → (c' : Course)
+      → region_from g b (e0 ∷ more) ≡ comes_to c'
+      → (from : List ℕ) (before held : Env) → Arrives (e0 ∷ more) from before → phis_taken from before (with_merge blk.merge blk.lines) ≡ Some held → (w : Wish) (o : List Bool)
+      → Result (point blk held w o) no_course c'
   region-runs b blk bat e0 more j c' e from before held a ph w o =
       let x = Courses.started u g r b blk bat (e0 ∷ more) c' e in
-      let q : Place = record { turns = 0; block = b } in
+      let q : RegionPlace = record { turns = 0; block = b } in
       let f1 = Courses.place-fine u g r q blk bat (bit_of true) (bit-condition true) e0 more j no_course x.course (Courses.no-course-fine u g r) x.done in
       let ps = all_places (length g.blocks) in
       let ran = treat ps q blk bat (bit_of true) (bit-condition true) e0 more j no_course refl (λ y z t k. z) (λ y z t. z) from before held a ph w o in

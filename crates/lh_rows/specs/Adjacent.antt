@@ -24,7 +24,8 @@ drive_merged a b = record { cond = make_operation Or (a.cond ∷ b.cond ∷ []);
 
 -- Two drives of one part and one delay, one after the other, wish what they wish as one.
 abbrev pub AdjacentDrivesMerge : Type 0
-AdjacentDrivesMerge = (past now : Valuation) → IsFitting past → IsFitting now → (args : List Range) (at : Instant) (w : Wish) (a b : Drive) → DriveTyped a → DriveTyped b → b.part ≡ a.part → b.delay ≡ a.delay →
+AdjacentDrivesMerge = (past now : Valuation) → IsFitting past → IsFitting now → (args : List Range) (at : Instant) (w : Wish) (a b : Drive) → DriveTyped a → DriveTyped b → b.part ≡ a.part
+    → b.delay ≡ a.delay →
     with_row past now args at (with_row past now args at w a) b ≡ with_row past now args at w (drive_merged a b)
 
 -- As one they are typed.

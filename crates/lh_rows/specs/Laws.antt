@@ -16,7 +16,7 @@ use Rattle.lh_term.specs.Tree.{Tree, past_of}
 use Rattle.lh_term.specs.Mean.{Valuation, IsFitting, mean}
 use Rattle.lh_term.specs.declared.part.Part.{Part}
 use Rattle.lh_rows.specs.Rows as rows
-use Rattle.lh_rows.specs.Rows.{Drive, Way, enters_head, End, Rows}
+use Rattle.lh_rows.specs.Rows.{Drive, Way, enters_head, RegionEnd, Rows}
 use Rattle.lh_rows.specs.Regions.{head_of, begins_with_phi, lines_at, known_first, Course, comes_to, max_insts, first_region, second_region, waits_for}
 use Rattle.lh_rows.specs.Typed.{Among, KnowsTyped, IsCondition, IsOfType}
 use Rattle.lh_rows.specs.Means.{reads, is_true, Agrees, with_rows}
@@ -36,15 +36,15 @@ pub record Probes (probe : Part → Tree) (past now : Valuation) (args : List Ra
   pub means : (p : Part) → mean past now (probe p) ≡ reads args bits p
 
 -- Exactly the condition of this one of the ends holds, and what is known there is held.
-pub record CameTo (u : UnitText) (past now : Valuation) (args : List Range) (ends : List End) (end : End) (held : Env) : Type 0 where
+pub record CameTo (u : UnitText) (past now : Valuation) (args : List Range) (ends : List RegionEnd) (end : RegionEnd) (held : Env) : Type 0 where
   pub among : Among end ends
   pub holds : is_true past now end.cond ≡ true
-  pub only : (x : End) → Among x ends → is_true past now x.cond ≡ true → x ≡ end
+  pub only : (x : RegionEnd) → Among x ends → is_true past now x.cond ≡ true → x ≡ end
   pub known : Agrees u past now args end.known held
 
 -- An activation ends as the rows say, with this wish and these outcomes before them: its wish has the drives whose conditions hold, in order; it stands where the one end is whose condition holds.
 pub record EndsAs (u : UnitText) (t : FlatText) (past now : Valuation) (args : List Range) (at : Instant) (before : Wish) (told : List Bool) (rows : Rows) (done : Activated) : Type 0 where
-  pub end : End
+  pub end : RegionEnd
   pub came : CameTo u past now args rows.ends end done.state.held
   pub stands : StandsAs t.blocks args end.way end.from done.state.stand
   pub wish : done.wish ≡ with_rows past now args at before rows.drives
@@ -82,19 +82,21 @@ AgainFromHead = (name : UnitName) (t : FlatText) (args : List Range) (s : Scene)
 
 -- Where an end of the first region waits for the head, and what is known there is held, so is what the first region starts with, whatever the parts' values are.
 abbrev pub HeadStaysKnown : Type 0
-HeadStaysKnown = (name : UnitName) (t : FlatText) → IsFormed (flat_unit name t) → begins_with_phi (lines_at t.blocks (head_of t.blocks)) ≡ false → (probe : Part → Tree) → ((p : Part) → IsData p.ty → IsOfType p.ty (probe p)) →
-    (c : Course) → first_region t probe ≡ comes_to c → (x : End) → Among x c.rows.ends → (to_head : Bool) (parts : List Part) (timed : Bool) → x.way ≡ rows.waits (head_of t.blocks) to_head parts timed →
+HeadStaysKnown = (name : UnitName) (t : FlatText) → IsFormed (flat_unit name t) → begins_with_phi (lines_at t.blocks (head_of t.blocks)) ≡ false → (probe : Part → Tree)
+    → ((p : Part) → IsData p.ty → IsOfType p.ty (probe p)) →
+    (c : Course) → first_region t probe ≡ comes_to c → (x : RegionEnd) → Among x c.rows.ends → (to_head : Bool) (parts : List Part) (timed : Bool)
+    → x.way ≡ rows.waits (head_of t.blocks) to_head parts timed →
     (args : List Range) (past now past' now' : Valuation) (held : Env) → Agrees (flat_unit name t) past now args x.known held → Agrees (flat_unit name t) past' now' args (known_first t) held
 
 -- A process waits where an end of the first region is, as its terms of the parts' values before say: exactly the condition of that end holds at those values.
 pub record WaitsAfter (u : UnitText) (t : FlatText) (past now : Valuation) (args : List Range) (rows : Rows) (p : ProcessState) : Type 0 where
-  pub end : End
+  pub end : RegionEnd
   pub came : CameTo u past now args rows.ends end p.held
   pub stands : StandsAs t.blocks args end.way end.from p.stand
 
 -- The second region was gone through to an end of it, with this held there, and then the first one from the head, in one activation.
 pub record ThenFirst (u : UnitText) (t : FlatText) (past now : Valuation) (second : Rows) (past' now' : Valuation) (first : Rows) (args : List Range) (at : Instant) (done : Activated) : Type 0 where
-  pub end : End
+  pub end : RegionEnd
   pub way : end.way ≡ enters_head
   pub held : Env
   pub came : CameTo u past now args second.ends end held
@@ -102,14 +104,18 @@ pub record ThenFirst (u : UnitText) (t : FlatText) (past now : Valuation) (secon
   pub outcomes : second.asserts ≡ [] → told ≡ []
   pub ends : EndsAs u t past' now' args at (with_rows past now args at no_wish second.drives) told first done
 
--- Where each end of the first region waits for one block, without time, an activation that begins at its `wait` does what the rows of the second region say, and then, where that ends by entering the head,
+-- Where each end of the first region waits for one block, without time, an activation that begins at its `wait` does what the rows of the second region say, and then, where
+-- that ends by entering the head,
 -- what those of the first one say.
 abbrev pub SecondRegion : Type 0
 SecondRegion = (name : UnitName) (t : FlatText) (args : List Range) (s : Scene) → IsInstance name t args s.now → (past : Valuation) → IsFitting past →
-    (c : Course) → first_region t past_of ≡ comes_to c → (target : ℕ) → Each (λ (x : End). waits_for x.way ≡ Some target) c.rows.ends → (second : Course) → second_region t target ≡ comes_to second →
+    (c : Course) → first_region t past_of ≡ comes_to c → (target : ℕ) → Each (λ (x : RegionEnd). waits_for x.way ≡ Some target) c.rows.ends → (second : Course)
+    → second_region t target ≡ comes_to second →
     (p : ProcessState) → WaitsAfter (flat_unit name t) t past (reads args s.now) args c.rows p →
     (probe : Part → Tree) (past' now' : Valuation) → Probes probe past' now' args s.now → (first : Course) → first_region t probe ≡ comes_to first → (bound : ℕ) → max_steps + max_steps ≤ bound →
-    (done : Activated) × (activate bound s (flat_unit name t) p ≡ Some done) × (EndsAs (flat_unit name t) t past (reads args s.now) args s.at no_wish [] second.rows done ⊎ ThenFirst (flat_unit name t) t past (reads args s.now) second.rows past' now' first.rows args s.at done)
+    (done : Activated) × (activate bound s (flat_unit name t) p ≡ Some done)
+    × (EndsAs (flat_unit name t) t past (reads args s.now) args s.at no_wish [] second.rows done
+    ⊎ ThenFirst (flat_unit name t) t past (reads args s.now) second.rows past' now' first.rows args s.at done)
 
 -- a drive of a region is typed
 pub record DriveTyped (d : Drive) : Type 0 where
@@ -119,11 +125,12 @@ pub record DriveTyped (d : Drive) : Type 0 where
   pub delay : IsOfType time_type d.delay
 
 -- so is an end
-pub record EndTyped (u : UnitText) (x : End) : Type 0 where
+pub record EndTyped (u : UnitText) (x : RegionEnd) : Type 0 where
   pub cond : IsCondition x.cond
   pub known : KnowsTyped u x.known
 
 -- Every term of the rows of the first region is typed.
 abbrev pub RowsAreTyped : Type 0
-RowsAreTyped = (name : UnitName) (t : FlatText) → IsFormed (flat_unit name t) → begins_with_phi (lines_at t.blocks (head_of t.blocks)) ≡ false → (probe : Part → Tree) → ((p : Part) → IsData p.ty → IsOfType p.ty (probe p)) →
+RowsAreTyped = (name : UnitName) (t : FlatText) → IsFormed (flat_unit name t) → begins_with_phi (lines_at t.blocks (head_of t.blocks)) ≡ false → (probe : Part → Tree)
+    → ((p : Part) → IsData p.ty → IsOfType p.ty (probe p)) →
     (c : Course) → first_region t probe ≡ comes_to c → Each DriveTyped c.rows.drives × Each (EndTyped (flat_unit name t)) c.rows.ends

@@ -37,12 +37,12 @@ held_as value range (known_cell t) = cell_held (value t)
 held_as value range (known_part p) = part_held (range p)
 
 -- what is known under a name that has a type is held
-abbrev pub Shows : UnitText → (Tree → Datum) → (Part → Range) → Knowledge → Env → Type 0
-Shows u value range k e = (n : List ℕ) (x : Known) (t : TypeTree) → k n ≡ Some x → value_type u n ≡ Some t → e n ≡ Some (held_as value range x)
+abbrev pub KnownIsHeld : UnitText → (Tree → Datum) → (Part → Range) → Knowledge → Env → Type 0
+KnownIsHeld u value range k e = (n : List ℕ) (x : Known) (t : TypeTree) → k n ≡ Some x → value_type u n ≡ Some t → e n ≡ Some (held_as value range x)
 
 -- the same, where parts had and have these values
 abbrev pub Agrees : UnitText → (past now : Valuation) → (args : List Range) → Knowledge → Env → Type 0
-Agrees u past now args k e = Shows u (mean past now) (range_in args) k e
+Agrees u past now args k e = KnownIsHeld u (mean past now) (range_in args) k e
 
 -- a condition holds
 abbrev pub is_true : (past now : Valuation) → Tree → Bool

@@ -15,7 +15,7 @@ use Rattle.lh_term.specs.declared.part.Part.{Part}
 use Rattle.lh_flat.specs.Flat.{FlatBlockText}
 use Rattle.lh_rows.specs.Known.{Known, known_value, known_cell, known_part, Knowledge, with_given, value_known, cell_known, part_known, values_known, parts_known}
 use Rattle.lh_rows.specs.Rows.{Drive, Way, halts, enters_head, waits, Rows}
-use Rattle.lh_rows.specs.Joins.{Place, Edge}
+use Rattle.lh_rows.specs.Joins.{RegionPlace, RegionEdge}
 
 -- a region of a flat text: its blocks, which of them is the head, what a probe of a part gives, and whether the region ends where it
 -- enters the head
@@ -27,14 +27,14 @@ pub record Region : Type 0 where
 
 -- a place while its lines are taken: the label of its block, and the condition on which control is there
 pub record Here : Type 0 where
-  pub place : Place
+  pub place : RegionPlace
   pub label : List ℕ
   pub cond : Tree
 
 -- what is known in the midst of a block; and of the whole region the edges and the rows so far
 pub record Midst : Type 0 where
   pub known : Knowledge
-  pub edges : List Edge
+  pub edges : List RegionEdge
   pub rows : Rows
 
 -- the number of the block of a label
@@ -93,7 +93,7 @@ abbrev pub ends : Here → Tree → Midst → Way → Midst
 ends h c m w = record m { rows = record m.rows { ends = m.rows.ends ++ record { cond = c; way = w; from = h.label; known = m.known } ∷ [] } }
 
 -- the place of a block to which control goes from a place: a branch to the same or an earlier block is a turn
-abbrev pub next_place : Place → (block : ℕ) → Place
+abbrev pub next_place : RegionPlace → (block : ℕ) → RegionPlace
 next_place p b = record { turns = if nat_le b p.block then p.turns + 1 else p.turns; block = b }
 
 -- control goes to a block where the condition holds

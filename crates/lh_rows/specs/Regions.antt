@@ -11,8 +11,8 @@ use Rattle.lh_term.specs.declared.part.Part.{Part}
 use Rattle.lh_flat.specs.Flat.{FlatBlockText, FlatText, with_merge}
 use Rattle.lh_cover.specs.Bits.{same_bits}
 use Rattle.lh_rows.specs.Known.{Knowledge, known_value, nothing_known, with_given, with_arguments}
-use Rattle.lh_rows.specs.Rows.{Way, waits, End, Rows, no_rows}
-use Rattle.lh_rows.specs.Joins.{Place, Edge, any_taken, known_at}
+use Rattle.lh_rows.specs.Rows.{Way, waits, RegionEnd, Rows, no_rows}
+use Rattle.lh_rows.specs.Joins.{RegionPlace, RegionEdge, any_taken, known_at}
 use Rattle.lh_rows.specs.Places.{Region, Midst, block_number, takes_all}
 
 -- ---- the head
@@ -79,7 +79,7 @@ pub data RegionRefusal : Type 0 where
 -- how many instructions the places so far have, and the edges and rows
 pub record Course : Type 0 where
   pub insts : ℕ
-  pub edges : List Edge
+  pub edges : List RegionEdge
   pub rows : Rows
 
 abbrev pub no_course : Course
@@ -102,15 +102,15 @@ abbrev pub max_insts : ℕ
 max_insts = 65536
 
 -- an edge leads to more turns than there may be
-abbrev pub turns_too_often : List Edge → Bool
-turns_too_often es = list_any (λ (e : Edge). nat_lt max_turns e.to.turns) es
+abbrev pub turns_too_often : List RegionEdge → Bool
+turns_too_often es = list_any (λ (e : RegionEdge). nat_lt max_turns e.to.turns) es
 
 -- the course after a place whose lines were taken; this many instructions are counted by then
 abbrev pub after_lines : (insts : ℕ) → Midst → Coursed
 after_lines n m = if turns_too_often m.edges then stops too_many_turns else comes_to (record { insts = n; edges = m.edges; rows = m.rows })
 
 -- the lines of a block at a place, on this condition, where these edges lead to it
-abbrev pub through_block : Region → Place → Tree → List Edge → Course → FlatBlockText → Coursed
+abbrev pub through_block : Region → RegionPlace → Tree → List RegionEdge → Course → FlatBlockText → Coursed
 through_block g p q es c b =
     if nat_lt max_insts (c.insts + length b.lines) then stops region_too_large
     else after_lines (c.insts + length b.lines)
@@ -118,23 +118,23 @@ through_block g p q es c b =
     (record { known = known_at es (with_merge b.merge b.lines); edges = c.edges; rows = c.rows }))
 
 -- the place is treated
-abbrev pub through : Region → Place → Tree → List Edge → Course → Coursed
+abbrev pub through : Region → RegionPlace → Tree → List RegionEdge → Course → Coursed
 through g p q es c = option_map_or (through_block g p q es c) (slice_get g.blocks p.block) (comes_to c)
 
-abbrev pub is_place : Place → Place → Bool
+abbrev pub is_place : RegionPlace → RegionPlace → Bool
 is_place p q = nat_eq p.turns q.turns && nat_eq p.block q.block
 
 -- the edges that lead to a place
-abbrev pub edges_to : Place → List Edge → List Edge
-edges_to p es = filter (λ (e : Edge). is_place e.to p) es
+abbrev pub edges_to : RegionPlace → List RegionEdge → List RegionEdge
+edges_to p es = filter (λ (e : RegionEdge). is_place e.to p) es
 
 -- the place is treated, if these edges lead there
-abbrev pub through_reached : Region → Place → List Edge → Course → Coursed
+abbrev pub through_reached : Region → RegionPlace → List RegionEdge → Course → Coursed
 through_reached g p [] c = comes_to c
 through_reached g p (e ∷ more) c = through g p (any_taken (e ∷ more)) (e ∷ more) c
 
 -- these places one after the other
-abbrev pub through_all : Region → List Place → Course → Coursed
+abbrev pub through_all : Region → List RegionPlace → Course → Coursed
 through_all g [] c = comes_to c
 through_all g (p ∷ more) c = then_course (through_reached g p (edges_to p c.edges) c) (through_all g more)
 
@@ -144,18 +144,18 @@ numbers_below zero = []
 numbers_below (suc n) = numbers_below n ++ n ∷ []
 
 -- all places, in their order
-abbrev pub all_places : (blocks : ℕ) → List Place
+abbrev pub all_places : (blocks : ℕ) → List RegionPlace
 all_places n = flat_map (λ t. map (λ b. record { turns = t; block = b }) (numbers_below n)) (numbers_below (max_turns + 1))
 
 -- A region that starts at a block with what is known where these edges join: control is there without condition, and every edge leads to
 -- a later place.
-unfoldable pub region_from : Region → (start : ℕ) → List Edge → Coursed
+unfoldable pub region_from : Region → (start : ℕ) → List RegionEdge → Coursed
 region_from g b es = then_course (through g (record { turns = 0; block = b }) (bit_of true) es no_course) (through_all g (all_places (length g.blocks)))
 
 -- ---- both regions of a process
 
 -- an edge to a block that begins a region
-abbrev pub edge_into : (block : ℕ) → (from : List ℕ) → (cond : Tree) → Knowledge → Edge
+abbrev pub edge_into : (block : ℕ) → (from : List ℕ) → (cond : Tree) → Knowledge → RegionEdge
 edge_into b n c k = record { to = record { turns = 0; block = b }; from = n; cond = c; known = k }
 
 -- the first region: from the head on
@@ -185,13 +185,13 @@ abbrev pub target_if : Bool → ℕ → Option ℕ
 target_if b n = if b then Some n else None
 
 -- the one block for which all these ends wait, not the head, without time and on the same bits
-abbrev pub one_target : List End → Option ℕ
+abbrev pub one_target : List RegionEnd → Option ℕ
 one_target [] = None
-one_target (e ∷ more) = option_and_then (λ n. target_if (list_all (λ (f : End). waits_alike n e.way f.way) more) n) (waits_for e.way)
+one_target (e ∷ more) = option_and_then (λ n. target_if (list_all (λ (f : RegionEnd). waits_alike n e.way f.way) more) n) (waits_for e.way)
 
 -- the ends of the first region as edges into the second
-abbrev pub edges_of_ends : (block : ℕ) → List End → List Edge
-edges_of_ends b es = map (λ (e : End). edge_into b e.from e.cond e.known) es
+abbrev pub edges_of_ends : (block : ℕ) → List RegionEnd → List RegionEdge
+edges_of_ends b es = map (λ (e : RegionEnd). edge_into b e.from e.cond e.known) es
 
 -- the second region: from this block on, with what the first one leaves; a probe in the first one gives the value of its part then
 abbrev pub second_region : FlatText → (target : ℕ) → Coursed

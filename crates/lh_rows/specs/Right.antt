@@ -5,8 +5,8 @@ use Rattle.lh_unit.specs.Contents.{InstText, phi_text, LineText, BlockText, Unit
 use Rattle.lh_unit.specs.Within.{Each}
 use Rattle.lh_flat.specs.Flat.{FlatBlockText, with_merge}
 use Rattle.lh_rows.specs.Known.{Knowledge}
-use Rattle.lh_rows.specs.Rows.{Drive, Way, halts, enters_head, waits, End}
-use Rattle.lh_rows.specs.Joins.{Edge}
+use Rattle.lh_rows.specs.Rows.{Drive, Way, halts, enters_head, waits, RegionEnd}
+use Rattle.lh_rows.specs.Joins.{RegionEdge}
 use Rattle.lh_rows.specs.Places.{Region, block_number}
 use Rattle.lh_rows.specs.Regions.{max_turns, Course}
 use Rattle.lh_rows.specs.Typed.{KnowsTyped, IsCondition, IsOfType, JoinEdge}
@@ -30,7 +30,7 @@ PhisGiven k ls = Each (λ (l : LineText). PhiGiven k l.inst l.result) ls
 
 -- an edge from this block with this known may join others at the block of a number
 abbrev pub JoinsAt : UnitText → Region → ℕ → (from : List ℕ) → Knowledge → Type 0
-JoinsAt u g i from k = (to : FlatBlockText) × BlockAt g.blocks i to × ((e : Edge) → e.from ≡ from → e.known ≡ k → IsCondition e.cond → JoinEdge u (as_block to) e)
+JoinsAt u g i from k = (to : FlatBlockText) × BlockAt g.blocks i to × ((e : RegionEdge) → e.from ≡ from → e.known ≡ k → IsCondition e.cond → JoinEdge u (as_block to) e)
 
 -- where a way leads
 abbrev pub WayRight : UnitText → Region → Way → (from : List ℕ) → Knowledge → Type 0
@@ -39,12 +39,12 @@ WayRight u g enters_head from k = JoinsAt u g g.head from k
 WayRight u g (waits target to_head parts timed) from k = JoinsAt u g target from k
 
 -- an edge of a region that leads to a place
-pub record EdgeFine (u : UnitText) (g : Region) (e : Edge) : Type 0 where
+pub record EdgeFine (u : UnitText) (g : Region) (e : RegionEdge) : Type 0 where
   pub cond : IsCondition e.cond
   pub turns : e.to.turns ≤ max_turns
   pub joins : JoinsAt u g e.to.block e.from e.known
 
-pub record EndFine (u : UnitText) (g : Region) (x : End) : Type 0 where
+pub record EndFine (u : UnitText) (g : Region) (x : RegionEnd) : Type 0 where
   pub cond : IsCondition x.cond
   pub known : KnowsTyped u x.known
   pub way : WayRight u g x.way x.from x.known

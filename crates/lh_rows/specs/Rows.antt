@@ -19,7 +19,7 @@ pub data Way : Type 0 where
   waits : (target : ℕ) → (to_head : Bool) → (parts : List Part) → (timed : Bool) → Way
 
 -- a region ends so in the block of this label, where the condition holds; and what is known there
-pub record End : Type 0 where
+pub record RegionEnd : Type 0 where
   pub cond : Tree
   pub way : Way
   pub from : List ℕ
@@ -30,7 +30,7 @@ pub record Rows : Type 0 where
   pub probes : List Part
   pub drives : List Drive
   pub asserts : List Tree
-  pub ends : List End
+  pub ends : List RegionEnd
 
 abbrev pub no_rows : Rows
 no_rows = record { probes = []; drives = []; asserts = []; ends = [] }

@@ -13,7 +13,7 @@ use Rattle.lh_term.specs.Tree.{Tree, constant}
 use Rattle.lh_term.specs.Types.{type_of, IsTyped}
 use Rattle.lh_term.specs.declared.part.Part.{Part}
 use Rattle.lh_rows.specs.Known.{Known, known_value, known_cell, known_part, Knowledge, whole_argument}
-use Rattle.lh_rows.specs.Joins.{Edge, phi_on}
+use Rattle.lh_rows.specs.Joins.{RegionEdge, phi_on}
 use Rattle.lh_rows.specs.Places.{stepped}
 
 -- x is an item of the list
@@ -67,12 +67,12 @@ pub record IsOfType (ty : TypeTree) (t : Tree) : Type 0 where
   pub type : type_of t ≡ ty
 
 -- the value that a `phi` takes on an edge is known there
-abbrev pub PhiKnown : Edge → InstText → Type 0
+abbrev pub PhiKnown : RegionEdge → InstText → Type 0
 PhiKnown e (phi_text ty edges) = (t : Tree) × (phi_on edges e ≡ Some t) × IsOfType ty t
 PhiKnown e _ = Unit {0}
 
 -- What is known on an edge to a block is typed, and all that its lines ask for is known.
-pub record JoinEdge (u : UnitText) (b : BlockText) (e : Edge) : Type 0 where
+pub record JoinEdge (u : UnitText) (b : BlockText) (e : RegionEdge) : Type 0 where
   pub cond : IsCondition e.cond
   pub known : KnowsTyped u e.known
   pub there : KnowsThere u b [] e.known

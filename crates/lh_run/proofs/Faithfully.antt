@@ -7,7 +7,7 @@ use Rattle.lh_unit.specs.Canon.{canon}
 use Rattle.lh_unit.specs.Contents.{ItemText}
 use Rattle.lh_unit.specs.Reads.{Reads}
 use Rattle.lh_watch.specs.Members.{Member}
-use Rattle.lh_words.specs.Forms.{Asked, lower, AsksSelfTest}
+use Rattle.lh_words.specs.Forms.{FileRequest, lower, WordsAskForSelfTest}
 use Rattle.lh_words.proofs.Forms.{one_form, no_file}
 use Rattle.lh_lowered.specs.Lowering.{lowered, report}
 use Rattle.lh_lowered.specs.Report.{report_text}
@@ -36,9 +36,11 @@ same-design bytes file reads k = record {
 }
 
 -- by what a command did on the file that was loaded
-pub faithful : (words : List (List ℕ)) (bytes : List ℕ) (ms : List Member) (a : Asked) (file : List ItemText) (ended : Status) (out log : Use) → Calls words ms a → IsLoaded bytes file → LowersFile a ended file out log → LowersFaithfully words bytes ended out log
+pub faithful : (words : List (List ℕ)) (bytes : List ℕ) (ms : List Member) (a : FileRequest) (file : List ItemText) (ended : Status) (out log : Use) → Calls words ms a → IsLoaded bytes file
+    → LowersFile a ended file out log → LowersFaithfully words bytes ended out log
 faithful words bytes ms a file ended out log calls loaded lowers = record {
-  where_done = λ said done. (let wrote = lowers.where_done (one_form words a lower calls.asks said) done in (canon (lowered file), report_text (report file), wrote.1, wrote.2, same-design bytes file loaded.reads wrote.0));
+  where_done = λ said done. (let wrote = lowers.where_done (one_form words a lower calls.asks said) done in
+      (canon (lowered file), report_text (report file), wrote.1, wrote.2, same-design bytes file loaded.reads wrote.0));
 }
 
 -- what was not loaded is not done
@@ -50,7 +52,7 @@ pub misused : (words : List (List ℕ)) (bytes : List ℕ) (out log : Use) → L
 misused words bytes out log = record { where_done = λ said done. absurd cc }
 
 -- a self-test is no `lower`
-pub no_lowering : (words : List (List ℕ)) (bytes : List ℕ) (links : ℕ) (ended : Status) (out log : Use) → AsksSelfTest words links → LowersFaithfully words bytes ended out log
+pub no_lowering : (words : List (List ℕ)) (bytes : List ℕ) (links : ℕ) (ended : Status) (out log : Use) → WordsAskForSelfTest words links → LowersFaithfully words bytes ended out log
 no_lowering words bytes links ended out log test = record { where_done = λ said done. absurd (no_file words links lower test said) }
 
 -- no line is written of what is done
@@ -68,7 +70,8 @@ pub faithful-run : (r : Result (Unit {0}) Failed) (words : List (List ℕ)) (sou
     → OfSource source (λ bytes. LowersFaithfully words bytes ended out (use_of was held was_faults held_faults)) → Puts r (use_of held now held_faults faults) (status_line ended)
     → OfSource source (λ bytes. LowersFaithfully words bytes ended out (use_of was now was_faults faults))
 faithful-run r words source ended out was held now was_faults held_faults faults before puts =
-    OfSource-weaker source (λ bytes. LowersFaithfully words bytes ended out (use_of was held was_faults held_faults)) (λ bytes. LowersFaithfully words bytes ended out (use_of was now was_faults faults)) more before
+    OfSource-weaker source (λ bytes. LowersFaithfully words bytes ended out (use_of was held was_faults held_faults))
+    (λ bytes. LowersFaithfully words bytes ended out (use_of was now was_faults faults)) more before
   where
     line : ended ≡ Done → Appends held now []
     line e = no-line r held now held_faults faults (subst (λ (t : List ℕ). Puts r (use_of held now held_faults faults) t) (ap status_line e) puts)

@@ -1,7 +1,7 @@
 -- How the steps of `load` give what it says of the bytes.
 use Rattle.std.proofs.Common.{◌≡◌, ℕ, ◌+◌, ◌<◌, ◌≤◌, List, [], length, replicate, subst, Option, Some, None, IfSome, Err, Ok, arith}
 use Rattle.std.proofs.lemmas.List.{length-replicate}
-use Rattle.lh_io.specs.Whole.{IsCountWithin, Takes}
+use Rattle.lh_io.specs.Whole.{IsCountWithin, TakesBytes}
 use Rattle.lh_io.specs.declared.whole.ReadAllFault.{ReadAllFault}
 use Rattle.lh_io.specs.declared.whole.ReadAllFault.TheVariants.{ReadFault, TooLong, OutOfMemory}
 use Rattle.lh_unit.specs.Arena.{Arena, contents}
@@ -23,7 +23,8 @@ a_longer_text : (n : ℕ) → (text : List ℕ) × (n < length text)
 a_longer_text n = (replicate (n + 1) 0, longer (n + 1) (replicate (n + 1) 0) n (length-replicate (n + 1) 0) (omega arith))
 
 -- the source was not read to its end
-pub Loads-stopped : (fault : ReadAllFault) (was_left left : Option (List ℕ)) (was_taken taken n : ℕ) → IsCountWithin fault source_limit n → Takes was_left left was_taken taken n → OfSource was_left (λ bytes. Loads bytes (Err (source_status fault)))
+pub Loads-stopped : (fault : ReadAllFault) (was_left left : Option (List ℕ)) (was_taken taken n : ℕ) → IsCountWithin fault source_limit n → TakesBytes was_left left was_taken taken n
+    → OfSource was_left (λ bytes. Loads bytes (Err (source_status fault)))
 Loads-stopped ReadFault None left was_taken taken n count takes = ([], tt)
 Loads-stopped ReadFault (Some bytes) left was_taken taken n count takes = tt
 Loads-stopped TooLong None left was_taken taken n count takes = a_longer_text source_limit

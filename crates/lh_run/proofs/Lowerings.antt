@@ -8,7 +8,7 @@ use Rattle.lh_watch.specs.Members.{Member}
 use Rattle.lh_words.specs.Forms.{lower}
 use Rattle.lh_lowered.specs.Lowering.{lowered, report}
 use Rattle.lh_lowered.specs.Report.{report_text}
-use Rattle.lh_run.specs.Result.{source_limit, is_too_long, Lowers}
+use Rattle.lh_run.specs.Result.{source_limit, is_too_long, ResultOfLowering}
 use Rattle.lh_run.specs.Account.{Use, use_of, Gained, BreaksOff}
 use Rattle.lh_run.specs.Steps.{Carries, WritesLowered, IsTexts}
 use Rattle.lh_run.specs.declared.lowering.Texts.{Texts}
@@ -21,11 +21,11 @@ use Rattle.lh_run.proofs.Writes.{BreaksOff_of}
 
 -- ---- what is made
 
-makes-text : (file : List ItemText) (ms : List Member) → is_too_long file ≡ false → Lowers (is_too_long file) file ms Done (canon (lowered file)) (report_text (report file)) ms
-makes-text file ms e = subst (λ (b : Bool). Lowers b file ms Done (canon (lowered file)) (report_text (report file)) ms) (sym e) (refl, refl, refl, refl)
+makes-text : (file : List ItemText) (ms : List Member) → is_too_long file ≡ false → ResultOfLowering (is_too_long file) file ms Done (canon (lowered file)) (report_text (report file)) ms
+makes-text file ms e = subst (λ (b : Bool). ResultOfLowering b file ms Done (canon (lowered file)) (report_text (report file)) ms) (sym e) (refl, refl, refl, refl)
 
-makes-none : (file : List ItemText) (ms : List Member) → is_too_long file ≡ true → Lowers (is_too_long file) file ms OutputTooLong [] [] ms
-makes-none file ms e = subst (λ (b : Bool). Lowers b file ms OutputTooLong [] [] ms) (sym e) (refl, refl, refl, refl)
+makes-none : (file : List ItemText) (ms : List Member) → is_too_long file ≡ true → ResultOfLowering (is_too_long file) file ms OutputTooLong [] [] ms
+makes-none file ms e = subst (λ (b : Bool). ResultOfLowering b file ms OutputTooLong [] [] ms) (sym e) (refl, refl, refl, refl)
 
 -- ---- what is left
 
@@ -147,16 +147,25 @@ pub nothing-written : (was : Option (List ℕ)) (faults : ℕ) → Gained (unuse
 nothing-written was faults = Appends_nothing was
 
 -- the output broke off
-pub out-broke : (file : List ItemText) (t : Texts) (ow on lw : Option (List ℕ)) (of ofn lf : ℕ) (text : List ℕ) → IsTexts file t → is_too_long file ≡ false → text ≡ t.«module».items → AppendsProperPrefix ow on text → Rose of ofn → WritesLowered file WriteFault (use_of ow on of ofn) (unused lw lf)
+pub out-broke : (file : List ItemText) (t : Texts) (ow on lw : Option (List ℕ)) (of ofn lf : ℕ) (text : List ℕ) → IsTexts file t → is_too_long file ≡ false → text ≡ t.«module».items
+    → AppendsProperPrefix ow on text → Rose of ofn → WritesLowered file WriteFault (use_of ow on of ofn) (unused lw lf)
 out-broke file t ow on lw of ofn lf text is short e cut rose =
     (short, inl (BreaksOff_of ow on of ofn (canon (lowered file)) (subst (λ (x : List ℕ). AppendsProperPrefix ow on x) (e ∙ is.«module») cut) rose, Appends_nothing lw))
 
 -- the log broke off
-pub log-broke : (file : List ItemText) (t : Texts) (ow on lw ln : Option (List ℕ)) (of ofn lf lfn : ℕ) (text line : List ℕ) → IsTexts file t → is_too_long file ≡ false → text ≡ t.«module».items → Appends ow on text → line ≡ t.report.items → AppendsProperPrefix lw ln line → Rose lf lfn → WritesLowered file WriteFault (use_of ow on of ofn) (use_of lw ln lf lfn)
-log-broke file t ow on lw ln of ofn lf lfn text line is short e all f cut rose =
-    (short, inr (subst (λ (x : List ℕ). Appends ow on x) (e ∙ is.«module») all, BreaksOff_of lw ln lf lfn (report_text (report file)) (subst (λ (x : List ℕ). AppendsProperPrefix lw ln x) (f ∙ is.report) cut) rose))
+pub log-broke : (file : List ItemText) (t : Texts) (ow on lw ln : Option (List ℕ)) (of ofn lf lfn : ℕ) (text line : List ℕ) → IsTexts file t → is_too_long file ≡ false → text ≡ t.«module».items
+    → Appends ow on text → line ≡ t.report.items → AppendsProperPrefix lw ln line → Rose lf lfn → WritesLowered file WriteFault (use_of ow on of ofn) (use_of lw ln lf lfn)
+log-broke file t ow on lw ln of ofn lf lfn text line is short e all f cut rose = (
+  short,
+  inr (
+    subst (λ (x : List ℕ). Appends ow on x) (e ∙ is.«module») all,
+    BreaksOff_of lw ln lf lfn (report_text (report file))
+        (subst (λ (x : List ℕ). AppendsProperPrefix lw ln x) (f ∙ is.report) cut) rose,
+  ),
+)
 
 -- both were written
-pub both-written : (file : List ItemText) (t : Texts) (ow on lw ln : Option (List ℕ)) (of ofn lf lfn : ℕ) (text line : List ℕ) → IsTexts file t → is_too_long file ≡ false → text ≡ t.«module».items → Appends ow on text → line ≡ t.report.items → Appends lw ln line → WritesLowered file Done (use_of ow on of ofn) (use_of lw ln lf lfn)
+pub both-written : (file : List ItemText) (t : Texts) (ow on lw ln : Option (List ℕ)) (of ofn lf lfn : ℕ) (text line : List ℕ) → IsTexts file t → is_too_long file ≡ false → text ≡ t.«module».items
+    → Appends ow on text → line ≡ t.report.items → Appends lw ln line → WritesLowered file Done (use_of ow on of ofn) (use_of lw ln lf lfn)
 both-written file t ow on lw ln of ofn lf lfn text line is short e all f report =
     (short, subst (λ (x : List ℕ). Appends ow on x) (e ∙ is.«module») all, subst (λ (x : List ℕ). Appends lw ln x) (f ∙ is.report) report)

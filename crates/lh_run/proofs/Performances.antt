@@ -3,7 +3,7 @@ use Rattle.std.proofs.Common.{arith, ◌≡◌, ℕ, ◌≤◌, inl, inr, List, 
 use Rattle.std.proofs.lemmas.List.{append-nil}
 use Rattle.lh_types.specs.Raised.{raised}
 use Rattle.lh_io.specs.Streams.{Appends}
-use Rattle.lh_io.specs.Whole.{Takes}
+use Rattle.lh_io.specs.Whole.{TakesBytes}
 use Rattle.lh_unit.specs.Contents.{ItemText}
 use Rattle.lh_unit.specs.Reads.{Reads}
 use Rattle.lh_unit.specs.Trace.{Trace, refuses, ran, trace}
@@ -12,12 +12,12 @@ use Rattle.lh_wave.specs.declared.ending.End.{End}
 use Rattle.lh_wave.specs.declared.ending.End.TheVariants as end
 use Rattle.lh_watch.specs.Members.{Member}
 use Rattle.lh_watch.specs.Shown.{kept}
-use Rattle.lh_words.specs.Forms.{Simulation, Asked, check, lower, simulate, AsksSelfTest}
+use Rattle.lh_words.specs.Forms.{SimulateRequest, FileRequest, check, lower, simulate, WordsAskForSelfTest}
 use Rattle.lh_chain.specs.Laws.{GeneratedReads}
 use Rattle.lh_selftest.specs.Answer.{answer_of}
 use Rattle.lh_run.specs.Called.{Calls, IsMisuse}
-use Rattle.lh_run.specs.Simulated.{status_by, fault_of, Shows}
-use Rattle.lh_run.specs.Result.{source_limit, is_too_long, Lowers, Makes, MayLeave, usage, tested, source_too_long, refused, made}
+use Rattle.lh_run.specs.Simulated.{status_by, fault_of, ResultOfRun}
+use Rattle.lh_run.specs.Result.{source_limit, is_too_long, ResultOfLowering, ResultOfCommand, MayLeave, usage, tested, source_too_long, refused, made}
 use Rattle.lh_run.specs.Account.{Use, use_of, IsStatusFor, Leaves, AreLeft, Performs, OfSource, IsCountFor, IsReadToEnd}
 use Rattle.lh_run.specs.Steps.{IsLoaded, Loads, AreLeftBy, Carries, WritesSelfTest}
 use Rattle.lh_run.specs.declared.status.Status.{Status}
@@ -46,7 +46,8 @@ quiet ended status ow lw of lf by_status = record {
 }
 
 -- nothing came to the sinks, whatever the texts of the result
-pub silent : (ended status : Status) (out_text log_text : List ℕ) (ow lw : Option (List ℕ)) (of lf : ℕ) → IsStatusFor ended status out_text log_text (unused ow of) (unused lw lf) [] [] → Leaves ended status out_text log_text (unused ow of) (unused lw lf)
+pub silent : (ended status : Status) (out_text log_text : List ℕ) (ow lw : Option (List ℕ)) (of lf : ℕ) → IsStatusFor ended status out_text log_text (unused ow of) (unused lw lf) [] []
+    → Leaves ended status out_text log_text (unused ow of) (unused lw lf)
 silent ended status out_text log_text ow lw of lf by_status = record {
   out_part = [];
   log_part = [];
@@ -59,7 +60,8 @@ silent ended status out_text log_text ow lw of lf by_status = record {
 }
 
 -- words of no use
-pub Performs-misuse : (words : List (List ℕ)) (bytes : List ℕ) (ms : List Member) (ow lw : Option (List ℕ)) (of lf : ℕ) → IsMisuse words ms → Performs words bytes ms Usage (unused ow of) (unused lw lf) ms
+pub Performs-misuse : (words : List (List ℕ)) (bytes : List ℕ) (ms : List Member) (ow lw : Option (List ℕ)) (of lf : ℕ) → IsMisuse words ms
+    → Performs words bytes ms Usage (unused ow of) (unused lw lf) ms
 Performs-misuse words bytes ms ow lw of lf none = record {
   status = Usage;
   out_text = [];
@@ -71,7 +73,8 @@ Performs-misuse words bytes ms ow lw of lf none = record {
 }
 
 -- a file that was not loaded
-pub Performs-unloaded : (words : List (List ℕ)) (bytes : List ℕ) (ms : List Member) (a : Asked) (ended : Status) (ow lw : Option (List ℕ)) (of lf : ℕ) → Calls words ms a → Loads bytes (Err ended) → Performs words bytes ms ended (unused ow of) (unused lw lf) ms
+pub Performs-unloaded : (words : List (List ℕ)) (bytes : List ℕ) (ms : List Member) (a : FileRequest) (ended : Status) (ow lw : Option (List ℕ)) (of lf : ℕ) → Calls words ms a
+    → Loads bytes (Err ended) → Performs words bytes ms ended (unused ow of) (unused lw lf) ms
 Performs-unloaded words bytes ms a Usage ow lw of lf calls loads = absurd loads
 Performs-unloaded words bytes ms a ReadFault ow lw of lf calls loads =
     let one = HasOneResult-called words bytes ms a calls in
@@ -121,7 +124,8 @@ Performs-unloaded words bytes ms a OutOfMemory ow lw of lf calls loads =
     }
 
 -- the members that are left of a file are left of the bytes
-AreLeft_of : (words : List (List ℕ)) (bytes : List ℕ) (ms left now : List Member) (a : Asked) (file : List ItemText) (ended : Status) → Calls words ms a → Reads bytes file → AreLeftBy ended (now ≡ left) (MayLeave a file ms now) → AreLeft ended words bytes ms left now
+AreLeft_of : (words : List (List ℕ)) (bytes : List ℕ) (ms left now : List Member) (a : FileRequest) (file : List ItemText) (ended : Status) → Calls words ms a → Reads bytes file
+    → AreLeftBy ended (now ≡ left) (MayLeave a file ms now) → AreLeft ended words bytes ms left now
 AreLeft_of words bytes ms left now a file Usage calls reads p = p
 AreLeft_of words bytes ms left now a file ReadFault calls reads p = absurd p
 AreLeft_of words bytes ms left now a file SourceTooLong calls reads p = p
@@ -135,7 +139,8 @@ AreLeft_of words bytes ms left now a file Done calls reads p = p
 AreLeft_of words bytes ms left now a file OutOfMemory calls reads p = inr (a, file, calls, reads, p)
 
 -- a command that was carried out on the file
-pub Performs-carried : (words : List (List ℕ)) (bytes : List ℕ) (ms : List Member) (a : Asked) (file : List ItemText) (ended : Status) (out log : Use) (now : List Member) → Calls words ms a → IsLoaded bytes file → Carries a file ms ended out log now → Performs words bytes ms ended out log now
+pub Performs-carried : (words : List (List ℕ)) (bytes : List ℕ) (ms : List Member) (a : FileRequest) (file : List ItemText) (ended : Status) (out log : Use) (now : List Member) → Calls words ms a
+    → IsLoaded bytes file → Carries a file ms ended out log now → Performs words bytes ms ended out log now
 Performs-carried words bytes ms a file ended out log now calls loaded c = record {
   status = c.status;
   out_text = c.out_text;
@@ -147,7 +152,8 @@ Performs-carried words bytes ms a file ended out log now calls loaded c = record
 }
 
 -- a self-test
-pub Performs-tested : GeneratedReads → (words : List (List ℕ)) (bytes : List ℕ) (ms : List Member) (links : ℕ) (ended : Status) (out : Use) (lw : Option (List ℕ)) (lf : ℕ) → AsksSelfTest words links → WritesSelfTest links ended out → Performs words bytes ms ended out (unused lw lf) ms
+pub Performs-tested : GeneratedReads → (words : List (List ℕ)) (bytes : List ℕ) (ms : List Member) (links : ℕ) (ended : Status) (out : Use) (lw : Option (List ℕ)) (lf : ℕ)
+    → WordsAskForSelfTest words links → WritesSelfTest links ended out → Performs words bytes ms ended out (unused lw lf) ms
 Performs-tested law words bytes ms links Done out lw lf test (file, reads, gained) = record {
   status = Done;
   out_text = answer_of file;
@@ -234,20 +240,22 @@ status_by-made (end.Stop place) false = tt
 is_made : (s t : Status) → s ≡ t → IsMadeStatus t → IsMadeStatus s
 is_made s t same p = let P : Status → Type 0 = λ x. IsMadeStatus x in subst P (sym same) p
 
-Shows-status : (s : Simulation) (ms : List Member) (t : Trace) (status : Status) (out log : List ℕ) (left : List Member) → Shows s ms t status out log left → IsMadeStatus status
-Shows-status s ms (refuses why) status out log left p = is_made status (Top (fault_of why)) p.0 tt
-Shows-status s ms (ran instances signals run) status out log left p =
+ResultOfRun-status : (s : SimulateRequest) (ms : List Member) (t : Trace) (status : Status) (out log : List ℕ) (left : List Member) → ResultOfRun s ms t status out log left → IsMadeStatus status
+ResultOfRun-status s ms (refuses why) status out log left p = is_made status (Top (fault_of why)) p.0 tt
+ResultOfRun-status s ms (ran instances signals run) status out log left p =
     let shown = shown_run run (kept s.titles ms) in
     is_made status (status_by shown.end (any_failed shown)) p.0 (status_by-made shown.end (any_failed shown))
 
-Lowers-status : (long : Bool) (file : List ItemText) (ms : List Member) (status : Status) (out log : List ℕ) (left : List Member) → Lowers long file ms status out log left → IsMadeStatus status
-Lowers-status true file ms status out log left p = is_made status OutputTooLong p.0 tt
-Lowers-status false file ms status out log left p = is_made status Done p.0 tt
+ResultOfLowering-status : (long : Bool) (file : List ItemText) (ms : List Member) (status : Status) (out log : List ℕ) (left : List Member) → ResultOfLowering long file ms status out log left
+    → IsMadeStatus status
+ResultOfLowering-status true file ms status out log left p = is_made status OutputTooLong p.0 tt
+ResultOfLowering-status false file ms status out log left p = is_made status Done p.0 tt
 
-Makes-status : (a : Asked) (file : List ItemText) (ms : List Member) (status : Status) (out log : List ℕ) (left : List Member) → Makes a file ms status out log left → IsMadeStatus status
-Makes-status check file ms status out log left p = is_made status Done p.0 tt
-Makes-status lower file ms status out log left p = Lowers-status (is_too_long file) file ms status out log left p
-Makes-status (simulate s) file ms status out log left p = Shows-status s ms (trace file s.top s.steps) status out log left p
+ResultOfCommand-status : (a : FileRequest) (file : List ItemText) (ms : List Member) (status : Status) (out log : List ℕ) (left : List Member) → ResultOfCommand a file ms status out log left
+    → IsMadeStatus status
+ResultOfCommand-status check file ms status out log left p = is_made status Done p.0 tt
+ResultOfCommand-status lower file ms status out log left p = ResultOfLowering-status (is_too_long file) file ms status out log left p
+ResultOfCommand-status (simulate s) file ms status out log left p = ResultOfRun-status s ms (trace file s.top s.steps) status out log left p
 
 -- the statuses with which a command on a file ends
 abbrev pub IsCarriedStatus : Status → Type 0
@@ -257,11 +265,11 @@ IsCarriedStatus SourceTooLong = ⊥
 IsCarriedStatus (Refused why) = ⊥
 IsCarriedStatus _ = Unit {0}
 
-pub Carries-status : (a : Asked) (file : List ItemText) (ms : List Member) (ended : Status) (out log : Use) (now : List Member) → Carries a file ms ended out log now → IsCarriedStatus ended
-Carries-status a file ms Usage out log now c = is_made Usage c.status c.sinks.by_status.0 (Makes-status a file ms c.status c.out_text c.log_text c.left c.makes)
+pub Carries-status : (a : FileRequest) (file : List ItemText) (ms : List Member) (ended : Status) (out log : Use) (now : List Member) → Carries a file ms ended out log now → IsCarriedStatus ended
+Carries-status a file ms Usage out log now c = is_made Usage c.status c.sinks.by_status.0 (ResultOfCommand-status a file ms c.status c.out_text c.log_text c.left c.makes)
 Carries-status a file ms ReadFault out log now c = c.members
-Carries-status a file ms SourceTooLong out log now c = is_made SourceTooLong c.status c.sinks.by_status.0 (Makes-status a file ms c.status c.out_text c.log_text c.left c.makes)
-Carries-status a file ms (Refused why) out log now c = is_made (Refused why) c.status c.sinks.by_status.0 (Makes-status a file ms c.status c.out_text c.log_text c.left c.makes)
+Carries-status a file ms SourceTooLong out log now c = is_made SourceTooLong c.status c.sinks.by_status.0 (ResultOfCommand-status a file ms c.status c.out_text c.log_text c.left c.makes)
+Carries-status a file ms (Refused why) out log now c = is_made (Refused why) c.status c.sinks.by_status.0 (ResultOfCommand-status a file ms c.status c.out_text c.log_text c.left c.makes)
 Carries-status a file ms (Top why) out log now c = tt
 Carries-status a file ms OutputTooLong out log now c = tt
 Carries-status a file ms WriteFault out log now c = tt
@@ -343,7 +351,7 @@ IsTestStatus-carried AssertFailed h = absurd h
 raised_none : (n : ℕ) → n ≡ raised n 0
 raised_none n = omega arith
 
-pub takes_none : (left : Option (List ℕ)) (taken : ℕ) → Takes left left taken taken 0
+pub takes_none : (left : Option (List ℕ)) (taken : ℕ) → TakesBytes left left taken taken 0
 takes_none None taken = record { counted = raised_none taken; told = tt }
 takes_none (Some bytes) taken = record { counted = raised_none taken; told = (omega arith, refl) }
 

@@ -13,7 +13,7 @@ use Rattle.lh_watch.specs.Members.{Member}
 use Rattle.lh_watch.specs.Shown.{kept}
 use Rattle.lh_wave.specs.ShownRun.{shown_run, all_reports, any_failed}
 use Rattle.lh_wave.specs.RunText.{text_in}
-use Rattle.lh_words.specs.Forms.{Simulation, Asked, check, lower, simulate, AsksSelfTest}
+use Rattle.lh_words.specs.Forms.{SimulateRequest, FileRequest, check, lower, simulate, WordsAskForSelfTest}
 use Rattle.lh_words.proofs.Forms.{one_form, one_self_test, no_file}
 use Rattle.lh_lowered.specs.Lowering.{lowered, report}
 use Rattle.lh_lowered.specs.Report.{report_text}
@@ -23,8 +23,8 @@ use Rattle.lh_chain.specs.Laws.{GeneratedReads}
 use Rattle.lh_selftest.specs.Answer.{answer_of}
 use Rattle.lh_run.proofs.Readings.{FirstBad-or-Reads, Reads-not-FirstBad, Reads-unique, FirstBad-unique}
 use Rattle.lh_run.specs.Called.{Calls, IsMisuse}
-use Rattle.lh_run.specs.Simulated.{fault_of, status_by, mode_of, Shows}
-use Rattle.lh_run.specs.Result.{source_limit, HasFirstFault, IsRefusedFor, is_too_long, Lowers, Makes, IsResult, usage, tested, source_too_long, refused, made}
+use Rattle.lh_run.specs.Simulated.{fault_of, status_by, mode_of, ResultOfRun}
+use Rattle.lh_run.specs.Result.{source_limit, HasFirstFault, IsRefusedFor, is_too_long, ResultOfLowering, ResultOfCommand, IsResult, usage, tested, source_too_long, refused, made}
 use Rattle.lh_run.specs.Account.{HasOneResult}
 use Rattle.lh_run.specs.declared.status.Refusal.{Refusal}
 use Rattle.lh_run.specs.declared.status.Refusal.TheVariants.{Syntax, UnitTooLarge, DuplicateName, Invalid}
@@ -92,36 +92,42 @@ Reads-not-refused bytes file why reads sound bad = at (IsRefusedFor-bad bytes wh
 abbrev Same : (status s : Status) → (out o log l : List ℕ) → (left now : List Member) → Type 0
 Same status s out o log l left now = (s ≡ status) × (o ≡ out) × (l ≡ log) × (now ≡ left)
 
-Shows-one : (s : Simulation) (ms : List Member) (t : Trace) (status again : Status) (out o log l : List ℕ) (left now : List Member) → Shows s ms t status out log left → Shows s ms t again o l now → Same status again out o log l left now
-Shows-one s ms (refuses why) status again out o log l left now p q = (q.0 ∙ sym p.0, q.1 ∙ sym p.1, q.2 ∙ sym p.2, q.3 ∙ sym p.3)
-Shows-one s ms (ran instances signals run) status again out o log l left now p q = (q.0 ∙ sym p.0, q.1 ∙ sym p.1, q.2 ∙ sym p.2, q.3 ∙ sym p.3)
+ResultOfRun-one : (s : SimulateRequest) (ms : List Member) (t : Trace) (status again : Status) (out o log l : List ℕ) (left now : List Member) → ResultOfRun s ms t status out log left
+    → ResultOfRun s ms t again o l now → Same status again out o log l left now
+ResultOfRun-one s ms (refuses why) status again out o log l left now p q = (q.0 ∙ sym p.0, q.1 ∙ sym p.1, q.2 ∙ sym p.2, q.3 ∙ sym p.3)
+ResultOfRun-one s ms (ran instances signals run) status again out o log l left now p q = (q.0 ∙ sym p.0, q.1 ∙ sym p.1, q.2 ∙ sym p.2, q.3 ∙ sym p.3)
 
-Lowers-one : (long : Bool) (file : List ItemText) (ms : List Member) (status again : Status) (out o log l : List ℕ) (left now : List Member) → Lowers long file ms status out log left → Lowers long file ms again o l now → Same status again out o log l left now
-Lowers-one true file ms status again out o log l left now p q = (q.0 ∙ sym p.0, q.1 ∙ sym p.1, q.2 ∙ sym p.2, q.3 ∙ sym p.3)
-Lowers-one false file ms status again out o log l left now p q = (q.0 ∙ sym p.0, q.1 ∙ sym p.1, q.2 ∙ sym p.2, q.3 ∙ sym p.3)
+ResultOfLowering-one : (long : Bool) (file : List ItemText) (ms : List Member) (status again : Status) (out o log l : List ℕ) (left now : List Member)
+    → ResultOfLowering long file ms status out log left → ResultOfLowering long file ms again o l now → Same status again out o log l left now
+ResultOfLowering-one true file ms status again out o log l left now p q = (q.0 ∙ sym p.0, q.1 ∙ sym p.1, q.2 ∙ sym p.2, q.3 ∙ sym p.3)
+ResultOfLowering-one false file ms status again out o log l left now p q = (q.0 ∙ sym p.0, q.1 ∙ sym p.1, q.2 ∙ sym p.2, q.3 ∙ sym p.3)
 
-Makes-one : (a : Asked) (file : List ItemText) (ms : List Member) (status again : Status) (out o log l : List ℕ) (left now : List Member) → Makes a file ms status out log left → Makes a file ms again o l now → Same status again out o log l left now
-Makes-one check file ms status again out o log l left now p q = (q.0 ∙ sym p.0, q.1 ∙ sym p.1, q.2 ∙ sym p.2, q.3 ∙ sym p.3)
-Makes-one lower file ms status again out o log l left now p q = Lowers-one (is_too_long file) file ms status again out o log l left now p q
-Makes-one (simulate s) file ms status again out o log l left now p q = Shows-one s ms (trace file s.top s.steps) status again out o log l left now p q
+ResultOfCommand-one : (a : FileRequest) (file : List ItemText) (ms : List Member) (status again : Status) (out o log l : List ℕ) (left now : List Member)
+    → ResultOfCommand a file ms status out log left → ResultOfCommand a file ms again o l now → Same status again out o log l left now
+ResultOfCommand-one check file ms status again out o log l left now p q = (q.0 ∙ sym p.0, q.1 ∙ sym p.1, q.2 ∙ sym p.2, q.3 ∙ sym p.3)
+ResultOfCommand-one lower file ms status again out o log l left now p q = ResultOfLowering-one (is_too_long file) file ms status again out o log l left now p q
+ResultOfCommand-one (simulate s) file ms status again out o log l left now p q = ResultOfRun-one s ms (trace file s.top s.steps) status again out o log l left now p q
 
 -- what two calls make of two readings is one
-Makes-unique : (a b : Asked) (file again : List ItemText) (ms : List Member) (status s : Status) (out o log l : List ℕ) (left now : List Member) → b ≡ a → again ≡ file → Makes a file ms status out log left → Makes b again ms s o l now → Same status s out o log l left now
-Makes-unique a b file again ms status s out o log l left now one same p q =
-    let P : Asked → Type 0 = λ x. Makes x again ms s o l now in
-    let R : List ItemText → Type 0 = λ x. Makes a x ms s o l now in
-    Makes-one a file ms status s out o log l left now p (subst R same (subst P one q))
+ResultOfCommand-unique : (a b : FileRequest) (file again : List ItemText) (ms : List Member) (status s : Status) (out o log l : List ℕ) (left now : List Member) → b ≡ a → again ≡ file
+    → ResultOfCommand a file ms status out log left → ResultOfCommand b again ms s o l now → Same status s out o log l left now
+ResultOfCommand-unique a b file again ms status s out o log l left now one same p q =
+    let P : FileRequest → Type 0 = λ x. ResultOfCommand x again ms s o l now in
+    let R : List ItemText → Type 0 = λ x. ResultOfCommand a x ms s o l now in
+    ResultOfCommand-one a file ms status s out o log l left now p (subst R same (subst P one q))
 
-Calls-unique : (words : List (List ℕ)) (ms : List Member) (a b : Asked) → Calls words ms a → Calls words ms b → b ≡ a
+Calls-unique : (words : List (List ℕ)) (ms : List Member) (a b : FileRequest) → Calls words ms a → Calls words ms b → b ≡ a
 Calls-unique words ms a b p q = one_form words b a q.asks p.asks
 
 -- one self-test has one answer
-same_answer : (words : List (List ℕ)) (n m : ℕ) (file again : List ItemText) → AsksSelfTest words n → AsksSelfTest words m → Reads (generated n) file → Reads (generated m) again → answer_of again ≡ answer_of file
+same_answer : (words : List (List ℕ)) (n m : ℕ) (file again : List ItemText) → WordsAskForSelfTest words n → WordsAskForSelfTest words m → Reads (generated n) file → Reads (generated m) again
+    → answer_of again ≡ answer_of file
 same_answer words n m file again p q a b =
     let b' : Reads (generated n) again = subst (λ (k : ℕ). Reads (generated k) again) (one_self_test words m n q p) b in
     ap answer_of (Reads-unique (generated n) again file b' a)
 
-pub IsResult-unique : (words : List (List ℕ)) (bytes : List ℕ) (ms : List Member) (status s : Status) (out log o l : List ℕ) (left now : List Member) → IsResult words bytes ms status out log left → IsResult words bytes ms s o l now → Same status s out o log l left now
+pub IsResult-unique : (words : List (List ℕ)) (bytes : List ℕ) (ms : List Member) (status s : Status) (out log o l : List ℕ) (left now : List Member) → IsResult words bytes ms status out log left
+    → IsResult words bytes ms s o l now → Same status s out o log l left now
 IsResult-unique words bytes ms _ _ _ _ _ _ _ _ (usage none) (usage none') = (refl, refl, refl, refl)
 IsResult-unique words bytes ms _ _ _ _ _ _ _ _ (usage none) (source_too_long b calls long) = absurd (none.on_file b calls)
 IsResult-unique words bytes ms _ _ _ _ _ _ _ _ (usage none) (refused b why calls few bad) = absurd (none.on_file b calls)
@@ -147,9 +153,10 @@ IsResult-unique words bytes ms _ _ _ _ _ _ _ _ (made a file status out log left 
 IsResult-unique words bytes ms _ _ _ _ _ _ _ _ (made a file status out log left calls few reads sound makes) (source_too_long b calls' long) = absurd (omega arith)
 IsResult-unique words bytes ms _ _ _ _ _ _ _ _ (made a file status out log left calls few reads sound makes) (refused b why calls' few' bad) = absurd (Reads-not-refused bytes file why reads sound bad)
 IsResult-unique words bytes ms _ _ _ _ _ _ _ _ (made a file status out log left calls few reads sound makes) (made b again s o l now calls' few' reads' sound' makes') =
-    Makes-unique a b file again ms status s out o log l left now (Calls-unique words ms a b calls calls') (Reads-unique bytes again file reads' reads) makes makes'
+    ResultOfCommand-unique a b file again ms status s out o log l left now (Calls-unique words ms a b calls calls') (Reads-unique bytes again file reads' reads) makes makes'
 
-one_result : (words : List (List ℕ)) (bytes : List ℕ) (ms : List Member) (status : Status) (out log : List ℕ) (left : List Member) → IsResult words bytes ms status out log left → HasOneResult words bytes ms
+one_result : (words : List (List ℕ)) (bytes : List ℕ) (ms : List Member) (status : Status) (out log : List ℕ) (left : List Member) → IsResult words bytes ms status out log left
+    → HasOneResult words bytes ms
 one_result words bytes ms status out log left result = record {
   status = status;
   out = out;
@@ -164,28 +171,28 @@ pub HasOneResult-misuse : (words : List (List ℕ)) (bytes : List ℕ) (ms : Lis
 HasOneResult-misuse words bytes ms none = one_result words bytes ms Usage [] [] ms (usage none)
 
 -- a self-test has one result
-pub HasOneResult-tested : GeneratedReads → (words : List (List ℕ)) (bytes : List ℕ) (ms : List Member) (links : ℕ) → AsksSelfTest words links → HasOneResult words bytes ms
+pub HasOneResult-tested : GeneratedReads → (words : List (List ℕ)) (bytes : List ℕ) (ms : List Member) (links : ℕ) → WordsAskForSelfTest words links → HasOneResult words bytes ms
 HasOneResult-tested reads words bytes ms links test =
     let file = chain_file links in
     one_result words bytes ms Done (answer_of file) [] ms (tested links file test (reads links test.links_said.at_most))
 
 -- what a command makes of a file
-pub record Made (a : Asked) (file : List ItemText) (ms : List Member) : Type 0 where
+pub record Made (a : FileRequest) (file : List ItemText) (ms : List Member) : Type 0 where
   pub status : Status
   pub out : List ℕ
   pub log : List ℕ
   pub left : List Member
-  pub makes : Makes a file ms status out log left
+  pub makes : ResultOfCommand a file ms status out log left
 
 -- what is shown of a trace
-pub record Showed (s : Simulation) (ms : List Member) (t : Trace) : Type 0 where
+pub record Showed (s : SimulateRequest) (ms : List Member) (t : Trace) : Type 0 where
   pub status : Status
   pub out : List ℕ
   pub log : List ℕ
   pub left : List Member
-  pub shows : Shows s ms t status out log left
+  pub shows : ResultOfRun s ms t status out log left
 
-pub showed : (s : Simulation) (ms : List Member) (t : Trace) → Showed s ms t
+pub showed : (s : SimulateRequest) (ms : List Member) (t : Trace) → Showed s ms t
 showed s ms (refuses why) = record { status = Top (fault_of why); out = []; log = []; left = ms; shows = (refl, refl, refl, refl) }
 showed s ms (ran instances signals run) =
     let shown = shown_run run (kept s.titles ms) in
@@ -203,39 +210,43 @@ pub record Lowered (long : Bool) (file : List ItemText) (ms : List Member) : Typ
   pub out : List ℕ
   pub log : List ℕ
   pub left : List Member
-  pub lowers : Lowers long file ms status out log left
+  pub lowers : ResultOfLowering long file ms status out log left
 
 lowered_of : (long : Bool) (file : List ItemText) (ms : List Member) → Lowered long file ms
 lowered_of true file ms = record { status = OutputTooLong; out = []; log = []; left = ms; lowers = (refl, refl, refl, refl) }
 lowered_of false file ms = record { status = Done; out = canon (lowered file); log = report_text (report file); left = ms; lowers = (refl, refl, refl, refl) }
 
-pub made_of : (a : Asked) (file : List ItemText) (ms : List Member) → Made a file ms
+pub made_of : (a : FileRequest) (file : List ItemText) (ms : List Member) → Made a file ms
 made_of check file ms = record { status = Done; out = canon file; log = []; left = ms; makes = (refl, refl, refl, refl) }
 made_of lower file ms = let x = lowered_of (is_too_long file) file ms in record { status = x.status; out = x.out; log = x.log; left = x.left; makes = x.lowers }
 made_of (simulate s) file ms =
     let x = showed s ms (trace file s.top s.steps) in
     record { status = x.status; out = x.out; log = x.log; left = x.left; makes = x.shows }
 
-by_made : (words : List (List ℕ)) (bytes : List ℕ) (ms : List Member) (a : Asked) (file : List ItemText) → Calls words ms a → length bytes ≤ source_limit → Reads bytes file → IsFaultless file → Made a file ms → HasOneResult words bytes ms
+by_made : (words : List (List ℕ)) (bytes : List ℕ) (ms : List Member) (a : FileRequest) (file : List ItemText) → Calls words ms a → length bytes ≤ source_limit → Reads bytes file → IsFaultless file
+    → Made a file ms → HasOneResult words bytes ms
 by_made words bytes ms a file calls few reads sound m = one_result words bytes ms m.status m.out m.log m.left (made a file m.status m.out m.log m.left calls few reads sound m.makes)
 
-by_fault : (words : List (List ℕ)) (bytes : List ℕ) (ms : List Member) (a : Asked) (file : List ItemText) → Calls words ms a → length bytes ≤ source_limit → Reads bytes file → IsFaultless file ⊎ ((u : UnitName) × (i : ℕ) × (k : FaultKind) × IsFirstFault file u i k) → HasOneResult words bytes ms
+by_fault : (words : List (List ℕ)) (bytes : List ℕ) (ms : List Member) (a : FileRequest) (file : List ItemText) → Calls words ms a → length bytes ≤ source_limit → Reads bytes file
+    → IsFaultless file ⊎ ((u : UnitName) × (i : ℕ) × (k : FaultKind) × IsFirstFault file u i k) → HasOneResult words bytes ms
 by_fault words bytes ms a file calls few reads (inl sound) = by_made words bytes ms a file calls few reads sound (made_of a file ms)
 by_fault words bytes ms a file calls few reads (inr (u, i, k, first)) =
     let why : Refusal = Invalid u i (number_of k) in
     let bad : IsRefusedFor bytes why = (file, reads, (k, refl, first)) in
     one_result words bytes ms (Refused why) [] [] ms (refused a why calls few bad)
 
-by_reading : (words : List (List ℕ)) (bytes : List ℕ) (ms : List Member) (a : Asked) → Calls words ms a → length bytes ≤ source_limit → ((line : ℕ) × (kind : BadKind) × FirstBad bytes line kind) ⊎ ((file : List ItemText) × Reads bytes file) → HasOneResult words bytes ms
+by_reading : (words : List (List ℕ)) (bytes : List ℕ) (ms : List Member) (a : FileRequest) → Calls words ms a → length bytes ≤ source_limit
+    → ((line : ℕ) × (kind : BadKind) × FirstBad bytes line kind) ⊎ ((file : List ItemText) × Reads bytes file) → HasOneResult words bytes ms
 by_reading words bytes ms a calls few (inl (line, kind, bad)) =
     let why = IsRefusedFor-at bytes line kind bad in
     one_result words bytes ms (Refused why.0) [] [] ms (refused a why.0 calls few why.1)
 by_reading words bytes ms a calls few (inr (file, reads)) = by_fault words bytes ms a file calls few reads (faultless_or_faulty bytes file reads)
 
-by_length : (words : List (List ℕ)) (bytes : List ℕ) (ms : List Member) (a : Asked) → Calls words ms a → (source_limit < length bytes) ⊎ (length bytes ≤ source_limit) → HasOneResult words bytes ms
+by_length : (words : List (List ℕ)) (bytes : List ℕ) (ms : List Member) (a : FileRequest) → Calls words ms a → (source_limit < length bytes) ⊎ (length bytes ≤ source_limit)
+    → HasOneResult words bytes ms
 by_length words bytes ms a calls (inl long) = one_result words bytes ms SourceTooLong [] [] ms (source_too_long a calls long)
 by_length words bytes ms a calls (inr few) = by_reading words bytes ms a calls few (FirstBad-or-Reads bytes)
 
 -- words that call for something have one result
-pub HasOneResult-called : (words : List (List ℕ)) (bytes : List ℕ) (ms : List Member) (a : Asked) → Calls words ms a → HasOneResult words bytes ms
+pub HasOneResult-called : (words : List (List ℕ)) (bytes : List ℕ) (ms : List Member) (a : FileRequest) → Calls words ms a → HasOneResult words bytes ms
 HasOneResult-called words bytes ms a calls = by_length words bytes ms a calls (cases_lt source_limit (length bytes))

@@ -18,7 +18,8 @@ BreaksOff_of was now was_faults faults text cut rose = record {
 }
 
 -- what `write_all` ensures, in one word
-pub Puts_of : (r : Result (Unit {0}) Failed) (was now : Option (List ℕ)) (was_faults faults : ℕ) (text : List ℕ) → OnOk r (Appends was now text) → OnErr r (AppendsProperPrefix was now text) → OnErr r (Rose was_faults faults) → Puts r (use_of was now was_faults faults) text
+pub Puts_of : (r : Result (Unit {0}) Failed) (was now : Option (List ℕ)) (was_faults faults : ℕ) (text : List ℕ) → OnOk r (Appends was now text) → OnErr r (AppendsProperPrefix was now text)
+    → OnErr r (Rose was_faults faults) → Puts r (use_of was now was_faults faults) text
 Puts_of (Ok _) was now was_faults faults text whole cut rose = whole
 Puts_of (Err _) was now was_faults faults text whole cut rose = BreaksOff_of was now was_faults faults text cut rose
 
@@ -29,7 +30,8 @@ BreaksOff_first u a b off = record {
   is_prefix = record {
     rest = off.is_prefix.rest ++ b;
     split = ap (λ t. t ++ b) off.is_prefix.split ∙ append_assoc off.part off.is_prefix.rest b;
-    proper = (let len : length (off.is_prefix.rest ++ b) ≡ length off.is_prefix.rest + length b = length-append off.is_prefix.rest b in let some : 0 < length off.is_prefix.rest = off.is_prefix.proper in omega arith);
+    proper = (let len : length (off.is_prefix.rest ++ b) ≡ length off.is_prefix.rest + length b = length-append off.is_prefix.rest b in
+        let some : 0 < length off.is_prefix.rest = off.is_prefix.proper in omega arith);
   };
   gained = off.gained;
   rose = off.rose;
@@ -43,7 +45,8 @@ Appends_more (Some xs) mid now a b first second =
     told ∙ ap Some (append_assoc xs a b)
 
 -- the second of two texts broke off
-pub BreaksOff_second : (was mid now : Option (List ℕ)) (was_faults mid_faults faults : ℕ) (a b : List ℕ) → Appends was mid a → was_faults ≤ mid_faults → BreaksOff (use_of mid now mid_faults faults) b → BreaksOff (use_of was now was_faults faults) (a ++ b)
+pub BreaksOff_second : (was mid now : Option (List ℕ)) (was_faults mid_faults faults : ℕ) (a b : List ℕ) → Appends was mid a → was_faults ≤ mid_faults → BreaksOff (use_of mid now mid_faults faults) b
+    → BreaksOff (use_of was now was_faults faults) (a ++ b)
 BreaksOff_second was mid now was_faults mid_faults faults a b first le off = record {
   part = a ++ off.part;
   is_prefix = record {
@@ -56,7 +59,8 @@ BreaksOff_second was mid now was_faults mid_faults faults a b first le off = rec
 }
 
 -- two texts, one after the other
-pub Puts_second : (r : Result (Unit {0}) Failed) (was mid now : Option (List ℕ)) (was_faults mid_faults faults : ℕ) (a b : List ℕ) → Appends was mid a → was_faults ≤ mid_faults → Puts r (use_of mid now mid_faults faults) b → Puts r (use_of was now was_faults faults) (a ++ b)
+pub Puts_second : (r : Result (Unit {0}) Failed) (was mid now : Option (List ℕ)) (was_faults mid_faults faults : ℕ) (a b : List ℕ) → Appends was mid a → was_faults ≤ mid_faults
+    → Puts r (use_of mid now mid_faults faults) b → Puts r (use_of was now was_faults faults) (a ++ b)
 Puts_second (Ok _) was mid now was_faults mid_faults faults a b first le puts = Appends_more was mid now a b first puts
 Puts_second (Err _) was mid now was_faults mid_faults faults a b first le puts = BreaksOff_second was mid now was_faults mid_faults faults a b first le puts
 

@@ -5,7 +5,7 @@ use Rattle.lh_io.specs.declared.stream.Failed.{Failed}
 use Rattle.lh_unit.specs.Contents.{ItemText}
 use Rattle.lh_unit.specs.Reads.{Reads}
 use Rattle.lh_watch.specs.Members.{Member}
-use Rattle.lh_words.specs.Forms.{Asked}
+use Rattle.lh_words.specs.Forms.{FileRequest}
 use Rattle.lh_run.specs.Called.{Calls, AskSelfTest}
 use Rattle.lh_run.specs.Result.{MayLeave, IsResult, source_limit}
 use Rattle.lh_run.specs.StatusLines.{status_line}
@@ -77,8 +77,8 @@ pub record Leaves (ended status : Status) (out_text log_text : List ℕ) (out lo
 -- memory they are as they were, or those that may be left where a command did not come to its end.
 abbrev pub AreLeft : Status → (words : List (List ℕ)) → (bytes : List ℕ) → (ms left now : List Member) → Type 0
 AreLeft ReadFault words bytes ms left now = now ≡ ms
-AreLeft WriteFault words bytes ms left now = (now ≡ ms) ⊎ ((a : Asked) × (file : List ItemText) × Calls words ms a × Reads bytes file × MayLeave a file ms now)
-AreLeft OutOfMemory words bytes ms left now = (now ≡ ms) ⊎ ((a : Asked) × (file : List ItemText) × Calls words ms a × Reads bytes file × MayLeave a file ms now)
+AreLeft WriteFault words bytes ms left now = (now ≡ ms) ⊎ ((a : FileRequest) × (file : List ItemText) × Calls words ms a × Reads bytes file × MayLeave a file ms now)
+AreLeft OutOfMemory words bytes ms left now = (now ≡ ms) ⊎ ((a : FileRequest) × (file : List ItemText) × Calls words ms a × Reads bytes file × MayLeave a file ms now)
 AreLeft other words bytes ms left now = now ≡ left
 
 -- A run up to its status line: the result by the words, the bytes and the members, what came to the sinks, and which members are left.

@@ -5,7 +5,7 @@ use Rattle.lh_unit.specs.Contents.{ItemText}
 use Rattle.lh_unit.specs.Reads.{Reads}
 use Rattle.lh_unit.specs.Trace.{SameTrace}
 use Rattle.lh_unit.specs.WellFormed.{IsWellFormed}
-use Rattle.lh_words.specs.Forms.{Asked, lower}
+use Rattle.lh_words.specs.Forms.{FileRequest, lower}
 use Rattle.lh_lowered.specs.Kept.{Kept}
 use Rattle.lh_lowered.specs.Lowering.{lowered, report}
 use Rattle.lh_lowered.specs.Report.{RowText, report_text}
@@ -42,5 +42,5 @@ pub record KeepsTrace (file : List ItemText) : Type 0 where
   pub same : SameTrace file (lowered file)
 
 -- where a command on a file is `lower` and is done, it wrote the lowered file and the report
-pub record LowersFile (a : Asked) (ended : Status) (file : List ItemText) (out log : Use) : Type 0 where
+pub record LowersFile (a : FileRequest) (ended : Status) (file : List ItemText) (out log : Use) : Type 0 where
   pub where_done : a ≡ lower → ended ≡ Done → KeepsTrace file × Gained out (canon (lowered file)) × Gained log (report_text (report file))

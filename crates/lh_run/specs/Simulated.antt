@@ -14,7 +14,7 @@ use Rattle.lh_wave.specs.declared.run.WaveMode.TheVariants as mode
 use Rattle.lh_wave.specs.ShownRun.{shown_run, all_reports, any_failed}
 use Rattle.lh_wave.specs.RunText.{text_in}
 use Rattle.lh_wave.specs.BrokenOff.{HaveSeen}
-use Rattle.lh_words.specs.Forms.{Simulation}
+use Rattle.lh_words.specs.Forms.{SimulateRequest}
 use Rattle.lh_run.specs.declared.status.TopFault.{TopFault}
 use Rattle.lh_run.specs.declared.status.TopFault.TheVariants.{TopMissing, TopIsFunction, InstCycle, TooDeep, TooManyInstances, TooManyBits}
 use Rattle.lh_run.specs.declared.status.Status.{Status}
@@ -43,15 +43,15 @@ mode_of false = mode.Trace
 -- What is written of a trace, and which members are left.
 -- Where elaboration refuses, that is the status. Else the run is shown to the members that are asked for, up to the first stop:
 -- the output is the text of what is shown, the log gains the reports, and those members are left, less those that are done.
-abbrev pub Shows : Simulation → List Member → Trace → Status → (out log : List ℕ) → (left : List Member) → Type 0
-Shows s ms (refuses why) status out log left = (status ≡ Top (fault_of why)) × (out ≡ []) × (log ≡ []) × (left ≡ ms)
-Shows s ms (ran instances signals run) status out log left =
+abbrev pub ResultOfRun : SimulateRequest → List Member → Trace → Status → (out log : List ℕ) → (left : List Member) → Type 0
+ResultOfRun s ms (refuses why) status out log left = (status ≡ Top (fault_of why)) × (out ≡ []) × (log ≡ []) × (left ≡ ms)
+ResultOfRun s ms (ran instances signals run) status out log left =
     let shown = shown_run run (kept s.titles ms) in
     (status ≡ status_by shown.end (any_failed shown)) × (out ≡ text_in (mode_of s.vcd) instances signals shown) × (log ≡ all_reports shown) × (left ≡ shown.left)
 
 -- The members that may be left where the run was cut off: all as they were, or those that are asked for, each after some of the frames
 -- that are shown, from the first on, less those that are done.
-abbrev pub MayBeLeft : Simulation → List Member → Trace → (now : List Member) → Type 0
+abbrev pub MayBeLeft : SimulateRequest → List Member → Trace → (now : List Member) → Type 0
 MayBeLeft s ms (refuses why) now = now ≡ ms
 MayBeLeft s ms (ran instances signals run) now =
     let asked = kept s.titles ms in

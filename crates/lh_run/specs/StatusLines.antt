@@ -24,14 +24,14 @@ abbrev pub unit_word : UnitName → List ℕ
 unit_word u = u.sigil ∷ u.name
 
 -- the line of a faulty instruction
-abbrev pub inst_line : UnitName → (inst number : ℕ) → List ℕ
-inst_line u inst number = (codes "unit " ++ unit_word u) ++ (codes " instruction " ++ decimal inst ++ codes ": ") ++ decimal number ++ name_of_fault number
+abbrev pub invalid_line : UnitName → (inst number : ℕ) → List ℕ
+invalid_line u inst number = (codes "unit " ++ unit_word u) ++ (codes " instruction " ++ decimal inst ++ codes ": ") ++ decimal number ++ name_of_fault number
 
 abbrev pub refusal_line : Refusal → List ℕ
 refusal_line (Syntax line) = codes "line " ++ decimal line ++ codes ": syntax\n"
 refusal_line (UnitTooLarge line) = codes "line " ++ decimal line ++ codes ": unit too large\n"
 refusal_line (DuplicateName line) = codes "line " ++ decimal line ++ codes ": duplicate name\n"
-refusal_line (Invalid u inst number) = inst_line u inst number
+refusal_line (Invalid u inst number) = invalid_line u inst number
 
 -- the line of a top that is not simulated
 abbrev pub top_line : TopFault → List ℕ

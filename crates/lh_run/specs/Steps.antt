@@ -21,7 +21,7 @@ use Rattle.lh_wave.specs.declared.run.WaveFault.TheVariants as wave
 use Rattle.lh_wave.specs.BrokenOff.{HaveSeen}
 use Rattle.lh_wave.specs.RunText.{text_in}
 use Rattle.lh_wave.specs.ShownRun.{ShownRun, all_reports, any_failed}
-use Rattle.lh_words.specs.Forms.{Asked, AsksSelfTest}
+use Rattle.lh_words.specs.Forms.{FileRequest, WordsAskForSelfTest}
 use Rattle.lh_lowered.specs.Lowering.{lowered, report}
 use Rattle.lh_lowered.specs.Report.{report_text}
 use Rattle.lh_generator.specs.Generated.{generated}
@@ -31,7 +31,7 @@ use Rattle.lh_words.specs.declared.command.Command.TheVariants.{OnFile, Selftest
 use Rattle.lh_words.specs.Meant.{meant}
 use Rattle.lh_run.specs.Called.{Calls, IsMisuse}
 use Rattle.lh_run.specs.Simulated.{fault_of, status_by, mode_of}
-use Rattle.lh_run.specs.Result.{source_limit, HasFirstFault, IsRefusedFor, is_too_long, Makes, MayLeave}
+use Rattle.lh_run.specs.Result.{source_limit, HasFirstFault, IsRefusedFor, is_too_long, ResultOfCommand, MayLeave}
 use Rattle.lh_run.specs.Account.{Use, Gained, BreaksOff, Leaves}
 use Rattle.lh_run.specs.declared.lowering.Texts.{Texts}
 use Rattle.lh_run.specs.declared.status.Refusal.TheVariants.{Syntax, UnitTooLarge, DuplicateName, Invalid}
@@ -64,7 +64,7 @@ ended (Err status) = status
 -- the words call for the command, where there is one, and else for nothing
 abbrev pub IsCalled : List (List ℕ) → List Member → Option Command → Type 0
 IsCalled words ms (Some (OnFile c)) = Calls words ms (meant c)
-IsCalled words ms (Some (Selftest links)) = AsksSelfTest words links
+IsCalled words ms (Some (Selftest links)) = WordsAskForSelfTest words links
 IsCalled words ms None = IsMisuse words ms
 
 -- the status of a file with a fault names its first one; want of memory says nothing
@@ -96,12 +96,12 @@ AreLeftBy OutOfMemory result cut_off = cut_off
 AreLeftBy _ result cut_off = result
 
 -- What a command leaves of a well-formed file.
-pub record Carries (a : Asked) (file : List ItemText) (ms : List Member) (ended : Status) (out log : Use) (now : List Member) : Type 0 where
+pub record Carries (a : FileRequest) (file : List ItemText) (ms : List Member) (ended : Status) (out log : Use) (now : List Member) : Type 0 where
   pub status : Status
   pub out_text : List ℕ
   pub log_text : List ℕ
   pub left : List Member
-  pub makes : Makes a file ms status out_text log_text left
+  pub makes : ResultOfCommand a file ms status out_text log_text left
   pub sinks : Leaves ended status out_text log_text out log
   pub members : AreLeftBy ended (now ≡ left) (MayLeave a file ms now)
 

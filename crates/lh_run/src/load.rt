@@ -1,7 +1,7 @@
 //! A file from its bytes to a well-formed module.
 ghost use Rattle.std.specs.Prelude.{◌≡◌, ℕ, IsErrOf};
 ghost use Rattle.lh_io.specs.Streams.{Rose};
-ghost use Rattle.lh_io.specs.Whole.{Takes};
+ghost use Rattle.lh_io.specs.Whole.{TakesBytes};
 ghost use Rattle.lh_unit.specs.Arena.{contents};
 ghost use Rattle.lh_verify.specs.Verifying.{HasCause};
 ghost use Rattle.lh_run.specs.Account.{OfSource, IsCountFor, IsReadToEnd};
@@ -21,7 +21,7 @@ pub(crate) const SOURCE_LIMIT: usize = 67_108_864;
 /// Reads a source to its end and verifies the file that came.
 pub fn load<S: Source>(alloc: Global, src: &mut S) -> Result<Verified, Status>
     ensures loads { OfSource (S.left src.old) (λ bytes. Loads bytes result) }
-    ensures came { (n : ℕ) × IsCountFor (ended result) n × Takes (S.left src.old) (S.left src.new) (S.taken src.old) (S.taken src.new) n }
+    ensures came { (n : ℕ) × IsCountFor (ended result) n × TakesBytes (S.left src.old) (S.left src.new) (S.taken src.old) (S.taken src.new) n }
     ensures to_the_end { IsReadToEnd (ended result) (S.left src.old) (S.left src.new) }
     ensures rose { IsErrOf result Status.ReadFault → Rose (S.faults src.old) (S.faults src.new) }
 {

@@ -1,6 +1,6 @@
 //! How a run ends: its statuses, their codes, and the line of each.
 ghost use Rattle.std.specs.Prelude.{◌≡◌, ◌≤◌, ◌∷◌, ◌++◌, codes, decimal};
-ghost use Rattle.lh_run.specs.StatusLines.{name_of_fault, unit_word, inst_line, refusal_line, top_line, status_line, status_code};
+ghost use Rattle.lh_run.specs.StatusLines.{name_of_fault, unit_word, invalid_line, refusal_line, top_line, status_line, status_code};
 ghost use Rattle.lh_run.specs.Account.{use_of, Puts};
 ghost use Rattle.lh_run.specs.Steps.{source_status, text_status, wave_status};
 ghost use Rattle.lh_run.specs.declared.status.Status.TheVariants.{WriteFault, OutOfMemory};
@@ -190,7 +190,7 @@ fn write_inst_fault<L: Sink>(
     inst: u32,
     number: u8,
 ) -> Result<(), Failed>
-    ensures puts { Puts result (use_of (L.written log.old) (L.written log.new) (L.faults log.old) (L.faults log.new)) (inst_line unit.now inst number) }
+    ensures puts { Puts result (use_of (L.written log.old) (L.written log.new) (L.faults log.old) (L.faults log.new)) (invalid_line unit.now inst number) }
     ensures never_fall { L.faults log.old ≤ L.faults log.new }
 {
     write_unit(log, b"unit ", unit)?;

@@ -1,7 +1,7 @@
 //! The top call.
 ghost use Rattle.std.specs.Prelude.{◌≡◌, ◌≤◌, ◌↔◌, ℕ, List, IfSome, map};
 ghost use Rattle.lh_io.specs.Streams.{Rose};
-ghost use Rattle.lh_io.specs.Whole.{Takes};
+ghost use Rattle.lh_io.specs.Whole.{TakesBytes};
 ghost use Rattle.lh_run.specs.Called.{AskSelfTest, IsMisuse};
 ghost use Rattle.lh_run.specs.Faithful.{LowersFaithfully};
 ghost use Rattle.lh_run.specs.Account.{use_of, OfSource, IsCountFor, IsReadToEndFor, Performs, Account, HasOneResult, IsResultOrNoMemory};
@@ -30,7 +30,7 @@ fn perform<S: Source, O: Sink, L: Sink, W: Watcher>(
     ensures untouched { result ≡ Status.Usage → (src.new ≡ src.old) × (out.new ≡ out.old) × (watchers.new ≡ watchers.old) }
     ensures performs { OfSource (S.left src.old) (λ bytes. Performs words.now bytes (map W.member watchers.old.items) result (use_of (O.written out.old) (O.written out.new) (O.faults out.old) (O.faults out.new)) (use_of (L.written log.old) (L.written log.new) (L.faults log.old) (L.faults log.new)) (map W.member watchers.new.items)) }
     ensures reads_nothing { AskSelfTest words.now → (src.new ≡ src.old) × (watchers.new ≡ watchers.old) }
-    ensures came { (n : ℕ) × IsCountFor result n × Takes (S.left src.old) (S.left src.new) (S.taken src.old) (S.taken src.new) n }
+    ensures came { (n : ℕ) × IsCountFor result n × TakesBytes (S.left src.old) (S.left src.new) (S.taken src.old) (S.taken src.new) n }
     ensures to_the_end { IsReadToEndFor words.now result (S.left src.old) (S.left src.new) }
     ensures rose { result ≡ Status.ReadFault → Rose (S.faults src.old) (S.faults src.new) }
     ensures one_result { (bytes : List ℕ) → HasOneResult words.now bytes (map W.member watchers.old.items) }
@@ -78,7 +78,7 @@ pub fn run<S: Source, O: Sink, L: Sink>(
 
     // What was taken from the source.
     ensures reads_nothing { AskSelfTest words.now → (src.new ≡ src.old) × (watchers.new ≡ watchers.old) }
-    ensures came { (n : ℕ) × IsCountFor result n × Takes (S.left src.old) (S.left src.new) (S.taken src.old) (S.taken src.new) n }
+    ensures came { (n : ℕ) × IsCountFor result n × TakesBytes (S.left src.old) (S.left src.new) (S.taken src.old) (S.taken src.new) n }
     ensures to_the_end { IsReadToEndFor words.now result (S.left src.old) (S.left src.new) }
     ensures read_fault { result ≡ Status.ReadFault → Rose (S.faults src.old) (S.faults src.new) }
 {

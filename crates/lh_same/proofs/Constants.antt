@@ -2,25 +2,17 @@
 use Rattle.std.proofs.Common.{List, [], ◌∷◌, Bool, true, false, filter}
 use Rattle.lh_types.specs.declared.op.Op.{Op}
 use Rattle.lh_unit.specs.Within.{Each}
-use Rattle.lh_term.specs.Tree.{Tree, TreeRow, constant, past_of, now_of, operation, choice_of, no_trees, more_trees}
+use Rattle.lh_term.specs.Tree.{Tree, constant, past_of, now_of, operation, choice_of}
+use Rattle.lh_term.specs.Leaves.{AllConstants}
 use Rattle.lh_term.specs.Make.{value_in, values_in, bit_of, make_operation, make_choice}
 use Rattle.lh_term.specs.Conjuncts.{conjuncts_of, conjunction}
 use Rattle.lh_before.proofs.Leaves as Leaves
 use Rattle.lh_before.proofs.Leaves.{IsOfLeaves}
 use Rattle.lh_same.proofs.Times.{Writable, AllWritable, apply-written}
 
-abbrev mutual
-  -- each constant in a term can be written
-  pub In : Tree → Type 0
-  In (constant v) = Writable v
-  In (past_of p) = Unit {0}
-  In (now_of p) = Unit {0}
-  In (operation o ts) = RowIn ts
-  In (choice_of c f t) = In c × In f × In t
-
-  pub RowIn : TreeRow → Type 0
-  RowIn no_trees = Unit {0}
-  RowIn (more_trees t ts) = In t × RowIn ts
+-- each constant in a term can be written
+abbrev pub In : Tree → Type 0
+In t = AllConstants Writable t
 
 abbrev pub AllIn : List Tree → Type 0
 AllIn ts = Each In ts
@@ -36,14 +28,6 @@ values-in : (ts : List Tree) → AllIn ts → AllWritable (values_in ts)
 values-in [] h = tt
 values-in (t ∷ ts) h = (value-in t h.0, values-in ts h.1)
 
-joined : (o : Op) (ts : TreeRow) → Leaves.RowIn In ts → In (operation o ts)
-joined o no_trees h = tt
-joined o (more_trees t ts) h = (h.0, joined o ts h.1)
-
-parted : (o : Op) (ts : TreeRow) → In (operation o ts) → Leaves.RowIn In ts
-parted o no_trees h = tt
-parted o (more_trees t ts) h = (h.0, parted o ts h.1)
-
 bit : (b : Bool) → In (bit_of b)
 bit true = tt
 bit false = tt
@@ -53,8 +37,8 @@ leaves = record {
   integer = λ n a. tt;
   bit = bit;
   computed = λ o ts h. apply-written o (values_in ts) (values-in ts h);
-  joined = joined;
-  parted = parted;
+  joined = Leaves.leaves-joined Writable (λ p. Unit {0});
+  parted = Leaves.leaves-parted Writable (λ p. Unit {0});
   chosen = λ c f t h i j. (h, i, j);
 }
 

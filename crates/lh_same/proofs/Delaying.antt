@@ -12,7 +12,7 @@ use Rattle.lh_flat.specs.Flat.{FlatBlockText, FlatText, flat_unit}
 use Rattle.lh_term.specs.Tree.{Tree, constant, past_of, now_of, operation, choice_of}
 use Rattle.lh_term.specs.declared.part.Part.{Part}
 use Rattle.lh_rows.specs.Known.{nothing_known, with_arguments}
-use Rattle.lh_rows.specs.Rows.{Drive, End, Rows}
+use Rattle.lh_rows.specs.Rows.{Drive, RegionEnd, Rows}
 use Rattle.lh_rows.specs.Places.{Region}
 use Rattle.lh_rows.specs.Regions.{lines_at, head_of, known_first, edge_into, edges_of_ends, Course, Coursed, stops, comes_to, then_course, region_from, first_region, second_region}
 use Rattle.lh_rows.specs.Adjacent.{drive_merged}
@@ -96,9 +96,11 @@ module _ (name : UnitName) (t : FlatText) (f : IsFormed (flat_unit name t)) (wri
       constants-fine (with_arguments nothing_known 0 t.args) (if nat_eq (head_of t.blocks) 0 then [] else lines_at t.blocks 0) (entry-fine (nat_eq (head_of t.blocks) 0))
       (arguments-fine nothing_known 0 t.args nothing-fine)
 
-  first-fine : (probe : Part → Tree) (probed : (p : Part) → In (probe p)) → ((p : Part) → IsData p.ty → IsOfType p.ty (probe p)) → (c : Course) → first_region t probe ≡ comes_to c → CourseFine (first_of probe) probed c
+  first-fine : (probe : Part → Tree) (probed : (p : Part) → In (probe p)) → ((p : Part) → IsData p.ty → IsOfType p.ty (probe p)) → (c : Course) → first_region t probe ≡ comes_to c
+      → CourseFine (first_of probe) probed c
   first-fine probe probed typed c e =
-      region-fine (first_of probe) probed (flat_unit name t) (record { formed = f; blocks = refl; probe = typed }) written (head_of t.blocks) (edge_into (head_of t.blocks) [] (constant (int_value 1 1)) (known_first t) ∷ []) c
+      region-fine (first_of probe) probed (flat_unit name t) (record { formed = f; blocks = refl; probe = typed }) written (head_of t.blocks)
+      (edge_into (head_of t.blocks) [] (constant (int_value 1 1)) (known_first t) ∷ []) c
       (record { cond = tt; known = head-fine }, tt) e
 
   past-in : (p : Part) → In (past_of p)
@@ -107,7 +109,7 @@ module _ (name : UnitName) (t : FlatText) (f : IsFormed (flat_unit name t)) (wri
   now-in : (p : Part) → In (now_of p)
   now-in p = tt
 
-  edges-fine : (n : ℕ) (xs : List End) → Each (EndFine (first_of past_of) past-in) xs → Each EdgeFine (edges_of_ends n xs)
+  edges-fine : (n : ℕ) (xs : List RegionEnd) → Each (EndFine (first_of past_of) past-in) xs → Each EdgeFine (edges_of_ends n xs)
   edges-fine n [] h = tt
   edges-fine n (x ∷ xs) h = (record { cond = h.0.cond; known = h.0.known }, edges-fine n xs h.1)
 

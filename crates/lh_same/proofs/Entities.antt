@@ -84,10 +84,12 @@ module _ (few : ArgsAreFew) (flat-formed : FlatTextsAreFormed) (a : Arena) (u : 
   head-printable p = record { is_process = ap kind_text fl.process; headed = p.headed; no_assert = p.no_assert; arguments = apart }
 
 -- a process of a module with an entity, and its flat text
-flattened-of : (a : Arena) (s : IsSourceModule a) (u : ℕ) (y : UnitText) → u < unit_count a → kind_at a u ≡ Some unit_kind.Proc → (m : Emitting (contents a) (unit_text_at a u) y) → IsFlattened a u m.text
+flattened-of : (a : Arena) (s : IsSourceModule a) (u : ℕ) (y : UnitText) → u < unit_count a → kind_at a u ≡ Some unit_kind.Proc → (m : Emitting (contents a) (unit_text_at a u) y)
+    → IsFlattened a u m.text
 flattened-of a s u y w p m = record { arena = s.arena; formed = s.formed; named = s.named; within = w; process = p; flat = m.flat }
 
-module _ (few : ArgsAreFew) (flat-formed : FlatTextsAreFormed) (combs : CombIsGiven) (edges : EdgeIsGiven) (onces : OnceIsGiven) (a : Arena) (s : IsSourceModule a) (u : ℕ) (w : u < unit_count a) (p : kind_at a u ≡ Some unit_kind.Proc) (k : Kind) (y : UnitText) (e : outcome_in (contents a) (unit_text_at a u) ≡ becomes k y) where
+module _ (few : ArgsAreFew) (flat-formed : FlatTextsAreFormed) (combs : CombIsGiven) (edges : EdgeIsGiven) (onces : OnceIsGiven) (a : Arena) (s : IsSourceModule a) (u : ℕ) (w : u < unit_count a)
+    (p : kind_at a u ≡ Some unit_kind.Proc) (k : Kind) (y : UnitText) (e : outcome_in (contents a) (unit_text_at a u) ≡ becomes k y) where
   -- what a process becomes is right
   pub becomes-right : CombIsRight → EdgeIsRight → OnceIsRight → IsRightEntity y
   becomes-right c d o =

@@ -8,7 +8,7 @@ use Rattle.lh_unit.specs.declared.name.UnitName.{UnitName}
 use Rattle.lh_unit.specs.Contents.{InstText, child_text, call_text, ArgText, UnitText, ItemText, defines_unit, defines_value, defines_label}
 use Rattle.lh_unit.specs.Kinds.{uses}
 use Rattle.lh_unit.specs.Named.{unit_named, is_assert, is_function}
-use Rattle.lh_unit.specs.Places.{Place, places}
+use Rattle.lh_unit.specs.Places.{InstPlaceText, places}
 use Rattle.lh_unit.specs.TypingRows.{types_fit}
 use Rattle.lh_unit.specs.WellFormed.{FaultKind, undefined, wrong_kind, wrong_type, not_here, no_terminator, phi_edges, not_defined, arguments, values_named, labels_named, units_named, is_undefined, is_asked, has_wrong_kind, has_no_kind, is_function_name, names_wrong_unit, probes_for_signal, result_fits, arguments_fit, inputs_of, outputs_of, assert_args, args_of, arguments_differ, Site, has_local, hides_paths, has_paths, HasFault, NoneHasFault}
 
@@ -52,7 +52,8 @@ module _ (m n : List ItemText) (h : NamesAlike m n) where
   result-same : (i : InstText) → result_fits m i ≡ result_fits n i
   result-same (call_text f result args) =
       ap (λ b. if is_assert f then same_type result void_type else b)
-      (found-same (λ (v : UnitText). option_map_or (same_type result) v.result true) true (λ v w z. ap (λ (r : Option TypeTree). option_map_or (same_type result) r true) z.result) (unit_named f m) (unit_named f n) (h.found f))
+      (found-same (λ (v : UnitText). option_map_or (same_type result) v.result true) true (λ v w z. ap (λ (r : Option TypeTree). option_map_or (same_type result) r true) z.result) (unit_named f m)
+      (unit_named f n) (h.found f))
   result-same _ = refl
 
   args-same : (x : UnitName) → args_of m x ≡ args_of n x
@@ -88,7 +89,8 @@ module _ (m n : List ItemText) (h : NamesAlike m n) where
 
   paths-same : (u : UnitText) → has_paths m u ≡ has_paths n u
   paths-same u =
-      ap not (any-same (λ (p : Place). hides_paths m (record { unit = u; place = p })) (λ (p : Place). hides_paths n (record { unit = u; place = p })) (λ p. hides-same (record { unit = u; place = p })) (places u))
+      ap not (any-same (λ (p : InstPlaceText). hides_paths m (record { unit = u; place = p })) (λ (p : InstPlaceText). hides_paths n (record { unit = u; place = p }))
+      (λ p. hides-same (record { unit = u; place = p })) (places u))
 
   fault-same : (s : Site) (k : FaultKind) → HasFault n s k → HasFault m s k
   fault-same s undefined z = local-same s undefined ∙ z

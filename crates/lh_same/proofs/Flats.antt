@@ -63,7 +63,8 @@ module _ (fs : List UnitText) (fine : Each UnitFine fs) where
   called-fine path args None d h q = absurd (none-some d q)
   called-fine path args (Some v) d h q = subst (λ (x : Copy). UnitFine x.unit) (same_Some (copy_at path args v) d q) (h v refl)
 
-  call-fine : (b : Bool) (path : List ℕ) (args : List (List ℕ)) (o : Option UnitText) (d : Copy) → ((v : UnitText) → o ≡ Some v → UnitFine v) → (if b then None else option_map (copy_at path args) o) ≡ Some d → UnitFine d.unit
+  call-fine : (b : Bool) (path : List ℕ) (args : List (List ℕ)) (o : Option UnitText) (d : Copy) → ((v : UnitText) → o ≡ Some v → UnitFine v)
+      → (if b then None else option_map (copy_at path args) o) ≡ Some d → UnitFine d.unit
   call-fine true path args o d h q = absurd (none-some d q)
   call-fine false path args o d h q = called-fine path args o d h q
 
@@ -90,7 +91,8 @@ module _ (fs : List UnitText) (fine : Each UnitFine fs) where
     pieces-fine : (c : Copy) (label : List ℕ) (k : ℕ) (ls : List LineText) → Each LineFine ls → PiecesFine (pieces_from copy_of fs c label k ls)
     pieces-fine c label k [] h = record { rest = tt; more = tt }
     pieces-fine c label k (l ∷ ls) h =
-        line-pieces c l (opened fs c (call_path c label k) l.inst) (pieces_from copy_of fs c label (k + 1) ls) h.0 (λ d q. opened-fine c (call_path c label k) l.inst d q) (pieces-fine c label (k + 1) ls h.1)
+        line-pieces c l (opened fs c (call_path c label k) l.inst) (pieces_from copy_of fs c label (k + 1) ls) h.0 (λ d q. opened-fine c (call_path c label k) l.inst d q)
+        (pieces-fine c label (k + 1) ls h.1)
 
     block-fine : (c : Copy) (b : BlockText) → Each LineFine b.lines → Each BlockFine (flat_block copy_of fs c b)
     block-fine c b h = let p = pieces-fine c (label_or b.label) 0 b.lines h in (p.rest, p.more)

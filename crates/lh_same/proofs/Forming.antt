@@ -37,12 +37,14 @@ defines-both n [] ys = refl
 defines-both n (declare_text d ∷ xs) ys = defines-both n xs ys
 defines-both n (unit_text u ∷ xs) ys = or-three (same_unit_name u.name n) (defines_unit n xs) (defines_unit n ys) (defines_unit n (xs ++ ys)) (defines-both n xs ys)
 
-one-more : (n : UnitName) (seen seen' : List ItemText) (i j : ItemText) → defines_unit n seen ≡ defines_unit n seen' → defines_unit n (i ∷ []) ≡ defines_unit n (j ∷ []) → defines_unit n (seen ++ i ∷ []) ≡ defines_unit n (seen' ++ j ∷ [])
+one-more : (n : UnitName) (seen seen' : List ItemText) (i j : ItemText) → defines_unit n seen ≡ defines_unit n seen' → defines_unit n (i ∷ []) ≡ defines_unit n (j ∷ [])
+    → defines_unit n (seen ++ i ∷ []) ≡ defines_unit n (seen' ++ j ∷ [])
 one-more n seen seen' i j e f =
     defines-both n seen (i ∷ []) ∙ ap (λ b. b || defines_unit n (i ∷ [])) e ∙ ap (λ b. defines_unit n seen' || b) f ∙ sym (defines-both n seen' (j ∷ []))
 
 module _ (items : List ItemText) where
-  repeat-same : (seen seen' more : List ItemText) → Each IsPrintableItem more → ((n : UnitName) → defines_unit n seen ≡ defines_unit n seen') → units_repeat seen more ≡ units_repeat seen' (map (lowered_item items) more)
+  repeat-same : (seen seen' more : List ItemText) → Each IsPrintableItem more → ((n : UnitName) → defines_unit n seen ≡ defines_unit n seen')
+      → units_repeat seen more ≡ units_repeat seen' (map (lowered_item items) more)
   repeat-same seen seen' [] h e = refl
   repeat-same seen seen' (declare_text d ∷ more) h e =
       repeat-same (seen ++ declare_text d ∷ []) (seen' ++ declare_text d ∷ []) more h.1 (λ n. one-more n seen seen' (declare_text d) (declare_text d) (e n) refl)
@@ -51,7 +53,8 @@ module _ (items : List ItemText) where
       let q : u.name ≡ v.name = sym (unit-like items u u.kind refl h.0).name in
       let first : defines_unit u.name seen ≡ defines_unit v.name seen' = e u.name ∙ ap (λ (n : UnitName). defines_unit n seen') q in
       let rest : units_repeat (seen ++ unit_text u ∷ []) more ≡ units_repeat (seen' ++ unit_text v ∷ []) (map (lowered_item items) more) =
-      repeat-same (seen ++ unit_text u ∷ []) (seen' ++ unit_text v ∷ []) more h.1 (λ n. one-more n seen seen' (unit_text u) (unit_text v) (e n) (ap (λ (m : UnitName). same_unit_name m n || false) q)) in
+      repeat-same (seen ++ unit_text u ∷ []) (seen' ++ unit_text v ∷ []) more h.1
+      (λ n. one-more n seen seen' (unit_text u) (unit_text v) (e n) (ap (λ (m : UnitName). same_unit_name m n || false) q)) in
       ap (λ b. b || units_repeat (seen ++ unit_text u ∷ []) more) first ∙ ap (λ b. defines_unit v.name seen' || b) rest
 
 -- ---- each item
@@ -59,9 +62,11 @@ module _ (items : List ItemText) where
 module _ (a : Arena) (items : List ItemText) where
   -- what a process becomes can be printed where the process can
   abbrev BecomesPrintable : Type 0
-  BecomesPrintable = (u : ℕ) → u < unit_count a → kind_at a u ≡ Some unit_kind.Proc → (k : Kind) (y : UnitText) → outcome_in items (unit_text_at a u) ≡ becomes k y → IsPrintable (unit_text_at a u) → IsPrintable y
+  BecomesPrintable = (u : ℕ) → u < unit_count a → kind_at a u ≡ Some unit_kind.Proc → (k : Kind) (y : UnitText) → outcome_in items (unit_text_at a u) ≡ becomes k y → IsPrintable (unit_text_at a u)
+      → IsPrintable y
 
-  process-printable : BecomesPrintable → (u : ℕ) → u < unit_count a → kind_at a u ≡ Some unit_kind.Proc → IsPrintable (unit_text_at a u) → (o : Outcome) → outcome_in items (unit_text_at a u) ≡ o → IsPrintable (in_place (unit_text_at a u) o)
+  process-printable : BecomesPrintable → (u : ℕ) → u < unit_count a → kind_at a u ≡ Some unit_kind.Proc → IsPrintable (unit_text_at a u) → (o : Outcome) → outcome_in items (unit_text_at a u) ≡ o
+      → IsPrintable (in_place (unit_text_at a u) o)
   process-printable f u w p h (stays r) e = h
   process-printable f u w p h (becomes k y) e = f u w p k y e h
 
@@ -70,7 +75,8 @@ module _ (a : Arena) (items : List ItemText) where
   unit-printable f u w h unit_kind.Entity e = h
   unit-printable f u w h unit_kind.Proc e = process-printable f u w (process-kind (kind_at a u) e) h (outcome_in items (unit_text_at a u)) refl
 
-  all-printable : BecomesPrintable → (xs : List Item) → Each (ItemPlaced a) xs → Each IsPrintableItem (map (item_text_at a) xs) → Each IsPrintableItem (map (lowered_item items) (map (item_text_at a) xs))
+  all-printable : BecomesPrintable → (xs : List Item) → Each (ItemPlaced a) xs → Each IsPrintableItem (map (item_text_at a) xs)
+      → Each IsPrintableItem (map (lowered_item items) (map (item_text_at a) xs))
   all-printable f [] w h = tt
   all-printable f (item.Declare d ∷ xs) w h = (h.0, all-printable f xs w.1 h.1)
   all-printable f (item.Unit u ∷ xs) w h = (unit-printable f u.0 w.0 h.0 (unit_text_at a u.0).kind refl, all-printable f xs w.1 h.1)

@@ -8,7 +8,7 @@ use Rattle.lh_unit.specs.declared.inst.UnitKind.TheVariants as unit_kind
 use Rattle.lh_unit.specs.Contents.{ArgText, UnitText, ItemText, unit_text, declare_text}
 use Rattle.lh_unit.specs.Lexemes.{Lexeme}
 use Rattle.lh_unit.specs.Named.{unit_named, is_function}
-use Rattle.lh_unit.specs.Places.{Place, places}
+use Rattle.lh_unit.specs.Places.{InstPlaceText, places}
 use Rattle.lh_unit.specs.Pieces.{lexemes_in}
 use Rattle.lh_unit.specs.Spells.{header_item, SpellsHeader}
 use Rattle.lh_unit.specs.UnitNames.{same_unit_name}
@@ -81,10 +81,11 @@ BecomesRight items (unit_text u) = (k : Kind) (y : UnitText) → u.kind ≡ unit
 BecomesRight items (declare_text d) = Unit {0}
 
 abbrev sites_of : UnitText → List Site
-sites_of u = map (λ (p : Place). record { unit = u; place = p }) (places u)
+sites_of u = map (λ (p : InstPlaceText). record { unit = u; place = p }) (places u)
 
 module _ (items : List ItemText) (alike : NamesAlike items (lowered items)) where
-  process-right : (u : UnitText) → u.kind ≡ unit_kind.Proc → BecomesRight items (unit_text u) → NoneHasFault items (sites_of u) → (o : Outcome) → outcome_in items u ≡ o → NoneHasFault (lowered items) (sites_of (in_place u o))
+  process-right : (u : UnitText) → u.kind ≡ unit_kind.Proc → BecomesRight items (unit_text u) → NoneHasFault items (sites_of u) → (o : Outcome) → outcome_in items u ≡ o
+      → NoneHasFault (lowered items) (sites_of (in_place u o))
   process-right u p h z (stays x) e = none-same items (lowered items) alike (sites_of u) z
   process-right u p h z (becomes k y) e = h k y p e (lowered items)
 
@@ -100,5 +101,6 @@ module _ (items : List ItemText) (alike : NamesAlike items (lowered items)) wher
       none-both (lowered items) (sites_of (lowered_as u.kind items u)) (sites (map (lowered_item items) more))
       (unit-right u u.kind refl h.0 (none-left items (sites_of u) (sites more) z)) (all-right more h.1 (none-right items (sites_of u) (sites more) z))
 
-pub none-in-lowered : NamesStay → (items : List ItemText) → Each IsPrintableItem items → Each (BecomesRight items) items → NoneHasFault items (sites items) → NoneHasFault (lowered items) (sites (lowered items))
+pub none-in-lowered : NamesStay → (items : List ItemText) → Each IsPrintableItem items → Each (BecomesRight items) items → NoneHasFault items (sites items)
+    → NoneHasFault (lowered items) (sites (lowered items))
 none-in-lowered stay items p h z = all-right items (names-alike stay items p) items h z

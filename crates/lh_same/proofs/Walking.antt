@@ -23,8 +23,8 @@ use Rattle.lh_term.specs.Make.{is_zero, bit_of, make_operation, make_choice}
 use Rattle.lh_term.specs.Conjuncts.{conjuncts_of}
 use Rattle.lh_term.specs.declared.part.Part.{Part}
 use Rattle.lh_rows.specs.Known.{Known, known_value, known_cell, known_part, Knowledge, nothing_known, with_given, value_known, cell_known, part_known, values_known, parts_known, with_arguments, whole_argument}
-use Rattle.lh_rows.specs.Rows.{Drive, Way, halts, enters_head, End, Rows}
-use Rattle.lh_rows.specs.Joins.{Place, Edge, or_any, any_taken, in_each, selector, chosen_from, merged, merged_by, joined, phi_on, with_phi, with_phis, known_at}
+use Rattle.lh_rows.specs.Rows.{Drive, Way, halts, enters_head, RegionEnd, Rows}
+use Rattle.lh_rows.specs.Joins.{RegionPlace, RegionEdge, or_any, any_taken, in_each, selector, chosen_from, merged, merged_by, joined, phi_on, with_phi, with_phis, known_at}
 use Rattle.lh_rows.specs.Places.{Region, Here, Midst, block_number, stepped, part_stepped, operated, gives, probes, both, drive_cond, with_drive, drives, asserts, ends, next_place, goes, goes_if, leads, branches, wait_way, ends_if, takes, takes_all}
 use Rattle.lh_rows.specs.Regions.{with_constant, with_constants, Course, no_course, Coursed, stops, comes_to, then_course, through_block, through, is_place, edges_to, through_reached, through_all, all_places, region_from}
 use Rattle.lh_rows.proofs.Courses.{coursed-is, stops-not}
@@ -125,40 +125,42 @@ nothing-fine n x q = absurd (none-some x q)
 
 -- ---- edges
 
-pub record EdgeFine (e : Edge) : Type 0 where
+pub record EdgeFine (e : RegionEdge) : Type 0 where
   pub cond : In e.cond
   pub known : KnowsFine e.known
 
-or-fine : (c : Tree) (es : List Edge) → In c → Each EdgeFine es → In (or_any c es)
+or-fine : (c : Tree) (es : List RegionEdge) → In c → Each EdgeFine es → In (or_any c es)
 or-fine c [] h j = h
 or-fine c (e ∷ es) h j = or-fine (make_operation Or (c ∷ e.cond ∷ [])) es (make-in Or (c ∷ e.cond ∷ []) (h, (j.0.cond, tt))) j.1
 
-taken-fine : (es : List Edge) → Each EdgeFine es → In (any_taken es)
+taken-fine : (es : List RegionEdge) → Each EdgeFine es → In (any_taken es)
 taken-fine es j = or-fine (bit_of false) es tt j
 
-selector-fine : (es : List Edge) (e : Edge) → EdgeFine e → In (selector es e)
+selector-fine : (es : List RegionEdge) (e : RegionEdge) → EdgeFine e → In (selector es e)
 selector-fine es e h = conjunction-in (filter (λ c. not (in_each es c)) (conjuncts_of e.cond)) (filter-in (λ c. not (in_each es c)) (conjuncts_of e.cond) (conjuncts-in e.cond h.cond))
 
-chosen-fine : (all : List Edge) (t : Tree) (es : List Edge) (vs : List Tree) → In t → Each EdgeFine es → AllIn vs → In (chosen_from all t es vs)
+chosen-fine : (all : List RegionEdge) (t : Tree) (es : List RegionEdge) (vs : List Tree) → In t → Each EdgeFine es → AllIn vs → In (chosen_from all t es vs)
 chosen-fine all t [] vs h j k = h
 chosen-fine all t (e ∷ es) [] h j k = h
 chosen-fine all t (e ∷ es) (v ∷ vs) h j k = chosen-fine all (make_choice (selector all e) t v) es vs (choice-in (selector all e) t v (selector-fine all e j.0) h k.0) j.1 k.1
 
-merged-fine : (es : List Edge) (vs : List Tree) (t : Tree) → Each EdgeFine es → AllIn vs → merged es vs ≡ Some t → In t
+merged-fine : (es : List RegionEdge) (vs : List Tree) (t : Tree) → Each EdgeFine es → AllIn vs → merged es vs ≡ Some t → In t
 merged-fine [] vs t j k q = absurd (none-some t q)
 merged-fine (e ∷ es) [] t j k q = absurd (none-some t q)
 merged-fine (e ∷ es) (v ∷ vs) t j k q = subst In (same_Some (chosen_from (e ∷ es) v es vs) t q) (chosen-fine (e ∷ es) v es vs k.0 j.1 k.1)
 
-each-fine : (f : Edge → Option Tree) → ((e : Edge) → EdgeFine e → (t : Tree) → f e ≡ Some t → In t) → (es : List Edge) (ts : List Tree) → Each EdgeFine es → GiveEach f es ts → AllIn ts
+each-fine : (f : RegionEdge → Option Tree) → ((e : RegionEdge) → EdgeFine e → (t : Tree) → f e ≡ Some t → In t) → (es : List RegionEdge) (ts : List Tree) → Each EdgeFine es → GiveEach f es ts
+    → AllIn ts
 each-fine f h [] [] j g = tt
 each-fine f h [] (t ∷ ts) j g = absurd g
 each-fine f h (e ∷ es) [] j g = absurd g
 each-fine f h (e ∷ es) (t ∷ ts) j g = (h e j.0 t g.0, each-fine f h es ts j.1 g.1)
 
-merged-by-fine : (f : Edge → Option Tree) → ((e : Edge) → EdgeFine e → (t : Tree) → f e ≡ Some t → In t) → (es : List Edge) → Each EdgeFine es → (t : Tree) → merged_by f es ≡ Some t → In t
+merged-by-fine : (f : RegionEdge → Option Tree) → ((e : RegionEdge) → EdgeFine e → (t : Tree) → f e ≡ Some t → In t) → (es : List RegionEdge) → Each EdgeFine es → (t : Tree) → merged_by f es ≡ Some t
+    → In t
 merged-by-fine f h es j t q = let m = merged-of f es t q in merged-fine es m.trees t j (each-fine f h es m.trees j m.each) m.is
 
-joined-fine : (es : List Edge) → Each EdgeFine es → KnowsFine (joined es)
+joined-fine : (es : List RegionEdge) → Each EdgeFine es → KnowsFine (joined es)
 joined-fine es j n x q = by x (join-case es n x q)
   where
     by : (x : Known) → JoinCase es n x → KnownFine x
@@ -166,24 +168,24 @@ joined-fine es j n x q = by x (join-case es n x q)
     by _ (of_cell t e) = merged-by-fine (cell_on n) (λ z h t g. cell-fine z.known h.known n t g) es j t e
     by _ (of_part p ps e g) = tt
 
-phi-edge-fine : (os : List EdgeText) (e : Edge) → EdgeFine e → (t : Tree) → phi_on os e ≡ Some t → In t
+phi-edge-fine : (os : List EdgeText) (e : RegionEdge) → EdgeFine e → (t : Tree) → phi_on os e ≡ Some t → In t
 phi-edge-fine os e h t q = by (edge_from e.from os) q
   where
     by : (o : Option (List ℕ)) → option_and_then (value_known e.known) o ≡ Some t → In t
     by None g = absurd (none-some t g)
     by (Some n) g = value-fine e.known h.known n t g
 
-phi-fine : (es : List Edge) → Each EdgeFine es → (j : InstText) (r : Option (List ℕ)) (k : Knowledge) → KnowsFine k → KnowsFine (with_phi es j r k)
+phi-fine : (es : List RegionEdge) → Each EdgeFine es → (j : InstText) (r : Option (List ℕ)) (k : Knowledge) → KnowsFine k → KnowsFine (with_phi es j r k)
 phi-fine es e (phi_text ty os) r k h =
     given-fine k r (option_map known_value (merged_by (phi_on os) es)) h
     (λ x q. some-value (merged_by (phi_on os) es) (λ t g. merged-by-fine (phi_on os) (λ z i t w. phi-edge-fine os z i t w) es e t g) x q)
 phi-fine es e j r k h = h
 
-phis-fine : (es : List Edge) → Each EdgeFine es → (ls : List LineText) (k : Knowledge) → KnowsFine k → KnowsFine (with_phis es ls k)
+phis-fine : (es : List RegionEdge) → Each EdgeFine es → (ls : List LineText) (k : Knowledge) → KnowsFine k → KnowsFine (with_phis es ls k)
 phis-fine es e [] k h = h
 phis-fine es e (l ∷ ls) k h = phi-fine es e l.inst l.result (with_phis es ls k) (phis-fine es e ls k h)
 
-known-at-fine : (es : List Edge) (ls : List LineText) → Each EdgeFine es → KnowsFine (known_at es ls)
+known-at-fine : (es : List RegionEdge) (ls : List LineText) → Each EdgeFine es → KnowsFine (known_at es ls)
 known-at-fine es ls e = phis-fine es e ls (joined es) (joined-fine es e)
 
 -- ---- blocks
@@ -206,7 +208,7 @@ module _ (g : Region) (probed : (p : Part) → In (g.probe p)) where
   abbrev pub DriveFine : Drive → Type 0
   DriveFine d = In d.delay
 
-  pub record EndFine (x : End) : Type 0 where
+  pub record EndFine (x : RegionEnd) : Type 0 where
     pub cond : In x.cond
     pub known : KnowsFine x.known
 
@@ -261,7 +263,13 @@ module _ (g : Region) (probed : (p : Part) → In (g.probe p)) where
       where
         by : (x : Bool) → MidstFine (if x then ends h c m enters_head else record m { edges = m.edges ++ record { to = next_place h.place b; from = h.label; cond = c; known = m.known } ∷ [] })
         by true = ends-fine c m enters_head i f
-        by false = record { known = f.known; edges = Each-append EdgeFine m.edges (record { to = next_place h.place b; from = h.label; cond = c; known = m.known } ∷ []) f.edges (record { cond = i; known = f.known }, tt); drives = f.drives; ends = f.ends }
+        by false = record {
+          known = f.known;
+          edges = Each-append EdgeFine m.edges (record { to = next_place h.place b; from = h.label; cond = c; known = m.known } ∷ []) f.edges
+              (record { cond = i; known = f.known }, tt);
+          drives = f.drives;
+          ends = f.ends;
+        }
 
     goes-if-fine : (c : Tree) (m : Midst) (b : Option ℕ) → In c → MidstFine m → MidstFine (goes_if g h c m b)
     goes-if-fine c m None i f = f
@@ -288,9 +296,12 @@ module _ (g : Region) (probed : (p : Part) → In (g.probe p)) where
     takes-fine : (j : InstText) (r : Option (List ℕ)) → InstFine j → (m : Midst) → MidstFine m → MidstFine (takes g h j r m)
     takes-fine (const_text d) r w m f = gives-fine m r (Some (known_value (constant d))) f (λ x z. subst KnownFine (same_Some (known_value (constant d)) x z) w)
     takes-fine (pure_text o os) r w m f = gives-fine m r (operated m.known o os) f (λ x z. operated-fine m.known f.known o os x z)
-    takes-fine (var_text a) r w m f = gives-fine m r (option_map known_cell (value_known m.known a.value)) f (λ x z. some-cell (value_known m.known a.value) (λ t q. value-fine m.known f.known a.value t q) x z)
-    takes-fine (ld_text a) r w m f = gives-fine m r (option_map known_value (cell_known m.known a.value)) f (λ x z. some-value (cell_known m.known a.value) (λ t q. cell-fine m.known f.known a.value t q) x z)
-    takes-fine (st_text to value) r w m f = gives-fine m (Some to.value) (option_map known_cell (value_known m.known value)) f (λ x z. some-cell (value_known m.known value) (λ t q. value-fine m.known f.known value t q) x z)
+    takes-fine (var_text a) r w m f = gives-fine m r (option_map known_cell (value_known m.known a.value)) f
+        (λ x z. some-cell (value_known m.known a.value) (λ t q. value-fine m.known f.known a.value t q) x z)
+    takes-fine (ld_text a) r w m f = gives-fine m r (option_map known_value (cell_known m.known a.value)) f
+        (λ x z. some-value (cell_known m.known a.value) (λ t q. cell-fine m.known f.known a.value t q) x z)
+    takes-fine (st_text to value) r w m f = gives-fine m (Some to.value) (option_map known_cell (value_known m.known value)) f
+        (λ x z. some-cell (value_known m.known value) (λ t q. value-fine m.known f.known value t q) x z)
     takes-fine (prb_text a) r w m f = probes-fine m r (part_known m.known a.value) f
     takes-fine (drv_text to value after cond) r w m f =
         drives-fine m (drive_cond m.known h.cond cond) (part_known m.known to.value) (value_known m.known value) (value_known m.known after) f (λ t q. value-fine m.known f.known after t q)
@@ -313,7 +324,7 @@ module _ (g : Region) (probed : (p : Part) → In (g.probe p)) where
     pub ends : Each EndFine c.rows.ends
 
   module _ (u : UnitText) (r : RegionOf u g) (written : Each BlockFine g.blocks) where
-    to-fine : (p : Place) (es : List Edge) → Each EdgeFine es → Each EdgeFine (edges_to p es)
+    to-fine : (p : RegionPlace) (es : List RegionEdge) → Each EdgeFine es → Each EdgeFine (edges_to p es)
     to-fine p [] h = tt
     to-fine p (e ∷ es) h = by (is_place e.to p) (to-fine p es h.1)
       where
@@ -321,28 +332,30 @@ module _ (g : Region) (probed : (p : Part) → In (g.probe p)) where
         by true z = (h.0, z)
         by false z = z
 
-    block-fine : (p : Place) (q : Tree) (es : List Edge) (c c1 : Course) (b : FlatBlockText) → BlockFine b → In q → Each EdgeFine es → through_block g p q es c b ≡ comes_to c1 → CourseFine c → CourseFine c1
+    block-fine : (p : RegionPlace) (q : Tree) (es : List RegionEdge) (c c1 : Course) (b : FlatBlockText) → BlockFine b → In q → Each EdgeFine es → through_block g p q es c b ≡ comes_to c1
+        → CourseFine c → CourseFine c1
     block-fine p q es c c1 b at hq he e f =
         let ls : List LineText = with_merge b.merge b.lines in
         let t = Courses.treated u g r p q es c b c1 e in
         let m0 : Midst = takes_all g (Courses.here_at u g r p q b) ls (Courses.start_at u g r es c b) in
-        let m : MidstFine m0 = lines-fine (Courses.here_at u g r p q b) hq ls (merge-fine b.merge b.lines at) (Courses.start_at u g r es c b) (record { known = known-at-fine es ls he; edges = f.edges; drives = f.drives; ends = f.ends }) in
+        let m : MidstFine m0 = lines-fine (Courses.here_at u g r p q b) hq ls (merge-fine b.merge b.lines at) (Courses.start_at u g r es c b)
+        (record { known = known-at-fine es ls he; edges = f.edges; drives = f.drives; ends = f.ends }) in
         let rows : m0.rows ≡ c1.rows = sym (t.rows ∙ ap (λ (x : Midst). x.rows) t.is) in
         let edges : m0.edges ≡ c1.edges = sym (t.edges ∙ ap (λ (x : Midst). x.edges) t.is) in
         record { edges = subst (Each EdgeFine) edges m.edges; drives = subst (λ (x : Rows). Each DriveFine x.drives) rows m.drives; ends = subst (λ (x : Rows). Each EndFine x.ends) rows m.ends }
 
-    through-fine : (p : Place) (q : Tree) (es : List Edge) (c c1 : Course) → In q → Each EdgeFine es → through g p q es c ≡ comes_to c1 → CourseFine c → CourseFine c1
+    through-fine : (p : RegionPlace) (q : Tree) (es : List RegionEdge) (c c1 : Course) → In q → Each EdgeFine es → through g p q es c ≡ comes_to c1 → CourseFine c → CourseFine c1
     through-fine p q es c c1 hq he e f = by (slice_get g.blocks p.block) refl e
       where
         by : (o : Option FlatBlockText) → slice_get g.blocks p.block ≡ o → option_map_or (through_block g p q es c) o (comes_to c) ≡ comes_to c1 → CourseFine c1
         by None z w = subst CourseFine (coursed-is c c1 w) f
         by (Some b) z w = block-fine p q es c c1 b (block-at g.blocks p.block b written z) hq he w f
 
-    reached-fine : (p : Place) (es : List Edge) (c c1 : Course) → Each EdgeFine es → through_reached g p es c ≡ comes_to c1 → CourseFine c → CourseFine c1
+    reached-fine : (p : RegionPlace) (es : List RegionEdge) (c c1 : Course) → Each EdgeFine es → through_reached g p es c ≡ comes_to c1 → CourseFine c → CourseFine c1
     reached-fine p [] c c1 he e f = subst CourseFine (coursed-is c c1 e) f
     reached-fine p (x ∷ es) c c1 he e f = through-fine p (any_taken (x ∷ es)) (x ∷ es) c c1 (taken-fine (x ∷ es) he) he e f
 
-    all-fine : (ps : List Place) (c c' : Course) → CourseFine c → through_all g ps c ≡ comes_to c' → CourseFine c'
+    all-fine : (ps : List RegionPlace) (c c' : Course) → CourseFine c → through_all g ps c ≡ comes_to c' → CourseFine c'
     all-fine [] c c' f e = subst CourseFine (coursed-is c c' e) f
     all-fine (p ∷ ps) c c' f e =
         let o = Courses.onward u g r p ps c c' e in
@@ -351,7 +364,7 @@ module _ (g : Region) (probed : (p : Part) → In (g.probe p)) where
     none-fine : CourseFine no_course
     none-fine = record { edges = tt; drives = tt; ends = tt }
 
-    pub region-fine : (b : ℕ) (es : List Edge) (c' : Course) → Each EdgeFine es → region_from g b es ≡ comes_to c' → CourseFine c'
+    pub region-fine : (b : ℕ) (es : List RegionEdge) (c' : Course) → Each EdgeFine es → region_from g b es ≡ comes_to c' → CourseFine c'
     unfolding region_from
     region-fine b es c' he e = by (through g (record { turns = 0; block = b }) (bit_of true) es no_course) refl e
       where

@@ -33,7 +33,8 @@ data_at-empty k [] h p = data_at-one k [] h
 data_at-empty k (t ∷ ts) h p = cc
 
 -- no other token begins a data type
-pub data_in-other : (p : List Lexeme → Option (TypeTree × List Lexeme)) (x : Lex) (us : List Lexeme) → ((w : Bor (List ℕ)) → x ≡ lex.Word w → ⊥) → ((b : ℕ) → x ≡ lex.Punct b → ⊥) → data_in p (lexeme_of x ∷ us) ≡ None
+pub data_in-other : (p : List Lexeme → Option (TypeTree × List Lexeme)) (x : Lex) (us : List Lexeme) → ((w : Bor (List ℕ)) → x ≡ lex.Word w → ⊥) → ((b : ℕ) → x ≡ lex.Punct b → ⊥)
+    → data_in p (lexeme_of x ∷ us) ≡ None
 data_in-other p (lex.Word w) us f g = absurd (f w refl)
 data_in-other p (lex.Punct b) us f g = absurd (g b refl)
 data_in-other p (lex.Global n) us f g = refl

@@ -100,7 +100,8 @@ digits-rest : (bs : List ℕ) (n m : ℕ) → digits_from n bs ≡ Some m → Re
 digits-rest [] n m e = let f : n ≡ m = cc in record { left = 0; is = omega (arith, f); few = omega arith; none = λ _. refl }
 digits-rest (b ∷ bs) n m e = by (is_digit b) refl e (digits-rest bs (n * 10 + (b - 48)) m)
   where
-    by : (c : Bool) → is_digit b ≡ c → (if c then digits_from (n * 10 + (b - 48)) bs else None) ≡ Some m → (digits_from (n * 10 + (b - 48)) bs ≡ Some m → Rest (n * 10 + (b - 48)) m bs) → Rest n m (b ∷ bs)
+    by : (c : Bool) → is_digit b ≡ c → (if c then digits_from (n * 10 + (b - 48)) bs else None) ≡ Some m → (digits_from (n * 10 + (b - 48)) bs ≡ Some m → Rest (n * 10 + (b - 48)) m bs)
+        → Rest n m (b ∷ bs)
     by true d q r = rest_step n m b (10 ^ length bs) bs d (r q) refl
     by false d q r = cc
 
@@ -146,7 +147,8 @@ shifted-again (suc k) n (b ∷ bs) m fs e w = by (is_digit b) e (shifted-again k
     v : m * 10 ^ k ≡ fs * 10 ^ length bs
     v = let u : m * 10 ^ suc k ≡ fs * 10 ^ suc (length bs) = w in omega (arith, u, ap (λ x. m * x) (pow-suc 10 k), ap (λ x. fs * x) (pow-suc 10 (length bs)))
 
-    by : (c : Bool) → (if c then digits_from (n * 10 + (b - 48)) bs else None) ≡ Some m → (digits_from (n * 10 + (b - 48)) bs ≡ Some m → m * 10 ^ k ≡ fs * 10 ^ length bs → shifted (n * 10 + (b - 48)) k bs ≡ Some fs)
+    by : (c : Bool) → (if c then digits_from (n * 10 + (b - 48)) bs else None) ≡ Some m
+        → (digits_from (n * 10 + (b - 48)) bs ≡ Some m → m * 10 ^ k ≡ fs * 10 ^ length bs → shifted (n * 10 + (b - 48)) k bs ≡ Some fs)
         → ◌>>=◌ {A = ℕ × List ℕ} (if c then Some (b - 48, bs) else None) (λ d. shifted (n * 10 + d.0) k d.1) ≡ Some fs
     by true q r = r q v
     by false q r = cc

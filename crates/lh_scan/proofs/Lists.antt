@@ -44,7 +44,8 @@ module _ {A : Type 0} (p : List Lexeme → Option (A × List Lexeme)) where
       let h : 1 ≤ length all - length xs = omega (arith, w.few) in
       sym (ap (fronts xs) (parts_at-one (length all - length xs) rest h ∙ ap (part_then (parts_at p (length all - length xs - 1))) e)) ∙ w.is
 
-  pub At-next : (all rest more next : List Lexeme) (xs : List A) (a : A) → At all rest xs → p rest ≡ Some (a, more) → length more < length rest → punct_at 44 more ≡ Some next → At all next (xs ++ a ∷ [])
+  pub At-next : (all rest more next : List Lexeme) (xs : List A) (a : A) → At all rest xs → p rest ≡ Some (a, more) → length more < length rest → punct_at 44 more ≡ Some next
+      → At all next (xs ++ a ∷ [])
   At-next all rest more next xs a w e l c =
       let n : length (xs ++ a ∷ []) ≡ length xs + 1 = length-append xs (a ∷ []) in
       let k : length all - length (xs ++ a ∷ []) ≡ length all - length xs - 1 = omega (arith, n) in
@@ -54,6 +55,7 @@ module _ {A : Type 0} (p : List Lexeme → Option (A × List Lexeme)) where
         few = omega (arith, n, w.few, l, ap length (punct_at-inv 44 more next c));
       }
 
-  pub At-end : (all rest more : List Lexeme) (xs : List A) (a : A) → At all rest xs → p rest ≡ Some (a, more) → length more < length rest → punct_at 44 more ≡ None → parts_at p (length all) all ≡ Some (xs ++ a ∷ [], more)
+  pub At-end : (all rest more : List Lexeme) (xs : List A) (a : A) → At all rest xs → p rest ≡ Some (a, more) → length more < length rest → punct_at 44 more ≡ None
+      → parts_at p (length all) all ≡ Some (xs ++ a ∷ [], more)
   At-end all rest more xs a w e l c =
       sym (ap (λ o. fronts xs (comma_or_end (parts_at p (length all - length xs - 1)) a more o)) (sym c) ∙ more_found all rest more xs a w e l)

@@ -26,7 +26,8 @@ same-pointwise (x ∷ xs) [] = refl
 same-pointwise (x ∷ xs) (y ∷ ys) = ap (λ b. nat_eq x y && b) (same-pointwise xs ys)
 
 abbrev scale_by : (s ms us ns ps fs : Bool) → Option ℕ
-scale_by s ms us ns ps fs = if s then Some (10 ^ 15) else if ms then Some (10 ^ 12) else if us then Some (10 ^ 9) else if ns then Some (10 ^ 6) else if ps then Some (10 ^ 3) else if fs then Some 1 else None
+scale_by s ms us ns ps fs = if s then Some (10 ^ 15) else if ms then Some (10 ^ 12) else if us then Some (10 ^ 9) else if ns then Some (10 ^ 6) else if ps then Some (10 ^ 3) else if fs then Some
+    1 else None
 
 abbrev places_by : (s ms us ns ps fs : Bool) → Option ℕ
 places_by s ms us ns ps fs = if s then Some 15 else if ms then Some 12 else if us then Some 9 else if ns then Some 6 else if ps then Some 3 else if fs then Some 0 else None
@@ -42,8 +43,10 @@ places-scale false false false false false false = refl
 
 unit-scale : (u : List ℕ) → unit_scale u ≡ option_map (λ k. 10 ^ k) (unit_places u)
 unit-scale u =
-    (λ i. scale_by (same-pointwise u (codes "s") i) (same-pointwise u (codes "ms") i) (same-pointwise u (codes "us") i) (same-pointwise u (codes "ns") i) (same-pointwise u (codes "ps") i) (same-pointwise u (codes "fs") i))
-    ∙ places-scale (pointwise nat_eq u (codes "s")) (pointwise nat_eq u (codes "ms")) (pointwise nat_eq u (codes "us")) (pointwise nat_eq u (codes "ns")) (pointwise nat_eq u (codes "ps")) (pointwise nat_eq u (codes "fs"))
+    (λ i. scale_by (same-pointwise u (codes "s") i) (same-pointwise u (codes "ms") i) (same-pointwise u (codes "us") i) (same-pointwise u (codes "ns") i) (same-pointwise u (codes "ps") i)
+    (same-pointwise u (codes "fs") i))
+    ∙ places-scale (pointwise nat_eq u (codes "s")) (pointwise nat_eq u (codes "ms")) (pointwise nat_eq u (codes "us")) (pointwise nat_eq u (codes "ns")) (pointwise nat_eq u (codes "ps")) (pointwise
+    nat_eq u (codes "fs"))
 
 map-some : (o : Option ℕ) (s : ℕ) → option_map (λ k. 10 ^ k) o ≡ Some s → (k : ℕ) × (o ≡ Some k) × (10 ^ k ≡ s)
 map-some None s e = cc
@@ -62,7 +65,8 @@ begins-with u x rest b e f d p = record { first = b; rest = rest; is = same_text
 
 unit-begins : (u : List ℕ) (k : ℕ) → unit_places u ≡ Some k → Begins u
 unit-begins u k e =
-    by (pointwise nat_eq u (codes "s")) (pointwise nat_eq u (codes "ms")) (pointwise nat_eq u (codes "us")) (pointwise nat_eq u (codes "ns")) (pointwise nat_eq u (codes "ps")) (pointwise nat_eq u (codes "fs"))
+    by (pointwise nat_eq u (codes "s")) (pointwise nat_eq u (codes "ms")) (pointwise nat_eq u (codes "us")) (pointwise nat_eq u (codes "ns")) (pointwise nat_eq u (codes "ps"))
+    (pointwise nat_eq u (codes "fs"))
     refl refl refl refl refl refl e
   where
     by : (s ms us ns ps fs : Bool) → pointwise nat_eq u (codes "s") ≡ s → pointwise nat_eq u (codes "ms") ≡ ms → pointwise nat_eq u (codes "us") ≡ us → pointwise nat_eq u (codes "ns") ≡ ns
@@ -79,7 +83,8 @@ begins-run : (u : List ℕ) → Begins u → digit_run u ≡ 0
 begins-run u b = let d = b.no_digit in ap digit_run b.is ∙ (rw d refl)
 
 -- a number and a unit
-with_unit-inv : (whole part unit : List ℕ) (fs : ℕ) → with_unit whole part unit ≡ Some fs → (k : ℕ) × (n : ℕ) × (unit_places unit ≡ Some k) × (number_of whole ≡ Some n) × (shifted n k part ≡ Some fs) × (fs < 2 ^ 63)
+with_unit-inv : (whole part unit : List ℕ) (fs : ℕ) → with_unit whole part unit ≡ Some fs → (k : ℕ) × (n : ℕ) × (unit_places unit ≡ Some k) × (number_of whole ≡ Some n) × (shifted n k part ≡ Some fs)
+    × (fs < 2 ^ 63)
 unfolding with_unit
 with_unit-inv whole part unit fs e =
     let a = bind_some (unit_places unit) _ fs e in
@@ -167,7 +172,8 @@ plain-again fs w s e z =
     let u : pointed s.numeral s.unit ≡ with_unit s.numeral [] s.unit = ap (pointed s.numeral) b.is ∙ (rw n refl) ∙ ap (with_unit s.numeral []) (sym b.is) in
     ap femtoseconds s.together ∙ femtoseconds-split s.numeral s.unit (number-run s.numeral s.unit s.n e (begins-run s.unit b)) ∙ u ∙ t
 
-point-again : (fs : ℕ) (w : List ℕ) (s : SpellsFemtoseconds fs w) (whole part : List ℕ) → s.numeral ≡ whole ++ 46 ∷ part → number_of (whole ++ part) ≡ Some s.n → 1 ≤ length whole → 1 ≤ length part → s.places ≡ length part
+point-again : (fs : ℕ) (w : List ℕ) (s : SpellsFemtoseconds fs w) (whole part : List ℕ) → s.numeral ≡ whole ++ 46 ∷ part → number_of (whole ++ part) ≡ Some s.n → 1 ≤ length whole → 1 ≤ length part
+    → s.places ≡ length part
     → femtoseconds w ≡ Some fs
 point-again fs w s whole part e n h l z =
     let p = map-some (unit_places s.unit) s.scale (sym (unit-scale s.unit) ∙ s.known) in

@@ -9,7 +9,8 @@ use Rattle.lh_types.specs.declared.ty.TyFault.{TyFault}
 use Rattle.lh_types.proofs.Limits.{one_le-bit_count}
 
 -- four tests for a fault, one after another
-pub four_none : (a b c d : Bool) (w x y z : TyFault) → (if a then Some w else (if not b then Some x else (if c then Some y else (if d then Some z else None)))) ≡ None → (a ≡ false) × (b ≡ true) × (c ≡ false) × (d ≡ false)
+pub four_none : (a b c d : Bool) (w x y z : TyFault) → (if a then Some w else (if not b then Some x else (if c then Some y else (if d then Some z else None)))) ≡ None → (a ≡ false) × (b ≡ true)
+    × (c ≡ false) × (d ≡ false)
 four_none true b c d w x y z p = cc
 four_none false false c d w x y z p = cc
 four_none false true true d w x y z p = cc

@@ -10,5 +10,5 @@ FindsAs f (Err NotSpelled) found = None ≡ found
 FindsAs f (Err OutOfMemory) found = ⊤
 
 -- what is read is what is found
-abbrev pub Finds : {A : Type 0} → Result A ScanFault → Option A → Type 0
-Finds r found = FindsAs (λ x. x) r found
+abbrev pub ReadsAsFound : {A : Type 0} → Result A ScanFault → Option A → Type 0
+ReadsAsFound r found = FindsAs (λ x. x) r found

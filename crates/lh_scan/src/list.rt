@@ -1,7 +1,7 @@
 //! Lists by comma.
 ghost use Rattle.std.specs.Prelude.{◌≡◌, ◌<◌, ◌+◌, length, List, Option, Some};
 ghost use Rattle.lh_unit.specs.Lexemes.{Lexeme};
-ghost use Rattle.lh_scan.specs.Found.{Finds};
+ghost use Rattle.lh_scan.specs.Found.{ReadsAsFound};
 ghost use Rattle.lh_scan.specs.Pieces.{parts_at, list_at, behind_at};
 
 use crate::fault::ScanFault::{self, NotSpelled};
@@ -17,7 +17,7 @@ pub trait Part<'a>: Sized + Drop {
 
     /// The part in front, and what follows it.
     fn part(alloc: Global, tokens: &Tokens<'a>) -> Result<(Self, Tokens<'a>), ScanFault>
-        ensures { Finds result (part_at tokens.now) };
+        ensures { ReadsAsFound result (part_at tokens.now) };
 
     ghost shorter: { (ts : List Lexeme) → (a : Self) → (us : List Lexeme) → part_at ts ≡ Some (a, us) → length us < length ts };
 }
@@ -30,7 +30,7 @@ pub fn list<'a, P: Part<'a>>(
     tokens: &Tokens<'a>,
     close: u8,
 ) -> Result<(ListOf<P>, Tokens<'a>), ScanFault>
-    ensures { Finds result (list_at P.part_at close tokens.now) }
+    ensures { ReadsAsFound result (list_at P.part_at close tokens.now) }
 {
     if tokens.punct(close).is_some() {
         return Ok((ListOf::new(alloc), tokens.copy()));
@@ -43,7 +43,7 @@ pub fn behind<'a, P: Part<'a>>(
     alloc: Global,
     tokens: &Tokens<'a>,
 ) -> Result<(ListOf<P>, Tokens<'a>), ScanFault>
-    ensures { Finds result (behind_at P.part_at tokens.now) }
+    ensures { ReadsAsFound result (behind_at P.part_at tokens.now) }
 {
     match tokens.punct(b',') {
         Some(rest) => parts(alloc, &rest),
@@ -56,7 +56,7 @@ pub fn parts<'a, P: Part<'a>>(
     alloc: Global,
     tokens: &Tokens<'a>,
 ) -> Result<(ListOf<P>, Tokens<'a>), ScanFault>
-    ensures { Finds result (parts_at P.part_at (length tokens.now) tokens.now) }
+    ensures { ReadsAsFound result (parts_at P.part_at (length tokens.now) tokens.now) }
 {
     let mut parts = ListOf::new(alloc);
     let mut rest = tokens.copy();

@@ -2,7 +2,8 @@
 ghost use Rattle.std.specs.Prelude.{◌≡◌, ◌≤◌, ◌<◌, ◌^◌, IfSome, length, option_map};
 ghost use Rattle.lh_unit.specs.Numerals.{is_digit as is_digit_byte};
 ghost use Rattle.lh_scan.specs.Pieces.{below};
-ghost use Rattle.lh_scan.specs.Times.{digit_run, unit_places, all_zero, next_digit, shifted, with_unit, pointed, femtoseconds as femtoseconds_in, before_last as before_last_in, steps_at, time_at};
+ghost use Rattle.lh_scan.specs.Times as spec;
+ghost use Rattle.lh_scan.specs.Times.{digit_run, unit_places, all_zero, next_digit, shifted, with_unit, pointed, steps_at, time_at};
 
 use crate::numbers::number;
 use crate::tokens::Tokens;
@@ -131,7 +132,7 @@ fn behind_digits(whole: &[u8], more: &[u8]) -> Option<u64>
 /// The femtoseconds that a word such as `1.5ns` says, where they are a whole number below 2^63.
 #[tactic(auto, unfolding(crate::specs::Times::femtoseconds))]
 fn femtoseconds(word: &[u8]) -> Option<u64>
-    ensures { result ≡ femtoseconds_in word.now }
+    ensures { result ≡ spec.femtoseconds word.now }
 {
     let len = digits(word);
     behind_digits(&word[..len], &word[len..])
@@ -139,7 +140,7 @@ fn femtoseconds(word: &[u8]) -> Option<u64>
 
 /// What stands before this last byte of a word.
 fn before_last(last: u8, word: &[u8]) -> Option<&[u8]>
-    ensures { option_map (λ r. r.now) result ≡ before_last_in last word.now }
+    ensures { option_map (λ r. r.now) result ≡ spec.before_last last word.now }
 {
     let len = word.len();
     if len == 0 {

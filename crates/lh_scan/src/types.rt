@@ -3,9 +3,9 @@
 //! The recursion stops at the depth limit of types, whatever the tokens nest.
 ghost use Rattle.std.specs.Prelude.{◌≡◌, ◌≤◌, IfSome, length, Option};
 ghost use Rattle.lh_types.specs.Types.{TypeTree, int_type as int_tree, tuple_type, signal_type, pointer_type, row_of};
-ghost use Rattle.lh_types.specs.Faults.{tuple_fault, signal_fault, pointer_fault, Makes};
+ghost use Rattle.lh_types.specs.Faults.{tuple_fault, signal_fault, pointer_fault, MakesType};
 ghost use Rattle.lh_types.specs.declared.ty.TyFault.{TyFault};
-ghost use Rattle.lh_scan.specs.Found.{Finds};
+ghost use Rattle.lh_scan.specs.Found.{ReadsAsFound};
 ghost use Rattle.lh_scan.specs.Pieces.{parts_at};
 ghost use Rattle.lh_unit.specs.Typing.{if_made};
 ghost use Rattle.lh_scan.specs.Types.{followed, int_width as width_in, int_before, marked_in, array_in, tuple_in, data_at, base_at, suffix_at, type_at};
@@ -58,7 +58,7 @@ fn int_type<'a>(word: &[u8], rest: Tokens<'a>) -> Option<(Ty, Tokens<'a>)>
 
 /// The type that was made, if it has no fault.
 fn faultless(made: Result<Ty, TyFault>) -> Result<Ty, ScanFault>
-    ensures { (fault : Option TyFault) → (t : TypeTree) → Makes made fault t → Finds result (if_made fault t) }
+    ensures { (fault : Option TyFault) → (t : TypeTree) → MakesType made fault t → ReadsAsFound result (if_made fault t) }
 {
     match made {
         Ok(ty) => Ok(ty),
@@ -77,7 +77,7 @@ fn struct_type(fields: TyList) -> Option<Ty>
 /// A data type in front that nests at most `deep` levels, and what follows it.
 #[cycle(data)]
 fn data<'a>(alloc: Global, deep: u32, tokens: &Tokens<'a>) -> Result<(Ty, Tokens<'a>), ScanFault>
-    ensures { Finds result (data_at deep tokens.now) }
+    ensures { ReadsAsFound result (data_at deep tokens.now) }
 {
     if deep == 0 {
         return Err(NotSpelled);
@@ -98,7 +98,7 @@ fn marked<'a>(
     mark: u8,
     tokens: &Tokens<'a>,
 ) -> Result<(Ty, Tokens<'a>), ScanFault>
-    ensures { Finds result (marked_in (data_at deep) mark tokens.now) }
+    ensures { ReadsAsFound result (marked_in (data_at deep) mark tokens.now) }
 {
     if mark == b'[' {
         return array(alloc, deep, tokens);
@@ -113,7 +113,7 @@ fn marked<'a>(
 #[cycle(data)]
 #[tactic(auto, unfolding(crate::specs::Types::array_in))]
 fn array<'a>(alloc: Global, deep: u32, tokens: &Tokens<'a>) -> Result<(Ty, Tokens<'a>), ScanFault>
-    ensures { Finds result (array_in (data_at deep) tokens.now) }
+    ensures { ReadsAsFound result (array_in (data_at deep) tokens.now) }
 {
     let (len, rest) = count(tokens).ok_or(NotSpelled)?;
     let rest = rest.word(b"x").ok_or(NotSpelled)?;
@@ -127,7 +127,7 @@ fn array<'a>(alloc: Global, deep: u32, tokens: &Tokens<'a>) -> Result<(Ty, Token
 #[cycle(data)]
 #[tactic(auto, unfolding(crate::specs::Types::tuple_in))]
 fn tuple<'a>(alloc: Global, deep: u32, tokens: &Tokens<'a>) -> Result<(Ty, Tokens<'a>), ScanFault>
-    ensures { Finds result (tuple_in (data_at deep) tokens.now) }
+    ensures { ReadsAsFound result (tuple_in (data_at deep) tokens.now) }
 {
     let (fields, rest) = fields(alloc, deep, tokens)?;
     let rest = rest.punct(b'}').ok_or(NotSpelled)?;
@@ -142,7 +142,7 @@ fn fields<'a>(
     deep: u32,
     tokens: &Tokens<'a>,
 ) -> Result<(TyList, Tokens<'a>), ScanFault>
-    ensures { Finds result (parts_at (data_at deep) (length tokens.now) tokens.now) }
+    ensures { ReadsAsFound result (parts_at (data_at deep) (length tokens.now) tokens.now) }
 {
     let mut fields = TyList::new(alloc);
     let mut rest = tokens.copy();
@@ -159,7 +159,7 @@ fn fields<'a>(
 /// `time`, `void` or a data type, and what follows it.
 #[tactic(auto, unfolding(crate::specs::Types::base_at))]
 fn base<'a>(alloc: Global, tokens: &Tokens<'a>) -> Result<(Ty, Tokens<'a>), ScanFault>
-    ensures { Finds result (base_at tokens.now) }
+    ensures { ReadsAsFound result (base_at tokens.now) }
 {
     if let Some(rest) = tokens.word(b"time") {
         return Ok((Ty::time(), rest));
@@ -172,7 +172,7 @@ fn base<'a>(alloc: Global, tokens: &Tokens<'a>) -> Result<(Ty, Tokens<'a>), Scan
 
 /// The signal of a type, and what follows it.
 fn signal<'a>(alloc: Global, of: Ty, rest: Tokens<'a>) -> Result<(Ty, Tokens<'a>), ScanFault>
-    ensures { Finds result (followed (if_made (signal_fault of) (signal_type of)) rest.entry) }
+    ensures { ReadsAsFound result (followed (if_made (signal_fault of) (signal_type of)) rest.entry) }
 {
     let ty = faultless(Ty::signal(alloc, of))?;
     Ok((ty, rest))
@@ -180,7 +180,7 @@ fn signal<'a>(alloc: Global, of: Ty, rest: Tokens<'a>) -> Result<(Ty, Tokens<'a>
 
 /// The pointer to a type, and what follows it.
 fn pointer<'a>(alloc: Global, of: Ty, rest: Tokens<'a>) -> Result<(Ty, Tokens<'a>), ScanFault>
-    ensures { Finds result (followed (if_made (pointer_fault of) (pointer_type of)) rest.entry) }
+    ensures { ReadsAsFound result (followed (if_made (pointer_fault of) (pointer_type of)) rest.entry) }
 {
     let ty = faultless(Ty::pointer(alloc, of))?;
     Ok((ty, rest))
@@ -189,7 +189,7 @@ fn pointer<'a>(alloc: Global, of: Ty, rest: Tokens<'a>) -> Result<(Ty, Tokens<'a
 /// The type and the `$` or `*` behind it, if one stands there, and what follows.
 #[tactic(auto, unfolding(crate::specs::Types::suffix_at))]
 fn suffixed<'a>(alloc: Global, ty: Ty, tokens: Tokens<'a>) -> Result<(Ty, Tokens<'a>), ScanFault>
-    ensures { Finds result (suffix_at ty tokens.entry) }
+    ensures { ReadsAsFound result (suffix_at ty tokens.entry) }
 {
     if let Some(rest) = tokens.punct(b'$') {
         return signal(alloc, ty, rest);
@@ -204,7 +204,7 @@ fn suffixed<'a>(alloc: Global, ty: Ty, tokens: Tokens<'a>) -> Result<(Ty, Tokens
 /// then at most one `$` or `*`.
 #[tactic(auto, unfolding(crate::specs::Types::type_at))]
 pub fn ty<'a>(alloc: Global, tokens: &Tokens<'a>) -> Result<(Ty, Tokens<'a>), ScanFault>
-    ensures { Finds result (type_at tokens.now) }
+    ensures { ReadsAsFound result (type_at tokens.now) }
 {
     let (ty, rest) = base(alloc, tokens)?;
     suffixed(alloc, ty, rest)

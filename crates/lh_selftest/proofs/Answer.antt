@@ -9,18 +9,18 @@ use Rattle.lh_unit.specs.World.{World, first_world}
 use Rattle.lh_design.specs.declared.Design.{Design as ByIds}
 use Rattle.lh_design.specs.Texts.{design_text}
 use Rattle.lh_kernel.specs.Simulation.{Simulation, StandsFor}
-use Rattle.lh_read.specs.Reading.{Gives}
+use Rattle.lh_read.specs.Reading.{ModuleOrNoMemory}
 use Rattle.lh_read.specs.declared.TextFault.{TextFault}
 use Rattle.lh_read.specs.declared.TextFault.TheVariants.{Syntax, UnitTooLarge, DuplicateName, OutOfMemory}
 use Rattle.lh_lowered.specs.Lowering.{lowered}
 use Rattle.lh_generator.specs.Summary.{chain_name, max_frames, WentSo, summary}
-use Rattle.lh_generator.specs.declared.summary.Course.{Course}
+use Rattle.lh_generator.specs.declared.summary.RunSummary.{RunSummary}
 use Rattle.lh_generator.specs.declared.summary.Units.{Units}
 use Rattle.lh_selftest.specs.SelfTest.{HasDesign, IsChain, IsTextOf, IsSelfTest, units_of}
 use Rattle.lh_selftest.specs.Courses.{course_on}
 
 -- a text that reads was not read for want of memory alone
-pub reads-starved : (f : TextFault) (file : List ItemText) → Gives (Err f) file → f ≡ OutOfMemory
+pub reads-starved : (f : TextFault) (file : List ItemText) → ModuleOrNoMemory (Err f) file → f ≡ OutOfMemory
 reads-starved (Syntax n) file g = absurd g
 reads-starved (UnitTooLarge n) file g = absurd g
 reads-starved (DuplicateName n) file g = absurd g
@@ -38,11 +38,13 @@ same-has_design file other same h =
     record { design = too.0; is = too.1 }
 
 -- how the run of a design goes is how its trace goes
-pub went_so : (a : Arena) (d : ByIds) (n : ℕ) (c : Course) → elab (contents a) chain_name ≡ built (design_text a d) → c ≡ course_on a d [] n (first_world (contents a) (design_text a d)) → WentSo (trace (contents a) chain_name n) c
+pub went_so : (a : Arena) (d : ByIds) (n : ℕ) (c : RunSummary) → elab (contents a) chain_name ≡ built (design_text a d) → c ≡ course_on a d [] n (first_world (contents a) (design_text a d))
+    → WentSo (trace (contents a) chain_name n) c
 unfolding course_on
 went_so a d n c e h = subst (λ (x : Elaborated). WentSo (trace_by max_instructions (contents a) n x) c) (sym e) h
 
-pub is_self_test : (links : ℕ) (file other : List ItemText) (units : Units) (c c' : Course) (text : List ℕ) → IsChain links file → other ≡ lowered file → units ≡ units_of file → WentSo (trace file chain_name max_frames) c → WentSo (trace other chain_name max_frames) c' → text ≡ summary units c c' → IsSelfTest links text
+pub is_self_test : (links : ℕ) (file other : List ItemText) (units : Units) (c c' : RunSummary) (text : List ℕ) → IsChain links file → other ≡ lowered file → units ≡ units_of file
+    → WentSo (trace file chain_name max_frames) c → WentSo (trace other chain_name max_frames) c' → text ≡ summary units c c' → IsSelfTest links text
 unfolding IsSelfTest IsTextOf
 is_self_test links file other units c c' text h e u w w' s = (
   file,
@@ -51,7 +53,8 @@ is_self_test links file other units c c' text h e u w w' s = (
 )
 
 -- the same of a simulation that begins
-pub course_so : (a m : Arena) (d : ByIds) (s : Simulation) (n : ℕ) (c : Course) → m ≡ a → s.arena ≡ m → s.design ≡ d → StandsFor s (first_world (contents m) (design_text m d)) → elab (contents a) chain_name ≡ built (design_text a d)
+pub course_so : (a m : Arena) (d : ByIds) (s : Simulation) (n : ℕ) (c : RunSummary) → m ≡ a → s.arena ≡ m → s.design ≡ d → StandsFor s (first_world (contents m) (design_text m d))
+    → elab (contents a) chain_name ≡ built (design_text a d)
     → ((w : World) → StandsFor s w → c ≡ course_on s.arena s.design [] n w) → WentSo (trace (contents a) chain_name n) c
 course_so a m d s n c em ea ed st e h =
     let first = first_world (contents a) (design_text a d) in

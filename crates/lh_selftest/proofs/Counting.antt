@@ -26,11 +26,13 @@ unit-by_id a (item.Unit u) = refl
 unit-by_id a (item.Declare d) = refl
 
 -- rows that fit a test, by ids
-rows-by_id : (a : Arena) (p : Verdict → Bool) (rows : List ReportRow) (file : List RowText) → map (row_text a) rows ≡ file → count_by (λ (r : ReportRow). p r.verdict) rows ≡ count_by (λ (r : RowText). p r.verdict) file
+rows-by_id : (a : Arena) (p : Verdict → Bool) (rows : List ReportRow) (file : List RowText) → map (row_text a) rows ≡ file
+    → count_by (λ (r : ReportRow). p r.verdict) rows ≡ count_by (λ (r : RowText). p r.verdict) file
 rows-by_id a p rows file e =
     sym (count_by-map (λ (r : RowText). p r.verdict) (λ (r : ReportRow). p r.verdict) (row_text a) (λ r. refl) rows) ∙ ap (count_by (λ (r : RowText). p r.verdict)) e
 
-pub units-by_id : (a : Arena) (rows : List ReportRow) (all lowered left : ℕ) → map (row_text a) rows ≡ report (contents a) → all ≡ count_by is_unit_item a.items → lowered ≡ count_by (λ (r : ReportRow). is_lowered r.verdict) rows → left ≡ count_by (λ (r : ReportRow). not (is_lowered r.verdict)) rows
+pub units-by_id : (a : Arena) (rows : List ReportRow) (all lowered left : ℕ) → map (row_text a) rows ≡ report (contents a) → all ≡ count_by is_unit_item a.items
+    → lowered ≡ count_by (λ (r : ReportRow). is_lowered r.verdict) rows → left ≡ count_by (λ (r : ReportRow). not (is_lowered r.verdict)) rows
     → record { all = all; lowered = lowered; left = left } ≡ units_of (contents a)
 units-by_id a rows all lowered left e f g h =
     let all_so = f ∙ sym (count_by-map is_unit is_unit_item (item_text_at a) (unit-by_id a) a.items) in

@@ -14,18 +14,18 @@ use Rattle.lh_design.specs.declared.Design.{Design}
 use Rattle.lh_design.specs.Texts.{design_text}
 use Rattle.lh_kernel.specs.Simulation.{Simulation, StandsFor}
 use Rattle.lh_kernel.specs.declared.sim.SimStep.{SimStep}
-use Rattle.lh_kernel.specs.declared.sim.SimStep.TheVariants.{Frame as AFrame, Runaway as ARunaway, Quiet as AQuiet}
+use Rattle.lh_kernel.specs.declared.sim.SimStep.TheVariants as sim_step
 use Rattle.lh_kernel.specs.Stepped.{Stepped, IsNextFrame, world_then}
 use Rattle.lh_meaning.proofs.TraceLaw.{bits_stay_law}
 use Rattle.lh_generator.specs.Summary.{counts_of, ending_of}
 use Rattle.lh_generator.specs.declared.summary.Counts.{Counts}
-use Rattle.lh_generator.specs.declared.summary.Course.{Course}
+use Rattle.lh_generator.specs.declared.summary.RunSummary.{RunSummary}
 use Rattle.lh_generator.specs.declared.summary.Ending.{Ending}
 use Rattle.lh_generator.specs.declared.summary.Ending.TheVariants.{Quiet, Runaway}
 use Rattle.lh_selftest.specs.Courses.{course_behind, course_on, GoesOn, ComesTo}
 
 -- a run of which some frames were counted, and which has ended
-abbrev over : Counts → Ending → Course
+abbrev over : Counts → Ending → RunSummary
 over counts ending = record { counts = counts; ending = ending }
 
 -- ---- from a world on
@@ -41,7 +41,7 @@ at_its_bound a d seen w = none_more seen (values_before (design_text a d) w) (ne
 
 module _ (a : Arena) (d : Design) (seen : List Picture) (n : ℕ) (w : World) where
   -- how the run goes, by the next instant
-  abbrev by_next : Option Instant → Course
+  abbrev by_next : Option Instant → RunSummary
   by_next o =
       course_behind seen (values_before (design_text a d) w) (run_at max_instructions (contents a) (design_text a d) w o (run_from max_instructions (contents a) (design_text a d) n))
 
@@ -82,7 +82,8 @@ module _ (a : Arena) (d : Design) (seen : List Picture) (n : ℕ) (w : World) wh
     one_more : (p : Picture) (before : Option (List Datum)) (r : Run) → over (counts_of (seen ++ p ∷ pictures before r.frames)) (ending_of r.end) ≡ course_behind (seen ++ p ∷ []) before r
     one_more p before r = ap (λ (xs : List Picture). over (counts_of xs) (ending_of r.end)) (sym (append_assoc seen (p ∷ []) (pictures before r.frames)))
 
-    behind_frame : (p : Picture) → p ≡ shown → course_behind seen (values_before (design_text a d) w) (goes_on frame None (run_from max_instructions (contents a) (design_text a d) n then)) ≡ course_on a d (seen ++ p ∷ []) n then
+    behind_frame : (p : Picture) → p ≡ shown → course_behind seen (values_before (design_text a d) w) (goes_on frame None (run_from max_instructions (contents a) (design_text a d) n then))
+        ≡ course_on a d (seen ++ p ∷ []) n then
     unfolding course_on
     behind_frame p s =
         one_more shown (Some frame.values) (run_from max_instructions (contents a) (design_text a d) n then)
@@ -95,12 +96,14 @@ module _ (a : Arena) (d : Design) (seen : List Picture) (n : ℕ) (w : World) wh
 -- ---- what a step comes to
 
 -- the step gave nothing
-pub comes_quiet : (s s' : Simulation) (w : World) (x : SimStep) (n : ℕ) (seen : List Picture) (old : Counts) → Stepped s w s' x → x ≡ AQuiet → old ≡ counts_of seen → ComesTo (Some Quiet) s.arena s.design n (course_on s.arena s.design seen (suc n) w) s' old
+pub comes_quiet : (s s' : Simulation) (w : World) (x : SimStep) (n : ℕ) (seen : List Picture) (old : Counts) → Stepped s w s' x → x ≡ sim_step.Quiet → old ≡ counts_of seen
+    → ComesTo (Some Quiet) s.arena s.design n (course_on s.arena s.design seen (suc n) w) s' old
 comes_quiet s s' w x n seen old st e c =
     quiet_then s.arena s.design seen n w (subst (Stepped s w s') e st).0 ∙ ap (λ (k : Counts). over k Quiet) (sym c)
 
 -- it gave a frame
-pub comes_on : (s s' : Simulation) (w : World) (x : SimStep) (f : frames.Frame) (n : ℕ) (seen : List Picture) (new : Counts) → Stepped s w s' x → x ≡ AFrame f → new ≡ counts_of (seen ++ picture f ∷ [])
+pub comes_on : (s s' : Simulation) (w : World) (x : SimStep) (f : frames.Frame) (n : ℕ) (seen : List Picture) (new : Counts) → Stepped s w s' x → x ≡ sim_step.Frame f
+    → new ≡ counts_of (seen ++ picture f ∷ [])
     → ComesTo None s.arena s.design n (course_on s.arena s.design seen (suc n) w) s' new
 comes_on s s' w x f n seen new st e c =
     let y : IsNextFrame s w f None × StandsFor s' (world_then s w f.at) = subst (Stepped s w s') e st in
@@ -114,7 +117,8 @@ comes_on s s' w x f n seen new st e c =
     }
 
 -- it gave a frame in which an instance ran away
-pub comes_runaway : (s s' : Simulation) (w : World) (x : SimStep) (f : frames.Frame) (i n : ℕ) (seen : List Picture) (new : Counts) → Stepped s w s' x → x ≡ ARunaway f i → new ≡ counts_of (seen ++ picture f ∷ [])
+pub comes_runaway : (s s' : Simulation) (w : World) (x : SimStep) (f : frames.Frame) (i n : ℕ) (seen : List Picture) (new : Counts) → Stepped s w s' x → x ≡ sim_step.Runaway f i
+    → new ≡ counts_of (seen ++ picture f ∷ [])
     → ComesTo (Some Runaway) s.arena s.design n (course_on s.arena s.design seen (suc n) w) s' new
 comes_runaway s s' w x f i n seen new st e c =
     let y = (subst (Stepped s w s') e st).0 in
@@ -133,28 +137,30 @@ going_first a d n m w s counts e st c = record {
 }
 
 -- after one more, by what it came to
-going_next : (a a' : Arena) (d d' : Design) (n m : ℕ) (whole : Course) (s s' : Simulation) (old new : Counts) (o : Option Ending) → a' ≡ a → d' ≡ d → m ≡ suc n → GoesOn a d m whole s old
+going_next : (a a' : Arena) (d d' : Design) (n m : ℕ) (whole : RunSummary) (s s' : Simulation) (old new : Counts) (o : Option Ending) → a' ≡ a → d' ≡ d → m ≡ suc n → GoesOn a d m whole s old
     → ((k : ℕ) (w : World) (seen : List Picture) → StandsFor s w → old ≡ counts_of seen → ComesTo o a' d' k (course_on a' d' seen (suc k) w) s' new) → ComesTo o a d n whole s' new
 going_next a a' d d' n m whole s s' old new o ea ed em g h =
     let here = h n g.world g.seen g.stands g.counted in
     let in_a = subst (λ (x : Arena). ComesTo o x d' n (course_on x d' g.seen (suc n) g.world) s' new) ea here in
     let in_d = subst (λ (x : Design). ComesTo o a x n (course_on a x g.seen (suc n) g.world) s' new) ed in_a in
-    subst (λ (c : Course). ComesTo o a d n c s' new) (sym (g.course ∙ ap (λ (k : ℕ). course_on a d g.seen k g.world) em)) in_d
+    subst (λ (c : RunSummary). ComesTo o a d n c s' new) (sym (g.course ∙ ap (λ (k : ℕ). course_on a d g.seen k g.world) em)) in_d
 
 -- a step after which the run goes on
-pub going_on : (a a' : Arena) (d d' : Design) (n m : ℕ) (whole : Course) (s s' : Simulation) (old new : Counts) (o : Option Ending) → a' ≡ a → d' ≡ d → m ≡ suc n → GoesOn a d m whole s old → o ≡ None
+pub going_on : (a a' : Arena) (d d' : Design) (n m : ℕ) (whole : RunSummary) (s s' : Simulation) (old new : Counts) (o : Option Ending) → a' ≡ a → d' ≡ d → m ≡ suc n → GoesOn a d m whole s old
+    → o ≡ None
     → ((k : ℕ) (w : World) (seen : List Picture) → StandsFor s w → old ≡ counts_of seen → ComesTo o a' d' k (course_on a' d' seen (suc k) w) s' new) → GoesOn a d n whole s' new
 going_on a a' d d' n m whole s s' old new o ea ed em g e h =
     subst (λ (x : Option Ending). ComesTo x a d n whole s' new) e (going_next a a' d d' n m whole s s' old new o ea ed em g h)
 
 -- a step at which the run ended
-pub going_over : (a a' : Arena) (d d' : Design) (n m : ℕ) (whole : Course) (s s' : Simulation) (old new : Counts) (o : Option Ending) (ending : Ending) → a' ≡ a → d' ≡ d → m ≡ suc n → GoesOn a d m whole s old → o ≡ Some ending
+pub going_over : (a a' : Arena) (d d' : Design) (n m : ℕ) (whole : RunSummary) (s s' : Simulation) (old new : Counts) (o : Option Ending) (ending : Ending) → a' ≡ a → d' ≡ d → m ≡ suc n
+    → GoesOn a d m whole s old → o ≡ Some ending
     → ((k : ℕ) (w : World) (seen : List Picture) → StandsFor s w → old ≡ counts_of seen → ComesTo o a' d' k (course_on a' d' seen (suc k) w) s' new) → over new ending ≡ whole
 going_over a a' d d' n m whole s s' old new o ending ea ed em g e h =
     sym (subst (λ (x : Option Ending). ComesTo x a d n whole s' new) e (going_next a a' d d' n m whole s s' old new o ea ed em g h))
 
 -- the bound is reached
-pub going_last : (a : Arena) (d : Design) (m : ℕ) (whole : Course) (s : Simulation) (counts : Counts) (ending : Ending) → m ≡ 0 → GoesOn a d m whole s counts
+pub going_last : (a : Arena) (d : Design) (m : ℕ) (whole : RunSummary) (s : Simulation) (counts : Counts) (ending : Ending) → m ≡ 0 → GoesOn a d m whole s counts
     → ((w : World) → StandsFor s w → ending ≡ ending_of (at_bound (next_instant w)).end) → over counts ending ≡ whole
 going_last a d m whole s counts ending em g h =
     let at_end = at_its_bound a d g.seen g.world in

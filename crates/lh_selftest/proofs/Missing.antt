@@ -25,7 +25,8 @@ other_name x n ne = by (same_unit_name x n) (λ e. ne (same_unit_name-is x n e))
     by false differ = refl
 
 -- none of the items defines a unit of the name
-none_named : (a : Arena) (n : UnitName) (items : List Item) → ((i : ℕ) (u : UnitId) → slice_get items i ≡ Some (item.Unit u) → same_unit_name (unit_name_at a u.0) n ≡ false) → hierarchy_named n (hierarchies (map (item_text_at a) items)) ≡ None
+none_named : (a : Arena) (n : UnitName) (items : List Item) → ((i : ℕ) (u : UnitId) → slice_get items i ≡ Some (item.Unit u) → same_unit_name (unit_name_at a u.0) n ≡ false)
+    → hierarchy_named n (hierarchies (map (item_text_at a) items)) ≡ None
 none_named a n [] h = refl
 none_named a n (item.Unit u ∷ more) h = rw (h 0 u refl) (none_named a n more (λ i v e. h (suc i) v e))
 none_named a n (item.Declare d ∷ more) h = none_named a n more (λ i v e. h (suc i) v e)

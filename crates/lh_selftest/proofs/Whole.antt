@@ -4,11 +4,11 @@ use Rattle.lh_unit.specs.Contents.{ItemText}
 use Rattle.lh_unit.specs.Trace.{Trace, refuses, ran, trace}
 use Rattle.lh_lowered.specs.Lowering.{lowered}
 use Rattle.lh_generator.specs.Summary.{chain_name, max_frames, WentSo, IsSummaryOf, summary}
-use Rattle.lh_generator.specs.declared.summary.Course.{Course}
+use Rattle.lh_generator.specs.declared.summary.RunSummary.{RunSummary}
 use Rattle.lh_selftest.specs.SelfTest.{IsSelfTest, units_of}
 use Rattle.lh_selftest.specs.Answer.{course_in, answer_of, AnswerIsOfFile}
 
-went_in : (t : Trace) (c : Course) → WentSo t c → c ≡ course_in t
+went_in : (t : Trace) (c : RunSummary) → WentSo t c → c ≡ course_in t
 went_in (refuses why) c p = absurd p
 went_in (ran instances signals run) c p = p
 
@@ -17,7 +17,7 @@ unfolding answer_of
 summary_in file answer (c, c', p, p', is) =
     let t = trace file chain_name max_frames in
     let t' = trace (lowered file) chain_name max_frames in
-    is ∙ ap (λ (x : Course). summary (units_of file) x c') (went_in t c p) ∙ ap (summary (units_of file) (course_in t)) (went_in t' c' p')
+    is ∙ ap (λ (x : RunSummary). summary (units_of file) x c') (went_in t c p) ∙ ap (summary (units_of file) (course_in t)) (went_in t' c' p')
 
 pub answer_is_of_file : AnswerIsOfFile
 unfolding IsSelfTest

@@ -6,12 +6,12 @@ use Rattle.lh_unit.specs.Trace.{Trace, refuses, ran, trace}
 use Rattle.lh_lowered.specs.Lowering.{lowered}
 use Rattle.lh_generator.specs.Generated.{generated}
 use Rattle.lh_generator.specs.Summary.{chain_name, max_frames, counts_of, course_of, summary}
-use Rattle.lh_generator.specs.declared.summary.Course.{Course}
+use Rattle.lh_generator.specs.declared.summary.RunSummary.{RunSummary}
 use Rattle.lh_generator.specs.declared.summary.Ending.TheVariants.{Quiet}
 use Rattle.lh_selftest.specs.SelfTest.{IsSelfTest, units_of}
 
 -- how the run of a trace goes; a top that is refused, which no chain is, would have no frames
-abbrev pub course_in : Trace → Course
+abbrev pub course_in : Trace → RunSummary
 course_in (refuses why) = record { counts = counts_of []; ending = Quiet }
 course_in (ran instances signals run) = course_of run
 

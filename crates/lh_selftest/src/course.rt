@@ -10,7 +10,7 @@ ghost use Rattle.lh_selftest.specs.SelfTest.{HasDesign};
 ghost use Rattle.lh_selftest.specs.Courses.{ComesTo, course_on};
 
 use crate::design::design_of;
-use lh_generator::summary::{Counts, Course, Ending};
+use lh_generator::summary::{Counts, Ending, RunSummary};
 use lh_io::count::Count;
 use lh_kernel::{Sim, SimStep};
 use lh_types::tally::Tally;
@@ -19,7 +19,7 @@ use lh_verify::verify::Verified;
 use std::alloc::Global;
 
 /// How the run from `@chain` down goes in at most so many frames, in a file that has a design.
-pub fn course_of(alloc: Global, file: &Verified, frames: u32) -> Result<Course, NoMemory>
+pub fn course_of(alloc: Global, file: &Verified, frames: u32) -> Result<RunSummary, NoMemory>
     requires { HasDesign (contents file.now) }
     ensures { IfOk result (λ course. WentSo (trace (contents file.now) chain_name frames) course) }
 {
@@ -29,7 +29,7 @@ pub fn course_of(alloc: Global, file: &Verified, frames: u32) -> Result<Course, 
 }
 
 /// How a simulation goes in at most so many frames.
-fn run(sim: &mut Sim<'_>, frames: u32) -> Result<Course, NoMemory>
+fn run(sim: &mut Sim<'_>, frames: u32) -> Result<RunSummary, NoMemory>
     ensures { IfOk result (λ course. (w : World) → StandsFor sim.old w → course ≡ course_on sim.old.arena sim.old.design [] frames w) }
 {
     let mut counts = Counts::new();
@@ -37,11 +37,11 @@ fn run(sim: &mut Sim<'_>, frames: u32) -> Result<Course, NoMemory>
     for _frame in 0..frames {
         match step(sim, &mut tally, &mut counts)? {
             None => {}
-            Some(ending) => return Ok(Course { counts, ending }),
+            Some(ending) => return Ok(RunSummary { counts, ending }),
         }
     }
     let ending = ending_at_bound(sim);
-    Ok(Course { counts, ending })
+    Ok(RunSummary { counts, ending })
 }
 
 /// Takes one step and counts its frame; the answer is how the run ended with it, if it did.

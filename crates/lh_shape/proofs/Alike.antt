@@ -30,31 +30,31 @@ use Rattle.lh_shape.specs.declared.reason.Reason.TheVariants as reason
 module _ (ns : List Node) where
   -- ---- ends
 
-  pub some-way : (f : text.Way → Bool) (es : List EndRow) (xs : List text.End) → AreEnds ns es xs → some_way f es ≡ list_any (λ (x : text.End). f x.way) xs
+  pub some-way : (f : text.Way → Bool) (es : List EndRow) (xs : List text.RegionEnd) → AreEnds ns es xs → some_way f es ≡ list_any (λ (x : text.RegionEnd). f x.way) xs
   some-way f [] [] h = refl
   some-way f [] (x ∷ xs) h = absurd h
   some-way f (e ∷ es) [] h = absurd h
   some-way f (e ∷ es) (x ∷ xs) h = let a : way_text e.way ≡ x.way = h.0.way in let b = some-way f es xs h.1 in λ i. f (a i) || b i
 
-  pub every-way : (f : text.Way → Bool) (es : List EndRow) (xs : List text.End) → AreEnds ns es xs → every_way f es ≡ list_all (λ (x : text.End). f x.way) xs
+  pub every-way : (f : text.Way → Bool) (es : List EndRow) (xs : List text.RegionEnd) → AreEnds ns es xs → every_way f es ≡ list_all (λ (x : text.RegionEnd). f x.way) xs
   every-way f [] [] h = refl
   every-way f [] (x ∷ xs) h = absurd h
   every-way f (e ∷ es) [] h = absurd h
   every-way f (e ∷ es) (x ∷ xs) h = let a : way_text e.way ≡ x.way = h.0.way in let b = every-way f es xs h.1 in λ i. f (a i) && b i
 
-  pub mixed-alike : (es : List EndRow) (xs : List text.End) → AreEnds ns es xs → mixed es ≡ are_mixed xs
+  pub mixed-alike : (es : List EndRow) (xs : List text.RegionEnd) → AreEnds ns es xs → mixed es ≡ are_mixed xs
   mixed-alike [] [] h = refl
   mixed-alike [] (x ∷ xs) h = absurd h
   mixed-alike (e ∷ es) [] h = absurd h
-  mixed-alike (e ∷ es) (x ∷ xs) h = some-way (is_other_wait (way_text e.way)) es xs h.1 ∙ ap (λ (w : text.Way). list_any (λ (f : text.End). not (is_same_wait w f.way)) xs) h.0.way
+  mixed-alike (e ∷ es) (x ∷ xs) h = some-way (is_other_wait (way_text e.way)) es xs h.1 ∙ ap (λ (w : text.Way). list_any (λ (f : text.RegionEnd). not (is_same_wait w f.way)) xs) h.0.way
 
-  pub head-alike : (es : List EndRow) (xs : List text.End) → AreEnds ns es xs → head_is_next es ≡ waits_for_head xs
+  pub head-alike : (es : List EndRow) (xs : List text.RegionEnd) → AreEnds ns es xs → head_is_next es ≡ waits_for_head xs
   head-alike [] [] h = refl
   head-alike [] (x ∷ xs) h = absurd h
   head-alike (e ∷ es) [] h = absurd h
   head-alike (e ∷ es) (x ∷ xs) h = ap goes_to_head h.0.way
 
-  pub parts-alike : (es : List EndRow) (xs : List text.End) → AreEnds ns es xs → parts_on es ≡ parts_waited xs
+  pub parts-alike : (es : List EndRow) (xs : List text.RegionEnd) → AreEnds ns es xs → parts_on es ≡ parts_waited xs
   parts-alike [] [] h = refl
   parts-alike [] (x ∷ xs) h = absurd h
   parts-alike (e ∷ es) [] h = absurd h
@@ -194,7 +194,8 @@ pub first-append : (xs ys : List (Bool × Reason)) → first_holding xs ≡ None
 first-append [] ys e = refl
 first-append (x ∷ xs) ys e = at x.0 e (first-append xs ys)
   where
-    at : (b : Bool) → (if b then Some x.1 else first_holding xs) ≡ None → (first_holding xs ≡ None → first_holding (xs ++ ys) ≡ first_holding ys) → (if b then Some x.1 else first_holding (xs ++ ys)) ≡ first_holding ys
+    at : (b : Bool) → (if b then Some x.1 else first_holding xs) ≡ None → (first_holding xs ≡ None → first_holding (xs ++ ys) ≡ first_holding ys)
+        → (if b then Some x.1 else first_holding (xs ++ ys)) ≡ first_holding ys
     at true e f = cc
     at false e f = f e
 
@@ -202,6 +203,7 @@ pub first-found : (xs ys : List (Bool × Reason)) (r : Reason) → first_holding
 first-found [] ys r e = cc
 first-found (x ∷ xs) ys r e = at x.0 e (first-found xs ys r)
   where
-    at : (b : Bool) → (if b then Some x.1 else first_holding xs) ≡ Some r → (first_holding xs ≡ Some r → first_holding (xs ++ ys) ≡ Some r) → (if b then Some x.1 else first_holding (xs ++ ys)) ≡ Some r
+    at : (b : Bool) → (if b then Some x.1 else first_holding xs) ≡ Some r → (first_holding xs ≡ Some r → first_holding (xs ++ ys) ≡ Some r)
+        → (if b then Some x.1 else first_holding (xs ++ ys)) ≡ Some r
     at true e f = e
     at false e f = f e

@@ -21,7 +21,7 @@ use Rattle.lh_shape.specs.Reasons.{is_once, waits_for_head, parts_waited, second
 use Rattle.lh_shape.specs.Merging.{merged_drives}
 use Rattle.lh_shape.specs.Shapes.{ShapeText, comb, edge, once, left, edge_row, shaped, unless_left, shape_by_rows}
 use Rattle.lh_shape.specs.ByIds.{head_is_next, parts_on, drive_at, drives_at, DriveFits, DrivesFit, later_drives, reasons_told, once_only}
-use Rattle.lh_shape.specs.Answers.{IsEdgeRow, AreEdgeRows, IsShape, IsTarget, ShowsEdge, AddsRow, Adds, GivesRows}
+use Rattle.lh_shape.specs.Answers.{IsEdgeRow, AreEdgeRows, IsShape, IsTarget, ShowsEdge, AddsRow, EdgeRowOrReason, GivesRows}
 use Rattle.lh_shape.specs.declared.reason.Reason.{Reason}
 use Rattle.lh_shape.specs.declared.reason.Reason.TheVariants as reason
 use Rattle.lh_shape.specs.declared.kinds.Shape.{Shape}
@@ -110,7 +110,8 @@ pub record RegistersSoFar (old now : List Node) (waited : List Part) (all : List
   pub hides : hidden ≡ list_any (not_shown waited) seen
   pub are : hidden ≡ false → AreEdgeRows now rows (map (edge_row waited) seen)
 
-pub registers-none : (old : List Node) (waited : List Part) (rows : List EdgeRow) (rest : List DriveRow) → rows ≡ [] → DrivesFit old rest → RegistersSoFar old old waited (drives_at old rest) false rows rest
+pub registers-none : (old : List Node) (waited : List Part) (rows : List EdgeRow) (rest : List DriveRow) → rows ≡ [] → DrivesFit old rest
+    → RegistersSoFar old old waited (drives_at old rest) false rows rest
 registers-none old waited rows rest e f = record {
   grows = grows-none old;
   rest_fit = f;
@@ -121,7 +122,8 @@ registers-none old waited rows rest e f = record {
   are = λ _. subst (λ (rs : List EdgeRow). AreEdgeRows old rs []) (sym e) tt;
 }
 
-module _ (old now new : List Node) (waited : List Part) (all : List text.Drive) (hidden : Bool) (rows more : List EdgeRow) (rest left : List DriveRow) (d : DriveRow) (split : rest ≡ d ∷ left) (h : RegistersSoFar old now waited all hidden rows rest) where
+module _ (old now new : List Node) (waited : List Part) (all : List text.Drive) (hidden : Bool) (rows more : List EdgeRow) (rest left : List DriveRow) (d : DriveRow) (split : rest ≡ d ∷ left)
+    (h : RegistersSoFar old now waited all hidden rows rest) where
   rests : DrivesFit old (d ∷ left)
   rests = subst (DrivesFit old) split h.rest_fit
 
@@ -144,7 +146,7 @@ module _ (old now new : List Node) (waited : List Part) (all : List text.Drive) 
   few-next e = any-push too_many h.seen here ∙ (λ i. h.few i || e i)
 
   -- a row was added
-  pub registers-row : Grows now new → Adds new waited (drive_at now d) rows added.Row more → RegistersSoFar old new waited all hidden more left
+  pub registers-row : Grows now new → EdgeRowOrReason new waited (drive_at now d) rows added.Row more → RegistersSoFar old new waited all hidden more left
   registers-row g r =
       let q : ShowsEdge waited here × AddsRow new rows (edge_row waited here) more = subst (λ (x : text.Drive). ShowsEdge waited x × AddsRow new rows (edge_row waited x) more) same r in
       let a = q.1 in
@@ -163,7 +165,7 @@ module _ (old now new : List Node) (waited : List Part) (all : List text.Drive) 
       }
 
   -- or none, since the condition is not edge-shown
-  pub registers-hide : Grows now new → Adds new waited (drive_at now d) rows added.Hidden more → RegistersSoFar old new waited all true more left
+  pub registers-hide : Grows now new → EdgeRowOrReason new waited (drive_at now d) rows added.Hidden more → RegistersSoFar old new waited all true more left
   registers-hide g r =
       let q : (too_many here ≡ false) × (is_edge_shown waited here.cond ≡ false) = subst (λ (x : text.Drive). (too_many x ≡ false) × (is_edge_shown waited x.cond ≡ false)) same r in
       record {
@@ -177,19 +179,22 @@ module _ (old now new : List Node) (waited : List Part) (all : List text.Drive) 
       }
 
   -- too many atoms of one come first
-  pub registers-many : Adds new waited (drive_at now d) rows added.TooMany more → first_holding (trigger_reasons waited all) ≡ Some reason.TooManyAtoms
+  pub registers-many : EdgeRowOrReason new waited (drive_at now d) rows added.TooMany more → first_holding (trigger_reasons waited all) ≡ Some reason.TooManyAtoms
   registers-many q =
       let k : too_many here ≡ true = subst (λ (x : text.Drive). too_many x ≡ true) same q in
       let any : list_any too_many all ≡ true = ap (list_any too_many) (sym parts-split) ∙ any-there too_many h.seen here (drives_at old left) k in
       ap (λ (b : Bool). if b then Some reason.TooManyAtoms else first_holding ((list_any (not_shown waited) all, reason.NoEdge) ∷ [])) any
 
-seen-all : (old now : List Node) (waited : List Part) (all : List text.Drive) (hidden : Bool) (rows : List EdgeRow) (rest : List DriveRow) → rest ≡ [] → (h : RegistersSoFar old now waited all hidden rows rest) → h.seen ≡ all
+seen-all : (old now : List Node) (waited : List Part) (all : List text.Drive) (hidden : Bool) (rows : List EdgeRow) (rest : List DriveRow) → rest ≡ []
+    → (h : RegistersSoFar old now waited all hidden rows rest) → h.seen ≡ all
 seen-all old now waited all hidden rows rest e h = sym (nil-end h.seen) ∙ ap (λ (ds : List DriveRow). h.seen ++ drives_at old ds) (sym e) ∙ h.parts
 
-two-reasons : (waited : List Part) (all : List text.Drive) (a b : Bool) → list_any too_many all ≡ a → list_any (not_shown waited) all ≡ b → first_holding (trigger_reasons waited all) ≡ first_holding ((a, reason.TooManyAtoms) ∷ (b, reason.NoEdge) ∷ [])
+two-reasons : (waited : List Part) (all : List text.Drive) (a b : Bool) → list_any too_many all ≡ a → list_any (not_shown waited) all ≡ b
+    → first_holding (trigger_reasons waited all) ≡ first_holding ((a, reason.TooManyAtoms) ∷ (b, reason.NoEdge) ∷ [])
 two-reasons waited all a b e f = λ i. first_holding ((e i, reason.TooManyAtoms) ∷ (f i, reason.NoEdge) ∷ [])
 
-pub registers-end : (old now : List Node) (waited : List Part) (all : List text.Drive) (hidden : Bool) (rows : List EdgeRow) (rest : List DriveRow) → rest ≡ [] → hidden ≡ false → RegistersSoFar old now waited all hidden rows rest → GivesRows now waited all rows
+pub registers-end : (old now : List Node) (waited : List Part) (all : List text.Drive) (hidden : Bool) (rows : List EdgeRow) (rest : List DriveRow) → rest ≡ [] → hidden ≡ false
+    → RegistersSoFar old now waited all hidden rows rest → GivesRows now waited all rows
 registers-end old now waited all hidden rows rest e k h =
     let s = seen-all old now waited all hidden rows rest e h in
     record {
@@ -197,14 +202,16 @@ registers-end old now waited all hidden rows rest e k h =
       rows = subst (λ (ds : List text.Drive). AreEdgeRows now rows (map (edge_row waited) ds)) s (h.are k);
     }
 
-pub registers-hidden : (old now : List Node) (waited : List Part) (all : List text.Drive) (hidden : Bool) (rows : List EdgeRow) (rest : List DriveRow) → rest ≡ [] → hidden ≡ true → RegistersSoFar old now waited all hidden rows rest → first_holding (trigger_reasons waited all) ≡ Some reason.NoEdge
+pub registers-hidden : (old now : List Node) (waited : List Part) (all : List text.Drive) (hidden : Bool) (rows : List EdgeRow) (rest : List DriveRow) → rest ≡ [] → hidden ≡ true
+    → RegistersSoFar old now waited all hidden rows rest → first_holding (trigger_reasons waited all) ≡ Some reason.NoEdge
 registers-hidden old now waited all hidden rows rest e k h =
     let s = seen-all old now waited all hidden rows rest e h in
     two-reasons waited all false true (ap (list_any too_many) (sym s) ∙ h.few) (ap (list_any (not_shown waited)) (sym s) ∙ sym h.hides ∙ k)
 
 -- ---- one drive
 
-pub row-added : (ns : List Node) (waited : List Part) (d : DriveRow) (x : text.Drive) (row : EdgeRow) (ts : List Trigger) (old new : List EdgeRow) → IsDrive ns d x → GivesTriggers ns waited x.cond ts → row ≡ record { part = d.part; value = d.value; delay = d.delay; triggers = ts } → new ≡ old ++ row ∷ [] → Adds ns waited x old added.Row new
+pub row-added : (ns : List Node) (waited : List Part) (d : DriveRow) (x : text.Drive) (row : EdgeRow) (ts : List Trigger) (old new : List EdgeRow) → IsDrive ns d x → GivesTriggers ns waited x.cond ts
+    → row ≡ record { part = d.part; value = d.value; delay = d.delay; triggers = ts } → new ≡ old ++ row ∷ [] → EdgeRowOrReason ns waited x old added.Row new
 row-added ns waited d x row ts old new h g e a =
     let plain : EdgeRow = record { part = d.part; value = d.value; delay = d.delay; triggers = ts } in
     let is : IsEdgeRow ns plain (edge_row waited x) = record { part = h.part; value = h.value; delay = h.delay; triggers = g.triggers } in
@@ -244,7 +251,8 @@ module _ (ns : List Node) (r : Regions) (x : texts.Regions) (h : AreRegions ns r
   pub shape-by : (new : List Node) (s : Shape) → once_only r.first ≡ false → first_holding (reasons_told ns r) ≡ None
       → IsShape new s (unless_left (first_holding (trigger_reasons on (second_drives x))) (shaped x)) → IsShape new s (shape_by_rows x)
   shape-by new s o e k =
-      let f : first_holding (reasons x) ≡ first_holding (trigger_reasons on (second_drives x)) = first-append (row_reasons x) (trigger_reasons on (second_drives x)) (ap first_holding (sym (reasons-alike ns r x h)) ∙ e) in
+      let f : first_holding (reasons x) ≡ first_holding (trigger_reasons on (second_drives x)) =
+      first-append (row_reasons x) (trigger_reasons on (second_drives x)) (ap first_holding (sym (reasons-alike ns r x h)) ∙ e) in
       let a : is_once x.first ≡ false = sym (once-alike ns r.first x.first h.first) ∙ o in
       let q : shape_by_rows x ≡ unless_left (first_holding (trigger_reasons on (second_drives x))) (shaped x) = (λ i. if a i then once x.first.drives else unless_left (f i) (shaped x)) in
       subst (IsShape new s) (sym q) k
@@ -252,12 +260,14 @@ module _ (ns : List Node) (r : Regions) (x : texts.Regions) (h : AreRegions ns r
   pub conditions-left : (new : List Node) (waited : List Part) (z : Reason) → waited ≡ parts_on r.first.ends → first_holding (trigger_reasons waited (drives_at ns (later_drives r))) ≡ Some z
       → IsShape new (kind.Left z) (unless_left (first_holding (trigger_reasons on (second_drives x))) (shaped x))
   conditions-left new waited z w e =
-      let f : first_holding (trigger_reasons on (second_drives x)) ≡ Some z = ap first_holding (sym trigger-reasons-are) ∙ ap (λ (ps : List Part). first_holding (trigger_reasons ps (drives_at ns (later_drives r)))) (sym w) ∙ e in
+      let f : first_holding (trigger_reasons on (second_drives x)) ≡ Some z = ap first_holding (sym trigger-reasons-are)
+      ∙ ap (λ (ps : List Part). first_holding (trigger_reasons ps (drives_at ns (later_drives r)))) (sym w) ∙ e in
       subst (λ (o : Option Reason). IsShape new (kind.Left z) (unless_left o (shaped x))) (sym f) refl
 
   -- combinational or registers, as the region waits for the head or not
   by-target : (new : List Node) (s : Shape) (mid : List Node) (waited : List Part) (rows : List EdgeRow) → waited ≡ on → drives_at mid r.first.drives ≡ x.first.drives → Grows mid new
-      → AreEdgeRows mid rows (map (edge_row waited) (drives_at ns (later_drives r))) → (b : Bool) → waits_for_head x.first.ends ≡ b → IsTarget b mid new waited r.first.drives rows s → IsShape new s (shaped x)
+      → AreEdgeRows mid rows (map (edge_row waited) (drives_at ns (later_drives r))) → (b : Bool) → waits_for_head x.first.ends ≡ b → IsTarget b mid new waited r.first.drives rows s
+      → IsShape new s (shaped x)
   by-target new s mid waited rows v firsts g k true e t =
       let both : comb waited (merged_drives (drives_at mid r.first.drives)) ≡ comb on (merged_drives x.first.drives) = (λ i. comb (v i) (merged_drives (firsts i))) in
       let whole : shaped x ≡ comb on (merged_drives x.first.drives) = ap (λ (b : Bool). if b then comb on (merged_drives x.first.drives) else edge (map (edge_row on) (second_drives x))) e in
@@ -265,10 +275,12 @@ module _ (ns : List Node) (r : Regions) (x : texts.Regions) (h : AreRegions ns r
   by-target new s mid waited rows v firsts g k false e t =
       let both : map (edge_row waited) (drives_at ns (later_drives r)) ≡ map (edge_row on) (second_drives x) = (λ i. map (edge_row (v i)) (later-are i)) in
       let whole : shaped x ≡ edge (map (edge_row on) (second_drives x)) = ap (λ (b : Bool). if b then comb on (merged_drives x.first.drives) else edge (map (edge_row on) (second_drives x))) e in
-      let rows_are : AreEdgeRows new rows (map (edge_row on) (second_drives x)) = subst (AreEdgeRows new rows) both (rows-grown mid new rows (map (edge_row waited) (drives_at ns (later_drives r))) g k) in
+      let rows_are : AreEdgeRows new rows (map (edge_row on) (second_drives x)) = subst (AreEdgeRows new rows) both
+      (rows-grown mid new rows (map (edge_row waited) (drives_at ns (later_drives r))) g k) in
       subst (λ (z : Shape). IsShape new z (shaped x)) (sym t) (subst (IsShape new (kind.Edge rows)) (sym whole) rows_are)
 
-  pub conditions-shape : (mid new : List Node) (waited : List Part) (rows : List EdgeRow) (s : Shape) → waited ≡ parts_on r.first.ends → drives_at mid r.first.drives ≡ drives_at ns r.first.drives → Grows mid new
+  pub conditions-shape : (mid new : List Node) (waited : List Part) (rows : List EdgeRow) (s : Shape) → waited ≡ parts_on r.first.ends → drives_at mid r.first.drives ≡ drives_at ns r.first.drives
+      → Grows mid new
       → GivesRows mid waited (drives_at ns (later_drives r)) rows → IsTarget (head_is_next r.first.ends) mid new waited r.first.drives rows s
       → IsShape new s (unless_left (first_holding (trigger_reasons on (second_drives x))) (shaped x))
   conditions-shape mid new waited rows s w d g k t =

@@ -11,7 +11,7 @@ use Rattle.lh_term.specs.Types.{type_of, Chooses}
 use Rattle.lh_term.specs.SameTree.{same_tree}
 use Rattle.lh_term.specs.Make.{make_operation, make_choice}
 use Rattle.lh_term.specs.Conjuncts.{conjuncts_of}
-use Rattle.lh_term.specs.Arena.{trees, tree_at, trees_at, ids_below, AreIn, Stands, Grows}
+use Rattle.lh_term.specs.Arena.{trees, tree_at, trees_at, ids_below, AreIn, StandsForTree, Grows}
 use Rattle.lh_term.specs.declared.part.Part.{Part}
 use Rattle.lh_term.specs.declared.term.Node.{Node}
 use Rattle.lh_term.specs.declared.term.TermId.{TermId}
@@ -28,7 +28,7 @@ use Rattle.lh_joins.proofs.Conditions.{condition-grown, stands-condition, grows-
 use Rattle.lh_region.specs.Stands.{IsDrive, AreDrives}
 use Rattle.lh_region.specs.declared.rows.DriveRow.{DriveRow}
 use Rattle.lh_shape.specs.Merging.{are_alike, merged_from}
-use Rattle.lh_shape.specs.Merged.{TakesIf, Takes}
+use Rattle.lh_shape.specs.Merged.{MergesDriveIf, MergesDrive}
 use Rattle.lh_shape.specs.ByIds.{drive_at, drives_at, DriveFits, DrivesFit}
 use Rattle.lh_shape.proofs.Merging.{part-alike}
 use Rattle.lh_shape.proofs.Alike.{drive-is}
@@ -106,12 +106,13 @@ merged-fits now new a b next f g e h =
 -- ---- `take`
 
 pub takes-both : (old new : List Node) (merged : List DriveRow) (last drive : DriveRow) (more : List DriveRow) (next : DriveRow) →
-    true ≡ are_alike (drive_at old last) (drive_at old drive) → more ≡ merged → IsDrive new next (drive_merged (drive_at old last) (drive_at old drive)) → Takes old new merged last drive more next
-takes-both old new merged last drive more next e m h = subst (λ (b : Bool). TakesIf b old new merged last drive more next) e (m, h)
+    true ≡ are_alike (drive_at old last) (drive_at old drive) → more ≡ merged → IsDrive new next (drive_merged (drive_at old last) (drive_at old drive))
+    → MergesDrive old new merged last drive more next
+takes-both old new merged last drive more next e m h = subst (λ (b : Bool). MergesDriveIf b old new merged last drive more next) e (m, h)
 
 pub takes-one : (old new : List Node) (merged : List DriveRow) (last drive : DriveRow) (more : List DriveRow) (next : DriveRow) →
-    false ≡ are_alike (drive_at old last) (drive_at old drive) → more ≡ merged ++ last ∷ [] → next ≡ drive → Takes old new merged last drive more next
-takes-one old new merged last drive more next e m h = subst (λ (b : Bool). TakesIf b old new merged last drive more next) e (m, h)
+    false ≡ are_alike (drive_at old last) (drive_at old drive) → more ≡ merged ++ last ∷ [] → next ≡ drive → MergesDrive old new merged last drive more next
+takes-one old new merged last drive more next e m h = subst (λ (b : Bool). MergesDriveIf b old new merged last drive more next) e (m, h)
 
 -- ---- the loop
 
@@ -135,7 +136,8 @@ merged-none old first last merged rest m e f g = record {
   so_far = ap (λ (d : DriveRow). merged_from (drive_at old d) (drives_at old rest)) e;
 }
 
-module _ (old now new : List Node) (all : List text.Drive) (merged more : List DriveRow) (last d next : DriveRow) (rest left : List DriveRow) (split : rest ≡ d ∷ left) (h : MergedSoFar old now all merged last rest) where
+module _ (old now new : List Node) (all : List text.Drive) (merged more : List DriveRow) (last d next : DriveRow) (rest left : List DriveRow) (split : rest ≡ d ∷ left)
+    (h : MergedSoFar old now all merged last rest) where
   rests : DrivesFit old (d ∷ left)
   rests = subst (DrivesFit old) split h.rest_fit
 
@@ -148,10 +150,10 @@ module _ (old now new : List Node) (all : List text.Drive) (merged more : List D
   step : h.done ++ merged_from (drive_at now last) (drives_at old (d ∷ left)) ≡ all
   step = ap (λ (ds : List DriveRow). h.done ++ merged_from (drive_at now last) (drives_at old ds)) (sym split) ∙ h.so_far
 
-  pub merged-next : Grows now new → Takes now new merged last d more next → MergedSoFar old new all more next left
+  pub merged-next : Grows now new → MergesDrive now new merged last d more next → MergedSoFar old new all more next left
   merged-next g t = at (are_alike (drive_at now last) (drive_at now d)) refl t
     where
-      at : (b : Bool) → are_alike (drive_at now last) (drive_at now d) ≡ b → TakesIf b now new merged last d more next → MergedSoFar old new all more next left
+      at : (b : Bool) → are_alike (drive_at now last) (drive_at now d) ≡ b → MergesDriveIf b now new merged last d more next → MergedSoFar old new all more next left
       at true e t = record {
         grows = grows_on old now new h.grows g;
         done = h.done;
@@ -161,27 +163,32 @@ module _ (old now new : List Node) (all : List text.Drive) (merged more : List D
         so_far =
             ap (λ (x : text.Drive). h.done ++ merged_from x (drives_at old left)) (drive-is new next (drive_merged (drive_at now last) (drive_at now d)) t.1)
             ∙ ap (λ (x : text.Drive). h.done ++ merged_from (drive_merged (drive_at now last) x) (drives_at old left)) same
-            ∙ ap (λ (b : Bool). h.done ++ (if b then merged_from (drive_merged (drive_at now last) (drive_at old d)) (drives_at old left) else drive_at now last ∷ merged_from (drive_at old d) (drives_at old left))) (sym (ap (are_alike (drive_at now last)) (sym same) ∙ e))
+            ∙ ap (λ (b : Bool). h.done ++ (if b then merged_from (drive_merged (drive_at now last) (drive_at old d)) (drives_at old left) else drive_at now last
+            ∷ merged_from (drive_at old d) (drives_at old left))) (sym (ap (are_alike (drive_at now last)) (sym same) ∙ e))
             ∙ step;
       }
       at false e t = record {
         grows = grows_on old now new h.grows g;
         done = h.done ++ drive_at now last ∷ [];
-        are = subst (λ (ds : List DriveRow). AreDrives new ds (h.done ++ drive_at now last ∷ [])) (sym t.0) (drives-grown now new (merged ++ last ∷ []) (h.done ++ drive_at now last ∷ []) g (drives-push now merged h.done last (drive_at now last) h.are (is-itself now last h.fits)));
+        are = subst (λ (ds : List DriveRow). AreDrives new ds (h.done ++ drive_at now last ∷ [])) (sym t.0)
+            (drives-grown now new (merged ++ last ∷ []) (h.done ++ drive_at now last ∷ []) g (drives-push now merged h.done last (drive_at now last) h.are (is-itself now last h.fits)));
         fits = subst (DriveFits new) (sym t.1) (fits-grown now new d g next-fits);
         rest_fit = rests.1;
         so_far =
             ap (λ (x : DriveRow). (h.done ++ drive_at now last ∷ []) ++ merged_from (drive_at new x) (drives_at old left)) t.1
             ∙ ap (λ (x : text.Drive). (h.done ++ drive_at now last ∷ []) ++ merged_from x (drives_at old left)) (drive-grown now new d g next-fits ∙ same)
             ∙ append_assoc h.done (drive_at now last ∷ []) (merged_from (drive_at old d) (drives_at old left))
-            ∙ ap (λ (b : Bool). h.done ++ (if b then merged_from (drive_merged (drive_at now last) (drive_at old d)) (drives_at old left) else drive_at now last ∷ merged_from (drive_at old d) (drives_at old left))) (sym (ap (are_alike (drive_at now last)) (sym same) ∙ e))
+            ∙ ap (λ (b : Bool). h.done ++ (if b then merged_from (drive_merged (drive_at now last) (drive_at old d)) (drives_at old left) else drive_at now last
+            ∷ merged_from (drive_at old d) (drives_at old left))) (sym (ap (are_alike (drive_at now last)) (sym same) ∙ e))
             ∙ step;
       }
 
-pub merged-end : (old now : List Node) (all : List text.Drive) (merged more : List DriveRow) (last : DriveRow) (rest : List DriveRow) → rest ≡ [] → more ≡ merged ++ last ∷ [] → MergedSoFar old now all merged last rest → AreDrives now more all
+pub merged-end : (old now : List Node) (all : List text.Drive) (merged more : List DriveRow) (last : DriveRow) (rest : List DriveRow) → rest ≡ [] → more ≡ merged ++ last ∷ []
+    → MergedSoFar old now all merged last rest → AreDrives now more all
 merged-end old now all merged more last rest e m h =
     let whole : h.done ++ drive_at now last ∷ [] ≡ all = ap (λ (ds : List DriveRow). h.done ++ merged_from (drive_at now last) (drives_at old ds)) (sym e) ∙ h.so_far in
-    subst (AreDrives now more) whole (subst (λ (ds : List DriveRow). AreDrives now ds (h.done ++ drive_at now last ∷ [])) (sym m) (drives-push now merged h.done last (drive_at now last) h.are (is-itself now last h.fits)))
+    subst (AreDrives now more) whole (subst (λ (ds : List DriveRow). AreDrives now ds (h.done ++ drive_at now last ∷ [])) (sym m)
+    (drives-push now merged h.done last (drive_at now last) h.are (is-itself now last h.fits)))
 
 -- ---- `selector`
 
@@ -207,7 +214,8 @@ bits-conditions ns (t ∷ ts) i b =
     (record { is_in = lt_of t.0 (length ns) p.0; cond = record { typed = b.0.typed; type = b.0.type } }, bits-conditions ns ts p.1 b.1)
 
 -- the conjuncts of a condition beyond those of another are conditions
-pub beyond-conditions : (ns : List Node) (c d : TermId) (ts : List TermId) → IsConditionAt ns d → AreIn ns ts → trees_at ns ts ≡ beyond-all (tree_at (trees ns) c) (tree_at (trees ns) d) → Each (IsConditionAt ns) ts
+pub beyond-conditions : (ns : List Node) (c d : TermId) (ts : List TermId) → IsConditionAt ns d → AreIn ns ts → trees_at ns ts ≡ beyond-all (tree_at (trees ns) c) (tree_at (trees ns) d)
+    → Each (IsConditionAt ns) ts
 beyond-conditions ns c d ts i w e =
     let x : Tree = tree_at (trees ns) d in
     let bits : AllBits (conjuncts_of x) = conjuncts_are_bits x i.cond.typed i.cond.type in
@@ -216,7 +224,8 @@ beyond-conditions ns c d ts i w e =
 -- ---- `join`
 
 -- the choice between the values of two drives
-pub join-chooses : (old new : List Node) (a b : DriveRow) (t : TermId) → Grows old new → DriveFits old a → DriveFits old b → b.part ≡ a.part → Stands new t (beyond (tree_at (trees old) a.cond) (tree_at (trees old) b.cond)) →
+pub join-chooses : (old new : List Node) (a b : DriveRow) (t : TermId) → Grows old new → DriveFits old a → DriveFits old b → b.part ≡ a.part
+    → StandsForTree new t (beyond (tree_at (trees old) a.cond) (tree_at (trees old) b.cond)) →
     Chooses (type_of (tree_at (trees new) t)) (type_of (tree_at (trees new) a.value)) (type_of (tree_at (trees new) b.value))
 join-chooses old new a b t g f k e h =
     let ca : Tree = tree_at (trees old) a.cond in
@@ -228,9 +237,9 @@ join-chooses old new a b t g f k e h =
 
 -- what was made is the drive of both
 pub join-is : (old one two new : List Node) (a b : DriveRow) (t value cond : TermId) → Grows old one → Grows one two → Grows two new → DriveFits old a → DriveFits old b →
-    Stands one t (beyond (tree_at (trees old) a.cond) (tree_at (trees old) b.cond)) →
-    Stands two value (make_choice (tree_at (trees one) t) (tree_at (trees one) a.value) (tree_at (trees one) b.value)) →
-    Stands new cond (make_operation Or (tree_at (trees two) a.cond ∷ tree_at (trees two) b.cond ∷ [])) →
+    StandsForTree one t (beyond (tree_at (trees old) a.cond) (tree_at (trees old) b.cond)) →
+    StandsForTree two value (make_choice (tree_at (trees one) t) (tree_at (trees one) a.value) (tree_at (trees one) b.value)) →
+    StandsForTree new cond (make_operation Or (tree_at (trees two) a.cond ∷ tree_at (trees two) b.cond ∷ [])) →
     IsDrive new (record { cond = cond; part = a.part; value = value; delay = a.delay }) (drive_merged (drive_at old a) (drive_at old b))
 join-is old one two new a b t value cond g1 g2 g3 f k s v c =
     let g12 = grows_on old one two g1 g2 in
@@ -240,7 +249,8 @@ join-is old one two new a b t value cond g1 g2 g3 f k s v c =
     let va = tree_grown old one g1 a.value f.value_in in
     let vb = tree_grown old one g1 b.value k.value_in in
     let st = s.tree in
-    let whole : make_choice (tree_at (trees one) t) (tree_at (trees one) a.value) (tree_at (trees one) b.value) ≡ make_choice (beyond (tree_at (trees old) a.cond) (tree_at (trees old) b.cond)) (tree_at (trees old) a.value) (tree_at (trees old) b.value) = λ i. make_choice (st i) (va i) (vb i) in
+    let whole : make_choice (tree_at (trees one) t) (tree_at (trees one) a.value) (tree_at (trees one) b.value)
+    ≡ make_choice (beyond (tree_at (trees old) a.cond) (tree_at (trees old) b.cond)) (tree_at (trees old) a.value) (tree_at (trees old) b.value) = λ i. make_choice (st i) (va i) (vb i) in
     let v2 = stands_grown two new g3 value (make_choice (tree_at (trees one) t) (tree_at (trees one) a.value) (tree_at (trees one) b.value)) v in
     record {
       cond = record { is_in = c.is_in; tree = c.tree ∙ (λ i. make_operation Or (ca i ∷ cb i ∷ [])) };

@@ -15,7 +15,8 @@ use Rattle.lh_term.proofs.Sound.{negated_term, anded_term}
 use Rattle.lh_rows.specs.Rows.{Drive}
 use Rattle.lh_rows.specs.Adjacent.{beyond, drive_merged}
 use Rattle.lh_shape.specs.Merging.{are_alike, merged_from, merged_drives}
-use Rattle.lh_shape.specs.Reading.{AllParts, AllPartsIn, DriveReads}
+use Rattle.lh_term.specs.Leaves.{AllParts, AllPartsIn}
+use Rattle.lh_shape.specs.Reading.{DriveReads}
 
 module _ (P : Part → Type 0) where
   -- ---- terms as made

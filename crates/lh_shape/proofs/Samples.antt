@@ -14,7 +14,7 @@ use Rattle.lh_edge.specs.Shown.{has_too_many_atoms, is_edge_shown}
 use Rattle.lh_edge.specs.Triggers.{gate_of, triggers_of}
 use Rattle.lh_flat.specs.Flat.{refused, recursive_call, call_too_deep, flat_too_large}
 use Rattle.lh_rows.specs.Known.{nothing_known}
-use Rattle.lh_rows.specs.Rows.{Drive, Way, halts, enters_head, waits, End, Rows}
+use Rattle.lh_rows.specs.Rows.{Drive, Way, halts, enters_head, waits, RegionEnd, Rows}
 use Rattle.lh_rows.specs.Regions.{Regions, no_regions, head_phi, too_many_turns, region_too_large}
 use Rattle.lh_shape.specs.declared.reason.Reason.TheVariants as reason
 use Rattle.lh_shape.specs.Shapes.{comb, edge, once, left, shape_by_rows, shape_by_regions, shape_by_text}
@@ -30,10 +30,10 @@ at_once = constant (time_value (record { fs = 0; delta = 1; eps = 0 }))
 abbrev driven : (cond value delay : Tree) → Drive
 driven c v d = record { cond = c; part = bit 2; value = v; delay = d }
 
-abbrev ends_so : Tree → Way → End
+abbrev ends_so : Tree → Way → RegionEnd
 ends_so c w = record { cond = c; way = w; from = []; known = nothing_known }
 
-abbrev rows_of : List Part → List Drive → List Tree → List End → Rows
+abbrev rows_of : List Part → List Drive → List Tree → List RegionEnd → Rows
 rows_of ps ds ts es = record { probes = ps; drives = ds; asserts = ts; ends = es }
 
 -- rows that wait for the head on argument 0
@@ -41,13 +41,13 @@ abbrev looping : List Part → List Drive → List Tree → Regions
 looping ps ds ts = record { first = rows_of ps ds ts (ends_so (bit_of true) (waits 0 true (bit 0 ∷ []) false) ∷ []); second = None }
 
 -- rows that wait for another block on argument 0, and then drive
-abbrev clocked : List Drive → List Drive → List End → Regions
+abbrev clocked : List Drive → List Drive → List RegionEnd → Regions
 clocked before after es = record {
   first = rows_of (bit 0 ∷ []) before [] (ends_so (bit_of true) (waits 1 false (bit 0 ∷ []) false) ∷ []);
   second = Some (rows_of (bit 0 ∷ []) after [] es);
 }
 
-abbrev at_head : List End
+abbrev at_head : List RegionEnd
 at_head = ends_so (bit_of true) enters_head ∷ []
 
 abbrev rises : ℕ → Tree
@@ -85,7 +85,11 @@ waits_for_a_time : shape_by_rows (record { first = rows_of [] [] [] (ends_so (bi
 waits_for_a_time = refl
 
 -- on one bit or on another
-waits_so_or_so : shape_by_rows (record { first = rows_of (bit 0 ∷ []) [] [] (ends_so (now_of (bit 0)) (waits 0 true (bit 0 ∷ []) false) ∷ ends_so (make_operation Not (now_of (bit 0) ∷ [])) (waits 0 true (bit 1 ∷ []) false) ∷ []); second = None }) ≡ left reason.MixedWaits
+waits_so_or_so : shape_by_rows (record {
+  first = rows_of (bit 0 ∷ []) [] []
+      (ends_so (now_of (bit 0)) (waits 0 true (bit 0 ∷ []) false) ∷ ends_so (make_operation Not (now_of (bit 0) ∷ [])) (waits 0 true (bit 1 ∷ []) false) ∷ []);
+  second = None;
+}) ≡ left reason.MixedWaits
 unfolding apply integer_row row_width
 waits_so_or_so = refl
 
@@ -131,5 +135,6 @@ loads_at_a_rise : shape_by_rows (clocked [] (driven (rises 0) (now_of (bit 1)) a
 unfolding has_too_many_atoms is_edge_shown triggers_of edge_part atoms_of gate_of apply integer_row row_width
 loads_at_a_rise = refl
 
-drives_once : shape_by_rows (record { first = rows_of [] (driven (bit_of true) (bit_of true) at_once ∷ []) [] (ends_so (bit_of true) halts ∷ []); second = None }) ≡ once (driven (bit_of true) (bit_of true) at_once ∷ [])
+drives_once : shape_by_rows (record { first = rows_of [] (driven (bit_of true) (bit_of true) at_once ∷ []) [] (ends_so (bit_of true) halts ∷ []); second = None })
+    ≡ once (driven (bit_of true) (bit_of true) at_once ∷ [])
 drives_once = refl

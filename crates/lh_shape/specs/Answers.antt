@@ -2,7 +2,7 @@
 use Rattle.std.specs.Prelude.{◌≡◌, List, [], ◌∷◌, ◌++◌, Bool, true, false, map, Some, None}
 use Rattle.lh_term.specs.declared.part.Part.{Part}
 use Rattle.lh_term.specs.declared.term.Node.{Node}
-use Rattle.lh_term.specs.Arena.{Stands}
+use Rattle.lh_term.specs.Arena.{StandsForTree}
 use Rattle.lh_edge.specs.Shown.{has_too_many_atoms, is_edge_shown}
 use Rattle.lh_edge.specs.Triggers.{EdgeRowTree}
 use Rattle.lh_edge.specs.Answers.{AreTriggers}
@@ -24,8 +24,8 @@ use Rattle.lh_shape.specs.declared.shape.Registers.TheVariants as registers
 -- the row of registers is that one
 pub record IsEdgeRow (ns : List Node) (r : EdgeRow) (x : EdgeRowTree) : Type 0 where
   pub part : r.part ≡ x.part
-  pub value : Stands ns r.value x.value
-  pub delay : Stands ns r.delay x.delay
+  pub value : StandsForTree ns r.value x.value
+  pub delay : StandsForTree ns r.delay x.delay
   pub triggers : AreTriggers ns r.triggers x.triggers
 
 -- the rows are those, one by one
@@ -61,10 +61,10 @@ pub record AddsRow (ns : List Node) (old : List EdgeRow) (x : EdgeRowTree) (new 
   pub is : IsEdgeRow ns row x
 
 -- the row of a drive was added; or its condition is not edge-shown; or it has too many atoms
-abbrev pub Adds : List Node → (waited : List Part) → Drive → (old : List EdgeRow) → Added → (new : List EdgeRow) → Type 0
-Adds ns waited d old added.Row new = ShowsEdge waited d × AddsRow ns old (edge_row waited d) new
-Adds ns waited d old added.Hidden new = (has_too_many_atoms d.cond ≡ false) × (is_edge_shown waited d.cond ≡ false)
-Adds ns waited d old added.TooMany new = has_too_many_atoms d.cond ≡ true
+abbrev pub EdgeRowOrReason : List Node → (waited : List Part) → Drive → (old : List EdgeRow) → Added → (new : List EdgeRow) → Type 0
+EdgeRowOrReason ns waited d old added.Row new = ShowsEdge waited d × AddsRow ns old (edge_row waited d) new
+EdgeRowOrReason ns waited d old added.Hidden new = (has_too_many_atoms d.cond ≡ false) × (is_edge_shown waited d.cond ≡ false)
+EdgeRowOrReason ns waited d old added.TooMany new = has_too_many_atoms d.cond ≡ true
 
 -- no reason holds, and the rows are those of the drives
 pub record GivesRows (ns : List Node) (waited : List Part) (ds : List Drive) (rs : List EdgeRow) : Type 0 where

@@ -8,9 +8,9 @@ use Rattle.lh_shape.specs.Merging.{are_alike}
 use Rattle.lh_shape.specs.ByIds.{drive_at}
 
 -- the last drive is that of both, if they are alike; else the one before was put to the others, and the last one is the new one
-abbrev pub TakesIf : Bool → (old new : List Node) → (merged : List DriveRow) → (last drive : DriveRow) → (more : List DriveRow) → (next : DriveRow) → Type 0
-TakesIf true old new merged last drive more next = (more ≡ merged) × IsDrive new next (drive_merged (drive_at old last) (drive_at old drive))
-TakesIf false old new merged last drive more next = (more ≡ merged ++ last ∷ []) × (next ≡ drive)
+abbrev pub MergesDriveIf : Bool → (old new : List Node) → (merged : List DriveRow) → (last drive : DriveRow) → (more : List DriveRow) → (next : DriveRow) → Type 0
+MergesDriveIf true old new merged last drive more next = (more ≡ merged) × IsDrive new next (drive_merged (drive_at old last) (drive_at old drive))
+MergesDriveIf false old new merged last drive more next = (more ≡ merged ++ last ∷ []) × (next ≡ drive)
 
-abbrev pub Takes : (old new : List Node) → (merged : List DriveRow) → (last drive : DriveRow) → (more : List DriveRow) → (next : DriveRow) → Type 0
-Takes old new merged last drive more next = TakesIf (are_alike (drive_at old last) (drive_at old drive)) old new merged last drive more next
+abbrev pub MergesDrive : (old new : List Node) → (merged : List DriveRow) → (last drive : DriveRow) → (more : List DriveRow) → (next : DriveRow) → Type 0
+MergesDrive old new merged last drive more next = MergesDriveIf (are_alike (drive_at old last) (drive_at old drive)) old new merged last drive more next

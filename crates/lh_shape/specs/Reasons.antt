@@ -8,7 +8,7 @@ use Rattle.lh_cover.specs.Bits.{covers, same_bits}
 use Rattle.lh_edge.specs.Atoms.{contains_past}
 use Rattle.lh_edge.specs.Shown.{has_too_many_atoms, is_edge_shown}
 use Rattle.lh_flat.specs.Flat.{FlatRefusal, recursive_call, call_too_deep, flat_too_large}
-use Rattle.lh_rows.specs.Rows.{Drive, Way, halts, waits, End, Rows}
+use Rattle.lh_rows.specs.Rows.{Drive, Way, halts, waits, RegionEnd, Rows}
 use Rattle.lh_rows.specs.Regions.{RegionRefusal, head_phi, too_many_turns, region_too_large, Regions, waited_parts}
 use Rattle.lh_shape.specs.declared.reason.Reason.{Reason}
 use Rattle.lh_shape.specs.declared.reason.Reason.TheVariants as reason
@@ -18,7 +18,7 @@ is_halt halts = true
 is_halt _ = false
 
 -- an end is at `halt`
-abbrev pub ends_halted : End → Bool
+abbrev pub ends_halted : RegionEnd → Bool
 ends_halted e = is_halt e.way
 
 abbrev pub is_empty : {A : Type 0} → List A → Bool
@@ -48,22 +48,22 @@ is_same_wait (waits b to_head ps timed) (waits c to_head' qs timed') = nat_eq b 
 is_same_wait _ _ = false
 
 -- the ends differ in where they lead or in the bits that they wait on
-abbrev pub are_mixed : List End → Bool
+abbrev pub are_mixed : List RegionEnd → Bool
 are_mixed [] = false
-are_mixed (e ∷ more) = list_any (λ (f : End). not (is_same_wait e.way f.way)) more
+are_mixed (e ∷ more) = list_any (λ (f : RegionEnd). not (is_same_wait e.way f.way)) more
 
 abbrev pub goes_to_head : Way → Bool
 goes_to_head (waits target to_head parts timed) = to_head
 goes_to_head _ = false
 
 -- the target of the first end is the head
-abbrev pub waits_for_head : List End → Bool
+abbrev pub waits_for_head : List RegionEnd → Bool
 waits_for_head [] = false
 waits_for_head (e ∷ more) = goes_to_head e.way
 
 -- the parts on which the ends wait, one after the other
-abbrev pub parts_waited : List End → List Part
-parts_waited es = flat_map (λ (e : End). waited_parts e.way) es
+abbrev pub parts_waited : List RegionEnd → List Part
+parts_waited es = flat_map (λ (e : RegionEnd). waited_parts e.way) es
 
 -- a bit is probed and not waited on
 abbrev pub is_insensitive : Rows → Bool
@@ -73,7 +73,7 @@ is_insensitive r = list_any (λ p. not (covers (parts_waited r.ends) p)) r.probe
 abbrev pub second_drives : Regions → List Drive
 second_drives r = option_map_or (λ (s : Rows). s.drives) r.second []
 
-abbrev pub second_ends : Regions → List End
+abbrev pub second_ends : Regions → List RegionEnd
 second_ends r = option_map_or (λ (s : Rows). s.ends) r.second []
 
 -- the reasons that come before the conditions of the second region are looked at, each with whether it holds
@@ -81,12 +81,12 @@ abbrev pub row_reasons : Regions → List (Bool × Reason)
 row_reasons r =
     (in_some (λ s. list_any ends_halted s.ends) r, reason.Halts)
     ∷ (in_some (λ s. not (is_empty s.asserts)) r, reason.Asserts)
-    ∷ (list_any (λ (e : End). is_timed e.way) r.first.ends, reason.TimedWait)
+    ∷ (list_any (λ (e : RegionEnd). is_timed e.way) r.first.ends, reason.TimedWait)
     ∷ (are_mixed r.first.ends, reason.MixedWaits)
     ∷ (waits_for_head r.first.ends && is_insensitive r.first, reason.NotSensitive)
     ∷ (in_some (λ s. list_any (λ (d : Drive). not (is_constant d.delay)) s.drives) r, reason.DelayNotConstant)
     ∷ (not (waits_for_head r.first.ends) && not (is_empty r.first.drives), reason.DrivesBeforeWait)
-    ∷ (list_any (λ (e : End). is_wait e.way) (second_ends r), reason.WaitsTwice)
+    ∷ (list_any (λ (e : RegionEnd). is_wait e.way) (second_ends r), reason.WaitsTwice)
     ∷ (list_any (λ (d : Drive). contains_past d.value) (second_drives r), reason.PastValueDriven)
     ∷ []
 

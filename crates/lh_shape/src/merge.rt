@@ -1,12 +1,12 @@
 //! Drives of one part after one delay that follow each other, as one.
 ghost use Rattle.std.specs.Prelude.{◌≡◌, IfOk, OnOk};
 ghost use Rattle.lh_joins.specs.Joins.{IsConditionAt};
-ghost use Rattle.lh_term.specs.Arena.{trees, tree_at, Stands, Grows};
+ghost use Rattle.lh_term.specs.Arena.{trees, tree_at, StandsForTree, Grows};
 ghost use Rattle.lh_region.specs.Stands.{IsDrive, AreDrives};
 ghost use Rattle.lh_rows.specs.Adjacent.{beyond, drive_merged};
 ghost use Rattle.lh_shape.specs.ByIds.{drive_at, drives_at, DriveFits, DrivesFit};
 ghost use Rattle.lh_shape.specs.Merging as spec;
-ghost use Rattle.lh_shape.specs.Merged.{Takes};
+ghost use Rattle.lh_shape.specs.Merged.{MergesDrive};
 
 use lh_joins::edge::Edge;
 use lh_joins::joins::{Shared, conjunction};
@@ -64,7 +64,7 @@ fn take(
 ) -> Result<DriveRow, NoMemory>
     requires last_fits { DriveFits terms.old last }
     requires drive_fits { DriveFits terms.old drive.now }
-    ensures takes { IfOk result (λ next. Takes terms.old terms.new merged.old last drive.now merged.new next) }
+    ensures takes { IfOk result (λ next. MergesDrive terms.old terms.new merged.old last drive.now merged.new next) }
     ensures kept { Grows terms.old terms.new }
 {
     if are_alike(terms, &last, drive) {
@@ -119,7 +119,7 @@ fn selector(
 ) -> Result<TermId, NoMemory>
     requires first_is { IsConditionAt terms.old first }
     requires second_is { IsConditionAt terms.old second }
-    ensures made { IfOk result (λ t. Stands terms.new t (beyond (tree_at (trees terms.old) first) (tree_at (trees terms.old) second))) }
+    ensures made { IfOk result (λ t. StandsForTree terms.new t (beyond (tree_at (trees terms.old) first) (tree_at (trees terms.old) second))) }
     ensures kept { Grows terms.old terms.new }
 {
     let edge = Edge {

@@ -3,7 +3,7 @@ ghost use Rattle.std.specs.Prelude.{◌≡◌, false, None, IfOk};
 ghost use Rattle.lh_term.specs.Arena.{Grows};
 ghost use Rattle.lh_rows.specs.Regions.{Regions as RegionsOf};
 ghost use Rattle.lh_region.specs.Stands.{AreRegions};
-ghost use Rattle.lh_shape.specs.Answers.{IsShape, IsTarget, Adds, AreRegisters};
+ghost use Rattle.lh_shape.specs.Answers.{IsShape, IsTarget, EdgeRowOrReason, AreRegisters};
 ghost use Rattle.lh_shape.specs.ByIds as ids;
 ghost use Rattle.lh_shape.specs.ByIds.{drive_at, drives_at, later_drives, DriveFits, DrivesFit, RegionsFit};
 ghost use Rattle.lh_shape.specs.Reasons.{first_holding};
@@ -151,7 +151,7 @@ fn add_registers(
     rows: &mut EdgeRowList,
 ) -> Result<Added, NoMemory>
     requires { DriveFits terms.old drive.now }
-    ensures adds { IfOk result (λ added. Adds terms.new waited.now (drive_at terms.old drive.now) rows.old added rows.new) }
+    ensures adds { IfOk result (λ added. EdgeRowOrReason terms.new waited.now (drive_at terms.old drive.now) rows.old added rows.new) }
     ensures kept { Grows terms.old terms.new }
 {
     match edges(alloc, terms, drive.cond, waited) {

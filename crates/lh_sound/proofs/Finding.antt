@@ -29,7 +29,7 @@ use Rattle.lh_formed.specs.Parts.{TakesPart, PutsPart, LeadsTo, HasPart}
 use Rattle.lh_formed.proofs.PartsLaw.{parts_have_ranges}
 use Rattle.lh_eval.specs.Fitting.{IsValueType, FitsHeld, Fits}
 use Rattle.lh_eval.specs.Sound.{HasOperands, IsWrittenRight}
-use Rattle.lh_sound.specs.Finding.{TriggerFinds, Finds}
+use Rattle.lh_sound.specs.Finding.{TriggerFinds, FindsInPass}
 
 pub some-of : {A : Type 0} (o : Option A) → IsSome o → (x : A) × (o ≡ Some x)
 some-of None h = absurd cc

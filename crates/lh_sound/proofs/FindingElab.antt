@@ -18,7 +18,7 @@ use Rattle.lh_unit.specs.Kinds.{Kind, a_datum, a_time, a_signal, a_pointer, kind
 use Rattle.lh_unit.specs.Held.{Held, part_held, Env, as_datum, nothing_held, with_args, datum_at, part_at}
 use Rattle.lh_unit.specs.Hierarchy.{lines_of, signal_names, parts_of, with_parts, static_from, static_held}
 use Rattle.lh_unit.specs.Pass.{Passed}
-use Rattle.lh_unit.specs.Places.{Place, places_in, places_from, places}
+use Rattle.lh_unit.specs.Places.{InstPlaceText, places_in, places_from, places}
 use Rattle.lh_unit.specs.Arena.{Arena, IsArena, unit_count, kind_at, contents, unit_text_at}
 use Rattle.lh_unit.specs.Naming.{kind_text}
 use Rattle.lh_unit.specs.WellFormed.{Site, sites, values_named, wrong_kind, is_wrong_kind, has_wrong_kind, names_wrong_unit, depends_on_probe, probes_for_signal, IsFaultless, IsWellFormed}
@@ -31,7 +31,7 @@ use Rattle.lh_formed.specs.KindsOf.{ArgsHaveKinds, HasTypeOfKind}
 use Rattle.lh_formed.proofs.KindsLaw.{operands_have_types}
 use Rattle.lh_formed.proofs.Sound.{site_in, at_site}
 use Rattle.lh_eval.specs.Fitting.{IsValueType, Fits}
-use Rattle.lh_eval.specs.Sound.{IsSound}
+use Rattle.lh_eval.specs.Sound.{InstIsSound}
 use Rattle.lh_sound.specs.Ranges.{RangesFit, arg_types, signal_types, InstanceFits}
 use Rattle.lh_sound.specs.Units.{HasItsType, IsPort, HasPorts, SigWritesData, WritesData, UnitIsSound}
 use Rattle.lh_sound.specs.Finding.{PartsFound, InitialFound}
@@ -73,7 +73,8 @@ named-split P [] ys h = (tt, h)
 named-split P (x ∷ xs) ys h = let r = named-split P xs ys h.1 in ((h.0, r.0), r.1)
 
 module _ (u : UnitText) (now : List Bool) (memory : Option (List Bool)) (t : Instant) (w : ℕ) (e : Env) (f : Fits u w e) where
-  used-parts : (os : List OperandText) → Each (OfSignals u now memory t e) (named_in (all_used signal_needed os)) → Each (HasTypeOfKind u) (all_used signal_needed os) → Each (λ (o : OperandText). IsSome (part_at e o.value)) os
+  used-parts : (os : List OperandText) → Each (OfSignals u now memory t e) (named_in (all_used signal_needed os)) → Each (HasTypeOfKind u) (all_used signal_needed os)
+      → Each (λ (o : OperandText). IsSome (part_at e o.value)) os
   used-parts [] h k = tt
   used-parts (o ∷ os) h k =
       let s = signal-of-kind k.0.0 k.0.1 k.0.3 k.0.4 in
@@ -89,12 +90,14 @@ module _ (u : UnitText) (now : List Bool) (memory : Option (List Bool)) (t : Ins
       Each-append (λ (o : OperandText). IsSome (part_at e o.value)) inputs outputs (used-parts inputs a.0 b.0) (used-parts outputs a.1 b.1)
   parts-found _ row h k = tt
 
-  all-parts-found : (ls : List LineText) → Each (IsSound u) ls → Each (λ (l : LineText). Each (OfSignals u now memory t e) (values_named l.inst)) ls → Each (λ (l : LineText). Each (HasTypeOfKind u) (uses l.inst)) ls → Each (λ (l : LineText). PartsFound e l.inst) ls
+  all-parts-found : (ls : List LineText) → Each (InstIsSound u) ls → Each (λ (l : LineText). Each (OfSignals u now memory t e) (values_named l.inst)) ls
+      → Each (λ (l : LineText). Each (HasTypeOfKind u) (uses l.inst)) ls → Each (λ (l : LineText). PartsFound e l.inst) ls
   all-parts-found [] s h k = tt
   all-parts-found (l ∷ ls) s h k = (parts-found l.inst s.0.row h.0 k.0, all-parts-found ls s.1 h.1 k.1)
 
   -- the operand of no `sig` comes from a probe
-  initial-found : (most : ℕ) (i : InstText) (r : Option (List ℕ)) → RowIs u i → SigWritesData r i → Each (FreeValue u now memory t most e) (values_named i) → probes_for_signal u i ≡ false → most ≡ suc (length (places u)) → InitialFound e i
+  initial-found : (most : ℕ) (i : InstText) (r : Option (List ℕ)) → RowIs u i → SigWritesData r i → Each (FreeValue u now memory t most e) (values_named i) → probes_for_signal u i ≡ false
+      → most ≡ suc (length (places u)) → InitialFound e i
   initial-found most (sig_text a) r row wr h q m =
       let same : wr.0 ≡ row.0 = same_Some wr.0 row.0 (sym wr.1 ∙ row.2.0) in
       let v : IsValueType row.0 = data-value row.0 (subst IsData same wr.2) in
@@ -104,7 +107,8 @@ module _ (u : UnitText) (now : List Bool) (memory : Option (List Bool)) (t : Ins
       (is-some a.ty row.0 row.2.0, is-some (datum_at e a.value) d.0 (ap (option_and_then as_datum) x.1 ∙ d.1))
   initial-found most _ r row wr h q m = tt
 
-  all-initials-found : (most : ℕ) → most ≡ suc (length (places u)) → (ls : List LineText) → Each (IsSound u) ls → Each WritesData ls → Each (λ (l : LineText). Each (FreeValue u now memory t most e) (values_named l.inst)) ls
+  all-initials-found : (most : ℕ) → most ≡ suc (length (places u)) → (ls : List LineText) → Each (InstIsSound u) ls → Each WritesData ls
+      → Each (λ (l : LineText). Each (FreeValue u now memory t most e) (values_named l.inst)) ls
       → Each (λ (l : LineText). probes_for_signal u l.inst ≡ false) ls → Each (λ (l : LineText). InitialFound e l.inst) ls
   all-initials-found most m [] s wr h q = tt
   all-initials-found most m (l ∷ ls) s wr h q = (initial-found most l.inst l.result s.0.row wr.0 h.0 q.0 m, all-initials-found most m ls s.1 wr.1 h.1 q.1)
@@ -117,7 +121,8 @@ places-in-count k e b before (l ∷ rest) = ap suc (places-in-count (k + 1) e b 
 places-from-count : (k : ℕ) (e : Bool) (bs : List BlockText) → length (places_from k e bs) ≡ length (lines_of bs)
 places-from-count k e [] = refl
 places-from-count k e (b ∷ bs) =
-    let left : length (places_in k e b [] b.lines ++ places_from (k + length b.lines) false bs) ≡ length (places_in k e b [] b.lines) + length (places_from (k + length b.lines) false bs) = length-append (places_in k e b [] b.lines) _ in
+    let left : length (places_in k e b [] b.lines ++ places_from (k + length b.lines) false bs) ≡ length (places_in k e b [] b.lines) + length (places_from (k + length b.lines) false bs) =
+    length-append (places_in k e b [] b.lines) _ in
     let right : length (b.lines ++ lines_of bs) ≡ length b.lines + length (lines_of bs) = length-append b.lines (lines_of bs) in
     let here : length (places_in k e b [] b.lines) ≡ length b.lines = places-in-count k e b [] b.lines in
     let more : length (places_from (k + length b.lines) false bs) ≡ length (lines_of bs) = places-from-count (k + length b.lines) false bs in
@@ -141,9 +146,9 @@ unit-told u h =
     let ps : Each (λ p. SiteTold (site_in u p)) (places u) = each-of-map SiteTold (site_in u) (places u) h in
     record {
       kinds = λ k. lines-from (λ (l : LineText). Each (HasTypeOfKind u) (uses l.inst)) 1 true u.blocks
-          (Each-more (λ p. SiteTold (site_in u p)) (λ (p : Place). Each (HasTypeOfKind u) (uses p.line.inst)) (places u) (λ p q. q.kinds k) ps);
+          (Each-more (λ p. SiteTold (site_in u p)) (λ (p : InstPlaceText). Each (HasTypeOfKind u) (uses p.line.inst)) (places u) (λ p q. q.kinds k) ps);
       free = lines-from (λ (l : LineText). probes_for_signal u l.inst ≡ false) 1 true u.blocks
-          (Each-more (λ p. SiteTold (site_in u p)) (λ (p : Place). probes_for_signal u p.line.inst ≡ false) (places u) (λ p q. q.free) ps);
+          (Each-more (λ p. SiteTold (site_in u p)) (λ (p : InstPlaceText). probes_for_signal u p.line.inst ≡ false) (places u) (λ p q. q.free) ps);
     }
 
 units-told : (items : List ItemText) → Each SiteTold (sites items) → Each ToldIn items
@@ -262,9 +267,11 @@ module _ (a : Arena) (u : ℕ) (o : IsArena a) (h : u < unit_count a) (g : IsWel
     initials-by : Each (λ (l : LineText). InitialFound (static_from here nothing_held lines) l.inst) lines
     initials-by =
         let room : 0 + length lines ≤ suc (length (places here)) = let c : length (places here) ≡ length lines = places-from-count 1 true here.blocks in omega (arith, c) in
-        all-initials-found here bits None first_at (length bits) (static_from here nothing_held lines) (static-all-fits here bits None first_at (length bits) lines nothing_held sound.lines (nothing-fits here (length bits)))
+        all-initials-found here bits None first_at (length bits) (static_from here nothing_held lines)
+        (static-all-fits here bits None first_at (length bits) lines nothing_held sound.lines (nothing-fits here (length bits)))
         (suc (length (places here))) refl lines sound.lines sound.signals
-        (values-found here bits None first_at (suc (length (places here))) lines 0 start nothing_held (λ n. args_define n here.args) room known-there fits-there no-values (nothing-fits here (length bits))
+        (values-found here bits None first_at (suc (length (places here))) lines 0 start nothing_held (λ n. args_define n here.args) room known-there fits-there no-values
+        (nothing-fits here (length bits))
         sound.lines entity.0 (fit-lines lines entity.1 (lines-printed here sound.printable)) firsts kinds sigs-there) told.free
       where
         no-signal : (b : TypeTree) (ty : TypeTree) → signal_type b ≡ ty → IsValueType ty → ⊥
@@ -276,7 +283,8 @@ module _ (a : Arena) (u : ℕ) (o : IsArena a) (h : u < unit_count a) (g : IsWel
             absurd (no-signal p.0 ty (same_Some (signal_type p.0) ty (sym p.1 ∙ is)) v)
 
   static-none : static_held here [] [] ≡ static_from here nothing_held lines
-  static-none = ap (λ (e : Env). static_from here e lines) (ap (λ (e : Env). with_parts e (signal_names lines) []) (args-of-none nothing_held here.args) ∙ parts-of-none nothing_held (signal_names lines))
+  static-none = ap (λ (e : Env). static_from here e lines)
+      (ap (λ (e : Env). with_parts e (signal_names lines) []) (args-of-none nothing_held here.args) ∙ parts-of-none nothing_held (signal_names lines))
 
   pub initials-are-found : Each (λ (l : LineText). InitialFound (static_held here [] []) l.inst) lines
   initials-are-found =

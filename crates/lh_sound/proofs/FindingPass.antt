@@ -21,7 +21,7 @@ use Rattle.lh_unit.specs.Held.{Held, datum_held, part_held, Env, nothing_held, w
 use Rattle.lh_unit.specs.Effects.{operated, read_bits, probed, condition_at, drive_due, drive_when, driven}
 use Rattle.lh_unit.specs.Hierarchy.{lines_of, signal_names, name_if_signal, with_parts, parts_of, if_held}
 use Rattle.lh_unit.specs.Pass.{Passed, delay_of, passes}
-use Rattle.lh_unit.specs.Places.{Place, places_in, places_from, places}
+use Rattle.lh_unit.specs.Places.{InstPlaceText, places_in, places_from, places}
 use Rattle.lh_unit.specs.WellFormed.{Site, sites, values_named, not_here, is_allowed, IsFaultless}
 use Rattle.lh_unit.specs.SpellsInst.{gives_value, SpellsInst, SpellsLine}
 use Rattle.lh_unit.specs.Within.{Each}
@@ -40,9 +40,9 @@ use Rattle.lh_formed.specs.Defined.{IsEarlier, OperandsThere}
 use Rattle.lh_formed.proofs.Sound.{site_in, at_site}
 use Rattle.lh_formed.proofs.DefinedLaw.{all_there}
 use Rattle.lh_eval.specs.Fitting.{Fits}
-use Rattle.lh_eval.specs.Sound.{IsSound}
+use Rattle.lh_eval.specs.Sound.{InstIsSound}
 use Rattle.lh_sound.specs.Ranges.{RangesFit, arg_types, signal_types, type_if_signal, InstanceFits}
-use Rattle.lh_sound.specs.Finding.{TriggerFinds, Finds, FindsAll}
+use Rattle.lh_sound.specs.Finding.{TriggerFinds, FindsInPass, FindsAll}
 use Rattle.lh_formed.proofs.EachItem.{each-contained, each-split, each-of-map}
 use Rattle.lh_formed.proofs.AtPlaces.{lines-from}
 use Rattle.lh_sound.proofs.SoundLines.{lines-printed}
@@ -125,13 +125,13 @@ sigs-held w [] rs e f = tt
 sigs-held w (l ∷ ls) rs e f = sig-held w l.inst l.result ls (sigs-held w ls) rs e f
 
 -- what an instruction names is known where it stands: an argument, or a result before it
-abbrev pub Known : Type 0
-Known = List ℕ → Bool
+abbrev pub KnownNames : Type 0
+KnownNames = List ℕ → Bool
 
-abbrev pub known_after : Known → LineText → Known
+abbrev pub known_after : KnownNames → LineText → KnownNames
 known_after known l n = known n || is_result_name n l.result
 
-abbrev pub NamesKnown : Known → List LineText → Type 0
+abbrev pub NamesKnown : KnownNames → List LineText → Type 0
 NamesKnown known [] = Unit {0}
 NamesKnown known (l ∷ ls) = Each (λ n. known n ≡ true) (values_named l.inst) × NamesKnown (known_after known l) ls
 
@@ -185,7 +185,7 @@ drive-there false w x = refl
 
 module _ (u : UnitText) (now : List Bool) (memory : Option (List Bool)) (t : Instant) where
   -- a sound instruction finds what it looks for, where its operands are held
-  pub finds-one : (p : Passed) → Fits u (length now) p.held → (i : InstText) → RowIs u i → HasPart u i → AllHeld p.held (uses i) → Finds u now t p i
+  pub finds-one : (p : Passed) → Fits u (length now) p.held → (i : InstText) → RowIs u i → HasPart u i → AllHeld p.held (uses i) → FindsInPass u now t p i
   finds-one p f (pure_text o os) row part h = operated-there u (length now) p.held f o os row part (held-operation p.held o os h)
   finds-one p f (prb_text s) row part h =
       let r = part-at u (length now) p.held f s.value row.0 row.1.1 h.0 in
@@ -215,7 +215,7 @@ module _ (u : UnitText) (now : List Bool) (memory : Option (List Bool)) (t : Ins
   unnamed (Some m) n k q = let e : false ≡ true = k m refl in absurd cc
 
   -- the result of an instruction is held after it
-  result-held : (i : InstText) (r : Option (List ℕ)) (p : Passed) → is_allowed kind.Entity i ≡ true → ((m : List ℕ) → r ≡ Some m → gives_value i ≡ true) → Finds u now t p i → SigHeld p.held i r
+  result-held : (i : InstText) (r : Option (List ℕ)) (p : Passed) → is_allowed kind.Entity i ≡ true → ((m : List ℕ) → r ≡ Some m → gives_value i ≡ true) → FindsInPass u now t p i → SigHeld p.held i r
       → (n : List ℕ) → is_result_name n r ≡ true → IsSome ((passes u now memory t i r p).held n)
   result-held (const_text d) r p a g f s n q = given-held p.held r n (Some (datum_held d)) refl q
   result-held (pure_text o os) r p a g f s n q = given-held p.held r n (operated u p.held o os) f q
@@ -236,7 +236,7 @@ module _ (u : UnitText) (now : List Bool) (memory : Option (List Bool)) (t : Ins
   result-held (ret_text o) r p a g f s n q = absurd cc
 
   -- after an instruction what is known is held
-  pub next-held : (l : LineText) (p : Passed) (known : Known) → ((n : List ℕ) → known n ≡ true → IsSome (p.held n)) → IsFitLine l → Finds u now t p l.inst → SigHeld p.held l.inst l.result
+  pub next-held : (l : LineText) (p : Passed) (known : KnownNames) → ((n : List ℕ) → known n ≡ true → IsSome (p.held n)) → IsFitLine l → FindsInPass u now t p l.inst → SigHeld p.held l.inst l.result
       → (n : List ℕ) → known_after known l n ≡ true → IsSome ((passes u now memory t l.inst l.result p).held n)
   next-held l p known k a h g n q = at (known n) refl (is_result_name n l.result) refl q
     where
@@ -246,11 +246,11 @@ module _ (u : UnitText) (now : List Bool) (memory : Option (List Bool)) (t : Ins
       at false x false y q = absurd cc
 
   -- each instruction finds what it looks for
-  pub finds-all : (ls : List LineText) (p : Passed) (known : Known) → ((n : List ℕ) → known n ≡ true → IsSome (p.held n)) → Fits u (length now) p.held
-      → Each (IsSound u) ls → NamesKnown known ls → Each IsFitLine ls → SigsHeld p.held ls → FindsAll u now memory t p ls
+  pub finds-all : (ls : List LineText) (p : Passed) (known : KnownNames) → ((n : List ℕ) → known n ≡ true → IsSome (p.held n)) → Fits u (length now) p.held
+      → Each (InstIsSound u) ls → NamesKnown known ls → Each IsFitLine ls → SigsHeld p.held ls → FindsAll u now memory t p ls
   finds-all [] p known k f s m a g = tt
   finds-all (l ∷ ls) p known k f s m a g =
-      let here : Finds u now t p l.inst = finds-one p f l.inst s.0.row s.0.part (Each-more (λ n. known n ≡ true) (λ n. IsSome (p.held n)) (values_named l.inst) k m.0) in
+      let here : FindsInPass u now t p l.inst = finds-one p f l.inst s.0.row s.0.part (Each-more (λ n. known n ≡ true) (λ n. IsSome (p.held n)) (values_named l.inst) k m.0) in
       let after : Passed = passes u now memory t l.inst l.result p in (
         here,
         finds-all ls after (known_after known l) (next-held l p known k a.0 here g.0) (keeps-fit u now memory t p l s.0 f) s.1 m.1 a.1
@@ -268,7 +268,8 @@ defined-last n [] l h = at (is_result_name n l.result) refl h
 defined-last n (x ∷ before) l h = at (is_result_name n x.result) refl h (defined-last n before l)
   where
     at : (b : Bool) → is_result_name n x.result ≡ b → (b || lines_define n (before ++ l ∷ [])) ≡ true
-        → (lines_define n (before ++ l ∷ []) ≡ true → (lines_define n before ≡ true) ⊎ (is_result_name n l.result ≡ true)) → ((is_result_name n x.result || lines_define n before) ≡ true) ⊎ (is_result_name n l.result ≡ true)
+        → (lines_define n (before ++ l ∷ []) ≡ true → (lines_define n before ≡ true) ⊎ (is_result_name n l.result ≡ true))
+        → ((is_result_name n x.result || lines_define n before) ≡ true) ⊎ (is_result_name n l.result ≡ true)
     at true e q go = inl (ap (λ b. b || lines_define n before) e)
     at false e q go = ⊎_elim (λ r. inl (ap (λ b. b || lines_define n before) e ∙ r)) (λ r. inr r) (go q)
 
@@ -281,28 +282,29 @@ or-second false c e = e
 
 module _ (u : UnitText) where
   -- what is known has the arguments, and the results of these lines
-  record Knows (known : Known) (before : List LineText) : Type 0 where
+  record KnowsResults (known : KnownNames) (before : List LineText) : Type 0 where
     args : (n : List ℕ) → args_define n u.args ≡ true → known n ≡ true
     lines : (n : List ℕ) → lines_define n before ≡ true → known n ≡ true
 
-  abbrev NamesEarlier : Place → Type 0
+  abbrev NamesEarlier : InstPlaceText → Type 0
   NamesEarlier p = Each (IsEarlier u p.before) (values_named p.line.inst)
 
-  knows-more : (known : Known) (before : List LineText) (l : LineText) → Knows known before → Knows (known_after known l) (before ++ l ∷ [])
+  knows-more : (known : KnownNames) (before : List LineText) (l : LineText) → KnowsResults known before → KnowsResults (known_after known l) (before ++ l ∷ [])
   knows-more known before l k = record {
     args = λ n h. or-first (known n) (is_result_name n l.result) (k.args n h);
     lines = λ n h. ⊎_elim (λ q. or-first (known n) (is_result_name n l.result) (k.lines n q)) (λ q. or-second (known n) (is_result_name n l.result) q) (defined-last n before l h);
   }
 
-  known-in : (number : ℕ) (e : Bool) (b : BlockText) (before rest : List LineText) → Each NamesEarlier (places_in number e b before rest) → (known : Known) → Knows known before → (more : List LineText)
-      → ((after : Known) → Knows after [] → NamesKnown after more) → NamesKnown known (rest ++ more)
+  known-in : (number : ℕ) (e : Bool) (b : BlockText) (before rest : List LineText) → Each NamesEarlier (places_in number e b before rest) → (known : KnownNames) → KnowsResults known before
+      → (more : List LineText)
+      → ((after : KnownNames) → KnowsResults after [] → NamesKnown after more) → NamesKnown known (rest ++ more)
   known-in number e b before [] h known k more go = go known (record { args = k.args; lines = λ n q. absurd cc })
   known-in number e b before (l ∷ rest) h known k more go = (
     Each-more (IsEarlier u before) (λ n. known n ≡ true) (values_named l.inst) (λ n q. ⊎_elim (k.args n) (k.lines n) q) h.0,
     known-in (number + 1) e b (before ++ l ∷ []) rest h.1 (known_after known l) (knows-more known before l k) more go,
   )
 
-  known-from : (number : ℕ) (e : Bool) (bs : List BlockText) → Each NamesEarlier (places_from number e bs) → (known : Known) → Knows known [] → NamesKnown known (lines_of bs)
+  known-from : (number : ℕ) (e : Bool) (bs : List BlockText) → Each NamesEarlier (places_from number e bs) → (known : KnownNames) → KnowsResults known [] → NamesKnown known (lines_of bs)
   known-from number e [] h known k = tt
   known-from number e (b ∷ bs) h known k =
       let r = each-split NamesEarlier (places_in number e b [] b.lines) (places_from (number + length b.lines) false bs) h in
@@ -323,9 +325,12 @@ entity-lines : (u : UnitText) → Each SiteThere (map (site_in u) (places u)) �
 entity-lines u h k =
     let ps : Each (λ p. SiteThere (site_in u p)) (places u) = each-of-map SiteThere (site_in u) (places u) h in
     let there : Each (NamesEarlier u) (places u) = Each-more (λ p. SiteThere (site_in u p)) (NamesEarlier u) (places u) (λ p q. subst (λ (x : UnitKind). OperandsThere x u p p.line.inst) k q.0) ps in
-    let allowed : Each (λ (p : Place). is_allowed kind.Entity p.line.inst ≡ true) (places u) =
-    Each-more (λ p. SiteThere (site_in u p)) (λ (p : Place). is_allowed kind.Entity p.line.inst ≡ true) (places u) (λ p q. ap (λ (x : UnitKind). is_allowed x p.line.inst) (sym k) ∙ q.1) ps in
-    (known-from u 1 true u.blocks there (λ n. args_define n u.args) (record { args = λ n q. q; lines = λ n q. absurd cc }), lines-from (λ (l : LineText). is_allowed kind.Entity l.inst ≡ true) 1 true u.blocks allowed)
+    let allowed : Each (λ (p : InstPlaceText). is_allowed kind.Entity p.line.inst ≡ true) (places u) =
+    Each-more (λ p. SiteThere (site_in u p)) (λ (p : InstPlaceText). is_allowed kind.Entity p.line.inst ≡ true) (places u) (λ p q. ap (λ (x : UnitKind). is_allowed x p.line.inst) (sym k) ∙ q.1) ps in (
+      known-from u 1 true u.blocks there (λ n. args_define n u.args) (record { args = λ n q. q; lines = λ n q. absurd cc }),
+      lines-from (λ (l : LineText). is_allowed kind.Entity l.inst ≡ true) 1 true
+          u.blocks allowed,
+    )
 
 entities-in : (items : List ItemText) → Each SiteThere (sites items) → Each EntityIn items
 entities-in [] h = tt

@@ -31,13 +31,13 @@ use Rattle.lh_formed.specs.Parts.{HasPart}
 use Rattle.lh_formed.specs.KindsOf.{HasTypeOfKind}
 use Rattle.lh_formed.proofs.Bools.{none_passes}
 use Rattle.lh_eval.specs.Fitting.{IsValueType, FitsHeld, Fits}
-use Rattle.lh_eval.specs.Sound.{IsWrittenRight, IsSound}
+use Rattle.lh_eval.specs.Sound.{IsWrittenRight, InstIsSound}
 use Rattle.lh_eval.proofs.GivesFit.{constants-fit, operations-fit, probes-fit, held-still-fits}
-use Rattle.lh_sound.specs.Finding.{Finds, PartsFound, InitialFound}
+use Rattle.lh_sound.specs.Finding.{FindsInPass, PartsFound, InitialFound}
 use Rattle.lh_sound.proofs.NamedOnce.{IsFirst, giving-lines}
 use Rattle.lh_sound.proofs.FitLaws.{keeps-fit}
 use Rattle.lh_sound.proofs.Finding.{some-of, is-some, as-signal, or-else-second, part-at}
-use Rattle.lh_sound.proofs.FindingPass.{Known, known_after, NamesKnown, IsFitLine, AllHeld, SigHeld, SigsHeld, given-stays, given-held, sigs-more, finds-one, passes-stay, unnamed, next-held}
+use Rattle.lh_sound.proofs.FindingPass.{KnownNames, known_after, NamesKnown, IsFitLine, AllHeld, SigHeld, SigsHeld, given-stays, given-held, sigs-more, finds-one, passes-stay, unnamed, next-held}
 
 -- the name of a result
 pub result-is : (r : Option (List ℕ)) (n : List ℕ) → is_result_name n r ≡ true → r ≡ Some n
@@ -61,16 +61,17 @@ module _ (u : UnitText) (now : List Bool) (memory : Option (List Bool)) (t : Ins
   static_after e l = if_held e l.result (static_of u e l.inst)
 
   -- what is held without a probe fits too
-  static-fits : (w : ℕ) (e : Env) → Fits u w e → (i : InstText) (r : Option (List ℕ)) → RowIs u i → HasPart u i → IsWrittenRight i → ((n : List ℕ) → r ≡ Some n → value_type u n ≡ result_type i) → Fits u w (if_held e r (static_of u e i))
+  static-fits : (w : ℕ) (e : Env) → Fits u w e → (i : InstText) (r : Option (List ℕ)) → RowIs u i → HasPart u i → IsWrittenRight i → ((n : List ℕ) → r ≡ Some n → value_type u n ≡ result_type i)
+      → Fits u w (if_held e r (static_of u e i))
   static-fits w e f (const_text d) r row part written gives = held-still-fits u w e r (Some (datum_held d)) f (λ n k x s g q. constants-fit w d written x s g (sym (gives n k) ∙ q))
   static-fits w e f (pure_text o os) r row part written gives =
       held-still-fits u w e r (operated u e o os) f (λ n k x s g q. operations-fit u w e o os f row part written x s g (sym (gives n k) ∙ q))
   static-fits w e f _ r row part written gives = f
 
-  pub static-line-fits : (w : ℕ) (e : Env) (l : LineText) → IsSound u l → Fits u w e → Fits u w (static_after e l)
+  pub static-line-fits : (w : ℕ) (e : Env) (l : LineText) → InstIsSound u l → Fits u w e → Fits u w (static_after e l)
   static-line-fits w e l s f = static-fits w e f l.inst l.result s.row s.part s.written s.gives
 
-  pub static-all-fits : (w : ℕ) (ls : List LineText) (e : Env) → Each (IsSound u) ls → Fits u w e → Fits u w (static_from u e ls)
+  pub static-all-fits : (w : ℕ) (ls : List LineText) (e : Env) → Each (InstIsSound u) ls → Fits u w e → Fits u w (static_from u e ls)
   static-all-fits w [] e s f = f
   static-all-fits w (l ∷ ls) e s f = static-all-fits w ls (static_after e l) s.1 (static-line-fits w e l s.0 f)
 
@@ -80,7 +81,8 @@ module _ (u : UnitText) (now : List Bool) (memory : Option (List Bool)) (t : Ins
 
   module _ (w : ℕ) (p : Passed) (f : Fits u w p.held) (e : Env) (fe : Fits u w e) where
     -- a part of a signal is there without a probe where the signal is
-    part-moves : (o : Op) (os : List OperandText) (h : Held) → signal_part u p.held o os ≡ Some h → Each (λ (x : OperandText). (b : TypeTree) → IsOf u (signal_type b) x.value → IsSome (e x.value)) os → IsSome (signal_part u e o os)
+    part-moves : (o : Op) (os : List OperandText) (h : Held) → signal_part u p.held o os ≡ Some h → Each (λ (x : OperandText). (b : TypeTree) → IsOf u (signal_type b) x.value → IsSome (e x.value)) os
+        → IsSome (signal_part u e o os)
     part-moves o [] h g k = absurd (none-some h g)
     part-moves o (x ∷ y ∷ more) h g k = absurd (none-some h g)
     part-moves o (x ∷ []) h g k = by (value_type u x.value) refl (part_at p.held x.value) (step_of o) g
@@ -112,7 +114,7 @@ module _ (u : UnitText) (now : List Bool) (memory : Option (List Bool)) (t : Ins
             or-else-second u w e fe _ (signal_part u e o os) (part-moves o os x c k)
 
   -- the signals that are known are held
-  abbrev pub SignalsHeld : Known → Env → Type 0
+  abbrev pub SignalsHeld : KnownNames → Env → Type 0
   SignalsHeld known e = (n : List ℕ) → known n ≡ true → (b : TypeTree) → IsOf u (signal_type b) n → IsSome (e n)
 
   abbrev pub OfSignals : Env → List ℕ → Type 0
@@ -129,12 +131,14 @@ module _ (u : UnitText) (now : List Bool) (memory : Option (List Bool)) (t : Ins
   operands-held e o os h = used-held e data_needed os h
 
   -- what gives a value of a signal's type is held without a probe
-  signal-result : (w : ℕ) (l : LineText) (p : Passed) (e : Env) → length now ≡ w → Fits u w p.held → Fits u w e → IsSound u l → IsFitLine l → Finds u now t p l.inst → Each (OfSignals e) (values_named l.inst) → SigHeld e l.inst l.result
+  signal-result : (w : ℕ) (l : LineText) (p : Passed) (e : Env) → length now ≡ w → Fits u w p.held → Fits u w e → InstIsSound u l → IsFitLine l → FindsInPass u now t p l.inst
+      → Each (OfSignals e) (values_named l.inst) → SigHeld e l.inst l.result
       → (n : List ℕ) → is_result_name n l.result ≡ true → (b : TypeTree) → IsOf u (signal_type b) n → IsSome (static_after e l n)
   signal-result w l p e ww f fe s a h k g n q b ty = at l.inst s.row s.part s.written (sym (s.gives n (result-is l.result n q)) ∙ ty) a.0 a.1 h k g
     where
-      at : (i : InstText) → RowIs u i → HasPart u i → IsWrittenRight i → result_type i ≡ Some (signal_type b) → is_allowed kind.Entity i ≡ true → ((m : List ℕ) → l.result ≡ Some m → gives_value i ≡ true)
-          → Finds u now t p i → Each (OfSignals e) (values_named i) → SigHeld e i l.result → IsSome (if_held e l.result (static_of u e i) n)
+      at : (i : InstText) → RowIs u i → HasPart u i → IsWrittenRight i → result_type i ≡ Some (signal_type b) → is_allowed kind.Entity i ≡ true
+          → ((m : List ℕ) → l.result ≡ Some m → gives_value i ≡ true)
+          → FindsInPass u now t p i → Each (OfSignals e) (values_named i) → SigHeld e i l.result → IsSome (if_held e l.result (static_of u e i) n)
       at (const_text d) row part written res a g h k z = given-held e l.result n (Some (datum_held d)) refl q
       at (pure_text o os) row part written res a g h k z =
           let x = some-of (operated u p.held o os) h in
@@ -160,11 +164,12 @@ module _ (u : UnitText) (now : List Bool) (memory : Option (List Bool)) (t : Ins
       at (ret_text o) row part written res a g h k z = absurd cc
 
   -- the operands of each line that are signals are held where the unit is at its end
-  pub signals-found : (ls : List LineText) (p : Passed) (e : Env) (known : Known) → ((n : List ℕ) → known n ≡ true → IsSome (p.held n)) → Fits u (length now) p.held → SignalsHeld known e → Fits u (length now) e
-      → Each (IsSound u) ls → NamesKnown known ls → Each IsFitLine ls → SigsHeld p.held ls → SigsHeld e ls → Each (λ (l : LineText). Each (OfSignals (static_from u e ls)) (values_named l.inst)) ls
+  pub signals-found : (ls : List LineText) (p : Passed) (e : Env) (known : KnownNames) → ((n : List ℕ) → known n ≡ true → IsSome (p.held n)) → Fits u (length now) p.held → SignalsHeld known e
+      → Fits u (length now) e
+      → Each (InstIsSound u) ls → NamesKnown known ls → Each IsFitLine ls → SigsHeld p.held ls → SigsHeld e ls → Each (λ (l : LineText). Each (OfSignals (static_from u e ls)) (values_named l.inst)) ls
   signals-found [] p e known k f z fe s m a g ge = tt
   signals-found (l ∷ ls) p e known k f z fe s m a g ge =
-      let here : Finds u now t p l.inst = finds-one u now memory t p f l.inst s.0.row s.0.part (Each-more (λ n. known n ≡ true) (λ n. IsSome (p.held n)) (values_named l.inst) k m.0) in
+      let here : FindsInPass u now t p l.inst = finds-one u now memory t p f l.inst s.0.row s.0.part (Each-more (λ n. known n ≡ true) (λ n. IsSome (p.held n)) (values_named l.inst) k m.0) in
       let operands : Each (OfSignals e) (values_named l.inst) = Each-more (λ n. known n ≡ true) (OfSignals e) (values_named l.inst) z m.0 in (
         Each-more (OfSignals e) (OfSignals (static_from u e (l ∷ ls))) (values_named l.inst) (λ n h b i. static-stays (l ∷ ls) e n (h b i)) operands,
         signals-found ls (after p l) (static_after e l) (known_after known l) (next-held u now memory t l p known k a.0 here g.0) (keeps-fit u now memory t p l s.0 f)
@@ -173,7 +178,8 @@ module _ (u : UnitText) (now : List Bool) (memory : Option (List Bool)) (t : Ins
             (sigs-more e (static_after e l) ls (λ n h. given-stays e l.result n (static_of u e l.inst) h) ge.1),
       )
     where
-      next : (n : List ℕ) (b : Bool) → known n ≡ b → (c : Bool) → is_result_name n l.result ≡ c → Finds u now t p l.inst → Each (OfSignals e) (values_named l.inst) → (b || c) ≡ true → (ty : TypeTree) → IsOf u (signal_type ty) n → IsSome (static_after e l n)
+      next : (n : List ℕ) (b : Bool) → known n ≡ b → (c : Bool) → is_result_name n l.result ≡ c → FindsInPass u now t p l.inst → Each (OfSignals e) (values_named l.inst) → (b || c) ≡ true
+          → (ty : TypeTree) → IsOf u (signal_type ty) n → IsSome (static_after e l n)
       next n true x c y h o q ty i = given-stays e l.result n (static_of u e l.inst) (z n x ty i)
       next n false x true y h o q ty i = signal-result (length now) l p e refl f fe s.0 a.0 h o ge.0 n y ty i
       next n false x false y h o q ty i = absurd cc

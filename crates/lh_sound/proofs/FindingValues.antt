@@ -29,13 +29,13 @@ use Rattle.lh_formed.specs.Parts.{HasPart}
 use Rattle.lh_formed.specs.KindsOf.{HasTypeOfKind}
 use Rattle.lh_formed.proofs.Bools.{none_passes}
 use Rattle.lh_eval.specs.Fitting.{IsValueType, FitsHeld, Fits}
-use Rattle.lh_eval.specs.Sound.{IsWrittenRight, IsSound}
+use Rattle.lh_eval.specs.Sound.{IsWrittenRight, InstIsSound}
 use Rattle.lh_eval.proofs.GivesFit.{operations-fit}
-use Rattle.lh_sound.specs.Finding.{Finds}
+use Rattle.lh_sound.specs.Finding.{FindsInPass}
 use Rattle.lh_sound.proofs.NamedOnce.{IsFirst, giving-lines}
 use Rattle.lh_sound.proofs.FitLaws.{keeps-fit}
 use Rattle.lh_sound.proofs.Finding.{some-of, is-some}
-use Rattle.lh_sound.proofs.FindingPass.{Known, known_after, NamesKnown, IsFitLine, SigHeld, SigsHeld, given-stays, given-held, sigs-more, finds-one, passes-stay, unnamed, next-held}
+use Rattle.lh_sound.proofs.FindingPass.{KnownNames, known_after, NamesKnown, IsFitLine, SigHeld, SigsHeld, given-stays, given-held, sigs-more, finds-one, passes-stay, unnamed, next-held}
 use Rattle.lh_sound.proofs.FindingStatic.{result-is, after, static_after, static-line-fits, static-stays}
 
 -- what fits a data type or a time is a value
@@ -86,7 +86,7 @@ module _ (u : UnitText) (now : List Bool) (memory : Option (List Bool)) (t : Ins
   abbrev pub FreeValue : ℕ → Env → List ℕ → Type 0
   FreeValue k e n = depends_on_probe k u n ≡ false → (ty : TypeTree) → IsOf u ty n → IsValueType ty → IsSome (e n)
 
-  abbrev pub ValuesHeld : ℕ → Known → Env → Type 0
+  abbrev pub ValuesHeld : ℕ → KnownNames → Env → Type 0
   ValuesHeld j known e = (n : List ℕ) → known n ≡ true → (k : ℕ) → j ≤ k → FreeValue k e n
 
   module _ (w : ℕ) (p : Passed) (f : Fits u w p.held) (e : Env) (fe : Fits u w e) (k : ℕ) where
@@ -108,13 +108,15 @@ module _ (u : UnitText) (now : List Bool) (memory : Option (List Bool)) (t : Ins
         let more = some-of (data_at e os) (values-move need os q.rest q.is_rest a.1 b.1 c.1) in
         is-some (front (datum_at e o.value) (data_at e os)) (d.0 ∷ more.0) (ap (λ x. front x (data_at e os)) d.1 ∙ ap (front (Some d.0)) more.1)
 
-    operation-moves : (o : Op) (os : List OperandText) (ds : List Datum) → data_at p.held os ≡ Some ds → Each (λ n. depends_on_probe k u n ≡ false) (values_named (pure_text o os)) → Each (FreeValue k e) (values_named (pure_text o os))
+    operation-moves : (o : Op) (os : List OperandText) (ds : List Datum) → data_at p.held os ≡ Some ds → Each (λ n. depends_on_probe k u n ≡ false) (values_named (pure_text o os))
+        → Each (FreeValue k e) (values_named (pure_text o os))
         → Each (HasTypeOfKind u) (uses (pure_text o os)) → IsSome (data_at e os)
     operation-moves (op.Extf n) os ds g a b c = values-move (step_need (first_type os)) os ds g a b c
     operation-moves (op.Exts at len) os ds g a b c = values-move (step_need (first_type os)) os ds g a b c
     operation-moves o os ds g a b c = values-move data_needed os ds g a b c
 
-    operated-moves : (o : Op) (os : List OperandText) (x : Held) (d : Datum) → operated u p.held o os ≡ Some x → as_datum x ≡ Some d → Each (λ n. depends_on_probe k u n ≡ false) (values_named (pure_text o os))
+    operated-moves : (o : Op) (os : List OperandText) (x : Held) (d : Datum) → operated u p.held o os ≡ Some x → as_datum x ≡ Some d
+        → Each (λ n. depends_on_probe k u n ≡ false) (values_named (pure_text o os))
         → Each (FreeValue k e) (values_named (pure_text o os)) → Each (HasTypeOfKind u) (uses (pure_text o os)) → IsSome (operated u e o os)
     operated-moves o os x d g v a b c = by (data_at p.held os) refl
       where
@@ -133,15 +135,18 @@ module _ (u : UnitText) (now : List Bool) (memory : Option (List Bool)) (t : Ins
       let same : signal_type row.0 ≡ ty = same_Some (signal_type row.0) ty (sym made ∙ res) in
       let P : TypeTree → Type 0 = IsValueType in subst P (sym same) v
 
-  value-result : (w k : ℕ) (l : LineText) (p : Passed) (e : Env) → Fits u w p.held → Fits u w e → IsSound u l → IsFitLine l → IsFirst u.args (lines_of u.blocks) l → Each (HasTypeOfKind u) (uses l.inst) → Finds u now t p l.inst
-      → Each (FreeValue k e) (values_named l.inst) → (n : List ℕ) → is_result_name n l.result ≡ true → depends_on_probe (suc k) u n ≡ false → (ty : TypeTree) → IsOf u ty n → IsValueType ty → IsSome (static_after u now memory t e l n)
+  value-result : (w k : ℕ) (l : LineText) (p : Passed) (e : Env) → Fits u w p.held → Fits u w e → InstIsSound u l → IsFitLine l → IsFirst u.args (lines_of u.blocks) l
+      → Each (HasTypeOfKind u) (uses l.inst) → FindsInPass u now t p l.inst
+      → Each (FreeValue k e) (values_named l.inst) → (n : List ℕ) → is_result_name n l.result ≡ true → depends_on_probe (suc k) u n ≡ false → (ty : TypeTree) → IsOf u ty n → IsValueType ty
+      → IsSome (static_after u now memory t e l n)
   value-result w k l p e f fe s a first c h b n q dep ty i v = at l.inst s.row s.part s.written (sym (s.gives n (result-is l.result n q)) ∙ i) a.0 a.1 c h b from
     where
       from : comes_from_probe (depends_on_probe k u) l.inst ≡ false
       from = sym (ap (λ o. option_map_or (comes_from_probe (depends_on_probe k u)) o false) (giving-lines n u.blocks ∙ (first n (result-is l.result n q)).1)) ∙ dep
 
       at : (i : InstText) → RowIs u i → HasPart u i → IsWrittenRight i → result_type i ≡ Some ty → is_allowed kind.Entity i ≡ true → ((m : List ℕ) → l.result ≡ Some m → gives_value i ≡ true)
-          → Each (HasTypeOfKind u) (uses i) → Finds u now t p i → Each (FreeValue k e) (values_named i) → comes_from_probe (depends_on_probe k u) i ≡ false → IsSome (if_held e l.result (static_of u e i) n)
+          → Each (HasTypeOfKind u) (uses i) → FindsInPass u now t p i → Each (FreeValue k e) (values_named i) → comes_from_probe (depends_on_probe k u) i ≡ false
+          → IsSome (if_held e l.result (static_of u e i) n)
       at (const_text d) row part written res a g c h b from = given-held e l.result n (Some (datum_held d)) refl q
       at (pure_text o os) row part written res a g c h b from =
           let x = some-of (operated u p.held o os) h in
@@ -164,16 +169,19 @@ module _ (u : UnitText) (now : List Bool) (memory : Option (List Bool)) (t : Ins
       at (ret_text o) row part written res a g c h b from = absurd cc
 
   -- the operands of each line that come from no probe are held where the unit is at its end
-  pub values-found : (most : ℕ) (ls : List LineText) (j : ℕ) (p : Passed) (e : Env) (known : Known) → j + length ls ≤ most → ((n : List ℕ) → known n ≡ true → IsSome (p.held n)) → Fits u (length now) p.held
-      → ValuesHeld j known e → Fits u (length now) e → Each (IsSound u) ls → NamesKnown known ls → Each IsFitLine ls → Each (IsFirst u.args (lines_of u.blocks)) ls → Each (λ (l : LineText). Each (HasTypeOfKind u) (uses l.inst)) ls
+  pub values-found : (most : ℕ) (ls : List LineText) (j : ℕ) (p : Passed) (e : Env) (known : KnownNames) → j + length ls ≤ most → ((n : List ℕ) → known n ≡ true → IsSome (p.held n))
+      → Fits u (length now) p.held
+      → ValuesHeld j known e → Fits u (length now) e → Each (InstIsSound u) ls → NamesKnown known ls → Each IsFitLine ls → Each (IsFirst u.args (lines_of u.blocks)) ls
+      → Each (λ (l : LineText). Each (HasTypeOfKind u) (uses l.inst)) ls
       → SigsHeld p.held ls → Each (λ (l : LineText). Each (FreeValue most (static_from u e ls)) (values_named l.inst)) ls
   values-found most [] j p e known le k f z fe s m a first c g = tt
   values-found most (l ∷ ls) j p e known le k f z fe s m a first c g =
-      let here : Finds u now t p l.inst = finds-one u now memory t p f l.inst s.0.row s.0.part (Each-more (λ n. known n ≡ true) (λ n. IsSome (p.held n)) (values_named l.inst) k m.0) in
+      let here : FindsInPass u now t p l.inst = finds-one u now memory t p f l.inst s.0.row s.0.part (Each-more (λ n. known n ≡ true) (λ n. IsSome (p.held n)) (values_named l.inst) k m.0) in
       let room : j ≤ most = omega (arith, le) in
       let later : j + 1 + length ls ≤ most = omega (arith, le) in (
         Each-more (λ n. known n ≡ true) (FreeValue most (static_from u e (l ∷ ls))) (values_named l.inst) (λ n q d ty i v. static-stays u now memory t (l ∷ ls) e n (z n q most room d ty i v)) m.0,
-        values-found most ls (j + 1) (after u now memory t p l) (static_after u now memory t e l) (known_after known l) later (next-held u now memory t l p known k a.0 here g.0) (keeps-fit u now memory t p l s.0 f)
+        values-found most ls (j + 1) (after u now memory t p l) (static_after u now memory t e l) (known_after known l) later (next-held u now memory t l p known k a.0 here g.0)
+            (keeps-fit u now memory t p l s.0 f)
             (λ n q i le d ty o v. next n (known n) refl (is_result_name n l.result) refl here q i le d ty o v) (static-line-fits u now memory t (length now) e l s.0 fe) s.1 m.1 a.1 first.1 c.1
             (sigs-more p.held (after u now memory t p l).held ls (λ n h. passes-stay u now memory t l.inst l.result p n h) g.1),
       )
@@ -181,11 +189,12 @@ module _ (u : UnitText) (now : List Bool) (memory : Option (List Bool)) (t : Ins
       operands : (k : ℕ) → j ≤ k → Each (FreeValue k e) (values_named l.inst)
       operands k le = Each-more (λ n. known n ≡ true) (FreeValue k e) (values_named l.inst) (λ n q. z n q k le) m.0
 
-      of-result : (n : List ℕ) → is_result_name n l.result ≡ true → Finds u now t p l.inst → (i : ℕ) → j + 1 ≤ i → FreeValue i (static_after u now memory t e l) n
+      of-result : (n : List ℕ) → is_result_name n l.result ≡ true → FindsInPass u now t p l.inst → (i : ℕ) → j + 1 ≤ i → FreeValue i (static_after u now memory t e l) n
       of-result n q h zero le d ty o v = absurd (omega (arith, le))
       of-result n q h (suc i) le d ty o v = value-result (length now) i l p e f fe s.0 a.0 first.0 c.0 h (operands i (omega (arith, le))) n q d ty o v
 
-      next : (n : List ℕ) (b : Bool) → known n ≡ b → (r : Bool) → is_result_name n l.result ≡ r → Finds u now t p l.inst → (b || r) ≡ true → (i : ℕ) → j + 1 ≤ i → FreeValue i (static_after u now memory t e l) n
+      next : (n : List ℕ) (b : Bool) → known n ≡ b → (r : Bool) → is_result_name n l.result ≡ r → FindsInPass u now t p l.inst → (b || r) ≡ true → (i : ℕ) → j + 1 ≤ i
+          → FreeValue i (static_after u now memory t e l) n
       next n true x r y h q i le d ty o v = given-stays e l.result n (static_of u e l.inst) (z n x i (omega (arith, le)) d ty o v)
       next n false x true y h q i le d ty o v = of-result n y h i le d ty o v
       next n false x false y h q i le d ty o v = absurd cc

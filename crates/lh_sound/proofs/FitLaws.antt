@@ -20,7 +20,7 @@ use Rattle.lh_spelled.specs.Printable.{IsPrintable, IsPrintableItem}
 use Rattle.lh_formed.specs.Operands.{RowIs}
 use Rattle.lh_formed.specs.Parts.{HasPart}
 use Rattle.lh_eval.specs.Fitting.{Fits}
-use Rattle.lh_eval.specs.Sound.{IsWrittenRight, IsSound}
+use Rattle.lh_eval.specs.Sound.{IsWrittenRight, InstIsSound}
 use Rattle.lh_sound.specs.Ranges.{RangesFit, arg_types, InstanceFits}
 use Rattle.lh_sound.specs.Units.{UnitIsSound}
 use Rattle.lh_formed.proofs.EachItem.{each-at}
@@ -33,19 +33,24 @@ use Rattle.lh_eval.proofs.GivesFit.{constants-fit, operations-fit, probes-fit, h
 pub triggers-hold : (memory : Option (List Bool)) (t : Instant) (to : OperandText) (fired : Bool) (p : Passed) (gs : List TriggerText) → (triggers_from memory t to fired p gs).held ≡ p.held
 triggers-hold memory t to fired p [] = refl
 triggers-hold memory t to fired p (g ∷ gs) =
-    triggers-hold memory t to (fired || fires memory p g) (record { held = p.held; seen = p.seen ++ trigger_now p.held g ∷ []; wish = if not fired && fires memory p g then stored t to g p else p.wish }) gs
+    triggers-hold memory t to (fired || fires memory p g)
+    (record { held = p.held; seen = p.seen ++ trigger_now p.held g ∷ []; wish = if not fired && fires memory p g then stored t to g p else p.wish }) gs
 
-keeps : (u : UnitText) (now : List Bool) (memory : Option (List Bool)) (t : Instant) (p : Passed) → Fits u (length now) p.held → (i : InstText) (r : Option (List ℕ)) → RowIs u i → HasPart u i → IsWrittenRight i → ((n : List ℕ) → r ≡ Some n → value_type u n ≡ result_type i)
+keeps : (u : UnitText) (now : List Bool) (memory : Option (List Bool)) (t : Instant) (p : Passed) → Fits u (length now) p.held → (i : InstText) (r : Option (List ℕ)) → RowIs u i → HasPart u i
+    → IsWrittenRight i → ((n : List ℕ) → r ≡ Some n → value_type u n ≡ result_type i)
     → Fits u (length now) (passes u now memory t i r p).held
-keeps u now memory t p f (const_text d) r row part written gives = held-still-fits u (length now) p.held r (Some (datum_held d)) f (λ n e x s g q. constants-fit (length now) d written x s g (sym (gives n e) ∙ q))
+keeps u now memory t p f (const_text d) r row part written gives = held-still-fits u (length now) p.held r (Some (datum_held d)) f
+    (λ n e x s g q. constants-fit (length now) d written x s g (sym (gives n e) ∙ q))
 keeps u now memory t p f (pure_text o os) r row part written gives =
     held-still-fits u (length now) p.held r (operated u p.held o os) f (λ n e x s g q. operations-fit u (length now) p.held o os f row part written x s g (sym (gives n e) ∙ q))
-keeps u now memory t p f (prb_text o) r row part written gives = held-still-fits u (length now) p.held r (probed now p.held o) f (λ n e x s g q. probes-fit u now p.held o f row x s g (sym (gives n e) ∙ q))
+keeps u now memory t p f (prb_text o) r row part written gives = held-still-fits u (length now) p.held r (probed now p.held o) f
+    (λ n e x s g q. probes-fit u now p.held o f row x s g (sym (gives n e) ∙ q))
 keeps u now memory t p f (reg_text to gs) r row part written gives = subst (Fits u (length now)) (sym (triggers-hold memory t to false p gs)) f
 keeps u now memory t p f _ r row part written gives = f
 
 -- what is held still fits after an instruction
-pub keeps-fit : (u : UnitText) (now : List Bool) (memory : Option (List Bool)) (t : Instant) (p : Passed) (l : LineText) → IsSound u l → Fits u (length now) p.held → Fits u (length now) (passes u now memory t l.inst l.result p).held
+pub keeps-fit : (u : UnitText) (now : List Bool) (memory : Option (List Bool)) (t : Instant) (p : Passed) (l : LineText) → InstIsSound u l → Fits u (length now) p.held
+    → Fits u (length now) (passes u now memory t l.inst l.result p).held
 keeps-fit u now memory t p l s f = keeps u now memory t p f l.inst l.result s.row s.part s.written s.gives
 
 module _ (a : Arena) (u : ℕ) (o : IsArena a) (h : u < unit_count a) (g : IsWellFormed (contents a)) where
@@ -73,7 +78,8 @@ module _ (a : Arena) (u : ℕ) (o : IsArena a) (h : u < unit_count a) (g : IsWel
   sound-of k e = unit-is-sound (subst (λ (x : Option UnitKind). IsSome x) (sym e) refl)
 
   -- what a process begins with fits
-  pub process-begins : kind_at a u ≡ Some kind.Proc → (args : List Range) (w : ℕ) → RangesFit w args (arg_types (unit_text_at a u).args) → Fits (unit_text_at a u) w (with_args nothing_held (unit_text_at a u).args (map part_held args))
+  pub process-begins : kind_at a u ≡ Some kind.Proc → (args : List Range) (w : ℕ) → RangesFit w args (arg_types (unit_text_at a u).args)
+      → Fits (unit_text_at a u) w (with_args nothing_held (unit_text_at a u).args (map part_held args))
   process-begins e args w f = process-fits (unit_text_at a u) w (ap kind_text e) (sound-of kind.Proc e) args f
 
   -- what an entity begins with fits

@@ -30,7 +30,8 @@ pub giving-append : (n : List ℕ) (xs ys : List LineText) → line_giving n (xs
 giving-append n [] ys = refl
 giving-append n (l ∷ xs) ys = by (is_result_name n l.result) (giving-append n xs ys)
   where
-    by : (b : Bool) → line_giving n (xs ++ ys) ≡ or_else (line_giving n xs) (line_giving n ys) → (if b then Some l.inst else line_giving n (xs ++ ys)) ≡ or_else (if b then Some l.inst else line_giving n xs) (line_giving n ys)
+    by : (b : Bool) → line_giving n (xs ++ ys) ≡ or_else (line_giving n xs) (line_giving n ys)
+        → (if b then Some l.inst else line_giving n (xs ++ ys)) ≡ or_else (if b then Some l.inst else line_giving n xs) (line_giving n ys)
     by true e = refl
     by false e = e
 
@@ -74,8 +75,10 @@ each-arg : (u : UnitText) (seen xs : List ArgText) → u.args ≡ seen ++ xs →
 each-arg u seen [] e h = tt
 each-arg u seen (a ∷ xs) e h =
     let b = or_parts (args_define a.name seen) (args_repeat (seen ++ a ∷ []) xs) h in
-    let found : arg_named a.name u.args ≡ Some a = ap (arg_named a.name) e ∙ past-args a.name seen (a ∷ xs) b.0 ∙ ap (λ x. if x then Some a else arg_named a.name xs) (same_name-refl a.name) in
-    (ap (λ o. or_else (option_map (λ (x : ArgText). x.ty) o) (option_and_then result_type (inst_giving a.name u.blocks))) found, each-arg u (seen ++ a ∷ []) xs (e ∙ sym (append_assoc seen (a ∷ []) xs)) b.1)
+    let found : arg_named a.name u.args ≡ Some a = ap (arg_named a.name) e ∙ past-args a.name seen (a ∷ xs) b.0 ∙ ap (λ x. if x then Some a else arg_named a.name xs) (same_name-refl a.name) in (
+      ap (λ o. or_else (option_map (λ (x : ArgText). x.ty) o) (option_and_then result_type (inst_giving a.name u.blocks))) found,
+      each-arg u (seen ++ a ∷ []) xs (e ∙ sym (append_assoc seen (a ∷ []) xs)) b.1,
+    )
 
 pub args-typed : (u : UnitText) → args_repeat [] u.args ≡ false → Each (HasItsType u) u.args
 args-typed u h = each-arg u [] u.args refl h

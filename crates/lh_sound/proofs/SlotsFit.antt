@@ -28,10 +28,12 @@ module _ (a : Arena) (u w : ℕ) (slots : List (Option Held)) (e : Env) (d : Hol
   held-fits : (v : ValueId) (x : Held) (t : TypeTree) → v.0 < length slots → slot_at slots v ≡ Some x → value_type (unit_text_at a u) (value_text (naming a u) v) ≡ Some t → FitsHeld w x t
   held-fits v x t l p g = f (value_text (naming a u) v) x t (sym (d.each v l) ∙ p) g
 
-  part-fits : (v : ValueId) (x : Range) (t : TypeTree) → v.0 < length slots → part_in slots v ≡ Some x → value_type (unit_text_at a u) (value_text (naming a u) v) ≡ Some (signal_type t) → IsData t × (x.len ≡ bit_count t) × (x.lo + x.len ≤ w)
+  part-fits : (v : ValueId) (x : Range) (t : TypeTree) → v.0 < length slots → part_in slots v ≡ Some x → value_type (unit_text_at a u) (value_text (naming a u) v) ≡ Some (signal_type t) → IsData t
+      × (x.len ≡ bit_count t) × (x.lo + x.len ≤ w)
   part-fits v x t l p g = held-fits v (part_held x) (signal_type t) l (part-held (slot_at slots v) x p) g
 
-  datum-fits : (v : ValueId) (x : Datum) (t : TypeTree) → v.0 < length slots → datum_in slots v ≡ Some x → value_type (unit_text_at a u) (value_text (naming a u) v) ≡ Some t → IsValueType t × FitsType x t
+  datum-fits : (v : ValueId) (x : Datum) (t : TypeTree) → v.0 < length slots → datum_in slots v ≡ Some x → value_type (unit_text_at a u) (value_text (naming a u) v) ≡ Some t → IsValueType t
+      × FitsType x t
   datum-fits v x t l p g = held-fits v (datum_held x) t l (datum-held (slot_at slots v) x p) g
 
   -- a part, from its lowest bit on, ends below bit 2 ^ 32
@@ -45,7 +47,8 @@ module _ (a : Arena) (u w : ℕ) (slots : List (Option Held)) (e : Env) (d : Hol
   each-in (o ∷ os) l = (omega (arith, l.0, d.long), each-in os l.1)
 
   -- an operation
-  pub operation-has : w < 2 ^ 32 → (o : Op) (args : List Typed) → Each (OperandWithin (sizes a u)) args → RowIs (unit_text_at a u) (pure_text o (map (operand_text (naming a u)) args)) → HasOperands o (map (operand_text (naming a u)) args) → OperandsFit a u slots o args
+  pub operation-has : w < 2 ^ 32 → (o : Op) (args : List Typed) → Each (OperandWithin (sizes a u)) args → RowIs (unit_text_at a u) (pure_text o (map (operand_text (naming a u)) args))
+      → HasOperands o (map (operand_text (naming a u)) args) → OperandsFit a u slots o args
   operation-has few o args l row has = record {
     values = λ ds q. fits-row (unit_text_at a u) w e f o (map (operand_text (naming a u)) args) row has ds (sym ((same-held a u slots e d).values args (each-in args l)) ∙ q);
     parts = each-part few args l;
@@ -61,7 +64,8 @@ module _ (a : Arena) (u w : ℕ) (slots : List (Option Held)) (e : Env) (d : Hol
       (k.1 ∙ ap bit_count h, omega (arith, k.2, n))
 
   -- a drive of a value to a signal that carries its type
-  pub drive-has : w < 2 ^ 32 → (to value : ValueId) (t : TypeTree) → to.0 < length slots → value.0 < length slots → IsOf (unit_text_at a u) (signal_type t) (value_text (naming a u) to) → IsOf (unit_text_at a u) t (value_text (naming a u) value) → DriveFits (part_in slots to) (datum_in slots value)
+  pub drive-has : w < 2 ^ 32 → (to value : ValueId) (t : TypeTree) → to.0 < length slots → value.0 < length slots → IsOf (unit_text_at a u) (signal_type t) (value_text (naming a u) to)
+      → IsOf (unit_text_at a u) t (value_text (naming a u) value) → DriveFits (part_in slots to) (datum_in slots value)
   drive-has few to value t l m p q = by (part_in slots to) (datum_in slots value) refl refl
     where
       by : (x : Option Range) (y : Option Datum) → part_in slots to ≡ x → datum_in slots value ≡ y → DriveFits x y

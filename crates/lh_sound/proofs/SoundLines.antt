@@ -21,7 +21,7 @@ use Rattle.lh_unit.proofs.Within.{Each-more}
 use Rattle.lh_spelled.specs.ItemLines.{item_line}
 use Rattle.lh_spelled.proofs.Apart.{spelled_apart}
 use Rattle.lh_spelled.proofs.Printed.{spelled_is_printable}
-use Rattle.lh_eval.specs.Sound.{IsSound}
+use Rattle.lh_eval.specs.Sound.{InstIsSound}
 use Rattle.lh_formed.proofs.EachItem.{each-contained, each-split, each-of-map}
 use Rattle.lh_formed.proofs.AtPlaces.{lines-from}
 use Rattle.lh_sound.proofs.Spelled.{SignalWritten, SignalNamed, line-written, signal-written, signal-named, header-ports}
@@ -53,7 +53,7 @@ rows-of-items items f = rows-in items (each-contained SiteTyped (sites items) (�
 pub items-printable : (items : List ItemText) → IsSpelled items → Each IsPrintableItem items
 items-printable items s = Each-more IsSpelledAlone IsPrintableItem items spelled_is_printable (spelled_apart items s).0
 
-each-sound : (u : UnitText) (ls : List LineText) → Each (IsTyped u) ls → Each HasInstLine ls → Each (GivesItsType u) ls → Each (IsSound u) ls
+each-sound : (u : UnitText) (ls : List LineText) → Each (IsTyped u) ls → Each HasInstLine ls → Each (GivesItsType u) ls → Each (InstIsSound u) ls
 each-sound u [] a b c = tt
 each-sound u (l ∷ ls) a b c = (record { row = a.0.0; part = a.0.1; written = line-written l b.0; gives = c.0 }, each-sound u ls a.1 b.1 c.1)
 
@@ -64,7 +64,7 @@ pub lines-printed : (u : UnitText) → IsPrintable u → Each HasInstLine (lines
 lines-printed u p = p.written
 
 -- Each instruction of such a unit is sound.
-pub unit-sound : (u : UnitText) → Each (IsTyped u) (lines_of u.blocks) → IsPrintable u → Each (IsSound u) (lines_of u.blocks)
+pub unit-sound : (u : UnitText) → Each (IsTyped u) (lines_of u.blocks) → IsPrintable u → Each (InstIsSound u) (lines_of u.blocks)
 unit-sound u r p = each-sound u (lines_of u.blocks) r (lines-printed u p) (results-typed u p)
 
 -- a data type within its limits

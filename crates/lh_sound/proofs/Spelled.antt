@@ -96,12 +96,14 @@ pub signal-written : (l : LineText) → HasInstLine l → SignalWritten l.inst
 signal-written l h = of-line SignalWritten signal-spelled l.result l.inst (lexemes_in (item_line (inst_item l))) h.1
 
 -- what holds of each part of a list that is spelled
-parts-each : {A : Type 0} (P : A → List Lexeme → List Lexeme → Type 0) (Q : A → Type 0) → ((x : A) (ts more : List Lexeme) → P x ts more → Q x) → (xs : List A) (ts more : List Lexeme) → SpellsParts P xs ts more → Each Q xs
+parts-each : {A : Type 0} (P : A → List Lexeme → List Lexeme → Type 0) (Q : A → Type 0) → ((x : A) (ts more : List Lexeme) → P x ts more → Q x) → (xs : List A) (ts more : List Lexeme)
+    → SpellsParts P xs ts more → Each Q xs
 parts-each P Q go [] ts more h = tt
 parts-each P Q go (x ∷ []) ts more h = (go x ts more h, tt)
 parts-each P Q go (x ∷ y ∷ xs) ts more h = (go x ts _ h.1, parts-each P Q go (y ∷ xs) h.0 more h.2)
 
-list-each : {A : Type 0} (P : A → List Lexeme → List Lexeme → Type 0) (Q : A → Type 0) → ((x : A) (ts more : List Lexeme) → P x ts more → Q x) → (xs : List A) (ts more : List Lexeme) → SpellsList P xs ts more → Each Q xs
+list-each : {A : Type 0} (P : A → List Lexeme → List Lexeme → Type 0) (Q : A → Type 0) → ((x : A) (ts more : List Lexeme) → P x ts more → Q x) → (xs : List A) (ts more : List Lexeme)
+    → SpellsList P xs ts more → Each Q xs
 list-each P Q go [] ts more h = tt
 list-each P Q go (x ∷ xs) ts more h = parts-each P Q go (x ∷ xs) ts more h
 

@@ -22,17 +22,17 @@ pub record TriggerFinds (e : Env) (g : TriggerText) : Type 0 where
   pub after : IsSome (delay_of e g.after)
 
 -- an instruction of an entity finds what it looks for in a pass; the others look for nothing there
-abbrev pub Finds : UnitText → (now : List Bool) → Instant → Passed → InstText → Type 0
-Finds u now t p (pure_text o args) = IsSome (operated u p.held o args)
-Finds u now t p (prb_text s) = IsSome (probed now p.held s)
-Finds u now t p (drv_text to value after cond) = IsSome (driven t p.held p.wish to value after cond)
-Finds u now t p (reg_text to triggers) = IsSome (part_at p.held to.value) × Each (TriggerFinds p.held) triggers
-Finds u now t p _ = Unit {0}
+abbrev pub FindsInPass : UnitText → (now : List Bool) → Instant → Passed → InstText → Type 0
+FindsInPass u now t p (pure_text o args) = IsSome (operated u p.held o args)
+FindsInPass u now t p (prb_text s) = IsSome (probed now p.held s)
+FindsInPass u now t p (drv_text to value after cond) = IsSome (driven t p.held p.wish to value after cond)
+FindsInPass u now t p (reg_text to triggers) = IsSome (part_at p.held to.value) × Each (TriggerFinds p.held) triggers
+FindsInPass u now t p _ = Unit {0}
 
 -- so does each of these instructions, where the pass comes to it
 abbrev pub FindsAll : UnitText → (now : List Bool) → (memory : Option (List Bool)) → Instant → Passed → List LineText → Type 0
 FindsAll u now memory t p [] = Unit {0}
-FindsAll u now memory t p (l ∷ more) = Finds u now t p l.inst × FindsAll u now memory t (passes u now memory t l.inst l.result p) more
+FindsAll u now memory t p (l ∷ more) = FindsInPass u now t p l.inst × FindsAll u now memory t (passes u now memory t l.inst l.result p) more
 
 -- a part of the signals is under the name of each operand of `prb` and `inst`
 abbrev pub PartsFound : Env → InstText → Type 0

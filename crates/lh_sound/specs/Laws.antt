@@ -10,7 +10,7 @@ use Rattle.lh_unit.specs.Arena.{Arena, IsArena, unit_count, kind_at, contents, u
 use Rattle.lh_unit.specs.WellFormed.{IsWellFormed}
 use Rattle.lh_unit.specs.declared.inst.UnitKind.TheVariants as kind
 use Rattle.lh_eval.specs.Fitting.{Fits}
-use Rattle.lh_eval.specs.Sound.{IsSound}
+use Rattle.lh_eval.specs.Sound.{InstIsSound}
 use Rattle.lh_sound.specs.Ranges.{RangesFit, arg_types, InstanceFits}
 use Rattle.lh_sound.specs.Units.{UnitIsSound}
 
@@ -30,5 +30,5 @@ EntitiesBeginFit = (a : Arena) (u : ℕ) → IsArena a → u < unit_count a → 
 
 -- what is held in a pass still fits after a sound instruction
 abbrev pub PassesKeepFit : Type 0
-PassesKeepFit = (u : UnitText) (now : List Bool) (memory : Option (List Bool)) (t : Instant) (p : Passed) (l : LineText) → IsSound u l →
+PassesKeepFit = (u : UnitText) (now : List Bool) (memory : Option (List Bool)) (t : Instant) (p : Passed) (l : LineText) → InstIsSound u l →
     Fits u (length now) p.held → Fits u (length now) (passes u now memory t l.inst l.result p).held

@@ -17,7 +17,8 @@ use Rattle.lh_eval.specs.Sound.{HasOperands}
 -- an operation has what it asks of its operands
 abbrev pub OperationsHave : Type 0
 OperationsHave = (a : Arena) (u width : ℕ) (slots : List (Option Held)) (e : Env) → Holds a u slots e → Fits (unit_text_at a u) width e → width < 2 ^ 32 → (o : Op) (args : List Typed) →
-    Each (OperandWithin (sizes a u)) args → RowIs (unit_text_at a u) (pure_text o (map (operand_text (naming a u)) args)) → HasOperands o (map (operand_text (naming a u)) args) → OperandsFit a u slots o args
+    Each (OperandWithin (sizes a u)) args → RowIs (unit_text_at a u) (pure_text o (map (operand_text (naming a u)) args)) → HasOperands o (map (operand_text (naming a u)) args)
+    → OperandsFit a u slots o args
 
 -- so has a probe
 abbrev pub ProbesHave : Type 0

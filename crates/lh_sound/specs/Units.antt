@@ -8,7 +8,7 @@ use Rattle.lh_unit.specs.Within.{Each}
 use Rattle.lh_unit.specs.declared.inst.UnitKind.{UnitKind}
 use Rattle.lh_unit.specs.declared.inst.UnitKind.TheVariants as kind
 use Rattle.lh_spelled.specs.Printable.{IsPrintable}
-use Rattle.lh_eval.specs.Sound.{IsSound}
+use Rattle.lh_eval.specs.Sound.{InstIsSound}
 
 -- the value of an argument has the type of the argument
 abbrev pub HasItsType : UnitText → ArgText → Type 0
@@ -35,7 +35,7 @@ HasPorts kind.Entity args = Each IsPort args
 
 -- Each instruction of a unit is sound, no name stands twice, so that each argument has its own type, and the unit can be printed so that it reads back.
 pub record UnitIsSound (u : UnitText) : Type 0 where
-  pub lines : Each (IsSound u) (lines_of u.blocks)
+  pub lines : Each (InstIsSound u) (lines_of u.blocks)
   pub args : Each (HasItsType u) u.args
   pub ports : HasPorts u.kind u.args
   pub signals : Each WritesData (lines_of u.blocks)

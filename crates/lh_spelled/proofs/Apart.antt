@@ -7,7 +7,7 @@ use Rattle.lh_unit.specs.Lines.{lines_of}
 use Rattle.lh_unit.specs.Canon.{canon}
 use Rattle.lh_unit.specs.Within.{Each}
 use Rattle.lh_unit.specs.Spells.{LineItem, empty_item, header_item, declare_item, label_item, inst_item, close_item, Spells}
-use Rattle.lh_unit.specs.Reads.{State, outside, place_in, place_in_last, place_of, may_stand, headed_unit, after, is_full, too_large, args_repeat, is_assert, value_again, label_again, defines_again, Says, Takes, Walk, start}
+use Rattle.lh_unit.specs.Reads.{ReadState, outside, place_in, place_in_last, place_of, may_stand, headed_unit, after, is_full, too_large, args_repeat, is_assert, value_again, label_again, defines_again, LineSpells, Takes, Walk, start}
 use Rattle.lh_unit.specs.declared.name.UnitName.{UnitName}
 use Rattle.lh_unit.specs.declared.inst.UnitKind.{UnitKind}
 use Rattle.lh_unit.specs.declared.inst.Declare.{Declare}
@@ -18,23 +18,23 @@ use Rattle.lh_spelled.proofs.Steps.{unit-in, no_header, no_declare}
 use Rattle.lh_spelled.proofs.Units.{repeat-unit, repeat-declare, repeat-same, headed-name}
 
 -- one line more
-pub walk-append : (a b : List (List ℕ)) (s m t : State) → Walk a s m → Walk b m t → Walk (a ++ b) s t
+pub walk-append : (a b : List (List ℕ)) (s m t : ReadState) → Walk a s m → Walk b m t → Walk (a ++ b) s t
 walk-append [] b s m t w v = subst (λ q. Walk b q t) (sym w) v
 walk-append (l ∷ a) b s m t w v = (w.0, w.1, walk-append a b w.0 m t w.2 v)
 
 -- some lines lead to this state
-record Reached (t : State) : Type 0 where
+record Reached (t : ReadState) : Type 0 where
   lines : List (List ℕ)
   walk : Walk lines start t
 
-one_more : (s t : State) (l : List ℕ) → Reached s → Takes s l t → Reached t
+one_more : (s t : ReadState) (l : List ℕ) → Reached s → Takes s l t → Reached t
 one_more s t l r k = record { lines = r.lines ++ l ∷ []; walk = walk-append r.lines (l ∷ []) start s t r.walk (t, k, refl) }
 
 alone : (i : ItemText) → Reached (read_to (i ∷ [])) → IsSpelledAlone i
 alone i r = walked-spelled r.lines (i ∷ []) r.walk
 
 -- a unit that is still open, behind these items
-abbrev pub opened : List ItemText → UnitText → State
+abbrev pub opened : List ItemText → UnitText → ReadState
 opened front u = record { items = front ++ unit_text u ∷ []; inside = true }
 
 each-push : (items : List ItemText) (i : ItemText) → Each IsSpelledAlone items → IsSpelledAlone i → Each IsSpelledAlone (items ++ i ∷ [])
@@ -58,18 +58,19 @@ Kept false items = Closed items
 Kept true items = Open items
 
 -- what a line says and that it has no fault
-pub record Fine (s : State) (l : List ℕ) (i : LineItem) : Type 0 where
-  pub said : Says s l i
+pub record Fine (s : ReadState) (l : List ℕ) (i : LineItem) : Type 0 where
+  pub said : LineSpells s l i
   pub has_room : too_large s i ≡ false
   pub is_new : defines_again s i ≡ false
 
-spells : (s : State) (l : List ℕ) (i : LineItem) (f : Fine s l i) → Spells f.said.tokens i
+spells : (s : ReadState) (l : List ℕ) (i : LineItem) (f : Fine s l i) → Spells f.said.tokens i
 spells s l i f = f.said.spelled
 
-takes-fine : (s : State) (l : List ℕ) (i : LineItem) → Fine s l i → Takes s l (after s i)
+takes-fine : (s : ReadState) (l : List ℕ) (i : LineItem) → Fine s l i → Takes s l (after s i)
 takes-fine s l i f = record { item = i; said = f.said; has_room = f.has_room; is_new = f.is_new; becomes = refl }
 
-header-kept : (items : List ItemText) (l : List ℕ) (k : UnitKind) (n : UnitName) (args : List ArgText) (r : Option TypeTree) → Closed items → Fine (read_to items) l (header_item k n args r) → Open (items ++ unit_text (headed_unit k n args r) ∷ [])
+header-kept : (items : List ItemText) (l : List ℕ) (k : UnitKind) (n : UnitName) (args : List ArgText) (r : Option TypeTree) → Closed items → Fine (read_to items) l (header_item k n args r)
+    → Open (items ++ unit_text (headed_unit k n args r) ∷ [])
 header-kept items l k n args r c f =
     let u = headed_unit k n args r in
     let a = or_parts (defines_unit n items || is_assert n) (args_repeat [] args) f.is_new in
@@ -109,7 +110,8 @@ declare-kept items l d c f =
 pub alone-stands : (front : List ItemText) (u : UnitText) (i : LineItem) → may_stand (place_of (opened front u)) i ≡ true → may_stand (place_in u.kind u.blocks) i ≡ true
 alone-stands front u i h = subst (λ o. may_stand (place_in_last o) i ≡ true) (last_unit-push front u) h
 
-label-kept : (front : List ItemText) (u : UnitText) (l : List ℕ) (n : List ℕ) → Each IsSpelledAlone front → units_repeat [] (front ++ unit_text u ∷ []) ≡ false → Reached (opened [] u) → Fine (opened front u) l (label_item n) → Open (change_last (with_block n) (front ++ unit_text u ∷ []))
+label-kept : (front : List ItemText) (u : UnitText) (l : List ℕ) (n : List ℕ) → Each IsSpelledAlone front → units_repeat [] (front ++ unit_text u ∷ []) ≡ false → Reached (opened [] u)
+    → Fine (opened front u) l (label_item n) → Open (change_last (with_block n) (front ++ unit_text u ∷ []))
 label-kept front u l n c h r f =
     let v = with_block n u in
     let t : Takes (opened [] u) l (opened [] v) = record {
@@ -122,7 +124,8 @@ label-kept front u l n c h r f =
     in
     record { front = front; unit = v; joined = change_last-push (with_block n) front u; each = c; new = repeat-same [] front v u refl ∙ h; reached = one_more (opened [] u) (opened [] v) l r t }
 
-inst-kept : (front : List ItemText) (u : UnitText) (l : List ℕ) (x : LineText) → Each IsSpelledAlone front → units_repeat [] (front ++ unit_text u ∷ []) ≡ false → Reached (opened [] u) → Fine (opened front u) l (inst_item x) → Open (change_last (with_line x) (front ++ unit_text u ∷ []))
+inst-kept : (front : List ItemText) (u : UnitText) (l : List ℕ) (x : LineText) → Each IsSpelledAlone front → units_repeat [] (front ++ unit_text u ∷ []) ≡ false → Reached (opened [] u)
+    → Fine (opened front u) l (inst_item x) → Open (change_last (with_line x) (front ++ unit_text u ∷ []))
 inst-kept front u l x c h r f =
     let v = with_line x u in
     let t : Takes (opened [] u) l (opened [] v) = record {
@@ -135,7 +138,8 @@ inst-kept front u l x c h r f =
     in
     record { front = front; unit = v; joined = change_last-push (with_line x) front u; each = c; new = repeat-same [] front v u refl ∙ h; reached = one_more (opened [] u) (opened [] v) l r t }
 
-close-kept : (front : List ItemText) (u : UnitText) (l : List ℕ) → Each IsSpelledAlone front → units_repeat [] (front ++ unit_text u ∷ []) ≡ false → Reached (opened [] u) → Fine (opened front u) l close_item → Closed (front ++ unit_text u ∷ [])
+close-kept : (front : List ItemText) (u : UnitText) (l : List ℕ) → Each IsSpelledAlone front → units_repeat [] (front ++ unit_text u ∷ []) ≡ false → Reached (opened [] u)
+    → Fine (opened front u) l close_item → Closed (front ++ unit_text u ∷ [])
 close-kept front u l c h r f =
     let t : Takes (opened [] u) l (read_to (unit_text u ∷ [])) = record {
       item = close_item;
@@ -157,9 +161,11 @@ closed-kept items l (inst_item x) c f = let e : may_stand outside (inst_item x) 
 closed-kept items l close_item c f = let e : may_stand outside close_item ≡ true = f.said.stands in absurd cc
 
 -- and where one is
-open-kept : (front : List ItemText) (u : UnitText) (l : List ℕ) (i : LineItem) → Open (front ++ unit_text u ∷ []) → Each IsSpelledAlone front → units_repeat [] (front ++ unit_text u ∷ []) ≡ false → Reached (opened [] u) → Fine (opened front u) l i → Kept (after (opened front u) i).inside (after (opened front u) i).items
+open-kept : (front : List ItemText) (u : UnitText) (l : List ℕ) (i : LineItem) → Open (front ++ unit_text u ∷ []) → Each IsSpelledAlone front → units_repeat [] (front ++ unit_text u ∷ []) ≡ false
+    → Reached (opened [] u) → Fine (opened front u) l i → Kept (after (opened front u) i).inside (after (opened front u) i).items
 open-kept front u l empty_item o c h r f = o
-open-kept front u l (header_item k n args t) o c h r f = absurd (no_header (place_in u.kind u.blocks) k n args t (unit-in u.kind u.blocks) (alone-stands front u (header_item k n args t) f.said.stands))
+open-kept front u l (header_item k n args t) o c h r f = absurd
+    (no_header (place_in u.kind u.blocks) k n args t (unit-in u.kind u.blocks) (alone-stands front u (header_item k n args t) f.said.stands))
 open-kept front u l (declare_item d) o c h r f = absurd (no_declare (place_in u.kind u.blocks) d (unit-in u.kind u.blocks) (alone-stands front u (declare_item d) f.said.stands))
 open-kept front u l (label_item n) o c h r f = label-kept front u l n c h r f
 open-kept front u l (inst_item x) o c h r f = inst-kept front u l x c h r f
@@ -172,7 +178,7 @@ kept-by true items l i o f =
     subst (λ q. Fine (record { items = q; inside = true }) l i → Kept (after (record { items = q; inside = true }) i).inside (after (record { items = q; inside = true }) i).items) (sym o.joined)
     (λ g. open-kept o.front o.unit l i (subst Open o.joined o) o.each o.new o.reached g) f
 
-walked-kept : (ls : List (List ℕ)) (s t : State) → Walk ls s t → Kept s.inside s.items → Kept t.inside t.items
+walked-kept : (ls : List (List ℕ)) (s t : ReadState) → Walk ls s t → Kept s.inside s.items → Kept t.inside t.items
 walked-kept [] s t w c = subst (λ q. Kept q.inside q.items) w c
 walked-kept (l ∷ ls) s t w c =
     let k = w.1 in

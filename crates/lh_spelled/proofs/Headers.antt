@@ -19,7 +19,7 @@ use Rattle.lh_unit.specs.declared.inst.UnitKind.TheVariants as kind
 use Rattle.lh_unit.specs.declared.inst.Declare.{Declare}
 use Rattle.lh_unit.specs.declared.inst.Declare.TheVariants as declare
 use Rattle.lh_spelled.proofs.Spacing.{spaced-append, spaced-space, spaced-enclosed}
-use Rattle.lh_spelled.proofs.Again.{Whole, Stands, Again, at_end, again-map, list-again}
+use Rattle.lh_spelled.proofs.Again.{Whole, PiecesSpell, Again, at_end, again-map, list-again}
 use Rattle.lh_spelled.proofs.Types.{type-again, row_pieces-list}
 use Rattle.lh_spelled.proofs.Operands.{unit_lexeme, unit-again, typed-again}
 use Rattle.lh_spelled.proofs.Insts.{parens}
@@ -70,10 +70,11 @@ params-again args r ts l h =
     let e : commas (map typed_name h.params) ≡ arguments args = ap commas (sym (map-inputs h.params)) ∙ ap arguments (sym h.together) in
     let a = list-again SpellsParam typed_name param-again h.params h.first (close_paren ∷ h.second) k.1 h.spelled_params in
     let b = type-again r h.second (open_brace ∷ []) a.left.1 h.spelled_result in
-    let s : Stands (SpellsList SpellsParam h.params) (arguments args) = subst (Stands (SpellsList SpellsParam h.params)) e a.stands in
+    let s : PiecesSpell (SpellsList SpellsParam h.params) (arguments args) = subst (PiecesSpell (SpellsList SpellsParam h.params)) e a.stands in
     let end = space ∷ (type_pieces r ␣ mark open_brace) in
     record {
-      spaced = spaced-append (in_parens (arguments args)) end (spaced-enclosed 40 41 (arguments args) refl refl s.spaced) (spaced-space (type_pieces r) (mark open_brace) b.stands.spaced (refl, refl, tt)) refl;
+      spaced = spaced-append (in_parens (arguments args)) end (spaced-enclosed 40 41 (arguments args) refl refl s.spaced)
+          (spaced-space (type_pieces r) (mark open_brace) b.stands.spaced (refl, refl, tt)) refl;
       spelled = record {
         params = h.params;
         together = h.together;
@@ -92,16 +93,19 @@ ports-again args ts l h =
     let k : Each IsLexeme (open_paren ∷ h.first) = subst (Each IsLexeme) h.opened l in
     let xs = arguments (side_of false args) in
     let ys = arguments (side_of true args) in
-    let e : commas (map typed_name h.inputs) ≡ xs = ap commas (sym (map-inputs h.inputs)) ∙ ap arguments (sym (side-inputs h.inputs h.outputs)) ∙ ap (λ q. arguments (side_of false q)) (sym h.together) in
-    let f : commas (map typed_name h.outputs) ≡ ys = ap commas (sym (map-outputs h.outputs)) ∙ ap arguments (sym (side-outputs h.inputs h.outputs)) ∙ ap (λ q. arguments (side_of true q)) (sym h.together) in
+    let e : commas (map typed_name h.inputs) ≡ xs = ap commas (sym (map-inputs h.inputs)) ∙ ap arguments (sym (side-inputs h.inputs h.outputs))
+    ∙ ap (λ q. arguments (side_of false q)) (sym h.together) in
+    let f : commas (map typed_name h.outputs) ≡ ys = ap commas (sym (map-outputs h.outputs)) ∙ ap arguments (sym (side-outputs h.inputs h.outputs))
+    ∙ ap (λ q. arguments (side_of true q)) (sym h.together) in
     let a = list-again SpellsPort typed_name port-again h.inputs h.first (close_paren ∷ arrow ∷ open_paren ∷ h.second) k.1 h.spelled_inputs in
     let b = list-again SpellsPort typed_name port-again h.outputs h.second (close_paren ∷ open_brace ∷ []) a.left.1.1.1 h.spelled_outputs in
-    let s : Stands (SpellsList SpellsPort h.inputs) xs = subst (Stands (SpellsList SpellsPort h.inputs)) e a.stands in
-    let t : Stands (SpellsList SpellsPort h.outputs) ys = subst (Stands (SpellsList SpellsPort h.outputs)) f b.stands in
+    let s : PiecesSpell (SpellsList SpellsPort h.inputs) xs = subst (PiecesSpell (SpellsList SpellsPort h.inputs)) e a.stands in
+    let t : PiecesSpell (SpellsList SpellsPort h.outputs) ys = subst (PiecesSpell (SpellsList SpellsPort h.outputs)) f b.stands in
     let last = space ∷ mark open_brace in
     let end = space ∷ token arrow ∷ space ∷ (in_parens ys ++ last) in
     record {
-      spaced = spaced-append (in_parens xs) end (spaced-enclosed 40 41 xs refl refl s.spaced) (tt, refl, spaced-append (in_parens ys) last (spaced-enclosed 40 41 ys refl refl t.spaced) (refl, refl, tt) refl) refl;
+      spaced = spaced-append (in_parens xs) end (spaced-enclosed 40 41 xs refl refl s.spaced)
+          (tt, refl, spaced-append (in_parens ys) last (spaced-enclosed 40 41 ys refl refl t.spaced) (refl, refl, tt) refl) refl;
       spelled = record {
         inputs = h.inputs;
         outputs = h.outputs;
@@ -115,7 +119,8 @@ ports-again args ts l h =
     }
 
 -- the head of a unit
-pub header-again : (k : UnitKind) (n : UnitName) (args : List ArgText) (r : Option TypeTree) (ts : List Lexeme) → Each IsLexeme ts → SpellsHeader k n args r ts → Whole (SpellsHeader k n args r) (header k n args r)
+pub header-again : (k : UnitKind) (n : UnitName) (args : List ArgText) (r : Option TypeTree) (ts : List Lexeme) → Each IsLexeme ts → SpellsHeader k n args r ts
+    → Whole (SpellsHeader k n args r) (header k n args r)
 header-again kind.Func n args (Some r) ts l h =
     let k : Each IsLexeme (word (codes "func") ∷ h.0 ∷ h.1) = subst (Each IsLexeme) h.2 l in
     let u = unit-again n h.0 k.1.0 h.3 in
@@ -142,19 +147,28 @@ declare-again (declare.Func n ps r) ts l h =
     let u = unit-again n h.0 k.1.0 h.4 in
     let a = list-again SpellsValueType type_pieces value_type-again ps h.1 (close_paren ∷ h.2) k.1.1.1 h.5 in
     let b = type-again r h.2 [] a.left.1 h.6 in
-    let s : Stands (SpellsList SpellsValueType ps) (types ps) = subst (Stands (SpellsList SpellsValueType ps)) (sym (row_pieces-list ps)) a.stands in
+    let s : PiecesSpell (SpellsList SpellsValueType ps) (types ps) = subst (PiecesSpell (SpellsList SpellsValueType ps)) (sym (row_pieces-list ps)) a.stands in
     let end = space ∷ type_pieces r in
     record {
       spaced = (k.0, refl, (u.written, and-false (takes_more (unit_lexeme n)), spaced-append (in_parens (types ps)) end (spaced-enclosed 40 41 (types ps) refl refl s.spaced) b.stands.spaced refl));
-      spelled = (unit_lexeme n, lexemes_in ((types ps ++ mark close_paren) ++ end), lexemes_in end, refl, u.spelled, parens (SpellsList SpellsValueType ps) (types ps) end s, at_end (SpellsType r) (type_pieces r) b.stands, h.7);
+      spelled = (
+        unit_lexeme n,
+        lexemes_in ((types ps ++ mark close_paren) ++ end),
+        lexemes_in end,
+        refl,
+        u.spelled,
+        parens (SpellsList SpellsValueType ps) (types ps) end s,
+        at_end (SpellsType r) (type_pieces r) b.stands,
+        h.7,
+      );
     }
 declare-again (declare.Unit n xs ys) ts l h =
     let k : Each IsLexeme (word (codes "declare") ∷ h.0 ∷ open_paren ∷ h.1) = subst (Each IsLexeme) h.3 l in
     let u = unit-again n h.0 k.1.0 h.4 in
     let a = list-again SpellsSignalType type_pieces signal_type-again xs h.1 (close_paren ∷ arrow ∷ open_paren ∷ h.2) k.1.1.1 h.5 in
     let b = list-again SpellsSignalType type_pieces signal_type-again ys h.2 (close_paren ∷ []) a.left.1.1.1 h.6 in
-    let s : Stands (SpellsList SpellsSignalType xs) (types xs) = subst (Stands (SpellsList SpellsSignalType xs)) (sym (row_pieces-list xs)) a.stands in
-    let t : Stands (SpellsList SpellsSignalType ys) (types ys) = subst (Stands (SpellsList SpellsSignalType ys)) (sym (row_pieces-list ys)) b.stands in
+    let s : PiecesSpell (SpellsList SpellsSignalType xs) (types xs) = subst (PiecesSpell (SpellsList SpellsSignalType xs)) (sym (row_pieces-list xs)) a.stands in
+    let t : PiecesSpell (SpellsList SpellsSignalType ys) (types ys) = subst (PiecesSpell (SpellsList SpellsSignalType ys)) (sym (row_pieces-list ys)) b.stands in
     let end = space ∷ token arrow ∷ space ∷ in_parens (types ys) in
     record {
       spaced = (
@@ -166,5 +180,14 @@ declare-again (declare.Unit n xs ys) ts l h =
           spaced-append (in_parens (types xs)) end (spaced-enclosed 40 41 (types xs) refl refl s.spaced) (tt, refl, spaced-enclosed 40 41 (types ys) refl refl t.spaced) refl,
         ),
       );
-      spelled = (unit_lexeme n, lexemes_in ((types xs ++ mark close_paren) ++ end), lexemes_in (types ys ++ mark close_paren), refl, u.spelled, parens (SpellsList SpellsSignalType xs) (types xs) end s, t.spelled (mark close_paren));
+      spelled = (
+        unit_lexeme n,
+        lexemes_in ((types xs ++ mark close_paren) ++ end),
+        lexemes_in (types ys ++ mark close_paren),
+        refl,
+        u.spelled,
+        parens (SpellsList SpellsSignalType xs) (types xs) end
+            s,
+        t.spelled (mark close_paren),
+      );
     }

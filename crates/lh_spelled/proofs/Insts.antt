@@ -16,14 +16,14 @@ use Rattle.lh_unit.specs.SpellsParts.{SpellsParts, SpellsList, SpellsBehind, Spe
 use Rattle.lh_unit.specs.SpellsInst.{SpellsDelay, SpellsWordTyped, SpellsInst, SpellsLine}
 use Rattle.lh_unit.specs.declared.name.UnitName.{UnitName}
 use Rattle.lh_spelled.proofs.Spacing.{spaced-append, spaced-space, spaced-comma, spaced-enclosed, word-lexeme}
-use Rattle.lh_spelled.proofs.Again.{Whole, Stands, Again, at_end, joined, parts-again, list-again, behind-again}
+use Rattle.lh_spelled.proofs.Again.{Whole, PiecesSpell, Again, at_end, joined, parts-again, list-again, behind-again}
 use Rattle.lh_spelled.proofs.Types.{type-again}
 use Rattle.lh_spelled.proofs.Numbers.{integer-again, time-again}
 use Rattle.lh_spelled.proofs.Operands.{unit_lexeme, unit-again, local-again, operand-again, with_type-again, some-stands, maybe-again, maybe-begins, maybe-alone, trigger-again, edge-again}
 use Rattle.lh_spelled.proofs.Operations.{behind-begins, pure-again}
 
 -- a list in parentheses, and what follows
-pub parens : (S : List Lexeme → List Lexeme → Type 0) (ps rest : List Piece) → Stands S ps → S (lexemes_in ((ps ++ mark close_paren) ++ rest)) (close_paren ∷ lexemes_in rest)
+pub parens : (S : List Lexeme → List Lexeme → Type 0) (ps rest : List Piece) → PiecesSpell S ps → S (lexemes_in ((ps ++ mark close_paren) ++ rest)) (close_paren ∷ lexemes_in rest)
 parens S ps rest s = joined (λ ts more. S ts (close_paren ∷ more)) ps (mark close_paren) rest (s.spelled (token close_paren ∷ rest))
 
 -- a word, and behind it an operand with its type
@@ -65,7 +65,7 @@ st-again p v ts l h =
 -- the delay and the condition of a drive
 record Delayed (d : List ℕ) (c : Option (List ℕ)) : Type 0 where
   named : IsName d
-  cond : Stands (SpellsMaybe (codes "if") c) (maybe (codes "if") c)
+  cond : PiecesSpell (SpellsMaybe (codes "if") c) (maybe (codes "if") c)
 
 delay-again : (d : List ℕ) (c : Option (List ℕ)) (ts : List Lexeme) → Each IsLexeme ts → SpellsDelay d c ts → Delayed d c
 delay-again d c ts l (inl h) =
@@ -76,9 +76,10 @@ delay-again d c ts l (inr (inl h)) =
     record { named = k.1.0; cond = (maybe-again (codes "if") c h.0 [] (word-lexeme (codes "if") refl) k.1.1 h.2).stands }
 delay-again d c ts l (inr (inr h)) =
     let k : Each IsLexeme (word (codes "if") ∷ local h.0 ∷ word (codes "after") ∷ local d ∷ []) = subst (Each IsLexeme) h.2 l in
-    record { named = k.1.1.1.0; cond = subst (λ o. Stands (SpellsMaybe (codes "if") o) (maybe (codes "if") o)) (sym h.1) (some-stands (codes "if") h.0 (word-lexeme (codes "if") refl) k.1.0) }
+    record { named = k.1.1.1.0; cond = subst (λ o. PiecesSpell (SpellsMaybe (codes "if") o) (maybe (codes "if") o)) (sym h.1) (some-stands (codes "if") h.0 (word-lexeme (codes "if") refl) k.1.0) }
 
-drv-again : (s : OperandText) (v d : List ℕ) (c : Option (List ℕ)) (ts : List Lexeme) → Each IsLexeme ts → SpellsInst (drv_text s v d c) ts → Whole (SpellsInst (drv_text s v d c)) (inst_pieces (drv_text s v d c))
+drv-again : (s : OperandText) (v d : List ℕ) (c : Option (List ℕ)) (ts : List Lexeme) → Each IsLexeme ts → SpellsInst (drv_text s v d c) ts
+    → Whole (SpellsInst (drv_text s v d c)) (inst_pieces (drv_text s v d c))
 drv-again s v d c ts l h =
     let a = worded-again (codes "drv") s ts (comma ∷ local v ∷ h.0) l h.1 in
     let b = delay-again d c h.0 a.left.1.1 h.2 in
@@ -100,7 +101,8 @@ reg-again q (g ∷ gs) ts l h =
       spelled = (lexemes_in end, a.stands.spelled (token comma ∷ space ∷ end), at_end (SpellsParts SpellsTrigger (g ∷ gs)) end b.stands);
     }
 
-child-again : (u : UnitName) (xs ys : List OperandText) (ts : List Lexeme) → Each IsLexeme ts → SpellsInst (child_text u xs ys) ts → Whole (SpellsInst (child_text u xs ys)) (inst_pieces (child_text u xs ys))
+child-again : (u : UnitName) (xs ys : List OperandText) (ts : List Lexeme) → Each IsLexeme ts → SpellsInst (child_text u xs ys) ts
+    → Whole (SpellsInst (child_text u xs ys)) (inst_pieces (child_text u xs ys))
 child-again u xs ys ts l h =
     let k : Each IsLexeme (word (codes "inst") ∷ h.0 ∷ open_paren ∷ h.1) = subst (Each IsLexeme) h.3 l in
     let n = unit-again u h.0 k.1.0 h.4 in
@@ -117,10 +119,20 @@ child-again u xs ys ts l h =
           spaced-append (in_parens (operands xs)) end (spaced-enclosed 40 41 (operands xs) refl refl a.stands.spaced) (tt, refl, spaced-enclosed 40 41 (operands ys) refl refl b.stands.spaced) refl,
         ),
       );
-      spelled = (unit_lexeme u, lexemes_in ((operands xs ++ mark close_paren) ++ end), lexemes_in (operands ys ++ mark close_paren), refl, n.spelled, parens (SpellsList SpellsOperand xs) (operands xs) end a.stands, b.stands.spelled (mark close_paren));
+      spelled = (
+        unit_lexeme u,
+        lexemes_in ((operands xs ++ mark close_paren) ++ end),
+        lexemes_in (operands ys ++ mark close_paren),
+        refl,
+        n.spelled,
+        parens (SpellsList SpellsOperand xs) (operands xs)
+            end a.stands,
+        b.stands.spelled (mark close_paren),
+      );
     }
 
-call-again : (f : UnitName) (r : TypeTree) (xs : List OperandText) (ts : List Lexeme) → Each IsLexeme ts → SpellsInst (call_text f r xs) ts → Whole (SpellsInst (call_text f r xs)) (inst_pieces (call_text f r xs))
+call-again : (f : UnitName) (r : TypeTree) (xs : List OperandText) (ts : List Lexeme) → Each IsLexeme ts → SpellsInst (call_text f r xs) ts
+    → Whole (SpellsInst (call_text f r xs)) (inst_pieces (call_text f r xs))
 call-again f r xs ts l h =
     let k : Each IsLexeme (word (codes "call") ∷ h.1) = subst (Each IsLexeme) h.3 l in
     let a = type-again r h.1 (h.0 ∷ open_paren ∷ h.2) k.1 h.4 in
@@ -143,7 +155,8 @@ phi-again t es ts l h =
       spelled = (lexemes_in (type_pieces t ␣ end), lexemes_in end, refl, a.stands.spelled (space ∷ end), at_end (SpellsParts SpellsEdge es) end b.stands);
     }
 
-wait-again : (b : List ℕ) (d : Option (List ℕ)) (ss : List (List ℕ)) (ts : List Lexeme) → Each IsLexeme ts → SpellsInst (wait_text b d ss) ts → Whole (SpellsInst (wait_text b d ss)) (inst_pieces (wait_text b d ss))
+wait-again : (b : List ℕ) (d : Option (List ℕ)) (ss : List (List ℕ)) (ts : List Lexeme) → Each IsLexeme ts → SpellsInst (wait_text b d ss) ts
+    → Whole (SpellsInst (wait_text b d ss)) (inst_pieces (wait_text b d ss))
 wait-again b d ss ts l h =
     let k : Each IsLexeme (word (codes "wait") ∷ local b ∷ h.0) = subst (Each IsLexeme) h.2 l in
     let a = maybe-again (codes "for") d h.0 h.1 (word-lexeme (codes "for") refl) k.1.1 h.3 in

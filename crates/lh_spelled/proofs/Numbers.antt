@@ -13,7 +13,7 @@ use Rattle.lh_unit.specs.Within.{Each}
 use Rattle.lh_unit.specs.SpellsNumbers.{SpellsNumber, SpellsInteger, unit_scale, SpellsFemtoseconds, SpellsSteps, SpellsTime}
 use Rattle.lh_spelled.proofs.Numerals.{number_of-decimal, decimal-named, decimal-some, all_name_bytes-append}
 use Rattle.lh_spelled.proofs.Spacing.{spaced-append}
-use Rattle.lh_spelled.proofs.Again.{Stands, Again, at_end}
+use Rattle.lh_spelled.proofs.Again.{PiecesSpell, Again, at_end}
 use Rattle.lh_spelled.proofs.Types.{number-lexeme}
 
 -- a number below 2^32
@@ -69,7 +69,7 @@ steps-below letter n ts more (inr h) = h.3
 
 -- a count of steps stands, and no word comes first
 record Stepped (letter n : ℕ) (ps : List Piece) : Type 0 where
-  stands : Stands (SpellsSteps letter n) ps
+  stands : PiecesSpell (SpellsSteps letter n) ps
   begins : (more : List Piece) → begins_with_word more ≡ false → begins_with_word (ps ++ more) ≡ false
 
 steps_pieces-stands : (letter n : ℕ) → is_name_byte letter ≡ true → n < 2 ^ 31 → Stepped letter n (steps_pieces n letter)
@@ -97,7 +97,15 @@ time-again d ts h =
     let b = steps_pieces-stands 101 d.eps refl (steps-below 101 d.eps h.2 [] h.6) in
     let nb : begins_with_word (steps_pieces d.eps 101) ≡ false = last_begins d.eps in
     let n : begins_with_word (steps_pieces d.delta 100 ++ steps_pieces d.eps 101) ≡ false = a.begins (steps_pieces d.eps 101) nb in (
-      (time_text d.fs, lexemes_in (steps_pieces d.delta 100 ++ steps_pieces d.eps 101), lexemes_in (steps_pieces d.eps 101), refl, t.spelled, a.stands.spelled (steps_pieces d.eps 101), at_end (SpellsSteps 101 d.eps) (steps_pieces d.eps 101) b.stands),
+      (
+        time_text d.fs,
+        lexemes_in (steps_pieces d.delta 100 ++ steps_pieces d.eps 101),
+        lexemes_in (steps_pieces d.eps 101),
+        refl,
+        t.spelled,
+        a.stands.spelled (steps_pieces d.eps 101),
+        at_end (SpellsSteps 101 d.eps) (steps_pieces d.eps 101) b.stands,
+      ),
       (t.written, n, spaced-append (steps_pieces d.delta 100) (steps_pieces d.eps 101) a.stands.spaced b.stands.spaced nb),
     )
   where

@@ -15,7 +15,7 @@ digits_from-append n m [] b e = let q : n ≡ m = cc in ap (λ k. digits_from k 
 digits_from-append n m (c ∷ a) b e = append_step n m c a b (is_digit c) refl (digits_from-append (n * 10 + (c - 48)) m a b) e
 
 -- bytes that say a number, each a digit
-record Says (n : ℕ) (ds : List ℕ) : Type 0 where
+record IsNumeralOf (n : ℕ) (ds : List ℕ) : Type 0 where
   some : 1 ≤ length ds
   named : all_name_bytes ds ≡ true
   says : digits_from 0 ds ≡ Some n
@@ -40,10 +40,10 @@ one_digit n h = let v : 0 * 10 + (48 + n - 48) ≡ n = omega arith in rw (digit-
 next_digit : (m : ℕ) → digits_from (m / 10) ((48 + m % 10) ∷ []) ≡ Some m
 next_digit m = let v : m / 10 * 10 + (48 + m % 10 - 48) ≡ m = omega arith in rw (digit-is (m % 10) (omega arith)) (ap (λ k. Some k) v)
 
-says-first : (n : ℕ) → n < 10 → Says n ((48 + n) ∷ [])
+says-first : (n : ℕ) → n < 10 → IsNumeralOf n ((48 + n) ∷ [])
 says-first n h = record { some = omega arith; named = rw (digit-named n h) refl; says = one_digit n h }
 
-says-next : (m : ℕ) (ds : List ℕ) → 10 ≤ m → Says (m / 10) ds → Says m (ds ++ (48 + m % 10) ∷ [])
+says-next : (m : ℕ) (ds : List ℕ) → 10 ≤ m → IsNumeralOf (m / 10) ds → IsNumeralOf m (ds ++ (48 + m % 10) ∷ [])
 says-next m ds l h =
     record {
       some = omega (arith, length-append ds ((48 + m % 10) ∷ []));
@@ -51,8 +51,8 @@ says-next m ds l h =
       says = digits_from-append 0 (m / 10) ds ((48 + m % 10) ∷ []) h.says ∙ next_digit m;
     }
 
-says-decimal : (n : ℕ) → n < 10 ^ 64 → Says n (decimal n)
-says-decimal = decimal_by_steps_wide Says says-first says-next
+says-decimal : (n : ℕ) → n < 10 ^ 64 → IsNumeralOf n (decimal n)
+says-decimal = decimal_by_steps_wide IsNumeralOf says-first says-next
 
 number_of-digits : (ds : List ℕ) → 1 ≤ length ds → number_of ds ≡ digits_from 0 ds
 number_of-digits [] h = absurd (omega arith)

@@ -17,7 +17,7 @@ use Rattle.lh_unit.specs.SpellsParts.{SpellsUnitName, SpellsLocal, SpellsTyped, 
 use Rattle.lh_unit.specs.SpellsInst.{Column, typed, bare, free, SpellsColumn, SpellsColumns}
 use Rattle.lh_unit.specs.declared.name.UnitName.{UnitName}
 use Rattle.lh_spelled.proofs.Spacing.{spaced-append, spaced-space, spaced-comma, spaced-enclosed, word-lexeme}
-use Rattle.lh_spelled.proofs.Again.{Stands, Again, joined, again-map, again-nothing}
+use Rattle.lh_spelled.proofs.Again.{PiecesSpell, Again, joined, again-map, again-nothing}
 use Rattle.lh_spelled.proofs.Types.{type-again}
 
 -- the name of a unit, as it is written
@@ -75,14 +75,16 @@ operand_typed o t ts more e h = subst (λ ty. SpellsTyped ty o.value ts more) e 
 
 -- an operand with its type
 pub with_type-again : (o : OperandText) (ts more : List Lexeme) → Each IsLexeme ts → SpellsWithType o ts more → Again (SpellsWithType o) (operand o) more
-with_type-again o ts more l h = again-map (SpellsOperand o) (SpellsWithType o) (operand o) more (λ us vs g. (h.0, h.1, operand_typed o h.0 us vs h.1 g)) (operand-again o ts more l (typed_operand o h.0 ts more h.1 h.2))
+with_type-again o ts more l h = again-map (SpellsOperand o) (SpellsWithType o) (operand o) more (λ us vs g. (h.0, h.1, operand_typed o h.0 us vs h.1 g))
+    (operand-again o ts more l (typed_operand o h.0 ts more h.1 h.2))
 
 column-again : (c : Column) (o : OperandText) (ts more : List Lexeme) → Each IsLexeme ts → SpellsColumn c o ts more → Again (SpellsColumn c o) (operand o) more
 column-again typed o ts more l h = with_type-again o ts more l h
 column-again bare o ts more l h = bare-again o ts more l h
 column-again free o ts more l h = operand-again o ts more l h
 
-two_columns : (c d : Column) (cs : List Column) (o p : OperandText) (os : List OperandText) → Stands (SpellsColumn c o) (operand o) → Stands (SpellsColumns (d ∷ cs) (p ∷ os)) (operands (p ∷ os)) → Stands (SpellsColumns (c ∷ d ∷ cs) (o ∷ p ∷ os)) (operands (o ∷ p ∷ os))
+two_columns : (c d : Column) (cs : List Column) (o p : OperandText) (os : List OperandText) → PiecesSpell (SpellsColumn c o) (operand o)
+    → PiecesSpell (SpellsColumns (d ∷ cs) (p ∷ os)) (operands (p ∷ os)) → PiecesSpell (SpellsColumns (c ∷ d ∷ cs) (o ∷ p ∷ os)) (operands (o ∷ p ∷ os))
 two_columns c d cs o p os r s =
     record {
       spaced = spaced-comma (operand o) (operands (p ∷ os)) r.spaced s.spaced;
@@ -100,7 +102,7 @@ columns-again (c ∷ d ∷ cs) (o ∷ p ∷ os) ts more l h =
 columns-again _ _ ts more l h = absurd h
 
 -- a word and a value stand
-pub some-stands : (w n : List ℕ) → IsLexeme (word w) → IsName n → Stands (SpellsMaybe w (Some n)) (maybe w (Some n))
+pub some-stands : (w n : List ℕ) → IsLexeme (word w) → IsName n → PiecesSpell (SpellsMaybe w (Some n)) (maybe w (Some n))
 some-stands w n i k = record { spaced = (i, refl, (k, refl, tt)); spelled = λ rest. refl }
 
 -- a word and a value, or nothing
@@ -116,7 +118,8 @@ pub maybe-alone : (w : List ℕ) (o : Option (List ℕ)) → begins_with_word (m
 maybe-alone w None = refl
 maybe-alone w (Some n) = refl
 
-trigger-stands : (g : TriggerText) → IsName g.value → IsLexeme (word (mode_word g.mode)) → IsName g.trigger → Stands (SpellsMaybe (codes "if") g.gate) (maybe (codes "if") g.gate) → Stands (SpellsMaybe (codes "after") g.after) (maybe (codes "after") g.after) → Stands (SpellsTrigger g) (trigger g)
+trigger-stands : (g : TriggerText) → IsName g.value → IsLexeme (word (mode_word g.mode)) → IsName g.trigger → PiecesSpell (SpellsMaybe (codes "if") g.gate) (maybe (codes "if") g.gate)
+    → PiecesSpell (SpellsMaybe (codes "after") g.after) (maybe (codes "after") g.after) → PiecesSpell (SpellsTrigger g) (trigger g)
 trigger-stands g v m t a b =
     let gate = maybe (codes "if") g.gate in
     let after = maybe (codes "after") g.after in

@@ -16,7 +16,7 @@ use Rattle.lh_unit.specs.SpellsParts.{SpellsBehind, SpellsOperand, SpellsBare, S
 use Rattle.lh_unit.specs.SpellsInst.{columns, IsOpWord, SpellsWordOp, SpellsPure}
 use Rattle.lh_spelled.proofs.Numerals.{number_of-decimal}
 use Rattle.lh_spelled.proofs.Spacing.{spaced-append, spaced-enclosed, word-lexeme}
-use Rattle.lh_spelled.proofs.Again.{Whole, Stands, at_end, parts-again, behind-again}
+use Rattle.lh_spelled.proofs.Again.{Whole, PiecesSpell, at_end, parts-again, behind-again}
 use Rattle.lh_spelled.proofs.Types.{number-lexeme}
 use Rattle.lh_spelled.proofs.Numbers.{number-again}
 use Rattle.lh_spelled.proofs.Operands.{operand-again, bare-again, with_type-again, columns-again, typed_operand, operand_typed}
@@ -48,7 +48,8 @@ word_op-again o args ts l h =
       spelled = (op_word o, lexemes_in (operands args ++ behind), lexemes_in behind, refl, word-is o, a.stands.spelled behind, at_end (SpellsBehind SpellsNumber (op_numbers o)) behind b.stands);
     }
 
-array-again : (o : OperandText) (rest : List OperandText) (ts : List Lexeme) → Each IsLexeme ts → SpellsPure op.Array (o ∷ rest) ts → Whole (SpellsPure op.Array (o ∷ rest)) (operation op.Array (o ∷ rest))
+array-again : (o : OperandText) (rest : List OperandText) (ts : List Lexeme) → Each IsLexeme ts → SpellsPure op.Array (o ∷ rest) ts
+    → Whole (SpellsPure op.Array (o ∷ rest)) (operation op.Array (o ∷ rest))
 array-again o rest ts l h =
     let k : Each IsLexeme (open_bracket ∷ h.1) = subst (Each IsLexeme) h.3 l in
     let a = operand-again o h.1 h.2 k.1 (typed_operand o h.0 h.1 h.2 h.4 h.5) in
@@ -66,7 +67,7 @@ repeat-again : (n : ℕ) (o : OperandText) (ts : List Lexeme) → Each IsLexeme 
 repeat-again n o ts l h =
     let k : Each IsLexeme (open_bracket ∷ word h.1 ∷ word (codes "x") ∷ h.2) = subst (Each IsLexeme) h.3 l in
     let a = operand-again o h.2 (close_bracket ∷ []) k.1.1.1 (typed_operand o h.0 h.2 (close_bracket ∷ []) h.5 h.6) in
-    let s : Stands (SpellsOperand o) (operands (o ∷ [])) = subst (Stands (SpellsOperand o)) (sym (append-nil (operand o))) a.stands in
+    let s : PiecesSpell (SpellsOperand o) (operands (o ∷ [])) = subst (PiecesSpell (SpellsOperand o)) (sym (append-nil (operand o))) a.stands in
     let b : n < 2 ^ 32 = h.7.2 in
     let w : n < 10 ^ 64 = omega arith in
     record {

@@ -8,7 +8,7 @@ use Rattle.lh_unit.specs.Contents.{ArgText, LineText, BlockText, UnitText, ItemT
 use Rattle.lh_unit.specs.Canon.{canon}
 use Rattle.lh_unit.specs.Lines.{lines_of as written_lines}
 use Rattle.lh_unit.specs.Spells.{LineItem, empty_item, header_item, declare_item, label_item, inst_item, close_item}
-use Rattle.lh_unit.specs.Reads.{State, outside, has_lines, in_block, in_empty_block, place_after, place_in, may_stand, headed_unit, after, is_full, args_repeat, is_assert, value_again, label_again, most_lines, Walk, start}
+use Rattle.lh_unit.specs.Reads.{ReadState, outside, has_lines, in_block, in_empty_block, place_after, place_in, may_stand, headed_unit, after, is_full, args_repeat, is_assert, value_again, label_again, most_lines, Walk, start}
 use Rattle.lh_unit.specs.Within.{Each}
 use Rattle.lh_unit.specs.Hierarchy.{lines_of}
 use Rattle.lh_unit.specs.declared.name.UnitName.{UnitName}
@@ -50,7 +50,8 @@ record Part (u : UnitText) : Type 0 where
   fits : line_count u.blocks ≤ most_lines
 
 -- a header
-part-start : (k : UnitKind) (n : UnitName) (args : List ArgText) (r : Option TypeTree) → HasLine (header_item k n args r) → is_assert n ≡ false → args_repeat [] args ≡ false → Part (unit_of k n args r (start_blocks k))
+part-start : (k : UnitKind) (n : UnitName) (args : List ArgText) (r : Option TypeTree) → HasLine (header_item k n args r) → is_assert n ≡ false → args_repeat [] args ≡ false
+    → Part (unit_of k n args r (start_blocks k))
 part-start kind.Func n args r h a b = record { headed = h; shaped = tt; lines = tt; no_assert = a; new_args = b; new_labels = refl; new_results = refl; fits = omega arith }
 part-start kind.Proc n args r h a b = record { headed = h; shaped = tt; lines = tt; no_assert = a; new_args = b; new_labels = refl; new_results = refl; fits = omega arith }
 part-start kind.Entity n args r h a b = record { headed = h; shaped = refl; lines = tt; no_assert = a; new_args = b; new_labels = refl; new_results = refl; fits = omega arith }
@@ -129,7 +130,8 @@ shape-block kind.Entity l (b ∷ bs) m p = tt
 shape-block kind.Func l bs m p = block_in kind.Func bs l tt m
 shape-block kind.Proc l bs m p = block_in kind.Proc bs l tt m
 
-results-push : (args : List ArgText) (seen xs : List LineText) (l : LineText) → results_repeat args seen xs ≡ false → result_repeats args (seen ++ xs) l.result ≡ false → results_repeat args seen (xs ++ l ∷ []) ≡ false
+results-push : (args : List ArgText) (seen xs : List LineText) (l : LineText) → results_repeat args seen xs ≡ false → result_repeats args (seen ++ xs) l.result ≡ false
+    → results_repeat args seen (xs ++ l ∷ []) ≡ false
 results-push args seen [] l h k = or_false (result_repeats args seen l.result) ∙ subst (λ q. result_repeats args q l.result ≡ false) (append-nil seen) k
 results-push args seen (x ∷ xs) l h k =
     let p = or_parts (result_repeats args seen x.result) (results_repeat args (seen ++ x ∷ []) xs) h in
@@ -143,7 +145,8 @@ said_new u (Some r) h = ap (λ q. args_define r u.args || q) (sym (blocks_define
 has_room_below : (n : ℕ) → n ≤ most_lines → nat_eq n most_lines ≡ false → n + 1 ≤ most_lines
 has_room_below n h e = grind (arith, common_steps)
 
-part-inst : (u : UnitText) (l : LineText) → HasInstLine l → may_stand (place_in u.kind u.blocks) (inst_item l) ≡ true → is_full (Some u) ≡ false → value_again l.result (Some u) ≡ false → Part u → Part (with_line l u)
+part-inst : (u : UnitText) (l : LineText) → HasInstLine l → may_stand (place_in u.kind u.blocks) (inst_item l) ≡ true → is_full (Some u) ≡ false → value_again l.result (Some u) ≡ false → Part u
+    → Part (with_line l u)
 part-inst u l h m c d p =
     let b = shape-block u.kind l u.blocks m p.shaped in
     let e : lines_of u.blocks ++ l ∷ [] ≡ lines_of (line_at_end l u.blocks) = sym (lines_of-end l u.blocks b) in
@@ -178,7 +181,16 @@ shape-close kind.Proc (b ∷ bs) m p = labelled-close b bs m p
 
 part-close : (u : UnitText) → may_stand (place_in u.kind u.blocks) close_item ≡ true → Part u → IsPrintable u
 part-close u m p =
-    record { headed = p.headed; shaped = shape-close u.kind u.blocks m p.shaped; written = p.lines; no_assert = p.no_assert; new_args = p.new_args; new_labels = p.new_labels; new_results = p.new_results; fits = p.fits }
+    record {
+      headed = p.headed;
+      shaped = shape-close u.kind u.blocks m p.shaped;
+      written = p.lines;
+      no_assert = p.no_assert;
+      new_args = p.new_args;
+      new_labels = p.new_labels;
+      new_results = p.new_results;
+      fits = p.fits;
+    }
 
 -- what holds where a unit is open
 record OpenPart (items : List ItemText) : Type 0 where
@@ -192,10 +204,11 @@ abbrev Kept : Bool → List ItemText → Type 0
 Kept false items = Each IsPrintableItem items
 Kept true items = OpenPart items
 
-has_line : (s : State) (l : List ℕ) (i : LineItem) → Fine s l i → HasLine i
+has_line : (s : ReadState) (l : List ℕ) (i : LineItem) → Fine s l i → HasLine i
 has_line s l i f = let a = item-again i f.said.tokens (written l f.said.tokens f.said.lexed) f.said.spelled in (a.spaced, a.spelled)
 
-header-kept : (items : List ItemText) (l : List ℕ) (k : UnitKind) (n : UnitName) (args : List ArgText) (r : Option TypeTree) → Each IsPrintableItem items → Fine (read_to items) l (header_item k n args r) → OpenPart (items ++ unit_text (headed_unit k n args r) ∷ [])
+header-kept : (items : List ItemText) (l : List ℕ) (k : UnitKind) (n : UnitName) (args : List ArgText) (r : Option TypeTree) → Each IsPrintableItem items
+    → Fine (read_to items) l (header_item k n args r) → OpenPart (items ++ unit_text (headed_unit k n args r) ∷ [])
 header-kept items l k n args r c f =
     let a = or_parts (defines_unit n items || is_assert n) (args_repeat [] args) f.is_new in
     let b = or_parts (defines_unit n items) (is_assert n) a.0 in
@@ -215,7 +228,8 @@ closed-kept items l (label_item n) c f = let e : may_stand outside (label_item n
 closed-kept items l (inst_item x) c f = let e : may_stand outside (inst_item x) ≡ true = f.said.stands in absurd cc
 closed-kept items l close_item c f = let e : may_stand outside close_item ≡ true = f.said.stands in absurd cc
 
-open-kept : (front : List ItemText) (u : UnitText) (l : List ℕ) (i : LineItem) → Each IsPrintableItem front → Part u → Fine (opened front u) l i → Kept (after (opened front u) i).inside (after (opened front u) i).items
+open-kept : (front : List ItemText) (u : UnitText) (l : List ℕ) (i : LineItem) → Each IsPrintableItem front → Part u → Fine (opened front u) l i
+    → Kept (after (opened front u) i).inside (after (opened front u) i).items
 open-kept front u l empty_item c p f = record { front = front; unit = u; joined = refl; each = c; part = p }
 open-kept front u l (header_item k n args t) c p f = absurd (no_header (place_in u.kind u.blocks) k n args t (unit-in u.kind u.blocks) (alone-stands front u (header_item k n args t) f.said.stands))
 open-kept front u l (declare_item d) c p f = absurd (no_declare (place_in u.kind u.blocks) d (unit-in u.kind u.blocks) (alone-stands front u (declare_item d) f.said.stands))
@@ -225,7 +239,8 @@ open-kept front u l (label_item n) c p f =
       unit = with_block n u;
       joined = change_last-push (with_block n) front u;
       each = c;
-      part = part-label u n (has_line (opened front u) l (label_item n) f) (alone-stands front u (label_item n) f.said.stands) (subst (λ o. label_again n o ≡ false) (last_unit-push front u) f.is_new) p;
+      part = part-label u n (has_line (opened front u) l (label_item n) f) (alone-stands front u (label_item n) f.said.stands) (subst (λ o. label_again n o ≡ false) (last_unit-push front u) f.is_new)
+          p;
     }
 open-kept front u l (inst_item x) c p f =
     record {
@@ -233,7 +248,8 @@ open-kept front u l (inst_item x) c p f =
       unit = with_line x u;
       joined = change_last-push (with_line x) front u;
       each = c;
-      part = part-inst u x (has_line (opened front u) l (inst_item x) f) (alone-stands front u (inst_item x) f.said.stands) (subst (λ o. is_full o ≡ false) (last_unit-push front u) f.has_room) (subst (λ o. value_again x.result o ≡ false) (last_unit-push front u) f.is_new) p;
+      part = part-inst u x (has_line (opened front u) l (inst_item x) f) (alone-stands front u (inst_item x) f.said.stands) (subst (λ o. is_full o ≡ false) (last_unit-push front u) f.has_room)
+          (subst (λ o. value_again x.result o ≡ false) (last_unit-push front u) f.is_new) p;
     }
 open-kept front u l close_item c p f = Each-push IsPrintableItem front (unit_text u) c (part-close u (alone-stands front u close_item f.said.stands) p)
 
@@ -244,7 +260,7 @@ kept-by true items l i o f =
     subst (λ q. Fine (record { items = q; inside = true }) l i → Kept (after (record { items = q; inside = true }) i).inside (after (record { items = q; inside = true }) i).items) (sym o.joined)
     (λ g. open-kept o.front o.unit l i o.each o.part g) f
 
-walked-kept : (ls : List (List ℕ)) (s t : State) → Walk ls s t → Kept s.inside s.items → Kept t.inside t.items
+walked-kept : (ls : List (List ℕ)) (s t : ReadState) → Walk ls s t → Kept s.inside s.items → Kept t.inside t.items
 walked-kept [] s t w c = subst (λ q. Kept q.inside q.items) w c
 walked-kept (l ∷ ls) s t w c =
     let k = w.1 in

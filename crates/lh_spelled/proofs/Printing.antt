@@ -8,7 +8,7 @@ use Rattle.lh_unit.specs.Contents.{ArgText, LineText, BlockText, UnitText, unit_
 use Rattle.lh_unit.specs.Lexemes.{Lexeme}
 use Rattle.lh_unit.specs.Pieces.{render, lexemes_in}
 use Rattle.lh_unit.specs.Spells.{LineItem, header_item, declare_item, label_item, inst_item, close_item, SpellsHeader}
-use Rattle.lh_unit.specs.Reads.{State, has_lines, in_block, in_empty_block, place_after, place_in, place_of, may_stand, headed_unit, after, too_large, args_repeat, is_assert, value_again, defines_again, most_lines, Takes, Walk, start}
+use Rattle.lh_unit.specs.Reads.{ReadState, has_lines, in_block, in_empty_block, place_after, place_in, place_of, may_stand, headed_unit, after, too_large, args_repeat, is_assert, value_again, defines_again, most_lines, Takes, Walk, start}
 use Rattle.lh_unit.specs.Within.{Each}
 use Rattle.lh_unit.specs.Hierarchy.{lines_of}
 use Rattle.lh_unit.specs.declared.name.UnitName.{UnitName}
@@ -24,24 +24,24 @@ use Rattle.lh_spelled.proofs.Readings.{read_to, walked-spelled}
 use Rattle.lh_unit.proofs.Defined.{lines_define-append}
 
 -- some lines lead from one state to another
-record Way (s t : State) : Type 0 where
+record Way (s t : ReadState) : Type 0 where
   lines : List (List ℕ)
   walk : Walk lines s t
 
-here : (s : State) → Way s s
+here : (s : ReadState) → Way s s
 here s = record { lines = []; walk = refl }
 
-on : (s m t : State) → Way s m → Way m t → Way s t
+on : (s m t : ReadState) → Way s m → Way m t → Way s t
 on s m t a b = record { lines = a.lines ++ b.lines; walk = walk-append a.lines b.lines s m t a.walk b.walk }
 
 -- the canonical line of an item, where it may stand and has no fault
-record Passes (s : State) (i : LineItem) : Type 0 where
+record Passes (s : ReadState) (i : LineItem) : Type 0 where
   line : HasLine i
   stands : may_stand (place_of s) i ≡ true
   has_room : too_large s i ≡ false
   is_new : defines_again s i ≡ false
 
-pass : (s : State) (i : LineItem) → Passes s i → Way s (after s i)
+pass : (s : ReadState) (i : LineItem) → Passes s i → Way s (after s i)
 pass s i p =
     let t : Takes s (render (item_line i)) (after s i) = record {
       item = i;
@@ -93,7 +93,8 @@ block-after [] b h = rw h refl
 block-after (c ∷ []) b h = block-after [] b h
 block-after (c ∷ d ∷ done) b h = block-after (d ∷ done) b h
 
-new_result : (args : List ArgText) (bs : List BlockText) (u : UnitText) (r : Option (List ℕ)) → u.args ≡ args → u.blocks ≡ bs → result_repeats args (lines_of bs) r ≡ false → value_again r (Some u) ≡ false
+new_result : (args : List ArgText) (bs : List BlockText) (u : UnitText) (r : Option (List ℕ)) → u.args ≡ args → u.blocks ≡ bs → result_repeats args (lines_of bs) r ≡ false
+    → value_again r (Some u) ≡ false
 new_result args bs u None a b h = refl
 new_result args bs u (Some r) a b h = (λ i. args_define r (a i) || blocks_define r (b i)) ∙ ap (λ q. args_define r args || q) (blocks_define-lines r bs) ∙ h
 
@@ -104,7 +105,8 @@ each-split : (xs ys : List LineText) → Each HasInstLine (xs ++ ys) → Each Ha
 each-split [] ys h = (tt, h)
 each-split (x ∷ xs) ys h = let p = each-split xs ys h.1 in ((h.0, p.0), p.1)
 
-pub results-split : (args : List ArgText) (seen xs ys : List LineText) → results_repeat args seen (xs ++ ys) ≡ false → (results_repeat args seen xs ≡ false) × (results_repeat args (seen ++ xs) ys ≡ false)
+pub results-split : (args : List ArgText) (seen xs ys : List LineText) → results_repeat args seen (xs ++ ys) ≡ false → (results_repeat args seen xs ≡ false)
+    × (results_repeat args (seen ++ xs) ys ≡ false)
 results-split args seen [] ys h = (refl, subst (λ q. results_repeat args q ys ≡ false) (sym (append-nil seen)) h)
 results-split args seen (x ∷ xs) ys h =
     let p = or_parts (result_repeats args seen x.result) (results_repeat args (seen ++ x ∷ []) (xs ++ ys)) h in
@@ -121,7 +123,8 @@ abbrev pub start_blocks : UnitKind → List BlockText
 start_blocks kind.Entity = block None [] ∷ []
 start_blocks _ = []
 
-pub headed-start : (k : UnitKind) (n : UnitName) (args : List ArgText) (r : Option TypeTree) (ts : List Lexeme) → SpellsHeader k n args r ts → headed_unit k n args r ≡ unit_of k n args r (start_blocks k)
+pub headed-start : (k : UnitKind) (n : UnitName) (args : List ArgText) (r : Option TypeTree) (ts : List Lexeme) → SpellsHeader k n args r ts
+    → headed_unit k n args r ≡ unit_of k n args r (start_blocks k)
 headed-start kind.Func n args (Some r) ts h = refl
 headed-start kind.Proc n args None ts h = refl
 headed-start kind.Entity n args None ts h = refl
@@ -131,7 +134,7 @@ headed-start kind.Entity n args (Some r) ts h = absurd h
 
 module _ (k : UnitKind) (n : UnitName) (args : List ArgText) (r : Option TypeTree) where
   -- the unit with these blocks, alone and still open
-  abbrev with_blocks : List BlockText → State
+  abbrev with_blocks : List BlockText → ReadState
   with_blocks bs = opened [] (unit_of k n args r bs)
 
   inst-way : (done : List BlockText) (b : BlockText) (l : LineText) → HasInstLine l → line_count done + length b.lines < most_lines → result_repeats args (lines_of done ++ b.lines) l.result ≡ false
@@ -140,12 +143,15 @@ module _ (k : UnitKind) (n : UnitName) (args : List ArgText) (r : Option TypeTre
       let bs = done ++ b ∷ [] in
       let m : line_count bs < most_lines = subst (λ q. q < most_lines) (sym (line_count-last done b)) c in
       let w : result_repeats args (lines_of bs) l.result ≡ false = subst (λ q. result_repeats args q l.result ≡ false) (sym (lines_of-last done b)) v in
-      let p : Passes (with_blocks bs) (inst_item l) = record { line = h; stands = inst-in k done b l; has_room = not_full (line_count bs) m; is_new = new_result args bs (unit_of k n args r bs) l.result refl refl w } in
+      let p : Passes (with_blocks bs) (inst_item l) = record
+      { line = h; stands = inst-in k done b l; has_room = not_full (line_count bs) m; is_new = new_result args bs (unit_of k n args r bs) l.result refl refl w } in
       subst (λ q. Way (with_blocks bs) (with_blocks q)) (line_at_end-last l done b) (pass (with_blocks bs) (inst_item l) p)
 
-  insts-way : (done : List BlockText) (label : Option (List ℕ)) (seen rest : List LineText) → Each HasInstLine rest → line_count done + (length seen + length rest) ≤ most_lines → results_repeat args (lines_of done ++ seen) rest ≡ false
+  insts-way : (done : List BlockText) (label : Option (List ℕ)) (seen rest : List LineText) → Each HasInstLine rest → line_count done + (length seen + length rest) ≤ most_lines
+      → results_repeat args (lines_of done ++ seen) rest ≡ false
       → Way (with_blocks (done ++ block label seen ∷ [])) (with_blocks (done ++ block label (seen ++ rest) ∷ []))
-  insts-way done label seen [] h c v = subst (λ q. Way (with_blocks (done ++ block label seen ∷ [])) (with_blocks (done ++ block label q ∷ []))) (sym (append-nil seen)) (here (with_blocks (done ++ block label seen ∷ [])))
+  insts-way done label seen [] h c v = subst (λ q. Way (with_blocks (done ++ block label seen ∷ [])) (with_blocks (done ++ block label q ∷ []))) (sym (append-nil seen))
+      (here (with_blocks (done ++ block label seen ∷ [])))
   insts-way done label seen (l ∷ rest) h c v =
       let w = or_parts (result_repeats args (lines_of done ++ seen) l.result) (results_repeat args ((lines_of done ++ seen) ++ l ∷ []) rest) v in
       let m : results_repeat args (lines_of done ++ (seen ++ l ∷ [])) rest ≡ false = subst (λ q. results_repeat args q rest ≡ false) (append_assoc (lines_of done) seen (l ∷ [])) w.1 in
@@ -154,18 +160,23 @@ module _ (k : UnitKind) (n : UnitName) (args : List ArgText) (r : Option TypeTre
       subst (λ q. Way (with_blocks (done ++ block label seen ∷ [])) (with_blocks (done ++ block label q ∷ []))) (append_assoc seen (l ∷ []) rest)
       (on (with_blocks (done ++ block label seen ∷ [])) (with_blocks (done ++ block label (seen ++ l ∷ []) ∷ [])) (with_blocks (done ++ block label ((seen ++ l ∷ []) ++ rest) ∷ [])) a b)
 
-  label-way : (done : List BlockText) (l : List ℕ) → HasLine (label_item l) → may_stand (place_in k done) (label_item l) ≡ true → defines_label_in l done ≡ false → Way (with_blocks done) (with_blocks (done ++ block (Some l) [] ∷ []))
+  label-way : (done : List BlockText) (l : List ℕ) → HasLine (label_item l) → may_stand (place_in k done) (label_item l) ≡ true → defines_label_in l done ≡ false
+      → Way (with_blocks done) (with_blocks (done ++ block (Some l) [] ∷ []))
   label-way done l h m d = pass (with_blocks done) (label_item l) (record { line = h; stands = m; has_room = refl; is_new = d })
 
-  block-way : (done : List BlockText) (label : Option (List ℕ)) (lines : List LineText) → HasLabelLine label → Each HasInstLine lines → ((l : List ℕ) → may_stand (place_in k done) (label_item l) ≡ true)
-      → line_count done + length lines ≤ most_lines → label_repeats done label ≡ false → results_repeat args (lines_of done) lines ≡ false → Way (with_blocks done) (with_blocks (done ++ block label lines ∷ []))
+  block-way : (done : List BlockText) (label : Option (List ℕ)) (lines : List LineText) → HasLabelLine label → Each HasInstLine lines
+      → ((l : List ℕ) → may_stand (place_in k done) (label_item l) ≡ true)
+      → line_count done + length lines ≤ most_lines → label_repeats done label ≡ false → results_repeat args (lines_of done) lines ≡ false
+      → Way (with_blocks done) (with_blocks (done ++ block label lines ∷ []))
   block-way done None lines h w m c d v = absurd h
   block-way done (Some l) lines h w m c d v =
       on (with_blocks done) (with_blocks (done ++ block (Some l) [] ∷ [])) (with_blocks (done ++ block (Some l) lines ∷ []))
       (label-way done l h (m l) d) (insts-way done (Some l) [] lines w (omega arith) (subst (λ q. results_repeat args q lines ≡ false) (sym (append-nil (lines_of done))) v))
 
-  blocks-way : ((bs : List BlockText) → place_in k bs ≡ place_after bs) → (done rest : List BlockText) → Each IsLabelled rest → Each HasInstLine (lines_of rest) → ((l : List ℕ) → may_stand (place_in k done) (label_item l) ≡ true)
-      → line_count done + line_count rest ≤ most_lines → labels_repeat done rest ≡ false → results_repeat args (lines_of done) (lines_of rest) ≡ false → Way (with_blocks done) (with_blocks (done ++ rest))
+  blocks-way : ((bs : List BlockText) → place_in k bs ≡ place_after bs) → (done rest : List BlockText) → Each IsLabelled rest → Each HasInstLine (lines_of rest)
+      → ((l : List ℕ) → may_stand (place_in k done) (label_item l) ≡ true)
+      → line_count done + line_count rest ≤ most_lines → labels_repeat done rest ≡ false → results_repeat args (lines_of done) (lines_of rest) ≡ false
+      → Way (with_blocks done) (with_blocks (done ++ rest))
   blocks-way f done [] h w m c d v = subst (λ q. Way (with_blocks done) (with_blocks q)) (sym (append-nil done)) (here (with_blocks done))
   blocks-way f done (b ∷ rest) h w m c d v =
       let ws = each-split b.lines (lines_of rest) w in
@@ -186,16 +197,19 @@ module _ (k : UnitKind) (n : UnitName) (args : List ArgText) (r : Option TypeTre
       subst (λ q. Way start (opened [] q)) (headed-start k n args r (lexemes_in (item_line (header_item k n args r))) h.1)
       (pass start (header_item k n args r) (record { line = h; stands = refl; has_room = refl; is_new = rw (a, b) refl }))
 
-entity-way : (n : UnitName) (args : List ArgText) (r : Option TypeTree) (bs : List BlockText) → IsPrintable (unit_of kind.Entity n args r bs) → Way (with_blocks kind.Entity n args r (start_blocks kind.Entity)) (with_blocks kind.Entity n args r bs)
+entity-way : (n : UnitName) (args : List ArgText) (r : Option TypeTree) (bs : List BlockText) → IsPrintable (unit_of kind.Entity n args r bs)
+    → Way (with_blocks kind.Entity n args r (start_blocks kind.Entity)) (with_blocks kind.Entity n args r bs)
 entity-way n args r [] p = absurd p.shaped
 entity-way n args r (b ∷ []) p =
     let c : line_count (b ∷ []) ≤ most_lines = p.fits in
     let w = each-split b.lines [] p.written in
     let v : results_repeat args [] b.lines ≡ false = subst (λ q. results_repeat args [] q ≡ false) (append-nil b.lines) p.new_results in
-    subst (λ q. Way (with_blocks kind.Entity n args r (start_blocks kind.Entity)) (with_blocks kind.Entity n args r (block q b.lines ∷ []))) (sym p.shaped) (insts-way kind.Entity n args r [] None [] b.lines w.0 (omega arith) v)
+    subst (λ q. Way (with_blocks kind.Entity n args r (start_blocks kind.Entity)) (with_blocks kind.Entity n args r (block q b.lines ∷ []))) (sym p.shaped)
+    (insts-way kind.Entity n args r [] None [] b.lines w.0 (omega arith) v)
 entity-way n args r (b ∷ c ∷ bs) p = absurd p.shaped
 
-labelled-way : (k : UnitKind) (n : UnitName) (args : List ArgText) (r : Option TypeTree) (bs : List BlockText) → ((cs : List BlockText) → place_in k cs ≡ place_after cs) → Each IsLabelled bs → IsPrintable (unit_of k n args r bs) → Way (with_blocks k n args r []) (with_blocks k n args r bs)
+labelled-way : (k : UnitKind) (n : UnitName) (args : List ArgText) (r : Option TypeTree) (bs : List BlockText) → ((cs : List BlockText) → place_in k cs ≡ place_after cs) → Each IsLabelled bs
+    → IsPrintable (unit_of k n args r bs) → Way (with_blocks k n args r []) (with_blocks k n args r bs)
 labelled-way k n args r bs f h p =
     let c : line_count bs ≤ most_lines = p.fits in
     blocks-way k n args r f [] bs h p.written (λ l. subst (λ q. may_stand q (label_item l) ≡ true) (sym (f [])) refl) (omega arith) p.new_labels p.new_results
@@ -212,7 +226,8 @@ built kind.Proc n args r [] p = absurd p.shaped
 built kind.Func n args r (b ∷ bs) p = record { way = labelled-way kind.Func n args r (b ∷ bs) (λ cs. refl) p.shaped p; ends = rw (full-after b bs p.shaped) refl }
 built kind.Proc n args r (b ∷ bs) p = record { way = labelled-way kind.Proc n args r (b ∷ bs) (λ cs. refl) p.shaped p; ends = rw (full-after b bs p.shaped) refl }
 
-printable-way : (k : UnitKind) (n : UnitName) (args : List ArgText) (r : Option TypeTree) (bs : List BlockText) → IsPrintable (unit_of k n args r bs) → Way start (read_to (unit_text (unit_of k n args r bs) ∷ []))
+printable-way : (k : UnitKind) (n : UnitName) (args : List ArgText) (r : Option TypeTree) (bs : List BlockText) → IsPrintable (unit_of k n args r bs)
+    → Way start (read_to (unit_text (unit_of k n args r bs) ∷ []))
 printable-way k n args r bs p =
     let b = built k n args r bs p in
     on start (with_blocks k n args r (start_blocks k)) (read_to (unit_text (unit_of k n args r bs) ∷ [])) (header-way k n args r p.headed p.no_assert p.new_args)

@@ -7,7 +7,7 @@ use Rattle.lh_unit.specs.Pieces.{Piece, render, IsSpaced, lexemes_in}
 use Rattle.lh_unit.specs.Canon.{canon, canon_lines}
 use Rattle.lh_unit.specs.Within.{Each}
 use Rattle.lh_unit.specs.Spells.{LineItem, empty_item, Spells}
-use Rattle.lh_unit.specs.Reads.{State, after, Takes, Walk, start}
+use Rattle.lh_unit.specs.Reads.{ReadState, after, Takes, Walk, start}
 use Rattle.lh_unit.specs.WellFormed.{IsSpelled}
 use Rattle.lh_unit.proofs.Rendering.{lexemes-render}
 use Rattle.lh_spelled.specs.ItemLines.{item_line}
@@ -20,14 +20,14 @@ use Rattle.lh_spelled.proofs.Walks.{lines_in}
 use Rattle.lh_spelled.proofs.Steps.{Ready, added, Step, step}
 
 -- the canonical lines that lead from one state to another
-record Lined (s t : State) : Type 0 where
+record Lined (s t : ReadState) : Type 0 where
   more : List (List Piece)
   spaced : Each IsSpaced more
   walk : Walk (map render more) s t
   adds : lines_in t ≡ lines_in s ++ more
 
 -- the same item taken from its canonical line
-again-takes : (s m : State) (l : List ℕ) (k : Takes s l m) → Whole (λ us. Spells us k.item) (item_line k.item) → Takes s (render (item_line k.item)) m
+again-takes : (s m : ReadState) (l : List ℕ) (k : Takes s l m) → Whole (λ us. Spells us k.item) (item_line k.item) → Takes s (render (item_line k.item)) m
 again-takes s m l k a =
     record {
       item = k.item;
@@ -37,17 +37,17 @@ again-takes s m l k a =
       becomes = k.becomes;
     }
 
-line-front : (s m t : State) (ps : List Piece) → IsSpaced ps → Takes s (render ps) m → lines_in m ≡ lines_in s ++ ps ∷ [] → Lined m t → Lined s t
+line-front : (s m t : ReadState) (ps : List Piece) → IsSpaced ps → Takes s (render ps) m → lines_in m ≡ lines_in s ++ ps ∷ [] → Lined m t → Lined s t
 line-front s m t ps h k e r = record { more = ps ∷ r.more; spaced = (h, r.spaced); walk = (m, k, r.walk); adds = r.adds ∙ ap (λ q. q ++ r.more) e ∙ append_assoc (lines_in s) (ps ∷ []) r.more }
 
-front : (i : LineItem) (s m t : State) → IsSpaced (item_line i) → Takes s (render (item_line i)) m → m ≡ after s i → lines_in m ≡ lines_in s ++ added i → Lined m t → Lined s t
+front : (i : LineItem) (s m t : ReadState) → IsSpaced (item_line i) → Takes s (render (item_line i)) m → m ≡ after s i → lines_in m ≡ lines_in s ++ added i → Lined m t → Lined s t
 front empty_item s m t h k b e r = subst (λ q. Lined q t) b r
 front i s m t h k b e r = line-front s m t (item_line i) h k e r
 
-taken : (s m t : State) (l : List ℕ) (k : Takes s l m) → Step s k.item → Whole (λ us. Spells us k.item) (item_line k.item) → Lined m t → Lined s t
+taken : (s m t : ReadState) (l : List ℕ) (k : Takes s l m) → Step s k.item → Whole (λ us. Spells us k.item) (item_line k.item) → Lined m t → Lined s t
 taken s m t l k d a r = front k.item s m t a.spaced (again-takes s m l k a) k.becomes (ap lines_in k.becomes ∙ d.adds) r
 
-lined : (ls : List (List ℕ)) (s t : State) → Walk ls s t → Ready s → Lined s t
+lined : (ls : List (List ℕ)) (s t : ReadState) → Walk ls s t → Ready s → Lined s t
 lined [] s t w r = subst (Lined s) w (record { more = []; spaced = tt; walk = refl; adds = sym (append-nil (lines_in s)) })
 lined (l ∷ ls) s t w r =
     let k = w.1 in
@@ -57,7 +57,7 @@ lined (l ∷ ls) s t w r =
     taken s w.0 t l k d a (lined ls w.0 t w.2 n)
 
 -- the state after the last line
-abbrev pub read_to : List ItemText → State
+abbrev pub read_to : List ItemText → ReadState
 read_to items = record { items = items; inside = false }
 
 -- the canonical lines of what is read

@@ -8,7 +8,7 @@ use Rattle.lh_unit.specs.Lines.{lines_of}
 use Rattle.lh_unit.specs.Canon.{canon}
 use Rattle.lh_unit.specs.Within.{Each}
 use Rattle.lh_unit.specs.Spells.{LineItem, empty_item, header_item, declare_item, label_item, inst_item, close_item}
-use Rattle.lh_unit.specs.Reads.{State, place_in_last, place_of, may_stand, headed_unit, after, is_full, too_large, args_repeat, is_assert, value_again, label_again, defines_again, Takes, Walk, start}
+use Rattle.lh_unit.specs.Reads.{ReadState, place_in_last, place_of, may_stand, headed_unit, after, is_full, too_large, args_repeat, is_assert, value_again, label_again, defines_again, Takes, Walk, start}
 use Rattle.lh_unit.specs.declared.name.UnitName.{UnitName}
 use Rattle.lh_unit.proofs.Arenas.{same_unit_name-is, same_unit_name-refl}
 use Rattle.lh_unit.proofs.ContentsLemmas.{last_unit-push, change_last-push}
@@ -18,7 +18,7 @@ use Rattle.lh_spelled.proofs.Apart.{walk-append}
 use Rattle.lh_spelled.proofs.Units.{defines_unit-append, defines_unit-change, headed-name}
 
 -- the unit names of items stay
-names-step : (n : UnitName) (s : State) (i : LineItem) → defines_unit n s.items ≡ true → defines_unit n (after s i).items ≡ true
+names-step : (n : UnitName) (s : ReadState) (i : LineItem) → defines_unit n s.items ≡ true → defines_unit n (after s i).items ≡ true
 names-step n s empty_item h = h
 names-step n s (header_item k m args r) h = defines_unit-append n s.items (unit_text (headed_unit k m args r) ∷ []) ∙ or_left (defines_unit n s.items) _ h
 names-step n s (declare_item d) h = defines_unit-append n s.items (declare_text d ∷ []) ∙ or_left (defines_unit n s.items) _ h
@@ -26,14 +26,14 @@ names-step n s (label_item m) h = defines_unit-change n (with_block m) (λ u. re
 names-step n s (inst_item x) h = defines_unit-change n (with_line x) (λ u. refl) s.items ∙ h
 names-step n s close_item h = h
 
-names-stay : (n : UnitName) (ls : List (List ℕ)) (s t : State) → Walk ls s t → defines_unit n s.items ≡ true → defines_unit n t.items ≡ true
+names-stay : (n : UnitName) (ls : List (List ℕ)) (s t : ReadState) → Walk ls s t → defines_unit n s.items ≡ true → defines_unit n t.items ≡ true
 names-stay n [] s t w h = subst (λ q. defines_unit n q.items ≡ true) w h
 names-stay n (l ∷ ls) s t w h =
     let k = w.1 in
     names-stay n ls w.0 t w.2 (subst (λ q. defines_unit n q.items ≡ true) (sym k.becomes) (names-step n s k.item h))
 
 -- the same state behind these items
-abbrev behind : List ItemText → State → State
+abbrev behind : List ItemText → ReadState → ReadState
 behind a s = record { items = a ++ s.items; inside = s.inside }
 
 -- where a unit is open, it is the last item
@@ -73,7 +73,8 @@ shown-step false items (label_item n) m h = absurd cc
 shown-step false items (inst_item x) m h = absurd cc
 shown-step inside items close_item m h = tt
 
-place-behind : (a : List ItemText) (inside : Bool) (items : List ItemText) → Shown inside items → place_of (record { items = a ++ items; inside = inside }) ≡ place_of (record { items = items; inside = inside })
+place-behind : (a : List ItemText) (inside : Bool) (items : List ItemText) → Shown inside items
+    → place_of (record { items = a ++ items; inside = inside }) ≡ place_of (record { items = items; inside = inside })
 place-behind a false items h = refl
 place-behind a true items h = ap place_in_last (last-behind a items h)
 
@@ -119,7 +120,7 @@ becomes-behind a false items (label_item n) m h = absurd cc
 becomes-behind a false items (inst_item x) m h = absurd cc
 becomes-behind a inside items close_item m h = refl
 
-takes-behind : (a : List ItemText) (s m : State) (l : List ℕ) (k : Takes s l m) → Shown s.inside s.items → IsApart a k.item → Takes (behind a s) l (behind a m)
+takes-behind : (a : List ItemText) (s m : ReadState) (l : List ℕ) (k : Takes s l m) → Shown s.inside s.items → IsApart a k.item → Takes (behind a s) l (behind a m)
 takes-behind a s m l k h p =
     let st : may_stand (place_of s) k.item ≡ true = k.said.stands in
     record {
@@ -131,7 +132,7 @@ takes-behind a s m l k h p =
     }
 
 -- a header's name is among those of the items that it leads to
-apart-by : (a : List ItemText) (s m : State) (i : LineItem) → m ≡ after s i → ((n : UnitName) → defines_unit n m.items ≡ true → defines_unit n a ≡ false) → IsApart a i
+apart-by : (a : List ItemText) (s m : ReadState) (i : LineItem) → m ≡ after s i → ((n : UnitName) → defines_unit n m.items ≡ true → defines_unit n a ≡ false) → IsApart a i
 apart-by a s m empty_item e f = tt
 apart-by a s m (header_item k n args r) e f =
     f n (ap (λ q. defines_unit n q.items) e ∙ defines_unit-append n s.items (unit_text (headed_unit k n args r) ∷ [])
@@ -142,7 +143,8 @@ apart-by a s m (inst_item x) e f = tt
 apart-by a s m close_item e f = tt
 
 -- a walk behind items that define none of the names that it comes to
-walk-behind : (a : List ItemText) (ls : List (List ℕ)) (s t : State) → Walk ls s t → Shown s.inside s.items → ((n : UnitName) → defines_unit n t.items ≡ true → defines_unit n a ≡ false) → Walk ls (behind a s) (behind a t)
+walk-behind : (a : List ItemText) (ls : List (List ℕ)) (s t : ReadState) → Walk ls s t → Shown s.inside s.items → ((n : UnitName) → defines_unit n t.items ≡ true → defines_unit n a ≡ false)
+    → Walk ls (behind a s) (behind a t)
 walk-behind a [] s t w h f = ap (behind a) w
 walk-behind a (l ∷ ls) s t w h f =
     let k = w.1 in

@@ -12,7 +12,7 @@ use Rattle.lh_unit.specs.Within.{Each}
 use Rattle.lh_unit.specs.SpellsTypes.{SpellsTree, SpellsRow, SpellsType}
 use Rattle.lh_spelled.proofs.Numerals.{number_of-decimal, decimal-named, decimal-some}
 use Rattle.lh_spelled.proofs.Spacing.{spaced-append, spaced-comma, spaced-enclosed, word-lexeme}
-use Rattle.lh_spelled.proofs.Again.{Stands, Again, joined}
+use Rattle.lh_spelled.proofs.Again.{PiecesSpell, Again, joined}
 
 -- the word of a number
 pub number-lexeme : (n : ℕ) → n < 10 ^ 64 → IsLexeme (word (decimal n))
@@ -29,10 +29,10 @@ is_more : (r : TypeRow) → 0 < bit_count_row r → IsMore r
 is_more no_types h = absurd (omega arith)
 is_more (more_types t r) h = tt
 
-int-stands : (n : ℕ) → n < 10 ^ 64 → Stands (SpellsTree (int_type n)) (type_pieces (int_type n))
+int-stands : (n : ℕ) → n < 10 ^ 64 → PiecesSpell (SpellsTree (int_type n)) (type_pieces (int_type n))
 int-stands n h = record { spaced = (int-lexeme n h, refl, tt); spelled = λ rest. (decimal n, refl, number_of-decimal n h) }
 
-array-stands : (n : ℕ) (t : TypeTree) → n < 10 ^ 64 → Stands (SpellsTree t) (type_pieces t) → Stands (SpellsTree (array_type n t)) (type_pieces (array_type n t))
+array-stands : (n : ℕ) (t : TypeTree) → n < 10 ^ 64 → PiecesSpell (SpellsTree t) (type_pieces t) → PiecesSpell (SpellsTree (array_type n t)) (type_pieces (array_type n t))
 array-stands n t h s =
     record {
       spaced = spaced-enclosed 91 93 (number n ␣ keyword "x" ␣ type_pieces t) refl refl (number-lexeme n h, refl, (word-lexeme (codes "x") refl, refl, s.spaced));
@@ -45,7 +45,7 @@ array-stands n t h s =
       );
     }
 
-tuple-stands : (r : TypeRow) → Stands (SpellsRow r) (row_pieces r) → Stands (SpellsTree (tuple_type r)) (type_pieces (tuple_type r))
+tuple-stands : (r : TypeRow) → PiecesSpell (SpellsRow r) (row_pieces r) → PiecesSpell (SpellsTree (tuple_type r)) (type_pieces (tuple_type r))
 tuple-stands r s =
     record {
       spaced = spaced-enclosed 123 125 (row_pieces r) refl refl s.spaced;
@@ -56,24 +56,25 @@ tuple-stands r s =
       );
     }
 
-signal-stands : (t : TypeTree) → Stands (SpellsTree t) (type_pieces t) → Stands (SpellsTree (signal_type t)) (type_pieces (signal_type t))
+signal-stands : (t : TypeTree) → PiecesSpell (SpellsTree t) (type_pieces t) → PiecesSpell (SpellsTree (signal_type t)) (type_pieces (signal_type t))
 signal-stands t s =
     record {
       spaced = spaced-append (type_pieces t) (mark dollar) s.spaced (refl, refl, tt) refl;
       spelled = λ rest. joined (SpellsTree (signal_type t)) (type_pieces t) (mark dollar) rest (s.spelled (token dollar ∷ rest));
     }
 
-pointer-stands : (t : TypeTree) → Stands (SpellsTree t) (type_pieces t) → Stands (SpellsTree (pointer_type t)) (type_pieces (pointer_type t))
+pointer-stands : (t : TypeTree) → PiecesSpell (SpellsTree t) (type_pieces t) → PiecesSpell (SpellsTree (pointer_type t)) (type_pieces (pointer_type t))
 pointer-stands t s =
     record {
       spaced = spaced-append (type_pieces t) (mark star) s.spaced (refl, refl, tt) refl;
       spelled = λ rest. joined (SpellsTree (pointer_type t)) (type_pieces t) (mark star) rest (s.spelled (token star ∷ rest));
     }
 
-one-stands : (t : TypeTree) → Stands (SpellsTree t) (type_pieces t) → Stands (SpellsRow (more_types t no_types)) (row_pieces (more_types t no_types))
-one-stands t s = subst (Stands (SpellsTree t)) (sym (append-nil (type_pieces t))) s
+one-stands : (t : TypeTree) → PiecesSpell (SpellsTree t) (type_pieces t) → PiecesSpell (SpellsRow (more_types t no_types)) (row_pieces (more_types t no_types))
+one-stands t s = subst (PiecesSpell (SpellsTree t)) (sym (append-nil (type_pieces t))) s
 
-more-stands : (t u : TypeTree) (r : TypeRow) → Stands (SpellsTree t) (type_pieces t) → Stands (SpellsRow (more_types u r)) (row_pieces (more_types u r)) → Stands (SpellsRow (more_types t (more_types u r))) (row_pieces (more_types t (more_types u r)))
+more-stands : (t u : TypeTree) (r : TypeRow) → PiecesSpell (SpellsTree t) (type_pieces t) → PiecesSpell (SpellsRow (more_types u r)) (row_pieces (more_types u r))
+    → PiecesSpell (SpellsRow (more_types t (more_types u r))) (row_pieces (more_types t (more_types u r)))
 more-stands t u r s m =
     record {
       spaced = spaced-comma (type_pieces t) (row_pieces (more_types u r)) s.spaced m.spaced;
@@ -82,24 +83,24 @@ more-stands t u r s m =
     }
 
 mutual
-  data-stands : (t : TypeTree) → IsData t → Stands (SpellsTree t) (type_pieces t)
+  data-stands : (t : TypeTree) → IsData t → PiecesSpell (SpellsTree t) (type_pieces t)
   data-stands (int_type n) d = int-stands n (let h : n ≤ 128 = d.1 in omega arith)
   data-stands (array_type n t) d = array-stands n t (let h : n < 2 ^ 32 = d.2 in omega arith) (data-stands t d.0)
   data-stands (tuple_type r) d = tuple-stands r (row-stands r d.0 (is_more r d.1))
   data-stands _ d = absurd d
 
-  row-stands : (r : TypeRow) → AreData r → IsMore r → Stands (SpellsRow r) (row_pieces r)
+  row-stands : (r : TypeRow) → AreData r → IsMore r → PiecesSpell (SpellsRow r) (row_pieces r)
   row-stands no_types d m = absurd m
   row-stands (more_types t no_types) d m = one-stands t (data-stands t d.0)
   row-stands (more_types t (more_types u r)) d m = more-stands t u r (data-stands t d.0) (row-stands (more_types u r) d.1 tt)
 
-time-stands : Stands (SpellsTree time_type) (type_pieces time_type)
+time-stands : PiecesSpell (SpellsTree time_type) (type_pieces time_type)
 time-stands = record { spaced = (word-lexeme (codes "time") refl, refl, tt); spelled = λ rest. refl }
 
-void-stands : Stands (SpellsTree void_type) (type_pieces void_type)
+void-stands : PiecesSpell (SpellsTree void_type) (type_pieces void_type)
 void-stands = record { spaced = (word-lexeme (codes "void") refl, refl, tt); spelled = λ rest. refl }
 
-tree-stands : (t : TypeTree) → IsLimited t → Stands (SpellsTree t) (type_pieces t)
+tree-stands : (t : TypeTree) → IsLimited t → PiecesSpell (SpellsTree t) (type_pieces t)
 tree-stands time_type d = time-stands
 tree-stands void_type d = void-stands
 tree-stands (signal_type t) d = signal-stands t (data-stands t d)
@@ -108,7 +109,7 @@ tree-stands (pointer_type t) d = pointer-stands t (data-stands t d)
 tree-stands t d = data-stands t d
 
 -- a type of the language
-pub type-stands : (t : TypeTree) → IsLimited t → Stands (SpellsType t) (type_pieces t)
+pub type-stands : (t : TypeTree) → IsLimited t → PiecesSpell (SpellsType t) (type_pieces t)
 type-stands t d = let s = tree-stands t d in record { spaced = s.spaced; spelled = λ rest. (s.spelled rest, d) }
 
 mutual

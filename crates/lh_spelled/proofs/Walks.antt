@@ -4,9 +4,9 @@ use Rattle.std.proofs.lemmas.List.{append-nil}
 use Rattle.lh_unit.specs.Contents.{LineText, BlockText, UnitText, ItemText, unit_text, declare_text, change_last, last_unit, with_block, line_at_end}
 use Rattle.lh_unit.specs.Marks.{close_brace}
 use Rattle.lh_unit.specs.Pieces.{Piece, mark}
-use Rattle.lh_unit.specs.Canon.{header, declaration, inst_line, label_lines, block_lines, blocks_lines, item_lines, canon_lines}
+use Rattle.lh_unit.specs.Canon.{header, declaration, canon_inst_line, label_lines, block_lines, blocks_lines, item_lines, canon_lines}
 use Rattle.lh_unit.specs.Spells.{label_item}
-use Rattle.lh_unit.specs.Reads.{State}
+use Rattle.lh_unit.specs.Reads.{ReadState}
 use Rattle.lh_spelled.specs.ItemLines.{item_line}
 
 -- the lines of items, the last of which is still open
@@ -17,7 +17,7 @@ open_lines (declare_text d ∷ []) = declaration d ∷ []
 open_lines (i ∷ j ∷ more) = item_lines i ++ open_lines (j ∷ more)
 
 -- the lines of what is read so far
-abbrev pub lines_in : State → List (List Piece)
+abbrev pub lines_in : ReadState → List (List Piece)
 lines_in s = if s.inside then open_lines s.items else canon_lines s.items
 
 -- joining
@@ -28,15 +28,16 @@ canon_lines-append (i ∷ a) b = ap (λ q. item_lines i ++ q) (canon_lines-appen
 pub open_lines-push : (a : List ItemText) (u : UnitText) → open_lines (a ++ unit_text u ∷ []) ≡ canon_lines a ++ (header u.kind u.name u.args u.result ∷ blocks_lines u.blocks)
 open_lines-push [] u = refl
 open_lines-push (i ∷ []) u = ap (λ q. q ++ (header u.kind u.name u.args u.result ∷ blocks_lines u.blocks)) (sym (append-nil (item_lines i)))
-open_lines-push (i ∷ j ∷ a) u = ap (λ q. item_lines i ++ q) (open_lines-push (j ∷ a) u) ∙ sym (append_assoc (item_lines i) (canon_lines (j ∷ a)) (header u.kind u.name u.args u.result ∷ blocks_lines u.blocks))
+open_lines-push (i ∷ j ∷ a) u = ap (λ q. item_lines i ++ q) (open_lines-push (j ∷ a) u)
+    ∙ sym (append_assoc (item_lines i) (canon_lines (j ∷ a)) (header u.kind u.name u.args u.result ∷ blocks_lines u.blocks))
 
 blocks_lines-append : (a b : List BlockText) → blocks_lines (a ++ b) ≡ blocks_lines a ++ blocks_lines b
 blocks_lines-append [] b = refl
 blocks_lines-append (x ∷ a) b = ap (λ q. block_lines x ++ q) (blocks_lines-append a b) ∙ sym (append_assoc (block_lines x) (blocks_lines a) (blocks_lines b))
 
-map-append : (a b : List LineText) → map inst_line (a ++ b) ≡ map inst_line a ++ map inst_line b
+map-append : (a b : List LineText) → map canon_inst_line (a ++ b) ≡ map canon_inst_line a ++ map canon_inst_line b
 map-append [] b = refl
-map-append (x ∷ a) b = ap (λ q. inst_line x ∷ q) (map-append a b)
+map-append (x ∷ a) b = ap (λ q. canon_inst_line x ∷ q) (map-append a b)
 
 -- there is a block
 abbrev pub HasBlock : List BlockText → Type 0
@@ -44,16 +45,17 @@ HasBlock [] = ⊥
 HasBlock (b ∷ bs) = Unit {0}
 
 -- one more line in the last block
-block-line : (b : BlockText) (l : LineText) → block_lines (record b { lines = b.lines ++ l ∷ [] }) ≡ block_lines b ++ inst_line l ∷ []
-block-line b l = ap (λ q. label_lines b.label ++ q) (map-append b.lines (l ∷ [])) ∙ sym (append_assoc (label_lines b.label) (map inst_line b.lines) (inst_line l ∷ []))
+block-line : (b : BlockText) (l : LineText) → block_lines (record b { lines = b.lines ++ l ∷ [] }) ≡ block_lines b ++ canon_inst_line l ∷ []
+block-line b l = ap (λ q. label_lines b.label ++ q) (map-append b.lines (l ∷ [])) ∙ sym (append_assoc (label_lines b.label) (map canon_inst_line b.lines) (canon_inst_line l ∷ []))
 
-pub blocks-line : (l : LineText) (bs : List BlockText) → HasBlock bs → blocks_lines (line_at_end l bs) ≡ blocks_lines bs ++ inst_line l ∷ []
+pub blocks-line : (l : LineText) (bs : List BlockText) → HasBlock bs → blocks_lines (line_at_end l bs) ≡ blocks_lines bs ++ canon_inst_line l ∷ []
 blocks-line l [] h = absurd h
-blocks-line l (b ∷ []) h = append-nil (block_lines (record b { lines = b.lines ++ l ∷ [] })) ∙ block-line b l ∙ ap (λ q. q ++ inst_line l ∷ []) (sym (append-nil (block_lines b)))
-blocks-line l (b ∷ c ∷ bs) h = ap (λ q. block_lines b ++ q) (blocks-line l (c ∷ bs) tt) ∙ sym (append_assoc (block_lines b) (blocks_lines (c ∷ bs)) (inst_line l ∷ []))
+blocks-line l (b ∷ []) h = append-nil (block_lines (record b { lines = b.lines ++ l ∷ [] })) ∙ block-line b l ∙ ap (λ q. q ++ canon_inst_line l ∷ []) (sym (append-nil (block_lines b)))
+blocks-line l (b ∷ c ∷ bs) h = ap (λ q. block_lines b ++ q) (blocks-line l (c ∷ bs) tt) ∙ sym (append_assoc (block_lines b) (blocks_lines (c ∷ bs)) (canon_inst_line l ∷ []))
 
 -- one more line in the last unit
-pub grows : (f : UnitText → UnitText) (l : List Piece) (u : UnitText) → (header (f u).kind (f u).name (f u).args (f u).result ∷ blocks_lines (f u).blocks ≡ (header u.kind u.name u.args u.result ∷ blocks_lines u.blocks) ++ l ∷ [])
+pub grows : (f : UnitText → UnitText) (l : List Piece) (u : UnitText)
+    → (header (f u).kind (f u).name (f u).args (f u).result ∷ blocks_lines (f u).blocks ≡ (header u.kind u.name u.args u.result ∷ blocks_lines u.blocks) ++ l ∷ [])
     → (items : List ItemText) → last_unit items ≡ Some u → open_lines (change_last f items) ≡ open_lines items ++ l ∷ []
 grows f l u e [] h = absurd cc
 grows f l u e (unit_text v ∷ []) h =

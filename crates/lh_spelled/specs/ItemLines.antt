@@ -1,6 +1,6 @@
 -- The canonical line of what one line says.
 use Rattle.std.specs.Prelude.{List, [], ◌∷◌}
-use Rattle.lh_unit.specs.Canon.{header, declaration, inst_line}
+use Rattle.lh_unit.specs.Canon.{header, declaration, canon_inst_line}
 use Rattle.lh_unit.specs.Lexemes.{word}
 use Rattle.lh_unit.specs.Marks.{colon, close_brace}
 use Rattle.lh_unit.specs.Pieces.{Piece, token, mark}
@@ -12,5 +12,5 @@ item_line empty_item = []
 item_line (header_item k n args r) = header k n args r
 item_line (declare_item d) = declaration d
 item_line (label_item n) = token (word n) ∷ token colon ∷ []
-item_line (inst_item l) = inst_line l
+item_line (inst_item l) = canon_inst_line l
 item_line close_item = mark close_brace

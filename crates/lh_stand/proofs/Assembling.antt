@@ -101,7 +101,8 @@ arg-widths x i k w = w.args ∙ ap (λ j. map (λ (a : ArgText). bit_count a.ty)
 
 -- merged drives wish what the drives wish
 abbrev pub MergedWish : Type 0
-MergedWish = (past now : Valuation) → IsFitting past → IsFitting now → (args : List Range) (at : Instant) (w : Wish) (ds : List Drive) → Each DriveTyped ds → with_rows past now args at w (merged_drives ds) ≡ with_rows past now args at w ds
+MergedWish = (past now : Valuation) → IsFitting past → IsFitting now → (args : List Range) (at : Instant) (w : Wish) (ds : List Drive) → Each DriveTyped ds
+    → with_rows past now args at w (merged_drives ds) ≡ with_rows past now args at w ds
 
 -- each activation is the same with more zeros
 abbrev pub ZerosActAlike : Type 0
@@ -116,17 +117,20 @@ abbrev pub Between : Type 1
 Between = (a : Arena) (u : ℕ) (text : FlatText) (args : List Range) (process flat : ProcessState) → Type 0
 
 abbrev pub BetweenBegins : Between → Type 0
-BetweenBegins L = (a : Arena) (u : ℕ) (name : UnitName) (text : FlatText) (args : List Range) → IsArena a → IsWellFormed (contents a) → u < unit_count a → kind_at a u ≡ Some kind.Proc → flat_of (contents a) (unit_text_at a u) ≡ flattened text →
+BetweenBegins L = (a : Arena) (u : ℕ) (name : UnitName) (text : FlatText) (args : List Range) → IsArena a → IsWellFormed (contents a) → u < unit_count a → kind_at a u ≡ Some kind.Proc
+    → flat_of (contents a) (unit_text_at a u) ≡ flattened text →
     HaveWidths args (unit_text_at a u).args → L a u text args (begun (unit_text_at a u) args) (begun (flat_unit name text) args)
 
 abbrev pub BetweenActs : Between → Type 0
 BetweenActs L = (a : Arena) (u : ℕ) (name : UnitName) (text : FlatText) (args : List Range) (process flat : ProcessState) (now : List Bool) (t : Instant) (bound limit : ℕ) (done : Activated) →
     L a u text args process flat → bound ≤ limit → activate bound (seen (functions (contents a)) now t) (flat_unit name text) flat ≡ Some done →
-    (d : Activated) × (activate limit (seen (functions (contents a)) now t) (unit_text_at a u) process ≡ Some d) × EndsAlike (functions (contents a)) (unit_text_at a u) d done × L a u text args d.state done.state
+    (d : Activated) × (activate limit (seen (functions (contents a)) now t) (unit_text_at a u) process ≡ Some d) × EndsAlike (functions (contents a)) (unit_text_at a u) d done
+    × L a u text args d.state done.state
 
 -- ---- a process and its flat text
 
-module _ (L : Between) (begins : BetweenBegins L) (acts : BetweenActs L) (zeros : ZerosAreMissing) (zero-reads : ZerosReadAlike) (zero-acts : ZerosActAlike) (reach : ZerosReach) (flat-formed : FlatTextsAreFormed) (a : Arena) (u : ℕ) (t : FlatText) (fl : IsFlattened a u t) where
+module _ (L : Between) (begins : BetweenBegins L) (acts : BetweenActs L) (zeros : ZerosAreMissing) (zero-reads : ZerosReadAlike) (zero-acts : ZerosActAlike) (reach : ZerosReach)
+    (flat-formed : FlatTextsAreFormed) (a : Arena) (u : ℕ) (t : FlatText) (fl : IsFlattened a u t) where
   abbrev x : UnitText
   x = unit_text_at a u
 
@@ -171,19 +175,22 @@ module _ (L : Between) (begins : BetweenBegins L) (acts : BetweenActs L) (zeros 
 
   -- ---- a process that drives once
 
-  pub once-stands : OnceIsGiven → (y : UnitText) (bound : ℕ) (ds : List Drive) → shape_of_text t ≡ once ds → once_emission x steps ds ≡ emits y → IsEnough bound t → MayStand (rules_of bound (contents a)) x y
+  pub once-stands : OnceIsGiven → (y : UnitText) (bound : ℕ) (ds : List Drive) → shape_of_text t ≡ once ds → once_emission x steps ds ≡ emits y → IsEnough bound t
+      → MayStand (rules_of bound (contents a)) x y
   once-stands given y bound ds shape e enough =
       let g = given x.name t formed ds shape in
       let gd : Each (DriveIsGiven (source_of x steps)) ds = subst (λ s. Each (DriveIsGiven s) ds) source-is g.0 in
       let entity = once-plain x y steps ds e gd in
-      once_may_stand (rules_of bound (contents a)) x y (sym (ap (λ (z : UnitText). z.name) entity.is)) is-process (ap (λ (z : UnitText). z.kind) entity.is) (sym (ap (λ (z : UnitText). z.args) entity.is)) (entity-plain x y entity)
+      once_may_stand (rules_of bound (contents a)) x y (sym (ap (λ (z : UnitText). z.name) entity.is)) is-process (ap (λ (z : UnitText). z.kind) entity.is)
+      (sym (ap (λ (z : UnitText). z.args) entity.is)) (entity-plain x y entity)
       (λ i w. once-for (functions (contents a)) bound x y i x.name t formed (pads i w) (follows i w) is-process (ap (λ (z : UnitText). z.kind) entity.is) (no-signals x i is-process w) enough ds shape
       (λ now memory at. once-passes x y steps ds i.args e (args-fit i w) gd now memory at)
       (once-senses x y steps ds i.args e (args-fit i w) gd g.1))
 
   -- ---- a combinational process
 
-  pub comb-stands : CombIsGiven → MergedWish → (y : UnitText) (bound : ℕ) (waited : List Part) (ds : List Drive) → shape_of_text t ≡ comb waited ds → comb_emission x steps waited ds ≡ emits y → IsEnough bound t → MayStand (rules_of bound (contents a)) x y
+  pub comb-stands : CombIsGiven → MergedWish → (y : UnitText) (bound : ℕ) (waited : List Part) (ds : List Drive) → shape_of_text t ≡ comb waited ds → comb_emission x steps waited ds ≡ emits y
+      → IsEnough bound t → MayStand (rules_of bound (contents a)) x y
   comb-stands given merged y bound waited ds shape e enough =
       let g = given x.name t formed waited ds shape in
       let gw : Each (WaitIsGiven (source_of x steps)) waited = subst (λ s. Each (WaitIsGiven s) waited) source-is g.waits in
@@ -191,32 +198,40 @@ module _ (L : Between) (begins : BetweenBegins L) (acts : BetweenActs L) (zeros 
       let s = comb-regions t waited ds shape in
       let typed = (rows-are-typed x.name t formed s.walk.plain now_of now-typed s.walk.course s.walk.first).0 in
       let entity = comb-plain x y steps waited ds e gw gd in
-      let same : (now : List Bool) (args : List Range) (at : Instant) → with_rows (reads args now) (reads args now) args at no_wish ds ≡ with_rows (reads args now) (reads args now) args at no_wish s.walk.course.rows.drives =
+      let same : (now : List Bool) (args : List Range) (at : Instant)
+      → with_rows (reads args now) (reads args now) args at no_wish ds ≡ with_rows (reads args now) (reads args now) args at no_wish s.walk.course.rows.drives =
       λ now args at. ap (with_rows (reads args now) (reads args now) args at no_wish) (sym s.drives ∙ ap (λ (z : Rows). merged_drives z.drives) (sym s.walk.rows))
       ∙ merged (reads args now) (reads args now) (reads-fit args now) (reads-fit args now) args at no_wish s.walk.course.rows.drives typed in
-      comb_may_stand (rules_of bound (contents a)) x y (sym (ap (λ (z : UnitText). z.name) entity.is)) is-process (ap (λ (z : UnitText). z.kind) entity.is) (sym (ap (λ (z : UnitText). z.args) entity.is)) (entity-plain x y entity)
-      (λ i w. comb-for (functions (contents a)) bound x y i x.name t formed (pads i w) (follows i w) is-process (ap (λ (z : UnitText). z.kind) entity.is) (no-signals x i is-process w) enough waited ds s
+      comb_may_stand (rules_of bound (contents a)) x y (sym (ap (λ (z : UnitText). z.name) entity.is)) is-process (ap (λ (z : UnitText). z.kind) entity.is)
+      (sym (ap (λ (z : UnitText). z.args) entity.is)) (entity-plain x y entity)
+      (λ i w. comb-for (functions (contents a)) bound x y i x.name t formed (pads i w) (follows i w) is-process (ap (λ (z : UnitText). z.kind) entity.is) (no-signals x i is-process w) enough waited ds
+      s
       (λ now memory at. comb-passes x y steps waited ds i.args e (args-fit i w) gw gd now memory at ∙ same now i.args at)
       (comb-senses (covers waited) x y steps waited ds i.args e (args-fit i w) gw gd (covers-own waited waited (λ q z. z)) g.reads))
 
   -- ---- a process that reacts to edges
 
-  pub edge-stands : EdgeIsGiven → RegionsAreAlike → SecondRowsAreTyped → SwapsKeepMeaning → (y : UnitText) (bound : ℕ) (rs : List EdgeRowTree) → shape_of_text t ≡ edge rs → edge_emission x steps rs ≡ emits y → IsEnough bound t → MayStand (rules_of bound (contents a)) x y
+  pub edge-stands : EdgeIsGiven → RegionsAreAlike → SecondRowsAreTyped → SwapsKeepMeaning → (y : UnitText) (bound : ℕ) (rs : List EdgeRowTree) → shape_of_text t ≡ edge rs
+      → edge_emission x steps rs ≡ emits y → IsEnough bound t → MayStand (rules_of bound (contents a)) x y
   edge-stands given alike second-typed swaps y bound rs shape e enough =
       let g : Each (RowIsGiven (source_of x steps)) rs = subst (λ s. Each (RowIsGiven s) rs) source-is (given x.name t formed rs shape) in
       let s = edge-regions t rs shape in
       let p = alike t s.walk.course s.walk.first in
       let entity = edge-plain x y steps rs e g in
-      edge_may_stand (rules_of bound (contents a)) x y (sym (ap (λ (z : UnitText). z.name) entity.is)) is-process (ap (λ (z : UnitText). z.kind) entity.is) (sym (ap (λ (z : UnitText). z.args) entity.is)) (entity-plain x y entity)
-      (λ i w. edge-for (functions (contents a)) bound x y i x.name t formed (pads i w) (follows i w) is-process (ap (λ (z : UnitText). z.kind) entity.is) (no-signals x i is-process w) enough rs s p.0 p.1 p.2
+      edge_may_stand (rules_of bound (contents a)) x y (sym (ap (λ (z : UnitText). z.name) entity.is)) is-process (ap (λ (z : UnitText). z.kind) entity.is)
+      (sym (ap (λ (z : UnitText). z.args) entity.is)) (entity-plain x y entity)
+      (λ i w. edge-for (functions (contents a)) bound x y i x.name t formed (pads i w) (follows i w) is-process (ap (λ (z : UnitText). z.kind) entity.is) (no-signals x i is-process w) enough rs s p.0
+      p.1 p.2
       swaps (source_of x steps) zeros zero-reads
-      (edge-drives (functions (contents a)) bound x y i x.name t formed (pads i w) (follows i w) is-process (ap (λ (z : UnitText). z.kind) entity.is) (no-signals x i is-process w) enough rs s p.0 p.1 p.2 second-typed (source_of x steps) g)
+      (edge-drives (functions (contents a)) bound x y i x.name t formed (pads i w) (follows i w) is-process (ap (λ (z : UnitText). z.kind) entity.is) (no-signals x i is-process w) enough rs s p.0 p.1
+      p.2 second-typed (source_of x steps) g)
       (edge-passes x y steps rs i.args e (args-fit i w) g)
       (edge-senses x y steps rs i.args e (args-fit i w) g))
 
 -- ---- each shape
 
-module _ (L : Between) (begins : BetweenBegins L) (acts : BetweenActs L) (zeros : ZerosAreMissing) (zero-reads : ZerosReadAlike) (zero-acts : ZerosActAlike) (reach : ZerosReach) (flat-formed : FlatTextsAreFormed) where
+module _ (L : Between) (begins : BetweenBegins L) (acts : BetweenActs L) (zeros : ZerosAreMissing) (zero-reads : ZerosReadAlike) (zero-acts : ZerosActAlike) (reach : ZerosReach)
+    (flat-formed : FlatTextsAreFormed) where
   pub each-once : OnceIsGiven → OnceStands
   each-once given a u t y bound ds fl shape e enough = once-stands L begins acts zeros zero-reads zero-acts reach flat-formed a u t fl given y bound ds shape e enough
 
@@ -224,7 +239,8 @@ module _ (L : Between) (begins : BetweenBegins L) (acts : BetweenActs L) (zeros 
   each-comb given merged a u t y bound waited ds fl shape e enough = comb-stands L begins acts zeros zero-reads zero-acts reach flat-formed a u t fl given merged y bound waited ds shape e enough
 
   pub each-edge : EdgeIsGiven → RegionsAreAlike → SecondRowsAreTyped → SwapsKeepMeaning → EdgeStands
-  each-edge given alike second-typed swaps a u t y bound rs fl shape e enough = edge-stands L begins acts zeros zero-reads zero-acts reach flat-formed a u t fl given alike second-typed swaps y bound rs shape e enough
+  each-edge given alike second-typed swaps a u t y bound rs fl shape e enough = edge-stands L begins acts zeros zero-reads zero-acts reach flat-formed a u t fl given alike second-typed swaps y bound
+      rs shape e enough
 
 -- where each shape's entity may stand for its process, the entity of any shape may
 pub all-stand : OnceStands → CombStands → EdgeStands → LoweredStands

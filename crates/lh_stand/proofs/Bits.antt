@@ -95,7 +95,8 @@ module _ (args : List Range) where
       apart : (x a lo b n : ℕ) → (nat_eq x a && (nat_le lo b && nat_lt b (lo + n))) ≡ true → (x ≡ a) × (lo ≤ b) × (b < lo + n)
       apart x a lo b n e = (grind (arith, nat_tests), grind (arith, nat_tests), grind (arith, nat_tests))
 
-      by : (has_bit p a b ≡ true) ⊎ (is_waited ps a b ≡ true) → (is_waited ps a b ≡ true → has (bits_of ps) (lowest_bit args a + b) ≡ true) → (has (bits_in_part p) (lowest_bit args a + b) || has (bits_of ps) (lowest_bit args a + b)) ≡ true
+      by : (has_bit p a b ≡ true) ⊎ (is_waited ps a b ≡ true) → (is_waited ps a b ≡ true → has (bits_of ps) (lowest_bit args a + b) ≡ true)
+          → (has (bits_in_part p) (lowest_bit args a + b) || has (bits_of ps) (lowest_bit args a + b)) ≡ true
       by (inr e) go = or-right (has (bits_in_part p) (lowest_bit args a + b)) (has (bits_of ps) (lowest_bit args a + b)) (go e)
       by (inl e) go =
           let z = apart p.arg a p.lo b (bit_count p.ty) e in
@@ -173,7 +174,8 @@ module _ (args : List Range) where
   left-within [] qs k h = cc
   left-within (p ∷ ps) qs k h = has-split p (ps ++ qs) k ∙ by (or-cases (has (bits_in_part p) k) (has (bits_of ps) k) (sym (has-split p ps k) ∙ h)) (left-within ps qs k)
     where
-      by : (has (bits_in_part p) k ≡ true) ⊎ (has (bits_of ps) k ≡ true) → (has (bits_of ps) k ≡ true → has (bits_of (ps ++ qs)) k ≡ true) → (has (bits_in_part p) k || has (bits_of (ps ++ qs)) k) ≡ true
+      by : (has (bits_in_part p) k ≡ true) ⊎ (has (bits_of ps) k ≡ true) → (has (bits_of ps) k ≡ true → has (bits_of (ps ++ qs)) k ≡ true)
+          → (has (bits_in_part p) k || has (bits_of (ps ++ qs)) k) ≡ true
       by (inl x) go = or-left (has (bits_in_part p) k) (has (bits_of (ps ++ qs)) k) x
       by (inr x) go = or-right (has (bits_in_part p) k) (has (bits_of (ps ++ qs)) k) (go x)
 

@@ -33,7 +33,7 @@ use Rattle.lh_edge.specs.Atoms.{contains_past}
 use Rattle.lh_edge.specs.Shown.{is_edge_shown}
 use Rattle.lh_edge.specs.Triggers.{EdgeRowTree}
 use Rattle.lh_rows.specs.Rows as way
-use Rattle.lh_rows.specs.Rows.{Drive, Way, End, Rows}
+use Rattle.lh_rows.specs.Rows.{Drive, Way, RegionEnd, Rows}
 use Rattle.lh_rows.specs.Regions.{lines_at, head_of, waits_for, waited_parts, Regions, Course, comes_to, first_region}
 use Rattle.lh_rows.specs.Typed.{Among}
 use Rattle.lh_rows.specs.Means.{range_in, reads, with_rows}
@@ -48,7 +48,7 @@ use Rattle.lh_emission.specs.Ways.{RowIsGiven}
 use Rattle.lh_emission.specs.Registers.{triggers_seen, registers_wish}
 use Rattle.lh_emission.specs.Laws.{SensesParts, RegistersPass, row_parts}
 use Rattle.lh_stand.specs.Stands.{IsEnough}
-use Rattle.lh_before.specs.Before.{AreAlike, SecondRowsAreTyped}
+use Rattle.lh_before.specs.Before.{RowsAreAlike, SecondRowsAreTyped}
 use Rattle.lh_stand.proofs.Bits.{bits_of, covered-bits, there-bits, right-within, part-within}
 use Rattle.lh_stand.proofs.Agreeing.{ZerosAreMissing, ZerosReadAlike, values-agree}
 use Rattle.lh_stand.proofs.Shaped.{EdgeRegions, SecondWalk, second-walk}
@@ -85,16 +85,22 @@ same-tail : {X : Type 0} (x y : X) (xs ys : List X) → x ∷ xs ≡ y ∷ ys �
 same-tail x y xs ys e = cc
 
 -- an end whose way is one of the other ends'
-record AlikeEnd (x : End) (ys : List End) : Type 0 where
-  other : End
+record AlikeEnd (x : RegionEnd) (ys : List RegionEnd) : Type 0 where
+  other : RegionEnd
   among : Among other ys
   is : other.way ≡ x.way
 
-alike-end : (xs ys : List End) → map (λ (e : End). e.way) xs ≡ map (λ (e : End). e.way) ys → (x : End) → Among x xs → AlikeEnd x ys
+alike-end : (xs ys : List RegionEnd) → map (λ (e : RegionEnd). e.way) xs ≡ map (λ (e : RegionEnd). e.way) ys → (x : RegionEnd) → Among x xs → AlikeEnd x ys
 alike-end [] ys q x a = absurd a
 alike-end (z ∷ xs) [] q x a = cc
-alike-end (z ∷ xs) (y ∷ ys) q x (inl e) = record { other = y; among = inl refl; is = sym (same-head z.way y.way (map (λ (e : End). e.way) xs) (map (λ (e : End). e.way) ys) q) ∙ ap (λ (v : End). v.way) e }
-alike-end (z ∷ xs) (y ∷ ys) q x (inr a) = let r = alike-end xs ys (same-tail z.way y.way (map (λ (e : End). e.way) xs) (map (λ (e : End). e.way) ys) q) x a in record { other = r.other; among = inr r.among; is = r.is }
+alike-end (z ∷ xs) (y ∷ ys) q x (inl e) = record {
+  other = y;
+  among = inl refl;
+  is = sym (same-head z.way y.way (map (λ (e : RegionEnd). e.way) xs) (map (λ (e : RegionEnd). e.way) ys) q)
+      ∙ ap (λ (v : RegionEnd). v.way) e;
+}
+alike-end (z ∷ xs) (y ∷ ys) q x (inr a) = let r = alike-end xs ys (same-tail z.way y.way (map (λ (e : RegionEnd). e.way) xs) (map (λ (e : RegionEnd). e.way) ys) q) x a in
+    record { other = r.other; among = inr r.among; is = r.is }
 
 none-mapped : {X Y : Type 0} (f : X → Y) (xs ys : List X) → map f xs ≡ map f ys → ys ≡ [] → xs ≡ []
 none-mapped f [] ys e q = refl
@@ -120,16 +126,18 @@ read-same v w (x ∷ xs) e a h = by (x == a) refl h (read-same v w xs (same-tail
     by false q z go = go z
 
 -- parts whose bits agree have the same values
-parts-same : ZerosAreMissing → ZerosReadAlike → (args : List Range) (v w : List Bool) (qs : List Part) → ((a : ℕ) → has (bits_of args qs) a ≡ true → bit_at v a ≡ bit_at w a) → Each (λ q. reads args v q ≡ reads args w q) qs
+parts-same : ZerosAreMissing → ZerosReadAlike → (args : List Range) (v w : List Bool) (qs : List Part) → ((a : ℕ) → has (bits_of args qs) a ≡ true → bit_at v a ≡ bit_at w a)
+    → Each (λ q. reads args v q ≡ reads args w q) qs
 parts-same z y args v w [] h = tt
 parts-same z y args v w (q ∷ qs) h = (
   values-agree z y args q v w (λ a e. h a (part-within args q (q ∷ qs) (inl refl) a e)),
   parts-same z y args v w qs (λ a e. h a (right-within args (q ∷ []) qs a e)),
 )
 
-module _ (functions : List UnitText) (bound : ℕ) (x y : UnitText) (i : Instance) (name : UnitName) (t : FlatText) (formed : IsFormed (flat_unit name t)) (pads : Pads functions (flat_unit name t) i.args) (k : Follows functions x (flat_unit name t) i.args)
+module _ (functions : List UnitText) (bound : ℕ) (x y : UnitText) (i : Instance) (name : UnitName) (t : FlatText) (formed : IsFormed (flat_unit name t))
+    (pads : Pads functions (flat_unit name t) i.args) (k : Follows functions x (flat_unit name t) i.args)
     (xk : x.kind ≡ kind.Proc) (yk : y.kind ≡ kind.Entity) (sigs : i.sigs ≡ []) (enough : IsEnough bound t) (rs : List EdgeRowTree) (s : EdgeRegions t rs)
-    (p : Course) (before : first_region t past_of ≡ comes_to p) (alike : AreAlike p.rows s.walk.course.rows) where
+    (p : Course) (before : first_region t past_of ≡ comes_to p) (alike : RowsAreAlike p.rows s.walk.course.rows) where
   abbrev f : UnitText
   f = flat_unit name t
 
@@ -151,11 +159,11 @@ module _ (functions : List UnitText) (bound : ℕ) (x y : UnitText) (i : Instanc
   past-drives : p.rows.drives ≡ []
   past-drives = none-mapped (λ (d : Drive). d.part) p.rows.drives rows.drives alike.driven first-drives
 
-  waits-all : (e : End) → Among e rows.ends → AllWait i.args head rows.ends
+  waits-all : (e : RegionEnd) → Among e rows.ends → AllWait i.args head rows.ends
   waits-all e a =
       wait-all i.args head rows.ends e a
       (free-ends t now_of rows.ends (ap (λ (z : Rows). list_any ends_halted z.ends) s.walk.rows ∙ not-first (λ (z : Rows). list_any ends_halted z.ends) s.regions s.none.halts)
-      (ap (λ (z : Rows). list_any (λ (e : End). is_timed e.way) z.ends) s.walk.rows ∙ s.none.timed) (first-ends t now_of s.walk.course s.walk.first))
+      (ap (λ (z : Rows). list_any (λ (e : RegionEnd). is_timed e.way) z.ends) s.walk.rows ∙ s.none.timed) (first-ends t now_of s.walk.course s.walk.first))
       (ap (λ (z : Rows). are_mixed z.ends) s.walk.rows ∙ s.none.mixed)
 
   -- ---- the first activation, whatever the parts' values are taken to be now
@@ -167,7 +175,7 @@ module _ (functions : List UnitText) (bound : ℕ) (x y : UnitText) (i : Instanc
 
   -- some end of the first region is come to
   record SomeEnd : Type 0 where
-    end : End
+    end : RegionEnd
     among : Among end rows.ends
 
   some-end : SomeEnd
@@ -192,16 +200,16 @@ module _ (functions : List UnitText) (bound : ℕ) (x y : UnitText) (i : Instanc
   second-is = ap (λ o. option_map_or (λ (z : Rows). z.drives) o []) second.rows
 
   -- an end by values before waits as one by values now does
-  past-waits : (e : End) → Among e p.rows.ends → WaitsFor head all.target e.way
+  past-waits : (e : RegionEnd) → Among e p.rows.ends → WaitsFor head all.target e.way
   past-waits e a = let o = alike-end p.rows.ends rows.ends alike.ways e a in subst (WaitsFor head all.target) o.is (all.each o.other o.among)
 
-  past-bits : (e : End) → Among e p.rows.ends → SameSet (bits_of i.args (waited_parts e.way)) (bits_of i.args (parts_waited rows.ends))
+  past-bits : (e : RegionEnd) → Among e p.rows.ends → SameSet (bits_of i.args (waited_parts e.way)) (bits_of i.args (parts_waited rows.ends))
   past-bits e a =
       let o = alike-end p.rows.ends rows.ends alike.ways e a in
       subst (λ w. SameSet (bits_of i.args (waited_parts w)) (bits_of i.args (parts_waited rows.ends))) o.is (all.same o.other o.among)
 
-  past-targets : Each (λ (e : End). waits_for e.way ≡ Some all.target) p.rows.ends
-  past-targets = each-among (λ (e : End). waits_for e.way ≡ Some all.target) p.rows.ends (λ e a.
+  past-targets : Each (λ (e : RegionEnd). waits_for e.way ≡ Some all.target) p.rows.ends
+  past-targets = each-among (λ (e : RegionEnd). waits_for e.way ≡ Some all.target) p.rows.ends (λ e a.
       let w = past-waits e a in ap waits_for (w.is ∙ ap (λ b. way.waits all.target b w.parts false) not-head))
 
   abbrev to : List ℕ
@@ -227,7 +235,8 @@ module _ (functions : List UnitText) (bound : ℕ) (x y : UnitText) (i : Instanc
     last : k.Last (waiting_at block to parts e) flat
     after : (v : Valuation) → IsFitting v → WaitsAfter f t (reads i.args past) v i.args p.rows flat
 
-  ends-at : (q flat : ProcessState) → k.Last q flat → (now : List Bool) (at : Instant) (wish : Wish) → Leaves now at wish flat → EndsAt (Stays now) to on wish (activate bound (seen functions now at) x q)
+  ends-at : (q flat : ProcessState) → k.Last q flat → (now : List Bool) (at : Instant) (wish : Wish) → Leaves now at wish flat
+      → EndsAt (Stays now) to on wish (activate bound (seen functions now at) x q)
   ends-at q flat l now at wish z = by (z.after (reads i.args now) (reads-fit i.args now)) (k.acts q flat l now at bound bound (no-more bound) z.done z.runs)
     where
       by : WaitsAfter f t (reads i.args now) (reads i.args now) i.args p.rows z.done.state
@@ -248,7 +257,8 @@ module _ (functions : List UnitText) (bound : ℕ) (x y : UnitText) (i : Instanc
             is = a.1 ∙ (λ j. Some (record { state = process.is j; wish = wished j; outcomes = told j }));
           }
 
-  waits-so : (now : List Bool) (v : Valuation) (at : Instant) (w : Wish) (o : List Bool) (c d : Activated) → c ≡ d → EndsAs f t (reads i.args now) v i.args at w o p.rows c → WaitsAfter f t (reads i.args now) v i.args p.rows d.state
+  waits-so : (now : List Bool) (v : Valuation) (at : Instant) (w : Wish) (o : List Bool) (c d : Activated) → c ≡ d → EndsAs f t (reads i.args now) v i.args at w o p.rows c
+      → WaitsAfter f t (reads i.args now) v i.args p.rows d.state
   waits-so now v at w o c d q e = subst (λ (z : Activated). WaitsAfter f t (reads i.args now) v i.args p.rows z.state) q (record { end = e.end; came = e.came; stands = e.stands })
 
   first-leaves : (now : List Bool) (at : Instant) → Leaves now at no_wish (begun f i.args)
@@ -267,19 +277,23 @@ module _ (functions : List UnitText) (bound : ℕ) (x y : UnitText) (i : Instanc
   second-wish past now at = with_rows (reads i.args past) (reads i.args now) i.args at no_wish second.course.rows.drives
 
   module _ (past now : List Bool) (at : Instant) (flat : ProcessState) (after : (v : Valuation) → IsFitting v → WaitsAfter f t (reads i.args past) v i.args p.rows flat) where
-    acts-second : (v : Valuation) → IsFitting v → SecondEnds functions name t i.args formed s.walk.plain pads (reads i.args past) (reads i.args now) second.course.rows (reads i.args now) v p.rows now at bound flat
+    acts-second : (v : Valuation) → IsFitting v
+        → SecondEnds functions name t i.args formed s.walk.plain pads (reads i.args past) (reads i.args now) second.course.rows (reads i.args now) v p.rows now at bound flat
     acts-second v fit =
         second-acts functions name t i.args formed s.walk.plain pads (reads i.args past) (reads-fit i.args past) p before all.target past-targets second.course second.is now at bound
         (two-regions max_steps (length (lines_at t.blocks 0)) bound enough) flat (after (reads i.args now) (reads-fit i.args now))
         past_of past-typed (reads i.args now) v (reads-fit i.args now) fit (λ q. refl) p before
 
-    then-first : (done : Activated) (v : Valuation) → EndsAs f t (reads i.args past) (reads i.args now) i.args at no_wish [] second.course.rows done ⊎ ThenFirst f t (reads i.args past) (reads i.args now) second.course.rows (reads i.args now) v p.rows i.args at done →
+    then-first : (done : Activated) (v : Valuation) → EndsAs f t (reads i.args past) (reads i.args now) i.args at no_wish [] second.course.rows done
+        ⊎ ThenFirst f t (reads i.args past) (reads i.args now) second.course.rows (reads i.args now) v p.rows i.args at done →
         ThenFirst f t (reads i.args past) (reads i.args now) second.course.rows (reads i.args now) v p.rows i.args at done
     then-first done v (inr z) = z
     then-first done v (inl z) =
         let halts : list_any ends_halted second.course.rows.ends ≡ false = not-second (λ (c : Rows). list_any ends_halted c.ends) s.regions second.course.rows second.rows s.none.halts in
-        let waits : list_any (λ (e : End). is_wait e.way) second.course.rows.ends ≡ false = sym (ap (λ o. list_any (λ (e : End). is_wait e.way) (option_map_or (λ (c : Rows). c.ends) o [])) second.rows) ∙ s.none.twice in
-        absurd (not-left t.blocks i.args z.end.way z.end.from done.state.stand (none-of ends_halted second.course.rows.ends z.end halts z.came.among) (none-of (λ (e : End). is_wait e.way) second.course.rows.ends z.end waits z.came.among) z.stands)
+        let waits : list_any (λ (e : RegionEnd). is_wait e.way) second.course.rows.ends
+        ≡ false = sym (ap (λ o. list_any (λ (e : RegionEnd). is_wait e.way) (option_map_or (λ (c : Rows). c.ends) o [])) second.rows) ∙ s.none.twice in
+        absurd (not-left t.blocks i.args z.end.way z.end.from done.state.stand (none-of ends_halted second.course.rows.ends z.end halts z.came.among)
+        (none-of (λ (e : RegionEnd). is_wait e.way) second.course.rows.ends z.end waits z.came.among) z.stands)
 
     second-leaves : Leaves now at (second-wish past now at) flat
     second-leaves =
@@ -302,7 +316,8 @@ module _ (functions : List UnitText) (bound : ℕ) (x y : UnitText) (i : Instanc
   edge-first : (now : List Bool) (at : Instant) → EndsAt (Stays now) to on no_wish (activate bound (seen functions now at) x (fresh x i))
   edge-first now at = ends-at (begun x i.args) (begun f i.args) k.begins now at no_wish (first-leaves now at)
 
-  edge-later : (past now : List Bool) (at : Instant) (block : List ℕ) (e : Env) (parts : List Range) → Stays past block e → EndsAt (Stays now) to on (second-wish past now at) (activate bound (seen functions now at) x (waiting_at block to parts e))
+  edge-later : (past now : List Bool) (at : Instant) (block : List ℕ) (e : Env) (parts : List Range) → Stays past block e
+      → EndsAt (Stays now) to on (second-wish past now at) (activate bound (seen functions now at) x (waiting_at block to parts e))
   edge-later past now at block e parts h =
       subst (EndsAt (Stays now) to on (second-wish past now at)) (waits-alike bound (seen functions now at) x block to h.parts parts None None e)
       (ends-at (waiting_at block to h.parts e) h.flat h.last now at (second-wish past now at) (second-leaves past now at h.flat h.after))
@@ -331,7 +346,8 @@ module _ (functions : List UnitText) (bound : ℕ) (x y : UnitText) (i : Instanc
       subst (Each DriveTyped) (sym second-is)
       (typed name t formed s.walk.plain s.walk.course s.walk.first all.target (all.one not-head) second.course second.is).0
 
-  drives-are : (source : Source) (es : List Drive) → Each DriveTyped es → Each (RowIsGiven source) (map (edge_row ws) es) → list_any (λ (d : Drive). not (is_edge_shown ws d.cond)) es ≡ false → list_any (λ (d : Drive). contains_past d.value) es ≡ false → list_any (λ (d : Drive). not (is_constant d.delay)) es ≡ false → Each (EdgeDrive source ws) es
+  drives-are : (source : Source) (es : List Drive) → Each DriveTyped es → Each (RowIsGiven source) (map (edge_row ws) es) → list_any (λ (d : Drive). not (is_edge_shown ws d.cond)) es ≡ false
+      → list_any (λ (d : Drive). contains_past d.value) es ≡ false → list_any (λ (d : Drive). not (is_constant d.delay)) es ≡ false → Each (EdgeDrive source ws) es
   drives-are source [] h g a b c = tt
   drives-are source (d ∷ es) h g a b c = (
     record {
@@ -341,18 +357,21 @@ module _ (functions : List UnitText) (bound : ℕ) (x y : UnitText) (i : Instanc
       delay = not-false (is_constant d.delay) (or-none (not (is_constant d.delay)) (list_any (λ (d : Drive). not (is_constant d.delay)) es) c);
       triggers = g.0.triggers;
     },
-    drives-are source es h.1 g.1 (or-none-right (not (is_edge_shown ws d.cond)) (list_any (λ (d : Drive). not (is_edge_shown ws d.cond)) es) a) (or-none-right (contains_past d.value) (list_any (λ (d : Drive). contains_past d.value) es) b)
+    drives-are source es h.1 g.1 (or-none-right (not (is_edge_shown ws d.cond)) (list_any (λ (d : Drive). not (is_edge_shown ws d.cond)) es) a)
+        (or-none-right (contains_past d.value) (list_any (λ (d : Drive). contains_past d.value) es) b)
         (or-none-right (not (is_constant d.delay)) (list_any (λ (d : Drive). not (is_constant d.delay)) es) c),
   )
 
   pub edge-drives : SecondRowsAreTyped → (source : Source) → Each (RowIsGiven source) rs → Each (EdgeDrive source ws) ds
   edge-drives typed source given =
       drives-are source ds (drives-typed typed) (subst (Each (RowIsGiven source)) (sym s.rows) given) s.none.edges s.none.past
-      (ap (list_any (λ (d : Drive). not (is_constant d.delay))) second-is ∙ not-second (λ (z : Rows). list_any (λ (d : Drive). not (is_constant d.delay)) z.drives) s.regions second.course.rows second.rows s.none.delays)
+      (ap (list_any (λ (d : Drive). not (is_constant d.delay))) second-is
+      ∙ not-second (λ (z : Rows). list_any (λ (d : Drive). not (is_constant d.delay)) z.drives) s.regions second.course.rows second.rows s.none.delays)
 
   -- ---- the entity
 
-  module _ (laws : SwapsKeepMeaning) (source : Source) (zeros : ZerosAreMissing) (zero-reads : ZerosReadAlike) (drives : Each (EdgeDrive source ws) ds) (passes : RegistersPass rs y i.args) (senses : SensesParts (λ q. Unit {0}) parts_triggering y i.args) where
+  module _ (laws : SwapsKeepMeaning) (source : Source) (zeros : ZerosAreMissing) (zero-reads : ZerosReadAlike) (drives : Each (EdgeDrive source ws) ds) (passes : RegistersPass rs y i.args)
+      (senses : SensesParts (λ q. Unit {0}) parts_triggering y i.args) where
     triggers-probed : IsWithin triggers (sensed y i)
     triggers-probed =
         let is : sensed y i ≡ bits_of i.args senses.parts = ap (λ z. bit_numbers (probes y i.args z)) sigs ∙ ap bit_numbers senses.are_sensed in
@@ -384,7 +403,8 @@ module _ (functions : List UnitText) (bound : ℕ) (x y : UnitText) (i : Instanc
 
     at-rest : (past now : List Bool) (at : Instant) → list_any (bit_differs past now) triggers ≡ false → second-wish past now at ≡ no_wish
     at-rest past now at e =
-        let same : Each (λ q. reads i.args past q ≡ reads i.args now q) parts_triggering = parts-same zeros zero-reads i.args past now parts_triggering (λ a h. not_differ past now a (none_of (bit_differs past now) triggers e a h)) in
+        let same : Each (λ q. reads i.args past q ≡ reads i.args now q) parts_triggering = parts-same zeros zero-reads i.args past now parts_triggering
+        (λ a h. not_differ past now a (none_of (bit_differs past now) triggers e a h)) in
         ap (with_rows (reads i.args past) (reads i.args now) i.args at no_wish) (sym second-is)
         ∙ rows-rest (reads i.args past) (reads i.args now) (reads-fit i.args past) (reads-fit i.args now) laws source ws i.args at no_wish ds drives
         (subst (λ z. Each (λ q. reads i.args past q ≡ reads i.args now q) (flat_map row_parts z)) (sym s.rows) same)

@@ -12,8 +12,8 @@ use Rattle.lh_term.specs.Make.{is_zero, bit_of, make_operation}
 use Rattle.lh_term.specs.declared.part.Part.{Part}
 use Rattle.lh_types.specs.declared.op.Op.TheVariants.{Not}
 use Rattle.lh_rows.specs.Known.{value_known, part_known, values_known, parts_known}
-use Rattle.lh_rows.specs.Rows.{Drive, Way, halts, enters_head, waits, End}
-use Rattle.lh_rows.specs.Joins.{Place, Edge, any_taken, known_at}
+use Rattle.lh_rows.specs.Rows.{Drive, Way, halts, enters_head, waits, RegionEnd}
+use Rattle.lh_rows.specs.Joins.{RegionPlace, RegionEdge, any_taken, known_at}
 use Rattle.lh_rows.specs.Places.{Region, Here, Midst, block_number, both, probes, drive_cond, drives, asserts, ends, next_place, goes, goes_if, leads, branches, wait_way, ends_if, takes, takes_all}
 use Rattle.lh_rows.specs.Regions.{Course, no_course, Coursed, stops, comes_to, then_course, turns_too_often, too_many_turns, region_too_large, max_insts, after_lines, through_block, through, edges_to, through_reached, through_all, all_places, region_from, head_of, edge_into, known_first, first_region}
 use Rattle.lh_stand.proofs.Bits.{and-left}
@@ -25,8 +25,8 @@ WayFits g enters_head = g.ends_at_head ≡ true
 WayFits g (waits target to_head parts timed) = to_head ≡ nat_eq target g.head
 
 module _ (g : Region) where
-  abbrev pub EndsFit : List End → Type 0
-  EndsFit es = Each (λ (e : End). WayFits g e.way) es
+  abbrev pub EndsFit : List RegionEnd → Type 0
+  EndsFit es = Each (λ (e : RegionEnd). WayFits g e.way) es
 
   abbrev MidstFits : Midst → Type 0
   MidstFits m = EndsFit m.rows.ends
@@ -51,12 +51,13 @@ module _ (g : Region) where
   asserts-fit m (Some ts) h = h
 
   ends-fit : (h : Here) (c : Tree) (m : Midst) (w : Way) → WayFits g w → MidstFits m → MidstFits (ends h c m w)
-  ends-fit h c m w f k = Each-append (λ (e : End). WayFits g e.way) m.rows.ends (record { cond = c; way = w; from = h.label; known = m.known } ∷ []) k (f, tt)
+  ends-fit h c m w f k = Each-append (λ (e : RegionEnd). WayFits g e.way) m.rows.ends (record { cond = c; way = w; from = h.label; known = m.known } ∷ []) k (f, tt)
 
   goes-fit : (h : Here) (c : Tree) (m : Midst) (b : ℕ) → MidstFits m → MidstFits (goes g h c m b)
   goes-fit h c m b k = at (g.ends_at_head && nat_eq b g.head) (λ e. and-left g.ends_at_head (nat_eq b g.head) e)
     where
-      at : (x : Bool) → (x ≡ true → g.ends_at_head ≡ true) → MidstFits (if x then ends h c m enters_head else record m { edges = m.edges ++ record { to = next_place h.place b; from = h.label; cond = c; known = m.known } ∷ [] })
+      at : (x : Bool) → (x ≡ true → g.ends_at_head ≡ true)
+          → MidstFits (if x then ends h c m enters_head else record m { edges = m.edges ++ record { to = next_place h.place b; from = h.label; cond = c; known = m.known } ∷ [] })
       at true f = ends-fit h c m enters_head (f refl) k
       at false f = k
 
@@ -119,7 +120,7 @@ module _ (g : Region) where
       at true = tt
       at false = k
 
-  block-fits : (p : Place) (q : Tree) (es : List Edge) (c : Course) (b : FlatBlockText) → CourseFits c → CoursedFits (through_block g p q es c b)
+  block-fits : (p : RegionPlace) (q : Tree) (es : List RegionEdge) (c : Course) (b : FlatBlockText) → CourseFits c → CoursedFits (through_block g p q es c b)
   block-fits p q es c b k =
       at (nat_lt max_insts (c.insts + length b.lines)) (c.insts + length b.lines)
       (takes_all g (record { place = p; label = b.label; cond = q }) b.lines (record { known = known_at es (with_merge b.merge b.lines); edges = c.edges; rows = c.rows }))
@@ -129,14 +130,14 @@ module _ (g : Region) where
       at true n m j = tt
       at false n m j = after-fits n m j
 
-  through-fits : (p : Place) (q : Tree) (es : List Edge) (c : Course) → CourseFits c → CoursedFits (through g p q es c)
+  through-fits : (p : RegionPlace) (q : Tree) (es : List RegionEdge) (c : Course) → CourseFits c → CoursedFits (through g p q es c)
   through-fits p q es c k = at (slice_get g.blocks p.block)
     where
       at : (o : Option FlatBlockText) → CoursedFits (option_map_or (through_block g p q es c) o (comes_to c))
       at None = k
       at (Some b) = block-fits p q es c b k
 
-  reached-fits : (p : Place) (es : List Edge) (c : Course) → CourseFits c → CoursedFits (through_reached g p es c)
+  reached-fits : (p : RegionPlace) (es : List RegionEdge) (c : Course) → CourseFits c → CoursedFits (through_reached g p es c)
   reached-fits p [] c k = k
   reached-fits p (e ∷ es) c k = through-fits p (any_taken (e ∷ es)) (e ∷ es) c k
 
@@ -144,11 +145,11 @@ module _ (g : Region) where
   then-fits (stops r) f k go = tt
   then-fits (comes_to c) f k go = go c k
 
-  through-all-fits : (ps : List Place) (c : Course) → CourseFits c → CoursedFits (through_all g ps c)
+  through-all-fits : (ps : List RegionPlace) (c : Course) → CourseFits c → CoursedFits (through_all g ps c)
   through-all-fits [] c k = k
   through-all-fits (p ∷ ps) c k = then-fits (through_reached g p (edges_to p c.edges) c) (through_all g ps) (reached-fits p (edges_to p c.edges) c k) (λ d j. through-all-fits ps d j)
 
-  region-fits : (b : ℕ) (es : List Edge) → CoursedFits (region_from g b es)
+  region-fits : (b : ℕ) (es : List RegionEdge) → CoursedFits (region_from g b es)
   unfolding region_from
   region-fits b es =
       then-fits (through g (record { turns = 0; block = b }) (bit_of true) es no_course) (through_all g (all_places (length g.blocks)))

@@ -84,8 +84,10 @@ same-arg j k e = cc
 args-few : (t : Table) → IsTable t → length t.args < 2 ^ 32
 args-few t o =
     let xs : List ℕ = map (λ (a : Arg). a.value.0) t.args in
-    let once : StandsOnce xs = λ j k v a b. let x = arg-at t.args j v a in let y = arg-at t.args k v b in same-arg j k (o.defined_once v (value_def.Arg j) (value_def.Arg k) (x.within, x.value) (y.within, y.value)) in
-    let few : length xs ≤ length t.values = length-le_from_distinct_below xs (length t.values) (once-distinct xs once) (λ q h. let r = placed q xs h in low-value (length t.values) t.args o.args_within r.0 q r.1) in
+    let once : StandsOnce xs = λ j k v a b. let x = arg-at t.args j v a in let y = arg-at t.args k v b in
+    same-arg j k (o.defined_once v (value_def.Arg j) (value_def.Arg k) (x.within, x.value) (y.within, y.value)) in
+    let few : length xs ≤ length t.values = length-le_from_distinct_below xs (length t.values) (once-distinct xs once) (λ q h. let r = placed q xs h in
+    low-value (length t.values) t.args o.args_within r.0 q r.1) in
     let long : length xs ≡ length t.args = length-map t.args (λ (a : Arg). a.value.0) in
     let v = o.few_values in
     omega (arith, few, long, v)

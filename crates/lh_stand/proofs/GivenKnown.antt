@@ -29,7 +29,7 @@ use Rattle.lh_term.specs.Make.{bit_of, make_operation, make_choice}
 use Rattle.lh_term.specs.Conjuncts.{conjuncts_of}
 use Rattle.lh_term.specs.declared.part.Part.{Part}
 use Rattle.lh_rows.specs.Known.{Known, known_value, known_cell, known_part, Knowledge, nothing_known, with_given, value_known, cell_known, part_known, values_known, parts_known, with_arguments}
-use Rattle.lh_rows.specs.Joins.{Edge, or_any, any_taken, in_each, selector, chosen_from, merged, merged_by, joined, phi_on, with_phi, with_phis, known_at}
+use Rattle.lh_rows.specs.Joins.{RegionEdge, or_any, any_taken, in_each, selector, chosen_from, merged, merged_by, joined, phi_on, with_phi, with_phis, known_at}
 use Rattle.lh_rows.specs.Places.{stepped, part_stepped, operated}
 use Rattle.lh_rows.specs.Regions.{with_constant, with_constants}
 use Rattle.lh_rows.specs.Typed as rows
@@ -40,7 +40,8 @@ use Rattle.lh_rows.proofs.Sites.{LineGood}
 use Rattle.lh_emission.specs.Emitted.{PartStep, source_of}
 use Rattle.lh_emission.specs.Reached as Emit
 use Rattle.lh_emission.specs.Reached.{Reached, stepped_by, further, steps_in, IsPartOf}
-use Rattle.lh_emission.specs.Ways.{part_by, part_by_step, whole, WaitIsGiven, AllParts}
+use Rattle.lh_term.specs.Leaves.{AllParts}
+use Rattle.lh_emission.specs.Ways.{part_by, part_by_step, whole, WaitIsGiven}
 use Rattle.lh_emission.proofs.Reaching.{part-reached}
 use Rattle.lh_stand.proofs.GivenTrees.{In, AllIn, make-in, choice-in, conjuncts-in, conjunction-in, filter-in}
 
@@ -83,7 +84,8 @@ argument-named u f n p h =
 abbrev further_by : Op → List PartStep → Part → Reached
 further_by o steps p = record { part = p; steps = steps ++ record { op = o; to = p } ∷ [] }
 
-further-named : (u : UnitText) (n : List ℕ) (o : Op) (x : OperandText) (q p : Part) → args_define n u.args ≡ false → inst_giving n u.blocks ≡ Some (pure_text o (x ∷ [])) → part_by q o ≡ Some p → IsPartOf u x.value q → IsPartOf u n p
+further-named : (u : UnitText) (n : List ℕ) (o : Op) (x : OperandText) (q p : Part) → args_define n u.args ≡ false → inst_giving n u.blocks ≡ Some (pure_text o (x ∷ [])) → part_by q o ≡ Some p
+    → IsPartOf u x.value q → IsPartOf u n p
 further-named u n o x q p new line by h = record {
   count = suc h.count;
   way = further_by o h.way.steps p;
@@ -100,7 +102,8 @@ further-named u n o x q p new line by h = record {
 abbrev inner : Part → Parts.Part → Part
 inner q z = record { arg = q.arg; lo = q.lo + z.lo; ty = z.of }
 
-step-led : (o : Op) (s : Step) (ty : Option TypeTree) (q : Part) (z : Parts.Part) → step_of o ≡ Some s → step_part q.ty s ≡ Some z → ty ≡ Some (signal_type z.of) → stepped (Some q) (option_and_then carried ty) (step_of o) ≡ Some (known_part (inner q z))
+step-led : (o : Op) (s : Step) (ty : Option TypeTree) (q : Part) (z : Parts.Part) → step_of o ≡ Some s → step_part q.ty s ≡ Some z → ty ≡ Some (signal_type z.of)
+    → stepped (Some q) (option_and_then carried ty) (step_of o) ≡ Some (known_part (inner q z))
 step-led o s ty q z so leads written =
     (λ i. stepped (Some q) (option_and_then carried (written i)) (so i))
     ∙ ap (option_map (λ w. known_part (record { arg = q.arg; lo = q.lo + w.lo; ty = z.of }))) (parts_have_ranges q.ty s z leads)
@@ -129,7 +132,8 @@ module _ (u : UnitText) (l : LineText) (good : LineGood u l) (n : List ℕ) (res
   }
 
   -- of one operand that is a signal: the part to which the step leads, which is that of the result
-  step-named : (o : Op) (x : OperandText) (s : Step) → step_of o ≡ Some s → l.inst ≡ pure_text o (x ∷ []) → (q : Part) → PartNamed u x.value q → (y : Known) → stepped (Some q) (option_and_then carried x.ty) (step_of o) ≡ Some y →
+  step-named : (o : Op) (x : OperandText) (s : Step) → step_of o ≡ Some s → l.inst ≡ pure_text o (x ∷ []) → (q : Part) → PartNamed u x.value q → (y : Known)
+      → stepped (Some q) (option_and_then carried x.ty) (step_of o) ≡ Some y →
       (p : Part) × (y ≡ known_part p) × PartNamed u n p
   step-named o x s so e q h y made = by (taken u x s q (takes-part u o s (x ∷ []) so (subst (HasPart u) e good.0.part)) h.type)
     where
@@ -161,7 +165,8 @@ module _ (u : UnitText) (T : Part → Type 0) where
   values-fine k h [] ts q = subst (AllIn T) (same_Some [] ts q) tt
   values-fine k h (o ∷ os) ts q = by (λ xs. values-fine k h os xs) (value_known k o.value) refl (values_known k os) refl q
     where
-      by : ((xs : List Tree) → values_known k os ≡ Some xs → AllIn T xs) → (a : Option Tree) → value_known k o.value ≡ a → (b : Option (List Tree)) → values_known k os ≡ b → front a b ≡ Some ts → AllIn T ts
+      by : ((xs : List Tree) → values_known k os ≡ Some xs → AllIn T xs) → (a : Option Tree) → value_known k o.value ≡ a → (b : Option (List Tree)) → values_known k os ≡ b → front a b ≡ Some ts
+          → AllIn T ts
       by go None p b g e = absurd (none-some ts e)
       by go (Some x) p None g e = absurd (none-some ts e)
       by go (Some x) p (Some xs) g e = subst (AllIn T) (same_Some (x ∷ xs) ts e) (value-fine k h o.value x p, go xs g)
@@ -170,7 +175,8 @@ module _ (u : UnitText) (T : Part → Type 0) where
   parts-fine k h [] ps q = subst (Each (PartFine u)) (same_Some [] ps q) tt
   parts-fine k h (n ∷ ns) ps q = by (λ xs. parts-fine k h ns xs) (part_known k n) refl (parts_known k ns) refl q
     where
-      by : ((xs : List Part) → parts_known k ns ≡ Some xs → Each (PartFine u) xs) → (a : Option Part) → part_known k n ≡ a → (b : Option (List Part)) → parts_known k ns ≡ b → front a b ≡ Some ps → Each (PartFine u) ps
+      by : ((xs : List Part) → parts_known k ns ≡ Some xs → Each (PartFine u) xs) → (a : Option Part) → part_known k n ≡ a → (b : Option (List Part)) → parts_known k ns ≡ b → front a b ≡ Some ps
+          → Each (PartFine u) ps
       by go None p b g e = absurd (none-some ps e)
       by go (Some x) p None g e = absurd (none-some ps e)
       by go (Some x) p (Some xs) g e = subst (Each (PartFine u)) (same_Some (x ∷ xs) ps e) (part-fine u n x (part-known-fine k h n x p), go xs g)
@@ -241,40 +247,42 @@ module _ (u : UnitText) (T : Part → Type 0) where
 
   -- ---- edges
 
-  pub record EdgeFine (e : Edge) : Type 0 where
+  pub record EdgeFine (e : RegionEdge) : Type 0 where
     pub cond : AllParts T e.cond
     pub known : KnowsFine e.known
 
-  or-fine : (c : Tree) (es : List Edge) → In T c → Each EdgeFine es → In T (or_any c es)
+  or-fine : (c : Tree) (es : List RegionEdge) → In T c → Each EdgeFine es → In T (or_any c es)
   or-fine c [] h j = h
   or-fine c (e ∷ es) h j = or-fine (make_operation Or (c ∷ e.cond ∷ [])) es (make-in T Or (c ∷ e.cond ∷ []) (h, (j.0.cond, tt))) j.1
 
-  pub taken-fine : (es : List Edge) → Each EdgeFine es → In T (any_taken es)
+  pub taken-fine : (es : List RegionEdge) → Each EdgeFine es → In T (any_taken es)
   taken-fine es j = or-fine (bit_of false) es tt j
 
-  selector-fine : (es : List Edge) (e : Edge) → EdgeFine e → In T (selector es e)
+  selector-fine : (es : List RegionEdge) (e : RegionEdge) → EdgeFine e → In T (selector es e)
   selector-fine es e h = conjunction-in T (filter (λ c. not (in_each es c)) (conjuncts_of e.cond)) (filter-in T (λ c. not (in_each es c)) (conjuncts_of e.cond) (conjuncts-in T e.cond h.cond))
 
-  chosen-fine : (all : List Edge) (t : Tree) (es : List Edge) (vs : List Tree) → In T t → Each EdgeFine es → AllIn T vs → In T (chosen_from all t es vs)
+  chosen-fine : (all : List RegionEdge) (t : Tree) (es : List RegionEdge) (vs : List Tree) → In T t → Each EdgeFine es → AllIn T vs → In T (chosen_from all t es vs)
   chosen-fine all t [] vs h j k = h
   chosen-fine all t (e ∷ es) [] h j k = h
   chosen-fine all t (e ∷ es) (v ∷ vs) h j k = chosen-fine all (make_choice (selector all e) t v) es vs (choice-in T (selector all e) t v (selector-fine all e j.0) h k.0) j.1 k.1
 
-  merged-fine : (es : List Edge) (vs : List Tree) (t : Tree) → Each EdgeFine es → AllIn T vs → merged es vs ≡ Some t → In T t
+  merged-fine : (es : List RegionEdge) (vs : List Tree) (t : Tree) → Each EdgeFine es → AllIn T vs → merged es vs ≡ Some t → In T t
   merged-fine [] vs t j k q = absurd (none-some t q)
   merged-fine (e ∷ es) [] t j k q = absurd (none-some t q)
   merged-fine (e ∷ es) (v ∷ vs) t j k q = subst (In T) (same_Some (chosen_from (e ∷ es) v es vs) t q) (chosen-fine (e ∷ es) v es vs k.0 j.1 k.1)
 
-  each-fine : (f : Edge → Option Tree) → ((e : Edge) → EdgeFine e → (t : Tree) → f e ≡ Some t → In T t) → (es : List Edge) (ts : List Tree) → Each EdgeFine es → GiveEach f es ts → AllIn T ts
+  each-fine : (f : RegionEdge → Option Tree) → ((e : RegionEdge) → EdgeFine e → (t : Tree) → f e ≡ Some t → In T t) → (es : List RegionEdge) (ts : List Tree) → Each EdgeFine es → GiveEach f es ts
+      → AllIn T ts
   each-fine f h [] [] j g = tt
   each-fine f h [] (t ∷ ts) j g = absurd g
   each-fine f h (e ∷ es) [] j g = absurd g
   each-fine f h (e ∷ es) (t ∷ ts) j g = (h e j.0 t g.0, each-fine f h es ts j.1 g.1)
 
-  merged-by-fine : (f : Edge → Option Tree) → ((e : Edge) → EdgeFine e → (t : Tree) → f e ≡ Some t → In T t) → (es : List Edge) → Each EdgeFine es → (t : Tree) → merged_by f es ≡ Some t → In T t
+  merged-by-fine : (f : RegionEdge → Option Tree) → ((e : RegionEdge) → EdgeFine e → (t : Tree) → f e ≡ Some t → In T t) → (es : List RegionEdge) → Each EdgeFine es → (t : Tree)
+      → merged_by f es ≡ Some t → In T t
   merged-by-fine f h es j t q = let m = merged-of f es t q in merged-fine es m.trees t j (each-fine f h es m.trees j m.each) m.is
 
-  joined-fine : (es : List Edge) → Each EdgeFine es → KnowsFine (joined es)
+  joined-fine : (es : List RegionEdge) → Each EdgeFine es → KnowsFine (joined es)
   joined-fine es j n x q = by x (join-case es n x q)
     where
       by : (x : Known) → JoinCase es n x → KnownFine n x
@@ -284,22 +292,22 @@ module _ (u : UnitText) (T : Part → Type 0) where
           let z = first-among es ps p (part_on n) (given-each (part_on n) es ps e) g in
           part-known-fine z.0.known (in-each EdgeFine es z.0 j z.1).known n p z.2
 
-  phi-edge-fine : (os : List EdgeText) (e : Edge) → EdgeFine e → (t : Tree) → phi_on os e ≡ Some t → In T t
+  phi-edge-fine : (os : List EdgeText) (e : RegionEdge) → EdgeFine e → (t : Tree) → phi_on os e ≡ Some t → In T t
   phi-edge-fine os e h t q = by (edge_from e.from os) q
     where
       by : (o : Option (List ℕ)) → option_and_then (value_known e.known) o ≡ Some t → In T t
       by None g = absurd (none-some t g)
       by (Some n) g = value-fine e.known h.known n t g
 
-  phi-fine : (es : List Edge) → Each EdgeFine es → (j : InstText) (r : Option (List ℕ)) (k : Knowledge) → KnowsFine k → KnowsFine (with_phi es j r k)
+  phi-fine : (es : List RegionEdge) → Each EdgeFine es → (j : InstText) (r : Option (List ℕ)) (k : Knowledge) → KnowsFine k → KnowsFine (with_phi es j r k)
   phi-fine es e (phi_text ty os) r k h =
       given-fine k r (option_map known_value (merged_by (phi_on os) es)) h
       (λ n x p q. some-value (merged_by (phi_on os) es) (λ t g. merged-by-fine (phi_on os) (λ z i t w. phi-edge-fine os z i t w) es e t g) n x q)
   phi-fine es e j r k h = h
 
-  phis-fine : (es : List Edge) → Each EdgeFine es → (ls : List LineText) (k : Knowledge) → KnowsFine k → KnowsFine (with_phis es ls k)
+  phis-fine : (es : List RegionEdge) → Each EdgeFine es → (ls : List LineText) (k : Knowledge) → KnowsFine k → KnowsFine (with_phis es ls k)
   phis-fine es e [] k h = h
   phis-fine es e (l ∷ ls) k h = phi-fine es e l.inst l.result (with_phis es ls k) (phis-fine es e ls k h)
 
-  pub known-at-fine : (es : List Edge) (ls : List LineText) → Each EdgeFine es → KnowsFine (known_at es ls)
+  pub known-at-fine : (es : List RegionEdge) (ls : List LineText) → Each EdgeFine es → KnowsFine (known_at es ls)
   known-at-fine es ls e = phis-fine es e ls (joined es) (joined-fine es e)

@@ -17,7 +17,7 @@ use Rattle.lh_term.specs.Conjuncts.{conjuncts_of}
 use Rattle.lh_term.specs.Laws.{SwapsKeepMeaning}
 use Rattle.lh_term.specs.declared.part.Part.{Part}
 use Rattle.lh_cover.specs.Bits.{covers}
-use Rattle.lh_rows.specs.Rows.{Drive, End, Rows}
+use Rattle.lh_rows.specs.Rows.{Drive, RegionEnd, Rows}
 use Rattle.lh_rows.specs.Regions.{waited_parts}
 use Rattle.lh_rows.specs.Adjacent.{beyond, drive_merged}
 use Rattle.lh_rows.specs.Laws.{DriveTyped}
@@ -27,7 +27,8 @@ use Rattle.lh_shape.specs.Merging.{are_alike, merged_from, merged_drives}
 use Rattle.lh_shape.specs.Reasons.{parts_waited, second_drives}
 use Rattle.lh_shape.specs.Shapes.{comb, edge, once, left, edge_row}
 use Rattle.lh_emission.specs.Emitted.{Source}
-use Rattle.lh_emission.specs.Ways.{AllParts, IsReached, WaitIsGiven, DriveIsGiven, RowIsGiven}
+use Rattle.lh_term.specs.Leaves.{AllParts}
+use Rattle.lh_emission.specs.Ways.{IsReached, WaitIsGiven, DriveIsGiven, RowIsGiven}
 use Rattle.lh_emission.specs.Laws.{DriveReads}
 use Rattle.lh_stand.specs.Given.{source_in, CombGiven, CombIsGiven, EdgeIsGiven, OnceIsGiven}
 use Rattle.lh_stand.proofs.GivenTrees.{make-in, choice-in, conjuncts-in, conjunction-in, filter-in}
@@ -40,7 +41,8 @@ use Rattle.lh_stand.proofs.GivenShapes.{HasRows, has-rows, SecondOf, CombOf, com
 -- ---- drives as one
 
 beyond-in : (P : Part → Type 0) (c d : Tree) → AllParts P d → AllParts P (beyond c d)
-beyond-in P c d h = conjunction-in P (filter (λ k. not (list_any (same_tree k) (conjuncts_of c))) (conjuncts_of d)) (filter-in P (λ k. not (list_any (same_tree k) (conjuncts_of c))) (conjuncts_of d) (conjuncts-in P d h))
+beyond-in P c d h = conjunction-in P (filter (λ k. not (list_any (same_tree k) (conjuncts_of c))) (conjuncts_of d))
+    (filter-in P (λ k. not (list_any (same_tree k) (conjuncts_of c))) (conjuncts_of d) (conjuncts-in P d h))
 
 one-reads : (P : Part → Type 0) (a b : Drive) → DriveReads P a → DriveReads P b → DriveReads P (drive_merged a b)
 one-reads P a b h k = record {
@@ -53,7 +55,8 @@ from-reads : (P : Part → Type 0) (a : Drive) (ds : List Drive) → DriveReads 
 from-reads P a [] h k = (h, tt)
 from-reads P a (b ∷ ds) h k = by (are_alike a b) (from-reads P (drive_merged a b) ds (one-reads P a b h k.0) k.1) (from-reads P b ds k.0 k.1)
   where
-    by : (x : Bool) → Each (DriveReads P) (merged_from (drive_merged a b) ds) → Each (DriveReads P) (merged_from b ds) → Each (DriveReads P) (if x then merged_from (drive_merged a b) ds else a ∷ merged_from b ds)
+    by : (x : Bool) → Each (DriveReads P) (merged_from (drive_merged a b) ds) → Each (DriveReads P) (merged_from b ds)
+        → Each (DriveReads P) (if x then merged_from (drive_merged a b) ds else a ∷ merged_from b ds)
     by true p q = p
     by false p q = (h, q)
 
@@ -95,7 +98,8 @@ from-given : (s : Source) (a : Drive) (ds : List Drive) → DriveIsGiven s a →
 from-given s a [] h k = (h, tt)
 from-given s a (b ∷ ds) h k = by (are_alike a b) refl (λ g. from-given s (drive_merged a b) ds g k.1) (from-given s b ds k.0 k.1)
   where
-    by : (x : Bool) → are_alike a b ≡ x → (DriveIsGiven s (drive_merged a b) → Each (DriveIsGiven s) (merged_from (drive_merged a b) ds)) → Each (DriveIsGiven s) (merged_from b ds) → Each (DriveIsGiven s) (if x then merged_from (drive_merged a b) ds else a ∷ merged_from b ds)
+    by : (x : Bool) → are_alike a b ≡ x → (DriveIsGiven s (drive_merged a b) → Each (DriveIsGiven s) (merged_from (drive_merged a b) ds)) → Each (DriveIsGiven s) (merged_from b ds)
+        → Each (DriveIsGiven s) (if x then merged_from (drive_merged a b) ds else a ∷ merged_from b ds)
     by true e go q = go (one-given s a b h k.0 e)
     by false e go q = (h, q)
 
@@ -105,7 +109,7 @@ merged-given s (a ∷ ds) h = from-given s a ds h.0 h.1
 
 -- ---- the rows of a region
 
-waits-given : (s : Source) (P : End → Type 0) → ((x : End) → P x → Each (WaitIsGiven s) (waited_parts x.way)) → (xs : List End) → Each P xs → Each (WaitIsGiven s) (parts_waited xs)
+waits-given : (s : Source) (P : RegionEnd → Type 0) → ((x : RegionEnd) → P x → Each (WaitIsGiven s) (waited_parts x.way)) → (xs : List RegionEnd) → Each P xs → Each (WaitIsGiven s) (parts_waited xs)
 waits-given s P go [] h = tt
 waits-given s P go (x ∷ xs) h = Each-append (WaitIsGiven s) (waited_parts x.way) (parts_waited xs) (go x h.0) (waits-given s P go xs h.1)
 
@@ -142,12 +146,14 @@ module _ (name : UnitName) (t : FlatText) (f : IsFormed (flat_unit name t)) (h :
   comb-rows waited ds o =
       let waits : parts_waited h.course.rows.ends ≡ waited = ap (λ (r : Rows). parts_waited r.ends) (sym h.first) ∙ o.waits in
       let drives : merged_drives h.course.rows.drives ≡ ds = ap (λ (r : Rows). merged_drives r.drives) (sym h.first) ∙ o.drives in
-      let covered : Each (λ p. covers (parts_waited h.course.rows.ends) p ≡ true) h.course.rows.probes = subst (λ (r : Rows). Each (λ p. covers (parts_waited r.ends) p ≡ true) r.probes) h.first (probes-covered h.regions.first o.sensitive) in
+      let covered : Each (λ p. covers (parts_waited h.course.rows.ends) p ≡ true) h.course.rows.probes = subst (λ (r : Rows). Each (λ p. covers (parts_waited r.ends) p ≡ true) r.probes) h.first
+      (probes-covered h.regions.first o.sensitive) in
       record {
         waits = subst (Each (WaitIsGiven s)) waits first-waits;
         drives = subst (Each (DriveIsGiven s)) drives (merged-given s h.course.rows.drives first-given);
         reads = subst (Each (DriveReads (λ p. covers waited p ≡ true))) drives
-            (merged-reads (λ p. covers waited p ≡ true) h.course.rows.drives (first-reads (λ p. covers waited p ≡ true) (subst (λ ws. Each (λ p. covers ws p ≡ true) h.course.rows.probes) waits covered)));
+            (merged-reads (λ p. covers waited p ≡ true) h.course.rows.drives
+            (first-reads (λ p. covers waited p ≡ true) (subst (λ ws. Each (λ p. covers ws p ≡ true) h.course.rows.probes) waits covered)));
       }
 
   once-rows : (ds : List Drive) → OnceOf h.regions ds → Each (DriveIsGiven s) ds × Each (DriveReads (λ p. ⊥)) ds
@@ -179,7 +185,8 @@ module _ (name : UnitName) (t : FlatText) (f : IsFormed (flat_unit name t)) (h :
         let k = second-reached name t f h.plain h.course h.comes o.target o.is_target o.course o.comes in
         let typed = second-typed name t f h.plain h.course h.comes o.target o.is_target o.course o.comes in
         subst (λ (x : Rows). Each (DriveIsGiven s) x.drives) o.rows_are
-        (drives-given s (DriveFine (flat_unit name t) (IsReached s) (second_of name t f) (now-probe (IsReached s))) (λ d j. (record { cond = j.cond; value = j.value; delay = j.delay }, j.part.part)) o.course.rows.drives typed.0 k.rows.drives)
+        (drives-given s (DriveFine (flat_unit name t) (IsReached s) (second_of name t f) (now-probe (IsReached s))) (λ d j. (record { cond = j.cond; value = j.value; delay = j.delay }, j.part.part))
+        o.course.rows.drives typed.0 k.rows.drives)
 
     all-given : (o : Option Rows) → h.regions.second ≡ o → Each (DriveIsGiven s) (option_map_or (λ (x : Rows). x.drives) o [])
     all-given None q = tt

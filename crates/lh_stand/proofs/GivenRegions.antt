@@ -12,7 +12,7 @@ use Rattle.lh_term.specs.Tree.{Tree, past_of, now_of}
 use Rattle.lh_term.specs.Make.{bit_of}
 use Rattle.lh_term.specs.declared.part.Part.{Part}
 use Rattle.lh_rows.specs.Known.{nothing_known, with_arguments}
-use Rattle.lh_rows.specs.Rows.{End}
+use Rattle.lh_rows.specs.Rows.{RegionEnd}
 use Rattle.lh_rows.specs.Places.{Region}
 use Rattle.lh_rows.specs.Regions.{begins_with_phi, lines_at, head_of, known_first, edge_into, edges_of_ends, one_target, Course, comes_to, region_from, first_region, second_region}
 use Rattle.lh_rows.specs.Typed.{IsOfType}
@@ -23,7 +23,8 @@ use Rattle.lh_before.proofs.Second.{past-typed}
 use Rattle.lh_before.proofs.Second as Second
 use Rattle.lh_emission.specs.Emitted.{Source, source_of}
 use Rattle.lh_emission.specs.Reached.{steps_in}
-use Rattle.lh_emission.specs.Ways.{AllParts, IsReached}
+use Rattle.lh_term.specs.Leaves.{AllParts}
+use Rattle.lh_emission.specs.Ways.{IsReached}
 use Rattle.lh_stand.proofs.GivenKnown.{PartFine, KnowsFine, constants-fine, arguments-fine, EdgeFine}
 use Rattle.lh_stand.proofs.GivenRows.{EndFine, CourseFine, region-fine}
 
@@ -58,7 +59,8 @@ module _ (name : UnitName) (t : FlatText) (f : IsFormed (flat_unit name t)) wher
 
   -- ---- the first region
 
-  module _ (probe : Part → Tree) (probed : (T : Part → Type 0) (p : Part) → T p → AllParts T (probe p)) (typed : (p : Part) → IsData p.ty → IsOfType p.ty (probe p)) (c : Course) (e : first_region t probe ≡ comes_to c) where
+  module _ (probe : Part → Tree) (probed : (T : Part → Type 0) (p : Part) → T p → AllParts T (probe p)) (typed : (p : Part) → IsData p.ty → IsOfType p.ty (probe p)) (c : Course)
+      (e : first_region t probe ≡ comes_to c) where
     head-fine : (T : Part → Type 0) → KnowsFine u T (known_first t)
     head-fine T = constants-fine u T (with_arguments nothing_known 0 t.args) (if nat_eq (head_of t.blocks) 0 then [] else lines_at t.blocks 0) (arguments-fine u T f)
 
@@ -76,7 +78,8 @@ module _ (name : UnitName) (t : FlatText) (f : IsFormed (flat_unit name t)) wher
 
   -- ---- the second region
 
-  module _ (plain : begins_with_phi (lines_at t.blocks (head_of t.blocks)) ≡ false) (c : Course) (e : first_region t now_of ≡ comes_to c) (n : ℕ) (to : one_target c.rows.ends ≡ Some n) (second : Course) (e2 : second_region t n ≡ comes_to second) where
+  module _ (plain : begins_with_phi (lines_at t.blocks (head_of t.blocks)) ≡ false) (c : Course) (e : first_region t now_of ≡ comes_to c) (n : ℕ) (to : one_target c.rows.ends ≡ Some n)
+      (second : Course) (e2 : second_region t n ≡ comes_to second) where
     abbrev past : Course
     past = Second.past name t f plain c e n to
 
@@ -90,7 +93,7 @@ module _ (name : UnitName) (t : FlatText) (f : IsFormed (flat_unit name t)) wher
     second-region-of = Second.second-region-of name t f
 
     -- its parts
-    edges-fine : (T : Part → Type 0) (xs : List End) → Each (EndFine u T (first_of past_of) (past-probe T)) xs → Each (EdgeFine u T) (edges_of_ends n xs)
+    edges-fine : (T : Part → Type 0) (xs : List RegionEnd) → Each (EndFine u T (first_of past_of) (past-probe T)) xs → Each (EdgeFine u T) (edges_of_ends n xs)
     edges-fine T [] h = tt
     edges-fine T (x ∷ xs) h = (record { cond = h.0.cond; known = h.0.known }, edges-fine T xs h.1)
 

@@ -13,8 +13,8 @@ use Rattle.lh_term.specs.Tree.{Tree, constant}
 use Rattle.lh_term.specs.Make.{is_zero, bit_of, make_operation}
 use Rattle.lh_term.specs.declared.part.Part.{Part}
 use Rattle.lh_rows.specs.Known.{Known, known_value, known_cell, Knowledge, value_known, cell_known, part_known, values_known, parts_known}
-use Rattle.lh_rows.specs.Rows.{Drive, Way, halts, enters_head, waits, End, Rows}
-use Rattle.lh_rows.specs.Joins.{Place, Edge, any_taken}
+use Rattle.lh_rows.specs.Rows.{Drive, Way, halts, enters_head, waits, RegionEnd, Rows}
+use Rattle.lh_rows.specs.Joins.{RegionPlace, RegionEdge, any_taken}
 use Rattle.lh_rows.specs.Places.{Region, Here, Midst, block_number, operated, gives, probes, both, drive_cond, with_drive, drives, asserts, ends, next_place, goes, goes_if, leads, branches, wait_way, ends_if, takes, takes_all}
 use Rattle.lh_rows.specs.Regions.{Course, no_course, Coursed, stops, comes_to, then_course, through_block, through, is_place, edges_to, through_reached, through_all, all_places, region_from, waited_parts}
 use Rattle.lh_rows.specs.Right.{as_block}
@@ -23,7 +23,7 @@ use Rattle.lh_rows.proofs.Courses as Courses
 use Rattle.lh_rows.proofs.Sites.{LineGood, good-lines}
 use Rattle.lh_rows.proofs.Labels.{block-text}
 use Rattle.lh_rows.proofs.Steps.{RegionOf}
-use Rattle.lh_emission.specs.Ways.{AllParts}
+use Rattle.lh_term.specs.Leaves.{AllParts}
 use Rattle.lh_stand.proofs.GivenTrees.{In, make-in}
 use Rattle.lh_stand.proofs.GivenKnown.{PartFine, part-fine, KnownFine, KnowsFine, value-fine, cell-fine, part-known-fine, parts-fine, given-fine, some-value, some-cell, operated-fine, EdgeFine, taken-fine, known-at-fine}
 
@@ -58,7 +58,8 @@ module _ (T : Part → Type 0) (g : Region) where
   goes-probed : (h : Here) (c : Tree) (m : Midst) (b : ℕ) → Probed (goes g h c m b).rows → Probed m.rows
   goes-probed h c m b k = by (g.ends_at_head && nat_eq b g.head) k
     where
-      by : (x : Bool) → Probed (if x then ends h c m enters_head else record m { edges = m.edges ++ record { to = next_place h.place b; from = h.label; cond = c; known = m.known } ∷ [] }).rows → Probed m.rows
+      by : (x : Bool) → Probed (if x then ends h c m enters_head else record m { edges = m.edges ++ record { to = next_place h.place b; from = h.label; cond = c; known = m.known } ∷ [] }).rows
+          → Probed m.rows
       by true z = z
       by false z = z
 
@@ -104,7 +105,7 @@ module _ (u : UnitText) (T : Part → Type 0) (g : Region) (probed : (p : Part) 
     pub value : AllParts T d.value
     pub delay : AllParts T d.delay
 
-  pub record EndFine (x : End) : Type 0 where
+  pub record EndFine (x : RegionEnd) : Type 0 where
     pub cond : AllParts T x.cond
     pub known : KnowsFine u T x.known
     pub way : Each (PartFine u) (waited_parts x.way)
@@ -126,7 +127,11 @@ module _ (u : UnitText) (T : Part → Type 0) (g : Region) (probed : (p : Part) 
   probes-fine m r None h f k = h
   probes-fine m r (Some p) h f k =
       let m1 : Midst = record m { rows = record m.rows { probes = m.rows.probes ++ p ∷ [] } } in
-      let fine1 : MidstFine m1 = record { known = h.known; edges = h.edges; rows = record { probes = Each-append (PartFine u) m.rows.probes (p ∷ []) h.rows.probes (f p refl, tt); drives = h.rows.drives; ends = h.rows.ends } } in
+      let fine1 : MidstFine m1 = record {
+        known = h.known;
+        edges = h.edges;
+        rows = record { probes = Each-append (PartFine u) m.rows.probes (p ∷ []) h.rows.probes (f p refl, tt); drives = h.rows.drives; ends = h.rows.ends };
+      } in
       gives-fine m1 r (Some (known_value (g.probe p))) fine1 (λ n x q e. subst (KnownFine u T n) (same_Some (known_value (g.probe p)) x e) (probed p (Each-right T m.rows.probes (p ∷ []) k).0))
 
   with-fine : (m : Midst) (d : Drive) → MidstFine m → DriveFine d → MidstFine (with_drive m d)
@@ -152,7 +157,8 @@ module _ (u : UnitText) (T : Part → Type 0) (g : Region) (probed : (p : Part) 
         by None e z = absurd (none-some c z)
         by (Some d) e z = subst (In T) (same_Some (both h.cond d) c z) (both-fine h.cond d hc (value-fine u T k f n d e))
 
-    drives-fine : (m : Midst) (c : Option Tree) (p : Option Part) (v d : Option Tree) → MidstFine m → ((t : Tree) → c ≡ Some t → In T t) → ((q : Part) → p ≡ Some q → PartFine u q) → ((t : Tree) → v ≡ Some t → In T t) → ((t : Tree) → d ≡ Some t → In T t) → MidstFine (drives m c p v d)
+    drives-fine : (m : Midst) (c : Option Tree) (p : Option Part) (v d : Option Tree) → MidstFine m → ((t : Tree) → c ≡ Some t → In T t) → ((q : Part) → p ≡ Some q → PartFine u q)
+        → ((t : Tree) → v ≡ Some t → In T t) → ((t : Tree) → d ≡ Some t → In T t) → MidstFine (drives m c p v d)
     drives-fine m None p v d f hc' hp hv hd = f
     drives-fine m (Some c) None v d f hc' hp hv hd = f
     drives-fine m (Some c) (Some p) None d f hc' hp hv hd = f
@@ -164,7 +170,12 @@ module _ (u : UnitText) (T : Part → Type 0) (g : Region) (probed : (p : Part) 
     ends-fine c m w i f k = record {
       known = f.known;
       edges = f.edges;
-      rows = record { probes = f.rows.probes; drives = f.rows.drives; ends = Each-append EndFine m.rows.ends (record { cond = c; way = w; from = h.label; known = m.known } ∷ []) f.rows.ends (record { cond = i; known = f.known; way = k }, tt) };
+      rows = record {
+        probes = f.rows.probes;
+        drives = f.rows.drives;
+        ends = Each-append EndFine m.rows.ends (record { cond = c; way = w; from = h.label; known = m.known } ∷ []) f.rows.ends
+            (record { cond = i; known = f.known; way = k }, tt);
+      };
     }
 
     goes-fine : (c : Tree) (m : Midst) (b : ℕ) → In T c → MidstFine m → MidstFine (goes g h c m b)
@@ -172,7 +183,12 @@ module _ (u : UnitText) (T : Part → Type 0) (g : Region) (probed : (p : Part) 
       where
         by : (x : Bool) → MidstFine (if x then ends h c m enters_head else record m { edges = m.edges ++ record { to = next_place h.place b; from = h.label; cond = c; known = m.known } ∷ [] })
         by true = ends-fine c m enters_head i f tt
-        by false = record { known = f.known; edges = Each-append (EdgeFine u T) m.edges (record { to = next_place h.place b; from = h.label; cond = c; known = m.known } ∷ []) f.edges (record { cond = i; known = f.known }, tt); rows = f.rows }
+        by false = record {
+          known = f.known;
+          edges = Each-append (EdgeFine u T) m.edges (record { to = next_place h.place b; from = h.label; cond = c; known = m.known } ∷ []) f.edges
+              (record { cond = i; known = f.known }, tt);
+          rows = f.rows;
+        }
 
     goes-if-fine : (c : Tree) (m : Midst) (b : Option ℕ) → In T c → MidstFine m → MidstFine (goes_if g h c m b)
     goes-if-fine c m None i f = f
@@ -192,7 +208,8 @@ module _ (u : UnitText) (T : Part → Type 0) (g : Region) (probed : (p : Part) 
         leads-fine (both h.cond c) second (leads g h (both h.cond n) first m) (both-fine h.cond c hc (i c refl))
         (leads-fine (both h.cond n) first m (both-fine h.cond n hc (make-in T Not (c ∷ []) (i c refl, tt))) f)
 
-    ends-if-fine : (m : Midst) (timed : Bool) (b : Option ℕ) (ps : Option (List Part)) → MidstFine m → ((qs : List Part) → ps ≡ Some qs → Each (PartFine u) qs) → MidstFine (ends_if h m (wait_way g timed b ps))
+    ends-if-fine : (m : Midst) (timed : Bool) (b : Option ℕ) (ps : Option (List Part)) → MidstFine m → ((qs : List Part) → ps ≡ Some qs → Each (PartFine u) qs)
+        → MidstFine (ends_if h m (wait_way g timed b ps))
     ends-if-fine m timed None ps f k = f
     ends-if-fine m timed (Some b) None f k = f
     ends-if-fine m timed (Some b) (Some ps) f k = ends-fine h.cond m (waits b (nat_eq b g.head) ps timed) hc f (k ps refl)
@@ -207,9 +224,12 @@ module _ (u : UnitText) (T : Part → Type 0) (g : Region) (probed : (p : Part) 
         by : (j : InstText) → l.inst ≡ j → Probed T g (takes g h j l.result m).rows → MidstFine (takes g h j l.result m)
         by (const_text d) e k = gives-fine m l.result (Some (known_value (constant d))) f (λ n x q z. subst (KnownFine u T n) (same_Some (known_value (constant d)) x z) tt)
         by (pure_text o os) e k = gives-fine m l.result (operated m.known o os) f (λ n x q z. operated-fine u T m.known f.known l good n q o os e x z)
-        by (var_text a) e k = gives-fine m l.result (option_map known_cell (value_known m.known a.value)) f (λ n x q z. some-cell u T (value_known m.known a.value) (λ t w. value-fine u T m.known f.known a.value t w) n x z)
-        by (ld_text a) e k = gives-fine m l.result (option_map known_value (cell_known m.known a.value)) f (λ n x q z. some-value u T (cell_known m.known a.value) (λ t w. cell-fine u T m.known f.known a.value t w) n x z)
-        by (st_text to value) e k = gives-fine m (Some to.value) (option_map known_cell (value_known m.known value)) f (λ n x q z. some-cell u T (value_known m.known value) (λ t w. value-fine u T m.known f.known value t w) n x z)
+        by (var_text a) e k = gives-fine m l.result (option_map known_cell (value_known m.known a.value)) f
+            (λ n x q z. some-cell u T (value_known m.known a.value) (λ t w. value-fine u T m.known f.known a.value t w) n x z)
+        by (ld_text a) e k = gives-fine m l.result (option_map known_value (cell_known m.known a.value)) f
+            (λ n x q z. some-value u T (cell_known m.known a.value) (λ t w. cell-fine u T m.known f.known a.value t w) n x z)
+        by (st_text to value) e k = gives-fine m (Some to.value) (option_map known_cell (value_known m.known value)) f
+            (λ n x q z. some-cell u T (value_known m.known value) (λ t w. value-fine u T m.known f.known value t w) n x z)
         by (prb_text a) e k = probes-fine m l.result (part_known m.known a.value) f (λ p q. part-found m f a.value p q) k
         by (drv_text to value after cond) e k =
             drives-fine m (drive_cond m.known h.cond cond) (part_known m.known to.value) (value_known m.known value) (value_known m.known after) f (λ t q. cond-fine m.known f.known cond t q)
@@ -237,7 +257,7 @@ module _ (u : UnitText) (T : Part → Type 0) (g : Region) (probed : (p : Part) 
     block-good : (k : ℕ) (b : FlatBlockText) → slice_get g.blocks k ≡ Some b → Each (LineGood u) (with_merge b.merge b.lines)
     block-good k b q = good-lines u r.formed k (as_block b) (ap (λ bs. slice_get bs k) r.blocks ∙ block-text g.blocks k b q)
 
-    to-fine : (p : Place) (es : List Edge) → Each (EdgeFine u T) es → Each (EdgeFine u T) (edges_to p es)
+    to-fine : (p : RegionPlace) (es : List RegionEdge) → Each (EdgeFine u T) es → Each (EdgeFine u T) (edges_to p es)
     to-fine p [] h = tt
     to-fine p (e ∷ es) h = by (is_place e.to p) (to-fine p es h.1)
       where
@@ -249,52 +269,57 @@ module _ (u : UnitText) (T : Part → Type 0) (g : Region) (probed : (p : Part) 
     in-course c = Probed T g c.rows
 
     -- what a place comes to
-    rows-after : (p : Place) (q : Tree) (es : List Edge) (c c1 : Course) (b : FlatBlockText) → through_block g p q es c b ≡ comes_to c1 → c1.rows ≡ (takes_all g (Courses.here_at u g r p q b) (with_merge b.merge b.lines) (Courses.start_at u g r es c b)).rows
+    rows-after : (p : RegionPlace) (q : Tree) (es : List RegionEdge) (c c1 : Course) (b : FlatBlockText) → through_block g p q es c b ≡ comes_to c1
+        → c1.rows ≡ (takes_all g (Courses.here_at u g r p q b) (with_merge b.merge b.lines) (Courses.start_at u g r es c b)).rows
     rows-after p q es c c1 b e = let t = Courses.treated u g r p q es c b c1 e in t.rows ∙ ap (λ (m : Midst). m.rows) t.is
 
-    edges-after : (p : Place) (q : Tree) (es : List Edge) (c c1 : Course) (b : FlatBlockText) → through_block g p q es c b ≡ comes_to c1 → c1.edges ≡ (takes_all g (Courses.here_at u g r p q b) (with_merge b.merge b.lines) (Courses.start_at u g r es c b)).edges
+    edges-after : (p : RegionPlace) (q : Tree) (es : List RegionEdge) (c c1 : Course) (b : FlatBlockText) → through_block g p q es c b ≡ comes_to c1
+        → c1.edges ≡ (takes_all g (Courses.here_at u g r p q b) (with_merge b.merge b.lines) (Courses.start_at u g r es c b)).edges
     edges-after p q es c c1 b e = let t = Courses.treated u g r p q es c b c1 e in t.edges ∙ ap (λ (m : Midst). m.edges) t.is
 
     -- ---- no probe is taken back
 
-    block-probed : (p : Place) (q : Tree) (es : List Edge) (c c1 : Course) (b : FlatBlockText) → through_block g p q es c b ≡ comes_to c1 → in-course c1 → in-course c
+    block-probed : (p : RegionPlace) (q : Tree) (es : List RegionEdge) (c c1 : Course) (b : FlatBlockText) → through_block g p q es c b ≡ comes_to c1 → in-course c1 → in-course c
     block-probed p q es c c1 b e k = lines-probed T g (Courses.here_at u g r p q b) (with_merge b.merge b.lines) (Courses.start_at u g r es c b) (subst (Probed T g) (rows-after p q es c c1 b e) k)
 
-    through-probed : (p : Place) (q : Tree) (es : List Edge) (c c1 : Course) → through g p q es c ≡ comes_to c1 → in-course c1 → in-course c
+    through-probed : (p : RegionPlace) (q : Tree) (es : List RegionEdge) (c c1 : Course) → through g p q es c ≡ comes_to c1 → in-course c1 → in-course c
     through-probed p q es c c1 e k = by (slice_get g.blocks p.block) e
       where
         by : (o : Option FlatBlockText) → option_map_or (through_block g p q es c) o (comes_to c) ≡ comes_to c1 → in-course c
         by None w = subst in-course (sym (coursed-is c c1 w)) k
         by (Some b) w = block-probed p q es c c1 b w k
 
-    reached-probed : (p : Place) (es : List Edge) (c c1 : Course) → through_reached g p es c ≡ comes_to c1 → in-course c1 → in-course c
+    reached-probed : (p : RegionPlace) (es : List RegionEdge) (c c1 : Course) → through_reached g p es c ≡ comes_to c1 → in-course c1 → in-course c
     reached-probed p [] c c1 e k = subst in-course (sym (coursed-is c c1 e)) k
     reached-probed p (x ∷ es) c c1 e k = through-probed p (any_taken (x ∷ es)) (x ∷ es) c c1 e k
 
-    all-probed : (ps : List Place) (c c' : Course) → through_all g ps c ≡ comes_to c' → in-course c' → in-course c
+    all-probed : (ps : List RegionPlace) (c c' : Course) → through_all g ps c ≡ comes_to c' → in-course c' → in-course c
     all-probed [] c c' e k = subst in-course (sym (coursed-is c c' e)) k
     all-probed (p ∷ ps) c c' e k = let o = Courses.onward u g r p ps c c' e in reached-probed p (edges_to p c.edges) c o.course o.here (all-probed ps o.course c' o.there k)
 
     -- ---- what is known and added is fine
 
-    block-fine : (p : Place) (q : Tree) (es : List Edge) (c c1 : Course) (b : FlatBlockText) → slice_get g.blocks p.block ≡ Some b → In T q → Each (EdgeFine u T) es → through_block g p q es c b ≡ comes_to c1 → CourseFine c → in-course c1 → CourseFine c1
+    block-fine : (p : RegionPlace) (q : Tree) (es : List RegionEdge) (c c1 : Course) (b : FlatBlockText) → slice_get g.blocks p.block ≡ Some b → In T q → Each (EdgeFine u T) es
+        → through_block g p q es c b ≡ comes_to c1 → CourseFine c → in-course c1 → CourseFine c1
     block-fine p q es c c1 b at hq he e f k =
         let ls : List LineText = with_merge b.merge b.lines in
-        let m = lines-fine (Courses.here_at u g r p q b) hq ls (block-good p.block b at) (Courses.start_at u g r es c b) (record { known = known-at-fine u T es ls he; edges = f.edges; rows = f.rows }) (subst (Probed T g) (rows-after p q es c c1 b e) k) in
+        let m = lines-fine (Courses.here_at u g r p q b) hq ls (block-good p.block b at) (Courses.start_at u g r es c b) (record { known = known-at-fine u T es ls he; edges = f.edges; rows = f.rows })
+        (subst (Probed T g) (rows-after p q es c c1 b e) k) in
         record { edges = subst (Each (EdgeFine u T)) (sym (edges-after p q es c c1 b e)) m.edges; rows = subst RowsFine (sym (rows-after p q es c c1 b e)) m.rows }
 
-    through-fine : (p : Place) (q : Tree) (es : List Edge) (c c1 : Course) → In T q → Each (EdgeFine u T) es → through g p q es c ≡ comes_to c1 → CourseFine c → in-course c1 → CourseFine c1
+    through-fine : (p : RegionPlace) (q : Tree) (es : List RegionEdge) (c c1 : Course) → In T q → Each (EdgeFine u T) es → through g p q es c ≡ comes_to c1 → CourseFine c → in-course c1
+        → CourseFine c1
     through-fine p q es c c1 hq he e f k = by (slice_get g.blocks p.block) refl e
       where
         by : (o : Option FlatBlockText) → slice_get g.blocks p.block ≡ o → option_map_or (through_block g p q es c) o (comes_to c) ≡ comes_to c1 → CourseFine c1
         by None z w = subst CourseFine (coursed-is c c1 w) f
         by (Some b) z w = block-fine p q es c c1 b z hq he w f k
 
-    reached-fine : (p : Place) (es : List Edge) (c c1 : Course) → Each (EdgeFine u T) es → through_reached g p es c ≡ comes_to c1 → CourseFine c → in-course c1 → CourseFine c1
+    reached-fine : (p : RegionPlace) (es : List RegionEdge) (c c1 : Course) → Each (EdgeFine u T) es → through_reached g p es c ≡ comes_to c1 → CourseFine c → in-course c1 → CourseFine c1
     reached-fine p [] c c1 he e f k = subst CourseFine (coursed-is c c1 e) f
     reached-fine p (x ∷ es) c c1 he e f k = through-fine p (any_taken (x ∷ es)) (x ∷ es) c c1 (taken-fine u T (x ∷ es) he) he e f k
 
-    all-fine : (ps : List Place) (c c' : Course) → CourseFine c → through_all g ps c ≡ comes_to c' → in-course c' → CourseFine c'
+    all-fine : (ps : List RegionPlace) (c c' : Course) → CourseFine c → through_all g ps c ≡ comes_to c' → in-course c' → CourseFine c'
     all-fine [] c c' f e k = subst CourseFine (coursed-is c c' e) f
     all-fine (p ∷ ps) c c' f e k =
         let o = Courses.onward u g r p ps c c' e in
@@ -304,11 +329,12 @@ module _ (u : UnitText) (T : Part → Type 0) (g : Region) (probed : (p : Part) 
     none-fine = record { edges = tt; rows = record { probes = tt; drives = tt; ends = tt } }
 
     -- Where what is known on the edges into a region is fine, so is what it comes to.
-    pub region-fine : (b : ℕ) (es : List Edge) (c' : Course) → Each (EdgeFine u T) es → region_from g b es ≡ comes_to c' → in-course c' → CourseFine c'
+    pub region-fine : (b : ℕ) (es : List RegionEdge) (c' : Course) → Each (EdgeFine u T) es → region_from g b es ≡ comes_to c' → in-course c' → CourseFine c'
     unfolding region_from
     region-fine b es c' he e k = by (through g (record { turns = 0; block = b }) (bit_of true) es no_course) refl e
       where
         by : (x : Coursed) → through g (record { turns = 0; block = b }) (bit_of true) es no_course ≡ x → then_course x (through_all g (all_places (length g.blocks))) ≡ comes_to c' → CourseFine c'
         by (stops z) q w = stops-not z c' w
         by (comes_to c) q w =
-            all-fine (all_places (length g.blocks)) c c' (through-fine (record { turns = 0; block = b }) (bit_of true) es no_course c tt he q none-fine (all-probed (all_places (length g.blocks)) c c' w k)) w k
+            all-fine (all_places (length g.blocks)) c c'
+            (through-fine (record { turns = 0; block = b }) (bit_of true) es no_course c tt he q none-fine (all-probed (all_places (length g.blocks)) c c' w k)) w k

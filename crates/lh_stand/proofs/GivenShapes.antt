@@ -84,7 +84,8 @@ first-none : (xs : List (Bool × Reason)) → first_holding xs ≡ None → Each
 first-none [] h = tt
 first-none (x ∷ xs) h = by x.0 refl h (first-none xs)
   where
-    by : (b : Bool) → x.0 ≡ b → (if b then Some x.1 else first_holding xs) ≡ None → (first_holding xs ≡ None → Each (λ (y : Bool × Reason). y.0 ≡ false) xs) → Each (λ (y : Bool × Reason). y.0 ≡ false) (x ∷ xs)
+    by : (b : Bool) → x.0 ≡ b → (if b then Some x.1 else first_holding xs) ≡ None → (first_holding xs ≡ None → Each (λ (y : Bool × Reason). y.0 ≡ false) xs)
+        → Each (λ (y : Bool × Reason). y.0 ≡ false) (x ∷ xs)
     by true q g go = absurd cc
     by false q g go = (q, go g)
 
@@ -100,7 +101,8 @@ comb-of r waited ds h = by (is_once r.first) h
     sensitive : waits_for_head r.first.ends ≡ true → first_holding (reasons r) ≡ None → is_insensitive r.first ≡ false
     sensitive q n = ap (λ b. b && is_insensitive r.first) (sym q) ∙ (first-none (reasons r) n).1.1.1.1.0
 
-    headed : first_holding (reasons r) ≡ None → (b : Bool) → waits_for_head r.first.ends ≡ b → (if b then comb (parts_waited r.first.ends) (merged_drives r.first.drives) else edge (map (edge_row (parts_waited r.first.ends)) (second_drives r))) ≡ comb waited ds → CombOf r waited ds
+    headed : first_holding (reasons r) ≡ None → (b : Bool) → waits_for_head r.first.ends ≡ b
+        → (if b then comb (parts_waited r.first.ends) (merged_drives r.first.drives) else edge (map (edge_row (parts_waited r.first.ends)) (second_drives r))) ≡ comb waited ds → CombOf r waited ds
     headed n true q e = record { waits = cc; drives = cc; sensitive = sensitive q n }
     headed n false q e = absurd cc
 
@@ -116,7 +118,8 @@ comb-of r waited ds h = by (is_once r.first) h
 pub edge-of : (r : Regions) (rs : List EdgeRowTree) → shape_by_rows r ≡ edge rs → map (edge_row (parts_waited r.first.ends)) (second_drives r) ≡ rs
 edge-of r rs h = by (is_once r.first) h
   where
-    headed : (b : Bool) → (if b then comb (parts_waited r.first.ends) (merged_drives r.first.drives) else edge (map (edge_row (parts_waited r.first.ends)) (second_drives r))) ≡ edge rs → map (edge_row (parts_waited r.first.ends)) (second_drives r) ≡ rs
+    headed : (b : Bool) → (if b then comb (parts_waited r.first.ends) (merged_drives r.first.drives) else edge (map (edge_row (parts_waited r.first.ends)) (second_drives r))) ≡ edge rs
+        → map (edge_row (parts_waited r.first.ends)) (second_drives r) ≡ rs
     headed true e = absurd cc
     headed false e = cc
 
@@ -159,7 +162,8 @@ once-of r ds h = by (is_once r.first) refl h
     by : (b : Bool) → is_once r.first ≡ b → (if b then once r.first.drives else unless_left (first_holding (reasons r)) (shaped r)) ≡ once ds → OnceOf r ds
     by true q e = record {
       drives = cc;
-      no_probe = empty-is r.first.probes (and-left (is_empty r.first.probes) (is_empty r.first.asserts) (and-right (list_all ends_halted r.first.ends) (is_empty r.first.probes && is_empty r.first.asserts) q));
+      no_probe = empty-is r.first.probes (and-left (is_empty r.first.probes) (is_empty r.first.asserts)
+          (and-right (list_all ends_halted r.first.ends) (is_empty r.first.probes && is_empty r.first.asserts) q));
     }
     by false q e = held (first_holding (reasons r)) e
 

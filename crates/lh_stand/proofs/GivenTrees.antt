@@ -2,12 +2,12 @@
 use Rattle.std.proofs.Common.{List, Bool, true, false, filter}
 use Rattle.lh_types.specs.declared.op.Op.{Op}
 use Rattle.lh_unit.specs.Within.{Each}
-use Rattle.lh_term.specs.Tree.{Tree, TreeRow, operation, no_trees, more_trees}
+use Rattle.lh_term.specs.Tree.{Tree}
 use Rattle.lh_term.specs.Make.{bit_of, make_operation, make_choice}
 use Rattle.lh_term.specs.Conjuncts.{conjuncts_of, conjunction}
 use Rattle.lh_term.specs.declared.part.Part.{Part}
-use Rattle.lh_emission.specs.Ways.{AllParts, AllPartsIn}
-use Rattle.lh_before.proofs.Leaves.{RowIn, IsOfLeaves}
+use Rattle.lh_term.specs.Leaves.{AllParts}
+use Rattle.lh_before.proofs.Leaves.{IsOfLeaves}
 use Rattle.lh_before.proofs.Leaves as Leaves
 
 module _ (P : Part → Type 0) where
@@ -17,20 +17,19 @@ module _ (P : Part → Type 0) where
   abbrev pub AllIn : List Tree → Type 0
   AllIn ts = Each In ts
 
-  joined : (o : Op) (ts : TreeRow) → RowIn In ts → In (operation o ts)
-  joined o no_trees h = tt
-  joined o (more_trees t ts) h = (h.0, joined o ts h.1)
-
-  parted : (o : Op) (ts : TreeRow) → In (operation o ts) → RowIn In ts
-  parted o no_trees h = tt
-  parted o (more_trees t ts) h = (h.0, parted o ts h.1)
-
   bit : (b : Bool) → In (bit_of b)
   bit true = tt
   bit false = tt
 
   leaves : IsOfLeaves In
-  leaves = record { integer = λ n a. tt; bit = bit; computed = λ o ts h. tt; joined = joined; parted = parted; chosen = λ c f t h i j. (h, i, j) }
+  leaves = record {
+    integer = λ n a. tt;
+    bit = bit;
+    computed = λ o ts h. tt;
+    joined = Leaves.leaves-joined (λ v. Unit {0}) P;
+    parted = Leaves.leaves-parted (λ v. Unit {0}) P;
+    chosen = λ c f t h i j. (h, i, j);
+  }
 
   pub make-in : (o : Op) (ts : List Tree) → AllIn ts → In (make_operation o ts)
   make-in = Leaves.make-in In leaves

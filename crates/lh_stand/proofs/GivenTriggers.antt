@@ -20,7 +20,8 @@ use Rattle.lh_edge.specs.Triggers.{TriggerTree, pasts_in, pasts_in_row, present_
 use Rattle.lh_edge.proofs.Firing.{edge_are_swaps, edge_seconds}
 use Rattle.lh_edge.proofs.Resting.{waited_on}
 use Rattle.lh_emission.specs.Emitted.{Source}
-use Rattle.lh_emission.specs.Ways.{AllParts, AllPartsIn, IsReached, TriggerIsGiven}
+use Rattle.lh_term.specs.Leaves.{AllParts, AllPartsIn}
+use Rattle.lh_emission.specs.Ways.{IsReached, TriggerIsGiven}
 use Rattle.lh_stand.proofs.GivenTrees.{In, AllIn, make-in, choice-in, conjuncts-in, conjunction-in, filter-in}
 
 module _ (P : Part → Type 0) where

@@ -52,9 +52,11 @@ halts-there blocks args halts from s h z = z
 halts-there blocks args enters_head from s h z = absurd (false≢true h)
 halts-there blocks args (waits to to_head parts timed) from s h z = absurd (false≢true h)
 
-module _ (functions : List UnitText) (bound : ℕ) (x y : UnitText) (i : Instance) (name : UnitName) (t : FlatText) (formed : IsFormed (flat_unit name t)) (pads : Pads functions (flat_unit name t) i.args) (k : Follows functions x (flat_unit name t) i.args)
+module _ (functions : List UnitText) (bound : ℕ) (x y : UnitText) (i : Instance) (name : UnitName) (t : FlatText) (formed : IsFormed (flat_unit name t))
+    (pads : Pads functions (flat_unit name t) i.args) (k : Follows functions x (flat_unit name t) i.args)
     (xk : x.kind ≡ kind.Proc) (yk : y.kind ≡ kind.Entity) (sigs : i.sigs ≡ []) (enough : IsEnough bound t) (ds : List Drive) (shape : shape_of_text t ≡ once ds)
-    (passes : (now : List Bool) (memory : Option (List Bool)) (at : Instant) → (pass y i.args [] now memory at).wish ≡ with_rows (reads i.args now) (reads i.args now) i.args at no_wish ds) (senses : probes y i.args [] ≡ []) where
+    (passes : (now : List Bool) (memory : Option (List Bool)) (at : Instant) → (pass y i.args [] now memory at).wish ≡ with_rows (reads i.args now) (reads i.args now) i.args at no_wish ds)
+    (senses : probes y i.args [] ≡ []) where
   abbrev f : UnitText
   f = flat_unit name t
 
@@ -78,7 +80,8 @@ module _ (functions : List UnitText) (bound : ℕ) (x y : UnitText) (i : Instanc
   no-asserts : rows.asserts ≡ []
   no-asserts =
       let q = shaped.regions.first in
-      ap (λ (z : Rows). z.asserts) shaped.walk.rows ∙ nothing-in q.asserts (and-right (is_empty q.probes) (is_empty q.asserts) (and-right (list_all ends_halted q.ends) (is_empty q.probes && is_empty q.asserts) shaped.is))
+      ap (λ (z : Rows). z.asserts) shaped.walk.rows
+      ∙ nothing-in q.asserts (and-right (is_empty q.probes) (is_empty q.asserts) (and-right (list_all ends_halted q.ends) (is_empty q.probes && is_empty q.asserts) shaped.is))
 
   pass-wish : (now : List Bool) (at : Instant) → with_rows (reads i.args now) (reads i.args now) i.args at no_wish rows.drives ≡ (pass y i.args i.sigs now None at).wish
   pass-wish now at =
@@ -86,7 +89,8 @@ module _ (functions : List UnitText) (bound : ℕ) (x y : UnitText) (i : Instanc
 
   once-halts : (now : List Bool) (at : Instant) → Halts (pass y i.args i.sigs now None at).wish (activate bound (seen functions now at) x (fresh x i))
   once-halts now at =
-      let z = first-acts functions name t i.args formed shaped.walk.plain pads now_of now-typed (reads i.args now) (reads i.args now) (reads-fit i.args now) (reads-fit i.args now) now (λ p. refl) shaped.walk.course shaped.walk.first at bound
+      let z = first-acts functions name t i.args formed shaped.walk.plain pads now_of now-typed (reads i.args now) (reads i.args now) (reads-fit i.args now) (reads-fit i.args now) now (λ p. refl)
+      shaped.walk.course shaped.walk.first at bound
       (one-region max_steps (length (lines_at t.blocks 0)) bound enough) in
       by z.0 z.2 (k.acts (begun x i.args) (begun f i.args) k.begins now at bound bound (no-more bound) z.0 z.1)
     where

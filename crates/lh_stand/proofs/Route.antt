@@ -22,7 +22,7 @@ use Rattle.lh_term.specs.Tree.{Tree, past_of, now_of}
 use Rattle.lh_term.specs.Mean.{Valuation, IsFitting, mean}
 use Rattle.lh_term.specs.declared.part.Part.{Part}
 use Rattle.lh_rows.specs.Rows as rows
-use Rattle.lh_rows.specs.Rows.{Way, End, Rows}
+use Rattle.lh_rows.specs.Rows.{Way, RegionEnd, Rows}
 use Rattle.lh_rows.specs.Regions.{begins_with_phi, lines_at, head_of, Course, comes_to, first_region, second_region, waits_for}
 use Rattle.lh_rows.specs.Typed.{IsOfType}
 use Rattle.lh_rows.specs.Means.{range_in, reads}
@@ -39,7 +39,8 @@ seen functions now t = record { functions = functions; now = now; at = t }
 pub record Follows (functions : List UnitText) (x f : UnitText) (args : List Range) : Type 1 where
   pub Last : (process flat : ProcessState) → Type 0
   pub begins : Last (begun x args) (begun f args)
-  pub acts : (process flat : ProcessState) → Last process flat → (now : List Bool) (t : Instant) (bound limit : ℕ) → bound ≤ limit → (done : Activated) → activate bound (seen functions now t) f flat ≡ Some done →
+  pub acts : (process flat : ProcessState) → Last process flat → (now : List Bool) (t : Instant) (bound limit : ℕ) → bound ≤ limit → (done : Activated)
+      → activate bound (seen functions now t) f flat ≡ Some done →
       (d : Activated) × (activate limit (seen functions now t) x process ≡ Some d) × EndsAlike functions x d done × Last d.state done.state
 
 -- more bits with which the arguments lie within the signals, and nothing is done otherwise
@@ -57,11 +58,13 @@ waits-not-new from to on wake e = cc
 waits-not-halted : {A : Type 0} (from to : List ℕ) (on : List Range) (wake : Option Instant) → machine.waits from to on wake ≡ halted → A
 waits-not-halted from to on wake e = cc
 
-waits-same : (from to from' to' : List ℕ) (on on' : List Range) (wake wake' : Option Instant) → machine.waits from to on wake ≡ machine.waits from' to' on' wake' → (to ≡ to') × (on ≡ on') × (wake ≡ wake')
+waits-same : (from to from' to' : List ℕ) (on on' : List Range) (wake wake' : Option Instant) → machine.waits from to on wake ≡ machine.waits from' to' on' wake' → (to ≡ to') × (on ≡ on')
+    × (wake ≡ wake')
 waits-same from to from' to' on on' wake wake' e = (cc, cc, cc)
 
 -- a process waits where its flat text does
-pub process-waits : (functions : List UnitText) (u : UnitText) (s : Stand) (from to : List ℕ) (on : List Range) (wake : Option Instant) → machine.waits from to on wake ≡ flat_stand functions u s → (block : List ℕ) × (s ≡ machine.waits block to on wake)
+pub process-waits : (functions : List UnitText) (u : UnitText) (s : Stand) (from to : List ℕ) (on : List Range) (wake : Option Instant) → machine.waits from to on wake ≡ flat_stand functions u s
+    → (block : List ℕ) × (s ≡ machine.waits block to on wake)
 process-waits functions u is_new from to on wake e = waits-not-new from to on wake e
 process-waits functions u halted from to on wake e = waits-not-halted from to on wake e
 process-waits functions u (machine.waits block to' on' wake') from to on wake e =
@@ -87,7 +90,8 @@ pub record Stood (blocks : List FlatBlockText) (args : List Range) (target : ℕ
   pub at : slice_get blocks target ≡ Some block
   pub stand : st ≡ machine.waits from block.label (map (range_in args) parts) None
 
-pub stood : (blocks : List FlatBlockText) (args : List Range) (target : ℕ) (h : Bool) (parts : List Part) (w : Way) (from : List ℕ) (st : Stand) → w ≡ rows.waits target h parts false → StandsAs blocks args w from st → Stood blocks args target parts from st
+pub stood : (blocks : List FlatBlockText) (args : List Range) (target : ℕ) (h : Bool) (parts : List Part) (w : Way) (from : List ℕ) (st : Stand) → w ≡ rows.waits target h parts false
+    → StandsAs blocks args w from st → Stood blocks args target parts from st
 stood blocks args target h parts w from st e s = at (subst (λ v. StandsAs blocks args v from st) e s)
   where
     at : StandsAs blocks args (rows.waits target h parts false) from st → Stood blocks args target parts from st
@@ -118,21 +122,24 @@ waits-alike bound s u block to on on' wake wake' e = refl
 abbrev pub Means : (probe : Part → Tree) (past now : Valuation) (args : List Range) (bits : List Bool) → Type 0
 Means probe past now args bits = (p : Part) → mean past now (probe p) ≡ reads args bits p
 
-module _ (functions : List UnitText) (name : UnitName) (t : FlatText) (args : List Range) (formed : IsFormed (flat_unit name t)) (plain : begins_with_phi (lines_at t.blocks (head_of t.blocks)) ≡ false) (pads : Pads functions (flat_unit name t) args) where
+module _ (functions : List UnitText) (name : UnitName) (t : FlatText) (args : List Range) (formed : IsFormed (flat_unit name t))
+    (plain : begins_with_phi (lines_at t.blocks (head_of t.blocks)) ≡ false) (pads : Pads functions (flat_unit name t) args) where
   abbrev f : UnitText
   f = flat_unit name t
 
   instance-of : (now : List Bool) → IsInstance name t args (pads.pad now)
   instance-of now = record { formed = formed; plain = plain; ranges = pads.ranges now }
 
-  probes-of : (probe : Part → Tree) (typed : (p : Part) → IsData p.ty → IsOfType p.ty (probe p)) (past now : Valuation) → IsFitting past → IsFitting now → (bits : List Bool) → Means probe past now args bits → Probes probe past now args (pads.pad bits)
+  probes-of : (probe : Part → Tree) (typed : (p : Part) → IsData p.ty → IsOfType p.ty (probe p)) (past now : Valuation) → IsFitting past → IsFitting now → (bits : List Bool)
+      → Means probe past now args bits → Probes probe past now args (pads.pad bits)
   probes-of probe typed past now p n bits m = record { past_fits = p; now_fits = n; typed = typed; means = λ q. m q ∙ sym (pads.reading bits q) }
 
   -- an activation that ends as these rows say
   abbrev pub Ends : (past now : Valuation) → List Bool → Instant → Rows → (bound : ℕ) → ProcessState → Type 0
   Ends past now bits at rows bound p = (done : Activated) × (activate bound (seen functions bits at) f p ≡ Some done) × EndsAs f t past now args at no_wish [] rows done
 
-  module _ (probe : Part → Tree) (typed : (p : Part) → IsData p.ty → IsOfType p.ty (probe p)) (past now : Valuation) (p : IsFitting past) (n : IsFitting now) (bits : List Bool) (m : Means probe past now args bits) (c : Course) (e : first_region t probe ≡ comes_to c) (at : Instant) (bound : ℕ) where
+  module _ (probe : Part → Tree) (typed : (p : Part) → IsData p.ty → IsOfType p.ty (probe p)) (past now : Valuation) (p : IsFitting past) (n : IsFitting now) (bits : List Bool)
+      (m : Means probe past now args bits) (c : Course) (e : first_region t probe ≡ comes_to c) (at : Instant) (bound : ℕ) where
     pub first-acts : max_steps + length (lines_at t.blocks 0) ≤ bound → Ends past now bits at c.rows bound (begun f args)
     first-acts h =
         let z = first-activation name t args (seen functions (pads.pad bits) at) (instance-of bits) probe past now (probes-of probe typed past now p n bits m) c e bound h in
@@ -148,15 +155,18 @@ module _ (functions : List UnitText) (name : UnitName) (t : FlatText) (args : Li
   SecondEnds past now second past' now' first bits at bound s = (done : Activated) × (activate bound (seen functions bits at) f s ≡ Some done) ×
       (EndsAs f t past now args at no_wish [] second done ⊎ ThenFirst f t past now second past' now' first args at done)
 
-  module _ (past : Valuation) (fits : IsFitting past) (c : Course) (e : first_region t past_of ≡ comes_to c) (target : ℕ) (ways : Each (λ (x : End). waits_for x.way ≡ Some target) c.rows.ends) (second : Course) (e2 : second_region t target ≡ comes_to second) (bits : List Bool) (at : Instant) (bound : ℕ) (h : max_steps + max_steps ≤ bound) where
+  module _ (past : Valuation) (fits : IsFitting past) (c : Course) (e : first_region t past_of ≡ comes_to c) (target : ℕ) (ways : Each (λ (x : RegionEnd). waits_for x.way ≡ Some target) c.rows.ends)
+      (second : Course) (e2 : second_region t target ≡ comes_to second) (bits : List Bool) (at : Instant) (bound : ℕ) (h : max_steps + max_steps ≤ bound) where
     padded-reads : reads args (pads.pad bits) ≡ reads args bits
     padded-reads = λ i q. pads.reading bits q i
 
-    pub second-acts : (s : ProcessState) → WaitsAfter f t past (reads args bits) args c.rows s → (probe : Part → Tree) (typed : (p : Part) → IsData p.ty → IsOfType p.ty (probe p)) (past' now' : Valuation) → IsFitting past' → IsFitting now' → Means probe past' now' args bits →
+    pub second-acts : (s : ProcessState) → WaitsAfter f t past (reads args bits) args c.rows s
+        → (probe : Part → Tree) (typed : (p : Part) → IsData p.ty → IsOfType p.ty (probe p)) (past' now' : Valuation) → IsFitting past' → IsFitting now' → Means probe past' now' args bits →
         (first : Course) → first_region t probe ≡ comes_to first → SecondEnds past (reads args bits) second.rows past' now' first.rows bits at bound s
     second-acts s w probe typed past' now' p n m first e3 =
         let w' = subst (λ (v : Valuation). WaitsAfter f t past v args c.rows s) (sym padded-reads) w in
-        let z = second-region name t args (seen functions (pads.pad bits) at) (instance-of bits) past fits c e target ways second e2 s w' probe past' now' (probes-of probe typed past' now' p n bits m) first e3 bound h in
+        let z = second-region name t args (seen functions (pads.pad bits) at) (instance-of bits) past fits c e target ways second e2 s w' probe past' now' (probes-of probe typed past' now' p n bits m)
+        first e3 bound h in
         let ends = subst (λ (v : Valuation). EndsAs f t past v args at no_wish [] second.rows z.0 ⊎ ThenFirst f t past v second.rows past' now' first.rows args at z.0) padded-reads z.2 in
         (z.0, sym (pads.acting bound bits at s) ∙ z.1, ends)
 

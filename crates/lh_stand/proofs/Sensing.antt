@@ -27,7 +27,7 @@ use Rattle.lh_term.specs.Mean.{Valuation}
 use Rattle.lh_term.specs.declared.part.Part.{Part}
 use Rattle.lh_cover.specs.Bits.{covers}
 use Rattle.lh_rows.specs.Rows as way
-use Rattle.lh_rows.specs.Rows.{Drive, End, Rows}
+use Rattle.lh_rows.specs.Rows.{Drive, RegionEnd, Rows}
 use Rattle.lh_rows.specs.Regions.{lines_at, head_of, known_first, waited_parts, Regions}
 use Rattle.lh_rows.specs.Typed.{Among}
 use Rattle.lh_rows.specs.Means.{range_in, reads, Agrees, with_rows}
@@ -65,9 +65,11 @@ number-is a b e = grind (arith, nat_tests)
 pub steps-enough : (a b n : ℕ) → (a + a) + b ≤ n → a ≤ n
 steps-enough a b n h = omega (arith, h)
 
-module _ (functions : List UnitText) (bound : ℕ) (x y : UnitText) (i : Instance) (name : UnitName) (t : FlatText) (formed : IsFormed (flat_unit name t)) (pads : Pads functions (flat_unit name t) i.args) (k : Follows functions x (flat_unit name t) i.args)
+module _ (functions : List UnitText) (bound : ℕ) (x y : UnitText) (i : Instance) (name : UnitName) (t : FlatText) (formed : IsFormed (flat_unit name t))
+    (pads : Pads functions (flat_unit name t) i.args) (k : Follows functions x (flat_unit name t) i.args)
     (xk : x.kind ≡ kind.Proc) (yk : y.kind ≡ kind.Entity) (sigs : i.sigs ≡ []) (enough : IsEnough bound t) (waited : List Part) (ds : List Drive) (s : CombRegions t waited ds)
-    (passes : (now : List Bool) (memory : Option (List Bool)) (at : Instant) → (pass y i.args [] now memory at).wish ≡ with_rows (reads i.args now) (reads i.args now) i.args at no_wish s.walk.course.rows.drives)
+    (passes : (now : List Bool) (memory : Option (List Bool)) (at : Instant)
+    → (pass y i.args [] now memory at).wish ≡ with_rows (reads i.args now) (reads i.args now) i.args at no_wish s.walk.course.rows.drives)
     (senses : SensesParts (Passes (covers waited)) waited y i.args) where
   abbrev f : UnitText
   f = flat_unit name t
@@ -87,11 +89,11 @@ module _ (functions : List UnitText) (bound : ℕ) (x y : UnitText) (i : Instanc
   no-asserts : rows.asserts ≡ []
   no-asserts = ap (λ (z : Rows). z.asserts) s.walk.rows ∙ no-items s.regions.first.asserts (not-first (λ (z : Rows). not (is_empty z.asserts)) s.regions s.none.asserts)
 
-  waits-all : (e : End) → Among e rows.ends → AllWait i.args head rows.ends
+  waits-all : (e : RegionEnd) → Among e rows.ends → AllWait i.args head rows.ends
   waits-all e a =
       wait-all i.args head rows.ends e a
       (free-ends t now_of rows.ends (ap (λ (z : Rows). list_any ends_halted z.ends) s.walk.rows ∙ not-first (λ (z : Rows). list_any ends_halted z.ends) s.regions s.none.halts)
-      (ap (λ (z : Rows). list_any (λ (e : End). is_timed e.way) z.ends) s.walk.rows ∙ s.none.timed) (first-ends t now_of s.walk.course s.walk.first))
+      (ap (λ (z : Rows). list_any (λ (e : RegionEnd). is_timed e.way) z.ends) s.walk.rows ∙ s.none.timed) (first-ends t now_of s.walk.course s.walk.first))
       (ap (λ (z : Rows). are_mixed z.ends) s.walk.rows ∙ s.none.mixed)
 
   pass-wish : (now : List Bool) (memory : Option (List Bool)) (at : Instant) → with_rows (reads i.args now) (reads i.args now) i.args at no_wish rows.drives ≡ (pass y i.args i.sigs now memory at).wish
@@ -118,7 +120,8 @@ module _ (functions : List UnitText) (bound : ℕ) (x y : UnitText) (i : Instanc
     stand : flat.stand ≡ machine.waits from start.label on None
     known : (past now : Valuation) → Agrees f past now i.args (known_first t) flat.held
 
-  ends-at : (p flat : ProcessState) → k.Last p flat → (now : List Bool) (at : Instant) (memory : Option (List Bool)) → Ends functions name t i.args formed s.walk.plain pads (reads i.args now) (reads i.args now) now at rows bound flat
+  ends-at : (p flat : ProcessState) → k.Last p flat → (now : List Bool) (at : Instant) (memory : Option (List Bool))
+      → Ends functions name t i.args formed s.walk.plain pads (reads i.args now) (reads i.args now) now at rows bound flat
       → EndsAt Stays to (sensed y i) (pass y i.args i.sigs now memory at).wish (activate bound (seen functions now at) x p)
   ends-at p flat l now at memory z = by z.0 z.2 (k.acts p flat l now at bound bound (no-more bound) z.0 z.1)
     where
@@ -147,25 +150,31 @@ module _ (functions : List UnitText) (bound : ℕ) (x y : UnitText) (i : Instanc
               from = e.end.from;
               on = map (range_in i.args) w.parts;
               stand = flat-stood.stand;
-              known = λ past now'. head-stays-known name t formed s.walk.plain now_of now-typed s.walk.course s.walk.first e.end e.came.among (nat_eq all.target head) w.parts false led i.args (reads i.args now) (reads i.args now) past now' done.state.held e.came.known;
+              known = λ past now'. head-stays-known name t formed s.walk.plain now_of now-typed s.walk.course s.walk.first e.end e.came.among (nat_eq all.target head) w.parts false led i.args
+                  (reads i.args now) (reads i.args now) past now' done.state.held e.came.known;
             };
             same_parts = subst (λ ps. SameSet (bits_of i.args ps) (sensed y i)) (ap waited_parts led)
                 (same-set (bits_of i.args (waited_parts e.end.way)) (bits_of i.args (parts_waited rows.ends)) (sensed y i) (all.same e.end e.came.among) sensed-bits);
             is = a.1 ∙ (λ j. Some (record { state = process.is j; wish = wish j; outcomes = told j }));
           }
 
-  comb-first : (now : List Bool) (at : Instant) (memory : Option (List Bool)) → EndsAt Stays to (sensed y i) (pass y i.args i.sigs now memory at).wish (activate bound (seen functions now at) x (fresh x i))
+  comb-first : (now : List Bool) (at : Instant) (memory : Option (List Bool))
+      → EndsAt Stays to (sensed y i) (pass y i.args i.sigs now memory at).wish (activate bound (seen functions now at) x (fresh x i))
   comb-first now at memory =
       ends-at (begun x i.args) (begun f i.args) k.begins now at memory
-      (first-acts functions name t i.args formed s.walk.plain pads now_of now-typed (reads i.args now) (reads i.args now) (reads-fit i.args now) (reads-fit i.args now) now (λ p. refl) s.walk.course s.walk.first at bound
+      (first-acts functions name t i.args formed s.walk.plain pads now_of now-typed (reads i.args now) (reads i.args now) (reads-fit i.args now) (reads-fit i.args now) now (λ p. refl) s.walk.course
+      s.walk.first at bound
       (one-region max_steps (length (lines_at t.blocks 0)) bound enough))
 
-  comb-later : (now : List Bool) (at : Instant) (memory : Option (List Bool)) (block : List ℕ) (e : Env) (on : List Range) → Stays block e → EndsAt Stays to (sensed y i) (pass y i.args i.sigs now memory at).wish (activate bound (seen functions now at) x (waiting_at block to on e))
+  comb-later : (now : List Bool) (at : Instant) (memory : Option (List Bool)) (block : List ℕ) (e : Env) (on : List Range) → Stays block e
+      → EndsAt Stays to (sensed y i) (pass y i.args i.sigs now memory at).wish (activate bound (seen functions now at) x (waiting_at block to on e))
   comb-later now at memory block e on h =
-      let w : WaitsForHead f t (reads i.args now) (reads i.args now) i.args h.flat = record { head = h.start; is = h.is; from = h.from; on = h.on; wake = None; stand = h.stand; known = h.known (reads i.args now) (reads i.args now) } in
+      let w : WaitsForHead f t (reads i.args now) (reads i.args now) i.args h.flat = record
+      { head = h.start; is = h.is; from = h.from; on = h.on; wake = None; stand = h.stand; known = h.known (reads i.args now) (reads i.args now) } in
       subst (EndsAt Stays to (sensed y i) (pass y i.args i.sigs now memory at).wish) (waits-alike bound (seen functions now at) x block to h.parts on None None e)
       (ends-at (waiting_at block to h.parts e) h.flat h.last now at memory
-      (again-acts functions name t i.args formed s.walk.plain pads now_of now-typed (reads i.args now) (reads i.args now) (reads-fit i.args now) (reads-fit i.args now) now (λ p. refl) s.walk.course s.walk.first at bound
+      (again-acts functions name t i.args formed s.walk.plain pads now_of now-typed (reads i.args now) (reads i.args now) (reads-fit i.args now) (reads-fit i.args now) now (λ p. refl) s.walk.course
+      s.walk.first at bound
       (steps-enough max_steps (length (lines_at t.blocks 0)) bound enough) h.flat w))
 
   pub comb-for : CombFor r x y i

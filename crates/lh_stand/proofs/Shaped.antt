@@ -9,7 +9,7 @@ use Rattle.lh_edge.specs.Atoms.{contains_past}
 use Rattle.lh_edge.specs.Shown.{is_edge_shown}
 use Rattle.lh_edge.specs.Triggers.{EdgeRowTree}
 use Rattle.lh_flat.specs.Flat.{FlatText}
-use Rattle.lh_rows.specs.Rows.{Drive, End, Rows}
+use Rattle.lh_rows.specs.Rows.{Drive, RegionEnd, Rows}
 use Rattle.lh_rows.specs.Regions.{head_of, begins_with_phi, lines_at, RegionRefusal, Course, Coursed, stops, comes_to, first_region, second_region, one_target, Regions, Regioned, no_regions, has_regions, head_phi, with_second, second_if, with_first, regions_of}
 use Rattle.lh_shape.specs.declared.reason.Reason.{Reason}
 use Rattle.lh_shape.specs.Merging.{merged_drives}
@@ -71,7 +71,8 @@ none-hold : (xs : List (Bool × Reason)) → first_holding xs ≡ None → Each 
 none-hold [] e = tt
 none-hold (x ∷ xs) e = by x.0 refl e (none-hold xs)
   where
-    by : (b : Bool) → x.0 ≡ b → (if b then Some x.1 else first_holding xs) ≡ None → (first_holding xs ≡ None → Each (λ (x : Bool × Reason). x.0 ≡ false) xs) → (x.0 ≡ false) × Each (λ (x : Bool × Reason). x.0 ≡ false) xs
+    by : (b : Bool) → x.0 ≡ b → (if b then Some x.1 else first_holding xs) ≡ None → (first_holding xs ≡ None → Each (λ (x : Bool × Reason). x.0 ≡ false) xs) → (x.0 ≡ false)
+        × Each (λ (x : Bool × Reason). x.0 ≡ false) xs
     by true q f go = cc
     by false q f go = (q, go f)
 
@@ -79,11 +80,11 @@ none-hold (x ∷ xs) e = by x.0 refl e (none-hold xs)
 pub record NoReason (r : Regions) : Type 0 where
   pub halts : in_some (λ (s : Rows). list_any ends_halted s.ends) r ≡ false
   pub asserts : in_some (λ (s : Rows). not (is_empty s.asserts)) r ≡ false
-  pub timed : list_any (λ (e : End). is_timed e.way) r.first.ends ≡ false
+  pub timed : list_any (λ (e : RegionEnd). is_timed e.way) r.first.ends ≡ false
   pub mixed : are_mixed r.first.ends ≡ false
   pub delays : in_some (λ (s : Rows). list_any (λ (d : Drive). not (is_constant d.delay)) s.drives) r ≡ false
   pub before : (not (waits_for_head r.first.ends) && not (is_empty r.first.drives)) ≡ false
-  pub twice : list_any (λ (e : End). is_wait e.way) (second_ends r) ≡ false
+  pub twice : list_any (λ (e : RegionEnd). is_wait e.way) (second_ends r) ≡ false
   pub past : list_any (λ (d : Drive). contains_past d.value) (second_drives r) ≡ false
   pub edges : list_any (λ (d : Drive). not (is_edge_shown (parts_waited r.first.ends) d.cond)) (second_drives r) ≡ false
 
@@ -199,7 +200,8 @@ once-regions t ds e =
     let h = has-regions t (once ds) e (λ x f. left-not-once x ds f) in
     at h.regions h.walk (cases t (once ds) e (λ x f. left-not-once x ds f) h.regions h.shape)
   where
-    shaped-not : (r : Regions) (b : Bool) → (if b then comb (parts_waited r.first.ends) (merged_drives r.first.drives) else edge (map (edge_row (parts_waited r.first.ends)) (second_drives r))) ≡ once ds → OnceRegions t ds
+    shaped-not : (r : Regions) (b : Bool) → (if b then comb (parts_waited r.first.ends) (merged_drives r.first.drives) else edge (map (edge_row (parts_waited r.first.ends)) (second_drives r)))
+        ≡ once ds → OnceRegions t ds
     shaped-not r true f = comb-not-once (parts_waited r.first.ends) (merged_drives r.first.drives) ds f
     shaped-not r false f = edge-not-once (map (edge_row (parts_waited r.first.ends)) (second_drives r)) ds f
 
@@ -212,7 +214,8 @@ comb-regions t ws ds e =
     let h = has-regions t (comb ws ds) e (λ x f. left-not-comb x ws ds f) in
     at h.regions h.walk (cases t (comb ws ds) e (λ x f. left-not-comb x ws ds f) h.regions h.shape)
   where
-    by : (r : Regions) → Walked t r → NoReason r → (b : Bool) → waits_for_head r.first.ends ≡ b → (if b then comb (parts_waited r.first.ends) (merged_drives r.first.drives) else edge (map (edge_row (parts_waited r.first.ends)) (second_drives r))) ≡ comb ws ds → CombRegions t ws ds
+    by : (r : Regions) → Walked t r → NoReason r → (b : Bool) → waits_for_head r.first.ends ≡ b
+        → (if b then comb (parts_waited r.first.ends) (merged_drives r.first.drives) else edge (map (edge_row (parts_waited r.first.ends)) (second_drives r))) ≡ comb ws ds → CombRegions t ws ds
     by r w n true q f = record {
       regions = r;
       walk = w;
@@ -232,7 +235,8 @@ edge-regions t rs e =
     let h = has-regions t (edge rs) e (λ x f. left-not-edge x rs f) in
     at h.regions h.walk (cases t (edge rs) e (λ x f. left-not-edge x rs f) h.regions h.shape)
   where
-    by : (r : Regions) → Walked t r → NoReason r → (b : Bool) → waits_for_head r.first.ends ≡ b → (if b then comb (parts_waited r.first.ends) (merged_drives r.first.drives) else edge (map (edge_row (parts_waited r.first.ends)) (second_drives r))) ≡ edge rs → EdgeRegions t rs
+    by : (r : Regions) → Walked t r → NoReason r → (b : Bool) → waits_for_head r.first.ends ≡ b
+        → (if b then comb (parts_waited r.first.ends) (merged_drives r.first.drives) else edge (map (edge_row (parts_waited r.first.ends)) (second_drives r))) ≡ edge rs → EdgeRegions t rs
     by r w n true q f = comb-not-edge (parts_waited r.first.ends) (merged_drives r.first.drives) rs f
     by r w n false q f = record { regions = r; walk = w; none = n; head = q; rows = edge-is (map (edge_row (parts_waited r.first.ends)) (second_drives r)) rs f }
 

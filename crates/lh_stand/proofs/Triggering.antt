@@ -23,7 +23,7 @@ use Rattle.lh_term.proofs.Sound.{IsBit, bit_of_fit, bit_mean, one_wide}
 use Rattle.lh_cover.specs.Bits.{covers}
 use Rattle.lh_edge.specs.Atoms.{contains_past}
 use Rattle.lh_edge.specs.Shown.{is_edge_shown}
-use Rattle.lh_edge.specs.Triggers.{TriggerTree, EdgeRowTree, triggers_of, Fires, SomeFires, AllRest, AreWaited}
+use Rattle.lh_edge.specs.Triggers.{TriggerTree, EdgeRowTree, triggers_of, Fires, SomeFires, NoneChanges, AreWaited}
 use Rattle.lh_edge.proofs.Meaning.{same_bits, without_past}
 use Rattle.lh_edge.proofs.Firing.{triggers_show}
 use Rattle.lh_edge.proofs.Resting.{rests, waited_on}
@@ -97,7 +97,8 @@ module _ (past now : Valuation) (p : IsFitting past) (n : IsFitting now) where
 
     pub fires-so : Fires past now g → fires (Some (sees past g.part)) now g ≡ true
     fires-so h =
-        fires-by ∙ change-of g.rise pb.bit nb.bit gb.bit (same_bits pb.bit (not g.rise) (sym pb.is ∙ h.before)) (same_bits nb.bit g.rise (sym nb.is ∙ h.after)) (same_bits gb.bit true (sym gb.is ∙ h.gate))
+        fires-by ∙ change-of g.rise pb.bit nb.bit gb.bit (same_bits pb.bit (not g.rise) (sym pb.is ∙ h.before)) (same_bits nb.bit g.rise (sym nb.is ∙ h.after)) (same_bits gb.bit true
+        (sym gb.is ∙ h.gate))
 
     pub fires-back : fires (Some (sees past g.part)) now g ≡ true → Fires past now g
     fires-back h =
@@ -143,7 +144,8 @@ module _ (past now : Valuation) (p : IsFitting past) (n : IsFitting now) where
   delay-same (operation o ts) e = absurd (false≢true e)
   delay-same (choice_of c f t) e = absurd (false≢true e)
 
-  row-drives : SwapsKeepMeaning → (s : Source) (waited : List Part) (args : List Range) (at : Instant) (w : Wish) (d : Drive) → EdgeDrive s waited d → register_made past now args at w (edge_row waited d) ≡ with_row past now args at w d
+  row-drives : SwapsKeepMeaning → (s : Source) (waited : List Part) (args : List Range) (at : Instant) (w : Wish) (d : Drive) → EdgeDrive s waited d
+      → register_made past now args at w (edge_row waited d) ≡ with_row past now args at w d
   row-drives laws s waited args at w d h =
       let a : any_fires past now (edge_row waited d) ≡ is_true past now d.cond = fires-where laws s waited d h.typed h.shown h.triggers in
       let b : mean now now d.delay ≡ mean past now d.delay = delay-same d.delay h.delay in
@@ -159,18 +161,21 @@ module _ (past now : Valuation) (p : IsFitting past) (n : IsFitting now) where
 
   -- ---- where no trigger's part changes
 
-  all-rest : (gs : List TriggerTree) → Each (λ q. past q ≡ now q) (map (λ (g : TriggerTree). g.part) gs) → AllRest past now gs
+  all-rest : (gs : List TriggerTree) → Each (λ q. past q ≡ now q) (map (λ (g : TriggerTree). g.part) gs) → NoneChanges past now gs
   all-rest [] h = tt
   all-rest (g ∷ gs) h = (h.0, all-rest gs h.1)
 
-  pub rows-rest : SwapsKeepMeaning → (s : Source) (waited : List Part) (args : List Range) (at : Instant) (w : Wish) (ds : List Drive) → Each (EdgeDrive s waited) ds → Each (λ q. past q ≡ now q) (flat_map row_parts (map (edge_row waited) ds)) →
+  pub rows-rest : SwapsKeepMeaning → (s : Source) (waited : List Part) (args : List Range) (at : Instant) (w : Wish) (ds : List Drive) → Each (EdgeDrive s waited) ds
+      → Each (λ q. past q ≡ now q) (flat_map row_parts (map (edge_row waited) ds)) →
       with_rows past now args at w ds ≡ w
   rows-rest laws s waited args at w [] h e = refl
   rows-rest laws s waited args at w (d ∷ ds) h e =
       let ps = row_parts (edge_row waited d) in
       let qs = flat_map row_parts (map (edge_row waited) ds) in
-      let zero : mean past now d.cond ≡ bit_value false = rests laws waited d.cond h.0.typed.cond.typed h.0.typed.cond.type h.0.shown past now p n (all-rest (triggers_of waited d.cond) (Each-left (λ q. past q ≡ now q) ps qs e)) in
-      let none : with_row past now args at w d ≡ w = ap (λ b. if b then with_drive w (due_by at (mean past now d.delay)) (range_in args d.part).lo (value_bits (mean past now d.value)) else w) (ap is_one zero) in
+      let zero : mean past now d.cond ≡ bit_value false = rests laws waited d.cond h.0.typed.cond.typed h.0.typed.cond.type h.0.shown past now p n (all-rest (triggers_of waited d.cond)
+      (Each-left (λ q. past q ≡ now q) ps qs e)) in
+      let none : with_row past now args at w d ≡ w = ap (λ b. if b then with_drive w (due_by at (mean past now d.delay)) (range_in args d.part).lo (value_bits (mean past now d.value)) else w) (ap
+      is_one zero) in
       ap (λ v. with_rows past now args at v ds) none ∙ rows-rest laws s waited args at w ds h.1 (Each-right (λ q. past q ≡ now q) ps qs e)
 
 -- ---- the parts of the triggers
@@ -188,7 +193,8 @@ triggers-covered waited (d ∷ ds) =
 
 -- ---- what registers remember
 
-row-seen-same : (v w : Valuation) (gs : List TriggerTree) → Each (λ q. v q ≡ w q) (map (λ (g : TriggerTree). g.part) gs) → map (λ (g : TriggerTree). sees v g.part) gs ≡ map (λ (g : TriggerTree). sees w g.part) gs
+row-seen-same : (v w : Valuation) (gs : List TriggerTree) → Each (λ q. v q ≡ w q) (map (λ (g : TriggerTree). g.part) gs)
+    → map (λ (g : TriggerTree). sees v g.part) gs ≡ map (λ (g : TriggerTree). sees w g.part) gs
 row-seen-same v w [] h = refl
 row-seen-same v w (g ∷ gs) h =
     let here : sees v g.part ≡ sees w g.part = ap (λ d. unwrap_or (as_test d) false) h.0 in

@@ -18,7 +18,8 @@ use Rattle.lh_shape.specs.Shapes.{ShapeText, comb, edge, once, left, shape_of_te
 use Rattle.lh_emission.specs.Entities.{emits, comb_emission, edge_emission, once_emission}
 use Rattle.lh_emission.specs.Reached.{steps_in}
 
--- The entity y is emitted for a shape of a process u that has this flat text: it has the process's name and arguments, and reaches parts by the steps of the flat text. A process that is left has no entity.
+-- The entity y is emitted for a shape of a process u that has this flat text: it has the process's name and arguments, and reaches parts by the steps of the flat text. A
+-- process that is left has no entity.
 abbrev pub IsEmittedFor : (u : UnitText) → FlatText → ShapeText → (y : UnitText) → Type 0
 IsEmittedFor u t (comb waited ds) y = comb_emission u (steps_in (flat_unit u.name t)) waited ds ≡ emits y
 IsEmittedFor u t (edge rs) y = edge_emission u (steps_in (flat_unit u.name t)) rs ≡ emits y
@@ -40,17 +41,20 @@ IsEnough bound t = (max_steps + max_steps) + length (lines_at t.blocks 0) ≤ bo
 
 -- The entity of a process that drives once may stand for it.
 abbrev pub OnceStands : Type 0
-OnceStands = (a : Arena) (u : ℕ) (t : FlatText) (y : UnitText) (bound : ℕ) (ds : List Drive) → IsFlattened a u t → shape_of_text t ≡ once ds → IsEmittedFor (unit_text_at a u) t (once ds) y → IsEnough bound t →
+OnceStands = (a : Arena) (u : ℕ) (t : FlatText) (y : UnitText) (bound : ℕ) (ds : List Drive) → IsFlattened a u t → shape_of_text t ≡ once ds → IsEmittedFor (unit_text_at a u) t (once ds) y
+    → IsEnough bound t →
     MayStand (rules_of bound (contents a)) (unit_text_at a u) y
 
 -- So may that of a combinational process.
 abbrev pub CombStands : Type 0
-CombStands = (a : Arena) (u : ℕ) (t : FlatText) (y : UnitText) (bound : ℕ) (waited : List Part) (ds : List Drive) → IsFlattened a u t → shape_of_text t ≡ comb waited ds → IsEmittedFor (unit_text_at a u) t (comb waited ds) y → IsEnough bound t →
+CombStands = (a : Arena) (u : ℕ) (t : FlatText) (y : UnitText) (bound : ℕ) (waited : List Part) (ds : List Drive) → IsFlattened a u t → shape_of_text t ≡ comb waited ds
+    → IsEmittedFor (unit_text_at a u) t (comb waited ds) y → IsEnough bound t →
     MayStand (rules_of bound (contents a)) (unit_text_at a u) y
 
 -- And that of a process that reacts to edges.
 abbrev pub EdgeStands : Type 0
-EdgeStands = (a : Arena) (u : ℕ) (t : FlatText) (y : UnitText) (bound : ℕ) (rs : List EdgeRowTree) → IsFlattened a u t → shape_of_text t ≡ edge rs → IsEmittedFor (unit_text_at a u) t (edge rs) y → IsEnough bound t →
+EdgeStands = (a : Arena) (u : ℕ) (t : FlatText) (y : UnitText) (bound : ℕ) (rs : List EdgeRowTree) → IsFlattened a u t → shape_of_text t ≡ edge rs → IsEmittedFor (unit_text_at a u) t (edge rs) y
+    → IsEnough bound t →
     MayStand (rules_of bound (contents a)) (unit_text_at a u) y
 
 -- The entity of each process that has one may stand for it.

@@ -22,7 +22,7 @@ use Rattle.lh_exec.specs.declared.state.Stand.TheVariants as stand
 use Rattle.lh_exec.specs.Standing.{scene_of}
 use Rattle.lh_exec.specs.declared.state.ProcState.{ProcState}
 use Rattle.lh_exec.specs.States as process
-use Rattle.lh_exec.specs.States.{Answers, waited_by, WakesLater, WakesLaterBy}
+use Rattle.lh_exec.specs.States.{ActivationOrRunaway, waited_by, WakesLater, WakesLaterBy}
 use Rattle.lh_exec.specs.Laws.{wake_of}
 use Rattle.lh_react.specs.declared.entity.EntAct.{EntAct}
 use Rattle.lh_react.specs.Standing as entity
@@ -72,12 +72,12 @@ wakes-later t stand.Halted h = tt
 
 -- what an activation gives
 pub process-sound : (a : Arena) (width : ℕ) (now : List Bool) (t : Instant) (i : Instance) (p : ProcessState) (x : Act) →
-    kind_at a i.unit.0 ≡ Some kind.Proc → Answers a i.unit.0 i.args width (Ok x) (activate 1000000 (scene_of a now t) (unit_text_at a i.unit.0) p) → WakesLater t x.next →
+    kind_at a i.unit.0 ≡ Some kind.Proc → ActivationOrRunaway a i.unit.0 i.args width (Ok x) (activate 1000000 (scene_of a now t) (unit_text_at a i.unit.0) p) → WakesLater t x.next →
     ActIsSound a width t i (record { next = Process x.next; wishes = x.wishes; outcomes = x.outcomes })
 process-sound a width now t i p x k h later =
     by (activate 1000000 (scene_of a now t) (unit_text_at a i.unit.0) p) h (runs_late (rules_of 1000000 (contents a)) now t (unit_text_at a i.unit.0) (instance_text a i) (of_process p))
   where
-    by : (done : Option Activated) → Answers a i.unit.0 i.args width (Ok x) done → IsLate t (process_act p done).wish → ActIsSound a width t i (record { next = Process x.next; wishes = x.wishes; outcomes = x.outcomes })
+    by : (done : Option Activated) → ActivationOrRunaway a i.unit.0 i.args width (Ok x) done → IsLate t (process_act p done).wish → ActIsSound a width t i (record { next = Process x.next; wishes = x.wishes; outcomes = x.outcomes })
     by (Some d) g l = record {
       fits = (k, g.fits);
       wakes = wakes-later t x.next.stand later;

@@ -1,3 +1,4 @@
 pub mod States
+pub mod Acts
 pub mod Runs
 pub mod Laws

@@ -11,18 +11,18 @@ use Rattle.lh_eval.specs.Grouped.{IsGrouped}
 use Rattle.lh_eval.specs.WishOf.{writes_wish}
 use Rattle.lh_exec.specs.declared.process.ExecFault.{ExecFault}
 use Rattle.lh_exec.specs.declared.process.ExecFault.TheVariants as fault
-use Rattle.lh_states.specs.declared.runs.InstAct.{InstAct}
+use Rattle.lh_states.specs.Acts.{ActDone}
 use Rattle.lh_states.specs.States.{StateIs, StateFits, wake_kept}
 
 -- it is what the definition has the instance do
-pub record ActIs (a : Arena) (i : Instance) (x : InstAct) (act : Act) : Type 0 where
+pub record ActIs (a : Arena) (i : Instance) (x : ActDone) (act : Act) : Type 0 where
   pub next : StateIs a i x.next act.after
   pub wish : writes_wish x.wishes ≡ act.wish
   pub outcomes : x.outcomes ≡ act.outcomes
   pub ends : act.ran_away ≡ false
 
 -- exactly what the definition has it do, or a runaway exactly where it is one
-abbrev pub Runs : Arena → Instance → Result InstAct ExecFault → Act → Type 0
+abbrev pub Runs : Arena → Instance → Result ActDone ExecFault → Act → Type 0
 Runs a i (Ok x) act = ActIs a i x act
 Runs a i (Err fault.Runaway) act = act.ran_away ≡ true
 Runs a i (Err fault.OutOfMemory) act = Unit {0}
@@ -34,7 +34,7 @@ IsLaterIfAny t (Some u) = instant_lt t u ≡ true
 
 -- What a run at `t` gives is sound, where the signals have so many bits: the next state fits and wakes later; what is wished is due
 -- later, at instants that strictly rise, and names only bits of the signals, at each instant some and none twice.
-pub record ActIsSound (a : Arena) (width : ℕ) (t : Instant) (i : Instance) (x : InstAct) : Type 0 where
+pub record ActIsSound (a : Arena) (width : ℕ) (t : Instant) (i : Instance) (x : ActDone) : Type 0 where
   pub fits : StateFits a width i x.next
   pub wakes : IsLaterIfAny t (wake_kept x.next)
   pub grouped : IsGrouped x.wishes

@@ -14,7 +14,7 @@ use Rattle.lh_states.specs.declared.state.InstState.TheVariants.{Process, Entity
 
 -- what is kept of an instance stands for its state
 abbrev pub StateIs : Arena → Instance → InstState → State → Type 0
-StateIs a i (Process s) (of_process p) = process.StandsFor a i.unit.0 i.args s p
+StateIs a i (Process s) (of_process p) = process.StandsForState a i.unit.0 i.args s p
 StateIs a i (Entity s) (of_entity memory) = s.memory ≡ memory
 StateIs a i _ _ = ⊥
 

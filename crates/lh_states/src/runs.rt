@@ -1,18 +1,19 @@
 //! One run of an instance.
-ghost use Rattle.std.specs.Prelude.{◌≡◌, length, IfOk};
+ghost use Rattle.std.specs.Prelude.{◌≡◌, [], length, IfOk};
 ghost use Rattle.lh_types.specs.Raised.{raised};
 ghost use Rattle.lh_unit.specs.Arena.{contents, unit_text_at};
 ghost use Rattle.lh_unit.specs.WellFormed.{IsWellFormed};
 ghost use Rattle.lh_unit.specs.World.{State, rules_of, runs};
 ghost use Rattle.lh_design.specs.Texts.{instance_text};
 ghost use Rattle.lh_elab.specs.Answer.{InstanceIs};
+ghost use Rattle.lh_states.specs.declared.state.InstState.TheVariants.{Entity};
 ghost use Rattle.lh_states.specs.States.{StateIs, StateFits};
 ghost use Rattle.lh_states.specs.Runs.{Runs, ActIsSound};
 
 use crate::state::InstState;
 use lh_eval::instance::Instance;
 use lh_exec::{ExecFault, activate};
-use lh_react::react;
+use lh_react::{EntAct, react};
 use lh_time::Instant;
 use lh_types::bits::Bits;
 use lh_types::list::{BoolList, ListOf};
@@ -21,14 +22,97 @@ use lh_types::ty::NoMemory;
 use lh_types::writes::DueWrites;
 use lh_unit::module::Module;
 use std::alloc::Global;
+use std::marker::Model;
 
 /// What one run of an instance gives: its next state, the bits that it wishes, by the instants at which they are due, and whether
 /// each assertion passed.
 #[derive(Drop)]
 pub struct InstAct {
-    pub next: InstState,
-    pub wishes: DueWrites,
-    pub outcomes: BoolList,
+    did: Did,
+}
+
+/// Most entities that are woken wish nothing: of them only the next state is kept.
+#[derive(Drop)]
+enum Did {
+    Rests(InstState),
+    Acts {
+        next: InstState,
+        wishes: DueWrites,
+        outcomes: BoolList,
+    },
+}
+
+impl Model for InstAct {
+    ghost use Rattle.std.specs.Coded.{codes};
+    ghost use Rattle.lh_types.specs.Values.{datum_coded};
+    ghost use Rattle.lh_states.specs.Acts.{ActDone, done_of};
+
+    ghost Value = { ActDone };
+
+    ghost coded = { Prim.hlevel (codes, datum_coded) };
+
+    ghost view = { λ a. done_of a.did };
+}
+
+impl InstAct {
+    /// The next state.
+    pub fn next(&self) -> &InstState
+        ensures { result.now ≡ self.now.next }
+    {
+        match &self.did {
+            Did::Rests(next) => next,
+            Did::Acts { next, .. } => next,
+        }
+    }
+
+    /// At how many instants something is wished.
+    pub fn wish_count(&self) -> usize
+        ensures { result ≡ length self.now.wishes }
+    {
+        match &self.did {
+            Did::Rests(_) => 0,
+            Did::Acts { wishes, .. } => wishes.len(),
+        }
+    }
+
+    /// Whether each assertion passed.
+    pub fn outcomes(&self) -> &[bool]
+        ensures { result.now ≡ self.now.outcomes }
+    {
+        match &self.did {
+            Did::Rests(_) => &[],
+            Did::Acts { outcomes, .. } => outcomes.as_slice(),
+        }
+    }
+
+    /// The next state, and what is wished.
+    pub fn into_parts(self, alloc: Global) -> (InstState, DueWrites)
+        ensures next { result.0 ≡ self.next }
+        ensures wishes { result.1 ≡ self.wishes }
+    {
+        match self.did {
+            Did::Rests(next) => (next, ListOf::new(alloc)),
+            Did::Acts { next, wishes, .. } => (next, wishes),
+        }
+    }
+
+    /// What a pass of an entity gives.
+    fn of_pass(alloc: Global, act: EntAct) -> InstAct
+        ensures { result ≡ record { next = Entity act.next; wishes = act.wishes; outcomes = [] } }
+    {
+        let EntAct { next, wishes } = act;
+        let next = InstState::Entity(next);
+        let did = if wishes.len() == 0 {
+            Did::Rests(next)
+        } else {
+            Did::Acts {
+                next,
+                wishes,
+                outcomes: ListOf::new(alloc),
+            }
+        };
+        InstAct { did }
+    }
 }
 
 /// One run of an instance of a well-formed module at an instant, where the signals have these bits: an activation of a process, or
@@ -54,18 +138,15 @@ pub fn run_instance<T: Tally>(
     match s {
         InstState::Process(process) => {
             let act = activate(alloc, m, i, process, now, at, tally)?;
-            Ok(InstAct {
+            let did = Did::Acts {
                 next: InstState::Process(act.next),
                 wishes: act.wishes,
                 outcomes: act.outcomes,
-            })
+            };
+            Ok(InstAct { did })
         }
         InstState::Entity(entity) => match react(alloc, m, i, entity, now, at, tally) {
-            Ok(act) => Ok(InstAct {
-                next: InstState::Entity(act.next),
-                wishes: act.wishes,
-                outcomes: ListOf::new(alloc),
-            }),
+            Ok(act) => Ok(InstAct::of_pass(alloc, act)),
             Err(NoMemory) => Err(ExecFault::OutOfMemory),
         },
     }

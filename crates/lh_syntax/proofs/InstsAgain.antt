@@ -27,8 +27,8 @@ use Rattle.lh_syntax.specs.Words.{head_of, form_of}
 use Rattle.lh_syntax.specs.Shorter.{trigger_at-shorter, edge_at-shorter}
 use Rattle.lh_syntax.specs.Operands.{trigger_at, edge_at}
 use Rattle.lh_syntax.specs.Insts.{constant_at, const_at, last_typed_at, last_local_at, var_at, ld_at, sig_at, prb_at, target_at, st_at, after_at, if_after_at, delay_at, drv_at, reg_at, operands_at, child_at, call_at, phi_at, branch_at, br_at, wait_at, halt_at, ret_or, ret_at, worded_at, marked_at, inst_at}
-use Rattle.lh_syntax.specs.declared.syntax.Trigger.{Trigger}
-use Rattle.lh_syntax.specs.declared.syntax.Edge.{Edge}
+use Rattle.lh_syntax.specs.declared.syntax.TriggerSyntax.{TriggerSyntax}
+use Rattle.lh_syntax.specs.declared.syntax.EdgeSyntax.{EdgeSyntax}
 use Rattle.lh_syntax.proofs.SpelledOperands.{operand_as, operands_as, operands_as-of, typed_at-again, maybe_at-again, trigger_as, trigger_at-again, edge_as, edge_at-again}
 use Rattle.lh_syntax.proofs.OperandLists.{operand_list-again}
 use Rattle.lh_syntax.proofs.SpelledEach.{parts_unmapped}
@@ -88,7 +88,7 @@ triggers_as-of : (gs : List TriggerText) → map trigger_of (map trigger_as gs) 
 triggers_as-of [] = refl
 triggers_as-of (g ∷ gs) = ap (λ l. g ∷ l) (triggers_as-of gs)
 
-trigger-again : (g : Trigger) (ts us : List Lexeme) → SpellsTrigger (trigger_of g) ts us → trigger_at ts ≡ Some (g, us)
+trigger-again : (g : TriggerSyntax) (ts us : List Lexeme) → SpellsTrigger (trigger_of g) ts us → trigger_at ts ≡ Some (g, us)
 trigger-again g ts us s = trigger_at-again (trigger_of g) ts us s
 
 triggers-again : (gs : List TriggerText) (ts : List Lexeme) → SpellsParts SpellsTrigger gs ts [] → parts_at trigger_at (length ts) ts ≡ Some (map trigger_as gs, [])
@@ -109,23 +109,28 @@ operands-again : (os : List OperandText) (us vs : List Lexeme) → SpellsList Sp
 unfolding operands_at
 operands-again os us vs s = ap (λ x. x >>= λ r. (punct_at 41 r.1 >>= λ b. Some (r.0, b))) (operand_list-again os us (punct 41 ∷ vs) vs s refl)
 
-child-again : (u : UnitName) (ins outs : List OperandText) (name : Lexeme) (us vs : List Lexeme) → SpellsUnitName u name → SpellsList SpellsOperand ins us (punct 41 ∷ arrow ∷ punct 40 ∷ vs) → SpellsList SpellsOperand outs vs (punct 41 ∷ [])
+child-again : (u : UnitName) (ins outs : List OperandText) (name : Lexeme) (us vs : List Lexeme) → SpellsUnitName u name → SpellsList SpellsOperand ins us (punct 41 ∷ arrow ∷ punct 40 ∷ vs)
+    → SpellsList SpellsOperand outs vs (punct 41 ∷ [])
     → child_at (name ∷ punct 40 ∷ us) ≡ Some (child_text u ins outs)
 unfolding child_at
 child-again u ins outs name us vs n s t =
-    ap (λ x. x >>= λ m. (operands_at m.1 >>= λ a. (arrow_at a.1 >>= λ b. (operands_at b >>= λ c. (end_at c.1 >>= λ _. Some (child_text m.0 (operands_of a.0) (operands_of c.0))))))) (unit_name_at-again u name (punct 40 ∷ us) n)
-    ∙ ap (λ x. x >>= λ a. (arrow_at a.1 >>= λ b. (operands_at b >>= λ c. (end_at c.1 >>= λ _. Some (child_text u (operands_of a.0) (operands_of c.0)))))) (operands-again ins us (arrow ∷ punct 40 ∷ vs) s)
+    ap (λ x. x >>= λ m. (operands_at m.1 >>= λ a. (arrow_at a.1 >>= λ b. (operands_at b >>= λ c. (end_at c.1 >>= λ _. Some (child_text m.0 (operands_of a.0) (operands_of c.0)))))))
+    (unit_name_at-again u name (punct 40 ∷ us) n)
+    ∙ ap (λ x. x >>= λ a. (arrow_at a.1 >>= λ b. (operands_at b >>= λ c. (end_at c.1 >>= λ _. Some (child_text u (operands_of a.0) (operands_of c.0))))))
+    (operands-again ins us (arrow ∷ punct 40 ∷ vs) s)
     ∙ ap (λ x. x >>= λ c. (end_at c.1 >>= λ _. Some (child_text u (operands_of (operands_as ins)) (operands_of c.0)))) (operands-again outs vs [] t)
     ∙ (λ j. Some (child_text u (operands_as-of ins j) (operands_as-of outs j)))
 
 name_begins : (u : UnitName) (name : Lexeme) (us : List Lexeme) → SpellsUnitName u name → no_suffix (name ∷ us) ≡ true
 name_begins u name us n = elim n [ inl p ↦ ap (λ t. no_suffix (t ∷ us)) p.1 | inr p ↦ ap (λ t. no_suffix (t ∷ us)) p.1 ]
 
-call-again : (f : UnitName) (t : TypeTree) (os : List OperandText) (name : Lexeme) (ts vs : List Lexeme) → SpellsType t ts (name ∷ punct 40 ∷ vs) → SpellsUnitName f name → SpellsList SpellsOperand os vs (punct 41 ∷ [])
+call-again : (f : UnitName) (t : TypeTree) (os : List OperandText) (name : Lexeme) (ts vs : List Lexeme) → SpellsType t ts (name ∷ punct 40 ∷ vs) → SpellsUnitName f name
+    → SpellsList SpellsOperand os vs (punct 41 ∷ [])
     → call_at ts ≡ Some (call_text f t os)
 unfolding call_at
 call-again f t os name ts vs s n l =
-    ap (λ x. x >>= λ y. (unit_name_at y.1 >>= λ m. (operands_at m.1 >>= λ a. (end_at a.1 >>= λ _. Some (call_text m.0 y.0 (operands_of a.0)))))) (type_at-again t ts (name ∷ punct 40 ∷ vs) s (name_begins f name (punct 40 ∷ vs) n))
+    ap (λ x. x >>= λ y. (unit_name_at y.1 >>= λ m. (operands_at m.1 >>= λ a. (end_at a.1 >>= λ _. Some (call_text m.0 y.0 (operands_of a.0))))))
+    (type_at-again t ts (name ∷ punct 40 ∷ vs) s (name_begins f name (punct 40 ∷ vs) n))
     ∙ ap (λ x. x >>= λ m. (operands_at m.1 >>= λ a. (end_at a.1 >>= λ _. Some (call_text m.0 t (operands_of a.0))))) (unit_name_at-again f name (punct 40 ∷ vs) n)
     ∙ ap (λ x. x >>= λ a. (end_at a.1 >>= λ _. Some (call_text f t (operands_of a.0)))) (operands-again os vs [] l)
     ∙ ap (λ l. Some (call_text f t l)) (operands_as-of os)
@@ -135,7 +140,7 @@ edges_as-of : (es : List EdgeText) → map edge_of (map edge_as es) ≡ es
 edges_as-of [] = refl
 edges_as-of (e ∷ es) = ap (λ l. e ∷ l) (edges_as-of es)
 
-edge-again : (e : Edge) (ts us : List Lexeme) → SpellsEdge (edge_of e) ts us → edge_at ts ≡ Some (e, us)
+edge-again : (e : EdgeSyntax) (ts us : List Lexeme) → SpellsEdge (edge_of e) ts us → edge_at ts ≡ Some (e, us)
 edge-again e ts us s = edge_at-again (edge_of e) ts us s
 
 edges-again : (es : List EdgeText) (ts : List Lexeme) → SpellsParts SpellsEdge es ts [] → parts_at edge_at (length ts) ts ≡ Some (map edge_as es, [])
@@ -167,7 +172,8 @@ no_for : (ns : List (List ℕ)) (ts : List Lexeme) → SpellsBehind SpellsLocal 
 no_for [] ts s = ap (word_at (codes "for")) s
 no_for (n ∷ ns) ts s = ap (word_at (codes "for")) s.1
 
-wait-again : (b : List ℕ) (d : Option (List ℕ)) (ns : List (List ℕ)) (us vs : List Lexeme) → SpellsMaybe (codes "for") d us vs → SpellsBehind SpellsLocal ns vs [] → wait_at (local b ∷ us) ≡ Some (wait_text b d ns)
+wait-again : (b : List ℕ) (d : Option (List ℕ)) (ns : List (List ℕ)) (us vs : List Lexeme) → SpellsMaybe (codes "for") d us vs → SpellsBehind SpellsLocal ns vs []
+    → wait_at (local b ∷ us) ≡ Some (wait_text b d ns)
 unfolding wait_at
 wait-again b d ns us vs s t =
     ap (λ x. x >>= λ e. (behind_at local_at e.1 >>= λ r. (end_at r.1 >>= λ _. Some (wait_text b e.0 r.0)))) (maybe_at-again (codes "for") refl d us vs s (no_for ns vs t))
@@ -222,7 +228,14 @@ stands_alone (drv_text p v d c) ts h s =
 stands_alone (reg_text p gs) ts h s =
     record { keyword = codes "reg"; rest = s.1.0; is = s.1.1; found = reg-again p gs s.1.0 s.0 s.1.2 s.2; no_head = refl; no_colon = typed_no_colon p s.1.0 (punct 44 ∷ s.0) s.1.2 }
 stands_alone (child_text u ins outs) ts h s =
-    record { keyword = codes "inst"; rest = s.0 ∷ punct 40 ∷ s.1; is = s.3; found = child-again u ins outs s.0 s.1 s.2 s.4 s.5 s.6; no_head = refl; no_colon = name_no_colon u s.0 (punct 40 ∷ s.1) s.4 }
+    record {
+      keyword = codes "inst";
+      rest = s.0 ∷ punct 40 ∷ s.1;
+      is = s.3;
+      found = child-again u ins outs s.0 s.1 s.2 s.4 s.5 s.6;
+      no_head = refl;
+      no_colon = name_no_colon u s.0 (punct 40 ∷ s.1) s.4;
+    }
 stands_alone (call_text f t os) ts h s =
     record { keyword = codes "call"; rest = s.1; is = s.3; found = call-again f t os s.0 s.1 s.2 s.4 s.5 s.6; no_head = refl; no_colon = punct_at-type 58 refl refl t s.1 (s.0 ∷ punct 40 ∷ s.2) s.4.0 }
 stands_alone (br_text b) ts h s = record { keyword = codes "br"; rest = local b ∷ []; is = s; found = refl; no_head = refl; no_colon = refl }

@@ -43,4 +43,5 @@ operand_parts-again os ts us s c =
 pub operand_list-again : (os : List OperandText) (ts us more : List Lexeme) → SpellsList SpellsOperand os ts us → us ≡ punct 41 ∷ more → list_at free_at 41 ts ≡ Some (operands_as os, us)
 operand_list-again os ts us more s c =
     let e = subst (λ l. SpellsList SpellsOperand l ts us) (sym (operands_as-of os)) s in
-    list_at-again free_at SpellsFree again shorter 41 refl refl (λ a vs ws w. no_close a.ty a.value vs ws w) (operands_as os) ts us more (list_unmapped operand_of SpellsOperand (operands_as os) ts us e) c
+    list_at-again free_at SpellsFree again shorter 41 refl refl (λ a vs ws w. no_close a.ty a.value vs ws w) (operands_as os) ts us more
+    (list_unmapped operand_of SpellsOperand (operands_as os) ts us e) c

@@ -109,7 +109,8 @@ length_of : (xs : List Operand) → length (operands_of xs) ≡ length xs
 length_of [] = refl
 length_of (x ∷ xs) = omega (arith, length_of xs)
 
-elements-sound : (os : List Operand) (ts : List Lexeme) (i : InstText) → SpellsParts SpellsOperand (operands_of os) ts (punct 93 ∷ []) → when (fits_array (length os) (element_of os)) (pure_text op.Array (operands_of os)) ≡ Some i
+elements-sound : (os : List Operand) (ts : List Lexeme) (i : InstText) → SpellsParts SpellsOperand (operands_of os) ts (punct 93 ∷ [])
+    → when (fits_array (length os) (element_of os)) (pure_text op.Array (operands_of os)) ≡ Some i
     → SpellsInst i (punct 91 ∷ ts)
 elements-sound [] ts i s p = absurd s
 elements-sound (o ∷ rest) ts i s p =
@@ -151,7 +152,8 @@ rest_bare : (os : List OperandText) (ts us : List Lexeme) → SpellsBehind Spell
 rest_bare [] ts us s = refl
 rest_bare (x ∷ os) ts us s = all_bare-again (x ∷ os) s.0 us s.2
 
-whole : (o : OperandText) (rest : List OperandText) (ts vs us : List Lexeme) (t : TypeTree) → o.ty ≡ Some t → SpellsType t ts (local o.value ∷ vs) → SpellsBehind SpellsBare rest vs us → SpellsParts SpellsOperand (o ∷ rest) ts us
+whole : (o : OperandText) (rest : List OperandText) (ts vs us : List Lexeme) (t : TypeTree) → o.ty ≡ Some t → SpellsType t ts (local o.value ∷ vs) → SpellsBehind SpellsBare rest vs us
+    → SpellsParts SpellsOperand (o ∷ rest) ts us
 whole o [] ts vs us t e s b = subst (λ w. SpellsOperand o ts w) b (typed_free o ts vs (t, e, s))
 whole o (x ∷ xs) ts vs us t e s b = (b.0, subst (λ w. SpellsOperand o ts w) b.1 (typed_free o ts vs (t, e, s)), free_parts (x ∷ xs) b.0 us b.2)
 
@@ -159,7 +161,8 @@ length_as : (os : List OperandText) → length (operands_as os) ≡ length os
 length_as [] = refl
 length_as (o ∷ os) = omega (arith, length_as os)
 
-array_at-again : (o : OperandText) (rest : List OperandText) (ts vs : List Lexeme) (t : TypeTree) → o.ty ≡ Some t → SpellsType t ts (local o.value ∷ vs) → SpellsBehind SpellsBare rest vs (punct 93 ∷ [])
+array_at-again : (o : OperandText) (rest : List OperandText) (ts vs : List Lexeme) (t : TypeTree) → o.ty ≡ Some t → SpellsType t ts (local o.value ∷ vs)
+    → SpellsBehind SpellsBare rest vs (punct 93 ∷ [])
     → IsLimited (array_type (length (o ∷ rest)) t) → array_at ts ≡ Some (pure_text op.Array (o ∷ rest))
 unfolding array_at last_mark_at
 array_at-again o rest ts vs t e s b l =
@@ -167,7 +170,8 @@ array_at-again o rest ts vs t e s b l =
     ap (λ c. fits_array (length (operands_as (o ∷ rest))) (if c then o.ty else None)) (rest_bare rest vs (punct 93 ∷ []) b)
     ∙ ap (fits_array (length (operands_as (o ∷ rest)))) e
     ∙ ap (λ k. fits_array k (Some t)) (length_as (o ∷ rest)) ∙ fits-again (length (o ∷ rest)) t l in
-    ap (λ x. x >>= λ r. (last_mark_at 93 r.1 >>= λ _. when (fits_array (length r.0) (element_of r.0)) (pure_text op.Array (operands_of r.0)))) (operand_parts-again (o ∷ rest) ts (punct 93 ∷ []) (whole o rest ts vs (punct 93 ∷ []) t e s b) refl)
+    ap (λ x. x >>= λ r. (last_mark_at 93 r.1 >>= λ _. when (fits_array (length r.0) (element_of r.0)) (pure_text op.Array (operands_of r.0))))
+    (operand_parts-again (o ∷ rest) ts (punct 93 ∷ []) (whole o rest ts vs (punct 93 ∷ []) t e s b) refl)
     ∙ ap (λ c. when c (pure_text op.Array (operands_of (operands_as (o ∷ rest))))) f
     ∙ ap (λ os. Some (pure_text op.Array os)) (operands_as-of (o ∷ rest))
 
@@ -176,11 +180,13 @@ pub bracket_at-repeat : (n : ℕ) (o : OperandText) (ts : List Lexeme) (t : Type
 unfolding bracket_at
 bracket_at-repeat n o ts t w us e m y s l = ap (λ x. or_else x (array_at ts)) (repeat_at-again n o ts t w us e m y s l)
 
-pub bracket_at-array : (o : OperandText) (rest : List OperandText) (ts vs : List Lexeme) (t : TypeTree) → o.ty ≡ Some t → SpellsType t ts (local o.value ∷ vs) → SpellsBehind SpellsBare rest vs (punct 93 ∷ [])
+pub bracket_at-array : (o : OperandText) (rest : List OperandText) (ts vs : List Lexeme) (t : TypeTree) → o.ty ≡ Some t → SpellsType t ts (local o.value ∷ vs)
+    → SpellsBehind SpellsBare rest vs (punct 93 ∷ [])
     → IsLimited (array_type (length (o ∷ rest)) t) → bracket_at ts ≡ Some (pure_text op.Array (o ∷ rest))
 unfolding bracket_at repeat_at
 bracket_at-array o rest ts vs t e s b l =
-    let h : repeat_at ts ≡ None = ap (λ x. x >>= λ k. (word_at (codes "x") k.1 >>= λ vs. (typed_at vs >>= λ a. (last_mark_at 93 a.1 >>= λ _. repeated_of k.0 a.0)))) (number_at-type t ts (local o.value ∷ vs) s.0) in
+    let h : repeat_at ts ≡ None = ap (λ x. x >>= λ k. (word_at (codes "x") k.1 >>= λ vs. (typed_at vs >>= λ a. (last_mark_at 93 a.1 >>= λ _. repeated_of k.0 a.0))))
+    (number_at-type t ts (local o.value ∷ vs) s.0) in
     ap (λ x. or_else x (array_at ts)) h ∙ array_at-again o rest ts vs t e s b l
 
 -- `D1 %a, D2 %b}`
@@ -218,7 +224,8 @@ fields-sound (o ∷ x ∷ os) fs ts us p s =
 tuple_data : (r : TypeRow) → tuple_fault r ≡ None → all_data r ≡ true
 tuple_data r e = (four_none (is_empty_row r) (all_data r) (nat_lt 16 (depth_of_row r + 1)) (nat_lt 65536 (bit_count_row r)) _ _ _ _ e).1
 
-struct-sound : (os : List Operand) (o : Option (List TypeTree)) (ts : List Lexeme) (i : InstText) → fields_of os ≡ o → SpellsParts SpellsOperand (operands_of os) ts (punct 125 ∷ []) → when (fits_tuple o) (pure_text op.Tuple (operands_of os)) ≡ Some i
+struct-sound : (os : List Operand) (o : Option (List TypeTree)) (ts : List Lexeme) (i : InstText) → fields_of os ≡ o → SpellsParts SpellsOperand (operands_of os) ts (punct 125 ∷ [])
+    → when (fits_tuple o) (pure_text op.Tuple (operands_of os)) ≡ Some i
     → SpellsInst i (punct 123 ∷ ts)
 struct-sound os None ts i e s p = cc
 struct-sound os (Some fs) ts i e s p =
@@ -251,10 +258,12 @@ fields-again (x ∷ y ∷ os) ts us s =
     ∙ ap (λ o. o >>= λ l. Some (s.1.0 ∷ l)) (fields-again (y ∷ os) s.0 us s.2)
     ∙ ap Some (sym (written-some x.ty s.1.0 (written_types (y ∷ os)) s.1.1))
 
-pub tuple_at-again : (os : List OperandText) (ts : List Lexeme) → SpellsParts SpellsWithType os ts (punct 125 ∷ []) → IsLimited (tuple_type (row_of (written_types os))) → tuple_at ts ≡ Some (pure_text op.Tuple os)
+pub tuple_at-again : (os : List OperandText) (ts : List Lexeme) → SpellsParts SpellsWithType os ts (punct 125 ∷ []) → IsLimited (tuple_type (row_of (written_types os)))
+    → tuple_at ts ≡ Some (pure_text op.Tuple os)
 unfolding tuple_at last_mark_at
 tuple_at-again os ts s l =
-    ap (λ x. x >>= λ r. (last_mark_at 125 r.1 >>= λ _. when (fits_tuple (fields_of r.0)) (pure_text op.Tuple (operands_of r.0)))) (operand_parts-again os ts (punct 125 ∷ []) (typed_parts os ts (punct 125 ∷ []) s) refl)
+    ap (λ x. x >>= λ r. (last_mark_at 125 r.1 >>= λ _. when (fits_tuple (fields_of r.0)) (pure_text op.Tuple (operands_of r.0))))
+    (operand_parts-again os ts (punct 125 ∷ []) (typed_parts os ts (punct 125 ∷ []) s) refl)
     ∙ ap (λ f. when (fits_tuple f) (pure_text op.Tuple (operands_of (operands_as os)))) (fields-again os ts (punct 125 ∷ []) s)
     ∙ ap (λ f. when (is_none f) (pure_text op.Tuple (operands_of (operands_as os)))) (tuple-again (row_of (written_types os)) l)
     ∙ ap (λ l. Some (pure_text op.Tuple l)) (operands_as-of os)

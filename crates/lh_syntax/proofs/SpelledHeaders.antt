@@ -145,7 +145,8 @@ func-again : (n : UnitName) (args : List ArgText) (t : TypeTree) (ts : List Lexe
 unfolding func_at brace_at
 func-again n args t ts s =
     let e : are_values s.params && is_result_type t ≡ true =
-    and_from (are_values s.params) (is_result_type t) (list_each SpellsNamed (λ q. IsValueType q.ty) (λ q. is_value_type q.ty) (λ q h. value-tested q.ty h) s.params s.first (punct 41 ∷ s.second) s.spelled_params) (result-tested t s.fits) in
+    and_from (are_values s.params) (is_result_type t)
+    (list_each SpellsNamed (λ q. IsValueType q.ty) (λ q. is_value_type q.ty) (λ q h. value-tested q.ty h) s.params s.first (punct 41 ∷ s.second) s.spelled_params) (result-tested t s.fits) in
     ap (func_at n) s.opened
     ∙ ap (λ x. x >>= λ a. (type_at a.1 >>= λ y. (brace_at y.1 >>= λ _. item_when (are_values a.0 && is_result_type y.0) (header_item kind.Func n (map input_of a.0) (Some y.0)))))
     (params-again s.params s.first s.second (list_without SpellsNamed (λ q. IsValueType q.ty) (λ q. is_value_type q.ty) s.params s.first (punct 41 ∷ s.second) s.spelled_params))
@@ -193,7 +194,8 @@ ports-again : (args : List ArgText) (ts : List Lexeme) → SpellsPorts args ts �
 unfolding ports_at brace_at
 ports-again args ts s =
     let e : are_ports s.inputs && are_ports s.outputs ≡ true =
-    and_from (are_ports s.inputs) (are_ports s.outputs) (are_ports-again s.inputs s.first (punct 41 ∷ arrow ∷ punct 40 ∷ s.second) s.spelled_inputs) (are_ports-again s.outputs s.second (punct 41 ∷ punct 123 ∷ []) s.spelled_outputs) in
+    and_from (are_ports s.inputs) (are_ports s.outputs) (are_ports-again s.inputs s.first (punct 41 ∷ arrow ∷ punct 40 ∷ s.second) s.spelled_inputs)
+    (are_ports-again s.outputs s.second (punct 41 ∷ punct 123 ∷ []) s.spelled_outputs) in
     ap ports_at s.opened
     ∙ ap (λ x. x >>= λ a. (arrow_at a.1 >>= λ b. (params_at b >>= λ c. (brace_at c.1 >>= λ _. ports_when (are_ports a.0 && are_ports c.0) a.0 c.0))))
     (params-again s.inputs s.first (arrow ∷ punct 40 ∷ s.second) (ports_named s.inputs s.first (punct 41 ∷ arrow ∷ punct 40 ∷ s.second) s.spelled_inputs))
@@ -211,7 +213,8 @@ unfolding unit_at
 unit-again k n args ts s = ap (λ x. x >>= λ a. Some (header_item k n a None)) (ports-again args ts s)
 
 -- what is defined elsewhere
-declare_func-sound : (n : UnitName) (ps : List TypeTree) (us ts : List Lexeme) (i : LineItem) → declare_func_at n ps us ≡ Some i → InParens SpellsType ps ts us → (name : Lexeme) → SpellsUnitName n name → Spells (word (codes "declare") ∷ name ∷ ts) i
+declare_func-sound : (n : UnitName) (ps : List TypeTree) (us ts : List Lexeme) (i : LineItem) → declare_func_at n ps us ≡ Some i → InParens SpellsType ps ts us → (name : Lexeme)
+    → SpellsUnitName n name → Spells (word (codes "declare") ∷ name ∷ ts) i
 unfolding declare_func_at
 declare_func-sound n ps us ts i p x name m =
     let t = bind_some (type_at us) _ i p in
@@ -224,7 +227,8 @@ declare_func-sound n ps us ts i p x name m =
     let q : Spells (word (codes "declare") ∷ name ∷ ts) (declare_item (declare.Func n ps t.0.0)) = (name, x.first, us, e, m, v, s, result-shown t.0.0 h.1) in
     subst (Spells (word (codes "declare") ∷ name ∷ ts)) g.1 q
 
-declare_unit-sound : (n : UnitName) (ins : List TypeTree) (us vs ts : List Lexeme) (i : LineItem) → declare_unit_at n ins vs ≡ Some i → us ≡ arrow ∷ vs → InParens SpellsType ins ts us → (name : Lexeme) → SpellsUnitName n name
+declare_unit-sound : (n : UnitName) (ins : List TypeTree) (us vs ts : List Lexeme) (i : LineItem) → declare_unit_at n ins vs ≡ Some i → us ≡ arrow ∷ vs → InParens SpellsType ins ts us
+    → (name : Lexeme) → SpellsUnitName n name
     → Spells (word (codes "declare") ∷ name ∷ ts) i
 unfolding declare_unit_at
 declare_unit-sound n ins us vs ts i p f x name m =
@@ -245,11 +249,13 @@ declare-sound : (n : UnitName) (ts : List Lexeme) (i : LineItem) → declare_at 
 unfolding declare_at
 declare-sound n ts i p name m = let a = bind_some (types_at ts) _ i p in by a.0.0 a.0.1 (types-sound ts a.0 a.1) (arrow_at a.0.1) refl a.2
   where
-    by : (ins : List TypeTree) (us : List Lexeme) → InParens SpellsType ins ts us → (o : Option (List Lexeme)) → arrow_at us ≡ o → declare_or n ins us o ≡ Some i → Spells (word (codes "declare") ∷ name ∷ ts) i
+    by : (ins : List TypeTree) (us : List Lexeme) → InParens SpellsType ins ts us → (o : Option (List Lexeme)) → arrow_at us ≡ o → declare_or n ins us o ≡ Some i
+        → Spells (word (codes "declare") ∷ name ∷ ts) i
     by ins us x (Some vs) e q = declare_unit-sound n ins us vs ts i q (arrow_at-inv us vs e) x name m
     by ins us x None e q = declare_func-sound n ins us ts i q x name m
 
-declare-again : (d : Declare) (ts : List Lexeme) → SpellsDeclare d ts → (n : UnitName) × (name : Lexeme) × (us : List Lexeme) × (ts ≡ word (codes "declare") ∷ name ∷ us) × SpellsUnitName n name × (declare_at n us ≡ Some (declare_item d))
+declare-again : (d : Declare) (ts : List Lexeme) → SpellsDeclare d ts → (n : UnitName) × (name : Lexeme) × (us : List Lexeme) × (ts ≡ word (codes "declare") ∷ name ∷ us) × SpellsUnitName n name
+    × (declare_at n us ≡ Some (declare_item d))
 unfolding declare_at declare_func_at declare_unit_at
 declare-again (declare.Func n ps r) ts s =
     let e : each is_value_type ps && is_result_type r ≡ true =
@@ -262,10 +268,12 @@ declare-again (declare.Func n ps r) ts s =
     (n, s.0, punct 40 ∷ s.1, s.3, s.4, f)
 declare-again (declare.Unit n ins outs) ts s =
     let e : each is_signal ins && each is_signal outs ≡ true =
-    and_from (each is_signal ins) (each is_signal outs) (list_each SpellsType IsSignal is_signal signal-tested ins s.1 (punct 41 ∷ arrow ∷ punct 40 ∷ s.2) s.5) (list_each SpellsType IsSignal is_signal signal-tested outs s.2 (punct 41 ∷ []) s.6) in
+    and_from (each is_signal ins) (each is_signal outs) (list_each SpellsType IsSignal is_signal signal-tested ins s.1 (punct 41 ∷ arrow ∷ punct 40 ∷ s.2) s.5)
+    (list_each SpellsType IsSignal is_signal signal-tested outs s.2 (punct 41 ∷ []) s.6) in
     let f : declare_at n (punct 40 ∷ s.1) ≡ Some (declare_item (declare.Unit n ins outs)) =
     ap (λ x. x >>= λ a. declare_or n a.0 a.1 (arrow_at a.1)) (types-again ins s.1 (arrow ∷ punct 40 ∷ s.2) (list_without SpellsType IsSignal is_signal ins s.1 (punct 41 ∷ arrow ∷ punct 40 ∷ s.2) s.5))
-    ∙ ap (λ x. x >>= λ a. (end_at a.1 >>= λ _. item_when (each is_signal ins && each is_signal a.0) (declare_item (declare.Unit n ins a.0)))) (types-again outs s.2 [] (list_without SpellsType IsSignal is_signal outs s.2 (punct 41 ∷ []) s.6))
+    ∙ ap (λ x. x >>= λ a. (end_at a.1 >>= λ _. item_when (each is_signal ins && each is_signal a.0) (declare_item (declare.Unit n ins a.0))))
+    (types-again outs s.2 [] (list_without SpellsType IsSignal is_signal outs s.2 (punct 41 ∷ []) s.6))
     ∙ ap (λ b. item_when b (declare_item (declare.Unit n ins outs))) e in
     (n, s.0, punct 40 ∷ s.1, s.3, s.4, f)
 
@@ -306,11 +314,35 @@ named-again h n name us i m p = ap (λ x. x >>= λ a. named_at h a.0 a.1) (unit_
 pub header-again : (k : UnitKind) (n : UnitName) (args : List ArgText) (r : Option TypeTree) (ts : List Lexeme) → SpellsHeader k n args r ts → IsHead (header_item k n args r) ts
 unfolding head_of
 header-again kind.Func n args (Some t) ts s =
-    record { keyword = codes "func"; rest = s.0 ∷ s.1; is = s.2; head = head.Func; known = refl; found = named-again head.Func n s.0 s.1 (header_item kind.Func n args (Some t)) s.3 (func-again n args t s.1 s.4); no_colon = name_no_colon n s.0 s.1 s.3 }
+    record {
+      keyword = codes "func";
+      rest = s.0 ∷ s.1;
+      is = s.2;
+      head = head.Func;
+      known = refl;
+      found = named-again head.Func n s.0 s.1 (header_item kind.Func n args (Some t)) s.3 (func-again n args t s.1 s.4);
+      no_colon = name_no_colon n s.0 s.1 s.3;
+    }
 header-again kind.Proc n args None ts s =
-    record { keyword = codes "proc"; rest = s.0 ∷ s.1; is = s.2; head = head.Proc; known = refl; found = named-again head.Proc n s.0 s.1 (header_item kind.Proc n args None) s.3 (unit-again kind.Proc n args s.1 s.4); no_colon = name_no_colon n s.0 s.1 s.3 }
+    record {
+      keyword = codes "proc";
+      rest = s.0 ∷ s.1;
+      is = s.2;
+      head = head.Proc;
+      known = refl;
+      found = named-again head.Proc n s.0 s.1 (header_item kind.Proc n args None) s.3 (unit-again kind.Proc n args s.1 s.4);
+      no_colon = name_no_colon n s.0 s.1 s.3;
+    }
 header-again kind.Entity n args None ts s =
-    record { keyword = codes "entity"; rest = s.0 ∷ s.1; is = s.2; head = head.Entity; known = refl; found = named-again head.Entity n s.0 s.1 (header_item kind.Entity n args None) s.3 (unit-again kind.Entity n args s.1 s.4); no_colon = name_no_colon n s.0 s.1 s.3 }
+    record {
+      keyword = codes "entity";
+      rest = s.0 ∷ s.1;
+      is = s.2;
+      head = head.Entity;
+      known = refl;
+      found = named-again head.Entity n s.0 s.1 (header_item kind.Entity n args None) s.3 (unit-again kind.Entity n args s.1 s.4);
+      no_colon = name_no_colon n s.0 s.1 s.3;
+    }
 header-again kind.Func n args None ts s = absurd s
 header-again kind.Proc n args (Some t) ts s = absurd s
 header-again kind.Entity n args (Some t) ts s = absurd s
@@ -319,4 +351,12 @@ pub declared-again : (d : Declare) (ts : List Lexeme) → SpellsDeclare d ts →
 unfolding head_of
 declared-again d ts s =
     let a = declare-again d ts s in
-    record { keyword = codes "declare"; rest = a.1 ∷ a.2; is = a.3; head = head.Declare; known = refl; found = named-again head.Declare a.0 a.1 a.2 (declare_item d) a.4 a.5; no_colon = name_no_colon a.0 a.1 a.2 a.4 }
+    record {
+      keyword = codes "declare";
+      rest = a.1 ∷ a.2;
+      is = a.3;
+      head = head.Declare;
+      known = refl;
+      found = named-again head.Declare a.0 a.1 a.2 (declare_item d) a.4 a.5;
+      no_colon = name_no_colon a.0 a.1 a.2 a.4;
+    }

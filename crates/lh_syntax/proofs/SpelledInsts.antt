@@ -26,8 +26,8 @@ use Rattle.lh_syntax.specs.Operands.{typed_at, free_at, maybe_at, trigger_at, ed
 use Rattle.lh_syntax.specs.Operations.{bracket_at, tuple_at}
 use Rattle.lh_syntax.specs.Insts.{constant_at, const_at, last_typed_at, last_local_at, var_at, ld_at, sig_at, prb_at, target_at, st_at, after_at, if_after_at, delay_or, delay_at, drv_at, reg_at, operands_at, child_at, call_at, phi_at, branch_at, br_or, br_at, wait_at, halt_at, ret_or, ret_at, form_at, worded_at, marked_at, inst_at}
 use Rattle.lh_syntax.specs.declared.syntax.Operand.{Operand}
-use Rattle.lh_syntax.specs.declared.syntax.Trigger.{Trigger}
-use Rattle.lh_syntax.specs.declared.syntax.Edge.{Edge}
+use Rattle.lh_syntax.specs.declared.syntax.TriggerSyntax.{TriggerSyntax}
+use Rattle.lh_syntax.specs.declared.syntax.EdgeSyntax.{EdgeSyntax}
 use Rattle.lh_syntax.specs.declared.words.Form.{Form}
 use Rattle.lh_syntax.specs.declared.words.Form.TheVariants as form
 use Rattle.lh_syntax.proofs.SpelledWords.{form_of-sound, IsFormRow}
@@ -125,14 +125,17 @@ after_at-sound ts r p =
     let q : Q (a.0.0, b.0.0) = (a.0.1, local_at-inv ts a.0 a.1, m) in
     subst Q (same_Some (a.0.0, b.0.0) r c.2) q
 
-if_after-sound : (ts : List Lexeme) (r : List ℕ × Option (List ℕ)) → if_after_at ts ≡ Some r → (c : List ℕ) × (r.1 ≡ Some c) × (ts ≡ word (codes "if") ∷ local c ∷ word (codes "after") ∷ local r.0 ∷ [])
+if_after-sound : (ts : List Lexeme) (r : List ℕ × Option (List ℕ)) → if_after_at ts ≡ Some r → (c : List ℕ) × (r.1 ≡ Some c)
+    × (ts ≡ word (codes "if") ∷ local c ∷ word (codes "after") ∷ local r.0 ∷ [])
 unfolding if_after_at
 if_after-sound ts r p =
     let a = bind_some (word_at (codes "if") ts) _ r p in
     let b = bind_some (local_at a.0) _ r a.2 in
     let c = bind_some (word_at (codes "after") b.0.1) _ r b.2 in
     let d = bind_some (last_local_at c.0) _ r c.2 in
-    let e = word_at-inv (codes "if") ts a.0 a.1 ∙ ap (λ l. word (codes "if") ∷ l) (local_at-inv a.0 b.0 b.1 ∙ ap (λ l. local b.0.0 ∷ l) (word_at-inv (codes "after") b.0.1 c.0 c.1 ∙ ap (λ l. word (codes "after") ∷ l) (last_local-inv c.0 d.0 d.1))) in
+    let e = word_at-inv (codes "if") ts a.0 a.1
+    ∙ ap (λ l. word (codes "if") ∷ l) (local_at-inv a.0 b.0 b.1
+    ∙ ap (λ l. local b.0.0 ∷ l) (word_at-inv (codes "after") b.0.1 c.0 c.1 ∙ ap (λ l. word (codes "after") ∷ l) (last_local-inv c.0 d.0 d.1))) in
     let Q : List ℕ × Option (List ℕ) → Type 0 = λ x. (k : List ℕ) × (x.1 ≡ Some k) × (ts ≡ word (codes "if") ∷ local k ∷ word (codes "after") ∷ local x.0 ∷ []) in
     let q : Q (d.0, Some b.0.0) = (b.0.0, refl, e) in
     subst Q (same_Some (d.0, Some b.0.0) r d.2) q
@@ -158,7 +161,7 @@ drv_at-sound ts i p =
 
 -- registers
 
-triggers-sound : (k : ℕ) (ts : List Lexeme) (r : List Trigger × List Lexeme) → parts_at trigger_at k ts ≡ Some r → SpellsParts SpellsTrigger (map trigger_of r.0) ts r.1
+triggers-sound : (k : ℕ) (ts : List Lexeme) (r : List TriggerSyntax × List Lexeme) → parts_at trigger_at k ts ≡ Some r → SpellsParts SpellsTrigger (map trigger_of r.0) ts r.1
 triggers-sound k ts r p = parts_mapped trigger_of SpellsTrigger r.0 ts r.1 (parts_at-sound trigger_at (λ g us vs. SpellsTrigger (trigger_of g) us vs) trigger_at-sound k ts r p)
 
 reg_at-sound : (ts : List Lexeme) (i : InstText) → reg_at ts ≡ Some i → SpellsInst i (word (codes "reg") ∷ ts)
@@ -172,7 +175,8 @@ reg_at-sound ts i p =
     subst (λ x. SpellsInst x (word (codes "reg") ∷ ts)) (same_Some (reg_text (operand_of a.0.0) (map trigger_of b.0.0)) i c.2) q
 
 -- calls and instances
-operands_at-sound : (ts : List Lexeme) (r : List Operand × List Lexeme) → operands_at ts ≡ Some r → (us : List Lexeme) × (ts ≡ punct 40 ∷ us) × SpellsList SpellsOperand (operands_of r.0) us (punct 41 ∷ r.1)
+operands_at-sound : (ts : List Lexeme) (r : List Operand × List Lexeme) → operands_at ts ≡ Some r → (us : List Lexeme) × (ts ≡ punct 40 ∷ us)
+    × SpellsList SpellsOperand (operands_of r.0) us (punct 41 ∷ r.1)
 unfolding operands_at
 operands_at-sound ts r p =
     let a = bind_some (punct_at 40 ts) _ r p in
@@ -215,7 +219,7 @@ call_at-sound ts i p =
     subst (λ x. SpellsInst x (word (codes "call") ∷ ts)) (same_Some (call_text u.0.0 t.0.0 (operands_of a.0.0)) i d.2) q
 
 -- control
-edges-sound : (k : ℕ) (ts : List Lexeme) (r : List Edge × List Lexeme) → parts_at edge_at k ts ≡ Some r → SpellsParts SpellsEdge (map edge_of r.0) ts r.1
+edges-sound : (k : ℕ) (ts : List Lexeme) (r : List EdgeSyntax × List Lexeme) → parts_at edge_at k ts ≡ Some r → SpellsParts SpellsEdge (map edge_of r.0) ts r.1
 edges-sound k ts r p = parts_mapped edge_of SpellsEdge r.0 ts r.1 (parts_at-sound edge_at (λ g us vs. SpellsEdge (edge_of g) us vs) edge_at-sound k ts r p)
 
 phi_at-sound : (ts : List Lexeme) (i : InstText) → phi_at ts ≡ Some i → SpellsInst i (word (codes "phi") ∷ ts)
@@ -235,7 +239,8 @@ branch_at-sound b us ts i e p =
     let f = bind_some (local_at a.0) _ i a.2 in
     let c = bind_some (punct_at 44 f.0.1) _ i f.2 in
     let d = bind_some (last_local_at c.0) _ i c.2 in
-    let q : SpellsInst (branch_text b f.0.0 d.0) (word (codes "br") ∷ us) = ap (λ l. word (codes "br") ∷ l) (e ∙ ap (λ l. local b ∷ l) (punct_at-inv 44 ts a.0 a.1 ∙ ap (λ l. punct 44 ∷ l) (local_at-inv a.0 f.0 f.1
+    let q : SpellsInst (branch_text b f.0.0 d.0) (word (codes "br") ∷ us) = ap (λ l. word (codes "br") ∷ l)
+    (e ∙ ap (λ l. local b ∷ l) (punct_at-inv 44 ts a.0 a.1 ∙ ap (λ l. punct 44 ∷ l) (local_at-inv a.0 f.0 f.1
     ∙ ap (λ l. local f.0.0 ∷ l) (punct_at-inv 44 f.0.1 c.0 c.1 ∙ ap (λ l. punct 44 ∷ l) (last_local-inv c.0 d.0 d.1))))) in
     subst (λ x. SpellsInst x (word (codes "br") ∷ us)) (same_Some (branch_text b f.0.0 d.0) i d.2) q
 

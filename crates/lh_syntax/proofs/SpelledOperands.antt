@@ -22,8 +22,8 @@ use Rattle.lh_syntax.specs.SyntaxOf.{operand_of, operands_of, trigger_of, edge_o
 use Rattle.lh_syntax.specs.Words.{mode_of}
 use Rattle.lh_syntax.specs.Operands.{typed_at, bare_at, free_at, next_bare_at, next_free_at, one_at, two_at, shift_at, columns_at, maybe_or, maybe_at, trigger_at, edge_at, param_at}
 use Rattle.lh_syntax.specs.declared.syntax.Operand.{Operand}
-use Rattle.lh_syntax.specs.declared.syntax.Trigger.{Trigger}
-use Rattle.lh_syntax.specs.declared.syntax.Edge.{Edge}
+use Rattle.lh_syntax.specs.declared.syntax.TriggerSyntax.{TriggerSyntax}
+use Rattle.lh_syntax.specs.declared.syntax.EdgeSyntax.{EdgeSyntax}
 use Rattle.lh_syntax.specs.declared.words.Columns.{Columns}
 use Rattle.lh_syntax.specs.declared.words.Columns.TheVariants as written
 use Rattle.lh_syntax.proofs.SpelledWords.{mode_of-sound, mode_of-again, columns_of}
@@ -175,13 +175,14 @@ maybe_at-sound keyword ts r p = by (word_at keyword ts) refl p
         let t : SpellsMaybe keyword (Some b.0.0) ts b.0.1 = word_at-inv keyword ts us e ∙ ap (λ l. word keyword ∷ l) (local_at-inv us b.0 b.1) in
         subst (λ (x : Option (List ℕ) × List Lexeme). SpellsMaybe keyword x.0 ts x.1) (same_Some _ r b.2) t
 
-pub maybe_at-again : (keyword : List ℕ) → pointwise nat_eq keyword keyword ≡ true → (o : Option (List ℕ)) (ts us : List Lexeme) → SpellsMaybe keyword o ts us → word_at keyword us ≡ None → maybe_at keyword ts ≡ Some (o, us)
+pub maybe_at-again : (keyword : List ℕ) → pointwise nat_eq keyword keyword ≡ true → (o : Option (List ℕ)) (ts us : List Lexeme) → SpellsMaybe keyword o ts us → word_at keyword us ≡ None
+    → maybe_at keyword ts ≡ Some (o, us)
 unfolding maybe_at
 maybe_at-again keyword same None ts us s h = ap (maybe_at keyword) s ∙ ap (maybe_or us) h
 maybe_at-again keyword same (Some n) ts us s h = ap (maybe_at keyword) s ∙ ap (λ b. maybe_or (word keyword ∷ local n ∷ us) (if b then Some (local n ∷ us) else None)) same
 
 -- `[%v, mode %t if %g after %d]`
-pub trigger_at-sound : (ts : List Lexeme) (r : Trigger × List Lexeme) → trigger_at ts ≡ Some r → SpellsTrigger (trigger_of r.0) ts r.1
+pub trigger_at-sound : (ts : List Lexeme) (r : TriggerSyntax × List Lexeme) → trigger_at ts ≡ Some r → SpellsTrigger (trigger_of r.0) ts r.1
 unfolding trigger_at
 trigger_at-sound ts r p =
     let a = bind_some (punct_at 91 ts) _ r p in
@@ -197,7 +198,7 @@ trigger_at-sound ts r p =
     w.0.0 w.0.1 (any_word_at-inv b.0 w.0 w.1) (mode_word m.0) (mode_of-sound w.0.0 m.0 m.1) t.0.0 t.0.1 (local_at-inv w.0.1 t.0 t.1) in
     let f = subst (SpellsMaybe (codes "after") d.0.0 g.0.1) (punct_at-inv 93 d.0.1 z.0 z.1) (maybe_at-sound (codes "after") g.0.1 d.0 d.1) in
     let s : SpellsTrigger (record { value = v.0.0; mode = m.0; trigger = t.0.0; gate = g.0.0; after = d.0.0 }) ts z.0 = (t.0.1, g.0.1, e, maybe_at-sound (codes "if") t.0.1 g.0 g.1, f) in
-    subst (λ (x : Trigger × List Lexeme). SpellsTrigger (trigger_of x.0) ts x.1) (same_Some _ r z.2) s
+    subst (λ (x : TriggerSyntax × List Lexeme). SpellsTrigger (trigger_of x.0) ts x.1) (same_Some _ r z.2) s
   where
     opened : (ts rest : List Lexeme) → ts ≡ punct 91 ∷ rest → (v : List ℕ) (vs : List Lexeme) → rest ≡ local v ∷ vs → (bs : List Lexeme) → vs ≡ punct 44 ∷ bs
         → (w : List ℕ) (ws : List Lexeme) → bs ≡ word w ∷ ws → (m : List ℕ) → w ≡ m → (t : List ℕ) (us : List Lexeme) → ws ≡ local t ∷ us
@@ -211,21 +212,23 @@ no_gate None ts more s = ap (word_at (codes "if")) s
 no_gate (Some n) ts more s = ap (word_at (codes "if")) s
 
 -- a trigger as the program holds it
-abbrev pub trigger_as : TriggerText → Trigger
+abbrev pub trigger_as : TriggerText → TriggerSyntax
 trigger_as g = record { value = g.value; mode = g.mode; trigger = g.trigger; gate = g.gate; after = g.after }
 
 pub trigger_at-again : (g : TriggerText) (ts us : List Lexeme) → SpellsTrigger g ts us → trigger_at ts ≡ Some (trigger_as g, us)
 unfolding trigger_at
 trigger_at-again g ts us s =
     ap trigger_at s.2
-    ∙ ap (λ o. o >>= λ m. (maybe_at (codes "if") s.0 >>= λ c. (maybe_at (codes "after") c.1 >>= λ d. (punct_at 93 d.1 >>= λ z. Some (record { value = g.value; mode = m; trigger = g.trigger; gate = c.0; after = d.0 }, z))))) (mode_of-again g.mode)
+    ∙ ap (λ o. o >>= λ m. (maybe_at (codes "if") s.0
+    >>= λ c. (maybe_at (codes "after") c.1 >>= λ d. (punct_at 93 d.1 >>= λ z. Some (record { value = g.value; mode = m; trigger = g.trigger; gate = c.0; after = d.0 }, z)))))
+    (mode_of-again g.mode)
     ∙ ap (λ o. o >>= λ c. (maybe_at (codes "after") c.1 >>= λ d. (punct_at 93 d.1 >>= λ z. Some (record { value = g.value; mode = g.mode; trigger = g.trigger; gate = c.0; after = d.0 }, z))))
     (maybe_at-again (codes "if") refl g.gate s.0 s.1 s.3 (no_gate g.after s.1 us s.4))
     ∙ ap (λ o. o >>= λ d. (punct_at 93 d.1 >>= λ z. Some (record { value = g.value; mode = g.mode; trigger = g.trigger; gate = g.gate; after = d.0 }, z)))
     (maybe_at-again (codes "after") refl g.after s.1 (punct 93 ∷ us) s.4 refl)
 
 -- `[%v, %b]`
-pub edge_at-sound : (ts : List Lexeme) (r : Edge × List Lexeme) → edge_at ts ≡ Some r → SpellsEdge (edge_of r.0) ts r.1
+pub edge_at-sound : (ts : List Lexeme) (r : EdgeSyntax × List Lexeme) → edge_at ts ≡ Some r → SpellsEdge (edge_of r.0) ts r.1
 unfolding edge_at
 edge_at-sound ts r p =
     let a = bind_some (punct_at 91 ts) _ r p in
@@ -236,10 +239,10 @@ edge_at-sound ts r p =
     let s : SpellsEdge (record { value = v.0.0; block = l.0.0 }) ts z.0 =
     punct_at-inv 91 ts a.0 a.1 ∙ ap (λ x. punct 91 ∷ x) (local_at-inv a.0 v.0 v.1 ∙ ap (λ x. local v.0.0 ∷ x) (punct_at-inv 44 v.0.1 b.0 b.1
     ∙ ap (λ x. punct 44 ∷ x) (local_at-inv b.0 l.0 l.1 ∙ ap (λ x. local l.0.0 ∷ x) (punct_at-inv 93 l.0.1 z.0 z.1)))) in
-    subst (λ (x : Edge × List Lexeme). SpellsEdge (edge_of x.0) ts x.1) (same_Some _ r z.2) s
+    subst (λ (x : EdgeSyntax × List Lexeme). SpellsEdge (edge_of x.0) ts x.1) (same_Some _ r z.2) s
 
 -- an edge as the program holds it
-abbrev pub edge_as : EdgeText → Edge
+abbrev pub edge_as : EdgeText → EdgeSyntax
 edge_as e = record { value = e.value; block = e.block }
 
 pub edge_at-again : (e : EdgeText) (ts us : List Lexeme) → SpellsEdge e ts us → edge_at ts ≡ Some (edge_as e, us)

@@ -46,7 +46,8 @@ two_numbers-sound ts r p =
     subst (λ (x : ℕ × ℕ). SpellsBehind SpellsNumber (x.0 ∷ x.1 ∷ []) ts []) (same_Some (a.0.0, b.0) r b.2) s
 
 -- the operation with its numbers is spelled, where its word and its operands stand before them
-numbered-sound : (o p : Op) (w : List ℕ) (args : List OperandText) (us vs : List Lexeme) → HasWord o → IsOpWord o w → SpellsColumns (columns o) args us vs → numbered_at o vs ≡ Some p → SpellsPure p args (word w ∷ us)
+numbered-sound : (o p : Op) (w : List ℕ) (args : List OperandText) (us vs : List Lexeme) → HasWord o → IsOpWord o w → SpellsColumns (columns o) args us vs → numbered_at o vs ≡ Some p
+    → SpellsPure p args (word w ∷ us)
 numbered-sound (op.Extf k) p w args us vs h e s q =
     let a = bind_some (one_number_at vs) _ p q in
     subst (λ x. SpellsPure x args (word w ∷ us)) (same_Some (op.Extf a.0) p a.2) (w, us, vs, refl, e, s, one_number-sound vs a.0 a.1)
@@ -92,7 +93,8 @@ numbered-again (op.Inss at len) vs s = ap (λ o. o >>= λ r. Some (op.Inss r.0 r
 numbered-again o vs s = ap (λ l. end_at l >>= λ _. Some o) s
 
 -- an operation is found behind its word
-pub word_op-again : (o : Op) (args : List OperandText) (w : List ℕ) (us vs : List Lexeme) → HasWord o → IsOpWord o w → SpellsColumns (columns o) args us vs → SpellsBehind SpellsNumber (op_numbers o) vs []
+pub word_op-again : (o : Op) (args : List OperandText) (w : List ℕ) (us vs : List Lexeme) → HasWord o → IsOpWord o w → SpellsColumns (columns o) args us vs
+    → SpellsBehind SpellsNumber (op_numbers o) vs []
     → worded_at w us ≡ Some (pure_text o args)
 unfolding worded_at word_op_at
 word_op-again o args w us vs h e s n =

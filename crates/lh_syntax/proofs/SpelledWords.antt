@@ -195,11 +195,41 @@ form_of-sound w f p = found-each IsFormRow form_rows w f (form_rows-told form_ro
 
 -- the operation with 0 in place of each number
 abbrev pub unnumbered : Op → Op
+unnumbered op.Not = op.Not
+unnumbered op.Neg = op.Neg
+unnumbered op.Add = op.Add
+unnumbered op.Sub = op.Sub
+unnumbered op.Umul = op.Umul
+unnumbered op.Smul = op.Smul
+unnumbered op.Udiv = op.Udiv
+unnumbered op.Sdiv = op.Sdiv
+unnumbered op.Umod = op.Umod
+unnumbered op.Smod = op.Smod
+unnumbered op.Urem = op.Urem
+unnumbered op.Srem = op.Srem
+unnumbered op.And = op.And
+unnumbered op.Or = op.Or
+unnumbered op.Xor = op.Xor
+unnumbered op.Eq = op.Eq
+unnumbered op.Neq = op.Neq
+unnumbered op.Slt = op.Slt
+unnumbered op.Sgt = op.Sgt
+unnumbered op.Sle = op.Sle
+unnumbered op.Sge = op.Sge
+unnumbered op.Ult = op.Ult
+unnumbered op.Ugt = op.Ugt
+unnumbered op.Ule = op.Ule
+unnumbered op.Uge = op.Uge
+unnumbered op.Shl = op.Shl
+unnumbered op.Shr = op.Shr
+unnumbered op.Mux = op.Mux
 unnumbered (op.Extf k) = op.Extf 0
 unnumbered (op.Exts at len) = op.Exts 0 0
 unnumbered (op.Insf k) = op.Insf 0
 unnumbered (op.Inss at len) = op.Inss 0 0
-unnumbered o = o
+unnumbered op.Array = op.Array
+unnumbered (op.Repeat n) = op.Repeat n
+unnumbered op.Tuple = op.Tuple
 
 -- each word of an operation is found
 pub op_found : (o : Op) (w : List ℕ) → HasWord o → IsOpWord o w → form_of w ≡ Some (form.Op (unnumbered o) (written_as o))

@@ -7,8 +7,8 @@ use Rattle.lh_scan.specs.Pieces.{◌>>=◌, word_at, any_word_at, local_at, punc
 use Rattle.lh_scan.specs.Types.{type_at}
 use Rattle.lh_syntax.specs.Words.{mode_of}
 use Rattle.lh_syntax.specs.declared.syntax.Operand.{Operand}
-use Rattle.lh_syntax.specs.declared.syntax.Trigger.{Trigger}
-use Rattle.lh_syntax.specs.declared.syntax.Edge.{Edge}
+use Rattle.lh_syntax.specs.declared.syntax.TriggerSyntax.{TriggerSyntax}
+use Rattle.lh_syntax.specs.declared.syntax.EdgeSyntax.{EdgeSyntax}
 use Rattle.lh_syntax.specs.declared.words.Columns.{Columns}
 use Rattle.lh_syntax.specs.declared.words.Columns.TheVariants as columns
 
@@ -79,7 +79,7 @@ unfoldable pub maybe_at : List ℕ → List Lexeme → Option (Option (List ℕ)
 maybe_at keyword ts = maybe_or ts (word_at keyword ts)
 
 -- `[%v, mode %t if %g after %d]`
-unfoldable pub trigger_at : List Lexeme → Option (Trigger × List Lexeme)
+unfoldable pub trigger_at : List Lexeme → Option (TriggerSyntax × List Lexeme)
 trigger_at ts = do
   a ← punct_at 91 ts
   v ← local_at a
@@ -93,7 +93,7 @@ trigger_at ts = do
   Some (record { value = v.0; mode = m; trigger = t.0; gate = g.0; after = d.0 }, z)
 
 -- `[%v, %b]`
-unfoldable pub edge_at : List Lexeme → Option (Edge × List Lexeme)
+unfoldable pub edge_at : List Lexeme → Option (EdgeSyntax × List Lexeme)
 edge_at ts = do
   a ← punct_at 91 ts
   v ← local_at a

@@ -11,8 +11,8 @@ use Rattle.lh_scan.specs.Shorter.{bind_some, word_at-shorter, any_word_at-shorte
 use Rattle.lh_syntax.specs.Words.{mode_of}
 use Rattle.lh_syntax.specs.Operands.{typed_at, bare_at, free_at, maybe_or, maybe_at, trigger_at, edge_at, param_at}
 use Rattle.lh_syntax.specs.declared.syntax.Operand.{Operand}
-use Rattle.lh_syntax.specs.declared.syntax.Trigger.{Trigger}
-use Rattle.lh_syntax.specs.declared.syntax.Edge.{Edge}
+use Rattle.lh_syntax.specs.declared.syntax.TriggerSyntax.{TriggerSyntax}
+use Rattle.lh_syntax.specs.declared.syntax.EdgeSyntax.{EdgeSyntax}
 
 typed_at-shorter : (ts : List Lexeme) (r : Operand × List Lexeme) → typed_at ts ≡ Some r → length r.1 < length ts
 unfolding typed_at
@@ -59,7 +59,7 @@ down8 a b c d e f g h i p q r s t u v w = omega arith
 down5 : (a b c d e f : ℕ) → b < a → c < b → d < c → e < d → f < e → f < a
 down5 a b c d e f p q r s t = omega arith
 
-trigger_rest-shorter : (ts : List Lexeme) (r : Trigger × List Lexeme) → trigger_at ts ≡ Some r → length r.1 < length ts
+trigger_rest-shorter : (ts : List Lexeme) (r : TriggerSyntax × List Lexeme) → trigger_at ts ≡ Some r → length r.1 < length ts
 unfolding trigger_at
 trigger_rest-shorter ts r p =
     let a = bind_some (punct_at 91 ts) _ r p in
@@ -71,15 +71,15 @@ trigger_rest-shorter ts r p =
     let g = bind_some (maybe_at (codes "if") t.0.1) _ r t.2 in
     let d = bind_some (maybe_at (codes "after") g.0.1) _ r g.2 in
     let z = bind_some (punct_at 93 d.0.1) _ r d.2 in
-    subst (λ (x : Trigger × List Lexeme). length x.1 < length ts) (same_Some _ r z.2)
+    subst (λ (x : TriggerSyntax × List Lexeme). length x.1 < length ts) (same_Some _ r z.2)
     (down8 (length ts) (length a.0) (length v.0.1) (length b.0) (length w.0.1) (length t.0.1) (length g.0.1) (length d.0.1) (length z.0)
     (punct_at-shorter 91 ts a.0 a.1) (local_at-shorter a.0 v.0 v.1) (punct_at-shorter 44 v.0.1 b.0 b.1) (any_word_at-shorter b.0 w.0 w.1) (local_at-shorter w.0.1 t.0 t.1)
     (maybe_at-shorter (codes "if") t.0.1 g.0 g.1) (maybe_at-shorter (codes "after") g.0.1 d.0 d.1) (punct_at-shorter 93 d.0.1 z.0 z.1))
 
-pub trigger_at-shorter : (ts : List Lexeme) (a : Trigger) (us : List Lexeme) → trigger_at ts ≡ Some (a, us) → length us < length ts
+pub trigger_at-shorter : (ts : List Lexeme) (a : TriggerSyntax) (us : List Lexeme) → trigger_at ts ≡ Some (a, us) → length us < length ts
 trigger_at-shorter ts a us p = trigger_rest-shorter ts (a, us) p
 
-edge_rest-shorter : (ts : List Lexeme) (r : Edge × List Lexeme) → edge_at ts ≡ Some r → length r.1 < length ts
+edge_rest-shorter : (ts : List Lexeme) (r : EdgeSyntax × List Lexeme) → edge_at ts ≡ Some r → length r.1 < length ts
 unfolding edge_at
 edge_rest-shorter ts r p =
     let a = bind_some (punct_at 91 ts) _ r p in
@@ -87,11 +87,11 @@ edge_rest-shorter ts r p =
     let b = bind_some (punct_at 44 v.0.1) _ r v.2 in
     let l = bind_some (local_at b.0) _ r b.2 in
     let z = bind_some (punct_at 93 l.0.1) _ r l.2 in
-    subst (λ (x : Edge × List Lexeme). length x.1 < length ts) (same_Some _ r z.2)
+    subst (λ (x : EdgeSyntax × List Lexeme). length x.1 < length ts) (same_Some _ r z.2)
     (down5 (length ts) (length a.0) (length v.0.1) (length b.0) (length l.0.1) (length z.0)
     (punct_at-shorter 91 ts a.0 a.1) (local_at-shorter a.0 v.0 v.1) (punct_at-shorter 44 v.0.1 b.0 b.1) (local_at-shorter b.0 l.0 l.1) (punct_at-shorter 93 l.0.1 z.0 z.1))
 
-pub edge_at-shorter : (ts : List Lexeme) (a : Edge) (us : List Lexeme) → edge_at ts ≡ Some (a, us) → length us < length ts
+pub edge_at-shorter : (ts : List Lexeme) (a : EdgeSyntax) (us : List Lexeme) → edge_at ts ≡ Some (a, us) → length us < length ts
 edge_at-shorter ts a us p = edge_rest-shorter ts (a, us) p
 
 param_rest-shorter : (ts : List Lexeme) (r : TypedName × List Lexeme) → param_at ts ≡ Some r → length r.1 < length ts

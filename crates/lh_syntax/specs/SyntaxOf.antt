@@ -7,8 +7,8 @@ use Rattle.lh_unit.specs.declared.inst.UnitKind.TheVariants as kind
 use Rattle.lh_unit.specs.declared.inst.Declare.TheVariants as declare
 use Rattle.lh_scan.specs.LexemeOf.{unit_name_of}
 use Rattle.lh_syntax.specs.declared.syntax.Operand.{Operand}
-use Rattle.lh_syntax.specs.declared.syntax.Trigger.{Trigger}
-use Rattle.lh_syntax.specs.declared.syntax.Edge.{Edge}
+use Rattle.lh_syntax.specs.declared.syntax.TriggerSyntax.{TriggerSyntax}
+use Rattle.lh_syntax.specs.declared.syntax.EdgeSyntax.{EdgeSyntax}
 use Rattle.lh_syntax.specs.declared.syntax.Ports.{Ports}
 use Rattle.lh_syntax.specs.declared.syntax.InstSyntax.{InstSyntax}
 use Rattle.lh_syntax.specs.declared.syntax.InstSyntax.TheVariants as inst
@@ -25,10 +25,10 @@ abbrev pub maybe_operand_of : Option Operand → Option OperandText
 maybe_operand_of None = None
 maybe_operand_of (Some o) = Some (operand_of o)
 
-abbrev pub trigger_of : Trigger → TriggerText
+abbrev pub trigger_of : TriggerSyntax → TriggerText
 trigger_of t = record { value = t.value; mode = t.mode; trigger = t.trigger; gate = t.gate; after = t.after }
 
-abbrev pub edge_of : Edge → EdgeText
+abbrev pub edge_of : EdgeSyntax → EdgeText
 edge_of e = record { value = e.value; block = e.block }
 
 abbrev pub inst_of : InstSyntax → InstText

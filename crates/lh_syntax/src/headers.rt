@@ -1,7 +1,7 @@
 //! The heads of units, and units that are defined elsewhere.
 ghost use Rattle.std.specs.Prelude.{◌≡◌};
-ghost use Rattle.lh_types.specs.TypeTests.{is_value_type as value_type, is_signal as signal};
-ghost use Rattle.lh_scan.specs.Found.{Finds, FindsAs};
+ghost use Rattle.lh_types.specs.TypeTests as spec;
+ghost use Rattle.lh_scan.specs.Found.{ReadsAsFound, FindsAs};
 ghost use Rattle.lh_scan.specs.LexemeOf.{unit_name_of};
 ghost use Rattle.lh_syntax.specs.SyntaxOf.{ports_of, item_of};
 ghost use Rattle.lh_syntax.specs.Headers.{is_result_type as result_type, each, are_values, are_ports, params_at, types_at, brace_at, func_at, ports_at, unit_at, declare_func_at, declare_unit_at, declare_at, head_at};
@@ -58,7 +58,7 @@ fn have_signals(mut params: &[Param]) -> bool
 
 /// Whether each is a data type or `time`.
 fn are_value_types(mut types: &[Ty]) -> bool
-    ensures { result ≡ each value_type types.entry.now }
+    ensures { result ≡ each spec.is_value_type types.entry.now }
 {
     while let [ty, rest @ ..] = types {
         if !ty.is_value_type() {
@@ -71,7 +71,7 @@ fn are_value_types(mut types: &[Ty]) -> bool
 
 /// Whether each is the type of a signal.
 fn are_signals(mut types: &[Ty]) -> bool
-    ensures { result ≡ each signal types.entry.now }
+    ensures { result ≡ each spec.is_signal types.entry.now }
 {
     while let [ty, rest @ ..] = types {
         if !ty.is_signal() {
@@ -88,7 +88,7 @@ fn params<'a>(
     alloc: Global,
     tokens: &Tokens<'a>,
 ) -> Result<(ListOf<Param<'a>>, Tokens<'a>), ScanFault>
-    ensures { Finds result (params_at tokens.now) }
+    ensures { ReadsAsFound result (params_at tokens.now) }
 {
     let rest = tokens.punct(b'(').ok_or(NotSpelled)?;
     let (params, rest) = list(alloc, &rest, b')')?;
@@ -99,7 +99,7 @@ fn params<'a>(
 /// `(T1, ..)`, and what follows it.
 #[tactic(auto, unfolding(crate::specs::Headers::types_at))]
 fn types<'a>(alloc: Global, tokens: &Tokens<'a>) -> Result<(TyList, Tokens<'a>), ScanFault>
-    ensures { Finds result (types_at tokens.now) }
+    ensures { ReadsAsFound result (types_at tokens.now) }
 {
     let rest = tokens.punct(b'(').ok_or(NotSpelled)?;
     let (types, rest) = list::<Ty>(alloc, &rest, b')')?;

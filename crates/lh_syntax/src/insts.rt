@@ -1,6 +1,6 @@
 //! The instructions, behind `%r = ` where that stands.
 ghost use Rattle.std.specs.Prelude.{◌≡◌, option_map};
-ghost use Rattle.lh_scan.specs.Found.{Finds, FindsAs};
+ghost use Rattle.lh_scan.specs.Found.{ReadsAsFound, FindsAs};
 ghost use Rattle.lh_types.specs.ValueOf.{datum_of};
 ghost use Rattle.lh_syntax.specs.SyntaxOf.{inst_of};
 ghost use Rattle.lh_syntax.specs.Insts.{constant_at, const_at, last_typed_at, last_local_at, var_at, ld_at, sig_at, prb_at, target_at, st_at, after_at, if_after_at, delay_at, drv_at, reg_at, operands_at, child_at, call_at, phi_at, branch_at, br_at, wait_at, halt_at, ret_at, form_at, worded_at, marked_at, inst_at};
@@ -50,7 +50,7 @@ fn const_inst<'a>(alloc: Global, tokens: &Tokens<'a>) -> InstAt<'a>
 /// `T %a` at the end of the line.
 #[tactic(auto, unfolding(crate::specs::Insts::last_typed_at))]
 fn last_typed<'a>(alloc: Global, tokens: &Tokens<'a>) -> Result<Operand<'a>, ScanFault>
-    ensures { Finds result (last_typed_at tokens.now) }
+    ensures { ReadsAsFound result (last_typed_at tokens.now) }
 {
     let (operand, rest) = typed(alloc, tokens)?;
     rest.end().ok_or(NotSpelled)?;
@@ -106,7 +106,7 @@ fn prb<'a>(alloc: Global, tokens: &Tokens<'a>) -> InstAt<'a>
 /// `T %a,`, and what follows it.
 #[tactic(auto, unfolding(crate::specs::Insts::target_at))]
 fn target<'a>(alloc: Global, tokens: &Tokens<'a>) -> Result<(Operand<'a>, Tokens<'a>), ScanFault>
-    ensures { Finds result (target_at tokens.now) }
+    ensures { ReadsAsFound result (target_at tokens.now) }
 {
     let (operand, rest) = typed(alloc, tokens)?;
     let rest = rest.punct(b',').ok_or(NotSpelled)?;
@@ -189,7 +189,7 @@ fn reg<'a>(alloc: Global, tokens: &Tokens<'a>) -> InstAt<'a>
 /// Operands in parentheses, and what follows them.
 #[tactic(auto, unfolding(crate::specs::Insts::operands_at))]
 fn operands<'a>(alloc: Global, tokens: &Tokens<'a>) -> OperandsAt<'a>
-    ensures { Finds result (operands_at tokens.now) }
+    ensures { ReadsAsFound result (operands_at tokens.now) }
 {
     let rest = tokens.punct(b'(').ok_or(NotSpelled)?;
     let (operands, rest) = list(alloc, &rest, b')')?;

@@ -1,7 +1,7 @@
 //! What the tokens of a line say.
 ghost use Rattle.std.specs.Prelude.{◌≡◌, option_map};
 ghost use Rattle.lh_scan.specs.Found.{FindsAs};
-ghost use Rattle.lh_unit.specs.SpellsInst.{gives_value as gives, may_stand_alone as stands_alone};
+ghost use Rattle.lh_unit.specs.SpellsInst as spec;
 ghost use Rattle.lh_syntax.specs.SyntaxOf.{inst_of, item_of};
 ghost use Rattle.lh_syntax.specs.Items.{label_at, word_label_at, assigned_at, alone_at, behind_local_at, behind_word_at, close_at, item_at};
 
@@ -15,7 +15,7 @@ use std::alloc::Global;
 
 /// Whether the instruction gives a value.
 fn gives_value(inst: &InstSyntax) -> bool
-    ensures { result ≡ gives (inst_of inst.now) }
+    ensures { result ≡ spec.gives_value (inst_of inst.now) }
 {
     match inst {
         InstSyntax::Const(_)
@@ -32,7 +32,7 @@ fn gives_value(inst: &InstSyntax) -> bool
 
 /// Whether it may stand without `%r = `: what gives no value, and every call.
 fn may_stand_alone(inst: &InstSyntax) -> bool
-    ensures { result ≡ stands_alone (inst_of inst.now) }
+    ensures { result ≡ spec.may_stand_alone (inst_of inst.now) }
 {
     match inst {
         InstSyntax::Call { .. } => true,

@@ -1,9 +1,9 @@
 //! The operands in front of the tokens, and the other parts of which lists are made.
 ghost use Rattle.std.specs.Prelude.{◌≡◌};
-ghost use Rattle.lh_scan.specs.Found.{Finds};
+ghost use Rattle.lh_scan.specs.Found.{ReadsAsFound};
 ghost use Rattle.lh_syntax.specs.Operands.{typed_at, bare_at, free_at, one_at, next_bare_at, next_free_at, two_at, shift_at, columns_at, maybe_at, trigger_at, edge_at, param_at};
 
-use crate::syntax::{Edge, Operand, Param, Trigger};
+use crate::syntax::{EdgeSyntax, Operand, Param, TriggerSyntax};
 use crate::words::{Columns, find_mode};
 use lh_scan::fault::ScanFault::{self, NotSpelled};
 use lh_scan::list::Part;
@@ -18,7 +18,7 @@ pub type OperandsAt<'a> = Result<(ListOf<Operand<'a>>, Tokens<'a>), ScanFault>;
 /// `T %a`, and what follows it.
 #[tactic(auto, unfolding(crate::specs::Operands::typed_at))]
 pub fn typed<'a>(alloc: Global, tokens: &Tokens<'a>) -> Result<(Operand<'a>, Tokens<'a>), ScanFault>
-    ensures { Finds result (typed_at tokens.now) }
+    ensures { ReadsAsFound result (typed_at tokens.now) }
 {
     let (ty, rest) = ty(alloc, tokens)?;
     let (value, rest) = rest.local().ok_or(NotSpelled)?;
@@ -38,7 +38,7 @@ pub fn bare<'a>(tokens: &Tokens<'a>) -> Option<(Operand<'a>, Tokens<'a>)>
 /// `?T %a`, and what follows it.
 #[tactic(auto, unfolding(crate::specs::Operands::free_at))]
 pub fn free<'a>(alloc: Global, tokens: &Tokens<'a>) -> Result<(Operand<'a>, Tokens<'a>), ScanFault>
-    ensures { Finds result (free_at tokens.now) }
+    ensures { ReadsAsFound result (free_at tokens.now) }
 {
     if let Some(operand) = bare(tokens) {
         return Ok(operand);
@@ -62,7 +62,7 @@ impl<'a> Part<'a> for Operand<'a> {
 /// `D %a`, and what follows it.
 #[tactic(auto, unfolding(crate::specs::Operands::one_at))]
 fn one<'a>(alloc: Global, tokens: &Tokens<'a>) -> OperandsAt<'a>
-    ensures { Finds result (one_at tokens.now) }
+    ensures { ReadsAsFound result (one_at tokens.now) }
 {
     let (a, rest) = typed(alloc, tokens)?;
     let mut operands = ListOf::new(alloc);
@@ -81,7 +81,7 @@ fn next_bare<'a>(tokens: &Tokens<'a>) -> Option<(Operand<'a>, Tokens<'a>)>
 /// `D %a, %b`, and what follows it.
 #[tactic(auto, unfolding(crate::specs::Operands::two_at))]
 fn two<'a>(alloc: Global, tokens: &Tokens<'a>) -> OperandsAt<'a>
-    ensures { Finds result (two_at tokens.now) }
+    ensures { ReadsAsFound result (two_at tokens.now) }
 {
     let (a, rest) = typed(alloc, tokens)?;
     let (b, rest) = next_bare(&rest).ok_or(NotSpelled)?;
@@ -93,7 +93,7 @@ fn two<'a>(alloc: Global, tokens: &Tokens<'a>) -> OperandsAt<'a>
 
 /// `, ?%a`, and what follows it.
 fn next_free<'a>(alloc: Global, tokens: &Tokens<'a>) -> Result<(Operand<'a>, Tokens<'a>), ScanFault>
-    ensures { Finds result (next_free_at tokens.now) }
+    ensures { ReadsAsFound result (next_free_at tokens.now) }
 {
     let rest = tokens.punct(b',').ok_or(NotSpelled)?;
     free(alloc, &rest)
@@ -102,7 +102,7 @@ fn next_free<'a>(alloc: Global, tokens: &Tokens<'a>) -> Result<(Operand<'a>, Tok
 /// `D %b, ?%h, ?%n`, and what follows it.
 #[tactic(auto, unfolding(crate::specs::Operands::shift_at))]
 fn shift<'a>(alloc: Global, tokens: &Tokens<'a>) -> OperandsAt<'a>
-    ensures { Finds result (shift_at tokens.now) }
+    ensures { ReadsAsFound result (shift_at tokens.now) }
 {
     let (base, rest) = typed(alloc, tokens)?;
     let (hidden, rest) = next_free(alloc, &rest)?;
@@ -116,7 +116,7 @@ fn shift<'a>(alloc: Global, tokens: &Tokens<'a>) -> OperandsAt<'a>
 
 /// The operands of an operation, and what follows them.
 pub fn columns<'a>(alloc: Global, columns: Columns, tokens: &Tokens<'a>) -> OperandsAt<'a>
-    ensures { Finds result (columns_at columns tokens.now) }
+    ensures { ReadsAsFound result (columns_at columns tokens.now) }
 {
     match columns {
         Columns::One => one(alloc, tokens),
@@ -141,7 +141,7 @@ pub fn maybe<'a>(keyword: &[u8], tokens: &Tokens<'a>) -> Option<(Option<NameText
 
 /// `[%v, mode %t if %g after %d]`, and what follows it.
 #[tactic(auto, unfolding(crate::specs::Operands::trigger_at))]
-fn trigger<'a>(tokens: &Tokens<'a>) -> Option<(Trigger<'a>, Tokens<'a>)>
+fn trigger<'a>(tokens: &Tokens<'a>) -> Option<(TriggerSyntax<'a>, Tokens<'a>)>
     ensures { result ≡ trigger_at tokens.now }
 {
     let (value, rest) = tokens.punct(b'[')?.local()?;
@@ -151,7 +151,7 @@ fn trigger<'a>(tokens: &Tokens<'a>) -> Option<(Trigger<'a>, Tokens<'a>)>
     let (gate, rest) = maybe(b"if", &rest)?;
     let (after, rest) = maybe(b"after", &rest)?;
     let rest = rest.punct(b']')?;
-    let trigger = Trigger {
+    let trigger = TriggerSyntax {
         value,
         mode,
         trigger,
@@ -161,13 +161,16 @@ fn trigger<'a>(tokens: &Tokens<'a>) -> Option<(Trigger<'a>, Tokens<'a>)>
     Some((trigger, rest))
 }
 
-impl<'a> Part<'a> for Trigger<'a> {
+impl<'a> Part<'a> for TriggerSyntax<'a> {
     ghost use Rattle.lh_syntax.specs.Operands.{trigger_at};
     ghost use Rattle.lh_syntax.specs.Shorter.{trigger_at-shorter};
 
     ghost part_at = { trigger_at };
 
-    fn part(alloc: Global, tokens: &Tokens<'a>) -> Result<(Trigger<'a>, Tokens<'a>), ScanFault> {
+    fn part(
+        alloc: Global,
+        tokens: &Tokens<'a>,
+    ) -> Result<(TriggerSyntax<'a>, Tokens<'a>), ScanFault> {
         trigger(tokens).ok_or(NotSpelled)
     }
 
@@ -176,22 +179,22 @@ impl<'a> Part<'a> for Trigger<'a> {
 
 /// `[%v, %b]`, and what follows it.
 #[tactic(auto, unfolding(crate::specs::Operands::edge_at))]
-fn edge<'a>(tokens: &Tokens<'a>) -> Option<(Edge<'a>, Tokens<'a>)>
+fn edge<'a>(tokens: &Tokens<'a>) -> Option<(EdgeSyntax<'a>, Tokens<'a>)>
     ensures { result ≡ edge_at tokens.now }
 {
     let (value, rest) = tokens.punct(b'[')?.local()?;
     let (block, rest) = rest.punct(b',')?.local()?;
     let rest = rest.punct(b']')?;
-    Some((Edge { value, block }, rest))
+    Some((EdgeSyntax { value, block }, rest))
 }
 
-impl<'a> Part<'a> for Edge<'a> {
+impl<'a> Part<'a> for EdgeSyntax<'a> {
     ghost use Rattle.lh_syntax.specs.Operands.{edge_at};
     ghost use Rattle.lh_syntax.specs.Shorter.{edge_at-shorter};
 
     ghost part_at = { edge_at };
 
-    fn part(alloc: Global, tokens: &Tokens<'a>) -> Result<(Edge<'a>, Tokens<'a>), ScanFault> {
+    fn part(alloc: Global, tokens: &Tokens<'a>) -> Result<(EdgeSyntax<'a>, Tokens<'a>), ScanFault> {
         edge(tokens).ok_or(NotSpelled)
     }
 

@@ -18,7 +18,7 @@ pub struct Operand<'a> {
 
 /// One trigger of a register.
 #[derive(Drop)]
-pub struct Trigger<'a> {
+pub struct TriggerSyntax<'a> {
     pub value: NameText<'a>,
     pub mode: Mode,
     pub trigger: NameText<'a>,
@@ -28,7 +28,7 @@ pub struct Trigger<'a> {
 
 /// The value that a `phi` takes where control came from this block.
 #[derive(Drop)]
-pub struct Edge<'a> {
+pub struct EdgeSyntax<'a> {
     pub value: NameText<'a>,
     pub block: NameText<'a>,
 }
@@ -101,7 +101,7 @@ pub enum InstSyntax<'a> {
     /// `reg`
     Reg {
         to: Operand<'a>,
-        triggers: ListOf<Trigger<'a>>,
+        triggers: ListOf<TriggerSyntax<'a>>,
     },
     /// `inst`
     Child {
@@ -118,7 +118,7 @@ pub enum InstSyntax<'a> {
     /// `phi`
     Phi {
         ty: Ty,
-        edges: ListOf<Edge<'a>>,
+        edges: ListOf<EdgeSyntax<'a>>,
     },
     /// `br` with one label
     Br(NameText<'a>),

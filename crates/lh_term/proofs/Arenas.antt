@@ -16,7 +16,7 @@ use Rattle.lh_term.specs.Types.{IsTyped, AreTyped, type_of}
 use Rattle.lh_term.specs.SameTree.{same_tree, same_tree-is, same_tree-refl}
 use Rattle.lh_term.specs.SameTerm.{same_term, same_term-is, same_term-refl, datum_of-is, same_id}
 use Rattle.lh_term.specs.SameNode.{same_node}
-use Rattle.lh_term.specs.Arena.{tree_at, term_tree, trees_from, terms_in, trees, ids_below, term_below, all_below, StandsOnce, IsTypedNode, IsArena, IsIn, AreIn, trees_at, Stands, OneId, Rising, AllTyped, Grows}
+use Rattle.lh_term.specs.Arena.{tree_at, term_tree, trees_from, terms_in, trees, ids_below, term_below, all_below, StandsOnce, IsTypedNode, IsArena, IsIn, AreIn, trees_at, StandsForTree, OneId, Rising, AllTyped, Grows}
 use Rattle.lh_term.specs.declared.part.Part.{Part}
 use Rattle.lh_term.specs.declared.term.TermId.{TermId}
 use Rattle.lh_term.specs.declared.term.Term.{Term}
@@ -226,7 +226,8 @@ Means-push : (xs : List Term) (ts : List Tree) (x : Term) → Means xs ts → te
 Means-push xs ts x m lt new =
     let len : length ts ≡ length xs = m.len in
     let fits : (y : Term) → term_below (length xs) y ≡ true → term_below (length ts) y ≡ true = λ y h. ap (λ k. term_below k y) len ∙ h in
-    let old : (i : ℕ) (y : Term) → slice_get xs i ≡ Some y → term_below (length xs) y ≡ true = λ i y e. term_more i (length xs) (let p : i < length xs = get_within xs i y e in omega arith) y (m.below i y e) in
+    let old : (i : ℕ) (y : Term) → slice_get xs i ≡ Some y → term_below (length xs) y ≡ true = λ i y e. term_more i (length xs) (let p : i < length xs = get_within xs i y e in
+    omega arith) y (m.below i y e) in
     let same : (y : Term) → term_below (length xs) y ≡ true → term_tree ts y ≡ term_tree (ts ++ term_tree ts x ∷ []) y = λ y h. sym (tree_below ts (term_tree ts x ∷ []) y (fits y h)) in
     let clash : (i : ℕ) → slice_get ts i ≡ Some (term_tree ts x) → ⊥ = λ i e.
     let (y, at, is) = m.terms i (term_tree ts x) e in new i (at ∙ ap Some (sym (term_inj ts m.distinct x y (fits x lt) (fits y (old i y at)) is)))
@@ -302,7 +303,8 @@ node_below ns i n a e = let m = means ns a in m.below i n.term (get_map (λ (n :
 
 -- ---- an arena with a term more
 
-arena_push : (ns : List Node) (n : Node) → IsArena ns → term_below (length ns) n.term ≡ true → IsTypedNode (trees ns) n → ((i : ℕ) → slice_get (terms_in ns) i ≡ Some n.term → ⊥) → IsArena (ns ++ n ∷ [])
+arena_push : (ns : List Node) (n : Node) → IsArena ns → term_below (length ns) n.term ≡ true → IsTypedNode (trees ns) n → ((i : ℕ) → slice_get (terms_in ns) i ≡ Some n.term → ⊥)
+    → IsArena (ns ++ n ∷ [])
 arena_push ns n a lt ty new =
     let T : Node → Term = λ (x : Node). x.term in
     let split : terms_in (ns ++ n ∷ []) ≡ terms_in ns ++ n.term ∷ [] = map_push T ns n in
@@ -312,8 +314,13 @@ arena_push ns n a lt ty new =
     let Q : List Term → Type 0 = StandsOnce in
     let (rest, g) = trees_grow ns (ns ++ n ∷ []) (n ∷ [], refl) in
     let tlen : length (trees ns) ≡ length ns = trees_length ns a in
-    let same : (x : Term) → term_below (length ns) x ≡ true → term_tree (trees (ns ++ n ∷ [])) x ≡ term_tree (trees ns) x = λ x h. ap (λ ts. term_tree ts x) g ∙ tree_below (trees ns) rest x (ap (λ k. term_below k x) tlen ∙ h) in
-    let typed : (x : Node) → term_below (length ns) x.term ≡ true → IsTypedNode (trees ns) x → IsTypedNode (trees (ns ++ n ∷ [])) x = λ x h t. (let P : Tree → Type 0 = IsTyped in subst P (sym (same x.term h)) t.0, t.1 ∙ ap type_of (sym (same x.term h))) in
+    let same : (x : Term) → term_below (length ns) x ≡ true → term_tree (trees (ns ++ n ∷ [])) x ≡ term_tree (trees ns) x = λ x h. ap (λ ts. term_tree ts x) g
+    ∙ tree_below (trees ns) rest x (ap (λ k. term_below k x) tlen ∙ h) in
+    let typed : (x : Node) → term_below (length ns) x.term ≡ true → IsTypedNode (trees ns) x → IsTypedNode (trees (ns ++ n ∷ [])) x = λ x h t. (
+      let P : Tree → Type 0 = IsTyped in
+          subst P (sym (same x.term h)) t.0,
+      t.1 ∙ ap type_of (sym (same x.term h)),
+    ) in
     record {
       below = ap (all_below 0) split ∙ below;
       once = subst Q (sym split) (once_push (terms_in ns) n.term a.once new);
@@ -326,11 +333,13 @@ arena_push ns n a lt ty new =
 not_found : (n : Node) (ns : List Node) → list_any (same_node n) ns ≡ false → (i : ℕ) → slice_get (terms_in ns) i ≡ Some n.term → ⊥
 not_found n ns e i p = let q : true ≡ false = sym (found n ns i p) ∙ e in cc
 
-insert_keeps : (ns : List Node) (n : Node) → IsArena ns → term_below (length ns) n.term ≡ true → IsTypedNode (trees ns) n → (b : Bool) → list_any (same_node n) ns ≡ b → IsArena (if b then ns else ns ++ n ∷ [])
+insert_keeps : (ns : List Node) (n : Node) → IsArena ns → term_below (length ns) n.term ≡ true → IsTypedNode (trees ns) n → (b : Bool) → list_any (same_node n) ns ≡ b
+    → IsArena (if b then ns else ns ++ n ∷ [])
 insert_keeps ns n a lt ty true e = a
 insert_keeps ns n a lt ty false e = arena_push ns n a lt ty (not_found n ns e)
 
-pub intern_keeps : {A B : Type 0} (r : Result A B) (ns ms : List Node) (n : Node) → IfOk r (λ _. ms ≡ (if list_any (same_node n) ns then ns else ns ++ n ∷ [])) → OnErr r (ms ≡ ns) → term_below (length ns) n.term ≡ true → IsTypedNode (trees ns) n → IsArena ns → IsArena ms
+pub intern_keeps : {A B : Type 0} (r : Result A B) (ns ms : List Node) (n : Node) → IfOk r (λ _. ms ≡ (if list_any (same_node n) ns then ns else ns ++ n ∷ [])) → OnErr r (ms ≡ ns)
+    → term_below (length ns) n.term ≡ true → IsTypedNode (trees ns) n → IsArena ns → IsArena ms
 intern_keeps (Ok x) ns ms n ok err lt ty a = let P : List Node → Type 0 = IsArena in subst P (sym ok) (insert_keeps ns n a lt ty (list_any (same_node n) ns) refl)
 intern_keeps (Err x) ns ms n ok err lt ty a = let P : List Node → Type 0 = IsArena in subst P (sym err) a
 
@@ -343,13 +352,15 @@ intern_grows (Ok x) ns ms n ok err = let P : List Node → Type 0 = Grows ns in 
 intern_grows (Err x) ns ms n ok err = ([], err ∙ sym (append-nil ns))
 
 -- the id of the term that was put stands for its tree
-pub interned : (ns ms : List Node) (n k : Node) (i : TermId) → IsArena ns → IsArena ms → Grows ns ms → term_below (length ns) n.term ≡ true → slice_get ms i.0 ≡ Some k → same_node n k ≡ true → Stands ms i (term_tree (trees ns) n.term)
+pub interned : (ns ms : List Node) (n k : Node) (i : TermId) → IsArena ns → IsArena ms → Grows ns ms → term_below (length ns) n.term ≡ true → slice_get ms i.0 ≡ Some k → same_node n k ≡ true
+    → StandsForTree ms i (term_tree (trees ns) n.term)
 interned ns ms n k i a b grow lt at same =
     let (rest, g) = trees_grow ns ms grow in
     let one : n.term ≡ k.term = same_term-is n.term k.term same in
     record {
       is_in = get_within ms i.0 k at;
-      tree = node_tree ms i k b at ∙ ap (term_tree (trees ms)) (sym one) ∙ ap (λ ts. term_tree ts n.term) g ∙ tree_below (trees ns) rest n.term (ap (λ m. term_below m n.term) (trees_length ns a) ∙ lt);
+      tree = node_tree ms i k b at ∙ ap (term_tree (trees ms)) (sym one) ∙ ap (λ ts. term_tree ts n.term) g
+          ∙ tree_below (trees ns) rest n.term (ap (λ m. term_below m n.term) (trees_length ns a) ∙ lt);
     }
 
 -- ---- what `intern` shows, where the value vs is seen as the keys ns
@@ -368,9 +379,9 @@ module _ (vs ns ms : List Node) (n : Node) (e : ns ≡ vs) (lt : term_below (len
   grows_at r ok err = let P : List Node → Type 0 = λ xs. Grows xs ms in subst P e (intern_grows r ns ms n ok err)
 
   pub stands_at : {A B : Type 0} (r : Result A B) → IfOk r (λ _. ms ≡ (if list_any (same_node n) ns then ns else ns ++ n ∷ [])) → OnErr r (ms ≡ ns)
-      → (i : TermId) → (k : Node) × (slice_get ms i.0 ≡ Some k) × (same_node n k ≡ true) → Stands ms i (term_tree (trees vs) n.term)
+      → (i : TermId) → (k : Node) × (slice_get ms i.0 ≡ Some k) × (same_node n k ≡ true) → StandsForTree ms i (term_tree (trees vs) n.term)
   stands_at r ok err i (k, at, same) =
-      let P : List Node → Type 0 = λ xs. Stands ms i (term_tree (trees xs) n.term) in
+      let P : List Node → Type 0 = λ xs. StandsForTree ms i (term_tree (trees xs) n.term) in
       subst P e (interned ns ms n k i a (keeps_at r ok err) (intern_grows r ns ms n ok err) lt_in at same)
 
 -- what is at an id of an arena
@@ -406,7 +417,8 @@ one_id vs ns e a x y p q =
         let l = trees_length ws b in
         both_ways (x.0 == y.0) (same_tree (tree_at (trees ws) x) (tree_at (trees ws) y))
         (λ s. ap (λ z. same_tree z (tree_at (trees ws) y)) (ap (tree_at (trees ws)) (same_id x y (num_same_is x.0 y.0 s))) ∙ same_tree-refl (tree_at (trees ws) y))
-        (λ s. let u : x ≡ y = one_id_at (trees ws) m.distinct x y (of_lt x.0 (length (trees ws)) (omega arith)) (of_lt y.0 (length (trees ws)) (omega arith)) (same_tree-is _ _ s) in ap (λ z. z.0 == y.0) u ∙ bool_num y.0)
+        (λ s. let u : x ≡ y = one_id_at (trees ws) m.distinct x y (of_lt x.0 (length (trees ws)) (omega arith)) (of_lt y.0 (length (trees ws)) (omega arith)) (same_tree-is _ _ s) in
+        ap (λ z. z.0 == y.0) u ∙ bool_num y.0)
 
 get_some : (ns : List Node) (i : ℕ) → i < length ns → (n : Node) × (slice_get ns i ≡ Some n)
 get_some [] i h = absurd (omega arith)
@@ -424,7 +436,10 @@ ids_typed vs ns e a xs h =
   where
     each : (ys : List TermId) → AreIn ns ys → AreTyped (tree_row (trees_at ns ys))
     each [] k = tt
-    each (y ∷ ys) k = (id_typed ns a y (lt_of y.0 (length ns) (first_so (nat_lt y.0 (length ns)) (ids_below (length ns) ys) k)), each ys (second_so (nat_lt y.0 (length ns)) (ids_below (length ns) ys) k))
+    each (y ∷ ys) k = (
+      id_typed ns a y (lt_of y.0 (length ns) (first_so (nat_lt y.0 (length ns)) (ids_below (length ns) ys) k)),
+      each ys (second_so (nat_lt y.0 (length ns)) (ids_below (length ns) ys) k),
+    )
 
 pub apart_at : (vs ns : List Node) → ns ≡ vs → IsArena ns → OneId vs
 apart_at vs ns e a =

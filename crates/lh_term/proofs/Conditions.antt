@@ -141,7 +141,8 @@ pub holds_there : (past now : Valuation) (ks : List Tree) (t : Tree) → list_an
 holds_there past now [] t e = cc
 holds_there past now (k ∷ ks) t e = by (same_tree t k) refl (λ g. holds_there past now ks t g)
   where
-    by : (b : Bool) → same_tree t k ≡ b → (list_any (same_tree t) ks ≡ true → holds past now ks && is_one (mean past now t) ≡ holds past now ks) → (is_one (mean past now k) && holds past now ks) && is_one (mean past now t) ≡ is_one (mean past now k) && holds past now ks
+    by : (b : Bool) → same_tree t k ≡ b → (list_any (same_tree t) ks ≡ true → holds past now ks && is_one (mean past now t) ≡ holds past now ks)
+        → (is_one (mean past now k) && holds past now ks) && is_one (mean past now t) ≡ is_one (mean past now k) && holds past now ks
     by true f rest = ap (λ w. (is_one (mean past now k) && holds past now ks) && is_one (mean past now w)) (same_tree-is t k f) ∙ and_twice (is_one (mean past now k)) (holds past now ks)
     by false f rest =
         let g : list_any (same_tree t) ks ≡ true = ap (λ b. b || list_any (same_tree t) ks) (sym f) ∙ e in
@@ -216,7 +217,8 @@ from_all k (t ∷ ts) i h =
       bit = r.bit;
       value = λ past now p n.
           let one : is_one (mean past now (make_operation And (k ∷ t ∷ []))) ≡ is_one (mean past now k) && is_one (mean past now t) =
-          ap is_one (s.mean past now p n ∙ and_one (mean past now k) (mean past now t) (bit_mean k i past now p n) (bit_mean t h.0 past now p n)) ∙ one_bit (is_one (mean past now k) && is_one (mean past now t)) in
+          ap is_one (s.mean past now p n ∙ and_one (mean past now k) (mean past now t) (bit_mean k i past now p n) (bit_mean t h.0 past now p n))
+          ∙ one_bit (is_one (mean past now k) && is_one (mean past now t)) in
           r.value past now p n ∙ ap (λ b. bit_value (b && holds past now ts)) one ∙ ap bit_value (and_assoc (is_one (mean past now k)) (is_one (mean past now t)) (holds past now ts));
     }
 
@@ -228,5 +230,6 @@ condition_sound t h e =
     record {
       typed = r.bit.typed;
       type = r.bit.type ∙ sym e;
-      mean = λ past now p n. r.value past now p n ∙ ap bit_value (holds_with past now [] (all_conjuncts t) ∙ conjuncts_hold past now p n t h e) ∙ sym (bit_one (mean past now t) (bit_mean t i past now p n));
+      mean = λ past now p n. r.value past now p n ∙ ap bit_value (holds_with past now [] (all_conjuncts t) ∙ conjuncts_hold past now p n t h e)
+          ∙ sym (bit_one (mean past now t) (bit_mean t i past now p n));
     }

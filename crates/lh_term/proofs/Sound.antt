@@ -238,7 +238,8 @@ module _ (x y : Tree) (h : IsTyped (operation_on And (x ∷ y ∷ []))) where
   a : TwoInts x y
   a = and_ints x y h
 
-  to_and : (z : Tree) → IntTerm z a.width → ((past now : Valuation) → IsFitting past → IsFitting now → mean past now z ≡ apply And (mean past now x ∷ mean past now y ∷ [])) → MeansSame z (operation_on And (x ∷ y ∷ []))
+  to_and : (z : Tree) → IntTerm z a.width → ((past now : Valuation) → IsFitting past → IsFitting now → mean past now z ≡ apply And (mean past now x ∷ mean past now y ∷ []))
+      → MeansSame z (operation_on And (x ∷ y ∷ []))
   to_and z i m = record { typed = i.typed; type = i.type ∙ sym a.first.type; mean = m }
 
   and_zero_right : y ≡ constant (int_value a.width 0) → MeansSame y (operation_on And (x ∷ y ∷ []))
@@ -269,7 +270,8 @@ module _ (x y : Tree) (h : IsTyped (operation_on And (x ∷ y ∷ []))) where
   and_same e = to_and x a.first (λ past now p q.
       sym (v_and_self a.width (mean past now x) (int_mean x a.width a.first past now p q)) ∙ ap (λ w. apply And (mean past now x ∷ w ∷ [])) (ap (mean past now) e))
 
-  and_to_zero : ((past now : Valuation) → IsFitting past → IsFitting now → int_value a.width 0 ≡ apply And (mean past now x ∷ mean past now y ∷ [])) → MeansSame (zero_like x) (operation_on And (x ∷ y ∷ []))
+  and_to_zero : ((past now : Valuation) → IsFitting past → IsFitting now → int_value a.width 0 ≡ apply And (mean past now x ∷ mean past now y ∷ []))
+      → MeansSame (zero_like x) (operation_on And (x ∷ y ∷ []))
   and_to_zero m =
       let P : Tree → Type 0 = λ z. MeansSame z (operation_on And (x ∷ y ∷ [])) in
       subst P (sym (zero_is x a.width a.first.type)) (to_and (constant (int_value a.width 0)) (record { typed = zero_typed a.width a.limits; type = refl }) m)
@@ -372,20 +374,20 @@ either_true true b e = inl refl
 either_true false b e = inr e
 
 -- what the two pairs of `and` are
-record Told (o p : Option (Tree × Tree)) (q : Tree) : Type 0 where
+record HalvesAre (o p : Option (Tree × Tree)) (q : Tree) : Type 0 where
   one : Tree
   other : Tree
   first : o ≡ Some (q, one)
   second : p ≡ Some (q, other)
   apart : is_not_of other one || is_not_of one other ≡ true
 
-halves_told : (o p : Option (Tree × Tree)) (q : Tree) → halves o p ≡ Some q → Told o p q
+halves_told : (o p : Option (Tree × Tree)) (q : Tree) → halves o p ≡ Some q → HalvesAre o p q
 halves_told None None q e = cc
 halves_told None (Some p) q e = cc
 halves_told (Some o) None q e = cc
 halves_told (Some (r, a)) (Some (s, b)) q e = by (same_tree r s && (is_not_of b a || is_not_of a b)) refl e
   where
-    by : (t : Bool) → same_tree r s && (is_not_of b a || is_not_of a b) ≡ t → (if t then Some r else None) ≡ Some q → Told (Some (r, a)) (Some (s, b)) q
+    by : (t : Bool) → same_tree r s && (is_not_of b a || is_not_of a b) ≡ t → (if t then Some r else None) ≡ Some q → HalvesAre (Some (r, a)) (Some (s, b)) q
     by false p f = cc
     by true p f =
         let k = and_both (same_tree r s) (is_not_of b a || is_not_of a b) p in
@@ -408,7 +410,8 @@ module _ (x y : Tree) (h : IsTyped (operation_on Or (x ∷ y ∷ []))) where
   o : TwoInts x y
   o = or_ints x y h
 
-  to_or : (z : Tree) → IntTerm z o.width → ((past now : Valuation) → IsFitting past → IsFitting now → mean past now z ≡ apply Or (mean past now x ∷ mean past now y ∷ [])) → MeansSame z (operation_on Or (x ∷ y ∷ []))
+  to_or : (z : Tree) → IntTerm z o.width → ((past now : Valuation) → IsFitting past → IsFitting now → mean past now z ≡ apply Or (mean past now x ∷ mean past now y ∷ []))
+      → MeansSame z (operation_on Or (x ∷ y ∷ []))
   to_or z i m = record { typed = i.typed; type = i.type ∙ sym o.first.type; mean = m }
 
   or_zero_right : y ≡ constant (int_value o.width 0) → MeansSame x (operation_on Or (x ∷ y ∷ []))
@@ -475,10 +478,13 @@ module _ (x y : Tree) (h : IsTyped (operation_on Or (x ∷ y ∷ []))) where
             elim s.apart [
               | inl e ↦
                   let f : mb ≡ apply Not (ma ∷ []) = ap (mean past now) e in
-                  sym (v_halves t.width mq (int_mean q t.width t.first past now p r) ma (int_mean s.one t.width t.second past now p r)) ∙ (λ k. apply Or (sym ex k ∷ apply And (mq ∷ sym f k ∷ []) ∷ [])) ∙ ap (λ w. apply Or (mean past now x ∷ w ∷ [])) (sym ey)
+                  sym (v_halves t.width mq (int_mean q t.width t.first past now p r) ma (int_mean s.one t.width t.second past now p r))
+                  ∙ (λ k. apply Or (sym ex k ∷ apply And (mq ∷ sym f k ∷ []) ∷ [])) ∙ ap (λ w. apply Or (mean past now x ∷ w ∷ [])) (sym ey)
               | inr e ↦
                   let f : ma ≡ apply Not (mb ∷ []) = ap (mean past now) e in
-                  sym (v_halves u.width mq (int_mean q u.width u.first past now p r) mb (int_mean s.other u.width u.second past now p r)) ∙ (λ k. apply Or (sym ey k ∷ apply And (mq ∷ sym f k ∷ []) ∷ [])) ∙ ap (λ w. apply Or (mean past now y ∷ w ∷ [])) (sym ex) ∙ sym (v_or_comm o.width (mean past now x) i (mean past now y) j)
+                  sym (v_halves u.width mq (int_mean q u.width u.first past now p r) mb (int_mean s.other u.width u.second past now p r))
+                  ∙ (λ k. apply Or (sym ey k ∷ apply And (mq ∷ sym f k ∷ []) ∷ [])) ∙ ap (λ w. apply Or (mean past now y ∷ w ∷ [])) (sym ex)
+                  ∙ sym (v_or_comm o.width (mean past now x) i (mean past now y) j)
             ];
       }
 
@@ -580,7 +586,8 @@ eq_values x y h = let e = h.1.row.1 in record { first = h.0.0; second = h.0.1.0;
 neq_values : (x y : Tree) → IsTyped (operation_on Neq (x ∷ y ∷ [])) → TwoValues x y
 neq_values x y h = let e = h.1.row.1 in record { first = h.0.0; second = h.0.1.0; one_type = cc }
 
-module _ (x y : Tree) (w : Tree) (typed_w : IsTyped w) (bit_w : type_of w ≡ int_type 1) (op : Op) (is : (past now : Valuation) → mean past now w ≡ apply op (mean past now x ∷ mean past now y ∷ [])) (t : TwoValues x y) where
+module _ (x y : Tree) (w : Tree) (typed_w : IsTyped w) (bit_w : type_of w ≡ int_type 1) (op : Op) (is : (past now : Valuation) → mean past now w ≡ apply op (mean past now x ∷ mean past now y ∷ []))
+    (t : TwoValues x y) where
   right_is : (k : ℕ) → is_bit k y ≡ true → (y ≡ constant (int_value 1 k)) × IntTerm x 1
   right_is k e = let f = bit_term k y e in (f, record { typed = t.first; type = t.one_type ∙ ap type_of f })
 
@@ -687,9 +694,16 @@ module _ (c f t : Tree) (h : IsTyped (choice_of c f t)) where
   choice_sound =
       let w = choice_of c f t in
       let bit_c : IntTerm c 1 = record { typed = h.0; type = h.3.0 } in
-      pick (is_bit 0 c) _ _ _ (λ e. record { typed = h.1; type = refl; mean = λ past now p q. ap (λ v. chosen v (mean past now f) (mean past now t)) (sym (ap (mean past now) (bit_term 0 c e))) }) (λ _.
-      pick (is_bit 1 c) _ _ _ (λ e. record { typed = h.2; type = sym h.3.1; mean = λ past now p q. ap (λ v. chosen v (mean past now f) (mean past now t)) (sym (ap (mean past now) (bit_term 1 c e))) }) (λ _.
-      pick (same_tree f t) _ _ _ (λ e. record { typed = h.1; type = refl; mean = λ past now p q. sym (chosen_one (mean past now c) (mean past now f)) ∙ ap (λ v. chosen (mean past now c) (mean past now f) v) (ap (mean past now) (same_tree-is f t e)) }) (λ _.
+      pick (is_bit 0 c) _ _ _ (λ e. record { typed = h.1; type = refl; mean = λ past now p q. ap (λ v. chosen v (mean past now f) (mean past now t)) (sym (ap (mean past now) (bit_term 0 c e))) })
+      (λ _.
+      pick (is_bit 1 c) _ _ _ (λ e. record { typed = h.2; type = sym h.3.1; mean = λ past now p q. ap (λ v. chosen v (mean past now f) (mean past now t)) (sym (ap (mean past now) (bit_term 1 c e))) })
+      (λ _.
+      pick (same_tree f t) _ _ _ (λ e. record {
+        typed = h.1;
+        type = refl;
+        mean = λ past now p q. sym (chosen_one (mean past now c) (mean past now f))
+            ∙ ap (λ v. chosen (mean past now c) (mean past now f) v) (ap (mean past now) (same_tree-is f t e));
+      }) (λ _.
       pick (is_bit 0 f && is_bit 1 t) _ _ _ (λ e.
       let g = and_both (is_bit 0 f) (is_bit 1 t) e in
       let ef = bit_term 0 f g.0 in

@@ -13,7 +13,7 @@ use Rattle.lh_term.specs.Types.{type_of, types_of, row_result, TakesTypes, Choos
 use Rattle.lh_term.specs.Mean.{Valuation, IsFitting, chosen, mean, means}
 use Rattle.lh_term.specs.SameTree.{same_tree, same_tree-is}
 use Rattle.lh_term.specs.Make.{make_operation, make_choice}
-use Rattle.lh_term.specs.Arena.{tree_at, term_tree, trees_from, terms_in, trees, trees_at, ids_below, term_below, IsIn, Rising, AllTyped, Stands, Grows}
+use Rattle.lh_term.specs.Arena.{tree_at, term_tree, trees_from, terms_in, trees, trees_at, ids_below, term_below, IsIn, Rising, AllTyped, StandsForTree, Grows}
 use Rattle.lh_term.specs.Subst.{pairs_at, replaced, AreSwaps, SecondsTyped, PairsIn, swapped, swapped_row, past_with, now_with}
 use Rattle.lh_term.specs.Reach.{operands_of, AllSet, Sets, ReachesFrom, Reaches, AllMade, OperandsMade, MadeFor}
 use Rattle.lh_term.specs.Laws.{SwapKeeps}
@@ -32,7 +32,8 @@ replaced_typed : (by : List (Tree × Tree)) → AreSwaps by → SecondsTyped by 
 replaced_typed [] s d t h = (h, refl)
 replaced_typed (p ∷ ps) s d t h = choose (same_tree p.0 t) refl (replaced_typed ps s.3 d.1 t h)
   where
-    choose : (b : Bool) → same_tree p.0 t ≡ b → IsTyped (replaced ps t) × (type_of (replaced ps t) ≡ type_of t) → IsTyped (if b then p.1 else replaced ps t) × (type_of (if b then p.1 else replaced ps t) ≡ type_of t)
+    choose : (b : Bool) → same_tree p.0 t ≡ b → IsTyped (replaced ps t) × (type_of (replaced ps t) ≡ type_of t) → IsTyped (if b then p.1 else replaced ps t)
+        × (type_of (if b then p.1 else replaced ps t) ≡ type_of t)
     choose true e rest = (d.0, sym s.2 ∙ ap type_of (same_tree-is p.0 t e))
     choose false e rest = rest
 
@@ -116,7 +117,7 @@ module _ (old cur : List Node) (g : Grows old cur) where
       let l : i < length (terms_in old) = omega (arith, map_length T old) in
       sym (get_below (terms_in old) (terms_in more) i l) ∙ ap (λ xs. slice_get xs i) (sym (map_append T old more) ∙ ap terms_in (sym f)) ∙ e
 
-  pub stands_grown : (y : TermId) (z : Tree) → Stands old y z → Stands cur y z
+  pub stands_grown : (y : TermId) (z : Tree) → StandsForTree old y z → StandsForTree cur y z
   stands_grown y z s = record { is_in = in_grown y s.is_in; tree = tree_grown y s.is_in ∙ s.tree }
 
 pub grows_on : (a b c : List Node) → Grows a b → Grows b c → Grows a c
@@ -166,7 +167,8 @@ here_or_above zero (suc b) h = inr (omega arith)
 here_or_above (suc a) zero h = absurd (omega arith)
 here_or_above (suc a) (suc b) h = elim (here_or_above a b (omega arith)) [ inl p ↦ inl (ap suc p) | inr p ↦ inr (omega arith) ]
 
-pub reach_set : (ns : List Node) (t : TermId) (flags new : List Bool) (i : ℕ) → ReachesFrom ns t flags (i + 1) → ((k : Term) → slice_get (terms_in ns) i ≡ Some k → Sets (record { 0 = i }) (operands_of k) flags new) → (k : Term) → slice_get (terms_in ns) i ≡ Some k → ReachesFrom ns t new i
+pub reach_set : (ns : List Node) (t : TermId) (flags new : List Bool) (i : ℕ) → ReachesFrom ns t flags (i + 1)
+    → ((k : Term) → slice_get (terms_in ns) i ≡ Some k → Sets (record { 0 = i }) (operands_of k) flags new) → (k : Term) → slice_get (terms_in ns) i ≡ Some k → ReachesFrom ns t new i
 reach_set ns t flags new i r s k at =
     let q = s k at in
     record {
@@ -203,12 +205,13 @@ term_there (n ∷ ns) (suc i) h = term_there ns i (omega arith)
 pub record Making (old cur : List Node) (by : List (Tree × Tree)) (flags : List Bool) (made : List TermId) (i : ℕ) : Type 0 where
   pub grows : Grows old cur
   pub length_is : length made ≡ i
-  pub each : (j : ℕ) (y : TermId) → slice_get made j ≡ Some y → slice_get flags j ≡ Some true → Stands cur y (swapped by (tree_at (trees old) (record { 0 = j })))
+  pub each : (j : ℕ) (y : TermId) → slice_get made j ≡ Some y → slice_get flags j ≡ Some true → StandsForTree cur y (swapped by (tree_at (trees old) (record { 0 = j })))
 
 pub making_start : (old : List Node) (by : List (Tree × Tree)) (flags : List Bool) → Making old old by flags [] 0
 making_start old by flags = record { grows = ([], sym (append-nil old)); length_is = refl; each = λ j y e f. cc }
 
-pub making_next : (old cur new : List Node) (by : List (Tree × Tree)) (flags : List Bool) (made : List TermId) (i : ℕ) (x : TermId) → Making old cur by flags made i → Grows cur new → (slice_get flags i ≡ Some true → Stands new x (swapped by (tree_at (trees old) (record { 0 = i })))) → Making old new by flags (made ++ x ∷ []) (i + 1)
+pub making_next : (old cur new : List Node) (by : List (Tree × Tree)) (flags : List Bool) (made : List TermId) (i : ℕ) (x : TermId) → Making old cur by flags made i → Grows cur new
+    → (slice_get flags i ≡ Some true → StandsForTree new x (swapped by (tree_at (trees old) (record { 0 = i })))) → Making old new by flags (made ++ x ∷ []) (i + 1)
 making_next old cur new by flags made i x m g h =
     record {
       grows = grows_on old cur new m.grows g;
@@ -217,8 +220,8 @@ making_next old cur new by flags made i x m g h =
         | inl p ↦ stands_grown cur new g y _ (m.each j y p f)
         | inr p ↦
             let q : j ≡ i = p.0 ∙ m.length_is in
-            let P : ℕ → Type 0 = λ k. Stands new x (swapped by (tree_at (trees old) (record { 0 = k }))) in
-            let Q : TermId → Type 0 = λ z. Stands new z (swapped by (tree_at (trees old) (record { 0 = j }))) in
+            let P : ℕ → Type 0 = λ k. StandsForTree new x (swapped by (tree_at (trees old) (record { 0 = k }))) in
+            let Q : TermId → Type 0 = λ z. StandsForTree new z (swapped by (tree_at (trees old) (record { 0 = j }))) in
             subst Q p.1 (subst P (sym q) (h (ap (slice_get flags) (sym q) ∙ f)))
       ];
     }
@@ -247,8 +250,8 @@ module _ (old cur : List Node) (by : List (Tree × Tree)) (t : TermId) (flags : 
   all_made (x ∷ xs) h s l =
       let p : x.0 < i = lt_of x.0 i (first_so (nat_lt x.0 i) (ids_below i xs) h) in
       let (y, e) = get_made made x.0 (omega (arith, m.length_is)) in
-      let q : Stands cur y (swapped by (tree_at (trees old) x)) = m.each x.0 y e s.0 in
-      let P : Tree → Type 0 = λ z. Stands cur y (swapped by z) in
+      let q : StandsForTree cur y (swapped by (tree_at (trees old) x)) = m.each x.0 y e s.0 in
+      let P : Tree → Type 0 = λ z. StandsForTree cur y (swapped by z) in
       (y, e, subst P (sym (tree_grown old cur m.grows x (omega arith))) q, all_made xs (second_so (nat_lt x.0 i) (ids_below i xs) h) s.1 l)
 
   pub operands_made : Reaches old t flags → Rising old → i < length old → slice_get flags i ≡ Some true → OperandsMade cur by (record { 0 = i }) made
@@ -262,15 +265,16 @@ row_map : (by : List (Tree × Tree)) (ts : List Tree) → swapped_row by (tree_r
 row_map by [] = refl
 row_map by (t ∷ ts) = ap (λ r. swapped by t ∷ r) (row_map by ts)
 
-made_trees : (ns : List Node) (by : List (Tree × Tree)) (made : List TermId) (xs ys : List TermId) → AllMade ns by made xs → MadeFor made xs ys → (ids_below (length ns) ys ≡ true) × (trees_at ns ys ≡ map (swapped by) (trees_at ns xs))
+made_trees : (ns : List Node) (by : List (Tree × Tree)) (made : List TermId) (xs ys : List TermId) → AllMade ns by made xs → MadeFor made xs ys → (ids_below (length ns) ys ≡ true)
+    × (trees_at ns ys ≡ map (swapped by) (trees_at ns xs))
 made_trees ns by made [] [] a f = (refl, refl)
 made_trees ns by made [] (y ∷ ys) a f = absurd f
 made_trees ns by made (x ∷ xs) [] a f = absurd f
 made_trees ns by made (x ∷ xs) (y ∷ ys) a f =
     let s : Some a.0 ≡ Some y = sym a.1 ∙ f.0 in
     let same : a.0 ≡ y = cc in
-    let P : TermId → Type 0 = λ z. Stands ns z (swapped by (tree_at (trees ns) x)) in
-    let q : Stands ns y (swapped by (tree_at (trees ns) x)) = subst P same a.2 in
+    let P : TermId → Type 0 = λ z. StandsForTree ns z (swapped by (tree_at (trees ns) x)) in
+    let q : StandsForTree ns y (swapped by (tree_at (trees ns) x)) = subst P same a.2 in
     let r = made_trees ns by made xs ys a.3 f.1 in
     let e = q.tree in
     let g = r.1 in
@@ -284,7 +288,8 @@ made_within ns by made [] a = refl
 made_within ns by made (x ∷ xs) a = ap (λ b. b && ids_below (length made) xs) (of_lt x.0 (length made) (get_within made x.0 a.0 a.1)) ∙ made_within ns by made xs a.3
 
 -- an operation on what was made in place of its operands
-module _ (ns : List Node) (by : List (Tree × Tree)) (s : AreSwaps by) (d : SecondsTyped by) (x : TermId) (op : Op) (xs ys made : List TermId) (shown : operation_on op (trees_at ns xs) ≡ tree_at (trees ns) x) (h : IsTyped (tree_at (trees ns) x)) (a : AllMade ns by made xs) (f : MadeFor made xs ys) where
+module _ (ns : List Node) (by : List (Tree × Tree)) (s : AreSwaps by) (d : SecondsTyped by) (x : TermId) (op : Op) (xs ys made : List TermId)
+    (shown : operation_on op (trees_at ns xs) ≡ tree_at (trees ns) x) (h : IsTyped (tree_at (trees ns) x)) (a : AllMade ns by made xs) (f : MadeFor made xs ys) where
   typed_op : IsTyped (operation_on op (trees_at ns xs))
   typed_op = let P : Tree → Type 0 = IsTyped in subst P (sym shown) h
 
@@ -304,7 +309,9 @@ module _ (ns : List Node) (by : List (Tree × Tree)) (s : AreSwaps by) (d : Seco
   op_made = ap (make_operation op) made_row ∙ ap (swapped by) shown
 
 -- a choice of what was made in place of its operands
-module _ (ns : List Node) (by : List (Tree × Tree)) (s : AreSwaps by) (d : SecondsTyped by) (x c f t : TermId) (made : List TermId) (shown : choice_of (tree_at (trees ns) c) (tree_at (trees ns) f) (tree_at (trees ns) t) ≡ tree_at (trees ns) x) (h : IsTyped (tree_at (trees ns) x)) (a : AllMade ns by made (c ∷ f ∷ t ∷ [])) (u v w : TermId) (eu : slice_get made c.0 ≡ Some u) (ev : slice_get made f.0 ≡ Some v) (ew : slice_get made t.0 ≡ Some w) where
+module _ (ns : List Node) (by : List (Tree × Tree)) (s : AreSwaps by) (d : SecondsTyped by) (x c f t : TermId) (made : List TermId)
+    (shown : choice_of (tree_at (trees ns) c) (tree_at (trees ns) f) (tree_at (trees ns) t) ≡ tree_at (trees ns) x) (h : IsTyped (tree_at (trees ns) x)) (a : AllMade ns by made (c ∷ f ∷ t ∷ []))
+    (u v w : TermId) (eu : slice_get made c.0 ≡ Some u) (ev : slice_get made f.0 ≡ Some v) (ew : slice_get made t.0 ≡ Some w) where
   typed_choice : IsTyped (choice_of (tree_at (trees ns) c) (tree_at (trees ns) f) (tree_at (trees ns) t))
   typed_choice = let P : Tree → Type 0 = IsTyped in subst P (sym shown) h
 
@@ -324,8 +331,11 @@ module _ (ns : List Node) (by : List (Tree × Tree)) (s : AreSwaps by) (d : Seco
   choice_in =
       let b = rows.0 in
       let k = length ns in
-      let r = second_so (nat_lt u.0 k) (nat_lt v.0 k && (nat_lt w.0 k && true)) b in
-      (lt_of u.0 k (first_so (nat_lt u.0 k) (nat_lt v.0 k && (nat_lt w.0 k && true)) b), lt_of v.0 k (first_so (nat_lt v.0 k) (nat_lt w.0 k && true) r), lt_of w.0 k (first_so (nat_lt w.0 k) true (second_so (nat_lt v.0 k) (nat_lt w.0 k && true) r)))
+      let r = second_so (nat_lt u.0 k) (nat_lt v.0 k && (nat_lt w.0 k && true)) b in (
+        lt_of u.0 k (first_so (nat_lt u.0 k) (nat_lt v.0 k && (nat_lt w.0 k && true)) b),
+        lt_of v.0 k (first_so (nat_lt v.0 k) (nat_lt w.0 k && true) r),
+        lt_of w.0 k (first_so (nat_lt w.0 k) true (second_so (nat_lt v.0 k) (nat_lt w.0 k && true) r)),
+      )
 
   pub choice_fits : Chooses (type_of (tree_at (trees ns) u)) (type_of (tree_at (trees ns) v)) (type_of (tree_at (trees ns) w))
   choice_fits =
@@ -338,14 +348,16 @@ module _ (ns : List Node) (by : List (Tree × Tree)) (s : AreSwaps by) (d : Seco
   choice_made = (λ i. make_choice (choice_c i) (choice_f i) (choice_t i)) ∙ ap (swapped by) shown
 
 -- terms that have no operands
-pub stays : (ns : List Node) (by : List (Tree × Tree)) (x : TermId) (v : Val) → IsIn ns x → constant (datum_of v) ≡ tree_at (trees ns) x → Stands ns x (swapped by (tree_at (trees ns) x))
+pub stays : (ns : List Node) (by : List (Tree × Tree)) (x : TermId) (v : Val) → IsIn ns x → constant (datum_of v) ≡ tree_at (trees ns) x → StandsForTree ns x (swapped by (tree_at (trees ns) x))
 stays ns by x v i e = record { is_in = i; tree = sym e ∙ ap (swapped by) e }
 
-pub past_made : (ns : List Node) (by : List (Tree × Tree)) (x y : TermId) (p : Part) → past_of p ≡ tree_at (trees ns) x → Stands ns y (replaced by (tree_at (trees ns) x)) → Stands ns y (swapped by (tree_at (trees ns) x))
-past_made ns by x y p e h = let P : Tree → Type 0 = λ z. Stands ns y (replaced by z) → Stands ns y (swapped by z) in subst P e (λ k. k) h
+pub past_made : (ns : List Node) (by : List (Tree × Tree)) (x y : TermId) (p : Part) → past_of p ≡ tree_at (trees ns) x → StandsForTree ns y (replaced by (tree_at (trees ns) x))
+    → StandsForTree ns y (swapped by (tree_at (trees ns) x))
+past_made ns by x y p e h = let P : Tree → Type 0 = λ z. StandsForTree ns y (replaced by z) → StandsForTree ns y (swapped by z) in subst P e (λ k. k) h
 
-pub now_made : (ns : List Node) (by : List (Tree × Tree)) (x y : TermId) (p : Part) → now_of p ≡ tree_at (trees ns) x → Stands ns y (replaced by (tree_at (trees ns) x)) → Stands ns y (swapped by (tree_at (trees ns) x))
-now_made ns by x y p e h = let P : Tree → Type 0 = λ z. Stands ns y (replaced by z) → Stands ns y (swapped by z) in subst P e (λ k. k) h
+pub now_made : (ns : List Node) (by : List (Tree × Tree)) (x y : TermId) (p : Part) → now_of p ≡ tree_at (trees ns) x → StandsForTree ns y (replaced by (tree_at (trees ns) x))
+    → StandsForTree ns y (swapped by (tree_at (trees ns) x))
+now_made ns by x y p e h = let P : Tree → Type 0 = λ z. StandsForTree ns y (replaced by z) → StandsForTree ns y (swapped by z) in subst P e (λ k. k) h
 
 -- the terms that take places are typed, as every term of the arena
 pub seconds_typed : (ns : List Node) → AllTyped ns → (by : List (TermId × TermId)) → PairsIn ns by → SecondsTyped (pairs_at ns by)
@@ -400,7 +412,8 @@ made_push made (u ∷ xs) (v ∷ ys) x y h e = (h.0, made_push made xs ys x y h.
 pub rename_below : (made xs : List TermId) (x : TermId) (left to : List TermId) → RenamedSoFar made xs (x ∷ left) to → x.0 < length made
 rename_below made xs x left to r = lt_of x.0 (length made) (first_so (nat_lt x.0 (length made)) (ids_below (length made) left) r.within)
 
-pub rename_next : (made xs : List TermId) (x : TermId) (left to : List TermId) (y : TermId) → RenamedSoFar made xs (x ∷ left) to → slice_get made x.0 ≡ Some y → RenamedSoFar made xs left (to ++ y ∷ [])
+pub rename_next : (made xs : List TermId) (x : TermId) (left to : List TermId) (y : TermId) → RenamedSoFar made xs (x ∷ left) to → slice_get made x.0 ≡ Some y
+    → RenamedSoFar made xs left (to ++ y ∷ [])
 rename_next made xs x left to y r e =
     record {
       done = r.done ++ x ∷ [];
@@ -414,7 +427,8 @@ rename_last made xs to r = let P : List TermId → Type 0 = λ ys. MadeFor made 
 
 -- ---- a turn of the substitution
 
-module _ (old cur : List Node) (by : List (TermId × TermId)) (t : TermId) (flags : List Bool) (made : List TermId) (i : ℕ) (m : Making old cur (pairs_at old by) flags made i) (in_t : IsIn old t) (p : PairsIn old by) (s : AreSwaps (pairs_at old by)) (r : Reaches old t flags) (up : Rising old) (l : i < length old) where
+module _ (old cur : List Node) (by : List (TermId × TermId)) (t : TermId) (flags : List Bool) (made : List TermId) (i : ℕ) (m : Making old cur (pairs_at old by) flags made i) (in_t : IsIn old t)
+    (p : PairsIn old by) (s : AreSwaps (pairs_at old by)) (r : Reaches old t flags) (up : Rising old) (l : i < length old) where
   same_pairs : pairs_at cur by ≡ pairs_at old by
   same_pairs = pairs_grown old cur m.grows by p
 
@@ -432,19 +446,23 @@ module _ (old cur : List Node) (by : List (TermId × TermId)) (t : TermId) (flag
       let P : List (Tree × Tree) → Type 0 = λ q. OperandsMade cur q (record { 0 = i }) made in
       subst P (sym same_pairs) (operands_made old cur (pairs_at old by) t flags made i m in_t r up l (e ∙ ap Some f))
 
-  as_before : (new : List Node) (y : TermId) → Stands new y (swapped (pairs_at cur by) (tree_at (trees cur) (record { 0 = i }))) → Stands new y (swapped (pairs_at old by) (tree_at (trees old) (record { 0 = i })))
+  as_before : (new : List Node) (y : TermId) → StandsForTree new y (swapped (pairs_at cur by) (tree_at (trees cur) (record { 0 = i })))
+      → StandsForTree new y (swapped (pairs_at old by) (tree_at (trees old) (record { 0 = i })))
   as_before new y h =
-      let P : Tree → Type 0 = λ z. Stands new y z in
+      let P : Tree → Type 0 = λ z. StandsForTree new y z in
       subst P ((λ k. swapped (same_pairs k) (tree_at (trees cur) (record { 0 = i }))) ∙ ap (swapped (pairs_at old by)) (tree_grown old cur m.grows (record { 0 = i }) l)) h
 
-  pub turn_next : (new : List Node) (y : TermId) (b : Bool) → slice_get flags i ≡ Some b → Grows cur new → (b ≡ true → Stands new y (swapped (pairs_at cur by) (tree_at (trees cur) (record { 0 = i })))) → Making old new (pairs_at old by) flags (made ++ y ∷ []) (i + 1)
+  pub turn_next : (new : List Node) (y : TermId) (b : Bool) → slice_get flags i ≡ Some b → Grows cur new
+      → (b ≡ true → StandsForTree new y (swapped (pairs_at cur by) (tree_at (trees cur) (record { 0 = i })))) → Making old new (pairs_at old by) flags (made ++ y ∷ []) (i + 1)
   turn_next new y b e g h = making_next old cur new (pairs_at old by) flags made i y m g (λ f. as_before new y (h (let q : Some b ≡ Some true = sym e ∙ f in cc)))
 
-  pub turn_last : (new : List Node) (y : TermId) → Stands new y (swapped (pairs_at cur by) (tree_at (trees cur) (record { 0 = i }))) → Stands new y (swapped (pairs_at old by) (tree_at (trees old) (record { 0 = i })))
+  pub turn_last : (new : List Node) (y : TermId) → StandsForTree new y (swapped (pairs_at cur by) (tree_at (trees cur) (record { 0 = i })))
+      → StandsForTree new y (swapped (pairs_at old by) (tree_at (trees old) (record { 0 = i })))
   turn_last new y h = as_before new y h
 
 -- an answer of want of memory or a term, taken over
-pub if_ok_stands : {E : Type 0} (q : Result TermId E) (new : List Node) (x z : Tree) → ((y : TermId) → Stands new y x → Stands new y z) → IfOk q (λ y. Stands new y x) → IfOk q (λ y. Stands new y z)
+pub if_ok_stands : {E : Type 0} (q : Result TermId E) (new : List Node) (x z : Tree) → ((y : TermId) → StandsForTree new y x → StandsForTree new y z) → IfOk q (λ y. StandsForTree new y x)
+    → IfOk q (λ y. StandsForTree new y z)
 if_ok_stands (Ok y) new x z f h = f y h
 if_ok_stands (Err e) new x z f h = h
 
@@ -461,11 +479,13 @@ take_front (x ∷ xs) ys = ap (λ r. x ∷ r) (take_front xs ys)
 rest_of : (y : TermId) (r : List TermId) → take (length (y ∷ r) - 1) (drop 1 (y ∷ r)) ≡ r
 rest_of y r = let e : length (y ∷ r) - 1 ≡ length r = omega arith in ap (λ n. take n (drop 1 (y ∷ r))) e ∙ take_whole r
 
-pub set_next_at : (x : TermId) (xs left : List TermId) (old new : List Bool) (d : TermId) → SetSoFar x xs left old new → 1 ≤ length left → SetSoFar x xs (take (length left - 1) (drop 1 left)) old (set new (get_or left 0 d).0 true)
+pub set_next_at : (x : TermId) (xs left : List TermId) (old new : List Bool) (d : TermId) → SetSoFar x xs left old new → 1 ≤ length left
+    → SetSoFar x xs (take (length left - 1) (drop 1 left)) old (set new (get_or left 0 d).0 true)
 set_next_at x xs [] old new d s h = absurd (omega arith)
 set_next_at x xs (y ∷ r) old new d s h = let P : List TermId → Type 0 = λ q. SetSoFar x xs q old (set new y.0 true) in subst P (sym (rest_of y r)) (set_next x xs y r old new s)
 
-pub rename_next_at : (made xs left to more : List TermId) (d y : TermId) → RenamedSoFar made xs left to → 1 ≤ length left → slice_get made (get_or left 0 d).0 ≡ Some y → more ≡ to ++ y ∷ [] → RenamedSoFar made xs (take (length left - 1) (drop 1 left)) more
+pub rename_next_at : (made xs left to more : List TermId) (d y : TermId) → RenamedSoFar made xs left to → 1 ≤ length left → slice_get made (get_or left 0 d).0 ≡ Some y → more ≡ to ++ y ∷ []
+    → RenamedSoFar made xs (take (length left - 1) (drop 1 left)) more
 rename_next_at made xs [] to more d y r h e m = absurd (omega arith)
 rename_next_at made xs (x ∷ q) to more d y r h e m =
     let P : List TermId → Type 0 = λ l. RenamedSoFar made xs l more in
@@ -507,7 +527,8 @@ module _ (ns : List Node) (by : List (Tree × Tree)) (x : TermId) (k : Term) (ma
   pub op_names : (op : Op) (xs ys : List TermId) → k ≡ Applied op xs → ys ≡ xs → ids_below (length made) ys ≡ true
   op_names op xs ys e f = let P : List TermId → Type 0 = λ l. ids_below (length made) l ≡ true in subst P (sym f) (made_within ns by made xs (all_of (Applied op xs) e))
 
-  pub op_facts : AreSwaps by → SecondsTyped by → (op : Op) (xs : List TermId) → k ≡ Applied op xs → term_tree (trees ns) k ≡ tree_at (trees ns) x → IsTyped (tree_at (trees ns) x) → (qs ys zs : List TermId) → qs ≡ xs → MadeFor made qs ys → zs ≡ ys → OpFacts ns by x op zs
+  pub op_facts : AreSwaps by → SecondsTyped by → (op : Op) (xs : List TermId) → k ≡ Applied op xs → term_tree (trees ns) k ≡ tree_at (trees ns) x → IsTyped (tree_at (trees ns) x)
+      → (qs ys zs : List TermId) → qs ≡ xs → MadeFor made qs ys → zs ≡ ys → OpFacts ns by x op zs
   op_facts s d op xs e shown h qs ys zs f m g =
       let P : List TermId → Type 0 = λ l. MadeFor made l ys in
       let Q : List TermId → Type 0 = λ l. OpFacts ns by x op l in
@@ -525,7 +546,8 @@ module _ (ns : List Node) (by : List (Tree × Tree)) (x : TermId) (k : Term) (ma
       let a = all_of (Choice c f t) e in
       (get_within made c.0 a.0 a.1, get_within made f.0 a.3.0 a.3.1, get_within made t.0 a.3.3.0 a.3.3.1)
 
-  pub choice_facts : AreSwaps by → SecondsTyped by → (c f t : TermId) → k ≡ Choice c f t → term_tree (trees ns) k ≡ tree_at (trees ns) x → IsTyped (tree_at (trees ns) x) → (u v w : TermId) → slice_get made c.0 ≡ Some u → slice_get made f.0 ≡ Some v → slice_get made t.0 ≡ Some w → ChoiceFacts ns by x u v w
+  pub choice_facts : AreSwaps by → SecondsTyped by → (c f t : TermId) → k ≡ Choice c f t → term_tree (trees ns) k ≡ tree_at (trees ns) x → IsTyped (tree_at (trees ns) x) → (u v w : TermId)
+      → slice_get made c.0 ≡ Some u → slice_get made f.0 ≡ Some v → slice_get made t.0 ≡ Some w → ChoiceFacts ns by x u v w
   choice_facts s d c f t e shown h u v w eu ev ew =
       let at : choice_of (tree_at (trees ns) c) (tree_at (trees ns) f) (tree_at (trees ns) t) ≡ tree_at (trees ns) x = sym (ap (term_tree (trees ns)) e) ∙ shown in
       let a = all_of (Choice c f t) e in
@@ -538,10 +560,11 @@ module _ (ns : List Node) (by : List (Tree × Tree)) (x : TermId) (k : Term) (ma
         made = choice_made ns by s d x c f t made at h a u v w eu ev ew;
       }
 
-pub if_ok_along : {E : Type 0} (q : Result TermId E) (new : List Node) (x z : Tree) → x ≡ z → IfOk q (λ y. Stands new y x) → IfOk q (λ y. Stands new y z)
-if_ok_along q new x z e h = let P : Tree → Type 0 = λ w. IfOk q (λ y. Stands new y w) in subst P e h
+pub if_ok_along : {E : Type 0} (q : Result TermId E) (new : List Node) (x z : Tree) → x ≡ z → IfOk q (λ y. StandsForTree new y x) → IfOk q (λ y. StandsForTree new y z)
+if_ok_along q new x z e h = let P : Tree → Type 0 = λ w. IfOk q (λ y. StandsForTree new y w) in subst P e h
 
-pub same_swapped : (old cur : List Node) → Grows old cur → (by : List (TermId × TermId)) → PairsIn old by → (t : TermId) → IsIn old t → swapped (pairs_at cur by) (tree_at (trees cur) t) ≡ swapped (pairs_at old by) (tree_at (trees old) t)
+pub same_swapped : (old cur : List Node) → Grows old cur → (by : List (TermId × TermId)) → PairsIn old by → (t : TermId) → IsIn old t
+    → swapped (pairs_at cur by) (tree_at (trees cur) t) ≡ swapped (pairs_at old by) (tree_at (trees old) t)
 same_swapped old cur g by p t h =
     let e = pairs_grown old cur g by p in
     let f = tree_grown old cur g t h in

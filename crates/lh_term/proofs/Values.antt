@@ -25,7 +25,8 @@ count_row [] = refl
 count_row (v ∷ vs) = omega (arith, count_row vs)
 
 -- the type of an array is that of so many of its first
-pub array_of : (vs : List Val) (v : Val) → slice_get vs 0 ≡ Some v → array_type (length vs) (value_type (datum_of v)) ≡ array_type (part_count (data_row (map datum_of vs))) (first_type (data_row (map datum_of vs)))
+pub array_of : (vs : List Val) (v : Val) → slice_get vs 0 ≡ Some v
+    → array_type (length vs) (value_type (datum_of v)) ≡ array_type (part_count (data_row (map datum_of vs))) (first_type (data_row (map datum_of vs)))
 array_of [] v e = cc
 array_of (w ∷ vs) v e =
     let p : w ≡ v = cc in
@@ -46,9 +47,11 @@ take_all (v ∷ vs) zero h = absurd (omega arith)
 take_all (v ∷ vs) (suc i) h = ap (λ r. v ∷ r) (take_all vs i (omega arith))
 
 -- all fields are there
-pub all_types : (fields : List TypeTree) (vs : List Val) (ds : List Datum) (i : ℕ) → map datum_of vs ≡ ds → fields ≡ map (λ (v : Val). value_type (datum_of v)) (take i vs) → length vs ≤ i → row_of fields ≡ value_types (data_row ds)
+pub all_types : (fields : List TypeTree) (vs : List Val) (ds : List Datum) (i : ℕ) → map datum_of vs ≡ ds → fields ≡ map (λ (v : Val). value_type (datum_of v)) (take i vs) → length vs ≤ i
+    → row_of fields ≡ value_types (data_row ds)
 all_types fields vs ds i w e h = ap row_of (e ∙ ap (map (λ (v : Val). value_type (datum_of v))) (take_all vs i h)) ∙ types_in vs ∙ ap (λ xs. value_types (data_row xs)) w
 
 -- the array is of so many of the first
-pub whole_array : (vs : List Val) (ds : List Datum) (v : Val) (t : TypeTree) → map datum_of vs ≡ ds → slice_get vs 0 ≡ Some v → t ≡ value_type (datum_of v) → array_type (length vs) t ≡ value_type (array_value (data_row ds))
+pub whole_array : (vs : List Val) (ds : List Datum) (v : Val) (t : TypeTree) → map datum_of vs ≡ ds → slice_get vs 0 ≡ Some v → t ≡ value_type (datum_of v)
+    → array_type (length vs) t ≡ value_type (array_value (data_row ds))
 whole_array vs ds v t w at e = ap (array_type (length vs)) e ∙ array_of vs v at ∙ ap (λ xs. value_type (array_value (data_row xs))) w

@@ -196,7 +196,8 @@ lt_trans_test : (a x z : ℕ) → a < x → nat_lt x z ≡ true → nat_lt a z �
 lt_trans_test a x z h e = of_lt a z (let k : x < z = lt_of x z e in omega arith)
 
 -- two terms come in front in place of x
-split_up : (ts : List Tree) (F : List Tree) (Z : List Tree) (z : ℕ) (x a b : TermId) (r : List TermId) → a.0 < x.0 → b.0 < x.0 → all_conjuncts (tree_at ts x) ≡ all_conjuncts (tree_at ts a) ++ all_conjuncts (tree_at ts b)
+split_up : (ts : List Tree) (F : List Tree) (Z : List Tree) (z : ℕ) (x a b : TermId) (r : List TermId) → a.0 < x.0 → b.0 < x.0
+    → all_conjuncts (tree_at ts x) ≡ all_conjuncts (tree_at ts a) ++ all_conjuncts (tree_at ts b)
     → (k : Bool) → nat_lt x.0 z ≡ k → Sub Z (F ++ flats ts (lower z (x ∷ r))) → Sub Z (F ++ flats ts (lower z (a ∷ b ∷ r)))
 split_up ts F Z z x a b r p q j true e c =
     let A = all_conjuncts (tree_at ts a) in
@@ -243,7 +244,8 @@ module _ (ns : List Node) (t : TermId) (seen : List Bool) (found : List TermId) 
   seen_length = set_length seen x.0 ∙ w.length_is
 
   -- x joins two terms
-  pub pop_joined : (a b : TermId) → a.0 < x.0 → b.0 < x.0 → all_conjuncts (tree_at (trees ns) x) ≡ all_conjuncts (tree_at (trees ns) a) ++ all_conjuncts (tree_at (trees ns) b) → Walk ns t (set seen x.0 true) found (a ∷ b ∷ r)
+  pub pop_joined : (a b : TermId) → a.0 < x.0 → b.0 < x.0 → all_conjuncts (tree_at (trees ns) x) ≡ all_conjuncts (tree_at (trees ns) a) ++ all_conjuncts (tree_at (trees ns) b)
+      → Walk ns t (set seen x.0 true) found (a ∷ b ∷ r)
   pop_joined a b p q j =
       let F = map (tree_at (trees ns)) found in
       let A = all_conjuncts (tree_at (trees ns) a) in
@@ -253,14 +255,16 @@ module _ (ns : List Node) (t : TermId) (seen : List Bool) (found : List TermId) 
       let h : x.0 < t.0 + 1 = lt_of x.0 (t.0 + 1) here_in in
       record {
         length_is = seen_length;
-        open_in = and_both_true (nat_lt a.0 (t.0 + 1)) (ids_below (t.0 + 1) (b ∷ r)) (of_lt a.0 (t.0 + 1) (omega arith)) (and_both_true (nat_lt b.0 (t.0 + 1)) (ids_below (t.0 + 1) r) (of_lt b.0 (t.0 + 1) (omega arith)) rest_in);
+        open_in = and_both_true (nat_lt a.0 (t.0 + 1)) (ids_below (t.0 + 1) (b ∷ r)) (of_lt a.0 (t.0 + 1) (omega arith))
+            (and_both_true (nat_lt b.0 (t.0 + 1)) (ids_below (t.0 + 1) r) (of_lt b.0 (t.0 + 1) (omega arith)) rest_in);
         found_in = w.found_in;
         goes = ap (with_terms F) (sym (append_assoc A B R) ∙ ap (λ m. m ++ R) (sym j)) ∙ w.goes;
         covers = λ z e. elim (get_set seen x.0 z.0 e) [
           | inl m ↦
               let same : z ≡ x = same_id z x m in
               let L = flats (trees ns) (lower x.0 r) in
-              let new : flats (trees ns) (lower x.0 (a ∷ b ∷ r)) ≡ A ++ (B ++ L) = in_front (trees ns) x.0 a (b ∷ r) true (of_lt a.0 x.0 p) ∙ ap (λ k. A ++ k) (in_front (trees ns) x.0 b r true (of_lt b.0 x.0 q)) in
+              let new : flats (trees ns) (lower x.0 (a ∷ b ∷ r)) ≡ A ++ (B ++ L) = in_front (trees ns) x.0 a (b ∷ r) true (of_lt a.0 x.0 p)
+              ∙ ap (λ k. A ++ k) (in_front (trees ns) x.0 b r true (of_lt b.0 x.0 q)) in
               let own : Sub X (F ++ (A ++ (B ++ L))) = sub_same (A ++ B) X (F ++ (A ++ (B ++ L))) (sym j)
               (sub_trans (A ++ B) ((A ++ B) ++ L) (F ++ (A ++ (B ++ L))) (sub_left (A ++ B) L)
               (sub_into ((A ++ B) ++ L) (F ++ ((A ++ B) ++ L)) (F ++ (A ++ (B ++ L))) (ap (λ k. F ++ k) (append_assoc A B L)) (sub_right F ((A ++ B) ++ L))))
@@ -294,7 +298,8 @@ module _ (ns : List Node) (t : TermId) (seen : List Bool) (found : List TermId) 
       }
 
   -- x is a conjunct that is not found yet
-  pub pop_leaf : (list_any (same_tree (tree_at (trees ns) x)) (map (tree_at (trees ns)) found) ≡ false) → all_conjuncts (tree_at (trees ns) x) ≡ tree_at (trees ns) x ∷ [] → Walk ns t (set seen x.0 true) (found ++ x ∷ []) r
+  pub pop_leaf : (list_any (same_tree (tree_at (trees ns) x)) (map (tree_at (trees ns)) found) ≡ false) → all_conjuncts (tree_at (trees ns) x) ≡ tree_at (trees ns) x ∷ []
+      → Walk ns t (set seen x.0 true) (found ++ x ∷ []) r
   pop_leaf new j =
       let T = tree_at (trees ns) in
       let F = map (tree_at (trees ns)) found in
@@ -363,7 +368,8 @@ id_below k (y ∷ xs) zero x h e = let q : y ≡ x = cc in let P : TermId → Ty
 id_below k (y ∷ xs) (suc i) x h e = id_below k xs i x (second_so (nat_lt y.0 k) (ids_below k xs) h) e
 
 -- a term whose flag is not set is not found yet
-pub not_found : (ns : List Node) (t : TermId) (seen : List Bool) (found : List TermId) (x : TermId) (r : List TermId) → Walk ns t seen found (x ∷ r) → OneId ns → IsIn ns t → slice_get seen x.0 ≡ Some false → list_any (same_tree (tree_at (trees ns) x)) (map (tree_at (trees ns)) found) ≡ false
+pub not_found : (ns : List Node) (t : TermId) (seen : List Bool) (found : List TermId) (x : TermId) (r : List TermId) → Walk ns t seen found (x ∷ r) → OneId ns → IsIn ns t
+    → slice_get seen x.0 ≡ Some false → list_any (same_tree (tree_at (trees ns) x)) (map (tree_at (trees ns)) found) ≡ false
 not_found ns t seen found x r w apart h e = by (list_any (same_tree (tree_at (trees ns) x)) (map (tree_at (trees ns)) found)) refl
   where
     by : (b : Bool) → list_any (same_tree (tree_at (trees ns) x)) (map (tree_at (trees ns)) found) ≡ b → b ≡ false
@@ -391,15 +397,20 @@ joined_and q a e =
     ap (λ b. if b then all_conjuncts q ++ (all_conjuncts a ++ []) else operation_on And (q ∷ a ∷ []) ∷ []) e ∙ ap (λ m. all_conjuncts q ++ m) (append-nil (all_conjuncts a))
 
 -- `and` has two operands
-finds_joined : (ns : List Node) (x : TermId) (op : Op) (xs : List TermId) → ids_below x.0 xs ≡ true → IsTyped (operation_on op (map (tree_at (trees ns)) xs)) → same_type (type_of (operation_on op (map (tree_at (trees ns)) xs))) (int_type 1) ≡ true → FindsJoined ns x (and_operands op xs) (operation_on op (map (tree_at (trees ns)) xs))
+finds_joined : (ns : List Node) (x : TermId) (op : Op) (xs : List TermId) → ids_below x.0 xs ≡ true → IsTyped (operation_on op (map (tree_at (trees ns)) xs))
+    → same_type (type_of (operation_on op (map (tree_at (trees ns)) xs))) (int_type 1) ≡ true → FindsJoined ns x (and_operands op xs) (operation_on op (map (tree_at (trees ns)) xs))
 finds_joined ns x And [] h t e = let k = t.1.row.1 in cc
 finds_joined ns x And (q ∷ []) h t e = let k = t.1.row.1 in cc
-finds_joined ns x And (q ∷ a ∷ []) h t e =
-    (lt_of q.0 x.0 (first_so (nat_lt q.0 x.0) (nat_lt a.0 x.0 && true) h), lt_of a.0 x.0 (first_so (nat_lt a.0 x.0) true (second_so (nat_lt q.0 x.0) (nat_lt a.0 x.0 && true) h)), joined_and (tree_at (trees ns) q) (tree_at (trees ns) a) e)
+finds_joined ns x And (q ∷ a ∷ []) h t e = (
+  lt_of q.0 x.0 (first_so (nat_lt q.0 x.0) (nat_lt a.0 x.0 && true) h),
+  lt_of a.0 x.0 (first_so (nat_lt a.0 x.0) true (second_so (nat_lt q.0 x.0) (nat_lt a.0 x.0 && true) h)),
+  joined_and (tree_at (trees ns) q) (tree_at (trees ns) a) e,
+)
 finds_joined ns x And (q ∷ a ∷ b ∷ xs) h t e = let k = t.1.row.1 in cc
 finds_joined ns x op xs h t e = refl
 
-pub joined_at : (ns : List Node) (x : TermId) (op : Op) (xs : List TermId) → operation_on op (map (tree_at (trees ns)) xs) ≡ tree_at (trees ns) x → ids_below x.0 xs ≡ true → IsTyped (tree_at (trees ns) x) → same_type (type_of (tree_at (trees ns) x)) (int_type 1) ≡ true → FindsJoined ns x (and_operands op xs) (tree_at (trees ns) x)
+pub joined_at : (ns : List Node) (x : TermId) (op : Op) (xs : List TermId) → operation_on op (map (tree_at (trees ns)) xs) ≡ tree_at (trees ns) x → ids_below x.0 xs ≡ true
+    → IsTyped (tree_at (trees ns) x) → same_type (type_of (tree_at (trees ns) x)) (int_type 1) ≡ true → FindsJoined ns x (and_operands op xs) (tree_at (trees ns) x)
 joined_at ns x op xs e h t s =
     let P : Tree → Type 0 = λ y. IsTyped y → same_type (type_of y) (int_type 1) ≡ true → FindsJoined ns x (and_operands op xs) y in
     subst P e (finds_joined ns x op xs h) t s
@@ -413,13 +424,15 @@ start_at ns t seen found items p q r =
     let R : List TermId → Type 0 = λ k. Walk ns t (replicate (t.0 + 1) false) [] (tops k) in
     subst P (sym p) (subst Q (sym q) (subst R (sym r) (walk_start ns t)))
 
-pub popped : (ns : List Node) (t : TermId) (seen : List Bool) (found items left : List TermId) (x : TermId) → items ≡ left ++ x ∷ [] → Walk ns t seen found (tops items) → Walk ns t seen found (x ∷ tops left)
+pub popped : (ns : List Node) (t : TermId) (seen : List Bool) (found items left : List TermId) (x : TermId) → items ≡ left ++ x ∷ [] → Walk ns t seen found (tops items)
+    → Walk ns t seen found (x ∷ tops left)
 popped ns t seen found items left x p w = let P : List TermId → Type 0 = λ s. Walk ns t seen found s in subst P (ap tops p ∙ tops_push left x) w
 
 pub open_within : (ns : List Node) (t : TermId) (seen : List Bool) (found : List TermId) (x : TermId) (r : List TermId) → Walk ns t seen found (x ∷ r) → x.0 < t.0 + 1
 open_within ns t seen found x r w = lt_of x.0 (t.0 + 1) (here_in ns t seen found x r w)
 
-pub two_more : (ns : List Node) (t : TermId) (seen : List Bool) (found left more all : List TermId) (a b : TermId) → more ≡ left ++ b ∷ [] → all ≡ more ++ a ∷ [] → Walk ns t seen found (a ∷ b ∷ tops left) → Walk ns t seen found (tops all)
+pub two_more : (ns : List Node) (t : TermId) (seen : List Bool) (found left more all : List TermId) (a b : TermId) → more ≡ left ++ b ∷ [] → all ≡ more ++ a ∷ []
+    → Walk ns t seen found (a ∷ b ∷ tops left) → Walk ns t seen found (tops all)
 two_more ns t seen found left more all a b p q w =
     let P : List TermId → Type 0 = λ s. Walk ns t seen found s in
     subst P (sym (ap tops q ∙ tops_push more a ∙ ap (λ r. a ∷ r) (ap tops p ∙ tops_push left b))) w
@@ -427,10 +440,12 @@ two_more ns t seen found left more all a b p q w =
 pub one_found : (ns : List Node) (t : TermId) (seen : List Bool) (found more s : List TermId) (x : TermId) → more ≡ found ++ x ∷ [] → Walk ns t seen (found ++ x ∷ []) s → Walk ns t seen more s
 one_found ns t seen found more s x p w = let P : List TermId → Type 0 = λ k. Walk ns t seen k s in subst P (sym p) w
 
-pub fewer : (seen : List Bool) (x : TermId) (items left : List TermId) → slice_get seen x.0 ≡ Some false → items ≡ left ++ x ∷ [] → 2 * unset (set seen x.0 true) + length left < 2 * unset seen + length items
+pub fewer : (seen : List Bool) (x : TermId) (items left : List TermId) → slice_get seen x.0 ≡ Some false → items ≡ left ++ x ∷ []
+    → 2 * unset (set seen x.0 true) + length left < 2 * unset seen + length items
 fewer seen x items left e p = omega (arith, unset_falls seen x.0 e, ap length p, length-append left (x ∷ []))
 
-pub fewer_but_two : (seen : List Bool) (x : TermId) (items left more all : List TermId) (a b : TermId) → slice_get seen x.0 ≡ Some false → items ≡ left ++ x ∷ [] → more ≡ left ++ b ∷ [] → all ≡ more ++ a ∷ [] → 2 * unset (set seen x.0 true) + length all < 2 * unset seen + length items
+pub fewer_but_two : (seen : List Bool) (x : TermId) (items left more all : List TermId) (a b : TermId) → slice_get seen x.0 ≡ Some false → items ≡ left ++ x ∷ [] → more ≡ left ++ b ∷ []
+    → all ≡ more ++ a ∷ [] → 2 * unset (set seen x.0 true) + length all < 2 * unset seen + length items
 fewer_but_two seen x items left more all a b e p q r =
     omega (arith, unset_falls seen x.0 e, ap length p, length-append left (x ∷ []), ap length q, length-append left (b ∷ []), ap length r, length-append more (a ∷ []))
 
@@ -438,5 +453,6 @@ pub none_left : (xs : List TermId) → length xs ≡ 0 → xs ≡ []
 none_left [] e = refl
 none_left (x ∷ xs) e = absurd (omega arith)
 
-pub walk_ends : (ns : List Node) (t : TermId) (seen : List Bool) (found items : List TermId) → length items ≡ 0 → Walk ns t seen found (tops items) → trees_at ns found ≡ conjuncts_of (tree_at (trees ns) t)
+pub walk_ends : (ns : List Node) (t : TermId) (seen : List Bool) (found items : List TermId) → length items ≡ 0 → Walk ns t seen found (tops items)
+    → trees_at ns found ≡ conjuncts_of (tree_at (trees ns) t)
 walk_ends ns t seen found items e w = let P : List TermId → Type 0 = λ k. Walk ns t seen found (tops k) in let v = subst P (none_left items e) w in v.goes

@@ -79,7 +79,7 @@ abbrev pub trees_at : List Node → List TermId → List Tree
 trees_at ns ts = map (tree_at (trees ns)) ts
 
 -- the id is one of the arena, and stands for the tree
-pub record Stands (ns : List Node) (t : TermId) (x : Tree) : Type 0 where
+pub record StandsForTree (ns : List Node) (t : TermId) (x : Tree) : Type 0 where
   pub is_in : IsIn ns t
   pub tree : tree_at (trees ns) t ≡ x
 

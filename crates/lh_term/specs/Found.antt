@@ -10,9 +10,9 @@ use Rattle.lh_term.specs.Conjuncts.{all_conjuncts}
 use Rattle.lh_term.specs.Arena.{tree_at, trees, IsIn}
 
 -- an id of the arena stands for the tree that there is, or there is none
-abbrev pub Finds : List Node → Option TermId → Option Tree → Type 0
-Finds ns None x = x ≡ None
-Finds ns (Some t) x = IsIn ns t × (x ≡ Some (tree_at (trees ns) t))
+abbrev pub FindsTerm : List Node → Option TermId → Option Tree → Type 0
+FindsTerm ns None x = x ≡ None
+FindsTerm ns (Some t) x = IsIn ns t × (x ≡ Some (tree_at (trees ns) t))
 
 abbrev pub FindsPair : List Node → Option (TermId × TermId) → Option (Tree × Tree) → Type 0
 FindsPair ns None x = x ≡ None

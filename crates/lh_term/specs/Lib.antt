@@ -1,4 +1,5 @@
 pub mod Tree
+pub mod Leaves
 pub mod Types
 pub mod Mean
 pub mod Same

@@ -1,7 +1,7 @@
 -- Which terms a term is made of, by flags, and which were made in their places.
 use Rattle.std.specs.Prelude.{◌≡◌, ◌<◌, ◌≤◌, ℕ, ◌+◌, Bool, true, List, [], ◌∷◌, length, slice_get, Option, Some}
 use Rattle.lh_term.specs.Tree.{Tree}
-use Rattle.lh_term.specs.Arena.{tree_at, trees, terms_in, Stands}
+use Rattle.lh_term.specs.Arena.{tree_at, trees, terms_in, StandsForTree}
 use Rattle.lh_term.specs.Subst.{swapped}
 use Rattle.lh_term.specs.declared.term.TermId.{TermId}
 use Rattle.lh_term.specs.declared.term.Term.{Term}
@@ -44,7 +44,7 @@ Reaches ns t flags = ReachesFrom ns t flags 0
 -- for each id there is what was made in its place, which stands for its term with the values of parts replaced
 abbrev pub AllMade : List Node → List (Tree × Tree) → List TermId → List TermId → Type 0
 AllMade ns by made [] = Unit {0}
-AllMade ns by made (x ∷ xs) = (y : TermId) × (slice_get made x.0 ≡ Some y) × Stands ns y (swapped by (tree_at (trees ns) x)) × AllMade ns by made xs
+AllMade ns by made (x ∷ xs) = (y : TermId) × (slice_get made x.0 ≡ Some y) × StandsForTree ns y (swapped by (tree_at (trees ns) x)) × AllMade ns by made xs
 
 -- there is what was made in place of each operand of x
 abbrev pub OperandsMade : List Node → List (Tree × Tree) → TermId → List TermId → Type 0

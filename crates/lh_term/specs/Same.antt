@@ -5,6 +5,11 @@ use Rattle.std.proofs.Common.{arith, sym, ◌∙◌}
 use Rattle.std.proofs.lemmas.Grind.{common_steps}
 use Rattle.lh_types.specs.Types.{same_type}
 use Rattle.lh_types.specs.Same.{and_both, test_equiv, same-is, same-refl}
+use Rattle.lh_types.specs.Classes.{class_of}
+use Rattle.lh_types.specs.declared.part.Step.{Step}
+use Rattle.lh_types.specs.declared.part.Step.TheVariants.{Field, Slice}
+use Rattle.lh_types.specs.declared.op.OpClass.{OpClass}
+use Rattle.lh_types.specs.declared.op.OpClass.TheVariants as class
 use Rattle.lh_types.specs.declared.op.Op.{Op}
 use Rattle.lh_types.specs.declared.op.Op.TheVariants.{Not, Neg, Add, Sub, Umul, Smul, Udiv, Sdiv, Umod, Smod, Urem, Srem, And, Or, Xor, Eq, Neq, Slt, Sgt, Sle, Sge, Ult, Ugt, Ule, Uge, Shl, Shr, Mux, Array, Tuple, Extf, Exts, Insf, Inss, Repeat}
 use Rattle.lh_term.specs.declared.part.Part.{Part}
@@ -53,27 +58,57 @@ op_tag (Insf k) = 32
 op_tag (Inss o n) = 33
 op_tag (Repeat k) = 34
 
+-- the numbers of a step, and 0 where it has no second one
+abbrev pub step_first : Step → ℕ
+step_first (Field k) = k
+step_first (Slice o n) = o
+
+abbrev pub step_second : Step → ℕ
+step_second (Field k) = 0
+step_second (Slice o n) = n
+
+-- the numbers that an operation of the class has, and 0 where it has none
+abbrev pub class_first : OpClass → ℕ
+class_first class.Unary = 0
+class_first class.Binary = 0
+class_first class.Relation = 0
+class_first class.Equality = 0
+class_first class.Shift = 0
+class_first class.Select = 0
+class_first (class.TakePart s) = step_first s
+class_first (class.PutPart s) = step_first s
+class_first class.Array = 0
+class_first (class.Repeat k) = k
+class_first class.Tuple = 0
+
+abbrev pub class_second : OpClass → ℕ
+class_second class.Unary = 0
+class_second class.Binary = 0
+class_second class.Relation = 0
+class_second class.Equality = 0
+class_second class.Shift = 0
+class_second class.Select = 0
+class_second (class.TakePart s) = step_second s
+class_second (class.PutPart s) = step_second s
+class_second class.Array = 0
+class_second (class.Repeat k) = 0
+class_second class.Tuple = 0
+
 -- the first number that an operation has, and 0 where it has none
 abbrev pub op_first : Op → ℕ
-op_first (Extf k) = k
-op_first (Exts o n) = o
-op_first (Insf k) = k
-op_first (Inss o n) = o
-op_first (Repeat k) = k
-op_first _ = 0
+op_first op = class_first (class_of op)
 
 -- its second number
 abbrev pub op_second : Op → ℕ
-op_second (Exts o n) = n
-op_second (Inss o n) = n
-op_second _ = 0
+op_second op = class_second (class_of op)
 
 -- one operation with the same numbers
 abbrev pub same_op : Op → Op → Bool
 same_op a b = nat_eq (op_tag a) (op_tag b) && (nat_eq (op_first a) (op_first b) && nat_eq (op_second a) (op_second b))
 
 op_of : ℕ → ℕ → ℕ → Op
-op_of k n m = slice_index_or (Not ∷ Neg ∷ Add ∷ Sub ∷ Umul ∷ Smul ∷ Udiv ∷ Sdiv ∷ Umod ∷ Smod ∷ Urem ∷ Srem ∷ And ∷ Or ∷ Xor ∷ Eq ∷ Neq ∷ Slt ∷ Sgt ∷ Sle ∷ Sge ∷ Ult ∷ Ugt ∷ Ule ∷ Uge ∷ Shl ∷ Shr ∷ Mux ∷ Array ∷ Tuple ∷ Extf n ∷ Exts n m ∷ Insf n ∷ Inss n m ∷ Repeat n ∷ []) k Not
+op_of k n m = slice_index_or (Not ∷ Neg ∷ Add ∷ Sub ∷ Umul ∷ Smul ∷ Udiv ∷ Sdiv ∷ Umod ∷ Smod ∷ Urem ∷ Srem ∷ And ∷ Or ∷ Xor ∷ Eq ∷ Neq ∷ Slt ∷ Sgt ∷ Sle ∷ Sge ∷ Ult ∷ Ugt ∷ Ule ∷ Uge ∷ Shl ∷ Shr
+    ∷ Mux ∷ Array ∷ Tuple ∷ Extf n ∷ Exts n m ∷ Insf n ∷ Inss n m ∷ Repeat n ∷ []) k Not
 
 op_of-is : (a : Op) → op_of (op_tag a) (op_first a) (op_second a) ≡ a
 unfolding op_of

@@ -5,8 +5,12 @@ use Rattle.lh_types.specs.Types.{TypeTree, TypeRow, int_type, time_type, void_ty
 use Rattle.lh_types.specs.Values.{Datum, DatumRow, int_value, time_value, array_value, tuple_value, no_values, more_values}
 use Rattle.lh_types.specs.Fits.{FitsType, part_count}
 use Rattle.lh_types.specs.ApplyTypes.{RowType}
+use Rattle.lh_types.specs.Classes.{class_of}
 use Rattle.lh_types.specs.declared.op.Op.{Op}
-use Rattle.lh_types.specs.declared.op.Op.TheVariants.{Eq, Neq, Slt, Sgt, Sle, Sge, Ult, Ugt, Ule, Uge, Mux, Extf, Exts, Array, Repeat, Tuple}
+use Rattle.lh_types.specs.declared.op.OpClass.{OpClass}
+use Rattle.lh_types.specs.declared.op.OpClass.TheVariants as class
+use Rattle.lh_types.specs.declared.part.Step.{Step}
+use Rattle.lh_types.specs.declared.part.Step.TheVariants.{Field, Slice}
 use Rattle.lh_term.specs.Tree.{Tree, TreeRow, constant, past_of, now_of, operation, choice_of, no_trees, more_trees}
 
 abbrev mutual
@@ -55,29 +59,46 @@ slice_type (int_type m) n = int_type n
 slice_type (array_type m t) n = array_type n t
 slice_type _ n = void_type
 
+-- whether a row of the class tells one bit
+abbrev pub class_gives_bit : OpClass → Bool
+class_gives_bit class.Unary = false
+class_gives_bit class.Binary = false
+class_gives_bit class.Relation = true
+class_gives_bit class.Equality = true
+class_gives_bit class.Shift = false
+class_gives_bit class.Select = false
+class_gives_bit (class.TakePart s) = false
+class_gives_bit (class.PutPart s) = false
+class_gives_bit class.Array = false
+class_gives_bit (class.Repeat k) = false
+class_gives_bit class.Tuple = false
+
 -- whether a row tells one bit
 abbrev pub gives_bit : Op → Bool
-gives_bit Eq = true
-gives_bit Neq = true
-gives_bit Slt = true
-gives_bit Sgt = true
-gives_bit Sle = true
-gives_bit Sge = true
-gives_bit Ult = true
-gives_bit Ugt = true
-gives_bit Ule = true
-gives_bit Uge = true
-gives_bit op = false
+gives_bit op = class_gives_bit (class_of op)
+
+-- the type of the part that a step leads to
+abbrev pub step_type : Step → TypeTree → TypeTree
+step_type (Field k) t = field_type t k
+step_type (Slice o n) t = slice_type t n
+
+-- the type of what a row of the class gives on operands of these types, by the first, where it tells more than one bit
+abbrev pub class_by_first : OpClass → TypeTree → List TypeTree → TypeTree
+class_by_first class.Unary t ts = t
+class_by_first class.Binary t ts = t
+class_by_first class.Relation t ts = t
+class_by_first class.Equality t ts = t
+class_by_first class.Shift t ts = t
+class_by_first class.Select t ts = element_of t
+class_by_first (class.TakePart s) t ts = step_type s t
+class_by_first (class.PutPart s) t ts = t
+class_by_first class.Array t ts = array_type (length ts) t
+class_by_first (class.Repeat k) t ts = array_type k t
+class_by_first class.Tuple t ts = tuple_type (row_of ts)
 
 -- the type of what any other row gives on operands of these types, by the first
 abbrev pub type_by_first : Op → TypeTree → List TypeTree → TypeTree
-type_by_first Mux t ts = element_of t
-type_by_first (Extf k) t ts = field_type t k
-type_by_first (Exts o k) t ts = slice_type t k
-type_by_first Array t ts = array_type (length ts) t
-type_by_first (Repeat k) t ts = array_type k t
-type_by_first Tuple t ts = tuple_type (row_of ts)
-type_by_first op t ts = t
+type_by_first op t ts = class_by_first (class_of op) t ts
 
 -- the type of what a row gives on operands of these types
 abbrev pub row_result : Op → List TypeTree → TypeTree

@@ -45,10 +45,7 @@ impl Terms {
         ensures { IfOk result (λ flags. flags.items ≡ replicate (t.0 + 1) false) }
     {
         let _len = self.len();
-        match vec![in self.allocator(); false; t.0 + 1] {
-            Ok(flags) => Ok(flags),
-            Err(_) => Err(NoMemory),
-        }
+        Ok(vec![in self.allocator(); false; t.0 + 1]?)
     }
 
     /// `a` and `b` where the term is `and(a, b)` on one bit.

@@ -6,8 +6,8 @@ ghost use Rattle.lh_types.specs.Apply as rows;
 ghost use Rattle.lh_term.specs.Tree.{constant, tree_row};
 ghost use Rattle.lh_term.specs.Types.{FitsTerm, TakesTypes, type_of, types_of};
 ghost use Rattle.lh_term.specs.Make as table;
-ghost use Rattle.lh_term.specs.Arena.{trees, tree_at, trees_at, IsIn, AreIn, Stands, Grows};
-ghost use Rattle.lh_term.specs.Found.{Finds, FindsPair};
+ghost use Rattle.lh_term.specs.Arena.{trees, tree_at, trees_at, IsIn, AreIn, StandsForTree, Grows};
+ghost use Rattle.lh_term.specs.Found.{FindsTerm, FindsPair};
 ghost use Rattle.lh_term.specs.Found as find;
 
 use crate::term::{Term, TermId};
@@ -78,7 +78,7 @@ impl Terms {
     /// `y` where the term is `not y`.
     pub(crate) fn negated(&self, x: TermId) -> Option<TermId>
         requires { IsIn self.now x }
-        ensures { Finds self.now result (table.negated (tree_at (trees self.now) x)) }
+        ensures { FindsTerm self.now result (table.negated (tree_at (trees self.now) x)) }
     {
         match self.view(x) {
             Term::Op { op, args } => not_operand(op, args.as_slice()),
@@ -113,7 +113,7 @@ impl Terms {
     pub(crate) fn halves(&self, x: TermId, y: TermId) -> Option<TermId>
         requires x_in { IsIn self.now x }
         requires y_in { IsIn self.now y }
-        ensures { Finds self.now result (table.halves (table.anded (tree_at (trees self.now) x)) (table.anded (tree_at (trees self.now) y))) }
+        ensures { FindsTerm self.now result (table.halves (table.anded (tree_at (trees self.now) x)) (table.anded (tree_at (trees self.now) y))) }
     {
         let (q, a) = self.anded(x)?;
         let (r, b) = self.anded(y)?;
@@ -137,7 +137,7 @@ impl Terms {
         requires within { AreIn self.old args.now }
         requires fits { TakesTypes op.now (types_of (tree_row (trees_at self.old args.now))) }
         requires constants { table.all_constant (trees_at self.old args.now) ≡ true }
-        ensures made { IfOk result (λ t. Stands self.new t (constant (rows.apply op.now (table.values_in (trees_at self.old args.now))))) }
+        ensures made { IfOk result (λ t. StandsForTree self.new t (constant (rows.apply op.now (table.values_in (trees_at self.old args.now))))) }
         ensures kept { Grows self.old self.new }
     {
         self.are_typed(args);
@@ -178,7 +178,7 @@ impl Terms {
     pub(crate) fn zero_like(&mut self, x: TermId) -> Result<TermId, NoMemory>
         requires is_in { IsIn self.old x }
         requires integer { (n : ℕ) × (type_of (tree_at (trees self.old) x) ≡ int_type n) × IsData (int_type n) }
-        ensures made { IfOk result (λ t. Stands self.new t (table.zero_like (tree_at (trees self.old) x))) }
+        ensures made { IfOk result (λ t. StandsForTree self.new t (table.zero_like (tree_at (trees self.old) x))) }
         ensures kept { Grows self.old self.new }
     {
         let width = self.width(x);
@@ -189,7 +189,7 @@ impl Terms {
     pub(crate) fn ones_like(&mut self, x: TermId) -> Result<TermId, NoMemory>
         requires is_in { IsIn self.old x }
         requires integer { (n : ℕ) × (type_of (tree_at (trees self.old) x) ≡ int_type n) × IsData (int_type n) }
-        ensures made { IfOk result (λ t. Stands self.new t (table.ones_like (tree_at (trees self.old) x))) }
+        ensures made { IfOk result (λ t. StandsForTree self.new t (table.ones_like (tree_at (trees self.old) x))) }
         ensures kept { Grows self.old self.new }
     {
         let width = self.width(x);
@@ -212,7 +212,7 @@ impl Terms {
 
     /// An integer of one bit.
     pub(crate) fn bit(&mut self, b: bool) -> Result<TermId, NoMemory>
-        ensures made { IfOk result (λ t. Stands self.new t (table.bit_of b)) }
+        ensures made { IfOk result (λ t. StandsForTree self.new t (table.bit_of b)) }
         ensures kept { Grows self.old self.new }
     {
         self.konst(Val::Int {

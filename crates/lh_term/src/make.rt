@@ -5,7 +5,7 @@ ghost use Rattle.lh_types.specs.ValueOf.{datum_of};
 ghost use Rattle.lh_term.specs.Tree.{constant, past_of, now_of, tree_row};
 ghost use Rattle.lh_term.specs.Types.{FitsTerm, TakesTypes, Chooses, type_of, types_of};
 ghost use Rattle.lh_term.specs.Make as table;
-ghost use Rattle.lh_term.specs.Arena.{trees, tree_at, trees_at, IsIn, AreIn, Stands, Grows};
+ghost use Rattle.lh_term.specs.Arena.{trees, tree_at, trees_at, IsIn, AreIn, StandsForTree, Grows};
 
 use crate::part::Part;
 use crate::term::{Node, Term, TermId};
@@ -21,7 +21,7 @@ impl Terms {
     /// For want of memory, here and in the calls below, the terms made before keep their ids.
     pub fn konst(&mut self, v: Val) -> Result<TermId, NoMemory>
         requires { FitsTerm (datum_of v) }
-        ensures made { IfOk result (λ t. Stands self.new t (constant (datum_of v))) }
+        ensures made { IfOk result (λ t. StandsForTree self.new t (constant (datum_of v))) }
         ensures kept { Grows self.old self.new }
     {
         let Ok(ty) = value_type(self.allocator(), &v) else {
@@ -36,7 +36,7 @@ impl Terms {
     /// The value of a part at an earlier activation; the part is of a data type.
     pub fn past(&mut self, p: &Part) -> Result<TermId, NoMemory>
         requires { IsData p.now.ty }
-        ensures made { IfOk result (λ t. Stands self.new t (past_of p.now)) }
+        ensures made { IfOk result (λ t. StandsForTree self.new t (past_of p.now)) }
         ensures kept { Grows self.old self.new }
     {
         let ty = p.ty.copy()?;
@@ -50,7 +50,7 @@ impl Terms {
     /// The value of a part now; the part is of a data type.
     pub fn now(&mut self, p: &Part) -> Result<TermId, NoMemory>
         requires { IsData p.now.ty }
-        ensures made { IfOk result (λ t. Stands self.new t (now_of p.now)) }
+        ensures made { IfOk result (λ t. StandsForTree self.new t (now_of p.now)) }
         ensures kept { Grows self.old self.new }
     {
         let ty = p.ty.copy()?;
@@ -66,7 +66,7 @@ impl Terms {
     pub fn op(&mut self, op: &Op, args: &[TermId]) -> Result<TermId, NoMemory>
         requires within { AreIn self.old args.now }
         requires fits { TakesTypes op.now (types_of (tree_row (trees_at self.old args.now))) }
-        ensures made { IfOk result (λ t. Stands self.new t (table.make_operation op.now (trees_at self.old args.now))) }
+        ensures made { IfOk result (λ t. StandsForTree self.new t (table.make_operation op.now (trees_at self.old args.now))) }
         ensures kept { Grows self.old self.new }
     {
         if self.are_constant(args) {
@@ -86,7 +86,7 @@ impl Terms {
         requires f_in { IsIn self.old f }
         requires t_in { IsIn self.old t }
         requires fits { Chooses (type_of (tree_at (trees self.old) c)) (type_of (tree_at (trees self.old) f)) (type_of (tree_at (trees self.old) t)) }
-        ensures made { IfOk result (λ x. Stands self.new x (table.make_choice (tree_at (trees self.old) c) (tree_at (trees self.old) f) (tree_at (trees self.old) t))) }
+        ensures made { IfOk result (λ x. StandsForTree self.new x (table.make_choice (tree_at (trees self.old) c) (tree_at (trees self.old) f) (tree_at (trees self.old) t))) }
         ensures kept { Grows self.old self.new }
     {
         if self.is_bit(c, 0) {
@@ -118,7 +118,7 @@ impl Terms {
     fn unary(&mut self, op: &Op, x: TermId) -> Result<TermId, NoMemory>
         requires is_in { IsIn self.old x }
         requires fits { TakesTypes op.now (type_of (tree_at (trees self.old) x) ∷ []) }
-        ensures made { IfOk result (λ t. Stands self.new t (table.rows_of op.now (tree_at (trees self.old) x ∷ []))) }
+        ensures made { IfOk result (λ t. StandsForTree self.new t (table.rows_of op.now (tree_at (trees self.old) x ∷ []))) }
         ensures kept { Grows self.old self.new }
     {
         match op {
@@ -132,7 +132,7 @@ impl Terms {
         requires x_in { IsIn self.old x }
         requires y_in { IsIn self.old y }
         requires fits { TakesTypes op.now (type_of (tree_at (trees self.old) x) ∷ type_of (tree_at (trees self.old) y) ∷ []) }
-        ensures made { IfOk result (λ t. Stands self.new t (table.rows_of op.now (tree_at (trees self.old) x ∷ tree_at (trees self.old) y ∷ []))) }
+        ensures made { IfOk result (λ t. StandsForTree self.new t (table.rows_of op.now (tree_at (trees self.old) x ∷ tree_at (trees self.old) y ∷ []))) }
         ensures kept { Grows self.old self.new }
     {
         match op {
@@ -148,7 +148,7 @@ impl Terms {
     fn negation(&mut self, x: TermId) -> Result<TermId, NoMemory>
         requires is_in { IsIn self.old x }
         requires fits { TakesTypes Op.Not (type_of (tree_at (trees self.old) x) ∷ []) }
-        ensures made { IfOk result (λ t. Stands self.new t (table.make_not (tree_at (trees self.old) x))) }
+        ensures made { IfOk result (λ t. StandsForTree self.new t (table.make_not (tree_at (trees self.old) x))) }
         ensures kept { Grows self.old self.new }
     {
         if self.is_constant(x) {
@@ -160,7 +160,7 @@ impl Terms {
     fn not_term(&mut self, x: TermId) -> Result<TermId, NoMemory>
         requires is_in { IsIn self.old x }
         requires fits { TakesTypes Op.Not (type_of (tree_at (trees self.old) x) ∷ []) }
-        ensures made { IfOk result (λ t. Stands self.new t (table.not_rows (tree_at (trees self.old) x))) }
+        ensures made { IfOk result (λ t. StandsForTree self.new t (table.not_rows (tree_at (trees self.old) x))) }
         ensures kept { Grows self.old self.new }
     {
         match self.negated(x) {
@@ -173,7 +173,7 @@ impl Terms {
         requires x_in { IsIn self.old x }
         requires y_in { IsIn self.old y }
         requires fits { TakesTypes Op.And (type_of (tree_at (trees self.old) x) ∷ type_of (tree_at (trees self.old) y) ∷ []) }
-        ensures made { IfOk result (λ t. Stands self.new t (table.and_rows (tree_at (trees self.old) x) (tree_at (trees self.old) y))) }
+        ensures made { IfOk result (λ t. StandsForTree self.new t (table.and_rows (tree_at (trees self.old) x) (tree_at (trees self.old) y))) }
         ensures kept { Grows self.old self.new }
     {
         if self.is_zero(y) {
@@ -204,7 +204,7 @@ impl Terms {
         requires x_in { IsIn self.old x }
         requires y_in { IsIn self.old y }
         requires fits { TakesTypes Op.Or (type_of (tree_at (trees self.old) x) ∷ type_of (tree_at (trees self.old) y) ∷ []) }
-        ensures made { IfOk result (λ t. Stands self.new t (table.or_rows (tree_at (trees self.old) x) (tree_at (trees self.old) y))) }
+        ensures made { IfOk result (λ t. StandsForTree self.new t (table.or_rows (tree_at (trees self.old) x) (tree_at (trees self.old) y))) }
         ensures kept { Grows self.old self.new }
     {
         if self.is_zero(y) {
@@ -238,7 +238,7 @@ impl Terms {
         requires x_in { IsIn self.old x }
         requires y_in { IsIn self.old y }
         requires fits { TakesTypes Op.Eq (type_of (tree_at (trees self.old) x) ∷ type_of (tree_at (trees self.old) y) ∷ []) }
-        ensures made { IfOk result (λ t. Stands self.new t (table.eq_rows (tree_at (trees self.old) x) (tree_at (trees self.old) y))) }
+        ensures made { IfOk result (λ t. StandsForTree self.new t (table.eq_rows (tree_at (trees self.old) x) (tree_at (trees self.old) y))) }
         ensures kept { Grows self.old self.new }
     {
         if self.same(x, y) {
@@ -263,7 +263,7 @@ impl Terms {
         requires x_in { IsIn self.old x }
         requires y_in { IsIn self.old y }
         requires fits { TakesTypes Op.Neq (type_of (tree_at (trees self.old) x) ∷ type_of (tree_at (trees self.old) y) ∷ []) }
-        ensures made { IfOk result (λ t. Stands self.new t (table.neq_rows (tree_at (trees self.old) x) (tree_at (trees self.old) y))) }
+        ensures made { IfOk result (λ t. StandsForTree self.new t (table.neq_rows (tree_at (trees self.old) x) (tree_at (trees self.old) y))) }
         ensures kept { Grows self.old self.new }
     {
         if self.same(x, y) {

@@ -4,7 +4,7 @@ ghost use Rattle.lh_types.specs.Types.{array_type, tuple_type, row_of};
 ghost use Rattle.lh_term.specs.Tree.{operation_on, tree_row};
 ghost use Rattle.lh_term.specs.Types.{TakesTypes, type_of, types_of, row_result};
 ghost use Rattle.lh_term.specs.Types as spec;
-ghost use Rattle.lh_term.specs.Arena.{trees, tree_at, trees_at, IsIn, AreIn, Stands, Grows};
+ghost use Rattle.lh_term.specs.Arena.{trees, tree_at, trees_at, IsIn, AreIn, StandsForTree, Grows};
 
 use crate::term::{Node, Term, TermId, TermList};
 use crate::terms::Terms;
@@ -18,7 +18,7 @@ impl Terms {
     pub(crate) fn plain(&mut self, op: &Op, args: &[TermId]) -> Result<TermId, NoMemory>
         requires within { AreIn self.old args.now }
         requires fits { TakesTypes op.now (types_of (tree_row (trees_at self.old args.now))) }
-        ensures made { IfOk result (λ t. Stands self.new t (operation_on op.now (trees_at self.old args.now))) }
+        ensures made { IfOk result (λ t. StandsForTree self.new t (operation_on op.now (trees_at self.old args.now))) }
         ensures kept { Grows self.old self.new }
     {
         self.are_typed(args);

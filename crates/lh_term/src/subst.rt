@@ -1,6 +1,6 @@
 //! Terms in place of parts' values.
 ghost use Rattle.std.specs.Prelude.{◌≡◌, ◌<◌, true, Some, length, slice_get, IfOk};
-ghost use Rattle.lh_term.specs.Arena.{trees, tree_at, ids_below, IsIn, Stands, Grows};
+ghost use Rattle.lh_term.specs.Arena.{trees, tree_at, ids_below, IsIn, StandsForTree, Grows};
 ghost use Rattle.lh_term.specs.Subst.{AreSwaps, PairsIn, pairs_at, swapped, replaced};
 ghost use Rattle.lh_term.specs.Reach.{Reaches, Sets, SetsOperands, MadeFor, OperandsMade};
 
@@ -23,7 +23,7 @@ impl Terms {
         requires is_in { IsIn self.old t }
         requires pairs_in { PairsIn self.old by.now }
         requires swaps { AreSwaps (pairs_at self.old by.now) }
-        ensures made { IfOk result (λ x. Stands self.new x (swapped (pairs_at self.old by.now) (tree_at (trees self.old) t))) }
+        ensures made { IfOk result (λ x. StandsForTree self.new x (swapped (pairs_at self.old by.now) (tree_at (trees self.old) t))) }
         ensures kept { Grows self.old self.new }
     {
         self.are_rising();
@@ -49,7 +49,7 @@ impl Terms {
         requires pairs_in { PairsIn self.old by.now }
         requires swaps { AreSwaps (pairs_at self.old by.now) }
         requires operands { is_reached ≡ true → OperandsMade self.old (pairs_at self.old by.now) x made.now }
-        ensures made { IfOk result (λ y. is_reached ≡ true → Stands self.new y (swapped (pairs_at self.old by.now) (tree_at (trees self.old) x))) }
+        ensures made { IfOk result (λ y. is_reached ≡ true → StandsForTree self.new y (swapped (pairs_at self.old by.now) (tree_at (trees self.old) x))) }
         ensures kept { Grows self.old self.new }
     {
         if !is_reached {
@@ -94,7 +94,7 @@ impl Terms {
         requires pairs_in { PairsIn self.old by.now }
         requires swaps { AreSwaps (pairs_at self.old by.now) }
         requires operands { OperandsMade self.old (pairs_at self.old by.now) x made.now }
-        ensures made { IfOk result (λ y. Stands self.new y (swapped (pairs_at self.old by.now) (tree_at (trees self.old) x))) }
+        ensures made { IfOk result (λ y. StandsForTree self.new y (swapped (pairs_at self.old by.now) (tree_at (trees self.old) x))) }
         ensures kept { Grows self.old self.new }
     {
         self.are_all_typed();
@@ -119,7 +119,7 @@ impl Terms {
     fn replaced(&self, by: &Swap, x: TermId) -> TermId
         requires is_in { IsIn self.now x }
         requires pairs_in { PairsIn self.now by.now }
-        ensures { Stands self.now result (replaced (pairs_at self.now by.now) (tree_at (trees self.now) x)) }
+        ensures { StandsForTree self.now result (replaced (pairs_at self.now by.now) (tree_at (trees self.now) x)) }
     {
         let mut left = by.as_slice();
         while let [pair, rest @ ..] = left {

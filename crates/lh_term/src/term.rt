@@ -56,10 +56,8 @@ impl TermList {
         ensures ok { OnOk result (self.new ≡ self.old ++ t ∷ []) }
         ensures err { OnErr result (self.new ≡ self.old) }
     {
-        match self.items.push(t) {
-            Ok(()) => Ok(()),
-            Err(_) => Err(NoMemory),
-        }
+        self.items.push(t)?;
+        Ok(())
     }
 
     /// How many terms there are.

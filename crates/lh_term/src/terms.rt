@@ -3,7 +3,7 @@ ghost use Rattle.std.specs.Prelude.{◌≡◌, [], true, Some, length, slice_get
 ghost use Rattle.lh_term.specs.Tree.{tree_row};
 ghost use Rattle.lh_term.specs.Types.{IsTyped, AreTyped, type_of};
 ghost use Rattle.lh_term.specs.SameTree.{same_tree};
-ghost use Rattle.lh_term.specs.Arena.{trees, tree_at, trees_at, terms_in, term_tree, term_below, IsTypedNode, IsIn, AreIn, OneId, Rising, AllTyped, Stands, Grows};
+ghost use Rattle.lh_term.specs.Arena.{trees, tree_at, trees_at, terms_in, term_tree, term_below, IsTypedNode, IsIn, AreIn, OneId, Rising, AllTyped, StandsForTree, Grows};
 
 use crate::term::{Node, Term, TermId};
 use indexmap::IndexSet;
@@ -133,7 +133,7 @@ impl Terms {
     pub(crate) fn intern(&mut self, node: Node) -> Result<TermId, NoMemory>
         requires below { term_below (length self.old) node.term ≡ true }
         requires typed { IsTypedNode (trees self.old) node }
-        ensures made { IfOk result (λ t. Stands self.new t (term_tree (trees self.old) node.term)) }
+        ensures made { IfOk result (λ t. StandsForTree self.new t (term_tree (trees self.old) node.term)) }
         ensures kept { Grows self.old self.new }
     {
         let (i, _) = self.nodes.insert_full(node)?;

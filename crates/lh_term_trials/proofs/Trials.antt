@@ -11,7 +11,7 @@ use Rattle.lh_term.specs.Types.{FitsTerm, TakesTypes}
 use Rattle.lh_term.specs.Arena.{trees, tree_at, term_tree}
 use Rattle.lh_term.specs.Subst.{IsLeaf, AreSwaps, PairsIn, pairs_at}
 use Rattle.lh_term.specs.Tree.{Tree}
-use Rattle.lh_term_trials.specs.Tried.{IsIntType, AreAlike, HasElement, IsLeafTerm, MayTakePlace}
+use Rattle.lh_term_trials.specs.Tried.{IsIntType, AreOneDataType, HasElement, IsLeafTerm, MayTakePlace}
 use Rattle.lh_term.specs.declared.term.TermId.{TermId}
 use Rattle.lh_term.specs.declared.term.Term.{Term}
 use Rattle.lh_term.specs.declared.term.Term.TheVariants.{Konst, Past, Now, Op as Applied, Choice}
@@ -28,7 +28,7 @@ int_data t i = let P : TypeTree → Type 0 = IsData in subst P (sym i.is) i.limi
 pub takes_not : (t : TypeTree) → IsIntType t → TakesTypes Not (t ∷ [])
 takes_not t i = record { gives = int_type i.width; data_types = (int_data t i, tt); row = (i.width, ap (λ u. u ∷ []) i.is, refl); is_data = i.limits }
 
-module _ (t u : TypeTree) (i : IsIntType t) (a : AreAlike t u) where
+module _ (t u : TypeTree) (i : IsIntType t) (a : AreOneDataType t u) where
   second_is : u ≡ int_type i.width
   second_is = sym a.same ∙ i.is
 
@@ -47,7 +47,7 @@ module _ (t u : TypeTree) (i : IsIntType t) (a : AreAlike t u) where
   pub takes_add : TakesTypes Add (t ∷ u ∷ [])
   takes_add = record { gives = int_type i.width; data_types = (a.is_data, (second_data, tt)); row = (i.width, two, refl); is_data = i.limits }
 
-module _ (t u : TypeTree) (a : AreAlike t u) where
+module _ (t u : TypeTree) (a : AreOneDataType t u) where
   other_data : IsData u
   other_data = let P : TypeTree → Type 0 = IsData in subst P a.same a.is_data
 

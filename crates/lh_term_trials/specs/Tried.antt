@@ -16,7 +16,7 @@ pub record IsIntType (t : TypeTree) : Type 0 where
   pub limits : IsData (int_type width)
 
 -- one data type
-pub record AreAlike (t u : TypeTree) : Type 0 where
+pub record AreOneDataType (t u : TypeTree) : Type 0 where
   pub is_data : IsData t
   pub same : t ≡ u
 

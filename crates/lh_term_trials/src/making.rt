@@ -2,7 +2,7 @@
 ghost use Rattle.std.specs.Prelude.{◌≡◌, ◌-◌, ◌^◌, ◌≤◌, IsTrue};
 ghost use Rattle.lh_term.specs.Types.{type_of};
 ghost use Rattle.lh_term.specs.Arena.{trees, tree_at, IsIn};
-ghost use Rattle.lh_term_trials.specs.Tried.{AreAlike, IsIntType, HasElement, IsLeafTerm, MayTakePlace};
+ghost use Rattle.lh_term_trials.specs.Tried.{AreOneDataType, IsIntType, HasElement, IsLeafTerm, MayTakePlace};
 
 use lh_ops::integers::apply_int;
 use lh_term::part::Part;
@@ -86,7 +86,7 @@ pub fn op(terms: &mut Terms, of: Op, x: TermId, y: TermId) -> Result<TermId, NoM
 pub fn word(terms: &mut Terms, of: Op, x: TermId, y: TermId) -> Result<TermId, NoMemory>
     requires x_in { IsIn terms.old x }
     requires y_in { IsIn terms.old y }
-    requires alike { AreAlike (type_of (tree_at (trees terms.old) x)) (type_of (tree_at (trees terms.old) y)) }
+    requires alike { AreOneDataType (type_of (tree_at (trees terms.old) x)) (type_of (tree_at (trees terms.old) y)) }
 {
     if !is_int(terms.ty(x)) {
         return Err(NoMemory);
@@ -103,7 +103,7 @@ pub fn word(terms: &mut Terms, of: Op, x: TermId, y: TermId) -> Result<TermId, N
 pub fn eq(terms: &mut Terms, x: TermId, y: TermId) -> Result<TermId, NoMemory>
     requires x_in { IsIn terms.old x }
     requires y_in { IsIn terms.old y }
-    requires alike { AreAlike (type_of (tree_at (trees terms.old) x)) (type_of (tree_at (trees terms.old) y)) }
+    requires alike { AreOneDataType (type_of (tree_at (trees terms.old) x)) (type_of (tree_at (trees terms.old) y)) }
 {
     terms.op(&Op::Eq, &[x, y])
 }
@@ -112,7 +112,7 @@ pub fn eq(terms: &mut Terms, x: TermId, y: TermId) -> Result<TermId, NoMemory>
 pub fn neq(terms: &mut Terms, x: TermId, y: TermId) -> Result<TermId, NoMemory>
     requires x_in { IsIn terms.old x }
     requires y_in { IsIn terms.old y }
-    requires alike { AreAlike (type_of (tree_at (trees terms.old) x)) (type_of (tree_at (trees terms.old) y)) }
+    requires alike { AreOneDataType (type_of (tree_at (trees terms.old) x)) (type_of (tree_at (trees terms.old) y)) }
 {
     terms.op(&Op::Neq, &[x, y])
 }
@@ -122,7 +122,7 @@ pub fn and(terms: &mut Terms, x: TermId, y: TermId) -> Result<TermId, NoMemory>
     requires x_in { IsIn terms.old x }
     requires y_in { IsIn terms.old y }
     requires int { IsIntType (type_of (tree_at (trees terms.old) x)) }
-    requires alike { AreAlike (type_of (tree_at (trees terms.old) x)) (type_of (tree_at (trees terms.old) y)) }
+    requires alike { AreOneDataType (type_of (tree_at (trees terms.old) x)) (type_of (tree_at (trees terms.old) y)) }
 {
     terms.op(&Op::And, &[x, y])
 }
@@ -132,7 +132,7 @@ pub fn or(terms: &mut Terms, x: TermId, y: TermId) -> Result<TermId, NoMemory>
     requires x_in { IsIn terms.old x }
     requires y_in { IsIn terms.old y }
     requires int { IsIntType (type_of (tree_at (trees terms.old) x)) }
-    requires alike { AreAlike (type_of (tree_at (trees terms.old) x)) (type_of (tree_at (trees terms.old) y)) }
+    requires alike { AreOneDataType (type_of (tree_at (trees terms.old) x)) (type_of (tree_at (trees terms.old) y)) }
 {
     terms.op(&Op::Or, &[x, y])
 }
@@ -142,7 +142,7 @@ pub fn sum(terms: &mut Terms, x: TermId, y: TermId) -> Result<TermId, NoMemory>
     requires x_in { IsIn terms.old x }
     requires y_in { IsIn terms.old y }
     requires int { IsIntType (type_of (tree_at (trees terms.old) x)) }
-    requires alike { AreAlike (type_of (tree_at (trees terms.old) x)) (type_of (tree_at (trees terms.old) y)) }
+    requires alike { AreOneDataType (type_of (tree_at (trees terms.old) x)) (type_of (tree_at (trees terms.old) y)) }
 {
     terms.op(&Op::Add, &[x, y])
 }
@@ -151,7 +151,7 @@ pub fn sum(terms: &mut Terms, x: TermId, y: TermId) -> Result<TermId, NoMemory>
 pub fn are_alike(terms: &Terms, x: TermId, y: TermId) -> bool
     requires x_in { IsIn terms.now x }
     requires y_in { IsIn terms.now y }
-    ensures { IsTrue result → AreAlike (type_of (tree_at (trees terms.now) x)) (type_of (tree_at (trees terms.now) y)) }
+    ensures { IsTrue result → AreOneDataType (type_of (tree_at (trees terms.now) x)) (type_of (tree_at (trees terms.now) y)) }
 {
     if !carries_data(terms.ty(x)) {
         return false;

@@ -99,13 +99,13 @@ fn line_at(alloc: Global, number: u32, fault: &[u8]) -> Result<Vec<u8>, NoMemory
 fn fault_line(alloc: Global, fault: VerifyFault) -> Refusal {
     match fault.cause {
         VerifyCause::Invalid(first) if first.unit.0 < fault.module.units() => {
-            as_refusal(inst_line(alloc, &fault.module, first.unit, first.inst, first.number))
+            as_refusal(invalid_line(alloc, &fault.module, first.unit, first.inst, first.number))
         }
         _ => Refusal::OutOfMemory,
     }
 }
 
-fn inst_line(
+fn invalid_line(
     alloc: Global,
     m: &Module,
     unit: UnitId,

@@ -83,10 +83,14 @@ impl<'m> Runner<'m> {
             at,
             &mut count,
         )?;
-        self.state = act.next;
+        let Ok(outcomes) = Vec::from_slice(alloc, act.outcomes()) else {
+            return Err(ExecFault::OutOfMemory);
+        };
+        let (next, wish) = act.into_parts(alloc);
+        self.state = next;
         Ok(Gave {
-            wish: act.wishes,
-            outcomes: act.outcomes,
+            wish,
+            outcomes: BoolList::from_vec(outcomes),
         })
     }
 

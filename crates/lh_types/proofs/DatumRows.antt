@@ -20,18 +20,22 @@ pub same_parts-lengths : (xs ys : List Datum) → length xs ≢ length ys → sa
 same_parts-lengths [] [] h = absurd (h refl)
 same_parts-lengths [] (y ∷ ys) h = refl
 same_parts-lengths (x ∷ xs) [] h = refl
-same_parts-lengths (x ∷ xs) (y ∷ ys) h = elim (same_datum x y) as (λ b. b && same_parts (data_row xs) (data_row ys) ≡ false) [ true ↦ same_parts-lengths xs ys (λ e. h (omega (arith, e))) | false ↦ refl ]
+same_parts-lengths (x ∷ xs) (y ∷ ys) h = elim (same_datum x y) as (λ b. b && same_parts (data_row xs) (data_row ys) ≡ false)
+    [ true ↦ same_parts-lengths xs ys (λ e. h (omega (arith, e))) | false ↦ refl ]
 
 -- what is left of the values of the program, by the first of them
-pub data_row-drop-map : (vs : List Val) (i : ℕ) (v : Val) → i < length vs → v ≡ get_or vs i v → data_row (drop i (map datum_of vs)) ≡ more_values (datum_of v) (data_row (drop (i + 1) (map datum_of vs)))
+pub data_row-drop-map : (vs : List Val) (i : ℕ) (v : Val) → i < length vs → v ≡ get_or vs i v
+    → data_row (drop i (map datum_of vs)) ≡ more_values (datum_of v) (data_row (drop (i + 1) (map datum_of vs)))
 data_row-drop-map vs i v h e =
     let at : get_or (map datum_of vs) i (datum_of v) ≡ datum_of v = get_or-map datum_of vs i v (datum_of v) h ∙ ap datum_of (sym e) in
     let l : i < length (map datum_of vs) = omega (arith, length-map vs datum_of) in
     data_row-drop (map datum_of vs) i (datum_of v) l ∙ ap (λ d. more_values d (data_row (drop (i + 1) (map datum_of vs)))) at
 
-module _ (xs ys : List Datum) (vs ws : List Val) (i : ℕ) (v w : Val) (s : SameFrom xs ys (map datum_of vs) (map datum_of ws) i) (h : i < length vs) (e : v ≡ get_or vs i v) (k : i < length ws) (f : w ≡ get_or ws i w) where
+module _ (xs ys : List Datum) (vs ws : List Val) (i : ℕ) (v w : Val) (s : SameFrom xs ys (map datum_of vs) (map datum_of ws) i) (h : i < length vs) (e : v ≡ get_or vs i v) (k : i < length ws)
+    (f : w ≡ get_or ws i w) where
   same_parts-here : same_parts (data_row xs) (data_row ys) ≡ same_datum (datum_of v) (datum_of w) && same_parts (data_row (drop (i + 1) (map datum_of vs))) (data_row (drop (i + 1) (map datum_of ws)))
-  same_parts-here = s.rest ∙ ap (λ r. same_parts r (data_row (drop i (map datum_of ws)))) (data_row-drop-map vs i v h e) ∙ ap (same_parts (more_values (datum_of v) (data_row (drop (i + 1) (map datum_of vs))))) (data_row-drop-map ws i w k f)
+  same_parts-here = s.rest ∙ ap (λ r. same_parts r (data_row (drop i (map datum_of ws)))) (data_row-drop-map vs i v h e)
+      ∙ ap (same_parts (more_values (datum_of v) (data_row (drop (i + 1) (map datum_of vs))))) (data_row-drop-map ws i w k f)
 
   pub SameFrom-not : same_datum (datum_of v) (datum_of w) ≡ false → same_parts (data_row xs) (data_row ys) ≡ false
   SameFrom-not n = same_parts-here ∙ ap (λ b. b && same_parts (data_row (drop (i + 1) (map datum_of vs))) (data_row (drop (i + 1) (map datum_of ws)))) n

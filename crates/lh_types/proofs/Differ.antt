@@ -52,13 +52,15 @@ differing-numbers zero x y p q =
     let b : y ≡ 0 = omega arith in
     rw (a, b) (sym ones_zero)
 differing-numbers (suc n) x y p q =
-    let t : differing (number_bits n (x / 2)) (number_bits n (y / 2)) ≡ ones (bit_xor (x / 2) (y / 2)) = differing-numbers n (x / 2) (y / 2) (omega (arith, pow-suc 2 n)) (omega (arith, pow-suc 2 n)) in
+    let t : differing (number_bits n (x / 2)) (number_bits n (y / 2)) ≡ ones (bit_xor (x / 2) (y / 2)) =
+    differing-numbers n (x / 2) (y / 2) (omega (arith, pow-suc 2 n)) (omega (arith, pow-suc 2 n)) in
     let h : bit_differs (nat_eq (x % 2) 1) (nat_eq (y % 2) 1) ≡ bit_xor x y % 2 = differs (x % 2) (y % 2) (omega arith) (omega arith) ∙ sym (xor_lowest x y) in
     let s : ones (bit_xor x y) ≡ bit_xor x y % 2 + ones (bit_xor (x / 2) (y / 2)) = ones_step (bit_xor x y) ∙ ap (λ k. bit_xor x y % 2 + ones k) (xor_half x y) in
     omega (arith, t, h, s)
 
 -- one step of a count: n more bits, which are those of x and y
-pub differing-more : (m n i x y : ℕ) (ws vs : List ℕ) → x < 2 ^ n → y < 2 ^ n → ((j : ℕ) → j < n → bit_at x j ≡ word_bit ws (i + m + j)) → ((j : ℕ) → j < n → bit_at y j ≡ word_bit vs (i + m + j)) → differing (flags m i ws) (flags m i vs) + ones (bit_xor x y) ≡ differing (flags (m + n) i ws) (flags (m + n) i vs)
+pub differing-more : (m n i x y : ℕ) (ws vs : List ℕ) → x < 2 ^ n → y < 2 ^ n → ((j : ℕ) → j < n → bit_at x j ≡ word_bit ws (i + m + j)) → ((j : ℕ) → j < n → bit_at y j ≡ word_bit vs (i + m + j))
+    → differing (flags m i ws) (flags m i vs) + ones (bit_xor x y) ≡ differing (flags (m + n) i ws) (flags (m + n) i vs)
 differing-more m n i x y ws vs p q f g =
     let a : flags n (i + m) ws ≡ number_bits n x = flags-number n (i + m) x ws f in
     let b : flags n (i + m) vs ≡ number_bits n y = flags-number n (i + m) y vs g in

@@ -125,7 +125,8 @@ lt_or_le : (a b : ℕ) → (a < b) ⊎ (b ≤ a)
 lt_or_le a b = grind arith
 
 -- one step of a write: n more bits, which are those of x
-pub written_more : (f : ℕ → ℕ) (m n lo x : ℕ) (new old : List ℕ) → ((j : ℕ) → j < m → word_bit old (lo + j) ≡ f j) → ((i : ℕ) → i < lo + m → word_bit new i ≡ word_bit old i) → ((j : ℕ) → j < n → word_bit new (lo + m + j) ≡ bit_at x j) → ((j : ℕ) → j < n → bit_at x j ≡ f (m + j)) → (j : ℕ) → j < m + n → word_bit new (lo + j) ≡ f j
+pub written_more : (f : ℕ → ℕ) (m n lo x : ℕ) (new old : List ℕ) → ((j : ℕ) → j < m → word_bit old (lo + j) ≡ f j) → ((i : ℕ) → i < lo + m → word_bit new i ≡ word_bit old i)
+    → ((j : ℕ) → j < n → word_bit new (lo + m + j) ≡ bit_at x j) → ((j : ℕ) → j < n → bit_at x j ≡ f (m + j)) → (j : ℕ) → j < m + n → word_bit new (lo + j) ≡ f j
 written_more f m n lo x new old was before each read j h = elim (lt_or_le j m) [
   | inl p ↦ before (lo + j) (omega arith) ∙ was j p
   | inr p ↦
@@ -136,10 +137,12 @@ written_more f m n lo x new old was before each read j h = elim (lt_or_le j m) [
 ]
 
 -- one step of a comparison
-pub same_more : (m n lo x y : ℕ) (ws vs : List ℕ) → flags m lo ws ≡ flags m lo vs → x ≡ y → ((j : ℕ) → j < n → bit_at x j ≡ word_bit ws (lo + m + j)) → ((j : ℕ) → j < n → bit_at y j ≡ word_bit vs (lo + m + j)) → flags (m + n) lo ws ≡ flags (m + n) lo vs
+pub same_more : (m n lo x y : ℕ) (ws vs : List ℕ) → flags m lo ws ≡ flags m lo vs → x ≡ y → ((j : ℕ) → j < n → bit_at x j ≡ word_bit ws (lo + m + j))
+    → ((j : ℕ) → j < n → bit_at y j ≡ word_bit vs (lo + m + j)) → flags (m + n) lo ws ≡ flags (m + n) lo vs
 same_more m n lo x y ws vs e s f g = rw (flags-add m n lo ws, flags-add m n lo vs, e, flags-number n (lo + m) x ws f, flags-number n (lo + m) y vs g, s) refl
 
-pub not_same : (len m n lo x y : ℕ) (ws vs : List ℕ) → m + n ≤ len → x < 2 ^ n → y < 2 ^ n → x ≢ y → ((j : ℕ) → j < n → bit_at x j ≡ word_bit ws (lo + m + j)) → ((j : ℕ) → j < n → bit_at y j ≡ word_bit vs (lo + m + j)) → flags len lo ws ≡ flags len lo vs → ⊥
+pub not_same : (len m n lo x y : ℕ) (ws vs : List ℕ) → m + n ≤ len → x < 2 ^ n → y < 2 ^ n → x ≢ y → ((j : ℕ) → j < n → bit_at x j ≡ word_bit ws (lo + m + j))
+    → ((j : ℕ) → j < n → bit_at y j ≡ word_bit vs (lo + m + j)) → flags len lo ws ≡ flags len lo vs → ⊥
 not_same len m n lo x y ws vs h p q d f g e = d (same_from_bits_below n x y p q (λ j b.
     let i : lo + m + j ≡ lo + (m + j) = omega arith in
     f j b ∙ ap (λ k. word_bit ws k) i ∙ flags-tell len lo lo (m + j) ws vs e (omega arith) ∙ ap (λ k. word_bit vs k) (sym i) ∙ sym (g j b)))

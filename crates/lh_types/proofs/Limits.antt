@@ -46,6 +46,7 @@ one_le-bit_count_row [] h ne = absurd (ne refl)
 one_le-bit_count_row (t ∷ ts) h ne = omega (arith, one_le-bit_count t h.0)
 
 -- the struct of these fields has no fault
-pub tuple_fault-none : (ts : List TypeTree) → length ts ≢ 0 → all_data (row_of ts) ≡ true → depth_of_row (row_of ts) + 1 ≤ 16 → nat_lt 65536 (bit_count_row (row_of ts)) ≡ false → tuple_fault (row_of ts) ≡ None
+pub tuple_fault-none : (ts : List TypeTree) → length ts ≢ 0 → all_data (row_of ts) ≡ true → depth_of_row (row_of ts) + 1 ≤ 16 → nat_lt 65536 (bit_count_row (row_of ts)) ≡ false
+    → tuple_fault (row_of ts) ≡ None
 tuple_fault-none [] ne a d b = absurd (ne refl)
 tuple_fault-none (t ∷ ts) ne a d b = let deep : nat_lt 16 (depth_of_row (row_of (t ∷ ts)) + 1) ≡ false = grind (arith, nat_tests) in rw (a, deep, b) refl

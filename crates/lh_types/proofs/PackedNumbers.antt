@@ -25,7 +25,8 @@ halves-lt w h l p q r =
 lt_or_le : (a b : ℕ) → (a < b) ⊎ (b ≤ a)
 lt_or_le a b = grind arith
 
-pub halves_bit : (w at h l j : ℕ) (ws : List ℕ) → l < 2 ^ 64 → ((i : ℕ) → i < 64 → bit_at l i ≡ word_bit ws (at + i)) → ((i : ℕ) → i < w - 64 → bit_at h i ≡ word_bit ws (at + 64 + i)) → j < w → bit_at (h * 2 ^ 64 + l) j ≡ word_bit ws (at + j)
+pub halves_bit : (w at h l j : ℕ) (ws : List ℕ) → l < 2 ^ 64 → ((i : ℕ) → i < 64 → bit_at l i ≡ word_bit ws (at + i)) → ((i : ℕ) → i < w - 64 → bit_at h i ≡ word_bit ws (at + 64 + i)) → j < w
+    → bit_at (h * 2 ^ 64 + l) j ≡ word_bit ws (at + j)
 halves_bit w at h l j ws r f g b = elim (lt_or_le j 64) [
   | inl p ↦ bit_at_cat_low h 64 l j p ∙ f j p
   | inr p ↦

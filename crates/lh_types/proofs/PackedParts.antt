@@ -22,7 +22,8 @@ three_runs lo len r ws =
     ∙ ap (λ i. flags lo 0 ws ++ flags (len + r) i ws) f
     ∙ ap (λ bs. flags lo 0 ws ++ bs) (flags-add len r lo ws)
 
-written : (lo len r : ℕ) (ws us : List ℕ) (new : List Bool) → ((i : ℕ) → i < lo → word_bit ws i ≡ word_bit us i) → flags len lo ws ≡ new → ((i : ℕ) → lo + len ≤ i → word_bit ws i ≡ word_bit us i) → flags (lo + (len + r)) 0 ws ≡ bits_with lo new (flags (lo + (len + r)) 0 us)
+written : (lo len r : ℕ) (ws us : List ℕ) (new : List Bool) → ((i : ℕ) → i < lo → word_bit ws i ≡ word_bit us i) → flags len lo ws ≡ new → ((i : ℕ) → lo + len ≤ i → word_bit ws i ≡ word_bit us i)
+    → flags (lo + (len + r)) 0 ws ≡ bits_with lo new (flags (lo + (len + r)) 0 us)
 written lo len r ws us new before is after =
     let a : flags lo 0 ws ≡ flags lo 0 us = flags-same lo 0 0 ws us (λ j h. before (0 + j) (omega arith)) in
     let d : flags r (lo + len) ws ≡ flags r (lo + len) us = flags-same r (lo + len) (lo + len) ws us (λ j h. after (lo + len + j) (omega arith)) in
@@ -35,18 +36,21 @@ written lo len r ws us new before is after =
     ∙ ap (λ i. flags r i us) f in
     three_runs lo len r ws ∙ rw (a, is, d, t, take-flags lo (len + r) 0 us, append_assoc) refl
 
-pub run_written : (n lo len : ℕ) (ws us : List ℕ) (new : List Bool) → lo + len ≤ n → ((i : ℕ) → i < lo → word_bit ws i ≡ word_bit us i) → flags len lo ws ≡ new → ((i : ℕ) → lo + len ≤ i → word_bit ws i ≡ word_bit us i) → flags n 0 ws ≡ bits_with lo new (flags n 0 us)
+pub run_written : (n lo len : ℕ) (ws us : List ℕ) (new : List Bool) → lo + len ≤ n → ((i : ℕ) → i < lo → word_bit ws i ≡ word_bit us i) → flags len lo ws ≡ new
+    → ((i : ℕ) → lo + len ≤ i → word_bit ws i ≡ word_bit us i) → flags n 0 ws ≡ bits_with lo new (flags n 0 us)
 run_written n lo len ws us new h before is after =
     let e : n ≡ lo + (len + (n - (lo + len))) = omega arith in
     rw e (written lo len (n - (lo + len)) ws us new before is after)
 
-pub bit_written : (n i : ℕ) (b : Bool) (ws us : List ℕ) → i < n → ((j : ℕ) → j < i → word_bit ws j ≡ word_bit us j) → nat_eq (word_bit ws i) 1 ≡ b → ((j : ℕ) → i + 1 ≤ j → word_bit ws j ≡ word_bit us j) → flags n 0 ws ≡ set (flags n 0 us) i b
+pub bit_written : (n i : ℕ) (b : Bool) (ws us : List ℕ) → i < n → ((j : ℕ) → j < i → word_bit ws j ≡ word_bit us j) → nat_eq (word_bit ws i) 1 ≡ b
+    → ((j : ℕ) → i + 1 ≤ j → word_bit ws j ≡ word_bit us j) → flags n 0 ws ≡ set (flags n 0 us) i b
 bit_written n i b ws us h before at after =
     let e : n ≡ i + (1 + (n - (i + 1))) = omega arith in
     let a : flags i 0 ws ≡ flags i 0 us = flags-same i 0 0 ws us (λ j h. before (0 + j) (omega arith)) in
     let d : flags (n - (i + 1)) (i + 1) ws ≡ flags (n - (i + 1)) (i + 1) us = flags-same (n - (i + 1)) (i + 1) (i + 1) ws us (λ j h. after (i + 1 + j) (omega arith)) in
     let s : set (flags i 0 us ++ nat_eq (word_bit us i) 1 ∷ flags (n - (i + 1)) (i + 1) us) i b ≡ flags i 0 us ++ b ∷ flags (n - (i + 1)) (i + 1) us =
-    ap (λ k. set (flags i 0 us ++ nat_eq (word_bit us i) 1 ∷ flags (n - (i + 1)) (i + 1) us) k b) (sym (length-flags i 0 us)) ∙ set-append_seam (flags i 0 us) (nat_eq (word_bit us i) 1) (flags (n - (i + 1)) (i + 1) us) b in
+    ap (λ k. set (flags i 0 us ++ nat_eq (word_bit us i) 1 ∷ flags (n - (i + 1)) (i + 1) us) k b) (sym (length-flags i 0 us))
+    ∙ set-append_seam (flags i 0 us) (nat_eq (word_bit us i) 1) (flags (n - (i + 1)) (i + 1) us) b in
     let p : flags n 0 ws ≡ flags i 0 us ++ b ∷ flags (n - (i + 1)) (i + 1) us = ap (λ k. flags k 0 ws) e ∙ three_runs i 1 (n - (i + 1)) ws ∙ rw (a, at, d) refl in
     let q : flags n 0 us ≡ flags i 0 us ++ nat_eq (word_bit us i) 1 ∷ flags (n - (i + 1)) (i + 1) us = ap (λ k. flags k 0 us) e ∙ three_runs i 1 (n - (i + 1)) us in
     p ∙ sym (ap (λ bs. set bs i b) q ∙ s)
@@ -59,7 +63,8 @@ pub part_in_words : (n lo len : ℕ) (ws us : List ℕ) (bs : List Bool) → ws 
 part_in_words n lo len ws us bs s p e h = omega (arith, p.sized, length_view n 0 us bs e, ap length s)
 
 -- a write of bits that are there leaves the words packed
-pub packed_kept : {Z : Type 0} (v : Vec ℕ Z) (n k : ℕ) (us ws : List ℕ) (bs : List Bool) → us ≡ v.items → IsPacked n v.items → flags n 0 v.items ≡ bs → k ≤ length bs → length ws ≡ length us → ((i : ℕ) → k ≤ i → word_bit ws i ≡ word_bit us i) → IsPacked n (with_items v ws).items
+pub packed_kept : {Z : Type 0} (v : Vec ℕ Z) (n k : ℕ) (us ws : List ℕ) (bs : List Bool) → us ≡ v.items → IsPacked n v.items → flags n 0 v.items ≡ bs → k ≤ length bs → length ws ≡ length us
+    → ((i : ℕ) → k ≤ i → word_bit ws i ≡ word_bit us i) → IsPacked n (with_items v ws).items
 packed_kept v n k us ws bs s p e h l after =
     let w : length ws ≡ v.len = omega (arith, l, ap length s, v.ok.0) in
     let t : IsPacked n ws = record {
@@ -70,7 +75,8 @@ packed_kept v n k us ws bs s p e h l after =
     subst (λ xs. IsPacked n xs) (sym (with_items_is v ws w)) t
 
 -- all the bits after a run was put
-pub run_put : {Z : Type 0} (v : Vec ℕ Z) (n lo len : ℕ) (us ws : List ℕ) (bs new : List Bool) → us ≡ v.items → flags n 0 v.items ≡ bs → lo + len ≤ length bs → length ws ≡ length us → ((i : ℕ) → i < lo → word_bit ws i ≡ word_bit us i) → flags len lo ws ≡ new → ((i : ℕ) → lo + len ≤ i → word_bit ws i ≡ word_bit us i) → flags n 0 (with_items v ws).items ≡ bits_with lo new bs
+pub run_put : {Z : Type 0} (v : Vec ℕ Z) (n lo len : ℕ) (us ws : List ℕ) (bs new : List Bool) → us ≡ v.items → flags n 0 v.items ≡ bs → lo + len ≤ length bs → length ws ≡ length us
+    → ((i : ℕ) → i < lo → word_bit ws i ≡ word_bit us i) → flags len lo ws ≡ new → ((i : ℕ) → lo + len ≤ i → word_bit ws i ≡ word_bit us i) → flags n 0 (with_items v ws).items ≡ bits_with lo new bs
 run_put v n lo len us ws bs new s e h l before is after =
     let w : length ws ≡ v.len = omega (arith, l, ap length s, v.ok.0) in
     let g : flags n 0 us ≡ bs = ap (λ xs. flags n 0 xs) s ∙ e in
@@ -80,7 +86,9 @@ run_put v n lo len us ws bs new s e h l before is after =
     ∙ ap (λ xs. bits_with lo new xs) g
 
 -- all the bits after one was put
-pub bit_put : {Z : Type 0} (v : Vec ℕ Z) (n i x : ℕ) (b : Bool) (us ws : List ℕ) (bs : List Bool) → us ≡ v.items → flags n 0 v.items ≡ bs → i < length bs → length ws ≡ length us → x < 2 → nat_eq x 1 ≡ b → ((j : ℕ) → j < i → word_bit ws j ≡ word_bit us j) → ((j : ℕ) → j < 1 → word_bit ws (i + j) ≡ bit_at x j) → ((j : ℕ) → i + 1 ≤ j → word_bit ws j ≡ word_bit us j) → flags n 0 (with_items v ws).items ≡ set bs i b
+pub bit_put : {Z : Type 0} (v : Vec ℕ Z) (n i x : ℕ) (b : Bool) (us ws : List ℕ) (bs : List Bool) → us ≡ v.items → flags n 0 v.items ≡ bs → i < length bs → length ws ≡ length us → x < 2
+    → nat_eq x 1 ≡ b → ((j : ℕ) → j < i → word_bit ws j ≡ word_bit us j) → ((j : ℕ) → j < 1 → word_bit ws (i + j) ≡ bit_at x j) → ((j : ℕ) → i + 1 ≤ j → word_bit ws j ≡ word_bit us j)
+    → flags n 0 (with_items v ws).items ≡ set bs i b
 bit_put v n i x b us ws bs s e h l q t before each after =
     let w : length ws ≡ v.len = omega (arith, l, ap length s, v.ok.0) in
     let g : flags n 0 us ≡ bs = ap (λ xs. flags n 0 xs) s ∙ e in
@@ -93,7 +101,8 @@ bit_put v n i x b us ws bs s e h l q t before each after =
     ∙ ap (λ xs. set xs i b) g
 
 -- all the bits after some were added at the end
-pub run_pushed : {Z : Type 0} (v : Vec ℕ Z) (n len : ℕ) (us ws old : List ℕ) (bs new : List Bool) → us ≡ v.items → ((i : ℕ) → word_bit v.items i ≡ word_bit old i) → flags n 0 old ≡ bs → length ws ≡ length us → ((i : ℕ) → i < n → word_bit ws i ≡ word_bit us i) → flags len n ws ≡ new → flags (n + len) 0 (with_items v ws).items ≡ bs ++ new
+pub run_pushed : {Z : Type 0} (v : Vec ℕ Z) (n len : ℕ) (us ws old : List ℕ) (bs new : List Bool) → us ≡ v.items → ((i : ℕ) → word_bit v.items i ≡ word_bit old i) → flags n 0 old ≡ bs
+    → length ws ≡ length us → ((i : ℕ) → i < n → word_bit ws i ≡ word_bit us i) → flags len n ws ≡ new → flags (n + len) 0 (with_items v ws).items ≡ bs ++ new
 run_pushed v n len us ws old bs new s same e l before is =
     let k : length ws ≡ v.len = omega (arith, l, ap length s, v.ok.0) in
     let z : 0 + n ≡ n = omega arith in
@@ -112,7 +121,8 @@ flag_is true = refl
 flag_is false = refl
 
 -- one bit, read as a number
-pub bit_got : (n i x : ℕ) (ws us : List ℕ) (bs : List Bool) → ws ≡ us → flags n 0 us ≡ bs → i < length bs → x < 2 → ((j : ℕ) → j < 1 → bit_at x j ≡ word_bit ws (i + j)) → slice_get bs i ≡ Some (nat_eq x 1)
+pub bit_got : (n i x : ℕ) (ws us : List ℕ) (bs : List Bool) → ws ≡ us → flags n 0 us ≡ bs → i < length bs → x < 2 → ((j : ℕ) → j < 1 → bit_at x j ≡ word_bit ws (i + j))
+    → slice_get bs i ≡ Some (nat_eq x 1)
 bit_got n i x ws us bs s e h q each =
     let g : bs ≡ flags n 0 ws = sym e ∙ ap (λ xs. flags n 0 xs) (sym s) in
     let a : i < n = omega (arith, length_view n 0 us bs e) in

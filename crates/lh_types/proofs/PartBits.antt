@@ -75,7 +75,8 @@ module _ (vs : List Datum) (k : ℕ) (p : Part) (s : StandsAt vs k p) where
   bits_with-part w f =
       let same : length (value_bits w) ≡ length (value_bits (get_or vs k (int_value 0 0))) = length-value_bits w p.of f ∙ sym (length-value_bits _ p.of s.fits) in
       let split : set vs k w ≡ take k vs ++ (w ∷ drop (k + 1) vs) = set_split vs k w s.there ∙ ap (λ n. take k vs ++ (w ∷ drop n vs)) (sym (add-one k)) in
-      ap (flat_map value_bits) split ∙ flat_map-append value_bits (take k vs) (w ∷ drop (k + 1) vs) ∙ sym (ap (bits_with p.lo (value_bits w)) bits_of-split ∙ bits_with-mid _ _ _ (value_bits w) p.lo s.starts same)
+      ap (flat_map value_bits) split ∙ flat_map-append value_bits (take k vs) (w ∷ drop (k + 1) vs)
+      ∙ sym (ap (bits_with p.lo (value_bits w)) bits_of-split ∙ bits_with-mid _ _ _ (value_bits w) p.lo s.starts same)
 
 StandsAt-element : (vs : DatumRow) (t : TypeTree) (k : ℕ) → PartsFit vs t → k < part_count vs → StandsAt (parts_of vs) k (record { lo = k * bit_count t; of = t })
 StandsAt-element no_values t k h l = absurd (omega arith)
@@ -102,7 +103,8 @@ StandsAt-field (more_values v vs) (more_types t ts) (suc k) p h e =
 StandsAt-field _ _ k p h e = absurd h
 
 -- a row with one part replaced by another of the type
-PartsFit-set : (vs : DatumRow) (t : TypeTree) (k : ℕ) (w : Datum) → PartsFit vs t → FitsType w t → (part_count (data_row (set (parts_of vs) k w)) ≡ part_count vs) × PartsFit (data_row (set (parts_of vs) k w)) t
+PartsFit-set : (vs : DatumRow) (t : TypeTree) (k : ℕ) (w : Datum) → PartsFit vs t → FitsType w t → (part_count (data_row (set (parts_of vs) k w)) ≡ part_count vs)
+    × PartsFit (data_row (set (parts_of vs) k w)) t
 PartsFit-set no_values t k w h f = (refl, tt)
 PartsFit-set (more_values v vs) t zero w h f = (ap (λ r. part_count r + 1) (data_row-parts_of vs), (f, subst (λ r. PartsFit r t) (sym (data_row-parts_of vs)) h.1))
 PartsFit-set (more_values v vs) t (suc k) w h f = let r = PartsFit-set vs t k w h.1 f in (omega (arith, r.0), (h.0, r.1))
@@ -151,19 +153,23 @@ module _ (xs : List Datum) (t : TypeTree) (at len : ℕ) (h : PartsFit (data_row
   slice_split : flat_map value_bits xs ≡ flat_map value_bits (take at xs) ++ (flat_map value_bits (take len (drop at xs)) ++ flat_map value_bits (drop (at + len) xs))
   slice_split =
       let rest : drop at xs ≡ take len (drop at xs) ++ drop (at + len) xs = sym (take-append-drop len (drop at xs)) ∙ ap (λ ys. take len (drop at xs) ++ ys) (drop-drop len at xs) in
-      ap (flat_map value_bits) (sym (take-append-drop at xs)) ∙ flat_map-append value_bits (take at xs) (drop at xs) ∙ ap (λ ys. flat_map value_bits (take at xs) ++ ys) (ap (flat_map value_bits) rest ∙ flat_map-append value_bits (take len (drop at xs)) (drop (at + len) xs))
+      ap (flat_map value_bits) (sym (take-append-drop at xs)) ∙ flat_map-append value_bits (take at xs) (drop at xs)
+      ∙ ap (λ ys. flat_map value_bits (take at xs) ++ ys) (ap (flat_map value_bits) rest ∙ flat_map-append value_bits (take len (drop at xs)) (drop (at + len) xs))
 
   bits_of-slice : flat_map value_bits (take len (drop at xs)) ≡ bits_within (at * bit_count t) (len * bit_count t) (flat_map value_bits xs)
   bits_of-slice = sym (ap (bits_within (at * bit_count t) (len * bit_count t)) slice_split ∙ bits_within-mid _ _ _ (at * bit_count t) (len * bit_count t) front_len slice_len)
 
-  bits_with-slice : (ws : List Datum) → PartsFit (data_row ws) t → length ws ≡ len → flat_map value_bits (take at xs ++ ws ++ drop (at + len) xs) ≡ bits_with (at * bit_count t) (flat_map value_bits ws) (flat_map value_bits xs)
+  bits_with-slice : (ws : List Datum) → PartsFit (data_row ws) t → length ws ≡ len
+      → flat_map value_bits (take at xs ++ ws ++ drop (at + len) xs) ≡ bits_with (at * bit_count t) (flat_map value_bits ws) (flat_map value_bits xs)
   bits_with-slice ws f l =
       let same : length (flat_map value_bits ws) ≡ length (flat_map value_bits (take len (drop at xs))) = length-flat_map-fit t ws f ∙ ap (λ n. n * bit_count t) l ∙ sym slice_len in
       let split : flat_map value_bits (take at xs ++ ws ++ drop (at + len) xs) ≡ flat_map value_bits (take at xs) ++ (flat_map value_bits ws ++ flat_map value_bits (drop (at + len) xs)) =
-      flat_map-append value_bits (take at xs ++ ws) (drop (at + len) xs) ∙ ap (λ ys. ys ++ flat_map value_bits (drop (at + len) xs)) (flat_map-append value_bits (take at xs) ws) ∙ append_assoc (flat_map value_bits (take at xs)) (flat_map value_bits ws) (flat_map value_bits (drop (at + len) xs)) in
+      flat_map-append value_bits (take at xs ++ ws) (drop (at + len) xs) ∙ ap (λ ys. ys ++ flat_map value_bits (drop (at + len) xs)) (flat_map-append value_bits (take at xs) ws)
+      ∙ append_assoc (flat_map value_bits (take at xs)) (flat_map value_bits ws) (flat_map value_bits (drop (at + len) xs)) in
       split ∙ sym (ap (bits_with (at * bit_count t) (flat_map value_bits ws)) slice_split ∙ bits_with-mid _ _ _ (flat_map value_bits ws) (at * bit_count t) front_len same)
 
-  fits_with-slice : (ws : List Datum) → PartsFit (data_row ws) t → length ws ≡ len → (length (take at xs ++ ws ++ drop (at + len) xs) ≡ length xs) × PartsFit (data_row (take at xs ++ ws ++ drop (at + len) xs)) t
+  fits_with-slice : (ws : List Datum) → PartsFit (data_row ws) t → length ws ≡ len → (length (take at xs ++ ws ++ drop (at + len) xs) ≡ length xs)
+      × PartsFit (data_row (take at xs ++ ws ++ drop (at + len) xs)) t
   fits_with-slice ws f l = (
     omega (arith, length-append (take at xs ++ ws) (drop (at + len) xs), length-append (take at xs) ws, length-take-le at xs (omega arith), length-drop (at + len) xs, l),
     AllFit-append t (take at xs ++ ws) (drop (at + len) xs) (AllFit-append t (take at xs) ws (AllFit-take t at xs h) f) (AllFit-drop t (at + len) xs h),
@@ -179,7 +185,8 @@ module _ (w b at len : ℕ) (inside : at + len ≤ w) where
   bits_of-number_slice : number_bits len (b / 2 ^ at % 2 ^ len) ≡ bits_within at len (number_bits w b)
   bits_of-number_slice =
       let low : b / 2 ^ at % 2 ^ len % 2 ^ len ≡ b / 2 ^ at % 2 ^ len = mod-eq_of_lt (mod_below (b / 2 ^ at) (2 ^ len) (pow_pos len)) in
-      number_bits-mod len (b / 2 ^ at % 2 ^ len) (b / 2 ^ at) low ∙ sym (ap (bits_within at len) number_split ∙ bits_within-mid _ _ _ at len (length-number_bits at b) (length-number_bits len (b / 2 ^ at)))
+      number_bits-mod len (b / 2 ^ at % 2 ^ len) (b / 2 ^ at) low
+      ∙ sym (ap (bits_within at len) number_split ∙ bits_within-mid _ _ _ at len (length-number_bits at b) (length-number_bits len (b / 2 ^ at)))
 
   -- the integer with these bits replaced by those of c
   module _ (c x : ℕ) (fits : c < 2 ^ len) (is : x ≡ b / 2 ^ (at + len) * 2 ^ (at + len) + c * 2 ^ at + b % 2 ^ at) where
@@ -203,7 +210,9 @@ module _ (w b at len : ℕ) (inside : at + len ≤ w) where
         let lows : number_bits at x ≡ number_bits at b = number_bits-mod at x b low in
         let mids : number_bits len (x / 2 ^ at) ≡ number_bits len c = number_bits-mod len (x / 2 ^ at) c mid in
         let same : length (number_bits len c) ≡ length (number_bits len (b / 2 ^ at)) = length-number_bits len c ∙ sym (length-number_bits len (b / 2 ^ at)) in
-        split ∙ ap (λ bs. bs ++ (number_bits len (x / 2 ^ at) ++ number_bits (w - (at + len)) (x / 2 ^ at / 2 ^ len))) lows ∙ ap (λ bs. number_bits at b ++ (bs ++ number_bits (w - (at + len)) (x / 2 ^ at / 2 ^ len))) mids ∙ ap (λ k. number_bits at b ++ (number_bits len c ++ number_bits (w - (at + len)) k)) high ∙ sym (ap (bits_with at (number_bits len c)) number_split ∙ bits_with-mid _ _ _ (number_bits len c) at (length-number_bits at b) same)
+        split ∙ ap (λ bs. bs ++ (number_bits len (x / 2 ^ at) ++ number_bits (w - (at + len)) (x / 2 ^ at / 2 ^ len))) lows
+        ∙ ap (λ bs. number_bits at b ++ (bs ++ number_bits (w - (at + len)) (x / 2 ^ at / 2 ^ len))) mids ∙ ap (λ k. number_bits at b ++ (number_bits len c ++ number_bits (w - (at + len)) k)) high
+        ∙ sym (ap (bits_with at (number_bits len c)) number_split ∙ bits_with-mid _ _ _ (number_bits len c) at (length-number_bits at b) same)
 
     below-number_slice : b < 2 ^ w → x < 2 ^ w
     below-number_slice h =
@@ -213,7 +222,8 @@ module _ (w b at len : ℕ) (inside : at + len ≤ w) where
         let small : b % 2 ^ at < 2 ^ at = mod_below b (2 ^ at) (pow_pos at) in
         let low : c * 2 ^ at + b % 2 ^ at < 2 ^ at * 2 ^ len = mul-add-lt c (2 ^ at) (b % 2 ^ at) (2 ^ len) fits small in
         let lower : c * 2 ^ at + b % 2 ^ at < 2 ^ (at + len) = subst (λ k. c * 2 ^ at + b % 2 ^ at < k) (sym (pow-add 2 at len)) low in
-        let whole : b / 2 ^ (at + len) * 2 ^ (at + len) + (c * 2 ^ at + b % 2 ^ at) < 2 ^ (at + len) * 2 ^ (w - (at + len)) = mul-add-lt (b / 2 ^ (at + len)) (2 ^ (at + len)) (c * 2 ^ at + b % 2 ^ at) (2 ^ (w - (at + len))) high lower in
+        let whole : b / 2 ^ (at + len) * 2 ^ (at + len) + (c * 2 ^ at + b % 2 ^ at) < 2 ^ (at + len) * 2 ^ (w - (at + len)) =
+        mul-add-lt (b / 2 ^ (at + len)) (2 ^ (at + len)) (c * 2 ^ at + b % 2 ^ at) (2 ^ (w - (at + len))) high lower in
         omega (arith, is, power, whole)
 
 -- a part of a value is of the part's type, and has the bits of the value from the part's lowest on
@@ -247,7 +257,8 @@ part_by-IsPart (array_value vs) (array_type n t) (Slice at len) p h e =
     let all = fits_row vs t h.1 in
     record {
       fits = (part_count-data_row (take len (drop at (parts_of vs))) ∙ length-slice (parts_of vs) t at len all inside, slice_fits (parts_of vs) t at len all inside);
-      bits = row_bits-data_row (take len (drop at (parts_of vs))) ∙ bits_of-slice (parts_of vs) t at len all inside ∙ ap (bits_within (at * bit_count t) (len * bit_count t)) (sym (row_bits-parts_of vs));
+      bits = row_bits-data_row (take len (drop at (parts_of vs))) ∙ bits_of-slice (parts_of vs) t at len all inside
+          ∙ ap (bits_within (at * bit_count t) (len * bit_count t)) (sym (row_bits-parts_of vs));
     })
 part_by-IsPart (int_value w b) (int_type n) (Field k) p h e = absurd (none-some _ e)
 part_by-IsPart (tuple_value vs) (tuple_type ts) (Slice at len) p h e = absurd (none-some _ e)
@@ -280,7 +291,8 @@ with_part-IsWith (int_value m b) (int_type n) (Slice at len) p (int_value l c) h
       bits = bits_with-number_slice m b at len inside c x i.1 refl ∙ ap (λ j. bits_with at (number_bits j c) (number_bits m b)) (sym i.0);
     }) f
 with_part-IsWith (array_value vs) (array_type n t) (Slice at len) p (array_value ws) h e f =
-    part_if-holds (λ q. FitsType (array_value ws) q.of → IsWith (array_value vs) (array_type n t) (array_value ws) (with_part (array_value vs) (Slice at len) (array_value ws)) q) _ _ (array_type len t) p e (λ g i.
+    part_if-holds (λ q. FitsType (array_value ws) q.of → IsWith (array_value vs) (array_type n t) (array_value ws) (with_part (array_value vs) (Slice at len) (array_value ws)) q) _ _
+    (array_type len t) p e (λ g i.
     let k = slice_facts len at n g in
     let inside : at + len ≤ length (parts_of vs) = omega (arith, k.1, h.0, length-parts_of vs) in
     let all = fits_row vs t h.1 in
@@ -290,7 +302,8 @@ with_part-IsWith (array_value vs) (array_type n t) (Slice at len) p (array_value
     let xs = take at (parts_of vs) ++ parts_of ws ++ drop (at + len) (parts_of vs) in
     record {
       fits = (part_count-data_row (take at (parts_of vs) ++ parts_of ws ++ drop (at + len) (parts_of vs)) ∙ r.0 ∙ length-parts_of vs ∙ h.0, r.1);
-      bits = row_bits-data_row (take at (parts_of vs) ++ parts_of ws ++ drop (at + len) (parts_of vs)) ∙ bits_with-slice (parts_of vs) t at len all inside (parts_of ws) new same ∙ ap (bits_with (at * bit_count t) (flat_map value_bits (parts_of ws))) (sym (row_bits-parts_of vs)) ∙ ap (λ bs. bits_with (at * bit_count t) bs (row_bits vs)) (sym (row_bits-parts_of ws));
+      bits = row_bits-data_row (take at (parts_of vs) ++ parts_of ws ++ drop (at + len) (parts_of vs)) ∙ bits_with-slice (parts_of vs) t at len all inside (parts_of ws) new same
+          ∙ ap (bits_with (at * bit_count t) (flat_map value_bits (parts_of ws))) (sym (row_bits-parts_of vs)) ∙ ap (λ bs. bits_with (at * bit_count t) bs (row_bits vs)) (sym (row_bits-parts_of ws));
     }) f
 with_part-IsWith (int_value m b) (int_type n) (Slice at len) p w h e f = absurd (part_if-holds (λ q. FitsType w q.of → ⊥) _ _ (int_type len) p e (λ g i. i) f)
 with_part-IsWith (array_value vs) (array_type n t) (Slice at len) p w h e f = absurd (part_if-holds (λ q. FitsType w q.of → ⊥) _ _ (array_type len t) p e (λ g i. i) f)

@@ -36,16 +36,19 @@ FieldAt-next all xs k i lo x r h e lt = record {
   data_left = let d = AreData-split xs i x r.data_left h e in d.1;
   found =
       let row : row_of (drop i xs) ≡ more_types x (row_of (drop (i + 1) xs)) = row_of-drop xs i x h ∙ ap (λ t. more_types t (row_of (drop (i + 1) xs))) (sym e) in
-      let step = ap (λ ts. option_map (part_beyond lo) (field_part ts (k - i))) row ∙ ap (option_map (part_beyond lo)) (field_part-more x (row_of (drop (i + 1) xs)) k i lt) ∙ part_beyond-twice lo (bit_count x) (field_part (row_of (drop (i + 1) xs)) (k - (i + 1))) in
+      let step = ap (λ ts. option_map (part_beyond lo) (field_part ts (k - i))) row ∙ ap (option_map (part_beyond lo)) (field_part-more x (row_of (drop (i + 1) xs)) k i lt)
+      ∙ part_beyond-twice lo (bit_count x) (field_part (row_of (drop (i + 1) xs)) (k - (i + 1))) in
       sym step ∙ r.found;
 }
 
-pub FieldAt-here : (all xs : List TypeTree) (k i lo : ℕ) (x : TypeTree) → FieldAt all xs k i lo → i < length xs → x ≡ get_or xs i x → i ≡ k → field_part (row_of all) k ≡ Some (record { lo = lo; of = x })
+pub FieldAt-here : (all xs : List TypeTree) (k i lo : ℕ) (x : TypeTree) → FieldAt all xs k i lo → i < length xs → x ≡ get_or xs i x → i ≡ k
+    → field_part (row_of all) k ≡ Some (record { lo = lo; of = x })
 FieldAt-here all xs k i lo x r h e q =
     let row : row_of (drop i xs) ≡ more_types x (row_of (drop (i + 1) xs)) = row_of-drop xs i x h ∙ ap (λ t. more_types t (row_of (drop (i + 1) xs))) (sym e) in
     let none : k - i ≡ 0 = omega arith in
     let same : lo + 0 ≡ lo = omega arith in
-    let step = ap (λ ts. option_map (part_beyond lo) (field_part ts (k - i))) row ∙ ap (λ n. option_map (part_beyond lo) (field_part (more_types x (row_of (drop (i + 1) xs))) n)) none ∙ ap (λ n. Some (record { lo = n; of = x })) same in
+    let step = ap (λ ts. option_map (part_beyond lo) (field_part ts (k - i))) row ∙ ap (λ n. option_map (part_beyond lo) (field_part (more_types x (row_of (drop (i + 1) xs))) n)) none
+    ∙ ap (λ n. Some (record { lo = n; of = x })) same in
     sym r.found ∙ step
 
 pub FieldAt-none : (all xs : List TypeTree) (k i lo : ℕ) → FieldAt all xs k i lo → length xs ≤ i → field_part (row_of all) k ≡ None
@@ -70,7 +73,8 @@ field_part-within : (ts : TypeRow) (k : ℕ) (p : Part) → AreData ts → field
 field_part-within no_types k p h e = absurd (none-some _ e)
 field_part-within (more_types t ts) zero p h e = subst (Within (bit_count t + bit_count_row ts)) (same_Some _ _ e) (record { is_data = h.0; inside = omega arith })
 field_part-within (more_types t ts) (suc k) p h e =
-    part_beyond-holds (Within (bit_count t + bit_count_row ts)) (bit_count t) (field_part ts k) p e (λ q g. let w = field_part-within ts k q h.1 g in record { is_data = w.is_data; inside = omega (arith, w.inside) })
+    part_beyond-holds (Within (bit_count t + bit_count_row ts)) (bit_count t) (field_part ts k) p e (λ q g. let w = field_part-within ts k q h.1 g in
+    record { is_data = w.is_data; inside = omega (arith, w.inside) })
 
 pub slice_facts : (len at n : ℕ) → (nat_le 1 len && nat_le (at + len) n) ≡ true → (1 ≤ len) × (at + len ≤ n)
 slice_facts len at n h = let b = and_both (nat_le 1 len) (nat_le (at + len) n) h in (let x = b.0 in grind (arith, nat_tests), let y = b.1 in grind (arith, nat_tests))
@@ -78,7 +82,8 @@ slice_facts len at n h = let b = and_both (nat_le 1 len) (nat_le (at + len) n) h
 -- the part that a step leads to lies within the whole
 pub step_part-within : (t : TypeTree) (s : Step) (p : Part) → IsData t → step_part t s ≡ Some p → Within (bit_count t) p
 step_part-within (array_type n t) (Field k) p h e =
-    part_if-holds (Within (n * bit_count t)) (nat_lt k n) _ t p e (λ b. let lt : k < n = grind (arith, nat_tests) in record { is_data = h.0; inside = row_fits k (bit_count t) n (bit_count t) lt (omega arith) })
+    part_if-holds (Within (n * bit_count t)) (nat_lt k n) _ t p e (λ b. let lt : k < n = grind (arith, nat_tests) in
+    record { is_data = h.0; inside = row_fits k (bit_count t) n (bit_count t) lt (omega arith) })
 step_part-within (tuple_type ts) (Field k) p h e = field_part-within ts k p h.0 e
 step_part-within (int_type n) (Slice at len) p h e =
     part_if-holds (Within n) _ _ (int_type len) p e (λ b. let f = slice_facts len at n b in record { is_data = (f.0, omega (arith, f.1)); inside = f.1 })
@@ -125,7 +130,8 @@ module _ (t : TypeTree) (ss : List Step) (i : ℕ) (at : Part) (s d : Step) (w :
         is_data = inside.is_data;
         inside = omega (arith, inside.inside, w.inside);
         found =
-            let step = ap (option_map (part_beyond at.lo)) (part_of-here ∙ ap (option_and_then (λ p. option_map (part_beyond p.lo) (part_of p.of (drop (i + 1) ss)))) q) ∙ part_beyond-twice at.lo p.lo (part_of p.of (drop (i + 1) ss)) in
+            let step = ap (option_map (part_beyond at.lo)) (part_of-here ∙ ap (option_and_then (λ p. option_map (part_beyond p.lo) (part_of p.of (drop (i + 1) ss)))) q)
+            ∙ part_beyond-twice at.lo p.lo (part_of p.of (drop (i + 1) ss)) in
             sym step ∙ w.found;
       }
 

@@ -34,7 +34,8 @@ mutual
       let whole : take n (number_bits w b) ≡ number_bits w b = take_all n (number_bits w b) (omega (arith, length-number_bits w b, h.0)) in
       let fits : b < 2 ^ w = subst (λ k. b < 2 ^ k) (sym h.0) h.1 in
       ap (λ bs. int_value n (bits_number bs)) whole ∙ ap (int_value n) (bits_number-number_bits w b fits) ∙ ap (λ k. int_value k b) (sym h.0)
-  value_from_bits-value_bits (array_value vs) (array_type n t) d h = ap (λ k. array_value (repeat_parts k (value_from_bits t) (bit_count t) (row_bits vs))) (sym h.0) ∙ ap array_value (repeat_parts-row_bits vs t d.0 h.1)
+  value_from_bits-value_bits (array_value vs) (array_type n t) d h = ap (λ k. array_value (repeat_parts k (value_from_bits t) (bit_count t) (row_bits vs))) (sym h.0)
+      ∙ ap array_value (repeat_parts-row_bits vs t d.0 h.1)
   value_from_bits-value_bits (tuple_value vs) (tuple_type ts) d h = ap tuple_value (row_from_bits-row_bits vs ts d.0 h)
   value_from_bits-value_bits (time_value t) time_type d h = absurd d
   value_from_bits-value_bits _ _ d h = absurd h
@@ -64,7 +65,8 @@ take_enough w bs h = omega (arith, length-take-le w bs h)
 left_enough : (n w : ℕ) (bs : List Bool) → suc n * w ≤ length bs → (w ≤ length bs) × (n * w ≤ length (drop w bs))
 left_enough n w bs h = let e = suc-mul n w in (omega (arith, e), omega (arith, e, length-drop w bs))
 
-row_bits-repeat_parts : (w : ℕ) (f : List Bool → Datum) → ((bs : List Bool) → w ≤ length bs → value_bits (f bs) ≡ take w bs) → (n : ℕ) (bs : List Bool) → n * w ≤ length bs → row_bits (repeat_parts n f w bs) ≡ take (n * w) bs
+row_bits-repeat_parts : (w : ℕ) (f : List Bool → Datum) → ((bs : List Bool) → w ≤ length bs → value_bits (f bs) ≡ take w bs) → (n : ℕ) (bs : List Bool) → n * w ≤ length bs
+    → row_bits (repeat_parts n f w bs) ≡ take (n * w) bs
 row_bits-repeat_parts w f each zero bs h = let e : 0 * w ≡ 0 = omega arith in rw e refl
 row_bits-repeat_parts w f each (suc n) bs h =
     let k = left_enough n w bs h in
@@ -86,10 +88,12 @@ mutual
   pub row_bits-row_from_bits : (ts : TypeRow) → AreData ts → (bs : List Bool) → bit_count_row ts ≤ length bs → row_bits (row_from_bits ts bs) ≡ take (bit_count_row ts) bs
   row_bits-row_from_bits no_types d bs h = refl
   row_bits-row_from_bits (more_types t ts) d bs h =
-      let front : value_bits (value_from_bits t (take (bit_count t) bs)) ≡ take (bit_count t) bs = value_bits-value_from_bits t d.0 (take (bit_count t) bs) (take_enough _ bs (omega arith)) ∙ take-take (bit_count t) (bit_count t) bs (omega arith) in
+      let front : value_bits (value_from_bits t (take (bit_count t) bs)) ≡ take (bit_count t) bs = value_bits-value_from_bits t d.0 (take (bit_count t) bs) (take_enough _ bs (omega arith))
+      ∙ take-take (bit_count t) (bit_count t) bs (omega arith) in
       rw (front, row_bits-row_from_bits ts d.1 (drop (bit_count t) bs) (omega (arith, length-drop (bit_count t) bs)), take-add (bit_count t) (bit_count_row ts) bs) refl
 
-PartsFit-repeat_parts : (w : ℕ) (t : TypeTree) (f : List Bool → Datum) → ((bs : List Bool) → w ≤ length bs → FitsType (f bs) t) → (n : ℕ) (bs : List Bool) → n * w ≤ length bs → (part_count (repeat_parts n f w bs) ≡ n) × PartsFit (repeat_parts n f w bs) t
+PartsFit-repeat_parts : (w : ℕ) (t : TypeTree) (f : List Bool → Datum) → ((bs : List Bool) → w ≤ length bs → FitsType (f bs) t) → (n : ℕ) (bs : List Bool) → n * w ≤ length bs
+    → (part_count (repeat_parts n f w bs) ≡ n) × PartsFit (repeat_parts n f w bs) t
 PartsFit-repeat_parts w t f each zero bs h = (refl, tt)
 PartsFit-repeat_parts w t f each (suc n) bs h =
     let k = left_enough n w bs h in
@@ -109,7 +113,8 @@ mutual
 
   pub FitsRow-row_from_bits : (ts : TypeRow) → AreData ts → (bs : List Bool) → bit_count_row ts ≤ length bs → FitsRow (row_from_bits ts bs) ts
   FitsRow-row_from_bits no_types d bs h = tt
-  FitsRow-row_from_bits (more_types t ts) d bs h = (FitsType-value_from_bits t d.0 (take (bit_count t) bs) (take_enough _ bs (omega arith)), FitsRow-row_from_bits ts d.1 (drop (bit_count t) bs) (omega (arith, length-drop (bit_count t) bs)))
+  FitsRow-row_from_bits (more_types t ts) d bs
+      h = (FitsType-value_from_bits t d.0 (take (bit_count t) bs) (take_enough _ bs (omega arith)), FitsRow-row_from_bits ts d.1 (drop (bit_count t) bs) (omega (arith, length-drop (bit_count t) bs)))
 
 -- bits past those of the type do not matter
 pub value_from_bits-take : (t : TypeTree) → IsData t → (bs : List Bool) → bit_count t ≤ length bs → value_from_bits t (take (bit_count t) bs) ≡ value_from_bits t bs

@@ -92,7 +92,8 @@ put_inside ws at n x j h w l b =
     bit_there ws (at / 64) (put_word (get_or ws (at / 64) 0) (at % 64) n x) (at % 64 + j) (at + j) (omega arith) (omega arith) (omega arith)
     ∙ put_word_inside (get_or ws (at / 64) 0) (at % 64) n x j h l b
 
-put_same_word : (ws : List ℕ) (at n x i : ℕ) → at % 64 + n ≤ 64 → at + n ≤ 64 * length ws → 0 < n → x < 2 ^ n → (i < at) ⊎ (at + n ≤ i) → i / 64 ≡ at / 64 → word_bit (put_words ws at n x) i ≡ word_bit ws i
+put_same_word : (ws : List ℕ) (at n x i : ℕ) → at % 64 + n ≤ 64 → at + n ≤ 64 * length ws → 0 < n → x < 2 ^ n → (i < at) ⊎ (at + n ≤ i) → i / 64 ≡ at / 64
+    → word_bit (put_words ws at n x) i ≡ word_bit ws i
 put_same_word ws at n x i h w p l o e =
     let side : (i % 64 < at % 64) ⊎ (at % 64 + n ≤ i % 64) = grind arith in
     bit_there ws (at / 64) (put_word (get_or ws (at / 64) 0) (at % 64) n x) (i % 64) i (omega arith) (omega arith) (omega arith)

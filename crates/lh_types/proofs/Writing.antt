@@ -48,15 +48,18 @@ pub found-here : (rs : List BitRun) (i j : ℕ) (r : BitRun) (b : Bool) → i < 
 found-here rs i j r b h e g =
     ap (λ es. slice_get es j) (runs-next rs i r h e) ∙ get-left (numbered r.lo r.bits) (bits_of (drop (i + 1) rs)) j (r.lo + j, b) (get-numbered r.lo j r.bits b g)
 
-pub found-later : (rs : List BitRun) (i j n : ℕ) (r : BitRun) → i < length rs → r ≡ get_or rs i r → n ≡ length r.bits → n ≤ j → slice_get (bits_of (drop i rs)) j ≡ slice_get (bits_of (drop (i + 1) rs)) (j - n)
+pub found-later : (rs : List BitRun) (i j n : ℕ) (r : BitRun) → i < length rs → r ≡ get_or rs i r → n ≡ length r.bits → n ≤ j
+    → slice_get (bits_of (drop i rs)) j ≡ slice_get (bits_of (drop (i + 1) rs)) (j - n)
 found-later rs i j n r h e l le =
     let c : length (numbered r.lo r.bits) ≡ n = length-numbered r.lo r.bits ∙ sym l in
     ap (λ es. slice_get es j) (runs-next rs i r h e) ∙ get-right (numbered r.lo r.bits) (bits_of (drop (i + 1) rs)) j (omega arith) ∙ ap (λ m. slice_get (bits_of (drop (i + 1) rs)) (j - m)) c
 
-pub left-later : (rs : List BitRun) (i j n : ℕ) (r : BitRun) → i < length rs → r ≡ get_or rs i r → n ≡ length r.bits → n ≤ j → j < length (bits_of (drop i rs)) → j - n < length (bits_of (drop (i + 1) rs))
+pub left-later : (rs : List BitRun) (i j n : ℕ) (r : BitRun) → i < length rs → r ≡ get_or rs i r → n ≡ length r.bits → n ≤ j → j < length (bits_of (drop i rs))
+    → j - n < length (bits_of (drop (i + 1) rs))
 left-later rs i j n r h e l le b =
     let c : length (numbered r.lo r.bits) ≡ n = length-numbered r.lo r.bits ∙ sym l in
-    let t : length (bits_of (drop i rs)) ≡ length (numbered r.lo r.bits) + length (bits_of (drop (i + 1) rs)) = ap length (runs-next rs i r h e) ∙ length-append (numbered r.lo r.bits) (bits_of (drop (i + 1) rs)) in
+    let t : length (bits_of (drop i rs)) ≡ length (numbered r.lo r.bits) + length (bits_of (drop (i + 1) rs)) = ap length (runs-next rs i r h e)
+    ∙ length-append (numbered r.lo r.bits) (bits_of (drop (i + 1) rs)) in
     omega arith
 
 -- one more run at the end

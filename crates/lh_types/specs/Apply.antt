@@ -6,7 +6,7 @@ use Rattle.lh_types.specs.Parts.{parts_of, part_by, with_part}
 use Rattle.lh_types.specs.ApplyInt.{integer_row, row_width, truth, moved_up, moved_down}
 use Rattle.lh_types.specs.declared.part.Step.TheVariants.{Field, Slice}
 use Rattle.lh_types.specs.declared.op.Op.{Op}
-use Rattle.lh_types.specs.declared.op.Op.TheVariants.{Eq, Neq, Shl, Shr, Mux, Extf, Exts, Insf, Inss, Array, Repeat, Tuple}
+use Rattle.lh_types.specs.declared.op.Op.TheVariants.{Not, Neg, Add, Sub, Umul, Smul, Udiv, Sdiv, Umod, Smod, Urem, Srem, And, Or, Xor, Eq, Neq, Slt, Sgt, Sle, Sge, Ult, Ugt, Ule, Uge, Shl, Shr, Mux, Extf, Exts, Insf, Inss, Array, Repeat, Tuple}
 
 -- what an operation gives on arguments that no row has
 abbrev pub no_value : Datum
@@ -64,6 +64,29 @@ repeated n _ = no_value
 
 -- the value of an operation
 unfoldable pub apply : Op → List Datum → Datum
+apply Not vs = integer_result Not vs
+apply Neg vs = integer_result Neg vs
+apply Add vs = integer_result Add vs
+apply Sub vs = integer_result Sub vs
+apply Umul vs = integer_result Umul vs
+apply Smul vs = integer_result Smul vs
+apply Udiv vs = integer_result Udiv vs
+apply Sdiv vs = integer_result Sdiv vs
+apply Umod vs = integer_result Umod vs
+apply Smod vs = integer_result Smod vs
+apply Urem vs = integer_result Urem vs
+apply Srem vs = integer_result Srem vs
+apply And vs = integer_result And vs
+apply Or vs = integer_result Or vs
+apply Xor vs = integer_result Xor vs
+apply Slt vs = integer_result Slt vs
+apply Sgt vs = integer_result Sgt vs
+apply Sle vs = integer_result Sle vs
+apply Sge vs = integer_result Sge vs
+apply Ult vs = integer_result Ult vs
+apply Ugt vs = integer_result Ugt vs
+apply Ule vs = integer_result Ule vs
+apply Uge vs = integer_result Uge vs
 apply Eq vs = bit_value (equality vs)
 apply Neq vs = bit_value (not (equality vs))
 apply Shl vs = shifted moved_up vs
@@ -76,4 +99,3 @@ apply (Inss o n) vs = with_slice o n vs
 apply Array vs = array_value (data_row vs)
 apply (Repeat n) vs = repeated n vs
 apply Tuple vs = tuple_value (data_row vs)
-apply op vs = integer_result op vs

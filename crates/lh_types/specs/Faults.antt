@@ -60,7 +60,7 @@ made None t = Ok t
 made (Some e) t = Err e
 
 -- the same, where memory may run out if there is no fault
-abbrev pub Makes : Result TypeTree TyFault → Option TyFault → TypeTree → Type 0
-Makes (Ok t) fault made = (fault ≡ None) × (t ≡ made)
-Makes (Err OutOfMemory) fault made = fault ≡ None
-Makes (Err e) fault made = fault ≡ Some e
+abbrev pub MakesType : Result TypeTree TyFault → Option TyFault → TypeTree → Type 0
+MakesType (Ok t) fault made = (fault ≡ None) × (t ≡ made)
+MakesType (Err OutOfMemory) fault made = fault ≡ None
+MakesType (Err e) fault made = fault ≡ Some e

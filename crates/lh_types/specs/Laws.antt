@@ -29,8 +29,10 @@ PartsAreWithin = (t : TypeTree) (ss : List Step) (p : Part) → IsData t → par
 
 -- the part of a value is of the part's type, and its bits are those of the value within the part
 abbrev pub BitsOfPart : Type 0
-BitsOfPart = (v : Datum) (t : TypeTree) (ss : List Step) (p : Part) → IsData t → FitsType v t → part_of t ss ≡ Some p → FitsType (part_along v ss) p.of × (value_bits (part_along v ss) ≡ bits_within p.lo (bit_count p.of) (value_bits v))
+BitsOfPart = (v : Datum) (t : TypeTree) (ss : List Step) (p : Part) → IsData t → FitsType v t → part_of t ss ≡ Some p → FitsType (part_along v ss) p.of
+    × (value_bits (part_along v ss) ≡ bits_within p.lo (bit_count p.of) (value_bits v))
 
 -- a value with a part replaced is of the type, and its bits are those of the value with those of the new part
 abbrev pub BitsWithPart : Type 0
-BitsWithPart = (v w : Datum) (t : TypeTree) (ss : List Step) (p : Part) → IsData t → FitsType v t → part_of t ss ≡ Some p → FitsType w p.of → FitsType (with_part_along v ss w) t × (value_bits (with_part_along v ss w) ≡ bits_with p.lo (value_bits w) (value_bits v))
+BitsWithPart = (v w : Datum) (t : TypeTree) (ss : List Step) (p : Part) → IsData t → FitsType v t → part_of t ss ≡ Some p → FitsType w p.of → FitsType (with_part_along v ss w) t
+    × (value_bits (with_part_along v ss w) ≡ bits_with p.lo (value_bits w) (value_bits v))

@@ -14,7 +14,7 @@ pub mod Flags
 pub mod Packed
 pub mod Parts
 pub mod Raised
-pub mod PlaceOf
+pub mod PartViews
 pub mod SameValue
 pub mod SameValueLaws
 pub mod Laws
@@ -26,3 +26,4 @@ pub mod Wish
 pub mod Writes
 pub mod History
 pub mod Pictures
+pub mod Few

@@ -35,23 +35,19 @@ impl Bits {
     pub fn zeros(alloc: Global, len: u32) -> Result<Bits, NoMemory>
         ensures { IfOk result (λ b. b ≡ replicate len false) }
     {
-        match vec![in alloc; 0; (len as usize).div_ceil(64)] {
-            Ok(words) => Ok(Bits { words, len }),
-            Err(_) => Err(NoMemory),
-        }
+        let words = vec![in alloc; 0; (len as usize).div_ceil(64)]?;
+        Ok(Bits { words, len })
     }
 
     /// The same bits.
     pub fn copy(&self) -> Result<Bits, NoMemory>
         ensures { IfOk result (λ b. b ≡ self.now) }
     {
-        match Vec::from_slice(*self.words.allocator(), self.words.as_slice()) {
-            Ok(words) => Ok(Bits {
-                words,
-                len: self.len,
-            }),
-            Err(_) => Err(NoMemory),
-        }
+        let words = Vec::from_slice(*self.words.allocator(), self.words.as_slice())?;
+        Ok(Bits {
+            words,
+            len: self.len,
+        })
     }
 
     /// The `len` bits from bit `at` on, as a list of their own.

@@ -3,6 +3,7 @@
 
 pub mod bit_run;
 pub mod bits;
+pub mod few;
 pub mod frame;
 pub mod laws;
 pub mod layout;
@@ -17,3 +18,4 @@ mod type_tests;
 pub mod val;
 mod word;
 pub mod writes;
+pub mod written;

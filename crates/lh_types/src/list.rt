@@ -33,10 +33,8 @@ impl<T> ListOf<T> {
     pub fn with_room(alloc: Global, room: usize) -> Result<ListOf<T>, NoMemory>
         ensures { IfOk result (λ list. list ≡ []) }
     {
-        match Vec::with_capacity(alloc, room) {
-            Ok(items) => Ok(ListOf { items }),
-            Err(_) => Err(NoMemory),
-        }
+        let items = Vec::with_capacity(alloc, room)?;
+        Ok(ListOf { items })
     }
 
     /// The list of these items, without memory.
@@ -85,10 +83,8 @@ impl<T: Copy> ListOf<T> {
     pub fn copy(&self) -> Result<ListOf<T>, NoMemory>
         ensures { IfOk result (λ list. list ≡ self.now) }
     {
-        match Vec::from_slice(*self.items.allocator(), self.items.as_slice()) {
-            Ok(items) => Ok(ListOf { items }),
-            Err(_) => Err(NoMemory),
-        }
+        let items = Vec::from_slice(*self.items.allocator(), self.items.as_slice())?;
+        Ok(ListOf { items })
     }
 }
 
@@ -98,10 +94,8 @@ impl<T: Drop> ListOf<T> {
         ensures ok { OnOk result (self.new ≡ self.old ++ item ∷ []) }
         ensures err { OnErr result (self.new ≡ self.old) }
     {
-        match self.items.push(item) {
-            Ok(()) => Ok(()),
-            Err(_) => Err(NoMemory),
-        }
+        self.items.push(item)?;
+        Ok(())
     }
 }
 

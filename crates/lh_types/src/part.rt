@@ -3,7 +3,7 @@ ghost use Rattle.std.specs.Prelude.{◌≡◌, ◌+◌, ◌≤◌, ◌&&◌, nat
 ghost use Rattle.lh_types.specs.Types.{IsData, AreData, bit_count, bit_count_row, row_of};
 ghost use Rattle.lh_types.specs.Kind.{type_of_kind};
 ghost use Rattle.lh_types.specs.Parts.{range_of, step_part, field_part};
-ghost use Rattle.lh_types.specs.PlaceOf.{part_of_place};
+ghost use Rattle.lh_types.specs.PartViews.{part_of_view};
 
 use crate::list::ListOf;
 use crate::ty::{Ty, TyKind, TyList, bits, bits_of_fields};
@@ -35,13 +35,13 @@ pub fn range_of(t: &Ty, steps: &[Step]) -> Option<Range>
     requires { IsData t.now }
     ensures { result ≡ range_of t.now steps.now }
 {
-    let mut part = Place {
+    let mut part = PartView {
         lo: 0,
         of: t.kind(),
     };
     for step in steps {
         let next = step_into(part.of, *step)?;
-        part = Place {
+        part = PartView {
             lo: part.lo + next.lo,
             of: next.of,
         };
@@ -54,27 +54,27 @@ pub fn range_of(t: &Ty, steps: &[Step]) -> Option<Range>
 
 /// A part on the way: its lowest bit within the whole, and one level of its type.
 #[derive(Clone, Copy)]
-struct Place<'a> {
+struct PartView<'a> {
     lo: u32,
     of: TyKind<'a>,
 }
 
 /// The part that one step leads to.
-fn step_into(of: TyKind<'_>, step: Step) -> Option<Place<'_>>
+fn step_into(of: TyKind<'_>, step: Step) -> Option<PartView<'_>>
     requires { IsData (type_of_kind of) }
-    ensures { option_map part_of_place result ≡ step_part (type_of_kind of.entry) step }
+    ensures { option_map part_of_view result ≡ step_part (type_of_kind of.entry) step }
 {
     match (of, step) {
-        (TyKind::Array(n, t), Step::Field(k)) if k < n => Some(Place {
+        (TyKind::Array(n, t), Step::Field(k)) if k < n => Some(PartView {
             lo: k * bits(t),
             of: t.kind(),
         }),
         (TyKind::Tuple(fields), Step::Field(k)) => field(fields, k),
-        (TyKind::Int(n), Step::Slice { at, len }) if is_slice(n, at, len) => Some(Place {
+        (TyKind::Int(n), Step::Slice { at, len }) if is_slice(n, at, len) => Some(PartView {
             lo: at,
             of: TyKind::Int(len),
         }),
-        (TyKind::Array(n, t), Step::Slice { at, len }) if is_slice(n, at, len) => Some(Place {
+        (TyKind::Array(n, t), Step::Slice { at, len }) if is_slice(n, at, len) => Some(PartView {
             lo: at * bits(t),
             of: TyKind::Array(len, t),
         }),
@@ -90,15 +90,15 @@ pub fn is_slice(n: u32, at: u32, len: u32) -> bool
 }
 
 /// Field `k` of a struct.
-fn field(fields: &TyList, k: u32) -> Option<Place<'_>>
+fn field(fields: &TyList, k: u32) -> Option<PartView<'_>>
     requires data { AreData (row_of fields.now) }
     requires narrow { bit_count_row (row_of fields.now) ≤ 65536 }
-    ensures { option_map part_of_place result ≡ field_part (row_of fields.now) k }
+    ensures { option_map part_of_view result ≡ field_part (row_of fields.now) k }
 {
     let mut lo = 0;
     for (i, t) in fields.as_slice().iter().enumerate() {
         if i == k as usize {
-            return Some(Place { lo, of: t.kind() });
+            return Some(PartView { lo, of: t.kind() });
         }
         lo += bits(t);
     }

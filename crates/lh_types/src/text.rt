@@ -8,10 +8,8 @@ use itoa::Buffer;
 pub fn put(to: &mut Vec<u8>, bytes: &[u8]) -> Result<(), NoMemory>
     ensures { OnOk result (to.new.items ≡ to.old.items ++ bytes.now) }
 {
-    match to.extend_from_slice(bytes) {
-        Ok(()) => Ok(()),
-        Err(_) => Err(NoMemory),
-    }
+    to.extend_from_slice(bytes)?;
+    Ok(())
 }
 
 /// Puts the decimal digits of a number at the end of a text, without a leading zero. After `NoMemory` nothing is said of the text.

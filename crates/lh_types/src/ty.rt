@@ -2,7 +2,7 @@
 ghost use Rattle.std.specs.Prelude.{◌≡◌, ◌<◌, ◌^◌, ◌+◌, [], ◌∷◌, ◌++◌, length, nat_lt, ◌||◌, ◌≤◌, IfOk, OnOk, OnErr, IsTrue};
 ghost use Rattle.lh_types.specs.Types.{int_type, time_type, void_type, array_type, tuple_type, signal_type, pointer_type, IsData, AreData, IsLimited, bit_count, bit_count_row, depth_of, depth_of_row, row_of, same_type, same_row};
 ghost use Rattle.lh_types.specs.Kind.{type_of_kind};
-ghost use Rattle.lh_types.specs.Faults.{is_data, all_data, int_fault, array_fault, tuple_fault, signal_fault, pointer_fault, made, Makes};
+ghost use Rattle.lh_types.specs.Faults.{is_data, all_data, int_fault, array_fault, tuple_fault, signal_fault, pointer_fault, made, MakesType};
 ghost use Rattle.lh_types.specs.declared.ty.TyFault.TheVariants.{OutOfMemory};
 
 use std::alloc::{AllocError, AllocFailed, Global};
@@ -160,10 +160,8 @@ impl TyList {
     pub fn with_room(alloc: Global, room: usize) -> Result<TyList, NoMemory>
         ensures { IfOk result (λ list. list ≡ []) }
     {
-        match Vec::with_capacity(alloc, room) {
-            Ok(list) => Ok(TyList { list }),
-            Err(_) => Err(NoMemory),
-        }
+        let list = Vec::with_capacity(alloc, room)?;
+        Ok(TyList { list })
     }
 
     /// The list of these types, without memory.
@@ -207,13 +205,11 @@ impl TyList {
         ensures err { OnErr result (self.new ≡ self.old) }
     {
         // Most structs nest with few fields: what a list gives back later would lie there as a gap.
-        if self.list.capacity() == 0 && self.list.reserve_exact(1).is_err() {
-            return Err(NoMemory);
+        if self.list.capacity() == 0 {
+            self.list.reserve_exact(1)?;
         }
-        match self.list.push(x) {
-            Ok(()) => Ok(()),
-            Err(_) => Err(NoMemory),
-        }
+        self.list.push(x)?;
+        Ok(())
     }
 }
 
@@ -246,7 +242,7 @@ impl Ty {
 
     /// The array of `len` elements; each `TyFault` but `WidthRange`, the first that holds.
     pub fn array(alloc: Global, len: u32, of: Ty) -> Result<Ty, TyFault>
-        ensures { Makes result (array_fault len of) (array_type len of) }
+        ensures { MakesType result (array_fault len of) (array_type len of) }
     {
         if len == 0 {
             return Err(TyFault::Empty);
@@ -291,7 +287,7 @@ impl Ty {
 
     /// The signal that carries this type; `WrongPart` where it is no data type.
     pub fn signal(alloc: Global, of: Ty) -> Result<Ty, TyFault>
-        ensures { Makes result (signal_fault of) (signal_type of) }
+        ensures { MakesType result (signal_fault of) (signal_type of) }
     {
         if !carries_data(&of) {
             return Err(TyFault::WrongPart);
@@ -304,7 +300,7 @@ impl Ty {
 
     /// The pointer to this type; `WrongPart` where it is neither a data type nor time.
     pub fn pointer(alloc: Global, of: Ty) -> Result<Ty, TyFault>
-        ensures { Makes result (pointer_fault of) (pointer_type of) }
+        ensures { MakesType result (pointer_fault of) (pointer_type of) }
     {
         if !of.is_value_type() {
             return Err(TyFault::WrongPart);
@@ -335,10 +331,7 @@ impl Ty {
 fn boxed(alloc: Global, t: Ty) -> Result<Box<Ty>, NoMemory>
     ensures { IfOk result (λ b. b.value ≡ t) }
 {
-    match Box::new(alloc, t) {
-        Ok(b) => Ok(b),
-        Err(_) => Err(NoMemory),
-    }
+    Ok(Box::new(alloc, t)?)
 }
 
 /// Whether it is a data type.

@@ -63,10 +63,8 @@ impl ValList {
     pub fn with_room(alloc: Global, room: usize) -> Result<ValList, NoMemory>
         ensures { IfOk result (λ list. list ≡ []) }
     {
-        match Vec::with_capacity(alloc, room) {
-            Ok(list) => Ok(ValList { list }),
-            Err(_) => Err(NoMemory),
-        }
+        let list = Vec::with_capacity(alloc, room)?;
+        Ok(ValList { list })
     }
 
     /// The list of these values, without memory.
@@ -109,10 +107,8 @@ impl ValList {
         ensures ok { OnOk result (self.new ≡ self.old ++ datum_of x ∷ []) }
         ensures err { OnErr result (self.new ≡ self.old) }
     {
-        match self.list.push(x) {
-            Ok(()) => Ok(()),
-            Err(_) => Err(NoMemory),
-        }
+        self.list.push(x)?;
+        Ok(())
     }
 }
 

@@ -16,7 +16,7 @@ use Rattle.lh_unit.specs.declared.inst.Inst.{Inst}
 use Rattle.lh_unit.specs.declared.table.Line.{Line}
 use Rattle.lh_unit.proofs.Lists.{Same, same, other, same_or, nat_eq-refl, nat_eq-other, or_false, or_true, some_inj}
 use Rattle.lh_typing.specs.declared.scope.Fact.{Fact}
-use Rattle.lh_typing.specs.Knowing.{Known, Knows, GivenBy, GivenArg, Tells, TellsArg, Marks, blank, line_kind, line_type, arg_type}
+use Rattle.lh_typing.specs.FactsOfUnit.{FactAfter, FactsAfter, GivenBy, GivenArg, FactOfInst, FactOfArg, Marks, blank, line_kind, line_type, arg_type}
 use Rattle.lh_types.specs.Types.{TypeTree}
 use Rattle.lh_typing.specs.Numbers.{Grows}
 use Rattle.lh_typing.proofs.Numbering.{number-grows}
@@ -44,7 +44,8 @@ making-more : (ls : List Line) (l : Line) (v : ℕ) → inst_making (ls ++ l ∷
 making-more [] l v = refl
 making-more (x ∷ ls) l v = by (is_result x.result v) (making-more ls l v)
   where
-    by : (c : Bool) → inst_making (ls ++ l ∷ []) v ≡ or_else (inst_making ls v) (if is_result l.result v then Some l.inst else None) → (if c then Some x.inst else inst_making (ls ++ l ∷ []) v) ≡ or_else (if c then Some x.inst else inst_making ls v) (if is_result l.result v then Some l.inst else None)
+    by : (c : Bool) → inst_making (ls ++ l ∷ []) v ≡ or_else (inst_making ls v) (if is_result l.result v then Some l.inst else None)
+        → (if c then Some x.inst else inst_making (ls ++ l ∷ []) v) ≡ or_else (if c then Some x.inst else inst_making ls v) (if is_result l.result v then Some l.inst else None)
     by true r = refl
     by false r = r
 
@@ -60,7 +61,8 @@ being-more : (xs : List Arg) (a : Arg) (v : ℕ) → arg_being (xs ++ a ∷ []) 
 being-more [] a v = refl
 being-more (x ∷ xs) a v = by (nat_eq x.value.0 v) (being-more xs a v)
   where
-    by : (c : Bool) → arg_being (xs ++ a ∷ []) v ≡ or_else (arg_being xs v) (if nat_eq a.value.0 v then Some a else None) → (if c then Some x else arg_being (xs ++ a ∷ []) v) ≡ or_else (if c then Some x else arg_being xs v) (if nat_eq a.value.0 v then Some a else None)
+    by : (c : Bool) → arg_being (xs ++ a ∷ []) v ≡ or_else (arg_being xs v) (if nat_eq a.value.0 v then Some a else None)
+        → (if c then Some x else arg_being (xs ++ a ∷ []) v) ≡ or_else (if c then Some x else arg_being xs v) (if nat_eq a.value.0 v then Some a else None)
     by true r = refl
     by false r = r
 
@@ -83,7 +85,7 @@ kept (Some x) p h = refl
 -- what an instruction tells
 module _ (ts : List TypeTree) (f : Naming) (ls : List Line) (l : Line) (v : ℕ) where
   -- another value
-  pub line-other : (x : Fact) → is_result l.result v ≡ false → Known ts f [] ls v x → Known ts f [] (ls ++ l ∷ []) v x
+  pub line-other : (x : Fact) → is_result l.result v ≡ false → FactAfter ts f [] ls v x → FactAfter ts f [] (ls ++ l ∷ []) v x
   line-other x h k =
       let m : inst_making (ls ++ l ∷ []) v ≡ inst_making ls v = making-more ls l v ∙ ap (λ b. or_else (inst_making ls v) (if b then Some l.inst else None)) h ∙ or_else-none (inst_making ls v) in
       record {
@@ -93,7 +95,7 @@ module _ (ts : List TypeTree) (f : Naming) (ls : List Line) (l : Line) (v : ℕ)
       }
 
   -- a value that an instruction before it gives
-  pub line-again : (x : Fact) → is_made ls v ≡ true → Known ts f [] ls v x → Known ts f [] (ls ++ l ∷ []) v x
+  pub line-again : (x : Fact) → is_made ls v ≡ true → FactAfter ts f [] ls v x → FactAfter ts f [] (ls ++ l ∷ []) v x
   line-again x h k =
       let m : inst_making (ls ++ l ∷ []) v ≡ inst_making ls v = making-more ls l v ∙ kept (inst_making ls v) (if is_result l.result v then Some l.inst else None) (making-made ls v ∙ h) in
       record {
@@ -103,9 +105,10 @@ module _ (ts : List TypeTree) (f : Naming) (ls : List Line) (l : Line) (v : ℕ)
       }
 
   -- a value that it gives first
-  pub line-first : (x : Fact) → is_result l.result v ≡ true → is_made ls v ≡ false → GivenBy ts f l.inst x → Known ts f [] (ls ++ l ∷ []) v x
+  pub line-first : (x : Fact) → is_result l.result v ≡ true → is_made ls v ≡ false → GivenBy ts f l.inst x → FactAfter ts f [] (ls ++ l ∷ []) v x
   line-first x r h g =
-      let m : inst_making (ls ++ l ∷ []) v ≡ Some l.inst = making-more ls l v ∙ ap (λ o. or_else o (if is_result l.result v then Some l.inst else None)) (is-none (inst_making ls v) (making-made ls v ∙ h)) ∙ ap (λ b. if b then Some l.inst else None) r in
+      let m : inst_making (ls ++ l ∷ []) v ≡ Some l.inst = making-more ls l v
+      ∙ ap (λ o. or_else o (if is_result l.result v then Some l.inst else None)) (is-none (inst_making ls v) (making-made ls v ∙ h)) ∙ ap (λ b. if b then Some l.inst else None) r in
       record {
         defined = g.defined ∙ sym (is_made-push ls l v ∙ ap (λ b. b || is_result l.result v) h ∙ r);
         kind = g.kind ∙ sym (ap (option_and_then (λ (i : Inst). result_kind (inst_text f i))) m);
@@ -113,8 +116,9 @@ module _ (ts : List TypeTree) (f : Naming) (ls : List Line) (l : Line) (v : ℕ)
       }
 
 -- by whether the value was given already
-line-told : (ts : List TypeTree) (f : Naming) (ls : List Line) (l : Line) (v : ℕ) (old new : Fact) (b : Bool) → old.defined ≡ b → Tells ts b f l.inst old new → is_result l.result v ≡ true → Known ts f [] ls v old → Known ts f [] (ls ++ l ∷ []) v new
-line-told ts f ls l v old new true d t r k = subst (Known ts f [] (ls ++ l ∷ []) v) (sym t) (line-again ts f ls l v old (sym k.defined ∙ d) k)
+line-told : (ts : List TypeTree) (f : Naming) (ls : List Line) (l : Line) (v : ℕ) (old new : Fact) (b : Bool) → old.defined ≡ b → FactOfInst ts b f l.inst old new → is_result l.result v ≡ true
+    → FactAfter ts f [] ls v old → FactAfter ts f [] (ls ++ l ∷ []) v new
+line-told ts f ls l v old new true d t r k = subst (FactAfter ts f [] (ls ++ l ∷ []) v) (sym t) (line-again ts f ls l v old (sym k.defined ∙ d) k)
 line-told ts f ls l v old new false d t r k = line-first ts f ls l v new r (sym k.defined ∙ d) t
 
 -- nothing is known at first
@@ -123,21 +127,22 @@ replicate-blank zero v x e = cc
 replicate-blank (suc n) zero x e = sym (some_inj blank x e)
 replicate-blank (suc n) (suc v) x e = replicate-blank n v x e
 
-known-blank : (ts : List TypeTree) (f : Naming) (v : ℕ) → Known ts f [] [] v blank
+known-blank : (ts : List TypeTree) (f : Naming) (v : ℕ) → FactAfter ts f [] [] v blank
 known-blank ts f v = record { defined = refl; kind = refl; ty = refl }
 
 pub length-replicate : {X : Type 0} → (n : ℕ) (x : X) → length (replicate n x) ≡ n
 length-replicate zero x = refl
 length-replicate (suc n) x = ap suc (length-replicate n x)
 
-pub knows-nothing : (ts : List TypeTree) (n : ℕ) (f : Naming) (facts : List Fact) → facts ≡ replicate n blank → Knows ts n f [] [] facts
+pub knows-nothing : (ts : List TypeTree) (n : ℕ) (f : Naming) (facts : List Fact) → facts ≡ replicate n blank → FactsAfter ts n f [] [] facts
 knows-nothing ts n f facts e = record {
   long = ap length e ∙ length-replicate n blank;
-  known = λ v x g. subst (Known ts f [] [] v) (sym (replicate-blank n v x (sym (ap (λ l. slice_get l v) e) ∙ g))) (known-blank ts f v);
+  known = λ v x g. subst (FactAfter ts f [] [] v) (sym (replicate-blank n v x (sym (ap (λ l. slice_get l v) e) ∙ g))) (known-blank ts f v);
 }
 
 -- one more instruction, with a result
-pub knows-told : (ts : List TypeTree) (n : ℕ) (f : Naming) (ls : List Line) (l : Line) (w : ValueId) (old new : List Fact) (fact d : Fact) → Knows ts n f [] ls old → l.result ≡ Some w → w.0 < n → Tells ts (get_or old w.0 d).defined f l.inst (get_or old w.0 d) fact → new ≡ set old w.0 fact → Knows ts n f [] (ls ++ l ∷ []) new
+pub knows-told : (ts : List TypeTree) (n : ℕ) (f : Naming) (ls : List Line) (l : Line) (w : ValueId) (old new : List Fact) (fact d : Fact) → FactsAfter ts n f [] ls old → l.result ≡ Some w → w.0 < n
+    → FactOfInst ts (get_or old w.0 d).defined f l.inst (get_or old w.0 d) fact → new ≡ set old w.0 fact → FactsAfter ts n f [] (ls ++ l ∷ []) new
 knows-told ts n f ls l w old new fact d k r h t is = record {
   long = ap length is ∙ length-set old w.0 fact ∙ k.long;
   known = λ v x g. by v x (same_or w.0 v) (sym (ap (λ xs. slice_get xs v) is) ∙ g);
@@ -149,24 +154,25 @@ knows-told ts n f ls l w old new fact d k r h t is = record {
     gives : (v : ℕ) → is_result l.result v ≡ nat_eq w.0 v
     gives v = ap (λ o. is_result o v) r
 
-    by : (v : ℕ) (x : Fact) → Same w.0 v → slice_get (set old w.0 fact) v ≡ Some x → Known ts f [] (ls ++ l ∷ []) v x
+    by : (v : ℕ) (x : Fact) → Same w.0 v → slice_get (set old w.0 fact) v ≡ Some x → FactAfter ts f [] (ls ++ l ∷ []) v x
     by v x (other p) g = line-other ts f ls l v x (gives v ∙ nat_eq-other w.0 v p) (k.known v x (sym (get-set-other old w.0 v fact p) ∙ g))
     by v x (same e) g =
         let q : fact ≡ x = some_inj fact x (sym (get-set-same old w.0 fact within) ∙ ap (slice_get (set old w.0 fact)) e ∙ g) in
-        let p : Known ts f [] ls w.0 (get_or old w.0 d) = k.known w.0 (get_or old w.0 d) (slice_get-get_or old w.0 d within) in
-        let z : Known ts f [] (ls ++ l ∷ []) w.0 fact = line-told ts f ls l w.0 (get_or old w.0 d) fact (get_or old w.0 d).defined refl t (gives w.0 ∙ nat_eq-refl w.0) p in
-        subst (λ (u : ℕ). Known ts f [] (ls ++ l ∷ []) u x) e (subst (Known ts f [] (ls ++ l ∷ []) w.0) q z)
+        let p : FactAfter ts f [] ls w.0 (get_or old w.0 d) = k.known w.0 (get_or old w.0 d) (slice_get-get_or old w.0 d within) in
+        let z : FactAfter ts f [] (ls ++ l ∷ []) w.0 fact = line-told ts f ls l w.0 (get_or old w.0 d) fact (get_or old w.0 d).defined refl t (gives w.0 ∙ nat_eq-refl w.0) p in
+        subst (λ (u : ℕ). FactAfter ts f [] (ls ++ l ∷ []) u x) e (subst (FactAfter ts f [] (ls ++ l ∷ []) w.0) q z)
 
 -- the same, by what was known of the value
-pub knows-after : (was fact : Fact) (i : Inst) (ts : List TypeTree) (n : ℕ) (f : Naming) (ls : List Line) (l : Line) (w : ValueId) (old new : List Fact) → Tells ts was.defined f i was fact → i ≡ l.inst → slice_get old w.0 ≡ Some was → Knows ts n f [] ls old → l.result ≡ Some w → w.0 < n → new ≡ set old w.0 fact → Knows ts n f [] (ls ++ l ∷ []) new
+pub knows-after : (was fact : Fact) (i : Inst) (ts : List TypeTree) (n : ℕ) (f : Naming) (ls : List Line) (l : Line) (w : ValueId) (old new : List Fact) → FactOfInst ts was.defined f i was fact
+    → i ≡ l.inst → slice_get old w.0 ≡ Some was → FactsAfter ts n f [] ls old → l.result ≡ Some w → w.0 < n → new ≡ set old w.0 fact → FactsAfter ts n f [] (ls ++ l ∷ []) new
 knows-after was fact i ts n f ls l w old new t e s k r h is =
     let there : get_or old w.0 was ≡ was = get_or_from_slice_get old w.0 was was s in
-    let P : Inst → Type 0 = λ j. Tells ts was.defined f j was fact in
-    let Q : Fact → Type 0 = λ x. Tells ts x.defined f l.inst x fact in
+    let P : Inst → Type 0 = λ j. FactOfInst ts was.defined f j was fact in
+    let Q : Fact → Type 0 = λ x. FactOfInst ts x.defined f l.inst x fact in
     knows-told ts n f ls l w old new fact was k r h (subst Q (sym there) (subst P e t)) is
 
 -- one more instruction, with no result
-pub knows-more : (ts : List TypeTree) (n : ℕ) (f : Naming) (ls : List Line) (l : Line) (facts : List Fact) → Knows ts n f [] ls facts → l.result ≡ None → Knows ts n f [] (ls ++ l ∷ []) facts
+pub knows-more : (ts : List TypeTree) (n : ℕ) (f : Naming) (ls : List Line) (l : Line) (facts : List Fact) → FactsAfter ts n f [] ls facts → l.result ≡ None → FactsAfter ts n f [] (ls ++ l ∷ []) facts
 knows-more ts n f ls l facts k r = record {
   long = k.long;
   known = λ v x g. line-other ts f ls l v x (ap (λ o. is_result o v) r) (k.known v x g);
@@ -174,7 +180,7 @@ knows-more ts n f ls l facts k r = record {
 
 -- one more argument
 module _ (ts : List TypeTree) (f : Naming) (xs : List Arg) (a : Arg) (ls : List Line) (v : ℕ) where
-  pub arg-other : (x : Fact) → nat_eq a.value.0 v ≡ false → Known ts f xs ls v x → Known ts f (xs ++ a ∷ []) ls v x
+  pub arg-other : (x : Fact) → nat_eq a.value.0 v ≡ false → FactAfter ts f xs ls v x → FactAfter ts f (xs ++ a ∷ []) ls v x
   arg-other x h k =
       let m : arg_being (xs ++ a ∷ []) v ≡ arg_being xs v = being-more xs a v ∙ ap (λ b. or_else (arg_being xs v) (if b then Some a else None)) h ∙ or_else-none (arg_being xs v) in
       record {
@@ -183,7 +189,7 @@ module _ (ts : List TypeTree) (f : Naming) (xs : List Arg) (a : Arg) (ls : List 
         ty = k.ty ∙ sym (ap (λ o. option_map Some (or_else (option_map (λ (y : Arg). y.ty) o) (line_type f ls v))) m);
       }
 
-  pub arg-again : (x : Fact) → is_arg xs v ≡ true → Known ts f xs ls v x → Known ts f (xs ++ a ∷ []) ls v x
+  pub arg-again : (x : Fact) → is_arg xs v ≡ true → FactAfter ts f xs ls v x → FactAfter ts f (xs ++ a ∷ []) ls v x
   arg-again x h k =
       let m : arg_being (xs ++ a ∷ []) v ≡ arg_being xs v = being-more xs a v ∙ kept (arg_being xs v) (if nat_eq a.value.0 v then Some a else None) (being-arg xs v ∙ h) in
       record {
@@ -192,21 +198,24 @@ module _ (ts : List TypeTree) (f : Naming) (xs : List Arg) (a : Arg) (ls : List 
         ty = k.ty ∙ sym (ap (λ o. option_map Some (or_else (option_map (λ (y : Arg). y.ty) o) (line_type f ls v))) m);
       }
 
-  pub arg-first : (old x : Fact) → nat_eq a.value.0 v ≡ true → is_arg xs v ≡ false → GivenArg ts a old x → Known ts f xs ls v old → Known ts f (xs ++ a ∷ []) ls v x
+  pub arg-first : (old x : Fact) → nat_eq a.value.0 v ≡ true → is_arg xs v ≡ false → GivenArg ts a old x → FactAfter ts f xs ls v old → FactAfter ts f (xs ++ a ∷ []) ls v x
   arg-first old x r h g k =
       let z : arg_being xs v ≡ None = is-none (arg_being xs v) (being-arg xs v ∙ h) in
       let m : arg_being (xs ++ a ∷ []) v ≡ Some a = being-more xs a v ∙ ap (λ o. or_else o (if nat_eq a.value.0 v then Some a else None)) z ∙ ap (λ b. if b then Some a else None) r in
       record {
         defined = g.defined ∙ sym (ap (λ b. b || is_made ls v) (is_arg-push xs a v ∙ ap (λ b. b || nat_eq a.value.0 v) h ∙ r));
-        kind = g.kind ∙ ap (or_else (kind_of a.ty)) (k.kind ∙ ap (λ o. or_else (option_and_then (λ (y : Arg). kind_of y.ty) o) (line_kind f ls v)) z) ∙ sym (ap (λ o. or_else (option_and_then (λ (y : Arg). kind_of y.ty) o) (line_kind f ls v)) m);
+        kind = g.kind ∙ ap (or_else (kind_of a.ty)) (k.kind ∙ ap (λ o. or_else (option_and_then (λ (y : Arg). kind_of y.ty) o) (line_kind f ls v)) z)
+            ∙ sym (ap (λ o. or_else (option_and_then (λ (y : Arg). kind_of y.ty) o) (line_kind f ls v)) m);
         ty = g.ty ∙ sym (ap (λ o. option_map Some (or_else (option_map (λ (y : Arg). y.ty) o) (line_type f ls v))) m);
       }
 
-arg-told : (ts : List TypeTree) (f : Naming) (xs : List Arg) (a : Arg) (ls : List Line) (v : ℕ) (old new : Fact) (b : Bool) → b ≡ is_arg xs v → TellsArg ts b a old new → nat_eq a.value.0 v ≡ true → Known ts f xs ls v old → Known ts f (xs ++ a ∷ []) ls v new
-arg-told ts f xs a ls v old new true d t r k = subst (Known ts f (xs ++ a ∷ []) ls v) (sym t) (arg-again ts f xs a ls v old (sym d) k)
+arg-told : (ts : List TypeTree) (f : Naming) (xs : List Arg) (a : Arg) (ls : List Line) (v : ℕ) (old new : Fact) (b : Bool) → b ≡ is_arg xs v → FactOfArg ts b a old new → nat_eq a.value.0 v ≡ true
+    → FactAfter ts f xs ls v old → FactAfter ts f (xs ++ a ∷ []) ls v new
+arg-told ts f xs a ls v old new true d t r k = subst (FactAfter ts f (xs ++ a ∷ []) ls v) (sym t) (arg-again ts f xs a ls v old (sym d) k)
 arg-told ts f xs a ls v old new false d t r k = arg-first ts f xs a ls v old new r (sym d) t k
 
-pub knows-arg : (ts : List TypeTree) (n : ℕ) (f : Naming) (xs : List Arg) (a : Arg) (ls : List Line) (old new : List Fact) (seen : List Bool) (fact d : Fact) (b : Bool) → Knows ts n f xs ls old → Marks xs n seen → a.value.0 < n → slice_get seen a.value.0 ≡ Some b → TellsArg ts b a (get_or old a.value.0 d) fact → new ≡ set old a.value.0 fact → Knows ts n f (xs ++ a ∷ []) ls new
+pub knows-arg : (ts : List TypeTree) (n : ℕ) (f : Naming) (xs : List Arg) (a : Arg) (ls : List Line) (old new : List Fact) (seen : List Bool) (fact d : Fact) (b : Bool) → FactsAfter ts n f xs ls old
+    → Marks xs n seen → a.value.0 < n → slice_get seen a.value.0 ≡ Some b → FactOfArg ts b a (get_or old a.value.0 d) fact → new ≡ set old a.value.0 fact → FactsAfter ts n f (xs ++ a ∷ []) ls new
 knows-arg ts n f xs a ls old new seen fact d b k m h s t w = record {
   long = ap length w ∙ length-set old a.value.0 fact ∙ k.long;
   known = λ v x g. by v x (same_or a.value.0 v) (sym (ap (λ l. slice_get l v) w) ∙ g);
@@ -215,19 +224,21 @@ knows-arg ts n f xs a ls old new seen fact d b k m h s t w = record {
     within : a.value.0 < length old
     within = omega (arith, h, k.long)
 
-    by : (v : ℕ) (x : Fact) → Same a.value.0 v → slice_get (set old a.value.0 fact) v ≡ Some x → Known ts f (xs ++ a ∷ []) ls v x
+    by : (v : ℕ) (x : Fact) → Same a.value.0 v → slice_get (set old a.value.0 fact) v ≡ Some x → FactAfter ts f (xs ++ a ∷ []) ls v x
     by v x (other p) g = arg-other ts f xs a ls v x (nat_eq-other a.value.0 v p) (k.known v x (sym (get-set-other old a.value.0 v fact p) ∙ g))
     by v x (same e) g =
         let q : fact ≡ x = some_inj fact x (sym (get-set-same old a.value.0 fact within) ∙ ap (slice_get (set old a.value.0 fact)) e ∙ g) in
-        let p : Known ts f xs ls a.value.0 (get_or old a.value.0 d) = k.known a.value.0 (get_or old a.value.0 d) (slice_get-get_or old a.value.0 d within) in
-        let z : Known ts f (xs ++ a ∷ []) ls a.value.0 fact = arg-told ts f xs a ls a.value.0 (get_or old a.value.0 d) fact b (m.marked a.value.0 b s) t (nat_eq-refl a.value.0) p in
-        subst (λ (u : ℕ). Known ts f (xs ++ a ∷ []) ls u x) e (subst (Known ts f (xs ++ a ∷ []) ls a.value.0) q z)
+        let p : FactAfter ts f xs ls a.value.0 (get_or old a.value.0 d) = k.known a.value.0 (get_or old a.value.0 d) (slice_get-get_or old a.value.0 d within) in
+        let z : FactAfter ts f (xs ++ a ∷ []) ls a.value.0 fact = arg-told ts f xs a ls a.value.0 (get_or old a.value.0 d) fact b (m.marked a.value.0 b s) t (nat_eq-refl a.value.0) p in
+        subst (λ (u : ℕ). FactAfter ts f (xs ++ a ∷ []) ls u x) e (subst (FactAfter ts f (xs ++ a ∷ []) ls a.value.0) q z)
 
 -- the same, by what was known of the value
-pub knows-arg-after : (was fact : Fact) (b : Bool) (ts : List TypeTree) (n : ℕ) (f : Naming) (xs : List Arg) (a : Arg) (ls : List Line) (old new : List Fact) (seen : List Bool) → TellsArg ts b a was fact → slice_get old a.value.0 ≡ Some was → slice_get seen a.value.0 ≡ Some b → Knows ts n f xs ls old → Marks xs n seen → a.value.0 < n → new ≡ set old a.value.0 fact → Knows ts n f (xs ++ a ∷ []) ls new
+pub knows-arg-after : (was fact : Fact) (b : Bool) (ts : List TypeTree) (n : ℕ) (f : Naming) (xs : List Arg) (a : Arg) (ls : List Line) (old new : List Fact) (seen : List Bool)
+    → FactOfArg ts b a was fact → slice_get old a.value.0 ≡ Some was → slice_get seen a.value.0 ≡ Some b → FactsAfter ts n f xs ls old → Marks xs n seen → a.value.0 < n → new ≡ set old a.value.0 fact
+    → FactsAfter ts n f (xs ++ a ∷ []) ls new
 knows-arg-after was fact b ts n f xs a ls old new seen t s e k m h is =
     let there : get_or old a.value.0 was ≡ was = get_or_from_slice_get old a.value.0 was was s in
-    let Q : Fact → Type 0 = λ x. TellsArg ts b a x fact in
+    let Q : Fact → Type 0 = λ x. FactOfArg ts b a x fact in
     knows-arg ts n f xs a ls old new seen fact was b k m h e (subst Q (sym there) t) is
 
 pub marks-arg : (n : ℕ) (xs : List Arg) (a : Arg) (seen new : List Bool) → Marks xs n seen → a.value.0 < n → new ≡ set seen a.value.0 true → Marks (xs ++ a ∷ []) n new
@@ -287,8 +298,9 @@ pub written-back : {X : Type 0} → (new rest : List X) (n : ℕ) → length new
 written-back new rest n e = ap (λ k. take k (new ++ rest)) (sym e) ∙ front new rest
 
 -- what is known stays so where types get numbers
-known-grows : (old new : List TypeTree) (f : Naming) (args : List Arg) (lines : List Line) (v : ℕ) (x : Fact) → Grows old new → Known old f args lines v x → Known new f args lines v x
+known-grows : (old new : List TypeTree) (f : Naming) (args : List Arg) (lines : List Line) (v : ℕ) (x : Fact) → Grows old new → FactAfter old f args lines v x → FactAfter new f args lines v x
 known-grows old new f args lines v x g k = record { defined = k.defined; kind = k.kind; ty = number-grows old new x.ty (or_else (arg_type args v) (line_type f lines v)) g k.ty }
 
-pub knows-grows : (old new : List TypeTree) (n : ℕ) (f : Naming) (args : List Arg) (lines : List Line) (facts : List Fact) → Grows old new → Knows old n f args lines facts → Knows new n f args lines facts
+pub knows-grows : (old new : List TypeTree) (n : ℕ) (f : Naming) (args : List Arg) (lines : List Line) (facts : List Fact) → Grows old new → FactsAfter old n f args lines facts
+    → FactsAfter new n f args lines facts
 knows-grows old new n f args lines facts g k = record { long = k.long; known = λ v x e. known-grows old new f args lines v x g (k.known v x e) }

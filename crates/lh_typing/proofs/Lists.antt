@@ -8,7 +8,8 @@ use Rattle.lh_unit.proofs.Lists.{drop-item}
 pub ruleset steps = (append_assoc, append-nil, length-map)
 
 -- one more part at the end
-pub put_step : {X Y : Type 0} → (F : List X → List Y) (old new all : List Y) (xs : List X) (i : ℕ) (x : X) (part : List Y) → i < length xs → x ≡ get_or xs i x → ((more : List X) → F (x ∷ more) ≡ part ++ F more) → new ≡ old ++ part → old ++ F (drop i xs) ≡ all → new ++ F (drop (i + 1) xs) ≡ all
+pub put_step : {X Y : Type 0} → (F : List X → List Y) (old new all : List Y) (xs : List X) (i : ℕ) (x : X) (part : List Y) → i < length xs → x ≡ get_or xs i x
+    → ((more : List X) → F (x ∷ more) ≡ part ++ F more) → new ≡ old ++ part → old ++ F (drop i xs) ≡ all → new ++ F (drop (i + 1) xs) ≡ all
 put_step F old new all xs i x part h e split n a =
     ap (λ l. l ++ F (drop (i + 1) xs)) n
     ∙ append_assoc old part (F (drop (i + 1) xs))
@@ -17,21 +18,25 @@ put_step F old new all xs i x part h e split n a =
     ∙ a
 
 -- a test of each item, from an index on: it holds of the item there
-pub all_next : {X Y : Type 0} → (p : Y → Bool) (g : X → Y) (all : Bool) (xs : List X) (i : ℕ) (x : X) → i < length xs → x ≡ get_or xs i x → p (g x) ≡ true → list_all p (map g (drop i xs)) ≡ all → list_all p (map g (drop (i + 1) xs)) ≡ all
+pub all_next : {X Y : Type 0} → (p : Y → Bool) (g : X → Y) (all : Bool) (xs : List X) (i : ℕ) (x : X) → i < length xs → x ≡ get_or xs i x → p (g x) ≡ true → list_all p (map g (drop i xs)) ≡ all
+    → list_all p (map g (drop (i + 1) xs)) ≡ all
 all_next p g all xs i x h e t a = ap (λ b. b && list_all p (map g (drop (i + 1) xs))) (sym t) ∙ ap (λ l. list_all p (map g l)) (sym (drop-item xs i x h e)) ∙ a
 
 -- it fails of the item there
-pub all_stops : {X Y : Type 0} → (p : Y → Bool) (g : X → Y) (all : Bool) (xs : List X) (i : ℕ) (x : X) → i < length xs → x ≡ get_or xs i x → p (g x) ≡ false → list_all p (map g (drop i xs)) ≡ all → false ≡ all
+pub all_stops : {X Y : Type 0} → (p : Y → Bool) (g : X → Y) (all : Bool) (xs : List X) (i : ℕ) (x : X) → i < length xs → x ≡ get_or xs i x → p (g x) ≡ false → list_all p (map g (drop i xs)) ≡ all
+    → false ≡ all
 all_stops p g all xs i x h e t a = ap (λ b. b && list_all p (map g (drop (i + 1) xs))) (sym t) ∙ ap (λ l. list_all p (map g l)) (sym (drop-item xs i x h e)) ∙ a
 
 pub all_ends : {X Y : Type 0} → (p : Y → Bool) (g : X → Y) (all : Bool) (xs : List X) (i : ℕ) → length xs ≤ i → list_all p (map g (drop i xs)) ≡ all → true ≡ all
 all_ends p g all xs i h a = ap (λ l. list_all p (map g l)) (sym (drop_all i xs h)) ∙ a
 
 -- a test of some item, from an index on
-pub any_next : {X Y : Type 0} → (p : Y → Bool) (g : X → Y) (all : Bool) (xs : List X) (i : ℕ) (x : X) → i < length xs → x ≡ get_or xs i x → p (g x) ≡ false → list_any p (map g (drop i xs)) ≡ all → list_any p (map g (drop (i + 1) xs)) ≡ all
+pub any_next : {X Y : Type 0} → (p : Y → Bool) (g : X → Y) (all : Bool) (xs : List X) (i : ℕ) (x : X) → i < length xs → x ≡ get_or xs i x → p (g x) ≡ false → list_any p (map g (drop i xs)) ≡ all
+    → list_any p (map g (drop (i + 1) xs)) ≡ all
 any_next p g all xs i x h e t a = ap (λ b. b || list_any p (map g (drop (i + 1) xs))) (sym t) ∙ ap (λ l. list_any p (map g l)) (sym (drop-item xs i x h e)) ∙ a
 
-pub any_stops : {X Y : Type 0} → (p : Y → Bool) (g : X → Y) (all : Bool) (xs : List X) (i : ℕ) (x : X) → i < length xs → x ≡ get_or xs i x → p (g x) ≡ true → list_any p (map g (drop i xs)) ≡ all → true ≡ all
+pub any_stops : {X Y : Type 0} → (p : Y → Bool) (g : X → Y) (all : Bool) (xs : List X) (i : ℕ) (x : X) → i < length xs → x ≡ get_or xs i x → p (g x) ≡ true → list_any p (map g (drop i xs)) ≡ all
+    → true ≡ all
 any_stops p g all xs i x h e t a = ap (λ b. b || list_any p (map g (drop (i + 1) xs))) (sym t) ∙ ap (λ l. list_any p (map g l)) (sym (drop-item xs i x h e)) ∙ a
 
 pub any_ends : {X Y : Type 0} → (p : Y → Bool) (g : X → Y) (all : Bool) (xs : List X) (i : ℕ) → length xs ≤ i → list_any p (map g (drop i xs)) ≡ all → false ≡ all

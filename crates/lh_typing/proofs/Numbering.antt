@@ -90,7 +90,8 @@ pub is-tested : (o : Option TypeTree) (s t : TypeTree) → o ≡ Some s → same
 is-tested o s t e h = e ∙ ap Some (same-is s t h)
 
 -- a test of numbers is that of a type
-pub same-at : {b : Bool} → (types : List TypeTree) (n m : ℕ) (o : Option ℕ) (t : TypeTree) (v : Option TypeTree) → slice_get types m ≡ Some t → IsNumberOf types o v → o ≡ Some n → ((x u : TypeTree) → slice_get types n ≡ Some x → slice_get types m ≡ Some u → b ≡ same_type x u) → b ≡ option_map_or (λ s. same_type s t) v false
+pub same-at : {b : Bool} → (types : List TypeTree) (n m : ℕ) (o : Option ℕ) (t : TypeTree) (v : Option TypeTree) → slice_get types m ≡ Some t → IsNumberOf types o v → o ≡ Some n
+    → ((x u : TypeTree) → slice_get types n ≡ Some x → slice_get types m ≡ Some u → b ≡ same_type x u) → b ≡ option_map_or (λ s. same_type s t) v false
 same-at types n m None t v e i h f = cc
 same-at types n m (Some k) t None e i h f = cc
 same-at types n m (Some k) t (Some x) e i h f = f x t (ap (slice_get types) (sym (some_inj k n h)) ∙ some_inj (slice_get types k) (Some x) i) e
@@ -135,7 +136,8 @@ get-front [] ys k h = absurd (omega arith)
 get-front (z ∷ xs) ys zero h = refl
 get-front (z ∷ xs) ys (suc k) h = get-front xs ys k (omega arith)
 
-pub numbers-push : (types : List TypeTree) (args : List Arg) (numbers : List ℕ) (a : Arg) (n : ℕ) → length numbers ≡ length args → AreNumbersOf types args numbers → slice_get types n ≡ Some a.ty → AreNumbersOf types (args ++ a ∷ []) (numbers ++ n ∷ [])
+pub numbers-push : (types : List TypeTree) (args : List Arg) (numbers : List ℕ) (a : Arg) (n : ℕ) → length numbers ≡ length args → AreNumbersOf types args numbers → slice_get types n ≡ Some a.ty
+    → AreNumbersOf types (args ++ a ∷ []) (numbers ++ n ∷ [])
 numbers-push types args numbers a n l old e k x g = elim (push-get args a x k g) [
   | inl p ↦ let h : k < length numbers = omega (arith, slice_get_within args k x p, l) in ap (option_and_then (slice_get types)) (get-front numbers (n ∷ []) k h) ∙ old k x p
   | inr p ↦

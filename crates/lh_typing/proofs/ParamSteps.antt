@@ -17,13 +17,15 @@ long-none [] numbers e = ap length e
 long-none (x ∷ xs) numbers e = ap length e
 
 -- one argument more
-pub numbers-next : (old new : List TypeTree) (args : List Arg) (list more : List ℕ) (i : ℕ) (x : Arg) (n : ℕ) → i < length args → x ≡ get_or args i x → length list ≡ length (take i args) → AreNumbersOf old (take i args) list → Grows old new → slice_get new n ≡ Some x.ty → more ≡ list ++ n ∷ [] → AreNumbersOf new (take (i + 1) args) more
+pub numbers-next : (old new : List TypeTree) (args : List Arg) (list more : List ℕ) (i : ℕ) (x : Arg) (n : ℕ) → i < length args → x ≡ get_or args i x → length list ≡ length (take i args)
+    → AreNumbersOf old (take i args) list → Grows old new → slice_get new n ≡ Some x.ty → more ≡ list ++ n ∷ [] → AreNumbersOf new (take (i + 1) args) more
 numbers-next old new args list more i x n h e l a g is w =
     let P : List Arg → Type 0 = λ xs. AreNumbersOf new xs (list ++ n ∷ []) in
     let Q : List ℕ → Type 0 = λ ns. AreNumbersOf new (take (i + 1) args) ns in
     subst Q (sym w) (subst P (take-item args i x h e) (numbers-push new (take i args) list x n l (numbers-grow old new (take i args) list g a) is))
 
-pub long-next : (args : List Arg) (list more : List ℕ) (i : ℕ) (x : Arg) (n : ℕ) → i < length args → x ≡ get_or args i x → length list ≡ length (take i args) → more ≡ list ++ n ∷ [] → length more ≡ length (take (i + 1) args)
+pub long-next : (args : List Arg) (list more : List ℕ) (i : ℕ) (x : Arg) (n : ℕ) → i < length args → x ≡ get_or args i x → length list ≡ length (take i args) → more ≡ list ++ n ∷ []
+    → length more ≡ length (take (i + 1) args)
 long-next args list more i x n h e l w =
     ap length w ∙ length-append list (n ∷ []) ∙ ap (λ k. k + 1) l ∙ sym (length-append (take i args) (x ∷ [])) ∙ ap length (take-item args i x h e)
 
@@ -42,7 +44,9 @@ params-none types a params e u ns g = absurd (none params e u g)
 pub params-long : (old new : List (List ℕ)) (ns : List ℕ) (n : ℕ) → length old ≡ n → new ≡ old ++ ns ∷ [] → length new ≡ n + 1
 params-long old new ns n l e = ap length e ∙ length-append old (ns ∷ []) ∙ ap (λ k. k + 1) l
 
-pub params-push : {args : List Arg} → (old new : List TypeTree) (a : Arena) (params more : List (List ℕ)) (ns : List ℕ) (u : ℕ) → length params ≡ u → more ≡ params ++ ns ∷ [] → ((v : ℕ) (ms : List ℕ) → slice_get params v ≡ Some ms → AreNumbersOf old (args_at a v) ms) → Grows old new → args ≡ args_at a u → AreNumbersOf new args ns → (v : ℕ) (ms : List ℕ) → slice_get more v ≡ Some ms → AreNumbersOf new (args_at a v) ms
+pub params-push : {args : List Arg} → (old new : List TypeTree) (a : Arena) (params more : List (List ℕ)) (ns : List ℕ) (u : ℕ) → length params ≡ u → more ≡ params ++ ns ∷ []
+    → ((v : ℕ) (ms : List ℕ) → slice_get params v ≡ Some ms → AreNumbersOf old (args_at a v) ms) → Grows old new → args ≡ args_at a u → AreNumbersOf new args ns → (v : ℕ) (ms : List ℕ)
+    → slice_get more v ≡ Some ms → AreNumbersOf new (args_at a v) ms
 params-push {args} old new a params more ns u l e known g is has v ms h = elim (push-get params ns ms v (ap (λ p. slice_get p v) (sym e) ∙ h)) [
   | inl p ↦ numbers-grow old new (args_at a v) ms g (known v ms p)
   | inr p ↦

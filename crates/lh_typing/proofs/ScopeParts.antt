@@ -5,7 +5,7 @@ use Rattle.lh_unit.specs.Within.{InstWithin}
 use Rattle.lh_unit.specs.Arena.{InstPlaced, unit_count, kind_at, result_type_at}
 use Rattle.lh_unit.specs.declared.inst.UnitId.{UnitId}
 use Rattle.lh_unit.specs.declared.inst.Inst.{Inst}
-use Rattle.lh_typing.specs.Told.{text_in, sizes_in}
+use Rattle.lh_typing.specs.Facts.{text_in, sizes_in}
 use Rattle.lh_typing.specs.declared.scope.Scope.{Scope}
 
 pub kind-in : (s : Scope) → kind_text (kind_at s.module.now s.unit.0) ≡ (text_in s).kind

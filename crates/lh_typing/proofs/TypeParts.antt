@@ -50,14 +50,16 @@ joined-row (x ∷ ts) = ap (with_type (Some x)) (joined-row ts)
 pub written-none : (f : Naming) (xs : List Typed) (i : ℕ) (x : Typed) → i < length xs → x ≡ get_or xs i x → x.ty ≡ None → operand_types (map (operand_text f) (drop i xs)) ≡ None
 written-none f xs i x h e n = ap (λ l. operand_types (map (operand_text f) l)) (drop-item xs i x h e) ∙ ap (λ o. with_type o (operand_types (map (operand_text f) (drop (i + 1) xs)))) n
 
-pub written-some : (f : Naming) (xs : List Typed) (i : ℕ) (x : Typed) (t : TypeTree) → i < length xs → x ≡ get_or xs i x → x.ty ≡ Some t → operand_types (map (operand_text f) (drop i xs)) ≡ with_type (Some t) (operand_types (map (operand_text f) (drop (i + 1) xs)))
+pub written-some : (f : Naming) (xs : List Typed) (i : ℕ) (x : Typed) (t : TypeTree) → i < length xs → x ≡ get_or xs i x → x.ty ≡ Some t
+    → operand_types (map (operand_text f) (drop i xs)) ≡ with_type (Some t) (operand_types (map (operand_text f) (drop (i + 1) xs)))
 written-some f xs i x t h e n = ap (λ l. operand_types (map (operand_text f) l)) (drop-item xs i x h e) ∙ ap (λ o. with_type o (operand_types (map (operand_text f) (drop (i + 1) xs)))) n
 
 pub written-end : (f : Naming) (xs : List Typed) (i : ℕ) → length xs ≤ i → operand_types (map (operand_text f) (drop i xs)) ≡ Some no_types
 written-end f xs i h = ap (λ l. operand_types (map (operand_text f) l)) (drop_all i xs h)
 
 -- no array of what is no data, and of too many
-no-array : (a b d e : Bool) (w x y z : TyFault) (t : TypeTree) → (b ≡ true) ⊎ (e ≡ true) → None ≡ if_made (if a then Some w else (if b then Some x else (if d then Some y else (if e then Some z else None)))) t
+no-array : (a b d e : Bool) (w x y z : TyFault) (t : TypeTree) → (b ≡ true) ⊎ (e ≡ true)
+    → None ≡ if_made (if a then Some w else (if b then Some x else (if d then Some y else (if e then Some z else None)))) t
 no-array true b d e w x y z t h = refl
 no-array false true d e w x y z t h = refl
 no-array false false true e w x y z t h = refl

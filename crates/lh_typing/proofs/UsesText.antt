@@ -61,7 +61,8 @@ first-text f (o ∷ os) = refl
 step_first-text : (f : Naming) (os : List Typed) → need_as (step_need (first_type os)) ≡ kinds.step_need (typing.first_type (map (operand_text f) os))
 step_first-text f os = step-text (first_type os) ∙ ap kinds.step_need (first-text f os)
 
-stepped-text : (f : Naming) (os : List Typed) → map (use_text f) (all_used (step_need (first_type os)) os) ≡ kinds.all_used (kinds.step_need (typing.first_type (map (operand_text f) os))) (map (operand_text f) os)
+stepped-text : (f : Naming) (os : List Typed)
+    → map (use_text f) (all_used (step_need (first_type os)) os) ≡ kinds.all_used (kinds.step_need (typing.first_type (map (operand_text f) os))) (map (operand_text f) os)
 stepped-text f os = all-text f (step_need (first_type os)) os ∙ ap (λ n. kinds.all_used n (map (operand_text f) os)) (step_first-text f os)
 
 operation-text : (f : Naming) (o : Op) (os : List Typed) → map (use_text f) (all_used (operation_need o os) os) ≡ kinds.operation_uses o (map (operand_text f) os)
@@ -69,7 +70,8 @@ operation-text f (op.Extf k) os = stepped-text f os
 operation-text f (op.Exts at len) os = stepped-text f os
 operation-text f _ os = all-text f Data os
 
-two_maybe-text : (f : Naming) (g a : Option ValueId) → map (use_text f) (maybe_used Data g ++ maybe_used Time a) ≡ kinds.maybe_used kinds.data_needed (maybe_text f g) ++ kinds.maybe_used kinds.time_needed (maybe_text f a)
+two_maybe-text : (f : Naming) (g a : Option ValueId) → map (use_text f) (maybe_used Data g ++ maybe_used Time a) ≡ kinds.maybe_used kinds.data_needed (maybe_text f g)
+    ++ kinds.maybe_used kinds.time_needed (maybe_text f a)
 two_maybe-text f g a = map-append (use_text f) (maybe_used Data g) (maybe_used Time a) ∙ cc (maybe-text f Data g, maybe-text f Time a)
 
 triggers-text : (f : Naming) (gs : List RegTrigger) → map (use_text f) (triggers_uses gs) ≡ kinds.trigger_uses (map (trigger_text f) gs)
@@ -87,7 +89,8 @@ uses-text f (inst.Ld p) = refl
 uses-text f (inst.St to value) = refl
 uses-text f (inst.Sig a) = ap (λ n. kinds.used n (value_text f a.value) ∷ []) (initial-text a.ty)
 uses-text f (inst.Prb s) = refl
-uses-text f (inst.Drv to value after cond) = ap (λ l. kinds.used kinds.signal_needed (value_text f to.value) ∷ kinds.used kinds.data_needed (value_text f value) ∷ kinds.used kinds.time_needed (value_text f after) ∷ l) (maybe-text f Data cond)
+uses-text f (inst.Drv to value after cond) = ap
+    (λ l. kinds.used kinds.signal_needed (value_text f to.value) ∷ kinds.used kinds.data_needed (value_text f value) ∷ kinds.used kinds.time_needed (value_text f after) ∷ l) (maybe-text f Data cond)
 uses-text f (inst.Reg to triggers) = ap (λ l. kinds.used kinds.signal_needed (value_text f to.value) ∷ l) (triggers-text f triggers)
 uses-text f (inst.Child u inputs outputs) = map-append (use_text f) (all_used Signal inputs) (all_used Signal outputs) ∙ cc (all-text f Signal inputs, all-text f Signal outputs)
 uses-text f (inst.Call u result args) = all-text f DataOrTime args

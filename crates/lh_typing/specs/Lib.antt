@@ -1,8 +1,8 @@
 pub mod Digest
 pub mod Fitting
-pub mod Knowing
+pub mod FactsOfUnit
 pub mod Leading
 pub mod Numbers
 pub mod Parts
-pub mod Told
+pub mod Facts
 pub mod Uses

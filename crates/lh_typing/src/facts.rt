@@ -5,9 +5,9 @@ ghost use Rattle.lh_unit.specs.Table.{ArgsWithin, line_at};
 ghost use Rattle.lh_unit.specs.Typing.{or_else};
 ghost use Rattle.lh_unit.specs.declared.table.Line.{Line};
 ghost use Rattle.lh_unit.specs.Arena.{unit_count, value_count, inst_count, table_at, args_at, naming};
-ghost use Rattle.lh_typing.specs.Told.{kind_as};
+ghost use Rattle.lh_typing.specs.Facts.{kind_as};
 ghost use Rattle.lh_typing.specs.Numbers.{Grows};
-ghost use Rattle.lh_typing.specs.Knowing.{Knows, Marks, Tells, TellsArg, blank};
+ghost use Rattle.lh_typing.specs.FactsOfUnit.{FactsAfter, Marks, FactOfInst, FactOfArg, blank};
 
 use crate::numbers::Types;
 use crate::results::{kind_of, result_kind, result_type};
@@ -29,7 +29,7 @@ pub fn facts(
 ) -> Result<Vec<Fact>, NoMemory>
     requires unit { unit.0 < unit_count m.now }
     requires insts { insts ≡ inst_count m.now unit.0 }
-    ensures facts { IfOk result (λ facts. Knows types.new (value_count m.now unit.0) (naming m.now unit.0) (args_at m.now unit.0) (table_at m.now unit.0).lines facts.items) }
+    ensures facts { IfOk result (λ facts. FactsAfter types.new (value_count m.now unit.0) (naming m.now unit.0) (args_at m.now unit.0) (table_at m.now unit.0).lines facts.items) }
     ensures grows { OnOk result (Grows types.old types.new) }
 {
     let values = m.values(unit);
@@ -53,7 +53,7 @@ fn tell_all(
     requires insts { insts ≡ inst_count m.now unit.0 }
     requires old { facts.old ≡ replicate (value_count m.now unit.0) blank }
     requires marks { seen.old ≡ replicate (value_count m.now unit.0) false }
-    ensures facts { OnOk result (Knows types.new (value_count m.now unit.0) (naming m.now unit.0) (args_at m.now unit.0) (table_at m.now unit.0).lines facts.new) }
+    ensures facts { OnOk result (FactsAfter types.new (value_count m.now unit.0) (naming m.now unit.0) (args_at m.now unit.0) (table_at m.now unit.0).lines facts.new) }
     ensures grows { OnOk result (Grows types.old types.new) }
 {
     tell_insts(alloc, facts, m, unit, insts, types)?;
@@ -91,7 +91,7 @@ fn tell_insts(
     requires unit { unit.0 < unit_count m.now }
     requires insts { insts ≡ inst_count m.now unit.0 }
     requires old { facts.old ≡ replicate (value_count m.now unit.0) blank }
-    ensures facts { OnOk result (Knows types.new (value_count m.now unit.0) (naming m.now unit.0) [] (table_at m.now unit.0).lines facts.new) }
+    ensures facts { OnOk result (FactsAfter types.new (value_count m.now unit.0) (naming m.now unit.0) [] (table_at m.now unit.0).lines facts.new) }
     ensures grows { OnOk result (Grows types.old types.new) }
 {
     for i in 0..insts {
@@ -111,7 +111,7 @@ fn tell_inst(
     requires unit { unit.0 < unit_count m.now }
     requires inst { inst.0 < inst_count m.now unit.0 }
     requires long { length facts.old ≡ value_count m.now unit.0 }
-    ensures facts { (ls : List Line) → Knows types.old (value_count m.now unit.0) (naming m.now unit.0) [] ls facts.old → OnOk result (Knows types.new (value_count m.now unit.0) (naming m.now unit.0) [] (ls ++ line_at (table_at m.now unit.0) inst.0 ∷ []) facts.new) }
+    ensures facts { (ls : List Line) → FactsAfter types.old (value_count m.now unit.0) (naming m.now unit.0) [] ls facts.old → OnOk result (FactsAfter types.new (value_count m.now unit.0) (naming m.now unit.0) [] (ls ++ line_at (table_at m.now unit.0) inst.0 ∷ []) facts.new) }
     ensures grows { OnOk result (Grows types.old types.new) }
 {
     match m.result_of(unit, inst) {
@@ -124,7 +124,7 @@ fn tell_inst(
 }
 
 fn tell(alloc: Global, fact: &mut Fact, inst: &Inst, types: &mut Types) -> Result<(), NoMemory>
-    ensures fact { (f : Naming) → OnOk result (Tells types.new fact.old.defined f inst.now fact.old fact.new) }
+    ensures fact { (f : Naming) → OnOk result (FactOfInst types.new fact.old.defined f inst.now fact.old fact.new) }
     ensures grows { OnOk result (Grows types.old types.new) }
 {
     if fact.defined {
@@ -146,7 +146,7 @@ fn tell_args(
 ) -> Result<(), NoMemory>
     requires within { ArgsWithin (length facts.old) args.now }
     requires marks { seen.old ≡ replicate (length facts.old) false }
-    ensures facts { (f : Naming) (lines : List Line) → Knows types.old (length facts.old) f [] lines facts.old → OnOk result (Knows types.new (length facts.old) f args.now lines facts.new) }
+    ensures facts { (f : Naming) (lines : List Line) → FactsAfter types.old (length facts.old) f [] lines facts.old → OnOk result (FactsAfter types.new (length facts.old) f args.now lines facts.new) }
     ensures grows { OnOk result (Grows types.old types.new) }
 {
     for arg in args {
@@ -164,7 +164,7 @@ fn tell_arg_at(
     requires within { arg.now.value.0 < length facts.old }
     requires marks { length seen.old ≡ length facts.old }
     ensures marks { (args : List Arg) → Marks args (length facts.old) seen.old → OnOk result (Marks (args ++ arg.now ∷ []) (length facts.old) seen.new) }
-    ensures facts { (f : Naming) (args : List Arg) (lines : List Line) → Marks args (length facts.old) seen.old → Knows types.old (length facts.old) f args lines facts.old → OnOk result (Knows types.new (length facts.old) f (args ++ arg.now ∷ []) lines facts.new) }
+    ensures facts { (f : Naming) (args : List Arg) (lines : List Line) → Marks args (length facts.old) seen.old → FactsAfter types.old (length facts.old) f args lines facts.old → OnOk result (FactsAfter types.new (length facts.old) f (args ++ arg.now ∷ []) lines facts.new) }
     ensures grows { OnOk result (Grows types.old types.new) }
 {
     let value = arg.value.0 as usize;
@@ -174,7 +174,7 @@ fn tell_arg_at(
 }
 
 fn tell_arg(fact: &mut Fact, seen: bool, arg: &Arg, types: &mut Types) -> Result<(), NoMemory>
-    ensures fact { OnOk result (TellsArg types.new seen arg.now fact.old fact.new) }
+    ensures fact { OnOk result (FactOfArg types.new seen arg.now fact.old fact.new) }
     ensures grows { OnOk result (Grows types.old types.new) }
 {
     if seen {

@@ -3,11 +3,11 @@ ghost use Rattle.std.specs.Prelude.{◌≡◌, ◌&&◌, Some, None, map};
 ghost use Rattle.std.specs.List.{list_all};
 ghost use Rattle.lh_unit.specs.Contents.{st_text, drv_text, reg_text, phi_text, ret_text};
 ghost use Rattle.lh_unit.specs.Naming.{value_text, maybe_text, operand_text, trigger_text, edge_text, inst_text};
-ghost use Rattle.lh_unit.specs.TypingRows.{all_agree as text_all_agree, types_fit as text_fits};
+ghost use Rattle.lh_unit.specs.TypingRows as spec;
 ghost use Rattle.lh_unit.specs.Within.{Each, ValueWithin, MaybeWithin, OperandWithin, TriggerWithin, EdgeWithin, InstWithin};
 ghost use Rattle.lh_typing.specs.Fitting.{carried_fits, edge_fits as text_edge_fits};
 ghost use Rattle.lh_typing.specs.Numbers.{IsNumbered};
-ghost use Rattle.lh_typing.specs.Told.{IsScope, text_in, naming_in, sizes_in};
+ghost use Rattle.lh_typing.specs.Facts.{IsScope, text_in, naming_in, sizes_in};
 
 use crate::numbers::Numbered;
 use crate::operands::{
@@ -24,7 +24,7 @@ use lh_unit::inst::{Inst, PhiEdge, RegTrigger, Typed, ValueId};
 pub fn types_fit(scope: &Scope<'_>, inst: &Inst) -> bool
     requires scope { IsScope scope.now }
     requires within { InstWithin (sizes_in scope.now) inst.now }
-    ensures { result ≡ text_fits (text_in scope.now) (inst_text (naming_in scope.now) inst.now) }
+    ensures { result ≡ spec.types_fit (text_in scope.now) (inst_text (naming_in scope.now) inst.now) }
 {
     match inst {
         Inst::Const(_) | Inst::Br(_) | Inst::Halt => true,
@@ -72,7 +72,7 @@ fn store_fits(scope: &Scope<'_>, to: &Typed, value: ValueId) -> bool
     requires scope { IsScope scope.now }
     requires to { OperandWithin (sizes_in scope.now) to.now }
     requires value { ValueWithin (sizes_in scope.now) value }
-    ensures { let f = naming_in scope.now in result ≡ text_fits (text_in scope.now) (st_text (operand_text f to.now) (value_text f value)) }
+    ensures { let f = naming_in scope.now in result ≡ spec.types_fit (text_in scope.now) (st_text (operand_text f to.now) (value_text f value)) }
 {
     if !has_pointer_type(scope, to) {
         return false;
@@ -93,7 +93,7 @@ fn drive_fits(
     requires value { ValueWithin (sizes_in scope.now) value }
     requires after { ValueWithin (sizes_in scope.now) after }
     requires cond { MaybeWithin (sizes_in scope.now) cond }
-    ensures { let f = naming_in scope.now in result ≡ text_fits (text_in scope.now) (drv_text (operand_text f to.now) (value_text f value) (value_text f after) (maybe_text f cond)) }
+    ensures { let f = naming_in scope.now in result ≡ spec.types_fit (text_in scope.now) (drv_text (operand_text f to.now) (value_text f value) (value_text f after) (maybe_text f cond)) }
 {
     if !has_signal_type(scope, to) {
         return false;
@@ -161,9 +161,9 @@ fn register_fits(scope: &Scope<'_>, to: &Typed, triggers: &[RegTrigger]) -> bool
     requires scope { IsScope scope.now }
     requires to { OperandWithin (sizes_in scope.now) to.now }
     requires triggers { Each (TriggerWithin (sizes_in scope.now)) triggers.now }
-    ensures { let f = naming_in scope.now in result ≡ text_fits (text_in scope.now) (reg_text (operand_text f to.now) (map (trigger_text f) triggers.now)) }
+    ensures { let f = naming_in scope.now in result ≡ spec.types_fit (text_in scope.now) (reg_text (operand_text f to.now) (map (trigger_text f) triggers.now)) }
 {
-    match &to.ty {
+    match to.ty.get() {
         None => false,
         Some(ty) => match ty.kind() {
             TyKind::Signal(of) => {
@@ -182,7 +182,7 @@ fn ports_fit(scope: &Scope<'_>, inputs: &[Typed], outputs: &[Typed]) -> bool
     requires scope { IsScope scope.now }
     requires inputs { Each (OperandWithin (sizes_in scope.now)) inputs.now }
     requires outputs { Each (OperandWithin (sizes_in scope.now)) outputs.now }
-    ensures { let f = naming_in scope.now in result ≡ (text_all_agree (text_in scope.now) (map (operand_text f) inputs.now) && text_all_agree (text_in scope.now) (map (operand_text f) outputs.now)) }
+    ensures { let f = naming_in scope.now in result ≡ (spec.all_agree (text_in scope.now) (map (operand_text f) inputs.now) && spec.all_agree (text_in scope.now) (map (operand_text f) outputs.now)) }
 {
     if !all_agree(scope, inputs) {
         return false;
@@ -224,7 +224,7 @@ fn edges_fit(scope: &Scope<'_>, ty: &Ty, edges: &[PhiEdge]) -> bool
 fn phi_fits(scope: &Scope<'_>, ty: &Ty, edges: &[PhiEdge]) -> bool
     requires scope { IsScope scope.now }
     requires edges { Each (EdgeWithin (sizes_in scope.now)) edges.now }
-    ensures { result ≡ text_fits (text_in scope.now) (phi_text ty.now (map (edge_text (naming_in scope.now)) edges.now)) }
+    ensures { result ≡ spec.types_fit (text_in scope.now) (phi_text ty.now (map (edge_text (naming_in scope.now)) edges.now)) }
 {
     if !ty.is_value_type() {
         return false;
@@ -235,7 +235,7 @@ fn phi_fits(scope: &Scope<'_>, ty: &Ty, edges: &[PhiEdge]) -> bool
 /// `ret` without a value, which fits a function whose result is `void`.
 fn returns_nothing(scope: &Scope<'_>) -> bool
     requires scope { IsScope scope.now }
-    ensures { result ≡ text_fits (text_in scope.now) (ret_text None) }
+    ensures { result ≡ spec.types_fit (text_in scope.now) (ret_text None) }
 {
     match scope.result_type() {
         Some(ty) => ty.is_void(),
@@ -247,7 +247,7 @@ fn returns_nothing(scope: &Scope<'_>) -> bool
 fn returns_value(scope: &Scope<'_>, value: &Typed) -> bool
     requires scope { IsScope scope.now }
     requires value { OperandWithin (sizes_in scope.now) value.now }
-    ensures { result ≡ text_fits (text_in scope.now) (ret_text (Some (operand_text (naming_in scope.now) value.now))) }
+    ensures { result ≡ spec.types_fit (text_in scope.now) (ret_text (Some (operand_text (naming_in scope.now) value.now))) }
 {
     match scope.result_type() {
         Some(ty) => has_result_type(scope, value, ty),

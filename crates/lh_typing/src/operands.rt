@@ -5,10 +5,11 @@ ghost use Rattle.lh_types.specs.Types.{time_type, same_type};
 ghost use Rattle.lh_types.specs.Faults.{is_data};
 ghost use Rattle.lh_unit.specs.Naming.{value_text, maybe_text, operand_text};
 ghost use Rattle.lh_unit.specs.Typing.{is_value_type as test_value_type};
-ghost use Rattle.lh_unit.specs.TypingRows.{bit, has_type as name_has_type, has_some_type, may_have_type, agrees as text_agrees, all_agree as texts_agree, all_have as texts_have, is_array_of as test_array_of, is_integer as test_integer, is_signal as test_signal, is_pointer as test_pointer, type_satisfies, driven_type, stored_type, written_fits};
+ghost use Rattle.lh_unit.specs.TypingRows as spec;
+ghost use Rattle.lh_unit.specs.TypingRows.{bit, has_some_type, may_have_type, type_satisfies, driven_type, stored_type, written_fits};
 ghost use Rattle.lh_unit.specs.Within.{Each, ValueWithin, MaybeWithin, OperandWithin};
 ghost use Rattle.lh_typing.specs.Numbers.{IsNumbered};
-ghost use Rattle.lh_typing.specs.Told.{IsScope, text_in, naming_in, sizes_in};
+ghost use Rattle.lh_typing.specs.Facts.{IsScope, text_in, naming_in, sizes_in};
 
 use crate::numbers::Numbered;
 use crate::scope::Scope;
@@ -19,7 +20,7 @@ use lh_unit::inst::{Typed, ValueId};
 pub fn has_type(scope: &Scope<'_>, value: ValueId, ty: &Ty) -> bool
     requires scope { IsScope scope.now }
     requires within { ValueWithin (sizes_in scope.now) value }
-    ensures { result ≡ name_has_type (text_in scope.now) ty.now (value_text (naming_in scope.now) value) }
+    ensures { result ≡ spec.has_type (text_in scope.now) ty.now (value_text (naming_in scope.now) value) }
 {
     match scope.type_of(value) {
         Some(of) => *of == *ty,
@@ -31,7 +32,7 @@ pub fn has_type(scope: &Scope<'_>, value: ValueId, ty: &Ty) -> bool
 pub fn has_bit(scope: &Scope<'_>, value: ValueId) -> bool
     requires scope { IsScope scope.now }
     requires within { ValueWithin (sizes_in scope.now) value }
-    ensures { result ≡ name_has_type (text_in scope.now) bit (value_text (naming_in scope.now) value) }
+    ensures { result ≡ spec.has_type (text_in scope.now) bit (value_text (naming_in scope.now) value) }
 {
     match scope.type_of(value) {
         Some(of) => of.is_bit(),
@@ -43,7 +44,7 @@ pub fn has_bit(scope: &Scope<'_>, value: ValueId) -> bool
 pub fn has_time(scope: &Scope<'_>, value: ValueId) -> bool
     requires scope { IsScope scope.now }
     requires within { ValueWithin (sizes_in scope.now) value }
-    ensures { result ≡ name_has_type (text_in scope.now) time_type (value_text (naming_in scope.now) value) }
+    ensures { result ≡ spec.has_type (text_in scope.now) time_type (value_text (naming_in scope.now) value) }
 {
     match scope.type_of(value) {
         Some(of) => of.is_time(),
@@ -79,7 +80,7 @@ pub fn may_have_time(scope: &Scope<'_>, value: Option<ValueId>) -> bool
 pub fn has_integer(scope: &Scope<'_>, value: ValueId) -> bool
     requires scope { IsScope scope.now }
     requires within { ValueWithin (sizes_in scope.now) value }
-    ensures { result ≡ type_satisfies (text_in scope.now) test_integer (value_text (naming_in scope.now) value) }
+    ensures { result ≡ type_satisfies (text_in scope.now) spec.is_integer (value_text (naming_in scope.now) value) }
 {
     match scope.type_of(value) {
         Some(of) => of.is_integer(),
@@ -91,7 +92,7 @@ pub fn has_integer(scope: &Scope<'_>, value: ValueId) -> bool
 pub fn has_array_of(scope: &Scope<'_>, value: ValueId, element: &Ty) -> bool
     requires scope { IsScope scope.now }
     requires within { ValueWithin (sizes_in scope.now) value }
-    ensures { result ≡ type_satisfies (text_in scope.now) (test_array_of element.now) (value_text (naming_in scope.now) value) }
+    ensures { result ≡ type_satisfies (text_in scope.now) (spec.is_array_of element.now) (value_text (naming_in scope.now) value) }
 {
     match scope.type_of(value) {
         Some(of) => of.is_array_of(element),
@@ -103,9 +104,9 @@ pub fn has_array_of(scope: &Scope<'_>, value: ValueId, element: &Ty) -> bool
 pub fn agrees(scope: &Scope<'_>, operand: &Typed) -> bool
     requires scope { IsScope scope.now }
     requires within { OperandWithin (sizes_in scope.now) operand.now }
-    ensures { result ≡ text_agrees (text_in scope.now) (operand_text (naming_in scope.now) operand.now) }
+    ensures { result ≡ spec.agrees (text_in scope.now) (operand_text (naming_in scope.now) operand.now) }
 {
-    match &operand.ty {
+    match operand.ty.get() {
         Some(ty) => has_type(scope, operand.value, ty),
         None => true,
     }
@@ -115,7 +116,7 @@ pub fn agrees(scope: &Scope<'_>, operand: &Typed) -> bool
 pub fn all_agree(scope: &Scope<'_>, operands: &[Typed]) -> bool
     requires scope { IsScope scope.now }
     requires within { Each (OperandWithin (sizes_in scope.now)) operands.now }
-    ensures { result ≡ texts_agree (text_in scope.now) (map (operand_text (naming_in scope.now)) operands.now) }
+    ensures { result ≡ spec.all_agree (text_in scope.now) (map (operand_text (naming_in scope.now)) operands.now) }
 {
     for operand in operands {
         if !agrees(scope, operand) {
@@ -129,7 +130,7 @@ pub fn all_agree(scope: &Scope<'_>, operands: &[Typed]) -> bool
 pub fn has_and_agrees(scope: &Scope<'_>, ty: &Ty, operand: &Typed) -> bool
     requires scope { IsScope scope.now }
     requires within { OperandWithin (sizes_in scope.now) operand.now }
-    ensures { let o = operand_text (naming_in scope.now) operand.now in result ≡ (name_has_type (text_in scope.now) ty.now o.value && text_agrees (text_in scope.now) o) }
+    ensures { let o = operand_text (naming_in scope.now) operand.now in result ≡ (spec.has_type (text_in scope.now) ty.now o.value && spec.agrees (text_in scope.now) o) }
 {
     if !has_type(scope, operand.value, ty) {
         return false;
@@ -142,7 +143,7 @@ fn has_number_and_agrees(scope: &Scope<'_>, of: &Numbered<'_>, operand: &Typed) 
     requires scope { IsScope scope.now }
     requires number { IsNumbered scope.now.types.now of.now }
     requires within { OperandWithin (sizes_in scope.now) operand.now }
-    ensures { let o = operand_text (naming_in scope.now) operand.now in result ≡ (name_has_type (text_in scope.now) of.now.ty.now o.value && text_agrees (text_in scope.now) o) }
+    ensures { let o = operand_text (naming_in scope.now) operand.now in result ≡ (spec.has_type (text_in scope.now) of.now.ty.now o.value && spec.agrees (text_in scope.now) o) }
 {
     if !scope.has_number(operand.value, of) {
         return false;
@@ -155,7 +156,7 @@ fn all_have_number(scope: &Scope<'_>, of: &Numbered<'_>, operands: &[Typed]) -> 
     requires scope { IsScope scope.now }
     requires number { IsNumbered scope.now.types.now of.now }
     requires within { Each (OperandWithin (sizes_in scope.now)) operands.now }
-    ensures { result ≡ texts_have (text_in scope.now) of.now.ty.now (map (operand_text (naming_in scope.now)) operands.now) }
+    ensures { result ≡ spec.all_have (text_in scope.now) of.now.ty.now (map (operand_text (naming_in scope.now)) operands.now) }
 {
     for operand in operands {
         if !has_number_and_agrees(scope, of, operand) {
@@ -169,7 +170,7 @@ fn all_have_number(scope: &Scope<'_>, of: &Numbered<'_>, operands: &[Typed]) -> 
 pub fn all_have(scope: &Scope<'_>, ty: &Ty, operands: &[Typed]) -> bool
     requires scope { IsScope scope.now }
     requires within { Each (OperandWithin (sizes_in scope.now)) operands.now }
-    ensures { result ≡ texts_have (text_in scope.now) ty.now (map (operand_text (naming_in scope.now)) operands.now) }
+    ensures { result ≡ spec.all_have (text_in scope.now) ty.now (map (operand_text (naming_in scope.now)) operands.now) }
 {
     match operands.split_first() {
         None => true,
@@ -186,7 +187,7 @@ pub fn has_carried(scope: &Scope<'_>, to: &Typed, value: ValueId) -> bool
     requires within { ValueWithin (sizes_in scope.now) value }
     ensures { result ≡ has_some_type (text_in scope.now) (driven_type (operand_text (naming_in scope.now) to.now)) (value_text (naming_in scope.now) value) }
 {
-    match &to.ty {
+    match to.ty.get() {
         None => false,
         Some(ty) => match ty.kind() {
             TyKind::Signal(of) => has_type(scope, value, of),
@@ -201,7 +202,7 @@ pub fn has_pointed(scope: &Scope<'_>, to: &Typed, value: ValueId) -> bool
     requires within { ValueWithin (sizes_in scope.now) value }
     ensures { result ≡ has_some_type (text_in scope.now) (stored_type (operand_text (naming_in scope.now) to.now)) (value_text (naming_in scope.now) value) }
 {
-    match &to.ty {
+    match to.ty.get() {
         None => false,
         Some(ty) => match ty.kind() {
             TyKind::Pointer(of) => has_type(scope, value, of),
@@ -216,7 +217,7 @@ pub fn has_value_type(scope: &Scope<'_>, operand: &Typed) -> bool
     requires within { OperandWithin (sizes_in scope.now) operand.now }
     ensures { result ≡ written_fits (text_in scope.now) test_value_type (operand_text (naming_in scope.now) operand.now) }
 {
-    match &operand.ty {
+    match operand.ty.get() {
         None => false,
         Some(ty) => ty.is_value_type() && has_type(scope, operand.value, ty),
     }
@@ -228,7 +229,7 @@ pub fn has_data_type(scope: &Scope<'_>, operand: &Typed) -> bool
     requires within { OperandWithin (sizes_in scope.now) operand.now }
     ensures { result ≡ written_fits (text_in scope.now) is_data (operand_text (naming_in scope.now) operand.now) }
 {
-    match &operand.ty {
+    match operand.ty.get() {
         None => false,
         Some(ty) => carries_data(ty) && has_type(scope, operand.value, ty),
     }
@@ -238,9 +239,9 @@ pub fn has_data_type(scope: &Scope<'_>, operand: &Typed) -> bool
 pub fn has_pointer_type(scope: &Scope<'_>, operand: &Typed) -> bool
     requires scope { IsScope scope.now }
     requires within { OperandWithin (sizes_in scope.now) operand.now }
-    ensures { result ≡ written_fits (text_in scope.now) test_pointer (operand_text (naming_in scope.now) operand.now) }
+    ensures { result ≡ written_fits (text_in scope.now) spec.is_pointer (operand_text (naming_in scope.now) operand.now) }
 {
-    match &operand.ty {
+    match operand.ty.get() {
         None => false,
         Some(ty) => ty.is_pointer() && has_type(scope, operand.value, ty),
     }
@@ -250,9 +251,9 @@ pub fn has_pointer_type(scope: &Scope<'_>, operand: &Typed) -> bool
 pub fn has_signal_type(scope: &Scope<'_>, operand: &Typed) -> bool
     requires scope { IsScope scope.now }
     requires within { OperandWithin (sizes_in scope.now) operand.now }
-    ensures { result ≡ written_fits (text_in scope.now) test_signal (operand_text (naming_in scope.now) operand.now) }
+    ensures { result ≡ written_fits (text_in scope.now) spec.is_signal (operand_text (naming_in scope.now) operand.now) }
 {
-    match &operand.ty {
+    match operand.ty.get() {
         None => false,
         Some(ty) => ty.is_signal() && has_type(scope, operand.value, ty),
     }
@@ -264,7 +265,7 @@ pub fn has_result_type(scope: &Scope<'_>, operand: &Typed, result_type: &Ty) -> 
     requires within { OperandWithin (sizes_in scope.now) operand.now }
     ensures { result ≡ written_fits (text_in scope.now) (λ t. test_value_type t && same_type t result_type.now) (operand_text (naming_in scope.now) operand.now) }
 {
-    match &operand.ty {
+    match operand.ty.get() {
         None => false,
         Some(ty) => {
             if !ty.is_value_type() || *ty != *result_type {

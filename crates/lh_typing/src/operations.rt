@@ -3,10 +3,11 @@ ghost use Rattle.std.specs.Prelude.{◌≡◌, map};
 ghost use Rattle.std.specs.List.{list_all};
 ghost use Rattle.lh_unit.specs.Naming.{operand_text};
 ghost use Rattle.lh_unit.specs.Typing.{first_type};
-ghost use Rattle.lh_unit.specs.TypingRows.{shifts, selects, takes_part as row_takes_part, puts_part as row_puts_part, class_row, operation_row, row_fits as text_row_fits, operation_fits as text_operation_fits};
+ghost use Rattle.lh_unit.specs.TypingRows as spec;
+ghost use Rattle.lh_unit.specs.TypingRows.{shifts, selects, class_row, operation_row};
 ghost use Rattle.lh_unit.specs.Within.{Each, OperandWithin};
 ghost use Rattle.lh_typing.specs.Fitting.{field_fits as text_field_fits};
-ghost use Rattle.lh_typing.specs.Told.{IsScope, text_in, naming_in, sizes_in};
+ghost use Rattle.lh_typing.specs.Facts.{IsScope, text_in, naming_in, sizes_in};
 
 use crate::operands::{agrees, all_have, has_and_agrees, has_array_of, has_integer, has_type};
 use crate::scope::Scope;
@@ -20,11 +21,11 @@ use lh_unit::inst::Typed;
 pub fn operation_fits(scope: &Scope<'_>, op: Op, args: &[Typed]) -> bool
     requires scope { IsScope scope.now }
     requires within { Each (OperandWithin (sizes_in scope.now)) args.now }
-    ensures { let os = map (operand_text (naming_in scope.now)) args.now in result ≡ text_operation_fits (text_in scope.now) (operation_row op) (first_type os) os }
+    ensures { let os = map (operand_text (naming_in scope.now)) args.now in result ≡ spec.operation_fits (text_in scope.now) (operation_row op) (first_type os) os }
 {
     match args.split_first() {
         None => false,
-        Some((first, _)) => match &first.ty {
+        Some((first, _)) => match first.ty.get() {
             None => false,
             Some(ty) => row_fits(scope, op.class(), ty, args),
         },
@@ -35,7 +36,7 @@ pub fn operation_fits(scope: &Scope<'_>, op: Op, args: &[Typed]) -> bool
 fn row_fits(scope: &Scope<'_>, class: OpClass, ty: &Ty, args: &[Typed]) -> bool
     requires scope { IsScope scope.now }
     requires within { Each (OperandWithin (sizes_in scope.now)) args.now }
-    ensures { result ≡ text_row_fits (text_in scope.now) (class_row class) ty.now (map (operand_text (naming_in scope.now)) args.now) }
+    ensures { result ≡ spec.row_fits (text_in scope.now) (class_row class) ty.now (map (operand_text (naming_in scope.now)) args.now) }
 {
     match class {
         OpClass::Unary | OpClass::Binary | OpClass::Relation => {
@@ -56,7 +57,7 @@ fn row_fits(scope: &Scope<'_>, class: OpClass, ty: &Ty, args: &[Typed]) -> bool
 fn shift_fits(scope: &Scope<'_>, ty: &Ty, args: &[Typed]) -> bool
     requires scope { IsScope scope.now }
     requires within { Each (OperandWithin (sizes_in scope.now)) args.now }
-    ensures { result ≡ text_row_fits (text_in scope.now) shifts ty.now (map (operand_text (naming_in scope.now)) args.now) }
+    ensures { result ≡ spec.row_fits (text_in scope.now) shifts ty.now (map (operand_text (naming_in scope.now)) args.now) }
 {
     match args {
         [base, hidden, amount] => {
@@ -76,7 +77,7 @@ fn shift_fits(scope: &Scope<'_>, ty: &Ty, args: &[Typed]) -> bool
 fn mux_fits(scope: &Scope<'_>, ty: &Ty, args: &[Typed]) -> bool
     requires scope { IsScope scope.now }
     requires within { Each (OperandWithin (sizes_in scope.now)) args.now }
-    ensures { result ≡ text_row_fits (text_in scope.now) selects ty.now (map (operand_text (naming_in scope.now)) args.now) }
+    ensures { result ≡ spec.row_fits (text_in scope.now) selects ty.now (map (operand_text (naming_in scope.now)) args.now) }
 {
     match args {
         [array, selector] => {
@@ -93,7 +94,7 @@ fn mux_fits(scope: &Scope<'_>, ty: &Ty, args: &[Typed]) -> bool
 fn part_fits(scope: &Scope<'_>, step: Step, ty: &Ty, args: &[Typed]) -> bool
     requires scope { IsScope scope.now }
     requires within { Each (OperandWithin (sizes_in scope.now)) args.now }
-    ensures { result ≡ text_row_fits (text_in scope.now) (row_takes_part step) ty.now (map (operand_text (naming_in scope.now)) args.now) }
+    ensures { result ≡ spec.row_fits (text_in scope.now) (spec.takes_part step) ty.now (map (operand_text (naming_in scope.now)) args.now) }
 {
     match args {
         [whole] => match scope.type_of(whole.value) {
@@ -108,7 +109,7 @@ fn part_fits(scope: &Scope<'_>, step: Step, ty: &Ty, args: &[Typed]) -> bool
 fn insertion_fits(scope: &Scope<'_>, step: Step, ty: &Ty, args: &[Typed]) -> bool
     requires scope { IsScope scope.now }
     requires within { Each (OperandWithin (sizes_in scope.now)) args.now }
-    ensures { result ≡ text_row_fits (text_in scope.now) (row_puts_part step) ty.now (map (operand_text (naming_in scope.now)) args.now) }
+    ensures { result ≡ spec.row_fits (text_in scope.now) (spec.puts_part step) ty.now (map (operand_text (naming_in scope.now)) args.now) }
 {
     match args {
         [whole, part] => {
@@ -130,7 +131,7 @@ fn field_fits(scope: &Scope<'_>, operand: &Typed) -> bool
     requires within { OperandWithin (sizes_in scope.now) operand.now }
     ensures { result ≡ text_field_fits (text_in scope.now) (operand_text (naming_in scope.now) operand.now) }
 {
-    match &operand.ty {
+    match operand.ty.get() {
         Some(ty) => carries_data(ty) && has_type(scope, operand.value, ty),
         None => false,
     }

@@ -29,10 +29,8 @@ pub fn params(alloc: Global, m: &Module, types: &mut Types) -> Result<Vec<Number
 fn put_numbers(params: &mut Vec<NumberList>, numbers: NumberList) -> Result<(), NoMemory>
     ensures { OnOk result (params.new.items ≡ params.old.items ++ numbers ∷ []) }
 {
-    match params.push(numbers) {
-        Ok(()) => Ok(()),
-        Err(_) => Err(NoMemory),
-    }
+    params.push(numbers)?;
+    Ok(())
 }
 
 /// The numbers of the types of arguments.

@@ -4,11 +4,12 @@ ghost use Rattle.std.specs.Option.{option_copied, option_and_then};
 ghost use Rattle.lh_types.specs.Types.{TypeTree, int_type, row_of};
 ghost use Rattle.lh_types.specs.Kind.{type_of_kind};
 ghost use Rattle.lh_types.specs.ValueOf.{datum_of};
-ghost use Rattle.lh_types.specs.Faults.{Makes};
+ghost use Rattle.lh_types.specs.Faults.{MakesType};
 ghost use Rattle.lh_unit.specs.Naming.{Naming, operand_text, inst_text};
-ghost use Rattle.lh_unit.specs.Typing.{if_made, constant_type as datum_type, array_made, tuple_made, first_type as texts_first, operand_types as texts_written, pointer_to, signal_of, pointed, carried, class_type as texts_type, result_type as text_type};
-ghost use Rattle.lh_unit.specs.Kinds.{kind_of as type_kind, result_kind as text_kind};
-ghost use Rattle.lh_typing.specs.Told.{kind_as};
+ghost use Rattle.lh_unit.specs.Typing as spec;
+ghost use Rattle.lh_unit.specs.Typing.{if_made, array_made, tuple_made, pointer_to, signal_of, pointed, carried};
+ghost use Rattle.lh_unit.specs.Kinds as kinds;
+ghost use Rattle.lh_typing.specs.Facts.{kind_as};
 
 use crate::scope::Kind;
 use lh_types::op::OpClass;
@@ -19,7 +20,7 @@ use std::alloc::Global;
 
 /// The type that was made, if there is such a type.
 fn made(ty: Result<Ty, TyFault>) -> Result<Option<Ty>, NoMemory>
-    ensures { (fault : Option TyFault) (t : TypeTree) → Makes ty fault t → IfOk result (λ o. o ≡ if_made fault t) }
+    ensures { (fault : Option TyFault) (t : TypeTree) → MakesType ty fault t → IfOk result (λ o. o ≡ if_made fault t) }
 {
     match ty {
         Ok(ty) => Ok(Some(ty)),
@@ -30,7 +31,7 @@ fn made(ty: Result<Ty, TyFault>) -> Result<Option<Ty>, NoMemory>
 
 /// The type of a constant: an integer or a time.
 fn constant_type(value: &Val) -> Result<Option<Ty>, NoMemory>
-    ensures { IfOk result (λ o. o ≡ datum_type (datum_of value.now)) }
+    ensures { IfOk result (λ o. o ≡ spec.constant_type (datum_of value.now)) }
 {
     match value {
         Val::Int { width, bits: _ } => made(Ty::int(*width)),
@@ -55,11 +56,11 @@ fn array_of(alloc: Global, len: usize, of: &Ty) -> Result<Option<Ty>, NoMemory>
 
 /// The array of this many elements of the type that is written before the first operand.
 fn array_type(alloc: Global, len: usize, args: &[Typed]) -> Result<Option<Ty>, NoMemory>
-    ensures { (f : Naming) → IfOk result (λ o. o ≡ option_and_then (array_made len) (texts_first (map (operand_text f) args.now))) }
+    ensures { (f : Naming) → IfOk result (λ o. o ≡ option_and_then (array_made len) (spec.first_type (map (operand_text f) args.now))) }
 {
     match args.split_first() {
         None => Ok(None),
-        Some((first, _)) => match &first.ty {
+        Some((first, _)) => match first.ty.get() {
             None => Ok(None),
             Some(of) => array_of(alloc, len, of),
         },
@@ -75,11 +76,11 @@ fn bit_type() -> Result<Option<Ty>, NoMemory>
 
 /// The types that are written before the operands, where each has one.
 fn written_types(alloc: Global, args: &[Typed]) -> Result<Option<TyList>, NoMemory>
-    ensures { (f : Naming) → IfOk result (λ o. option_map row_of o ≡ texts_written (map (operand_text f) args.now)) }
+    ensures { (f : Naming) → IfOk result (λ o. option_map row_of o ≡ spec.operand_types (map (operand_text f) args.now)) }
 {
     let mut list = TyList::with_room(alloc, args.len())?;
     for operand in args {
-        match &operand.ty {
+        match operand.ty.get() {
             None => return Ok(None),
             Some(ty) => list.push(ty.copy()?)?,
         }
@@ -89,7 +90,7 @@ fn written_types(alloc: Global, args: &[Typed]) -> Result<Option<TyList>, NoMemo
 
 /// The struct that holds the operands.
 fn struct_of(alloc: Global, args: &[Typed]) -> Result<Option<Ty>, NoMemory>
-    ensures { (f : Naming) → IfOk result (λ o. o ≡ option_and_then tuple_made (texts_written (map (operand_text f) args.now))) }
+    ensures { (f : Naming) → IfOk result (λ o. o ≡ option_and_then tuple_made (spec.operand_types (map (operand_text f) args.now))) }
 {
     match written_types(alloc, args)? {
         None => Ok(None),
@@ -99,7 +100,7 @@ fn struct_of(alloc: Global, args: &[Typed]) -> Result<Option<Ty>, NoMemory>
 
 /// The type that is written before the first operand.
 fn first_type(args: &[Typed]) -> Result<Option<Ty>, NoMemory>
-    ensures { (f : Naming) → IfOk result (λ o. o ≡ texts_first (map (operand_text f) args.now)) }
+    ensures { (f : Naming) → IfOk result (λ o. o ≡ spec.first_type (map (operand_text f) args.now)) }
 {
     match args.split_first() {
         None => Ok(None),
@@ -110,7 +111,7 @@ fn first_type(args: &[Typed]) -> Result<Option<Ty>, NoMemory>
 fn written_type(operand: &Typed) -> Result<Option<Ty>, NoMemory>
     ensures { IfOk result (λ o. o ≡ operand.now.ty) }
 {
-    match &operand.ty {
+    match operand.ty.get() {
         None => Ok(None),
         Some(ty) => Ok(Some(ty.copy()?)),
     }
@@ -118,7 +119,7 @@ fn written_type(operand: &Typed) -> Result<Option<Ty>, NoMemory>
 
 /// The type of what the operations of a class give.
 fn class_type(alloc: Global, class: OpClass, args: &[Typed]) -> Result<Option<Ty>, NoMemory>
-    ensures { (f : Naming) → IfOk result (λ o. o ≡ texts_type class (map (operand_text f) args.now)) }
+    ensures { (f : Naming) → IfOk result (λ o. o ≡ spec.class_type class (map (operand_text f) args.now)) }
 {
     match class {
         OpClass::Relation | OpClass::Equality => bit_type(),
@@ -134,7 +135,7 @@ fn class_type(alloc: Global, class: OpClass, args: &[Typed]) -> Result<Option<Ty
 fn pointer_type(alloc: Global, to: &Typed) -> Result<Option<Ty>, NoMemory>
     ensures { IfOk result (λ o. o ≡ option_and_then pointer_to to.now.ty) }
 {
-    match &to.ty {
+    match to.ty.get() {
         None => Ok(None),
         Some(ty) => {
             if !ty.is_value_type() {
@@ -150,7 +151,7 @@ fn pointer_type(alloc: Global, to: &Typed) -> Result<Option<Ty>, NoMemory>
 fn signal_type(alloc: Global, of: &Typed) -> Result<Option<Ty>, NoMemory>
     ensures { IfOk result (λ o. o ≡ option_and_then signal_of of.now.ty) }
 {
-    match &of.ty {
+    match of.ty.get() {
         None => Ok(None),
         Some(ty) => {
             if !carries_data(ty) {
@@ -166,7 +167,7 @@ fn signal_type(alloc: Global, of: &Typed) -> Result<Option<Ty>, NoMemory>
 fn pointed_type(from: &Typed) -> Result<Option<Ty>, NoMemory>
     ensures { IfOk result (λ o. o ≡ option_and_then pointed from.now.ty) }
 {
-    match &from.ty {
+    match from.ty.get() {
         None => Ok(None),
         Some(ty) => match ty.kind() {
             TyKind::Pointer(to) => Ok(Some(to.copy()?)),
@@ -179,7 +180,7 @@ fn pointed_type(from: &Typed) -> Result<Option<Ty>, NoMemory>
 fn carried_type(from: &Typed) -> Result<Option<Ty>, NoMemory>
     ensures { IfOk result (λ o. o ≡ option_and_then carried from.now.ty) }
 {
-    match &from.ty {
+    match from.ty.get() {
         None => Ok(None),
         Some(ty) => match ty.kind() {
             TyKind::Signal(of) => Ok(Some(of.copy()?)),
@@ -197,7 +198,7 @@ fn own_type(ty: &Ty) -> Result<Option<Ty>, NoMemory>
 
 /// The type of what an instruction gives, where it gives something that has a type.
 pub fn result_type(alloc: Global, inst: &Inst) -> Result<Option<Ty>, NoMemory>
-    ensures { (f : Naming) → IfOk result (λ o. o ≡ text_type (inst_text f inst.now)) }
+    ensures { (f : Naming) → IfOk result (λ o. o ≡ spec.result_type (inst_text f inst.now)) }
 {
     match inst {
         Inst::Const(value) => constant_type(value),
@@ -214,7 +215,7 @@ pub fn result_type(alloc: Global, inst: &Inst) -> Result<Option<Ty>, NoMemory>
 
 /// The kind of a value of this type; `void` is none.
 pub fn kind_of(ty: TyKind<'_>) -> Option<Kind>
-    ensures { option_map kind_as result ≡ type_kind (type_of_kind ty.entry) }
+    ensures { option_map kind_as result ≡ kinds.kind_of (type_of_kind ty.entry) }
 {
     match ty {
         TyKind::Int(_) | TyKind::Array(_, _) | TyKind::Tuple(_) => Some(Kind::Datum),
@@ -228,7 +229,7 @@ pub fn kind_of(ty: TyKind<'_>) -> Option<Kind>
 /// The kind of what an instruction gives, with the type that it has: `var` gives a pointer and `sig` a signal, also
 /// where no type is such.
 pub fn result_kind(inst: &Inst, ty: Option<&Ty>) -> Option<Kind>
-    ensures { (f : Naming) → option_copied ty.entry ≡ text_type (inst_text f inst.now) → option_map kind_as result ≡ text_kind (inst_text f inst.now) }
+    ensures { (f : Naming) → option_copied ty.entry ≡ spec.result_type (inst_text f inst.now) → option_map kind_as result ≡ kinds.result_kind (inst_text f inst.now) }
 {
     match inst {
         Inst::Var(_) => Some(Kind::Pointer),

@@ -62,13 +62,13 @@ impl Scope<'_> {
     ghost use Rattle.lh_unit.specs.Within.{ValueWithin};
     ghost use Rattle.lh_unit.specs.Within.{InstWithin};
     ghost use Rattle.lh_unit.specs.Arena.{inst_count, inst_at, args_at};
-    ghost use Rattle.lh_typing.specs.Told.{IsScope, Told, HasItsSig, has_sig, kind_as, from_probe, text_in, naming_in, sizes_in};
+    ghost use Rattle.lh_typing.specs.Facts.{IsScope, FactHolds, HasItsSig, has_sig, kind_as, from_probe, text_in, naming_in, sizes_in};
 
     /// What is known of a value.
     fn fact(&self, value: ValueId) -> &Fact
         requires scope { IsScope self.now }
         requires within { ValueWithin (sizes_in self.now) value }
-        ensures { Told self.now.types.now (text_in self.now) (value_text (naming_in self.now) value) result.now }
+        ensures { FactHolds self.now.types.now (text_in self.now) (value_text (naming_in self.now) value) result.now }
     {
         &self.facts[value.0 as usize]
     }

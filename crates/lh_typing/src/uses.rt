@@ -3,7 +3,8 @@
 
 ghost use Rattle.std.specs.Prelude.{◌≡◌, ◌++◌, ◌∷◌, [], IfOk, OnOk};
 ghost use Rattle.lh_types.specs.Kind.{type_of_kind};
-ghost use Rattle.lh_typing.specs.Uses.{first_type, uses_of, used, all_used, values_used, maybe_used, edges_used, trigger_uses, triggers_uses, operation_need as need_of_operation, step_need as need_of_step, initial_need as need_of_initial};
+ghost use Rattle.lh_typing.specs.Uses as spec;
+ghost use Rattle.lh_typing.specs.Uses.{first_type, uses_of, used, all_used, values_used, maybe_used, edges_used, trigger_uses, triggers_uses};
 
 use lh_types::op::Op;
 use lh_types::ty::{NoMemory, TyKind};
@@ -77,10 +78,8 @@ impl UseList {
     fn push(&mut self, operand: Use) -> Result<(), NoMemory>
         ensures { OnOk result (self.new ≡ self.old ++ operand ∷ []) }
     {
-        match self.items.push(operand) {
-            Ok(()) => Ok(()),
-            Err(_) => Err(NoMemory),
-        }
+        self.items.push(operand)?;
+        Ok(())
     }
 
     /// The operands in order.
@@ -198,7 +197,7 @@ fn put_edges(list: &mut UseList, edges: &[PhiEdge]) -> Result<(), NoMemory>
 }
 
 fn put_operation(list: &mut UseList, op: Op, args: &[Typed]) -> Result<(), NoMemory>
-    ensures { OnOk result (list.new ≡ list.old ++ all_used (need_of_operation op args.now) args.now) }
+    ensures { OnOk result (list.new ≡ list.old ++ all_used (spec.operation_need op args.now) args.now) }
 {
     put_all(list, operation_need(op, args), args)
 }
@@ -257,7 +256,7 @@ fn put_wait(list: &mut UseList, after: Option<ValueId>, signals: &[ValueId]) -> 
 
 // `extf` and `exts` are of data or of a signal, as the type that is written says.
 fn operation_need(op: Op, args: &[Typed]) -> Need
-    ensures { result ≡ need_of_operation op args.now }
+    ensures { result ≡ spec.operation_need op args.now }
 {
     match op {
         Op::Extf(_) | Op::Exts { .. } => first_need(args),
@@ -266,11 +265,11 @@ fn operation_need(op: Op, args: &[Typed]) -> Need
 }
 
 fn first_need(args: &[Typed]) -> Need
-    ensures { result ≡ need_of_step (first_type args.now) }
+    ensures { result ≡ spec.step_need (first_type args.now) }
 {
     match args.split_first() {
         None => Need::DataOrSignal,
-        Some((first, _)) => match &first.ty {
+        Some((first, _)) => match first.ty.get() {
             None => Need::DataOrSignal,
             Some(ty) => step_need(ty.kind()),
         },
@@ -278,7 +277,7 @@ fn first_need(args: &[Typed]) -> Need
 }
 
 fn step_need(ty: TyKind<'_>) -> Need
-    ensures { result ≡ need_of_step (Some (type_of_kind ty.entry)) }
+    ensures { result ≡ spec.step_need (Some (type_of_kind ty.entry)) }
 {
     match ty {
         TyKind::Signal(_) => Need::Signal,
@@ -289,9 +288,9 @@ fn step_need(ty: TyKind<'_>) -> Need
 
 // A time is of the right kind where `time` is written: the type is then wrong.
 fn initial_need(of: &Typed) -> Need
-    ensures { result ≡ need_of_initial of.now.ty }
+    ensures { result ≡ spec.initial_need of.now.ty }
 {
-    match &of.ty {
+    match of.ty.get() {
         None => Need::Data,
         Some(ty) => match ty.kind() {
             TyKind::Time => Need::DataOrTime,

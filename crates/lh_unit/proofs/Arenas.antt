@@ -27,7 +27,7 @@ use Rattle.lh_unit.specs.declared.inst.Arg.{Arg}
 use Rattle.lh_unit.specs.declared.inst.Declare.{Declare}
 use Rattle.lh_unit.specs.declared.inst.Item.TheVariants as item
 use Rattle.lh_unit.specs.declared.table.Line.{Line}
-use Rattle.lh_unit.proofs.Lists.{Place, before, at, past, place, Same, same, other, same_or, Pushed, old, new, pushed, slice_get-push, slice_get-push_before, get_or-push_default, AllDistinct-push, other_keys, nat_eq-is, nat_eq-refl}
+use Rattle.lh_unit.proofs.Lists.{Trichotomy, before, at, past, trichotomy, Same, same, other, same_or, Pushed, old, new, pushed, slice_get-push, slice_get-push_before, get_or-push_default, AllDistinct-push, other_keys, nat_eq-is, nat_eq-refl}
 use Rattle.lh_unit.proofs.Tables.{IsTable-with_value, IsTable-with_label, IsTable-with_arg, IsTable-with_result, IsTable-with_block, IsTable-with_line, same_name-is, same_name-refl}
 use Rattle.lh_unit.proofs.Within.{InstWithin-more}
 
@@ -76,7 +76,8 @@ IsArena-with_table a u t o h k = record {
         subst (λ n. InstWithin (sizes_of n (table_at (with_table a u t) v)) l.inst) (sym count) (subst (λ (x : Table). InstWithin (sizes_of (unit_count a) x) l.inst) (sym (here v p)) (k.placed i l q))
     placed v i l e (other p) =
         let q : slice_get (table_at a v).lines i ≡ Some l = ap (λ (x : Table). slice_get x.lines i) (sym (table_at-other a u v t p)) ∙ e in
-        subst (λ n. InstWithin (sizes_of n (table_at (with_table a u t) v)) l.inst) (sym count) (subst (λ (x : Table). InstWithin (sizes_of (unit_count a) x) l.inst) (sym (table_at-other a u v t p)) (o.placed v i l q))
+        subst (λ n. InstWithin (sizes_of n (table_at (with_table a u t) v)) l.inst) (sym count)
+        (subst (λ (x : Table). InstWithin (sizes_of (unit_count a) x) l.inst) (sym (table_at-other a u v t p)) (o.placed v i l q))
 
     kinds : (v : ℕ) → Same v u → kind_at (with_table a u t) v ≡ kind_at a v
     kinds v (same e) = ap (λ (x : Table). x.kind) (here v e) ∙ k.kind_stays ∙ sym (ap (kind_at a) e)
@@ -122,16 +123,24 @@ Keeps-with_value n t name room o p = by (has_name t.values name) (IsTable-with_v
     made : Bool → Table
     made b = if b then t else record t { values = t.values ++ name ∷ [] }
 
-    by : (b : Bool) → IsTable (if b then t else record t { values = t.values ++ name ∷ [] }) → length t.values ≤ length (if b then t else record t { values = t.values ++ name ∷ [] }).values → Keeps n t (if b then t else record t { values = t.values ++ name ∷ [] })
+    by : (b : Bool) → IsTable (if b then t else record t { values = t.values ++ name ∷ [] }) → length t.values ≤ length (if b then t else record t { values = t.values ++ name ∷ [] }).values
+        → Keeps n t (if b then t else record t { values = t.values ++ name ∷ [] })
     by true i l = Keeps-refl n t o p
     by false i l = record { table = i; kind_stays = refl; placed = LinesPlaced-more n n t (record t { values = t.values ++ name ∷ [] }) (omega arith) l (omega arith) refl p }
 
 pub Keeps-with_label : (n : ℕ) (t : Table) (name : List ℕ) → length t.labels < 2 ^ 32 - 1 → IsTable t → LinesPlaced n t → Keeps n t (with_label t name)
 Keeps-with_label n t name room o p = by (has_name t.labels name) (IsTable-with_label t name room o) (labels-more t name)
   where
-    by : (b : Bool) → IsTable (if b then t else record t { labels = t.labels ++ name ∷ []; bodies = t.bodies ++ None ∷ [] }) → length t.labels ≤ length (if b then t else record t { labels = t.labels ++ name ∷ []; bodies = t.bodies ++ None ∷ [] }).labels → Keeps n t (if b then t else record t { labels = t.labels ++ name ∷ []; bodies = t.bodies ++ None ∷ [] })
+    by : (b : Bool) → IsTable (if b then t else record t { labels = t.labels ++ name ∷ []; bodies = t.bodies ++ None ∷ [] })
+        → length t.labels ≤ length (if b then t else record t { labels = t.labels ++ name ∷ []; bodies = t.bodies ++ None ∷ [] }).labels
+        → Keeps n t (if b then t else record t { labels = t.labels ++ name ∷ []; bodies = t.bodies ++ None ∷ [] })
     by true i l = Keeps-refl n t o p
-    by false i l = record { table = i; kind_stays = refl; placed = LinesPlaced-more n n t (record t { labels = t.labels ++ name ∷ []; bodies = t.bodies ++ None ∷ [] }) (omega arith) (omega arith) l refl p }
+    by false i l = record {
+      table = i;
+      kind_stays = refl;
+      placed = LinesPlaced-more n n t (record t { labels = t.labels ++ name ∷ []; bodies = t.bodies ++ None ∷ [] }) (omega arith) (omega arith) l
+          refl p;
+    }
 
 -- each call on one unit keeps it
 pub FindsValueIn-Keeps : (n : ℕ) (r : Result ValueId NoMemory) (t u : Table) (name : List ℕ) → FindsValueIn r t u name → length t.values < 2 ^ 32 - 1 → IsTable t → LinesPlaced n t → Keeps n t u
@@ -164,14 +173,16 @@ LinesPlaced-push n t r i w p k l q = by (pushed t.lines (record { result = r; in
     by (old h e) = p k l e
     by (new h e) = subst (λ (x : Line). InstWithin (sizes_of n t) x.inst) e w
 
-pub TakesLine-Keeps : (n : ℕ) (a : Result InstId UnitFault) (t u : Table) (r : Option ValueId) (i : Inst) → TakesLine a t u r i → 0 < length t.blocks → ResultWithin (length t.values) r → InstWithin (sizes_of n t) i → IsTable t → LinesPlaced n t → Keeps n t u
+pub TakesLine-Keeps : (n : ℕ) (a : Result InstId UnitFault) (t u : Table) (r : Option ValueId) (i : Inst) → TakesLine a t u r i → 0 < length t.blocks → ResultWithin (length t.values) r
+    → InstWithin (sizes_of n t) i → IsTable t → LinesPlaced n t → Keeps n t u
 TakesLine-Keeps n (Ok id) t u r i f h w x o p = subst (Keeps n t) (sym f.3) record { table = IsTable-with_line t r i h w f.0 f.1 o; kind_stays = refl; placed = LinesPlaced-push n t r i x p }
 TakesLine-Keeps n (Err fault.UnitTooLarge) t u r i f h w x o p = Keeps-old n t u f.1 o p
 TakesLine-Keeps n (Err fault.DuplicateName) t u r i f h w x o p = Keeps-old n t u f.2 o p
 TakesLine-Keeps n (Err fault.OutOfMemory) t u r i f h w x o p = Keeps-old n t u f.2 o p
 
 -- one unit of an arena was read, and written by a rule that keeps it
-pub IsArena-write : (a : Arena) (u : ℕ) (s t : Table) (units : List Table) → IsArena a → u < length a.units → s ≡ get_or a.units u s → (IsTable s → LinesPlaced (unit_count a) s → Keeps (unit_count a) s t) → units ≡ set a.units u t → IsArena (record a { units = units })
+pub IsArena-write : (a : Arena) (u : ℕ) (s t : Table) (units : List Table) → IsArena a → u < length a.units → s ≡ get_or a.units u s
+    → (IsTable s → LinesPlaced (unit_count a) s → Keeps (unit_count a) s t) → units ≡ set a.units u t → IsArena (record a { units = units })
 IsArena-write a u s t units o h e k w =
     let r : s ≡ table_at a u = get_or_read a.units u s h e no_table in
     let q : Keeps (unit_count a) (table_at a u) t = subst (λ v. Keeps (unit_count a) v t) r (k (subst IsTable (sym r) (o.tables u h)) (subst (LinesPlaced (unit_count a)) (sym r) (o.placed u))) in
@@ -185,7 +196,8 @@ none_some (Some x) e s = cc
 unit_inj : (u v : UnitId) → item.Unit u ≡ item.Unit v → u ≡ v
 unit_inj u v p = cc
 
-pub IsArena-begun : (a : Arena) (u : UnitId) (t : Table) → IsArena a → u.0 < length a.units → kind_at a u.0 ≡ None → IsTable t → IsSome t.kind → LinesPlaced (unit_count a) t → IsArena (record a { units = set a.units u.0 t; items = a.items ++ item.Unit u ∷ [] })
+pub IsArena-begun : (a : Arena) (u : UnitId) (t : Table) → IsArena a → u.0 < length a.units → kind_at a u.0 ≡ None → IsTable t → IsSome t.kind → LinesPlaced (unit_count a) t
+    → IsArena (record a { units = set a.units u.0 t; items = a.items ++ item.Unit u ∷ [] })
 IsArena-begun a u t o h e w k x = record {
   long = o.long ∙ sym (length-set a.units u.0 t);
   few = omega (arith, o.few, length-set a.units u.0 t);
@@ -211,13 +223,16 @@ IsArena-begun a u t o h e w k x = record {
     tables v q (same r) = subst IsTable (sym (here v r)) w
     tables v q (other r) = subst IsTable (sym (table_at-other a u.0 v t r)) (o.tables v q)
 
-    placed : (v i : ℕ) (l : Line) → slice_get (get_or (set a.units u.0 t) v no_table).lines i ≡ Some l → Same v u.0 → InstWithin (sizes_of (length (set a.units u.0 t)) (get_or (set a.units u.0 t) v no_table)) l.inst
+    placed : (v i : ℕ) (l : Line) → slice_get (get_or (set a.units u.0 t) v no_table).lines i ≡ Some l → Same v u.0
+        → InstWithin (sizes_of (length (set a.units u.0 t)) (get_or (set a.units u.0 t) v no_table)) l.inst
     placed v i l q (same r) =
         let z : slice_get t.lines i ≡ Some l = ap (λ (y : Table). slice_get y.lines i) (sym (here v r)) ∙ q in
-        subst (λ n. InstWithin (sizes_of n (get_or (set a.units u.0 t) v no_table)) l.inst) (sym count) (subst (λ (y : Table). InstWithin (sizes_of (unit_count a) y) l.inst) (sym (here v r)) (x i l z))
+        subst (λ n. InstWithin (sizes_of n (get_or (set a.units u.0 t) v no_table)) l.inst) (sym count)
+        (subst (λ (y : Table). InstWithin (sizes_of (unit_count a) y) l.inst) (sym (here v r)) (x i l z))
     placed v i l q (other r) =
         let z : slice_get (table_at a v).lines i ≡ Some l = ap (λ (y : Table). slice_get y.lines i) (sym (table_at-other a u.0 v t r)) ∙ q in
-        subst (λ n. InstWithin (sizes_of n (get_or (set a.units u.0 t) v no_table)) l.inst) (sym count) (subst (λ (y : Table). InstWithin (sizes_of (unit_count a) y) l.inst) (sym (table_at-other a u.0 v t r)) (o.placed v i l z))
+        subst (λ n. InstWithin (sizes_of n (get_or (set a.units u.0 t) v no_table)) l.inst) (sym count)
+        (subst (λ (y : Table). InstWithin (sizes_of (unit_count a) y) l.inst) (sym (table_at-other a u.0 v t r)) (o.placed v i l z))
 
     inside : (v : UnitId) {i : ℕ} → Pushed a.items (item.Unit u) (item.Unit v) i → v.0 < length a.units
     inside v {i} (old l q) = o.items_within i v q
@@ -240,7 +255,8 @@ IsArena-begun a u t o h e w k x = record {
 
     defined : (v : UnitId) → v.0 < length a.units → IsSome (get_or (set a.units u.0 t) v.0 no_table).kind → Same v.0 u.0 → (i : ℕ) × (slice_get (a.items ++ item.Unit u ∷ []) i ≡ Some (item.Unit v))
     defined v q s (same r) = (length a.items, slice_get-push a.items (item.Unit u) (length a.items) refl ∙ ap (λ z. Some (item.Unit z)) (sym (λ i. record { 0 = r i })))
-    defined v q s (other r) = let d = o.items_defined v q (subst IsSome (ap (λ z. z.kind) (table_at-other a u.0 v.0 t r)) s) in (d.0, slice_get-push_before a.items (item.Unit u) d.0 (slice_get_within a.items d.0 (item.Unit v) d.1) ∙ d.1)
+    defined v q s (other r) = let d = o.items_defined v q (subst IsSome (ap (λ z. z.kind) (table_at-other a u.0 v.0 t r)) s) in
+        (d.0, slice_get-push_before a.items (item.Unit u) d.0 (slice_get_within a.items d.0 (item.Unit v) d.1) ∙ d.1)
 
 -- one more declaration
 unit_no_declare : (d : Declare) (v : UnitId) → item.Declare d ≡ item.Unit v → ⊥
@@ -316,22 +332,23 @@ IsArena-with_unit a n o f room = record {
   long = omega (arith, o.long, length-append a.names (n ∷ []), length-append a.units (no_table ∷ []));
   few = omega (arith, room, length-append a.units (no_table ∷ []));
   names_distinct = AllDistinct-push a.names n o.names_distinct (not_there a.names n f);
-  tables = λ v w. subst IsTable (sym (table_at-unit a n v)) (tables v (place (length a.units) v));
+  tables = λ v w. subst IsTable (sym (table_at-unit a n v)) (tables v (trichotomy (length a.units) v));
   placed = λ v i l e. subst (λ (t : Table). InstWithin (sizes_of (unit_count (with_unit a n)) t) l.inst) (sym (table_at-unit a n v))
-      (LinesPlaced-more (unit_count a) (unit_count (with_unit a n)) (table_at a v) (table_at a v) (omega (arith, length-append a.units (no_table ∷ []))) (omega arith) (omega arith) refl (o.placed v) i l
+      (LinesPlaced-more (unit_count a) (unit_count (with_unit a n)) (table_at a v) (table_at a v) (omega (arith, length-append a.units (no_table ∷ []))) (omega arith) (omega arith) refl (o.placed v) i
+      l
       (ap (λ (t : Table). slice_get t.lines i) (sym (table_at-unit a n v)) ∙ e));
   items_within = λ i v e. omega (arith, o.items_within i v e, length-append a.units (no_table ∷ []));
   items_begun = λ i v e. subst IsSome (sym (ap (λ (t : Table). t.kind) (table_at-unit a n v.0))) (o.items_begun i v e);
   items_distinct = o.items_distinct;
-  items_defined = λ v w s. defined v (place (length a.units) v.0) (subst IsSome (ap (λ (t : Table). t.kind) (table_at-unit a n v.0)) s);
+  items_defined = λ v w s. defined v (trichotomy (length a.units) v.0) (subst IsSome (ap (λ (t : Table). t.kind) (table_at-unit a n v.0)) s);
 }
   where
-    tables : (v : ℕ) → Place (length a.units) v → IsTable (table_at a v)
+    tables : (v : ℕ) → Trichotomy (length a.units) v → IsTable (table_at a v)
     tables v (before h) = o.tables v h
     tables v (at h) = subst IsTable (sym (get_or_past a.units v no_table (omega (arith, h)))) IsTable-none
     tables v (past h) = subst IsTable (sym (get_or_past a.units v no_table (omega (arith, h)))) IsTable-none
 
-    defined : (v : UnitId) → Place (length a.units) v.0 → IsSome (kind_at a v.0) → (i : ℕ) × (slice_get a.items i ≡ Some (item.Unit v))
+    defined : (v : UnitId) → Trichotomy (length a.units) v.0 → IsSome (kind_at a v.0) → (i : ℕ) × (slice_get a.items i ≡ Some (item.Unit v))
     defined v (before h) s = o.items_defined v h s
     defined v (at h) s = absurd (none_some (kind_at a v.0) (ap (λ (t : Table). t.kind) (get_or_past a.units v.0 no_table (omega (arith, h)))) s)
     defined v (past h) s = absurd (none_some (kind_at a v.0) (ap (λ (t : Table). t.kind) (get_or_past a.units v.0 no_table (omega (arith, h)))) s)

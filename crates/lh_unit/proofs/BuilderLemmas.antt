@@ -11,7 +11,7 @@ use Rattle.lh_unit.specs.TableCalls.{has_name, with_value, with_label, with_arg,
 use Rattle.lh_unit.specs.Within.{sizes_of}
 use Rattle.lh_unit.specs.Naming.{Naming, naming_of, line_text, arg_text, label_text, block_text, kind_text, table_text}
 use Rattle.lh_unit.specs.Arena.{Arena, IsArena, IsOpen, OfOpen, KeepsEntries, HasAtMost, HasFewMore, none_more, one_more_in, contents, item_text_at, unit_text_at, naming, table_at, kind_at, unit_count, unit_name_at, value_name_at, label_name_at}
-use Rattle.lh_unit.specs.Builders.{Finds, FindsValue, FindsLabel, Says, AddsArg, SetsResult, AddsBlock, AddsLine, HasRoom, HasTwice, line_text_at}
+use Rattle.lh_unit.specs.Builders.{FindsEntry, FindsValue, FindsLabel, HasContents, AddsArg, SetsResult, AddsBlock, AddsLine, HasRoom, HasTwice, line_text_at}
 use Rattle.lh_unit.specs.declared.inst.UnitId.{UnitId}
 use Rattle.lh_unit.specs.declared.inst.ValueId.{ValueId}
 use Rattle.lh_unit.specs.declared.inst.BlockId.{BlockId}
@@ -57,14 +57,16 @@ pub AtMost-same : (t u : Table) → u.values ≡ t.values → u.labels ≡ t.lab
 AtMost-same t u v l = record { values = omega (arith, ap (λ x. length x) v); labels = omega (arith, ap (λ x. length x) l) }
 
 -- a relation of tables holds of all where it holds of the one that is written
-pub each_table : (R : Table → Table → Type 0) → ((t : Table) → R t t) → (a : Arena) (u : ℕ) (t : Table) → u < unit_count a → R (table_at a u) t → (v : ℕ) → R (table_at a v) (table_at (with_table a u t) v)
+pub each_table : (R : Table → Table → Type 0) → ((t : Table) → R t t) → (a : Arena) (u : ℕ) (t : Table) → u < unit_count a → R (table_at a u) t → (v : ℕ)
+    → R (table_at a v) (table_at (with_table a u t) v)
 each_table R r a u t h w v = by (same_or v u)
   where
     by : Same v u → R (table_at a v) (table_at (with_table a u t) v)
     by (same e) = subst (λ n. R (table_at a n) (table_at (with_table a u t) n)) (sym e) (subst (R (table_at a u)) (sym (table_at-same a u t h)) w)
     by (other e) = subst (R (table_at a v)) (sym (table_at-other a u v t e)) (r (table_at a v))
 
-pub KeepsEntries-by : (a b : Arena) → unit_count a ≤ unit_count b → ((u : ℕ) → u < unit_count a → unit_name_at b u ≡ unit_name_at a u) → ((v : ℕ) → Grown (table_at a v) (table_at b v)) → KeepsEntries a b
+pub KeepsEntries-by : (a b : Arena) → unit_count a ≤ unit_count b → ((u : ℕ) → u < unit_count a → unit_name_at b u ≡ unit_name_at a u) → ((v : ℕ) → Grown (table_at a v) (table_at b v))
+    → KeepsEntries a b
 KeepsEntries-by a b h n g = record {
   units = h;
   values = λ u. (g u).values;
@@ -89,15 +91,18 @@ HasAtMost-same a b h g n w = record {
 }
 
 -- a table that is written has as many more entries as it may have
-pub few-written : (a : Arena) (u : ℕ) (t : Table) (f g : ℕ → ℕ) → u < unit_count a → length t.values ≤ length (table_at a u).values + f u → length t.labels ≤ length (table_at a u).labels + g u → HasFewMore 0 f g a (with_table a u t)
+pub few-written : (a : Arena) (u : ℕ) (t : Table) (f g : ℕ → ℕ) → u < unit_count a → length t.values ≤ length (table_at a u).values + f u → length t.labels ≤ length (table_at a u).labels + g u
+    → HasFewMore 0 f g a (with_table a u t)
 few-written a u t f g h v l = record { more_units = omega (arith, length-set a.units u t); more_values = λ w. values w (same_or w u); more_labels = λ w. labels w (same_or w u) }
   where
     values : (w : ℕ) → Same w u → length (table_at (with_table a u t) w).values ≤ length (table_at a w).values + f w
-    values w (same e) = subst (λ n. length (table_at (with_table a u t) n).values ≤ length (table_at a n).values + f n) (sym e) (subst (λ s. length s.values ≤ length (table_at a u).values + f u) (sym (table_at-same a u t h)) v)
+    values w (same e) = subst (λ n. length (table_at (with_table a u t) n).values ≤ length (table_at a n).values + f n) (sym e)
+        (subst (λ s. length s.values ≤ length (table_at a u).values + f u) (sym (table_at-same a u t h)) v)
     values w (other e) = subst (λ s. length s.values ≤ length (table_at a w).values + f w) (sym (table_at-other a u w t e)) (omega arith)
 
     labels : (w : ℕ) → Same w u → length (table_at (with_table a u t) w).labels ≤ length (table_at a w).labels + g w
-    labels w (same e) = subst (λ n. length (table_at (with_table a u t) n).labels ≤ length (table_at a n).labels + g n) (sym e) (subst (λ s. length s.labels ≤ length (table_at a u).labels + g u) (sym (table_at-same a u t h)) l)
+    labels w (same e) = subst (λ n. length (table_at (with_table a u t) n).labels ≤ length (table_at a n).labels + g n) (sym e)
+        (subst (λ s. length s.labels ≤ length (table_at a u).labels + g u) (sym (table_at-same a u t h)) l)
     labels w (other e) = subst (λ s. length s.labels ≤ length (table_at a w).labels + g w) (sym (table_at-other a u w t e)) (omega arith)
 
 one-here : (u : ℕ) → one_more_in u u ≡ 1
@@ -200,8 +205,8 @@ contents-same a u t h e = map-ext (item_text_at (with_table a u t)) (item_text_a
     by v (same r) = ap (unit_text_at (with_table a u t)) r ∙ unit_text-table_same a u t h ∙ e ∙ sym (ap (unit_text_at a) r)
     by v (other r) = unit_text-table a u v t r
 
-Finds-with_table : (a : Arena) (u : ℕ) (t : Table) → u < unit_count a → Grown (table_at a u) t → AtMost 1 (table_at a u) t → text_with a u t ≡ unit_text_at a u → Finds a (with_table a u t)
-Finds-with_table a u t h g m e = record {
+FindsEntry-with_table : (a : Arena) (u : ℕ) (t : Table) → u < unit_count a → Grown (table_at a u) t → AtMost 1 (table_at a u) t → text_with a u t ≡ unit_text_at a u → FindsEntry a (with_table a u t)
+FindsEntry-with_table a u t h g m e = record {
   grows = record {
     entries = KeepsEntries-by a (with_table a u t) (omega (arith, length-set a.units u t)) (λ v w. refl) (each_table Grown Grown-refl a u t h g);
     open_stays = λ v p. p;
@@ -211,32 +216,40 @@ Finds-with_table a u t h g m e = record {
 }
 
 -- a name that is looked up in the unit u
-pub FindsValue-with_table : (r : Result ValueId NoMemory) (a : Arena) (u : UnitId) (t : Table) (n : List ℕ) → IsArena a → u.0 < unit_count a → FindsValueIn r (table_at a u.0) t n → FindsValue r a (with_table a u.0 t) u n
+pub FindsValue-with_table : (r : Result ValueId NoMemory) (a : Arena) (u : UnitId) (t : Table) (n : List ℕ) → IsArena a → u.0 < unit_count a → FindsValueIn r (table_at a u.0) t n
+    → FindsValue r a (with_table a u.0 t) u n
 FindsValue-with_table (Ok v) a u t n o h f =
-    let l : Looked a u.0 (table_at a u.0) n (o.tables u.0 h) (o.placed u.0) t = subst (Looked a u.0 (table_at a u.0) n (o.tables u.0 h) (o.placed u.0)) (sym f.table) (looked-value a u.0 (table_at a u.0) n (o.tables u.0 h) (o.placed u.0)) in (
-      Finds-with_table a u.0 t h l.grown l.at_most l.says,
+    let l : Looked a u.0 (table_at a u.0) n (o.tables u.0 h) (o.placed u.0) t = subst (Looked a u.0 (table_at a u.0) n (o.tables u.0 h) (o.placed u.0)) (sym f.table)
+    (looked-value a u.0 (table_at a u.0) n (o.tables u.0 h) (o.placed u.0)) in (
+      FindsEntry-with_table a u.0 t h l.grown l.at_most l.says,
       subst (λ (s : Table). v.0 < length s.values) (sym (table_at-same a u.0 t h)) f.within,
       ap (λ (s : Table). get_or s.values v.0 []) (table_at-same a u.0 t h) ∙ get_or_from_slice_get t.values v.0 n [] f.named,
-      few-written a u.0 t (one_more_in u.0) none_more h (omega (arith, l.at_most.values, one-here u.0)) (omega (arith, ap (λ (s : Table). length s.labels) f.table, ap (λ (x : List (List ℕ)). length x) (value-labels (table_at a u.0) n))),
+      few-written a u.0 t (one_more_in u.0) none_more h (omega (arith, l.at_most.values, one-here u.0))
+          (omega (arith, ap (λ (s : Table). length s.labels) f.table, ap (λ (x : List (List ℕ)). length x) (value-labels (table_at a u.0) n))),
     )
 FindsValue-with_table (Err e) a u t n o h f = with_table-old a u.0 t f
 
-pub FindsLabel-with_table : (r : Result BlockId NoMemory) (a : Arena) (u : UnitId) (t : Table) (n : List ℕ) → IsArena a → u.0 < unit_count a → FindsLabelIn r (table_at a u.0) t n → FindsLabel r a (with_table a u.0 t) u n
+pub FindsLabel-with_table : (r : Result BlockId NoMemory) (a : Arena) (u : UnitId) (t : Table) (n : List ℕ) → IsArena a → u.0 < unit_count a → FindsLabelIn r (table_at a u.0) t n
+    → FindsLabel r a (with_table a u.0 t) u n
 FindsLabel-with_table (Ok v) a u t n o h f =
-    let l : Looked a u.0 (table_at a u.0) n (o.tables u.0 h) (o.placed u.0) t = subst (Looked a u.0 (table_at a u.0) n (o.tables u.0 h) (o.placed u.0)) (sym f.table) (looked-label a u.0 (table_at a u.0) n (o.tables u.0 h) (o.placed u.0)) in (
-      Finds-with_table a u.0 t h l.grown l.at_most l.says,
+    let l : Looked a u.0 (table_at a u.0) n (o.tables u.0 h) (o.placed u.0) t = subst (Looked a u.0 (table_at a u.0) n (o.tables u.0 h) (o.placed u.0)) (sym f.table)
+    (looked-label a u.0 (table_at a u.0) n (o.tables u.0 h) (o.placed u.0)) in (
+      FindsEntry-with_table a u.0 t h l.grown l.at_most l.says,
       subst (λ (s : Table). v.0 < length s.labels) (sym (table_at-same a u.0 t h)) f.within,
       ap (λ (s : Table). get_or s.labels v.0 []) (table_at-same a u.0 t h) ∙ get_or_from_slice_get t.labels v.0 n [] f.named,
-      few-written a u.0 t none_more (one_more_in u.0) h (omega (arith, ap (λ (s : Table). length s.values) f.table, ap (λ (x : List (List ℕ)). length x) (label-values (table_at a u.0) n))) (omega (arith, l.at_most.labels, one-here u.0)),
+      few-written a u.0 t none_more (one_more_in u.0) h (omega (arith, ap (λ (s : Table). length s.values) f.table, ap (λ (x : List (List ℕ)). length x) (label-values (table_at a u.0) n)))
+          (omega (arith, l.at_most.labels, one-here u.0)),
     )
 FindsLabel-with_table (Err e) a u t n o h f = with_table-old a u.0 t f
 
 -- the open unit is changed by f
-Says-with_table : (a : Arena) (u : UnitId) (t : Table) (f : UnitText → UnitText) → IsArena a → IsOpen a u → t.values ≡ (table_at a u.0).values → t.labels ≡ (table_at a u.0).labels → text_with a u.0 t ≡ f (unit_text_at a u.0) → Says a (with_table a u.0 t) u (change_last f (contents a))
-Says-with_table a u t f o p v l e = record {
+HasContents-with_table : (a : Arena) (u : UnitId) (t : Table) (f : UnitText → UnitText) → IsArena a → IsOpen a u → t.values ≡ (table_at a u.0).values → t.labels ≡ (table_at a u.0).labels
+    → text_with a u.0 t ≡ f (unit_text_at a u.0) → HasContents a (with_table a u.0 t) u (change_last f (contents a))
+HasContents-with_table a u t f o p v l e = record {
   says = contents-with_table a u t f o p e;
   is_open = p;
-  entries = KeepsEntries-by a (with_table a u.0 t) (omega (arith, length-set a.units u.0 t)) (λ w h. refl) (each_table Grown Grown-refl a u.0 t (open-within a u o p) (Grown-same (table_at a u.0) t v l));
+  entries = KeepsEntries-by a (with_table a u.0 t) (omega (arith, length-set a.units u.0 t)) (λ w h. refl)
+      (each_table Grown Grown-refl a u.0 t (open-within a u o p) (Grown-same (table_at a u.0) t v l));
   few = HasAtMost-same a (with_table a u.0 t) (omega (arith, length-set a.units u.0 t)) (each_table (AtMost 0) (AtMost-refl 0) a u.0 t (open-within a u o p) (AtMost-same (table_at a u.0) t v l));
   no_more = few-written a u.0 t none_more none_more (open-within a u o p) (omega (arith, ap (λ (x : List (List ℕ)). length x) v)) (omega (arith, ap (λ (x : List (List ℕ)). length x) l));
 }
@@ -252,11 +265,12 @@ module _ (a : Arena) (u : UnitId) (o : IsArena a) (p : IsOpen a u) where
   defines : (v : ℕ) (b : Bool) → v < length (table_at a u.0).values → is_defined (table_at a u.0) v ≡ b → OfOpen a (λ x. defines_value (value_name_at a u.0 v) x ≡ b)
   defines v b h e = open-of a u (λ x. defines_value (value_name_at a u.0 v) x ≡ b) p (defines_value-ids (unit_name_at a) (unit_name_at a u.0) (table_at a u.0) v (o.tables u.0 here) h ∙ e)
 
-  says-arg : (x : Arg) (s : Table) → s ≡ with_arg (table_at a u.0) x → Says a (with_table a u.0 s) u (change_last (text.with_arg (arg_text (naming a u.0) x)) (contents a))
-  says-arg x s e = subst (λ s. Says a (with_table a u.0 s) u (change_last (text.with_arg (arg_text (naming a u.0) x)) (contents a))) (sym e)
-      (Says-with_table a u (with_arg (table_at a u.0) x) (text.with_arg (arg_text (naming a u.0) x)) o p refl refl (text-with_arg a u.0 (table_at a u.0) x))
+  says-arg : (x : Arg) (s : Table) → s ≡ with_arg (table_at a u.0) x → HasContents a (with_table a u.0 s) u (change_last (text.with_arg (arg_text (naming a u.0) x)) (contents a))
+  says-arg x s e = subst (λ s. HasContents a (with_table a u.0 s) u (change_last (text.with_arg (arg_text (naming a u.0) x)) (contents a))) (sym e)
+      (HasContents-with_table a u (with_arg (table_at a u.0) x) (text.with_arg (arg_text (naming a u.0) x)) o p refl refl (text-with_arg a u.0 (table_at a u.0) x))
 
-  pub AddsArg-with_table : (r : Result (Unit {0}) UnitFault) (s : Table) (x : Arg) → x.value.0 < length (table_at a u.0).values → TakesArg r (table_at a u.0) s x → AddsArg r a (with_table a u.0 s) u (arg_text (naming a u.0) x)
+  pub AddsArg-with_table : (r : Result (Unit {0}) UnitFault) (s : Table) (x : Arg) → x.value.0 < length (table_at a u.0).values → TakesArg r (table_at a u.0) s x
+      → AddsArg r a (with_table a u.0 s) u (arg_text (naming a u.0) x)
   AddsArg-with_table (Ok _) s x h f = (defines x.value.0 false h f.0, says-arg x s f.1)
   AddsArg-with_table (Err fault.UnitTooLarge) s x h f = f
   AddsArg-with_table (Err fault.DuplicateName) s x h f = (defines x.value.0 true h f.0, with_table-old a u.0 s f.1)
@@ -264,16 +278,17 @@ module _ (a : Arena) (u : UnitId) (o : IsArena a) (p : IsOpen a u) where
 
   pub SetsResult-with_table : (s : Table) (ty : TypeTree) → s ≡ with_result (table_at a u.0) ty → SetsResult a (with_table a u.0 s) u ty
   SetsResult-with_table s ty e = subst (λ s. SetsResult a (with_table a u.0 s) u ty) (sym e)
-      (Says-with_table a u (with_result (table_at a u.0) ty) (text.with_result ty) o p refl refl (text-with_result a u.0 (table_at a u.0) ty))
+      (HasContents-with_table a u (with_result (table_at a u.0) ty) (text.with_result ty) o p refl refl (text-with_result a u.0 (table_at a u.0) ty))
 
   labelled : (b : ℕ) (c : Bool) → HasBlocks (kind_at a u.0) → b < length (table_at a u.0).labels → is_block (table_at a u.0).blocks b ≡ c → OfOpen a (λ x. defines_label (label_name_at a u.0 b) x ≡ c)
   labelled b c s h e = open-of a u (λ x. defines_label (label_name_at a u.0 b) x ≡ c) p (defines_label-ids (unit_name_at a) (unit_name_at a u.0) (table_at a u.0) b (o.tables u.0 here) s h ∙ e)
 
-  pub AddsBlock-with_table : (r : Result (Unit {0}) UnitFault) (s : Table) (b : BlockId) → HasBlocks (kind_at a u.0) → b.0 < length (table_at a u.0).labels → TakesBlock r (table_at a u.0) s b → AddsBlock r a (with_table a u.0 s) u (label_name_at a u.0 b.0)
+  pub AddsBlock-with_table : (r : Result (Unit {0}) UnitFault) (s : Table) (b : BlockId) → HasBlocks (kind_at a u.0) → b.0 < length (table_at a u.0).labels → TakesBlock r (table_at a u.0) s b
+      → AddsBlock r a (with_table a u.0 s) u (label_name_at a u.0 b.0)
   AddsBlock-with_table (Ok _) s b k h f = (
     labelled b.0 false k h f.0,
-    subst (λ s. Says a (with_table a u.0 s) u (change_last (text.with_block (label_name_at a u.0 b.0)) (contents a))) (sym f.1)
-        (Says-with_table a u (with_block (table_at a u.0) b) (text.with_block (label_name_at a u.0 b.0)) o p refl refl (text-with_block a u.0 (table_at a u.0) b (o.tables u.0 here) k h f.0)),
+    subst (λ s. HasContents a (with_table a u.0 s) u (change_last (text.with_block (label_name_at a u.0 b.0)) (contents a))) (sym f.1)
+        (HasContents-with_table a u (with_block (table_at a u.0) b) (text.with_block (label_name_at a u.0 b.0)) o p refl refl (text-with_block a u.0 (table_at a u.0) b (o.tables u.0 here) k h f.0)),
   )
   AddsBlock-with_table (Err fault.UnitTooLarge) s b k h f = f
   AddsBlock-with_table (Err fault.DuplicateName) s b k h f = (labelled b.0 true k h f.0, with_table-old a u.0 s f.1)
@@ -282,23 +297,26 @@ module _ (a : Arena) (u : UnitId) (o : IsArena a) (p : IsOpen a u) where
   counted : line_count (unit_text_at a u.0).blocks ≡ length (table_at a u.0).lines
   counted = line_count-ids (naming a u.0) (unit_name_at a u.0) (table_at a u.0) (o.tables u.0 here)
 
-  has_room : (v : Option ValueId) (i : Inst) → ResultWithin (length (table_at a u.0).values) v → length (table_at a u.0).lines < 65536 → result_defined (table_at a u.0) v ≡ false → OfOpen a (HasRoom (line_text_at a u.0 v i))
+  has_room : (v : Option ValueId) (i : Inst) → ResultWithin (length (table_at a u.0).values) v → length (table_at a u.0).lines < 65536 → result_defined (table_at a u.0) v ≡ false
+      → OfOpen a (HasRoom (line_text_at a u.0 v i))
   has_room v i w h e = open-of a u (HasRoom (line_text_at a u.0 v i)) p record {
     small = omega (arith, h, counted);
     undefined = defines_result-ids (unit_name_at a) (unit_name_at a u.0) (table_at a u.0) v (o.tables u.0 here) w ∙ e;
   }
 
-  has_twice : (v : Option ValueId) (i : Inst) → ResultWithin (length (table_at a u.0).values) v → length (table_at a u.0).lines < 65536 → result_defined (table_at a u.0) v ≡ true → OfOpen a (HasTwice (line_text_at a u.0 v i))
+  has_twice : (v : Option ValueId) (i : Inst) → ResultWithin (length (table_at a u.0).values) v → length (table_at a u.0).lines < 65536 → result_defined (table_at a u.0) v ≡ true
+      → OfOpen a (HasTwice (line_text_at a u.0 v i))
   has_twice v i w h e = open-of a u (HasTwice (line_text_at a u.0 v i)) p record {
     small = omega (arith, h, counted);
     twice = defines_result-ids (unit_name_at a) (unit_name_at a u.0) (table_at a u.0) v (o.tables u.0 here) w ∙ e;
   }
 
-  pub AddsLine-with_table : (r : Result InstId UnitFault) (s : Table) (v : Option ValueId) (i : Inst) → ResultWithin (length (table_at a u.0).values) v → 0 < length (table_at a u.0).blocks → TakesLine r (table_at a u.0) s v i → AddsLine r a (with_table a u.0 s) u (line_text_at a u.0 v i)
+  pub AddsLine-with_table : (r : Result InstId UnitFault) (s : Table) (v : Option ValueId) (i : Inst) → ResultWithin (length (table_at a u.0).values) v → 0 < length (table_at a u.0).blocks
+      → TakesLine r (table_at a u.0) s v i → AddsLine r a (with_table a u.0 s) u (line_text_at a u.0 v i)
   AddsLine-with_table (Ok id) s v i w h f = (
     has_room v i w f.0 f.1,
-    subst (λ s. Says a (with_table a u.0 s) u (change_last (text.with_line (line_text_at a u.0 v i)) (contents a))) (sym f.3)
-        (Says-with_table a u (with_line (table_at a u.0) v i) (text.with_line (line_text_at a u.0 v i)) o p refl refl (text-with_line a u.0 (table_at a u.0) v i (o.tables u.0 here) h)),
+    subst (λ s. HasContents a (with_table a u.0 s) u (change_last (text.with_line (line_text_at a u.0 v i)) (contents a))) (sym f.3)
+        (HasContents-with_table a u (with_line (table_at a u.0) v i) (text.with_line (line_text_at a u.0 v i)) o p refl refl (text-with_line a u.0 (table_at a u.0) v i (o.tables u.0 here) h)),
     f.2,
   )
   AddsLine-with_table (Err fault.UnitTooLarge) s v i w h f = (open-of a u (λ x. line_count x.blocks ≡ 65536) p (counted ∙ f.0), with_table-old a u.0 s f.1)

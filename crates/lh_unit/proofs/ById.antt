@@ -8,7 +8,7 @@ use Rattle.lh_unit.specs.Typing.{or_else, line_giving, inst_giving, arg_named}
 use Rattle.lh_unit.specs.Table.{HasBlocks, ArgsWithin, BlocksWithin, ResultWithin, ResultsWithin, is_arg, is_result, is_made, is_defined, is_block, line_at, no_line, insts_at, flat}
 use Rattle.lh_unit.specs.Naming.{inst_text, line_text, arg_text, label_text, block_text, maybe_text}
 use Rattle.lh_unit.specs.Arena.{Arena, IsArena, contents, item_text_at, unit_text_at, naming, table_at, kind_at, args_at, blocks_at, unit_count, value_count, label_count, unit_name_at, value_name_at, label_name_at}
-use Rattle.lh_unit.specs.ById.{arg_being, inst_making, insts_make, blocks_make, is_item, inst_line}
+use Rattle.lh_unit.specs.ById.{arg_being, inst_making, insts_make, blocks_make, is_item, inst_line_text}
 use Rattle.lh_unit.specs.declared.inst.UnitId.{UnitId}
 use Rattle.lh_unit.specs.declared.inst.UnitKind.{UnitKind}
 use Rattle.lh_unit.specs.declared.inst.BlockId.{BlockId}
@@ -61,20 +61,23 @@ same_unit-by_id a v w o p q = by (same_or v w)
   where
     by : Same v w → same_unit_name (unit_name_at a v) (unit_name_at a w) ≡ nat_eq v w
     by (same e) = ap (λ k. same_unit_name (unit_name_at a k) (unit_name_at a w)) e ∙ same_unit_name-refl (unit_name_at a w) ∙ sym (ap (λ k. nat_eq k w) e ∙ nat_eq-refl w)
-    by (other e) = not_true (same_unit_name (unit_name_at a v) (unit_name_at a w)) (λ r. e (unit-by_name a v w o p q (same_unit_name-is (unit_name_at a v) (unit_name_at a w) r))) ∙ sym (nat_eq-other v w e)
+    by (other e) = not_true (same_unit_name (unit_name_at a v) (unit_name_at a w)) (λ r. e (unit-by_name a v w o p q (same_unit_name-is (unit_name_at a v) (unit_name_at a w) r)))
+        ∙ sym (nat_eq-other v w e)
 
 -- each unit of these items is an entry
 abbrev pub UnitsWithin : ℕ → List Item → Type 0
 UnitsWithin n items = (i : ℕ) (w : UnitId) → slice_get items i ≡ Some (item.Unit w) → w.0 < n
 
-defines_unit-among : (a : Arena) (v : ℕ) (items : List Item) → IsArena a → v < unit_count a → UnitsWithin (unit_count a) items → defines_unit (unit_name_at a v) (map (item_text_at a) items) ≡ is_item items v
+defines_unit-among : (a : Arena) (v : ℕ) (items : List Item) → IsArena a → v < unit_count a → UnitsWithin (unit_count a) items
+    → defines_unit (unit_name_at a v) (map (item_text_at a) items) ≡ is_item items v
 defines_unit-among a v [] o p w = refl
 defines_unit-among a v (item.Unit x ∷ items) o p w =
     let q : same_unit_name (unit_name_at a x.0) (unit_name_at a v) ≡ nat_eq x.0 v = same_unit-by_id a x.0 v o (w 0 x refl) p in
     let r : defines_unit (unit_name_at a v) (map (item_text_at a) items) ≡ is_item items v = defines_unit-among a v items o p (λ i y e. w (suc i) y e) in λ i. q i || r i
 defines_unit-among a v (item.Declare d ∷ items) o p w = defines_unit-among a v items o p (λ i y e. w (suc i) y e)
 
-unit_named-among : (a : Arena) (v : ℕ) (items : List Item) → IsArena a → v < unit_count a → UnitsWithin (unit_count a) items → unit_named (unit_name_at a v) (map (item_text_at a) items) ≡ (if is_item items v then Some (unit_text_at a v) else None)
+unit_named-among : (a : Arena) (v : ℕ) (items : List Item) → IsArena a → v < unit_count a → UnitsWithin (unit_count a) items
+    → unit_named (unit_name_at a v) (map (item_text_at a) items) ≡ (if is_item items v then Some (unit_text_at a v) else None)
 unit_named-among a v [] o p w = refl
 unit_named-among a v (item.Unit x ∷ items) o p w =
     let q : same_unit_name (unit_name_at a x.0) (unit_name_at a v) ≡ nat_eq x.0 v = same_unit-by_id a x.0 v o (w 0 x refl) p in
@@ -138,17 +141,18 @@ module _ (a : Arena) (u : ℕ) (o : IsArena a) (h : u < unit_count a) where
   pub args_define-by_id : (v : ℕ) → v < value_count a u → args_define (value_name_at a u v) (unit_text_at a u).args ≡ is_arg (args_at a u) v
   args_define-by_id v p = arg-ids (unit_name_at a) (table_at a u) (o.tables u h) v (args_at a u) p (o.tables u h).args_within
 
-  pub lines_define-by_id : (v : ℕ) (is : List InstId) → v < value_count a u → lines_define (value_name_at a u v) (map (inst_line (naming a u) (table_at a u)) is) ≡ insts_make (table_at a u) is v
+  pub lines_define-by_id : (v : ℕ) (is : List InstId) → v < value_count a u → lines_define (value_name_at a u v) (map (inst_line_text (naming a u) (table_at a u)) is) ≡ insts_make (table_at a u) is v
   lines_define-by_id v [] p = refl
   lines_define-by_id v (i ∷ is) p =
       let q : is_result_name (value_name_at a u v) (maybe_text (naming a u) (line_at (table_at a u) i.0).result) ≡ is_result (line_at (table_at a u) i.0).result v =
       is_result_name-by_id v (line_at (table_at a u) i.0).result p (result-within i.0) in
-      let r : lines_define (value_name_at a u v) (map (inst_line (naming a u) (table_at a u)) is) ≡ insts_make (table_at a u) is v = lines_define-by_id v is p in λ j. q j || r j
+      let r : lines_define (value_name_at a u v) (map (inst_line_text (naming a u) (table_at a u)) is) ≡ insts_make (table_at a u) is v = lines_define-by_id v is p in λ j. q j || r j
 
   pub blocks_define-by_id : (v : ℕ) (bs : List BlockId) → v < value_count a u → blocks_define (value_name_at a u v) (map (block_text (naming a u) (table_at a u)) bs) ≡ blocks_make (table_at a u) bs v
   blocks_define-by_id v [] p = refl
   blocks_define-by_id v (b ∷ bs) p =
-      let q : lines_define (value_name_at a u v) (map (inst_line (naming a u) (table_at a u)) (insts_at (table_at a u) b.0)) ≡ insts_make (table_at a u) (insts_at (table_at a u) b.0) v = lines_define-by_id v (insts_at (table_at a u) b.0) p in
+      let q : lines_define (value_name_at a u v) (map (inst_line_text (naming a u) (table_at a u)) (insts_at (table_at a u) b.0)) ≡ insts_make (table_at a u) (insts_at (table_at a u) b.0) v =
+      lines_define-by_id v (insts_at (table_at a u) b.0) p in
       let r : blocks_define (value_name_at a u v) (map (block_text (naming a u) (table_at a u)) bs) ≡ blocks_make (table_at a u) bs v = blocks_define-by_id v bs p in λ j. q j || r j
 
   pub all_blocks_define-by_id : (v : ℕ) → v < value_count a u → blocks_define (value_name_at a u v) (unit_text_at a u).blocks ≡ is_made (table_at a u).lines v
@@ -185,7 +189,8 @@ module _ (a : Arena) (u : ℕ) (o : IsArena a) (h : u < unit_count a) where
           ap (λ c. if c then Some (inst_text (naming a u) l.inst) else line_giving (value_name_at a u v) (map (line_text (naming a u)) ls)) (is_result_name-by_id v l.result p w.0)
           ∙ chosen (inst_text (naming a u)) (is_result l.result v) l.inst (line_giving (value_name_at a u v) (map (line_text (naming a u)) ls)) (inst_making ls v) (by ls w.1)
 
-  pub block_of-by_id : (b : ℕ) → HasBlocks (kind_at a u) → b < label_count a u → block_of (label_name_at a u b) (unit_text_at a u).blocks ≡ (if is_block (blocks_at a u) b then Some (block_text (naming a u) (table_at a u) record { 0 = b }) else None)
+  pub block_of-by_id : (b : ℕ) → HasBlocks (kind_at a u) → b < label_count a u
+      → block_of (label_name_at a u b) (unit_text_at a u).blocks ≡ (if is_block (blocks_at a u) b then Some (block_text (naming a u) (table_at a u) record { 0 = b }) else None)
   block_of-by_id b k p = by (blocks_at a u) (blocks-within (kind_at a u) (table_at a u) k (o.tables u h).fits_kind)
     where
       text : BlockId → BlockText
@@ -194,10 +199,13 @@ module _ (a : Arena) (u : ℕ) (o : IsArena a) (h : u < unit_count a) where
       rest : List BlockId → Option BlockText
       rest bs = block_of (label_name_at a u b) (map (block_text (naming a u) (table_at a u)) bs)
 
-      by : (bs : List BlockId) → BlocksWithin (label_count a u) bs → block_of (label_name_at a u b) (map (block_text (naming a u) (table_at a u)) bs) ≡ (if is_block bs b then Some (block_text (naming a u) (table_at a u) record { 0 = b }) else None)
+      by : (bs : List BlockId) → BlocksWithin (label_count a u) bs → block_of (label_name_at a u b) (map (block_text (naming a u) (table_at a u)) bs)
+          ≡ (if is_block bs b then Some (block_text (naming a u) (table_at a u) record { 0 = b }) else None)
       by [] w = refl
       by (x ∷ bs) w =
-          let q : is_result_name (label_name_at a u b) (label_text (naming a u) (kind_at a u) x) ≡ nat_eq x.0 b = ap (is_result_name (label_name_at a u b)) (label_text-named (naming a u) (kind_at a u) x k) ∙ same_label-by_id x.0 b w.0 p in
+          let q : is_result_name (label_name_at a u b) (label_text (naming a u) (kind_at a u) x) ≡ nat_eq x.0 b =
+          ap (is_result_name (label_name_at a u b)) (label_text-named (naming a u) (kind_at a u) x k) ∙ same_label-by_id x.0 b w.0 p in
           ap (λ c. if c then Some (block_text (naming a u) (table_at a u) x) else block_of (label_name_at a u b) (map (block_text (naming a u) (table_at a u)) bs)) q
-          ∙ choose (nat_eq x.0 b) (is_block bs b) (block_text (naming a u) (table_at a u) x) (block_text (naming a u) (table_at a u) record { 0 = b }) (block_of (label_name_at a u b) (map (block_text (naming a u) (table_at a u)) bs))
+          ∙ choose (nat_eq x.0 b) (is_block bs b) (block_text (naming a u) (table_at a u) x) (block_text (naming a u) (table_at a u) record { 0 = b }) (block_of (label_name_at a u b)
+          (map (block_text (naming a u) (table_at a u)) bs))
           (λ e. ap (block_text (naming a u) (table_at a u)) (λ i. record { 0 = nat_eq-is x.0 b e i })) (by bs w.1)

@@ -12,7 +12,7 @@ use Rattle.lh_unit.specs.Table.{Table, is_block, line_at, no_line}
 use Rattle.lh_unit.specs.Within.{Each}
 use Rattle.lh_unit.specs.Naming.{Naming, inst_text, operand_text, trigger_text, edge_text, value_text, maybe_text, block_text}
 use Rattle.lh_unit.specs.Arena.{Arena, IsArena, InstPlaced, naming, table_at, inst_at, unit_count, label_count, inst_count, label_name_at, block_insts_at, blocks_at}
-use Rattle.lh_unit.specs.ById.{operand_ids, maybe_id, trigger_ids, values_used, blocks_led_to, blocks_named, unit_ids, ends_block, last_led_to, successors, inst_line}
+use Rattle.lh_unit.specs.ById.{operand_ids, maybe_id, trigger_ids, values_used, blocks_led_to, blocks_named, unit_ids, ends_block, last_led_to, successors, inst_line_text}
 use Rattle.lh_unit.specs.declared.inst.UnitId.{UnitId}
 use Rattle.lh_unit.specs.declared.inst.BlockId.{BlockId}
 use Rattle.lh_unit.specs.declared.inst.InstId.{InstId}
@@ -39,7 +39,8 @@ module _ (f : Naming) where
   maybe-named need None = refl
   maybe-named need (Some v) = refl
 
-  edges-named : (es : List PhiEdge) → map (λ (x : Use). x.value) (map (λ (e : EdgeText). used data_or_time_needed e.value) (map (edge_text f) es)) ≡ map (value_text f) (map (λ (e : PhiEdge). e.value) es)
+  edges-named : (es : List PhiEdge) → map (λ (x : Use). x.value) (map (λ (e : EdgeText). used data_or_time_needed e.value) (map (edge_text f) es))
+      ≡ map (value_text f) (map (λ (e : PhiEdge). e.value) es)
   edges-named [] = refl
   edges-named (e ∷ es) = ap (λ l. value_text f e.value ∷ l) (edges-named es)
 
@@ -50,7 +51,8 @@ module _ (f : Naming) where
   triggers-named : (gs : List RegTrigger) → map (λ (x : Use). x.value) (trigger_uses (map (trigger_text f) gs)) ≡ map (value_text f) (trigger_ids gs)
   triggers-named [] = refl
   triggers-named (g ∷ gs) =
-      let first : map (λ (x : Use). x.value) (maybe_used data_needed (maybe_text f g.gate) ++ maybe_used time_needed (maybe_text f g.after)) ≡ map (value_text f) (maybe_id g.gate ++ maybe_id g.after) =
+      let first : map (λ (x : Use). x.value) (maybe_used data_needed (maybe_text f g.gate) ++ maybe_used time_needed (maybe_text f g.after))
+      ≡ map (value_text f) (maybe_id g.gate ++ maybe_id g.after) =
       map-append (λ (x : Use). x.value) (maybe_used data_needed (maybe_text f g.gate)) (maybe_used time_needed (maybe_text f g.after))
       ∙ (λ i. maybe-named data_needed g.gate i ++ maybe-named time_needed g.after i)
       ∙ sym (map-append (value_text f) (maybe_id g.gate) (maybe_id g.after)) in
@@ -128,7 +130,7 @@ module _ (f : Naming) where
   is_terminator-by_id _ = refl
 
   -- the labels that the last of these instructions names
-  pub last_leads_to-by_id : (t : Table) (is : List InstId) → last_leads_to (map (inst_line f t) is) ≡ map (λ (b : BlockId). f.label_name b.0) (last_led_to t is)
+  pub last_leads_to-by_id : (t : Table) (is : List InstId) → last_leads_to (map (inst_line_text f t) is) ≡ map (λ (b : BlockId). f.label_name b.0) (last_led_to t is)
   last_leads_to-by_id t [] = refl
   last_leads_to-by_id t (i ∷ []) = leads_to-by_id (line_at t i.0).inst
   last_leads_to-by_id t (i ∷ j ∷ is) = last_leads_to-by_id t (j ∷ is)
@@ -140,7 +142,8 @@ led_to-within a u (inst.Branch cond first second) w = (w.1, (w.2, tt))
 led_to-within a u (inst.Wait to after signals) w = (w.0, tt)
 led_to-within a u _ w = tt
 
-pub last_led_to-within : (a : Arena) (u : ℕ) (is : List InstId) → IsArena a → Each (λ (i : InstId). i.0 < inst_count a u) is → Each (λ (b : BlockId). b.0 < label_count a u) (last_led_to (table_at a u) is)
+pub last_led_to-within : (a : Arena) (u : ℕ) (is : List InstId) → IsArena a → Each (λ (i : InstId). i.0 < inst_count a u) is
+    → Each (λ (b : BlockId). b.0 < label_count a u) (last_led_to (table_at a u) is)
 last_led_to-within a u [] o w = tt
 last_led_to-within a u (i ∷ []) o w = led_to-within a u (inst_at a u i.0) (o.placed u i.0 (line_at (table_at a u) i.0) (slice_get-get_or (table_at a u).lines i.0 no_line w.0))
 last_led_to-within a u (i ∷ j ∷ is) o w = last_led_to-within a u (j ∷ is) o w.1
@@ -157,7 +160,8 @@ pub last-led : (t : Table) (is : List InstId) (x : InstId) → slice_get is (len
 last-led t is x e = last-of t is (length is - 1) x (omega (arith, slice_get_within is (length is - 1) x e)) e
 
 module _ (a : Arena) (u : ℕ) (o : IsArena a) (h : u < unit_count a) where
-  among-labels : (bs : List BlockId) (c : ℕ) → c < label_count a u → Each (λ (b : BlockId). b.0 < label_count a u) bs → list_any (λ m. same_name m (label_name_at a u c)) (map (λ (b : BlockId). label_name_at a u b.0) bs) ≡ is_block bs c
+  among-labels : (bs : List BlockId) (c : ℕ) → c < label_count a u → Each (λ (b : BlockId). b.0 < label_count a u) bs
+      → list_any (λ m. same_name m (label_name_at a u c)) (map (λ (b : BlockId). label_name_at a u b.0) bs) ≡ is_block bs c
   among-labels [] c p w = refl
   among-labels (b ∷ bs) c p w =
       let q : same_name (label_name_at a u b.0) (label_name_at a u c) ≡ nat_eq b.0 c = same_label-by_id a u o h b.0 c w.0 p in
@@ -167,7 +171,8 @@ module _ (a : Arena) (u : ℕ) (o : IsArena a) (h : u < unit_count a) where
   pub successors-within : (j : ℕ) (b : BlockId) → slice_get (blocks_at a u) j ≡ Some b → Each (λ (x : BlockId). x.0 < label_count a u) (successors (table_at a u) b)
   successors-within j b p = last_led_to-within a u (block_insts_at a u b.0) o (block_insts-within a u j b o h p)
 
-  pub has_edge-by_id : (j : ℕ) (b : BlockId) (c : ℕ) → slice_get (blocks_at a u) j ≡ Some b → c < label_count a u → has_edge (block_text (naming a u) (table_at a u) b) (label_name_at a u c) ≡ is_block (successors (table_at a u) b) c
+  pub has_edge-by_id : (j : ℕ) (b : BlockId) (c : ℕ) → slice_get (blocks_at a u) j ≡ Some b → c < label_count a u → has_edge (block_text (naming a u) (table_at a u) b) (label_name_at a u c)
+      ≡ is_block (successors (table_at a u) b) c
   has_edge-by_id j b c p q =
       ap (list_any (λ m. same_name m (label_name_at a u c))) (last_leads_to-by_id (naming a u) (table_at a u) (block_insts_at a u b.0))
       ∙ among-labels (successors (table_at a u) b) c q (successors-within j b p)

@@ -63,7 +63,8 @@ time_of_all_three : gives "t" (const_text (time_value (record { fs = 1000000; de
 unfolding digits
 time_of_all_three = refl
 
-times : (time_text 3000000000000000 ≡ codes "3s") × (time_text 20000000000000 ≡ codes "20ms") × (time_text 7000000000 ≡ codes "7us") × (time_text 1001 ≡ codes "1001fs") × (time_text 18446744073709551615 ≡ codes "18446744073709551615fs")
+times : (time_text 3000000000000000 ≡ codes "3s") × (time_text 20000000000000 ≡ codes "20ms") × (time_text 7000000000 ≡ codes "7us") × (time_text 1001 ≡ codes "1001fs")
+    × (time_text 18446744073709551615 ≡ codes "18446744073709551615fs")
 unfolding digits
 times = (refl, refl, refl, refl, refl)
 
@@ -154,7 +155,8 @@ function_header : render (header kind.Func (at "acc_tb_check") (argument false i
 unfolding digits
 function_header = refl
 
-process_header : render (header kind.Proc (at "acc_ff") (argument false (signal_type i1) "clk" ∷ argument false (signal_type i32) "d" ∷ argument true (signal_type i32) "q" ∷ []) None) ≡ codes "proc @acc_ff (i1$ %clk, i32$ %d) -> (i32$ %q) {"
+process_header : render (header kind.Proc (at "acc_ff") (argument false (signal_type i1) "clk" ∷ argument false (signal_type i32) "d" ∷ argument true (signal_type i32) "q" ∷ []) None)
+    ≡ codes "proc @acc_ff (i1$ %clk, i32$ %d) -> (i32$ %q) {"
 unfolding digits
 process_header = refl
 
@@ -178,7 +180,8 @@ file : canon (unit_text (record {
       ∷ [];
 })
     ∷ declare_text (declare.Func (at "f") [] void_type) ∷ [])
-    ≡ codes "proc @p () -> () {" ++ 10 ∷ codes "entry:" ++ 10 ∷ codes "    call void @f ()" ++ 10 ∷ codes "    br %end" ++ 10 ∷ codes "end:" ++ 10 ∷ codes "    halt" ++ 10 ∷ codes "}" ++ 10 ∷ codes "declare @f () void" ++ 10 ∷ []
+    ≡ codes "proc @p () -> () {" ++ 10 ∷ codes "entry:" ++ 10 ∷ codes "    call void @f ()" ++ 10 ∷ codes "    br %end" ++ 10 ∷ codes "end:" ++ 10 ∷ codes "    halt" ++ 10 ∷ codes "}" ++ 10
+    ∷ codes "declare @f () void" ++ 10 ∷ []
 file = refl
 
 -- the sample with one signal that is driven once
@@ -198,6 +201,7 @@ blink : canon (unit_text (record {
         ∷ [];
   } ∷ [];
 }) ∷ [])
-    ≡ codes "entity @t () -> () {" ++ 10 ∷ codes "    %z = const i1 0" ++ 10 ∷ codes "    %o = const i1 1" ++ 10 ∷ codes "    %d = const time 1ns" ++ 10 ∷ codes "    %a = sig i1 %z" ++ 10 ∷ codes "    drv i1$ %a, %o after %d" ++ 10 ∷ codes "}" ++ 10 ∷ []
+    ≡ codes "entity @t () -> () {" ++ 10 ∷ codes "    %z = const i1 0" ++ 10 ∷ codes "    %o = const i1 1" ++ 10 ∷ codes "    %d = const time 1ns" ++ 10 ∷ codes "    %a = sig i1 %z" ++ 10
+    ∷ codes "    drv i1$ %a, %o after %d" ++ 10 ∷ codes "}" ++ 10 ∷ []
 unfolding digits
 blink = refl

@@ -72,7 +72,8 @@ unit_text-table a u v t h = ap (λ s. table_text (naming_of (unit_name_at a) s) 
 pub unit_text-table_same : (a : Arena) (u : ℕ) (t : Table) → u < unit_count a → unit_text_at (with_table a u t) u ≡ text_with a u t
 unit_text-table_same a u t h = ap (λ s. table_text (naming_of (unit_name_at a) s) (unit_name_at a u) s) (table_at-same a u t h)
 
-pub contents-with_table : (a : Arena) (u : UnitId) (t : Table) (f : UnitText → UnitText) → IsArena a → IsOpen a u → text_with a u.0 t ≡ f (unit_text_at a u.0) → contents (with_table a u.0 t) ≡ change_last f (contents a)
+pub contents-with_table : (a : Arena) (u : UnitId) (t : Table) (f : UnitText → UnitText) → IsArena a → IsOpen a u → text_with a u.0 t ≡ f (unit_text_at a u.0)
+    → contents (with_table a u.0 t) ≡ change_last f (contents a)
 contents-with_table a u t f o p e =
     contents-open (with_table a u.0 t) u p
     ∙ (λ i. others i ++ unit_text (last i) ∷ [])
@@ -93,7 +94,8 @@ contents-with_table a u t f o p e =
 
 -- what each call does to the text of its unit
 pub text-with_arg : (a : Arena) (u : ℕ) (t : Table) (x : Arg) → text_with a u (with_arg t x) ≡ text.with_arg (arg_text (naming_of (unit_name_at a) t) x) (text_with a u t)
-text-with_arg a u t x = let e : map (arg_text (naming_of (unit_name_at a) t)) (t.args ++ x ∷ []) ≡ map (arg_text (naming_of (unit_name_at a) t)) t.args ++ arg_text (naming_of (unit_name_at a) t) x ∷ [] = map-append (arg_text (naming_of (unit_name_at a) t)) t.args (x ∷ []) in
+text-with_arg a u t x = let e : map (arg_text (naming_of (unit_name_at a) t)) (t.args ++ x ∷ []) ≡ map (arg_text (naming_of (unit_name_at a) t)) t.args ++ arg_text (naming_of (unit_name_at a) t) x
+    ∷ [] = map-append (arg_text (naming_of (unit_name_at a) t)) t.args (x ∷ []) in
     λ i. record { kind = kind_text t.kind; name = unit_name_at a u; args = e i; result = t.result; blocks = map (block_text (naming_of (unit_name_at a) t) t) t.blocks }
 
 pub text-with_result : (a : Arena) (u : ℕ) (t : Table) (ty : TypeTree) → text_with a u (with_result t ty) ≡ text.with_result ty (text_with a u t)
@@ -147,7 +149,8 @@ text-with_line a u t r i o h =
     s = last-split t h
 
     -- the lines before stay
-    before_it : (x : BlockId) (j : ℕ) → slice_get t.blocks j ≡ Some x → map (λ (k : InstId). line_text f (line_at now k.0)) (insts_at t x.0) ≡ map (λ (k : InstId). line_text f (line_at t k.0)) (insts_at t x.0)
+    before_it : (x : BlockId) (j : ℕ) → slice_get t.blocks j ≡ Some x → map (λ (k : InstId). line_text f (line_at now k.0)) (insts_at t x.0)
+        ≡ map (λ (k : InstId). line_text f (line_at t k.0)) (insts_at t x.0)
     before_it x j q = map-each (λ (k : InstId). k.0 < length t.lines) (λ (k : InstId). line_text f (line_at now k.0)) (λ (k : InstId). line_text f (line_at t k.0)) (insts_at t x.0)
         (λ k w. ap (line_text f) (get_or_append_left t.lines (line ∷ []) no_line k.0 w)) (insts-within t o j x q)
 
@@ -166,7 +169,8 @@ text-with_line a u t r i o h =
 
     last : block_text f now (last_block t) ≡ record (block_text f t (last_block t)) { lines = (block_text f t (last_block t)).lines ++ line_text f line ∷ [] }
     last =
-        let w : insts_at now b ≡ insts_at t b ++ record { 0 = length t.lines } ∷ [] = ap (λ x. unwrap_or x []) (get_or-set_same t.bodies b (Some (insts_at t b ++ record { 0 = length t.lines } ∷ [])) None (last-within t o h)) in
+        let w : insts_at now b ≡ insts_at t b ++ record { 0 = length t.lines }
+        ∷ [] = ap (λ x. unwrap_or x []) (get_or-set_same t.bodies b (Some (insts_at t b ++ record { 0 = length t.lines } ∷ [])) None (last-within t o h)) in
         let n : get_or (t.lines ++ line ∷ []) (length t.lines) no_line ≡ line = get_or_push t.lines line no_line (length t.lines) refl in
         let l : map (λ (k : InstId). line_text f (line_at now k.0)) (insts_at now b) ≡ map (λ (k : InstId). line_text f (line_at t k.0)) (insts_at t b) ++ line_text f line ∷ [] =
         ap (map (λ (k : InstId). line_text f (line_at now k.0))) w

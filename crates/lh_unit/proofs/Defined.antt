@@ -50,7 +50,8 @@ module _ (units : ℕ → UnitName) (t : Table) (o : IsTable t) where
       let r : lines_define (get_or t.values v []) (map (line_text (naming_of units t)) ls) ≡ is_made ls v = line-ids v ls h w.1 in λ i. p i || r i
 
 -- the lines of a unit's blocks are its instructions in file order
-lines_by_id : {Y : Type 0} (g : Line → Y) (all : List Line) (k : ℕ) (ls : List Line) → ((j : ℕ) → j < length ls → get_or all (k + j) no_line ≡ get_or ls j no_line) → map (λ (i : InstId). g (get_or all i.0 no_line)) (ids_from k ls) ≡ map g ls
+lines_by_id : {Y : Type 0} (g : Line → Y) (all : List Line) (k : ℕ) (ls : List Line) → ((j : ℕ) → j < length ls → get_or all (k + j) no_line ≡ get_or ls j no_line)
+    → map (λ (i : InstId). g (get_or all i.0 no_line)) (ids_from k ls) ≡ map g ls
 lines_by_id g all k [] h = refl
 lines_by_id g all k (l ∷ ls) h =
     let n : k ≡ k + 0 = omega arith in
@@ -84,14 +85,17 @@ pub line_count-ids : (f : Naming) (n : UnitName) (t : Table) → IsTable t → l
 line_count-ids f n t o = line_count-flat (map (block_text f t) t.blocks) ∙ ap (λ l. length l) (flat_lines f t o) ∙ length-map t.lines (line_text f)
 
 -- a value that the text defines
-pub defines_value-ids : (units : ℕ → UnitName) (n : UnitName) (t : Table) (v : ℕ) → IsTable t → v < length t.values → defines_value (get_or t.values v []) (table_text (naming_of units t) n t) ≡ is_defined t v
+pub defines_value-ids : (units : ℕ → UnitName) (n : UnitName) (t : Table) (v : ℕ) → IsTable t → v < length t.values → defines_value (get_or t.values v []) (table_text (naming_of units t) n t)
+    ≡ is_defined t v
 defines_value-ids units n t v o h =
     let p : args_define (get_or t.values v []) (map (arg_text (naming_of units t)) t.args) ≡ is_arg t.args v = arg-ids units t o v t.args h o.args_within in
     let q : blocks_define (get_or t.values v []) (map (block_text (naming_of units t) t) t.blocks) ≡ is_made t.lines v =
-    blocks_define-flat (get_or t.values v []) (map (block_text (naming_of units t) t) t.blocks) ∙ ap (lines_define (get_or t.values v [])) (flat_lines (naming_of units t) t o) ∙ line-ids units t o v t.lines h o.results_within in
+    blocks_define-flat (get_or t.values v []) (map (block_text (naming_of units t) t) t.blocks) ∙ ap (lines_define (get_or t.values v [])) (flat_lines (naming_of units t) t o)
+    ∙ line-ids units t o v t.lines h o.results_within in
     λ i. p i || q i
 
-pub defines_result-ids : (units : ℕ → UnitName) (n : UnitName) (t : Table) (r : Option ValueId) → IsTable t → ResultWithin (length t.values) r → defines_result (maybe_text (naming_of units t) r) (table_text (naming_of units t) n t) ≡ result_defined t r
+pub defines_result-ids : (units : ℕ → UnitName) (n : UnitName) (t : Table) (r : Option ValueId) → IsTable t → ResultWithin (length t.values) r
+    → defines_result (maybe_text (naming_of units t) r) (table_text (naming_of units t) n t) ≡ result_defined t r
 defines_result-ids units n t None o h = refl
 defines_result-ids units n t (Some v) o h = defines_value-ids units n t v.0 o h
 
@@ -108,7 +112,8 @@ blocks-within (Some kind.Func) t h f = f.1
 blocks-within (Some kind.Proc) t h f = f.1
 blocks-within (Some kind.Entity) t h f = absurd h
 
-pub defines_label-ids : (units : ℕ → UnitName) (n : UnitName) (t : Table) (b : ℕ) → IsTable t → HasBlocks t.kind → b < length t.labels → defines_label (get_or t.labels b []) (table_text (naming_of units t) n t) ≡ is_block t.blocks b
+pub defines_label-ids : (units : ℕ → UnitName) (n : UnitName) (t : Table) (b : ℕ) → IsTable t → HasBlocks t.kind → b < length t.labels
+    → defines_label (get_or t.labels b []) (table_text (naming_of units t) n t) ≡ is_block t.blocks b
 defines_label-ids units n t b o h w = by t.blocks (blocks-within t.kind t h o.fits_kind)
   where
     f : Naming

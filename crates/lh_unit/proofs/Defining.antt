@@ -10,7 +10,7 @@ use Rattle.lh_unit.specs.declared.inst.ValueDef.TheVariants as value_def
 use Rattle.lh_unit.specs.declared.inst.Inst.{Inst}
 use Rattle.lh_unit.specs.declared.inst.Arg.{Arg}
 use Rattle.lh_unit.specs.declared.table.Line.{Line}
-use Rattle.lh_unit.proofs.Lists.{Place, before, at, past, place, nat_eq-refl, nat_eq-other, nat_eq-is, not_true, or_false, or_true, or-assoc, some_inj, slice_get-push, slice_get-push_before}
+use Rattle.lh_unit.proofs.Lists.{Trichotomy, before, at, past, trichotomy, nat_eq-refl, nat_eq-other, nat_eq-is, not_true, or_false, or_true, or-assoc, some_inj, slice_get-push, slice_get-push_before}
 
 pub is_arg-push : (xs : List Arg) (a : Arg) (k : ℕ) → is_arg (xs ++ a ∷ []) k ≡ (is_arg xs k || nat_eq a.value.0 k)
 is_arg-push [] a k = or_false (nat_eq a.value.0 k)
@@ -117,9 +117,9 @@ fresh-result t (Some v) k n p = fresh t v.0 k n p
 after-arg : (t : Table) (a : Arg) (k : ℕ) (d : ValueDef) → is_defined t a.value.0 ≡ false → IsDefinition (with_arg t a) k d → After t k (value_def.Arg (length t.args)) (nat_eq a.value.0 k) d
 after-arg t a k value_def.Missing n p = let q = or-none (is_defined t k) (nat_eq a.value.0 k) (sym (is_defined-with_arg t a k) ∙ p) in old q.0 q.1
 after-arg t a k (value_def.Inst i) n p = old p (fresh t a.value.0 k n (definition-tells t k (value_def.Inst i) p))
-after-arg t a k (value_def.Arg j) n p = by (place (length t.args) j)
+after-arg t a k (value_def.Arg j) n p = by (trichotomy (length t.args) j)
   where
-    by : Place (length t.args) j → After t k (value_def.Arg (length t.args)) (nat_eq a.value.0 k) (value_def.Arg j)
+    by : Trichotomy (length t.args) j → After t k (value_def.Arg (length t.args)) (nat_eq a.value.0 k) (value_def.Arg j)
     by (before h) =
         let q : IsDefinition t k (value_def.Arg j) = (h, sym (ap (option_map (λ (x : Arg). x.value)) (slice_get-push_before t.args a j h)) ∙ p.1) in
         old q (fresh t a.value.0 k n (definition-tells t k (value_def.Arg j) q))
@@ -129,15 +129,16 @@ after-arg t a k (value_def.Arg j) n p = by (place (length t.args) j)
         now (ap (λ (v : ValueId). nat_eq v.0 k) e ∙ nat_eq-refl k) (ap value_def.Arg h)
     by (past h) = absurd (omega (arith, h, p.0, length-append t.args (a ∷ [])))
 
-after-line : (t : Table) (r : Option ValueId) (i : Inst) (k : ℕ) (d : ValueDef) → result_defined t r ≡ false → IsDefinition (with_line t r i) k d → After t k (value_def.Inst record { 0 = length t.lines }) (is_result r k) d
+after-line : (t : Table) (r : Option ValueId) (i : Inst) (k : ℕ) (d : ValueDef) → result_defined t r ≡ false → IsDefinition (with_line t r i) k d
+    → After t k (value_def.Inst record { 0 = length t.lines }) (is_result r k) d
 after-line t r i k value_def.Missing n p = let q = or-none (is_defined t k) (is_result r k) (sym (is_defined-with_line t r i k) ∙ p) in old q.0 q.1
 after-line t r i k (value_def.Arg j) n p = old p (fresh-result t r k n (definition-tells t k (value_def.Arg j) p))
-after-line t r i k (value_def.Inst x) n p = by (place (length t.lines) x.0)
+after-line t r i k (value_def.Inst x) n p = by (trichotomy (length t.lines) x.0)
   where
     l : Line
     l = record { result = r; inst = i }
 
-    by : Place (length t.lines) x.0 → After t k (value_def.Inst record { 0 = length t.lines }) (is_result r k) (value_def.Inst x)
+    by : Trichotomy (length t.lines) x.0 → After t k (value_def.Inst record { 0 = length t.lines }) (is_result r k) (value_def.Inst x)
     by (before h) =
         let q : IsDefinition t k (value_def.Inst x) = (h, sym (ap (λ (y : Line). y.result) (get_or-push_before t.lines (record { result = r; inst = i }) no_line x.0 h)) ∙ p.1) in
         old q (fresh-result t r k n (definition-tells t k (value_def.Inst x) q))
@@ -147,8 +148,10 @@ after-line t r i k (value_def.Inst x) n p = by (place (length t.lines) x.0)
     by (past h) = absurd (omega (arith, h, p.0, length-append t.lines ((record { result = r; inst = i }) ∷ [])))
 
 -- a value that was not defined has one definition
-pub once-with_arg : (t : Table) (a : Arg) (k : ℕ) (d e : ValueDef) → is_defined t a.value.0 ≡ false → (IsDefinition t k d → IsDefinition t k e → d ≡ e) → IsDefinition (with_arg t a) k d → IsDefinition (with_arg t a) k e → d ≡ e
+pub once-with_arg : (t : Table) (a : Arg) (k : ℕ) (d e : ValueDef) → is_defined t a.value.0 ≡ false → (IsDefinition t k d → IsDefinition t k e → d ≡ e) → IsDefinition (with_arg t a) k d
+    → IsDefinition (with_arg t a) k e → d ≡ e
 once-with_arg t a k d e n o p q = once-after t k (value_def.Arg (length t.args)) (nat_eq a.value.0 k) d e o (after-arg t a k d n p) (after-arg t a k e n q)
 
-pub once-with_line : (t : Table) (r : Option ValueId) (i : Inst) (k : ℕ) (d e : ValueDef) → result_defined t r ≡ false → (IsDefinition t k d → IsDefinition t k e → d ≡ e) → IsDefinition (with_line t r i) k d → IsDefinition (with_line t r i) k e → d ≡ e
+pub once-with_line : (t : Table) (r : Option ValueId) (i : Inst) (k : ℕ) (d e : ValueDef) → result_defined t r ≡ false → (IsDefinition t k d → IsDefinition t k e → d ≡ e)
+    → IsDefinition (with_line t r i) k d → IsDefinition (with_line t r i) k e → d ≡ e
 once-with_line t r i k d e n o p q = once-after t k (value_def.Inst record { 0 = length t.lines }) (is_result r k) d e o (after-line t r i k d n p) (after-line t r i k e n q)

@@ -20,17 +20,20 @@ use Rattle.lh_unit.proofs.Defining.{or-none}
 use Rattle.lh_unit.proofs.ById.{arg_named-by_id, inst_giving-by_id}
 
 -- the only argument that is the value, and the only line that gives it
-arg_being-at : (xs : List Arg) (j k : ℕ) (a : Arg) → slice_get xs j ≡ Some a → a.value ≡ record { 0 = k } → ((i : ℕ) → i < length xs → option_map (λ (x : Arg). x.value) (slice_get xs i) ≡ Some (record { 0 = k }) → i ≡ j) → arg_being xs k ≡ Some a
+arg_being-at : (xs : List Arg) (j k : ℕ) (a : Arg) → slice_get xs j ≡ Some a → a.value ≡ record { 0 = k }
+    → ((i : ℕ) → i < length xs → option_map (λ (x : Arg). x.value) (slice_get xs i) ≡ Some (record { 0 = k }) → i ≡ j) → arg_being xs k ≡ Some a
 arg_being-at [] j k a p e u = cc
 arg_being-at (x ∷ xs) zero k a p e u =
     let q : x ≡ a = some_inj x a p in
     let t : nat_eq x.value.0 k ≡ true = ap (λ (y : Arg). nat_eq y.value.0 k) q ∙ ap (λ (v : ValueId). nat_eq v.0 k) e ∙ nat_eq-refl k in
     ap (λ c. if c then Some x else arg_being xs k) t ∙ p
 arg_being-at (x ∷ xs) (suc j) k a p e u =
-    let n : nat_eq x.value.0 k ≡ false = not_true (nat_eq x.value.0 k) (λ t. let w : x.value.0 ≡ k = nat_eq-is x.value.0 k t in let z : zero ≡ suc j = u zero (omega arith) (λ i. Some (record { 0 = w i })) in cc) in
+    let n : nat_eq x.value.0 k ≡ false = not_true (nat_eq x.value.0 k) (λ t. let w : x.value.0 ≡ k = nat_eq-is x.value.0 k t in
+    let z : zero ≡ suc j = u zero (omega arith) (λ i. Some (record { 0 = w i })) in cc) in
     ap (λ c. if c then Some x else arg_being xs k) n ∙ arg_being-at xs j k a p e (λ i h q. let z : suc i ≡ suc j = u (suc i) (omega (arith, h)) q in omega (arith, z))
 
-inst_making-at : (ls : List Line) (j k : ℕ) → (get_or ls j no_line).result ≡ Some (record { 0 = k }) → ((i : ℕ) → i < length ls → (get_or ls i no_line).result ≡ Some (record { 0 = k }) → i ≡ j) → inst_making ls k ≡ Some (get_or ls j no_line).inst
+inst_making-at : (ls : List Line) (j k : ℕ) → (get_or ls j no_line).result ≡ Some (record { 0 = k }) → ((i : ℕ) → i < length ls → (get_or ls i no_line).result ≡ Some (record { 0 = k }) → i ≡ j)
+    → inst_making ls k ≡ Some (get_or ls j no_line).inst
 inst_making-at [] j k e u = cc
 inst_making-at (l ∷ ls) zero k e u =
     let t : is_result l.result k ≡ true = ap (λ r. is_result r k) e ∙ nat_eq-refl k in
@@ -73,13 +76,15 @@ module _ (t : Table) (o : IsTable t) (k : ℕ) where
       arg_being-at t.args j k a p e (λ i h q. let z : value_def.Arg i ≡ value_def.Arg j = o.defined_once k (value_def.Arg i) (value_def.Arg j) (h, q) d in cc)
 
   not-argument : (i : InstId) → IsDefinition t k (value_def.Inst i) → is_arg t.args k ≡ false
-  not-argument i d = not_true (is_arg t.args k) (λ p. let r = is_arg-there t.args k p in let z : value_def.Arg r.0 ≡ value_def.Inst i = o.defined_once k (value_def.Arg r.0) (value_def.Inst i) (r.1, r.2) d in cc)
+  not-argument i d = not_true (is_arg t.args k) (λ p. let r = is_arg-there t.args k p in
+      let z : value_def.Arg r.0 ≡ value_def.Inst i = o.defined_once k (value_def.Arg r.0) (value_def.Inst i) (r.1, r.2) d in cc)
 
   pub being-no_argument : (i : InstId) → IsDefinition t k (value_def.Inst i) → arg_being t.args k ≡ None
   being-no_argument i d = arg_being-none t.args k (not-argument i d)
 
   pub making-instruction : (i : InstId) → IsDefinition t k (value_def.Inst i) → inst_making t.lines k ≡ Some (line_at t i.0).inst
-  making-instruction i d = inst_making-at t.lines i.0 k d.1 (λ j h q. let x : InstId = record { 0 = j } in let z : value_def.Inst x ≡ value_def.Inst i = o.defined_once k (value_def.Inst x) (value_def.Inst i) (h, q) d in ap (λ v. number v) z)
+  making-instruction i d = inst_making-at t.lines i.0 k d.1 (λ j h q. let x : InstId = record { 0 = j } in
+      let z : value_def.Inst x ≡ value_def.Inst i = o.defined_once k (value_def.Inst x) (value_def.Inst i) (h, q) d in ap (λ v. number v) z)
     where
       number : ValueDef → ℕ
       number value_def.Missing = 0
@@ -89,7 +94,8 @@ module _ (t : Table) (o : IsTable t) (k : ℕ) where
 -- the type of a value, by its definition
 module _ (a : Arena) (u : ℕ) (o : IsArena a) (h : u < unit_count a) (v : ℕ) (p : v < value_count a u) where
   type-is : (x : Option Arg) (i : Option Inst) → arg_being (args_at a u) v ≡ x → inst_making (table_at a u).lines v ≡ i
-      → value_type (unit_text_at a u) (value_name_at a u v) ≡ or_else (option_map (λ (y : ArgText). y.ty) (option_map (arg_text (naming a u)) x)) (option_and_then result_type (option_map (inst_text (naming a u)) i))
+      → value_type (unit_text_at a u) (value_name_at a u v)
+      ≡ or_else (option_map (λ (y : ArgText). y.ty) (option_map (arg_text (naming a u)) x)) (option_and_then result_type (option_map (inst_text (naming a u)) i))
   type-is x i e f =
       let q : arg_named (value_name_at a u v) (unit_text_at a u).args ≡ option_map (arg_text (naming a u)) x = arg_named-by_id a u o h v p ∙ ap (option_map (arg_text (naming a u))) e in
       let r : inst_giving (value_name_at a u v) (unit_text_at a u).blocks ≡ option_map (inst_text (naming a u)) i = inst_giving-by_id a u o h v p ∙ ap (option_map (inst_text (naming a u))) f in
@@ -98,7 +104,8 @@ module _ (a : Arena) (u : ℕ) (o : IsArena a) (h : u < unit_count a) (v : ℕ) 
   pub value_type-argument : (j : ℕ) (x : Arg) → IsDefinition (table_at a u) v (value_def.Arg j) → slice_get (args_at a u) j ≡ Some x → value_type (unit_text_at a u) (value_name_at a u v) ≡ Some x.ty
   value_type-argument j x d e = type-is (Some x) (inst_making (table_at a u).lines v) (being-argument (table_at a u) (o.tables u h) v j x d e) refl
 
-  pub value_type-instruction : (i : InstId) → IsDefinition (table_at a u) v (value_def.Inst i) → value_type (unit_text_at a u) (value_name_at a u v) ≡ result_type (inst_text (naming a u) (inst_at a u i.0))
+  pub value_type-instruction : (i : InstId) → IsDefinition (table_at a u) v (value_def.Inst i)
+      → value_type (unit_text_at a u) (value_name_at a u v) ≡ result_type (inst_text (naming a u) (inst_at a u i.0))
   value_type-instruction i d = type-is None (Some (inst_at a u i.0)) (being-no_argument (table_at a u) (o.tables u h) v i d) (making-instruction (table_at a u) (o.tables u h) v i d)
 
   pub value_type-missing : IsDefinition (table_at a u) v value_def.Missing → value_type (unit_text_at a u) (value_name_at a u v) ≡ None

@@ -12,7 +12,7 @@ use Rattle.lh_unit.specs.Table.{Table, IsTable, no_table, entity_block, insts_at
 use Rattle.lh_unit.specs.TableCalls.{begun}
 use Rattle.lh_unit.specs.Naming.{naming_of, line_text, arg_text, block_text, table_text}
 use Rattle.lh_unit.specs.Arena.{Arena, IsArena, HasFewMore, none_more, contents, item_text_at, unit_text_at, table_at, kind_at, unit_count, unit_name_at, no_unit_name}
-use Rattle.lh_unit.specs.Builders.{Finds, FindsUnit, Says, AddsDeclare}
+use Rattle.lh_unit.specs.Builders.{FindsEntry, FindsUnit, HasContents, AddsDeclare}
 use Rattle.lh_unit.specs.declared.name.UnitName.{UnitName}
 use Rattle.lh_unit.specs.declared.inst.UnitId.{UnitId}
 use Rattle.lh_unit.specs.declared.inst.InstId.{InstId}
@@ -33,7 +33,8 @@ abbrev pub with_begun : Arena → UnitId → Table → Arena
 with_begun a u t = record a { units = set a.units u.0 t; items = a.items ++ item.Unit u ∷ [] }
 
 -- whether the items define a unit of the name n
-defines-any : (a : Arena) (n : UnitName) (is : List Item) (i : ℕ) (u : UnitId) → slice_get is i ≡ Some (item.Unit u) → same_unit_name (unit_name_at a u.0) n ≡ true → defines_unit n (map (item_text_at a) is) ≡ true
+defines-any : (a : Arena) (n : UnitName) (is : List Item) (i : ℕ) (u : UnitId) → slice_get is i ≡ Some (item.Unit u) → same_unit_name (unit_name_at a u.0) n ≡ true
+    → defines_unit n (map (item_text_at a) is) ≡ true
 defines-any a n [] i u p e = cc
 defines-any a n (item.Unit v ∷ is) zero u p e =
     let q : v ≡ u = cc in
@@ -42,7 +43,8 @@ defines-any a n (item.Declare d ∷ is) zero u p e = cc
 defines-any a n (item.Unit v ∷ is) (suc i) u p e = ap (λ b. same_unit_name (unit_name_at a v.0) n || b) (defines-any a n is i u p e) ∙ or_true (same_unit_name (unit_name_at a v.0) n)
 defines-any a n (item.Declare d ∷ is) (suc i) u p e = defines-any a n is i u p e
 
-defines-none : (a : Arena) (n : UnitName) (is : List Item) → ((i : ℕ) (u : UnitId) → slice_get is i ≡ Some (item.Unit u) → same_unit_name (unit_name_at a u.0) n ≡ false) → defines_unit n (map (item_text_at a) is) ≡ false
+defines-none : (a : Arena) (n : UnitName) (is : List Item) → ((i : ℕ) (u : UnitId) → slice_get is i ≡ Some (item.Unit u) → same_unit_name (unit_name_at a u.0) n ≡ false)
+    → defines_unit n (map (item_text_at a) is) ≡ false
 defines-none a n [] h = refl
 defines-none a n (item.Unit v ∷ is) h = rw (h 0 v refl) (defines-none a n is (λ i u p. h (suc i) u p))
 defines-none a n (item.Declare d ∷ is) h = defines-none a n is (λ i u p. h (suc i) u p)
@@ -65,8 +67,22 @@ defines-missing a u o h e = defines-none a (unit_name_at a u.0) a.items (λ i v 
 
 -- a unit that is begun has nothing in it
 text-begun : (a : Arena) (u : ℕ) (t : Table) (k : UnitKind) → t.kind ≡ None → IsTable t → text_with a u (begun t k) ≡ new_unit (unit_name_at a u) k
-text-begun a u t kind.Func e o = let m = missing t e o in λ i. record { kind = kind.Func; name = unit_name_at a u; args = map (arg_text (naming_of (unit_name_at a) t)) (m.0 i); result = Some void_type; blocks = map (block_text (naming_of (unit_name_at a) t) (begun t kind.Func)) (m.2 i) }
-text-begun a u t kind.Proc e o = let m = missing t e o in λ i. record { kind = kind.Proc; name = unit_name_at a u; args = map (arg_text (naming_of (unit_name_at a) t)) (m.0 i); result = m.1 i; blocks = map (block_text (naming_of (unit_name_at a) t) (begun t kind.Proc)) (m.2 i) }
+text-begun a u t kind.Func e o = let m = missing t e o in
+    λ i. record {
+      kind = kind.Func;
+      name = unit_name_at a u;
+      args = map (arg_text (naming_of (unit_name_at a) t)) (m.0 i);
+      result = Some void_type;
+      blocks = map (block_text (naming_of (unit_name_at a) t) (begun t kind.Func)) (m.2 i);
+    }
+text-begun a u t kind.Proc e o = let m = missing t e o in
+    λ i. record {
+      kind = kind.Proc;
+      name = unit_name_at a u;
+      args = map (arg_text (naming_of (unit_name_at a) t)) (m.0 i);
+      result = m.1 i;
+      blocks = map (block_text (naming_of (unit_name_at a) t) (begun t kind.Proc)) (m.2 i);
+    }
 text-begun a u t kind.Entity e o =
     let m = missing t e o in
     let n : insts_at (begun t kind.Entity) 0 ≡ [] = ap (λ x. unwrap_or x []) (get_or-set_same (t.bodies ++ None ∷ []) 0 (Some []) None (omega (arith, length-append t.bodies (None ∷ [])))) in
@@ -98,15 +114,17 @@ begun-labels t kind.Func = refl
 begun-labels t kind.Proc = refl
 begun-labels t kind.Entity = refl
 
-pub Says-begun : (a b : Arena) (u : UnitId) (k : UnitKind) → IsArena a → u.0 < unit_count a → kind_at a u.0 ≡ None → b ≡ with_begun a u (begun (table_at a u.0) k)
-    → (defines_unit (unit_name_at a u.0) (contents a) ≡ false) × Says a b u (contents a ++ unit_text (new_unit (unit_name_at a u.0) k) ∷ [])
-Says-begun a b u k o h e w = (
+pub HasContents-begun : (a b : Arena) (u : UnitId) (k : UnitKind) → IsArena a → u.0 < unit_count a → kind_at a u.0 ≡ None → b ≡ with_begun a u (begun (table_at a u.0) k)
+    → (defines_unit (unit_name_at a u.0) (contents a) ≡ false) × HasContents a b u (contents a ++ unit_text (new_unit (unit_name_at a u.0) k) ∷ [])
+HasContents-begun a b u k o h e w = (
   defines-missing a u o h e,
-  subst (λ b. Says a b u (contents a ++ unit_text (new_unit (unit_name_at a u.0) k) ∷ [])) (sym w) record {
+  subst (λ b. HasContents a b u (contents a ++ unit_text (new_unit (unit_name_at a u.0) k) ∷ [])) (sym w) record {
     says = contents-begun a u k o h e;
     is_open = (a.items, refl);
-    entries = KeepsEntries-by a now (omega (arith, length-set a.units u.0 t)) (λ v w. refl) (each_table Grown Grown-refl a u.0 t h (Grown-same (table_at a u.0) t (begun-values (table_at a u.0) k) (begun-labels (table_at a u.0) k)));
-    few = HasAtMost-same a now (omega (arith, length-set a.units u.0 t)) (each_table (AtMost 0) (AtMost-refl 0) a u.0 t h (AtMost-same (table_at a u.0) t (begun-values (table_at a u.0) k) (begun-labels (table_at a u.0) k)));
+    entries = KeepsEntries-by a now (omega (arith, length-set a.units u.0 t)) (λ v w. refl)
+        (each_table Grown Grown-refl a u.0 t h (Grown-same (table_at a u.0) t (begun-values (table_at a u.0) k) (begun-labels (table_at a u.0) k)));
+    few = HasAtMost-same a now (omega (arith, length-set a.units u.0 t))
+        (each_table (AtMost 0) (AtMost-refl 0) a u.0 t h (AtMost-same (table_at a u.0) t (begun-values (table_at a u.0) k) (begun-labels (table_at a u.0) k)));
     no_more = record { more_units = few.more_units; more_values = few.more_values; more_labels = few.more_labels };
   },
 )
@@ -118,7 +136,8 @@ Says-begun a b u k o h e w = (
     now = with_begun a u t
 
     few : HasFewMore 0 none_more none_more a (with_table a u.0 t)
-    few = few-written a u.0 t none_more none_more h (omega (arith, ap (λ (x : List (List ℕ)). length x) (begun-values (table_at a u.0) k))) (omega (arith, ap (λ (x : List (List ℕ)). length x) (begun-labels (table_at a u.0) k)))
+    few = few-written a u.0 t none_more none_more h (omega (arith, ap (λ (x : List (List ℕ)). length x) (begun-values (table_at a u.0) k)))
+        (omega (arith, ap (λ (x : List (List ℕ)). length x) (begun-labels (table_at a u.0) k)))
 
 -- a unit that is looked up
 contents-with_unit : (a : Arena) (n : UnitName) → IsArena a → contents (with_unit a n) ≡ contents a
@@ -137,16 +156,17 @@ contents-with_unit a n o = map-same (item_text_at now) (item_text_at a) a.items 
         ∙ table_text-same (unit_count a) (naming_of (unit_name_at now) (table_at a v)) (naming_of (unit_name_at a) (table_at a v)) (unit_name_at a v) (table_at a v)
         record { units = name; values = λ k w. refl; labels = λ k w. refl } (o.tables v h) (o.placed v)
 
-Finds-refl : (a : Arena) → Finds a a
-Finds-refl a = record {
+FindsEntry-refl : (a : Arena) → FindsEntry a a
+FindsEntry-refl a = record {
   grows = record { entries = KeepsEntries-by a a (omega arith) (λ v h. refl) (λ v. Grown-refl (table_at a v)); open_stays = λ u p. p; says = refl };
   few = HasAtMost-by 1 a a (omega arith) (λ v. AtMost-refl 1 (table_at a v));
 }
 
-Finds-with_unit : (a : Arena) (n : UnitName) → IsArena a → Finds a (with_unit a n)
-Finds-with_unit a n o = record {
+FindsEntry-with_unit : (a : Arena) (n : UnitName) → IsArena a → FindsEntry a (with_unit a n)
+FindsEntry-with_unit a n o = record {
   grows = record {
-    entries = KeepsEntries-by a (with_unit a n) (omega (arith, length-append a.units (no_table ∷ []))) (λ v h. get_or_append_left a.names (n ∷ []) no_unit_name v (omega (arith, h, o.long))) (λ v. subst (Grown (table_at a v)) (sym (table_at-unit a n v)) (Grown-refl (table_at a v)));
+    entries = KeepsEntries-by a (with_unit a n) (omega (arith, length-append a.units (no_table ∷ []))) (λ v h. get_or_append_left a.names (n ∷ []) no_unit_name v (omega (arith, h, o.long)))
+        (λ v. subst (Grown (table_at a v)) (sym (table_at-unit a n v)) (Grown-refl (table_at a v)));
     open_stays = λ u p. p;
     says = contents-with_unit a n o;
   };
@@ -154,8 +174,12 @@ Finds-with_unit a n o = record {
 }
 
 pub found-unit : (a : Arena) (n : UnitName) (i : ℕ) → IsArena a → Some i ≡ position (same_unit_name n) a.names → FindsUnit (Ok (record { 0 = i })) a a n
-found-unit a n i o p = let f = key_found same_unit_name same_unit_name-is same_unit_name-refl a.names n i p in
-    (Finds-refl a, omega (arith, f.0, o.long), get_or_from_slice_get a.names i n no_unit_name f.1, record { more_units = omega arith; more_values = λ u. omega arith; more_labels = λ u. omega arith })
+found-unit a n i o p = let f = key_found same_unit_name same_unit_name-is same_unit_name-refl a.names n i p in (
+  FindsEntry-refl a,
+  omega (arith, f.0, o.long),
+  get_or_from_slice_get a.names i n no_unit_name f.1,
+  record { more_units = omega arith; more_values = λ u. omega arith; more_labels = λ u. omega arith },
+)
 
 few-unit : (a : Arena) (n : UnitName) → HasFewMore 1 none_more none_more a (with_unit a n)
 few-unit a n = record {
@@ -165,21 +189,24 @@ few-unit a n = record {
 }
 
 -- names and units after a unit is added
-pub added-unit : (a b : Arena) (n m : UnitName) → m ≡ n → b.names ≡ insert_key same_unit_name a.names m → b.units ≡ a.units ++ no_table ∷ [] → b.items ≡ a.items → false ≡ list_any (same_unit_name n) a.names → b ≡ with_unit a n
+pub added-unit : (a b : Arena) (n m : UnitName) → m ≡ n → b.names ≡ insert_key same_unit_name a.names m → b.units ≡ a.units ++ no_table ∷ [] → b.items ≡ a.items
+    → false ≡ list_any (same_unit_name n) a.names → b ≡ with_unit a n
 added-unit a b n m e f g h p =
     let k : b.names ≡ a.names ++ n ∷ [] = f ∙ ap (insert_key same_unit_name a.names) e ∙ rw (← p) refl in
     λ i. record { names = k i; units = g i; items = h i }
 
-pub added-FindsUnit : (a b : Arena) (n m : UnitName) (i : ℕ) → m ≡ n → b ≡ with_unit a n → IsArena a → i < length b.names → (k : UnitName) × (slice_get b.names i ≡ Some k) × (same_unit_name m k ≡ true) → FindsUnit (Ok (record { 0 = i })) a b n
+pub added-FindsUnit : (a b : Arena) (n m : UnitName) (i : ℕ) → m ≡ n → b ≡ with_unit a n → IsArena a → i < length b.names → (k : UnitName) × (slice_get b.names i ≡ Some k)
+    × (same_unit_name m k ≡ true) → FindsUnit (Ok (record { 0 = i })) a b n
 added-FindsUnit a b n m i e f o w s = (
-  subst (Finds a) (sym f) (Finds-with_unit a n o),
+  subst (FindsEntry a) (sym f) (FindsEntry-with_unit a n o),
   omega (arith, w, ap (λ z. length z.names) f, ap (λ z. length z.units) f, o.long, length-append a.names (n ∷ []), length-append a.units (no_table ∷ [])),
   get_or_from_slice_get b.names i n no_unit_name (s.1 ∙ ap Some (sym (same_unit_name-is m s.0 s.2) ∙ e)),
   subst (HasFewMore 1 none_more none_more a) (sym f) (few-unit a n),
 )
 
 -- one more declaration
-pub AddsDeclare-by : (r : Result (Unit {0}) NoMemory) (a : Arena) (d : Declare) (items : List Item) → OnOk r (items ≡ a.items ++ item.Declare d ∷ []) → OnErr r (items ≡ a.items) → AddsDeclare r a (record a { items = items }) d
+pub AddsDeclare-by : (r : Result (Unit {0}) NoMemory) (a : Arena) (d : Declare) (items : List Item) → OnOk r (items ≡ a.items ++ item.Declare d ∷ []) → OnErr r (items ≡ a.items)
+    → AddsDeclare r a (record a { items = items }) d
 AddsDeclare-by (Ok _) a d items f g = subst (λ l. AddsDeclare (Ok tt) a (record a { items = l }) d) (sym f) (
   map-append (item_text_at a) a.items (item.Declare d ∷ []),
   KeepsEntries-by a (record a { items = a.items ++ item.Declare d ∷ [] }) (omega arith) (λ v h. refl) (λ v. Grown-refl (table_at a v)),
@@ -188,7 +215,8 @@ AddsDeclare-by (Ok _) a d items f g = subst (λ l. AddsDeclare (Ok tt) a (record
 )
 AddsDeclare-by (Err e) a d items f g = λ i. record a { items = g i }
 
-pub IsArena-item : (r : Result (Unit {0}) NoMemory) (a : Arena) (d : Declare) (items : List Item) → OnOk r (items ≡ a.items ++ item.Declare d ∷ []) → OnErr r (items ≡ a.items) → IsArena a → IsArena (record a { items = items })
+pub IsArena-item : (r : Result (Unit {0}) NoMemory) (a : Arena) (d : Declare) (items : List Item) → OnOk r (items ≡ a.items ++ item.Declare d ∷ []) → OnErr r (items ≡ a.items) → IsArena a
+    → IsArena (record a { items = items })
 IsArena-item (Ok _) a d items f g o = subst (λ l. IsArena (record a { items = l })) (sym f) (IsArena-declared a d o)
 IsArena-item (Err e) a d items f g o = subst (λ l. IsArena (record a { items = l })) (sym g) o
 

@@ -9,7 +9,8 @@ constant_line : lexemes (codes "%x = const i8 -128 ; c@#") ≡ Some (local (code
 unfolding first_lexeme
 constant_line = refl
 
-header_line : lexemes (codes "entity@t()->(i1$%q){//") ≡ Some (word (codes "entity") ∷ global (codes "t") ∷ punct 40 ∷ punct 41 ∷ arrow ∷ punct 40 ∷ word (codes "i1") ∷ punct 36 ∷ local (codes "q") ∷ punct 41 ∷ punct 123 ∷ [])
+header_line : lexemes (codes "entity@t()->(i1$%q){//")
+    ≡ Some (word (codes "entity") ∷ global (codes "t") ∷ punct 40 ∷ punct 41 ∷ arrow ∷ punct 40 ∷ word (codes "i1") ∷ punct 36 ∷ local (codes "q") ∷ punct 41 ∷ punct 123 ∷ [])
 unfolding first_lexeme
 header_line = refl
 

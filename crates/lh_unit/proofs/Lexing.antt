@@ -131,7 +131,8 @@ run_name n bs e l h =
     let z : length (take n bs) ≡ n = length-take-le n bs w in
     (omega arith, omega arith, rw e (run_len-names bs))
 
-takes_sigil : (k : TokenKind) (s b : ℕ) (bs : List ℕ) (p : TokenKind × ℕ) → ((c : List ℕ) → c ≡ s ∷ drop 1 c → IsName (drop 1 c) → IsSpelling k c) → nat_eq b s ≡ true → named k (run_len bs) ≡ Ok p → Takes b bs p
+takes_sigil : (k : TokenKind) (s b : ℕ) (bs : List ℕ) (p : TokenKind × ℕ) → ((c : List ℕ) → c ≡ s ∷ drop 1 c → IsName (drop 1 c) → IsSpelling k c) → nat_eq b s ≡ true → named k (run_len bs) ≡ Ok p
+    → Takes b bs p
 takes_sigil k s b bs p spell is e =
     let q = named-ok k (run_len bs) p e in
     let m : b ≡ s = grind (arith, common_steps) in
@@ -177,7 +178,8 @@ record Found (text : List ℕ) (at : ℕ) (ts : List Token) : Type 0 where
   spelled : AreTokensOf text ts
   covered : Covers text at ts
 
-white_front : (text : List ℕ) (at from b : ℕ) (bs : List ℕ) → drop at text ≡ b ∷ bs → is_white b ≡ true → at + 1 ≤ from → all_white (bytes_at text (at + 1) from) ≡ true → all_white (bytes_at text at from) ≡ true
+white_front : (text : List ℕ) (at from b : ℕ) (bs : List ℕ) → drop at text ≡ b ∷ bs → is_white b ≡ true → at + 1 ≤ from → all_white (bytes_at text (at + 1) from) ≡ true
+    → all_white (bytes_at text at from) ≡ true
 white_front text at from b bs d w h more =
     let e : from - at ≡ suc (from - (at + 1)) = omega arith in
     rw (e, d, w) (rw (drop-next at text b bs d) at more)
@@ -186,7 +188,8 @@ covers-white : (text : List ℕ) (at b : ℕ) (bs : List ℕ) (ts : List Token) 
 covers-white text at b bs [] d w more = rw (d, w) (rw (drop-next at text b bs d) at more)
 covers-white text at b bs (t ∷ ts) d w more = (let h : at + 1 ≤ t.from = more.0 in omega arith, white_front text at t.from b bs d w more.0 more.1, more.2)
 
-found_token : (text : List ℕ) (at b : ℕ) (bs : List ℕ) (p : TokenKind × ℕ) (us : List Token) → drop at text ≡ b ∷ bs → Takes b bs p → Found text (at + 1 + p.1) us → Found text at (record { kind = p.0; from = at; to = at + 1 + p.1 } ∷ us)
+found_token : (text : List ℕ) (at b : ℕ) (bs : List ℕ) (p : TokenKind × ℕ) (us : List Token) → drop at text ≡ b ∷ bs → Takes b bs p → Found text (at + 1 + p.1) us
+    → Found text at (record { kind = p.0; from = at; to = at + 1 + p.1 } ∷ us)
 found_token text at b bs p us d t more =
     let w : p.1 ≤ length bs = t.within in
     let e : at - at ≡ 0 = omega arith in
@@ -236,7 +239,8 @@ found text at (suc k) (b ∷ bs) ts d h e =
     subst (λ a. Found text a ts) z (found text (at + 1) k bs ts (drop-next at text b bs d) (omega arith) e)
 found text at zero (b ∷ bs) ts d h e =
     let z : at ≡ at + 0 = omega arith in
-    subst (λ a. Found text a ts) z (found_step text at b bs ts (is_white b) (is_comment b bs) (first_token b bs) d refl refl refl (λ k us l f. found text (at + 1) k bs us (drop-next at text b bs d) l f) e)
+    subst (λ a. Found text a ts) z (found_step text at b bs ts (is_white b) (is_comment b bs) (first_token b bs) d refl refl refl
+    (λ k us l f. found text (at + 1) k bs us (drop-next at text b bs d) l f) e)
 
 -- each token of a line is what its kind says
 pub tokens-spelled : (text : List ℕ) (ts : List Token) → tokens text ≡ Ok ts → AreTokensOf text ts

@@ -13,16 +13,16 @@ pub use Rattle.std.proofs.lemmas.Bool.{false_from_ne_true as not_true, ne_eqb as
 pub use Rattle.std.proofs.lemmas.Option.{same_Some as some_inj}
 
 -- where an index lies
-pub data Place (n k : ℕ) : Type 0 where
-  before : k < n → Place n k
-  at : k ≡ n → Place n k
-  past : n < k → Place n k
+pub data Trichotomy (n k : ℕ) : Type 0 where
+  before : k < n → Trichotomy n k
+  at : k ≡ n → Trichotomy n k
+  past : n < k → Trichotomy n k
 
-pub place : (n k : ℕ) → Place n k
-place zero zero = at refl
-place zero (suc k) = past (omega arith)
-place (suc n) zero = before (omega arith)
-place (suc n) (suc k) = elim (place n k) [ before h ↦ before (omega (arith, h)) | at h ↦ at (ap suc h) | past h ↦ past (omega (arith, h)) ]
+pub trichotomy : (n k : ℕ) → Trichotomy n k
+trichotomy zero zero = at refl
+trichotomy zero (suc k) = past (omega arith)
+trichotomy (suc n) zero = before (omega arith)
+trichotomy (suc n) (suc k) = elim (trichotomy n k) [ before h ↦ before (omega (arith, h)) | at h ↦ at (ap suc h) | past h ↦ past (omega (arith, h)) ]
 
 -- two numbers are one or not
 pub data Same (a b : ℕ) : Type 0 where
@@ -30,7 +30,7 @@ pub data Same (a b : ℕ) : Type 0 where
   other : a ≢ b → Same a b
 
 pub same_or : (a b : ℕ) → Same a b
-same_or a b = elim (place b a) [ before h ↦ other (λ e. omega (arith, h, e)) | at h ↦ same h | past h ↦ other (λ e. omega (arith, h, e)) ]
+same_or a b = elim (trichotomy b a) [ before h ↦ other (λ e. omega (arith, h, e)) | at h ↦ same h | past h ↦ other (λ e. omega (arith, h, e)) ]
 
 pub nat_eq-refl : (a : ℕ) → nat_eq a a ≡ true
 nat_eq-refl a = grind (arith, common_steps)
@@ -59,7 +59,7 @@ pub data Pushed {X : Type 0} (xs : List X) (y m : X) (k : ℕ) : Type 0 where
   new : k ≡ length xs → y ≡ m → Pushed xs y m k
 
 pub pushed : {X : Type 0} (xs : List X) (y m : X) (k : ℕ) → slice_get (xs ++ y ∷ []) k ≡ Some m → Pushed xs y m k
-pushed xs y m k p = elim (place (length xs) k) [
+pushed xs y m k p = elim (trichotomy (length xs) k) [
   | before h ↦ old h (sym (slice_get-push_before xs y k h) ∙ p)
   | at h ↦ new h (some_inj y m (sym (slice_get-push xs y k h) ∙ p))
   | past h ↦ absurd (slice_get-gone xs y m k h p)

@@ -2,7 +2,7 @@
 use Rattle.std.proofs.Common.{◌≡◌, ℕ, ◌<◌, suc, List, [], ◌∷◌, ◌++◌, length, Option, Some, None, IsSomeAnd, slice_get, refl, ap, sym, ◌∙◌, subst, arith}
 use Rattle.std.proofs.lemmas.Option.{slice_get-get_or}
 use Rattle.lh_unit.specs.Contents.{ItemText, UnitText, BlockText, LineText, unit_text, declare_text, last_unit, change_last, line_at_end}
-use Rattle.lh_unit.specs.Builders.{Says}
+use Rattle.lh_unit.specs.Builders.{HasContents}
 use Rattle.lh_unit.specs.Within.{Each, ValueWithin, MaybeWithin, OperandWithin, TriggerWithin, EdgeWithin}
 use Rattle.lh_unit.specs.Naming.{value_text, maybe_text, operand_text, trigger_text, edge_text}
 use Rattle.lh_unit.specs.Arena.{Arena, IsArena, InstPlaced, OfOpen, KeepsEntries, Grows, contents, naming, sizes, inst_text_at, table_at, blocks_at, block_insts_at, unit_count, value_count, label_count, block_count, inst_count, unit_name_at, value_name_at, label_name_at, no_unit_name}
@@ -123,7 +123,8 @@ label-is_block a u b o h w = omega (arith, w, (o.tables u h).enough_bodies)
 pub block-within : (a : Arena) (u i : ℕ) (b : BlockId) → IsArena a → u < unit_count a → slice_get (blocks_at a u) i ≡ Some b → b.0 < block_count a u
 block-within a u i b o h p = stands-within (table_at a u) b.0 (o.tables u h) (is_block-at (blocks_at a u) i b p)
 
-pub block_insts-within : (a : Arena) (u i : ℕ) (b : BlockId) → IsArena a → u < unit_count a → slice_get (blocks_at a u) i ≡ Some b → Each (λ (x : InstId). x.0 < inst_count a u) (block_insts_at a u b.0)
+pub block_insts-within : (a : Arena) (u i : ℕ) (b : BlockId) → IsArena a → u < unit_count a → slice_get (blocks_at a u) i ≡ Some b
+    → Each (λ (x : InstId). x.0 < inst_count a u) (block_insts_at a u b.0)
 block_insts-within a u i b o h p = insts-within (table_at a u) (o.tables u h) i b p
 
 -- the last unit of contents that were changed
@@ -144,7 +145,7 @@ of_some : (o : Option UnitText) (P : UnitText → Type 0) → IsSomeAnd o P → 
 of_some None P h = absurd h
 of_some (Some t) P h = (t, refl, h)
 
-pub OfOpen-change : (a b : Arena) (u : UnitId) (f : UnitText → UnitText) (P : UnitText → Type 0) → Says a b u (change_last f (contents a)) → OfOpen a (λ t. P (f t)) → OfOpen b P
+pub OfOpen-change : (a b : Arena) (u : UnitId) (f : UnitText → UnitText) (P : UnitText → Type 0) → HasContents a b u (change_last f (contents a)) → OfOpen a (λ t. P (f t)) → OfOpen b P
 OfOpen-change a b u f P s h =
     let t = of_some (last_unit (contents a)) (λ t. P (f t)) h in
     OfOpen-from b P (f t.0) (ap last_unit s.says ∙ last_unit-change_last f (contents a) t.0 t.1) t.2
@@ -152,7 +153,7 @@ OfOpen-change a b u f P s h =
 pub OfOpen-grows : (a b : Arena) (P : UnitText → Type 0) → Grows a b → OfOpen a P → OfOpen b P
 OfOpen-grows a b P g h = subst (λ o. IsSomeAnd o P) (sym (ap last_unit g.says)) h
 
-pub OfOpen-begun : (a b : Arena) (u : UnitId) (t : UnitText) (P : UnitText → Type 0) → Says a b u (contents a ++ unit_text t ∷ []) → P t → OfOpen b P
+pub OfOpen-begun : (a b : Arena) (u : UnitId) (t : UnitText) (P : UnitText → Type 0) → HasContents a b u (contents a ++ unit_text t ∷ []) → P t → OfOpen b P
 OfOpen-begun a b u t P s h = OfOpen-from b P t (ap last_unit s.says ∙ last_unit-push (contents a) t) h
 
 -- a line adds no block

@@ -40,7 +40,8 @@ each-block : (n : ℕ) (bs : List BlockId) → ((k : ℕ) → is_block bs k ≡ 
 each-block n [] h = tt
 each-block n (b ∷ bs) h = (h b.0 (rw (nat_eq-refl b.0) refl), each-block n bs (λ k e. h k (or_right (nat_eq b.0 k) (is_block bs k) e)))
 
-each-labelled : (a : Arena) (u : ℕ) (k : Option UnitKind) (bs : List BlockId) → ((b : BlockId) → b.0 < label_count a u → IsLabelled a u k b) → BlocksWithin (label_count a u) bs → Each (IsLabelled a u k) bs
+each-labelled : (a : Arena) (u : ℕ) (k : Option UnitKind) (bs : List BlockId) → ((b : BlockId) → b.0 < label_count a u → IsLabelled a u k b) → BlocksWithin (label_count a u) bs
+    → Each (IsLabelled a u k) bs
 each-labelled a u k [] f h = tt
 each-labelled a u k (b ∷ bs) f h = (f b h.0, each-labelled a u k bs f h.1)
 
@@ -54,7 +55,8 @@ labelled a u (Some kind.Func) h = each-labelled a u (Some kind.Func) (blocks_at 
 labelled a u (Some kind.Proc) h = each-labelled a u (Some kind.Proc) (blocks_at a u) (λ b l. l) h.1
 labelled a u (Some kind.Entity) h = each-entity a u (blocks_at a u)
 
-each-is : (a : Arena) (u : ℕ) (bs : List BlockId) → Each (λ (b : BlockId). b.0 < block_count a u) bs → Each (IsLabelled a u (kind_at a u)) bs → Each (λ (b : BlockId). Each (IsInstOf a u) (block_insts_at a u b.0)) bs → Each (IsBlockOf a u) bs
+each-is : (a : Arena) (u : ℕ) (bs : List BlockId) → Each (λ (b : BlockId). b.0 < block_count a u) bs → Each (IsLabelled a u (kind_at a u)) bs
+    → Each (λ (b : BlockId). Each (IsInstOf a u) (block_insts_at a u b.0)) bs → Each (IsBlockOf a u) bs
 each-is a u [] w l i = tt
 each-is a u (b ∷ bs) w l i = (record { within = w.0; labelled = l.0; insts = i.0 }, each-is a u bs w.1 l.1 i.1)
 
@@ -62,7 +64,8 @@ each-is a u (b ∷ bs) w l i = (record { within = w.0; labelled = l.0; insts = i
 pub blocks-placed : (a : Arena) (u : ℕ) → IsArena a → u < unit_count a → Each (IsBlockOf a u) (blocks_at a u)
 blocks-placed a u r h =
     let t : IsTable (table_at a u) = r.tables u h in
-    let order : Each (IsInstOf a u) (flat (map (λ (b : BlockId). block_insts_at a u b.0) (blocks_at a u))) = let P : List InstId → Type 0 = Each (IsInstOf a u) in subst P (sym t.in_order) (ids-within (inst_count a u) 0 (table_at a u).lines (omega arith)) in
+    let order : Each (IsInstOf a u) (flat (map (λ (b : BlockId). block_insts_at a u b.0) (blocks_at a u))) = let P : List InstId → Type 0 = Each (IsInstOf a u) in
+    subst P (sym t.in_order) (ids-within (inst_count a u) 0 (table_at a u).lines (omega arith)) in
     each-is a u (blocks_at a u)
     (each-block (block_count a u) (blocks_at a u) (λ k e. some-within (table_at a u).bodies k (t.blocks_stand k ∙ e)))
     (labelled a u (kind_at a u) t.fits_kind)

@@ -112,7 +112,8 @@ by_mark P p40 p41 p123 p125 p91 p93 p44 p58 p36 p42 p61 b h =
 
 takes-punct : (b : ℕ) (r : List ℕ) → is_punct b ≡ true → TakesFirst (punct b) (b ∷ r) r
 unfolding first_lexeme
-takes-punct b r h = by_mark (λ c. TakesFirst (punct c) (c ∷ r) r) (one 40 refl refl refl) (one 41 refl refl refl) (one 123 refl refl refl) (one 125 refl refl refl) (one 91 refl refl refl) (one 93 refl refl refl) (one 44 refl refl refl) (one 58 refl refl refl) (one 36 refl refl refl) (one 42 refl refl refl) (one 61 refl refl refl) b h
+takes-punct b r h = by_mark (λ c. TakesFirst (punct c) (c ∷ r) r) (one 40 refl refl refl) (one 41 refl refl refl) (one 123 refl refl refl) (one 125 refl refl refl) (one 91 refl refl refl)
+    (one 93 refl refl refl) (one 44 refl refl refl) (one 58 refl refl refl) (one 36 refl refl refl) (one 42 refl refl refl) (one 61 refl refl refl) b h
   where
     one : (c : ℕ) → is_white c ≡ false → is_comment c r ≡ false → first_lexeme c r ≡ Some (punct c, 0) → TakesFirst (punct c) (c ∷ r) r
     one c w d t = record { byte = c; more = r; count = 0; is = refl; not_white = w; no_comment = d; taken = t; left = refl }
@@ -124,7 +125,16 @@ takes-word b w r h s =
     let n : is_name_byte b ≡ true = p.0 in
     let e : run_len (w ++ r) ≡ length w = run_len-name w r p.1 s in
     let g : take (length w) (w ++ r) ≡ w = take_at w r (length w) refl in
-    record { byte = b; more = w ++ r; count = length w; is = refl; not_white = (name_byte-plain b (w ++ r) n).0; no_comment = (name_byte-plain b (w ++ r) n).1; taken = rw (n, e, g) refl; left = drop_at w r (length w) refl }
+    record {
+      byte = b;
+      more = w ++ r;
+      count = length w;
+      is = refl;
+      not_white = (name_byte-plain b (w ++ r) n).0;
+      no_comment = (name_byte-plain b (w ++ r) n).1;
+      taken = rw (n, e, g) refl;
+      left = drop_at w r (length w) refl;
+    }
 
 takes-global : (n r : List ℕ) → IsName n → StopsName r → TakesFirst (global n) (64 ∷ (n ++ r)) r
 unfolding first_lexeme

@@ -21,7 +21,7 @@ use Rattle.lh_unit.specs.declared.inst.Arg.{Arg}
 use Rattle.lh_unit.specs.declared.table.Line.{Line}
 pub use Rattle.lh_unit.proofs.Defining.{is_arg-push, is_made-push}
 use Rattle.lh_unit.proofs.Defining.{definition-tells, is_defined-with_arg, is_defined-with_line, IsDefinition-with_arg, IsDefinition-with_line, IsDefinition-same, arg-defines, line-defines, once-with_arg, once-with_line}
-use Rattle.lh_unit.proofs.Lists.{Place, before, at, past, place, Same, same, other, same_or, nat_eq-refl, nat_eq-other, or_false, or_true, or-assoc, slice_get-push, slice_get-push_before, get_or-push_default, front_last, AllDistinct-push, other_keys, map-ext, map-same, flat-append, some_inj}
+use Rattle.lh_unit.proofs.Lists.{Trichotomy, before, at, past, trichotomy, Same, same, other, same_or, nat_eq-refl, nat_eq-other, or_false, or_true, or-assoc, slice_get-push, slice_get-push_before, get_or-push_default, front_last, AllDistinct-push, other_keys, map-ext, map-same, flat-append, some_inj}
 
 -- the test of two names is equality
 pub same_name-is : (x y : List ℕ) → pointwise nat_eq x y ≡ true → x ≡ y
@@ -137,7 +137,8 @@ IsTable-with_value t n room o = by (has_name t.values n) refl
 pub insts_at-more : (t : Table) (n : List ℕ) (b : ℕ) → insts_at (record t { labels = t.labels ++ n ∷ []; bodies = t.bodies ++ None ∷ [] }) b ≡ insts_at t b
 insts_at-more t n b = ap (λ o. unwrap_or o []) (get_or-push_default t.bodies None b)
 
-pub IsTable-new_label : (t : Table) (n : List ℕ) → has_name t.labels n ≡ false → length t.labels < 2 ^ 32 - 1 → IsTable t → IsTable (record t { labels = t.labels ++ n ∷ []; bodies = t.bodies ++ None ∷ [] })
+pub IsTable-new_label : (t : Table) (n : List ℕ) → has_name t.labels n ≡ false → length t.labels < 2 ^ 32 - 1 → IsTable t
+    → IsTable (record t { labels = t.labels ++ n ∷ []; bodies = t.bodies ++ None ∷ [] })
 IsTable-new_label t n a room o = record {
   values_distinct = o.values_distinct;
   labels_distinct = AllDistinct-push t.labels n o.labels_distinct (absent t.labels n a);
@@ -204,7 +205,8 @@ IsTable-entity t e o = record {
 
     stand : (b : ℕ) → Same b 0 → is_some (get_or (set (t.bodies ++ None ∷ []) 0 (Some [])) b None) ≡ is_block (entity_block ∷ []) b
     stand b (same p) = subst (λ n. is_some (get_or (set (t.bodies ++ None ∷ []) 0 (Some [])) n None) ≡ is_block (entity_block ∷ []) n) (sym p) (ap is_some first)
-    stand b (other p) = ap is_some (get_or-set_other (t.bodies ++ None ∷ []) 0 b (Some []) None p ∙ get_or-push_default t.bodies None b) ∙ none b ∙ sym (or_false (nat_eq 0 b) ∙ nat_eq-other 0 b (λ q. p (sym q)))
+    stand b (other p) = ap is_some (get_or-set_other (t.bodies ++ None ∷ []) 0 b (Some []) None p ∙ get_or-push_default t.bodies None b) ∙ none b
+        ∙ sym (or_false (nat_eq 0 b) ∙ nat_eq-other 0 b (λ q. p (sym q)))
 
 pub IsTable-begun : (t : Table) (k : UnitKind) → t.kind ≡ None → IsTable t → IsTable (begun t k)
 IsTable-begun t kind.Func e o = record {
@@ -237,7 +239,8 @@ IsTable-begun t kind.Proc e o = record {
   few_values = o.few_values;
   few_labels = o.few_labels;
 }
-IsTable-begun t kind.Entity e o = subst (λ bs. IsTable (record t { kind = Some kind.Entity; blocks = bs ++ entity_block ∷ []; bodies = set (t.bodies ++ None ∷ []) 0 (Some []) })) (sym (missing t e o).2) (IsTable-entity t e o)
+IsTable-begun t kind.Entity e o = subst (λ bs. IsTable (record t { kind = Some kind.Entity; blocks = bs ++ entity_block ∷ []; bodies = set (t.bodies ++ None ∷ []) 0 (Some []) }))
+    (sym (missing t e o).2) (IsTable-entity t e o)
 
 -- one more argument
 pub IsTable-with_arg : (t : Table) (a : Arg) → IsSome t.kind → a.value.0 < length t.values → is_defined t a.value.0 ≡ false → IsTable t → IsTable (with_arg t a)
@@ -299,7 +302,8 @@ IsTable-with_block t b s h a o = record {
   blocks_distinct = AllDistinct-push t.blocks b o.blocks_distinct (λ i p. apart t.blocks b.0 a i b p refl);
   enough_bodies = omega (arith, o.enough_bodies, length-set t.bodies b.0 (Some []));
   blocks_stand = λ k. stand k (same_or k b.0);
-  in_order = ap flat (map-append now t.blocks (b ∷ [])) ∙ flat-append (map now t.blocks) (now b ∷ []) ∙ (λ i. flat (others i) ++ (last i ++ [])) ∙ append-nil (flat (map (λ x. insts_at t x.0) t.blocks)) ∙ o.in_order;
+  in_order = ap flat (map-append now t.blocks (b ∷ [])) ∙ flat-append (map now t.blocks) (now b ∷ []) ∙ (λ i. flat (others i) ++ (last i ++ []))
+      ∙ append-nil (flat (map (λ x. insts_at t x.0) t.blocks)) ∙ o.in_order;
   few = o.few;
   few_values = o.few_values;
   few_labels = o.few_labels;
@@ -329,16 +333,17 @@ last-split t h = front_last t.blocks entity_block (length t.blocks - 1) (omega (
 
 pub last-stands : (t : Table) → 0 < length t.blocks → is_block t.blocks (last_block t).0 ≡ true
 last-stands t h = let s = last-split t h in
-    ap (λ bs. is_block bs (last_block t).0) s.1 ∙ is_block-push s.0 (last_block t) (last_block t).0 ∙ ap (λ c. is_block s.0 (last_block t).0 || c) (nat_eq-refl (last_block t).0) ∙ or_true (is_block s.0 (last_block t).0)
+    ap (λ bs. is_block bs (last_block t).0) s.1 ∙ is_block-push s.0 (last_block t) (last_block t).0 ∙ ap (λ c. is_block s.0 (last_block t).0 || c) (nat_eq-refl (last_block t).0)
+    ∙ or_true (is_block s.0 (last_block t).0)
 
 pub stands-within : (t : Table) (b : ℕ) → IsTable t → is_block t.blocks b ≡ true → b < length t.bodies
-stands-within t b o e = by (place (length t.bodies) b)
+stands-within t b o e = by (trichotomy (length t.bodies) b)
   where
     gone : length t.bodies ≤ b → ⊥
     gone h = let p : is_some (get_or t.bodies b None) ≡ false = ap is_some (get_or_past t.bodies b None h) in
         let q : is_some (get_or t.bodies b None) ≡ true = o.blocks_stand b ∙ e in cc
 
-    by : Place (length t.bodies) b → b < length t.bodies
+    by : Trichotomy (length t.bodies) b → b < length t.bodies
     by (before h) = h
     by (at h) = absurd (gone (omega (arith, h)))
     by (past h) = absurd (gone (omega (arith, h)))
@@ -356,7 +361,8 @@ front-apart t front o e i x p q =
     let n : i ≡ length front = o.blocks_distinct i (length front) (last_block t) y z in omega (arith, n, l)
 
 -- one more line
-pub IsTable-with_line : (t : Table) (r : Option ValueId) (i : Inst) → 0 < length t.blocks → ResultWithin (length t.values) r → length t.lines < 65536 → result_defined t r ≡ false → IsTable t → IsTable (with_line t r i)
+pub IsTable-with_line : (t : Table) (r : Option ValueId) (i : Inst) → 0 < length t.blocks → ResultWithin (length t.values) r → length t.lines < 65536 → result_defined t r ≡ false → IsTable t
+    → IsTable (with_line t r i)
 IsTable-with_line t r i h w few n o = record {
   values_distinct = o.values_distinct;
   labels_distinct = o.labels_distinct;
@@ -367,7 +373,8 @@ IsTable-with_line t r i h w few n o = record {
   blocks_distinct = o.blocks_distinct;
   enough_bodies = omega (arith, o.enough_bodies, length-set t.bodies b (Some longer));
   blocks_stand = λ k. stand k (same_or k b);
-  in_order = ap (λ bs. flat (map now bs)) s.1 ∙ ap flat (map-append now s.0 (last_block t ∷ [])) ∙ flat-append (map now s.0) (now (last_block t) ∷ []) ∙ (λ j. flat (others j) ++ (last j ++ [])) ∙ ordered;
+  in_order = ap (λ bs. flat (map now bs)) s.1 ∙ ap flat (map-append now s.0 (last_block t ∷ [])) ∙ flat-append (map now s.0) (now (last_block t) ∷ []) ∙ (λ j. flat (others j) ++ (last j ++ []))
+      ∙ ordered;
   few = omega (arith, length-append t.lines (line ∷ []));
   few_values = o.few_values;
   few_labels = o.few_labels;
@@ -458,16 +465,17 @@ args-few t defs o f = omega (arith, f.counted, f.long, args_among-few defs, o.fe
 pub Definitions-new_value : (t : Table) (defs : List ValueDef) (n : List ℕ) → IsTable t → Definitions t defs → Definitions (record t { values = t.values ++ n ∷ [] }) (defs ++ value_def.Missing ∷ [])
 Definitions-new_value t defs n o f = record {
   long = omega (arith, f.long, length-append defs (value_def.Missing ∷ []), length-append t.values (n ∷ []));
-  right = λ k h. subst (IsDefinition t k) (sym (get_or-push_default defs value_def.Missing k)) (by k h (place (length t.values) k));
+  right = λ k h. subst (IsDefinition t k) (sym (get_or-push_default defs value_def.Missing k)) (by k h (trichotomy (length t.values) k));
   counted = args_among-push defs ∙ f.counted;
 }
   where
-    by : (k : ℕ) → k < length (t.values ++ n ∷ []) → Place (length t.values) k → IsDefinition t k (get_or defs k value_def.Missing)
+    by : (k : ℕ) → k < length (t.values ++ n ∷ []) → Trichotomy (length t.values) k → IsDefinition t k (get_or defs k value_def.Missing)
     by k h (before b) = f.right k b
     by k h (at b) = subst (IsDefinition t k) (sym (get_or_past defs k value_def.Missing (omega (arith, b, f.long)))) (is_defined-past t k o (omega (arith, b)))
     by k h (past b) = absurd (omega (arith, b, h, length-append t.values (n ∷ [])))
 
-pub Definitions-with_arg : (t : Table) (defs : List ValueDef) (a : Arg) → is_defined t a.value.0 ≡ false → a.value.0 < length t.values → Definitions t defs → Definitions (with_arg t a) (set defs a.value.0 (value_def.Arg (length t.args)))
+pub Definitions-with_arg : (t : Table) (defs : List ValueDef) (a : Arg) → is_defined t a.value.0 ≡ false → a.value.0 < length t.values → Definitions t defs
+    → Definitions (with_arg t a) (set defs a.value.0 (value_def.Arg (length t.args)))
 Definitions-with_arg t defs a n h f = record {
   long = omega (arith, f.long, length-set defs a.value.0 (value_def.Arg (length t.args)));
   right = λ k w. by k w (same_or k a.value.0);
@@ -485,7 +493,8 @@ Definitions-with_arg t defs a n h f = record {
     by k w (other e) = subst (IsDefinition (with_arg t a) k) (sym (get_or-set_other defs a.value.0 k (value_def.Arg (length t.args)) value_def.Missing e))
         (IsDefinition-with_arg t a k (get_or defs k value_def.Missing) (nat_eq-other a.value.0 k (λ p. e (sym p))) (f.right k w))
 
-pub Definitions-with_line : (t : Table) (defs : List ValueDef) (r : Option ValueId) (i : Inst) → result_defined t r ≡ false → ResultWithin (length t.values) r → Definitions t defs → Definitions (with_line t r i) (with_definition defs r (value_def.Inst record { 0 = length t.lines }))
+pub Definitions-with_line : (t : Table) (defs : List ValueDef) (r : Option ValueId) (i : Inst) → result_defined t r ≡ false → ResultWithin (length t.values) r → Definitions t defs
+    → Definitions (with_line t r i) (with_definition defs r (value_def.Inst record { 0 = length t.lines }))
 Definitions-with_line t defs None i n w f = record { long = f.long; right = λ k h. IsDefinition-with_line t None i k (get_or defs k value_def.Missing) refl (f.right k h); counted = f.counted }
 Definitions-with_line t defs (Some v) i n w f = record {
   long = omega (arith, f.long, length-set defs v.0 (value_def.Inst record { 0 = length t.lines }));
@@ -516,7 +525,8 @@ Definitions-same t u defs v a l f = record {
 }
 
 -- a table with these parts is in order
-pub IsTable-by : (u t : Table) → u.kind ≡ t.kind → u.values ≡ t.values → u.labels ≡ t.labels → u.args ≡ t.args → u.result ≡ t.result → u.blocks ≡ t.blocks → u.bodies ≡ t.bodies → u.lines ≡ t.lines → IsTable t → IsTable u
+pub IsTable-by : (u t : Table) → u.kind ≡ t.kind → u.values ≡ t.values → u.labels ≡ t.labels → u.args ≡ t.args → u.result ≡ t.result → u.blocks ≡ t.blocks → u.bodies ≡ t.bodies → u.lines ≡ t.lines
+    → IsTable t → IsTable u
 IsTable-by u t k v l a r b d n o = subst IsTable (sym same_table) o
   where
     same_table : u ≡ t
@@ -552,7 +562,8 @@ result-told t defs None f h = refl
 result-told t defs (Some v) f h = sym (definition-tells t v.0 (get_or defs v.0 value_def.Missing) (f.right v.0 h))
 
 -- the lines and bodies that were written
-pub line-laid : (t : Table) (b : BlockId) (lines : List Line) (bodies : List (Option (List InstId))) (r : Option ValueId) (i : Inst) → b ≡ last_block t → lines ≡ t.lines ++ record { result = r; inst = i } ∷ []
+pub line-laid : (t : Table) (b : BlockId) (lines : List Line) (bodies : List (Option (List InstId))) (r : Option ValueId) (i : Inst) → b ≡ last_block t
+    → lines ≡ t.lines ++ record { result = r; inst = i } ∷ []
     → bodies ≡ set t.bodies b.0 (Some (unwrap_or (get_or t.bodies b.0 None) [] ++ record { 0 = length t.lines } ∷ [])) → record t { lines = lines; bodies = bodies } ≡ with_line t r i
 line-laid t b lines bodies r i e l d =
     let w : bodies ≡ (with_line t r i).bodies = d ∙ ap (λ (x : BlockId). set t.bodies x.0 (Some (unwrap_or (get_or t.bodies x.0 None) [] ++ record { 0 = length t.lines } ∷ []))) e in

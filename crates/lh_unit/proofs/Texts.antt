@@ -111,7 +111,8 @@ module _ (s : Sizes) (f g : Naming) (e : Agree s f g) where
   maybe-of None h = tt
   maybe-of (Some v) h = h
 
-  line-same : (t : Table) (i : ℕ) → i < length t.lines → ResultsWithin s.values t.lines → ((k : ℕ) (l : Line) → slice_get t.lines k ≡ Some l → InstWithin s l.inst) → line_text f (line_at t i) ≡ line_text g (line_at t i)
+  line-same : (t : Table) (i : ℕ) → i < length t.lines → ResultsWithin s.values t.lines → ((k : ℕ) (l : Line) → slice_get t.lines k ≡ Some l → InstWithin s l.inst)
+      → line_text f (line_at t i) ≡ line_text g (line_at t i)
   line-same t i h w p =
       let q : slice_get t.lines i ≡ Some (line_at t i) = slice_get-get_or t.lines i no_line h in
       let r : maybe_text f (line_at t i).result ≡ maybe_text g (line_at t i).result = maybe-same (line_at t i).result (maybe-of (line_at t i).result (result_within t.lines i (line_at t i) q w)) in
@@ -128,14 +129,16 @@ insts-within t o j b p = Each-part (λ (i : InstId). i.0 < length t.lines) (λ (
     (subst (Each (λ (i : InstId). i.0 < length t.lines)) (sym o.in_order) (ids-within (length t.lines) 0 t.lines (omega arith)))
 
 -- the label of a block of the unit
-label-same : (s : Sizes) (f g : Naming) → Agree s f g → (k : Option UnitKind) (t : Table) → s.labels ≡ length t.labels → FitsKind k t → (j : ℕ) (b : BlockId) → slice_get t.blocks j ≡ Some b → label_text f k b ≡ label_text g k b
+label-same : (s : Sizes) (f g : Naming) → Agree s f g → (k : Option UnitKind) (t : Table) → s.labels ≡ length t.labels → FitsKind k t → (j : ℕ) (b : BlockId) → slice_get t.blocks j ≡ Some b
+    → label_text f k b ≡ label_text g k b
 label-same s f g e None t n w j b p = let z : slice_get [] j ≡ Some b = ap (λ bs. slice_get bs j) (sym w.2) ∙ p in cc
 label-same s f g e (Some kind.Func) t n w j b p = ap Some (e.labels b.0 (omega (arith, n, BlocksWithin-at (length t.labels) t.blocks j b p w.1)))
 label-same s f g e (Some kind.Proc) t n w j b p = ap Some (e.labels b.0 (omega (arith, n, BlocksWithin-at (length t.labels) t.blocks j b p w.1)))
 label-same s f g e (Some kind.Entity) t n w j b p = refl
 
 -- the text of a unit under two namings
-pub table_text-same : (n : ℕ) (f g : Naming) (name : UnitName) (t : Table) → Agree (sizes_of n t) f g → IsTable t → ((k : ℕ) (l : Line) → slice_get t.lines k ≡ Some l → InstWithin (sizes_of n t) l.inst) → table_text f name t ≡ table_text g name t
+pub table_text-same : (n : ℕ) (f g : Naming) (name : UnitName) (t : Table) → Agree (sizes_of n t) f g → IsTable t
+    → ((k : ℕ) (l : Line) → slice_get t.lines k ≡ Some l → InstWithin (sizes_of n t) l.inst) → table_text f name t ≡ table_text g name t
 table_text-same n f g name t e o p =
     let xs : map (arg_text f) t.args ≡ map (arg_text g) t.args = args-same (sizes_of n t) f g e t.args o.args_within in
     let bs : map (block_text f t) t.blocks ≡ map (block_text g t) t.blocks = map-same (block_text f t) (block_text g t) t.blocks block in

@@ -37,7 +37,8 @@ module _ (a : Arena) (u : UnitId) (s t : Table) (o : IsArena a) (h : u.0 < unit_
       let g : FindsLabelIn r (table_at a u.0) t n = subst (λ (x : Table). FindsLabelIn r x t n) (read a u.0 s h e) f in
       (IsArena-with_table a u.0 t o h (FindsLabelIn-Keeps (unit_count a) r (table_at a u.0) t n g room (o.tables u.0 h) (o.placed u.0)), FindsLabel-with_table r a u t n o h g)
 
-  pub arg-written : (r : Result (Unit {0}) UnitFault) (x : Arg) → IsOpen a u → x.value.0 < value_count a u.0 → TakesArg r s t x → IsArena (with_table a u.0 t) × AddsArg r a (with_table a u.0 t) u (arg_text (naming a u.0) x)
+  pub arg-written : (r : Result (Unit {0}) UnitFault) (x : Arg) → IsOpen a u → x.value.0 < value_count a u.0 → TakesArg r s t x → IsArena (with_table a u.0 t)
+      × AddsArg r a (with_table a u.0 t) u (arg_text (naming a u.0) x)
   arg-written r x p w f =
       let g : TakesArg r (table_at a u.0) t x = subst (λ (y : Table). TakesArg r y t x) (read a u.0 s h e) f in
       (IsArena-with_table a u.0 t o h (TakesArg-Keeps (unit_count a) r (table_at a u.0) t x g (open-begun a u o p) w (o.tables u.0 h) (o.placed u.0)), AddsArg-with_table a u o p r t x w g)
@@ -47,12 +48,14 @@ module _ (a : Arena) (u : UnitId) (s t : Table) (o : IsArena a) (h : u.0 < unit_
       let g : t ≡ with_result (table_at a u.0) ty = f ∙ ap (λ (y : Table). with_result y ty) (read a u.0 s h e) in
       (IsArena-with_table a u.0 t o h (with_result-Keeps (unit_count a) (table_at a u.0) t ty g k (o.tables u.0 h) (o.placed u.0)), SetsResult-with_table a u o p t ty g)
 
-  pub block-written : (r : Result (Unit {0}) UnitFault) (b : BlockId) → IsOpen a u → HasBlocks (kind_at a u.0) → b.0 < label_count a u.0 → TakesBlock r s t b → IsArena (with_table a u.0 t) × AddsBlock r a (with_table a u.0 t) u (label_name_at a u.0 b.0)
+  pub block-written : (r : Result (Unit {0}) UnitFault) (b : BlockId) → IsOpen a u → HasBlocks (kind_at a u.0) → b.0 < label_count a u.0 → TakesBlock r s t b → IsArena (with_table a u.0 t)
+      × AddsBlock r a (with_table a u.0 t) u (label_name_at a u.0 b.0)
   block-written r b p k w f =
       let g : TakesBlock r (table_at a u.0) t b = subst (λ (y : Table). TakesBlock r y t b) (read a u.0 s h e) f in
       (IsArena-with_table a u.0 t o h (TakesBlock-Keeps (unit_count a) r (table_at a u.0) t b g k w (o.tables u.0 h) (o.placed u.0)), AddsBlock-with_table a u o p r t b k w g)
 
-  pub line-written : (r : Result InstId UnitFault) (v : Option ValueId) (i : Inst) → IsOpen a u → 0 < length (table_at a u.0).blocks → ResultWithin (value_count a u.0) v → InstPlaced a u.0 i → TakesLine r s t v i → IsArena (with_table a u.0 t) × AddsLine r a (with_table a u.0 t) u (line_text_at a u.0 v i)
+  pub line-written : (r : Result InstId UnitFault) (v : Option ValueId) (i : Inst) → IsOpen a u → 0 < length (table_at a u.0).blocks → ResultWithin (value_count a u.0) v → InstPlaced a u.0 i
+      → TakesLine r s t v i → IsArena (with_table a u.0 t) × AddsLine r a (with_table a u.0 t) u (line_text_at a u.0 v i)
   line-written r v i p b w x f =
       let g : TakesLine r (table_at a u.0) t v i = subst (λ (y : Table). TakesLine r y t v i) (read a u.0 s h e) f in
       (IsArena-with_table a u.0 t o h (TakesLine-Keeps (unit_count a) r (table_at a u.0) t v i g b w x (o.tables u.0 h) (o.placed u.0)), AddsLine-with_table a u o p r t v i w b g)

@@ -18,27 +18,27 @@ use Rattle.lh_unit.specs.declared.inst.UnitFault.{UnitFault}
 use Rattle.lh_unit.specs.declared.inst.UnitFault.TheVariants as fault
 
 -- an entry is found or made, and nothing else changes
-pub record Finds (old new : Arena) : Type 0 where
+pub record FindsEntry (old new : Arena) : Type 0 where
   pub grows : Grows old new
   pub few : (n : ℕ) → HasAtMost n old → HasAtMost (n + 1) new
 
 -- the entry of a unit of this name
 abbrev pub FindsUnit : Result UnitId NoMemory → Arena → Arena → UnitName → Type 0
-FindsUnit (Ok u) old new n = Finds old new × (u.0 < unit_count new) × (unit_name_at new u.0 ≡ n) × HasFewMore 1 none_more none_more old new
+FindsUnit (Ok u) old new n = FindsEntry old new × (u.0 < unit_count new) × (unit_name_at new u.0 ≡ n) × HasFewMore 1 none_more none_more old new
 FindsUnit (Err _) old new n = new ≡ old
 
 -- the entry of a value of this name in the unit u
 abbrev pub FindsValue : Result ValueId NoMemory → Arena → Arena → UnitId → List ℕ → Type 0
-FindsValue (Ok v) old new u n = Finds old new × (v.0 < value_count new u.0) × (value_name_at new u.0 v.0 ≡ n) × HasFewMore 0 (one_more_in u.0) none_more old new
+FindsValue (Ok v) old new u n = FindsEntry old new × (v.0 < value_count new u.0) × (value_name_at new u.0 v.0 ≡ n) × HasFewMore 0 (one_more_in u.0) none_more old new
 FindsValue (Err _) old new u n = new ≡ old
 
 -- the entry of a label of this name in the unit u
 abbrev pub FindsLabel : Result BlockId NoMemory → Arena → Arena → UnitId → List ℕ → Type 0
-FindsLabel (Ok b) old new u n = Finds old new × (b.0 < label_count new u.0) × (label_name_at new u.0 b.0 ≡ n) × HasFewMore 0 none_more (one_more_in u.0) old new
+FindsLabel (Ok b) old new u n = FindsEntry old new × (b.0 < label_count new u.0) × (label_name_at new u.0 b.0 ≡ n) × HasFewMore 0 none_more (one_more_in u.0) old new
 FindsLabel (Err _) old new u n = new ≡ old
 
 -- the contents of new are these, u is open there, and every entry of old has its name; there are no more entries
-pub record Says (old new : Arena) (u : UnitId) (items : List ItemText) : Type 0 where
+pub record HasContents (old new : Arena) (u : UnitId) (items : List ItemText) : Type 0 where
   pub says : contents new ≡ items
   pub is_open : IsOpen new u
   pub entries : KeepsEntries old new
@@ -47,21 +47,21 @@ pub record Says (old new : Arena) (u : UnitId) (items : List ItemText) : Type 0 
 
 -- u becomes the open unit
 abbrev pub BeginsUnit : Result (Unit {0}) UnitFault → Arena → Arena → UnitId → UnitKind → Type 0
-BeginsUnit (Ok _) old new u k = (defines_unit (unit_name_at old u.0) (contents old) ≡ false) × Says old new u (contents old ++ unit_text (new_unit (unit_name_at old u.0) k) ∷ [])
+BeginsUnit (Ok _) old new u k = (defines_unit (unit_name_at old u.0) (contents old) ≡ false) × HasContents old new u (contents old ++ unit_text (new_unit (unit_name_at old u.0) k) ∷ [])
 BeginsUnit (Err fault.DuplicateName) old new u k = (defines_unit (unit_name_at old u.0) (contents old) ≡ true) × (new ≡ old)
 BeginsUnit (Err fault.OutOfMemory) old new u k = (defines_unit (unit_name_at old u.0) (contents old) ≡ false) × (new ≡ old)
 BeginsUnit (Err fault.UnitTooLarge) old new u k = ⊥
 
 -- the open unit u has one more argument
 abbrev pub AddsArg : Result (Unit {0}) UnitFault → Arena → Arena → UnitId → ArgText → Type 0
-AddsArg (Ok _) old new u a = OfOpen old (λ t. defines_value a.name t ≡ false) × Says old new u (change_last (with_arg a) (contents old))
+AddsArg (Ok _) old new u a = OfOpen old (λ t. defines_value a.name t ≡ false) × HasContents old new u (change_last (with_arg a) (contents old))
 AddsArg (Err fault.DuplicateName) old new u a = OfOpen old (λ t. defines_value a.name t ≡ true) × (new ≡ old)
 AddsArg (Err fault.OutOfMemory) old new u a = OfOpen old (λ t. defines_value a.name t ≡ false) × (new ≡ old)
 AddsArg (Err fault.UnitTooLarge) old new u a = ⊥
 
 -- the open unit u has one more block, with no instructions
 abbrev pub AddsBlock : Result (Unit {0}) UnitFault → Arena → Arena → UnitId → List ℕ → Type 0
-AddsBlock (Ok _) old new u n = OfOpen old (λ t. defines_label n t ≡ false) × Says old new u (change_last (with_block n) (contents old))
+AddsBlock (Ok _) old new u n = OfOpen old (λ t. defines_label n t ≡ false) × HasContents old new u (change_last (with_block n) (contents old))
 AddsBlock (Err fault.DuplicateName) old new u n = OfOpen old (λ t. defines_label n t ≡ true) × (new ≡ old)
 AddsBlock (Err fault.OutOfMemory) old new u n = OfOpen old (λ t. defines_label n t ≡ false) × (new ≡ old)
 AddsBlock (Err fault.UnitTooLarge) old new u n = ⊥
@@ -83,7 +83,7 @@ pub record HasTwice (l : LineText) (t : UnitText) : Type 0 where
 
 -- the last block of the open unit u has one more line
 abbrev pub AddsLine : Result InstId UnitFault → Arena → Arena → UnitId → LineText → Type 0
-AddsLine (Ok i) old new u l = OfOpen old (HasRoom l) × Says old new u (change_last (with_line l) (contents old)) × (i.0 ≡ inst_count old u.0)
+AddsLine (Ok i) old new u l = OfOpen old (HasRoom l) × HasContents old new u (change_last (with_line l) (contents old)) × (i.0 ≡ inst_count old u.0)
 AddsLine (Err fault.UnitTooLarge) old new u l = OfOpen old (λ t. line_count t.blocks ≡ 65536) × (new ≡ old)
 AddsLine (Err fault.DuplicateName) old new u l = OfOpen old (HasTwice l) × (new ≡ old)
 AddsLine (Err fault.OutOfMemory) old new u l = OfOpen old (HasRoom l) × (new ≡ old)
@@ -105,7 +105,7 @@ HasLabels kind.Entity = ⊥
 
 -- the open unit u has this result type
 abbrev pub SetsResult : Arena → Arena → UnitId → TypeTree → Type 0
-SetsResult old new u ty = Says old new u (change_last (with_result ty) (contents old))
+SetsResult old new u ty = HasContents old new u (change_last (with_result ty) (contents old))
 
 -- the entry of a unit of this name, or none where there is no such entry
 abbrev pub Locates : Option UnitId → Arena → UnitName → Type 0

@@ -4,7 +4,7 @@ use Rattle.lh_unit.specs.Contents.{LineText}
 use Rattle.lh_unit.specs.Table.{Table, line_at, insts_at, is_result}
 use Rattle.lh_unit.specs.Naming.{Naming, line_text, block_text}
 use Rattle.lh_unit.specs.Arena.{Arena, table_at, naming, unit_text_at}
-use Rattle.lh_unit.specs.Places.{Place}
+use Rattle.lh_unit.specs.Places.{InstPlaceText}
 use Rattle.lh_unit.specs.WellFormed.{Site}
 use Rattle.lh_unit.specs.declared.inst.UnitId.{UnitId}
 use Rattle.lh_unit.specs.declared.inst.BlockId.{BlockId}
@@ -124,7 +124,7 @@ is_item (item.Unit u ∷ more) v = nat_eq u.0 v || is_item more v
 is_item (item.Declare d ∷ more) v = is_item more v
 
 -- a place of an instruction: its number in the unit from 1, whether its block is the entry, its block, and the instructions of the block before and after it
-pub record Spot : Type 0 where
+pub record InstPlace : Type 0 where
   pub number : ℕ
   pub in_entry : Bool
   pub block : BlockId
@@ -133,34 +133,41 @@ pub record Spot : Type 0 where
   pub after : List InstId
 
 -- the places of the rest of a block, the first of them having this number
-abbrev pub spots_in : (number : ℕ) → (in_entry : Bool) → BlockId → (before rest : List InstId) → List Spot
-spots_in k e b before [] = []
-spots_in k e b before (i ∷ rest) =
-    record { number = k; in_entry = e; block = b; before = before; inst = i; after = rest } ∷ spots_in (k + 1) e b (before ++ i ∷ []) rest
+abbrev pub inst_places_in : (number : ℕ) → (in_entry : Bool) → BlockId → (before rest : List InstId) → List InstPlace
+inst_places_in k e b before [] = []
+inst_places_in k e b before (i ∷ rest) =
+    record { number = k; in_entry = e; block = b; before = before; inst = i; after = rest } ∷ inst_places_in (k + 1) e b (before ++ i ∷ []) rest
 
 -- the places of blocks, the first of them having this number
-abbrev pub spots_from : Table → (number : ℕ) → (in_entry : Bool) → List BlockId → List Spot
-spots_from t k e [] = []
-spots_from t k e (b ∷ more) = spots_in k e b [] (insts_at t b.0) ++ spots_from t (k + length (insts_at t b.0)) false more
+abbrev pub inst_places_from : Table → (number : ℕ) → (in_entry : Bool) → List BlockId → List InstPlace
+inst_places_from t k e [] = []
+inst_places_from t k e (b ∷ more) = inst_places_in k e b [] (insts_at t b.0) ++ inst_places_from t (k + length (insts_at t b.0)) false more
 
 -- the places of a unit in file order
-abbrev pub spots : Table → List Spot
-spots t = spots_from t 1 true t.blocks
+abbrev pub inst_places : Table → List InstPlace
+inst_places t = inst_places_from t 1 true t.blocks
 
 -- the text of an instruction with its result
-abbrev pub inst_line : Naming → Table → InstId → LineText
-inst_line f t i = line_text f (line_at t i.0)
+abbrev pub inst_line_text : Naming → Table → InstId → LineText
+inst_line_text f t i = line_text f (line_at t i.0)
 
 -- the text of a place
-abbrev pub place_text : Naming → Table → Spot → Place
-place_text f t s = record { number = s.number; in_entry = s.in_entry; block = block_text f t s.block; before = map (inst_line f t) s.before; line = inst_line f t s.inst; after = map (inst_line f t) s.after }
+abbrev pub place_text : Naming → Table → InstPlace → InstPlaceText
+place_text f t s = record {
+  number = s.number;
+  in_entry = s.in_entry;
+  block = block_text f t s.block;
+  before = map (inst_line_text f t) s.before;
+  line = inst_line_text f t s.inst;
+  after = map (inst_line_text f t) s.after;
+}
 
 -- a place of the unit u as an instruction of the module
-abbrev pub site_text : Arena → ℕ → Spot → Site
+abbrev pub site_text : Arena → ℕ → InstPlace → Site
 site_text a u s = record { unit = unit_text_at a u; place = place_text (naming a u) (table_at a u) s }
 
 -- the instructions of a module in file order
 abbrev pub sites_at : Arena → List Item → List Site
 sites_at a [] = []
-sites_at a (item.Unit u ∷ more) = map (site_text a u.0) (spots (table_at a u.0)) ++ sites_at a more
+sites_at a (item.Unit u ∷ more) = map (site_text a u.0) (inst_places (table_at a u.0)) ++ sites_at a more
 sites_at a (item.Declare d ∷ more) = sites_at a more

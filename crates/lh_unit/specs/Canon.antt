@@ -1,8 +1,10 @@
 -- The canonical text of a file, one case for each spelling of the language.
 use Rattle.std.specs.Prelude.{ℕ, nat_eq, not, Bool, true, false, List, [], ◌∷◌, ◌++◌, map, filter, Option, Some, None, if◌then◌else◌, codes}
 use Rattle.lh_types.specs.Types.{TypeTree, row_of}
+use Rattle.lh_types.specs.Classes.{class_of}
 use Rattle.lh_types.specs.declared.op.Op.{Op}
-use Rattle.lh_types.specs.declared.op.Op.TheVariants as op
+use Rattle.lh_types.specs.declared.op.OpClass.{OpClass}
+use Rattle.lh_types.specs.declared.op.OpClass.TheVariants as class
 use Rattle.lh_unit.specs.Contents.{OperandText, TriggerText, EdgeText, InstText, LineText, BlockText, ArgText, ItemText, const_text, pure_text, var_text, ld_text, st_text, sig_text, prb_text, drv_text, reg_text, child_text, call_text, phi_text, br_text, branch_text, wait_text, halt_text, ret_text, unit_text, declare_text}
 use Rattle.lh_unit.specs.Lexemes.{word, global, local, arrow}
 use Rattle.lh_unit.specs.Marks.{open_brace, close_brace, colon, equals}
@@ -43,15 +45,30 @@ trigger t = in_brackets (percent t.value ⸴ token (word (mode_word t.mode)) ∷
 abbrev pub edge : EdgeText → List Piece
 edge e = in_brackets (percent e.value ⸴ percent e.block)
 
-abbrev pub operation : Op → List OperandText → List Piece
--- [D %a, %b]
-operation op.Array args = in_brackets (operands args)
--- [N x D %a]
-operation (op.Repeat n) args = in_brackets (number n ␣ keyword "x" ␣ operands args)
--- {D1 %a, D2 %b}
-operation op.Tuple args = in_braces (operands args)
 -- op D %a, %b, k
-operation o args = token (word (op_word o)) ∷ [] ␣ operands args ++ behind_commas (map number (op_numbers o))
+abbrev pub worded : Op → List OperandText → List Piece
+worded o args = token (word (op_word o)) ∷ [] ␣ operands args ++ behind_commas (map number (op_numbers o))
+
+-- an operation of the class
+abbrev pub class_pieces : OpClass → Op → List OperandText → List Piece
+class_pieces class.Unary o args = worded o args
+class_pieces class.Binary o args = worded o args
+class_pieces class.Relation o args = worded o args
+class_pieces class.Equality o args = worded o args
+class_pieces class.Shift o args = worded o args
+class_pieces class.Select o args = worded o args
+class_pieces (class.TakePart s) o args = worded o args
+class_pieces (class.PutPart s) o args = worded o args
+-- [D %a, %b]
+class_pieces class.Array o args = in_brackets (operands args)
+-- [N x D %a]
+class_pieces (class.Repeat n) o args = in_brackets (number n ␣ keyword "x" ␣ operands args)
+-- {D1 %a, D2 %b}
+class_pieces class.Tuple o args = in_braces (operands args)
+
+-- an operation
+abbrev pub operation : Op → List OperandText → List Piece
+operation o args = class_pieces (class_of o) o args
 
 -- an instruction
 abbrev pub inst_pieces : InstText → List Piece
@@ -101,8 +118,8 @@ assigned (Some r) = percent r ␣ mark equals ␣ []
 abbrev pub line_pieces : Option (List ℕ) → InstText → List Piece
 line_pieces r i = space ∷ space ∷ space ∷ space ∷ assigned r ++ inst_pieces i
 
-abbrev pub inst_line : LineText → List Piece
-inst_line l = line_pieces l.result l.inst
+abbrev pub canon_inst_line : LineText → List Piece
+canon_inst_line l = line_pieces l.result l.inst
 
 -- name:
 abbrev pub label_lines : Option (List ℕ) → List (List Piece)
@@ -110,7 +127,7 @@ label_lines None = []
 label_lines (Some n) = (token (word n) ∷ token colon ∷ []) ∷ []
 
 abbrev pub block_lines : BlockText → List (List Piece)
-block_lines b = label_lines b.label ++ map inst_line b.lines
+block_lines b = label_lines b.label ++ map canon_inst_line b.lines
 
 abbrev pub blocks_lines : List BlockText → List (List Piece)
 blocks_lines [] = []

@@ -1,5 +1,10 @@
 -- The words of the language: operations, the triggers of registers and the kinds of units.
 use Rattle.std.specs.Prelude.{ℕ, List, [], ◌∷◌, codes}
+use Rattle.lh_types.specs.Classes.{class_of}
+use Rattle.lh_types.specs.declared.part.Step.{Step}
+use Rattle.lh_types.specs.declared.part.Step.TheVariants.{Field, Slice}
+use Rattle.lh_types.specs.declared.op.OpClass.{OpClass}
+use Rattle.lh_types.specs.declared.op.OpClass.TheVariants as class
 use Rattle.lh_types.specs.declared.op.Op.{Op}
 use Rattle.lh_types.specs.declared.op.Op.TheVariants as op
 use Rattle.lh_unit.specs.declared.inst.Mode.{Mode}
@@ -43,13 +48,28 @@ op_word op.Array = []
 op_word (op.Repeat n) = []
 op_word op.Tuple = []
 
+-- the numbers of a step: those of a field or element, and of bits or elements
+abbrev pub step_numbers : Step → List ℕ
+step_numbers (Field k) = k ∷ []
+step_numbers (Slice at len) = at ∷ len ∷ []
+
+-- the numbers that an operation of the class writes behind its operands
+abbrev pub class_numbers : OpClass → List ℕ
+class_numbers class.Unary = []
+class_numbers class.Binary = []
+class_numbers class.Relation = []
+class_numbers class.Equality = []
+class_numbers class.Shift = []
+class_numbers class.Select = []
+class_numbers (class.TakePart s) = step_numbers s
+class_numbers (class.PutPart s) = step_numbers s
+class_numbers class.Array = []
+class_numbers (class.Repeat n) = []
+class_numbers class.Tuple = []
+
 -- the numbers that an operation writes behind its operands
 abbrev pub op_numbers : Op → List ℕ
-op_numbers (op.Extf k) = k ∷ []
-op_numbers (op.Exts at len) = at ∷ len ∷ []
-op_numbers (op.Insf k) = k ∷ []
-op_numbers (op.Inss at len) = at ∷ len ∷ []
-op_numbers _ = []
+op_numbers o = class_numbers (class_of o)
 
 -- the word of a register's trigger
 abbrev pub mode_word : Mode → List ℕ

@@ -5,7 +5,7 @@ use Rattle.lh_unit.specs.Contents.{InstText, br_text, branch_text, wait_text, ha
 use Rattle.lh_unit.specs.Named.{block_of, label_or}
 
 -- a place of an instruction: its number in the unit from 1, whether its block is the entry, its block, and the instructions of the block before and after it
-pub record Place : Type 0 where
+pub record InstPlaceText : Type 0 where
   pub number : ℕ
   pub in_entry : Bool
   pub block : BlockText
@@ -14,18 +14,18 @@ pub record Place : Type 0 where
   pub after : List LineText
 
 -- the places of the rest of a block, the first of them having this number
-abbrev pub places_in : (number : ℕ) → (in_entry : Bool) → BlockText → (before rest : List LineText) → List Place
+abbrev pub places_in : (number : ℕ) → (in_entry : Bool) → BlockText → (before rest : List LineText) → List InstPlaceText
 places_in k e b before [] = []
 places_in k e b before (l ∷ rest) =
     record { number = k; in_entry = e; block = b; before = before; line = l; after = rest } ∷ places_in (k + 1) e b (before ++ l ∷ []) rest
 
 -- the places of blocks, the first of them having this number
-abbrev pub places_from : (number : ℕ) → (in_entry : Bool) → List BlockText → List Place
+abbrev pub places_from : (number : ℕ) → (in_entry : Bool) → List BlockText → List InstPlaceText
 places_from k e [] = []
 places_from k e (b ∷ more) = places_in k e b [] b.lines ++ places_from (k + length b.lines) false more
 
 -- the places of a unit in file order
-abbrev pub places : UnitText → List Place
+abbrev pub places : UnitText → List InstPlaceText
 places u = places_from 1 true u.blocks
 
 -- the labels to which an instruction may lead

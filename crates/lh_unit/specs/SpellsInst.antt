@@ -63,28 +63,40 @@ IsOpWord o w = w ≡ op_word o
 
 -- `op D %a, %b`, and behind it the numbers that it has
 abbrev pub SpellsWordOp : Op → List OperandText → List Lexeme → Type 0
-SpellsWordOp o args ts = (w : List ℕ) × (us : List Lexeme) × (vs : List Lexeme) × (ts ≡ word w ∷ us) × IsOpWord o w × SpellsColumns (columns o) args us vs × SpellsBehind SpellsNumber (op_numbers o) vs []
+SpellsWordOp o args ts = (w : List ℕ) × (us : List Lexeme) × (vs : List Lexeme) × (ts ≡ word w ∷ us) × IsOpWord o w × SpellsColumns (columns o) args us vs
+    × SpellsBehind SpellsNumber (op_numbers o) vs []
 
 -- the types that are written before operands, where each has one
 abbrev pub written_types : List OperandText → List TypeTree
 written_types [] = []
 written_types (o ∷ more) = elim o.ty [ None ↦ written_types more | Some t ↦ t ∷ written_types more ]
 
--- an operation; an array or struct has a type within the limits
-abbrev pub SpellsPure : Op → List OperandText → List Lexeme → Type 0
+-- an operation of the class; an array or struct has a type within the limits
+abbrev pub SpellsOfClass : OpClass → Op → List OperandText → List Lexeme → Type 0
+SpellsOfClass class.Unary o args ts = SpellsWordOp o args ts
+SpellsOfClass class.Binary o args ts = SpellsWordOp o args ts
+SpellsOfClass class.Relation o args ts = SpellsWordOp o args ts
+SpellsOfClass class.Equality o args ts = SpellsWordOp o args ts
+SpellsOfClass class.Shift o args ts = SpellsWordOp o args ts
+SpellsOfClass class.Select o args ts = SpellsWordOp o args ts
+SpellsOfClass (class.TakePart s) o args ts = SpellsWordOp o args ts
+SpellsOfClass (class.PutPart s) o args ts = SpellsWordOp o args ts
 -- `[D %a, %b]`
-SpellsPure op.Array [] ts = ⊥
-SpellsPure op.Array (o ∷ rest) ts =
-    (t : TypeTree) × (us : List Lexeme) × (vs : List Lexeme) × (ts ≡ open_bracket ∷ us) × (o.ty ≡ Some t)
-    × SpellsType t us (local o.value ∷ vs) × SpellsBehind SpellsBare rest vs (close_bracket ∷ []) × IsLimited (array_type (length (o ∷ rest)) t)
+SpellsOfClass class.Array o [] ts = ⊥
+SpellsOfClass class.Array o (a ∷ rest) ts =
+    (t : TypeTree) × (us : List Lexeme) × (vs : List Lexeme) × (ts ≡ open_bracket ∷ us) × (a.ty ≡ Some t)
+    × SpellsType t us (local a.value ∷ vs) × SpellsBehind SpellsBare rest vs (close_bracket ∷ []) × IsLimited (array_type (length (a ∷ rest)) t)
 -- `[N x D %a]`
-SpellsPure (op.Repeat n) (o ∷ []) ts =
-    (t : TypeTree) × (w : List ℕ) × (us : List Lexeme) × (ts ≡ open_bracket ∷ word w ∷ word (codes "x") ∷ us) × (number_of w ≡ Some n) × (o.ty ≡ Some t)
-    × SpellsType t us (local o.value ∷ close_bracket ∷ []) × IsLimited (array_type n t)
-SpellsPure (op.Repeat n) _ ts = ⊥
+SpellsOfClass (class.Repeat n) o (a ∷ []) ts =
+    (t : TypeTree) × (w : List ℕ) × (us : List Lexeme) × (ts ≡ open_bracket ∷ word w ∷ word (codes "x") ∷ us) × (number_of w ≡ Some n) × (a.ty ≡ Some t)
+    × SpellsType t us (local a.value ∷ close_bracket ∷ []) × IsLimited (array_type n t)
+SpellsOfClass (class.Repeat n) o _ ts = ⊥
 -- `{D1 %a, D2 %b}`
-SpellsPure op.Tuple args ts = (us : List Lexeme) × (ts ≡ open_brace ∷ us) × SpellsParts SpellsWithType args us (close_brace ∷ []) × IsLimited (tuple_type (row_of (written_types args)))
-SpellsPure o args ts = SpellsWordOp o args ts
+SpellsOfClass class.Tuple o args ts = (us : List Lexeme) × (ts ≡ open_brace ∷ us) × SpellsParts SpellsWithType args us (close_brace ∷ []) × IsLimited (tuple_type (row_of (written_types args)))
+
+-- an operation
+abbrev pub SpellsPure : Op → List OperandText → List Lexeme → Type 0
+SpellsPure o args ts = SpellsOfClass (class_of o) o args ts
 
 -- what follows `drv S %s, %v`
 abbrev pub SpellsDelay : (after : List ℕ) → (cond : Option (List ℕ)) → List Lexeme → Type 0

@@ -53,9 +53,9 @@ begun t kind.Func = record t { kind = Some kind.Func; result = Some void_type }
 begun t kind.Proc = record t { kind = Some kind.Proc }
 begun t kind.Entity = record t { kind = Some kind.Entity; blocks = t.blocks ++ entity_block ∷ []; bodies = slice_set (t.bodies ++ None ∷ []) 0 (Some []) }
 
-abbrev pub Begins : Result (Unit {0}) NoMemory → Table → Table → UnitKind → Type 0
-Begins (Ok _) old new k = new ≡ begun old k
-Begins (Err _) old new k = new ≡ old
+abbrev pub BeginsTable : Result (Unit {0}) NoMemory → Table → Table → UnitKind → Type 0
+BeginsTable (Ok _) old new k = new ≡ begun old k
+BeginsTable (Err _) old new k = new ≡ old
 
 abbrev pub with_arg : Table → Arg → Table
 with_arg t a = record t { args = t.args ++ a ∷ [] }

@@ -16,7 +16,7 @@ use Rattle.lh_unit.specs.Named.{unit_named, block_of, is_assert, is_function, la
 use Rattle.lh_unit.specs.Typing.{inst_giving, first_type}
 use Rattle.lh_unit.specs.Kinds.{Use, uses, takes, value_kind}
 use Rattle.lh_unit.specs.TypingRows.{has_type, bit, is_signal, types_fit}
-use Rattle.lh_unit.specs.Places.{Place, places, is_terminator, leads_to, has_edge, IsPath}
+use Rattle.lh_unit.specs.Places.{InstPlaceText, places, is_terminator, leads_to, has_edge, IsPath}
 
 -- the eight faults
 pub data FaultKind : Type 0 where
@@ -164,7 +164,7 @@ is_empty [] = true
 is_empty (l ∷ more) = false
 
 -- 5: in a function or process, the last of its block and no terminator, or a terminator and not the last
-abbrev pub ends_wrong : UnitText → Place → Bool
+abbrev pub ends_wrong : UnitText → InstPlaceText → Bool
 ends_wrong u p = not (in_entity u.kind) && not (if is_empty p.after then is_terminator p.line.inst else not (is_terminator p.line.inst))
 
 -- the instruction is a `phi`
@@ -181,7 +181,7 @@ abbrev pub names_predecessors : UnitText → (to : List ℕ) → List EdgeText �
 names_predecessors u to edges = list_all (λ (b : BlockText). not (has_edge b to) || nat_eq (edges_naming (label_or b.label) edges) 1) u.blocks
 
 -- 6: a `phi` stands after another kind of instruction, or in the entry block, or does not name each predecessor once
-abbrev pub phi_is_wrong : UnitText → Place → InstText → Bool
+abbrev pub phi_is_wrong : UnitText → InstPlaceText → InstText → Bool
 phi_is_wrong u p (phi_text ty edges) =
     list_any (λ (l : LineText). not (is_phi l.inst)) p.before || p.in_entry || not (names_predecessors u (label_or p.block.label) edges)
 phi_is_wrong u p _ = false
@@ -235,28 +235,28 @@ SomeEdgeLacks u to [] = ⊥
 SomeEdgeLacks u to (e ∷ more) = ((args_define e.value u.args ≡ false) × LacksOnEdge u to e) ⊎ SomeEdgeLacks u to more
 
 -- one of these values is no argument, and its definition does not stand on some path to the place
-abbrev pub SomeValueLacks : UnitText → Place → List (List ℕ) → Type 0
+abbrev pub SomeValueLacks : UnitText → InstPlaceText → List (List ℕ) → Type 0
 SomeValueLacks u p [] = ⊥
 SomeValueLacks u p (n ∷ more) = ((args_define n u.args ≡ false) × Lacks u n p.block p.before) ⊎ SomeValueLacks u p more
 
 -- in an entity: a value that is no argument and does not stand earlier
-abbrev pub stands_later : UnitText → Place → List ℕ → Bool
+abbrev pub stands_later : UnitText → InstPlaceText → List ℕ → Bool
 stands_later u p n = not (args_define n u.args || lines_define n p.before)
 
 -- some operand is not defined, by the kind of the unit
-abbrev pub LacksIn : UnitKind → UnitText → Place → InstText → Type 0
+abbrev pub LacksIn : UnitKind → UnitText → InstPlaceText → InstText → Type 0
 LacksIn kind.Entity u p i = list_any (stands_later u p) (values_named i) ≡ true
 LacksIn _ u p (phi_text ty edges) = SomeEdgeLacks u (label_or p.block.label) edges
 LacksIn _ u p i = SomeValueLacks u p (values_named i)
 
 -- 7: on some path to this use the definition does not stand
-abbrev pub LacksDefinition : UnitText → Place → Type 0
+abbrev pub LacksDefinition : UnitText → InstPlaceText → Type 0
 LacksDefinition u p = LacksIn u.kind u p p.line.inst
 
 -- an instruction of a module
 pub record Site : Type 0 where
   pub unit : UnitText
-  pub place : Place
+  pub place : InstPlaceText
 
 -- the instructions of a module in file order
 abbrev pub sites : List ItemText → List Site

@@ -2,39 +2,30 @@
 ghost use Rattle.std.specs.Prelude.{◌≡◌, IfOk};
 
 use crate::inst::{
-    BlockId, Declare, Inst, PhiEdgeList, RegTriggerList, Typed, TypedList, UnitId, ValueId,
-    ValueIdList,
+    BlockId, Declare, Inst, OperandList, PhiEdgeList, RegTriggerList, Typed, TypedList, UnitId,
+    ValueId, ValueIdList,
 };
 use lh_types::op::Op;
 use lh_types::ty::{NoMemory, Ty};
+use std::alloc::Global;
 
 impl Typed {
-    /// An equal operand.
+    /// An equal operand, which shares its type.
     pub fn copy(&self) -> Result<Typed, NoMemory>
         ensures { IfOk result (λ t. t ≡ self.now) }
     {
-        match &self.ty {
-            None => Ok(Typed {
-                value: self.value,
-                ty: None,
-            }),
-            Some(ty) => {
-                let ty = ty.copy()?;
-                Ok(Typed {
-                    value: self.value,
-                    ty: Some(ty),
-                })
-            }
-        }
+        Ok(Typed {
+            value: self.value,
+            ty: self.ty.share()?,
+        })
     }
 }
 
-fn copy_operands(operands: &TypedList) -> Result<TypedList, NoMemory>
+fn copy_operands(alloc: Global, operands: &[Typed]) -> Result<TypedList, NoMemory>
     ensures { IfOk result (λ list. list ≡ operands.now) }
 {
-    let items = operands.as_slice();
-    let mut to = TypedList::with_room(operands.allocator(), items.len())?;
-    for operand in items {
+    let mut to = TypedList::with_room(alloc, operands.len())?;
+    for operand in operands {
         let operand = operand.copy()?;
         to.push(operand)?;
     }
@@ -81,10 +72,11 @@ impl Inst {
     }
 }
 
-fn copy_pure(op: Op, args: &TypedList) -> Result<Inst, NoMemory>
+fn copy_pure(op: Op, args: &OperandList) -> Result<Inst, NoMemory>
     ensures { IfOk result (λ inst. inst ≡ Inst.Pure op args.now) }
 {
-    let args = copy_operands(args)?;
+    let args = copy_operands(args.allocator(), args.as_slice())?;
+    let args = OperandList::from_list(args);
     Ok(Inst::Pure { op, args })
 }
 
@@ -123,8 +115,8 @@ fn copy_reg(to: &Typed, triggers: &RegTriggerList) -> Result<Inst, NoMemory>
 fn copy_child(unit: UnitId, inputs: &TypedList, outputs: &TypedList) -> Result<Inst, NoMemory>
     ensures { IfOk result (λ inst. inst ≡ Inst.Child unit inputs.now outputs.now) }
 {
-    let inputs = copy_operands(inputs)?;
-    let outputs = copy_operands(outputs)?;
+    let inputs = copy_operands(inputs.allocator(), inputs.as_slice())?;
+    let outputs = copy_operands(outputs.allocator(), outputs.as_slice())?;
     Ok(Inst::Child {
         unit,
         inputs,
@@ -136,7 +128,7 @@ fn copy_call(unit: UnitId, ty: &Ty, args: &TypedList) -> Result<Inst, NoMemory>
     ensures { IfOk result (λ inst. inst ≡ Inst.Call unit ty.now args.now) }
 {
     let result = ty.copy()?;
-    let args = copy_operands(args)?;
+    let args = copy_operands(args.allocator(), args.as_slice())?;
     Ok(Inst::Call { unit, result, args })
 }
 

@@ -3,10 +3,12 @@ ghost use Rattle.std.specs.Prelude.{◌≡◌};
 ghost use Rattle.lh_unit.specs.ById.{is_sig};
 
 use crate::name::{Name, UnitName};
+use lh_types::few::FewOf;
 use lh_types::list::ListOf;
 use lh_types::op::Op;
 use lh_types::ty::{Ty, TyList};
 use lh_types::val::Val;
+use lh_types::written::WrittenTy;
 use thiserror::Error;
 
 /// A unit of a module.
@@ -66,11 +68,14 @@ pub enum UnitKind {
 #[derive(Drop)]
 pub struct Typed {
     pub value: ValueId,
-    pub ty: Option<Ty>,
+    pub ty: WrittenTy,
 }
 
 /// A list of operands.
 pub type TypedList = ListOf<Typed>;
+
+/// The operands of an operation, mostly one or two.
+pub type OperandList = FewOf<Typed>;
 
 /// A list of values.
 pub type ValueIdList = ListOf<ValueId>;
@@ -116,7 +121,7 @@ pub enum Inst {
     /// An operation on values or parts of signals, its operands in the order of the spelling.
     Pure {
         op: Op,
-        args: TypedList,
+        args: OperandList,
     },
     /// `var`
     Var(Typed),

@@ -69,10 +69,8 @@ impl Name {
         requires { IsName bytes.now }
         ensures { IfOk result (λ n. n ≡ bytes.now) }
     {
-        match SmallVec::from_slice(alloc, bytes) {
-            Ok(bytes) => Ok(Name { bytes }),
-            Err(_) => Err(NoMemory),
-        }
+        let bytes = SmallVec::from_slice(alloc, bytes)?;
+        Ok(Name { bytes })
     }
 
     pub fn as_bytes(&self) -> &[u8]
@@ -86,10 +84,8 @@ impl Name {
     pub fn copy(&self) -> Result<Name, NoMemory>
         ensures { IfOk result (λ n. n ≡ self.now) }
     {
-        match SmallVec::from_slice(*self.bytes.allocator(), self.bytes.as_slice()) {
-            Ok(bytes) => Ok(Name { bytes }),
-            Err(_) => Err(NoMemory),
-        }
+        let bytes = SmallVec::from_slice(*self.bytes.allocator(), self.bytes.as_slice())?;
+        Ok(Name { bytes })
     }
 }
 

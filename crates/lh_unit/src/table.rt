@@ -3,7 +3,7 @@ ghost use Rattle.std.specs.Prelude.{◌≡◌, ◌≤◌, ◌<◌, ◌+◌, ◌-
 ghost use Rattle.std.specs.Option.{option_copied};
 ghost use Rattle.lh_unit.specs.Table.{no_table, entity_block, ResultWithin, HasBlocks, IsDefinition, with_definition, defined_among, line_at, insts_at};
 ghost use Rattle.lh_unit.specs.declared.inst.ValueDef.TheVariants as value_def;
-ghost use Rattle.lh_unit.specs.TableCalls.{FindsValueIn, FindsLabelIn, Begins, TakesArg, TakesBlock, TakesLine, with_result};
+ghost use Rattle.lh_unit.specs.TableCalls.{FindsValueIn, FindsLabelIn, BeginsTable, TakesArg, TakesBlock, TakesLine, with_result};
 
 use crate::inst::{Arg, BlockId, Inst, InstId, UnitFault, UnitKind, ValueDef, ValueId};
 use crate::name::Name;
@@ -79,17 +79,12 @@ impl UnitTable {
         requires { length self.old.values < 2 ^ 32 - 1 }
         ensures { FindsValueIn result self.old self.new name }
     {
-        if self.defs.reserve(1).is_err() {
-            return Err(NoMemory);
+        self.defs.reserve(1)?;
+        let (i, is_new) = self.values.insert_full(name)?;
+        if is_new {
+            put_missing(&mut self.defs);
         }
-        match self.values.insert_full(name) {
-            Err(_) => Err(NoMemory),
-            Ok((i, false)) => Ok(ValueId(i as u32)),
-            Ok((i, true)) => {
-                put_missing(&mut self.defs);
-                Ok(ValueId(i as u32))
-            }
-        }
+        Ok(ValueId(i as u32))
     }
 
     /// The label of this name, which is Missing where the name is new.
@@ -97,23 +92,18 @@ impl UnitTable {
         requires { length self.old.labels < 2 ^ 32 - 1 }
         ensures { FindsLabelIn result self.old self.new name }
     {
-        if self.bodies.reserve(1).is_err() {
-            return Err(NoMemory);
+        self.bodies.reserve(1)?;
+        let (i, is_new) = self.labels.insert_full(name)?;
+        if is_new {
+            put_body(&mut self.bodies);
         }
-        match self.labels.insert_full(name) {
-            Err(_) => Err(NoMemory),
-            Ok((i, false)) => Ok(BlockId(i as u32)),
-            Ok((i, true)) => {
-                put_body(&mut self.bodies);
-                Ok(BlockId(i as u32))
-            }
-        }
+        Ok(BlockId(i as u32))
     }
 
     /// Begins the unit as its header does: the result of a function is `void`, and an entity has its one block.
     pub fn begin(&mut self, kind: UnitKind) -> Result<(), NoMemory>
         requires { self.old.kind ≡ None }
-        ensures { Begins result self.old self.new kind }
+        ensures { BeginsTable result self.old self.new kind }
     {
         match kind {
             UnitKind::Func => {
@@ -330,12 +320,8 @@ fn begin_block(
     ensures err_blocks { OnErr result (blocks.new.items ≡ blocks.old.items) }
     ensures err_bodies { OnErr result (bodies.new.items ≡ bodies.old.items) }
 {
-    if blocks.reserve(1).is_err() {
-        return Err(NoMemory);
-    }
-    if bodies.reserve(1).is_err() {
-        return Err(NoMemory);
-    }
+    blocks.reserve(1)?;
+    bodies.reserve(1)?;
     put_body(bodies);
     bodies[0] = Some(ListOf::new(*blocks.allocator()));
     if blocks.push(BlockId(0)).is_err() {
@@ -348,10 +334,8 @@ fn push_arg(args: &mut Vec<Arg>, arg: Arg) -> Result<(), NoMemory>
     ensures ok { OnOk result (args.new.items ≡ args.old.items ++ arg ∷ []) }
     ensures err { OnErr result (args.new.items ≡ args.old.items) }
 {
-    match args.push(arg) {
-        Ok(()) => Ok(()),
-        Err(_) => Err(NoMemory),
-    }
+    args.push(arg)?;
+    Ok(())
 }
 
 // Adds an instruction to the body of a block that stands.

@@ -5,27 +5,29 @@ use Rattle.lh_unit.specs.WellFormed.{FaultKind, number_of}
 use Rattle.lh_unit.specs.declared.inst.InstId.{InstId}
 use Rattle.lh_typing.specs.declared.scope.Scope.{Scope}
 use Rattle.lh_verify.specs.declared.spots.Spot.{Spot}
-use Rattle.lh_verify.specs.declared.unit.Found.{Found}
-use Rattle.lh_verify.specs.Answering.{is_at, found_or, first_at}
+use Rattle.lh_verify.specs.declared.unit.InstFault.{InstFault}
+use Rattle.lh_verify.specs.FirstFound.{is_at, found_or, first_at}
 use Rattle.lh_verify.specs.Faults.{lowest}
 use Rattle.std.proofs.lemmas.List.{drop_more}
 
-found-number : (x : Spot) (k : Option FaultKind) (n : ℕ) (more : Option Found) → Some n ≡ option_map number_of k → Some (record { inst = x.inst; number = n }) ≡ found_or x k more
+found-number : (x : Spot) (k : Option FaultKind) (n : ℕ) (more : Option InstFault) → Some n ≡ option_map number_of k → Some (record { inst = x.inst; number = n }) ≡ found_or x k more
 found-number x None n more e = absurd cc
 found-number x (Some k) n more e = let q : n ≡ number_of k = cc in ap (λ z. Some (record { inst = x.inst; number = z })) q
 
-found-none : (x : Spot) (k : Option FaultKind) (more : Option Found) → None ≡ option_map number_of k → more ≡ found_or x k more
+found-none : (x : Spot) (k : Option FaultKind) (more : Option InstFault) → None ≡ option_map number_of k → more ≡ found_or x k more
 found-none x None more e = refl
 found-none x (Some k) more e = absurd cc
 
 -- a fault at the place, and none there
-pub found-here : (s : Scope) (lacks : Option InstId) (xs : List Spot) (i : ℕ) (d : Spot) (b : Bool) (n : ℕ) (all : Option Found) → i < length xs → b ≡ is_at lacks (get_or xs i d) → Some n ≡ option_map number_of (lowest s (get_or xs i d) b) → first_at s lacks (drop i xs) ≡ all → Some (record { inst = (get_or xs i d).inst; number = n }) ≡ all
+pub found-here : (s : Scope) (lacks : Option InstId) (xs : List Spot) (i : ℕ) (d : Spot) (b : Bool) (n : ℕ) (all : Option InstFault) → i < length xs → b ≡ is_at lacks (get_or xs i d)
+    → Some n ≡ option_map number_of (lowest s (get_or xs i d) b) → first_at s lacks (drop i xs) ≡ all → Some (record { inst = (get_or xs i d).inst; number = n }) ≡ all
 found-here s lacks xs i d b n all h q e a =
     found-number (get_or xs i d) (lowest s (get_or xs i d) (is_at lacks (get_or xs i d))) n (first_at s lacks (drop (i + 1) xs)) (e ∙ ap (λ z. option_map number_of (lowest s (get_or xs i d) z)) q)
     ∙ ap (first_at s lacks) (sym (drop_more xs i d h))
     ∙ a
 
-pub found-later : (s : Scope) (lacks : Option InstId) (xs : List Spot) (i : ℕ) (d : Spot) (b : Bool) (all : Option Found) → i < length xs → b ≡ is_at lacks (get_or xs i d) → None ≡ option_map number_of (lowest s (get_or xs i d) b) → first_at s lacks (drop i xs) ≡ all → first_at s lacks (drop (i + 1) xs) ≡ all
+pub found-later : (s : Scope) (lacks : Option InstId) (xs : List Spot) (i : ℕ) (d : Spot) (b : Bool) (all : Option InstFault) → i < length xs → b ≡ is_at lacks (get_or xs i d)
+    → None ≡ option_map number_of (lowest s (get_or xs i d) b) → first_at s lacks (drop i xs) ≡ all → first_at s lacks (drop (i + 1) xs) ≡ all
 found-later s lacks xs i d b all h q e a =
     found-none (get_or xs i d) (lowest s (get_or xs i d) (is_at lacks (get_or xs i d))) (first_at s lacks (drop (i + 1) xs)) (e ∙ ap (λ z. option_map number_of (lowest s (get_or xs i d) z)) q)
     ∙ ap (first_at s lacks) (sym (drop_more xs i d h))

@@ -4,49 +4,52 @@ use Rattle.std.specs.Option.{option_map}
 use Rattle.std.proofs.lemmas.Grind.{common_steps}
 use Rattle.lh_unit.specs.Contents.{UnitText, ItemText}
 use Rattle.lh_unit.specs.Within.{Each}
-use Rattle.lh_unit.specs.Places.{Place, places}
+use Rattle.lh_unit.specs.Places.{InstPlaceText, places}
 use Rattle.lh_unit.specs.WellFormed.{FaultKind, number_of, undefined, wrong_kind, wrong_type, not_here, no_terminator, phi_edges, not_defined, arguments, Site, HasFault, NoneHasFault, LacksDefinition, has_local, has_paths}
 use Rattle.lh_unit.specs.declared.inst.InstId.{InstId}
-use Rattle.lh_verify.specs.Answering.{FirstIn, LacksFirst, is_at, found_or, first_at}
+use Rattle.lh_verify.specs.FirstFound.{FirstIn, LacksFirst, is_at, found_or, first_at}
 use Rattle.lh_verify.specs.Faults.{has_fault, lowest}
-use Rattle.lh_verify.specs.declared.unit.Found.{Found}
+use Rattle.lh_verify.specs.declared.unit.InstFault.{InstFault}
 use Rattle.lh_verify.specs.declared.spots.Spot.{Spot}
 use Rattle.lh_typing.specs.declared.scope.Scope.{Scope}
 use Rattle.lh_verify.proofs.Lowest.{IsLowest, of_eight, lowest-some, lowest-none}
 use Rattle.lh_unit.proofs.Lists.{nat_eq-refl, nat_eq-next}
 
 -- sites that are numbered one by one from k + 1
-abbrev pub Numbered : ℕ → List Place → Type 0
+abbrev pub Numbered : ℕ → List InstPlaceText → Type 0
 Numbered k [] = Unit {0}
 Numbered k (p ∷ more) = (p.number ≡ k + 1) × Numbered (k + 1) more
 
 -- whether each place lacks its definition, up to the first, of this number, that does
-abbrev pub LackingOn : UnitText → Bool → Option ℕ → List Place → Type 0
+abbrev pub LackingOn : UnitText → Bool → Option ℕ → List InstPlaceText → Type 0
 LackingOn u paths n [] = Unit {0}
 LackingOn u paths None (p ∷ more) = ¬ ((paths ≡ true) × LacksDefinition u p) × LackingOn u paths None more
-LackingOn u paths (Some n) (p ∷ more) = ((nat_eq n p.number ≡ true) × (paths ≡ true) × LacksDefinition u p) ⊎ ((nat_eq n p.number ≡ false) × ¬ ((paths ≡ true) × LacksDefinition u p) × LackingOn u paths (Some n) more)
+LackingOn u paths (Some n) (p ∷ more) = ((nat_eq n p.number ≡ true) × (paths ≡ true) × LacksDefinition u p)
+    ⊎ ((nat_eq n p.number ≡ false) × ¬ ((paths ≡ true) × LacksDefinition u p) × LackingOn u paths (Some n) more)
 
-lacking-none : (u : UnitText) (paths : Bool) (ps : List Place) → (paths ≡ true → Each (λ p. ¬ LacksDefinition u p) ps) → LackingOn u paths None ps
+lacking-none : (u : UnitText) (paths : Bool) (ps : List InstPlaceText) → (paths ≡ true → Each (λ p. ¬ LacksDefinition u p) ps) → LackingOn u paths None ps
 lacking-none u paths [] h = tt
 lacking-none u paths (p ∷ ps) h = ((λ q. (h q.0).0 q.1), lacking-none u paths ps (λ e. (h e).1))
 
-number-at : (k : ℕ) (before : List Place) (p : Place) (after : List Place) → Numbered k (before ++ p ∷ after) → p.number ≡ k + length before + 1
+number-at : (k : ℕ) (before : List InstPlaceText) (p : InstPlaceText) (after : List InstPlaceText) → Numbered k (before ++ p ∷ after) → p.number ≡ k + length before + 1
 number-at k [] p after n = omega (arith, n.0)
 number-at k (x ∷ before) p after n = omega (arith, number-at (k + 1) before p after n.1)
 
 other-number : (n m : ℕ) → m < n → nat_eq n m ≡ false
 other-number n m h = grind (arith, common_steps)
 
-lacking-some : (u : UnitText) (paths : Bool) (k n : ℕ) (before : List Place) (p : Place) (after : List Place) → paths ≡ true → Numbered k (before ++ p ∷ after) → p.number ≡ n → Each (λ q. ¬ LacksDefinition u q) before → LacksDefinition u p → LackingOn u paths (Some n) (before ++ p ∷ after)
+lacking-some : (u : UnitText) (paths : Bool) (k n : ℕ) (before : List InstPlaceText) (p : InstPlaceText) (after : List InstPlaceText) → paths ≡ true → Numbered k (before ++ p ∷ after) → p.number ≡ n
+    → Each (λ q. ¬ LacksDefinition u q) before → LacksDefinition u p → LackingOn u paths (Some n) (before ++ p ∷ after)
 lacking-some u paths k n [] p after e m q b l = inl (ap (nat_eq n) q ∙ nat_eq-refl n, e, l)
 lacking-some u paths k n (x ∷ before) p after e m q b l =
     let z : x.number < n = omega (arith, m.0, number-at (k + 1) before p after m.1, q) in
     inr (other-number n x.number z, (λ r. b.0 r.1), lacking-some u paths (k + 1) n before p after e m.1 q b.1 l)
 
-pub lacking : (items : List ItemText) (u : UnitText) (lacks : Option InstId) → Numbered 0 (places u) → LacksFirst items u lacks → LackingOn u (has_paths items u) (option_map (λ (i : InstId). i.0 + 1) lacks) (places u)
+pub lacking : (items : List ItemText) (u : UnitText) (lacks : Option InstId) → Numbered 0 (places u) → LacksFirst items u lacks
+    → LackingOn u (has_paths items u) (option_map (λ (i : InstId). i.0 + 1) lacks) (places u)
 lacking items u None m l = lacking-none u (has_paths items u) (places u) l
 lacking items u (Some i) m l =
-    let P : List Place → Type 0 = LackingOn u (has_paths items u) (Some (i.0 + 1)) in
+    let P : List InstPlaceText → Type 0 = LackingOn u (has_paths items u) (Some (i.0 + 1)) in
     subst P (sym l.1.split) (lacking-some u (has_paths items u) 0 (i.0 + 1) l.1.before l.1.place l.1.after l.0 (subst (Numbered 0) l.1.split m) l.1.at l.1.none_before l.1.holds)
 
 -- one more site in front, without a fault
@@ -61,11 +64,11 @@ front-first items s all site k n f = record {
 }
 
 -- the sites of places
-abbrev pub sites_of : UnitText → List Place → List Site
+abbrev pub sites_of : UnitText → List InstPlaceText → List Site
 sites_of u ps = map (λ p. record { unit = u; place = p }) ps
 
 -- what is found among places of a unit
-pub record FoundAmong (items : List ItemText) (u : UnitText) (ps : List Place) (f : Found) : Type 0 where
+pub record FoundAmong (items : List ItemText) (u : UnitText) (ps : List InstPlaceText) (f : InstFault) : Type 0 where
   pub site : Site
   pub kind : FaultKind
   pub first : FirstIn items (sites_of u ps) site kind
@@ -73,26 +76,27 @@ pub record FoundAmong (items : List ItemText) (u : UnitText) (ps : List Place) (
   pub at : site.place.number ≡ f.inst.0 + 1
   pub number : number_of kind ≡ f.number
 
-abbrev pub FindsAmong : List ItemText → UnitText → List Place → Option Found → Type 0
+abbrev pub FindsAmong : List ItemText → UnitText → List InstPlaceText → Option InstFault → Type 0
 FindsAmong items u ps None = NoneHasFault items (sites_of u ps)
 FindsAmong items u ps (Some f) = FoundAmong items u ps f
 
 -- a place and its spot have the same faults
-pub record Matches (s : Scope) (items : List ItemText) (u : UnitText) (p : Place) (x : Spot) : Type 0 where
+pub record Matches (s : Scope) (items : List ItemText) (u : UnitText) (p : InstPlaceText) (x : Spot) : Type 0 where
   pub local : (k : FaultKind) → has_local items (record { unit = u; place = p }) k ≡ has_fault s x k
   pub number : p.number ≡ x.inst.0 + 1
 
-abbrev pub AllMatch : Scope → List ItemText → UnitText → List Place → List Spot → Type 0
+abbrev pub AllMatch : Scope → List ItemText → UnitText → List InstPlaceText → List Spot → Type 0
 AllMatch s items u [] [] = Unit {0}
 AllMatch s items u (p ∷ ps) (x ∷ xs) = Matches s items u p x × AllMatch s items u ps xs
 AllMatch s items u _ _ = ⊥
 
 module _ (s : Scope) (items : List ItemText) (u : UnitText) where
   abbrev test : Spot → Bool → FaultKind → Bool
-  test x l = of_eight (has_fault s x undefined) (has_fault s x wrong_kind) (has_fault s x wrong_type) (has_fault s x not_here) (has_fault s x no_terminator) (has_fault s x phi_edges) l (has_fault s x arguments)
+  test x l = of_eight (has_fault s x undefined) (has_fault s x wrong_kind) (has_fault s x wrong_type) (has_fault s x not_here) (has_fault s x no_terminator) (has_fault s x phi_edges) l
+      (has_fault s x arguments)
 
   -- where it is known whether a site lacks its definition, its tests say its faults
-  module _ (p : Place) (x : Spot) (m : Matches s items u p x) (l : Bool) where
+  module _ (p : InstPlaceText) (x : Spot) (m : Matches s items u p x) (l : Bool) where
     holds : (l ≡ true → HasFault items (record { unit = u; place = p }) not_defined) → (k : FaultKind) → test x l k ≡ true → HasFault items (record { unit = u; place = p }) k
     holds d undefined e = m.local undefined ∙ e
     holds d wrong_kind e = m.local wrong_kind ∙ e
@@ -114,7 +118,8 @@ module _ (s : Scope) (items : List ItemText) (u : UnitText) where
     fails d arguments e h = let q : true ≡ false = sym h ∙ m.local arguments ∙ e in cc
 
   -- what is found, behind a place without a fault
-  behind : (p : Place) (ps : List Place) (o : Option Found) → ((k : FaultKind) → ¬ HasFault items (record { unit = u; place = p }) k) → FindsAmong items u ps o → FindsAmong items u (p ∷ ps) o
+  behind : (p : InstPlaceText) (ps : List InstPlaceText) (o : Option InstFault) → ((k : FaultKind) → ¬ HasFault items (record { unit = u; place = p }) k) → FindsAmong items u ps o
+      → FindsAmong items u (p ∷ ps) o
   behind p ps None n f = (n, f)
   behind p ps (Some g) n f = record {
     site = f.site;
@@ -126,14 +131,16 @@ module _ (s : Scope) (items : List ItemText) (u : UnitText) where
   }
 
   -- what is found at a place, or else behind it
-  found-at : (p : Place) (ps : List Place) (x : Spot) (l : Bool) (o : Option Found) → Matches s items u p x
+  found-at : (p : InstPlaceText) (ps : List InstPlaceText) (x : Spot) (l : Bool) (o : Option InstFault) → Matches s items u p x
       → (l ≡ true → HasFault items (record { unit = u; place = p }) not_defined) → (l ≡ false → ¬ HasFault items (record { unit = u; place = p }) not_defined) → (l ≡ false → FindsAmong items u ps o)
       → (k : Option FaultKind) → lowest s x l ≡ k → FindsAmong items u (p ∷ ps) (found_or x k o)
   found-at p ps x l o m h n rest None e =
-      let none : (k : FaultKind) → test x l k ≡ false = lowest-none (has_fault s x undefined) (has_fault s x wrong_kind) (has_fault s x wrong_type) (has_fault s x not_here) (has_fault s x no_terminator) (has_fault s x phi_edges) l (has_fault s x arguments) e in
+      let none : (k : FaultKind) → test x l k ≡ false = lowest-none (has_fault s x undefined) (has_fault s x wrong_kind) (has_fault s x wrong_type) (has_fault s x not_here) (has_fault s x
+      no_terminator) (has_fault s x phi_edges) l (has_fault s x arguments) e in
       behind p ps o (λ k. fails p x m l n k (none k)) (rest (none not_defined))
   found-at p ps x l o m h n rest (Some k) e =
-      let low : IsLowest (test x l) k = lowest-some (has_fault s x undefined) (has_fault s x wrong_kind) (has_fault s x wrong_type) (has_fault s x not_here) (has_fault s x no_terminator) (has_fault s x phi_edges) l (has_fault s x arguments) k e in
+      let low : IsLowest (test x l) k = lowest-some (has_fault s x undefined) (has_fault s x wrong_kind) (has_fault s x wrong_type) (has_fault s x not_here) (has_fault s x no_terminator)
+      (has_fault s x phi_edges) l (has_fault s x arguments) k e in
       record {
         site = record { unit = u; place = p };
         kind = k;
@@ -144,13 +151,14 @@ module _ (s : Scope) (items : List ItemText) (u : UnitText) where
       }
 
   -- what `lacks` says of the place in front, and of those behind it
-  pub record Head (lacks : Option InstId) (p : Place) (ps : List Place) (x : Spot) : Type 0 where
+  pub record Head (lacks : Option InstId) (p : InstPlaceText) (ps : List InstPlaceText) (x : Spot) : Type 0 where
     pub lacking : is_at lacks x ≡ true → HasFault items (record { unit = u; place = p }) not_defined
     pub defined : is_at lacks x ≡ false → ¬ HasFault items (record { unit = u; place = p }) not_defined
     pub rest : is_at lacks x ≡ false → LackingOn u (has_paths items u) (option_map (λ (i : InstId). i.0 + 1) lacks) ps
 
-  head-some : (i : InstId) (p : Place) (ps : List Place) (x : Spot) → nat_eq (i.0 + 1) p.number ≡ nat_eq i.0 x.inst.0
-      → (((nat_eq (i.0 + 1) p.number ≡ true) × (has_paths items u ≡ true) × LacksDefinition u p) ⊎ ((nat_eq (i.0 + 1) p.number ≡ false) × ¬ ((has_paths items u ≡ true) × LacksDefinition u p) × LackingOn u (has_paths items u) (Some (i.0 + 1)) ps)) → Head (Some i) p ps x
+  head-some : (i : InstId) (p : InstPlaceText) (ps : List InstPlaceText) (x : Spot) → nat_eq (i.0 + 1) p.number ≡ nat_eq i.0 x.inst.0
+      → (((nat_eq (i.0 + 1) p.number ≡ true) × (has_paths items u ≡ true) × LacksDefinition u p) ⊎ ((nat_eq (i.0 + 1) p.number ≡ false) × ¬ ((has_paths items u ≡ true) × LacksDefinition u p)
+      × LackingOn u (has_paths items u) (Some (i.0 + 1)) ps)) → Head (Some i) p ps x
   head-some i p ps x q (inl h) = record {
     lacking = λ e. (h.1, h.2);
     defined = λ e. let z : true ≡ false = sym h.0 ∙ q ∙ e in absurd cc;
@@ -162,14 +170,17 @@ module _ (s : Scope) (items : List ItemText) (u : UnitText) where
     rest = λ e. h.2;
   }
 
-  head : (lacks : Option InstId) (p : Place) (ps : List Place) (x : Spot) → p.number ≡ x.inst.0 + 1 → LackingOn u (has_paths items u) (option_map (λ (i : InstId). i.0 + 1) lacks) (p ∷ ps) → Head lacks p ps x
+  head : (lacks : Option InstId) (p : InstPlaceText) (ps : List InstPlaceText) (x : Spot) → p.number ≡ x.inst.0 + 1
+      → LackingOn u (has_paths items u) (option_map (λ (i : InstId). i.0 + 1) lacks) (p ∷ ps) → Head lacks p ps x
   head None p ps x n l = record { lacking = λ e. absurd cc; defined = λ e. l.0; rest = λ e. l.1 }
   head (Some i) p ps x n l = head-some i p ps x (ap (nat_eq (i.0 + 1)) n ∙ nat_eq-next i.0 x.inst.0) l
 
   -- the first of the places that has a fault
-  pub finds : (lacks : Option InstId) (ps : List Place) (xs : List Spot) → AllMatch s items u ps xs → LackingOn u (has_paths items u) (option_map (λ (i : InstId). i.0 + 1) lacks) ps → FindsAmong items u ps (first_at s lacks xs)
+  pub finds : (lacks : Option InstId) (ps : List InstPlaceText) (xs : List Spot) → AllMatch s items u ps xs → LackingOn u (has_paths items u) (option_map (λ (i : InstId). i.0 + 1) lacks) ps
+      → FindsAmong items u ps (first_at s lacks xs)
   finds lacks [] [] m l = tt
   finds lacks [] (x ∷ xs) m l = absurd m
   finds lacks (p ∷ ps) [] m l = absurd m
   finds lacks (p ∷ ps) (x ∷ xs) m l =
-      found-at p ps x (is_at lacks x) (first_at s lacks xs) m.0 (head lacks p ps x m.0.number l).lacking (head lacks p ps x m.0.number l).defined (λ e. finds lacks ps xs m.1 ((head lacks p ps x m.0.number l).rest e)) (lowest s x (is_at lacks x)) refl
+      found-at p ps x (is_at lacks x) (first_at s lacks xs) m.0 (head lacks p ps x m.0.number l).lacking (head lacks p ps x m.0.number l).defined
+      (λ e. finds lacks ps xs m.1 ((head lacks p ps x m.0.number l).rest e)) (lowest s x (is_at lacks x)) refl

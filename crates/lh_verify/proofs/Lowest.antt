@@ -17,7 +17,8 @@ of_eight a b d e g h l m arguments = m
 
 -- the lowest of eight
 abbrev pub lowest_of_eight : (a b d e g h l m : Bool) → Option FaultKind
-lowest_of_eight a b d e g h l m = first_of a undefined (first_of b wrong_kind (first_of d wrong_type (first_of e not_here (first_of g no_terminator (first_of h phi_edges (first_of l not_defined (first_of m arguments None)))))))
+lowest_of_eight a b d e g h l m = first_of a undefined
+    (first_of b wrong_kind (first_of d wrong_type (first_of e not_here (first_of g no_terminator (first_of h phi_edges (first_of l not_defined (first_of m arguments None)))))))
 
 -- a fault that holds, and none below it
 abbrev pub IsLowest : (FaultKind → Bool) → FaultKind → Type 0

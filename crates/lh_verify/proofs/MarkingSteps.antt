@@ -24,7 +24,7 @@ use Rattle.lh_unit.proofs.ById.{defines_label-by_id, inst_giving-by_id}
 use Rattle.lh_typing.specs.declared.uses.Use.{Use}
 use Rattle.lh_verify.specs.Operands.{UseWithin}
 use Rattle.lh_typing.specs.Uses.{use_text, uses_of}
-use Rattle.lh_verify.specs.Marking.{BlockMarks, Stands, has_labels, comes_from, Reaches, Advances}
+use Rattle.lh_verify.specs.Marking.{BlockMarks, MarksLabels, has_labels, comes_from, Reaches, Advances}
 use Rattle.std.proofs.lemmas.List.{drop_more}
 use Rattle.lh_typing.proofs.UsesText.{uses-text}
 use Rattle.lh_verify.proofs.Places.{uses-within}
@@ -59,7 +59,8 @@ labelled (Some kind.Func) h = tt
 labelled (Some kind.Proc) h = tt
 labelled (Some kind.Entity) h = cc
 
-pub stands-blocks : (a : Arena) (u : ℕ) (marks : List Bool) → IsArena a → u < unit_count a → has_labels (kind_at a u) ≡ true → BlockMarks (blocks_at a u) (label_count a u) marks → Stands a u marks
+pub stands-blocks : (a : Arena) (u : ℕ) (marks : List Bool) → IsArena a → u < unit_count a → has_labels (kind_at a u) ≡ true → BlockMarks (blocks_at a u) (label_count a u) marks
+    → MarksLabels a u marks
 stands-blocks a u marks o h k m = record {
   long = m.long;
   marked = λ b x g. m.marked b x g ∙ sym (defines_label-by_id a u o h b (labelled (kind_at a u) k) (omega (arith, slice_get_within marks b x g, m.long)));
@@ -75,10 +76,11 @@ unlabelled f t n (Some kind.Func) e w h = cc
 unlabelled f t n (Some kind.Proc) e w h = cc
 unlabelled f t n (Some kind.Entity) e w h = no-labels f t n t.blocks (λ b. ap (λ k. label_text f k b) e)
 
-pub stands-none : (a : Arena) (u : ℕ) (marks : List Bool) → IsArena a → u < unit_count a → has_labels (kind_at a u) ≡ false → marks ≡ replicate (label_count a u) false → Stands a u marks
+pub stands-none : (a : Arena) (u : ℕ) (marks : List Bool) → IsArena a → u < unit_count a → has_labels (kind_at a u) ≡ false → marks ≡ replicate (label_count a u) false → MarksLabels a u marks
 stands-none a u marks o h k e = record {
   long = ap length e ∙ length-replicate (label_count a u) false;
-  marked = λ b x g. replicate-false (label_count a u) b x (sym (ap (λ l. slice_get l b) e) ∙ g) ∙ sym (unlabelled (naming a u) (table_at a u) (label_name_at a u b) (kind_at a u) refl (o.tables u h).fits_kind k);
+  marked = λ b x g. replicate-false (label_count a u) b x (sym (ap (λ l. slice_get l b) e) ∙ g)
+      ∙ sym (unlabelled (naming a u) (table_at a u) (label_name_at a u b) (kind_at a u) refl (o.tables u h).fits_kind k);
 }
 
 -- one round of marks, line by line from the last
@@ -94,7 +96,8 @@ advance-same ls l old marks n r m = record {
   marked = λ v x g. m.marked v x g ∙ sym (ap (λ o. option_map_or (comes_from old) (if is_result o v then Some l.inst else inst_making ls v) false) r);
 }
 
-pub advance-more : (ls : List Line) (l : Line) (w : ValueId) (old marks : List Bool) (n : ℕ) (b : Bool) → l.result ≡ Some w → w.0 < n → b ≡ comes_from old l.inst → Advances ls old n marks → Advances (l ∷ ls) old n (set marks w.0 b)
+pub advance-more : (ls : List Line) (l : Line) (w : ValueId) (old marks : List Bool) (n : ℕ) (b : Bool) → l.result ≡ Some w → w.0 < n → b ≡ comes_from old l.inst → Advances ls old n marks
+    → Advances (l ∷ ls) old n (set marks w.0 b)
 advance-more ls l w old marks n b r h c m = record {
   long = length-set marks w.0 b ∙ m.long;
   marked = λ v x g. by v x (same_or w.0 v) g;
@@ -161,7 +164,8 @@ module _ (a : Arena) (u : ℕ) (o : IsArena a) (h : u < unit_count a) where
   tells : (k : ℕ) (marks : List Bool) → Reaches a u k marks → (v : ValueId) → ValueWithin (sizes a u) v → depends_on_probe k (unit_text_at a u) (value_text (naming a u) v) ≡ get_or marks v.0 false
   tells k marks m v w = sym (m.marked v.0 (get_or marks v.0 false) (slice_get-get_or marks v.0 false (omega (arith, w, m.long))))
 
-  giving : (k : ℕ) (marks : List Bool) (g : Option Inst) → Reaches a u k marks → ((i : Inst) → g ≡ Some i → InstWithin (sizes a u) i) → option_map_or (comes_from_probe (depends_on_probe k (unit_text_at a u))) (option_map (inst_text (naming a u)) g) false ≡ option_map_or (comes_from marks) g false
+  giving : (k : ℕ) (marks : List Bool) (g : Option Inst) → Reaches a u k marks → ((i : Inst) → g ≡ Some i → InstWithin (sizes a u) i)
+      → option_map_or (comes_from_probe (depends_on_probe k (unit_text_at a u))) (option_map (inst_text (naming a u)) g) false ≡ option_map_or (comes_from marks) g false
   giving k marks None m p = refl
   giving k marks (Some i) m p = comes-text (naming a u) (sizes a u) marks (depends_on_probe k (unit_text_at a u)) (tells k marks m) i (p i refl)
 

@@ -8,11 +8,11 @@ use Rattle.lh_unit.specs.Arena.{Arena, IsArena, contents, item_text_at, unit_tex
 use Rattle.lh_unit.specs.declared.inst.UnitId.{UnitId}
 use Rattle.lh_unit.specs.declared.inst.Item.{Item}
 use Rattle.lh_unit.specs.declared.inst.Item.TheVariants as item
-use Rattle.lh_verify.specs.declared.unit.Found.{Found}
+use Rattle.lh_verify.specs.declared.unit.InstFault.{InstFault}
 use Rattle.lh_verify.specs.declared.verify.Fault.{Fault}
-use Rattle.lh_verify.specs.Answering.{Finds, IsFew, unit_sites}
+use Rattle.lh_verify.specs.FirstFound.{FindsFault, IsFew, unit_sites}
 use Rattle.lh_unit.specs.Placed.{IsItemOf}
-use Rattle.lh_verify.specs.Verifying.{NamesFault, UnitFault, SaysOfUnit, SaysOfItem, ItemBegun, named_fault}
+use Rattle.lh_verify.specs.Verifying.{NamesFault, UnitFault, FirstFaultOfUnit, FirstFaultOfItem, ItemBegun, named_fault}
 use Rattle.lh_typing.proofs.KnowingSteps.{take-item}
 use Rattle.lh_unit.proofs.Lists.{drop-item}
 use Rattle.lh_unit.proofs.Placing.{item-within}
@@ -26,15 +26,17 @@ none-append : (items : List ItemText) (xs ys : List Site) → NoneHasFault items
 none-append items [] ys n m = m
 none-append items (x ∷ xs) ys n m = (n.0, none-append items xs ys n.1 m)
 
-none-in : (a : Arena) (x : Item) → SaysOfItem a x None → NoneHasFault (contents a) (sites (item_text_at a x ∷ []))
+none-in : (a : Arena) (x : Item) → FirstFaultOfItem a x None → NoneHasFault (contents a) (sites (item_text_at a x ∷ []))
 none-in a (item.Unit u) n = none-append (contents a) (unit_sites (unit_text_at a u.0)) [] n tt
 none-in a (item.Declare d) n = tt
 
 -- one more item without a fault
-pub none-more : (a : Arena) (xs : List Item) (i : ℕ) (x : Item) → i < length xs → x ≡ get_or xs i x → NoneHasFault (contents a) (sites (map (item_text_at a) (take i xs))) → SaysOfItem a x None → NoneHasFault (contents a) (sites (map (item_text_at a) (take (i + 1) xs)))
+pub none-more : (a : Arena) (xs : List Item) (i : ℕ) (x : Item) → i < length xs → x ≡ get_or xs i x → NoneHasFault (contents a) (sites (map (item_text_at a) (take i xs))) → FirstFaultOfItem a x None
+    → NoneHasFault (contents a) (sites (map (item_text_at a) (take (i + 1) xs)))
 none-more a xs i x h e n m =
     subst (NoneHasFault (contents a))
-    (sym (sites-append (map (item_text_at a) (take i xs)) (item_text_at a x ∷ [])) ∙ ap sites (sym (map-append (item_text_at a) (take i xs) (x ∷ []))) ∙ ap (λ l. sites (map (item_text_at a) l)) (take-item xs i x h e))
+    (sym (sites-append (map (item_text_at a) (take i xs)) (item_text_at a x ∷ [])) ∙ ap sites (sym (map-append (item_text_at a) (take i xs) (x ∷ [])))
+    ∙ ap (λ l. sites (map (item_text_at a) l)) (take-item xs i x h e))
     (none-append (contents a) (sites (map (item_text_at a) (take i xs))) (sites (item_text_at a x ∷ [])) n (none-in a x m))
 
 cut : {X : Type 0} → (xs : List X) (i : ℕ) → xs ≡ take i xs ++ drop i xs
@@ -44,7 +46,8 @@ cut (x ∷ xs) zero = refl
 cut (x ∷ xs) (suc i) = ap (λ l. x ∷ l) (cut xs i)
 
 -- the first fault of a unit is that of the module, where no item before it has one
-unit-first : (a : Arena) (xs : List Item) (i : ℕ) (u : UnitId) (f : Fault) → a.items ≡ xs → u.0 < unit_count a → i < length xs → item.Unit u ≡ get_or xs i (item.Unit u) → NoneHasFault (contents a) (sites (map (item_text_at a) (take i xs))) → UnitFault a u f → NamesFault a f
+unit-first : (a : Arena) (xs : List Item) (i : ℕ) (u : UnitId) (f : Fault) → a.items ≡ xs → u.0 < unit_count a → i < length xs → item.Unit u ≡ get_or xs i (item.Unit u)
+    → NoneHasFault (contents a) (sites (map (item_text_at a) (take i xs))) → UnitFault a u f → NamesFault a f
 unit-first a xs i u f w p h e n d =
     let g : item_text_at a (item.Unit u) ≡ unit_text (unit_text_at a u.0) = refl in
     let pre : List Site = sites (map (item_text_at a) (take i xs)) in
@@ -61,7 +64,8 @@ unit-first a xs i u f w p h e n d =
         before = pre ++ d.first.before;
         site = d.site;
         after = d.first.after ++ post;
-        all = z ∙ ap (λ l. pre ++ (l ++ post)) d.first.split ∙ ap (λ l. pre ++ l) (append_assoc d.first.before (d.site ∷ d.first.after) post) ∙ sym (append_assoc pre d.first.before (d.site ∷ d.first.after ++ post));
+        all = z ∙ ap (λ l. pre ++ (l ++ post)) d.first.split ∙ ap (λ l. pre ++ l) (append_assoc d.first.before (d.site ∷ d.first.after) post)
+            ∙ sym (append_assoc pre d.first.before (d.site ∷ d.first.after ++ post));
         in_unit = ap (λ (t : UnitText). t.name) d.of_unit ∙ ap (λ (v : UnitId). unit_name_at a v.0) (sym d.unit);
         at_inst = d.at;
         has = d.first.has;
@@ -70,16 +74,17 @@ unit-first a xs i u f w p h e n d =
       };
     }
 
-pub item-first : (a : Arena) (xs : List Item) (i : ℕ) (x : Item) (f : Fault) → a.items ≡ xs → IsItemOf a x → i < length xs → x ≡ get_or xs i x → NoneHasFault (contents a) (sites (map (item_text_at a) (take i xs))) → SaysOfItem a x (Some f) → NamesFault a f
+pub item-first : (a : Arena) (xs : List Item) (i : ℕ) (x : Item) (f : Fault) → a.items ≡ xs → IsItemOf a x → i < length xs → x ≡ get_or xs i x
+    → NoneHasFault (contents a) (sites (map (item_text_at a) (take i xs))) → FirstFaultOfItem a x (Some f) → NamesFault a f
 item-first a xs i (item.Unit u) f w p h e n d = unit-first a xs i u f w p h e n d
 item-first a xs i (item.Declare c) f w p h e n d = absurd cc
 
 -- what is found in a unit is said of it
-pub says-found : (a : Arena) (u : UnitId) (found : Option Found) → Finds (contents a) (unit_text_at a u.0) found → SaysOfUnit a u (named_fault u found)
+pub says-found : (a : Arena) (u : UnitId) (found : Option InstFault) → FindsFault (contents a) (unit_text_at a u.0) found → FirstFaultOfUnit a u (named_fault u found)
 says-found a u None n = n
 says-found a u (Some f) n = record { unit = refl; site = n.site; kind = n.kind; first = n.first; of_unit = n.of_unit; at = n.at; number = n.number }
 
-pub few-found : (a : Arena) (u : UnitId) (found : Option Found) → Finds (contents a) (unit_text_at a u.0) found → IsFew found
+pub few-found : (a : Arena) (u : UnitId) (found : Option InstFault) → FindsFault (contents a) (unit_text_at a u.0) found → IsFew found
 few-found a u None n = tt
 few-found a u (Some f) n = n.few
 

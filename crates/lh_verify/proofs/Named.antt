@@ -12,7 +12,7 @@ use Rattle.lh_unit.specs.declared.inst.BlockId.{BlockId}
 use Rattle.lh_unit.specs.declared.inst.PhiEdge.{PhiEdge}
 use Rattle.lh_unit.specs.declared.inst.Inst.{Inst}
 use Rattle.lh_unit.specs.declared.inst.Inst.TheVariants as inst
-use Rattle.lh_verify.specs.Asks.{names_nothing, label_is_missing, edge_is_missing, label_is_missing_in, unit_is_missing_in}
+use Rattle.lh_verify.specs.OperandTests.{names_nothing, label_is_missing, edge_is_missing, label_is_missing_in, unit_is_missing_in}
 use Rattle.lh_typing.specs.declared.uses.Use.{Use}
 use Rattle.lh_typing.specs.Uses.{use_text, uses_of}
 use Rattle.lh_typing.proofs.UsesText.{uses-text}
@@ -28,7 +28,8 @@ values-missing : (t : UnitText) (xs : List kinds.Use) → list_any (names_nothin
 values-missing t [] = refl
 values-missing t (x ∷ xs) = ap (λ b. names_nothing t x || b) (values-missing t xs)
 
-operands-missing : (t : UnitText) (f : Naming) (i : Inst) (os : List Use) → os ≡ uses_of i → list_any (names_nothing t) (map (use_text f) os) ≡ list_any (λ n. not (defines_value n t)) (values_named (inst_text f i))
+operands-missing : (t : UnitText) (f : Naming) (i : Inst) (os : List Use) → os ≡ uses_of i
+    → list_any (names_nothing t) (map (use_text f) os) ≡ list_any (λ n. not (defines_value n t)) (values_named (inst_text f i))
 operands-missing t f i os e =
     ap (λ l. list_any (names_nothing t) (map (use_text f) l)) e
     ∙ ap (list_any (names_nothing t)) (uses-text f i)
@@ -41,14 +42,16 @@ targets-within s (inst.Branch cond zero one) h = (h.1, (h.2, tt))
 targets-within s (inst.Wait to after signals) h = (h.0, tt)
 targets-within s _ h = tt
 
-pub targets-named : (t : UnitText) (f : Naming) (i : Inst) → ((ty : TypeTree) (es : List PhiEdge) → i ≡ inst.Phi ty es → ⊥) → list_any (label_is_missing t) (map (λ (b : BlockId). f.label_name b.0) (blocks_led_to i)) ≡ label_is_missing_in t (inst_text f i)
+pub targets-named : (t : UnitText) (f : Naming) (i : Inst) → ((ty : TypeTree) (es : List PhiEdge) → i ≡ inst.Phi ty es → ⊥)
+    → list_any (label_is_missing t) (map (λ (b : BlockId). f.label_name b.0) (blocks_led_to i)) ≡ label_is_missing_in t (inst_text f i)
 targets-named t f (inst.Phi ty es) h = absurd (h ty es refl)
 targets-named t f (inst.Ret None) h = refl
 targets-named t f (inst.Ret (Some o)) h = refl
 targets-named t f _ h = refl
 
 -- the three parts of fault 1
-pub undefined-parts : (items : List ItemText) (t : UnitText) (f : Naming) (i : Inst) (os : List Use) → os ≡ uses_of i → is_undefined items t (inst_text f i) ≡ ((list_any (names_nothing t) (map (use_text f) os) || label_is_missing_in t (inst_text f i)) || unit_is_missing_in items (inst_text f i))
+pub undefined-parts : (items : List ItemText) (t : UnitText) (f : Naming) (i : Inst) (os : List Use) → os ≡ uses_of i
+    → is_undefined items t (inst_text f i) ≡ ((list_any (names_nothing t) (map (use_text f) os) || label_is_missing_in t (inst_text f i)) || unit_is_missing_in items (inst_text f i))
 undefined-parts items t f i os e = ap (λ b. (b || label_is_missing_in t (inst_text f i)) || unit_is_missing_in items (inst_text f i)) (sym (operands-missing t f i os e))
 
 -- the first of three, or the last

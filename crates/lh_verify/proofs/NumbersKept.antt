@@ -26,7 +26,8 @@ at types (n ∷ ns) (suc k) t d e = at types ns k t d e
 pub number-within : (types : List TypeTree) (args : List Arg) (ns : List ℕ) (k : ℕ) (x : Arg) → AreNumbersOf types args ns → k < length args → x ≡ get_or args k x → k < length ns
 number-within types args ns k x a h e = within types ns k x.ty (a k x (slice_get-get_or args k x h ∙ ap Some (sym e)))
 
-pub number-there : (types : List TypeTree) (args : List Arg) (ns : List ℕ) (k : ℕ) (x : Arg) (d : ℕ) → AreNumbersOf types args ns → k < length args → x ≡ get_or args k x → slice_get types (get_or ns k d) ≡ Some x.ty
+pub number-there : (types : List TypeTree) (args : List Arg) (ns : List ℕ) (k : ℕ) (x : Arg) (d : ℕ) → AreNumbersOf types args ns → k < length args → x ≡ get_or args k x
+    → slice_get types (get_or ns k d) ≡ Some x.ty
 number-there types args ns k x d a h e = at types ns k x.ty d (a k x (slice_get-get_or args k x h ∙ ap Some (sym e)))
 
 -- the same arguments

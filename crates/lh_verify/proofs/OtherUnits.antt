@@ -11,9 +11,9 @@ use Rattle.lh_unit.specs.Arena.{Arena, IsArena, unit_text_at, naming, table_at, 
 use Rattle.lh_unit.specs.WellFormed.{is_function_name, args_of, assert_args}
 use Rattle.lh_unit.specs.declared.inst.UnitKind.{UnitKind}
 use Rattle.lh_unit.proofs.ById.{defines_unit-by_id, unit_named-by_id}
-use Rattle.lh_verify.specs.Asks.{is_function_kind, on_side}
+use Rattle.lh_verify.specs.OperandTests.{is_function_kind, on_side}
 use Rattle.lh_verify.specs.declared.arguments.Side.TheVariants.{All}
-use Rattle.lh_typing.specs.Told.{naming_in, sizes_in, items_in}
+use Rattle.lh_typing.specs.Facts.{naming_in, sizes_in, items_in}
 use Rattle.lh_typing.specs.declared.scope.Scope.{Scope}
 
 pub unit-within : (s : Scope) (v : ℕ) → v < (sizes_in s).units → v < unit_count s.module.now
@@ -28,7 +28,8 @@ pub defined-in : (s : Scope) (v : ℕ) → IsArena s.module.now → v < (sizes_i
 unfolding naming_in sizes_in items_in
 defined-in s v a h = defines_unit-by_id s.module.now v a h
 
-named-in : (s : Scope) (v : ℕ) → IsArena s.module.now → v < (sizes_in s).units → unit_named ((naming_in s).unit_name v) (items_in s) ≡ (if is_some (kind_at s.module.now v) then Some (unit_text_at s.module.now v) else None)
+named-in : (s : Scope) (v : ℕ) → IsArena s.module.now → v < (sizes_in s).units
+    → unit_named ((naming_in s).unit_name v) (items_in s) ≡ (if is_some (kind_at s.module.now v) then Some (unit_text_at s.module.now v) else None)
 unfolding naming_in sizes_in items_in
 named-in s v a h = unit_named-by_id s.module.now v a h
 
@@ -43,7 +44,8 @@ function-kind : (k : Option UnitKind) (t : UnitText) → t.kind ≡ kind_text k 
 function-kind None t e = refl
 function-kind (Some k) t e = ap is_function e
 
-pub function-in : (s : Scope) (v : ℕ) → IsArena s.module.now → v < (sizes_in s).units → is_function_name (items_in s) ((naming_in s).unit_name v) ≡ (is_function_kind (kind_at s.module.now v) || is_assert ((naming_in s).unit_name v))
+pub function-in : (s : Scope) (v : ℕ) → IsArena s.module.now → v < (sizes_in s).units
+    → is_function_name (items_in s) ((naming_in s).unit_name v) ≡ (is_function_kind (kind_at s.module.now v) || is_assert ((naming_in s).unit_name v))
 function-in s v a h =
     ap (λ o. option_map_or (λ (u : UnitText). is_function u.kind) o false || is_assert ((naming_in s).unit_name v)) (named-in s v a h)
     ∙ ap (λ b. b || is_assert ((naming_in s).unit_name v)) (function-kind (kind_at s.module.now v) (unit_text_at s.module.now v) refl)
@@ -55,14 +57,17 @@ pub either-second : (d a r : Bool) → d ≡ false → r ≡ a → r ≡ (d || a
 either-second d a r e f = f ∙ ap (λ b. b || a) (sym e)
 
 -- the result type of a unit
-result-kind : (k : Option UnitKind) (r : Option TypeTree) (u : UnitText) (t : TypeTree) → (k ≡ None → r ≡ None) → u.result ≡ r → option_map_or (λ (v : UnitText). option_map_or (same_type t) v.result true) (if is_some k then Some u else None) true ≡ option_map_or (same_type t) r true
+result-kind : (k : Option UnitKind) (r : Option TypeTree) (u : UnitText) (t : TypeTree) → (k ≡ None → r ≡ None) → u.result ≡ r
+    → option_map_or (λ (v : UnitText). option_map_or (same_type t) v.result true) (if is_some k then Some u else None) true ≡ option_map_or (same_type t) r true
 result-kind None r u t n e = ap (λ o. option_map_or (same_type t) o true) (sym (n refl))
 result-kind (Some k) r u t n e = ap (λ o. option_map_or (same_type t) o true) e
 
 no-result : (a : Arena) (v : ℕ) → IsArena a → v < unit_count a → kind_at a v ≡ None → result_type_at a v ≡ None
 no-result a v o h e = let P : Option UnitKind → Type 0 = λ k. FitsKind k (table_at a v) in let f = subst P e (o.tables v h).fits_kind in f.1
 
-pub result-of : (s : Scope) (v : ℕ) → IsArena s.module.now → v < (sizes_in s).units → (t : TypeTree) → option_map_or (λ (u : UnitText). option_map_or (same_type t) u.result true) (unit_named ((naming_in s).unit_name v) (items_in s)) true ≡ option_map_or (same_type t) (result_type_at s.module.now v) true
+pub result-of : (s : Scope) (v : ℕ) → IsArena s.module.now → v < (sizes_in s).units → (t : TypeTree)
+    → option_map_or (λ (u : UnitText). option_map_or (same_type t) u.result true) (unit_named ((naming_in s).unit_name v) (items_in s)) true
+    ≡ option_map_or (same_type t) (result_type_at s.module.now v) true
 result-of s v a h t =
     ap (λ o. option_map_or (λ (u : UnitText). option_map_or (same_type t) u.result true) o true) (named-in s v a h)
     ∙ result-kind (kind_at s.module.now v) (result_type_at s.module.now v) (unit_text_at s.module.now v) t (no-result s.module.now v a (unit-within s v h)) refl
@@ -79,7 +84,8 @@ args-kind : (k : Option UnitKind) (t : UnitText) → option_map_or (λ (v : Unit
 args-kind None t = refl
 args-kind (Some k) t = refl
 
-pub args-in : (s : Scope) (v : ℕ) → IsArena s.module.now → v < (sizes_in s).units → is_assert ((naming_in s).unit_name v) ≡ false → args_of (items_in s) ((naming_in s).unit_name v) ≡ (if is_some (kind_at s.module.now v) then Some (map (arg_text (naming s.module.now v)) (args_at s.module.now v)) else None)
+pub args-in : (s : Scope) (v : ℕ) → IsArena s.module.now → v < (sizes_in s).units → is_assert ((naming_in s).unit_name v) ≡ false
+    → args_of (items_in s) ((naming_in s).unit_name v) ≡ (if is_some (kind_at s.module.now v) then Some (map (arg_text (naming s.module.now v)) (args_at s.module.now v)) else None)
 args-in s v a h n =
     ap (λ b. if b then Some assert_args else option_map_or (λ (u : UnitText). Some u.args) (unit_named ((naming_in s).unit_name v) (items_in s)) None) n
     ∙ ap (λ o. option_map_or (λ (u : UnitText). Some u.args) o None) (named-in s v a h)
@@ -100,10 +106,12 @@ differ-some P o xs r e f = ap not f ∙ ap (λ p. option_map_or (λ ps. not (P p
 pub differ-none : (P : List ArgText → Bool) (o : Option (List ArgText)) → o ≡ None → false ≡ option_map_or (λ ps. not (P ps)) o false
 differ-none P o e = ap (λ p. option_map_or (λ ps. not (P ps)) p false) (sym e)
 
-pub params-in : (s : Scope) (v : ℕ) → IsArena s.module.now → v < (sizes_in s).units → is_assert ((naming_in s).unit_name v) ≡ false → is_some (kind_at s.module.now v) ≡ true → args_of (items_in s) ((naming_in s).unit_name v) ≡ Some (map (arg_text (naming s.module.now v)) (args_at s.module.now v))
+pub params-in : (s : Scope) (v : ℕ) → IsArena s.module.now → v < (sizes_in s).units → is_assert ((naming_in s).unit_name v) ≡ false → is_some (kind_at s.module.now v) ≡ true
+    → args_of (items_in s) ((naming_in s).unit_name v) ≡ Some (map (arg_text (naming s.module.now v)) (args_at s.module.now v))
 params-in s v a h n k = args-in s v a h n ∙ ap (λ b. if b then Some (map (arg_text (naming s.module.now v)) (args_at s.module.now v)) else None) k
 
-pub no-params : (s : Scope) (v : ℕ) → IsArena s.module.now → v < (sizes_in s).units → is_assert ((naming_in s).unit_name v) ≡ false → is_some (kind_at s.module.now v) ≡ false → args_of (items_in s) ((naming_in s).unit_name v) ≡ None
+pub no-params : (s : Scope) (v : ℕ) → IsArena s.module.now → v < (sizes_in s).units → is_assert ((naming_in s).unit_name v) ≡ false → is_some (kind_at s.module.now v) ≡ false
+    → args_of (items_in s) ((naming_in s).unit_name v) ≡ None
 no-params s v a h n k = args-in s v a h n ∙ ap (λ b. if b then Some (map (arg_text (naming s.module.now v)) (args_at s.module.now v)) else None) k
 
 -- two tests

@@ -132,7 +132,8 @@ making-led n turns (l ∷ ls) v i h e = by (is_result l.result v.0) refl e (maki
     here None t q = absurd cc
     here (Some w) t q = let k : w.0 ≡ v.0 = nat_eq-is w.0 v.0 t in let z : w ≡ v = λ j. record { 0 = k j } in subst (λ (x : ValueId). result_led n turns (Some x) l.inst ≡ true) z q
 
-    by : (c : Bool) → is_result l.result v.0 ≡ c → (if c then Some l.inst else inst_making ls v.0) ≡ Some i → (inst_making ls v.0 ≡ Some i → result_led n turns (Some v) i ≡ true) → result_led n turns (Some v) i ≡ true
+    by : (c : Bool) → is_result l.result v.0 ≡ c → (if c then Some l.inst else inst_making ls v.0) ≡ Some i → (inst_making ls v.0 ≡ Some i → result_led n turns (Some v) i ≡ true)
+        → result_led n turns (Some v) i ≡ true
     by true q g r = subst (λ (x : Inst). result_led n turns (Some v) x ≡ true) (some_inj l.inst i g) (here l.result q (and-both (line_led n turns l) (all_led n turns ls) h).0)
     by false q g r = r g
 
@@ -181,7 +182,8 @@ module _ (a : Arena) (u : ℕ) (o : IsArena a) (h : u < unit_count a) (turns : L
   placed : (v : ValueId) (i : Inst) → making v ≡ Some i → InstWithin (sizes a u) i
   placed v i e = making-has (InstWithin (sizes a u)) (table_at a u).lines (λ j l q. o.placed u j l q) v.0 i e
 
-  giving : (D : List ℕ → Bool) (g : Option Inst) → option_map_or (comes_from_probe D) (option_map (inst_text (naming a u)) g) false ≡ option_map_or (comes_by (λ v. D (value_text (naming a u) v))) g false
+  giving : (D : List ℕ → Bool) (g : Option Inst) → option_map_or (comes_from_probe D) (option_map (inst_text (naming a u)) g) false
+      ≡ option_map_or (comes_by (λ v. D (value_text (naming a u) v))) g false
   giving D None = refl
   giving D (Some i) = named-by (naming a u) D i
 
@@ -211,7 +213,8 @@ module _ (a : Arena) (u : ℕ) (o : IsArena a) (h : u < unit_count a) (turns : L
   has-turn : (v : ValueId) → marked v ≡ not (nat_eq (turn_of turns v) 0)
   has-turn v = with_turns-at turns v.0
 
-  led-by : (v : ValueId) → v.0 < value_count a u → marked v ≡ true → (i : Inst) × (making v ≡ Some i) × ((nat_le (turn_of turns v) (inst_count a u) && comes_by (is_before turns (turn_of turns v)) i) ≡ true)
+  led-by : (v : ValueId) → v.0 < value_count a u → marked v ≡ true → (i : Inst) × (making v ≡ Some i)
+      × ((nat_le (turn_of turns v) (inst_count a u) && comes_by (is_before turns (turn_of turns v)) i) ≡ true)
   led-by v w e =
       let x = some-line (comes_by marked) (making v) (sym (marked-step v w) ∙ e) in
       let q : nat_eq (turn_of turns v) 0 ≡ false = not-false (nat_eq (turn_of turns v) 0) (sym (has-turn v) ∙ e) in

@@ -9,7 +9,7 @@ use Rattle.lh_unit.specs.declared.inst.Inst.TheVariants as inst
 use Rattle.lh_verify.specs.PhisById.{edges_naming}
 
 -- by the ids of n labels, how many of these edges name the label
-pub record Counts (n : ℕ) (edges : List PhiEdge) (counts : List ℕ) : Type 0 where
+pub record CountsEdges (n : ℕ) (edges : List PhiEdge) (counts : List ℕ) : Type 0 where
   pub long : length counts ≡ n
   pub count : (b : BlockId) → slice_index_or counts b.0 0 ≡ edges_naming b edges
 

@@ -7,9 +7,9 @@ use Rattle.lh_unit.specs.WellFormed.{FaultKind, undefined, wrong_kind, wrong_typ
 use Rattle.lh_unit.specs.declared.inst.Inst.{Inst}
 use Rattle.lh_typing.specs.declared.scope.Scope.{Scope}
 use Rattle.lh_verify.specs.declared.spots.Spot.{Spot}
-use Rattle.lh_verify.specs.Asks.{ends_wrong}
+use Rattle.lh_verify.specs.OperandTests.{ends_wrong}
 use Rattle.lh_verify.specs.PhisById.{phi_is_wrong, wrong_phi_at}
-use Rattle.lh_typing.specs.Told.{text_in, naming_in, items_in}
+use Rattle.lh_typing.specs.Facts.{text_in, naming_in, items_in}
 
 -- the instruction at a place, and its text
 abbrev pub inst_in : Scope → Spot → Inst

@@ -1,5 +1,5 @@
-pub mod Answering
-pub mod Asks
+pub mod FirstFound
+pub mod OperandTests
 pub mod Counting
 pub mod Faults
 pub mod Marking

@@ -14,7 +14,7 @@ use Rattle.lh_unit.specs.declared.inst.Inst.{Inst}
 use Rattle.lh_unit.specs.declared.inst.Inst.TheVariants as inst
 use Rattle.lh_unit.specs.declared.table.Line.{Line}
 use Rattle.lh_typing.specs.declared.uses.Use.{Use}
-use Rattle.lh_typing.specs.Told.{any_sig}
+use Rattle.lh_typing.specs.Facts.{any_sig}
 use Rattle.lh_typing.specs.Uses.{uses_of}
 
 -- the marks say which of these are blocks
@@ -23,7 +23,7 @@ pub record BlockMarks (blocks : List BlockId) (n : ℕ) (marks : List Bool) : Ty
   pub marked : (b : ℕ) (x : Bool) → slice_get marks b ≡ Some x → x ≡ is_block blocks b
 
 -- the marks say which labels of the unit u have a block
-pub record Stands (a : Arena) (u : ℕ) (marks : List Bool) : Type 0 where
+pub record MarksLabels (a : Arena) (u : ℕ) (marks : List Bool) : Type 0 where
   pub long : length marks ≡ label_count a u
   pub marked : (b : ℕ) (x : Bool) → slice_get marks b ≡ Some x → x ≡ defines_label (label_name_at a u b) (unit_text_at a u)
 

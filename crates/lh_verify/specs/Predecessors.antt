@@ -14,6 +14,6 @@ pub record IsPredecessors (t : Table) (blocks : List BlockId) (n : ℕ) (rows : 
   pub row : (to : ℕ) → slice_index_or rows to [] ≡ predecessors_in t blocks to
 
 -- a block stands once more at the end of the list of each label to which it has an edge
-pub record Adds (b : BlockId) (leads : List BlockId) (old new : List (List BlockId)) : Type 0 where
+pub record AddsPredecessor (b : BlockId) (leads : List BlockId) (old new : List (List BlockId)) : Type 0 where
   pub long : length new ≡ length old
   pub row : (to : ℕ) → slice_index_or new to [] ≡ slice_index_or old to [] ++ (if is_block leads to then b ∷ [] else [])

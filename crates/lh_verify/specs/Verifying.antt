@@ -5,13 +5,13 @@ use Rattle.lh_unit.specs.Arena.{Arena, contents, unit_name_at, unit_text_at, uni
 use Rattle.lh_unit.specs.declared.inst.UnitId.{UnitId}
 use Rattle.lh_unit.specs.declared.inst.Item.{Item}
 use Rattle.lh_unit.specs.declared.inst.Item.TheVariants as item
-use Rattle.lh_verify.specs.declared.unit.Found.{Found}
+use Rattle.lh_verify.specs.declared.unit.InstFault.{InstFault}
 use Rattle.lh_verify.specs.declared.verify.Fault.{Fault}
 use Rattle.lh_verify.specs.declared.verify.VerifyCause.{VerifyCause}
 use Rattle.lh_verify.specs.declared.verify.VerifyCause.TheVariants.{Invalid, OutOfMemory}
 use Rattle.lh_verify.specs.declared.verify.VerifyFault.{VerifyFault}
 use Rattle.lh_verify.specs.declared.verify.Verified.{Verified}
-use Rattle.lh_verify.specs.Answering.{FirstIn, unit_sites}
+use Rattle.lh_verify.specs.FirstFound.{FirstIn, unit_sites}
 
 -- the first fault of the module: its unit by its id, its number in the unit from 1, and the number of its lowest fault
 pub record NamesFault (a : Arena) (f : Fault) : Type 0 where
@@ -21,9 +21,9 @@ pub record NamesFault (a : Arena) (f : Fault) : Type 0 where
   pub first : IsFirstFault (contents a) (unit_name_at a f.unit.0) f.inst kind
 
 -- what is said of a module, if there is a fault
-abbrev pub Says : Arena → Option Fault → Type 0
-Says a None = IsFaultless (contents a)
-Says a (Some f) = NamesFault a f
+abbrev pub FirstFaultOf : Arena → Option Fault → Type 0
+FirstFaultOf a None = IsFaultless (contents a)
+FirstFaultOf a (Some f) = NamesFault a f
 
 -- the first fault of one of the module's units
 pub record UnitFault (a : Arena) (u : UnitId) (f : Fault) : Type 0 where
@@ -36,13 +36,13 @@ pub record UnitFault (a : Arena) (u : UnitId) (f : Fault) : Type 0 where
   pub number : number_of kind ≡ f.number
 
 -- what is said of a unit, and of an item, if there is a fault
-abbrev pub SaysOfUnit : Arena → UnitId → Option Fault → Type 0
-SaysOfUnit a u None = NoneHasFault (contents a) (unit_sites (unit_text_at a u.0))
-SaysOfUnit a u (Some f) = UnitFault a u f
+abbrev pub FirstFaultOfUnit : Arena → UnitId → Option Fault → Type 0
+FirstFaultOfUnit a u None = NoneHasFault (contents a) (unit_sites (unit_text_at a u.0))
+FirstFaultOfUnit a u (Some f) = UnitFault a u f
 
-abbrev pub SaysOfItem : Arena → Item → Option Fault → Type 0
-SaysOfItem a (item.Unit u) f = SaysOfUnit a u f
-SaysOfItem a (item.Declare d) f = f ≡ None
+abbrev pub FirstFaultOfItem : Arena → Item → Option Fault → Type 0
+FirstFaultOfItem a (item.Unit u) f = FirstFaultOfUnit a u f
+FirstFaultOfItem a (item.Declare d) f = f ≡ None
 
 -- the unit of an item is begun
 abbrev pub ItemBegun : Arena → Item → Type 0
@@ -50,7 +50,7 @@ ItemBegun a (item.Unit u) = IsSome (kind_at a u.0)
 ItemBegun a (item.Declare d) = Unit {0}
 
 -- what is found in a unit, as a fault of the module
-abbrev pub named_fault : UnitId → Option Found → Option Fault
+abbrev pub named_fault : UnitId → Option InstFault → Option Fault
 named_fault u None = None
 named_fault u (Some f) = Some (record { unit = u; inst = f.inst.0 + 1; number = f.number })
 

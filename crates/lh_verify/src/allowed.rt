@@ -5,10 +5,10 @@ ghost use Rattle.lh_types.specs.Kind.{type_of_kind};
 ghost use Rattle.lh_unit.specs.Typing.{first_type};
 ghost use Rattle.lh_unit.specs.TypingRows.{is_signal as test_signal};
 ghost use Rattle.lh_unit.specs.Places.{is_terminator as text_is_terminator};
-ghost use Rattle.lh_unit.specs.WellFormed.{in_function as kind_in_function, in_process as kind_in_process, in_entity as kind_in_entity, takes_signal_part as text_takes_signal_part, is_allowed as text_is_allowed};
+ghost use Rattle.lh_unit.specs.WellFormed as spec;
 ghost use Rattle.lh_unit.specs.Naming.{operand_text, inst_text};
-ghost use Rattle.lh_typing.specs.Told.{naming_in};
-ghost use Rattle.lh_verify.specs.Asks.{ends_wrong as asks_ends_wrong};
+ghost use Rattle.lh_typing.specs.Facts.{naming_in};
+ghost use Rattle.lh_verify.specs.OperandTests.{ends_wrong as asks_ends_wrong};
 
 use lh_types::op::Op;
 use lh_typing::scope::Scope;
@@ -16,7 +16,7 @@ use lh_unit::inst::{Inst, Typed, UnitKind};
 
 /// Whether a unit of this kind is a function.
 pub fn in_function(kind: UnitKind) -> bool
-    ensures { result ≡ kind_in_function kind }
+    ensures { result ≡ spec.in_function kind }
 {
     match kind {
         UnitKind::Func => true,
@@ -25,7 +25,7 @@ pub fn in_function(kind: UnitKind) -> bool
 }
 
 fn in_process(kind: UnitKind) -> bool
-    ensures { result ≡ kind_in_process kind }
+    ensures { result ≡ spec.in_process kind }
 {
     match kind {
         UnitKind::Proc => true,
@@ -34,7 +34,7 @@ fn in_process(kind: UnitKind) -> bool
 }
 
 fn in_entity(kind: UnitKind) -> bool
-    ensures { result ≡ kind_in_entity kind }
+    ensures { result ≡ spec.in_entity kind }
 {
     match kind {
         UnitKind::Entity => true,
@@ -44,7 +44,7 @@ fn in_entity(kind: UnitKind) -> bool
 
 /// Whether it is an `extf` or `exts` of a signal, as the type that is written says.
 fn takes_signal_part(scope: &Scope<'_>, op: Op, args: &[Typed]) -> bool
-    ensures { result ≡ text_takes_signal_part op (map (operand_text (naming_in scope.now)) args.now) }
+    ensures { result ≡ spec.takes_signal_part op (map (operand_text (naming_in scope.now)) args.now) }
 {
     match op {
         Op::Extf(_) | Op::Exts { .. } => writes_signal(scope, args),
@@ -57,7 +57,7 @@ fn writes_signal(scope: &Scope<'_>, args: &[Typed]) -> bool
 {
     match args.split_first() {
         None => false,
-        Some((first, _)) => match &first.ty {
+        Some((first, _)) => match first.ty.get() {
             None => false,
             Some(ty) => ty.is_signal(),
         },
@@ -66,7 +66,7 @@ fn writes_signal(scope: &Scope<'_>, args: &[Typed]) -> bool
 
 /// Whether an instruction is allowed in this kind of unit.
 pub fn is_allowed(scope: &Scope<'_>, kind: UnitKind, inst: &Inst) -> bool
-    ensures { result ≡ text_is_allowed kind (inst_text (naming_in scope.now) inst.now) }
+    ensures { result ≡ spec.is_allowed kind (inst_text (naming_in scope.now) inst.now) }
 {
     match inst {
         Inst::Const(_) => true,

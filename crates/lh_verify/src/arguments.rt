@@ -4,11 +4,12 @@ ghost use Rattle.std.specs.Prelude.{◌≡◌, ◌<◌, [], List, Some, not, map
 ghost use Rattle.lh_unit.specs.Contents.{OperandText, call_text, child_text};
 ghost use Rattle.lh_unit.specs.Naming.{Naming, value_text, operand_text, arg_text, inst_text};
 ghost use Rattle.lh_unit.specs.Within.{Each, ValueWithin, OperandWithin, InstWithin};
-ghost use Rattle.lh_unit.specs.WellFormed.{result_fits as text_result_fits, arguments_fit, arguments_differ as text_arguments_differ, assert_args};
+ghost use Rattle.lh_unit.specs.WellFormed as spec;
+ghost use Rattle.lh_unit.specs.WellFormed.{arguments_fit, assert_args};
 ghost use Rattle.lh_unit.specs.TypingRows.{has_type};
-ghost use Rattle.lh_verify.specs.Asks.{on_side};
+ghost use Rattle.lh_verify.specs.OperandTests.{on_side};
 ghost use Rattle.lh_typing.specs.Numbers.{AreNumbersOf};
-ghost use Rattle.lh_typing.specs.Told.{IsScope, items_in, text_in, naming_in, sizes_in};
+ghost use Rattle.lh_typing.specs.Facts.{IsScope, items_in, text_in, naming_in, sizes_in};
 
 use crate::units::is_defined;
 use lh_types::ty::Ty;
@@ -101,7 +102,7 @@ fn ports_fit(scope: &Scope<'_>, unit: UnitId, inputs: &[Typed], outputs: &[Typed
     requires unit { unit.0 < (sizes_in scope.now).units }
     requires inputs { Each (OperandWithin (sizes_in scope.now)) inputs.now }
     requires outputs { Each (OperandWithin (sizes_in scope.now)) outputs.now }
-    ensures { let f = naming_in scope.now in not result ≡ text_arguments_differ (items_in scope.now) (text_in scope.now) (child_text (f.unit_name unit.0) (map (operand_text f) inputs.now) (map (operand_text f) outputs.now)) }
+    ensures { let f = naming_in scope.now in not result ≡ spec.arguments_differ (items_in scope.now) (text_in scope.now) (child_text (f.unit_name unit.0) (map (operand_text f) inputs.now) (map (operand_text f) outputs.now)) }
 {
     if scope.module.unit_name(unit).is_assert() {
         if !fits_assert(scope, inputs) {
@@ -125,7 +126,7 @@ fn call_fits(scope: &Scope<'_>, unit: UnitId, ty: &Ty, args: &[Typed]) -> bool
     requires scope { IsScope scope.now }
     requires unit { unit.0 < (sizes_in scope.now).units }
     requires args { Each (OperandWithin (sizes_in scope.now)) args.now }
-    ensures { let f = naming_in scope.now in not result ≡ text_arguments_differ (items_in scope.now) (text_in scope.now) (call_text (f.unit_name unit.0) ty.now (map (operand_text f) args.now)) }
+    ensures { let f = naming_in scope.now in not result ≡ spec.arguments_differ (items_in scope.now) (text_in scope.now) (call_text (f.unit_name unit.0) ty.now (map (operand_text f) args.now)) }
 {
     if scope.module.unit_name(unit).is_assert() {
         return fits_assert(scope, args);
@@ -141,7 +142,7 @@ fn call_fits(scope: &Scope<'_>, unit: UnitId, ty: &Ty, args: &[Typed]) -> bool
 pub fn arguments_differ(scope: &Scope<'_>, inst: &Inst) -> bool
     requires scope { IsScope scope.now }
     requires within { InstWithin (sizes_in scope.now) inst.now }
-    ensures { result ≡ text_arguments_differ (items_in scope.now) (text_in scope.now) (inst_text (naming_in scope.now) inst.now) }
+    ensures { result ≡ spec.arguments_differ (items_in scope.now) (text_in scope.now) (inst_text (naming_in scope.now) inst.now) }
 {
     match inst {
         Inst::Child {
@@ -158,7 +159,7 @@ pub fn arguments_differ(scope: &Scope<'_>, inst: &Inst) -> bool
 fn call_result_fits(scope: &Scope<'_>, unit: UnitId, ty: &Ty) -> bool
     requires scope { IsScope scope.now }
     requires unit { unit.0 < (sizes_in scope.now).units }
-    ensures { (args : List OperandText) → result ≡ text_result_fits (items_in scope.now) (call_text ((naming_in scope.now).unit_name unit.0) ty.now args) }
+    ensures { (args : List OperandText) → result ≡ spec.result_fits (items_in scope.now) (call_text ((naming_in scope.now).unit_name unit.0) ty.now args) }
 {
     if scope.module.unit_name(unit).is_assert() {
         return ty.is_void();
@@ -173,7 +174,7 @@ fn call_result_fits(scope: &Scope<'_>, unit: UnitId, ty: &Ty) -> bool
 pub fn result_fits(scope: &Scope<'_>, inst: &Inst) -> bool
     requires scope { IsScope scope.now }
     requires within { InstWithin (sizes_in scope.now) inst.now }
-    ensures { result ≡ text_result_fits (items_in scope.now) (inst_text (naming_in scope.now) inst.now) }
+    ensures { result ≡ spec.result_fits (items_in scope.now) (inst_text (naming_in scope.now) inst.now) }
 {
     match inst {
         Inst::Call {

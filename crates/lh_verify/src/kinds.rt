@@ -2,11 +2,11 @@
 ghost use Rattle.std.specs.Prelude.{◌≡◌, map};
 ghost use Rattle.std.specs.List.{list_any};
 ghost use Rattle.lh_unit.specs.Kinds.{takes as takes_kind};
-ghost use Rattle.lh_unit.specs.WellFormed.{has_wrong_kind as use_has_wrong_kind, has_no_kind as use_has_no_kind};
+ghost use Rattle.lh_unit.specs.WellFormed as spec;
 ghost use Rattle.lh_unit.specs.Within.{Each};
-ghost use Rattle.lh_verify.specs.Asks.{names_nothing as use_names_nothing};
+ghost use Rattle.lh_verify.specs.OperandTests.{names_nothing as use_names_nothing};
 ghost use Rattle.lh_verify.specs.Operands.{UseWithin};
-ghost use Rattle.lh_typing.specs.Told.{IsScope, kind_as, text_in, naming_in, sizes_in};
+ghost use Rattle.lh_typing.specs.Facts.{IsScope, kind_as, text_in, naming_in, sizes_in};
 ghost use Rattle.lh_typing.specs.Uses.{use_text, need_as};
 
 use lh_typing::scope::{Kind, Scope};
@@ -33,7 +33,7 @@ fn takes(need: Need, kind: Kind) -> bool
 fn has_wrong_kind(scope: &Scope<'_>, operand: Use) -> bool
     requires scope { IsScope scope.now }
     requires within { UseWithin (sizes_in scope.now) operand }
-    ensures { result ≡ use_has_wrong_kind (text_in scope.now) (use_text (naming_in scope.now) operand) }
+    ensures { result ≡ spec.has_wrong_kind (text_in scope.now) (use_text (naming_in scope.now) operand) }
 {
     match scope.kind_of(operand.value) {
         Some(kind) => !takes(operand.need, kind),
@@ -45,7 +45,7 @@ fn has_wrong_kind(scope: &Scope<'_>, operand: Use) -> bool
 fn has_no_kind(scope: &Scope<'_>, operand: Use) -> bool
     requires scope { IsScope scope.now }
     requires within { UseWithin (sizes_in scope.now) operand }
-    ensures { result ≡ use_has_no_kind (text_in scope.now) (use_text (naming_in scope.now) operand) }
+    ensures { result ≡ spec.has_no_kind (text_in scope.now) (use_text (naming_in scope.now) operand) }
 {
     scope.kind_of(operand.value).is_none()
 }
@@ -63,7 +63,7 @@ fn names_nothing(scope: &Scope<'_>, operand: Use) -> bool
 pub fn any_has_wrong_kind(scope: &Scope<'_>, operands: &[Use]) -> bool
     requires scope { IsScope scope.now }
     requires within { Each (UseWithin (sizes_in scope.now)) operands.now }
-    ensures { result ≡ list_any (use_has_wrong_kind (text_in scope.now)) (map (use_text (naming_in scope.now)) operands.now) }
+    ensures { result ≡ list_any (spec.has_wrong_kind (text_in scope.now)) (map (use_text (naming_in scope.now)) operands.now) }
 {
     for operand in operands {
         if has_wrong_kind(scope, *operand) {
@@ -77,7 +77,7 @@ pub fn any_has_wrong_kind(scope: &Scope<'_>, operands: &[Use]) -> bool
 pub fn any_has_no_kind(scope: &Scope<'_>, operands: &[Use]) -> bool
     requires scope { IsScope scope.now }
     requires within { Each (UseWithin (sizes_in scope.now)) operands.now }
-    ensures { result ≡ list_any (use_has_no_kind (text_in scope.now)) (map (use_text (naming_in scope.now)) operands.now) }
+    ensures { result ≡ list_any (spec.has_no_kind (text_in scope.now)) (map (use_text (naming_in scope.now)) operands.now) }
 {
     for operand in operands {
         if has_no_kind(scope, *operand) {

@@ -2,7 +2,7 @@
 ghost use Rattle.std.specs.Prelude.{◌≡◌, ◌<◌, length, replicate, false, IfOk};
 ghost use Rattle.lh_unit.specs.Table.{BlocksWithin};
 ghost use Rattle.lh_unit.specs.Arena.{unit_count, label_count};
-ghost use Rattle.lh_verify.specs.Marking.{BlockMarks, Stands, has_labels as kind_has_labels};
+ghost use Rattle.lh_verify.specs.Marking.{BlockMarks, MarksLabels, has_labels as kind_has_labels};
 
 use lh_types::ty::NoMemory;
 use lh_typing::facts::no_marks;
@@ -13,7 +13,7 @@ use std::alloc::Global;
 /// By the ids of labels, whether a block of the unit has the label. In an entity none has.
 pub fn labels(alloc: Global, m: &Module, unit: UnitId) -> Result<Vec<bool>, NoMemory>
     requires { unit.0 < unit_count m.now }
-    ensures { IfOk result (λ marks. Stands m.now unit.0 marks.items) }
+    ensures { IfOk result (λ marks. MarksLabels m.now unit.0 marks.items) }
 {
     let mut marks = no_marks(alloc, m.labels(unit))?;
     mark_labels(&mut marks, m, unit);
@@ -23,7 +23,7 @@ pub fn labels(alloc: Global, m: &Module, unit: UnitId) -> Result<Vec<bool>, NoMe
 fn mark_labels(marks: &mut [bool], m: &Module, unit: UnitId)
     requires unit { unit.0 < unit_count m.now }
     requires marks { marks.old ≡ replicate (label_count m.now unit.0) false }
-    ensures { Stands m.now unit.0 marks.new }
+    ensures { MarksLabels m.now unit.0 marks.new }
 {
     if !has_labels(m.kind(unit)) {
         return;

@@ -4,7 +4,7 @@ ghost use Rattle.lh_unit.specs.Within.{Each};
 ghost use Rattle.lh_unit.specs.Table.{Table};
 ghost use Rattle.lh_unit.specs.Arena.{unit_count, label_count, inst_count, table_at, blocks_at};
 ghost use Rattle.lh_unit.specs.declared.inst.PhiEdge.{PhiEdge};
-ghost use Rattle.lh_verify.specs.Counting.{Counts, EdgesWithin, all_named_once};
+ghost use Rattle.lh_verify.specs.Counting.{CountsEdges, EdgesWithin, all_named_once};
 ghost use Rattle.lh_verify.specs.PhisById.{phi_is_wrong as wrong_phi, wrong_phi_at};
 ghost use Rattle.lh_verify.specs.Predecessors.{IsPredecessors};
 ghost use Rattle.lh_verify.specs.SpotsWithin.{SpotWithin};
@@ -53,15 +53,13 @@ fn test_places(
     requires unit { unit.0 < unit_count m.now }
     requires within { Each (SpotWithin (inst_count m.now unit.0)) places.now }
     requires rows { IsPredecessors (table_at m.now unit.0) (blocks_at m.now unit.0) (label_count m.now unit.0) rows.now }
-    requires counts { Counts (label_count m.now unit.0) [] counts.old }
+    requires counts { CountsEdges (label_count m.now unit.0) [] counts.old }
     ensures { IfOk result (λ wrong. wrong.items ≡ map (wrong_phi_at (table_at m.now unit.0)) places.now) }
 {
     let mut wrong = Vec::with_capacity(alloc, places.len())?;
     for place in places {
         let is_wrong = phi_is_wrong(rows, counts, *place, m.inst(unit, place.inst));
-        if wrong.push(is_wrong).is_err() {
-            return Err(NoMemory);
-        }
+        wrong.push(is_wrong)?;
     }
     Ok(wrong)
 }
@@ -70,9 +68,9 @@ fn test_places(
 /// yet or afterwards.
 fn phi_is_wrong(rows: &[BlockList], counts: &mut [usize], spot: Spot, inst: &Inst) -> bool
     requires within { EdgesWithin (length counts.old) inst.now }
-    requires counts { Counts (length counts.old) [] counts.old }
+    requires counts { CountsEdges (length counts.old) [] counts.old }
     ensures wrong { (t : Table) → IsPredecessors t t.blocks (length rows.now) rows.now → result ≡ wrong_phi t spot inst.now }
-    ensures counts { Counts (length counts.old) [] counts.new }
+    ensures counts { CountsEdges (length counts.old) [] counts.new }
 {
     match inst {
         Inst::Phi { ty: _, edges } => {
@@ -98,9 +96,9 @@ fn blocks_in(rows: &[BlockList], block: BlockId) -> &[BlockId]
 /// Whether each of these blocks is named by one edge.
 fn are_named_once(blocks: &[BlockId], counts: &mut [usize], edges: &[PhiEdge]) -> bool
     requires within { Each (λ (e : PhiEdge). e.block.0 < length counts.old) edges.now }
-    requires counts { Counts (length counts.old) [] counts.old }
+    requires counts { CountsEdges (length counts.old) [] counts.old }
     ensures once { result ≡ all_named_once edges.now blocks.now }
-    ensures counts { Counts (length counts.old) [] counts.new }
+    ensures counts { CountsEdges (length counts.old) [] counts.new }
 {
     count(counts, edges);
     let once = all_counted_once(counts, blocks, edges);
@@ -111,8 +109,8 @@ fn are_named_once(blocks: &[BlockId], counts: &mut [usize], edges: &[PhiEdge]) -
 /// Counts the edges by the ids of the labels that they name.
 fn count(counts: &mut [usize], edges: &[PhiEdge])
     requires within { Each (λ (e : PhiEdge). e.block.0 < length counts.old) edges.now }
-    requires counts { Counts (length counts.old) [] counts.old }
-    ensures { Counts (length counts.old) edges.now counts.new }
+    requires counts { CountsEdges (length counts.old) [] counts.old }
+    ensures { CountsEdges (length counts.old) edges.now counts.new }
 {
     for edge in edges {
         counts[edge.block.0 as usize] += 1;
@@ -121,7 +119,7 @@ fn count(counts: &mut [usize], edges: &[PhiEdge])
 
 /// Whether the edges that name each of these blocks were counted as one.
 fn all_counted_once(counts: &[usize], blocks: &[BlockId], edges: &[PhiEdge]) -> bool
-    requires { Counts (length counts.now) edges.now counts.now }
+    requires { CountsEdges (length counts.now) edges.now counts.now }
     ensures { result ≡ all_named_once edges.now blocks.now }
 {
     for block in blocks {
@@ -144,8 +142,8 @@ fn count_of(counts: &[usize], block: BlockId) -> usize
 /// Takes the edges off again, so that the next `phi` finds no count.
 fn forget(counts: &mut [usize], edges: &[PhiEdge])
     requires within { Each (λ (e : PhiEdge). e.block.0 < length counts.old) edges.now }
-    requires counts { Counts (length counts.old) edges.now counts.old }
-    ensures { Counts (length counts.old) [] counts.new }
+    requires counts { CountsEdges (length counts.old) edges.now counts.old }
+    ensures { CountsEdges (length counts.old) [] counts.new }
 {
     for edge in edges {
         counts[edge.block.0 as usize] -= 1;

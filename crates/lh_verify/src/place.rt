@@ -3,12 +3,14 @@ ghost use Rattle.std.specs.Prelude.{◌≡◌, ◌<◌, option_map, IfOk};
 ghost use Rattle.lh_unit.specs.Arena.{inst_count, table_at};
 ghost use Rattle.lh_unit.specs.Naming.{inst_text};
 ghost use Rattle.lh_unit.specs.Within.{Each, InstWithin};
-ghost use Rattle.lh_unit.specs.WellFormed.{is_asked as text_is_asked, is_wrong_kind as text_is_wrong_kind, is_wrong_type as text_is_wrong_type, names_wrong_unit as text_names_wrong_unit, probes_for_signal as text_probes_for_signal, number_of};
+ghost use Rattle.lh_unit.specs.WellFormed as spec;
+ghost use Rattle.lh_unit.specs.WellFormed.{number_of};
 ghost use Rattle.lh_verify.specs.Operands.{UseWithin};
 ghost use Rattle.lh_verify.specs.PhisById.{phi_is_wrong, wrong_phi_at};
-ghost use Rattle.lh_typing.specs.Told.{IsScope, HasItsSig, text_in, naming_in, sizes_in, items_in};
+ghost use Rattle.lh_typing.specs.Facts.{IsScope, HasItsSig, text_in, naming_in, sizes_in, items_in};
 ghost use Rattle.lh_typing.specs.Uses.{uses_of};
-ghost use Rattle.lh_verify.specs.Faults.{lowest_of_operands, lowest_of_place, lowest as lowest_fault, hides_paths as spot_hides_paths};
+ghost use Rattle.lh_verify.specs.Faults as faults;
+ghost use Rattle.lh_verify.specs.Faults.{lowest_of_operands, lowest_of_place};
 
 use crate::allowed::{ends_wrong, in_function, is_allowed};
 use crate::arguments::{arguments_differ, result_fits};
@@ -26,7 +28,7 @@ use std::alloc::Global;
 /// Whether kinds and types are asked: those of a `ret` only in a function.
 fn is_asked(scope: &Scope<'_>, inst: &Inst) -> bool
     requires { IsScope scope.now }
-    ensures { result ≡ text_is_asked (text_in scope.now) (inst_text (naming_in scope.now) inst.now) }
+    ensures { result ≡ spec.is_asked (text_in scope.now) (inst_text (naming_in scope.now) inst.now) }
 {
     match inst {
         Inst::Ret(None) | Inst::Ret(Some(_)) => in_function(scope.kind()),
@@ -38,7 +40,7 @@ fn is_asked(scope: &Scope<'_>, inst: &Inst) -> bool
 fn names_wrong_unit(scope: &Scope<'_>, inst: &Inst) -> bool
     requires scope { IsScope scope.now }
     requires within { InstWithin (sizes_in scope.now) inst.now }
-    ensures { result ≡ text_names_wrong_unit (items_in scope.now) (inst_text (naming_in scope.now) inst.now) }
+    ensures { result ≡ spec.names_wrong_unit (items_in scope.now) (inst_text (naming_in scope.now) inst.now) }
 {
     match inst {
         Inst::Child {
@@ -60,7 +62,7 @@ fn probes_for_signal(scope: &Scope<'_>, inst: &Inst) -> bool
     requires scope { IsScope scope.now }
     requires within { InstWithin (sizes_in scope.now) inst.now }
     requires sig { HasItsSig scope.now inst.now }
-    ensures { result ≡ text_probes_for_signal (text_in scope.now) (inst_text (naming_in scope.now) inst.now) }
+    ensures { result ≡ spec.probes_for_signal (text_in scope.now) (inst_text (naming_in scope.now) inst.now) }
 {
     match inst {
         Inst::Sig(of) => scope.comes_from_probe(of.value),
@@ -75,7 +77,7 @@ fn is_wrong_kind(scope: &Scope<'_>, inst: &Inst, operands: &[Use]) -> bool
     requires sig { HasItsSig scope.now inst.now }
     requires operands { operands.now ≡ uses_of inst.now }
     requires operands_within { Each (UseWithin (sizes_in scope.now)) operands.now }
-    ensures { result ≡ text_is_wrong_kind (items_in scope.now) (text_in scope.now) (inst_text (naming_in scope.now) inst.now) }
+    ensures { result ≡ spec.is_wrong_kind (items_in scope.now) (text_in scope.now) (inst_text (naming_in scope.now) inst.now) }
 {
     if !is_asked(scope, inst) {
         return false;
@@ -95,7 +97,7 @@ fn is_wrong_type(scope: &Scope<'_>, inst: &Inst, operands: &[Use]) -> bool
     requires within { InstWithin (sizes_in scope.now) inst.now }
     requires operands { operands.now ≡ uses_of inst.now }
     requires operands_within { Each (UseWithin (sizes_in scope.now)) operands.now }
-    ensures { result ≡ text_is_wrong_type (items_in scope.now) (text_in scope.now) (inst_text (naming_in scope.now) inst.now) }
+    ensures { result ≡ spec.is_wrong_type (items_in scope.now) (text_in scope.now) (inst_text (naming_in scope.now) inst.now) }
 {
     if !is_asked(scope, inst) {
         return false;
@@ -181,7 +183,7 @@ pub fn lowest(
     requires scope { IsScope scope.now }
     requires within { spot.inst.0 < inst_count scope.now.module.now scope.now.unit.0 }
     requires phi { wrong_phi ≡ wrong_phi_at (table_at scope.now.module.now scope.now.unit.0) spot }
-    ensures { IfOk result (λ n. n ≡ option_map number_of (lowest_fault scope.now spot lacks)) }
+    ensures { IfOk result (λ n. n ≡ option_map number_of (faults.lowest scope.now spot lacks)) }
 {
     let inst = scope.inst(spot.inst);
     match operand_fault(alloc, scope, inst)? {
@@ -201,7 +203,7 @@ pub fn hides_paths(
     requires scope { IsScope scope.now }
     requires within { spot.inst.0 < inst_count scope.now.module.now scope.now.unit.0 }
     requires phi { wrong_phi ≡ wrong_phi_at (table_at scope.now.module.now scope.now.unit.0) spot }
-    ensures { IfOk result (λ b. b ≡ spot_hides_paths scope.now spot) }
+    ensures { IfOk result (λ b. b ≡ faults.hides_paths scope.now spot) }
 {
     if wrong_phi {
         return Ok(true);

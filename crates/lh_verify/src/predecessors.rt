@@ -5,7 +5,7 @@ ghost use Rattle.lh_typing.specs.Leading.{led_to};
 ghost use Rattle.lh_unit.specs.Within.{Each};
 ghost use Rattle.lh_unit.specs.declared.inst.BlockId.{BlockId};
 ghost use Rattle.lh_unit.specs.Placed.{IsBlockOf};
-ghost use Rattle.lh_verify.specs.Predecessors.{IsPredecessors, Adds};
+ghost use Rattle.lh_verify.specs.Predecessors.{IsPredecessors, AddsPredecessor};
 
 use lh_types::list::ListOf;
 use lh_types::ty::NoMemory;
@@ -41,10 +41,8 @@ fn no_blocks(alloc: Global, labels: u32) -> Result<Vec<BlockList>, NoMemory>
 fn put_empty(alloc: Global, rows: &mut Vec<BlockList>) -> Result<(), NoMemory>
     ensures { OnOk result (rows.new.items ≡ rows.old.items ++ [] ∷ []) }
 {
-    match rows.push(BlockList::new(alloc)) {
-        Ok(()) => Ok(()),
-        Err(_) => Err(NoMemory),
-    }
+    rows.push(BlockList::new(alloc))?;
+    Ok(())
 }
 
 /// Adds each of these blocks to the lists of the labels to which it has an edge.
@@ -85,7 +83,7 @@ fn put_block(
 /// Adds a block to the lists of the labels to which its last instruction may lead.
 fn put_edges(rows: &mut [BlockList], block: BlockId, to: Successors) -> Result<(), NoMemory>
     requires { Each (λ (b : BlockId). b.0 < length rows.old) (led_to to) }
-    ensures { OnOk result (Adds block (led_to to) rows.old rows.new) }
+    ensures { OnOk result (AddsPredecessor block (led_to to) rows.old rows.new) }
 {
     match to {
         Successors::Nowhere => Ok(()),
@@ -103,7 +101,7 @@ fn put_two(
 ) -> Result<(), NoMemory>
     requires zero { zero.0 < length rows.old }
     requires one { one.0 < length rows.old }
-    ensures { OnOk result (Adds block (zero ∷ one ∷ []) rows.old rows.new) }
+    ensures { OnOk result (AddsPredecessor block (zero ∷ one ∷ []) rows.old rows.new) }
 {
     put_edge(rows, block, zero)?;
     if zero.0 == one.0 {
@@ -114,7 +112,7 @@ fn put_two(
 
 fn put_edge(rows: &mut [BlockList], block: BlockId, to: BlockId) -> Result<(), NoMemory>
     requires { to.0 < length rows.old }
-    ensures { OnOk result (Adds block (to ∷ []) rows.old rows.new) }
+    ensures { OnOk result (AddsPredecessor block (to ∷ []) rows.old rows.new) }
 {
     rows[to.0 as usize].push(block)
 }

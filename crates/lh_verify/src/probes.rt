@@ -6,7 +6,7 @@ ghost use Rattle.lh_unit.specs.Arena.{unit_count, value_count, inst_count, table
 ghost use Rattle.lh_unit.specs.declared.table.Line.{Line};
 ghost use Rattle.lh_verify.specs.Marking.{IsProbed, Reaches, Advances, comes_from as inst_comes_from};
 ghost use Rattle.lh_verify.specs.Turns.{turn_of as value_turn, is_before, comes_by, result_led, all_led, with_turns};
-ghost use Rattle.lh_typing.specs.Told.{any_sig};
+ghost use Rattle.lh_typing.specs.Facts.{any_sig};
 
 use crate::turns::turns_of;
 use lh_types::ty::NoMemory;
@@ -63,9 +63,7 @@ fn marks_of(alloc: Global, turns: &[u32]) -> Result<Vec<bool>, NoMemory>
 {
     let mut marks = Vec::new(alloc);
     for turn in turns {
-        if marks.push(*turn != 0).is_err() {
-            return Err(NoMemory);
-        }
+        marks.push(*turn != 0)?;
     }
     Ok(marks)
 }

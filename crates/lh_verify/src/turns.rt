@@ -79,9 +79,7 @@ fn users_of(alloc: Global, m: &Module, unit: UnitId, insts: u32) -> Result<Users
 impl Users {
     fn add(&mut self, value: u32, inst: u32) -> Result<(), NoMemory> {
         let before = at(&self.last, value);
-        if self.users.push(User { inst, before }).is_err() {
-            return Err(NoMemory);
-        }
+        self.users.push(User { inst, before })?;
         self.count = self.count.wrapping_add(1);
         put(&mut self.last, value, self.count);
         Ok(())
@@ -146,9 +144,7 @@ impl Search {
         }
         self.last = self.last.wrapping_add(1);
         put(&mut self.turns, value.0, self.last);
-        match self.open.push(value.0) {
-            Ok(()) => Ok(()),
-            Err(_) => Err(NoMemory),
-        }
+        self.open.push(value.0)?;
+        Ok(())
     }
 }

@@ -3,10 +3,10 @@ ghost use Rattle.std.specs.Prelude.{◌≡◌, ◌<◌, not, map};
 ghost use Rattle.std.specs.List.{list_any};
 ghost use Rattle.lh_unit.specs.Naming.{edge_text, inst_text};
 ghost use Rattle.lh_unit.specs.Within.{Each, EdgeWithin, InstWithin};
-ghost use Rattle.lh_unit.specs.WellFormed.{is_undefined as text_is_undefined};
-ghost use Rattle.lh_verify.specs.Asks.{label_is_missing as name_is_missing, edge_is_missing, label_is_missing_in, unit_is_missing_in};
+ghost use Rattle.lh_unit.specs.WellFormed as spec;
+ghost use Rattle.lh_verify.specs.OperandTests.{label_is_missing as name_is_missing, edge_is_missing, label_is_missing_in, unit_is_missing_in};
 ghost use Rattle.lh_verify.specs.Operands.{UseWithin};
-ghost use Rattle.lh_typing.specs.Told.{IsScope, items_in, text_in, naming_in, sizes_in};
+ghost use Rattle.lh_typing.specs.Facts.{IsScope, items_in, text_in, naming_in, sizes_in};
 ghost use Rattle.lh_typing.specs.Uses.{uses_of};
 ghost use Rattle.lh_typing.specs.Leading.{led_to};
 ghost use Rattle.lh_unit.specs.declared.inst.BlockId.{BlockId};
@@ -98,7 +98,7 @@ pub fn is_undefined(scope: &Scope<'_>, inst: &Inst, operands: &[Use]) -> bool
     requires within { InstWithin (sizes_in scope.now) inst.now }
     requires operands { operands.now ≡ uses_of inst.now }
     requires operands_within { Each (UseWithin (sizes_in scope.now)) operands.now }
-    ensures { result ≡ text_is_undefined (items_in scope.now) (text_in scope.now) (inst_text (naming_in scope.now) inst.now) }
+    ensures { result ≡ spec.is_undefined (items_in scope.now) (text_in scope.now) (inst_text (naming_in scope.now) inst.now) }
 {
     if any_names_nothing(scope, operands) {
         return true;

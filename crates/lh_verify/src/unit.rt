@@ -3,12 +3,13 @@ ghost use Rattle.std.specs.Prelude.{◌≡◌, ◌<◌, map, IsSome, IfOk, OnOk}
 ghost use Rattle.std.specs.List.{list_any};
 ghost use Rattle.lh_unit.specs.Arena.{IsArena, unit_count, kind_at, inst_count, table_at, contents, unit_text_at};
 ghost use Rattle.lh_unit.specs.Within.{Each};
-ghost use Rattle.lh_verify.specs.Answering.{Finds, LacksFirst, first_at as first_fault_at, is_at as lacks_at, found_or};
+ghost use Rattle.lh_verify.specs.FirstFound as spec;
+ghost use Rattle.lh_verify.specs.FirstFound.{FindsFault, LacksFirst, found_or};
 ghost use Rattle.lh_verify.specs.Faults.{hides_paths as spot_hides_paths};
 ghost use Rattle.lh_verify.specs.PhisById.{wrong_phi_at};
 ghost use Rattle.lh_verify.specs.Spots.{spots_of};
 ghost use Rattle.lh_typing.specs.Numbers.{Grows, NumbersParams};
-ghost use Rattle.lh_typing.specs.Told.{IsScope, items_in, text_in};
+ghost use Rattle.lh_typing.specs.Facts.{IsScope, items_in, text_in};
 ghost use Rattle.lh_verify.specs.SpotsWithin.{SpotWithin};
 
 use crate::labels::labels;
@@ -28,7 +29,7 @@ use std::alloc::Global;
 
 /// A faulty instruction, and the number of its lowest fault.
 #[derive(Clone, Copy, Debug)]
-pub struct Found {
+pub struct InstFault {
     pub inst: InstId,
     pub number: u8,
 }
@@ -41,15 +42,15 @@ pub fn first_fault(
     unit: UnitId,
     types: &mut Types,
     params: &[NumberList],
-) -> Result<Option<Found>, NoMemory>
+) -> Result<Option<InstFault>, NoMemory>
     requires unit { unit.0 < unit_count m.now }
     requires begun { IsSome (kind_at m.now unit.0) }
     requires params { NumbersParams types.old m.now params.now }
-    ensures found { IfOk result (λ found. Finds (contents m.now) (unit_text_at m.now unit.0) found) }
+    ensures found { IfOk result (λ found. FindsFault (contents m.now) (unit_text_at m.now unit.0) found) }
     ensures grows { OnOk result (Grows types.old types.new) }
 {
     let list = spots(alloc, m, unit)?;
-    let insts = list.len() as u32;
+    let insts = m.inst_count(unit);
     let known = facts(alloc, m, unit, insts, types)?;
     let from_probe = probed(alloc, m, unit, insts)?;
     let standing = labels(alloc, m, unit)?;
@@ -72,14 +73,14 @@ fn first_in(
     scope: &Scope<'_>,
     places: &[Spot],
     wrong_phis: &[bool],
-) -> Result<Option<Found>, NoMemory>
+) -> Result<Option<InstFault>, NoMemory>
     requires sound { IsArena scope.now.module.now }
     requires scope { IsScope scope.now }
     requires begun { IsSome (kind_at scope.now.module.now scope.now.unit.0) }
     requires places { places.now ≡ spots_of (table_at scope.now.module.now scope.now.unit.0) }
     requires within { Each (SpotWithin (inst_count scope.now.module.now scope.now.unit.0)) places.now }
     requires wrong { wrong_phis.now ≡ map (wrong_phi_at (table_at scope.now.module.now scope.now.unit.0)) places.now }
-    ensures { IfOk result (λ found. Finds (items_in scope.now) (text_in scope.now) found) }
+    ensures { IfOk result (λ found. FindsFault (items_in scope.now) (text_in scope.now) found) }
 {
     let lacks = first_lacking(alloc, scope, places, wrong_phis)?;
     first_at(alloc, scope, places, wrong_phis, lacks)
@@ -137,16 +138,16 @@ fn first_at(
     places: &[Spot],
     wrong_phis: &[bool],
     lacks: Option<InstId>,
-) -> Result<Option<Found>, NoMemory>
+) -> Result<Option<InstFault>, NoMemory>
     requires scope { IsScope scope.now }
     requires within { Each (SpotWithin (inst_count scope.now.module.now scope.now.unit.0)) places.now }
     requires wrong { wrong_phis.now ≡ map (wrong_phi_at (table_at scope.now.module.now scope.now.unit.0)) places.now }
-    ensures { IfOk result (λ found. found ≡ first_fault_at scope.now lacks places.now) }
+    ensures { IfOk result (λ found. found ≡ spec.first_at scope.now lacks places.now) }
 {
     for (k, place) in places.iter().enumerate() {
         let is_lacking = is_at(lacks, *place);
         if let Some(number) = lowest(alloc, scope, *place, wrong_phis[k], is_lacking)? {
-            return Ok(Some(Found {
+            return Ok(Some(InstFault {
                 inst: place.inst,
                 number,
             }));
@@ -156,7 +157,7 @@ fn first_at(
 }
 
 fn is_at(lacks: Option<InstId>, place: Spot) -> bool
-    ensures { result ≡ lacks_at lacks place }
+    ensures { result ≡ spec.is_at lacks place }
 {
     match lacks {
         Some(inst) => inst.0 == place.inst.0,

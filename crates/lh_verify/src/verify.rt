@@ -2,12 +2,12 @@
 ghost use Rattle.std.specs.Prelude.{◌≡◌, IfOk, OnOk};
 ghost use Rattle.lh_unit.specs.Arena.{contents};
 ghost use Rattle.lh_unit.specs.WellFormed.{IsSpelled, IsWellFormed};
-ghost use Rattle.lh_verify.specs.Answering.{IsFew};
+ghost use Rattle.lh_verify.specs.FirstFound.{IsFew};
 ghost use Rattle.lh_unit.specs.Placed.{IsItemOf};
 ghost use Rattle.lh_typing.specs.Numbers.{Grows, NumbersParams};
-ghost use Rattle.lh_verify.specs.Verifying.{Verifies, Says, SaysOfItem, ItemBegun, named_fault};
+ghost use Rattle.lh_verify.specs.Verifying.{Verifies, FirstFaultOf, FirstFaultOfItem, ItemBegun, named_fault};
 
-use crate::unit::{Found, first_fault};
+use crate::unit::{InstFault, first_fault};
 use lh_types::ty::NoMemory;
 use lh_typing::numbers::Types;
 use lh_typing::params::{NumberList, params};
@@ -115,7 +115,7 @@ pub fn verify(alloc: Global, m: Module) -> Result<Verified, VerifyFault>
 
 /// The first fault of a module, if there is one.
 fn find(alloc: Global, m: &Module) -> Result<Option<Fault>, NoMemory>
-    ensures { IfOk result (λ fault. Says m.now fault) }
+    ensures { IfOk result (λ fault. FirstFaultOf m.now fault) }
 {
     let mut types = Types::new(alloc);
     let numbers = params(alloc, m, &mut types)?;
@@ -130,7 +130,7 @@ fn find_among(
     params: &[NumberList],
 ) -> Result<Option<Fault>, NoMemory>
     requires { NumbersParams types.old m.now params.now }
-    ensures { IfOk result (λ fault. Says m.now fault) }
+    ensures { IfOk result (λ fault. FirstFaultOf m.now fault) }
 {
     for item in m.items() {
         if let Some(fault) = find_in(alloc, m, item, types, params)? {
@@ -151,7 +151,7 @@ fn find_in(
     requires placed { IsItemOf m.now item.now }
     requires begun { ItemBegun m.now item.now }
     requires params { NumbersParams types.old m.now params.now }
-    ensures says { IfOk result (λ fault. SaysOfItem m.now item.now fault) }
+    ensures says { IfOk result (λ fault. FirstFaultOfItem m.now item.now fault) }
     ensures grows { OnOk result (Grows types.old types.new) }
 {
     match item {
@@ -163,7 +163,7 @@ fn find_in(
     }
 }
 
-fn fault_of(unit: UnitId, found: Option<Found>) -> Option<Fault>
+fn fault_of(unit: UnitId, found: Option<InstFault>) -> Option<Fault>
     requires { IsFew found }
     ensures { result ≡ named_fault unit found }
 {

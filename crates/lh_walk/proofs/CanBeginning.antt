@@ -9,7 +9,7 @@ use Rattle.lh_unit.proofs.Lists.{some_inj}
 use Rattle.lh_term.specs.Tree.{Tree}
 use Rattle.lh_term.specs.Types.{IsTyped, type_of}
 use Rattle.lh_rows.specs.Known.{Known, known_value, known_cell, known_part, Knowledge}
-use Rattle.lh_rows.specs.Joins.{Edge}
+use Rattle.lh_rows.specs.Joins.{RegionEdge}
 use Rattle.lh_rows.specs.Typed.{KnowsTyped, IsCondition, JoinEdge}
 use Rattle.lh_rows.proofs.Operations.{term-type}
 use Rattle.lh_region.specs.Walking.{as_term, term_known, Story}
@@ -43,7 +43,7 @@ known-held u k n ty t h v e = by (k n) refl e
         let g = h n (known_cell x) ty q v in
         subst (λ (y : Tree). IsTyped y × (type_of y ≡ held_type ty)) (some_inj x t f) (g.0, ap held_type g.1)
 
-typed-edges : (u : UnitText) (b : BlockText) (n : List ℕ) (ty : TypeTree) (xs : List Edge) → value_type u n ≡ Some ty → Each (JoinEdge u b) xs → AreOfType (held_type ty) n xs
+typed-edges : (u : UnitText) (b : BlockText) (n : List ℕ) (ty : TypeTree) (xs : List RegionEdge) → value_type u n ≡ Some ty → Each (JoinEdge u b) xs → AreOfType (held_type ty) n xs
 typed-edges u b n ty [] v j = tt
 typed-edges u b n ty (x ∷ xs) v j = (λ t e. known-held u x.known n ty t j.0.known v e, typed-edges u b n ty xs v j.1)
 
@@ -55,16 +55,16 @@ untyped u k n t h v e = by (k n) refl e
     by None q f = cc
     by (Some x) q f = let g : true ≡ false = sym (h n x q) ∙ ap is_some v in cc
 
-untyped-edges : (u : UnitText) (n : List ℕ) (xs : List Edge) → value_type u n ≡ None → EdgesNamed u xs → AreOfType void_type n xs
+untyped-edges : (u : UnitText) (n : List ℕ) (xs : List RegionEdge) → value_type u n ≡ None → EdgesNamed u xs → AreOfType void_type n xs
 untyped-edges u n [] v h = tt
 untyped-edges u n (x ∷ xs) v h = (λ t e. absurd (untyped u x.known n t h.0 v e), untyped-edges u n xs v h.1)
 
-join-conditions : (u : UnitText) (b : BlockText) (xs : List Edge) → Each (JoinEdge u b) xs → Each (λ (x : Edge). IsCondition x.cond) xs
+join-conditions : (u : UnitText) (b : BlockText) (xs : List RegionEdge) → Each (JoinEdge u b) xs → Each (λ (x : RegionEdge). IsCondition x.cond) xs
 join-conditions u b [] j = tt
 join-conditions u b (x ∷ xs) j = (j.0.cond, join-conditions u b xs j.1)
 
 -- Edges that may join others at a block may begin a place of it, where what is known on them has names with types.
-pub can-begin : (u : UnitText) (b : BlockText) (s : Story) (xs : List Edge) → Each (JoinEdge u b) xs → EdgesNamed u xs → CanBegin s xs
+pub can-begin : (u : UnitText) (b : BlockText) (s : Story) (xs : List RegionEdge) → Each (JoinEdge u b) xs → EdgesNamed u xs → CanBegin s xs
 can-begin u b s xs j h = record {
   conds = join-conditions u b xs j;
   typed = λ v l. by (s.naming.value_name v) (value_type u (s.naming.value_name v)) refl;

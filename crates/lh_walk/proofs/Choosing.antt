@@ -16,19 +16,19 @@ use Rattle.lh_term.specs.Arena.{Grows}
 use Rattle.lh_term.specs.declared.term.TermId.{TermId}
 use Rattle.lh_term.specs.declared.term.Node.{Node}
 use Rattle.lh_rows.specs.Known.{known_value, Knowledge, value_known, with_given}
-use Rattle.lh_rows.specs.Joins.{Edge as EdgeTo, selector, merged, on_each, merged_by, phi_on}
+use Rattle.lh_rows.specs.Joins.{RegionEdge, selector, merged, on_each, merged_by, phi_on}
 use Rattle.lh_rows.specs.Typed.{IsOfType, PhiKnown}
 use Rattle.lh_joins.specs.declared.edge.Edge.{Edge}
 use Rattle.lh_joins.specs.Joins.{after_first, chosen_by, on_conditions}
 use Rattle.lh_joins.proofs.Merged.{merged-by-conditions}
-use Rattle.lh_region.specs.declared.state.Place.{Place}
+use Rattle.lh_region.specs.declared.state.PlaceState.{PlaceState}
 use Rattle.lh_region.specs.Asked.{edges_at, joined_by, SamePlaces, IsWithAt}
 use Rattle.lh_region.specs.Gives.{with_term, ValuesDiffer, GivesTerm}
 use Rattle.lh_region.specs.Heads.{LabelsDiffer}
 use Rattle.lh_region.specs.Operands.{operand_in, AreFrom}
 use Rattle.lh_region.specs.Taken.{told_of, phi_ask, phi_asks, NamesEach, StillToldAll, IsMerge, IsMerged}
 use Rattle.lh_region.specs.Walking.{Story, TellsKnown, IsEdge, AreEdges}
-use Rattle.lh_walk.specs.Walked.{Continues}
+use Rattle.lh_walk.specs.Walked.{ContinuesStory}
 use Rattle.lh_walk.specs.Merges.{IsPhi, phi_given, CanTakePhi, TakesPhi}
 use Rattle.lh_region.proofs.Placing.{same-length, same-edges, with-same}
 use Rattle.lh_region.proofs.Gathering.{there-from}
@@ -52,20 +52,21 @@ module _ (ns : List Node) (s : Story) (ops : List PhiEdge) (labels : LabelsDiffe
   abbrev texts : List EdgeText
   texts = map (edge_text s.naming) ops
 
-  operand-on : (e : Edge) (x : EdgeTo) → IsEdge ns s e x → edge_from x.from texts ≡ option_map (value_text s.naming) (operand_in e.block ops)
+  operand-on : (e : Edge) (x : RegionEdge) → IsEdge ns s e x → edge_from x.from texts ≡ option_map (value_text s.naming) (operand_in e.block ops)
   operand-on e x i = ap (λ (l : List ℕ). edge_from l texts) (sym i.block) ∙ operands-agree s.naming s.blocks e.block ops labels i.of_text from
 
-  phi-read : (e : Edge) (x : EdgeTo) (t : Tree) → IsEdge ns s e x → phi_on texts x ≡ Some t → option_and_then (value_known x.known) (option_map (value_text s.naming) (operand_in e.block ops)) ≡ Some t
+  phi-read : (e : Edge) (x : RegionEdge) (t : Tree) → IsEdge ns s e x → phi_on texts x ≡ Some t → option_and_then (value_known x.known) (option_map (value_text s.naming) (operand_in e.block ops))
+      ≡ Some t
   phi-read e x t i h = sym (ap (option_and_then (value_known x.known)) (operand-on e x i)) ∙ h
 
-  phi-there : (e : Edge) (x : EdgeTo) (t : Tree) → IsEdge ns s e x → phi_on texts x ≡ Some t → is_some (operand_in e.block ops) ≡ true
+  phi-there : (e : Edge) (x : RegionEdge) (t : Tree) → IsEdge ns s e x → phi_on texts x ≡ Some t → is_some (operand_in e.block ops) ≡ true
   phi-there e x t i h = by (operand_in e.block ops) (phi-read e x t i h)
     where
       by : (o : Option ValueId) → option_and_then (value_known x.known) (option_map (value_text s.naming) o) ≡ Some t → is_some o ≡ true
       by None k = absurd cc
       by (Some v) k = refl
 
-  phi-told : (e : Edge) (x : EdgeTo) (t : Tree) → IsEdge ns s e x → phi_on texts x ≡ Some t → told_of s.told (phi_ask ops e) ≡ Some t
+  phi-told : (e : Edge) (x : RegionEdge) (t : Tree) → IsEdge ns s e x → phi_on texts x ≡ Some t → told_of s.told (phi_ask ops e) ≡ Some t
   phi-told e x t i h = by (operand_in e.block ops) refl (phi-read e x t i h)
     where
       by : (o : Option ValueId) → operand_in e.block ops ≡ o → option_and_then (value_known x.known) (option_map (value_text s.naming) o) ≡ Some t → told_of s.told (phi_ask ops e) ≡ Some t
@@ -74,13 +75,13 @@ module _ (ns : List Node) (s : Story) (ops : List PhiEdge) (labels : LabelsDiffe
           ap (λ (p : Option ValueId). s.told e.from (option_map_or (λ (u : ValueId). u.0) p 0)) g
           ∙ i.told v.0 (operand-below s.values e.block ops v below g) ∙ value-term (x.known (s.naming.value_name v.0)) t k
 
-  phi-names : (ty : TypeTree) (es : List Edge) (xs : List EdgeTo) → AreEdges ns s es xs → Each (λ (x : EdgeTo). PhiKnown x (phi_text ty texts)) xs → NamesEach ops es
+  phi-names : (ty : TypeTree) (es : List Edge) (xs : List RegionEdge) → AreEdges ns s es xs → Each (λ (x : RegionEdge). PhiKnown x (phi_text ty texts)) xs → NamesEach ops es
   phi-names ty [] [] h k = tt
   phi-names ty [] (x ∷ xs) h k = absurd h
   phi-names ty (e ∷ es) [] h k = absurd h
   phi-names ty (e ∷ es) (x ∷ xs) h k = let g = k.0 in (phi-there e x g.0 h.0 g.1, phi-names ty es xs h.1 k.1)
 
-  phi-all : (es : List Edge) (xs : List EdgeTo) (ts : List Tree) → AreEdges ns s es xs → map (phi_on texts) xs ≡ map Some ts → map (told_of s.told) (phi_asks ops es) ≡ map Some ts
+  phi-all : (es : List Edge) (xs : List RegionEdge) (ts : List Tree) → AreEdges ns s es xs → map (phi_on texts) xs ≡ map Some ts → map (told_of s.told) (phi_asks ops es) ≡ map Some ts
   phi-all [] [] [] h e = refl
   phi-all [] [] (t ∷ ts) h e = absurd cc
   phi-all [] (x ∷ xs) ts h e = absurd h
@@ -96,13 +97,13 @@ module _ (ns : List Node) (s : Story) (ops : List PhiEdge) (labels : LabelsDiffe
 -- ---- what the edges give
 
 -- each edge gives a term of one type
-record EachGives (f : EdgeTo → Option Tree) (ty : TypeTree) (xs : List EdgeTo) : Type 0 where
+record EachGives (f : RegionEdge → Option Tree) (ty : TypeTree) (xs : List RegionEdge) : Type 0 where
   pub trees : List Tree
   pub on : on_each f xs ≡ Some trees
   pub each : map f xs ≡ map Some trees
   pub typed : Each (λ (y : Tree). IsTyped y × (type_of y ≡ ty)) trees
 
-each-gives : (f : EdgeTo → Option Tree) (ty : TypeTree) (xs : List EdgeTo) → Each (λ (x : EdgeTo). (t : Tree) × (f x ≡ Some t) × IsOfType ty t) xs → EachGives f ty xs
+each-gives : (f : RegionEdge → Option Tree) (ty : TypeTree) (xs : List RegionEdge) → Each (λ (x : RegionEdge). (t : Tree) × (f x ≡ Some t) × IsOfType ty t) xs → EachGives f ty xs
 each-gives f ty [] h = record { trees = []; on = refl; each = refl; typed = tt }
 each-gives f ty (x ∷ xs) h =
     let r = each-gives f ty xs h.1 in
@@ -115,14 +116,15 @@ each-gives f ty (x ∷ xs) h =
     }
 
 -- and so all of them together, merged
-record MergedGives (f : EdgeTo → Option Tree) (ty : TypeTree) (x : EdgeTo) (xs : List EdgeTo) : Type 0 where
+record MergedGives (f : RegionEdge → Option Tree) (ty : TypeTree) (x : RegionEdge) (xs : List RegionEdge) : Type 0 where
   pub first : Tree
   pub others : List Tree
   pub each : map f (x ∷ xs) ≡ map Some (first ∷ others)
   pub typed : Each (λ (y : Tree). IsTyped y × (type_of y ≡ ty)) (first ∷ others)
   pub is : merged_by f (x ∷ xs) ≡ Some (chosen_by (map (selector (on_conditions (x ∷ xs))) (on_conditions xs)) first others)
 
-merged-gives : (f : EdgeTo → Option Tree) (ty : TypeTree) (x : EdgeTo) (xs : List EdgeTo) → Each (λ (y : EdgeTo). (t : Tree) × (f y ≡ Some t) × IsOfType ty t) (x ∷ xs) → MergedGives f ty x xs
+merged-gives : (f : RegionEdge → Option Tree) (ty : TypeTree) (x : RegionEdge) (xs : List RegionEdge) → Each (λ (y : RegionEdge). (t : Tree) × (f y ≡ Some t) × IsOfType ty t) (x ∷ xs)
+    → MergedGives f ty x xs
 merged-gives f ty x xs h = let r = each-gives f ty (x ∷ xs) h in by r.trees r.on r.each r.typed
   where
     by : (ts : List Tree) → on_each f (x ∷ xs) ≡ Some ts → map f (x ∷ xs) ≡ map Some ts → Each (λ (y : Tree). IsTyped y × (type_of y ≡ ty)) ts → MergedGives f ty x xs
@@ -131,24 +133,24 @@ merged-gives f ty x xs h = let r = each-gives f ty (x ∷ xs) h in by r.trees r.
 
 -- ---- a story that goes on
 
-phi-on : (s r : Story) (es : List EdgeTo) (v : ℕ) (ty : TypeTree) (ops : List PhiEdge) → Continues s r → IsPhi s es v ty ops → IsPhi r es v ty ops
+phi-on : (s r : Story) (es : List RegionEdge) (v : ℕ) (ty : TypeTree) (ops : List PhiEdge) → ContinuesStory s r → IsPhi s es v ty ops → IsPhi r es v ty ops
 phi-on s r es v ty ops c p = record {
   value = subst (λ (n : ℕ). v < n) (sym c.values) p.value;
   from = subst (λ (n : ℕ). AreFrom n ops) (sym c.blocks) p.from;
   values = subst (λ (n : ℕ). Each (λ (e : PhiEdge). e.value.0 < n) ops) (sym c.values) p.values;
-  known = subst (λ (f : Naming). Each (λ (x : EdgeTo). PhiKnown x (phi_text ty (map (edge_text f) ops))) es) (sym c.naming) p.known;
+  known = subst (λ (f : Naming). Each (λ (x : RegionEdge). PhiKnown x (phi_text ty (map (edge_text f) ops))) es) (sym c.naming) p.known;
 }
 
-values-on : (s r : Story) → Continues s r → ValuesDiffer s → ValuesDiffer r
+values-on : (s r : Story) → ContinuesStory s r → ValuesDiffer s → ValuesDiffer r
 values-on s r c d v w l m e = d v w (subst (λ (n : ℕ). v < n) c.values l) (subst (λ (n : ℕ). w < n) c.values m) (subst (λ (f : Naming). f.value_name v ≡ f.value_name w) c.naming e)
 
-labels-on : (s r : Story) → Continues s r → LabelsDiffer s.naming s.blocks → LabelsDiffer r.naming r.blocks
+labels-on : (s r : Story) → ContinuesStory s r → LabelsDiffer s.naming s.blocks → LabelsDiffer r.naming r.blocks
 labels-on s r c d = subst (λ (f : Naming). LabelsDiffer f r.blocks) (sym c.naming) (subst (LabelsDiffer s.naming) (sym c.blocks) d)
 
 -- ---- a `phi` that is taken
 
 -- what a `phi` asks for is told, and of one type
-pub phi-merges : (ns : List Node) (ps : List Place) (i v : ℕ) (ops : List PhiEdge) → CanTakePhi ns ps i v ops → IsMerge ns ps i ops
+pub phi-merges : (ns : List Node) (ps : List PlaceState) (i v : ℕ) (ops : List PhiEdge) → CanTakePhi ns ps i v ops → IsMerge ns ps i ops
 phi-merges ns ps i v ops c =
     let m = c.merging in
     let s = m.now in
@@ -167,15 +169,17 @@ phi-merges ns ps i v ops c =
     }
 
 -- the place before which the `phi` is taken is the last one
-pub phi-within : (ns : List Node) (ps : List Place) (i v : ℕ) (ops : List PhiEdge) → CanTakePhi ns ps i v ops → i < length ps
+pub phi-within : (ns : List Node) (ps : List PlaceState) (i v : ℕ) (ops : List PhiEdge) → CanTakePhi ns ps i v ops → i < length ps
 phi-within ns ps i v ops c = let m = c.merging in omega (arith, m.is, m.places)
 
-module _ (ns ms : List Node) (ps qs rs : List Place) (i v : ℕ) (ops : List PhiEdge) (t : TermId) (grows : Grows ns ms) (same : SamePlaces ps qs) (still : StillToldAll ns ps ms qs (phi_asks ops (edges_at ps i))) (made : IsMerged ns ps ms i ops t) (put : IsWithAt qs i v t rs) (gives : GivesTerm qs i v t rs) where
+module _ (ns ms : List Node) (ps qs rs : List PlaceState) (i v : ℕ) (ops : List PhiEdge) (t : TermId) (grows : Grows ns ms) (same : SamePlaces ps qs)
+    (still : StillToldAll ns ps ms qs (phi_asks ops (edges_at ps i))) (made : IsMerged ns ps ms i ops t) (put : IsWithAt qs i v t rs) (gives : GivesTerm qs i v t rs) where
   same-now : SamePlaces ps rs
   same-now = with-same qs rs v i t put ∙ same
 
   -- what is known after the `phi`, where this is its term
-  given-now : (s r : Story) (es : List EdgeTo) (ty : TypeTree) (k : Knowledge) (y : Tree) → Continues s r → merged_by (phi_on (map (edge_text r.naming) ops)) es ≡ Some y → with_given k (Some (r.naming.value_name v)) (Some (known_value y)) ≡ phi_given s es v ty ops k
+  given-now : (s r : Story) (es : List RegionEdge) (ty : TypeTree) (k : Knowledge) (y : Tree) → ContinuesStory s r → merged_by (phi_on (map (edge_text r.naming) ops)) es ≡ Some y
+      → with_given k (Some (r.naming.value_name v)) (Some (known_value y)) ≡ phi_given s es v ty ops k
   given-now s r es ty k y c e =
       sym (ap (λ (o : Option Tree). with_given k (Some (r.naming.value_name v)) (option_map known_value o)) e)
       ∙ ap (λ (f : Naming). with_given k (Some (f.value_name v)) (option_map known_value (merged_by (phi_on (map (edge_text f) ops)) es))) c.naming
@@ -189,9 +193,11 @@ module _ (ns ms : List Node) (ps qs rs : List Place) (i v : ℕ) (ops : List Phi
       let g = merged-gives (phi_on (map (edge_text s.naming) ops)) ty x xs p.known in
       let told = phi-all ns s ops l p.from p.values (edges_at ps i) (x ∷ xs) (g.first ∷ g.others) es g.each in
       let y = joined_by ns (edges_at ps i) g.first g.others in
-      let is : merged_by (phi_on (map (edge_text s.naming) ops)) (x ∷ xs) ≡ Some y = g.is ∙ ap (λ (ds : List EdgeTo). Some (chosen_by (map (selector ds) (after_first ds)) g.first g.others)) (sym (edges-on ns s (edges_at ps i) (x ∷ xs) es)) in
+      let is : merged_by (phi_on (map (edge_text s.naming) ops)) (x ∷ xs) ≡ Some y = g.is
+      ∙ ap (λ (ds : List RegionEdge). Some (chosen_by (map (selector ds) (after_first ds)) g.first g.others)) (sym (edges-on ns s (edges_at ps i) (x ∷ xs) es)) in
       let tells = still s.told m.tells (there-from s.told (phi_asks ops (edges_at ps i)) (g.first ∷ g.others) told) in
-      let given = gives ms s k (known_value y) y tells (m.places ∙ sym (same-length ps qs same)) (sym m.is) p.value (values-on before s m.continues m.values) refl (made s.told g.first g.others m.tells told) m.known in
+      let given = gives ms s k (known_value y) y tells (m.places ∙ sym (same-length ps qs same)) (sym m.is) p.value (values-on before s m.continues m.values) refl
+      (made s.told g.first g.others m.tells told) m.known in
       record {
         now = with_term s i v y;
         continues = Continuing.continues-given ms rs before s i v k (known_value y) y m.was m.continues given;

@@ -23,13 +23,13 @@ use Rattle.lh_flat.specs.Flat.{with_merge}
 use Rattle.lh_flat.specs.Reads.{merge_text, flat_line_text, flat_blocks_text, flat_text}
 use Rattle.lh_parts.specs.Steps.{is_result}
 use Rattle.lh_term.specs.Tree.{Tree, constant}
-use Rattle.lh_term.specs.Arena.{Stands}
+use Rattle.lh_term.specs.Arena.{StandsForTree}
 use Rattle.lh_term.specs.declared.term.TermId.{TermId}
 use Rattle.lh_term.specs.declared.term.Node.{Node}
 use Rattle.lh_joins.specs.Joins.{AreConditions}
 use Rattle.lh_rows.specs.Known.{known_value, known_part, Knowledge, nothing_known, with_known, with_given, whole_argument, with_arguments}
 use Rattle.lh_rows.specs.Regions.{with_constant, with_constants, lines_at, head_of, known_first}
-use Rattle.lh_region.specs.declared.state.Place.{Place}
+use Rattle.lh_region.specs.declared.state.PlaceState.{PlaceState}
 use Rattle.lh_region.specs.Asked.{kept_by, kept_at, keeps, source_of, edges_at, IsBelow, Tells, Joins, IsJoin}
 use Rattle.lh_region.specs.Begins.{with_place}
 use Rattle.lh_region.specs.Forms.{Names}
@@ -63,7 +63,8 @@ given-part k n m i (Some t) h = by (same_name n m)
 
 no-arguments : (k : Knowledge) (i : ℕ) (xs : List ArgText) → ((m : List ℕ) → term_known k m ≡ None) → (m : List ℕ) → term_known (with_arguments k i xs) m ≡ None
 no-arguments k i [] h m = h m
-no-arguments k i (a ∷ xs) h m = no-arguments (with_given k (Some a.name) (option_map (λ t. known_part (whole_argument i t)) (carried a.ty))) (i + 1) xs (λ n. given-part k a.name n i (carried a.ty) (h n)) m
+no-arguments k i (a ∷ xs) h m = no-arguments (with_given k (Some a.name) (option_map (λ t. known_part (whole_argument i t)) (carried a.ty))) (i + 1) xs
+    (λ n. given-part k a.name n i (carried a.ty) (h n)) m
 
 -- ---- constants
 
@@ -86,14 +87,16 @@ module _ (f : Naming) (t : Flat) (names : Names t f) (v : ℕ) (l : v < t.values
       by true = refl
       by false = refl
 
-  constant-step : (k : Knowledge) (o : Option ValueId) (i : Inst) → ValuesBelow t.values (maybe_id o) → term_known (with_constant k (inst_text f i) (maybe_text f o)) name ≡ or_else (if is_result v o then constant_in i else None) (term_known k name)
+  constant-step : (k : Knowledge) (o : Option ValueId) (i : Inst) → ValuesBelow t.values (maybe_id o) → term_known (with_constant k (inst_text f i) (maybe_text f o)) name
+      ≡ or_else (if is_result v o then constant_in i else None) (term_known k name)
   constant-step k None (inst.Const x) h = refl
   constant-step k (Some r) (inst.Const x) h = given-one k r.0 (constant (datum_of x)) h.0
   constant-step k o (inst.Ret None) h = if-none (is_result v o) (term_known k name)
   constant-step k o (inst.Ret (Some y)) h = if-none (is_result v o) (term_known k name)
   constant-step k o _ h = if-none (is_result v o) (term_known k name)
 
-  constants-given : (n : ℕ) (k : Knowledge) (ls : List FlatInst) → Each (InstBelow t.values n) ls → term_known (with_constants k (map (flat_line_text f) ls)) name ≡ or_else (constant_given ls v) (term_known k name)
+  constants-given : (n : ℕ) (k : Knowledge) (ls : List FlatInst) → Each (InstBelow t.values n) ls
+      → term_known (with_constants k (map (flat_line_text f) ls)) name ≡ or_else (constant_given ls v) (term_known k name)
   constants-given n k [] h = refl
   constants-given n k (x ∷ ls) h =
       constants-given n (with_constant k (inst_text f x.inst) (maybe_text f x.result)) ls h.1
@@ -112,7 +115,9 @@ module _ (f : Naming) (t : Flat) (names : Names t f) (v : ℕ) (l : v < t.values
   else-nothing None = refl
   else-nothing (Some x) = refl
 
-  constants-left : (bs : List FlatBlock) (b : Bool) → Each (BlockBelow t.values (length t.blocks)) bs → term_known (with_constants arguments (if b then [] else lines_at (flat_blocks_text f 0 bs) 0)) name ≡ constant_given (if b then [] else option_map_or (λ (x : FlatBlock). x.insts) (slice_get bs 0) []) v
+  constants-left : (bs : List FlatBlock) (b : Bool) → Each (BlockBelow t.values (length t.blocks)) bs
+      → term_known (with_constants arguments (if b then [] else lines_at (flat_blocks_text f 0 bs) 0)) name
+      ≡ constant_given (if b then [] else option_map_or (λ (x : FlatBlock). x.insts) (slice_get bs 0) []) v
   constants-left bs true h = no-arguments nothing_known 0 (flat_text f t).args (λ m. refl) name
   constants-left [] false h = no-arguments nothing_known 0 (flat_text f t).args (λ m. refl) name
   constants-left (x ∷ bs) false h =
@@ -173,18 +178,19 @@ no_story f t = record { naming = f; values = t.values; blocks = length t.blocks;
 abbrev pub first_story : Naming → Flat → Story
 first_story f t = with_place (no_story f t) (known_first (flat_text f t))
 
-stands-some : (ns : List Node) (o : Option TermId) (c : Option Tree) (k : TermId) → o ≡ Some k → StandsMaybe ns o c → (x : Tree) × (c ≡ Some x) × Stands ns k x
+stands-some : (ns : List Node) (o : Option TermId) (c : Option Tree) (k : TermId) → o ≡ Some k → StandsMaybe ns o c → (x : Tree) × (c ≡ Some x) × StandsForTree ns k x
 stands-some ns None c k e s = absurd (none-some k e)
 stands-some ns (Some j) None k e s = absurd s
-stands-some ns (Some j) (Some x) k e s = (x, refl, subst (λ (i : TermId). Stands ns i x) (same_Some j k e) s)
+stands-some ns (Some j) (Some x) k e s = (x, refl, subst (λ (i : TermId). StandsForTree ns i x) (same_Some j k e) s)
 
 kept-some : (ns : List Node) (o : Option TermId) (c : Option Tree) (x : Tree) → c ≡ Some x → StandsMaybe ns o c → is_some o ≡ true
 kept-some ns None None x e s = absurd (none-some x e)
 kept-some ns None (Some y) x e s = absurd s
 kept-some ns (Some j) c x e s = refl
 
-module _ (f : Naming) (t : Flat) (names : Names t f) (below : IdsBelow t) (head : ℕ) (is : head_of (flat_text f t).blocks ≡ head) (ns : List Node) (p : Place) (edges : p.edges.items ≡ []) (selectors : p.selectors ≡ None) (known : KnowsConstants ns p (lines_left t.blocks head)) where
-  abbrev ps : List Place
+module _ (f : Naming) (t : Flat) (names : Names t f) (below : IdsBelow t) (head : ℕ) (is : head_of (flat_text f t).blocks ≡ head) (ns : List Node) (p : PlaceState) (edges : p.edges.items ≡ [])
+    (selectors : p.selectors ≡ None) (known : KnowsConstants ns p (lines_left t.blocks head)) where
+  abbrev ps : List PlaceState
   ps = p ∷ []
 
   abbrev given : ℕ → Option Tree
@@ -216,11 +222,11 @@ module _ (f : Naming) (t : Flat) (names : Names t f) (below : IdsBelow t) (head 
     joins = none-joins;
   }
     where
-      one-place : (i : ℕ) (q : Place) → slice_get ps i ≡ Some q → IsJoin ns q
+      one-place : (i : ℕ) (q : PlaceState) → slice_get ps i ≡ Some q → IsJoin ns q
       one-place zero q e = subst (IsJoin ns) (same_Some p q e) (record { conds = subst (AreConditions ns) (sym edges) tt; selectors = λ ts k. absurd (none-some ts (sym selectors ∙ k)) })
       one-place (suc i) q e = absurd (none-some q e)
 
-      all-kept : (i v : ℕ) (k : TermId) → kept_at ps v i ≡ Some k → (x : Tree) × ((first_story f t).told i v ≡ Some x) × Stands ns k x
+      all-kept : (i v : ℕ) (k : TermId) → kept_at ps v i ≡ Some k → (x : Tree) × ((first_story f t).told i v ≡ Some x) × StandsForTree ns k x
       all-kept zero v k e = let r = stands-some ns (kept_by v p) (given v) k e (known v) in (r.0, told-constant v r.0 r.1, r.2)
       all-kept (suc i) v k e = absurd (none-some k e)
 

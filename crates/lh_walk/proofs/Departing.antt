@@ -5,20 +5,20 @@ use Rattle.lh_unit.specs.Naming.{Naming}
 use Rattle.lh_unit.specs.declared.inst.ValueId.{ValueId}
 use Rattle.lh_term.specs.Tree.{Tree}
 use Rattle.lh_term.specs.Make.{is_zero}
-use Rattle.lh_term.specs.Arena.{trees, tree_at, Stands, Grows}
+use Rattle.lh_term.specs.Arena.{trees, tree_at, StandsForTree, Grows}
 use Rattle.lh_term.specs.declared.part.Part.{Part}
 use Rattle.lh_term.specs.declared.term.TermId.{TermId}
 use Rattle.lh_term.specs.declared.term.Node.{Node}
 use Rattle.lh_parts.specs.Steps.{part_at}
 use Rattle.lh_rows.specs.Rows as text
-use Rattle.lh_rows.specs.Joins.{Place as PlaceOf, Edge as EdgeTo}
+use Rattle.lh_rows.specs.Joins.{RegionPlace, RegionEdge}
 use Rattle.lh_rows.specs.Places.{Region as RegionText, Here, Midst, next_place, block_number, both, ends, goes, goes_if, leads}
 use Rattle.lh_rows.proofs.Merging.{and-condition, not-condition}
 use Rattle.lh_rows.specs.Regions.{max_turns, turns_too_often, edge_into, edges_of_ends}
 use Rattle.lh_joins.specs.Joins.{IsConditionAt}
 use Rattle.lh_joins.proofs.Conditions.{stands-condition}
 use Rattle.lh_joins.specs.declared.edge.Edge.{Edge}
-use Rattle.lh_region.specs.declared.state.Place.{Place}
+use Rattle.lh_region.specs.declared.state.PlaceState.{PlaceState}
 use Rattle.lh_region.specs.declared.ahead.Ahead.{Ahead}
 use Rattle.lh_region.specs.declared.rows.Rows.{Rows}
 use Rattle.lh_region.specs.declared.rows.Way.{Way}
@@ -27,7 +27,7 @@ use Rattle.lh_region.specs.declared.rows.RegionFault.{RegionFault}
 use Rattle.lh_region.specs.declared.rows.RegionFault.TheVariants as fault
 use Rattle.lh_walk.specs.declared.walk.Region.{Region}
 use Rattle.lh_walk.specs.declared.walk.Walk.{Walk}
-use Rattle.lh_walk.specs.declared.walk.At.{At}
+use Rattle.lh_walk.specs.declared.walk.WalkPoint.{WalkPoint}
 use Rattle.lh_region.specs.Asked.{Tells, SamePlaces, StillTold}
 use Rattle.lh_region.specs.Branches.{CanTest, negation, IsAnd, IsAndNot}
 use Rattle.lh_region.specs.Effects.{IsEnded}
@@ -49,18 +49,19 @@ head-not false b e = refl
 
 -- ---- one more end
 
-ends-edges : (xs : List text.End) (x : text.End) → edges_of_ends 0 (xs ++ x ∷ []) ≡ edges_of_ends 0 xs ++ edge_into 0 x.from x.cond x.known ∷ []
+ends-edges : (xs : List text.RegionEnd) (x : text.RegionEnd) → edges_of_ends 0 (xs ++ x ∷ []) ≡ edges_of_ends 0 xs ++ edge_into 0 x.from x.cond x.known ∷ []
 ends-edges [] x = refl
-ends-edges (y ∷ ys) x = ap (λ (zs : List EdgeTo). edge_into 0 y.from y.cond y.known ∷ zs) (ends-edges ys x)
+ends-edges (y ∷ ys) x = ap (λ (zs : List RegionEdge). edge_into 0 y.from y.cond y.known ∷ zs) (ends-edges ys x)
 
 -- the edge by which an end of the place goes on
-module _ (ns : List Node) (f : Naming) (r : Region) (w : Walk) (at : At) (s : Story) (h : Here) (insts : ℕ) (m : Midst) (i : IsLeaving ns f r w at s h insts m) (cond : TermId) (c : Tree) (st : Stands ns cond c) where
-  edge-is : (x : EdgeTo) → x.from ≡ h.label → x.cond ≡ c → x.known ≡ m.known → IsEdge ns s (edge_from at cond) x
+module _ (ns : List Node) (f : Naming) (r : Region) (w : Walk) (at : WalkPoint) (s : Story) (h : Here) (insts : ℕ) (m : Midst) (i : IsLeaving ns f r w at s h insts m) (cond : TermId) (c : Tree)
+    (st : StandsForTree ns cond c) where
+  edge-is : (x : RegionEdge) → x.from ≡ h.label → x.cond ≡ c → x.known ≡ m.known → IsEdge ns s (edge_from at cond) x
   edge-is x a b k = record {
     within = i.within;
     of_text = subst (λ (n : ℕ). at.block < n) (sym i.course.so_far.blocks) i.of_text;
     block = ap (λ (g : Naming). g.label_name at.block) i.course.so_far.naming ∙ sym i.label ∙ sym a;
-    cond = subst (Stands ns cond) (sym b) st;
+    cond = subst (StandsForTree ns cond) (sym b) st;
     told = subst (TellsKnown s at.place) (sym k) i.known;
   }
 
@@ -69,7 +70,8 @@ module _ (ns : List Node) (f : Naming) (r : Region) (w : Walk) (at : At) (s : St
       subst (AreEdges ns s (w.sources ++ edge_from at cond ∷ [])) (sym (ends-edges m.rows.ends (record { cond = c; way = way; from = h.label; known = m.known })))
       (edges-push ns s w.sources (edges_of_ends 0 m.rows.ends) (edge_from at cond) (edge_into 0 h.label c m.known) i.course.so_far.sources (edge-is (edge_into 0 h.label c m.known) refl refl refl))
 
-pub ended-there : (w q : Walk) (at : At) (cond : TermId) (way : Way) → q.places.items ≡ w.places.items → q.ahead ≡ w.ahead → q.insts ≡ w.insts → q.sources ≡ w.sources ++ edge_from at cond ∷ [] → IsEnded w.rows q.rows cond way → EndsThere w at cond (way_text way) q
+pub ended-there : (w q : Walk) (at : WalkPoint) (cond : TermId) (way : Way) → q.places.items ≡ w.places.items → q.ahead ≡ w.ahead → q.insts ≡ w.insts → q.sources ≡ w.sources ++ edge_from at cond ∷ []
+    → IsEnded w.rows q.rows cond way → EndsThere w at cond (way_text way) q
 ended-there w q at cond way ep ea en es e ns f r s h insts m c i st = record {
   course = record {
     so_far = record {
@@ -85,7 +87,7 @@ ended-there w q at cond way ep ea en es e ns f r s h insts m c i st = record {
       sources = subst (λ (es : List Edge). AreSources ns s es (ends h c m (way_text way)).rows.ends) (sym es) (ended-sources ns f r w at s h insts m i cond c st (way_text way));
     };
     places = i.course.places ∙ sym (ap length ep);
-    tells = subst (λ (ps : List Place). Tells ns ps s.told) (sym ep) i.course.tells;
+    tells = subst (λ (ps : List PlaceState). Tells ns ps s.told) (sym ep) i.course.tells;
   };
   within = i.within;
   of_text = i.of_text;
@@ -104,7 +106,7 @@ leads-goes : (g : RegionText) (h : Here) (c : Tree) (n : List ℕ) (m : Midst) (
 leads-goes g h c n m k z e = ap (λ (b : Bool). if b then m else goes_if g h c m (block_number n g.blocks)) z ∙ ap (goes_if g h c m) e
 
 -- the edge that is added
-abbrev new_edge : Here → Tree → Midst → ℕ → EdgeTo
+abbrev new_edge : Here → Tree → Midst → ℕ → RegionEdge
 new_edge h c m k = record { to = next_place h.place k; from = h.label; cond = c; known = m.known }
 
 abbrev with_edge : Here → Tree → Midst → ℕ → Midst
@@ -118,7 +120,7 @@ goes-edge g h c m k e = ap (λ (b : Bool). if b then ends h c m text.enters_head
 
 -- ---- turns
 
-often-push : (xs : List EdgeTo) (x : EdgeTo) → turns_too_often (xs ++ x ∷ []) ≡ (turns_too_often xs || nat_lt max_turns x.to.turns)
+often-push : (xs : List RegionEdge) (x : RegionEdge) → turns_too_often (xs ++ x ∷ []) ≡ (turns_too_often xs || nat_lt max_turns x.to.turns)
 often-push [] x = or-false (nat_lt max_turns x.to.turns)
   where
     or-false : (b : Bool) → (b || false) ≡ b
@@ -130,14 +132,14 @@ often-push (y ∷ ys) x = ap (λ (b : Bool). nat_lt max_turns y.to.turns || b) (
     or-or true = refl
     or-or false = refl
 
-few-push : (xs : List EdgeTo) (x : EdgeTo) → turns_too_often xs ≡ false → x.to.turns ≤ max_turns → turns_too_often (xs ++ x ∷ []) ≡ false
+few-push : (xs : List RegionEdge) (x : RegionEdge) → turns_too_often xs ≡ false → x.to.turns ≤ max_turns → turns_too_often (xs ++ x ∷ []) ≡ false
 few-push xs x e l = let n : nat_lt max_turns x.to.turns ≡ false = grind (arith, nat_tests) in often-push xs x ∙ (λ j. e j || n j)
 
 or-right : (a b : Bool) → b ≡ true → (a || b) ≡ true
 or-right true b e = refl
 or-right false b e = e
 
-many-push : (xs : List EdgeTo) (x : EdgeTo) → max_turns < x.to.turns → turns_too_often (xs ++ x ∷ []) ≡ true
+many-push : (xs : List RegionEdge) (x : RegionEdge) → max_turns < x.to.turns → turns_too_often (xs ++ x ∷ []) ≡ true
 many-push xs x l = let n : nat_lt max_turns x.to.turns ≡ true = grind (arith, nat_tests) in often-push xs x ∙ or-right (turns_too_often xs) (nat_lt max_turns x.to.turns) n
 
 or-left : (a b : Bool) → a ≡ true → (a || b) ≡ true
@@ -159,10 +161,10 @@ still-many g h c n m t = by (is_zero c) (block_number n g.blocks)
 
 -- ---- one more edge
 
-abbrev turns_of : At → ℕ → ℕ
+abbrev turns_of : WalkPoint → ℕ → ℕ
 turns_of at to = (next_place (place_of at.turns at.block) to).turns
 
-module _ (ns : List Node) (r : Region) (w q : Walk) (at : At) (cond : TermId) (to : ℕ) (can : CanLead w.ahead to) where
+module _ (ns : List Node) (r : Region) (w q : Walk) (at : WalkPoint) (cond : TermId) (to : ℕ) (can : CanLead w.ahead to) where
   -- an edge that is never taken
   pub leads-nowhere : is_zero (tree_at (trees ns) cond) ≡ true → LeadsThere ns r w at cond to w
   leads-nowhere z f s h insts m c i st = subst (IsLeaving ns f r w at s h insts) (sym (leads-never (region_text f r) h c (f.label_name to) m (ap is_zero (sym st.tree) ∙ z))) i
@@ -171,7 +173,8 @@ module _ (ns : List Node) (r : Region) (w q : Walk) (at : At) (cond : TermId) (t
   numbered f s h insts m i = i.numbers to (subst (λ (n : ℕ). to < n) i.course.so_far.here_long can.here)
 
   module _ (z : is_zero (tree_at (trees ns) cond) ≡ false) where
-    led-is : (f : Naming) (s : Story) (h : Here) (insts : ℕ) (m : Midst) (c : Tree) → IsLeaving ns f r w at s h insts m → Stands ns cond c → leads (region_text f r) h c (f.label_name to) m ≡ goes (region_text f r) h c m to
+    led-is : (f : Naming) (s : Story) (h : Here) (insts : ℕ) (m : Midst) (c : Tree) → IsLeaving ns f r w at s h insts m → StandsForTree ns cond c
+        → leads (region_text f r) h c (f.label_name to) m ≡ goes (region_text f r) h c m to
     led-is f s h insts m c i st = leads-goes (region_text f r) h c (f.label_name to) m to (ap is_zero (sym st.tree) ∙ z) (numbered f s h insts m i)
 
     -- one by which the region ends at its head
@@ -179,16 +182,19 @@ module _ (ns : List Node) (r : Region) (w q : Walk) (at : At) (cond : TermId) (t
     leads-head e x f s h insts m c i st = subst (IsLeaving ns f r q at s h insts) (sym (led-is f s h insts m c i st ∙ goes-head (region_text f r) h c m to e)) (x ns f r s h insts m c i st)
 
     module _ (e : (r.ends_at_head && nat_eq to r.head) ≡ false) where
-      edge-added : (f : Naming) (s : Story) (h : Here) (insts : ℕ) (m : Midst) (c : Tree) → IsLeaving ns f r w at s h insts m → Stands ns cond c → leads (region_text f r) h c (f.label_name to) m ≡ with_edge h c m to
+      edge-added : (f : Naming) (s : Story) (h : Here) (insts : ℕ) (m : Midst) (c : Tree) → IsLeaving ns f r w at s h insts m → StandsForTree ns cond c
+          → leads (region_text f r) h c (f.label_name to) m ≡ with_edge h c m to
       edge-added f s h insts m c i st = led-is f s h insts m c i st ∙ goes-edge (region_text f r) h c m to e
 
       turns-are : (f : Naming) (s : Story) (h : Here) (insts : ℕ) (m : Midst) → IsLeaving ns f r w at s h insts m → (next_place h.place to).turns ≡ turns_of at to
-      turns-are f s h insts m i = ap (λ (p : PlaceOf). (next_place p to).turns) i.place
+      turns-are f s h insts m i = ap (λ (p : RegionPlace). (next_place p to).turns) i.place
 
-      pub leads-edge : q.places.items ≡ w.places.items → q.insts ≡ w.insts → q.rows ≡ w.rows → q.sources ≡ w.sources → length q.ahead.here.items ≡ length w.ahead.here.items → length q.ahead.next.items ≡ length w.ahead.next.items → LeadsOn w.ahead at.turns to (edge_from at cond) q.ahead → turns_of at to ≤ max_turns
+      pub leads-edge : q.places.items ≡ w.places.items → q.insts ≡ w.insts → q.rows ≡ w.rows → q.sources ≡ w.sources → length q.ahead.here.items ≡ length w.ahead.here.items
+          → length q.ahead.next.items ≡ length w.ahead.next.items → LeadsOn w.ahead at.turns to (edge_from at cond) q.ahead → turns_of at to ≤ max_turns
           → LeadsThere ns r w at cond to q
       leads-edge ep en er es lh ln on few f s h insts m c i st =
-          let ahead = on ns s (region_text f r) h c m i.place (i.label ∙ sym (ap (λ (g : Naming). g.label_name at.block) i.course.so_far.naming)) i.within (subst (λ (n : ℕ). at.block < n) (sym i.course.so_far.blocks) i.of_text) st i.known e i.course.so_far.ahead in
+          let ahead = on ns s (region_text f r) h c m i.place (i.label ∙ sym (ap (λ (g : Naming). g.label_name at.block) i.course.so_far.naming)) i.within
+          (subst (λ (n : ℕ). at.block < n) (sym i.course.so_far.blocks) i.of_text) st i.known e i.course.so_far.ahead in
           subst (IsLeaving ns f r q at s h insts) (sym (edge-added f s h insts m c i st)) (record {
             course = record {
               so_far = record {
@@ -204,7 +210,7 @@ module _ (ns : List Node) (r : Region) (w q : Walk) (at : At) (cond : TermId) (t
                 sources = subst (λ (x : List Edge). AreSources ns s x m.rows.ends) (sym es) i.course.so_far.sources;
               };
               places = i.course.places ∙ sym (ap length ep);
-              tells = subst (λ (ps : List Place). Tells ns ps s.told) (sym ep) i.course.tells;
+              tells = subst (λ (ps : List PlaceState). Tells ns ps s.told) (sym ep) i.course.tells;
             };
             within = i.within;
             of_text = i.of_text;
@@ -219,25 +225,32 @@ module _ (ns : List Node) (r : Region) (w q : Walk) (at : At) (cond : TermId) (t
       leads-not x (inr a) = inr (
         a.0,
         λ f s h insts m c i st.
-            subst (λ (y : Midst). turns_too_often y.edges ≡ true) (sym (edge-added f s h insts m c i st)) (many-push m.edges (new_edge h c m to) (subst (λ (n : ℕ). max_turns < n) (sym (turns-are f s h insts m i)) a.1)),
+            subst (λ (y : Midst). turns_too_often y.edges ≡ true) (sym (edge-added f s h insts m c i st))
+            (many-push m.edges (new_edge h c m to) (subst (λ (n : ℕ). max_turns < n) (sym (turns-are f s h insts m i)) a.1)),
       )
 
 -- what `lead` says, of an edge that is this one
-module _ (ns : List Node) (r : Region) (w q : Walk) (at : At) (cond : TermId) (to : ℕ) (can : CanLead w.ahead to) (z : is_zero (tree_at (trees ns) cond) ≡ false) (e : (r.ends_at_head && nat_eq to r.head) ≡ false) (edge : Edge) (is : edge ≡ edge_from at cond) where
-  pub led-edge : q.places.items ≡ w.places.items → q.insts ≡ w.insts → q.rows ≡ w.rows → q.sources ≡ w.sources → {A E : Type 0} (x : Result A E) → OnOk x (length q.ahead.here.items ≡ length w.ahead.here.items) → OnOk x (length q.ahead.next.items ≡ length w.ahead.next.items)
+module _ (ns : List Node) (r : Region) (w q : Walk) (at : WalkPoint) (cond : TermId) (to : ℕ) (can : CanLead w.ahead to) (z : is_zero (tree_at (trees ns) cond) ≡ false)
+    (e : (r.ends_at_head && nat_eq to r.head) ≡ false) (edge : Edge) (is : edge ≡ edge_from at cond) where
+  pub led-edge : q.places.items ≡ w.places.items → q.insts ≡ w.insts → q.rows ≡ w.rows → q.sources ≡ w.sources → {A E : Type 0} (x : Result A E)
+      → OnOk x (length q.ahead.here.items ≡ length w.ahead.here.items) → OnOk x (length q.ahead.next.items ≡ length w.ahead.next.items)
       → OnOk x (LeadsOn w.ahead at.turns to edge q.ahead) → OnOk x ((next_place (place_of at.turns edge.block) to).turns ≤ max_turns) → OnOk x (LeadsThere ns r w at cond to q)
   led-edge ep en er es (Err f) lh ln on few = tt
   led-edge ep en er es (Ok u) lh ln on few =
-      leads-edge ns r w q at cond to can z e ep en er es lh ln (subst (λ (d : Edge). LeadsOn w.ahead at.turns to d q.ahead) is on) (subst (λ (d : Edge). (next_place (place_of at.turns d.block) to).turns ≤ max_turns) is few)
+      leads-edge ns r w q at cond to can z e ep en er es lh ln (subst (λ (d : Edge). LeadsOn w.ahead at.turns to d q.ahead) is on)
+      (subst (λ (d : Edge). (next_place (place_of at.turns d.block) to).turns ≤ max_turns) is few)
 
-  pub led-edge-not : {A : Type 0} (x : Result A RegionFault) → IfErr x (λ f. (f ≡ fault.OutOfMemory) ⊎ ((f ≡ fault.TooManyTurns) × (max_turns < (next_place (place_of at.turns edge.block) to).turns))) → IfErr x (LeadsNot ns r w at cond to)
+  pub led-edge-not : {A : Type 0} (x : Result A RegionFault) → IfErr x (λ f. (f ≡ fault.OutOfMemory) ⊎ ((f ≡ fault.TooManyTurns) × (max_turns < (next_place (place_of at.turns edge.block) to).turns)))
+      → IfErr x (LeadsNot ns r w at cond to)
   led-edge-not (Ok u) h = tt
-  led-edge-not (Err f) h = leads-not ns r w q at cond to can z e f (subst (λ (d : Edge). (f ≡ fault.OutOfMemory) ⊎ ((f ≡ fault.TooManyTurns) × (max_turns < (next_place (place_of at.turns d.block) to).turns))) is h)
+  led-edge-not (Err f) h = leads-not ns r w q at cond to can z e f
+      (subst (λ (d : Edge). (f ≡ fault.OutOfMemory) ⊎ ((f ≡ fault.TooManyTurns) × (max_turns < (next_place (place_of at.turns d.block) to).turns))) is h)
 
 -- ---- a branch
 
 -- the conditions of its edges were made
-module _ (ns ms : List Node) (r : Region) (w p : Walk) (at : At) (v first second : ℕ) (lo hi : TermId) (gr : Grows ns ms) (same : SamePlaces w.places.items p.places.items) (still : StillTold ns w.places.items ms p.places.items v at.place)
+module _ (ns ms : List Node) (r : Region) (w p : Walk) (at : WalkPoint) (v first second : ℕ) (lo hi : TermId) (gr : Grows ns ms) (same : SamePlaces w.places.items p.places.items)
+    (still : StillTold ns w.places.items ms p.places.items v at.place)
     (ea : p.ahead ≡ w.ahead) (en : p.insts ≡ w.insts) (er : p.rows ≡ w.rows) (es : p.sources ≡ w.sources)
     (low : IsAndNot ns w.places.items ms v at.place (tree_at (trees ns) at.cond) lo) (high : IsAnd ns w.places.items ms v at.place (tree_at (trees ns) at.cond) hi) where
   tested : (f : Naming) (s : Story) (h : Here) (insts : ℕ) (m : Midst) (x : Tree) → IsLeaving ns f r w at s h insts m → s.told at.place v ≡ Some x → IsLeaving ms f r p at s h insts m
@@ -268,11 +281,13 @@ module _ (ns ms : List Node) (r : Region) (w p : Walk) (at : At) (v first second
         known = i.known;
       }
 
-  low-stands : (f : Naming) (s : Story) (h : Here) (insts : ℕ) (m : Midst) (x : Tree) → IsLeaving ns f r w at s h insts m → Stands ns at.cond h.cond → s.told at.place v ≡ Some x → Stands ms lo (both h.cond (negation x))
-  low-stands f s h insts m x i st e = subst (λ (c : Tree). Stands ms lo (both c (negation x))) st.tree (low s.told x i.course.tells e)
+  low-stands : (f : Naming) (s : Story) (h : Here) (insts : ℕ) (m : Midst) (x : Tree) → IsLeaving ns f r w at s h insts m → StandsForTree ns at.cond h.cond → s.told at.place v ≡ Some x
+      → StandsForTree ms lo (both h.cond (negation x))
+  low-stands f s h insts m x i st e = subst (λ (c : Tree). StandsForTree ms lo (both c (negation x))) st.tree (low s.told x i.course.tells e)
 
-  high-stands : (f : Naming) (s : Story) (h : Here) (insts : ℕ) (m : Midst) (x : Tree) → IsLeaving ns f r w at s h insts m → Stands ns at.cond h.cond → s.told at.place v ≡ Some x → Stands ms hi (both h.cond x)
-  high-stands f s h insts m x i st e = subst (λ (c : Tree). Stands ms hi (both c x)) st.tree (high s.told x i.course.tells e)
+  high-stands : (f : Naming) (s : Story) (h : Here) (insts : ℕ) (m : Midst) (x : Tree) → IsLeaving ns f r w at s h insts m → StandsForTree ns at.cond h.cond → s.told at.place v ≡ Some x
+      → StandsForTree ms hi (both h.cond x)
+  high-stands f s h insts m x i st e = subst (λ (c : Tree). StandsForTree ms hi (both c x)) st.tree (high s.told x i.course.tells e)
 
   pub low-not : (x : RegionFault) → LeadsNot ms r p at lo first x → BranchesNot ns r w at v first second x
   low-not x (inl a) = inl a
@@ -284,7 +299,8 @@ module _ (ns ms : List Node) (r : Region) (w p : Walk) (at : At) (v first second
   )
 
   module _ (q : Walk) (done : LeadsThere ms r p at lo first q) where
-    led-low : (f : Naming) (s : Story) (h : Here) (insts : ℕ) (m : Midst) (x : Tree) → IsLeaving ns f r w at s h insts m → Stands ns at.cond h.cond → s.told at.place v ≡ Some x → IsLeaving ms f r q at s h insts (leads (region_text f r) h (both h.cond (negation x)) (f.label_name first) m)
+    led-low : (f : Naming) (s : Story) (h : Here) (insts : ℕ) (m : Midst) (x : Tree) → IsLeaving ns f r w at s h insts m → StandsForTree ns at.cond h.cond → s.told at.place v ≡ Some x
+        → IsLeaving ms f r q at s h insts (leads (region_text f r) h (both h.cond (negation x)) (f.label_name first) m)
     led-low f s h insts m x i st e = done f s h insts m (both h.cond (negation x)) (tested f s h insts m x i e) (low-stands f s h insts m x i st e)
 
     pub high-not : (x : RegionFault) → LeadsNot ms r q at hi second x → BranchesNot ns r w at v first second x
@@ -300,11 +316,15 @@ module _ (ns ms : List Node) (r : Region) (w p : Walk) (at : At) (v first second
         more f s h insts (leads (region_text f r) h (both h.cond (negation x)) (f.label_name first) m) (both h.cond x) (led-low f s h insts m x i st e) (high-stands f s h insts m x i st e)
 
 -- the conditions are such
-pub low-condition : (ns ms : List Node) (ps : List Place) (v i : ℕ) (cond lo : TermId) → IsConditionAt ns cond → CanTest ns ps v i → IsAndNot ns ps ms v i (tree_at (trees ns) cond) lo → IsConditionAt ms lo
-low-condition ns ms ps v i cond lo c t low = stands-condition ms lo (both (tree_at (trees ns) cond) (negation t.cond)) (low t.told t.cond t.tells t.is) (and-condition (tree_at (trees ns) cond) (negation t.cond) c.cond (not-condition t.cond t.condition))
+pub low-condition : (ns ms : List Node) (ps : List PlaceState) (v i : ℕ) (cond lo : TermId) → IsConditionAt ns cond → CanTest ns ps v i → IsAndNot ns ps ms v i (tree_at (trees ns) cond) lo
+    → IsConditionAt ms lo
+low-condition ns ms ps v i cond lo c t low = stands-condition ms lo (both (tree_at (trees ns) cond) (negation t.cond)) (low t.told t.cond t.tells t.is)
+    (and-condition (tree_at (trees ns) cond) (negation t.cond) c.cond (not-condition t.cond t.condition))
 
-pub high-condition : (ns ms : List Node) (ps : List Place) (v i : ℕ) (cond hi : TermId) → IsConditionAt ns cond → CanTest ns ps v i → IsAnd ns ps ms v i (tree_at (trees ns) cond) hi → IsConditionAt ms hi
-high-condition ns ms ps v i cond hi c t high = stands-condition ms hi (both (tree_at (trees ns) cond) t.cond) (high t.told t.cond t.tells t.is) (and-condition (tree_at (trees ns) cond) t.cond c.cond t.condition)
+pub high-condition : (ns ms : List Node) (ps : List PlaceState) (v i : ℕ) (cond hi : TermId) → IsConditionAt ns cond → CanTest ns ps v i → IsAnd ns ps ms v i (tree_at (trees ns) cond) hi
+    → IsConditionAt ms hi
+high-condition ns ms ps v i cond hi c t high = stands-condition ms hi (both (tree_at (trees ns) cond) t.cond) (high t.told t.cond t.tells t.is)
+    (and-condition (tree_at (trees ns) cond) t.cond c.cond t.condition)
 
 -- ---- a wait
 
@@ -317,15 +337,18 @@ some-same (x ∷ xs) (y ∷ ys) e =
     let b : map Some xs ≡ map Some ys = cc in
     λ j. a j ∷ some-same xs ys b j
 
-pub waited : (r : Region) (w q : Walk) (at : At) (to : ℕ) (to_head timed : Bool) (vs : List ValueId) (parts : List Part) → to_head ≡ nat_eq to r.head → PartsOf r.parts.now.parts.items vs parts → EndsThere w at at.cond (way_text (way.Wait to to_head parts timed)) q → Waits r w at to timed vs q
+pub waited : (r : Region) (w q : Walk) (at : WalkPoint) (to : ℕ) (to_head timed : Bool) (vs : List ValueId) (parts : List Part) → to_head ≡ nat_eq to r.head → PartsOf r.parts.now.parts.items vs parts
+    → EndsThere w at at.cond (way_text (way.Wait to to_head parts timed)) q → Waits r w at to timed vs q
 waited r w q at to to_head timed vs parts e p x ps are =
     let same : parts ≡ ps = some-same parts ps (p ∙ sym are) in
     subst (λ (b : Bool). EndsThere w at at.cond (text.waits to b ps timed) q) e (subst (λ (y : List Part). EndsThere w at at.cond (text.waits to to_head y timed) q) same x)
 
 -- ---- the parts of values, one by one
 
-pub parts-push : (table : List (Option Part)) (vs : List ValueId) (ps : List Part) (v : ValueId) (p : Part) → PartsOf table vs ps → part_at table v.0 ≡ Some p → PartsOf table (vs ++ v ∷ []) (ps ++ p ∷ [])
-parts-push table vs ps v p h e = some-push ps p ∙ ap (λ (xs : List (Option Part)). xs ++ Some p ∷ []) h ∙ ap (λ (o : Option Part). map (λ (u : ValueId). part_at table u.0) vs ++ o ∷ []) (sym e) ∙ sym (part-push vs)
+pub parts-push : (table : List (Option Part)) (vs : List ValueId) (ps : List Part) (v : ValueId) (p : Part) → PartsOf table vs ps → part_at table v.0 ≡ Some p
+    → PartsOf table (vs ++ v ∷ []) (ps ++ p ∷ [])
+parts-push table vs ps v p h e = some-push ps p ∙ ap (λ (xs : List (Option Part)). xs ++ Some p ∷ []) h ∙ ap (λ (o : Option Part). map (λ (u : ValueId). part_at table u.0) vs ++ o ∷ []) (sym e)
+    ∙ sym (part-push vs)
   where
     some-push : (ps : List Part) (p : Part) → map Some (ps ++ p ∷ []) ≡ map Some ps ++ Some p ∷ []
     some-push [] p = refl

@@ -48,7 +48,7 @@ use Rattle.lh_rows.proofs.Blocks.{signal-of}
 use Rattle.lh_region.specs.declared.rows.RegionFault.{RegionFault}
 use Rattle.lh_walk.specs.declared.walk.Region.{Region}
 use Rattle.lh_walk.specs.declared.walk.Walk.{Walk}
-use Rattle.lh_walk.specs.declared.walk.At.{At}
+use Rattle.lh_walk.specs.declared.walk.WalkPoint.{WalkPoint}
 use Rattle.lh_region.specs.Branches.{CanTest}
 use Rattle.lh_region.specs.Walking.{as_term, Story, term_known}
 use Rattle.lh_walk.specs.Walked.{process_by, region_text, IsCourse, course_at, IsBetween, leads_nowhere, CanTake, EndsLine, EndsFor}
@@ -78,7 +78,8 @@ maybe-some f (Some v) = refl
 
 -- ---- in the midst of a place, before its last line
 
-module _ (ns : List Node) (f : Naming) (name : UnitName) (r : Region) (w : Walk) (at : At) (before : Story) (h : Here) (insts : ℕ) (b : FlatBlock) (l : FlatInst) (done rest : List LineText) (m : Midst) (i : IsBetween ns f name r w at before h insts b done (flat_line_text f l ∷ rest) m) where
+module _ (ns : List Node) (f : Naming) (name : UnitName) (r : Region) (w : Walk) (at : WalkPoint) (before : Story) (h : Here) (insts : ℕ) (b : FlatBlock) (l : FlatInst) (done rest : List LineText)
+    (m : Midst) (i : IsBetween ns f name r w at before h insts b done (flat_line_text f l ∷ rest) m) where
   abbrev u : UnitText
   u = process_by name f r.flat.now
 
@@ -126,17 +127,20 @@ module _ (ns : List Node) (f : Naming) (name : UnitName) (r : Region) (w : Walk)
 
   -- ---- a branch
 
-  pub branch-told : (c : ValueId) (first second : BlockId) → l.inst ≡ inst.Branch c first second → c.0 < r.flat.now.values → (x : Tree) × (value_known m.known (f.value_name c.0) ≡ Some x) × (i.midst.now.told at.place c.0 ≡ Some x) × IsCondition x
+  pub branch-told : (c : ValueId) (first second : BlockId) → l.inst ≡ inst.Branch c first second → c.0 < r.flat.now.values → (x : Tree) × (value_known m.known (f.value_name c.0) ≡ Some x)
+      × (i.midst.now.told at.place c.0 ≡ Some x) × IsCondition x
   branch-told c first second e d =
       let row = subst (λ (j : Inst). RowIs u (inst_text f j)) e site.sound.row in
       let ops = subst (λ (j : Inst). OperandsThere kind.Proc u (place-at site.number site.entry (as_block here) done (flat_line_text f l) rest) (inst_text f j)) e site.there in
-      let k = branch-known u g (region-of f name r i.region) at.block here (block-at-text f r i.region at.block b i.stands.block) h i.stands.label i.midst.condition done (flat_line_text f l) rest i.knows.split site m i.knows.typed i.knows.there
+      let k = branch-known u g (region-of f name r i.region) at.block here (block-at-text f r i.region at.block b i.stands.block) h i.stands.label i.midst.condition done (flat_line_text f l) rest
+      i.knows.split site m i.knows.typed i.knows.there
       (f.value_name c.0) (f.label_name first.0) (f.label_name second.0) row ops in
       (k.0, k.1, told-value c.0 k.0 d k.1, k.2)
 
   -- ---- a wait
 
-  signals-known : (vs : List ValueId) → ValuesBelow r.flat.now.values vs → Each (HasTypeOfKind u) (map (used signal_needed) (map (value_text f) vs)) → Each (IsThere u (as_block here) done) (map (λ (x : Use). x.value) (map (used signal_needed) (map (value_text f) vs)))
+  signals-known : (vs : List ValueId) → ValuesBelow r.flat.now.values vs → Each (HasTypeOfKind u) (map (used signal_needed) (map (value_text f) vs))
+      → Each (IsThere u (as_block here) done) (map (λ (x : Use). x.value) (map (used signal_needed) (map (value_text f) vs)))
       → (ps : List Part) × (parts_known m.known (map (value_text f) vs) ≡ Some ps) × PartsOf r.parts.now.parts.items vs ps
   signals-known [] d a c = ([], refl, refl)
   signals-known (v ∷ vs) d a c =
@@ -150,7 +154,8 @@ module _ (ns : List Node) (f : Naming) (name : UnitName) (r : Region) (w : Walk)
         λ j. sym p j ∷ ys.2 j,
       )
 
-  pub wait-known : (to : BlockId) (after : Option ValueId) (on : List ValueId) → l.inst ≡ inst.Wait to after on → ValuesBelow r.flat.now.values (maybe_id after ++ on) → (ps : List Part) × (parts_known m.known (map (value_text f) on) ≡ Some ps) × PartsOf r.parts.now.parts.items on ps
+  pub wait-known : (to : BlockId) (after : Option ValueId) (on : List ValueId) → l.inst ≡ inst.Wait to after on → ValuesBelow r.flat.now.values (maybe_id after ++ on) → (ps : List Part)
+      × (parts_known m.known (map (value_text f) on) ≡ Some ps) × PartsOf r.parts.now.parts.items on ps
   wait-known to after on e d =
       let ns' = map (value_text f) on in
       let ops = subst (λ (j : Inst). OperandsThere kind.Proc u (place-at site.number site.entry (as_block here) done (flat_line_text f l) rest) (inst_text f j)) e site.there in
@@ -163,7 +168,7 @@ module _ (ns : List Node) (f : Naming) (name : UnitName) (r : Region) (w : Walk)
 
 -- ---- what each terminator does
 
-module _ (ns : List Node) (r : Region) (w : Walk) (at : At) (l : FlatInst) where
+module _ (ns : List Node) (r : Region) (w : Walk) (at : WalkPoint) (l : FlatInst) where
   pub br-ends : (to : BlockId) (q : Walk) → l.inst ≡ inst.Br to → LeadsThere ns r w at at.cond to.0 q → EndsLine ns r w at l ns q
   br-ends to q e x f name before h insts b done rest m i =
       let s = i.midst.now in
@@ -183,14 +188,16 @@ module _ (ns : List Node) (r : Region) (w : Walk) (at : At) (l : FlatInst) where
     branch-below : (c : ValueId) (first second : BlockId) → l.inst ≡ inst.Branch c first second → c.0 < r.flat.now.values
     branch-below c first second e = (subst (λ (j : Inst). ValuesBelow r.flat.now.values (values_used j)) e below.used).0
 
-    pub branch-ends : (c : ValueId) (first second : BlockId) (ms : List Node) (q : Walk) → l.inst ≡ inst.Branch c first second → Branches ns r w at c.0 first.0 second.0 ms q → EndsLine ns r w at l ms q
+    pub branch-ends : (c : ValueId) (first second : BlockId) (ms : List Node) (q : Walk) → l.inst ≡ inst.Branch c first second → Branches ns r w at c.0 first.0 second.0 ms q
+        → EndsLine ns r w at l ms q
     branch-ends c first second ms q e x f name before h insts b done rest m i =
         let s = i.midst.now in
         let k = branch-told ns f name r w at before h insts b l done rest m i c first second e (branch-below c first second e) in
         let a = x f s h insts m k.0 (leaving ns f name r w at before h insts b l done rest m i) i.midst.cond k.2 in (
           s,
           subst (λ (j : Inst). IsCourse ms f r q at.turns (at.block + 1) s (course_at insts (takes (region_text f r) h (inst_text f j) (flat_line_text f l).result m))) (sym e)
-              (subst (λ (o : Option Tree). IsCourse ms f r q at.turns (at.block + 1) s (course_at insts (branches (region_text f r) h o (f.label_name first.0) (f.label_name second.0) m))) (sym k.1) a.course),
+              (subst (λ (o : Option Tree). IsCourse ms f r q at.turns (at.block + 1) s (course_at insts (branches (region_text f r) h o (f.label_name first.0) (f.label_name second.0) m))) (sym k.1)
+              a.course),
         )
 
     pub branch-ends-not : (c : ValueId) (first second : BlockId) (x : RegionFault) → l.inst ≡ inst.Branch c first second → BranchesNot ns r w at c.0 first.0 second.0 x → EndsFor ns r w at l x
@@ -204,7 +211,8 @@ module _ (ns : List Node) (r : Region) (w : Walk) (at : At) (l : FlatInst) where
           (a.1 f i.midst.now h insts m k.0 (leaving ns f name r w at before h insts b l done rest m i) i.midst.cond k.2)),
     )
 
-    pub wait-ends : (to : BlockId) (after : Option ValueId) (on : List ValueId) (timed : Bool) (q : Walk) → timed ≡ is_some after → l.inst ≡ inst.Wait to after on → Waits r w at to.0 timed on q → EndsLine ns r w at l ns q
+    pub wait-ends : (to : BlockId) (after : Option ValueId) (on : List ValueId) (timed : Bool) (q : Walk) → timed ≡ is_some after → l.inst ≡ inst.Wait to after on → Waits r w at to.0 timed on q
+        → EndsLine ns r w at l ns q
     wait-ends to after on timed q et e x f name before h insts b done rest m i =
         let s = i.midst.now in
         let g = region_text f r in
@@ -212,7 +220,8 @@ module _ (ns : List Node) (r : Region) (w : Walk) (at : At) (l : FlatInst) where
         let v = leaving ns f name r w at before h insts b l done rest m i in
         let a = x k.0 k.2 ns f r s h insts m h.cond v i.midst.cond in
         let number = v.numbers to.0 (subst (λ (j : Inst). Each (λ (c : BlockId). c.0 < length r.flat.now.blocks) (blocks_named j)) e below.named).0 in
-        let way : wait_way g (is_some (maybe_text f after)) (block_number (f.label_name to.0) g.blocks) (parts_known m.known (map (value_text f) on)) ≡ Some (text.waits to.0 (nat_eq to.0 r.head) k.0 timed)
+        let way : wait_way g (is_some (maybe_text f after)) (block_number (f.label_name to.0) g.blocks) (parts_known m.known (map (value_text f) on))
+        ≡ Some (text.waits to.0 (nat_eq to.0 r.head) k.0 timed)
         = λ j. wait_way g ((maybe-some f after ∙ sym et) j) (number j) (k.1 j) in (
           s,
           subst (λ (j : Inst). IsCourse ns f r q at.turns (at.block + 1) s (course_at insts (takes g h (inst_text f j) (flat_line_text f l).result m))) (sym e)
@@ -236,7 +245,8 @@ module _ (ns : List Node) (r : Region) (w : Walk) (at : At) (l : FlatInst) where
       no-ret (Some t) x = x
 
   -- no other instruction is a terminator
-  pub else-ends : (q : Walk) → leads_nowhere l.inst ≡ false → ((to : BlockId) → l.inst ≡ inst.Br to → ⊥) → ((c : ValueId) (first second : BlockId) → l.inst ≡ inst.Branch c first second → ⊥) → ((to : BlockId) (after : Option ValueId) (on : List ValueId) → l.inst ≡ inst.Wait to after on → ⊥)
+  pub else-ends : (q : Walk) → leads_nowhere l.inst ≡ false → ((to : BlockId) → l.inst ≡ inst.Br to → ⊥) → ((c : ValueId) (first second : BlockId) → l.inst ≡ inst.Branch c first second → ⊥)
+      → ((to : BlockId) (after : Option ValueId) (on : List ValueId) → l.inst ≡ inst.Wait to after on → ⊥)
       → (l.inst ≡ inst.Halt → ⊥) → EndsLine ns r w at l ns q
   else-ends q last no-br no-branch no-wait no-halt = by l.inst refl last
     where
@@ -274,7 +284,8 @@ module _ (ns : List Node) (r : Region) (w : Walk) (at : At) (l : FlatInst) where
 
     pub asked-test : (c : ValueId) (first second : BlockId) → l.inst ≡ inst.Branch c first second → CanTest ns w.places.items c.0 at.place
     asked-test c first second e =
-        let k = branch-told ns can.naming can.name r w at can.before can.here can.insts can.block l can.done can.rest can.midst can.between c first second e (branch-below can.below c first second e) in
+        let k = branch-told ns can.naming can.name r w at can.before can.here can.insts can.block l can.done can.rest can.midst can.between c first second e
+        (branch-below can.below c first second e) in
         record { told = can.between.midst.now.told; tells = can.between.midst.tells; cond = k.0; is = k.2; condition = k.3 }
 
     parts-there : (vs : List ValueId) (ps : List Part) → ValuesBelow r.flat.now.values vs → PartsOf r.parts.now.parts.items vs ps → AreParts r.parts.now.parts.items vs

@@ -13,19 +13,19 @@ use Rattle.lh_flat.specs.declared.flat.FlatInst.{FlatInst}
 use Rattle.lh_flat.specs.Flat.{FlatBlockText, FlatText, flat_unit}
 use Rattle.lh_flat.specs.Reads.{flat_block_text, flat_text}
 use Rattle.lh_term.specs.Make.{bit_of}
-use Rattle.lh_term.specs.Arena.{Stands, Grows}
+use Rattle.lh_term.specs.Arena.{StandsForTree, Grows}
 use Rattle.lh_term.specs.declared.term.Node.{Node}
 use Rattle.lh_rows.specs.Known.{Known, known_value, known_cell, known_part, as_value, as_cell, as_part}
-use Rattle.lh_rows.specs.Joins.{Edge as EdgeTo, merged, first_one, joined}
+use Rattle.lh_rows.specs.Joins.{RegionEdge, merged, first_one, joined}
 use Rattle.lh_rows.specs.Regions as rows
 use Rattle.lh_rows.specs.Regions.{lines_at, head_of, known_first, edge_into, first_region, region_from}
 use Rattle.lh_rows.specs.Typed.{JoinEdge}
 use Rattle.lh_rows.specs.Right.{as_block}
 use Rattle.lh_rows.proofs.Start as Start
-use Rattle.lh_region.specs.declared.state.Place.{Place}
+use Rattle.lh_region.specs.declared.state.PlaceState.{PlaceState}
 use Rattle.lh_walk.specs.declared.walk.Region.{Region}
 use Rattle.lh_walk.specs.declared.walk.Walk.{Walk}
-use Rattle.lh_walk.specs.declared.walk.At.{At}
+use Rattle.lh_walk.specs.declared.walk.WalkPoint.{WalkPoint}
 use Rattle.lh_region.specs.declared.rows.RegionFault.{RegionFault}
 use Rattle.lh_region.specs.Asked.{kept_by, Tells}
 use Rattle.lh_region.specs.Effects.{probed}
@@ -43,7 +43,7 @@ use Rattle.lh_walk.proofs.NamedCourse.{named-start}
 use Rattle.lh_walk.proofs.Constants.{no_story, first_story, start-tells, start-known}
 
 -- what one edge joins is what is known on it
-one-joined : (e : EdgeTo) (o : Option Known)
+one-joined : (e : RegionEdge) (o : Option Known)
     → option_and_then as_term (or_else (option_map known_value (option_and_then (merged (e ∷ [])) (front (option_and_then as_value o) (Some []))))
     (or_else (option_map known_cell (option_and_then (merged (e ∷ [])) (front (option_and_then as_cell o) (Some []))))
     (option_map known_part (option_and_then first_one (front (option_and_then as_part o) (Some [])))))) ≡ option_and_then as_term o
@@ -52,7 +52,7 @@ one-joined e (Some (known_value t)) = refl
 one-joined e (Some (known_cell t)) = refl
 one-joined e (Some (known_part p)) = refl
 
-pub joined-one : (e : EdgeTo) (n : List ℕ) → term_known (joined (e ∷ [])) n ≡ term_known e.known n
+pub joined-one : (e : RegionEdge) (n : List ℕ) → term_known (joined (e ∷ [])) n ≡ term_known e.known n
 joined-one e n = one-joined e (e.known n)
 
 module _ (f : Naming) (name : UnitName) (r : Region) (h : IsRegion f r) where
@@ -82,7 +82,7 @@ module _ (f : Naming) (name : UnitName) (r : Region) (h : IsRegion f r) where
   plain = ap (λ k. rows.begins_with_phi (lines_at t.blocks k)) head-same ∙ phi-agrees f r.flat.now r.head head-block.block head-block.at ∙ h.plain head-block.block head-block.at
 
   -- the edge with which the region starts
-  abbrev pub first_edge : EdgeTo
+  abbrev pub first_edge : RegionEdge
   first_edge = edge_into r.head [] (bit_of true) (known_first t)
 
   first-join : JoinEdge u (as_block (flat_block_text f r.head head-block.block)) first_edge
@@ -94,7 +94,8 @@ module _ (f : Naming) (name : UnitName) (r : Region) (h : IsRegion f r) where
       (subst (λ (b : FlatBlockText). JoinEdge u (as_block b) (edge_into (head_of t.blocks) [] (bit_of true) (known_first t))) same (Start.first-joins name t formed plain))
 
   -- the region starts at a place at which the constants of the entry are known
-  pub first-start : (ns : List Node) (ps : List Place) (p : Place) (at : At) → ps ≡ p ∷ [] → p.edges.items ≡ [] → p.selectors ≡ None → KnowsConstants ns p (lines_left r.flat.now.blocks r.head) → at.place ≡ 0 → at.block ≡ r.head → at.turns ≡ 0 → Stands ns at.cond (bit_of true)
+  pub first-start : (ns : List Node) (ps : List PlaceState) (p : PlaceState) (at : WalkPoint) → ps ≡ p ∷ [] → p.edges.items ≡ [] → p.selectors ≡ None
+      → KnowsConstants ns p (lines_left r.flat.now.blocks r.head) → at.place ≡ 0 → at.block ≡ r.head → at.turns ≡ 0 → StandsForTree ns at.cond (bit_of true)
       → IsStart ns f name r ps at (no_story f r.flat.now) (first_story f r.flat.now) head-block.block first_edge []
   first-start ns ps p at one edges selectors known place block turns cond = record {
     region = h;
@@ -118,15 +119,16 @@ module _ (f : Naming) (name : UnitName) (r : Region) (h : IsRegion f r) where
   module _ (stays : r.ends_at_head ≡ false) where
     -- the region of the definition
     pub first-is : region_from (region_text f r) r.head (first_edge ∷ []) ≡ first_region t (probed r.is_past)
-    first-is = λ i. region_from (record { blocks = t.blocks; head = sym head-same i; probe = probed r.is_past; ends_at_head = stays i }) (sym head-same i) (edge_into (sym head-same i) [] (bit_of true) (known_first t) ∷ [])
+    first-is = λ i. region_from (record { blocks = t.blocks; head = sym head-same i; probe = probed r.is_past; ends_at_head = stays i }) (sym head-same i)
+        (edge_into (sym head-same i) [] (bit_of true) (known_first t) ∷ [])
 
 -- the constants are known as terms are made
-pub constants-grown : (ns ms : List Node) (p : Place) (ls : List FlatInst) → Grows ns ms → KnowsConstants ns p ls → KnowsConstants ms p ls
+pub constants-grown : (ns ms : List Node) (p : PlaceState) (ls : List FlatInst) → Grows ns ms → KnowsConstants ns p ls → KnowsConstants ms p ls
 constants-grown ns ms p ls g k = λ v. maybe-grown ns ms (kept_by v p) (constant_given ls v) g (k v)
 
 -- the places with which the first region starts
-pub record IsHeadPlace (r : Region) (ns : List Node) (ps : List Place) (at : At) : Type 0 where
-  pub start : Place
+pub record IsHeadPlace (r : Region) (ns : List Node) (ps : List PlaceState) (at : WalkPoint) : Type 0 where
+  pub start : PlaceState
   pub one : ps ≡ start ∷ []
   pub edges : start.edges.items ≡ []
   pub selectors : start.selectors ≡ None
@@ -134,9 +136,9 @@ pub record IsHeadPlace (r : Region) (ns : List Node) (ps : List Place) (at : At)
   pub place : at.place ≡ 0
   pub block : at.block ≡ r.head
   pub turns : at.turns ≡ 0
-  pub cond : Stands ns at.cond (bit_of true)
+  pub cond : StandsForTree ns at.cond (bit_of true)
 
-module _ (r : Region) (ns : List Node) (ps : List Place) (at : At) (k : IsHeadPlace r ns ps at) where
+module _ (r : Region) (ns : List Node) (ps : List PlaceState) (at : WalkPoint) (k : IsHeadPlace r ns ps at) where
   starts : (f : Naming) (name : UnitName) (h : IsRegion f r) → IsStart ns f name r ps at (no_story f r.flat.now) (first_story f r.flat.now) (head-block f name r h).block (first_edge f name r h) []
   starts f name h = first-start f name r h ns ps k.start at k.one k.edges k.selectors k.known k.place k.block k.turns k.cond
 
@@ -145,7 +147,16 @@ module _ (r : Region) (ns : List Node) (ps : List Place) (at : At) (k : IsHeadPl
   any_name f = f.unit_name 0
 
   pub can-start : HasRegion r → CanStart ns r ps at
-  can-start h = record { naming = h.naming; name = any_name h.naming; before = no_story h.naming r.flat.now; now = first_story h.naming r.flat.now; block = (head-block h.naming (any_name h.naming) r h.region).block; first = first_edge h.naming (any_name h.naming) r h.region; more = []; start = starts h.naming (any_name h.naming) h.region }
+  can-start h = record {
+    naming = h.naming;
+    name = any_name h.naming;
+    before = no_story h.naming r.flat.now;
+    now = first_story h.naming r.flat.now;
+    block = (head-block h.naming (any_name h.naming) r h.region).block;
+    first = first_edge h.naming (any_name h.naming) r h.region;
+    more = [];
+    start = starts h.naming (any_name h.naming) h.region;
+  }
 
   pub goes-first : r.ends_at_head ≡ false → (ms : List Node) (w : Walk) → GoesThrough ns r ps at ms w → GoesFirst r ms w
   goes-first stays ms w g f name h =

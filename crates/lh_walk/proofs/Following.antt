@@ -13,20 +13,20 @@ use Rattle.lh_flat.specs.Reads.{flat_block_text, flat_blocks_text, flat_text}
 use Rattle.lh_parts.specs.Steps.{IsPartTable}
 use Rattle.lh_term.specs.Tree.{past_of, now_of}
 use Rattle.lh_term.specs.Make.{bit_of}
-use Rattle.lh_term.specs.Arena.{Stands, Grows}
+use Rattle.lh_term.specs.Arena.{StandsForTree, Grows}
 use Rattle.lh_term.specs.declared.term.Node.{Node}
 use Rattle.lh_rows.specs.Rows as text
-use Rattle.lh_rows.specs.Joins.{Edge as EdgeTo, joined}
+use Rattle.lh_rows.specs.Joins.{RegionEdge, joined}
 use Rattle.lh_rows.specs.Regions.{begins_with_phi, lines_at, head_of, edges_of_ends, waits_for, RegionRefusal, Course, Coursed, comes_to, then_course, region_from, first_region, second_region}
 use Rattle.lh_rows.specs.Typed.{JoinEdge}
 use Rattle.lh_rows.specs.Right.{as_block}
 use Rattle.lh_rows.proofs.Courses.{coursed-is}
 use Rattle.lh_before.proofs.Second as Before
 use Rattle.lh_joins.specs.declared.edge.Edge.{Edge}
-use Rattle.lh_region.specs.declared.state.Place.{Place}
+use Rattle.lh_region.specs.declared.state.PlaceState.{PlaceState}
 use Rattle.lh_walk.specs.declared.walk.Region.{Region}
 use Rattle.lh_walk.specs.declared.walk.Walk.{Walk}
-use Rattle.lh_walk.specs.declared.walk.At.{At}
+use Rattle.lh_walk.specs.declared.walk.WalkPoint.{WalkPoint}
 use Rattle.lh_region.specs.declared.rows.RegionFault.{RegionFault}
 use Rattle.lh_region.specs.Asked.{edges_at}
 use Rattle.lh_region.specs.Begins.{with_place, IsBegun, BeginsJoined}
@@ -38,7 +38,7 @@ use Rattle.lh_region.specs.Stands.{refusal_of}
 use Rattle.lh_region.specs.Walking.{Story, TellsKnown, AreEdges}
 use Rattle.lh_walk.specs.Walked.{process_by, region_text, IsRegion, StopsFor}
 use Rattle.lh_walk.specs.Turns.{IsWalk, IsStart, CanStart, GoesThrough, GoesNot}
-use Rattle.lh_walk.specs.Both.{GoesFirst, FirstStops, IsTarget, HasTarget, SecondRows, SecondStops}
+use Rattle.lh_walk.specs.Both.{GoesFirst, FirstStops, IsBehind, IsTarget, HasTarget, SecondRows, SecondStops}
 use Rattle.lh_walk.proofs.First.{formed, plain, head-same}
 use Rattle.lh_region.proofs.Going.{edges-grown}
 use Rattle.lh_region.proofs.Telling.{tells-grown}
@@ -50,7 +50,7 @@ use Rattle.lh_walk.proofs.Fitting.{drives-fit}
 use Rattle.lh_walk.proofs.NamedCourse.{named-ends}
 
 -- edges by ids are those of the ends, into whatever block
-into-block : (ns : List Node) (s : Story) (es : List Edge) (xs : List text.End) (i j : ℕ) → AreEdges ns s es (edges_of_ends i xs) → AreEdges ns s es (edges_of_ends j xs)
+into-block : (ns : List Node) (s : Story) (es : List Edge) (xs : List text.RegionEnd) (i j : ℕ) → AreEdges ns s es (edges_of_ends i xs) → AreEdges ns s es (edges_of_ends j xs)
 into-block ns s [] [] i j h = tt
 into-block ns s [] (x ∷ xs) i j h = absurd h
 into-block ns s (e ∷ es) [] i j h = absurd h
@@ -88,11 +88,12 @@ module _ (f : Naming) (name : UnitName) (r : Region) (h : IsRegion f r) (target 
   past-is : Before.past name t form flat-plain it.course it.comes target it.one ≡ d
   past-is = coursed-is (Before.past name t form flat-plain it.course it.comes target it.one) d (sym (Before.past-comes name t form flat-plain it.course it.comes target it.one) ∙ before)
 
-  ends-waits : Each (λ (x : text.End). waits_for x.way ≡ Some target) d.rows.ends
-  ends-waits = subst (λ (c : Course). Each (λ (x : text.End). waits_for x.way ≡ Some target) c.rows.ends) past-is (Before.past-waits name t form flat-plain it.course it.comes target it.one)
+  ends-waits : Each (λ (x : text.RegionEnd). waits_for x.way ≡ Some target) d.rows.ends
+  ends-waits = subst (λ (c : Course). Each (λ (x : text.RegionEnd). waits_for x.way ≡ Some target) c.rows.ends) past-is (Before.past-waits name t form flat-plain it.course it.comes target it.one)
 
   ends-right : Each (Before.RightEnd name t form flat-plain it.course it.comes target it.one) d.rows.ends
-  ends-right = subst (λ (c : Course). Each (Before.RightEnd name t form flat-plain it.course it.comes target it.one) c.rows.ends) past-is (Before.past-ends name t form flat-plain it.course it.comes target it.one)
+  ends-right = subst (λ (c : Course). Each (Before.RightEnd name t form flat-plain it.course it.comes target it.one) c.rows.ends) past-is
+      (Before.past-ends name t form flat-plain it.course it.comes target it.one)
 
   ends-some : d.rows.ends ≡ [] → ⊥
   ends-some e = Before.some-end name t form flat-plain it.course it.comes target it.one (ap (λ (c : Course). c.rows.ends) past-is ∙ e)
@@ -101,15 +102,16 @@ module _ (f : Naming) (name : UnitName) (r : Region) (h : IsRegion f r) (target 
   pub record Target : Type 0 where
     pub block : FlatBlock
     pub at : slice_get r.flat.now.blocks target ≡ Some block
-    pub first : EdgeTo
-    pub more : List EdgeTo
+    pub first : RegionEdge
+    pub more : List RegionEdge
     pub are : edges_of_ends target d.rows.ends ≡ first ∷ more
     pub join : Each (JoinEdge u (as_block (flat_block_text f target block))) (first ∷ more)
 
   pub target-of : Target
   target-of = by d.rows.ends refl ends-right ends-waits
     where
-      by : (xs : List text.End) → d.rows.ends ≡ xs → Each (Before.RightEnd name t form flat-plain it.course it.comes target it.one) xs → Each (λ (x : text.End). waits_for x.way ≡ Some target) xs → Target
+      by : (xs : List text.RegionEnd) → d.rows.ends ≡ xs → Each (Before.RightEnd name t form flat-plain it.course it.comes target it.one) xs
+          → Each (λ (x : text.RegionEnd). waits_for x.way ≡ Some target) xs → Target
       by [] e right waits = absurd (ends-some e)
       by (x ∷ xs) e right waits =
           let j = Before.way-joins u (Before.first_of name t form past_of) x.way target x.from x.known waits.0 right.0.way in
@@ -124,18 +126,21 @@ module _ (f : Naming) (name : UnitName) (r : Region) (h : IsRegion f r) (target 
             join = Before.all-join name t form flat-plain it.course it.comes target it.one (flat_block_text f target b.0) (block-at-text f r h target b.0 b.1) (x ∷ xs) right waits;
           }
 
-  abbrev pub xs : List EdgeTo
+  abbrev pub xs : List RegionEdge
   xs = target-of.first ∷ target-of.more
 
   -- the second region starts at one more place, to which the ends lead
-  pub second-start : (past again : Region) → again.flat ≡ r.flat → again.parts ≡ r.parts → again.head ≡ r.head → past.flat ≡ r.flat → (ns ms : List Node) (w : Walk) (turns : ℕ) (s : Story) → IsWalk ns f name past w turns 0 s d → Grows ns ms
-      → (qs : List Place) (at : At) → IsBegun w.places.items target w.sources qs → BeginsJoined w.places.items w.sources qs → at.place ≡ length w.places.items → at.block ≡ target → at.turns ≡ 0 → Stands ms at.cond (bit_of true)
+  pub second-start : (past again : Region) → again.flat ≡ r.flat → again.parts ≡ r.parts → again.head ≡ r.head → past.flat ≡ r.flat → (ns ms : List Node) (w : Walk) (turns : ℕ) (s : Story)
+      → IsWalk ns f name past w turns 0 s d → Grows ns ms
+      → (qs : List PlaceState) (at : WalkPoint) → IsBegun w.places.items target w.sources qs → BeginsJoined w.places.items w.sources qs → at.place ≡ length w.places.items → at.block ≡ target
+      → at.turns ≡ 0 → StandsForTree ms at.cond (bit_of true)
       → IsStart ms f name again qs at s (with_place s (joined xs)) target-of.block target-of.first target-of.more
   second-start past again flat parts head past_flat ns ms w turns s k g qs at begun joins place block at_turns cond =
       let edges0 : AreEdges ns s w.sources xs = subst (AreEdges ns s w.sources) target-of.are (into-block ns s w.sources d.rows.ends 0 target k.course.so_far.sources) in
       let edges1 = edges-grown ns ms s w.sources xs g edges0 in
       let named : EdgesNamed u xs = subst (EdgesNamed u) target-of.are (named-ends u target d.rows.ends (subst (λ x. CourseNamed (process_by name f x.now) d) past_flat k.named).ends) in
-      let j = joins ms s target-of.first target-of.more (tells-grown ns ms w.places.items s.told g k.course.tells) k.course.places edges1 (can-begin u (as_block (flat_block_text f target target-of.block)) s xs target-of.join named) in
+      let j = joins ms s target-of.first target-of.more (tells-grown ns ms w.places.items s.told g k.course.tells) k.course.places edges1
+      (can-begin u (as_block (flat_block_text f target target-of.block)) s xs target-of.join named) in
       let place_is : s.places ≡ at.place = k.course.places ∙ sym place in
       record {
         region = region-like f r again flat parts head h;
@@ -152,21 +157,24 @@ module _ (f : Naming) (name : UnitName) (r : Region) (h : IsRegion f r) (target 
         known = subst (λ n. TellsKnown (with_place s (joined xs)) n (joined xs)) place_is j.known;
         cond = cond;
         edges = inr (subst (λ es. AreEdges ms s es xs) (sym (ap (edges_at qs) place ∙ edges-last w.places.items qs target w.sources begun)) edges1);
-        join = subst (λ x. Each (JoinEdge (process_by name f x.now) (as_block (flat_block_text f at.block target-of.block))) xs) (sym flat) (subst (λ n. Each (JoinEdge u (as_block (flat_block_text f n target-of.block))) xs) (sym block) target-of.join);
+        join = subst (λ x. Each (JoinEdge (process_by name f x.now) (as_block (flat_block_text f at.block target-of.block))) xs) (sym flat)
+            (subst (λ n. Each (JoinEdge u (as_block (flat_block_text f n target-of.block))) xs) (sym block) target-of.join);
         named = subst (λ x. EdgesNamed (process_by name f x.now) xs) (sym flat) named;
       }
 
   -- the second region of the definition
-  pub second-is : (again : Region) → again.flat ≡ r.flat → again.head ≡ r.head → again.is_past ≡ false → again.ends_at_head ≡ true → second_region t target ≡ region_from (region_text f again) target xs
+  pub second-is : (again : Region) → again.flat ≡ r.flat → again.head ≡ r.head → again.is_past ≡ false → again.ends_at_head ≡ true
+      → second_region t target ≡ region_from (region_text f again) target xs
   second-is again flat head now ends =
-      ap (λ (x : Coursed). then_course x (λ (c : Course). region_from (record { blocks = t.blocks; head = head_of t.blocks; probe = now_of; ends_at_head = true }) target (edges_of_ends target c.rows.ends))) before
+      ap (λ (x : Coursed). then_course x (λ (c : Course). region_from (record { blocks = t.blocks; head = head_of t.blocks; probe = now_of; ends_at_head = true }) target
+      (edges_of_ends target c.rows.ends))) before
       ∙ ap (region_from (record { blocks = t.blocks; head = head_of t.blocks; probe = now_of; ends_at_head = true }) target) target-of.are
       ∙ (λ i. region_from (record { blocks = (flat_text f (sym flat i).now).blocks; head = (head-same f name r h ∙ sym head) i; probe = probed (sym now i); ends_at_head = sym ends i }) target xs)
 
 -- ---- all names
 
 -- the place with which the second region starts, behind the places of the first one
-pub record IsNextPlace (past again r : Region) (target : ℕ) (ns ms : List Node) (w : Walk) (qs : List Place) (at : At) : Type 0 where
+pub record IsNextPlace (past again r : Region) (target : ℕ) (ns ms : List Node) (w : Walk) (qs : List PlaceState) (at : WalkPoint) : Type 0 where
   pub flat : again.flat ≡ r.flat
   pub parts : again.parts ≡ r.parts
   pub head : again.head ≡ r.head
@@ -177,14 +185,32 @@ pub record IsNextPlace (past again r : Region) (target : ℕ) (ns ms : List Node
   pub past_head : past.head ≡ r.head
   pub past_is : past.is_past ≡ true
   pub grows : Grows ns ms
-  pub begun : IsBegun w.places.items target w.sources qs
-  pub joins : BeginsJoined w.places.items w.sources qs
-  pub place : at.place ≡ length w.places.items
-  pub block : at.block ≡ target
-  pub turns : at.turns ≡ 0
-  pub cond : Stands ms at.cond (bit_of true)
+  pub behind : IsBehind w target ms qs at
 
-module _ (past again r : Region) (target : ℕ) (ns ms : List Node) (w : Walk) (qs : List Place) (at : At) (k : IsNextPlace past again r target ns ms w qs at) (first : GoesFirst past ns w) where
+-- the region by the values before, and the one that ends at its head
+abbrev pub past-of : Region → Region
+past-of r = record { flat = r.flat; parts = r.parts; head = r.head; is_past = true; ends_at_head = r.ends_at_head }
+
+abbrev pub again-of : Region → Region
+again-of r = record { flat = r.flat; parts = r.parts; head = r.head; is_past = r.is_past; ends_at_head = true }
+
+pub next-place : (r : Region) (target : ℕ) (ns ms : List Node) (w : Walk) (qs : List PlaceState) (at : WalkPoint) → r.is_past ≡ false → Grows ns ms → IsBehind w target ms qs at → IsNextPlace (past-of r) (again-of r) r target ns ms w qs at
+next-place r target ns ms w qs at now g b = record {
+  flat = refl;
+  parts = refl;
+  head = refl;
+  now = now;
+  ends_there = refl;
+  past_flat = refl;
+  past_parts = refl;
+  past_head = refl;
+  past_is = refl;
+  grows = g;
+  behind = b;
+}
+
+module _ (past again r : Region) (target : ℕ) (ns ms : List Node) (w : Walk) (qs : List PlaceState) (at : WalkPoint) (k : IsNextPlace past again r target ns ms w qs at)
+    (first : GoesFirst past ns w) where
   -- the first region by the values before
   record Walked (f : Naming) (name : UnitName) (h : IsRegion f r) : Type 0 where
     turns : ℕ
@@ -207,10 +233,12 @@ module _ (past again r : Region) (target : ℕ) (ns ms : List Node) (w : Walk) (
   abbrev target_in : (f : Naming) (name : UnitName) (h : IsRegion f r) (it : IsTarget f r target) → Target f name r h target it (walked f name h).course (walked f name h).is
   target_in f name h it = target-of f name r h target it (walked f name h).course (walked f name h).is
 
-  starts : (f : Naming) (name : UnitName) (h : IsRegion f r) (it : IsTarget f r target) → IsStart ms f name again qs at (walked f name h).story (with_place (walked f name h).story (joined ((target_in f name h it).first ∷ (target_in f name h it).more))) (target_in f name h it).block (target_in f name h it).first (target_in f name h it).more
+  starts : (f : Naming) (name : UnitName) (h : IsRegion f r) (it : IsTarget f r target)
+      → IsStart ms f name again qs at (walked f name h).story (with_place (walked f name h).story (joined ((target_in f name h it).first ∷ (target_in f name h it).more))) (target_in f name h it).block
+      (target_in f name h it).first (target_in f name h it).more
   starts f name h it =
       let x = walked f name h in
-      second-start f name r h target it x.course x.is past again k.flat k.parts k.head k.past_flat ns ms w x.turns x.story x.walk k.grows qs at k.begun k.joins k.place k.block k.turns k.cond
+      second-start f name r h target it x.course x.is past again k.flat k.parts k.head k.past_flat ns ms w x.turns x.story x.walk k.grows qs at k.behind.begun k.behind.joins k.behind.place k.behind.block k.behind.turns k.behind.cond
 
   abbrev any_name : Naming → UnitName
   any_name f = f.unit_name 0
@@ -231,11 +259,12 @@ module _ (past again r : Region) (target : ℕ) (ns ms : List Node) (w : Walk) (
       }
 
   -- what the definition comes to
-  from-there : (f : Naming) (name : UnitName) (h : IsRegion f r) (it : IsTarget f r target) → second_region (flat_text f r.flat.now) target ≡ region_from (region_text f again) at.block ((target_in f name h it).first ∷ (target_in f name h it).more)
+  from-there : (f : Naming) (name : UnitName) (h : IsRegion f r) (it : IsTarget f r target)
+      → second_region (flat_text f r.flat.now) target ≡ region_from (region_text f again) at.block ((target_in f name h it).first ∷ (target_in f name h it).more)
   from-there f name h it =
       let x = walked f name h in
       second-is f name r h target it x.course x.is again k.flat k.head k.now k.ends_there
-      ∙ ap (λ b. region_from (region_text f again) b ((target_in f name h it).first ∷ (target_in f name h it).more)) (sym k.block)
+      ∙ ap (λ b. region_from (region_text f again) b ((target_in f name h it).first ∷ (target_in f name h it).more)) (sym k.behind.block)
 
   pub second-through : (os : List Node) (z : Walk) → GoesThrough ms again qs at os z → SecondRows r target os z.rows
   second-through os z g f h it =
@@ -260,5 +289,6 @@ past-stops past r target flat parts head is e g f h it = by (refusal_of e) (g f 
     by : (o : Option RegionRefusal) → StopsFor (first_region (flat_text f past.flat.now) (probed past.is_past)) o → StopsFor (second_region (flat_text f r.flat.now) target) o
     by None k = tt
     by (Some y) k =
-        ap (λ (x : Coursed). then_course x (λ (c : Course). region_from (record { blocks = (flat_text f r.flat.now).blocks; head = head_of (flat_text f r.flat.now).blocks; probe = now_of; ends_at_head = true }) target (edges_of_ends target c.rows.ends)))
+        ap (λ (x : Coursed). then_course x (λ (c : Course). region_from
+        (record { blocks = (flat_text f r.flat.now).blocks; head = head_of (flat_text f r.flat.now).blocks; probe = now_of; ends_at_head = true }) target (edges_of_ends target c.rows.ends)))
         ((λ i. first_region (flat_text f (sym flat i).now) (probed (sym is i))) ∙ k)

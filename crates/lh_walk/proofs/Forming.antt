@@ -19,7 +19,7 @@ use Rattle.lh_unit.specs.declared.inst.ValueId.{ValueId}
 use Rattle.lh_unit.specs.declared.inst.Inst.{Inst}
 use Rattle.lh_unit.specs.declared.inst.Inst.TheVariants as inst
 use Rattle.lh_formed.specs.Shape.{EndsOnce}
-use Rattle.lh_eval.specs.Sound.{IsSound, IsWrittenRight}
+use Rattle.lh_eval.specs.Sound.{InstIsSound, IsWrittenRight}
 use Rattle.lh_eval.proofs.GivesFit.{constants-fit}
 use Rattle.lh_flat.specs.declared.flat.Merge.{Merge}
 use Rattle.lh_flat.specs.declared.flat.FlatInst.{FlatInst}
@@ -106,7 +106,8 @@ head-within t b l = by t.blocks refl
         at true o q = l
         at false None q = l
         at false (Some c) q =
-            let w = subst (λ (bs : List FlatBlock). Each (λ (b : FlatBlock). Each (λ (l : FlatInst). LeadsWithin (length t.blocks) l.inst) b.insts) bs) e (blocks-within t.values (length t.blocks) t.blocks b.blocks) in
+            let w = subst (λ (bs : List FlatBlock). Each (λ (b : FlatBlock). Each (λ (l : FlatInst). LeadsWithin (length t.blocks) l.inst) b.insts) bs) e
+            (blocks-within t.values (length t.blocks) t.blocks b.blocks) in
             on-within (length t.blocks) entry.insts c w.0 q
 
 some-block : (f : Naming) (bs : List FlatBlock) → (b : BlockText) × (more : List BlockText) × (map as_block (flat_blocks_text f 0 bs) ≡ b ∷ more) → 0 < length bs
@@ -135,7 +136,7 @@ phi-agrees f t k b e =
 
 -- ---- the constants of the entry
 
-const-fits : (u : UnitText) (l : LineText) (d : Datum) (n : List ℕ) → IsSound u l → l.inst ≡ const_text d → l.result ≡ Some n → IsSome (value_type u n) → FitsTerm d
+const-fits : (u : UnitText) (l : LineText) (d : Datum) (n : List ℕ) → InstIsSound u l → l.inst ≡ const_text d → l.result ≡ Some n → IsSome (value_type u n) → FitsTerm d
 const-fits u l d n s i r g = by (value_type u n) refl g
   where
     by : (o : Option TypeTree) → value_type u n ≡ o → IsSome o → FitsTerm d
@@ -145,12 +146,14 @@ const-fits u l d n s i r g = by (value_type u n) refl g
         let k = constants-fit 0 d w (datum_held d) t refl (ap result_type (sym i) ∙ sym (s.gives n r) ∙ q) in
         (constant-typed d t k.0 k.1).0
 
-given-fits : (f : Naming) (u : UnitText) (o : Option ValueId) (i : Inst) → IsSound u (flat_line_text f (record { result = o; inst = i })) → ((n : List ℕ) → maybe_text f o ≡ Some n → IsSome (value_type u n)) → GivenFits o i
+given-fits : (f : Naming) (u : UnitText) (o : Option ValueId) (i : Inst) → InstIsSound u (flat_line_text f (record { result = o; inst = i }))
+    → ((n : List ℕ) → maybe_text f o ≡ Some n → IsSome (value_type u n)) → GivenFits o i
 given-fits f u None i s g = tt
 given-fits f u (Some v) (inst.Const x) s g = const-fits u (flat_line_text f (record { result = Some v; inst = inst.Const x })) (datum_of x) (f.value_name v.0) s refl refl (g (f.value_name v.0) refl)
 given-fits f u (Some v) _ s g = tt
 
-all-fit : (f : Naming) (u : UnitText) (ls : List FlatInst) → Each (IsSound u) (map (flat_line_text f) ls) → Each (λ (l : LineText). (n : List ℕ) → l.result ≡ Some n → IsSome (value_type u n)) (map (flat_line_text f) ls) → Each (λ (l : FlatInst). GivenFits l.result l.inst) ls
+all-fit : (f : Naming) (u : UnitText) (ls : List FlatInst) → Each (InstIsSound u) (map (flat_line_text f) ls)
+    → Each (λ (l : LineText). (n : List ℕ) → l.result ≡ Some n → IsSome (value_type u n)) (map (flat_line_text f) ls) → Each (λ (l : FlatInst). GivenFits l.result l.inst) ls
 all-fit f u [] s g = tt
 all-fit f u (l ∷ ls) s g = (given-fits f u l.result l.inst s.0 g.0, all-fit f u ls s.1 g.1)
 
@@ -173,8 +176,10 @@ entry-fits f name t n head = by t.blocks refl
 
         fit : Each (λ (l : FlatInst). GivenFits l.result l.inst) entry.insts
         fit = all-fit f u entry.insts
-            (each-behind (IsSound u) (option_map (merge_text f) entry.merge) (map (flat_line_text f) entry.insts) (block-lines (IsSound u) u.blocks 0 (as_block (flat_block_text f 0 entry)) (n.formed name).lines text))
-            (each-behind (λ (l : LineText). (n : List ℕ) → l.result ≡ Some n → IsSome (value_type u n)) (option_map (merge_text f) entry.merge) (map (flat_line_text f) entry.insts) (block-lines (λ (l : LineText). (n : List ℕ) → l.result ≡ Some n → IsSome (value_type u n)) u.blocks 0 (as_block (flat_block_text f 0 entry)) (n.formed name).given text))
+            (each-behind (InstIsSound u) (option_map (merge_text f) entry.merge) (map (flat_line_text f) entry.insts)
+            (block-lines (InstIsSound u) u.blocks 0 (as_block (flat_block_text f 0 entry)) (n.formed name).lines text))
+            (each-behind (λ (l : LineText). (n : List ℕ) → l.result ≡ Some n → IsSome (value_type u n)) (option_map (merge_text f) entry.merge) (map (flat_line_text f) entry.insts)
+            (block-lines (λ (l : LineText). (n : List ℕ) → l.result ≡ Some n → IsSome (value_type u n)) u.blocks 0 (as_block (flat_block_text f 0 entry)) (n.formed name).given text))
 
         at : (x : Bool) → Each (λ (l : FlatInst). GivenFits l.result l.inst) (if x then [] else entry.insts)
         at true = tt

@@ -6,7 +6,6 @@ use Rattle.lh_types.specs.Types.{TypeTree, signal_type, bit_count}
 use Rattle.lh_types.specs.Parts as Parts
 use Rattle.lh_types.specs.Parts.{part_range}
 use Rattle.lh_types.specs.declared.op.Op.{Op}
-use Rattle.lh_types.specs.declared.op.Op.TheVariants as op
 use Rattle.lh_types.specs.declared.part.Range.{Range}
 use Rattle.lh_types.specs.declared.part.Step.{Step}
 use Rattle.lh_unit.specs.declared.name.UnitName.{UnitName}
@@ -27,7 +26,7 @@ use Rattle.lh_unit.proofs.Tables.{same_name-refl}
 use Rattle.lh_unit.proofs.Within.{Each-more}
 use Rattle.lh_formed.specs.Parts.{TakesPart, HasPart}
 use Rattle.lh_formed.proofs.PartsLaw.{parts_have_ranges}
-use Rattle.lh_eval.specs.Sound.{IsSound}
+use Rattle.lh_eval.specs.Sound.{InstIsSound}
 use Rattle.lh_sound.specs.Units.{HasItsType}
 use Rattle.lh_formed.proofs.EachItem.{each-split}
 use Rattle.lh_formed.proofs.PartSteps.{leads-is, takes-part, step-type}
@@ -58,7 +57,8 @@ unmerged : (P : LineText → Type 0) (f : Naming) (m : Option Merge) (ls : List 
 unmerged P f None ls h = h
 unmerged P f (Some m) ls h = h.1
 
-each-inst : (P : LineText → Type 0) (f : Naming) (k : ℕ) (bs : List FlatBlock) → Each P (lines_of (map as_block (flat_blocks_text f k bs))) → Each (λ (m : FlatInst). P (flat_line_text f m)) (insts_in bs)
+each-inst : (P : LineText → Type 0) (f : Naming) (k : ℕ) (bs : List FlatBlock) → Each P (lines_of (map as_block (flat_blocks_text f k bs)))
+    → Each (λ (m : FlatInst). P (flat_line_text f m)) (insts_in bs)
 each-inst P f k [] h = tt
 each-inst P f k (b ∷ bs) h =
     let s = each-split P (with_merge (option_map (merge_text f) b.merge) (map (flat_line_text f) b.insts)) (lines_of (map as_block (flat_blocks_text f (k + 1) bs))) h in
@@ -114,7 +114,16 @@ one-step (inst.Pure o (x ∷ [])) s e = by (step_of o) refl (option_and_then car
     by (Some k) q None c g = absurd (none-some s g)
     by (Some k) q (Some t) c g =
         let z = same_Some (record { from = x.value; op = o; ty = t }) s g in
-        record { by-op = o; operand = x; kind = k; is = refl; of = q; written = carried-is x.ty t c ∙ ap (λ (y : PartStep). Some (signal_type y.ty)) z; from = ap (λ (y : PartStep). y.from) z; same-op = ap (λ (y : PartStep). y.op) z }
+        record {
+          by-op = o;
+          operand = x;
+          kind = k;
+          is = refl;
+          of = q;
+          written = carried-is x.ty t c ∙ ap (λ (y : PartStep). Some (signal_type y.ty)) z;
+          from = ap (λ (y : PartStep). y.from) z;
+          same-op = ap (λ (y : PartStep). y.op) z;
+        }
 one-step _ s e = absurd (none-some s e)
 
 -- ---- the argument that a value is
@@ -161,7 +170,8 @@ same-carried : (x y : TypeTree) → signal_type x ≡ signal_type y → x ≡ y
 same-carried x y e = cc
 
 -- the part that is taken of a signal has the bits of the type that is written
-taken-fits : (u : UnitText) (x : OperandText) (k : Step) (whole ty : TypeTree) (r : Range) → TakesPart u k (x ∷ []) → value_type u x.value ≡ Some (signal_type whole) → x.ty ≡ Some (signal_type ty) → Parts.range_of whole (k ∷ []) ≡ Some r → r.len ≡ bit_count ty
+taken-fits : (u : UnitText) (x : OperandText) (k : Step) (whole ty : TypeTree) (r : Range) → TakesPart u k (x ∷ []) → value_type u x.value ≡ Some (signal_type whole) → x.ty ≡ Some (signal_type ty)
+    → Parts.range_of whole (k ∷ []) ≡ Some r → r.len ≡ bit_count ty
 taken-fits u x k whole ty r t v w g =
     let same : x ≡ t.operand = cc_operand in
     let z = leads-is k t.whole t.of whole t.leads (same_Some t.whole (signal_type whole) (sym t.is ∙ ap (λ (y : OperandText). value_type u y.value) (sym same) ∙ v)) in
@@ -182,10 +192,10 @@ module _ (name : UnitName) (f : Naming) (t : Flat) (n : Names t f) (below : IdsB
   u = process_by name f t
 
   abbrev Right : FlatInst → Type 0
-  Right m = IsSound u (flat_line_text f m)
+  Right m = InstIsSound u (flat_line_text f m)
 
   all-right : Each Right (insts_in t.blocks)
-  all-right = each-inst (IsSound u) f 0 t.blocks (n.formed name).lines
+  all-right = each-inst (InstIsSound u) f 0 t.blocks (n.formed name).lines
 
   abbrev Within : FlatInst → Type 0
   Within m = InstBelow t.values (length t.blocks) m
@@ -235,11 +245,13 @@ module _ (name : UnitName) (f : Naming) (t : Flat) (n : Names t f) (below : IdsB
           let h = in-each (HasItsType u) u.args (arg_text f a.arg) (n.formed name).args (arg-among f a.arg t.args a.among) in
           ap (λ (i : ℕ). value_type u (f.value_name i)) (sym a.value) ∙ h ∙ carried-is (Some a.arg.ty) p.ty a.carries ∙ ap (λ (y : TypeTree). Some (signal_type y)) (same_Some p.ty whole g)
 
-      by : (o : Option PartStep) → step_giving (insts_in t.blocks) v ≡ o → or_else (option_map (λ (s : PartStep). s.ty) o) (option_map (λ (p : Part). p.ty) (argument_of t.args v)) ≡ Some whole → value_type u (f.value_name v) ≡ Some (signal_type whole)
+      by : (o : Option PartStep) → step_giving (insts_in t.blocks) v ≡ o → or_else (option_map (λ (s : PartStep). s.ty) o) (option_map (λ (p : Part). p.ty) (argument_of t.args v)) ≡ Some whole
+          → value_type u (f.value_name v) ≡ Some (signal_type whole)
       by None q g = argument (argument_of t.args v) refl g
       by (Some s) q g = (step-here v s q).type ∙ ap (λ (y : TypeTree). Some (signal_type y)) (same_Some s.ty whole g)
 
-  fits : (v : ℕ) (s : PartStep) (whole : TypeTree) (r : Range) → step_giving (insts_in t.blocks) v ≡ Some s → type_carried t s.from.0 ≡ Some whole → range_by whole s.op ≡ Some r → r.len ≡ bit_count s.ty
+  fits : (v : ℕ) (s : PartStep) (whole : TypeTree) (r : Range) → step_giving (insts_in t.blocks) v ≡ Some s → type_carried t s.from.0 ≡ Some whole → range_by whole s.op ≡ Some r
+      → r.len ≡ bit_count s.ty
   fits v s whole r e c g =
       let h = step-here v s e in
       taken-fits u h.operand h.kind whole s.ty r h.takes (ap (value_type u) h.name-is ∙ carries s.from.0 whole c) h.written

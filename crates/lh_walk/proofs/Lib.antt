@@ -1,5 +1,5 @@
 pub mod Answered
-pub mod Answering
+pub mod BothRegions
 pub mod CanBeginning
 pub mod Choosing
 pub mod Constants

@@ -19,8 +19,8 @@ use Rattle.lh_term.specs.Tree.{Tree}
 use Rattle.lh_term.specs.Make.{is_zero, make_operation}
 use Rattle.lh_term.specs.declared.part.Part.{Part}
 use Rattle.lh_rows.specs.Known.{Known, known_value, known_cell, known_part, Knowledge, nothing_known, with_known, with_given, value_known, part_known, with_arguments, whole_argument}
-use Rattle.lh_rows.specs.Rows.{Drive, Way, enters_head, End, Rows}
-use Rattle.lh_rows.specs.Joins.{Place, Edge, joined, with_phi, with_phis, known_at}
+use Rattle.lh_rows.specs.Rows.{Drive, Way, enters_head, RegionEnd, Rows}
+use Rattle.lh_rows.specs.Joins.{RegionPlace, RegionEdge, joined, with_phi, with_phis, known_at}
 use Rattle.lh_rows.specs.Places.{Region, Here, Midst, gives, probes, with_drive, drive_cond, drives, asserts, ends, goes, goes_if, both, leads, branches, ends_if, block_number, next_place, takes, takes_all}
 use Rattle.lh_rows.specs.Regions.{Course, comes_to, is_place, edges_to, edges_of_ends, through_block, through, through_reached, head_of, with_constant, with_constants, lines_at, known_first}
 use Rattle.lh_rows.specs.Right.{as_block}
@@ -43,10 +43,10 @@ StoreNamed u _ = Unit {0}
 abbrev LineNamed : UnitText → LineText → Type 0
 LineNamed u l = ResultNamed u l.result × StoreNamed u l.inst
 
-abbrev EndNamed : UnitText → End → Type 0
+abbrev EndNamed : UnitText → RegionEnd → Type 0
 EndNamed u x = KnowsNamed u x.known
 
-abbrev EdgeNamed : UnitText → Edge → Type 0
+abbrev EdgeNamed : UnitText → RegionEdge → Type 0
 EdgeNamed u e = KnowsNamed u e.known
 
 -- what is known in the midst of a place, and on the edges and at the ends so far
@@ -75,7 +75,7 @@ module _ (u : UnitText) where
 
   -- ---- where edges join
 
-  joined-named : (e : Edge) (es : List Edge) → EdgesNamed u (e ∷ es) → KnowsNamed u (joined (e ∷ es))
+  joined-named : (e : RegionEdge) (es : List RegionEdge) → EdgesNamed u (e ∷ es) → KnowsNamed u (joined (e ∷ es))
   joined-named e es h n x q = by x (join-case (e ∷ es) n x q)
     where
       first-value : (ts : List Tree) → GiveEach (value_on n) (e ∷ es) ts → IsSome (value_type u n)
@@ -95,11 +95,11 @@ module _ (u : UnitText) where
       by _ (of_cell t m) = let a = merged-of (cell_on n) (e ∷ es) t m in first-cell a.trees a.each
       by _ (of_part p ps m f) = first-part ps (given-each (part_on n) (e ∷ es) ps m)
 
-  phi-named : (es : List Edge) (i : InstText) (r : Option (List ℕ)) (k : Knowledge) → KnowsNamed u k → ResultNamed u r → KnowsNamed u (with_phi es i r k)
+  phi-named : (es : List RegionEdge) (i : InstText) (r : Option (List ℕ)) (k : Knowledge) → KnowsNamed u k → ResultNamed u r → KnowsNamed u (with_phi es i r k)
   phi-named es (phi_text ty ops) r k h t = named-given k r _ h t
   phi-named es _ r k h t = h
 
-  phis-named : (es : List Edge) (ls : List LineText) (k : Knowledge) → Each (LineNamed u) ls → KnowsNamed u k → KnowsNamed u (with_phis es ls k)
+  phis-named : (es : List RegionEdge) (ls : List LineText) (k : Knowledge) → Each (LineNamed u) ls → KnowsNamed u k → KnowsNamed u (with_phis es ls k)
   phis-named es [] k t h = h
   phis-named es (l ∷ ls) k t h = phi-named es l.inst l.result (with_phis es ls k) (phis-named es ls k t.1 h) t.0.0
 
@@ -131,14 +131,23 @@ module _ (u : UnitText) where
   asserts-named m (Some ts) s = record { known = s.known; edges = s.edges; ends = s.ends }
 
   ends-named : (h : Here) (c : Tree) (m : Midst) (w : Way) → MidstNamed u m → MidstNamed u (ends h c m w)
-  ends-named h c m w s = record { known = s.known; edges = s.edges; ends = Each-append (EndNamed u) m.rows.ends (record { cond = c; way = w; from = h.label; known = m.known } ∷ []) s.ends (s.known, tt) }
+  ends-named h c m w s = record {
+    known = s.known;
+    edges = s.edges;
+    ends = Each-append (EndNamed u) m.rows.ends (record { cond = c; way = w; from = h.label; known = m.known } ∷ []) s.ends
+        (s.known, tt);
+  }
 
   goes-named : (g : Region) (h : Here) (c : Tree) (m : Midst) (b : ℕ) → MidstNamed u m → MidstNamed u (goes g h c m b)
   goes-named g h c m b s = by (g.ends_at_head && nat_eq b g.head)
     where
       by : (t : Bool) → MidstNamed u (if t then ends h c m enters_head else record m { edges = m.edges ++ record { to = next_place h.place b; from = h.label; cond = c; known = m.known } ∷ [] })
       by true = ends-named h c m enters_head s
-      by false = record { known = s.known; edges = Each-append (EdgeNamed u) m.edges (record { to = next_place h.place b; from = h.label; cond = c; known = m.known } ∷ []) s.edges (s.known, tt); ends = s.ends }
+      by false = record {
+        known = s.known;
+        edges = Each-append (EdgeNamed u) m.edges (record { to = next_place h.place b; from = h.label; cond = c; known = m.known } ∷ []) s.edges (s.known, tt);
+        ends = s.ends;
+      }
 
   leads-named : (g : Region) (h : Here) (c : Tree) (label : List ℕ) (m : Midst) → MidstNamed u m → MidstNamed u (leads g h c label m)
   leads-named g h c label m s = by (is_zero c) (block_number label g.blocks)
@@ -193,7 +202,7 @@ module _ (u : UnitText) where
 
   -- ---- edges
 
-  pub named-to : (p : Place) (es : List Edge) → EdgesNamed u es → EdgesNamed u (edges_to p es)
+  pub named-to : (p : RegionPlace) (es : List RegionEdge) → EdgesNamed u es → EdgesNamed u (edges_to p es)
   named-to p [] h = tt
   named-to p (e ∷ es) h = by (is_place e.to p) (named-to p es h.1)
     where
@@ -201,7 +210,7 @@ module _ (u : UnitText) where
       by true t = (h.0, t)
       by false t = t
 
-  pub named-ends : (b : ℕ) (xs : List End) → Each (EndNamed u) xs → EdgesNamed u (edges_of_ends b xs)
+  pub named-ends : (b : ℕ) (xs : List RegionEnd) → Each (EndNamed u) xs → EdgesNamed u (edges_of_ends b xs)
   named-ends b [] h = tt
   named-ends b (x ∷ xs) h = (h.0, named-ends b xs h.1)
 
@@ -212,7 +221,8 @@ module _ (u : UnitText) where
     named-lines i b q = block-named r.formed i (as_block b) (ap (λ (bs : List BlockText). slice_get bs i) r.blocks ∙ block-text g.blocks i b q)
 
     -- A place that is treated makes known what has names with types.
-    pub named-place : (p : Place) (q : Tree) (e : Edge) (es : List Edge) (c d : Course) (b : FlatBlockText) → slice_get g.blocks p.block ≡ Some b → EdgesNamed u (e ∷ es) → CourseNamed u c → through_block g p q (e ∷ es) c b ≡ comes_to d → CourseNamed u d
+    pub named-place : (p : RegionPlace) (q : Tree) (e : RegionEdge) (es : List RegionEdge) (c d : Course) (b : FlatBlockText) → slice_get g.blocks p.block ≡ Some b → EdgesNamed u (e ∷ es)
+        → CourseNamed u c → through_block g p q (e ∷ es) c b ≡ comes_to d → CourseNamed u d
     named-place p q e es c d b at h n t =
         let z = treated u g r p q (e ∷ es) c b d t in
         let ls = named-lines p.block b at in
@@ -224,17 +234,18 @@ module _ (u : UnitText) where
           ends = subst (λ (x : Rows). Each (EndNamed u) x.ends) (sym z.rows) w.ends;
         }
 
-    pub named-through : (p : Place) (q : Tree) (e : Edge) (es : List Edge) (c d : Course) → EdgesNamed u (e ∷ es) → CourseNamed u c → through g p q (e ∷ es) c ≡ comes_to d → CourseNamed u d
+    pub named-through : (p : RegionPlace) (q : Tree) (e : RegionEdge) (es : List RegionEdge) (c d : Course) → EdgesNamed u (e ∷ es) → CourseNamed u c → through g p q (e ∷ es) c ≡ comes_to d
+        → CourseNamed u d
     named-through p q e es c d h n t = by (slice_get g.blocks p.block) refl t
       where
         by : (o : Option FlatBlockText) → slice_get g.blocks p.block ≡ o → option_map_or (through_block g p q (e ∷ es) c) o (comes_to c) ≡ comes_to d → CourseNamed u d
         by None a f = subst (CourseNamed u) (coursed-is c d f) n
         by (Some b) a f = named-place p q e es c d b a h n f
 
-    pub named-reached : (p : Place) (c d : Course) → CourseNamed u c → through_reached g p (edges_to p c.edges) c ≡ comes_to d → CourseNamed u d
+    pub named-reached : (p : RegionPlace) (c d : Course) → CourseNamed u c → through_reached g p (edges_to p c.edges) c ≡ comes_to d → CourseNamed u d
     named-reached p c d n t = by (edges_to p c.edges) (named-to p c.edges n.edges) t
       where
-        by : (es : List Edge) → EdgesNamed u es → through_reached g p es c ≡ comes_to d → CourseNamed u d
+        by : (es : List RegionEdge) → EdgesNamed u es → through_reached g p es c ≡ comes_to d → CourseNamed u d
         by [] h f = subst (CourseNamed u) (coursed-is c d f) n
         by (e ∷ es) h f = named-through p _ e es c d h n f
 

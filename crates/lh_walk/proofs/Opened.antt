@@ -26,7 +26,7 @@ use Rattle.lh_term.specs.Arena.{Grows}
 use Rattle.lh_term.specs.declared.term.Node.{Node}
 use Rattle.lh_term.proofs.Swaps.{stands_grown}
 use Rattle.lh_rows.specs.Known.{Knowledge}
-use Rattle.lh_rows.specs.Joins.{Edge as EdgeTo, joined, with_phi, with_phis, known_at}
+use Rattle.lh_rows.specs.Joins.{RegionEdge, joined, with_phi, with_phis, known_at}
 use Rattle.lh_rows.specs.Places.{Here}
 use Rattle.lh_rows.specs.Regions.{Course}
 use Rattle.lh_rows.specs.Typed.{KnowsThere, PhiKnown, JoinEdge}
@@ -35,10 +35,10 @@ use Rattle.lh_rows.proofs.Sites.{LineGood, good-lines}
 use Rattle.lh_rows.proofs.Labels.{block-text}
 use Rattle.lh_rows.proofs.Knowing.{there-past}
 use Rattle.lh_rows.proofs.Phis.{known-typed-at, known-there-at, phis-given-at}
-use Rattle.lh_region.specs.declared.state.Place.{Place}
+use Rattle.lh_region.specs.declared.state.PlaceState.{PlaceState}
 use Rattle.lh_walk.specs.declared.walk.Region.{Region}
 use Rattle.lh_walk.specs.declared.walk.Walk.{Walk}
-use Rattle.lh_walk.specs.declared.walk.At.{At}
+use Rattle.lh_walk.specs.declared.walk.WalkPoint.{WalkPoint}
 use Rattle.lh_region.specs.Asked.{edges_at}
 use Rattle.lh_region.specs.Gives.{ValuesDiffer}
 use Rattle.lh_region.specs.Heads as heads
@@ -56,18 +56,18 @@ merge_line m = record { result = Some m.value; inst = phi_text m.ty m.edges }
 
 -- ---- what each edge has for each line
 
-abbrev PhisKnown : List LineText → EdgeTo → Type 0
+abbrev PhisKnown : List LineText → RegionEdge → Type 0
 PhisKnown ls e = Each (λ (l : LineText). PhiKnown e l.inst) ls
 
-phis-head : (l : LineText) (ls : List LineText) (es : List EdgeTo) → Each (PhisKnown (l ∷ ls)) es → Each (λ (e : EdgeTo). PhiKnown e l.inst) es
+phis-head : (l : LineText) (ls : List LineText) (es : List RegionEdge) → Each (PhisKnown (l ∷ ls)) es → Each (λ (e : RegionEdge). PhiKnown e l.inst) es
 phis-head l ls [] h = tt
 phis-head l ls (e ∷ es) h = (h.0.0, phis-head l ls es h.1)
 
-phis-tail : (l : LineText) (ls : List LineText) (es : List EdgeTo) → Each (PhisKnown (l ∷ ls)) es → Each (PhisKnown ls) es
+phis-tail : (l : LineText) (ls : List LineText) (es : List RegionEdge) → Each (PhisKnown (l ∷ ls)) es → Each (PhisKnown ls) es
 phis-tail l ls [] h = tt
 phis-tail l ls (e ∷ es) h = (h.0.1, phis-tail l ls es h.1)
 
-join-phis : (u : UnitText) (b : BlockText) (es : List EdgeTo) → Each (JoinEdge u b) es → Each (PhisKnown b.lines) es
+join-phis : (u : UnitText) (b : BlockText) (es : List RegionEdge) → Each (JoinEdge u b) es → Each (PhisKnown b.lines) es
 join-phis u b [] h = tt
 join-phis u b (e ∷ es) h = (h.0.phis, join-phis u b es h.1)
 
@@ -93,16 +93,18 @@ merge-edges : (f : Naming) (es : List MergeEdge) → map (edge_text f) (as_phis 
 merge-edges f [] = refl
 merge-edges f (e ∷ es) = let t = merge-edges f es in λ i. merge_edge_text f e ∷ t i
 
-module _ (f : Naming) (n m : ℕ) (s : Story) (naming : s.naming ≡ f) (values : s.values ≡ n) (blocks : s.blocks ≡ m) (es : List EdgeTo) where
-  phi-by : (v : ℕ) (ops : List PhiEdge) → v < n → AreFrom m ops → Each (λ (e : PhiEdge). e.value.0 < n) ops → (ty : _) → Each (λ (e : EdgeTo). PhiKnown e (phi_text ty (map (edge_text f) ops))) es → IsPhi s es v ty ops
+module _ (f : Naming) (n m : ℕ) (s : Story) (naming : s.naming ≡ f) (values : s.values ≡ n) (blocks : s.blocks ≡ m) (es : List RegionEdge) where
+  phi-by : (v : ℕ) (ops : List PhiEdge) → v < n → AreFrom m ops → Each (λ (e : PhiEdge). e.value.0 < n) ops → (ty : _) → Each (λ (e : RegionEdge). PhiKnown e (phi_text ty (map (edge_text f) ops))) es
+      → IsPhi s es v ty ops
   phi-by v ops l a b ty k = record {
     value = subst (λ (i : ℕ). v < i) (sym values) l;
     from = subst (λ (i : ℕ). AreFrom i ops) (sym blocks) a;
     values = subst (λ (i : ℕ). Each (λ (e : PhiEdge). e.value.0 < i) ops) (sym values) b;
-    known = subst (λ (g : Naming). Each (λ (e : EdgeTo). PhiKnown e (phi_text ty (map (edge_text g) ops))) es) (sym naming) k;
+    known = subst (λ (g : Naming). Each (λ (e : RegionEdge). PhiKnown e (phi_text ty (map (edge_text g) ops))) es) (sym naming) k;
   }
 
-  line-fits : (r : Option ValueId) (i : Inst) → ValuesBelow n (maybe_id r) → ValuesBelow n (values_used i) → Each (λ (b : BlockId). b.0 < m) (blocks_named i) → Each (λ (e : EdgeTo). PhiKnown e (inst_text f i)) es → PhiFits s es r i
+  line-fits : (r : Option ValueId) (i : Inst) → ValuesBelow n (maybe_id r) → ValuesBelow n (values_used i) → Each (λ (b : BlockId). b.0 < m) (blocks_named i)
+      → Each (λ (e : RegionEdge). PhiKnown e (inst_text f i)) es → PhiFits s es r i
   line-fits None i a u d k = tt
   line-fits (Some v) (inst.Phi ty ops) a u d k = phi-by v.0 ops a.0 (blocks-from m ops d) (values-below n ops u) ty k
   line-fits (Some v) _ a u d k = tt
@@ -118,14 +120,15 @@ module _ (f : Naming) (n m : ℕ) (s : Story) (naming : s.naming ≡ f) (values 
   merge-fits None ls h k = tt
   merge-fits (Some g) ls h k =
       phi-by g.value.0 (as_phis g.edges) h.value (merge-from n m g.edges h.edges) (merge-below n m g.edges h.edges) g.ty
-      (subst (λ (ops : List _). Each (λ (e : EdgeTo). PhiKnown e (phi_text g.ty ops)) es) (sym (merge-edges f g.edges)) (phis-head (merge_line (merge_text f g)) ls es k))
+      (subst (λ (ops : List _). Each (λ (e : RegionEdge). PhiKnown e (phi_text g.ty ops)) es) (sym (merge-edges f g.edges)) (phis-head (merge_line (merge_text f g)) ls es k))
 
   lines-part : (o : Option MergeText) (ls : List LineText) → Each (PhisKnown (with_merge o ls)) es → Each (PhisKnown ls) es
   lines-part None ls k = k
   lines-part (Some g) ls k = phis-tail (merge_line g) ls es k
 
   -- what is known after the lines and the merge is what the definition knows before the lines
-  merged-known : (o : Option Merge) (ls : List FlatInst) (k : Knowledge) → merge_given s es o (phis_given s es ls k) ≡ with_phis es (with_merge (option_map (merge_text f) o) (map (flat_line_text f) ls)) k
+  merged-known : (o : Option Merge) (ls : List FlatInst) (k : Knowledge)
+      → merge_given s es o (phis_given s es ls k) ≡ with_phis es (with_merge (option_map (merge_text f) o) (map (flat_line_text f) ls)) k
   merged-known None ls k = ap (λ (g : Naming). with_phis es (map (flat_line_text g) ls) k) naming
   merged-known (Some a) ls k =
       ap (λ (g : Naming). with_phi es (phi_text a.ty (map (edge_text g) (as_phis a.edges))) (Some (g.value_name a.value.0)) (with_phis es (map (flat_line_text g) ls) k)) naming
@@ -133,7 +136,8 @@ module _ (f : Naming) (n m : ℕ) (s : Story) (naming : s.naming ≡ f) (values 
 
 -- ---- a walk of which only the places change
 
-pub so-far-same : (ns : List Node) (f : Naming) (r : Region) (w q : Walk) (turns block : ℕ) (s : Story) (c : Course) → q.ahead ≡ w.ahead → q.insts ≡ w.insts → q.rows ≡ w.rows → q.sources ≡ w.sources → IsSoFar ns f r w turns block s c → IsSoFar ns f r q turns block s c
+pub so-far-same : (ns : List Node) (f : Naming) (r : Region) (w q : Walk) (turns block : ℕ) (s : Story) (c : Course) → q.ahead ≡ w.ahead → q.insts ≡ w.insts → q.rows ≡ w.rows → q.sources ≡ w.sources
+    → IsSoFar ns f r w turns block s c → IsSoFar ns f r q turns block s c
 so-far-same ns f r w q turns block s c a n b d h =
     subst (λ (p : Walk). IsSoFar ns f r p turns block s c) (λ i. record { places = q.places; ahead = sym a i; insts = sym n i; rows = sym b i; sources = sym d i })
     (record {
@@ -155,11 +159,13 @@ merge-split : (o : Option MergeText) (ls : List LineText) → with_merge o ls �
 merge-split None ls = refl
 merge-split (Some m) ls = refl
 
-merge-there : (u : UnitText) (b : BlockText) (o : Option MergeText) (ls : List LineText) (k : Knowledge) → KnowsThere u b [] k → PhisGiven k (with_merge o ls) → KnowsThere u b (merge_lines o) k × PhisGiven k ls
+merge-there : (u : UnitText) (b : BlockText) (o : Option MergeText) (ls : List LineText) (k : Knowledge) → KnowsThere u b [] k → PhisGiven k (with_merge o ls) → KnowsThere u b (merge_lines o) k
+    × PhisGiven k ls
 merge-there u b None ls k t p = (t, p)
 merge-there u b (Some m) ls k t p = (there-past u b [] (merge_line m) k k t (λ n z. z) (λ n ty v w q. p.0 n q), p.1)
 
-module _ (ns : List Node) (f : Naming) (name : UnitName) (r : Region) (w : Walk) (at : At) (before : Story) (h : Here) (b : FlatBlock) (x : EdgeTo) (xs : List EdgeTo) (c : Course) (o : IsOpened ns f name r w at before h b x xs c) where
+module _ (ns : List Node) (f : Naming) (name : UnitName) (r : Region) (w : Walk) (at : WalkPoint) (before : Story) (h : Here) (b : FlatBlock) (x : RegionEdge) (xs : List RegionEdge) (c : Course)
+    (o : IsOpened ns f name r w at before h b x xs c) where
   abbrev text : FlatBlockText
   text = flat_block_text f at.block b
 
@@ -210,7 +216,8 @@ module _ (ns : List Node) (f : Naming) (name : UnitName) (r : Region) (w : Walk)
   -- ---- before the lines
 
   block-good : Each (LineGood unit) (as_block text).lines
-  block-good = good-lines unit (o.region.names.formed name) at.block (as_block text) (block-text (flat_blocks_text f 0 r.flat.now.blocks) at.block text (block-text-at f r.flat.now.blocks at.block b o.stands.block))
+  block-good = good-lines unit (o.region.names.formed name) at.block (as_block text)
+      (block-text (flat_blocks_text f 0 r.flat.now.blocks) at.block text (block-text-at f r.flat.now.blocks at.block b o.stands.block))
 
   knows-before : KnowsFor unit text (merge_lines text.merge) text.lines (known_at (x ∷ xs) (with_merge text.merge text.lines))
   knows-before =
@@ -224,7 +231,8 @@ module _ (ns : List Node) (f : Naming) (name : UnitName) (r : Region) (w : Walk)
       }
 
   -- the place once its block was merged
-  pub merged-between : (ms : List Node) (q : Walk) → Grows ns ms → q.ahead ≡ w.ahead → q.insts ≡ w.insts → q.rows ≡ w.rows → q.sources ≡ w.sources → (k : Knowledge) → k ≡ (midst_at f at b (x ∷ xs) c).known → IsMerging ms q.places.items at.place before x xs k
+  pub merged-between : (ms : List Node) (q : Walk) → Grows ns ms → q.ahead ≡ w.ahead → q.insts ≡ w.insts → q.rows ≡ w.rows → q.sources ≡ w.sources → (k : Knowledge)
+      → k ≡ (midst_at f at b (x ∷ xs) c).known → IsMerging ms q.places.items at.place before x xs k
       → IsBetween ms f name r q at before h c.insts b (merge_lines text.merge) text.lines (midst_at f at b (x ∷ xs) c)
   merged-between ms q g a n d e k is m = record {
     region = o.region;
@@ -261,11 +269,19 @@ module _ (ns : List Node) (f : Naming) (name : UnitName) (r : Region) (w : Walk)
     pub lines-before : CanTakeLines ns w.places.items at.place ls
     lines-before = record { before = before; first = x; more = xs; knows = joined (x ∷ xs); merging = merging; fits = fit-lines }
 
-    module _ (ms : List Node) (qs : List Place) (t : TakesPhis ns w.places.items at.place ls ms qs) where
+    module _ (ms : List Node) (qs : List PlaceState) (t : TakesPhis ns w.places.items at.place ls ms qs) where
       pub merge-before : CanTakeMerge ms qs at.place d.merge
-      merge-before = record { before = before; first = x; more = xs; knows = phis_given before (x ∷ xs) ls (joined (x ∷ xs)); merging = t before x xs (joined (x ∷ xs)) merging fit-lines; fits = fit-merge }
+      merge-before = record {
+        before = before;
+        first = x;
+        more = xs;
+        knows = phis_given before (x ∷ xs) ls (joined (x ∷ xs));
+        merging = t before x xs (joined (x ∷ xs)) merging fit-lines;
+        fits = fit-merge;
+      }
 
-      pub merges-taken : (os : List Node) (q : Walk) → Grows ns os → q.ahead ≡ w.ahead → q.insts ≡ w.insts → q.rows ≡ w.rows → q.sources ≡ w.sources → TakesMerge ms qs at.place d.merge os q.places.items
+      pub merges-taken : (os : List Node) (q : Walk) → Grows ns os → q.ahead ≡ w.ahead → q.insts ≡ w.insts → q.rows ≡ w.rows → q.sources ≡ w.sources
+          → TakesMerge ms qs at.place d.merge os q.places.items
           → IsBetween os f name r q at before h c.insts b (merge_lines text.merge) text.lines (midst_at f at b (x ∷ xs) c)
       merges-taken os q g a n u e p =
           merged-between os q g a n u e (merge_given before (x ∷ xs) d.merge (phis_given before (x ∷ xs) ls (joined (x ∷ xs))))
@@ -305,7 +321,8 @@ module _ (ns : List Node) (f : Naming) (name : UnitName) (r : Region) (w : Walk)
       skip-phi l.inst l.result (with_phis (x ∷ xs) ls k) (line-plain first seen l ls e)
       ∙ no-phis first (seen ++ l ∷ []) ls k (e ∙ sym (append_assoc seen (l ∷ []) ls))
 
-  first-plain : (m : Option Merge) (ls : List FlatInst) → (is_some m || starts_with_phi ls) ≡ false → (l : LineText) (rest : List LineText) → with_merge (option_map (merge_text f) m) (map (flat_line_text f) ls) ≡ l ∷ rest → is_phi l.inst ≡ false
+  first-plain : (m : Option Merge) (ls : List FlatInst) → (is_some m || starts_with_phi ls) ≡ false → (l : LineText) (rest : List LineText)
+      → with_merge (option_map (merge_text f) m) (map (flat_line_text f) ls) ≡ l ∷ rest → is_phi l.inst ≡ false
   first-plain (Some m) ls n l rest e = cc
   first-plain None [] n l rest e = cc
   first-plain None (j ∷ ls) n l rest e = let q : flat_line_text f j ≡ l = cc in ap (λ (y : LineText). is_phi y.inst) (sym q) ∙ phi-same j.inst ∙ n

@@ -101,7 +101,8 @@ inst-pure f (inst.Ret (Some t)) o os e = absurd cc
 inst-pure f _ o os e = absurd cc
 
 -- operands of the same names are the same
-same-args : (f : Naming) (t : Flat) → Names t f → (xs ys : List Typed) → ValuesBelow t.values (operand_ids xs) → ValuesBelow t.values (operand_ids ys) → map (operand_text f) xs ≡ map (operand_text f) ys → xs ≡ ys
+same-args : (f : Naming) (t : Flat) → Names t f → (xs ys : List Typed) → ValuesBelow t.values (operand_ids xs) → ValuesBelow t.values (operand_ids ys)
+    → map (operand_text f) xs ≡ map (operand_text f) ys → xs ≡ ys
 same-args f t n [] [] a b e = refl
 same-args f t n [] (y ∷ ys) a b e = absurd cc
 same-args f t n (x ∷ xs) [] a b e = absurd cc
@@ -112,14 +113,16 @@ same-args f t n (x ∷ xs) (y ∷ ys) a b e =
     let rest = same-args f t n xs ys a.1 b.1 more in
     λ j. record { value = record { 0 = v j }; ty = (q j).ty } ∷ rest j
 
-pub same-step : (f : Naming) (t : Flat) → Names t f → (i : Inst) (o : Op) (args : List Typed) → ValuesBelow t.values (values_used i) → ValuesBelow t.values (operand_ids args) → inst_text f i ≡ pure_text o (map (operand_text f) args) → step_in i ≡ step_on o args
+pub same-step : (f : Naming) (t : Flat) → Names t f → (i : Inst) (o : Op) (args : List Typed) → ValuesBelow t.values (values_used i) → ValuesBelow t.values (operand_ids args)
+    → inst_text f i ≡ pure_text o (map (operand_text f) args) → step_in i ≡ step_on o args
 same-step f t n i o args a b e =
     let z = inst-pure f i o (map (operand_text f) args) e in
     let w : ValuesBelow t.values (operand_ids z.0) = subst (λ (k : Inst). ValuesBelow t.values (values_used k)) z.1 a in
     ap step_in z.1 ∙ ap (step_on o) (same-args f t n z.0 args w b z.2)
 
 -- a name is that of the result where the value is the result
-pub result-same : (f : Naming) (t : Flat) → Names t f → (v : ℕ) (r : Option ValueId) → v < t.values → ValuesBelow t.values (maybe_id r) → is_result_name (f.value_name v) (maybe_text f r) ≡ is_result v r
+pub result-same : (f : Naming) (t : Flat) → Names t f → (v : ℕ) (r : Option ValueId) → v < t.values → ValuesBelow t.values (maybe_id r)
+    → is_result_name (f.value_name v) (maybe_text f r) ≡ is_result v r
 result-same f t n v None l b = refl
 result-same f t n v (Some r) l b = by (same_or r.0 v)
   where
@@ -140,7 +143,8 @@ giving-among : (n : List ℕ) (ls : List LineText) (j : InstText) → line_givin
 giving-among n [] j e = absurd (none-some j e)
 giving-among n (l ∷ ls) j e = by (is_result_name n l.result) refl e (giving-among n ls j)
   where
-    by : (b : Bool) → is_result_name n l.result ≡ b → (if b then Some l.inst else line_giving n ls) ≡ Some j → (line_giving n ls ≡ Some j → (x : LineText) × Among x ls × GivesOne n j x) → (x : LineText) × Among x (l ∷ ls) × GivesOne n j x
+    by : (b : Bool) → is_result_name n l.result ≡ b → (if b then Some l.inst else line_giving n ls) ≡ Some j → (line_giving n ls ≡ Some j → (x : LineText) × Among x ls × GivesOne n j x)
+        → (x : LineText) × Among x (l ∷ ls) × GivesOne n j x
     by true r e go = (l, inl refl, (r, same_Some l.inst j e))
     by false r e go = let z = go e in (z.0, inr z.1, z.2)
 
@@ -150,7 +154,8 @@ among-map f (x ∷ xs) y (inl e) = (x, inl refl, e)
 among-map f (x ∷ xs) y (inr a) = let z = among-map f xs y a in (z.0, inr z.1, z.2)
 
 -- a line of a block that is no `phi` is an instruction of it
-among-merged : (f : Naming) (m : Option Merge) (ls : List FlatInst) (l : LineText) → Among l (with_merge (option_map (merge_text f) m) (map (flat_line_text f) ls)) → is_phi l.inst ≡ false → (x : FlatInst) × Among x ls × (flat_line_text f x ≡ l)
+among-merged : (f : Naming) (m : Option Merge) (ls : List FlatInst) (l : LineText) → Among l (with_merge (option_map (merge_text f) m) (map (flat_line_text f) ls)) → is_phi l.inst ≡ false
+    → (x : FlatInst) × Among x ls × (flat_line_text f x ≡ l)
 among-merged f None ls l a p = among-map (flat_line_text f) ls l a
 among-merged f (Some m) ls l (inl e) p = absurd (false≢true (sym p ∙ sym (ap (λ (x : LineText). is_phi x.inst) e)))
 among-merged f (Some m) ls l (inr a) p = among-map (flat_line_text f) ls l a
@@ -162,7 +167,9 @@ among-insts : (f : Naming) (k : ℕ) (bs : List FlatBlock) (l : LineText) → Am
 among-insts f k [] l a p = absurd a
 among-insts f k (b ∷ bs) l a p = by (λ c. among-insts f (k + 1) bs l c p) (among-split l (with_merge (option_map (merge_text f) b.merge) (map (flat_line_text f) b.insts)) (text_lines f (k + 1) bs) a)
   where
-    by : (Among l (text_lines f (k + 1) bs) → (x : FlatInst) × Among x (insts_in bs) × (flat_line_text f x ≡ l)) → Among l (with_merge (option_map (merge_text f) b.merge) (map (flat_line_text f) b.insts)) ⊎ Among l (text_lines f (k + 1) bs) → (x : FlatInst) × Among x (insts_in (b ∷ bs)) × (flat_line_text f x ≡ l)
+    by : (Among l (text_lines f (k + 1) bs) → (x : FlatInst) × Among x (insts_in bs) × (flat_line_text f x ≡ l))
+        → Among l (with_merge (option_map (merge_text f) b.merge) (map (flat_line_text f) b.insts)) ⊎ Among l (text_lines f (k + 1) bs) → (x : FlatInst) × Among x (insts_in (b ∷ bs))
+        × (flat_line_text f x ≡ l)
     by go (inl c) = let z = among-merged f b.merge b.insts l c p in (z.0, among-left z.0 b.insts (insts_in bs) z.1, z.2)
     by go (inr c) = let z = go c in (z.0, among-right z.0 b.insts (insts_in bs) z.1, z.2)
 
@@ -201,19 +208,24 @@ module _ (f : Naming) (t : Flat) (n : Names t f) (v : ℕ) (l : v < t.values) wh
       let p = or_parts (args_define (f.value_name a.value.0) seen) (args_repeat (seen ++ arg_text f a ∷ []) (map (arg_text f) xs)) r in
       let other : nat_eq a.value.0 v ≡ false = by (nat_eq a.value.0 v) refl p.0 in
       or-none (argument_from (k + 1) xs v) (if nat_eq a.value.0 v then option_map (whole_of k) (carried a.ty) else None)
-      (args-none (seen ++ arg_text f a ∷ []) (k + 1) xs b.1 (define-front (f.value_name v) seen (arg_text f a ∷ []) d) p.1) (ap (λ (c : Bool). if c then option_map (whole_of k) (carried a.ty) else None) other)
+      (args-none (seen ++ arg_text f a ∷ []) (k + 1) xs b.1 (define-front (f.value_name v) seen (arg_text f a ∷ []) d) p.1)
+      (ap (λ (c : Bool). if c then option_map (whole_of k) (carried a.ty) else None) other)
     where
       by : (c : Bool) → nat_eq a.value.0 v ≡ c → args_define (f.value_name a.value.0) seen ≡ false → c ≡ false
       by false e h = refl
       by true e h = absurd (false≢true (sym h ∙ ap (λ (i : ℕ). args_define (f.value_name i) seen) (nat_eq-is a.value.0 v e) ∙ d))
 
-  args-found : (seen : List ArgText) (k : ℕ) (xs : List Arg) (p : Part) → ArgsBelow xs → args_repeat seen (map (arg_text f) xs) ≡ false → argument_part (f.value_name v) k (map (arg_text f) xs) ≡ Some p → argument_from k xs v ≡ Some p
+  args-found : (seen : List ArgText) (k : ℕ) (xs : List Arg) (p : Part) → ArgsBelow xs → args_repeat seen (map (arg_text f) xs) ≡ false
+      → argument_part (f.value_name v) k (map (arg_text f) xs) ≡ Some p → argument_from k xs v ≡ Some p
   args-found seen k [] p b r e = absurd (none-some p e)
   args-found seen k (a ∷ xs) p b r e =
       let z = or_parts (args_define (f.value_name a.value.0) seen) (args_repeat (seen ++ arg_text f a ∷ []) (map (arg_text f) xs)) r in
-      by (args-found (seen ++ arg_text f a ∷ []) (k + 1) xs p b.1) (nat_eq a.value.0 v) refl z.1 (subst (λ (c : Bool). (if c then option_map (whole_argument k) (carried a.ty) else argument_part (f.value_name v) (k + 1) (map (arg_text f) xs)) ≡ Some p) (name-same a b.0) e)
+      by (args-found (seen ++ arg_text f a ∷ []) (k + 1) xs p b.1) (nat_eq a.value.0 v) refl z.1
+      (subst (λ (c : Bool). (if c then option_map (whole_argument k) (carried a.ty) else argument_part (f.value_name v) (k + 1) (map (arg_text f) xs)) ≡ Some p) (name-same a b.0) e)
     where
-      by : (args_repeat (seen ++ arg_text f a ∷ []) (map (arg_text f) xs) ≡ false → argument_part (f.value_name v) (k + 1) (map (arg_text f) xs) ≡ Some p → argument_from (k + 1) xs v ≡ Some p) → (c : Bool) → nat_eq a.value.0 v ≡ c → args_repeat (seen ++ arg_text f a ∷ []) (map (arg_text f) xs) ≡ false → (if c then option_map (whole_argument k) (carried a.ty) else argument_part (f.value_name v) (k + 1) (map (arg_text f) xs)) ≡ Some p
+      by : (args_repeat (seen ++ arg_text f a ∷ []) (map (arg_text f) xs) ≡ false → argument_part (f.value_name v) (k + 1) (map (arg_text f) xs) ≡ Some p → argument_from (k + 1) xs v ≡ Some p)
+          → (c : Bool) → nat_eq a.value.0 v ≡ c → args_repeat (seen ++ arg_text f a ∷ []) (map (arg_text f) xs) ≡ false
+          → (if c then option_map (whole_argument k) (carried a.ty) else argument_part (f.value_name v) (k + 1) (map (arg_text f) xs)) ≡ Some p
           → or_else (argument_from (k + 1) xs v) (if c then option_map (whole_of k) (carried a.ty) else None) ≡ Some p
       by go true q h g =
           ap (λ (x : Option Part). or_else x (option_map (whole_of k) (carried a.ty)))
@@ -234,7 +246,8 @@ same-known p q e = cc
 step-is : (o : Op) (v : ValueId) (ty : Option TypeTree) (w p : Part) → stepped (Some w) ty (step_of o) ≡ Some (known_part p) → StepIs o v ty w p
 step-is o v ty w p e = by (step_of o) refl ty e
   where
-    led : (s : Step) (t : TypeTree) → step_of o ≡ Some s → (r : Option Range) → range_of w.ty (s ∷ []) ≡ r → option_map (λ (x : Range). known_part (record { arg = w.arg; lo = w.lo + x.lo; ty = t })) r ≡ Some (known_part p) → StepIs o v (Some t) w p
+    led : (s : Step) (t : TypeTree) → step_of o ≡ Some s → (r : Option Range) → range_of w.ty (s ∷ []) ≡ r → option_map (λ (x : Range). known_part (record { arg = w.arg; lo = w.lo + x.lo; ty = t })) r
+        ≡ Some (known_part p) → StepIs o v (Some t) w p
     led s t q None g h = absurd (none-some (known_part p) h)
     led s t q (Some r) g h =
         let x : PartStep = record { from = v; op = o; ty = t } in
@@ -285,7 +298,8 @@ module _ (name : UnitName) (f : Naming) (t : Flat) (n : Names t f) (below : IdsB
       blocks-fine 0 t.blocks (each-first u.args (lines_of u.blocks) [] (lines_of u.blocks) refl new) below.blocks
 
   -- the step that gives a value is that of the one line of its name
-  pub step-of-line : (v : ℕ) (o : Op) (args : List Typed) → v < t.values → ValuesBelow t.values (operand_ids args) → line_giving (f.value_name v) (lines_of u.blocks) ≡ Some (pure_text o (map (operand_text f) args)) → step_giving (insts_in t.blocks) v ≡ step_on o args
+  pub step-of-line : (v : ℕ) (o : Op) (args : List Typed) → v < t.values → ValuesBelow t.values (operand_ids args)
+      → line_giving (f.value_name v) (lines_of u.blocks) ≡ Some (pure_text o (map (operand_text f) args)) → step_giving (insts_in t.blocks) v ≡ step_on o args
   step-of-line v o args l b e =
       let x = giving-among (f.value_name v) (lines_of u.blocks) (pure_text o (map (operand_text f) args)) e in
       let y = among-insts f 0 t.blocks x.0 x.1 (ap is_phi x.2.1) in
@@ -314,7 +328,8 @@ module _ (name : UnitName) (f : Naming) (t : Flat) (n : Names t f) (below : IdsB
       let w = inst-pure f y.0.inst o (x ∷ []) (ap (λ (l : LineText). l.inst) y.2 ∙ a.2.1) in
       by w.0 (subst (λ (i : Inst). ValuesBelow t.values (values_used i)) w.1 z.1.used) w.2 q
     where
-      by : (args : List Typed) → ValuesBelow t.values (operand_ids args) → map (operand_text f) args ≡ x ∷ [] → line_giving (f.value_name v) (lines_of u.blocks) ≡ Some (pure_text o (x ∷ [])) → StepOf v o x
+      by : (args : List Typed) → ValuesBelow t.values (operand_ids args) → map (operand_text f) args ≡ x ∷ [] → line_giving (f.value_name v) (lines_of u.blocks) ≡ Some (pure_text o (x ∷ []))
+          → StepOf v o x
       by [] b h q = absurd cc
       by (y ∷ z ∷ more) b h q = absurd cc
       by (y ∷ []) b h q =

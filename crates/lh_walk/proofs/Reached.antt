@@ -10,9 +10,9 @@ use Rattle.lh_unit.proofs.Lists.{slice_get-push}
 use Rattle.lh_flat.specs.declared.flat.FlatBlock.{FlatBlock}
 use Rattle.lh_flat.specs.Flat.{FlatBlockText}
 use Rattle.lh_flat.specs.Reads.{flat_block_text}
-use Rattle.lh_term.specs.Arena.{Stands, Grows}
+use Rattle.lh_term.specs.Arena.{StandsForTree, Grows}
 use Rattle.lh_term.specs.declared.term.Node.{Node}
-use Rattle.lh_rows.specs.Joins.{Place as PlaceOf, Edge as EdgeTo, any_taken, joined}
+use Rattle.lh_rows.specs.Joins.{RegionPlace, RegionEdge, any_taken, joined}
 use Rattle.lh_rows.specs.Places.{Region as RegionText, Here}
 use Rattle.lh_rows.specs.Regions.{RegionRefusal, Course, Coursed, stops, comes_to, then_course, max_turns, through_block, edges_to, through_reached, through_all}
 use Rattle.lh_rows.specs.Typed.{JoinEdge}
@@ -23,10 +23,10 @@ use Rattle.lh_rows.proofs.Courses as Courses
 use Rattle.lh_joins.specs.declared.edge.Edge.{Edge}
 use Rattle.lh_joins.specs.Joins.{AreConditions, edges_on}
 use Rattle.lh_joins.proofs.Merged.{taken-by-conditions}
-use Rattle.lh_region.specs.declared.state.Place.{Place}
+use Rattle.lh_region.specs.declared.state.PlaceState.{PlaceState}
 use Rattle.lh_walk.specs.declared.walk.Region.{Region}
 use Rattle.lh_walk.specs.declared.walk.Walk.{Walk}
-use Rattle.lh_walk.specs.declared.walk.At.{At}
+use Rattle.lh_walk.specs.declared.walk.WalkPoint.{WalkPoint}
 use Rattle.lh_region.specs.declared.rows.RegionFault.{RegionFault}
 use Rattle.lh_region.specs.Ahead.{led_to, IsReached}
 use Rattle.lh_region.specs.Asked.{edges_at, Tells}
@@ -51,16 +51,17 @@ block-there [] k l = absurd (omega (arith, l))
 block-there (b ∷ bs) zero l = (b, refl)
 block-there (b ∷ bs) (suc k) l = block-there bs k (omega (arith, l))
 
-pub join-conditions : (b : BlockText) (u : UnitText) (es : List EdgeTo) → Each (JoinEdge u b) es → EachCondition es
+pub join-conditions : (b : BlockText) (u : UnitText) (es : List RegionEdge) → Each (JoinEdge u b) es → EachCondition es
 join-conditions b u [] h = tt
 join-conditions b u (e ∷ es) h = (h.0.cond, join-conditions b u es h.1)
 
 -- the edges of the last place
-pub edges-last : (ps qs : List Place) (block : ℕ) (es : List Edge) → IsBegun ps block es qs → edges_at qs (length ps) ≡ es
-edges-last ps qs block es b = edges-of qs (length ps) b.new (ap (λ (xs : List Place). slice_get xs (length ps)) b.put ∙ slice_get-push ps b.new (length ps) refl) ∙ b.edges_are
+pub edges-last : (ps qs : List PlaceState) (block : ℕ) (es : List Edge) → IsBegun ps block es qs → edges_at qs (length ps) ≡ es
+edges-last ps qs block es b = edges-of qs (length ps) b.new (ap (λ (xs : List PlaceState). slice_get xs (length ps)) b.put ∙ slice_get-push ps b.new (length ps) refl) ∙ b.edges_are
 
 -- what is so far where a place was reached
-pub so-far-reached : (ns : List Node) (f : Naming) (r : Region) (w q : Walk) (turns block : ℕ) (s : Story) (c : Course) → IsSoFar ns f r w turns block s c → IsReached w.ahead.here.items block q.ahead.here.items → q.ahead.next ≡ w.ahead.next → q.insts ≡ w.insts → q.rows ≡ w.rows → q.sources ≡ w.sources → IsSoFar ns f r q turns (block + 1) s c
+pub so-far-reached : (ns : List Node) (f : Naming) (r : Region) (w q : Walk) (turns block : ℕ) (s : Story) (c : Course) → IsSoFar ns f r w turns block s c
+    → IsReached w.ahead.here.items block q.ahead.here.items → q.ahead.next ≡ w.ahead.next → q.insts ≡ w.insts → q.rows ≡ w.rows → q.sources ≡ w.sources → IsSoFar ns f r q turns (block + 1) s c
 so-far-reached ns f r w q turns block s c h reached next insts rows sources = record {
   naming = h.naming;
   values = h.values;
@@ -75,7 +76,8 @@ so-far-reached ns f r w q turns block s c h reached next insts rows sources = re
 }
 
 -- no edge leads to the place
-pub reached-none : (ns : List Node) (r : Region) (w q : Walk) (turns block : ℕ) → led_to w.ahead.here.items block ≡ [] → q.places ≡ w.places → IsReached w.ahead.here.items block q.ahead.here.items → q.ahead.next ≡ w.ahead.next → q.insts ≡ w.insts → q.rows ≡ w.rows → q.sources ≡ w.sources
+pub reached-none : (ns : List Node) (r : Region) (w q : Walk) (turns block : ℕ) → led_to w.ahead.here.items block ≡ [] → q.places ≡ w.places → IsReached w.ahead.here.items block q.ahead.here.items
+    → q.ahead.next ≡ w.ahead.next → q.insts ≡ w.insts → q.rows ≡ w.rows → q.sources ≡ w.sources
     → Passes (walks_at ns r w turns block) r (place_of turns block ∷ []) ns q turns (block + 1)
 reached-none ns r w q turns block none places reached next insts rows sources f name s c h =
     let k = h.course in
@@ -98,7 +100,7 @@ reached-none ns r w q turns block none places reached next insts rows sources f 
 -- ---- some edges lead to the place
 
 -- a place that begins: its edges, and the condition on which control is there
-pub record Begins (ns ms : List Node) (w q : Walk) (turns block : ℕ) (at : At) : Type 0 where
+pub record PlaceBegins (ns ms : List Node) (w q : Walk) (turns block : ℕ) (at : WalkPoint) : Type 0 where
   pub some : led_to w.ahead.here.items block ≡ [] → ⊥
   pub reached : IsReached w.ahead.here.items block q.ahead.here.items
   pub next : q.ahead.next ≡ w.ahead.next
@@ -111,9 +113,10 @@ pub record Begins (ns ms : List Node) (w q : Walk) (turns block : ℕ) (at : At)
   pub place : at.place ≡ length w.places.items
   pub of_block : at.block ≡ block
   pub of_turns : at.turns ≡ turns
-  pub cond : Stands ms at.cond (any_taken (edges_on ns (led_to w.ahead.here.items block)))
+  pub cond : StandsForTree ms at.cond (any_taken (edges_on ns (led_to w.ahead.here.items block)))
 
-module _ (ns : List Node) (f : Naming) (name : UnitName) (r : Region) (w : Walk) (turns block : ℕ) (s : Story) (c : Course) (h : IsWalk ns f name r w turns block s c) (l : block < length r.flat.now.blocks) (some : led_to w.ahead.here.items block ≡ [] → ⊥) where
+module _ (ns : List Node) (f : Naming) (name : UnitName) (r : Region) (w : Walk) (turns block : ℕ) (s : Story) (c : Course) (h : IsWalk ns f name r w turns block s c)
+    (l : block < length r.flat.now.blocks) (some : led_to w.ahead.here.items block ≡ [] → ⊥) where
   abbrev u : UnitText
   u = process_by name f r.flat.now
 
@@ -123,7 +126,7 @@ module _ (ns : List Node) (f : Naming) (name : UnitName) (r : Region) (w : Walk)
   abbrev es : List Edge
   es = led_to w.ahead.here.items block
 
-  abbrev p : PlaceOf
+  abbrev p : RegionPlace
   p = place_of turns block
 
   reg : RegionOf u g
@@ -133,8 +136,8 @@ module _ (ns : List Node) (f : Naming) (name : UnitName) (r : Region) (w : Walk)
   pub record There : Type 0 where
     pub block_is : FlatBlock
     pub at : slice_get r.flat.now.blocks block ≡ Some block_is
-    pub first : EdgeTo
-    pub more : List EdgeTo
+    pub first : RegionEdge
+    pub more : List RegionEdge
     pub are : edges_to p c.edges ≡ first ∷ more
     pub edges : AreEdges ns s es (first ∷ more)
     pub join : Each (JoinEdge u (as_block (flat_block_text f block block_is))) (first ∷ more)
@@ -157,7 +160,7 @@ module _ (ns : List Node) (f : Naming) (name : UnitName) (r : Region) (w : Walk)
         named = subst (EdgesNamed u) x.2 (named-to u p c.edges h.named.edges);
       }
 
-  abbrev xs : List EdgeTo
+  abbrev xs : List RegionEdge
   xs = there.first ∷ there.more
 
   conds : EachCondition xs
@@ -169,13 +172,14 @@ module _ (ns : List Node) (f : Naming) (name : UnitName) (r : Region) (w : Walk)
   -- what the definition comes to by the place
   pub reached-is : through_all g (p ∷ []) c ≡ then_course (through_block g p (any_taken xs) xs c (flat_block_text f block there.block_is)) (through_all g [])
   reached-is =
-      ap (λ (ys : List EdgeTo). then_course (through_reached g p ys c) (through_all g [])) there.are
-      ∙ ap (λ (o : Option FlatBlockText). then_course (option_map_or (through_block g p (any_taken xs) xs c) o (comes_to c)) (through_all g [])) (block-at-text f r h.region block there.block_is there.at).at
+      ap (λ (ys : List RegionEdge). then_course (through_reached g p ys c) (through_all g [])) there.are
+      ∙ ap (λ (o : Option FlatBlockText). then_course (option_map_or (through_block g p (any_taken xs) xs c) o (comes_to c)) (through_all g [])) (block-at-text f r h.region block there.block_is
+      there.at).at
 
   abbrev pub here : Here
   here = record { place = p; label = f.label_name block; cond = any_taken xs }
 
-  module _ (ms : List Node) (q : Walk) (at : At) (b : Begins ns ms w q turns block at) (lt : turns ≤ max_turns) where
+  module _ (ms : List Node) (q : Walk) (at : WalkPoint) (b : PlaceBegins ns ms w q turns block at) (lt : turns ≤ max_turns) where
     edges-still : AreEdges ms s es xs
     edges-still = edges-grown ns ms s es xs b.grows there.edges
 
@@ -186,8 +190,8 @@ module _ (ns : List Node) (f : Naming) (name : UnitName) (r : Region) (w : Walk)
     place-is : s.places ≡ at.place
     place-is = h.course.places ∙ sym b.place
 
-    cond-is : Stands ms at.cond (any_taken xs)
-    cond-is = subst (Stands ms at.cond) (ap any_taken (edges-on ns s es xs there.edges) ∙ sym (taken-by-conditions xs)) b.cond
+    cond-is : StandsForTree ms at.cond (any_taken xs)
+    cond-is = subst (StandsForTree ms at.cond) (ap any_taken (edges-on ns s es xs there.edges) ∙ sym (taken-by-conditions xs)) b.cond
 
     pub opened : IsOpened ms f name r q at s here there.block_is there.first there.more c
     opened = record {
@@ -258,7 +262,7 @@ module _ (ns : List Node) (r : Region) (w : Walk) (turns block : ℕ) (l : block
   pub edges-can : CanWalk ns r w turns block → AreConditions ns (led_to w.ahead.here.items block)
   edges-can a = edge-conditions ns a.naming a.name r w turns block a.story a.course a.walk l some
 
-  module _ (ms : List Node) (q : Walk) (at : At) (b : Begins ns ms w q turns block at) (lt : turns ≤ max_turns) where
+  module _ (ms : List Node) (q : Walk) (at : WalkPoint) (b : PlaceBegins ns ms w q turns block at) (lt : turns ≤ max_turns) where
     pub treat-can : CanWalk ns r w turns block → CanTreat ms r q at
     treat-can a = can-treat ns a.naming a.name r w turns block a.story a.course a.walk l some ms q at b lt
 
@@ -269,8 +273,10 @@ module _ (ns : List Node) (r : Region) (w : Walk) (turns block : ℕ) (l : block
     stops-block e t f name s c h = stops-place ns f name r w turns block s c h l some ms q at b lt e t
 
 -- what begins is the place to which these edges lead
-pub begins-by : (ns ms : List Node) (w q : Walk) (turns block : ℕ) (at : At) (es fs : List Edge) → es ≡ led_to w.ahead.here.items block → fs ≡ es → (led_to w.ahead.here.items block ≡ [] → ⊥) → IsReached w.ahead.here.items block q.ahead.here.items → q.ahead.next ≡ w.ahead.next → q.insts ≡ w.insts → q.rows ≡ w.rows → q.sources ≡ w.sources → Grows ns ms
-    → IsBegun w.places.items block es q.places.items → BeginsJoined w.places.items es q.places.items → at.place ≡ length w.places.items → at.block ≡ block → at.turns ≡ turns → Stands ms at.cond (any_taken (edges_on ns fs)) → Begins ns ms w q turns block at
+pub begins-by : (ns ms : List Node) (w q : Walk) (turns block : ℕ) (at : WalkPoint) (es fs : List Edge) → es ≡ led_to w.ahead.here.items block → fs ≡ es → (led_to w.ahead.here.items block ≡ [] → ⊥)
+    → IsReached w.ahead.here.items block q.ahead.here.items → q.ahead.next ≡ w.ahead.next → q.insts ≡ w.insts → q.rows ≡ w.rows → q.sources ≡ w.sources → Grows ns ms
+    → IsBegun w.places.items block es q.places.items → BeginsJoined w.places.items es q.places.items → at.place ≡ length w.places.items → at.block ≡ block → at.turns ≡ turns
+    → StandsForTree ms at.cond (any_taken (edges_on ns fs)) → PlaceBegins ns ms w q turns block at
 begins-by ns ms w q turns block at es fs e f some reached next insts rows sources grows begun joined place of_block of_turns cond = record {
   some = some;
   reached = reached;
@@ -284,7 +290,7 @@ begins-by ns ms w q turns block at es fs e f some reached next insts rows source
   place = place;
   of_block = of_block;
   of_turns = of_turns;
-  cond = subst (λ x. Stands ms at.cond (any_taken (edges_on ns x))) (f ∙ e) cond;
+  cond = subst (λ x. StandsForTree ms at.cond (any_taken (edges_on ns x))) (f ∙ e) cond;
 }
 
 pub some-led : (es led : List Edge) (n : ℕ) → es ≡ led → n ≡ length es → (n ≡ 0 → ⊥) → led ≡ [] → ⊥

@@ -15,7 +15,7 @@ use Rattle.lh_rows.specs.Right.{as_block, BlockAt}
 use Rattle.lh_rows.proofs.Sites.{Site, site-at}
 use Rattle.lh_rows.proofs.Steps.{RegionOf, text-at}
 use Rattle.lh_walk.specs.declared.walk.Region.{Region}
-use Rattle.lh_walk.specs.declared.walk.At.{At}
+use Rattle.lh_walk.specs.declared.walk.WalkPoint.{WalkPoint}
 use Rattle.lh_region.specs.Effects.{probed}
 use Rattle.lh_walk.specs.Walked.{process_by, region_text, IsRegion, IsAt}
 use Rattle.lh_region.proofs.Heading.{number-of}
@@ -50,7 +50,8 @@ pub block-text-at : (f : Naming) (bs : List FlatBlock) (k : ℕ) (b : FlatBlock)
 block-text-at f bs k b e = let z : 0 + k ≡ k = omega arith in text-block f 0 k bs b e ∙ ap (λ (n : ℕ). Some (flat_block_text f n b)) z
 
 -- the label of a block leads to its number, where labels differ
-pub label-number : (f : Naming) (bs : List FlatBlock) (k : ℕ) → ((i j : ℕ) → i < length bs → j < length bs → f.label_name i ≡ f.label_name j → i ≡ j) → k < length bs → block_number (f.label_name k) (flat_blocks_text f 0 bs) ≡ Some k
+pub label-number : (f : Naming) (bs : List FlatBlock) (k : ℕ) → ((i j : ℕ) → i < length bs → j < length bs → f.label_name i ≡ f.label_name j → i ≡ j) → k < length bs
+    → block_number (f.label_name k) (flat_blocks_text f 0 bs) ≡ Some k
 label-number f bs k d l =
     let z : k ≡ 0 + k = omega arith in
     let n : 0 + length bs ≡ length bs = omega arith in
@@ -65,8 +66,10 @@ block-at-text f r h k b e = record {
 -- ---- lines
 
 -- what holds at a line of a block
-pub site-of : (f : Naming) (name : UnitName) (r : Region) → IsRegion f r → (at : At) (h : Here) (b : FlatBlock) → IsAt f r at h b → (done : List LineText) (l : LineText) (rest : List LineText) → with_merge (flat_block_text f at.block b).merge (flat_block_text f at.block b).lines ≡ done ++ l ∷ rest
+pub site-of : (f : Naming) (name : UnitName) (r : Region) → IsRegion f r → (at : WalkPoint) (h : Here) (b : FlatBlock) → IsAt f r at h b → (done : List LineText) (l : LineText) (rest : List LineText)
+    → with_merge (flat_block_text f at.block b).merge (flat_block_text f at.block b).lines ≡ done ++ l ∷ rest
     → Site (process_by name f r.flat.now) (as_block (flat_block_text f at.block b)) done l rest
 site-of f name r i at h b s done l rest split =
     site-at (process_by name f r.flat.now) (i.names.formed name) at.block (as_block (flat_block_text f at.block b)) done l rest
-    (text-at (process_by name f r.flat.now) (region_text f r) (region-of f name r i) at.block (flat_block_text f at.block b) (block-at-text f r i at.block b s.block) h s.label at.block (flat_block_text f at.block b) (block-at-text f r i at.block b s.block)) split
+    (text-at (process_by name f r.flat.now) (region_text f r) (region-of f name r i) at.block (flat_block_text f at.block b) (block-at-text f r i at.block b s.block) h s.label at.block
+    (flat_block_text f at.block b) (block-at-text f r i at.block b s.block)) split

@@ -6,7 +6,6 @@ use Rattle.std.proofs.lemmas.Option.{same_Some, none-some}
 use Rattle.lh_types.specs.Types.{TypeTree, int_type, time_type, void_type, array_type, tuple_type, signal_type, pointer_type, IsData}
 use Rattle.lh_types.specs.ValueOf.{datum_of}
 use Rattle.lh_types.specs.declared.op.Op.{Op}
-use Rattle.lh_types.specs.declared.op.Op.TheVariants as op
 use Rattle.lh_types.specs.declared.part.Step.{Step}
 use Rattle.lh_types.specs.declared.val.Val.{Val}
 use Rattle.lh_unit.specs.declared.name.UnitName.{UnitName}
@@ -45,7 +44,7 @@ use Rattle.lh_flat.specs.Reads.{flat_line_text, flat_block_text}
 use Rattle.lh_term.specs.Tree.{Tree, constant, operation_on}
 use Rattle.lh_term.specs.Types.{IsTyped, FitsTerm}
 use Rattle.lh_term.specs.Make.{is_zero, make_operation}
-use Rattle.lh_term.specs.Arena.{trees, tree_at, Stands, Grows}
+use Rattle.lh_term.specs.Arena.{trees, tree_at, StandsForTree, Grows}
 use Rattle.lh_term.specs.declared.term.TermId.{TermId}
 use Rattle.lh_term.specs.declared.term.Node.{Node}
 use Rattle.lh_term.specs.declared.part.Part.{Part}
@@ -57,7 +56,7 @@ use Rattle.lh_joins.specs.Joins.{IsConditionAt}
 use Rattle.lh_joins.proofs.Conditions.{grows-none, stands-condition}
 use Rattle.lh_rows.specs.Known.{Known, known_value, known_cell, known_part, Knowledge, with_known, with_given, value_known, cell_known, part_known, values_known}
 use Rattle.lh_rows.specs.Rows as text
-use Rattle.lh_rows.specs.Joins.{Edge as EdgeTo}
+use Rattle.lh_rows.specs.Joins.{RegionEdge}
 use Rattle.lh_rows.specs.Places.{Region as RegionText, Here, Midst, probes, both, drive_cond, drives, asserts, takes}
 use Rattle.lh_rows.specs.Regions.{turns_too_often}
 use Rattle.lh_rows.specs.Typed.{known_type, IsTypedKnown, KnowsTyped, IsCondition}
@@ -69,14 +68,14 @@ use Rattle.lh_rows.proofs.Steps.{RegionOf, text-at}
 use Rattle.lh_rows.proofs.Taking as Taking
 use Rattle.lh_rows.proofs.Leading as Leading
 use Rattle.lh_rows.proofs.Taking.{step-first}
-use Rattle.lh_region.specs.declared.state.Place.{Place}
+use Rattle.lh_region.specs.declared.state.PlaceState.{PlaceState}
 use Rattle.lh_region.specs.declared.ahead.Ahead.{Ahead}
 use Rattle.lh_region.specs.declared.rows.Rows.{Rows}
 use Rattle.lh_walk.specs.declared.walk.Region.{Region}
 use Rattle.lh_walk.specs.declared.walk.Walk.{Walk}
-use Rattle.lh_walk.specs.declared.walk.At.{At}
+use Rattle.lh_walk.specs.declared.walk.WalkPoint.{WalkPoint}
 use Rattle.lh_region.specs.declared.effects.DriveAt.{DriveAt}
-use Rattle.lh_region.specs.declared.taking.Ask.{Ask}
+use Rattle.lh_region.specs.declared.taking.PlaceValue.{PlaceValue}
 use Rattle.lh_region.specs.Asked.{Tells, CanAsk, SamePlaces}
 use Rattle.lh_region.specs.Taken.{told_of, asks_at, CanAskAll, StillToldAll, IsOperation}
 use Rattle.lh_region.specs.Walking.{as_term, term_known, Story, TellsKnown, AreAhead, AreSources}
@@ -84,7 +83,7 @@ use Rattle.lh_region.specs.Stands.{AreRows}
 use Rattle.lh_region.specs.Gives.{with_term, ValuesDiffer}
 use Rattle.lh_region.specs.Effects.{probed, CanDrive, StillDriven, IsProbed, IsDriven, AreAsserted}
 use Rattle.lh_walk.specs.Lines.{IsThat, IsToldOf, IsOperationOn, GivesWhere, gives_alone, MayTest, StillTested, IsDriveCond}
-use Rattle.lh_walk.specs.Walked.{process_by, region_text, Continues, leads_nowhere, course_at, IsBetween, takes_line}
+use Rattle.lh_walk.specs.Walked.{process_by, region_text, ContinuesStory, leads_nowhere, course_at, IsBetween, takes_line}
 use Rattle.lh_region.proofs.Placing.{same-length}
 use Rattle.lh_region.proofs.Gathering.{there-from}
 use Rattle.lh_region.proofs.Telling.{tells-grown}
@@ -131,7 +130,8 @@ assert-still m (Some ts) = record { edges = refl; ends = refl }
 
 takes-still : (f : Naming) (g : RegionText) (h : Here) (i : Inst) (r : Option (List ℕ)) (m : Midst) → leads_nowhere i ≡ true → Still m (takes g h (inst_text f i) r m)
 takes-still f g h (inst.Prb a) r m e = probe-still g m r (part_known m.known (value_text f a.value))
-takes-still f g h (inst.Drv to value after cond) r m e = drive-still m (drive_cond m.known h.cond (maybe_text f cond)) (part_known m.known (value_text f to.value)) (value_known m.known (value_text f value)) (value_known m.known (value_text f after))
+takes-still f g h (inst.Drv to value after cond) r m e = drive-still m (drive_cond m.known h.cond (maybe_text f cond)) (part_known m.known (value_text f to.value))
+    (value_known m.known (value_text f value)) (value_known m.known (value_text f after))
 takes-still f g h (inst.Call v ty args) r m e = assert-still m (values_known m.known (map (operand_text f) args))
 takes-still f g h (inst.Br to) r m e = absurd (false≢true e)
 takes-still f g h (inst.Branch c zero one) r m e = absurd (false≢true e)
@@ -183,13 +183,15 @@ step-parts o [] p e = absurd (none-some p e)
 step-parts o (y ∷ z ∷ more) p e = absurd (none-some p e)
 step-parts o (y ∷ []) p e = by (step_of o) refl (option_and_then carried y.ty) refl e
   where
-    by : (a : Option Step) → step_of o ≡ a → (b : Option TypeTree) → option_and_then carried y.ty ≡ b → step_if o y.value a b ≡ Some p → (x : Typed) × (t : TypeTree) × (s : Step) × (y ∷ [] ≡ x ∷ []) × (step_of o ≡ Some s) × (x.ty ≡ Some (signal_type t))
+    by : (a : Option Step) → step_of o ≡ a → (b : Option TypeTree) → option_and_then carried y.ty ≡ b → step_if o y.value a b ≡ Some p → (x : Typed) × (t : TypeTree) × (s : Step) × (y ∷ [] ≡ x ∷ [])
+        × (step_of o ≡ Some s) × (x.ty ≡ Some (signal_type t))
     by None q None g h = absurd (none-some p h)
     by None q (Some t) g h = absurd (none-some p h)
     by (Some s) q None g h = absurd (none-some p h)
     by (Some s) q (Some t) g h = (y, t, s, refl, q, carried-is y.ty t g)
 
-no-step : (f : Naming) (o : Op) (args : List Typed) → step_on o args ≡ None → (x : OperandText) (s : Step) (t : TypeTree) → map (operand_text f) args ≡ x ∷ [] → step_of o ≡ Some s → x.ty ≡ Some (signal_type t) → ⊥
+no-step : (f : Naming) (o : Op) (args : List Typed) → step_on o args ≡ None → (x : OperandText) (s : Step) (t : TypeTree) → map (operand_text f) args ≡ x ∷ [] → step_of o ≡ Some s
+    → x.ty ≡ Some (signal_type t) → ⊥
 no-step f o [] n x s t e q h = cc
 no-step f o (y ∷ z ∷ more) n x s t e q h = cc
 no-step f o (y ∷ []) n x s t e q h =
@@ -219,7 +221,8 @@ tells-part s i k n a h none term v low = by (same_name n (s.naming.value_name v)
     by false e = h v low
 
 -- an instruction that gives nothing, by what it is not
-pub alone-other : (f : Naming) (g : RegionText) (h : Here) (i : Inst) (r : Option (List ℕ)) (m : Midst) → gives_alone i ≡ true → ((d : Val) → i ≡ inst.Const d → ⊥) → ((o : Op) (args : List Typed) → i ≡ inst.Pure o args → ⊥) → ((of : Typed) → i ≡ inst.Var of → ⊥) → ((of : Typed) → i ≡ inst.Ld of → ⊥) → takes g h (inst_text f i) r m ≡ m
+pub alone-other : (f : Naming) (g : RegionText) (h : Here) (i : Inst) (r : Option (List ℕ)) (m : Midst) → gives_alone i ≡ true → ((d : Val) → i ≡ inst.Const d → ⊥)
+    → ((o : Op) (args : List Typed) → i ≡ inst.Pure o args → ⊥) → ((of : Typed) → i ≡ inst.Var of → ⊥) → ((of : Typed) → i ≡ inst.Ld of → ⊥) → takes g h (inst_text f i) r m ≡ m
 alone-other f g h (inst.Const d) r m e nc np nv nl = absurd (nc d refl)
 alone-other f g h (inst.Pure o args) r m e nc np nv nl = absurd (np o args refl)
 alone-other f g h (inst.Var of) r m e nc np nv nl = absurd (nv of refl)
@@ -237,7 +240,8 @@ alone-other f g h _ r m e nc np nv nl = refl
 
 -- ---- between two lines
 
-module _ (ns : List Node) (f : Naming) (name : UnitName) (r : Region) (w : Walk) (at : At) (before : Story) (h : Here) (insts : ℕ) (b : FlatBlock) (done rest : List LineText) (m : Midst) (l : FlatInst)
+module _ (ns : List Node) (f : Naming) (name : UnitName) (r : Region) (w : Walk) (at : WalkPoint) (before : Story) (h : Here) (insts : ℕ) (b : FlatBlock) (done rest : List LineText) (m : Midst)
+    (l : FlatInst)
     (i : IsBetween ns f name r w at before h insts b done (flat_line_text f l ∷ rest) m) where
   abbrev u : UnitText
   u = process_by name f r.flat.now
@@ -303,14 +307,15 @@ module _ (ns : List Node) (f : Naming) (name : UnitName) (r : Region) (w : Walk)
   -- what is right of the places and rows after the line
   pub record Did (ms : List Node) (q : Walk) (m' : Midst) : Type 0 where
     pub story : Story
-    pub continues : Continues before story
+    pub continues : ContinuesStory before story
     pub is : story.places ≡ at.place + 1
     pub places : story.places ≡ length q.places.items
     pub tells : Tells ms q.places.items story.told
     pub known : TellsKnown story at.place m'.known
     pub rows : AreRows ms q.rows m'.rows
 
-  pub next : (ms : List Node) (q : Walk) → Grows ns ms → leads_nowhere l.inst ≡ true → Keeps q → Did ms q (takes_line f r h l m) → IsBetween ms f name r q at before h insts b (done ++ lt ∷ []) rest (takes_line f r h l m)
+  pub next : (ms : List Node) (q : Walk) → Grows ns ms → leads_nowhere l.inst ≡ true → Keeps q → Did ms q (takes_line f r h l m)
+      → IsBetween ms f name r q at before h insts b (done ++ lt ∷ []) rest (takes_line f r h l m)
   next ms q grows inner y d =
       let m' : Midst = takes_line f r h l m in
       let took = Leading.takes-took u g region at.block bt block-is h i.stands.label i.midst.condition done lt rest i.knows.split site m i.knows.typed i.knows.there i.knows.phis.0 in
@@ -327,7 +332,7 @@ module _ (ns : List Node) (f : Naming) (name : UnitName) (r : Region) (w : Walk)
             here_long = subst (λ (a : Ahead). length a.here.items ≡ length r.flat.now.blocks) (sym y.ahead) so.here_long;
             next_long = subst (λ (a : Ahead). length a.next.items ≡ length r.flat.now.blocks) (sym y.ahead) so.next_long;
             ahead = subst (λ (a : Ahead). AreAhead ms before at.turns (at.block + 1) a m'.edges) (sym y.ahead)
-                (subst (λ (es : List EdgeTo). AreAhead ms before at.turns (at.block + 1) w.ahead es) (sym still.edges) so.ahead);
+                (subst (λ (es : List RegionEdge). AreAhead ms before at.turns (at.block + 1) w.ahead es) (sym still.edges) so.ahead);
             few = ap turns_too_often still.edges ∙ so.few;
             insts = y.counted ∙ so.insts;
             rows = d.rows;
@@ -352,8 +357,10 @@ module _ (ns : List Node) (f : Naming) (name : UnitName) (r : Region) (w : Walk)
       }
 
   -- a term is given
-  pub given-next : (ms : List Node) (q : Walk) (P : Story → Tree → Type 0) (v : ℕ) (a : Known) (x : Tree) → Grows ns ms → leads_nowhere l.inst ≡ true → Keeps q → SamePlaces w.places.items q.places.items → v < r.flat.now.values → P s x → as_term a ≡ Some x
-      → GivesWhere P ns w.places.items at.place v ms q.places.items → (takes_line f r h l m).known ≡ with_known m.known (f.value_name v) a → AreRows ms q.rows (takes_line f r h l m).rows → IsBetween ms f name r q at before h insts b (done ++ lt ∷ []) rest (takes_line f r h l m)
+  pub given-next : (ms : List Node) (q : Walk) (P : Story → Tree → Type 0) (v : ℕ) (a : Known) (x : Tree) → Grows ns ms → leads_nowhere l.inst ≡ true → Keeps q
+      → SamePlaces w.places.items q.places.items → v < r.flat.now.values → P s x → as_term a ≡ Some x
+      → GivesWhere P ns w.places.items at.place v ms q.places.items → (takes_line f r h l m).known ≡ with_known m.known (f.value_name v) a → AreRows ms q.rows (takes_line f r h l m).rows
+      → IsBetween ms f name r q at before h insts b (done ++ lt ∷ []) rest (takes_line f r h l m)
   given-next ms q P v a x grows inner y same e p t gives k rows =
       let z = gives s m.known a x i.midst.tells i.midst.places (sym i.midst.is) (value-within v e) differ p t i.midst.known in
       next ms q grows inner y (record {
@@ -373,7 +380,8 @@ module _ (ns : List Node) (f : Naming) (name : UnitName) (r : Region) (w : Walk)
       (subst (λ (x : text.Rows). AreRows ms w.rows x) (sym k) (rows-grown ns ms w.rows m.rows grows i.midst.so_far.rows))
 
   -- nothing is given
-  pub same-next : leads_nowhere l.inst ≡ true → (takes_line f r h l m).rows ≡ m.rows → TellsKnown s at.place (takes_line f r h l m).known → IsBetween ns f name r w at before h insts b (done ++ lt ∷ []) rest (takes_line f r h l m)
+  pub same-next : leads_nowhere l.inst ≡ true → (takes_line f r h l m).rows ≡ m.rows → TellsKnown s at.place (takes_line f r h l m).known
+      → IsBetween ns f name r w at before h insts b (done ++ lt ∷ []) rest (takes_line f r h l m)
   same-next inner k t =
       next ns w (grows-none ns) inner (record { ahead = refl; counted = refl; sources = refl }) (record {
         story = s;
@@ -409,7 +417,8 @@ module _ (ns : List Node) (f : Naming) (name : UnitName) (r : Region) (w : Walk)
       (t.0, t.1, sym (site.sound.gives (f.value_name v.0) named) ∙ t.1)
 
   -- what is known after it, where it gives this
-  known-by : (j : Inst) (v : ValueId) (a : Known) → l.inst ≡ j → l.result ≡ Some v → (takes g h (inst_text f j) (Some (f.value_name v.0)) m).known ≡ with_known m.known (f.value_name v.0) a → (takes_line f r h l m).known ≡ with_known m.known (f.value_name v.0) a
+  known-by : (j : Inst) (v : ValueId) (a : Known) → l.inst ≡ j → l.result ≡ Some v → (takes g h (inst_text f j) (Some (f.value_name v.0)) m).known ≡ with_known m.known (f.value_name v.0) a
+      → (takes_line f r h l m).known ≡ with_known m.known (f.value_name v.0) a
   known-by j v a e q k = ap (λ (x : Inst). (takes g h (inst_text f x) (maybe_text f l.result) m).known) e ∙ ap (λ (x : Option ValueId). (takes g h (inst_text f j) (maybe_text f x) m).known) q ∙ k
 
   rows-by : (j : Inst) → l.inst ≡ j → (takes g h (inst_text f j) (maybe_text f l.result) m).rows ≡ m.rows → (takes_line f r h l m).rows ≡ m.rows
@@ -437,15 +446,18 @@ module _ (ns : List Node) (f : Naming) (name : UnitName) (r : Region) (w : Walk)
   abbrev pub Next : List Node → Walk → Type 0
   Next ms q = IsBetween ms f name r q at before h insts b (done ++ lt ∷ []) rest (takes_line f r h l m)
 
-  pub const-next : (ms : List Node) (q : Walk) (d : Val) (v : ValueId) → l.inst ≡ inst.Const d → l.result ≡ Some v → Low → Grows ns ms → Keeps q → q.rows ≡ w.rows → SamePlaces w.places.items q.places.items
+  pub const-next : (ms : List Node) (q : Walk) (d : Val) (v : ValueId) → l.inst ≡ inst.Const d → l.result ≡ Some v → Low → Grows ns ms → Keeps q → q.rows ≡ w.rows
+      → SamePlaces w.places.items q.places.items
       → GivesWhere (IsThat (constant (datum_of d))) ns w.places.items at.place v.0 ms q.places.items → Next ms q
   const-next ms q d v e k low grows y rows same gives =
       given-next ms q (IsThat (constant (datum_of d))) v.0 (known_value (constant (datum_of d))) (constant (datum_of d)) grows (ap leads_nowhere e) y same (low-result v low k) refl refl gives
       (known-by (inst.Const d) v (known_value (constant (datum_of d))) e k refl) (rows-stay ms q grows rows (rows-by (inst.Const d) e refl))
 
   -- a value that is given becomes known as this
-  value-next : (ms : List Node) (q : Walk) (j : Inst) (o v : ℕ) (a : Known) (x : Tree) → l.inst ≡ j → leads_nowhere j ≡ true → v < r.flat.now.values → Grows ns ms → Keeps q → q.rows ≡ w.rows → SamePlaces w.places.items q.places.items → s.told at.place o ≡ Some x → as_term a ≡ Some x
-      → (takes_line f r h l m).known ≡ with_known m.known (f.value_name v) a → (takes g h (inst_text f j) (maybe_text f l.result) m).rows ≡ m.rows → GivesWhere (IsToldOf at.place o) ns w.places.items at.place v ms q.places.items → Next ms q
+  value-next : (ms : List Node) (q : Walk) (j : Inst) (o v : ℕ) (a : Known) (x : Tree) → l.inst ≡ j → leads_nowhere j ≡ true → v < r.flat.now.values → Grows ns ms → Keeps q → q.rows ≡ w.rows
+      → SamePlaces w.places.items q.places.items → s.told at.place o ≡ Some x → as_term a ≡ Some x
+      → (takes_line f r h l m).known ≡ with_known m.known (f.value_name v) a → (takes g h (inst_text f j) (maybe_text f l.result) m).rows ≡ m.rows
+      → GivesWhere (IsToldOf at.place o) ns w.places.items at.place v ms q.places.items → Next ms q
   value-next ms q j o v a x e inner low grows y rows same told term k kr gives =
       given-next ms q (IsToldOf at.place o) v a x grows (ap leads_nowhere e ∙ inner) y same low told term gives k (rows-stay ms q grows rows (rows-by j e kr))
 
@@ -455,7 +467,8 @@ module _ (ns : List Node) (f : Naming) (name : UnitName) (r : Region) (w : Walk)
       let z = Taking.var-known u g region at.block bt block-is h i.stands.label i.midst.condition done lt rest site m i.knows.typed i.knows.there (operand_text f of) k.row k.there in
       (z.1, z.3, told-value of.value.0 z.1 (low-used (inst.Var of) low e).0 z.3)
 
-  var-next : (ms : List Node) (q : Walk) (of : Typed) (v : ValueId) → l.inst ≡ inst.Var of → l.result ≡ Some v → Low → Grows ns ms → Keeps q → q.rows ≡ w.rows → SamePlaces w.places.items q.places.items
+  var-next : (ms : List Node) (q : Walk) (of : Typed) (v : ValueId) → l.inst ≡ inst.Var of → l.result ≡ Some v → Low → Grows ns ms → Keeps q → q.rows ≡ w.rows
+      → SamePlaces w.places.items q.places.items
       → GivesWhere (IsToldOf at.place of.value.0) ns w.places.items at.place v.0 ms q.places.items → Next ms q
   var-next ms q of v e k low grows y rows same gives =
       let z = var-told of e low in
@@ -478,7 +491,8 @@ module _ (ns : List Node) (f : Naming) (name : UnitName) (r : Region) (w : Walk)
   pub st-told : (to : Typed) (value : ValueId) → l.inst ≡ inst.St to value → Low → (x : Tree) × (value_known m.known (f.value_name value.0) ≡ Some x) × (s.told at.place value.0 ≡ Some x)
   st-told to value e low =
       let k = rights (inst.St to value) e in
-      let z = Taking.st-known u g region at.block bt block-is h i.stands.label i.midst.condition done lt rest site m i.knows.typed i.knows.there (operand_text f to) (f.value_name value.0) k.row k.there in
+      let z = Taking.st-known u g region at.block bt block-is h i.stands.label i.midst.condition done lt rest site m i.knows.typed i.knows.there (operand_text f to) (f.value_name value.0) k.row
+      k.there in
       (z.2, z.4, told-value value.0 z.2 (low-used (inst.St to value) low e).1.0 z.4)
 
   pub st-next : (ms : List Node) (q : Walk) (to : Typed) (value : ValueId) → l.inst ≡ inst.St to value → Low → Grows ns ms → Keeps q → q.rows ≡ w.rows → SamePlaces w.places.items q.places.items
@@ -486,14 +500,17 @@ module _ (ns : List Node) (f : Naming) (name : UnitName) (r : Region) (w : Walk)
   st-next ms q to value e low grows y rows same gives =
       let z = st-told to value e low in
       value-next ms q (inst.St to value) value.0 to.value.0 (known_cell z.0) z.0 e refl (low-used (inst.St to value) low e).0 grows y rows same z.2 refl
-      (ap (λ (x : Inst). (takes g h (inst_text f x) (maybe_text f l.result) m).known) e ∙ ap (λ (o : Option Tree). with_given m.known (Some (f.value_name to.value.0)) (option_map known_cell o)) z.1) refl gives
+      (ap (λ (x : Inst). (takes g h (inst_text f x) (maybe_text f l.result) m).known) e ∙ ap (λ (o : Option Tree). with_given m.known (Some (f.value_name to.value.0)) (option_map known_cell o)) z.1)
+      refl gives
 
   -- ---- an operation
 
-  pub operated : (o : Op) (args : List Typed) → l.inst ≡ inst.Pure o args → Taking.Operated u g region at.block bt block-is h i.stands.label i.midst.condition done lt rest site m i.knows.typed i.knows.there o (map (operand_text f) args)
+  pub operated : (o : Op) (args : List Typed) → l.inst ≡ inst.Pure o args
+      → Taking.Operated u g region at.block bt block-is h i.stands.label i.midst.condition done lt rest site m i.knows.typed i.knows.there o (map (operand_text f) args)
   operated o args e =
       let k = rights (inst.Pure o args) e in
-      Taking.op-known u g region at.block bt block-is h i.stands.label i.midst.condition done lt rest site m i.knows.typed i.knows.there o (map (operand_text f) args) (ap (inst_text f) e) k.row k.part k.written k.there
+      Taking.op-known u g region at.block bt block-is h i.stands.label i.midst.condition done lt rest site m i.knows.typed i.knows.there o (map (operand_text f) args) (ap (inst_text f) e) k.row k.part
+      k.written k.there
 
   -- the operands have these values
   record OfValues (o : Op) (args : List Typed) (a : Known) : Type 0 where
@@ -505,12 +522,15 @@ module _ (ns : List Node) (f : Naming) (name : UnitName) (r : Region) (w : Walk)
   of-values : (o : Op) (args : List Typed) (e : l.inst ≡ inst.Pure o args) → step_on o args ≡ None → OfValues o args (operated o args e).known
   of-values o args e none = by (operated o args e).how
     where
-      by : ((ts : List Tree) × (values_known m.known (map (operand_text f) args) ≡ Some ts) × ((operated o args e).known ≡ known_value (make_operation o ts)) × ((t : TypeTree) → operation_type o (map (operand_text f) args) ≡ Some t → IsTyped (operation_on o ts)))
-          ⊎ ((p : PartStep u m.known o (map (operand_text f) args)) × ((operated o args e).known ≡ known_part (record { arg = p.whole.arg; lo = p.whole.lo + p.part.lo; ty = p.part.of }))) → OfValues o args (operated o args e).known
+      by : ((ts : List Tree) × (values_known m.known (map (operand_text f) args) ≡ Some ts) × ((operated o args e).known ≡ known_value (make_operation o ts))
+          × ((t : TypeTree) → operation_type o (map (operand_text f) args) ≡ Some t → IsTyped (operation_on o ts)))
+          ⊎ ((p : PartStep u m.known o (map (operand_text f) args)) × ((operated o args e).known ≡ known_part (record { arg = p.whole.arg; lo = p.whole.lo + p.part.lo; ty = p.part.of })))
+          → OfValues o args (operated o args e).known
       by (inl x) = record { values = x.0; known = x.1; is = x.2; typed = x.3 }
       by (inr x) = absurd (no-step f o args none x.0.operand x.0.step x.0.part.of x.0.operands x.0.takes x.0.written)
 
-  values-told : (xs : List Typed) (ts : List Tree) → ValuesBelow r.flat.now.values (operand_ids xs) → values_known m.known (map (operand_text f) xs) ≡ Some ts → map (told_of s.told) (asks_at at.place xs) ≡ map Some ts
+  values-told : (xs : List Typed) (ts : List Tree) → ValuesBelow r.flat.now.values (operand_ids xs) → values_known m.known (map (operand_text f) xs) ≡ Some ts
+      → map (told_of s.told) (asks_at at.place xs) ≡ map Some ts
   values-told [] [] low e = refl
   values-told [] (y ∷ ts) low e = absurd cc
   values-told (x ∷ xs) ts low e =
@@ -531,12 +551,14 @@ module _ (ns : List Node) (f : Naming) (name : UnitName) (r : Region) (w : Walk)
         fits = (z.typed t.0 (sym (ap (λ (x : Inst). result_type (inst_text f x)) e) ∙ t.2)).1;
       }
 
-  pub pure-next : (ms : List Node) (q : Walk) (o : Op) (args : List Typed) (v : ValueId) → l.inst ≡ inst.Pure o args → l.result ≡ Some v → Low → step_on o args ≡ None → Grows ns ms → Keeps q → q.rows ≡ w.rows → SamePlaces w.places.items q.places.items
+  pub pure-next : (ms : List Node) (q : Walk) (o : Op) (args : List Typed) (v : ValueId) → l.inst ≡ inst.Pure o args → l.result ≡ Some v → Low → step_on o args ≡ None → Grows ns ms → Keeps q
+      → q.rows ≡ w.rows → SamePlaces w.places.items q.places.items
       → GivesWhere (IsOperationOn at.place o args) ns w.places.items at.place v.0 ms q.places.items → Next ms q
   pure-next ms q o args v e k low none grows y rows same gives =
       let z = of-values o args e none in
       let x : Tree = make_operation o z.values in
-      given-next ms q (IsOperationOn at.place o args) v.0 (known_value x) x grows (ap leads_nowhere e) y same (low-result v low k) (z.values, values-told args z.values (low-used (inst.Pure o args) low e) z.known, refl) refl gives
+      given-next ms q (IsOperationOn at.place o args) v.0 (known_value x) x grows (ap leads_nowhere e) y same (low-result v low k)
+      (z.values, values-told args z.values (low-used (inst.Pure o args) low e) z.known, refl) refl gives
       (known-by (inst.Pure o args) v (known_value x) e k (ap (λ (a : Option Known). with_given m.known (Some (f.value_name v.0)) a) ((operated o args e).is ∙ ap Some z.is)))
       (rows-stay ms q grows rows (rows-by (inst.Pure o args) e refl))
 
@@ -554,7 +576,8 @@ module _ (ns : List Node) (f : Naming) (name : UnitName) (r : Region) (w : Walk)
       let t = line-type v k in
       let z = operated o args e in
       let n : List ℕ = f.value_name v.0 in
-      let first : operation_type o (map (operand_text f) args) ≡ Some (signal_type x.1) = ap (λ (xs : List Typed). operation_type o (map (operand_text f) xs)) x.3 ∙ step-first o x.2 (operand_text f x.0 ∷ []) x.4 ∙ x.5 in
+      let first : operation_type o (map (operand_text f) args) ≡ Some (signal_type x.1) = ap (λ (xs : List Typed). operation_type o (map (operand_text f) xs)) x.3
+      ∙ step-first o x.2 (operand_text f x.0 ∷ []) x.4 ∙ x.5 in
       let ty : t.0 ≡ signal_type x.1 = same_Some t.0 (signal_type x.1) (sym t.2 ∙ ap (λ (y : Inst). result_type (inst_text f y)) e ∙ first) in
       let a = z.fits n t.0 (ap (maybe_text f) k) t.1 in
       let known : (takes_line f r h l m).known ≡ with_known m.known n z.known = known-by (inst.Pure o args) v z.known e k (ap (λ (y : Option Known). with_given m.known (Some n) y) z.is) in
@@ -565,7 +588,8 @@ module _ (ns : List Node) (f : Naming) (name : UnitName) (r : Region) (w : Walk)
   -- ---- a probe
 
   -- the table has the part that is known under a name
-  part-is-there : (v : ℕ) (p : Part) (t : TypeTree) → v < r.flat.now.values → value_type u (f.value_name v) ≡ Some t → part_known m.known (f.value_name v) ≡ Some p → part_at r.parts.now.parts.items v ≡ Some p
+  part-is-there : (v : ℕ) (p : Part) (t : TypeTree) → v < r.flat.now.values → value_type u (f.value_name v) ≡ Some t → part_known m.known (f.value_name v) ≡ Some p
+      → part_at r.parts.now.parts.items v ≡ Some p
   part-is-there v p t low ty k = part-there name f r.flat.now i.region.names i.region.below r.parts.now i.region.table v p low (part-of-known u m.known (f.value_name v) p t i.knows.typed ty k)
 
   -- the part that a line probes or drives
@@ -586,13 +610,15 @@ module _ (ns : List Node) (f : Naming) (name : UnitName) (r : Region) (w : Walk)
   probe-is : (of : Typed) (e : l.inst ≡ inst.Prb of) (low : Low) → takes_line f r h l m ≡ probes g m lt.result (Some (probed-part of e low).part)
   probe-is of e low = ap (λ (x : Inst). takes g h (inst_text f x) lt.result m) e ∙ ap (probes g m lt.result) (probed-part of e low).known
 
-  pub probe-rows : (ms : List Node) (q : Walk) (of : Typed) (e : l.inst ≡ inst.Prb of) (low : Low) (p : Part) → part_at r.parts.now.parts.items of.value.0 ≡ Some p → IsProbed ns w.rows ms q.rows p → AreRows ms q.rows (takes_line f r h l m).rows
+  pub probe-rows : (ms : List Node) (q : Walk) (of : Typed) (e : l.inst ≡ inst.Prb of) (low : Low) (p : Part) → part_at r.parts.now.parts.items of.value.0 ≡ Some p → IsProbed ns w.rows ms q.rows p
+      → AreRows ms q.rows (takes_line f r h l m).rows
   probe-rows ms q of e low p is probed' =
       let z = probed-part of e low in
       let same : p ≡ z.part = same_Some p z.part (sym is ∙ z.is) in
       subst (λ (x : Midst). AreRows ms q.rows x.rows) (sym (probe-is of e low)) (subst (λ (x : Part). IsProbed ns w.rows ms q.rows x) same probed' g lt.result m i.midst.so_far.rows)
 
-  pub prb-next : (ms : List Node) (q : Walk) (of : Typed) (v : ValueId) (p : Part) → l.inst ≡ inst.Prb of → l.result ≡ Some v → Low → part_at r.parts.now.parts.items of.value.0 ≡ Some p → Grows ns ms → Keeps q → SamePlaces w.places.items q.places.items
+  pub prb-next : (ms : List Node) (q : Walk) (of : Typed) (v : ValueId) (p : Part) → l.inst ≡ inst.Prb of → l.result ≡ Some v → Low → part_at r.parts.now.parts.items of.value.0 ≡ Some p → Grows ns ms
+      → Keeps q → SamePlaces w.places.items q.places.items
       → GivesWhere (IsThat (probed r.is_past p)) ns w.places.items at.place v.0 ms q.places.items → IsProbed ns w.rows ms q.rows p → Next ms q
   prb-next ms q of v p e k low is grows y same gives rows =
       let z = probed-part of e low in
@@ -603,7 +629,8 @@ module _ (ns : List Node) (f : Naming) (name : UnitName) (r : Region) (w : Walk)
       (probe-rows ms q of e low p is rows)
 
   -- no name is given to the value
-  pub prb-none : (ms : List Node) (q : Walk) (of : Typed) (p : Part) → l.inst ≡ inst.Prb of → l.result ≡ None → Low → part_at r.parts.now.parts.items of.value.0 ≡ Some p → Grows ns ms → Keeps q → q.places ≡ w.places → IsProbed ns w.rows ms q.rows p → Next ms q
+  pub prb-none : (ms : List Node) (q : Walk) (of : Typed) (p : Part) → l.inst ≡ inst.Prb of → l.result ≡ None → Low → part_at r.parts.now.parts.items of.value.0 ≡ Some p → Grows ns ms → Keeps q
+      → q.places ≡ w.places → IsProbed ns w.rows ms q.rows p → Next ms q
   prb-none ms q of p e k low is grows y same rows =
       let z = probed-part of e low in
       let known : (takes_line f r h l m).known ≡ m.known = ap (λ (x : Midst). x.known) (probe-is of e low) ∙ ap (λ (x : Option ValueId). (probes g m (maybe_text f x) (Some z.part)).known) k in
@@ -612,7 +639,7 @@ module _ (ns : List Node) (f : Naming) (name : UnitName) (r : Region) (w : Walk)
         continues = i.midst.continues;
         is = i.midst.is;
         places = i.midst.places ∙ (λ j. length (sym same j).items);
-        tells = subst (λ (x : List Place). Tells ms x s.told) (λ j. (sym same j).items) (tells-grown ns ms w.places.items s.told grows i.midst.tells);
+        tells = subst (λ (x : List PlaceState). Tells ms x s.told) (λ j. (sym same j).items) (tells-grown ns ms w.places.items s.told grows i.midst.tells);
         known = subst (TellsKnown s at.place) (sym known) i.midst.known;
         rows = probe-rows ms q of e low p is rows;
       })
@@ -620,12 +647,14 @@ module _ (ns : List Node) (f : Naming) (name : UnitName) (r : Region) (w : Walk)
   -- ---- a drive
 
   abbrev Drives : (to : Typed) (value after : ValueId) (cond : Option ValueId) → Type 0
-  Drives to value after cond = Taking.Driven u g region at.block bt block-is h i.stands.label i.midst.condition done lt rest site m i.knows.typed i.knows.there (operand_text f to) (f.value_name value.0) (f.value_name after.0) (maybe_text f cond)
+  Drives to value after cond = Taking.Driven u g region at.block bt block-is h i.stands.label i.midst.condition done lt rest site m i.knows.typed i.knows.there (operand_text f to)
+      (f.value_name value.0) (f.value_name after.0) (maybe_text f cond)
 
   driven : (to : Typed) (value after : ValueId) (cond : Option ValueId) → l.inst ≡ inst.Drv to value after cond → Drives to value after cond
   driven to value after cond e =
       let k = rights (inst.Drv to value after cond) e in
-      Taking.drv-known u g region at.block bt block-is h i.stands.label i.midst.condition done lt rest site m i.knows.typed i.knows.there (operand_text f to) (f.value_name value.0) (f.value_name after.0) (maybe_text f cond) k.row k.there
+      Taking.drv-known u g region at.block bt block-is h i.stands.label i.midst.condition done lt rest site m i.knows.typed i.knows.there (operand_text f to) (f.value_name value.0)
+      (f.value_name after.0) (maybe_text f cond) k.row k.there
 
   -- what is told of the value after `if`, and what the drive's condition is by it
   abbrev CondTold : Option ValueId → Tree → Type 0
@@ -649,7 +678,13 @@ module _ (ns : List Node) (f : Naming) (name : UnitName) (r : Region) (w : Walk)
       let d = driven to value after cond e in
       let n = low-used (inst.Drv to value after cond) low e in
       record {
-        part = record { part = d.part; within = subst (λ (x : ℕ). to.value.0 < x) (sym i.region.table.long) n.0; is = part-is-there to.value.0 d.part (signal_type d.part.ty) n.0 d.to_type d.part_is; known = d.part_is; carries = d.right.part };
+        part = record {
+          part = d.part;
+          within = subst (λ (x : ℕ). to.value.0 < x) (sym i.region.table.long) n.0;
+          is = part-is-there to.value.0 d.part (signal_type d.part.ty) n.0 d.to_type d.part_is;
+          known = d.part_is;
+          carries = d.right.part;
+        };
         term = d.term;
         delay = d.delay;
         when = d.when;
@@ -660,7 +695,9 @@ module _ (ns : List Node) (f : Naming) (name : UnitName) (r : Region) (w : Walk)
         is = ap (λ (x : Inst). takes g h (inst_text f x) lt.result m) e ∙ (λ j. drives m (d.when_is j) (d.part_is j) (d.term_is j) (d.delay_is j));
       }
     where
-      by : (c : Option ValueId) → ValuesBelow r.flat.now.values (maybe_id c) → (when : Tree) → ((maybe_text f c ≡ None) × (when ≡ h.cond)) ⊎ ((n : List ℕ) × (t : Tree) × (maybe_text f c ≡ Some n) × (value_known m.known n ≡ Some t) × IsCondition t × IsOf u bit n × (when ≡ both h.cond t)) → CondTold c when
+      by : (c : Option ValueId) → ValuesBelow r.flat.now.values (maybe_id c) → (when : Tree)
+          → ((maybe_text f c ≡ None) × (when ≡ h.cond)) ⊎ ((n : List ℕ) × (t : Tree) × (maybe_text f c ≡ Some n) × (value_known m.known n ≡ Some t) × IsCondition t × IsOf u bit n
+          × (when ≡ both h.cond t)) → CondTold c when
       by None n when (inl x) = x.1
       by None n when (inr x) = absurd (none-some x.0 x.2)
       by (Some c) n when (inl x) = absurd (none-some (f.value_name c.0) (sym x.0))
@@ -671,7 +708,7 @@ module _ (ns : List Node) (f : Naming) (name : UnitName) (r : Region) (w : Walk)
   may-test (Some v) when c = record { told = s.told; tells = i.midst.tells; cond = c.0; is = c.1; condition = c.2 }
 
   -- the condition of the drive by ids
-  module _ (ms : List Node) (qs : List Place) (cond : Option ValueId) (when : Tree) (c : CondTold cond when) where
+  module _ (ms : List Node) (qs : List PlaceState) (cond : Option ValueId) (when : Tree) (c : CondTold cond when) where
     pub tested : StillTested ns w.places.items ms qs cond at.place → Tells ms qs s.told
     tested still = by cond c still
       where
@@ -679,14 +716,15 @@ module _ (ns : List Node) (f : Naming) (name : UnitName) (r : Region) (w : Walk)
         by None k t = t s.told i.midst.tells tt
         by (Some v) k t = t s.told i.midst.tells (ap is_some k.1)
 
-    pub drives-on : (t : TermId) → IsDriveCond ns w.places.items ms cond at.place (tree_at (trees ns) at.cond) t → Stands ms t when
+    pub drives-on : (t : TermId) → IsDriveCond ns w.places.items ms cond at.place (tree_at (trees ns) at.cond) t → StandsForTree ms t when
     drives-on t made = by cond c made
       where
-        by : (v : Option ValueId) → CondTold v when → IsDriveCond ns w.places.items ms v at.place (tree_at (trees ns) at.cond) t → Stands ms t when
-        by None k d = subst (Stands ms t) (i.midst.cond.tree ∙ sym k) d
-        by (Some v) k d = subst (Stands ms t) (ap (λ (x : Tree). both x k.0) i.midst.cond.tree ∙ sym k.3) (d s.told k.0 i.midst.tells k.1)
+        by : (v : Option ValueId) → CondTold v when → IsDriveCond ns w.places.items ms v at.place (tree_at (trees ns) at.cond) t → StandsForTree ms t when
+        by None k d = subst (StandsForTree ms t) (i.midst.cond.tree ∙ sym k) d
+        by (Some v) k d = subst (StandsForTree ms t) (ap (λ (x : Tree). both x k.0) i.midst.cond.tree ∙ sym k.3) (d s.told k.0 i.midst.tells k.1)
 
-  module _ (to : Typed) (value after : ValueId) (cond : Option ValueId) (d : DriveTold to value after cond) (ms : List Node) (qs : List Place) (tells : Tells ms qs s.told) (t : TermId) (st : Stands ms t d.when) where
+  module _ (to : Typed) (value after : ValueId) (cond : Option ValueId) (d : DriveTold to value after cond) (ms : List Node) (qs : List PlaceState) (tells : Tells ms qs s.told) (t : TermId)
+      (st : StandsForTree ms t d.when) where
     abbrev at-drive : DriveAt
     at-drive = record { place = at.place; cond = t; value = value.0; after = after.0 }
 
@@ -696,7 +734,8 @@ module _ (ns : List Node) (f : Naming) (name : UnitName) (r : Region) (w : Walk)
     pub can-drive : CanDrive ms qs at-drive
     can-drive = record { told = s.told; tells = tells; value = ap is_some d.value_told; delay = ap is_some d.delay_told }
 
-    pub drive-next : (os : List Node) (q : Walk) (p : Part) → l.inst ≡ inst.Drv to value after cond → part_at r.parts.now.parts.items to.value.0 ≡ Some p → Grows ns ms → Grows ms os → Keeps q → SamePlaces w.places.items qs → SamePlaces qs q.places.items
+    pub drive-next : (os : List Node) (q : Walk) (p : Part) → l.inst ≡ inst.Drv to value after cond → part_at r.parts.now.parts.items to.value.0 ≡ Some p → Grows ns ms → Grows ms os → Keeps q
+        → SamePlaces w.places.items qs → SamePlaces qs q.places.items
         → StillDriven ms qs os q.places.items at-drive → IsDriven ms qs w.rows os q.rows at-drive p → Next os q
     drive-next os q p e is g1 g2 y same1 same2 still rows =
         let part : p ≡ d.part.part = same_Some p d.part.part (sym is ∙ d.part.is) in
@@ -723,7 +762,8 @@ module _ (ns : List Node) (f : Naming) (name : UnitName) (r : Region) (w : Walk)
   pub assert-told : (v : UnitId) (ty : TypeTree) (args : List Typed) → l.inst ≡ inst.Call v ty args → Low → AssertTold args
   assert-told v ty args e low = let k = rights (inst.Call v ty args) e in by args k.calls.1.args_are k.there (low-used (inst.Call v ty args) low e)
     where
-      by : (xs : List Typed) → ArgumentsAre u (map (operand_text f) xs) assert_args → Each (IsThere u (as_block bt) done) (map (λ (x : Use). x.value) (all_used data_or_time_needed (map (operand_text f) xs))) → ValuesBelow r.flat.now.values (operand_ids xs) → AssertTold xs
+      by : (xs : List Typed) → ArgumentsAre u (map (operand_text f) xs) assert_args
+          → Each (IsThere u (as_block bt) done) (map (λ (x : Use). x.value) (all_used data_or_time_needed (map (operand_text f) xs))) → ValuesBelow r.flat.now.values (operand_ids xs) → AssertTold xs
       by [] a t n = absurd a
       by (x ∷ y ∷ more) a t n = absurd a.1
       by (x ∷ []) a t n =
@@ -734,7 +774,7 @@ module _ (ns : List Node) (f : Naming) (name : UnitName) (r : Region) (w : Walk)
   pub can-assert : (args : List Typed) → AssertTold args → CanAskAll ns w.places.items (asks_at at.place args)
   can-assert args a = record { told = s.told; tells = i.midst.tells; within = each-in args; there = there-from s.told (asks_at at.place args) a.values a.told }
     where
-      each-in : (xs : List Typed) → Each (λ (x : Ask). x.place < length w.places.items) (asks_at at.place xs)
+      each-in : (xs : List Typed) → Each (λ (x : PlaceValue). x.place < length w.places.items) (asks_at at.place xs)
       each-in [] = tt
       each-in (x ∷ xs) = (in-place, each-in xs)
 
@@ -761,7 +801,8 @@ module _ (ns : List Node) (f : Naming) (name : UnitName) (r : Region) (w : Walk)
       let same : takes_line f r h l m ≡ m = ap (λ (x : Option ValueId). takes g h (inst_text f l.inst) (maybe_text f x) m) e ∙ alone-none f g h l.inst m alone in
       same-next (alone-leads l.inst alone) (λ j. (same j).rows) (subst (TellsKnown s at.place) (λ j. (sym same j).known) i.midst.known)
 
-  pub other-next : gives_alone l.inst ≡ true → ((d : Val) → l.inst ≡ inst.Const d → ⊥) → ((o : Op) (args : List Typed) → l.inst ≡ inst.Pure o args → ⊥) → ((of : Typed) → l.inst ≡ inst.Var of → ⊥) → ((of : Typed) → l.inst ≡ inst.Ld of → ⊥) → Next ns w
+  pub other-next : gives_alone l.inst ≡ true → ((d : Val) → l.inst ≡ inst.Const d → ⊥) → ((o : Op) (args : List Typed) → l.inst ≡ inst.Pure o args → ⊥) → ((of : Typed) → l.inst ≡ inst.Var of → ⊥)
+      → ((of : Typed) → l.inst ≡ inst.Ld of → ⊥) → Next ns w
   other-next alone nc np nv nl =
       let same : takes_line f r h l m ≡ m = alone-other f g h l.inst lt.result m alone nc np nv nl in
       same-next (alone-leads l.inst alone) (λ j. (same j).rows) (subst (TellsKnown s at.place) (λ j. (sym same j).known) i.midst.known)
@@ -771,7 +812,8 @@ module _ (ns : List Node) (f : Naming) (name : UnitName) (r : Region) (w : Walk)
   either-told of (inl e) low = let z = var-told of e low in can-ask of.value.0 z.0 z.2
   either-told of (inr e) low = let z = ld-told of e low in can-ask of.value.0 z.0 z.2
 
-  pub either-next : (ms : List Node) (q : Walk) (of : Typed) (v : ValueId) → (l.inst ≡ inst.Var of) ⊎ (l.inst ≡ inst.Ld of) → l.result ≡ Some v → Low → Grows ns ms → Keeps q → q.rows ≡ w.rows → SamePlaces w.places.items q.places.items
+  pub either-next : (ms : List Node) (q : Walk) (of : Typed) (v : ValueId) → (l.inst ≡ inst.Var of) ⊎ (l.inst ≡ inst.Ld of) → l.result ≡ Some v → Low → Grows ns ms → Keeps q → q.rows ≡ w.rows
+      → SamePlaces w.places.items q.places.items
       → GivesWhere (IsToldOf at.place of.value.0) ns w.places.items at.place v.0 ms q.places.items → Next ms q
   either-next ms q of v (inl e) k low grows y rows same gives = var-next ms q of v e k low grows y rows same gives
   either-next ms q of v (inr e) k low grows y rows same gives = ld-next ms q of v e k low grows y rows same gives

@@ -11,7 +11,7 @@ use Rattle.lh_flat.specs.Flat.{FlatBlockText}
 use Rattle.lh_flat.specs.Reads.{flat_block_text, flat_blocks_text}
 use Rattle.lh_term.specs.Make.{bit_of}
 use Rattle.lh_term.specs.declared.term.Node.{Node}
-use Rattle.lh_rows.specs.Joins.{Place as PlaceOf, Edge as EdgeTo}
+use Rattle.lh_rows.specs.Joins.{RegionPlace, RegionEdge}
 use Rattle.lh_rows.specs.Places.{Region as RegionText, next_place}
 use Rattle.lh_rows.specs.Regions.{RegionRefusal, Course, no_course, Coursed, comes_to, then_course, through_block, is_place, edges_to, through_all, all_places, region_from}
 use Rattle.lh_rows.specs.Right.{BlockAt}
@@ -19,10 +19,10 @@ use Rattle.lh_rows.proofs.Steps.{RegionOf, EdgeRight}
 use Rattle.lh_rows.proofs.Merging.{bit-condition}
 use Rattle.lh_rows.proofs.Ordered.{Before, next-later, place-is}
 use Rattle.lh_rows.proofs.Courses as Courses
-use Rattle.lh_region.specs.declared.state.Place.{Place}
+use Rattle.lh_region.specs.declared.state.PlaceState.{PlaceState}
 use Rattle.lh_walk.specs.declared.walk.Region.{Region}
 use Rattle.lh_walk.specs.declared.walk.Walk.{Walk}
-use Rattle.lh_walk.specs.declared.walk.At.{At}
+use Rattle.lh_walk.specs.declared.walk.WalkPoint.{WalkPoint}
 use Rattle.lh_region.specs.declared.rows.RegionFault.{RegionFault}
 use Rattle.lh_region.specs.Ahead.{LeadsNowhere}
 use Rattle.lh_region.specs.Asked.{edges_at, Tells}
@@ -34,7 +34,7 @@ use Rattle.lh_walk.proofs.Regional.{region-of, block-at-text}
 use Rattle.lh_walk.proofs.NamedCourse.{named-place}
 
 -- a walk that has not begun
-pub record IsFresh (r : Region) (ps : List Place) (w : Walk) : Type 0 where
+pub record IsFresh (r : Region) (ps : List PlaceState) (w : Walk) : Type 0 where
   pub places : w.places.items ≡ ps
   pub here : LeadsNowhere (length r.flat.now.blocks) w.ahead.here.items
   pub next : LeadsNowhere (length r.flat.now.blocks) w.ahead.next.items
@@ -50,13 +50,15 @@ text-length f k [] = refl
 text-length f k (b ∷ bs) = ap suc (text-length f (k + 1) bs)
 
 -- where a region starts, by the definition
-region-is : (g : RegionText) (k : ℕ) (b : FlatBlockText) (es : List EdgeTo) → slice_get g.blocks k ≡ Some b → region_from g k es ≡ then_course (through_block g (place_of 0 k) (bit_of true) es no_course b) (through_all g (all_places (length g.blocks)))
+region-is : (g : RegionText) (k : ℕ) (b : FlatBlockText) (es : List RegionEdge) → slice_get g.blocks k ≡ Some b
+    → region_from g k es ≡ then_course (through_block g (place_of 0 k) (bit_of true) es no_course b) (through_all g (all_places (length g.blocks)))
 unfolding region_from
-region-is g k b es e = ap (λ (o : Option FlatBlockText). then_course (option_map_or (through_block g (place_of 0 k) (bit_of true) es no_course) o (comes_to no_course)) (through_all g (all_places (length g.blocks)))) e
+region-is g k b es e = ap (λ (o : Option FlatBlockText). then_course (option_map_or (through_block g (place_of 0 k) (bit_of true) es no_course) o (comes_to no_course))
+    (through_all g (all_places (length g.blocks)))) e
 
 -- edges that lead on from a place of turn 0 lead to no earlier one
 module _ (u : UnitText) (g : RegionText) (k b : ℕ) (l : b < k + 1) where
-  not-there : (e : EdgeTo) → e.to ≡ next_place (place_of 0 k) e.to.block → (x : Bool) → is_place e.to (place_of 0 b) ≡ x → x ≡ false
+  not-there : (e : RegionEdge) → e.to ≡ next_place (place_of 0 k) e.to.block → (x : Bool) → is_place e.to (place_of 0 b) ≡ x → x ≡ false
   not-there e q false h = refl
   not-there e q true h =
       let z : Before (place_of 0 k) (place_of 0 b) = subst (Before (place_of 0 k)) (place-is e.to (place_of 0 b) h) (next-later (place_of 0 k) e.to q) in
@@ -65,20 +67,21 @@ module _ (u : UnitText) (g : RegionText) (k b : ℕ) (l : b < k + 1) where
       clash : k < b → ⊥
       clash y = omega (arith, y, l)
 
-  none-there : (es : List EdgeTo) → Each (λ (e : EdgeTo). e.to ≡ next_place (place_of 0 k) e.to.block) es → edges_to (place_of 0 b) es ≡ []
+  none-there : (es : List RegionEdge) → Each (λ (e : RegionEdge). e.to ≡ next_place (place_of 0 k) e.to.block) es → edges_to (place_of 0 b) es ≡ []
   none-there [] h = refl
   none-there (e ∷ es) h =
       let z = not-there e h.0 (is_place e.to (place_of 0 b)) refl in
       ap (λ (x : Bool). if x then e ∷ edges_to (place_of 0 b) es else edges_to (place_of 0 b) es) z ∙ none-there es h.1
 
-module _ (ns : List Node) (f : Naming) (name : UnitName) (r : Region) (ps : List Place) (at : At) (before now : Story) (b : FlatBlock) (x : EdgeTo) (xs : List EdgeTo) (h : IsStart ns f name r ps at before now b x xs) where
+module _ (ns : List Node) (f : Naming) (name : UnitName) (r : Region) (ps : List PlaceState) (at : WalkPoint) (before now : Story) (b : FlatBlock) (x : RegionEdge) (xs : List RegionEdge)
+    (h : IsStart ns f name r ps at before now b x xs) where
   abbrev u : UnitText
   u = process_by name f r.flat.now
 
   abbrev g : RegionText
   g = region_text f r
 
-  abbrev p : PlaceOf
+  abbrev p : RegionPlace
   p = place_of 0 at.block
 
   abbrev bt : FlatBlockText
@@ -154,7 +157,8 @@ module _ (ns : List Node) (f : Naming) (name : UnitName) (r : Region) (ps : List
     placed =
         let y = t f name before (start_here f at) b x xs no_course (start-opened w k) in
         let d = Courses.treated u g reg p (bit_of true) (x ∷ xs) no_course bt y.1 y.2 in
-        let a = subst (Courses.Adds u g reg p bt bat (bit_of true) (bit-condition true) x xs h.join (Courses.start_at u g reg (x ∷ xs) no_course bt)) (sym d.is) (Courses.place-adds u g reg p bt bat (bit_of true) (bit-condition true) x xs h.join no_course) in
+        let a = subst (Courses.Adds u g reg p bt bat (bit_of true) (bit-condition true) x xs h.join (Courses.start_at u g reg (x ∷ xs) no_course bt)) (sym d.is)
+        (Courses.place-adds u g reg p bt bat (bit_of true) (bit-condition true) x xs h.join no_course) in
         record {
           story = y.0;
           course = y.1;
@@ -170,7 +174,7 @@ module _ (ns : List Node) (f : Naming) (name : UnitName) (r : Region) (ps : List
           };
         }
       where
-        new-edges : (es : List EdgeTo) → Each (EdgeRight u g (Courses.here_at u g reg p (bit_of true) bt)) es → Each (λ (e : EdgeTo). e.to ≡ next_place (place_of 0 at.block) e.to.block) es
+        new-edges : (es : List RegionEdge) → Each (EdgeRight u g (Courses.here_at u g reg p (bit_of true) bt)) es → Each (λ (e : RegionEdge). e.to ≡ next_place (place_of 0 at.block) e.to.block) es
         new-edges [] a = tt
         new-edges (e ∷ es) a = (a.0.place, new-edges es a.1)
 
@@ -181,13 +185,14 @@ module _ (ns : List Node) (f : Naming) (name : UnitName) (r : Region) (ps : List
     from-placed = from-is ∙ ap (λ (y : Coursed). then_course y (through_all g (all_places (length r.flat.now.blocks)))) placed.is
 
 -- the first place, and then all turns
-pub goes-through : (ns : List Node) (r : Region) (ps : List Place) (at : At) (w : Walk) → IsFresh r ps w → (ms : List Node) (q : Walk) → Treats ns r w at ms q → (os : List Node) (z : Walk) → PassesAll (turns_at ms r q 0 (at.block + 1)) r os z → GoesThrough ns r ps at os z
+pub goes-through : (ns : List Node) (r : Region) (ps : List PlaceState) (at : WalkPoint) (w : Walk) → IsFresh r ps w → (ms : List Node) (q : Walk) → Treats ns r w at ms q → (os : List Node) (z : Walk)
+    → PassesAll (turns_at ms r q 0 (at.block + 1)) r os z → GoesThrough ns r ps at os z
 goes-through ns r ps at w k ms q t os z a f name before now b x xs h =
     let d = placed ns f name r ps at before now b x xs h w k ms q t in
     let y = a f name d.story d.course d.turn in
     (y.0, (y.1.0, y.1.1, from-placed ns f name r ps at before now b x xs h w k ms q t ∙ y.1.2, y.1.3))
 
-pub goes-not-first : (ns : List Node) (r : Region) (ps : List Place) (at : At) (w : Walk) → IsFresh r ps w → (e : RegionFault) → TreatsNot ns r w at e → GoesNot ns r ps at e
+pub goes-not-first : (ns : List Node) (r : Region) (ps : List PlaceState) (at : WalkPoint) (w : Walk) → IsFresh r ps w → (e : RegionFault) → TreatsNot ns r w at e → GoesNot ns r ps at e
 goes-not-first ns r ps at w k e t f name before now b x xs h =
     by (refusal_of e) (t f name before (start_here f at) b x xs no_course (start-opened ns f name r ps at before now b x xs h w k))
   where
@@ -195,17 +200,19 @@ goes-not-first ns r ps at w k e t f name before now b x xs h =
     by None s = tt
     by (Some y) s = from-is ns f name r ps at before now b x xs h ∙ ap (λ (c : Coursed). then_course c (through_all (region_text f r) (all_places (length r.flat.now.blocks)))) s
 
-pub goes-not-later : (ns : List Node) (r : Region) (ps : List Place) (at : At) (w : Walk) → IsFresh r ps w → (ms : List Node) (q : Walk) → Treats ns r w at ms q → (e : RegionFault) → Stops (turns_at ms r q 0 (at.block + 1)) r (all_places (length r.flat.now.blocks)) e → GoesNot ns r ps at e
+pub goes-not-later : (ns : List Node) (r : Region) (ps : List PlaceState) (at : WalkPoint) (w : Walk) → IsFresh r ps w → (ms : List Node) (q : Walk) → Treats ns r w at ms q → (e : RegionFault)
+    → Stops (turns_at ms r q 0 (at.block + 1)) r (all_places (length r.flat.now.blocks)) e → GoesNot ns r ps at e
 goes-not-later ns r ps at w k ms q t e a f name before now b x xs h =
     let d = placed ns f name r ps at before now b x xs h w k ms q t in
     subst (λ (y : Coursed). StopsFor y (refusal_of e)) (sym (from-placed ns f name r ps at before now b x xs h w k ms q t)) (a f name d.story d.course d.turn)
 
 -- ---- some start
 
-pub start-can : (ns : List Node) (r : Region) (ps : List Place) (at : At) (w : Walk) → IsFresh r ps w → CanStart ns r ps at → CanTreat ns r w at
+pub start-can : (ns : List Node) (r : Region) (ps : List PlaceState) (at : WalkPoint) (w : Walk) → IsFresh r ps w → CanStart ns r ps at → CanTreat ns r w at
 start-can ns r ps at w k a = start-treat ns a.naming a.name r ps at a.before a.now a.block a.first a.more a.start w k
 
-pub start-turn : (ns : List Node) (r : Region) (ps : List Place) (at : At) (w : Walk) → IsFresh r ps w → CanStart ns r ps at → (ms : List Node) (q : Walk) → Treats ns r w at ms q → CanTurn ms r q 0 (at.block + 1)
+pub start-turn : (ns : List Node) (r : Region) (ps : List PlaceState) (at : WalkPoint) (w : Walk) → IsFresh r ps w → CanStart ns r ps at → (ms : List Node) (q : Walk) → Treats ns r w at ms q
+    → CanTurn ms r q 0 (at.block + 1)
 start-turn ns r ps at w k a ms q t = placed-turn ns a.naming a.name r ps at a.before a.now a.block a.first a.more a.start w k ms q t
 
 get-within : (bs : List FlatBlock) (k : ℕ) (b : FlatBlock) → slice_get bs k ≡ Some b → k + 1 ≤ length bs
@@ -213,10 +220,11 @@ get-within [] k b e = absurd (none-some b e)
 get-within (c ∷ bs) zero b e = omega arith
 get-within (c ∷ bs) (suc k) b e = omega (arith, get-within bs k b e)
 
-pub start-within : (ns : List Node) (r : Region) (ps : List Place) (at : At) → CanStart ns r ps at → at.block + 1 ≤ length r.flat.now.blocks
+pub start-within : (ns : List Node) (r : Region) (ps : List PlaceState) (at : WalkPoint) → CanStart ns r ps at → at.block + 1 ≤ length r.flat.now.blocks
 start-within ns r ps at a = get-within r.flat.now.blocks at.block a.block a.start.block
 
-pub fresh : (r : Region) (ps : List Place) (w : Walk) (n : ℕ) → n ≡ length r.flat.now.blocks → w.places.items ≡ ps → LeadsNowhere n w.ahead.here.items → LeadsNowhere n w.ahead.next.items → w.insts ≡ 0 → w.rows.probes ≡ [] → w.rows.drives ≡ [] → w.rows.asserts ≡ [] → w.rows.ends ≡ [] → w.sources ≡ [] → IsFresh r ps w
+pub fresh : (r : Region) (ps : List PlaceState) (w : Walk) (n : ℕ) → n ≡ length r.flat.now.blocks → w.places.items ≡ ps → LeadsNowhere n w.ahead.here.items → LeadsNowhere n w.ahead.next.items
+    → w.insts ≡ 0 → w.rows.probes ≡ [] → w.rows.drives ≡ [] → w.rows.asserts ≡ [] → w.rows.ends ≡ [] → w.sources ≡ [] → IsFresh r ps w
 fresh r ps w n e places here next insts probes drives asserts ends sources = record {
   places = places;
   here = subst (λ k. LeadsNowhere k w.ahead.here.items) e here;

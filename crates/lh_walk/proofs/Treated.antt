@@ -24,7 +24,7 @@ use Rattle.lh_term.proofs.Arenas.{map_length}
 use Rattle.lh_term.proofs.Swaps.{grows_on}
 use Rattle.lh_joins.proofs.Conditions.{grows-none}
 use Rattle.lh_formed.proofs.EachItem.{each-split}
-use Rattle.lh_rows.specs.Joins.{Edge as EdgeTo}
+use Rattle.lh_rows.specs.Joins.{RegionEdge}
 use Rattle.lh_rows.specs.Places.{Region as RegionText, Here, Midst, takes, takes_all}
 use Rattle.lh_rows.specs.Regions.{Course, stops, comes_to, region_too_large, too_many_turns, max_insts, turns_too_often, after_lines}
 use Rattle.lh_rows.specs.Right.{as_block}
@@ -32,7 +32,7 @@ use Rattle.lh_rows.proofs.Sites.{block-at}
 use Rattle.lh_rows.proofs.Labels.{block-text}
 use Rattle.lh_walk.specs.declared.walk.Region.{Region}
 use Rattle.lh_walk.specs.declared.walk.Walk.{Walk}
-use Rattle.lh_walk.specs.declared.walk.At.{At}
+use Rattle.lh_walk.specs.declared.walk.WalkPoint.{WalkPoint}
 use Rattle.lh_region.specs.declared.rows.RegionFault.{RegionFault}
 use Rattle.lh_region.specs.declared.rows.RegionFault.TheVariants as fault
 use Rattle.lh_region.specs.Stands.{refusal_of}
@@ -51,7 +51,8 @@ with_insts w n = record { places = w.places; ahead = w.ahead; insts = n; rows = 
 abbrev counted_to : ℕ → Course → Course
 counted_to n c = record { insts = n; edges = c.edges; rows = c.rows }
 
-pub opened-counted : (ns : List Node) (f : Naming) (name : UnitName) (r : Region) (w : Walk) (at : At) (before : Story) (h : Here) (b : FlatBlock) (x : EdgeTo) (xs : List EdgeTo) (c : Course) (n : ℕ) → IsOpened ns f name r w at before h b x xs c
+pub opened-counted : (ns : List Node) (f : Naming) (name : UnitName) (r : Region) (w : Walk) (at : WalkPoint) (before : Story) (h : Here) (b : FlatBlock) (x : RegionEdge) (xs : List RegionEdge)
+    (c : Course) (n : ℕ) → IsOpened ns f name r w at before h b x xs c
     → IsOpened ns f name r (with_insts w n) at before h b x xs (counted_to n c)
 opened-counted ns f name r w at before h b x xs c n o =
     let m = o.midst in
@@ -86,7 +87,7 @@ opened-counted ns f name r w at before h b x xs c n o =
       join = o.join;
     }
 
-pub can-treat-counted : (ns : List Node) (r : Region) (w : Walk) (at : At) (n : ℕ) → CanTreat ns r w at → CanTreat ns r (with_insts w n) at
+pub can-treat-counted : (ns : List Node) (r : Region) (w : Walk) (at : WalkPoint) (n : ℕ) → CanTreat ns r w at → CanTreat ns r (with_insts w n) at
 can-treat-counted ns r w at n c = record {
   naming = c.naming;
   name = c.name;
@@ -124,7 +125,8 @@ ends-once None ls e l more q = (e, λ p. let z : [] ≡ l ∷ more = sym p ∙ q
 ends-once (Some m) [] e l more q = cc
 ends-once (Some m) (k ∷ ls) e l more q = (e.1, λ p. cc)
 
-pub opened-ends : (ns : List Node) (f : Naming) (name : UnitName) (r : Region) (w : Walk) (at : At) (before : Story) (h : Here) (b : FlatBlock) (x : EdgeTo) (xs : List EdgeTo) (c : Course) → IsOpened ns f name r w at before h b x xs c → EndsLast b.insts
+pub opened-ends : (ns : List Node) (f : Naming) (name : UnitName) (r : Region) (w : Walk) (at : WalkPoint) (before : Story) (h : Here) (b : FlatBlock) (x : RegionEdge) (xs : List RegionEdge)
+    (c : Course) → IsOpened ns f name r w at before h b x xs c → EndsLast b.insts
 opened-ends ns f name r w at before h b x xs c o =
     let text = flat_block_text f at.block b in
     let blocks = (process_by name f r.flat.now).blocks in
@@ -153,36 +155,41 @@ takes-more : (f : Naming) (r : Region) (h : Here) (ls : List FlatInst) (l : Flat
 takes-more f r h ls l m = ap (λ (ys : List LineText). takes_all (region_text f r) h ys m) (map-last f ls l) ∙ takes-last (region_text f r) h (map (flat_line_text f) ls) (flat_line_text f l) m
 
 -- the lines that come next, by one and the others
-next-lines : (f : Naming) (seen : List FlatInst) (l : FlatInst) (more : List FlatInst) (rest : List LineText) → map (flat_line_text f) (seen ++ l ∷ more) ++ rest ≡ map (flat_line_text f) seen ++ (flat_line_text f l ∷ (map (flat_line_text f) more ++ rest))
+next-lines : (f : Naming) (seen : List FlatInst) (l : FlatInst) (more : List FlatInst) (rest : List LineText) → map (flat_line_text f) (seen ++ l ∷ more) ++ rest ≡ map (flat_line_text f) seen
+    ++ (flat_line_text f l ∷ (map (flat_line_text f) more ++ rest))
 next-lines f [] l more rest = refl
 next-lines f (k ∷ seen) l more rest = ap (λ (ys : List LineText). flat_line_text f k ∷ ys) (next-lines f seen l more rest)
 
-done-lines : (f : Naming) (done : List LineText) (seen : List FlatInst) (l : FlatInst) → (done ++ map (flat_line_text f) seen) ++ flat_line_text f l ∷ [] ≡ done ++ map (flat_line_text f) (seen ++ l ∷ [])
+done-lines : (f : Naming) (done : List LineText) (seen : List FlatInst) (l : FlatInst) → (done ++ map (flat_line_text f) seen) ++ flat_line_text f l ∷ [] ≡ done
+    ++ map (flat_line_text f) (seen ++ l ∷ [])
 done-lines f done seen l = append_assoc done (map (flat_line_text f) seen) (flat_line_text f l ∷ []) ∙ ap (λ (ys : List LineText). done ++ ys) (sym (map-last f seen l))
 
-pub record LinesSoFar (ns : List Node) (r : Region) (w : Walk) (at : At) (seen : List FlatInst) (ms : List Node) (q : Walk) : Type 0 where
+pub record LinesSoFar (ns : List Node) (r : Region) (w : Walk) (at : WalkPoint) (seen : List FlatInst) (ms : List Node) (q : Walk) : Type 0 where
   pub grows : Grows ns ms
   pub takes : TakesLines ns r w at seen ms q
 
-takes-none : (ns : List Node) (r : Region) (w : Walk) (at : At) → TakesLines ns r w at [] ns w
+takes-none : (ns : List Node) (r : Region) (w : Walk) (at : WalkPoint) → TakesLines ns r w at [] ns w
 takes-none ns r w at f name before h insts b done rest m bt = subst (λ (ds : List LineText). IsBetween ns f name r w at before h insts b ds rest m) (sym (append-nil done)) bt
 
-pub lines-none : (ns : List Node) (r : Region) (w : Walk) (at : At) (seen : List FlatInst) → seen ≡ [] → LinesSoFar ns r w at seen ns w
+pub lines-none : (ns : List Node) (r : Region) (w : Walk) (at : WalkPoint) (seen : List FlatInst) → seen ≡ [] → LinesSoFar ns r w at seen ns w
 lines-none ns r w at seen e = subst (λ (ls : List FlatInst). LinesSoFar ns r w at ls ns w) (sym e) (record { grows = grows-none ns; takes = takes-none ns r w at })
 
-takes-next : (ns ms os : List Node) (r : Region) (w q p : Walk) (at : At) (seen : List FlatInst) (l : FlatInst) → TakesLines ns r w at seen ms q → TakesLine ms r q at l os p → TakesLines ns r w at (seen ++ l ∷ []) os p
+takes-next : (ns ms os : List Node) (r : Region) (w q p : Walk) (at : WalkPoint) (seen : List FlatInst) (l : FlatInst) → TakesLines ns r w at seen ms q → TakesLine ms r q at l os p
+    → TakesLines ns r w at (seen ++ l ∷ []) os p
 takes-next ns ms os r w q p at seen l t u f name before h insts b done rest m bt =
     let a = t f name before h insts b done (flat_line_text f l ∷ rest) m (subst (λ (ys : List LineText). IsBetween ns f name r w at before h insts b done ys m) (next-lines f seen l [] rest) bt) in
     let d = u f name before h insts b (done ++ map (flat_line_text f) seen) rest (takes_lines f r h seen m) a in
     subst (λ (ys : List LineText). IsBetween os f name r p at before h insts b ys rest (takes_lines f r h (seen ++ l ∷ []) m)) (done-lines f done seen l)
     (subst (IsBetween os f name r p at before h insts b ((done ++ map (flat_line_text f) seen) ++ flat_line_text f l ∷ []) rest) (sym (takes-more f r h seen l m)) d)
 
-pub lines-next : (ns ms os : List Node) (r : Region) (w q p : Walk) (at : At) (seen after : List FlatInst) (l : FlatInst) → after ≡ seen ++ l ∷ [] → Grows ms os → TakesLine ms r q at l os p → LinesSoFar ns r w at seen ms q → LinesSoFar ns r w at after os p
+pub lines-next : (ns ms os : List Node) (r : Region) (w q p : Walk) (at : WalkPoint) (seen after : List FlatInst) (l : FlatInst) → after ≡ seen ++ l ∷ [] → Grows ms os → TakesLine ms r q at l os p
+    → LinesSoFar ns r w at seen ms q → LinesSoFar ns r w at after os p
 lines-next ns ms os r w q p at seen after l e g u s =
     subst (λ (ls : List FlatInst). LinesSoFar ns r w at ls os p) (sym e) (record { grows = grows_on ns ms os s.grows g; takes = takes-next ns ms os r w q p at seen l s.takes u })
 
 -- the next line may be taken
-next-can : (ns ms : List Node) (r : Region) (w q : Walk) (at : At) (seen : List FlatInst) (l : FlatInst) (more ls : List FlatInst) → ls ≡ seen ++ l ∷ more → TakesLines ns r w at seen ms q → CanTakeAll ns r w at ls → CanTake ms r q at l
+next-can : (ns ms : List Node) (r : Region) (w q : Walk) (at : WalkPoint) (seen : List FlatInst) (l : FlatInst) (more ls : List FlatInst) → ls ≡ seen ++ l ∷ more → TakesLines ns r w at seen ms q
+    → CanTakeAll ns r w at ls → CanTake ms r q at l
 next-can ns ms r w q at seen l more ls e t c =
     let f = c.naming in
     let below = each-split (InstBelow r.flat.now.values (length r.flat.now.blocks)) seen (l ∷ more) (subst (Each (InstBelow r.flat.now.values (length r.flat.now.blocks))) e c.below) in
@@ -199,7 +206,8 @@ next-can ns ms r w q at seen l more ls e t c =
       below = below.1.0;
       between =
           t f c.name c.before c.here c.insts c.block c.done (flat_line_text f l ∷ (map (flat_line_text f) more ++ c.rest)) c.midst
-          (subst (λ (ys : List LineText). IsBetween ns f c.name r w at c.before c.here c.insts c.block c.done ys c.midst) (ap (λ (ks : List FlatInst). map (flat_line_text f) ks ++ c.rest) e ∙ next-lines f seen l more c.rest) c.between);
+          (subst (λ (ys : List LineText). IsBetween ns f c.name r w at c.before c.here c.insts c.block c.done ys c.midst)
+          (ap (λ (ks : List FlatInst). map (flat_line_text f) ks ++ c.rest) e ∙ next-lines f seen l more c.rest) c.between);
     }
 
 item-split : (ls : List FlatInst) (i : ℕ) (l d : FlatInst) → i < length ls → l ≡ get_or ls i d → ls ≡ take i ls ++ l ∷ drop (i + 1) ls
@@ -214,7 +222,8 @@ last-split ls l h e =
     let n = length ls - 1 in
     item-split ls n l l (omega (arith, h)) e ∙ ap (λ (more : List FlatInst). take n ls ++ l ∷ more) (drop_all (n + 1) ls (omega (arith, h)))
 
-pub lines-can : (ns ms : List Node) (r : Region) (w q : Walk) (at : At) (ls : List FlatInst) (i : ℕ) (l d : FlatInst) → i < length ls → l ≡ get_or ls i d → LinesSoFar ns r w at (take i ls) ms q → CanTakeAll ns r w at ls → CanTake ms r q at l
+pub lines-can : (ns ms : List Node) (r : Region) (w q : Walk) (at : WalkPoint) (ls : List FlatInst) (i : ℕ) (l d : FlatInst) → i < length ls → l ≡ get_or ls i d → LinesSoFar ns r w at (take i ls) ms q
+    → CanTakeAll ns r w at ls → CanTake ms r q at l
 lines-can ns ms r w q at ls i l d h e s c = next-can ns ms r w q at (take i ls) l (drop (i + 1) ls) ls (item-split ls i l d h e) s.takes c
 
 pub line-inner : (ls : List FlatInst) (i : ℕ) (l d : FlatInst) → i < length ls → l ≡ get_or ls i d → LeadNowhere ls → leads_nowhere l.inst ≡ true
@@ -224,7 +233,7 @@ line-inner (k ∷ ls) (suc i) l d h e n = line-inner ls i l d (omega (arith, h))
 
 -- ---- all lines but the last, and the last
 
-module _ (ns : List Node) (r : Region) (w : Walk) (at : At) (ls inner : List FlatInst) (l : FlatInst) (is : ls ≡ inner ++ l ∷ []) where
+module _ (ns : List Node) (r : Region) (w : Walk) (at : WalkPoint) (ls inner : List FlatInst) (l : FlatInst) (is : ls ≡ inner ++ l ∷ []) where
   pub inner-can : CanTakeAll ns r w at ls → CanTakeAll ns r w at inner
   inner-can c =
       let f = c.naming in
@@ -239,7 +248,8 @@ module _ (ns : List Node) (r : Region) (w : Walk) (at : At) (ls inner : List Fla
         rest = flat_line_text f l ∷ c.rest;
         midst = c.midst;
         below = (each-split (InstBelow r.flat.now.values (length r.flat.now.blocks)) inner (l ∷ []) (subst (Each (InstBelow r.flat.now.values (length r.flat.now.blocks))) is c.below)).0;
-        between = subst (λ (ys : List LineText). IsBetween ns f c.name r w at c.before c.here c.insts c.block c.done ys c.midst) (ap (λ (ks : List FlatInst). map (flat_line_text f) ks ++ c.rest) is ∙ next-lines f inner l [] c.rest) c.between;
+        between = subst (λ (ys : List LineText). IsBetween ns f c.name r w at c.before c.here c.insts c.block c.done ys c.midst)
+            (ap (λ (ks : List FlatInst). map (flat_line_text f) ks ++ c.rest) is ∙ next-lines f inner l [] c.rest) c.between;
       }
 
   pub inner-nowhere : EndsLast ls → LeadNowhere inner
@@ -252,7 +262,8 @@ module _ (ns : List Node) (r : Region) (w : Walk) (at : At) (ls inner : List Fla
     pub last-can : CanTakeAll ns r w at ls → CanTake ms r q at l
     last-can c = next-can ns ms r w q at inner l [] ls is t c
 
-    last-between : (f : Naming) (name : UnitName) (before : Story) (h : Here) (insts : ℕ) (b : FlatBlock) (done : List LineText) (m : Midst) → IsBetween ns f name r w at before h insts b done (map (flat_line_text f) ls) m
+    last-between : (f : Naming) (name : UnitName) (before : Story) (h : Here) (insts : ℕ) (b : FlatBlock) (done : List LineText) (m : Midst)
+        → IsBetween ns f name r w at before h insts b done (map (flat_line_text f) ls) m
         → IsBetween ms f name r q at before h insts b (done ++ map (flat_line_text f) inner) (flat_line_text f l ∷ []) (takes_lines f r h inner m)
     last-between f name before h insts b done m bt =
         t f name before h insts b done (flat_line_text f l ∷ []) m
@@ -269,12 +280,17 @@ module _ (ns : List Node) (r : Region) (w : Walk) (at : At) (ls inner : List Fla
     pub ends-for : (x : RegionFault) → EndsFor ms r q at l x → EndsLinesFor ns r w at ls x
     ends-for x (inl e) = inl e
     ends-for x (inr e) =
-        inr (e.0, λ f name before h insts b done m bt. ap (λ (y : Midst). turns_too_often y.edges) (all-taken f h m) ∙ e.1 f name before h insts b (done ++ map (flat_line_text f) inner) [] (takes_lines f r h inner m) (last-between f name before h insts b done m bt))
+        inr (
+          e.0,
+          λ f name before h insts b done m bt. ap (λ (y : Midst). turns_too_often y.edges) (all-taken f h m)
+              ∙ e.1 f name before h insts b (done ++ map (flat_line_text f) inner) [] (takes_lines f r h inner m) (last-between f name before h insts b done m bt),
+        )
 
 -- ---- what the definition comes to
 
-module _ (ns : List Node) (f : Naming) (name : UnitName) (r : Region) (w : Walk) (at : At) (before : Story) (h : Here) (b : FlatBlock) (x : EdgeTo) (xs : List EdgeTo) (c : Course) (o : IsOpened ns f name r w at before h b x xs c) where
-  abbrev es_here : List EdgeTo
+module _ (ns : List Node) (f : Naming) (name : UnitName) (r : Region) (w : Walk) (at : WalkPoint) (before : Story) (h : Here) (b : FlatBlock) (x : RegionEdge) (xs : List RegionEdge) (c : Course)
+    (o : IsOpened ns f name r w at before h b x xs c) where
+  abbrev es_here : List RegionEdge
   es_here = x ∷ xs
 
   abbrev all_lines : Midst
@@ -285,14 +301,16 @@ module _ (ns : List Node) (f : Naming) (name : UnitName) (r : Region) (w : Walk)
   treated-by t e =
       let n : length (flat_block_text f at.block b).lines ≡ length b.insts = map_length (flat_line_text f) b.insts in
       let label = o.stands.label in
-      (λ i. if nat_lt max_insts (c.insts + n i) then stops region_too_large else after_lines (c.insts + n i) (takes_all (region_text f r) (record { place = h.place; label = sym label i; cond = h.cond }) (map (flat_line_text f) b.insts) (midst_at f at b (x ∷ xs) c)))
+      (λ i. if nat_lt max_insts (c.insts + n i) then stops region_too_large else after_lines (c.insts + n i)
+      (takes_all (region_text f r) (record { place = h.place; label = sym label i; cond = h.cond }) (map (flat_line_text f) b.insts) (midst_at f at b (x ∷ xs) c)))
       ∙ ap (λ (u : Bool). if u then stops region_too_large else after_lines (c.insts + length b.insts) all_lines) e
 
   pub treated-large : max_insts < c.insts + length b.insts → treated f r at h b (x ∷ xs) c ≡ stops region_too_large
   treated-large l = treated-by true (grind (arith, nat_tests))
 
   treated-small : (n : ℕ) → n ≡ c.insts + length b.insts → n ≤ max_insts → treated f r at h b (x ∷ xs) c ≡ after_lines n all_lines
-  treated-small n e l = treated-by false (let k : c.insts + length b.insts ≤ max_insts = subst (λ (i : ℕ). i ≤ max_insts) e l in grind (arith, nat_tests)) ∙ ap (λ (i : ℕ). after_lines i all_lines) (sym e)
+  treated-small n e l = treated-by false (let k : c.insts + length b.insts ≤ max_insts = subst (λ (i : ℕ). i ≤ max_insts) e l in grind (arith, nat_tests))
+      ∙ ap (λ (i : ℕ). after_lines i all_lines) (sym e)
 
   pub treated-comes : (n : ℕ) → n ≡ c.insts + length b.insts → n ≤ max_insts → turns_too_often all_lines.edges ≡ false → treated f r at h b (x ∷ xs) c ≡ comes_to (course_at n all_lines)
   treated-comes n e l t = treated-small n e l ∙ ap (λ (u : Bool). if u then stops too_many_turns else comes_to (course_at n all_lines)) t
@@ -302,7 +320,8 @@ module _ (ns : List Node) (f : Naming) (name : UnitName) (r : Region) (w : Walk)
 
 -- ---- a place, from its count on
 
-module _ (ns ms : List Node) (r : Region) (w q : Walk) (at : At) (n : ℕ) (d : FlatBlock) (read : d ≡ get_or r.flat.now.blocks at.block d) (ls : List FlatInst) (are : ls ≡ d.insts) (merged : TakesMerges ns r (with_insts w n) at ms q) where
+module _ (ns ms : List Node) (r : Region) (w q : Walk) (at : WalkPoint) (n : ℕ) (d : FlatBlock) (read : d ≡ get_or r.flat.now.blocks at.block d) (ls : List FlatInst) (are : ls ≡ d.insts)
+    (merged : TakesMerges ns r (with_insts w n) at ms q) where
   lines-are : (b : FlatBlock) → slice_get r.flat.now.blocks at.block ≡ Some b → b.insts ≡ ls
   lines-are b e = ap (λ (y : FlatBlock). y.insts) (block-read r.flat.now.blocks at.block b d e read) ∙ sym are
 
@@ -335,14 +354,16 @@ module _ (ns ms : List Node) (r : Region) (w q : Walk) (at : At) (n : ℕ) (d : 
   lines-end c = subst EndsLast (lines-are c.block c.opened.stands.block) (opened-ends ns c.naming c.name r w at c.before c.here c.block c.first c.more c.course c.opened)
 
   -- the place before its lines, as it is told
-  told-between : (f : Naming) (name : UnitName) (before : Story) (h : Here) (b : FlatBlock) (x : EdgeTo) (xs : List EdgeTo) (c : Course) → IsOpened ns f name r w at before h b x xs c
+  told-between : (f : Naming) (name : UnitName) (before : Story) (h : Here) (b : FlatBlock) (x : RegionEdge) (xs : List RegionEdge) (c : Course) → IsOpened ns f name r w at before h b x xs c
       → IsBetween ms f name r q at before h n b (merge_lines (option_map (merge_text f) b.merge)) (map (flat_line_text f) ls) (midst_at f at b (x ∷ xs) c)
   told-between f name before h b x xs c o =
-      subst (λ (ks : List FlatInst). IsBetween ms f name r q at before h n b (merge_lines (option_map (merge_text f) b.merge)) (map (flat_line_text f) ks) (midst_at f at b (x ∷ xs) c)) (lines-are b o.stands.block)
+      subst (λ (ks : List FlatInst). IsBetween ms f name r q at before h n b (merge_lines (option_map (merge_text f) b.merge)) (map (flat_line_text f) ks) (midst_at f at b (x ∷ xs) c))
+      (lines-are b o.stands.block)
       (merged f name before h b x xs (counted_to n c) (opened-counted ns f name r w at before h b x xs c n o))
 
   module _ (count : n ≡ w.insts + length d.insts) (few : n ≤ max_insts) where
-    count-is : (f : Naming) (name : UnitName) (before : Story) (h : Here) (b : FlatBlock) (x : EdgeTo) (xs : List EdgeTo) (c : Course) → IsOpened ns f name r w at before h b x xs c → n ≡ c.insts + length b.insts
+    count-is : (f : Naming) (name : UnitName) (before : Story) (h : Here) (b : FlatBlock) (x : RegionEdge) (xs : List RegionEdge) (c : Course) → IsOpened ns f name r w at before h b x xs c
+        → n ≡ c.insts + length b.insts
     count-is f name before h b x xs c o = count ∙ (λ i. o.midst.so_far.insts i + length (sym (block-read r.flat.now.blocks at.block b d o.stands.block read) i).insts)
 
     pub treats : (os : List Node) (p : Walk) → EndsLines ms r q at ls os p → Treats ns r w at os p
@@ -361,17 +382,18 @@ module _ (ns ms : List Node) (r : Region) (w q : Walk) (at : At) (n : ℕ) (d : 
         subst (λ (z : RegionFault). StopsFor (treated f r at h b (x ∷ xs) c) (refusal_of z)) (sym e) (treated-turns ns f name r w at before h b x xs c o n (count-is f name before h b x xs c o) few v)
 
 -- the place has too many instructions
-pub too-large : (ns : List Node) (r : Region) (w : Walk) (at : At) (d : FlatBlock) → d ≡ get_or r.flat.now.blocks at.block d → max_insts < w.insts + length d.insts → TreatsNot ns r w at fault.RegionTooLarge
+pub too-large : (ns : List Node) (r : Region) (w : Walk) (at : WalkPoint) (d : FlatBlock) → d ≡ get_or r.flat.now.blocks at.block d → max_insts < w.insts + length d.insts
+    → TreatsNot ns r w at fault.RegionTooLarge
 too-large ns r w at d read l f name before h b x xs c o =
     treated-large ns f name r w at before h b x xs c o
     (subst (λ (i : ℕ). max_insts < i) (λ i. o.midst.so_far.insts i + length (sym (block-read r.flat.now.blocks at.block b d o.stands.block read) i).insts) l)
 
 -- of want of memory nothing is said
-pub no-memory : (ns : List Node) (r : Region) (w : Walk) (at : At) → TreatsNot ns r w at fault.OutOfMemory
+pub no-memory : (ns : List Node) (r : Region) (w : Walk) (at : WalkPoint) → TreatsNot ns r w at fault.OutOfMemory
 no-memory ns r w at f name before h b x xs c o = tt
 
 -- the block of a place that has begun is there
-pub block-within : (ns : List Node) (r : Region) (w : Walk) (at : At) → CanTreat ns r w at → at.block < length r.flat.now.blocks
+pub block-within : (ns : List Node) (r : Region) (w : Walk) (at : WalkPoint) → CanTreat ns r w at → at.block < length r.flat.now.blocks
 block-within ns r w at c = within r.flat.now.blocks at.block c.block c.opened.stands.block
   where
     within : (bs : List FlatBlock) (i : ℕ) (b : FlatBlock) → slice_get bs i ≡ Some b → i < length bs

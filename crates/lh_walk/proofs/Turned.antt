@@ -7,7 +7,7 @@ use Rattle.lh_term.specs.Arena.{Grows}
 use Rattle.lh_term.specs.declared.term.Node.{Node}
 use Rattle.lh_term.proofs.Swaps.{grows_on}
 use Rattle.lh_joins.proofs.Conditions.{grows-none}
-use Rattle.lh_rows.specs.Joins.{Place as PlaceOf, Edge as EdgeTo}
+use Rattle.lh_rows.specs.Joins.{RegionPlace, RegionEdge}
 use Rattle.lh_rows.specs.Regions.{Course, comes_to, edges_to, through_all, max_turns, all_places}
 use Rattle.lh_walk.specs.declared.walk.Region.{Region}
 use Rattle.lh_walk.specs.declared.walk.Walk.{Walk}
@@ -21,7 +21,7 @@ use Rattle.lh_walk.specs.Walked.{region_text, StopsFor}
 use Rattle.lh_walk.specs.Turns.{places_of, turns_below, IsWalk, IsTurn, CanWalk, CanTurn, Beginning, Passes, Stops, walks_at, turns_at, PassesAll}
 use Rattle.lh_walk.proofs.Turning.{ahead-turned, nothing-here, nothing-next, nothing-led, and-first, and-second, places-more, turns-more, places-none, turns-none, places-stop, turns-stop, passes-on, stops-on}
 
-pub stops-memory : (From : Beginning) (r : Region) (ps : List PlaceOf) (e : RegionFault) → e ≡ fault.OutOfMemory → Stops From r ps e
+pub stops-memory : (From : Beginning) (r : Region) (ps : List RegionPlace) (e : RegionFault) → e ≡ fault.OutOfMemory → Stops From r ps e
 stops-memory From r ps e q f name s c from = subst (λ x. StopsFor (through_all (region_text f r) ps c) (refusal_of x)) (sym q) tt
 
 -- ---- the places of a turn
@@ -45,7 +45,8 @@ module _ (ns : List Node) (r : Region) (w : Walk) (turns first : ℕ) (ms : List
   turn-next os z j e g p = record {
     grows = grows_on ns ms os h.grows g;
     passes = subst (λ i. Passes (turns_at ns r w turns first) r (places_of turns i) os z turns i) (sym e)
-        (subst (λ ps. Passes (turns_at ns r w turns first) r ps os z turns (k + 1)) (sym (places-more turns k)) (passes-on (turns_at ns r w turns first) r (places_of turns k) ms q turns k h.passes (place_of turns k ∷ []) os z turns (k + 1) p));
+        (subst (λ ps. Passes (turns_at ns r w turns first) r ps os z turns (k + 1)) (sym (places-more turns k))
+        (passes-on (turns_at ns r w turns first) r (places_of turns k) ms q turns k h.passes (place_of turns k ∷ []) os z turns (k + 1) p));
   }
 
   pub turn-stops : (n : ℕ) (e : RegionFault) → k < n → Stops (walks_at ms r q turns k) r (place_of turns k ∷ []) e → Stops (turns_at ns r w turns first) r (places_of turns n) e
@@ -53,10 +54,12 @@ module _ (ns : List Node) (r : Region) (w : Walk) (turns first : ℕ) (ms : List
       let z : (k + 1) + (n - (k + 1)) ≡ n = omega (arith, l) in
       subst (λ i. StopsFor (through_all (region_text f r) (places_of turns i) c) (refusal_of e)) z
       (places-stop (region_text f r) turns (k + 1) (n - (k + 1)) c (refusal_of e)
-      (subst (λ ps. StopsFor (through_all (region_text f r) ps c) (refusal_of e)) (sym (places-more turns k)) (stops-on (turns_at ns r w turns first) r (places_of turns k) ms q turns k h.passes (place_of turns k ∷ []) e p f name s c t)))
+      (subst (λ ps. StopsFor (through_all (region_text f r) ps c) (refusal_of e)) (sym (places-more turns k))
+      (stops-on (turns_at ns r w turns first) r (places_of turns k) ms q turns k h.passes (place_of turns k ∷ []) e p f name s c t)))
 
   -- all places are treated, and the next turn begins
-  pub turn-done : (z : Walk) (n : ℕ) → k ≡ n → z.ahead.here ≡ q.ahead.next → LeadsNowhere (length q.ahead.next.items) z.ahead.next.items → z.places ≡ q.places → z.insts ≡ q.insts → z.rows ≡ q.rows → z.sources ≡ q.sources
+  pub turn-done : (z : Walk) (n : ℕ) → k ≡ n → z.ahead.here ≡ q.ahead.next → LeadsNowhere (length q.ahead.next.items) z.ahead.next.items → z.places ≡ q.places → z.insts ≡ q.insts → z.rows ≡ q.rows
+      → z.sources ≡ q.sources
       → Passes (turns_at ns r w turns first) r (places_of turns n) ms z (turns + 1) 0
   turn-done z n e here next places insts rows sources f name s c t =
       let x = h.passes f name s c t in
@@ -111,7 +114,8 @@ pub record TurnsSoFar (ns : List Node) (r : Region) (w : Walk) (first n : ℕ) (
   pub grows : Grows ns ms
   pub passes : Passes (turns_at ns r w 0 first) r (turns_below n k) ms q k 0
 
-pub turns-first : (ns : List Node) (r : Region) (w : Walk) (first n : ℕ) (ms : List Node) (q : Walk) → Grows ns ms → Passes (turns_at ns r w 0 first) r (places_of 0 n) ms q 1 0 → TurnsSoFar ns r w first n ms q 1
+pub turns-first : (ns : List Node) (r : Region) (w : Walk) (first n : ℕ) (ms : List Node) (q : Walk) → Grows ns ms → Passes (turns_at ns r w 0 first) r (places_of 0 n) ms q 1 0
+    → TurnsSoFar ns r w first n ms q 1
 turns-first ns r w first n ms q g p = record {
   grows = g;
   passes = subst (λ ps. Passes (turns_at ns r w 0 first) r ps ms q 1 0) (sym (append-nil (places_of 0 n))) p;
@@ -131,7 +135,8 @@ module _ (ns : List Node) (r : Region) (w : Walk) (first n : ℕ) (ms : List Nod
   turns-next os z j e g p = record {
     grows = grows_on ns ms os h.grows g;
     passes = subst (λ i. Passes (turns_at ns r w 0 first) r (turns_below n i) os z i 0) (sym e)
-        (subst (λ ps. Passes (turns_at ns r w 0 first) r ps os z (k + 1) 0) (sym (turns-more n k)) (passes-on (turns_at ns r w 0 first) r (turns_below n k) ms q k 0 h.passes (places_of k n) os z (k + 1) 0 (λ f name s c x. p f name s c (turn-of-walk ms f name r q k s c x))));
+        (subst (λ ps. Passes (turns_at ns r w 0 first) r ps os z (k + 1) 0) (sym (turns-more n k))
+        (passes-on (turns_at ns r w 0 first) r (turns_below n k) ms q k 0 h.passes (places_of k n) os z (k + 1) 0 (λ f name s c x. p f name s c (turn-of-walk ms f name r q k s c x))));
   }
 
   pub turns-stops : (e : RegionFault) → k ≤ max_turns → Stops (turns_at ms r q k 0) r (places_of k n) e → Stops (turns_at ns r w 0 first) r (all_places n) e
@@ -139,7 +144,8 @@ module _ (ns : List Node) (r : Region) (w : Walk) (first n : ℕ) (ms : List Nod
       let z : (k + 1) + (256 - k) ≡ 257 = omega (arith, l) in
       subst (λ i. StopsFor (through_all (region_text f r) (turns_below n i) c) (refusal_of e)) z
       (turns-stop (region_text f r) n (k + 1) (256 - k) c (refusal_of e)
-      (subst (λ ps. StopsFor (through_all (region_text f r) ps c) (refusal_of e)) (sym (turns-more n k)) (stops-on (turns_at ns r w 0 first) r (turns_below n k) ms q k 0 h.passes (places_of k n) e (λ f name s c x. p f name s c (turn-of-walk ms f name r q k s c x)) f name s c t)))
+      (subst (λ ps. StopsFor (through_all (region_text f r) ps c) (refusal_of e)) (sym (turns-more n k))
+      (stops-on (turns_at ns r w 0 first) r (turns_below n k) ms q k 0 h.passes (places_of k n) e (λ f name s c x. p f name s c (turn-of-walk ms f name r q k s c x)) f name s c t)))
 
   -- all turns are passed
   pub turns-done : k ≡ 257 → n ≡ length r.flat.now.blocks → PassesAll (turns_at ns r w 0 first) r ms q
@@ -160,12 +166,14 @@ module _ (ns : List Node) (r : Region) (w : Walk) (first n : ℕ) (ms : List Nod
           x.0,
           x.1,
           subst (λ i. through_all (region_text f r) (all_places i) c ≡ comes_to x.1) m
-              (subst (λ i. through_all (region_text f r) (turns_below n i) c ≡ comes_to x.1) z (turns-none (region_text f r) n k (257 - k) c x.1 (λ u b y. nowhere x.1.edges here next a.last u b y) x.2)),
+              (subst (λ i. through_all (region_text f r) (turns_below n i) c ≡ comes_to x.1) z
+              (turns-none (region_text f r) n k (257 - k) c x.1 (λ u b y. nowhere x.1.edges here next a.last u b y) x.2)),
           x.3,
         ),
       )
     where
-      nowhere : (xs : List EdgeTo) → ((b : ℕ) → edges_to (place_of k b) xs ≡ []) → ((b : ℕ) → edges_to (place_of (k + 1) b) xs ≡ []) → ((u b : ℕ) → k + 1 < u → edges_to (place_of u b) xs ≡ []) → (u b : ℕ) → k ≤ u → edges_to (place_of u b) xs ≡ []
+      nowhere : (xs : List RegionEdge) → ((b : ℕ) → edges_to (place_of k b) xs ≡ []) → ((b : ℕ) → edges_to (place_of (k + 1) b) xs ≡ []) → ((u b : ℕ) → k + 1 < u → edges_to (place_of u b) xs ≡ [])
+          → (u b : ℕ) → k ≤ u → edges_to (place_of u b) xs ≡ []
       nowhere xs here next last u b y = by (split k u y)
         where
           by : (k ≡ u) ⊎ ((k + 1 ≡ u) ⊎ (k + 1 < u)) → edges_to (place_of u b) xs ≡ []

@@ -4,7 +4,7 @@ use Rattle.std.specs.List.{flat_map}
 use Rattle.std.proofs.lemmas.List.{append-nil}
 use Rattle.lh_unit.proofs.Lists.{nat_eq-other}
 use Rattle.lh_term.specs.declared.term.Node.{Node}
-use Rattle.lh_rows.specs.Joins.{Place as PlaceOf, Edge as EdgeTo}
+use Rattle.lh_rows.specs.Joins.{RegionPlace, RegionEdge}
 use Rattle.lh_rows.specs.Places.{Region as RegionText}
 use Rattle.lh_rows.specs.Regions.{RegionRefusal, Course, Coursed, stops, comes_to, then_course, edges_to, through_reached, through_all, numbers_below}
 use Rattle.lh_joins.specs.declared.edge.Edge.{Edge}
@@ -20,12 +20,12 @@ use Rattle.lh_walk.specs.Turns.{places_of, turns_below, Beginning, Passes, Stops
 
 -- ---- edges one by one
 
-pub no-edges : (ns : List Node) (s : Story) (es : List Edge) (xs : List EdgeTo) → es ≡ [] → AreEdges ns s es xs → xs ≡ []
+pub no-edges : (ns : List Node) (s : Story) (es : List Edge) (xs : List RegionEdge) → es ≡ [] → AreEdges ns s es xs → xs ≡ []
 no-edges ns s [] [] e h = refl
 no-edges ns s [] (x ∷ xs) e h = absurd h
 no-edges ns s (d ∷ es) xs e h = absurd (let z : d ∷ es ≡ [] = e in cc)
 
-pub some-edges : (ns : List Node) (s : Story) (es : List Edge) (xs : List EdgeTo) → (es ≡ [] → ⊥) → AreEdges ns s es xs → (x : EdgeTo) × (more : List EdgeTo) × (xs ≡ x ∷ more)
+pub some-edges : (ns : List Node) (s : Story) (es : List Edge) (xs : List RegionEdge) → (es ≡ [] → ⊥) → AreEdges ns s es xs → (x : RegionEdge) × (more : List RegionEdge) × (xs ≡ x ∷ more)
 some-edges ns s [] [] n h = absurd (n refl)
 some-edges ns s [] (x ∷ xs) n h = absurd h
 some-edges ns s (e ∷ es) [] n h = absurd h
@@ -38,9 +38,11 @@ if-false true x y e = cc
 if-false false x y e = refl
 
 -- a place was reached: the edges to later blocks stay
-pub ahead-reached : (ns : List Node) (s : Story) (turns block : ℕ) (old new : Ahead) (xs : List EdgeTo) → AreAhead ns s turns block old xs → IsReached old.here.items block new.here.items → new.next ≡ old.next → AreAhead ns s turns (block + 1) new xs
+pub ahead-reached : (ns : List Node) (s : Story) (turns block : ℕ) (old new : Ahead) (xs : List RegionEdge) → AreAhead ns s turns block old xs → IsReached old.here.items block new.here.items
+    → new.next ≡ old.next → AreAhead ns s turns (block + 1) new xs
 ahead-reached ns s turns block old new xs h r k = record {
-  here = λ b l. subst (λ (es : List Edge). AreEdges ns s es (edges_to (place_of turns b) xs)) (sym (r.led b ∙ if-false (nat_eq block b) [] (led_to old.here.items b) (nat_eq-other block b (λ e. less block b l e)))) (h.here b (before block b l));
+  here = λ b l. subst (λ (es : List Edge). AreEdges ns s es (edges_to (place_of turns b) xs))
+      (sym (r.led b ∙ if-false (nat_eq block b) [] (led_to old.here.items b) (nat_eq-other block b (λ e. less block b l e)))) (h.here b (before block b l));
   next = λ b. subst (λ (es : List Edge). AreEdges ns s es (edges_to (place_of (turns + 1) b) xs)) (λ j. led_to (sym k j).items b) (h.next b);
   last = h.last;
 }
@@ -52,7 +54,8 @@ ahead-reached ns s turns block old new xs h r k = record {
     less a b l e = omega (arith, l, e)
 
 -- all places of a turn were treated
-pub ahead-turned : (ns : List Node) (s : Story) (turns block n : ℕ) (old new : Ahead) (xs : List EdgeTo) → AreAhead ns s turns block old xs → new.here ≡ old.next → LeadsNowhere n new.next.items → AreAhead ns s (turns + 1) 0 new xs
+pub ahead-turned : (ns : List Node) (s : Story) (turns block n : ℕ) (old new : Ahead) (xs : List RegionEdge) → AreAhead ns s turns block old xs → new.here ≡ old.next → LeadsNowhere n new.next.items
+    → AreAhead ns s (turns + 1) 0 new xs
 ahead-turned ns s turns block n old new xs h k none = record {
   here = λ b l. subst (λ (es : List Edge). AreEdges ns s es (edges_to (place_of (turns + 1) b) xs)) (λ j. led_to (sym k j).items b) (h.next b);
   next = λ b. subst (λ (es : List Edge). AreEdges ns s es (edges_to (place_of (turns + 1 + 1) b) xs)) (sym (none.none b)) (subst (AreEdges ns s []) (sym (h.last (turns + 1 + 1) b (omega arith))) tt);
@@ -60,7 +63,7 @@ ahead-turned ns s turns block n old new xs h k none = record {
 }
 
 -- no edge leads to a block of this turn, nor to any later one
-module _ (ns : List Node) (s : Story) (turns : ℕ) (a : Ahead) (xs : List EdgeTo) (h : AreAhead ns s turns 0 a xs) where
+module _ (ns : List Node) (s : Story) (turns : ℕ) (a : Ahead) (xs : List RegionEdge) (h : AreAhead ns s turns 0 a xs) where
   pub nothing-here : ((b : ℕ) → led_to a.here.items b ≡ []) → (b : ℕ) → edges_to (place_of turns b) xs ≡ []
   nothing-here none b = no-edges ns s (led_to a.here.items b) (edges_to (place_of turns b) xs) (none b) (h.here b (omega arith))
 
@@ -90,21 +93,22 @@ then-then : (x : Coursed) (f g : Course → Coursed) → then_course (then_cours
 then-then (stops r) f g = refl
 then-then (comes_to c) f g = refl
 
-pub all-append : (g : RegionText) (ps qs : List PlaceOf) (c : Course) → through_all g (ps ++ qs) c ≡ then_course (through_all g ps c) (through_all g qs)
+pub all-append : (g : RegionText) (ps qs : List RegionPlace) (c : Course) → through_all g (ps ++ qs) c ≡ then_course (through_all g ps c) (through_all g qs)
 all-append g [] qs c = refl
 all-append g (p ∷ ps) qs c = by (all-append g ps qs) (through_reached g p (edges_to p c.edges) c)
   where
-    by : ((d : Course) → through_all g (ps ++ qs) d ≡ then_course (through_all g ps d) (through_all g qs)) → (x : Coursed) → then_course x (through_all g (ps ++ qs)) ≡ then_course (then_course x (through_all g ps)) (through_all g qs)
+    by : ((d : Course) → through_all g (ps ++ qs) d ≡ then_course (through_all g ps d) (through_all g qs)) → (x : Coursed)
+        → then_course x (through_all g (ps ++ qs)) ≡ then_course (then_course x (through_all g ps)) (through_all g qs)
     by go (stops r) = refl
     by go (comes_to d) = go d
 
-pub one-none : (g : RegionText) (p : PlaceOf) (c : Course) → edges_to p c.edges ≡ [] → through_all g (p ∷ []) c ≡ comes_to c
-one-none g p c e = ap (λ (es : List EdgeTo). then_course (through_reached g p es c) (through_all g [])) e
+pub one-none : (g : RegionText) (p : RegionPlace) (c : Course) → edges_to p c.edges ≡ [] → through_all g (p ∷ []) c ≡ comes_to c
+one-none g p c e = ap (λ (es : List RegionEdge). then_course (through_reached g p es c) (through_all g [])) e
 
-pub then-comes : (g : RegionText) (ps qs : List PlaceOf) (c d : Course) → through_all g ps c ≡ comes_to d → through_all g (ps ++ qs) c ≡ through_all g qs d
+pub then-comes : (g : RegionText) (ps qs : List RegionPlace) (c d : Course) → through_all g ps c ≡ comes_to d → through_all g (ps ++ qs) c ≡ through_all g qs d
 then-comes g ps qs c d e = all-append g ps qs c ∙ ap (λ (x : Coursed). then_course x (through_all g qs)) e
 
-pub then-stops : (g : RegionText) (ps qs : List PlaceOf) (c : Course) (o : Option RegionRefusal) → StopsFor (through_all g ps c) o → StopsFor (through_all g (ps ++ qs) c) o
+pub then-stops : (g : RegionText) (ps qs : List RegionPlace) (c : Course) (o : Option RegionRefusal) → StopsFor (through_all g ps c) o → StopsFor (through_all g (ps ++ qs) c) o
 then-stops g ps qs c None h = tt
 then-stops g ps qs c (Some r) h = all-append g ps qs c ∙ ap (λ (x : Coursed). then_course x (through_all g qs)) h
 
@@ -119,7 +123,7 @@ places-more t n =
     let z : n + 1 ≡ suc n = omega arith in
     ap (places_of t) z ∙ map-push (place_of t) (numbers_below n) n
 
-flat-push : (f : ℕ → List PlaceOf) (xs : List ℕ) (x : ℕ) → flat_map f (xs ++ x ∷ []) ≡ flat_map f xs ++ f x
+flat-push : (f : ℕ → List RegionPlace) (xs : List ℕ) (x : ℕ) → flat_map f (xs ++ x ∷ []) ≡ flat_map f xs ++ f x
 flat-push f [] x = append-nil (f x)
 flat-push f (y ∷ ys) x = ap (λ zs. f y ++ zs) (flat-push f ys x) ∙ sym (append_assoc (f y) (flat_map f ys) (f x))
 
@@ -132,19 +136,20 @@ turns-more n k =
 pub places-none : (g : RegionText) (t n : ℕ) (c : Course) → ((b : ℕ) → b < n → edges_to (place_of t b) c.edges ≡ []) → through_all g (places_of t n) c ≡ comes_to c
 places-none g t zero c h = refl
 places-none g t (suc n) c h =
-    ap (λ (ps : List PlaceOf). through_all g ps c) (map-push (place_of t) (numbers_below n) n)
+    ap (λ (ps : List RegionPlace). through_all g ps c) (map-push (place_of t) (numbers_below n) n)
     ∙ then-comes g (places_of t n) (place_of t n ∷ []) c c (places-none g t n c (λ b l. h b (omega (arith, l))))
     ∙ one-none g (place_of t n) c (h n (omega arith))
 
 -- later turns are nothing where no edge leads there
-pub turns-none : (g : RegionText) (n k j : ℕ) (c d : Course) → ((t b : ℕ) → k ≤ t → edges_to (place_of t b) d.edges ≡ []) → through_all g (turns_below n k) c ≡ comes_to d → through_all g (turns_below n (k + j)) c ≡ comes_to d
+pub turns-none : (g : RegionText) (n k j : ℕ) (c d : Course) → ((t b : ℕ) → k ≤ t → edges_to (place_of t b) d.edges ≡ []) → through_all g (turns_below n k) c ≡ comes_to d
+    → through_all g (turns_below n (k + j)) c ≡ comes_to d
 turns-none g n k zero c d none e =
     let z : k + 0 ≡ k = omega arith in
     ap (λ (m : ℕ). through_all g (turns_below n m) c) z ∙ e
 turns-none g n k (suc j) c d none e =
     let z : k + suc j ≡ (k + j) + 1 = omega arith in
     ap (λ (m : ℕ). through_all g (turns_below n m) c) z
-    ∙ ap (λ (ps : List PlaceOf). through_all g ps c) (turns-more n (k + j))
+    ∙ ap (λ (ps : List RegionPlace). through_all g ps c) (turns-more n (k + j))
     ∙ then-comes g (turns_below n (k + j)) (places_of (k + j) n) c d (turns-none g n k j c d none e)
     ∙ places-none g (k + j) n d (λ b l. none (k + j) b (omega arith))
 
@@ -156,7 +161,7 @@ turns-stop g n k zero c o h =
 turns-stop g n k (suc j) c o h =
     let z : (k + j) + 1 ≡ k + suc j = omega arith in
     subst (λ (m : ℕ). StopsFor (through_all g (turns_below n m) c) o) z
-    (subst (λ (ps : List PlaceOf). StopsFor (through_all g ps c) o) (sym (turns-more n (k + j)))
+    (subst (λ (ps : List RegionPlace). StopsFor (through_all g ps c) o) (sym (turns-more n (k + j)))
     (then-stops g (turns_below n (k + j)) (places_of (k + j) n) c o (turns-stop g n k j c o h)))
 
 pub places-stop : (g : RegionText) (t k j : ℕ) (c : Course) (o : Option RegionRefusal) → StopsFor (through_all g (places_of t k) c) o → StopsFor (through_all g (places_of t (k + j)) c) o
@@ -166,20 +171,20 @@ places-stop g t k zero c o h =
 places-stop g t k (suc j) c o h =
     let z : (k + j) + 1 ≡ k + suc j = omega arith in
     subst (λ (m : ℕ). StopsFor (through_all g (places_of t m) c) o) z
-    (subst (λ (ps : List PlaceOf). StopsFor (through_all g ps c) o) (sym (places-more t (k + j)))
+    (subst (λ (ps : List RegionPlace). StopsFor (through_all g ps c) o) (sym (places-more t (k + j)))
     (then-stops g (places_of t (k + j)) (place_of t (k + j) ∷ []) c o (places-stop g t k j c o h)))
 
 -- ---- walks
 
-module _ (From : Beginning) (r : Region) (ps : List PlaceOf) (ms : List Node) (q : Walk) (t b : ℕ) (h : Passes From r ps ms q t b) where
+module _ (From : Beginning) (r : Region) (ps : List RegionPlace) (ms : List Node) (q : Walk) (t b : ℕ) (h : Passes From r ps ms q t b) where
   -- what passes some places, and from there others, passes all
-  pub passes-on : (qs : List PlaceOf) (os : List Node) (w : Walk) (u d : ℕ) → Passes (walks_at ms r q t b) r qs os w u d → Passes From r (ps ++ qs) os w u d
+  pub passes-on : (qs : List RegionPlace) (os : List Node) (w : Walk) (u d : ℕ) → Passes (walks_at ms r q t b) r qs os w u d → Passes From r (ps ++ qs) os w u d
   passes-on qs os w u d k f name s c from =
       let x = h f name s c from in
       let y = k f name x.0 x.1 x.3 in
       (y.0, y.1, then-comes (region_text f r) ps qs c x.1 x.2 ∙ y.2, y.3)
 
-  pub stops-on : (qs : List PlaceOf) (e : RegionFault) → Stops (walks_at ms r q t b) r qs e → Stops From r (ps ++ qs) e
+  pub stops-on : (qs : List RegionPlace) (e : RegionFault) → Stops (walks_at ms r q t b) r qs e → Stops From r (ps ++ qs) e
   stops-on qs e k f name s c from =
       let x = h f name s c from in
       subst (λ (y : Coursed). StopsFor y (refusal_of e)) (sym (then-comes (region_text f r) ps qs c x.1 x.2)) (k f name x.0 x.1 x.3)

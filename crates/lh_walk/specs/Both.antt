@@ -1,15 +1,20 @@
 -- Both regions of a process: the one from the head on, and the one from where that waits.
-use Rattle.std.specs.Prelude.{◌≡◌, ℕ, List, false, Some, slice_get}
+use Rattle.std.specs.Prelude.{◌≡◌, ℕ, List, true, false, Some, length, slice_get}
 use Rattle.lh_unit.specs.declared.name.UnitName.{UnitName}
 use Rattle.lh_unit.specs.Naming.{Naming}
 use Rattle.lh_flat.specs.declared.flat.FlatBlock.{FlatBlock}
 use Rattle.lh_flat.specs.Reads.{flat_text}
 use Rattle.lh_parts.specs.Steps.{IsPartTable}
 use Rattle.lh_term.specs.Tree.{now_of}
+use Rattle.lh_term.specs.Make.{bit_of}
+use Rattle.lh_term.specs.Arena.{StandsForTree}
 use Rattle.lh_term.specs.declared.term.Node.{Node}
 use Rattle.lh_rows.specs.Regions.{Course, comes_to, first_region, second_region, one_target}
 use Rattle.lh_walk.specs.declared.walk.Region.{Region}
 use Rattle.lh_walk.specs.declared.walk.Walk.{Walk}
+use Rattle.lh_walk.specs.declared.walk.WalkPoint.{WalkPoint}
+use Rattle.lh_region.specs.declared.state.PlaceState.{PlaceState}
+use Rattle.lh_region.specs.Begins.{IsBegun, BeginsJoined}
 use Rattle.lh_region.specs.declared.rows.Rows.{Rows}
 use Rattle.lh_region.specs.declared.rows.RegionFault.{RegionFault}
 use Rattle.lh_region.specs.Effects.{probed}
@@ -36,6 +41,12 @@ pub record IsHere (r : Region) : Type 0 where
 abbrev pub GoesFirst : Region → List Node → Walk → Type 0
 GoesFirst r ns w = (f : Naming) (name : UnitName) → IsRegion f r → (turns : ℕ) × Comes ns f name r w turns 0 (first_region (flat_text f r.flat.now) (probed r.is_past))
 
+-- The rows are those of a walk that has gone so.
+pub record FirstRows (r : Region) (ns : List Node) (rows : Rows) : Type 0 where
+  pub walk : Walk
+  pub gone : GoesFirst r ns walk
+  pub is : rows ≡ walk.rows
+
 -- Where it does not, the definition stops for that reason.
 abbrev pub FirstStops : Region → RegionFault → Type 0
 FirstStops r e = (f : Naming) → IsRegion f r → StopsFor (first_region (flat_text f r.flat.now) (probed r.is_past)) (refusal_of e)
@@ -51,9 +62,19 @@ pub record HasTarget (r : Region) (target : ℕ) : Type 0 where
   pub region : IsRegion naming r
   pub is : IsTarget naming r target
 
+-- Behind the places of a walk begins one of the target of its ends, which the walk is at in its first turn.
+pub record IsBehind (w : Walk) (target : ℕ) (ns : List Node) (qs : List PlaceState) (at : WalkPoint) : Type 0 where
+  pub begun : IsBegun w.places.items target w.sources qs
+  pub joins : BeginsJoined w.places.items w.sources qs
+  pub place : at.place ≡ length w.places.items
+  pub block : at.block ≡ target
+  pub turns : at.turns ≡ 0
+  pub cond : StandsForTree ns at.cond (bit_of true)
+
 -- The rows are those of the second region.
 abbrev pub SecondRows : Region → (target : ℕ) → List Node → Rows → Type 0
-SecondRows r target ns rows = (f : Naming) → IsRegion f r → IsTarget f r target → (d : Course) × (second_region (flat_text f r.flat.now) target ≡ comes_to d) × AreRows ns rows d.rows × DrivesFit ns rows.drives
+SecondRows r target ns rows = (f : Naming) → IsRegion f r → IsTarget f r target → (d : Course) × (second_region (flat_text f r.flat.now) target ≡ comes_to d) × AreRows ns rows d.rows
+    × DrivesFit ns rows.drives
 
 abbrev pub SecondStops : Region → (target : ℕ) → RegionFault → Type 0
 SecondStops r target e = (f : Naming) → IsRegion f r → IsTarget f r target → StopsFor (second_region (flat_text f r.flat.now) target) (refusal_of e)

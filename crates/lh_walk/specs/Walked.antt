@@ -12,18 +12,18 @@ use Rattle.lh_flat.specs.declared.flat.FlatBlock.{FlatBlock}
 use Rattle.lh_flat.specs.Flat.{FlatBlockText, flat_unit, with_merge}
 use Rattle.lh_flat.specs.Below.{IdsBelow, InstBelow}
 use Rattle.lh_flat.specs.Reads.{flat_line_text, flat_block_text, flat_text}
-use Rattle.lh_term.specs.Arena.{Stands}
+use Rattle.lh_term.specs.Arena.{StandsForTree}
 use Rattle.lh_term.specs.declared.term.Node.{Node}
 use Rattle.lh_parts.specs.Steps.{IsPartTable}
 use Rattle.lh_rows.specs.Known.{Knowledge}
-use Rattle.lh_rows.specs.Joins.{Edge as EdgeTo, joined}
+use Rattle.lh_rows.specs.Joins.{RegionEdge, joined}
 use Rattle.lh_rows.specs.Places.{Region as RegionText, Here, Midst, takes}
 use Rattle.lh_rows.specs.Regions.{RegionRefusal, Course, Coursed, stops, comes_to, max_turns, turns_too_often, through_block}
 use Rattle.lh_rows.specs.Typed.{KnowsTyped, KnowsThere, IsCondition, JoinEdge}
 use Rattle.lh_rows.specs.Right.{as_block, PhisGiven}
 use Rattle.lh_walk.specs.declared.walk.Region.{Region}
 use Rattle.lh_walk.specs.declared.walk.Walk.{Walk}
-use Rattle.lh_walk.specs.declared.walk.At.{At}
+use Rattle.lh_walk.specs.declared.walk.WalkPoint.{WalkPoint}
 use Rattle.lh_region.specs.declared.rows.RegionFault.{RegionFault}
 use Rattle.lh_region.specs.declared.rows.RegionFault.TheVariants as fault
 use Rattle.lh_region.specs.Asked.{edges_at, Tells}
@@ -55,7 +55,7 @@ pub record IsRegion (f : Naming) (r : Region) : Type 0 where
 -- ---- between places
 
 -- the story goes on: of the same names, values and blocks, and at the places so far the same is known
-pub record Continues (s r : Story) : Type 0 where
+pub record ContinuesStory (s r : Story) : Type 0 where
   pub naming : r.naming ≡ s.naming
   pub values : r.values ≡ s.values
   pub blocks : r.blocks ≡ s.blocks
@@ -84,7 +84,7 @@ pub record IsCourse (ns : List Node) (f : Naming) (r : Region) (w : Walk) (turns
 -- ---- in the midst of a place
 
 -- the place stands at this block, after this many turns
-pub record IsAt (f : Naming) (r : Region) (at : At) (h : Here) (b : FlatBlock) : Type 0 where
+pub record IsAt (f : Naming) (r : Region) (at : WalkPoint) (h : Here) (b : FlatBlock) : Type 0 where
   pub block : slice_get r.flat.now.blocks at.block ≡ Some b
   pub place : h.place ≡ place_of at.turns at.block
   pub label : h.label ≡ f.label_name at.block
@@ -94,16 +94,16 @@ abbrev pub course_at : (insts : ℕ) → Midst → Course
 course_at n m = record { insts = n; edges = m.edges; rows = m.rows }
 
 -- In the midst of a place, the last one, the edges and ends so far are from places before it, of which one story tells; and by another, which goes on from that, what is told at it is known.
-pub record IsMidst (ns : List Node) (f : Naming) (r : Region) (w : Walk) (at : At) (before : Story) (h : Here) (insts : ℕ) (m : Midst) : Type 0 where
+pub record IsMidst (ns : List Node) (f : Naming) (r : Region) (w : Walk) (at : WalkPoint) (before : Story) (h : Here) (insts : ℕ) (m : Midst) : Type 0 where
   pub so_far : IsSoFar ns f r w at.turns (at.block + 1) before (course_at insts m)
   pub now : Story
-  pub continues : Continues before now
+  pub continues : ContinuesStory before now
   pub was : before.places ≡ at.place
   pub is : now.places ≡ at.place + 1
   pub places : now.places ≡ length w.places.items
   pub tells : Tells ns w.places.items now.told
   pub known : TellsKnown now at.place m.known
-  pub cond : Stands ns at.cond h.cond
+  pub cond : StandsForTree ns at.cond h.cond
   pub condition : IsCondition h.cond
 
 -- the lines of a block of which some were taken: what is known is typed, and what the others ask for is known
@@ -114,7 +114,8 @@ pub record KnowsFor (u : UnitText) (b : FlatBlockText) (done rest : List LineTex
   pub phis : PhisGiven k rest
 
 -- in the midst of a place, between two lines of its block
-pub record IsBetween (ns : List Node) (f : Naming) (name : UnitName) (r : Region) (w : Walk) (at : At) (before : Story) (h : Here) (insts : ℕ) (b : FlatBlock) (done rest : List LineText) (m : Midst) : Type 0 where
+pub record IsBetween (ns : List Node) (f : Naming) (name : UnitName) (r : Region) (w : Walk) (at : WalkPoint) (before : Story) (h : Here) (insts : ℕ) (b : FlatBlock) (done rest : List LineText)
+    (m : Midst) : Type 0 where
   pub region : IsRegion f r
   pub stands : IsAt f r at h b
   pub midst : IsMidst ns f r w at before h insts m
@@ -132,7 +133,7 @@ leads_nowhere (inst.Ret value) = false
 leads_nowhere _ = true
 
 -- some midst of a place, before this line of its block
-pub record CanTake (ns : List Node) (r : Region) (w : Walk) (at : At) (l : FlatInst) : Type 0 where
+pub record CanTake (ns : List Node) (r : Region) (w : Walk) (at : WalkPoint) (l : FlatInst) : Type 0 where
   pub naming : Naming
   pub name : UnitName
   pub before : Story
@@ -150,23 +151,26 @@ abbrev pub takes_line : Naming → Region → Here → FlatInst → Midst → Mi
 takes_line f r h l m = takes (region_text f r) h (flat_line_text f l).inst (flat_line_text f l).result m
 
 -- What a line that is no terminator does is what it does in the definition.
-abbrev pub TakesLine : List Node → Region → Walk → At → FlatInst → List Node → Walk → Type 0
+abbrev pub TakesLine : List Node → Region → Walk → WalkPoint → FlatInst → List Node → Walk → Type 0
 TakesLine ns r w at l ms q =
-    (f : Naming) (name : UnitName) (before : Story) (h : Here) (insts : ℕ) (b : FlatBlock) (done rest : List LineText) (m : Midst) → IsBetween ns f name r w at before h insts b done (flat_line_text f l ∷ rest) m →
+    (f : Naming) (name : UnitName) (before : Story) (h : Here) (insts : ℕ) (b : FlatBlock) (done rest : List LineText) (m : Midst)
+    → IsBetween ns f name r w at before h insts b done (flat_line_text f l ∷ rest) m →
     IsBetween ms f name r q at before h insts b (done ++ flat_line_text f l ∷ []) rest (takes_line f r h l m)
 
 -- So is what a terminator does: the place was treated.
-abbrev pub EndsLine : List Node → Region → Walk → At → FlatInst → List Node → Walk → Type 0
+abbrev pub EndsLine : List Node → Region → Walk → WalkPoint → FlatInst → List Node → Walk → Type 0
 EndsLine ns r w at l ms q =
-    (f : Naming) (name : UnitName) (before : Story) (h : Here) (insts : ℕ) (b : FlatBlock) (done rest : List LineText) (m : Midst) → IsBetween ns f name r w at before h insts b done (flat_line_text f l ∷ rest) m →
+    (f : Naming) (name : UnitName) (before : Story) (h : Here) (insts : ℕ) (b : FlatBlock) (done rest : List LineText) (m : Midst)
+    → IsBetween ns f name r w at before h insts b done (flat_line_text f l ∷ rest) m →
     (s : Story) × IsCourse ms f r q at.turns (at.block + 1) s (course_at insts (takes_line f r h l m))
 
 -- A fault of a terminator has its cause: want of memory, or an edge that leads to too many turns.
-abbrev pub EndsFor : List Node → Region → Walk → At → FlatInst → RegionFault → Type 0
+abbrev pub EndsFor : List Node → Region → Walk → WalkPoint → FlatInst → RegionFault → Type 0
 EndsFor ns r w at l e =
     (e ≡ fault.OutOfMemory) ⊎
     ((e ≡ fault.TooManyTurns) ×
-    ((f : Naming) (name : UnitName) (before : Story) (h : Here) (insts : ℕ) (b : FlatBlock) (done rest : List LineText) (m : Midst) → IsBetween ns f name r w at before h insts b done (flat_line_text f l ∷ rest) m →
+    ((f : Naming) (name : UnitName) (before : Story) (h : Here) (insts : ℕ) (b : FlatBlock) (done rest : List LineText) (m : Midst)
+    → IsBetween ns f name r w at before h insts b done (flat_line_text f l ∷ rest) m →
     turns_too_often (takes_line f r h l m).edges ≡ true))
 
 -- ---- a place
@@ -177,36 +181,37 @@ StopsFor x None = Unit {0}
 StopsFor x (Some r) = x ≡ stops r
 
 -- A place has begun: what its edges join is known there. Where its block begins with no `phi`, nothing is asked of the edges by ids.
-pub record IsOpened (ns : List Node) (f : Naming) (name : UnitName) (r : Region) (w : Walk) (at : At) (before : Story) (h : Here) (b : FlatBlock) (x : EdgeTo) (xs : List EdgeTo) (c : Course) : Type 0 where
+pub record IsOpened (ns : List Node) (f : Naming) (name : UnitName) (r : Region) (w : Walk) (at : WalkPoint) (before : Story) (h : Here) (b : FlatBlock) (x : RegionEdge) (xs : List RegionEdge)
+    (c : Course) : Type 0 where
   pub region : IsRegion f r
   pub stands : IsAt f r at h b
   pub midst : IsMidst ns f r w at before h c.insts (record { known = joined (x ∷ xs); edges = c.edges; rows = c.rows })
   pub edges : (begins_with_phi b ≡ false) ⊎ AreEdges ns before (edges_at w.places.items at.place) (x ∷ xs)
   pub join : Each (JoinEdge (process_by name f r.flat.now) (as_block (flat_block_text f at.block b))) (x ∷ xs)
 
-pub record CanTreat (ns : List Node) (r : Region) (w : Walk) (at : At) : Type 0 where
+pub record CanTreat (ns : List Node) (r : Region) (w : Walk) (at : WalkPoint) : Type 0 where
   pub naming : Naming
   pub name : UnitName
   pub before : Story
   pub here : Here
   pub block : FlatBlock
-  pub first : EdgeTo
-  pub more : List EdgeTo
+  pub first : RegionEdge
+  pub more : List RegionEdge
   pub course : Course
   pub opened : IsOpened ns naming name r w at before here block first more course
 
 -- what the definition comes to by a place
-abbrev pub treated : Naming → Region → At → Here → FlatBlock → List EdgeTo → Course → Coursed
+abbrev pub treated : Naming → Region → WalkPoint → Here → FlatBlock → List RegionEdge → Course → Coursed
 treated f r at h b es c = through_block (region_text f r) h.place h.cond es c (flat_block_text f at.block b)
 
 -- The place is treated as in the definition.
-abbrev pub Treats : List Node → Region → Walk → At → List Node → Walk → Type 0
+abbrev pub Treats : List Node → Region → Walk → WalkPoint → List Node → Walk → Type 0
 Treats ns r w at ms q =
-    (f : Naming) (name : UnitName) (before : Story) (h : Here) (b : FlatBlock) (x : EdgeTo) (xs : List EdgeTo) (c : Course) → IsOpened ns f name r w at before h b x xs c →
+    (f : Naming) (name : UnitName) (before : Story) (h : Here) (b : FlatBlock) (x : RegionEdge) (xs : List RegionEdge) (c : Course) → IsOpened ns f name r w at before h b x xs c →
     (s : Story) × (d : Course) × (treated f r at h b (x ∷ xs) c ≡ comes_to d) × IsCourse ms f r q at.turns (at.block + 1) s d
 
 -- Where it is not, the definition stops for that reason.
-abbrev pub TreatsNot : List Node → Region → Walk → At → RegionFault → Type 0
+abbrev pub TreatsNot : List Node → Region → Walk → WalkPoint → RegionFault → Type 0
 TreatsNot ns r w at e =
-    (f : Naming) (name : UnitName) (before : Story) (h : Here) (b : FlatBlock) (x : EdgeTo) (xs : List EdgeTo) (c : Course) → IsOpened ns f name r w at before h b x xs c →
+    (f : Naming) (name : UnitName) (before : Story) (h : Here) (b : FlatBlock) (x : RegionEdge) (xs : List RegionEdge) (c : Course) → IsOpened ns f name r w at before h b x xs c →
     StopsFor (treated f r at h b (x ∷ xs) c) (refusal_of e)

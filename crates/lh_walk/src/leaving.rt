@@ -9,7 +9,7 @@ ghost use Rattle.lh_region.specs.Stands.{way_text};
 ghost use Rattle.lh_walk.specs.Leaving as leaving;
 ghost use Rattle.lh_region.specs.declared.rows.RegionFault.TheVariants.{OutOfMemory as NoMemoryLeft};
 
-use crate::walk::{At, Region, Walk};
+use crate::walk::{Region, Walk, WalkPoint};
 use lh_flat::FlatInst;
 use lh_joins::Edge;
 use lh_joins::logic::never_holds;
@@ -40,7 +40,7 @@ impl Walk {
         alloc: Global,
         region: &Region<'_>,
         terms: &mut Terms,
-        at: At,
+        at: WalkPoint,
         line: &FlatInst,
     ) -> Result<(), RegionFault>
         requires can { CanTake terms.old region.now self.old at line.now }
@@ -73,7 +73,7 @@ impl Walk {
         alloc: Global,
         region: &Region<'_>,
         terms: &mut Terms,
-        at: At,
+        at: WalkPoint,
         fork: Fork,
     ) -> Result<(), RegionFault>
         requires is_in { at.place < length self.old.places.items }
@@ -96,7 +96,7 @@ impl Walk {
         &mut self,
         region: &Region<'_>,
         terms: &Terms,
-        at: At,
+        at: WalkPoint,
         cond: TermId,
         to: u32,
     ) -> Result<(), RegionFault>
@@ -122,7 +122,7 @@ impl Walk {
         &mut self,
         alloc: Global,
         region: &Region<'_>,
-        at: At,
+        at: WalkPoint,
         to: u32,
         timed: bool,
         signals: &ValueIdList,
@@ -142,7 +142,7 @@ impl Walk {
     }
 
     /// The region ends, on a condition.
-    fn end_there(&mut self, at: At, cond: TermId, way: Way) -> Result<(), RegionFault>
+    fn end_there(&mut self, at: WalkPoint, cond: TermId, way: Way) -> Result<(), RegionFault>
         ensures places { self.new.places.items ≡ self.old.places.items }
         ensures ahead { self.new.ahead ≡ self.old.ahead }
         ensures ended { OnOk result (leaving.EndsThere self.old at cond (way_text way) self.new) }
@@ -167,7 +167,7 @@ fn parts_of(alloc: Global, table: &PartTable, values: &[ValueId]) -> Result<Part
 }
 
 /// An edge from a place, on a condition.
-fn edge_from(at: At, cond: TermId) -> Edge
+fn edge_from(at: WalkPoint, cond: TermId) -> Edge
     ensures { result ≡ leaving.edge_from at cond }
 {
     Edge {

@@ -10,7 +10,7 @@ ghost use Rattle.lh_region.specs.Taken.{IsOperation};
 ghost use Rattle.lh_walk.specs.Lines as lines;
 ghost use Rattle.lh_walk.specs.Walked.{leads_nowhere, CanTake, TakesLine};
 
-use crate::walk::{At, Region, Walk};
+use crate::walk::{Region, Walk, WalkPoint};
 use lh_flat::FlatInst;
 use lh_region::asking::value_at;
 use lh_region::branch::and_at;
@@ -23,7 +23,7 @@ use lh_term::terms::Terms;
 use lh_types::op::Op;
 use lh_types::ty::NoMemory;
 use lh_types::val::Val;
-use lh_unit::inst::{Inst, TypedList, ValueId};
+use lh_unit::inst::{Inst, OperandList, ValueId};
 use std::alloc::Global;
 
 impl Walk {
@@ -33,7 +33,7 @@ impl Walk {
         alloc: Global,
         region: &Region<'_>,
         terms: &mut Terms,
-        at: At,
+        at: WalkPoint,
         line: &FlatInst,
     ) -> Result<(), NoMemory>
         requires can { CanTake terms.old region.now self.old at line.now }
@@ -72,7 +72,7 @@ impl Walk {
         alloc: Global,
         region: &Region<'_>,
         terms: &mut Terms,
-        at: At,
+        at: WalkPoint,
         line: &FlatInst,
     ) -> Result<(), NoMemory>
         requires can { CanTake terms.old region.now self.old at line.now }
@@ -102,10 +102,10 @@ impl Walk {
         alloc: Global,
         region: &Region<'_>,
         terms: &mut Terms,
-        at: At,
+        at: WalkPoint,
         to: ValueId,
         op: Op,
-        args: &TypedList,
+        args: &OperandList,
     ) -> Result<(), NoMemory>
         requires { CanTake terms.old region.now self.old at (lines.operation_line to op args.now) }
         ensures kept { Grows terms.old terms.new }
@@ -122,7 +122,7 @@ impl Walk {
         &mut self,
         region: &Region<'_>,
         terms: &mut Terms,
-        at: At,
+        at: WalkPoint,
         line: &FlatInst,
     ) -> Result<(), NoMemory>
         requires can { CanTake terms.old region.now self.old at line.now }
@@ -147,7 +147,7 @@ impl Walk {
         alloc: Global,
         region: &Region<'_>,
         terms: &mut Terms,
-        at: At,
+        at: WalkPoint,
         line: &FlatInst,
     ) -> Result<(), NoMemory>
         requires can { CanTake terms.old region.now self.old at line.now }
@@ -221,7 +221,7 @@ fn give_operation(
     at: usize,
     to: u32,
     op: Op,
-    args: &TypedList,
+    args: &OperandList,
 ) -> Result<(), NoMemory>
     requires is_in { at < length places.old.items }
     requires operation { IsOperation terms.old places.old.items at op args.now }
@@ -238,7 +238,7 @@ fn drive_cond(
     alloc: Global,
     terms: &mut Terms,
     places: &mut Places,
-    at: At,
+    at: WalkPoint,
     cond: Option<ValueId>,
 ) -> Result<TermId, NoMemory>
     requires is_in { at.place < length places.old.items }

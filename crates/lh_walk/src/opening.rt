@@ -5,7 +5,7 @@ ghost use Rattle.lh_rows.specs.Regions.{max_insts};
 ghost use Rattle.lh_walk.specs.Merges as merges;
 ghost use Rattle.lh_walk.specs.Walked as walked;
 
-use crate::walk::{At, Region, Walk};
+use crate::walk::{Region, Walk, WalkPoint};
 use lh_flat::flat::MergeEdge;
 use lh_flat::{FlatInst, Merge};
 use lh_region::giving::give;
@@ -29,7 +29,7 @@ impl Walk {
         alloc: Global,
         region: &Region<'_>,
         terms: &mut Terms,
-        at: At,
+        at: WalkPoint,
     ) -> Result<(), RegionFault>
         requires { walked.CanTreat terms.old region.now self.old at }
         ensures kept { Grows terms.old terms.new }
@@ -51,7 +51,7 @@ impl Walk {
         alloc: Global,
         region: &Region<'_>,
         terms: &mut Terms,
-        at: At,
+        at: WalkPoint,
     ) -> Result<(), NoMemory>
         requires { walked.CanTreat terms.old region.now self.old at }
         ensures kept { Grows terms.old terms.new }
@@ -78,7 +78,7 @@ impl Walk {
         alloc: Global,
         region: &Region<'_>,
         terms: &mut Terms,
-        at: At,
+        at: WalkPoint,
         lines: &[FlatInst],
     ) -> Result<(), RegionFault>
         requires can { merges.CanTakeAll terms.old region.now self.old at lines.now }
@@ -100,7 +100,7 @@ impl Walk {
         alloc: Global,
         region: &Region<'_>,
         terms: &mut Terms,
-        at: At,
+        at: WalkPoint,
         lines: &[FlatInst],
     ) -> Result<(), NoMemory>
         requires can { merges.CanTakeAll terms.old region.now self.old at lines.now }

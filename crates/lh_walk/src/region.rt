@@ -5,11 +5,11 @@ ghost use Rattle.lh_flat.specs.Reads.{flat_text};
 ghost use Rattle.lh_term.specs.Arena.{Grows};
 ghost use Rattle.lh_rows.specs.Regions.{regions_of};
 ghost use Rattle.lh_region.specs.Forms.{HasForm, Names};
-ghost use Rattle.lh_region.specs.Stands.{Answers, RegionsFit};
+ghost use Rattle.lh_region.specs.Stands.{RegionsOrReason, RegionsFit};
 ghost use Rattle.lh_walk.specs.Both as both;
 
 use crate::turns::walk_from;
-use crate::walk::{At, Region, Walk};
+use crate::walk::{Region, Walk, WalkPoint};
 use lh_flat::Flat;
 use lh_joins::logic::bit;
 use lh_parts::PartTable;
@@ -29,7 +29,7 @@ use std::alloc::Global;
 pub fn regions(alloc: Global, flat: &Flat, terms: &mut Terms) -> Result<Regions, RegionFault>
     requires form { HasForm flat.now }
     ensures kept { Grows terms.old terms.new }
-    ensures answer { (f : Naming) → Names flat.now f → Answers terms.new (regions_of (flat_text f flat.now)) result }
+    ensures answer { (f : Naming) → Names flat.now f → RegionsOrReason terms.new (regions_of (flat_text f flat.now)) result }
     ensures fit { IfOk result (λ regions. RegionsFit terms.new regions) }
 {
     // More blocks or arguments than there are ids: no memory has room for them.
@@ -64,10 +64,10 @@ fn both_regions(
     requires here { both.IsHere region.now }
     requires goes_on { region.now.ends_at_head ≡ false }
     ensures kept { Grows terms.old terms.new }
-    ensures answer { (f : Naming) → Names region.now.flat.now f → Answers terms.new (regions_of (flat_text f region.now.flat.now)) result }
+    ensures answer { (f : Naming) → Names region.now.flat.now f → RegionsOrReason terms.new (regions_of (flat_text f region.now.flat.now)) result }
     ensures fit { IfOk result (λ regions. RegionsFit terms.new regions) }
 {
-    let Walk { rows: first, .. } = first_walk(alloc, region, terms)?;
+    let first = first_rows(alloc, region, terms)?;
     let found = one_target(alloc, &first)?;
     let Some(target) = found else {
         return Ok(Regions {
@@ -80,6 +80,19 @@ fn both_regions(
         first,
         second: Some(second),
     })
+}
+
+/// The rows of the region that starts at the head.
+fn first_rows(alloc: Global, region: &Region<'_>, terms: &mut Terms) -> Result<Rows, RegionFault>
+    requires few { length region.now.flat.now.blocks < 2 ^ 32 }
+    requires region { both.HasRegion region.now }
+    requires goes_on { region.now.ends_at_head ≡ false }
+    ensures kept { Grows terms.old terms.new }
+    ensures rows { IfOk result (λ rows. both.FirstRows region.now terms.new rows) }
+    ensures cause { IfErr result (λ fault. both.FirstStops region.now fault) }
+{
+    let Walk { rows, .. } = first_walk(alloc, region, terms)?;
+    Ok(rows)
 }
 
 /// The walk through the region that starts at the head.
@@ -99,7 +112,7 @@ fn first_walk(alloc: Global, region: &Region<'_>, terms: &mut Terms) -> Result<W
         region,
         terms,
         places,
-        At {
+        WalkPoint {
             place: 0,
             block: region.head,
             turns: 0,
@@ -128,24 +141,39 @@ fn second_rows(
         is_past: true,
         ..*region
     };
-    let Walk {
-        mut places,
-        sources,
-        ..
-    } = first_walk(alloc, &past, terms)?;
-    let place = places.len();
-    begin(alloc, &mut places, target, sources)?;
-    let cond = bit(terms, true)?;
+    let first = first_walk(alloc, &past, terms)?;
+    let (places, at) = place_behind(alloc, first, terms, target)?;
     let again = Region {
         ends_at_head: true,
         ..*region
     };
-    let at = At {
+    let Walk { rows, .. } = walk_from(alloc, &again, terms, places, at)?;
+    Ok(rows)
+}
+
+/// The places of a walk with a further one behind them, which stands for the target of its ends; and that one.
+fn place_behind(
+    alloc: Global,
+    walk: Walk,
+    terms: &mut Terms,
+    target: u32,
+) -> Result<(Places, WalkPoint), NoMemory>
+    ensures kept { Grows terms.old terms.new }
+    ensures behind { IfOk result (λ x. both.IsBehind walk target terms.new x.0.items x.1) }
+{
+    let Walk {
+        mut places,
+        sources,
+        ..
+    } = walk;
+    let place = places.len();
+    begin(alloc, &mut places, target, sources)?;
+    let cond = bit(terms, true)?;
+    let at = WalkPoint {
         place,
         block: target,
         turns: 0,
         cond,
     };
-    let Walk { rows, .. } = walk_from(alloc, &again, terms, places, at)?;
-    Ok(rows)
+    Ok((places, at))
 }

@@ -5,7 +5,7 @@ ghost use Rattle.lh_rows.specs.Regions.{max_turns, all_places};
 ghost use Rattle.lh_region.specs.Walking.{place_of};
 ghost use Rattle.lh_walk.specs.Turns as turns;
 
-use crate::walk::{At, Region, Walk};
+use crate::walk::{Region, Walk, WalkPoint};
 use lh_joins::joins::any_of;
 use lh_region::ahead::{Ahead, EdgeList};
 use lh_region::beginning::begin;
@@ -22,7 +22,7 @@ pub fn walk_from(
     region: &Region<'_>,
     terms: &mut Terms,
     places: Places,
-    at: At,
+    at: WalkPoint,
 ) -> Result<Walk, RegionFault>
     requires few { length region.now.flat.now.blocks < 2 ^ 32 }
     requires start { turns.CanStart terms.old region.now places.items at }
@@ -119,7 +119,7 @@ impl Walk {
             alloc,
             region,
             terms,
-            At {
+            WalkPoint {
                 place,
                 block,
                 turns: turn,

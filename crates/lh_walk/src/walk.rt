@@ -36,7 +36,7 @@ pub struct Walk {
 
 /// Where the instructions of a place stand.
 #[derive(Clone, Copy)]
-pub struct At {
+pub struct WalkPoint {
     pub place: usize,
     pub block: u32,
     pub turns: u32,

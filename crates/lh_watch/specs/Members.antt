@@ -31,7 +31,7 @@ abbrev pub report_of : Member → List ℕ
 report_of m = m.rule.text m.numbers
 
 -- it took the frame, and answered so
-pub record Answers (f : Picture) (old new : Member) (next : Next) : Type 0 where
+pub record TookFrame (f : Picture) (old new : Member) (next : Next) : Type 0 where
   pub said : says f old ≡ next
   pub kept : new ≡ seen f old
 

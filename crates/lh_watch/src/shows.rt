@@ -3,7 +3,7 @@ ghost use Rattle.std.specs.Prelude.{◌≡◌, ℕ, List, ◌∷◌, ◌++◌, �
 ghost use Rattle.std.specs.List.{list_any};
 ghost use Rattle.std.specs.Str.{bytes_eq};
 ghost use Rattle.lh_types.specs.Pictures.{picture};
-ghost use Rattle.lh_watch.specs.Members.{Member, Answers, seen, says, report_of};
+ghost use Rattle.lh_watch.specs.Members.{Member, TookFrame, seen, says, report_of};
 ghost use Rattle.lh_watch.specs.Shown.{shown, reports_of, first_stop, IsPartlyShown, is_asked, kept};
 
 use crate::watcher::{Next, Watcher};
@@ -56,7 +56,7 @@ fn frame_at<W: Watcher>(ws: &mut Vec<W>, k: usize, f: &Frame) -> Result<Next, No
 
 // Shows the frame to one member.
 fn frame_one<W: Watcher>(w: &mut W, f: &Frame) -> Result<Next, NoMemory>
-    ensures ok { IfOk result (Answers (picture f.now) (W.member w.old) (W.member w.new)) }
+    ensures ok { IfOk result (TookFrame (picture f.now) (W.member w.old) (W.member w.new)) }
     ensures err { OnErr result (W.member w.new ≡ W.member w.old) }
 {
     w.frame(f.at, f.changes.as_slice(), f.outcomes.as_slice())

@@ -1,7 +1,7 @@
 //! What a watcher is, to whoever shows it frames.
 ghost use Rattle.std.specs.Prelude.{◌≡◌, ◌++◌, IfOk, OnErr, OnOk};
 ghost use Rattle.lh_types.specs.Pictures.{pictured};
-ghost use Rattle.lh_watch.specs.Members.{Member, Answers, report_of};
+ghost use Rattle.lh_watch.specs.Members.{Member, TookFrame, report_of};
 
 use lh_time::Instant;
 use lh_types::frame::{Change, Outcome};
@@ -34,7 +34,7 @@ pub trait Watcher: Drop {
         changes: &[Change],
         outcomes: &[Outcome],
     ) -> Result<Next, NoMemory>
-        ensures ok { IfOk result (Answers (pictured at changes.now outcomes.now) (member self.old) (member self.new)) }
+        ensures ok { IfOk result (TookFrame (pictured at changes.now outcomes.now) (member self.old) (member self.new)) }
         ensures err { OnErr result (member self.new ≡ member self.old) };
 
     /// Appends its report, a text of its numbers.

@@ -115,10 +115,11 @@ or_false true = refl
 or_false false = refl
 
 -- a frame was told and shown
-pub frame_went : (t : Teller) (s' : Scribe) (before : Option (List Datum)) (v : Frame) (p : Picture) (ms ms' : List Member) (rest : ShownRun) (wr wr' : Option (List ℕ)) (rp rp' : List ℕ) (failed : Bool) → IsNext t.scribe before v p
-    → IsTold t.scribe s' before v wr wr' → ms' ≡ shown p ms → rp' ≡ rp ++ reports_of p ms → failed ≡ (t.failed || has_failed v.outcomes)
-    → Went (going t before ms (shows_one p ms v rest) wr rp) (record { scribe = s'; before = Some v.values; members = ms'; rest = rest; written = wr'; reports = rp'; failed = failed })
-frame_went t s' before v p ms ms' rest wr wr' rp rp' failed n told m r f = record {
+pub frame_went : (t : Teller) (s' : Scribe) (waits : List ℕ) (before : Option (List Datum)) (v : Frame) (p : Picture) (ms ms' : List Member) (rest : ShownRun) (wr wr' : Option (List ℕ)) (rp rp' : List ℕ)
+    (failed : Bool) → IsNext t.scribe before v p
+    → IsTold t.scribe s' before v t.text.items waits wr wr' → ms' ≡ shown p ms → rp' ≡ rp ++ reports_of p ms → failed ≡ (t.failed || has_failed v.outcomes)
+    → Went (going t before ms (shows_one p ms v rest) wr rp) (record { scribe = s'; waits = waits; before = Some v.values; members = ms'; rest = rest; written = wr'; reports = rp'; failed = failed })
+frame_went t s' waits before v p ms ms' rest wr wr' rp rp' failed n told m r f = record {
   since = v ∷ [];
   piece = told.piece;
   done = reports_of p ms;
@@ -135,21 +136,23 @@ frame_went t s' before v p ms ms' rest wr wr' rp rp' failed n told m r f = recor
 }
 
 -- whether an assertion has failed, with the outcomes of one more frame
-pub failed_next : (b was t : Bool) (os : List Outcome) (f : frames.Frame) (before : Option (List Datum)) (v : Frame) → b ≡ (was || has_failed os) → was ≡ t → os ≡ f.outcomes → picture f ≡ picture_by before v → b ≡ (t || has_failed v.outcomes)
+pub failed_next : (b was t : Bool) (os : List Outcome) (f : frames.Frame) (before : Option (List Datum)) (v : Frame) → b ≡ (was || has_failed os) → was ≡ t → os ≡ f.outcomes
+    → picture f ≡ picture_by before v → b ≡ (t || has_failed v.outcomes)
 failed_next b was t os f before v e w o p =
     e ∙ ap (λ x. x || has_failed os) w ∙ ap (λ (xs : List Outcome). t || has_failed xs) (o ∙ ap (λ (q : Picture). q.outcomes) p)
 
 -- a frame was told, and memory ran out while it was shown
-pub frame_broke : (t : Teller) (s' : Scribe) (before : Option (List Datum)) (v : Frame) (p : Picture) (ms now : List Member) (rest : ShownRun) (e : WaveFault) (wr wr' : Option (List ℕ)) (rp : List ℕ) → IsNext t.scribe before v p
-    → IsTold t.scribe s' before v wr wr' → IsPartlyShown p ms now → e ≡ OutOfMemory → BrokeOff (going t before ms (shows_one p ms v rest) wr rp) e wr' now
-frame_broke t s' before v p ms now rest e wr wr' rp n told part o = record {
-  text = subst (BreaksOff e wr wr') (sym (told.text rest.frames rest.left rest.end)) (all_of e wr wr' told.piece (text_left s' (Some v.values) rest.frames rest.left rest.end) o told.told);
+pub frame_broke : (t : Teller) (s' : Scribe) (waits : List ℕ) (before : Option (List Datum)) (v : Frame) (p : Picture) (ms now : List Member) (rest : ShownRun) (e : WaveFault) (wr wr' : Option (List ℕ)) (rp : List ℕ)
+    → IsNext t.scribe before v p
+    → IsTold t.scribe s' before v t.text.items waits wr wr' → IsPartlyShown p ms now → e ≡ OutOfMemory → BrokeOff (going t before ms (shows_one p ms v rest) wr rp) e wr' now
+frame_broke t s' waits before v p ms now rest e wr wr' rp n told part o = record {
+  text = subst (BreaksOff e wr wr') (sym (told.text rest.frames rest.left rest.end)) (all_of e wr wr' told.piece (waits ++ text_left s' (Some v.values) rest.frames rest.left rest.end) o told.told);
   seen = in_part (picture_by before v) (pictures (Some v.values) rest.frames) ms now (subst (λ (q : Picture). IsPartlyShown q ms now) n.is part);
 }
 
 -- a frame was not told whole
 pub tell_broke : (t : Teller) (before : Option (List Datum)) (v : Frame) (p : Picture) (ms now : List Member) (rest : ShownRun) (e : WaveFault) (wr wr' : Option (List ℕ)) (rp : List ℕ)
-    → BreaksOff e wr wr' (text_left t.scribe before (v ∷ rest.frames) rest.left rest.end) → now ≡ ms → BrokeOff (going t before ms (shows_one p ms v rest) wr rp) e wr' now
+    → BreaksOff e wr wr' (t.text.items ++ text_left t.scribe before (v ∷ rest.frames) rest.left rest.end) → now ≡ ms → BrokeOff (going t before ms (shows_one p ms v rest) wr rp) e wr' now
 tell_broke t before v p ms now rest e wr wr' rp b m = record {
   text = b;
   seen = subst (HaveSeen (picture_by before v ∷ pictures (Some v.values) rest.frames) ms) (sym m) (no_more (picture_by before v ∷ pictures (Some v.values) rest.frames) ms);

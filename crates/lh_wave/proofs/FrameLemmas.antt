@@ -7,7 +7,8 @@ use Rattle.std.proofs.lemmas.List.{append-nil, drop_all, drop_more}
 abbrev pub Writing : {X : Type 0} → (X → List ℕ) → (start to : List ℕ) → List X → ℕ → Type 0
 Writing text start to xs i = to ++ flat_map text (drop i xs) ≡ start ++ flat_map text xs
 
-pub Writing-next : {X : Type 0} (text : X → List ℕ) (start to next : List ℕ) (xs : List X) (i : ℕ) (x : X) → Writing text start to xs i → i < length xs → x ≡ get_or xs i x → next ≡ to ++ text x → Writing text start next xs (i + 1)
+pub Writing-next : {X : Type 0} (text : X → List ℕ) (start to next : List ℕ) (xs : List X) (i : ℕ) (x : X) → Writing text start to xs i → i < length xs → x ≡ get_or xs i x → next ≡ to ++ text x
+    → Writing text start next xs (i + 1)
 Writing-next text start to next xs i x w h e g =
     ap (λ l. l ++ flat_map text (drop (i + 1) xs)) g ∙ append_assoc to (text x) (flat_map text (drop (i + 1) xs))
     ∙ ap (λ y. to ++ (text y ++ flat_map text (drop (i + 1) xs))) e ∙ ap (λ l. to ++ flat_map text l) (sym (drop_more xs i x h)) ∙ w

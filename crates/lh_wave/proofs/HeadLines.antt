@@ -30,12 +30,14 @@ signals_next a d xs to next path name k s whole w h e p n g =
     let same : length xs ≡ length d.signals.items = ap length whole in
     let here : k < length d.signals.items = omega arith in
     let is : get_or d.signals.items k s ≡ s = ap (λ (l : List Signal). get_or l k s) (sym whole) ∙ sym e in
-    ap (λ l. l ++ signal_lines all (k + 1) (shown_past d (k + 1))) (g ∙ ap (λ x. to ++ signal_line k (render (type_pieces s.ty)) x name) p ∙ ap (λ x. to ++ signal_line k (render (type_pieces s.ty)) (path_at all s.instance) x) n)
+    ap (λ l. l ++ signal_lines all (k + 1) (shown_past d (k + 1)))
+    (g ∙ ap (λ x. to ++ signal_line k (render (type_pieces s.ty)) x name) p ∙ ap (λ x. to ++ signal_line k (render (type_pieces s.ty)) (path_at all s.instance) x) n)
     ∙ append_assoc to line (signal_lines all (k + 1) (shown_past d (k + 1)))
     ∙ ap (λ (ys : List Signal). to ++ signal_lines all k (map shown_signal (map signal_text ys))) (sym (drop_more d.signals.items k s here ∙ ap (λ (x : Signal). x ∷ drop (k + 1) d.signals.items) is))
     ∙ w
 
-pub signals_end : (a : Arena) (d : Design) (xs : List Signal) (to : List ℕ) (k : ℕ) → xs ≡ d.signals.items → SignalsWriting a d to k → length xs ≤ k → to ≡ trace_head (shown_in (design_text a d)) (signals_in (design_text a d))
+pub signals_end : (a : Arena) (d : Design) (xs : List Signal) (to : List ℕ) (k : ℕ) → xs ≡ d.signals.items → SignalsWriting a d to k → length xs ≤ k
+    → to ≡ trace_head (shown_in (design_text a d)) (signals_in (design_text a d))
 signals_end a d xs to k whole w h =
     let same : length xs ≡ length d.signals.items = ap length whole in
     let past : length d.signals.items ≤ k = omega arith in

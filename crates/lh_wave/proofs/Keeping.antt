@@ -14,7 +14,7 @@ use Rattle.lh_types.specs.declared.val.Val.{Val}
 use Rattle.lh_wave.specs.declared.touched.Touched.{Touched}
 use Rattle.lh_wave.specs.declared.waveform.Waveform.{Waveform}
 use Rattle.lh_wave.specs.Touched.{is_touched, IsNoted, IsSameAt, IsSameBut}
-use Rattle.lh_wave.specs.WaveText.{Moment}
+use Rattle.lh_wave.specs.WaveText.{WaveMoment}
 use Rattle.lh_wave.specs.Recorded.{IsKept, values_now, left_text, changed_values}
 use Rattle.lh_wave.proofs.Recording.{left_by, same_time, later_time, other_number}
 
@@ -32,11 +32,13 @@ kept_after w touched present k n h l e noted added kept =
       noted = subst (IsNoted touched) (sym level) (noted (length w.present.items) h.noted);
       untouched = λ j u d. elim (cases_eq j k) [
         | inl s ↦ absurd (true_is_no_false (is_touched touched k) added (ap (is_touched touched) (sym s) ∙ u))
-        | inr other ↦ h.untouched j (kept j u) d ∙ sym (ap (λ vs. get_or vs j d) (ap (map datum_of) e ∙ map-set datum_of w.present.items k n) ∙ get_or-set_other (map datum_of w.present.items) k j (datum_of n) d other)
+        | inr other ↦ h.untouched j (kept j u) d ∙ sym (ap (λ vs. get_or vs j d) (ap (map datum_of) e ∙ map-set datum_of w.present.items k n)
+            ∙ get_or-set_other (map datum_of w.present.items) k j (datum_of n) d other)
       ];
     }
 
-pub kept_on : {T E : Type 0} (r : Result T E) (w : Waveform) (touched : Touched) (present : Vec Val Global) (k : ℕ) (n : Val) → IsKept w → k < length w.present.items → present.items ≡ set w.present.items k n
+pub kept_on : {T E : Type 0} (r : Result T E) (w : Waveform) (touched : Touched) (present : Vec Val Global) (k : ℕ) (n : Val) → IsKept w → k < length w.present.items
+    → present.items ≡ set w.present.items k n
     → OnOk r ((count : ℕ) → IsNoted w.touched count → IsNoted touched count) → OnOk r (is_touched touched k ≡ true) → OnOk r ((j : ℕ) → is_touched touched j ≡ false → is_touched w.touched j ≡ false)
     → OnOk r (IsKept (record { fs = w.fs; dumped = w.dumped; written = w.written; present = present; touched = touched }))
 kept_on (Ok x) w touched present k n h l e noted added kept = kept_after w touched present k n h l e noted added kept
@@ -72,17 +74,19 @@ kept_behind w written dumped touched h e noted = record {
   untouched = λ k u d. ap (λ vs. get_or vs k d) e;
 }
 
-pub kept_but_at : (w : Waveform) (numbers : List ℕ) (ws vs : List Val) → IsKept w → numbers ≡ w.touched.numbers.items → ws ≡ w.written.items → vs ≡ w.present.items → IsSameBut numbers (map datum_of ws) (map datum_of vs)
+pub kept_but_at : (w : Waveform) (numbers : List ℕ) (ws vs : List Val) → IsKept w → numbers ≡ w.touched.numbers.items → ws ≡ w.written.items → vs ≡ w.present.items
+    → IsSameBut numbers (map datum_of ws) (map datum_of vs)
 kept_but_at w numbers ws vs h n e g =
     subst (λ ks. IsSameBut ks (map datum_of ws) (map datum_of vs)) (sym n)
-    (subst (λ l. IsSameBut w.touched.numbers.items (map datum_of l) (map datum_of vs)) (sym e) (subst (λ l. IsSameBut w.touched.numbers.items (map datum_of w.written.items) (map datum_of l)) (sym g) (kept_but w h)))
+    (subst (λ l. IsSameBut w.touched.numbers.items (map datum_of l) (map datum_of vs)) (sym e)
+    (subst (λ l. IsSameBut w.touched.numbers.items (map datum_of w.written.items) (map datum_of l)) (sym g) (kept_but w h)))
 
 -- the same at another time
 pub kept_at : (w : Waveform) (fs : ℕ) → IsKept w → IsKept (record { fs = fs; dumped = w.dumped; written = w.written; present = w.present; touched = w.touched })
 kept_at w fs h = record { level = h.level; noted = h.noted; untouched = h.untouched }
 
 -- what is left to be written, by what a waveform keeps
-left_is : (n : Waveform) (fs : ℕ) (dumped : Bool) (written : Vec Val Global) → n.fs ≡ fs → n.dumped ≡ dumped → n.written ≡ written → (ms : List Moment)
+left_is : (n : Waveform) (fs : ℕ) (dumped : Bool) (written : Vec Val Global) → n.fs ≡ fs → n.dumped ≡ dumped → n.written ≡ written → (ms : List WaveMoment)
     → left_text n ms ≡ left_by dumped (map datum_of written.items) (record { fs = fs; values = values_now n }) ms
 left_is n fs dumped written e d g ms =
     ap (λ (f : ℕ). left_by n.dumped (map datum_of n.written.items) (record { fs = f; values = values_now n }) ms) e
@@ -91,16 +95,18 @@ left_is n fs dumped written e d g ms =
 
 pub same_time_left : {T E : Type 0} (r : Result T E) (w n : Waveform) (at : ℕ) (to : List ℕ) (shown all : List Change) → at ≡ w.fs → shown ≡ all
     → OnOk r (n.fs ≡ w.fs) → OnOk r (n.dumped ≡ w.dumped) → OnOk r (n.written ≡ w.written) → OnOk r (values_now n ≡ changed_values (values_now w) (map showing_of shown))
-    → OnOk r ((ms : List Moment) → to ++ left_text n ms ≡ to ++ left_text w (record { fs = at; values = changed_values (values_now w) (map showing_of all) } ∷ ms))
+    → OnOk r ((ms : List WaveMoment) → to ++ left_text n ms ≡ to ++ left_text w (record { fs = at; values = changed_values (values_now w) (map showing_of all) } ∷ ms))
 same_time_left (Ok x) w n at to shown all e s f d g v = λ ms.
     ap (λ l. to ++ l) (left_is n w.fs w.dumped w.written f d g ms)
-    ∙ same_time w.dumped (map datum_of w.written.items) w.fs at (values_now w) (values_now n) (changed_values (values_now w) (map showing_of all)) to ms e (v ∙ ap (λ l. changed_values (values_now w) (map showing_of l)) s)
+    ∙ same_time w.dumped (map datum_of w.written.items) w.fs at (values_now w) (values_now n) (changed_values (values_now w) (map showing_of all)) to ms e (v
+    ∙ ap (λ l. changed_values (values_now w) (map showing_of l)) s)
 same_time_left (Err x) w n at to shown all e s f d g v = tt
 
-pub later_time_left : {T E : Type 0} (r : Result T E) (w m n : Waveform) (at : ℕ) (old_to to : List ℕ) (shown all : List Change) → (at ≡ w.fs → ⊥) → m.dumped ≡ true → map datum_of m.written.items ≡ values_now w
+pub later_time_left : {T E : Type 0} (r : Result T E) (w m n : Waveform) (at : ℕ) (old_to to : List ℕ) (shown all : List Change) → (at ≡ w.fs → ⊥) → m.dumped ≡ true
+    → map datum_of m.written.items ≡ values_now w
     → values_now m ≡ values_now w → to ≡ old_to ++ left_text w [] → shown ≡ all
     → OnOk r (n.fs ≡ at) → OnOk r (n.dumped ≡ m.dumped) → OnOk r (n.written ≡ m.written) → OnOk r (values_now n ≡ changed_values (values_now m) (map showing_of shown))
-    → OnOk r ((ms : List Moment) → to ++ left_text n ms ≡ old_to ++ left_text w (record { fs = at; values = changed_values (values_now w) (map showing_of all) } ∷ ms))
+    → OnOk r ((ms : List WaveMoment) → to ++ left_text n ms ≡ old_to ++ left_text w (record { fs = at; values = changed_values (values_now w) (map showing_of all) } ∷ ms))
 later_time_left (Ok x) w m n at old_to to shown all other d g v t s f d' g' v' = λ ms.
     ap (λ l. to ++ l) (left_is n at true m.written f (d' ∙ d) g' ms)
     ∙ ap (λ (vs : List Datum). to ++ left_by true vs (record { fs = at; values = values_now n }) ms) g

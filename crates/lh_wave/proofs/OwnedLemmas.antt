@@ -107,7 +107,8 @@ variables_owned i n all (s ∷ ss) st =
     let z : n ≡ n + 0 = omega arith in
     let here : variable_at all n ≡ variable_line (bit_count s.ty) n s.name =
     ap (λ (o : Option ShownSignal). option_map_or (λ (x : ShownSignal). variable_line (bit_count x.ty) n x.name) o []) (ap (slice_get all) z ∙ st 0) in
-    variables_by (nat_eq s.instance i) all n (owned_by i (n + 1) (map (λ (x : Signal). Some x.instance) ss)) (variable_line (bit_count s.ty) n s.name) (variables_of i (n + 1) (map shown_signal (map signal_text ss))) here
+    variables_by (nat_eq s.instance i) all n (owned_by i (n + 1) (map (λ (x : Signal). Some x.instance) ss)) (variable_line (bit_count s.ty) n s.name)
+    (variables_of i (n + 1) (map shown_signal (map signal_text ss))) here
     (variables_owned i (n + 1) all ss (λ j. let e : n + 1 + j ≡ n + suc j = omega arith in ap (slice_get all) e ∙ st (suc j)))
 
 pub variables_in : (a : Arena) (d : Design) (lists : Vec (Vec ℕ Global) Global) (i : ℕ) → AreOwned lists (length d.instances.items) (owners d) → i < length d.instances.items
@@ -145,8 +146,10 @@ length_shown a n [] = refl
 length_shown a n (x ∷ is) = ap suc (length_shown a (n + 1) is)
 
 -- the whole scope of an instance
-pub scope_whole : {T E : Type 0} (r : Result T E) (a : Arena) (d : Design) (children signals : Vec (Vec ℕ Global) Global) (steps i : ℕ) (start one two three now label numbers kids : List ℕ) → (steps ≡ 0 → ⊥)
-    → AreOwned children (length d.instances.items) (parents d) → AreOwned signals (length d.instances.items) (owners d) → i < length d.instances.items → numbers ≡ numbers_of signals i → kids ≡ numbers_of children i
+pub scope_whole : {T E : Type 0} (r : Result T E) (a : Arena) (d : Design) (children signals : Vec (Vec ℕ Global) Global) (steps i : ℕ) (start one two three now label numbers kids : List ℕ)
+    → (steps ≡ 0 → ⊥)
+    → AreOwned children (length d.instances.items) (parents d) → AreOwned signals (length d.instances.items) (owners d) → i < length d.instances.items → numbers ≡ numbers_of signals i
+    → kids ≡ numbers_of children i
     → label ≡ label_at (shown_in (design_text a d)) i → one ≡ start ++ scope_line label → two ≡ one ++ flat_map (variable_at (signals_in (design_text a d))) numbers
     → three ≡ two ++ flat_map (scope_text (steps - 1) (shown_in (design_text a d)) (signals_in (design_text a d))) kids → OnOk r (now ≡ three ++ upscope_line)
     → OnOk r (now ≡ start ++ scope_text steps (shown_in (design_text a d)) (signals_in (design_text a d)) i)
@@ -185,11 +188,13 @@ get_or-any (x ∷ xs) zero d e h = refl
 get_or-any (x ∷ xs) (suc i) d e h = get_or-any xs i d e (omega arith)
 
 -- the text of one more number
-pub numbers_next : (text : ℕ → List ℕ) (start to next : List ℕ) (xs : List ℕ) (i : ℕ) → Writing text start to xs i → i < length xs → next ≡ to ++ text (get_or xs i 0) → Writing text start next xs (i + 1)
+pub numbers_next : (text : ℕ → List ℕ) (start to next : List ℕ) (xs : List ℕ) (i : ℕ) → Writing text start to xs i → i < length xs → next ≡ to ++ text (get_or xs i 0)
+    → Writing text start next xs (i + 1)
 numbers_next text start to next xs i w h g = Writing-next text start to next xs i (get_or xs i 0) w h (get_or-any xs i 0 (get_or xs i 0) h) g
 
 -- the line of one more signal
-pub variable_next : (a : Arena) (d : Design) (ss : List Signal) (xs : List ℕ) (start to next name : List ℕ) (i : ℕ) (s : Signal) → Writing (variable_at (signals_in (design_text a d))) start to xs i → i < length xs
+pub variable_next : (a : Arena) (d : Design) (ss : List Signal) (xs : List ℕ) (start to next name : List ℕ) (i : ℕ) (s : Signal) → Writing (variable_at (signals_in (design_text a d))) start to xs i
+    → i < length xs
     → Each (λ (k : ℕ). k < length d.signals.items) xs → ss ≡ d.signals.items → s ≡ get_or ss (get_or xs i 0) s → name ≡ s.name → next ≡ to ++ variable_line (bit_count s.ty) (get_or xs i 0) name
     → Writing (variable_at (signals_in (design_text a d))) start next xs (i + 1)
 variable_next a d ss xs start to next name i s w h below whole is n g =
@@ -198,23 +203,27 @@ variable_next a d ss xs start to next name i s w h below whole is n g =
     numbers_next (variable_at (signals_in (design_text a d))) start to next xs i w h
     (g ∙ ap (λ l. to ++ variable_line (bit_count s.ty) (get_or xs i 0) l) n ∙ ap (λ l. to ++ l) (sym (variable_here a d (get_or xs i 0) s known here)))
 
-pub is_data_in : (a : Arena) (d : Design) (ss : List Signal) (xs : List ℕ) (i : ℕ) (s : Signal) → IsDesignOf a d → Each (λ (k : ℕ). k < length d.signals.items) xs → i < length xs → ss ≡ d.signals.items
+pub is_data_in : (a : Arena) (d : Design) (ss : List Signal) (xs : List ℕ) (i : ℕ) (s : Signal) → IsDesignOf a d → Each (λ (k : ℕ). k < length d.signals.items) xs → i < length xs
+    → ss ≡ d.signals.items
     → s ≡ get_or ss (get_or xs i 0) s → IsData s.ty
 is_data_in a d ss xs i s o below h whole is =
     let known : get_or xs i 0 < length d.signals.items = each_at (λ (k : ℕ). k < length d.signals.items) xs i below h in
     is_data_at 0 (length d.init) (get_or xs i 0) d.signals.items s o.fill known (is ∙ ap (λ (l : List Signal). get_or l (get_or xs i 0) s) whole)
 
-pub signals_known : (d : Design) (lists : Vec (Vec ℕ Global) Global) (i : ℕ) (numbers : List ℕ) → numbers ≡ numbers_of lists i → AreOwned lists (length d.instances.items) (owners d) → i < length d.instances.items
+pub signals_known : (d : Design) (lists : Vec (Vec ℕ Global) Global) (i : ℕ) (numbers : List ℕ) → numbers ≡ numbers_of lists i → AreOwned lists (length d.instances.items) (owners d)
+    → i < length d.instances.items
     → Each (λ (k : ℕ). k < length d.signals.items) numbers
 signals_known d lists i numbers e o h = subst (Each (λ (k : ℕ). k < length d.signals.items)) (sym e) (signals_below d lists i o h)
 
-pub child_known : (d : Design) (lists : Vec (Vec ℕ Global) Global) (i j : ℕ) (numbers : List ℕ) → numbers ≡ numbers_of lists i → AreOwned lists (length d.instances.items) (parents d) → i < length d.instances.items
+pub child_known : (d : Design) (lists : Vec (Vec ℕ Global) Global) (i j : ℕ) (numbers : List ℕ) → numbers ≡ numbers_of lists i → AreOwned lists (length d.instances.items) (parents d)
+    → i < length d.instances.items
     → j < length numbers → get_or numbers j 0 < length d.instances.items
 child_known d lists i j numbers e o h l =
     each_at (λ (k : ℕ). k < length d.instances.items) numbers j (subst (Each (λ (k : ℕ). k < length d.instances.items)) (sym e) (children_below d lists i o h)) l
 
 -- the owner of one more
-pub owner_next : {X : Type 0} (owner : X → Option ℕ) (old new : Vec (Vec ℕ Global) Global) (count i : ℕ) (xs ys : List X) (x : X) → xs ≡ ys → i < length xs → x ≡ get_or xs i x → vec_len new ≡ vec_len old
+pub owner_next : {X : Type 0} (owner : X → Option ℕ) (old new : Vec (Vec ℕ Global) Global) (count i : ℕ) (xs ys : List X) (x : X) → xs ≡ ys → i < length xs → x ≡ get_or xs i x
+    → vec_len new ≡ vec_len old
     → ((k : ℕ) → k < vec_len old → numbers_of new k ≡ with_number (owner x) i k (numbers_of old k)) → AreOwned old count (take i (map owner ys)) → AreOwned new count (take (i + 1) (map owner ys))
 owner_next owner old new count i xs ys x whole h e level added a =
     let same : length xs ≡ length ys = ap length whole in

@@ -11,7 +11,7 @@ use Rattle.lh_types.specs.SameValueLaws.{same_datum-refl}
 use Rattle.lh_types.specs.Pictures.{showing_of}
 use Rattle.lh_types.specs.declared.val.Val.{Val}
 use Rattle.lh_types.specs.declared.frame.Change.{Change}
-use Rattle.lh_wave.specs.WaveText.{Moment, value_line, all_lines, differing_lines, time_line, any_differs, changes_at, dump_at, changes_text, dump_text, lasts_from}
+use Rattle.lh_wave.specs.WaveText.{WaveMoment, value_line, all_lines, differing_lines, time_line, any_differs, changes_at, dump_at, changes_text, dump_text, lasts_from}
 use Rattle.lh_wave.specs.Touched.{IsSameAt}
 use Rattle.lh_wave.specs.Recorded.{changed_values}
 use Rattle.lh_wave.proofs.TouchedLemmas.{DoneBut, DoneBut-end, DoneBut-below, CatchingUp, CatchingUp-end}
@@ -30,7 +30,8 @@ values_end vs i h = let l : length (map datum_of vs) ≤ i = omega (arith, lengt
 abbrev pub AllWriting : (start to : List ℕ) → List Val → ℕ → Type 0
 AllWriting start to vs i = to ++ all_lines i (drop i (map datum_of vs)) ≡ start ++ all_lines 0 (map datum_of vs)
 
-pub AllWriting-next : (start to next : List ℕ) (vs : List Val) (i : ℕ) (v : Val) → AllWriting start to vs i → i < length vs → v ≡ get_or vs i v → next ≡ to ++ value_line i (datum_of v) → AllWriting start next vs (i + 1)
+pub AllWriting-next : (start to next : List ℕ) (vs : List Val) (i : ℕ) (v : Val) → AllWriting start to vs i → i < length vs → v ≡ get_or vs i v → next ≡ to ++ value_line i (datum_of v)
+    → AllWriting start next vs (i + 1)
 AllWriting-next start to next vs i v w h e g =
     ap (λ l. l ++ all_lines (i + 1) (drop (i + 1) (map datum_of vs))) g ∙ append_assoc to (value_line i (datum_of v)) (all_lines (i + 1) (drop (i + 1) (map datum_of vs)))
     ∙ ap (λ ds. to ++ all_lines i ds) (sym (values_drop vs i v h e)) ∙ w
@@ -53,7 +54,8 @@ DifferingWriting-next start to next ws vs i w v p hw ew hv ev g =
     ∙ ap (λ ds. to ++ differing_lines i ds (datum_of v ∷ drop (i + 1) (map datum_of vs))) (sym (values_drop ws i w hw ew))
     ∙ ap (λ ds. to ++ differing_lines i (drop i (map datum_of ws)) ds) (sym (values_drop vs i v hv ev)) ∙ p
 
-pub DifferingWriting-end : (start to : List ℕ) (ws vs : List Val) (i : ℕ) → DifferingWriting start to ws vs i → length ws ≡ length vs → length vs ≤ i → to ≡ start ++ differing_lines 0 (map datum_of ws) (map datum_of vs)
+pub DifferingWriting-end : (start to : List ℕ) (ws vs : List Val) (i : ℕ) → DifferingWriting start to ws vs i → length ws ≡ length vs → length vs ≤ i
+    → to ≡ start ++ differing_lines 0 (map datum_of ws) (map datum_of vs)
 DifferingWriting-end start to ws vs i p level h =
     let few : length ws ≤ i = omega arith in
     sym (append-nil to) ∙ ap (λ ds. to ++ differing_lines i ds []) (sym (values_end ws i few)) ∙ ap (λ ds. to ++ differing_lines i (drop i (map datum_of ws)) ds) (sym (values_end vs i h)) ∙ p
@@ -69,11 +71,13 @@ differs_at (x ∷ old) (y ∷ now) zero w v lw lv ew ev e = let d : same_datum x
 differs_at (x ∷ old) (y ∷ now) (suc k) w v lw lv ew ev e = or_true (not (same_datum x y)) ∙ ap (λ b. not (same_datum x y) || b) (differs_at old now k w v (omega arith) (omega arith) ew ev e)
 
 -- some value differs
-pub some_differs : (ws vs : List Val) (k : ℕ) (w v : Val) → k < length ws → k < length vs → w ≡ get_or ws k w → v ≡ get_or vs k v → same_datum (datum_of w) (datum_of v) ≡ false → true ≡ any_differs (map datum_of ws) (map datum_of vs)
+pub some_differs : (ws vs : List Val) (k : ℕ) (w v : Val) → k < length ws → k < length vs → w ≡ get_or ws k w → v ≡ get_or vs k v → same_datum (datum_of w) (datum_of v) ≡ false
+    → true ≡ any_differs (map datum_of ws) (map datum_of vs)
 some_differs ws vs k w v lw lv ew ev e =
     let in_old : k < length (map datum_of ws) = omega (arith, length-map ws datum_of) in
     let in_now : k < length (map datum_of vs) = omega (arith, length-map vs datum_of) in
-    differs_at (map datum_of ws) (map datum_of vs) k (datum_of w) (datum_of v) in_old in_now (get_or-map datum_of ws k w (datum_of w) lw ∙ ap datum_of (sym ew)) (get_or-map datum_of vs k v (datum_of v) lv ∙ ap datum_of (sym ev)) e
+    differs_at (map datum_of ws) (map datum_of vs) k (datum_of w) (datum_of v) in_old in_now (get_or-map datum_of ws k w (datum_of w) lw ∙ ap datum_of (sym ew))
+    (get_or-map datum_of vs k v (datum_of v) lv ∙ ap datum_of (sym ev)) e
 
 same_differ : (vs : List Datum) → false ≡ any_differs vs vs
 same_differ [] = refl
@@ -105,8 +109,10 @@ DifferingWriting-over start to ws vs low k p level l m h =
     ap (λ lines. to ++ lines) (passed_over (k - low) (map datum_of ws) (map datum_of vs) low k (omega arith) in_old in_now h) ∙ p
 
 -- the line of the next signal that was touched, if it has one, is written
-pub DifferingWriting-touched : (ks : List ℕ) (i low : ℕ) (start to next : List ℕ) (ws vs : List Val) (w v : Val) → DoneBut ks i low (IsSameAt (map datum_of ws) (map datum_of vs)) → IsNonDecreasing ks → length ws ≡ length vs
-    → low ≤ get_or ks i 0 → get_or ks i 0 < length vs → DifferingWriting start to ws vs low → w ≡ get_or ws (get_or ks i 0) w → v ≡ get_or vs (get_or ks i 0) v → next ≡ to ++ line_if_differs (get_or ks i 0) (datum_of w) (datum_of v)
+pub DifferingWriting-touched : (ks : List ℕ) (i low : ℕ) (start to next : List ℕ) (ws vs : List Val) (w v : Val) → DoneBut ks i low (IsSameAt (map datum_of ws) (map datum_of vs)) → IsNonDecreasing ks
+    → length ws ≡ length vs
+    → low ≤ get_or ks i 0 → get_or ks i 0 < length vs → DifferingWriting start to ws vs low → w ≡ get_or ws (get_or ks i 0) w → v ≡ get_or vs (get_or ks i 0) v
+    → next ≡ to ++ line_if_differs (get_or ks i 0) (datum_of w) (datum_of v)
     → DifferingWriting start next ws vs (get_or ks i 0 + 1)
 DifferingWriting-touched ks i low start to next ws vs w v h up level l m p ew ev g =
     let k = get_or ks i 0 in
@@ -114,7 +120,8 @@ DifferingWriting-touched ks i low start to next ws vs w v h up level l m p ew ev
     (DifferingWriting-over start to ws vs low k p level l (omega arith) (λ j a b. DoneBut-below ks i low (IsSameAt (map datum_of ws) (map datum_of vs)) h up j a b)) (omega arith) ew m ev g
 
 -- no line is left, all that were touched being done
-pub DifferingWriting-rest : (ks : List ℕ) (i low : ℕ) (start to : List ℕ) (ws vs : List Val) → DoneBut ks i low (IsSameAt (map datum_of ws) (map datum_of vs)) → length ws ≡ length vs → length ks ≤ i → low ≤ length vs
+pub DifferingWriting-rest : (ks : List ℕ) (i low : ℕ) (start to : List ℕ) (ws vs : List Val) → DoneBut ks i low (IsSameAt (map datum_of ws) (map datum_of vs)) → length ws ≡ length vs → length ks ≤ i
+    → low ≤ length vs
     → DifferingWriting start to ws vs low → to ≡ start ++ differing_lines 0 (map datum_of ws) (map datum_of vs)
 DifferingWriting-rest ks i low start to ws vs h level past m p =
     DifferingWriting-end start to ws vs (length vs)
@@ -124,7 +131,8 @@ DifferingWriting-rest ks i low start to ws vs h level past m p =
 abbrev pub Changing : (start : List Datum) → (now : List Val) → List Change → ℕ → Type 0
 Changing start now cs i = changed_values (map datum_of now) (map showing_of (drop i cs)) ≡ changed_values start (map showing_of cs)
 
-pub Changing-next : (start : List Datum) (now next : List Val) (cs : List Change) (i : ℕ) (c : Change) → Changing start now cs i → i < length cs → c ≡ get_or cs i c → map datum_of next ≡ set (map datum_of now) c.signal (datum_of c.value)
+pub Changing-next : (start : List Datum) (now next : List Val) (cs : List Change) (i : ℕ) (c : Change) → Changing start now cs i → i < length cs → c ≡ get_or cs i c
+    → map datum_of next ≡ set (map datum_of now) c.signal (datum_of c.value)
     → Changing start next cs (i + 1)
 Changing-next start now next cs i c p h e g =
     ap (λ l. changed_values l (map showing_of (drop (i + 1) cs))) g
@@ -134,27 +142,32 @@ pub Changing-end : (start : List Datum) (now : List Val) (cs : List Change) (i :
 Changing-end start now cs i p h = ap (λ l. changed_values (map datum_of now) (map showing_of l)) (sym (drop_all i cs h)) ∙ p
 
 -- what is left to be written, by whether the first time is written
-abbrev pub left_by : (dumped : Bool) → (written : List Datum) → Moment → List Moment → List ℕ
+abbrev pub left_by : (dumped : Bool) → (written : List Datum) → WaveMoment → List WaveMoment → List ℕ
 left_by dumped written m ms = cond dumped (changes_text written (lasts_from m ms)) (dump_text (lasts_from m ms))
 
 -- a frame of the same time takes the place of the one before
-pub same_time : (dumped : Bool) (written : List Datum) (fs at : ℕ) (now next changed : List Datum) (to : List ℕ) (ms : List Moment) → at ≡ fs → next ≡ changed
+pub same_time : (dumped : Bool) (written : List Datum) (fs at : ℕ) (now next changed : List Datum) (to : List ℕ) (ms : List WaveMoment) → at ≡ fs → next ≡ changed
     → to ++ left_by dumped written (record { fs = fs; values = next }) ms ≡ to ++ left_by dumped written (record { fs = fs; values = now }) (record { fs = at; values = changed } ∷ ms)
 same_time dumped written fs at now next changed to ms e g =
     ap (λ n. to ++ left_by dumped written (record { fs = fs; values = n }) ms) g
     ∙ ap (λ f. to ++ left_by dumped written (record { fs = f; values = changed }) ms) (sym e)
-    ∙ ap (λ b. to ++ cond dumped (changes_text written (cond b (lasts_from (record { fs = at; values = changed }) ms) (record { fs = fs; values = now } ∷ lasts_from (record { fs = at; values = changed }) ms))) (dump_text (cond b (lasts_from (record { fs = at; values = changed }) ms) (record { fs = fs; values = now } ∷ lasts_from (record { fs = at; values = changed }) ms)))) (sym (eq-eqb fs at (sym e)))
+    ∙ ap (λ b. to ++ cond dumped (changes_text written
+    (cond b (lasts_from (record { fs = at; values = changed }) ms) (record { fs = fs; values = now } ∷ lasts_from (record { fs = at; values = changed }) ms)))
+    (dump_text (cond b (lasts_from (record { fs = at; values = changed }) ms) (record { fs = fs; values = now } ∷ lasts_from (record { fs = at; values = changed }) ms))))
+    (sym (eq-eqb fs at (sym e)))
 
-left_over : (dumped : Bool) (written : List Datum) (m : Moment) (more : List Moment) → cond dumped (changes_text written (m ∷ more)) (dump_text (m ∷ more)) ≡ left_by dumped written m [] ++ changes_text m.values more
+left_over : (dumped : Bool) (written : List Datum) (m : WaveMoment) (more : List WaveMoment) → cond dumped (changes_text written (m ∷ more)) (dump_text (m ∷ more)) ≡ left_by dumped written m []
+    ++ changes_text m.values more
 left_over true written m more = ap (λ l. l ++ changes_text m.values more) (sym (append-nil (changes_at written m)))
 left_over false written m more = ap (λ l. l ++ changes_text m.values more) (sym (append-nil (dump_at m)))
 
 -- at a later time what was left is written
-pub later_time : (dumped : Bool) (written : List Datum) (fs at : ℕ) (now next changed : List Datum) (old_to to : List ℕ) (ms : List Moment) → nat_eq fs at ≡ false → next ≡ changed → to ≡ old_to ++ left_by dumped written (record { fs = fs; values = now }) []
+pub later_time : (dumped : Bool) (written : List Datum) (fs at : ℕ) (now next changed : List Datum) (old_to to : List ℕ) (ms : List WaveMoment) → nat_eq fs at ≡ false → next ≡ changed
+    → to ≡ old_to ++ left_by dumped written (record { fs = fs; values = now }) []
     → to ++ left_by true now (record { fs = at; values = next }) ms ≡ old_to ++ left_by dumped written (record { fs = fs; values = now }) (record { fs = at; values = changed } ∷ ms)
 later_time dumped written fs at now next changed old_to to ms e g t =
-    let m : Moment = record { fs = fs; values = now } in
-    let n : Moment = record { fs = at; values = changed } in
+    let m : WaveMoment = record { fs = fs; values = now } in
+    let n : WaveMoment = record { fs = at; values = changed } in
     ap (λ vs. to ++ left_by true now (record { fs = at; values = vs }) ms) g ∙ ap (λ l. l ++ changes_text now (lasts_from n ms)) t
     ∙ append_assoc old_to (left_by dumped written m []) (changes_text now (lasts_from n ms)) ∙ ap (λ l. old_to ++ l) (sym (left_over dumped written m (lasts_from n ms)))
     ∙ ap (λ b. old_to ++ cond dumped (changes_text written (cond b (lasts_from n ms) (m ∷ lasts_from n ms))) (dump_text (cond b (lasts_from n ms) (m ∷ lasts_from n ms)))) (sym e)
@@ -170,21 +183,25 @@ from_not false t e = ap not (sym e)
 pub other_number : (m n : ℕ) → (n ≡ m → ⊥) → nat_eq m n ≡ false
 other_number m n h = grind (arith, nat_tests)
 
-pub values_on : {T E : Type 0} (r : Result T E) (now now' next : List Datum) (shown all : List Change) → now' ≡ now → shown ≡ all → OnOk r (next ≡ changed_values now' (map showing_of shown)) → OnOk r (next ≡ changed_values now (map showing_of all))
+pub values_on : {T E : Type 0} (r : Result T E) (now now' next : List Datum) (shown all : List Change) → now' ≡ now → shown ≡ all → OnOk r (next ≡ changed_values now' (map showing_of shown))
+    → OnOk r (next ≡ changed_values now (map showing_of all))
 values_on (Ok x) now now' next shown all n e g = g ∙ ap (λ l. changed_values l (map showing_of shown)) n ∙ ap (λ l. changed_values now (map showing_of l)) e
 values_on (Err x) now now' next shown all n e g = tt
 
-pub left_first : {T E : Type 0} (r : Result T E) (dumped : Bool) (written : List Datum) (m : Moment) (to next : List ℕ) → dumped ≡ false → OnOk r (next ≡ to ++ dump_at m) → OnOk r (next ≡ to ++ left_by dumped written m [])
+pub left_first : {T E : Type 0} (r : Result T E) (dumped : Bool) (written : List Datum) (m : WaveMoment) (to next : List ℕ) → dumped ≡ false → OnOk r (next ≡ to ++ dump_at m)
+    → OnOk r (next ≡ to ++ left_by dumped written m [])
 left_first (Ok x) dumped written m to next d g = g ∙ ap (λ l. to ++ l) (sym (append-nil (dump_at m))) ∙ ap (λ b. to ++ left_by b written m []) (sym d)
 left_first (Err x) dumped written m to next d g = tt
 
-changes_left : (dumped : Bool) (written : List Datum) (m : Moment) (b : Bool) → dumped ≡ true → any_differs written m.values ≡ b → left_by dumped written m [] ≡ cond b (time_line m.fs ++ differing_lines 0 written m.values) []
+changes_left : (dumped : Bool) (written : List Datum) (m : WaveMoment) (b : Bool) → dumped ≡ true → any_differs written m.values ≡ b
+    → left_by dumped written m [] ≡ cond b (time_line m.fs ++ differing_lines 0 written m.values) []
 changes_left dumped written m b d e = ap (λ t. left_by t written m []) d ∙ append-nil (changes_at written m) ∙ ap (λ t. cond t (time_line m.fs ++ differing_lines 0 written m.values) []) e
 
-pub left_none : (dumped : Bool) (written : List Datum) (m : Moment) (to : List ℕ) → dumped ≡ true → any_differs written m.values ≡ false → to ≡ to ++ left_by dumped written m []
+pub left_none : (dumped : Bool) (written : List Datum) (m : WaveMoment) (to : List ℕ) → dumped ≡ true → any_differs written m.values ≡ false → to ≡ to ++ left_by dumped written m []
 left_none dumped written m to d e = sym (append-nil to) ∙ ap (λ l. to ++ l) (sym (changes_left dumped written m false d e))
 
-pub left_some : {T E : Type 0} (r : Result T E) (dumped : Bool) (written : List Datum) (m : Moment) (to timed next : List ℕ) → dumped ≡ true → any_differs written m.values ≡ true → timed ≡ to ++ time_line m.fs
+pub left_some : {T E : Type 0} (r : Result T E) (dumped : Bool) (written : List Datum) (m : WaveMoment) (to timed next : List ℕ) → dumped ≡ true → any_differs written m.values ≡ true
+    → timed ≡ to ++ time_line m.fs
     → OnOk r (next ≡ timed ++ differing_lines 0 written m.values) → OnOk r (next ≡ to ++ left_by dumped written m [])
 left_some (Ok x) dumped written m to timed next d e t g =
     g ∙ ap (λ l. l ++ differing_lines 0 written m.values) t ∙ append_assoc to (time_line m.fs) (differing_lines 0 written m.values) ∙ ap (λ l. to ++ l) (sym (changes_left dumped written m true d e))
@@ -193,7 +210,8 @@ left_some (Err x) dumped written m to timed next d e t g = tt
 pub first_text : {T E : Type 0} (r : Result T E) (dumped : Bool) (written : List Datum) (fs : ℕ) (shown present : List Val) (to next : List ℕ) → dumped ≡ false → shown ≡ present
     → OnOk r (next ≡ to ++ dump_at (record { fs = fs; values = map datum_of shown })) → OnOk r (next ≡ to ++ left_by dumped written (record { fs = fs; values = map datum_of present }) [])
 first_text (Ok x) dumped written fs shown present to next d s g =
-    left_first {T = Bool} {E = Bool} (Ok true) dumped written (record { fs = fs; values = map datum_of present }) to next d (g ∙ ap (λ vs. to ++ dump_at (record { fs = fs; values = map datum_of vs })) s)
+    left_first {T = Bool} {E = Bool} (Ok true) dumped written (record { fs = fs; values = map datum_of present }) to next d
+    (g ∙ ap (λ vs. to ++ dump_at (record { fs = fs; values = map datum_of vs })) s)
 first_text (Err x) dumped written fs shown present to next d s g = tt
 
 pub none_text : (dumped : Bool) (fs : ℕ) (ws written vs present : List Val) (to : List ℕ) → dumped ≡ true → ws ≡ written → vs ≡ present → any_differs (map datum_of ws) (map datum_of vs) ≡ false

@@ -46,11 +46,13 @@ abbrev failing : Frame
 failing = record { at = instant 0 0 0; values = []; outcomes = record { instance = 0; passed = false } ∷ [] }
 
 -- a member says stop at the frame, and what it saw is reported
-pub stopped_text : text_in Trace [] [] (shown_run (record { frames = failing ∷ failing ∷ []; end = quiet }) (member until_fail (0 ∷ []) ∷ [])) ≡ codes "@ 0fs 0d 0e\nassert 0 failed\nend stop untilfail\n"
+pub stopped_text : text_in Trace [] [] (shown_run (record { frames = failing ∷ failing ∷ []; end = quiet }) (member until_fail (0 ∷ []) ∷ []))
+    ≡ codes "@ 0fs 0d 0e\nassert 0 failed\nend stop untilfail\n"
 unfolding digits
 stopped_text = refl
 
-pub stopped_reports : all_reports (shown_run (record { frames = failing ∷ failing ∷ []; end = quiet }) (member asserts (0 ∷ 0 ∷ []) ∷ member until_fail (0 ∷ []) ∷ [])) ≡ codes "asserts 0 ok 1 failed\nuntilfail 1\n"
+pub stopped_reports : all_reports (shown_run (record { frames = failing ∷ failing ∷ []; end = quiet }) (member asserts (0 ∷ 0 ∷ []) ∷ member until_fail (0 ∷ []) ∷ []))
+    ≡ codes "asserts 0 ok 1 failed\nuntilfail 1\n"
 unfolding digits
 stopped_reports = refl
 
@@ -69,7 +71,8 @@ one_is_done = refl
 
 -- an instance within an instance, with signals in either, and a second child
 abbrev nested : List Shown
-nested = record { label = codes "top"; parent = None } ∷ record { label = codes "u_1"; parent = Some 0 } ∷ record { label = codes "v_2"; parent = Some 1 } ∷ record { label = codes "u_3"; parent = Some 0 } ∷ []
+nested = record { label = codes "top"; parent = None } ∷ record { label = codes "u_1"; parent = Some 0 } ∷ record { label = codes "v_2"; parent = Some 1 }
+    ∷ record { label = codes "u_3"; parent = Some 0 } ∷ []
 
 abbrev wires : List ShownSignal
 wires = record { instance = 0; name = codes "clk"; ty = int_type 1 } ∷ record { instance = 1; name = codes "q"; ty = int_type 32 } ∷ record { instance = 3; name = codes "q"; ty = int_type 8 } ∷ []

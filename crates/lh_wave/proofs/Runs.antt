@@ -37,7 +37,8 @@ abbrev BreaksAt : WaveFault → Arena → Design → Simulation → Teller → (
 BreaksAt f a d s t ms now wr wr' rp = (n : ℕ) (w : World) → StandsFor s w → IsBehind t.scribe (values_of_last a d w)
     → BrokeOff (going t (values_of_last a d w) ms (shown_on a d (suc n) w ms) wr rp) f wr' now
 
-pub course_start : (a : Arena) (d : Design) (m n : ℕ) (w : World) (s : Simulation) (t : Teller) (ms : List Member) (wr : Option (List ℕ)) (rp : List ℕ) → m ≡ n → StandsFor s w → IsBehind t.scribe (values_of_last a d w)
+pub course_start : (a : Arena) (d : Design) (m n : ℕ) (w : World) (s : Simulation) (t : Teller) (ms : List Member) (wr : Option (List ℕ)) (rp : List ℕ) → m ≡ n → StandsFor s w
+    → IsBehind t.scribe (values_of_last a d w)
     → GoesOn a d m s t (going t (values_of_last a d w) ms (shown_on a d n w ms) wr rp) ms wr rp
 course_start a d m n w s t ms wr rp e st b = record {
   world = w;
@@ -47,7 +48,8 @@ course_start a d m n w s t ms wr rp e st b = record {
       (stays_put (going t (values_of_last a d w) ms (shown_on a d n w ms) wr rp));
 }
 
-module _ (a : Arena) (d : Design) (s s' : Simulation) (t t' : Teller) (ms ms' : List Member) (wr wr' : Option (List ℕ)) (rp rp' : List ℕ) (m n : ℕ) (start : Going) (ea : s.arena ≡ a) (ed : s.design ≡ d) (em : m ≡ suc n)
+module _ (a : Arena) (d : Design) (s s' : Simulation) (t t' : Teller) (ms ms' : List Member) (wr wr' : Option (List ℕ)) (rp rp' : List ℕ) (m n : ℕ) (start : Going) (ea : s.arena ≡ a)
+    (ed : s.design ≡ d) (em : m ≡ suc n)
     (course : GoesOn a d m s t start ms wr rp) where
   to_here : Went start (going t (values_of_last a d course.world) ms (shown_on a d (suc n) course.world ms) wr rp)
   to_here = subst (λ (k : ℕ). Went start (going t (values_of_last a d course.world) ms (shown_on a d k course.world ms) wr rp)) em course.went
@@ -67,7 +69,8 @@ module _ (a : Arena) (d : Design) (s s' : Simulation) (t t' : Teller) (ms ms' : 
         world = y.world;
         stands = y.stands;
         behind = y.behind;
-        went = went_on start (going t (values_of_last a d course.world) ms (shown_on a d (suc n) course.world ms) wr rp) (going t' (values_of_last a d y.world) ms' (shown_on a d n y.world ms') wr' rp') to_here y.went;
+        went = went_on start (going t (values_of_last a d course.world) ms (shown_on a d (suc n) course.world ms) wr rp)
+            (going t' (values_of_last a d y.world) ms' (shown_on a d n y.world ms') wr' rp') to_here y.went;
       }
 
   pub course_over : (e : Option End) (end : End) → e ≡ Some end → TurnsTo e s.arena s.design s s' t t' ms ms' wr wr' rp rp' → IsOver t' start end ms' wr' rp'
@@ -107,7 +110,8 @@ pub behind_new : (m : WaveMode) (s : Scribe) → s ≡ scribe_in m → IsBehind 
 behind_new mode.Trace s e = subst (λ (x : Scribe). IsBehind x None) (sym e) tt
 behind_new mode.Vcd s e = subst (λ (x : Scribe). IsBehind x None) (sym e) refl
 
-pub over_at : (a a' : Arena) (d : Design) (n : ℕ) (s : Simulation) (t t' : Teller) (ms ms' : List Member) (wr wr' : Option (List ℕ)) (rp rp' : List ℕ) (end : End) → a ≡ a' → StandsFor s (first_world (contents a') (design_text a' d))
+pub over_at : (a a' : Arena) (d : Design) (n : ℕ) (s : Simulation) (t t' : Teller) (ms ms' : List Member) (wr wr' : Option (List ℕ)) (rp rp' : List ℕ) (end : End) → a ≡ a'
+    → StandsFor s (first_world (contents a') (design_text a' d))
     → IsBehind t.scribe None → ((w : World) → StandsFor s w → IsBehind t.scribe (values_of_last a d w) → IsOver t' (going t (values_of_last a d w) ms (shown_on a d n w ms) wr rp) end ms' wr' rp')
     → IsOver t' (going t None ms (shown_from_first (contents a') (design_text a' d) n ms) wr rp) end ms' wr' rp'
 over_at a a' d n s t t' ms ms' wr wr' rp rp' end e st b h =
@@ -115,7 +119,8 @@ over_at a a' d n s t t' ms ms' wr wr' rp rp' end e st b h =
     subst (λ (x : Arena). (w : World) → StandsFor s w → IsBehind t.scribe (values_of_last x d w) → IsOver t' (going t (values_of_last x d w) ms (shown_on x d n w ms) wr rp) end ms' wr' rp') e h in
     k (first_world (contents a') (design_text a' d)) st b
 
-pub broken_at : (a a' : Arena) (d : Design) (n : ℕ) (s : Simulation) (t : Teller) (ms now : List Member) (wr wr' : Option (List ℕ)) (rp : List ℕ) (f : WaveFault) → a ≡ a' → StandsFor s (first_world (contents a') (design_text a' d))
+pub broken_at : (a a' : Arena) (d : Design) (n : ℕ) (s : Simulation) (t : Teller) (ms now : List Member) (wr wr' : Option (List ℕ)) (rp : List ℕ) (f : WaveFault) → a ≡ a'
+    → StandsFor s (first_world (contents a') (design_text a' d))
     → IsBehind t.scribe None → ((w : World) → StandsFor s w → IsBehind t.scribe (values_of_last a d w) → BrokeOff (going t (values_of_last a d w) ms (shown_on a d n w ms) wr rp) f wr' now)
     → BrokeOff (going t None ms (shown_from_first (contents a') (design_text a' d) n ms) wr rp) f wr' now
 broken_at a a' d n s t ms now wr wr' rp f e st b h =
@@ -128,8 +133,10 @@ parts : (m : WaveMode) (is : List Shown) (ss : List ShownSignal) (r : ShownRun) 
 parts mode.Trace is ss r = sym (append_assoc (head_in mode.Trace is ss) _ _)
 parts mode.Vcd is ss r = refl
 
-whole : (m : WaveMode) (s : Scribe) (is : List Shown) (ss : List ShownSignal) (r : ShownRun) → s ≡ scribe_in m → head_in m is ss ++ text_left s None r.frames r.left r.end ≡ text_in m is ss r
-whole m s is ss r e = ap (λ (x : Scribe). head_in m is ss ++ text_left x None r.frames r.left r.end) e ∙ parts m is ss r
+whole : (m : WaveMode) (s : Scribe) (waits : List ℕ) (is : List Shown) (ss : List ShownSignal) (r : ShownRun) → s ≡ scribe_in m → waits ≡ []
+    → head_in m is ss ++ (waits ++ text_left s None r.frames r.left r.end) ≡ text_in m is ss r
+whole m s waits is ss r e z =
+    ap (λ (l : List ℕ). head_in m is ss ++ (l ++ text_left s None r.frames r.left r.end)) z ∙ ap (λ (x : Scribe). head_in m is ss ++ text_left x None r.frames r.left r.end) e ∙ parts m is ss r
 
 -- a piece in front was not written whole
 in_front_of : (a b : Option (List ℕ)) (p t : List ℕ) → AppendsProperPrefix a b p → AppendsProperPrefix a b (p ++ t)
@@ -141,41 +148,50 @@ in_front_of a b p t h =
       told = subst (Appends a b) (sym (take-append-le h.count p t few)) h.told;
     }
 
-pub head_broken : (m : WaveMode) (is : List Shown) (ss : List ShownSignal) (r : ShownRun) (head : List ℕ) (f : WaveFault) (a b : Option (List ℕ)) → head ≡ head_in m is ss → AppendsProperPrefix a b head → f ≡ WriteFault
+pub head_broken : (m : WaveMode) (is : List Shown) (ss : List ShownSignal) (r : ShownRun) (head : List ℕ) (f : WaveFault) (a b : Option (List ℕ)) → head ≡ head_in m is ss
+    → AppendsProperPrefix a b head → f ≡ WriteFault
     → BreaksOff f a b (text_in m is ss r)
 head_broken m is ss r head f a b e h o =
     let one : AppendsProperPrefix a b (head_in m is ss) = subst (AppendsProperPrefix a b) e h in
-    let two : AppendsProperPrefix a b (text_in m is ss r) = subst (AppendsProperPrefix a b) (parts m is ss r) (in_front_of a b (head_in m is ss) (text_left (scribe_in m) None r.frames r.left r.end) one) in
+    let two : AppendsProperPrefix a b (text_in m is ss r) = subst (AppendsProperPrefix a b) (parts m is ss r)
+    (in_front_of a b (head_in m is ss) (text_left (scribe_in m) None r.frames r.left r.end) one) in
     subst (λ (x : WaveFault). BreaksOff x a b (text_in m is ss r)) (sym o) two
 
-module _ (m : WaveMode) (is : List Shown) (ss : List ShownSignal) (r : ShownRun) (t : Teller) (ms : List Member) (a b : Option (List ℕ)) (rp head : List ℕ) (sc : t.scribe ≡ scribe_in m) (eh : head ≡ head_in m is ss) (h : Appends a b head) where
+module _ (m : WaveMode) (is : List Shown) (ss : List ShownSignal) (r : ShownRun) (t : Teller) (ms : List Member) (a b : Option (List ℕ)) (rp head : List ℕ) (sc : t.scribe ≡ scribe_in m)
+    (te : t.text.items ≡ [])
+    (eh : head ≡ head_in m is ss) (h : Appends a b head) where
   head_told : Appends a b (head_in m is ss)
   head_told = subst (Appends a b) eh h
 
-  pub frames_broken : (f : WaveFault) (b' : Option (List ℕ)) (now : List Member) → BrokeOff (going t None ms r b rp) f b' now → BreaksOff f a b' (text_in m is ss r) × HaveSeen (pictures None r.frames) ms now
-  frames_broken f b' now k =
-      (subst (BreaksOff f a b') (whole m t.scribe is ss r sc) (behind_piece f a b b' (head_in m is ss) (text_left t.scribe None r.frames r.left r.end) head_told k.text), k.seen)
+  pub frames_broken : (f : WaveFault) (b' : Option (List ℕ)) (now : List Member) → BrokeOff (going t None ms r b rp) f b' now → BreaksOff f a b' (text_in m is ss r)
+      × HaveSeen (pictures None r.frames) ms now
+  frames_broken f b' now k = (
+    subst (BreaksOff f a b') (whole m t.scribe t.text.items is ss r sc te)
+        (behind_piece f a b b' (head_in m is ss) (t.text.items ++ text_left t.scribe None r.frames r.left r.end) head_told k.text),
+    k.seen,
+  )
 
   module _ (t' : Teller) (ms' : List Member) (b' : Option (List ℕ)) (rp' : List ℕ) (end : End) (over : IsOver t' (going t None ms r b rp) end ms' b' rp') where
     -- the text of the frames is written
     frames_told : Appends a b' (head_in m is ss ++ over.went.piece)
     frames_told = told_both a b b' (head_in m is ss) over.went.piece head_told over.went.told
 
-    in_whole : (head_in m is ss ++ over.went.piece) ++ text_left t'.scribe over.before [] ms' end ≡ text_in m is ss r
+    in_whole : (head_in m is ss ++ over.went.piece) ++ (t'.text.items ++ text_left t'.scribe over.before [] ms' end) ≡ text_in m is ss r
     in_whole =
-        append_assoc (head_in m is ss) over.went.piece (text_left t'.scribe over.before [] ms' end) ∙ ap (λ l. head_in m is ss ++ l) (sym over.went.text) ∙ whole m t.scribe is ss r sc
+        append_assoc (head_in m is ss) over.went.piece (t'.text.items ++ text_left t'.scribe over.before [] ms' end) ∙ ap (λ l. head_in m is ss ++ l) (sym over.went.text) ∙ whole m t.scribe t.text.items is ss r sc te
 
     pub all_seen : HaveSeen (pictures None r.frames) ms ms'
     all_seen = over.went.seen ms' (no_more [] ms')
 
-    pub last_broken : (f : WaveFault) (c : Option (List ℕ)) → ((before : Option (List Datum)) → BreaksOff f b' c (text_left t'.scribe before [] ms' end)) → BreaksOff f a c (text_in m is ss r)
-    last_broken f c k = subst (BreaksOff f a c) in_whole (behind_piece f a b' c (head_in m is ss ++ over.went.piece) (text_left t'.scribe over.before [] ms' end) frames_told (k over.before))
+    pub last_broken : (f : WaveFault) (c : Option (List ℕ)) → ((before : Option (List Datum)) → BreaksOff f b' c (t'.text.items ++ text_left t'.scribe before [] ms' end)) → BreaksOff f a c (text_in m is ss r)
+    last_broken f c k = subst (BreaksOff f a c) in_whole (behind_piece f a b' c (head_in m is ss ++ over.went.piece) (t'.text.items ++ text_left t'.scribe over.before [] ms' end) frames_told (k over.before))
 
-    pub all_told : (c : Option (List ℕ)) → ((before : Option (List Datum)) → Appends b' c (text_left t'.scribe before [] ms' end)) → Appends a c (text_in m is ss r)
-    all_told c k = subst (Appends a c) in_whole (told_both a b' c (head_in m is ss ++ over.went.piece) (text_left t'.scribe over.before [] ms' end) frames_told (k over.before))
+    pub all_told : (c : Option (List ℕ)) → ((before : Option (List Datum)) → Appends b' c (t'.text.items ++ text_left t'.scribe before [] ms' end)) → Appends a c (text_in m is ss r)
+    all_told c k = subst (Appends a c) in_whole (told_both a b' c (head_in m is ss ++ over.went.piece) (t'.text.items ++ text_left t'.scribe over.before [] ms' end) frames_told (k over.before))
 
     -- memory ran out behind the whole text
-    pub reports_broken : (f : WaveFault) (c : Option (List ℕ)) → f ≡ OutOfMemory → ((before : Option (List Datum)) → Appends b' c (text_left t'.scribe before [] ms' end)) → BreaksOff f a c (text_in m is ss r)
+    pub reports_broken : (f : WaveFault) (c : Option (List ℕ)) → f ≡ OutOfMemory → ((before : Option (List Datum)) → Appends b' c (t'.text.items ++ text_left t'.scribe before [] ms' end))
+        → BreaksOff f a c (text_in m is ss r)
     reports_broken f c o k = subst (BreaksOff f a c) (append-nil (text_in m is ss r)) (all_of f a c (text_in m is ss r) [] o (all_told c k))
 
     since_all : over.went.since ≡ r.frames

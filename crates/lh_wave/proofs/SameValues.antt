@@ -67,15 +67,18 @@ mutual
   read_length-row : (ts : TypeRow) (x y : List Bool) → length (row_bits (row_from_bits ts x)) ≡ length (row_bits (row_from_bits ts y))
   read_length-row no_types x y = refl
   read_length-row (more_types t ts) x y =
-      let one : length (value_bits (value_from_bits t (take (bit_count t) x))) ≡ length (value_bits (value_from_bits t (take (bit_count t) y))) = read_length t (take (bit_count t) x) (take (bit_count t) y) in
-      let more : length (row_bits (row_from_bits ts (drop (bit_count t) x))) ≡ length (row_bits (row_from_bits ts (drop (bit_count t) y))) = read_length-row ts (drop (bit_count t) x) (drop (bit_count t) y) in
+      let one : length (value_bits (value_from_bits t (take (bit_count t) x))) ≡ length (value_bits (value_from_bits t (take (bit_count t) y))) =
+      read_length t (take (bit_count t) x) (take (bit_count t) y) in
+      let more : length (row_bits (row_from_bits ts (drop (bit_count t) x))) ≡ length (row_bits (row_from_bits ts (drop (bit_count t) y))) =
+      read_length-row ts (drop (bit_count t) x) (drop (bit_count t) y) in
       omega (
         arith,
         length-append (value_bits (value_from_bits t (take (bit_count t) x))) (row_bits (row_from_bits ts (drop (bit_count t) x))),
         length-append (value_bits (value_from_bits t (take (bit_count t) y))) (row_bits (row_from_bits ts (drop (bit_count t) y))),
       )
 
-parts_same : (n w : ℕ) (f : List Bool → Datum) → ((x y : List Bool) → length (value_bits (f x)) ≡ length (value_bits (f y))) → ((x y : List Bool) → value_bits (f x) ≡ value_bits (f y) → f x ≡ f y) → (x y : List Bool)
+parts_same : (n w : ℕ) (f : List Bool → Datum) → ((x y : List Bool) → length (value_bits (f x)) ≡ length (value_bits (f y))) → ((x y : List Bool) → value_bits (f x) ≡ value_bits (f y) → f x ≡ f y)
+    → (x y : List Bool)
     → row_bits (repeat_parts n f w x) ≡ row_bits (repeat_parts n f w y) → repeat_parts n f w x ≡ repeat_parts n f w y
 parts_same zero w f h g x y e = refl
 parts_same (suc n) w f h g x y e =
@@ -96,7 +99,8 @@ mutual
   read_same-row : (ts : TypeRow) (x y : List Bool) → row_bits (row_from_bits ts x) ≡ row_bits (row_from_bits ts y) → row_from_bits ts x ≡ row_from_bits ts y
   read_same-row no_types x y e = refl
   read_same-row (more_types t ts) x y e =
-      let s = split (value_bits (value_from_bits t (take (bit_count t) x))) (value_bits (value_from_bits t (take (bit_count t) y))) (row_bits (row_from_bits ts (drop (bit_count t) x))) (row_bits (row_from_bits ts (drop (bit_count t) y)))
+      let s = split (value_bits (value_from_bits t (take (bit_count t) x))) (value_bits (value_from_bits t (take (bit_count t) y))) (row_bits (row_from_bits ts (drop (bit_count t) x)))
+      (row_bits (row_from_bits ts (drop (bit_count t) y)))
       (read_length t (take (bit_count t) x) (take (bit_count t) y)) e in
       ap (λ v. more_values v (row_from_bits ts (drop (bit_count t) x))) (read_same t (take (bit_count t) x) (take (bit_count t) y) s.0)
       ∙ ap (more_values (value_from_bits t (take (bit_count t) y))) (read_same-row ts (drop (bit_count t) x) (drop (bit_count t) y) s.1)
@@ -127,7 +131,8 @@ changes_lead : (done : List Datum) (ss : List Signal) (old now : List Bool) (k :
 changes_lead done [] old now k e = refl
 changes_lead done (s ∷ ss) old now k e =
     let l : length (done ++ signal_value now s ∷ []) ≡ k + 1 = length-append done (signal_value now s ∷ []) ∙ ap (λ n. n + 1) e in
-    one_leads done (signal_value old s) (signal_value now s) (signal_values ss old) k (toggled (signal_value old s) (signal_value now s)) (changed_from (k + 1) (signal_values ss old) (signal_values ss now))
+    one_leads done (signal_value old s) (signal_value now s) (signal_values ss old) k (toggled (signal_value old s) (signal_value now s))
+    (changed_from (k + 1) (signal_values ss old) (signal_values ss now))
     (done ++ signal_values (s ∷ ss) now) e (untoggled s old now)
     (changes_lead (done ++ signal_value now s ∷ []) ss old now (k + 1) l ∙ append_assoc done (signal_value now s ∷ []) (signal_values ss now))
 

@@ -10,7 +10,7 @@ use Rattle.lh_wave.specs.declared.waveform.Waveform.{Waveform}
 use Rattle.lh_wave.specs.declared.scribe.Scribe.{Scribe}
 use Rattle.lh_wave.specs.declared.scribe.Scribe.TheVariants as scribe
 use Rattle.lh_wave.specs.TraceText.{frame_text}
-use Rattle.lh_wave.specs.WaveText.{Moment, waveform_text}
+use Rattle.lh_wave.specs.WaveText.{WaveMoment, waveform_text}
 use Rattle.lh_wave.specs.Recorded.{values_now, first_moment, left_text}
 use Rattle.lh_wave.specs.EndText.{end_line}
 use Rattle.lh_wave.specs.RunText.{moment_of}
@@ -42,13 +42,13 @@ first_is before v p b e =
 
 -- a waveform begins with the first frame
 pub begun : (s : Scribe) (o : Option Waveform) (w : Waveform) (p : Picture) (to : List ℕ) → s ≡ scribe.Vcd o → o ≡ None → values_now w ≡ (first_moment p).values
-    → ((ms : List Moment) → left_text w ms ≡ waveform_text (first_moment p ∷ ms)) → (before : Option (List Datum)) (v : Frame) → IsNext s before v p → IsPut s (scribe.Vcd (Some w)) before v to to
+    → ((ms : List WaveMoment) → left_text w ms ≡ waveform_text (first_moment p ∷ ms)) → (before : Option (List Datum)) (v : Frame) → IsNext s before v p → IsPut s (scribe.Vcd (Some w)) before v to to
 begun s o w p to e z vals left before v n =
     let is : s ≡ scribe.Vcd None = e ∙ ap scribe.Vcd z in
     let none : before ≡ None = subst (λ (x : Scribe). IsBehind x before) is n.behind in
     let first : first_moment p ≡ moment_of v = first_is before v p none n.is in
     subst (λ (x : Scribe). IsPut x (scribe.Vcd (Some w)) before v to to) (sym is)
     (record {
-      behind = ap Some (sym (vals ∙ ap (λ (m : Moment). m.values) first));
-      text = λ more left' end. ap (λ l. to ++ l) (left (map moment_of more) ∙ ap (λ (m : Moment). waveform_text (m ∷ map moment_of more)) first);
+      behind = ap Some (sym (vals ∙ ap (λ (m : WaveMoment). m.values) first));
+      text = λ more left' end. ap (λ l. to ++ l) (left (map moment_of more) ∙ ap (λ (m : WaveMoment). waveform_text (m ∷ map moment_of more)) first);
     })

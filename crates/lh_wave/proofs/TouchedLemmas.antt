@@ -91,9 +91,11 @@ CatchingUp-next ks i ws vs n v h lw lv e same =
     let now : (d : Datum) → get_or (map datum_of vs) k d ≡ datum_of n = λ d. get_or-map datum_of vs k v d lv ∙ ap datum_of (sym e) ∙ ap datum_of (sym same) in
     subst (λ l. DoneBut ks (i + 1) 0 (IsSameAt l (map datum_of vs))) (sym (map-set datum_of ws k n))
     (DoneBut-next ks i 0 0 (IsSameAt (set (map datum_of ws) k (datum_of n)) (map datum_of vs))
-    (DoneBut-map ks i 0 (IsSameAt (map datum_of ws) (map datum_of vs)) (IsSameAt (set (map datum_of ws) k (datum_of n)) (map datum_of vs)) (same_after_set (map datum_of ws) (map datum_of vs) k (datum_of n) inside now) h)
+    (DoneBut-map ks i 0 (IsSameAt (map datum_of ws) (map datum_of vs)) (IsSameAt (set (map datum_of ws) k (datum_of n)) (map datum_of vs))
+    (same_after_set (map datum_of ws) (map datum_of vs) k (datum_of n) inside now) h)
     (omega arith) (λ low d. get_or-set_same (map datum_of ws) k (datum_of n) d inside ∙ sym (now d)))
 
 pub CatchingUp-end : (ks : List ℕ) (i : ℕ) (ws vs : List Val) → CatchingUp ks i ws vs → length ws ≡ length vs → length ks ≤ i → map datum_of ws ≡ map datum_of vs
 CatchingUp-end ks i ws vs h level past =
-    all_same (map datum_of ws) (map datum_of vs) (length-map ws datum_of ∙ level ∙ sym (length-map vs datum_of)) (λ k. DoneBut-end ks i 0 (IsSameAt (map datum_of ws) (map datum_of vs)) h past k (omega arith))
+    all_same (map datum_of ws) (map datum_of vs) (length-map ws datum_of ∙ level ∙ sym (length-map vs datum_of))
+    (λ k. DoneBut-end ks i 0 (IsSameAt (map datum_of ws) (map datum_of vs)) h past k (omega arith))

@@ -19,7 +19,7 @@ use Rattle.lh_watch.specs.Members.{Member}
 use Rattle.lh_watch.specs.Shown.{shown, first_stop}
 use Rattle.lh_kernel.specs.Simulation.{Simulation, StandsFor}
 use Rattle.lh_kernel.specs.declared.sim.SimStep.{SimStep}
-use Rattle.lh_kernel.specs.declared.sim.SimStep.TheVariants.{Frame as AFrame, Runaway as ARunaway, Quiet as AQuiet}
+use Rattle.lh_kernel.specs.declared.sim.SimStep.TheVariants as sim_step
 use Rattle.lh_kernel.specs.Stepped.{Stepped, IsNextFrame, world_then}
 use Rattle.lh_wave.specs.declared.scribe.Scribe.{Scribe}
 use Rattle.lh_wave.specs.declared.teller.Teller.{Teller}
@@ -45,10 +45,12 @@ first_frame : (f : Frame) (q : Option ℕ) (r : Run) → ran_away (goes_on f q r
 first_frame f None r = refl
 first_frame f (Some i) r = refl
 
-begins : (d : text.Design) (items : List ItemText) (w : World) (o : Option Instant) (more : World → Run) → ran_away (run_at max_instructions items d w o more).frames (run_at max_instructions items d w o more).end ≡ false
+begins : (d : text.Design) (items : List ItemText) (w : World) (o : Option Instant) (more : World → Run)
+    → ran_away (run_at max_instructions items d w o more).frames (run_at max_instructions items d w o more).end ≡ false
 begins d items w None more = refl
 begins d items w (Some t) more =
-    first_frame (frame_of d.signals t (bits_at w.history w.init t) (acts_at max_instructions items d w t)) (least_runaway 0 (acts_at max_instructions items d w t)) (more (world_after w t (acts_at max_instructions items d w t)))
+    first_frame (frame_of d.signals t (bits_at w.history w.init t) (acts_at max_instructions items d w t)) (least_runaway 0 (acts_at max_instructions items d w t))
+    (more (world_after w t (acts_at max_instructions items d w t)))
 
 begins_anew : (a : Arena) (d : Design) (n : ℕ) (w : World) → ran_away (run_on a d n w).frames (run_on a d n w).end ≡ false
 begins_anew a d zero w = no_runaway (next_instant w)
@@ -112,7 +114,8 @@ module _ (a : Arena) (d : Design) (n : ℕ) (w : World) (ms : List Member) where
     -- a turn that showed the frame, and ended with it or went on
     module _ (s' : Simulation) (t0 t1 : Teller) (p : Picture) (ms' : List Member) (wr wr' : Option (List ℕ)) (rp rp' : List ℕ) (e : next_instant w ≡ Some t) (is : p ≡ seen) (m : ms' ≡ shown p ms)
         (b : IsBehind t0.scribe (values_of_last a d w)) (behind : (vals : Option (List Datum)) (v : Frame) → IsNext t0.scribe vals v p → IsBehind t1.scribe (Some v.values))
-        (went : (vals : Option (List Datum)) (v : Frame) (rest : ShownRun) → IsNext t0.scribe vals v p → Went (going t0 vals ms (shows_one p ms v rest) wr rp) (going t1 (Some v.values) ms' rest wr' rp')) where
+        (went : (vals : Option (List Datum)) (v : Frame) (rest : ShownRun) → IsNext t0.scribe vals v p
+        → Went (going t0 vals ms (shows_one p ms v rest) wr rp) (going t1 (Some v.values) ms' rest wr' rp')) where
       abbrev was : Going
       was = going t0 (values_of_last a d w) ms (shown_on a d (suc n) w ms) wr rp
 
@@ -141,49 +144,60 @@ module _ (a : Arena) (d : Design) (n : ℕ) (w : World) (ms : List Member) where
           over None (Stop k) r (ap (λ (o : Option ℕ). unless_stopped o false (shown p ms) (shown_on a d n then (shown p ms))) f ∙ ap (λ (xs : List Member). shows_none xs (Stop k)) (sym m))
 
     -- a turn that broke off at the frame
-    frame_broken : (t0 : Teller) (p : Picture) (q : Option ℕ) (now : List Member) (f : WaveFault) (wr wr' : Option (List ℕ)) (rp : List ℕ) → next_instant w ≡ Some t → p ≡ seen → least_runaway 0 acts ≡ q
-        → IsBehind t0.scribe (values_of_last a d w) → ((vals : Option (List Datum)) (v : Frame) (rest : ShownRun) → IsNext t0.scribe vals v p → BrokeOff (going t0 vals ms (shows_one p ms v rest) wr rp) f wr' now)
+    frame_broken : (t0 : Teller) (p : Picture) (q : Option ℕ) (now : List Member) (f : WaveFault) (wr wr' : Option (List ℕ)) (rp : List ℕ) → next_instant w ≡ Some t → p ≡ seen
+        → least_runaway 0 acts ≡ q
+        → IsBehind t0.scribe (values_of_last a d w)
+        → ((vals : Option (List Datum)) (v : Frame) (rest : ShownRun) → IsNext t0.scribe vals v p → BrokeOff (going t0 vals ms (shows_one p ms v rest) wr rp) f wr' now)
         → BrokeOff (going t0 (values_of_last a d w) ms (shown_on a d (suc n) w ms) wr rp) f wr' now
     frame_broken t0 p q now f wr wr' rp e is r b h =
-        subst (λ (x : ShownRun). BrokeOff (going t0 (values_of_last a d w) ms x wr rp) f wr' now) (sym (shown_next p q e is r)) (h (values_of_last a d w) frame (behind_it q p) (is_next t0.scribe p b is))
+        subst (λ (x : ShownRun). BrokeOff (going t0 (values_of_last a d w) ms x wr rp) f wr' now) (sym (shown_next p q e is r))
+        (h (values_of_last a d w) frame (behind_it q p) (is_next t0.scribe p b is))
 
 -- the step gave a frame
 module _ (s s' : Simulation) (w : World) (x : SimStep) (f : frames.Frame) (stepped : Stepped s w s' x) where
-  next_frame : x ≡ AFrame f → IsNextFrame s w f None × StandsFor s' (world_then s w f.at)
+  next_frame : x ≡ sim_step.Frame f → IsNextFrame s w f None × StandsFor s' (world_then s w f.at)
   next_frame e = subst (Stepped s w s') e stepped
 
-  ran_frame : (i : ℕ) → x ≡ ARunaway f i → IsNextFrame s w f (Some i)
+  ran_frame : (i : ℕ) → x ≡ sim_step.Runaway f i → IsNextFrame s w f (Some i)
   ran_frame i e = (subst (Stepped s w s') e stepped).0
 
-turned_frame : (s s' : Simulation) (w : World) (x : SimStep) (f : frames.Frame) (n : ℕ) (stop : Option ℕ) (t0 t1 : Teller) (ms ms' : List Member) (wr wr' : Option (List ℕ)) (rp rp' : List ℕ) → Stepped s w s' x → x ≡ AFrame f
+turned_frame : (s s' : Simulation) (w : World) (x : SimStep) (f : frames.Frame) (n : ℕ) (stop : Option ℕ) (t0 t1 : Teller) (ms ms' : List Member) (wr wr' : Option (List ℕ)) (rp rp' : List ℕ)
+    → Stepped s w s' x → x ≡ sim_step.Frame f
     → ms' ≡ shown (picture f) ms → stop ≡ first_stop (picture f) ms → IsBehind t0.scribe (values_of_last s.arena s.design w)
     → ((vals : Option (List Datum)) (v : Frame) → IsNext t0.scribe vals v (picture f) → IsBehind t1.scribe (Some v.values))
-    → ((vals : Option (List Datum)) (v : Frame) (rest : ShownRun) → IsNext t0.scribe vals v (picture f) → Went (going t0 vals ms (shows_one (picture f) ms v rest) wr rp) (going t1 (Some v.values) ms' rest wr' rp'))
+    → ((vals : Option (List Datum)) (v : Frame) (rest : ShownRun) → IsNext t0.scribe vals v (picture f)
+    → Went (going t0 vals ms (shows_one (picture f) ms v rest) wr rp) (going t1 (Some v.values) ms' rest wr' rp'))
     → Turned (stop_at stop) s.arena s.design n s' t1 (going t0 (values_of_last s.arena s.design w) ms (shown_on s.arena s.design (suc n) w ms) wr rp) ms' wr' rp'
 turned_frame s s' w x f n stop t0 t1 ms ms' wr wr' rp rp' st e m k b behind went =
     let y = next_frame s s' w x f st e in
     let at : f.at ≡ y.0.at = ap (λ (p : Picture). p.at) y.0.shows in
-    by_stop s.arena s.design n w ms y.0.at s' t0 t1 (picture f) ms' wr wr' rp rp' y.0.comes y.0.shows m b behind went stop (sym k) y.0.ends (subst (λ (u : Instant). StandsFor s' (world_then s w u)) at y.1)
+    by_stop s.arena s.design n w ms y.0.at s' t0 t1 (picture f) ms' wr wr' rp rp' y.0.comes y.0.shows m b behind went stop (sym k) y.0.ends
+    (subst (λ (u : Instant). StandsFor s' (world_then s w u)) at y.1)
 
-pub turned_end : (s s' : Simulation) (w : World) (x : SimStep) (f : frames.Frame) (n : ℕ) (stop : Option ℕ) (end : Option End) (t0 t1 : Teller) (ms ms' : List Member) (wr wr' : Option (List ℕ)) (rp rp' : List ℕ) → Stepped s w s' x → x ≡ AFrame f
+pub turned_end : (s s' : Simulation) (w : World) (x : SimStep) (f : frames.Frame) (n : ℕ) (stop : Option ℕ) (end : Option End) (t0 t1 : Teller) (ms ms' : List Member) (wr wr' : Option (List ℕ)) (rp
+    rp' : List ℕ) → Stepped s w s' x → x ≡ sim_step.Frame f
     → end ≡ stop_at stop → ms' ≡ shown (picture f) ms → stop ≡ first_stop (picture f) ms → IsBehind t0.scribe (values_of_last s.arena s.design w)
     → ((vals : Option (List Datum)) (v : Frame) → IsNext t0.scribe vals v (picture f) → IsBehind t1.scribe (Some v.values))
-    → ((vals : Option (List Datum)) (v : Frame) (rest : ShownRun) → IsNext t0.scribe vals v (picture f) → Went (going t0 vals ms (shows_one (picture f) ms v rest) wr rp) (going t1 (Some v.values) ms' rest wr' rp'))
+    → ((vals : Option (List Datum)) (v : Frame) (rest : ShownRun) → IsNext t0.scribe vals v (picture f)
+    → Went (going t0 vals ms (shows_one (picture f) ms v rest) wr rp) (going t1 (Some v.values) ms' rest wr' rp'))
     → Turned end s.arena s.design n s' t1 (going t0 (values_of_last s.arena s.design w) ms (shown_on s.arena s.design (suc n) w ms) wr rp) ms' wr' rp'
 turned_end s s' w x f n stop end t0 t1 ms ms' wr wr' rp rp' st e z m k b behind went =
     subst (λ (o : Option End). Turned o s.arena s.design n s' t1 (going t0 (values_of_last s.arena s.design w) ms (shown_on s.arena s.design (suc n) w ms) wr rp) ms' wr' rp') (sym z)
     (turned_frame s s' w x f n stop t0 t1 ms ms' wr wr' rp rp' st e m k b behind went)
 
-pub turned_runaway : (s s' : Simulation) (w : World) (x : SimStep) (f : frames.Frame) (i n : ℕ) (t0 t1 : Teller) (ms ms' : List Member) (wr wr' : Option (List ℕ)) (rp rp' : List ℕ) → Stepped s w s' x → x ≡ ARunaway f i
+pub turned_runaway : (s s' : Simulation) (w : World) (x : SimStep) (f : frames.Frame) (i n : ℕ) (t0 t1 : Teller) (ms ms' : List Member) (wr wr' : Option (List ℕ)) (rp rp' : List ℕ) → Stepped s w s' x
+    → x ≡ sim_step.Runaway f i
     → ms' ≡ shown (picture f) ms → IsBehind t0.scribe (values_of_last s.arena s.design w)
     → ((vals : Option (List Datum)) (v : Frame) → IsNext t0.scribe vals v (picture f) → IsBehind t1.scribe (Some v.values))
-    → ((vals : Option (List Datum)) (v : Frame) (rest : ShownRun) → IsNext t0.scribe vals v (picture f) → Went (going t0 vals ms (shows_one (picture f) ms v rest) wr rp) (going t1 (Some v.values) ms' rest wr' rp'))
+    → ((vals : Option (List Datum)) (v : Frame) (rest : ShownRun) → IsNext t0.scribe vals v (picture f)
+    → Went (going t0 vals ms (shows_one (picture f) ms v rest) wr rp) (going t1 (Some v.values) ms' rest wr' rp'))
     → IsOver t1 (going t0 (values_of_last s.arena s.design w) ms (shown_on s.arena s.design (suc n) w ms) wr rp) (Runaway i) ms' wr' rp'
 turned_runaway s s' w x f i n t0 t1 ms ms' wr wr' rp rp' st e m b behind went =
     let y = ran_frame s s' w x f st i e in
     ran_over s.arena s.design n w ms y.at s' t0 t1 (picture f) ms' wr wr' rp rp' y.comes y.shows m b behind went i y.ends
 
-pub turned_quiet : (s s' : Simulation) (w : World) (x : SimStep) (n : ℕ) (t : Teller) (ms : List Member) (wr : Option (List ℕ)) (rp : List ℕ) → Stepped s w s' x → x ≡ AQuiet → IsBehind t.scribe (values_of_last s.arena s.design w)
+pub turned_quiet : (s s' : Simulation) (w : World) (x : SimStep) (n : ℕ) (t : Teller) (ms : List Member) (wr : Option (List ℕ)) (rp : List ℕ) → Stepped s w s' x → x ≡ sim_step.Quiet
+    → IsBehind t.scribe (values_of_last s.arena s.design w)
     → IsOver t (going t (values_of_last s.arena s.design w) ms (shown_on s.arena s.design (suc n) w ms) wr rp) Quiet ms wr rp
 turned_quiet s s' w x n t ms wr rp st e b = record {
   before = values_of_last s.arena s.design w;
@@ -192,7 +206,8 @@ turned_quiet s s' w x n t ms wr rp st e b = record {
       (sym (quiet_shown s.arena s.design n w ms (subst (Stepped s w s') e st).0)) (stays_put (going t (values_of_last s.arena s.design w) ms (shows_none ms Quiet) wr rp));
 }
 
-pub broken_frame : (s s' : Simulation) (w : World) (x : SimStep) (f : frames.Frame) (n : ℕ) (t0 : Teller) (ms now : List Member) (fault : WaveFault) (wr wr' : Option (List ℕ)) (rp : List ℕ) → Stepped s w s' x → x ≡ AFrame f
+pub broken_frame : (s s' : Simulation) (w : World) (x : SimStep) (f : frames.Frame) (n : ℕ) (t0 : Teller) (ms now : List Member) (fault : WaveFault) (wr wr' : Option (List ℕ)) (rp : List ℕ)
+    → Stepped s w s' x → x ≡ sim_step.Frame f
     → IsBehind t0.scribe (values_of_last s.arena s.design w)
     → ((vals : Option (List Datum)) (v : Frame) (rest : ShownRun) → IsNext t0.scribe vals v (picture f) → BrokeOff (going t0 vals ms (shows_one (picture f) ms v rest) wr rp) fault wr' now)
     → BrokeOff (going t0 (values_of_last s.arena s.design w) ms (shown_on s.arena s.design (suc n) w ms) wr rp) fault wr' now
@@ -200,7 +215,8 @@ broken_frame s s' w x f n t0 ms now fault wr wr' rp st e b h =
     let y = next_frame s s' w x f st e in
     frame_broken s.arena s.design n w ms y.0.at t0 (picture f) None now fault wr wr' rp y.0.comes y.0.shows y.0.ends b h
 
-pub broken_runaway : (s s' : Simulation) (w : World) (x : SimStep) (f : frames.Frame) (i n : ℕ) (t0 : Teller) (ms now : List Member) (fault : WaveFault) (wr wr' : Option (List ℕ)) (rp : List ℕ) → Stepped s w s' x → x ≡ ARunaway f i
+pub broken_runaway : (s s' : Simulation) (w : World) (x : SimStep) (f : frames.Frame) (i n : ℕ) (t0 : Teller) (ms now : List Member) (fault : WaveFault) (wr wr' : Option (List ℕ)) (rp : List ℕ)
+    → Stepped s w s' x → x ≡ sim_step.Runaway f i
     → IsBehind t0.scribe (values_of_last s.arena s.design w)
     → ((vals : Option (List Datum)) (v : Frame) (rest : ShownRun) → IsNext t0.scribe vals v (picture f) → BrokeOff (going t0 vals ms (shows_one (picture f) ms v rest) wr rp) fault wr' now)
     → BrokeOff (going t0 (values_of_last s.arena s.design w) ms (shown_on s.arena s.design (suc n) w ms) wr rp) fault wr' now

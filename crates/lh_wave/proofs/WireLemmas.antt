@@ -16,7 +16,8 @@ pub record BitsAt (start to : List ℕ) (all : List Datum) (vs : List Val) (i : 
   pub whole : map datum_of vs ≡ all
   pub rest : to ++ map bit_byte (row_bits (data_row (drop i (map datum_of vs)))) ≡ start ++ map bit_byte (row_bits (data_row all))
 
-pub BitsAt-next : (start to next : List ℕ) (all : List Datum) (vs : List Val) (i : ℕ) (v : Val) → BitsAt start to all vs i → i < length vs → v ≡ get_or vs i v → next ≡ to ++ map bit_byte (value_bits (datum_of v)) → BitsAt start next all vs (i + 1)
+pub BitsAt-next : (start to next : List ℕ) (all : List Datum) (vs : List Val) (i : ℕ) (v : Val) → BitsAt start to all vs i → i < length vs → v ≡ get_or vs i v
+    → next ≡ to ++ map bit_byte (value_bits (datum_of v)) → BitsAt start next all vs (i + 1)
 BitsAt-next start to next all vs i v w h e g =
     let more = row_bits (data_row (drop (i + 1) (map datum_of vs))) in
     record {
@@ -41,7 +42,8 @@ turned_at old mid turned bits e g =
     ∙ ap (λ l. old ++ reverse l) (drop-append_seam old (map bit_byte bits)) ∙ ap (λ l. old ++ l) (reverse-map bit_byte bits)
 
 -- what stands behind a text is turned round
-pub turned_behind : (start : ℕ) (old mid turned : List ℕ) (bits : List Bool) → start ≡ length old → mid ≡ old ++ map bit_byte bits → turned ≡ take start mid ++ reverse (drop start mid) → turned ≡ old ++ bits_text bits
+pub turned_behind : (start : ℕ) (old mid turned : List ℕ) (bits : List Bool) → start ≡ length old → mid ≡ old ++ map bit_byte bits → turned ≡ take start mid ++ reverse (drop start mid)
+    → turned ≡ old ++ bits_text bits
 turned_behind start old mid turned bits s e g = turned_at old mid turned bits e (g ∙ ap (λ n. take n mid ++ reverse (drop n mid)) s)
 
 length_behind : (old turned : List ℕ) (bits : List Bool) → turned ≡ old ++ bits_text bits → length turned ≡ length old + length bits
@@ -58,7 +60,8 @@ one_bit start old turned bits s e one =
     let single : length bits ≡ 1 = omega arith in
     e ∙ ap (λ x. old ++ x) (sym (marked_by bits true (eq-eqb (length bits) 1 single)))
 
-more_at : (old turned marked : List ℕ) (bits : List Bool) → turned ≡ old ++ bits_text bits → (length turned - length old ≡ 1 → ⊥) → marked ≡ take (length old) turned ++ 98 ∷ (drop (length old) turned ++ 32 ∷ []) → marked ≡ old ++ marked_bits bits
+more_at : (old turned marked : List ℕ) (bits : List Bool) → turned ≡ old ++ bits_text bits → (length turned - length old ≡ 1 → ⊥)
+    → marked ≡ take (length old) turned ++ 98 ∷ (drop (length old) turned ++ 32 ∷ []) → marked ≡ old ++ marked_bits bits
 more_at old turned marked bits e many g =
     let l = length_behind old turned bits e in
     let other : nat_eq (length bits) 1 ≡ false = grind (arith, nat_tests, l) in
@@ -73,7 +76,8 @@ more_bits (Ok x) start old turned marked bits s e many g =
     more_at old turned marked bits e (λ q. many (ap (λ n. length turned - n) s ∙ q)) (g ∙ ap (λ n. take n turned ++ 98 ∷ (drop n turned ++ 32 ∷ [])) s)
 more_bits (Err x) start old turned marked bits s e many g = tt
 
-pub number_byte_next : (to start : List ℕ) (w k n : ℕ) → k < w → to ++ map bit_byte (number_bits (w - k) n) ≡ start → (to ++ bit_byte (nat_eq (n % 2) 1) ∷ []) ++ map bit_byte (number_bits (w - (k + 1)) (n / 2)) ≡ start
+pub number_byte_next : (to start : List ℕ) (w k n : ℕ) → k < w → to ++ map bit_byte (number_bits (w - k) n) ≡ start
+    → (to ++ bit_byte (nat_eq (n % 2) 1) ∷ []) ++ map bit_byte (number_bits (w - (k + 1)) (n / 2)) ≡ start
 number_byte_next to start w k n h e =
     let left : w - k ≡ suc (w - (k + 1)) = omega arith in
     append_assoc to (bit_byte (nat_eq (n % 2) 1) ∷ []) (map bit_byte (number_bits (w - (k + 1)) (n / 2))) ∙ ap (λ m. to ++ map bit_byte (number_bits m n)) (sym left) ∙ e
@@ -99,7 +103,8 @@ digits_more w n m left rest digits e l d h =
     ∙ ap (λ x. x ++ drop left (take w digits)) (sym (turned_more b bits))
     ∙ ap (λ k. bits_text (number_bits k rest) ++ drop left (take w digits)) (sym e) ∙ h
 
-pub DigitsAt-next : (w n : ℕ) (digits : List ℕ) (i rest place byte : ℕ) → DigitsAt w n digits i rest → i < w → w ≤ length digits → place ≡ w - 1 - i → byte ≡ bit_byte (nat_eq (rest % 2) 1) → DigitsAt w n (set digits place byte) (i + 1) (rest / 2)
+pub DigitsAt-next : (w n : ℕ) (digits : List ℕ) (i rest place byte : ℕ) → DigitsAt w n digits i rest → i < w → w ≤ length digits → place ≡ w - 1 - i → byte ≡ bit_byte (nat_eq (rest % 2) 1)
+    → DigitsAt w n (set digits place byte) (i + 1) (rest / 2)
 DigitsAt-next w n digits i rest place byte h l d p b =
     let left : w - i ≡ suc (w - (i + 1)) = omega arith in
     let at : place ≡ w - (i + 1) = omega arith in
@@ -116,10 +121,12 @@ pub DigitsAt-start : (w n : ℕ) (digits : List ℕ) → DigitsAt w n digits 0 n
 DigitsAt-start w n digits =
     let all : w - 0 ≡ w = omega arith in
     ap (λ k. bits_text (number_bits k n) ++ drop k (take w digits)) all
-    ∙ ap (λ l. bits_text (number_bits w n) ++ l) (drop_all w (take w digits) (let short : length (take w digits) ≤ w = omega (arith, length-take w digits) in short)) ∙ append-nil (bits_text (number_bits w n))
+    ∙ ap (λ l. bits_text (number_bits w n) ++ l) (drop_all w (take w digits) (let short : length (take w digits) ≤ w = omega (arith, length-take w digits) in short))
+    ∙ append-nil (bits_text (number_bits w n))
 
 -- a vector of some other number of bits than one
-pub vector_text : {T E : Type 0} (r : Result T E) (w n : ℕ) (to marked bits digits next : List ℕ) → (w ≡ 1 → ⊥) → marked ≡ to ++ codes "b" → bits ≡ marked ++ digits → digits ≡ bits_text (number_bits w n)
+pub vector_text : {T E : Type 0} (r : Result T E) (w n : ℕ) (to marked bits digits next : List ℕ) → (w ≡ 1 → ⊥) → marked ≡ to ++ codes "b" → bits ≡ marked ++ digits
+    → digits ≡ bits_text (number_bits w n)
     → OnOk r (next ≡ bits ++ codes " ") → OnOk r (next ≡ to ++ marked_bits (number_bits w n))
 vector_text (Ok x) w n to marked bits digits next many m b d g =
     let text = bits_text (number_bits w n) in

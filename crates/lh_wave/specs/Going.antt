@@ -41,10 +41,10 @@ text_left (scribe.Vcd None) before frames left end = waveform_text (map moment_o
 text_left (scribe.Vcd (Some w)) before frames left end = left_text w (map moment_of frames)
 
 -- a waveform that has begun keeps its signals
-abbrev pub IsSteady : Scribe → Type 0
-IsSteady scribe.Trace = Unit {0}
-IsSteady (scribe.Vcd None) = Unit {0}
-IsSteady (scribe.Vcd (Some w)) = IsKept w
+abbrev pub KeepsSignals : Scribe → Type 0
+KeepsSignals scribe.Trace = Unit {0}
+KeepsSignals (scribe.Vcd None) = Unit {0}
+KeepsSignals (scribe.Vcd (Some w)) = IsKept w
 
 -- it has written the frames up to one with these values: a waveform has begun exactly where there is one
 abbrev pub IsBehind : Scribe → (before : Option (List Datum)) → Type 0
@@ -57,9 +57,10 @@ abbrev pub IsReached : (before : Option (List Datum)) → Frame → Type 0
 IsReached None f = Unit {0}
 IsReached (Some old) f = changed_values old (changed_from 0 old f.values) ≡ f.values
 
--- A run at one of its points: the values of the last frame, the members, what is still shown, how far the text is written, what was written and reported, and whether an assertion has failed.
+-- A run at one of its points: the values of the last frame, the members, what is still shown, how far the text is made and what of it waits to be written, what was written and reported, and whether an assertion has failed.
 pub record Going : Type 0 where
   pub scribe : Scribe
+  pub waits : List ℕ
   pub before : Option (List Datum)
   pub members : List Member
   pub rest : ShownRun
@@ -68,7 +69,7 @@ pub record Going : Type 0 where
   pub failed : Bool
 
 abbrev pub text_ahead : Going → List ℕ
-text_ahead g = text_left g.scribe g.before g.rest.frames g.rest.left g.rest.end
+text_ahead g = g.waits ++ text_left g.scribe g.before g.rest.frames g.rest.left g.rest.end
 
 abbrev pub pictures_ahead : Going → List Picture
 pictures_ahead g = pictures g.before g.rest.frames
@@ -108,7 +109,7 @@ shown_on a d n w ms = shown_behind (values_of_last a d w) (run_on a d n w).frame
 -- a run at a point that the teller has come to
 abbrev pub going : Teller → (before : Option (List Datum)) → List Member → ShownRun → (written : Option (List ℕ)) → (reports : List ℕ) → Going
 going t before ms rest written reports =
-    record { scribe = t.scribe; before = before; members = ms; rest = rest; written = written; reports = reports; failed = t.failed }
+    record { scribe = t.scribe; waits = t.text.items; before = before; members = ms; rest = rest; written = written; reports = reports; failed = t.failed }
 
 -- the text of a frame was put behind a text
 pub record IsPut (old new : Scribe) (before : Option (List Datum)) (f : Frame) (was now : List ℕ) : Type 0 where
@@ -116,12 +117,18 @@ pub record IsPut (old new : Scribe) (before : Option (List Datum)) (f : Frame) (
   pub text : (more : List Frame) (left : List Member) (end : End) →
       now ++ text_left new (Some f.values) more left end ≡ was ++ text_left old before (f ∷ more) left end
 
--- the text of a frame was written
-pub record IsTold (old new : Scribe) (before : Option (List Datum)) (f : Frame) (was_written written : Option (List ℕ)) : Type 0 where
+-- the text of a frame was put behind what waited, and a piece in front was written
+pub record IsTold (old new : Scribe) (before : Option (List Datum)) (f : Frame) (waited waits : List ℕ) (was_written written : Option (List ℕ)) : Type 0 where
   pub piece : List ℕ
   pub behind : IsBehind new (Some f.values)
   pub text : (more : List Frame) (left : List Member) (end : End) →
-      text_left old before (f ∷ more) left end ≡ piece ++ text_left new (Some f.values) more left end
+      waited ++ text_left old before (f ∷ more) left end ≡ piece ++ (waits ++ text_left new (Some f.values) more left end)
+  pub told : Appends was_written written piece
+
+-- of what waited a piece in front was written, and the rest still waits
+pub record IsPassedOn (waited waits : List ℕ) (was_written written : Option (List ℕ)) : Type 0 where
+  pub piece : List ℕ
+  pub text : waited ≡ piece ++ waits
   pub told : Appends was_written written piece
 
 -- A frame is the next one that a scribe is to write, and it shows this.

@@ -8,7 +8,7 @@ use Rattle.lh_wave.specs.declared.ending.End.{End}
 use Rattle.lh_wave.specs.declared.run.WaveMode.{WaveMode}
 use Rattle.lh_wave.specs.declared.run.WaveMode.TheVariants.{Trace, Vcd}
 use Rattle.lh_wave.specs.TraceText.{frame_text}
-use Rattle.lh_wave.specs.WaveText.{Moment, waveform_text}
+use Rattle.lh_wave.specs.WaveText.{WaveMoment, waveform_text}
 use Rattle.lh_wave.specs.EndText.{end_line}
 use Rattle.lh_wave.specs.HeadText.{trace_head, waveform_head}
 use Rattle.lh_wave.specs.ShownRun.{ShownRun}
@@ -19,7 +19,7 @@ trace_text instances signals frames left end =
     trace_head instances signals ++ flat_map frame_text (pictures None frames) ++ end_line left end
 
 -- the physical time of a frame, and its values
-abbrev pub moment_of : Frame → Moment
+abbrev pub moment_of : Frame → WaveMoment
 moment_of f = record { fs = f.at.fs; values = f.values }
 
 -- The text of a waveform: the instances and signals, and the last values at each physical time. The end is not written.

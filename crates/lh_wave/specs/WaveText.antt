@@ -46,7 +46,7 @@ abbrev pub time_line : ℕ → List ℕ
 time_line fs = codes "#" ++ decimal fs ++ codes "\n"
 
 -- the values of all signals at a physical time
-pub record Moment : Type 0 where
+pub record WaveMoment : Type 0 where
   pub fs : ℕ
   pub values : List Datum
 
@@ -56,29 +56,29 @@ any_differs (w ∷ ws) (v ∷ vs) = not (same_datum w v) || any_differs ws vs
 any_differs _ _ = false
 
 -- a time and the signals that differ at it, or nothing where none does
-abbrev pub changes_at : (written : List Datum) → Moment → List ℕ
+abbrev pub changes_at : (written : List Datum) → WaveMoment → List ℕ
 changes_at written m = if any_differs written m.values then time_line m.fs ++ differing_lines 0 written m.values else []
 
 -- the changes at later times, behind values that were written
-abbrev pub changes_text : (written : List Datum) → List Moment → List ℕ
+abbrev pub changes_text : (written : List Datum) → List WaveMoment → List ℕ
 changes_text written [] = []
 changes_text written (m ∷ ms) = changes_at written m ++ changes_text m.values ms
 
 -- of moments in a row at one physical time the last
-abbrev pub lasts_from : Moment → List Moment → List Moment
+abbrev pub lasts_from : WaveMoment → List WaveMoment → List WaveMoment
 lasts_from m [] = m ∷ []
 lasts_from m (n ∷ ns) = if nat_eq m.fs n.fs then lasts_from n ns else m ∷ lasts_from n ns
 
 -- the values at the first time
-abbrev pub dump_at : Moment → List ℕ
+abbrev pub dump_at : WaveMoment → List ℕ
 dump_at m = time_line m.fs ++ codes "$dumpvars\n" ++ all_lines 0 m.values ++ codes "$end\n"
 
 -- the values at the first time, and the changes at later ones
-abbrev pub dump_text : List Moment → List ℕ
+abbrev pub dump_text : List WaveMoment → List ℕ
 dump_text [] = []
 dump_text (m ∷ ms) = dump_at m ++ changes_text m.values ms
 
 -- what a waveform says of frames in order, each by its physical time and the values of all signals
-abbrev pub waveform_text : List Moment → List ℕ
+abbrev pub waveform_text : List WaveMoment → List ℕ
 waveform_text [] = []
 waveform_text (m ∷ ms) = dump_text (lasts_from m ms)

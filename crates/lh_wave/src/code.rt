@@ -26,8 +26,6 @@ fn put_digit(to: &mut Vec<u8>, digit: u8) -> Result<(), NoMemory>
     requires { digit < 94 }
     ensures { OnOk result (to.new.items ≡ to.old.items ++ (33 + digit) ∷ []) }
 {
-    match to.push(FIRST + digit) {
-        Ok(()) => Ok(()),
-        Err(_) => Err(NoMemory),
-    }
+    to.push(FIRST + digit)?;
+    Ok(())
 }

@@ -65,8 +65,8 @@ impl From<Failed> for WaveFault {
     }
 }
 
-/// Shows a run of at most `steps` frames to watchers, writes its text to `out` as the frames come, in whole lines, and appends the
-/// reports to `reports`.
+/// Shows a run of at most `steps` frames to watchers, writes its text to `out` as the frames come, in pieces of whole lines, and
+/// appends the reports to `reports`.
 ///
 /// A watcher that says stop ends the run after that frame, unless an instance ran away in it. A watcher that is done reports and is
 /// dropped; at the end those that are left report in order, and stay in the list. The memory that it takes does not grow with the

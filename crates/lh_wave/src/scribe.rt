@@ -3,7 +3,7 @@ ghost use Rattle.std.specs.Prelude.{◌≡◌, ◌++◌, [], List, Option, None,
 ghost use Rattle.lh_types.specs.Values.{Datum};
 ghost use Rattle.lh_types.specs.Pictures.{picture};
 ghost use Rattle.lh_unit.specs.Trace as trace;
-ghost use Rattle.lh_wave.specs.Going.{scribe_in, text_left, IsSteady, IsBehind, IsNext, IsPut};
+ghost use Rattle.lh_wave.specs.Going.{scribe_in, text_left, KeepsSignals, IsBehind, IsNext, IsPut};
 
 use crate::ending::{End, put_end};
 use crate::run::WaveMode;
@@ -24,7 +24,7 @@ pub(crate) enum Scribe {
 impl Scribe {
     /// Before the first frame.
     pub fn new(mode: WaveMode) -> Scribe
-        ensures steady { IsSteady result }
+        ensures steady { KeepsSignals result }
         ensures behind { IsBehind result None }
         ensures mode { result ≡ scribe_in mode }
     {
@@ -37,8 +37,8 @@ impl Scribe {
     /// Takes a frame, and puts what can be written then at the end of `to`. After `NoMemory` nothing is said of the scribe and the
     /// text.
     pub fn take(&mut self, alloc: Global, f: &Frame, to: &mut Vec<u8>) -> Result<(), NoMemory>
-        requires { IsSteady self.old }
-        ensures steady { OnOk result (IsSteady self.new) }
+        requires { KeepsSignals self.old }
+        ensures steady { OnOk result (KeepsSignals self.new) }
         ensures put { OnOk result ((before : Option (List Datum)) (v : trace.Frame) → IsNext self.old before v (picture f.now) →
             IsPut self.old self.new before v to.old.items to.new.items) }
     {
@@ -54,7 +54,7 @@ impl Scribe {
 
     /// Puts what is left to be written where the run has ended so. After `NoMemory` nothing is said of the scribe and the text.
     pub fn end<W: Watcher>(&mut self, end: End, ws: &[W], to: &mut Vec<u8>) -> Result<(), NoMemory>
-        requires { IsSteady self.old }
+        requires { KeepsSignals self.old }
         ensures { OnOk result ((before : Option (List Datum)) → to.new.items ≡ to.old.items ++ text_left self.old before [] (map W.member ws.now) end) }
     {
         match self {

@@ -2,7 +2,7 @@
 ghost use Rattle.std.specs.Prelude.{◌≡◌, ◌||◌, ◌≤◌, ◌++◌, [], ◌∷◌, false, ℕ, suc, List, Option, None, IfOk, IfErr, OnOk, OnErr, IsErrOf, map};
 ghost use Rattle.lh_types.specs.Values.{Datum};
 ghost use Rattle.lh_types.specs.Pictures.{picture};
-ghost use Rattle.lh_io.specs.Streams.{Rose, Appends};
+ghost use Rattle.lh_io.specs.Streams.{Rose, Appends, AppendsProperPrefix};
 ghost use Rattle.lh_unit.specs.Trace as trace;
 ghost use Rattle.lh_unit.specs.Trace.{at_bound};
 ghost use Rattle.lh_unit.specs.World.{World, next_instant};
@@ -12,13 +12,13 @@ ghost use Rattle.lh_watch.specs.Shown.{shown, first_stop};
 ghost use Rattle.lh_kernel.specs.Simulation.{StandsFor};
 ghost use Rattle.lh_wave.specs.BrokenOff.{BreaksOff};
 ghost use Rattle.lh_wave.specs.ShownRun.{ShownRun, end_of, stop_at};
-ghost use Rattle.lh_wave.specs.Going.{scribe_in, text_left, IsSteady, IsBehind, IsNext, IsTold, Went, BrokeOff, Turned, IsOver, going, shows_one, shown_on, values_of_last};
+ghost use Rattle.lh_wave.specs.Going.{scribe_in, text_left, KeepsSignals, IsBehind, IsNext, IsTold, IsPassedOn, Went, BrokeOff, Turned, IsOver, going, shows_one, shown_on, values_of_last};
 
 use crate::ending::End;
 use crate::run::{WaveFault, WaveMode};
 use crate::scribe::Scribe;
 use lh_io::count::Count;
-use lh_io::stream::Sink;
+use lh_io::stream::{Failed, Sink};
 use lh_io::whole::write_all;
 use lh_kernel::{Sim, SimStep};
 use lh_types::frame::{Frame, Outcome};
@@ -28,12 +28,15 @@ use lh_watch::shows::show;
 use lh_watch::watcher::Watcher;
 use std::alloc::Global;
 
+/// How much text waits at most before it is written, in whole lines: a write costs as much as a short frame.
+const PIECE: usize = 16384;
+
 /// Tells a run: writes its text and shows its frames, and notes whether an assertion has failed.
 #[derive(Drop)]
 pub(crate) struct Teller {
     alloc: Global,
     scribe: Scribe,
-    // What is written next.
+    // What waits to be written.
     text: Vec<u8>,
     failed: bool,
 }
@@ -42,8 +45,9 @@ impl Teller {
     /// Before the first frame.
     pub fn new(alloc: Global, mode: WaveMode) -> Teller
         ensures scribe { result.scribe ≡ scribe_in mode }
+        ensures waits { result.text.items ≡ [] }
         ensures failed { result.failed ≡ false }
-        ensures steady { IsSteady result.scribe }
+        ensures steady { KeepsSignals result.scribe }
     {
         Teller {
             alloc,
@@ -69,8 +73,8 @@ impl Teller {
         out: &mut K,
         reports: &mut Vec<u8>,
     ) -> Result<End, WaveFault>
-        requires { IsSteady self.old.scribe }
-        ensures steady { OnOk result (IsSteady self.new.scribe) }
+        requires { KeepsSignals self.old.scribe }
+        ensures steady { OnOk result (KeepsSignals self.new.scribe) }
         ensures ok { IfOk result (λ end. (w : World) → StandsFor sim.old w → let before = values_of_last sim.old.arena sim.old.design w in IsBehind self.old.scribe before →
             let ms = map W.member ws.old.items in
             IsOver self.new (going self.old before ms (shown_on sim.old.arena sim.old.design steps w ms) (K.written out.old) reports.old.items) end (map W.member ws.new.items) (K.written out.new) reports.new.items) }
@@ -99,8 +103,8 @@ impl Teller {
         out: &mut K,
         reports: &mut Vec<u8>,
     ) -> Result<Option<End>, WaveFault>
-        requires { IsSteady self.old.scribe }
-        ensures steady { OnOk result (IsSteady self.new.scribe) }
+        requires { KeepsSignals self.old.scribe }
+        ensures steady { OnOk result (KeepsSignals self.new.scribe) }
         ensures arena { sim.new.arena ≡ sim.old.arena }
         ensures design { sim.new.design ≡ sim.old.design }
         ensures ok { IfOk result (λ end. (n : ℕ) (w : World) → StandsFor sim.old w → let before = values_of_last sim.old.arena sim.old.design w in IsBehind self.old.scribe before →
@@ -130,8 +134,8 @@ impl Teller {
         out: &mut K,
         reports: &mut Vec<u8>,
     ) -> Result<Option<usize>, WaveFault>
-        requires { IsSteady self.old.scribe }
-        ensures steady { OnOk result (IsSteady self.new.scribe) }
+        requires { KeepsSignals self.old.scribe }
+        ensures steady { OnOk result (KeepsSignals self.new.scribe) }
         ensures members { OnOk result (map W.member ws.new.items ≡ shown (picture f.now) (map W.member ws.old.items)) }
         ensures stop { IfOk result (λ place. place ≡ first_stop (picture f.now) (map W.member ws.old.items)) }
         ensures behind { OnOk result ((before : Option (List Datum)) (v : trace.Frame) → IsNext self.old.scribe before v (picture f.now) → IsBehind self.new.scribe (Some v.values)) }
@@ -150,43 +154,57 @@ impl Teller {
         Ok(show(ws, f, reports)?)
     }
 
-    /// Writes what can be written when a frame comes.
+    /// Puts what can be told when a frame comes behind what waits, and writes it where it is long.
     fn tell<K: Sink>(&mut self, f: &Frame, out: &mut K) -> Result<(), WaveFault>
-        requires { IsSteady self.old.scribe }
-        ensures steady { OnOk result (IsSteady self.new.scribe) }
+        requires { KeepsSignals self.old.scribe }
+        ensures steady { OnOk result (KeepsSignals self.new.scribe) }
         ensures failed { self.new.failed ≡ self.old.failed }
         ensures told { OnOk result ((before : Option (List Datum)) (v : trace.Frame) → IsNext self.old.scribe before v (picture f.now) →
-            IsTold self.old.scribe self.new.scribe before v (K.written out.old) (K.written out.new)) }
+            IsTold self.old.scribe self.new.scribe before v self.old.text.items self.new.text.items (K.written out.old) (K.written out.new)) }
         ensures err { IfErr result (λ e. (before : Option (List Datum)) (v : trace.Frame) (more : List trace.Frame) (left : List Member) (end : End) → IsNext self.old.scribe before v (picture f.now) →
-            BreaksOff e (K.written out.old) (K.written out.new) (text_left self.old.scribe before (v ∷ more) left end)) }
+            BreaksOff e (K.written out.old) (K.written out.new) (self.old.text.items ++ text_left self.old.scribe before (v ∷ more) left end)) }
         ensures rose { IsErrOf result WaveFault.WriteFault → Rose (K.faults out.old) (K.faults out.new) }
         ensures never_fall { K.faults out.old ≤ K.faults out.new }
     {
-        self.text.clear();
         self.scribe.take(self.alloc, f, &mut self.text)?;
-        write_all(out, &self.text)?;
+        pass_on(&mut self.text, out)?;
         Ok(())
     }
 
-    /// Writes what is left to be written where the run has ended so.
+    /// Writes what waits, and what is left to be written where the run has ended so.
     pub fn finish<K: Sink, W: Watcher>(
         &mut self,
         end: End,
         ws: &[W],
         out: &mut K,
     ) -> Result<(), WaveFault>
-        requires { IsSteady self.old.scribe }
+        requires { KeepsSignals self.old.scribe }
         ensures failed { self.new.failed ≡ self.old.failed }
-        ensures told { OnOk result ((before : Option (List Datum)) → Appends (K.written out.old) (K.written out.new) (text_left self.old.scribe before [] (map W.member ws.now) end)) }
-        ensures err { IfErr result (λ e. (before : Option (List Datum)) → BreaksOff e (K.written out.old) (K.written out.new) (text_left self.old.scribe before [] (map W.member ws.now) end)) }
+        ensures told { OnOk result ((before : Option (List Datum)) → Appends (K.written out.old) (K.written out.new) (self.old.text.items ++ text_left self.old.scribe before [] (map W.member ws.now) end)) }
+        ensures err { IfErr result (λ e. (before : Option (List Datum)) → BreaksOff e (K.written out.old) (K.written out.new) (self.old.text.items ++ text_left self.old.scribe before [] (map W.member ws.now) end)) }
         ensures rose { IsErrOf result WaveFault.WriteFault → Rose (K.faults out.old) (K.faults out.new) }
         ensures never_fall { K.faults out.old ≤ K.faults out.new }
     {
-        self.text.clear();
         self.scribe.end(end, ws, &mut self.text)?;
         write_all(out, &self.text)?;
+        self.text.clear();
         Ok(())
     }
+}
+
+/// Writes what waits, where it is long.
+fn pass_on<K: Sink>(text: &mut Vec<u8>, out: &mut K) -> Result<(), Failed>
+    ensures told { OnOk result (IsPassedOn text.old.items text.new.items (K.written out.old) (K.written out.new)) }
+    ensures failed { OnErr result (AppendsProperPrefix (K.written out.old) (K.written out.new) text.old.items) }
+    ensures rose { OnErr result (Rose (K.faults out.old) (K.faults out.new)) }
+    ensures never_fall { K.faults out.old ≤ K.faults out.new }
+{
+    if text.len() < PIECE {
+        return Ok(());
+    }
+    write_all(out, text)?;
+    text.clear();
+    Ok(())
 }
 
 /// How a run ends after a frame at which the watcher at a place said stop, if one did.

@@ -20,13 +20,11 @@ impl Touched {
         ensures noted { IfOk result (λ t. IsNoted t count) }
         ensures none { IfOk result (λ t. (k : ℕ) → is_touched t k ≡ false) }
     {
-        match vec![in alloc; false; count] {
-            Ok(marks) => Ok(Touched {
-                marks,
-                numbers: Vec::new(alloc),
-            }),
-            Err(_) => Err(NoMemory),
-        }
+        let marks = vec![in alloc; false; count]?;
+        Ok(Touched {
+            marks,
+            numbers: Vec::new(alloc),
+        })
     }
 
     /// Adds a signal.
@@ -40,10 +38,8 @@ impl Touched {
             return Ok(());
         }
         self.marks[k] = true;
-        match self.numbers.push(k) {
-            Ok(()) => Ok(()),
-            Err(_) => Err(NoMemory),
-        }
+        self.numbers.push(k)?;
+        Ok(())
     }
 
     /// Puts the numbers in order. Those of each frame come in order, so that a sort that keeps such runs is fast.

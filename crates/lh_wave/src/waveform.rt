@@ -4,7 +4,7 @@ ghost use Rattle.std.specs.List.Sorted.{IsNonDecreasing};
 ghost use Rattle.lh_types.specs.ValueOf.{datum_of};
 ghost use Rattle.lh_types.specs.SameValue.{same_datum};
 ghost use Rattle.lh_types.specs.Pictures.{showing_of, picture};
-ghost use Rattle.lh_wave.specs.WaveText.{Moment, value_line, all_lines, differing_lines, any_differs, dump_at, changes_at, waveform_text};
+ghost use Rattle.lh_wave.specs.WaveText.{WaveMoment, value_line, all_lines, differing_lines, any_differs, dump_at, changes_at, waveform_text};
 ghost use Rattle.lh_wave.specs.Touched.{IsSameBut};
 ghost use Rattle.lh_wave.specs.Recorded.{IsKept, values_now, moment_now, first_moment, next_moment, left_text, changed_values};
 
@@ -36,7 +36,7 @@ impl Waveform {
     pub fn begin(alloc: Global, first: &Frame) -> Result<Waveform, NoMemory>
         ensures kept { IfOk result (λ w. IsKept w) }
         ensures values { IfOk result (λ w. values_now w ≡ (first_moment (picture first.now)).values) }
-        ensures left { IfOk result (λ w. (ms : List Moment) → left_text w ms ≡ waveform_text (first_moment (picture first.now) ∷ ms)) }
+        ensures left { IfOk result (λ w. (ms : List WaveMoment) → left_text w ms ≡ waveform_text (first_moment (picture first.now) ∷ ms)) }
     {
         let present = values_of(alloc, first.changes.as_slice())?;
         let written = values_of(alloc, first.changes.as_slice())?;
@@ -56,7 +56,7 @@ impl Waveform {
         requires { IsKept self.old }
         ensures kept { OnOk result (IsKept self.new) }
         ensures values { OnOk result (values_now self.new ≡ changed_values (values_now self.old) (picture f.now).changes) }
-        ensures left { OnOk result ((ms : List Moment) →
+        ensures left { OnOk result ((ms : List WaveMoment) →
             to.new.items ++ left_text self.new ms ≡ to.old.items ++ left_text self.old (next_moment (values_now self.old) (picture f.now) ∷ ms)) }
     {
         if f.at.fs == self.fs {

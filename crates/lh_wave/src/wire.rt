@@ -83,9 +83,7 @@ fn mark_from(to: &mut Vec<u8>, start: usize) -> Result<(), NoMemory>
     requires { start ≤ vec_len to.old }
     ensures { OnOk result (to.new.items ≡ take start to.old.items ++ 98 ∷ (drop start to.old.items ++ 32 ∷ [])) }
 {
-    if to.insert(start, b'b').is_err() {
-        return Err(NoMemory);
-    }
+    to.insert(start, b'b')?;
     put(to, b" ")
 }
 
@@ -127,10 +125,8 @@ fn put_number_bits(to: &mut Vec<u8>, width: u32, number: u128) -> Result<(), NoM
 fn put_bit(to: &mut Vec<u8>, bit: bool) -> Result<(), NoMemory>
     ensures { OnOk result (to.new.items ≡ to.old.items ++ bit_byte bit ∷ []) }
 {
-    match to.push(bit_digit(bit)) {
-        Ok(()) => Ok(()),
-        Err(_) => Err(NoMemory),
-    }
+    to.push(bit_digit(bit))?;
+    Ok(())
 }
 
 fn bit_digit(bit: bool) -> u8

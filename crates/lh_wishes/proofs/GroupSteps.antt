@@ -10,7 +10,7 @@ use Rattle.lh_time.specs.Order.{instant_cmp, instant_lt}
 use Rattle.lh_time.proofs.OrderLemmas.{instant_cmp_total}
 use Rattle.lh_types.specs.Wish.{Wish, due_bit, IsInOrder}
 use Rattle.lh_history.proofs.Instants.{instant_one}
-use Rattle.lh_wishes.specs.declared.run.Run.{Run}
+use Rattle.lh_wishes.specs.declared.run.WishRun.{WishRun}
 use Rattle.lh_types.specs.Writes.{numbered, bits_due, writes_wish}
 use Rattle.lh_wishes.specs.Grouped.{is_filled, BitsRise, IsGrouped, Apart}
 use Rattle.lh_wishes.specs.Runs.{row_wish, run_wish}
@@ -31,7 +31,8 @@ writes-last : (xs : List (Instant × List (ℕ × Bool))) (d : Instant × List (
 writes-last xs d = writes-append xs (d ∷ []) ∙ ap (λ w. writes_wish xs ++ w) (append-nil (bits_due d.0 d.1))
 
 -- a run at the instant of the last list, and one with a list of its own
-pub behind : (xs ys : List (Instant × List (ℕ × Bool))) (d : Instant × List (ℕ × Bool)) (vs : List (ℕ × Bool)) (r : Run) → d.0 ≡ r.due → vs ≡ d.1 ++ numbered r.lo r.bits → ys ≡ xs ++ (d.0, vs) ∷ [] → writes_wish ys ≡ writes_wish (xs ++ d ∷ []) ++ run_wish r
+pub behind : (xs ys : List (Instant × List (ℕ × Bool))) (d : Instant × List (ℕ × Bool)) (vs : List (ℕ × Bool)) (r : WishRun) → d.0 ≡ r.due → vs ≡ d.1 ++ numbered r.lo r.bits
+    → ys ≡ xs ++ (d.0, vs) ∷ [] → writes_wish ys ≡ writes_wish (xs ++ d ∷ []) ++ run_wish r
 behind xs ys d vs r p e h =
     ap writes_wish h ∙ writes-last xs (d.0, vs)
     ∙ ap (λ w. writes_wish xs ++ w) (ap (bits_due d.0) e ∙ map-append _ d.1 (numbered r.lo r.bits) ∙ ap (λ w. bits_due d.0 d.1 ++ w) (row-due d.0 r.lo r.bits))
@@ -39,7 +40,7 @@ behind xs ys d vs r p e h =
     ∙ ap (λ w. w ++ row_wish d.0 r.lo r.bits) (sym (writes-last xs d))
     ∙ ap (λ (t : Instant). writes_wish (xs ++ d ∷ []) ++ row_wish t r.lo r.bits) p
 
-pub alone : (zs ys : List (Instant × List (ℕ × Bool))) (r : Run) → ys ≡ zs ++ (r.due, numbered r.lo r.bits) ∷ [] → writes_wish ys ≡ writes_wish zs ++ run_wish r
+pub alone : (zs ys : List (Instant × List (ℕ × Bool))) (r : WishRun) → ys ≡ zs ++ (r.due, numbered r.lo r.bits) ∷ [] → writes_wish ys ≡ writes_wish zs ++ run_wish r
 alone zs ys r h = ap writes_wish h ∙ writes-last zs (r.due, numbered r.lo r.bits) ∙ ap (λ w. writes_wish zs ++ w) (row-due r.due r.lo r.bits)
 
 -- ---- no list is empty, and no two at one instant
@@ -62,14 +63,16 @@ apart-new [] d n h e f = (h, e, f)
 apart-new (x ∷ []) d n h e f = (h.0, h.1, (h.2, e, f))
 apart-new (x ∷ y ∷ more) d n h e f = (h.0, h.1, apart-new (y ∷ more) d n h.2 e f)
 
-pub behind-apart : (xs ys : List (Instant × List (ℕ × Bool))) (d : Instant × List (ℕ × Bool)) (vs : List (ℕ × Bool)) (r : Run) → is_filled r.bits ≡ true → vs ≡ d.1 ++ numbered r.lo r.bits → ys ≡ xs ++ (d.0, vs) ∷ [] → Apart (xs ++ d ∷ []) → Apart ys
+pub behind-apart : (xs ys : List (Instant × List (ℕ × Bool))) (d : Instant × List (ℕ × Bool)) (vs : List (ℕ × Bool)) (r : WishRun) → is_filled r.bits ≡ true → vs ≡ d.1 ++ numbered r.lo r.bits
+    → ys ≡ xs ++ (d.0, vs) ∷ [] → Apart (xs ++ d ∷ []) → Apart ys
 behind-apart xs ys d vs r f e h a = subst Apart (sym h) (apart-last xs d vs a (ap is_filled e ∙ filled-right d.1 (numbered r.lo r.bits) (filled-row r.lo r.bits f)))
 
-pub afresh-apart : (xs zs ys : List (Instant × List (ℕ × Bool))) (d : Instant × List (ℕ × Bool)) (r : Run) → is_filled r.bits ≡ true → (d.0 ≡ r.due → ⊥) → zs ≡ xs ++ d ∷ [] → ys ≡ zs ++ (r.due, numbered r.lo r.bits) ∷ [] → Apart (xs ++ d ∷ []) → Apart ys
+pub afresh-apart : (xs zs ys : List (Instant × List (ℕ × Bool))) (d : Instant × List (ℕ × Bool)) (r : WishRun) → is_filled r.bits ≡ true → (d.0 ≡ r.due → ⊥) → zs ≡ xs ++ d ∷ []
+    → ys ≡ zs ++ (r.due, numbered r.lo r.bits) ∷ [] → Apart (xs ++ d ∷ []) → Apart ys
 afresh-apart xs zs ys d r f n e h a =
     subst Apart (sym (h ∙ ap (λ (l : List (Instant × List (ℕ × Bool))). l ++ (r.due, numbered r.lo r.bits) ∷ []) e)) (apart-new xs d (r.due, numbered r.lo r.bits) a n (filled-row r.lo r.bits f))
 
-pub first-apart : (zs ys : List (Instant × List (ℕ × Bool))) (r : Run) → is_filled r.bits ≡ true → zs ≡ [] → ys ≡ zs ++ (r.due, numbered r.lo r.bits) ∷ [] → Apart ys
+pub first-apart : (zs ys : List (Instant × List (ℕ × Bool))) (r : WishRun) → is_filled r.bits ≡ true → zs ≡ [] → ys ≡ zs ++ (r.due, numbered r.lo r.bits) ∷ [] → Apart ys
 first-apart zs ys r f e h = subst Apart (sym (h ∙ ap (λ (l : List (Instant × List (ℕ × Bool))). l ++ (r.due, numbered r.lo r.bits) ∷ []) e)) (filled-row r.lo r.bits f)
 
 -- ---- the order of entries
@@ -82,7 +85,8 @@ less-instant t u i j h n = at (instant_cmp t u) refl h
     at Equal e g = absurd (n (instant_one t u e))
     at Greater e g = cc
 
-first-before : (t u : Instant) (ds es : List (ℕ × Bool)) (rest : Wish) → is_filled ds ≡ true → is_filled es ≡ true → (t ≡ u → ⊥) → IsInOrder (bits_due t ds ++ (bits_due u es ++ rest)) → instant_lt t u ≡ true
+first-before : (t u : Instant) (ds es : List (ℕ × Bool)) (rest : Wish) → is_filled ds ≡ true → is_filled es ≡ true → (t ≡ u → ⊥) → IsInOrder (bits_due t ds ++ (bits_due u es ++ rest))
+    → instant_lt t u ≡ true
 first-before t u [] es rest f g n s = cc
 first-before t u (d ∷ ds) [] rest f g n s = cc
 first-before t u (d ∷ ds) (e ∷ es) rest f g n s = less-instant t u d.0 e.0 (all-right (due_bit t d.0) (bits_due t ds) (bits_due u (e ∷ es) ++ rest) s.0).0 n
@@ -102,4 +106,9 @@ apart-first e (x ∷ more) a = a.0
 pub grouped-of : (ws : List (Instant × List (ℕ × Bool))) → Apart ws → IsInOrder (writes_wish ws) → IsGrouped ws
 grouped-of [] a s = tt
 grouped-of (d ∷ []) a s = (a, bits-rise d.0 d.1 [] s, tt, tt)
-grouped-of (d ∷ e ∷ more) a s = (a.0, bits-rise d.0 d.1 (writes_wish (e ∷ more)) s, first-before d.0 e.0 d.1 e.1 (writes_wish more) a.0 (apart-first e more a.2) a.1 s, grouped-of (e ∷ more) a.2 (ordered-right (bits_due d.0 d.1) (writes_wish (e ∷ more)) s))
+grouped-of (d ∷ e ∷ more) a s = (
+  a.0,
+  bits-rise d.0 d.1 (writes_wish (e ∷ more)) s,
+  first-before d.0 e.0 d.1 e.1 (writes_wish more) a.0 (apart-first e more a.2) a.1 s,
+  grouped-of (e ∷ more) a.2 (ordered-right (bits_due d.0 d.1) (writes_wish (e ∷ more)) s),
+)

@@ -80,7 +80,8 @@ below-bit t i b (e ∷ es) h = at (due_bit_cmp (due_bit t i) e.0) refl (below-bi
         ap (λ j. below (due_bit t (i + 1)) ((j, b) ∷ es)) q
         ∙ ap (λ o. if is_lt o then (due_bit t i, b) ∷ below (due_bit t (i + 1)) es else below (due_bit t (i + 1)) es) less
         ∙ ap (λ w. (due_bit t i, b) ∷ w) (below-none (due_bit t (i + 1)) es (from_next t i es x))
-        ∙ sym (ap (λ w. w ++ (due_bit t i, b) ∷ []) (below-none (due_bit t i) (e ∷ es) (ap (λ j. is_lt (due_bit_cmp j (due_bit t i))) q ∙ ap is_lt (due_bit_self (due_bit t i)), from_self (due_bit t i) es x)))
+        ∙ sym (ap (λ w. w ++ (due_bit t i, b) ∷ [])
+        (below-none (due_bit t i) (e ∷ es) (ap (λ j. is_lt (due_bit_cmp j (due_bit t i))) q ∙ ap is_lt (due_bit_self (due_bit t i)), from_self (due_bit t i) es x)))
     at Greater p ih =
         let q : is_below (due_bit t i) e ≡ true = ap is_lt (turned (due_bit t i) e.0 p) in
         let r : is_below (due_bit t (i + 1)) e ≡ true = raised t i (i + 1) e.0 (omega arith) q in

@@ -4,7 +4,7 @@ use Rattle.std.specs.List.{filter}
 use Rattle.std.specs.Ordering.{is_lt}
 use Rattle.lh_time.specs.declared.Instant.{Instant}
 use Rattle.lh_types.specs.Wish.{DueBit, Wish, due_bit, due_bit_cmp, IsInOrder}
-use Rattle.lh_wishes.specs.declared.run.Run.{Run}
+use Rattle.lh_wishes.specs.declared.run.WishRun.{WishRun}
 use Rattle.lh_wishes.specs.declared.runs.RunList.{RunList}
 use Rattle.lh_wishes.specs.declared.runs.RunList.TheVariants.{Empty, One, Many}
 use Rattle.lh_wishes.specs.Grouped.{is_filled}
@@ -15,16 +15,16 @@ row_wish t lo [] = []
 row_wish t lo (b ∷ bs) = (due_bit t lo, b) ∷ row_wish t (lo + 1) bs
 
 -- the entries of a run
-abbrev pub run_wish : Run → Wish
+abbrev pub run_wish : WishRun → Wish
 run_wish r = row_wish r.due r.lo r.bits
 
 -- the entries of runs, one after the other
-abbrev pub runs_wish : List Run → Wish
+abbrev pub runs_wish : List WishRun → Wish
 runs_wish [] = []
 runs_wish (r ∷ more) = run_wish r ++ runs_wish more
 
 -- the runs of a list, in order
-abbrev pub runs_in : RunList → List Run
+abbrev pub runs_in : RunList → List WishRun
 runs_in Empty = []
 runs_in (One r) = r ∷ []
 runs_in (Many rs) = rs.items
@@ -52,11 +52,11 @@ AllFrom k [] = Unit {0}
 AllFrom k (e ∷ more) = (is_below k e ≡ false) × AllFrom k more
 
 -- no run is empty
-abbrev pub EachFilled : List Run → Type 0
+abbrev pub EachFilled : List WishRun → Type 0
 EachFilled [] = Unit {0}
 EachFilled (r ∷ more) = (is_filled r.bits ≡ true) × EachFilled more
 
 -- what runs have to be
-pub record AreRuns (rs : List Run) : Type 0 where
+pub record AreRuns (rs : List WishRun) : Type 0 where
   pub ordered : IsInOrder (runs_wish rs)
   pub filled : EachFilled rs

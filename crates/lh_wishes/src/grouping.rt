@@ -4,7 +4,7 @@ ghost use Rattle.lh_types.specs.Writes.{numbered, writes_wish};
 ghost use Rattle.lh_wishes.specs.Grouped.{is_filled, Apart};
 ghost use Rattle.lh_wishes.specs.Runs.{run_wish, runs_wish, runs_in};
 
-use crate::run::Run;
+use crate::run::WishRun;
 use crate::runs::RunList;
 use lh_time::Instant;
 use lh_types::ty::NoMemory;
@@ -24,7 +24,7 @@ pub(crate) fn grouped(alloc: Global, runs: RunList) -> Result<Vec<(Instant, BitW
 }
 
 /// One run by its instant.
-fn group_of(alloc: Global, run: Run) -> Result<Vec<(Instant, BitWrites)>, NoMemory>
+fn group_of(alloc: Global, run: WishRun) -> Result<Vec<(Instant, BitWrites)>, NoMemory>
     ensures wish { IfOk result (λ all. writes_wish all.items ≡ runs_wish (run ∷ [])) }
     ensures apart { IfOk result (λ all. Apart all.items) }
 {
@@ -34,7 +34,7 @@ fn group_of(alloc: Global, run: Run) -> Result<Vec<(Instant, BitWrites)>, NoMemo
 }
 
 /// Many runs by their instants.
-fn groups_of(alloc: Global, runs: Vec<Run>) -> Result<Vec<(Instant, BitWrites)>, NoMemory>
+fn groups_of(alloc: Global, runs: Vec<WishRun>) -> Result<Vec<(Instant, BitWrites)>, NoMemory>
     ensures wish { IfOk result (λ all. writes_wish all.items ≡ runs_wish runs.items) }
     ensures apart { IfOk result (λ all. Apart all.items) }
 {
@@ -46,7 +46,7 @@ fn groups_of(alloc: Global, runs: Vec<Run>) -> Result<Vec<(Instant, BitWrites)>,
 }
 
 /// Adds a run behind the last one, to the list of its instant where that is the last; an empty one it leaves out.
-fn add(alloc: Global, all: &mut Vec<(Instant, BitWrites)>, run: Run) -> Result<(), NoMemory>
+fn add(alloc: Global, all: &mut Vec<(Instant, BitWrites)>, run: WishRun) -> Result<(), NoMemory>
     ensures wish { OnOk result (writes_wish all.new.items ≡ writes_wish all.old.items ++ run_wish run) }
     ensures apart { Apart all.old.items → OnOk result (Apart all.new.items) }
 {
@@ -64,7 +64,7 @@ fn add_behind(
     alloc: Global,
     all: &mut Vec<(Instant, BitWrites)>,
     last: (Instant, BitWrites),
-    run: Run,
+    run: WishRun,
 ) -> Result<(), NoMemory>
     requires { is_filled run.bits ≡ true }
     ensures wish { OnOk result (writes_wish all.new.items ≡ writes_wish (all.old.items ++ last ∷ []) ++ run_wish run) }
@@ -80,7 +80,11 @@ fn add_behind(
 }
 
 /// Adds a run with a list of its own.
-fn push_new(alloc: Global, all: &mut Vec<(Instant, BitWrites)>, run: Run) -> Result<(), NoMemory>
+fn push_new(
+    alloc: Global,
+    all: &mut Vec<(Instant, BitWrites)>,
+    run: WishRun,
+) -> Result<(), NoMemory>
     ensures { OnOk result (all.new.items ≡ all.old.items ++ (run.due, numbered run.lo run.bits) ∷ []) }
 {
     let mut writes = BitWrites::new(alloc);
@@ -95,8 +99,6 @@ fn push_due(
 ) -> Result<(), NoMemory>
     ensures { OnOk result (all.new.items ≡ all.old.items ++ (due, writes) ∷ []) }
 {
-    match all.push((due, writes)) {
-        Ok(()) => Ok(()),
-        Err(_) => Err(NoMemory),
-    }
+    all.push((due, writes))?;
+    Ok(())
 }

@@ -9,14 +9,14 @@ use std::cmp::Ordering;
 
 /// Bits in a row that are due at one instant, from bit `lo` of the signals on.
 #[derive(Drop)]
-pub(crate) struct Run {
+pub(crate) struct WishRun {
     pub due: Instant,
     pub lo: u32,
     pub bits: Bits,
     ghost fits: { lo + length bits ≤ 2 ^ 32 },
 }
 
-impl Run {
+impl WishRun {
     ghost use Rattle.std.specs.Prelude.{◌≡◌, take, drop, IsTrue, IfOk};
     ghost use Rattle.lh_types.specs.Wish.{due_bit};
     ghost use Rattle.lh_wishes.specs.Runs.{run_wish, below, above, AllBelow, AllFrom};
@@ -44,7 +44,7 @@ impl Run {
     }
 
     /// What of it is below a bit at an instant.
-    pub(crate) fn low_part(&self, due: Instant, lo: u32) -> Result<Run, NoMemory>
+    pub(crate) fn low_part(&self, due: Instant, lo: u32) -> Result<WishRun, NoMemory>
         ensures { IfOk result (λ r. run_wish r ≡ below (due_bit due lo) (run_wish self.now)) }
     {
         let n = match self.due.cmp(&due) {
@@ -53,7 +53,7 @@ impl Run {
             Ordering::Greater => 0,
         };
         let bits = first_bits(&self.bits, n)?;
-        Ok(Run {
+        Ok(WishRun {
             due: self.due,
             lo: self.lo,
             bits,
@@ -61,7 +61,7 @@ impl Run {
     }
 
     /// What of it is at a bit at an instant, or comes later.
-    pub(crate) fn high_part(&self, due: Instant, hi: u32) -> Result<Run, NoMemory>
+    pub(crate) fn high_part(&self, due: Instant, hi: u32) -> Result<WishRun, NoMemory>
         ensures { IfOk result (λ r. run_wish r ≡ above (due_bit due hi) (run_wish self.now)) }
     {
         let (lo, n) = match self.due.cmp(&due) {
@@ -76,7 +76,7 @@ impl Run {
             Ordering::Greater => (self.lo, 0),
         };
         let bits = other_bits(&self.bits, n)?;
-        Ok(Run {
+        Ok(WishRun {
             due: self.due,
             lo,
             bits,

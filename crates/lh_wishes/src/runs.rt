@@ -4,7 +4,7 @@ ghost use Rattle.lh_types.specs.Wish.{with_bits, due_bit};
 ghost use Rattle.lh_wishes.specs.Grouped.{is_filled};
 ghost use Rattle.lh_wishes.specs.Runs.{run_wish, runs_wish, runs_in, below, above, AllBelow, AllFrom, EachFilled, AreRuns};
 
-use crate::run::Run;
+use crate::run::WishRun;
 use lh_time::Instant;
 use lh_types::ty::NoMemory;
 use std::alloc::Global;
@@ -13,12 +13,12 @@ use std::alloc::Global;
 #[derive(Drop)]
 pub(crate) enum RunList {
     Empty,
-    One(Run),
-    Many(Vec<Run>),
+    One(WishRun),
+    Many(Vec<WishRun>),
 }
 
 /// The list with one run more; it replaces what the runs have for its bits at its instant.
-pub(crate) fn with_more(alloc: Global, runs: RunList, run: Run) -> Result<RunList, NoMemory>
+pub(crate) fn with_more(alloc: Global, runs: RunList, run: WishRun) -> Result<RunList, NoMemory>
     requires runs { AreRuns (runs_in runs) }
     requires filled { is_filled run.bits ≡ true }
     requires fits { run.lo + length run.bits < 2 ^ 32 }
@@ -36,7 +36,7 @@ pub(crate) fn with_more(alloc: Global, runs: RunList, run: Run) -> Result<RunLis
 }
 
 /// A run alone, with room for one more.
-fn alone(alloc: Global, run: Run) -> Result<Vec<Run>, NoMemory>
+fn alone(alloc: Global, run: WishRun) -> Result<Vec<WishRun>, NoMemory>
     ensures { IfOk result (λ rs. rs.items ≡ run ∷ []) }
 {
     let mut runs = Vec::with_capacity(alloc, 2)?;
@@ -45,7 +45,7 @@ fn alone(alloc: Global, run: Run) -> Result<Vec<Run>, NoMemory>
 }
 
 /// Adds a run at the end, unless it is empty.
-fn put_filled(runs: &mut Vec<Run>, run: Run) -> Result<(), NoMemory>
+fn put_filled(runs: &mut Vec<WishRun>, run: WishRun) -> Result<(), NoMemory>
     ensures wish { OnOk result (runs_wish runs.new.items ≡ runs_wish runs.old.items ++ run_wish run) }
     ensures filled { EachFilled runs.old.items → OnOk result (EachFilled runs.new.items) }
 {
@@ -57,7 +57,7 @@ fn put_filled(runs: &mut Vec<Run>, run: Run) -> Result<(), NoMemory>
 }
 
 /// How many runs at the front are below a bit at an instant; by halves.
-fn count_below(runs: &[Run], due: Instant, lo: u32) -> usize
+fn count_below(runs: &[WishRun], due: Instant, lo: u32) -> usize
     requires { AreRuns runs.now }
     ensures within { result ≤ length runs.now }
     ensures below { AllBelow (due_bit due lo) (runs_wish (take result runs.now)) }
@@ -76,7 +76,7 @@ fn count_below(runs: &[Run], due: Instant, lo: u32) -> usize
 }
 
 /// The first place from a given one on behind which no run is below a bit at an instant.
-fn place_from(runs: &[Run], from: usize, due: Instant, hi: u32) -> usize
+fn place_from(runs: &[WishRun], from: usize, due: Instant, hi: u32) -> usize
     requires runs { AreRuns runs.now }
     requires within { from ≤ length runs.now }
     ensures from { from ≤ result }
@@ -91,7 +91,7 @@ fn place_from(runs: &[Run], from: usize, due: Instant, hi: u32) -> usize
 }
 
 /// The runs with one more; it replaces what they have for its bits at its instant.
-fn with_run(alloc: Global, mut runs: Vec<Run>, run: Run) -> Result<Vec<Run>, NoMemory>
+fn with_run(alloc: Global, mut runs: Vec<WishRun>, run: WishRun) -> Result<Vec<WishRun>, NoMemory>
     requires runs { AreRuns runs.items }
     requires filled { is_filled run.bits ≡ true }
     requires fits { run.lo + length run.bits < 2 ^ 32 }
@@ -113,12 +113,12 @@ fn with_run(alloc: Global, mut runs: Vec<Run>, run: Run) -> Result<Vec<Run>, NoM
 /// Runs, then what of the next ones is below a run, then the run, then what of them is above it, then further runs.
 fn replace(
     alloc: Global,
-    mut runs: Vec<Run>,
-    cut: &[Run],
-    mut after: Vec<Run>,
-    run: Run,
+    mut runs: Vec<WishRun>,
+    cut: &[WishRun],
+    mut after: Vec<WishRun>,
+    run: WishRun,
     hi: u32,
-) -> Result<Vec<Run>, NoMemory>
+) -> Result<Vec<WishRun>, NoMemory>
     requires before { EachFilled runs.items }
     requires after { EachFilled after.items }
     requires filled { is_filled run.bits ≡ true }

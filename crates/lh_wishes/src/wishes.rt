@@ -5,7 +5,7 @@ ghost use Rattle.lh_types.specs.Writes.{writes_wish};
 ghost use Rattle.lh_wishes.specs.Grouped.{IsGrouped};
 
 use crate::grouping::grouped;
-use crate::run::Run;
+use crate::run::WishRun;
 use crate::runs::{RunList, with_more};
 use lh_time::Instant;
 use lh_types::bits::Bits;
@@ -59,7 +59,7 @@ impl Wishes {
             return Ok(());
         }
         let runs = mem::replace(&mut self.runs, RunList::Empty);
-        self.runs = with_more(self.alloc, runs, Run { due, lo, bits })?;
+        self.runs = with_more(self.alloc, runs, WishRun { due, lo, bits })?;
         Ok(())
     }
 

@@ -5,8 +5,8 @@ use Rattle.std.specs.List.{flat_map}
 use Rattle.std.specs.Str.{bytes_eq}
 use Rattle.lh_unit.specs.declared.name.UnitName.{UnitName}
 use Rattle.lh_unit.specs.Numerals.{number_of}
-use Rattle.lh_words.specs.Forms.{Choice, spelled, names_in, numbers_in, titles_in, vcds_in, name_meant, IsCount, max_steps, Simulation, Simulates, Asked, check, lower, simulate, Asks, AsksSelfTest}
-use Rattle.lh_words.specs.declared.found.Found.{Found}
+use Rattle.lh_words.specs.Forms.{Choice, spelled, names_in, numbers_in, titles_in, vcds_in, name_meant, IsCount, max_steps, SimulateRequest, Simulates, FileRequest, check, lower, simulate, WordsAskFor, WordsAskForSelfTest}
+use Rattle.lh_words.specs.declared.found.FoundOptions.{FoundOptions}
 use Rattle.lh_words.specs.Found.{AtMostOnce, IsAllFound}
 use Rattle.lh_words.specs.Meant.{titles_from, at_option}
 use Rattle.lh_words.proofs.Options.{written-unique}
@@ -21,7 +21,7 @@ vcds_few true n e = omega arith
 vcds_few false n e = omega arith
 
 -- the options of a simulation are given as often as they may be
-pub once : (words : List (List ℕ)) (s : Simulation) (p : Simulates words s) → AtMostOnce p.options
+pub once : (words : List (List ℕ)) (s : SimulateRequest) (p : Simulates words s) → AtMostOnce p.options
 once words s p =
     record {
       tops = let e : length (names_in p.options) ≡ 1 = ap length p.one_top in omega arith;
@@ -30,30 +30,30 @@ once words s p =
     }
 
 -- the words behind `simulate` are the options
-pub behind_first : (options : List (List ℕ)) (s : Simulation) (p : Simulates (codes "simulate" ∷ options) s) → options ≡ flat_map spelled p.options
+pub behind_first : (options : List (List ℕ)) (s : SimulateRequest) (p : Simulates (codes "simulate" ∷ options) s) → options ≡ flat_map spelled p.options
 behind_first options s p = cc (p.written)
 
-pub not_options : (options : List (List ℕ)) → ((all : List Choice) → options ≡ flat_map spelled all → AtMostOnce all → ⊥) → (s : Simulation) → Simulates (codes "simulate" ∷ options) s → ⊥
+pub not_options : (options : List (List ℕ)) → ((all : List Choice) → options ≡ flat_map spelled all → AtMostOnce all → ⊥) → (s : SimulateRequest) → Simulates (codes "simulate" ∷ options) s → ⊥
 not_options options none s p = none p.options (behind_first options s p) (once _ s p)
 
 -- the options that were found are those of the simulation
-same_options : (options : List (List ℕ)) (f : Found) (a : IsAllFound options f) (s : Simulation) (p : Simulates (codes "simulate" ∷ options) s) → a.all ≡ p.options
+same_options : (options : List (List ℕ)) (f : FoundOptions) (a : IsAllFound options f) (s : SimulateRequest) (p : Simulates (codes "simulate" ∷ options) s) → a.all ≡ p.options
 same_options options f a s p = written-unique a.all p.options (sym a.written ∙ behind_first options s p)
 
-pub no_top : (options : List (List ℕ)) (f : Found) → IsAllFound options f → f.top ≡ None → (s : Simulation) → Simulates (codes "simulate" ∷ options) s → ⊥
+pub no_top : (options : List (List ℕ)) (f : FoundOptions) → IsAllFound options f → f.top ≡ None → (s : SimulateRequest) → Simulates (codes "simulate" ∷ options) s → ⊥
 no_top options f a none s p =
     let has : names_in a.all ≡ p.name ∷ [] = ap names_in (same_options options f a s p) ∙ p.one_top in
     let has_none : names_in a.all ≡ [] = rw none at a.found.top in
     cc
 
-pub no_steps : (options : List (List ℕ)) (f : Found) → IsAllFound options f → f.steps ≡ None → (s : Simulation) → Simulates (codes "simulate" ∷ options) s → ⊥
+pub no_steps : (options : List (List ℕ)) (f : FoundOptions) → IsAllFound options f → f.steps ≡ None → (s : SimulateRequest) → Simulates (codes "simulate" ∷ options) s → ⊥
 no_steps options f a none s p =
     let has : numbers_in a.all ≡ p.number ∷ [] = ap numbers_in (same_options options f a s p) ∙ p.one_number in
     let has_none : numbers_in a.all ≡ [] = rw none at a.found.steps in
     cc
 
-pub no_count : (options : List (List ℕ)) (f : Found) (number : Bor (List ℕ)) → IsAllFound options f → f.steps ≡ Some number → ((n : ℕ) → IsCount max_steps number.now n → ⊥)
-    → (s : Simulation) → Simulates (codes "simulate" ∷ options) s → ⊥
+pub no_count : (options : List (List ℕ)) (f : FoundOptions) (number : Bor (List ℕ)) → IsAllFound options f → f.steps ≡ Some number → ((n : ℕ) → IsCount max_steps number.now n → ⊥)
+    → (s : SimulateRequest) → Simulates (codes "simulate" ∷ options) s → ⊥
 no_count options f number a some none s p =
     let has : numbers_in a.all ≡ p.number ∷ [] = ap numbers_in (same_options options f a s p) ∙ p.one_number in
     let found : numbers_in a.all ≡ number.now ∷ [] = rw some at a.found.steps in
@@ -64,7 +64,8 @@ vcds_match : (b : Bool) (n : ℕ) → n ≡ cond b 1 0 → MatchBool b (n ≡ 1)
 vcds_match true n e = e
 vcds_match false n e = e
 
-pub simulates : (options : List (List ℕ)) (f : Found) (name number : Bor (List ℕ)) (n : ℕ) (unit : UnitName) → IsAllFound options f → f.top ≡ Some name → f.steps ≡ Some number → IsCount max_steps number.now n → unit ≡ name_meant name.now
+pub simulates : (options : List (List ℕ)) (f : FoundOptions) (name number : Bor (List ℕ)) (n : ℕ) (unit : UnitName) → IsAllFound options f → f.top ≡ Some name → f.steps ≡ Some number
+    → IsCount max_steps number.now n → unit ≡ name_meant name.now
     → Simulates (codes "simulate" ∷ options) (record { top = unit; steps = n; vcd = f.vcd; titles = titles_from at_option options })
 simulates options f name number n unit a top steps count meant =
     record {
@@ -87,10 +88,10 @@ same_vcd false false n p q = refl
 same_vcd true false n p q = absurd (omega arith)
 same_vcd false true n p q = absurd (omega arith)
 
-same_simulation : (s t : Simulation) → s.top ≡ t.top → s.steps ≡ t.steps → s.vcd ≡ t.vcd → s.titles ≡ t.titles → s ≡ t
+same_simulation : (s t : SimulateRequest) → s.top ≡ t.top → s.steps ≡ t.steps → s.vcd ≡ t.vcd → s.titles ≡ t.titles → s ≡ t
 same_simulation s t p q r u = λ i. record { top = p i; steps = q i; vcd = r i; titles = u i }
 
-one_simulation : (words : List (List ℕ)) (s t : Simulation) → Simulates words s → Simulates words t → s ≡ t
+one_simulation : (words : List (List ℕ)) (s t : SimulateRequest) → Simulates words s → Simulates words t → s ≡ t
 one_simulation words s t p q =
     let first : codes "simulate" ∷ flat_map spelled p.options ≡ codes "simulate" ∷ flat_map spelled q.options = sym p.written ∙ q.written in
     let behind : flat_map spelled p.options ≡ flat_map spelled q.options = cc in
@@ -102,10 +103,11 @@ one_simulation words s t p q =
     let said : Some s.steps ≡ Some t.steps = sym p.steps_said.says ∙ ap number_of number ∙ q.steps_said.says in
     let steps : s.steps ≡ t.steps = cc in
     let vcd : MatchBool t.vcd (vcds_in p.options ≡ 1) (vcds_in p.options ≡ 0) = subst (λ l. MatchBool t.vcd (vcds_in l ≡ 1) (vcds_in l ≡ 0)) (sym options) q.vcd_at_most_once in
-    same_simulation s t (p.top_meant ∙ ap name_meant name ∙ sym q.top_meant) steps (same_vcd s.vcd t.vcd (vcds_in p.options) p.vcd_at_most_once vcd) (p.titles_given ∙ ap titles_in options ∙ sym q.titles_given)
+    same_simulation s t (p.top_meant ∙ ap name_meant name ∙ sym q.top_meant) steps (same_vcd s.vcd t.vcd (vcds_in p.options) p.vcd_at_most_once vcd)
+    (p.titles_given ∙ ap titles_in options ∙ sym q.titles_given)
 
 -- the first word of a simulation
-simulate-first : (words : List (List ℕ)) (s : Simulation) (w : List ℕ) → Simulates words s → words ≡ w ∷ [] → w ≡ codes "simulate"
+simulate-first : (words : List (List ℕ)) (s : SimulateRequest) (w : List ℕ) → Simulates words s → words ≡ w ∷ [] → w ≡ codes "simulate"
 simulate-first words s w p e = let f : w ∷ [] ≡ codes "simulate" ∷ flat_map spelled p.options = sym e ∙ p.written in cc
 
 one-same : (v w : List ℕ) → v ∷ [] ≡ w ∷ [] → v ≡ w
@@ -120,7 +122,7 @@ check-no-simulate e = cc
 lower-no-simulate : codes "lower" ≡ codes "simulate" → ⊥
 lower-no-simulate e = cc
 
-pub one_form : (words : List (List ℕ)) (a b : Asked) → Asks words a → Asks words b → a ≡ b
+pub one_form : (words : List (List ℕ)) (a b : FileRequest) → WordsAskFor words a → WordsAskFor words b → a ≡ b
 one_form words check check p q = refl
 one_form words lower lower p q = refl
 one_form words (simulate s) (simulate t) p q = ap simulate (one_simulation words s t p q)
@@ -132,7 +134,7 @@ one_form words lower (simulate t) p q = absurd (lower-no-simulate (simulate-firs
 one_form words (simulate s) lower p q = absurd (lower-no-simulate (simulate-first words s (codes "lower") p q))
 
 -- self-tests
-pub one_self_test : (words : List (List ℕ)) (n m : ℕ) → AsksSelfTest words n → AsksSelfTest words m → n ≡ m
+pub one_self_test : (words : List (List ℕ)) (n m : ℕ) → WordsAskForSelfTest words n → WordsAskForSelfTest words m → n ≡ m
 one_self_test words n m p q =
     let same : codes "selftest" ∷ p.number ∷ [] ≡ codes "selftest" ∷ q.number ∷ [] = sym p.written ∙ q.written in
     let number : p.number ≡ q.number = cc in
@@ -146,11 +148,11 @@ two_words v w x more e = cc
 no_simulate : codes "selftest" ≡ codes "simulate" → ⊥
 no_simulate e = let q : true ≡ false = ap (bytes_eq (codes "selftest")) e in cc
 
-pub no_file : (words : List (List ℕ)) (links : ℕ) (a : Asked) → AsksSelfTest words links → Asks words a → ⊥
+pub no_file : (words : List (List ℕ)) (links : ℕ) (a : FileRequest) → WordsAskForSelfTest words links → WordsAskFor words a → ⊥
 no_file words links check p q = let e : codes "selftest" ∷ p.number ∷ [] ≡ codes "check" ∷ [] = sym p.written ∙ q in cc
 no_file words links lower p q = let e : codes "selftest" ∷ p.number ∷ [] ≡ codes "lower" ∷ [] = sym p.written ∙ q in cc
 no_file words links (simulate s) p q = no_simulate (two_words (codes "selftest") p.number (codes "simulate") (flat_map spelled q.options) (sym p.written ∙ q.written))
 
 -- more or fewer words than two ask for none
-pub no_number : (words more : List (List ℕ)) → words ≡ codes "selftest" ∷ more → more ≡ [] → (links : ℕ) → AsksSelfTest words links → ⊥
+pub no_number : (words more : List (List ℕ)) → words ≡ codes "selftest" ∷ more → more ≡ [] → (links : ℕ) → WordsAskForSelfTest words links → ⊥
 no_number words more is none links p = let e : codes "selftest" ∷ p.number ∷ [] ≡ codes "selftest" ∷ [] = sym p.written ∙ is ∙ ap (λ m. codes "selftest" ∷ m) none in cc

@@ -53,24 +53,24 @@ pub record IsCount (most : ℕ) (word : List ℕ) (n : ℕ) : Type 0 where
   pub at_most : n ≤ most
 
 -- what `simulate` is asked for: a top, a bound on frames, whether a waveform, and the titles of watchers
-pub record Simulation : Type 0 where
+pub record SimulateRequest : Type 0 where
   pub top : UnitName
   pub steps : ℕ
   pub vcd : Bool
   pub titles : List (List ℕ)
 
 -- what the program is asked to do of a file
-pub data Asked : Type 0 where
-  check : Asked
-  lower : Asked
-  simulate : Simulation → Asked
+pub data FileRequest : Type 0 where
+  check : FileRequest
+  lower : FileRequest
+  simulate : SimulateRequest → FileRequest
 
 abbrev pub max_steps : ℕ
 max_steps = 1000000
 
 -- The words ask for this simulation: they are `simulate` and then options in any order, `--top` and `--steps` once each,
 -- `--vcd` at most once and `--watch` any number of times.
-pub record Simulates (words : List (List ℕ)) (s : Simulation) : Type 0 where
+pub record Simulates (words : List (List ℕ)) (s : SimulateRequest) : Type 0 where
   pub options : List Choice
   pub name : List ℕ
   pub number : List ℕ
@@ -86,30 +86,30 @@ abbrev pub max_links : ℕ
 max_links = 1000
 
 -- The words ask for a test of the program itself, on a chain of this many links: they are `selftest` and a number.
-pub record AsksSelfTest (words : List (List ℕ)) (links : ℕ) : Type 0 where
+pub record WordsAskForSelfTest (words : List (List ℕ)) (links : ℕ) : Type 0 where
   pub number : List ℕ
   pub written : words ≡ codes "selftest" ∷ number ∷ []
   pub links_said : IsCount max_links number links
 
 -- the words ask for this of a file
-abbrev pub Asks : List (List ℕ) → Asked → Type 0
-Asks words check = words ≡ codes "check" ∷ []
-Asks words lower = words ≡ codes "lower" ∷ []
-Asks words (simulate s) = Simulates words s
+abbrev pub WordsAskFor : List (List ℕ) → FileRequest → Type 0
+WordsAskFor words check = words ≡ codes "check" ∷ []
+WordsAskFor words lower = words ≡ codes "lower" ∷ []
+WordsAskFor words (simulate s) = Simulates words s
 
 -- the words have none of the forms
 pub record HasNoForm (words : List (List ℕ)) : Type 0 where
-  pub on_file : (a : Asked) → Asks words a → ⊥
-  pub self_test : (links : ℕ) → AsksSelfTest words links → ⊥
+  pub on_file : (a : FileRequest) → WordsAskFor words a → ⊥
+  pub self_test : (links : ℕ) → WordsAskForSelfTest words links → ⊥
 
 -- no words ask for two things of a file
 abbrev pub OneForm : Type 0
-OneForm = (words : List (List ℕ)) (a b : Asked) → Asks words a → Asks words b → a ≡ b
+OneForm = (words : List (List ℕ)) (a b : FileRequest) → WordsAskFor words a → WordsAskFor words b → a ≡ b
 
 -- no words ask for two self-tests
 abbrev pub OneSelfTest : Type 0
-OneSelfTest = (words : List (List ℕ)) (n m : ℕ) → AsksSelfTest words n → AsksSelfTest words m → n ≡ m
+OneSelfTest = (words : List (List ℕ)) (n m : ℕ) → WordsAskForSelfTest words n → WordsAskForSelfTest words m → n ≡ m
 
 -- words that ask for a self-test ask for nothing of a file
 abbrev pub NoFileForSelfTest : Type 0
-NoFileForSelfTest = (words : List (List ℕ)) (links : ℕ) (a : Asked) → AsksSelfTest words links → Asks words a → ⊥
+NoFileForSelfTest = (words : List (List ℕ)) (links : ℕ) (a : FileRequest) → WordsAskForSelfTest words links → WordsAskFor words a → ⊥

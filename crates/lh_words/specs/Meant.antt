@@ -11,7 +11,7 @@ use Rattle.lh_words.specs.declared.command.FileCommand.{FileCommand}
 use Rattle.lh_words.specs.declared.command.FileCommand.TheVariants as on_file
 use Rattle.lh_words.specs.declared.command.Command.{Command}
 use Rattle.lh_words.specs.declared.command.Command.TheVariants as command
-use Rattle.lh_words.specs.Forms.{Choice, top, steps, vcd, watch, Simulation, Asked, check, lower, simulate, Asks, AsksSelfTest}
+use Rattle.lh_words.specs.Forms.{Choice, top, steps, vcd, watch, SimulateRequest, FileRequest, check, lower, simulate, WordsAskFor, WordsAskForSelfTest}
 
 -- what the next word is
 pub data Turn : Type 0 where
@@ -38,7 +38,7 @@ choice_of (setting.Watch title) = watch title.now
 abbrev pub top_of : Top → UnitName
 top_of t = record { sigil = t.sigil; name = t.name.now }
 
-abbrev pub simulation_of : Simulate → Simulation
+abbrev pub simulation_of : Simulate → SimulateRequest
 simulation_of s = record { top = top_of s.top; steps = s.steps; vcd = s.vcd; titles = titles_from at_option s.options.now }
 
 -- the titles that are still to come
@@ -46,12 +46,12 @@ abbrev pub titles_left : Titles → List (List ℕ)
 titles_left t = titles_from at_option t.words.now
 
 -- what a command asks for of a file
-abbrev pub meant : FileCommand → Asked
+abbrev pub meant : FileCommand → FileRequest
 meant on_file.Check = check
 meant on_file.Lower = lower
 meant (on_file.Simulate s) = simulate (simulation_of s)
 
 -- the words ask for what a command is
 abbrev pub IsMeant : List (List ℕ) → Command → Type 0
-IsMeant words (command.OnFile c) = Asks words (meant c)
-IsMeant words (command.Selftest links) = AsksSelfTest words links
+IsMeant words (command.OnFile c) = WordsAskFor words (meant c)
+IsMeant words (command.Selftest links) = WordsAskForSelfTest words links

@@ -1,7 +1,7 @@
 //! What the words of the command line ask for.
 ghost use Rattle.std.specs.Prelude.{◌≡◌, ◌++◌, ◌∷◌, [], ℕ, List, IfSome, IfNone, IsTrue, ◌↔◌, codes};
 ghost use Rattle.std.specs.Iterator.{YieldsFirstRef, item_count};
-ghost use Rattle.lh_words.specs.Forms.{Asked, Asks, AsksSelfTest, HasNoForm, Simulates, Simulation, name_meant};
+ghost use Rattle.lh_words.specs.Forms.{FileRequest, WordsAskFor, WordsAskForSelfTest, HasNoForm, Simulates, SimulateRequest, name_meant};
 ghost use Rattle.lh_words.specs.Meant.{IsMeant, meant, simulation_of, top_of, titles_left};
 
 use crate::choice::{Setting, first_choice};
@@ -77,8 +77,8 @@ pub fn command_of(words: &TextList) -> Option<Command<'_>>
 
 // What the words ask for of a file.
 fn file_command_of(words: &[ByteList]) -> Option<FileCommand<'_>>
-    ensures some { IfSome result (λ c. Asks words.now (meant c)) }
-    ensures none { IfNone result ((a : Asked) → Asks words.now a → ⊥) }
+    ensures some { IfSome result (λ c. WordsAskFor words.now (meant c)) }
+    ensures none { IfNone result ((a : FileRequest) → WordsAskFor words.now a → ⊥) }
 {
     if is_one(words, b"check") {
         return Some(FileCommand::Check);
@@ -93,8 +93,8 @@ fn file_command_of(words: &[ByteList]) -> Option<FileCommand<'_>>
 
 // The links of the self-test that the words ask for.
 fn links_asked(words: &[ByteList]) -> Option<u32>
-    ensures some { IfSome result (AsksSelfTest words.now) }
-    ensures none { IfNone result ((links : ℕ) → AsksSelfTest words.now links → ⊥) }
+    ensures some { IfSome result (WordsAskForSelfTest words.now) }
+    ensures none { IfNone result ((links : ℕ) → WordsAskForSelfTest words.now links → ⊥) }
 {
     let numbers = behind(words, b"selftest")?;
     let (number, more) = numbers.split_first()?;
@@ -127,7 +127,7 @@ fn behind<'a>(words: &'a [ByteList], word: &[u8]) -> Option<&'a [ByteList]>
 // The simulation that the words behind `simulate` ask for.
 fn simulation_of_options(options: &[ByteList]) -> Option<Simulate<'_>>
     ensures some { IfSome result (λ s. Simulates (codes "simulate" ∷ options.now) (simulation_of s)) }
-    ensures none { IfNone result ((s : Simulation) → Simulates (codes "simulate" ∷ options.now) s → ⊥) }
+    ensures none { IfNone result ((s : SimulateRequest) → Simulates (codes "simulate" ∷ options.now) s → ⊥) }
 {
     let found = found_in(options)?;
     let top = found.top?;

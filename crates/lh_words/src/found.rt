@@ -10,7 +10,7 @@ use lh_types::list::ByteList;
 
 /// The options that were found, by their values; the titles of watchers are found again where they are needed.
 #[derive(Clone, Copy)]
-pub struct Found<'a> {
+pub struct FoundOptions<'a> {
     pub top: Option<&'a [u8]>,
     pub steps: Option<&'a [u8]>,
     pub vcd: bool,
@@ -18,11 +18,11 @@ pub struct Found<'a> {
 
 /// The options that some words are; none where the words are no options, or one is given twice that may
 /// be given once.
-pub fn found_in(options: &[ByteList]) -> Option<Found<'_>>
+pub fn found_in(options: &[ByteList]) -> Option<FoundOptions<'_>>
     ensures some { IfSome result (λ f. IsAllFound options.now f) }
     ensures none { IfNone result ((all : List Choice) → options.now ≡ flat_map spelled all → AtMostOnce all → ⊥) }
 {
-    let mut found = Found {
+    let mut found = FoundOptions {
         top: None,
         steps: None,
         vcd: false,
@@ -36,9 +36,9 @@ pub fn found_in(options: &[ByteList]) -> Option<Found<'_>>
     Some(found)
 }
 
-impl<'a> Found<'a> {
+impl<'a> FoundOptions<'a> {
     // These and one more option; none where it was found before and may be given once.
-    fn with(self, setting: Setting<'a>) -> Option<Found<'a>>
+    fn with(self, setting: Setting<'a>) -> Option<FoundOptions<'a>>
         ensures some { IfSome result (λ f. (done : List Choice) → IsFound self.entry done → IsFound f (done ++ choice_of setting.entry ∷ [])) }
         ensures none { IfNone result ((done more : List Choice) → IsFound self.entry done → AtMostOnce (done ++ choice_of setting.entry ∷ more) → ⊥) }
     {
@@ -50,39 +50,39 @@ impl<'a> Found<'a> {
         }
     }
 
-    fn with_top(self, name: &'a [u8]) -> Option<Found<'a>>
+    fn with_top(self, name: &'a [u8]) -> Option<FoundOptions<'a>>
         ensures some { IfSome result (λ f. (done : List Choice) → IsFound self.entry done → IsFound f (done ++ top name.now ∷ [])) }
         ensures none { IfNone result ((done more : List Choice) → IsFound self.entry done → AtMostOnce (done ++ top name.now ∷ more) → ⊥) }
     {
         if self.top.is_some() {
             return None;
         }
-        Some(Found {
+        Some(FoundOptions {
             top: Some(name),
             ..self
         })
     }
 
-    fn with_steps(self, number: &'a [u8]) -> Option<Found<'a>>
+    fn with_steps(self, number: &'a [u8]) -> Option<FoundOptions<'a>>
         ensures some { IfSome result (λ f. (done : List Choice) → IsFound self.entry done → IsFound f (done ++ steps number.now ∷ [])) }
         ensures none { IfNone result ((done more : List Choice) → IsFound self.entry done → AtMostOnce (done ++ steps number.now ∷ more) → ⊥) }
     {
         if self.steps.is_some() {
             return None;
         }
-        Some(Found {
+        Some(FoundOptions {
             steps: Some(number),
             ..self
         })
     }
 
-    fn with_vcd(self) -> Option<Found<'a>>
+    fn with_vcd(self) -> Option<FoundOptions<'a>>
         ensures some { IfSome result (λ f. (done : List Choice) → IsFound self.entry done → IsFound f (done ++ vcd ∷ [])) }
         ensures none { IfNone result ((done more : List Choice) → IsFound self.entry done → AtMostOnce (done ++ vcd ∷ more) → ⊥) }
     {
         if self.vcd {
             return None;
         }
-        Some(Found { vcd: true, ..self })
+        Some(FoundOptions { vcd: true, ..self })
     }
 }

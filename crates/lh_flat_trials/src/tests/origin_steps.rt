@@ -9,7 +9,8 @@ use lh_parts::PartTable;
 use lh_term::part::Part;
 use lh_types::op::Op;
 use lh_types::ty::Ty;
-use lh_unit::inst::{Arg, Inst, NameList, Typed, TypedList, ValueId};
+use lh_types::written::WrittenTy;
+use lh_unit::inst::{Arg, Inst, NameList, OperandList, Typed, TypedList, ValueId};
 use std::alloc::Global;
 use std::test::Fail;
 
@@ -29,13 +30,13 @@ fn bits(alloc: Global, to: u32, from: u32, at: u32, len: u32) -> Result<FlatInst
     let mut args = TypedList::new(alloc);
     args.push(Typed {
         value: ValueId(from),
-        ty: Some(ty),
+        ty: WrittenTy::new(alloc, Some(ty))?,
     })?;
     Ok(FlatInst {
         result: Some(ValueId(to)),
         inst: Inst::Pure {
             op: Op::Exts { at, len },
-            args,
+            args: OperandList::from_list(args),
         },
     })
 }

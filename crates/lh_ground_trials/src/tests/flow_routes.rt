@@ -2,7 +2,7 @@
 ghost use Rattle.std.specs.Prelude.{◌≡◌, ◌<◌, true, length, All, IfOk};
 ghost use Rattle.lh_flow.specs.Routes.{LeadsWithin};
 
-use lh_flow::ask::{Ask, first_lacking};
+use lh_flow::ask::{FlowQuestion, first_lacking};
 use lh_flow::flow::Block;
 use lh_types::list::ListOf;
 use lh_types::ty::NoMemory;
@@ -63,7 +63,7 @@ fn long_flow(alloc: Global) -> Result<Vec<Block>, NoMemory>
 }
 
 /// Six questions on each of these blocks but the first, each on a value of an earlier block.
-fn long_asks(alloc: Global) -> Result<Vec<Ask>, NoMemory> {
+fn long_asks(alloc: Global) -> Result<Vec<FlowQuestion>, NoMemory> {
     let mut asks = Vec::new(alloc);
     for b in 1..20_000u32 {
         for k in 1..7u32 {
@@ -84,7 +84,7 @@ fn first_of_many(alloc: Global) -> Result<Option<usize>, NoMemory> {
 }
 
 /// The answer to these questions on the flow of these rows.
-fn first(alloc: Global, rows: &[Row], asks: &[Ask]) -> Result<Option<usize>, NoMemory> {
+fn first(alloc: Global, rows: &[Row], asks: &[FlowQuestion]) -> Result<Option<usize>, NoMemory> {
     let flow = flow(alloc, rows)?;
     if !are_within(asks, rows.len()) {
         return Err(NoMemory);
@@ -92,7 +92,7 @@ fn first(alloc: Global, rows: &[Row], asks: &[Ask]) -> Result<Option<usize>, NoM
     first_lacking(alloc, flow.as_slice(), asks, 128)
 }
 
-fn are_within(asks: &[Ask], limit: usize) -> bool
+fn are_within(asks: &[FlowQuestion], limit: usize) -> bool
     ensures { result ≡ true → All (λ ask. ask.block < limit) asks.now }
 {
     for ask in asks {
@@ -104,8 +104,8 @@ fn are_within(asks: &[Ask], limit: usize) -> bool
 }
 
 /// Asks at the start of a block.
-fn start(block: u32, value: u32) -> Ask {
-    Ask {
+fn start(block: u32, value: u32) -> FlowQuestion {
+    FlowQuestion {
         block,
         at_end: false,
         value,
@@ -113,8 +113,8 @@ fn start(block: u32, value: u32) -> Ask {
 }
 
 /// Asks at the end of a block.
-fn end(block: u32, value: u32) -> Ask {
-    Ask {
+fn end(block: u32, value: u32) -> FlowQuestion {
+    FlowQuestion {
         block,
         at_end: true,
         value,

@@ -1,7 +1,7 @@
 //! A queue through puts, looks and takes, and its buckets.
 ghost use Rattle.std.specs.Prelude.{◌≡◌, ◌≢◌, ◌⊎◌, ◌<◌, ℕ, length, get_or, true, IfOk};
 ghost use Rattle.lh_time.specs.Order.{instant_le};
-ghost use Rattle.lh_queue.specs.Held.{EachWithin, BitsWithin, NamesOnce, NoneDueBefore};
+ghost use Rattle.lh_queue.specs.Queued.{EachWithin, BitsWithin, NamesOnce, NoneDueBefore};
 ghost use Rattle.lh_ground_trials.specs.declared.tests.queue_order.Row.{Row};
 
 use lh_queue::queue::{Bucket, Queue};

@@ -21,5 +21,7 @@ loop-b-preserved c =
           ∙ joined-token c.loop-b.found c.loop-b.at c.in-Some.b.now c.in-Some.more.now c.in-Ok.kind c.in-Ok.len w x c.in-Ok.ensures.token
           ∙ ap (λ l. joined c.loop-b.found (tokens_after c.loop-b.at 0 l)) (sym e)
           ∙ c.loop-b.invariant.found_first;
-      place = let q : length c.loop-b.rest.now ≡ length c.in-Some.more.now + 1 = grind (arith, common_steps, ap length e) in let z : c.loop-b.at + length c.loop-b.rest.now ≡ length c.args.text.now = c.loop-b.invariant.place in ap (λ n. c.loop-b.at + 1 + c.in-Ok.len + n) (ap length left) ∙ grind (arith, common_steps);
+      place = let q : length c.loop-b.rest.now ≡ length c.in-Some.more.now + 1 = grind (arith, common_steps, ap length e) in
+          let z : c.loop-b.at + length c.loop-b.rest.now ≡ length c.args.text.now = c.loop-b.invariant.place in
+          ap (λ n. c.loop-b.at + 1 + c.in-Ok.len + n) (ap length left) ∙ grind (arith, common_steps);
     }

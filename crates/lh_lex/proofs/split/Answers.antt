@@ -6,7 +6,8 @@ use Rattle.lh_lex.proofs.split.Goals as goal
 pub returns-clause-taken : goal.returns-clause-taken
 returns-clause-taken c =
     let e : c.args.text.now ≡ c.in_ok-b.b.now ∷ c.in_ok-b.more.now = search rules in
-    split-taken c.args.text.now c.in_ok-b.b.now c.in_ok-b.more.now c.in-Ok.kind c.in-Ok.len c.from_token.result.now e (subst IsSettled e c.requires.settled) c.in-Ok.ensures.lexeme c.from_token.ensures.same
+    split-taken c.args.text.now c.in_ok-b.b.now c.in_ok-b.more.now c.in-Ok.kind c.in-Ok.len c.from_token.result.now e (subst IsSettled e c.requires.settled) c.in-Ok.ensures.lexeme
+    c.from_token.ensures.same
 
 pub returns-clause-spelled : goal.returns-clause-spelled
 returns-clause-spelled c =

@@ -16,5 +16,6 @@ course_of-requires-2 c = same-has_design (contents c.in_ok-file.file) (contents 
 pub returns : goal.returns
 returns c =
     let units = c.count_units-units.ensures ∙ ap (λ (a : Arena). units_of (contents a)) c.«module».ensures.«module» in
-    is_self_test c.args.links (contents c.in_ok-file.file) (contents c.in_ok-lowered.lowered.«module») c.count_units-units.result c.in_ok-original.original c.in_ok-changed.changed _ c.in_ok-file.ensures c.in_ok-lowered.ensures.lowered.says units
+    is_self_test c.args.links (contents c.in_ok-file.file) (contents c.in_ok-lowered.lowered.«module») c.count_units-units.result c.in_ok-original.original c.in_ok-changed.changed _
+    c.in_ok-file.ensures c.in_ok-lowered.ensures.lowered.says units
     c.in_ok-original.ensures c.in_ok-changed.ensures (rw c.new-text.ensures.items at c.in_ok-put_summary.ensures)

@@ -1,6 +1,6 @@
 //! The text of a chain of two links, the counts of frames, and the summary of two runs.
 use lh_generator::generator::generated;
-use lh_generator::summary::{Counts, Course, Ending, Units, put_summary};
+use lh_generator::summary::{Counts, Ending, RunSummary, Units, put_summary};
 use lh_time::Instant;
 use lh_types::frame::{Change, ChangeList, Frame, Outcome, OutcomeList};
 use lh_types::ty::NoMemory;
@@ -82,7 +82,7 @@ fn summary_of_two_runs(rt: HostRuntime) -> Result<(), Fail> {
         lowered: 2,
         left: 1,
     };
-    let original = Course {
+    let original = RunSummary {
         counts: Counts {
             frames: 34,
             changes: 33,
@@ -91,7 +91,7 @@ fn summary_of_two_runs(rt: HostRuntime) -> Result<(), Fail> {
         },
         ending: Ending::Quiet,
     };
-    let lowered = Course {
+    let lowered = RunSummary {
         counts: Counts {
             frames: 1_000_000,
             changes: 0,

@@ -1,14 +1,31 @@
 //! Lines with their tokens, taken from the definition of the language by hand.
 use lh_lex::TokenKind::*;
 use lh_lex::{LexFault, Token, TokenKind, first_bad, line};
+use std::alloc::Global;
 
 fn t(kind: TokenKind, from: u32, to: u32) -> Token {
     Token { kind, from, to }
 }
 
+/// A token of one byte.
+fn mark(byte: u8, at: u32) -> Token {
+    t(Punct(byte), at, at.wrapping_add(1))
+}
+
+/// Whether a line of fewer than 100 bytes has these tokens.
+fn has_tokens(alloc: Global, text: &[u8], want: &[Token]) -> bool {
+    if text.len() >= 100 {
+        return false;
+    }
+    match line(alloc, text) {
+        Ok(found) => found.as_slice() == want,
+        Err(_) => false,
+    }
+}
+
 #[test]
 fn lines_have_these_tokens(rt: HostRuntime) {
-    let table: [(&[u8], &[Token]); 16] = [
+    let table: [(&[u8], &[Token]); 13] = [
         (b"", &[]),
         (b" \t\r ", &[]),
         (b"; any \x00 \xff bytes", &[]),
@@ -22,37 +39,27 @@ fn lines_have_these_tokens(rt: HostRuntime) {
         (b"%a.b_9", &[t(Local, 0, 6)]),
         (b"@A%z", &[t(Global, 0, 2), t(Local, 2, 4)]),
         (b"\tret\r", &[t(Word, 1, 4)]),
-        (
-            b"i8$*",
-            &[t(Word, 0, 2), t(Punct(b'$'), 2, 3), t(Punct(b'*'), 3, 4)],
-        ),
-        (
-            b"[{(",
-            &[
-                t(Punct(b'['), 0, 1),
-                t(Punct(b'{'), 1, 2),
-                t(Punct(b'('), 2, 3),
-            ],
-        ),
-        (
-            b"=,:)}]",
-            &[
-                t(Punct(b'='), 0, 1),
-                t(Punct(b','), 1, 2),
-                t(Punct(b':'), 2, 3),
-                t(Punct(b')'), 3, 4),
-                t(Punct(b'}'), 4, 5),
-                t(Punct(b']'), 5, 6),
-            ],
-        ),
     ];
     for (text, want) in table {
-        assert!(rt; text.len() < 100);
-        match line(rt.alloc(), text) {
-            Ok(found) => assert!(rt; found.as_slice() == want, "other tokens"),
-            Err(_) => assert!(rt; false, "refused"),
-        }
+        assert!(rt; has_tokens(rt.alloc(), text, want), "other tokens");
     }
+}
+
+#[test]
+fn marks_are_tokens_of_one_byte(rt: HostRuntime) {
+    let typed = [t(Word, 0, 2), mark(b'$', 2), mark(b'*', 3)];
+    assert!(rt; has_tokens(rt.alloc(), b"i8$*", &typed));
+    let opening = [mark(b'[', 0), mark(b'{', 1), mark(b'(', 2)];
+    assert!(rt; has_tokens(rt.alloc(), b"[{(", &opening));
+    let closing = [
+        mark(b'=', 0),
+        mark(b',', 1),
+        mark(b':', 2),
+        mark(b')', 3),
+        mark(b'}', 4),
+        mark(b']', 5),
+    ];
+    assert!(rt; has_tokens(rt.alloc(), b"=,:)}]", &closing));
 }
 
 #[test]

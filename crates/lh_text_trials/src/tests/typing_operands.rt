@@ -2,15 +2,16 @@
 use lh_types::list::ListOf;
 use lh_types::op::Op;
 use lh_types::ty::{NoMemory, Ty};
+use lh_types::written::WrittenTy;
 use lh_typing::uses::{Need, Use, uses};
-use lh_unit::inst::{Inst, Typed, TypedList, ValueId};
+use lh_unit::inst::{Inst, OperandList, Typed, TypedList, ValueId};
 use std::alloc::Global;
 
-fn operand(value: u32, ty: Option<Ty>) -> Typed {
-    Typed {
+fn operand(alloc: Global, value: u32, ty: Option<Ty>) -> Result<Typed, NoMemory> {
+    Ok(Typed {
         value: ValueId(value),
-        ty,
-    }
+        ty: WrittenTy::new(alloc, ty)?,
+    })
 }
 
 fn integer(width: u32) -> Option<Ty> {
@@ -24,13 +25,14 @@ fn signal(alloc: Global, width: u32) -> Option<Ty> {
 /// Two operands of a type, of which the first has it written.
 fn two(alloc: Global, ty: Option<Ty>) -> Result<TypedList, NoMemory> {
     let mut list = ListOf::new(alloc);
-    list.push(operand(0, ty))?;
-    list.push(operand(1, None))?;
+    list.push(operand(alloc, 0, ty)?)?;
+    list.push(operand(alloc, 1, None)?)?;
     Ok(list)
 }
 
 fn operation(alloc: Global, op: Op, ty: Option<Ty>) -> Option<Inst> {
     let args = two(alloc, ty).ok()?;
+    let args = OperandList::from_list(args);
     Some(Inst::Pure { op, args })
 }
 
@@ -63,8 +65,11 @@ fn operation_takes(alloc: Global, op: Op, ty: Option<Ty>, wanted: &[(u32, Need)]
 }
 
 fn drive_takes(alloc: Global, wanted: &[(u32, Need)]) -> bool {
+    let Ok(to) = operand(alloc, 0, signal(alloc, 8)) else {
+        return false;
+    };
     let drive = Inst::Drv {
-        to: operand(0, signal(alloc, 8)),
+        to,
         value: ValueId(1),
         after: ValueId(2),
         cond: Some(ValueId(3)),

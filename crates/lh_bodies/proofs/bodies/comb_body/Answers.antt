@@ -31,7 +31,8 @@ returns-in_err-put_drives-clause-is c =
     let m1 = c.put_probes.new.terms in let x1 = c.put_probes.new.emitter in
     let put = subst (λ (l : List Part). PutsProbes ns o x l m1 x1) c.as_slice.ensures c.in_ok-put_probes.ensures.put in
     let f = c.in_err-put_drives.field-0.0 in
-    comb-drives-not o waited drives ns x c.in_ok-emitter.ensures m1 x1 c.in_ok-put_probes.ensures.kept put f (subst (λ (l : List DriveRow). PutsDrivesNot m1 o x1 l f) c.as_slice-2.ensures c.in_err-put_drives.ensures.cause)
+    comb-drives-not o waited drives ns x c.in_ok-emitter.ensures m1 x1 c.in_ok-put_probes.ensures.kept put f
+    (subst (λ (l : List DriveRow). PutsDrivesNot m1 o x1 l f) c.as_slice-2.ensures c.in_err-put_drives.ensures.cause)
     c.from_residual-in_err-put_drives.result c.from_residual-in_err-put_drives.ensures.1
 
 pub returns-clause-is : goal.returns-clause-is
@@ -40,5 +41,6 @@ returns-clause-is c =
     let m1 = c.put_probes.new.terms in let x1 = c.put_probes.new.emitter in
     let put = subst (λ (l : List Part). PutsProbes ns o x l m1 x1) c.as_slice.ensures c.in_ok-put_probes.ensures.put in
     let m2 = c.put_drives.new.terms in let x2 = c.put_drives.new.emitter in
-    comb-made o waited drives ns x c.in_ok-emitter.ensures m1 x1 c.in_ok-put_probes.ensures.kept put comb-no_fault m2 x2 (subst (λ (l : List DriveRow). PutsDrives m1 o x1 l m2 x2) c.as_slice-2.ensures c.in_ok-put_drives.ensures.put)
+    comb-made o waited drives ns x c.in_ok-emitter.ensures m1 x1 c.in_ok-put_probes.ensures.kept put comb-no_fault m2 x2
+    (subst (λ (l : List DriveRow). PutsDrives m1 o x1 l m2 x2) c.as_slice-2.ensures c.in_ok-put_drives.ensures.put)
     c.body_of.result c.body_of.ensures.names c.body_of.ensures.lines

@@ -38,16 +38,19 @@ pub put-requires-clause-named : goal.put-requires-clause-named
 put-requires-clause-named c =
     let o = c.args.origin.now in let row = c.args.row.now in let ns = c.args.terms.now in let x = c.args.emitter.now in
     let some : length row.triggers ≡ 0 → ⊥ = λ q. grind (arith, q, c.if-len-eq0.false, c.len.ensures) in
-    reg-within o row ns x some _ _ c.in_ok-triggers.triggers c.in_ok-triggers.ensures.kept c.in_ok-triggers.ensures.needed _ c.in_ok-part.part c.in_ok-part.ensures.needed c.in_ok-part.ensures.grows c.in_ok-to.to c.in_ok-to.ensures c.requires
+    reg-within o row ns x some _ _ c.in_ok-triggers.triggers c.in_ok-triggers.ensures.kept c.in_ok-triggers.ensures.needed _ c.in_ok-part.part c.in_ok-part.ensures.needed c.in_ok-part.ensures.grows
+    c.in_ok-to.to c.in_ok-to.ensures c.requires
 
 pub returns-clause-put : goal.returns-clause-put
 returns-clause-put c =
     let o = c.args.origin.now in let row = c.args.row.now in let ns = c.args.terms.now in let x = c.args.emitter.now in
     let some : length row.triggers ≡ 0 → ⊥ = λ q. grind (arith, q, c.if-len-eq0.false, c.len.ensures) in
-    reg-put-ok o row ns x some _ _ c.in_ok-triggers.triggers c.in_ok-triggers.ensures.kept c.in_ok-triggers.ensures.needed _ c.in_ok-part.part c.in_ok-part.ensures.needed c.in_ok-part.ensures.grows c.in_ok-to.to c.in_ok-to.ensures _ c.put.result c.put.ensures
+    reg-put-ok o row ns x some _ _ c.in_ok-triggers.triggers c.in_ok-triggers.ensures.kept c.in_ok-triggers.ensures.needed _ c.in_ok-part.part c.in_ok-part.ensures.needed c.in_ok-part.ensures.grows
+    c.in_ok-to.to c.in_ok-to.ensures _ c.put.result c.put.ensures
 
 pub returns-clause-cause : goal.returns-clause-cause
 returns-clause-cause c =
     let o = c.args.origin.now in let row = c.args.row.now in let ns = c.args.terms.now in let x = c.args.emitter.now in
     let some : length row.triggers ≡ 0 → ⊥ = λ q. grind (arith, q, c.if-len-eq0.false, c.len.ensures) in
-    reg-put-err o row ns x some _ _ c.in_ok-triggers.triggers c.in_ok-triggers.ensures.kept c.in_ok-triggers.ensures.needed _ c.in_ok-part.part c.in_ok-part.ensures.needed (inst.Reg c.in_ok-to.to c.in_ok-triggers.triggers) _ c.put.result c.put.ensures
+    reg-put-err o row ns x some _ _ c.in_ok-triggers.triggers c.in_ok-triggers.ensures.kept c.in_ok-triggers.ensures.needed _ c.in_ok-part.part c.in_ok-part.ensures.needed
+    (inst.Reg c.in_ok-to.to c.in_ok-triggers.triggers) _ c.put.result c.put.ensures

@@ -9,11 +9,13 @@ pub returns-in_err-put_register-clause-cause : goal.returns-in_err-put_register-
 returns-in_err-put_register-clause-cause c =
     let o = c.args.origin.now in let ns = c.args.terms.now in let x = c.args.emitter.now in let all = c.args.rows.now in let i = c.loop-row.row-index in
     err-has c.from_residual.result c.in_err-put_register.field-0.0 (PutsRegistersNot ns o x all) c.from_residual.ensures.1
-    (registers-not o all ns x c.loop-row.terms c.loop-row.emitter c.row-item.result (drop (i + 1) all) (drop i all) (drop-item all i c.row-item.result c.loop-row-test.true c.row-item.is) c.loop-row.invariant
+    (registers-not o all ns x c.loop-row.terms c.loop-row.emitter c.row-item.result (drop (i + 1) all) (drop i all) (drop-item all i c.row-item.result c.loop-row-test.true c.row-item.is)
+    c.loop-row.invariant
     c.in_err-put_register.field-0.0 c.in_err-put_register.ensures.cause)
 
 pub loop-row-preserved : goal.loop-row-preserved
 loop-row-preserved c =
     let o = c.args.origin.now in let ns = c.args.terms.now in let x = c.args.emitter.now in let all = c.args.rows.now in let i = c.loop-row.row-index in
-    registers-next o all ns x c.loop-row.terms c.loop-row.emitter c.row-item.result (drop (i + 1) all) (drop i all) (drop-item all i c.row-item.result c.loop-row-test.true c.row-item.is) c.loop-row.invariant
+    registers-next o all ns x c.loop-row.terms c.loop-row.emitter c.row-item.result (drop (i + 1) all) (drop i all) (drop-item all i c.row-item.result c.loop-row-test.true c.row-item.is)
+    c.loop-row.invariant
     _ _ c.in_ok-put_register.ensures.kept c.in_ok-put_register.ensures.put

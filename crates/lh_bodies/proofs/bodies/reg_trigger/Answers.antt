@@ -24,18 +24,21 @@ returns-in_err-now-clause-cause c =
 pub condition-requires : goal.condition-requires
 condition-requires c =
     let o = c.args.origin.now in let row = c.args.row.now in let g = c.args.trigger.now in let ns = c.args.terms.now in let x = c.args.emitter.now in
-    can-gate o row g c.now.new.terms c.now.new.self (after-now o row g ns x _ _ c.in_ok-value.value c.in_ok-value.ensures.kept c.in_ok-value.ensures.needed _ _ c.in_ok-now.now c.in_ok-now.ensures.kept c.in_ok-now.ensures.needed c.requires)
+    can-gate o row g c.now.new.terms c.now.new.self
+    (after-now o row g ns x _ _ c.in_ok-value.value c.in_ok-value.ensures.kept c.in_ok-value.ensures.needed _ _ c.in_ok-now.now c.in_ok-now.ensures.kept c.in_ok-now.ensures.needed c.requires)
 
 pub returns-in_err-gate-clause-cause : goal.returns-in_err-gate-clause-cause
 returns-in_err-gate-clause-cause c =
     let o = c.args.origin.now in let row = c.args.row.now in let g = c.args.trigger.now in let ns = c.args.terms.now in let x = c.args.emitter.now in
     err-has c.from_residual-in_err-gate.result c.in_err-gate.field-0.0 (NeedsTriggerNot ns o x row g) c.from_residual-in_err-gate.ensures.1
-    (gate-not o row g ns x _ _ c.in_ok-value.value c.in_ok-value.ensures.kept c.in_ok-value.ensures.needed _ _ c.in_ok-now.now c.in_ok-now.ensures.kept c.in_ok-now.ensures.needed c.in_err-gate.field-0.0 c.in_err-gate.ensures.cause)
+    (gate-not o row g ns x _ _ c.in_ok-value.value c.in_ok-value.ensures.kept c.in_ok-value.ensures.needed _ _ c.in_ok-now.now c.in_ok-now.ensures.kept c.in_ok-now.ensures.needed
+    c.in_err-gate.field-0.0 c.in_err-gate.ensures.cause)
 
 pub term-requires-2 : goal.term-requires-2
 term-requires-2 c =
     let o = c.args.origin.now in let row = c.args.row.now in let g = c.args.trigger.now in let ns = c.args.terms.now in let x = c.args.emitter.now in
-    can-delay o row g c.condition.new.terms c.condition.new.emitter (after-gate o row g ns x _ _ c.in_ok-value.value c.in_ok-value.ensures.kept c.in_ok-value.ensures.needed _ _ c.in_ok-now.now c.in_ok-now.ensures.kept c.in_ok-now.ensures.needed
+    can-delay o row g c.condition.new.terms c.condition.new.emitter
+    (after-gate o row g ns x _ _ c.in_ok-value.value c.in_ok-value.ensures.kept c.in_ok-value.ensures.needed _ _ c.in_ok-now.now c.in_ok-now.ensures.kept c.in_ok-now.ensures.needed
     _ _ c.in_ok-gate.gate c.in_ok-gate.ensures.kept c.in_ok-gate.ensures.tested c.requires)
 
 pub returns-in_err-after-clause-cause : goal.returns-in_err-after-clause-cause

@@ -17,20 +17,23 @@ pub reg_trigger-requires : goal.reg_trigger-requires
 reg_trigger-requires c =
     let o = c.args.origin.now in let row = c.args.row.now in let ns = c.args.terms.now in let x = c.args.emitter.now in
     let all = c.as_slice-trigger-items.result.now in let i = c.loop-trigger.trigger-index in
-    triggers-can o row ns x c.loop-trigger.terms c.loop-trigger.emitter c.loop-trigger.triggers c.trigger-item.result (drop (i + 1) all) (drop i all) (drop-item all i c.trigger-item.result c.loop-trigger-test.true c.trigger-item.is) c.loop-trigger.invariant
+    triggers-can o row ns x c.loop-trigger.terms c.loop-trigger.emitter c.loop-trigger.triggers c.trigger-item.result (drop (i + 1) all) (drop i all)
+    (drop-item all i c.trigger-item.result c.loop-trigger-test.true c.trigger-item.is) c.loop-trigger.invariant
 
 pub returns-in_err-made-clause-cause : goal.returns-in_err-made-clause-cause
 returns-in_err-made-clause-cause c =
     let o = c.args.origin.now in let row = c.args.row.now in let ns = c.args.terms.now in let x = c.args.emitter.now in
     let all = c.as_slice-trigger-items.result.now in let i = c.loop-trigger.trigger-index in
     err-has c.from_residual.result c.in_err-made.field-0.0 (NeedsTriggersNot ns o x row) c.from_residual.ensures.1
-    (triggers-not o row ns x c.loop-trigger.terms c.loop-trigger.emitter c.loop-trigger.triggers c.trigger-item.result (drop (i + 1) all) (drop i all) (drop-item all i c.trigger-item.result c.loop-trigger-test.true c.trigger-item.is) c.loop-trigger.invariant c.in_err-made.field-0.0 c.in_err-made.ensures.cause)
+    (triggers-not o row ns x c.loop-trigger.terms c.loop-trigger.emitter c.loop-trigger.triggers c.trigger-item.result (drop (i + 1) all) (drop i all)
+    (drop-item all i c.trigger-item.result c.loop-trigger-test.true c.trigger-item.is) c.loop-trigger.invariant c.in_err-made.field-0.0 c.in_err-made.ensures.cause)
 
 pub loop-trigger-preserved : goal.loop-trigger-preserved
 loop-trigger-preserved c =
     let o = c.args.origin.now in let row = c.args.row.now in let ns = c.args.terms.now in let x = c.args.emitter.now in
     let all = c.as_slice-trigger-items.result.now in let i = c.loop-trigger.trigger-index in
-    triggers-next o row ns x c.loop-trigger.terms c.loop-trigger.emitter c.loop-trigger.triggers c.trigger-item.result (drop (i + 1) all) (drop i all) (drop-item all i c.trigger-item.result c.loop-trigger-test.true c.trigger-item.is) c.loop-trigger.invariant
+    triggers-next o row ns x c.loop-trigger.terms c.loop-trigger.emitter c.loop-trigger.triggers c.trigger-item.result (drop (i + 1) all) (drop i all)
+    (drop-item all i c.trigger-item.result c.loop-trigger-test.true c.trigger-item.is) c.loop-trigger.invariant
     _ _ c.in_ok-made.made _ c.in_ok-push.ensures.ok c.in_ok-made.ensures.kept c.in_ok-made.ensures.grows c.in_ok-made.ensures.needed
 
 pub returns-clause-needed : goal.returns-clause-needed

@@ -5,10 +5,12 @@ use Rattle.lh_change.proofs.Same.{part_same, part_differs, false_true}
 use Rattle.lh_change.proofs.differ.differs.Goals as goal
 
 pub same_part-requires-clause-within : goal.same_part-requires-clause-within
-same_part-requires-clause-within c = part_within (length c.args.old.now) c.args.parts.now c.loop-part.part-index _ c.requires.in_old c.loop-part-test.true (get_or_default _ _ _ _ c.loop-part-test.true)
+same_part-requires-clause-within c = part_within (length c.args.old.now) c.args.parts.now c.loop-part.part-index _ c.requires.in_old c.loop-part-test.true
+    (get_or_default _ _ _ _ c.loop-part-test.true)
 
 pub same_part-requires-clause-other_within : goal.same_part-requires-clause-other_within
-same_part-requires-clause-other_within c = part_within (length c.args.now.now) c.args.parts.now c.loop-part.part-index _ c.requires.in_now c.loop-part-test.true (get_or_default _ _ _ _ c.loop-part-test.true)
+same_part-requires-clause-other_within c = part_within (length c.args.now.now) c.args.parts.now c.loop-part.part-index _ c.requires.in_now c.loop-part-test.true
+    (get_or_default _ _ _ _ c.loop-part-test.true)
 
 pub returns-then-not-same_part : goal.returns-then-not-same_part
 returns-then-not-same_part c =

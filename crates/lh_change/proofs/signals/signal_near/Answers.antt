@@ -5,7 +5,8 @@ use Rattle.lh_change.proofs.signals.signal_near.Goals as goal
 
 pub bits-requires : goal.bits-requires
 bits-requires c =
-    (fits_there (length c.args.design.now.init) c.args.design.now.signals.items c.signals.result.now c.args.near c.index-signals-near.result c.requires.fill c.signals.ensures c.requires.signal c.index-signals-near.is).0
+    (fits_there (length c.args.design.now.init) c.args.design.now.signals.items c.signals.result.now c.args.near c.index-signals-near.result c.requires.fill c.signals.ensures c.requires.signal
+    c.index-signals-near.is).0
 
 pub returns-then-bit-signal : goal.returns-then-bit-signal
 returns-then-bit-signal c =

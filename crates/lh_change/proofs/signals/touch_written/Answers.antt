@@ -4,11 +4,14 @@ use Rattle.lh_change.proofs.signals.touch_written.Goals as goal
 
 pub touch-requires-clause-within : goal.touch-requires-clause-within
 touch-requires-clause-within c =
-    run_within (length c.args.design.now.init) c.runs-run-items.result.now c.args.writes.now c.loop-run.run-index c.len.result c.run-item.result c.runs-run-items.ensures c.requires.within c.loop-run-test.true c.run-item.is c.len.ensures
+    run_within (length c.args.design.now.init) c.runs-run-items.result.now c.args.writes.now c.loop-run.run-index c.len.result c.run-item.result c.runs-run-items.ensures c.requires.within
+    c.loop-run-test.true c.run-item.is c.len.ensures
 
 pub loop-run-preserved : goal.loop-run-preserved
 loop-run-preserved c =
-    runs_more c.args.design.now.signals.items c.runs-run-items.result.now c.loop-run.run-index c.len.result c.run-item.result c.args.touched.now c.loop-run.touched c.touch.new.touched c.loop-run-test.true c.run-item.is c.len.ensures c.loop-run.invariant c.in_ok-touch.ensures
+    runs_more c.args.design.now.signals.items c.runs-run-items.result.now c.loop-run.run-index c.len.result c.run-item.result c.args.touched.now c.loop-run.touched c.touch.new.touched
+    c.loop-run-test.true c.run-item.is c.len.ensures c.loop-run.invariant c.in_ok-touch.ensures
 
 pub returns : goal.returns
-returns c = runs_all c.args.design.now.signals.items c.runs-run-items.result.now c.args.writes.now c.loop-run.run-index c.args.touched.now c.loop-run.touched c.loop-run-test.false c.runs-run-items.ensures c.loop-run.invariant
+returns c = runs_all c.args.design.now.signals.items c.runs-run-items.result.now c.args.writes.now c.loop-run.run-index c.args.touched.now c.loop-run.touched c.loop-run-test.false
+    c.runs-run-items.ensures c.loop-run.invariant

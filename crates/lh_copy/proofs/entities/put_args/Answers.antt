@@ -8,7 +8,8 @@ loop-k-init c = ports-start c.args.from.now c.args.m.now c.args.unit c.args-arg-
 
 pub put_arg-requires-clause-within : goal.put_arg-requires-clause-within
 put_arg-requires-clause-within c =
-    port-within c.args.from.now c.args.m.now c.loop-k.m c.args.unit c.args-arg-items.result.now c.loop-k.k c.arg-item.result c.args-arg-items.ensures.args c.loop-k.invariant (omega arith) c.arg-item.is
+    port-within c.args.from.now c.args.m.now c.loop-k.m c.args.unit c.args-arg-items.result.now c.loop-k.k c.arg-item.result c.args-arg-items.ensures.args c.loop-k.invariant (omega arith)
+    c.arg-item.is
 
 pub put_arg-requires-clause-undefined : goal.put_arg-requires-clause-undefined
 put_arg-requires-clause-undefined c =

@@ -9,15 +9,18 @@ loop-arg-init c = args-start c.args.from.now c.args.m.now c.args.unit c.args-arg
 pub put_arg-requires-clause-within : goal.put_arg-requires-clause-within
 put_arg-requires-clause-within c =
     let xs = c.args-args.result.now in let i = c.loop-arg.arg-index in
-    arg-placed c.args.from.now c.args.m.now c.loop-arg.m c.args.unit xs (drop i xs) i c.arg-item.result c.args-args.ensures.sound c.requires.there c.args-args.ensures.args c.loop-arg.invariant (omega arith) c.arg-item.is
+    arg-placed c.args.from.now c.args.m.now c.loop-arg.m c.args.unit xs (drop i xs) i c.arg-item.result c.args-args.ensures.sound c.requires.there c.args-args.ensures.args c.loop-arg.invariant
+    (omega arith) c.arg-item.is
 
 pub put_arg-requires-clause-undefined : goal.put_arg-requires-clause-undefined
 put_arg-requires-clause-undefined c =
-    arg-new c.args.from.now c.args.m.now c.loop-arg.m c.args.unit c.args-args.result.now c.loop-arg.arg-index c.arg-item.result c.args-args.ensures.sound c.requires.there c.args-args.ensures.args c.loop-arg.invariant (omega arith) c.arg-item.is
+    arg-new c.args.from.now c.args.m.now c.loop-arg.m c.args.unit c.args-args.result.now c.loop-arg.arg-index c.arg-item.result c.args-args.ensures.sound c.requires.there c.args-args.ensures.args
+    c.loop-arg.invariant (omega arith) c.arg-item.is
 
 pub loop-arg-preserved : goal.loop-arg-preserved
 loop-arg-preserved c =
-    args-next c.args.from.now c.args.m.now c.loop-arg.m c.args.unit c.args-args.result.now c.loop-arg.arg-index c.arg-item.result c.args-args.ensures.sound c.requires.there c.args-args.ensures.args c.loop-arg.invariant (omega arith) c.arg-item.is
+    args-next c.args.from.now c.args.m.now c.loop-arg.m c.args.unit c.args-args.result.now c.loop-arg.arg-index c.arg-item.result c.args-args.ensures.sound c.requires.there c.args-args.ensures.args
+    c.loop-arg.invariant (omega arith) c.arg-item.is
     c.put_arg.new.m c.in_ok-ty.ty c.requires.opened c.in_ok-ty.ensures c.in_ok-put_arg.ensures
 
 pub returns : goal.returns

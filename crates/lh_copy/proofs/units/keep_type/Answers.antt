@@ -11,13 +11,15 @@ use Rattle.lh_copy.proofs.units.keep_type.Goals as goal
 pub set_result-requires-clause-function : goal.set_result-requires-clause-function
 set_result-requires-clause-function c =
     let a = c.args.from.now in let u = c.args.unit.0 in
-    open-of c.args.m.now c.args.unit (λ t. t.kind ≡ kind.Func) c.requires.opened (type-fits (unit_text_at c.args.m.now u) (result_type_at a u) c.in-Some.ty.now (sym c.in-Some.ensures.ty) c.requires.fits)
+    open-of c.args.m.now c.args.unit (λ t. t.kind ≡ kind.Func) c.requires.opened
+    (type-fits (unit_text_at c.args.m.now u) (result_type_at a u) c.in-Some.ty.now (sym c.in-Some.ensures.ty) c.requires.fits)
 
 pub returns-in_ok-copy-in-Some : goal.returns-in_ok-copy-in-Some
 returns-in_ok-copy-in-Some c =
     let a = c.args.from.now in let u = c.args.unit.0 in let m = c.args.m.now in let new = c.set_result.new.self in
     subst (λ r. Becomes m new c.args.unit (with_type r (unit_text_at m u))) c.in-Some.ensures.ty
-    (subst (λ ty. Becomes m new c.args.unit (with_result ty (unit_text_at m u))) c.in_ok-copy-in-Some.ensures (becomes-by m new c.args.unit (with_result c.in_ok-copy-in-Some.field-0) c.requires.opened c.set_result.ensures))
+    (subst (λ ty. Becomes m new c.args.unit (with_result ty (unit_text_at m u))) c.in_ok-copy-in-Some.ensures
+    (becomes-by m new c.args.unit (with_result c.in_ok-copy-in-Some.field-0) c.requires.opened c.set_result.ensures))
 
 pub returns-in-None : goal.returns-in-None
 returns-in-None c =

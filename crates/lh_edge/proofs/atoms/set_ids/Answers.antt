@@ -1,4 +1,4 @@
-use Rattle.lh_edge.proofs.Held.{lists_next}
+use Rattle.lh_edge.proofs.TermValues.{lists_next}
 use Rattle.lh_edge.proofs.atoms.set_ids.Goals as goal
 
 pub loop-i-preserved : goal.loop-i-preserved

@@ -8,7 +8,8 @@ both-requires-clause-y_bit c =
 
 pub loop-left-preserved-in_ok-all-2 : goal.loop-left-preserved-in_ok-all-2
 loop-left-preserved-in_ok-all-2 c =
-    conjoin_next _ _ _ _ _ c.loop-left.left.now _ _ (record { 0 = 0 }) c.requires.tell c.loop-left.invariant c.in-len1-up.len_at_least c.if-flags-x.true c.in_ok-all-2.ensures.kept c.in_ok-all-2.ensures.made
+    conjoin_next _ _ _ _ _ c.loop-left.left.now _ _ (record { 0 = 0 }) c.requires.tell c.loop-left.invariant c.in-len1-up.len_at_least c.if-flags-x.true c.in_ok-all-2.ensures.kept
+    c.in_ok-all-2.ensures.made
 
 pub loop-left-preserved : goal.loop-left-preserved
 loop-left-preserved c =

@@ -8,4 +8,5 @@ conjoined-requires-clause-bits c =
 
 pub returns-clause-made : goal.returns-clause-made
 returns-clause-made c =
-    if_ok_along c.conjoined.result _ _ _ (edge_is c.args.terms.now c.args.cond c.in_ok-conjuncts.conjuncts c.as_slice.result.now c.in_ok-conjuncts.ensures.conjuncts c.as_slice.ensures) c.conjoined.ensures.made
+    if_ok_along c.conjoined.result _ _ _ (edge_is c.args.terms.now c.args.cond c.in_ok-conjuncts.conjuncts c.as_slice.result.now c.in_ok-conjuncts.ensures.conjuncts c.as_slice.ensures)
+    c.conjoined.ensures.made

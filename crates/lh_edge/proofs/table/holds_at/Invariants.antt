@@ -1,7 +1,7 @@
 use Rattle.std.proofs.Common.{length}
 use Rattle.lh_term.specs.Arena.{trees_at}
 use Rattle.lh_edge.specs.Steps.{numbered}
-use Rattle.lh_edge.proofs.Held.{Holding}
+use Rattle.lh_edge.proofs.TermValues.{Holding}
 use Rattle.lh_edge.proofs.table.holds_at.Given as goal
 
 abbrev pub invariant-loop-left : goal.invariant-loop-left

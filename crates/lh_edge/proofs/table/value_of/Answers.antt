@@ -6,7 +6,7 @@ use Rattle.lh_edge.specs.Valuations.{connected}
 use Rattle.lh_edge.specs.Steps.{values_at}
 use Rattle.lh_edge.proofs.Bools.{and_both}
 use Rattle.lh_edge.proofs.Ids.{op_below}
-use Rattle.lh_edge.proofs.Held.{joined_value, chosen_value}
+use Rattle.lh_edge.proofs.TermValues.{joined_value, chosen_value}
 use Rattle.lh_edge.proofs.table.value_of.Goals as goal
 
 pub are_one_bit-requires : goal.are_one_bit-requires
@@ -20,10 +20,12 @@ connected-requires c = op_below _ _ _ c.in-Op.op c.in-Op.args _ c.in-Op.is c.as_
 pub returns-then-are_one_bit : goal.returns-then-are_one_bit
 returns-then-are_one_bit c =
     let o : is_connective c.in-Op.op (tree_row (trees_at c.args.terms.now c.in-Op.args)) ≡ true =
-    and_both _ _ (sym c.connects.ensures ∙ c.if-connects.true) (ap (λ xs. are_one_bit (tree_row (trees_at c.args.terms.now xs))) (sym c.as_slice.ensures) ∙ sym c.are_one_bit.ensures ∙ c.if-are_one_bit.true) in
+    and_both _ _ (sym c.connects.ensures ∙ c.if-connects.true) (ap (λ xs. are_one_bit (tree_row (trees_at c.args.terms.now xs))) (sym c.as_slice.ensures) ∙ sym c.are_one_bit.ensures
+    ∙ c.if-are_one_bit.true) in
     c.connected.ensures ∙ ap (λ xs. connected c.in-Op.op (values_at c.args.values.now xs)) c.as_slice-then-are_one_bit.ensures
     ∙ joined_value _ _ c.args.x _ c.view.ensures.shown c.in-Op.op c.in-Op.args c.args.values.now c.in-Op.is o c.view.ensures.term c.requires.joined
 
 pub returns-then-is_one_bit-2 : goal.returns-then-is_one_bit-2
 returns-then-is_one_bit-2 c =
-    c.chosen.ensures ∙ chosen_value _ _ c.args.x _ c.view.ensures.shown c.in-Choice.c c.in-Choice.f c.in-Choice.t c.args.values.now c.in-Choice.is (sym c.is_one_bit-in-Choice.ensures ∙ c.if-is_one_bit-2.true) c.view.ensures.term c.requires.joined
+    c.chosen.ensures ∙ chosen_value _ _ c.args.x _ c.view.ensures.shown c.in-Choice.c c.in-Choice.f c.in-Choice.t c.args.values.now c.in-Choice.is (sym c.is_one_bit-in-Choice.ensures
+    ∙ c.if-is_one_bit-2.true) c.view.ensures.term c.requires.joined

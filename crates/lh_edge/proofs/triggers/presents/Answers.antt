@@ -6,7 +6,8 @@ pub loop-i-preserved : goal.loop-i-preserved
 loop-i-preserved c =
     let l : c.loop-i.i < length c.args.terms.now = omega (arith, c.loop-i-test.true, c.len-i-end.ensures, c.in_ok-flags.ensures.length_is, c.requires) in
     let f : slice_get c.in_ok-flags.flags.items c.loop-i.i ≡ Some c.is_set.result = ap (λ xs. slice_get xs c.loop-i.i) (sym c.deref.ensures.value) ∙ c.is_set.ensures in
-    gather_turn c.args.terms.now c.loop-i.terms c.in_ok-flags.flags.items c.loop-i.pairs.items c.loop-i.i c.loop-i.invariant l c.gather_if.new.terms c.gather_if.new.pairs.items c.is_set.result c.in_ok-gather_if.ensures.kept f c.in_ok-gather_if.ensures.added
+    gather_turn c.args.terms.now c.loop-i.terms c.in_ok-flags.flags.items c.loop-i.pairs.items c.loop-i.i c.loop-i.invariant l c.gather_if.new.terms c.gather_if.new.pairs.items c.is_set.result
+    c.in_ok-gather_if.ensures.kept f c.in_ok-gather_if.ensures.added
 
 pub returns-clause-made : goal.returns-clause-made
 returns-clause-made c =

@@ -17,15 +17,19 @@ loop-left-init c =
     let g4 : Grows t3 t4 = c.in_ok-now.ensures.kept in
     let g24 : Grows t2 t4 = grows_on t2 t3 t4 g3 g4 in
     let g14 : Grows t1 t4 = grows_on t1 t2 t4 g2 g24 in
-    gate_start a t4 c.args.rise c.args.part.now (tree_at (trees a) c.args.cond) c.args.presents.now c.in_ok-past.past c.in_ok-now.now c.in_ok-before.before c.in_ok-after.after c.push-2.new.self c.requires.bit (grows_on a t1 t4 g1 g14) c.requires.presents
+    gate_start a t4 c.args.rise c.args.part.now (tree_at (trees a) c.args.cond) c.args.presents.now c.in_ok-past.past c.in_ok-now.now c.in_ok-before.before c.in_ok-after.after c.push-2.new.self
+    c.requires.bit (grows_on a t1 t4 g1 g14) c.requires.presents
     (stands_grown t3 t4 g4 _ _ c.in_ok-past.ensures.made) c.in_ok-now.ensures.made (stands_grown t1 t4 g14 _ _ c.in_ok-before.ensures.made) (stands_grown t2 t4 g24 _ _ c.in_ok-after.ensures.made)
-    (c.in_ok-push-2.ensures.ok ∙ ap (λ r. r ++ (c.in_ok-now.now, c.in_ok-after.after) ∷ []) (c.in_ok-push.ensures.ok ∙ ap (λ r. r ++ (c.in_ok-past.past, c.in_ok-before.before) ∷ []) c.new-swap.ensures))
+    (c.in_ok-push-2.ensures.ok ∙ ap (λ r. r ++ (c.in_ok-now.now, c.in_ok-after.after) ∷ []) (c.in_ok-push.ensures.ok
+    ∙ ap (λ r. r ++ (c.in_ok-past.past, c.in_ok-before.before) ∷ []) c.new-swap.ensures))
 
 pub loop-left-preserved : goal.loop-left-preserved
 loop-left-preserved c =
-    gate_next c.args.terms.now c.now.new.self c.args.rise c.args.part.now c.args.presents.now c.loop-left.left.now c.loop-left.swap c.add_pair.new.swap (record { 0 = 0 }, record { 0 = 0 }) c.loop-left.invariant c.in-len1-up.len_at_least c.in_ok-add_pair.ensures
+    gate_next c.args.terms.now c.now.new.self c.args.rise c.args.part.now c.args.presents.now c.loop-left.left.now c.loop-left.swap c.add_pair.new.swap (record { 0 = 0 }, record { 0 = 0 })
+    c.loop-left.invariant c.in-len1-up.len_at_least c.in_ok-add_pair.ensures
 
 pub returns-clause-made : goal.returns-clause-made
 returns-clause-made c =
     let n : length c.loop-left.left.now ≡ 0 = omega (arith, c.in_default.len_below) in
-    gate_last c.args.terms.now c.now.new.self c.args.rise c.args.part.now (tree_at (trees c.args.terms.now) c.args.cond) c.args.presents.now c.loop-left.left.now c.loop-left.swap c.requires.presents n c.loop-left.invariant
+    gate_last c.args.terms.now c.now.new.self c.args.rise c.args.part.now (tree_at (trees c.args.terms.now) c.args.cond) c.args.presents.now c.loop-left.left.now c.loop-left.swap c.requires.presents n
+    c.loop-left.invariant

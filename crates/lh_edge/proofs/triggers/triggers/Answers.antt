@@ -7,7 +7,8 @@ use Rattle.lh_edge.proofs.Made.{made_start, made_next, presents_on, bit_at}
 use Rattle.lh_edge.proofs.triggers.triggers.Goals as goal
 
 pub loop-k-init : goal.loop-k-init
-loop-k-init c = made_start c.args.terms.now c.presents.new.terms c.args.cond c.args.parts.now c.in_ok-presents.presents.items c.new-triggers.result c.in_ok-presents.ensures.kept c.requires.is_in c.in_ok-presents.ensures.made c.new-triggers.ensures
+loop-k-init c = made_start c.args.terms.now c.presents.new.terms c.args.cond c.args.parts.now c.in_ok-presents.presents.items c.new-triggers.result c.in_ok-presents.ensures.kept c.requires.is_in
+    c.in_ok-presents.ensures.made c.new-triggers.ensures
 
 pub add_trigger-requires-clause-bit : goal.add_trigger-requires-clause-bit
 add_trigger-requires-clause-bit c = bit_at c.args.parts.now c.loop-k.k c.index-parts-k.result c.requires.bits c.loop-k-test.true c.index-parts-k.is
@@ -23,5 +24,7 @@ add_trigger-requires-in-loop-k-clause-presents c =
 
 pub loop-k-preserved : goal.loop-k-preserved
 loop-k-preserved c =
-    made_next c.args.terms.now c.loop-k.terms c.add_trigger.new.terms c.add_trigger-in-loop-k.new.terms c.args.cond c.args.parts.now c.in_ok-presents.presents.items c.loop-k.triggers c.add_trigger.new.triggers c.add_trigger-in-loop-k.new.triggers c.loop-k.k c.index-parts-k.result
-    c.loop-k.invariant c.requires.is_in c.loop-k-test.true c.index-parts-k.is c.in_ok-add_trigger.ensures.kept c.in_ok-add_trigger.ensures.added c.in_ok-add_trigger-2.ensures.kept c.in_ok-add_trigger-2.ensures.added
+    made_next c.args.terms.now c.loop-k.terms c.add_trigger.new.terms c.add_trigger-in-loop-k.new.terms c.args.cond c.args.parts.now c.in_ok-presents.presents.items c.loop-k.triggers
+    c.add_trigger.new.triggers c.add_trigger-in-loop-k.new.triggers c.loop-k.k c.index-parts-k.result
+    c.loop-k.invariant c.requires.is_in c.loop-k-test.true c.index-parts-k.is c.in_ok-add_trigger.ensures.kept c.in_ok-add_trigger.ensures.added c.in_ok-add_trigger-2.ensures.kept
+    c.in_ok-add_trigger-2.ensures.added

@@ -19,7 +19,8 @@ started-requires-clause-room c =
     let a = c.args.m.now in
     let o = c.new.ensures.sound in
     let q = c.in_ok-bits.ensures.refuses in
-    let ports : Each IsPort (unit_text_at a c.args.top.0).args = top-ports a c.args.top.0 q.0 (unit_text_at a c.args.top.0).args (unit-is-sound a c.args.top.0 o c.requires.unit c.requires.formed c.requires.begun).ports in
+    let ports : Each IsPort (unit_text_at a c.args.top.0).args = top-ports a c.args.top.0 q.0 (unit_text_at a c.args.top.0).args
+    (unit-is-sound a c.args.top.0 o c.requires.unit c.requires.formed c.requires.begun).ports in
     top-fits a c.args.top o c.requires.unit (reads a o) c.in_ok-bits.bits q ports
 
 pub loop-next-init : goal.loop-next-init
@@ -27,7 +28,8 @@ loop-next-init c =
     let a = c.args.m.now in
     let o = c.new.ensures.sound in
     let q = c.in_ok-bits.ensures.refuses in
-    let ports : Each IsPort (unit_text_at a c.args.top.0).args = top-ports a c.args.top.0 q.0 (unit_text_at a c.args.top.0).args (unit-is-sound a c.args.top.0 o c.requires.unit c.requires.formed c.requires.begun).ports in
+    let ports : Each IsPort (unit_text_at a c.args.top.0).args = top-ports a c.args.top.0 q.0 (unit_text_at a c.args.top.0).args
+    (unit-is-sound a c.args.top.0 o c.requires.unit c.requires.formed c.requires.begun).ports in
     let room = top-fits a c.args.top o c.requires.unit (reads a o) c.in_ok-bits.bits q ports in
     record {
       underway = starts a c.args.top o c.requires.unit (reads a o) c.in_ok-bits.bits q ports c.in_ok-building.building c.in_ok-building.ensures;
@@ -138,7 +140,8 @@ loop-next-preserved c =
     record {
       underway = goes-on a (hierarchies (contents a)) (final a c.args.top.0) (reads a o) old mid next w q plan k c.visit.new.self c.in_ok-visit.ensures;
       plans = c.in_ok-fill.ensures.plans;
-      connected = still-connected a o c.requires.formed (hierarchies (contents a)) (final a c.args.top.0) (reads a o) old mid next w q plan k c.visit.new.self c.in_ok-visit.ensures c.loop-next.invariant.connected;
+      connected = still-connected a o c.requires.formed (hierarchies (contents a)) (final a c.args.top.0) (reads a o) old mid next w q plan k c.visit.new.self c.in_ok-visit.ensures
+          c.loop-next.invariant.connected;
     }
 
 pub returns-in_err-bits-clause-elaborates : goal.returns-in_err-bits-clause-elaborates

@@ -21,8 +21,10 @@ loop-parent-preserved c =
     let less = parent-below a d c.requires.design.parents at p here e in
     record {
       here = omega (arith, less, here);
-      path = path-up a d c.requires.design.parents (path_at (shown a d) c.args.instance) c.loop-parent.below.items c.push_number.new.numbers.items at p here e c.in_ok-push_number.ensures c.loop-parent.invariant.path;
-      known = subst (Each (λ (k : ℕ). k < length d.instances.items)) (sym c.in_ok-push_number.ensures) (Each-append (λ (k : ℕ). k < length d.instances.items) c.loop-parent.below.items (at ∷ []) c.loop-parent.invariant.known (here, tt));
+      path = path-up a d c.requires.design.parents (path_at (shown a d) c.args.instance) c.loop-parent.below.items c.push_number.new.numbers.items at p here e c.in_ok-push_number.ensures
+          c.loop-parent.invariant.path;
+      known = subst (Each (λ (k : ℕ). k < length d.instances.items)) (sym c.in_ok-push_number.ensures)
+          (Each-append (λ (k : ℕ). k < length d.instances.items) c.loop-parent.below.items (at ∷ []) c.loop-parent.invariant.known (here, tt));
     }
 
 pub returns-clause-path : goal.returns-clause-path

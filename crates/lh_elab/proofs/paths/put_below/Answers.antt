@@ -14,6 +14,7 @@ loop-next-preserved c =
     let next = c.in-Some.next in
     let both = each-split (λ (k : ℕ). k < length d.instances.items) less (next ∷ []) (subst (Each (λ (k : ℕ). k < length d.instances.items)) c.in-Some.ensures.items c.loop-next.invariant.known) in
     record {
-      text = down all (c.args.path.now.items ++ dotted all c.args.below.items) c.loop-next.path.items c.put.new.to.items c.put_label.new.to.items ks less next c.in-Some.ensures.items c.in_ok-put.ensures c.in_ok-put_label.ensures c.loop-next.invariant.text;
+      text = down all (c.args.path.now.items ++ dotted all c.args.below.items) c.loop-next.path.items c.put.new.to.items c.put_label.new.to.items ks less next c.in-Some.ensures.items
+          c.in_ok-put.ensures c.in_ok-put_label.ensures c.loop-next.invariant.text;
       known = both.0;
     }

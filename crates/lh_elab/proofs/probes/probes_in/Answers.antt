@@ -25,4 +25,5 @@ loop-inst-preserved c =
     }
 
 pub returns : goal.returns
-returns c = λ args sigs e f. all-probes e (line_in c.args.m.now c.args.unit.0) c.args.insts.now c.loop-inst.inst-index (map (above args sigs) c.loop-inst.probes) _ c.loop-inst-test.false (c.loop-inst.invariant.probes args sigs e f)
+returns c = λ args sigs e f. all-probes e (line_in c.args.m.now c.args.unit.0) c.args.insts.now c.loop-inst.inst-index (map (above args sigs) c.loop-inst.probes) _ c.loop-inst-test.false
+    (c.loop-inst.invariant.probes args sigs e f)

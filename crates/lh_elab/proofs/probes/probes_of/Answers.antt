@@ -19,7 +19,8 @@ parts_at-requires c =
     let inside : k < length is = subst (λ (xs : List Instance). k < length xs) there c.loop-instance-test.true in
     let f : InstanceIs a w i = instance-is a w is k i inside (c.instance-item.is ∙ ap (λ (xs : List Instance). get_or xs k i) there) d.fits in
     let few : w < 2 ^ 32 = let n = ap length c.init.ensures in omega (arith, c.few_bits.ensures, n) in
-    let p : ProbesOf a i.unit.0 c.index.result.now = unit-senses a c.in_ok-units.units.items i.unit.0 c.index.result.now f.unit c.in_ok-units.ensures.long c.index.ensures c.in_ok-units.ensures.probes in
+    let p : ProbesOf a i.unit.0 c.index.result.now = unit-senses a c.in_ok-units.units.items i.unit.0 c.index.result.now f.unit c.in_ok-units.ensures.long c.index.ensures
+    c.in_ok-units.ensures.probes in
     probes-few a d.arena d.formed w i f few c.as_slice-unit.result.now (subst (ProbesOf a i.unit.0) (sym c.as_slice-unit.ensures) p)
 
 pub loop-instance-preserved : goal.loop-instance-preserved
@@ -34,7 +35,8 @@ loop-instance-preserved c =
     let inside : k < length is = subst (λ (xs : List Instance). k < length xs) there c.loop-instance-test.true in
     let e : i ≡ get_or is k i = c.instance-item.is ∙ ap (λ (xs : List Instance). get_or xs k i) there in
     let f : InstanceIs a w i = instance-is a w is k i inside e d.fits in
-    let p : ProbesOf a i.unit.0 c.index.result.now = unit-senses a c.in_ok-units.units.items i.unit.0 c.index.result.now f.unit c.in_ok-units.ensures.long c.index.ensures c.in_ok-units.ensures.probes in
+    let p : ProbesOf a i.unit.0 c.index.result.now = unit-senses a c.in_ok-units.units.items i.unit.0 c.index.result.now f.unit c.in_ok-units.ensures.long c.index.ensures
+    c.in_ok-units.ensures.probes in
     let q = senses a d.arena d.formed w i f c.as_slice-unit.result.now c.in_ok-parts_at.field-0 (subst (ProbesOf a i.unit.0) (sym c.as_slice-unit.ensures) p) c.in_ok-parts_at.ensures in
     next-probed a is k i c.loop-instance.probes.items c.push_parts.new.all.items c.in_ok-parts_at.field-0 inside e c.loop-instance.invariant c.in_ok-push_parts.ensures q
 

@@ -9,17 +9,20 @@ loop-frame-init c = Searching-first c.args.nodes.now c.args.top c.in_ok-search.s
 
 pub loop-frame-smaller : goal.loop-frame-smaller
 loop-frame-smaller c =
-    left-falls c.args.nodes.now c.args.top.0 c.in-Some.frame c.loop-frame.search (record { marks = c.loop-frame.search.marks; stack = c.pop.new.self }) c.step.new.self c.requires.within c.loop-frame.invariant
+    left-falls c.args.nodes.now c.args.top.0 c.in-Some.frame c.loop-frame.search (record { marks = c.loop-frame.search.marks; stack = c.pop.new.self }) c.step.new.self c.requires.within
+    c.loop-frame.invariant
     (record { marks = refl; stack = c.in-Some.ensures.items }) c.in_ok-step.ensures
 
 pub loop-frame-preserved : goal.loop-frame-preserved
 loop-frame-preserved c =
-    Searching-next c.args.nodes.now c.args.top.0 c.in-Some.frame c.loop-frame.search (record { marks = c.loop-frame.search.marks; stack = c.pop.new.self }) c.step.new.self c.requires.within c.loop-frame.invariant
+    Searching-next c.args.nodes.now c.args.top.0 c.in-Some.frame c.loop-frame.search (record { marks = c.loop-frame.search.marks; stack = c.pop.new.self }) c.step.new.self c.requires.within
+    c.loop-frame.invariant
     (record { marks = refl; stack = c.in-Some.ensures.items }) c.in_ok-step.ensures
 
 pub returns-in_err-step : goal.returns-in_err-step
 returns-in_err-step c =
     let p = err_from_is_err_and c.from_residual-in_err-step.result c.from_residual-in_err-step.ensures.1 in
     rw (p.1, p.2)
-    (Searching-stop c.args.nodes.now c.args.top.0 c.in-Some.frame c.loop-frame.search (record { marks = c.loop-frame.search.marks; stack = c.pop.new.self }) c.step.new.self c.in_err-step.field-0.0 c.loop-frame.invariant
+    (Searching-stop c.args.nodes.now c.args.top.0 c.in-Some.frame c.loop-frame.search (record { marks = c.loop-frame.search.marks; stack = c.pop.new.self }) c.step.new.self c.in_err-step.field-0.0
+    c.loop-frame.invariant
     (record { marks = refl; stack = c.in-Some.ensures.items }) c.in_err-step.ensures)

@@ -8,7 +8,8 @@ pub add_arg-requires : goal.add_arg-requires
 add_arg-requires c = c.loop-left.invariant.room
 
 pub loop-left-preserved : goal.loop-left-preserved
-loop-left-preserved c = args-next c.args.names.now c.loop-left.lines c.add_arg.new.self c.loop-left.left.now c.name-item.result c.loop-left.invariant c.in-len1-up.len_at_least c.name-item.is c.in_ok-add_arg.ensures
+loop-left-preserved c = args-next c.args.names.now c.loop-left.lines c.add_arg.new.self c.loop-left.left.now c.name-item.result c.loop-left.invariant c.in-len1-up.len_at_least c.name-item.is
+    c.in_ok-add_arg.ensures
 
 pub returns : goal.returns
 returns c = args-end c.args.names.now c.loop-left.lines c.loop-left.left.now c.loop-left.invariant c.in_default.len_below

@@ -12,5 +12,6 @@ op-requires-clause-fits c =
 
 pub returns-clause-made : goal.returns-clause-made
 returns-clause-made c =
-    chosen-made c.args.terms.now c.op.new.self c.args.c c.args.f c.args.t c.in_ok-pair.pair c.in_ok-from_slice.field-0 c.op.ensures.kept c.requires.c_in c.in_ok-pair.ensures.made c.in_ok-from_slice.ensures
+    chosen-made c.args.terms.now c.op.new.self c.args.c c.args.f c.args.t c.in_ok-pair.pair c.in_ok-from_slice.field-0 c.op.ensures.kept c.requires.c_in c.in_ok-pair.ensures.made
+    c.in_ok-from_slice.ensures
     (sym (ap (λ t. is_none (array_fault 2 t)) c.ty.ensures) ∙ c.in_ok-has_pair.ensures.pair)

@@ -1,7 +1,7 @@
 use Rattle.std.proofs.Common.{◌≡◌, get_or, ap, subst, ◌∙◌}
 use Rattle.lh_types.specs.ValueOf.{datum_of}
 use Rattle.lh_term.specs.Tree.{constant}
-use Rattle.lh_term.specs.Arena.{Stands}
+use Rattle.lh_term.specs.Arena.{StandsForTree}
 use Rattle.lh_types.specs.declared.val.Val.{Val}
 use Rattle.lh_emit.proofs.Composing.{constants-next}
 use Rattle.lh_emit.proofs.making.constants.Goals as goal
@@ -9,5 +9,6 @@ use Rattle.lh_emit.proofs.making.constants.Goals as goal
 pub loop-left-preserved : goal.loop-left-preserved
 loop-left-preserved c =
     let e : c.in_ok-copy.field-0 ≡ get_or c.loop-left.left.now 0 c.value-item.result = c.in_ok-copy.ensures ∙ c.value-item.is in
-    constants-next c.args.terms.now c.args.values.now c.loop-left.terms c.konst.new.self c.loop-left.list c.push.new.self c.loop-left.left.now c.value-item.result c.in_ok-id.id c.loop-left.invariant c.in-len1-up.len_at_least
-    c.konst.ensures.kept (subst (λ (v : Val). Stands c.konst.new.self c.in_ok-id.id (constant (datum_of v))) e c.in_ok-id.ensures.made) c.in_ok-push.ensures.ok
+    constants-next c.args.terms.now c.args.values.now c.loop-left.terms c.konst.new.self c.loop-left.list c.push.new.self c.loop-left.left.now c.value-item.result c.in_ok-id.id c.loop-left.invariant
+    c.in-len1-up.len_at_least
+    c.konst.ensures.kept (subst (λ (v : Val). StandsForTree c.konst.new.self c.in_ok-id.id (constant (datum_of v))) e c.in_ok-id.ensures.made) c.in_ok-push.ensures.ok

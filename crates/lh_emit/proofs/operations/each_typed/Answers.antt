@@ -13,7 +13,8 @@ loop-k-init c = ap (λ ts. ts ++ each_with_type c.args.terms.now c.args.of.now c
 pub loop-k-preserved : goal.loop-k-preserved
 loop-k-preserved c =
     let value = get_or c.args.values.now c.loop-k.k (record { 0 = 0 }) in
-    each-next c.args.terms.now c.args.of.now c.args.values.now c.loop-k.k c.loop-k.operands c.push.new.self (each_with_type c.args.terms.now c.args.of.now c.args.values.now) (record { 0 = 0 }) (record { 0 = 0 })
+    each-next c.args.terms.now c.args.of.now c.args.values.now c.loop-k.k c.loop-k.operands c.push.new.self (each_with_type c.args.terms.now c.args.of.now c.args.values.now) (record { 0 = 0 })
+    (record { 0 = 0 })
     c.loop-k-test.true c.requires.long c.loop-k.invariant
     (c.in_ok-push.ensures.ok ∙ ap (λ o. c.loop-k.operands ++ o ∷ []) (c.in_ok-operand.ensures ∙ ap (λ t. with_type t value) c.ty.ensures))
 

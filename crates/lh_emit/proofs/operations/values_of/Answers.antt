@@ -11,7 +11,8 @@ loop-k-init c = ap (λ ts. map Some ts ++ map (value_in c.args.values.now) c.arg
 
 pub loop-k-preserved : goal.loop-k-preserved
 loop-k-preserved c =
-    value-next c.args.values.now c.args.of.now c.loop-k.k c.loop-k.list c.push.new.self c.value_of.result (record { 0 = 0 }) c.loop-k-test.true c.loop-k.invariant c.value_of.ensures c.in_ok-push.ensures.ok
+    value-next c.args.values.now c.args.of.now c.loop-k.k c.loop-k.list c.push.new.self c.value_of.result (record { 0 = 0 }) c.loop-k-test.true c.loop-k.invariant c.value_of.ensures
+    c.in_ok-push.ensures.ok
 
 pub returns : goal.returns
 returns c = value-all c.args.values.now c.args.of.now c.loop-k.k c.loop-k.list (omega arith) c.loop-k.invariant

@@ -12,12 +12,14 @@ step_inst-requires c = type-first c.loop-left.left.now c.step-item.result c.loop
 pub give-requires : goal.give-requires
 give-requires c = record {
   room = c.loop-left.invariant.walks.room;
-  named = step-can c.args.route.now c.args.lines.now c.args.from c.loop-left.lines c.loop-left.value c.loop-left.left.now c.step-item.result c.in_ok-inst.inst c.loop-left.invariant.walks c.in-len1-up.len_at_least c.step-item.is c.in_ok-inst.ensures;
+  named = step-can c.args.route.now c.args.lines.now c.args.from c.loop-left.lines c.loop-left.value c.loop-left.left.now c.step-item.result c.in_ok-inst.inst c.loop-left.invariant.walks
+      c.in-len1-up.len_at_least c.step-item.is c.in_ok-inst.ensures;
 }
 
 pub loop-left-preserved : goal.loop-left-preserved
 loop-left-preserved c = record {
-  walks = walks-on c.args.route.now c.args.lines.now c.args.from c.loop-left.lines c.loop-left.value c.loop-left.left.now c.step-item.result c.in_ok-inst.inst c.loop-left.invariant.walks c.in-len1-up.len_at_least c.step-item.is c.in_ok-inst.ensures
+  walks = walks-on c.args.route.now c.args.lines.now c.args.from c.loop-left.lines c.loop-left.value c.loop-left.left.now c.step-item.result c.in_ok-inst.inst c.loop-left.invariant.walks
+      c.in-len1-up.len_at_least c.step-item.is c.in_ok-inst.ensures
       c.give.new.self c.in_ok-value.value c.in_ok-value.ensures;
   types = types-left c.loop-left.left.now c.loop-left.invariant.types;
 }
@@ -28,5 +30,6 @@ returns-clause-walks c = walks-end c.args.route.now c.args.lines.now c.args.from
 pub returns-in_err-value-clause-cause : goal.returns-in_err-value-clause-cause
 returns-in_err-value-clause-cause c =
     err-cause c.from_residual-in_err-value.result c.in_err-value.field-0.0 (WalksNot c.args.route.now c.args.lines.now c.args.from) c.from_residual-in_err-value.ensures.1
-    (walks-cause c.args.route.now c.args.lines.now c.args.from c.loop-left.lines c.loop-left.value c.loop-left.left.now c.step-item.result c.in_ok-inst.inst c.loop-left.invariant.walks c.in-len1-up.len_at_least c.step-item.is c.in_ok-inst.ensures
+    (walks-cause c.args.route.now c.args.lines.now c.args.from c.loop-left.lines c.loop-left.value c.loop-left.left.now c.step-item.result c.in_ok-inst.inst c.loop-left.invariant.walks
+    c.in-len1-up.len_at_least c.step-item.is c.in_ok-inst.ensures
     c.in_err-value.field-0.0 (gives-fault c.loop-left.lines c.give.new.self c.in_ok-inst.inst c.in_err-value.field-0.0 c.in_err-value.ensures))

@@ -14,4 +14,5 @@ returns-then-args-ne1 c = λ e h. not-one (unit_text_at c.args.m.now c.args.unit
 
 pub stepped_part-requires-clause-fit : goal.stepped_part-requires-clause-fit
 stepped_part-requires-clause-fit c =
-    (subst (Each (λ (o : Typed). PartFits c.args.m.now c.args.unit.0 c.args.slots.now o.value)) (one-item c.args.args.now c.index-args-0.result c.if-args-ne1.false c.index-args-0.is) c.requires.fit.parts).0
+    (subst (Each (λ (o : Typed). PartFits c.args.m.now c.args.unit.0 c.args.slots.now o.value)) (one-item c.args.args.now c.index-args-0.result c.if-args-ne1.false c.index-args-0.is)
+    c.requires.fit.parts).0

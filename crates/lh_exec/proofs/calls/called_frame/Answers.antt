@@ -14,7 +14,8 @@ pub returns-in-Some : goal.returns-in-Some
 returns-in-Some c = λ u e d.
     let m = c.args.m.now in
     let there : Some (map datum_of c.as_slice.result.now) ≡ data_at e (map (operand_text (naming m u)) c.args.args.now) =
-    ap (λ vs. Some (map datum_of vs)) c.as_slice.ensures.value ∙ sym (ap (option_map (λ v. map datum_of v.items)) c.in-Some.is) ∙ c.in_ok-values.ensures ∙ (same-held m u c.args.slots.now e d).values c.args.args.now c.requires.args in
+    ap (λ vs. Some (map datum_of vs)) c.as_slice.ensures.value ∙ sym (ap (option_map (λ v. map datum_of v.items)) c.in-Some.is) ∙ c.in_ok-values.ensures
+    ∙ (same-held m u c.args.slots.now e d).values c.args.args.now c.requires.args in
     subst (λ (x : Option (List Datum)). IfOk c.function_frame.result (λ f. MaybeFrame m f (called (Some (unit_text_at m c.args.unit.0)) x))) there c.function_frame.ensures
 
 pub returns-in-None : goal.returns-in-None

@@ -13,8 +13,10 @@ returns-then-not-branch c =
     let x : InstId = get_or c.args.insts.now i (record { 0 = 0 }) in
     let more = all_taken c.args.frame.now.block c.args.frame.now.slots t (drop (i + 1) c.args.insts.now) in
     let b : c.in_ok-take_phi.field-0 ≡ false = cc in
-    let e = subst (λ b. TakesMore b (map taken_of c.loop-inst.taken.items) (map taken_of c.take_phi.new.taken.items) more (one_taken c.args.frame.now.block c.args.frame.now.slots (line_at t x.0).inst (line_at t x.0).result more)) b (c.in_ok-take_phi.ensures more) in
-    take-stops c.args.frame.now.block c.args.frame.now.slots t c.args.insts.now i c.loop-inst-test.true (map taken_of c.loop-inst.taken.items) (all_taken c.args.frame.now.block c.args.frame.now.slots t c.args.insts.now) e c.loop-inst.invariant.same
+    let e = subst (λ b. TakesMore b (map taken_of c.loop-inst.taken.items) (map taken_of c.take_phi.new.taken.items) more
+    (one_taken c.args.frame.now.block c.args.frame.now.slots (line_at t x.0).inst (line_at t x.0).result more)) b (c.in_ok-take_phi.ensures more) in
+    take-stops c.args.frame.now.block c.args.frame.now.slots t c.args.insts.now i c.loop-inst-test.true (map taken_of c.loop-inst.taken.items)
+    (all_taken c.args.frame.now.block c.args.frame.now.slots t c.args.insts.now) e c.loop-inst.invariant.same
 
 pub loop-inst-preserved : goal.loop-inst-preserved
 loop-inst-preserved c =
@@ -23,8 +25,10 @@ loop-inst-preserved c =
     let x : InstId = get_or c.args.insts.now i (record { 0 = 0 }) in
     let more = all_taken c.args.frame.now.block c.args.frame.now.slots t (drop (i + 1) c.args.insts.now) in
     let b : c.in_ok-take_phi.field-0 ≡ true = cc in
-    let e = subst (λ b. TakesMore b (map taken_of c.loop-inst.taken.items) (map taken_of c.take_phi.new.taken.items) more (one_taken c.args.frame.now.block c.args.frame.now.slots (line_at t x.0).inst (line_at t x.0).result more)) b (c.in_ok-take_phi.ensures more) in
+    let e = subst (λ b. TakesMore b (map taken_of c.loop-inst.taken.items) (map taken_of c.take_phi.new.taken.items) more
+    (one_taken c.args.frame.now.block c.args.frame.now.slots (line_at t x.0).inst (line_at t x.0).result more)) b (c.in_ok-take_phi.ensures more) in
     record {
-      same = take-goes c.args.frame.now.block c.args.frame.now.slots t c.args.insts.now i c.loop-inst-test.true (map taken_of c.loop-inst.taken.items) (map taken_of c.take_phi.new.taken.items) (all_taken c.args.frame.now.block c.args.frame.now.slots t c.args.insts.now) e c.loop-inst.invariant.same;
+      same = take-goes c.args.frame.now.block c.args.frame.now.slots t c.args.insts.now i c.loop-inst-test.true (map taken_of c.loop-inst.taken.items) (map taken_of c.take_phi.new.taken.items)
+          (all_taken c.args.frame.now.block c.args.frame.now.slots t c.args.insts.now) e c.loop-inst.invariant.same;
       within = each-next (λ (k : InstId). k.0 < inst_count c.args.m.now c.args.frame.now.unit.0) c.args.insts.now i (record { 0 = 0 }) c.loop-inst-test.true c.loop-inst.invariant.within;
     }

@@ -17,4 +17,5 @@ loop-edge-init c = AnySoFar-none _ _ _ _ c.bit.ensures.kept c.in_ok-any.ensures.
 pub loop-edge-preserved : goal.loop-edge-preserved
 loop-edge-preserved c =
     let all = c.args.edges.now in let i = c.loop-edge.edge-index in
-    AnySoFar-next _ _ _ _ _ (drop i all) all (get_or all i no_edge) (drop (i + 1) all) (drop_more all i no_edge c.loop-edge-test.true) c.or.ensures.kept c.in_ok-any-2.ensures.made c.loop-edge.invariant
+    AnySoFar-next _ _ _ _ _ (drop i all) all (get_or all i no_edge) (drop (i + 1) all) (drop_more all i no_edge c.loop-edge-test.true) c.or.ensures.kept c.in_ok-any-2.ensures.made
+    c.loop-edge.invariant

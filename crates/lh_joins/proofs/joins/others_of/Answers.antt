@@ -1,5 +1,5 @@
 use Rattle.std.proofs.Common.{List, subst, ap, ◌∙◌}
-use Rattle.lh_rows.specs.Joins.{Edge as EdgeTo}
+use Rattle.lh_rows.specs.Joins.{RegionEdge}
 use Rattle.lh_joins.specs.Joins.{edges_on, AreOthers}
 use Rattle.lh_joins.proofs.Selecting.{edges-later}
 use Rattle.lh_joins.proofs.joins.others_of.Goals as goal
@@ -7,5 +7,5 @@ use Rattle.lh_joins.proofs.joins.others_of.Goals as goal
 pub returns : goal.returns
 returns c =
     let ns = c.args.terms.now in let all = c.args.edges.now in
-    subst (λ (es : List EdgeTo). AreOthers ns (edges_on ns all) es c.in_ok-others.others) (ap (edges_on ns) c.later.ensures ∙ edges-later ns all)
+    subst (λ (es : List RegionEdge). AreOthers ns (edges_on ns all) es c.in_ok-others.others) (ap (edges_on ns) c.later.ensures ∙ edges-later ns all)
     (c.in_ok-others.ensures all c.in_ok-shared.ensures)

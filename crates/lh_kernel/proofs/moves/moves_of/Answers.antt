@@ -1,6 +1,8 @@
 use Rattle.std.proofs.Common.{length, refl, ◌+◌, Vec, take, sym, subst}
 use Rattle.std.proofs.lemmas.Option.{slice_get_read}
 use Rattle.std.specs.Global.{Global}
+use Rattle.lh_states.specs.declared.state.InstState.{InstState}
+use Rattle.lh_kernel.specs.Moves.{IsMove, SensesAsBefore}
 use Rattle.lh_kernel.specs.declared.noted.Move.{Move}
 use Rattle.lh_kernel.proofs.Moving.{AreKnownMoves, moves_none, moves_next, moves_still, moves_all, read_item}
 use Rattle.lh_kernel.proofs.moves.moves_of.Goals as goal
@@ -23,10 +25,10 @@ loop-done-preserved c =
       | then-not-senses_as_before+in_ok-move_of+in_ok-push w ↦
           subst P (sym w.moves-is)
           (moves_next signals probes states c.args.acts.now c.loop-done.done-index x c.loop-done.moves.items w.push.new.self.items w.in_ok-move_of.field-0 c.loop-done-test.true c.done-item.is c.loop-done.invariant
-          (record { probed = c.index-probes-k.result; state = c.index-states-k.result; is_probed = is_probed; is_kept = is_kept; moves = w.in_ok-move_of.ensures }) w.in_ok-push.ensures.items)
+          (record { probed = c.index-probes-k.result; state = c.index-states-k.result; is_probed = is_probed; is_kept = is_kept; moves = subst (λ (s : InstState). IsMove signals c.index-probes-k.result x.instance c.index-states-k.result s w.in_ok-move_of.field-0) c.next-new.ensures w.in_ok-move_of.ensures }) w.in_ok-push.ensures.items)
       | else-not-senses_as_before w ↦
           subst P (sym w.moves-is)
-          (moves_still signals probes states c.args.acts.now c.loop-done.done-index x c.loop-done.moves.items c.index-probes-k.result c.index-states-k.result c.loop-done-test.true c.done-item.is c.loop-done.invariant is_probed is_kept (c.senses_as_before.ensures w.if-not-senses_as_before.false))
+          (moves_still signals probes states c.args.acts.now c.loop-done.done-index x c.loop-done.moves.items c.index-probes-k.result c.index-states-k.result c.loop-done-test.true c.done-item.is c.loop-done.invariant is_probed is_kept (subst (λ (s : InstState). SensesAsBefore c.index-states-k.result s) c.next-new.ensures (c.senses_as_before.ensures w.if-not-senses_as_before.false)))
     ]
 
 pub returns-clause-moves : goal.returns-clause-moves

@@ -13,13 +13,15 @@ new-requires-2-clause-steps c = has-steps (c.requires.naming.unit_name 0) c.requ
 pub entity_of-requires : goal.entity_of-requires
 entity_of-requires c =
     let o = c.in_ok-origin.ensures in
-    can-emit-made c.comb_given.ensures c.edge_given.ensures c.once_given.ensures c.shape_of_flat.new.terms c.args.names c.args.flat.now c.in_ok-parts.parts c.requires c.in_ok-parts.ensures c.in_ok-origin.origin o.flat o.parts o.names o.firsts c.in_ok-shape.shape c.in_ok-shape.ensures.is
+    can-emit-made c.comb_given.ensures c.edge_given.ensures c.once_given.ensures c.shape_of_flat.new.terms c.args.names c.args.flat.now c.in_ok-parts.parts c.requires c.in_ok-parts.ensures
+    c.in_ok-origin.origin o.flat o.parts o.names o.firsts c.in_ok-shape.shape c.in_ok-shape.ensures.is
 
 pub returns : goal.returns
 returns c =
     let o = c.in_ok-origin.ensures in
     record {
       is = if-ok c.entity_of.result (IsOutcomeOf c.shape_of_flat.new.terms c.in_ok-origin.origin c.in_ok-shape.shape) (IsOutcomeBy c.args.names c.args.flat.now)
-          (outcome-made c.comb_given.ensures c.edge_given.ensures c.once_given.ensures c.shape_of_flat.new.terms c.args.names c.args.flat.now c.in_ok-parts.parts c.requires c.in_ok-parts.ensures c.in_ok-origin.origin o.flat o.parts o.names o.firsts c.in_ok-shape.shape c.in_ok-shape.ensures.is)
+          (outcome-made c.comb_given.ensures c.edge_given.ensures c.once_given.ensures c.shape_of_flat.new.terms c.args.names c.args.flat.now c.in_ok-parts.parts c.requires c.in_ok-parts.ensures
+          c.in_ok-origin.origin o.flat o.parts o.names o.firsts c.in_ok-shape.shape c.in_ok-shape.ensures.is)
           c.entity_of.ensures.is;
     }

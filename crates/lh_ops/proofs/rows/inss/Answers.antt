@@ -10,4 +10,5 @@ pub with_parts-requires : goal.with_parts-requires
 with_parts-requires c = inss_within _ _ _ _ _ _ _ _ c.requires c.index-args-0.is c.index-args-1.is (ap datum_of c.in-Array.is) c.as_slice.ensures c.parts.ensures
 
 pub returns-in_ok-whole-in-Array : goal.returns-in_ok-whole-in-Array
-returns-in_ok-whole-in-Array c = inss_array _ _ _ _ _ _ _ _ c.requires c.index-args-0.is c.index-args-1.is (ap datum_of c.in-Array.is) c.as_slice.ensures c.parts.ensures _ c.in_ok-whole-in-Array.ensures
+returns-in_ok-whole-in-Array c = inss_array _ _ _ _ _ _ _ _ c.requires c.index-args-0.is c.index-args-1.is (ap datum_of c.in-Array.is) c.as_slice.ensures c.parts.ensures _
+    c.in_ok-whole-in-Array.ensures

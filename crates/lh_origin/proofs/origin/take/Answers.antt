@@ -7,7 +7,8 @@ returns-in_default c = takes-none c.args.parts.now.parts.items c.args.value c.ar
 
 pub returns-then-is_some : goal.returns-then-is_some
 returns-then-is_some c =
-    takes-seen c.args.parts.now.parts.items c.args.value c.args.firsts.now c.in-Some.part.now c.first_of.result c.kept_for.result.now c.in-Some.ensures c.kept_for.ensures c.first_of.ensures c.if-is_some.ensures
+    takes-seen c.args.parts.now.parts.items c.args.value c.args.firsts.now c.in-Some.part.now c.first_of.result c.kept_for.result.now c.in-Some.ensures c.kept_for.ensures c.first_of.ensures
+    c.if-is_some.ensures
 
 pub returns : goal.returns
 returns c =

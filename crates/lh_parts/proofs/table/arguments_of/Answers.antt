@@ -19,4 +19,5 @@ put_argument-requires-clause-within c =
 pub loop-k-preserved : goal.loop-k-preserved
 loop-k-preserved c =
     let items = c.as_slice-arg-items.result.now in let i = c.loop-k.k in
-    TakingArgs-arg _ _ _ i (drop i items) items c.arg-item.result (drop (i + 1) items) (drop-item items i c.arg-item.result (omega arith) c.arg-item.is) c.in_ok-put_argument.ensures.parts c.in_ok-put_argument.ensures.carried c.loop-k.invariant
+    TakingArgs-arg _ _ _ i (drop i items) items c.arg-item.result (drop (i + 1) items) (drop-item items i c.arg-item.result (omega arith) c.arg-item.is) c.in_ok-put_argument.ensures.parts
+    c.in_ok-put_argument.ensures.carried c.loop-k.invariant

@@ -6,4 +6,5 @@ use Rattle.lh_unit.specs.Canon.{argument}
 use Rattle.lh_print.proofs.arguments.put_arguments_behind.Given as goal
 
 abbrev pub invariant-loop-arg : goal.invariant-loop-arg
-invariant-loop-arg l = l.out.items ++ render (behind_commas (map argument (map (arg_text (naming l.view.module.now l.view.unit.0)) (drop l.arg-index l.args)))) ≡ l.initial.out.items ++ render (behind_commas (map argument (map (arg_text (naming l.view.module.now l.view.unit.0)) l.args)))
+invariant-loop-arg l = l.out.items ++ render (behind_commas (map argument (map (arg_text (naming l.view.module.now l.view.unit.0)) (drop l.arg-index l.args)))) ≡ l.initial.out.items
+    ++ render (behind_commas (map argument (map (arg_text (naming l.view.module.now l.view.unit.0)) l.args)))

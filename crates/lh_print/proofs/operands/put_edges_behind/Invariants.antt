@@ -6,4 +6,5 @@ use Rattle.lh_unit.specs.Canon.{edge}
 use Rattle.lh_print.proofs.operands.put_edges_behind.Given as goal
 
 abbrev pub invariant-loop-e : goal.invariant-loop-e
-invariant-loop-e l = l.out.items ++ render (behind_commas (map edge (map (edge_text (naming l.view.module.now l.view.unit.0)) (drop l.e-index l.edges)))) ≡ l.initial.out.items ++ render (behind_commas (map edge (map (edge_text (naming l.view.module.now l.view.unit.0)) l.edges)))
+invariant-loop-e l = l.out.items ++ render (behind_commas (map edge (map (edge_text (naming l.view.module.now l.view.unit.0)) (drop l.e-index l.edges)))) ≡ l.initial.out.items
+    ++ render (behind_commas (map edge (map (edge_text (naming l.view.module.now l.view.unit.0)) l.edges)))

@@ -8,6 +8,8 @@ use Rattle.lh_print.proofs.units.put_blocks.Goals as goal
 
 pub loop-block-preserved : goal.loop-block-preserved
 loop-block-preserved c = line_step _ _ _
-    (block_lines (block_text (naming c.args.view.module.now c.args.view.unit.0) (table_at c.args.view.module.now c.args.view.unit.0) (get_or c.args.blocks.now c.loop-block.block-index (record { 0 = 0 })))) _ _
-    (ap (λ l. blocks_lines (map (block_text (naming c.args.view.module.now c.args.view.unit.0) (table_at c.args.view.module.now c.args.view.unit.0)) l)) (drop_more c.args.blocks.now c.loop-block.block-index (record { 0 = 0 }) c.loop-block-test.true))
+    (block_lines (block_text (naming c.args.view.module.now c.args.view.unit.0) (table_at c.args.view.module.now c.args.view.unit.0)
+    (get_or c.args.blocks.now c.loop-block.block-index (record { 0 = 0 })))) _ _
+    (ap (λ l. blocks_lines (map (block_text (naming c.args.view.module.now c.args.view.unit.0) (table_at c.args.view.module.now c.args.view.unit.0)) l))
+    (drop_more c.args.blocks.now c.loop-block.block-index (record { 0 = 0 }) c.loop-block-test.true))
     c.in_ok-put_block.ensures c.loop-block.invariant

@@ -1,7 +1,7 @@
 use Rattle.std.proofs.Common.{◌<◌, get_or, refl}
 use Rattle.lh_unit.specs.Arena.{inst_count, unit_text_at}
 use Rattle.lh_unit.specs.declared.inst.InstId.{InstId}
-use Rattle.lh_eval.specs.Sound.{IsSound}
+use Rattle.lh_eval.specs.Sound.{InstIsSound}
 use Rattle.lh_react.specs.Standing.{line_in}
 use Rattle.lh_formed.proofs.EachItem.{each-rest}
 use Rattle.lh_react.proofs.InstsSteps.{more-fit, goes-on, ends}
@@ -15,7 +15,7 @@ loop-inst-preserved c =
     let m = c.args.m.now in
     let u = c.args.unit.0 in
     let d : InstId = record { 0 = 0 } in
-    let x = each-rest (λ (i : InstId). IsSound (unit_text_at m u) (line_in m u i)) c.args.insts.now c.loop-inst.inst-index d c.loop-inst-test.true c.loop-inst.invariant.sound in
+    let x = each-rest (λ (i : InstId). InstIsSound (unit_text_at m u) (line_in m u i)) c.args.insts.now c.loop-inst.inst-index d c.loop-inst-test.true c.loop-inst.invariant.sound in
     let y = each-rest (λ (i : InstId). i.0 < inst_count m u) c.args.insts.now c.loop-inst.inst-index d c.loop-inst-test.true c.loop-inst.invariant.within in
     record {
       fit = more-fit m u c.args.now.now c.args.state.now.memory c.args.at c.loop-inst.run c.run_inst.new.run (get_or c.args.insts.now c.loop-inst.inst-index d) c.loop-inst.invariant.fit x.0 c.in_ok-run_inst.ensures;

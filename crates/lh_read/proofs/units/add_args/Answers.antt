@@ -15,8 +15,10 @@ returns-in_err-add_arg c =
     let p = c.param-item.result in let i = c.loop-param.param-index in let mid = c.value_id.new.m in
     let f = arg_of c.args.output in let ps = c.args.params.now in let e = c.in_err-add_arg.field-0.0 in
     let name = c.in_ok-value.ensures.says ∙ c.name.ensures in let ty = c.in_ok-ty.ensures ∙ c.ty.ensures in
-    let same : arg_text (naming mid c.args.unit.0) (record { value = c.in_ok-value.value; ty = c.in_ok-ty.ty; output = c.args.output }) ≡ f p = λ j. record { name = name j; ty = ty j; output = c.args.output } in
-    let all : map f ps ≡ (map f (take i ps) ++ f p ∷ []) ++ map f (drop (i + 1) ps) = done_rest c.args.output ps (i + 1) ∙ ap (λ xs. xs ++ map f (drop (i + 1) ps)) (done_next c.args.output ps i p c.loop-param-test.true c.param-item.is) in
+    let same : arg_text (naming mid c.args.unit.0) (record { value = c.in_ok-value.value; ty = c.in_ok-ty.ty; output = c.args.output })
+    ≡ f p = λ j. record { name = name j; ty = ty j; output = c.args.output } in
+    let all : map f ps ≡ (map f (take i ps) ++ f p ∷ []) ++ map f (drop (i + 1) ps) = done_rest c.args.output ps (i + 1)
+    ∙ ap (λ xs. xs ++ map f (drop (i + 1) ps)) (done_next c.args.output ps i p c.loop-param-test.true c.param-item.is) in
     adds-err c.from_residual-in_err-add_arg.result (fault_of e) c.args.m.now c.add_arg.new.self c.args.unit (map f ps) c.from_residual-in_err-add_arg.ensures.1
     (args-refused c.args.m.now mid c.add_arg.new.self c.args.unit (map f (take i ps)) (f p) _ (map f ps) (map f (drop (i + 1) ps)) e
     (At-grown c.args.m.now c.loop-param.m mid c.args.unit _ c.loop-param.invariant c.in_ok-value.ensures.grows) same all c.in_err-add_arg.ensures)

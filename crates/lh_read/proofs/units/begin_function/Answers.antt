@@ -15,8 +15,10 @@ returns-in_err-add_args c =
     (heads-err e c.in_ok-unit.unit c.args.m.now c.begin.new.m c.add_args.new.m c.add_args.new.m n kind.Func args r c.in_ok-unit.ensures c.in_err-add_args.ensures)
 
 pub set_result-requires-clause-function : goal.set_result-requires-clause-function
-set_result-requires-clause-function c = is_function c.in_ok-unit.unit c.args.m.now c.begin.new.m c.add_args.new.m (unit_name_of c.args.name.now) (map input_of c.args.params.now) c.in_ok-unit.ensures c.in_ok-add_args.ensures
+set_result-requires-clause-function c = is_function c.in_ok-unit.unit c.args.m.now c.begin.new.m c.add_args.new.m (unit_name_of c.args.name.now) (map input_of c.args.params.now) c.in_ok-unit.ensures
+    c.in_ok-add_args.ensures
 
 pub returns : goal.returns
 returns c =
-    heads-function c.in_ok-unit.unit c.args.m.now c.begin.new.m c.add_args.new.m c.set_result.new.self (unit_name_of c.args.name.now) (map input_of c.args.params.now) c.args.result_type c.in_ok-unit.ensures c.in_ok-add_args.ensures c.set_result.ensures
+    heads-function c.in_ok-unit.unit c.args.m.now c.begin.new.m c.add_args.new.m c.set_result.new.self (unit_name_of c.args.name.now) (map input_of c.args.params.now) c.args.result_type
+    c.in_ok-unit.ensures c.in_ok-add_args.ensures c.set_result.ensures

@@ -14,4 +14,5 @@ returns-in_err-add_ports c =
     (heads-err e c.in_ok-unit.unit c.args.m.now c.begin.new.m c.add_ports.new.m c.add_ports.new.m n c.args.kind args None c.in_ok-unit.ensures c.in_err-add_ports.ensures)
 
 pub returns : goal.returns
-returns c = heads-ok c.in_ok-unit.unit c.args.m.now c.begin.new.m c.add_ports.new.m (unit_name_of c.args.name.now) c.args.kind (ports_of c.args.ports.now) c.in_ok-unit.ensures c.in_ok-add_ports.ensures
+returns c = heads-ok c.in_ok-unit.unit c.args.m.now c.begin.new.m c.add_ports.new.m (unit_name_of c.args.name.now) c.args.kind (ports_of c.args.ports.now) c.in_ok-unit.ensures
+    c.in_ok-add_ports.ensures

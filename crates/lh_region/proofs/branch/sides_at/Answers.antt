@@ -11,7 +11,8 @@ pub not-requires : goal.not-requires
 not-requires c = test-condition c.args.terms.now c.value_at.new.terms c.args.places.now.items c.args.value c.args.at c.in_ok-test.test c.requires.test c.in_ok-test.ensures.term
 
 pub and-requires-clause-a_holds : goal.and-requires-clause-a_holds
-and-requires-clause-a_holds c = condition-grown c.args.terms.now c.not.new.terms c.args.cond (grows_on c.args.terms.now c.value_at.new.terms c.not.new.terms c.value_at.ensures.kept c.not.ensures.kept) c.requires.cond
+and-requires-clause-a_holds c = condition-grown c.args.terms.now c.not.new.terms c.args.cond (grows_on c.args.terms.now c.value_at.new.terms c.not.new.terms c.value_at.ensures.kept c.not.ensures.kept)
+    c.requires.cond
 
 pub and-requires-clause-b_holds : goal.and-requires-clause-b_holds
 and-requires-clause-b_holds c =
@@ -43,6 +44,7 @@ returns c =
       still = still-grown ns ms os ps c.value_at.new.places.items v at (grows_on ms ks os from_ms c.and-2.ensures.kept) c.in_ok-test.ensures.still;
       zero =
           is-grown ns ks os ps v at (tree_at (trees ns) c.args.cond) c.in_ok-zero.zero c.and-2.ensures.kept
-          (and-not-made ns ms ls ks ps v at c.args.cond t c.in_ok-opposite.opposite c.in_ok-zero.zero to_ls c.requires.cond c.in_ok-test.ensures.term c.in_ok-opposite.ensures.made c.in_ok-zero.ensures.made);
+          (and-not-made ns ms ls ks ps v at c.args.cond t c.in_ok-opposite.opposite c.in_ok-zero.zero to_ls c.requires.cond c.in_ok-test.ensures.term c.in_ok-opposite.ensures.made
+          c.in_ok-zero.ensures.made);
       one = and-made ns ms ks os ps v at c.args.cond t c.in_ok-one.one to_ks from_ms c.requires.cond d c.in_ok-test.ensures.term c.in_ok-one.ensures.made;
     }

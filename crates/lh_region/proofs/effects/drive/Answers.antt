@@ -14,6 +14,7 @@ returns-clause-rows c =
     let row : DriveRow = record { cond = d.cond; part = c.args.part; value = c.in_ok-value.value; delay = c.in_ok-delay.delay } in
     let q : Rows = record { probes = r.probes; drives = c.push.new.self; asserts = r.asserts; ends = r.ends } in
     ok-then c.push.result (c.push.new.self ≡ r.drives ++ row ∷ []) (IsDriven ns ps r os q d c.args.part)
-    (λ e. driven-more ns ms ps qs d c.in_ok-value.value c.value_at.ensures.kept c.in_ok-value.ensures.still c.in_ok-value.ensures.term os rs c.in_ok-delay.delay c.value_at-2.ensures.kept c.in_ok-delay.ensures.still c.in_ok-delay.ensures.term
+    (λ e. driven-more ns ms ps qs d c.in_ok-value.value c.value_at.ensures.kept c.in_ok-value.ensures.still c.in_ok-value.ensures.term os rs c.in_ok-delay.delay c.value_at-2.ensures.kept
+    c.in_ok-delay.ensures.still c.in_ok-delay.ensures.term
     r q c.args.part row c.requires.cond (sym c.never_holds.ensures ∙ c.if-never_holds.false) refl refl refl refl refl e refl refl)
     c.push.ensures.ok

@@ -7,4 +7,6 @@ use Rattle.lh_region.proofs.start.start_of.Goals as goal
 pub loop-line-preserved : goal.loop-line-preserved
 loop-line-preserved c =
     let items = c.lines_left-line-items.result.now in let i = c.loop-line.line-index in
-    start-next _ _ _ _ _ _ (take i items) (take (i + 1) items) c.line-item.result (take_more items i c.line-item.result c.loop-line-test.true ∙ ap (λ (x : FlatInst). take i items ++ x ∷ []) (sym c.line-item.is)) c.take_constant.ensures.kept c.in_ok-take_constant.ensures.taken c.loop-line.invariant
+    start-next _ _ _ _ _ _ (take i items) (take (i + 1) items) c.line-item.result
+    (take_more items i c.line-item.result c.loop-line-test.true ∙ ap (λ (x : FlatInst). take i items ++ x ∷ []) (sym c.line-item.is)) c.take_constant.ensures.kept
+    c.in_ok-take_constant.ensures.taken c.loop-line.invariant

@@ -1,7 +1,7 @@
 use Rattle.std.proofs.Common.{◌<◌, ◌∙◌, ℕ, List, ap, sym, subst}
 use Rattle.lh_term.specs.declared.term.TermId.{TermId}
 use Rattle.lh_term.proofs.Swaps.{grows_on}
-use Rattle.lh_region.specs.declared.taking.Ask.{Ask}
+use Rattle.lh_region.specs.declared.taking.PlaceValue.{PlaceValue}
 use Rattle.lh_region.specs.Asked.{edges_at, IsJoin, CanJoin, IsJoined}
 use Rattle.lh_region.specs.Taken.{phi_asks, NamesEach, CanAskAll, AreTold, StillToldAll}
 use Rattle.lh_region.proofs.Placing.{same-length}
@@ -31,8 +31,8 @@ merged_at-requires-clause-join c =
     let ts = c.in_ok-values.values in
     let es = c.edges.ensures in
     let a = c.as_slice.ensures.value ∙ c.in_ok-asks.ensures ∙ ap (phi_asks c.args.operands.now) es in
-    let s = subst (λ (x : List Ask). StillToldAll ns ps ms qs x) a c.in_ok-values.ensures.still in
-    let m = subst (λ (x : List Ask). AreTold ns ps ms x ts) a c.in_ok-values.ensures.terms in
+    let s = subst (λ (x : List PlaceValue). StillToldAll ns ps ms qs x) a c.in_ok-values.ensures.still in
+    let m = subst (λ (x : List PlaceValue). AreTold ns ps ms x ts) a c.in_ok-values.ensures.terms in
     λ p e.
     subst (λ (us : List TermId). IsJoin ms p × CanJoin ms p us) (sym c.as_slice-2.ensures)
     (phi-joins ns ms ps qs c.args.at c.args.operands.now ts c.in_ok-values.ensures.same c.ask_all.ensures.kept s m c.requires.merge p e)
@@ -44,8 +44,8 @@ returns c =
     let ts = c.in_ok-values.values in
     let es = c.edges.ensures in
     let a = c.as_slice.ensures.value ∙ c.in_ok-asks.ensures ∙ ap (phi_asks c.args.operands.now) es in
-    let s = subst (λ (x : List Ask). StillToldAll ns ps ms qs x) a c.in_ok-values.ensures.still in
-    let m = subst (λ (x : List Ask). AreTold ns ps ms x ts) a c.in_ok-values.ensures.terms in
+    let s = subst (λ (x : List PlaceValue). StillToldAll ns ps ms qs x) a c.in_ok-values.ensures.still in
+    let m = subst (λ (x : List PlaceValue). AreTold ns ps ms x ts) a c.in_ok-values.ensures.terms in
     record {
       kept = grows_on ns ms os c.ask_all.ensures.kept c.merged_at.ensures.kept;
       same = selected-same os qs rs c.args.at c.in_ok-merged.ensures.place ∙ c.in_ok-values.ensures.same;

@@ -36,4 +36,5 @@ returns-clause-puts g c =
     let n : List ℕ = name_of_fault c.args.number in
     let both = Appends_more _ _ _ u i c.in_ok-write_unit.ensures.puts c.in_ok-write_number.ensures.puts in
     let last = rw c.fault_name.ensures at c.write_number-2.ensures.puts in
-    Puts_regrouped c.write_number-2.result _ (u ++ i) d n (Puts_second c.write_number-2.result _ _ _ _ _ _ (u ++ i) (d ++ n) both (rises_twice _ _ _ c.in_ok-write_unit.ensures.never_fall c.in_ok-write_number.ensures.never_fall) last)
+    Puts_regrouped c.write_number-2.result _ (u ++ i) d n
+    (Puts_second c.write_number-2.result _ _ _ _ _ _ (u ++ i) (d ++ n) both (rises_twice _ _ _ c.in_ok-write_unit.ensures.never_fall c.in_ok-write_number.ensures.never_fall) last)

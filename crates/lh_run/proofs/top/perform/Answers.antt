@@ -49,7 +49,8 @@ returns-clause-untouched g c = λ is. never_usage _ _ (Carries-status _ _ _ _ _ 
 pub returns-clause-performs : goal.returns-clause-performs
 returns-clause-performs g c =
     let calls = rw c.as_slice.ensures.value at (rw c.in-OnFile.is at c.in-Some.ensures) in
-    OfSource-weaker _ (λ bytes. Loads bytes (Ok c.in-Ok.file)) _ (λ bytes loaded. Performs-carried _ bytes _ (meant c.in-OnFile.on_file) (contents c.in-Ok.file) _ _ _ _ calls loaded c.carry_out.ensures.carries) c.in-Ok.ensures.loads
+    OfSource-weaker _ (λ bytes. Loads bytes (Ok c.in-Ok.file)) _
+    (λ bytes loaded. Performs-carried _ bytes _ (meant c.in-OnFile.on_file) (contents c.in-Ok.file) _ _ _ _ calls loaded c.carry_out.ensures.carries) c.in-Ok.ensures.loads
 
 pub returns-clause-came : goal.returns-clause-came
 returns-clause-came g c =
@@ -79,7 +80,8 @@ returns-in-Err-clause-faithful g c = OfSource-weaker _ (λ bytes. Loads bytes (E
 pub returns-clause-faithful : goal.returns-clause-faithful
 returns-clause-faithful g c =
     let calls = rw c.as_slice.ensures.value at (rw c.in-OnFile.is at c.in-Some.ensures) in
-    OfSource-weaker _ (λ bytes. Loads bytes (Ok c.in-Ok.file)) _ (λ bytes loaded. faithful _ bytes _ (meant c.in-OnFile.on_file) (contents c.in-Ok.file) _ _ _ calls loaded c.carry_out.ensures.lowers) c.in-Ok.ensures.loads
+    OfSource-weaker _ (λ bytes. Loads bytes (Ok c.in-Ok.file)) _ (λ bytes loaded. faithful _ bytes _ (meant c.in-OnFile.on_file) (contents c.in-Ok.file) _ _ _ calls loaded c.carry_out.ensures.lowers)
+    c.in-Ok.ensures.loads
 
 -- a self-test
 pub returns-in-Selftest-clause-usage : goal.returns-in-Selftest-clause-usage

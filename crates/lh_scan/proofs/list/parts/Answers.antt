@@ -2,7 +2,7 @@ use Rattle.std.proofs.Common.{◌≡◌, ◌<◌, Some, sym, ◌∙◌, ap, subs
 use Rattle.std.proofs.lemmas.Result.{err_from_is_err_and}
 use Rattle.lh_scan.specs.Pieces.{parts_at}
 use Rattle.lh_scan.specs.Shorter.{punct_at-shorter}
-use Rattle.lh_scan.proofs.Found.{Finds-without}
+use Rattle.lh_scan.proofs.Found.{ReadsAsFound-without}
 use Rattle.lh_scan.proofs.Lists.{At, At-none, At-next, At-end}
 use Rattle.lh_scan.proofs.list.parts.Goals as goal
 
@@ -16,7 +16,7 @@ loop-parts-preserved g c =
 pub returns-in_err-part : goal.returns-in_err-part
 returns-in_err-part g c =
     let p = err_from_is_err_and c.from_residual.result c.from_residual.ensures.1 in
-    rw (p.1, p.2) (Finds-without _ (g.P.Part.part_at c.loop-parts.rest) (parts_at g.P.Part.part_at (length c.args.tokens.now) c.args.tokens.now) c.in_err-part.ensures
+    rw (p.1, p.2) (ReadsAsFound-without _ (g.P.Part.part_at c.loop-parts.rest) (parts_at g.P.Part.part_at (length c.args.tokens.now) c.args.tokens.now) c.in_err-part.ensures
     (At-none g.P.Part.part_at c.args.tokens.now c.loop-parts.rest c.loop-parts.parts c.loop-parts.invariant))
 
 pub returns-in-None : goal.returns-in-None

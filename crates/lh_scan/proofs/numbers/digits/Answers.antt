@@ -7,4 +7,5 @@ use Rattle.lh_scan.proofs.numbers.digits.Goals as goal
 pub returns-then-n-d : goal.returns-then-n-d
 returns-then-n-d c =
     let past : 2 ^ 128 ≤ c.loop-b.n * 10 + (get_or c.args.text.now c.loop-b.b-index 0 - 48) = omega arith in
-    sym (ap small (sym c.loop-b.invariant ∙ digit_step c.args.text.now c.loop-b.b-index c.loop-b.n c.loop-b-test.true (omega arith) (omega arith)) ∙ small-past (drop (c.loop-b.b-index + 1) c.args.text.now) _ past)
+    sym (ap small (sym c.loop-b.invariant ∙ digit_step c.args.text.now c.loop-b.b-index c.loop-b.n c.loop-b-test.true (omega arith) (omega arith))
+    ∙ small-past (drop (c.loop-b.b-index + 1) c.args.text.now) _ past)

@@ -3,11 +3,11 @@ use Rattle.std.proofs.lemmas.Grind.{common_steps}
 use Rattle.std.proofs.lemmas.Result.{err_from_is_err_and}
 use Rattle.lh_unit.specs.Lexemes.{word, punct}
 use Rattle.lh_scan.specs.LexemeOf.{lexeme_of}
-use Rattle.lh_scan.specs.Found.{Finds}
+use Rattle.lh_scan.specs.Found.{ReadsAsFound}
 use Rattle.lh_scan.specs.Pieces.{first_at, parts_at}
 use Rattle.lh_scan.specs.Types.{data_at, data_in}
 use Rattle.lh_scan.specs.Shorter.{data_at-shorter}
-use Rattle.lh_scan.proofs.Found.{Finds-without, Finds-or}
+use Rattle.lh_scan.proofs.Found.{ReadsAsFound-without, ReadsAsFound-or}
 use Rattle.lh_scan.proofs.Lists.{At, At-start, At-none, At-next, At-end}
 use Rattle.lh_scan.proofs.DataTypes.{data_at-none, data_at-first, data_at-empty, data_in-other, next-shorter}
 use Rattle.lh_scan.proofs.types.+data.Goals as goal
@@ -25,7 +25,7 @@ data-returns-in-Word t c =
     let h : Some (lexeme_of c.in_ok-first.first, c.in_ok-first.rest) ≡ first_at c.args.tokens.now = search rules in
     let f = data_at-first c.args.deep c.args.tokens.now c.in_ok-first.rest (lexeme_of c.in_ok-first.first) c.if-deep-eq0.false h in
     let x : lexeme_of c.in_ok-first.first ≡ word c.in-Word.word.now = ap lexeme_of c.in-Word.is in
-    Finds-or c.int_type.result (data_at c.args.deep c.args.tokens.now) c.ok_or-in-Word.result c.ok_or-in-Word.ensures.value
+    ReadsAsFound-or c.int_type.result (data_at c.args.deep c.args.tokens.now) c.ok_or-in-Word.result c.ok_or-in-Word.ensures.value
     (c.int_type.ensures ∙ sym (f ∙ ap (λ l. data_in (data_at (c.args.deep - 1)) (l ∷ c.in_ok-first.rest)) x))
 
 pub data-returns-in-Punct : goal.data-returns-in-Punct
@@ -33,7 +33,7 @@ data-returns-in-Punct t c =
     let h : Some (lexeme_of c.in_ok-first.first, c.in_ok-first.rest) ≡ first_at c.args.tokens.now = search rules in
     let f = data_at-first c.args.deep c.args.tokens.now c.in_ok-first.rest (lexeme_of c.in_ok-first.first) c.if-deep-eq0.false h in
     let x : lexeme_of c.in_ok-first.first ≡ punct c.in-Punct.mark = ap lexeme_of c.in-Punct.is in
-    subst (Finds c.marked.result) (sym (f ∙ ap (λ l. data_in (data_at (c.args.deep - 1)) (l ∷ c.in_ok-first.rest)) x)) c.marked.ensures
+    subst (ReadsAsFound c.marked.result) (sym (f ∙ ap (λ l. data_in (data_at (c.args.deep - 1)) (l ∷ c.in_ok-first.rest)) x)) c.marked.ensures
 
 pub data-returns-in_default : goal.data-returns-in_default
 data-returns-in_default t c =
@@ -56,7 +56,7 @@ fields-loop-fields-preserved t c =
 pub fields-returns-in_err-field : goal.fields-returns-in_err-field
 fields-returns-in_err-field t c =
     let p = err_from_is_err_and c.from_residual.result c.from_residual.ensures.1 in
-    rw (p.1, p.2) (Finds-without _ (data_at c.args.deep c.loop-fields.rest) (parts_at (data_at c.args.deep) (length c.args.tokens.now) c.args.tokens.now) c.in_err-field.ensures
+    rw (p.1, p.2) (ReadsAsFound-without _ (data_at c.args.deep c.loop-fields.rest) (parts_at (data_at c.args.deep) (length c.args.tokens.now) c.args.tokens.now) c.in_err-field.ensures
     (At-none (data_at c.args.deep) c.args.tokens.now c.loop-fields.rest c.loop-fields.fields c.loop-fields.invariant))
 
 pub fields-returns-in-None : goal.fields-returns-in-None

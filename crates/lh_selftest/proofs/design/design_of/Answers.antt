@@ -9,7 +9,8 @@ top_of-requires c = subst (λ (a : Arena). HasDesign (contents a)) (sym c.module
 
 pub wanting-requires : goal.wanting-requires
 wanting-requires c =
-    top-is_starved c.module-module.result.now _ c.in-Err.fault c.top_of.ensures.name (subst (λ (a : Arena). HasDesign (contents a)) (sym c.module-module.ensures.«module») c.requires) c.in-Err.ensures.elaborates
+    top-is_starved c.module-module.result.now _ c.in-Err.fault c.top_of.ensures.name (subst (λ (a : Arena). HasDesign (contents a)) (sym c.module-module.ensures.«module») c.requires)
+    c.in-Err.ensures.elaborates
 
 pub returns-in-Ok-clause-built : goal.returns-in-Ok-clause-built
 returns-in-Ok-clause-built c = design-is c.module-module.result.now c.args.file.now c.in-Ok.design _ c.module-module.ensures.«module» c.top_of.ensures.name c.in-Ok.ensures.elaborates

@@ -17,7 +17,8 @@ returns-in_ok-shape-in-Rows-clause-is c =
     let on = c.in_ok-waited.waited in
     λ x h.
     shape-by ns r x h new c.in_ok-shape-in-Rows.shape c.requires.later c.requires.none
-    (conditions-shape ns r x h mid new on c.in-Rows.rows c.in_ok-shape-in-Rows.shape (c.in_ok-waited.ensures ∙ ap parts_on c.as_slice.ensures) (drives-at-grown ns mid r.first.drives c.later_registers.ensures.kept c.requires.fits.first) c.by_target.ensures.kept
+    (conditions-shape ns r x h mid new on c.in-Rows.rows c.in_ok-shape-in-Rows.shape (c.in_ok-waited.ensures ∙ ap parts_on c.as_slice.ensures)
+    (drives-at-grown ns mid r.first.drives c.later_registers.ensures.kept c.requires.fits.first) c.by_target.ensures.kept
     (subst (λ (z : Registers). AreRegisters mid on (drives_at ns (later_drives r)) z) c.in-Rows.is c.in_ok-rows.ensures.are) c.in_ok-shape-in-Rows.ensures.is)
 
 pub returns-in-Left-clause-is : goal.returns-in-Left-clause-is

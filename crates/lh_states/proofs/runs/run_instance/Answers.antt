@@ -1,5 +1,6 @@
-use Rattle.std.proofs.Common.{length}
+use Rattle.std.proofs.Common.{[], length, sym, subst}
 use Rattle.lh_exec.proofs.Begins.{some-state}
+use Rattle.lh_states.specs.Runs.{ActIsSound}
 use Rattle.lh_states.proofs.Sound.{process-fits, entity-fits, process-sound, entity-sound}
 use Rattle.lh_states.proofs.runs.run_instance.Goals as goal
 
@@ -18,4 +19,4 @@ returns-in-Ok-clause-sound g c =
     let i = c.args.i.now in
     let width = length c.args.now.now in
     let f = entity-fits m width i c.args.s.now c.in-Entity.entity c.in-Entity.is c.requires.fits in
-    entity-sound m width c.args.now.now c.args.at i c.in-Entity.entity.memory c.in-Ok.act c.new.result f.0 c.in-Ok.ensures.act
+    subst (ActIsSound m width c.args.at i) (sym c.of_pass.ensures) (entity-sound m width c.args.now.now c.args.at i c.in-Entity.entity.memory c.in-Ok.act [] f.0 c.in-Ok.ensures.act)

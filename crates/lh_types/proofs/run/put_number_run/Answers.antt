@@ -9,6 +9,8 @@ pub loop-done-preserved : goal.loop-done-preserved
 loop-done-preserved c = record {
   inside = omega arith;
   before = λ i h. c.put_window.ensures.before i (omega arith) ∙ c.loop-done.invariant.before i h;
-  each = written_more (λ j. bit_at c.args.number j) c.loop-done.done c.in_word-n.result c.args.at (bit_and c.above.result c.ones_below.result) c.put_window.new.words c.loop-done.words c.loop-done.invariant.each c.put_window.ensures.before c.put_window.ensures.each (λ j h. rw (c.ones_below.ensures, c.above.ensures) (shifted_bit c.args.number c.loop-done.done c.in_word-n.result j h));
+  each = written_more (λ j. bit_at c.args.number j) c.loop-done.done c.in_word-n.result c.args.at (bit_and c.above.result c.ones_below.result) c.put_window.new.words c.loop-done.words
+      c.loop-done.invariant.each c.put_window.ensures.before c.put_window.ensures.each
+      (λ j h. rw (c.ones_below.ensures, c.above.ensures) (shifted_bit c.args.number c.loop-done.done c.in_word-n.result j h));
   after = λ i h. c.put_window.ensures.after i (omega arith) ∙ c.loop-done.invariant.after i (omega arith);
 }

@@ -1,4 +1,5 @@
 use Rattle.std.proofs.Common.{◌+◌, map, drop, Some, ap, sym, ◌∙◌}
+use Rattle.std.specs.Option.{option_copied}
 use Rattle.lh_unit.specs.Naming.{operand_text}
 use Rattle.lh_unit.specs.Typing.{with_type, operand_types}
 use Rattle.lh_typing.specs.Fitting.{rows_joined}
@@ -8,7 +9,7 @@ use Rattle.lh_typing.proofs.results.written_types.Goals as goal
 pub returns-in-None : goal.returns-in-None
 returns-in-None c = λ f.
     sym (joined-none c.loop-operand.list)
-    ∙ ap (rows_joined c.loop-operand.list) (sym (written-none f c.args.args.now c.loop-operand.operand-index c.operand-item.result c.loop-operand-test.true c.operand-item.is c.in-None.is))
+    ∙ ap (rows_joined c.loop-operand.list) (sym (written-none f c.args.args.now c.loop-operand.operand-index c.operand-item.result c.loop-operand-test.true c.operand-item.is (sym c.get.ensures ∙ ap option_copied c.in-None.is)))
     ∙ c.loop-operand.invariant f
 
 pub loop-operand-preserved : goal.loop-operand-preserved
@@ -17,7 +18,7 @@ loop-operand-preserved c = λ f.
     ap (λ l. rows_joined l rest) c.in_ok-push-in-Some.ensures.ok
     ∙ joined-more c.loop-operand.list c.in_ok-copy-in-Some.field-0 rest
     ∙ ap (λ t. rows_joined c.loop-operand.list (with_type (Some t) rest)) c.in_ok-copy-in-Some.ensures
-    ∙ ap (rows_joined c.loop-operand.list) (sym (written-some f c.args.args.now c.loop-operand.operand-index c.operand-item.result c.in-Some.ty c.loop-operand-test.true c.operand-item.is c.in-Some.is))
+    ∙ ap (rows_joined c.loop-operand.list) (sym (written-some f c.args.args.now c.loop-operand.operand-index c.operand-item.result c.in-Some.ty.now c.loop-operand-test.true c.operand-item.is (sym c.get.ensures ∙ ap option_copied c.in-Some.is)))
     ∙ c.loop-operand.invariant f
 
 pub returns : goal.returns

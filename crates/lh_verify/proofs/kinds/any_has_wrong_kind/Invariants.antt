@@ -1,9 +1,10 @@
 use Rattle.std.proofs.Common.{◌≡◌, map, drop}
 use Rattle.std.specs.List.{list_any}
 use Rattle.lh_unit.specs.WellFormed.{has_wrong_kind}
-use Rattle.lh_typing.specs.Told.{text_in, naming_in}
+use Rattle.lh_typing.specs.Facts.{text_in, naming_in}
 use Rattle.lh_typing.specs.Uses.{use_text}
 use Rattle.lh_verify.proofs.kinds.any_has_wrong_kind.Given as goal
 
 abbrev pub invariant-loop-operand : goal.invariant-loop-operand
-invariant-loop-operand l = list_any (has_wrong_kind (text_in l.scope)) (map (use_text (naming_in l.scope)) (drop l.operand-index l.operands)) ≡ list_any (has_wrong_kind (text_in l.scope)) (map (use_text (naming_in l.scope)) l.operands)
+invariant-loop-operand l = list_any (has_wrong_kind (text_in l.scope)) (map (use_text (naming_in l.scope)) (drop l.operand-index l.operands))
+    ≡ list_any (has_wrong_kind (text_in l.scope)) (map (use_text (naming_in l.scope)) l.operands)

@@ -1,5 +1,5 @@
 use Rattle.std.proofs.Common.{sym, ◌∙◌}
-use Rattle.lh_typing.specs.Told.{text_in, naming_in, items_in}
+use Rattle.lh_typing.specs.Facts.{text_in, naming_in, items_in}
 use Rattle.lh_verify.proofs.Named.{three-first, three-third}
 use Rattle.lh_verify.proofs.OtherUnits.{both-second}
 use Rattle.lh_verify.proofs.Places.{kind-parts}
@@ -14,5 +14,6 @@ returns-then-any_has_wrong_kind c =
 pub returns : goal.returns
 returns c =
     let s = c.args.scope.now in
-    both-second _ _ _ (sym c.is_asked.ensures ∙ c.if-not-is_asked.false) (three-third _ _ _ _ (sym c.any_has_wrong_kind.ensures ∙ c.if-any_has_wrong_kind.false) (sym c.names_wrong_unit.ensures ∙ c.if-names_wrong_unit.false) (c.probes_for_signal.ensures))
+    both-second _ _ _ (sym c.is_asked.ensures ∙ c.if-not-is_asked.false)
+    (three-third _ _ _ _ (sym c.any_has_wrong_kind.ensures ∙ c.if-any_has_wrong_kind.false) (sym c.names_wrong_unit.ensures ∙ c.if-names_wrong_unit.false) (c.probes_for_signal.ensures))
     ∙ sym (kind-parts (items_in s) (text_in s) (naming_in s) c.args.inst.now c.args.operands.now c.requires.operands)

@@ -7,5 +7,6 @@ use Rattle.lh_verify.proofs.predecessors.put_blocks.Goals as goal
 
 pub loop-block-preserved : goal.loop-block-preserved
 loop-block-preserved c =
-    subst (λ (l : List BlockId). IsPredecessors (table_at c.args.m.now c.args.unit.0) l (label_count c.args.m.now c.args.unit.0) c.put_block.new.rows) (taken c.args.blocks.now c.loop-block.block-index (record { 0 = 0 }) c.loop-block-test.true)
+    subst (λ (l : List BlockId). IsPredecessors (table_at c.args.m.now c.args.unit.0) l (label_count c.args.m.now c.args.unit.0) c.put_block.new.rows)
+    (taken c.args.blocks.now c.loop-block.block-index (record { 0 = 0 }) c.loop-block-test.true)
     (c.in_ok-put_block.ensures (take c.loop-block.block-index c.args.blocks.now) c.loop-block.invariant)

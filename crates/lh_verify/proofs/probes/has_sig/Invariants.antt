@@ -1,6 +1,6 @@
 use Rattle.std.proofs.Common.{◌≡◌, drop}
 use Rattle.lh_unit.specs.Arena.{table_at}
-use Rattle.lh_typing.specs.Told.{any_sig}
+use Rattle.lh_typing.specs.Facts.{any_sig}
 use Rattle.lh_verify.proofs.probes.has_sig.Given as goal
 
 abbrev pub invariant-loop-i : goal.invariant-loop-i

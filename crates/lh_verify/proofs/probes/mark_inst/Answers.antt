@@ -9,13 +9,16 @@ use Rattle.lh_verify.proofs.probes.mark_inst.Goals as goal
 
 pub bounds-next-place : goal.bounds-next-place
 bounds-next-place c =
-    let w : MaybeWithin (sizes c.args.m.now c.args.unit.0) (Some c.in-Some.value) = subst (MaybeWithin (sizes c.args.m.now c.args.unit.0)) (sym (sym c.in-Some.is ∙ c.result_of.ensures.value)) (result-placed c.args.m.now c.args.unit.0 c.args.inst.0 c.result_of.ensures.sound c.requires.unit) in
+    let w : MaybeWithin (sizes c.args.m.now c.args.unit.0) (Some c.in-Some.value) = subst (MaybeWithin (sizes c.args.m.now c.args.unit.0)) (sym (sym c.in-Some.is ∙ c.result_of.ensures.value))
+    (result-placed c.args.m.now c.args.unit.0 c.args.inst.0 c.result_of.ensures.sound c.requires.unit) in
     let h : c.in-Some.value.0 < value_count c.args.m.now c.args.unit.0 = w in
     omega (arith, h, c.requires.next)
 
 pub returns-in_ok-next-in-Some : goal.returns-in_ok-next-in-Some
 returns-in_ok-next-in-Some c = λ ls m.
-    let w : MaybeWithin (sizes c.args.m.now c.args.unit.0) (Some c.in-Some.value) = subst (MaybeWithin (sizes c.args.m.now c.args.unit.0)) (sym (sym c.in-Some.is ∙ c.result_of.ensures.value)) (result-placed c.args.m.now c.args.unit.0 c.args.inst.0 c.result_of.ensures.sound c.requires.unit) in
+    let w : MaybeWithin (sizes c.args.m.now c.args.unit.0) (Some c.in-Some.value) = subst (MaybeWithin (sizes c.args.m.now c.args.unit.0)) (sym (sym c.in-Some.is ∙ c.result_of.ensures.value))
+    (result-placed c.args.m.now c.args.unit.0 c.args.inst.0 c.result_of.ensures.sound c.requires.unit) in
     let h : c.in-Some.value.0 < value_count c.args.m.now c.args.unit.0 = w in
-    advance-more ls (line_at (table_at c.args.m.now c.args.unit.0) c.args.inst.0) c.in-Some.value c.args.marks.now c.args.next.now (value_count c.args.m.now c.args.unit.0) c.in_ok-next-in-Some.field-0 (sym c.result_of.ensures.value ∙ c.in-Some.is) h
+    advance-more ls (line_at (table_at c.args.m.now c.args.unit.0) c.args.inst.0) c.in-Some.value c.args.marks.now c.args.next.now (value_count c.args.m.now c.args.unit.0) c.in_ok-next-in-Some.field-0
+    (sym c.result_of.ensures.value ∙ c.in-Some.is) h
     (c.in_ok-next-in-Some.ensures ∙ ap (comes_from c.args.marks.now) c.inst.ensures.inst) m

@@ -4,4 +4,5 @@ use Rattle.lh_verify.specs.Spots.{spots_in}
 use Rattle.lh_verify.proofs.spots.put_insts.Given as goal
 
 abbrev pub invariant-loop-k : goal.invariant-loop-k
-invariant-loop-k l = l.list ++ spots_in (table_at l.m l.unit.0) l.in_entry l.block l.after_other (drop l.k l.insts) ≡ l.initial.list ++ spots_in (table_at l.m l.unit.0) l.in_entry l.block false l.insts
+invariant-loop-k l = l.list ++ spots_in (table_at l.m l.unit.0) l.in_entry l.block l.after_other (drop l.k l.insts) ≡ l.initial.list
+    ++ spots_in (table_at l.m l.unit.0) l.in_entry l.block false l.insts

@@ -1,5 +1,5 @@
 use Rattle.std.proofs.Common.{◌≡◌, drop}
-use Rattle.lh_verify.specs.Answering.{first_at}
+use Rattle.lh_verify.specs.FirstFound.{first_at}
 use Rattle.lh_verify.proofs.unit.first_at.Given as goal
 
 abbrev pub invariant-loop-k : goal.invariant-loop-k

@@ -1,6 +1,6 @@
 use Rattle.std.proofs.Common.{Err, sym, ◌∙◌, subst}
 use Rattle.lh_unit.specs.Arena.{value_name_at}
-use Rattle.lh_defined.specs.Lacking.{Answers}
+use Rattle.lh_defined.specs.Lacking.{DefinedOrFault}
 use Rattle.lh_defined.specs.declared.DefinedFault.{DefinedFault}
 use Rattle.lh_verify.proofs.UnitPlaces.{lacks-hidden, lacks-nothing, lacks-at}
 use Rattle.lh_verify.proofs.unit.first_lacking.Goals as goal
@@ -15,5 +15,6 @@ pub returns-in-Err-NotDefined : goal.returns-in-Err-NotDefined
 returns-in-Err-NotDefined c =
     let a = c.args.scope.now.module.now in
     let u = c.args.scope.now.unit.0 in
-    let d = subst (λ (e : DefinedFault). Answers (Err e) a u) c.in-Err-NotDefined.field-0-is c.in-Err-NotDefined.ensures in
-    lacks-at c.args.scope.now c.requires.sound c.requires.scope.unit c.in-Err-NotDefined.inst (value_name_at a u c.in-Err-NotDefined.field-0-1.0) c.args.places.now c.requires.places (sym c.in_ok-any_hides_paths.ensures ∙ c.if-branch.false) d.1
+    let d = subst (λ (e : DefinedFault). DefinedOrFault (Err e) a u) c.in-Err-NotDefined.field-0-is c.in-Err-NotDefined.ensures in
+    lacks-at c.args.scope.now c.requires.sound c.requires.scope.unit c.in-Err-NotDefined.inst (value_name_at a u c.in-Err-NotDefined.field-0-1.0) c.args.places.now c.requires.places
+    (sym c.in_ok-any_hides_paths.ensures ∙ c.if-branch.false) d.1

@@ -10,4 +10,5 @@ pub returns-then-is_defined : goal.returns-then-is_defined
 returns-then-is_defined c = missing-some _ _ (defined-in c.args.scope.now c.args.unit.0 c.is_defined.ensures.sound c.requires.within ∙ sym c.is_defined.ensures.defined ∙ c.if-is_defined.true)
 
 pub returns : goal.returns
-returns c = missing-none _ _ _ (defined-in c.args.scope.now c.args.unit.0 c.unit_name.ensures.sound c.requires.within ∙ sym c.is_defined.ensures.defined ∙ c.if-is_defined.false) (c.is_assert.ensures ∙ ap is_assert (c.unit_name.ensures.name ∙ sym (unit-name c.args.scope.now c.args.unit.0)))
+returns c = missing-none _ _ _ (defined-in c.args.scope.now c.args.unit.0 c.unit_name.ensures.sound c.requires.within ∙ sym c.is_defined.ensures.defined ∙ c.if-is_defined.false)
+    (c.is_assert.ensures ∙ ap is_assert (c.unit_name.ensures.name ∙ sym (unit-name c.args.scope.now c.args.unit.0)))

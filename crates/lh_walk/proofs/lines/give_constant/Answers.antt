@@ -2,7 +2,7 @@ use Rattle.std.proofs.Common.{subst}
 use Rattle.lh_types.specs.ValueOf.{datum_of}
 use Rattle.lh_types.specs.declared.val.Val.{Val}
 use Rattle.lh_term.specs.Tree.{constant}
-use Rattle.lh_term.specs.Arena.{Stands}
+use Rattle.lh_term.specs.Arena.{StandsForTree}
 use Rattle.lh_region.specs.Asked.{SamePlaces, IsWithAt}
 use Rattle.lh_region.specs.Gives.{GivesTerm}
 use Rattle.lh_walk.specs.Lines.{IsThat, GivesWhere}
@@ -20,6 +20,6 @@ pub returns-clause-gives : goal.returns-clause-gives
 returns-clause-gives c =
     let ns = c.args.terms.now in let ms = c.konst.new.self in let ps = c.args.places.now.items in let qs = c.give.new.places.items in
     let y = constant (datum_of c.args.value.now) in
-    let st = subst (λ (v : Val). Stands ms c.in_ok-term.term (constant (datum_of v))) c.in_ok-copy.ensures c.in_ok-term.ensures.made in
+    let st = subst (λ (v : Val). StandsForTree ms c.in_ok-term.term (constant (datum_of v))) c.in_ok-copy.ensures c.in_ok-term.ensures.made in
     ok-then c.give.result (GivesTerm ps c.args.at c.args.to c.in_ok-term.term qs) (GivesWhere (IsThat y) ns ps c.args.at c.args.to ms qs)
     (gives-that ns ms ps qs c.args.at c.args.to c.in_ok-term.term y c.konst.ensures.kept st) c.give.ensures.gives

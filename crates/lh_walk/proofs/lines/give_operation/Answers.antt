@@ -10,7 +10,8 @@ use Rattle.lh_walk.proofs.lines.give_operation.Goals as goal
 pub returns-clause-same : goal.returns-clause-same
 returns-clause-same c =
     let ps = c.args.places.now.items in let qs = c.operate.new.places.items in let rs = c.give.new.places.items in
-    ok-then c.give.result (IsWithAt qs c.args.at c.args.to c.in_ok-term.term rs) (SamePlaces ps rs) (λ w. with-same qs rs c.args.to c.args.at c.in_ok-term.term w ∙ c.in_ok-term.ensures.same) c.give.ensures.with_term
+    ok-then c.give.result (IsWithAt qs c.args.at c.args.to c.in_ok-term.term rs) (SamePlaces ps rs) (λ w. with-same qs rs c.args.to c.args.at c.in_ok-term.term w ∙ c.in_ok-term.ensures.same)
+    c.give.ensures.with_term
 
 pub returns-clause-gives : goal.returns-clause-gives
 returns-clause-gives c =

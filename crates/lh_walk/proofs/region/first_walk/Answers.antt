@@ -1,5 +1,5 @@
 use Rattle.std.proofs.Common.{refl}
-use Rattle.lh_walk.specs.declared.walk.At.{At}
+use Rattle.lh_walk.specs.declared.walk.WalkPoint.{WalkPoint}
 use Rattle.lh_walk.specs.Both.{GoesFirst, FirstStops}
 use Rattle.lh_region.specs.Starts.{lines_left}
 use Rattle.lh_walk.specs.Turns.{GoesThrough, GoesNot}
@@ -16,7 +16,7 @@ start_of-requires c =
 pub walk_from-requires-clause-start : goal.walk_from-requires-clause-start
 walk_from-requires-clause-start c =
     let r = c.args.region.now in let ns = c.bit.new.terms in let ps = c.in_ok-places.places.items in
-    let at : At = (record { place = 0; block = c.args.region.now.head; turns = 0; cond = c.in_ok-cond.cond }) in
+    let at : WalkPoint = (record { place = 0; block = c.args.region.now.head; turns = 0; cond = c.in_ok-cond.cond }) in
     let k : IsHeadPlace r ns ps at = record {
       start = c.in_ok-start.start;
       one = c.in_ok-places.ensures;
@@ -33,7 +33,7 @@ walk_from-requires-clause-start c =
 pub returns-clause-through : goal.returns-clause-through
 returns-clause-through c =
     let r = c.args.region.now in let ns = c.bit.new.terms in let ps = c.in_ok-places.places.items in
-    let at : At = (record { place = 0; block = c.args.region.now.head; turns = 0; cond = c.in_ok-cond.cond }) in
+    let at : WalkPoint = (record { place = 0; block = c.args.region.now.head; turns = 0; cond = c.in_ok-cond.cond }) in
     let k : IsHeadPlace r ns ps at = record {
       start = c.in_ok-start.start;
       one = c.in_ok-places.ensures;
@@ -45,12 +45,13 @@ returns-clause-through c =
       turns = refl;
       cond = c.in_ok-cond.ensures.made;
     } in
-    ok-map c.walk_from.result (GoesThrough ns r ps at c.walk_from.new.terms) (GoesFirst r c.walk_from.new.terms) (λ w g. goes-first r ns ps at k c.requires.goes_on c.walk_from.new.terms w g) c.walk_from.ensures.through
+    ok-map c.walk_from.result (GoesThrough ns r ps at c.walk_from.new.terms) (GoesFirst r c.walk_from.new.terms) (λ w g. goes-first r ns ps at k c.requires.goes_on c.walk_from.new.terms w g)
+    c.walk_from.ensures.through
 
 pub returns-clause-cause : goal.returns-clause-cause
 returns-clause-cause c =
     let r = c.args.region.now in let ns = c.bit.new.terms in let ps = c.in_ok-places.places.items in
-    let at : At = (record { place = 0; block = c.args.region.now.head; turns = 0; cond = c.in_ok-cond.cond }) in
+    let at : WalkPoint = (record { place = 0; block = c.args.region.now.head; turns = 0; cond = c.in_ok-cond.cond }) in
     let k : IsHeadPlace r ns ps at = record {
       start = c.in_ok-start.start;
       one = c.in_ok-places.ensures;

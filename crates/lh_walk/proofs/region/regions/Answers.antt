@@ -2,7 +2,7 @@ use Rattle.std.proofs.Common.{arith, ◌^◌, ◌≡◌, ◌<◌, List, false, l
 use Rattle.std.proofs.lemmas.Option.{same_Some}
 use Rattle.lh_flat.specs.declared.flat.FlatBlock.{FlatBlock}
 use Rattle.lh_region.specs.Heads.{begins_with_phi}
-use Rattle.lh_walk.proofs.Answering.{block-read, answer-phi}
+use Rattle.lh_walk.proofs.BothRegions.{block-read, answer-phi}
 use Rattle.lh_walk.proofs.HavingSteps.{has-steps}
 use Rattle.lh_walk.proofs.Forming.{head-within, blocks-there}
 use Rattle.lh_walk.proofs.region.regions.Goals as goal
@@ -18,7 +18,8 @@ returns-then-begins_with_phi-clause-answer c =
     let l = head-within t h.below (blocks-there h.naming (h.naming.unit_name 0) t h.names) in
     let m : c.head_of-head.result < length c.as_slice.result.now = rw (c.as_slice.ensures, c.head_of-head.ensures) l in
     let e0 = block-read c.as_slice.result.now c.head_of-head.result c.index-as_slice-head.result m c.index-as_slice-head.is in
-    answer-phi c.args.terms.now t c.index-as_slice-head.result h (sym (λ i. slice_get (c.as_slice.ensures i) (c.head_of-head.ensures i)) ∙ e0) (sym c.begins_with_phi.ensures ∙ c.if-begins_with_phi.true)
+    answer-phi c.args.terms.now t c.index-as_slice-head.result h (sym (λ i. slice_get (c.as_slice.ensures i) (c.head_of-head.ensures i)) ∙ e0)
+    (sym c.begins_with_phi.ensures ∙ c.if-begins_with_phi.true)
 
 pub both_regions-requires-clause-here : goal.both_regions-requires-clause-here
 both_regions-requires-clause-here c =
@@ -30,7 +31,9 @@ both_regions-requires-clause-here c =
       form = h;
       table = c.in_ok-parts.ensures;
       head = c.head_of-head.ensures;
-      plain = λ d q. subst (λ (x : FlatBlock). begins_with_phi x ≡ false) (same_Some c.index-as_slice-head.result d (sym e0 ∙ ap (λ (xs : List FlatBlock). slice_get xs c.head_of-head.result) c.as_slice.ensures ∙ q)) (sym c.begins_with_phi.ensures ∙ c.if-begins_with_phi.false);
+      plain = λ d q. subst (λ (x : FlatBlock). begins_with_phi x ≡ false)
+          (same_Some c.index-as_slice-head.result d (sym e0 ∙ ap (λ (xs : List FlatBlock). slice_get xs c.head_of-head.result) c.as_slice.ensures ∙ q))
+          (sym c.begins_with_phi.ensures ∙ c.if-begins_with_phi.false);
       now = refl;
     }
 

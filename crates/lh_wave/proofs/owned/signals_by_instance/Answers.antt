@@ -5,5 +5,6 @@ use Rattle.lh_wave.proofs.owned.signals_by_instance.Goals as goal
 pub loop-number-preserved : goal.loop-number-preserved
 loop-number-preserved c = record {
   whole = c.loop-number.invariant.whole;
-  owned = owner_next (λ s. Some s.instance) _ _ _ _ _ _ _ c.loop-number.invariant.whole c.loop-number-test.true c.signal-item.is c.in_ok-add_number.ensures.level c.in_ok-add_number.ensures.added c.loop-number.invariant.owned;
+  owned = owner_next (λ s. Some s.instance) _ _ _ _ _ _ _ c.loop-number.invariant.whole c.loop-number-test.true c.signal-item.is c.in_ok-add_number.ensures.level c.in_ok-add_number.ensures.added
+      c.loop-number.invariant.owned;
 }

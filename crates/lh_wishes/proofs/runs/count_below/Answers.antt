@@ -9,5 +9,6 @@ loop-low-preserved-then-is_below c =
     record {
       order = omega arith;
       within = omega arith;
-      below = below-more (due_bit c.args.due c.args.lo) c.args.runs.now (c.loop-low.low + (c.loop-low.high - c.loop-low.low) / 2) c.index-runs-mid.result c.requires h c.index-runs-mid.is (c.is_below.ensures c.if-is_below.true);
+      below = below-more (due_bit c.args.due c.args.lo) c.args.runs.now (c.loop-low.low + (c.loop-low.high - c.loop-low.low) / 2) c.index-runs-mid.result c.requires h c.index-runs-mid.is
+          (c.is_below.ensures c.if-is_below.true);
     }

@@ -1,7 +1,7 @@
 use Rattle.std.proofs.Common.{◌≡◌, ℕ, List, ◌+◌, length, take, drop, ap, sym, ◌∙◌, subst, rules}
 use Rattle.lh_types.specs.Wish.{due_bit}
 use Rattle.lh_wishes.specs.Runs.{runs_wish, AllBelow, AllFrom, EachFilled}
-use Rattle.lh_wishes.specs.declared.run.Run.{Run}
+use Rattle.lh_wishes.specs.declared.run.WishRun.{WishRun}
 use Rattle.lh_wishes.proofs.RunLemmas.{inserted, inserted-filled, replaced, filled-take, filled-drop, if-ok}
 use Rattle.lh_wishes.proofs.runs.with_run.Goals as goal
 
@@ -10,13 +10,15 @@ returns-then-from-to-clause-wish c =
     let n : c.args.run.lo + c.len.result ≡ c.args.run.lo + length c.args.run.bits = ap (λ x. c.args.run.lo + x) c.len.ensures in
     let e : c.place_from-to.result ≡ c.count_below-from.result = search rules in
     inserted c.args.runs.items c.insert.new.self.items c.count_below-from.result (c.args.run.lo + c.len.result) c.args.run n c.requires.runs.ordered
-    (subst (λ (x : List Run). AllBelow (due_bit c.args.run.due c.args.run.lo) (runs_wish (take c.count_below-from.result x))) c.as_slice.ensures.value c.count_below-from.ensures.below)
+    (subst (λ (x : List WishRun). AllBelow (due_bit c.args.run.due c.args.run.lo) (runs_wish (take c.count_below-from.result x))) c.as_slice.ensures.value c.count_below-from.ensures.below)
     (subst (λ (k : ℕ). AllFrom (due_bit c.args.run.due (c.args.run.lo + c.len.result)) (runs_wish (drop k c.args.runs.items))) e
-    (subst (λ (x : List Run). AllFrom (due_bit c.args.run.due (c.args.run.lo + c.len.result)) (runs_wish (drop c.place_from-to.result x))) c.as_slice-2.ensures.value c.place_from-to.ensures.above))
+    (subst (λ (x : List WishRun). AllFrom (due_bit c.args.run.due (c.args.run.lo + c.len.result)) (runs_wish (drop c.place_from-to.result x))) c.as_slice-2.ensures.value
+    c.place_from-to.ensures.above))
     c.in_ok-insert.ensures.items
 
 pub returns-then-from-to-clause-filled : goal.returns-then-from-to-clause-filled
-returns-then-from-to-clause-filled c = inserted-filled c.args.runs.items c.insert.new.self.items c.count_below-from.result c.args.run c.requires.runs.filled c.requires.filled c.in_ok-insert.ensures.items
+returns-then-from-to-clause-filled c = inserted-filled c.args.runs.items c.insert.new.self.items c.count_below-from.result c.args.run c.requires.runs.filled c.requires.filled
+    c.in_ok-insert.ensures.items
 
 pub replace-requires-clause-before : goal.replace-requires-clause-before
 replace-requires-clause-before c =
@@ -29,8 +31,9 @@ replace-requires-clause-after c = subst EachFilled (sym c.in_ok-after.ensures.ta
 pub returns-clause-wish : goal.returns-clause-wish
 returns-clause-wish c =
     let n : c.args.run.lo + c.len.result ≡ c.args.run.lo + length c.args.run.bits = ap (λ x. c.args.run.lo + x) c.len.ensures in
-    if-ok c.replace.result _ _ (λ rs. replaced c.args.runs.items c.split_off.new.self.items c.split_off-2.new.self.items c.as_slice-3.result.now c.in_ok-after.after.items c.count_below-from.result c.place_from-to.result (c.args.run.lo + c.len.result) c.args.run (runs_wish rs.items)
+    if-ok c.replace.result _ _ (λ rs. replaced c.args.runs.items c.split_off.new.self.items c.split_off-2.new.self.items c.as_slice-3.result.now c.in_ok-after.after.items c.count_below-from.result
+    c.place_from-to.result (c.args.run.lo + c.len.result) c.args.run (runs_wish rs.items)
     c.place_from-to.ensures.from n c.requires.runs.ordered
-    (subst (λ (x : List Run). AllBelow (due_bit c.args.run.due c.args.run.lo) (runs_wish (take c.count_below-from.result x))) c.as_slice.ensures.value c.count_below-from.ensures.below)
-    (subst (λ (x : List Run). AllFrom (due_bit c.args.run.due (c.args.run.lo + c.len.result)) (runs_wish (drop c.place_from-to.result x))) c.as_slice-2.ensures.value c.place_from-to.ensures.above)
+    (subst (λ (x : List WishRun). AllBelow (due_bit c.args.run.due c.args.run.lo) (runs_wish (take c.count_below-from.result x))) c.as_slice.ensures.value c.count_below-from.ensures.below)
+    (subst (λ (x : List WishRun). AllFrom (due_bit c.args.run.due (c.args.run.lo + c.len.result)) (runs_wish (drop c.place_from-to.result x))) c.as_slice-2.ensures.value c.place_from-to.ensures.above)
     c.in_ok-after.ensures.items c.in_ok-after.ensures.tail c.in_ok-cut.ensures.items (c.as_slice-3.ensures.value ∙ c.in_ok-cut.ensures.tail)) c.replace.ensures.wish

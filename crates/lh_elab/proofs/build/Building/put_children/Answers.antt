@@ -17,6 +17,7 @@ loop-i-preserved c =
     let i = c.loop-i.invariant.built in
     let n = c.in_ok-put_pending.ensures.built in
     record {
-      pending = kids-more c.args.m.now c.args.parent c.args.room c.args.args.now c.args.sigs.now c.args.children.now c.loop-i.i child c.args.self.now.pending.items c.loop-i.self.pending.items c.put_pending.new.self.pending.items x c.loop-i-test.true c.index-children-children.is c.loop-i.invariant.pending c.in_ok-put_pending.ensures.pending e;
+      pending = kids-more c.args.m.now c.args.parent c.args.room c.args.args.now c.args.sigs.now c.args.children.now c.loop-i.i child c.args.self.now.pending.items c.loop-i.self.pending.items
+          c.put_pending.new.self.pending.items x c.loop-i-test.true c.index-children-children.is c.loop-i.invariant.pending c.in_ok-put_pending.ensures.pending e;
       built = record { instances = n.instances ∙ i.instances; signals = n.signals ∙ i.signals; init = n.init ∙ i.init; lo = n.lo ∙ i.lo };
     }

@@ -26,8 +26,10 @@ loop-signal-preserved c =
     let ss = map signal_of (take k ps) in
     let more : map signal_of (take (k + 1) ps) ≡ ss ++ signal_of item ∷ [] = more-signals ps k item c.loop-signal-test.true ∙ ap (λ (y : PlanSignal). ss ++ signal_of y ∷ []) (sym c.signal-item.is) in
     record {
-      adds = subst (AddsSignals c.args.self.now c.put_signal.new.self c.args.instance) (sym more) (adds-more c.args.self.now c.loop-signal.self c.put_signal.new.self c.args.instance ss (signal_of item ∷ []) c.loop-signal.invariant.adds c.in_ok-range.ensures.signals);
+      adds = subst (AddsSignals c.args.self.now c.put_signal.new.self c.args.instance) (sym more)
+          (adds-more c.args.self.now c.loop-signal.self c.put_signal.new.self c.args.instance ss (signal_of item ∷ []) c.loop-signal.invariant.adds c.in_ok-range.ensures.signals);
       rest = rest-more c.args.self.now c.loop-signal.self c.put_signal.new.self c.loop-signal.invariant.rest c.in_ok-range.ensures.rest;
-      ranges = c.in_ok-push.ensures.ok ∙ ranges-more c.args.self.now.lo c.loop-signal.self.lo ss (signal_of item) c.loop-signal.ranges c.in_ok-range.range c.loop-signal.invariant.ranges c.loop-signal.invariant.adds.lo c.in_ok-range.ensures.range ∙ ap (signal_ranges c.args.self.now.lo) (sym more);
+      ranges = c.in_ok-push.ensures.ok ∙ ranges-more c.args.self.now.lo c.loop-signal.self.lo ss (signal_of item) c.loop-signal.ranges c.in_ok-range.range c.loop-signal.invariant.ranges
+          c.loop-signal.invariant.adds.lo c.in_ok-range.ensures.range ∙ ap (signal_ranges c.args.self.now.lo) (sym more);
       fit = x.1;
     }

@@ -8,7 +8,7 @@ use Rattle.lh_unit.specs.declared.inst.InstId.{InstId}
 use Rattle.lh_unit.specs.declared.inst.ValueId.{ValueId}
 use Rattle.lh_unit.proofs.ById.{result-within}
 use Rattle.lh_formed.specs.Operands.{RowIs}
-use Rattle.lh_eval.specs.Sound.{IsSound}
+use Rattle.lh_eval.specs.Sound.{InstIsSound}
 use Rattle.lh_sound.specs.Units.{WritesData, SigWritesData}
 use Rattle.lh_elab.specs.Plans.{signal_of}
 use Rattle.lh_formed.proofs.EachItem.{each-rest}
@@ -27,7 +27,7 @@ put_if_signal-requires-clause-line c =
     let f = naming m u in
     let d : InstId = record { 0 = 0 } in
     let i = get_or c.args.insts.now c.loop-inst.inst-index d in
-    let x = each-rest (λ (j : InstId). IsSound (unit_text_at m u) (line_in m u j)) c.args.insts.now c.loop-inst.inst-index d c.loop-inst-test.true c.loop-inst.invariant.sound in
+    let x = each-rest (λ (j : InstId). InstIsSound (unit_text_at m u) (line_in m u j)) c.args.insts.now c.loop-inst.inst-index d c.loop-inst-test.true c.loop-inst.invariant.sound in
     let w = each-rest (λ (j : InstId). WritesData (line_in m u j)) c.args.insts.now c.loop-inst.inst-index d c.loop-inst-test.true c.loop-inst.invariant.writes in
     let row : RowIs (unit_text_at m u) (inst_text f c.inst.result.now) = subst (λ (y : Inst). RowIs (unit_text_at m u) (inst_text f y)) (sym c.inst.ensures.inst) x.0.row in
     let writes : SigWritesData (maybe_text f c.result_of.result) (inst_text f c.inst.result.now) =
@@ -42,7 +42,7 @@ loop-inst-preserved c =
     let u = c.args.unit.0 in
     let f = naming m u in
     let d : InstId = record { 0 = 0 } in
-    let x = each-rest (λ (j : InstId). IsSound (unit_text_at m u) (line_in m u j)) c.args.insts.now c.loop-inst.inst-index d c.loop-inst-test.true c.loop-inst.invariant.sound in
+    let x = each-rest (λ (j : InstId). InstIsSound (unit_text_at m u) (line_in m u j)) c.args.insts.now c.loop-inst.inst-index d c.loop-inst-test.true c.loop-inst.invariant.sound in
     let w = each-rest (λ (j : InstId). WritesData (line_in m u j)) c.args.insts.now c.loop-inst.inst-index d c.loop-inst-test.true c.loop-inst.invariant.writes in
     let y = each-rest (λ (j : InstId). j.0 < inst_count m u) c.args.insts.now c.loop-inst.inst-index d c.loop-inst-test.true c.loop-inst.invariant.within in
     let cur = map signal_of c.loop-inst.self.signals.items in
@@ -59,4 +59,5 @@ loop-inst-preserved c =
     }
 
 pub returns-clause-signals : goal.returns-clause-signals
-returns-clause-signals c = λ e k. all-signals e (line_in c.args.m.now c.args.unit.0) c.args.insts.now c.loop-inst.inst-index (map signal_of c.loop-inst.self.signals.items) _ c.loop-inst-test.false (c.loop-inst.invariant.signals e k)
+returns-clause-signals c = λ e k. all-signals e (line_in c.args.m.now c.args.unit.0) c.args.insts.now c.loop-inst.inst-index (map signal_of c.loop-inst.self.signals.items) _ c.loop-inst-test.false
+    (c.loop-inst.invariant.signals e k)

@@ -11,6 +11,6 @@ values_of-requires c =
 
 pub returns-clause-given : goal.returns-clause-given
 returns-clause-given c =
-    gives-joined c.args.terms.now c.args.origin.now c.args.self.now c.args.t c.args.op c.made_of.new.terms c.as_slice.result.now c.in_ok-values.values c.ty.result.now c.in_ok-args.args c.requires.form c.requires.can.is.is_in
+    gives-joined c.args.terms.now c.args.origin.now c.args.self.now c.args.t c.args.op c.made_of.new.terms c.as_slice.result.now c.in_ok-values.values c.ty.result.now c.from_list-args.result c.requires.form c.requires.can.is.is_in
     c.made_of.ensures.kept c.are_apart.ensures (subst (AreMade c.args.terms.now c.made_of.new.terms c.args.t) (sym c.as_slice.ensures) c.in_ok-of.ensures.made) c.in_ok-values.ensures c.ty.ensures
-    (c.in_ok-args.ensures ∙ (λ i. operands_of c.made_of.new.terms c.args.op ((c.as_slice-2.ensures ∙ sym c.as_slice.ensures) i) c.ty.result.now (c.as_slice-3.ensures i)))
+    (c.from_list-args.ensures ∙ c.in_ok-args.ensures ∙ (λ i. operands_of c.made_of.new.terms c.args.op ((c.as_slice-2.ensures ∙ sym c.as_slice.ensures) i) c.ty.result.now (c.as_slice-3.ensures i)))

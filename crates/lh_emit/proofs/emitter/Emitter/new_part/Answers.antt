@@ -19,11 +19,14 @@ take_steps-requires c = record {
 
 pub returns-in_err-value : goal.returns-in_err-value
 returns-in_err-value c =
-    part-cause c.args.terms.now c.args.origin.now c.args.self.now c.args.key.part record { lines = c.take_steps.new.lines; values = c.args.self.now.values; parts = c.args.self.now.parts } c.from_residual-in_err-value.result c.in_err-value.field-0.0
+    part-cause c.args.terms.now c.args.origin.now c.args.self.now c.args.key.part record { lines = c.take_steps.new.lines; values = c.args.self.now.values; parts = c.args.self.now.parts }
+    c.from_residual-in_err-value.result c.in_err-value.field-0.0
     c.from_residual-in_err-value.ensures.1
-    (takes-not c.args.terms.now c.args.origin.now c.args.self.now c.args.key.part c.as_slice.result.now c.in_err-value.field-0.0 c.requires.new (steps (goal.at.returns-in_err-value c).After-as_slice) c.in_err-value.ensures.cause)
+    (takes-not c.args.terms.now c.args.origin.now c.args.self.now c.args.key.part c.as_slice.result.now c.in_err-value.field-0.0 c.requires.new (steps (goal.at.returns-in_err-value c).After-as_slice)
+    c.in_err-value.ensures.cause)
 
 pub returns : goal.returns
 returns c =
-    takes-new c.args.terms.now c.args.origin.now c.args.self.now c.args.key.part c.as_slice.result.now c.take_steps.new.lines c.in_ok-value.value c.keep.new.self c.requires.new (steps (goal.at.returns c).After-as_slice) c.in_ok-value.ensures.walks
+    takes-new c.args.terms.now c.args.origin.now c.args.self.now c.args.key.part c.as_slice.result.now c.take_steps.new.lines c.in_ok-value.value c.keep.new.self c.requires.new
+    (steps (goal.at.returns c).After-as_slice) c.in_ok-value.ensures.walks
     c.in_ok-keep.ensures

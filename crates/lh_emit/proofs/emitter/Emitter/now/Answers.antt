@@ -2,12 +2,15 @@ use Rattle.lh_emit.proofs.Outer.{can-now, now-needed, now-not}
 use Rattle.lh_emit.proofs.emitter.Emitter.now.Goals as goal
 
 pub term-requires : goal.term-requires
-term-requires c = can-now c.args.terms.now c.now.new.self c.args.origin.now c.args.self.now c.args.part.now c.in_ok-term.term c.now.ensures.kept c.are_apart.ensures c.in_ok-term.ensures.made c.requires
+term-requires c = can-now c.args.terms.now c.now.new.self c.args.origin.now c.args.self.now c.args.part.now c.in_ok-term.term c.now.ensures.kept c.are_apart.ensures c.in_ok-term.ensures.made
+    c.requires
 
 pub returns-clause-needed : goal.returns-clause-needed
 returns-clause-needed c =
-    now-needed c.args.terms.now c.now.new.self c.args.origin.now c.args.self.now c.args.part.now c.in_ok-term.term c.now.ensures.kept c.are_apart.ensures c.in_ok-term.ensures.made c.term.new.terms c.term.new.self c.term.result c.term.ensures.needed
+    now-needed c.args.terms.now c.now.new.self c.args.origin.now c.args.self.now c.args.part.now c.in_ok-term.term c.now.ensures.kept c.are_apart.ensures c.in_ok-term.ensures.made c.term.new.terms
+    c.term.new.self c.term.result c.term.ensures.needed
 
 pub returns-clause-cause : goal.returns-clause-cause
 returns-clause-cause c =
-    now-not c.args.terms.now c.now.new.self c.args.origin.now c.args.self.now c.args.part.now c.in_ok-term.term c.now.ensures.kept c.are_apart.ensures c.in_ok-term.ensures.made c.term.new.terms c.term.new.self c.term.result c.term.ensures.cause
+    now-not c.args.terms.now c.now.new.self c.args.origin.now c.args.self.now c.args.part.now c.in_ok-term.term c.now.ensures.kept c.are_apart.ensures c.in_ok-term.ensures.made c.term.new.terms
+    c.term.new.self c.term.result c.term.ensures.cause

@@ -13,5 +13,7 @@ returns-then-is_some-clause-gone c =
 pub returns-clause-gone : goal.returns-clause-gone
 returns-clause-gone c =
     let q : is_some (value_in c.args.self.now.values c.args.t) ≡ false = cc in
-    go-open c.args.terms.now c.args.origin.now c.args.self.now c.args.t (tops c.args.tasks.now.items) (tops c.push.new.tasks.items) (tops c.push_needs.new.tasks.items) c.made_of.new.terms c.as_slice.result.now c.requires q
-    c.made_of.ensures.kept c.are_apart.ensures (subst (AreMade c.args.terms.now c.made_of.new.terms c.args.t) (sym c.as_slice.ensures) c.in_ok-of.ensures.made) c.in_ok-push.ensures c.in_ok-push_needs.ensures
+    go-open c.args.terms.now c.args.origin.now c.args.self.now c.args.t (tops c.args.tasks.now.items) (tops c.push.new.tasks.items) (tops c.push_needs.new.tasks.items) c.made_of.new.terms
+    c.as_slice.result.now c.requires q
+    c.made_of.ensures.kept c.are_apart.ensures (subst (AreMade c.args.terms.now c.made_of.new.terms c.args.t) (sym c.as_slice.ensures) c.in_ok-of.ensures.made) c.in_ok-push.ensures
+    c.in_ok-push_needs.ensures

@@ -9,16 +9,19 @@ loop-task-init c = gone-first c.args.terms.now c.args.origin.now c.args.self.now
 
 pub step-requires : goal.step-requires
 step-requires c =
-    can-step c.args.terms.now c.args.origin.now c.args.self.now c.args.term c.loop-task.terms c.loop-task.self c.loop-task.tasks.items c.pop.new.self.items c.in-Some.task c.in-Some.ensures.items c.loop-task.invariant c.requires
+    can-step c.args.terms.now c.args.origin.now c.args.self.now c.args.term c.loop-task.terms c.loop-task.self c.loop-task.tasks.items c.pop.new.self.items c.in-Some.task c.in-Some.ensures.items
+    c.loop-task.invariant c.requires
 
 pub loop-task-preserved : goal.loop-task-preserved
 loop-task-preserved c =
-    gone-next c.args.terms.now c.args.origin.now c.args.self.now c.args.term c.loop-task.terms c.loop-task.self c.loop-task.tasks.items c.pop.new.self.items c.in-Some.task c.in-Some.ensures.items c.loop-task.invariant
+    gone-next c.args.terms.now c.args.origin.now c.args.self.now c.args.term c.loop-task.terms c.loop-task.self c.loop-task.tasks.items c.pop.new.self.items c.in-Some.task c.in-Some.ensures.items
+    c.loop-task.invariant
     c.step.new.terms c.step.new.self c.step.new.tasks.items c.step.ensures.kept c.in_ok-step.ensures.gone
 
 pub loop-task-smaller : goal.loop-task-smaller
 loop-task-smaller c =
-    less-left c.args.terms.now c.args.origin.now c.args.self.now c.args.term c.loop-task.terms c.loop-task.self c.loop-task.tasks.items c.pop.new.self.items c.in-Some.task c.in-Some.ensures.items c.loop-task.invariant
+    less-left c.args.terms.now c.args.origin.now c.args.self.now c.args.term c.loop-task.terms c.loop-task.self c.loop-task.tasks.items c.pop.new.self.items c.in-Some.task c.in-Some.ensures.items
+    c.loop-task.invariant
     c.step.new.terms c.step.new.self c.step.new.tasks.items c.in_ok-step.ensures.gone
 
 none-left : (xs : List Task) → length xs ≡ 0 → xs ≡ []
@@ -33,8 +36,10 @@ value_of-requires c =
 
 pub returns-in_err-step-clause-taken : goal.returns-in_err-step-clause-taken
 returns-in_err-step-clause-taken c =
-    term-cause c.args.terms.now c.args.origin.now c.args.self.now c.args.term c.step.new.terms c.step.new.self c.from_residual-in_err-step.result c.in_err-step.field-0.0 c.from_residual-in_err-step.ensures.1
-    (step-cause c.args.terms.now c.args.origin.now c.args.self.now c.args.term c.loop-task.terms c.loop-task.self c.loop-task.tasks.items c.pop.new.self.items c.in-Some.task c.in-Some.ensures.items c.loop-task.invariant
+    term-cause c.args.terms.now c.args.origin.now c.args.self.now c.args.term c.step.new.terms c.step.new.self c.from_residual-in_err-step.result c.in_err-step.field-0.0
+    c.from_residual-in_err-step.ensures.1
+    (step-cause c.args.terms.now c.args.origin.now c.args.self.now c.args.term c.loop-task.terms c.loop-task.self c.loop-task.tasks.items c.pop.new.self.items c.in-Some.task c.in-Some.ensures.items
+    c.loop-task.invariant
     c.in_err-step.field-0.0 c.requires.within c.in_err-step.ensures.gone)
 
 pub returns-in_err-step-clause-kept : goal.returns-in_err-step-clause-kept
@@ -43,5 +48,6 @@ returns-in_err-step-clause-kept c = grows_on c.args.terms.now c.loop-task.terms 
 pub returns-clause-taken : goal.returns-clause-taken
 returns-clause-taken c =
     let e : c.loop-task.tasks.items ≡ [] = none-left c.loop-task.tasks.items (sym c.loop-task.tasks.ok.0 ∙ c.in_default.ensures.cases.0) in
-    takes-term c.args.terms.now c.args.origin.now c.args.self.now c.args.term c.loop-task.terms c.loop-task.self c.value_of.result c.requires.within c.loop-task.invariant.grows c.loop-task.invariant.names
+    takes-term c.args.terms.now c.args.origin.now c.args.self.now c.args.term c.loop-task.terms c.loop-task.self c.value_of.result c.requires.within c.loop-task.invariant.grows
+    c.loop-task.invariant.names
     (nothing-left c.args.terms.now c.args.origin.now c.args.self.now c.args.term c.loop-task.terms c.loop-task.self c.loop-task.tasks.items e c.loop-task.invariant) c.value_of.ensures

@@ -4,7 +4,7 @@ use Rattle.lh_unit.specs.Arena.{naming, unit_text_at}
 use Rattle.lh_unit.specs.Held.{data_at}
 use Rattle.lh_unit.specs.Naming.{operand_text, maybe_text}
 use Rattle.lh_exec.specs.declared.machine.Flow.TheVariants as flow
-use Rattle.lh_exec.specs.Standing.{Leads}
+use Rattle.lh_exec.specs.Standing.{InstLeads}
 use Rattle.lh_exec.proofs.Steps.{opens-none}
 use Rattle.lh_exec.proofs.machine.Machine.open.Goals as goal
 
@@ -13,4 +13,5 @@ returns-then-len-ge-MAX_CALLS c = λ p st.
     let m = c.args.m.now in
     let f = naming m c.args.self.now.frame.unit.0 in
     let h : 256 ≤ length c.args.self.now.callers.items = omega arith in
-    subst (λ (n : Next). Leads m c.args.self.now flow.Lost p.control.unit n) (sym (opens-none m c.args.self.now p st (maybe_text f c.args.name) (called (Some (unit_text_at m c.args.unit.0)) (data_at p.control.held (map (operand_text f) c.args.args.now))) h)) tt
+    subst (λ (n : Next). InstLeads m c.args.self.now flow.Lost p.control.unit n)
+    (sym (opens-none m c.args.self.now p st (maybe_text f c.args.name) (called (Some (unit_text_at m c.args.unit.0)) (data_at p.control.held (map (operand_text f) c.args.args.now))) h)) tt

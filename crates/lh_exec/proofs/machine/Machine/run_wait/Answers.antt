@@ -5,7 +5,7 @@ use Rattle.lh_unit.specs.Arena.{naming}
 use Rattle.lh_unit.specs.Held.{parts_at}
 use Rattle.lh_unit.specs.Naming.{value_text, maybe_text}
 use Rattle.lh_exec.specs.declared.machine.Flow.TheVariants as flow
-use Rattle.lh_exec.specs.Standing.{Leads}
+use Rattle.lh_exec.specs.Standing.{InstLeads}
 use Rattle.lh_exec.proofs.Lists.{nil-of}
 use Rattle.lh_exec.proofs.Steps.{some-callers, does-not-end}
 use Rattle.lh_exec.proofs.WaitSteps.{no-parts}
@@ -15,8 +15,9 @@ pub returns-then-not-is_empty : goal.returns-then-not-is_empty
 returns-then-not-is_empty c = λ a h p st.
     let f = naming a c.args.self.now.frame.unit.0 in
     let l : 0 < length c.args.self.now.callers.items = grind (arith, nat_tests) in
-    subst (λ (n : Next). Leads a c.args.self.now flow.Lost p.control.unit n)
-    (sym (does-not-end p p.callers (waiting p.control.block (f.label_name c.args.to.0) (parts_at p.control.held (map (value_text f) c.args.signals.now)) (wake_at c.args.at p.control.held (maybe_text f c.args.after))) (some-callers a c.args.self.now.callers.items p.callers l st.callers))) tt
+    subst (λ (n : Next). InstLeads a c.args.self.now flow.Lost p.control.unit n)
+    (sym (does-not-end p p.callers (waiting p.control.block (f.label_name c.args.to.0) (parts_at p.control.held (map (value_text f) c.args.signals.now))
+    (wake_at c.args.at p.control.held (maybe_text f c.args.after))) (some-callers a c.args.self.now.callers.items p.callers l st.callers))) tt
 
 pub wait_on-requires-clause-calls : goal.wait_on-requires-clause-calls
 wait_on-requires-clause-calls c = let n : length c.args.self.now.callers.items ≡ 0 = grind (arith, nat_tests) in nil-of c.args.self.now.callers.items n

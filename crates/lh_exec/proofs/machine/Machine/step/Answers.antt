@@ -12,7 +12,8 @@ result_of-name-requires-clause-inst c =
     let d : InstId = record { 0 = 0 } in
     let h : c.args.self.now.frame.next < length c.insts-insts.result.now = omega arith in
     Each-at (λ (i : InstId). i.0 < inst_count c.args.m.now c.args.self.now.frame.unit.0) c.insts-insts.result.now c.args.self.now.frame.next d
-    (subst (Each (λ (i : InstId). i.0 < inst_count c.args.m.now c.args.self.now.frame.unit.0)) (sym c.insts-insts.ensures.insts) (insts-here c.args.m.now c.args.self.now c.requires.fit.point c.requires.fit.is))
+    (subst (Each (λ (i : InstId). i.0 < inst_count c.args.m.now c.args.self.now.frame.unit.0)) (sym c.insts-insts.ensures.insts)
+    (insts-here c.args.m.now c.args.self.now c.requires.fit.point c.requires.fit.is))
     h
 
 pub inst-requires-clause-inst : goal.inst-requires-clause-inst
@@ -20,13 +21,15 @@ inst-requires-clause-inst c =
     let d : InstId = record { 0 = 0 } in
     let h : c.args.self.now.frame.next < length c.insts-insts.result.now = omega arith in
     Each-at (λ (i : InstId). i.0 < inst_count c.args.m.now c.args.self.now.frame.unit.0) c.insts-insts.result.now c.args.self.now.frame.next d
-    (subst (Each (λ (i : InstId). i.0 < inst_count c.args.m.now c.args.self.now.frame.unit.0)) (sym c.insts-insts.ensures.insts) (insts-here c.args.m.now c.args.self.now c.requires.fit.point c.requires.fit.is))
+    (subst (Each (λ (i : InstId). i.0 < inst_count c.args.m.now c.args.self.now.frame.unit.0)) (sym c.insts-insts.ensures.insts)
+    (insts-here c.args.m.now c.args.self.now c.requires.fit.point c.requires.fit.is))
     h
 
 pub execute-requires-clause-name : goal.execute-requires-clause-name
 execute-requires-clause-name c =
     let d : InstId = record { 0 = 0 } in
-    name-in c.args.m.now c.args.self.now.frame.unit.0 (get_or c.insts-insts.result.now c.args.self.now.frame.next d).0 c.args.self.now.frame.slots c.result_of-name.result c.requires.fit.is.arena c.requires.fit.is.frame.within c.requires.fit.is.frame.held.long c.result_of-name.ensures.value
+    name-in c.args.m.now c.args.self.now.frame.unit.0 (get_or c.insts-insts.result.now c.args.self.now.frame.next d).0 c.args.self.now.frame.slots c.result_of-name.result c.requires.fit.is.arena
+    c.requires.fit.is.frame.within c.requires.fit.is.frame.held.long c.result_of-name.ensures.value
 
 pub execute-requires-clause-right : goal.execute-requires-clause-right
 execute-requires-clause-right c =

@@ -3,4 +3,5 @@ use Rattle.lh_flat.proofs.copy.UnitCopy.inst.Goals as goal
 
 pub maybe-requires : goal.maybe-requires
 maybe-requires c =
-    maybe-within c.args.self.now.view.module.now c.result_of.ensures.sound c.args.self.now.view.unit.0 c.args.self.now.view.in_place c.args.self.now.ids c.args.self.now.fits 0 c.args.id.0 c.result_of.result c.result_of.ensures.value
+    maybe-within c.args.self.now.view.module.now c.result_of.ensures.sound c.args.self.now.view.unit.0 c.args.self.now.view.in_place c.args.self.now.ids c.args.self.now.fits 0 c.args.id.0
+    c.result_of.result c.result_of.ensures.value

@@ -6,6 +6,6 @@ use Rattle.lh_flat.proofs.rename.Renaming.operands.Given as goal
 
 abbrev pub invariant-loop-operand : goal.invariant-loop-operand
 invariant-loop-operand l = record {
-  same : l.to ++ map (operand_in l.self) (drop l.operand-index l.items) ≡ map (operand_in l.self) l.items;
-  within : Each (λ (o : Typed). o.value.0 < length l.self.values) (drop l.operand-index l.items);
+  same : l.to ++ map (operand_in l.self) (drop l.operand-index l.operands) ≡ map (operand_in l.self) l.operands;
+  within : Each (λ (o : Typed). o.value.0 < length l.self.values) (drop l.operand-index l.operands);
 }

@@ -7,25 +7,30 @@ loop-frame-init c = Searching-first c.args.nodes.now c.args.top c.args.self.now 
 
 pub close-requires : goal.close-requires
 close-requires c =
-    InPlace-stop c.args.nodes.now c.args.top.0 c.in-Some.frame c.loop-frame.self (record { marks = c.loop-frame.self.marks; stack = c.pop.new.self }) c.step.new.self c.in-Err.fault c.loop-frame.invariant
+    InPlace-stop c.args.nodes.now c.args.top.0 c.in-Some.frame c.loop-frame.self (record { marks = c.loop-frame.self.marks; stack = c.pop.new.self }) c.step.new.self c.in-Err.fault
+    c.loop-frame.invariant
     (record { marks = refl; stack = c.in-Some.ensures.items }) c.in-Err.ensures
 
 pub returns-in-Err : goal.returns-in-Err
 returns-in-Err c = record {
   measures =
-      Searching-stop c.args.nodes.now c.args.top.0 c.in-Some.frame c.loop-frame.self (record { marks = c.loop-frame.self.marks; stack = c.pop.new.self }) c.step.new.self c.in-Err.fault c.loop-frame.invariant
+      Searching-stop c.args.nodes.now c.args.top.0 c.in-Some.frame c.loop-frame.self (record { marks = c.loop-frame.self.marks; stack = c.pop.new.self }) c.step.new.self c.in-Err.fault
+      c.loop-frame.invariant
       (record { marks = refl; stack = c.in-Some.ensures.items }) c.in-Err.ensures;
   settled = c.close.ensures c.args.nodes.now
-      (Covered-stop c.args.nodes.now c.args.top.0 c.in-Some.frame c.loop-frame.self (record { marks = c.loop-frame.self.marks; stack = c.pop.new.self }) c.step.new.self c.in-Err.fault c.loop-frame.invariant
+      (Covered-stop c.args.nodes.now c.args.top.0 c.in-Some.frame c.loop-frame.self (record { marks = c.loop-frame.self.marks; stack = c.pop.new.self }) c.step.new.self c.in-Err.fault
+      c.loop-frame.invariant
       (record { marks = refl; stack = c.in-Some.ensures.items }) c.in-Err.ensures);
 }
 
 pub loop-frame-smaller : goal.loop-frame-smaller
 loop-frame-smaller c =
-    left-falls c.args.nodes.now c.args.top.0 c.in-Some.frame c.loop-frame.self (record { marks = c.loop-frame.self.marks; stack = c.pop.new.self }) c.step.new.self c.requires.within c.loop-frame.invariant
+    left-falls c.args.nodes.now c.args.top.0 c.in-Some.frame c.loop-frame.self (record { marks = c.loop-frame.self.marks; stack = c.pop.new.self }) c.step.new.self c.requires.within
+    c.loop-frame.invariant
     (record { marks = refl; stack = c.in-Some.ensures.items }) c.in_default-step.ensures
 
 pub loop-frame-preserved : goal.loop-frame-preserved
 loop-frame-preserved c =
-    Searching-next c.args.nodes.now c.args.top.0 c.in-Some.frame c.loop-frame.self (record { marks = c.loop-frame.self.marks; stack = c.pop.new.self }) c.step.new.self c.requires.within c.loop-frame.invariant
+    Searching-next c.args.nodes.now c.args.top.0 c.in-Some.frame c.loop-frame.self (record { marks = c.loop-frame.self.marks; stack = c.pop.new.self }) c.step.new.self c.requires.within
+    c.loop-frame.invariant
     (record { marks = refl; stack = c.in-Some.ensures.items }) c.in_default-step.ensures

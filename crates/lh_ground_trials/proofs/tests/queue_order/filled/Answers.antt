@@ -1,6 +1,6 @@
 use Rattle.std.proofs.Common.{◌≢◌, ◌⊎◌, inl, inr, ⊎_elim, ℕ, refl, sym, subst, ◌∙◌, ap, get_or, arith}
 use Rattle.lh_time.specs.declared.Instant.{Instant}
-use Rattle.lh_queue.specs.Held.{Held, EachWithin, NoneCompetes, with_held}
+use Rattle.lh_queue.specs.Queued.{QueuedWish, EachWithin, NoneCompetes, with_held}
 use Rattle.lh_queue.proofs.Keeping.{more_within, more_apart, different_apart}
 use Rattle.lh_ground_trials.proofs.tests.queue_order.filled.Goals as goal
 
@@ -15,7 +15,7 @@ put-requires-clause-apart c =
 pub loop-k-preserved : goal.loop-k-preserved
 loop-k-preserved c =
     let a = c.put.ensures.adds in
-    let x : Held = record { key = a.0; wish = c.in_ok-wish.wish } in
+    let x : QueuedWish = record { key = a.0; wish = c.in_ok-wish.wish } in
     let of = c.in_ok-wish.ensures.of in
     let e = sym (a.2 ∙ ap (λ held. with_held held x) c.in_ok-reserve.ensures.held) in
     record {

@@ -1,6 +1,6 @@
 use Rattle.std.proofs.Common.{ℕ, ◌≢◌, ◌⊎◌, ◌<◌, get_or}
 use Rattle.lh_queue.specs.declared.wish.Wish.{Wish}
-use Rattle.lh_queue.specs.Held.{EachWithin, NoneCompetes}
+use Rattle.lh_queue.specs.Queued.{EachWithin, NoneCompetes}
 use Rattle.lh_ground_trials.specs.declared.tests.queue_order.Row.{Row}
 use Rattle.lh_ground_trials.proofs.tests.queue_order.filled.Given as goal
 

@@ -1,29 +1,22 @@
-use Rattle.std.proofs.Common.{rules, ℕ, List, length, refl, ap, ◌∙◌, arith}
-use Rattle.std.specs.List.{insert}
-use Rattle.lh_index.proofs.Places.{found_there, found_in, found_missing, there_already, place_within}
+use Rattle.std.proofs.Common.{rules, ℕ, List, length, ap, arith}
+use Rattle.lh_index.proofs.Places.{put_last}
 use Rattle.lh_index.proofs.rising.Rising.enter.Goals as goal
 
-pub put_in-requires : goal.put_in-requires
-put_in-requires c =
-    let within = place_within _ _ _ c.args.n c.in-Err.place c.self.view_is c.as_slice.ensures.value c.self.invariant c.in-Err.ensures in
-    omega (arith, within, ap (λ (xs : List ℕ). length xs) c.begin_with_room.ensures, c.begin_with_room.new.numbers.ok.0)
+pub push_reserved-requires : goal.push_reserved-requires
+push_reserved-requires c =
+    let room = c.comes_last.ensures.room c.if-comes_last.true in
+    omega (arith, room, c.capacity.ensures, ap (λ (xs : List ℕ). length xs) c.as_slice.ensures.value)
 
-pub invariant_of-self-in-Err : goal.invariant_of-self-in-Err
-invariant_of-self-in-Err c =
-    (found_in _ _ _ _ c.args.n c.in-Err.place c.self.view_is c.as_slice.ensures.value c.self.invariant c.in-Err.ensures (c.in_ok-put_in-in-Err.ensures.items ∙ ap (λ (xs : List ℕ). insert xs c.in-Err.place c.args.n) c.begin_with_room.ensures)).0
+pub invariant_of-self : goal.invariant_of-self
+invariant_of-self c =
+    (put_last _ _ _ _ c.args.n c.self.view_is c.as_slice.ensures.value c.self.invariant (c.comes_last.ensures.some c.if-comes_last.true) (c.comes_last.ensures.last c.if-comes_last.true) c.push_reserved.ensures.items).0.0
 
-pub returns-in-Ok-clause-has : goal.returns-in-Ok-clause-has
-returns-in-Ok-clause-has c =
-    there_already c.args.n _ (found_there _ _ _ c.args.n c.in-Ok.field-0 c.self.view_is c.as_slice.ensures.value c.self.invariant c.in-Ok.ensures)
+pub returns-then-comes_last-clause-has : goal.returns-then-comes_last-clause-has
+returns-then-comes_last-clause-has c =
+    (put_last _ _ _ _ c.args.n c.self.view_is c.as_slice.ensures.value c.self.invariant (c.comes_last.ensures.some c.if-comes_last.true) (c.comes_last.ensures.last c.if-comes_last.true) c.push_reserved.ensures.items).0.1
 
-pub returns-in-Ok-clause-there : goal.returns-in-Ok-clause-there
-returns-in-Ok-clause-there c =
-    (λ e. found_there _ _ _ c.args.n c.in-Ok.field-0 c.self.view_is c.as_slice.ensures.value c.self.invariant c.in-Ok.ensures, λ h. refl)
-
-pub returns-in_ok-put_in-in-Err-clause-has : goal.returns-in_ok-put_in-in-Err-clause-has
-returns-in_ok-put_in-in-Err-clause-has c =
-    (found_in _ _ _ _ c.args.n c.in-Err.place c.self.view_is c.as_slice.ensures.value c.self.invariant c.in-Err.ensures (c.in_ok-put_in-in-Err.ensures.items ∙ ap (λ (xs : List ℕ). insert xs c.in-Err.place c.args.n) c.begin_with_room.ensures)).1
-
-pub returns-in_ok-put_in-in-Err-clause-there : goal.returns-in_ok-put_in-in-Err-clause-there
-returns-in_ok-put_in-in-Err-clause-there c =
-    (λ e. absurd (search rules), λ h. absurd (found_missing _ _ _ c.args.n c.in-Err.place c.self.view_is c.as_slice.ensures.value c.self.invariant c.in-Err.ensures h))
+pub returns-then-comes_last-clause-there : goal.returns-then-comes_last-clause-there
+returns-then-comes_last-clause-there c = (
+  λ e. absurd (search rules),
+  λ h. absurd ((put_last _ _ _ _ c.args.n c.self.view_is c.as_slice.ensures.value c.self.invariant (c.comes_last.ensures.some c.if-comes_last.true) (c.comes_last.ensures.last c.if-comes_last.true) c.push_reserved.ensures.items).1 h),
+)

@@ -13,5 +13,6 @@ loop-conjunct-preserved c =
     let is_in = listed-in c.args.terms.now items i no_id (subst (AreIn c.args.terms.now) (sym c.as_slice-conjunct-items.ensures) c.in_ok-conjuncts.ensures.within) c.loop-conjunct-test.true in
     elim c.if-not-has.branch [
       | then-not-has+in_ok-push w ↦ OthersSoFar-push _ _ _ _ _ _ (get_or items i no_id) f is_in w.if-not-has.ensures (w.others-is ∙ w.in_ok-push.ensures.ok) c.loop-conjunct.invariant
-      | else-not-has w ↦ subst (λ (x : List TermId). OthersSoFar c.args.terms.now c.args.self.now x (take (i + 1) items)) (sym w.others-is) (OthersSoFar-skip _ _ _ _ _ (get_or items i no_id) f is_in w.if-not-has.ensures c.loop-conjunct.invariant)
+      | else-not-has w ↦ subst (λ (x : List TermId). OthersSoFar c.args.terms.now c.args.self.now x (take (i + 1) items)) (sym w.others-is)
+          (OthersSoFar-skip _ _ _ _ _ (get_or items i no_id) f is_in w.if-not-has.ensures c.loop-conjunct.invariant)
     ]

@@ -15,7 +15,8 @@ others-requires c = conditions-at c.args.terms.now c.args.edges.now c.loop-edge.
 pub loop-edge-preserved : goal.loop-edge-preserved
 loop-edge-preserved c =
     let all = c.args.edges.now in let i = c.loop-edge.edge-index in
-    EachSoFar-next _ _ _ _ _ _ (get_or all i no_edge) _ (take_more all i no_edge c.loop-edge-test.true) c.in_ok-push.ensures.ok c.in_ok-others.ensures.within c.in_ok-others.ensures.others c.loop-edge.invariant
+    EachSoFar-next _ _ _ _ _ _ (get_or all i no_edge) _ (take_more all i no_edge c.loop-edge-test.true) c.in_ok-push.ensures.ok c.in_ok-others.ensures.within c.in_ok-others.ensures.others
+    c.loop-edge.invariant
 
 pub returns : goal.returns
 returns c =

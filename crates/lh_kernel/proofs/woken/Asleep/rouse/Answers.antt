@@ -5,7 +5,7 @@ use Rattle.lh_types.specs.declared.part.Range.{Range}
 use Rattle.lh_unit.specs.World.{bit_numbers, bit_differs}
 use Rattle.lh_kernel.proofs.Waking.{RousedTo, sensed_item, read_within, roused_more, roused_not}
 use Rattle.lh_kernel.proofs.woken.Asleep.rouse.Goals as goal
-use Rattle.lh_kernel.proofs.woken.Asleep.rouse.Goals.{then-differs+in_ok-enter, else-differs}
+use Rattle.lh_kernel.proofs.woken.Asleep.rouse.Goals.{then-differs_with+in_ok-enter, else-differs_with}
 
 pub bounds-self-instance : goal.bounds-self-instance
 bounds-self-instance c =
@@ -19,8 +19,8 @@ bounds-self-instance-in-loop-instance c =
     let w = sensed_item c.requires.asleep.0 x.design.now x.states.now x.probes.now x.noted.now c.requires.asleep.1 c.requires.asleep.2 c.args.signal c.sensing-instance-items.result.now c.loop-instance.instance-index _ c.sensing-instance-items.ensures.same c.loop-instance-test.true refl in
     slice_get_within x.states.now _ w.state w.is_kept
 
-pub differs-requires-clause-in_old : goal.differs-requires-clause-in_old
-differs-requires-clause-in_old c =
+pub differs_with-requires-clause-in_old : goal.differs_with-requires-clause-in_old
+differs_with-requires-clause-in_old c =
     let x = c.args.self.now in
     let y = get_or c.sensing-instance-items.result.now c.loop-instance.instance-index 0 in
     let w = sensed_item c.requires.asleep.0 x.design.now x.states.now x.probes.now x.noted.now c.requires.asleep.1 c.requires.asleep.2 c.args.signal c.sensing-instance-items.result.now c.loop-instance.instance-index _ c.sensing-instance-items.ensures.same c.loop-instance-test.true refl in
@@ -29,8 +29,8 @@ differs-requires-clause-in_old c =
     read_within x.design.now x.states.now x.probes.now y s rs c.senses-parts.result.now c.args.old.now w (slice_get-get_or x.states.now y _ (slice_get_within x.states.now _ w.state w.is_kept))
     (slice_get-get_or x.probes.now y _ (slice_get_within x.probes.now _ w.probed w.is_probed)) c.senses-parts.ensures c.requires.old_width
 
-pub differs-requires-clause-in_now : goal.differs-requires-clause-in_now
-differs-requires-clause-in_now c =
+pub differs_with-requires-clause-in_now : goal.differs_with-requires-clause-in_now
+differs_with-requires-clause-in_now c =
     let x = c.args.self.now in
     let y = get_or c.sensing-instance-items.result.now c.loop-instance.instance-index 0 in
     let w = sensed_item c.requires.asleep.0 x.design.now x.states.now x.probes.now x.noted.now c.requires.asleep.1 c.requires.asleep.2 c.args.signal c.sensing-instance-items.result.now c.loop-instance.instance-index _ c.sensing-instance-items.ensures.same c.loop-instance-test.true refl in
@@ -49,13 +49,13 @@ loop-instance-preserved c =
     let rs = get_or x.probes.now (get_or items i 0) c.index-self-instance.result in
     let p = slice_get-get_or x.states.now (get_or items i 0) c.index-self-instance-in-loop-instance.result (slice_get_within x.states.now _ w.state w.is_kept) in
     let q = slice_get-get_or x.probes.now (get_or items i 0) c.index-self-instance.result (slice_get_within x.probes.now _ w.probed w.is_probed) in
-    let e = sym (ap (λ (parts : List Range). list_any (bit_differs c.args.old.now c.args.now.now) (bit_numbers parts)) c.senses-parts.ensures) ∙ sym c.differs.ensures in
+    let e = sym (ap (λ (parts : List Range). list_any (bit_differs c.args.old.now c.args.now.now) (bit_numbers parts)) c.senses-parts.ensures) ∙ sym c.differs_with.ensures in
     let P : List ℕ → Type 0 = RousedTo x.states.now x.probes.now c.args.old.now c.args.now.now items (i + 1) c.args.woken.now in
-    elim c.if-differs.branch [
-      | then-differs+in_ok-enter v ↦
+    elim c.if-differs_with.branch [
+      | then-differs_with+in_ok-enter v ↦
           subst P (sym v.woken-is)
-          (roused_more x.states.now x.probes.now c.args.old.now c.args.now.now items i (get_or items i 0) s rs c.args.woken.now c.loop-instance.woken v.enter.new.self c.loop-instance-test.true refl p q (e ∙ v.if-differs.true) c.loop-instance.invariant v.in_ok-enter.ensures.has)
-      | else-differs v ↦
+          (roused_more x.states.now x.probes.now c.args.old.now c.args.now.now items i (get_or items i 0) s rs c.args.woken.now c.loop-instance.woken v.enter.new.self c.loop-instance-test.true refl p q (e ∙ v.if-differs_with.true) c.loop-instance.invariant v.in_ok-enter.ensures.has)
+      | else-differs_with v ↦
           subst P (sym v.woken-is)
-          (roused_not x.states.now x.probes.now c.args.old.now c.args.now.now items i (get_or items i 0) s rs c.args.woken.now c.loop-instance.woken c.loop-instance-test.true refl p q (e ∙ v.if-differs.false) c.loop-instance.invariant)
+          (roused_not x.states.now x.probes.now c.args.old.now c.args.now.now items i (get_or items i 0) s rs c.args.woken.now c.loop-instance.woken c.loop-instance-test.true refl p q (e ∙ v.if-differs_with.false) c.loop-instance.invariant)
     ]

@@ -14,4 +14,5 @@ keep-requires-clause-can c = can-add c.args.self.now c.args.unit c.requires.next
 pub returns-else-is_process-clause-lowers : goal.returns-else-is_process-clause-lowers
 returns-else-is_process-clause-lowers c =
     let l = c.args.self.now in let u = c.args.unit in let n = c.requires.next in
-    kept-lowers l _ u n.lowering.sound c.keep.result refl refl c.keep.ensures.from refl (unit-begun l u n) (λ p. (let q = c.if-is_process.ensures.1 p in absurd cc)) c.keep.ensures.copies (copies-same l u n)
+    kept-lowers l _ u n.lowering.sound c.keep.result refl refl c.keep.ensures.from refl (unit-begun l u n) (λ p. (let q = c.if-is_process.ensures.1 p in absurd cc)) c.keep.ensures.copies
+    (copies-same l u n)

@@ -22,10 +22,13 @@ steps_to-requires-clause-there c =
 pub returns-in-None : goal.returns-in-None
 returns-in-None c =
     let x = c.args.self.now in
-    none-given x c.args.part.now c.new.result (first-missed x.parts.now.parts.items c.first_of.result c.kept_for.result.now (kept_for x.firsts c.args.part.now) c.args.part.now c.first_of.ensures c.kept_for.ensures c.in-None.is) c.new.ensures
+    none-given x c.args.part.now c.new.result
+    (first-missed x.parts.now.parts.items c.first_of.result c.kept_for.result.now (kept_for x.firsts c.args.part.now) c.args.part.now c.first_of.ensures c.kept_for.ensures c.in-None.is)
+    c.new.ensures
 
 pub returns-in-Some : goal.returns-in-Some
 returns-in-Some c =
     let x = c.args.self.now in
     steps-given x c.args.part.now c.in-Some.first c.steps_to.result
-    (first-met x.parts.now.parts.items c.first_of.result c.kept_for.result.now (kept_for x.firsts c.args.part.now) c.args.part.now c.in-Some.first c.first_of.ensures c.kept_for.ensures c.in-Some.is) c.steps_to.ensures
+    (first-met x.parts.now.parts.items c.first_of.result c.kept_for.result.now (kept_for x.firsts c.args.part.now) c.args.part.now c.in-Some.first c.first_of.ensures c.kept_for.ensures c.in-Some.is)
+    c.steps_to.ensures

@@ -9,4 +9,5 @@ go_forth-requires-clause-within c = follow-within _ _ c.args.value.0 _ _ _ _ c.g
 
 pub returns-clause-follows : goal.returns-clause-follows
 returns-clause-follows c =
-    follow-follows _ _ c.args.value.0 _ _ _ _ _ _ _ c.go_back.ensures.steps c.requires.in_place c.requires.is_in c.in_ok-go_back.ensures.back c.go_back.ensures.parts c.in_ok-go_forth.ensures.parts c.in_ok-go_forth.ensures.met
+    follow-follows _ _ c.args.value.0 _ _ _ _ _ _ _ c.go_back.ensures.steps c.requires.in_place c.requires.is_in c.in_ok-go_back.ensures.back c.go_back.ensures.parts c.in_ok-go_forth.ensures.parts
+    c.in_ok-go_forth.ensures.met

@@ -20,6 +20,7 @@ loop-value-preserved c =
       forth =
           Forth-next _ _ c.loop-value.self.parts.items c.put.new.self.parts.items _ c.loop-value.self.way.items c.put.new.self.way.items c.in-Some.value
           (c.in-Some.ensures.items ∙ ap (λ (x : List ValueId). x ++ c.in-Some.value ∷ []) (sym c.put.ensures.way))
-          (c.put.ensures.parts ∙ ap (set c.loop-value.self.parts.items c.in-Some.value.0) (c.in_ok-part.ensures ∙ ap (λ (ss : List (Option PartStep)). part_by_step c.loop-value.self.parts.items (step_at ss c.in-Some.value.0)) i.steps))
+          (c.put.ensures.parts ∙ ap (set c.loop-value.self.parts.items c.in-Some.value.0) (c.in_ok-part.ensures
+          ∙ ap (λ (ss : List (Option PartStep)). part_by_step c.loop-value.self.parts.items (step_at ss c.in-Some.value.0)) i.steps))
           i.forth;
     }

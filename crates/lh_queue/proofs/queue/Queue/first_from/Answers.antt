@@ -14,7 +14,8 @@ returns-clause-number c =
     let P : List Bucket → Type 0 = TimesRise in
     let rise : TimesRise c.as_slice.result.now = subst P (sym laid) (buckets_rise c.args.self.now.held s.order) in
     let point = c.partition_point.ensures.partitioned (λ b. nat_lt b.fs c.args.fs) (always_returns_same _ _ _ (λ a r f k. search (rules, of_calls))) (parted c.args.fs c.as_slice.result.now rise) in
-    earlier_at c.args.fs c.as_slice.result.now c.partition_point.result c.partition_point.ensures.bound (λ k d h. point.0 k d (omega arith) h) (λ k d h l. point.1 k d h l) ∙ ap (earlier c.args.fs) laid
+    earlier_at c.args.fs c.as_slice.result.now c.partition_point.result c.partition_point.ensures.bound (λ k d h. point.0 k d (omega arith) h) (λ k d h l. point.1 k d h l)
+    ∙ ap (earlier c.args.fs) laid
 
 pub returns-clause-order : goal.returns-clause-order
 returns-clause-order c = (stored c.self.inside.links c.self.inside.buckets.items _ c.args.self.now c.self.invariant c.self.view_is).order

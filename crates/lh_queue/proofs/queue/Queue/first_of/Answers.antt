@@ -12,9 +12,15 @@ returns-in-None c =
 pub returns-then-bucket-fs : goal.returns-then-bucket-fs
 returns-then-bucket-fs c =
     let s = stored c.self.inside.links c.self.inside.buckets.items _ c.args.self.now c.self.invariant c.self.view_is in
-    rw (← (some_at c.as_slice.result.now c.args.k c.in-Some.bucket.now c.in-Some.ensures.lookup.1 c.in-Some.ensures.lookup.3.0 ∙ ap (λ bs. slice_get bs c.args.k) (c.as_slice.ensures ∙ s.buckets_are)), eq-eqb _ _ c.if-bucket-fs.true) refl
+    rw (
+      ← (some_at c.as_slice.result.now c.args.k c.in-Some.bucket.now c.in-Some.ensures.lookup.1 c.in-Some.ensures.lookup.3.0 ∙ ap (λ bs. slice_get bs c.args.k) (c.as_slice.ensures ∙ s.buckets_are)),
+      eq-eqb _ _ c.if-bucket-fs.true,
+    ) refl
 
 pub returns-else-bucket-fs : goal.returns-else-bucket-fs
 returns-else-bucket-fs c =
     let s = stored c.self.inside.links c.self.inside.buckets.items _ c.args.self.now c.self.invariant c.self.view_is in
-    rw (← (some_at c.as_slice.result.now c.args.k c.in-Some.bucket.now c.in-Some.ensures.lookup.1 c.in-Some.ensures.lookup.3.0 ∙ ap (λ bs. slice_get bs c.args.k) (c.as_slice.ensures ∙ s.buckets_are)), ne_eqb _ _ c.if-bucket-fs.false) refl
+    rw (
+      ← (some_at c.as_slice.result.now c.args.k c.in-Some.bucket.now c.in-Some.ensures.lookup.1 c.in-Some.ensures.lookup.3.0 ∙ ap (λ bs. slice_get bs c.args.k) (c.as_slice.ensures ∙ s.buckets_are)),
+      ne_eqb _ _ c.if-bucket-fs.false,
+    ) refl

@@ -1,6 +1,6 @@
 use Rattle.std.proofs.Common.{◌≡◌, ◌∙◌, ap, sym, refl, length, subst, ℕ, ◌<◌, Option, []}
 use Rattle.lh_types.specs.History.{values_by}
-use Rattle.lh_queue.specs.Held.{EachWithin}
+use Rattle.lh_queue.specs.Queued.{EachWithin}
 use Rattle.lh_queue.specs.Holds.{entries}
 use Rattle.lh_queue.specs.Places.{rest_from}
 use Rattle.lh_queue.specs.Buckets.{next_in}
@@ -21,13 +21,15 @@ returns-in_default-wish-clause-values c =
     let s = stored c.self.inside.links c.self.inside.buckets.items _ c.args.self.now c.self.invariant c.self.view_is in
     let i = c.loop-key.invariant in
     let none : rest_from c.args.self.now.held c.loop-key.key ≡ [] = ap (rest_from c.args.self.now.held) c.in-Some.is ∙ rest_none c.args.self.now.held c.in-Some.k (sym c.in_default-wish.ensures) in
-    bits_held c.args.self.now.held c.args.now.now c.args.at c.loop-key.now s.order s.once (looked_none c.args.at c.loop-key.now ∙ ap (λ xs. values_by (entries xs) c.args.at 0 c.loop-key.now) (sym none) ∙ i.bits)
+    bits_held c.args.self.now.held c.args.now.now c.args.at c.loop-key.now s.order s.once
+    (looked_none c.args.at c.loop-key.now ∙ ap (λ xs. values_by (entries xs) c.args.at 0 c.loop-key.now) (sym none) ∙ i.bits)
 
 pub returns-then-not-is_due-clause-bits : goal.returns-then-not-is_due-clause-bits
 returns-then-not-is_due-clause-bits c =
     let s = stored c.self.inside.links c.self.inside.buckets.items _ c.args.self.now c.self.invariant c.self.view_is in
     let i = c.loop-key.invariant in
-    looked_end c.args.self.now.held c.in-Some.k c.in-Some-wish.wish.now c.args.at c.loop-key.now s.order s.keys c.requires.due (sym c.in-Some-wish.ensures) (sym c.is_due.ensures ∙ c.if-not-is_due.true)
+    looked_end c.args.self.now.held c.in-Some.k c.in-Some-wish.wish.now c.args.at c.loop-key.now s.order s.keys c.requires.due (sym c.in-Some-wish.ensures)
+    (sym c.is_due.ensures ∙ c.if-not-is_due.true)
     ∙ ap (λ k. values_by (entries (rest_from c.args.self.now.held k)) c.args.at 0 c.loop-key.now) (sym c.in-Some.is) ∙ i.bits
 
 pub returns-then-not-is_due-clause-values : goal.returns-then-not-is_due-clause-values
@@ -35,7 +37,8 @@ returns-then-not-is_due-clause-values c =
     let s = stored c.self.inside.links c.self.inside.buckets.items _ c.args.self.now c.self.invariant c.self.view_is in
     let i = c.loop-key.invariant in
     bits_held c.args.self.now.held c.args.now.now c.args.at c.loop-key.now s.order s.once
-    (looked_end c.args.self.now.held c.in-Some.k c.in-Some-wish.wish.now c.args.at c.loop-key.now s.order s.keys c.requires.due (sym c.in-Some-wish.ensures) (sym c.is_due.ensures ∙ c.if-not-is_due.true)
+    (looked_end c.args.self.now.held c.in-Some.k c.in-Some-wish.wish.now c.args.at c.loop-key.now s.order s.keys c.requires.due (sym c.in-Some-wish.ensures)
+    (sym c.is_due.ensures ∙ c.if-not-is_due.true)
     ∙ ap (λ k. values_by (entries (rest_from c.args.self.now.held k)) c.args.at 0 c.loop-key.now) (sym c.in-Some.is) ∙ i.bits)
 
 pub set-requires : goal.set-requires
@@ -46,7 +49,8 @@ set-requires c =
 pub loop-key-smaller : goal.loop-key-smaller
 loop-key-smaller c =
     let s = stored c.self.inside.links c.self.inside.buckets.items _ c.args.self.now c.self.invariant c.self.view_is in
-    let l = looked c.args.self.now.held c.in-Some.k c.in-Some-wish.wish.now c.args.at c.loop-key.now c.set.new.now s.order s.keys (sym c.in-Some-wish.ensures) (sym c.is_due.ensures ∙ c.if-not-is_due.false) c.set.ensures in
+    let l = looked c.args.self.now.held c.in-Some.k c.in-Some-wish.wish.now c.args.at c.loop-key.now c.set.new.now s.order s.keys (sym c.in-Some-wish.ensures)
+    (sym c.is_due.ensures ∙ c.if-not-is_due.false) c.set.ensures in
     let P : Option ℕ → Type 0 = λ k. length (rest_from c.args.self.now.held k) < length (rest_from c.args.self.now.held c.loop-key.key) in
     let Q : Option ℕ → Type 0 = λ k. length (rest_from c.args.self.now.held (next_in c.args.self.now.held c.in-Some.k)) < length (rest_from c.args.self.now.held k) in
     subst P (sym c.next_key-key.ensures) (subst Q (sym c.in-Some.is) l.less)
@@ -55,7 +59,8 @@ pub loop-key-preserved : goal.loop-key-preserved
 loop-key-preserved c =
     let s = stored c.self.inside.links c.self.inside.buckets.items _ c.args.self.now c.self.invariant c.self.view_is in
     let i = c.loop-key.invariant in
-    let l = looked c.args.self.now.held c.in-Some.k c.in-Some-wish.wish.now c.args.at c.loop-key.now c.set.new.now s.order s.keys (sym c.in-Some-wish.ensures) (sym c.is_due.ensures ∙ c.if-not-is_due.false) c.set.ensures in
+    let l = looked c.args.self.now.held c.in-Some.k c.in-Some-wish.wish.now c.args.at c.loop-key.now c.set.new.now s.order s.keys (sym c.in-Some-wish.ensures)
+    (sym c.is_due.ensures ∙ c.if-not-is_due.false) c.set.ensures in
     record {
       counted = ap length c.set.ensures ∙ length-written c.in-Some-wish.wish.now.bits c.loop-key.now ∙ i.counted;
       bits = ap (λ k. values_by (entries (rest_from c.args.self.now.held k)) c.args.at 0 c.set.new.now) c.next_key-key.ensures ∙ l.bits
@@ -65,7 +70,8 @@ loop-key-preserved c =
 pub loop-key-init : goal.loop-key-init
 loop-key-init c = record {
   counted = refl;
-  bits = ap (λ k. values_by (entries (rest_from c.args.self.now.held k)) c.args.at 0 c.args.now.now) c.first_key-key.ensures ∙ ap (λ xs. values_by (entries xs) c.args.at 0 c.args.now.now) (rest_first c.args.self.now.held);
+  bits = ap (λ k. values_by (entries (rest_from c.args.self.now.held k)) c.args.at 0 c.args.now.now) c.first_key-key.ensures
+      ∙ ap (λ xs. values_by (entries xs) c.args.at 0 c.args.now.now) (rest_first c.args.self.now.held);
 }
 
 pub returns-clause-bits : goal.returns-clause-bits

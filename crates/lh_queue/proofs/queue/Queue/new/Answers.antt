@@ -11,4 +11,5 @@ pub invariant_of-result : goal.invariant_of-result
 invariant_of-result c = ([], nothing_stored c.new.result c.new-2.result.items c.new.ensures.empty c.new-2.ensures)
 
 pub returns-clause-holds : goal.returns-clause-holds
-returns-clause-holds c = holds_nothing (held_by c.new.result c.new-2.result.items) (seen c.new.result c.new-2.result.items [] (nothing_stored c.new.result c.new-2.result.items c.new.ensures.empty c.new-2.ensures))
+returns-clause-holds c = holds_nothing (held_by c.new.result c.new-2.result.items)
+    (seen c.new.result c.new-2.result.items [] (nothing_stored c.new.result c.new-2.result.items c.new.ensures.empty c.new-2.ensures))

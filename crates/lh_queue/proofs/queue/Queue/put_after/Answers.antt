@@ -1,6 +1,6 @@
 use Rattle.std.proofs.Common.{◌≡◌, ◌≤◌, ◌+◌, ◌∙◌, ap, arith, refl, subst, Some, is_some, ◌-◌, min, ℕ}
 use Rattle.slab.specs.Slab.{slab_len, with_value}
-use Rattle.lh_queue.specs.Held.{Waiting}
+use Rattle.lh_queue.specs.Queued.{Waiting}
 use Rattle.lh_queue.specs.declared.queue.Linked.{Linked}
 use Rattle.lh_queue.specs.Stored.{spare_by}
 use Rattle.lh_queue.proofs.Storage.{stored, seen}

@@ -1,6 +1,6 @@
 use Rattle.std.proofs.Common.{◌≡◌, ◌≤◌, ◌+◌, ap, arith, subst, ◌-◌, min, ℕ}
 use Rattle.slab.specs.Slab.{slab_len}
-use Rattle.lh_queue.specs.Held.{Waiting}
+use Rattle.lh_queue.specs.Queued.{Waiting}
 use Rattle.lh_queue.specs.Stored.{spare_by}
 use Rattle.lh_queue.proofs.Storage.{stored, seen}
 use Rattle.lh_queue.proofs.Putting.{place_within, put_alone, spare_put}
@@ -39,5 +39,6 @@ returns c =
       key = c.insert_reserved-first.result;
       free = p.0;
       held = seen _ _ _ p.1;
-      spare = subst P v (spare_put old.capacity (slab_len old) c.self.inside.buckets.spare new.capacity (slab_len new) c.insert.new.self.spare e.capacity e.len (omega (arith, c.insert.ensures.spare)));
+      spare = subst P v (spare_put old.capacity (slab_len old) c.self.inside.buckets.spare new.capacity (slab_len new) c.insert.new.self.spare e.capacity e.len
+          (omega (arith, c.insert.ensures.spare)));
     }

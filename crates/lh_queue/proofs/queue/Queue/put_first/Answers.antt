@@ -1,7 +1,7 @@
 use Rattle.std.proofs.Common.{◌≡◌, ◌≤◌, ◌+◌, ap, sym, arith, subst, ◌-◌, min, ℕ}
 use Rattle.slab.specs.Slab.{slab_len}
 use Rattle.std.proofs.lemmas.Option.{get_or_from_slice_get}
-use Rattle.lh_queue.specs.Held.{Waiting}
+use Rattle.lh_queue.specs.Queued.{Waiting}
 use Rattle.lh_queue.specs.Stored.{spare_by}
 use Rattle.lh_queue.proofs.Storage.{stored, seen}
 use Rattle.lh_queue.proofs.Putting.{bucket_there, put_first, spare_put}

@@ -12,34 +12,50 @@ invariant_of-self c =
 pub returns-in_err-reserve-clause-held : goal.returns-in_err-reserve-clause-held
 returns-in_err-reserve-clause-held c =
     let s = stored c.self.inside.links c.self.inside.buckets.items _ c.args.self.now c.self.invariant c.self.view_is in
-    seen c.reserve.new.self _ c.args.self.now.held (stored_same c.self.inside.links c.reserve.new.self c.self.inside.buckets.items _ c.args.self.now.held s (ap (λ (x : Slab Linked). x.slots) c.reserve.ensures.rest_kept) refl)
+    seen c.reserve.new.self _ c.args.self.now.held
+    (stored_same c.self.inside.links c.reserve.new.self c.self.inside.buckets.items _ c.args.self.now.held s (ap (λ (x : Slab Linked). x.slots) c.reserve.ensures.rest_kept) refl)
 
 pub invariant_of-self-in_err-reserve-2 : goal.invariant_of-self-in_err-reserve-2
 invariant_of-self-in_err-reserve-2 c =
-    let s = stored c.self.inside.links c.self.inside.buckets.items _ c.args.self.now c.self.invariant c.self.view_is in
-    (c.args.self.now.held, stored_same c.self.inside.links c.reserve.new.self c.self.inside.buckets.items _ c.args.self.now.held s (ap (λ (x : Slab Linked). x.slots) c.reserve.ensures.rest_kept) c.reserve-2.ensures.items)
+    let s = stored c.self.inside.links c.self.inside.buckets.items _ c.args.self.now c.self.invariant c.self.view_is in (
+      c.args.self.now.held,
+      stored_same c.self.inside.links c.reserve.new.self c.self.inside.buckets.items _ c.args.self.now.held s (ap (λ (x : Slab Linked). x.slots) c.reserve.ensures.rest_kept)
+          c.reserve-2.ensures.items,
+    )
 
 pub returns-in_err-reserve-2-clause-held : goal.returns-in_err-reserve-2-clause-held
 returns-in_err-reserve-2-clause-held c =
     let s = stored c.self.inside.links c.self.inside.buckets.items _ c.args.self.now c.self.invariant c.self.view_is in
-    seen c.reserve.new.self _ c.args.self.now.held (stored_same c.self.inside.links c.reserve.new.self c.self.inside.buckets.items _ c.args.self.now.held s (ap (λ (x : Slab Linked). x.slots) c.reserve.ensures.rest_kept) c.reserve-2.ensures.items)
+    seen c.reserve.new.self _ c.args.self.now.held
+    (stored_same c.self.inside.links c.reserve.new.self c.self.inside.buckets.items _ c.args.self.now.held s (ap (λ (x : Slab Linked). x.slots) c.reserve.ensures.rest_kept)
+    c.reserve-2.ensures.items)
 
 pub invariant_of-self-2 : goal.invariant_of-self-2
 invariant_of-self-2 c =
-    let s = stored c.self.inside.links c.self.inside.buckets.items _ c.args.self.now c.self.invariant c.self.view_is in
-    (c.args.self.now.held, stored_same c.self.inside.links c.reserve.new.self c.self.inside.buckets.items _ c.args.self.now.held s (ap (λ (x : Slab Linked). x.slots) c.reserve.ensures.rest_kept) c.reserve-2.ensures.items)
+    let s = stored c.self.inside.links c.self.inside.buckets.items _ c.args.self.now c.self.invariant c.self.view_is in (
+      c.args.self.now.held,
+      stored_same c.self.inside.links c.reserve.new.self c.self.inside.buckets.items _ c.args.self.now.held s (ap (λ (x : Slab Linked). x.slots) c.reserve.ensures.rest_kept)
+          c.reserve-2.ensures.items,
+    )
 
 pub returns-clause-held : goal.returns-clause-held
 returns-clause-held c =
     let s = stored c.self.inside.links c.self.inside.buckets.items _ c.args.self.now c.self.invariant c.self.view_is in
-    seen c.reserve.new.self _ c.args.self.now.held (stored_same c.self.inside.links c.reserve.new.self c.self.inside.buckets.items _ c.args.self.now.held s (ap (λ (x : Slab Linked). x.slots) c.reserve.ensures.rest_kept) c.reserve-2.ensures.items)
+    seen c.reserve.new.self _ c.args.self.now.held
+    (stored_same c.self.inside.links c.reserve.new.self c.self.inside.buckets.items _ c.args.self.now.held s (ap (λ (x : Slab Linked). x.slots) c.reserve.ensures.rest_kept)
+    c.reserve-2.ensures.items)
 
 pub invariant_of-self-in_err-make_room : goal.invariant_of-self-in_err-make_room
 invariant_of-self-in_err-make_room c =
-    let s = stored c.self.inside.links c.self.inside.buckets.items _ c.args.self.now c.self.invariant c.self.view_is in
-    (c.args.self.now.held, stored_same c.self.inside.links c.reserve.new.self c.self.inside.buckets.items _ c.args.self.now.held s (ap (λ (x : Slab Linked). x.slots) c.reserve.ensures.rest_kept) c.reserve-2.ensures.items)
+    let s = stored c.self.inside.links c.self.inside.buckets.items _ c.args.self.now c.self.invariant c.self.view_is in (
+      c.args.self.now.held,
+      stored_same c.self.inside.links c.reserve.new.self c.self.inside.buckets.items _ c.args.self.now.held s (ap (λ (x : Slab Linked). x.slots) c.reserve.ensures.rest_kept)
+          c.reserve-2.ensures.items,
+    )
 
 pub returns-in_err-make_room-clause-held : goal.returns-in_err-make_room-clause-held
 returns-in_err-make_room-clause-held c =
     let s = stored c.self.inside.links c.self.inside.buckets.items _ c.args.self.now c.self.invariant c.self.view_is in
-    seen c.reserve.new.self _ c.args.self.now.held (stored_same c.self.inside.links c.reserve.new.self c.self.inside.buckets.items _ c.args.self.now.held s (ap (λ (x : Slab Linked). x.slots) c.reserve.ensures.rest_kept) c.reserve-2.ensures.items)
+    seen c.reserve.new.self _ c.args.self.now.held
+    (stored_same c.self.inside.links c.reserve.new.self c.self.inside.buckets.items _ c.args.self.now.held s (ap (λ (x : Slab Linked). x.slots) c.reserve.ensures.rest_kept)
+    c.reserve-2.ensures.items)

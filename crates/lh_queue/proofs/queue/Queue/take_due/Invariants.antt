@@ -1,6 +1,6 @@
 use Rattle.std.proofs.Common.{◌≡◌, ◌≤◌, length}
 use Rattle.lh_types.specs.History.{values_by}
-use Rattle.lh_queue.specs.Held.{AreInOrder, NoneDueBefore, EachWithin, due_later}
+use Rattle.lh_queue.specs.Queued.{AreInOrder, NoneDueBefore, EachWithin, due_later}
 use Rattle.lh_queue.specs.Holds.{entries}
 use Rattle.lh_queue.proofs.queue.Queue.take_due.Given as goal
 

@@ -1,5 +1,5 @@
 use Rattle.std.proofs.Common.{Ok, sym, ap, ◌∙◌}
-use Rattle.lh_read.specs.declared.places.Place.TheVariants.{Outside}
+use Rattle.lh_read.specs.declared.places.LinePlace.TheVariants.{Outside}
 use Rattle.lh_read.specs.InOrder.{state_at}
 use Rattle.lh_read.proofs.Adding.{close-misplaced, close-taken}
 use Rattle.lh_read.proofs.reader.Reader.take_close.Goals as goal

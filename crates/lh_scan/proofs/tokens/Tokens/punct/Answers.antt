@@ -23,12 +23,15 @@ returns-then-not-is_mark c =
 pub invariant_of-result : goal.invariant_of-result
 invariant_of-result c =
     let e : c.self.inside.rest.now ≡ c.args.mark ∷ c.in_ok-byte.more.now = search rules in
-    let n : is_punct c.args.mark ≡ true = search rules in
-    ((marked c.args.mark c.in_ok-byte.more.now c.self.inside.rest.now c.from_token-rest.result.now e c.self.invariant.1 c.self.invariant.0 n c.from_token-rest.ensures.same).0, c.from_token-rest.ensures.settled)
+    let n : is_punct c.args.mark ≡ true = search rules in (
+      (marked c.args.mark c.in_ok-byte.more.now c.self.inside.rest.now c.from_token-rest.result.now e c.self.invariant.1 c.self.invariant.0 n c.from_token-rest.ensures.same).0,
+      c.from_token-rest.ensures.settled,
+    )
 
 pub returns : goal.returns
 returns c =
     let e : c.self.inside.rest.now ≡ c.args.mark ∷ c.in_ok-byte.more.now = search rules in
     let n : is_punct c.args.mark ≡ true = search rules in
     let v : lexemes_in c.self.inside.rest.now ≡ c.args.self.now = search rules in
-    (marked c.args.mark c.in_ok-byte.more.now c.self.inside.rest.now c.from_token-rest.result.now e c.self.invariant.1 c.self.invariant.0 n c.from_token-rest.ensures.same).1 ∙ ap (punct_at c.args.mark) v
+    (marked c.args.mark c.in_ok-byte.more.now c.self.inside.rest.now c.from_token-rest.result.now e c.self.invariant.1 c.self.invariant.0 n c.from_token-rest.ensures.same).1
+    ∙ ap (punct_at c.args.mark) v

@@ -19,4 +19,5 @@ pub konst-requires : goal.konst-requires
 konst-requires c =
     let e : map datum_of c.deref.result.now ≡ values_in (trees_at c.args.self.now c.args.args.now) = ap (map datum_of) c.deref.ensures.value ∙ c.in_ok-values.ensures in
     let P : Datum → Type 0 = FitsTerm in
-    subst P (sym (c.in_ok-value.ensures ∙ ap (apply c.args.op.now) e)) (folded_typed c.args.op.now (trees_at c.args.self.now c.args.args.now) (c.are_typed.ensures, c.requires.fits) c.requires.constants)
+    subst P (sym (c.in_ok-value.ensures ∙ ap (apply c.args.op.now) e))
+    (folded_typed c.args.op.now (trees_at c.args.self.now c.args.args.now) (c.are_typed.ensures, c.requires.fits) c.requires.constants)

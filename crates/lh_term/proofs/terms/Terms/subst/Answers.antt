@@ -20,7 +20,8 @@ remade_if-requires-clause-operands c = λ f.
     let l : c.loop-i.i < length c.args.self.now = omega (arith, c.requires.is_in) in
     let P : List TermId → Type 0 = λ q. OperandsMade c.loop-i.self (pairs_at c.loop-i.self c.args.by.now) (record { 0 = c.loop-i.i }) q in
     subst P (sym c.deref-in-loop-i.ensures.value)
-    (turn_operands _ _ c.args.by.now c.args.t _ _ c.loop-i.i c.loop-i.invariant c.requires.is_in c.requires.pairs_in c.requires.swaps c.in_ok-reached.ensures c.are_rising.ensures l c.is_set-is_reached.result
+    (turn_operands _ _ c.args.by.now c.args.t _ _ c.loop-i.i c.loop-i.invariant c.requires.is_in c.requires.pairs_in c.requires.swaps c.in_ok-reached.ensures c.are_rising.ensures l
+    c.is_set-is_reached.result
     (ap (λ xs. slice_get xs c.loop-i.i) (sym c.deref.ensures.value) ∙ c.is_set-is_reached.ensures) f)
 
 pub loop-i-preserved : goal.loop-i-preserved
@@ -28,7 +29,8 @@ loop-i-preserved c =
     let l : c.loop-i.i < length c.args.self.now = omega (arith, c.requires.is_in) in
     let P : List TermId → Type 0 = λ q. Making c.args.self.now c.remade_if.new.self (pairs_at c.args.self.now c.args.by.now) c.in_ok-reached.reached.items q (c.loop-i.i + 1) in
     subst P (sym c.in_ok-push.ensures.items)
-    (turn_next _ _ c.args.by.now c.args.t _ _ c.loop-i.i c.loop-i.invariant c.requires.is_in c.requires.pairs_in c.requires.swaps c.in_ok-reached.ensures c.are_rising.ensures l c.remade_if.new.self c.in_ok-x.x c.is_set-is_reached.result
+    (turn_next _ _ c.args.by.now c.args.t _ _ c.loop-i.i c.loop-i.invariant c.requires.is_in c.requires.pairs_in c.requires.swaps c.in_ok-reached.ensures c.are_rising.ensures l c.remade_if.new.self
+    c.in_ok-x.x c.is_set-is_reached.result
     (ap (λ xs. slice_get xs c.loop-i.i) (sym c.deref.ensures.value) ∙ c.is_set-is_reached.ensures) c.in_ok-x.ensures.kept c.in_ok-x.ensures.made)
 
 pub remade-requires-clause-pairs_in : goal.remade-requires-clause-pairs_in

@@ -10,4 +10,5 @@ pub returns-in-Array : goal.returns-in-Array
 returns-in-Array c =
     let n = sym (types_length c.args.self.now c.args.args.now) in
     let t = c.ty-of.ensures in
-    if_ok_eq _ _ _ ((λ i. array_type (n i) (t i)) ∙ sym (ap (λ o. type_by_first o (type_of (tree_at (trees c.args.self.now) c.args.first)) (types_of (tree_row (trees_at c.args.self.now c.args.args.now)))) c.in-Array.is)) c.array_of.ensures
+    if_ok_eq _ _ _ ((λ i. array_type (n i) (t i))
+    ∙ sym (ap (λ o. type_by_first o (type_of (tree_at (trees c.args.self.now) c.args.first)) (types_of (tree_row (trees_at c.args.self.now c.args.args.now)))) c.in-Array.is)) c.array_of.ensures

@@ -13,7 +13,8 @@ loop-run-preserved c =
     let n = runs-next c.as_slice-run-items.result.now c.loop-run.run-index c.run-item.result c.loop-run-test.true c.run-item.is in
     record {
       within = subst (λ (bits : List Bool). BitsWithin (length bits) (bits_of (drop (c.loop-run.run-index + 1) c.as_slice-run-items.result.now))) (sym c.set.ensures)
-          (within-written (numbered c.run-item.result.lo c.run-item.result.bits) (bits_of (drop (c.loop-run.run-index + 1) c.as_slice-run-items.result.now)) c.loop-run.now (subst (BitsWithin (length c.loop-run.now)) n c.loop-run.invariant.within));
+          (within-written (numbered c.run-item.result.lo c.run-item.result.bits) (bits_of (drop (c.loop-run.run-index + 1) c.as_slice-run-items.result.now)) c.loop-run.now
+          (subst (BitsWithin (length c.loop-run.now)) n c.loop-run.invariant.within));
       writes = ap (written (bits_of (drop (c.loop-run.run-index + 1) c.as_slice-run-items.result.now))) c.set.ensures
           ∙ sym (written-append (numbered c.run-item.result.lo c.run-item.result.bits) (bits_of (drop (c.loop-run.run-index + 1) c.as_slice-run-items.result.now)) c.loop-run.now)
           ∙ sym (ap (λ es. written es c.loop-run.now) n) ∙ c.loop-run.invariant.writes;

@@ -7,7 +7,9 @@ use Rattle.lh_unit.proofs.Arenas.{with_table, open-within}
 use Rattle.lh_unit.proofs.Writes.{arg-written}
 use Rattle.lh_unit.proofs.module.Module.add_arg.Goals as goal
 
-written : (c : goal.After-self-1) → IsArena (with_table (arena_of c.self.inside) c.args.unit.0 c.add_arg.new.self) × AddsArg c.add_arg.result (arena_of c.self.inside) (with_table (arena_of c.self.inside) c.args.unit.0 c.add_arg.new.self) c.args.unit (arg_text (naming (arena_of c.self.inside) c.args.unit.0) record { value = c.args.value; ty = c.args.ty; output = c.args.output })
+written : (c : goal.After-self-1) → IsArena (with_table (arena_of c.self.inside) c.args.unit.0 c.add_arg.new.self)
+    × AddsArg c.add_arg.result (arena_of c.self.inside) (with_table (arena_of c.self.inside) c.args.unit.0 c.add_arg.new.self) c.args.unit (arg_text (naming (arena_of c.self.inside) c.args.unit.0)
+    record { value = c.args.value; ty = c.args.ty; output = c.args.output })
 written c =
     let p : IsOpen (arena_of c.self.inside) c.args.unit = subst (λ (a : Arena). IsOpen a c.args.unit) (sym c.self.view_is) c.requires.opened in
     let h : c.args.unit.0 < length (arena_of c.self.inside).units = open-within (arena_of c.self.inside) c.args.unit c.self.invariant p in

@@ -15,7 +15,9 @@ add_block-requires-clause-labels c =
     (subst (λ (a : Arena). OfOpen a (λ x. HasLabels x.kind)) (sym c.self.view_is) c.requires.labels) in
     subst (λ (t : Table). HasBlocks t.kind) (sym (read (arena_of c.self.inside) c.args.unit.0 c.index_mut-table.result.now h c.index_mut-table.ensures.value)) k
 
-written : (c : goal.After-self-1) → IsArena (with_table (arena_of c.self.inside) c.args.unit.0 c.add_block.new.self) × AddsBlock c.add_block.result (arena_of c.self.inside) (with_table (arena_of c.self.inside) c.args.unit.0 c.add_block.new.self) c.args.unit (label_name_at (arena_of c.self.inside) c.args.unit.0 c.args.block.0)
+written : (c : goal.After-self-1) → IsArena (with_table (arena_of c.self.inside) c.args.unit.0 c.add_block.new.self)
+    × AddsBlock c.add_block.result (arena_of c.self.inside) (with_table (arena_of c.self.inside) c.args.unit.0 c.add_block.new.self) c.args.unit (label_name_at (arena_of c.self.inside) c.args.unit.0
+    c.args.block.0)
 written c =
     let p : IsOpen (arena_of c.self.inside) c.args.unit = subst (λ (a : Arena). IsOpen a c.args.unit) (sym c.self.view_is) c.requires.opened in
     let h : c.args.unit.0 < length (arena_of c.self.inside).units = open-within (arena_of c.self.inside) c.args.unit c.self.invariant p in

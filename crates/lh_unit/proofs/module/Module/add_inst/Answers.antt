@@ -24,7 +24,9 @@ add_line-requires-clause-within c =
     (subst (λ (a : Arena). MaybeWithin (sizes a c.args.unit.0) c.args.value) (sym c.self.view_is) c.requires.within) in
     subst (λ (t : Table). ResultWithin (length t.values) c.args.value) (sym (read (arena_of c.self.inside) c.args.unit.0 c.index_mut-table.result.now h c.index_mut-table.ensures.value)) w
 
-written : (c : goal.After-self-1) → IsArena (with_table (arena_of c.self.inside) c.args.unit.0 c.add_line.new.self) × AddsLine c.add_line.result (arena_of c.self.inside) (with_table (arena_of c.self.inside) c.args.unit.0 c.add_line.new.self) c.args.unit (line_text_at (arena_of c.self.inside) c.args.unit.0 c.args.value c.args.inst)
+written : (c : goal.After-self-1) → IsArena (with_table (arena_of c.self.inside) c.args.unit.0 c.add_line.new.self)
+    × AddsLine c.add_line.result (arena_of c.self.inside) (with_table (arena_of c.self.inside) c.args.unit.0 c.add_line.new.self) c.args.unit (line_text_at (arena_of c.self.inside) c.args.unit.0
+    c.args.value c.args.inst)
 written c =
     let p : IsOpen (arena_of c.self.inside) c.args.unit = subst (λ (a : Arena). IsOpen a c.args.unit) (sym c.self.view_is) c.requires.opened in
     let h : c.args.unit.0 < length (arena_of c.self.inside).units = open-within (arena_of c.self.inside) c.args.unit c.self.invariant p in

@@ -4,7 +4,7 @@ use Rattle.lh_unit.specs.TableCalls.{begun}
 use Rattle.lh_unit.specs.Arena.{table_at, kind_at}
 use Rattle.lh_unit.specs.ArenaOf.{arena_of}
 use Rattle.lh_unit.specs.declared.inst.Item.TheVariants as item
-use Rattle.lh_unit.proofs.ItemLemmas.{Says-begun, defines-begun, defines-missing, kind-told, none-told, IsArena-begins, with_begun, began, unchanged}
+use Rattle.lh_unit.proofs.ItemLemmas.{HasContents-begun, defines-begun, defines-missing, kind-told, none-told, IsArena-begins, with_begun, began, unchanged}
 use Rattle.lh_unit.proofs.module.Module.begin_unit.Goals as goal
 
 pub returns-then-is_some : goal.returns-then-is_some
@@ -19,20 +19,25 @@ returns-then-is_some c =
 pub returns-then-is_err : goal.returns-then-is_err
 returns-then-is_err c =
     let h : c.args.unit.0 < length (arena_of c.self.inside).units = search rules in
-    let n : kind_at (arena_of c.self.inside) c.args.unit.0 ≡ None = none-told (arena_of c.self.inside) c.args.unit.0 c.index.result.now h c.index.ensures (ap is_some (sym c.kind.ensures) ∙ sym c.is_some.ensures ∙ c.if-is_some.false) in
+    let n : kind_at (arena_of c.self.inside) c.args.unit.0 ≡ None = none-told (arena_of c.self.inside) c.args.unit.0 c.index.result.now h c.index.ensures (ap is_some (sym c.kind.ensures)
+    ∙ sym c.is_some.ensures ∙ c.if-is_some.false) in
     rw (← c.self.view_is) (defines-missing (arena_of c.self.inside) c.args.unit c.self.invariant h n, λ i. record (arena_of c.self.inside) { items = c.reserve.ensures.items i })
 
 pub returns-then-is_err-2 : goal.returns-then-is_err-2
 returns-then-is_err-2 c =
     let h : c.args.unit.0 < length (arena_of c.self.inside).units = search rules in
-    let n : kind_at (arena_of c.self.inside) c.args.unit.0 ≡ None = none-told (arena_of c.self.inside) c.args.unit.0 c.index.result.now h c.index.ensures (ap is_some (sym c.kind.ensures) ∙ sym c.is_some.ensures ∙ c.if-is_some.false) in
+    let n : kind_at (arena_of c.self.inside) c.args.unit.0 ≡ None = none-told (arena_of c.self.inside) c.args.unit.0 c.index.result.now h c.index.ensures (ap is_some (sym c.kind.ensures)
+    ∙ sym c.is_some.ensures ∙ c.if-is_some.false) in
     let b : c.begin.new.self ≡ c.index_mut-table.result.now = search rules in
     rw (← c.self.view_is) (
       defines-missing (arena_of c.self.inside) c.args.unit c.self.invariant h n,
       unchanged (arena_of c.self.inside) c.args.unit.0 c.index_mut-table.result.now c.begin.new.self c.reserve.new.self.items h c.index_mut-table.ensures.value b c.reserve.ensures.items,
     )
 
-began_now : (c : goal.After-put_item) → (record (arena_of c.self.inside) { units = (arena_of record { names = c.self.inside.names; units = with_item c.self.inside.units c.args.unit.0 c.begin.new.self; items = c.put_item.new.items }).units; items = c.put_item.new.items.items }) ≡ with_begun (arena_of c.self.inside) c.args.unit (begun (table_at (arena_of c.self.inside) c.args.unit.0) c.args.kind)
+began_now : (c : goal.After-put_item) → (record (arena_of c.self.inside) {
+  units = (arena_of record { names = c.self.inside.names; units = with_item c.self.inside.units c.args.unit.0 c.begin.new.self; items = c.put_item.new.items }).units;
+  items = c.put_item.new.items.items;
+}) ≡ with_begun (arena_of c.self.inside) c.args.unit (begun (table_at (arena_of c.self.inside) c.args.unit.0) c.args.kind)
 began_now c =
     let h : c.args.unit.0 < length (arena_of c.self.inside).units = search rules in
     let b : c.begin.new.self ≡ begun c.index_mut-table.result.now c.args.kind = search rules in
@@ -42,11 +47,13 @@ began_now c =
 pub invariant_of-self-2 : goal.invariant_of-self-2
 invariant_of-self-2 c =
     let h : c.args.unit.0 < length (arena_of c.self.inside).units = search rules in
-    let n : kind_at (arena_of c.self.inside) c.args.unit.0 ≡ None = none-told (arena_of c.self.inside) c.args.unit.0 c.index.result.now h c.index.ensures (ap is_some (sym c.kind.ensures) ∙ sym c.is_some.ensures ∙ c.if-is_some.false) in
+    let n : kind_at (arena_of c.self.inside) c.args.unit.0 ≡ None = none-told (arena_of c.self.inside) c.args.unit.0 c.index.result.now h c.index.ensures (ap is_some (sym c.kind.ensures)
+    ∙ sym c.is_some.ensures ∙ c.if-is_some.false) in
     IsArena-begins (arena_of c.self.inside) _ c.args.unit c.args.kind c.self.invariant h n (began_now c)
 
 pub returns : goal.returns
 returns c =
     let h : c.args.unit.0 < length (arena_of c.self.inside).units = search rules in
-    let n : kind_at (arena_of c.self.inside) c.args.unit.0 ≡ None = none-told (arena_of c.self.inside) c.args.unit.0 c.index.result.now h c.index.ensures (ap is_some (sym c.kind.ensures) ∙ sym c.is_some.ensures ∙ c.if-is_some.false) in
-    rw (← c.self.view_is) (Says-begun (arena_of c.self.inside) _ c.args.unit c.args.kind c.self.invariant h n (began_now c))
+    let n : kind_at (arena_of c.self.inside) c.args.unit.0 ≡ None = none-told (arena_of c.self.inside) c.args.unit.0 c.index.result.now h c.index.ensures (ap is_some (sym c.kind.ensures)
+    ∙ sym c.is_some.ensures ∙ c.if-is_some.false) in
+    rw (← c.self.view_is) (HasContents-begun (arena_of c.self.inside) _ c.args.unit c.args.kind c.self.invariant h n (began_now c))

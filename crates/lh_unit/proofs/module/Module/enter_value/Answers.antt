@@ -6,7 +6,8 @@ use Rattle.lh_unit.proofs.Arenas.{with_table}
 use Rattle.lh_unit.proofs.Writes.{value-written}
 use Rattle.lh_unit.proofs.module.Module.enter_value.Goals as goal
 
-written : (c : goal.After-self-1) → IsArena (with_table (arena_of c.self.inside) c.args.unit.0 c.value_named.new.self) × FindsValue c.value_named.result (arena_of c.self.inside) (with_table (arena_of c.self.inside) c.args.unit.0 c.value_named.new.self) c.args.unit c.args.name
+written : (c : goal.After-self-1) → IsArena (with_table (arena_of c.self.inside) c.args.unit.0 c.value_named.new.self)
+    × FindsValue c.value_named.result (arena_of c.self.inside) (with_table (arena_of c.self.inside) c.args.unit.0 c.value_named.new.self) c.args.unit c.args.name
 written c =
     let h : c.args.unit.0 < length (arena_of c.self.inside).units = search rules in
     let room : value_count (arena_of c.self.inside) c.args.unit.0 < 2 ^ 32 - 1 = subst (λ (a : Arena). value_count a c.args.unit.0 < 2 ^ 32 - 1) (sym c.self.view_is) c.requires.room in

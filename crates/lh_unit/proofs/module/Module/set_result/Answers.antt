@@ -16,7 +16,8 @@ set_result-requires c =
     (subst (λ (a : Arena). OfOpen a (λ x. x.kind ≡ kind.Func)) (sym c.self.view_is) c.requires.function) in
     ap (λ (t : Table). t.kind) (read (arena_of c.self.inside) c.args.unit.0 c.index_mut-table.result.now h c.index_mut-table.ensures.value) ∙ k
 
-written : (c : goal.After-self-1) → IsArena (with_table (arena_of c.self.inside) c.args.unit.0 c.set_result.new.self) × SetsResult (arena_of c.self.inside) (with_table (arena_of c.self.inside) c.args.unit.0 c.set_result.new.self) c.args.unit c.args.ty
+written : (c : goal.After-self-1) → IsArena (with_table (arena_of c.self.inside) c.args.unit.0 c.set_result.new.self)
+    × SetsResult (arena_of c.self.inside) (with_table (arena_of c.self.inside) c.args.unit.0 c.set_result.new.self) c.args.unit c.args.ty
 written c =
     let p : IsOpen (arena_of c.self.inside) c.args.unit = subst (λ (a : Arena). IsOpen a c.args.unit) (sym c.self.view_is) c.requires.opened in
     let h : c.args.unit.0 < length (arena_of c.self.inside).units = open-within (arena_of c.self.inside) c.args.unit c.self.invariant p in

@@ -9,10 +9,12 @@ use Rattle.lh_unit.proofs.module.Module.unit_named.Goals as goal
 pub returns-in-Some : goal.returns-in-Some
 returns-in-Some c = rw (← c.self.view_is) (found-unit (arena_of c.self.inside) c.args.name.now c.in-Some.i c.self.invariant c.in-Some.ensures.index)
 
-added : (c : goal.After-row_known-1) → arena_of record { names = c.insert_full.new.self; units = c.push_table.new.units; items = c.self.inside.items } ≡ with_unit (arena_of c.self.inside) c.args.name.now
+added : (c : goal.After-row_known-1) → arena_of record { names = c.insert_full.new.self; units = c.push_table.new.units; items = c.self.inside.items }
+    ≡ with_unit (arena_of c.self.inside) c.args.name.now
 added c =
     let u : c.push_table.new.units.items ≡ c.self.inside.units.items ++ no_table ∷ [] = search rules in
-    added-unit (arena_of c.self.inside) (arena_of record { names = c.insert_full.new.self; units = c.push_table.new.units; items = c.self.inside.items }) _ _ c.in_ok-name.ensures c.in-Ok.ensures.keys u refl c.in_default.ensures.found
+    added-unit (arena_of c.self.inside) (arena_of record { names = c.insert_full.new.self; units = c.push_table.new.units; items = c.self.inside.items }) _ _ c.in_ok-name.ensures c.in-Ok.ensures.keys
+    u refl c.in_default.ensures.found
 
 pub invariant_of-self-in-Ok : goal.invariant_of-self-in-Ok
 invariant_of-self-in-Ok c =

@@ -11,24 +11,29 @@ push_id-requires-clause-within c =
     let t : Table = table_of c.self.inside in
     let b : 0 < length (table_of c.self.inside).blocks = search rules in
     let n : c.len.result ≡ length (table_of c.self.inside).blocks = search rules in
-    let l : c.index-last.result.now ≡ last_block (table_of c.self.inside) = last-read (table_of c.self.inside) c.index-last.result.now b (c.index-last.ensures ∙ ap (λ k. get_or c.self.inside.blocks.items (k - 1) c.index-last.result.now) n) in
+    let l : c.index-last.result.now ≡ last_block (table_of c.self.inside) = last-read (table_of c.self.inside) c.index-last.result.now b (c.index-last.ensures
+    ∙ ap (λ k. get_or c.self.inside.blocks.items (k - 1) c.index-last.result.now) n) in
     subst (λ k. k.0 < length c.self.inside.bodies.items) (sym l) (last-within (table_of c.self.inside) c.self.invariant.0 b)
 
 pub push_id-requires-clause-stands : goal.push_id-requires-clause-stands
 push_id-requires-clause-stands c =
     let b : 0 < length (table_of c.self.inside).blocks = search rules in
     let n : c.len.result ≡ length (table_of c.self.inside).blocks = search rules in
-    let l : c.index-last.result.now ≡ last_block (table_of c.self.inside) = last-read (table_of c.self.inside) c.index-last.result.now b (c.index-last.ensures ∙ ap (λ k. get_or c.self.inside.blocks.items (k - 1) c.index-last.result.now) n) in
+    let l : c.index-last.result.now ≡ last_block (table_of c.self.inside) = last-read (table_of c.self.inside) c.index-last.result.now b (c.index-last.ensures
+    ∙ ap (λ k. get_or c.self.inside.blocks.items (k - 1) c.index-last.result.now) n) in
     subst (λ k. IsSome (get_or c.self.inside.bodies.items k.0 None)) (sym l) (last-body (table_of c.self.inside) c.self.invariant.0 b)
 
-laid : (c : goal.After-define) → (record (table_of c.self.inside) { lines = c.push_line.new.lines.items; bodies = c.push_id.new.bodies.items }) ≡ with_line (table_of c.self.inside) c.args.value c.args.inst
+laid : (c : goal.After-define) → (record (table_of c.self.inside) { lines = c.push_line.new.lines.items; bodies = c.push_id.new.bodies.items })
+    ≡ with_line (table_of c.self.inside) c.args.value c.args.inst
 laid c =
     let b : 0 < length (table_of c.self.inside).blocks = search rules in
     let n : c.len.result ≡ length (table_of c.self.inside).blocks = search rules in
-    let l : c.index-last.result.now ≡ last_block (table_of c.self.inside) = last-read (table_of c.self.inside) c.index-last.result.now b (c.index-last.ensures ∙ ap (λ k. get_or c.self.inside.blocks.items (k - 1) c.index-last.result.now) n) in
+    let l : c.index-last.result.now ≡ last_block (table_of c.self.inside) = last-read (table_of c.self.inside) c.index-last.result.now b (c.index-last.ensures
+    ∙ ap (λ k. get_or c.self.inside.blocks.items (k - 1) c.index-last.result.now) n) in
     let e : c.push_line.new.lines.items ≡ c.self.inside.lines.items ++ record { result = c.args.value; inst = c.args.inst } ∷ [] = search rules in
     let m : c.len-id.result ≡ length c.self.inside.lines.items = search rules in
-    let d : c.push_id.new.bodies.items ≡ set c.self.inside.bodies.items c.index-last.result.now.0 (Some (unwrap_or (get_or c.self.inside.bodies.items c.index-last.result.now.0 None) [] ++ record { 0 = c.len-id.result } ∷ [])) = search rules in
+    let d : c.push_id.new.bodies.items ≡ set c.self.inside.bodies.items c.index-last.result.now.0 (Some
+    (unwrap_or (get_or c.self.inside.bodies.items c.index-last.result.now.0 None) [] ++ record { 0 = c.len-id.result } ∷ [])) = search rules in
     line-laid (table_of c.self.inside) c.index-last.result.now c.push_line.new.lines.items c.push_id.new.bodies.items c.args.value c.args.inst l e
     (d ∙ ap (λ k. set c.self.inside.bodies.items c.index-last.result.now.0 (Some (unwrap_or (get_or c.self.inside.bodies.items c.index-last.result.now.0 None) [] ++ record { 0 = k } ∷ []))) m)
 
@@ -36,7 +41,8 @@ pub returns-then-is_defined : goal.returns-then-is_defined
 returns-then-is_defined c =
     let w : ResultWithin (length (table_of c.self.inside).values) c.args.value = subst (λ (t : Table). ResultWithin (length t.values) c.args.value) (sym c.self.view_is) c.requires.within in
     let few : length (table_of c.self.inside).lines < 65536 = search rules in
-    let n : result_defined (table_of c.self.inside) c.args.value ≡ true = sym (result-told (table_of c.self.inside) c.self.inside.defs.items c.args.value c.self.invariant.1 w) ∙ sym c.is_defined.ensures ∙ c.if-is_defined.true in
+    let n : result_defined (table_of c.self.inside) c.args.value ≡ true = sym (result-told (table_of c.self.inside) c.self.inside.defs.items c.args.value c.self.invariant.1 w)
+    ∙ sym c.is_defined.ensures ∙ c.if-is_defined.true in
     subst (λ (t : Table). TakesLine c.refuse-then-is_defined.result t t c.args.value c.args.inst) c.self.view_is
     (subst (λ r. TakesLine r (table_of c.self.inside) (table_of c.self.inside) c.args.value c.args.inst) (sym c.refuse-then-is_defined.ensures) (few, n, refl))
 
@@ -51,9 +57,12 @@ invariant_of-self-2 c =
     let w : ResultWithin (length (table_of c.self.inside).values) c.args.value = subst (λ (t : Table). ResultWithin (length t.values) c.args.value) (sym c.self.view_is) c.requires.within in
     let few : length (table_of c.self.inside).lines < 65536 = search rules in
     let m : c.len-id.result ≡ length c.self.inside.lines.items = search rules in
-    let e : c.define.new.defs.items ≡ with_definition c.self.inside.defs.items c.args.value (value_def.Inst record { 0 = length c.self.inside.lines.items }) = c.define.ensures ∙ ap (λ k. with_definition c.self.inside.defs.items c.args.value (value_def.Inst record { 0 = k })) m in (
+    let e : c.define.new.defs.items ≡ with_definition c.self.inside.defs.items c.args.value (value_def.Inst record { 0 = length c.self.inside.lines.items }) = c.define.ensures
+    ∙ ap (λ k. with_definition c.self.inside.defs.items c.args.value (value_def.Inst record { 0 = k })) m in (
       subst IsTable (sym (laid c)) (IsTable-with_line (table_of c.self.inside) c.args.value c.args.inst b w few (told c) c.self.invariant.0),
-      subst (λ (t : Table). Definitions t c.define.new.defs.items) (sym (laid c)) (subst (Definitions (with_line (table_of c.self.inside) c.args.value c.args.inst)) (sym e) (Definitions-with_line (table_of c.self.inside) c.self.inside.defs.items c.args.value c.args.inst (told c) w c.self.invariant.1)),
+      subst (λ (t : Table). Definitions t c.define.new.defs.items) (sym (laid c))
+          (subst (Definitions (with_line (table_of c.self.inside) c.args.value c.args.inst)) (sym e)
+          (Definitions-with_line (table_of c.self.inside) c.self.inside.defs.items c.args.value c.args.inst (told c) w c.self.invariant.1)),
     )
 
 pub returns : goal.returns

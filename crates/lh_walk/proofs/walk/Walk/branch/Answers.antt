@@ -8,7 +8,8 @@ use Rattle.lh_walk.proofs.walk.Walk.branch.Goals as goal
 
 pub lead_on-requires-clause-cond : goal.lead_on-requires-clause-cond
 lead_on-requires-clause-cond c =
-    low-condition c.args.terms.now c.sides_at.new.terms c.args.self.now.places.items c.args.fork.cond c.args.at.place c.args.at.cond c.in_ok-sides.sides.zero c.requires.cond c.requires.test c.in_ok-sides.ensures.zero
+    low-condition c.args.terms.now c.sides_at.new.terms c.args.self.now.places.items c.args.fork.cond c.args.at.place c.args.at.cond c.in_ok-sides.sides.zero c.requires.cond c.requires.test
+    c.in_ok-sides.ensures.zero
 
 pub returns-in_err-lead_on-clause-cause : goal.returns-in_err-lead_on-clause-cause
 returns-in_err-lead_on-clause-cause c =
@@ -16,12 +17,14 @@ returns-in_err-lead_on-clause-cause c =
     let p : Walk = record { places = c.sides_at.new.places; ahead = w.ahead; insts = w.insts; rows = w.rows; sources = w.sources } in
     let i = err_from_is_err_and c.from_residual-in_err-lead_on.result c.from_residual-in_err-lead_on.ensures.1 in
     rw (i.1, i.2)
-    (low-not c.args.terms.now c.sides_at.new.terms c.args.region.now w p c.args.at c.args.fork.cond c.args.fork.zero c.args.fork.one c.in_ok-sides.sides.zero c.in_ok-sides.sides.one c.sides_at.ensures.kept c.in_ok-sides.ensures.same c.in_ok-sides.ensures.still refl refl refl refl
+    (low-not c.args.terms.now c.sides_at.new.terms c.args.region.now w p c.args.at c.args.fork.cond c.args.fork.zero c.args.fork.one c.in_ok-sides.sides.zero c.in_ok-sides.sides.one
+    c.sides_at.ensures.kept c.in_ok-sides.ensures.same c.in_ok-sides.ensures.still refl refl refl refl
     c.in_ok-sides.ensures.zero c.in_ok-sides.ensures.one c.in_err-lead_on.field-0.0 c.in_err-lead_on.ensures.cause)
 
 pub lead_on-requires-2-clause-cond : goal.lead_on-requires-2-clause-cond
 lead_on-requires-2-clause-cond c =
-    high-condition c.args.terms.now c.sides_at.new.terms c.args.self.now.places.items c.args.fork.cond c.args.at.place c.args.at.cond c.in_ok-sides.sides.one c.requires.cond c.requires.test c.in_ok-sides.ensures.one
+    high-condition c.args.terms.now c.sides_at.new.terms c.args.self.now.places.items c.args.fork.cond c.args.at.place c.args.at.cond c.in_ok-sides.sides.one c.requires.cond c.requires.test
+    c.in_ok-sides.ensures.one
 
 pub lead_on-requires-2-clause-to : goal.lead_on-requires-2-clause-to
 lead_on-requires-2-clause-to c = c.in_ok-lead_on.ensures.to c.args.fork.one c.requires.one
@@ -33,7 +36,8 @@ returns-clause-led c =
     let p : Walk = record { places = c.sides_at.new.places; ahead = w.ahead; insts = w.insts; rows = w.rows; sources = w.sources } in
     let q = c.lead_on.new.self in let z = c.lead_on-2.new.self in
     ok-then c.lead_on-2.result (LeadsThere ms r q at c.in_ok-sides.sides.one second z) (Branches ns r w at v first second ms z)
-    (λ x. branched ns ms r w p at v first second c.in_ok-sides.sides.zero c.in_ok-sides.sides.one c.sides_at.ensures.kept c.in_ok-sides.ensures.same c.in_ok-sides.ensures.still refl refl refl refl c.in_ok-sides.ensures.zero c.in_ok-sides.ensures.one q c.in_ok-lead_on.ensures.led z x)
+    (λ x. branched ns ms r w p at v first second c.in_ok-sides.sides.zero c.in_ok-sides.sides.one c.sides_at.ensures.kept c.in_ok-sides.ensures.same c.in_ok-sides.ensures.still refl refl refl refl
+    c.in_ok-sides.ensures.zero c.in_ok-sides.ensures.one q c.in_ok-lead_on.ensures.led z x)
     c.lead_on-2.ensures.led
 
 pub returns-clause-cause : goal.returns-clause-cause
@@ -43,5 +47,6 @@ returns-clause-cause c =
     let p : Walk = record { places = c.sides_at.new.places; ahead = w.ahead; insts = w.insts; rows = w.rows; sources = w.sources } in
     let q = c.lead_on.new.self in
     err-map c.lead_on-2.result (LeadsNot ms r q at c.in_ok-sides.sides.one second) (BranchesNot ns r w at v first second)
-    (λ x h. high-not ns ms r w p at v first second c.in_ok-sides.sides.zero c.in_ok-sides.sides.one c.sides_at.ensures.kept c.in_ok-sides.ensures.same c.in_ok-sides.ensures.still refl refl refl refl c.in_ok-sides.ensures.zero c.in_ok-sides.ensures.one q c.in_ok-lead_on.ensures.led x h)
+    (λ x h. high-not ns ms r w p at v first second c.in_ok-sides.sides.zero c.in_ok-sides.sides.one c.sides_at.ensures.kept c.in_ok-sides.ensures.same c.in_ok-sides.ensures.still refl refl refl refl
+    c.in_ok-sides.ensures.zero c.in_ok-sides.ensures.one q c.in_ok-lead_on.ensures.led x h)
     c.lead_on-2.ensures.cause

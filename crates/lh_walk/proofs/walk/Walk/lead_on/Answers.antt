@@ -27,7 +27,8 @@ returns-clause-led c =
       | else-region-via-then-region+else-to-region v ↦ head-not r.ends_at_head (nat_eq c.args.to r.head) (nat_eq-other c.args.to r.head v.if-to-region.false)
       | else-region-via-else-region v ↦ (λ j. v.if-region.false j && nat_eq c.args.to r.head)
     ] in
-    led-edge ns r w q c.args.at c.args.cond c.args.to c.requires.to (sym c.never_holds.ensures ∙ c.if-never_holds.false) e c.edge_from.result c.edge_from.ensures refl refl refl refl c.lead.result c.lead.ensures.here c.lead.ensures.next c.lead.ensures.leads c.lead.ensures.within
+    led-edge ns r w q c.args.at c.args.cond c.args.to c.requires.to (sym c.never_holds.ensures ∙ c.if-never_holds.false) e c.edge_from.result c.edge_from.ensures refl refl refl refl c.lead.result
+    c.lead.ensures.here c.lead.ensures.next c.lead.ensures.leads c.lead.ensures.within
 
 pub returns-clause-cause : goal.returns-clause-cause
 returns-clause-cause c =

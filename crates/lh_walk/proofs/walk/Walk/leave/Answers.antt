@@ -8,7 +8,8 @@ use Rattle.lh_walk.proofs.Ended.{br-ends, br-ends-not, branch-ends, branch-ends-
 use Rattle.lh_walk.proofs.walk.Walk.leave.Goals as goal
 
 pub branch-self-requires-clause-test : goal.branch-self-requires-clause-test
-branch-self-requires-clause-test c = asked-test c.args.terms.now c.args.region.now c.args.self.now c.args.at c.args.line.now c.requires.can c.in-Branch.cond c.in-Branch.zero c.in-Branch.one c.in-Branch.is
+branch-self-requires-clause-test c = asked-test c.args.terms.now c.args.region.now c.args.self.now c.args.at c.args.line.now c.requires.can c.in-Branch.cond c.in-Branch.zero c.in-Branch.one
+    c.in-Branch.is
 
 pub wait-requires : goal.wait-requires
 wait-requires c = asked-parts c.args.terms.now c.args.region.now c.args.self.now c.args.at c.args.line.now c.requires.can c.in-Wait.to c.in-Wait.after c.in-Wait.signals c.in-Wait.is
@@ -16,12 +17,14 @@ wait-requires c = asked-parts c.args.terms.now c.args.region.now c.args.self.now
 pub returns-in-Br-clause-left : goal.returns-in-Br-clause-left
 returns-in-Br-clause-left c =
     let ns = c.args.terms.now in let r = c.args.region.now in let w = c.args.self.now in let q = c.lead_on.new.self in
-    ok-then c.lead_on.result (LeadsThere ns r w c.args.at c.args.at.cond c.in-Br.to.0 q) (EndsLine ns r w c.args.at c.args.line.now ns q) (λ x. br-ends ns r w c.args.at c.args.line.now c.in-Br.to q c.in-Br.is x) c.lead_on.ensures.led
+    ok-then c.lead_on.result (LeadsThere ns r w c.args.at c.args.at.cond c.in-Br.to.0 q) (EndsLine ns r w c.args.at c.args.line.now ns q)
+    (λ x. br-ends ns r w c.args.at c.args.line.now c.in-Br.to q c.in-Br.is x) c.lead_on.ensures.led
 
 pub returns-in-Br-clause-cause : goal.returns-in-Br-clause-cause
 returns-in-Br-clause-cause c =
     let ns = c.args.terms.now in let r = c.args.region.now in let w = c.args.self.now in
-    err-map c.lead_on.result (LeadsNot ns r w c.args.at c.args.at.cond c.in-Br.to.0) (EndsFor ns r w c.args.at c.args.line.now) (λ x h. br-ends-not ns r w c.args.at c.args.line.now c.in-Br.to x c.in-Br.is h) c.lead_on.ensures.cause
+    err-map c.lead_on.result (LeadsNot ns r w c.args.at c.args.at.cond c.in-Br.to.0) (EndsFor ns r w c.args.at c.args.line.now)
+    (λ x h. br-ends-not ns r w c.args.at c.args.line.now c.in-Br.to x c.in-Br.is h) c.lead_on.ensures.cause
 
 pub returns-in-Branch-clause-left : goal.returns-in-Branch-clause-left
 returns-in-Branch-clause-left c =
@@ -44,7 +47,8 @@ returns-in-Wait-clause-left c =
 pub returns-in-Halt-clause-left : goal.returns-in-Halt-clause-left
 returns-in-Halt-clause-left c =
     let ns = c.args.terms.now in let r = c.args.region.now in let w = c.args.self.now in let q = c.end_there.new.self in
-    ok-then c.end_there.result (EndsThere w c.args.at c.args.at.cond text.halts q) (EndsLine ns r w c.args.at c.args.line.now ns q) (λ x. halt-ends ns r w c.args.at c.args.line.now q c.in-Halt.is x) c.end_there.ensures.ended
+    ok-then c.end_there.result (EndsThere w c.args.at c.args.at.cond text.halts q) (EndsLine ns r w c.args.at c.args.line.now ns q) (λ x. halt-ends ns r w c.args.at c.args.line.now q c.in-Halt.is x)
+    c.end_there.ensures.ended
 
 pub returns-in_default : goal.returns-in_default
 returns-in_default c =

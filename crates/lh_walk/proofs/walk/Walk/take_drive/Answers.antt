@@ -10,28 +10,47 @@ use Rattle.lh_walk.proofs.Answered.{ok-three}
 use Rattle.lh_walk.proofs.walk.Walk.take_drive.Goals as goal
 
 pub part_of-requires-clause-there : goal.part_of-requires-clause-there
-part_of-requires-clause-there c = ap is_some (drive-told c.args.terms.now c.requires.can.naming c.requires.can.name c.args.region.now c.args.self.now c.args.at c.requires.can.before c.requires.can.here c.requires.can.insts c.requires.can.block c.requires.can.done c.requires.can.rest c.requires.can.midst c.args.line.now c.requires.can.between c.in-Drv.to c.in-Drv.value c.in-Drv.after c.in-Drv.cond c.in-Drv.is c.requires.can.below).part.is
+part_of-requires-clause-there c = ap is_some
+    (drive-told c.args.terms.now c.requires.can.naming c.requires.can.name c.args.region.now c.args.self.now c.args.at c.requires.can.before c.requires.can.here c.requires.can.insts
+    c.requires.can.block c.requires.can.done c.requires.can.rest c.requires.can.midst c.args.line.now c.requires.can.between c.in-Drv.to c.in-Drv.value c.in-Drv.after c.in-Drv.cond c.in-Drv.is
+    c.requires.can.below).part.is
 
 pub drive_cond-requires-clause-test : goal.drive_cond-requires-clause-test
 drive_cond-requires-clause-test c =
-    let d = drive-told c.args.terms.now c.requires.can.naming c.requires.can.name c.args.region.now c.args.self.now c.args.at c.requires.can.before c.requires.can.here c.requires.can.insts c.requires.can.block c.requires.can.done c.requires.can.rest c.requires.can.midst c.args.line.now c.requires.can.between c.in-Drv.to c.in-Drv.value c.in-Drv.after c.in-Drv.cond c.in-Drv.is c.requires.can.below in
-    may-test c.args.terms.now c.requires.can.naming c.requires.can.name c.args.region.now c.args.self.now c.args.at c.requires.can.before c.requires.can.here c.requires.can.insts c.requires.can.block c.requires.can.done c.requires.can.rest c.requires.can.midst c.args.line.now c.requires.can.between c.in-Drv.cond d.when d.cond_told
+    let d = drive-told c.args.terms.now c.requires.can.naming c.requires.can.name c.args.region.now c.args.self.now c.args.at c.requires.can.before c.requires.can.here c.requires.can.insts
+    c.requires.can.block c.requires.can.done c.requires.can.rest c.requires.can.midst c.args.line.now c.requires.can.between c.in-Drv.to c.in-Drv.value c.in-Drv.after c.in-Drv.cond c.in-Drv.is
+    c.requires.can.below in
+    may-test c.args.terms.now c.requires.can.naming c.requires.can.name c.args.region.now c.args.self.now c.args.at c.requires.can.before c.requires.can.here c.requires.can.insts c.requires.can.block
+    c.requires.can.done c.requires.can.rest c.requires.can.midst c.args.line.now c.requires.can.between c.in-Drv.cond d.when d.cond_told
 
 pub drive-requires-clause-cond : goal.drive-requires-clause-cond
 drive-requires-clause-cond c =
     let ms = c.drive_cond.new.terms in let qs = c.drive_cond.new.places.items in
-    let d = drive-told c.args.terms.now c.requires.can.naming c.requires.can.name c.args.region.now c.args.self.now c.args.at c.requires.can.before c.requires.can.here c.requires.can.insts c.requires.can.block c.requires.can.done c.requires.can.rest c.requires.can.midst c.args.line.now c.requires.can.between c.in-Drv.to c.in-Drv.value c.in-Drv.after c.in-Drv.cond c.in-Drv.is c.requires.can.below in
-    let tells = tested c.args.terms.now c.requires.can.naming c.requires.can.name c.args.region.now c.args.self.now c.args.at c.requires.can.before c.requires.can.here c.requires.can.insts c.requires.can.block c.requires.can.done c.requires.can.rest c.requires.can.midst c.args.line.now c.requires.can.between ms qs c.in-Drv.cond d.when d.cond_told c.in_ok-cond.ensures.still in
-    let st = drives-on c.args.terms.now c.requires.can.naming c.requires.can.name c.args.region.now c.args.self.now c.args.at c.requires.can.before c.requires.can.here c.requires.can.insts c.requires.can.block c.requires.can.done c.requires.can.rest c.requires.can.midst c.args.line.now c.requires.can.between ms qs c.in-Drv.cond d.when d.cond_told c.in_ok-cond.cond c.in_ok-cond.ensures.made in
-    drive-condition c.args.terms.now c.requires.can.naming c.requires.can.name c.args.region.now c.args.self.now c.args.at c.requires.can.before c.requires.can.here c.requires.can.insts c.requires.can.block c.requires.can.done c.requires.can.rest c.requires.can.midst c.args.line.now c.requires.can.between c.in-Drv.to c.in-Drv.value c.in-Drv.after c.in-Drv.cond d ms qs tells c.in_ok-cond.cond st
+    let d = drive-told c.args.terms.now c.requires.can.naming c.requires.can.name c.args.region.now c.args.self.now c.args.at c.requires.can.before c.requires.can.here c.requires.can.insts
+    c.requires.can.block c.requires.can.done c.requires.can.rest c.requires.can.midst c.args.line.now c.requires.can.between c.in-Drv.to c.in-Drv.value c.in-Drv.after c.in-Drv.cond c.in-Drv.is
+    c.requires.can.below in
+    let tells = tested c.args.terms.now c.requires.can.naming c.requires.can.name c.args.region.now c.args.self.now c.args.at c.requires.can.before c.requires.can.here c.requires.can.insts
+    c.requires.can.block c.requires.can.done c.requires.can.rest c.requires.can.midst c.args.line.now c.requires.can.between ms qs c.in-Drv.cond d.when d.cond_told c.in_ok-cond.ensures.still in
+    let st = drives-on c.args.terms.now c.requires.can.naming c.requires.can.name c.args.region.now c.args.self.now c.args.at c.requires.can.before c.requires.can.here c.requires.can.insts
+    c.requires.can.block c.requires.can.done c.requires.can.rest c.requires.can.midst c.args.line.now c.requires.can.between ms qs c.in-Drv.cond d.when d.cond_told c.in_ok-cond.cond
+    c.in_ok-cond.ensures.made in
+    drive-condition c.args.terms.now c.requires.can.naming c.requires.can.name c.args.region.now c.args.self.now c.args.at c.requires.can.before c.requires.can.here c.requires.can.insts
+    c.requires.can.block c.requires.can.done c.requires.can.rest c.requires.can.midst c.args.line.now c.requires.can.between c.in-Drv.to c.in-Drv.value c.in-Drv.after c.in-Drv.cond d ms qs tells
+    c.in_ok-cond.cond st
 
 pub drive-requires-clause-told : goal.drive-requires-clause-told
 drive-requires-clause-told c =
     let ms = c.drive_cond.new.terms in let qs = c.drive_cond.new.places.items in
-    let d = drive-told c.args.terms.now c.requires.can.naming c.requires.can.name c.args.region.now c.args.self.now c.args.at c.requires.can.before c.requires.can.here c.requires.can.insts c.requires.can.block c.requires.can.done c.requires.can.rest c.requires.can.midst c.args.line.now c.requires.can.between c.in-Drv.to c.in-Drv.value c.in-Drv.after c.in-Drv.cond c.in-Drv.is c.requires.can.below in
-    let tells = tested c.args.terms.now c.requires.can.naming c.requires.can.name c.args.region.now c.args.self.now c.args.at c.requires.can.before c.requires.can.here c.requires.can.insts c.requires.can.block c.requires.can.done c.requires.can.rest c.requires.can.midst c.args.line.now c.requires.can.between ms qs c.in-Drv.cond d.when d.cond_told c.in_ok-cond.ensures.still in
-    let st = drives-on c.args.terms.now c.requires.can.naming c.requires.can.name c.args.region.now c.args.self.now c.args.at c.requires.can.before c.requires.can.here c.requires.can.insts c.requires.can.block c.requires.can.done c.requires.can.rest c.requires.can.midst c.args.line.now c.requires.can.between ms qs c.in-Drv.cond d.when d.cond_told c.in_ok-cond.cond c.in_ok-cond.ensures.made in
-    can-drive c.args.terms.now c.requires.can.naming c.requires.can.name c.args.region.now c.args.self.now c.args.at c.requires.can.before c.requires.can.here c.requires.can.insts c.requires.can.block c.requires.can.done c.requires.can.rest c.requires.can.midst c.args.line.now c.requires.can.between c.in-Drv.to c.in-Drv.value c.in-Drv.after c.in-Drv.cond d ms qs tells c.in_ok-cond.cond st
+    let d = drive-told c.args.terms.now c.requires.can.naming c.requires.can.name c.args.region.now c.args.self.now c.args.at c.requires.can.before c.requires.can.here c.requires.can.insts
+    c.requires.can.block c.requires.can.done c.requires.can.rest c.requires.can.midst c.args.line.now c.requires.can.between c.in-Drv.to c.in-Drv.value c.in-Drv.after c.in-Drv.cond c.in-Drv.is
+    c.requires.can.below in
+    let tells = tested c.args.terms.now c.requires.can.naming c.requires.can.name c.args.region.now c.args.self.now c.args.at c.requires.can.before c.requires.can.here c.requires.can.insts
+    c.requires.can.block c.requires.can.done c.requires.can.rest c.requires.can.midst c.args.line.now c.requires.can.between ms qs c.in-Drv.cond d.when d.cond_told c.in_ok-cond.ensures.still in
+    let st = drives-on c.args.terms.now c.requires.can.naming c.requires.can.name c.args.region.now c.args.self.now c.args.at c.requires.can.before c.requires.can.here c.requires.can.insts
+    c.requires.can.block c.requires.can.done c.requires.can.rest c.requires.can.midst c.args.line.now c.requires.can.between ms qs c.in-Drv.cond d.when d.cond_told c.in_ok-cond.cond
+    c.in_ok-cond.ensures.made in
+    can-drive c.args.terms.now c.requires.can.naming c.requires.can.name c.args.region.now c.args.self.now c.args.at c.requires.can.before c.requires.can.here c.requires.can.insts c.requires.can.block
+    c.requires.can.done c.requires.can.rest c.requires.can.midst c.args.line.now c.requires.can.between c.in-Drv.to c.in-Drv.value c.in-Drv.after c.in-Drv.cond d ms qs tells c.in_ok-cond.cond st
 
 pub returns-clause-taken : goal.returns-clause-taken
 returns-clause-taken c =
@@ -41,8 +60,13 @@ returns-clause-taken c =
     ok-three c.drive.result (SamePlaces qs rs) (StillDriven ms qs os rs x) (IsDriven ms qs c.args.self.now.rows os c.drive.new.rows x c.in_ok-part.part)
     (TakesLine c.args.terms.now c.args.region.now c.args.self.now c.args.at c.args.line.now os q)
     (λ same still rows f name before h insts b done rest m i.
-    let d = drive-told c.args.terms.now f name c.args.region.now c.args.self.now c.args.at before h insts b done rest m c.args.line.now i c.in-Drv.to c.in-Drv.value c.in-Drv.after c.in-Drv.cond c.in-Drv.is c.requires.can.below in
-    let tells = tested c.args.terms.now f name c.args.region.now c.args.self.now c.args.at before h insts b done rest m c.args.line.now i ms qs c.in-Drv.cond d.when d.cond_told c.in_ok-cond.ensures.still in
-    let st = drives-on c.args.terms.now f name c.args.region.now c.args.self.now c.args.at before h insts b done rest m c.args.line.now i ms qs c.in-Drv.cond d.when d.cond_told c.in_ok-cond.cond c.in_ok-cond.ensures.made in
-    drive-next c.args.terms.now f name c.args.region.now c.args.self.now c.args.at before h insts b done rest m c.args.line.now i c.in-Drv.to c.in-Drv.value c.in-Drv.after c.in-Drv.cond d ms qs tells c.in_ok-cond.cond st os q c.in_ok-part.part c.in-Drv.is c.in_ok-part.ensures c.drive_cond.ensures.kept c.drive.ensures.kept (record { ahead = refl; counted = refl; sources = refl }) c.in_ok-cond.ensures.same same still rows)
+    let d = drive-told c.args.terms.now f name c.args.region.now c.args.self.now c.args.at before h insts b done rest m c.args.line.now i c.in-Drv.to c.in-Drv.value c.in-Drv.after c.in-Drv.cond
+    c.in-Drv.is c.requires.can.below in
+    let tells = tested c.args.terms.now f name c.args.region.now c.args.self.now c.args.at before h insts b done rest m c.args.line.now i ms qs c.in-Drv.cond d.when d.cond_told
+    c.in_ok-cond.ensures.still in
+    let st = drives-on c.args.terms.now f name c.args.region.now c.args.self.now c.args.at before h insts b done rest m c.args.line.now i ms qs c.in-Drv.cond d.when d.cond_told c.in_ok-cond.cond
+    c.in_ok-cond.ensures.made in
+    drive-next c.args.terms.now f name c.args.region.now c.args.self.now c.args.at before h insts b done rest m c.args.line.now i c.in-Drv.to c.in-Drv.value c.in-Drv.after c.in-Drv.cond d ms qs tells
+    c.in_ok-cond.cond st os q c.in_ok-part.part c.in-Drv.is c.in_ok-part.ensures c.drive_cond.ensures.kept c.drive.ensures.kept (record { ahead = refl; counted = refl; sources = refl })
+    c.in_ok-cond.ensures.same same still rows)
     c.drive.ensures.same c.drive.ensures.still c.drive.ensures.rows

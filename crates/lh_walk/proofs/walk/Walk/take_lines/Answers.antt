@@ -18,7 +18,8 @@ take_inner-requires-clause-inner c =
 pub leave-requires-clause-can : goal.leave-requires-clause-can
 leave-requires-clause-can c =
     let ls = c.args.lines.now in let l = c.last-item.result in
-    last-can c.args.terms.now c.args.region.now c.args.self.now c.args.at ls (take (length ls - 1) ls) l (last-split ls l c.in-len1-up.len_at_least c.last-item.is) c.take_inner.new.terms c.take_inner.new.self c.in_ok-take_inner.ensures.taken c.requires.can
+    last-can c.args.terms.now c.args.region.now c.args.self.now c.args.at ls (take (length ls - 1) ls) l (last-split ls l c.in-len1-up.len_at_least c.last-item.is) c.take_inner.new.terms
+    c.take_inner.new.self c.in_ok-take_inner.ensures.taken c.requires.can
 
 pub leave-requires-clause-last : goal.leave-requires-clause-last
 leave-requires-clause-last c =

@@ -13,13 +13,15 @@ pub take_lines-requires-clause-can : goal.take_lines-requires-clause-can
 take_lines-requires-clause-can c =
     let d = c.index-as_slice-at.result in
     lines-after c.args.terms.now c.take_merges.new.terms c.args.region.now c.args.self.now c.take_merges.new.self c.args.at c.in-Some.insts d
-    (subst (λ (bs : List FlatBlock). d ≡ get_or bs c.args.at.block d) c.as_slice.ensures c.index-as_slice-at.is) c.as_slice-2.result.now c.as_slice-2.ensures c.in_ok-take_merges.ensures.taken c.requires
+    (subst (λ (bs : List FlatBlock). d ≡ get_or bs c.args.at.block d) c.as_slice.ensures c.index-as_slice-at.is) c.as_slice-2.result.now c.as_slice-2.ensures c.in_ok-take_merges.ensures.taken
+    c.requires
 
 pub take_lines-requires-clause-last : goal.take_lines-requires-clause-last
 take_lines-requires-clause-last c =
     let d = c.index-as_slice-at.result in
     lines-end c.args.terms.now c.take_merges.new.terms c.args.region.now c.args.self.now c.take_merges.new.self c.args.at c.in-Some.insts d
-    (subst (λ (bs : List FlatBlock). d ≡ get_or bs c.args.at.block d) c.as_slice.ensures c.index-as_slice-at.is) c.as_slice-2.result.now c.as_slice-2.ensures c.in_ok-take_merges.ensures.taken c.requires
+    (subst (λ (bs : List FlatBlock). d ≡ get_or bs c.args.at.block d) c.as_slice.ensures c.index-as_slice-at.is) c.as_slice-2.result.now c.as_slice-2.ensures c.in_ok-take_merges.ensures.taken
+    c.requires
 
 pub returns-clause-treated : goal.returns-clause-treated
 returns-clause-treated c =
@@ -27,7 +29,8 @@ returns-clause-treated c =
     let r = c.args.region.now in let w = c.args.self.now in let q = c.take_merges.new.self in let p = c.take_lines.new.self in let at = c.args.at in
     let d = c.index-as_slice-at.result in let ls = c.as_slice-2.result.now in
     ok-then c.take_lines.result (EndsLines ms r q at ls os p) (Treats ns r w at os p)
-    (λ e. treats ns ms r w q at c.in-Some.insts d (subst (λ (bs : List FlatBlock). d ≡ get_or bs at.block d) c.as_slice.ensures c.index-as_slice-at.is) ls c.as_slice-2.ensures c.in_ok-take_merges.ensures.taken
+    (λ e. treats ns ms r w q at c.in-Some.insts d (subst (λ (bs : List FlatBlock). d ≡ get_or bs at.block d) c.as_slice.ensures c.index-as_slice-at.is) ls c.as_slice-2.ensures
+    c.in_ok-take_merges.ensures.taken
     (c.in-Some.ensures.0 ∙ ap (λ (k : ℕ). w.insts + k) c.len.ensures) c.in-Some.ensures.1 os p e)
     c.take_lines.ensures.left
 
@@ -37,6 +40,7 @@ returns-clause-cause c =
     let r = c.args.region.now in let w = c.args.self.now in let q = c.take_merges.new.self in let at = c.args.at in
     let d = c.index-as_slice-at.result in let ls = c.as_slice-2.result.now in
     err-map c.take_lines.result (EndsLinesFor ms r q at ls) (TreatsNot ns r w at)
-    (λ x e. treats-not ns ms r w q at c.in-Some.insts d (subst (λ (bs : List FlatBlock). d ≡ get_or bs at.block d) c.as_slice.ensures c.index-as_slice-at.is) ls c.as_slice-2.ensures c.in_ok-take_merges.ensures.taken
+    (λ x e. treats-not ns ms r w q at c.in-Some.insts d (subst (λ (bs : List FlatBlock). d ≡ get_or bs at.block d) c.as_slice.ensures c.index-as_slice-at.is) ls c.as_slice-2.ensures
+    c.in_ok-take_merges.ensures.taken
     (c.in-Some.ensures.0 ∙ ap (λ (k : ℕ). w.insts + k) c.len.ensures) c.in-Some.ensures.1 x e)
     c.take_lines.ensures.cause

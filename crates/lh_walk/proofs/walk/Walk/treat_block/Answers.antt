@@ -1,7 +1,7 @@
 use Rattle.std.proofs.Common.{[], ◌∷◌, ◌+◌, refl, sym, subst, ◌∙◌}
 use Rattle.lh_joins.specs.Joins.{AreConditions}
 use Rattle.lh_walk.specs.declared.walk.Walk.{Walk}
-use Rattle.lh_walk.specs.declared.walk.At.{At}
+use Rattle.lh_walk.specs.declared.walk.WalkPoint.{WalkPoint}
 use Rattle.lh_region.specs.Walking.{place_of}
 use Rattle.lh_walk.specs.Walked.{Treats, TreatsNot}
 use Rattle.lh_walk.specs.Turns.{Passes, Stops, walks_at}
@@ -13,15 +13,18 @@ pub any_of-requires : goal.any_of-requires
 any_of-requires c =
     let w = c.args.self.now in
     let some = some-led c.reach-edges.result _ c.len.result c.reach-edges.ensures.edges c.len.ensures c.if-len-eq0.false in
-    subst (AreConditions c.args.terms.now) (sym (c.as_slice.ensures ∙ c.reach-edges.ensures.edges)) (edges-can c.args.terms.now c.args.region.now w c.args.turn c.args.block c.requires.block some c.requires.walk)
+    subst (AreConditions c.args.terms.now) (sym (c.as_slice.ensures ∙ c.reach-edges.ensures.edges))
+    (edges-can c.args.terms.now c.args.region.now w c.args.turn c.args.block c.requires.block some c.requires.walk)
 
 pub treat-requires : goal.treat-requires
 treat-requires c =
     let w = c.args.self.now in let ns = c.args.terms.now in let ms = c.any_of.new.terms in
     let some = some-led c.reach-edges.result _ c.len.result c.reach-edges.ensures.edges c.len.ensures c.if-len-eq0.false in
     let b = begins-by ns ms w (record { places = c.begin.new.places; ahead = c.reach-edges.new.self; insts = w.insts; rows = w.rows; sources = w.sources }) c.args.turn c.args.block
-    (record { place = c.len-place.result; block = c.args.block; turns = c.args.turn; cond = c.in_ok-cond.cond }) c.reach-edges.result c.as_slice.result.now c.reach-edges.ensures.edges c.as_slice.ensures some
-    c.reach-edges.ensures.here c.reach-edges.ensures.next refl refl refl c.any_of.ensures.kept (c.in_ok-begin.ensures.place) (c.in_ok-begin.ensures.joined) c.len-place.ensures refl refl c.in_ok-cond.ensures.made in
+    (record { place = c.len-place.result; block = c.args.block; turns = c.args.turn; cond = c.in_ok-cond.cond }) c.reach-edges.result c.as_slice.result.now c.reach-edges.ensures.edges
+    c.as_slice.ensures some
+    c.reach-edges.ensures.here c.reach-edges.ensures.next refl refl refl c.any_of.ensures.kept (c.in_ok-begin.ensures.place) (c.in_ok-begin.ensures.joined) c.len-place.ensures refl refl
+    c.in_ok-cond.ensures.made in
     treat-can ns c.args.region.now w c.args.turn c.args.block c.requires.block some ms _ _ b c.requires.within c.requires.walk
 
 pub returns-clause-passed : goal.returns-clause-passed
@@ -29,10 +32,12 @@ returns-clause-passed c =
     let w = c.args.self.now in let ns = c.args.terms.now in let ms = c.any_of.new.terms in let r = c.args.region.now in
     let some = some-led c.reach-edges.result _ c.len.result c.reach-edges.ensures.edges c.len.ensures c.if-len-eq0.false in
     let q : Walk = record { places = c.begin.new.places; ahead = c.reach-edges.new.self; insts = w.insts; rows = w.rows; sources = w.sources } in
-    let at : At = record { place = c.len-place.result; block = c.args.block; turns = c.args.turn; cond = c.in_ok-cond.cond } in
+    let at : WalkPoint = record { place = c.len-place.result; block = c.args.block; turns = c.args.turn; cond = c.in_ok-cond.cond } in
     let b = begins-by ns ms w q c.args.turn c.args.block at c.reach-edges.result c.as_slice.result.now c.reach-edges.ensures.edges c.as_slice.ensures some
-    c.reach-edges.ensures.here c.reach-edges.ensures.next refl refl refl c.any_of.ensures.kept (c.in_ok-begin.ensures.place) (c.in_ok-begin.ensures.joined) c.len-place.ensures refl refl c.in_ok-cond.ensures.made in
-    ok-then c.treat.result (Treats ms r q at c.treat.new.terms c.treat.new.self) (Passes (walks_at ns r w c.args.turn c.args.block) r (place_of c.args.turn c.args.block ∷ []) c.treat.new.terms c.treat.new.self c.args.turn (c.args.block + 1))
+    c.reach-edges.ensures.here c.reach-edges.ensures.next refl refl refl c.any_of.ensures.kept (c.in_ok-begin.ensures.place) (c.in_ok-begin.ensures.joined) c.len-place.ensures refl refl
+    c.in_ok-cond.ensures.made in
+    ok-then c.treat.result (Treats ms r q at c.treat.new.terms c.treat.new.self)
+    (Passes (walks_at ns r w c.args.turn c.args.block) r (place_of c.args.turn c.args.block ∷ []) c.treat.new.terms c.treat.new.self c.args.turn (c.args.block + 1))
     (passes-block ns r w c.args.turn c.args.block c.requires.block some ms q at b c.requires.within c.treat.new.terms c.treat.new.self) c.treat.ensures.treated
 
 pub returns-clause-cause : goal.returns-clause-cause
@@ -40,7 +45,9 @@ returns-clause-cause c =
     let w = c.args.self.now in let ns = c.args.terms.now in let ms = c.any_of.new.terms in let r = c.args.region.now in
     let some = some-led c.reach-edges.result _ c.len.result c.reach-edges.ensures.edges c.len.ensures c.if-len-eq0.false in
     let q : Walk = record { places = c.begin.new.places; ahead = c.reach-edges.new.self; insts = w.insts; rows = w.rows; sources = w.sources } in
-    let at : At = record { place = c.len-place.result; block = c.args.block; turns = c.args.turn; cond = c.in_ok-cond.cond } in
+    let at : WalkPoint = record { place = c.len-place.result; block = c.args.block; turns = c.args.turn; cond = c.in_ok-cond.cond } in
     let b = begins-by ns ms w q c.args.turn c.args.block at c.reach-edges.result c.as_slice.result.now c.reach-edges.ensures.edges c.as_slice.ensures some
-    c.reach-edges.ensures.here c.reach-edges.ensures.next refl refl refl c.any_of.ensures.kept (c.in_ok-begin.ensures.place) (c.in_ok-begin.ensures.joined) c.len-place.ensures refl refl c.in_ok-cond.ensures.made in
-    err-map c.treat.result (TreatsNot ms r q at) (Stops (walks_at ns r w c.args.turn c.args.block) r (place_of c.args.turn c.args.block ∷ [])) (λ e t. stops-block ns r w c.args.turn c.args.block c.requires.block some ms q at b c.requires.within e t) c.treat.ensures.cause
+    c.reach-edges.ensures.here c.reach-edges.ensures.next refl refl refl c.any_of.ensures.kept (c.in_ok-begin.ensures.place) (c.in_ok-begin.ensures.joined) c.len-place.ensures refl refl
+    c.in_ok-cond.ensures.made in
+    err-map c.treat.result (TreatsNot ms r q at) (Stops (walks_at ns r w c.args.turn c.args.block) r (place_of c.args.turn c.args.block ∷ []))
+    (λ e t. stops-block ns r w c.args.turn c.args.block c.requires.block some ms q at b c.requires.within e t) c.treat.ensures.cause

@@ -16,7 +16,8 @@ returns-in_err-treat_block-clause-cause c =
     let l : c.loop-block.block < n = omega (arith, c.loop-block-test.true, c.len-block-end.ensures, c.loop-block.auto.block-end, c.requires.few) in
     let p = err_from_is_err_and c.from_residual.result c.from_residual.ensures.1 in
     rw (p.1, p.2)
-    (turn-stops c.args.terms.now c.args.region.now c.args.self.now c.args.turn c.args.first c.loop-block.terms c.loop-block.self c.loop-block.block c.loop-block.invariant n c.in_err-treat_block.field-0.0 l c.in_err-treat_block.ensures.cause)
+    (turn-stops c.args.terms.now c.args.region.now c.args.self.now c.args.turn c.args.first c.loop-block.terms c.loop-block.self c.loop-block.block c.loop-block.invariant n
+    c.in_err-treat_block.field-0.0 l c.in_err-treat_block.ensures.cause)
 
 pub loop-block-preserved : goal.loop-block-preserved
 loop-block-preserved c =
@@ -28,4 +29,5 @@ returns-clause-passed c =
     let n = length c.args.region.now.flat.now.blocks in
     let e : c.loop-block.block ≡ n = omega (arith, c.loop-block-test.false, c.len-block-end.ensures, c.loop-block.auto.block-end, c.loop-block.auto.block, c.requires.first, c.requires.few) in
     turn-done c.args.terms.now c.args.region.now c.args.self.now c.args.turn c.args.first c.loop-block.terms c.loop-block.self c.loop-block.block c.loop-block.invariant
-    (record { places = c.loop-block.self.places; ahead = c.turn.new.self; insts = c.loop-block.self.insts; rows = c.loop-block.self.rows; sources = c.loop-block.self.sources }) n e c.in_ok-turn.ensures.here c.in_ok-turn.ensures.next refl refl refl refl
+    (record { places = c.loop-block.self.places; ahead = c.turn.new.self; insts = c.loop-block.self.insts; rows = c.loop-block.self.rows; sources = c.loop-block.self.sources }) n e
+    c.in_ok-turn.ensures.here c.in_ok-turn.ensures.next refl refl refl refl

@@ -10,8 +10,16 @@ put_variables-requires-clause-known t c =
 
 pub put-requires : goal.put-requires
 put-requires t c =
-    let inside : c.args.instance < length c.args.self.now.design.now.instances.items = c.requires.known (omega arith) in
-    (omega arith, (c.requires.design, (c.requires.children, (c.requires.signals, λ _. child_known c.args.self.now.design.now _ _ _ _ c.numbers_at-child-items.ensures c.requires.children inside c.loop-child-test.true))))
+    let inside : c.args.instance < length c.args.self.now.design.now.instances.items = c.requires.known (omega arith) in (
+      omega arith,
+      (
+        c.requires.design,
+        (
+          c.requires.children,
+          (c.requires.signals, λ _. child_known c.args.self.now.design.now _ _ _ _ c.numbers_at-child-items.ensures c.requires.children inside c.loop-child-test.true),
+        ),
+      ),
+    )
 
 pub loop-child-preserved : goal.loop-child-preserved
 loop-child-preserved t c = record {
@@ -22,5 +30,6 @@ loop-child-preserved t c = record {
 pub returns : goal.returns
 returns t c =
     let inside : c.args.instance < length c.args.self.now.design.now.instances.items = c.requires.known (omega arith) in
-    scope_whole c.put-2.result c.args.self.now.«module».now c.args.self.now.design.now c.args.self.now.children c.args.self.now.signals _ _ _ _ _ _ _ _ _ _ (λ e. absurd (omega (arith, e))) c.requires.children c.requires.signals inside c.numbers_at.ensures c.numbers_at-child-items.ensures (c.deref.ensures.value ∙ c.in_ok-label.ensures)
+    scope_whole c.put-2.result c.args.self.now.«module».now c.args.self.now.design.now c.args.self.now.children c.args.self.now.signals _ _ _ _ _ _ _ _ _ _ (λ e. absurd (omega (arith, e)))
+    c.requires.children c.requires.signals inside c.numbers_at.ensures c.numbers_at-child-items.ensures (c.deref.ensures.value ∙ c.in_ok-label.ensures)
     c.in_ok-put_scope.ensures c.in_ok-put_variables.ensures (Writing-end _ _ _ _ _ c.loop-child.invariant.text c.loop-child-test.false) c.put-2.ensures

@@ -6,4 +6,5 @@ put_variable-requires c = is_data_in _ _ _ _ _ _ c.requires.design c.requires.kn
 
 pub loop-k-preserved : goal.loop-k-preserved
 loop-k-preserved c =
-    variable_next c.args.self.now.«module».now c.args.self.now.design.now _ _ _ _ _ _ _ _ c.loop-k.invariant c.loop-k-test.true c.requires.known c.signals.ensures c.index-signals-k.is c.as_bytes.ensures.value c.in_ok-put_variable.ensures
+    variable_next c.args.self.now.«module».now c.args.self.now.design.now _ _ _ _ _ _ _ _ c.loop-k.invariant c.loop-k-test.true c.requires.known c.signals.ensures c.index-signals-k.is
+    c.as_bytes.ensures.value c.in_ok-put_variable.ensures

@@ -11,9 +11,9 @@ returns-in_err-tell-clause-err g c =
 pub returns-in_err-show-clause-err : goal.returns-in_err-show-clause-err
 returns-in_err-show-clause-err g c =
     let p = err_from_is_err_and c.from_residual-in_err-show.result c.from_residual-in_err-show.ensures.1 in
-    rw p.1 (λ before v rest n. frame_broke c.args.self.now c.tell.new.self.scribe before v _ _ _ rest _ _ _ _ n (c.in_ok-tell.ensures.told before v n) c.in_err-show.ensures.err p.2)
+    rw p.1 (λ before v rest n. frame_broke c.args.self.now c.tell.new.self.scribe c.tell.new.self.text.items before v _ _ _ rest _ _ _ _ n (c.in_ok-tell.ensures.told before v n) c.in_err-show.ensures.err p.2)
 
 pub returns-clause-went : goal.returns-clause-went
 returns-clause-went g c = λ before v rest n.
-    frame_went c.args.self.now c.tell.new.self.scribe before v _ _ _ rest _ _ _ _ _ n (c.in_ok-tell.ensures.told before v n) c.in_ok-show.ensures.members c.in_ok-show.ensures.reports
+    frame_went c.args.self.now c.tell.new.self.scribe c.tell.new.self.text.items before v _ _ _ rest _ _ _ _ _ n (c.in_ok-tell.ensures.told before v n) c.in_ok-show.ensures.members c.in_ok-show.ensures.reports
     (failed_next _ _ _ _ c.args.f.now before v c.failed_so_far-self.ensures c.in_ok-tell.ensures.failed c.as_slice.ensures n.is)

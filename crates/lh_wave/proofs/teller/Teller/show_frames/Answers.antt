@@ -20,7 +20,8 @@ loop-step-preserved g c = record {
   never_fall = omega (arith, c.loop-step.invariant.never_fall, c.in_ok-turn.ensures.never_fall);
   course = λ w st b.
       let one_less : c.args.steps - c.loop-step._step ≡ suc (c.args.steps - (c.loop-step._step + 1)) = omega arith in
-      course_next _ _ c.loop-step.sim c.turn.new.sim c.loop-step.self c.turn.new.self _ _ _ _ _ _ _ _ _ c.loop-step.invariant.arena c.loop-step.invariant.design one_less (c.loop-step.invariant.course w st b) _ c.in-None.is
+      course_next _ _ c.loop-step.sim c.turn.new.sim c.loop-step.self c.turn.new.self _ _ _ _ _ _ _ _ _ c.loop-step.invariant.arena c.loop-step.invariant.design one_less
+      (c.loop-step.invariant.course w st b) _ c.in-None.is
       c.in_ok-turn.ensures.ok;
 }
 
@@ -29,13 +30,15 @@ returns-in_err-turn-clause-err g c =
     let p = err_from_is_err_and c.from_residual.result c.from_residual.ensures.1 in
     let one_less : c.args.steps - c.loop-step._step ≡ suc (c.args.steps - (c.loop-step._step + 1)) = omega arith in
     rw (p.1, p.2)
-    (λ w st b. course_broken _ _ c.loop-step.sim c.turn.new.sim c.loop-step.self c.turn.new.self _ _ _ _ _ c.turn.new.reports.items _ _ _ c.loop-step.invariant.arena c.loop-step.invariant.design one_less
+    (λ w st b. course_broken _ _ c.loop-step.sim c.turn.new.sim c.loop-step.self c.turn.new.self _ _ _ _ _ c.turn.new.reports.items _ _ _ c.loop-step.invariant.arena c.loop-step.invariant.design
+    one_less
     (c.loop-step.invariant.course w st b) _ c.in_err-turn.ensures.err)
 
 pub returns-in-Some-clause-ok : goal.returns-in-Some-clause-ok
 returns-in-Some-clause-ok g c = λ w st b.
     let one_less : c.args.steps - c.loop-step._step ≡ suc (c.args.steps - (c.loop-step._step + 1)) = omega arith in
-    course_over _ _ c.loop-step.sim c.turn.new.sim c.loop-step.self c.turn.new.self _ _ _ _ _ _ _ _ _ c.loop-step.invariant.arena c.loop-step.invariant.design one_less (c.loop-step.invariant.course w st b) _ c.in-Some.end
+    course_over _ _ c.loop-step.sim c.turn.new.sim c.loop-step.self c.turn.new.self _ _ _ _ _ _ _ _ _ c.loop-step.invariant.arena c.loop-step.invariant.design one_less
+    (c.loop-step.invariant.course w st b) _ c.in-Some.end
     c.in-Some.is c.in_ok-turn.ensures.ok
 
 pub returns-clause-ok : goal.returns-clause-ok

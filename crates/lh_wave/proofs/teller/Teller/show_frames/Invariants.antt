@@ -1,12 +1,12 @@
 use Rattle.std.proofs.Common.{◌≡◌, ◌≤◌, ◌-◌, map}
 use Rattle.lh_kernel.specs.Simulation.{StandsFor}
 use Rattle.lh_unit.specs.World.{World}
-use Rattle.lh_wave.specs.Going.{IsSteady, IsBehind, GoesOn, going, shown_on, values_of_last}
+use Rattle.lh_wave.specs.Going.{KeepsSignals, IsBehind, GoesOn, going, shown_on, values_of_last}
 use Rattle.lh_wave.proofs.teller.Teller.show_frames.Given as goal
 
 abbrev pub invariant-loop-step : goal.invariant-loop-step
 invariant-loop-step g l = record {
-  steady : IsSteady l.self.scribe;
+  steady : KeepsSignals l.self.scribe;
   arena : l.sim.arena ≡ l.fn.sim.arena;
   design : l.sim.design ≡ l.fn.sim.design;
   never_fall : g.K.Sink.faults l.fn.out ≤ g.K.Sink.faults l.out;

@@ -1,8 +1,0 @@
--- The part that a place stands for.
-use Rattle.lh_types.specs.Kind.{type_of_kind}
-use Rattle.lh_types.specs.Parts.{Part}
-use Rattle.lh_types.specs.declared.part.Place.{Place}
-
--- the part, by its lowest bit and one level of its type
-abbrev pub part_of_place : Place → Part
-part_of_place p = record { lo = p.lo; of = type_of_kind p.of }
