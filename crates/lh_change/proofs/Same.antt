@@ -8,7 +8,7 @@ use Rattle.std.proofs.lemmas.List.Folds.{list_any-append}
 use Rattle.std.proofs.lemmas.Option.{unwrap_or-slice_get}
 use Rattle.lh_types.specs.Types.{IsData, bit_count}
 use Rattle.lh_types.specs.Parts.{bits_within}
-use Rattle.lh_types.specs.Writes.{written}
+use Rattle.lh_bits.specs.Writes.{written}
 use Rattle.lh_types.specs.declared.part.Range.{Range}
 use Rattle.lh_unit.specs.World.{bit_at, bits_from, bit_numbers, bit_differs}
 use Rattle.lh_index.specs.Rising.{IsOneOf}
@@ -125,14 +125,18 @@ or_true true = refl
 or_true false = refl
 
 -- one of the parts is a row that differs
-pub part_among : (x y : List Bool) (parts : List Range) (i : ℕ) (p r : Range) → i < length parts → p ≡ get_or parts i p → p.lo ≡ r.lo → p.len ≡ r.len → list_any (bit_differs x y) (bits_from r.lo r.len) ≡ true →
+pub part_among : (x y : List Bool) (parts : List Range) (i : ℕ) (p r : Range) → i < length parts → p ≡ get_or parts i p → p.lo ≡ r.lo →
+    p.len ≡ r.len → list_any (bit_differs x y) (bits_from r.lo r.len) ≡ true →
     list_any (bit_differs x y) (bit_numbers parts) ≡ true
 part_among x y [] i p r l e lo len d = absurd (omega arith)
 part_among x y (q ∷ parts) zero p r l e lo len d =
     let same : bits_from r.lo r.len ≡ bits_from q.lo q.len = ap (λ (m : ℕ). bits_from m r.len) (sym lo) ∙ ap (λ (m : ℕ). bits_from p.lo m) (sym len) ∙ ap (λ (z : Range). bits_from z.lo z.len) e in
-    list_any-append (bit_differs x y) (bits_from q.lo q.len) (bit_numbers parts) ∙ ap (λ (b : Bool). b || list_any (bit_differs x y) (bit_numbers parts)) (ap (λ (bs : List ℕ). list_any (bit_differs x y) bs) (sym same) ∙ d)
+    list_any-append (bit_differs x y) (bits_from q.lo q.len) (bit_numbers parts) ∙
+    ap (λ (b : Bool). b || list_any (bit_differs x y) (bit_numbers parts)) (ap (λ (bs : List ℕ). list_any (bit_differs x y) bs) (sym same) ∙ d)
 part_among x y (q ∷ parts) (suc i) p r l e lo len d =
-    list_any-append (bit_differs x y) (bits_from q.lo q.len) (bit_numbers parts) ∙ ap (λ (b : Bool). list_any (bit_differs x y) (bits_from q.lo q.len) || b) (part_among x y parts i p r (omega arith) e lo len d) ∙ or_true (list_any (bit_differs x y) (bits_from q.lo q.len))
+    list_any-append (bit_differs x y) (bits_from q.lo q.len) (bit_numbers parts) ∙
+    ap (λ (b : Bool). list_any (bit_differs x y) (bits_from q.lo q.len) || b) (part_among x y parts i p r (omega arith) e lo len d) ∙
+    or_true (list_any (bit_differs x y) (bits_from q.lo q.len))
 
 -- a signal stays exactly where its row does
 pub stays_by_row : (hi : ℕ) (ss : List Signal) (k : ℕ) (s : Signal) (x y : List Bool) → FillFrom 0 ss hi → slice_get ss k ≡ Some s → length x ≡ hi → length y ≡ hi →

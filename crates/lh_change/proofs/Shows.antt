@@ -6,12 +6,11 @@ use Rattle.std.proofs.lemmas.Bool.Decides.{nat_tests}
 use Rattle.std.proofs.lemmas.List.{drop_more, drop_all, map-append, append-nil, length-drop, length-take-le, take_all}
 use Rattle.lh_types.specs.Types.{IsData, bit_count}
 use Rattle.lh_types.specs.Values.{Datum}
-use Rattle.lh_types.specs.Bits.{value_bits, value_from_bits}
-use Rattle.lh_types.specs.Flags.{differing}
+use Rattle.lh_types.specs.Bits.{value_bits, value_from_bits, differing}
 use Rattle.lh_types.specs.Parts.{bits_within}
 use Rattle.lh_types.specs.Pictures.{Showing, showing_of}
 use Rattle.lh_types.specs.declared.frame.Change.{Change}
-use Rattle.lh_types.proofs.ValueBits.{value_bits-value_from_bits, value_from_bits-take}
+use Rattle.lh_bits.proofs.ValueBits.{value_bits-value_from_bits, value_from_bits-take}
 use Rattle.lh_unit.specs.Trace.{signal_value}
 use Rattle.lh_unit.specs.Frames.{toggled, all_change, change_if, changed_from, signal_values}
 use Rattle.lh_index.specs.Rising.{IsOneOf, AreAbove, IsRising}

@@ -4,9 +4,9 @@ use Rattle.std.specs.Prelude.{◌↔◌}
 use Rattle.std.proofs.lemmas.Bool.{cases_lt}
 use Rattle.std.proofs.lemmas.List.{take_more, take_all, append-nil}
 use Rattle.lh_types.specs.declared.part.Range.{Range}
-use Rattle.lh_types.specs.declared.bit_run.BitRun.{BitRun}
-use Rattle.lh_types.specs.Writes.{numbered, bits_of, BitsWithin}
-use Rattle.lh_types.proofs.Writing.{bits-push, row-within}
+use Rattle.lh_bits.specs.declared.bit_run.BitRun.{BitRun}
+use Rattle.lh_bits.specs.Writes.{numbered, bits_of, BitsWithin}
+use Rattle.lh_bits.proofs.Writing.{bits-push, row-within}
 use Rattle.lh_unit.specs.World.{bits_from, bit_numbers}
 use Rattle.lh_index.specs.Rising.{IsOneOf, HasOneMore}
 use Rattle.lh_design.specs.declared.Signal.{Signal}

@@ -6,7 +6,7 @@ use Rattle.std.proofs.lemmas.List.{take_more, take_all, length-append, length-ta
 use Rattle.std.proofs.lemmas.Option.{unwrap_or-slice_get}
 use Rattle.lh_types.specs.Types.{IsData, bit_count}
 use Rattle.lh_types.specs.Parts.{bits_within, bits_with}
-use Rattle.lh_types.proofs.PackedParts.{length-bits_with, length-bits_within}
+use Rattle.lh_bits.proofs.PackedParts.{length-bits_with, length-bits_within}
 use Rattle.lh_unit.specs.World.{bit_at}
 use Rattle.lh_index.specs.Rising.{IsOneOf}
 use Rattle.lh_design.specs.declared.Signal.{Signal}

@@ -2,7 +2,7 @@
 use Rattle.std.specs.Prelude.{ℕ, ◌≡◌, Bool, false, List, length}
 use Rattle.std.specs.List.{list_any}
 use Rattle.lh_types.specs.declared.part.Range.{Range}
-use Rattle.lh_types.specs.Writes.{written}
+use Rattle.lh_bits.specs.Writes.{written}
 use Rattle.lh_unit.specs.World.{bit_at, bit_numbers, bit_differs}
 use Rattle.lh_index.specs.Rising.{IsOneOf}
 use Rattle.lh_design.specs.declared.Signal.{Signal}

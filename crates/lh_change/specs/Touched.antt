@@ -47,6 +47,10 @@ bits_named writes = map (λ (w : ℕ × Bool). w.0) writes
 abbrev pub StaysSame : List Signal → (old now : List Bool) → (signal : ℕ) → Type 0
 StaysSame signals old now k = (b : ℕ) → HasBit signals k b → bit_at old b ≡ bit_at now b
 
+-- the part is all that the signal of this number has
+abbrev pub IsPartOf : List Signal → (signal : ℕ) → Range → Type 0
+IsPartOf signals k r = IsSomeAnd (slice_get signals k) (λ (s : Signal). (r.lo ≡ s.lo) × (r.len ≡ bit_count s.ty))
+
 -- some bit of the part differs
 abbrev pub PartDiffers : (old now : List Bool) → Range → Type 0
 PartDiffers old now r = list_any (bit_differs old now) (bits_from r.lo r.len) ≡ true

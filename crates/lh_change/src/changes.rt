@@ -9,11 +9,11 @@ ghost use Rattle.lh_design.specs.Filling.{SignalsFill};
 ghost use Rattle.lh_change.specs.Touched.{AreSignals, OthersStay};
 ghost use Rattle.lh_change.specs.Shown.{shown};
 
+use lh_bits::bits::Bits;
+use lh_bits::layout::from_bits;
 use lh_design::{Design, Signal};
 use lh_index::rising::Rising;
-use lh_types::bits::Bits;
 use lh_types::frame::{Change, ChangeList};
-use lh_types::layout::from_bits;
 use lh_types::ty::{NoMemory, bits};
 use std::alloc::Global;
 

@@ -1,15 +1,15 @@
 //! Which signals have which bits.
 ghost use Rattle.std.specs.Prelude.{◌≡◌, ◌+◌, ◌<◌, ◌≤◌, length, IfOk};
-ghost use Rattle.lh_types.specs.Writes.{BitsWithin};
+ghost use Rattle.lh_bits.specs.Writes.{BitsWithin};
 ghost use Rattle.lh_unit.specs.World.{bits_from, bit_numbers};
 ghost use Rattle.lh_design.specs.Filling.{SignalsFill};
 ghost use Rattle.lh_change.specs.Touched.{HasBit, AreTouched, TouchesMore, AreWithin, bits_named};
 
+use lh_bits::writes::BitWrites;
 use lh_design::Design;
 use lh_index::rising::Rising;
 use lh_types::part::Range;
 use lh_types::ty::{NoMemory, bits};
-use lh_types::writes::BitWrites;
 use std::alloc::Global;
 
 /// The number of the signal that has a bit.

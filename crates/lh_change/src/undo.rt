@@ -4,9 +4,9 @@ ghost use Rattle.lh_index.specs.Rising.{IsOneOf};
 ghost use Rattle.lh_design.specs.Filling.{SignalsFill};
 ghost use Rattle.lh_change.specs.Touched.{AreSignals, StaysSame, OthersStay};
 
+use lh_bits::bits::Bits;
 use lh_design::Design;
 use lh_index::rising::Rising;
-use lh_types::bits::Bits;
 use lh_types::ty::bits;
 
 /// The bits of the touched signals become those of `from`, and all others stay: where no other signal differs, the bits are then

@@ -3,8 +3,8 @@
 
 ghost use Rattle.std.specs.Prelude.{◌≡◌};
 
+use lh_bits::bits::Bits;
 use lh_eval::instance::Instance;
-use lh_types::bits::Bits;
 use lh_types::ty::Ty;
 use lh_unit::name::Name;
 

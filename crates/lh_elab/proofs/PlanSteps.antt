@@ -8,7 +8,7 @@ use Rattle.lh_types.specs.Values.{Datum}
 use Rattle.lh_types.specs.Fits.{FitsType}
 use Rattle.lh_types.specs.Bits.{value_bits}
 use Rattle.lh_types.specs.declared.part.Range.{Range}
-use Rattle.lh_types.proofs.LawProofs.{bits_are_counted}
+use Rattle.lh_bits.proofs.LawProofs.{bits_are_counted}
 use Rattle.lh_types.proofs.Limits.{bit_count-le}
 use Rattle.lh_unit.specs.Contents.{ArgText, InstText, sig_text, LineText, UnitText}
 use Rattle.lh_unit.specs.Held.{Held, datum_held, part_held, Env, nothing_held, with_args}

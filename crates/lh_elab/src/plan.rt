@@ -23,10 +23,10 @@ ghost use Rattle.lh_elab.specs.declared.plan.PlanChild.{PlanChild as Child};
 
 use crate::graph::width;
 use crate::statics::{Base, Statics};
+use lh_bits::bits::Bits;
+use lh_bits::layout::to_bits;
 use lh_eval::held::Slots;
 use lh_eval::operands::{datum_in, part_in};
-use lh_types::bits::Bits;
-use lh_types::layout::to_bits;
 use lh_types::ty::{NoMemory, Ty};
 use lh_unit::inst::{BlockId, Inst, InstId, Typed, UnitId, UnitKind, ValueId};
 use lh_unit::module::Module;

@@ -11,7 +11,7 @@ use Rattle.lh_types.specs.declared.part.Step.{Step}
 use Rattle.lh_types.specs.declared.part.Step.TheVariants.{Field, Slice}
 use Rattle.lh_types.proofs.Limits.{one_le-bit_count}
 use Rattle.lh_types.proofs.PartLemmas.{part_if-holds, part_beyond-holds, slice_facts}
-use Rattle.lh_types.proofs.LawProofs.{parts_are_within}
+use Rattle.lh_bits.proofs.LawProofs.{parts_are_within}
 use Rattle.lh_unit.proofs.Lists.{some_inj}
 use Rattle.lh_term.specs.declared.part.Part.{Part}
 use Rattle.lh_emission.specs.Ways.{part_by_step, part_by}

@@ -15,7 +15,7 @@ use Rattle.lh_types.specs.declared.op.Op.TheVariants as op
 use Rattle.lh_types.specs.declared.part.Range.{Range}
 use Rattle.lh_types.specs.declared.part.Step.{Step}
 use Rattle.lh_types.specs.declared.part.Step.TheVariants.{Field, Slice}
-use Rattle.lh_types.proofs.LawProofs.{value_gives_bits}
+use Rattle.lh_bits.proofs.LawProofs.{value_gives_bits}
 use Rattle.lh_types.proofs.PartLemmas.{step_part-within}
 use Rattle.lh_ops.proofs.TypeLemmas.{results_fit_lem}
 use Rattle.lh_unit.specs.Contents.{OperandText, pure_text, UnitText, same_name}

@@ -8,7 +8,7 @@ use Rattle.lh_types.specs.Parts.{Part, part_of, part_range, range_of}
 use Rattle.lh_types.specs.declared.op.Op.{Op}
 use Rattle.lh_types.specs.declared.part.Step.{Step}
 use Rattle.lh_types.specs.declared.part.Range.{Range}
-use Rattle.lh_types.proofs.LawProofs.{bits_give_value, value_gives_bits, parts_are_within}
+use Rattle.lh_bits.proofs.LawProofs.{bits_give_value, value_gives_bits, parts_are_within}
 use Rattle.lh_unit.specs.Contents.{OperandText, UnitText}
 use Rattle.lh_types.specs.Values.{Datum}
 use Rattle.lh_types.specs.Apply.{apply}

@@ -15,7 +15,7 @@ use Rattle.lh_types.specs.declared.op.OpClass.{OpClass}
 use Rattle.lh_types.specs.declared.op.OpClass.TheVariants as class
 use Rattle.lh_types.specs.declared.part.Step.{Step}
 use Rattle.lh_types.specs.declared.part.Step.TheVariants.{Field, Slice}
-use Rattle.lh_types.proofs.LawProofs.{parts_are_within}
+use Rattle.lh_bits.proofs.LawProofs.{parts_are_within}
 use Rattle.lh_unit.specs.Contents.{OperandText, pure_text, UnitText}
 use Rattle.lh_unit.specs.Typing.{first_type, with_type, operand_types, array_made, tuple_made, class_type}
 use Rattle.lh_unit.specs.TypingRows.{class_row, shifts, selects, takes_part, puts_part, part_type}

@@ -12,7 +12,7 @@ use Rattle.lh_types.specs.Values.{Datum}
 use Rattle.lh_types.specs.Bits.{value_bits}
 use Rattle.lh_types.specs.Wish.{DueBit, due_bit_cmp, Wish, with_bit, with_bits, with_drive}
 use Rattle.lh_types.specs.declared.part.Range.{Range}
-use Rattle.lh_types.proofs.LawProofs.{bits_are_counted}
+use Rattle.lh_bits.proofs.LawProofs.{bits_are_counted}
 use Rattle.lh_unit.specs.Contents.{OperandText, drv_text, UnitText}
 use Rattle.lh_unit.specs.Effects.{condition_at, drive_due, drive_when, driven}
 use Rattle.lh_unit.specs.Held.{datum_held, Env, datum_at, delay_at, part_at}

@@ -15,9 +15,9 @@ ghost use Rattle.lh_eval.specs.Fitting.{ProbeFits, DriveFits, Drives};
 
 use crate::held::{Held, Slots};
 use crate::operands::{condition_in, datum_in, delay_in, part_in};
+use lh_bits::bits::Bits;
+use lh_bits::layout::{from_bits, to_bits};
 use lh_time::{Delay, Instant, due};
-use lh_types::bits::Bits;
-use lh_types::layout::{from_bits, to_bits};
 use lh_types::part::Range;
 use lh_types::ty::{NoMemory, Ty};
 use lh_types::val::Val;

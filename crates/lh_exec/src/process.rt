@@ -14,14 +14,14 @@ ghost use Rattle.lh_exec.specs.Sound.{Finishes, EndHolds, stood};
 use crate::begin::begin;
 use crate::machine::{Flow, Machine, UnitFrame};
 use crate::state::{Parked, Pause, ProcState, Stand};
+use lh_bits::bits::Bits;
+use lh_bits::writes::DueWrites;
 use lh_eval::instance::Instance;
 use lh_time::Instant;
-use lh_types::bits::Bits;
 use lh_types::list::BoolList;
 use lh_types::part::Range;
 use lh_types::tally::Tally;
 use lh_types::ty::NoMemory;
-use lh_types::writes::DueWrites;
 use lh_unit::inst::{UnitId, UnitKind};
 use lh_unit::module::Module;
 use std::alloc::Global;
@@ -48,6 +48,16 @@ pub enum ExecFault {
     /// Memory ran out.
     #[error("out of memory")]
     OutOfMemory,
+}
+
+impl From<NoMemory> for ExecFault {
+    ghost use Rattle.lh_exec.specs.declared.process.ExecFault.TheVariants.{OutOfMemory};
+
+    ghost from_gives = { λ _ e. e ≡ OutOfMemory };
+
+    fn from(_: NoMemory) -> ExecFault {
+        ExecFault::OutOfMemory
+    }
 }
 
 /// One activation of a process of a well-formed module at an instant, where the signals have these bits: from its entry block
@@ -78,10 +88,8 @@ pub fn activate<T: Tally>(
 {
     tally.tick();
     let args = i.args.as_slice();
-    match activate_within(alloc, m, now, at, i.unit, args, &s.stand, MAX_INSTRUCTIONS) {
-        Ok(given) => answered(given),
-        Err(_) => Err(ExecFault::OutOfMemory),
-    }
+    let given = activate_within(alloc, m, now, at, i.unit, args, &s.stand, MAX_INSTRUCTIONS)?;
+    answered(given)
 }
 
 /// The answer where memory did not run out.

@@ -10,8 +10,8 @@ ghost use Rattle.lh_exec.specs.Standing.{MachineIs, InstLeads, Does, scene_of};
 ghost use Rattle.lh_exec.specs.Sound.{LineRight, MachineFits, PointFits, Finishes};
 
 use crate::machine::{Flow, Machine};
+use lh_bits::bits::Bits;
 use lh_time::Instant;
-use lh_types::bits::Bits;
 use lh_types::ty::NoMemory;
 use lh_unit::inst::{Inst, ValueId};
 use lh_unit::module::Module;

@@ -15,12 +15,12 @@ ghost use Rattle.lh_eval.specs.Fitting.{OperandsFit, ProbeFits, DriveFits};
 ghost use Rattle.lh_exec.specs.Standing.{Does};
 
 use crate::machine::{Flow, Machine};
+use lh_bits::bits::Bits;
 use lh_eval::effects::{drive, probe};
 use lh_eval::held::{Held, Slots};
 use lh_eval::operands::{cell_in, datum_in};
 use lh_eval::operate::operate;
 use lh_time::Instant;
-use lh_types::bits::Bits;
 use lh_types::op::Op;
 use lh_types::ty::NoMemory;
 use lh_types::val::Val;

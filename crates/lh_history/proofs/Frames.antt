@@ -2,9 +2,8 @@
 use Rattle.std.proofs.Common.{◌≡◌, ℕ, ◌+◌, List, [], ◌∷◌, ◌++◌, map, Bool, refl, ap, sym, ◌∙◌, append_assoc}
 use Rattle.std.proofs.lemmas.List.{append-nil}
 use Rattle.lh_time.specs.declared.Instant.{Instant}
-use Rattle.lh_types.specs.Wish.{Wish}
+use Rattle.lh_types.specs.Wish.{Wish, bits_due, writes_wish}
 use Rattle.lh_types.specs.History.{claims_of, claims, entries_of, kept, made_from}
-use Rattle.lh_types.specs.Writes.{bits_due, writes_wish}
 use Rattle.lh_history.specs.Frames.{due_entries, frame_entries, WishesSplit, HistoriesJoin, FramesSplit}
 
 claims_of-append : (made : Instant) (i : ℕ) (v w : Wish) → claims_of made i (v ++ w) ≡ claims_of made i v ++ claims_of made i w

@@ -2,7 +2,7 @@
 use Rattle.std.specs.Prelude.{◌≡◌, ℕ, ◌+◌, List, [], ◌∷◌, ◌++◌, map, Bool}
 use Rattle.lh_time.specs.declared.Instant.{Instant}
 use Rattle.lh_types.specs.History.{Made, Claim, claims_of, claims, entries_of, made_from}
-use Rattle.lh_types.specs.Writes.{writes_wish}
+use Rattle.lh_types.specs.Wish.{writes_wish}
 
 -- the entries of what one instance wishes, one due instant after the other
 abbrev pub due_entries : (made : Instant) → (instance : ℕ) → List (Instant × List (ℕ × Bool)) → List Claim

@@ -61,7 +61,8 @@ are-named a width (i ∷ is) o h = (is-named a width i o h.0, are-named a width 
 
 -- ---- who is woken
 
-awakes-same : (a : Arena) (width : ℕ) (i : Instance) (s : InstState) (p : State) (m : Moment) → StateFits a width i s → StateIs a i s p → woken m (unit_text_at a i.unit.0) (instance_text a i) p ≡ awakes a m i s
+awakes-same : (a : Arena) (width : ℕ) (i : Instance) (s : InstState) (p : State) (m : Moment) → StateFits a width i s → StateIs a i s p →
+    woken m (unit_text_at a i.unit.0) (instance_text a i) p ≡ awakes a m i s
 awakes-same a width i s p m f k =
     ap (λ rs. wakes m rs (wake_of p)) (sym (senses-alike a width i s p f k)) ∙ ap (wakes m (parts_sensed s (probed_by a i))) (sym (wakes-alike a i s p k))
 
@@ -104,7 +105,8 @@ numbers-tasks k a m (i ∷ is) (p ∷ ps) n =
     let rest = woken_from (k + 1) (contents a) m (map (instance_text a) is) ps in
     ap (λ (v : UnitText). if woken m v x p then k ∷ rest else rest) n.0 ∙ ap (λ (ks : List ℕ). if woken m u x p then k ∷ ks else ks) (numbers-tasks (k + 1) a m is ps n.1)
 
-awake-tasks : (k : ℕ) (a : Arena) (width : ℕ) (m : Moment) (is : List Instance) (ss : List InstState) (ps : List State) → StatesFit a width is ss → StatesStand a is ss ps → awake_from k a m is ss ≡ numbers_of k (tasks a m is ps)
+awake-tasks : (k : ℕ) (a : Arena) (width : ℕ) (m : Moment) (is : List Instance) (ss : List InstState) (ps : List State) → StatesFit a width is ss →
+    StatesStand a is ss ps → awake_from k a m is ss ≡ numbers_of k (tasks a m is ps)
 awake-tasks k a width m [] ss ps f h = refl
 awake-tasks k a width m (i ∷ is) [] ps f h = absurd f
 awake-tasks k a width m (i ∷ is) (s ∷ ss) [] f h = absurd h
@@ -113,7 +115,8 @@ awake-tasks k a width m (i ∷ is) (s ∷ ss) (p ∷ ps) f h =
     ∙ ap (λ (b : Bool). if b then k ∷ numbers_of (k + 1) (tasks a m is ps) else numbers_of (k + 1) (tasks a m is ps)) (sym (awakes-same a width i s p m f.0 h.0))
 
 -- the instances that wake by what is kept of them are those that are woken
-pub woken_same : (a : Arena) (width : ℕ) (is : List Instance) (ss : List InstState) (ps : List State) (m : Moment) → InstancesAreKnown a width is ss ps → woken_from 0 (contents a) m (map (instance_text a) is) ps ≡ awake_from 0 a m is ss
+pub woken_same : (a : Arena) (width : ℕ) (is : List Instance) (ss : List InstState) (ps : List State) (m : Moment) →
+    InstancesAreKnown a width is ss ps → woken_from 0 (contents a) m (map (instance_text a) is) ps ≡ awake_from 0 a m is ss
 woken_same a width is ss ps m h = numbers-tasks 0 a m is ps (are-named a width is h.arena h.instances) ∙ sym (awake-tasks 0 a width m is ss ps h.fit h.stand)
 
 -- the first instance of a list did this: it rests, it ran away and ends the list, or it did what the definition has it do
@@ -205,7 +208,8 @@ outcomes-of a [] k (x ∷ xs) r h = absurd h
 outcomes-of a (y ∷ ts) k xs r h = by y.is_woken xs r h (outcomes-of a ts (k + 1))
   where
     by : (b : Bool) (xs : List Activation) (r : Option ℕ) → DidFirst a b k y.instance y.does xs r (Did a ts (k + 1)) →
-        ((xs : List Activation) (r : Option ℕ) → Did a ts (k + 1) xs r → outcomes_ran xs ≡ outcomes_of (k + 1) (map task_act ts)) → outcomes_ran xs ≡ outcomes_of k (if_woken b y.does y.state ∷ map task_act ts)
+        ((xs : List Activation) (r : Option ℕ) → Did a ts (k + 1) xs r → outcomes_ran xs ≡ outcomes_of (k + 1) (map task_act ts)) →
+        outcomes_ran xs ≡ outcomes_of k (if_woken b y.does y.state ∷ map task_act ts)
     by false xs r h ih = ih xs r h
     by true [] None h ih = absurd h
     by true [] (Some j) h ih = sym (ap (λ b. if b then [] else outcomes_at k y.does.outcomes ++ outcomes_of (k + 1) (map task_act ts)) h.1)
@@ -225,13 +229,15 @@ record AreLeft (a : Arena) (is : List Instance) (pre : List InstState) (after : 
   same : after ≡ pre ++ left
   stand : StatesStand a is left ps
 
-left-more : (a : Arena) (i : Instance) (is : List Instance) (pre : List InstState) (s : InstState) (after : List InstState) (p : State) (ps : List State) → StateIs a i s p → AreLeft a is (pre ++ s ∷ []) after ps → AreLeft a (i ∷ is) pre after (p ∷ ps)
+left-more : (a : Arena) (i : Instance) (is : List Instance) (pre : List InstState) (s : InstState) (after : List InstState) (p : State)
+    (ps : List State) → StateIs a i s p → AreLeft a is (pre ++ s ∷ []) after ps → AreLeft a (i ∷ is) pre after (p ∷ ps)
 left-more a i is pre s after p ps k h = record { left = s ∷ h.left; same = h.same ∙ append_assoc pre (s ∷ []) h.left; stand = (k, h.stand) }
 
 set-here : (pre : List InstState) (s v : InstState) (ss : List InstState) (k n : ℕ) → length pre ≡ k → n ≡ k → slice_set (pre ++ s ∷ ss) n v ≡ (pre ++ v ∷ []) ++ ss
 set-here pre s v ss k n e f = ap (λ m. slice_set (pre ++ s ∷ ss) m v) (f ∙ sym e) ∙ set-append_seam pre s ss v ∙ sym (append_assoc pre (v ∷ []) ss)
 
-left-after : (a : Arena) (ts : List Task) (k : ℕ) (xs : List Activation) (pre ss : List InstState) → length pre ≡ k → StatesStand a (map (λ (x : Task). x.instance) ts) ss (map (λ (x : Task). x.state) ts) →
+left-after : (a : Arena) (ts : List Task) (k : ℕ) (xs : List Activation) (pre ss : List InstState) → length pre ≡ k →
+    StatesStand a (map (λ (x : Task). x.instance) ts) ss (map (λ (x : Task). x.state) ts) →
     Did a ts k xs None → AreLeft a (map (λ (x : Task). x.instance) ts) pre (states_after (pre ++ ss) xs) (afters (map task_act ts))
 left-after a [] k [] pre ss l q h = record { left = ss; same = refl; stand = q }
 left-after a [] k (x ∷ xs) pre ss l q h = absurd h
@@ -239,13 +245,16 @@ left-after a (y ∷ ts) k xs pre [] l q h = absurd q
 left-after a (y ∷ ts) k xs pre (s ∷ ss) l q h = by y.is_woken xs h (λ ys v. left-after a ts (k + 1) ys (pre ++ v ∷ []) ss (one_more pre v k l) q.1)
   where
     by : (b : Bool) (xs : List Activation) → DidFirst a b k y.instance y.does xs None (Did a ts (k + 1)) →
-        ((ys : List Activation) (v : InstState) → Did a ts (k + 1) ys None → AreLeft a (map (λ (x : Task). x.instance) ts) (pre ++ v ∷ []) (states_after ((pre ++ v ∷ []) ++ ss) ys) (afters (map task_act ts))) →
+        ((ys : List Activation) (v : InstState) → Did a ts (k + 1) ys None →
+        AreLeft a (map (λ (x : Task). x.instance) ts) (pre ++ v ∷ []) (states_after ((pre ++ v ∷ []) ++ ss) ys) (afters (map task_act ts))) →
         AreLeft a (y.instance ∷ map (λ (x : Task). x.instance) ts) pre (states_after (pre ++ s ∷ ss) xs) ((if_woken b y.does y.state).after ∷ afters (map task_act ts))
     by false xs h ih = left-more a y.instance (map (λ (x : Task). x.instance) ts) pre s (states_after (pre ++ s ∷ ss) xs) y.state (afters (map task_act ts)) q.0
         (subst (λ (all : List InstState). AreLeft a (map (λ (x : Task). x.instance) ts) (pre ++ s ∷ []) (states_after all xs) (afters (map task_act ts))) (append_assoc pre (s ∷ []) ss) (ih xs s h))
     by true [] h ih = absurd h
-    by true (x ∷ xs) h ih = left-more a y.instance (map (λ (x : Task). x.instance) ts) pre x.act.next (states_after (slice_set (pre ++ s ∷ ss) x.instance x.act.next) xs) y.does.after (afters (map task_act ts)) h.1.next
-        (subst (λ (all : List InstState). AreLeft a (map (λ (x : Task). x.instance) ts) (pre ++ x.act.next ∷ []) (states_after all xs) (afters (map task_act ts))) (sym (set-here pre s x.act.next ss k x.instance l h.0)) (ih xs x.act.next h.2))
+    by true (x ∷ xs) h ih = left-more a y.instance (map (λ (x : Task). x.instance) ts) pre x.act.next
+        (states_after (slice_set (pre ++ s ∷ ss) x.instance x.act.next) xs) y.does.after (afters (map task_act ts)) h.1.next
+        (subst (λ (all : List InstState). AreLeft a (map (λ (x : Task). x.instance) ts) (pre ++ x.act.next ∷ []) (states_after all xs)
+        (afters (map task_act ts))) (sym (set-here pre s x.act.next ss k x.instance l h.0)) (ih xs x.act.next h.2))
 
 claims-kept : (t : Instant) (k : ℕ) (w : Wish) → claims (kept t k w) ≡ claims_of t k w
 claims-kept t k [] = refl
@@ -261,7 +270,8 @@ claims-of a t [] k (x ∷ xs) h = absurd h
 claims-of a t (y ∷ ts) k xs h = by y.is_woken xs h (claims-of a t ts (k + 1))
   where
     by : (b : Bool) (xs : List Activation) → DidFirst a b k y.instance y.does xs None (Did a ts (k + 1)) →
-        ((xs : List Activation) → Did a ts (k + 1) xs None → claims (made_by t (k + 1) (map task_act ts)) ≡ entries_ran t xs) → claims (made_by t k (if_woken b y.does y.state ∷ map task_act ts)) ≡ entries_ran t xs
+        ((xs : List Activation) → Did a ts (k + 1) xs None → claims (made_by t (k + 1) (map task_act ts)) ≡ entries_ran t xs) →
+        claims (made_by t k (if_woken b y.does y.state ∷ map task_act ts)) ≡ entries_ran t xs
     by false xs h ih = ih xs h
     by true [] h ih = absurd h
     by true (x ∷ xs) h ih =
@@ -326,18 +336,21 @@ module _ (a : Arena) (width : ℕ) (is : List Instance) (ss : List InstState) (p
 
 -- ---- the numbers of what ran
 
-pub ran_instances : (a : Arena) (now : List Bool) (t : Instant) (is : List Instance) (ps : List State) (ks : List ℕ) (xs : List Activation) → AllRan a now t is ps ks xs None → map (λ (x : Activation). x.instance) xs ≡ ks
+pub ran_instances : (a : Arena) (now : List Bool) (t : Instant) (is : List Instance) (ps : List State) (ks : List ℕ) (xs : List Activation) →
+    AllRan a now t is ps ks xs None → map (λ (x : Activation). x.instance) xs ≡ ks
 ran_instances a now t is ps [] [] h = refl
 ran_instances a now t is ps [] (x ∷ xs) h = absurd h
 ran_instances a now t is ps (k ∷ ks) [] h = absurd h
 ran_instances a now t is ps (k ∷ ks) (x ∷ xs) h = ap (λ n. n ∷ map (λ (x : Activation). x.instance) xs) h.0 ∙ ap (λ ns. k ∷ ns) (ran_instances a now t is ps ks xs h.2)
 
-ran-above : (a : Arena) (now : List Bool) (t : Instant) (is : List Instance) (ps : List State) (k : ℕ) (ks : List ℕ) (xs : List Activation) (r : Option ℕ) → AreAbove k ks → AllRan a now t is ps ks xs r → AreAbove k (map (λ (x : Activation). x.instance) xs)
+ran-above : (a : Arena) (now : List Bool) (t : Instant) (is : List Instance) (ps : List State) (k : ℕ) (ks : List ℕ) (xs : List Activation)
+    (r : Option ℕ) → AreAbove k ks → AllRan a now t is ps ks xs r → AreAbove k (map (λ (x : Activation). x.instance) xs)
 ran-above a now t is ps k ks [] r u h = tt
 ran-above a now t is ps k [] (x ∷ xs) r u h = absurd h
 ran-above a now t is ps k (j ∷ ks) (x ∷ xs) r u h = (subst (λ n. k < n) (sym h.0) u.0, ran-above a now t is ps k ks xs r u.1 h.2)
 
-pub ran_rise : (a : Arena) (now : List Bool) (t : Instant) (is : List Instance) (ps : List State) (ks : List ℕ) (xs : List Activation) (r : Option ℕ) → IsRising ks → AllRan a now t is ps ks xs r → IsRising (map (λ (x : Activation). x.instance) xs)
+pub ran_rise : (a : Arena) (now : List Bool) (t : Instant) (is : List Instance) (ps : List State) (ks : List ℕ) (xs : List Activation)
+    (r : Option ℕ) → IsRising ks → AllRan a now t is ps ks xs r → IsRising (map (λ (x : Activation). x.instance) xs)
 ran_rise a now t is ps ks [] r u h = tt
 ran_rise a now t is ps [] (x ∷ xs) r u h = absurd h
 ran_rise a now t is ps (k ∷ ks) (x ∷ xs) r u h =

@@ -96,13 +96,15 @@ later_if t (Some u) e l = not_at_later (instant_cmp t u) e (l u refl)
 sleeps_later : (m : Moment) (sensed : List Range) (wake : Option Instant) → wakes m sensed wake ≡ false → ((u : Instant) → wake ≡ Some u → instant_le m.at u ≡ true) → IsLaterIfAny m.at wake
 sleeps_later m sensed wake = by m.before
   where
-    by : (before : Option (List Bool)) → wakes (record { before = before; now = m.now; at = m.at }) sensed wake ≡ false → ((u : Instant) → wake ≡ Some u → instant_le m.at u ≡ true) → IsLaterIfAny m.at wake
+    by : (before : Option (List Bool)) → wakes (record { before = before; now = m.now; at = m.at }) sensed wake ≡ false →
+        ((u : Instant) → wake ≡ Some u → instant_le m.at u ≡ true) → IsLaterIfAny m.at wake
     by None e l = absurd cc
     by (Some old) e l = later_if m.at wake (right_false (list_any (bit_differs old m.now) (bit_numbers sensed)) (option_map_or (is_at m.at) wake false) e) l
 
 -- from number n on, each is awake or wakes later
 awake_or_later : (n : ℕ) (a : Arena) (width : ℕ) (m : Moment) (is : List Instance) (ss : List InstState) → StatesFit a width is ss →
-    ((u : Instant) (k : ℕ) → WakesItself ss u k → instant_le m.at u ≡ true) → (k : ℕ) (s : InstState) → slice_get ss k ≡ Some s → IsOneOf (n + k) (awake_from n a m is ss) ⊎ IsLaterIfAny m.at (wake_kept s)
+    ((u : Instant) (k : ℕ) → WakesItself ss u k → instant_le m.at u ≡ true) → (k : ℕ) (s : InstState) → slice_get ss k ≡ Some s →
+    IsOneOf (n + k) (awake_from n a m is ss) ⊎ IsLaterIfAny m.at (wake_kept s)
 awake_or_later n a width m is [] f l k s e = absurd (none_some s e)
 awake_or_later n a width m [] (x ∷ xs) f l k s e = absurd f
 awake_or_later n a width m (i ∷ is) (x ∷ xs) f l zero s e = at (awakes a m i x) refl
@@ -121,13 +123,16 @@ awake_or_later n a width m (i ∷ is) (x ∷ xs) f l (suc k) s e =
     same : n + 1 + k ≡ n + suc k
     same = omega arith
 
-    at : (b : Bool) → IsOneOf (n + suc k) (awake_from (n + 1) a m is xs) ⊎ IsLaterIfAny m.at (wake_kept s) → IsOneOf (n + suc k) (if b then n ∷ awake_from (n + 1) a m is xs else awake_from (n + 1) a m is xs) ⊎ IsLaterIfAny m.at (wake_kept s)
+    at : (b : Bool) → IsOneOf (n + suc k) (awake_from (n + 1) a m is xs) ⊎ IsLaterIfAny m.at (wake_kept s) →
+        IsOneOf (n + suc k) (if b then n ∷ awake_from (n + 1) a m is xs else awake_from (n + 1) a m is xs) ⊎ IsLaterIfAny m.at (wake_kept s)
     at true h = ⊎_elim (λ p. inl (inr p)) (λ p. inr p) h
     at false h = h
 
 -- after a frame in which exactly the woken did something, all wake later
-pub after_wakes : (a : Arena) (width : ℕ) (m : Moment) (is : List Instance) (ss : List InstState) (xs : List Activation) → StatesFit a width is ss → ((u : Instant) (k : ℕ) → WakesItself ss u k → instant_le m.at u ≡ true) →
+pub after_wakes : (a : Arena) (width : ℕ) (m : Moment) (is : List Instance) (ss : List InstState) (xs : List Activation) → StatesFit a width is ss →
+    ((u : Instant) (k : ℕ) → WakesItself ss u k → instant_le m.at u ≡ true) →
     instances_of xs ≡ awake_from 0 a m is ss → Each (ActOfOne a width m.at is) xs → Each (WakesAfter (Some m.at)) (states_after ss xs)
 after_wakes a width m is ss xs f l e s =
     after_later a width m.at is ss xs
-    (subst (λ ks. OthersLater m.at ks ss) (sym e) (λ k x g. subst (λ j. IsOneOf j (awake_from 0 a m is ss) ⊎ IsLaterIfAny m.at (wake_kept x)) (omega arith) (awake_or_later 0 a width m is ss f l k x g))) s
+    (subst (λ ks. OthersLater m.at ks ss) (sym e) (λ k x g.
+    subst (λ j. IsOneOf j (awake_from 0 a m is ss) ⊎ IsLaterIfAny m.at (wake_kept x)) (omega arith) (awake_or_later 0 a width m is ss f l k x g))) s

@@ -19,14 +19,16 @@ use Rattle.lh_kernel.proofs.Wished.{instances_of}
 use Rattle.lh_kernel.proofs.Looking.{rises_awake}
 
 -- the numbers of those who did something rise
-pub plan_rises : (x : SimState) (t : Instant) (p : FramePlan) (width : ℕ) → Each (InstanceIs x.«module».now width) x.design.instances.items → StatesFit x.«module».now width x.design.instances.items x.states.items → IsPlanned x t p →
+pub plan_rises : (x : SimState) (t : Instant) (p : FramePlan) (width : ℕ) → Each (InstanceIs x.«module».now width) x.design.instances.items →
+    StatesFit x.«module».now width x.design.instances.items x.states.items → IsPlanned x t p →
     IsRising (instances_of p.acts.items)
 plan_rises x t p width f h k =
     let s = some_stand fitting-stand x.«module».now width x.design.instances.items x.states.items f h in
     ran_rise x.«module».now x.looked t x.design.instances.items s.0 (awake_in x t) p.acts.items p.runaway (rises_awake x t (awake_in x t) refl) (k.ran s.0 s.1)
 
 -- where none ran away, exactly the woken did something
-pub plan_instances : (x : SimState) (t : Instant) (p : FramePlan) (width : ℕ) → Each (InstanceIs x.«module».now width) x.design.instances.items → StatesFit x.«module».now width x.design.instances.items x.states.items → IsPlanned x t p →
+pub plan_instances : (x : SimState) (t : Instant) (p : FramePlan) (width : ℕ) → Each (InstanceIs x.«module».now width) x.design.instances.items →
+    StatesFit x.«module».now width x.design.instances.items x.states.items → IsPlanned x t p →
     p.runaway ≡ None → instances_of p.acts.items ≡ awake_in x t
 plan_instances x t p width f h k e =
     let s = some_stand fitting-stand x.«module».now width x.design.instances.items x.states.items f h in

@@ -70,7 +70,8 @@ module _ (a : Arena) (m : Moment) where
       let P : Bool → Type 0 = λ b. IsOneOf (k + 0) (if b then k ∷ awake_from (k + 1) a m is ss else awake_from (k + 1) a m is ss) in
       subst P (sym e) (inl (omega arith))
   awake_has (i ∷ is) (s ∷ ss) k (suc j) w =
-      let r : IsOneOf (k + 1 + j) (awake_from (k + 1) a m is ss) = awake_has is ss (k + 1) j (record { instance = w.instance; state = w.state; is_one = w.is_one; is_kept = w.is_kept; awakes = w.awakes }) in
+      let r : IsOneOf (k + 1 + j) (awake_from (k + 1) a m is ss) =
+      awake_has is ss (k + 1) j (record { instance = w.instance; state = w.state; is_one = w.is_one; is_kept = w.is_kept; awakes = w.awakes }) in
       let q : k + 1 + j ≡ k + suc j = omega arith in
       let Q : ℕ → Type 0 = λ n. IsOneOf n (awake_from (k + 1) a m is ss) in
       either (awakes a m i s) (subst Q q r)
@@ -98,7 +99,8 @@ module _ (a : Arena) (m : Moment) where
   awake_known (i ∷ is) [] k n h = absurd h
   awake_known (i ∷ is) (s ∷ ss) k n h = at (awakes a m i s) h (awake_known is ss (k + 1) n)
     where
-      at : (b : Bool) → IsOneOf n (if b then k ∷ awake_from (k + 1) a m is ss else awake_from (k + 1) a m is ss) → (IsOneOf n (awake_from (k + 1) a m is ss) → n < k + 1 + length is) → n < k + suc (length is)
+      at : (b : Bool) → IsOneOf n (if b then k ∷ awake_from (k + 1) a m is ss else awake_from (k + 1) a m is ss) →
+          (IsOneOf n (awake_from (k + 1) a m is ss) → n < k + 1 + length is) → n < k + suc (length is)
       at true (inl p) ih = omega (arith, p)
       at true (inr g) ih = let r : n < k + 1 + length is = ih g in omega arith
       at false g ih = let r : n < k + 1 + length is = ih g in omega arith

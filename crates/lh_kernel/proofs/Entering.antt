@@ -100,8 +100,10 @@ module _ (ms : List Move) (i : ℕ) (m : Move) (l : i < length ms) (e : m ≡ ge
   pub entered_some : (a b c : Noted) → HasEntered (take i ms) a b → HasNotedSome m.instance m.came m.wake_came b c → HasEnteredSome (take (i + 1) ms) a c
   entered_some a b c h n = record {
     long = n.long ∙ h.long;
-    senses = with_some (ComesTo (take i ms)) (OfSignal m.instance m.came) (ComesTo (take (i + 1) ms)) (Senses a.index) (Senses b.index) (Senses c.index) (λ s k p. (comes s k).1 (inl p)) (λ s k q. (comes s k).1 (inr q)) h.senses n.senses;
-    wakes = with_some (WakeComes (take i ms)) (OfWake m.instance m.wake_came) (WakeComes (take (i + 1) ms)) (IsNoted a.wakes) (IsNoted b.wakes) (IsNoted c.wakes) (λ t k p. (wake_comes t k).1 (inl p)) (λ t k q. (wake_comes t k).1 (inr q)) h.wakes n.wakes;
+    senses = with_some (ComesTo (take i ms)) (OfSignal m.instance m.came) (ComesTo (take (i + 1) ms)) (Senses a.index) (Senses b.index)
+        (Senses c.index) (λ s k p. (comes s k).1 (inl p)) (λ s k q. (comes s k).1 (inr q)) h.senses n.senses;
+    wakes = with_some (WakeComes (take i ms)) (OfWake m.instance m.wake_came) (WakeComes (take (i + 1) ms)) (IsNoted a.wakes) (IsNoted b.wakes)
+        (IsNoted c.wakes) (λ t k p. (wake_comes t k).1 (inl p)) (λ t k q. (wake_comes t k).1 (inr q)) h.wakes n.wakes;
   }
 
   pub left_next : (a b c : Noted) → HasLeft (take i ms) a b → HasForgotten m.instance m.gone m.wake_gone b c → HasLeft (take (i + 1) ms) a c

@@ -156,21 +156,24 @@ module _ (signals : List Signal) (probes : List (List Range)) (states : List Ins
   later_none j (x ∷ xs) (m ∷ ms) h a (inr o) = later_none j xs ms h.1 a.1 o
 
   -- the first move alone, and all but the first
-  first_only : (Q : Move → Type 0) (j : ℕ) (m : Move) (ms : List Move) → m.instance ≡ j → (OneMove (λ (x : Move). x.instance ≡ j) ms → ⊥) → OneMove (λ (x : Move). (x.instance ≡ j) × Q x) (m ∷ ms) ↔ Q m
+  first_only : (Q : Move → Type 0) (j : ℕ) (m : Move) (ms : List Move) → m.instance ≡ j → (OneMove (λ (x : Move). x.instance ≡ j) ms → ⊥) →
+      OneMove (λ (x : Move). (x.instance ≡ j) × Q x) (m ∷ ms) ↔ Q m
   first_only Q j m ms e n = (there, λ q. inl (e, q))
     where
       there : OneMove (λ (x : Move). (x.instance ≡ j) × Q x) (m ∷ ms) → Q m
       there (inl p) = p.1
       there (inr o) = absurd (n (one_of (λ (x : Move). (x.instance ≡ j) × Q x) (λ (x : Move). x.instance ≡ j) ms (λ x p. p.0) o))
 
-  others_only : (Q : Move → Type 0) (j : ℕ) (m : Move) (ms : List Move) (R : Type 0) → (m.instance ≡ j → ⊥) → (OneMove (λ (x : Move). (x.instance ≡ j) × Q x) ms ↔ R) → OneMove (λ (x : Move). (x.instance ≡ j) × Q x) (m ∷ ms) ↔ R
+  others_only : (Q : Move → Type 0) (j : ℕ) (m : Move) (ms : List Move) (R : Type 0) → (m.instance ≡ j → ⊥) →
+      (OneMove (λ (x : Move). (x.instance ≡ j) × Q x) ms ↔ R) → OneMove (λ (x : Move). (x.instance ≡ j) × Q x) (m ∷ ms) ↔ R
   others_only Q j m ms R d r = (there, λ q. inr (r.1 q))
     where
       there : OneMove (λ (x : Move). (x.instance ≡ j) × Q x) (m ∷ ms) → R
       there (inl p) = absurd (d p.0)
       there (inr o) = r.0 o
 
-  pub acted_or : (from : List InstState) (xs : List Activation) (ms : List Move) (k : ℕ) → length from ≡ length states → EachMoves signals probes states xs ms → IsRising (map number_of xs) → Acted signals probes states from xs ms k ⊎ Rested from xs ms k
+  pub acted_or : (from : List InstState) (xs : List Activation) (ms : List Move) (k : ℕ) → length from ≡ length states →
+      EachMoves signals probes states xs ms → IsRising (map number_of xs) → Acted signals probes states from xs ms k ⊎ Rested from xs ms k
   acted_or from [] [] k l h r = inr (record { after = refl; none = λ o. o })
   acted_or from [] (m ∷ ms) k l h r = absurd h
   acted_or from (x ∷ xs) [] k l h r = absurd h
@@ -241,7 +244,8 @@ module _ (a : Arena) (is : List Instance) (signals : List Signal) (ss : List Ins
   probes_back p k rs e = map_back a is k rs (sym (ap (λ (xs : List (List Range)). slice_get xs k) p) ∙ e)
 
   -- what a state senses, and when it wakes
-  senses_by : (xs : List InstState) (k s : ℕ) (st : InstState) (rs : List Range) → Probes a is k rs → slice_get xs k ≡ Some st → SensesSignal a is signals xs s k ↔ Touches signals (bit_numbers (parts_sensed st rs)) s
+  senses_by : (xs : List InstState) (k s : ℕ) (st : InstState) (rs : List Range) → Probes a is k rs → slice_get xs k ≡ Some st →
+      SensesSignal a is signals xs s k ↔ Touches signals (bit_numbers (parts_sensed st rs)) s
   senses_by xs k s st rs p e = (there, back)
     where
       there : SensesSignal a is signals xs s k → Touches signals (bit_numbers (parts_sensed st rs)) s
@@ -256,7 +260,8 @@ module _ (a : Arena) (is : List Instance) (signals : List Signal) (ss : List Ins
           subst R (sym p.probed) (subst Q v (subst P u w.touches))
 
       back : Touches signals (bit_numbers (parts_sensed st rs)) s → SensesSignal a is signals xs s k
-      back t = let R : List Range → Type 0 = λ x. Touches signals (bit_numbers (parts_sensed st x)) s in record { instance = p.instance; state = st; is = p.is_one; stands = e; touches = subst R p.probed t }
+      back t = let R : List Range → Type 0 = λ x. Touches signals (bit_numbers (parts_sensed st x)) s in
+          record { instance = p.instance; state = st; is = p.is_one; stands = e; touches = subst R p.probed t }
 
   wakes_by : (xs : List InstState) (k : ℕ) (t : Instant) (st : InstState) → slice_get xs k ≡ Some st → WakesItself xs t k ↔ (wake_kept st ≡ Some t)
   wakes_by xs k t st e = (there, λ w. record { state = st; stands = e; wakes = w })
@@ -296,7 +301,8 @@ module _ (a : Arena) (is : List Instance) (signals : List Signal) (ss : List Ins
           ((h.0.moves.wake_came t).0 p.1).1 ((wakes_by ss x.instance t h.0.state h.0.is_kept).0 (subst P (sym e) w))
       awake (x ∷ xs) (m ∷ ns) h t k (inr o) w = awake xs ns h.1 t k o w
 
-  module _ (n n1 n2 : Noted) (acts : List Activation) (ms : List Move) (noted : IsNotedFor a is signals ss n) (probed : AreProbes a is ps) (moves : EachMoves signals ps ss acts ms) (entered : HasEntered ms n n1) (left : HasLeft ms n1 n2) where
+  module _ (n n1 n2 : Noted) (acts : List Activation) (ms : List Move) (noted : IsNotedFor a is signals ss n) (probed : AreProbes a is ps)
+      (moves : EachMoves signals ps ss acts ms) (entered : HasEntered ms n n1) (left : HasLeft ms n1 n2) where
     -- of an instance that was activated
     acted_senses : (s k : ℕ) → Acted signals ps ss ss acts ms k → Senses n2.index s k ↔ SensesSignal a is signals (states_after ss acts) s k
     acted_senses s k d =
@@ -306,7 +312,9 @@ module _ (a : Arena) (is : List Instance) (signals : List Signal) (ss : List Ins
         let b = probes_back probed k g.probed (subst P d.at g.is_probed) in
         let old = senses_by ss k s g.state g.probed b (subst Q d.at g.is_kept) in
         let new = senses_by (states_after ss acts) k s d.act.act.next g.probed b d.after in
-        let e = exact {New = Touches signals (bit_numbers (parts_sensed d.act.act.next g.probed)) s} {Old = Touches signals (bit_numbers (parts_sensed g.state g.probed)) s} {Came = ComesTo ms s k} {Gone = GoesFrom ms s k} {N = Senses n.index s k} {N1 = Senses n1.index s k} {N2 = Senses n2.index s k}
+        let e = exact {New = Touches signals (bit_numbers (parts_sensed d.act.act.next g.probed)) s}
+        {Old = Touches signals (bit_numbers (parts_sensed g.state g.probed)) s} {Came = ComesTo ms s k} {Gone = GoesFrom ms s k}
+        {N = Senses n.index s k} {N1 = Senses n1.index s k} {N2 = Senses n2.index s k}
         (λ h. (g.moves.came s).0 ((d.comes s).0 h), λ h. (d.comes s).1 ((g.moves.came s).1 h)) (λ h. (g.moves.gone s).0 ((d.goes s).0 h), λ h. (d.goes s).1 ((g.moves.gone s).1 h))
         (λ h. old.0 ((noted.senses s k).0 h), λ h. (noted.senses s k).1 (old.1 h)) (entered.senses s k) (left.senses s k)
         (touches_or signals (bit_numbers (parts_sensed d.act.act.next g.probed)) s) (touches_or signals (bit_numbers (parts_sensed g.state g.probed)) s) in
@@ -318,8 +326,10 @@ module _ (a : Arena) (is : List Instance) (signals : List Signal) (ss : List Ins
         let Q : ℕ → Type 0 = λ j. slice_get ss j ≡ Some g.state in
         let old = wakes_by ss k t g.state (subst Q d.at g.is_kept) in
         let new = wakes_by (states_after ss acts) k t d.act.act.next d.after in
-        let e = exact {New = wake_kept d.act.act.next ≡ Some t} {Old = wake_kept g.state ≡ Some t} {Came = WakeComes ms t k} {Gone = WakeGoes ms t k} {N = IsNoted n.wakes t k} {N1 = IsNoted n1.wakes t k} {N2 = IsNoted n2.wakes t k}
-        (λ h. (g.moves.wake_came t).0 ((d.wake_comes t).0 h), λ h. (d.wake_comes t).1 ((g.moves.wake_came t).1 h)) (λ h. (g.moves.wake_gone t).0 ((d.wake_goes t).0 h), λ h. (d.wake_goes t).1 ((g.moves.wake_gone t).1 h))
+        let e = exact {New = wake_kept d.act.act.next ≡ Some t} {Old = wake_kept g.state ≡ Some t} {Came = WakeComes ms t k} {Gone = WakeGoes ms t k}
+        {N = IsNoted n.wakes t k} {N1 = IsNoted n1.wakes t k} {N2 = IsNoted n2.wakes t k}
+        (λ h. (g.moves.wake_came t).0 ((d.wake_comes t).0 h), λ h. (d.wake_comes t).1 ((g.moves.wake_came t).1 h))
+        (λ h. (g.moves.wake_gone t).0 ((d.wake_goes t).0 h), λ h. (d.wake_goes t).1 ((g.moves.wake_gone t).1 h))
         (λ h. old.0 ((noted.wakes t k).0 h), λ h. (noted.wakes t k).1 (old.1 h)) (entered.wakes t k) (left.wakes t k) (wake_or (wake_kept d.act.act.next) t) (wake_or (wake_kept g.state) t) in
         (λ h. new.1 (e.0 h), λ h. e.1 (new.0 h))
 
@@ -349,12 +359,14 @@ module _ (a : Arena) (is : List Instance) (signals : List Signal) (ss : List Ins
     }
 
 -- the same where some by which nothing comes or goes are left out
-pub fresh_moves : (a : Arena) (is : List Instance) (signals : List Signal) (ss : List InstState) (ps : List (List Range)) (n : Noted) (acts : List Activation) (ms : List Move) → IsNotedFor a is signals ss n → AreProbes a is ps → AreMoves signals ps ss acts ms → AreFresh ms n
+pub fresh_moves : (a : Arena) (is : List Instance) (signals : List Signal) (ss : List InstState) (ps : List (List Range)) (n : Noted)
+    (acts : List Activation) (ms : List Move) → IsNotedFor a is signals ss n → AreProbes a is ps → AreMoves signals ps ss acts ms → AreFresh ms n
 fresh_moves a is signals ss ps n acts ms noted probed moves =
     let f = fresh_each a is signals ss ps n acts moves.all noted probed moves.each in
     record { senses = λ s k h. f.senses s k ((moves.same.comes s k).1 h); wakes = λ t k h. f.wakes t k ((moves.same.wake_comes t k).1 h) }
 
-pub noted_after : (a : Arena) (is : List Instance) (signals : List Signal) (ss : List InstState) (ps : List (List Range)) (n n1 n2 : Noted) (acts : List Activation) (ms : List Move) → IsNotedFor a is signals ss n → AreProbes a is ps → AreMoves signals ps ss acts ms →
+pub noted_after : (a : Arena) (is : List Instance) (signals : List Signal) (ss : List InstState) (ps : List (List Range)) (n n1 n2 : Noted)
+    (acts : List Activation) (ms : List Move) → IsNotedFor a is signals ss n → AreProbes a is ps → AreMoves signals ps ss acts ms →
     HasEntered ms n n1 → HasLeft ms n1 n2 → IsRising (map (λ (x : Activation). x.instance) acts) → IsNotedFor a is signals (states_after ss acts) n2
 noted_after a is signals ss ps n n1 n2 acts ms noted probed moves entered left rising =
     let all = moves.all in
@@ -371,7 +383,8 @@ noted_after a is signals ss ps n n1 n2 acts ms noted probed moves entered left r
     noted_each a is signals ss ps n n1 n2 acts all noted probed moves.each entered_all left_all rising
 
 -- what activations sensed and will sense lies within the signals
-pub senses_fit : (a : Arena) (width : ℕ) (t : Instant) (is : List Instance) (ss : List InstState) (ps : List (List Range)) (acts : List Activation) → StatesFit a width is ss → AreProbes a is ps → Each (λ (rs : List Range). Each (λ (r : Range). r.lo + r.len ≤ width) rs) ps →
+pub senses_fit : (a : Arena) (width : ℕ) (t : Instant) (is : List Instance) (ss : List InstState) (ps : List (List Range)) (acts : List Activation) →
+    StatesFit a width is ss → AreProbes a is ps → Each (λ (rs : List Range). Each (λ (r : Range). r.lo + r.len ≤ width) rs) ps →
     Each (ActOfOne a width t is) acts → Each (SensesFit width ps ss) acts
 senses_fit a width t is ss ps [] fit probed within sound = tt
 senses_fit a width t is ss ps (x ∷ acts) fit probed within sound =

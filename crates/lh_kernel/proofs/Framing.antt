@@ -56,7 +56,8 @@ pub record IsTaken (old : SimState) (t : Instant) (p : FramePlan) (b l : List Bo
   pub holds : HoldsOn old.queue.held t q
   pub entered : HasEntered p.moves.items old.noted n
 
-pub is_taken : (old mid : SimState) (t : Instant) (p : FramePlan) (b : List Bool) (q : List QueuedWish) → mid ≡ record old { looked = mid.looked; queue = mid.queue; noted = mid.noted } → IsAhead old t p mid →
+pub is_taken : (old mid : SimState) (t : Instant) (p : FramePlan) (b : List Bool) (q : List QueuedWish) →
+    mid ≡ record old { looked = mid.looked; queue = mid.queue; noted = mid.noted } → IsAhead old t p mid →
     q ≡ due_later t mid.queue.held → b ≡ values_by (entries mid.queue.held) t 0 mid.bits → AreBitsAt mid.queue.held mid.bits t b → HoldsOn mid.queue.held t q → IsTaken old t p b mid.looked q mid.noted
 is_taken old mid t p b q e a l v r h =
     let be : mid.bits ≡ old.bits = ap (λ (m : SimState). m.bits) e in
@@ -82,11 +83,13 @@ from_last : (old : SimState) (t : Instant) (w : World) → ComesNext old t → S
 from_last old t w comes h = after_from t w.last (subst (λ (o : Option Instant). IsAfter o t) (sym h.last) comes.after)
 
 -- the bits taken are those of the frame
-bits_are : (old : SimState) (t : Instant) (w : World) → ComesNext old t → StandsFor (simulation_of old false) w → (b : List Bool) → AreBitsAt old.queue.held old.bits t b → b ≡ bits_at w.history w.init t
+bits_are : (old : SimState) (t : Instant) (w : World) → ComesNext old t → StandsFor (simulation_of old false) w → (b : List Bool) →
+    AreBitsAt old.queue.held old.bits t b → b ≡ bits_at w.history w.init t
 bits_are old t w comes h b r = r w.history w.init w.last h.wishes (from_last old t w comes h) (sym h.bits ∙ bits_same w.history w.init w.last)
 
 -- the moment of the frame is that of the world
-moment_is : (old : SimState) (t : Instant) (w : World) → ComesNext old t → StandsFor (simulation_of old false) w → (b : List Bool) → b ≡ bits_then old.queue.held t old.bits → AreBitsAt old.queue.held old.bits t b →
+moment_is : (old : SimState) (t : Instant) (w : World) → ComesNext old t → StandsFor (simulation_of old false) w → (b : List Bool) →
+    b ≡ bits_then old.queue.held t old.bits → AreBitsAt old.queue.held old.bits t b →
     moment_of w t ≡ moment_in (looked_at old t) t
 moment_is old t w comes h b bits values =
     same (bits_before w) (option_map (λ l. old.bits) old.last) (bits_at w.history w.init t) (bits_then old.queue.held t old.bits) (before_is w.last h.bits ∙ ap (option_map (λ l. old.bits)) h.last)
@@ -100,12 +103,14 @@ moment_is old t w comes h b bits values =
     before_is (Some l) e = ap (λ (x : List Bool). Some x) e
 
 -- who wakes by what is kept is who wakes by the definition
-pub awake_are_woken : (old : SimState) (t : Instant) (b : List Bool) → IsKept old → ComesNext old t → b ≡ bits_then old.queue.held t old.bits → AreBitsAt old.queue.held old.bits t b → (w : World) → StandsFor (simulation_of old false) w →
+pub awake_are_woken : (old : SimState) (t : Instant) (b : List Bool) → IsKept old → ComesNext old t → b ≡ bits_then old.queue.held t old.bits →
+    AreBitsAt old.queue.held old.bits t b → (w : World) → StandsFor (simulation_of old false) w →
     awake_in (looked_at old t) t ≡ woken_in old w t
 unfolding woken_at
 awake_are_woken old t b kept comes bits values w h =
     let a = old.«module».now in
-    let known : InstancesAreKnown a (length old.design.init) old.design.instances.items old.states.items w.states = record { arena = kept.design.arena; instances = kept.design.fits; fit = kept.fit; stand = h.states } in
+    let known : InstancesAreKnown a (length old.design.init) old.design.instances.items old.states.items w.states =
+    record { arena = kept.design.arena; instances = kept.design.fits; fit = kept.fit; stand = h.states } in
     sym (ap (λ (m : Moment). woken_from 0 (contents a) m (map (instance_text a) old.design.instances.items) w.states) (moment_is old t w comes h b bits values)
     ∙ woken_same a (length old.design.init) old.design.instances.items old.states.items w.states (moment_in (looked_at old t) t) known)
 
@@ -144,7 +149,8 @@ module _ (old : SimState) (t : Instant) (p : FramePlan) (kept : IsKept old) (com
       (plan_rises (looked_at old t) t p (length old.design.init) kept.design.fits kept.fit plan))
 
   -- what is kept after the frame, where none ran away
-  pub kept_frame : (new : SimState) (b l : List Bool) (q : List QueuedWish) (n : Noted) → new ≡ record old { bits = b; looked = l; last = Some t; states = new.states; queue = new.queue; noted = new.noted } →
+  pub kept_frame : (new : SimState) (b l : List Bool) (q : List QueuedWish) (n : Noted) →
+      new ≡ record old { bits = b; looked = l; last = Some t; states = new.states; queue = new.queue; noted = new.noted } →
       IsTaken old t p b l q n → p.runaway ≡ None → new.states.items ≡ states_after old.states.items p.acts.items → WerePut q (wishes_ran t p.acts.items) new.queue.held →
       HasLeft p.moves.items n new.noted → IsKept new
   kept_frame new b l q n e k r s put left =
@@ -196,7 +202,8 @@ module _ (old : SimState) (t : Instant) (p : FramePlan) (kept : IsKept old) (com
       unfolding acts_at
       acts_are = ap (λ (m : Moment). defined_acts old.«module».now m old.design.instances.items w.states) (moment_is old t w comes h b bits values)
 
-      changes_are : map showing_of p.frame.changes ≡ changes_by (values_before (design_text old.«module».now old.design) w) (signal_values (map signal_text old.design.signals.items) (bits_at w.history w.init t))
+      changes_are : map showing_of p.frame.changes ≡ changes_by (values_before (design_text old.«module».now old.design) w)
+          (signal_values (map signal_text old.design.signals.items) (bits_at w.history w.init t))
       changes_are =
           let signals = map signal_text old.design.signals.items in
           let now = bits_then old.queue.held t old.bits in
@@ -224,7 +231,8 @@ module _ (old : SimState) (t : Instant) (p : FramePlan) (kept : IsKept old) (com
           ∙ runaway_same old.«module».now (length old.design.init) old.design.instances.items old.states.items w.states moment known p.acts.items p.runaway (plan.ran w.states h.states)
 
       ran_all : p.runaway ≡ None → AllRan old.«module».now (bits_then old.queue.held t old.bits) t old.design.instances.items w.states (awake_in (looked_at old t) t) p.acts.items None
-      ran_all r = subst (λ (o : Option ℕ). AllRan old.«module».now (bits_then old.queue.held t old.bits) t old.design.instances.items w.states (awake_in (looked_at old t) t) p.acts.items o) r (plan.ran w.states h.states)
+      ran_all r = subst (λ (o : Option ℕ). AllRan old.«module».now (bits_then old.queue.held t old.bits) t old.design.instances.items w.states
+          (awake_in (looked_at old t) t) p.acts.items o) r (plan.ran w.states h.states)
 
       claims_are : p.runaway ≡ None → claims (w.history ++ made_by t 0 (acts_in (simulation_of old false) w t)) ≡ claims w.history ++ entries_put (wishes_ran t p.acts.items)
       claims_are r =
@@ -234,7 +242,8 @@ module _ (old : SimState) (t : Instant) (p : FramePlan) (kept : IsKept old) (com
           ∙ claims_ran old.«module».now (length old.design.init) old.design.instances.items old.states.items w.states moment known p.acts.items (ran_all r)
           ∙ sym (entries_same t p.acts.items))
 
-      stands_after : (new : SimState) (l : List Bool) (q : List QueuedWish) (n : Noted) → new ≡ record old { bits = b; looked = l; last = Some t; states = new.states; queue = new.queue; noted = new.noted } →
+      stands_after : (new : SimState) (l : List Bool) (q : List QueuedWish) (n : Noted) →
+          new ≡ record old { bits = b; looked = l; last = Some t; states = new.states; queue = new.queue; noted = new.noted } →
           IsTaken old t p b l q n → p.runaway ≡ None → new.states.items ≡ states_after old.states.items p.acts.items → WerePut q (wishes_ran t p.acts.items) new.queue.held →
           StandsFor (simulation_of new false) (world_then (simulation_of old false) w t)
       stands_after new l q n e k r s put =
@@ -260,7 +269,8 @@ module _ (old : SimState) (t : Instant) (p : FramePlan) (kept : IsKept old) (com
           subst (λ (x : SimState). StandsFor (simulation_of x false) (world_then (simulation_of old false) w t)) (sym e) f
 
   -- it is the frame that each such world has next
-  pub frame_goes_on : (new : SimState) (b l : List Bool) (q : List QueuedWish) (n : Noted) → new ≡ record old { bits = b; looked = l; last = Some t; states = new.states; queue = new.queue; noted = new.noted } →
+  pub frame_goes_on : (new : SimState) (b l : List Bool) (q : List QueuedWish) (n : Noted) →
+      new ≡ record old { bits = b; looked = l; last = Some t; states = new.states; queue = new.queue; noted = new.noted } →
       IsTaken old t p b l q n → p.runaway ≡ None → new.states.items ≡ states_after old.states.items p.acts.items → WerePut q (wishes_ran t p.acts.items) new.queue.held → IsFrame old new t p.frame None
   frame_goes_on new b l q n e k r s put = record {
     at = plan.at;
@@ -299,7 +309,8 @@ same_noted a is signals ss n m h s = record {
 }
 
 -- where an instance ran away, what is kept is kept on
-pub kept_runaway : (old new : SimState) (t : Instant) (p : FramePlan) (b l : List Bool) (q : List QueuedWish) (n : Noted) → IsKept old → new ≡ record old { bits = b; looked = l; queue = new.queue; noted = new.noted } →
+pub kept_runaway : (old new : SimState) (t : Instant) (p : FramePlan) (b l : List Bool) (q : List QueuedWish) (n : Noted) → IsKept old →
+    new ≡ record old { bits = b; looked = l; queue = new.queue; noted = new.noted } →
     IsTaken old t p b l q n → new.queue.held ≡ q → IsSameNoted old.noted new.noted → IsKept new
 kept_runaway old new t p b l q n kept e k held s =
     let eq : new.queue.held ≡ due_later t old.queue.held = held ∙ k.later in

@@ -46,7 +46,8 @@ length_fit a width (i ∷ is) (s ∷ ss) f = ap suc (length_fit a width is ss f.
 
 -- in the first frame all wake
 pub all_awake : (x : SimState) (t : Instant) (touched ks all : List ℕ) → HasLooked x t touched → x.last ≡ None → ks ≡ all →
-    ((a : Arena) (now : List Bool) (u : Instant) (ss : List InstState) → length ss ≡ length x.design.instances.items → all ≡ awake_from 0 a (record { before = None; now = now; at = u }) x.design.instances.items ss) →
+    ((a : Arena) (now : List Bool) (u : Instant) (ss : List InstState) → length ss ≡ length x.design.instances.items →
+    all ≡ awake_from 0 a (record { before = None; now = now; at = u }) x.design.instances.items ss) →
     ks ≡ awake_in x t
 all_awake x t touched ks all h e v f =
     v ∙ f x.«module».now x.looked t x.states.items (length_fit x.«module».now (length x.looked) x.design.instances.items x.states.items (looked_fit x t touched h))
@@ -60,7 +61,8 @@ are_asleep x t touched ss ps h e f =
     (record { fill = h.kept.design.fill; fit = h.kept.fit; probed = h.kept.probes; probed_within = h.kept.probes_within; noted = h.kept.noted; to_come = h.comes.wakes }))
 
 -- in a later frame those that are found wake
-pub some_awake : (x : SimState) (t l : Instant) (touched ks woken : List ℕ) (ss : List InstState) (ps : List (List Range)) → HasLooked x t touched → x.last ≡ Some l → ks ≡ woken → ss ≡ x.states.items → ps ≡ x.probes.items →
+pub some_awake : (x : SimState) (t l : Instant) (touched ks woken : List ℕ) (ss : List InstState) (ps : List (List Range)) → HasLooked x t touched →
+    x.last ≡ Some l → ks ≡ woken → ss ≡ x.states.items → ps ≡ x.probes.items →
     ((a : Arena) → AreAsleep a x.design ss ps x.noted t → woken ≡ awake_from 0 a (record { before = Some x.bits; now = x.looked; at = t }) x.design.instances.items ss) →
     ks ≡ awake_in x t
 some_awake x t l touched ks woken ss ps h e v p q f =
@@ -75,11 +77,13 @@ pub known_awake : (x : SimState) (t : Instant) (ks : List ℕ) → ks ≡ awake_
 known_awake x t ks e k h = omega (arith, awake_known x.«module».now (moment_in x t) x.design.instances.items x.states.items 0 k (subst (IsOneOf k) e h))
 
 pub ran_by : (a : Arena) (now : List Bool) (t : Instant) (is : List Instance) (ss zs : List InstState) (ks js : List ℕ) (r : Result Ran NoMemory) → zs ≡ ss → js ≡ ks →
-    ((ps : List State) → StatesStand a is zs ps → IfOk r (λ (x : Ran). AllRan a now t is ps js x.acts.items x.runaway)) → (ps : List State) → StatesStand a is ss ps → IfOk r (λ (x : Ran). AllRan a now t is ps ks x.acts.items x.runaway)
+    ((ps : List State) → StatesStand a is zs ps → IfOk r (λ (x : Ran). AllRan a now t is ps js x.acts.items x.runaway)) → (ps : List State) →
+    StatesStand a is ss ps → IfOk r (λ (x : Ran). AllRan a now t is ps ks x.acts.items x.runaway)
 ran_by a now t is ss zs ks js r e f h ps s =
     subst (λ (ls : List ℕ). IfOk r (λ (x : Ran). AllRan a now t is ps ls x.acts.items x.runaway)) f (h ps (subst (λ (ys : List InstState). StatesStand a is ys ps) (sym e) s))
 
-pub tally_by : (old new : ℕ) (ks js : List ℕ) (r : Result Ran NoMemory) → js ≡ ks → IfOk r (λ (x : Ran). new ≡ raised old (activated_count x.runaway js)) → IfOk r (λ (x : Ran). new ≡ raised old (activated_count x.runaway ks))
+pub tally_by : (old new : ℕ) (ks js : List ℕ) (r : Result Ran NoMemory) → js ≡ ks →
+    IfOk r (λ (x : Ran). new ≡ raised old (activated_count x.runaway js)) → IfOk r (λ (x : Ran). new ≡ raised old (activated_count x.runaway ks))
 tally_by old new ks js r f h = subst (λ (ls : List ℕ). IfOk r (λ (x : Ran). new ≡ raised old (activated_count x.runaway ls))) f h
 
 pub err_by : (old new : ℕ) (ks js : List ℕ) (r : Result Ran NoMemory) → js ≡ ks → OnErr r (RisesWithin js old new) → OnErr r (RisesWithin ks old new)
@@ -97,6 +101,8 @@ moves_fit x t touched xs h sound ps ss acts p s e =
     (subst (λ (zs : List InstState). Each (SensesFit (length x.design.init) x.probes.items zs) acts) (sym s)
     (subst (λ (zs : List Activation). Each (SensesFit (length x.design.init) x.probes.items x.states.items) zs) (sym e) f))
 
-pub moves_as : (signals : List Signal) (ps qs : List (List Range)) (ss zs : List InstState) (xs ys : List Activation) (ms : List Move) → ps ≡ qs → ss ≡ zs → xs ≡ ys → AreMoves signals ps ss xs ms → AreMoves signals qs zs ys ms
+pub moves_as : (signals : List Signal) (ps qs : List (List Range)) (ss zs : List InstState) (xs ys : List Activation) (ms : List Move) → ps ≡ qs →
+    ss ≡ zs → xs ≡ ys → AreMoves signals ps ss xs ms → AreMoves signals qs zs ys ms
 moves_as signals ps qs ss zs xs ys ms p s e h =
-    subst (λ (rs : List (List Range)). AreMoves signals rs zs ys ms) p (subst (λ (rs : List InstState). AreMoves signals ps rs ys ms) s (subst (λ (rs : List Activation). AreMoves signals ps ss rs ms) e h))
+    subst (λ (rs : List (List Range)). AreMoves signals rs zs ys ms) p
+    (subst (λ (rs : List InstState). AreMoves signals ps rs ys ms) s (subst (λ (rs : List Activation). AreMoves signals ps ss rs ms) e h))

@@ -65,7 +65,8 @@ between_same signals left entered came gone e c g =
       leaves = λ s. (λ h. let R : List ℕ → Type 0 = IsOneOf s in absurd (subst R g h), λ h. absurd (h.1 (out s h.0)));
     }
 
-pub between_are : (signals : List Signal) (left entered : List Range) (before after came gone : List ℕ) → AreTouched signals (bit_numbers left) before → AreTouched signals (bit_numbers entered) after →
+pub between_are : (signals : List Signal) (left entered : List Range) (before after came gone : List ℕ) →
+    AreTouched signals (bit_numbers left) before → AreTouched signals (bit_numbers entered) after →
     ((k : ℕ) → IsOneOf k came ↔ (IsOneOf k after × ¬ IsOneOf k before)) → ((k : ℕ) → IsOneOf k gone ↔ (IsOneOf k before × ¬ IsOneOf k after)) → AreBetween signals left entered came gone
 between_are signals left entered before after came gone b a c g = record {
   enters = λ s. (λ h. ((a s).0 ((c s).0 h).0, λ t. ((c s).0 h).1 ((b s).1 t)), λ h. (c s).1 ((a s).1 h.0, λ t. h.1 ((b s).0 t)));
@@ -131,7 +132,8 @@ module _ (signals : List Signal) (probes : List (List Range)) (states : List Ins
   abbrev pub AreKnownMoves : List Activation → List Move → Type 0
   AreKnownMoves acts ms = AreMoves signals probes states acts ms × MovesKnown signals ms
 
-  moves_push : (xs : List Activation) (ms : List Move) (x : Activation) (m : Move) → EachMoves signals probes states xs ms → IsMoveOf signals probes states x m → EachMoves signals probes states (xs ++ x ∷ []) (ms ++ m ∷ [])
+  moves_push : (xs : List Activation) (ms : List Move) (x : Activation) (m : Move) → EachMoves signals probes states xs ms →
+      IsMoveOf signals probes states x m → EachMoves signals probes states (xs ++ x ∷ []) (ms ++ m ∷ [])
   moves_push [] [] x m h g = (g, tt)
   moves_push [] (n ∷ ms) x m h g = absurd h
   moves_push (y ∷ xs) [] x m h g = absurd h
@@ -139,10 +141,25 @@ module _ (signals : List Signal) (probes : List (List Range)) (states : List Ins
 
   pub moves_none : (ms : List Move) → ms ≡ [] → AreKnownMoves [] ms
   moves_none ms e =
-      let none : AreKnownMoves [] [] = (record { all = []; each = tt; same = record { comes = λ s k. (λ h. h, λ h. h); goes = λ s k. (λ h. h, λ h. h); wake_comes = λ t k. (λ h. h, λ h. h); wake_goes = λ t k. (λ h. h, λ h. h) } }, tt) in
+      let none : AreKnownMoves [] [] = (
+        record {
+          all = [];
+          each = tt;
+          same =
+              record {
+                comes = λ s k. (λ h. h, λ h. h);
+                goes = λ s k. (λ h. h, λ h. h);
+                wake_comes = λ t k. (λ h. h, λ h. h);
+                wake_goes = λ t k.
+                    (λ h. h, λ h. h);
+              };
+        },
+        tt,
+      ) in
       subst (AreKnownMoves []) (sym e) none
 
-  pub moves_next : (acts : List Activation) (i : ℕ) (x : Activation) (ms new : List Move) (m : Move) → i < length acts → x ≡ get_or acts i x → AreKnownMoves (take i acts) ms → IsMoveOf signals probes states x m → new ≡ ms ++ m ∷ [] →
+  pub moves_next : (acts : List Activation) (i : ℕ) (x : Activation) (ms new : List Move) (m : Move) → i < length acts → x ≡ get_or acts i x →
+      AreKnownMoves (take i acts) ms → IsMoveOf signals probes states x m → new ≡ ms ++ m ∷ [] →
       AreKnownMoves (take (i + 1) acts) new
   moves_next acts i x ms new m l e h g n =
       let s : take (i + 1) acts ≡ take i acts ++ x ∷ [] = take_more acts i x l ∙ ap (λ (y : Activation). take i acts ++ y ∷ []) (sym e) in
@@ -150,16 +167,33 @@ module _ (signals : List Signal) (probes : List (List Range)) (states : List Ins
       let Q : List Move → Type 0 = λ ns. AreKnownMoves (take i acts ++ x ∷ []) ns in
       let c : AreSignals signals m.came = λ k o. let t = ((g.moves.came k).0 o).0 in is_below signals k t.bit t.has in
       let d : AreSignals signals m.gone = λ k o. let t = ((g.moves.gone k).0 o).0 in is_below signals k t.bit t.has in
-      subst P (sym s) (subst Q (sym n) (record { all = h.0.all ++ m ∷ []; each = moves_push (take i acts) h.0.all x m h.0.each g; same = same_push h.0.all ms m h.0.same }, known_push signals ms m h.1 c d))
+      subst P (sym s) (subst Q (sym n) (
+        record {
+          all = h.0.all ++ m ∷ [];
+          each = moves_push (take i acts) h.0.all x m h.0.each g;
+          same =
+              same_push h.0.all ms m h.0.same;
+        },
+        known_push signals ms m h.1 c d,
+      ))
 
   -- where nothing moves by the next one
-  pub moves_still : (acts : List Activation) (i : ℕ) (x : Activation) (ms : List Move) (probed : List Range) (state : InstState) → i < length acts → x ≡ get_or acts i x → AreKnownMoves (take i acts) ms →
+  pub moves_still : (acts : List Activation) (i : ℕ) (x : Activation) (ms : List Move) (probed : List Range) (state : InstState) → i < length acts →
+      x ≡ get_or acts i x → AreKnownMoves (take i acts) ms →
       slice_get probes x.instance ≡ Some probed → slice_get states x.instance ≡ Some state → SensesAsBefore state x.act.next → AreKnownMoves (take (i + 1) acts) ms
   moves_still acts i x ms probed state l e h p q b =
       let s : take (i + 1) acts ≡ take i acts ++ x ∷ [] = take_more acts i x l ∙ ap (λ (y : Activation). take i acts ++ y ∷ []) (sym e) in
       let P : List Activation → Type 0 = λ xs. AreKnownMoves xs ms in
-      let g : IsMoveOf signals probes states x (still x.instance) = record { probed = probed; state = state; is_probed = p; is_kept = q; moves = still_moves signals probed x.instance state x.act.next b } in
-      subst P (sym s) (record { all = h.0.all ++ still x.instance ∷ []; each = moves_push (take i acts) h.0.all x (still x.instance) h.0.each g; same = same_still h.0.all ms x.instance h.0.same }, h.1)
+      let g : IsMoveOf signals probes states x (still x.instance) =
+      record { probed = probed; state = state; is_probed = p; is_kept = q; moves = still_moves signals probed x.instance state x.act.next b } in
+      subst P (sym s) (
+        record {
+          all = h.0.all ++ still x.instance ∷ [];
+          each = moves_push (take i acts) h.0.all x (still x.instance) h.0.each g;
+          same = same_still h.0.all ms x.instance h.0.same;
+        },
+        h.1,
+      )
 
   pub moves_all : (acts : List Activation) (i : ℕ) (ms : List Move) → length acts ≤ i → AreKnownMoves (take i acts) ms → AreKnownMoves acts ms
   moves_all acts i ms l h = let P : List Activation → Type 0 = λ xs. AreKnownMoves xs ms in subst P (take_all i acts l) h
@@ -188,7 +222,8 @@ module _ (signals : List Signal) (probes : List (List Range)) (states : List Ins
       let R : List Range → Type 0 = λ rs. AreWithin width (parts_sensed x.act.next rs) in
       record { in_probes = p; in_states = q; is_probed = u; is_kept = v; left = subst Q c (subst P d f.left); entered = subst R c f.entered }
 
-  pub read_item : (width : ℕ) (acts : List Activation) (i : ℕ) (x : Activation) (dp : List Range) (ds : InstState) → i < length acts → x ≡ get_or acts i x → Each (SensesFit width probes states) acts → ReadAt width x dp ds
+  pub read_item : (width : ℕ) (acts : List Activation) (i : ℕ) (x : Activation) (dp : List Range) (ds : InstState) → i < length acts →
+      x ≡ get_or acts i x → Each (SensesFit width probes states) acts → ReadAt width x dp ds
   read_item width acts i x dp ds l e f = read_at width x dp ds (Each-item (SensesFit width probes states) acts i x f l e)
 
 -- whether two lists of parts are the same
@@ -224,8 +259,10 @@ unless_by x p q u v e f h =
     subst Q f (subst P e h)
 
 -- a move, by what was worked out
-pub move_by : (signals : List Signal) (probes : List Range) (k : ℕ) (old new : InstState) (left entered : List Range) (came gone : List ℕ) (a b c d x y : Option Instant) → left ≡ parts_sensed old probes → entered ≡ parts_sensed new probes →
-    AreBetween signals left entered came gone → a ≡ wake_kept new → b ≡ wake_kept old → c ≡ wake_kept old → d ≡ wake_kept new → ((t : Instant) → (x ≡ Some t) ↔ ((a ≡ Some t) × (b ≢ Some t))) → ((t : Instant) → (y ≡ Some t) ↔ ((c ≡ Some t) × (d ≢ Some t))) →
+pub move_by : (signals : List Signal) (probes : List Range) (k : ℕ) (old new : InstState) (left entered : List Range) (came gone : List ℕ)
+    (a b c d x y : Option Instant) → left ≡ parts_sensed old probes → entered ≡ parts_sensed new probes →
+    AreBetween signals left entered came gone → a ≡ wake_kept new → b ≡ wake_kept old → c ≡ wake_kept old → d ≡ wake_kept new →
+    ((t : Instant) → (x ≡ Some t) ↔ ((a ≡ Some t) × (b ≢ Some t))) → ((t : Instant) → (y ≡ Some t) ↔ ((c ≡ Some t) × (d ≢ Some t))) →
     IsMove signals probes k old new (record { instance = k; came = came; gone = gone; wake_came = x; wake_gone = y })
 move_by signals probes k old new left entered came gone a b c d x y l e between p q r s f g =
     let P : List Range → Type 0 = λ rs. AreBetween signals rs entered came gone in

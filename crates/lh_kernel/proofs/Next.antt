@@ -57,7 +57,8 @@ next_is x l due wake k e d s w h =
     ap (λ (o : Option Instant). sooner o wake) p ∙ ap (sooner (soonest_due l (claims w.history))) q ∙ sym (ap (λ (o : Option Instant). instant_after o w.history w.states) last)
 
 -- nothing is to come before it
-pub next_comes : (x : SimState) (l : Instant) (due wake : Option Instant) → IsKept x → x.last ≡ Some l → IsLeastDue x.queue.held due → IsSoonest x.noted.wakes wake → IfSome (sooner due wake) (ComesNext x)
+pub next_comes : (x : SimState) (l : Instant) (due wake : Option Instant) → IsKept x → x.last ≡ Some l → IsLeastDue x.queue.held due →
+    IsSoonest x.noted.wakes wake → IfSome (sooner due wake) (ComesNext x)
 next_comes x l due wake k e = by due wake
   where
     waits : Each (IsWaiting (Some l)) x.queue.held

@@ -77,7 +77,8 @@ module _ (k : ℕ) (items : List ℕ) (i : ℕ) (a b : Noted) where
     wakes = h.wakes;
   }
 
-  pub forget_signal : (s : ℕ) (index : List (List ℕ)) → i < length items → s ≡ get_or items i 0 → HasForgotten k (take i items) None a b → SensesOneLess b.index s k index → length index ≡ length b.index →
+  pub forget_signal : (s : ℕ) (index : List (List ℕ)) → i < length items → s ≡ get_or items i 0 → HasForgotten k (take i items) None a b →
+      SensesOneLess b.index s k index → length index ≡ length b.index →
       HasForgotten k (take (i + 1) items) None a (noted index b.wakes)
   forget_signal s index l e h m n = record {
     long = n ∙ h.long;
@@ -90,7 +91,8 @@ module _ (k : ℕ) (items : List ℕ) (i : ℕ) (a b : Noted) where
     whole : length items ≤ i → take i items ≡ signals
     whole l = take_all i items l ∙ e
 
-    pub note_wake : (t : Instant) (wakes : List Wake) → length items ≤ i → wake ≡ Some t → HasNoted k (take i items) None a b → NotesOneMore b.wakes t k wakes → HasNoted k signals wake a (noted b.index wakes)
+    pub note_wake : (t : Instant) (wakes : List Wake) → length items ≤ i → wake ≡ Some t → HasNoted k (take i items) None a b →
+        NotesOneMore b.wakes t k wakes → HasNoted k signals wake a (noted b.index wakes)
     note_wake t wakes l w h m =
         let P : List ℕ → Type 0 = λ xs. With (OfSignal k xs) (Senses a.index) (Senses b.index) in
         record {
@@ -105,7 +107,8 @@ module _ (k : ℕ) (items : List ℕ) (i : ℕ) (a b : Noted) where
         let Q : Option Instant → Type 0 = λ o. With (OfWake k o) (IsNoted a.wakes) (IsNoted b.wakes) in
         record { long = h.long; senses = subst P (whole l) h.senses; wakes = subst Q (sym w) h.wakes }
 
-    pub forget_wake : (t : Instant) (wakes : List Wake) → length items ≤ i → wake ≡ Some t → HasForgotten k (take i items) None a b → NotesOneLess b.wakes t k wakes → HasForgotten k signals wake a (noted b.index wakes)
+    pub forget_wake : (t : Instant) (wakes : List Wake) → length items ≤ i → wake ≡ Some t → HasForgotten k (take i items) None a b →
+        NotesOneLess b.wakes t k wakes → HasForgotten k signals wake a (noted b.index wakes)
     forget_wake t wakes l w h m =
         let P : List ℕ → Type 0 = λ xs. Without (OfSignal k xs) (Senses a.index) (Senses b.index) in
         record {

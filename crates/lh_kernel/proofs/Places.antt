@@ -17,7 +17,8 @@ are_within width [] w = tt
 are_within width (r ∷ rs) w = (w.0, are_within width rs w.1)
 
 -- an instance has a state, and a state an instance, and it fits
-pub fit_at : (a : Arena) (width : ℕ) (is : List Instance) (ss : List InstState) (k : ℕ) (i : Instance) (s : InstState) → StatesFit a width is ss → slice_get is k ≡ Some i → slice_get ss k ≡ Some s → StateFits a width i s
+pub fit_at : (a : Arena) (width : ℕ) (is : List Instance) (ss : List InstState) (k : ℕ) (i : Instance) (s : InstState) → StatesFit a width is ss →
+    slice_get is k ≡ Some i → slice_get ss k ≡ Some s → StateFits a width i s
 fit_at a width [] ss k i s f p q = absurd (none p)
   where
     none : None ≡ Some i → ⊥
@@ -29,7 +30,8 @@ fit_at a width (x ∷ is) (y ∷ ss) zero i s f p q =
     subst (λ (z : InstState). StateFits a width i z) d (subst (λ (z : Instance). StateFits a width z y) e f.0)
 fit_at a width (x ∷ is) (y ∷ ss) (suc k) i s f p q = fit_at a width is ss k i s f.1 p q
 
-pub instance_at : (a : Arena) (width : ℕ) (is : List Instance) (ss : List InstState) (k : ℕ) (s : InstState) → StatesFit a width is ss → slice_get ss k ≡ Some s → (i : Instance) × (slice_get is k ≡ Some i)
+pub instance_at : (a : Arena) (width : ℕ) (is : List Instance) (ss : List InstState) (k : ℕ) (s : InstState) → StatesFit a width is ss →
+    slice_get ss k ≡ Some s → (i : Instance) × (slice_get is k ≡ Some i)
 instance_at a width [] [] k s f q = absurd (none q)
   where
     none : None ≡ Some s → ⊥
@@ -57,5 +59,6 @@ get_map a (x ∷ is) (suc k) i e = get_map a is k i e
 pub probed_at : (a : Arena) (is : List Instance) (ps : List (List Range)) (k : ℕ) (i : Instance) → AreProbes a is ps → slice_get is k ≡ Some i → slice_get ps k ≡ Some (probed_by a i)
 probed_at a is ps k i p e = ap (λ (xs : List (List Range)). slice_get xs k) p ∙ get_map a is k i e
 
-pub as_probed : (a : Arena) (is : List Instance) (ps : List (List Range)) (k : ℕ) (i : Instance) (rs : List Range) → AreProbes a is ps → slice_get is k ≡ Some i → slice_get ps k ≡ Some rs → rs ≡ probed_by a i
+pub as_probed : (a : Arena) (is : List Instance) (ps : List (List Range)) (k : ℕ) (i : Instance) (rs : List Range) → AreProbes a is ps →
+    slice_get is k ≡ Some i → slice_get ps k ≡ Some rs → rs ≡ probed_by a i
 as_probed a is ps k i rs p e q = let d : Some rs ≡ Some (probed_by a i) = sym q ∙ probed_at a is ps k i p e in cc

@@ -90,7 +90,8 @@ entries_put [] = []
 entries_put (w ∷ ws) = wish_entries w ++ entries_put ws
 
 -- what was held for some entries is then held for these and those of the wishes
-pub put_holds : (held : List QueuedWish) (ws : List Wish) (new : List QueuedWish) (all : List Claim) (last : Option Instant) → WerePut held ws new → HoldsFor held all last → Each (λ (w : Wish). IsAfter last w.due) ws →
+pub put_holds : (held : List QueuedWish) (ws : List Wish) (new : List QueuedWish) (all : List Claim) (last : Option Instant) → WerePut held ws new →
+    HoldsFor held all last → Each (λ (w : Wish). IsAfter last w.due) ws →
     HoldsFor new (all ++ entries_put ws) last
 put_holds held [] new all last p h e = subst (λ (x : List QueuedWish). HoldsFor x (all ++ []) last) (sym p) (subst (λ (cs : List Claim). HoldsFor held cs last) (sym (append-nil all)) h)
 put_holds held (w ∷ ws) new all last p h e =
@@ -121,7 +122,8 @@ pub count_on : (t : Instant) (xs : List Activation) (i : ℕ) (x : Activation) (
 count_on t xs i x count n more l e h m =
     let d : drop i xs ≡ get_or xs i x ∷ drop (suc i) xs = drop-cons xs i x l in
     let f : drop i xs ≡ x ∷ drop (i + 1) xs = d ∙ ap (λ (z : Activation). z ∷ drop (suc i) xs) (sym e) ∙ ap (λ k. x ∷ drop k xs) (sym (add-one i)) in
-    let g : length (wishes_ran t (drop i xs)) ≡ length x.act.wishes + length (wishes_ran t (drop (i + 1) xs)) = ap (λ (ys : List Activation). length (wishes_ran t ys)) f ∙ length_ran t x (drop (i + 1) xs) in
+    let g : length (wishes_ran t (drop i xs)) ≡ length x.act.wishes + length (wishes_ran t (drop (i + 1) xs)) =
+    ap (λ (ys : List Activation). length (wishes_ran t ys)) f ∙ length_ran t x (drop (i + 1) xs) in
     omega (arith, g, h, m)
 
 pub none_beyond : {A : Type 0} (xs : List A) (i : ℕ) → length xs ≤ i → drop i xs ≡ []

@@ -42,7 +42,8 @@ fits-long a width [] (s ∷ ss) h = absurd h
 fits-long a width (i ∷ is) [] h = absurd h
 fits-long a width (i ∷ is) (s ∷ ss) h = ap (λ n. suc n) (fits-long a width is ss h.1)
 
-pub fits-at : (a : Arena) (width : ℕ) (is : List Instance) (ss : List InstState) (k : ℕ) (i : Instance) (s : InstState) → StatesFit a width is ss → slice_get is k ≡ Some i → slice_get ss k ≡ Some s → StateFits a width i s
+pub fits-at : (a : Arena) (width : ℕ) (is : List Instance) (ss : List InstState) (k : ℕ) (i : Instance) (s : InstState) → StatesFit a width is ss →
+    slice_get is k ≡ Some i → slice_get ss k ≡ Some s → StateFits a width i s
 fits-at a width [] [] k i s h e f = absurd (cc)
 fits-at a width [] (x ∷ ss) k i s h e f = absurd h
 fits-at a width (j ∷ is) [] k i s h e f = absurd h
@@ -55,7 +56,8 @@ pub record StandsAmong (a : Arena) (ps : List State) (k : ℕ) (i : Instance) (s
   pub at : slice_get ps k ≡ Some state
   pub stands : StateIs a i s state
 
-pub stands-at : (a : Arena) (is : List Instance) (ss : List InstState) (ps : List State) (k : ℕ) (i : Instance) (s : InstState) → StatesStand a is ss ps → slice_get is k ≡ Some i → slice_get ss k ≡ Some s → StandsAmong a ps k i s
+pub stands-at : (a : Arena) (is : List Instance) (ss : List InstState) (ps : List State) (k : ℕ) (i : Instance) (s : InstState) →
+    StatesStand a is ss ps → slice_get is k ≡ Some i → slice_get ss k ≡ Some s → StandsAmong a ps k i s
 stands-at a [] ss ps k i s h e f = absurd (cc)
 stands-at a (j ∷ is) [] ps k i s h e f = absurd h
 stands-at a (j ∷ is) (x ∷ ss) [] k i s h e f = absurd h
@@ -121,7 +123,8 @@ pub tally-off : (ks : List ℕ) (j c d e : ℕ) → j < length ks → IsRising k
 tally-off ks j c d e l r f g =
     let k = get_or ks j 0 in
     let s = split-at ks j l in
-    let n : count_by (λ n. nat_le n k) ks ≡ j + 1 = sym (ap (count_by (λ n. nat_le n k)) s) ∙ counted-to (take j ks) k (drop (suc j) ks) (subst IsRising (sym s) r) ∙ ap (λ m. m + 1) (length-take-le j ks (omega arith)) in
+    let n : count_by (λ n. nat_le n k) ks ≡ j + 1 = sym (ap (count_by (λ n. nat_le n k)) s) ∙
+    counted-to (take j ks) k (drop (suc j) ks) (subst IsRising (sym s) r) ∙ ap (λ m. m + 1) (length-take-le j ks (omega arith)) in
     tally-more c d e j f g ∙ ap (raised c) (sym n)
 
 -- at most all that are woken have run
@@ -141,7 +144,8 @@ pub known-at : {X : Type 0} → (ks : List ℕ) (j : ℕ) (xs : List X) → j < 
 known-at ks j xs l h = h (get_or ks j 0) (has-at ks j 0 l)
 
 -- the j-th that is woken ran away
-pub turn-off : (a : Arena) (now : List Bool) (t : Instant) (is : List Instance) (ss : List InstState) (ps : List State) (ks : List ℕ) (xs : List Activation) (j : ℕ) (i : Instance) (s : InstState) → j < length ks →
+pub turn-off : (a : Arena) (now : List Bool) (t : Instant) (is : List Instance) (ss : List InstState) (ps : List State) (ks : List ℕ)
+    (xs : List Activation) (j : ℕ) (i : Instance) (s : InstState) → j < length ks →
     slice_get is (get_or ks j 0) ≡ Some i → slice_get ss (get_or ks j 0) ≡ Some s → StatesStand a is ss ps → ((p : State) → StateIs a i s p → (done_by a now t i p).ran_away ≡ true) →
     AllRan a now t is ps (take j ks) xs None → AllRan a now t is ps ks xs (Some (get_or ks j 0))
 turn-off a now t is ss ps ks xs j i s l e f h g q =
@@ -151,7 +155,8 @@ turn-off a now t is ss ps ks xs j i s l e f h g q =
     (ran-off a now t is ps (take j ks) xs k (drop (suc j) ks) q (record { instance = i; state = w.state; is = e; stands = w.at; does = g w.state w.stands }))
 
 -- the j-th that is woken did this
-pub turn-on : (a : Arena) (now : List Bool) (t : Instant) (is : List Instance) (ss : List InstState) (ps : List State) (ks : List ℕ) (xs zs : List Activation) (j : ℕ) (i : Instance) (s : InstState) (x : ActDone) → j < length ks →
+pub turn-on : (a : Arena) (now : List Bool) (t : Instant) (is : List Instance) (ss : List InstState) (ps : List State) (ks : List ℕ)
+    (xs zs : List Activation) (j : ℕ) (i : Instance) (s : InstState) (x : ActDone) → j < length ks →
     slice_get is (get_or ks j 0) ≡ Some i → slice_get ss (get_or ks j 0) ≡ Some s → StatesStand a is ss ps → ((p : State) → StateIs a i s p → ActIs a i x (done_by a now t i p)) →
     zs ≡ xs ++ record { instance = get_or ks j 0; act = x } ∷ [] → AllRan a now t is ps (take j ks) xs None → AllRan a now t is ps (take (j + 1) ks) zs None
 turn-on a now t is ss ps ks xs zs j i s x l e f h g z q =
@@ -176,6 +181,7 @@ outcomes-more [] x = append-nil (outcomes_by x)
 outcomes-more (y ∷ xs) x = ap (λ os. outcomes_by y ++ os) (outcomes-more xs x) ∙ sym (append_assoc (outcomes_by y) (outcomes_ran xs) (outcomes_by x))
 
 -- the outcomes of one activation more
-pub outcomes-next : (xs : List Activation) (j : ℕ) (x : Activation) (old new : List Outcome) → j < length xs → x ≡ get_or xs j x → old ≡ outcomes_ran (take j xs) → new ≡ old ++ outcomes_by x → new ≡ outcomes_ran (take (j + 1) xs)
+pub outcomes-next : (xs : List Activation) (j : ℕ) (x : Activation) (old new : List Outcome) → j < length xs → x ≡ get_or xs j x →
+    old ≡ outcomes_ran (take j xs) → new ≡ old ++ outcomes_by x → new ≡ outcomes_ran (take (j + 1) xs)
 outcomes-next xs j x old new l e f g =
     g ∙ ap (λ os. os ++ outcomes_by x) f ∙ sym (outcomes-more (take j xs) x) ∙ ap outcomes_ran (ap (λ y. take j xs ++ y ∷ []) e ∙ sym (take_more xs j x l))

@@ -33,7 +33,8 @@ known_seen : (x : SimState) (ended : Bool) (s : Simulation) (signal : ℕ) → s
 known_seen x ended s signal v h = subst (λ (n : ℕ). signal < n) (sym (ap (λ (z : Simulation). length z.design.signals.items) v)) h
 
 -- a signal of the design lies within the bits
-pub seen_fits : (x : SimState) (ended : Bool) (s : Simulation) (signal : ℕ) (xs : List Signal) (g : Signal) → simulation_of x ended ≡ s → IsKept x → signal < length s.design.signals.items → xs ≡ x.design.signals.items → g ≡ get_or xs signal g →
+pub seen_fits : (x : SimState) (ended : Bool) (s : Simulation) (signal : ℕ) (xs : List Signal) (g : Signal) → simulation_of x ended ≡ s → IsKept x →
+    signal < length s.design.signals.items → xs ≡ x.design.signals.items → g ≡ get_or xs signal g →
     IsData g.ty × (g.lo + bit_count g.ty ≤ length x.bits)
 seen_fits x ended s signal xs g v kept h e i =
     let f = fits_there (length x.design.init) x.design.signals.items xs signal g kept.design.fill e (known_seen x ended s signal v h) i in
@@ -51,12 +52,15 @@ got_map (y ∷ ys) zero g e = ap (λ (z : Signal). Some (signal_text z)) (same e
 got_map (y ∷ ys) (suc k) g e = got_map ys k g e
 
 -- the value of a signal
-pub seen_value : (x : SimState) (ended : Bool) (s : Simulation) (signal : ℕ) (xs : List Signal) (g : Signal) (r : Result Val NoMemory) → simulation_of x ended ≡ s → IsKept x → signal < length s.design.signals.items →
+pub seen_value : (x : SimState) (ended : Bool) (s : Simulation) (signal : ℕ) (xs : List Signal) (g : Signal) (r : Result Val NoMemory) →
+    simulation_of x ended ≡ s → IsKept x → signal < length s.design.signals.items →
     xs ≡ x.design.signals.items → g ≡ get_or xs signal g → IfOk r (λ (v : Val). datum_of v ≡ value_from_bits g.ty (drop g.lo x.bits)) →
     IfOk r (λ (v : Val). IsSomeAnd (signal_of s signal) (λ (t : text.Signal). datum_of v ≡ signal_value s.bits t))
 seen_value x ended s signal xs g r v kept h e i o =
     subst (λ (z : Simulation). IfOk r (λ (d : Val). IsSomeAnd (signal_of z signal) (λ (t : text.Signal). datum_of d ≡ signal_value z.bits t))) v
-    (IfOk-weaker r (λ (d : Val). datum_of d ≡ value_from_bits g.ty (drop g.lo x.bits)) (λ (d : Val). IsSomeAnd (signal_of (simulation_of x ended) signal) (λ (t : text.Signal). datum_of d ≡ signal_value x.bits t))
-    (λ d p. subst (λ (q : Option text.Signal). IsSomeAnd q (λ (t : text.Signal). datum_of d ≡ signal_value x.bits t)) (sym (got_map x.design.signals.items signal g (there x.design.signals.items xs signal g e (known_seen x ended s signal v h) i)))
+    (IfOk-weaker r (λ (d : Val). datum_of d ≡ value_from_bits g.ty (drop g.lo x.bits))
+    (λ (d : Val). IsSomeAnd (signal_of (simulation_of x ended) signal) (λ (t : text.Signal). datum_of d ≡ signal_value x.bits t))
+    (λ d p. subst (λ (q : Option text.Signal). IsSomeAnd q (λ (t : text.Signal). datum_of d ≡ signal_value x.bits t))
+    (sym (got_map x.design.signals.items signal g (there x.design.signals.items xs signal g e (known_seen x ended s signal v h) i)))
     (p ∙ read_value g x.bits (seen_fits x ended s signal xs g v kept h e i).0 (seen_fits x ended s signal xs g v kept h e i).1))
     o)

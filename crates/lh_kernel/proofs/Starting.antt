@@ -53,13 +53,15 @@ pub record Started (a : Arena) (width : ℕ) (is : List Instance) (ss : List Ins
   pub wakes : Each (WakesAfter None) ss
 
 stand_push : (a : Arena) (is : List Instance) (ss : List InstState) (i : Instance) (s : InstState) → StatesStand a is ss (starts (contents a) (map (instance_text a) is)) →
-    StateIs a i s (start (unit_of (contents a) (unit_name_at a i.unit.0)) (instance_text a i)) → StatesStand a (is ++ i ∷ []) (ss ++ s ∷ []) (starts (contents a) (map (instance_text a) (is ++ i ∷ [])))
+    StateIs a i s (start (unit_of (contents a) (unit_name_at a i.unit.0)) (instance_text a i)) →
+    StatesStand a (is ++ i ∷ []) (ss ++ s ∷ []) (starts (contents a) (map (instance_text a) (is ++ i ∷ [])))
 stand_push a [] [] i s h g = (g, tt)
 stand_push a [] (y ∷ ss) i s h g = absurd h
 stand_push a (x ∷ is) [] i s h g = absurd h
 stand_push a (x ∷ is) (y ∷ ss) i s h g = (h.0, stand_push a is ss i s h.1 g)
 
-fit_push : (a : Arena) (width : ℕ) (is : List Instance) (ss : List InstState) (i : Instance) (s : InstState) → StatesFit a width is ss → StateFits a width i s → StatesFit a width (is ++ i ∷ []) (ss ++ s ∷ [])
+fit_push : (a : Arena) (width : ℕ) (is : List Instance) (ss : List InstState) (i : Instance) (s : InstState) → StatesFit a width is ss →
+    StateFits a width i s → StatesFit a width (is ++ i ∷ []) (ss ++ s ∷ [])
 fit_push a width [] [] i s h g = (g, tt)
 fit_push a width [] (y ∷ ss) i s h g = absurd h
 fit_push a width (x ∷ is) [] i s h g = absurd h
@@ -72,7 +74,8 @@ wakes_push (y ∷ ss) s h g = (h.0, wakes_push ss s h.1 g)
 pub started_none : (a : Arena) (width : ℕ) (ss : List InstState) → ss ≡ [] → Started a width [] ss
 started_none a width ss e = let P : List InstState → Type 0 = Started a width [] in subst P (sym e) (record { stand = tt; fit = tt; wakes = tt })
 
-pub started_more : (a : Arena) (width : ℕ) (is : List Instance) (k : ℕ) (i : Instance) (ss new : List InstState) (s : InstState) → IsArena a → Each (InstanceIs a width) is → k < length is → i ≡ get_or is k i → new ≡ ss ++ s ∷ [] →
+pub started_more : (a : Arena) (width : ℕ) (is : List Instance) (k : ℕ) (i : Instance) (ss new : List InstState) (s : InstState) → IsArena a →
+    Each (InstanceIs a width) is → k < length is → i ≡ get_or is k i → new ≡ ss ++ s ∷ [] →
     StateIs a i s (start (unit_text_at a i.unit.0) (instance_text a i)) → StateFits a width i s → Started a width (take k is) ss → Started a width (take (k + 1) is) new
 started_more a width is k i ss new s m is_are l e n stands fits h =
     let t : take (k + 1) is ≡ take k is ++ i ∷ [] = take_more is k i l ∙ ap (λ (j : Instance). take k is ++ j ∷ []) (sym e) in
@@ -91,19 +94,22 @@ pub started_all : (a : Arena) (width : ℕ) (items is : List Instance) (k : ℕ)
 started_all a width items is k ss e l h = let P : List Instance → Type 0 = λ js. Started a width js ss in subst P (take_all k items l ∙ e) h
 
 -- what each senses lies within the signals
-pub sensed_within : (a : Arena) (width : ℕ) (is : List Instance) (ss : List InstState) (ps : List (List Range)) → StatesFit a width is ss → AreProbes a is ps → Each (λ (rs : List Range). Each (λ (r : Range). r.lo + r.len ≤ width) rs) ps → SensedWithin width ss ps
+pub sensed_within : (a : Arena) (width : ℕ) (is : List Instance) (ss : List InstState) (ps : List (List Range)) → StatesFit a width is ss →
+    AreProbes a is ps → Each (λ (rs : List Range). Each (λ (r : Range). r.lo + r.len ≤ width) rs) ps → SensedWithin width ss ps
 sensed_within a width is ss ps f p w =
     let P : List (List Range) → Type 0 = λ xs. Each (λ (rs : List Range). Each (λ (r : Range). r.lo + r.len ≤ width) rs) xs in
     let Q : List (List Range) → Type 0 = SensedWithin width ss in
     subst Q (sym p) (by is ss f (subst P p w))
   where
-    by : (js : List Instance) (xs : List InstState) → StatesFit a width js xs → Each (λ (rs : List Range). Each (λ (r : Range). r.lo + r.len ≤ width) rs) (map (probed_by a) js) → SensedWithin width xs (map (probed_by a) js)
+    by : (js : List Instance) (xs : List InstState) → StatesFit a width js xs →
+        Each (λ (rs : List Range). Each (λ (r : Range). r.lo + r.len ≤ width) rs) (map (probed_by a) js) → SensedWithin width xs (map (probed_by a) js)
     by [] [] g h = tt
     by [] (x ∷ xs) g h = absurd g
     by (j ∷ js) [] g h = absurd g
     by (j ∷ js) (x ∷ xs) g h = (are_within width (parts_sensed x (probed_by a j)) (senses-within a width j x (probed_by a j) g.0 h.0), by js xs g.1 h.1)
 
-pub within_at : (width : ℕ) (ss : List InstState) (ps : List (List Range)) (k : ℕ) (s : InstState) (rs : List Range) → SensedWithin width ss ps → slice_get ss k ≡ Some s → slice_get ps k ≡ Some rs → AreWithin width (parts_sensed s rs)
+pub within_at : (width : ℕ) (ss : List InstState) (ps : List (List Range)) (k : ℕ) (s : InstState) (rs : List Range) → SensedWithin width ss ps →
+    slice_get ss k ≡ Some s → slice_get ps k ≡ Some rs → AreWithin width (parts_sensed s rs)
 within_at width [] [] k s rs w p q = absurd (none p)
   where
     none : None ≡ Some s → ⊥
@@ -147,7 +153,8 @@ module _ (signals : List Signal) (ss : List InstState) (ps : List (List Range)) 
   }
 
   -- one instance more
-  pub noted_more : (i : ℕ) (st : InstState) (rs : List Range) (touched : List ℕ) (wake : Option Instant) (n m : Noted) → slice_get ss i ≡ Some st → slice_get ps i ≡ Some rs → AreTouched signals (bit_numbers (parts_sensed st rs)) touched → wake ≡ wake_kept st →
+  pub noted_more : (i : ℕ) (st : InstState) (rs : List Range) (touched : List ℕ) (wake : Option Instant) (n m : Noted) → slice_get ss i ≡ Some st →
+      slice_get ps i ≡ Some rs → AreTouched signals (bit_numbers (parts_sensed st rs)) touched → wake ≡ wake_kept st →
       NotedTo signals ss ps i n → HasNoted i touched wake n m → NotedTo signals ss ps (i + 1) m
   noted_more i st rs touched wake n m p q touch w h g = record { long = g.long ∙ h.long; senses = λ s k. (there s k, back s k); wakes = λ t k. (awakes t k, noted t k) }
     where
@@ -193,7 +200,11 @@ module _ (signals : List Signal) (ss : List InstState) (ps : List (List Range)) 
 
   -- all instances
   pub noted_all : (a : Arena) (is : List Instance) (i : ℕ) (n : Noted) → length ss ≤ i → NotedTo signals ss ps i n → AreProbes a is ps → IsNotedFor a is signals ss n
-  noted_all a is i n l h p = record { long = h.long; senses = λ s k. (λ x. there s k ((h.senses s k).0 x).1, λ x. (h.senses s k).1 (back s k x)); wakes = λ t k. (λ x. ((h.wakes t k).0 x).1, λ x. (h.wakes t k).1 (below k x.state x.stands, x)) }
+  noted_all a is i n l h p = record {
+    long = h.long;
+    senses = λ s k. (λ x. there s k ((h.senses s k).0 x).1, λ x. (h.senses s k).1 (back s k x));
+    wakes = λ t k. (λ x. ((h.wakes t k).0 x).1, λ x. (h.wakes t k).1 (below k x.state x.stands, x));
+  }
     where
       below : (k : ℕ) (st : InstState) → slice_get ss k ≡ Some st → k < i
       below k st e = let b : k < length ss = slice_get_within ss k st e in omega arith
@@ -212,7 +223,8 @@ pub touched_known : (signals : List Signal) (bits touched : List ℕ) (n : ℕ) 
 touched_known signals bits touched n e t s h = let w = (t s).0 h in let b : s < length signals = is_below signals s w.bit w.has in omega arith
 
 -- a state and what is probed, as they are read
-pub within_read : (width : ℕ) (ss : List InstState) (ps : List (List Range)) (k : ℕ) (s : InstState) (rs : List Range) → SensedWithin width ss ps → k < length ss → s ≡ get_or ss k s → rs ≡ get_or ps k rs → AreWithin width (parts_sensed s rs)
+pub within_read : (width : ℕ) (ss : List InstState) (ps : List (List Range)) (k : ℕ) (s : InstState) (rs : List Range) → SensedWithin width ss ps →
+    k < length ss → s ≡ get_or ss k s → rs ≡ get_or ps k rs → AreWithin width (parts_sensed s rs)
 within_read width ss ps k s rs w l p q =
     let m : length ps ≡ length ss = as_long width ss ps w in
     within_at width ss ps k s rs w (slice_get_read ss (length ss) k s refl l p) (slice_get_read ps (length ps) k rs refl (omega arith) q)

@@ -19,7 +19,8 @@ as_seen old ended s v g = ap (simulation_of old) (sym g) ∙ v
 abbrev pub ComesIn : SimState → Instant → Type 0
 ComesIn old t = (w : World) → StandsFor (simulation_of old false) w → Some t ≡ next_instant w
 
-pub steps_frame : (old new : SimState) (ended : Bool) (s : Simulation) (t : Instant) (f : Frame) (r : Option ℕ) → simulation_of old ended ≡ s → ended ≡ false → ComesIn old t → IsFrame old new t f r → r ≡ None →
+pub steps_frame : (old new : SimState) (ended : Bool) (s : Simulation) (t : Instant) (f : Frame) (r : Option ℕ) → simulation_of old ended ≡ s →
+    ended ≡ false → ComesIn old t → IsFrame old new t f r → r ≡ None →
     (w : World) → StandsFor s w → IsNextFrame s w f None × StandsFor (simulation_of new ended) (world_then s w f.at)
 steps_frame old new ended s t f r v g next fr n =
     subst (λ (z : Simulation). (w : World) → StandsFor z w → IsNextFrame z w f None × StandsFor (simulation_of new ended) (world_then z w f.at)) (as_seen old ended s v g) base
@@ -31,7 +32,8 @@ steps_frame old new ended s t f r v g next fr n =
           (subst (λ (u : Instant). StandsFor (simulation_of new false) (world_then (simulation_of old false) w u)) (sym fr.at) (fr.goes_on n w h)),
     )
 
-pub steps_runaway : (old new : SimState) (ended : Bool) (s : Simulation) (t : Instant) (f : Frame) (r : Option ℕ) (i : ℕ) → simulation_of old ended ≡ s → ended ≡ false → ComesIn old t → IsFrame old new t f r → r ≡ Some i →
+pub steps_runaway : (old new : SimState) (ended : Bool) (s : Simulation) (t : Instant) (f : Frame) (r : Option ℕ) (i : ℕ) →
+    simulation_of old ended ≡ s → ended ≡ false → ComesIn old t → IsFrame old new t f r → r ≡ Some i →
     (w : World) → StandsFor s w → IsNextFrame s w f (Some i) × HasEnded s (simulation_of new true) w f.at
 steps_runaway old new ended s t f r i v g next fr n =
     subst (λ (z : Simulation). (w : World) → StandsFor z w → IsNextFrame z w f (Some i) × HasEnded z (simulation_of new true) w f.at) (as_seen old ended s v g) base
@@ -49,10 +51,12 @@ steps_tally old ended s t P v g next h =
     subst (λ (z : Simulation). (w : World) → StandsFor z w → P (woken_next z w (next_instant w))) (as_seen old ended s v g)
     (λ w k. subst (λ (o : Option Instant). P (woken_next (simulation_of old false) w o)) (next w k) (h w k))
 
-pub steps_err : (s : Simulation) (w : World) (r : Result SimStep NoMemory) (e : NoMemory) (before after : ℕ) → r ≡ Err e → RisesWithin (woken_next s w (next_instant w)) before after → Tallied s w r before after
+pub steps_err : (s : Simulation) (w : World) (r : Result SimStep NoMemory) (e : NoMemory) (before after : ℕ) → r ≡ Err e → RisesWithin
+    (woken_next s w (next_instant w)) before after → Tallied s w r before after
 steps_err s w r e before after q h = subst (λ (x : Result SimStep NoMemory). Tallied s w x before after) (sym q) h
 
 -- the next instant, and none where the run has ended
-pub next_seen : (old : SimState) (ended : Bool) (s : Simulation) (o : Option Instant) → simulation_of old ended ≡ s → ended ≡ false → ((w : World) → StandsFor (simulation_of old false) w → o ≡ next_instant w) →
+pub next_seen : (old : SimState) (ended : Bool) (s : Simulation) (o : Option Instant) → simulation_of old ended ≡ s → ended ≡ false →
+    ((w : World) → StandsFor (simulation_of old false) w → o ≡ next_instant w) →
     (w : World) → StandsFor s w → o ≡ next_instant w
 next_seen old ended s o v g h = subst (λ (z : Simulation). (w : World) → StandsFor z w → o ≡ next_instant w) (as_seen old ended s v g) h

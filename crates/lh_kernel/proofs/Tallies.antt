@@ -19,7 +19,8 @@ raised_none n = omega arith
 pub rises_none : (ks : List ℕ) (old new : ℕ) → new ≡ old → RisesWithin ks old new
 rises_none ks old new e = (0, omega arith, e ∙ raised_none old)
 
-pub rises_woken : (x : SimState) (t : Instant) (b : List Bool) (old new : ℕ) → IsKept x → ComesNext x t → b ≡ bits_then x.queue.held t x.bits → AreBitsAt x.queue.held x.bits t b → RisesWithin (awake_in (looked_at x t) t) old new →
+pub rises_woken : (x : SimState) (t : Instant) (b : List Bool) (old new : ℕ) → IsKept x → ComesNext x t → b ≡ bits_then x.queue.held t x.bits →
+    AreBitsAt x.queue.held x.bits t b → RisesWithin (awake_in (looked_at x t) t) old new →
     (w : World) → StandsFor (simulation_of x false) w → RisesWithin (woken_in x w t) old new
 rises_woken x t b old new k c e v r w h = subst (λ (ks : List ℕ). RisesWithin ks old new) (awake_are_woken x t b k c e v w h) r
 

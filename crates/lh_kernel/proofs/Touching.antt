@@ -2,7 +2,7 @@
 use Rattle.std.proofs.Common.{◌≡◌, ℕ, ◌<◌, List, [], ◌∷◌, length, Bool, true, false, Option, Some, None, refl, ap, sym, ◌∙◌, subst, inl, inr}
 use Rattle.lh_time.specs.declared.Instant.{Instant}
 use Rattle.lh_types.specs.History.{values_by}
-use Rattle.lh_types.specs.Writes.{written}
+use Rattle.lh_bits.specs.Writes.{written}
 use Rattle.lh_design.specs.declared.Signal.{Signal}
 use Rattle.lh_queue.specs.declared.wish.Wish.{Wish}
 use Rattle.lh_queue.specs.Queued.{QueuedWish, is_at, AreInOrder, KeysDiffer, NoneDueBefore, wish_at}
@@ -47,12 +47,14 @@ module _ (signals : List Signal) (width : ℕ) (held : List QueuedWish) (t : Ins
   known_more : (w : Wish) (old new : List ℕ) → AreSignals signals old → TouchesMore signals (bits_named w.bits) old new → AreSignals signals new
   known_more w old new known more k h = elim ((more k).0 h) [ inl g ↦ is_below signals k g.bit g.has | inr g ↦ known k g ]
 
-  others_more : (w : Wish) (old new : List ℕ) (bits seen : List Bool) → OthersStay signals old bits seen → TouchesMore signals (bits_named w.bits) old new → OthersStay signals new bits (written w.bits seen)
+  others_more : (w : Wish) (old new : List ℕ) (bits seen : List Bool) → OthersStay signals old bits seen →
+      TouchesMore signals (bits_named w.bits) old new → OthersStay signals new bits (written w.bits seen)
   others_more w old new bits seen others more k n b h =
       others k (λ g. n ((more k).1 (inr g))) b h ∙ only_written_change signals w.bits new seen (λ j g. (more j).1 (inl g)) k n b h
 
   -- one wish more
-  pub touched_more : (k : ℕ) (w : Wish) (key next : Option ℕ) (old new : List ℕ) → AreInOrder held → KeysDiffer held → wish_at held k ≡ Some w → is_at w.due t ≡ true → key ≡ Some k → next ≡ next_in held k →
+  pub touched_more : (k : ℕ) (w : Wish) (key next : Option ℕ) (old new : List ℕ) → AreInOrder held → KeysDiffer held → wish_at held k ≡ Some w →
+      is_at w.due t ≡ true → key ≡ Some k → next ≡ next_in held k →
       TouchesMore signals (bits_named w.bits) old new → TouchedTo signals width held t old key → TouchedTo signals width held t new next
   touched_more k w key next old new order keys is due at on more s = record {
     known = known_more w old new s.known more;
@@ -75,7 +77,8 @@ module _ (signals : List Signal) (width : ℕ) (held : List QueuedWish) (t : Ins
       subst P (sym on) (subst Q (sym at) l)
 
   -- no further wish is due
-  ends : (touched : List ℕ) (key : Option ℕ) → ((seen : List Bool) → seen ≡ values_by (entries (rest_from held key)) t 0 seen) → TouchedTo signals width held t touched key → MayChange signals width held t touched
+  ends : (touched : List ℕ) (key : Option ℕ) → ((seen : List Bool) → seen ≡ values_by (entries (rest_from held key)) t 0 seen) →
+      TouchedTo signals width held t touched key → MayChange signals width held t touched
   ends touched key still s = record {
     known = s.known;
     others = λ bits n.
@@ -92,7 +95,8 @@ module _ (signals : List Signal) (width : ℕ) (held : List QueuedWish) (t : Ins
       let gone : rest_from held key ≡ [] = ap (rest_from held) e ∙ rest_none held k n in
       ends touched key (λ seen. looked_none t seen ∙ ap (λ (xs : List QueuedWish). values_by (entries xs) t 0 seen) (sym gone)) s
 
-  pub touched_late : (touched : List ℕ) (key : Option ℕ) (k : ℕ) (w : Wish) → AreInOrder held → KeysDiffer held → NoneDueBefore t held → key ≡ Some k → wish_at held k ≡ Some w → is_at w.due t ≡ false → TouchedTo signals width held t touched key →
+  pub touched_late : (touched : List ℕ) (key : Option ℕ) (k : ℕ) (w : Wish) → AreInOrder held → KeysDiffer held → NoneDueBefore t held →
+      key ≡ Some k → wish_at held k ≡ Some w → is_at w.due t ≡ false → TouchedTo signals width held t touched key →
       MayChange signals width held t touched
   touched_late touched key k w order keys due e is late s =
       ends touched key (λ seen. looked_end held k w t seen order keys due is late ∙ ap (λ (j : Option ℕ). values_by (entries (rest_from held j)) t 0 seen) (sym e)) s

@@ -40,7 +40,8 @@ range_push k (suc n) =
     let q : k + 1 + n ≡ k + suc n = omega arith in
     ap (λ (m : ℕ). range_with_len k m) p ∙ ap (λ (xs : List ℕ). k ∷ xs) (range_push (k + 1) n) ∙ ap (λ (j : ℕ). k ∷ (range_with_len (k + 1) n ++ j ∷ [])) q
 
-pub awake_all : (a : Arena) (now : List Bool) (t : Instant) (is : List Instance) (ss : List InstState) (k : ℕ) → length ss ≡ length is → range_with_len k (length is) ≡ awake_from k a (record { before = None; now = now; at = t }) is ss
+pub awake_all : (a : Arena) (now : List Bool) (t : Instant) (is : List Instance) (ss : List InstState) (k : ℕ) → length ss ≡ length is →
+    range_with_len k (length is) ≡ awake_from k a (record { before = None; now = now; at = t }) is ss
 awake_all a now t [] ss k e = refl
 awake_all a now t (i ∷ is) [] k e = absurd (omega (arith, e))
 awake_all a now t (i ∷ is) (s ∷ ss) k e = ap (λ (xs : List ℕ). k ∷ xs) (awake_all a now t is ss (k + 1) (omega (arith, e)))
@@ -58,7 +59,8 @@ first_more items i y old new l e h m k = (
   λ g. elim ((has_next k items i y l e).0 g) [ inl o ↦ (m k).1 (inr ((h k).1 o)) | inr p ↦ (m k).1 (inl (sym p)) ],
 )
 
-pub first_due : (ws : List ℕ) (items : List ℕ) (i : ℕ) (xs : List ℕ) (P : ℕ → Type 0) → items ≡ ws → length items ≤ i → HasFirst items i xs → ((k : ℕ) → IsOneOf k ws ↔ P k) → (k : ℕ) → IsOneOf k xs ↔ P k
+pub first_due : (ws : List ℕ) (items : List ℕ) (i : ℕ) (xs : List ℕ) (P : ℕ → Type 0) → items ≡ ws → length items ≤ i → HasFirst items i xs →
+    ((k : ℕ) → IsOneOf k ws ↔ P k) → (k : ℕ) → IsOneOf k xs ↔ P k
 first_due ws items i xs P e l h d k =
     let s : take i items ≡ ws = take_all i items l ∙ e in
     let Q : List ℕ → Type 0 = λ zs. IsOneOf k xs ↔ IsOneOf k zs in
@@ -80,7 +82,8 @@ module _ (states : List InstState) (probes : List (List Range)) (old now : List 
 
   -- one that senses a bit that differs
   pub roused_more : (i y : ℕ) (s : InstState) (rs : List Range) (before mid after : List ℕ) → i < length items → y ≡ get_or items i 0 → slice_get states y ≡ Some s → slice_get probes y ≡ Some rs →
-      list_any (bit_differs old now) (bit_numbers (parts_sensed s rs)) ≡ true → RousedTo states probes old now items i before mid → HasOneMore mid y after → RousedTo states probes old now items (i + 1) before after
+      list_any (bit_differs old now) (bit_numbers (parts_sensed s rs)) ≡ true → RousedTo states probes old now items i before mid →
+      HasOneMore mid y after → RousedTo states probes old now items (i + 1) before after
   roused_more i y s rs before mid after l e p q d r m = record {
     keeps = λ k h. (m k).1 (inr (r.keeps k h));
     sound = λ k h. elim ((m k).0 h) [
@@ -91,13 +94,15 @@ module _ (states : List InstState) (probes : List (List Range)) (old now : List 
   }
 
   -- one that does not
-  calm : (y k : ℕ) (s : InstState) (rs : List Range) → slice_get states y ≡ Some s → slice_get probes y ≡ Some rs → list_any (bit_differs old now) (bit_numbers (parts_sensed s rs)) ≡ false → y ≡ k → IsRoused states probes old now k → ⊥
+  calm : (y k : ℕ) (s : InstState) (rs : List Range) → slice_get states y ≡ Some s → slice_get probes y ≡ Some rs →
+      list_any (bit_differs old now) (bit_numbers (parts_sensed s rs)) ≡ false → y ≡ k → IsRoused states probes old now k → ⊥
   calm y k s rs p q d o w =
       let f : Some s ≡ Some w.state = sym p ∙ ap (λ (j : ℕ). slice_get states j) o ∙ w.is_kept in
       let g : Some rs ≡ Some w.probed = sym q ∙ ap (λ (j : ℕ). slice_get probes j) o ∙ w.is_probed in
       let u : s ≡ w.state = cc in
       let v : rs ≡ w.probed = cc in
-      false_true (sym d ∙ ap (λ (x : InstState). list_any (bit_differs old now) (bit_numbers (parts_sensed x rs))) u ∙ ap (λ (x : List Range). list_any (bit_differs old now) (bit_numbers (parts_sensed w.state x))) v ∙ w.differs)
+      false_true (sym d ∙ ap (λ (x : InstState). list_any (bit_differs old now) (bit_numbers (parts_sensed x rs))) u ∙
+      ap (λ (x : List Range). list_any (bit_differs old now) (bit_numbers (parts_sensed w.state x))) v ∙ w.differs)
 
   pub roused_not : (i y : ℕ) (s : InstState) (rs : List Range) (before after : List ℕ) → i < length items → y ≡ get_or items i 0 → slice_get states y ≡ Some s → slice_get probes y ≡ Some rs →
       list_any (bit_differs old now) (bit_numbers (parts_sensed s rs)) ≡ false → RousedTo states probes old now items i before after → RousedTo states probes old now items (i + 1) before after
@@ -112,7 +117,8 @@ pub roused_stays : (signals : List Signal) (states : List InstState) (probes : L
     HasRoused signals states probes n old now signal before before
 roused_stays signals states probes n old now signal before s = record { keeps = λ k h. h; sound = λ k h. inl h; all = inl s }
 
-pub roused_all : (signals : List Signal) (states : List InstState) (probes : List (List Range)) (n : Noted) (old now : List Bool) (signal : ℕ) (items : List ℕ) (i : ℕ) (before after : List ℕ) → items ≡ sensed_by n.index signal → length items ≤ i →
+pub roused_all : (signals : List Signal) (states : List InstState) (probes : List (List Range)) (n : Noted) (old now : List Bool) (signal : ℕ)
+    (items : List ℕ) (i : ℕ) (before after : List ℕ) → items ≡ sensed_by n.index signal → length items ≤ i →
     RousedTo states probes old now items i before after → HasRoused signals states probes n old now signal before after
 roused_all signals states probes n old now signal items i before after e l r =
     let s : take i items ≡ sensed_by n.index signal = take_all i items l ∙ e in
@@ -136,7 +142,8 @@ module _ (a : Arena) (d : Design) (states : List InstState) (probes : List (List
         probed = probed_by a i;
         is_kept = q;
         is_probed = r;
-        within = are_within (length d.init) (parts_sensed s (probed_by a i)) (senses-within a (length d.init) i s (probed_by a i) (fit_at a (length d.init) d.instances.items states k i s asleep.fit p q)
+        within = are_within (length d.init) (parts_sensed s (probed_by a i))
+            (senses-within a (length d.init) i s (probed_by a i) (fit_at a (length d.init) d.instances.items states k i s asleep.fit p q)
             (Each-get (λ (rs : List Range). Each (λ (x : Range). x.lo + x.len ≤ length d.init) rs) probes k (probed_by a i) asleep.probed_within r));
       }
 
@@ -151,7 +158,8 @@ module _ (a : Arena) (d : Design) (states : List InstState) (probes : List (List
       sensed_at signal y (subst P e h)
 
 -- the state and what is probed as they are read
-pub read_within : (d : Design) (states : List InstState) (probes : List (List Range)) (k : ℕ) (s : InstState) (rs parts : List Range) (bits : List Bool) → SensedAt d states probes k → slice_get states k ≡ Some s → slice_get probes k ≡ Some rs →
+pub read_within : (d : Design) (states : List InstState) (probes : List (List Range)) (k : ℕ) (s : InstState) (rs parts : List Range)
+    (bits : List Bool) → SensedAt d states probes k → slice_get states k ≡ Some s → slice_get probes k ≡ Some rs →
     parts ≡ parts_sensed s rs → length bits ≡ length d.init → AreWithin (length bits) parts
 read_within d states probes k s rs parts bits w p q e m =
     let f : Some w.state ≡ Some s = sym w.is_kept ∙ p in
@@ -171,7 +179,8 @@ module _ (signals : List Signal) (states : List InstState) (probes : List (List 
   pub woken_none : (due : List ℕ) → WokenTo signals states probes n old now touched 0 due due
   woken_none due = record { keeps = λ k h. h; sound = λ k h. inl h; all = λ j h. absurd h }
 
-  pub woken_more : (i signal : ℕ) (due mid woken : List ℕ) → i < length touched → signal ≡ get_or touched i 0 → WokenTo signals states probes n old now touched i due mid → HasRoused signals states probes n old now signal mid woken →
+  pub woken_more : (i signal : ℕ) (due mid woken : List ℕ) → i < length touched → signal ≡ get_or touched i 0 →
+      WokenTo signals states probes n old now touched i due mid → HasRoused signals states probes n old now signal mid woken →
       WokenTo signals states probes n old now touched (i + 1) due woken
   woken_more i signal due mid woken l e w r = record {
     keeps = λ k h. r.keeps k (w.keeps k h);
@@ -185,7 +194,8 @@ module _ (signals : List Signal) (states : List InstState) (probes : List (List 
     ];
   }
 
-pub woken_end : (signals : List Signal) (states : List InstState) (probes : List (List Range)) (n : Noted) (old now : List Bool) (items touched : List ℕ) (i : ℕ) (due woken : List ℕ) → items ≡ touched → length items ≤ i →
+pub woken_end : (signals : List Signal) (states : List InstState) (probes : List (List Range)) (n : Noted) (old now : List Bool)
+    (items touched : List ℕ) (i : ℕ) (due woken : List ℕ) → items ≡ touched → length items ≤ i →
     WokenTo signals states probes n old now items i due woken → WokenTo signals states probes n old now touched (length touched) due woken
 woken_end signals states probes n old now items touched i due woken e l w =
     let s : take i items ≡ take (length touched) touched = take_all i items l ∙ e ∙ sym (take_all (length touched) touched (omega arith)) in
@@ -209,7 +219,8 @@ at_some t None e = absurd (false_true e)
 at_some t (Some u) e = ap (λ (x : Instant). Some x) (sym (at_one t u e))
 
 -- exactly those that wake
-module _ (a : Arena) (d : Design) (states : List InstState) (probes : List (List Range)) (n : Noted) (t : Instant) (old now : List Bool) (touched due woken : List ℕ) (asleep : AreAsleep a d states probes n t) where
+module _ (a : Arena) (d : Design) (states : List InstState) (probes : List (List Range)) (n : Noted) (t : Instant) (old now : List Bool)
+    (touched due woken : List ℕ) (asleep : AreAsleep a d states probes n t) where
   -- the moment of a later frame
   abbrev later : Moment
   later = record { before = Some old; now = now; at = t }
@@ -232,7 +243,8 @@ module _ (a : Arena) (d : Design) (states : List InstState) (probes : List (List
   by_bits k r =
       let i = instance_at a (length d.init) d.instances.items states k r.state asleep.fit r.is_kept in
       let e : r.probed ≡ probed_by a i.0 = as_probed a d.instances.items probes k i.0 r.probed asleep.probed i.1 r.is_probed in
-      let f : list_any (bit_differs old now) (bit_numbers (parts_sensed r.state (probed_by a i.0))) ≡ true = ap (λ (z : List Range). list_any (bit_differs old now) (bit_numbers (parts_sensed r.state z))) (sym e) ∙ r.differs in
+      let f : list_any (bit_differs old now) (bit_numbers (parts_sensed r.state (probed_by a i.0))) ≡ true =
+      ap (λ (z : List Range). list_any (bit_differs old now) (bit_numbers (parts_sensed r.state z))) (sym e) ∙ r.differs in
       record {
         instance = i.0;
         state = r.state;
@@ -242,7 +254,8 @@ module _ (a : Arena) (d : Design) (states : List InstState) (probes : List (List
       }
 
   -- one that senses a bit that differs is among the woken
-  roused_is : (k : ℕ) (i : Instance) (s : InstState) → slice_get d.instances.items k ≡ Some i → slice_get states k ≡ Some s → list_any (bit_differs old now) (bit_numbers (parts_sensed s (probed_by a i))) ≡ true →
+  roused_is : (k : ℕ) (i : Instance) (s : InstState) → slice_get d.instances.items k ≡ Some i → slice_get states k ≡ Some s →
+      list_any (bit_differs old now) (bit_numbers (parts_sensed s (probed_by a i))) ≡ true →
       OthersStay d.signals.items touched old now → WokenTo d.signals.items states probes n old now touched (length touched) due woken → IsOneOf k woken
   roused_is k i s p q e others w = elim (has_or k woken) [
     | inl h ↦ h
@@ -263,11 +276,13 @@ module _ (a : Arena) (d : Design) (states : List InstState) (probes : List (List
             let P : List ℕ → Type 0 = IsOneOf j in
             elim (w.all j (subst P (sym (take_all (length touched) touched (omega arith))) h)) [
               | inl same ↦ same
-              | inr f ↦ absurd (m (f k ((asleep.noted.senses j k).1 (record { instance = i; state = s; is = p; stands = q; touches = g })) (record { state = s; probed = probed_by a i; is_kept = q; is_probed = probed; differs = e })))
+              | inr f ↦ absurd (m (f k ((asleep.noted.senses j k).1 (record { instance = i; state = s; is = p; stands = q; touches = g }))
+                  (record { state = s; probed = probed_by a i; is_kept = q; is_probed = probed; differs = e })))
             ]
       ]
 
-  pub woken_are : ((k : ℕ) → IsOneOf k due ↔ IsNoted n.wakes t k) → OthersStay d.signals.items touched old now → WokenTo d.signals.items states probes n old now touched (length touched) due woken → IsRising woken →
+  pub woken_are : ((k : ℕ) → IsOneOf k due ↔ IsNoted n.wakes t k) → OthersStay d.signals.items touched old now →
+      WokenTo d.signals.items states probes n old now touched (length touched) due woken → IsRising woken →
       woken ≡ awake_from 0 a later d.instances.items states
   woken_are times others w rising = rising_same woken (awake_from 0 a later d.instances.items states) rising (awake_rises a later d.instances.items states 0) (λ k. (there k, back k))
     where

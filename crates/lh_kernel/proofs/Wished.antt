@@ -99,7 +99,8 @@ can_by held t k (d ∷ ds) ws e g a c =
     (none_competes w held e, rising_once d.1 g.1, apart_join w (wishes_by t k ds) ws (apart_later w t k ds (grouped_later d.0 ds g.2 g.3)) (a d.0 d.1), can_by held t k ds ws e g.3 a c)
 
 -- all wishes of a frame can be put
-pub can_all : (held : List QueuedWish) (t : Instant) (xs : List Activation) → Each (IsMadeElsewhen t) held → Each (λ (x : Activation). IsGrouped x.act.wishes) xs → IsRising (instances_of xs) → CanBePut held (wishes_ran t xs)
+pub can_all : (held : List QueuedWish) (t : Instant) (xs : List Activation) → Each (IsMadeElsewhen t) held →
+    Each (λ (x : Activation). IsGrouped x.act.wishes) xs → IsRising (instances_of xs) → CanBePut held (wishes_ran t xs)
 can_all held t [] e g r = tt
 can_all held t (x ∷ xs) e g r =
     can_by held t x.instance x.act.wishes (wishes_ran t xs) e g.0 (λ d bits. apart_higher (record { made = t; instance = x.instance; due = d; bits = bits }) t xs r.0) (can_all held t xs e g.1 r.1)
@@ -122,7 +123,8 @@ pub each_wish : (P : Wish → Type 0) (a : Arena) (width : ℕ) (t : Instant) (i
     Each (ActOfOne a width t is) xs → Each P (wishes_ran t xs)
 each_wish P a width t is [] f e = tt
 each_wish P a width t is (x ∷ xs) f e =
-    each_join P (wishes_by t x.instance x.act.wishes) (wishes_ran t xs) (each_by P width t x.instance x.act.wishes (f x.instance) e.0.sound.grouped e.0.sound.within e.0.sound.later) (each_wish P a width t is xs f e.1)
+    each_join P (wishes_by t x.instance x.act.wishes) (wishes_ran t xs)
+    (each_by P width t x.instance x.act.wishes (f x.instance) e.0.sound.grouped e.0.sound.within e.0.sound.later) (each_wish P a width t is xs f e.1)
 
 pub filled_names : (ws : List (ℕ × Bool)) → is_filled ws ≡ true → ws ≢ []
 filled_names [] h e = clash h

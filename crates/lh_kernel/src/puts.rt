@@ -6,11 +6,11 @@ ghost use Rattle.lh_kernel.specs.Ran.{states_after};
 ghost use Rattle.lh_kernel.specs.Puts.{wishes_by, wishes_ran, WerePut, CanBePut};
 
 use crate::run::Activation;
+use lh_bits::writes::DueWrites;
 use lh_queue::queue::Queue;
 use lh_queue::wish::Wish;
 use lh_states::state::InstState;
 use lh_time::Instant;
-use lh_types::writes::DueWrites;
 use std::alloc::Global;
 
 /// Takes what the instances did at an instant: their wishes into the queue, and their states. It takes no memory.

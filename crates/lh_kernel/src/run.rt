@@ -10,12 +10,12 @@ ghost use Rattle.lh_elab.specs.Answer.{IsDesignOf};
 ghost use Rattle.lh_kernel.specs.States.{StatesStand, StatesFit};
 ghost use Rattle.lh_kernel.specs.Ran.{AllRan, ActOfOne, outcomes_ran, outcomes_by};
 
+use lh_bits::bits::Bits;
 use lh_design::Design;
 use lh_exec::ExecFault;
 use lh_states::runs::{InstAct, run_instance};
 use lh_states::state::InstState;
 use lh_time::Instant;
-use lh_types::bits::Bits;
 use lh_types::frame::{Outcome, OutcomeList};
 use lh_types::tally::Tally;
 use lh_types::ty::NoMemory;

@@ -14,10 +14,10 @@ ghost use Rattle.lh_kernel.specs.Simulation.{StandsFor};
 ghost use Rattle.lh_kernel.specs.Stepped.{Stepped, Tallied, signal_of};
 
 use crate::machine::SimState;
+use lh_bits::layout::from_bits;
 use lh_design::Design;
 use lh_time::Instant;
 use lh_types::frame::Frame;
-use lh_types::layout::from_bits;
 use lh_types::tally::Tally;
 use lh_types::ty::NoMemory;
 use lh_types::val::Val;

@@ -8,12 +8,12 @@ ghost use Rattle.lh_change.specs.Touched.{AreSignals, OthersStay};
 ghost use Rattle.lh_kernel.specs.Woken.{awake_from, AreAsleep, HasRoused};
 
 use crate::noted::Noted;
+use lh_bits::bits::Bits;
 use lh_change::differ::{changed_part, differs_with};
 use lh_design::Design;
 use lh_index::rising::Rising;
 use lh_states::state::InstState;
 use lh_time::Instant;
-use lh_types::bits::Bits;
 use lh_types::part::RangeList;
 use lh_types::ty::NoMemory;
 use std::alloc::Global;

@@ -6,10 +6,9 @@ use Rattle.std.proofs.lemmas.List.{take_all, length-drop, length-take-le}
 use Rattle.std.proofs.lemmas.List.Elements.{Contains-append_right, Contains-push_cases, Contains-append_cases}
 use Rattle.std.proofs.lemmas.Option.{none-some, same_Some}
 use Rattle.lh_types.specs.Types.{IsData, bit_count}
-use Rattle.lh_types.specs.Bits.{value_bits}
+use Rattle.lh_types.specs.Bits.{value_bits, differing}
 use Rattle.lh_types.specs.Parts.{bits_within}
-use Rattle.lh_types.specs.Flags.{differing}
-use Rattle.lh_types.proofs.ValueBits.{value_bits-value_from_bits}
+use Rattle.lh_bits.proofs.ValueBits.{value_bits-value_from_bits}
 use Rattle.lh_unit.specs.Contents.{ItemText}
 use Rattle.lh_unit.specs.Hierarchy.{Instance}
 use Rattle.lh_unit.specs.Design.{Signal}

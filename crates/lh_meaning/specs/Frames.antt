@@ -4,7 +4,7 @@ use Rattle.std.specs.List.Sorted.{IsStrictlyIncreasing}
 use Rattle.lh_time.specs.declared.Instant.{Instant}
 use Rattle.lh_types.specs.Types.{IsData, bit_count}
 use Rattle.lh_types.specs.Parts.{bits_within}
-use Rattle.lh_types.specs.Flags.{differing}
+use Rattle.lh_types.specs.Bits.{differing}
 use Rattle.lh_types.specs.History.{Made, bits_at}
 use Rattle.lh_unit.specs.declared.name.UnitName.{UnitName}
 use Rattle.lh_unit.specs.Contents.{ItemText}

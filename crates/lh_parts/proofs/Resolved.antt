@@ -6,7 +6,7 @@ use Rattle.lh_types.specs.Types.{TypeTree, IsData, bit_count}
 use Rattle.lh_types.specs.Parts.{Part as Within, part_of, part_range, range_of}
 use Rattle.lh_types.specs.declared.part.Range.{Range}
 use Rattle.lh_types.specs.declared.part.Step.{Step}
-use Rattle.lh_types.proofs.LawProofs.{parts_are_within}
+use Rattle.lh_bits.proofs.LawProofs.{parts_are_within}
 use Rattle.lh_types.proofs.Limits.{bit_count-le}
 use Rattle.lh_unit.specs.Typing.{or_else}
 use Rattle.lh_unit.specs.Effects.{step_of}

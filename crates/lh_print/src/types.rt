@@ -31,7 +31,7 @@ pub fn put_type(out: &mut Vec<u8>, t: &Ty) -> Result<(), NoMemory>
         }
         TyKind::Tuple(fields) => {
             put(out, b"{")?;
-            put_types(out, fields.as_slice())?;
+            put_types(out, fields)?;
             put(out, b"}")
         }
         TyKind::Signal(of) => {

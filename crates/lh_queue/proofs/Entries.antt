@@ -16,7 +16,7 @@ use Rattle.lh_history.proofs.Claims.{AllLate, greatest_late}
 use Rattle.lh_queue.specs.declared.wish.Wish.{Wish}
 use Rattle.lh_queue.specs.Queued.{QueuedWish, wish_cmp, is_before, is_at, IsBeforeAll, AreInOrder, NoneDueBefore, due_later}
 use Rattle.lh_queue.specs.Holds.{entries}
-use Rattle.lh_types.specs.Writes.{written}
+use Rattle.lh_bits.specs.Writes.{written}
 use Rattle.lh_queue.specs.Places.{starts_at}
 use Rattle.lh_queue.proofs.Order.{wish_total}
 

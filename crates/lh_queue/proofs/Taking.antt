@@ -8,7 +8,7 @@ use Rattle.lh_queue.specs.declared.wish.Wish.{Wish}
 use Rattle.lh_queue.specs.Queued.{QueuedWish, is_at, AreInOrder, NoneHas, KeysDiffer, NoneDueBefore, EachWithin, BitsWithin, due_later, wish_at}
 use Rattle.lh_queue.specs.Holds.{entries}
 use Rattle.lh_queue.specs.Buckets.{time, link, next_in}
-use Rattle.lh_types.specs.Writes.{written}
+use Rattle.lh_bits.specs.Writes.{written}
 use Rattle.lh_queue.specs.Places.{first_key, starts_at, from_key, rest_from}
 use Rattle.lh_queue.proofs.Placing.{fs_upto}
 use Rattle.lh_queue.proofs.Entries.{values_of_first, values_of_later, later_stay, due_goes, not_started, not_due_later, all_later, at_one}

@@ -6,7 +6,7 @@ use Rattle.std.specs.Ordering.{nat_cmp, ordering_then, is_lt, is_eq}
 use Rattle.lh_time.specs.declared.Instant.{Instant}
 use Rattle.lh_time.specs.Order.{instant_cmp, instant_lt, instant_le}
 use Rattle.lh_queue.specs.declared.wish.Wish.{Wish}
-pub use Rattle.lh_types.specs.Writes.{BitsWithin}
+pub use Rattle.lh_bits.specs.Writes.{BitsWithin}
 
 -- a wish that is held, and its key
 pub record QueuedWish : Type 0 where

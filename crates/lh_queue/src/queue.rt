@@ -9,8 +9,8 @@ ghost use Rattle.lh_queue.specs.Places.{IsPlace, GoesAlone, GoesFirst, GoesAfter
 use crate::hints::Hints;
 use crate::line::Line;
 use crate::wish::Wish;
+use lh_bits::bits::Bits;
 use lh_time::Instant;
-use lh_types::bits::Bits;
 use lh_types::ty::NoMemory;
 use slab::Slab;
 use std::alloc::Global;

@@ -1,11 +1,11 @@
 //! A wish as a queue holds it: what one instance wished at one instant for one due instant.
 ghost use Rattle.std.specs.Prelude.{◌≡◌, length};
-ghost use Rattle.lh_types.specs.Writes.{written, BitsWithin};
+ghost use Rattle.lh_bits.specs.Writes.{written, BitsWithin};
 ghost use Rattle.lh_queue.specs.Queued.{is_before, is_at};
 
+use lh_bits::bits::Bits;
+use lh_bits::writes::BitWrites;
 use lh_time::Instant;
-use lh_types::bits::Bits;
-use lh_types::writes::BitWrites;
 
 /// The part of an instance's wish that is due at one instant: these bits of the signals become so.
 #[derive(Drop)]

@@ -28,7 +28,8 @@ module _ (u : UnitText) (args : List Range) (now : List Bool) (memory : Option (
   shut None (gate.Same left right) is s = absurd is
   shut (Some n) (gate.Same left right) is s = inr (subst (λ (b : Bool). IsComparedBit u now begun n b) s.other (is now begun s.left_in s.right_in begins))
 
-  holds-back : (g : TriggerText) (b : TriggerBit) (past : Option Bool) (value : Bool) → IsTriggerBit u args g b → IsHeld now past value b → HoldsBack u now begun past value g
+  holds-back : (g : TriggerText) (b : TriggerBit) (past : Option Bool) (value : Bool) → IsTriggerBit u args g b → IsHeld now past value b
+      → HoldsBack u now begun past value g
   holds-back g b past value is held = by held
     where
       by : (mode_holds b.mode past value ≡ false) ⊎ GateIsShut now b.gate → HoldsBack u now begun past value g
@@ -47,7 +48,9 @@ module _ (u : UnitText) (args : List Range) (now : List Bool) (memory : Option (
   seen-one : (p : Passed) (v : Bool) → length (p.seen ++ v ∷ []) ≡ length p.seen + 1
   seen-one p v = omega (arith, length-append p.seen (v ∷ []))
 
-  register-rests : (to : OperandText) (gs more : List TriggerText) (bits : List TriggerBit) (values : List Bool) (p : Passed) → AreTriggerBits u args (gs ++ more) bits → NoneFires now memory (length p.seen) bits values → KnowsProbedBits u now begun p.held → Each (TriggerFinds p.held) gs
+  register-rests : (to : OperandText) (gs more : List TriggerText) (bits : List TriggerBit) (values : List Bool) (p : Passed)
+      → AreTriggerBits u args (gs ++ more) bits → NoneFires now memory (length p.seen) bits values → KnowsProbedBits u now begun p.held
+      → Each (TriggerFinds p.held) gs
       → Onward more values p (triggers_from memory t to false p gs)
   register-rests to [] more bits values p are rests k finds = record { bits = bits; rest = values; are = are; rests = rests; seen = refl; wish = refl }
   register-rests to (g ∷ gs) more [] values p are rests k finds = absurd are
@@ -57,18 +60,23 @@ module _ (u : UnitText) (args : List Range) (now : List Bool) (memory : Option (
       let back : HoldsBack u now begun (past_at memory (length p.seen)) v g = holds-back g b (past_at memory (length p.seen)) v are.0 rests.0.held in
       let still : fires memory p g ≡ false = held-back u now begun memory p g (past_at memory (length p.seen)) v refl k back is finds.0.gate in
       let q : Passed = record { held = p.held; seen = p.seen ++ v ∷ []; wish = p.wish } in
-      let n : Onward more values q (triggers_from memory t to false q gs) = register-rests to gs more bits values q are.1 (subst (λ (m : ℕ). NoneFires now memory m bits values) (sym (seen-one p v)) rests.1) k finds.1 in
-      let all : Onward more (v ∷ values) p (triggers_from memory t to false q gs) = record { bits = n.bits; rest = n.rest; are = n.are; rests = n.rests; seen = n.seen ∙ append_assoc p.seen (v ∷ []) values; wish = n.wish } in
+      let n : Onward more values q (triggers_from memory t to false q gs) = register-rests to gs more bits values q are.1
+      (subst (λ (m : ℕ). NoneFires now memory m bits values) (sym (seen-one p v)) rests.1) k finds.1 in
+      let all : Onward more (v ∷ values) p (triggers_from memory t to false q gs) =
+      record { bits = n.bits; rest = n.rest; are = n.are; rests = n.rests; seen = n.seen ∙ append_assoc p.seen (v ∷ []) values; wish = n.wish } in
       subst (λ (z : Passed). Onward more (v ∷ values) p z) (sym (trigger-still memory t to p g gs v is still)) all
 
-  inst-rests : (i : InstText) (r : Option (List ℕ)) (more : List TriggerText) (bits : List TriggerBit) (values : List Bool) (p : Passed) → AreTriggerBits u args (triggers_by i ++ more) bits → NoneFires now memory (length p.seen) bits values → IsNoDrive i → KnowsProbedBits u now begun p.held
+  inst-rests : (i : InstText) (r : Option (List ℕ)) (more : List TriggerText) (bits : List TriggerBit) (values : List Bool) (p : Passed)
+      → AreTriggerBits u args (triggers_by i ++ more) bits → NoneFires now memory (length p.seen) bits values → IsNoDrive i → KnowsProbedBits u now begun p.held
       → FindsInPass u now t p i → Onward more values p (passes u now memory t i r p)
   inst-rests (reg_text to gs) r more bits values p are rests free k f = register-rests to gs more bits values p are rests k f.1
   inst-rests (drv_text to value after cond) r more bits values p are rests free k f = absurd free
   inst-rests _ r more bits values p are rests free k f = record { bits = bits; rest = values; are = are; rests = rests; seen = refl; wish = refl }
 
-  lines-rest : (ls : List LineText) (bits : List TriggerBit) (values : List Bool) (p : Passed) → AreTriggerBits u args (triggers_of ls) bits → NoneFires now memory (length p.seen) bits values → Each (λ (l : LineText). IsNoDrive l.inst) ls → Each (IsFirst u.args (lines_of u.blocks)) ls
-      → KnowsProbedBits u now begun p.held → FindsAll u now memory t p ls → ((pass_from u now memory t p ls).seen ≡ p.seen ++ values) × ((pass_from u now memory t p ls).wish ≡ p.wish)
+  lines-rest : (ls : List LineText) (bits : List TriggerBit) (values : List Bool) (p : Passed) → AreTriggerBits u args (triggers_of ls) bits
+      → NoneFires now memory (length p.seen) bits values → Each (λ (l : LineText). IsNoDrive l.inst) ls → Each (IsFirst u.args (lines_of u.blocks)) ls
+      → KnowsProbedBits u now begun p.held → FindsAll u now memory t p ls → ((pass_from u now memory t p ls).seen ≡ p.seen ++ values) ×
+      ((pass_from u now memory t p ls).wish ≡ p.wish)
   lines-rest [] [] [] p are rests free first k f = (sym (append-nil p.seen), refl)
   lines-rest [] [] (v ∷ values) p are rests free first k f = absurd rests
   lines-rest [] (b ∷ bits) values p are rests free first k f = absurd are
@@ -79,7 +87,8 @@ module _ (u : UnitText) (args : List Range) (now : List Bool) (memory : Option (
       (z.0 ∙ n.seen, z.1 ∙ n.wish)
 
   -- where all triggers of an entity rest, so does its pass
-  pub pass-rests : (bits : List TriggerBit) (values : List Bool) → HasTriggers u args bits → NoneFires now memory 0 bits values → Each (IsFirst u.args (lines_of u.blocks)) (lines_of u.blocks) → FindsAll u now memory t (begins_with begun) (lines_of u.blocks)
+  pub pass-rests : (bits : List TriggerBit) (values : List Bool) → HasTriggers u args bits → NoneFires now memory 0 bits values
+      → Each (IsFirst u.args (lines_of u.blocks)) (lines_of u.blocks) → FindsAll u now memory t (begins_with begun) (lines_of u.blocks)
       → IsStill (pass_from u now memory t (begins_with begun) (lines_of u.blocks)) values
   pass-rests bits values has rests first f =
       let k : KnowsProbedBits u now begun begun = record {
@@ -90,7 +99,9 @@ module _ (u : UnitText) (args : List Range) (now : List Bool) (memory : Option (
       record { seen = z.0; wish = z.1 }
 
 -- the same, where they are known
-pub rests-as-known : (u : UnitText) (args : List Range) (now : List Bool) (memory : Option (List Bool)) (known : Option (List TriggerBit)) (values : List Bool) (begun : Env) → BeginsBy u args begun → (t : Instant) → TriggersFit u args known → IsSomeAnd known (λ bits. NoneFires now memory 0 bits values)
-    → Each (IsFirst u.args (lines_of u.blocks)) (lines_of u.blocks) → FindsAll u now memory t (begins_with begun) (lines_of u.blocks) → IsStill (pass_from u now memory t (begins_with begun) (lines_of u.blocks)) values
+pub rests-as-known : (u : UnitText) (args : List Range) (now : List Bool) (memory : Option (List Bool)) (known : Option (List TriggerBit)) (values : List Bool)
+    (begun : Env) → BeginsBy u args begun → (t : Instant) → TriggersFit u args known → IsSomeAnd known (λ bits. NoneFires now memory 0 bits values)
+    → Each (IsFirst u.args (lines_of u.blocks)) (lines_of u.blocks) → FindsAll u now memory t (begins_with begun) (lines_of u.blocks)
+    → IsStill (pass_from u now memory t (begins_with begun) (lines_of u.blocks)) values
 rests-as-known u args now memory None values begun begins t fit rests first f = absurd rests
 rests-as-known u args now memory (Some bits) values begun begins t fit rests first f = pass-rests u args now memory begun begins t bits values fit rests first f

@@ -22,15 +22,20 @@ module _ (a : Arena) (u w : ℕ) (r : PassRun) (f : RunFits a u w r) where
   pub slots-long : length r.slots ≡ value_count a u
   slots-long = f.stands.holds.long
 
-  pub operation-fits : w < 2 ^ 32 → (o : Op) (args : List Typed) → Each (OperandWithin (sizes a u)) args → RowIs (unit_text_at a u) (pure_text o (map (operand_text (naming a u)) args)) → HasOperands o (map (operand_text (naming a u)) args) → OperandsFit a u r.slots o args
+  pub operation-fits : w < 2 ^ 32 → (o : Op) (args : List Typed) → Each (OperandWithin (sizes a u)) args
+      → RowIs (unit_text_at a u) (pure_text o (map (operand_text (naming a u)) args)) → HasOperands o (map (operand_text (naming a u)) args)
+      → OperandsFit a u r.slots o args
   operation-fits few o args l row has = operation-has a u w r.slots f.passed.held f.stands.holds f.fits few o args l row has
 
   -- a probe
-  pub probe-fits : (now : List Bool) → length now ≡ w → (s : Typed) → s.value.0 < length r.slots → RowIs (unit_text_at a u) (prb_text (operand_text (naming a u) s)) → ProbeFits now r.slots s
+  pub probe-fits : (now : List Bool) → length now ≡ w → (s : Typed) → s.value.0 < length r.slots
+      → RowIs (unit_text_at a u) (prb_text (operand_text (naming a u) s)) → ProbeFits now r.slots s
   probe-fits now n s l row = probe-has a u w r.slots f.passed.held f.stands.holds f.fits now n s l row
 
   -- a drive of a value to a signal that carries its type
-  pub drive-fits : w < 2 ^ 32 → (to value : ValueId) (t : TypeTree) → to.0 < length r.slots → value.0 < length r.slots → IsOf (unit_text_at a u) (signal_type t) (value_text (naming a u) to) → IsOf (unit_text_at a u) t (value_text (naming a u) value) → DriveFits (part_in r.slots to) (datum_in r.slots value)
+  pub drive-fits : w < 2 ^ 32 → (to value : ValueId) (t : TypeTree) → to.0 < length r.slots → value.0 < length r.slots
+      → IsOf (unit_text_at a u) (signal_type t) (value_text (naming a u) to) → IsOf (unit_text_at a u) t (value_text (naming a u) value)
+      → DriveFits (part_in r.slots to) (datum_in r.slots value)
   drive-fits few to value t l m p q = drive-has a u w r.slots f.passed.held f.stands.holds f.fits few to value t l m p q
 
   trigger-in : (g : RegTrigger) → TriggerWithin (sizes a u) g → TriggerIn r.slots g
@@ -49,6 +54,8 @@ module _ (a : Arena) (u w : ℕ) (r : PassRun) (f : RunFits a u w r) where
   triggers-in [] e = tt
   triggers-in (g ∷ gs) e = (trigger-in g e.0, triggers-in gs e.1)
 
-  pub triggers-fit : w < 2 ^ 32 → (to : ValueId) (t : TypeTree) → to.0 < length r.slots → IsOf (unit_text_at a u) (signal_type t) (value_text (naming a u) to) → (gs : List RegTrigger) → Each (TriggerWithin (sizes a u)) gs → Each (TriggerIs (unit_text_at a u) t) (map (trigger_text (naming a u)) gs) → Each (TriggerFits r.slots to) gs
+  pub triggers-fit : w < 2 ^ 32 → (to : ValueId) (t : TypeTree) → to.0 < length r.slots → IsOf (unit_text_at a u) (signal_type t) (value_text (naming a u) to)
+      → (gs : List RegTrigger) → Each (TriggerWithin (sizes a u)) gs → Each (TriggerIs (unit_text_at a u) t) (map (trigger_text (naming a u)) gs)
+      → Each (TriggerFits r.slots to) gs
   triggers-fit few to t l p [] e q = tt
   triggers-fit few to t l p (g ∷ gs) e q = (drive-fits few to g.value t l (omega (arith, e.0.0, slots-long)) p q.0.value, triggers-fit few to t l p gs e.1 q.1)

@@ -11,14 +11,16 @@ use Rattle.lh_react.specs.Standing.{StandsForPass, RunFits, ContinuesPass, line_
 use Rattle.lh_sound.proofs.FitLaws.{keeps-fit}
 
 module _ (a : Arena) (u : ℕ) (now : List Bool) (memory : Option (List Bool)) (t : Instant) where
-  pub more-fit : (r s : PassRun) (i : InstId) → RunFits a u (length now) r → InstIsSound (unit_text_at a u) (line_in a u i) → ((p : Passed) → StandsForPass a u p r → StandsForPass a u (passed_all a u now memory t p (i ∷ [])) s) → RunFits a u (length now) s
+  pub more-fit : (r s : PassRun) (i : InstId) → RunFits a u (length now) r → InstIsSound (unit_text_at a u) (line_in a u i)
+      → ((p : Passed) → StandsForPass a u p r → StandsForPass a u (passed_all a u now memory t p (i ∷ [])) s) → RunFits a u (length now) s
   more-fit r s i f x go = record {
     passed = passed_all a u now memory t f.passed (i ∷ []);
     stands = go f.passed f.stands;
     fits = keeps-fit (unit_text_at a u) now memory t f.passed (line_in a u i) x f.fits;
   }
 
-  pub goes-on : (r s : PassRun) (is : List InstId) (k : ℕ) (d : InstId) (z : Passed) → k < length is → ((p : Passed) → StandsForPass a u p r → StandsForPass a u (passed_all a u now memory t p (get_or is k d ∷ [])) s)
+  pub goes-on : (r s : PassRun) (is : List InstId) (k : ℕ) (d : InstId) (z : Passed) → k < length is
+      → ((p : Passed) → StandsForPass a u p r → StandsForPass a u (passed_all a u now memory t p (get_or is k d ∷ [])) s)
       → ContinuesPass a u now memory t r (drop k is) z → ContinuesPass a u now memory t s (drop (k + 1) is) z
   goes-on r s is k d z h go c = record {
     passed = passed_all a u now memory t c.passed (get_or is k d ∷ []);

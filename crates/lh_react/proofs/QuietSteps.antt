@@ -51,7 +51,8 @@ module _ (u : UnitText) (now : List Bool) (begun : Env) where
       by false q = refl
       by true q = absurd (true_no_false (args_define v u.args) arg (ap (λ x. args_define x u.args) (sym (same_name-is m v q)) ∙ other))
 
-  result-known : (e : Env) (m : List ℕ) (h : Held) (i : InstText) (n : List ℕ) (s : OperandText) → line_giving m (lines_of u.blocks) ≡ Some i → ((x : OperandText) → i ≡ prb_text x → Some h ≡ probed now e x) → IsProbe u n s
+  result-known : (e : Env) (m : List ℕ) (h : Held) (i : InstText) (n : List ℕ) (s : OperandText) → line_giving m (lines_of u.blocks) ≡ Some i
+      → ((x : OperandText) → i ≡ prb_text x → Some h ≡ probed now e x) → IsProbe u n s
       → part_at e s.value ≡ part_at begun s.value → (datum_at e n ≡ None) ⊎ (e n ≡ probed now begun s)
       → (b : Bool) → same_name m n ≡ b → (option_and_then as_datum (if b then Some h else e n) ≡ None) ⊎ ((if b then Some h else e n) ≡ probed now begun s)
   result-known e m h i n s giving gives x part value true q =
@@ -60,7 +61,8 @@ module _ (u : UnitText) (now : List Bool) (begun : Env) where
   result-known e m h i n s giving gives x part value false q = value
 
   -- what an instruction gives is held under its result
-  given-known : (e : Env) (r : Option (List ℕ)) (o : Option Held) (i : InstText) → IsFirst u.args (lines_of u.blocks) (record { result = r; inst = i }) → ((s : OperandText) → i ≡ prb_text s → o ≡ probed now e s) → KnowsProbes u now begun e
+  given-known : (e : Env) (r : Option (List ℕ)) (o : Option Held) (i : InstText) → IsFirst u.args (lines_of u.blocks) (record { result = r; inst = i })
+      → ((s : OperandText) → i ≡ prb_text s → o ≡ probed now e s) → KnowsProbes u now begun e
       → KnowsProbes u now begun (if_held e r o)
   given-known e None None i f gives k = k
   given-known e None (Some h) i f gives k = k
@@ -73,10 +75,13 @@ module _ (u : UnitText) (now : List Bool) (begun : Env) where
       }
 
   -- a pass still knows the probes after each instruction
-  passes-probes : (memory : Option (List Bool)) (t : Instant) (p : Passed) (i : InstText) (r : Option (List ℕ)) → IsFirst u.args (lines_of u.blocks) (record { result = r; inst = i }) → KnowsProbes u now begun p.held → KnowsProbes u now begun (passes u now memory t i r p).held
+  passes-probes : (memory : Option (List Bool)) (t : Instant) (p : Passed) (i : InstText) (r : Option (List ℕ))
+      → IsFirst u.args (lines_of u.blocks) (record { result = r; inst = i }) → KnowsProbes u now begun p.held
+      → KnowsProbes u now begun (passes u now memory t i r p).held
   passes-probes memory t p (const_text d) r f k = given-known p.held r (Some (datum_held d)) (const_text d) f (λ s q. absurd cc) k
   passes-probes memory t p (pure_text o args) r f k = given-known p.held r _ (pure_text o args) f (λ s q. absurd cc) k
-  passes-probes memory t p (prb_text x) r f k = given-known p.held r (probed now p.held x) (prb_text x) f (λ s q. let same : x ≡ s = cc in ap (probed now p.held) same) k
+  passes-probes memory t p (prb_text x) r f k = given-known p.held r (probed now p.held x) (prb_text x) f
+      (λ s q. let same : x ≡ s = cc in ap (probed now p.held) same) k
   passes-probes memory t p (drv_text to value after cond) r f k = k
   passes-probes memory t p (reg_text to gs) r f k = subst (KnowsProbes u now begun) (sym (triggers-hold memory t to false p gs)) k
   passes-probes memory t p _ r f k = k
@@ -88,7 +93,8 @@ module _ (u : UnitText) (now : List Bool) (begun : Env) where
   both-there None q s = absurd cc
 
   -- what is held of an operand that is known
-  held-known : (e : Env) (x : OperandText) (w k : ℕ) → KnowsProbes u now begun e → IsProbedInt u now begun x.value w k → IsSome (datum_at e x.value) → e x.value ≡ Some (datum_held (int_value w k))
+  held-known : (e : Env) (x : OperandText) (w k : ℕ) → KnowsProbes u now begun e → IsProbedInt u now begun x.value w k → IsSome (datum_at e x.value)
+      → e x.value ≡ Some (datum_held (int_value w k))
   held-known e x w k knows is there = by (knows x.value is.signal is.probe).value
     where
       by : (datum_at e x.value ≡ None) ⊎ (e x.value ≡ probed now begun is.signal) → e x.value ≡ Some (datum_held (int_value w k))
@@ -96,39 +102,51 @@ module _ (u : UnitText) (now : List Bool) (begun : Env) where
       by (inr same) = same ∙ is.int
 
   -- what a comparison gives
-  compared-test : (e : Env) (x y : OperandText) (v k w l : ℕ) → e x.value ≡ Some (datum_held (int_value v k)) → e y.value ≡ Some (datum_held (int_value w l)) → test_of (operated u e Eq (x ∷ y ∷ [])) ≡ Some (nat_eq v w && nat_eq k l)
+  compared-test : (e : Env) (x y : OperandText) (v k w l : ℕ) → e x.value ≡ Some (datum_held (int_value v k)) → e y.value ≡ Some (datum_held (int_value w l))
+      → test_of (operated u e Eq (x ∷ y ∷ [])) ≡ Some (nat_eq v w && nat_eq k l)
   compared-test e x y v k w l left right =
-      let F : Option Held → Option Held → Option Bool = λ p q. test_of (or_else (option_map (λ ds. datum_held (apply Eq ds)) (front (option_and_then as_datum p) (front (option_and_then as_datum q) (Some [])))) None) in
+      let F : Option Held → Option Held → Option Bool = λ p q. test_of
+      (or_else (option_map (λ ds. datum_held (apply Eq ds)) (front (option_and_then as_datum p) (front (option_and_then as_datum q) (Some [])))) None) in
       ap (λ (p : Option Held). F p (e y.value)) left ∙ ap (F (Some (datum_held (int_value v k)))) right ∙ test-same v k w l
 
-  result-compared : (e : Env) (m : List ℕ) (h : Held) (i : InstText) (n : List ℕ) (b : Bool) → line_giving m (lines_of u.blocks) ≡ Some i → ((x y : OperandText) → i ≡ pure_text Eq (x ∷ y ∷ []) → Some h ≡ operated u e Eq (x ∷ y ∷ [])) → KnowsProbedBits u now begun e → IsComparedBit u now begun n b
+  result-compared : (e : Env) (m : List ℕ) (h : Held) (i : InstText) (n : List ℕ) (b : Bool) → line_giving m (lines_of u.blocks) ≡ Some i
+      → ((x y : OperandText) → i ≡ pure_text Eq (x ∷ y ∷ []) → Some h ≡ operated u e Eq (x ∷ y ∷ [])) → KnowsProbedBits u now begun e
+      → IsComparedBit u now begun n b
       → (c : Bool) → same_name m n ≡ c → (test_of (if c then Some h else e n) ≡ None) ⊎ (test_of (if c then Some h else e n) ≡ Some b)
   result-compared e m h i n b giving gives k x true q =
       let c = x.compared in
       let both : Some (pure_text Eq x.operands) ≡ Some (pure_text Eq (c.left ∷ c.right ∷ [])) = ap (λ (os : List OperandText). Some (pure_text Eq os)) c.both in
-      let same : Some i ≡ Some (pure_text Eq (c.left ∷ c.right ∷ [])) = sym giving ∙ ap (λ y. line_giving y (lines_of u.blocks)) (same_name-is m n q) ∙ x.given ∙ both in
+      let same : Some i ≡ Some (pure_text Eq (c.left ∷ c.right ∷ [])) = sym giving ∙ ap (λ y. line_giving y (lines_of u.blocks)) (same_name-is m n q) ∙ x.given
+      ∙ both in
       let is : Some h ≡ operated u e Eq (c.left ∷ c.right ∷ []) = gives c.left c.right (same_Some i (pure_text Eq (c.left ∷ c.right ∷ [])) same) in
       let there : IsSome (operated u e Eq (c.left ∷ c.right ∷ [])) = subst (λ (o : Option Held). IsSome o) is refl in
       let held = both-there (datum_at e c.left.value) (datum_at e c.right.value) there in
-      let left : e c.left.value ≡ Some (datum_held (int_value c.left_width c.left_bits)) = held-known e c.left c.left_width c.left_bits k.probes c.is_left held.0 in
-      let right : e c.right.value ≡ Some (datum_held (int_value c.right_width c.right_bits)) = held-known e c.right c.right_width c.right_bits k.probes c.is_right held.1 in
-      inr (ap test_of is ∙ compared-test e c.left c.right c.left_width c.left_bits c.right_width c.right_bits left right ∙ ap (λ (z : Bool). Some z) (sym c.same))
+      let left : e c.left.value ≡ Some (datum_held (int_value c.left_width c.left_bits)) =
+      held-known e c.left c.left_width c.left_bits k.probes c.is_left held.0 in
+      let right : e c.right.value ≡ Some (datum_held (int_value c.right_width c.right_bits)) =
+      held-known e c.right c.right_width c.right_bits k.probes c.is_right held.1 in
+      inr (ap test_of is ∙ compared-test e c.left c.right c.left_width c.left_bits c.right_width c.right_bits left right
+      ∙ ap (λ (z : Bool). Some z) (sym c.same))
   result-compared e m h i n b giving gives k x false q = k.compared n b x
 
-  given-compared : (e : Env) (r : Option (List ℕ)) (o : Option Held) (i : InstText) → IsFirst u.args (lines_of u.blocks) (record { result = r; inst = i }) → ((x y : OperandText) → i ≡ pure_text Eq (x ∷ y ∷ []) → o ≡ operated u e Eq (x ∷ y ∷ [])) → KnowsProbedBits u now begun e
+  given-compared : (e : Env) (r : Option (List ℕ)) (o : Option Held) (i : InstText) → IsFirst u.args (lines_of u.blocks) (record { result = r; inst = i })
+      → ((x y : OperandText) → i ≡ pure_text Eq (x ∷ y ∷ []) → o ≡ operated u e Eq (x ∷ y ∷ [])) → KnowsProbedBits u now begun e
       → KnowsCompared u now begun (if_held e r o)
   given-compared e None None i f gives k = k.compared
   given-compared e None (Some h) i f gives k = k.compared
   given-compared e (Some m) None i f gives k = k.compared
   given-compared e (Some m) (Some h) i f gives k = λ n b x. result-compared e m h i n b (f m refl).1 gives k x (same_name m n) refl
 
-  same-operation : (e : Env) (o : Op) (args : List OperandText) (x y : OperandText) → pure_text o args ≡ pure_text Eq (x ∷ y ∷ []) → operated u e o args ≡ operated u e Eq (x ∷ y ∷ [])
+  same-operation : (e : Env) (o : Op) (args : List OperandText) (x y : OperandText) → pure_text o args ≡ pure_text Eq (x ∷ y ∷ [])
+      → operated u e o args ≡ operated u e Eq (x ∷ y ∷ [])
   same-operation e o args x y q =
       let left : o ≡ Eq = cc in
       let right : args ≡ x ∷ y ∷ [] = cc in
       ap (λ (z : Op). operated u e z args) left ∙ ap (operated u e Eq) right
 
-  passes-compared : (memory : Option (List Bool)) (t : Instant) (p : Passed) (i : InstText) (r : Option (List ℕ)) → IsFirst u.args (lines_of u.blocks) (record { result = r; inst = i }) → KnowsProbedBits u now begun p.held → KnowsCompared u now begun (passes u now memory t i r p).held
+  passes-compared : (memory : Option (List Bool)) (t : Instant) (p : Passed) (i : InstText) (r : Option (List ℕ))
+      → IsFirst u.args (lines_of u.blocks) (record { result = r; inst = i }) → KnowsProbedBits u now begun p.held
+      → KnowsCompared u now begun (passes u now memory t i r p).held
   passes-compared memory t p (const_text d) r f k = given-compared p.held r (Some (datum_held d)) (const_text d) f (λ x y q. absurd cc) k
   passes-compared memory t p (pure_text o args) r f k = given-compared p.held r (operated u p.held o args) (pure_text o args) f (same-operation p.held o args) k
   passes-compared memory t p (prb_text s) r f k = given-compared p.held r (probed now p.held s) (prb_text s) f (λ x y q. absurd cc) k
@@ -136,11 +154,14 @@ module _ (u : UnitText) (now : List Bool) (begun : Env) where
   passes-compared memory t p (reg_text to gs) r f k = subst (KnowsCompared u now begun) (sym (triggers-hold memory t to false p gs)) k.compared
   passes-compared memory t p _ r f k = k.compared
 
-  pub passes-know : (memory : Option (List Bool)) (t : Instant) (p : Passed) (i : InstText) (r : Option (List ℕ)) → IsFirst u.args (lines_of u.blocks) (record { result = r; inst = i }) → KnowsProbedBits u now begun p.held → KnowsProbedBits u now begun (passes u now memory t i r p).held
+  pub passes-know : (memory : Option (List Bool)) (t : Instant) (p : Passed) (i : InstText) (r : Option (List ℕ))
+      → IsFirst u.args (lines_of u.blocks) (record { result = r; inst = i }) → KnowsProbedBits u now begun p.held
+      → KnowsProbedBits u now begun (passes u now memory t i r p).held
   passes-know memory t p i r f k = record { probes = passes-probes memory t p i r f k.probes; compared = passes-compared memory t p i r f k }
 
   -- what a trigger or a gate is, where that is a known bit
-  pub probe-tests : (e : Env) (n : List ℕ) (b : Bool) → KnowsProbedBits u now begun e → IsProbedBit u now begun n b → IsSome (test_at e n) → test_at e n ≡ Some b
+  pub probe-tests : (e : Env) (n : List ℕ) (b : Bool) → KnowsProbedBits u now begun e → IsProbedBit u now begun n b → IsSome (test_at e n)
+      → test_at e n ≡ Some b
   probe-tests e n b k x there = by (k.probes n x.signal x.probe).value
     where
       by : (datum_at e n ≡ None) ⊎ (e n ≡ probed now begun x.signal) → test_at e n ≡ Some b
@@ -160,7 +181,8 @@ module _ (u : UnitText) (now : List Bool) (begun : Env) where
   and-false false = refl
 
   -- a trigger that is held back does not fire
-  pub held-back : (memory : Option (List Bool)) (p : Passed) (g : TriggerText) (past : Option Bool) (b : Bool) → past ≡ past_of memory p.seen → KnowsProbedBits u now begun p.held → HoldsBack u now begun past b g → test_at p.held g.trigger ≡ Some b → IsSome (condition_at p.held g.gate)
+  pub held-back : (memory : Option (List Bool)) (p : Passed) (g : TriggerText) (past : Option Bool) (b : Bool) → past ≡ past_of memory p.seen
+      → KnowsProbedBits u now begun p.held → HoldsBack u now begun past b g → test_at p.held g.trigger ≡ Some b → IsSome (condition_at p.held g.gate)
       → fires memory p g ≡ false
   held-back memory p g past b was k back is there =
       let F : Option Bool → Bool → Bool = λ o x. mode_holds g.mode o x && unwrap_or (condition_at p.held g.gate) false in
@@ -175,11 +197,13 @@ module _ (u : UnitText) (now : List Bool) (begun : Env) where
       by (inr s) = ap (λ (x : Bool). mode_holds g.mode past b && x) (shut g.gate s there) ∙ and-false (mode_holds g.mode past b)
 
 -- a trigger that does not fire is seen, and nothing else is done
-pub trigger-still : (memory : Option (List Bool)) (t : Instant) (to : OperandText) (p : Passed) (g : TriggerText) (more : List TriggerText) (b : Bool) → test_at p.held g.trigger ≡ Some b → fires memory p g ≡ false
+pub trigger-still : (memory : Option (List Bool)) (t : Instant) (to : OperandText) (p : Passed) (g : TriggerText) (more : List TriggerText) (b : Bool)
+    → test_at p.held g.trigger ≡ Some b → fires memory p g ≡ false
     → triggers_from memory t to false p (g ∷ more) ≡ triggers_from memory t to false (record { held = p.held; seen = p.seen ++ b ∷ []; wish = p.wish }) more
 trigger-still memory t to p g more b e still =
     let value : trigger_now p.held g ≡ b = ap (λ (o : Option Bool). unwrap_or o false) e in
-    ap (λ (x : Bool). triggers_from memory t to x (record { held = p.held; seen = p.seen ++ trigger_now p.held g ∷ []; wish = if x then stored t to g p else p.wish }) more) still
+    ap (λ (x : Bool). triggers_from memory t to x
+    (record { held = p.held; seen = p.seen ++ trigger_now p.held g ∷ []; wish = if x then stored t to g p else p.wish }) more) still
     ∙ ap (λ (x : Bool). triggers_from memory t to false (record { held = p.held; seen = p.seen ++ x ∷ []; wish = p.wish }) more) value
 
 -- no value is held
@@ -207,4 +231,5 @@ no-value-parts e (Some m ∷ names) (r ∷ rs) h = no-value-parts (with_held e m
 -- what an entity begins with are parts
 pub begins-plain : (u : UnitText) (args : List Range) (e : Env) → BeginsBy u args e → (n : List ℕ) → datum_at e n ≡ None
 begins-plain u args e h n =
-    ap (λ (x : Env). datum_at x n) h.1 ∙ no-value-parts (with_args nothing_held u.args (map part_held args)) (signal_names (lines_of u.blocks)) h.0 (no-value-args nothing_held u.args args (λ m. refl)) n
+    ap (λ (x : Env). datum_at x n) h.1 ∙ no-value-parts (with_args nothing_held u.args (map part_held args)) (signal_names (lines_of u.blocks)) h.0
+    (no-value-args nothing_held u.args args (λ m. refl)) n

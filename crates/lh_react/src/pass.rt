@@ -16,12 +16,12 @@ ghost use Rattle.lh_react.specs.Standing.{StandsForPass, RunFits, HasGiven, HasW
 
 use crate::register::run_reg;
 use crate::state::EntState;
+use lh_bits::bits::Bits;
 use lh_eval::effects::{drive, probe};
 use lh_eval::held::{Held, Slots};
 use lh_eval::operate::operate;
 use lh_eval::wishes::Wishes;
 use lh_time::Instant;
-use lh_types::bits::Bits;
 use lh_types::list::BoolList;
 use lh_types::op::Op;
 use lh_types::ty::NoMemory;

@@ -7,7 +7,7 @@ ghost use Rattle.lh_react.specs.State.{EntityState};
 use crate::register::mode_holds;
 use crate::state::EntState;
 use crate::triggers::{Gate, TriggerBit};
-use lh_types::bits::Bits;
+use lh_bits::bits::Bits;
 use lh_types::part::Range;
 use lh_types::ty::NoMemory;
 

@@ -13,6 +13,7 @@ use crate::ids::{
 };
 use lh_scan::tokens::{NameText, UnitNameText};
 use lh_syntax::syntax::{EdgeSyntax, InstSyntax, Operand, TriggerSyntax};
+use lh_types::list::ListOf;
 use lh_types::op::Op;
 use lh_types::ty::{NoMemory, Ty};
 use lh_types::written::SharedTypes;
@@ -50,15 +51,7 @@ pub fn instruction(
             unit: name,
             inputs,
             outputs,
-        } => child(
-            alloc,
-            types,
-            m,
-            unit,
-            &name,
-            inputs.as_slice(),
-            outputs.as_slice(),
-        ),
+        } => child(alloc, types, m, unit, &name, &inputs, &outputs),
         InstSyntax::Call {
             unit: name,
             result,
@@ -155,15 +148,15 @@ fn child(
     m: &mut Module,
     unit: UnitId,
     name: &UnitNameText,
-    inputs: &[Operand],
-    outputs: &[Operand],
+    inputs: &ListOf<Operand>,
+    outputs: &ListOf<Operand>,
 ) -> Result<Inst, NoMemory>
     requires { unit.0 < unit_count m.old }
     ensures { IfOk result (λ i. InstPlacedAs m.old m.new unit i (child_text (unit_name_of name.now) (operands_of inputs.now) (operands_of outputs.now))) }
 {
     let of = unit_id(alloc, m, name)?;
-    let inputs = operands(alloc, types, m, unit, inputs)?;
-    let outputs = operands(alloc, types, m, unit, outputs)?;
+    let inputs = operands(alloc, types, m, unit, inputs.as_slice())?;
+    let outputs = operands(alloc, types, m, unit, outputs.as_slice())?;
     Ok(Inst::Child {
         unit: of,
         inputs,

@@ -12,7 +12,7 @@ use Rattle.lh_types.specs.Bits.{value_bits}
 use Rattle.lh_types.specs.Fits.{FitsType}
 use Rattle.lh_types.specs.Wish as wishes
 use Rattle.lh_types.specs.Wish.{Wish, DueBit, due_bit_cmp, with_bit, with_bits}
-use Rattle.lh_types.proofs.ValueBits.{length-value_bits}
+use Rattle.lh_bits.proofs.ValueBits.{length-value_bits}
 use Rattle.lh_term.specs.Mean.{mean}
 use Rattle.lh_term.specs.declared.part.Part.{Part}
 use Rattle.lh_term.proofs.Typing.{mean_fits}

@@ -6,7 +6,7 @@ use Rattle.lh_types.specs.Values.{Datum}
 use Rattle.lh_types.specs.Fits.{FitsType, PartsFit, FitsRow, part_count}
 use Rattle.lh_types.specs.Bits.{value_from_bits, row_from_bits, repeat_parts, bits_number}
 use Rattle.lh_types.specs.declared.part.Range.{Range}
-use Rattle.lh_types.proofs.NumberBits.{bits_number-lt}
+use Rattle.lh_bits.proofs.NumberBits.{bits_number-lt}
 use Rattle.lh_term.specs.Mean.{IsFitting}
 use Rattle.lh_unit.specs.Held.{bits_in}
 use Rattle.lh_rows.specs.Means.{range_in, reads}

@@ -2,8 +2,8 @@
 //!
 //! The recursion stops at the depth limit of types, whatever the tokens nest.
 ghost use Rattle.std.specs.Prelude.{◌≡◌, ◌≤◌, IfSome, length, Option};
-ghost use Rattle.lh_types.specs.Types.{TypeTree, int_type as int_tree, tuple_type, signal_type, pointer_type, row_of};
-ghost use Rattle.lh_types.specs.Faults.{tuple_fault, signal_fault, pointer_fault, MakesType};
+ghost use Rattle.lh_types.specs.Types.{TypeTree, int_type as int_tree, signal_type, pointer_type};
+ghost use Rattle.lh_types.specs.Faults.{signal_fault, pointer_fault, MakesType};
 ghost use Rattle.lh_types.specs.declared.ty.TyFault.{TyFault};
 ghost use Rattle.lh_scan.specs.Found.{ReadsAsFound};
 ghost use Rattle.lh_scan.specs.Pieces.{parts_at};
@@ -67,13 +67,6 @@ fn faultless(made: Result<Ty, TyFault>) -> Result<Ty, ScanFault>
     }
 }
 
-/// The struct of these fields, if it has no fault.
-fn struct_type(fields: TyList) -> Option<Ty>
-    ensures { result ≡ if_made (tuple_fault (row_of fields)) (tuple_type (row_of fields)) }
-{
-    Ty::tuple(fields).ok()
-}
-
 /// A data type in front that nests at most `deep` levels, and what follows it.
 #[cycle(data)]
 fn data<'a>(alloc: Global, deep: u32, tokens: &Tokens<'a>) -> Result<(Ty, Tokens<'a>), ScanFault>
@@ -131,7 +124,7 @@ fn tuple<'a>(alloc: Global, deep: u32, tokens: &Tokens<'a>) -> Result<(Ty, Token
 {
     let (fields, rest) = fields(alloc, deep, tokens)?;
     let rest = rest.punct(b'}').ok_or(NotSpelled)?;
-    let ty = struct_type(fields).ok_or(NotSpelled)?;
+    let ty = faultless(Ty::tuple(fields))?;
     Ok((ty, rest))
 }
 

@@ -6,7 +6,7 @@ use Rattle.lh_types.specs.Values.{Datum}
 use Rattle.lh_types.specs.Fits.{FitsType}
 use Rattle.lh_types.specs.declared.op.Op.{Op}
 use Rattle.lh_types.specs.declared.part.Range.{Range}
-use Rattle.lh_types.proofs.LawProofs.{bits_are_counted}
+use Rattle.lh_bits.proofs.LawProofs.{bits_are_counted}
 use Rattle.lh_unit.specs.Contents.{pure_text, prb_text}
 use Rattle.lh_unit.specs.Typing.{value_type, carried}
 use Rattle.lh_unit.specs.Held.{Held, datum_held, part_held, Env}

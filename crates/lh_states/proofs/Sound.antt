@@ -4,7 +4,7 @@ use Rattle.std.proofs.lemmas.Bool.{false≢true}
 use Rattle.lh_time.specs.declared.Instant.{Instant}
 use Rattle.lh_time.specs.Order.{instant_lt}
 use Rattle.lh_types.specs.Wish.{Wish}
-use Rattle.lh_types.specs.Writes as writes
+use Rattle.lh_bits.specs.Writes as writes
 use Rattle.lh_unit.specs.Activation.{ProcessState, Activated, activate}
 use Rattle.lh_unit.specs.Arena.{Arena, kind_at, contents, unit_text_at}
 use Rattle.lh_unit.specs.declared.inst.UnitKind.TheVariants as kind
@@ -35,10 +35,12 @@ use Rattle.lh_states.specs.States.{StateFits}
 use Rattle.lh_states.specs.declared.state.InstState.TheVariants.{Process, Entity}
 use Rattle.lh_states.specs.Runs.{ActIsSound, IsLaterIfAny}
 
-pub process-fits : (a : Arena) (width : ℕ) (i : Instance) (s : InstState) (x : ProcState) → s ≡ Process x → StateFits a width i s → (kind_at a i.unit.0 ≡ Some kind.Proc) × process.StateFits a i.unit.0 width x
+pub process-fits : (a : Arena) (width : ℕ) (i : Instance) (s : InstState) (x : ProcState) → s ≡ Process x → StateFits a width i s →
+    (kind_at a i.unit.0 ≡ Some kind.Proc) × process.StateFits a i.unit.0 width x
 process-fits a width i s x e h = subst (StateFits a width i) e h
 
-pub entity-fits : (a : Arena) (width : ℕ) (i : Instance) (s : InstState) (x : EntityState) → s ≡ Entity x → StateFits a width i s → (kind_at a i.unit.0 ≡ Some kind.Entity) × entity.StateFits (unit_text_at a i.unit.0) i.args x
+pub entity-fits : (a : Arena) (width : ℕ) (i : Instance) (s : InstState) (x : EntityState) → s ≡ Entity x → StateFits a width i s →
+    (kind_at a i.unit.0 ≡ Some kind.Entity) × entity.StateFits (unit_text_at a i.unit.0) i.args x
 entity-fits a width i s x e h = subst (StateFits a width i) e h
 
 rest-late : (t u : Instant) (bs : List (ℕ × Bool)) (rest : Wish) → IsLate t (bits_due u bs ++ rest) → IsLate t rest
@@ -57,7 +59,8 @@ bits-within : (width : ℕ) (bs : List (ℕ × Bool)) → BitsWithin width bs �
 bits-within width [] h = tt
 bits-within width (b ∷ bs) h = (h.0, bits-within width bs h.1)
 
-each-within : (width : ℕ) (ws : List (Instant × List (ℕ × Bool))) → Each (λ (d : Instant × List (ℕ × Bool)). BitsWithin width d.1) ws → Each (λ (d : Instant × List (ℕ × Bool)). writes.BitsWithin width d.1) ws
+each-within : (width : ℕ) (ws : List (Instant × List (ℕ × Bool))) → Each (λ (d : Instant × List (ℕ × Bool)). BitsWithin width d.1) ws →
+    Each (λ (d : Instant × List (ℕ × Bool)). writes.BitsWithin width d.1) ws
 each-within width [] h = tt
 each-within width (d ∷ more) h = (bits-within width d.1 h.0, each-within width more h.1)
 
@@ -77,7 +80,8 @@ pub process-sound : (a : Arena) (width : ℕ) (now : List Bool) (t : Instant) (i
 process-sound a width now t i p x k h later =
     by (activate 1000000 (scene_of a now t) (unit_text_at a i.unit.0) p) h (runs_late (rules_of 1000000 (contents a)) now t (unit_text_at a i.unit.0) (instance_text a i) (of_process p))
   where
-    by : (done : Option Activated) → ActivationOrRunaway a i.unit.0 i.args width (Ok x) done → IsLate t (process_act p done).wish → ActIsSound a width t i (record { next = Process x.next; wishes = x.wishes; outcomes = x.outcomes })
+    by : (done : Option Activated) → ActivationOrRunaway a i.unit.0 i.args width (Ok x) done → IsLate t (process_act p done).wish →
+        ActIsSound a width t i (record { next = Process x.next; wishes = x.wishes; outcomes = x.outcomes })
     by (Some d) g l = record {
       fits = (k, g.fits);
       wakes = wakes-later t x.next.stand later;

@@ -1,45 +1,43 @@
 //! One run of an instance.
-ghost use Rattle.std.specs.Prelude.{◌≡◌, [], length, IfOk};
+ghost use Rattle.std.specs.Prelude.{◌≡◌, length, IfOk};
 ghost use Rattle.lh_types.specs.Raised.{raised};
 ghost use Rattle.lh_unit.specs.Arena.{contents, unit_text_at};
 ghost use Rattle.lh_unit.specs.WellFormed.{IsWellFormed};
 ghost use Rattle.lh_unit.specs.World.{State, rules_of, runs};
 ghost use Rattle.lh_design.specs.Texts.{instance_text};
 ghost use Rattle.lh_elab.specs.Answer.{InstanceIs};
-ghost use Rattle.lh_states.specs.declared.state.InstState.TheVariants.{Entity};
 ghost use Rattle.lh_states.specs.States.{StateIs, StateFits};
 ghost use Rattle.lh_states.specs.Runs.{Runs, ActIsSound};
 
 use crate::state::InstState;
+use lh_bits::bits::Bits;
+use lh_bits::writes::DueWrites;
 use lh_eval::instance::Instance;
 use lh_exec::{ExecFault, activate};
-use lh_react::{EntAct, react};
+use lh_react::react;
 use lh_time::Instant;
-use lh_types::bits::Bits;
 use lh_types::list::{BoolList, ListOf};
 use lh_types::tally::Tally;
 use lh_types::ty::NoMemory;
-use lh_types::writes::DueWrites;
 use lh_unit::module::Module;
 use std::alloc::Global;
+use std::boxed::Box;
 use std::marker::Model;
 
 /// What one run of an instance gives: its next state, the bits that it wishes, by the instants at which they are due, and whether
 /// each assertion passed.
 #[derive(Drop)]
 pub struct InstAct {
-    did: Did,
+    next: InstState,
+    // Most instances that are woken do neither: what is kept of these is small.
+    effects: Option<Box<Effects>>,
 }
 
-/// Most entities that are woken wish nothing: of them only the next state is kept.
+/// What an instance wishes, and whether each assertion passed.
 #[derive(Drop)]
-enum Did {
-    Rests(InstState),
-    Acts {
-        next: InstState,
-        wishes: DueWrites,
-        outcomes: BoolList,
-    },
+struct Effects {
+    wishes: DueWrites,
+    outcomes: BoolList,
 }
 
 impl Model for InstAct {
@@ -51,27 +49,41 @@ impl Model for InstAct {
 
     ghost coded = { Prim.hlevel (codes, datum_coded) };
 
-    ghost view = { λ a. done_of a.did };
+    ghost view = { λ a. done_of a.next a.effects };
 }
 
 impl InstAct {
+    /// What one run gives.
+    fn new(
+        alloc: Global,
+        next: InstState,
+        wishes: DueWrites,
+        outcomes: BoolList,
+    ) -> Result<InstAct, NoMemory>
+        ensures { IfOk result (λ act. act ≡ record { next = next; wishes = wishes; outcomes = outcomes }) }
+    {
+        let effects = if wishes.len() == 0 && outcomes.len() == 0 {
+            None
+        } else {
+            Some(Box::new(alloc, Effects { wishes, outcomes })?)
+        };
+        Ok(InstAct { next, effects })
+    }
+
     /// The next state.
     pub fn next(&self) -> &InstState
         ensures { result.now ≡ self.now.next }
     {
-        match &self.did {
-            Did::Rests(next) => next,
-            Did::Acts { next, .. } => next,
-        }
+        &self.next
     }
 
     /// At how many instants something is wished.
     pub fn wish_count(&self) -> usize
         ensures { result ≡ length self.now.wishes }
     {
-        match &self.did {
-            Did::Rests(_) => 0,
-            Did::Acts { wishes, .. } => wishes.len(),
+        match &self.effects {
+            None => 0,
+            Some(effects) => effects.wishes.len(),
         }
     }
 
@@ -79,9 +91,9 @@ impl InstAct {
     pub fn outcomes(&self) -> &[bool]
         ensures { result.now ≡ self.now.outcomes }
     {
-        match &self.did {
-            Did::Rests(_) => &[],
-            Did::Acts { outcomes, .. } => outcomes.as_slice(),
+        match &self.effects {
+            None => &[],
+            Some(effects) => effects.outcomes.as_slice(),
         }
     }
 
@@ -90,28 +102,11 @@ impl InstAct {
         ensures next { result.0 ≡ self.next }
         ensures wishes { result.1 ≡ self.wishes }
     {
-        match self.did {
-            Did::Rests(next) => (next, ListOf::new(alloc)),
-            Did::Acts { next, wishes, .. } => (next, wishes),
+        let InstAct { next, effects } = self;
+        match effects {
+            None => (next, ListOf::new(alloc)),
+            Some(effects) => (next, Box::into_inner(effects).wishes),
         }
-    }
-
-    /// What a pass of an entity gives.
-    fn of_pass(alloc: Global, act: EntAct) -> InstAct
-        ensures { result ≡ record { next = Entity act.next; wishes = act.wishes; outcomes = [] } }
-    {
-        let EntAct { next, wishes } = act;
-        let next = InstState::Entity(next);
-        let did = if wishes.len() == 0 {
-            Did::Rests(next)
-        } else {
-            Did::Acts {
-                next,
-                wishes,
-                outcomes: ListOf::new(alloc),
-            }
-        };
-        InstAct { did }
     }
 }
 
@@ -138,16 +133,13 @@ pub fn run_instance<T: Tally>(
     match s {
         InstState::Process(process) => {
             let act = activate(alloc, m, i, process, now, at, tally)?;
-            let did = Did::Acts {
-                next: InstState::Process(act.next),
-                wishes: act.wishes,
-                outcomes: act.outcomes,
-            };
-            Ok(InstAct { did })
+            let next = InstState::Process(act.next);
+            Ok(InstAct::new(alloc, next, act.wishes, act.outcomes)?)
         }
-        InstState::Entity(entity) => match react(alloc, m, i, entity, now, at, tally) {
-            Ok(act) => Ok(InstAct::of_pass(alloc, act)),
-            Err(NoMemory) => Err(ExecFault::OutOfMemory),
-        },
+        InstState::Entity(entity) => {
+            let act = react(alloc, m, i, entity, now, at, tally)?;
+            let next = InstState::Entity(act.next);
+            Ok(InstAct::new(alloc, next, act.wishes, ListOf::new(alloc))?)
+        }
     }
 }

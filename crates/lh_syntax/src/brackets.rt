@@ -145,7 +145,11 @@ fn are_fields(alloc: Global, operands: &[Operand]) -> Result<bool, NoMemory>
     let Some(fields) = fields(alloc, operands)? else {
         return Ok(false);
     };
-    Ok(Ty::tuple(fields).is_ok())
+    match Ty::tuple(fields) {
+        Ok(_) => Ok(true),
+        Err(TyFault::OutOfMemory) => Err(NoMemory),
+        Err(_) => Ok(false),
+    }
 }
 
 /// A struct, behind `{`.

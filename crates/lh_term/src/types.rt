@@ -74,10 +74,10 @@ pub(crate) fn field_type(of: &Ty, k: u32) -> Result<Ty, TyFault>
     }
 }
 
-fn type_in_list(ts: &TyList, k: u32) -> Result<Ty, TyFault>
+fn type_in_list(ts: &[Ty], k: u32) -> Result<Ty, TyFault>
     ensures { IfOk result (λ t. t ≡ spec.type_in_row (row_of ts.now) k) }
 {
-    match ts.as_slice().get(k as usize) {
+    match ts.get(k as usize) {
         Some(t) => Ok(t.copy()?),
         None => Err(TyFault::WrongPart),
     }

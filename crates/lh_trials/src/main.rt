@@ -2,47 +2,55 @@
 //! definition of the language.
 //!
 //! The program is given the names of files of trials, runs the trials in each, and writes a line for each group of them; above it stands
-//! each trial whose answer is another than the file says. It ends with code 0 where every answer was as said. `script` has the
-//! form of such a file, and `answer` the words by which a text is run.
+//! each trial whose answer is another than the file says. It ends with code 0 where every answer was as said. `lh_script` has the
+//! form of such a file, and `lh_answers` the words by which a text is run.
 #![tactic(auto)]
 
-mod answer;
-mod file;
-mod frames;
-mod group;
-mod lowered;
-mod naive;
-mod runner;
-mod score;
-mod script;
-mod shown;
-mod stepped;
-mod watchers;
-mod wished;
+ghost use Rattle.std.specs.Prelude.{◌≡◌, nat_eq, if◌then◌else◌};
+ghost use Rattle.std.specs.Process.{exit_status};
 
+use lh_answers::answer::answer;
+use lh_script::score::Score;
+use lh_script::script::{Answers, Script};
 use lh_types::ty::NoMemory;
-use score::Score;
-use script::Script;
+use std::alloc::Global;
 use std::process::ExitCode;
 use std::{env, fs, io};
 
+/// The answers of the crates that are tried.
+#[derive(Drop)]
+struct Tried;
+
+impl Answers for Tried {
+    fn answer(&self, alloc: Global, how: &[u8], text: &[u8]) -> Result<Vec<u8>, NoMemory> {
+        answer(alloc, how, text)
+    }
+}
+
 fn main(rt: HostRuntime) -> io::Result<ExitCode> {
-    let mut failed = 0;
+    let mut failed: u64 = 0;
     for name in env::args(&rt)?.skip(1) {
         let Ok(score) = run_file(&rt, name.as_str())? else {
             println!(rt; "{name}: out of memory")?;
             return Ok(ExitCode::from(1));
         };
         print!(rt; "{}", score.report())?;
-        failed = score.failed();
+        failed = failed.saturating_add(score.failed());
     }
-    Ok(ExitCode::from(if failed == 0 { 0 } else { 1 }))
+    Ok(exit_code(failed))
+}
+
+/// The code with which the program ends: 0 where every answer was as said.
+fn exit_code(failed: u64) -> ExitCode
+    ensures { exit_status result ≡ if nat_eq failed 0 then 0 else 1 }
+{
+    ExitCode::from(if failed == 0 { 0 } else { 1 })
 }
 
 /// Runs the trials of a file.
 fn run_file(rt: &HostRuntime, name: &str) -> io::Result<Result<Score, NoMemory>> {
     let text = fs::read_to_string(rt, name)?;
-    let mut script = Script::new(rt.alloc());
+    let mut script = Script::new(rt.alloc(), Tried);
     for line in text.as_str().lines() {
         let taken = match line.strip_prefix("< ") {
             Some(name) => script.add_file(&fs::read(rt, name)?),

@@ -1,4 +1,4 @@
--- The bits of a value, and the value that bits are.
+-- The bits of a value, the value that bits are, and at how many places two lists of bits differ.
 use Rattle.std.specs.Prelude.{ℕ, ◌+◌, ◌*◌, ◌/◌, ◌%◌, Bool, true, false, nat_eq, List, [], ◌∷◌, ◌++◌, take, drop}
 use Rattle.std.proofs.Common.{zero, suc}
 use Rattle.lh_types.specs.Types.{TypeTree, TypeRow, int_type, time_type, void_type, array_type, tuple_type, signal_type, pointer_type, no_types, more_types, bit_count}
@@ -48,3 +48,16 @@ abbrev mutual
   pub row_from_bits : TypeRow → List Bool → DatumRow
   row_from_bits no_types bs = no_values
   row_from_bits (more_types t ts) bs = more_values (value_from_bits t (take (bit_count t) bs)) (row_from_bits ts (drop (bit_count t) bs))
+
+-- 1 where two bits differ
+abbrev pub bit_differs : Bool → Bool → ℕ
+bit_differs true true = 0
+bit_differs true false = 1
+bit_differs false true = 1
+bit_differs false false = 0
+
+-- at how many places two lists of bits differ
+abbrev pub differing : List Bool → List Bool → ℕ
+differing [] ys = 0
+differing (x ∷ xs) [] = 0
+differing (x ∷ xs) (y ∷ ys) = bit_differs x y + differing xs ys

@@ -1,5 +1,5 @@
 -- What an activation wishes: at which instant which bit of the signals becomes which.
-use Rattle.std.specs.Prelude.{◌≡◌, ℕ, ◌+◌, List, [], ◌∷◌, Bool, Option, Some, None}
+use Rattle.std.specs.Prelude.{◌≡◌, ℕ, ◌+◌, List, [], ◌∷◌, Bool, Option, Some, None, ◌++◌, map}
 use Rattle.std.specs.declared.cmp.Ordering.{Ordering}
 use Rattle.std.specs.declared.cmp.Ordering.TheVariants.{Less}
 use Rattle.std.specs.Ordering.{nat_cmp, ordering_then}
@@ -51,3 +51,12 @@ with_bits w due lo (b ∷ bs) = with_bits (with_bit w due lo b) due (lo + 1) bs
 abbrev pub with_drive : Wish → Option Instant → ℕ → List Bool → Wish
 with_drive w None lo bs = w
 with_drive w (Some due) lo bs = with_bits w due lo bs
+
+-- bits that are written at one instant, as entries of a wish
+abbrev pub bits_due : Instant → List (ℕ × Bool) → Wish
+bits_due t ws = map (λ (w : ℕ × Bool). (due_bit t w.0, w.1)) ws
+
+-- the entries of writes by instants, one after the other
+abbrev pub writes_wish : List (Instant × List (ℕ × Bool)) → Wish
+writes_wish [] = []
+writes_wish (d ∷ more) = bits_due d.0 d.1 ++ writes_wish more

@@ -6,7 +6,7 @@ ghost use Rattle.lh_types.specs.Parts.{range_of, step_part, field_part};
 ghost use Rattle.lh_types.specs.PartViews.{part_of_view};
 
 use crate::list::ListOf;
-use crate::ty::{Ty, TyKind, TyList, bits, bits_of_fields};
+use crate::ty::{Ty, TyKind, bits, bits_of_fields};
 
 /// A step from a data type into a part of it.
 #[derive(Clone, Copy, Debug, PartialEq, Eq)]
@@ -90,13 +90,13 @@ pub fn is_slice(n: u32, at: u32, len: u32) -> bool
 }
 
 /// Field `k` of a struct.
-fn field(fields: &TyList, k: u32) -> Option<PartView<'_>>
+fn field(fields: &[Ty], k: u32) -> Option<PartView<'_>>
     requires data { AreData (row_of fields.now) }
     requires narrow { bit_count_row (row_of fields.now) ≤ 65536 }
     ensures { option_map part_of_view result ≡ field_part (row_of fields.now) k }
 {
     let mut lo = 0;
-    for (i, t) in fields.as_slice().iter().enumerate() {
+    for (i, t) in fields.iter().enumerate() {
         if i == k as usize {
             return Some(PartView { lo, of: t.kind() });
         }

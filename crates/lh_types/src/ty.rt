@@ -1,12 +1,14 @@
 //! Types as trees, with the limits of the language kept by every type.
-ghost use Rattle.std.specs.Prelude.{◌≡◌, ◌<◌, ◌^◌, ◌+◌, [], ◌∷◌, ◌++◌, length, nat_lt, ◌||◌, ◌≤◌, IfOk, OnOk, OnErr, IsTrue};
+ghost use Rattle.std.specs.Prelude.{◌≡◌, ◌<◌, ◌^◌, ◌+◌, [], ◌∷◌, ◌++◌, length, nat_lt, ◌||◌, ◌≤◌, IfOk, IfErr, OnOk, OnErr, IsTrue};
 ghost use Rattle.lh_types.specs.Types.{int_type, time_type, void_type, array_type, tuple_type, signal_type, pointer_type, IsData, AreData, IsLimited, bit_count, bit_count_row, depth_of, depth_of_row, row_of, same_type, same_row};
 ghost use Rattle.lh_types.specs.Kind.{type_of_kind};
+ghost use Rattle.lh_types.specs.TypeOf.{type_of_node};
 ghost use Rattle.lh_types.specs.Faults.{is_data, all_data, int_fault, array_fault, tuple_fault, signal_fault, pointer_fault, made, MakesType};
 ghost use Rattle.lh_types.specs.declared.ty.TyFault.TheVariants.{OutOfMemory};
 
 use std::alloc::{AllocError, AllocFailed, Global};
 use std::marker::Model;
+use std::slice;
 use thiserror::Error;
 
 /// Memory ran out.
@@ -76,7 +78,9 @@ enum Node {
     Time,
     Void,
     Array(u32, Box<Ty>),
-    Tuple(TyList),
+    // A struct of one field, which needs no list.
+    Single(Box<Ty>),
+    Tuple(Box<TyList>),
     Signal(Box<Ty>),
     Pointer(Box<Ty>),
 }
@@ -100,7 +104,7 @@ pub enum TyKind<'a> {
     /// `[N x T]`, with the number of elements.
     Array(u32, &'a Ty),
     /// `{T1, T2}`.
-    Tuple(&'a TyList),
+    Tuple(&'a [Ty]),
     /// `T$`.
     Signal(&'a Ty),
     /// `T*`.
@@ -199,6 +203,19 @@ impl TyList {
         self.list.shrink_to_fit();
     }
 
+    // The one type of a list of one, or the list as it is.
+    fn into_single(mut self) -> Result<Ty, TyList>
+        ensures single { IfOk result (λ t. self ≡ t ∷ []) }
+        ensures list { IfErr result (λ list. list ≡ self) }
+    {
+        if self.list.len() == 1 {
+            if let Some(only) = self.list.pop() {
+                return Ok(only);
+            }
+        }
+        Err(self)
+    }
+
     /// Adds a type at the end; for want of memory the list stays as it was.
     pub fn push(&mut self, x: Ty) -> Result<(), NoMemory>
         ensures ok { OnOk result (self.new ≡ self.old ++ x ∷ []) }
@@ -262,27 +279,25 @@ impl Ty {
         })
     }
 
-    /// The struct of these fields; each `TyFault` but `WidthRange`, the first that holds. It takes no
-    /// memory.
-    pub fn tuple(mut fields: TyList) -> Result<Ty, TyFault>
-        ensures { result ≡ made (tuple_fault (row_of fields)) (tuple_type (row_of fields)) }
+    /// The struct of these fields; each `TyFault` but `WidthRange`, the first that holds.
+    pub fn tuple(fields: TyList) -> Result<Ty, TyFault>
+        ensures { MakesType result (tuple_fault (row_of fields)) (tuple_type (row_of fields)) }
     {
-        if fields.len() == 0 {
+        let parts = fields.as_slice();
+        if parts.is_empty() {
             return Err(TyFault::Empty);
         }
-        if !all_carry_data(&fields) {
+        if !all_carry_data(parts) {
             return Err(TyFault::WrongPart);
         }
-        if depth_of_fields(&fields) + 1 > 16 {
+        if depth_of_fields(parts) + 1 > 16 {
             return Err(TyFault::TooDeep);
         }
-        if have_too_many_bits(&fields) {
+        if have_too_many_bits(parts) {
             return Err(TyFault::TooManyBits);
         }
-        fields.shrink();
-        Ok(Ty {
-            node: Node::Tuple(fields),
-        })
+        let node = struct_node(fields)?;
+        Ok(Ty { node })
     }
 
     /// The signal that carries this type; `WrongPart` where it is no data type.
@@ -321,7 +336,8 @@ impl Ty {
             Node::Time => TyKind::Time,
             Node::Void => TyKind::Void,
             Node::Array(n, of) => TyKind::Array(*n, &**of),
-            Node::Tuple(fields) => TyKind::Tuple(fields),
+            Node::Single(field) => TyKind::Tuple(slice::from_ref(&**field)),
+            Node::Tuple(fields) => TyKind::Tuple(fields.as_slice()),
             Node::Signal(of) => TyKind::Signal(&**of),
             Node::Pointer(of) => TyKind::Pointer(&**of),
         }
@@ -334,6 +350,20 @@ fn boxed(alloc: Global, t: Ty) -> Result<Box<Ty>, NoMemory>
     Ok(Box::new(alloc, t)?)
 }
 
+// The node of the struct of these fields.
+fn struct_node(fields: TyList) -> Result<Node, NoMemory>
+    ensures { IfOk result (λ node. type_of_node node ≡ tuple_type (row_of fields)) }
+{
+    let alloc = *fields.list.allocator();
+    match fields.into_single() {
+        Ok(field) => Ok(Node::Single(boxed(alloc, field)?)),
+        Err(mut fields) => {
+            fields.shrink();
+            Ok(Node::Tuple(Box::new(alloc, fields)?))
+        }
+    }
+}
+
 /// Whether it is a data type.
 pub fn carries_data(t: &Ty) -> bool
     ensures test { result ≡ is_data t.now }
@@ -341,17 +371,17 @@ pub fn carries_data(t: &Ty) -> bool
     ensures limited { IsLimited t.now }
 {
     match &t.node {
-        Node::Int(_) | Node::Array(_, _) | Node::Tuple(_) => true,
+        Node::Int(_) | Node::Array(_, _) | Node::Single(_) | Node::Tuple(_) => true,
         Node::Time | Node::Void | Node::Signal(_) | Node::Pointer(_) => false,
     }
 }
 
 /// Whether all are data types.
-fn all_carry_data(fields: &TyList) -> bool
+fn all_carry_data(fields: &[Ty]) -> bool
     ensures test { result ≡ all_data (row_of fields.now) }
     ensures data { IsTrue result → AreData (row_of fields.now) }
 {
-    for field in fields.as_slice() {
+    for field in fields {
         if !carries_data(field) {
             return false;
         }
@@ -375,25 +405,25 @@ pub fn bits(t: &Ty) -> u32
 
 /// How many bits the values of these data types have together.
 #[cycle(bits)]
-pub(crate) fn bits_of_fields(fields: &TyList) -> u32
+pub(crate) fn bits_of_fields(fields: &[Ty]) -> u32
     requires data { AreData (row_of fields.now) }
     requires narrow { bit_count_row (row_of fields.now) ≤ 65536 }
     ensures { result ≡ bit_count_row (row_of fields.now) }
 {
     let mut sum = 0;
-    for field in fields.as_slice() {
+    for field in fields {
         sum += bits(field);
     }
     sum
 }
 
 /// Whether the values of these data types have more than 65,536 bits together.
-fn have_too_many_bits(fields: &TyList) -> bool
+fn have_too_many_bits(fields: &[Ty]) -> bool
     requires { AreData (row_of fields.now) }
     ensures { result ≡ nat_lt 65536 (bit_count_row (row_of fields.now)) }
 {
     let mut sum = 0;
-    for field in fields.as_slice() {
+    for field in fields {
         sum += bits(field);
         if sum > 65536 {
             return true;
@@ -418,12 +448,12 @@ fn depth(t: &Ty) -> u32
 
 /// How deep the deepest of these data types nests, and 0 where there is none.
 #[cycle(depth)]
-fn depth_of_fields(fields: &TyList) -> u32
+fn depth_of_fields(fields: &[Ty]) -> u32
     requires { AreData (row_of fields.now) }
     ensures { result ≡ depth_of_row (row_of fields.now) }
 {
     let mut most = 0;
-    for field in fields.as_slice() {
+    for field in fields {
         most = most.max(depth(field));
     }
     most
@@ -448,10 +478,18 @@ impl Ty {
                     node: Node::Array(*n, inner),
                 })
             }
-            Node::Tuple(fields) => {
-                let fields = fields.copy()?;
+            Node::Single(field) => {
+                let inner = field.copy()?;
+                let inner = boxed(*Box::allocator(field), inner)?;
                 Ok(Ty {
-                    node: Node::Tuple(fields),
+                    node: Node::Single(inner),
+                })
+            }
+            Node::Tuple(fields) => {
+                let inner = fields.copy()?;
+                let inner = Box::new(*Box::allocator(fields), inner)?;
+                Ok(Ty {
+                    node: Node::Tuple(inner),
                 })
             }
             Node::Signal(of) => {
@@ -506,14 +544,14 @@ impl Ty {
     fn same(&self, other: &Ty) -> bool
         ensures { result ≡ same_type self.now other.now }
     {
-        match (&self.node, &other.node) {
-            (Node::Int(n), Node::Int(m)) => *n == *m,
-            (Node::Time, Node::Time) => true,
-            (Node::Void, Node::Void) => true,
-            (Node::Array(n, t), Node::Array(m, u)) => *n == *m && t.same(u),
-            (Node::Tuple(ts), Node::Tuple(us)) => same_fields(ts, us),
-            (Node::Signal(t), Node::Signal(u)) => t.same(u),
-            (Node::Pointer(t), Node::Pointer(u)) => t.same(u),
+        match (self.kind(), other.kind()) {
+            (TyKind::Int(n), TyKind::Int(m)) => n == m,
+            (TyKind::Time, TyKind::Time) => true,
+            (TyKind::Void, TyKind::Void) => true,
+            (TyKind::Array(n, t), TyKind::Array(m, u)) => n == m && t.same(u),
+            (TyKind::Tuple(ts), TyKind::Tuple(us)) => same_fields(ts, us),
+            (TyKind::Signal(t), TyKind::Signal(u)) => t.same(u),
+            (TyKind::Pointer(t), TyKind::Pointer(u)) => t.same(u),
             _ => false,
         }
     }
@@ -526,10 +564,9 @@ impl Eq for Ty {
 }
 
 #[cycle(same)]
-fn same_fields(ts: &TyList, us: &TyList) -> bool
+fn same_fields(ts: &[Ty], us: &[Ty]) -> bool
     ensures { result ≡ same_row (row_of ts.now) (row_of us.now) }
 {
-    let (ts, us) = (ts.list.as_slice(), us.list.as_slice());
     if ts.len() != us.len() {
         return false;
     }

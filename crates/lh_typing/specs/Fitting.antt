@@ -1,9 +1,8 @@
 -- What a row asks of the type of one operand.
-use Rattle.std.specs.Prelude.{List, [], ◌∷◌, Option, Some, Bool, false, ◌&&◌}
+use Rattle.std.specs.Prelude.{Bool, false, ◌&&◌}
 use Rattle.std.specs.Option.{option_map_or}
-use Rattle.lh_types.specs.Types.{TypeTree, TypeRow, time_type}
+use Rattle.lh_types.specs.Types.{TypeTree, time_type}
 use Rattle.lh_types.specs.Faults.{is_data}
-use Rattle.lh_unit.specs.Typing.{with_type}
 use Rattle.lh_unit.specs.Contents.{OperandText, EdgeText, TriggerText, UnitText}
 use Rattle.lh_unit.specs.TypingRows.{has_type, may_have_type, bit, agrees}
 
@@ -18,8 +17,3 @@ edge_fits t ty e = has_type t ty e.value
 -- a trigger fits a register that carries this type
 abbrev pub carried_fits : UnitText → TypeTree → TriggerText → Bool
 carried_fits t ty g = has_type t ty g.value && has_type t bit g.trigger && may_have_type t bit g.gate && may_have_type t time_type g.after
-
--- types in front of a row, where it is there
-abbrev pub rows_joined : List TypeTree → Option TypeRow → Option TypeRow
-rows_joined [] r = r
-rows_joined (t ∷ more) r = with_type (Some t) (rows_joined more r)

@@ -6,16 +6,16 @@ ghost use Rattle.lh_unit.specs.Naming.{value_text, maybe_text, operand_text, tri
 ghost use Rattle.lh_unit.specs.TypingRows as spec;
 ghost use Rattle.lh_unit.specs.Within.{Each, ValueWithin, MaybeWithin, OperandWithin, TriggerWithin, EdgeWithin, InstWithin};
 ghost use Rattle.lh_typing.specs.Fitting.{carried_fits, edge_fits as text_edge_fits};
-ghost use Rattle.lh_typing.specs.Numbers.{IsNumbered};
-ghost use Rattle.lh_typing.specs.Facts.{IsScope, text_in, naming_in, sizes_in};
+ghost use Rattle.lh_facts.specs.Numbers.{IsNumbered};
+ghost use Rattle.lh_facts.specs.Facts.{IsScope, text_in, naming_in, sizes_in};
 
-use crate::numbers::Numbered;
 use crate::operands::{
     all_agree, has_bit, has_carried, has_data_type, has_pointed, has_pointer_type, has_result_type,
     has_signal_type, has_time, has_type, has_value_type, may_have_bit, may_have_time,
 };
 use crate::operations::operation_fits;
-use crate::scope::Scope;
+use lh_facts::numbers::Numbered;
+use lh_facts::scope::Scope;
 use lh_types::ty::{Ty, TyKind};
 use lh_unit::inst::{Inst, PhiEdge, RegTrigger, Typed, ValueId};
 

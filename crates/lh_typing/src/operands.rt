@@ -8,11 +8,11 @@ ghost use Rattle.lh_unit.specs.Typing.{is_value_type as test_value_type};
 ghost use Rattle.lh_unit.specs.TypingRows as spec;
 ghost use Rattle.lh_unit.specs.TypingRows.{bit, has_some_type, may_have_type, type_satisfies, driven_type, stored_type, written_fits};
 ghost use Rattle.lh_unit.specs.Within.{Each, ValueWithin, MaybeWithin, OperandWithin};
-ghost use Rattle.lh_typing.specs.Numbers.{IsNumbered};
-ghost use Rattle.lh_typing.specs.Facts.{IsScope, text_in, naming_in, sizes_in};
+ghost use Rattle.lh_facts.specs.Numbers.{IsNumbered};
+ghost use Rattle.lh_facts.specs.Facts.{IsScope, text_in, naming_in, sizes_in};
 
-use crate::numbers::Numbered;
-use crate::scope::Scope;
+use lh_facts::numbers::Numbered;
+use lh_facts::scope::Scope;
 use lh_types::ty::{Ty, TyKind, carries_data};
 use lh_unit::inst::{Typed, ValueId};
 

@@ -7,11 +7,11 @@ ghost use Rattle.lh_unit.specs.TypingRows as spec;
 ghost use Rattle.lh_unit.specs.TypingRows.{shifts, selects, class_row, operation_row};
 ghost use Rattle.lh_unit.specs.Within.{Each, OperandWithin};
 ghost use Rattle.lh_typing.specs.Fitting.{field_fits as text_field_fits};
-ghost use Rattle.lh_typing.specs.Facts.{IsScope, text_in, naming_in, sizes_in};
+ghost use Rattle.lh_facts.specs.Facts.{IsScope, text_in, naming_in, sizes_in};
 
 use crate::operands::{agrees, all_have, has_and_agrees, has_array_of, has_integer, has_type};
-use crate::scope::Scope;
 use crate::types::is_part_of;
+use lh_facts::scope::Scope;
 use lh_types::op::{Op, OpClass};
 use lh_types::part::Step;
 use lh_types::ty::{Ty, carries_data};

@@ -8,7 +8,7 @@ ghost use Rattle.lh_unit.specs.TypingRows.{part_type};
 ghost use Rattle.lh_typing.specs.Parts.{is_part};
 
 use lh_types::part::{Step, is_slice};
-use lh_types::ty::{Ty, TyKind, TyList};
+use lh_types::ty::{Ty, TyKind};
 
 /// Whether the part of a data type that a step leads to has this type.
 fn is_data_part(of: TyKind<'_>, step: Step, ty: &Ty) -> bool
@@ -45,10 +45,9 @@ fn is_array(ty: TyKind<'_>, len: u32, of: &Ty) -> bool
 }
 
 /// Whether field `k` of a struct has this type.
-fn is_field_type(fields: &TyList, k: u32, ty: &Ty) -> bool
+fn is_field_type(fields: &[Ty], k: u32, ty: &Ty) -> bool
     ensures { result ≡ is_part (field_part (row_of fields.now) k) ty.now }
 {
-    let fields = fields.as_slice();
     if k as usize >= fields.len() {
         return false;
     }

@@ -4,8 +4,7 @@ use Rattle.std.specs.Option.{option_and_then, option_map}
 use Rattle.lh_time.specs.declared.Instant.{Instant}
 use Rattle.lh_types.specs.Values.{Datum}
 use Rattle.lh_types.specs.Pictures.{Showing, Picture}
-use Rattle.lh_types.specs.Bits.{value_bits}
-use Rattle.lh_types.specs.Flags.{differing}
+use Rattle.lh_types.specs.Bits.{value_bits, differing}
 use Rattle.lh_types.specs.History.{bits_at}
 use Rattle.lh_unit.specs.Contents.{ItemText}
 use Rattle.lh_unit.specs.Hierarchy.{Instance}

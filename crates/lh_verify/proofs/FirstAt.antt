@@ -3,7 +3,7 @@ use Rattle.std.proofs.Common.{◌≡◌, Bool, ℕ, ◌+◌, ◌<◌, List, leng
 use Rattle.std.specs.Option.{option_map}
 use Rattle.lh_unit.specs.WellFormed.{FaultKind, number_of}
 use Rattle.lh_unit.specs.declared.inst.InstId.{InstId}
-use Rattle.lh_typing.specs.declared.scope.Scope.{Scope}
+use Rattle.lh_facts.specs.declared.scope.Scope.{Scope}
 use Rattle.lh_verify.specs.declared.spots.Spot.{Spot}
 use Rattle.lh_verify.specs.declared.unit.InstFault.{InstFault}
 use Rattle.lh_verify.specs.FirstFound.{is_at, found_or, first_at}

@@ -1,7 +1,6 @@
 pub mod FirstAt
 pub mod FirstFaults
 pub mod Lowest
-pub mod MarkingSteps
 pub mod ModuleFaults
 pub mod Named
 pub mod NumbersKept
@@ -11,5 +10,4 @@ pub mod Places
 pub mod PlacesById
 pub mod ScopeIs
 pub mod SpotParts
-pub mod Turning
 pub mod UnitPlaces

@@ -13,8 +13,8 @@ use Rattle.lh_unit.specs.declared.inst.UnitKind.{UnitKind}
 use Rattle.lh_unit.proofs.ById.{defines_unit-by_id, unit_named-by_id}
 use Rattle.lh_verify.specs.OperandTests.{is_function_kind, on_side}
 use Rattle.lh_verify.specs.declared.arguments.Side.TheVariants.{All}
-use Rattle.lh_typing.specs.Facts.{naming_in, sizes_in, items_in}
-use Rattle.lh_typing.specs.declared.scope.Scope.{Scope}
+use Rattle.lh_facts.specs.Facts.{naming_in, sizes_in, items_in}
+use Rattle.lh_facts.specs.declared.scope.Scope.{Scope}
 
 pub unit-within : (s : Scope) (v : ℕ) → v < (sizes_in s).units → v < unit_count s.module.now
 unfolding sizes_in

@@ -2,11 +2,8 @@ pub mod FirstFound
 pub mod OperandTests
 pub mod Counting
 pub mod Faults
-pub mod Marking
-pub mod Operands
 pub mod PhisById
 pub mod Predecessors
 pub mod Spots
 pub mod SpotsWithin
-pub mod Turns
 pub mod Verifying

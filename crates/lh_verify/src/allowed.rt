@@ -7,11 +7,11 @@ ghost use Rattle.lh_unit.specs.TypingRows.{is_signal as test_signal};
 ghost use Rattle.lh_unit.specs.Places.{is_terminator as text_is_terminator};
 ghost use Rattle.lh_unit.specs.WellFormed as spec;
 ghost use Rattle.lh_unit.specs.Naming.{operand_text, inst_text};
-ghost use Rattle.lh_typing.specs.Facts.{naming_in};
+ghost use Rattle.lh_facts.specs.Facts.{naming_in};
 ghost use Rattle.lh_verify.specs.OperandTests.{ends_wrong as asks_ends_wrong};
 
+use lh_facts::scope::Scope;
 use lh_types::op::Op;
-use lh_typing::scope::Scope;
 use lh_unit::inst::{Inst, Typed, UnitKind};
 
 /// Whether a unit of this kind is a function.

@@ -8,14 +8,14 @@ ghost use Rattle.lh_unit.specs.WellFormed as spec;
 ghost use Rattle.lh_unit.specs.WellFormed.{arguments_fit, assert_args};
 ghost use Rattle.lh_unit.specs.TypingRows.{has_type};
 ghost use Rattle.lh_verify.specs.OperandTests.{on_side};
-ghost use Rattle.lh_typing.specs.Numbers.{AreNumbersOf};
-ghost use Rattle.lh_typing.specs.Facts.{IsScope, items_in, text_in, naming_in, sizes_in};
+ghost use Rattle.lh_facts.specs.Numbers.{AreNumbersOf};
+ghost use Rattle.lh_facts.specs.Facts.{IsScope, items_in, text_in, naming_in, sizes_in};
 
 use crate::units::is_defined;
+use lh_facts::numbers::Numbered;
+use lh_facts::scope::Scope;
 use lh_types::ty::Ty;
 use lh_typing::has_bit;
-use lh_typing::numbers::Numbered;
-use lh_typing::scope::Scope;
 use lh_unit::inst::{Arg, Inst, Typed, UnitId, ValueId};
 
 /// The parameters among which an argument stands.

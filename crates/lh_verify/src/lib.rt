@@ -4,13 +4,10 @@
 mod allowed;
 mod arguments;
 mod kinds;
-mod labels;
 mod phis;
 mod place;
 mod predecessors;
-mod probes;
 mod spots;
-mod turns;
 mod undefined;
 mod unit;
 mod units;

@@ -6,9 +6,9 @@ ghost use Rattle.lh_unit.specs.Contents.{defines_unit};
 ghost use Rattle.lh_unit.specs.Named.{is_assert};
 ghost use Rattle.lh_unit.specs.WellFormed.{is_function_name};
 ghost use Rattle.lh_verify.specs.OperandTests.{is_function_kind};
-ghost use Rattle.lh_typing.specs.Facts.{IsScope, items_in, naming_in, sizes_in};
+ghost use Rattle.lh_facts.specs.Facts.{IsScope, items_in, naming_in, sizes_in};
 
-use lh_typing::scope::Scope;
+use lh_facts::scope::Scope;
 use lh_unit::inst::{UnitId, UnitKind};
 
 /// Whether a unit is defined.

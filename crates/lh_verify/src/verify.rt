@@ -4,13 +4,13 @@ ghost use Rattle.lh_unit.specs.Arena.{contents};
 ghost use Rattle.lh_unit.specs.WellFormed.{IsSpelled, IsWellFormed};
 ghost use Rattle.lh_verify.specs.FirstFound.{IsFew};
 ghost use Rattle.lh_unit.specs.Placed.{IsItemOf};
-ghost use Rattle.lh_typing.specs.Numbers.{Grows, NumbersParams};
+ghost use Rattle.lh_facts.specs.Numbers.{Grows, NumbersParams};
 ghost use Rattle.lh_verify.specs.Verifying.{Verifies, FirstFaultOf, FirstFaultOfItem, ItemBegun, named_fault};
 
 use crate::unit::{InstFault, first_fault};
+use lh_facts::numbers::Types;
+use lh_facts::params::{NumberList, params};
 use lh_types::ty::NoMemory;
-use lh_typing::numbers::Types;
-use lh_typing::params::{NumberList, params};
 use lh_unit::inst::{Item, UnitId};
 use lh_unit::module::Module;
 use std::alloc::Global;

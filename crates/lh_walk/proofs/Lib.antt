@@ -19,6 +19,7 @@ pub mod Parting
 pub mod Phis
 pub mod Reached
 pub mod Regional
+pub mod StillLines
 pub mod TakingLines
 pub mod Through
 pub mod Treated

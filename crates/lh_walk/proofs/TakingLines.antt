@@ -20,7 +20,7 @@ use Rattle.lh_unit.specs.Contents.{OperandText, LineText, UnitText, same_name}
 use Rattle.lh_unit.specs.Effects.{step_of}
 use Rattle.lh_unit.specs.Held.{front}
 use Rattle.lh_unit.specs.Kinds.{Use, all_used, data_or_time_needed}
-use Rattle.lh_unit.specs.Naming.{Naming, value_text, maybe_text, operand_text, inst_text}
+use Rattle.lh_unit.specs.Naming.{Naming, maybe_text, operand_text, inst_text}
 use Rattle.lh_unit.specs.Typing.{value_type, is_value_type, result_type, carried, operation_type}
 use Rattle.lh_unit.specs.TypingRows.{bit}
 use Rattle.lh_unit.specs.WellFormed.{assert_args}
@@ -43,7 +43,7 @@ use Rattle.lh_flat.specs.Below.{ValuesBelow, InstBelow}
 use Rattle.lh_flat.specs.Reads.{flat_line_text, flat_block_text}
 use Rattle.lh_term.specs.Tree.{Tree, constant, operation_on}
 use Rattle.lh_term.specs.Types.{IsTyped, FitsTerm}
-use Rattle.lh_term.specs.Make.{is_zero, make_operation}
+use Rattle.lh_term.specs.Make.{make_operation}
 use Rattle.lh_term.specs.Arena.{trees, tree_at, StandsForTree, Grows}
 use Rattle.lh_term.specs.declared.term.TermId.{TermId}
 use Rattle.lh_term.specs.declared.term.Node.{Node}
@@ -57,7 +57,7 @@ use Rattle.lh_joins.proofs.Conditions.{grows-none, stands-condition}
 use Rattle.lh_rows.specs.Known.{Known, known_value, known_cell, known_part, Knowledge, with_known, with_given, value_known, cell_known, part_known, values_known}
 use Rattle.lh_rows.specs.Rows as text
 use Rattle.lh_rows.specs.Joins.{RegionEdge}
-use Rattle.lh_rows.specs.Places.{Region as RegionText, Here, Midst, probes, both, drive_cond, drives, asserts, takes}
+use Rattle.lh_rows.specs.Places.{Region as RegionText, Here, Midst, probes, both, drives, asserts, takes}
 use Rattle.lh_rows.specs.Regions.{turns_too_often}
 use Rattle.lh_rows.specs.Typed.{known_type, IsTypedKnown, KnowsTyped, IsCondition}
 use Rattle.lh_rows.specs.Right.{as_block, BlockAt}
@@ -92,60 +92,7 @@ use Rattle.lh_region.proofs.Rowing.{rows-grown}
 use Rattle.lh_walk.proofs.Continuing.{continues-given, so-far-grown}
 use Rattle.lh_walk.proofs.Regional.{region-of, block-at-text, site-of}
 use Rattle.lh_walk.proofs.Known.{value-term, cell-term, part-of-known, result-low, used-low}
-
--- ---- edges and ends stay
-
-record Still (m m' : Midst) : Type 0 where
-  edges : m'.edges ≡ m.edges
-  ends : m'.rows.ends ≡ m.rows.ends
-
-still-same : (m : Midst) → Still m m
-still-same m = record { edges = refl; ends = refl }
-
-probe-still : (g : RegionText) (m : Midst) (r : Option (List ℕ)) (o : Option Part) → Still m (probes g m r o)
-probe-still g m r None = record { edges = refl; ends = refl }
-probe-still g m r (Some p) = record { edges = refl; ends = refl }
-
-drive-still : (m : Midst) (c : Option Tree) (p : Option Part) (x y : Option Tree) → Still m (drives m c p x y)
-drive-still m None p x y = still-same m
-drive-still m (Some c) None x y = still-same m
-drive-still m (Some c) (Some p) None y = still-same m
-drive-still m (Some c) (Some p) (Some x) None = still-same m
-drive-still m (Some c) (Some p) (Some x) (Some y) = by (is_zero c)
-  where
-    by : (z : Bool) → Still m (if z then m else record m { rows = record m.rows { drives = m.rows.drives ++ record { cond = c; part = p; value = x; delay = y } ∷ [] } })
-    by true = record { edges = refl; ends = refl }
-    by false = record { edges = refl; ends = refl }
-
-drives-known : (m : Midst) (c : Tree) (p : Part) (x y : Tree) → (drives m (Some c) (Some p) (Some x) (Some y)).known ≡ m.known
-drives-known m c p x y = by (is_zero c)
-  where
-    by : (z : Bool) → (if z then m else record m { rows = record m.rows { drives = m.rows.drives ++ record { cond = c; part = p; value = x; delay = y } ∷ [] } }).known ≡ m.known
-    by true = refl
-    by false = refl
-
-assert-still : (m : Midst) (o : Option (List Tree)) → Still m (asserts m o)
-assert-still m None = still-same m
-assert-still m (Some ts) = record { edges = refl; ends = refl }
-
-takes-still : (f : Naming) (g : RegionText) (h : Here) (i : Inst) (r : Option (List ℕ)) (m : Midst) → leads_nowhere i ≡ true → Still m (takes g h (inst_text f i) r m)
-takes-still f g h (inst.Prb a) r m e = probe-still g m r (part_known m.known (value_text f a.value))
-takes-still f g h (inst.Drv to value after cond) r m e = drive-still m (drive_cond m.known h.cond (maybe_text f cond)) (part_known m.known (value_text f to.value))
-    (value_known m.known (value_text f value)) (value_known m.known (value_text f after))
-takes-still f g h (inst.Call v ty args) r m e = assert-still m (values_known m.known (map (operand_text f) args))
-takes-still f g h (inst.Br to) r m e = absurd (false≢true e)
-takes-still f g h (inst.Branch c zero one) r m e = absurd (false≢true e)
-takes-still f g h (inst.Wait to after on) r m e = absurd (false≢true e)
-takes-still f g h inst.Halt r m e = absurd (false≢true e)
-takes-still f g h (inst.Ret x) r m e = absurd (false≢true e)
-takes-still f g h _ r m e = record { edges = refl; ends = refl }
-
-alone-leads : (i : Inst) → gives_alone i ≡ true → leads_nowhere i ≡ true
-alone-leads (inst.St to value) e = absurd (false≢true e)
-alone-leads (inst.Prb a) e = absurd (false≢true e)
-alone-leads (inst.Drv to value after cond) e = absurd (false≢true e)
-alone-leads (inst.Call v ty args) e = absurd (false≢true e)
-alone-leads _ e = e
+use Rattle.lh_walk.proofs.StillLines.{drives-known, takes-still, alone-leads}
 
 -- nothing is done where nothing is given
 pub alone-none : (f : Naming) (g : RegionText) (h : Here) (i : Inst) (m : Midst) → gives_alone i ≡ true → takes g h (inst_text f i) None m ≡ m

@@ -5,10 +5,9 @@ use Rattle.std.proofs.lemmas.List.{length-append, length-take, set_at}
 use Rattle.std.proofs.lemmas.Bool.Decides.{nat_tests}
 use Rattle.lh_types.specs.Types.{TypeTree, TypeRow, int_type, time_type, void_type, array_type, tuple_type, signal_type, pointer_type, no_types, more_types, bit_count}
 use Rattle.lh_types.specs.Values.{Datum, int_value, array_value, tuple_value, more_values}
-use Rattle.lh_types.specs.Bits.{value_bits, row_bits, value_from_bits, row_from_bits, repeat_parts, number_bits, bits_number}
-use Rattle.lh_types.specs.Flags.{differing}
+use Rattle.lh_types.specs.Bits.{value_bits, row_bits, value_from_bits, row_from_bits, repeat_parts, number_bits, bits_number, differing}
 use Rattle.lh_types.specs.Pictures.{Showing}
-use Rattle.lh_types.proofs.NumberBits.{length-number_bits, bits_number-number_bits, bits_number-lt}
+use Rattle.lh_bits.proofs.NumberBits.{length-number_bits, bits_number-number_bits, bits_number-lt}
 use Rattle.lh_unit.specs.Design.{Signal}
 use Rattle.lh_unit.specs.Trace.{signal_value}
 use Rattle.lh_unit.specs.Frames.{toggled, change_if, changed_from, signal_values}

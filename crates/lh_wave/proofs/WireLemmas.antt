@@ -9,7 +9,7 @@ use Rattle.lh_types.specs.ValueOf.{datum_of}
 use Rattle.lh_types.specs.Bits.{value_bits, row_bits, number_bits}
 use Rattle.lh_types.specs.declared.val.Val.{Val}
 use Rattle.lh_types.proofs.DatumRows.{data_row-drop-map}
-use Rattle.lh_types.proofs.NumberBits.{length-number_bits}
+use Rattle.lh_bits.proofs.NumberBits.{length-number_bits}
 use Rattle.lh_wave.specs.WaveText.{bit_byte, bits_text, marked_bits}
 
 pub record BitsAt (start to : List ℕ) (all : List Datum) (vs : List Val) (i : ℕ) : Type 0 where

@@ -8,10 +8,10 @@ use Rattle.std.proofs.lemmas.Cmp.{tied_itself}
 use Rattle.lh_time.specs.declared.Instant.{Instant}
 use Rattle.lh_time.specs.Order.{instant_cmp, instant_lt}
 use Rattle.lh_time.proofs.OrderLemmas.{instant_cmp_total}
-use Rattle.lh_types.specs.Wish.{Wish, due_bit, IsInOrder}
+use Rattle.lh_types.specs.Wish.{Wish, due_bit, IsInOrder, bits_due, writes_wish}
 use Rattle.lh_history.proofs.Instants.{instant_one}
 use Rattle.lh_wishes.specs.declared.run.WishRun.{WishRun}
-use Rattle.lh_types.specs.Writes.{numbered, bits_due, writes_wish}
+use Rattle.lh_bits.specs.Writes.{numbered}
 use Rattle.lh_wishes.specs.Grouped.{is_filled, BitsRise, IsGrouped, Apart}
 use Rattle.lh_wishes.specs.Runs.{row_wish, run_wish}
 use Rattle.lh_history.proofs.DueBits.{nat_is_less}

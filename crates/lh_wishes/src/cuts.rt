@@ -1,7 +1,7 @@
 //! Bits before and behind a place.
 ghost use Rattle.std.specs.Prelude.{◌≡◌, take, drop, IfOk};
 
-use lh_types::bits::Bits;
+use lh_bits::bits::Bits;
 use lh_types::ty::NoMemory;
 
 /// The first bits, or all where there are not so many.

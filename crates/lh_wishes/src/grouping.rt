@@ -1,14 +1,15 @@
 //! Runs by the instants at which they are due.
 ghost use Rattle.std.specs.Prelude.{◌≡◌, ◌∷◌, ◌++◌, [], true, IfOk, OnOk};
-ghost use Rattle.lh_types.specs.Writes.{numbered, writes_wish};
+ghost use Rattle.lh_types.specs.Wish.{writes_wish};
+ghost use Rattle.lh_bits.specs.Writes.{numbered};
 ghost use Rattle.lh_wishes.specs.Grouped.{is_filled, Apart};
 ghost use Rattle.lh_wishes.specs.Runs.{run_wish, runs_wish, runs_in};
 
 use crate::run::WishRun;
 use crate::runs::RunList;
+use lh_bits::writes::BitWrites;
 use lh_time::Instant;
 use lh_types::ty::NoMemory;
-use lh_types::writes::BitWrites;
 use std::alloc::Global;
 
 /// Runs by their instants.

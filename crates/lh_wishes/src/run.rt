@@ -2,8 +2,8 @@
 ghost use Rattle.std.specs.Prelude.{ℕ, ◌+◌, ◌≤◌, ◌^◌, length};
 
 use crate::cuts::{first_bits, other_bits};
+use lh_bits::bits::Bits;
 use lh_time::Instant;
-use lh_types::bits::Bits;
 use lh_types::ty::NoMemory;
 use std::cmp::Ordering;
 

@@ -1,17 +1,16 @@
 //! The bits that an activation or a pass wishes, and when each is due.
 ghost use Rattle.std.specs.Prelude.{◌≡◌, ◌+◌, ◌<◌, ◌^◌, length, OnOk, IfOk};
-ghost use Rattle.lh_types.specs.Wish.{no_wish, with_bits};
-ghost use Rattle.lh_types.specs.Writes.{writes_wish};
+ghost use Rattle.lh_types.specs.Wish.{no_wish, with_bits, writes_wish};
 ghost use Rattle.lh_wishes.specs.Grouped.{IsGrouped};
 
 use crate::grouping::grouped;
 use crate::run::WishRun;
 use crate::runs::{RunList, with_more};
+use lh_bits::bits::Bits;
+use lh_bits::writes::DueWrites;
 use lh_time::Instant;
-use lh_types::bits::Bits;
 use lh_types::list::ListOf;
 use lh_types::ty::NoMemory;
-use lh_types::writes::DueWrites;
 use std::alloc::Global;
 use std::marker::Model;
 use std::mem;

@@ -4,12 +4,12 @@ ghost use Rattle.lh_time.specs.Order.{instant_le};
 ghost use Rattle.lh_queue.specs.Queued.{EachWithin, BitsWithin, NamesOnce, NoneDueBefore};
 ghost use Rattle.lh_ground_trials.specs.declared.tests.queue_order.Row.{Row};
 
+use lh_bits::bits::Bits;
+use lh_bits::writes::BitWrites;
 use lh_queue::queue::{Bucket, Queue};
 use lh_queue::wish::Wish;
 use lh_time::Instant;
-use lh_types::bits::Bits;
 use lh_types::ty::NoMemory;
-use lh_types::writes::BitWrites;
 use std::alloc::Global;
 use std::test::Fail;
 

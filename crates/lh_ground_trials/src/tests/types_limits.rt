@@ -1,13 +1,13 @@
 //! Types at their limits, and parts and bits worked out by hand.
 ghost use Rattle.std.specs.Prelude.{◌≡◌, ◌+◌, ◌≤◌, length, IfOk};
 
-use lh_types::bits::Bits;
-use lh_types::layout::{from_bits, to_bits};
+use lh_bits::bits::Bits;
+use lh_bits::layout::{from_bits, to_bits};
+use lh_bits::writes::BitWrites;
 use lh_types::list::ByteList;
 use lh_types::part::{Range, Step, range_of};
 use lh_types::ty::{NoMemory, Ty, TyFault, TyList, bits, carries_data};
 use lh_types::val::{Val, ValList};
-use lh_types::writes::BitWrites;
 use std::alloc::Global;
 use std::test::Fail;
 

@@ -1,8 +1,8 @@
 //! Drives that overlap, worked by hand.
 ghost use Rattle.std.specs.Prelude.{◌≡◌, ◌≤◌, length, IfOk};
 
+use lh_bits::bits::Bits;
 use lh_time::Instant;
-use lh_types::bits::Bits;
 use lh_types::ty::NoMemory;
 use lh_wishes::wishes::Wishes;
 use std::alloc::Global;

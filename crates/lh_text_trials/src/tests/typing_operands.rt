@@ -1,9 +1,9 @@
 //! The operands of instructions with what each must be, and signals and nothing told apart.
+use lh_operands::uses::{Need, Use, uses};
 use lh_types::list::ListOf;
 use lh_types::op::Op;
 use lh_types::ty::{NoMemory, Ty};
 use lh_types::written::WrittenTy;
-use lh_typing::uses::{Need, Use, uses};
 use lh_unit::inst::{Inst, OperandList, Typed, TypedList, ValueId};
 use std::alloc::Global;
 

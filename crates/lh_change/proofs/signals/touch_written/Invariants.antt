@@ -1,5 +1,5 @@
 use Rattle.std.proofs.Common.{take}
-use Rattle.lh_types.specs.Writes.{bits_of}
+use Rattle.lh_bits.specs.Writes.{bits_of}
 use Rattle.lh_change.specs.Touched.{TouchesMore, bits_named}
 use Rattle.lh_change.proofs.signals.touch_written.Given as goal
 

@@ -11,14 +11,14 @@ pub activate_within-requires-clause-args : goal.activate_within-requires-clause-
 activate_within-requires-clause-args g c = subst (λ (l : List Range). RangesFit (length c.args.now.now) l (arg_types (unit_text_at c.args.m.now c.args.i.now.unit.0).args))
     (sym c.as_slice-args.ensures) c.requires.args
 
-pub returns-in-Ok-clause-act : goal.returns-in-Ok-clause-act
-returns-in-Ok-clause-act g c = λ p k.
+pub returns-clause-act : goal.returns-clause-act
+returns-clause-act g c = λ p k.
     let m = c.args.m.now in
     let u = c.args.i.now.unit.0 in
     let w = length c.args.now.now in
     let done = activate 1000000 (scene_of m c.args.now.now c.args.at) (unit_text_at m u) p in
     subst (λ (l : List Range). ActivationOrRunaway m u l w c.answered.result done) c.as_slice-args.ensures
-    (c.answered.ensures.act m u w c.as_slice-args.result.now done (c.in-Ok.ensures.act p (subst (λ (l : List Range). StandsForState m u l c.args.s.now p) (sym c.as_slice-args.ensures) k)))
+    (c.answered.ensures.act m u w c.as_slice-args.result.now done (c.in_ok-given.ensures.act p (subst (λ (l : List Range). StandsForState m u l c.args.s.now p) (sym c.as_slice-args.ensures) k)))
 
-pub returns-in-Ok-clause-late : goal.returns-in-Ok-clause-late
-returns-in-Ok-clause-late g c = c.answered.ensures.late c.args.at c.in-Ok.ensures.late
+pub returns-clause-late : goal.returns-clause-late
+returns-clause-late g c = c.answered.ensures.late c.args.at c.in_ok-given.ensures.late

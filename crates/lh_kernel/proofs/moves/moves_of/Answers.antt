@@ -17,22 +17,37 @@ loop-done-preserved c =
     let probes = c.args.probes.now in
     let states = c.args.states.now in
     let x = c.done-item.result in
-    let r = read_item signals probes states (length c.args.design.now.init) c.args.acts.now c.loop-done.done-index x c.index-probes-k.result c.index-states-k.result c.loop-done-test.true c.done-item.is c.requires.fit in
+    let r = read_item signals probes states (length c.args.design.now.init) c.args.acts.now c.loop-done.done-index x c.index-probes-k.result
+    c.index-states-k.result c.loop-done-test.true c.done-item.is c.requires.fit in
     let is_probed = slice_get_read probes (length probes) x.instance c.index-probes-k.result refl r.in_probes c.index-probes-k.is in
     let is_kept = slice_get_read states (length states) x.instance c.index-states-k.result refl r.in_states c.index-states-k.is in
     let P : Vec Move Global → Type 0 = λ v. AreKnownMoves signals probes states (take (c.loop-done.done-index + 1) c.args.acts.now) v.items in
     elim c.if-not-senses_as_before.branch [
       | then-not-senses_as_before+in_ok-move_of+in_ok-push w ↦
           subst P (sym w.moves-is)
-          (moves_next signals probes states c.args.acts.now c.loop-done.done-index x c.loop-done.moves.items w.push.new.self.items w.in_ok-move_of.field-0 c.loop-done-test.true c.done-item.is c.loop-done.invariant
-          (record { probed = c.index-probes-k.result; state = c.index-states-k.result; is_probed = is_probed; is_kept = is_kept; moves = subst (λ (s : InstState). IsMove signals c.index-probes-k.result x.instance c.index-states-k.result s w.in_ok-move_of.field-0) c.next-new.ensures w.in_ok-move_of.ensures }) w.in_ok-push.ensures.items)
+          (moves_next signals probes states c.args.acts.now c.loop-done.done-index x c.loop-done.moves.items w.push.new.self.items
+          w.in_ok-move_of.field-0 c.loop-done-test.true c.done-item.is c.loop-done.invariant
+          (record {
+            probed = c.index-probes-k.result;
+            state = c.index-states-k.result;
+            is_probed = is_probed;
+            is_kept = is_kept;
+            moves =
+                subst (λ (s : InstState). IsMove signals c.index-probes-k.result x.instance c.index-states-k.result s w.in_ok-move_of.field-0)
+                c.next-new.ensures w.in_ok-move_of.ensures;
+          }) w.in_ok-push.ensures.items)
       | else-not-senses_as_before w ↦
           subst P (sym w.moves-is)
-          (moves_still signals probes states c.args.acts.now c.loop-done.done-index x c.loop-done.moves.items c.index-probes-k.result c.index-states-k.result c.loop-done-test.true c.done-item.is c.loop-done.invariant is_probed is_kept (subst (λ (s : InstState). SensesAsBefore c.index-states-k.result s) c.next-new.ensures (c.senses_as_before.ensures w.if-not-senses_as_before.false)))
+          (moves_still signals probes states c.args.acts.now c.loop-done.done-index x c.loop-done.moves.items c.index-probes-k.result
+          c.index-states-k.result c.loop-done-test.true c.done-item.is c.loop-done.invariant is_probed is_kept
+          (subst (λ (s : InstState). SensesAsBefore c.index-states-k.result s) c.next-new.ensures
+          (c.senses_as_before.ensures w.if-not-senses_as_before.false)))
     ]
 
 pub returns-clause-moves : goal.returns-clause-moves
-returns-clause-moves c = (moves_all c.args.design.now.signals.items c.args.probes.now c.args.states.now c.args.acts.now c.loop-done.done-index c.loop-done.moves.items c.loop-done-test.false c.loop-done.invariant).0
+returns-clause-moves c = (moves_all c.args.design.now.signals.items c.args.probes.now c.args.states.now c.args.acts.now c.loop-done.done-index
+    c.loop-done.moves.items c.loop-done-test.false c.loop-done.invariant).0
 
 pub returns-clause-known : goal.returns-clause-known
-returns-clause-known c = (moves_all c.args.design.now.signals.items c.args.probes.now c.args.states.now c.args.acts.now c.loop-done.done-index c.loop-done.moves.items c.loop-done-test.false c.loop-done.invariant).1
+returns-clause-known c = (moves_all c.args.design.now.signals.items c.args.probes.now c.args.states.now c.args.acts.now c.loop-done.done-index
+    c.loop-done.moves.items c.loop-done-test.false c.loop-done.invariant).1

@@ -11,10 +11,12 @@ loop-number-preserved c =
     elim c.if-not-has.branch [
       | then-not-has+in_ok-enter w ↦
           subst P (sym w.rest-is)
-          (over_more items c.args.those.now i (get_or items i 0) c.loop-number-test.true refl c.loop-number.rest w.enter.new.self (λ h. true_false (sym (c.has.ensures.1 h) ∙ w.if-not-has.true)) c.loop-number.invariant w.in_ok-enter.ensures.has)
+          (over_more items c.args.those.now i (get_or items i 0) c.loop-number-test.true refl c.loop-number.rest w.enter.new.self
+          (λ h. true_false (sym (c.has.ensures.1 h) ∙ w.if-not-has.true)) c.loop-number.invariant w.in_ok-enter.ensures.has)
       | else-not-has w ↦
           subst P (sym w.rest-is) (over_same items c.args.those.now i (get_or items i 0) c.loop-number-test.true refl c.loop-number.rest (c.has.ensures.0 w.if-not-has.false) c.loop-number.invariant)
     ]
 
 pub returns : goal.returns
-returns c = over_all c.as_slice-number-items.result.now c.args.these.now c.args.those.now c.loop-number.number-index c.loop-number.rest c.as_slice-number-items.ensures.same c.loop-number-test.false c.loop-number.invariant
+returns c = over_all c.as_slice-number-items.result.now c.args.these.now c.args.those.now c.loop-number.number-index c.loop-number.rest
+    c.as_slice-number-items.ensures.same c.loop-number-test.false c.loop-number.invariant

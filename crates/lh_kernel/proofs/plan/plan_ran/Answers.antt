@@ -17,7 +17,8 @@ returns-clause-planned c = record {
   outcomes = c.in_ok-outcomes_of.ensures ∙ ap outcomes_ran c.deref.ensures.value;
   ran = c.requires.ran;
   sound = c.requires.sound;
-  moves = moves_as c.args.x.now.design.signals.items c.deref-2.result.now c.args.x.now.probes.items c.deref-3.result.now c.args.x.now.states.items c.deref-4.result.now c.args.ran.acts.items c.in_ok-moves.moves.items
+  moves = moves_as c.args.x.now.design.signals.items c.deref-2.result.now c.args.x.now.probes.items c.deref-3.result.now c.args.x.now.states.items
+      c.deref-4.result.now c.args.ran.acts.items c.in_ok-moves.moves.items
       c.deref-2.ensures.value c.deref-3.ensures.value c.deref-4.ensures.value c.in_ok-moves.ensures.moves;
   known = c.in_ok-moves.ensures.known;
   wishes = c.in_ok-wishes.ensures c.args.at ∙ ap (λ (xs : List Activation). length (wishes_ran c.args.at xs)) c.deref-5.ensures.value;

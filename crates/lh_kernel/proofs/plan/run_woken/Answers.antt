@@ -12,16 +12,19 @@ run_all-requires-clause-width g c =
 
 pub run_all-requires-clause-fit : goal.run_all-requires-clause-fit
 run_all-requires-clause-fit g c =
-    subst (λ (ss : List InstState). StatesFit c.args.x.now.«module».now (length c.args.x.now.looked) c.args.x.now.design.instances.items ss) (sym c.deref.ensures.value) (looked_fit c.args.x.now c.args.at c.args.touched.now c.requires.looked)
+    subst (λ (ss : List InstState). StatesFit c.args.x.now.«module».now (length c.args.x.now.looked) c.args.x.now.design.instances.items ss)
+    (sym c.deref.ensures.value) (looked_fit c.args.x.now c.args.at c.args.touched.now c.requires.looked)
 
 pub run_all-requires-clause-rising : goal.run_all-requires-clause-rising
 run_all-requires-clause-rising g c =
-    let e = all_awake c.args.x.now c.args.at c.args.touched.now c.deref-then-is_none.result.now c.in_ok-all.all.items c.requires.looked (none_by c.args.x.now.last c.is_none.result c.is_none.ensures c.if-is_none.true) c.deref-then-is_none.ensures.value c.in_ok-all.ensures in
+    let e = all_awake c.args.x.now c.args.at c.args.touched.now c.deref-then-is_none.result.now c.in_ok-all.all.items c.requires.looked
+    (none_by c.args.x.now.last c.is_none.result c.is_none.ensures c.if-is_none.true) c.deref-then-is_none.ensures.value c.in_ok-all.ensures in
     rises_awake c.args.x.now c.args.at c.deref-then-is_none.result.now e
 
 pub run_all-requires-clause-known : goal.run_all-requires-clause-known
 run_all-requires-clause-known g c =
-    let e = all_awake c.args.x.now c.args.at c.args.touched.now c.deref-then-is_none.result.now c.in_ok-all.all.items c.requires.looked (none_by c.args.x.now.last c.is_none.result c.is_none.ensures c.if-is_none.true) c.deref-then-is_none.ensures.value c.in_ok-all.ensures in
+    let e = all_awake c.args.x.now c.args.at c.args.touched.now c.deref-then-is_none.result.now c.in_ok-all.all.items c.requires.looked
+    (none_by c.args.x.now.last c.is_none.result c.is_none.ensures c.if-is_none.true) c.deref-then-is_none.ensures.value c.in_ok-all.ensures in
     known_awake c.args.x.now c.args.at c.deref-then-is_none.result.now e
 
 pub woken-requires-clause-width : goal.woken-requires-clause-width
@@ -34,43 +37,60 @@ run_all-requires-else-is_none-clause-width g c =
 
 pub run_all-requires-else-is_none-clause-fit : goal.run_all-requires-else-is_none-clause-fit
 run_all-requires-else-is_none-clause-fit g c =
-    subst (λ (ss : List InstState). StatesFit c.args.x.now.«module».now (length c.args.x.now.looked) c.args.x.now.design.instances.items ss) (sym c.deref-else-is_none-3.ensures.value) (looked_fit c.args.x.now c.args.at c.args.touched.now c.requires.looked)
+    subst (λ (ss : List InstState). StatesFit c.args.x.now.«module».now (length c.args.x.now.looked) c.args.x.now.design.instances.items ss)
+    (sym c.deref-else-is_none-3.ensures.value) (looked_fit c.args.x.now c.args.at c.args.touched.now c.requires.looked)
 
 pub run_all-requires-else-is_none-clause-known : goal.run_all-requires-else-is_none-clause-known
 run_all-requires-else-is_none-clause-known g c =
     let l = some_by c.args.x.now.last c.is_none.result c.is_none.ensures c.if-is_none.false in
-    let e = some_awake c.args.x.now c.args.at l.0 c.args.touched.now c.as_slice.result.now c.in_ok-woken.woken c.deref-else-is_none.result.now c.deref-else-is_none-2.result.now c.requires.looked l.1 c.as_slice.ensures.same c.deref-else-is_none.ensures.value c.deref-else-is_none-2.ensures.value c.in_ok-woken.ensures in
+    let e = some_awake c.args.x.now c.args.at l.0 c.args.touched.now c.as_slice.result.now c.in_ok-woken.woken c.deref-else-is_none.result.now
+    c.deref-else-is_none-2.result.now c.requires.looked l.1 c.as_slice.ensures.same c.deref-else-is_none.ensures.value
+    c.deref-else-is_none-2.ensures.value c.in_ok-woken.ensures in
     known_awake c.args.x.now c.args.at c.as_slice.result.now e
 
 pub returns-in_ok-all-clause-ran : goal.returns-in_ok-all-clause-ran
 returns-in_ok-all-clause-ran g c =
-    let e = all_awake c.args.x.now c.args.at c.args.touched.now c.deref-then-is_none.result.now c.in_ok-all.all.items c.requires.looked (none_by c.args.x.now.last c.is_none.result c.is_none.ensures c.if-is_none.true) c.deref-then-is_none.ensures.value c.in_ok-all.ensures in
-    ran_by c.args.x.now.«module».now c.args.x.now.looked c.args.at c.args.x.now.design.instances.items c.args.x.now.states.items c.deref.result.now (awake_in c.args.x.now c.args.at) c.deref-then-is_none.result.now c.run_all.result c.deref.ensures.value e c.run_all.ensures.ran
+    let e = all_awake c.args.x.now c.args.at c.args.touched.now c.deref-then-is_none.result.now c.in_ok-all.all.items c.requires.looked
+    (none_by c.args.x.now.last c.is_none.result c.is_none.ensures c.if-is_none.true) c.deref-then-is_none.ensures.value c.in_ok-all.ensures in
+    ran_by c.args.x.now.«module».now c.args.x.now.looked c.args.at c.args.x.now.design.instances.items c.args.x.now.states.items c.deref.result.now
+    (awake_in c.args.x.now c.args.at) c.deref-then-is_none.result.now c.run_all.result c.deref.ensures.value e c.run_all.ensures.ran
 
 pub returns-in_ok-all-clause-tally : goal.returns-in_ok-all-clause-tally
 returns-in_ok-all-clause-tally g c =
-    let e = all_awake c.args.x.now c.args.at c.args.touched.now c.deref-then-is_none.result.now c.in_ok-all.all.items c.requires.looked (none_by c.args.x.now.last c.is_none.result c.is_none.ensures c.if-is_none.true) c.deref-then-is_none.ensures.value c.in_ok-all.ensures in
+    let e = all_awake c.args.x.now c.args.at c.args.touched.now c.deref-then-is_none.result.now c.in_ok-all.all.items c.requires.looked
+    (none_by c.args.x.now.last c.is_none.result c.is_none.ensures c.if-is_none.true) c.deref-then-is_none.ensures.value c.in_ok-all.ensures in
     tally_by (g.T.Tally.count c.args.tally.now) (g.T.Tally.count c.run_all.new.tally) (awake_in c.args.x.now c.args.at) c.deref-then-is_none.result.now c.run_all.result e c.run_all.ensures.tally
 
 pub returns-in_ok-all-clause-err_tally : goal.returns-in_ok-all-clause-err_tally
 returns-in_ok-all-clause-err_tally g c =
-    let e = all_awake c.args.x.now c.args.at c.args.touched.now c.deref-then-is_none.result.now c.in_ok-all.all.items c.requires.looked (none_by c.args.x.now.last c.is_none.result c.is_none.ensures c.if-is_none.true) c.deref-then-is_none.ensures.value c.in_ok-all.ensures in
+    let e = all_awake c.args.x.now c.args.at c.args.touched.now c.deref-then-is_none.result.now c.in_ok-all.all.items c.requires.looked
+    (none_by c.args.x.now.last c.is_none.result c.is_none.ensures c.if-is_none.true) c.deref-then-is_none.ensures.value c.in_ok-all.ensures in
     err_by (g.T.Tally.count c.args.tally.now) (g.T.Tally.count c.run_all.new.tally) (awake_in c.args.x.now c.args.at) c.deref-then-is_none.result.now c.run_all.result e c.run_all.ensures.err
 
 pub returns-in_ok-woken-clause-ran : goal.returns-in_ok-woken-clause-ran
 returns-in_ok-woken-clause-ran g c =
     let l = some_by c.args.x.now.last c.is_none.result c.is_none.ensures c.if-is_none.false in
-    let e = some_awake c.args.x.now c.args.at l.0 c.args.touched.now c.as_slice.result.now c.in_ok-woken.woken c.deref-else-is_none.result.now c.deref-else-is_none-2.result.now c.requires.looked l.1 c.as_slice.ensures.same c.deref-else-is_none.ensures.value c.deref-else-is_none-2.ensures.value c.in_ok-woken.ensures in
-    ran_by c.args.x.now.«module».now c.args.x.now.looked c.args.at c.args.x.now.design.instances.items c.args.x.now.states.items c.deref-else-is_none-3.result.now (awake_in c.args.x.now c.args.at) c.as_slice.result.now c.run_all-else-is_none.result c.deref-else-is_none-3.ensures.value e c.run_all-else-is_none.ensures.ran
+    let e = some_awake c.args.x.now c.args.at l.0 c.args.touched.now c.as_slice.result.now c.in_ok-woken.woken c.deref-else-is_none.result.now
+    c.deref-else-is_none-2.result.now c.requires.looked l.1 c.as_slice.ensures.same c.deref-else-is_none.ensures.value
+    c.deref-else-is_none-2.ensures.value c.in_ok-woken.ensures in
+    ran_by c.args.x.now.«module».now c.args.x.now.looked c.args.at c.args.x.now.design.instances.items c.args.x.now.states.items
+    c.deref-else-is_none-3.result.now (awake_in c.args.x.now c.args.at) c.as_slice.result.now c.run_all-else-is_none.result
+    c.deref-else-is_none-3.ensures.value e c.run_all-else-is_none.ensures.ran
 
 pub returns-in_ok-woken-clause-tally : goal.returns-in_ok-woken-clause-tally
 returns-in_ok-woken-clause-tally g c =
     let l = some_by c.args.x.now.last c.is_none.result c.is_none.ensures c.if-is_none.false in
-    let e = some_awake c.args.x.now c.args.at l.0 c.args.touched.now c.as_slice.result.now c.in_ok-woken.woken c.deref-else-is_none.result.now c.deref-else-is_none-2.result.now c.requires.looked l.1 c.as_slice.ensures.same c.deref-else-is_none.ensures.value c.deref-else-is_none-2.ensures.value c.in_ok-woken.ensures in
-    tally_by (g.T.Tally.count c.args.tally.now) (g.T.Tally.count c.run_all-else-is_none.new.tally) (awake_in c.args.x.now c.args.at) c.as_slice.result.now c.run_all-else-is_none.result e c.run_all-else-is_none.ensures.tally
+    let e = some_awake c.args.x.now c.args.at l.0 c.args.touched.now c.as_slice.result.now c.in_ok-woken.woken c.deref-else-is_none.result.now
+    c.deref-else-is_none-2.result.now c.requires.looked l.1 c.as_slice.ensures.same c.deref-else-is_none.ensures.value
+    c.deref-else-is_none-2.ensures.value c.in_ok-woken.ensures in
+    tally_by (g.T.Tally.count c.args.tally.now) (g.T.Tally.count c.run_all-else-is_none.new.tally) (awake_in c.args.x.now c.args.at)
+    c.as_slice.result.now c.run_all-else-is_none.result e c.run_all-else-is_none.ensures.tally
 
 pub returns-in_ok-woken-clause-err_tally : goal.returns-in_ok-woken-clause-err_tally
 returns-in_ok-woken-clause-err_tally g c =
     let l = some_by c.args.x.now.last c.is_none.result c.is_none.ensures c.if-is_none.false in
-    let e = some_awake c.args.x.now c.args.at l.0 c.args.touched.now c.as_slice.result.now c.in_ok-woken.woken c.deref-else-is_none.result.now c.deref-else-is_none-2.result.now c.requires.looked l.1 c.as_slice.ensures.same c.deref-else-is_none.ensures.value c.deref-else-is_none-2.ensures.value c.in_ok-woken.ensures in
-    err_by (g.T.Tally.count c.args.tally.now) (g.T.Tally.count c.run_all-else-is_none.new.tally) (awake_in c.args.x.now c.args.at) c.as_slice.result.now c.run_all-else-is_none.result e c.run_all-else-is_none.ensures.err
+    let e = some_awake c.args.x.now c.args.at l.0 c.args.touched.now c.as_slice.result.now c.in_ok-woken.woken c.deref-else-is_none.result.now
+    c.deref-else-is_none-2.result.now c.requires.looked l.1 c.as_slice.ensures.same c.deref-else-is_none.ensures.value
+    c.deref-else-is_none-2.ensures.value c.in_ok-woken.ensures in
+    err_by (g.T.Tally.count c.args.tally.now) (g.T.Tally.count c.run_all-else-is_none.new.tally) (awake_in c.args.x.now c.args.at)
+    c.as_slice.result.now c.run_all-else-is_none.result e c.run_all-else-is_none.ensures.err

@@ -31,13 +31,17 @@ loop-done-preserved c =
     let r : length (wishes_ran c.args.at (x ∷ xs)) ≤ c.loop-done.queue.spare = subst Q c.in-Some.ensures.steps.0 c.loop-done.invariant.3 in
     let K : List Activation → Type 0 = λ xs. Each (λ (x : Activation). x.instance < length c.loop-done.states.items) xs in
     let k : Each (λ (x : Activation). x.instance < length c.loop-done.states.items) (x ∷ xs) = subst K c.in-Some.ensures.steps.0 c.loop-done.invariant.4 in
-    let e : states_after c.loop-done.states.items (x ∷ xs) ≡ states_after c.args.states.now.items c.args.acts.items = ap (states_after c.loop-done.states.items) (sym c.in-Some.ensures.steps.0) ∙ c.loop-done.invariant.5 in
+    let e : states_after c.loop-done.states.items (x ∷ xs) ≡ states_after c.args.states.now.items c.args.acts.items =
+    ap (states_after c.loop-done.states.items) (sym c.in-Some.ensures.steps.0) ∙ c.loop-done.invariant.5 in
     let n : length c.into_parts-next.result.1 ≡ length x.act.wishes = ap length c.into_parts-next.ensures.wishes in
-    let put = subst (λ (ws : List (Instant × List (ℕ × Bool))). WerePut c.loop-done.queue.held (wishes_by c.args.at x.instance ws) c.put_wishes.new.queue.held) c.into_parts-next.ensures.wishes c.put_wishes.ensures.put in
+    let put = subst (λ (ws : List (Instant × List (ℕ × Bool))).
+    WerePut c.loop-done.queue.held (wishes_by c.args.at x.instance ws) c.put_wishes.new.queue.held) c.into_parts-next.ensures.wishes
+    c.put_wishes.ensures.put in
     let set = c.set_state.ensures ∙ ap (λ (s : InstState). slice_set c.loop-done.states.items x.instance s) c.into_parts-next.ensures.next in (
       tt,
       tt,
-      puts_more c.args.queue.now.held (wishes_ran c.args.at c.args.acts.items) c.loop-done.queue.held (wishes_by c.args.at x.instance x.act.wishes) (wishes_ran c.args.at xs) c.put_wishes.new.queue.held
+      puts_more c.args.queue.now.held (wishes_ran c.args.at c.args.acts.items) c.loop-done.queue.held (wishes_by c.args.at x.instance x.act.wishes)
+          (wishes_ran c.args.at xs) c.put_wishes.new.queue.held
           (subst P c.in-Some.ensures.steps.0 c.loop-done.invariant.2) put,
       omega (arith, r, n, length_ran c.args.at x xs, c.put_wishes.ensures.spare),
       known_on c.loop-done.states.items c.set_state.new.states.items x.instance x.act.next xs set k.1,

@@ -12,7 +12,8 @@ bounds-instances-k g c =
 pub bounds-states-k : goal.bounds-states-k
 bounds-states-k g c =
     let h = known-at c.args.woken.now c.loop-instance.instance-index c.args.design.now.instances.items c.loop-instance-test.true c.requires.known in
-    subst (λ (n : ℕ). slice_index_or c.args.woken.now c.loop-instance.instance-index 0 < n) (sym (fits-long c.args.m.now (length c.args.now.now) c.args.design.now.instances.items c.args.states.now c.requires.fit)) h
+    subst (λ (n : ℕ). slice_index_or c.args.woken.now c.loop-instance.instance-index 0 < n)
+    (sym (fits-long c.args.m.now (length c.args.now.now) c.args.design.now.instances.items c.args.states.now c.requires.fit)) h
 
 pub run_instance-requires-clause-instance : goal.run_instance-requires-clause-instance
 run_instance-requires-clause-instance g c =
@@ -37,11 +38,13 @@ run_instance-requires-clause-fits g c =
 pub returns-in_err-push-in-Ok-clause-err : goal.returns-in_err-push-in-Ok-clause-err
 returns-in_err-push-in-Ok-clause-err g c =
     on-err c.from_residual.result ((n : ℕ) × (n ≤ length c.args.woken.now) × (g.T.Tally.count c.run_instance.new.tally ≡ raised (g.T.Tally.count c.args.tally.now) n))
-    (tally-some c.args.woken.now c.loop-instance.instance-index (g.T.Tally.count c.args.tally.now) (g.T.Tally.count c.loop-instance.tally) (g.T.Tally.count c.run_instance.new.tally) c.loop-instance-test.true c.loop-instance.invariant.tally c.run_instance.ensures.tick)
+    (tally-some c.args.woken.now c.loop-instance.instance-index (g.T.Tally.count c.args.tally.now) (g.T.Tally.count c.loop-instance.tally)
+    (g.T.Tally.count c.run_instance.new.tally) c.loop-instance-test.true c.loop-instance.invariant.tally c.run_instance.ensures.tick)
 
 pub returns-in-Err-OutOfMemory-clause-err : goal.returns-in-Err-OutOfMemory-clause-err
 returns-in-Err-OutOfMemory-clause-err g c =
-    tally-some c.args.woken.now c.loop-instance.instance-index (g.T.Tally.count c.args.tally.now) (g.T.Tally.count c.loop-instance.tally) (g.T.Tally.count c.run_instance.new.tally) c.loop-instance-test.true c.loop-instance.invariant.tally c.run_instance.ensures.tick
+    tally-some c.args.woken.now c.loop-instance.instance-index (g.T.Tally.count c.args.tally.now) (g.T.Tally.count c.loop-instance.tally)
+    (g.T.Tally.count c.run_instance.new.tally) c.loop-instance-test.true c.loop-instance.invariant.tally c.run_instance.ensures.tick
 
 pub returns-in-Err-Runaway-clause-ran : goal.returns-in-Err-Runaway-clause-ran
 returns-in-Err-Runaway-clause-ran g c = λ ps q.
@@ -61,7 +64,8 @@ returns-in-Err-Runaway-clause-ran g c = λ ps q.
 
 pub returns-in-Err-Runaway-clause-tally : goal.returns-in-Err-Runaway-clause-tally
 returns-in-Err-Runaway-clause-tally g c =
-    tally-off c.args.woken.now c.loop-instance.instance-index (g.T.Tally.count c.args.tally.now) (g.T.Tally.count c.loop-instance.tally) (g.T.Tally.count c.run_instance.new.tally) c.loop-instance-test.true c.requires.rising c.loop-instance.invariant.tally c.run_instance.ensures.tick
+    tally-off c.args.woken.now c.loop-instance.instance-index (g.T.Tally.count c.args.tally.now) (g.T.Tally.count c.loop-instance.tally)
+    (g.T.Tally.count c.run_instance.new.tally) c.loop-instance-test.true c.requires.rising c.loop-instance.invariant.tally c.run_instance.ensures.tick
 
 pub loop-instance-preserved : goal.loop-instance-preserved
 loop-instance-preserved g c =
@@ -77,7 +81,10 @@ loop-instance-preserved g c =
     let e = in-place is c.instances.result.now k i c.instances.ensures h c.index-instances-k.is in
     let f = there ss k s (subst (λ (n : ℕ). k < n) (sym (fits-long m (length c.args.now.now) is ss c.requires.fit)) h) c.index-states-k.is in
     record {
-      ran = λ ps q. turn-on m c.args.now.now c.args.at is ss ps c.args.woken.now c.loop-instance.acts.items c.push.new.self.items j i s x c.loop-instance-test.true e f q (λ p w. c.in-Ok.ensures.act p w) c.in_ok-push-in-Ok.ensures.items (c.loop-instance.invariant.ran ps q);
-      sound = turn-sound m (length c.args.now.now) c.args.at is c.loop-instance.acts.items c.push.new.self.items k i x e c.in-Ok.ensures.sound c.in_ok-push-in-Ok.ensures.items c.loop-instance.invariant.sound;
-      tally = tally-more (g.T.Tally.count c.args.tally.now) (g.T.Tally.count c.loop-instance.tally) (g.T.Tally.count c.run_instance.new.tally) j c.loop-instance.invariant.tally c.run_instance.ensures.tick;
+      ran = λ ps q. turn-on m c.args.now.now c.args.at is ss ps c.args.woken.now c.loop-instance.acts.items c.push.new.self.items j i s x
+          c.loop-instance-test.true e f q (λ p w. c.in-Ok.ensures.act p w) c.in_ok-push-in-Ok.ensures.items (c.loop-instance.invariant.ran ps q);
+      sound = turn-sound m (length c.args.now.now) c.args.at is c.loop-instance.acts.items c.push.new.self.items k i x e c.in-Ok.ensures.sound
+          c.in_ok-push-in-Ok.ensures.items c.loop-instance.invariant.sound;
+      tally = tally-more (g.T.Tally.count c.args.tally.now) (g.T.Tally.count c.loop-instance.tally) (g.T.Tally.count c.run_instance.new.tally) j
+          c.loop-instance.invariant.tally c.run_instance.ensures.tick;
     }

@@ -5,7 +5,8 @@ use Rattle.lh_kernel.proofs.woken.all_of.Goals as goal
 
 pub loop-number-preserved : goal.loop-number-preserved
 loop-number-preserved c =
-    c.in_ok-push.ensures.items ∙ ap (λ (xs : List ℕ). xs ++ c.loop-number.number ∷ []) c.loop-number.invariant ∙ ap (λ (k : ℕ). range_with_len 0 c.loop-number.number ++ k ∷ []) (omega arith) ∙ sym (range_push 0 c.loop-number.number)
+    c.in_ok-push.ensures.items ∙ ap (λ (xs : List ℕ). xs ++ c.loop-number.number ∷ []) c.loop-number.invariant ∙
+    ap (λ (k : ℕ). range_with_len 0 c.loop-number.number ++ k ∷ []) (omega arith) ∙ sym (range_push 0 c.loop-number.number)
 
 pub returns : goal.returns
 returns c = λ a now t states e.

@@ -28,13 +28,18 @@ returns-in-Some c =
     let memory = c.args.state.now.memory in
     let told : IsQuiet c.args.now.now c.args.state.now c.in-Some.next = rw c.in-Some.is at c.in_ok-next.ensures in
     let known = subst (λ (k : Option (List TriggerBit)). IsSomeAnd k (λ bits. NoneFires c.args.now.now memory 0 bits told.values)) (sym told.known) told.rest in
-    let still : IsStill z told.values = rests-as-known text c.args.args.now c.args.now.now memory c.args.state.now.triggers told.values e (c.args.sigs.now, refl) c.args.at c.requires.triggers known
-    (firsts m u o c.requires.unit c.requires.entity c.requires.formed) (passes-find m u o c.requires.unit c.requires.formed c.requires.entity c.args.args.now c.args.sigs.now c.args.now.now memory c.args.at c.requires.fits) in
+    let still : IsStill z told.values = rests-as-known text c.args.args.now c.args.now.now memory c.args.state.now.triggers told.values e
+    (c.args.sigs.now, refl) c.args.at c.requires.triggers known
+    (firsts m u o c.requires.unit c.requires.entity c.requires.formed)
+    (passes-find m u o c.requires.unit c.requires.formed c.requires.entity c.args.args.now c.args.sigs.now c.args.now.now memory c.args.at c.requires.fits) in
     let next : c.in-Some.next.memory ≡ Some z.seen = told.seen ∙ ap Some (sym still.seen) in
     let seen : length z.seen ≡ trigger_count (lines_of text.blocks) = omega (arith, pass-seen text c.args.now.now memory c.args.at (lines_of text.blocks) p) in
     record {
       next = next;
-      fits = record { memory = subst (MemoryFits text) (sym next) seen; triggers = subst (TriggersFit text c.args.args.now) (sym told.kept) c.requires.triggers };
+      fits = record {
+        memory = subst (MemoryFits text) (sym next) seen;
+        triggers = subst (TriggersFit text c.args.args.now) (sym told.kept) c.requires.triggers;
+      };
       wish = ap writes_wish c.new.ensures ∙ sym still.wish;
       grouped = rw c.new.ensures tt;
       within = rw c.new.ensures tt;

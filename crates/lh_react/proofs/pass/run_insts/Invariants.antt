@@ -12,5 +12,6 @@ invariant-loop-inst l = record {
   fit : RunFits l.m l.unit.0 (length l.now) l.run;
   within : Each (λ (i : InstId). i.0 < inst_count l.m l.unit.0) (drop l.inst-index l.insts);
   sound : Each (λ (i : InstId). InstIsSound (unit_text_at l.m l.unit.0) (line_in l.m l.unit.0 i)) (drop l.inst-index l.insts);
-  goes : (p : Passed) → StandsForPass l.m l.unit.0 p l.initial.run → ContinuesPass l.m l.unit.0 l.now l.state.memory l.at l.run (drop l.inst-index l.insts) (passed_all l.m l.unit.0 l.now l.state.memory l.at p l.insts);
+  goes : (p : Passed) → StandsForPass l.m l.unit.0 p l.initial.run → ContinuesPass l.m l.unit.0 l.now l.state.memory l.at l.run (drop l.inst-index l.insts)
+      (passed_all l.m l.unit.0 l.now l.state.memory l.at p l.insts);
 }

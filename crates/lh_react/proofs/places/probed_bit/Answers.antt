@@ -5,4 +5,5 @@ use Rattle.lh_react.proofs.places.probed_bit.Goals as goal
 
 pub returns-then-part-eq1 : goal.returns-then-part-eq1
 returns-then-part-eq1 c =
-    bit-at (unit_text_at c.args.m.now c.args.unit.0) c.args.args.now (value_text (naming c.args.m.now c.args.unit.0) c.args.value) c.in-Some.part c.if-part-eq1.true c.in-Some.ensures
+    bit-at (unit_text_at c.args.m.now c.args.unit.0) c.args.args.now
+    (value_text (naming c.args.m.now c.args.unit.0) c.args.value) c.in-Some.part c.if-part-eq1.true c.in-Some.ensures

@@ -1,10 +1,8 @@
-use Rattle.std.proofs.Common.{◌≡◌, ◌∙◌, ap}
-use Rattle.lh_types.specs.Types.{row_of}
-use Rattle.lh_term.specs.Types.{type_in_row}
+use Rattle.std.proofs.Common.{◌∙◌}
 use Rattle.lh_term.proofs.Values.{row_index}
 use Rattle.lh_term.proofs.types.type_in_list.Goals as goal
 
 pub returns-in_ok-copy-in-Some : goal.returns-in_ok-copy-in-Some
 returns-in_ok-copy-in-Some c =
     let g = c.in-Some.ensures.lookup in
-    c.in_ok-copy-in-Some.ensures ∙ g.1 ∙ row_index _ c.args.k _ g.3.0 ∙ ap (λ ts. type_in_row (row_of ts) c.args.k) c.as_slice.ensures
+    c.in_ok-copy-in-Some.ensures ∙ g.1 ∙ row_index _ c.args.k _ g.3.0

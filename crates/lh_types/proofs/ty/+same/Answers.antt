@@ -1,10 +1,11 @@
-use Rattle.std.proofs.Common.{◌≡◌, ◌≢◌, length, sym, ap, ◌∙◌}
-use Rattle.lh_types.proofs.Rows.{same_row-lengths}
+use Rattle.std.proofs.Common.{refl, sym, arith}
+use Rattle.lh_types.proofs.Rows.{part-node_count, same_row-lengths}
 use Rattle.lh_types.proofs.ty.+same.Goals as goal
 
 pub same_fields-returns-then-ts-us : goal.same_fields-returns-then-ts-us
-same_fields-returns-then-ts-us t c =
-    let ts : c.as_slice-ts.result.now ≡ c.args.ts.now = c.as_slice-ts.ensures.value ∙ c.ts.view_is in
-    let us : c.as_slice-us.result.now ≡ c.args.us.now = c.as_slice-us.ensures.value ∙ c.us.view_is in
-    let ne : length c.args.ts.now ≢ length c.args.us.now = λ e. c.if-ts-us.true (ap length ts ∙ e ∙ sym (ap length us)) in
-    sym (same_row-lengths _ _ ne)
+same_fields-returns-then-ts-us t c = sym (same_row-lengths _ _ c.if-ts-us.true)
+
+pub same_fields-same-requires : goal.same_fields-same-requires
+same_fields-same-requires t c =
+    let w = part-node_count c.args.ts.now c.args.ts.now c.loop-i.i c.index-ts-i.result refl (omega (arith, c.loop-i-test.true)) c.index-ts-i.is in
+    (omega (arith, w), tt)

@@ -3,4 +3,4 @@ use Rattle.lh_types.proofs.Rows.{SumAt}
 use Rattle.lh_types.proofs.ty.have_too_many_bits.Given as goal
 
 abbrev pub invariant-loop-field : goal.invariant-loop-field
-invariant-loop-field l = SumAt l.fn.fields l.field-items l.field-index l.sum × (l.sum ≤ 65536)
+invariant-loop-field l = SumAt l.fn.fields l.fields l.field-index l.sum × (l.sum ≤ 65536)

@@ -2,7 +2,7 @@ use Rattle.std.proofs.Common.{◌≡◌, map, drop}
 use Rattle.std.specs.List.{list_all}
 use Rattle.lh_unit.specs.Naming.{trigger_text}
 use Rattle.lh_typing.specs.Fitting.{carried_fits}
-use Rattle.lh_typing.specs.Facts.{text_in, naming_in}
+use Rattle.lh_facts.specs.Facts.{text_in, naming_in}
 use Rattle.lh_typing.proofs.fits.carried_triggers_fit.Given as goal
 
 abbrev pub invariant-loop-trigger : goal.invariant-loop-trigger

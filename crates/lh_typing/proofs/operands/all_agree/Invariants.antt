@@ -2,7 +2,7 @@ use Rattle.std.proofs.Common.{◌≡◌, map, drop}
 use Rattle.std.specs.List.{list_all}
 use Rattle.lh_unit.specs.Naming.{operand_text}
 use Rattle.lh_unit.specs.TypingRows.{agrees}
-use Rattle.lh_typing.specs.Facts.{text_in, naming_in}
+use Rattle.lh_facts.specs.Facts.{text_in, naming_in}
 use Rattle.lh_typing.proofs.operands.all_agree.Given as goal
 
 abbrev pub invariant-loop-operand : goal.invariant-loop-operand

@@ -1,7 +1,7 @@
 use Rattle.std.proofs.Common.{◌≡◌, map, drop}
 use Rattle.lh_unit.specs.Naming.{operand_text}
 use Rattle.lh_unit.specs.TypingRows.{all_have}
-use Rattle.lh_typing.specs.Facts.{text_in, naming_in}
+use Rattle.lh_facts.specs.Facts.{text_in, naming_in}
 use Rattle.lh_typing.proofs.operands.all_have_number.Given as goal
 
 abbrev pub invariant-loop-operand : goal.invariant-loop-operand

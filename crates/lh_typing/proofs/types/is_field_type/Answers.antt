@@ -1,7 +1,5 @@
 use Rattle.std.proofs.Common.{ap, sym, ◌∙◌}
-use Rattle.lh_types.specs.Types.{row_of, same_type}
-use Rattle.lh_types.specs.Parts.{field_part}
-use Rattle.lh_typing.specs.Parts.{is_part}
+use Rattle.lh_types.specs.Types.{same_type}
 use Rattle.lh_typing.proofs.TypeParts.{field-type, no-field}
 use Rattle.lh_typing.proofs.types.is_field_type.Goals as goal
 
@@ -9,10 +7,7 @@ pub returns : goal.returns
 returns c =
     c.eq.ensures
     ∙ ap (same_type c.args.ty.now) c.index-fields-k.is
-    ∙ sym (field-type c.as_slice-fields.result.now c.args.k c.args.ty.now c.index-fields-k.result c.if-k-fields.false)
-    ∙ ap (λ l. is_part (field_part (row_of l) c.args.k) c.args.ty.now) c.as_slice-fields.ensures
+    ∙ sym (field-type c.args.fields.now c.args.k c.args.ty.now c.index-fields-k.result c.if-k-fields.false)
 
 pub returns-then-k-fields : goal.returns-then-k-fields
-returns-then-k-fields c =
-    sym (no-field c.as_slice-fields.result.now c.args.k c.args.ty.now c.if-k-fields.true)
-    ∙ ap (λ l. is_part (field_part (row_of l) c.args.k) c.args.ty.now) c.as_slice-fields.ensures
+returns-then-k-fields c = sym (no-field c.args.fields.now c.args.k c.args.ty.now c.if-k-fields.true)

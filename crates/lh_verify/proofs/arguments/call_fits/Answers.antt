@@ -4,7 +4,7 @@ use Rattle.lh_unit.specs.Named.{is_assert}
 use Rattle.lh_unit.specs.Naming.{operand_text, arg_text}
 use Rattle.lh_unit.specs.Arena.{naming, args_at}
 use Rattle.lh_unit.specs.WellFormed.{arguments_fit, assert_args}
-use Rattle.lh_typing.specs.Facts.{text_in, naming_in}
+use Rattle.lh_facts.specs.Facts.{text_in, naming_in}
 use Rattle.lh_verify.specs.OperandTests.{on_side}
 use Rattle.lh_verify.specs.declared.arguments.Side.TheVariants.{All}
 use Rattle.lh_verify.proofs.NumbersKept.{numbers-of}

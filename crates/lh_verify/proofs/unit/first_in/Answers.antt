@@ -1,7 +1,7 @@
 use Rattle.std.proofs.Common.{◌≡◌}
 use Rattle.std.proofs.lemmas.Result.{IfOk-weaker}
 use Rattle.lh_verify.specs.FirstFound.{FindsFault, first_at}
-use Rattle.lh_typing.specs.Facts.{items_in, text_in}
+use Rattle.lh_facts.specs.Facts.{items_in, text_in}
 use Rattle.lh_verify.proofs.UnitPlaces.{unit-law}
 use Rattle.lh_verify.proofs.unit.first_in.Goals as goal
 

@@ -1,7 +1,7 @@
 use Rattle.std.proofs.Common.{◌≡◌, ◌++◌, length, ap, sym, ◌∙◌, rules}
 use Rattle.std.proofs.lemmas.List.{nil_from_length, append-nil}
 use Rattle.lh_wishes.specs.Runs.{run_wish}
-use Rattle.lh_types.specs.Writes.{writes_wish}
+use Rattle.lh_types.specs.Wish.{writes_wish}
 use Rattle.lh_wishes.proofs.RunLemmas.{is_filled-by, on-ok}
 use Rattle.lh_wishes.proofs.GroupSteps.{alone, first-apart}
 use Rattle.lh_wishes.proofs.grouping.add.Goals as goal

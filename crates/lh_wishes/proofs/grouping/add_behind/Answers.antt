@@ -1,6 +1,6 @@
 use Rattle.std.proofs.Common.{◌≡◌, ◌++◌, ap, ◌∙◌, rules}
 use Rattle.lh_wishes.specs.Runs.{run_wish}
-use Rattle.lh_types.specs.Writes.{writes_wish}
+use Rattle.lh_types.specs.Wish.{writes_wish}
 use Rattle.lh_wishes.proofs.RunLemmas.{on-ok}
 use Rattle.lh_wishes.proofs.GroupSteps.{behind, alone, behind-apart, afresh-apart}
 use Rattle.lh_wishes.proofs.grouping.add_behind.Goals as goal

@@ -1,6 +1,6 @@
 use Rattle.std.proofs.Common.{◌≡◌}
 use Rattle.lh_wishes.specs.Runs.{runs_wish}
-use Rattle.lh_types.specs.Writes.{writes_wish}
+use Rattle.lh_types.specs.Wish.{writes_wish}
 use Rattle.lh_wishes.specs.Grouped.{Apart}
 use Rattle.lh_wishes.proofs.grouping.groups_of.Given as goal
 

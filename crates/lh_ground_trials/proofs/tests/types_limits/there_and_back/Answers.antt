@@ -1,6 +1,6 @@
 use Rattle.std.proofs.Common.{sym, subst, arith}
 use Rattle.lh_types.specs.Fits.{FitsType}
-use Rattle.lh_types.proofs.ValueBits.{FitsType-value_from_bits}
+use Rattle.lh_bits.proofs.ValueBits.{FitsType-value_from_bits}
 use Rattle.lh_ground_trials.proofs.tests.types_limits.there_and_back.Goals as goal
 
 pub to_bits-requires : goal.to_bits-requires

@@ -23,10 +23,12 @@ pub returns-clause-err_tally : goal.returns-clause-err_tally
 returns-clause-err_tally g c =
     let s = c.args.self.now in
     let e : c.look_due.new.now ≡ bits_then s.queue.held c.args.at s.bits = c.look_due.ensures.bits ∙ ap (λ (x : List Bool). bits_then s.queue.held c.args.at x) c.requires.kept.same in
-    let v : AreBitsAt s.queue.held s.bits c.args.at c.look_due.new.now = subst (λ (x : List Bool). AreBitsAt s.queue.held x c.args.at c.look_due.new.now) c.requires.kept.same c.look_due.ensures.values in
+    let v : AreBitsAt s.queue.held s.bits c.args.at c.look_due.new.now =
+    subst (λ (x : List Bool). AreBitsAt s.queue.held x c.args.at c.look_due.new.now) c.requires.kept.same c.look_due.ensures.values in
     let M : List Bool → SimState = λ x. record s { looked = x } in
     rises_woken s c.args.at c.look_due.new.now (g.T.Tally.count c.args.tally.now) (g.T.Tally.count c.prepared.new.tally) c.requires.kept c.requires.next e v
     (subst (λ (x : List Bool). RisesWithin (awake_in (M x) c.args.at) (g.T.Tally.count c.args.tally.now) (g.T.Tally.count c.prepared.new.tally)) e c.in-Err.ensures.err_tally)
 
 pub returns-in_err-touched-clause-err_tally : goal.returns-in_err-touched-clause-err_tally
-returns-in_err-touched-clause-err_tally g c = on_err c.from_residual.result (λ w h. rises_none (woken_in c.args.self.now w c.args.at) (g.T.Tally.count c.args.tally.now) (g.T.Tally.count c.args.tally.now) refl)
+returns-in_err-touched-clause-err_tally g c = on_err c.from_residual.result
+    (λ w h. rises_none (woken_in c.args.self.now w c.args.at) (g.T.Tally.count c.args.tally.now) (g.T.Tally.count c.args.tally.now) refl)

@@ -31,14 +31,16 @@ returns-in-Some-clause-kept g c =
     let M : SimState → SimState = λ m. record m { bits = c.take_due.new.now; queue = c.take_due.new.self; noted = c.take_back.new.self } in
     kept_runaway c.args.self.now (M c.ahead.new.self) c.args.at c.in_ok-frame.field-0 c.take_due.new.now c.ahead.new.self.looked c.take_due.new.self.held c.ahead.new.self.noted c.requires.kept
     (ap M c.ahead.ensures.same) t refl
-    (back_same c.args.self.now c.args.at c.in_ok-frame.field-0 c.take_due.new.now c.ahead.new.self.looked c.take_due.new.self.held c.ahead.new.self.noted c.take_back.new.self c.deref.result.now c.requires.kept t
+    (back_same c.args.self.now c.args.at c.in_ok-frame.field-0 c.take_due.new.now c.ahead.new.self.looked c.take_due.new.self.held
+    c.ahead.new.self.noted c.take_back.new.self c.deref.result.now c.requires.kept t
     c.deref.ensures.value c.take_back.ensures.all)
 
 pub returns-in-Some-clause-frame : goal.returns-in-Some-clause-frame
 returns-in-Some-clause-frame g c =
     let t = is_taken c.args.self.now c.ahead.new.self c.args.at c.in_ok-frame.field-0 c.take_due.new.now c.take_due.new.self.held c.ahead.ensures.same c.in_ok-frame.ensures.ok
     c.take_due.ensures.left c.take_due.ensures.bits c.take_due.ensures.values c.take_due.ensures.holds in
-    frame_ends c.args.self.now c.args.at c.in_ok-frame.field-0 c.requires.kept c.requires.next t.plan _ c.take_due.new.now c.ahead.new.self.looked c.take_due.new.self.held c.ahead.new.self.noted c.in-Some.instance refl t c.in-Some.is
+    frame_ends c.args.self.now c.args.at c.in_ok-frame.field-0 c.requires.kept c.requires.next t.plan _ c.take_due.new.now c.ahead.new.self.looked
+    c.take_due.new.self.held c.ahead.new.self.noted c.in-Some.instance refl t c.in-Some.is
 
 pub returns-in-None-clause-kept : goal.returns-in-None-clause-kept
 returns-in-None-clause-kept g c =
@@ -49,8 +51,10 @@ returns-in-None-clause-kept g c =
     let M : SimState → SimState = λ m. record m { looked = c.ahead.new.self.looked; bits = c.take_due.new.now; last = Some c.args.at; states = new.states; queue = new.queue; noted = new.noted } in
     let e : new ≡ M c.args.self.now = c.commit.ensures.same ∙ ap M c.ahead.ensures.same in
     let s : new.states.items ≡ states_after c.args.self.now.states.items xs = c.commit.ensures.states ∙ ap (λ (m : SimState). states_after m.states.items xs) c.ahead.ensures.same in
-    let left : HasLeft c.in_ok-frame.field-0.moves.items c.ahead.new.self.noted new.noted = subst (λ (ms : List Move). HasLeft ms c.ahead.new.self.noted new.noted) c.deref-in-None.ensures.value c.commit.ensures.left in
-    kept_frame c.args.self.now c.args.at c.in_ok-frame.field-0 c.requires.kept c.requires.next t.plan new c.take_due.new.now c.ahead.new.self.looked c.take_due.new.self.held c.ahead.new.self.noted e t c.in-None.is s
+    let left : HasLeft c.in_ok-frame.field-0.moves.items c.ahead.new.self.noted new.noted =
+    subst (λ (ms : List Move). HasLeft ms c.ahead.new.self.noted new.noted) c.deref-in-None.ensures.value c.commit.ensures.left in
+    kept_frame c.args.self.now c.args.at c.in_ok-frame.field-0 c.requires.kept c.requires.next t.plan new c.take_due.new.now c.ahead.new.self.looked
+    c.take_due.new.self.held c.ahead.new.self.noted e t c.in-None.is s
     c.commit.ensures.put left
 
 pub returns-in-None-clause-frame : goal.returns-in-None-clause-frame
@@ -62,14 +66,16 @@ returns-in-None-clause-frame g c =
     let M : SimState → SimState = λ m. record m { looked = c.ahead.new.self.looked; bits = c.take_due.new.now; last = Some c.args.at; states = new.states; queue = new.queue; noted = new.noted } in
     let e : new ≡ M c.args.self.now = c.commit.ensures.same ∙ ap M c.ahead.ensures.same in
     let s : new.states.items ≡ states_after c.args.self.now.states.items xs = c.commit.ensures.states ∙ ap (λ (m : SimState). states_after m.states.items xs) c.ahead.ensures.same in
-    frame_goes_on c.args.self.now c.args.at c.in_ok-frame.field-0 c.requires.kept c.requires.next t.plan new c.take_due.new.now c.ahead.new.self.looked c.take_due.new.self.held c.ahead.new.self.noted e t c.in-None.is s
+    frame_goes_on c.args.self.now c.args.at c.in_ok-frame.field-0 c.requires.kept c.requires.next t.plan new c.take_due.new.now
+    c.ahead.new.self.looked c.take_due.new.self.held c.ahead.new.self.noted e t c.in-None.is s
     c.commit.ensures.put
 
 pub returns-in-Some-clause-tally : goal.returns-in-Some-clause-tally
 returns-in-Some-clause-tally g c =
     let t = is_taken c.args.self.now c.ahead.new.self c.args.at c.in_ok-frame.field-0 c.take_due.new.now c.take_due.new.self.held c.ahead.ensures.same c.in_ok-frame.ensures.ok
     c.take_due.ensures.left c.take_due.ensures.bits c.take_due.ensures.values c.take_due.ensures.holds in
-    tally_woken c.args.self.now c.args.at c.take_due.new.now (Some c.in-Some.instance) (g.T.Tally.count c.args.tally.now) (g.T.Tally.count c.ahead.new.tally) c.requires.kept c.requires.next t.bits t.values
+    tally_woken c.args.self.now c.args.at c.take_due.new.now (Some c.in-Some.instance) (g.T.Tally.count c.args.tally.now)
+    (g.T.Tally.count c.ahead.new.tally) c.requires.kept c.requires.next t.bits t.values
     (c.in_ok-frame.ensures.tally ∙ ap (λ (r : Option ℕ). raised (g.T.Tally.count c.args.tally.now) (activated_count r (awake_in (looked_at c.args.self.now c.args.at) c.args.at))) c.in-Some.is)
 
 pub returns-in-None-clause-tally : goal.returns-in-None-clause-tally

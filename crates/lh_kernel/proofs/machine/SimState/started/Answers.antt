@@ -12,7 +12,8 @@ noted_for-requires-clause-few c =
 
 pub noted_for-requires-clause-within : goal.noted_for-requires-clause-within
 noted_for-requires-clause-within c =
-    let w = sensed_within c.args.m.now (length c.args.d.init) c.args.d.instances.items c.in_ok-states.states.items c.in_ok-probes.probes.items c.in_ok-states.ensures.fit c.in_ok-probes.ensures.probes c.in_ok-probes.ensures.within in
+    let w = sensed_within c.args.m.now (length c.args.d.init) c.args.d.instances.items c.in_ok-states.states.items c.in_ok-probes.probes.items
+    c.in_ok-states.ensures.fit c.in_ok-probes.ensures.probes c.in_ok-probes.ensures.within in
     let P : List InstState → Type 0 = λ xs. SensedWithin (length c.args.d.init) xs c.in_ok-probes.probes.items in
     let Q : List (List Range) → Type 0 = λ xs. SensedWithin (length c.args.d.init) c.deref.result.now xs in
     subst Q (sym c.deref-2.ensures.value) (subst P (sym c.deref.ensures.value) w)

@@ -12,18 +12,21 @@ returns-in_err-frame-clause-tally g c = λ w h.
     let a = g.T.Tally.count c.args.tally.now in
     let b = g.T.Tally.count c.frame.new.tally in
     steps_err c.args.self.now w c.from_residual.result p.0 a b p.1
-    (steps_tally c.self.inside.machine c.self.inside.ended c.args.self.now c.in-Some.at (λ (ks : List ℕ). RisesWithin ks a b) c.self.view_is c.if-self.false c.in-Some.ensures.next c.in_err-frame.ensures.err_tally w h)
+    (steps_tally c.self.inside.machine c.self.inside.ended c.args.self.now c.in-Some.at (λ (ks : List ℕ). RisesWithin ks a b) c.self.view_is
+    c.if-self.false c.in-Some.ensures.next c.in_err-frame.ensures.err_tally w h)
 
 pub returns-in-Some-runaway-clause-step : goal.returns-in-Some-runaway-clause-step
 returns-in-Some-runaway-clause-step g c =
-    steps_runaway c.self.inside.machine c.frame.new.self c.self.inside.ended c.args.self.now c.in-Some.at c.in_ok-frame.frame c.in_ok-frame.runaway c.in-Some-runaway.instance c.self.view_is c.if-self.false c.in-Some.ensures.next
+    steps_runaway c.self.inside.machine c.frame.new.self c.self.inside.ended c.args.self.now c.in-Some.at c.in_ok-frame.frame c.in_ok-frame.runaway
+    c.in-Some-runaway.instance c.self.view_is c.if-self.false c.in-Some.ensures.next
     c.in_ok-frame.ensures.frame c.in-Some-runaway.is
 
 pub returns-in-Some-runaway-clause-tally : goal.returns-in-Some-runaway-clause-tally
 returns-in-Some-runaway-clause-tally g c =
     let a = g.T.Tally.count c.args.tally.now in
     let b = g.T.Tally.count c.frame.new.tally in
-    steps_tally c.self.inside.machine c.self.inside.ended c.args.self.now c.in-Some.at (λ (ks : List ℕ). b ≡ raised a (activated_count (Some c.in-Some-runaway.instance) ks)) c.self.view_is c.if-self.false c.in-Some.ensures.next
+    steps_tally c.self.inside.machine c.self.inside.ended c.args.self.now c.in-Some.at
+    (λ (ks : List ℕ). b ≡ raised a (activated_count (Some c.in-Some-runaway.instance) ks)) c.self.view_is c.if-self.false c.in-Some.ensures.next
     (λ w h. c.in_ok-frame.ensures.tally w h ∙ ap (λ (r : Option ℕ). raised a (activated_count r (woken_in c.self.inside.machine w c.in-Some.at))) c.in-Some-runaway.is)
 
 pub returns-in-None-clause-step : goal.returns-in-None-clause-step

@@ -10,20 +10,23 @@ use Rattle.lh_kernel.proofs.woken.Asleep.rouse.Goals.{then-differs_with+in_ok-en
 pub bounds-self-instance : goal.bounds-self-instance
 bounds-self-instance c =
     let x = c.args.self.now in
-    let w = sensed_item c.requires.asleep.0 x.design.now x.states.now x.probes.now x.noted.now c.requires.asleep.1 c.requires.asleep.2 c.args.signal c.sensing-instance-items.result.now c.loop-instance.instance-index _ c.sensing-instance-items.ensures.same c.loop-instance-test.true refl in
+    let w = sensed_item c.requires.asleep.0 x.design.now x.states.now x.probes.now x.noted.now c.requires.asleep.1 c.requires.asleep.2 c.args.signal
+    c.sensing-instance-items.result.now c.loop-instance.instance-index _ c.sensing-instance-items.ensures.same c.loop-instance-test.true refl in
     slice_get_within x.probes.now _ w.probed w.is_probed
 
 pub bounds-self-instance-in-loop-instance : goal.bounds-self-instance-in-loop-instance
 bounds-self-instance-in-loop-instance c =
     let x = c.args.self.now in
-    let w = sensed_item c.requires.asleep.0 x.design.now x.states.now x.probes.now x.noted.now c.requires.asleep.1 c.requires.asleep.2 c.args.signal c.sensing-instance-items.result.now c.loop-instance.instance-index _ c.sensing-instance-items.ensures.same c.loop-instance-test.true refl in
+    let w = sensed_item c.requires.asleep.0 x.design.now x.states.now x.probes.now x.noted.now c.requires.asleep.1 c.requires.asleep.2 c.args.signal
+    c.sensing-instance-items.result.now c.loop-instance.instance-index _ c.sensing-instance-items.ensures.same c.loop-instance-test.true refl in
     slice_get_within x.states.now _ w.state w.is_kept
 
 pub differs_with-requires-clause-in_old : goal.differs_with-requires-clause-in_old
 differs_with-requires-clause-in_old c =
     let x = c.args.self.now in
     let y = get_or c.sensing-instance-items.result.now c.loop-instance.instance-index 0 in
-    let w = sensed_item c.requires.asleep.0 x.design.now x.states.now x.probes.now x.noted.now c.requires.asleep.1 c.requires.asleep.2 c.args.signal c.sensing-instance-items.result.now c.loop-instance.instance-index _ c.sensing-instance-items.ensures.same c.loop-instance-test.true refl in
+    let w = sensed_item c.requires.asleep.0 x.design.now x.states.now x.probes.now x.noted.now c.requires.asleep.1 c.requires.asleep.2 c.args.signal
+    c.sensing-instance-items.result.now c.loop-instance.instance-index _ c.sensing-instance-items.ensures.same c.loop-instance-test.true refl in
     let s = get_or x.states.now y c.index-self-instance-in-loop-instance.result in
     let rs = get_or x.probes.now y c.index-self-instance.result in
     read_within x.design.now x.states.now x.probes.now y s rs c.senses-parts.result.now c.args.old.now w (slice_get-get_or x.states.now y _ (slice_get_within x.states.now _ w.state w.is_kept))
@@ -33,7 +36,8 @@ pub differs_with-requires-clause-in_now : goal.differs_with-requires-clause-in_n
 differs_with-requires-clause-in_now c =
     let x = c.args.self.now in
     let y = get_or c.sensing-instance-items.result.now c.loop-instance.instance-index 0 in
-    let w = sensed_item c.requires.asleep.0 x.design.now x.states.now x.probes.now x.noted.now c.requires.asleep.1 c.requires.asleep.2 c.args.signal c.sensing-instance-items.result.now c.loop-instance.instance-index _ c.sensing-instance-items.ensures.same c.loop-instance-test.true refl in
+    let w = sensed_item c.requires.asleep.0 x.design.now x.states.now x.probes.now x.noted.now c.requires.asleep.1 c.requires.asleep.2 c.args.signal
+    c.sensing-instance-items.result.now c.loop-instance.instance-index _ c.sensing-instance-items.ensures.same c.loop-instance-test.true refl in
     let s = get_or x.states.now y c.index-self-instance-in-loop-instance.result in
     let rs = get_or x.probes.now y c.index-self-instance.result in
     read_within x.design.now x.states.now x.probes.now y s rs c.senses-parts.result.now c.args.now.now w (slice_get-get_or x.states.now y _ (slice_get_within x.states.now _ w.state w.is_kept))
@@ -44,7 +48,8 @@ loop-instance-preserved c =
     let x = c.args.self.now in
     let items = c.sensing-instance-items.result.now in
     let i = c.loop-instance.instance-index in
-    let w = sensed_item c.requires.asleep.0 x.design.now x.states.now x.probes.now x.noted.now c.requires.asleep.1 c.requires.asleep.2 c.args.signal items i _ c.sensing-instance-items.ensures.same c.loop-instance-test.true refl in
+    let w = sensed_item c.requires.asleep.0 x.design.now x.states.now x.probes.now x.noted.now c.requires.asleep.1 c.requires.asleep.2 c.args.signal
+    items i _ c.sensing-instance-items.ensures.same c.loop-instance-test.true refl in
     let s = get_or x.states.now (get_or items i 0) c.index-self-instance-in-loop-instance.result in
     let rs = get_or x.probes.now (get_or items i 0) c.index-self-instance.result in
     let p = slice_get-get_or x.states.now (get_or items i 0) c.index-self-instance-in-loop-instance.result (slice_get_within x.states.now _ w.state w.is_kept) in
@@ -54,8 +59,10 @@ loop-instance-preserved c =
     elim c.if-differs_with.branch [
       | then-differs_with+in_ok-enter v ↦
           subst P (sym v.woken-is)
-          (roused_more x.states.now x.probes.now c.args.old.now c.args.now.now items i (get_or items i 0) s rs c.args.woken.now c.loop-instance.woken v.enter.new.self c.loop-instance-test.true refl p q (e ∙ v.if-differs_with.true) c.loop-instance.invariant v.in_ok-enter.ensures.has)
+          (roused_more x.states.now x.probes.now c.args.old.now c.args.now.now items i (get_or items i 0) s rs c.args.woken.now c.loop-instance.woken
+          v.enter.new.self c.loop-instance-test.true refl p q (e ∙ v.if-differs_with.true) c.loop-instance.invariant v.in_ok-enter.ensures.has)
       | else-differs_with v ↦
           subst P (sym v.woken-is)
-          (roused_not x.states.now x.probes.now c.args.old.now c.args.now.now items i (get_or items i 0) s rs c.args.woken.now c.loop-instance.woken c.loop-instance-test.true refl p q (e ∙ v.if-differs_with.false) c.loop-instance.invariant)
+          (roused_not x.states.now x.probes.now c.args.old.now c.args.now.now items i (get_or items i 0) s rs c.args.woken.now c.loop-instance.woken
+          c.loop-instance-test.true refl p q (e ∙ v.if-differs_with.false) c.loop-instance.invariant)
     ]

@@ -6,7 +6,7 @@ use Rattle.lh_queue.specs.Places.{rest_from}
 use Rattle.lh_queue.specs.Buckets.{next_in}
 use Rattle.lh_queue.proofs.Storage.{stored}
 use Rattle.lh_queue.proofs.Holding.{bits_held}
-use Rattle.lh_types.proofs.Writing.{length-written}
+use Rattle.lh_bits.proofs.Writing.{length-written}
 use Rattle.lh_queue.proofs.Taking.{rest_first, rest_none, within_at, looked, looked_end, looked_none}
 use Rattle.lh_queue.proofs.queue.Queue.look_due.Goals as goal
 

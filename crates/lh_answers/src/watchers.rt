@@ -1,0 +1,110 @@
+//! Watchers of a kind that only the trials have.
+ghost use Rattle.std.specs.Prelude.{◌≡◌, ◌∷◌, []};
+ghost use Rattle.lh_watch.specs.Members.{member};
+ghost use Rattle.lh_answers.specs.Scripted.{scripted, title_of};
+
+use crate::answer::number;
+use lh_time::Instant;
+use lh_types::frame::{Change, Outcome};
+use lh_types::text::{put, put_number};
+use lh_types::ty::NoMemory;
+use lh_watch::watcher::{Next, Watcher};
+use std::alloc::Global;
+
+/// The title of a watcher of the trials.
+#[derive(Clone, Copy)]
+enum Title {
+    A,
+    B,
+    C,
+}
+
+/// A watcher that counts the frames that it has seen, and says its word at one of them; it may find no memory there instead.
+#[derive(Drop)]
+pub struct Speaker {
+    title: Title,
+    turn: u64,
+    word: Next,
+    finds_memory: bool,
+    seen: u64,
+}
+
+impl Watcher for Speaker {
+    ghost member = { λ w. member (scripted w.title w.turn w.word) (w.seen ∷ []) };
+
+    fn title(&self) -> &str {
+        title_of(self.title)
+    }
+
+    fn frame(
+        &mut self,
+        _at: Instant,
+        _changes: &[Change],
+        _outcomes: &[Outcome],
+    ) -> Result<Next, NoMemory> {
+        let seen = self.seen.saturating_add(1);
+        if seen != self.turn {
+            self.seen = seen;
+            return Ok(Next::Go);
+        }
+        if !self.finds_memory {
+            return Err(NoMemory);
+        }
+        self.seen = seen;
+        Ok(self.word)
+    }
+
+    fn report(&self, to: &mut Vec<u8>) -> Result<(), NoMemory> {
+        put(to, title_of(self.title).as_bytes())?;
+        put_number(to, self.seen)
+    }
+}
+
+fn title_of<'a>(title: Title) -> &'a str
+    ensures { result.now ≡ title_of title }
+{
+    match title {
+        Title::A => "A",
+        Title::B => "B",
+        Title::C => "C",
+    }
+}
+
+/// Watchers by their titles, words and turns: `go`, `done`, `stop`, or `none` of one that finds no memory.
+pub fn speakers(alloc: Global, words: &[&str]) -> Result<Vec<Speaker>, NoMemory> {
+    let mut ws = Vec::new(alloc);
+    for said in words.chunks_exact(3) {
+        if let [title, word, turn] = said {
+            ws.push(speaker_of(*title, *word, number(*turn)))?;
+        }
+    }
+    Ok(ws)
+}
+
+fn speaker_of(title: &str, word: &str, turn: u32) -> Speaker {
+    let title = match title {
+        "A" => Title::A,
+        "B" => Title::B,
+        _ => Title::C,
+    };
+    let said = match word {
+        "done" => Next::Done,
+        "stop" => Next::Stop,
+        _ => Next::Go,
+    };
+    Speaker {
+        title,
+        turn: turn as u64,
+        word: said,
+        finds_memory: word != "none",
+        seen: 0,
+    }
+}
+
+/// What watchers report, one behind the other.
+pub fn put_reports<W: Watcher>(to: &mut Vec<u8>, ws: &[W]) -> Result<(), NoMemory> {
+    for w in ws {
+        w.report(to)?;
+    }
+    Ok(())
+}

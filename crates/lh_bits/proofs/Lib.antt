@@ -1,0 +1,11 @@
+pub mod NumberBits
+pub mod ValueBits
+pub mod PartBits
+pub mod LayoutLemmas
+pub mod LawProofs
+pub mod WordBits
+pub mod FlagRuns
+pub mod Differ
+pub mod PackedParts
+pub mod PackedNumbers
+pub mod Writing

@@ -1,0 +1,13 @@
+use Rattle.std.proofs.Common.{◌≡◌, ◌-◌, ◌≤◌}
+use Rattle.lh_types.specs.Bits.{differing}
+use Rattle.lh_bits.specs.Flags.{flags}
+use Rattle.lh_bits.proofs.run.differing_run.Given as goal
+
+abbrev pub invariant-loop-done : goal.invariant-loop-done
+invariant-loop-done l = record {
+  inside : l.done ≤ l.len;
+  counted : l.count ≡ differing (flags l.done l.lo l.a) (flags l.done l.lo l.b);
+}
+
+abbrev pub decreases-loop-done : goal.decreases-loop-done
+decreases-loop-done l = l.len - l.done

@@ -1,0 +1,4 @@
+pub mod Flags
+pub mod Packed
+pub mod Laws
+pub mod Writes

@@ -1,0 +1,5 @@
+pub mod Digest
+pub mod FactsOfUnit
+pub mod Numbers
+pub mod Facts
+pub mod Rows

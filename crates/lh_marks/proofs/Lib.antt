@@ -1,0 +1,2 @@
+pub mod MarkingSteps
+pub mod Turning

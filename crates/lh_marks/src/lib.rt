@@ -1,0 +1,6 @@
+//! Marks of a unit: which of its labels have a block, and which of its values come from a `prb`.
+#![tactic(auto)]
+
+pub mod labels;
+pub mod probes;
+mod turns;

@@ -1,0 +1,4 @@
+pub mod Lists
+pub mod UsesText
+pub mod UsesValues
+pub mod UsesWithin

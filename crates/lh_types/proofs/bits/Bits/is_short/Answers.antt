@@ -1,6 +1,0 @@
-use Rattle.std.proofs.Common.{arith}
-use Rattle.lh_types.proofs.FlagRuns.{length_view}
-use Rattle.lh_types.proofs.bits.Bits.is_short.Goals as goal
-
-pub returns : goal.returns
-returns c = omega (arith, c.self.invariant.narrow, length_view c.self.inside.len 0 c.self.inside.words.items c.args.self.now c.self.view_is)

@@ -1,5 +1,0 @@
-use Rattle.lh_types.proofs.LawProofs.{bits_are_counted}
-use Rattle.lh_types.proofs.laws.bits_are_counted.Goals as goal
-
-pub returns : goal.returns
-returns c = bits_are_counted

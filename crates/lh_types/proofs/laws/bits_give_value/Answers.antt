@@ -1,5 +1,0 @@
-use Rattle.lh_types.proofs.LawProofs.{bits_give_value}
-use Rattle.lh_types.proofs.laws.bits_give_value.Goals as goal
-
-pub returns : goal.returns
-returns c = bits_give_value
