@@ -21,18 +21,19 @@ use Rattle.lh_unit.proofs.ById.{same_unit-by_id}
 use Rattle.lh_formed.specs.Graphs.{met_or, is_open, IsIn}
 use Rattle.lh_elab.specs.declared.graph.HierarchyNode.{HierarchyNode}
 use Rattle.lh_elab.specs.Graph.{max_counted, no_node, node_at, node_by, targets_at, IsGraph}
-use Rattle.lh_elab.specs.Measures.{nests, count_in, bits_in, cycle_in}
-use Rattle.lh_elab.specs.Searches.{NodesWithin, HasBusy}
+use Rattle.lh_descent.specs.Measures.{cycle_in, NodesWithin, HasBusy}
+use Rattle.lh_elab.specs.Measures.{measuring}
+use Rattle.lh_elab.proofs.Measuring.{nests, count_in, bits_in}
 use Rattle.lh_elab.proofs.Names.{reads-unit}
 
 -- a graph by ids stands for these entries, where ids have these names
 pub record StandsFor (table : List Entry) (name : ℕ → UnitName) (g : List HierarchyNode) : Type 0 where
   pub same : (v w : ℕ) → v < length g → w < length g → same_unit_name (name v) (name w) ≡ nat_eq v w
-  pub within : NodesWithin g
+  pub within : NodesWithin measuring g
   pub targets_are : (u : ℕ) → u < length g → targets (hierarchy_in table (name u)) ≡ map (λ (t : UnitId). name t.0) (targets_at g u)
   pub bits_are : (u : ℕ) → u < length g → min (node_at g u).bits max_counted ≡ min (sum_by (λ (s : SignalText). bit_count s.ty) (hierarchy_in table (name u)).signals) max_counted
 
-pub stands : (a : Arena) (g : List HierarchyNode) → IsArena a → IsGraph a g → NodesWithin g → StandsFor (hierarchies (contents a)) (unit_name_at a) g
+pub stands : (a : Arena) (g : List HierarchyNode) → IsArena a → IsGraph a g → NodesWithin measuring g → StandsFor (hierarchies (contents a)) (unit_name_at a) g
 stands a g o q w = record {
   same = λ v x l k. same_unit-by_id a v x o (subst (λ n. v < n) q.long l) (subst (λ n. x < n) q.long k);
   within = w;
@@ -113,13 +114,13 @@ met-named name F G b true t e f = ap (λ x. cycle_at F x (name t)) e
 met-named name F G b false t e f = ap (λ x. cycle_at F x (name t)) e ∙ f
 
 pub cycle-named : (k : ℕ) (table : List Entry) (name : ℕ → UnitName) (g : List HierarchyNode) (opened : List ℕ) (u : ℕ) → StandsFor table name g → AllBelow (length g) opened → u < length g
-    → cycle_from k table (map name opened) (name u) ≡ option_map name (cycle_in k g opened u)
+    → cycle_from k table (map name opened) (name u) ≡ option_map name (cycle_in measuring k g opened u)
 cycle-named zero table name g opened u o h l = refl
 cycle-named (suc k) table name g opened u o h l =
     ap (first_some (λ t. cycle_at (cycle_from k table (map name (u ∷ opened))) (is_one_of (map name (u ∷ opened)) t) t)) (o.targets_are u l)
-    ∙ first-named (length g) name (λ t. cycle_at (cycle_from k table (map name (u ∷ opened))) (is_one_of (map name (u ∷ opened)) t) t) (λ (t : UnitId). met_or (cycle_in k g (u ∷ opened))
+    ∙ first-named (length g) name (λ t. cycle_at (cycle_from k table (map name (u ∷ opened))) (is_one_of (map name (u ∷ opened)) t) t) (λ (t : UnitId). met_or (cycle_in measuring k g (u ∷ opened))
     (is_open (u ∷ opened) t.0) t.0) (targets_at g u)
-    (λ t q. met-named name (cycle_from k table (map name (u ∷ opened))) (cycle_in k g (u ∷ opened)) (is_one_of (map name (u ∷ opened)) (name t.0)) (is_open (u ∷ opened) t.0) t.0
+    (λ t q. met-named name (cycle_from k table (map name (u ∷ opened))) (cycle_in measuring k g (u ∷ opened)) (is_one_of (map name (u ∷ opened)) (name t.0)) (is_open (u ∷ opened) t.0) t.0
     (open-named table name g (u ∷ opened) t.0 o (l, h) q) (cycle-named k table name g (u ∷ opened) t.0 o (l, h) q))
     (o.within u)
 
@@ -155,7 +156,7 @@ busy-begun : (a : Arena) (u i : ℕ) (t : UnitId) (k : Option UnitKind) → slic
 busy-begun a u i t None e = cc
 busy-begun a u i t (Some k) e = refl
 
-pub has-busy : (a : Arena) (g : List HierarchyNode) → IsArena a → IsGraph a g → HasBusy g (defined a)
+pub has-busy : (a : Arena) (g : List HierarchyNode) → IsArena a → IsGraph a g → HasBusy measuring g (defined a)
 has-busy a g o q u i t e = elim (cases_lt u (unit_count a)) [
   | inl l ↦ begun-in a u o l (busy-begun a u i t (kind_at a u) (ap (λ (x : HierarchyNode). slice_get x.targets i) (sym (q.nodes u l)) ∙ e))
   | inr l ↦

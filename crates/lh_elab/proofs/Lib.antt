@@ -1,7 +1,5 @@
 pub mod Measuring
 pub mod Reading
-pub mod Searching
-pub mod Stepping
 pub mod Names
 pub mod Counting
 pub mod Refusing

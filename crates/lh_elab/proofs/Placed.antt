@@ -8,14 +8,16 @@ use Rattle.lh_unit.specs.Typing.{or_else}
 use Rattle.lh_unit.specs.Within.{Each}
 use Rattle.lh_unit.specs.declared.inst.UnitId.{UnitId}
 use Rattle.lh_formed.specs.Graphs.{is_open, met_or}
+use Rattle.lh_descent.specs.Measures.{cycle_in, NodesWithin, Measures}
+use Rattle.lh_descent.specs.declared.fault.DescentFault.{DescentFault}
+use Rattle.lh_descent.specs.declared.fault.DescentFault.TheVariants as descent
 use Rattle.lh_elab.specs.declared.fault.ElabFault.{ElabFault}
 use Rattle.lh_elab.specs.declared.fault.ElabFault.TheVariants as fault
 use Rattle.lh_elab.specs.declared.graph.HierarchyNode.{HierarchyNode}
 use Rattle.lh_elab.specs.declared.measure.Measure.{Measure}
 use Rattle.lh_elab.specs.Graph.{targets_at, max_counted, IsGraph}
-use Rattle.lh_elab.specs.Measures.{cycle_in}
+use Rattle.lh_elab.specs.Measures.{measuring, fault_of}
 use Rattle.lh_elab.specs.Refusals.{limited, FaultWithin}
-use Rattle.lh_elab.specs.Searches.{NodesWithin, Measures}
 use Rattle.lh_elab.proofs.Counting.{defined, has-busy}
 
 first-within : (n : ℕ) (f : UnitId → Option ℕ) (ts : List UnitId) → Each (λ (t : UnitId). t.0 < n) ts → ((t : UnitId) (x : ℕ) → t.0 < n → f t ≡ Some x → x < n) → (x : ℕ) → first_some f ts ≡ Some x
@@ -31,19 +33,19 @@ met-within : (n : ℕ) (below : ℕ → Option ℕ) → ((m x : ℕ) → below m
 met-within n below go true t x l e = subst (λ m. m < n) (same_Some t x e) l
 met-within n below go false t x l e = go t x e
 
-cycle-within : (k : ℕ) (g : List HierarchyNode) (opened : List ℕ) → NodesWithin g → (n x : ℕ) → cycle_in k g opened n ≡ Some x → x < length g
+cycle-within : (k : ℕ) (g : List HierarchyNode) (opened : List ℕ) → NodesWithin measuring g → (n x : ℕ) → cycle_in measuring k g opened n ≡ Some x → x < length g
 cycle-within zero g opened w n x e = absurd (none-some x e)
 cycle-within (suc k) g opened w n x e =
-    first-within (length g) (λ (t : UnitId). met_or (cycle_in k g (n ∷ opened)) (is_open (n ∷ opened) t.0) t.0) (targets_at g n) (w n)
-    (λ t y l q. met-within (length g) (cycle_in k g (n ∷ opened)) (cycle-within k g (n ∷ opened) w) (is_open (n ∷ opened) t.0) t.0 y l q) x e
+    first-within (length g) (λ (t : UnitId). met_or (cycle_in measuring k g (n ∷ opened)) (is_open (n ∷ opened) t.0) t.0) (targets_at g n) (w n)
+    (λ t y l q. met-within (length g) (cycle_in measuring k g (n ∷ opened)) (cycle-within k g (n ∷ opened) w) (is_open (n ∷ opened) t.0) t.0 y l q) x e
 
 -- the refusal of a search
-pub found-within : (a : Arena) (g : List HierarchyNode) (top : ℕ) (r : Result Measure ElabFault) → IsArena a → IsGraph a g → NodesWithin g → Measures g top r → IfErr r (FaultWithin a)
+pub found-within : (a : Arena) (g : List HierarchyNode) (top : ℕ) (r : Result Measure DescentFault) → IsArena a → IsGraph a g → NodesWithin measuring g → Measures measuring g top r → IfErr r (λ f. FaultWithin a (fault_of f))
 found-within a g top (Ok m) o q w h = tt
-found-within a g top (Err (fault.InstCycle v)) o q w h =
+found-within a g top (Err (descent.Cycle v)) o q w h =
     let l : v.0 < length g = cycle-within (length (defined a)) g [] w top v.0 (h (defined a) (has-busy a g o q)) in
     subst (λ n. v.0 < n) q.long l
-found-within a g top (Err _) o q w h = tt
+found-within a g top (Err descent.OutOfMemory) o q w h = tt
 
 -- no limit names a unit
 pub limit-within : (a : Arena) (m : Measure) (b : ℕ) (r : Result ℕ ElabFault) → r ≡ limited m b → IfErr r (FaultWithin a)

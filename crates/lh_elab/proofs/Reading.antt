@@ -18,7 +18,8 @@ use Rattle.lh_unit.proofs.Lists.{Same, same, other, same_or, Each-append, Each-a
 use Rattle.lh_unit.proofs.ModuleLaws.{block-within, block_insts-within}
 use Rattle.lh_elab.specs.declared.graph.HierarchyNode.{HierarchyNode}
 use Rattle.lh_elab.specs.Graph.{no_node, node_after, node_from, node_by, node_of, node_at, targets_at, IsGraph}
-use Rattle.lh_elab.specs.Searches.{NodesWithin}
+use Rattle.lh_descent.specs.Measures.{NodesWithin}
+use Rattle.lh_elab.specs.Measures.{measuring}
 
 -- an entity has one block
 pub entity-blocks : (a : Arena) (u : ℕ) → IsArena a → u < unit_count a → kind_at a u ≡ Some kind.Entity → blocks_at a u ≡ entity_block ∷ []
@@ -96,7 +97,7 @@ by-inside a u (Some kind.Func) o = tt
 by-inside a u (Some kind.Proc) o = tt
 by-inside a u None o = tt
 
-pub graph-within : (a : Arena) (g : List HierarchyNode) → IsArena a → IsGraph a g → NodesWithin g
+pub graph-within : (a : Arena) (g : List HierarchyNode) → IsArena a → IsGraph a g → NodesWithin measuring g
 graph-within a g o q u = elim (cases_lt u (length g)) [
   | inl l ↦
       let e : node_at g u ≡ node_of a u = q.nodes u (omega (arith, q.long, l)) in

@@ -19,7 +19,11 @@ use Rattle.lh_elab.specs.declared.fault.ElabFault.TheVariants as fault
 use Rattle.lh_elab.specs.declared.graph.HierarchyNode.{HierarchyNode}
 use Rattle.lh_elab.specs.declared.measure.Measure.{Measure}
 use Rattle.lh_elab.specs.Graph.{max_counted}
-use Rattle.lh_elab.specs.Measures.{depth_end, instances_end, IsMeasure, cycle_in}
+use Rattle.lh_elab.specs.Measures.{depth_end, instances_end, measuring, fault_of}
+use Rattle.lh_descent.specs.Measures.{cycle_in}
+use Rattle.lh_descent.specs.declared.fault.DescentFault.{DescentFault}
+use Rattle.lh_descent.specs.declared.fault.DescentFault.TheVariants as descent
+use Rattle.lh_elab.proofs.Measuring.{IsMeasure, measure-is}
 use Rattle.lh_elab.specs.Refusals.{arg_bits_of, limited, refusal_text, refusal_at, bits_at, Refuses, MeasuresIn}
 use Rattle.lh_elab.proofs.Reading.{graph-within}
 use Rattle.lh_elab.proofs.Counting.{StandsFor, stands, nests-named, count-named, bits-named, cycle-named, defined, length-defined, has-busy}
@@ -178,26 +182,18 @@ Refuses-limited a top m x o l e (inl (g, q, s)) f =
     (arg_bits_of (args_at a top) + bits_below max_nesting (hierarchies (contents a)) (unit_name_at a top))) (sym f)
     (limits-first a m (arg_bits_of (args_at a top)) (instance_count max_nesting (hierarchies (contents a)) (unit_name_at a top))
     (bits_below max_nesting (hierarchies (contents a)) (unit_name_at a top)) (nests_deeper max_nesting (hierarchies (contents a)) (unit_name_at a top)) (nat_lt 64 m.depth)
-    (limits-named a g top 64 m refl w lg s.1) refl))
+    (limits-named a g top 64 m refl w lg (measure-is g top m s.1)) refl))
 
 -- a cycle is named
-pub Refuses-measured : (a : Arena) (top : ℕ) (x : ElabFault) → IsArena a → top < unit_count a → false ≡ is_function (kind_text (kind_at a top)) → MeasuresIn a top (Err x) → Refuses a top (Err x)
-Refuses-measured a top fault.OutOfMemory o l e h = tt
-Refuses-measured a top (fault.InstCycle v) o l e (inl (g, q, s)) =
+pub Refuses-measured : (a : Arena) (top : ℕ) (x : DescentFault) → IsArena a → top < unit_count a → false ≡ is_function (kind_text (kind_at a top)) → MeasuresIn a top (Err x) → Refuses a top (Err (fault_of x))
+Refuses-measured a top descent.OutOfMemory o l e h = tt
+Refuses-measured a top (descent.Cycle v) o l e (inl (g, q, s)) =
     let w = stands a g o q (graph-within a g o q) in
     let lg : top < length g = subst (λ n. top < n) (sym q.long) l in
     let n : length (hierarchies (contents a)) ≡ length (defined a) = sym (length-defined a) in
     let c = cycle-named (length (hierarchies (contents a))) (hierarchies (contents a)) (unit_name_at a) g [] top w tt lg
-    ∙ ap (λ k. option_map (unit_name_at a) (cycle_in k g [] top)) n
+    ∙ ap (λ k. option_map (unit_name_at a) (cycle_in measuring k g [] top)) n
     ∙ ap (option_map (unit_name_at a)) (s (defined a) (has-busy a g o q)) in
     asked-is a top (Some (unit_name_at a v.0)) (nests_deeper max_nesting (hierarchies (contents a)) (unit_name_at a top)) (instance_count max_nesting (hierarchies (contents a)) (unit_name_at a top))
     (bits_below max_nesting (hierarchies (contents a)) (unit_name_at a top)) e record { cycle_is = c; deep_is = refl; count_is = refl; bits_is = refl }
-Refuses-measured a top (fault.InstCycle v) o l e (inr q) = cc
-Refuses-measured a top fault.TopIsFunction o l e (inl (g, q, s)) = absurd s
-Refuses-measured a top fault.TopIsFunction o l e (inr q) = cc
-Refuses-measured a top fault.TooDeep o l e (inl (g, q, s)) = absurd s
-Refuses-measured a top fault.TooDeep o l e (inr q) = cc
-Refuses-measured a top fault.TooManyInstances o l e (inl (g, q, s)) = absurd s
-Refuses-measured a top fault.TooManyInstances o l e (inr q) = cc
-Refuses-measured a top fault.TooManyBits o l e (inl (g, q, s)) = absurd s
-Refuses-measured a top fault.TooManyBits o l e (inr q) = cc
+Refuses-measured a top (descent.Cycle v) o l e (inr q) = cc

@@ -1,6 +1,5 @@
 pub mod Graph
 pub mod Measures
-pub mod Searches
 pub mod Refusals
 pub mod Statics
 pub mod Plans

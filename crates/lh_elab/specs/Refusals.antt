@@ -5,12 +5,15 @@ use Rattle.lh_unit.specs.Arena.{Arena, contents, unit_count, unit_name_at, unit_
 use Rattle.lh_unit.specs.Hierarchy.{hierarchies, hierarchy_of}
 use Rattle.lh_unit.specs.Design.{Refusal, top_is_function, inst_cycle, too_deep, too_many_instances, too_many_bits, refusal_of, arg_bits, bits_below, max_nesting}
 use Rattle.lh_unit.specs.declared.inst.Arg.{Arg}
+use Rattle.lh_descent.specs.Measures.{Measures}
+use Rattle.lh_descent.specs.declared.fault.DescentFault.{DescentFault}
+use Rattle.lh_descent.specs.declared.fault.DescentFault.TheVariants as descent
 use Rattle.lh_elab.specs.declared.fault.ElabFault.{ElabFault}
 use Rattle.lh_elab.specs.declared.fault.ElabFault.TheVariants as fault
 use Rattle.lh_elab.specs.declared.measure.Measure.{Measure}
 use Rattle.lh_elab.specs.declared.graph.HierarchyNode.{HierarchyNode}
 use Rattle.lh_elab.specs.Graph.{max_counted, IsGraph}
-use Rattle.lh_elab.specs.Searches.{Measures}
+use Rattle.lh_elab.specs.Measures.{measuring}
 
 -- the bits of arguments
 abbrev pub arg_bits_of : List Arg → ℕ
@@ -53,5 +56,5 @@ Refuses a top (Err fault.OutOfMemory) = Unit {0}
 Refuses a top (Err e) = refusal_at a top ≡ refusal_text a e
 
 -- the measure of the unit `top` in the graph of the module
-abbrev pub MeasuresIn : Arena → (top : ℕ) → Result Measure ElabFault → Type 0
-MeasuresIn a top r = ((g : List HierarchyNode) × IsGraph a g × Measures g top r) ⊎ (r ≡ Err fault.OutOfMemory)
+abbrev pub MeasuresIn : Arena → (top : ℕ) → Result Measure DescentFault → Type 0
+MeasuresIn a top r = ((g : List HierarchyNode) × IsGraph a g × Measures measuring g top r) ⊎ (r ≡ Err descent.OutOfMemory)

@@ -1,5 +1,6 @@
 //! Why a top unit has no design.
 
+use lh_descent::DescentFault;
 use lh_types::ty::NoMemory;
 use lh_unit::inst::UnitId;
 use thiserror::Error;
@@ -35,5 +36,19 @@ impl From<NoMemory> for ElabFault {
 
     fn from(_: NoMemory) -> ElabFault {
         ElabFault::OutOfMemory
+    }
+}
+
+impl From<DescentFault> for ElabFault {
+    ghost use Rattle.std.specs.Prelude.{◌≡◌};
+    ghost use Rattle.lh_elab.specs.Measures.{fault_of};
+
+    ghost from_gives = { λ f e. e ≡ fault_of f };
+
+    fn from(fault: DescentFault) -> ElabFault {
+        match fault {
+            DescentFault::Cycle(unit) => ElabFault::InstCycle(unit),
+            DescentFault::OutOfMemory => ElabFault::OutOfMemory,
+        }
     }
 }

@@ -10,7 +10,6 @@ mod paths;
 mod plan;
 mod probes;
 mod refusal;
-mod search;
 mod statics;
 
 pub use crate::elaborate::elab;

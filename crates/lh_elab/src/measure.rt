@@ -1,8 +1,10 @@
 //! How deep instances nest, how many there are, and how many bits their signals have.
 ghost use Rattle.std.specs.Prelude.{◌≡◌, ◌+◌, min};
-ghost use Rattle.lh_elab.specs.Measures.{nothing, beside, around};
+ghost use Rattle.lh_elab.specs.Measures.{measuring};
 
-use crate::graph::counted;
+use crate::graph::{HierarchyNode, counted};
+use lh_descent::Measured;
+use lh_unit::inst::UnitId;
 
 /// How many instances may nest, the top counted.
 pub const MAX_NESTING: u32 = 64;
@@ -22,11 +24,18 @@ pub struct Measure {
     pub bits: u32,
 }
 
-impl Measure {
+impl Measured for Measure {
+    type Node = HierarchyNode;
+
+    ghost measuring = { measuring };
+
+    /// The units that a unit instantiates.
+    fn targets(node: &HierarchyNode) -> &[UnitId] {
+        node.targets.as_slice()
+    }
+
     /// No instance.
-    pub fn nothing() -> Measure
-        ensures { result ≡ nothing }
-    {
+    fn nothing() -> Measure {
         Measure {
             depth: 0,
             instances: 0,
@@ -35,9 +44,7 @@ impl Measure {
     }
 
     /// These instances, and others beside them.
-    pub fn beside(self, other: Measure) -> Measure
-        ensures { result ≡ beside self other }
-    {
+    fn beside(self, other: Measure) -> Measure {
         Measure {
             depth: self.depth.max(other.depth),
             instances: up_to(self.instances, other.instances, MAX_INSTANCES + 1),
@@ -45,14 +52,12 @@ impl Measure {
         }
     }
 
-    /// An instance that has these in it, and signals of so many bits of its own.
-    pub fn around(self, bits: u32) -> Measure
-        ensures { result ≡ around self bits }
-    {
+    /// An instance of a unit that has these in it.
+    fn around(self, unit: &HierarchyNode) -> Measure {
         Measure {
             depth: up_to(1, self.depth, MAX_NESTING + 1),
             instances: up_to(1, self.instances, MAX_INSTANCES + 1),
-            bits: counted(bits, self.bits),
+            bits: counted(unit.bits, self.bits),
         }
     }
 }

@@ -5,11 +5,12 @@ ghost use Rattle.lh_unit.specs.Named.{is_function};
 ghost use Rattle.lh_unit.specs.Naming.{kind_text};
 ghost use Rattle.lh_elab.specs.Refusals.{Refuses, MeasuresIn, arg_bits_of, limited, FaultWithin};
 ghost use Rattle.lh_elab.specs.Graph.{max_counted};
+ghost use Rattle.lh_elab.specs.Measures.{fault_of};
 
 use crate::fault::ElabFault;
 use crate::graph::{MAX_BITS, counted, graph, width_of};
 use crate::measure::{MAX_INSTANCES, MAX_NESTING, Measure};
-use crate::search::measure_of;
+use lh_descent::{DescentFault, Search};
 use lh_unit::inst::{Arg, UnitId, UnitKind};
 use lh_unit::module::Module;
 use std::alloc::Global;
@@ -42,14 +43,15 @@ fn is_function(kind: Option<UnitKind>) -> bool
 }
 
 /// The measure of a unit of a module.
-fn measured(alloc: Global, module: &Module, top: UnitId) -> Result<Measure, ElabFault>
+fn measured(alloc: Global, module: &Module, top: UnitId) -> Result<Measure, DescentFault>
     requires { top.0 < unit_count module.now }
     ensures measure { MeasuresIn module.now top.0 result }
-    ensures placed { IfErr result (FaultWithin module.now) }
+    ensures placed { IfErr result (λ f. FaultWithin module.now (fault_of f)) }
     ensures sound { IsArena module.now }
 {
     let nodes = graph(alloc, module)?;
-    measure_of(alloc, nodes.as_slice(), top)
+    let mut search = Search::new(alloc, nodes.len())?;
+    search.measure_of(nodes.as_slice(), top)
 }
 
 /// How many bits the arguments of a unit have, or one more than are allowed where that is less.

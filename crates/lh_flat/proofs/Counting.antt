@@ -17,9 +17,11 @@ use Rattle.lh_formed.specs.Graphs.{met_or, is_open, IsIn}
 use Rattle.lh_flat.specs.declared.calls.CallNode.{CallNode}
 use Rattle.lh_flat.specs.Calls.{callee_if, callees_in, callees, callees_of, recursion_from, nest_deeper}
 use Rattle.lh_flat.specs.Graph.{max_counted, node_at, callees_at}
-use Rattle.lh_flat.specs.Measures.{nests, insts_in, cycle_in}
+use Rattle.lh_flat.specs.Measures.{measuring}
 use Rattle.lh_flat.specs.Lengths.{called_length, copy_length}
 use Rattle.lh_formed.proofs.Graphs.{Distinct, no_longer, is_open-in}
+use Rattle.lh_descent.specs.Measures.{cycle_in}
+use Rattle.lh_flat.proofs.Measuring.{nests, insts_in}
 
 -- a unit that is called is another than the top, and the function of its name has its text
 pub record IsCalled (fs : List UnitText) (name : ℕ → UnitName) (text : ℕ → UnitText) (top : ℕ) (n : ℕ) (t : UnitId) : Type 0 where
@@ -128,13 +130,13 @@ module _ (fs : List UnitText) (name : ℕ → UnitName) (text : ℕ → UnitText
   met-named F G b false t e f = ap (λ x. cycle_at F x (name t)) e ∙ f
 
   pub recursion-named : (k : ℕ) (xs opened : List ℕ) (u : ℕ) → u ∷ opened ≡ xs ++ top ∷ [] → AllBelow xs → u < length g
-      → recursion_from k fs (map name xs) (callees (text u)) ≡ option_map name (cycle_in k g opened u)
+      → recursion_from k fs (map name xs) (callees (text u)) ≡ option_map name (cycle_in measuring k g opened u)
   recursion-named zero xs opened u e h l = refl
   recursion-named (suc k) xs opened u e h l =
       ap (first_some (λ f. cycle_at (λ n. recursion_from k fs (n ∷ map name xs) (callees_of fs n)) (is_one_of (map name xs) f) f)) (o.callees_are u l)
-      ∙ first-named name (λ f. cycle_at (λ n. recursion_from k fs (n ∷ map name xs) (callees_of fs n)) (is_one_of (map name xs) f) f) (λ (t : UnitId). met_or (cycle_in k g (u ∷ opened))
+      ∙ first-named name (λ f. cycle_at (λ n. recursion_from k fs (n ∷ map name xs) (callees_of fs n)) (is_one_of (map name xs) f) f) (λ (t : UnitId). met_or (cycle_in measuring k g (u ∷ opened))
       (is_open (u ∷ opened) t.0) t.0) (callees_at g u)
-      (λ t c. met-named (λ n. recursion_from k fs (n ∷ map name xs) (callees_of fs n)) (cycle_in k g (u ∷ opened)) (is_one_of (map name xs) (name t.0)) (is_open (u ∷ opened) t.0) t.0
+      (λ t c. met-named (λ n. recursion_from k fs (n ∷ map name xs) (callees_of fs n)) (cycle_in measuring k g (u ∷ opened)) (is_one_of (map name xs) (name t.0)) (is_open (u ∷ opened) t.0) t.0
       (open-named xs t h c ∙ sym (ap (λ ys. is_open ys t.0) e))
       (ap (recursion_from k fs (map name (t.0 ∷ xs))) (callees-of t c) ∙ recursion-named k (t.0 ∷ xs) (u ∷ opened) t.0 (ap (λ ys. t.0 ∷ ys) e) (c.within, h) c.within))
       (o.called u l)
@@ -145,11 +147,11 @@ module _ (fs : List UnitText) (name : ℕ → UnitName) (text : ℕ → UnitText
     too_few n opened d i h = omega (arith, no_longer (n ∷ opened) may d i)
 
     pub cycle-stays : (k j : ℕ) (opened : List ℕ) (n : ℕ) → Distinct (n ∷ opened) → ((v : ℕ) → IsIn (n ∷ opened) v → IsIn may v) → length may ≤ k + length opened → length may ≤ j + length opened
-        → cycle_in k g opened n ≡ cycle_in j g opened n
+        → cycle_in measuring k g opened n ≡ cycle_in measuring j g opened n
     cycle-stays zero j opened n d i h q = absurd (too_few n opened d i h)
     cycle-stays (suc k) zero opened n d i h q = absurd (too_few n opened d i q)
     cycle-stays (suc k) (suc j) opened n d i h q =
-        first-same (λ (t : UnitId). met_or (cycle_in k g (n ∷ opened)) (is_open (n ∷ opened) t.0) t.0) (λ (t : UnitId). met_or (cycle_in j g (n ∷ opened)) (is_open (n ∷ opened) t.0) t.0)
+        first-same (λ (t : UnitId). met_or (cycle_in measuring k g (n ∷ opened)) (is_open (n ∷ opened) t.0) t.0) (λ (t : UnitId). met_or (cycle_in measuring j g (n ∷ opened)) (is_open (n ∷ opened) t.0) t.0)
         (callees_at g n)
         (λ t c. by t c (is_open (n ∷ opened) t.0) refl (λ f. cycle-stays k j (n ∷ opened) t.0 (f, d) (inside t c) (moved k (length may) h) (moved j (length may) q))) (all n)
       where
@@ -160,8 +162,8 @@ module _ (fs : List UnitText) (name : ℕ → UnitName) (text : ℕ → UnitText
         inside t c v (inl z) = subst (IsIn may) z c
         inside t c v (inr z) = i v z
 
-        by : (t : UnitId) → IsIn may t.0 → (b : Bool) → is_open (n ∷ opened) t.0 ≡ b → ((IsIn (n ∷ opened) t.0 → ⊥) → cycle_in k g (n ∷ opened) t.0 ≡ cycle_in j g (n ∷ opened) t.0)
-            → met_or (cycle_in k g (n ∷ opened)) b t.0 ≡ met_or (cycle_in j g (n ∷ opened)) b t.0
+        by : (t : UnitId) → IsIn may t.0 → (b : Bool) → is_open (n ∷ opened) t.0 ≡ b → ((IsIn (n ∷ opened) t.0 → ⊥) → cycle_in measuring k g (n ∷ opened) t.0 ≡ cycle_in measuring j g (n ∷ opened) t.0)
+            → met_or (cycle_in measuring k g (n ∷ opened)) b t.0 ≡ met_or (cycle_in measuring j g (n ∷ opened)) b t.0
         by t c true e f = refl
         by t c false e f = f (λ z. let y : is_open (n ∷ opened) t.0 ≡ true = is_open-in (n ∷ opened) t.0 z in cc)
 

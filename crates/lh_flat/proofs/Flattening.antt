@@ -15,7 +15,7 @@ use Rattle.lh_unit.specs.declared.inst.UnitKind.{UnitKind}
 use Rattle.lh_unit.specs.declared.inst.UnitKind.TheVariants as kind
 use Rattle.lh_unit.specs.declared.inst.ValueId.{ValueId}
 use Rattle.lh_unit.specs.declared.inst.Arg.{Arg}
-use Rattle.lh_flat.specs.declared.fault.FlatFault.{FlatFault}
+use Rattle.lh_descent.specs.declared.fault.DescentFault.{DescentFault}
 use Rattle.lh_flat.specs.declared.calls.CallNode.{CallNode}
 use Rattle.lh_flat.specs.declared.measure.Measure.{Measure}
 use Rattle.lh_flat.specs.declared.flat.Flat.{Flat}
@@ -28,7 +28,8 @@ use Rattle.lh_flat.specs.Reads.{ReadsAs, Flattens}
 use Rattle.lh_flat.specs.Building.{call_room, ids_for, no_text, blocks_added, call_added}
 use Rattle.lh_flat.specs.CopyNames.{own_names, blocks_names, copy_names, NamedFrom}
 use Rattle.lh_flat.specs.Graph.{IsGraph}
-use Rattle.lh_flat.specs.Searches.{Measures}
+use Rattle.lh_descent.specs.Measures.{Measures}
+use Rattle.lh_flat.specs.Measures.{measuring, fault_of}
 use Rattle.lh_flat.specs.Marks.{UnitsAreNamed}
 use Rattle.lh_flat.specs.Below.{IdsBelow}
 use Rattle.lh_flat.specs.Made.{IsMade}
@@ -213,16 +214,16 @@ module _ (a : Arena) (g h : List CallNode) (top : ℕ) (o : IsArena a) (f : IsFa
   graph : IsGraph a g
   graph = subst (IsGraph a) (sym e) q
 
-  pub flat-refused : (x : FlatFault) → Measures g top (Err x) → Flattens a top (Err x)
+  pub flat-refused : (x : DescentFault) → Measures measuring g top (Err x) → Flattens a top (Err (fault_of x))
   flat-refused x m = Refuses-measured a g top o f graph l p x m
 
-  pub flat-deep : (m : Measure) → Measures g top (Ok m) → 65 < m.depth → flat_of (contents a) (unit_text_at a top) ≡ refused call_too_deep
+  pub flat-deep : (m : Measure) → Measures measuring g top (Ok m) → 65 < m.depth → flat_of (contents a) (unit_text_at a top) ≡ refused call_too_deep
   flat-deep m w d = Refuses-deep a g top o f graph l p m w (above_true 65 m.depth d)
 
-  pub flat-large : (m : Measure) → Measures g top (Ok m) → m.depth ≤ 65 → 65536 < m.insts → flat_of (contents a) (unit_text_at a top) ≡ refused flat_too_large
+  pub flat-large : (m : Measure) → Measures measuring g top (Ok m) → m.depth ≤ 65 → 65536 < m.insts → flat_of (contents a) (unit_text_at a top) ≡ refused flat_too_large
   flat-large m w d n = Refuses-large a g top o f graph l p m w (above_false 65 m.depth d) (above_true 65536 m.insts n)
 
-  pub flat-made : UnitsAreNamed a → (m : Measure) → Measures g top (Ok m) → m.depth ≤ 65 → m.insts ≤ 65536 → (b : Arena) (u : UnitId) (t : Flat) → b ≡ a → u.0 ≡ top → IsMade b u.0 t
+  pub flat-made : UnitsAreNamed a → (m : Measure) → Measures measuring g top (Ok m) → m.depth ≤ 65 → m.insts ≤ 65536 → (b : Arena) (u : UnitId) (t : Flat) → b ≡ a → u.0 ≡ top → IsMade b u.0 t
       → Flattens a top (Ok t)
   flat-made n m w d i b u t eb eu t-made = (
     text_of (functions (contents a)) (unit_text_at a top),
@@ -231,7 +232,7 @@ module _ (a : Arena) (g h : List CallNode) (top : ℕ) (o : IsArena a) (f : IsFa
         (subst (λ x. IsMade a x t) eu (subst (λ x. IsMade x u.0 t) eb t-made)),
   )
 
-  pub flat-below : UnitsAreNamed a → (m : Measure) → Measures g top (Ok m) → m.depth ≤ 65 → (b : Arena) (u : UnitId) (t : Flat) → b ≡ a → u.0 ≡ top → IsMade b u.0 t → IdsBelow t
+  pub flat-below : UnitsAreNamed a → (m : Measure) → Measures measuring g top (Ok m) → m.depth ≤ 65 → (b : Arena) (u : UnitId) (t : Flat) → b ≡ a → u.0 ≡ top → IsMade b u.0 t → IdsBelow t
   flat-below n m w d b u t eb eu t-made =
       made_below a o f n top l (process-blocks (kind_at a top) p) p (not-deep a g top o f graph l p m w (above_false 65 m.depth d)) t
       (subst (λ x. IsMade a x t) eu (subst (λ x. IsMade x u.0 t) eb t-made))

@@ -1,8 +1,6 @@
 pub mod Samples
 pub mod FlatRows
 pub mod Measuring
-pub mod Searching
-pub mod Stepping
 pub mod Reading
 pub mod Lengths
 pub mod Names

@@ -1,26 +1,50 @@
 -- The measure of copies beside each other, and of a copy with others in it.
-use Rattle.std.proofs.Common.{◌≡◌, ℕ, zero, suc, ◌+◌, ◌≤◌, min, ◌||◌, nat_lt, List, [], ◌∷◌, ◌++◌, sum_by, ap, ◌∙◌, arith}
+use Rattle.std.proofs.Common.{◌≡◌, ℕ, zero, suc, ◌+◌, ◌≤◌, min, ◌||◌, nat_lt, Bool, true, List, [], ◌∷◌, ◌++◌, sum_by, ap, ◌∙◌, arith}
+use Rattle.std.proofs.Props.{props}
 use Rattle.std.specs.List.{list_any}
 use Rattle.std.proofs.lemmas.List.Folds.{list_any-append}
 use Rattle.std.proofs.lemmas.List.Sums.{sum_by_push}
 use Rattle.lh_unit.specs.declared.inst.UnitId.{UnitId}
 use Rattle.lh_unit.proofs.Lists.{or_false}
+use Rattle.lh_descent.specs.Measures as descent
+use Rattle.lh_descent.proofs.Measuring.{measure-holds}
 use Rattle.lh_formed.proofs.Capped.{not_below_zero, zero_capped, below_max, sum_capped, left_max, right_max, first_below, next_below, none_at_zero, below_next, right_capped}
 use Rattle.lh_flat.specs.declared.calls.CallNode.{CallNode}
 use Rattle.lh_flat.specs.declared.measure.Measure.{Measure}
 use Rattle.lh_flat.specs.Graph.{node_at, callees_at, max_counted}
-use Rattle.lh_flat.specs.Measures.{nothing, beside, around, nests, insts_in, blocks_in, IsMeasure}
+use Rattle.lh_flat.specs.Measures.{nothing, beside, around, measuring}
+
+-- more than `limit` units nest from the unit n down
+abbrev pub nests : (limit : ℕ) → List CallNode → ℕ → Bool
+nests zero g n = true
+nests (suc k) g n = list_any (λ (t : UnitId). nests k g t.0) (callees_at g n)
+
+-- how many instructions the copies have from the unit n down, to this depth
+abbrev pub insts_in : (depth : ℕ) → List CallNode → ℕ → ℕ
+insts_in zero g n = 0
+insts_in (suc k) g n = (node_at g n).insts + sum_by (λ (t : UnitId). insts_in k g t.0) (callees_at g n)
+
+-- how many blocks they have
+abbrev pub blocks_in : (depth : ℕ) → List CallNode → ℕ → ℕ
+blocks_in zero g n = 0
+blocks_in (suc k) g n = (node_at g n).blocks + sum_by (λ (t : UnitId). blocks_in k g t.0) (callees_at g n)
+
+-- the measure of a copy of the unit n; a number that stands at its end is a count that is as large at least
+pub record IsMeasure (g : List CallNode) (n : ℕ) (m : Measure) : Type 0 where
+  pub depth : (k : ℕ) → suc k ≤ max_counted → nests k g n ≡ nat_lt k m.depth
+  pub insts : (k : ℕ) → suc k ≤ max_counted → m.depth ≤ k → min (insts_in k g n) max_counted ≡ m.insts
+  pub blocks : (k : ℕ) → suc k ≤ max_counted → m.depth ≤ k → min (blocks_in k g n) max_counted ≡ m.blocks
 
 -- copies of these units beside each other
-pub record IsSum (g : List CallNode) (ts : List UnitId) (m : Measure) : Type 0 where
+record IsSum (g : List CallNode) (ts : List UnitId) (m : Measure) : Type 0 where
   pub depth : (k : ℕ) → suc k ≤ max_counted → list_any (λ (t : UnitId). nests k g t.0) ts ≡ nat_lt k m.depth
   pub insts : (k : ℕ) → suc k ≤ max_counted → m.depth ≤ k → min (sum_by (λ (t : UnitId). insts_in k g t.0) ts) max_counted ≡ m.insts
   pub blocks : (k : ℕ) → suc k ≤ max_counted → m.depth ≤ k → min (sum_by (λ (t : UnitId). blocks_in k g t.0) ts) max_counted ≡ m.blocks
 
-pub IsSum-none : (g : List CallNode) → IsSum g [] nothing
+IsSum-none : (g : List CallNode) → IsSum g [] nothing
 IsSum-none g = record { depth = λ k l. not_below_zero k; insts = λ k l d. zero_capped max_counted; blocks = λ k l d. zero_capped max_counted }
 
-pub IsSum-beside : (g : List CallNode) (ts : List UnitId) (t : UnitId) (m n : Measure) → IsSum g ts m → IsMeasure g t.0 n → IsSum g (ts ++ t ∷ []) (beside m n)
+IsSum-beside : (g : List CallNode) (ts : List UnitId) (t : UnitId) (m n : Measure) → IsSum g ts m → IsMeasure g t.0 n → IsSum g (ts ++ t ∷ []) (beside m n)
 IsSum-beside g ts t m n o p = record {
   depth = λ k l.
       list_any-append (λ (x : UnitId). nests k g x.0) ts (t ∷ [])
@@ -54,5 +78,12 @@ blocks-around g u m o zero l d = absurd (none_at_zero m.depth max_counted (omega
 blocks-around g u m o (suc j) l d = right_capped (node_at g u).blocks (sum_by (λ (t : UnitId). blocks_in j g t.0) (callees_at g u)) max_counted m.blocks
     (o.blocks j (omega arith) (below_next j m.depth max_counted l d))
 
-pub IsMeasure-around : (g : List CallNode) (u : ℕ) (m : Measure) → IsSum g (callees_at g u) m → IsMeasure g u (around m (node_at g u))
+IsMeasure-around : (g : List CallNode) (u : ℕ) (m : Measure) → IsSum g (callees_at g u) m → IsMeasure g u (around m (node_at g u))
 IsMeasure-around g u m o = record { depth = depth-around g u m o; insts = insts-around g u m o; blocks = blocks-around g u m o }
+
+IsMeasure-prop : (g : List CallNode) (u : ℕ) (m : Measure) → IsProp (IsMeasure g u m)
+IsMeasure-prop g u m = hlevel props
+
+-- the measure of the search is the one of its depth and its counts
+pub measure-is : (g : List CallNode) (u : ℕ) (m : Measure) → descent.IsMeasure measuring g u m → IsMeasure g u m
+measure-is g u m h = measure-holds measuring g (IsMeasure g) (IsSum g) (IsMeasure-prop g) (IsSum-none g) (IsSum-beside g) (IsMeasure-around g) u m h

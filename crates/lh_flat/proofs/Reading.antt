@@ -18,7 +18,8 @@ use Rattle.lh_unit.proofs.Lists.{Same, same, other, same_or, Each-append, Each-a
 use Rattle.lh_unit.proofs.ModuleLaws.{block-within, block_insts-within}
 use Rattle.lh_flat.specs.declared.calls.CallNode.{CallNode}
 use Rattle.lh_flat.specs.Graph.{no_node, called_of, callee_of, with_inst, with_insts, with_block, with_blocks, node_of, node_at, callees_at, counted, BlockPlaced, IsGraph}
-use Rattle.lh_flat.specs.Searches.{NodesWithin}
+use Rattle.lh_descent.specs.Measures.{NodesWithin}
+use Rattle.lh_flat.specs.Measures.{measuring}
 
 -- a block of a unit has an entry, and so have its instructions
 pub placed-block : (a : Arena) (u i : ℕ) (b : BlockId) → IsArena a → u < unit_count a → slice_get (blocks_at a u) i ≡ Some b → BlockPlaced a u b
@@ -103,7 +104,7 @@ blocks-inside a u n [] o h = h
 blocks-inside a u n (b ∷ bs) o h = blocks-inside a u (with_block a u n b) bs o
     (insts-inside a u (record { insts = n.insts; blocks = counted n.blocks 1; callees = n.callees }) (insts_at (table_at a u) b.0) o h)
 
-pub graph-within : (a : Arena) (g : List CallNode) → IsArena a → IsGraph a g → NodesWithin g
+pub graph-within : (a : Arena) (g : List CallNode) → IsArena a → IsGraph a g → NodesWithin measuring g
 graph-within a g o q u = elim (cases_lt u (length g)) [
   | inl l ↦
       let e : node_at g u ≡ node_of a u = q.nodes u (omega (arith, q.long, l)) in

@@ -23,22 +23,23 @@ use Rattle.lh_unit.specs.WellFormed.{IsFaultless}
 use Rattle.lh_unit.proofs.ById.{same_unit-by_id}
 use Rattle.lh_unit.proofs.Lists.{nat_eq-is, nat_eq-refl}
 use Rattle.lh_formed.specs.Graphs.{IsIn}
-use Rattle.lh_flat.specs.declared.fault.FlatFault.{FlatFault}
-use Rattle.lh_flat.specs.declared.fault.FlatFault.TheVariants as fault
 use Rattle.lh_flat.specs.declared.calls.CallNode.{CallNode}
 use Rattle.lh_flat.specs.declared.measure.Measure.{Measure}
 use Rattle.lh_flat.specs.Calls.{callees, recursion_from, nest_deeper}
 use Rattle.lh_flat.specs.Copies.{top_copy}
 use Rattle.lh_flat.specs.Flat.{max_nested, max_flat, inst_count, text_of, refused, flattened, recursive_call, call_too_deep, flat_too_large, flattened_by, flat_in, flat_of}
 use Rattle.lh_flat.specs.Graph.{max_counted, no_node, node_of, with_blocks, node_at, callees_at, IsGraph}
-use Rattle.lh_flat.specs.Measures.{cycle_in}
-use Rattle.lh_flat.specs.Searches.{HasBusy, Measures}
+use Rattle.lh_descent.specs.Measures.{cycle_in, HasBusy, Measures}
+use Rattle.lh_descent.specs.declared.fault.DescentFault.{DescentFault}
+use Rattle.lh_descent.specs.declared.fault.DescentFault.TheVariants as descent
+use Rattle.lh_flat.specs.Measures.{measuring, fault_of}
 use Rattle.lh_flat.specs.Lengths.{copy_length}
 use Rattle.lh_flat.specs.Reads.{refusal_text, GivesRefusal}
 use Rattle.lh_flat.proofs.Lengths.{lengths_add}
 use Rattle.lh_flat.proofs.Calling.{IsFunction, missing-none, callees-functions, callees-names, insts-counted, pieces-counted}
 use Rattle.lh_flat.proofs.Counting.{IsCalled, StandsFor, nests-named, recursion-named, cycle-stays, length-named}
 use Rattle.lh_flat.proofs.Pieces.{copy_blocks, blocks_add, blocks-named}
+use Rattle.lh_flat.proofs.Measuring.{IsMeasure, measure-is}
 use Rattle.lh_flat.proofs.Reading.{graph-within}
 
 -- ---- the functions of a module by ids
@@ -203,7 +204,7 @@ module _ (a : Arena) (g : List CallNode) (top : ℕ) (o : IsArena a) (f : IsFaul
   abbrev busy : List ℕ
   busy = may ++ item_units a.items
 
-  has-busy : HasBusy g busy
+  has-busy : HasBusy measuring g busy
   has-busy u i t e = elim (cases_lt u (unit_count a)) [
     | inl h ↦ in-right may (item_units a.items) u (busy-unit a u i t o h (ap (λ (n : CallNode). slice_get n.callees i) (sym (q.nodes u h)) ∙ e))
     | inr h ↦
@@ -226,29 +227,30 @@ module _ (a : Arena) (g : List CallNode) (top : ℕ) (o : IsArena a) (f : IsFaul
   alone v (inr h) = absurd h
 
   -- as many steps as there are functions, and one more, are enough
-  steps-enough : cycle_in (length busy) g [] top ≡ cycle_in (suc (length fs)) g [] top
+  steps-enough : cycle_in measuring (length busy) g [] top ≡ cycle_in measuring (suc (length fs)) g [] top
   steps-enough = cycle-stays fs (unit_name_at a) (unit_text_at a) top g stands may may-all (length busy) (suc (length fs)) [] top ((λ h. h), tt) alone (longer may (item_units a.items))
       (just (length may) (suc (length fs)) may_length)
 
-  recursion : recursion_from (suc (length fs)) fs [] (callees text) ≡ option_map (unit_name_at a) (cycle_in (suc (length fs)) g [] top)
+  recursion : recursion_from (suc (length fs)) fs [] (callees text) ≡ option_map (unit_name_at a) (cycle_in measuring (suc (length fs)) g [] top)
   recursion = recursion-named fs (unit_name_at a) (unit_text_at a) top g stands (suc (length fs)) [] [] top refl tt top-within
 
-  pub Refuses-recursive : (v : UnitId) → Measures g top (Err (fault.RecursiveCall v)) → flat_of (contents a) text ≡ refused (recursive_call (unit_name_at a v.0))
+  pub Refuses-recursive : (v : UnitId) → Measures measuring g top (Err (descent.Cycle v)) → flat_of (contents a) text ≡ refused (recursive_call (unit_name_at a v.0))
   unfolding flat_in
   Refuses-recursive v m =
       ap (λ r. flattened_by r (nest_deeper max_nested fs (callees text)) (nat_lt max_flat (inst_count (text_of fs text).blocks)) (text_of fs text))
       (recursion ∙ ap (option_map (unit_name_at a)) (sym steps-enough ∙ m busy has-busy))
 
   -- any fault of the measure
-  pub Refuses-measured : (e : FlatFault) → Measures g top (Err e) → GivesRefusal (flat_of (contents a) text) (refusal_text a e)
-  Refuses-measured (fault.RecursiveCall v) m = Refuses-recursive v m
-  Refuses-measured fault.OutOfMemory m = tt
-  Refuses-measured fault.CallTooDeep m = absurd m
-  Refuses-measured fault.FlatTooLarge m = absurd m
+  pub Refuses-measured : (e : DescentFault) → Measures measuring g top (Err e) → GivesRefusal (flat_of (contents a) text) (refusal_text a (fault_of e))
+  Refuses-measured (descent.Cycle v) m = Refuses-recursive v m
+  Refuses-measured descent.OutOfMemory m = tt
 
   -- ---- depth and length
 
-  module _ (m : Measure) (w : Measures g top (Ok m)) where
+  module _ (m : Measure) (w : Measures measuring g top (Ok m)) where
+    counts : IsMeasure g top m
+    counts = measure-is g top m w.1
+
     no-recursion : recursion_from (suc (length fs)) fs [] (callees text) ≡ None
     no-recursion = recursion ∙ ap (option_map (unit_name_at a)) (w.0 (suc (length fs)))
 
@@ -256,7 +258,7 @@ module _ (a : Arena) (g : List CallNode) (top : ℕ) (o : IsArena a) (f : IsFaul
     small k e i j = omega arith
 
     deep-at : (k : ℕ) → suc k ≡ 65 → nest_deeper k fs (callees text) ≡ nat_lt (suc k) m.depth
-    deep-at k e = nests-named fs (unit_name_at a) (unit_text_at a) top g stands k top top-within ∙ w.1.depth (suc k) (small (suc k) max_counted e refl)
+    deep-at k e = nests-named fs (unit_name_at a) (unit_text_at a) top g stands k top top-within ∙ counts.depth (suc k) (small (suc k) max_counted e refl)
 
     deep : nest_deeper max_nested fs (callees text) ≡ nat_lt 65 m.depth
     deep = deep-at 64 refl
@@ -277,11 +279,11 @@ module _ (a : Arena) (g : List CallNode) (top : ℕ) (o : IsArena a) (f : IsFaul
     module _ (d : nat_lt 65 m.depth ≡ false) where
       insts-at : (k : ℕ) → k ≡ 65 → min (copy_length k fs text) max_counted ≡ m.insts
       insts-at k e = length-named fs (unit_name_at a) (unit_text_at a) top g stands k top top-within
-          ∙ w.1.insts k (small k max_counted e refl) (subst (λ n. m.depth ≤ n) (sym e) (le_from 65 m.depth d))
+          ∙ counts.insts k (small k max_counted e refl) (subst (λ n. m.depth ≤ n) (sym e) (le_from 65 m.depth d))
 
       blocks-at : (k : ℕ) → k ≡ 65 → min (copy_blocks k fs text) max_counted ≡ m.blocks
       blocks-at k e = blocks-named fs (unit_name_at a) (unit_text_at a) top g stands k top top-within
-          ∙ w.1.blocks k (small k max_counted e refl) (subst (λ n. m.depth ≤ n) (sym e) (le_from 65 m.depth d))
+          ∙ counts.blocks k (small k max_counted e refl) (subst (λ n. m.depth ≤ n) (sym e) (le_from 65 m.depth d))
 
       pub insts-measured : min (inst_count (text_of fs text).blocks) max_counted ≡ m.insts
       insts-measured = ap (λ n. min n max_counted) (lengths_add 65 fs (top_copy text)) ∙ insts-at 65 refl

@@ -4,7 +4,6 @@ pub mod Flat
 pub mod Reads
 pub mod Graph
 pub mod Measures
-pub mod Searches
 pub mod Lengths
 pub mod Renames
 pub mod Agrees

@@ -1,5 +1,6 @@
 //! Why a process has no flat text.
 
+use lh_descent::DescentFault;
 use lh_types::ty::NoMemory;
 use lh_unit::inst::UnitId;
 use thiserror::Error;
@@ -30,5 +31,19 @@ impl From<NoMemory> for FlatFault {
 
     fn from(_: NoMemory) -> FlatFault {
         FlatFault::OutOfMemory
+    }
+}
+
+impl From<DescentFault> for FlatFault {
+    ghost use Rattle.std.specs.Prelude.{◌≡◌};
+    ghost use Rattle.lh_flat.specs.Measures.{fault_of};
+
+    ghost from_gives = { λ f e. e ≡ fault_of f };
+
+    fn from(fault: DescentFault) -> FlatFault {
+        match fault {
+            DescentFault::Cycle(unit) => FlatFault::RecursiveCall(unit),
+            DescentFault::OutOfMemory => FlatFault::OutOfMemory,
+        }
     }
 }

@@ -5,7 +5,8 @@ ghost use Rattle.lh_unit.specs.declared.inst.UnitKind.TheVariants.{Proc};
 ghost use Rattle.lh_unit.specs.WellFormed.{IsWellFormed};
 ghost use Rattle.lh_flat.specs.Graph.{IsGraph};
 ghost use Rattle.lh_flat.specs.Marks.{UnitsAreNamed};
-ghost use Rattle.lh_flat.specs.Searches.{IsSettled};
+ghost use Rattle.lh_descent.specs.Searches.{IsSettled};
+ghost use Rattle.lh_flat.specs.Measures.{measuring};
 ghost use Rattle.lh_flat.specs.Made.{IsMade};
 ghost use Rattle.lh_flat.specs.Below.{IdsBelow};
 ghost use Rattle.lh_flat.specs.Reads.{Flattens};
@@ -15,8 +16,9 @@ use crate::calls::{CallNode, graph};
 use crate::copy::{CopyPlace, UnitCopy};
 use crate::fault::FlatFault;
 use crate::flat::{ArgList, Flat};
+use crate::measure::Measure;
 use crate::named::read_names;
-use crate::search::Search;
+use lh_descent::Search;
 use lh_types::ty::NoMemory;
 use lh_unit::inst::{Arg, UnitId};
 use lh_unit::module::Module;
@@ -51,9 +53,9 @@ pub struct Flattener<'m> {
     alloc: Global,
     m: &'m Module,
     nodes: Vec<CallNode>,
-    search: Search,
+    search: Search<Measure>,
     ghost graph: { IsGraph m.now nodes.items },
-    ghost settled: { IsSettled nodes.items search },
+    ghost settled: { IsSettled measuring nodes.items search },
     ghost named: { UnitsAreNamed m.now },
 }
 
@@ -85,10 +87,7 @@ impl<'m> Flattener<'m> {
     {
         let units = self.m.units();
         prove!(unit.0 < units);
-        let measure = match self.search.measure_of(self.nodes.as_slice(), unit) {
-            Ok(measure) => measure,
-            Err(fault) => return Err(fault),
-        };
+        let measure = self.search.measure_of(self.nodes.as_slice(), unit)?;
         if measure.depth > MAX_NESTED + 1 {
             return Err(FlatFault::CallTooDeep);
         }

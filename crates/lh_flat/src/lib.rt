@@ -12,7 +12,6 @@ pub mod layout;
 pub mod measure;
 pub mod named;
 pub mod rename;
-pub mod search;
 
 pub use crate::fault::FlatFault;
 pub use crate::flat::{

@@ -1,9 +1,9 @@
 //! How deep calls nest, and how long a copy of a unit is.
-ghost use Rattle.std.specs.Prelude.{◌≡◌};
-ghost use Rattle.lh_flat.specs.Graph.{counted};
-ghost use Rattle.lh_flat.specs.Measures.{nothing, beside, around};
+ghost use Rattle.lh_flat.specs.Measures.{measuring};
 
 use crate::calls::{CallNode, counted};
+use lh_descent::Measured;
+use lh_unit::inst::UnitId;
 
 /// What is counted of copies of units: of one with all that is copied into it, or of some beside each other. Each number stands still
 /// at its type's end.
@@ -17,11 +17,18 @@ pub struct Measure {
     pub blocks: u32,
 }
 
-impl Measure {
+impl Measured for Measure {
+    type Node = CallNode;
+
+    ghost measuring = { measuring };
+
+    /// The functions that a unit calls.
+    fn targets(node: &CallNode) -> &[UnitId] {
+        node.callees.as_slice()
+    }
+
     /// No copy.
-    pub fn nothing() -> Measure
-        ensures { result ≡ nothing }
-    {
+    fn nothing() -> Measure {
         Measure {
             depth: 0,
             insts: 0,
@@ -30,9 +37,7 @@ impl Measure {
     }
 
     /// These copies, and others beside them.
-    pub fn beside(self, other: Measure) -> Measure
-        ensures { result ≡ beside self other }
-    {
+    fn beside(self, other: Measure) -> Measure {
         Measure {
             depth: self.depth.max(other.depth),
             insts: counted(self.insts, other.insts),
@@ -41,9 +46,7 @@ impl Measure {
     }
 
     /// A copy of a unit that has these in it.
-    pub fn around(self, unit: &CallNode) -> Measure
-        ensures { result ≡ around self unit.now }
-    {
+    fn around(self, unit: &CallNode) -> Measure {
         Measure {
             depth: counted(1, self.depth),
             insts: counted(unit.insts, self.insts),

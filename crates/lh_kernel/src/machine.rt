@@ -159,7 +159,7 @@ impl SimState<'_> {
         ensures states { self.new.states.items ≡ states_after self.old.states.items acts.items }
     {
         self.noted.leave(moves);
-        take_acts(self.alloc, &mut self.queue, &mut self.states, at, acts);
+        take_acts(&mut self.queue, &mut self.states, at, acts);
         self.last = Some(at);
     }
 }

@@ -11,11 +11,9 @@ use lh_queue::queue::Queue;
 use lh_queue::wish::Wish;
 use lh_states::state::InstState;
 use lh_time::Instant;
-use std::alloc::Global;
 
 /// Takes what the instances did at an instant: their wishes into the queue, and their states. It takes no memory.
 pub(crate) fn take_acts(
-    alloc: Global,
     queue: &mut Queue,
     states: &mut Vec<InstState>,
     at: Instant,
@@ -29,7 +27,7 @@ pub(crate) fn take_acts(
 {
     for done in acts {
         let Activation { instance, act } = done;
-        let (next, wishes) = act.into_parts(alloc);
+        let (next, wishes) = act.into_parts();
         put_wishes(queue, at, instance, wishes);
         set_state(states, instance, next);
     }

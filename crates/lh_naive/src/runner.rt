@@ -86,7 +86,7 @@ impl<'m> Runner<'m> {
         let Ok(outcomes) = Vec::from_slice(alloc, act.outcomes()) else {
             return Err(ExecFault::OutOfMemory);
         };
-        let (next, wish) = act.into_parts(alloc);
+        let (next, wish) = act.into_parts();
         self.state = next;
         Ok(Gave {
             wish,

@@ -1,5 +1,5 @@
 -- Parts of an instruction that are given ids one after another.
-use Rattle.std.proofs.Common.{◌≡◌, ℕ, ◌+◌, ◌<◌, List, [], ◌∷◌, ◌++◌, length, map, take, get_or, Ok, refl, ap, sym, ◌∙◌, subst, arith, add-one}
+use Rattle.std.proofs.Common.{◌≡◌, ℕ, ◌+◌, ◌<◌, List, [], ◌∷◌, ◌++◌, length, map, take, get_or, Ok, refl, ap, sym, ◌∙◌, subst, append_assoc, arith, add-one}
 use Rattle.std.proofs.Math.Seq.{take-suc}
 use Rattle.std.proofs.lemmas.List.{map-append}
 use Rattle.lh_unit.specs.Naming.{Naming, value_text, operand_text, trigger_text, edge_text}
@@ -55,6 +55,16 @@ module _ {X T : Type 0} {W : Sizes → X → Type 0} {text : Naming → X → T}
         says = ap (map (text (naming c u.0))) z ∙ map-append (text (naming c u.0)) xs (x ∷ [])
             ∙ (λ j. (still b c u.0 xs k p.within ∙ p.says) j ++ q.says j ∷ []) ∙ sym e;
       }
+
+  -- one part more, of those that are left
+  pub next-taken : {Y : Type 0} (said : Y → T) (a b c : Arena) (u : UnitId) (xs zs : List X) (x : X) (y : Y) (ys rest from : List Y)
+      → ((ts : List T) × AllPlaced W text a b u xs ts × (ts ++ map said ys ≡ map said from)) → ys ≡ y ∷ rest → Placed W text b c u x (said y) → zs ≡ xs ++ x ∷ []
+      → ((ts : List T) × AllPlaced W text a c u zs ts × (ts ++ map said rest ≡ map said from))
+  next-taken said a b c u xs zs x y ys rest from p f q z = (
+    p.0 ++ said y ∷ [],
+    next-placed a b c u xs zs x p.0 _ (said y) p.1 q z refl,
+    append_assoc p.0 (said y ∷ []) (map said rest) ∙ ap (λ l. p.0 ++ map said l) (sym f) ∙ p.2,
+  )
 
 -- an `inst`, whose unit is found before its operands
 pub child-placed : (a b c d : Arena) (u f : UnitId) (ins outs : List Typed) (n : UnitName) (ss rs : List OperandText) → FindsUnit (Ok f) a b n → OperandsPlaced b c u ins ss

@@ -9,6 +9,7 @@ ghost use Rattle.lh_scan.specs.LexemeOf.{unit_name_of};
 ghost use Rattle.lh_syntax.specs.SyntaxOf.{operand_of, operands_of, trigger_of, edge_of};
 ghost use Rattle.lh_read.specs.Placing.{ValuePlaced, MaybePlaced, LabelPlaced, OperandPlaced, TriggerPlaced, EdgePlaced, OperandsPlaced, TriggersPlaced, EdgesPlaced, SignalsPlaced};
 
+use crate::taken::Taken;
 use lh_scan::tokens::{NameText, UnitNameText};
 use lh_syntax::syntax::{EdgeSyntax, Operand, TriggerSyntax};
 use lh_types::list::ListOf;
@@ -91,10 +92,10 @@ pub fn operand(
     types: &mut SharedTypes,
     m: &mut Module,
     unit: UnitId,
-    from: &Operand,
+    from: Operand,
 ) -> Result<Typed, NoMemory>
     requires { unit.0 < unit_count m.old }
-    ensures { IfOk result (λ t. OperandPlaced m.old m.new unit t (operand_of from.now)) }
+    ensures { IfOk result (λ t. OperandPlaced m.old m.new unit t (operand_of from.entry)) }
 {
     let value = value_id(alloc, m, unit, &from.value)?;
     let ty = types.share(alloc, from.ty.as_ref())?;
@@ -141,13 +142,13 @@ pub fn operands(
     types: &mut SharedTypes,
     m: &mut Module,
     unit: UnitId,
-    from: &[Operand],
+    from: ListOf<Operand>,
 ) -> Result<TypedList, NoMemory>
     requires { unit.0 < unit_count m.old }
-    ensures { IfOk result (λ list. OperandsPlaced m.old m.new unit list (operands_of from.now)) }
+    ensures { IfOk result (λ list. OperandsPlaced m.old m.new unit list (operands_of from.entry)) }
 {
     let mut to = ListOf::with_room(alloc, from.len())?;
-    for one in from {
+    for one in Taken::new(from) {
         let placed = operand(alloc, types, m, unit, one)?;
         to.push(placed)?;
     }

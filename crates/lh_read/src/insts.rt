@@ -34,29 +34,29 @@ pub fn instruction(
 {
     match inst {
         InstSyntax::Const(value) => Ok(Inst::Const(value)),
-        InstSyntax::Pure { op, args } => pure(alloc, types, m, unit, op, args.as_slice()),
-        InstSyntax::Var(of) => Ok(Inst::Var(operand(alloc, types, m, unit, &of)?)),
-        InstSyntax::Ld(of) => Ok(Inst::Ld(operand(alloc, types, m, unit, &of)?)),
-        InstSyntax::St { to, value } => st(alloc, types, m, unit, &to, &value),
-        InstSyntax::Sig(of) => Ok(Inst::Sig(operand(alloc, types, m, unit, &of)?)),
-        InstSyntax::Prb(of) => Ok(Inst::Prb(operand(alloc, types, m, unit, &of)?)),
+        InstSyntax::Pure { op, args } => pure(alloc, types, m, unit, op, args),
+        InstSyntax::Var(of) => Ok(Inst::Var(operand(alloc, types, m, unit, of)?)),
+        InstSyntax::Ld(of) => Ok(Inst::Ld(operand(alloc, types, m, unit, of)?)),
+        InstSyntax::St { to, value } => st(alloc, types, m, unit, to, &value),
+        InstSyntax::Sig(of) => Ok(Inst::Sig(operand(alloc, types, m, unit, of)?)),
+        InstSyntax::Prb(of) => Ok(Inst::Prb(operand(alloc, types, m, unit, of)?)),
         InstSyntax::Drv {
             to,
             value,
             after,
             cond,
-        } => drv(alloc, types, m, unit, &to, &value, &after, &cond),
-        InstSyntax::Reg { to, triggers: by } => reg(alloc, types, m, unit, &to, by.as_slice()),
+        } => drv(alloc, types, m, unit, to, &value, &after, &cond),
+        InstSyntax::Reg { to, triggers: by } => reg(alloc, types, m, unit, to, by.as_slice()),
         InstSyntax::Child {
             unit: name,
             inputs,
             outputs,
-        } => child(alloc, types, m, unit, &name, &inputs, &outputs),
+        } => child(alloc, types, m, unit, &name, inputs, outputs),
         InstSyntax::Call {
             unit: name,
             result,
             args,
-        } => call(alloc, types, m, unit, &name, result, args.as_slice()),
+        } => call(alloc, types, m, unit, &name, result, args),
         InstSyntax::Phi { ty, edges: from } => phi(alloc, m, unit, ty, from.as_slice()),
         InstSyntax::Br(to) => Ok(Inst::Br(label_id(alloc, m, unit, &to)?)),
         InstSyntax::Branch { cond, zero, one } => branch(alloc, m, unit, &cond, &zero, &one),
@@ -66,7 +66,7 @@ pub fn instruction(
             signals: named,
         } => wait(alloc, m, unit, &to, &after, named.as_slice()),
         InstSyntax::Halt => Ok(Inst::Halt),
-        InstSyntax::Ret(of) => ret(alloc, types, m, unit, &of),
+        InstSyntax::Ret(of) => ret(alloc, types, m, unit, of),
     }
 }
 
@@ -76,10 +76,10 @@ fn pure(
     m: &mut Module,
     unit: UnitId,
     op: Op,
-    args: &[Operand],
+    args: ListOf<Operand>,
 ) -> Result<Inst, NoMemory>
     requires { unit.0 < unit_count m.old }
-    ensures { IfOk result (λ i. InstPlacedAs m.old m.new unit i (pure_text op (operands_of args.now))) }
+    ensures { IfOk result (λ i. InstPlacedAs m.old m.new unit i (pure_text op (operands_of args.entry))) }
 {
     let args = OperandList::from_list(operands(alloc, types, m, unit, args)?);
     Ok(Inst::Pure { op, args })
@@ -90,11 +90,11 @@ fn st(
     types: &mut SharedTypes,
     m: &mut Module,
     unit: UnitId,
-    to: &Operand,
+    to: Operand,
     value: &NameText,
 ) -> Result<Inst, NoMemory>
     requires { unit.0 < unit_count m.old }
-    ensures { IfOk result (λ i. InstPlacedAs m.old m.new unit i (st_text (operand_of to.now) value.now)) }
+    ensures { IfOk result (λ i. InstPlacedAs m.old m.new unit i (st_text (operand_of to.entry) value.now)) }
 {
     let to = operand(alloc, types, m, unit, to)?;
     let value = value_id(alloc, m, unit, value)?;
@@ -106,13 +106,13 @@ fn drv(
     types: &mut SharedTypes,
     m: &mut Module,
     unit: UnitId,
-    to: &Operand,
+    to: Operand,
     value: &NameText,
     after: &NameText,
     cond: &Option<NameText>,
 ) -> Result<Inst, NoMemory>
     requires { unit.0 < unit_count m.old }
-    ensures { IfOk result (λ i. InstPlacedAs m.old m.new unit i (drv_text (operand_of to.now) value.now after.now cond.now)) }
+    ensures { IfOk result (λ i. InstPlacedAs m.old m.new unit i (drv_text (operand_of to.entry) value.now after.now cond.now)) }
 {
     let to = operand(alloc, types, m, unit, to)?;
     let value = value_id(alloc, m, unit, value)?;
@@ -131,11 +131,11 @@ fn reg(
     types: &mut SharedTypes,
     m: &mut Module,
     unit: UnitId,
-    to: &Operand,
+    to: Operand,
     by: &[TriggerSyntax],
 ) -> Result<Inst, NoMemory>
     requires { unit.0 < unit_count m.old }
-    ensures { IfOk result (λ i. InstPlacedAs m.old m.new unit i (reg_text (operand_of to.now) (map trigger_of by.now))) }
+    ensures { IfOk result (λ i. InstPlacedAs m.old m.new unit i (reg_text (operand_of to.entry) (map trigger_of by.now))) }
 {
     let to = operand(alloc, types, m, unit, to)?;
     let triggers = triggers(alloc, m, unit, by)?;
@@ -148,15 +148,15 @@ fn child(
     m: &mut Module,
     unit: UnitId,
     name: &UnitNameText,
-    inputs: &ListOf<Operand>,
-    outputs: &ListOf<Operand>,
+    inputs: ListOf<Operand>,
+    outputs: ListOf<Operand>,
 ) -> Result<Inst, NoMemory>
     requires { unit.0 < unit_count m.old }
-    ensures { IfOk result (λ i. InstPlacedAs m.old m.new unit i (child_text (unit_name_of name.now) (operands_of inputs.now) (operands_of outputs.now))) }
+    ensures { IfOk result (λ i. InstPlacedAs m.old m.new unit i (child_text (unit_name_of name.now) (operands_of inputs.entry) (operands_of outputs.entry))) }
 {
     let of = unit_id(alloc, m, name)?;
-    let inputs = operands(alloc, types, m, unit, inputs.as_slice())?;
-    let outputs = operands(alloc, types, m, unit, outputs.as_slice())?;
+    let inputs = operands(alloc, types, m, unit, inputs)?;
+    let outputs = operands(alloc, types, m, unit, outputs)?;
     Ok(Inst::Child {
         unit: of,
         inputs,
@@ -171,10 +171,10 @@ fn call(
     unit: UnitId,
     name: &UnitNameText,
     ty: Ty,
-    args: &[Operand],
+    args: ListOf<Operand>,
 ) -> Result<Inst, NoMemory>
     requires { unit.0 < unit_count m.old }
-    ensures { IfOk result (λ i. InstPlacedAs m.old m.new unit i (call_text (unit_name_of name.now) ty (operands_of args.now))) }
+    ensures { IfOk result (λ i. InstPlacedAs m.old m.new unit i (call_text (unit_name_of name.now) ty (operands_of args.entry))) }
 {
     let of = unit_id(alloc, m, name)?;
     let args = operands(alloc, types, m, unit, args)?;
@@ -238,10 +238,10 @@ fn ret(
     types: &mut SharedTypes,
     m: &mut Module,
     unit: UnitId,
-    of: &Option<Operand>,
+    of: Option<Operand>,
 ) -> Result<Inst, NoMemory>
     requires { unit.0 < unit_count m.old }
-    ensures { IfOk result (λ i. InstPlacedAs m.old m.new unit i (ret_text (maybe_operand_of of.now))) }
+    ensures { IfOk result (λ i. InstPlacedAs m.old m.new unit i (ret_text (maybe_operand_of of.entry))) }
 {
     match of {
         Some(of) => Ok(Inst::Ret(Some(operand(alloc, types, m, unit, of)?))),

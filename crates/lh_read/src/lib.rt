@@ -15,6 +15,7 @@ mod insts;
 mod lines;
 mod places;
 mod reader;
+mod taken;
 mod units;
 
 use crate::faults::LineFault;

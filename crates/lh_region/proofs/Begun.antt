@@ -1,11 +1,15 @@
 -- A place begins: what is told there is what its edges join.
 use Rattle.std.proofs.Common.{◌≡◌, ◌≢◌, ℕ, zero, suc, ◌<◌, Bool, true, false, nat_eq, nat_lt, if◌then◌else◌, List, [], ◌∷◌, ◌++◌, length, map, Option, Some, None, slice_get, refl, ap, sym, ◌∙◌, subst, arith}
 use Rattle.std.specs.Option.{is_some, option_and_then, option_map, option_map_or}
+use Rattle.std.proofs.lemmas.Bool.{cond-true, cond-false}
+use Rattle.std.proofs.lemmas.Option.{slice_get_within}
+use Rattle.std.proofs.Math.Nat.{ne_of_lt}
 use Rattle.lh_types.specs.Types.{TypeTree}
 use Rattle.lh_unit.specs.Held.{front}
 use Rattle.lh_unit.specs.Typing.{or_else}
 use Rattle.lh_unit.specs.Within.{Each}
 use Rattle.lh_unit.proofs.Lists.{Same, same, other, same_or, nat_eq-refl, nat_eq-other, slice_get-push, some_inj}
+use Rattle.lh_unit.proofs.Within.{Each-more}
 use Rattle.lh_term.specs.Tree.{Tree}
 use Rattle.lh_term.specs.Types.{IsTyped, type_of}
 use Rattle.lh_term.specs.Arena.{StandsForTree}
@@ -20,19 +24,11 @@ use Rattle.lh_joins.specs.declared.edge.Edge.{Edge}
 use Rattle.lh_joins.specs.Joins.{AreConditions, edge_on, edges_on, after_first, chosen_by, on_conditions}
 use Rattle.lh_joins.proofs.Conditions.{stands-condition}
 use Rattle.lh_joins.proofs.Merged.{merged-by-conditions}
-use Rattle.lh_region.specs.declared.state.PlaceState.{PlaceState}
-use Rattle.lh_region.specs.Asked.{kept_by, kept_at, keeps, source_of, edges_at, sources, IsBelow, KnownTerms, AreOfOneType, Joins, IsJoin, Tells}
+use Rattle.lh_places.specs.declared.state.PlaceState.{PlaceState}
+use Rattle.lh_places.specs.Asked.{kept_by, kept_at, keeps, source_of, edges_at, sources, IsBelow, KnownTerms, AreOfOneType, Joins, IsJoin, Tells}
 use Rattle.lh_region.specs.Walking.{as_term, term_known, Story, TellsKnown, AreEdges}
 use Rattle.lh_region.specs.Begins.{told_by, with_place, AreOfType, CanBegin, IsBegun, StaysKnown, TellsJoined, BeginsJoined}
-use Rattle.lh_region.proofs.Placing.{each-map, kept-at, edges-of}
-
-if-true : {A : Type 0} (b : Bool) (x y : A) → b ≡ true → (if b then x else y) ≡ x
-if-true true x y e = refl
-if-true false x y e = cc
-
-if-false : {A : Type 0} (b : Bool) (x y : A) → b ≡ false → (if b then x else y) ≡ y
-if-false true x y e = cc
-if-false false x y e = refl
+use Rattle.lh_places.proofs.Placing.{kept-at, edges-of}
 
 -- ---- what edges join, under one name
 
@@ -162,33 +158,25 @@ push-length : (ps : List PlaceState) (p : PlaceState) → length (ps ++ p ∷ []
 push-length [] p = refl
 push-length (y ∷ ps) p = ap suc (push-length ps p)
 
-get-within : (ps : List PlaceState) (i : ℕ) (p : PlaceState) → slice_get ps i ≡ Some p → i < length ps
-get-within [] i p e = absurd cc
-get-within (y ∷ ps) zero p e = omega arith
-get-within (y ∷ ps) (suc i) p e = omega (arith, get-within ps i p e)
-
 sources-within : (ps : List PlaceState) (i : ℕ) → Each (IsBelow i) (sources ps i) → Each (IsBelow (length ps)) (sources ps i)
 sources-within ps i h = by (slice_get ps i) refl
   where
     by : (o : Option PlaceState) → slice_get ps i ≡ o → Each (IsBelow (length ps)) (sources ps i)
     by None e = subst (Each (IsBelow (length ps))) (sym (ap (λ (o : Option PlaceState). map source_of (option_map_or (λ (p : PlaceState). p.edges.items) o [])) e)) tt
-    by (Some p) e = let l = get-within ps i p e in each-map (IsBelow i) (IsBelow (length ps)) (sources ps i) (λ j k. omega (arith, l, k)) h
-
-below-other : (i n : ℕ) → i < n → i ≢ n
-below-other i n l e = omega (arith, l, e)
+    by (Some p) e = let l = slice_get_within ps i p e in Each-more (IsBelow i) (IsBelow (length ps)) (sources ps i) (λ j k. omega (arith, l, k)) h
 
 module _ (s : Story) (k : Knowledge) where
   abbrev told_now : KnownTerms
   told_now = (with_place s k).told
 
   pub told-old : (i v : ℕ) → i ≢ s.places → told_now i v ≡ s.told i v
-  told-old i v n = if-false (nat_eq i s.places) (told_by s k v) (s.told i v) (nat_eq-other i s.places n)
+  told-old i v n = cond-false (nat_eq i s.places) (told_by s k v) (s.told i v) (nat_eq-other i s.places n)
 
   pub told-new : (i v : ℕ) → i ≡ s.places → told_now i v ≡ told_by s k v
-  told-new i v e = if-true (nat_eq i s.places) (told_by s k v) (s.told i v) (subst (λ (j : ℕ). nat_eq i j ≡ true) e (nat_eq-refl i))
+  told-new i v e = cond-true (nat_eq i s.places) (told_by s k v) (s.told i v) (subst (λ (j : ℕ). nat_eq i j ≡ true) e (nat_eq-refl i))
 
   pub told-within : (v : ℕ) → v < s.values → told_by s k v ≡ term_known k (s.naming.value_name v)
-  told-within v l = if-true (nat_lt v s.values) (term_known k (s.naming.value_name v)) None (of_lt v s.values l)
+  told-within v l = cond-true (nat_lt v s.values) (term_known k (s.naming.value_name v)) None (of_lt v s.values l)
 
   pub told-some : (v : ℕ) (x : Tree) → told_by s k v ≡ Some x → (v < s.values) × (term_known k (s.naming.value_name v) ≡ Some x)
   told-some v x e = by (nat_lt v s.values) refl e
@@ -199,7 +187,7 @@ module _ (s : Story) (k : Knowledge) where
 
   told-sources : (v : ℕ) (es : List Edge) → Each (IsBelow s.places) (map source_of es) → map (λ (e : Edge). told_now e.from v) es ≡ map (λ (e : Edge). s.told e.from v) es
   told-sources v [] h = refl
-  told-sources v (e ∷ es) h = let a = told-old e.from v (below-other e.from s.places h.0) in let b = told-sources v es h.1 in λ i. a i ∷ b i
+  told-sources v (e ∷ es) h = let a = told-old e.from v (ne_of_lt {a = e.from} {b = s.places} h.0) in let b = told-sources v es h.1 in λ i. a i ∷ b i
 
   joins-old : (ns : List Node) (v : ℕ) (es : List Edge) (x : Tree) → Each (IsBelow s.places) (map source_of es) → Joins ns s.told v es x → Joins ns told_now v es x
   joins-old ns v es x h j = record { first = j.first; others = j.others; each = told-sources v es h ∙ j.each; alike = j.alike; gives = j.gives }
@@ -208,7 +196,7 @@ module _ (s : Story) (k : Knowledge) where
   known-new v l = told-new s.places v refl ∙ told-within v l
 
   known-old : StaysKnown s (with_place s k)
-  known-old i j l t v m = told-old i v (below-other i s.places l) ∙ t v m
+  known-old i j l t v m = told-old i v (ne_of_lt {a = i} {b = s.places} l) ∙ t v m
 
 -- what the edges give at the new place
 joins-new : (ns : List Node) (s : Story) (es : List Edge) (x : RegionEdge) (xs : List RegionEdge) → AreEdges ns s es (x ∷ xs) → CanBegin s (x ∷ xs) → (v : ℕ) (z : Tree)

@@ -15,12 +15,12 @@ use Rattle.lh_term.proofs.Swaps.{grows_on}
 use Rattle.lh_joins.specs.Joins.{AreMade}
 use Rattle.lh_joins.proofs.Conditions.{grows-none}
 use Rattle.lh_joins.proofs.Selecting.{made-grown, made-push}
-use Rattle.lh_region.specs.declared.state.PlaceState.{PlaceState}
+use Rattle.lh_places.specs.declared.state.PlaceState.{PlaceState}
 use Rattle.lh_region.specs.declared.taking.PlaceValue.{PlaceValue}
-use Rattle.lh_region.specs.Asked.{KnownTerms, Tells, CanAsk, SamePlaces, StillTold, IsTold}
+use Rattle.lh_places.specs.Asked.{KnownTerms, Tells, CanAsk, SamePlaces, StillTold, IsTold}
 use Rattle.lh_region.specs.Taken.{told_of, AllThere, CanAskAll, StillToldAll, AreTold, asks_at, IsOperation, IsOperated}
-use Rattle.lh_region.proofs.Placing.{same-length}
-use Rattle.lh_region.proofs.Telling.{made-trees, tells-grown}
+use Rattle.lh_places.proofs.Placing.{same-length}
+use Rattle.lh_places.proofs.Telling.{made-trees, tells-grown}
 
 -- ---- lists
 

@@ -1,6 +1,8 @@
 -- One more edge leads on from a place: the edges ahead by ids and those of the definition.
-use Rattle.std.proofs.Common.{◌≡◌, ◌≢◌, ℕ, ◌+◌, ◌<◌, ◌≤◌, Bool, true, false, ◌&&◌, nat_eq, nat_le, if◌then◌else◌, List, [], ◌∷◌, ◌++◌, refl, ap, sym, ◌∙◌, subst, arith}
+use Rattle.std.proofs.Common.{◌≡◌, ◌≢◌, ℕ, ◌+◌, ◌<◌, ◌≤◌, Bool, true, false, ◌&&◌, nat_eq, nat_le, if◌then◌else◌, List, [], ◌∷◌, ◌++◌, ap, sym, ◌∙◌, subst, arith}
 use Rattle.std.proofs.lemmas.Bool.Decides.{nat_tests}
+use Rattle.std.proofs.lemmas.Bool.{cond-true, cond-false}
+use Rattle.std.proofs.Math.Nat.{ne_of_lt}
 use Rattle.lh_unit.proofs.Lists.{Same, same, other, same_or, nat_eq-refl, nat_eq-other}
 use Rattle.lh_term.specs.Tree.{Tree}
 use Rattle.lh_term.specs.Arena.{Grows}
@@ -13,14 +15,6 @@ use Rattle.lh_joins.specs.declared.edge.Edge.{Edge}
 use Rattle.lh_region.specs.declared.ahead.Ahead.{Ahead}
 use Rattle.lh_region.specs.Ahead.{led_to, IsLedAlso}
 use Rattle.lh_region.specs.Walking.{Story, IsEdge, AreEdges, place_of, AreAhead, LeadsOn}
-
-if-true : {A : Type 0} (b : Bool) (x y : A) → b ≡ true → (if b then x else y) ≡ x
-if-true true x y e = refl
-if-true false x y e = cc
-
-if-false : {A : Type 0} (b : Bool) (x y : A) → b ≡ false → (if b then x else y) ≡ y
-if-false true x y e = cc
-if-false false x y e = refl
 
 -- ---- edges one by one
 
@@ -49,7 +43,7 @@ ahead-grown ns ms s turns block ahead xs g h = record {
 -- ---- the edges to a place, with one more edge
 
 to-yes : (p : RegionPlace) (xs : List RegionEdge) (x : RegionEdge) → is_place x.to p ≡ true → edges_to p (xs ++ x ∷ []) ≡ edges_to p xs ++ x ∷ []
-to-yes p [] x e = if-true (is_place x.to p) (x ∷ []) [] e
+to-yes p [] x e = cond-true (is_place x.to p) (x ∷ []) [] e
 to-yes p (y ∷ ys) x e = by (is_place y.to p) (to-yes p ys x e)
   where
     by : (b : Bool) → edges_to p (ys ++ x ∷ []) ≡ edges_to p ys ++ x ∷ [] → (if b then y ∷ edges_to p (ys ++ x ∷ []) else edges_to p (ys ++ x ∷ [])) ≡ (if b then y ∷ edges_to p ys else edges_to p ys)
@@ -58,7 +52,7 @@ to-yes p (y ∷ ys) x e = by (is_place y.to p) (to-yes p ys x e)
     by false h = h
 
 to-no : (p : RegionPlace) (xs : List RegionEdge) (x : RegionEdge) → is_place x.to p ≡ false → edges_to p (xs ++ x ∷ []) ≡ edges_to p xs
-to-no p [] x e = if-false (is_place x.to p) (x ∷ []) [] e
+to-no p [] x e = cond-false (is_place x.to p) (x ∷ []) [] e
 to-no p (y ∷ ys) x e = by (is_place y.to p) (to-no p ys x e)
   where
     by : (b : Bool) → edges_to p (ys ++ x ∷ []) ≡ edges_to p ys → (if b then y ∷ edges_to p (ys ++ x ∷ []) else edges_to p (ys ++ x ∷ [])) ≡ (if b then y ∷ edges_to p ys else edges_to p ys)
@@ -85,14 +79,14 @@ module _ (ns : List Node) (s : Story) (t a : ℕ) (old new : List (List Edge)) (
       here : a ≡ b → AreEdges ns s (led_to new b) (edges_to (place_of t b) (xs ++ x ∷ []))
       here k =
           let q : is_place x.to (place_of t b) ≡ true = ap (λ (p : RegionPlace). is_place p (place_of t b)) to ∙ subst (λ (c : ℕ). is_place (place_of t a) (place_of t c) ≡ true) k (same-place t a) in
-          let f : led_to new b ≡ led_to old b ++ e ∷ [] = also.led b ∙ if-true (nat_eq a b) (led_to old b ++ e ∷ []) (led_to old b) (subst (λ (c : ℕ). nat_eq a c ≡ true) k (nat_eq-refl a)) in
+          let f : led_to new b ≡ led_to old b ++ e ∷ [] = also.led b ∙ cond-true (nat_eq a b) (led_to old b ++ e ∷ []) (led_to old b) (subst (λ (c : ℕ). nat_eq a c ≡ true) k (nat_eq-refl a)) in
           subst (λ (ys : List Edge). AreEdges ns s ys (edges_to (place_of t b) (xs ++ x ∷ []))) (sym f)
           (subst (AreEdges ns s (led_to old b ++ e ∷ [])) (sym (to-yes (place_of t b) xs x q)) (edges-push ns s (led_to old b) (edges_to (place_of t b) xs) e x h i))
 
       off : a ≢ b → AreEdges ns s (led_to new b) (edges_to (place_of t b) (xs ++ x ∷ []))
       off n =
           let q : is_place x.to (place_of t b) ≡ false = ap (λ (p : RegionPlace). is_place p (place_of t b)) to ∙ other-block t a b n in
-          let f : led_to new b ≡ led_to old b = also.led b ∙ if-false (nat_eq a b) (led_to old b ++ e ∷ []) (led_to old b) (nat_eq-other a b n) in
+          let f : led_to new b ≡ led_to old b = also.led b ∙ cond-false (nat_eq a b) (led_to old b ++ e ∷ []) (led_to old b) (nat_eq-other a b n) in
           subst (λ (ys : List Edge). AreEdges ns s ys (edges_to (place_of t b) (xs ++ x ∷ []))) (sym f)
           (subst (AreEdges ns s (led_to old b)) (sym (to-no (place_of t b) xs x q)) h)
 
@@ -104,9 +98,6 @@ module _ (ns : List Node) (s : Story) (t a : ℕ) (old new : List (List Edge)) (
 stays : (t u a b : ℕ) (xs : List RegionEdge) (x : RegionEdge) → x.to ≡ place_of t a → t ≢ u → edges_to (place_of u b) (xs ++ x ∷ []) ≡ edges_to (place_of u b) xs
 stays t u a b xs x to n = to-no (place_of u b) xs x (ap (λ (p : RegionPlace). is_place p (place_of u b)) to ∙ other-turn t u a b n)
 
-less-other : (a b : ℕ) → a < b → a ≢ b
-less-other a b l e = omega (arith, l, e)
-
 more-other : (a b : ℕ) → b < a → a ≢ b
 more-other a b l e = omega (arith, l, e)
 
@@ -115,9 +106,9 @@ module _ (ns : List Node) (s : Story) (turns block a : ℕ) (old new : Ahead) (x
   ahead-here also k to = record {
     here = λ b l. led-more ns s turns a old.here.items new.here.items xs e x also i to b (h.here b l);
     next = λ b.
-        subst (AreEdges ns s (led_to new.next.items b)) (sym (stays turns (turns + 1) a b xs x to (less-other turns (turns + 1) (omega arith))))
+        subst (AreEdges ns s (led_to new.next.items b)) (sym (stays turns (turns + 1) a b xs x to (ne_of_lt {a = turns} {b = turns + 1} (omega arith))))
         (subst (λ (ys : List Edge). AreEdges ns s ys (edges_to (place_of (turns + 1) b) xs)) (λ j. led_to (sym k j).items b) (h.next b));
-    last = λ t b l. stays turns t a b xs x to (less-other turns t (omega (arith, l))) ∙ h.last t b l;
+    last = λ t b l. stays turns t a b xs x to (ne_of_lt {a = turns} {b = t} (omega (arith, l))) ∙ h.last t b l;
   }
 
   ahead-next : new.here ≡ old.here → IsLedAlso old.next.items a e new.next.items → x.to ≡ place_of (turns + 1) a → AreAhead ns s turns block new (xs ++ x ∷ [])
@@ -126,7 +117,7 @@ module _ (ns : List Node) (s : Story) (turns block a : ℕ) (old new : Ahead) (x
         subst (AreEdges ns s (led_to new.here.items b)) (sym (stays (turns + 1) turns a b xs x to (more-other (turns + 1) turns (omega arith))))
         (subst (λ (ys : List Edge). AreEdges ns s ys (edges_to (place_of turns b) xs)) (λ j. led_to (sym k j).items b) (h.here b l));
     next = λ b. led-more ns s (turns + 1) a old.next.items new.next.items xs e x also i to b (h.next b);
-    last = λ t b l. stays (turns + 1) t a b xs x to (less-other (turns + 1) t l) ∙ h.last t b l;
+    last = λ t b l. stays (turns + 1) t a b xs x to (ne_of_lt {a = turns + 1} {b = t} l) ∙ h.last t b l;
   }
 
 -- ---- where the definition goes
@@ -146,7 +137,7 @@ next-turn p t b a e l = ap (λ (q : RegionPlace). next_place q a) e ∙ ap (λ (
 goes-on : (g : Region) (h : Here) (c : Tree) (m : Midst) (b : ℕ) → (g.ends_at_head && nat_eq b g.head) ≡ false
     → (goes g h c m b).edges ≡ m.edges ++ record { to = next_place h.place b; from = h.label; cond = c; known = m.known } ∷ []
 goes-on g h c m b e = ap (λ (x : Midst). x.edges)
-    (if-false (g.ends_at_head && nat_eq b g.head) _ (record m { edges = m.edges ++ record { to = next_place h.place b; from = h.label; cond = c; known = m.known } ∷ [] }) e)
+    (cond-false (g.ends_at_head && nat_eq b g.head) _ (record m { edges = m.edges ++ record { to = next_place h.place b; from = h.label; cond = c; known = m.known } ∷ [] }) e)
 
 pub leads-here : (old new : Ahead) (turns b : ℕ) (e : Edge) → e.block < b → IsLedAlso old.here.items b e new.here.items → new.next ≡ old.next → LeadsOn old turns b e new
 leads-here old new turns b e l also k ns s g h c m p q w o st t n a =
@@ -159,10 +150,3 @@ leads-next old new turns b e l k also ns s g h c m p q w o st t n a =
     let x : RegionEdge = record { to = next_place h.place b; from = h.label; cond = c; known = m.known } in
     let i : IsEdge ns s e x = record { within = w; of_text = o; block = sym q; cond = st; told = t } in
     subst (AreAhead ns s turns (e.block + 1) new) (sym (goes-on g h c m b n)) (ahead-next ns s turns (e.block + 1) b old new m.edges e x i a k also (next-turn h.place turns e.block b p l))
-
--- the turns of where an edge leads
-pub turns-here : (t b a : ℕ) → b < a → (next_place (place_of t b) a).turns ≡ t
-turns-here t b a l = ap (λ (p : RegionPlace). p.turns) (next-here (place_of t b) t b a refl l)
-
-pub turns-next : (t b a : ℕ) → a ≤ b → (next_place (place_of t b) a).turns ≡ t + 1
-turns-next t b a l = ap (λ (p : RegionPlace). p.turns) (next-turn (place_of t b) t b a refl l)

@@ -2,6 +2,7 @@
 use Rattle.std.proofs.Common.{◌≡◌, ℕ, zero, suc, ◌+◌, ◌<◌, List, [], ◌∷◌, length, map, Bool, true, false, ◌||◌, nat_eq, if◌then◌else◌, Option, Some, None, unwrap_or, refl, ap, sym, ◌∙◌, subst, arith}
 use Rattle.std.specs.List.{list_any}
 use Rattle.std.specs.Option.{option_map, option_and_then}
+use Rattle.std.proofs.Math.Bool.{or-false}
 use Rattle.lh_unit.specs.Contents.{LineText, same_name}
 use Rattle.lh_unit.specs.Places as places
 use Rattle.lh_unit.specs.Naming.{Naming, inst_text}
@@ -56,16 +57,12 @@ leads-text f (l ∷ m ∷ more) h = by-next f l.inst (rows.leads_on (map (flat_l
 
 -- ---- what leads to the entry
 
-or-none : (b : Bool) → (b || false) ≡ b
-or-none true = refl
-or-none false = refl
-
 inst-leads : (f : Naming) (n : ℕ) (i : Inst) → LabelsDiffer f n → 0 < n → LeadsWithin n i → list_any (same_name (f.label_name 0)) (places.leads_to (inst_text f i)) ≡ leads_to entry_id i
-inst-leads f n (inst.Br to) d z h = or-none (same_name (f.label_name 0) (f.label_name to.0)) ∙ label-same f n 0 to.0 d z h
+inst-leads f n (inst.Br to) d z h = or-false (same_name (f.label_name 0) (f.label_name to.0)) ∙ label-same f n 0 to.0 d z h
 inst-leads f n (inst.Branch cond first second) d z h =
-    ap (λ (b : Bool). same_name (f.label_name 0) (f.label_name first.0) || b) (or-none (same_name (f.label_name 0) (f.label_name second.0)))
+    ap (λ (b : Bool). same_name (f.label_name 0) (f.label_name first.0) || b) (or-false (same_name (f.label_name 0) (f.label_name second.0)))
     ∙ (λ i. label-same f n 0 first.0 d z h.0 i || label-same f n 0 second.0 d z h.1 i)
-inst-leads f n (inst.Wait to after signals) d z h = or-none (same_name (f.label_name 0) (f.label_name to.0)) ∙ label-same f n 0 to.0 d z h
+inst-leads f n (inst.Wait to after signals) d z h = or-false (same_name (f.label_name 0) (f.label_name to.0)) ∙ label-same f n 0 to.0 d z h
 inst-leads f n (inst.Ret None) d z h = refl
 inst-leads f n (inst.Ret (Some t)) d z h = refl
 inst-leads f n _ d z h = refl
@@ -103,7 +100,7 @@ number-of f n j (suc i) (b ∷ more) d e l =
     one-more = omega arith
 
 -- where instructions lead is a block
-leads-within : (n : ℕ) (ls : List FlatInst) (b : BlockId) → Each (λ (l : FlatInst). LeadsWithin n l.inst) ls → leads_on ls ≡ Some b → b.0 < n
+pub leads-within : (n : ℕ) (ls : List FlatInst) (b : BlockId) → Each (λ (l : FlatInst). LeadsWithin n l.inst) ls → leads_on ls ≡ Some b → b.0 < n
 leads-within n [] b h e = cc
 leads-within n (l ∷ more) b h e = by l.inst h.0 e (λ x. leads-within n more b h.1 x)
   where

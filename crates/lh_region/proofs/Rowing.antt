@@ -1,5 +1,5 @@
 -- Rows as terms are made, and with one more of each kind.
-use Rattle.std.proofs.Common.{◌≡◌, ℕ, Bool, true, false, if◌then◌else◌, List, [], ◌∷◌, ◌++◌, Some, refl, ap, sym, ◌∙◌, subst}
+use Rattle.std.proofs.Common.{◌≡◌, ℕ, Bool, false, if◌then◌else◌, List, [], ◌∷◌, ◌++◌, Some, refl, ap, sym, ◌∙◌, subst}
 use Rattle.std.specs.Option.{is_some}
 use Rattle.lh_unit.specs.declared.inst.Typed.{Typed}
 use Rattle.lh_term.specs.Tree.{Tree}
@@ -12,13 +12,13 @@ use Rattle.lh_term.proofs.Swaps.{stands_grown, tree_grown, in_grown, grows_on}
 use Rattle.lh_rows.specs.Rows as text
 use Rattle.lh_rows.specs.Places.{Midst}
 use Rattle.lh_joins.specs.Joins.{IsConditionAt, AreMade}
-use Rattle.lh_region.specs.declared.state.PlaceState.{PlaceState}
+use Rattle.lh_places.specs.declared.state.PlaceState.{PlaceState}
 use Rattle.lh_region.specs.declared.rows.Rows.{Rows}
 use Rattle.lh_region.specs.declared.rows.DriveRow.{DriveRow}
 use Rattle.lh_region.specs.declared.rows.EndRow.{EndRow}
 use Rattle.lh_region.specs.declared.rows.Way.{Way}
 use Rattle.lh_region.specs.declared.effects.DriveAt.{DriveAt}
-use Rattle.lh_region.specs.Asked.{CanAsk, StillTold, IsTold}
+use Rattle.lh_places.specs.Asked.{CanAsk, StillTold, IsTold}
 use Rattle.lh_region.specs.Taken.{asks_at, AreTold}
 use Rattle.lh_region.specs.Stands.{IsDrive, AreDrives, AreTerms, IsEnd, AreEnds, AreRows, way_text}
 use Rattle.lh_region.specs.Effects.{CanDrive, StillDriven, IsProbed, IsDriven, AreAsserted, IsEnded, IsWithAsserts}
@@ -56,7 +56,7 @@ rows-grown ns ms r x g h = record {
 
 -- ---- one more row
 
-drives-push : (ns : List Node) (ds : List DriveRow) (xs : List text.Drive) (d : DriveRow) (x : text.Drive) → AreDrives ns ds xs → IsDrive ns d x → AreDrives ns (ds ++ d ∷ []) (xs ++ x ∷ [])
+pub drives-push : (ns : List Node) (ds : List DriveRow) (xs : List text.Drive) (d : DriveRow) (x : text.Drive) → AreDrives ns ds xs → IsDrive ns d x → AreDrives ns (ds ++ d ∷ []) (xs ++ x ∷ [])
 drives-push ns [] [] d x h i = (i, tt)
 drives-push ns [] (y ∷ ys) d x h i = absurd h
 drives-push ns (e ∷ es) [] d x h i = absurd h
@@ -97,10 +97,6 @@ probed-more ns ms r q p g e d a n h result m s =
 -- the rows after a drive, whether or not it ever happens
 abbrev after_drive : Bool → Midst → text.Drive → text.Rows
 after_drive b m d = (if b then m else record m { rows = record m.rows { drives = m.rows.drives ++ d ∷ [] } }).rows
-
-pub driven-never : (ns : List Node) (ps : List PlaceState) (r : Rows) (d : DriveAt) (p : Part) → is_zero (tree_at (trees ns) d.cond) ≡ true → IsDriven ns ps r ns r d p
-driven-never ns ps r d p z told x y m t hx hy s =
-    subst (λ (b : Bool). AreRows ns r (after_drive b m (record { cond = tree_at (trees ns) d.cond; part = p; value = x; delay = y }))) (sym z) s
 
 module _ (ns ms : List Node) (ps qs : List PlaceState) (d : DriveAt) (t : TermId) (g : Grows ns ms) (still : StillTold ns ps ms qs d.value d.place) (told : IsTold ns ps ms d.value d.place t) where
   pub delay-asked : CanDrive ns ps d → CanAsk ms qs d.after d.place

@@ -7,16 +7,15 @@ use Rattle.lh_term.specs.Arena.{Grows}
 use Rattle.lh_term.specs.declared.term.TermId.{TermId}
 use Rattle.lh_term.specs.declared.term.Node.{Node}
 use Rattle.lh_term.proofs.Swaps.{stands_grown, grows_on}
-use Rattle.lh_joins.proofs.Conditions.{grows-none}
-use Rattle.lh_region.specs.declared.state.PlaceState.{PlaceState}
-use Rattle.lh_region.specs.Asked.{kept_by}
+use Rattle.lh_places.specs.declared.state.PlaceState.{PlaceState}
+use Rattle.lh_places.specs.Asked.{kept_by}
 use Rattle.lh_region.specs.Starts.{constant_as, constant_given, StandsMaybe, KnowsConstants, IsTaken, TakesConstant}
 
 else-none : (o : Option Tree) → or_else o None ≡ o
 else-none None = refl
 else-none (Some x) = refl
 
-else-else : (a b c : Option Tree) → or_else (or_else a b) c ≡ or_else a (or_else b c)
+pub else-else : (a b c : Option Tree) → or_else (or_else a b) c ≡ or_else a (or_else b c)
 else-else None b c = refl
 else-else (Some x) b c = refl
 
@@ -41,9 +40,6 @@ pub record StartSoFar (old now : List Node) (first p : PlaceState) (seen : List 
   pub edges : p.edges ≡ first.edges
   pub selectors : p.selectors ≡ first.selectors
   pub known : KnowsConstants now p seen
-
-pub start-none : (ns : List Node) (p : PlaceState) → ((v : ℕ) → kept_by v p ≡ None) → StartSoFar ns ns p p []
-start-none ns p h = record { grows = grows-none ns; block = refl; edges = refl; selectors = refl; known = λ v. subst (λ (o : Option TermId). StandsMaybe ns o None) (sym (h v)) tt }
 
 pub start-next : (old now new : List Node) (first p q : PlaceState) (seen after : List FlatInst) (l : FlatInst) → after ≡ seen ++ l ∷ [] → Grows now new → TakesConstant new p l q
     → StartSoFar old now first p seen → StartSoFar old new first q after

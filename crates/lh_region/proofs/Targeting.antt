@@ -1,5 +1,5 @@
 -- The one block for which all ends wait, by the ways in which they end.
-use Rattle.std.proofs.Common.{◌≡◌, ◌<◌, ◌≤◌, ◌+◌, ℕ, List, [], ◌∷◌, length, map, drop, get_or, Bool, true, ◌&&◌, Some, None, refl, ap, sym, ◌∙◌, subst}
+use Rattle.std.proofs.Common.{◌≡◌, ◌<◌, ◌≤◌, ◌+◌, ℕ, List, [], ◌∷◌, length, map, drop, get_or, Bool, true, ◌&&◌, Some, refl, ap, sym, ◌∙◌, subst}
 use Rattle.std.proofs.lemmas.List.{drop_all}
 use Rattle.lh_unit.proofs.Lists.{drop-item}
 use Rattle.std.specs.List.{list_all}
@@ -34,9 +34,6 @@ target-is w vs = λ i. option_and_then (λ (n : ℕ). texts.target_if (alike-way
 pub target-by-ways : TargetByWays
 target-by-ways [] = refl
 target-by-ways (e ∷ es) = (λ i. option_and_then (λ (n : ℕ). texts.target_if (alike-ends n e.way es i) n) (texts.waits_for e.way)) ∙ sym (target-is e.way (map (λ (x : text.RegionEnd). x.way) es))
-
-pub target-none : (w : text.Way) (vs : List text.Way) → texts.waits_for w ≡ None → target_by (w ∷ vs) ≡ None
-target-none w vs e = target-is w vs ∙ ap (option_and_then (λ (n : ℕ). texts.target_if (all_alike n w vs) n)) e
 
 pub target-some : (w : text.Way) (vs : List text.Way) (n : ℕ) (b : Bool) → texts.waits_for w ≡ Some n → all_alike n w vs ≡ b → target_by (w ∷ vs) ≡ texts.target_if b n
 target-some w vs n b e h = target-is w vs ∙ ap (option_and_then (λ (n : ℕ). texts.target_if (all_alike n w vs) n)) e ∙ ap (λ (x : Bool). texts.target_if x n) h

@@ -1,46 +1,34 @@
 -- The last place gives a term to a value or a variable.
-use Rattle.std.proofs.Common.{◌≡◌, ◌≢◌, ℕ, zero, suc, ◌+◌, ◌<◌, Bool, true, false, ◌&&◌, nat_eq, if◌then◌else◌, List, [], ◌∷◌, length, map, Option, Some, None, slice_get, refl, ap, sym, ◌∙◌, subst, arith}
+use Rattle.std.proofs.Common.{◌≡◌, ◌≢◌, ℕ, ◌+◌, ◌<◌, Bool, true, false, ◌&&◌, nat_eq, if◌then◌else◌, List, [], ◌∷◌, length, map, Option, Some, None, slice_get, refl, ap, sym, ◌∙◌, subst, arith}
 use Rattle.std.specs.Option.{is_some, option_and_then, option_map_or}
+use Rattle.std.proofs.lemmas.Bool.{cond-true, cond-false}
+use Rattle.std.proofs.lemmas.Option.{slice_get_within}
+use Rattle.std.proofs.Math.Nat.{ne_of_gt}
 use Rattle.lh_unit.specs.Contents.{same_name}
 use Rattle.lh_unit.specs.Within.{Each}
 use Rattle.lh_unit.proofs.Lists.{Same, same, other, same_or, nat_eq-refl, nat_eq-other}
 use Rattle.lh_unit.proofs.Tables.{same_name-is, same_name-refl}
+use Rattle.lh_unit.proofs.Within.{Each-more}
 use Rattle.lh_term.specs.Tree.{Tree}
 use Rattle.lh_term.specs.Arena.{StandsForTree}
 use Rattle.lh_term.specs.declared.term.TermId.{TermId}
 use Rattle.lh_term.specs.declared.term.Node.{Node}
 use Rattle.lh_rows.specs.Known.{Known, Knowledge, with_known}
 use Rattle.lh_joins.specs.declared.edge.Edge.{Edge}
-use Rattle.lh_region.specs.declared.state.PlaceState.{PlaceState}
-use Rattle.lh_region.specs.Asked.{kept_at, keeps, source_of, edges_at, sources, IsBelow, KnownTerms, Joins, Tells, SamePlaces, IsWithAt}
+use Rattle.lh_places.specs.declared.state.PlaceState.{PlaceState}
+use Rattle.lh_places.specs.Asked.{kept_at, keeps, source_of, edges_at, sources, IsBelow, KnownTerms, Joins, Tells, SamePlaces, IsWithAt}
 use Rattle.lh_region.specs.Walking.{as_term, term_known, Story, TellsKnown}
 use Rattle.lh_region.specs.Gives.{with_term, ValuesDiffer, GivesTerm}
-use Rattle.lh_region.proofs.Placing.{each-map, same-edges, same-sources, Kept, new_one, old_one, kept-with, with-same}
-use Rattle.lh_region.proofs.Telling.{places-replaced, with-join}
-
-if-true : {A : Type 0} (b : Bool) (x y : A) → b ≡ true → (if b then x else y) ≡ x
-if-true true x y e = refl
-if-true false x y e = cc
-
-if-false : {A : Type 0} (b : Bool) (x y : A) → b ≡ false → (if b then x else y) ≡ y
-if-false true x y e = cc
-if-false false x y e = refl
+use Rattle.lh_places.proofs.Placing.{same-edges, same-sources, Kept, new_one, old_one, kept-with, with-same}
+use Rattle.lh_places.proofs.Telling.{places-replaced, with-join}
 
 -- the sources of a place are below the last one
-get-within : (ps : List PlaceState) (i : ℕ) (p : PlaceState) → slice_get ps i ≡ Some p → i < length ps
-get-within [] i p e = absurd cc
-get-within (y ∷ ps) zero p e = omega arith
-get-within (y ∷ ps) (suc i) p e = omega (arith, get-within ps i p e)
-
 sources-last : (ps : List PlaceState) (i j : ℕ) → i + 1 ≡ length ps → Each (IsBelow j) (sources ps j) → Each (IsBelow i) (sources ps j)
 sources-last ps i j n h = by (slice_get ps j) refl
   where
     by : (o : Option PlaceState) → slice_get ps j ≡ o → Each (IsBelow i) (sources ps j)
     by None e = subst (Each (IsBelow i)) (sym (ap (λ (o : Option PlaceState). map source_of (option_map_or (λ (p : PlaceState). p.edges.items) o [])) e)) tt
-    by (Some p) e = let l = get-within ps j p e in each-map (IsBelow j) (IsBelow i) (sources ps j) (λ m k. omega (arith, l, k, n)) h
-
-below-other : (i n : ℕ) → i < n → n ≢ i
-below-other i n l e = omega (arith, l, e)
+    by (Some p) e = let l = slice_get_within ps j p e in Each-more (IsBelow j) (IsBelow i) (sources ps j) (λ m k. omega (arith, l, k, n)) h
 
 module _ (s : Story) (i v : ℕ) (x : Tree) where
   abbrev told_now : KnownTerms
@@ -50,15 +38,15 @@ module _ (s : Story) (i v : ℕ) (x : Tree) where
   told-given j w e f =
       let a : nat_eq i j ≡ true = subst (λ (m : ℕ). nat_eq i m ≡ true) e (nat_eq-refl i) in
       let b : nat_eq v w ≡ true = subst (λ (m : ℕ). nat_eq v m ≡ true) f (nat_eq-refl v) in
-      if-true (nat_eq i j && nat_eq v w) (Some x) (s.told j w) (ap (λ (c : Bool). c && nat_eq v w) a ∙ b)
+      cond-true (nat_eq i j && nat_eq v w) (Some x) (s.told j w) (ap (λ (c : Bool). c && nat_eq v w) a ∙ b)
 
   told-place : (j w : ℕ) → i ≢ j → told_now j w ≡ s.told j w
-  told-place j w n = if-false (nat_eq i j && nat_eq v w) (Some x) (s.told j w) (ap (λ (c : Bool). c && nat_eq v w) (nat_eq-other i j n))
+  told-place j w n = cond-false (nat_eq i j && nat_eq v w) (Some x) (s.told j w) (ap (λ (c : Bool). c && nat_eq v w) (nat_eq-other i j n))
 
   told-value : (j w : ℕ) → i ≡ j → v ≢ w → told_now j w ≡ s.told j w
   told-value j w e n =
       let a : nat_eq i j ≡ true = subst (λ (m : ℕ). nat_eq i m ≡ true) e (nat_eq-refl i) in
-      if-false (nat_eq i j && nat_eq v w) (Some x) (s.told j w) (ap (λ (c : Bool). c && nat_eq v w) a ∙ nat_eq-other v w n)
+      cond-false (nat_eq i j && nat_eq v w) (Some x) (s.told j w) (ap (λ (c : Bool). c && nat_eq v w) a ∙ nat_eq-other v w n)
 
   told-else : (j w : ℕ) → (v ≡ w → i ≡ j → ⊥) → told_now j w ≡ s.told j w
   told-else j w n = by (same_or i j) (same_or v w)
@@ -70,7 +58,7 @@ module _ (s : Story) (i v : ℕ) (x : Tree) where
 
   told-sources : (w : ℕ) (es : List Edge) → Each (IsBelow i) (map source_of es) → map (λ (e : Edge). told_now e.from w) es ≡ map (λ (e : Edge). s.told e.from w) es
   told-sources w [] h = refl
-  told-sources w (e ∷ es) h = let a = told-place e.from w (below-other e.from i h.0) in let b = told-sources w es h.1 in λ k. a k ∷ b k
+  told-sources w (e ∷ es) h = let a = told-place e.from w (ne_of_gt {a = i} {b = e.from} h.0) in let b = told-sources w es h.1 in λ k. a k ∷ b k
 
   joins-still : (ns : List Node) (w : ℕ) (es : List Edge) (y : Tree) → Each (IsBelow i) (map source_of es) → Joins ns s.told w es y → Joins ns told_now w es y
   joins-still ns w es y h j = record { first = j.first; others = j.others; each = told-sources w es h ∙ j.each; alike = j.alike; gives = j.gives }
@@ -83,7 +71,7 @@ module _ (s : Story) (i v : ℕ) (x : Tree) where
       here f =
           let g : same_name (s.naming.value_name v) (s.naming.value_name w)
           ≡ true = subst (λ (u : ℕ). same_name (s.naming.value_name v) (s.naming.value_name u) ≡ true) f (same_name-refl (s.naming.value_name v)) in
-          told-given i w refl f ∙ sym e ∙ sym (ap (option_and_then as_term) (if-true (same_name (s.naming.value_name v) (s.naming.value_name w)) (Some a) (k (s.naming.value_name w)) g))
+          told-given i w refl f ∙ sym e ∙ sym (ap (option_and_then as_term) (cond-true (same_name (s.naming.value_name v) (s.naming.value_name w)) (Some a) (k (s.naming.value_name w)) g))
 
       differs : v ≢ w → (b : Bool) → same_name (s.naming.value_name v) (s.naming.value_name w) ≡ b → told_now i w ≡ option_and_then as_term (if b then Some a else k (s.naming.value_name w))
       differs q true g = absurd (q (d v w l m (same_name-is (s.naming.value_name v) (s.naming.value_name w) g)))
@@ -120,5 +108,5 @@ pub gives-term : (ps qs : List PlaceState) (i v : ℕ) (t : TermId) → IsWithAt
 gives-term ps qs i v t w ns s k a x tells count last l d e st known = record {
   tells = tells-given ns ps qs s i v t x w tells (last ∙ count) st;
   known = known-given s i v x k a l d e known;
-  before = λ j u m. told-place s i v x j u (below-other j i m);
+  before = λ j u m. told-place s i v x j u (ne_of_gt {a = i} {b = j} m);
 }

@@ -9,8 +9,8 @@ use Rattle.lh_rows.specs.Known.{Knowledge}
 use Rattle.lh_rows.specs.Joins.{RegionEdge, joined}
 use Rattle.lh_rows.specs.Typed.{IsCondition}
 use Rattle.lh_joins.specs.declared.edge.Edge.{Edge}
-use Rattle.lh_region.specs.declared.state.PlaceState.{PlaceState}
-use Rattle.lh_region.specs.Asked.{kept_by, Tells}
+use Rattle.lh_places.specs.declared.state.PlaceState.{PlaceState}
+use Rattle.lh_places.specs.Asked.{kept_by, Tells}
 use Rattle.lh_region.specs.Walking.{Story, term_known, TellsKnown, AreEdges}
 
 -- what is told of a value where this is known under the names of values

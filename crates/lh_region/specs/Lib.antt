@@ -1,15 +1,10 @@
-pub mod Above
 pub mod Ahead
-pub mod Asked
 pub mod Begins
 pub mod Branches
 pub mod Effects
 pub mod Forms
 pub mod Gives
 pub mod Heads
-pub mod Keepers
-pub mod Keeping
-pub mod Lacking
 pub mod Operands
 pub mod Stands
 pub mod Starts

@@ -13,8 +13,8 @@ use Rattle.lh_term.specs.Types.{FitsTerm}
 use Rattle.lh_term.specs.Arena.{StandsForTree}
 use Rattle.lh_term.specs.declared.term.TermId.{TermId}
 use Rattle.lh_term.specs.declared.term.Node.{Node}
-use Rattle.lh_region.specs.declared.state.PlaceState.{PlaceState}
-use Rattle.lh_region.specs.Asked.{kept_by}
+use Rattle.lh_places.specs.declared.state.PlaceState.{PlaceState}
+use Rattle.lh_places.specs.Asked.{kept_by}
 
 -- the constant that an instruction is
 abbrev pub constant_in : Inst → Option Tree

@@ -13,7 +13,7 @@ use Rattle.lh_rows.specs.Regions.{edges_to, edges_of_ends}
 use Rattle.lh_joins.specs.declared.edge.Edge.{Edge}
 use Rattle.lh_region.specs.declared.ahead.Ahead.{Ahead}
 use Rattle.lh_region.specs.Ahead.{led_to}
-use Rattle.lh_region.specs.Asked.{KnownTerms}
+use Rattle.lh_places.specs.Asked.{KnownTerms}
 
 -- the term of a value, or of what a variable holds; of a part there is none
 abbrev pub as_term : Known → Option Tree

@@ -5,8 +5,8 @@ ghost use Rattle.lh_flat.specs.declared.flat.FlatInst.{FlatInst as Line};
 ghost use Rattle.lh_term.specs.Arena.{Grows};
 ghost use Rattle.lh_region.specs.Starts.{GivenFits, lines_left, KnowsConstants, TakesConstant};
 
-use crate::state::PlaceState;
 use lh_flat::{Flat, FlatInst};
+use lh_places::state::PlaceState;
 use lh_term::terms::Terms;
 use lh_types::ty::NoMemory;
 use lh_unit::inst::Inst;

@@ -27,6 +27,7 @@ use Rattle.lh_joins.specs.Joins.{IsConditionAt, edge_on}
 use Rattle.lh_joins.proofs.Conditions.{condition-grown, stands-condition, grows-none}
 use Rattle.lh_region.specs.Stands.{IsDrive, AreDrives}
 use Rattle.lh_region.specs.declared.rows.DriveRow.{DriveRow}
+use Rattle.lh_region.proofs.Rowing.{drives-grown, drives-push}
 use Rattle.lh_shape.specs.Merging.{are_alike, merged_from}
 use Rattle.lh_shape.specs.Merged.{MergesDriveIf, MergesDrive}
 use Rattle.lh_shape.specs.ByIds.{drive_at, drives_at, DriveFits, DrivesFit}
@@ -65,18 +66,6 @@ is-grown old new d x g h = record {
   value = stands_grown old new g d.value x.value h.value;
   delay = stands_grown old new g d.delay x.delay h.delay;
 }
-
-pub drives-grown : (old new : List Node) (ds : List DriveRow) (xs : List text.Drive) → Grows old new → AreDrives old ds xs → AreDrives new ds xs
-drives-grown old new [] [] g h = tt
-drives-grown old new [] (x ∷ xs) g h = absurd h
-drives-grown old new (d ∷ ds) [] g h = absurd h
-drives-grown old new (d ∷ ds) (x ∷ xs) g h = (is-grown old new d x g h.0, drives-grown old new ds xs g h.1)
-
-drives-push : (ns : List Node) (ds : List DriveRow) (xs : List text.Drive) (d : DriveRow) (x : text.Drive) → AreDrives ns ds xs → IsDrive ns d x → AreDrives ns (ds ++ d ∷ []) (xs ++ x ∷ [])
-drives-push ns [] [] d x h k = (k, tt)
-drives-push ns [] (y ∷ ys) d x h k = absurd h
-drives-push ns (e ∷ ds) [] d x h k = absurd h
-drives-push ns (e ∷ ds) (y ∷ ys) d x h k = (h.0, drives-push ns ds ys d x h.1 k)
 
 pub is-itself : (ns : List Node) (d : DriveRow) → DriveFits ns d → IsDrive ns d (drive_at ns d)
 is-itself ns d f = record {

@@ -6,6 +6,7 @@ ghost use Rattle.lh_unit.specs.WellFormed.{IsWellFormed};
 ghost use Rattle.lh_unit.specs.World.{State, rules_of, runs};
 ghost use Rattle.lh_design.specs.Texts.{instance_text};
 ghost use Rattle.lh_elab.specs.Answer.{InstanceIs};
+ghost use Rattle.lh_states.specs.Acts.{outcomes_of};
 ghost use Rattle.lh_states.specs.States.{StateIs, StateFits};
 ghost use Rattle.lh_states.specs.Runs.{Runs, ActIsSound};
 
@@ -16,7 +17,7 @@ use lh_eval::instance::Instance;
 use lh_exec::{ExecFault, activate};
 use lh_react::react;
 use lh_time::Instant;
-use lh_types::list::{BoolList, ListOf};
+use lh_types::list::BoolList;
 use lh_types::tally::Tally;
 use lh_types::ty::NoMemory;
 use lh_unit::module::Module;
@@ -29,15 +30,9 @@ use std::marker::Model;
 #[derive(Drop)]
 pub struct InstAct {
     next: InstState,
-    // Most instances that are woken do neither: what is kept of these is small.
-    effects: Option<Box<Effects>>,
-}
-
-/// What an instance wishes, and whether each assertion passed.
-#[derive(Drop)]
-struct Effects {
     wishes: DueWrites,
-    outcomes: BoolList,
+    // Few runs come to an assertion, and what is kept of the others is small.
+    outcomes: Option<Box<BoolList>>,
 }
 
 impl Model for InstAct {
@@ -49,27 +44,10 @@ impl Model for InstAct {
 
     ghost coded = { Prim.hlevel (codes, datum_coded) };
 
-    ghost view = { λ a. done_of a.next a.effects };
+    ghost view = { λ a. done_of a.next a.wishes a.outcomes };
 }
 
 impl InstAct {
-    /// What one run gives.
-    fn new(
-        alloc: Global,
-        next: InstState,
-        wishes: DueWrites,
-        outcomes: BoolList,
-    ) -> Result<InstAct, NoMemory>
-        ensures { IfOk result (λ act. act ≡ record { next = next; wishes = wishes; outcomes = outcomes }) }
-    {
-        let effects = if wishes.len() == 0 && outcomes.len() == 0 {
-            None
-        } else {
-            Some(Box::new(alloc, Effects { wishes, outcomes })?)
-        };
-        Ok(InstAct { next, effects })
-    }
-
     /// The next state.
     pub fn next(&self) -> &InstState
         ensures { result.now ≡ self.now.next }
@@ -81,33 +59,37 @@ impl InstAct {
     pub fn wish_count(&self) -> usize
         ensures { result ≡ length self.now.wishes }
     {
-        match &self.effects {
-            None => 0,
-            Some(effects) => effects.wishes.len(),
-        }
+        self.wishes.len()
     }
 
     /// Whether each assertion passed.
     pub fn outcomes(&self) -> &[bool]
         ensures { result.now ≡ self.now.outcomes }
     {
-        match &self.effects {
+        match &self.outcomes {
             None => &[],
-            Some(effects) => effects.outcomes.as_slice(),
+            Some(outcomes) => outcomes.as_slice(),
         }
     }
 
     /// The next state, and what is wished.
-    pub fn into_parts(self, alloc: Global) -> (InstState, DueWrites)
+    pub fn into_parts(self) -> (InstState, DueWrites)
         ensures next { result.0 ≡ self.next }
         ensures wishes { result.1 ≡ self.wishes }
     {
-        let InstAct { next, effects } = self;
-        match effects {
-            None => (next, ListOf::new(alloc)),
-            Some(effects) => (next, Box::into_inner(effects).wishes),
-        }
+        let InstAct { next, wishes, .. } = self;
+        (next, wishes)
     }
+}
+
+/// What is kept of whether each assertion passed: without one, nothing.
+fn boxed(alloc: Global, outcomes: BoolList) -> Result<Option<Box<BoolList>>, NoMemory>
+    ensures { IfOk result (λ kept. outcomes_of kept ≡ outcomes) }
+{
+    if outcomes.len() == 0 {
+        return Ok(None);
+    }
+    Ok(Some(Box::new(alloc, outcomes)?))
 }
 
 /// One run of an instance of a well-formed module at an instant, where the signals have these bits: an activation of a process, or
@@ -133,13 +115,19 @@ pub fn run_instance<T: Tally>(
     match s {
         InstState::Process(process) => {
             let act = activate(alloc, m, i, process, now, at, tally)?;
-            let next = InstState::Process(act.next);
-            Ok(InstAct::new(alloc, next, act.wishes, act.outcomes)?)
+            Ok(InstAct {
+                next: InstState::Process(act.next),
+                wishes: act.wishes,
+                outcomes: boxed(alloc, act.outcomes)?,
+            })
         }
         InstState::Entity(entity) => {
             let act = react(alloc, m, i, entity, now, at, tally)?;
-            let next = InstState::Entity(act.next);
-            Ok(InstAct::new(alloc, next, act.wishes, ListOf::new(alloc))?)
+            Ok(InstAct {
+                next: InstState::Entity(act.next),
+                wishes: act.wishes,
+                outcomes: None,
+            })
         }
     }
 }

@@ -21,8 +21,8 @@ use Rattle.lh_rows.specs.Typed.{IsOfType, PhiKnown}
 use Rattle.lh_joins.specs.declared.edge.Edge.{Edge}
 use Rattle.lh_joins.specs.Joins.{after_first, chosen_by, on_conditions}
 use Rattle.lh_joins.proofs.Merged.{merged-by-conditions}
-use Rattle.lh_region.specs.declared.state.PlaceState.{PlaceState}
-use Rattle.lh_region.specs.Asked.{edges_at, joined_by, SamePlaces, IsWithAt}
+use Rattle.lh_places.specs.declared.state.PlaceState.{PlaceState}
+use Rattle.lh_places.specs.Asked.{edges_at, joined_by, SamePlaces, IsWithAt}
 use Rattle.lh_region.specs.Gives.{with_term, ValuesDiffer, GivesTerm}
 use Rattle.lh_region.specs.Heads.{LabelsDiffer}
 use Rattle.lh_region.specs.Operands.{operand_in, AreFrom}
@@ -30,7 +30,7 @@ use Rattle.lh_region.specs.Taken.{told_of, phi_ask, phi_asks, NamesEach, StillTo
 use Rattle.lh_region.specs.Walking.{Story, TellsKnown, IsEdge, AreEdges}
 use Rattle.lh_walk.specs.Walked.{ContinuesStory}
 use Rattle.lh_walk.specs.Merges.{IsPhi, phi_given, CanTakePhi, TakesPhi}
-use Rattle.lh_region.proofs.Placing.{same-length, same-edges, with-same}
+use Rattle.lh_places.proofs.Placing.{same-length, same-edges, with-same}
 use Rattle.lh_region.proofs.Gathering.{there-from}
 use Rattle.lh_region.proofs.Going.{edges-grown}
 use Rattle.lh_region.proofs.Begun.{value-term, are-alike, edges-on}

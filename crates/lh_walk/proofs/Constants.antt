@@ -29,13 +29,14 @@ use Rattle.lh_term.specs.declared.term.Node.{Node}
 use Rattle.lh_joins.specs.Joins.{AreConditions}
 use Rattle.lh_rows.specs.Known.{known_value, known_part, Knowledge, nothing_known, with_known, with_given, whole_argument, with_arguments}
 use Rattle.lh_rows.specs.Regions.{with_constant, with_constants, lines_at, head_of, known_first}
-use Rattle.lh_region.specs.declared.state.PlaceState.{PlaceState}
-use Rattle.lh_region.specs.Asked.{kept_by, kept_at, keeps, source_of, edges_at, IsBelow, Tells, Joins, IsJoin}
+use Rattle.lh_places.specs.declared.state.PlaceState.{PlaceState}
+use Rattle.lh_places.specs.Asked.{kept_by, kept_at, keeps, source_of, edges_at, IsBelow, Tells, Joins, IsJoin}
 use Rattle.lh_region.specs.Begins.{with_place}
 use Rattle.lh_region.specs.Forms.{Names}
 use Rattle.lh_region.specs.Starts.{constant_in, constant_as, constant_given, lines_left, StandsMaybe, KnowsConstants}
 use Rattle.lh_region.specs.Walking.{as_term, term_known, Story}
 use Rattle.lh_region.proofs.Begun.{told-old, told-new, told-within, told-some}
+use Rattle.lh_region.proofs.Starting.{else-else}
 
 -- ---- names
 
@@ -67,10 +68,6 @@ no-arguments k i (a ∷ xs) h m = no-arguments (with_given k (Some a.name) (opti
     (λ n. given-part k a.name n i (carried a.ty) (h n)) m
 
 -- ---- constants
-
-else-else : (a b c : Option Tree) → or_else (or_else a b) c ≡ or_else a (or_else b c)
-else-else None b c = refl
-else-else (Some x) b c = refl
 
 if-none : (b : Bool) (x : Option Tree) → x ≡ or_else (if b then None else None) x
 if-none true x = refl

@@ -9,7 +9,7 @@ use Rattle.lh_rows.specs.Rows as text
 use Rattle.lh_rows.specs.Joins.{RegionEdge}
 use Rattle.lh_rows.specs.Regions.{Course, edges_to, edges_of_ends}
 use Rattle.lh_joins.specs.declared.edge.Edge.{Edge}
-use Rattle.lh_region.specs.declared.state.PlaceState.{PlaceState}
+use Rattle.lh_places.specs.declared.state.PlaceState.{PlaceState}
 use Rattle.lh_region.specs.declared.ahead.Ahead.{Ahead}
 use Rattle.lh_walk.specs.declared.walk.Region.{Region}
 use Rattle.lh_walk.specs.declared.walk.Walk.{Walk}

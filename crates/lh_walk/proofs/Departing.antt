@@ -1,6 +1,7 @@
 -- A place is left: one more edge or end, by ids and in the definition.
 use Rattle.std.proofs.Common.{◌≡◌, ◌⊎◌, inl, inr, ℕ, ◌+◌, ◌<◌, ◌≤◌, Bool, true, false, ◌&&◌, ◌||◌, nat_eq, nat_lt, if◌then◌else◌, List, [], ◌∷◌, ◌++◌, length, map, Option, Some, None, is_some, Result, Ok, Err, OnOk, IfErr, refl, ap, sym, ◌∙◌, subst, arith}
 use Rattle.std.proofs.lemmas.Bool.Decides.{nat_tests}
+use Rattle.std.proofs.lemmas.Bool.{or_left, or_right}
 use Rattle.lh_unit.specs.Naming.{Naming}
 use Rattle.lh_unit.specs.declared.inst.ValueId.{ValueId}
 use Rattle.lh_term.specs.Tree.{Tree}
@@ -18,7 +19,7 @@ use Rattle.lh_rows.specs.Regions.{max_turns, turns_too_often, edge_into, edges_o
 use Rattle.lh_joins.specs.Joins.{IsConditionAt}
 use Rattle.lh_joins.proofs.Conditions.{stands-condition}
 use Rattle.lh_joins.specs.declared.edge.Edge.{Edge}
-use Rattle.lh_region.specs.declared.state.PlaceState.{PlaceState}
+use Rattle.lh_places.specs.declared.state.PlaceState.{PlaceState}
 use Rattle.lh_region.specs.declared.ahead.Ahead.{Ahead}
 use Rattle.lh_region.specs.declared.rows.Rows.{Rows}
 use Rattle.lh_region.specs.declared.rows.Way.{Way}
@@ -28,7 +29,7 @@ use Rattle.lh_region.specs.declared.rows.RegionFault.TheVariants as fault
 use Rattle.lh_walk.specs.declared.walk.Region.{Region}
 use Rattle.lh_walk.specs.declared.walk.Walk.{Walk}
 use Rattle.lh_walk.specs.declared.walk.WalkPoint.{WalkPoint}
-use Rattle.lh_region.specs.Asked.{Tells, SamePlaces, StillTold}
+use Rattle.lh_places.specs.Asked.{Tells, SamePlaces, StillTold}
 use Rattle.lh_region.specs.Branches.{CanTest, negation, IsAnd, IsAndNot}
 use Rattle.lh_region.specs.Effects.{IsEnded}
 use Rattle.lh_region.specs.Stands.{AreRows, way_text}
@@ -36,16 +37,8 @@ use Rattle.lh_region.specs.Walking.{Story, TellsKnown, IsEdge, AreEdges, place_o
 use Rattle.lh_walk.specs.Walked.{region_text, course_at}
 use Rattle.lh_walk.specs.Leaving.{IsLeaving, edge_from, EndsThere, CanLead, LeadsThere, LeadsNot, Branches, BranchesNot, PartsOf, Waits}
 use Rattle.lh_region.proofs.Going.{edges-push}
-use Rattle.lh_region.proofs.Placing.{same-length}
+use Rattle.lh_places.proofs.Placing.{same-length}
 use Rattle.lh_walk.proofs.Continuing.{so-far-grown}
-
-pub err-map : {A E : Type 0} (r : Result A E) (P Q : E → Type 0) → ((e : E) → P e → Q e) → IfErr r P → IfErr r Q
-err-map (Ok t) P Q f h = tt
-err-map (Err e) P Q f h = f e h
-
-pub head-not : (a b : Bool) → b ≡ false → (a && b) ≡ false
-head-not true b e = e
-head-not false b e = refl
 
 -- ---- one more end
 
@@ -135,16 +128,8 @@ often-push (y ∷ ys) x = ap (λ (b : Bool). nat_lt max_turns y.to.turns || b) (
 few-push : (xs : List RegionEdge) (x : RegionEdge) → turns_too_often xs ≡ false → x.to.turns ≤ max_turns → turns_too_often (xs ++ x ∷ []) ≡ false
 few-push xs x e l = let n : nat_lt max_turns x.to.turns ≡ false = grind (arith, nat_tests) in often-push xs x ∙ (λ j. e j || n j)
 
-or-right : (a b : Bool) → b ≡ true → (a || b) ≡ true
-or-right true b e = refl
-or-right false b e = e
-
 many-push : (xs : List RegionEdge) (x : RegionEdge) → max_turns < x.to.turns → turns_too_often (xs ++ x ∷ []) ≡ true
-many-push xs x l = let n : nat_lt max_turns x.to.turns ≡ true = grind (arith, nat_tests) in often-push xs x ∙ or-right (turns_too_often xs) (nat_lt max_turns x.to.turns) n
-
-or-left : (a b : Bool) → a ≡ true → (a || b) ≡ true
-or-left true b e = refl
-or-left false b e = cc
+many-push xs x l = let n : nat_lt max_turns x.to.turns ≡ true = grind (arith, nat_tests) in often-push xs x ∙ or_right (turns_too_often xs) (nat_lt max_turns x.to.turns) n
 
 -- too many turns stay too many
 still-many : (g : RegionText) (h : Here) (c : Tree) (n : List ℕ) (m : Midst) → turns_too_often m.edges ≡ true → turns_too_often (leads g h c n m).edges ≡ true
@@ -152,7 +137,7 @@ still-many g h c n m t = by (is_zero c) (block_number n g.blocks)
   where
     goes-many : (k : ℕ) (b : Bool) → turns_too_often (if b then ends h c m text.enters_head else with_edge h c m k).edges ≡ true
     goes-many k true = t
-    goes-many k false = often-push m.edges (new_edge h c m k) ∙ or-left (turns_too_often m.edges) (nat_lt max_turns (next_place h.place k).turns) t
+    goes-many k false = often-push m.edges (new_edge h c m k) ∙ or_left (turns_too_often m.edges) (nat_lt max_turns (next_place h.place k).turns) t
 
     by : (z : Bool) (o : Option ℕ) → turns_too_often (if z then m else goes_if g h c m o).edges ≡ true
     by true o = t

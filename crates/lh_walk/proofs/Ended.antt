@@ -1,8 +1,7 @@
 -- A terminator by ids, and what it does in the definition.
-use Rattle.std.proofs.Common.{◌≡◌, inl, inr, ℕ, zero, suc, ◌+◌, ◌<◌, ◌≤◌, Bool, true, false, nat_eq, List, [], ◌∷◌, ◌++◌, length, map, Option, Some, None, IsSome, is_some, slice_get, refl, ap, sym, ◌∙◌, subst, arith}
-use Rattle.std.specs.Option.{option_and_then}
+use Rattle.std.proofs.Common.{◌≡◌, inl, inr, ℕ, ◌+◌, ◌<◌, ◌≤◌, Bool, true, false, nat_eq, List, [], ◌∷◌, ◌++◌, length, map, Option, Some, None, IsSome, is_some, refl, ap, sym, ◌∙◌, subst, arith}
 use Rattle.std.proofs.lemmas.Bool.{false≢true}
-use Rattle.std.proofs.lemmas.Option.{none-some}
+use Rattle.std.proofs.lemmas.Option.{slice_get_within}
 use Rattle.std.proofs.lemmas.List.{map-append}
 use Rattle.lh_types.specs.Types.{signal_type}
 use Rattle.lh_unit.specs.declared.name.UnitName.{UnitName}
@@ -35,7 +34,7 @@ use Rattle.lh_term.specs.declared.term.Node.{Node}
 use Rattle.lh_parts.specs.Steps.{part_at}
 use Rattle.lh_joins.specs.Joins.{IsConditionAt}
 use Rattle.lh_joins.proofs.Conditions.{stands-condition}
-use Rattle.lh_rows.specs.Known.{Known, known_value, known_cell, known_part, Knowledge, as_value, value_known, parts_known}
+use Rattle.lh_rows.specs.Known.{value_known, parts_known}
 use Rattle.lh_rows.specs.Rows as text
 use Rattle.lh_rows.specs.Places.{Region as RegionText, Here, Midst, block_number, branches, wait_way, ends_if, takes}
 use Rattle.lh_rows.specs.Regions.{max_turns, turns_too_often}
@@ -50,27 +49,13 @@ use Rattle.lh_walk.specs.declared.walk.Region.{Region}
 use Rattle.lh_walk.specs.declared.walk.Walk.{Walk}
 use Rattle.lh_walk.specs.declared.walk.WalkPoint.{WalkPoint}
 use Rattle.lh_region.specs.Branches.{CanTest}
-use Rattle.lh_region.specs.Walking.{as_term, Story, term_known}
+use Rattle.lh_region.specs.Walking.{Story, term_known}
 use Rattle.lh_walk.specs.Walked.{process_by, region_text, IsCourse, course_at, IsBetween, leads_nowhere, CanTake, EndsLine, EndsFor}
 use Rattle.lh_walk.specs.Leaving.{IsLeaving, EndsThere, CanLead, LeadsThere, LeadsNot, Branches, BranchesNot, AreParts, PartsOf, Waits}
 use Rattle.lh_walk.proofs.Continuing.{so-far-on}
 use Rattle.lh_walk.proofs.Regional.{region-of, label-number, block-at-text, site-of}
 use Rattle.lh_walk.proofs.Parting.{part-there}
-
-at-below : {X : Type 0} (xs : List X) (k : ℕ) (x : X) → slice_get xs k ≡ Some x → k < length xs
-at-below [] k x e = absurd (none-some x e)
-at-below (y ∷ ys) zero x e = omega arith
-at-below (y ∷ ys) (suc k) x e = omega (arith, at-below ys k x e)
-
--- a value that is known is the term that is known
-term-value : (k : Knowledge) (n : List ℕ) (x : Tree) → value_known k n ≡ Some x → term_known k n ≡ Some x
-term-value k n x e = by (k n) e
-  where
-    by : (o : Option Known) → option_and_then as_value o ≡ Some x → option_and_then as_term o ≡ Some x
-    by None e = absurd (none-some x e)
-    by (Some (known_value y)) e = e
-    by (Some (known_cell y)) e = absurd (none-some x e)
-    by (Some (known_part p)) e = absurd (none-some x e)
+use Rattle.lh_walk.proofs.Known.{value-term}
 
 maybe-some : (f : Naming) (o : Option ValueId) → is_some (maybe_text f o) ≡ is_some o
 maybe-some f None = refl
@@ -90,7 +75,7 @@ module _ (ns : List Node) (f : Naming) (name : UnitName) (r : Region) (w : Walk)
   here = flat_block_text f at.block b
 
   block-below : at.block < length r.flat.now.blocks
-  block-below = at-below r.flat.now.blocks at.block b i.stands.block
+  block-below = slice_get_within r.flat.now.blocks at.block b i.stands.block
 
   pub leaving : IsLeaving ns f r w at i.midst.now h insts m
   leaving = record {
@@ -123,7 +108,7 @@ module _ (ns : List Node) (f : Naming) (name : UnitName) (r : Region) (w : Walk)
 
   -- what is told of a value that is known
   told-value : (v : ℕ) (x : Tree) → v < r.flat.now.values → value_known m.known (f.value_name v) ≡ Some x → i.midst.now.told at.place v ≡ Some x
-  told-value v x d e = i.midst.known v (value-below v d) ∙ ap (term_known m.known) (named-value v) ∙ term-value m.known (f.value_name v) x e
+  told-value v x d e = i.midst.known v (value-below v d) ∙ ap (term_known m.known) (named-value v) ∙ value-term m.known (f.value_name v) x e
 
   -- ---- a branch
 

@@ -22,12 +22,12 @@ use Rattle.lh_rows.specs.Regions.{lines_at, head_of, known_first, edge_into, fir
 use Rattle.lh_rows.specs.Typed.{JoinEdge}
 use Rattle.lh_rows.specs.Right.{as_block}
 use Rattle.lh_rows.proofs.Start as Start
-use Rattle.lh_region.specs.declared.state.PlaceState.{PlaceState}
+use Rattle.lh_places.specs.declared.state.PlaceState.{PlaceState}
 use Rattle.lh_walk.specs.declared.walk.Region.{Region}
 use Rattle.lh_walk.specs.declared.walk.Walk.{Walk}
 use Rattle.lh_walk.specs.declared.walk.WalkPoint.{WalkPoint}
 use Rattle.lh_region.specs.declared.rows.RegionFault.{RegionFault}
-use Rattle.lh_region.specs.Asked.{kept_by, Tells}
+use Rattle.lh_places.specs.Asked.{kept_by, Tells}
 use Rattle.lh_region.specs.Effects.{probed}
 use Rattle.lh_region.specs.Stands.{refusal_of}
 use Rattle.lh_region.specs.Starts.{constant_given, KnowsConstants, lines_left}

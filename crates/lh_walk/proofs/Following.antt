@@ -1,6 +1,6 @@
 -- The second region starts where all ends of the first one wait, by the values that parts had before.
-use Rattle.std.proofs.Common.{◌≡◌, inr, ℕ, zero, suc, ◌+◌, ◌<◌, true, false, List, [], ◌∷◌, length, Option, Some, None, slice_get, refl, ap, sym, ◌∙◌, subst, arith}
-use Rattle.std.proofs.lemmas.Option.{none-some}
+use Rattle.std.proofs.Common.{◌≡◌, inr, ℕ, ◌+◌, ◌<◌, true, false, List, [], ◌∷◌, length, Option, Some, None, slice_get, refl, ap, sym, ◌∙◌, subst, arith}
+use Rattle.std.proofs.lemmas.Option.{slice_get_within}
 use Rattle.lh_unit.specs.declared.name.UnitName.{UnitName}
 use Rattle.lh_unit.specs.Contents.{UnitText}
 use Rattle.lh_unit.specs.Naming.{Naming}
@@ -10,6 +10,7 @@ use Rattle.lh_flat.specs.declared.flat.FlatBlock.{FlatBlock}
 use Rattle.lh_flat.specs.Below.{IdsBelow}
 use Rattle.lh_flat.specs.Flat.{FlatText, flat_unit}
 use Rattle.lh_flat.specs.Reads.{flat_block_text, flat_blocks_text, flat_text}
+use Rattle.lh_flat.proofs.Placing.{read-long}
 use Rattle.lh_parts.specs.Steps.{IsPartTable}
 use Rattle.lh_term.specs.Tree.{past_of, now_of}
 use Rattle.lh_term.specs.Make.{bit_of}
@@ -23,12 +24,12 @@ use Rattle.lh_rows.specs.Right.{as_block}
 use Rattle.lh_rows.proofs.Courses.{coursed-is}
 use Rattle.lh_before.proofs.Second as Before
 use Rattle.lh_joins.specs.declared.edge.Edge.{Edge}
-use Rattle.lh_region.specs.declared.state.PlaceState.{PlaceState}
+use Rattle.lh_places.specs.declared.state.PlaceState.{PlaceState}
 use Rattle.lh_walk.specs.declared.walk.Region.{Region}
 use Rattle.lh_walk.specs.declared.walk.Walk.{Walk}
 use Rattle.lh_walk.specs.declared.walk.WalkPoint.{WalkPoint}
 use Rattle.lh_region.specs.declared.rows.RegionFault.{RegionFault}
-use Rattle.lh_region.specs.Asked.{edges_at}
+use Rattle.lh_places.specs.Asked.{edges_at}
 use Rattle.lh_region.specs.Begins.{with_place, IsBegun, BeginsJoined}
 use Rattle.lh_region.specs.Effects.{probed}
 use Rattle.lh_region.specs.Forms.{Names}
@@ -41,11 +42,10 @@ use Rattle.lh_walk.specs.Turns.{IsWalk, IsStart, CanStart, GoesThrough, GoesNot}
 use Rattle.lh_walk.specs.Both.{GoesFirst, FirstStops, IsBehind, IsTarget, HasTarget, SecondRows, SecondStops}
 use Rattle.lh_walk.proofs.First.{formed, plain, head-same}
 use Rattle.lh_region.proofs.Going.{edges-grown}
-use Rattle.lh_region.proofs.Telling.{tells-grown}
+use Rattle.lh_places.proofs.Telling.{tells-grown}
 use Rattle.lh_walk.proofs.Regional.{block-at-text}
 use Rattle.lh_walk.proofs.CanBeginning.{can-begin}
 use Rattle.lh_walk.proofs.Reached.{block-there, edges-last}
-use Rattle.lh_walk.proofs.Through.{text-length}
 use Rattle.lh_walk.proofs.Fitting.{drives-fit}
 use Rattle.lh_walk.proofs.NamedCourse.{named-ends}
 
@@ -55,11 +55,6 @@ into-block ns s [] [] i j h = tt
 into-block ns s [] (x ∷ xs) i j h = absurd h
 into-block ns s (e ∷ es) [] i j h = absurd h
 into-block ns s (e ∷ es) (x ∷ xs) i j h = (record { within = h.0.within; of_text = h.0.of_text; block = h.0.block; cond = h.0.cond; told = h.0.told }, into-block ns s es xs i j h.1)
-
-get-within : {X : Type 0} (xs : List X) (i : ℕ) (x : X) → slice_get xs i ≡ Some x → i < length xs
-get-within [] i x e = absurd (none-some x e)
-get-within (y ∷ xs) zero x e = omega arith
-get-within (y ∷ xs) (suc i) x e = omega (arith, get-within xs i x e)
 
 -- the same region, with other choices
 pub region-like : (f : Naming) (r q : Region) → q.flat ≡ r.flat → q.parts ≡ r.parts → q.head ≡ r.head → IsRegion f r → IsRegion f q
@@ -115,7 +110,7 @@ module _ (f : Naming) (name : UnitName) (r : Region) (h : IsRegion f r) (target 
       by [] e right waits = absurd (ends-some e)
       by (x ∷ xs) e right waits =
           let j = Before.way-joins u (Before.first_of name t form past_of) x.way target x.from x.known waits.0 right.0.way in
-          let l : target < length r.flat.now.blocks = subst (λ n. target < n) (text-length f 0 r.flat.now.blocks) (get-within (flat_blocks_text f 0 r.flat.now.blocks) target j.0 j.1.at) in
+          let l : target < length r.flat.now.blocks = subst (λ n. target < n) (read-long f 0 r.flat.now.blocks) (slice_get_within (flat_blocks_text f 0 r.flat.now.blocks) target j.0 j.1.at) in
           let b = block-there r.flat.now.blocks target l in
           record {
             block = b.0;

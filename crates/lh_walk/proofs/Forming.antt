@@ -1,7 +1,6 @@
 -- What a formed flat text is by ids: where its labels lead, its head, and the constants of its entry.
 use Rattle.std.proofs.Common.{◌≡◌, ℕ, ◌+◌, ◌<◌, Bool, true, false, ◌||◌, nat_eq, if◌then◌else◌, List, [], ◌∷◌, length, map, Option, Some, None, IsSome, slice_get, refl, ap, sym, ◌∙◌, subst, arith}
 use Rattle.std.specs.Option.{option_map, option_map_or, is_some}
-use Rattle.std.proofs.lemmas.Option.{same_Some, none-some}
 use Rattle.lh_types.specs.Types.{TypeTree}
 use Rattle.lh_types.specs.ValueOf.{datum_of}
 use Rattle.lh_types.specs.Values.{Datum}
@@ -35,22 +34,22 @@ use Rattle.lh_rows.specs.Right.{as_block}
 use Rattle.lh_rows.proofs.Knowing.{constant-typed}
 use Rattle.lh_rows.proofs.Sites.{block-lines}
 use Rattle.lh_region.specs.Forms.{Names}
-use Rattle.lh_region.specs.Heads.{leads_then, leads_on, is_named, entry_id, head_if, head_in, is_phi, starts_with_phi, begins_with_phi, LeadsWithin, IsNoBranch, BranchIsLast, HasLabels}
+use Rattle.lh_region.specs.Heads.{leads_on, is_named, entry_id, head_if, head_in, is_phi, starts_with_phi, begins_with_phi, LeadsWithin, IsNoBranch, BranchIsLast, HasLabels}
 use Rattle.lh_region.specs.Starts.{GivenFits, lines_left}
-use Rattle.lh_region.proofs.Heading.{heads-agree}
+use Rattle.lh_region.proofs.Heading.{heads-agree, leads-within}
 use Rattle.lh_walk.proofs.Regional.{block-text-at}
 
 -- ---- labels
 
-leads-within : (n : ℕ) (i : Inst) → Each (λ (b : BlockId). b.0 < n) (blocks_named i) → LeadsWithin n i
-leads-within n (inst.Br to) h = h.0
-leads-within n (inst.Branch cond a b) h = (h.0, h.1.0)
-leads-within n (inst.Wait to after signals) h = h.0
-leads-within n _ h = tt
+inst-within : (n : ℕ) (i : Inst) → Each (λ (b : BlockId). b.0 < n) (blocks_named i) → LeadsWithin n i
+inst-within n (inst.Br to) h = h.0
+inst-within n (inst.Branch cond a b) h = (h.0, h.1.0)
+inst-within n (inst.Wait to after signals) h = h.0
+inst-within n _ h = tt
 
 insts-within : (v n : ℕ) (ls : List FlatInst) → Each (InstBelow v n) ls → Each (λ (l : FlatInst). LeadsWithin n l.inst) ls
 insts-within v n [] h = tt
-insts-within v n (l ∷ ls) h = (leads-within n l.inst h.0.named, insts-within v n ls h.1)
+insts-within v n (l ∷ ls) h = (inst-within n l.inst h.0.named, insts-within v n ls h.1)
 
 blocks-within : (v n : ℕ) (bs : List FlatBlock) → Each (BlockBelow v n) bs → Each (λ (b : FlatBlock). Each (λ (l : FlatInst). LeadsWithin n l.inst) b.insts) bs
 blocks-within v n [] h = tt
@@ -86,15 +85,6 @@ has-labels f name t b n = record {
 pub head-is : (f : Naming) (name : UnitName) (t : Flat) → IdsBelow t → Names t f → head_of (flat_text f t).blocks ≡ head_in t.blocks
 head-is f name t b n = heads-agree f t n.labels (has-labels f name t b n)
 
-then-within : (n : ℕ) (i : Inst) (next : Option BlockId) (b : BlockId) → LeadsWithin n i → ((c : BlockId) → next ≡ Some c → c.0 < n) → leads_then i next ≡ Some b → b.0 < n
-then-within n (inst.Const v) next b h k e = k b e
-then-within n (inst.Br to) next b h k e = subst (λ (c : BlockId). c.0 < n) (same_Some to b e) h
-then-within n _ next b h k e = absurd (none-some b e)
-
-on-within : (n : ℕ) (ls : List FlatInst) (b : BlockId) → Each (λ (l : FlatInst). LeadsWithin n l.inst) ls → leads_on ls ≡ Some b → b.0 < n
-on-within n [] b h e = absurd (none-some b e)
-on-within n (l ∷ ls) b h e = then-within n l.inst (leads_on ls) b h.0 (λ c q. on-within n ls c h.1 q) e
-
 pub head-within : (t : Flat) → IdsBelow t → 0 < length t.blocks → head_in t.blocks < length t.blocks
 head-within t b l = by t.blocks refl
   where
@@ -108,7 +98,7 @@ head-within t b l = by t.blocks refl
         at false (Some c) q =
             let w = subst (λ (bs : List FlatBlock). Each (λ (b : FlatBlock). Each (λ (l : FlatInst). LeadsWithin (length t.blocks) l.inst) b.insts) bs) e
             (blocks-within t.values (length t.blocks) t.blocks b.blocks) in
-            on-within (length t.blocks) entry.insts c w.0 q
+            leads-within (length t.blocks) entry.insts c w.0 q
 
 some-block : (f : Naming) (bs : List FlatBlock) → (b : BlockText) × (more : List BlockText) × (map as_block (flat_blocks_text f 0 bs) ≡ b ∷ more) → 0 < length bs
 some-block f [] h = absurd (let z : [] ≡ h.0 ∷ h.1 = h.2 in cc)

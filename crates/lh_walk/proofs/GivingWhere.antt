@@ -7,13 +7,13 @@ use Rattle.lh_term.specs.Tree.{Tree}
 use Rattle.lh_term.specs.Arena.{StandsForTree, Grows}
 use Rattle.lh_term.specs.declared.term.TermId.{TermId}
 use Rattle.lh_term.specs.declared.term.Node.{Node}
-use Rattle.lh_region.specs.declared.state.PlaceState.{PlaceState}
-use Rattle.lh_region.specs.Asked.{SamePlaces, StillTold, IsTold}
+use Rattle.lh_places.specs.declared.state.PlaceState.{PlaceState}
+use Rattle.lh_places.specs.Asked.{SamePlaces, StillTold, IsTold}
 use Rattle.lh_region.specs.Taken.{asks_at, StillToldAll, IsOperated}
 use Rattle.lh_region.specs.Gives.{GivesTerm}
 use Rattle.lh_walk.specs.Lines.{IsThat, IsToldOf, IsOperationOn, GivesWhere}
-use Rattle.lh_region.proofs.Placing.{same-length}
-use Rattle.lh_region.proofs.Telling.{tells-grown}
+use Rattle.lh_places.proofs.Placing.{same-length}
+use Rattle.lh_places.proofs.Telling.{tells-grown}
 use Rattle.lh_region.proofs.Gathering.{there-from}
 
 pub gives-that : (ns ms : List Node) (ps qs : List PlaceState) (i v : ℕ) (t : TermId) (y : Tree) → Grows ns ms → StandsForTree ms t y → GivesTerm ps i v t qs → GivesWhere (IsThat y) ns ps i v ms qs

@@ -27,6 +27,7 @@ use Rattle.lh_unit.proofs.Within.{Each-more}
 use Rattle.lh_formed.specs.Parts.{TakesPart, HasPart}
 use Rattle.lh_formed.proofs.PartsLaw.{parts_have_ranges}
 use Rattle.lh_eval.specs.Sound.{InstIsSound}
+use Rattle.lh_eval.proofs.PartsRead.{carried-some}
 use Rattle.lh_sound.specs.Units.{HasItsType}
 use Rattle.lh_formed.proofs.EachItem.{each-split}
 use Rattle.lh_formed.proofs.PartSteps.{leads-is, takes-part, step-type}
@@ -88,10 +89,6 @@ giving (l ∷ more) v s e = by (step_giving more v) (giving more v s) e
     by None go g = here (is_result v l.result) refl g
     by (Some x) go g = let z = go g in record { line = z.line; among = inr z.among; result = z.result; step = z.step }
 
-carried-is : (o : Option TypeTree) (t : TypeTree) → option_and_then carried o ≡ Some t → o ≡ Some (signal_type t)
-carried-is (Some (signal_type x)) t e = ap (λ (y : TypeTree). Some (signal_type y)) (same_Some x t e)
-carried-is _ t e = absurd cc
-
 -- an operation on one operand, whose part has the type that is written
 record OneStep (i : Inst) (s : PartStep) : Type 0 where
   by-op : Op
@@ -120,7 +117,7 @@ one-step (inst.Pure o (x ∷ [])) s e = by (step_of o) refl (option_and_then car
           kind = k;
           is = refl;
           of = q;
-          written = carried-is x.ty t c ∙ ap (λ (y : PartStep). Some (signal_type y.ty)) z;
+          written = carried-some x.ty t c ∙ ap (λ (y : PartStep). Some (signal_type y.ty)) z;
           from = ap (λ (y : PartStep). y.from) z;
           same-op = ap (λ (y : PartStep). y.op) z;
         }
@@ -243,7 +240,7 @@ module _ (name : UnitName) (f : Naming) (t : Flat) (n : Names t f) (below : IdsB
       argument (Some p) q g =
           let a = as-argument 0 t.args v p q in
           let h = in-each (HasItsType u) u.args (arg_text f a.arg) (n.formed name).args (arg-among f a.arg t.args a.among) in
-          ap (λ (i : ℕ). value_type u (f.value_name i)) (sym a.value) ∙ h ∙ carried-is (Some a.arg.ty) p.ty a.carries ∙ ap (λ (y : TypeTree). Some (signal_type y)) (same_Some p.ty whole g)
+          ap (λ (i : ℕ). value_type u (f.value_name i)) (sym a.value) ∙ h ∙ carried-some (Some a.arg.ty) p.ty a.carries ∙ ap (λ (y : TypeTree). Some (signal_type y)) (same_Some p.ty whole g)
 
       by : (o : Option PartStep) → step_giving (insts_in t.blocks) v ≡ o → or_else (option_map (λ (s : PartStep). s.ty) o) (option_map (λ (p : Part). p.ty) (argument_of t.args v)) ≡ Some whole
           → value_type u (f.value_name v) ≡ Some (signal_type whole)

@@ -35,11 +35,11 @@ use Rattle.lh_rows.proofs.Sites.{LineGood, good-lines}
 use Rattle.lh_rows.proofs.Labels.{block-text}
 use Rattle.lh_rows.proofs.Knowing.{there-past}
 use Rattle.lh_rows.proofs.Phis.{known-typed-at, known-there-at, phis-given-at}
-use Rattle.lh_region.specs.declared.state.PlaceState.{PlaceState}
+use Rattle.lh_places.specs.declared.state.PlaceState.{PlaceState}
 use Rattle.lh_walk.specs.declared.walk.Region.{Region}
 use Rattle.lh_walk.specs.declared.walk.Walk.{Walk}
 use Rattle.lh_walk.specs.declared.walk.WalkPoint.{WalkPoint}
-use Rattle.lh_region.specs.Asked.{edges_at}
+use Rattle.lh_places.specs.Asked.{edges_at}
 use Rattle.lh_region.specs.Gives.{ValuesDiffer}
 use Rattle.lh_region.specs.Heads as heads
 use Rattle.lh_region.specs.Heads.{begins_with_phi, starts_with_phi, LabelsDiffer}

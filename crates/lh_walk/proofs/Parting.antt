@@ -48,6 +48,7 @@ use Rattle.lh_rows.specs.Typed.{Among, argument_part, IsPartOf, of_argument, of_
 use Rattle.lh_rows.specs.Right.{as_block}
 use Rattle.lh_rows.proofs.Among.{in-each, among-split, among-left, among-right}
 use Rattle.lh_rows.proofs.PartsNamed.{part-argument}
+use Rattle.lh_rows.proofs.Heads.{define-last}
 use Rattle.lh_region.specs.Forms.{Names}
 use Rattle.lh_walk.specs.Walked.{process_by}
 
@@ -182,14 +183,6 @@ define-front n (x ∷ xs) ys e = by (same_name x.name n) e (define-front n xs ys
     by : (b : Bool) → (b || args_define n xs) ≡ true → (args_define n xs ≡ true → args_define n (xs ++ ys) ≡ true) → (b || args_define n (xs ++ ys)) ≡ true
     by true e go = refl
     by false e go = go e
-
-define-last : (n : List ℕ) (xs : List ArgText) (a : ArgText) → same_name a.name n ≡ true → args_define n (xs ++ a ∷ []) ≡ true
-define-last n [] a e = ap (λ (b : Bool). b || false) e
-define-last n (x ∷ xs) a e = by (same_name x.name n) (define-last n xs a e)
-  where
-    by : (b : Bool) → args_define n (xs ++ a ∷ []) ≡ true → (b || args_define n (xs ++ a ∷ [])) ≡ true
-    by true h = refl
-    by false h = h
 
 module _ (f : Naming) (t : Flat) (n : Names t f) (v : ℕ) (l : v < t.values) where
   abbrev ArgsBelow : List Arg → Type 0

@@ -18,7 +18,7 @@ use Rattle.lh_term.proofs.Swaps.{grows_on}
 use Rattle.lh_joins.proofs.Conditions.{grows-none}
 use Rattle.lh_rows.specs.Known.{Knowledge}
 use Rattle.lh_rows.specs.Joins.{RegionEdge, with_phi}
-use Rattle.lh_region.specs.declared.state.PlaceState.{PlaceState}
+use Rattle.lh_places.specs.declared.state.PlaceState.{PlaceState}
 use Rattle.lh_region.specs.Heads.{is_phi}
 use Rattle.lh_region.specs.Walking.{Story}
 use Rattle.lh_walk.specs.Merges.{IsMerging, IsPhi, CanTakePhi, TakesPhi, PhiFits, LineFits, CanTakeLines, phis_given, TakesPhis, as_phi, as_phis, MergeFits, merge_given, CanTakeMerge, TakesMerge}

@@ -1,7 +1,6 @@
 -- A place of a turn: where edges lead to it, it begins and is treated as in the definition; where none does, nothing is done.
-use Rattle.std.proofs.Common.{◌≡◌, inr, ℕ, zero, suc, ◌+◌, ◌<◌, ◌≤◌, List, [], ◌∷◌, length, Result, Ok, Err, Option, Some, None, slice_get, refl, ap, sym, ◌∙◌, subst, arith}
+use Rattle.std.proofs.Common.{◌≡◌, inr, ℕ, zero, suc, ◌+◌, ◌<◌, ◌≤◌, List, [], ◌∷◌, length, Option, Some, None, slice_get, refl, ap, sym, ◌∙◌, subst, arith}
 use Rattle.std.specs.Option.{option_map_or}
-use Rattle.std.specs.Result.{IfErr}
 use Rattle.lh_unit.specs.declared.name.UnitName.{UnitName}
 use Rattle.lh_unit.specs.Contents.{BlockText, UnitText}
 use Rattle.lh_unit.specs.Naming.{Naming}
@@ -23,21 +22,21 @@ use Rattle.lh_rows.proofs.Courses as Courses
 use Rattle.lh_joins.specs.declared.edge.Edge.{Edge}
 use Rattle.lh_joins.specs.Joins.{AreConditions, edges_on}
 use Rattle.lh_joins.proofs.Merged.{taken-by-conditions}
-use Rattle.lh_region.specs.declared.state.PlaceState.{PlaceState}
+use Rattle.lh_places.specs.declared.state.PlaceState.{PlaceState}
 use Rattle.lh_walk.specs.declared.walk.Region.{Region}
 use Rattle.lh_walk.specs.declared.walk.Walk.{Walk}
 use Rattle.lh_walk.specs.declared.walk.WalkPoint.{WalkPoint}
 use Rattle.lh_region.specs.declared.rows.RegionFault.{RegionFault}
 use Rattle.lh_region.specs.Ahead.{led_to, IsReached}
-use Rattle.lh_region.specs.Asked.{edges_at, Tells}
+use Rattle.lh_places.specs.Asked.{edges_at, Tells}
 use Rattle.lh_region.specs.Begins.{with_place, IsBegun, BeginsJoined, TellsJoined}
 use Rattle.lh_walk.specs.Named.{EdgesNamed}
 use Rattle.lh_region.specs.Stands.{AreRows, refusal_of}
 use Rattle.lh_region.specs.Walking.{Story, TellsKnown, AreEdges, place_of, AreSources}
 use Rattle.lh_walk.specs.Walked.{process_by, region_text, IsSoFar, IsCourse, IsOpened, CanTreat, treated, Treats, TreatsNot, StopsFor}
 use Rattle.lh_walk.specs.Turns.{IsWalk, CanWalk, Comes, Passes, Stops, walks_at}
-use Rattle.lh_region.proofs.Placing.{edges-of}
-use Rattle.lh_region.proofs.Telling.{tells-grown}
+use Rattle.lh_places.proofs.Placing.{edges-of}
+use Rattle.lh_places.proofs.Telling.{tells-grown}
 use Rattle.lh_region.proofs.Going.{edges-grown}
 use Rattle.lh_region.proofs.Begun.{edges-on, edges-conditions}
 use Rattle.lh_walk.proofs.Continuing.{so-far-grown}
@@ -295,7 +294,3 @@ begins-by ns ms w q turns block at es fs e f some reached next insts rows source
 
 pub some-led : (es led : List Edge) (n : ℕ) → es ≡ led → n ≡ length es → (n ≡ 0 → ⊥) → led ≡ [] → ⊥
 some-led es led n e l not f = not (l ∙ ap length (e ∙ f))
-
-pub err-map : {A E : Type 0} (r : Result A E) (P Q : E → Type 0) → ((e : E) → P e → Q e) → IfErr r P → IfErr r Q
-err-map (Ok x) P Q f h = h
-err-map (Err e) P Q f h = f e h

@@ -3,7 +3,7 @@ use Rattle.std.proofs.Common.{◌≡◌, ◌⊎◌, inl, inr, ℕ, ◌+◌, ◌<
 use Rattle.std.specs.Option.{option_and_then, option_map}
 use Rattle.std.proofs.lemmas.Bool.{false≢true}
 use Rattle.std.proofs.lemmas.Option.{same_Some, none-some}
-use Rattle.lh_types.specs.Types.{TypeTree, int_type, time_type, void_type, array_type, tuple_type, signal_type, pointer_type, IsData}
+use Rattle.lh_types.specs.Types.{TypeTree, signal_type, IsData}
 use Rattle.lh_types.specs.ValueOf.{datum_of}
 use Rattle.lh_types.specs.declared.op.Op.{Op}
 use Rattle.lh_types.specs.declared.part.Step.{Step}
@@ -32,6 +32,7 @@ use Rattle.lh_formed.specs.Operands.{IsOf, RowIs}
 use Rattle.lh_formed.specs.Parts.{HasPart}
 use Rattle.lh_eval.specs.Sound.{IsWrittenRight}
 use Rattle.lh_eval.proofs.GivesFit.{constants-fit}
+use Rattle.lh_eval.proofs.PartsRead.{carried-some}
 use Rattle.lh_formed.proofs.EachItem.{each-split}
 use Rattle.lh_formed.proofs.AtPlaces.{place-at}
 use Rattle.lh_sound.proofs.Finding.{some-of}
@@ -68,7 +69,7 @@ use Rattle.lh_rows.proofs.Steps.{RegionOf, text-at}
 use Rattle.lh_rows.proofs.Taking as Taking
 use Rattle.lh_rows.proofs.Leading as Leading
 use Rattle.lh_rows.proofs.Taking.{step-first}
-use Rattle.lh_region.specs.declared.state.PlaceState.{PlaceState}
+use Rattle.lh_places.specs.declared.state.PlaceState.{PlaceState}
 use Rattle.lh_region.specs.declared.ahead.Ahead.{Ahead}
 use Rattle.lh_region.specs.declared.rows.Rows.{Rows}
 use Rattle.lh_walk.specs.declared.walk.Region.{Region}
@@ -76,7 +77,7 @@ use Rattle.lh_walk.specs.declared.walk.Walk.{Walk}
 use Rattle.lh_walk.specs.declared.walk.WalkPoint.{WalkPoint}
 use Rattle.lh_region.specs.declared.effects.DriveAt.{DriveAt}
 use Rattle.lh_region.specs.declared.taking.PlaceValue.{PlaceValue}
-use Rattle.lh_region.specs.Asked.{Tells, CanAsk, SamePlaces}
+use Rattle.lh_places.specs.Asked.{Tells, CanAsk, SamePlaces}
 use Rattle.lh_region.specs.Taken.{told_of, asks_at, CanAskAll, StillToldAll, IsOperation}
 use Rattle.lh_region.specs.Walking.{as_term, term_known, Story, TellsKnown, AreAhead, AreSources}
 use Rattle.lh_region.specs.Stands.{AreRows}
@@ -84,9 +85,9 @@ use Rattle.lh_region.specs.Gives.{with_term, ValuesDiffer}
 use Rattle.lh_region.specs.Effects.{probed, CanDrive, StillDriven, IsProbed, IsDriven, AreAsserted}
 use Rattle.lh_walk.specs.Lines.{IsThat, IsToldOf, IsOperationOn, GivesWhere, gives_alone, MayTest, StillTested, IsDriveCond}
 use Rattle.lh_walk.specs.Walked.{process_by, region_text, ContinuesStory, leads_nowhere, course_at, IsBetween, takes_line}
-use Rattle.lh_region.proofs.Placing.{same-length}
+use Rattle.lh_places.proofs.Placing.{same-length}
 use Rattle.lh_region.proofs.Gathering.{there-from}
-use Rattle.lh_region.proofs.Telling.{tells-grown}
+use Rattle.lh_places.proofs.Telling.{tells-grown}
 use Rattle.lh_walk.proofs.Parting.{step-of-line, part-there}
 use Rattle.lh_region.proofs.Rowing.{rows-grown}
 use Rattle.lh_walk.proofs.Continuing.{continues-given, so-far-grown}
@@ -114,16 +115,6 @@ front-parts None b ts e = absurd (none-some ts e)
 front-parts (Some x) None ts e = absurd (none-some ts e)
 front-parts (Some x) (Some xs) ts e = (x, xs, refl, refl, same_Some (x ∷ xs) ts e)
 
-carried-is : (o : Option TypeTree) (t : TypeTree) → option_and_then carried o ≡ Some t → o ≡ Some (signal_type t)
-carried-is None t e = absurd (none-some t e)
-carried-is (Some (signal_type x)) t e = ap (λ (y : TypeTree). Some (signal_type y)) (same_Some x t e)
-carried-is (Some (int_type n)) t e = absurd (none-some t e)
-carried-is (Some (array_type n x)) t e = absurd (none-some t e)
-carried-is (Some (tuple_type ts)) t e = absurd (none-some t e)
-carried-is (Some (pointer_type x)) t e = absurd (none-some t e)
-carried-is (Some time_type) t e = absurd (none-some t e)
-carried-is (Some void_type) t e = absurd (none-some t e)
-
 -- a step takes a part of one signal
 step-parts : (o : Op) (args : List Typed) (p : StepOf) → step_on o args ≡ Some p → (y : Typed) × (t : TypeTree) × (s : Step) × (args ≡ y ∷ []) × (step_of o ≡ Some s) × (y.ty ≡ Some (signal_type t))
 step-parts o [] p e = absurd (none-some p e)
@@ -135,7 +126,7 @@ step-parts o (y ∷ []) p e = by (step_of o) refl (option_and_then carried y.ty)
     by None q None g h = absurd (none-some p h)
     by None q (Some t) g h = absurd (none-some p h)
     by (Some s) q None g h = absurd (none-some p h)
-    by (Some s) q (Some t) g h = (y, t, s, refl, q, carried-is y.ty t g)
+    by (Some s) q (Some t) g h = (y, t, s, refl, q, carried-some y.ty t g)
 
 no-step : (f : Naming) (o : Op) (args : List Typed) → step_on o args ≡ None → (x : OperandText) (s : Step) (t : TypeTree) → map (operand_text f) args ≡ x ∷ [] → step_of o ≡ Some s
     → x.ty ≡ Some (signal_type t) → ⊥

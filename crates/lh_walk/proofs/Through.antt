@@ -8,7 +8,8 @@ use Rattle.lh_unit.specs.Naming.{Naming}
 use Rattle.lh_unit.specs.Within.{Each}
 use Rattle.lh_flat.specs.declared.flat.FlatBlock.{FlatBlock}
 use Rattle.lh_flat.specs.Flat.{FlatBlockText}
-use Rattle.lh_flat.specs.Reads.{flat_block_text, flat_blocks_text}
+use Rattle.lh_flat.specs.Reads.{flat_block_text}
+use Rattle.lh_flat.proofs.Placing.{read-long}
 use Rattle.lh_term.specs.Make.{bit_of}
 use Rattle.lh_term.specs.declared.term.Node.{Node}
 use Rattle.lh_rows.specs.Joins.{RegionPlace, RegionEdge}
@@ -19,13 +20,13 @@ use Rattle.lh_rows.proofs.Steps.{RegionOf, EdgeRight}
 use Rattle.lh_rows.proofs.Merging.{bit-condition}
 use Rattle.lh_rows.proofs.Ordered.{Before, next-later, place-is}
 use Rattle.lh_rows.proofs.Courses as Courses
-use Rattle.lh_region.specs.declared.state.PlaceState.{PlaceState}
+use Rattle.lh_places.specs.declared.state.PlaceState.{PlaceState}
 use Rattle.lh_walk.specs.declared.walk.Region.{Region}
 use Rattle.lh_walk.specs.declared.walk.Walk.{Walk}
 use Rattle.lh_walk.specs.declared.walk.WalkPoint.{WalkPoint}
 use Rattle.lh_region.specs.declared.rows.RegionFault.{RegionFault}
 use Rattle.lh_region.specs.Ahead.{LeadsNowhere}
-use Rattle.lh_region.specs.Asked.{edges_at, Tells}
+use Rattle.lh_places.specs.Asked.{edges_at, Tells}
 use Rattle.lh_region.specs.Stands.{AreDrives, AreTerms, AreEnds, refusal_of}
 use Rattle.lh_region.specs.Walking.{Story, AreEdges, place_of}
 use Rattle.lh_walk.specs.Walked.{process_by, region_text, IsCourse, IsOpened, CanTreat, treated, Treats, TreatsNot, StopsFor}
@@ -44,10 +45,6 @@ pub record IsFresh (r : Region) (ps : List PlaceState) (w : Walk) : Type 0 where
   pub asserts : w.rows.asserts ≡ []
   pub ends : w.rows.ends ≡ []
   pub sources : w.sources ≡ []
-
-pub text-length : (f : Naming) (k : ℕ) (bs : List FlatBlock) → length (flat_blocks_text f k bs) ≡ length bs
-text-length f k [] = refl
-text-length f k (b ∷ bs) = ap suc (text-length f (k + 1) bs)
 
 -- where a region starts, by the definition
 region-is : (g : RegionText) (k : ℕ) (b : FlatBlockText) (es : List RegionEdge) → slice_get g.blocks k ≡ Some b
@@ -143,7 +140,7 @@ module _ (ns : List Node) (f : Naming) (name : UnitName) (r : Region) (ps : List
 
   -- what the definition comes to
   from-is : region_from g at.block (x ∷ xs) ≡ then_course (through_block g p (bit_of true) (x ∷ xs) no_course bt) (through_all g (all_places (length r.flat.now.blocks)))
-  from-is = region-is g at.block bt (x ∷ xs) bat.at ∙ ap (λ n. then_course (through_block g p (bit_of true) (x ∷ xs) no_course bt) (through_all g (all_places n))) (text-length f 0 r.flat.now.blocks)
+  from-is = region-is g at.block bt (x ∷ xs) bat.at ∙ ap (λ n. then_course (through_block g p (bit_of true) (x ∷ xs) no_course bt) (through_all g (all_places n))) (read-long f 0 r.flat.now.blocks)
 
   module _ (w : Walk) (k : IsFresh r ps w) (ms : List Node) (q : Walk) (t : Treats ns r w at ms q) where
     -- the course after the first place

@@ -1,10 +1,10 @@
 -- A place is treated: its instructions are counted, and its lines are taken one after the other.
-use Rattle.std.proofs.Common.{◌≡◌, inl, inr, ℕ, zero, suc, ◌+◌, ◌-◌, ◌<◌, ◌≤◌, Bool, true, false, not, nat_lt, if◌then◌else◌, List, [], ◌∷◌, ◌++◌, length, map, take, drop, get_or, Option, Some, None, Result, Ok, Err, slice_get, refl, ap, sym, ◌∙◌, subst, append_assoc, arith}
+use Rattle.std.proofs.Common.{◌≡◌, inl, inr, ℕ, zero, suc, ◌+◌, ◌-◌, ◌<◌, ◌≤◌, Bool, true, false, not, nat_lt, if◌then◌else◌, List, [], ◌∷◌, ◌++◌, length, map, take, drop, get_or, Option, Some, None, slice_get, refl, ap, sym, ◌∙◌, subst, append_assoc, arith}
 use Rattle.std.specs.Option.{option_map}
-use Rattle.std.specs.Result.{IfErr}
 use Rattle.std.proofs.lemmas.List.{append-nil, drop_all}
 use Rattle.std.proofs.lemmas.Bool.Decides.{nat_tests}
 use Rattle.std.proofs.lemmas.Option.{none-some}
+use Rattle.std.proofs.lemmas.Bool.{not-true, not-false}
 use Rattle.lh_unit.specs.declared.name.UnitName.{UnitName}
 use Rattle.lh_unit.specs.declared.inst.Inst.{Inst}
 use Rattle.lh_unit.specs.declared.inst.Inst.TheVariants as inst
@@ -106,14 +106,6 @@ pub nowhere-is : (f : Naming) (i : Inst) → is_terminator (inst_text f i) ≡ n
 nowhere-is f (inst.Ret None) = refl
 nowhere-is f (inst.Ret (Some t)) = refl
 nowhere-is f _ = refl
-
-not-true : (b : Bool) → not b ≡ true → b ≡ false
-not-true true e = cc
-not-true false e = refl
-
-not-false : (b : Bool) → not b ≡ false → b ≡ true
-not-false true e = refl
-not-false false e = cc
 
 ends-by-ids : (f : Naming) (ls : List FlatInst) → EndsOnce (map (flat_line_text f) ls) → (map (flat_line_text f) ls ≡ [] → ⊥) → EndsLast ls
 ends-by-ids f [] e n = absurd (n refl)
@@ -400,9 +392,3 @@ block-within ns r w at c = within r.flat.now.blocks at.block c.block c.opened.st
     within [] i b e = absurd (none-some b e)
     within (a ∷ bs) zero b e = omega arith
     within (a ∷ bs) (suc i) b e = omega (arith, within bs i b e)
-
--- ---- results
-
-pub err-map : {A E : Type 0} (r : Result A E) (P Q : E → Type 0) → ((e : E) → P e → Q e) → IfErr r P → IfErr r Q
-err-map (Ok t) P Q f h = tt
-err-map (Err e) P Q f h = f e h

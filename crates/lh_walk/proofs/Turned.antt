@@ -14,7 +14,7 @@ use Rattle.lh_walk.specs.declared.walk.Walk.{Walk}
 use Rattle.lh_region.specs.declared.rows.RegionFault.{RegionFault}
 use Rattle.lh_region.specs.declared.rows.RegionFault.TheVariants as fault
 use Rattle.lh_region.specs.Ahead.{none_led, LeadsNowhere}
-use Rattle.lh_region.specs.Asked.{Tells}
+use Rattle.lh_places.specs.Asked.{Tells}
 use Rattle.lh_region.specs.Stands.{AreRows, refusal_of}
 use Rattle.lh_region.specs.Walking.{Story, place_of, AreSources}
 use Rattle.lh_walk.specs.Walked.{region_text, StopsFor}

@@ -1,9 +1,11 @@
 -- Places one after the other, by the definition and by a walk: what passes some and then others passes all of them.
-use Rattle.std.proofs.Common.{◌≡◌, ℕ, zero, suc, ◌+◌, ◌<◌, ◌≤◌, Bool, true, false, ◌&&◌, nat_eq, if◌then◌else◌, List, [], ◌∷◌, ◌++◌, map, Option, Some, None, refl, ap, sym, ◌∙◌, subst, append_assoc, arith}
+use Rattle.std.proofs.Common.{◌≡◌, ℕ, zero, suc, ◌+◌, ◌<◌, ◌≤◌, Bool, true, false, ◌&&◌, nat_eq, List, [], ◌∷◌, ◌++◌, Option, Some, None, refl, ap, sym, ◌∙◌, subst, append_assoc, arith}
 use Rattle.std.specs.List.{flat_map}
 use Rattle.std.proofs.lemmas.List.{append-nil}
+use Rattle.std.proofs.lemmas.Bool.{cond-false}
 use Rattle.lh_unit.proofs.Lists.{nat_eq-other}
 use Rattle.lh_term.specs.declared.term.Node.{Node}
+use Rattle.lh_term.proofs.Arenas.{map_push}
 use Rattle.lh_rows.specs.Joins.{RegionPlace, RegionEdge}
 use Rattle.lh_rows.specs.Places.{Region as RegionText}
 use Rattle.lh_rows.specs.Regions.{RegionRefusal, Course, Coursed, stops, comes_to, then_course, edges_to, through_reached, through_all, numbers_below}
@@ -33,16 +35,12 @@ some-edges ns s (e ∷ es) (x ∷ xs) n h = (x, xs, refl)
 
 -- ---- edges ahead
 
-if-false : {A : Type 0} (b : Bool) (x y : A) → b ≡ false → (if b then x else y) ≡ y
-if-false true x y e = cc
-if-false false x y e = refl
-
 -- a place was reached: the edges to later blocks stay
 pub ahead-reached : (ns : List Node) (s : Story) (turns block : ℕ) (old new : Ahead) (xs : List RegionEdge) → AreAhead ns s turns block old xs → IsReached old.here.items block new.here.items
     → new.next ≡ old.next → AreAhead ns s turns (block + 1) new xs
 ahead-reached ns s turns block old new xs h r k = record {
   here = λ b l. subst (λ (es : List Edge). AreEdges ns s es (edges_to (place_of turns b) xs))
-      (sym (r.led b ∙ if-false (nat_eq block b) [] (led_to old.here.items b) (nat_eq-other block b (λ e. less block b l e)))) (h.here b (before block b l));
+      (sym (r.led b ∙ cond-false (nat_eq block b) [] (led_to old.here.items b) (nat_eq-other block b (λ e. less block b l e)))) (h.here b (before block b l));
   next = λ b. subst (λ (es : List Edge). AreEdges ns s es (edges_to (place_of (turns + 1) b) xs)) (λ j. led_to (sym k j).items b) (h.next b);
   last = h.last;
 }
@@ -114,14 +112,10 @@ then-stops g ps qs c (Some r) h = all-append g ps qs c ∙ ap (λ (x : Coursed).
 
 -- ---- the places of a turn, and of turns
 
-map-push : {A B : Type 0} (f : A → B) (xs : List A) (x : A) → map f (xs ++ x ∷ []) ≡ map f xs ++ f x ∷ []
-map-push f [] x = refl
-map-push f (y ∷ ys) x = ap (λ zs. f y ∷ zs) (map-push f ys x)
-
 pub places-more : (t n : ℕ) → places_of t (n + 1) ≡ places_of t n ++ place_of t n ∷ []
 places-more t n =
     let z : n + 1 ≡ suc n = omega arith in
-    ap (places_of t) z ∙ map-push (place_of t) (numbers_below n) n
+    ap (places_of t) z ∙ map_push (place_of t) (numbers_below n) n
 
 flat-push : (f : ℕ → List RegionPlace) (xs : List ℕ) (x : ℕ) → flat_map f (xs ++ x ∷ []) ≡ flat_map f xs ++ f x
 flat-push f [] x = append-nil (f x)
@@ -136,7 +130,7 @@ turns-more n k =
 pub places-none : (g : RegionText) (t n : ℕ) (c : Course) → ((b : ℕ) → b < n → edges_to (place_of t b) c.edges ≡ []) → through_all g (places_of t n) c ≡ comes_to c
 places-none g t zero c h = refl
 places-none g t (suc n) c h =
-    ap (λ (ps : List RegionPlace). through_all g ps c) (map-push (place_of t) (numbers_below n) n)
+    ap (λ (ps : List RegionPlace). through_all g ps c) (map_push (place_of t) (numbers_below n) n)
     ∙ then-comes g (places_of t n) (place_of t n ∷ []) c c (places-none g t n c (λ b l. h b (omega (arith, l))))
     ∙ one-none g (place_of t n) c (h n (omega arith))
 

@@ -13,7 +13,7 @@ use Rattle.lh_rows.specs.Regions.{Course, comes_to, first_region, second_region,
 use Rattle.lh_walk.specs.declared.walk.Region.{Region}
 use Rattle.lh_walk.specs.declared.walk.Walk.{Walk}
 use Rattle.lh_walk.specs.declared.walk.WalkPoint.{WalkPoint}
-use Rattle.lh_region.specs.declared.state.PlaceState.{PlaceState}
+use Rattle.lh_places.specs.declared.state.PlaceState.{PlaceState}
 use Rattle.lh_region.specs.Begins.{IsBegun, BeginsJoined}
 use Rattle.lh_region.specs.declared.rows.Rows.{Rows}
 use Rattle.lh_region.specs.declared.rows.RegionFault.{RegionFault}

@@ -13,8 +13,8 @@ use Rattle.lh_term.specs.Arena.{StandsForTree}
 use Rattle.lh_term.specs.declared.term.TermId.{TermId}
 use Rattle.lh_term.specs.declared.term.Node.{Node}
 use Rattle.lh_rows.specs.Known.{Known, Knowledge}
-use Rattle.lh_region.specs.declared.state.PlaceState.{PlaceState}
-use Rattle.lh_region.specs.Asked.{KnownTerms, Tells}
+use Rattle.lh_places.specs.declared.state.PlaceState.{PlaceState}
+use Rattle.lh_places.specs.Asked.{KnownTerms, Tells}
 use Rattle.lh_region.specs.Taken.{told_of, asks_at}
 use Rattle.lh_region.specs.Branches.{CanTest, IsAnd}
 use Rattle.lh_region.specs.Walking.{as_term, Story, TellsKnown}

@@ -23,13 +23,13 @@ use Rattle.lh_rows.specs.Joins.{RegionEdge, with_phi, with_phis, known_at}
 use Rattle.lh_rows.specs.Places.{Here, Midst, takes_all}
 use Rattle.lh_rows.specs.Regions.{Course, turns_too_often}
 use Rattle.lh_rows.specs.Typed.{PhiKnown}
-use Rattle.lh_region.specs.declared.state.PlaceState.{PlaceState}
+use Rattle.lh_places.specs.declared.state.PlaceState.{PlaceState}
 use Rattle.lh_walk.specs.declared.walk.Region.{Region}
 use Rattle.lh_walk.specs.declared.walk.Walk.{Walk}
 use Rattle.lh_walk.specs.declared.walk.WalkPoint.{WalkPoint}
 use Rattle.lh_region.specs.declared.rows.RegionFault.{RegionFault}
 use Rattle.lh_region.specs.declared.rows.RegionFault.TheVariants as fault
-use Rattle.lh_region.specs.Asked.{edges_at, Tells}
+use Rattle.lh_places.specs.Asked.{edges_at, Tells}
 use Rattle.lh_region.specs.Gives.{ValuesDiffer}
 use Rattle.lh_region.specs.Heads.{LabelsDiffer}
 use Rattle.lh_region.specs.Operands.{AreFrom}

@@ -14,12 +14,12 @@ use Rattle.lh_rows.specs.Places.{Here}
 use Rattle.lh_rows.specs.Regions.{Course, Coursed, comes_to, edges_to, through_all, numbers_below, all_places, region_from}
 use Rattle.lh_rows.specs.Typed.{JoinEdge}
 use Rattle.lh_rows.specs.Right.{as_block, CourseFine}
-use Rattle.lh_region.specs.declared.state.PlaceState.{PlaceState}
+use Rattle.lh_places.specs.declared.state.PlaceState.{PlaceState}
 use Rattle.lh_walk.specs.declared.walk.Region.{Region}
 use Rattle.lh_walk.specs.declared.walk.Walk.{Walk}
 use Rattle.lh_walk.specs.declared.walk.WalkPoint.{WalkPoint}
 use Rattle.lh_region.specs.declared.rows.RegionFault.{RegionFault}
-use Rattle.lh_region.specs.Asked.{edges_at, Tells}
+use Rattle.lh_places.specs.Asked.{edges_at, Tells}
 use Rattle.lh_region.specs.Heads.{begins_with_phi}
 use Rattle.lh_walk.specs.Named.{EdgesNamed, CourseNamed}
 use Rattle.lh_region.specs.Stands.{refusal_of}

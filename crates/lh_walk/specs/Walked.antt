@@ -26,7 +26,7 @@ use Rattle.lh_walk.specs.declared.walk.Walk.{Walk}
 use Rattle.lh_walk.specs.declared.walk.WalkPoint.{WalkPoint}
 use Rattle.lh_region.specs.declared.rows.RegionFault.{RegionFault}
 use Rattle.lh_region.specs.declared.rows.RegionFault.TheVariants as fault
-use Rattle.lh_region.specs.Asked.{edges_at, Tells}
+use Rattle.lh_places.specs.Asked.{edges_at, Tells}
 use Rattle.lh_region.specs.Begins.{StaysKnown}
 use Rattle.lh_region.specs.Effects.{probed}
 use Rattle.lh_region.specs.Forms.{Names}

@@ -7,10 +7,10 @@ ghost use Rattle.lh_walk.specs.Turns as turns;
 
 use crate::walk::{Region, Walk, WalkPoint};
 use lh_joins::joins::any_of;
+use lh_places::places::Places;
 use lh_region::ahead::{Ahead, EdgeList};
 use lh_region::beginning::begin;
 use lh_region::leading::MAX_TURNS;
-use lh_region::places::Places;
 use lh_region::rows::{RegionFault, Rows};
 use lh_term::terms::Terms;
 use std::alloc::Global;

@@ -2,8 +2,8 @@
 
 use lh_flat::Flat;
 use lh_parts::PartTable;
+use lh_places::places::Places;
 use lh_region::ahead::{Ahead, EdgeList};
-use lh_region::places::Places;
 use lh_region::rows::Rows;
 use lh_term::term::TermId;
 

@@ -1,10 +1,11 @@
-use Rattle.std.proofs.Common.{map, take}
 use Rattle.lh_syntax.specs.SyntaxOf.{operand_of}
-use Rattle.lh_read.proofs.Lists.{operands-keep, next_said, next-placed}
+use Rattle.lh_read.proofs.Lists.{operands-keep, next-taken}
 use Rattle.lh_read.proofs.ids.operands.Goals as goal
 
 pub loop-one-preserved : goal.loop-one-preserved
-loop-one-preserved c =
-    let from = c.args.from.now in let i = c.loop-one.one-index in let one = c.one-item.result in
-    next-placed operands-keep c.args.m.now c.loop-one.m c.operand.new.m c.args.unit c.loop-one.to c.push.new.self c.in_ok-placed.placed (map operand_of (take i from)) _ (operand_of one)
-    c.loop-one.invariant c.in_ok-placed.ensures c.in_ok-push.ensures.ok (next_said operand_of from i one c.loop-one-test.true c.one-item.is)
+loop-one-preserved c = (
+  tt,
+  tt,
+  next-taken operands-keep operand_of c.args.m.now c.loop-one.m c.operand.new.m c.args.unit c.loop-one.to c.push.new.self c.in_ok-placed.placed c.in-Some.one
+      c.loop-one.one-iterator c.next.new.self c.args.from c.loop-one.invariant.2 c.in-Some.ensures.steps c.in_ok-placed.ensures c.in_ok-push.ensures.ok,
+)

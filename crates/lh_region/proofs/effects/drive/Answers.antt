@@ -1,8 +1,8 @@
 use Rattle.std.proofs.Common.{◌≡◌, ◌∙◌, ◌++◌, ◌∷◌, [], refl, sym}
+use Rattle.std.proofs.lemmas.Result.{on_ok_weaker}
 use Rattle.lh_region.specs.declared.rows.Rows.{Rows}
 use Rattle.lh_region.specs.declared.rows.DriveRow.{DriveRow}
 use Rattle.lh_region.specs.Effects.{IsDriven}
-use Rattle.lh_region.proofs.Telling.{ok-then}
 use Rattle.lh_region.proofs.Rowing.{driven-more}
 use Rattle.lh_region.proofs.effects.drive.Goals as goal
 
@@ -13,7 +13,7 @@ returns-clause-rows c =
     let d = c.args.drives in let r = c.args.rows.now in
     let row : DriveRow = record { cond = d.cond; part = c.args.part; value = c.in_ok-value.value; delay = c.in_ok-delay.delay } in
     let q : Rows = record { probes = r.probes; drives = c.push.new.self; asserts = r.asserts; ends = r.ends } in
-    ok-then c.push.result (c.push.new.self ≡ r.drives ++ row ∷ []) (IsDriven ns ps r os q d c.args.part)
+    on_ok_weaker {P = c.push.new.self ≡ r.drives ++ row ∷ []} {Q = IsDriven ns ps r os q d c.args.part} c.push.result
     (λ e. driven-more ns ms ps qs d c.in_ok-value.value c.value_at.ensures.kept c.in_ok-value.ensures.still c.in_ok-value.ensures.term os rs c.in_ok-delay.delay c.value_at-2.ensures.kept
     c.in_ok-delay.ensures.still c.in_ok-delay.ensures.term
     r q c.args.part row c.requires.cond (sym c.never_holds.ensures ∙ c.if-never_holds.false) refl refl refl refl refl e refl refl)

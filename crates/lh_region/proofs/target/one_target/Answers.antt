@@ -3,7 +3,7 @@ use Rattle.lh_cover.specs.Runs.{IsCover}
 use Rattle.lh_rows.specs.Regions as texts
 use Rattle.lh_region.specs.declared.rows.EndRow.{EndRow}
 use Rattle.lh_region.specs.Stands.{way_text}
-use Rattle.lh_region.proofs.Telling.{head-tail}
+use Rattle.lh_places.proofs.Telling.{head-tail}
 use Rattle.lh_region.proofs.Targeting.{first_way, alike-first, alike-end, first-is, answer-is}
 use Rattle.lh_region.proofs.target.one_target.Goals as goal
 

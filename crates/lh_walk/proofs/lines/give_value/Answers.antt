@@ -1,20 +1,20 @@
 use Rattle.std.proofs.Common.{◌∙◌}
-use Rattle.lh_region.specs.Asked.{SamePlaces, IsWithAt}
+use Rattle.std.proofs.lemmas.Result.{on_ok_weaker}
+use Rattle.lh_places.specs.Asked.{SamePlaces, IsWithAt}
 use Rattle.lh_region.specs.Gives.{GivesTerm}
 use Rattle.lh_walk.specs.Lines.{IsToldOf, GivesWhere}
-use Rattle.lh_region.proofs.Placing.{with-same}
-use Rattle.lh_region.proofs.Telling.{ok-then}
+use Rattle.lh_places.proofs.Placing.{with-same}
 use Rattle.lh_walk.proofs.GivingWhere.{gives-told}
 use Rattle.lh_walk.proofs.lines.give_value.Goals as goal
 
 pub returns-clause-same : goal.returns-clause-same
 returns-clause-same c =
     let ps = c.args.places.now.items in let qs = c.value_at.new.places.items in let rs = c.give.new.places.items in
-    ok-then c.give.result (IsWithAt qs c.args.at c.args.to c.in_ok-term.term rs) (SamePlaces ps rs) (λ w. with-same qs rs c.args.to c.args.at c.in_ok-term.term w ∙ c.in_ok-term.ensures.same)
+    on_ok_weaker {P = IsWithAt qs c.args.at c.args.to c.in_ok-term.term rs} {Q = SamePlaces ps rs} c.give.result (λ w. with-same qs rs c.args.to c.args.at c.in_ok-term.term w ∙ c.in_ok-term.ensures.same)
     c.give.ensures.with_term
 
 pub returns-clause-gives : goal.returns-clause-gives
 returns-clause-gives c =
     let ns = c.args.terms.now in let ms = c.value_at.new.terms in let ps = c.args.places.now.items in let qs = c.value_at.new.places.items in let rs = c.give.new.places.items in
-    ok-then c.give.result (GivesTerm qs c.args.at c.args.to c.in_ok-term.term rs) (GivesWhere (IsToldOf c.args.at c.args.of) ns ps c.args.at c.args.to ms rs)
+    on_ok_weaker {P = GivesTerm qs c.args.at c.args.to c.in_ok-term.term rs} {Q = GivesWhere (IsToldOf c.args.at c.args.of) ns ps c.args.at c.args.to ms rs} c.give.result
     (gives-told ns ms ps qs rs c.args.at c.args.of c.args.to c.in_ok-term.term c.in_ok-term.ensures.same c.in_ok-term.ensures.still c.in_ok-term.ensures.term) c.give.ensures.gives

@@ -1,12 +1,11 @@
 use Rattle.std.proofs.Common.{refl}
+use Rattle.std.proofs.lemmas.Result.{IfOk-weaker, IfErr-weaker}
 use Rattle.lh_walk.specs.declared.walk.WalkPoint.{WalkPoint}
 use Rattle.lh_walk.specs.Both.{GoesFirst, FirstStops}
 use Rattle.lh_region.specs.Starts.{lines_left}
 use Rattle.lh_walk.specs.Turns.{GoesThrough, GoesNot}
 use Rattle.lh_walk.proofs.First.{IsHeadPlace, constants-grown, can-start, goes-first, first-stops}
 use Rattle.lh_walk.proofs.Forming.{entry-fits}
-use Rattle.lh_walk.proofs.Reached.{err-map}
-use Rattle.lh_region.proofs.Telling.{ok-map}
 use Rattle.lh_walk.proofs.region.first_walk.Goals as goal
 
 pub start_of-requires : goal.start_of-requires
@@ -45,7 +44,7 @@ returns-clause-through c =
       turns = refl;
       cond = c.in_ok-cond.ensures.made;
     } in
-    ok-map c.walk_from.result (GoesThrough ns r ps at c.walk_from.new.terms) (GoesFirst r c.walk_from.new.terms) (λ w g. goes-first r ns ps at k c.requires.goes_on c.walk_from.new.terms w g)
+    IfOk-weaker c.walk_from.result (GoesThrough ns r ps at c.walk_from.new.terms) (GoesFirst r c.walk_from.new.terms) (λ w g. goes-first r ns ps at k c.requires.goes_on c.walk_from.new.terms w g)
     c.walk_from.ensures.through
 
 pub returns-clause-cause : goal.returns-clause-cause
@@ -63,4 +62,4 @@ returns-clause-cause c =
       turns = refl;
       cond = c.in_ok-cond.ensures.made;
     } in
-    err-map c.walk_from.result (GoesNot ns r ps at) (FirstStops r) (λ e g. first-stops r ns ps at k c.requires.goes_on e g) c.walk_from.ensures.cause
+    IfErr-weaker c.walk_from.result (GoesNot ns r ps at) (FirstStops r) (λ e g. first-stops r ns ps at k c.requires.goes_on e g) c.walk_from.ensures.cause

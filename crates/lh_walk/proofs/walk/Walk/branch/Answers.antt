@@ -1,9 +1,8 @@
 use Rattle.std.proofs.Common.{refl}
-use Rattle.std.proofs.lemmas.Result.{err_from_is_err_and}
+use Rattle.std.proofs.lemmas.Result.{err_from_is_err_and, IfErr-weaker, on_ok_weaker}
 use Rattle.lh_walk.specs.declared.walk.Walk.{Walk}
 use Rattle.lh_walk.specs.Leaving.{LeadsThere, LeadsNot, Branches, BranchesNot}
-use Rattle.lh_region.proofs.Telling.{ok-then}
-use Rattle.lh_walk.proofs.Departing.{err-map, low-condition, high-condition, low-not, high-not, branched}
+use Rattle.lh_walk.proofs.Departing.{low-condition, high-condition, low-not, high-not, branched}
 use Rattle.lh_walk.proofs.walk.Walk.branch.Goals as goal
 
 pub lead_on-requires-clause-cond : goal.lead_on-requires-clause-cond
@@ -35,7 +34,7 @@ returns-clause-led c =
     let v = c.args.fork.cond in let first = c.args.fork.zero in let second = c.args.fork.one in
     let p : Walk = record { places = c.sides_at.new.places; ahead = w.ahead; insts = w.insts; rows = w.rows; sources = w.sources } in
     let q = c.lead_on.new.self in let z = c.lead_on-2.new.self in
-    ok-then c.lead_on-2.result (LeadsThere ms r q at c.in_ok-sides.sides.one second z) (Branches ns r w at v first second ms z)
+    on_ok_weaker {P = LeadsThere ms r q at c.in_ok-sides.sides.one second z} {Q = Branches ns r w at v first second ms z} c.lead_on-2.result
     (λ x. branched ns ms r w p at v first second c.in_ok-sides.sides.zero c.in_ok-sides.sides.one c.sides_at.ensures.kept c.in_ok-sides.ensures.same c.in_ok-sides.ensures.still refl refl refl refl
     c.in_ok-sides.ensures.zero c.in_ok-sides.ensures.one q c.in_ok-lead_on.ensures.led z x)
     c.lead_on-2.ensures.led
@@ -46,7 +45,7 @@ returns-clause-cause c =
     let v = c.args.fork.cond in let first = c.args.fork.zero in let second = c.args.fork.one in
     let p : Walk = record { places = c.sides_at.new.places; ahead = w.ahead; insts = w.insts; rows = w.rows; sources = w.sources } in
     let q = c.lead_on.new.self in
-    err-map c.lead_on-2.result (LeadsNot ms r q at c.in_ok-sides.sides.one second) (BranchesNot ns r w at v first second)
+    IfErr-weaker c.lead_on-2.result (LeadsNot ms r q at c.in_ok-sides.sides.one second) (BranchesNot ns r w at v first second)
     (λ x h. high-not ns ms r w p at v first second c.in_ok-sides.sides.zero c.in_ok-sides.sides.one c.sides_at.ensures.kept c.in_ok-sides.ensures.same c.in_ok-sides.ensures.still refl refl refl refl
     c.in_ok-sides.ensures.zero c.in_ok-sides.ensures.one q c.in_ok-lead_on.ensures.led x h)
     c.lead_on-2.ensures.cause

@@ -1,10 +1,11 @@
 use Rattle.std.proofs.Common.{◌≡◌, ◌∙◌, ◌&&◌, ℕ, false, true, nat_eq, refl, sym, subst}
+use Rattle.std.proofs.lemmas.Bool.{and_right}
+use Rattle.std.proofs.lemmas.Result.{on_ok_weaker}
 use Rattle.lh_unit.proofs.Lists.{nat_eq-refl, nat_eq-other}
 use Rattle.lh_rows.specs.Rows as text
 use Rattle.lh_walk.specs.declared.walk.Walk.{Walk}
 use Rattle.lh_walk.specs.Leaving.{EndsThere, LeadsThere}
-use Rattle.lh_region.proofs.Telling.{ok-then}
-use Rattle.lh_walk.proofs.Departing.{head-not, leads-head, led-edge, led-edge-not}
+use Rattle.lh_walk.proofs.Departing.{leads-head, led-edge, led-edge-not}
 use Rattle.lh_walk.proofs.walk.Walk.lead_on.Goals as goal
 use Rattle.lh_walk.proofs.walk.Walk.lead_on.Goals.{else-region-via-then-region+else-to-region, else-region-via-else-region}
 
@@ -15,7 +16,7 @@ pub returns-then-to-region-clause-led : goal.returns-then-to-region-clause-led
 returns-then-to-region-clause-led c =
     let ns = c.args.terms.now in let r = c.args.region.now in let w = c.args.self.now in let q = c.end_there.new.self in
     let e : (r.ends_at_head && nat_eq c.args.to r.head) ≡ true = λ j. c.if-region.true j && is-equal c.args.to r.head c.if-to-region.true j in
-    ok-then c.end_there.result (EndsThere w c.args.at c.args.cond text.enters_head q) (LeadsThere ns r w c.args.at c.args.cond c.args.to q)
+    on_ok_weaker {P = EndsThere w c.args.at c.args.cond text.enters_head q} {Q = LeadsThere ns r w c.args.at c.args.cond c.args.to q} c.end_there.result
     (λ x. leads-head ns r w q c.args.at c.args.cond c.args.to c.requires.to (sym c.never_holds.ensures ∙ c.if-never_holds.false) e x) c.end_there.ensures.ended
 
 pub returns-clause-led : goal.returns-clause-led
@@ -24,7 +25,7 @@ returns-clause-led c =
     let q : Walk = record { places = w.places; ahead = c.lead.new.ahead; insts = w.insts; rows = w.rows; sources = w.sources } in
     let e : (r.ends_at_head && nat_eq c.args.to r.head) ≡ false =
     elim c.else-region.branch [
-      | else-region-via-then-region+else-to-region v ↦ head-not r.ends_at_head (nat_eq c.args.to r.head) (nat_eq-other c.args.to r.head v.if-to-region.false)
+      | else-region-via-then-region+else-to-region v ↦ and_right r.ends_at_head (nat_eq c.args.to r.head) (nat_eq-other c.args.to r.head v.if-to-region.false)
       | else-region-via-else-region v ↦ (λ j. v.if-region.false j && nat_eq c.args.to r.head)
     ] in
     led-edge ns r w q c.args.at c.args.cond c.args.to c.requires.to (sym c.never_holds.ensures ∙ c.if-never_holds.false) e c.edge_from.result c.edge_from.ensures refl refl refl refl c.lead.result
@@ -35,7 +36,7 @@ returns-clause-cause c =
     let ns = c.args.terms.now in let r = c.args.region.now in let w = c.args.self.now in
     let e : (r.ends_at_head && nat_eq c.args.to r.head) ≡ false =
     elim c.else-region.branch [
-      | else-region-via-then-region+else-to-region v ↦ head-not r.ends_at_head (nat_eq c.args.to r.head) (nat_eq-other c.args.to r.head v.if-to-region.false)
+      | else-region-via-then-region+else-to-region v ↦ and_right r.ends_at_head (nat_eq c.args.to r.head) (nat_eq-other c.args.to r.head v.if-to-region.false)
       | else-region-via-else-region v ↦ (λ j. v.if-region.false j && nat_eq c.args.to r.head)
     ] in
     led-edge-not ns r w w c.args.at c.args.cond c.args.to c.requires.to (sym c.never_holds.ensures ∙ c.if-never_holds.false) e c.edge_from.result c.edge_from.ensures c.lead.result c.lead.ensures.cause

@@ -1,9 +1,8 @@
+use Rattle.std.proofs.lemmas.Result.{IfErr-weaker, on_ok_weaker}
 use Rattle.lh_joins.proofs.Conditions.{grows-none}
 use Rattle.lh_rows.specs.Rows as text
 use Rattle.lh_walk.specs.Walked.{EndsLine, EndsFor}
 use Rattle.lh_walk.specs.Leaving.{EndsThere, LeadsThere, LeadsNot, Branches, BranchesNot, Waits}
-use Rattle.lh_region.proofs.Telling.{ok-then}
-use Rattle.lh_walk.proofs.Departing.{err-map}
 use Rattle.lh_walk.proofs.Ended.{br-ends, br-ends-not, branch-ends, branch-ends-not, wait-ends, halt-ends, else-ends, asked-test, asked-parts}
 use Rattle.lh_walk.proofs.walk.Walk.leave.Goals as goal
 
@@ -17,37 +16,37 @@ wait-requires c = asked-parts c.args.terms.now c.args.region.now c.args.self.now
 pub returns-in-Br-clause-left : goal.returns-in-Br-clause-left
 returns-in-Br-clause-left c =
     let ns = c.args.terms.now in let r = c.args.region.now in let w = c.args.self.now in let q = c.lead_on.new.self in
-    ok-then c.lead_on.result (LeadsThere ns r w c.args.at c.args.at.cond c.in-Br.to.0 q) (EndsLine ns r w c.args.at c.args.line.now ns q)
+    on_ok_weaker {P = LeadsThere ns r w c.args.at c.args.at.cond c.in-Br.to.0 q} {Q = EndsLine ns r w c.args.at c.args.line.now ns q} c.lead_on.result
     (λ x. br-ends ns r w c.args.at c.args.line.now c.in-Br.to q c.in-Br.is x) c.lead_on.ensures.led
 
 pub returns-in-Br-clause-cause : goal.returns-in-Br-clause-cause
 returns-in-Br-clause-cause c =
     let ns = c.args.terms.now in let r = c.args.region.now in let w = c.args.self.now in
-    err-map c.lead_on.result (LeadsNot ns r w c.args.at c.args.at.cond c.in-Br.to.0) (EndsFor ns r w c.args.at c.args.line.now)
+    IfErr-weaker c.lead_on.result (LeadsNot ns r w c.args.at c.args.at.cond c.in-Br.to.0) (EndsFor ns r w c.args.at c.args.line.now)
     (λ x h. br-ends-not ns r w c.args.at c.args.line.now c.in-Br.to x c.in-Br.is h) c.lead_on.ensures.cause
 
 pub returns-in-Branch-clause-left : goal.returns-in-Branch-clause-left
 returns-in-Branch-clause-left c =
     let ns = c.args.terms.now in let ms = c.branch-self.new.terms in let r = c.args.region.now in let w = c.args.self.now in let q = c.branch-self.new.self in let b = c.in-Branch in
-    ok-then c.branch-self.result (Branches ns r w c.args.at b.cond.0 b.zero.0 b.one.0 ms q) (EndsLine ns r w c.args.at c.args.line.now ms q)
+    on_ok_weaker {P = Branches ns r w c.args.at b.cond.0 b.zero.0 b.one.0 ms q} {Q = EndsLine ns r w c.args.at c.args.line.now ms q} c.branch-self.result
     (λ x. branch-ends ns r w c.args.at c.args.line.now c.requires.can.below b.cond b.zero b.one ms q b.is x) c.branch-self.ensures.led
 
 pub returns-in-Branch-clause-cause : goal.returns-in-Branch-clause-cause
 returns-in-Branch-clause-cause c =
     let ns = c.args.terms.now in let r = c.args.region.now in let w = c.args.self.now in let b = c.in-Branch in
-    err-map c.branch-self.result (BranchesNot ns r w c.args.at b.cond.0 b.zero.0 b.one.0) (EndsFor ns r w c.args.at c.args.line.now)
+    IfErr-weaker c.branch-self.result (BranchesNot ns r w c.args.at b.cond.0 b.zero.0 b.one.0) (EndsFor ns r w c.args.at c.args.line.now)
     (λ x h. branch-ends-not ns r w c.args.at c.args.line.now c.requires.can.below b.cond b.zero b.one x b.is h) c.branch-self.ensures.cause
 
 pub returns-in-Wait-clause-left : goal.returns-in-Wait-clause-left
 returns-in-Wait-clause-left c =
     let ns = c.args.terms.now in let r = c.args.region.now in let w = c.args.self.now in let q = c.wait.new.self in let b = c.in-Wait in
-    ok-then c.wait.result (Waits r w c.args.at b.to.0 c.is_some.result b.signals q) (EndsLine ns r w c.args.at c.args.line.now ns q)
+    on_ok_weaker {P = Waits r w c.args.at b.to.0 c.is_some.result b.signals q} {Q = EndsLine ns r w c.args.at c.args.line.now ns q} c.wait.result
     (λ x. wait-ends ns r w c.args.at c.args.line.now c.requires.can.below b.to b.after b.signals c.is_some.result q c.is_some.ensures b.is x) c.wait.ensures.ended
 
 pub returns-in-Halt-clause-left : goal.returns-in-Halt-clause-left
 returns-in-Halt-clause-left c =
     let ns = c.args.terms.now in let r = c.args.region.now in let w = c.args.self.now in let q = c.end_there.new.self in
-    ok-then c.end_there.result (EndsThere w c.args.at c.args.at.cond text.halts q) (EndsLine ns r w c.args.at c.args.line.now ns q) (λ x. halt-ends ns r w c.args.at c.args.line.now q c.in-Halt.is x)
+    on_ok_weaker {P = EndsThere w c.args.at c.args.at.cond text.halts q} {Q = EndsLine ns r w c.args.at c.args.line.now ns q} c.end_there.result (λ x. halt-ends ns r w c.args.at c.args.line.now q c.in-Halt.is x)
     c.end_there.ensures.ended
 
 pub returns-in_default : goal.returns-in_default

@@ -1,5 +1,5 @@
 use Rattle.std.proofs.Common.{refl}
-use Rattle.lh_region.specs.Asked.{SamePlaces}
+use Rattle.lh_places.specs.Asked.{SamePlaces}
 use Rattle.lh_region.specs.Taken.{asks_at, StillToldAll}
 use Rattle.lh_region.specs.Effects.{AreAsserted}
 use Rattle.lh_walk.specs.Lines.{IsToldOf, GivesWhere}

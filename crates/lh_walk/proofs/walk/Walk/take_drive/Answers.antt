@@ -1,6 +1,6 @@
 use Rattle.std.proofs.Common.{ap, refl}
 use Rattle.std.specs.Option.{is_some}
-use Rattle.lh_region.specs.Asked.{SamePlaces}
+use Rattle.lh_places.specs.Asked.{SamePlaces}
 use Rattle.lh_region.specs.declared.effects.DriveAt.{DriveAt}
 use Rattle.lh_region.specs.Effects.{StillDriven, IsDriven}
 use Rattle.lh_walk.specs.declared.walk.Walk.{Walk}

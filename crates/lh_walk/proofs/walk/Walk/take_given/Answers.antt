@@ -4,7 +4,7 @@ use Rattle.lh_types.specs.ValueOf.{datum_of}
 use Rattle.lh_term.specs.Tree.{constant}
 use Rattle.lh_joins.proofs.Conditions.{grows-none}
 use Rattle.lh_flat.specs.declared.flat.FlatInst.{FlatInst}
-use Rattle.lh_region.specs.Asked.{SamePlaces}
+use Rattle.lh_places.specs.Asked.{SamePlaces}
 use Rattle.lh_walk.specs.Lines.{IsThat, IsToldOf, GivesWhere}
 use Rattle.lh_walk.specs.declared.walk.Walk.{Walk}
 use Rattle.lh_walk.specs.Walked.{TakesLine}

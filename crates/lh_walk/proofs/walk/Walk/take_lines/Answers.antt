@@ -1,8 +1,8 @@
 use Rattle.std.proofs.Common.{◌-◌, length, take}
+use Rattle.std.proofs.lemmas.Result.{IfErr-weaker, on_ok_weaker}
 use Rattle.lh_walk.specs.Merges.{EndsLines, EndsLinesFor}
 use Rattle.lh_walk.specs.Walked.{EndsLine, EndsFor}
-use Rattle.lh_region.proofs.Telling.{ok-then}
-use Rattle.lh_walk.proofs.Treated.{last-split, inner-can, inner-nowhere, last-leads, last-can, ends-lines, ends-for, err-map}
+use Rattle.lh_walk.proofs.Treated.{last-split, inner-can, inner-nowhere, last-leads, last-can, ends-lines, ends-for}
 use Rattle.lh_walk.proofs.walk.Walk.take_lines.Goals as goal
 
 pub take_inner-requires-clause-can : goal.take_inner-requires-clause-can
@@ -31,7 +31,7 @@ returns-clause-left c =
     let ns = c.args.terms.now in let ms = c.take_inner.new.terms in let os = c.leave.new.terms in
     let r = c.args.region.now in let w = c.args.self.now in let q = c.take_inner.new.self in let p = c.leave.new.self in let at = c.args.at in
     let ls = c.args.lines.now in let l = c.last-item.result in
-    ok-then c.leave.result (EndsLine ms r q at l os p) (EndsLines ns r w at ls os p)
+    on_ok_weaker {P = EndsLine ms r q at l os p} {Q = EndsLines ns r w at ls os p} c.leave.result
     (λ e. ends-lines ns r w at ls (take (length ls - 1) ls) l (last-split ls l c.in-len1-up.len_at_least c.last-item.is) ms q c.in_ok-take_inner.ensures.taken os p e) c.leave.ensures.left
 
 pub returns-clause-cause : goal.returns-clause-cause
@@ -39,5 +39,5 @@ returns-clause-cause c =
     let ns = c.args.terms.now in let ms = c.take_inner.new.terms in
     let r = c.args.region.now in let w = c.args.self.now in let q = c.take_inner.new.self in let at = c.args.at in
     let ls = c.args.lines.now in let l = c.last-item.result in
-    err-map c.leave.result (EndsFor ms r q at l) (EndsLinesFor ns r w at ls)
+    IfErr-weaker c.leave.result (EndsFor ms r q at l) (EndsLinesFor ns r w at ls)
     (λ x e. ends-for ns r w at ls (take (length ls - 1) ls) l (last-split ls l c.in-len1-up.len_at_least c.last-item.is) ms q c.in_ok-take_inner.ensures.taken x e) c.leave.ensures.cause

@@ -1,5 +1,5 @@
 use Rattle.std.proofs.Common.{◌∙◌, refl, sym}
-use Rattle.lh_region.specs.Asked.{SamePlaces}
+use Rattle.lh_places.specs.Asked.{SamePlaces}
 use Rattle.lh_walk.specs.Lines.{IsOperationOn, GivesWhere, operation_line}
 use Rattle.lh_walk.specs.declared.walk.Walk.{Walk}
 use Rattle.lh_walk.specs.Walked.{TakesLine}

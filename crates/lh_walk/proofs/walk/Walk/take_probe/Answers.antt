@@ -3,12 +3,12 @@ use Rattle.std.specs.Option.{is_some}
 use Rattle.lh_types.specs.Types.{IsData}
 use Rattle.lh_term.specs.declared.part.Part.{Part}
 use Rattle.std.proofs.lemmas.Option.{same_Some}
-use Rattle.lh_region.specs.Asked.{IsWithAt}
+use Rattle.lh_places.specs.Asked.{IsWithAt}
 use Rattle.lh_region.specs.Effects.{probed}
 use Rattle.lh_region.specs.Gives.{GivesTerm}
 use Rattle.lh_walk.specs.declared.walk.Walk.{Walk}
 use Rattle.lh_walk.specs.Walked.{TakesLine}
-use Rattle.lh_region.proofs.Placing.{with-same}
+use Rattle.lh_places.proofs.Placing.{with-same}
 use Rattle.lh_walk.proofs.GivingWhere.{gives-that}
 use Rattle.lh_walk.proofs.TakingLines.{probed-part, prb-next, prb-none}
 use Rattle.lh_walk.proofs.Answered.{ok-both}

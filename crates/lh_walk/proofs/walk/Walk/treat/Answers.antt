@@ -1,9 +1,9 @@
 use Rattle.std.proofs.Common.{◌≡◌, ◌∙◌, ◌+◌, ℕ, List, get_or, ap, subst}
+use Rattle.std.proofs.lemmas.Result.{IfErr-weaker, on_ok_weaker}
 use Rattle.lh_flat.specs.declared.flat.FlatBlock.{FlatBlock}
 use Rattle.lh_walk.specs.Merges.{EndsLines, EndsLinesFor}
 use Rattle.lh_walk.specs.Walked.{Treats, TreatsNot}
-use Rattle.lh_region.proofs.Telling.{ok-then}
-use Rattle.lh_walk.proofs.Treated.{can-treat-counted, lines-after, lines-end, treats, treats-not, err-map}
+use Rattle.lh_walk.proofs.Treated.{can-treat-counted, lines-after, lines-end, treats, treats-not}
 use Rattle.lh_walk.proofs.walk.Walk.treat.Goals as goal
 
 pub take_merges-requires : goal.take_merges-requires
@@ -28,7 +28,7 @@ returns-clause-treated c =
     let ns = c.args.terms.now in let ms = c.take_merges.new.terms in let os = c.take_lines.new.terms in
     let r = c.args.region.now in let w = c.args.self.now in let q = c.take_merges.new.self in let p = c.take_lines.new.self in let at = c.args.at in
     let d = c.index-as_slice-at.result in let ls = c.as_slice-2.result.now in
-    ok-then c.take_lines.result (EndsLines ms r q at ls os p) (Treats ns r w at os p)
+    on_ok_weaker {P = EndsLines ms r q at ls os p} {Q = Treats ns r w at os p} c.take_lines.result
     (λ e. treats ns ms r w q at c.in-Some.insts d (subst (λ (bs : List FlatBlock). d ≡ get_or bs at.block d) c.as_slice.ensures c.index-as_slice-at.is) ls c.as_slice-2.ensures
     c.in_ok-take_merges.ensures.taken
     (c.in-Some.ensures.0 ∙ ap (λ (k : ℕ). w.insts + k) c.len.ensures) c.in-Some.ensures.1 os p e)
@@ -39,7 +39,7 @@ returns-clause-cause c =
     let ns = c.args.terms.now in let ms = c.take_merges.new.terms in
     let r = c.args.region.now in let w = c.args.self.now in let q = c.take_merges.new.self in let at = c.args.at in
     let d = c.index-as_slice-at.result in let ls = c.as_slice-2.result.now in
-    err-map c.take_lines.result (EndsLinesFor ms r q at ls) (TreatsNot ns r w at)
+    IfErr-weaker c.take_lines.result (EndsLinesFor ms r q at ls) (TreatsNot ns r w at)
     (λ x e. treats-not ns ms r w q at c.in-Some.insts d (subst (λ (bs : List FlatBlock). d ≡ get_or bs at.block d) c.as_slice.ensures c.index-as_slice-at.is) ls c.as_slice-2.ensures
     c.in_ok-take_merges.ensures.taken
     (c.in-Some.ensures.0 ∙ ap (λ (k : ℕ). w.insts + k) c.len.ensures) c.in-Some.ensures.1 x e)

@@ -1,12 +1,12 @@
 use Rattle.std.proofs.Common.{[], ◌∷◌, ◌+◌, refl, sym, subst, ◌∙◌}
+use Rattle.std.proofs.lemmas.Result.{IfErr-weaker, on_ok_weaker}
 use Rattle.lh_joins.specs.Joins.{AreConditions}
 use Rattle.lh_walk.specs.declared.walk.Walk.{Walk}
 use Rattle.lh_walk.specs.declared.walk.WalkPoint.{WalkPoint}
 use Rattle.lh_region.specs.Walking.{place_of}
 use Rattle.lh_walk.specs.Walked.{Treats, TreatsNot}
 use Rattle.lh_walk.specs.Turns.{Passes, Stops, walks_at}
-use Rattle.lh_region.proofs.Telling.{ok-then}
-use Rattle.lh_walk.proofs.Reached.{edges-can, begins-by, some-led, err-map, treat-can, passes-block, stops-block}
+use Rattle.lh_walk.proofs.Reached.{edges-can, begins-by, some-led, treat-can, passes-block, stops-block}
 use Rattle.lh_walk.proofs.walk.Walk.treat_block.Goals as goal
 
 pub any_of-requires : goal.any_of-requires
@@ -36,8 +36,7 @@ returns-clause-passed c =
     let b = begins-by ns ms w q c.args.turn c.args.block at c.reach-edges.result c.as_slice.result.now c.reach-edges.ensures.edges c.as_slice.ensures some
     c.reach-edges.ensures.here c.reach-edges.ensures.next refl refl refl c.any_of.ensures.kept (c.in_ok-begin.ensures.place) (c.in_ok-begin.ensures.joined) c.len-place.ensures refl refl
     c.in_ok-cond.ensures.made in
-    ok-then c.treat.result (Treats ms r q at c.treat.new.terms c.treat.new.self)
-    (Passes (walks_at ns r w c.args.turn c.args.block) r (place_of c.args.turn c.args.block ∷ []) c.treat.new.terms c.treat.new.self c.args.turn (c.args.block + 1))
+    on_ok_weaker {P = Treats ms r q at c.treat.new.terms c.treat.new.self} {Q = Passes (walks_at ns r w c.args.turn c.args.block) r (place_of c.args.turn c.args.block ∷ []) c.treat.new.terms c.treat.new.self c.args.turn (c.args.block + 1)} c.treat.result
     (passes-block ns r w c.args.turn c.args.block c.requires.block some ms q at b c.requires.within c.treat.new.terms c.treat.new.self) c.treat.ensures.treated
 
 pub returns-clause-cause : goal.returns-clause-cause
@@ -49,5 +48,5 @@ returns-clause-cause c =
     let b = begins-by ns ms w q c.args.turn c.args.block at c.reach-edges.result c.as_slice.result.now c.reach-edges.ensures.edges c.as_slice.ensures some
     c.reach-edges.ensures.here c.reach-edges.ensures.next refl refl refl c.any_of.ensures.kept (c.in_ok-begin.ensures.place) (c.in_ok-begin.ensures.joined) c.len-place.ensures refl refl
     c.in_ok-cond.ensures.made in
-    err-map c.treat.result (TreatsNot ms r q at) (Stops (walks_at ns r w c.args.turn c.args.block) r (place_of c.args.turn c.args.block ∷ []))
+    IfErr-weaker c.treat.result (TreatsNot ms r q at) (Stops (walks_at ns r w c.args.turn c.args.block) r (place_of c.args.turn c.args.block ∷ []))
     (λ e t. stops-block ns r w c.args.turn c.args.block c.requires.block some ms q at b c.requires.within e t) c.treat.ensures.cause

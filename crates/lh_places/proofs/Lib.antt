@@ -1,0 +1,10 @@
+pub mod Alone
+pub mod Climbing
+pub mod Lacking
+pub mod Lasting
+pub mod Meeting
+pub mod Noting
+pub mod Placing
+pub mod Sounding
+pub mod Telling
+pub mod Valuing

@@ -1,0 +1,5 @@
+pub mod Above
+pub mod Asked
+pub mod Keepers
+pub mod Keeping
+pub mod Lacking
