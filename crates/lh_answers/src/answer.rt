@@ -105,16 +105,21 @@ fn compared(alloc: Global, text: &[u8]) -> Result<Vec<u8>, Refusal> {
 /// A line of the canonical text.
 fn line_of(alloc: Global, text: &[u8], number: u32) -> Result<Vec<u8>, Refusal> {
     let printed = canonical(alloc, text)?;
+    let mut answer = Vec::new(alloc);
+    put_line_of(&mut answer, &printed, number)?;
+    Ok(answer)
+}
+
+fn put_line_of(to: &mut Vec<u8>, text: &[u8], number: u32) -> Result<(), NoMemory> {
     let mut place: u32 = 1;
-    for line in printed.as_slice().split(|b| *b == b'\n') {
+    for line in text.split(|b| *b == b'\n') {
         if place == number {
-            let mut answer = said(alloc, line)?;
-            put(&mut answer, b"\n")?;
-            return Ok(answer);
+            put(to, line)?;
+            return put(to, b"\n");
         }
         place = place.saturating_add(1);
     }
-    Ok(said(alloc, b"there is no such line\n")?)
+    put(to, b"there is no such line\n")
 }
 
 /// Whether a file is well formed.

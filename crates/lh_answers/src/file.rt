@@ -89,10 +89,14 @@ pub fn text_line(alloc: Global, fault: TextFault) -> Refusal {
 
 fn line_at(alloc: Global, number: u32, fault: &[u8]) -> Result<Vec<u8>, NoMemory> {
     let mut line = Vec::new(alloc);
-    put(&mut line, b"line ")?;
-    put_number(&mut line, number as u64)?;
-    put(&mut line, fault)?;
+    put_line(&mut line, number, fault)?;
     Ok(line)
+}
+
+fn put_line(to: &mut Vec<u8>, number: u32, fault: &[u8]) -> Result<(), NoMemory> {
+    put(to, b"line ")?;
+    put_number(to, number as u64)?;
+    put(to, fault)
 }
 
 /// The first faulty instruction and the number of its fault.
@@ -113,18 +117,34 @@ fn invalid_line(
     number: u8,
 ) -> Result<Vec<u8>, NoMemory> {
     let mut line = Vec::new(alloc);
-    put(&mut line, b"unit ")?;
-    if unit.0 < m.units() {
-        let name = m.unit_name(unit);
-        put(&mut line, &[name.sigil])?;
-        put(&mut line, name.name.as_bytes())?;
-    }
-    put(&mut line, b" instruction ")?;
-    put_number(&mut line, inst as u64)?;
-    put(&mut line, b": ")?;
-    put_number(&mut line, number as u64)?;
-    put(&mut line, b"\n")?;
+    put_invalid(&mut line, m, unit, inst, number)?;
     Ok(line)
+}
+
+fn put_invalid(
+    to: &mut Vec<u8>,
+    m: &Module,
+    unit: UnitId,
+    inst: u32,
+    number: u8,
+) -> Result<(), NoMemory> {
+    put(to, b"unit ")?;
+    put_unit(to, m, unit)?;
+    put(to, b" instruction ")?;
+    put_number(to, inst as u64)?;
+    put(to, b": ")?;
+    put_number(to, number as u64)?;
+    put(to, b"\n")
+}
+
+/// The name of a unit, if it is one of this file.
+fn put_unit(to: &mut Vec<u8>, m: &Module, unit: UnitId) -> Result<(), NoMemory> {
+    if unit.0 >= m.units() {
+        return Ok(());
+    }
+    let name = m.unit_name(unit);
+    put(to, &[name.sigil])?;
+    put(to, name.name.as_bytes())
 }
 
 /// The design of the unit of a name.
@@ -170,12 +190,12 @@ fn top_line(alloc: Global, m: &Module, fault: ElabFault) -> Refusal {
 
 fn cycle_line(alloc: Global, m: &Module, unit: UnitId) -> Result<Vec<u8>, NoMemory> {
     let mut line = Vec::new(alloc);
-    put(&mut line, b"top: InstCycle ")?;
-    if unit.0 < m.units() {
-        let name = m.unit_name(unit);
-        put(&mut line, &[name.sigil])?;
-        put(&mut line, name.name.as_bytes())?;
-    }
-    put(&mut line, b"\n")?;
+    put_cycle(&mut line, m, unit)?;
     Ok(line)
+}
+
+fn put_cycle(to: &mut Vec<u8>, m: &Module, unit: UnitId) -> Result<(), NoMemory> {
+    put(to, b"top: InstCycle ")?;
+    put_unit(to, m, unit)?;
+    put(to, b"\n")
 }

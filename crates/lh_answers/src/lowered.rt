@@ -25,14 +25,21 @@ fn told(alloc: Global, file: &Verified) -> Result<Vec<u8>, NoMemory> {
 /// Whether the lowered file, read back from its canonical text, shows what the file shows.
 pub fn beside_lowered(alloc: Global, words: &[&str], text: &[u8]) -> Result<Vec<u8>, Refusal> {
     let file = load(alloc, text)?;
-    let lowered = lower(alloc, &file)?;
-    let after = print(alloc, lowered.module.module())?;
-    let shown = simulated(alloc, words, text)?;
-    let again = simulated(alloc, words, &after)?;
-    let answer: &[u8] = if again.as_slice() == shown.as_slice() {
-        b"the same\n"
-    } else {
-        b"another\n"
-    };
+    let after = printed(alloc, &file)?;
+    let same = show_alike(alloc, words, text, &after)?;
+    let answer: &[u8] = if same { b"the same\n" } else { b"another\n" };
     Ok(Vec::from_slice(alloc, answer)?)
+}
+
+/// The canonical text of the lowered file.
+fn printed(alloc: Global, file: &Verified) -> Result<Vec<u8>, NoMemory> {
+    let lowered = lower(alloc, file)?;
+    print(alloc, lowered.module.module())
+}
+
+/// Whether two texts show the same.
+fn show_alike(alloc: Global, words: &[&str], one: &[u8], other: &[u8]) -> Result<bool, Refusal> {
+    let shown = simulated(alloc, words, one)?;
+    let again = simulated(alloc, words, other)?;
+    Ok(shown.as_slice() == again.as_slice())
 }

@@ -71,14 +71,18 @@ fn mode_of(vcd: bool) -> WaveMode {
 /// The text, the reports, and whether an assertion failed.
 fn told(alloc: Global, shown: &Shown) -> Result<Vec<u8>, NoMemory> {
     let mut answer = Vec::new(alloc);
-    put(&mut answer, shown.out.written())?;
-    put(&mut answer, &shown.reports)?;
-    match shown.ending {
-        Ok(ending) if ending.failed => put(&mut answer, b"assertion failed\n")?,
-        Ok(_) => {}
-        Err(_) => return Err(NoMemory),
-    }
+    put_told(&mut answer, shown)?;
     Ok(answer)
+}
+
+fn put_told(to: &mut Vec<u8>, shown: &Shown) -> Result<(), NoMemory> {
+    put(to, shown.out.written())?;
+    put(to, &shown.reports)?;
+    match shown.ending {
+        Ok(ending) if ending.failed => put(to, b"assertion failed\n"),
+        Ok(_) => Ok(()),
+        Err(_) => Err(NoMemory),
+    }
 }
 
 /// The words as texts.
@@ -153,18 +157,22 @@ pub fn watched(
 /// What was shown, and what the watchers came to.
 fn told_with(alloc: Global, shown: &Shown, ws: &[Speaker]) -> Result<Vec<u8>, NoMemory> {
     let mut answer = Vec::new(alloc);
-    if shown.ending.is_ok() {
-        put(&mut answer, shown.out.written())?;
-    }
-    put_ending(&mut answer, shown.ending)?;
-    put(&mut answer, b"left ")?;
-    put_reports(&mut answer, ws)?;
-    if shown.ending.is_ok() {
-        put(&mut answer, b"\nreports ")?;
-        put(&mut answer, &shown.reports)?;
-    }
-    put(&mut answer, b"\n")?;
+    put_told_with(&mut answer, shown, ws)?;
     Ok(answer)
+}
+
+fn put_told_with(to: &mut Vec<u8>, shown: &Shown, ws: &[Speaker]) -> Result<(), NoMemory> {
+    if shown.ending.is_ok() {
+        put(to, shown.out.written())?;
+    }
+    put_ending(to, shown.ending)?;
+    put(to, b"left ")?;
+    put_reports(to, ws)?;
+    if shown.ending.is_ok() {
+        put(to, b"\nreports ")?;
+        put(to, &shown.reports)?;
+    }
+    put(to, b"\n")
 }
 
 /// How a run ended.

@@ -18,32 +18,40 @@ pub fn counted(alloc: Global, top: &str, text: &[u8]) -> Result<Vec<u8>, Refusal
     let file = load(alloc, text)?;
     let design = top_of(alloc, &file, top)?;
     let mut to = Vec::new(alloc);
-    put_named(&mut to, b"instances", design.instances().len() as u64)?;
-    put_named(&mut to, b"signals", design.signals().len() as u64)?;
-    put_named(&mut to, b"bits", design.init().len() as u64)?;
+    put_counts(&mut to, &design)?;
     Ok(to)
+}
+
+fn put_counts(to: &mut Vec<u8>, design: &Design) -> Result<(), NoMemory> {
+    put_named(to, b"instances", design.instances().len() as u64)?;
+    put_named(to, b"signals", design.signals().len() as u64)?;
+    put_named(to, b"bits", design.init().len() as u64)
 }
 
 /// Steps of a simulation: the instant of each, the activations so far, and the instances that sense each signal then.
 pub fn sensed(alloc: Global, top: &str, steps: u32, text: &[u8]) -> Result<Vec<u8>, Refusal> {
     let file = load(alloc, text)?;
     let design = top_of(alloc, &file, top)?;
-    let answer = sensed_in(alloc, file.module(), design, steps)?;
-    Ok(answer)
+    Ok(sensed_in(alloc, file.module(), design, steps)?)
 }
 
 fn sensed_in(alloc: Global, m: &Module, design: Design, steps: u32) -> Result<Vec<u8>, NoMemory>
     requires { IsDesignOf m.now design }
 {
     let mut sim = Sim::new(alloc, m, design)?;
-    let mut count = Count::new();
     let mut to = Vec::new(alloc);
-    for _ in 0..steps {
-        put_place(&mut to, &mut sim, &mut count)?;
-        put_named(&mut to, b"activations", count.get())?;
-        put_senses(&mut to, &sim)?;
-    }
+    put_sensed(&mut to, &mut sim, steps)?;
     Ok(to)
+}
+
+fn put_sensed(to: &mut Vec<u8>, sim: &mut Sim<'_>, steps: u32) -> Result<(), NoMemory> {
+    let mut count = Count::new();
+    for _ in 0..steps {
+        put_place(to, sim, &mut count)?;
+        put_named(to, b"activations", count.get())?;
+        put_senses(to, sim)?;
+    }
+    Ok(())
 }
 
 /// The instant of the next step.
@@ -85,18 +93,23 @@ pub fn stepped(alloc: Global, m: &Module, design: Design, steps: u32) -> Result<
     requires { IsDesignOf m.now design }
 {
     let mut sim = Sim::new(alloc, m, design)?;
-    let mut count = Count::new();
     let mut to = Vec::new(alloc);
+    put_stepped(&mut to, &mut sim, steps)?;
+    Ok(to)
+}
+
+fn put_stepped(to: &mut Vec<u8>, sim: &mut Sim<'_>, steps: u32) -> Result<(), NoMemory> {
+    let mut count = Count::new();
     for _ in 0..steps {
-        let goes = put_step(&mut to, &mut sim, &mut count)?;
-        put_named(&mut to, b"activations", count.get())?;
-        put_senses(&mut to, &sim)?;
-        put_values(&mut to, &sim)?;
+        let goes = put_step(to, sim, &mut count)?;
+        put_named(to, b"activations", count.get())?;
+        put_senses(to, sim)?;
+        put_values(to, sim)?;
         if !goes {
-            return Ok(to);
+            return Ok(());
         }
     }
-    Ok(to)
+    Ok(())
 }
 
 /// The next step; whether a further one may follow.

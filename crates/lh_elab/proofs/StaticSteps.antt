@@ -3,9 +3,7 @@ use Rattle.std.proofs.Common.{◌≡◌, ℕ, zero, suc, ◌+◌, ◌<◌, ◌�
 use Rattle.std.proofs.lemmas.List.{length-set, drop_more, drop_all}
 use Rattle.lh_types.specs.Types.{TypeTree, signal_type, bit_count}
 use Rattle.lh_types.specs.Values.{Datum}
-use Rattle.lh_types.specs.ValueOf.{datum_of}
 use Rattle.lh_types.specs.declared.op.Op.{Op}
-use Rattle.lh_types.specs.declared.val.Val.{Val}
 use Rattle.lh_types.specs.declared.part.Range.{Range}
 use Rattle.std.specs.Option.{option_map}
 use Rattle.lh_types.specs.Apply.{apply}
@@ -269,9 +267,9 @@ module _ (a : Arena) (u : ℕ) (o : IsArena a) (h : u < unit_count a) (s : Stati
         (λ (k : StaticsById). StaticsFollow a u args sigs k (if_held e (maybe_text (naming a u) name) (option_map (moved args sigs b) x))) (sym p) z in
         subst (λ (k : Option Held). StaticsFollow a u args sigs (by_of t) (if_held e (maybe_text (naming a u) name) k)) (q ∙ sym r) z'
 
-    pub const-done : (v : Val) (d : Datum) → i ≡ inst.Const v → by_of t ≡ given_by (by_of s) name (base.Arg 0) (Some (datum_held d)) → d ≡ datum_of v
+    pub const-done : (v : Datum) (d : Datum) → i ≡ inst.Const v → by_of t ≡ given_by (by_of s) name (base.Arg 0) (Some (datum_held d)) → d ≡ v
         → StaticsFollow a u args sigs (by_of t) (if_held e (maybe_text (naming a u) name) (static_of (unit_text_at a u) e (inst_text (naming a u) i)))
-    const-done v d g p q = done (base.Arg 0) (Some (datum_held d)) (Some (datum_held (datum_of v))) p (ap (λ y. Some (datum_held y)) q)
+    const-done v d g p q = done (base.Arg 0) (Some (datum_held d)) (Some (datum_held v)) p (ap (λ y. Some (datum_held y)) q)
         (ap (λ y. static_of (unit_text_at a u) e (inst_text (naming a u) y)) g)
 
     pub pure-done : FitsSomething a u s → (op : Op) (os xs : List Typed) (b : Base) (x : Option Held) → i ≡ inst.Pure op os → xs ≡ os → InstPlaced a u i → by_of t ≡ given_by (by_of s) name b x

@@ -178,7 +178,7 @@ impl Statics {
     {
         match inst {
             Inst::Const(value) => {
-                let value = value.copy()?;
+                let value = value.value()?;
                 self.give(name, Base::Arg(0), Some(Held::Datum(value)));
                 Ok(())
             }

@@ -5,9 +5,7 @@ use Rattle.std.specs.Option.{option_map}
 use Rattle.std.proofs.Math.ListN.{get_or-append}
 use Rattle.lh_types.specs.Types.{TypeTree, signal_type}
 use Rattle.lh_types.specs.Values.{Datum}
-use Rattle.lh_types.specs.ValueOf.{datum_of}
 use Rattle.lh_types.specs.declared.op.Op.{Op}
-use Rattle.lh_types.specs.declared.val.Val.{Val}
 use Rattle.lh_unit.specs.Contents.{ArgText, InstText, const_text, prb_text}
 use Rattle.lh_unit.specs.Naming.{value_text, inst_text}
 use Rattle.lh_unit.specs.Typing.{or_else}
@@ -92,8 +90,8 @@ module _ (ns : List Node) (s : Source) (x : Emitter) (t : TermId) (e : Emitted) 
   tree = tree_at (trees ns) t
 
   -- a constant
-  pub scalar-inst : (v : Val) → tree ≡ constant (datum_of v) → form_of tree ≡ Scalar → IsInstOf ns s t e ns x (inst.Const v)
-  scalar-inst v q h = record { emitted = e; is = r.is; makes = scalar-makes s tree (datum_of v) e q h; within = tt; fits = ap choices_fit q }
+  pub scalar-inst : (v : Datum) → tree ≡ constant v → form_of tree ≡ Scalar → IsInstOf ns s t e ns x (inst.Const v)
+  scalar-inst v q h = record { emitted = e; is = r.is; makes = scalar-makes s tree v e q h; within = tt; fits = ap choices_fit q }
 
   -- the value of a part
   pub probe-inst : (p : Part) (y : Emitter) (v : ValueId) (i : Inst) → IsProbed tree p → TakesPart ns s p e y v → i ≡ inst.Prb (with_type (signal_type p.ty) v) → IsInstOf ns s t e ns y i
@@ -200,7 +198,7 @@ pub inst-cause : (ns : List Node) (o : Origin) (x : Emitter) (t : TermId) (ms : 
 inst-cause ns o x t ms y (Ok v) f h g = absurd h
 inst-cause ns o x t ms y (Err e) f h g = subst (MakesNot ns o x t) (sym h) g
 
-pub gives-scalar : (ns : List Node) (o : Origin) (x : Emitter) (t : TermId) (v : Val) → tree_at (trees ns) t ≡ constant (datum_of v) → form_of (tree_at (trees ns) t) ≡ Scalar
+pub gives-scalar : (ns : List Node) (o : Origin) (x : Emitter) (t : TermId) (v : Datum) → tree_at (trees ns) t ≡ constant v → form_of (tree_at (trees ns) t) ≡ Scalar
     → GivesInstOr ns o x t ns x (Ok (inst.Const v))
 gives-scalar ns o x t v q h = (grows-same x.lines.names x.lines.names refl, λ s e src r. scalar-inst ns s x t e r v q h)
 

@@ -32,6 +32,7 @@ use lh_term::term::TermId;
 use lh_term::terms::Terms;
 use lh_types::op::Op;
 use lh_types::ty::{NoMemory, Ty, TyKind};
+use lh_unit::constant::Constant;
 use lh_unit::inst::{Arg, Inst, OperandList, ValueId};
 use lh_unit::name::Name;
 use std::alloc::Global;
@@ -175,13 +176,19 @@ impl Emitter {
         ensures given { GivesInstOr terms.old origin.now self.old t terms.new self.new result }
     {
         match form_of(terms, t) {
-            Form::Scalar => self.scalar_inst(origin, terms, t),
+            Form::Scalar => self.scalar_inst(alloc, origin, terms, t),
             Form::Probe => self.probe_inst(alloc, origin, terms, t),
             Form::Joined(op) => self.joined_inst(alloc, origin, terms, t, op),
         }
     }
 
-    fn scalar_inst(&self, origin: &Origin<'_>, terms: &Terms, t: TermId) -> Result<Inst, EmitFault>
+    fn scalar_inst(
+        &self,
+        alloc: Global,
+        origin: &Origin<'_>,
+        terms: &Terms,
+        t: TermId,
+    ) -> Result<Inst, EmitFault>
         requires can { CanMake terms.now origin.now self.now t }
         requires form { making.form_of (tree_at (trees terms.now) t) ≡ Form.Scalar }
         ensures { GivesInstOr terms.now origin.now self.now t terms.now self.now result }
@@ -189,7 +196,7 @@ impl Emitter {
         let _ = &self.lines;
         let _ = origin;
         let value = scalar(terms, t)?;
-        Ok(Inst::Const(value))
+        Ok(Inst::Const(Constant::new(alloc, value)?))
     }
 
     fn probe_inst(

@@ -1,7 +1,6 @@
 //! Instructions that give a value, store one, or drive one.
 ghost use Rattle.std.specs.Prelude.{◌≡◌, ◌<◌, ℕ, length, map, is_some, Some, IfOk};
 ghost use Rattle.std.specs.Option.{option_map};
-ghost use Rattle.lh_types.specs.ValueOf.{datum_of};
 ghost use Rattle.lh_unit.specs.Activation.{gives, stores, wishes as wished};
 ghost use Rattle.lh_unit.specs.Arena.{Arena, unit_count, value_count, sizes, naming, unit_text_at};
 ghost use Rattle.lh_unit.specs.Effects.{operated, probed, driven};
@@ -23,17 +22,21 @@ use lh_eval::operate::operate;
 use lh_time::Instant;
 use lh_types::op::Op;
 use lh_types::ty::NoMemory;
-use lh_types::val::Val;
+use lh_unit::constant::Constant;
 use lh_unit::inst::{Typed, ValueId};
 use lh_unit::module::Module;
 use std::alloc::Global;
 
 impl Machine {
-    pub(crate) fn run_const(&mut self, value: &Val, name: Option<ValueId>) -> Result<Flow, NoMemory>
+    pub(crate) fn run_const(
+        &mut self,
+        value: &Constant,
+        name: Option<ValueId>,
+    ) -> Result<Flow, NoMemory>
         requires { MaybeIn self.old.frame.slots name }
-        ensures { (a : Arena) → Does result a self.old self.new (λ p. gives p (maybe_text (naming a self.old.frame.unit.0) name) (Some (datum_held (datum_of value.now)))) }
+        ensures { (a : Arena) → Does result a self.old self.new (λ p. gives p (maybe_text (naming a self.old.frame.unit.0) name) (Some (datum_held value.now))) }
     {
-        let value = value.copy()?;
+        let value = value.value()?;
         Ok(self.give(name, Some(Held::Datum(value))))
     }
 

@@ -201,7 +201,7 @@ pub fn result_type(alloc: Global, inst: &Inst) -> Result<Option<Ty>, NoMemory>
     ensures { (f : Naming) → IfOk result (λ o. o ≡ spec.result_type (inst_text f inst.now)) }
 {
     match inst {
-        Inst::Const(value) => constant_type(value),
+        Inst::Const(value) => constant_type(&value.value()?),
         Inst::Pure { op, args } => class_type(alloc, op.class(), args.as_slice()),
         Inst::Var(of) => pointer_type(alloc, of),
         Inst::Ld(from) => pointed_type(from),

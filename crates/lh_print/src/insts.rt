@@ -186,7 +186,7 @@ pub fn put_inst(out: &mut Vec<u8>, view: UnitView<'_>, inst: &Inst) -> Result<()
     ensures { OnOk result (out.new.items ≡ out.old.items ++ render (inst_pieces (inst_text_at view.entry.module.now view.entry.unit.0 inst.now))) }
 {
     match inst {
-        Inst::Const(value) => put_const(out, value),
+        Inst::Const(value) => put_const(out, &value.value()?),
         Inst::Pure { op, args } => put_operation(out, view, *op, args.as_slice()),
         Inst::Var(a) => put_operand(out, b"var ", view, a),
         Inst::Ld(p) => put_operand(out, b"ld ", view, p),

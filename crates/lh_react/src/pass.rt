@@ -1,6 +1,5 @@
 //! One instruction of an entity after the other.
 ghost use Rattle.std.specs.Prelude.{◌≡◌, ◌<◌, ◌^◌, ℕ, [], ◌∷◌, length, map, unwrap_or, Some, OnOk};
-ghost use Rattle.lh_types.specs.ValueOf.{datum_of};
 ghost use Rattle.lh_unit.specs.Arena.{Arena, IsArena, unit_count, inst_count, value_count, sizes, naming, unit_text_at, InstPlaced};
 ghost use Rattle.lh_unit.specs.Effects.{operated, probed, driven};
 ghost use Rattle.lh_unit.specs.Held.{Env, datum_held};
@@ -25,7 +24,7 @@ use lh_time::Instant;
 use lh_types::list::BoolList;
 use lh_types::op::Op;
 use lh_types::ty::NoMemory;
-use lh_types::val::Val;
+use lh_unit::constant::Constant;
 use lh_unit::inst::{Inst, InstId, Typed, UnitId, ValueId};
 use lh_unit::module::Module;
 use std::alloc::Global;
@@ -122,11 +121,11 @@ fn run_named(
     }
 }
 
-fn run_const(value: &Val, name: Option<ValueId>, run: &mut PassRun) -> Result<(), NoMemory>
+fn run_const(value: &Constant, name: Option<ValueId>, run: &mut PassRun) -> Result<(), NoMemory>
     requires { MaybeIn run.old.slots name }
-    ensures { OnOk result (HasGiven run.old name (Some (datum_held (datum_of value.now))) run.new) }
+    ensures { OnOk result (HasGiven run.old name (Some (datum_held value.now)) run.new) }
 {
-    let value = value.copy()?;
+    let value = value.value()?;
     run.slots.give(name, Some(Held::Datum(value)));
     Ok(())
 }

@@ -17,6 +17,7 @@ use lh_types::list::ListOf;
 use lh_types::op::Op;
 use lh_types::ty::{NoMemory, Ty};
 use lh_types::written::SharedTypes;
+use lh_unit::constant::Constant;
 use lh_unit::inst::{Inst, OperandList, UnitId};
 use lh_unit::module::Module;
 use std::alloc::Global;
@@ -33,7 +34,7 @@ pub fn instruction(
     ensures { IfOk result (λ i. InstPlacedAs m.old m.new unit i (inst_of inst.entry)) }
 {
     match inst {
-        InstSyntax::Const(value) => Ok(Inst::Const(value)),
+        InstSyntax::Const(value) => Ok(Inst::Const(Constant::new(alloc, value)?)),
         InstSyntax::Pure { op, args } => pure(alloc, types, m, unit, op, args),
         InstSyntax::Var(of) => Ok(Inst::Var(operand(alloc, types, m, unit, of)?)),
         InstSyntax::Ld(of) => Ok(Inst::Ld(operand(alloc, types, m, unit, of)?)),

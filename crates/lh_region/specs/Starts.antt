@@ -1,6 +1,5 @@
 -- What is known where a process starts: the constants of an entry that is left at once.
 use Rattle.std.specs.Prelude.{◌≡◌, ℕ, List, [], ◌∷◌, nat_eq, if◌then◌else◌, Option, Some, None}
-use Rattle.lh_types.specs.ValueOf.{datum_of}
 use Rattle.lh_unit.specs.Typing.{or_else}
 use Rattle.lh_unit.specs.declared.inst.ValueId.{ValueId}
 use Rattle.lh_unit.specs.declared.inst.Inst.{Inst}
@@ -18,7 +17,7 @@ use Rattle.lh_places.specs.Asked.{kept_by}
 
 -- the constant that an instruction is
 abbrev pub constant_in : Inst → Option Tree
-constant_in (inst.Const v) = Some (constant (datum_of v))
+constant_in (inst.Const v) = Some (constant v)
 constant_in _ = None
 
 -- the constant that an instruction gives as value v
@@ -32,7 +31,7 @@ constant_given (l ∷ more) v = or_else (constant_given more v) (constant_as v l
 
 -- where an instruction is a constant, its value can be a term
 abbrev pub ConstantFits : Inst → Type 0
-ConstantFits (inst.Const v) = FitsTerm (datum_of v)
+ConstantFits (inst.Const v) = FitsTerm v
 ConstantFits _ = Unit {0}
 
 -- the same, where it gives a value

@@ -51,7 +51,7 @@ fn take_constant(terms: &mut Terms, start: &mut PlaceState, line: &FlatInst) -> 
 {
     match (&line.inst, line.result) {
         (Inst::Const(value), Some(result)) => {
-            let term = terms.konst(value.copy()?)?;
+            let term = terms.konst(value.value()?)?;
             start.set(result.0, term)
         }
         _ => Ok(()),

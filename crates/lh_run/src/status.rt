@@ -17,7 +17,7 @@ const USAGE: &[u8] =
     b"usage: llhd check | lower | simulate --top NAME --steps N [--vcd] [--watch TITLE ...] | selftest N\n";
 
 /// Why a file is refused. Lines, and the instructions of a unit, are counted from 1.
-#[derive(Debug, Drop, PartialEq, Eq)]
+#[derive(Drop, PartialEq, Eq)]
 pub enum Refusal {
     /// The line spells nothing in its place.
     Syntax(u32),
@@ -34,7 +34,7 @@ pub enum Refusal {
 }
 
 /// Why a top unit is not simulated.
-#[derive(Debug, Drop, PartialEq, Eq)]
+#[derive(Drop, PartialEq, Eq)]
 pub enum TopFault {
     /// No defined unit has the name.
     TopMissing,
@@ -51,7 +51,7 @@ pub enum TopFault {
 }
 
 /// How a run ends.
-#[derive(Debug, Drop, PartialEq, Eq)]
+#[derive(Drop, PartialEq, Eq)]
 pub enum Status {
     /// The words have no form, or watch a title that no watcher has.
     Usage,

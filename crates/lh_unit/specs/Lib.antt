@@ -1,5 +1,7 @@
 pub mod Names
+pub mod NameBytes
 pub mod UnitNames
+pub mod Constants
 pub mod Contents
 pub mod Lexemes
 pub mod Tokens
@@ -18,6 +20,7 @@ pub mod CanonTypes
 pub mod Canon
 pub mod Table
 pub mod TableCalls
+pub mod NameTables
 pub mod TableOf
 pub mod Within
 pub mod Naming

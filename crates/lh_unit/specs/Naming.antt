@@ -1,6 +1,5 @@
 -- The text of a unit: names in place of ids.
 use Rattle.std.specs.Prelude.{ℕ, List, [], map, slice_index_or, Option, Some, None}
-use Rattle.lh_types.specs.ValueOf.{datum_of}
 use Rattle.lh_unit.specs.Contents.{InstText, OperandText, TriggerText, EdgeText, LineText, BlockText, ArgText, UnitText, const_text, pure_text, var_text, ld_text, st_text, sig_text, prb_text, drv_text, reg_text, child_text, call_text, phi_text, br_text, branch_text, wait_text, halt_text, ret_text}
 use Rattle.lh_unit.specs.Table.{Table, line_at, insts_at}
 use Rattle.lh_unit.specs.declared.name.UnitName.{UnitName}
@@ -43,7 +42,7 @@ abbrev pub edge_text : Naming → PhiEdge → EdgeText
 edge_text f e = record { value = value_text f e.value; block = f.label_name e.block.0 }
 
 abbrev pub inst_text : Naming → Inst → InstText
-inst_text f (inst.Const v) = const_text (datum_of v)
+inst_text f (inst.Const v) = const_text v
 inst_text f (inst.Pure op args) = pure_text op (map (operand_text f) args)
 inst_text f (inst.Var t) = var_text (operand_text f t)
 inst_text f (inst.Ld t) = ld_text (operand_text f t)

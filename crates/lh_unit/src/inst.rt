@@ -2,12 +2,12 @@
 ghost use Rattle.std.specs.Prelude.{◌≡◌};
 ghost use Rattle.lh_unit.specs.ById.{is_sig};
 
+use crate::constant::Constant;
 use crate::name::{Name, UnitName};
 use lh_types::few::FewOf;
 use lh_types::list::ListOf;
 use lh_types::op::Op;
 use lh_types::ty::{Ty, TyList};
-use lh_types::val::Val;
 use lh_types::written::WrittenTy;
 use thiserror::Error;
 
@@ -117,7 +117,7 @@ pub type PhiEdgeList = ListOf<PhiEdge>;
 #[derive(Drop)]
 pub enum Inst {
     /// `const`
-    Const(Val),
+    Const(Constant),
     /// An operation on values or parts of signals, its operands in the order of the spelling.
     Pure {
         op: Op,

@@ -1,29 +1,40 @@
 // Names.
 ghost use Rattle.std.specs.Prelude.{◌≡◌, ◌≤◌, IfOk};
 ghost use Rattle.lh_unit.specs.Names.{IsName};
+ghost use Rattle.lh_unit.specs.NameBytes.{bytes_of, IsInPlace};
 ghost use Rattle.lh_unit.specs.Named.{is_assert};
 
 use lh_types::ty::NoMemory;
-use smallvec::SmallVec;
 use std::alloc::Global;
+use std::boxed::Box;
 use std::hash::{Hash, Hasher};
 use std::marker::Model;
 
-/// A name, 1 to 255 name bytes. One of at most 16 bytes takes no memory of its own.
-#[derive(Debug, Drop)]
+// How many bytes of a name lie in place: as many as leave it three words long.
+const IN_PLACE: usize = 22;
+
+/// A name, 1 to 255 name bytes. One of at most 22 bytes takes no memory of its own.
+#[derive(Drop)]
 pub struct Name {
-    bytes: SmallVec<u8, 16>,
+    bytes: NameBytes,
+}
+
+#[derive(Drop)]
+enum NameBytes {
+    Short { len: u8, bytes: [u8; IN_PLACE] },
+    Long(Box<Vec<u8>>),
 }
 
 impl Model for Name {
     ghost use Rattle.std.specs.Prelude.{ℕ, List};
     ghost use Rattle.lh_unit.specs.Names.{IsName};
+    ghost use Rattle.lh_unit.specs.NameBytes.{bytes_of, IsInPlace};
 
     ghost Value = { List ℕ };
 
-    ghost view = { λ n. n.bytes.items };
+    ghost view = { λ n. bytes_of n.bytes };
 
-    ghost invariant = { λ n. IsName n.bytes.items };
+    ghost invariant = { λ n. IsInPlace n.bytes × IsName (bytes_of n.bytes) };
 }
 
 impl PartialEq for Name {
@@ -37,7 +48,7 @@ impl PartialEq for Name {
     ghost laws = { Prim.search (comparing, rules) };
 
     fn eq(&self, other: &Name) -> bool {
-        self.bytes.as_slice() == other.bytes.as_slice()
+        self.as_bytes() == other.as_bytes()
     }
 }
 
@@ -59,7 +70,7 @@ impl Hash for Name {
     ghost respects_eq = { Prim.search (hashing, rules) };
 
     fn hash<H: Hasher>(&self, state: &mut H) {
-        state.write(self.bytes.as_slice());
+        state.write(self.as_bytes());
     }
 }
 
@@ -69,7 +80,7 @@ impl Name {
         requires { IsName bytes.now }
         ensures { IfOk result (λ n. n ≡ bytes.now) }
     {
-        let bytes = SmallVec::from_slice(alloc, bytes)?;
+        let bytes = kept(alloc, bytes)?;
         Ok(Name { bytes })
     }
 
@@ -77,20 +88,46 @@ impl Name {
         ensures value { result.now ≡ self.now }
         ensures name { IsName self.now }
     {
-        self.bytes.as_slice()
+        match &self.bytes {
+            NameBytes::Short { len, bytes } => &bytes[..*len as usize],
+            NameBytes::Long(bytes) => bytes.as_slice(),
+        }
     }
 
     /// An equal name.
     pub fn copy(&self) -> Result<Name, NoMemory>
         ensures { IfOk result (λ n. n ≡ self.now) }
     {
-        let bytes = SmallVec::from_slice(*self.bytes.allocator(), self.bytes.as_slice())?;
+        let bytes = match &self.bytes {
+            NameBytes::Short { len, bytes } => NameBytes::Short {
+                len: *len,
+                bytes: *bytes,
+            },
+            NameBytes::Long(bytes) => kept(*Box::allocator(bytes), bytes.as_slice())?,
+        };
         Ok(Name { bytes })
     }
 }
 
+fn kept(alloc: Global, bytes: &[u8]) -> Result<NameBytes, NoMemory>
+    ensures bytes { IfOk result (λ k. bytes_of k ≡ bytes.now) }
+    ensures in_place { IfOk result IsInPlace }
+{
+    let len = bytes.len();
+    if len > IN_PLACE {
+        let long = bytes.to_vec(alloc)?;
+        return Ok(NameBytes::Long(Box::new(alloc, long)?));
+    }
+    let mut room = [0u8; IN_PLACE];
+    room[..len].copy_from_slice(bytes);
+    Ok(NameBytes::Short {
+        len: len as u8,
+        bytes: room,
+    })
+}
+
 /// The name of a unit.
-#[derive(Debug, Drop)]
+#[derive(Drop)]
 pub struct UnitName {
     pub sigil: u8,
     pub name: Name,

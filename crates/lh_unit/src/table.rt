@@ -7,7 +7,7 @@ ghost use Rattle.lh_unit.specs.TableCalls.{FindsValueIn, FindsLabelIn, BeginsTab
 
 use crate::inst::{Arg, BlockId, Inst, InstId, UnitFault, UnitKind, ValueDef, ValueId};
 use crate::name::Name;
-use indexmap::IndexSet;
+use crate::name_table::NameTable;
 use lh_types::list::ListOf;
 use lh_types::ty::{NoMemory, Ty};
 use std::alloc::Global;
@@ -27,10 +27,10 @@ type InstIdList = ListOf<InstId>;
 #[derive(Drop)]
 pub struct UnitTable {
     kind: Option<UnitKind>,
-    values: IndexSet<Name>,
+    values: NameTable,
     // By the ids of values.
     defs: Vec<ValueDef>,
-    labels: IndexSet<Name>,
+    labels: NameTable,
     // By the ids of blocks; none where no block of this label was added.
     bodies: Vec<Option<InstIdList>>,
     blocks: Vec<BlockId>,
@@ -63,9 +63,9 @@ impl UnitTable {
     {
         UnitTable {
             kind: None,
-            values: IndexSet::new(alloc),
+            values: NameTable::new(alloc),
             defs: Vec::new(alloc),
-            labels: IndexSet::new(alloc),
+            labels: NameTable::new(alloc),
             bodies: Vec::new(alloc),
             blocks: Vec::new(alloc),
             args: Vec::new(alloc),
@@ -80,9 +80,9 @@ impl UnitTable {
         ensures { FindsValueIn result self.old self.new name }
     {
         self.defs.reserve(1)?;
-        let (i, is_new) = self.values.insert_full(name)?;
+        let (i, is_new) = self.values.enter(name)?;
         if is_new {
-            put_missing(&mut self.defs);
+            self.defs.push_reserved(ValueDef::Missing);
         }
         Ok(ValueId(i as u32))
     }
@@ -93,9 +93,9 @@ impl UnitTable {
         ensures { FindsLabelIn result self.old self.new name }
     {
         self.bodies.reserve(1)?;
-        let (i, is_new) = self.labels.insert_full(name)?;
+        let (i, is_new) = self.labels.enter(name)?;
         if is_new {
-            put_body(&mut self.bodies);
+            self.bodies.push_reserved(None);
         }
         Ok(BlockId(i as u32))
     }
@@ -185,13 +185,10 @@ impl UnitTable {
         if push_id(&mut self.bodies, last, InstId(id as u32)).is_err() {
             return refuse(inst, UnitFault::OutOfMemory);
         }
-        push_line(
-            &mut self.lines,
-            Line {
-                result: value,
-                inst,
-            },
-        );
+        self.lines.push_reserved(Line {
+            result: value,
+            inst,
+        });
         define(&mut self.defs, value, ValueDef::Inst(InstId(id as u32)));
         Ok(InstId(id as u32))
     }
@@ -200,9 +197,9 @@ impl UnitTable {
     pub fn shrink(&mut self)
         ensures { self.new ≡ self.old }
     {
-        self.values.shrink_to_fit();
+        self.values.close();
         self.defs.shrink_to_fit();
-        self.labels.shrink_to_fit();
+        self.labels.close();
         self.bodies.shrink_to_fit();
         self.blocks.shrink_to_fit();
         self.args.shrink_to_fit();
@@ -279,34 +276,14 @@ impl UnitTable {
         requires { value.0 < length self.now.values }
         ensures { result.now ≡ slice_index_or self.now.values value.0 [] }
     {
-        &self.values.as_slice()[value.0 as usize]
+        self.values.name(value.0 as usize)
     }
 
     pub fn block_name(&self, block: BlockId) -> &Name
         requires { block.0 < length self.now.labels }
         ensures { result.now ≡ slice_index_or self.now.labels block.0 [] }
     {
-        &self.labels.as_slice()[block.0 as usize]
-    }
-}
-
-// Adds a definition that is missing, where memory was reserved for it.
-fn put_missing(defs: &mut Vec<ValueDef>)
-    requires { vec_len defs.old < vec_capacity defs.old }
-    ensures { defs.new.items ≡ defs.old.items ++ value_def.Missing ∷ [] }
-{
-    if defs.push(ValueDef::Missing).is_err() {
-        unreachable!();
-    }
-}
-
-// Adds the body of a label with no block, where memory was reserved for it.
-fn put_body(bodies: &mut Vec<Option<InstIdList>>)
-    requires { vec_len bodies.old < vec_capacity bodies.old }
-    ensures { bodies.new.items ≡ bodies.old.items ++ None ∷ [] }
-{
-    if bodies.push(None).is_err() {
-        unreachable!();
+        self.labels.name(block.0 as usize)
     }
 }
 
@@ -322,11 +299,9 @@ fn begin_block(
 {
     blocks.reserve(1)?;
     bodies.reserve(1)?;
-    put_body(bodies);
+    bodies.push_reserved(None);
     bodies[0] = Some(ListOf::new(*blocks.allocator()));
-    if blocks.push(BlockId(0)).is_err() {
-        unreachable!();
-    }
+    blocks.push_reserved(BlockId(0));
     Ok(())
 }
 
@@ -365,16 +340,6 @@ fn refuse(inst: Inst, fault: UnitFault) -> Result<InstId, UnitFault>
 {
     drop(inst);
     Err(fault)
-}
-
-// Adds a line where memory was reserved for it.
-fn push_line(lines: &mut Vec<Line>, line: Line)
-    requires { vec_len lines.old < vec_capacity lines.old }
-    ensures { lines.new.items ≡ lines.old.items ++ line ∷ [] }
-{
-    if lines.push(line).is_err() {
-        unreachable!();
-    }
 }
 
 fn is_defined(defs: &Vec<ValueDef>, value: Option<ValueId>) -> bool

@@ -3,7 +3,6 @@ use Rattle.std.proofs.Common.{◌≡◌, ℕ, zero, suc, ◌+◌, ◌<◌, Bool,
 use Rattle.std.specs.Option.{is_some, option_and_then, option_map, option_map_or}
 use Rattle.std.proofs.lemmas.Option.{same_Some, none-some}
 use Rattle.lh_types.specs.Types.{TypeTree}
-use Rattle.lh_types.specs.ValueOf.{datum_of}
 use Rattle.lh_unit.specs.ById.{maybe_id}
 use Rattle.lh_unit.specs.Contents.{ArgText, LineText, same_name}
 use Rattle.lh_unit.specs.Naming.{Naming, maybe_text, inst_text}
@@ -87,7 +86,7 @@ module _ (f : Naming) (t : Flat) (names : Names t f) (v : ℕ) (l : v < t.values
   constant-step : (k : Knowledge) (o : Option ValueId) (i : Inst) → ValuesBelow t.values (maybe_id o) → term_known (with_constant k (inst_text f i) (maybe_text f o)) name
       ≡ or_else (if is_result v o then constant_in i else None) (term_known k name)
   constant-step k None (inst.Const x) h = refl
-  constant-step k (Some r) (inst.Const x) h = given-one k r.0 (constant (datum_of x)) h.0
+  constant-step k (Some r) (inst.Const x) h = given-one k r.0 (constant x) h.0
   constant-step k o (inst.Ret None) h = if-none (is_result v o) (term_known k name)
   constant-step k o (inst.Ret (Some y)) h = if-none (is_result v o) (term_known k name)
   constant-step k o _ h = if-none (is_result v o) (term_known k name)

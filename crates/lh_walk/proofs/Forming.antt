@@ -2,7 +2,6 @@
 use Rattle.std.proofs.Common.{◌≡◌, ℕ, ◌+◌, ◌<◌, Bool, true, false, ◌||◌, nat_eq, if◌then◌else◌, List, [], ◌∷◌, length, map, Option, Some, None, IsSome, slice_get, refl, ap, sym, ◌∙◌, subst, arith}
 use Rattle.std.specs.Option.{option_map, option_map_or, is_some}
 use Rattle.lh_types.specs.Types.{TypeTree}
-use Rattle.lh_types.specs.ValueOf.{datum_of}
 use Rattle.lh_types.specs.Values.{Datum}
 use Rattle.lh_unit.specs.declared.name.UnitName.{UnitName}
 use Rattle.lh_unit.specs.ById.{blocks_named}
@@ -139,7 +138,7 @@ const-fits u l d n s i r g = by (value_type u n) refl g
 given-fits : (f : Naming) (u : UnitText) (o : Option ValueId) (i : Inst) → InstIsSound u (flat_line_text f (record { result = o; inst = i }))
     → ((n : List ℕ) → maybe_text f o ≡ Some n → IsSome (value_type u n)) → GivenFits o i
 given-fits f u None i s g = tt
-given-fits f u (Some v) (inst.Const x) s g = const-fits u (flat_line_text f (record { result = Some v; inst = inst.Const x })) (datum_of x) (f.value_name v.0) s refl refl (g (f.value_name v.0) refl)
+given-fits f u (Some v) (inst.Const x) s g = const-fits u (flat_line_text f (record { result = Some v; inst = inst.Const x })) x (f.value_name v.0) s refl refl (g (f.value_name v.0) refl)
 given-fits f u (Some v) _ s g = tt
 
 all-fit : (f : Naming) (u : UnitText) (ls : List FlatInst) → Each (InstIsSound u) (map (flat_line_text f) ls)

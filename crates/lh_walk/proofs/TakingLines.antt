@@ -4,10 +4,9 @@ use Rattle.std.specs.Option.{option_and_then, option_map}
 use Rattle.std.proofs.lemmas.Bool.{false≢true}
 use Rattle.std.proofs.lemmas.Option.{same_Some, none-some}
 use Rattle.lh_types.specs.Types.{TypeTree, signal_type, IsData}
-use Rattle.lh_types.specs.ValueOf.{datum_of}
 use Rattle.lh_types.specs.declared.op.Op.{Op}
 use Rattle.lh_types.specs.declared.part.Step.{Step}
-use Rattle.lh_types.specs.declared.val.Val.{Val}
+use Rattle.lh_types.specs.Values.{Datum}
 use Rattle.lh_unit.specs.declared.name.UnitName.{UnitName}
 use Rattle.lh_unit.specs.declared.inst.UnitKind.TheVariants as kind
 use Rattle.lh_unit.specs.declared.inst.Inst.{Inst}
@@ -159,7 +158,7 @@ tells-part s i k n a h none term v low = by (same_name n (s.naming.value_name v)
     by false e = h v low
 
 -- an instruction that gives nothing, by what it is not
-pub alone-other : (f : Naming) (g : RegionText) (h : Here) (i : Inst) (r : Option (List ℕ)) (m : Midst) → gives_alone i ≡ true → ((d : Val) → i ≡ inst.Const d → ⊥)
+pub alone-other : (f : Naming) (g : RegionText) (h : Here) (i : Inst) (r : Option (List ℕ)) (m : Midst) → gives_alone i ≡ true → ((d : Datum) → i ≡ inst.Const d → ⊥)
     → ((o : Op) (args : List Typed) → i ≡ inst.Pure o args → ⊥) → ((of : Typed) → i ≡ inst.Var of → ⊥) → ((of : Typed) → i ≡ inst.Ld of → ⊥) → takes g h (inst_text f i) r m ≡ m
 alone-other f g h (inst.Const d) r m e nc np nv nl = absurd (nc d refl)
 alone-other f g h (inst.Pure o args) r m e nc np nv nl = absurd (np o args refl)
@@ -364,11 +363,11 @@ module _ (ns : List Node) (f : Naming) (name : UnitName) (r : Region) (w : Walk)
 
   -- ---- a constant, a variable and what it holds
 
-  pub const-fits : (d : Val) (v : ValueId) → l.inst ≡ inst.Const d → l.result ≡ Some v → FitsTerm (datum_of d)
+  pub const-fits : (d : Datum) (v : ValueId) → l.inst ≡ inst.Const d → l.result ≡ Some v → FitsTerm d
   const-fits d v e q =
       let t = line-type v q in
-      let f' = constants-fit 0 (datum_of d) (rights (inst.Const d) e).written _ t.0 refl (sym (ap (λ (x : Inst). result_type (inst_text f x)) e) ∙ t.2) in
-      (constant-typed (datum_of d) t.0 f'.0 f'.1).0
+      let f' = constants-fit 0 d (rights (inst.Const d) e).written _ t.0 refl (sym (ap (λ (x : Inst). result_type (inst_text f x)) e) ∙ t.2) in
+      (constant-typed d t.0 f'.0 f'.1).0
 
   -- the text's numbers
   abbrev Low : Type 0
@@ -384,12 +383,12 @@ module _ (ns : List Node) (f : Naming) (name : UnitName) (r : Region) (w : Walk)
   abbrev pub Next : List Node → Walk → Type 0
   Next ms q = IsBetween ms f name r q at before h insts b (done ++ lt ∷ []) rest (takes_line f r h l m)
 
-  pub const-next : (ms : List Node) (q : Walk) (d : Val) (v : ValueId) → l.inst ≡ inst.Const d → l.result ≡ Some v → Low → Grows ns ms → Keeps q → q.rows ≡ w.rows
+  pub const-next : (ms : List Node) (q : Walk) (d : Datum) (v : ValueId) → l.inst ≡ inst.Const d → l.result ≡ Some v → Low → Grows ns ms → Keeps q → q.rows ≡ w.rows
       → SamePlaces w.places.items q.places.items
-      → GivesWhere (IsThat (constant (datum_of d))) ns w.places.items at.place v.0 ms q.places.items → Next ms q
+      → GivesWhere (IsThat (constant d)) ns w.places.items at.place v.0 ms q.places.items → Next ms q
   const-next ms q d v e k low grows y rows same gives =
-      given-next ms q (IsThat (constant (datum_of d))) v.0 (known_value (constant (datum_of d))) (constant (datum_of d)) grows (ap leads_nowhere e) y same (low-result v low k) refl refl gives
-      (known-by (inst.Const d) v (known_value (constant (datum_of d))) e k refl) (rows-stay ms q grows rows (rows-by (inst.Const d) e refl))
+      given-next ms q (IsThat (constant d)) v.0 (known_value (constant d)) (constant d) grows (ap leads_nowhere e) y same (low-result v low k) refl refl gives
+      (known-by (inst.Const d) v (known_value (constant d)) e k refl) (rows-stay ms q grows rows (rows-by (inst.Const d) e refl))
 
   -- a value that is given becomes known as this
   value-next : (ms : List Node) (q : Walk) (j : Inst) (o v : ℕ) (a : Known) (x : Tree) → l.inst ≡ j → leads_nowhere j ≡ true → v < r.flat.now.values → Grows ns ms → Keeps q → q.rows ≡ w.rows
@@ -739,7 +738,7 @@ module _ (ns : List Node) (f : Naming) (name : UnitName) (r : Region) (w : Walk)
       let same : takes_line f r h l m ≡ m = ap (λ (x : Option ValueId). takes g h (inst_text f l.inst) (maybe_text f x) m) e ∙ alone-none f g h l.inst m alone in
       same-next (alone-leads l.inst alone) (λ j. (same j).rows) (subst (TellsKnown s at.place) (λ j. (sym same j).known) i.midst.known)
 
-  pub other-next : gives_alone l.inst ≡ true → ((d : Val) → l.inst ≡ inst.Const d → ⊥) → ((o : Op) (args : List Typed) → l.inst ≡ inst.Pure o args → ⊥) → ((of : Typed) → l.inst ≡ inst.Var of → ⊥)
+  pub other-next : gives_alone l.inst ≡ true → ((d : Datum) → l.inst ≡ inst.Const d → ⊥) → ((o : Op) (args : List Typed) → l.inst ≡ inst.Pure o args → ⊥) → ((of : Typed) → l.inst ≡ inst.Var of → ⊥)
       → ((of : Typed) → l.inst ≡ inst.Ld of → ⊥) → Next ns w
   other-next alone nc np nv nl =
       let same : takes_line f r h l m ≡ m = alone-other f g h l.inst lt.result m alone nc np nv nl in

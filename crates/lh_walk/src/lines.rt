@@ -1,6 +1,5 @@
 //! The lines of a place that lead nowhere: those that give something, and those that drive and assert.
 ghost use Rattle.std.specs.Prelude.{◌≡◌, ◌<◌, length, true, Some, IfOk, OnOk};
-ghost use Rattle.lh_types.specs.ValueOf.{datum_of};
 ghost use Rattle.lh_term.specs.Tree.{constant};
 ghost use Rattle.lh_term.specs.Types.{FitsTerm};
 ghost use Rattle.lh_term.specs.Arena.{trees, tree_at, Grows};
@@ -22,7 +21,7 @@ use lh_term::term::TermId;
 use lh_term::terms::Terms;
 use lh_types::op::Op;
 use lh_types::ty::NoMemory;
-use lh_types::val::Val;
+use lh_unit::constant::Constant;
 use lh_unit::inst::{Inst, OperandList, ValueId};
 use std::alloc::Global;
 
@@ -182,15 +181,15 @@ fn give_constant(
     places: &mut Places,
     at: usize,
     to: u32,
-    value: &Val,
+    value: &Constant,
 ) -> Result<(), NoMemory>
     requires is_in { at < length places.old.items }
-    requires fits { FitsTerm (datum_of value.now) }
+    requires fits { FitsTerm value.now }
     ensures kept { Grows terms.old terms.new }
     ensures same { OnOk result (SamePlaces places.old.items places.new.items) }
-    ensures gives { OnOk result (lines.GivesWhere (lines.IsThat (constant (datum_of value.now))) terms.old places.old.items at to terms.new places.new.items) }
+    ensures gives { OnOk result (lines.GivesWhere (lines.IsThat (constant value.now)) terms.old places.old.items at to terms.new places.new.items) }
 {
-    let term = terms.konst(value.copy()?)?;
+    let term = terms.konst(value.value()?)?;
     give(places, at, to, term)
 }
 

@@ -34,6 +34,15 @@ fn below(alloc: Global, numbers: &[u32], limit: usize) -> Result<ListOf<u32>, No
     Ok(list)
 }
 
+/// The block of a row, in a flow of so many blocks.
+fn block(alloc: Global, row: Row, limit: usize) -> Result<Block, NoMemory>
+    ensures { IfOk result (λ block. All (λ b. b < limit) block.leads) }
+{
+    let leads = below(alloc, row.leads, limit)?;
+    let gives = below(alloc, row.gives, usize::MAX)?;
+    Ok(Block { leads, gives })
+}
+
 /// The flow of these rows.
 fn flow(alloc: Global, rows: &[Row]) -> Result<Vec<Block>, NoMemory>
     ensures within { IfOk result (λ flow. LeadsWithin flow.items) }
@@ -41,11 +50,19 @@ fn flow(alloc: Global, rows: &[Row]) -> Result<Vec<Block>, NoMemory>
 {
     let mut flow = Vec::new(alloc);
     for row in rows {
-        let leads = below(alloc, row.leads, rows.len())?;
-        let gives = below(alloc, row.gives, usize::MAX)?;
-        flow.push(Block { leads, gives })?;
+        flow.push(block(alloc, *row, rows.len())?)?;
     }
     Ok(flow)
+}
+
+/// A block that leads to the next one and back, and gives three values.
+fn block_of_long(alloc: Global, b: u32) -> Result<Block, NoMemory>
+    requires { b < 20000 }
+    ensures { IfOk result (λ block. All (λ b. b < 20000) block.leads) }
+{
+    let leads = [b + 1, b * 7919 % (b + 1)];
+    let gives = [3 * b, 3 * b + 1, 3 * b + 2];
+    block(alloc, Row::new(&leads, &gives), 20_000)
 }
 
 /// A flow of 20,000 blocks, each of which leads to the next and back, and gives three values.
@@ -55,9 +72,7 @@ fn long_flow(alloc: Global) -> Result<Vec<Block>, NoMemory>
 {
     let mut flow = Vec::new(alloc);
     for b in 0..20_000u32 {
-        let leads = below(alloc, &[b + 1, b * 7919 % (b + 1)], 20_000)?;
-        let gives = below(alloc, &[3 * b, 3 * b + 1, 3 * b + 2], usize::MAX)?;
-        flow.push(Block { leads, gives })?;
+        flow.push(block_of_long(alloc, b)?)?;
     }
     Ok(flow)
 }

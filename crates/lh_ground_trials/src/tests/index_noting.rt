@@ -40,13 +40,18 @@ fn instances_rise(rt: HostRuntime) -> Result<(), Fail> {
     Ok(())
 }
 
+/// Instance 3 is to be woken at 5, and before it 8 and 1 at 4.
+fn enter_three(wakes: &mut Wakes) -> Result<(), NoMemory> {
+    wakes.enter(at(5), 3)?;
+    wakes.enter(at(4), 8)?;
+    wakes.enter(at(4), 1)
+}
+
 #[test]
 fn wakes_come_soonest_first(rt: HostRuntime) -> Result<(), Fail> {
     let mut wakes = Wakes::new(rt.alloc());
     assert_eq!(rt; wakes.soonest(), None);
-    wakes.enter(at(5), 3)?;
-    wakes.enter(at(4), 8)?;
-    wakes.enter(at(4), 1)?;
+    enter_three(&mut wakes)?;
     assert_eq!(rt; wakes.soonest(), Some(at(4)));
     wakes.leave(at(4), 1);
     wakes.leave(at(4), 8);

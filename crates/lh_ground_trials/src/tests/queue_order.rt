@@ -11,6 +11,7 @@ use lh_queue::wish::Wish;
 use lh_time::Instant;
 use lh_types::ty::NoMemory;
 use std::alloc::Global;
+use std::process::Abort;
 use std::test::Fail;
 
 /// A wish that is put: by which instance, when it is due, and what one bit becomes then.
@@ -58,13 +59,20 @@ fn wish(alloc: Global, row: &Row) -> Result<Wish, NoMemory>
     })
 }
 
+/// Whether two rows differ in their due instants or their instances.
+fn differ(a: &Row, b: &Row) -> bool
+    ensures { result ≡ true → (a.now.due ≢ b.now.due) ⊎ (a.now.instance ≢ b.now.instance) }
+{
+    a.due != b.due || a.instance != b.instance
+}
+
 /// Whether a row differs from each before it in its due instant or its instance.
 fn is_new(rows: &[Row], k: usize) -> bool
     requires { k < length rows.now }
     ensures { result ≡ true → (j : ℕ) (r s : Row) → j < k → ((get_or rows.now k s).due ≢ (get_or rows.now j r).due) ⊎ ((get_or rows.now k s).instance ≢ (get_or rows.now j r).instance) }
 {
     for j in 0..k {
-        if rows[j].due == rows[k].due && rows[j].instance == rows[k].instance {
+        if !differ(&rows[k], &rows[j]) {
             return false;
         }
     }
@@ -136,6 +144,12 @@ fn due(queue: &Queue, key: usize) -> Option<Instant> {
     Some(queue.wish(key)?.due)
 }
 
+/// The due instant and the instance of the wish of a key.
+fn wished(queue: &Queue, key: usize) -> Option<(Instant, u32)> {
+    let wish = queue.wish(key)?;
+    Some((wish.due, wish.instance))
+}
+
 /// Three wishes, two of which are due at one physical time.
 fn three(alloc: Global) -> Result<Queue, NoMemory>
     ensures { IfOk result (λ queue. EachWithin 8 queue.held) }
@@ -156,29 +170,36 @@ fn firsts(queue: &Queue) -> Option<(Bucket, Bucket)> {
     }
 }
 
+/// The three wishes before one is taken: their two buckets, and the key of the second wish at 5.
+fn held_at_first(rt: &impl Abort, queue: &Queue) -> Result<(Bucket, Bucket, usize), Fail> {
+    let (five, seven) = firsts(queue).ok_or("two buckets")?;
+    let third = next(queue, five.first).ok_or("a second wish at 5")?;
+    assert_eq!(rt; (five.fs, seven.fs), (5, 7));
+    assert_eq!(rt; due(queue, five.first), Some(instant(5, 0)));
+    assert_eq!(rt; due(queue, third), Some(instant(5, 1)));
+    assert_eq!(rt; next(queue, third), None);
+    assert_eq!(rt; next(queue, seven.first), None);
+    Ok((five, seven, third))
+}
+
+/// The two wishes that are left: the second one at 5 leads its bucket, and the key of the first one is free.
+fn held_at_last(rt: &impl Abort, queue: &Queue, (five, seven, third): (Bucket, Bucket, usize)) {
+    let later = Bucket {
+        fs: 5,
+        first: third,
+    };
+    assert_eq!(rt; firsts(queue), Some((later, seven)));
+    assert_eq!(rt; due(queue, third), Some(instant(5, 1)));
+    assert_eq!(rt; due(queue, five.first), None);
+}
+
 #[test]
 fn buckets_and_keys(rt: HostRuntime) -> Result<(), Fail> {
     let mut queue = three(rt.alloc())?;
-    let (five, seven) = firsts(&queue).ok_or("two buckets")?;
-    assert_eq!(rt; (five.fs, seven.fs), (5, 7));
-    assert_eq!(rt; due(&queue, five.first), Some(instant(5, 0)));
-    let third = next(&queue, five.first).ok_or("a second wish at 5")?;
-    assert_eq!(rt; due(&queue, third), Some(instant(5, 1)));
-    assert_eq!(rt; next(&queue, third), None);
-    assert_eq!(rt; next(&queue, seven.first), None);
     let mut now = Bits::zeros(rt.alloc(), 8)?;
+    let held = held_at_first(&rt, &queue)?;
     take(&mut queue, instant(5, 0), &mut now);
-    let (later, last) = firsts(&queue).ok_or("two buckets")?;
-    assert_eq!(rt;
-        later,
-        Bucket {
-            fs: 5,
-            first: third
-        }
-    );
-    assert_eq!(rt; last, seven);
-    assert_eq!(rt; due(&queue, third), Some(instant(5, 1)));
-    assert_eq!(rt; due(&queue, five.first), None);
+    held_at_last(&rt, &queue, held);
     Ok(())
 }
 
@@ -195,26 +216,36 @@ fn competing(alloc: Global) -> Result<Queue, NoMemory>
     filled(alloc, &rows)
 }
 
+/// The three lowest of 8 bits.
+fn lowest(bits: &Bits) -> Option<(bool, bool, bool)> {
+    if bits.len() != 8 {
+        return None;
+    }
+    Some((bits.get(0), bits.get(1), bits.get(2)))
+}
+
+/// Looks at the wishes of the first instant, and then takes those of both.
+fn decided(rt: &impl Abort, queue: &mut Queue, seen: &mut Bits, now: &mut Bits)
+    requires { EachWithin 8 queue.old.held }
+{
+    assert_eq!(rt; queue.next_due(), Some(instant(5, 0)));
+    look(queue, instant(5, 0), seen);
+    assert_eq!(rt; lowest(seen), Some((true, true, false)));
+    take(queue, instant(5, 0), now);
+    assert_eq!(rt; lowest(now), Some((true, true, false)));
+    assert_eq!(rt; queue.next_due(), Some(instant(5, 1)));
+    take(queue, instant(5, 1), now);
+    assert_eq!(rt; lowest(now), Some((true, false, false)));
+    assert_eq!(rt; queue.next_due(), None);
+    assert!(rt; queue.buckets().is_empty());
+}
+
 #[test]
 fn the_greatest_instance_decides(rt: HostRuntime) -> Result<(), Fail> {
     let mut queue = competing(rt.alloc())?;
-    let mut now = Bits::zeros(rt.alloc(), 8)?;
     let mut seen = Bits::zeros(rt.alloc(), 8)?;
-    assert_eq!(rt; queue.next_due(), Some(instant(5, 0)));
-    look(&queue, instant(5, 0), &mut seen);
-    take(&mut queue, instant(5, 0), &mut now);
-    assert_eq!(rt; (now.len(), seen.len()), (8, 8));
-    assert_eq!(rt; (now.get(0), now.get(1), now.get(2)), (true, true, false));
-    assert_eq!(rt;
-        (seen.get(0), seen.get(1), seen.get(2)),
-        (true, true, false)
-    );
-    assert_eq!(rt; queue.next_due(), Some(instant(5, 1)));
-    take(&mut queue, instant(5, 1), &mut now);
-    assert_eq!(rt; now.len(), 8);
-    assert_eq!(rt; (now.get(0), now.get(1)), (true, false));
-    assert_eq!(rt; queue.next_due(), None);
-    assert!(rt; queue.buckets().is_empty());
+    let mut now = Bits::zeros(rt.alloc(), 8)?;
+    decided(&rt, &mut queue, &mut seen, &mut now);
     Ok(())
 }
 
@@ -228,24 +259,30 @@ fn many(alloc: Global) -> Result<Queue, NoMemory> {
     filled(alloc, rows.as_slice())
 }
 
+/// How many wishes a bucket has, each due at its time and behind the one before it.
+fn in_order(rt: &impl Abort, queue: &Queue, bucket: Bucket) -> u32 {
+    let mut count = 0u32;
+    let mut last: Option<(Instant, u32)> = None;
+    let mut key = Some(bucket.first);
+    for _ in 0..30 {
+        let Some(k) = key else { break };
+        let here = wished(queue, k);
+        assert_eq!(rt; here.map(|(due, _)| due.fs), Some(bucket.fs));
+        assert!(rt; last < here);
+        last = here;
+        key = next(queue, k);
+        count = count.saturating_add(1);
+    }
+    assert_eq!(rt; key, None);
+    count
+}
+
 #[test]
 fn wishes_come_in_order(rt: HostRuntime) -> Result<(), Fail> {
     let queue = many(rt.alloc())?;
     let mut count = 0u32;
     for bucket in queue.buckets() {
-        let mut last: Option<(Instant, u32)> = None;
-        let mut key = Some(bucket.first);
-        for _ in 0..30 {
-            let Some(k) = key else { break };
-            let wish = queue.wish(k).ok_or("a wish of a bucket")?;
-            let here = (wish.due, wish.instance);
-            assert_eq!(rt; wish.due.fs, bucket.fs);
-            assert!(rt; last.is_none_or(|before| before < here));
-            last = Some(here);
-            key = next(&queue, k);
-            count = count.saturating_add(1);
-        }
-        assert_eq!(rt; key, None);
+        count = count.saturating_add(in_order(&rt, &queue, *bucket));
     }
     assert_eq!(rt; count, 30);
     Ok(())

@@ -1,5 +1,6 @@
 //! Instants that are due, with carries to the last one, and delays past the end.
 use lh_time::{Delay, Instant, due};
+use std::process::Abort;
 
 const END: u64 = u64::MAX;
 
@@ -11,32 +12,31 @@ fn delay((fs, delta, eps): (u64, u64, u64)) -> Delay {
     Delay { fs, delta, eps }
 }
 
+/// A delay from an instant leads to this one, or to none.
+fn leads(rt: &impl Abort, at: (u64, u64, u64), d: (u64, u64, u64), want: Option<(u64, u64, u64)>) {
+    assert_eq!(rt; due(instant(at), delay(d)), want.map(instant));
+}
+
 #[test]
 fn due_instants(rt: HostRuntime) {
-    for (at, d, want) in [
-        ((5, 7, 9), (0, 0, 0), (5, 8, 0)),
-        ((5, 7, 9), (0, 1, 0), (5, 8, 0)),
-        ((5, 7, 9), (0, 1, 4), (5, 8, 4)),
-        ((5, 7, 9), (0, 0, 1), (5, 7, 10)),
-        ((5, 7, 9), (1000000, 2, 3), (1000005, 2, 3)),
-        ((0, 7, 9), (END, END, END), (END, END, END)),
-        ((END, 0, 9), (0, END, END), (END, END, END)),
-        ((END, END, 0), (0, 0, END), (END, END, END)),
-        ((END, END - 1, END), (0, 0, 0), (END, END, 0)),
-    ] {
-        assert_eq!(rt; due(instant(at), delay(d)), Some(instant(want)));
-    }
+    let at = (5, 7, 9);
+    leads(&rt, at, (0, 0, 0), Some((5, 8, 0)));
+    leads(&rt, at, (0, 1, 0), Some((5, 8, 0)));
+    leads(&rt, at, (0, 1, 4), Some((5, 8, 4)));
+    leads(&rt, at, (0, 0, 1), Some((5, 7, 10)));
+    leads(&rt, at, (1000000, 2, 3), Some((1000005, 2, 3)));
+    let last = Some((END, END, END));
+    leads(&rt, (0, 7, 9), (END, END, END), last);
+    leads(&rt, (END, 0, 9), (0, END, END), last);
+    leads(&rt, (END, END, 0), (0, 0, END), last);
+    leads(&rt, (END, END - 1, END), (0, 0, 0), Some((END, END, 0)));
 }
 
 #[test]
 fn nothing_is_due_past_the_end(rt: HostRuntime) {
-    for (at, d) in [
-        ((END, 0, 0), (1, 0, 0)),
-        ((1, 0, 0), (END, 0, 0)),
-        ((0, 1, 0), (0, END, 0)),
-        ((0, 0, 1), (0, 0, END)),
-        ((0, END, 0), (0, 0, 0)),
-    ] {
-        assert_eq!(rt; due(instant(at), delay(d)), None);
-    }
+    leads(&rt, (END, 0, 0), (1, 0, 0), None);
+    leads(&rt, (1, 0, 0), (END, 0, 0), None);
+    leads(&rt, (0, 1, 0), (0, END, 0), None);
+    leads(&rt, (0, 0, 1), (0, 0, END), None);
+    leads(&rt, (0, END, 0), (0, 0, 0), None);
 }

@@ -9,6 +9,7 @@ use lh_types::part::{Range, Step, range_of};
 use lh_types::ty::{NoMemory, Ty, TyFault, TyList, bits, carries_data};
 use lh_types::val::{Val, ValList};
 use std::alloc::Global;
+use std::process::Abort;
 use std::test::Fail;
 
 fn array(alloc: Global, len: u32, of: Result<Ty, TyFault>) -> Result<Ty, TyFault> {
@@ -49,109 +50,78 @@ fn deep(alloc: Global, depth: u32) -> Result<Ty, TyFault> {
     Ok(of)
 }
 
+/// What was made has this fault, or none.
+fn made(rt: &impl Abort, ty: Result<Ty, TyFault>, want: Option<TyFault>) {
+    assert_eq!(rt; ty.err(), want);
+}
+
 #[test]
 fn widths(rt: HostRuntime) {
-    for (fault, want) in [
-        (Ty::int(0).err(), Some(TyFault::WidthRange)),
-        (Ty::int(1).err(), None),
-        (Ty::int(128).err(), None),
-        (Ty::int(129).err(), Some(TyFault::WidthRange)),
-    ] {
-        assert_eq!(rt; fault, want);
-    }
+    made(&rt, Ty::int(0), Some(TyFault::WidthRange));
+    made(&rt, Ty::int(1), None);
+    made(&rt, Ty::int(128), None);
+    made(&rt, Ty::int(129), Some(TyFault::WidthRange));
 }
 
 #[test]
 fn sizes(rt: HostRuntime) {
     let alloc = rt.alloc();
+    let too_many = Some(TyFault::TooManyBits);
+    made(&rt, array(alloc, 65536, Ty::int(1)), None);
+    made(&rt, array(alloc, 65537, Ty::int(1)), too_many);
+    made(&rt, array(alloc, 513, Ty::int(128)), too_many);
+    made(&rt, array(alloc, u32::MAX, Ty::int(128)), too_many);
     let half = array(alloc, 32768, Ty::int(1));
     let rest = array(alloc, 32769, Ty::int(1));
-    for (fault, want) in [
-        (array(alloc, 65536, Ty::int(1)).err(), None),
-        (
-            array(alloc, 65537, Ty::int(1)).err(),
-            Some(TyFault::TooManyBits),
-        ),
-        (
-            array(alloc, 513, Ty::int(128)).err(),
-            Some(TyFault::TooManyBits),
-        ),
-        (
-            array(alloc, u32::MAX, Ty::int(128)).err(),
-            Some(TyFault::TooManyBits),
-        ),
-        (
-            two_fields(alloc, half, rest).err(),
-            Some(TyFault::TooManyBits),
-        ),
-    ] {
-        assert_eq!(rt; fault, want);
-    }
+    made(&rt, two_fields(alloc, half, rest), too_many);
 }
 
 #[test]
 fn depths(rt: HostRuntime) {
     let alloc = rt.alloc();
-    for (fault, want) in [
-        (deep(alloc, 16).err(), None),
-        (deep(alloc, 17).err(), Some(TyFault::TooDeep)),
-        (
-            array(alloc, u32::MAX, deep(alloc, 16)).err(),
-            Some(TyFault::TooDeep),
-        ),
-        (one_field(alloc, deep(alloc, 15)).err(), None),
-        (
-            one_field(alloc, deep(alloc, 16)).err(),
-            Some(TyFault::TooDeep),
-        ),
-    ] {
-        assert_eq!(rt; fault, want);
-    }
+    let too_deep = Some(TyFault::TooDeep);
+    made(&rt, deep(alloc, 16), None);
+    made(&rt, deep(alloc, 17), too_deep);
+    made(&rt, array(alloc, u32::MAX, deep(alloc, 16)), too_deep);
+    made(&rt, one_field(alloc, deep(alloc, 15)), None);
+    made(&rt, one_field(alloc, deep(alloc, 16)), too_deep);
 }
 
 #[test]
 fn kinds_of_parts(rt: HostRuntime) {
     let alloc = rt.alloc();
-    let of_signal = signal(alloc, Ty::int(8));
-    for (fault, want) in [
-        (array(alloc, 0, Ok(Ty::time())).err(), Some(TyFault::Empty)),
-        (array(alloc, 1, of_signal).err(), Some(TyFault::WrongPart)),
-        (Ty::tuple(TyList::new(alloc)).err(), Some(TyFault::Empty)),
-        (
-            two_fields(alloc, Ty::int(1), Ok(Ty::time())).err(),
-            Some(TyFault::WrongPart),
-        ),
-    ] {
-        assert_eq!(rt; fault, want);
-    }
+    let (empty, wrong) = (Some(TyFault::Empty), Some(TyFault::WrongPart));
+    made(&rt, array(alloc, 0, Ok(Ty::time())), empty);
+    made(&rt, array(alloc, 1, signal(alloc, Ty::int(8))), wrong);
+    made(&rt, Ty::tuple(TyList::new(alloc)), empty);
+    made(&rt, two_fields(alloc, Ty::int(1), Ok(Ty::time())), wrong);
 }
 
 #[test]
 fn signals_and_pointers(rt: HostRuntime) {
     let alloc = rt.alloc();
-    let of_signal = signal(alloc, Ty::int(8));
-    for (fault, want) in [
-        (
-            signal(alloc, Ok(Ty::time())).err(),
-            Some(TyFault::WrongPart),
-        ),
-        (pointer(alloc, Ok(Ty::time())).err(), None),
-        (
-            pointer(alloc, Ok(Ty::void())).err(),
-            Some(TyFault::WrongPart),
-        ),
-        (pointer(alloc, of_signal).err(), Some(TyFault::WrongPart)),
-    ] {
-        assert_eq!(rt; fault, want);
-    }
+    let wrong = Some(TyFault::WrongPart);
+    made(&rt, signal(alloc, Ok(Ty::time())), wrong);
+    made(&rt, pointer(alloc, Ok(Ty::time())), None);
+    made(&rt, pointer(alloc, Ok(Ty::void())), wrong);
+    made(&rt, pointer(alloc, signal(alloc, Ty::int(8))), wrong);
+}
+
+/// A signal of two integers of this width.
+fn signal_of_two(alloc: Global, width: u32) -> Result<Ty, TyFault> {
+    signal(alloc, array(alloc, 2, Ty::int(width)))
+}
+
+/// Whether a type is equal to its copy.
+fn is_its_copy(t: &Ty) -> Result<bool, NoMemory> {
+    Ok(t.copy()? == *t)
 }
 
 #[test]
 fn copies(rt: HostRuntime) -> Result<(), Fail> {
-    let alloc = rt.alloc();
-    let t = signal(alloc, array(alloc, 2, Ty::int(8)))?;
-    assert!(rt; t.copy()? == t);
-    assert!(rt; t != signal(alloc, array(alloc, 2, Ty::int(9)))?);
+    let t = signal_of_two(rt.alloc(), 8)?;
+    assert!(rt; is_its_copy(&t)?);
+    assert!(rt; t != signal_of_two(rt.alloc(), 9)?);
     Ok(())
 }
 
@@ -165,28 +135,23 @@ fn part(alloc: Global, steps: &[Step]) -> Result<Option<Range>, TyFault> {
     Ok(range_of(&t, steps))
 }
 
+/// The part that these steps lead to is this one, or there is none.
+fn leads(rt: &impl Abort, alloc: Global, steps: &[Step], want: Option<Range>) {
+    assert_eq!(rt; part(alloc, steps), Ok(want));
+}
+
 #[test]
 fn parts(rt: HostRuntime) {
     let alloc = rt.alloc();
     let (first, second, third) = (Step::Field(0), Step::Field(1), Step::Field(2));
     let middle = Step::Slice { at: 1, len: 2 };
-    for (range, want) in [
-        (
-            part(alloc, &[first, second, third, second]),
-            Some(Range { lo: 11, len: 1 }),
-        ),
-        (
-            part(alloc, &[first, second, middle, second]),
-            Some(Range { lo: 9, len: 3 }),
-        ),
-        (
-            part(alloc, &[second, middle]),
-            Some(Range { lo: 16, len: 2 }),
-        ),
-        (part(alloc, &[first, middle]), None),
-    ] {
-        assert_eq!(rt; range, Ok(want));
-    }
+    let element = Some(Range { lo: 11, len: 1 });
+    let bits = Some(Range { lo: 9, len: 3 });
+    let slice = Some(Range { lo: 16, len: 2 });
+    leads(&rt, alloc, &[first, second, third, second], element);
+    leads(&rt, alloc, &[first, second, middle, second], bits);
+    leads(&rt, alloc, &[second, middle], slice);
+    leads(&rt, alloc, &[first, middle], None);
 }
 
 /// The value of these bits, and its bits.
@@ -215,12 +180,8 @@ fn one_to_nine(alloc: Global) -> Result<Bits, NoMemory>
     Ok(b)
 }
 
-#[test]
-fn bits_of_an_array(rt: HostRuntime) -> Result<(), Fail> {
-    let alloc = rt.alloc();
-    let b = one_to_nine(alloc)?;
-    let t = array(alloc, 9, Ty::int(8))?;
-    let (v, back) = there_and_back(alloc, &t, &b)?.ok_or("no value")?;
+/// The array of the bytes from 1 to 9.
+fn bytes_to_nine(alloc: Global) -> Result<Val, NoMemory> {
     let mut elements = ValList::new(alloc);
     for n in 1..10u8 {
         elements.push(Val::Int {
@@ -228,14 +189,38 @@ fn bits_of_an_array(rt: HostRuntime) -> Result<(), Fail> {
             bits: n as u128,
         })?;
     }
-    let whole = Val::Array(elements);
-    assert!(rt; v == whole);
-    assert!(rt; v.copy()? == whole);
+    Ok(Val::Array(elements))
+}
+
+/// Whether a value and its copy are equal to another one.
+fn is_twice(v: &Val, want: &Val) -> Result<(bool, bool), NoMemory> {
+    Ok((*v == *want, v.copy()? == *want))
+}
+
+/// The words of some bits are these.
+fn has_words(rt: &impl Abort, b: &Bits, want: &[u64]) {
+    assert_eq!(rt; b.words(), want);
+}
+
+/// The bits back from the value are those that it was made of.
+fn came_back(rt: &impl Abort, back: &Bits, b: &Bits)
+    requires { length b.now ≡ 72 }
+{
     assert_eq!(rt; back.len(), 72);
-    assert_eq!(rt; back.words(), [0x0807060504030201, 9].as_slice());
+    has_words(rt, back, &[0x0807060504030201, 9]);
     for i in 0..72 {
         assert_eq!(rt; back.get(i), b.get(i), "bit {i}");
     }
+}
+
+#[test]
+fn bits_of_an_array(rt: HostRuntime) -> Result<(), Fail> {
+    let t = array(rt.alloc(), 9, Ty::int(8))?;
+    let want = bytes_to_nine(rt.alloc())?;
+    let b = one_to_nine(rt.alloc())?;
+    let (v, back) = there_and_back(rt.alloc(), &t, &b)?.ok_or("no value")?;
+    assert_eq!(rt; is_twice(&v, &want), Ok((true, true)));
+    came_back(&rt, &back, &b);
     Ok(())
 }
 
@@ -262,50 +247,100 @@ fn part_by(alloc: Global, lo: u32, from: &Bits, at: u32, len: u32) -> Result<Bit
     Ok(b)
 }
 
+/// The number of some bits. It promises nothing, so that no later step carries what is known of it.
+fn number_of(b: &Bits, lo: u32, width: u32) -> u128
+    requires narrow { width ≤ 128 }
+    requires within { lo + width ≤ length b.now }
+{
+    b.int_at(lo, width)
+}
+
+/// The number from bit 60 on, in parts.
+fn holds_number(rt: &impl Abort, b: &Bits)
+    requires { length b.now ≡ 200 }
+{
+    assert_eq!(rt; number_of(b, 60, 128), NUMBER);
+    assert_eq!(rt; number_of(b, 100, 70), 0x56789abcdeffedcba);
+    assert_eq!(rt; number_of(b, 64, 4), 1);
+    assert_eq!(rt; number_of(b, 200, 0), 0);
+    assert!(rt; b.get(64) && !b.get(65));
+}
+
 #[test]
 fn numbers_across_words(rt: HostRuntime) -> Result<(), Fail> {
     let b = number_at(rt.alloc(), 60, NUMBER)?;
     let want = [0, 0xffedcba987654321, 0x00123456789abcde, 0];
-    assert_eq!(rt; b.words(), want.as_slice());
-    assert_eq!(rt; b.int_at(60, 128), NUMBER);
-    assert_eq!(rt; b.int_at(100, 70), 0x56789abcdeffedcba);
-    assert_eq!(rt; b.int_at(64, 4), 1);
-    assert_eq!(rt; b.int_at(200, 0), 0);
-    assert!(rt; b.get(64) && !b.get(65));
+    has_words(&rt, &b, &want);
+    holds_number(&rt, &b);
     Ok(())
+}
+
+/// Whether the lowest bits of both are the same.
+fn are_same(b: &Bits, c: &Bits, len: u32) -> bool
+    requires b { len ≤ length b.now }
+    requires c { len ≤ length c.now }
+{
+    b.same_part(c, 0, len)
+}
+
+/// How many of the lowest 200 bits differ.
+fn differing(b: &Bits, c: &Bits) -> u32
+    requires b { 200 ≤ length b.now }
+    requires c { 200 ≤ length c.now }
+{
+    b.toggled(c, 0, 200)
+}
+
+/// The number from bit 60 on in `b` and in `d`, and from bit 3 on in `c`.
+fn hold_parts(rt: &impl Abort, b: &Bits, c: &Bits, d: &Bits)
+    requires b { length b.now ≡ 200 }
+    requires c { length c.now ≡ 200 }
+    requires d { length d.now ≡ 200 }
+{
+    assert_eq!(rt; number_of(c, 3, 128), NUMBER);
+    assert!(rt; are_same(d, b, 200));
+    assert!(rt; !are_same(c, b, 200));
+    assert!(rt; are_same(c, b, 7) && !are_same(c, b, 8));
+    assert_eq!(rt; differing(d, b), 0);
+    assert_eq!(rt; differing(c, b), 94);
 }
 
 #[test]
 fn parts_across_words(rt: HostRuntime) -> Result<(), Fail> {
-    let alloc = rt.alloc();
-    let b = number_at(alloc, 60, NUMBER)?;
-    let c = part_by(alloc, 3, &b, 60, 128)?;
-    assert_eq!(rt; c.int_at(3, 128), NUMBER);
-    let d = part_by(alloc, 60, &c, 3, 128)?;
-    assert!(rt; d.same_part(&b, 0, 200));
-    assert!(rt; !c.same_part(&b, 0, 200));
-    assert!(rt; c.same_part(&b, 0, 7) && !c.same_part(&b, 0, 8));
-    assert_eq!(rt; d.toggled(&b, 0, 200), 0);
-    assert_eq!(rt; c.toggled(&b, 0, 200), 94);
+    let b = number_at(rt.alloc(), 60, NUMBER)?;
     let part = b.part(60, 128)?;
-    assert_eq!(rt;
-        part.words(),
-        [0xfedcba9876543210, 0x0123456789abcdef].as_slice()
-    );
+    let c = part_by(rt.alloc(), 3, &b, 60, 128)?;
+    let d = part_by(rt.alloc(), 60, &c, 3, 128)?;
+    hold_parts(&rt, &b, &c, &d);
+    has_words(&rt, &part, &[0xfedcba9876543210, 0x0123456789abcdef]);
     Ok(())
+}
+
+/// Two bytes in a list.
+fn two_bytes(alloc: Global) -> Result<ByteList, NoMemory> {
+    let mut bytes = ByteList::new(alloc);
+    bytes.push(7)?;
+    bytes.push(9)?;
+    Ok(bytes)
 }
 
 #[test]
 fn lists(rt: HostRuntime) -> Result<(), Fail> {
-    let mut bytes = ByteList::new(rt.alloc());
-    bytes.push(7)?;
-    bytes.push(9)?;
+    let bytes = two_bytes(rt.alloc())?;
     assert_eq!(rt; bytes.as_slice(), [7, 9].as_slice());
     let mut writes = BitWrites::new(rt.alloc());
     writes.push((5, true))?;
     assert_eq!(rt; writes.len(), 1);
     assert_eq!(rt; writes.get(0), (5, true));
     Ok(())
+}
+
+/// The four writes of the runs, in order.
+fn are_four(rt: &impl Abort, writes: &BitWrites) {
+    assert_eq!(rt; writes.runs().len(), 2);
+    assert_eq!(rt; writes.len(), 4);
+    assert_eq!(rt; (writes.get(0), writes.get(1)), ((70, false), (71, true)));
+    assert_eq!(rt; (writes.get(2), writes.get(3)), ((72, false), (5, true)));
 }
 
 #[test]
@@ -316,12 +351,9 @@ fn runs_of_writes(rt: HostRuntime) -> Result<(), Fail> {
     writes.push_run(9, Bits::zeros(rt.alloc(), 0)?)?;
     writes.push_run(70, bits)?;
     writes.push((5, true))?;
-    assert_eq!(rt; writes.runs().len(), 2);
-    assert_eq!(rt; writes.len(), 4);
-    assert_eq!(rt; (writes.get(0), writes.get(1)), ((70, false), (71, true)));
-    assert_eq!(rt; (writes.get(2), writes.get(3)), ((72, false), (5, true)));
+    are_four(&rt, &writes);
     let mut now = Bits::zeros(rt.alloc(), 80)?;
     writes.set(&mut now);
-    assert_eq!(rt; now.words(), [32, 128].as_slice());
+    has_words(&rt, &now, &[32, 128]);
     Ok(())
 }

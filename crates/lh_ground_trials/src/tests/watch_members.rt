@@ -12,6 +12,7 @@ use lh_watch::builtin::{Asserts, Toggles, UntilFail};
 use lh_watch::shows::{keep_titles, show};
 use lh_watch::watcher::{Next, Watcher};
 use std::alloc::Global;
+use std::process::Abort;
 use std::test::Fail;
 
 /// A kind of watcher that only the tests have: it counts the frames that it has seen, and says its word at
@@ -68,13 +69,19 @@ fn member_saying(name: u8, turn: u64, word: Next) -> Scripted {
     }
 }
 
-fn frame(alloc: Global, passed: &[bool]) -> Result<Frame, NoMemory> {
+/// A change of one signal.
+fn one_change(alloc: Global) -> Result<ChangeList, NoMemory> {
     let mut changes = ChangeList::new(alloc);
     changes.push(Change {
         signal: 1,
         toggled: 3,
         value: Val::Int { width: 8, bits: 7 },
     })?;
+    Ok(changes)
+}
+
+/// Assertions that passed or failed.
+fn outcomes(alloc: Global, passed: &[bool]) -> Result<OutcomeList, NoMemory> {
     let mut outcomes = OutcomeList::new(alloc);
     for passed in passed {
         outcomes.push(Outcome {
@@ -82,6 +89,12 @@ fn frame(alloc: Global, passed: &[bool]) -> Result<Frame, NoMemory> {
             passed: *passed,
         })?;
     }
+    Ok(outcomes)
+}
+
+fn frame(alloc: Global, passed: &[bool]) -> Result<Frame, NoMemory> {
+    let changes = one_change(alloc)?;
+    let outcomes = outcomes(alloc, passed)?;
     Ok(Frame {
         at: Instant {
             fs: 5,
@@ -93,74 +106,88 @@ fn frame(alloc: Global, passed: &[bool]) -> Result<Frame, NoMemory> {
     })
 }
 
+fn add(alloc: Global, ws: &mut Vec<Box<dyn Watcher>>, w: Scripted) -> Result<(), Fail> {
+    ws.push(Box::new(alloc, w)?)?;
+    Ok(())
+}
+
 /// The members A, B and C: the last two say their words at their turns.
 fn three(alloc: Global, b: Scripted, c: Scripted) -> Result<Vec<Box<dyn Watcher>>, Fail> {
     let mut ws: Vec<Box<dyn Watcher>> = Vec::new(alloc);
-    ws.push(Box::new(alloc, member_saying(b'A', 9, Next::Go))?)?;
-    ws.push(Box::new(alloc, b)?)?;
-    ws.push(Box::new(alloc, c)?)?;
+    add(alloc, &mut ws, member_saying(b'A', 9, Next::Go))?;
+    add(alloc, &mut ws, b)?;
+    add(alloc, &mut ws, c)?;
     Ok(ws)
 }
 
-/// What the members report, one after the other.
-fn told(alloc: Global, ws: &Vec<Box<dyn Watcher>>) -> Result<Vec<u8>, Fail> {
+/// Whether this is what the members report, one after the other.
+fn tell(alloc: Global, ws: &Vec<Box<dyn Watcher>>, want: &[u8]) -> Result<bool, NoMemory> {
     let mut to = Vec::new(alloc);
     for w in ws {
         w.report(&mut to)?;
     }
-    Ok(to)
+    Ok(to.as_slice() == want)
+}
+
+/// The members answer this to a frame. Nothing is promised of them, so that no later step carries what is known of them.
+fn answer(
+    rt: &impl Abort,
+    ws: &mut Vec<Box<dyn Watcher>>,
+    f: &Frame,
+    reports: &mut Vec<u8>,
+    want: Result<Option<usize>, NoMemory>,
+) {
+    assert_eq!(rt; show(ws, f, reports), want);
+}
+
+/// The members report this, one after the other.
+fn report(rt: &impl Abort, alloc: Global, ws: &Vec<Box<dyn Watcher>>, want: &[u8]) {
+    assert_eq!(rt; tell(alloc, ws, want), Ok(true));
 }
 
 #[test]
 fn the_second_says_stop(rt: HostRuntime) -> Result<(), Fail> {
+    let b = member_saying(b'B', 1, Next::Stop);
+    let c = member_saying(b'C', 1, Next::Stop);
     let f = frame(rt.alloc(), &[])?;
-    let mut ws = three(
-        rt.alloc(),
-        member_saying(b'B', 1, Next::Stop),
-        member_saying(b'C', 1, Next::Stop),
-    )?;
+    let mut ws = three(rt.alloc(), b, c)?;
     let mut reports = Vec::new(rt.alloc());
-    assert_eq!(rt; show(&mut ws, &f, &mut reports)?, Some(1));
+    answer(&rt, &mut ws, &f, &mut reports, Ok(Some(1)));
     assert!(rt; reports.is_empty());
-    assert_eq!(rt; told(rt.alloc(), &ws)?.as_slice(), b"A1B1C1".as_slice());
+    report(&rt, rt.alloc(), &ws, b"A1B1C1");
     Ok(())
 }
 
 #[test]
 fn the_second_is_done_and_the_third_says_stop(rt: HostRuntime) -> Result<(), Fail> {
+    let b = member_saying(b'B', 1, Next::Done);
+    let c = member_saying(b'C', 1, Next::Stop);
     let f = frame(rt.alloc(), &[])?;
-    let mut ws = three(
-        rt.alloc(),
-        member_saying(b'B', 1, Next::Done),
-        member_saying(b'C', 1, Next::Stop),
-    )?;
+    let mut ws = three(rt.alloc(), b, c)?;
     let mut reports = Vec::new(rt.alloc());
-    assert_eq!(rt; show(&mut ws, &f, &mut reports)?, Some(1));
+    answer(&rt, &mut ws, &f, &mut reports, Ok(Some(1)));
     assert_eq!(rt; reports.as_slice(), b"B1".as_slice());
-    assert_eq!(rt; told(rt.alloc(), &ws)?.as_slice(), b"A1C1".as_slice());
+    report(&rt, rt.alloc(), &ws, b"A1C1");
     Ok(())
 }
 
 #[test]
 fn the_second_is_done_at_the_second_frame(rt: HostRuntime) -> Result<(), Fail> {
+    let b = member_saying(b'B', 2, Next::Done);
+    let c = member_saying(b'C', 9, Next::Go);
     let f = frame(rt.alloc(), &[])?;
-    let mut ws = three(
-        rt.alloc(),
-        member_saying(b'B', 2, Next::Done),
-        member_saying(b'C', 9, Next::Go),
-    )?;
+    let mut ws = three(rt.alloc(), b, c)?;
     let mut reports = Vec::new(rt.alloc());
-    assert_eq!(rt; show(&mut ws, &f, &mut reports)?, None);
+    answer(&rt, &mut ws, &f, &mut reports, Ok(None));
     assert_eq!(rt; ws.len(), 3);
-    assert_eq!(rt; show(&mut ws, &f, &mut reports)?, None);
+    answer(&rt, &mut ws, &f, &mut reports, Ok(None));
     assert_eq!(rt; reports.as_slice(), b"B2".as_slice());
-    assert_eq!(rt; told(rt.alloc(), &ws)?.as_slice(), b"A2C2".as_slice());
+    report(&rt, rt.alloc(), &ws, b"A2C2");
     Ok(())
 }
 
 #[test]
 fn the_second_finds_no_memory(rt: HostRuntime) -> Result<(), Fail> {
-    let f = frame(rt.alloc(), &[])?;
     let starved = Scripted {
         name: b'B',
         turn: 2,
@@ -168,11 +195,13 @@ fn the_second_finds_no_memory(rt: HostRuntime) -> Result<(), Fail> {
         finds_memory: false,
         seen: 0,
     };
-    let mut ws = three(rt.alloc(), starved, member_saying(b'C', 9, Next::Go))?;
+    let c = member_saying(b'C', 9, Next::Go);
+    let f = frame(rt.alloc(), &[])?;
+    let mut ws = three(rt.alloc(), starved, c)?;
     let mut reports = Vec::new(rt.alloc());
-    assert_eq!(rt; show(&mut ws, &f, &mut reports)?, None);
-    assert!(rt; show(&mut ws, &f, &mut reports).is_err());
-    assert_eq!(rt; told(rt.alloc(), &ws)?.as_slice(), b"A2B1C1".as_slice());
+    answer(&rt, &mut ws, &f, &mut reports, Ok(None));
+    answer(&rt, &mut ws, &f, &mut reports, Err(NoMemory));
+    report(&rt, rt.alloc(), &ws, b"A2B1C1");
     Ok(())
 }
 
@@ -187,27 +216,37 @@ fn builtin(alloc: Global) -> Result<Vec<Box<dyn Watcher>>, Fail> {
 
 #[test]
 fn the_reports_of_those_of_the_program(rt: HostRuntime) -> Result<(), Fail> {
+    let passes = frame(rt.alloc(), &[true, true])?;
+    let fails = frame(rt.alloc(), &[true, false])?;
     let mut ws = builtin(rt.alloc())?;
     let mut reports = Vec::new(rt.alloc());
-    let passes = frame(rt.alloc(), &[true, true])?;
-    assert_eq!(rt; show(&mut ws, &passes, &mut reports)?, None);
-    let fails = frame(rt.alloc(), &[true, false])?;
-    assert_eq!(rt; show(&mut ws, &fails, &mut reports)?, Some(2));
+    answer(&rt, &mut ws, &passes, &mut reports, Ok(None));
+    answer(&rt, &mut ws, &fails, &mut reports, Ok(Some(2)));
     assert!(rt; reports.is_empty());
     let text = b"toggles 6\nasserts 3 ok 1 failed\nuntilfail 1\n";
-    assert_eq!(rt; told(rt.alloc(), &ws)?.as_slice(), text.as_slice());
+    report(&rt, rt.alloc(), &ws, text);
     Ok(())
+}
+
+fn add_title(alloc: Global, titles: &mut TextList, title: &[u8]) -> Result<(), NoMemory> {
+    titles.push(ByteList::from_vec(Vec::from_slice(alloc, title)?))
+}
+
+/// Titles, of which one is none of the program's.
+fn three_titles(alloc: Global) -> Result<TextList, NoMemory> {
+    let mut titles = TextList::new(alloc);
+    add_title(alloc, &mut titles, b"untilfail")?;
+    add_title(alloc, &mut titles, b"toggle")?;
+    add_title(alloc, &mut titles, b"asserts")?;
+    Ok(titles)
 }
 
 #[test]
 fn those_whose_titles_are_asked_for(rt: HostRuntime) -> Result<(), Fail> {
+    let titles = three_titles(rt.alloc())?;
     let mut ws = builtin(rt.alloc())?;
-    let mut titles = TextList::new(rt.alloc());
-    titles.push(ByteList::from_vec(b"untilfail".to_vec(rt.alloc())?))?;
-    titles.push(ByteList::from_vec(b"toggle".to_vec(rt.alloc())?))?;
-    titles.push(ByteList::from_vec(b"asserts".to_vec(rt.alloc())?))?;
     keep_titles(&mut ws, &titles);
     let text = b"asserts 0 ok 0 failed\nuntilfail 0\n";
-    assert_eq!(rt; told(rt.alloc(), &ws)?.as_slice(), text.as_slice());
+    report(&rt, rt.alloc(), &ws, text);
     Ok(())
 }

@@ -1,5 +1,4 @@
 use Rattle.std.proofs.Common.{Some, length, map, unwrap_or, false, refl, ap, sym, ◌∙◌}
-use Rattle.lh_types.specs.ValueOf.{datum_of}
 use Rattle.lh_types.specs.Wish.{Wish}
 use Rattle.lh_unit.specs.Arena.{naming, unit_text_at}
 use Rattle.lh_unit.specs.Effects.{operated, probed, driven}
@@ -39,7 +38,7 @@ pub returns-in-Const : goal.returns-in-Const
 returns-in-Const c = λ p st.
     let m = c.args.m.now in
     given-ok m c.args.unit.0 c.run_const.result p (passed_by m c.args.unit.0 c.args.now.now c.args.state.now.memory c.args.at p c.args.name c.args.inst.now)
-    c.args.run.now c.run_const.new.run c.args.name (Some (datum_held (datum_of c.in-Const.value))) (Some (datum_held (datum_of c.in-Const.value)))
+    c.args.run.now c.run_const.new.run c.args.name (Some (datum_held c.in-Const.value)) (Some (datum_held c.in-Const.value))
     c.requires.arena c.requires.unit st c.requires.name refl
     (ap (passed_by m c.args.unit.0 c.args.now.now c.args.state.now.memory c.args.at p c.args.name) (sym c.in-Const.is)) c.run_const.ensures
 

@@ -1,7 +1,6 @@
 use Rattle.std.proofs.Common.{subst}
 use Rattle.std.proofs.lemmas.Result.{on_ok_weaker}
-use Rattle.lh_types.specs.ValueOf.{datum_of}
-use Rattle.lh_types.specs.declared.val.Val.{Val}
+use Rattle.lh_types.specs.Values.{Datum}
 use Rattle.lh_term.specs.Tree.{constant}
 use Rattle.lh_term.specs.Arena.{StandsForTree}
 use Rattle.lh_places.specs.Asked.{SamePlaces, IsWithAt}
@@ -19,7 +18,7 @@ returns-clause-same c =
 pub returns-clause-gives : goal.returns-clause-gives
 returns-clause-gives c =
     let ns = c.args.terms.now in let ms = c.konst.new.self in let ps = c.args.places.now.items in let qs = c.give.new.places.items in
-    let y = constant (datum_of c.args.value.now) in
-    let st = subst (λ (v : Val). StandsForTree ms c.in_ok-term.term (constant (datum_of v))) c.in_ok-copy.ensures c.in_ok-term.ensures.made in
+    let y = constant c.args.value.now in
+    let st = subst (λ (d : Datum). StandsForTree ms c.in_ok-term.term (constant d)) c.in_ok-value.ensures c.in_ok-term.ensures.made in
     on_ok_weaker {P = GivesTerm ps c.args.at c.args.to c.in_ok-term.term qs} {Q = GivesWhere (IsThat y) ns ps c.args.at c.args.to ms qs} c.give.result
     (gives-that ns ms ps qs c.args.at c.args.to c.in_ok-term.term y c.konst.ensures.kept st) c.give.ensures.gives

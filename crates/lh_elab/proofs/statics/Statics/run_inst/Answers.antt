@@ -1,4 +1,3 @@
-use Rattle.std.proofs.Common.{ap}
 use Rattle.lh_types.specs.ValueOf.{datum_of}
 use Rattle.lh_eval.specs.HeldOf.{maybe_held}
 use Rattle.lh_elab.proofs.StaticSteps.{args-in, pure-fits, const-done, pure-done}
@@ -15,7 +14,7 @@ base_of-base-requires-clause-args c = args-in c.args.m.now c.args.unit.0 c.requi
 pub returns-in_ok-value-in-Const-clause-follows : goal.returns-in_ok-value-in-Const-clause-follows
 returns-in_ok-value-in-Const-clause-follows c = λ args sigs e f.
     const-done c.args.m.now c.args.unit.0 c.requires.arena c.requires.unit c.args.self.now args sigs e f c.give.new.self c.args.name c.requires.name c.args.inst.now c.in-Const.value
-    (datum_of c.in_ok-value-in-Const.value) c.in-Const.is c.give.ensures.by (ap datum_of c.in_ok-value-in-Const.ensures)
+    (datum_of c.in_ok-value-in-Const.value) c.in-Const.is c.give.ensures.by c.in_ok-value-in-Const.ensures
 
 pub returns-in_ok-held-in-Pure-clause-follows : goal.returns-in_ok-held-in-Pure-clause-follows
 returns-in_ok-held-in-Pure-clause-follows c = λ args sigs e f.

@@ -23,18 +23,18 @@ push_id-requires-clause-stands c =
     ∙ ap (λ k. get_or c.self.inside.blocks.items (k - 1) c.index-last.result.now) n) in
     subst (λ k. IsSome (get_or c.self.inside.bodies.items k.0 None)) (sym l) (last-body (table_of c.self.inside) c.self.invariant.0 b)
 
-laid : (c : goal.After-define) → (record (table_of c.self.inside) { lines = c.push_line.new.lines.items; bodies = c.push_id.new.bodies.items })
+laid : (c : goal.After-define) → (record (table_of c.self.inside) { lines = c.push_reserved.new.self.items; bodies = c.push_id.new.bodies.items })
     ≡ with_line (table_of c.self.inside) c.args.value c.args.inst
 laid c =
     let b : 0 < length (table_of c.self.inside).blocks = search rules in
     let n : c.len.result ≡ length (table_of c.self.inside).blocks = search rules in
     let l : c.index-last.result.now ≡ last_block (table_of c.self.inside) = last-read (table_of c.self.inside) c.index-last.result.now b (c.index-last.ensures
     ∙ ap (λ k. get_or c.self.inside.blocks.items (k - 1) c.index-last.result.now) n) in
-    let e : c.push_line.new.lines.items ≡ c.self.inside.lines.items ++ record { result = c.args.value; inst = c.args.inst } ∷ [] = search rules in
+    let e : c.push_reserved.new.self.items ≡ c.self.inside.lines.items ++ record { result = c.args.value; inst = c.args.inst } ∷ [] = search rules in
     let m : c.len-id.result ≡ length c.self.inside.lines.items = search rules in
     let d : c.push_id.new.bodies.items ≡ set c.self.inside.bodies.items c.index-last.result.now.0 (Some
     (unwrap_or (get_or c.self.inside.bodies.items c.index-last.result.now.0 None) [] ++ record { 0 = c.len-id.result } ∷ [])) = search rules in
-    line-laid (table_of c.self.inside) c.index-last.result.now c.push_line.new.lines.items c.push_id.new.bodies.items c.args.value c.args.inst l e
+    line-laid (table_of c.self.inside) c.index-last.result.now c.push_reserved.new.self.items c.push_id.new.bodies.items c.args.value c.args.inst l e
     (d ∙ ap (λ k. set c.self.inside.bodies.items c.index-last.result.now.0 (Some (unwrap_or (get_or c.self.inside.bodies.items c.index-last.result.now.0 None) [] ++ record { 0 = k } ∷ []))) m)
 
 pub returns-then-is_defined : goal.returns-then-is_defined

@@ -7,11 +7,11 @@ use Rattle.lh_unit.proofs.table.UnitTable.block_named.Goals as goal
 
 pub invariant_of-self-then-is_new : goal.invariant_of-self-then-is_new
 invariant_of-self-then-is_new c =
-    let absent : false ≡ has_name c.self.inside.labels.keys c.args.name = new-absent _ _ c.if-is_new.true c.in_ok-i.ensures.added in
-    let e : c.insert_full.new.self.keys ≡ c.self.inside.labels.keys ++ c.args.name ∷ [] = inserted _ _ _ _ refl c.in_ok-i.ensures.keys absent in
-    let f : c.put_body.new.bodies.items ≡ c.self.inside.bodies.items ++ None ∷ [] = search rules in
+    let absent : false ≡ has_name c.self.inside.labels c.args.name = new-absent _ _ c.if-is_new.true c.in_ok-i.ensures.added in
+    let e : c.enter.new.self ≡ c.self.inside.labels ++ c.args.name ∷ [] = inserted _ _ _ _ refl c.in_ok-i.ensures.names absent in
+    let f : c.push_reserved.new.self.items ≡ c.self.inside.bodies.items ++ None ∷ [] = search rules in
     let room : length (table_of c.self.inside).labels < 2 ^ 32 - 1 = search rules in (
-      IsTable-by _ (record (table_of c.self.inside) { labels = c.self.inside.labels.keys ++ c.args.name ∷ []; bodies = c.self.inside.bodies.items ++ None ∷ [] }) refl refl e refl refl refl f refl
+      IsTable-by _ (record (table_of c.self.inside) { labels = c.self.inside.labels ++ c.args.name ∷ []; bodies = c.self.inside.bodies.items ++ None ∷ [] }) refl refl e refl refl refl f refl
           (IsTable-new_label (table_of c.self.inside) c.args.name (sym absent) room c.self.invariant.0),
       Definitions-same (table_of c.self.inside) _ _ refl refl refl c.self.invariant.1,
     )

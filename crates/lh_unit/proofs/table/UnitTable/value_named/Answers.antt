@@ -8,12 +8,12 @@ use Rattle.lh_unit.proofs.table.UnitTable.value_named.Goals as goal
 
 pub invariant_of-self-then-is_new : goal.invariant_of-self-then-is_new
 invariant_of-self-then-is_new c =
-    let absent : false ≡ has_name c.self.inside.values.keys c.args.name = new-absent _ _ c.if-is_new.true c.in_ok-i.ensures.added in
-    let e : c.insert_full.new.self.keys ≡ c.self.inside.values.keys ++ c.args.name ∷ [] = inserted _ _ _ _ refl c.in_ok-i.ensures.keys absent in
-    let f : c.put_missing.new.defs.items ≡ c.self.inside.defs.items ++ value_def.Missing ∷ [] = search rules in
+    let absent : false ≡ has_name c.self.inside.values c.args.name = new-absent _ _ c.if-is_new.true c.in_ok-i.ensures.added in
+    let e : c.enter.new.self ≡ c.self.inside.values ++ c.args.name ∷ [] = inserted _ _ _ _ refl c.in_ok-i.ensures.names absent in
+    let f : c.push_reserved.new.self.items ≡ c.self.inside.defs.items ++ value_def.Missing ∷ [] = search rules in
     let room : length (table_of c.self.inside).values < 2 ^ 32 - 1 = search rules in (
-      IsTable-by _ (record (table_of c.self.inside) { values = c.self.inside.values.keys ++ c.args.name ∷ [] }) refl e refl refl refl refl refl refl
+      IsTable-by _ (record (table_of c.self.inside) { values = c.self.inside.values ++ c.args.name ∷ [] }) refl e refl refl refl refl refl refl
           (IsTable-new_value (table_of c.self.inside) c.args.name (sym absent) room c.self.invariant.0),
-      rw f (Definitions-same (record (table_of c.self.inside) { values = c.self.inside.values.keys ++ c.args.name ∷ [] }) _ _ e refl refl
+      rw f (Definitions-same (record (table_of c.self.inside) { values = c.self.inside.values ++ c.args.name ∷ [] }) _ _ e refl refl
           (Definitions-new_value (table_of c.self.inside) c.self.inside.defs.items c.args.name c.self.invariant.0 c.self.invariant.1)),
     )

@@ -1,6 +1,5 @@
 use Rattle.std.proofs.Common.{refl, sym, subst}
 use Rattle.std.specs.Result.{OnOk}
-use Rattle.lh_types.specs.ValueOf.{datum_of}
 use Rattle.lh_term.specs.Tree.{constant}
 use Rattle.lh_joins.proofs.Conditions.{grows-none}
 use Rattle.lh_flat.specs.declared.flat.FlatInst.{FlatInst}
@@ -29,7 +28,7 @@ pub returns-in-Const-clause-taken : goal.returns-in-Const-clause-taken
 returns-in-Const-clause-taken c =
     let q : Walk = record { places = c.give_constant.new.places; ahead = c.args.self.now.ahead; insts = c.args.self.now.insts; rows = c.args.self.now.rows; sources = c.args.self.now.sources } in
     ok-both c.give_constant.result (SamePlaces c.args.self.now.places.items c.give_constant.new.places.items)
-    (GivesWhere (IsThat (constant (datum_of c.in-Const.value))) c.args.terms.now c.args.self.now.places.items c.args.at.place c.in-Some.result.0 c.give_constant.new.terms
+    (GivesWhere (IsThat (constant c.in-Const.value)) c.args.terms.now c.args.self.now.places.items c.args.at.place c.in-Some.result.0 c.give_constant.new.terms
     c.give_constant.new.places.items)
     (TakesLine c.args.terms.now c.args.region.now c.args.self.now c.args.at c.args.line.now c.give_constant.new.terms q)
     (λ same gives f name before h insts b done rest m i. const-next c.args.terms.now f name c.args.region.now c.args.self.now c.args.at before h insts b done rest m c.args.line.now i
