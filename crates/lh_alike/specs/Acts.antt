@@ -2,7 +2,7 @@
 use Rattle.std.specs.Prelude.{◌≡◌, ◌≤◌, ℕ, List, length, Bool, Some}
 use Rattle.lh_time.specs.declared.Instant.{Instant}
 use Rattle.lh_types.specs.declared.part.Range.{Range}
-use Rattle.lh_unit.specs.declared.name.UnitName.{UnitName}
+use Rattle.lh_names.specs.declared.name.UnitName.{UnitName}
 use Rattle.lh_unit.specs.Activation.{ProcessState, Activated, activate, functions}
 use Rattle.lh_unit.specs.Arena.{Arena, contents, unit_text_at}
 use Rattle.lh_exec.specs.declared.state.ProcState.{ProcState}

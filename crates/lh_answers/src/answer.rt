@@ -26,6 +26,41 @@ use lh_types::text::{put, put_number};
 use lh_types::ty::NoMemory;
 use std::alloc::Global;
 
+/// What the first word asks for.
+#[derive(Clone, Copy)]
+enum Asked {
+    Check,
+    Print,
+    Same,
+    Line,
+    Verify,
+    Cut,
+    Simulate,
+    Lower,
+    Both,
+    Watch,
+    Design,
+    Senses,
+    Definition,
+}
+
+/// The first words.
+const ASKED: [(&str, Asked); 13] = [
+    ("check", Asked::Check),
+    ("print", Asked::Print),
+    ("same", Asked::Same),
+    ("line", Asked::Line),
+    ("verify", Asked::Verify),
+    ("cut", Asked::Cut),
+    ("simulate", Asked::Simulate),
+    ("lower", Asked::Lower),
+    ("both", Asked::Both),
+    ("watch", Asked::Watch),
+    ("design", Asked::Design),
+    ("senses", Asked::Senses),
+    ("definition", Asked::Definition),
+];
+
 /// The answer to a text.
 pub fn answer(alloc: Global, how: &[u8], text: &[u8]) -> Result<Vec<u8>, NoMemory> {
     let Ok(how) = str::from_utf8(how) else {
@@ -40,22 +75,57 @@ pub fn answer(alloc: Global, how: &[u8], text: &[u8]) -> Result<Vec<u8>, NoMemor
 
 fn answer_by(alloc: Global, how: &str, text: &[u8]) -> Result<Vec<u8>, Refusal> {
     let words: Vec<&str> = how.split_whitespace().collect(alloc)?;
-    match words.as_slice() {
-        ["check"] => checked(alloc, text),
-        ["print"] => canonical(alloc, text),
-        ["same"] => compared(alloc, text),
-        ["line", n] => line_of(alloc, text, number(*n)),
-        ["verify"] => verified(alloc, text),
-        ["cut"] => Ok(cut(alloc, text)?),
-        ["simulate", ..] => simulated(alloc, &words, text),
-        ["lower"] => lowered(alloc, text),
-        ["both", rest @ ..] => beside_lowered(alloc, rest, text),
-        ["watch", top, n, rest @ ..] => watched(alloc, *top, *n, rest, text),
-        ["design", top] => counted(alloc, *top, text),
-        ["senses", top, n] => sensed(alloc, *top, number(*n), text),
-        ["definition", top, n] => beside_definition(alloc, *top, number(*n), text),
-        _ => Ok(said(alloc, b"there are no such words\n")?),
+    answer_to(alloc, words.as_slice(), text)
+}
+
+fn answer_to(alloc: Global, words: &[&str], text: &[u8]) -> Result<Vec<u8>, Refusal> {
+    match words {
+        [first, rest @ ..] => match asked_by(*first) {
+            Some(asked) => answer_of(alloc, asked, words, rest, text),
+            None => unknown(alloc),
+        },
+        [] => unknown(alloc),
     }
+}
+
+/// What a first word asks for, if anything.
+fn asked_by(word: &str) -> Option<Asked> {
+    for (name, asked) in &ASKED {
+        if *name == word {
+            return Some(*asked);
+        }
+    }
+    None
+}
+
+/// The answer to these words, of which `rest` stand behind the first.
+fn answer_of(
+    alloc: Global,
+    asked: Asked,
+    words: &[&str],
+    rest: &[&str],
+    text: &[u8],
+) -> Result<Vec<u8>, Refusal> {
+    match (asked, rest) {
+        (Asked::Check, []) => checked(alloc, text),
+        (Asked::Print, []) => canonical(alloc, text),
+        (Asked::Same, []) => compared(alloc, text),
+        (Asked::Line, [n]) => line_of(alloc, text, number(*n)),
+        (Asked::Verify, []) => verified(alloc, text),
+        (Asked::Cut, []) => Ok(cut(alloc, text)?),
+        (Asked::Simulate, _) => simulated(alloc, words, text),
+        (Asked::Lower, []) => lowered(alloc, text),
+        (Asked::Both, rest) => beside_lowered(alloc, rest, text),
+        (Asked::Watch, [top, n, rest @ ..]) => watched(alloc, *top, *n, rest, text),
+        (Asked::Design, [top]) => counted(alloc, *top, text),
+        (Asked::Senses, [top, n]) => sensed(alloc, *top, number(*n), text),
+        (Asked::Definition, [top, n]) => beside_definition(alloc, *top, number(*n), text),
+        _ => unknown(alloc),
+    }
+}
+
+fn unknown(alloc: Global) -> Result<Vec<u8>, Refusal> {
+    Ok(said(alloc, b"there are no such words\n")?)
 }
 
 /// The number that a word says, or 1.

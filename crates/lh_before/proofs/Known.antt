@@ -5,7 +5,8 @@ use Rattle.std.specs.Option.{option_and_then, option_map}
 use Rattle.std.specs.List.{list_any}
 use Rattle.lh_types.specs.Types.{TypeTree}
 use Rattle.lh_types.specs.declared.op.Op.TheVariants.{Or}
-use Rattle.lh_unit.specs.Contents.{OperandText, EdgeText, ArgText, InstText, phi_text, LineText, same_name}
+use Rattle.lh_unit.specs.Contents.{OperandText, EdgeText, ArgText, InstText, phi_text, LineText}
+use Rattle.lh_names.specs.Names.{same_name}
 use Rattle.lh_unit.specs.Typing.{carried, or_else}
 use Rattle.lh_unit.specs.Activation.{edge_from}
 use Rattle.lh_unit.specs.Held.{front}

@@ -1,6 +1,6 @@
 -- The first region of a flat text by the values that parts had before, beside the one by their values now; and the second region, which stands on it.
 use Rattle.std.specs.Prelude.{◌≡◌, ℕ, List, length, map, false, Some}
-use Rattle.lh_unit.specs.declared.name.UnitName.{UnitName}
+use Rattle.lh_names.specs.declared.name.UnitName.{UnitName}
 use Rattle.lh_unit.specs.Within.{Each}
 use Rattle.lh_inlined.specs.Formed.{IsFormed}
 use Rattle.lh_flat.specs.Flat.{FlatText, flat_unit}

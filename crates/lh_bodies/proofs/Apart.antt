@@ -6,9 +6,10 @@ use Rattle.std.proofs.Math.ListN.{get_or-append}
 use Rattle.std.proofs.Math.Seq.{get_or-append_right}
 use Rattle.std.proofs.lemmas.List.{map-append}
 use Rattle.std.proofs.lemmas.Grind.{flat_map-append}
-use Rattle.lh_unit.specs.Contents.{ArgText, LineText, same_name, args_define, is_result_name, lines_define}
+use Rattle.lh_unit.specs.Contents.{ArgText, LineText, args_define, is_result_name, lines_define}
+use Rattle.lh_names.specs.Names.{same_name}
 use Rattle.lh_unit.specs.Reads.{args_repeat}
-use Rattle.lh_unit.proofs.Tables.{same_name-refl}
+use Rattle.lh_names.proofs.NameLists.{same_name-refl}
 use Rattle.lh_spelled.specs.Printable.{result_repeats, results_repeat}
 use Rattle.lh_body.specs.Lines.{arg_names, maybe_name, result_name}
 use Rattle.lh_bodies.specs.Bodies.{NamesDiffer}

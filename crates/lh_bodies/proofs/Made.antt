@@ -5,7 +5,7 @@ use Rattle.std.specs.Result.{IsErrAnd}
 use Rattle.std.specs.List.{list_all, flat_map}
 use Rattle.lh_unit.specs.Contents.{ArgText, LineText, UnitText}
 use Rattle.lh_unit.specs.Naming.{Naming}
-use Rattle.lh_unit.specs.declared.name.UnitName.{UnitName}
+use Rattle.lh_names.specs.declared.name.UnitName.{UnitName}
 use Rattle.lh_unit.specs.Reads.{args_repeat}
 use Rattle.lh_unit.specs.Within.{Each}
 use Rattle.lh_unit.specs.Hierarchy.{lines_of}

@@ -1,9 +1,10 @@
 -- Names that are taken are arguments'.
 use Rattle.std.proofs.Common.{◌≡◌, ℕ, zero, suc, ◌+◌, Bool, true, false, ◌||◌, if◌then◌else◌, List, [], ◌∷◌, ◌++◌, refl, ap, sym, ◌∙◌, subst, length-append}
 use Rattle.std.proofs.lemmas.List.Folds.{list_any-append}
-use Rattle.lh_unit.specs.Contents.{ArgText, same_name, args_define}
+use Rattle.lh_unit.specs.Contents.{ArgText, args_define}
+use Rattle.lh_names.specs.Names.{same_name}
 use Rattle.lh_unit.specs.Lexemes.{begins}
-use Rattle.lh_unit.proofs.Tables.{same_name-is, same_name-refl}
+use Rattle.lh_names.proofs.NameLists.{same_name-is, same_name-refl}
 use Rattle.lh_emission.specs.Names.{value_name, free_from, free_number}
 use Rattle.lh_body.specs.Fresh.{is_among, IsFresh, PassesOver}
 use Rattle.lh_body.specs.declared.names.Fresh.{Fresh}

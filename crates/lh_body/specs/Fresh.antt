@@ -1,7 +1,8 @@
 -- The names that are left beside those of arguments.
 use Rattle.std.specs.Prelude.{◌≡◌, ℕ, List, [], ◌∷◌, ◌++◌, length, Bool}
 use Rattle.std.specs.List.{list_any}
-use Rattle.lh_unit.specs.Contents.{ArgText, same_name, args_define}
+use Rattle.lh_unit.specs.Contents.{ArgText, args_define}
+use Rattle.lh_names.specs.Names.{same_name}
 use Rattle.lh_emission.specs.Names.{value_name}
 use Rattle.lh_body.specs.declared.names.Fresh.{Fresh}
 

@@ -4,10 +4,10 @@ ghost use Rattle.lh_unit.specs.Within.{InstWithin};
 ghost use Rattle.lh_body.specs.Lines.{most_lines, values_alone, HasRoom, BeginsWith, AddsArg, GivesValue, GivesOne, PutsOne};
 
 use crate::names::Fresh;
+use lh_names::name::Name;
 use lh_types::list::ListOf;
 use lh_types::ty::NoMemory;
 use lh_unit::inst::{Inst, NameList, ValueId};
-use lh_unit::name::Name;
 use std::alloc::Global;
 use thiserror::Error;
 

@@ -5,10 +5,10 @@ ghost use Rattle.lh_unit.specs.Lexemes.{begins};
 ghost use Rattle.lh_emission.specs.Names.{value_name, free_from, free_number};
 ghost use Rattle.lh_body.specs.Fresh.{is_among, IsFresh, PassesOver};
 
+use lh_names::name::Name;
 use lh_types::text::{put, put_number};
 use lh_types::ty::NoMemory;
 use lh_unit::inst::NameList;
-use lh_unit::name::Name;
 use std::alloc::Global;
 
 /// The names that are left.

@@ -7,8 +7,8 @@ use Rattle.lh_time.specs.declared.Delay.{Delay}
 use Rattle.lh_types.specs.Types.{int_type, signal_type, pointer_type, void_type, IsData}
 use Rattle.lh_types.specs.Values.{time_value}
 use Rattle.lh_types.specs.declared.op.Op.{Op}
-use Rattle.lh_unit.specs.declared.name.UnitName.{UnitName}
-use Rattle.lh_unit.specs.Names.{all_name_bytes, IsName}
+use Rattle.lh_names.specs.declared.name.UnitName.{UnitName}
+use Rattle.lh_names.specs.Names.{all_name_bytes, IsName}
 use Rattle.lh_unit.specs.Numerals.{number_of}
 use Rattle.lh_unit.specs.Contents.{OperandText, InstText, const_text, pure_text, var_text, ld_text, st_text, sig_text, prb_text, drv_text, child_text, call_text, br_text, branch_text, wait_text, halt_text}
 use Rattle.lh_unit.specs.Lexemes.{Lexeme, word, global, local, arrow}

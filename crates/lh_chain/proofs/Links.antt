@@ -4,7 +4,8 @@ use Rattle.std.specs.Prelude.{codes}
 use Rattle.std.specs.List.{flat_map, range_with_len}
 use Rattle.std.proofs.lemmas.List.{append-nil}
 use Rattle.std.proofs.lemmas.List.FromFn.{length-range_with_len}
-use Rattle.lh_unit.specs.Contents.{LineText, same_name, lines_define}
+use Rattle.lh_unit.specs.Contents.{LineText, lines_define}
+use Rattle.lh_names.specs.Names.{same_name}
 use Rattle.lh_unit.specs.Within.{Each}
 use Rattle.lh_unit.proofs.Defined.{lines_define-append}
 use Rattle.lh_unit.proofs.Lists.{Each-append as each-append}

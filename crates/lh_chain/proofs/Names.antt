@@ -3,9 +3,8 @@ use Rattle.std.proofs.Common.{◌≡◌, ℕ, ◌≤◌, true, false, List, ◌�
 use Rattle.std.proofs.lemmas.Bool.{false_from_ne_true}
 use Rattle.std.proofs.lemmas.Fmt.{decimal_injective, length-decimal-le}
 use Rattle.std.proofs.lemmas.Grind.{common_steps}
-use Rattle.lh_unit.specs.Names.{is_name_byte, all_name_bytes}
-use Rattle.lh_unit.specs.Contents.{same_name}
-use Rattle.lh_unit.proofs.Tables.{same_name-is}
+use Rattle.lh_names.specs.Names.{is_name_byte, all_name_bytes, same_name}
+use Rattle.lh_names.proofs.NameLists.{same_name-is}
 use Rattle.lh_spelled.proofs.Numerals.{decimal-named}
 use Rattle.lh_chain.specs.Chain.{stage, next_of}
 use Rattle.lh_chain.proofs.Lines.{IsNamed}

@@ -5,7 +5,7 @@ use Rattle.lh_types.specs.Types.{TypeTree, int_type, signal_type}
 use Rattle.lh_types.specs.declared.op.Op.TheVariants as op
 use Rattle.lh_unit.specs.declared.inst.UnitKind.{UnitKind}
 use Rattle.lh_unit.specs.declared.inst.UnitKind.TheVariants as kind
-use Rattle.lh_unit.specs.declared.name.UnitName.{UnitName}
+use Rattle.lh_names.specs.declared.name.UnitName.{UnitName}
 use Rattle.lh_unit.specs.Contents.{ArgText}
 use Rattle.lh_unit.specs.Lexemes.{Lexeme, word, global, local, arrow}
 use Rattle.lh_unit.specs.Marks.{open_paren, close_paren, open_brace, comma}

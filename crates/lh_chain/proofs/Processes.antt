@@ -4,13 +4,14 @@ use Rattle.std.specs.List.{list_any, list_all}
 use Rattle.std.proofs.Math.Bool.{or-true}
 use Rattle.std.proofs.lemmas.Bool.{and_parts, or_parts, both_ways as clash}
 use Rattle.lh_unit.specs.declared.inst.UnitKind.TheVariants as kind
-use Rattle.lh_unit.specs.Contents.{InstText, phi_text, BlockText, LineText, UnitText, ItemText, same_name, args_define, lines_define, blocks_define}
+use Rattle.lh_unit.specs.Contents.{InstText, phi_text, BlockText, LineText, UnitText, ItemText, args_define, lines_define, blocks_define}
+use Rattle.lh_names.specs.Names.{same_name}
 use Rattle.lh_unit.specs.Named.{label_or}
 use Rattle.lh_unit.specs.Places.{InstPlaceText, places, entry_of, IsPath}
 use Rattle.lh_unit.specs.WellFormed.{FaultKind, undefined, wrong_kind, wrong_type, not_here, no_terminator, phi_edges, not_defined, arguments, values_named, is_phi, Lacks, SomeValueLacks, LacksIn, Site, has_local, HasFault, NoneHasFault}
 use Rattle.lh_unit.specs.Within.{Each}
 use Rattle.lh_unit.proofs.Lists.{some_inj}
-use Rattle.lh_unit.proofs.Tables.{same_name-refl}
+use Rattle.lh_names.proofs.NameLists.{same_name-refl}
 
 abbrev pub site : UnitText → InstPlaceText → Site
 site u p = record { unit = u; place = p }

@@ -3,11 +3,12 @@ use Rattle.std.proofs.Common.{◌≡◌, ℕ, zero, suc, ◌+◌, ◌<◌, ◌�
 use Rattle.std.specs.Prelude.{codes}
 use Rattle.std.specs.List.{flat_map, range_with_len}
 use Rattle.lh_types.specs.Types.{TypeTree, signal_type}
-use Rattle.lh_unit.specs.Contents.{InstText, LineText, same_name, is_result_name, lines_define}
+use Rattle.lh_unit.specs.Contents.{InstText, LineText, is_result_name, lines_define}
+use Rattle.lh_names.specs.Names.{same_name}
 use Rattle.lh_unit.specs.Kinds.{a_signal, result_kind}
 use Rattle.lh_unit.specs.Typing.{result_type, line_giving}
 use Rattle.lh_unit.proofs.Lists.{Same, same, other, same_or}
-use Rattle.lh_unit.proofs.Tables.{same_name-refl}
+use Rattle.lh_names.proofs.NameLists.{same_name-refl}
 use Rattle.lh_chain.specs.Words.{bit, word, begins_with}
 use Rattle.lh_chain.specs.Chain.{stage, next_of, chain_first, link_signals}
 use Rattle.lh_chain.proofs.Names.{stages-differ, nexts-differ}

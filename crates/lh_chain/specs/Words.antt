@@ -4,7 +4,7 @@ use Prim.Native.String.{String}
 use Rattle.lh_types.specs.Types.{TypeTree, int_type, signal_type}
 use Rattle.lh_types.specs.Values.{int_value, time_value}
 use Rattle.lh_types.specs.declared.op.Op.{Op}
-use Rattle.lh_unit.specs.declared.name.UnitName.{UnitName}
+use Rattle.lh_names.specs.declared.name.UnitName.{UnitName}
 use Rattle.lh_unit.specs.declared.inst.UnitKind.TheVariants as kind
 use Rattle.lh_unit.specs.Contents.{OperandText, InstText, const_text, pure_text, sig_text, prb_text, drv_text, child_text, LineText, BlockText, ArgText, UnitText}
 

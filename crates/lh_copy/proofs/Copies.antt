@@ -2,12 +2,12 @@
 use Rattle.std.proofs.Common.{◌≡◌, ◌≢◌, ℕ, ◌<◌, zero, suc, true, false, ◌||◌, List, [], ◌∷◌, ◌++◌, length, get_or, IsSome, Result, Ok, Err, IfOk, refl, ap, sym, ◌∙◌, arith}
 use Rattle.std.proofs.lemmas.Bool.{or_parts}
 use Rattle.lh_types.specs.declared.ty.NoMemory.{NoMemory}
-use Rattle.lh_unit.specs.UnitNames.{same_unit_name}
+use Rattle.lh_names.specs.UnitNames.{same_unit_name}
 use Rattle.lh_unit.specs.Contents.{ItemText, UnitText, LineText, unit_text, declare_text, defines_unit}
 use Rattle.lh_unit.specs.Table.{Table, no_table}
 use Rattle.lh_unit.specs.Arena.{Arena, contents, kind_at, unit_count, value_count, label_count, unit_name_at, unit_text_at}
 use Rattle.lh_unit.specs.Builders.{AddsDeclare}
-use Rattle.lh_unit.specs.declared.name.UnitName.{UnitName}
+use Rattle.lh_names.specs.declared.name.UnitName.{UnitName}
 use Rattle.lh_unit.specs.declared.inst.Declare.{Declare}
 use Rattle.lh_unit.proofs.Arenas.{same_unit_name-refl}
 use Rattle.lh_emission.specs.Entities.{entity_with}

@@ -5,7 +5,8 @@ use Rattle.lh_unit.specs.Builders.{FindsUnit, FindsValue, FindsLabel}
 use Rattle.lh_unit.specs.declared.inst.UnitId.{UnitId}
 use Rattle.lh_unit.specs.declared.inst.ValueId.{ValueId}
 use Rattle.lh_unit.specs.declared.inst.BlockId.{BlockId}
-use Rattle.lh_unit.proofs.Lists.{before, at, past, trichotomy, nat_eq-refl, nat_eq-other}
+use Rattle.lh_unit.proofs.Lists.{nat_eq-refl, nat_eq-other}
+use Rattle.lh_names.proofs.Lists.{before, at, past, trichotomy}
 use Rattle.lh_unit.proofs.ModuleLaws.{KeepsEntries-refl, KeepsEntries-trans, unit-by_name, value-by_name, label-by_name}
 use Rattle.lh_copy.specs.Named.{NamesIn, NamesUnits, NamesValues, NamesLabels}
 

@@ -7,7 +7,7 @@ use Rattle.lh_unit.specs.Builders.{HasLabels, defines_result}
 use Rattle.lh_unit.specs.Reads.{args_repeat}
 use Rattle.lh_unit.specs.Within.{Each}
 use Rattle.lh_unit.specs.Hierarchy.{lines_of}
-use Rattle.lh_unit.specs.declared.name.UnitName.{UnitName}
+use Rattle.lh_names.specs.declared.name.UnitName.{UnitName}
 use Rattle.lh_unit.specs.declared.inst.UnitKind.{UnitKind}
 use Rattle.lh_unit.specs.declared.inst.UnitKind.TheVariants as kind
 use Rattle.lh_unit.proofs.ModuleLaws.{length-line_at_end}

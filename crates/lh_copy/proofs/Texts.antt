@@ -6,7 +6,7 @@ use Rattle.lh_unit.specs.Table.{Table, FitsKind, HasBlocks, entity_block}
 use Rattle.lh_unit.specs.Within.{Each}
 use Rattle.lh_unit.specs.Naming.{label_text, kind_text}
 use Rattle.lh_unit.specs.Arena.{Arena, IsArena, contents, naming, table_at, kind_at, blocks_at, result_type_at, unit_text_at, unit_count, value_count, label_count, unit_name_at, value_name_at, label_name_at}
-use Rattle.lh_unit.specs.declared.name.UnitName.{UnitName}
+use Rattle.lh_names.specs.declared.name.UnitName.{UnitName}
 use Rattle.lh_unit.specs.declared.inst.UnitId.{UnitId}
 use Rattle.lh_unit.specs.declared.inst.BlockId.{BlockId}
 use Rattle.lh_unit.specs.declared.inst.UnitKind.{UnitKind}

@@ -4,10 +4,10 @@ ghost use Rattle.lh_unit.specs.Arena.{no_arena, unit_count, value_count, label_c
 ghost use Rattle.lh_body.specs.Bodies.{NamesDiffer};
 ghost use Rattle.lh_copy.specs.Named.{NamesUnits, NamesValues, NamesLabels};
 
+use lh_names::name::Name;
 use lh_types::ty::NoMemory;
 use lh_unit::inst::{BlockId, UnitId, ValueId};
 use lh_unit::module::Module;
-use lh_unit::name::Name;
 
 /// Names the units of another module.
 pub fn name_units(m: &mut Module, from: &Module) -> Result<(), NoMemory>

@@ -5,7 +5,7 @@ use Rattle.std.proofs.lemmas.Option.{none-some, same_Some}
 use Rattle.lh_time.specs.Due.{instant}
 use Rattle.lh_types.specs.Types.{TypeTree, signal_type, IsData, bit_count}
 use Rattle.lh_types.specs.declared.part.Range.{Range}
-use Rattle.lh_unit.specs.declared.name.UnitName.{UnitName}
+use Rattle.lh_names.specs.declared.name.UnitName.{UnitName}
 use Rattle.lh_unit.specs.declared.inst.UnitKind.{UnitKind}
 use Rattle.lh_unit.specs.declared.inst.UnitKind.TheVariants as kind
 use Rattle.lh_unit.specs.Contents.{OperandText, InstText, sig_text, child_text, LineText, ArgText, UnitText, ItemText, unit_text, declare_text}

@@ -8,8 +8,9 @@ use Rattle.lh_types.specs.declared.part.Range.{Range}
 use Rattle.std.specs.Option.{option_map}
 use Rattle.lh_types.specs.Apply.{apply}
 use Rattle.lh_types.specs.declared.op.Op.TheVariants as op
-use Rattle.lh_unit.specs.Contents.{OperandText, ArgText, InstText, const_text, pure_text, LineText, UnitText, same_name}
-use Rattle.lh_unit.proofs.Tables.{same_name-refl}
+use Rattle.lh_unit.specs.Contents.{OperandText, ArgText, InstText, const_text, pure_text, LineText, UnitText}
+use Rattle.lh_names.specs.Names.{same_name}
+use Rattle.lh_names.proofs.NameLists.{same_name-refl}
 use Rattle.lh_unit.specs.Held.{Held, datum_held, part_held, Env, nothing_held, with_held, with_result, with_args, data_at, part_at}
 use Rattle.lh_unit.specs.Effects.{operated, signal_part, stepped, step_of}
 use Rattle.lh_unit.specs.Hierarchy.{if_held, static_of, static_from, with_parts, signal_names, name_if_signal, parts_of, lines_of, type_or_void}

@@ -1,6 +1,6 @@
 -- What a design that elaboration answered has.
 use Rattle.std.specs.Prelude.{◌≡◌, ℕ, ◌<◌, ◌≤◌, ◌⊎◌, length, Some}
-use Rattle.lh_unit.specs.declared.name.UnitName.{UnitName}
+use Rattle.lh_names.specs.declared.name.UnitName.{UnitName}
 use Rattle.lh_unit.specs.declared.inst.UnitKind.TheVariants as kind
 use Rattle.lh_unit.specs.Arena.{Arena, IsArena, unit_count, kind_at, unit_text_at, contents}
 use Rattle.lh_unit.specs.Design as design

@@ -18,12 +18,12 @@ use crate::statics::Base;
 use lh_bits::bits::Bits;
 use lh_design::{Design, Signal};
 use lh_eval::instance::Instance;
+use lh_names::name::Name;
 use lh_types::list::ListOf;
 use lh_types::part::{Range, RangeList};
 use lh_types::ty::{NoMemory, Ty, TyKind};
 use lh_unit::inst::{Arg, UnitId};
 use lh_unit::module::Module;
-use lh_unit::name::Name;
 use std::alloc::Global;
 
 /// An instance that is still to be visited.

@@ -27,10 +27,10 @@ use lh_bits::bits::Bits;
 use lh_bits::layout::to_bits;
 use lh_eval::held::Slots;
 use lh_eval::operands::{datum_in, part_in};
+use lh_names::name::Name;
 use lh_types::ty::{NoMemory, Ty};
 use lh_unit::inst::{BlockId, Inst, InstId, Typed, UnitId, UnitKind, ValueId};
 use lh_unit::module::Module;
-use lh_unit::name::Name;
 use std::alloc::Global;
 
 /// A signal of a unit: its name, the type that it carries, and the bits that it begins with.

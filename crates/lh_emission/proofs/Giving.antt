@@ -1,11 +1,12 @@
 -- An instruction that gives a value: what is held after it.
 use Rattle.std.proofs.Common.{◌≡◌, ℕ, ◌+◌, ◌*◌, ◌≤◌, Bool, true, false, if◌then◌else◌, List, [], ◌∷◌, ◌++◌, length, Some, None, refl, ap, ◌∙◌, subst, arith, length-append}
 use Rattle.lh_types.specs.Wish.{Wish}
-use Rattle.lh_unit.specs.Contents.{InstText, LineText, UnitText, same_name}
+use Rattle.lh_unit.specs.Contents.{InstText, LineText, UnitText}
+use Rattle.lh_names.specs.Names.{same_name}
 use Rattle.lh_unit.specs.Held.{Held, datum_held, with_held}
 use Rattle.lh_unit.specs.Pass.{Passed, passes}
 use Rattle.lh_unit.specs.Typing.{result_type, value_type}
-use Rattle.lh_unit.proofs.Tables.{same_name-refl}
+use Rattle.lh_names.proofs.NameLists.{same_name-refl}
 use Rattle.lh_unit.proofs.Lists.{some_inj}
 use Rattle.lh_term.specs.Tree.{Tree}
 use Rattle.lh_term.specs.SameTree.{same_tree, same_tree-is}

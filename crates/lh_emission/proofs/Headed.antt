@@ -2,7 +2,7 @@
 use Rattle.std.proofs.Common.{◌≡◌, ℕ, zero, suc, List, [], ◌∷◌, map, Option, Some, None, slice_get, refl, ap, sym, subst}
 use Rattle.std.specs.Prelude.{codes}
 use Rattle.lh_types.specs.Types.{TypeTree, IsLimited}
-use Rattle.lh_unit.specs.Names.{IsName}
+use Rattle.lh_names.specs.Names.{IsName}
 use Rattle.lh_unit.specs.Contents.{ArgText}
 use Rattle.lh_unit.specs.Canon.{header, unit_name_pieces, ports}
 use Rattle.lh_unit.specs.Lexemes.{Lexeme, word, local, arrow}
@@ -11,7 +11,7 @@ use Rattle.lh_unit.specs.Pieces.{Piece, IsLexeme, lexemes_in, ◌␣◌}
 use Rattle.lh_unit.specs.Within.{Each}
 use Rattle.lh_unit.specs.Spells.{header_item, TypedName, SpellsPort, input_of, output_of, SpellsPorts, SpellsHeader}
 use Rattle.lh_unit.specs.SpellsParts.{SpellsParts, SpellsList}
-use Rattle.lh_unit.specs.declared.name.UnitName.{UnitName}
+use Rattle.lh_names.specs.declared.name.UnitName.{UnitName}
 use Rattle.lh_unit.specs.declared.inst.UnitKind.{UnitKind}
 use Rattle.lh_unit.specs.declared.inst.UnitKind.TheVariants as kind
 use Rattle.lh_spelled.specs.Printable.{HasLine}

@@ -3,9 +3,9 @@ use Rattle.std.proofs.Common.{◌≡◌, ℕ, zero, suc, ◌+◌, ◌<◌, ◌�
 use Rattle.std.proofs.lemmas.Fmt.{decimal_injective, length-decimal-le_wide}
 use Rattle.std.specs.Prelude.{codes}
 use Rattle.std.specs.Fmt.{decimal}
-use Rattle.lh_unit.specs.Contents.{ArgText, same_name, args_define}
-use Rattle.lh_unit.specs.Names.{IsName}
-use Rattle.lh_unit.proofs.Tables.{same_name-is}
+use Rattle.lh_unit.specs.Contents.{ArgText, args_define}
+use Rattle.lh_names.specs.Names.{same_name, IsName}
+use Rattle.lh_names.proofs.NameLists.{same_name-is}
 use Rattle.lh_spelled.proofs.Numerals.{decimal-named, all_name_bytes-append}
 use Rattle.lh_emission.specs.Names.{value_name, free_from, free_number}
 

@@ -5,7 +5,7 @@ use Rattle.lh_types.specs.Types.{TypeTree, array_type, tuple_type, signal_type, 
 use Rattle.lh_types.specs.declared.op.Op.{Op}
 use Rattle.lh_types.specs.declared.op.Op.TheVariants as op
 use Rattle.lh_types.specs.declared.part.Step.TheVariants.{Field, Slice}
-use Rattle.lh_unit.specs.Names.{IsName}
+use Rattle.lh_names.specs.Names.{IsName}
 use Rattle.lh_unit.specs.Contents.{OperandText, pure_text}
 use Rattle.lh_unit.specs.Lexemes.{Lexeme, word, local}
 use Rattle.lh_unit.specs.Marks.{open_bracket, close_bracket, open_brace, close_brace, comma}

@@ -6,11 +6,12 @@ use Rattle.lh_time.specs.declared.Instant.{Instant}
 use Rattle.lh_types.specs.Types.{TypeTree, signal_type}
 use Rattle.lh_types.specs.Wish.{Wish, no_wish}
 use Rattle.lh_types.specs.declared.part.Range.{Range}
-use Rattle.lh_unit.specs.Contents.{InstText, LineText, ArgText, UnitText, same_name, args_define, is_result_name}
+use Rattle.lh_unit.specs.Contents.{InstText, LineText, ArgText, UnitText, args_define, is_result_name}
+use Rattle.lh_names.specs.Names.{same_name}
 use Rattle.lh_unit.specs.Held.{Held, datum_held, part_held, Env, nothing_held, with_held, with_args}
 use Rattle.lh_unit.specs.Pass.{Passed, passes, pass_from}
 use Rattle.lh_unit.specs.Typing.{value_type, result_type, line_giving, or_else}
-use Rattle.lh_unit.proofs.Tables.{same_name-is, same_name-refl}
+use Rattle.lh_names.proofs.NameLists.{same_name-is, same_name-refl}
 use Rattle.lh_term.specs.Tree.{Tree}
 use Rattle.lh_term.specs.declared.part.Part.{Part}
 use Rattle.lh_emission.specs.Names.{value_name, free_number}

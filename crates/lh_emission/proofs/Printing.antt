@@ -6,7 +6,7 @@ use Rattle.std.proofs.Math.Nat.{mul-le-mul_right}
 use Rattle.std.proofs.Math.Pow.{pow_mono}
 use Rattle.lh_types.specs.Types.{TypeTree, int_type, signal_type, same_type, IsData, IsLimited}
 use Rattle.lh_types.specs.Values.{Datum, int_value, time_value, array_value, tuple_value}
-use Rattle.lh_unit.specs.Names.{IsName}
+use Rattle.lh_names.specs.Names.{IsName}
 use Rattle.lh_unit.specs.Contents.{InstText, const_text, pure_text, prb_text, drv_text, reg_text, LineText, ArgText, UnitText}
 use Rattle.lh_unit.specs.SpellsInst.{SpellsInst, gives_value}
 use Rattle.lh_unit.specs.Within.{Each}

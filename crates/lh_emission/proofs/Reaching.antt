@@ -5,11 +5,12 @@ use Rattle.lh_types.specs.Types.{TypeTree, int_type, time_type, void_type, array
 use Rattle.lh_types.specs.Parts.{Part as TypePart, step_part}
 use Rattle.lh_types.specs.declared.op.Op.{Op}
 use Rattle.lh_types.specs.declared.part.Step.{Step}
-use Rattle.lh_unit.specs.Contents.{OperandText, InstText, pure_text, LineText, BlockText, ArgText, UnitText, same_name, is_result_name}
+use Rattle.lh_unit.specs.Contents.{OperandText, InstText, pure_text, LineText, BlockText, ArgText, UnitText, is_result_name}
+use Rattle.lh_names.specs.Names.{same_name}
 use Rattle.lh_unit.specs.Effects.{step_of}
 use Rattle.lh_unit.specs.Hierarchy.{lines_of}
 use Rattle.lh_unit.specs.Typing.{carried, or_else, line_giving, inst_giving}
-use Rattle.lh_unit.proofs.Tables.{same_name-is}
+use Rattle.lh_names.proofs.NameLists.{same_name-is}
 use Rattle.lh_unit.proofs.Lists.{some_inj}
 use Rattle.lh_term.specs.Same.{same_part, same_part-is, same_part-refl}
 use Rattle.lh_term.specs.declared.part.Part.{Part}

@@ -4,12 +4,13 @@ use Rattle.std.specs.Option.{option_and_then, option_map_or}
 use Rattle.std.proofs.lemmas.List.{map-append}
 use Rattle.lh_types.specs.Types.{TypeTree, signal_type}
 use Rattle.lh_types.specs.declared.part.Range.{Range}
-use Rattle.lh_unit.specs.Contents.{InstText, const_text, pure_text, prb_text, LineText, ArgText, UnitText, same_name}
+use Rattle.lh_unit.specs.Contents.{InstText, const_text, pure_text, prb_text, LineText, ArgText, UnitText}
+use Rattle.lh_names.specs.Names.{same_name}
 use Rattle.lh_unit.specs.Held.{Held, part_held, Env, as_part, part_at, nothing_held, with_args}
 use Rattle.lh_unit.specs.Hierarchy.{if_held, static_of, static_from, part_if_probe, probed_parts}
 use Rattle.lh_unit.specs.Typing.{value_type, result_type}
 use Rattle.lh_unit.specs.Within.{Each}
-use Rattle.lh_unit.proofs.Tables.{same_name-refl}
+use Rattle.lh_names.proofs.NameLists.{same_name-refl}
 use Rattle.lh_unit.proofs.Lists.{some_inj}
 use Rattle.lh_term.specs.Tree.{Tree, constant, past_of, now_of}
 use Rattle.lh_term.specs.SameTree.{same_tree, same_tree-is}

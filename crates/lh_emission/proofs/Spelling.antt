@@ -4,7 +4,7 @@ use Rattle.std.specs.Prelude.{codes}
 use Rattle.lh_time.specs.declared.Delay.{Delay}
 use Rattle.lh_types.specs.Types.{TypeTree, int_type, time_type, void_type, array_type, tuple_type, signal_type, pointer_type, IsData, IsLimited}
 use Rattle.lh_types.specs.Values.{int_value, time_value}
-use Rattle.lh_unit.specs.Names.{IsName, all_name_bytes}
+use Rattle.lh_names.specs.Names.{IsName, all_name_bytes}
 use Rattle.lh_unit.specs.Contents.{OperandText, InstText, TriggerText, const_text, prb_text, drv_text, reg_text}
 use Rattle.lh_unit.specs.Lexemes.{Lexeme, word, local}
 use Rattle.lh_unit.specs.Marks.{open_bracket, close_bracket, comma, equals}

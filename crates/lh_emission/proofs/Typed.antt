@@ -4,13 +4,14 @@ use Rattle.std.specs.Option.{option_and_then}
 use Rattle.lh_types.specs.Types.{TypeTree, int_type, time_type, void_type, array_type, tuple_type, signal_type, pointer_type, row_of, IsData, AreData}
 use Rattle.lh_types.specs.declared.op.Op.{Op}
 use Rattle.lh_types.specs.declared.op.Op.TheVariants as op
-use Rattle.lh_unit.specs.Contents.{InstText, LineText, ArgText, UnitText, same_name, args_define, lines_define, is_result_name}
+use Rattle.lh_unit.specs.Contents.{InstText, LineText, ArgText, UnitText, args_define, lines_define, is_result_name}
+use Rattle.lh_names.specs.Names.{same_name}
 use Rattle.lh_unit.specs.Kinds.{Kind, a_datum, a_time, a_signal, kind_of, result_kind, value_kind, data_needed, signal_needed, time_needed, takes, Use, used, all_used, step_need, uses}
 use Rattle.lh_unit.specs.Typing.{value_type, result_type, line_giving, or_else, first_type}
 use Rattle.lh_unit.specs.TypingRows.{types_fit}
 use Rattle.lh_unit.specs.Within.{Each}
 use Rattle.std.proofs.lemmas.Bool.{or_parts}
-use Rattle.lh_unit.proofs.Tables.{same_name-refl}
+use Rattle.lh_names.proofs.NameLists.{same_name-refl}
 use Rattle.lh_spelled.specs.Printable.{result_repeats, results_repeat}
 use Rattle.lh_term.specs.Tree.{Tree}
 use Rattle.lh_term.specs.Types.{TakesTypes, type_of}

@@ -3,7 +3,7 @@ use Rattle.std.specs.Prelude.{◌≡◌, ℕ, List, [], ◌∷◌, Some, None, c
 use Rattle.lh_types.specs.Types.{TypeTree, int_type, array_type, tuple_type, signal_type, no_types, more_types}
 use Rattle.lh_types.specs.Values.{Datum, int_value, time_value, array_value, no_values, more_values}
 use Rattle.lh_types.specs.declared.op.Op.TheVariants as op
-use Rattle.lh_unit.specs.declared.name.UnitName.{UnitName}
+use Rattle.lh_names.specs.declared.name.UnitName.{UnitName}
 use Rattle.lh_unit.specs.declared.inst.UnitKind.TheVariants as kind
 use Rattle.lh_unit.specs.declared.inst.Mode.TheVariants.{Rise, Fall}
 use Rattle.lh_unit.specs.Contents.{OperandText, InstText, const_text, pure_text, drv_text, prb_text, reg_text, LineText, ArgText, UnitText}

@@ -3,7 +3,7 @@ use Rattle.std.proofs.Common.{◌≡◌, ℕ, ◌<◌, Bool, true, false, List, 
 use Rattle.std.specs.Prelude.{Result, Ok, Err, IfOk, OnOk}
 use Rattle.std.specs.Result.{IfErr, IsErrAnd}
 use Rattle.lh_unit.specs.Naming.{Naming, value_text}
-use Rattle.lh_unit.specs.declared.name.UnitName.{UnitName}
+use Rattle.lh_names.specs.declared.name.UnitName.{UnitName}
 use Rattle.lh_unit.specs.declared.inst.ValueId.{ValueId}
 use Rattle.lh_term.specs.Tree.{Tree, now_of}
 use Rattle.lh_term.specs.Arena.{trees, tree_at, IsIn, OneId, Grows, StandsForTree}

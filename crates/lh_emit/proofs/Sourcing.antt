@@ -4,7 +4,7 @@ use Rattle.lh_types.specs.Types.{TypeTree}
 use Rattle.lh_unit.specs.Contents.{ArgText}
 use Rattle.lh_unit.specs.Naming.{Naming, arg_text, value_text}
 use Rattle.lh_unit.specs.declared.inst.Arg.{Arg}
-use Rattle.lh_unit.specs.declared.name.UnitName.{UnitName}
+use Rattle.lh_names.specs.declared.name.UnitName.{UnitName}
 use Rattle.lh_flat.specs.Flat.{flat_unit}
 use Rattle.lh_flat.specs.Reads.{flat_text}
 use Rattle.lh_term.specs.declared.part.Part.{Part}

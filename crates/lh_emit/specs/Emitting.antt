@@ -1,7 +1,7 @@
 -- An entity underway by ids beside the entity of the definition; and what need of a term or of a part adds to it.
 use Rattle.std.specs.Prelude.{◌≡◌, ◌⊎◌, ℕ, ◌<◌, List, length, Bool, true, false, Option, Some, None, Result, Ok, Err}
 use Rattle.std.specs.Option.{option_map}
-use Rattle.lh_unit.specs.declared.name.UnitName.{UnitName}
+use Rattle.lh_names.specs.declared.name.UnitName.{UnitName}
 use Rattle.lh_unit.specs.declared.inst.ValueId.{ValueId}
 use Rattle.lh_unit.specs.Naming.{Naming, value_text, inst_text}
 use Rattle.lh_unit.specs.declared.inst.Inst.{Inst}

@@ -15,7 +15,7 @@ ghost use Rattle.lh_emission.specs.Emitted.{nothing_emitted};
 ghost use Rattle.lh_flat.specs.Reads.{flat_text};
 ghost use Rattle.lh_unit.specs.Naming.{Naming};
 ghost use Rattle.lh_unit.specs.Reads.{args_repeat};
-ghost use Rattle.lh_unit.specs.declared.name.UnitName.{UnitName};
+ghost use Rattle.lh_names.specs.declared.name.UnitName.{UnitName};
 ghost use Rattle.lh_term.specs.declared.term.Node.{Node};
 
 use crate::making::{Form, form_of, made_of, probed, scalar};
@@ -26,6 +26,7 @@ use crate::steps::take_steps;
 use crate::tasks::{Task, need_alone, push, push_needs};
 use crate::values::Values;
 use lh_body::lines::{EmitFault, Lines};
+use lh_names::name::Name;
 use lh_origin::origin::Origin;
 use lh_term::part::Part;
 use lh_term::term::TermId;
@@ -34,7 +35,6 @@ use lh_types::op::Op;
 use lh_types::ty::{NoMemory, Ty, TyKind};
 use lh_unit::constant::Constant;
 use lh_unit::inst::{Arg, Inst, OperandList, ValueId};
-use lh_unit::name::Name;
 use std::alloc::Global;
 
 /// An entity underway.

@@ -7,9 +7,11 @@ use Rattle.std.proofs.lemmas.Option.{same_Some, none-some}
 use Rattle.lh_time.specs.declared.Instant.{Instant}
 use Rattle.lh_types.specs.Types.{TypeTree}
 use Rattle.lh_types.specs.Values.{Datum}
-use Rattle.lh_unit.specs.declared.name.UnitName.{UnitName}
-use Rattle.lh_unit.specs.Contents.{OperandText, InstText, const_text, pure_text, var_text, ld_text, st_text, sig_text, prb_text, drv_text, reg_text, child_text, call_text, phi_text, br_text, branch_text, wait_text, halt_text, ret_text, LineText, UnitText, ItemText, same_name}
-use Rattle.lh_unit.specs.Named.{function_named, is_assert}
+use Rattle.lh_names.specs.declared.name.UnitName.{UnitName}
+use Rattle.lh_unit.specs.Contents.{OperandText, InstText, const_text, pure_text, var_text, ld_text, st_text, sig_text, prb_text, drv_text, reg_text, child_text, call_text, phi_text, br_text, branch_text, wait_text, halt_text, ret_text, LineText, UnitText, ItemText}
+use Rattle.lh_names.specs.Names.{same_name}
+use Rattle.lh_unit.specs.Named.{function_named}
+use Rattle.lh_names.specs.UnitNames.{is_assert}
 use Rattle.lh_unit.specs.Held.{datum_held, Env, nothing_held, with_args, datum_at, cell_at, data_at, parts_at, test_at}
 use Rattle.lh_unit.specs.Kinds.{used, uses, all_used, maybe_used, data_or_time_needed, time_needed, signal_needed}
 use Rattle.lh_unit.specs.WellFormed.{in_function, values_named, assert_args}

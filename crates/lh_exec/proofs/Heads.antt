@@ -8,7 +8,7 @@ use Rattle.lh_unit.specs.Spells.{TypedName, SpellsParam, input_of, SpellsHeader}
 use Rattle.lh_unit.specs.SpellsParts.{SpellsParts, SpellsList}
 use Rattle.lh_unit.specs.SpellsTypes.{IsValueType}
 use Rattle.lh_unit.specs.Within.{Each}
-use Rattle.lh_unit.specs.declared.name.UnitName.{UnitName}
+use Rattle.lh_names.specs.declared.name.UnitName.{UnitName}
 use Rattle.lh_unit.specs.declared.inst.UnitKind.{UnitKind}
 use Rattle.lh_unit.specs.declared.inst.UnitKind.TheVariants as kind
 use Rattle.lh_formed.specs.Operands.{IsOf}

@@ -6,7 +6,8 @@ use Rattle.lh_types.specs.Types.{TypeTree}
 use Rattle.lh_types.specs.declared.op.Op.{Op}
 use Rattle.lh_types.specs.declared.ty.NoMemory.{NoMemory}
 use Rattle.lh_unit.specs.Contents.{UnitText}
-use Rattle.lh_unit.specs.Named.{is_assert, function_named}
+use Rattle.lh_unit.specs.Named.{function_named}
+use Rattle.lh_names.specs.UnitNames.{is_assert}
 use Rattle.lh_unit.specs.Activation.{Scene, executes, tells, opens, asserted, called, returns, functions}
 use Rattle.lh_unit.specs.Arena.{Arena, InstPlaced, contents, naming, sizes, kind_at, blocks_at, unit_count, value_count, unit_name_at, unit_text_at}
 use Rattle.lh_unit.specs.Held.{data_at}

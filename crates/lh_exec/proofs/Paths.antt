@@ -7,7 +7,8 @@ use Rattle.std.proofs.lemmas.List.Sums.{sum_by-cons}
 use Rattle.std.proofs.lemmas.Option.{same_Some, none-some}
 use Rattle.lh_types.specs.Types.{TypeTree}
 use Rattle.lh_types.specs.Values.{Datum}
-use Rattle.lh_unit.specs.Contents.{EdgeText, InstText, phi_text, br_text, branch_text, wait_text, halt_text, ret_text, LineText, BlockText, ArgText, UnitText, ItemText, same_name, is_result_name, args_define, defines_value}
+use Rattle.lh_unit.specs.Contents.{EdgeText, InstText, phi_text, br_text, branch_text, wait_text, halt_text, ret_text, LineText, BlockText, ArgText, UnitText, ItemText, is_result_name, args_define, defines_value}
+use Rattle.lh_names.specs.Names.{same_name}
 use Rattle.lh_unit.specs.Named.{block_of, label_or}
 use Rattle.lh_unit.specs.Held.{Held, datum_held, Env, with_held, with_result, with_args, datum_at}
 use Rattle.lh_unit.specs.Activation.{Control, edge_from, result_put, phi_taken, phis_taken, entered, entry, at_first}
@@ -17,7 +18,7 @@ use Rattle.lh_unit.specs.SpellsInst.{gives_value}
 use Rattle.lh_unit.specs.Typing.{is_value_type}
 use Rattle.lh_unit.specs.WellFormed.{is_phi, edges_naming}
 use Rattle.lh_unit.specs.Within.{Each}
-use Rattle.lh_unit.proofs.Tables.{same_name-is, same_name-refl}
+use Rattle.lh_names.proofs.NameLists.{same_name-is, same_name-refl}
 use Rattle.lh_formed.specs.Defined.{IsThere, IsThereOnEdge, OperandsThere}
 use Rattle.lh_formed.specs.Shape.{PhiIsRight}
 use Rattle.lh_formed.specs.Operands.{IsOf, RowIs}

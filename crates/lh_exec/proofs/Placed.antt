@@ -1,8 +1,8 @@
 -- What holds at each instruction of a function or a process of a well-formed module, by where it stands.
 use Rattle.std.proofs.Common.{◌≡◌, ℕ, ◌+◌, List, [], ◌∷◌, ◌++◌, length, map, Bool, true, false, if◌then◌else◌, Some, refl, subst}
 use Rattle.std.proofs.lemmas.Option.{same_Some, none-some}
-use Rattle.lh_unit.specs.declared.name.UnitName.{UnitName}
-use Rattle.lh_unit.specs.UnitNames.{same_unit_name}
+use Rattle.lh_names.specs.declared.name.UnitName.{UnitName}
+use Rattle.lh_names.specs.UnitNames.{same_unit_name}
 use Rattle.lh_unit.specs.Contents.{InstText, phi_text, LineText, BlockText, UnitText, ItemText, unit_text, declare_text, is_result_name, defines_value}
 use Rattle.lh_unit.specs.Named.{block_of, function_named, is_function}
 use Rattle.lh_unit.specs.Activation.{functions}

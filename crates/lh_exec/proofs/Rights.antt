@@ -4,9 +4,10 @@ use Rattle.std.specs.Prelude.{slice_get}
 use Rattle.std.specs.Option.{option_and_then, option_map}
 use Rattle.std.proofs.lemmas.Option.{same_Some, none-some}
 use Rattle.lh_types.specs.Types.{TypeTree}
-use Rattle.lh_unit.specs.declared.name.UnitName.{UnitName}
-use Rattle.lh_unit.specs.UnitNames.{same_unit_name}
-use Rattle.lh_unit.specs.Contents.{InstText, LineText, BlockText, ArgText, UnitText, ItemText, unit_text, declare_text, is_result_name, same_name, args_define, lines_define, blocks_define, defines_value}
+use Rattle.lh_names.specs.declared.name.UnitName.{UnitName}
+use Rattle.lh_names.specs.UnitNames.{same_unit_name}
+use Rattle.lh_unit.specs.Contents.{InstText, LineText, BlockText, ArgText, UnitText, ItemText, unit_text, declare_text, is_result_name, args_define, lines_define, blocks_define, defines_value}
+use Rattle.lh_names.specs.Names.{same_name}
 use Rattle.lh_unit.specs.Named.{label_or, function_named, unit_named, is_function}
 use Rattle.lh_unit.specs.Activation.{functions}
 use Rattle.lh_unit.specs.Arena.{Arena, IsArena, contents, item_text_at, unit_text_at, kind_at, table_at, naming, blocks_at, unit_count, value_count, label_count, label_name_at, value_name_at, unit_name_at}
@@ -26,7 +27,7 @@ use Rattle.lh_unit.specs.declared.inst.UnitKind.TheVariants as kind
 use Rattle.lh_unit.specs.declared.inst.Item.{Item}
 use Rattle.lh_unit.specs.declared.inst.Item.TheVariants as item
 use Rattle.lh_unit.specs.declared.table.Line.{Line}
-use Rattle.lh_unit.proofs.Tables.{same_name-is}
+use Rattle.lh_names.proofs.NameLists.{same_name-is}
 use Rattle.lh_unit.proofs.Defined.{label_text-named, flat_lines}
 use Rattle.lh_unit.proofs.ById.{block_of-by_id, unit_named-by_id}
 use Rattle.lh_formed.specs.Calls.{NamedIsRight}

@@ -8,7 +8,8 @@ use Rattle.lh_time.specs.Due.{due_of}
 use Rattle.lh_types.specs.Types.{TypeTree, time_type, void_type, signal_type, pointer_type}
 use Rattle.lh_types.specs.Values.{Datum}
 use Rattle.lh_types.specs.declared.part.Range.{Range}
-use Rattle.lh_unit.specs.Contents.{OperandText, LineText, BlockText, ArgText, UnitText, ItemText, is_result_name, same_name, defines_value}
+use Rattle.lh_unit.specs.Contents.{OperandText, LineText, BlockText, ArgText, UnitText, ItemText, is_result_name, defines_value}
+use Rattle.lh_names.specs.Names.{same_name}
 use Rattle.lh_unit.specs.Named.{block_of, is_function}
 use Rattle.lh_unit.specs.Held.{Held, datum_held, cell_held, part_held, Env, as_datum, as_cell, datum_at, cell_at, data_at, parts_at, front}
 use Rattle.lh_unit.specs.Kinds.{Kind, a_datum, a_time, a_signal, a_pointer, kind_of, Use, used, all_used, maybe_used, takes, data_or_time_needed, time_needed, signal_needed}

@@ -2,7 +2,7 @@
 use Rattle.std.specs.Prelude.{◌≡◌, ℕ, ◌<◌, List, [], ◌∷◌, ◌++◌, Option, Some, None, IsSome}
 use Rattle.lh_time.specs.declared.Instant.{Instant}
 use Rattle.lh_types.specs.Types.{TypeTree}
-use Rattle.lh_unit.specs.declared.name.UnitName.{UnitName}
+use Rattle.lh_names.specs.declared.name.UnitName.{UnitName}
 use Rattle.lh_unit.specs.Contents.{LineText, BlockText, UnitText, ItemText}
 use Rattle.lh_unit.specs.Named.{block_of, label_or, function_named}
 use Rattle.lh_unit.specs.Held.{Env}

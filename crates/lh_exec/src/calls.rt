@@ -8,7 +8,7 @@ ghost use Rattle.lh_unit.specs.Arena.{Arena, IsArena, unit_count, value_count, n
 ghost use Rattle.lh_unit.specs.Contents as text;
 ghost use Rattle.lh_unit.specs.Held.{Held as Content};
 ghost use Rattle.lh_unit.specs.Held.{Env, datum_held, data_at, nothing_held, with_args};
-ghost use Rattle.lh_unit.specs.Named as named;
+ghost use Rattle.lh_names.specs.UnitNames.{is_assert};
 ghost use Rattle.lh_unit.specs.Naming.{operand_text, maybe_text};
 ghost use Rattle.lh_unit.specs.Table.{ArgsWithin, HasBlocks};
 ghost use Rattle.lh_unit.specs.Within.{Each};
@@ -42,10 +42,10 @@ impl Machine {
         name: Option<ValueId>,
     ) -> Result<Flow, NoMemory>
         requires unit { unit.0 < unit_count m.now }
-        requires blocks { named.is_assert (unit_name_at m.now unit.0) ≡ false → HasBlocks (kind_at m.now unit.0) }
+        requires blocks { is_assert (unit_name_at m.now unit.0) ≡ false → HasBlocks (kind_at m.now unit.0) }
         requires args { Each (λ (o : Operand). o.value.0 < length self.old.frame.slots) args.now }
         requires name { MaybeIn self.old.frame.slots name }
-        ensures { let f = naming m.now self.old.frame.unit.0 in Does result m.now self.old self.new (λ p. if named.is_assert (unit_name_at m.now unit.0) then tells p (asserted p.control.held (map (operand_text f) args.now)) else opens p (maybe_text f name) (called (Some (unit_text_at m.now unit.0)) (data_at p.control.held (map (operand_text f) args.now)))) }
+        ensures { let f = naming m.now self.old.frame.unit.0 in Does result m.now self.old self.new (λ p. if is_assert (unit_name_at m.now unit.0) then tells p (asserted p.control.held (map (operand_text f) args.now)) else opens p (maybe_text f name) (called (Some (unit_text_at m.now unit.0)) (data_at p.control.held (map (operand_text f) args.now)))) }
     {
         if m.unit_name(unit).is_assert() {
             return self.tell(args);

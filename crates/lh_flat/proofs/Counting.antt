@@ -3,12 +3,12 @@ use Rattle.std.proofs.Common.{◌≡◌, ℕ, zero, suc, ◌+◌, ◌<◌, ◌�
 use Rattle.std.specs.List.{list_any}
 use Rattle.std.specs.Option.{option_map, option_map_or}
 use Rattle.std.proofs.lemmas.List.Sums.{sum_by-cons, sum_by-append}
-use Rattle.lh_unit.specs.declared.name.UnitName.{UnitName}
+use Rattle.lh_names.specs.declared.name.UnitName.{UnitName}
 use Rattle.lh_unit.specs.declared.inst.UnitId.{UnitId}
-use Rattle.lh_unit.specs.UnitNames.{same_unit_name}
+use Rattle.lh_names.specs.UnitNames.{same_unit_name, is_assert}
 use Rattle.lh_unit.specs.Typing.{or_else}
 use Rattle.lh_unit.specs.Contents.{InstText, call_text, LineText, BlockText, UnitText}
-use Rattle.lh_unit.specs.Named.{function_named, is_assert}
+use Rattle.lh_unit.specs.Named.{function_named}
 use Rattle.lh_unit.specs.Hierarchy.{lines_of}
 use Rattle.lh_unit.specs.Within.{Each}
 use Rattle.lh_unit.specs.Design.{is_one_of, first_some, cycle_at}

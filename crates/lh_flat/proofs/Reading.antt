@@ -5,7 +5,7 @@ use Rattle.std.proofs.lemmas.List.{get_or_past, get_or_append_left, get_or_push,
 use Rattle.std.specs.List.{slice_get}
 use Rattle.std.proofs.lemmas.Option.{slice_get-get_or}
 use Rattle.std.proofs.lemmas.Bool.{cases_lt}
-use Rattle.lh_unit.specs.Named.{is_assert}
+use Rattle.lh_names.specs.UnitNames.{is_assert}
 use Rattle.lh_unit.specs.Within.{Each}
 use Rattle.lh_unit.specs.Table.{line_at, insts_at, no_line}
 use Rattle.lh_unit.specs.Arena.{Arena, IsArena, InstPlaced, table_at, blocks_at, unit_count, unit_name_at}

@@ -5,10 +5,10 @@ use Rattle.std.proofs.lemmas.Bool.{false≢true, false_from_ne_true, not-false, 
 use Rattle.std.proofs.Math.Bool.{or-false}
 use Rattle.lh_types.specs.Types.{TypeTree, void_type, same_type}
 use Rattle.lh_types.specs.Same.{same-is}
-use Rattle.lh_unit.specs.declared.name.UnitName.{UnitName}
-use Rattle.lh_unit.specs.UnitNames.{same_unit_name}
+use Rattle.lh_names.specs.declared.name.UnitName.{UnitName}
+use Rattle.lh_names.specs.UnitNames.{same_unit_name, is_assert}
 use Rattle.lh_unit.specs.Contents.{OperandText, InstText, child_text, call_text, UnitText, ItemText, unit_text, declare_text, defines_unit}
-use Rattle.lh_unit.specs.Named.{unit_named, is_assert, is_function}
+use Rattle.lh_unit.specs.Named.{unit_named, is_function}
 use Rattle.lh_unit.specs.WellFormed.{undefined, arguments, is_undefined, is_function_name, names_wrong_unit, result_fits, arguments_fit, inputs_of, outputs_of, assert_args, args_of, arguments_differ}
 use Rattle.lh_formed.specs.Calls.{InstanceIsRight, FunctionIsRight, AssertIsRight, NamedIsRight, CallsAreRight}
 use Rattle.lh_formed.proofs.Sound.{at_site}

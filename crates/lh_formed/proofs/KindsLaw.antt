@@ -3,7 +3,8 @@ use Rattle.std.proofs.Common.{◌≡◌, ℕ, ◌+◌, List, [], ◌∷◌, ◌+
 use Rattle.std.specs.Option.{option_map, option_and_then}
 use Rattle.std.proofs.lemmas.Bool.{not-false}
 use Rattle.lh_types.specs.Types.{TypeTree, signal_type, pointer_type}
-use Rattle.lh_unit.specs.Contents.{InstText, var_text, sig_text, LineText, BlockText, ArgText, UnitText, ItemText, same_name, is_result_name}
+use Rattle.lh_unit.specs.Contents.{InstText, var_text, sig_text, LineText, BlockText, ArgText, UnitText, ItemText, is_result_name}
+use Rattle.lh_names.specs.Names.{same_name}
 use Rattle.lh_unit.specs.Typing.{or_else, result_type, line_giving, inst_giving, arg_named, value_type}
 use Rattle.lh_unit.specs.Kinds.{Kind, kind_of, result_kind, Use, uses, takes, value_kind}
 use Rattle.lh_unit.specs.TypingRows.{types_fit}

@@ -4,7 +4,8 @@ use Rattle.std.proofs.lemmas.Grind.{common_steps}
 use Rattle.std.specs.List.{list_any}
 use Rattle.std.proofs.lemmas.Bool.{false≢true, true≢false, false_from_ne_true, not-false}
 use Rattle.lh_unit.specs.Contents.{InstText, phi_text, LineText, BlockText, UnitText, ItemText, unit_text, declare_text, is_result_name, defines_label_in, defines_label, defines_value, defines_unit}
-use Rattle.lh_unit.specs.Named.{block_of, label_or, is_assert}
+use Rattle.lh_unit.specs.Named.{block_of, label_or}
+use Rattle.lh_names.specs.UnitNames.{is_assert}
 use Rattle.lh_unit.specs.Places.{InstPlaceText, places_in, places_from, places, is_terminator, has_edge}
 use Rattle.lh_unit.specs.Within.{Each}
 use Rattle.lh_unit.specs.WellFormed.{undefined, not_here, no_terminator, phi_edges, Site, sites, values_named, labels_named, units_named, is_undefined, is_allowed, in_entity, is_empty, ends_wrong, is_phi, edges_naming, names_predecessors, phi_is_wrong, NoneHasFault}

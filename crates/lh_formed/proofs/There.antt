@@ -2,13 +2,14 @@
 use Rattle.std.proofs.Common.{◌≡◌, ◌⊎◌, inl, inr, ⊎_elim, ℕ, List, [], ◌∷◌, ◌++◌, Bool, true, false, ◌||◌, Some, refl, ap}
 use Rattle.std.specs.List.{list_any}
 use Rattle.std.proofs.lemmas.Bool.{or_cases, false≢true}
-use Rattle.lh_unit.specs.Contents.{InstText, phi_text, LineText, BlockText, UnitText, same_name, is_result_name, lines_define, blocks_define}
+use Rattle.lh_unit.specs.Contents.{InstText, phi_text, LineText, BlockText, UnitText, is_result_name, lines_define, blocks_define}
+use Rattle.lh_names.specs.Names.{same_name}
 use Rattle.lh_unit.specs.Named.{block_of, label_or, is_function}
 use Rattle.lh_unit.specs.Places.{InstPlaceText, leads_to, last_leads_to, has_edge}
 use Rattle.lh_unit.specs.WellFormed.{in_entity}
 use Rattle.lh_unit.specs.declared.inst.UnitKind.{UnitKind}
 use Rattle.lh_unit.specs.declared.inst.UnitKind.TheVariants as kind
-use Rattle.lh_unit.proofs.Tables.{same_name-refl}
+use Rattle.lh_names.proofs.NameLists.{same_name-refl}
 use Rattle.lh_formed.specs.Defined.{IsThere, OperandsThere}
 
 -- a function's operands are there as a process's are

@@ -4,7 +4,8 @@ use Rattle.std.specs.List.{All}
 use Rattle.std.specs.Option.{option_map, option_and_then}
 use Rattle.std.proofs.lemmas.List.Elements.{All-nil, All-cons, All-contains}
 use Rattle.std.proofs.lemmas.Bool.{false≢true, or_parts, or_left, or_right}
-use Rattle.lh_unit.specs.Contents.{InstText, LineText, BlockText, ArgText, UnitText, ItemText, unit_text, declare_text, same_name, is_result_name, lines_define, blocks_define, args_define}
+use Rattle.lh_unit.specs.Contents.{InstText, LineText, BlockText, ArgText, UnitText, ItemText, unit_text, declare_text, is_result_name, lines_define, blocks_define, args_define}
+use Rattle.lh_names.specs.Names.{same_name}
 use Rattle.lh_unit.specs.Typing.{or_else, result_type, line_giving, inst_giving, arg_named}
 use Rattle.lh_unit.specs.Places.{InstPlaceText, places_in, places_from}
 use Rattle.lh_unit.specs.Within.{Each}

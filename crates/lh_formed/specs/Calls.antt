@@ -1,9 +1,10 @@
 -- What `inst` and `call` name, and their arguments.
 use Rattle.std.specs.Prelude.{◌≡◌, ◌⊎◌, List, [], ◌∷◌, true, false, Some}
 use Rattle.lh_types.specs.Types.{TypeTree, void_type}
-use Rattle.lh_unit.specs.declared.name.UnitName.{UnitName}
+use Rattle.lh_names.specs.declared.name.UnitName.{UnitName}
 use Rattle.lh_unit.specs.Contents.{OperandText, InstText, child_text, call_text, ArgText, UnitText, ItemText}
-use Rattle.lh_unit.specs.Named.{unit_named, is_assert, is_function}
+use Rattle.lh_unit.specs.Named.{unit_named, is_function}
+use Rattle.lh_names.specs.UnitNames.{is_assert}
 use Rattle.lh_unit.specs.Typing.{value_type}
 use Rattle.lh_unit.specs.WellFormed.{inputs_of, outputs_of, assert_args}
 use Rattle.lh_formed.specs.Sites.{AtEachSite}

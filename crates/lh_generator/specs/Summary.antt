@@ -3,7 +3,7 @@
 use Rattle.std.specs.Prelude.{◌≡◌, ℕ, List, [], ◌∷◌, ◌++◌, length, not, sum_by, count_by, None, codes, decimal}
 use Rattle.lh_types.specs.Pictures.{Picture}
 use Rattle.lh_types.specs.Raised.{raised}
-use Rattle.lh_unit.specs.declared.name.UnitName.{UnitName}
+use Rattle.lh_names.specs.declared.name.UnitName.{UnitName}
 use Rattle.lh_unit.specs.Contents.{ItemText}
 use Rattle.lh_unit.specs.Frames.{pictures}
 use Rattle.lh_unit.specs.Trace.{End, quiet, steps, runaway, Run, Trace, refuses, ran, trace}

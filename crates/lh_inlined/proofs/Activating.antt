@@ -4,10 +4,11 @@ use Rattle.std.specs.List.{flat_map}
 use Rattle.std.specs.Option.{option_map, option_map_or, option_and_then}
 use Rattle.std.proofs.lemmas.Option.{same_Some, none-some}
 use Rattle.lh_types.specs.declared.part.Range.{Range}
-use Rattle.lh_unit.specs.declared.name.UnitName.{UnitName}
+use Rattle.lh_names.specs.declared.name.UnitName.{UnitName}
 use Rattle.lh_types.specs.Types.{TypeTree}
 use Rattle.lh_unit.specs.Contents.{OperandText, InstText, const_text, pure_text, var_text, ld_text, st_text, sig_text, prb_text, drv_text, reg_text, child_text, call_text, phi_text, br_text, branch_text, wait_text, halt_text, ret_text, LineText, BlockText, ArgText, UnitText}
-use Rattle.lh_unit.specs.Named.{block_of, function_named, is_assert, label_or}
+use Rattle.lh_unit.specs.Named.{block_of, function_named, label_or}
+use Rattle.lh_names.specs.UnitNames.{is_assert}
 use Rattle.lh_unit.specs.Held.{Held, Env, data_at, part_held, nothing_held, with_held, with_args}
 use Rattle.lh_unit.specs.Activation.{Scene, Stand, is_new, waits, halted, ProcessState, Control, Point, Activated, Next, goes, ends, no_step, tells, opens, called, asserted, executes, steps_by, step, went, run, entered, at_first, entry, control_from, control_at, start_point, activate}
 use Rattle.lh_unit.specs.Within.{Each}

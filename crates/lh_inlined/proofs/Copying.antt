@@ -3,10 +3,11 @@ use Rattle.std.proofs.Common.{◌≡◌, ℕ, zero, suc, List, [], ◌∷◌, �
 use Rattle.std.specs.Option.{option_map_or}
 use Rattle.std.proofs.lemmas.Option.{same_Some, none-some}
 use Rattle.lh_types.specs.Types.{TypeTree, int_type, time_type, void_type, array_type, tuple_type, signal_type, pointer_type}
-use Rattle.lh_unit.specs.declared.name.UnitName.{UnitName}
-use Rattle.lh_unit.specs.UnitNames.{same_unit_name}
-use Rattle.lh_unit.specs.Contents.{OperandText, EdgeText, InstText, call_text, phi_text, ret_text, LineText, BlockText, ArgText, UnitText, ItemText, unit_text, declare_text, same_name, is_result_name, lines_define, args_define}
-use Rattle.lh_unit.specs.Named.{function_named, is_assert, is_function, label_or}
+use Rattle.lh_names.specs.declared.name.UnitName.{UnitName}
+use Rattle.lh_names.specs.UnitNames.{same_unit_name, is_assert}
+use Rattle.lh_unit.specs.Contents.{OperandText, EdgeText, InstText, call_text, phi_text, ret_text, LineText, BlockText, ArgText, UnitText, ItemText, unit_text, declare_text, is_result_name, lines_define, args_define}
+use Rattle.lh_names.specs.Names.{same_name}
+use Rattle.lh_unit.specs.Named.{function_named, is_function, label_or}
 use Rattle.lh_unit.specs.Activation.{functions}
 use Rattle.lh_unit.specs.Hierarchy.{lines_of}
 use Rattle.lh_unit.specs.Lexemes.{Lexeme}
@@ -20,7 +21,7 @@ use Rattle.lh_unit.specs.Places.{has_edge}
 use Rattle.lh_unit.specs.Within.{Each}
 use Rattle.lh_unit.specs.declared.inst.UnitKind.{UnitKind}
 use Rattle.lh_unit.specs.declared.inst.UnitKind.TheVariants as kind
-use Rattle.lh_unit.proofs.Tables.{same_name-is, same_name-refl}
+use Rattle.lh_names.proofs.NameLists.{same_name-is, same_name-refl}
 use Rattle.lh_meaning.proofs.Labelled.{EachLabelled, Labelled, AllLabelled}
 use Rattle.lh_formed.specs.Calls.{ArgumentsAre, NamedIsRight}
 use Rattle.lh_formed.specs.Operands.{IsOf, ReturnIs, RowIs}

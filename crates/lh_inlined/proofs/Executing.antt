@@ -10,9 +10,10 @@ use Rattle.lh_types.specs.Bits.{value_from_bits}
 use Rattle.lh_types.specs.declared.op.Op.{Op}
 use Rattle.lh_types.specs.declared.part.Step.{Step}
 use Rattle.lh_types.specs.declared.part.Range.{Range}
-use Rattle.lh_unit.specs.declared.name.UnitName.{UnitName}
+use Rattle.lh_names.specs.declared.name.UnitName.{UnitName}
 use Rattle.lh_unit.specs.Contents.{OperandText, InstText, const_text, pure_text, var_text, ld_text, st_text, sig_text, prb_text, drv_text, reg_text, child_text, call_text, phi_text, br_text, branch_text, wait_text, halt_text, ret_text, UnitText}
-use Rattle.lh_unit.specs.Named.{is_assert, function_named}
+use Rattle.lh_unit.specs.Named.{function_named}
+use Rattle.lh_names.specs.UnitNames.{is_assert}
 use Rattle.lh_unit.specs.Places.{is_terminator}
 use Rattle.lh_unit.specs.Typing.{value_type, carried, or_else}
 use Rattle.lh_unit.specs.Held.{Held, datum_held, cell_held, part_held, Env, with_held, as_cell, as_datum, as_part, datum_at, cell_at, part_at, data_at, parts_at, test_at, front, bits_in}

@@ -11,7 +11,7 @@ use Rattle.lh_unit.specs.WellFormed.{Site, sites, is_allowed, in_entity, is_phi,
 use Rattle.lh_unit.specs.Within.{Each}
 use Rattle.lh_unit.specs.declared.inst.UnitKind.{UnitKind}
 use Rattle.lh_unit.specs.declared.inst.UnitKind.TheVariants as kind
-use Rattle.lh_unit.proofs.Tables.{same_name-is}
+use Rattle.lh_names.proofs.NameLists.{same_name-is}
 use Rattle.lh_meaning.proofs.Labelled.{AllLabelled, In, own_block, block_of-in}
 use Rattle.lh_formed.specs.Calls.{NamedIsRight}
 use Rattle.lh_formed.specs.Defined.{IsThere, IsThereOnEdge, OperandsThere}

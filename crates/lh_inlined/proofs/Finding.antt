@@ -5,13 +5,15 @@ use Rattle.std.specs.Option.{option_map}
 use Rattle.std.proofs.lemmas.List.{append_cancel_left, append_assoc, append-nil}
 use Rattle.std.proofs.lemmas.Option.{same_Some, none-some}
 use Rattle.lh_types.specs.Types.{TypeTree}
-use Rattle.lh_unit.specs.declared.name.UnitName.{UnitName}
-use Rattle.lh_unit.specs.Contents.{OperandText, InstText, call_text, LineText, BlockText, UnitText, same_name, is_result_name}
-use Rattle.lh_unit.specs.Named.{block_of, function_named, is_assert, label_or}
+use Rattle.lh_names.specs.declared.name.UnitName.{UnitName}
+use Rattle.lh_unit.specs.Contents.{OperandText, InstText, call_text, LineText, BlockText, UnitText, is_result_name}
+use Rattle.lh_names.specs.Names.{same_name}
+use Rattle.lh_unit.specs.Named.{block_of, function_named, label_or}
+use Rattle.lh_names.specs.UnitNames.{is_assert}
 use Rattle.lh_unit.specs.Typing.{or_else}
 use Rattle.lh_unit.specs.Within.{Each}
 use Rattle.lh_unit.proofs.Lists.{Each-append}
-use Rattle.lh_unit.proofs.Tables.{same_name-is}
+use Rattle.lh_names.proofs.NameLists.{same_name-is}
 use Rattle.lh_unit.proofs.Within.{Each-more}
 use Rattle.lh_flat.specs.Copies.{Copy, call_path, copy_at, opened, first_piece}
 use Rattle.lh_flat.specs.Flat.{FlatBlockText, Pieces, with_merge, merge_of, with_line, pieces_from, flat_block, flat_copy}

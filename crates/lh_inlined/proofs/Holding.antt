@@ -10,7 +10,8 @@ use Rattle.lh_types.specs.Types.{TypeTree}
 use Rattle.lh_types.specs.Values.{Datum}
 use Rattle.lh_types.specs.Wish.{Wish}
 use Rattle.lh_types.specs.declared.part.Range.{Range}
-use Rattle.lh_unit.specs.Contents.{OperandText, ArgText, UnitText, same_name, args_define}
+use Rattle.lh_unit.specs.Contents.{OperandText, ArgText, UnitText, args_define}
+use Rattle.lh_names.specs.Names.{same_name}
 use Rattle.lh_unit.specs.Typing.{carried}
 use Rattle.lh_unit.specs.Held.{Held, datum_held, cell_held, part_held, Env, with_held, with_args, as_datum, as_cell, as_part, as_delay, as_test, datum_at, cell_at, part_at, delay_at, test_at, front, data_at, parts_at}
 use Rattle.lh_unit.specs.Effects.{read_bits, probed, condition_at, drive_due, drive_when, driven}

@@ -1,8 +1,9 @@
 -- Labels of a flat text stand once.
 use Rattle.std.proofs.Common.{◌≡◌, ◌⊎◌, ◌||◌, ℕ, List, [], ◌∷◌, ◌++◌, map, Bool, true, false, if◌then◌else◌, Some, refl, ap, sym, ◌∙◌, inl, inr}
-use Rattle.lh_unit.specs.Contents.{BlockText, UnitText, same_name, defines_label_in}
+use Rattle.lh_unit.specs.Contents.{BlockText, UnitText, defines_label_in}
+use Rattle.lh_names.specs.Names.{same_name}
 use Rattle.lh_unit.specs.Named.{block_of, label_or}
-use Rattle.lh_unit.proofs.Tables.{same_name-is, same_name-refl}
+use Rattle.lh_names.proofs.NameLists.{same_name-is, same_name-refl}
 use Rattle.lh_spelled.specs.Printable.{labels_repeat}
 use Rattle.lh_flat.specs.Copies.{Copy, last_piece}
 use Rattle.lh_flat.specs.Flat.{FlatBlockText}

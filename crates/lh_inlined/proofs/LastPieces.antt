@@ -4,17 +4,19 @@ use Rattle.std.specs.List.{list_any, flat_map}
 use Rattle.std.specs.Option.{option_map, option_map_or}
 use Rattle.std.proofs.lemmas.List.{append-nil}
 use Rattle.std.proofs.lemmas.Option.{same_Some, none-some}
-use Rattle.lh_unit.specs.declared.name.UnitName.{UnitName}
+use Rattle.lh_names.specs.declared.name.UnitName.{UnitName}
 use Rattle.lh_types.specs.Types.{TypeTree}
-use Rattle.lh_unit.specs.Contents.{OperandText, EdgeText, InstText, call_text, ret_text, LineText, BlockText, UnitText, same_name, is_result_name}
-use Rattle.lh_unit.specs.Named.{block_of, is_assert, label_or}
+use Rattle.lh_unit.specs.Contents.{OperandText, EdgeText, InstText, call_text, ret_text, LineText, BlockText, UnitText, is_result_name}
+use Rattle.lh_names.specs.Names.{same_name}
+use Rattle.lh_unit.specs.Named.{block_of, label_or}
+use Rattle.lh_names.specs.UnitNames.{is_assert}
 use Rattle.lh_unit.specs.Places.{is_terminator}
 use Rattle.lh_unit.specs.WellFormed.{is_phi}
 use Rattle.lh_unit.specs.Hierarchy.{lines_of}
 use Rattle.lh_unit.specs.Activation.{edge_from}
 use Rattle.lh_unit.specs.Within.{Each}
 use Rattle.lh_unit.proofs.Lists.{Each-right}
-use Rattle.lh_unit.proofs.Tables.{same_name-is}
+use Rattle.lh_names.proofs.NameLists.{same_name-is}
 use Rattle.lh_formed.specs.Shape.{EndsOnce}
 use Rattle.lh_flat.specs.Calls.{callee_if, callees_in}
 use Rattle.lh_flat.specs.Copies.{Copy, call_path, opened, first_piece, last_from, last_piece, last_piece_of, copied_edge}

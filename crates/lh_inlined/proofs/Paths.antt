@@ -1,11 +1,12 @@
 -- A path of blocks of a flat text goes through pieces of copies; what was given in them on the way was given on the path.
 use Rattle.std.proofs.Common.{◌≡◌, ◌⊎◌, ℕ, zero, suc, List, [], ◌∷◌, ◌++◌, map, true, false, Option, Some, None, refl, ap, sym, ◌∙◌, inl, inr, subst}
 use Rattle.std.specs.List.{list_any, flat_map}
-use Rattle.lh_unit.specs.Contents.{OperandText, ret_text, LineText, BlockText, UnitText, same_name, is_result_name, lines_define, blocks_define, args_define}
+use Rattle.lh_unit.specs.Contents.{OperandText, ret_text, LineText, BlockText, UnitText, is_result_name, lines_define, blocks_define, args_define}
+use Rattle.lh_names.specs.Names.{same_name}
 use Rattle.lh_unit.specs.Named.{block_of, label_or}
 use Rattle.lh_unit.specs.Places.{leads_to, last_leads_to, has_edge, entry_of, IsPath}
 use Rattle.lh_unit.specs.WellFormed.{values_named, is_phi}
-use Rattle.lh_unit.proofs.Tables.{same_name-is, same_name-refl}
+use Rattle.lh_names.proofs.NameLists.{same_name-is, same_name-refl}
 use Rattle.lh_formed.specs.Defined.{IsThere}
 use Rattle.lh_formed.proofs.There.{last-leads}
 use Rattle.lh_flat.specs.Copies.{Copy, top_copy, first_piece, copied, copied_line}

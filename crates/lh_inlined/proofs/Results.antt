@@ -3,8 +3,9 @@ use Rattle.std.proofs.Common.{◌≡◌, ◌⊎◌, ◌||◌, ℕ, zero, suc, �
 use Rattle.std.specs.List.{flat_map}
 use Rattle.std.proofs.lemmas.Bool.{or_parts}
 use Rattle.std.proofs.lemmas.List.{append_cancel_left}
-use Rattle.lh_unit.specs.declared.name.UnitName.{UnitName}
-use Rattle.lh_unit.specs.Contents.{OperandText, InstText, call_text, LineText, BlockText, ArgText, UnitText, same_name, is_result_name, lines_define, args_define}
+use Rattle.lh_names.specs.declared.name.UnitName.{UnitName}
+use Rattle.lh_unit.specs.Contents.{OperandText, InstText, call_text, LineText, BlockText, ArgText, UnitText, is_result_name, lines_define, args_define}
+use Rattle.lh_names.specs.Names.{same_name}
 use Rattle.lh_unit.specs.Named.{function_named, label_or}
 use Rattle.lh_unit.specs.Within.{Each}
 use Rattle.lh_unit.specs.Hierarchy.{lines_of}

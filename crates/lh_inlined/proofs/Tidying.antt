@@ -4,7 +4,7 @@ use Rattle.std.specs.List.{slice_get}
 use Rattle.std.proofs.lemmas.Bool.{or_parts}
 use Rattle.std.proofs.lemmas.Option.{same_Some, none-some}
 use Rattle.lh_types.specs.Types.{TypeTree, void_type}
-use Rattle.lh_unit.specs.declared.name.UnitName.{UnitName}
+use Rattle.lh_names.specs.declared.name.UnitName.{UnitName}
 use Rattle.lh_unit.specs.Arena.{Arena, contents, item_text_at, unit_text_at}
 use Rattle.lh_unit.specs.Naming.{kind_text}
 use Rattle.lh_unit.specs.declared.inst.UnitId.{UnitId}
@@ -14,13 +14,13 @@ use Rattle.lh_unit.specs.declared.inst.UnitKind.{UnitKind}
 use Rattle.lh_unit.specs.declared.inst.UnitKind.TheVariants as kind
 use Rattle.lh_unit.specs.Canon.{canon, argument, arguments, side_of, ports, header}
 use Rattle.lh_unit.specs.CanonTypes.{type_pieces}
-use Rattle.lh_unit.specs.UnitNames.{same_unit_name}
-use Rattle.lh_unit.specs.Contents.{EdgeText, InstText, call_text, phi_text, ret_text, LineText, BlockText, ArgText, UnitText, ItemText, unit_text, declare_text, same_name, args_define, lines_define}
+use Rattle.lh_names.specs.UnitNames.{same_unit_name, is_assert}
+use Rattle.lh_unit.specs.Contents.{EdgeText, InstText, call_text, phi_text, ret_text, LineText, BlockText, ArgText, UnitText, ItemText, unit_text, declare_text, args_define, lines_define}
+use Rattle.lh_names.specs.Names.{same_name, IsName}
 use Rattle.lh_unit.specs.Hierarchy.{lines_of}
 use Rattle.lh_unit.specs.Lexemes.{word, local}
 use Rattle.lh_unit.specs.Marks.{open_paren, close_paren, colon}
-use Rattle.lh_unit.specs.Named.{block_of, function_named, is_assert, is_function, label_or}
-use Rattle.lh_unit.specs.Names.{IsName}
+use Rattle.lh_unit.specs.Named.{block_of, function_named, is_function, label_or}
 use Rattle.lh_unit.specs.Pieces.{Piece, token, space, IsLexeme, IsSpaced, behind_commas, lexemes_in}
 use Rattle.lh_unit.specs.Reads.{args_repeat}
 use Rattle.lh_unit.specs.Spells.{SpellsLabel, label_item, inst_item, header_item}
@@ -29,7 +29,7 @@ use Rattle.lh_unit.specs.WellFormed.{in_entity, is_phi, labels_named, IsWellForm
 use Rattle.lh_unit.specs.Within.{Each}
 use Rattle.lh_unit.specs.Activation.{functions}
 use Rattle.lh_unit.proofs.Lists.{Each-left, Each-right}
-use Rattle.lh_unit.proofs.Tables.{same_name-is, same_name-refl}
+use Rattle.lh_names.proofs.NameLists.{same_name-is, same_name-refl}
 use Rattle.lh_unit.proofs.Within.{Each-more}
 use Rattle.lh_formed.specs.Calls.{NamedIsRight}
 use Rattle.lh_formed.specs.Operands.{RowIs, ReturnIs}

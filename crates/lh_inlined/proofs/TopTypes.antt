@@ -3,8 +3,9 @@ use Rattle.std.proofs.Common.{◌≡◌, ℕ, zero, suc, ◌+◌, ◌<◌, Bool,
 use Rattle.std.specs.List.{flat_map}
 use Rattle.std.specs.Option.{option_map, option_and_then}
 use Rattle.lh_types.specs.Types.{TypeTree}
-use Rattle.lh_unit.specs.declared.name.UnitName.{UnitName}
-use Rattle.lh_unit.specs.Contents.{OperandText, InstText, const_text, pure_text, var_text, ld_text, st_text, sig_text, prb_text, drv_text, reg_text, child_text, call_text, phi_text, br_text, branch_text, wait_text, halt_text, ret_text, LineText, BlockText, ArgText, UnitText, args_define, is_result_name, same_name}
+use Rattle.lh_names.specs.declared.name.UnitName.{UnitName}
+use Rattle.lh_unit.specs.Contents.{OperandText, InstText, const_text, pure_text, var_text, ld_text, st_text, sig_text, prb_text, drv_text, reg_text, child_text, call_text, phi_text, br_text, branch_text, wait_text, halt_text, ret_text, LineText, BlockText, ArgText, UnitText, args_define, is_result_name}
+use Rattle.lh_names.specs.Names.{same_name}
 use Rattle.lh_unit.specs.Named.{label_or}
 use Rattle.lh_unit.specs.Typing.{result_type, operation_type, line_giving, inst_giving, or_else, arg_named, value_type}
 use Rattle.lh_unit.specs.Within.{Each}

@@ -2,11 +2,12 @@
 use Rattle.std.proofs.Common.{◌≡◌, ◌<◌, ℕ, zero, suc, List, [], ◌∷◌, ◌++◌, length, map, Bool, true, false, if◌then◌else◌, Option, Some, None, option_map, option_and_then, refl, ap, sym, ◌∙◌, inl, inr, subst, arith}
 use Rattle.std.proofs.lemmas.Option.{same_Some, none-some}
 use Rattle.lh_types.specs.Types.{TypeTree}
-use Rattle.lh_unit.specs.Contents.{OperandText, InstText, LineText, BlockText, ArgText, UnitText, same_name, is_result_name}
+use Rattle.lh_unit.specs.Contents.{OperandText, InstText, LineText, BlockText, ArgText, UnitText, is_result_name}
+use Rattle.lh_names.specs.Names.{same_name}
 use Rattle.lh_unit.specs.Named.{label_or}
 use Rattle.lh_unit.specs.Hierarchy.{lines_of}
 use Rattle.lh_unit.specs.Typing.{value_type, result_type, or_else, arg_named, inst_giving, line_giving}
-use Rattle.lh_unit.proofs.Tables.{same_name-is}
+use Rattle.lh_names.proofs.NameLists.{same_name-is}
 use Rattle.lh_flat.specs.Copies.{Copy, top_copy, argument_or, copied_line}
 use Rattle.lh_flat.specs.Flat.{MergeText, merge_of, with_merge, flat_copy, max_nested}
 use Rattle.lh_formed.specs.Calls.{ArgumentsAre}

@@ -1,9 +1,10 @@
 -- Each result of the flat text of a process of a well-formed module stands once, and has a type.
 use Rattle.std.proofs.Common.{◌≡◌, ℕ, suc, List, [], ◌∷◌, true, false, Option, Some, None, IsSome, ap, sym, ◌∙◌, subst}
 use Rattle.std.proofs.lemmas.Bool.{or_parts}
-use Rattle.lh_unit.specs.declared.name.UnitName.{UnitName}
+use Rattle.lh_names.specs.declared.name.UnitName.{UnitName}
 use Rattle.lh_unit.specs.declared.inst.UnitKind.TheVariants as kind
-use Rattle.lh_unit.specs.Contents.{LineText, BlockText, ArgText, UnitText, ItemText, unit_text, same_name, is_result_name, args_define, defines_label_in}
+use Rattle.lh_unit.specs.Contents.{LineText, BlockText, ArgText, UnitText, ItemText, unit_text, is_result_name, args_define, defines_label_in}
+use Rattle.lh_names.specs.Names.{same_name}
 use Rattle.lh_unit.specs.Named.{label_or}
 use Rattle.lh_unit.specs.Activation.{functions}
 use Rattle.lh_unit.specs.Hierarchy.{lines_of}

@@ -1,7 +1,7 @@
 -- What runs a flat text runs its process: each activation of the flat text is one of the process.
 use Rattle.std.specs.Prelude.{◌≡◌, ℕ, zero, suc, ◌≤◌, List, length, map, Some}
 use Rattle.lh_types.specs.declared.part.Range.{Range}
-use Rattle.lh_unit.specs.declared.name.UnitName.{UnitName}
+use Rattle.lh_names.specs.declared.name.UnitName.{UnitName}
 use Rattle.lh_unit.specs.Contents.{UnitText}
 use Rattle.lh_unit.specs.Held.{Held, Env, part_held, nothing_held, with_args}
 use Rattle.lh_unit.specs.Activation.{Scene, Stand, is_new, waits, halted, ProcessState, Control, Point, Activated, goes, no_step, step, max_calls, start_point, control_at, activate}

@@ -2,7 +2,8 @@
 use Rattle.std.specs.Prelude.{◌≡◌, ◌⊎◌, ℕ, List, [], ◌∷◌, false, true, Some, IsSome}
 use Rattle.lh_unit.specs.declared.inst.UnitKind.TheVariants as kind
 use Rattle.lh_unit.specs.Contents.{EdgeText, phi_text, InstText, sig_text, reg_text, child_text, call_text, ret_text, LineText, BlockText, UnitText}
-use Rattle.lh_unit.specs.Named.{block_of, is_assert, label_or}
+use Rattle.lh_unit.specs.Named.{block_of, label_or}
+use Rattle.lh_names.specs.UnitNames.{is_assert}
 use Rattle.lh_unit.specs.Hierarchy.{lines_of}
 use Rattle.lh_unit.specs.Kinds.{uses}
 use Rattle.lh_unit.specs.Places.{InstPlaceText, places, has_edge}

@@ -1,8 +1,9 @@
 -- What is asked of the texts of units, so that copies of them keep apart. It holds in each well-formed module.
 use Rattle.std.specs.Prelude.{◌≡◌, ◌<◌, ℕ, List, [], ◌∷◌, Bool, true, false, Option, Some, None}
-use Rattle.lh_unit.specs.declared.name.UnitName.{UnitName}
+use Rattle.lh_names.specs.declared.name.UnitName.{UnitName}
 use Rattle.lh_unit.specs.Contents.{EdgeText, InstText, call_text, phi_text, ret_text, LineText, BlockText, ArgText, UnitText, ItemText, args_define}
-use Rattle.lh_unit.specs.Named.{function_named, is_assert, label_or}
+use Rattle.lh_unit.specs.Named.{function_named, label_or}
+use Rattle.lh_names.specs.UnitNames.{is_assert}
 use Rattle.lh_unit.specs.Activation.{functions}
 use Rattle.lh_unit.specs.Arena.{Arena, IsArena, contents, unit_count, kind_at, unit_text_at}
 use Rattle.lh_unit.specs.WellFormed.{is_phi, IsWellFormed}

@@ -1,7 +1,7 @@
 -- The token in front of bytes, and the tokens behind it.
 use Rattle.std.proofs.Common.{◌≡◌, ℕ, ◌+◌, ◌-◌, zero, suc, Bool, List, [], ◌∷◌, length, take, drop, nat_eq, nat_lt, Some, None, Result, Ok, Err, true, false, refl, ap, sym, ◌∙◌, subst, arith}
 use Rattle.lh_unit.specs.Lexemes.{Lexeme, word, local, lexemes, lexemes_after, front, first_lexeme, run_len, fits_name, is_white, is_comment}
-use Rattle.lh_unit.specs.Names.{is_name_byte, IsName}
+use Rattle.lh_names.specs.Names.{is_name_byte, IsName}
 use Rattle.lh_unit.specs.Tokens.{tokens, tokens_after, front_token, first_token, fault_place, lexeme_of, lexemes_of, IsSpelling}
 use Rattle.lh_unit.specs.declared.token.Token.{Token}
 use Rattle.lh_unit.specs.declared.token.TokenKind.{TokenKind}

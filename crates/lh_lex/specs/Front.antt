@@ -1,6 +1,6 @@
 -- The token in front of bytes.
 use Rattle.std.specs.Prelude.{◌≡◌, ℕ, Bool, false, List, [], ◌∷◌, take, Option, Some, None, Result, Ok, Err}
-use Rattle.lh_unit.specs.Names.{is_name_byte}
+use Rattle.lh_names.specs.Names.{is_name_byte}
 use Rattle.lh_unit.specs.Lexemes.{Lexeme, lexemes, is_white, is_comment}
 use Rattle.lh_unit.specs.Tokens.{lexeme_of}
 use Rattle.lh_unit.specs.declared.token.TokenKind.{TokenKind}

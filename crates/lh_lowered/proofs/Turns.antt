@@ -6,8 +6,8 @@ use Rattle.std.proofs.Math.Path.{fun_ext}
 use Rattle.std.proofs.lemmas.Bool.{cases_lt}
 use Rattle.std.proofs.lemmas.List.Elements.{filter-append}
 use Rattle.std.proofs.lemmas.Grind.{flat_map-append}
-use Rattle.lh_unit.specs.Contents.{same_name}
-use Rattle.lh_unit.proofs.Tables.{same_name-is}
+use Rattle.lh_names.specs.Names.{same_name}
+use Rattle.lh_names.proofs.NameLists.{same_name-is}
 use Rattle.lh_rows.specs.Known.{Known, known_value, known_cell, known_part, Knowledge, with_known}
 use Rattle.lh_rows.specs.Joins.{RegionPlace, RegionEdge, joined}
 use Rattle.lh_rows.specs.Places.{Region}

@@ -1,7 +1,7 @@
 -- What a report says: a line for each process.
 use Rattle.std.specs.Prelude.{ℕ, List, [], ◌∷◌, ◌++◌, codes}
 use Rattle.std.specs.List.{flat_map}
-use Rattle.lh_unit.specs.declared.name.UnitName.{UnitName}
+use Rattle.lh_names.specs.declared.name.UnitName.{UnitName}
 use Rattle.lh_shape.specs.Names.{reason_word}
 use Rattle.lh_lowered.specs.declared.report.Kind.{Kind}
 use Rattle.lh_lowered.specs.declared.report.Kind.TheVariants as kind

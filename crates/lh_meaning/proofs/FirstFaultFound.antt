@@ -6,7 +6,7 @@ use Rattle.lh_unit.specs.Contents.{EdgeText, InstText, const_text, pure_text, va
 use Rattle.lh_unit.specs.Named.{block_of, label_or}
 use Rattle.lh_unit.specs.Places.{InstPlaceText, places, places_in, places_from, has_edge}
 use Rattle.lh_unit.specs.WellFormed.{FaultKind, undefined, wrong_kind, wrong_type, not_here, no_terminator, phi_edges, not_defined, arguments, number_of, values_named, Lacks, LacksOnEdge, SomeEdgeLacks, SomeValueLacks, stands_later, LacksIn, LacksDefinition, Site, sites, has_local, has_paths, HasFault, NoneHasFault, IsFirstFault, IsFaultless}
-use Rattle.lh_unit.specs.declared.name.UnitName.{UnitName}
+use Rattle.lh_names.specs.declared.name.UnitName.{UnitName}
 use Rattle.lh_unit.specs.declared.inst.UnitKind.{UnitKind}
 use Rattle.lh_unit.specs.declared.inst.UnitKind.TheVariants as kind
 use Rattle.lh_meaning.specs.FirstFault.{FaultlessOrFaulty}

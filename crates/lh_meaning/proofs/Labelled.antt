@@ -3,15 +3,16 @@ use Rattle.std.proofs.Common.{◌≡◌, ℕ, List, [], ◌∷◌, ◌++◌, Boo
 use Rattle.std.specs.Prelude.{if◌then◌else◌}
 use Rattle.std.proofs.lemmas.Bool.{or_parts}
 use Rattle.lh_types.specs.Types.{TypeTree}
-use Rattle.lh_unit.specs.Contents.{ArgText, LineText, BlockText, UnitText, ItemText, unit_text, declare_text, change_last, last_unit, with_block, with_line, line_at_end, same_name, is_result_name, defines_label_in}
+use Rattle.lh_unit.specs.Contents.{ArgText, LineText, BlockText, UnitText, ItemText, unit_text, declare_text, change_last, last_unit, with_block, with_line, line_at_end, is_result_name, defines_label_in}
+use Rattle.lh_names.specs.Names.{same_name}
 use Rattle.lh_unit.specs.Named.{block_of, label_or}
 use Rattle.lh_unit.specs.Spells.{LineItem, empty_item, header_item, declare_item, label_item, inst_item, close_item}
 use Rattle.lh_unit.specs.Lines.{lines_of}
 use Rattle.lh_unit.specs.Reads.{ReadState, headed_unit, after, label_again, defines_again, Takes, Walk, start, Reads}
-use Rattle.lh_unit.specs.declared.name.UnitName.{UnitName}
+use Rattle.lh_names.specs.declared.name.UnitName.{UnitName}
 use Rattle.lh_unit.specs.declared.inst.UnitKind.{UnitKind}
 use Rattle.lh_unit.specs.declared.inst.UnitKind.TheVariants as kind
-use Rattle.lh_unit.proofs.Tables.{same_name-is, same_name-refl}
+use Rattle.lh_names.proofs.NameLists.{same_name-is, same_name-refl}
 
 -- each block has a label, and no two have the same
 abbrev pub AllLabelled : List BlockText → Type 0

@@ -2,11 +2,12 @@
 use Rattle.std.proofs.Common.{◌≡◌, ℕ, List, [], ◌∷◌, Bool, true, false, ◌||◌, ◌&&◌, refl, ap, sym, ◌∙◌, subst, Option, Some, None, ◌⊎◌, inl, inr}
 use Rattle.std.specs.Prelude.{not}
 use Rattle.std.proofs.lemmas.Bool.{and_parts, not-true, or_parts}
-use Rattle.lh_unit.specs.Contents.{LineText, BlockText, UnitText, same_name, lines_define, blocks_define}
+use Rattle.lh_unit.specs.Contents.{LineText, BlockText, UnitText, lines_define, blocks_define}
+use Rattle.lh_names.specs.Names.{same_name}
 use Rattle.lh_unit.specs.Named.{block_of, label_or}
 use Rattle.lh_unit.specs.Places.{has_edge, entry_of, IsPath}
 use Rattle.lh_unit.specs.WellFormed.{Lacks}
-use Rattle.lh_unit.proofs.Tables.{same_name-is, same_name-refl}
+use Rattle.lh_names.proofs.NameLists.{same_name-is, same_name-refl}
 use Rattle.lh_meaning.proofs.Labelled.{In, AllLabelled, own_block, block_of-in}
 
 -- one way or the other

@@ -2,7 +2,7 @@
 use Rattle.std.specs.Prelude.{ℕ, List, [], ◌∷◌, ◌++◌, map, true, false, Some, None, codes}
 use Rattle.lh_types.specs.Types.{TypeTree, int_type, void_type, signal_type}
 use Rattle.lh_types.specs.Values.{Datum, int_value, time_value}
-use Rattle.lh_unit.specs.declared.name.UnitName.{UnitName}
+use Rattle.lh_names.specs.declared.name.UnitName.{UnitName}
 use Rattle.lh_unit.specs.declared.inst.UnitKind.TheVariants as kind
 use Rattle.lh_unit.specs.declared.inst.Mode.{Mode}
 use Rattle.lh_unit.specs.declared.inst.Mode.TheVariants.{Rise}

@@ -2,7 +2,7 @@
 use Rattle.std.proofs.Common.{◌≡◌, ℕ, zero, suc, ◌+◌, List, [], ◌∷◌, ◌++◌, map, length, refl, ap, ◌∙◌, Option, Some, None}
 use Rattle.lh_types.specs.Types.{TypeTree, int_type, time_type, void_type, array_type, tuple_type, signal_type, pointer_type, bit_count}
 use Rattle.lh_types.specs.declared.part.Range.{Range}
-use Rattle.lh_unit.specs.declared.name.UnitName.{UnitName}
+use Rattle.lh_names.specs.declared.name.UnitName.{UnitName}
 use Rattle.lh_unit.specs.Contents.{ArgText}
 use Rattle.lh_unit.specs.Hierarchy.{Instance, SignalText, Child, Hierarchy, Entry, hierarchy_named}
 use Rattle.lh_unit.specs.Design.{Design, Refusal, Elaborated, refused, built, hierarchy_in, max_nesting, arg_ranges, signal_ranges, with_instance, visit_all, visited, visit, carried_type, top_signals, only_signals, design_of, refusal_of, elaborated, elab_named, elab_of}

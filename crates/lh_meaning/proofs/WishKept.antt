@@ -10,7 +10,8 @@ use Rattle.lh_types.specs.Bits.{value_bits}
 use Rattle.lh_types.specs.Wish.{Wish, no_wish, with_bit, with_bits, with_drive}
 use Rattle.lh_types.specs.declared.part.Range.{Range}
 use Rattle.lh_unit.specs.Contents.{OperandText, TriggerText, InstText, const_text, pure_text, var_text, ld_text, st_text, sig_text, prb_text, drv_text, reg_text, child_text, call_text, phi_text, br_text, branch_text, wait_text, halt_text, ret_text, LineText, UnitText}
-use Rattle.lh_unit.specs.Named.{is_assert, function_named}
+use Rattle.lh_unit.specs.Named.{function_named}
+use Rattle.lh_names.specs.UnitNames.{is_assert}
 use Rattle.lh_unit.specs.Held.{Held, Env, datum_at, data_at, delay_at, part_at}
 use Rattle.lh_unit.specs.Effects.{condition_at, drive_due, drive_when, driven}
 use Rattle.lh_unit.specs.Activation.{Scene, Stand, ProcessState, Control, Caller, Point, Activated, Next, goes, ends, no_step, max_calls, gives, jumps, wishes, tells, stores, opens, goes_back, returns, ends_at, executes, asserted, called, steps_by, step, control_at, start_point, went, run, activate}

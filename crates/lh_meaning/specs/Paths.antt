@@ -1,6 +1,6 @@
 -- What holds of the paths of instances.
 use Rattle.std.specs.Prelude.{◌≡◌, ◌↔◌, ◌<◌, ℕ, List, ◌∷◌, ◌++◌, length, slice_get, Some, None}
-use Rattle.lh_unit.specs.declared.name.UnitName.{UnitName}
+use Rattle.lh_names.specs.declared.name.UnitName.{UnitName}
 use Rattle.lh_unit.specs.Contents.{ItemText}
 use Rattle.lh_unit.specs.Design.{Design, built, elab}
 use Rattle.lh_unit.specs.Trace.{Shown}

@@ -10,7 +10,8 @@ use Rattle.lh_types.specs.Parts.{range_of, step_part}
 use Rattle.lh_types.specs.declared.op.Op.{Op}
 use Rattle.lh_types.specs.declared.op.Op.TheVariants as op
 use Rattle.lh_types.specs.declared.part.Step.{Step}
-use Rattle.lh_unit.specs.Contents.{OperandText, InstText, pure_text, LineText, ArgText, UnitText, same_name, is_result_name, args_define}
+use Rattle.lh_unit.specs.Contents.{OperandText, InstText, pure_text, LineText, ArgText, UnitText, is_result_name, args_define}
+use Rattle.lh_names.specs.Names.{same_name}
 use Rattle.lh_unit.specs.Effects.{step_of}
 use Rattle.lh_unit.specs.Hierarchy.{lines_of}
 use Rattle.lh_unit.specs.Naming.{Naming, operand_text, inst_text}
@@ -20,7 +21,7 @@ use Rattle.lh_unit.specs.declared.inst.ValueId.{ValueId}
 use Rattle.lh_unit.specs.declared.inst.Typed.{Typed}
 use Rattle.lh_unit.specs.declared.inst.Inst.{Inst}
 use Rattle.lh_unit.specs.declared.inst.Inst.TheVariants as inst
-use Rattle.lh_unit.proofs.Tables.{same_name-is}
+use Rattle.lh_names.proofs.NameLists.{same_name-is}
 use Rattle.lh_formed.specs.Parts.{TakesPart, HasPart}
 use Rattle.lh_formed.proofs.PartsLaw.{parts_have_ranges}
 use Rattle.lh_formed.proofs.PartSteps.{same-operand, leads-is, takes-part, step-type}

@@ -7,17 +7,18 @@ use Rattle.lh_types.specs.Types.{TypeTree}
 use Rattle.lh_types.specs.declared.op.Op.{Op}
 use Rattle.lh_types.specs.declared.ty.NoMemory.{NoMemory}
 use Rattle.lh_unit.specs.ById.{maybe_id}
-use Rattle.lh_unit.specs.Contents.{InstText, phi_text, LineText, BlockText, ArgText, UnitText, same_name, args_define}
+use Rattle.lh_unit.specs.Contents.{InstText, phi_text, LineText, BlockText, ArgText, UnitText, args_define}
+use Rattle.lh_names.specs.Names.{same_name}
 use Rattle.lh_unit.specs.Hierarchy.{lines_of}
 use Rattle.lh_unit.specs.Reads.{args_repeat}
 use Rattle.lh_unit.specs.Naming.{Naming, maybe_text, inst_text, arg_text}
 use Rattle.lh_unit.specs.Typing.{carried, or_else, inst_giving}
 use Rattle.lh_unit.specs.Within.{Each}
-use Rattle.lh_unit.specs.declared.name.UnitName.{UnitName}
+use Rattle.lh_names.specs.declared.name.UnitName.{UnitName}
 use Rattle.lh_unit.specs.declared.inst.ValueId.{ValueId}
 use Rattle.lh_unit.specs.declared.inst.Arg.{Arg}
 use Rattle.lh_unit.proofs.Lists.{Same, same, other, same_or, nat_eq-refl, nat_eq-is, nat_eq-other, not_true, Each-append, Each-left, Each-right}
-use Rattle.lh_unit.proofs.Tables.{same_name-is, same_name-refl}
+use Rattle.lh_names.proofs.NameLists.{same_name-is, same_name-refl}
 use Rattle.lh_spelled.specs.Printable.{results_repeat}
 use Rattle.lh_eval.specs.Sound.{InstIsSound}
 use Rattle.lh_sound.proofs.NamedOnce.{IsFirst, giving-lines, each-first}

@@ -2,7 +2,7 @@
 use Rattle.std.specs.Prelude.{◌≡◌, ◌<◌, List, map, Option, Some, None}
 use Rattle.lh_types.specs.Types.{TypeTree}
 use Rattle.lh_types.specs.declared.op.Op.{Op}
-use Rattle.lh_unit.specs.declared.name.UnitName.{UnitName}
+use Rattle.lh_names.specs.declared.name.UnitName.{UnitName}
 use Rattle.lh_unit.specs.Naming.{Naming, value_text}
 use Rattle.lh_unit.specs.declared.inst.Arg.{Arg}
 use Rattle.lh_flat.specs.declared.flat.Flat.{Flat}

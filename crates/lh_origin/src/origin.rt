@@ -1,6 +1,6 @@
 //! What an entity is emitted for: a process, its parts, and the steps that lead to them.
 ghost use Rattle.std.specs.Prelude.{◌≡◌, ◌<◌, ◌++◌, ℕ, length, map, false, IsSome, IfOk, OnOk};
-ghost use Rattle.lh_unit.specs.declared.name.UnitName.{UnitName};
+ghost use Rattle.lh_names.specs.declared.name.UnitName.{UnitName};
 ghost use Rattle.lh_unit.specs.Naming.{Naming};
 ghost use Rattle.lh_flat.specs.Flat.{flat_unit};
 ghost use Rattle.lh_flat.specs.Reads.{flat_text};
@@ -10,13 +10,13 @@ ghost use Rattle.lh_origin.specs.Firsts as spec;
 ghost use Rattle.lh_origin.specs.Origins.{route_text, IsOrigin, AreStepsOf};
 
 use lh_flat::Flat;
+use lh_names::name::Name;
 use lh_parts::PartTable;
 use lh_term::part::Part;
 use lh_types::list::ListOf;
 use lh_types::op::Op;
 use lh_types::ty::{NoMemory, Ty};
 use lh_unit::inst::{Arg, NameList, ValueId, ValueIdList};
-use lh_unit::name::Name;
 use std::alloc::Global;
 use std::collections::HashMap;
 

@@ -8,10 +8,10 @@ ghost use Rattle.lh_unit.specs.Within.{MaybeWithin};
 ghost use Rattle.lh_unit.specs.Pieces.{render};
 ghost use Rattle.lh_unit.specs.Canon.{unit_name_pieces, maybe};
 
+use lh_names::name::UnitName;
 use lh_types::text::put;
 use lh_types::ty::NoMemory;
 use lh_unit::inst::{BlockId, ValueId};
-use lh_unit::name::UnitName;
 use lh_unit::view::UnitView;
 
 /// Writes the name of a unit.

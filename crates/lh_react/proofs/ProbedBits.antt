@@ -11,7 +11,8 @@ use Rattle.lh_types.specs.Bits.{bits_number}
 use Rattle.lh_types.specs.Parts.{bits_within}
 use Rattle.lh_types.specs.declared.op.Op.TheVariants as op
 use Rattle.lh_types.specs.declared.part.Range.{Range}
-use Rattle.lh_unit.specs.Contents.{LineText, UnitText, same_name, args_define}
+use Rattle.lh_unit.specs.Contents.{LineText, UnitText, args_define}
+use Rattle.lh_names.specs.Names.{same_name}
 use Rattle.lh_unit.specs.Typing.{line_giving, carried}
 use Rattle.lh_unit.specs.Held.{Held, Env, datum_held, part_held, as_part, part_at, as_test}
 use Rattle.lh_unit.specs.Effects.{read_bits}
@@ -33,7 +34,7 @@ use Rattle.lh_unit.specs.declared.inst.Arg.{Arg}
 use Rattle.lh_unit.specs.declared.table.Line.{Line}
 use Rattle.lh_unit.specs.ById.{is_sig}
 use Rattle.lh_unit.proofs.Lists.{nat_eq-refl}
-use Rattle.lh_unit.proofs.Tables.{same_name-refl}
+use Rattle.lh_names.proofs.NameLists.{same_name-refl}
 use Rattle.lh_eval.specs.Holding.{Holds, slot_at}
 use Rattle.lh_eval.proofs.BeginSteps.{entity-blocks, entity-lines, entity-insts, begun}
 use Rattle.lh_eval.specs.Beginning.{args_given, signals_given, next_given}

@@ -11,7 +11,7 @@ use Rattle.lh_unit.specs.Arena.{Arena, Grows, OfOpen, IsOpen, contents, unit_cou
 use Rattle.lh_unit.specs.Builders.{HasContents, AddsArg, SetsResult}
 use Rattle.lh_unit.specs.Reads.{headed_unit, args_repeat}
 use Rattle.lh_unit.specs.declared.inst.UnitId.{UnitId}
-use Rattle.lh_unit.specs.declared.name.UnitName.{UnitName}
+use Rattle.lh_names.specs.declared.name.UnitName.{UnitName}
 use Rattle.lh_unit.specs.declared.inst.UnitKind.{UnitKind}
 use Rattle.lh_unit.specs.declared.inst.UnitKind.TheVariants as kind
 use Rattle.lh_unit.specs.declared.inst.UnitFault.{UnitFault}

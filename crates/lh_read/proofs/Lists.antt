@@ -7,7 +7,7 @@ use Rattle.lh_unit.specs.Within.{Sizes, Each, ValueWithin, OperandWithin, Trigge
 use Rattle.lh_unit.specs.Arena.{Arena, KeepsEntries, naming, sizes}
 use Rattle.lh_unit.specs.Contents.{OperandText, child_text}
 use Rattle.lh_unit.specs.Builders.{FindsUnit}
-use Rattle.lh_unit.specs.declared.name.UnitName.{UnitName}
+use Rattle.lh_names.specs.declared.name.UnitName.{UnitName}
 use Rattle.lh_unit.specs.declared.inst.UnitId.{UnitId}
 use Rattle.lh_unit.specs.declared.inst.Typed.{Typed}
 use Rattle.lh_unit.specs.declared.inst.Inst.TheVariants as inst

@@ -8,7 +8,8 @@ use Rattle.lh_types.specs.Types.{TypeTree}
 use Rattle.lh_unit.specs.Held.{front}
 use Rattle.lh_unit.specs.Typing.{or_else}
 use Rattle.lh_unit.specs.Within.{Each}
-use Rattle.lh_unit.proofs.Lists.{Same, same, other, same_or, nat_eq-refl, nat_eq-other, slice_get-push, some_inj}
+use Rattle.lh_unit.proofs.Lists.{Same, same, other, same_or, nat_eq-refl, nat_eq-other, some_inj}
+use Rattle.lh_names.proofs.Lists.{slice_get-push}
 use Rattle.lh_unit.proofs.Within.{Each-more}
 use Rattle.lh_term.specs.Tree.{Tree}
 use Rattle.lh_term.specs.Types.{IsTyped, type_of}

@@ -3,7 +3,8 @@ use Rattle.std.proofs.Common.{◌≡◌, ℕ, zero, suc, ◌+◌, ◌<◌, List,
 use Rattle.std.specs.List.{list_any}
 use Rattle.std.specs.Option.{option_map, option_and_then}
 use Rattle.std.proofs.Math.Bool.{or-false}
-use Rattle.lh_unit.specs.Contents.{LineText, same_name}
+use Rattle.lh_unit.specs.Contents.{LineText}
+use Rattle.lh_names.specs.Names.{same_name}
 use Rattle.lh_unit.specs.Places as places
 use Rattle.lh_unit.specs.Naming.{Naming, inst_text}
 use Rattle.lh_unit.specs.Within.{Each}
@@ -11,7 +12,7 @@ use Rattle.lh_unit.specs.declared.inst.BlockId.{BlockId}
 use Rattle.lh_unit.specs.declared.inst.Inst.{Inst}
 use Rattle.lh_unit.specs.declared.inst.Inst.TheVariants as inst
 use Rattle.lh_unit.proofs.Lists.{Same, same, other, same_or, nat_eq-refl, nat_eq-other}
-use Rattle.lh_unit.proofs.Tables.{same_name-is, same_name-refl}
+use Rattle.lh_names.proofs.NameLists.{same_name-is, same_name-refl}
 use Rattle.lh_flat.specs.Reads.{flat_line_text, flat_blocks_text}
 use Rattle.lh_flat.specs.declared.flat.FlatInst.{FlatInst}
 use Rattle.lh_flat.specs.declared.flat.FlatBlock.{FlatBlock}

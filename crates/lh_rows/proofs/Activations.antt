@@ -9,7 +9,7 @@ use Rattle.std.proofs.lemmas.Option.{same_Some}
 use Rattle.lh_types.specs.Types.{IsData}
 use Rattle.lh_types.specs.Wish.{Wish, no_wish}
 use Rattle.lh_types.specs.declared.part.Range.{Range}
-use Rattle.lh_unit.specs.declared.name.UnitName.{UnitName}
+use Rattle.lh_names.specs.declared.name.UnitName.{UnitName}
 use Rattle.lh_unit.specs.Contents.{LineText, BlockText, UnitText}
 use Rattle.lh_unit.specs.Named.{block_of}
 use Rattle.lh_unit.specs.Held.{Env, part_held, nothing_held, with_args}

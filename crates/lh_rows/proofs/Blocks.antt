@@ -14,7 +14,8 @@ use Rattle.lh_types.specs.Apply.{bit_value}
 use Rattle.lh_types.specs.Wish.{Wish}
 use Rattle.lh_types.specs.declared.op.Op.TheVariants.{Not}
 use Rattle.lh_types.specs.declared.part.Range.{Range}
-use Rattle.lh_unit.specs.Contents.{InstText, br_text, branch_text, wait_text, halt_text, ret_text, LineText, BlockText, UnitText, same_name}
+use Rattle.lh_unit.specs.Contents.{InstText, br_text, branch_text, wait_text, halt_text, ret_text, LineText, BlockText, UnitText}
+use Rattle.lh_names.specs.Names.{same_name}
 use Rattle.lh_unit.specs.Named.{block_of}
 use Rattle.lh_unit.specs.Held.{Env, as_test, as_delay, front, test_at, parts_at, delay_at}
 use Rattle.lh_unit.specs.Kinds.{Kind, a_datum, a_time, a_pointer, kind_of, takes as kind_takes, Use, used, uses, maybe_used, signal_needed, time_needed}

@@ -7,14 +7,15 @@ use Rattle.std.specs.Option.{option_and_then}
 use Rattle.std.proofs.lemmas.Bool.{false≢true}
 use Rattle.std.proofs.lemmas.Option.{none-some}
 use Rattle.lh_types.specs.Types.{TypeTree, void_type}
-use Rattle.lh_unit.specs.Contents.{EdgeText, InstText, phi_text, br_text, branch_text, wait_text, halt_text, ret_text, LineText, BlockText, UnitText, same_name, is_result_name}
+use Rattle.lh_unit.specs.Contents.{EdgeText, InstText, phi_text, br_text, branch_text, wait_text, halt_text, ret_text, LineText, BlockText, UnitText, is_result_name}
+use Rattle.lh_names.specs.Names.{same_name}
 use Rattle.lh_unit.specs.Named.{block_of, label_or}
 use Rattle.lh_unit.specs.Activation.{edge_from}
 use Rattle.lh_unit.specs.Places.{is_terminator, leads_to, last_leads_to, has_edge}
 use Rattle.lh_unit.specs.Typing.{value_type, is_value_type, result_type}
 use Rattle.lh_unit.specs.Within.{Each}
 use Rattle.lh_unit.specs.declared.inst.UnitKind.TheVariants as kind
-use Rattle.lh_unit.proofs.Tables.{same_name-is, same_name-refl}
+use Rattle.lh_names.proofs.NameLists.{same_name-is, same_name-refl}
 use Rattle.lh_formed.specs.Defined.{IsThere, IsThereOnEdge, OperandsThere}
 use Rattle.lh_formed.specs.Operands.{IsOf, RowIs}
 use Rattle.lh_formed.proofs.Bools.{each_both}

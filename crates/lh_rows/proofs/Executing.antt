@@ -16,9 +16,10 @@ use Rattle.lh_types.specs.Wish as wishes
 use Rattle.lh_types.specs.Wish.{Wish}
 use Rattle.lh_types.specs.declared.op.Op.{Op}
 use Rattle.lh_types.specs.declared.part.Range.{Range}
-use Rattle.lh_unit.specs.declared.name.UnitName.{UnitName}
+use Rattle.lh_names.specs.declared.name.UnitName.{UnitName}
 use Rattle.lh_unit.specs.Contents.{OperandText, EdgeText, InstText, const_text, pure_text, var_text, ld_text, st_text, sig_text, prb_text, drv_text, reg_text, child_text, call_text, phi_text, br_text, branch_text, wait_text, halt_text, ret_text, LineText, UnitText}
-use Rattle.lh_unit.specs.Named.{is_assert, function_named}
+use Rattle.lh_unit.specs.Named.{function_named}
+use Rattle.lh_names.specs.UnitNames.{is_assert}
 use Rattle.lh_unit.specs.WellFormed.{assert_args}
 use Rattle.lh_unit.specs.Effects as effects
 use Rattle.lh_unit.specs.Effects.{step_of}

@@ -7,7 +7,8 @@ use Rattle.std.proofs.lemmas.Bool.{false≢true}
 use Rattle.std.proofs.lemmas.Option.{same_Some, none-some}
 use Rattle.lh_types.specs.Types.{TypeTree, signal_type, IsData}
 use Rattle.lh_types.specs.Values.{Datum}
-use Rattle.lh_unit.specs.Contents.{InstText, const_text, phi_text, br_text, LineText, BlockText, ArgText, UnitText, same_name, is_result_name, args_define, lines_define}
+use Rattle.lh_unit.specs.Contents.{InstText, const_text, phi_text, br_text, LineText, BlockText, ArgText, UnitText, is_result_name, args_define, lines_define}
+use Rattle.lh_names.specs.Names.{same_name}
 use Rattle.lh_unit.specs.Held.{Env}
 use Rattle.lh_unit.specs.Places.{InstPlaceText, places_in, places_from}
 use Rattle.lh_unit.specs.Reads.{args_repeat}
@@ -15,7 +16,7 @@ use Rattle.lh_unit.specs.Typing.{value_type, carried}
 use Rattle.lh_unit.specs.WellFormed.{is_phi}
 use Rattle.lh_unit.specs.Within.{Each}
 use Rattle.lh_unit.specs.Activation.{phi_taken, phis_taken}
-use Rattle.lh_unit.proofs.Tables.{same_name-is}
+use Rattle.lh_names.proofs.NameLists.{same_name-is}
 use Rattle.lh_sound.specs.Units.{HasItsType, IsPort}
 use Rattle.lh_formed.proofs.EachItem.{each-split}
 use Rattle.lh_formed.proofs.AtPlaces.{place-at}

@@ -5,10 +5,11 @@ use Rattle.std.proofs.lemmas.Option.{same_Some}
 use Rattle.lh_types.specs.Types.{TypeTree, time_type, void_type, int_type, array_type, tuple_type, signal_type, pointer_type}
 use Rattle.lh_types.specs.Values.{Datum, int_value, time_value, array_value, tuple_value}
 use Rattle.lh_types.specs.Fits.{FitsType}
-use Rattle.lh_unit.specs.Contents.{InstText, phi_text, LineText, BlockText, UnitText, is_result_name, same_name}
+use Rattle.lh_unit.specs.Contents.{InstText, phi_text, LineText, BlockText, UnitText, is_result_name}
+use Rattle.lh_names.specs.Names.{same_name}
 use Rattle.lh_unit.specs.Held.{Held, Env, with_result, with_held}
 use Rattle.lh_unit.specs.Typing.{value_type}
-use Rattle.lh_unit.proofs.Tables.{same_name-is}
+use Rattle.lh_names.proofs.NameLists.{same_name-is}
 use Rattle.lh_formed.proofs.There.{there-before}
 use Rattle.lh_eval.specs.Fitting as fitting
 use Rattle.lh_term.specs.Tree.{Tree, constant}

@@ -4,9 +4,10 @@ use Rattle.std.specs.Bool.{if◌then◌else◌}
 use Rattle.std.specs.Prelude.{slice_get}
 use Rattle.std.specs.Option.{option_map}
 use Rattle.std.proofs.lemmas.Option.{same_Some, none-some}
-use Rattle.lh_unit.specs.Contents.{BlockText, same_name}
+use Rattle.lh_unit.specs.Contents.{BlockText}
+use Rattle.lh_names.specs.Names.{same_name}
 use Rattle.lh_unit.specs.Named.{block_of}
-use Rattle.lh_unit.proofs.Tables.{same_name-is}
+use Rattle.lh_names.proofs.NameLists.{same_name-is}
 use Rattle.lh_flat.specs.Flat.{FlatBlockText}
 use Rattle.lh_rows.specs.Places.{block_number}
 use Rattle.lh_rows.specs.Right.{as_block, BlockAt}

@@ -5,7 +5,8 @@ use Rattle.std.specs.Option.{option_and_then, option_map}
 use Rattle.std.proofs.lemmas.Bool.{false≢true}
 use Rattle.std.proofs.lemmas.Option.{same_Some, none-some}
 use Rattle.lh_types.specs.declared.op.Op.{Op}
-use Rattle.lh_unit.specs.Contents.{OperandText, pure_text, ArgText, UnitText, same_name, args_define}
+use Rattle.lh_unit.specs.Contents.{OperandText, pure_text, ArgText, UnitText, args_define}
+use Rattle.lh_names.specs.Names.{same_name}
 use Rattle.lh_unit.specs.Effects.{step_of}
 use Rattle.lh_unit.specs.Typing.{carried}
 use Rattle.lh_term.specs.declared.part.Part.{Part}

@@ -6,7 +6,8 @@ use Rattle.std.proofs.lemmas.Option.{same_Some, none-some}
 use Rattle.lh_types.specs.Types.{TypeTree}
 use Rattle.lh_types.specs.Values.{Datum}
 use Rattle.lh_types.specs.declared.part.Range.{Range}
-use Rattle.lh_unit.specs.Contents.{EdgeText, InstText, const_text, phi_text, LineText, BlockText, UnitText, same_name, is_result_name}
+use Rattle.lh_unit.specs.Contents.{EdgeText, InstText, const_text, phi_text, LineText, BlockText, UnitText, is_result_name}
+use Rattle.lh_names.specs.Names.{same_name}
 use Rattle.lh_unit.specs.Hierarchy.{lines_of}
 use Rattle.lh_unit.specs.Typing.{value_type, result_type, inst_giving}
 use Rattle.lh_sound.proofs.NamedOnce.{IsFirst, giving-lines}

@@ -11,8 +11,9 @@ use Rattle.lh_types.specs.Types.{TypeTree, signal_type, bit_count}
 use Rattle.lh_types.specs.Values.{Datum}
 use Rattle.lh_types.specs.Wish.{no_wish}
 use Rattle.lh_types.specs.declared.part.Range.{Range}
-use Rattle.lh_unit.specs.declared.name.UnitName.{UnitName}
-use Rattle.lh_unit.specs.Contents.{InstText, const_text, br_text, LineText, BlockText, ArgText, UnitText, same_name, is_result_name, args_define, lines_define, blocks_define}
+use Rattle.lh_names.specs.declared.name.UnitName.{UnitName}
+use Rattle.lh_unit.specs.Contents.{InstText, const_text, br_text, LineText, BlockText, ArgText, UnitText, is_result_name, args_define, lines_define, blocks_define}
+use Rattle.lh_names.specs.Names.{same_name}
 use Rattle.lh_unit.specs.Named.{block_of, label_or}
 use Rattle.lh_unit.specs.Held.{Held, datum_held, part_held, Env, nothing_held, with_held, with_result, with_args}
 use Rattle.lh_unit.specs.Places.{entry_of, leads_to, last_leads_to, has_edge, IsPath}
@@ -21,7 +22,7 @@ use Rattle.lh_unit.specs.Typing.{value_type, is_value_type, result_type, carried
 use Rattle.lh_unit.specs.Within.{Each}
 use Rattle.lh_unit.specs.Activation as machine
 use Rattle.lh_unit.specs.Activation.{Scene, Point, run, went}
-use Rattle.lh_unit.proofs.Tables.{same_name-is, same_name-refl}
+use Rattle.lh_names.proofs.NameLists.{same_name-is, same_name-refl}
 use Rattle.lh_formed.specs.Defined.{IsThere}
 use Rattle.lh_eval.specs.Sound.{IsWrittenRight}
 use Rattle.lh_eval.proofs.GivesFit.{constants-fit}

@@ -7,7 +7,8 @@ use Rattle.std.proofs.lemmas.List.{append-nil}
 use Rattle.std.proofs.lemmas.Bool.{false≢true}
 use Rattle.std.proofs.lemmas.Bool.Decides.{nat_tests}
 use Rattle.lh_types.specs.Types.{time_type, IsData}
-use Rattle.lh_unit.specs.Contents.{LineText, BlockText, UnitText, same_name}
+use Rattle.lh_unit.specs.Contents.{LineText, BlockText, UnitText}
+use Rattle.lh_names.specs.Names.{same_name}
 use Rattle.lh_unit.specs.Named.{block_of}
 use Rattle.lh_unit.specs.Places.{is_terminator, leads_to}
 use Rattle.lh_unit.specs.Within.{Each}

@@ -12,9 +12,9 @@ use Rattle.lh_types.specs.Faults.{is_data, is_time}
 use Rattle.lh_types.specs.declared.part.Step.TheVariants.{Field, Slice}
 use Rattle.lh_types.proofs.PartLemmas.{step_part-within}
 use Rattle.lh_types.specs.declared.part.Step.{Step}
-use Rattle.lh_unit.specs.declared.name.UnitName.{UnitName}
+use Rattle.lh_names.specs.declared.name.UnitName.{UnitName}
 use Rattle.lh_unit.specs.Contents.{OperandText, EdgeText, InstText, const_text, pure_text, var_text, ld_text, st_text, prb_text, drv_text, call_text, phi_text, LineText, BlockText, UnitText}
-use Rattle.lh_unit.specs.Named.{is_assert}
+use Rattle.lh_names.specs.UnitNames.{is_assert}
 use Rattle.lh_unit.specs.Effects.{step_of}
 use Rattle.lh_unit.specs.Held.{front}
 use Rattle.lh_unit.specs.Kinds.{Use, Need, data_needed, step_need, maybe_used, all_used}

@@ -2,7 +2,8 @@
 use Rattle.std.specs.Prelude.{ℕ, ◌+◌, List, [], ◌∷◌, if◌then◌else◌, Option, Some, None}
 use Rattle.std.specs.Option.{option_and_then, option_map}
 use Rattle.lh_types.specs.Types.{TypeTree}
-use Rattle.lh_unit.specs.Contents.{OperandText, ArgText, same_name}
+use Rattle.lh_unit.specs.Contents.{OperandText, ArgText}
+use Rattle.lh_names.specs.Names.{same_name}
 use Rattle.lh_unit.specs.Typing.{carried}
 use Rattle.lh_unit.specs.Held.{front}
 use Rattle.lh_term.specs.Tree.{Tree}

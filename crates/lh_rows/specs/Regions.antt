@@ -2,7 +2,8 @@
 use Rattle.std.specs.Prelude.{ℕ, zero, suc, ◌+◌, List, [], ◌∷◌, ◌++◌, length, map, Bool, true, false, ◌&&◌, nat_eq, nat_lt, if◌then◌else◌, Option, Some, None, slice_get, unwrap_or}
 use Rattle.std.specs.Option.{option_and_then, option_map_or}
 use Rattle.std.specs.List.{list_any, list_all, filter, flat_map}
-use Rattle.lh_unit.specs.Contents.{InstText, const_text, br_text, LineText, same_name}
+use Rattle.lh_unit.specs.Contents.{InstText, const_text, br_text, LineText}
+use Rattle.lh_names.specs.Names.{same_name}
 use Rattle.lh_unit.specs.Places.{leads_to}
 use Rattle.lh_unit.specs.WellFormed.{is_phi}
 use Rattle.lh_term.specs.Tree.{Tree, constant, past_of, now_of}

@@ -3,7 +3,8 @@ use Rattle.std.specs.Prelude.{◌≡◌, ◌⊎◌, ℕ, ◌+◌, List, [], ◌�
 use Rattle.std.specs.Option.{option_and_then, option_map}
 use Rattle.lh_types.specs.Types.{TypeTree, int_type, void_type, signal_type, pointer_type, IsData}
 use Rattle.lh_types.specs.declared.op.Op.{Op}
-use Rattle.lh_unit.specs.Contents.{OperandText, InstText, const_text, pure_text, phi_text, LineText, BlockText, ArgText, UnitText, same_name, args_define}
+use Rattle.lh_unit.specs.Contents.{OperandText, InstText, const_text, pure_text, phi_text, LineText, BlockText, ArgText, UnitText, args_define}
+use Rattle.lh_names.specs.Names.{same_name}
 use Rattle.lh_unit.specs.Effects.{step_of}
 use Rattle.lh_unit.specs.Typing.{value_type, carried, inst_giving}
 use Rattle.lh_unit.specs.Within.{Each}

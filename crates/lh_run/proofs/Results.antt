@@ -6,7 +6,7 @@ use Rattle.lh_unit.specs.Reads.{BadKind, syntax, unit_too_large, duplicate_name,
 use Rattle.lh_unit.specs.Canon.{canon}
 use Rattle.lh_unit.specs.Trace.{Trace, refuses, ran, trace}
 use Rattle.lh_unit.specs.WellFormed.{FaultKind, number_of, IsFirstFault, IsFaultless}
-use Rattle.lh_unit.specs.declared.name.UnitName.{UnitName}
+use Rattle.lh_names.specs.declared.name.UnitName.{UnitName}
 use Rattle.lh_meaning.proofs.FirstFaultLaw.{one_first_fault, faultless_has_none}
 use Rattle.lh_meaning.proofs.FirstFaultFound.{faultless_or_faulty}
 use Rattle.lh_watch.specs.Members.{Member}

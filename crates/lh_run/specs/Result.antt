@@ -5,7 +5,7 @@ use Rattle.lh_unit.specs.Reads.{Reads, FirstBad, syntax, unit_too_large, duplica
 use Rattle.lh_unit.specs.Canon.{canon}
 use Rattle.lh_unit.specs.Trace.{trace}
 use Rattle.lh_unit.specs.WellFormed.{FaultKind, number_of, IsFirstFault, IsFaultless}
-use Rattle.lh_unit.specs.declared.name.UnitName.{UnitName}
+use Rattle.lh_names.specs.declared.name.UnitName.{UnitName}
 use Rattle.lh_watch.specs.Members.{Member}
 use Rattle.lh_words.specs.Forms.{FileRequest, check, lower, simulate, WordsAskForSelfTest}
 use Rattle.lh_lowered.specs.Lowering.{lowered, report}

@@ -1,6 +1,6 @@
 -- The line that a status writes to the log.
 use Rattle.std.specs.Prelude.{ℕ, nat_eq, List, [], ◌∷◌, ◌++◌, if◌then◌else◌, codes, decimal}
-use Rattle.lh_unit.specs.declared.name.UnitName.{UnitName}
+use Rattle.lh_names.specs.declared.name.UnitName.{UnitName}
 use Rattle.lh_run.specs.declared.status.Refusal.{Refusal}
 use Rattle.lh_run.specs.declared.status.Refusal.TheVariants.{Syntax, UnitTooLarge, DuplicateName, Invalid}
 use Rattle.lh_run.specs.declared.status.TopFault.{TopFault}

@@ -13,7 +13,7 @@ use Rattle.lh_unit.specs.Paths.{shown_in}
 use Rattle.lh_unit.specs.Reads.{Reads}
 use Rattle.lh_unit.specs.Trace.{shown_signal}
 use Rattle.lh_unit.specs.WellFormed.{IsFaultless}
-use Rattle.lh_unit.specs.declared.name.UnitName.{UnitName}
+use Rattle.lh_names.specs.declared.name.UnitName.{UnitName}
 use Rattle.lh_watch.specs.Members.{Member}
 use Rattle.lh_wave.specs.declared.ending.Ending.{Ending}
 use Rattle.lh_wave.specs.declared.run.WaveFault.{WaveFault}

@@ -8,16 +8,16 @@ ghost use Rattle.lh_run.specs.declared.status.Status.TheVariants.{WriteFault, Ou
 use itoa::Buffer;
 use lh_io::stream::{Failed, Sink};
 use lh_io::whole::{ReadAllFault, write_all};
+use lh_names::name::UnitName;
 use lh_read::TextFault;
 use lh_types::ty::NoMemory;
-use lh_unit::name::UnitName;
 use lh_wave::run::WaveFault;
 
 const USAGE: &[u8] =
     b"usage: llhd check | lower | simulate --top NAME --steps N [--vcd] [--watch TITLE ...] | selftest N\n";
 
 /// Why a file is refused. Lines, and the instructions of a unit, are counted from 1.
-#[derive(Drop, PartialEq, Eq)]
+#[derive(Debug, Drop, PartialEq, Eq)]
 pub enum Refusal {
     /// The line spells nothing in its place.
     Syntax(u32),
@@ -34,7 +34,7 @@ pub enum Refusal {
 }
 
 /// Why a top unit is not simulated.
-#[derive(Drop, PartialEq, Eq)]
+#[derive(Debug, Drop, PartialEq, Eq)]
 pub enum TopFault {
     /// No defined unit has the name.
     TopMissing,
@@ -51,7 +51,7 @@ pub enum TopFault {
 }
 
 /// How a run ends.
-#[derive(Drop, PartialEq, Eq)]
+#[derive(Debug, Drop, PartialEq, Eq)]
 pub enum Status {
     /// The words have no form, or watch a title that no watcher has.
     Usage,

@@ -6,8 +6,10 @@ mod selftest_links;
 mod simulations;
 mod texts;
 
-use crate::running::{Faults, PIECE, run_on, run_with, sink};
+use crate::running::{Faults, Left, PIECE, run_on, run_with, sink};
 use lh_io::memory::{MemSink, MemSource};
+use std::alloc::Global;
+use std::process::Abort;
 use std::test::Fail;
 
 const GOOD: &[u8] = b"entity @t (i1$ %c) -> () {\n    %z = const i8 255\n    %a = sig i8 %z\n}\n";
@@ -16,6 +18,46 @@ const BAD: &[u8] = b"entity @t (i1$ %c) -> () {\n    !\n}\n";
 
 const USAGE: &[u8] =
     b"usage: llhd check | lower | simulate --top NAME --steps N [--vcd] [--watch TITLE ...] | selftest N\n";
+
+/// No call fails.
+const NONE: Faults = Faults {
+    src: 0,
+    out: 0,
+    log: 0,
+};
+
+/// The first bytes of a text, or all of it.
+fn head(text: &[u8], length: usize) -> &[u8] {
+    text.get(..length).unwrap_or(text)
+}
+
+/// Run `row` has left this code, this output and this log.
+fn has_left(rt: &impl Abort, row: usize, left: &Left, code: u8, out: &[u8], log: &[u8]) {
+    assert_eq!(rt; left.code, code, "row {row}");
+    assert!(rt; left.out.written() == out, "row {row}");
+    assert!(rt; left.log.written() == log, "row {row}");
+}
+
+/// Run `row` has read nothing, and written no output.
+fn has_read_nothing(rt: &impl Abort, row: usize, left: &Left, text: &[u8]) {
+    assert!(rt; left.src.left() == text, "row {row}");
+    assert_eq!(rt; left.src.faults(), 0, "row {row}");
+    assert_eq!(rt; left.out.faults(), 0, "row {row}");
+}
+
+/// Run `row` of these words on this text, in which no call fails, leaves this.
+fn runs(
+    rt: &impl Abort,
+    alloc: Global,
+    row: usize,
+    words: &[&[u8]],
+    text: &[u8],
+    (code, out, log): (u8, &[u8], &[u8]),
+) -> Result<(), Fail> {
+    let left = run_with(alloc, words, text, NONE)?;
+    has_left(rt, row, &left, code, out, log);
+    Ok(())
+}
 
 #[test]
 fn each_call_fails_in_turn(rt: HostRuntime) -> Result<(), Fail> {
@@ -48,9 +90,7 @@ fn each_call_fails_in_turn(rt: HostRuntime) -> Result<(), Fail> {
             log: *log,
         };
         let left = run_with(rt.alloc(), &[b"check"], *text, faults)?;
-        assert_eq!(rt; left.code, *code, "row {k}");
-        assert!(rt; Some(left.out.written()) == GOOD.get(..*length), "row {k}");
-        assert!(rt; left.log.written() == *line, "row {k}");
+        has_left(&rt, k, &left, *code, head(GOOD, *length), *line);
     }
     Ok(())
 }
@@ -71,11 +111,8 @@ fn usage_reads_nothing(rt: HostRuntime) -> Result<(), Fail> {
             log: *log,
         };
         let left = run_with(rt.alloc(), *words, GOOD, faults)?;
-        assert_eq!(rt; left.code, 2, "row {k}");
-        assert!(rt; left.log.written() == *line, "row {k}");
-        assert!(rt; left.src.left() == GOOD, "row {k}");
-        assert_eq!(rt; left.src.faults(), 0, "row {k}");
-        assert_eq!(rt; left.out.faults(), 0, "row {k}");
+        has_left(&rt, k, &left, 2, b"", *line);
+        has_read_nothing(&rt, k, &left, GOOD);
     }
     Ok(())
 }
@@ -107,9 +144,7 @@ fn an_output_of_small_pieces_breaks_off(rt: HostRuntime) -> Result<(), Fail> {
     );
     let out = MemSink::new(rt.alloc(), 200, 10, Vec::from_slice(rt.alloc(), &[2])?)?;
     let log = sink(rt.alloc(), 0)?;
-    let run = run_on(rt.alloc(), &[b"check"], src, out, log)?;
-    assert_eq!(rt; run.code, 4);
-    assert!(rt; run.out.written() == b"entity @t ".as_slice());
-    assert!(rt; run.log.written() == b"write fault\n".as_slice());
+    let left = run_on(rt.alloc(), &[b"check"], src, out, log)?;
+    has_left(&rt, 0, &left, 4, b"entity @t ", b"write fault\n");
     Ok(())
 }

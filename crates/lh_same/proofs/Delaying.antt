@@ -5,7 +5,7 @@ use Rattle.std.specs.Prelude.{zero, suc}
 use Rattle.std.specs.Option.{option_map_or}
 use Rattle.lh_types.specs.Types.{IsData}
 use Rattle.lh_types.specs.Values.{Datum, int_value, time_value, array_value, tuple_value}
-use Rattle.lh_unit.specs.declared.name.UnitName.{UnitName}
+use Rattle.lh_names.specs.declared.name.UnitName.{UnitName}
 use Rattle.lh_unit.specs.Within.{Each}
 use Rattle.lh_inlined.specs.Formed.{IsFormed}
 use Rattle.lh_flat.specs.Flat.{FlatBlockText, FlatText, flat_unit}

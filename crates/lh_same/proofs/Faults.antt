@@ -4,10 +4,11 @@ use Rattle.std.specs.Bool.{if◌then◌else◌}
 use Rattle.std.specs.List.{list_any}
 use Rattle.std.specs.Option.{option_map_or}
 use Rattle.lh_types.specs.Types.{TypeTree, void_type, same_type}
-use Rattle.lh_unit.specs.declared.name.UnitName.{UnitName}
+use Rattle.lh_names.specs.declared.name.UnitName.{UnitName}
 use Rattle.lh_unit.specs.Contents.{InstText, child_text, call_text, ArgText, UnitText, ItemText, defines_unit, defines_value, defines_label}
 use Rattle.lh_unit.specs.Kinds.{uses}
-use Rattle.lh_unit.specs.Named.{unit_named, is_assert, is_function}
+use Rattle.lh_unit.specs.Named.{unit_named, is_function}
+use Rattle.lh_names.specs.UnitNames.{is_assert}
 use Rattle.lh_unit.specs.Places.{InstPlaceText, places}
 use Rattle.lh_unit.specs.TypingRows.{types_fit}
 use Rattle.lh_unit.specs.WellFormed.{FaultKind, undefined, wrong_kind, wrong_type, not_here, no_terminator, phi_edges, not_defined, arguments, values_named, labels_named, units_named, is_undefined, is_asked, has_wrong_kind, has_no_kind, is_function_name, names_wrong_unit, probes_for_signal, result_fits, arguments_fit, inputs_of, outputs_of, assert_args, args_of, arguments_differ, Site, has_local, hides_paths, has_paths, HasFault, NoneHasFault}

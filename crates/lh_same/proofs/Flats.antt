@@ -4,11 +4,11 @@ use Rattle.std.specs.Bool.{if◌then◌else◌}
 use Rattle.std.specs.List.{flat_map}
 use Rattle.std.specs.Option.{option_map}
 use Rattle.std.proofs.lemmas.Option.{same_Some, none-some}
-use Rattle.lh_unit.specs.declared.name.UnitName.{UnitName}
-use Rattle.lh_unit.specs.UnitNames.{same_unit_name}
+use Rattle.lh_names.specs.declared.name.UnitName.{UnitName}
+use Rattle.lh_names.specs.UnitNames.{same_unit_name, is_assert}
 use Rattle.lh_unit.specs.Activation.{functions}
 use Rattle.lh_unit.specs.Contents.{OperandText, InstText, const_text, call_text, LineText, BlockText, UnitText, ItemText, unit_text, declare_text}
-use Rattle.lh_unit.specs.Named.{function_named, is_assert, is_function, label_or}
+use Rattle.lh_unit.specs.Named.{function_named, is_function, label_or}
 use Rattle.lh_unit.specs.Pieces.{lexemes_in}
 use Rattle.lh_unit.specs.Spells.{inst_item}
 use Rattle.lh_unit.specs.Within.{Each}

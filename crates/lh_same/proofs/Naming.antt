@@ -2,7 +2,7 @@
 use Rattle.std.proofs.Common.{◌≡◌, List, [], ◌∷◌, map, Bool, true, false, Option, Some, None, refl, ap, sym, ◌∙◌, subst}
 use Rattle.std.specs.Bool.{if◌then◌else◌}
 use Rattle.lh_types.specs.Types.{TypeTree}
-use Rattle.lh_unit.specs.declared.name.UnitName.{UnitName}
+use Rattle.lh_names.specs.declared.name.UnitName.{UnitName}
 use Rattle.lh_unit.specs.declared.inst.UnitKind.{UnitKind}
 use Rattle.lh_unit.specs.declared.inst.UnitKind.TheVariants as unit_kind
 use Rattle.lh_unit.specs.Contents.{ArgText, UnitText, ItemText, unit_text, declare_text}
@@ -11,7 +11,7 @@ use Rattle.lh_unit.specs.Named.{unit_named, is_function}
 use Rattle.lh_unit.specs.Places.{InstPlaceText, places}
 use Rattle.lh_unit.specs.Pieces.{lexemes_in}
 use Rattle.lh_unit.specs.Spells.{header_item, SpellsHeader}
-use Rattle.lh_unit.specs.UnitNames.{same_unit_name}
+use Rattle.lh_names.specs.UnitNames.{same_unit_name}
 use Rattle.lh_unit.specs.WellFormed.{Site, sites, NoneHasFault}
 use Rattle.lh_unit.specs.Within.{Each}
 use Rattle.lh_spelled.specs.ItemLines.{item_line}

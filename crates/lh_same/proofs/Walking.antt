@@ -10,7 +10,8 @@ use Rattle.lh_types.specs.declared.part.Range.{Range}
 use Rattle.lh_types.specs.declared.part.Step.{Step}
 use Rattle.lh_types.specs.declared.op.Op.{Op}
 use Rattle.lh_types.specs.declared.op.Op.TheVariants.{Not, And, Or}
-use Rattle.lh_unit.specs.Contents.{OperandText, EdgeText, InstText, const_text, pure_text, var_text, ld_text, st_text, prb_text, drv_text, call_text, phi_text, br_text, branch_text, wait_text, halt_text, LineText, ArgText, UnitText, same_name}
+use Rattle.lh_unit.specs.Contents.{OperandText, EdgeText, InstText, const_text, pure_text, var_text, ld_text, st_text, prb_text, drv_text, call_text, phi_text, br_text, branch_text, wait_text, halt_text, LineText, ArgText, UnitText}
+use Rattle.lh_names.specs.Names.{same_name}
 use Rattle.lh_unit.specs.Activation.{edge_from}
 use Rattle.lh_unit.specs.Effects.{step_of}
 use Rattle.lh_unit.specs.Held.{front}

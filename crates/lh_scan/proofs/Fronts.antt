@@ -1,7 +1,7 @@
 -- The tokens in front of bytes that have tokens.
 use Rattle.std.proofs.Common.{◌≡◌, ℕ, Bool, true, false, nat_eq, List, [], ◌∷◌, take, Option, Some, None, Result, Ok, Err, if◌then◌else◌, refl, ap, sym, ◌∙◌, subst, arith}
 use Rattle.std.specs.Prelude.{is_some}
-use Rattle.lh_unit.specs.Names.{is_name_byte}
+use Rattle.lh_names.specs.Names.{is_name_byte}
 use Rattle.lh_unit.specs.Lexemes.{Lexeme, word, global, local, arrow, minus, punct, lexemes, lexemes_after, front, first_lexeme, run_len, fits_name, is_punct, begins}
 use Rattle.lh_unit.specs.Tokens.{tokens, first_bad, fault_place, lexemes_of}
 use Rattle.lh_unit.specs.declared.token.Token.{Token}

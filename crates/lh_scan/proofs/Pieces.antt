@@ -7,10 +7,10 @@ use Rattle.std.proofs.lemmas.Option.{cond_some}
 use lib.Pointwise.{pointwise}
 use Rattle.lh_unit.specs.Lexemes.{Lexeme, word, global, local, arrow, minus, punct}
 use Rattle.lh_unit.specs.SpellsParts.{SpellsUnitName}
-use Rattle.lh_unit.specs.declared.name.UnitName.{UnitName}
+use Rattle.lh_names.specs.declared.name.UnitName.{UnitName}
 use Rattle.lh_scan.specs.Shorter.{bind_some}
 use Rattle.lh_scan.specs.Pieces.{word_at, any_word_at, local_at, named_in, name_at, unit_name_at, punct_at, arrow_at, minus_at, end_at, below, small}
-use Rattle.lh_unit.proofs.Tables.{same_name-refl}
+use Rattle.lh_names.proofs.NameLists.{same_name-refl}
 
 -- the pieces
 pub word_at-inv : (w : List ℕ) (ts us : List Lexeme) → word_at w ts ≡ Some us → ts ≡ word w ∷ us

@@ -7,7 +7,7 @@ use Rattle.std.proofs.lemmas.List.{take-append-drop, length-take-le}
 use Rattle.std.proofs.lemmas.Grind.{common_steps}
 use lib.Pointwise.{pointwise}
 use Rattle.lh_time.specs.declared.Delay.{Delay}
-use Rattle.lh_unit.specs.Names.{same_bytes}
+use Rattle.lh_names.specs.Names.{same_bytes}
 use Rattle.lh_unit.specs.Lexemes.{Lexeme, word, global, local, arrow, minus, punct}
 use Rattle.lh_unit.specs.Numerals.{is_digit, number_of}
 use Rattle.lh_unit.specs.SpellsNumbers.{unit_scale, SpellsFemtoseconds, SpellsSteps, SpellsTime}

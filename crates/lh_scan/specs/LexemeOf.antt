@@ -1,6 +1,6 @@
 -- What the tokens that the program holds stand for.
 use Rattle.lh_unit.specs.Lexemes.{Lexeme, word, global, local, arrow, minus, punct}
-use Rattle.lh_unit.specs.declared.name.UnitName.{UnitName}
+use Rattle.lh_names.specs.declared.name.UnitName.{UnitName}
 use Rattle.lh_scan.specs.declared.tokens.UnitNameText.{UnitNameText}
 use Rattle.lh_scan.specs.declared.tokens.Lex.{Lex}
 use Rattle.lh_scan.specs.declared.tokens.Lex.TheVariants as lex

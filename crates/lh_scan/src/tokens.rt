@@ -7,8 +7,8 @@ ghost use Rattle.lh_scan.specs.Pieces.{first_at, word_at, any_word_at, local_at,
 ghost use Rattle.lh_scan.specs.LexemeOf.{lexeme_of, unit_name_of};
 
 use lh_lex::{first_bad, from_token, is_mark, split};
+use lh_names::name::{Name, UnitName};
 use lh_types::ty::NoMemory;
-use lh_unit::name::{Name, UnitName};
 use lh_unit::token::TokenKind;
 use std::alloc::Global;
 use std::marker::Model;
@@ -21,7 +21,7 @@ pub struct NameText<'a> {
 
 impl<'a> Model for NameText<'a> {
     ghost use Rattle.std.specs.Prelude.{ℕ, List};
-    ghost use Rattle.lh_unit.specs.Names.{IsName};
+    ghost use Rattle.lh_names.specs.Names.{IsName};
 
     ghost Value = { List ℕ };
 

@@ -5,7 +5,7 @@ use Rattle.lh_types.specs.Values.{time_value}
 use Rattle.lh_types.specs.Apply.{apply}
 use Rattle.lh_types.specs.ApplyInt.{integer_row, row_width}
 use Rattle.lh_types.specs.declared.op.Op.TheVariants.{Not, And, Or, Neq}
-use Rattle.lh_unit.specs.declared.name.UnitName.{UnitName}
+use Rattle.lh_names.specs.declared.name.UnitName.{UnitName}
 use Rattle.lh_term.specs.Tree.{Tree, constant, past_of, now_of}
 use Rattle.lh_term.specs.Make.{bit_of, make_operation}
 use Rattle.lh_term.specs.declared.part.Part.{Part}

@@ -12,7 +12,8 @@ use Rattle.lh_types.specs.Wish.{no_wish}
 use Rattle.lh_types.specs.declared.part.Range.{Range}
 use Rattle.lh_unit.specs.declared.inst.UnitKind.{UnitKind}
 use Rattle.lh_unit.specs.declared.inst.UnitKind.TheVariants as kind
-use Rattle.lh_unit.specs.Contents.{OperandText, InstText, sig_text, prb_text, child_text, LineText, BlockText, ArgText, UnitText, ItemText, unit_text, declare_text, args_define, same_name}
+use Rattle.lh_unit.specs.Contents.{OperandText, InstText, sig_text, prb_text, child_text, LineText, BlockText, ArgText, UnitText, ItemText, unit_text, declare_text, args_define}
+use Rattle.lh_names.specs.Names.{same_name}
 use Rattle.lh_unit.specs.Typing.{value_type}
 use Rattle.lh_unit.specs.Kinds.{Kind, a_datum, a_time, a_signal, a_pointer, kind_of, Use, uses, takes, signal_needed, all_used}
 use Rattle.lh_unit.specs.Held.{Held, part_held, Env, as_datum, nothing_held, with_args, datum_at, part_at}
@@ -25,7 +26,7 @@ use Rattle.lh_unit.specs.WellFormed.{Site, sites, values_named, wrong_kind, is_w
 use Rattle.lh_unit.specs.Within.{Each}
 use Rattle.lh_unit.proofs.Within.{Each-more}
 use Rattle.lh_unit.proofs.Lists.{Each-append}
-use Rattle.lh_unit.proofs.Tables.{same_name-is}
+use Rattle.lh_names.proofs.NameLists.{same_name-is}
 use Rattle.lh_formed.specs.Operands.{IsOf, RowIs}
 use Rattle.lh_formed.specs.KindsOf.{ArgsHaveKinds, HasTypeOfKind}
 use Rattle.lh_formed.proofs.KindsLaw.{operands_have_types}

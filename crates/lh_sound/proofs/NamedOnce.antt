@@ -2,12 +2,13 @@
 use Rattle.std.proofs.Common.{◌≡◌, ℕ, List, [], ◌∷◌, ◌++◌, Bool, true, false, if◌then◌else◌, Some, refl, ap, sym, ◌∙◌, append_assoc}
 use Rattle.std.specs.Option.{option_and_then, option_map}
 use Rattle.std.proofs.lemmas.Bool.{or_parts}
-use Rattle.lh_unit.specs.Contents.{LineText, BlockText, ArgText, UnitText, same_name, is_result_name, lines_define, args_define}
+use Rattle.lh_unit.specs.Contents.{LineText, BlockText, ArgText, UnitText, is_result_name, lines_define, args_define}
+use Rattle.lh_names.specs.Names.{same_name}
 use Rattle.lh_unit.specs.Hierarchy.{lines_of}
 use Rattle.lh_unit.specs.Reads.{args_repeat}
 use Rattle.lh_unit.specs.Typing.{or_else, result_type, line_giving, inst_giving, arg_named, value_type}
 use Rattle.lh_unit.specs.Within.{Each}
-use Rattle.lh_unit.proofs.Tables.{same_name-refl}
+use Rattle.lh_names.proofs.NameLists.{same_name-refl}
 use Rattle.lh_formed.proofs.ValuesLaw.{arg_none}
 use Rattle.lh_spelled.specs.Printable.{result_repeats, results_repeat}
 use Rattle.lh_sound.specs.Units.{HasItsType}

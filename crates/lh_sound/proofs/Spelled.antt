@@ -15,7 +15,7 @@ use Rattle.lh_unit.specs.SpellsParts.{SpellsParts, SpellsList}
 use Rattle.lh_unit.specs.SpellsInst.{Column, typed, bare, SpellsColumns, SpellsPure, SpellsInst, SpellsLine}
 use Rattle.lh_unit.specs.Spells.{inst_item, TypedName, SpellsPort, input_of, output_of, SpellsPorts, SpellsHeader}
 use Rattle.lh_unit.specs.Within.{Each}
-use Rattle.lh_unit.specs.declared.name.UnitName.{UnitName}
+use Rattle.lh_names.specs.declared.name.UnitName.{UnitName}
 use Rattle.lh_unit.specs.declared.inst.UnitKind.{UnitKind}
 use Rattle.lh_unit.specs.declared.inst.UnitKind.TheVariants as kind
 use Rattle.lh_unit.proofs.Lists.{Each-append}

@@ -13,7 +13,7 @@ use Rattle.lh_unit.specs.Within.{Each}
 use Rattle.lh_unit.specs.SpellsTypes.{SpellsType, SpellsValueType, SpellsSignalType}
 use Rattle.lh_unit.specs.SpellsParts.{SpellsList, SpellsTyped}
 use Rattle.lh_unit.specs.Spells.{TypedName, SpellsParam, SpellsPort, input_of, output_of, SpellsParams, SpellsPorts, SpellsHeader, SpellsDeclare}
-use Rattle.lh_unit.specs.declared.name.UnitName.{UnitName}
+use Rattle.lh_names.specs.declared.name.UnitName.{UnitName}
 use Rattle.lh_unit.specs.declared.inst.UnitKind.{UnitKind}
 use Rattle.lh_unit.specs.declared.inst.UnitKind.TheVariants as kind
 use Rattle.lh_unit.specs.declared.inst.Declare.{Declare}

@@ -4,7 +4,7 @@ use Rattle.std.specs.Prelude.{codes}
 use Rattle.std.proofs.Math.Bool.{and-false}
 use Rattle.lh_types.specs.Types.{TypeTree, int_type}
 use Rattle.lh_types.specs.Values.{Datum, int_value, time_value, array_value, tuple_value}
-use Rattle.lh_unit.specs.Names.{IsName}
+use Rattle.lh_names.specs.Names.{IsName}
 use Rattle.lh_unit.specs.Contents.{OperandText, TriggerText, EdgeText, InstText, const_text, pure_text, var_text, ld_text, st_text, sig_text, prb_text, drv_text, reg_text, child_text, call_text, phi_text, br_text, branch_text, wait_text, halt_text, ret_text}
 use Rattle.lh_unit.specs.Lexemes.{Lexeme, word, local, arrow}
 use Rattle.lh_unit.specs.Marks.{open_paren, close_paren, comma, equals}
@@ -14,7 +14,7 @@ use Rattle.lh_unit.specs.Canon.{operand, operands, maybe, trigger, edge, inst_pi
 use Rattle.lh_unit.specs.Within.{Each}
 use Rattle.lh_unit.specs.SpellsParts.{SpellsParts, SpellsList, SpellsBehind, SpellsLocal, SpellsOperand, SpellsMaybe, SpellsTrigger, SpellsEdge}
 use Rattle.lh_unit.specs.SpellsInst.{SpellsDelay, SpellsWordTyped, SpellsInst, SpellsLine}
-use Rattle.lh_unit.specs.declared.name.UnitName.{UnitName}
+use Rattle.lh_names.specs.declared.name.UnitName.{UnitName}
 use Rattle.lh_spelled.proofs.Spacing.{spaced-append, spaced-space, spaced-comma, spaced-enclosed, word-lexeme}
 use Rattle.lh_spelled.proofs.Again.{Whole, PiecesSpell, Again, at_end, joined, parts-again, list-again, behind-again}
 use Rattle.lh_spelled.proofs.Types.{type-again}

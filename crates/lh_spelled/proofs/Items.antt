@@ -1,6 +1,6 @@
 -- What a line says, its canonical line says too.
 use Rattle.std.proofs.Common.{ℕ, inl, inr, List, [], ◌∷◌, refl, subst}
-use Rattle.lh_unit.specs.Names.{IsName}
+use Rattle.lh_names.specs.Names.{IsName}
 use Rattle.lh_unit.specs.Lexemes.{Lexeme, word, local}
 use Rattle.lh_unit.specs.Marks.{colon}
 use Rattle.lh_unit.specs.Pieces.{IsLexeme}

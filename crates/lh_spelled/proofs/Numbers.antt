@@ -5,7 +5,7 @@ use Rattle.std.proofs.lemmas.Grind.{common_steps}
 use Rattle.std.proofs.Math.Pow.{pow_mono, pow_pos}
 use Rattle.std.proofs.Math.Nat.{mod-lt}
 use Rattle.lh_time.specs.declared.Delay.{Delay}
-use Rattle.lh_unit.specs.Names.{is_name_byte, all_name_bytes}
+use Rattle.lh_names.specs.Names.{is_name_byte, all_name_bytes}
 use Rattle.lh_unit.specs.Lexemes.{Lexeme, word}
 use Rattle.lh_unit.specs.Pieces.{Piece, token, space, IsLexeme, IsSpaced, begins_with_word, lexemes_in, number}
 use Rattle.lh_unit.specs.CanonTypes.{time_text, steps_pieces, time_pieces}

@@ -2,7 +2,7 @@
 use Rattle.std.proofs.Common.{◌≡◌, ℕ, ◌+◌, ◌-◌, ◌*◌, ◌/◌, ◌%◌, ◌^◌, ◌<◌, ◌≤◌, Bool, true, false, ◌&&◌, List, [], ◌∷◌, ◌++◌, length, Some, None, if◌then◌else◌, decimal, refl, ap, ◌∙◌, arith, length-append}
 use Rattle.std.proofs.lemmas.Fmt.{decimal_by_steps_wide}
 use Rattle.std.proofs.lemmas.Grind.{common_steps}
-use Rattle.lh_unit.specs.Names.{is_name_byte, all_name_bytes}
+use Rattle.lh_names.specs.Names.{is_name_byte, all_name_bytes}
 use Rattle.lh_unit.specs.Numerals.{is_digit, digits_from, number_of}
 
 append_step : (n m c : ℕ) (a b : List ℕ) (t : Bool) → is_digit c ≡ t → (digits_from (n * 10 + (c - 48)) a ≡ Some m → digits_from (n * 10 + (c - 48)) (a ++ b) ≡ digits_from m b)

@@ -3,7 +3,7 @@ use Rattle.std.proofs.Common.{◌≡◌, ℕ, inl, inr, true, false, List, [], �
 use Rattle.std.specs.Prelude.{codes}
 use Rattle.std.proofs.lemmas.List.{append-nil}
 use Rattle.lh_types.specs.Types.{TypeTree}
-use Rattle.lh_unit.specs.Names.{IsName}
+use Rattle.lh_names.specs.Names.{IsName}
 use Rattle.lh_unit.specs.Contents.{OperandText, TriggerText, EdgeText}
 use Rattle.lh_unit.specs.Lexemes.{Lexeme, word, global, local}
 use Rattle.lh_unit.specs.Marks.{open_bracket, close_bracket, comma}
@@ -15,7 +15,7 @@ use Rattle.lh_unit.specs.Within.{Each}
 use Rattle.lh_unit.specs.SpellsTypes.{SpellsType}
 use Rattle.lh_unit.specs.SpellsParts.{SpellsUnitName, SpellsLocal, SpellsTyped, SpellsOperand, SpellsBare, SpellsWithType, SpellsMaybe, SpellsTrigger, SpellsEdge}
 use Rattle.lh_unit.specs.SpellsInst.{Column, typed, bare, free, SpellsColumn, SpellsColumns}
-use Rattle.lh_unit.specs.declared.name.UnitName.{UnitName}
+use Rattle.lh_names.specs.declared.name.UnitName.{UnitName}
 use Rattle.lh_spelled.proofs.Spacing.{spaced-append, spaced-space, spaced-comma, spaced-enclosed, word-lexeme}
 use Rattle.lh_spelled.proofs.Again.{PiecesSpell, Again, joined, again-map, again-nothing}
 use Rattle.lh_spelled.proofs.Types.{type-again}

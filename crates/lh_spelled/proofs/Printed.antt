@@ -11,7 +11,7 @@ use Rattle.lh_unit.specs.Spells.{LineItem, empty_item, header_item, declare_item
 use Rattle.lh_unit.specs.Reads.{ReadState, outside, has_lines, in_block, in_empty_block, place_after, place_in, may_stand, headed_unit, after, is_full, args_repeat, is_assert, value_again, label_again, most_lines, Walk, start}
 use Rattle.lh_unit.specs.Within.{Each}
 use Rattle.lh_unit.specs.Hierarchy.{lines_of}
-use Rattle.lh_unit.specs.declared.name.UnitName.{UnitName}
+use Rattle.lh_names.specs.declared.name.UnitName.{UnitName}
 use Rattle.lh_unit.specs.declared.inst.UnitKind.{UnitKind}
 use Rattle.lh_unit.specs.declared.inst.UnitKind.TheVariants as kind
 use Rattle.lh_unit.proofs.Lists.{or_false}

@@ -11,7 +11,7 @@ use Rattle.lh_unit.specs.Spells.{LineItem, header_item, declare_item, label_item
 use Rattle.lh_unit.specs.Reads.{ReadState, has_lines, in_block, in_empty_block, place_after, place_in, place_of, may_stand, headed_unit, after, too_large, args_repeat, is_assert, value_again, defines_again, most_lines, Takes, Walk, start}
 use Rattle.lh_unit.specs.Within.{Each}
 use Rattle.lh_unit.specs.Hierarchy.{lines_of}
-use Rattle.lh_unit.specs.declared.name.UnitName.{UnitName}
+use Rattle.lh_names.specs.declared.name.UnitName.{UnitName}
 use Rattle.lh_unit.specs.declared.inst.UnitKind.{UnitKind}
 use Rattle.lh_unit.specs.declared.inst.UnitKind.TheVariants as kind
 use Rattle.lh_unit.specs.declared.inst.Declare.{Declare}

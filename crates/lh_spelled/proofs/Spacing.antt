@@ -3,7 +3,7 @@ use Rattle.std.proofs.Common.{◌≡◌, ℕ, true, false, ◌&&◌, List, [], �
 use Rattle.std.proofs.lemmas.Grind.{common_steps}
 use Rattle.std.proofs.Math.Bool.{and-false}
 use Rattle.std.proofs.lemmas.Bool.{and_parts}
-use Rattle.lh_unit.specs.Names.{all_name_bytes}
+use Rattle.lh_names.specs.Names.{all_name_bytes}
 use Rattle.lh_unit.specs.Lexemes.{Lexeme, word, punct, is_punct}
 use Rattle.lh_unit.specs.Marks.{comma}
 use Rattle.lh_unit.specs.Pieces.{Piece, token, space, IsLexeme, IsSpaced, takes_more, begins_with_word, ◌␣◌, ◌⸴◌}

@@ -9,7 +9,7 @@ use Rattle.lh_unit.specs.Pieces.{Piece, mark}
 use Rattle.lh_unit.specs.Canon.{header, declaration, canon_inst_line, blocks_lines, canon_lines}
 use Rattle.lh_unit.specs.Spells.{LineItem, empty_item, header_item, declare_item, label_item, inst_item, close_item, SpellsHeader, Spells}
 use Rattle.lh_unit.specs.Reads.{ReadState, LinePlace, outside, in_entity, before_labels, in_empty_block, in_block, has_lines, place_after, place_in, place_of, may_stand, headed_unit, after}
-use Rattle.lh_unit.specs.declared.name.UnitName.{UnitName}
+use Rattle.lh_names.specs.declared.name.UnitName.{UnitName}
 use Rattle.lh_unit.specs.declared.inst.UnitKind.{UnitKind}
 use Rattle.lh_unit.specs.declared.inst.UnitKind.TheVariants as kind
 use Rattle.lh_unit.specs.declared.inst.Declare.{Declare}

@@ -2,7 +2,7 @@
 use Rattle.std.proofs.Common.{◌≡◌, ℕ, true, false, List, [], ◌∷◌, ◌++◌, map, nat_eq, refl, ap, ◌∙◌, arith}
 use Rattle.std.proofs.lemmas.Grind.{common_steps}
 use Rattle.std.proofs.lemmas.Bool.{and_parts}
-use Rattle.lh_unit.specs.Names.{is_name_byte, all_name_bytes}
+use Rattle.lh_names.specs.Names.{is_name_byte, all_name_bytes}
 use Rattle.lh_unit.specs.Lexemes.{Lexeme, word, global, local, arrow, minus, punct, is_punct}
 use Rattle.lh_unit.specs.Lines.{lines_of, add_front}
 use Rattle.lh_unit.specs.Pieces.{Piece, token, space, lexeme_bytes, render, IsLexeme, IsSpaced}

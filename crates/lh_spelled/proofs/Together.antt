@@ -3,13 +3,13 @@ use Rattle.std.proofs.Common.{◌≡◌, ℕ, Bool, true, false, ◌||◌, List,
 use Rattle.std.proofs.lemmas.List.{append-nil}
 use Rattle.std.proofs.lemmas.Bool.{or_parts, or_left, or_right}
 use Rattle.lh_unit.specs.Contents.{UnitText, ItemText, unit_text, declare_text, change_last, last_unit, with_block, with_line, defines_unit}
-use Rattle.lh_unit.specs.UnitNames.{same_unit_name}
+use Rattle.lh_names.specs.UnitNames.{same_unit_name}
 use Rattle.lh_unit.specs.Lines.{lines_of}
 use Rattle.lh_unit.specs.Canon.{canon}
 use Rattle.lh_unit.specs.Within.{Each}
 use Rattle.lh_unit.specs.Spells.{LineItem, empty_item, header_item, declare_item, label_item, inst_item, close_item}
 use Rattle.lh_unit.specs.Reads.{ReadState, place_in_last, place_of, may_stand, headed_unit, after, is_full, too_large, args_repeat, is_assert, value_again, label_again, defines_again, Takes, Walk, start}
-use Rattle.lh_unit.specs.declared.name.UnitName.{UnitName}
+use Rattle.lh_names.specs.declared.name.UnitName.{UnitName}
 use Rattle.lh_unit.proofs.Arenas.{same_unit_name-is, same_unit_name-refl}
 use Rattle.lh_unit.proofs.ContentsLemmas.{last_unit-push, change_last-push}
 use Rattle.lh_spelled.specs.Laws.{IsSpelledAlone, units_repeat, SpelledTogether}

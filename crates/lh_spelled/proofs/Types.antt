@@ -3,7 +3,7 @@ use Rattle.std.proofs.Common.{◌≡◌, ℕ, ◌^◌, ◌<◌, ◌≤◌, true,
 use Rattle.std.specs.Prelude.{codes}
 use Rattle.std.proofs.lemmas.List.{append-nil}
 use Rattle.lh_types.specs.Types.{TypeTree, TypeRow, int_type, time_type, void_type, array_type, tuple_type, signal_type, pointer_type, no_types, more_types, row_of, IsData, AreData, IsLimited, bit_count_row}
-use Rattle.lh_unit.specs.Names.{all_name_bytes}
+use Rattle.lh_names.specs.Names.{all_name_bytes}
 use Rattle.lh_unit.specs.Lexemes.{Lexeme, word}
 use Rattle.lh_unit.specs.Marks.{close_bracket, close_brace, comma, dollar, star}
 use Rattle.lh_unit.specs.Pieces.{token, space, IsLexeme, lexemes_in, mark, number, keyword, commas, behind_commas, ◌␣◌}

@@ -1,7 +1,7 @@
 -- As many instructions as an activation may have are enough for the entry and two regions of any flat text.
 use Rattle.std.proofs.Common.{◌≡◌, ℕ, ◌+◌, ◌≤◌, suc, List, [], ◌∷◌, length, fold, Bool, true, false, nat_lt, Option, Some, None, refl, subst, arith}
 use Rattle.std.proofs.lemmas.Bool.Decides.{nat_tests}
-use Rattle.lh_unit.specs.declared.name.UnitName.{UnitName}
+use Rattle.lh_names.specs.declared.name.UnitName.{UnitName}
 use Rattle.lh_unit.specs.Activation.{functions}
 use Rattle.lh_unit.specs.Arena.{contents, unit_text_at}
 use Rattle.lh_unit.specs.Contents.{LineText, UnitText}

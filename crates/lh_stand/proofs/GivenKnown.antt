@@ -12,13 +12,14 @@ use Rattle.lh_types.specs.declared.op.Op.TheVariants as op
 use Rattle.lh_types.specs.declared.op.Op.TheVariants.{Or}
 use Rattle.lh_types.specs.declared.part.Step.{Step}
 use Rattle.lh_types.proofs.PartLemmas.{step_part-within}
-use Rattle.lh_unit.specs.Contents.{OperandText, EdgeText, InstText, const_text, pure_text, phi_text, LineText, ArgText, UnitText, same_name, args_define}
+use Rattle.lh_unit.specs.Contents.{OperandText, EdgeText, InstText, const_text, pure_text, phi_text, LineText, ArgText, UnitText, args_define}
+use Rattle.lh_names.specs.Names.{same_name}
 use Rattle.lh_unit.specs.Effects.{step_of}
 use Rattle.lh_unit.specs.Held.{front}
 use Rattle.lh_unit.specs.Typing.{value_type, result_type, carried, or_else, inst_giving}
 use Rattle.lh_unit.specs.Activation.{edge_from}
 use Rattle.lh_unit.specs.Within.{Each}
-use Rattle.lh_unit.proofs.Tables.{same_name-is}
+use Rattle.lh_names.proofs.NameLists.{same_name-is}
 use Rattle.lh_formed.specs.Parts.{TakesPart, HasPart}
 use Rattle.lh_formed.proofs.PartsLaw.{parts_have_ranges}
 use Rattle.lh_formed.proofs.PartSteps.{same-operand, leads-is, takes-part, step-type}

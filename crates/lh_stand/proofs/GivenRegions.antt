@@ -2,7 +2,7 @@
 use Rattle.std.proofs.Common.{◌≡◌, ℕ, List, [], ◌∷◌, true, false, nat_eq, Some, refl}
 use Rattle.std.specs.Bool.{if◌then◌else◌}
 use Rattle.lh_types.specs.Types.{IsData}
-use Rattle.lh_unit.specs.declared.name.UnitName.{UnitName}
+use Rattle.lh_names.specs.declared.name.UnitName.{UnitName}
 use Rattle.lh_unit.specs.Contents.{UnitText}
 use Rattle.lh_unit.specs.Within.{Each}
 use Rattle.lh_unit.proofs.Within.{Each-more}

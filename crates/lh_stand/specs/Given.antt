@@ -1,6 +1,6 @@
 -- What an entity is emitted from: the rows of a formed flat text are such as the laws of emitted entities ask for.
 use Rattle.std.specs.Prelude.{◌≡◌, List, true}
-use Rattle.lh_unit.specs.declared.name.UnitName.{UnitName}
+use Rattle.lh_names.specs.declared.name.UnitName.{UnitName}
 use Rattle.lh_unit.specs.Within.{Each}
 use Rattle.lh_inlined.specs.Formed.{IsFormed}
 use Rattle.lh_flat.specs.Flat.{FlatText, flat_unit}

@@ -12,7 +12,7 @@ use Rattle.lh_unit.specs.SpellsTypes.{SpellsType}
 use Rattle.lh_unit.specs.SpellsNumbers.{SpellsInteger, SpellsTime}
 use Rattle.lh_unit.specs.SpellsParts.{SpellsUnitName, SpellsOperand, SpellsWithType, SpellsMaybe, SpellsParts, SpellsList, SpellsBehind, SpellsLocal, SpellsTrigger, SpellsEdge}
 use Rattle.lh_unit.specs.SpellsInst.{SpellsDelay, SpellsPure, SpellsInst, may_stand_alone}
-use Rattle.lh_unit.specs.declared.name.UnitName.{UnitName}
+use Rattle.lh_names.specs.declared.name.UnitName.{UnitName}
 use Rattle.lh_scan.specs.Pieces.{◌>>=◌, word_at, local_at, unit_name_at, punct_at, arrow_at, end_at, parts_at, behind_at}
 use Rattle.lh_scan.specs.Types.{no_suffix}
 use Rattle.lh_scan.proofs.Pieces.{unit_name_at-again}

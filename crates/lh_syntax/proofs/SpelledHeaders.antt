@@ -9,7 +9,7 @@ use Rattle.lh_unit.specs.Lexemes.{Lexeme, word, local, arrow, punct}
 use Rattle.lh_unit.specs.Spells.{TypedName, SpellsPort, input_of, output_of, LineItem, header_item, declare_item, Spells, SpellsParams, SpellsPorts, SpellsHeader, SpellsDeclare}
 use Rattle.lh_unit.specs.SpellsTypes.{SpellsType, IsValueType, IsResultType, IsSignal}
 use Rattle.lh_unit.specs.SpellsParts.{SpellsUnitName, SpellsParts, SpellsList}
-use Rattle.lh_unit.specs.declared.name.UnitName.{UnitName}
+use Rattle.lh_names.specs.declared.name.UnitName.{UnitName}
 use Rattle.lh_unit.specs.declared.inst.UnitKind.{UnitKind}
 use Rattle.lh_unit.specs.declared.inst.UnitKind.TheVariants as kind
 use Rattle.lh_unit.specs.declared.inst.Declare.{Declare}

@@ -1,4 +1,6 @@
 //! Each equation on both sides at five widths, on an array and a struct, and terms that are deep or shared.
+//!
+//! A test lends its terms to what tries them, which then has nothing to drop where it ends early.
 use crate::making::{
     choice, conjuncts, element, int, not, now, number, ones, op, past, view, with_one,
 };
@@ -8,6 +10,7 @@ use lh_types::op::Op;
 use lh_types::ty::{Ty, TyList};
 use lh_types::val::Val;
 use std::alloc::Global;
+use std::process::Abort;
 use std::test::Fail;
 
 /// What the rows of a table name: the values of two parts, `not` the first, and constants.
@@ -131,8 +134,8 @@ fn broken_plain(
     Ok(None)
 }
 
-#[test]
-fn equations_at_five_widths(rt: HostRuntime) -> Result<(), Fail> {
+/// The equations of operations, at one width.
+fn equations(rt: &impl Abort, terms: &mut Terms, width: u32) -> Result<(), Fail> {
     let rows = [
         (Op::And, Sign::X, Sign::Zero, Sign::Zero),
         (Op::And, Sign::X, Sign::Ones, Sign::X),
@@ -145,32 +148,40 @@ fn equations_at_five_widths(rt: HostRuntime) -> Result<(), Fail> {
         (Op::Eq, Sign::X, Sign::X, Sign::Yes),
         (Op::Neq, Sign::X, Sign::X, Sign::No),
     ];
-    for width in [1, 8, 64, 65, 128] {
-        let mut terms = Terms::new(rt.alloc());
-        let signs = Signs::new(&mut terms, width)?;
-        assert_eq!(rt; broken(&mut terms, &signs, &rows)?, None);
-        let back = not(&mut terms, signs.not_x)?;
-        assert_eq!(rt; back, signs.x);
-    }
+    let signs = Signs::new(terms, width)?;
+    assert_eq!(rt; broken(terms, &signs, &rows)?, None);
+    assert_eq!(rt; not(terms, signs.not_x)?, signs.x);
     Ok(())
 }
 
 #[test]
-fn equations_of_one_bit(rt: HostRuntime) -> Result<(), Fail> {
+fn equations_at_five_widths(rt: HostRuntime) -> Result<(), Fail> {
+    for width in [1, 8, 64, 65, 128] {
+        equations(&rt, &mut Terms::new(rt.alloc()), width)?;
+    }
+    Ok(())
+}
+
+/// The equations that hold of one bit alone.
+fn equations_of_a_bit(rt: &impl Abort, terms: &mut Terms) -> Result<(), Fail> {
     let rows = [
         (Op::Eq, Sign::X, Sign::One, Sign::X),
         (Op::Eq, Sign::X, Sign::Zero, Sign::NotX),
         (Op::Neq, Sign::X, Sign::Zero, Sign::X),
         (Op::Neq, Sign::X, Sign::One, Sign::NotX),
     ];
-    let mut terms = Terms::new(rt.alloc());
-    let signs = Signs::new(&mut terms, 1)?;
-    assert_eq!(rt; broken(&mut terms, &signs, &rows)?, None);
+    let signs = Signs::new(terms, 1)?;
+    assert_eq!(rt; broken(terms, &signs, &rows)?, None);
     Ok(())
 }
 
 #[test]
-fn no_equation_applies(rt: HostRuntime) -> Result<(), Fail> {
+fn equations_of_one_bit(rt: HostRuntime) -> Result<(), Fail> {
+    equations_of_a_bit(&rt, &mut Terms::new(rt.alloc()))
+}
+
+/// Operations to which no equation applies, at one width.
+fn plain_operations(rt: &impl Abort, terms: &mut Terms, width: u32) -> Result<(), Fail> {
     let rows = [
         (Op::And, Sign::X, Sign::Y),
         (Op::Or, Sign::X, Sign::Y),
@@ -182,153 +193,239 @@ fn no_equation_applies(rt: HostRuntime) -> Result<(), Fail> {
         (Op::Neq, Sign::X, Sign::One),
         (Op::Neq, Sign::X, Sign::Zero),
     ];
+    let signs = Signs::new(terms, width)?;
+    assert_eq!(rt; broken_plain(terms, &signs, &rows)?, None);
+    Ok(())
+}
+
+#[test]
+fn no_equation_applies(rt: HostRuntime) -> Result<(), Fail> {
     for width in [8, 64, 65, 128] {
-        let mut terms = Terms::new(rt.alloc());
-        let signs = Signs::new(&mut terms, width)?;
-        assert_eq!(rt; broken_plain(&mut terms, &signs, &rows)?, None);
+        plain_operations(&rt, &mut Terms::new(rt.alloc()), width)?;
     }
+    Ok(())
+}
+
+/// Both halves of a value, by a condition and its `not`, at one width.
+fn halves(rt: &impl Abort, terms: &mut Terms, width: u32) -> Result<(), Fail> {
+    let signs = Signs::new(terms, width)?;
+    let q = now(terms, width, int(width)?)?;
+    let with_x = op(terms, Op::And, q, signs.x)?;
+    let without = op(terms, Op::And, q, signs.not_x)?;
+    let other = op(terms, Op::And, signs.y, signs.not_x)?;
+    let turned = op(terms, Op::And, signs.not_x, q)?;
+    assert!(rt; gives(terms, Op::Or, with_x, without, q)?);
+    assert!(rt; stays(terms, Op::Or, with_x, other)?);
+    assert!(rt; stays(terms, Op::Or, with_x, turned)?);
     Ok(())
 }
 
 #[test]
 fn halves_at_five_widths(rt: HostRuntime) -> Result<(), Fail> {
     for width in [1, 8, 64, 65, 128] {
-        let mut terms = Terms::new(rt.alloc());
-        let signs = Signs::new(&mut terms, width)?;
-        let q = now(&mut terms, width, int(width)?)?;
-        let with_x = op(&mut terms, Op::And, q, signs.x)?;
-        let without = op(&mut terms, Op::And, q, signs.not_x)?;
-        let other = op(&mut terms, Op::And, signs.y, signs.not_x)?;
-        let turned = op(&mut terms, Op::And, signs.not_x, q)?;
-        assert!(rt; gives(&mut terms, Op::Or, with_x, without, q)?);
-        assert!(rt; stays(&mut terms, Op::Or, with_x, other)?);
-        assert!(rt; stays(&mut terms, Op::Or, with_x, turned)?);
+        halves(&rt, &mut Terms::new(rt.alloc()), width)?;
     }
     Ok(())
+}
+
+/// Choices between values, of which one is known or both are one.
+fn choices(rt: &impl Abort, terms: &mut Terms, signs: &Signs, c: TermId) -> Result<(), Fail> {
+    assert_eq!(rt; choice(terms, signs.no, signs.x, signs.y)?, signs.x);
+    assert_eq!(rt; choice(terms, signs.yes, signs.x, signs.y)?, signs.y);
+    assert_eq!(rt; choice(terms, c, signs.x, signs.x)?, signs.x);
+    let plain = choice(terms, c, signs.x, signs.y)?;
+    assert!(rt; is_choice(terms, plain, c, signs.x, signs.y));
+    Ok(())
+}
+
+/// Choices between 0 and 1, which of one bit are the condition and its `not`.
+fn choices_of_numbers(
+    rt: &impl Abort,
+    terms: &mut Terms,
+    signs: &Signs,
+    c: TermId,
+    width: u32,
+) -> Result<(), Fail> {
+    let not_c = not(terms, c)?;
+    let up = choice(terms, c, signs.zero, signs.one)?;
+    let down = choice(terms, c, signs.one, signs.zero)?;
+    if width == 1 {
+        assert!(rt; up == c && down == not_c);
+    } else {
+        assert!(rt; is_choice(terms, up, c, signs.zero, signs.one));
+        assert!(rt; is_choice(terms, down, c, signs.one, signs.zero));
+    }
+    Ok(())
+}
+
+/// Each choice, at one width.
+fn choices_at(rt: &impl Abort, terms: &mut Terms, width: u32) -> Result<(), Fail> {
+    let signs = Signs::new(terms, width)?;
+    let c = now(terms, width, int(1)?)?;
+    choices(rt, terms, &signs, c)?;
+    choices_of_numbers(rt, terms, &signs, c, width)
 }
 
 #[test]
 fn choices_at_five_widths(rt: HostRuntime) -> Result<(), Fail> {
     for width in [1, 8, 64, 65, 128] {
-        let mut terms = Terms::new(rt.alloc());
-        let signs = Signs::new(&mut terms, width)?;
-        let c = now(&mut terms, width, int(1)?)?;
-        let not_c = not(&mut terms, c)?;
-        assert_eq!(rt; choice(&mut terms, signs.no, signs.x, signs.y)?, signs.x);
-        assert_eq!(rt; choice(&mut terms, signs.yes, signs.x, signs.y)?, signs.y);
-        assert_eq!(rt; choice(&mut terms, c, signs.x, signs.x)?, signs.x);
-        let plain = choice(&mut terms, c, signs.x, signs.y)?;
-        assert!(rt; is_choice(&terms, plain, c, signs.x, signs.y));
-        let up = choice(&mut terms, c, signs.zero, signs.one)?;
-        let down = choice(&mut terms, c, signs.one, signs.zero)?;
-        if width == 1 {
-            assert!(rt; up == c && down == not_c);
-        } else {
-            assert!(rt; is_choice(&terms, up, c, signs.zero, signs.one));
-            assert!(rt; is_choice(&terms, down, c, signs.one, signs.zero));
-        }
+        choices_at(&rt, &mut Terms::new(rt.alloc()), width)?;
     }
     Ok(())
+}
+
+/// The type of two bytes.
+fn two_bytes(alloc: Global) -> Result<Ty, Fail> {
+    Ok(Ty::array(alloc, 2, int(8)?)?)
 }
 
 /// The struct of an array of two bytes and a bit.
 fn struct_type(alloc: Global) -> Result<Ty, Fail> {
     let mut fields = TyList::new(alloc);
-    fields.push(Ty::array(alloc, 2, int(8)?)?)?;
-    fields.push(int(1)?)?;
+    add_fields(alloc, &mut fields)?;
     Ok(Ty::tuple(fields)?)
+}
+
+fn add_fields(alloc: Global, fields: &mut TyList) -> Result<(), Fail> {
+    fields.push(two_bytes(alloc)?)?;
+    fields.push(int(1)?)?;
+    Ok(())
+}
+
+/// `eq` of two structs.
+fn structs(rt: &impl Abort, alloc: Global, terms: &mut Terms) -> Result<(), Fail> {
+    let x = now(terms, 0, struct_type(alloc)?)?;
+    let y = past(terms, 0, struct_type(alloc)?)?;
+    let yes = number(terms, 1, 1)?;
+    assert!(rt; gives(terms, Op::Eq, x, x, yes)?);
+    assert!(rt; stays(terms, Op::Eq, x, y)?);
+    Ok(())
+}
+
+/// `or` of an element and its `not`.
+fn elements(rt: &impl Abort, alloc: Global, terms: &mut Terms) -> Result<(), Fail> {
+    let bytes = now(terms, 0, two_bytes(alloc)?)?;
+    let second = element(terms, bytes, 1)?;
+    let not_second = not(terms, second)?;
+    let all = number(terms, 8, 255)?;
+    assert!(rt; gives(terms, Op::Or, second, not_second, all)?);
+    Ok(())
 }
 
 #[test]
 fn an_array_and_a_struct(rt: HostRuntime) -> Result<(), Fail> {
-    let alloc = rt.alloc();
-    let mut terms = Terms::new(alloc);
-    let x = now(&mut terms, 0, struct_type(alloc)?)?;
-    let y = past(&mut terms, 0, struct_type(alloc)?)?;
-    let yes = number(&mut terms, 1, 1)?;
-    assert!(rt; gives(&mut terms, Op::Eq, x, x, yes)?);
-    assert!(rt; stays(&mut terms, Op::Eq, x, y)?);
-    let bytes = now(&mut terms, 0, Ty::array(alloc, 2, int(8)?)?)?;
-    let second = element(&mut terms, bytes, 1)?;
-    let not_second = not(&mut terms, second)?;
-    let all = number(&mut terms, 8, 255)?;
-    assert!(rt; gives(&mut terms, Op::Or, second, not_second, all)?);
+    let mut terms = Terms::new(rt.alloc());
+    structs(&rt, rt.alloc(), &mut terms)?;
+    elements(&rt, rt.alloc(), &mut terms)
+}
+
+/// The sum of two constants, which overflows.
+fn sum_of_constants(rt: &impl Abort, terms: &mut Terms) -> Result<(), Fail> {
+    let three = number(terms, 8, 3)?;
+    let all = number(terms, 8, 255)?;
+    let two = number(terms, 8, 2)?;
+    assert!(rt; gives(terms, Op::Add, three, all, two)?);
     Ok(())
 }
 
 #[test]
 fn constants_are_folded(rt: HostRuntime) -> Result<(), Fail> {
-    let mut terms = Terms::new(rt.alloc());
-    let three = number(&mut terms, 8, 3)?;
-    let all = number(&mut terms, 8, 255)?;
-    let two = number(&mut terms, 8, 2)?;
-    assert!(rt; gives(&mut terms, Op::Add, three, all, two)?);
+    sum_of_constants(&rt, &mut Terms::new(rt.alloc()))
+}
+
+/// The sum of a value and so many times another.
+fn long_sum(terms: &mut Terms, signs: &Signs, times: u32) -> Result<TermId, Fail> {
+    let mut sum = signs.x;
+    for _ in 0..times {
+        sum = op(terms, Op::Add, sum, signs.y)?;
+    }
+    Ok(sum)
+}
+
+/// A long term is rewritten once, and found again.
+fn long_chain(rt: &impl Abort, alloc: Global, terms: &mut Terms) -> Result<(), Fail> {
+    let signs = Signs::new(terms, 32)?;
+    let sum = long_sum(terms, &signs, 100_000)?;
+    assert_eq!(rt; terms.len(), 100_008);
+    let changed = with_one(alloc, terms, sum, signs.y, signs.x)?;
+    assert_eq!(rt; terms.len(), 200_008);
+    assert_eq!(rt; with_one(alloc, terms, sum, signs.y, signs.x)?, changed);
     Ok(())
 }
 
 #[test]
 fn a_long_chain(rt: HostRuntime) -> Result<(), Fail> {
-    let mut terms = Terms::new(rt.alloc());
-    let signs = Signs::new(&mut terms, 32)?;
-    let mut sum = signs.x;
-    for _ in 0..100_000 {
-        sum = op(&mut terms, Op::Add, sum, signs.y)?;
-    }
-    assert_eq!(rt; terms.len(), 100_008);
-    let changed = with_one(rt.alloc(), &mut terms, sum, signs.y, signs.x)?;
-    assert_eq!(rt; terms.len(), 200_008);
-    assert_eq!(rt;
-        with_one(rt.alloc(), &mut terms, sum, signs.y, signs.x)?,
-        changed
-    );
-    Ok(())
+    long_chain(&rt, rt.alloc(), &mut Terms::new(rt.alloc()))
 }
 
-#[test]
-fn a_term_that_doubles(rt: HostRuntime) -> Result<(), Fail> {
-    let mut terms = Terms::new(rt.alloc());
-    let signs = Signs::new(&mut terms, 1)?;
-    let mut last = signs.x;
-    for k in 0..10_000 {
-        let a = now(&mut terms, k, int(1)?)?;
-        let left = op(&mut terms, Op::And, last, a)?;
-        let right = op(&mut terms, Op::And, a, last)?;
-        last = op(&mut terms, Op::And, left, right)?;
+/// A term whose tree doubles with each of so many levels.
+fn doubled(terms: &mut Terms, from: TermId, levels: u32) -> Result<TermId, Fail> {
+    let mut last = from;
+    for k in 0..levels {
+        let a = now(terms, k, int(1)?)?;
+        let left = op(terms, Op::And, last, a)?;
+        let right = op(terms, Op::And, a, last)?;
+        last = op(terms, Op::And, left, right)?;
     }
-    assert_eq!(rt; conjuncts(&terms, last)?.len(), 10_000);
-    let changed = with_one(rt.alloc(), &mut terms, last, signs.x, signs.y)?;
+    Ok(last)
+}
+
+/// A term that doubles is gone through once.
+fn shared(rt: &impl Abort, alloc: Global, terms: &mut Terms) -> Result<(), Fail> {
+    let signs = Signs::new(terms, 1)?;
+    let last = doubled(terms, signs.x, 10_000)?;
+    assert_eq!(rt; conjuncts(terms, last)?.len(), 10_000);
+    let changed = with_one(alloc, terms, last, signs.x, signs.y)?;
     assert!(rt; changed != last);
     Ok(())
 }
 
 #[test]
+fn a_term_that_doubles(rt: HostRuntime) -> Result<(), Fail> {
+    shared(&rt, rt.alloc(), &mut Terms::new(rt.alloc()))
+}
+
+/// The conjuncts of a term are these.
+fn has_conjuncts(rt: &impl Abort, terms: &Terms, t: TermId, want: &[TermId]) -> Result<(), Fail> {
+    assert!(rt; conjuncts(terms, t)?.as_slice() == want);
+    Ok(())
+}
+
+/// Conjuncts stand in the order of the term, each once; a constant 1 has none, and a word is its own.
+fn ordered_conjuncts(rt: &impl Abort, terms: &mut Terms) -> Result<(), Fail> {
+    let signs = Signs::new(terms, 8)?;
+    let a = now(terms, 8, int(1)?)?;
+    let b = now(terms, 9, int(1)?)?;
+    let c = now(terms, 10, int(1)?)?;
+    let ba = op(terms, Op::And, b, a)?;
+    let bc = op(terms, Op::And, b, c)?;
+    let all = op(terms, Op::And, ba, bc)?;
+    has_conjuncts(rt, terms, all, &[b, a, c])?;
+    has_conjuncts(rt, terms, signs.yes, &[])?;
+    let word = op(terms, Op::And, signs.x, signs.y)?;
+    has_conjuncts(rt, terms, word, &[word])
+}
+
+#[test]
 fn conjuncts_in_order(rt: HostRuntime) -> Result<(), Fail> {
-    let mut terms = Terms::new(rt.alloc());
-    let signs = Signs::new(&mut terms, 8)?;
-    let a = now(&mut terms, 8, int(1)?)?;
-    let b = now(&mut terms, 9, int(1)?)?;
-    let c = now(&mut terms, 10, int(1)?)?;
-    let ba = op(&mut terms, Op::And, b, a)?;
-    let bc = op(&mut terms, Op::And, b, c)?;
-    let all = op(&mut terms, Op::And, ba, bc)?;
-    assert!(rt; conjuncts(&terms, all)?.as_slice() == [b, a, c].as_slice());
-    assert_eq!(rt; conjuncts(&terms, signs.yes)?.len(), 0);
-    let word = op(&mut terms, Op::And, signs.x, signs.y)?;
-    assert!(rt; conjuncts(&terms, word)?.as_slice() == [word].as_slice());
+    ordered_conjuncts(&rt, &mut Terms::new(rt.alloc()))
+}
+
+/// A rising edge, where what was before is known.
+fn rising(rt: &impl Abort, alloc: Global, terms: &mut Terms) -> Result<(), Fail> {
+    let signs = Signs::new(terms, 1)?;
+    let changed = op(terms, Op::Neq, signs.y, signs.x)?;
+    let rises = op(terms, Op::And, changed, signs.x)?;
+    assert_eq!(rt; with_one(alloc, terms, rises, signs.y, signs.no)?, signs.x);
+    assert_eq!(rt;
+        with_one(alloc, terms, rises, signs.y, signs.yes)?,
+        signs.no
+    );
+    assert_eq!(rt; with_one(alloc, terms, rises, signs.y, signs.x)?, signs.no);
     Ok(())
 }
 
 #[test]
 fn a_clock_before_and_now(rt: HostRuntime) -> Result<(), Fail> {
-    let mut terms = Terms::new(rt.alloc());
-    let signs = Signs::new(&mut terms, 1)?;
-    let changed = op(&mut terms, Op::Neq, signs.y, signs.x)?;
-    let rises = op(&mut terms, Op::And, changed, signs.x)?;
-    let from_low = with_one(rt.alloc(), &mut terms, rises, signs.y, signs.no)?;
-    assert_eq!(rt; from_low, signs.x);
-    let from_high = with_one(rt.alloc(), &mut terms, rises, signs.y, signs.yes)?;
-    assert_eq!(rt; from_high, signs.no);
-    let still = with_one(rt.alloc(), &mut terms, rises, signs.y, signs.x)?;
-    assert_eq!(rt; still, signs.no);
-    Ok(())
+    rising(&rt, rt.alloc(), &mut Terms::new(rt.alloc()))
 }

@@ -5,7 +5,7 @@ use denote.Param.Weighed.{most}
 use Rattle.lh_types.specs.Types.{TypeTree, node_count, node_count_row, row_of}
 use Rattle.lh_types.specs.TypeOf.{type_of_node}
 use Rattle.lh_types.specs.declared.ty.Node.{Node}
-use Rattle.lh_types.specs.declared.ty.Node.TheVariants.{Int, Time, Void, Array, Single, Tuple, Signal, Pointer}
+use Rattle.lh_types.specs.declared.ty.Node.TheVariants.{Int, Time, Void, Array, Single, Pair, Tuple, Signal, Pointer}
 use Rattle.lh_types.specs.declared.ty.Ty.TheDeep.{deep-Node}
 
 pub most_le-node_count : (ts : List TypeTree) → max (most (λ t. node_count t + 1) ts) 0 ≤ node_count_row (row_of ts)
@@ -18,6 +18,7 @@ deep_le-node_count Time = omega arith
 deep_le-node_count Void = omega arith
 deep_le-node_count (Array n t) = omega arith
 deep_le-node_count (Single t) = omega arith
+deep_le-node_count (Pair ts) = let h : max (max (most (λ t. node_count t + 1) ts.value) 0) 0 ≤ node_count_row (row_of ts.value) + 1 = omega (arith, most_le-node_count ts.value) in h
 deep_le-node_count (Tuple ts) = omega arith
 deep_le-node_count (Signal t) = omega arith
 deep_le-node_count (Pointer t) = omega arith

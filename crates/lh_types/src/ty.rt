@@ -78,8 +78,9 @@ enum Node {
     Time,
     Void,
     Array(u32, Box<Ty>),
-    // A struct of one field, which needs no list.
+    // Structs of one field and of two, which need no list.
     Single(Box<Ty>),
+    Pair(Box<[Ty; 2]>),
     Tuple(Box<TyList>),
     Signal(Box<Ty>),
     Pointer(Box<Ty>),
@@ -337,6 +338,7 @@ impl Ty {
             Node::Void => TyKind::Void,
             Node::Array(n, of) => TyKind::Array(*n, &**of),
             Node::Single(field) => TyKind::Tuple(slice::from_ref(&**field)),
+            Node::Pair(fields) => TyKind::Tuple(fields.as_slice()),
             Node::Tuple(fields) => TyKind::Tuple(fields.as_slice()),
             Node::Signal(of) => TyKind::Signal(&**of),
             Node::Pointer(of) => TyKind::Pointer(&**of),
@@ -357,9 +359,19 @@ fn struct_node(fields: TyList) -> Result<Node, NoMemory>
     let alloc = *fields.list.allocator();
     match fields.into_single() {
         Ok(field) => Ok(Node::Single(boxed(alloc, field)?)),
-        Err(mut fields) => {
-            fields.shrink();
-            Ok(Node::Tuple(Box::new(alloc, fields)?))
+        Err(fields) => list_node(alloc, fields.into_vec()),
+    }
+}
+
+// The same, of fields that are not one alone.
+fn list_node(alloc: Global, fields: Vec<Ty>) -> Result<Node, NoMemory>
+    ensures { IfOk result (λ node. type_of_node node ≡ tuple_type (row_of fields.items)) }
+{
+    match <[Ty; 2]>::try_from(fields) {
+        Ok(pair) => Ok(Node::Pair(Box::new(alloc, pair)?)),
+        Err(mut list) => {
+            list.shrink_to_fit();
+            Ok(Node::Tuple(Box::new(alloc, TyList { list })?))
         }
     }
 }
@@ -371,7 +383,7 @@ pub fn carries_data(t: &Ty) -> bool
     ensures limited { IsLimited t.now }
 {
     match &t.node {
-        Node::Int(_) | Node::Array(_, _) | Node::Single(_) | Node::Tuple(_) => true,
+        Node::Int(_) | Node::Array(_, _) | Node::Single(_) | Node::Pair(_) | Node::Tuple(_) => true,
         Node::Time | Node::Void | Node::Signal(_) | Node::Pointer(_) => false,
     }
 }
@@ -483,6 +495,14 @@ impl Ty {
                 let inner = boxed(*Box::allocator(field), inner)?;
                 Ok(Ty {
                     node: Node::Single(inner),
+                })
+            }
+            Node::Pair(fields) => {
+                let [first, second] = &**fields;
+                let inner = [first.copy()?, second.copy()?];
+                let inner = Box::new(*Box::allocator(fields), inner)?;
+                Ok(Ty {
+                    node: Node::Pair(inner),
                 })
             }
             Node::Tuple(fields) => {

@@ -7,7 +7,8 @@ use Rattle.lh_types.specs.declared.ty.NoMemory.{NoMemory}
 use Rattle.lh_unit.specs.Contents as text
 use Rattle.lh_unit.specs.Contents.{ItemText, UnitText, BlockText, LineText, ArgText, unit_text, declare_text, new_unit, change_last, defines_unit, defines_value, defines_label, line_count}
 use Rattle.lh_unit.specs.Table.{Table, IsTable, HasBlocks, ResultWithin, no_table, is_block, is_defined, result_defined, insts_at, line_at}
-use Rattle.lh_unit.specs.TableCalls.{has_name, with_value, with_label, with_arg, with_result, with_block, with_line, FindsValueIn, FindsLabelIn, TakesArg, TakesBlock, TakesLine}
+use Rattle.lh_unit.specs.TableCalls.{with_value, with_label, with_arg, with_result, with_block, with_line, FindsValueIn, FindsLabelIn, TakesArg, TakesBlock, TakesLine}
+use Rattle.lh_names.specs.Distinct.{has_name}
 use Rattle.lh_unit.specs.Within.{sizes_of}
 use Rattle.lh_unit.specs.Naming.{Naming, naming_of, line_text, arg_text, label_text, block_text, kind_text, table_text}
 use Rattle.lh_unit.specs.Arena.{Arena, IsArena, IsOpen, OfOpen, KeepsEntries, HasAtMost, HasFewMore, none_more, one_more_in, contents, item_text_at, unit_text_at, naming, table_at, kind_at, unit_count, unit_name_at, value_name_at, label_name_at}

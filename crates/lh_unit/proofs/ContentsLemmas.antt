@@ -4,7 +4,8 @@ use Rattle.std.proofs.lemmas.List.{map-append, get_or-set_same, get_or_append_le
 use Rattle.std.proofs.lemmas.Option.{slice_get_within}
 use Rattle.lh_types.specs.Types.{TypeTree}
 use Rattle.lh_unit.specs.Contents as text
-use Rattle.lh_unit.specs.Contents.{ItemText, UnitText, BlockText, LineText, ArgText, unit_text, declare_text, new_unit, change_last, last_unit, line_at_end, defines_unit, same_name}
+use Rattle.lh_unit.specs.Contents.{ItemText, UnitText, BlockText, LineText, ArgText, unit_text, declare_text, new_unit, change_last, last_unit, line_at_end, defines_unit}
+use Rattle.lh_names.specs.Names.{same_name}
 use Rattle.lh_unit.specs.Table.{Table, IsTable, HasBlocks, is_block, insts_at, line_at, no_line}
 use Rattle.lh_unit.specs.TableCalls.{with_arg, with_result, with_block, with_line, last_block}
 use Rattle.lh_unit.specs.Naming.{Naming, naming_of, line_text, arg_text, label_text, block_text, kind_text, table_text}
@@ -18,7 +19,8 @@ use Rattle.lh_unit.specs.declared.inst.Arg.{Arg}
 use Rattle.lh_unit.specs.declared.inst.Item.{Item}
 use Rattle.lh_unit.specs.declared.inst.Item.TheVariants as item
 use Rattle.lh_unit.specs.declared.table.Line.{Line}
-use Rattle.lh_unit.proofs.Lists.{map-same, map-each, slice_get-push, slice_get-push_before}
+use Rattle.lh_unit.proofs.Lists.{map-same, map-each}
+use Rattle.lh_names.proofs.Lists.{slice_get-push, slice_get-push_before}
 use Rattle.lh_unit.proofs.Tables.{last-split, front-apart, insts_at-written, last-within, apart}
 use Rattle.lh_unit.proofs.Arenas.{with_table, table_at-same, table_at-other, open-within, open-item}
 use Rattle.lh_unit.proofs.Texts.{insts-within}

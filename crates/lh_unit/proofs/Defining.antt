@@ -10,7 +10,8 @@ use Rattle.lh_unit.specs.declared.inst.ValueDef.TheVariants as value_def
 use Rattle.lh_unit.specs.declared.inst.Inst.{Inst}
 use Rattle.lh_unit.specs.declared.inst.Arg.{Arg}
 use Rattle.lh_unit.specs.declared.table.Line.{Line}
-use Rattle.lh_unit.proofs.Lists.{Trichotomy, before, at, past, trichotomy, nat_eq-refl, nat_eq-other, nat_eq-is, not_true, or_false, or_true, or-assoc, some_inj, slice_get-push, slice_get-push_before}
+use Rattle.lh_unit.proofs.Lists.{nat_eq-refl, nat_eq-other, nat_eq-is, not_true, or_false, or_true, or-assoc, some_inj}
+use Rattle.lh_names.proofs.Lists.{Trichotomy, before, at, past, trichotomy, slice_get-push, slice_get-push_before}
 
 pub is_arg-push : (xs : List Arg) (a : Arg) (k : ℕ) → is_arg (xs ++ a ∷ []) k ≡ (is_arg xs k || nat_eq a.value.0 k)
 is_arg-push [] a k = or_false (nat_eq a.value.0 k)

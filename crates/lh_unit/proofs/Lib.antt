@@ -6,7 +6,6 @@ pub mod Lists
 pub mod Defining
 pub mod Tables
 mod Entering
-mod NameLists
 pub mod Within
 pub mod Arenas
 pub mod Texts

@@ -1,14 +1,11 @@
 -- A unit's table stays in order under its calls.
 use Rattle.std.proofs.Common.{◌≡◌, ◌≢◌, ℕ, ◌+◌, ◌-◌, ◌^◌, ◌<◌, ◌≤◌, zero, suc, Bool, true, false, ◌||◌, nat_eq, if◌then◌else◌, List, [], ◌∷◌, ◌++◌, length, map, get_or, set, Option, Some, None, IsSome, is_some, unwrap_or, slice_get, refl, ap, sym, ◌∙◌, subst, arith, length-append, length-set, append_assoc, zero-add}
-use Rattle.std.specs.Cmp.Lexicographic.{same_text}
-use Rattle.std.proofs.lemmas.Option.{slice_get-get_or, slice_get_within}
+use Rattle.std.proofs.lemmas.Option.{slice_get_within}
 use Rattle.std.proofs.lemmas.List.{append-nil, map-append, get_or-set_same, get_or-set_other, get_or_past, get_or_read}
-use Rattle.std.proofs.lemmas.Grind.{common_steps}
-use Rattle.indexmap.specs.IndexSet.{insert_key}
-use lib.Pointwise.{pointwise, bytes_decides}
 use Rattle.lh_types.specs.Types.{TypeTree}
 use Rattle.lh_unit.specs.Table.{Table, Definitions, IsTable, IsDefinition, FitsKind, HasBlocks, ArgsWithin, ResultWithin, ResultsWithin, BlocksWithin, entity_block, flat, ids_from, insts_at, is_arg, is_made, is_result, is_block, is_defined, result_defined, has_definition, with_definition, defined_among, arg_count, args_among}
-use Rattle.lh_unit.specs.TableCalls.{has_name, with_value, with_label, begun, with_arg, with_result, with_block, with_line, last_block}
+use Rattle.lh_unit.specs.TableCalls.{with_value, with_label, begun, with_arg, with_result, with_block, with_line, last_block}
+use Rattle.lh_names.specs.Distinct.{has_name}
 use Rattle.lh_unit.specs.declared.inst.UnitKind.{UnitKind}
 use Rattle.lh_unit.specs.declared.inst.UnitKind.TheVariants as kind
 use Rattle.lh_unit.specs.declared.inst.BlockId.{BlockId}
@@ -20,15 +17,10 @@ use Rattle.lh_unit.specs.declared.inst.Inst.{Inst}
 use Rattle.lh_unit.specs.declared.inst.Arg.{Arg}
 use Rattle.lh_unit.specs.declared.table.Line.{Line}
 pub use Rattle.lh_unit.proofs.Defining.{is_arg-push, is_made-push}
-use Rattle.lh_unit.proofs.Defining.{definition-tells, is_defined-with_arg, is_defined-with_line, IsDefinition-with_arg, IsDefinition-with_line, IsDefinition-same, arg-defines, line-defines, once-with_arg, once-with_line}
-use Rattle.lh_unit.proofs.Lists.{Trichotomy, before, at, past, trichotomy, Same, same, other, same_or, nat_eq-refl, nat_eq-other, or_false, or_true, or-assoc, slice_get-push, slice_get-push_before, get_or-push_default, front_last, AllDistinct-push, other_keys, map-ext, map-same, flat-append, some_inj}
-
--- the test of two names is equality
-pub same_name-is : (x y : List ℕ) → pointwise nat_eq x y ≡ true → x ≡ y
-same_name-is x y p = same_text x y (sym p)
-
-pub same_name-refl : (x : List ℕ) → pointwise nat_eq x x ≡ true
-same_name-refl x = (bytes_decides x x).1 refl
+use Rattle.lh_unit.proofs.Defining.{definition-tells, IsDefinition-with_arg, IsDefinition-with_line, IsDefinition-same, arg-defines, line-defines, once-with_arg, once-with_line}
+use Rattle.lh_unit.proofs.Lists.{Same, same, other, same_or, nat_eq-refl, nat_eq-other, or_false, or_true, or-assoc, get_or-push_default, front_last, map-ext, map-same, flat-append}
+use Rattle.lh_names.proofs.Lists.{Trichotomy, before, at, past, trichotomy, slice_get-push, slice_get-push_before, AllDistinct-push}
+use Rattle.lh_names.proofs.NameLists.{absent}
 
 -- bounds that grow
 ArgsWithin-more : (n m : ℕ) (xs : List Arg) → n ≤ m → ArgsWithin n xs → ArgsWithin m xs
@@ -106,9 +98,6 @@ FitsKind-block (Some kind.Proc) t b s h f = (f.0, BlocksWithin-push _ t.blocks b
 FitsKind-block (Some kind.Entity) t b s h f = absurd s
 
 -- a new value
-pub absent : (ns : List (List ℕ)) (n : List ℕ) → has_name ns n ≡ false → (i : ℕ) → slice_get ns i ≡ Some n → ⊥
-absent ns n a i = other_keys (pointwise nat_eq) same_name-is same_name-refl ns n i (sym a)
-
 pub IsTable-new_value : (t : Table) (n : List ℕ) → has_name t.values n ≡ false → length t.values < 2 ^ 32 - 1 → IsTable t → IsTable (record t { values = t.values ++ n ∷ [] })
 IsTable-new_value t n a room o = record {
   values_distinct = AllDistinct-push t.values n o.values_distinct (absent t.values n a);
@@ -538,10 +527,6 @@ not_block t b body o h e f = sym (o.blocks_stand b) ∙ ap is_some (sym (get_or_
 
 pub is_block-told : (t : Table) (b : ℕ) (body : Option (List InstId)) → IsTable t → b < length t.bodies → body ≡ get_or t.bodies b body → is_some body ≡ true → is_block t.blocks b ≡ true
 is_block-told t b body o h e f = sym (o.blocks_stand b) ∙ ap is_some (sym (get_or_read t.bodies b body h e None)) ∙ f
-
--- a name that was inserted
-pub inserted : (ks new : List (List ℕ)) (n m : List ℕ) → m ≡ n → new ≡ insert_key (pointwise nat_eq) ks m → false ≡ has_name ks n → new ≡ ks ++ n ∷ []
-inserted ks new n m e f g = f ∙ ap (insert_key (pointwise nat_eq) ks) e ∙ rw (← g) refl
 
 -- what a definition that was read told
 pub definition-read : (t : Table) (defs : List ValueDef) (k : ℕ) (d : ValueDef) → Definitions t defs → k < length t.values → d ≡ get_or defs k d → IsDefinition t k d

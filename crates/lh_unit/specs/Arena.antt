@@ -2,10 +2,11 @@
 use Rattle.std.specs.Prelude.{◌≡◌, ℕ, ◌+◌, ◌^◌, ◌≤◌, ◌<◌, List, [], ◌∷◌, ◌++◌, length, map, Option, Some, IsSome, IsSomeAnd, slice_get, slice_index_or, nat_eq, if◌then◌else◌}
 use Rattle.lh_types.specs.Types.{TypeTree}
 use Rattle.lh_unit.specs.Contents.{ItemText, UnitText, InstText, unit_text, declare_text, last_unit}
-use Rattle.lh_unit.specs.Table.{Table, no_table, line_at, insts_at, IsTable, AllDistinct}
+use Rattle.lh_unit.specs.Table.{Table, no_table, line_at, insts_at, IsTable}
+use Rattle.lh_names.specs.Distinct.{AllDistinct}
 use Rattle.lh_unit.specs.Within.{Sizes, sizes_of, InstWithin}
 use Rattle.lh_unit.specs.Naming.{Naming, naming_of, inst_text, table_text}
-use Rattle.lh_unit.specs.declared.name.UnitName.{UnitName}
+use Rattle.lh_names.specs.declared.name.UnitName.{UnitName}
 use Rattle.lh_unit.specs.declared.inst.UnitId.{UnitId}
 use Rattle.lh_unit.specs.declared.inst.BlockId.{BlockId}
 use Rattle.lh_unit.specs.declared.inst.InstId.{InstId}

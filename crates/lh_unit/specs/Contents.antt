@@ -1,12 +1,11 @@
 -- What a file says, with names in place of ids: the items in file order.
 use Rattle.std.specs.Prelude.{ℕ, ◌+◌, Bool, false, ◌||◌, List, [], ◌∷◌, ◌++◌, length, Option, Some, None}
-use lib.Pointwise.{pointwise}
-use Rattle.std.specs.Prelude.{◌==◌}
 use Rattle.lh_types.specs.Types.{TypeTree, void_type}
 use Rattle.lh_types.specs.Values.{Datum}
 use Rattle.lh_types.specs.declared.op.Op.{Op}
-use Rattle.lh_unit.specs.UnitNames.{same_unit_name}
-use Rattle.lh_unit.specs.declared.name.UnitName.{UnitName}
+use Rattle.lh_names.specs.Names.{same_name}
+use Rattle.lh_names.specs.UnitNames.{same_unit_name}
+use Rattle.lh_names.specs.declared.name.UnitName.{UnitName}
 use Rattle.lh_unit.specs.declared.inst.UnitKind.{UnitKind}
 use Rattle.lh_unit.specs.declared.inst.UnitKind.TheVariants as kind
 use Rattle.lh_unit.specs.declared.inst.Mode.{Mode}
@@ -123,9 +122,6 @@ with_line l u = record u { blocks = line_at_end l u.blocks }
 abbrev pub line_count : List BlockText → ℕ
 line_count [] = 0
 line_count (b ∷ more) = length b.lines + line_count more
-
-abbrev pub same_name : List ℕ → List ℕ → Bool
-same_name = pointwise ◌==◌
 
 -- whether an item of the file defines a unit of this name
 abbrev pub defines_unit : UnitName → List ItemText → Bool

@@ -1,6 +1,3 @@
-pub mod Names
-pub mod NameBytes
-pub mod UnitNames
 pub mod Constants
 pub mod Contents
 pub mod Lexemes
@@ -20,7 +17,6 @@ pub mod CanonTypes
 pub mod Canon
 pub mod Table
 pub mod TableCalls
-pub mod NameTables
 pub mod TableOf
 pub mod Within
 pub mod Naming

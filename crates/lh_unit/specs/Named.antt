@@ -1,10 +1,10 @@
 -- Units, blocks and labels by their names.
-use Rattle.std.specs.Prelude.{ℕ, List, [], ◌∷◌, Bool, true, false, ◌&&◌, nat_eq, if◌then◌else◌, Option, Some, None, codes}
-use Rattle.lh_unit.specs.declared.name.UnitName.{UnitName}
+use Rattle.std.specs.Prelude.{ℕ, List, [], ◌∷◌, Bool, true, false, if◌then◌else◌, Option, Some, None}
+use Rattle.lh_names.specs.declared.name.UnitName.{UnitName}
 use Rattle.lh_unit.specs.declared.inst.UnitKind.{UnitKind}
 use Rattle.lh_unit.specs.declared.inst.UnitKind.TheVariants as kind
-use Rattle.lh_unit.specs.UnitNames.{same_unit_name}
-use Rattle.lh_unit.specs.Contents.{BlockText, UnitText, ItemText, unit_text, declare_text, is_result_name, same_name}
+use Rattle.lh_names.specs.UnitNames.{same_unit_name}
+use Rattle.lh_unit.specs.Contents.{BlockText, UnitText, ItemText, unit_text, declare_text, is_result_name}
 
 -- the unit of this name
 abbrev pub unit_named : UnitName → List ItemText → Option UnitText
@@ -21,10 +21,6 @@ block_of n (b ∷ more) = if is_result_name n b.label then Some b else block_of 
 abbrev pub function_named : UnitName → List UnitText → Option UnitText
 function_named n [] = None
 function_named n (u ∷ more) = if same_unit_name u.name n then Some u else function_named n more
-
--- `@llhd.assert`
-abbrev pub is_assert : UnitName → Bool
-is_assert n = nat_eq n.sigil 64 && same_name n.name (codes "llhd.assert")
 
 -- a function, and neither a process nor an entity
 abbrev pub is_function : UnitKind → Bool

@@ -2,6 +2,7 @@
 use Rattle.std.specs.Prelude.{◌≡◌, ℕ, ◌+◌, ◌^◌, ◌≤◌, ◌<◌, Bool, true, false, ◌||◌, nat_eq, List, [], ◌∷◌, ◌++◌, length, map, Option, Some, None, IsSome, is_some, unwrap_or, slice_get, slice_index_or, slice_set}
 use Rattle.std.specs.Option.{option_map}
 use Rattle.lh_types.specs.Types.{TypeTree}
+use Rattle.lh_names.specs.Distinct.{AllDistinct}
 use Rattle.lh_unit.specs.declared.inst.UnitKind.{UnitKind}
 use Rattle.lh_unit.specs.declared.inst.UnitKind.TheVariants as kind
 use Rattle.lh_unit.specs.declared.inst.BlockId.{BlockId}
@@ -81,10 +82,6 @@ has_definition (value_def.Inst i) = true
 abbrev pub is_block : List BlockId → ℕ → Bool
 is_block [] k = false
 is_block (b ∷ more) k = nat_eq b.0 k || is_block more k
-
--- no key stands twice
-abbrev pub AllDistinct : {K : Type 0} → List K → Type 0
-AllDistinct {K} ks = (i j : ℕ) (k : K) → slice_get ks i ≡ Some k → slice_get ks j ≡ Some k → i ≡ j
 
 -- the lists, one after another
 abbrev pub flat : {X : Type 0} → List (List X) → List X

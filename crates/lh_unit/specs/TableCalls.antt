@@ -1,9 +1,8 @@
 -- What each call on one unit answers, and what it does to the unit's table.
-use Rattle.std.specs.Prelude.{◌≡◌, ℕ, ◌-◌, ◌<◌, Bool, true, false, if◌then◌else◌, List, [], ◌∷◌, ◌++◌, length, Option, Some, None, Result, Ok, Err, slice_get, slice_set, slice_index_or, nat_eq}
-use Rattle.std.specs.List.{list_any}
-use lib.Pointwise.{pointwise}
+use Rattle.std.specs.Prelude.{◌≡◌, ℕ, ◌-◌, ◌<◌, true, false, if◌then◌else◌, List, [], ◌∷◌, ◌++◌, length, Option, Some, None, Result, Ok, Err, slice_get, slice_set, slice_index_or}
 use Rattle.lh_types.specs.Types.{TypeTree, void_type}
 use Rattle.lh_types.specs.declared.ty.NoMemory.{NoMemory}
+use Rattle.lh_names.specs.Distinct.{has_name}
 use Rattle.lh_unit.specs.Table.{Table, is_block, is_defined, result_defined, entity_block, insts_at}
 use Rattle.lh_unit.specs.declared.inst.UnitKind.{UnitKind}
 use Rattle.lh_unit.specs.declared.inst.UnitKind.TheVariants as kind
@@ -14,10 +13,6 @@ use Rattle.lh_unit.specs.declared.inst.Inst.{Inst}
 use Rattle.lh_unit.specs.declared.inst.Arg.{Arg}
 use Rattle.lh_unit.specs.declared.inst.UnitFault.{UnitFault}
 use Rattle.lh_unit.specs.declared.inst.UnitFault.TheVariants as fault
-
--- whether the name stands among these
-abbrev pub has_name : List (List ℕ) → List ℕ → Bool
-has_name names n = list_any (pointwise nat_eq n) names
 
 -- the table with an entry for the name of a value
 abbrev pub with_value : Table → List ℕ → Table

@@ -3,7 +3,7 @@ ghost use Rattle.std.specs.Prelude.{◌≡◌};
 ghost use Rattle.lh_unit.specs.ById.{is_sig};
 
 use crate::constant::Constant;
-use crate::name::{Name, UnitName};
+use lh_names::name::{Name, UnitName};
 use lh_types::few::FewOf;
 use lh_types::list::ListOf;
 use lh_types::op::Op;

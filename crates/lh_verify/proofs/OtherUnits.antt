@@ -4,7 +4,8 @@ use Rattle.std.specs.Prelude.{filter}
 use Rattle.std.specs.Option.{option_map_or}
 use Rattle.lh_types.specs.Types.{TypeTree, same_type}
 use Rattle.lh_unit.specs.Contents.{ArgText, UnitText, defines_unit}
-use Rattle.lh_unit.specs.Named.{unit_named, is_assert, is_function}
+use Rattle.lh_unit.specs.Named.{unit_named, is_function}
+use Rattle.lh_names.specs.UnitNames.{is_assert}
 use Rattle.lh_unit.specs.Naming.{arg_text, kind_text}
 use Rattle.lh_unit.specs.Table.{FitsKind}
 use Rattle.lh_unit.specs.Arena.{Arena, IsArena, unit_text_at, naming, table_at, kind_at, args_at, result_type_at, unit_count, unit_name_at}

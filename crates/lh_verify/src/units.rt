@@ -3,7 +3,7 @@ ghost use Rattle.std.specs.Prelude.{◌≡◌, ◌<◌, ◌||◌, not};
 ghost use Rattle.std.specs.Option.{is_some};
 ghost use Rattle.lh_unit.specs.Arena.{IsArena, kind_at};
 ghost use Rattle.lh_unit.specs.Contents.{defines_unit};
-ghost use Rattle.lh_unit.specs.Named.{is_assert};
+ghost use Rattle.lh_names.specs.UnitNames.{is_assert};
 ghost use Rattle.lh_unit.specs.WellFormed.{is_function_name};
 ghost use Rattle.lh_verify.specs.OperandTests.{is_function_kind};
 ghost use Rattle.lh_facts.specs.Facts.{IsScope, items_in, naming_in, sizes_in};

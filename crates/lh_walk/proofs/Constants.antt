@@ -4,7 +4,8 @@ use Rattle.std.specs.Option.{is_some, option_and_then, option_map, option_map_or
 use Rattle.std.proofs.lemmas.Option.{same_Some, none-some}
 use Rattle.lh_types.specs.Types.{TypeTree}
 use Rattle.lh_unit.specs.ById.{maybe_id}
-use Rattle.lh_unit.specs.Contents.{ArgText, LineText, same_name}
+use Rattle.lh_unit.specs.Contents.{ArgText, LineText}
+use Rattle.lh_names.specs.Names.{same_name}
 use Rattle.lh_unit.specs.Naming.{Naming, maybe_text, inst_text}
 use Rattle.lh_unit.specs.Typing.{carried, or_else}
 use Rattle.lh_unit.specs.Within.{Each}
@@ -12,7 +13,7 @@ use Rattle.lh_unit.specs.declared.inst.ValueId.{ValueId}
 use Rattle.lh_unit.specs.declared.inst.Inst.{Inst}
 use Rattle.lh_unit.specs.declared.inst.Inst.TheVariants as inst
 use Rattle.lh_unit.proofs.Lists.{Same, same, other, same_or, nat_eq-refl, nat_eq-other, nat_eq-is}
-use Rattle.lh_unit.proofs.Tables.{same_name-is, same_name-refl}
+use Rattle.lh_names.proofs.NameLists.{same_name-is, same_name-refl}
 use Rattle.lh_flat.specs.declared.flat.Merge.{Merge}
 use Rattle.lh_flat.specs.declared.flat.FlatInst.{FlatInst}
 use Rattle.lh_flat.specs.declared.flat.FlatBlock.{FlatBlock}

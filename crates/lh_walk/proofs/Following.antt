@@ -1,7 +1,7 @@
 -- The second region starts where all ends of the first one wait, by the values that parts had before.
 use Rattle.std.proofs.Common.{◌≡◌, inr, ℕ, ◌+◌, ◌<◌, true, false, List, [], ◌∷◌, length, Option, Some, None, slice_get, refl, ap, sym, ◌∙◌, subst, arith}
 use Rattle.std.proofs.lemmas.Option.{slice_get_within}
-use Rattle.lh_unit.specs.declared.name.UnitName.{UnitName}
+use Rattle.lh_names.specs.declared.name.UnitName.{UnitName}
 use Rattle.lh_unit.specs.Contents.{UnitText}
 use Rattle.lh_unit.specs.Naming.{Naming}
 use Rattle.lh_unit.specs.Within.{Each}

@@ -3,7 +3,7 @@ use Rattle.std.proofs.Common.{◌≡◌, ℕ, ◌+◌, ◌<◌, Bool, true, fals
 use Rattle.std.specs.Option.{option_map, option_map_or, is_some}
 use Rattle.lh_types.specs.Types.{TypeTree}
 use Rattle.lh_types.specs.Values.{Datum}
-use Rattle.lh_unit.specs.declared.name.UnitName.{UnitName}
+use Rattle.lh_names.specs.declared.name.UnitName.{UnitName}
 use Rattle.lh_unit.specs.ById.{blocks_named}
 use Rattle.lh_unit.specs.Contents.{const_text, LineText, BlockText, UnitText}
 use Rattle.lh_unit.specs.Held.{datum_held}

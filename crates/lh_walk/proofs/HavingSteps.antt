@@ -8,21 +8,22 @@ use Rattle.lh_types.specs.Parts.{part_range}
 use Rattle.lh_types.specs.declared.op.Op.{Op}
 use Rattle.lh_types.specs.declared.part.Range.{Range}
 use Rattle.lh_types.specs.declared.part.Step.{Step}
-use Rattle.lh_unit.specs.declared.name.UnitName.{UnitName}
+use Rattle.lh_names.specs.declared.name.UnitName.{UnitName}
 use Rattle.lh_unit.specs.declared.inst.Arg.{Arg}
 use Rattle.lh_unit.specs.declared.inst.Inst.{Inst}
 use Rattle.lh_unit.specs.declared.inst.Inst.TheVariants as inst
 use Rattle.lh_unit.specs.declared.inst.Typed.{Typed}
 use Rattle.lh_unit.specs.declared.inst.ValueId.{ValueId}
 use Rattle.lh_unit.specs.ById.{maybe_id, values_used}
-use Rattle.lh_unit.specs.Contents.{OperandText, pure_text, LineText, ArgText, UnitText, same_name, args_define}
+use Rattle.lh_unit.specs.Contents.{OperandText, pure_text, LineText, ArgText, UnitText, args_define}
+use Rattle.lh_names.specs.Names.{same_name}
 use Rattle.lh_unit.specs.Effects.{step_of}
 use Rattle.lh_unit.specs.Hierarchy.{lines_of}
 use Rattle.lh_unit.specs.Naming.{Naming, operand_text, arg_text, inst_text}
 use Rattle.lh_unit.specs.Typing.{carried, or_else, value_type, result_type}
 use Rattle.lh_unit.specs.Within.{Each}
 use Rattle.lh_unit.proofs.Lists.{nat_eq-is, Each-append}
-use Rattle.lh_unit.proofs.Tables.{same_name-refl}
+use Rattle.lh_names.proofs.NameLists.{same_name-refl}
 use Rattle.lh_unit.proofs.Within.{Each-more}
 use Rattle.lh_formed.specs.Parts.{TakesPart, HasPart}
 use Rattle.lh_formed.proofs.PartsLaw.{parts_have_ranges}

@@ -4,12 +4,13 @@ use Rattle.std.specs.Bool.{if◌then◌else◌}
 use Rattle.std.specs.Option.{option_map, option_map_or}
 use Rattle.lh_types.specs.Types.{TypeTree}
 use Rattle.lh_types.specs.declared.op.Op.TheVariants.{Not}
-use Rattle.lh_unit.specs.Contents.{InstText, const_text, pure_text, var_text, ld_text, st_text, prb_text, drv_text, call_text, phi_text, br_text, branch_text, wait_text, halt_text, LineText, BlockText, ArgText, UnitText, same_name}
-use Rattle.lh_unit.specs.declared.name.UnitName.{UnitName}
+use Rattle.lh_unit.specs.Contents.{InstText, const_text, pure_text, var_text, ld_text, st_text, prb_text, drv_text, call_text, phi_text, br_text, branch_text, wait_text, halt_text, LineText, BlockText, ArgText, UnitText}
+use Rattle.lh_names.specs.Names.{same_name}
+use Rattle.lh_names.specs.declared.name.UnitName.{UnitName}
 use Rattle.lh_unit.specs.Kinds.{uses}
 use Rattle.lh_unit.specs.Typing.{value_type, carried}
 use Rattle.lh_unit.specs.Within.{Each}
-use Rattle.lh_unit.proofs.Tables.{same_name-is}
+use Rattle.lh_names.proofs.NameLists.{same_name-is}
 use Rattle.lh_unit.proofs.Lists.{Each-append}
 use Rattle.lh_inlined.specs.Formed.{IsFormed}
 use Rattle.lh_formed.specs.KindsOf.{HasTypeOfKind}

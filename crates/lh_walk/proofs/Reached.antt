@@ -1,11 +1,11 @@
 -- A place of a turn: where edges lead to it, it begins and is treated as in the definition; where none does, nothing is done.
 use Rattle.std.proofs.Common.{◌≡◌, inr, ℕ, zero, suc, ◌+◌, ◌<◌, ◌≤◌, List, [], ◌∷◌, length, Option, Some, None, slice_get, refl, ap, sym, ◌∙◌, subst, arith}
 use Rattle.std.specs.Option.{option_map_or}
-use Rattle.lh_unit.specs.declared.name.UnitName.{UnitName}
+use Rattle.lh_names.specs.declared.name.UnitName.{UnitName}
 use Rattle.lh_unit.specs.Contents.{BlockText, UnitText}
 use Rattle.lh_unit.specs.Naming.{Naming}
 use Rattle.lh_unit.specs.Within.{Each}
-use Rattle.lh_unit.proofs.Lists.{slice_get-push}
+use Rattle.lh_names.proofs.Lists.{slice_get-push}
 use Rattle.lh_flat.specs.declared.flat.FlatBlock.{FlatBlock}
 use Rattle.lh_flat.specs.Flat.{FlatBlockText}
 use Rattle.lh_flat.specs.Reads.{flat_block_text}

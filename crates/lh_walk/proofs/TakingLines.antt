@@ -7,7 +7,7 @@ use Rattle.lh_types.specs.Types.{TypeTree, signal_type, IsData}
 use Rattle.lh_types.specs.declared.op.Op.{Op}
 use Rattle.lh_types.specs.declared.part.Step.{Step}
 use Rattle.lh_types.specs.Values.{Datum}
-use Rattle.lh_unit.specs.declared.name.UnitName.{UnitName}
+use Rattle.lh_names.specs.declared.name.UnitName.{UnitName}
 use Rattle.lh_unit.specs.declared.inst.UnitKind.TheVariants as kind
 use Rattle.lh_unit.specs.declared.inst.Inst.{Inst}
 use Rattle.lh_unit.specs.declared.inst.Inst.TheVariants as inst
@@ -15,7 +15,8 @@ use Rattle.lh_unit.specs.declared.inst.Typed.{Typed}
 use Rattle.lh_unit.specs.declared.inst.ValueId.{ValueId}
 use Rattle.lh_unit.specs.declared.inst.UnitId.{UnitId}
 use Rattle.lh_unit.specs.ById.{operand_ids, maybe_id, values_used}
-use Rattle.lh_unit.specs.Contents.{OperandText, LineText, UnitText, same_name}
+use Rattle.lh_unit.specs.Contents.{OperandText, LineText, UnitText}
+use Rattle.lh_names.specs.Names.{same_name}
 use Rattle.lh_unit.specs.Effects.{step_of}
 use Rattle.lh_unit.specs.Held.{front}
 use Rattle.lh_unit.specs.Kinds.{Use, all_used, data_or_time_needed}
@@ -24,7 +25,7 @@ use Rattle.lh_unit.specs.Typing.{value_type, is_value_type, result_type, carried
 use Rattle.lh_unit.specs.TypingRows.{bit}
 use Rattle.lh_unit.specs.WellFormed.{assert_args}
 use Rattle.lh_unit.specs.Within.{Each}
-use Rattle.lh_unit.proofs.Tables.{same_name-is}
+use Rattle.lh_names.proofs.NameLists.{same_name-is}
 use Rattle.lh_formed.specs.Calls.{ArgumentsAre}
 use Rattle.lh_formed.specs.Defined.{IsThere, OperandsThere}
 use Rattle.lh_formed.specs.Operands.{IsOf, RowIs}

@@ -1,7 +1,7 @@
 -- A turn and all turns: what each place passes, a turn passes, and what each turn passes, all of them.
 use Rattle.std.proofs.Common.{◌≡◌, ◌⊎◌, inl, inr, ℕ, zero, suc, ◌+◌, ◌-◌, ◌<◌, ◌≤◌, List, [], ◌∷◌, length, true, ◌&&◌, refl, sym, ◌∙◌, subst, arith}
 use Rattle.std.proofs.lemmas.List.{append-nil}
-use Rattle.lh_unit.specs.declared.name.UnitName.{UnitName}
+use Rattle.lh_names.specs.declared.name.UnitName.{UnitName}
 use Rattle.lh_unit.specs.Naming.{Naming}
 use Rattle.lh_term.specs.Arena.{Grows}
 use Rattle.lh_term.specs.declared.term.Node.{Node}

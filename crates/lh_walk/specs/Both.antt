@@ -1,6 +1,6 @@
 -- Both regions of a process: the one from the head on, and the one from where that waits.
 use Rattle.std.specs.Prelude.{◌≡◌, ℕ, List, true, false, Some, length, slice_get}
-use Rattle.lh_unit.specs.declared.name.UnitName.{UnitName}
+use Rattle.lh_names.specs.declared.name.UnitName.{UnitName}
 use Rattle.lh_unit.specs.Naming.{Naming}
 use Rattle.lh_flat.specs.declared.flat.FlatBlock.{FlatBlock}
 use Rattle.lh_flat.specs.Reads.{flat_text}

@@ -1,7 +1,7 @@
 -- The turns of a walk: the places of a turn are treated in the order of their blocks, and a region is gone through turn by turn.
 use Rattle.std.specs.Prelude.{◌≡◌, ◌⊎◌, ℕ, ◌+◌, ◌<◌, List, [], ◌∷◌, length, map, true, false, Some, slice_get}
 use Rattle.std.specs.List.{flat_map}
-use Rattle.lh_unit.specs.declared.name.UnitName.{UnitName}
+use Rattle.lh_names.specs.declared.name.UnitName.{UnitName}
 use Rattle.lh_unit.specs.Naming.{Naming}
 use Rattle.lh_unit.specs.Within.{Each}
 use Rattle.lh_flat.specs.declared.flat.FlatBlock.{FlatBlock}

@@ -1,6 +1,6 @@
 -- A walk through the places of a region by ids beside the walk of the definition: in the midst of a place, and between places.
 use Rattle.std.specs.Prelude.{◌≡◌, ◌⊎◌, ℕ, ◌+◌, ◌≤◌, List, [], ◌∷◌, ◌++◌, length, Bool, true, false, Option, Some, None, slice_get}
-use Rattle.lh_unit.specs.declared.name.UnitName.{UnitName}
+use Rattle.lh_names.specs.declared.name.UnitName.{UnitName}
 use Rattle.lh_unit.specs.Contents.{LineText, UnitText}
 use Rattle.lh_unit.specs.Naming.{Naming}
 use Rattle.lh_unit.specs.Within.{Each}

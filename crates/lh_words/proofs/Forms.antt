@@ -3,7 +3,7 @@ use Rattle.std.proofs.Common.{◌≡◌, ℕ, ◌≤◌, List, [], ◌∷◌, le
 use Rattle.std.specs.Prelude.{codes, MatchBool, IfNone}
 use Rattle.std.specs.List.{flat_map}
 use Rattle.std.specs.Str.{bytes_eq}
-use Rattle.lh_unit.specs.declared.name.UnitName.{UnitName}
+use Rattle.lh_names.specs.declared.name.UnitName.{UnitName}
 use Rattle.lh_unit.specs.Numerals.{number_of}
 use Rattle.lh_words.specs.Forms.{Choice, spelled, names_in, numbers_in, titles_in, vcds_in, name_meant, IsCount, max_steps, SimulateRequest, Simulates, FileRequest, check, lower, simulate, WordsAskFor, WordsAskForSelfTest}
 use Rattle.lh_words.specs.declared.found.FoundOptions.{FoundOptions}

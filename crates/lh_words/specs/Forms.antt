@@ -1,7 +1,7 @@
 -- The forms that the words of the command line have, and what each asks for.
 use Rattle.std.specs.Prelude.{◌≡◌, ℕ, zero, suc, ◌≤◌, Bool, ◌||◌, nat_eq, List, [], ◌∷◌, length, codes, Some, if◌then◌else◌, MatchBool}
 use Rattle.std.specs.List.{flat_map}
-use Rattle.lh_unit.specs.declared.name.UnitName.{UnitName}
+use Rattle.lh_names.specs.declared.name.UnitName.{UnitName}
 use Rattle.lh_unit.specs.Numerals.{number_of}
 
 -- An option of `simulate`. The word behind `--top`, `--steps` or `--watch` is its value, whatever it is.

@@ -1,7 +1,7 @@
 -- What a command of the program stands for.
 use Rattle.std.specs.Prelude.{ℕ, ◌||◌, List, [], ◌∷◌, codes, if◌then◌else◌}
 use Rattle.std.specs.Str.{bytes_eq}
-use Rattle.lh_unit.specs.declared.name.UnitName.{UnitName}
+use Rattle.lh_names.specs.declared.name.UnitName.{UnitName}
 use Rattle.lh_words.specs.declared.choice.Setting.{Setting}
 use Rattle.lh_words.specs.declared.choice.Setting.TheVariants as setting
 use Rattle.lh_words.specs.declared.command.Top.{Top}

@@ -1,13 +1,8 @@
 //! Activations and tops, by worked rows. All of them are worked out by hand from the definition of the language.
-use crate::running::{Faults, run_with};
+use super::runs;
 use std::alloc::Global;
+use std::process::Abort;
 use std::test::Fail;
-
-const NONE: Faults = Faults {
-    src: 0,
-    out: 0,
-    log: 0,
-};
 
 const QUIET: &[u8] = b"@ 0fs 0d 0e\nend quiet\n";
 
@@ -193,10 +188,7 @@ fn activations(rt: HostRuntime) -> Result<(), Fail> {
     ];
     for (k, (text, steps, out)) in rows.iter().enumerate() {
         let words: [&[u8]; 5] = [b"simulate", b"--top", b"t", b"--steps", *steps];
-        let left = run_with(rt.alloc(), &words, *text, NONE)?;
-        assert_eq!(rt; left.code, 0, "row {k}");
-        assert!(rt; left.out.written() == *out, "row {k}");
-        assert!(rt; left.log.written().is_empty(), "row {k}");
+        runs(&rt, rt.alloc(), k, &words, *text, (0, *out, b""))?;
     }
     Ok(())
 }
@@ -253,48 +245,27 @@ done:\n\
 \x20   halt\n\
 }\n";
 
+const OVERRUN: (u8, &[u8], &[u8]) = (10, RUNAWAY, b"runaway in instance 0\n");
+
+// So many calls are open at once.
+fn deep(alloc: Global, calls: &[u8]) -> Result<Vec<u8>, Fail> {
+    joined(alloc, &[DEPTH_HEAD, calls, DEPTH_TAIL])
+}
+
 // 256 open calls and 1,000,000 instructions come to an end, one more of either does not.
 #[test]
 fn both_budgets(rt: HostRuntime) -> Result<(), Fail> {
     let alloc = rt.alloc();
-    let rows = [
-        (
-            joined(alloc, &[DEPTH_HEAD, b"255".as_slice(), DEPTH_TAIL])?,
-            true,
-        ),
-        (
-            joined(alloc, &[DEPTH_HEAD, b"256".as_slice(), DEPTH_TAIL])?,
-            false,
-        ),
-        (joined(alloc, &[TURNS_HEAD, TURNS_TAIL])?, true),
-        (
-            joined(
-                alloc,
-                &[
-                    TURNS_HEAD,
-                    b"    %e4 = const i32 0\n".as_slice(),
-                    TURNS_TAIL,
-                ],
-            )?,
-            false,
-        ),
-    ];
     let words: [&[u8]; 5] = [b"simulate", b"--top", b"t", b"--steps", b"3"];
-    for (k, (text, ends)) in rows.iter().enumerate() {
-        let left = run_with(alloc, &words, text.as_slice(), NONE)?;
-        if *ends {
-            assert_eq!(rt; left.code, 0, "row {k}");
-            assert!(rt; left.out.written() == QUIET, "row {k}");
-        } else {
-            assert_eq!(rt; left.code, 10, "row {k}");
-            assert!(rt; left.out.written() == RUNAWAY, "row {k}");
-            assert!(rt;
-                left.log.written() == b"runaway in instance 0\n".as_slice(),
-                "row {k}"
-            );
-        }
-    }
-    Ok(())
+    let text = deep(alloc, b"255")?;
+    runs(&rt, alloc, 0, &words, text.as_slice(), (0, QUIET, b""))?;
+    let text = deep(alloc, b"256")?;
+    runs(&rt, alloc, 1, &words, text.as_slice(), OVERRUN)?;
+    let text = joined(alloc, &[TURNS_HEAD, TURNS_TAIL])?;
+    runs(&rt, alloc, 2, &words, text.as_slice(), (0, QUIET, b""))?;
+    let one_more = b"    %e4 = const i32 0\n".as_slice();
+    let text = joined(alloc, &[TURNS_HEAD, one_more, TURNS_TAIL])?;
+    runs(&rt, alloc, 3, &words, text.as_slice(), OVERRUN)
 }
 
 // Names of two letters, from `aa` on.
@@ -343,27 +314,37 @@ fn wide(alloc: Global, signals: usize) -> Result<Vec<u8>, Fail> {
     Ok(text)
 }
 
+// A run of the first of these units leaves this.
+fn top_runs(
+    rt: &impl Abort,
+    alloc: Global,
+    row: usize,
+    text: Result<Vec<u8>, Fail>,
+    want: (u8, &[u8], &[u8]),
+) -> Result<(), Fail> {
+    let text = text?;
+    let words: [&[u8]; 5] = [b"simulate", b"--top", b"aa", b"--steps", b"1"];
+    runs(rt, alloc, row, &words, text.as_slice(), want)
+}
+
 // Each refusal of a top, and which comes first: a cycle, then the depth, then the instances, then the bits. The doubling
 // chains would have up to 2 ^ 64 instances.
 #[test]
 fn tops_that_are_too_large(rt: HostRuntime) -> Result<(), Fail> {
     let alloc = rt.alloc();
-    let rows: [(Vec<u8>, u8, &[u8], &[u8]); 8] = [
-        (chain(alloc, 64, 1, 64)?, 0, QUIET, b""),
-        (chain(alloc, 65, 1, 65)?, 8, b"", b"top: TooDeep\n"),
-        (chain(alloc, 70, 1, 69)?, 8, b"", b"top: InstCycle @cr\n"),
-        (chain(alloc, 3, 2, 0)?, 8, b"", b"top: InstCycle @aa\n"),
-        (chain(alloc, 17, 2, 17)?, 8, b"", b"top: TooManyInstances\n"),
-        (chain(alloc, 64, 2, 64)?, 8, b"", b"top: TooManyInstances\n"),
-        (chain(alloc, 65, 2, 65)?, 8, b"", b"top: TooDeep\n"),
-        (wide(alloc, 257)?, 8, b"", b"top: TooManyBits\n"),
+    let rows: [(usize, usize, usize, u8, &[u8], &[u8]); 7] = [
+        (64, 1, 64, 0, QUIET, b""),
+        (65, 1, 65, 8, b"", b"top: TooDeep\n"),
+        (70, 1, 69, 8, b"", b"top: InstCycle @cr\n"),
+        (3, 2, 0, 8, b"", b"top: InstCycle @aa\n"),
+        (17, 2, 17, 8, b"", b"top: TooManyInstances\n"),
+        (64, 2, 64, 8, b"", b"top: TooManyInstances\n"),
+        (65, 2, 65, 8, b"", b"top: TooDeep\n"),
     ];
-    let words: [&[u8]; 5] = [b"simulate", b"--top", b"aa", b"--steps", b"1"];
-    for (k, (text, code, out, log)) in rows.iter().enumerate() {
-        let left = run_with(alloc, &words, text.as_slice(), NONE)?;
-        assert_eq!(rt; left.code, *code, "row {k}");
-        assert!(rt; left.out.written() == *out, "row {k}");
-        assert!(rt; left.log.written() == *log, "row {k}");
+    for (k, (count, copies, back, code, out, log)) in rows.iter().enumerate() {
+        let text = chain(alloc, *count, *copies, *back);
+        top_runs(&rt, alloc, k, text, (*code, *out, *log))?;
     }
-    Ok(())
+    let text = wide(alloc, 257);
+    top_runs(&rt, alloc, 7, text, (8, b"", b"top: TooManyBits\n"))
 }

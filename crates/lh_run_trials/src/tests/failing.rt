@@ -1,7 +1,9 @@
 //! Simulations in which each single call of the source, of the output and of the log fails in turn.
 use super::simulations::{ACCUMULATOR_TRACE, FAILS};
 use super::texts::ACCUMULATOR;
-use crate::running::{Faults, run_with};
+use super::{NONE, has_left};
+use crate::running::{Faults, Left, run_with};
+use std::process::Abort;
 use std::test::Fail;
 
 const ACCUMULATE: [&[u8]; 7] = [
@@ -27,54 +29,53 @@ const FAIL: [&[u8]; 7] = [
 // The file takes as many reads of 50 bytes as it has, and one that finds its end.
 #[test]
 fn a_read_that_fails_leaves_nothing(rt: HostRuntime) -> Result<(), Fail> {
-    let reads = ACCUMULATOR.len().div_ceil(50) as u64 + 1;
-    for call in 1..reads + 2 {
+    let reads = ACCUMULATOR.len().div_ceil(50) + 1;
+    for read in 1..=reads {
         let faults = Faults {
-            src: call,
-            out: 0,
-            log: 0,
+            src: read as u64,
+            ..NONE
         };
         let left = run_with(rt.alloc(), &ACCUMULATE, ACCUMULATOR, faults)?;
-        if call <= reads {
-            assert_eq!(rt; left.code, 3, "read {call}");
-            assert!(rt; left.out.written().is_empty(), "read {call}");
-            assert!(rt;
-                left.log.written() == b"read fault\n".as_slice(),
-                "read {call}"
-            );
-            assert_eq!(rt; left.watchers, 3, "read {call}");
-        } else {
-            assert_eq!(rt; left.code, 0, "read {call}");
-        }
+        has_left(&rt, read, &left, 3, b"", b"read fault\n");
+        assert_eq!(rt; left.watchers, 3, "read {read}");
     }
+    let faults = Faults {
+        src: reads as u64 + 1,
+        ..NONE
+    };
+    assert_eq!(rt;
+        run_with(rt.alloc(), &ACCUMULATE, ACCUMULATOR, faults)?.code,
+        0
+    );
     Ok(())
+}
+
+// A run in which this write fails has left a part of the output, and no more than the status line; or it has left all.
+fn is_prefix(rt: &impl Abort, write: u64, left: &Left) {
+    let out = left.out.written();
+    assert!(rt; ACCUMULATOR_TRACE.starts_with(out), "write {write}");
+    if left.code == 4 {
+        assert!(rt; out.len() < ACCUMULATOR_TRACE.len(), "write {write}");
+        assert!(rt;
+            left.log.written() == b"write fault\n".as_slice(),
+            "write {write}"
+        );
+    } else {
+        assert_eq!(rt; left.code, 0, "write {write}");
+        assert_eq!(rt; out.len(), ACCUMULATOR_TRACE.len(), "write {write}");
+    }
 }
 
 // Until the output is whole, each call that fails leaves a prefix of it, and the log has the status line alone.
 #[test]
 fn a_write_that_fails_leaves_a_prefix(rt: HostRuntime) -> Result<(), Fail> {
     let mut is_whole = false;
-    for call in 1..40 {
-        let faults = Faults {
-            src: 0,
-            out: call,
-            log: 0,
-        };
+    for write in 1..40 {
+        let faults = Faults { out: write, ..NONE };
         let left = run_with(rt.alloc(), &ACCUMULATE, ACCUMULATOR, faults)?;
-        let out = left.out.written();
-        assert!(rt; ACCUMULATOR_TRACE.starts_with(out), "write {call}");
-        if left.code == 4 {
-            assert!(rt; !is_whole, "write {call}");
-            assert!(rt; out.len() < ACCUMULATOR_TRACE.len(), "write {call}");
-            assert!(rt;
-                left.log.written() == b"write fault\n".as_slice(),
-                "write {call}"
-            );
-        } else {
-            is_whole = true;
-            assert_eq!(rt; left.code, 0, "write {call}");
-            assert_eq!(rt; out.len(), ACCUMULATOR_TRACE.len(), "write {call}");
-        }
+        is_prefix(&rt, write, &left);
+        assert!(rt; !is_whole || left.code == 0, "write {write}");
+        is_whole = left.code == 0;
     }
     assert!(rt; is_whole);
     Ok(())
@@ -89,18 +90,12 @@ fn a_log_that_fails(rt: HostRuntime) -> Result<(), Fail> {
         (2, 9, b"untilfail 1\n"),
         (3, 9, b"untilfail 1\nassertion failed\n"),
     ];
-    for (call, code, log) in rows {
-        let faults = Faults {
-            src: 0,
-            out: 0,
-            log: call,
-        };
+    for (k, (call, code, log)) in rows.iter().enumerate() {
+        let faults = Faults { log: *call, ..NONE };
         let left = run_with(rt.alloc(), &FAIL, FAILS, faults)?;
         let out = b"@ 0fs 0d 0e\nassert 0 failed\nend stop untilfail\n";
-        assert_eq!(rt; left.code, code, "write {call}");
-        assert!(rt; left.out.written() == out.as_slice(), "write {call}");
-        assert!(rt; left.log.written() == log, "write {call}");
-        assert_eq!(rt; left.watchers, 1, "write {call}");
+        has_left(&rt, k, &left, *code, out, *log);
+        assert_eq!(rt; left.watchers, 1, "row {k}");
     }
     Ok(())
 }

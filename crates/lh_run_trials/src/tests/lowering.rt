@@ -1,5 +1,5 @@
 //! `lower` and `selftest`: what they write, and each call of the output and of the log failing in turn.
-use super::GOOD;
+use super::{GOOD, NONE, has_left, head};
 use crate::running::{Faults, run_with};
 use std::test::Fail;
 
@@ -34,18 +34,10 @@ entry:
 
 const REPORT: &[u8] = b"lowered @inv comb\nleft @rest TimedWait\n";
 
-const NONE: Faults = Faults {
-    src: 0,
-    out: 0,
-    log: 0,
-};
-
 #[test]
 fn processes_are_lowered(rt: HostRuntime) -> Result<(), Fail> {
     let left = run_with(rt.alloc(), &[b"lower"], PROCESSES, NONE)?;
-    assert_eq!(rt; left.code, 0);
-    assert!(rt; left.out.written() == LOWERED);
-    assert!(rt; left.log.written() == REPORT);
+    has_left(&rt, 0, &left, 0, LOWERED, REPORT);
     assert_eq!(rt; left.watchers, 3);
     Ok(())
 }
@@ -53,43 +45,31 @@ fn processes_are_lowered(rt: HostRuntime) -> Result<(), Fail> {
 // The output takes as many writes of 50 bytes as it has; until it is whole the log has the status line alone.
 #[test]
 fn a_write_of_the_module_that_fails(rt: HostRuntime) -> Result<(), Fail> {
-    let writes = LOWERED.len().div_ceil(50) as u64;
-    for call in 1..writes + 2 {
-        let left = run_with(
-            rt.alloc(),
-            &[b"lower"],
-            PROCESSES,
-            Faults { out: call, ..NONE },
-        )?;
-        let out = left.out.written();
-        assert!(rt; LOWERED.starts_with(out), "write {call}");
-        if call <= writes {
-            assert_eq!(rt; left.code, 4, "write {call}");
-            assert_eq!(rt; out.len() as u64, 50 * (call - 1), "write {call}");
-            assert!(rt;
-                left.log.written() == b"write fault\n".as_slice(),
-                "write {call}"
-            );
-        } else {
-            assert_eq!(rt; left.code, 0, "write {call}");
-            assert_eq!(rt; out.len(), LOWERED.len(), "write {call}");
-        }
+    let writes = LOWERED.len().div_ceil(50);
+    for write in 1..=writes {
+        let faults = Faults {
+            out: write as u64,
+            ..NONE
+        };
+        let left = run_with(rt.alloc(), &[b"lower"], PROCESSES, faults)?;
+        let out = head(LOWERED, 50 * (write - 1));
+        has_left(&rt, write, &left, 4, out, b"write fault\n");
     }
+    let faults = Faults {
+        out: writes as u64 + 1,
+        ..NONE
+    };
+    let left = run_with(rt.alloc(), &[b"lower"], PROCESSES, faults)?;
+    has_left(&rt, writes + 1, &left, 0, LOWERED, REPORT);
     Ok(())
 }
 
 // The log takes one write for the report.
 #[test]
 fn a_write_of_the_report_that_fails(rt: HostRuntime) -> Result<(), Fail> {
-    let left = run_with(
-        rt.alloc(),
-        &[b"lower"],
-        PROCESSES,
-        Faults { log: 1, ..NONE },
-    )?;
-    assert_eq!(rt; left.code, 4);
-    assert!(rt; left.out.written() == LOWERED);
-    assert!(rt; left.log.written() == b"write fault\n".as_slice());
+    let faults = Faults { log: 1, ..NONE };
+    let left = run_with(rt.alloc(), &[b"lower"], PROCESSES, faults)?;
+    has_left(&rt, 0, &left, 4, LOWERED, b"write fault\n");
     Ok(())
 }
 
@@ -101,15 +81,9 @@ lowered frames 34 changes 33 ok 8 failed 0 quiet
 // Nothing is read, so no read fails.
 #[test]
 fn a_self_test(rt: HostRuntime) -> Result<(), Fail> {
-    let left = run_with(
-        rt.alloc(),
-        &[b"selftest", b"1"],
-        GOOD,
-        Faults { src: 1, ..NONE },
-    )?;
-    assert_eq!(rt; left.code, 0);
-    assert!(rt; left.out.written() == ONE_LINK);
-    assert!(rt; left.log.written().is_empty());
+    let faults = Faults { src: 1, ..NONE };
+    let left = run_with(rt.alloc(), &[b"selftest", b"1"], GOOD, faults)?;
+    has_left(&rt, 0, &left, 0, ONE_LINK, b"");
     assert!(rt; left.src.left() == GOOD);
     assert_eq!(rt; left.watchers, 3);
     Ok(())
@@ -117,21 +91,19 @@ fn a_self_test(rt: HostRuntime) -> Result<(), Fail> {
 
 #[test]
 fn a_self_test_that_is_not_written(rt: HostRuntime) -> Result<(), Fail> {
-    for (call, length) in [(1u64, 0usize), (2, 50), (3, 100)] {
-        let left = run_with(
-            rt.alloc(),
-            &[b"selftest", b"1"],
-            GOOD,
-            Faults { out: call, ..NONE },
-        )?;
-        assert_eq!(rt; left.code, 4, "write {call}");
-        assert!(rt;
-            Some(left.out.written()) == ONE_LINK.get(..length),
-            "write {call}"
-        );
-        assert!(rt;
-            left.log.written() == b"write fault\n".as_slice(),
-            "write {call}"
+    for (call, length) in [(1, 0), (2, 50), (3, 100)] {
+        let faults = Faults {
+            out: call as u64,
+            ..NONE
+        };
+        let left = run_with(rt.alloc(), &[b"selftest", b"1"], GOOD, faults)?;
+        has_left(
+            &rt,
+            call,
+            &left,
+            4,
+            head(ONE_LINK, length),
+            b"write fault\n",
         );
     }
     Ok(())

@@ -1,15 +1,8 @@
 //! Simulations: each status, the texts and the reports. All of them are worked out by hand from the definition of the language.
 use super::texts::{ACCUMULATOR, BLINK, RECURSION};
-use super::{GOOD, USAGE};
-use crate::running::{Faults, run_with};
-use std::alloc::Global;
+use super::{GOOD, NONE, USAGE, has_left, has_read_nothing, runs};
+use crate::running::run_with;
 use std::test::Fail;
-
-const NONE: Faults = Faults {
-    src: 0,
-    out: 0,
-    log: 0,
-};
 
 pub const FAILS: &[u8] = b"proc @p () -> () {\n\
 b:\n\
@@ -60,19 +53,6 @@ sig 4 i32 acc_tb.acc_1.d\n\
 @ 4000000fs 1d 0e\n4 = 1\n\
 end quiet\n";
 
-// Whether a run ends with this code and these two texts.
-fn is_run(
-    alloc: Global,
-    text: &[u8],
-    words: &[&[u8]],
-    code: u8,
-    out: &[u8],
-    log: &[u8],
-) -> Result<bool, Fail> {
-    let left = run_with(alloc, words, text, NONE)?;
-    Ok(left.code == code && left.out.written() == out && left.log.written() == log)
-}
-
 #[test]
 fn a_signal_that_rises(rt: HostRuntime) -> Result<(), Fail> {
     let rows: [(&[u8], &[u8]); 3] = [
@@ -86,9 +66,9 @@ fn a_signal_that_rises(rt: HostRuntime) -> Result<(), Fail> {
         ),
         (b"1", b"sig 0 i1 t.a\n@ 0fs 0d 0e\n0 = 0\nend steps\n"),
     ];
-    for (steps, out) in rows {
-        let words: [&[u8]; 5] = [b"simulate", b"--top", b"t", b"--steps", steps];
-        assert!(rt; is_run(rt.alloc(), BLINK, &words, 0, out, b"")?);
+    for (k, (steps, out)) in rows.iter().enumerate() {
+        let words: [&[u8]; 5] = [b"simulate", b"--top", b"t", b"--steps", *steps];
+        runs(&rt, rt.alloc(), k, &words, BLINK, (0, *out, b""))?;
     }
     Ok(())
 }
@@ -102,8 +82,7 @@ $var wire 1 ! a $end\n\
 $upscope $end\n\
 $enddefinitions $end\n\
 #0\n$dumpvars\n0!\n$end\n#1000000\n1!\n";
-    assert!(rt; is_run(rt.alloc(), BLINK, &words, 0, out, b"")?);
-    Ok(())
+    runs(&rt, rt.alloc(), 0, &words, BLINK, (0, out, b""))
 }
 
 #[test]
@@ -118,8 +97,14 @@ fn the_accumulator(rt: HostRuntime) -> Result<(), Fail> {
         b"asserts",
     ];
     let log = b"asserts 2 ok 0 failed\n";
-    assert!(rt; is_run(rt.alloc(), ACCUMULATOR, &words, 0, ACCUMULATOR_TRACE, log)?);
-    Ok(())
+    runs(
+        &rt,
+        rt.alloc(),
+        0,
+        &words,
+        ACCUMULATOR,
+        (0, ACCUMULATOR_TRACE, log),
+    )
 }
 
 #[test]
@@ -131,9 +116,9 @@ fn tops_that_are_not_simulated(rt: HostRuntime) -> Result<(), Fail> {
         (RING, b"a", b"top: InstCycle @a\n"),
         (RING, b"@f", b"top: TopIsFunction\n"),
     ];
-    for (text, top, line) in rows {
-        let words: [&[u8]; 5] = [b"simulate", b"--steps", b"9", b"--top", top];
-        assert!(rt; is_run(rt.alloc(), text, &words, 8, b"", line)?);
+    for (k, (text, top, line)) in rows.iter().enumerate() {
+        let words: [&[u8]; 5] = [b"simulate", b"--steps", b"9", b"--top", *top];
+        runs(&rt, rt.alloc(), k, &words, *text, (8, b"", *line))?;
     }
     Ok(())
 }
@@ -143,16 +128,14 @@ fn an_instance_that_runs_away(rt: HostRuntime) -> Result<(), Fail> {
     let words: [&[u8]; 5] = [b"simulate", b"--top", b"p", b"--steps", b"3"];
     let out = b"@ 0fs 0d 0e\nend runaway 0\n";
     let log = b"runaway in instance 0\n";
-    assert!(rt; is_run(rt.alloc(), RECURSION, &words, 10, out, log)?);
-    Ok(())
+    runs(&rt, rt.alloc(), 0, &words, RECURSION, (10, out, log))
 }
 
 #[test]
 fn the_higher_instance_wins(rt: HostRuntime) -> Result<(), Fail> {
     let words: [&[u8]; 5] = [b"simulate", b"--top", b"t", b"--steps", b"3"];
     let out = b"sig 0 i8 t.s\n@ 0fs 0d 0e\n0 = 0\n@ 1000000fs 0d 0e\n0 = 1\nend quiet\n";
-    assert!(rt; is_run(rt.alloc(), TWO_DRIVERS, &words, 0, out, b"")?);
-    Ok(())
+    runs(&rt, rt.alloc(), 0, &words, TWO_DRIVERS, (0, out, b""))
 }
 
 #[test]
@@ -174,7 +157,7 @@ fn an_assertion_that_fails(rt: HostRuntime) -> Result<(), Fail> {
             b"toggles 0\nassertion failed\n",
         ),
     ];
-    for (title, out, log) in rows {
+    for (k, (title, out, log)) in rows.iter().enumerate() {
         let words: [&[u8]; 7] = [
             b"simulate",
             b"--top",
@@ -182,9 +165,9 @@ fn an_assertion_that_fails(rt: HostRuntime) -> Result<(), Fail> {
             b"--steps",
             b"3",
             b"--watch",
-            title,
+            *title,
         ];
-        assert!(rt; is_run(rt.alloc(), FAILS, &words, 9, out, log)?);
+        runs(&rt, rt.alloc(), k, &words, FAILS, (9, *out, *log))?;
     }
     Ok(())
 }
@@ -209,9 +192,8 @@ fn words_of_no_use(rt: HostRuntime) -> Result<(), Fail> {
     ];
     for (k, words) in rows.iter().enumerate() {
         let left = run_with(rt.alloc(), *words, GOOD, NONE)?;
-        assert_eq!(rt; left.code, 2, "row {k}");
-        assert!(rt; left.log.written() == USAGE, "row {k}");
-        assert!(rt; left.src.left() == GOOD, "row {k}");
+        has_left(&rt, k, &left, 2, b"", USAGE);
+        has_read_nothing(&rt, k, &left, GOOD);
         assert_eq!(rt; left.watchers, 3, "row {k}");
     }
     Ok(())

@@ -5,12 +5,11 @@ use lh_time::Delay;
 use lh_types::part::Range;
 use lh_types::val::Val;
 use lh_unit::inst::ValueId;
+use std::test::Fail;
 
 #[test]
-fn slots_hold_by_ids(rt: HostRuntime) {
-    let Ok(mut slots) = Slots::new(rt.alloc(), 4) else {
-        return;
-    };
+fn slots_hold_by_ids(rt: HostRuntime) -> Result<(), Fail> {
+    let mut slots = Slots::new(rt.alloc(), 4)?;
     assert_eq!(rt; slots.len(), 4);
     let delay = Delay {
         fs: 2,
@@ -26,5 +25,6 @@ fn slots_hold_by_ids(rt: HostRuntime) {
     assert_eq!(rt; delay_in(&slots, ValueId(2)), Some(delay));
     assert_eq!(rt; condition_in(&slots, None), Some(true));
     assert_eq!(rt; condition_in(&slots, Some(ValueId(2))), None);
-    assert_eq!(rt; datum_in(&slots, ValueId(3)).is_none(), true);
+    assert!(rt; datum_in(&slots, ValueId(3)).is_none());
+    Ok(())
 }

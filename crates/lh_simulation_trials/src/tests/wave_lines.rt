@@ -1,4 +1,6 @@
 //! Values, frames and last lines in a trace and in a waveform.
+ghost use Rattle.lh_wave.specs.Recorded.{IsKept};
+
 use lh_time::{Delay, Instant};
 use lh_types::frame::{Change, ChangeList, Frame, Outcome, OutcomeList};
 use lh_types::val::{Val, ValList};
@@ -16,68 +18,86 @@ fn int(width: u32, bits: u128) -> Val {
     Val::Int { width, bits }
 }
 
+/// Two values in order.
+fn pair(alloc: Global, first: Val, second: Val) -> Result<ValList, Fail> {
+    let mut list = ValList::new(alloc);
+    list.push(first)?;
+    list.push(second)?;
+    Ok(list)
+}
+
 /// The struct of an integer and an array of two.
 fn nested(alloc: Global) -> Result<Val, Fail> {
-    let mut array = ValList::new(alloc);
-    array.push(int(2, 1))?;
-    array.push(int(2, 3))?;
-    let mut fields = ValList::new(alloc);
-    fields.push(int(3, 6))?;
-    fields.push(Val::Array(array))?;
-    Ok(Val::Tuple(fields))
+    let array = pair(alloc, int(2, 1), int(2, 3))?;
+    Ok(Val::Tuple(pair(alloc, int(3, 6), Val::Array(array))?))
+}
+
+/// A struct, an integer and a time, one behind the other.
+fn put_values(alloc: Global, to: &mut Vec<u8>) -> Result<(), Fail> {
+    let time = Val::Time(Delay {
+        fs: 1,
+        delta: 2,
+        eps: 3,
+    });
+    put_value(to, &nested(alloc)?)?;
+    put_value(to, &int(128, u128::MAX))?;
+    put_value(to, &time)?;
+    Ok(())
 }
 
 #[test]
 fn values_in_a_trace(rt: HostRuntime) -> Result<(), Fail> {
     let mut to = Vec::new(rt.alloc());
-    put_value(&mut to, &nested(rt.alloc())?)?;
-    put_value(&mut to, &int(128, u128::MAX))?;
-    put_value(
-        &mut to,
-        &Val::Time(Delay {
-            fs: 1,
-            delta: 2,
-            eps: 3,
-        }),
-    )?;
+    put_values(rt.alloc(), &mut to)?;
     let text = b"{6, [1, 3]}3402823669209384634633746074317682114551fs 2d 3e";
     assert_eq!(rt; to.as_slice(), text.as_slice());
     Ok(())
 }
 
-#[test]
-fn a_frame(rt: HostRuntime) -> Result<(), Fail> {
-    let mut changes = ChangeList::new(rt.alloc());
+/// A change of a bit and one of a struct.
+fn two_changes(alloc: Global) -> Result<ChangeList, Fail> {
+    let mut changes = ChangeList::new(alloc);
+    add_change(&mut changes, 0, 0, int(1, 1))?;
+    add_change(&mut changes, 12, 3, nested(alloc)?)?;
+    Ok(changes)
+}
+
+fn add_change(changes: &mut ChangeList, signal: u32, toggled: u32, value: Val) -> Result<(), Fail> {
     changes.push(Change {
-        signal: 0,
-        toggled: 0,
-        value: int(1, 1),
+        signal,
+        toggled,
+        value,
     })?;
-    changes.push(Change {
-        signal: 12,
-        toggled: 3,
-        value: nested(rt.alloc())?,
-    })?;
-    let mut outcomes = OutcomeList::new(rt.alloc());
-    outcomes.push(Outcome {
-        instance: 4,
-        passed: true,
-    })?;
-    outcomes.push(Outcome {
-        instance: 7,
-        passed: false,
-    })?;
+    Ok(())
+}
+
+/// An assertion that passed and one that failed.
+fn two_outcomes(alloc: Global) -> Result<OutcomeList, Fail> {
+    let mut outcomes = OutcomeList::new(alloc);
+    for (instance, passed) in [(4, true), (7, false)] {
+        outcomes.push(Outcome { instance, passed })?;
+    }
+    Ok(outcomes)
+}
+
+/// The text of a frame with both.
+fn frame_text(alloc: Global) -> Result<Vec<u8>, Fail> {
     let f = Frame {
         at: Instant {
             fs: 1_000_000,
             delta: 1,
             eps: 0,
         },
-        changes,
-        outcomes,
+        changes: two_changes(alloc)?,
+        outcomes: two_outcomes(alloc)?,
     };
+    Ok(trace_frame(alloc, &f)?)
+}
+
+#[test]
+fn a_frame(rt: HostRuntime) -> Result<(), Fail> {
     let text = b"@ 1000000fs 1d 0e\n0 = 1\n12 = {6, [1, 3]}\nassert 4 ok\nassert 7 failed\n";
-    assert_eq!(rt; trace_frame(rt.alloc(), &f)?.as_slice(), text.as_slice());
+    assert_eq!(rt; frame_text(rt.alloc())?.as_slice(), text.as_slice());
     Ok(())
 }
 
@@ -124,16 +144,24 @@ fn frame_at(alloc: Global, fs: u64, delta: u64, shown: &[(u32, u128)]) -> Result
     })
 }
 
+/// Frames of which some are of one time, taken one after the other.
+fn take_frames(alloc: Global, waveform: &mut Waveform, to: &mut Vec<u8>) -> Result<(), Fail>
+    requires { IsKept waveform.old }
+{
+    waveform.take(&frame_at(alloc, 0, 1, &[(1, 6)])?, to)?;
+    waveform.take(&frame_at(alloc, 1_000_000, 0, &[(0, 1)])?, to)?;
+    waveform.take(&frame_at(alloc, 1_000_000, 1, &[(0, 0)])?, to)?;
+    waveform.take(&frame_at(alloc, 2_000_000, 0, &[(1, 7)])?, to)?;
+    waveform.write(to)?;
+    Ok(())
+}
+
 #[test]
 fn the_last_values_at_each_time(rt: HostRuntime) -> Result<(), Fail> {
     let alloc = rt.alloc();
     let mut to = Vec::new(alloc);
-    let mut waveform = Waveform::begin(alloc, &frame_at(alloc, 0, 0, &[(0, 0), (1, 5)])?)?;
-    waveform.take(&frame_at(alloc, 0, 1, &[(1, 6)])?, &mut to)?;
-    waveform.take(&frame_at(alloc, 1_000_000, 0, &[(0, 1)])?, &mut to)?;
-    waveform.take(&frame_at(alloc, 1_000_000, 1, &[(0, 0)])?, &mut to)?;
-    waveform.take(&frame_at(alloc, 2_000_000, 0, &[(1, 7)])?, &mut to)?;
-    waveform.write(&mut to)?;
+    let first = frame_at(alloc, 0, 0, &[(0, 0), (1, 5)])?;
+    take_frames(alloc, &mut Waveform::begin(alloc, &first)?, &mut to)?;
     let text = b"#0\n$dumpvars\nb00000000 !\nb00000110 \"\n$end\n#2000000\nb00000111 \"\n";
     assert_eq!(rt; to.as_slice(), text.as_slice());
     Ok(())

@@ -1,8 +1,8 @@
 //! Units of each kind, the edges of a `phi`, code that no path reaches, and a use before the definition.
 use crate::files::module;
 use lh_defined::{DefinedFault, defined};
+use lh_names::name::Name;
 use lh_types::text::put;
-use lh_unit::name::Name;
 use std::alloc::Global;
 use std::test::Fail;
 

@@ -1,14 +1,14 @@
 //! A module made by its calls and read back, refusals, and the limit of a unit.
 ghost use Rattle.std.specs.Prelude.{◌≡◌, ◌<◌, length, IfOk, OnOk};
-ghost use Rattle.lh_unit.specs.Names.{IsName};
+ghost use Rattle.lh_names.specs.Names.{IsName};
 ghost use Rattle.lh_unit.specs.Contents.{new_unit};
 ghost use Rattle.lh_unit.specs.Arena.{IsOpen, OfOpen, unit_count, unit_name_at};
 ghost use Rattle.lh_unit.specs.Builders.{FindsUnit, FindsValue, FindsLabel, HasLabels};
 
+use lh_names::name::{Name, UnitName};
 use lh_types::ty::NoMemory;
 use lh_unit::inst::{BlockId, Inst, UnitFault, UnitId, UnitKind, ValueId};
 use lh_unit::module::Module;
-use lh_unit::name::{Name, UnitName};
 use std::alloc::Global;
 
 fn unit(alloc: Global, m: &mut Module, name: &[u8]) -> Result<UnitId, NoMemory>

@@ -1,8 +1,8 @@
 //! A unit seen through a view and through its copy.
+use lh_names::name::{Name, UnitName};
 use lh_types::ty::NoMemory;
 use lh_unit::inst::{UnitId, UnitKind};
 use lh_unit::module::Module;
-use lh_unit::name::{Name, UnitName};
 use lh_unit::view::UnitView;
 use std::alloc::Global;
 

@@ -1,5 +1,5 @@
 use Rattle.std.proofs.Common.{◌≡◌, ◌++◌, [], ◌∷◌, ap, sym, ◌∙◌, subst, arith, decimal}
-use Rattle.lh_unit.specs.Names.{IsName}
+use Rattle.lh_names.specs.Names.{IsName}
 use Rattle.lh_emission.specs.Names.{value_name}
 use Rattle.lh_emission.proofs.Naming.{number-name}
 use Rattle.lh_body.proofs.names.number_name.Goals as goal

@@ -1,6 +1,6 @@
 use Rattle.std.proofs.Common.{ℕ, List, ◌∷◌, ◌++◌, codes, decimal}
 use Rattle.std.proofs.lemmas.Result.{err_from_is_err_and}
-use Rattle.lh_unit.specs.declared.name.UnitName.{UnitName}
+use Rattle.lh_names.specs.declared.name.UnitName.{UnitName}
 use Rattle.lh_run.specs.StatusLines.{name_of_fault}
 use Rattle.lh_run.proofs.Writes.{BreaksOff_first, BreaksOff_second, Puts_second, Puts_regrouped, Appends_more, rises_twice}
 use Rattle.lh_run.proofs.status.write_inst_fault.Goals as goal

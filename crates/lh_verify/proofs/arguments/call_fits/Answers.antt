@@ -1,6 +1,6 @@
 use Rattle.std.proofs.Common.{map, ap, sym, ◌∙◌}
 use Rattle.std.specs.Prelude.{filter}
-use Rattle.lh_unit.specs.Named.{is_assert}
+use Rattle.lh_names.specs.UnitNames.{is_assert}
 use Rattle.lh_unit.specs.Naming.{operand_text, arg_text}
 use Rattle.lh_unit.specs.Arena.{naming, args_at}
 use Rattle.lh_unit.specs.WellFormed.{arguments_fit, assert_args}

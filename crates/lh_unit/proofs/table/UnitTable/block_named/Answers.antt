@@ -1,8 +1,9 @@
 use Rattle.std.proofs.Common.{rules, ◌≡◌, ◌<◌, ◌-◌, ◌^◌, ◌++◌, ◌∷◌, [], None, false, length, refl, sym}
 use Rattle.lh_unit.specs.TableOf.{table_of}
-use Rattle.lh_unit.specs.TableCalls.{has_name}
+use Rattle.lh_names.specs.Distinct.{has_name}
 use Rattle.lh_unit.proofs.Entering.{new-absent}
-use Rattle.lh_unit.proofs.Tables.{inserted, IsTable-by, IsTable-new_label, Definitions-same}
+use Rattle.lh_unit.proofs.Tables.{IsTable-by, IsTable-new_label, Definitions-same}
+use Rattle.lh_names.proofs.NameLists.{inserted}
 use Rattle.lh_unit.proofs.table.UnitTable.block_named.Goals as goal
 
 pub invariant_of-self-then-is_new : goal.invariant_of-self-then-is_new

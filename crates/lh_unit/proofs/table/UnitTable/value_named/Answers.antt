@@ -1,9 +1,10 @@
 use Rattle.std.proofs.Common.{rules, ◌≡◌, ◌<◌, ◌-◌, ◌^◌, ◌++◌, ◌∷◌, [], false, length, refl, sym}
 use Rattle.lh_unit.specs.TableOf.{table_of}
-use Rattle.lh_unit.specs.TableCalls.{has_name}
+use Rattle.lh_names.specs.Distinct.{has_name}
 use Rattle.lh_unit.specs.declared.inst.ValueDef.TheVariants as value_def
 use Rattle.lh_unit.proofs.Entering.{new-absent}
-use Rattle.lh_unit.proofs.Tables.{inserted, IsTable-by, IsTable-new_value, Definitions-same, Definitions-new_value}
+use Rattle.lh_unit.proofs.Tables.{IsTable-by, IsTable-new_value, Definitions-same, Definitions-new_value}
+use Rattle.lh_names.proofs.NameLists.{inserted}
 use Rattle.lh_unit.proofs.table.UnitTable.value_named.Goals as goal
 
 pub invariant_of-self-then-is_new : goal.invariant_of-self-then-is_new

@@ -1,13 +1,27 @@
 -- Lists of names that an index takes one by one.
-use Rattle.std.proofs.Common.{◌≡◌, ◌<◌, ◌+◌, ℕ, zero, suc, Bool, true, false, List, [], ◌∷◌, ◌++◌, length, take, take-suc, get_or, slice_get, Some, None, nat_eq, refl, sym, ap, ◌∙◌, subst, arith, Result, Ok, Err, IfOk, OnErr}
+use Rattle.std.proofs.Common.{◌≡◌, ◌<◌, ◌+◌, ℕ, zero, suc, Bool, true, false, List, [], ◌∷◌, ◌++◌, length, take, take-suc, get_or, slice_get, Some, nat_eq, refl, sym, ap, ◌∙◌, subst, arith, Result, Ok, Err, IfOk, OnErr}
 use Rattle.indexmap.specs.IndexSet.{insert_key}
-use lib.Pointwise.{pointwise}
+use lib.Pointwise.{pointwise, bytes_decides}
+use Rattle.std.specs.Cmp.Lexicographic.{same_text}
 use Rattle.std.proofs.lemmas.Option.{slice_get-get_or}
 use Rattle.lh_types.specs.declared.ty.NoMemory.{NoMemory}
-use Rattle.lh_unit.specs.Table.{AllDistinct}
-use Rattle.lh_unit.specs.TableCalls.{has_name}
-use Rattle.lh_unit.proofs.Lists.{AllDistinct-push}
-use Rattle.lh_unit.proofs.Tables.{absent, inserted, same_name-is}
+use Rattle.lh_names.specs.Distinct.{AllDistinct, has_name}
+use Rattle.lh_names.proofs.Lists.{AllDistinct-push, other_keys}
+
+-- the test of two names is equality
+pub same_name-is : (x y : List ℕ) → pointwise nat_eq x y ≡ true → x ≡ y
+same_name-is x y p = same_text x y (sym p)
+
+pub same_name-refl : (x : List ℕ) → pointwise nat_eq x x ≡ true
+same_name-refl x = (bytes_decides x x).1 refl
+
+-- a name that is new
+pub absent : (ns : List (List ℕ)) (n : List ℕ) → has_name ns n ≡ false → (i : ℕ) → slice_get ns i ≡ Some n → ⊥
+absent ns n a i = other_keys (pointwise nat_eq) same_name-is same_name-refl ns n i (sym a)
+
+-- a name that was inserted
+pub inserted : (ks new : List (List ℕ)) (n m : List ℕ) → m ≡ n → new ≡ insert_key (pointwise nat_eq) ks m → false ≡ has_name ks n → new ≡ ks ++ n ∷ []
+inserted ks new n m e f g = f ∙ ap (insert_key (pointwise nat_eq) ks) e ∙ rw (← g) refl
 
 -- no name stands twice once one was entered
 distinct-entered : (ns new : List (List ℕ)) (n : List ℕ) → new ≡ insert_key (pointwise nat_eq) ns n → AllDistinct ns → AllDistinct new

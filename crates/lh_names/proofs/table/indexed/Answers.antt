@@ -1,6 +1,6 @@
 use Rattle.std.proofs.Common.{rules, ap, get_or, ◌∙◌}
-use Rattle.lh_unit.proofs.NameLists.{entered-next}
-use Rattle.lh_unit.proofs.name_table.indexed.Goals as goal
+use Rattle.lh_names.proofs.NameLists.{entered-next}
+use Rattle.lh_names.proofs.table.indexed.Goals as goal
 
 pub loop-name-preserved : goal.loop-name-preserved
 loop-name-preserved c =

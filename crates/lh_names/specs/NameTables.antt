@@ -1,7 +1,7 @@
 -- What the names of one kind in a unit are seen as.
 use Rattle.std.specs.Prelude.{ℕ, List}
-use Rattle.lh_unit.specs.declared.name_table.KeptNames.{KeptNames}
-use Rattle.lh_unit.specs.declared.name_table.KeptNames.TheVariants.{Indexed, Listed}
+use Rattle.lh_names.specs.declared.table.KeptNames.{KeptNames}
+use Rattle.lh_names.specs.declared.table.KeptNames.TheVariants.{Indexed, Listed}
 
 -- the names, by their numbers
 abbrev pub names_of : KeptNames → List (List ℕ)

@@ -1,12 +1,13 @@
 // Names.
 ghost use Rattle.std.specs.Prelude.{◌≡◌, ◌≤◌, IfOk};
-ghost use Rattle.lh_unit.specs.Names.{IsName};
-ghost use Rattle.lh_unit.specs.NameBytes.{bytes_of, IsInPlace};
-ghost use Rattle.lh_unit.specs.Named.{is_assert};
+ghost use Rattle.lh_names.specs.Names.{IsName};
+ghost use Rattle.lh_names.specs.NameBytes.{bytes_of, IsInPlace};
+ghost use Rattle.lh_names.specs.UnitNames.{is_assert};
 
 use lh_types::ty::NoMemory;
 use std::alloc::Global;
 use std::boxed::Box;
+use std::fmt;
 use std::hash::{Hash, Hasher};
 use std::marker::Model;
 
@@ -27,14 +28,24 @@ enum NameBytes {
 
 impl Model for Name {
     ghost use Rattle.std.specs.Prelude.{ℕ, List};
-    ghost use Rattle.lh_unit.specs.Names.{IsName};
-    ghost use Rattle.lh_unit.specs.NameBytes.{bytes_of, IsInPlace};
+    ghost use Rattle.lh_names.specs.Names.{IsName};
+    ghost use Rattle.lh_names.specs.NameBytes.{bytes_of, IsInPlace};
 
     ghost Value = { List ℕ };
 
     ghost view = { λ n. bytes_of n.bytes };
 
     ghost invariant = { λ n. IsInPlace n.bytes × IsName (bytes_of n.bytes) };
+}
+
+/// The bytes as text: a name has letters, digits, `_` and `.` alone.
+impl fmt::Debug for Name {
+    fn fmt<W: fmt::Write>(&self, f: &mut fmt::Formatter<W>) -> fmt::Result {
+        for byte in self.as_bytes() {
+            f.write_char(char::from(*byte))?;
+        }
+        Ok(())
+    }
 }
 
 impl PartialEq for Name {
@@ -84,6 +95,7 @@ impl Name {
         Ok(Name { bytes })
     }
 
+    /// The bytes in order.
     pub fn as_bytes(&self) -> &[u8]
         ensures value { result.now ≡ self.now }
         ensures name { IsName self.now }
@@ -127,8 +139,9 @@ fn kept(alloc: Global, bytes: &[u8]) -> Result<NameBytes, NoMemory>
 }
 
 /// The name of a unit.
-#[derive(Drop)]
+#[derive(Debug, Drop)]
 pub struct UnitName {
+    /// `@` or `%`: two names with other sigils are two.
     pub sigil: u8,
     pub name: Name,
 }
@@ -136,7 +149,7 @@ pub struct UnitName {
 impl PartialEq for UnitName {
     ghost use Rattle.std.proofs.Common.{rules};
     ghost use Rattle.std.specs.Cmp.Rules.{comparing};
-    ghost use Rattle.lh_unit.specs.UnitNames.{same_unit_name};
+    ghost use Rattle.lh_names.specs.UnitNames.{same_unit_name};
 
     ghost eq = { same_unit_name };
 

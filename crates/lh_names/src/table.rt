@@ -2,9 +2,8 @@
 ghost use Rattle.std.specs.Prelude.{◌≡◌, ◌<◌, ◌≤◌, [], ◌∷◌, ◌++◌, length, not, nat_eq, slice_get, slice_index_or, Some, IfOk, OnOk, OnErr, vec_len, vec_capacity};
 ghost use Rattle.indexmap.specs.IndexSet.{insert_key};
 ghost use lib.Pointwise.{pointwise};
-ghost use Rattle.lh_unit.specs.Table.{AllDistinct};
-ghost use Rattle.lh_unit.specs.TableCalls.{has_name};
-ghost use Rattle.lh_unit.specs.NameTables.{names_of, IsIndexed};
+ghost use Rattle.lh_names.specs.Distinct.{AllDistinct, has_name};
+ghost use Rattle.lh_names.specs.NameTables.{names_of, IsIndexed};
 
 use crate::name::Name;
 use indexmap::IndexSet;
@@ -13,8 +12,8 @@ use std::alloc::Global;
 use std::marker::Model;
 use std::mem;
 
-/// Names in the order in which they came, no two alike. They are found by an index, which takes as much memory as a few short names
-/// do and is given back where no more are to come; a name that comes all the same makes it anew.
+/// Names in the order in which they came, no two alike. They are found by an index, which takes some 30 bytes a name, about as much
+/// as the names do. It is given back where no more are to come; a name that comes all the same makes it anew.
 #[derive(Drop)]
 pub struct NameTable {
     kept: KeptNames,
@@ -28,8 +27,8 @@ enum KeptNames {
 
 impl Model for NameTable {
     ghost use Rattle.std.specs.Prelude.{ℕ, List};
-    ghost use Rattle.lh_unit.specs.Table.{AllDistinct};
-    ghost use Rattle.lh_unit.specs.NameTables.{names_of};
+    ghost use Rattle.lh_names.specs.Distinct.{AllDistinct};
+    ghost use Rattle.lh_names.specs.NameTables.{names_of};
 
     ghost Value = { List (List ℕ) };
 

@@ -1,7 +1,7 @@
 -- What the bytes of a name are seen as.
 use Rattle.std.specs.Prelude.{ℕ, ◌≤◌, List, take}
-use Rattle.lh_unit.specs.declared.name.NameBytes.{NameBytes}
-use Rattle.lh_unit.specs.declared.name.NameBytes.TheVariants.{Short, Long}
+use Rattle.lh_names.specs.declared.name.NameBytes.{NameBytes}
+use Rattle.lh_names.specs.declared.name.NameBytes.TheVariants.{Short, Long}
 
 -- the bytes in order
 abbrev pub bytes_of : NameBytes → List ℕ

@@ -1,0 +1,5 @@
+pub mod Names
+pub mod NameBytes
+pub mod UnitNames
+pub mod Distinct
+pub mod NameTables

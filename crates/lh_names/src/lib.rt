@@ -1,0 +1,5 @@
+//! Names: those of units, and tables of those of values and labels.
+#![tactic(auto)]
+
+pub mod name;
+pub mod table;
