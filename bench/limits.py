@@ -206,6 +206,35 @@ def drives_under_an_edge(count):
     yield from ("    br %init", "}")
 
 
+# ---- things that are looked up ------------------------------------------------------------------------------------------
+
+def parts_from_the_lowest_bit(count):
+    """So many parts of one value, each of which begins at its lowest bit."""
+    ty = f"[{count} x i1]"
+    yield from (f"proc @p ({ty}$ %a) -> (i1$ %odd) {{", "entry:", "    %t = const time 0s 1d", f"    %x = prb {ty}$ %a", "    %p0 = const i1 0")
+    for k in range(1, count):
+        yield from (f"    %w{k} = exts [{k} x i1] %x, 0, {k}", f"    %b{k} = extf i1 %w{k}, {k - 1}", f"    %p{k} = xor i1 %p{k - 1}, %b{k}")
+    yield from (f"    drv i1$ %odd, %p{count - 1} after %t", "    wait %entry, %a", "}")
+
+
+def delays(count):
+    """So many signals that are driven, each after a number of delta steps of its own."""
+    outputs = ", ".join(f"i1$ %q{k}" for k in range(count))
+    yield from (f"proc @p (i1$ %a) -> ({outputs}) {{", "entry:", "    %x = prb i1$ %a")
+    for k in range(count):
+        yield from (f"    %t{k} = const time 0s {k + 1}d", f"    drv i1$ %q{k}, %x after %t{k}")
+    yield from ("    wait %entry, %a", "}")
+
+
+def names_that_are_taken(count):
+    """So many arguments that are named as the values of the entity would be."""
+    names = [f"%v{k}" for k in range(count)]
+    yield from ("proc @p (" + ", ".join(f"i1$ {name}" for name in names) + ") -> (i1$ %odd) {", "entry:", "    %t = const time 0s 1d", "    %p0 = const i1 0")
+    for k, name in enumerate(names):
+        yield from (f"    %x{k} = prb i1$ {name}", f"    %p{k + 1} = xor i1 %p{k}, %x{k}")
+    yield from (f"    drv i1$ %odd, %p{count} after %t", "    wait %entry, " + ", ".join(names), "}")
+
+
 # ---- a processor --------------------------------------------------------------------------------------------------------
 
 # operations and comparisons with the number by which an instruction's function is told
@@ -327,6 +356,10 @@ def all_limits():
         Limit("an edge of 14 atoms", lambda: clocks(7), "left @p TooManyAtoms\n"),
         Limit("500 drives at an edge", lambda: drives_under_an_edge(500), EDGE),
         Limit("1,000 drives at an edge", lambda: drives_under_an_edge(1000), EDGE),
+        Limit("10,000 drives at an edge", lambda: drives_under_an_edge(10_000), EDGE),
+        Limit("20,000 parts from the lowest bit", lambda: parts_from_the_lowest_bit(20_000), COMB),
+        Limit("20,000 delays", lambda: delays(20_000), COMB),
+        Limit("30,000 arguments named as values", lambda: names_that_are_taken(30_000), COMB),
         Limit("1,000 ifs, 1,000 values used later", lambda: ladder(1000), COMB),
         Limit("2,000 ifs, 2,000 values used later", lambda: ladder(2000), COMB),
         Limit("4,000 ifs, 4,000 values used later", lambda: ladder(4000), COMB),

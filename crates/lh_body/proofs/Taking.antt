@@ -1,22 +1,12 @@
 -- Names that are taken are arguments'.
-use Rattle.std.proofs.Common.{◌≡◌, ℕ, zero, suc, ◌+◌, Bool, true, false, ◌||◌, if◌then◌else◌, List, [], ◌∷◌, ◌++◌, refl, ap, sym, ◌∙◌, subst, length-append}
-use Rattle.std.proofs.lemmas.List.Folds.{list_any-append}
+use Rattle.std.proofs.Common.{◌≡◌, ℕ, zero, suc, ◌+◌, Bool, true, false, ◌||◌, cond, if◌then◌else◌, List, [], ◌∷◌, ◌++◌, refl, ap, sym, ◌∙◌, subst, length-append}
 use Rattle.lh_unit.specs.Contents.{ArgText, args_define}
 use Rattle.lh_names.specs.Names.{same_name}
 use Rattle.lh_unit.specs.Lexemes.{begins}
-use Rattle.lh_names.proofs.NameLists.{same_name-is, same_name-refl}
+use Rattle.lh_names.proofs.NameLists.{same_name-is}
 use Rattle.lh_emission.specs.Names.{value_name, free_from, free_number}
 use Rattle.lh_body.specs.Fresh.{is_among, IsFresh, PassesOver}
 use Rattle.lh_body.specs.declared.names.Fresh.{Fresh}
-
-same-swap : (n m : List ℕ) → same_name n m ≡ same_name m n
-same-swap n m = at (same_name n m) (same_name m n) refl refl
-  where
-    at : (a b : Bool) → same_name n m ≡ a → same_name m n ≡ b → same_name n m ≡ same_name m n
-    at true true p q = p ∙ sym q
-    at false false p q = p ∙ sym q
-    at true false p q = let e : n ≡ m = same_name-is n m p in let f : same_name m m ≡ false = subst (λ z. same_name m z ≡ false) e q in let g : same_name m m ≡ true = same_name-refl m in absurd cc
-    at false true p q = let e : m ≡ n = same_name-is m n q in let f : same_name n n ≡ false = subst (λ z. same_name n z ≡ false) e p in let g : same_name n n ≡ true = same_name-refl n in absurd cc
 
 define-more : (n : List ℕ) (xs : List ArgText) (a : ArgText) → args_define n (xs ++ a ∷ []) ≡ (args_define n xs || same_name a.name n)
 define-more n [] a = at (same_name a.name n)
@@ -34,15 +24,24 @@ or-false : (b : Bool) → (b || false) ≡ b
 or-false true = refl
 or-false false = refl
 
+-- with one more name among those that are taken
+abbrev pub Enters : List ℕ → (old new : List (List ℕ)) → Type 0
+Enters n old new = (m : List ℕ) → is_among new m ≡ cond (same_name n m) true (is_among old m)
+
+enters-or : (a b : Bool) → cond a true b ≡ (b || a)
+enters-or true true = refl
+enters-or true false = refl
+enters-or false b = sym (or-false b)
+
 -- an argument whose name begins as a new one
-pub taken-passed : (f g : Fresh) (n : List ℕ) → g.count ≡ f.count + 1 → g.taken ≡ f.taken ++ n ∷ [] → PassesOver n f g
+pub taken-passed : (f g : Fresh) (n : List ℕ) → g.count ≡ f.count + 1 → Enters n f.taken.keys g.taken.keys → PassesOver n f g
 taken-passed f g n c t args a q h = record {
   count = c ∙ ap (λ k. k + 1) h.count ∙ sym (length-append args (a ∷ []));
   taken = λ k.
       let m = value_name k in
-      ap (λ ns. is_among ns m) t ∙ list_any-append (λ x. same_name m x) f.taken (n ∷ [])
-      ∙ (λ i. (h.taken k i || or-false (same_name m n) i))
-      ∙ ap (λ b. args_define m args || b) (same-swap m n ∙ ap (λ z. same_name z m) (sym q)) ∙ sym (define-more m args a);
+      t m ∙ enters-or (same_name n m) (is_among f.taken.keys m)
+      ∙ ap (λ b. b || same_name n m) (h.taken k)
+      ∙ ap (λ z. args_define m args || same_name z m) (sym q) ∙ sym (define-more m args a);
 }
 
 not-new : (n : List ℕ) (k : ℕ) → begins 118 n ≡ false → same_name n (value_name k) ≡ false
@@ -53,7 +52,7 @@ not-new n k h = at (same_name n (value_name k)) refl
     at true p = let e : n ≡ value_name k = same_name-is n (value_name k) p in let f : true ≡ false = subst (λ z. begins 118 z ≡ false) e h in absurd cc
 
 -- one whose name begins otherwise
-pub other-passed : (f g : Fresh) (n : List ℕ) → g.count ≡ f.count + 1 → g.taken ≡ f.taken → begins 118 n ≡ false → PassesOver n f g
+pub other-passed : (f g : Fresh) (n : List ℕ) → g.count ≡ f.count + 1 → g.taken.keys ≡ f.taken.keys → begins 118 n ≡ false → PassesOver n f g
 other-passed f g n c t b args a q h = record {
   count = c ∙ ap (λ k. k + 1) h.count ∙ sym (length-append args (a ∷ []));
   taken = λ k.
@@ -71,7 +70,7 @@ Seeks f tries number = (args : List ArgText) → IsFresh args f → free_from ar
 pub seeks-first : (f : Fresh) → Seeks f f.count f.next
 seeks-first f args h = ap (λ n. free_from args n f.next) h.count
 
-pub seeks-next : (f : Fresh) (tries left number : ℕ) → tries ≡ suc left → is_among f.taken (value_name number) ≡ true → Seeks f tries number → Seeks f left (number + 1)
+pub seeks-next : (f : Fresh) (tries left number : ℕ) → tries ≡ suc left → is_among f.taken.keys (value_name number) ≡ true → Seeks f tries number → Seeks f left (number + 1)
 seeks-next f tries left number e t s args h =
     let d : args_define (value_name number) args ≡ true = sym (h.taken number) ∙ t in
     let r : free_from args (suc left) number ≡ free_from args left (number + 1) = ap (λ b. if b then free_from args left (number + 1) else number) d in
@@ -81,7 +80,7 @@ seeks-next f tries left number e t s args h =
 pub seeks-none : (f : Fresh) (tries number : ℕ) → tries ≡ 0 → Seeks f tries number → (args : List ArgText) → IsFresh args f → number ≡ free_number args f.next
 seeks-none f tries number e s args h = ap (λ n. free_from args n number) (sym e) ∙ s args h
 
-pub seeks-end : (f : Fresh) (tries number : ℕ) → is_among f.taken (value_name number) ≡ false → Seeks f tries number → (args : List ArgText) → IsFresh args f → number ≡ free_number args f.next
+pub seeks-end : (f : Fresh) (tries number : ℕ) → is_among f.taken.keys (value_name number) ≡ false → Seeks f tries number → (args : List ArgText) → IsFresh args f → number ≡ free_number args f.next
 seeks-end f zero number t s args h = s args h
 seeks-end f (suc left) number t s args h =
     let d : args_define (value_name number) args ≡ false = sym (h.taken number) ∙ t in

@@ -13,7 +13,7 @@ is_among ns n = list_any (λ m. same_name n m) ns
 -- there are as many arguments, and a name of a number is taken where it is an argument's
 pub record IsFresh (args : List ArgText) (f : Fresh) : Type 0 where
   pub count : f.count ≡ length args
-  pub taken : (k : ℕ) → is_among f.taken (value_name k) ≡ args_define (value_name k) args
+  pub taken : (k : ℕ) → is_among f.taken.keys (value_name k) ≡ args_define (value_name k) args
 
 -- with one more argument of this name
 abbrev pub PassesOver : List ℕ → Fresh → Fresh → Type 0

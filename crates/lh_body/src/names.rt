@@ -8,8 +8,8 @@ ghost use Rattle.lh_body.specs.Fresh.{is_among, IsFresh, PassesOver};
 use lh_names::name::Name;
 use lh_types::text::{put, put_number};
 use lh_types::ty::NoMemory;
-use lh_unit::inst::NameList;
 use std::alloc::Global;
+use std::collections::HashSet;
 
 /// The names that are left.
 #[derive(Drop)]
@@ -17,8 +17,8 @@ pub struct Fresh {
     alloc: Global,
     /// How many arguments there are.
     count: usize,
-    /// Those of their names that begin as a new one does.
-    taken: NameList,
+    /// Those of their names that begin as a new one does, which may be all: each new name is looked up here.
+    taken: HashSet<Name>,
     /// The number from which the next name is sought.
     next: u64,
 }
@@ -32,7 +32,7 @@ impl Fresh {
         Fresh {
             alloc,
             count: 0,
-            taken: NameList::new(alloc),
+            taken: HashSet::new(alloc),
             next: 0,
         }
     }
@@ -46,7 +46,7 @@ impl Fresh {
     {
         self.count += 1;
         if begins_as_new(name) {
-            self.taken.push(name.copy()?)?;
+            self.taken.insert(name.copy()?)?;
         }
         Ok(())
     }
@@ -80,9 +80,9 @@ impl Fresh {
     }
 
     fn is_taken(&self, name: &Name) -> bool
-        ensures { result ≡ is_among self.now.taken name.now }
+        ensures { result ≡ is_among self.now.taken.keys name.now }
     {
-        self.taken.as_slice().contains(name)
+        self.taken.contains(name)
     }
 }
 

@@ -50,7 +50,10 @@ impl<'m> Copying<'m> {
         ensures from { self.new.from.now ≡ self.old.from.now }
         ensures copies { IfOk result (λ _. CopiesUnit self.old.from.now self.old.to self.new.to unit.0 (unit_text_at self.old.from.now unit.0)) }
     {
-        keep_unit(&mut self.to, self.from, unit)
+        keep_unit(&mut self.to, self.from, unit)?;
+        // The unit is whole: it keeps no more room than it needs.
+        self.to.shrink();
+        Ok(())
     }
 
     /// Adds an entity in the place of a process.
@@ -61,7 +64,10 @@ impl<'m> Copying<'m> {
         ensures from { self.new.from.now ≡ self.old.from.now }
         ensures copies { let t = unit_text_at self.old.from.now unit.0 in IfOk result (λ _. (lines : List LineText) → IsBody t.args body lines → CopiesUnit self.old.from.now self.old.to self.new.to unit.0 (entity_with t lines)) }
     {
-        put_body(&mut self.to, self.from, unit, body)
+        put_body(&mut self.to, self.from, unit, body)?;
+        // The unit is whole: it keeps no more room than it needs.
+        self.to.shrink();
+        Ok(())
     }
 
     /// The module with all that was added.

@@ -11,6 +11,7 @@ use Rattle.lh_unit.specs.Naming.{value_text}
 use Rattle.lh_unit.specs.Typing.{or_else}
 use Rattle.lh_unit.specs.declared.inst.ValueId.{ValueId}
 use Rattle.lh_term.specs.Same.{same_part, same_part-is, same_part_equiv}
+use Rattle.lh_term.specs.Parts.{extent_of}
 use Rattle.lh_term.specs.declared.part.Part.{Part}
 use Rattle.lh_emission.specs.Emitted.{Emitted, whole_name}
 use Rattle.lh_body.specs.Lines.{naming}
@@ -25,12 +26,16 @@ same_key j k = same_part j.part k.part
 pub same_key_equiv : IsEquivalence same_key
 same_key_equiv = on_equiv (λ (k : PartKey). k.part) same_part_equiv
 
+-- what the hash of a part reads
+abbrev pub fed_part : Part → List (List ℕ)
+fed_part p = (fed.u32 p.arg ++ fed.u32 p.lo) ++ fed.u32 (extent_of p.ty)
+
 -- what the hash of a key reads
 abbrev pub fed_key : PartKey → List (List ℕ)
-fed_key k = fed.u32 k.part.arg ++ fed.u32 k.part.lo
+fed_key k = fed_part k.part
 
 pub fed_alike : (j k : PartKey) → same_key j k ≡ true → fed_key j ≡ fed_key k
-fed_alike j k e = ap (λ (p : Part). fed.u32 p.arg ++ fed.u32 p.lo) (same_part-is j.part k.part e)
+fed_alike j k e = ap fed_part (same_part-is j.part k.part e)
 
 -- ---- values
 

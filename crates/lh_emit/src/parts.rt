@@ -55,6 +55,7 @@ impl Hash for PartKey {
     fn hash<H: Hasher>(&self, state: &mut H) {
         self.part.arg.hash(state);
         self.part.lo.hash(state);
+        self.part.extent().hash(state);
     }
 }
 

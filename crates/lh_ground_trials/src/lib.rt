@@ -1,6 +1,6 @@
-//! Tests of the crates that know no modules: numbers, values, times, flows, streams, watchers and what waits for an instant.
+//! Tests of the crates that know no modules: flows, streams, watchers and what waits for an instant.
 #![tactic(auto)]
 
+pub mod instants;
 #[cfg(test)]
 mod tests;
-pub mod widths;

@@ -3,10 +3,6 @@
 mod flow_routes;
 mod index_noting;
 mod io_whole;
-mod ops_rows;
 mod queue_order;
-mod time_due;
-mod types_limits;
-mod types_text;
 mod watch_members;
 mod wishes_overlap;

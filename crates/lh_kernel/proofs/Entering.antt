@@ -1,7 +1,7 @@
 -- Steps of entering and leaving what instances come to and go from, move by move.
-use Rattle.std.proofs.Common.{arith, ◌≡◌, ℕ, zero, suc, ◌+◌, ◌<◌, ◌≤◌, List, [], ◌∷◌, ◌++◌, length, get_or, take, refl, ap, sym, ◌∙◌, subst, ◌⊎◌, inl, inr, Some}
+use Rattle.std.proofs.Common.{arith, ◌≡◌, ℕ, zero, suc, ◌+◌, ◌-◌, ◌<◌, ◌≤◌, List, [], ◌∷◌, ◌++◌, length, get_or, take, drop, refl, ap, sym, ◌∙◌, subst, ◌⊎◌, inl, inr, Some}
 use Rattle.std.specs.Prelude.{◌↔◌}
-use Rattle.std.proofs.lemmas.List.{take_more, take_all}
+use Rattle.std.proofs.lemmas.List.{take_more, take_all, drop_more}
 use Rattle.lh_index.specs.Rising.{IsOneOf}
 use Rattle.lh_index.specs.Sensed.{Senses}
 use Rattle.lh_index.specs.Waking.{IsNoted}
@@ -64,10 +64,10 @@ pub record HasTakenBack (moves : List Move) (old new : Noted) : Type 0 where
 pub entered_none : (a : Noted) → HasEntered [] a a
 entered_none a = record { long = refl; senses = with_none (ComesTo []) (Senses a.index) (λ s k h. h); wakes = with_none (WakeComes []) (IsNoted a.wakes) (λ t k h. h) }
 
-pub left_none : (a : Noted) → HasLeft [] a a
+left_none : (a : Noted) → HasLeft [] a a
 left_none a = record { long = refl; senses = without_none (GoesFrom []) (Senses a.index) (λ s k h. h); wakes = without_none (WakeGoes []) (IsNoted a.wakes) (λ t k h. h) }
 
-pub taken_none : (a : Noted) → HasTakenBack [] a a
+taken_none : (a : Noted) → HasTakenBack [] a a
 taken_none a = record { long = refl; senses = without_none (ComesTo []) (Senses a.index) (λ s k h. h); wakes = without_none (WakeComes []) (IsNoted a.wakes) (λ t k h. h) }
 
 -- one move more
@@ -83,12 +83,6 @@ module _ (ms : List Move) (i : ℕ) (m : Move) (l : i < length ms) (e : m ≡ ge
 
   wake_comes : IsEither (WakeComes (take i ms)) (OfWake m.instance m.wake_came) (WakeComes (take (i + 1) ms))
   wake_comes t k = one_next (λ (y : Move). (y.instance ≡ k) × (y.wake_came ≡ Some t))
-
-  goes : IsEither (GoesFrom (take i ms)) (OfSignal m.instance m.gone) (GoesFrom (take (i + 1) ms))
-  goes s k = one_next (λ (y : Move). (y.instance ≡ k) × IsOneOf s y.gone)
-
-  wake_goes : IsEither (WakeGoes (take i ms)) (OfWake m.instance m.wake_gone) (WakeGoes (take (i + 1) ms))
-  wake_goes t k = one_next (λ (y : Move). (y.instance ≡ k) × (y.wake_gone ≡ Some t))
 
   pub entered_next : (a b c : Noted) → HasEntered (take i ms) a b → HasNoted m.instance m.came m.wake_came b c → HasEntered (take (i + 1) ms) a c
   entered_next a b c h n = record {
@@ -106,20 +100,6 @@ module _ (ms : List Move) (i : ℕ) (m : Move) (l : i < length ms) (e : m ≡ ge
         (IsNoted c.wakes) (λ t k p. (wake_comes t k).1 (inl p)) (λ t k q. (wake_comes t k).1 (inr q)) h.wakes n.wakes;
   }
 
-  pub left_next : (a b c : Noted) → HasLeft (take i ms) a b → HasForgotten m.instance m.gone m.wake_gone b c → HasLeft (take (i + 1) ms) a c
-  left_next a b c h n = record {
-    long = n.long ∙ h.long;
-    senses = without_more (GoesFrom (take i ms)) (OfSignal m.instance m.gone) (GoesFrom (take (i + 1) ms)) (Senses a.index) (Senses b.index) (Senses c.index) goes h.senses n.senses;
-    wakes = without_more (WakeGoes (take i ms)) (OfWake m.instance m.wake_gone) (WakeGoes (take (i + 1) ms)) (IsNoted a.wakes) (IsNoted b.wakes) (IsNoted c.wakes) wake_goes h.wakes n.wakes;
-  }
-
-  pub taken_next : (a b c : Noted) → HasTakenBack (take i ms) a b → HasForgotten m.instance m.came m.wake_came b c → HasTakenBack (take (i + 1) ms) a c
-  taken_next a b c h n = record {
-    long = n.long ∙ h.long;
-    senses = without_more (ComesTo (take i ms)) (OfSignal m.instance m.came) (ComesTo (take (i + 1) ms)) (Senses a.index) (Senses b.index) (Senses c.index) comes h.senses n.senses;
-    wakes = without_more (WakeComes (take i ms)) (OfWake m.instance m.wake_came) (WakeComes (take (i + 1) ms)) (IsNoted a.wakes) (IsNoted b.wakes) (IsNoted c.wakes) wake_comes h.wakes n.wakes;
-  }
-
 -- all moves
 module _ (ms : List Move) (i : ℕ) (a b : Noted) (l : length ms ≤ i) where
   all : take i ms ≡ ms
@@ -128,11 +108,61 @@ module _ (ms : List Move) (i : ℕ) (a b : Noted) (l : length ms ≤ i) where
   pub entered_all : HasEntered (take i ms) a b → HasEntered ms a b
   entered_all h = let P : List Move → Type 0 = λ xs. HasEntered xs a b in subst P all h
 
-  pub left_all : HasLeft (take i ms) a b → HasLeft ms a b
-  left_all h = let P : List Move → Type 0 = λ xs. HasLeft xs a b in subst P all h
+-- none of the moves yet, from the last one on
+pub left_begin : (a : Noted) (seen : List Move) → seen ≡ [] → HasLeft seen a a
+left_begin a seen e = let P : List Move → Type 0 = λ xs. HasLeft xs a a in subst P (sym e) (left_none a)
 
-  pub taken_all : HasTakenBack (take i ms) a b → HasTakenBack ms a b
-  taken_all h = let P : List Move → Type 0 = λ xs. HasTakenBack xs a b in subst P all h
+pub taken_begin : (a : Noted) (seen : List Move) → seen ≡ [] → HasTakenBack seen a a
+taken_begin a seen e = let P : List Move → Type 0 = λ xs. HasTakenBack xs a a in subst P (sym e) (taken_none a)
+
+pub drop_back : (ms : List Move) (i : ℕ) (m : Move) → 0 < i → i ≤ length ms → m ≡ get_or ms (i - 1) m → drop (i - 1) ms ≡ m ∷ drop i ms
+drop_back ms i m p l e =
+    let q : i - 1 + 1 ≡ i = omega arith in
+    drop_more ms (i - 1) m (omega arith) ∙ ap (λ (y : Move). y ∷ drop (i - 1 + 1) ms) (sym e) ∙ ap (λ (j : ℕ). m ∷ drop j ms) q
+
+-- the move before them
+module _ (m : Move) (seen after : List Move) (e : after ≡ m ∷ seen) where
+  one_before : (P : Move → Type 0) → OneMove P after ↔ (OneMove P seen ⊎ P m)
+  one_before P =
+      let Q : List Move → Type 0 = λ ys. OneMove P ys ↔ (OneMove P seen ⊎ P m) in
+      subst Q (sym e) (λ h. elim h [ inl p ↦ inr p | inr o ↦ inl o ], λ h. elim h [ inl o ↦ inr o | inr p ↦ inl p ])
+
+  comes_before : IsEither (ComesTo seen) (OfSignal m.instance m.came) (ComesTo after)
+  comes_before s k = one_before (λ (y : Move). (y.instance ≡ k) × IsOneOf s y.came)
+
+  wake_comes_before : IsEither (WakeComes seen) (OfWake m.instance m.wake_came) (WakeComes after)
+  wake_comes_before t k = one_before (λ (y : Move). (y.instance ≡ k) × (y.wake_came ≡ Some t))
+
+  goes_before : IsEither (GoesFrom seen) (OfSignal m.instance m.gone) (GoesFrom after)
+  goes_before s k = one_before (λ (y : Move). (y.instance ≡ k) × IsOneOf s y.gone)
+
+  wake_goes_before : IsEither (WakeGoes seen) (OfWake m.instance m.wake_gone) (WakeGoes after)
+  wake_goes_before t k = one_before (λ (y : Move). (y.instance ≡ k) × (y.wake_gone ≡ Some t))
+
+  pub left_before : (a b c : Noted) → HasLeft seen a b → HasForgotten m.instance m.gone m.wake_gone b c → HasLeft after a c
+  left_before a b c h n = record {
+    long = n.long ∙ h.long;
+    senses = without_more (GoesFrom seen) (OfSignal m.instance m.gone) (GoesFrom after) (Senses a.index) (Senses b.index) (Senses c.index) goes_before h.senses n.senses;
+    wakes = without_more (WakeGoes seen) (OfWake m.instance m.wake_gone) (WakeGoes after) (IsNoted a.wakes) (IsNoted b.wakes) (IsNoted c.wakes) wake_goes_before h.wakes n.wakes;
+  }
+
+  pub taken_before : (a b c : Noted) → HasTakenBack seen a b → HasForgotten m.instance m.came m.wake_came b c → HasTakenBack after a c
+  taken_before a b c h n = record {
+    long = n.long ∙ h.long;
+    senses = without_more (ComesTo seen) (OfSignal m.instance m.came) (ComesTo after) (Senses a.index) (Senses b.index) (Senses c.index) comes_before h.senses n.senses;
+    wakes = without_more (WakeComes seen) (OfWake m.instance m.wake_came) (WakeComes after) (IsNoted a.wakes) (IsNoted b.wakes) (IsNoted c.wakes) wake_comes_before h.wakes n.wakes;
+  }
+
+-- all of them
+module _ (ms : List Move) (i : ℕ) (a b : Noted) (l : i ≤ 0) where
+  whole : drop i ms ≡ ms
+  whole = let e : i ≡ 0 = omega (arith, l) in ap (λ (j : ℕ). drop j ms) e
+
+  pub left_whole : HasLeft (drop i ms) a b → HasLeft ms a b
+  left_whole h = let P : List Move → Type 0 = λ xs. HasLeft xs a b in subst P whole h
+
+  pub taken_whole : HasTakenBack (drop i ms) a b → HasTakenBack ms a b
+  taken_whole h = let P : List Move → Type 0 = λ xs. HasTakenBack xs a b in subst P whole h
 
 -- what was entered and is taken back
 pub some_entered : (ms : List Move) (a b : Noted) → HasEntered ms a b → HasEnteredSome ms a b

@@ -93,6 +93,15 @@ module _ (states : List InstState) (probes : List (List Range)) (old now : List 
     all = λ k h w. elim ((has_next k items i y l e).0 h) [ inl g ↦ (m k).1 (inr (r.all k g w)) | inr o ↦ (m k).1 (inl (sym o)) ];
   }
 
+  -- one that is there already
+  pub roused_there : (i y : ℕ) (before after : List ℕ) → i < length items → y ≡ get_or items i 0 → IsOneOf y after → RousedTo states probes old now items i before after →
+      RousedTo states probes old now items (i + 1) before after
+  roused_there i y before after l e h r = record {
+    keeps = r.keeps;
+    sound = r.sound;
+    all = λ k g w. elim ((has_next k items i y l e).0 g) [ inl f ↦ r.all k f w | inr o ↦ (let P : ℕ → Type 0 = λ j. IsOneOf j after in subst P o h) ];
+  }
+
   -- one that does not
   calm : (y k : ℕ) (s : InstState) (rs : List Range) → slice_get states y ≡ Some s → slice_get probes y ≡ Some rs →
       list_any (bit_differs old now) (bit_numbers (parts_sensed s rs)) ≡ false → y ≡ k → IsRoused states probes old now k → ⊥

@@ -54,7 +54,9 @@ impl Noted {
         requires known { (signals : List Signal) × (length self.old.index ≡ length signals) × MovesKnown signals moves.now }
         ensures left { HasLeft moves.now self.old self.new }
     {
-        for entry in moves {
+        // From the last one on: the numbers of instances rise from move to move, and one at the end of a list leaves at once.
+        for number in (0..moves.len()).rev() {
+            let entry = &moves[number];
             self.forget(entry.instance, &entry.gone, entry.wake_gone);
         }
     }
@@ -65,7 +67,9 @@ impl Noted {
         ensures all { (before : Noted) → AreFresh moves.now before → HasEntered moves.now before self.old → IsSameNoted before self.new }
         ensures some { (before : Noted) → AreFresh moves.now before → HasEnteredSome moves.now before self.old → IsSameNoted before self.new }
     {
-        for entry in moves {
+        // From the last one on, as where they leave.
+        for number in (0..moves.len()).rev() {
+            let entry = &moves[number];
             self.forget(entry.instance, &entry.came, entry.wake_came);
         }
     }

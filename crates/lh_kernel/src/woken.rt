@@ -93,6 +93,10 @@ impl Asleep<'_> {
             return Ok(());
         };
         for &instance in self.noted.index.sensing(signal) {
+            // One that is woken already needs no look at its parts.
+            if woken.has(instance) {
+                continue;
+            }
             let probes = &self.probes[instance as usize];
             let parts = self.states[instance as usize].senses(probes);
             if differs_with(parts, changed, old, now) {

@@ -44,13 +44,23 @@ pub not-one-more : (parts : List (Option Part)) (vs : List ValueId) (v : ValueId
     → first_result parts (vs ++ v ∷ []) p ≡ first_result parts vs p
 not-one-more parts vs v p o e f = first-push parts vs v p ∙ ap (or_else (first_result parts vs p)) (last-other parts v p o e f) ∙ or-none (first_result parts vs p)
 
+key-is : (x y : ℕ × ℕ × ℕ) → same_key x y ≡ true → x ≡ y
+key-is x y f =
+    let (front, f2) = and_both (nat_eq x.0 y.0 && nat_eq x.1 y.1) (nat_eq x.2 y.2) f in
+    let (f0, f1) = and_both (nat_eq x.0 y.0) (nat_eq x.1 y.1) front in
+    (λ i. (nat_eq-is x.0 y.0 f0 i, nat_eq-is x.1 y.1 f1 i, nat_eq-is x.2 y.2 f2 i))
+
+key-refl : (x : ℕ × ℕ × ℕ) → same_key x x ≡ true
+key-refl x =
+    ap (λ (b : Bool). (b && nat_eq x.1 x.1) && nat_eq x.2 x.2) (nat_eq-refl x.0) ∙ ap (λ (b : Bool). b && nat_eq x.2 x.2) (nat_eq-refl x.1) ∙ nat_eq-refl x.2
+
 module _ {S : Type 0} (parts : List (Option Part)) (v : ValueId) where
   -- it is no part
-  pub takes-none : (m : HashMap (ℕ × ℕ) (List ValueId) S) → part_at parts v.0 ≡ None → KeepsOneMore parts v m m
+  pub takes-none : (m : HashMap (ℕ × ℕ × ℕ) (List ValueId) S) → part_at parts v.0 ≡ None → KeepsOneMore parts v m m
   takes-none m e = λ results h. record { within = h.within; first = λ p. h.first p ∙ sym (not-one-more parts results v p None e refl) }
 
   -- an earlier one is the same part
-  pub takes-again : (m : HashMap (ℕ × ℕ) (List ValueId) S) (q : Part) (w : ValueId) → part_at parts v.0 ≡ Some q → first_result parts (kept_for m q) q ≡ Some w → KeepsOneMore parts v m m
+  pub takes-again : (m : HashMap (ℕ × ℕ × ℕ) (List ValueId) S) (q : Part) (w : ValueId) → part_at parts v.0 ≡ Some q → first_result parts (kept_for m q) q ≡ Some w → KeepsOneMore parts v m m
   takes-again m q w e f = λ results h. record { within = h.within; first = λ p. h.first p ∙ by results h p (same_part q p) refl }
     where
       by : (results : List ValueId) → KeepsFirsts parts results m → (p : Part) (b : Bool) → same_part q p ≡ b → first_result parts results p ≡ first_result parts (results ++ v ∷ []) p
@@ -59,27 +69,26 @@ module _ {S : Type 0} (parts : List (Option Part)) (v : ValueId) where
           let there : first_result parts results p ≡ Some w = subst (λ (x : Part). first_result parts results x ≡ Some w) (same_part-is q p k) (sym (h.first q) ∙ f) in
           there ∙ sym (first-push parts results v p ∙ ap (λ (o : Option ValueId). or_else o (last_if parts v p)) there)
 
-  pub takes-seen : (m : HashMap (ℕ × ℕ) (List ValueId) S) (q : Part) (o : Option ValueId) (vs : List ValueId) → part_at parts v.0 ≡ Some q → vs ≡ kept_for m q → o ≡ first_result parts vs q
+  pub takes-seen : (m : HashMap (ℕ × ℕ × ℕ) (List ValueId) S) (q : Part) (o : Option ValueId) (vs : List ValueId) → part_at parts v.0 ≡ Some q → vs ≡ kept_for m q → o ≡ first_result parts vs q
       → true ≡ is_some o → KeepsOneMore parts v m m
   takes-seen m q None vs e k f t = absurd (let z : true ≡ false = t in cc)
   takes-seen m q (Some w) vs e k f t = takes-again m q w e (ap (λ (x : List ValueId). first_result parts x q) (sym k) ∙ sym f)
 
-  -- it is added to those of its argument and lowest bit
-  pub takes-new : (m n : HashMap (ℕ × ℕ) (List ValueId) S) (q : Part) (key : ℕ × ℕ) → part_at parts v.0 ≡ Some q → key ≡ key_of q → v.0 < length parts
+  -- it is added to those of its key
+  pub takes-new : (m n : HashMap (ℕ × ℕ × ℕ) (List ValueId) S) (q : Part) (key : ℕ × ℕ × ℕ) → part_at parts v.0 ≡ Some q → key ≡ key_of q → v.0 < length parts
       → AddsAt key v m n → KeepsOneMore parts v m n
   takes-new m n q key e c l adds = λ results h. record { within = λ k. within-at results h k (same_key key k) refl; first = λ p. at results h p (same_key key (key_of p)) refl }
     where
-      within-at : (results : List ValueId) → KeepsFirsts parts results m → (k : ℕ × ℕ) (b : Bool) → same_key key k ≡ b → AreValues (length parts) (kept_at n k)
+      within-at : (results : List ValueId) → KeepsFirsts parts results m → (k : ℕ × ℕ × ℕ) (b : Bool) → same_key key k ≡ b → AreValues (length parts) (kept_at n k)
       within-at results h k true f = subst (AreValues (length parts)) (sym (adds.kept k ∙ ap (λ (x : Bool). if x then kept_at m key ++ v ∷ [] else kept_at m k) f))
           (values-push (length parts) (kept_at m key) v (h.within key) l)
       within-at results h k false f = subst (AreValues (length parts)) (sym (adds.kept k ∙ ap (λ (x : Bool). if x then kept_at m key ++ v ∷ [] else kept_at m k) f)) (h.within k)
 
       at : (results : List ValueId) → KeepsFirsts parts results m → (p : Part) (b : Bool) → same_key key (key_of p) ≡ b → first_result parts (kept_for n p) p ≡ first_result parts (results ++ v ∷ []) p
       at results h p true f =
-          let (f0, f1) = and_both (nat_eq key.0 p.arg) (nat_eq key.1 p.lo) f in
-          let same : key ≡ key_of p = (λ i. (nat_eq-is key.0 p.arg f0 i, nat_eq-is key.1 p.lo f1 i)) in
+          let same : key ≡ key_of p = key-is key (key_of p) f in
           ap (λ (vs : List ValueId). first_result parts vs p)
-          (adds.kept (key_of p) ∙ ap (λ (x : Bool). if x then kept_at m key ++ v ∷ [] else kept_for m p) f ∙ ap (λ (k : ℕ × ℕ). kept_at m k ++ v ∷ []) same)
+          (adds.kept (key_of p) ∙ ap (λ (x : Bool). if x then kept_at m key ++ v ∷ [] else kept_for m p) f ∙ ap (λ (k : ℕ × ℕ × ℕ). kept_at m k ++ v ∷ []) same)
           ∙ first-push parts (kept_for m p) v p
           ∙ ap (λ (o : Option ValueId). or_else o (last_if parts v p)) (h.first p)
           ∙ sym (first-push parts results v p)
@@ -92,27 +101,24 @@ module _ {S : Type 0} (parts : List (Option Part)) (v : ValueId) where
           by false k = k
           by true k =
               let there : same_key key (key_of q) ≡ false = subst (λ (x : Part). same_key key (key_of x) ≡ false) (sym (same_part-is q p k)) f in
-              let here : same_key key (key_of q) ≡ true = ap (λ (x : ℕ × ℕ). same_key x (key_of q)) c ∙ key-refl q.arg q.lo in
+              let here : same_key key (key_of q) ≡ true = ap (λ (x : ℕ × ℕ × ℕ). same_key x (key_of q)) c ∙ key-refl (key_of q) in
               absurd (let z : true ≡ false = sym here ∙ there in cc)
-            where
-              key-refl : (a b : ℕ) → same_key (a, b) (a, b) ≡ true
-              key-refl a b = ap (λ (x : Bool). x && nat_eq b b) (nat_eq-refl a) ∙ nat_eq-refl b
 
 -- ---- one more value at a key
 
 -- what was kept at a key is taken out, and put back with one more value
-pub kept-updated : {S : Type 0} (m k n : HashMap (ℕ × ℕ) (List ValueId) S) (key : ℕ × ℕ) (v : ValueId) (old new : List ValueId) → old ≡ kept_at m key
-    → ((q : ℕ × ℕ) → same_key key q ≡ false → kept_at k q ≡ kept_at m q)
-    → new ≡ old ++ v ∷ [] → ((q : ℕ × ℕ) → get same_key n q ≡ (if same_key key q then Some new else get same_key k q)) → AddsAt key v m n
+pub kept-updated : {S : Type 0} (m k n : HashMap (ℕ × ℕ × ℕ) (List ValueId) S) (key : ℕ × ℕ × ℕ) (v : ValueId) (old new : List ValueId) → old ≡ kept_at m key
+    → ((q : ℕ × ℕ × ℕ) → same_key key q ≡ false → kept_at k q ≡ kept_at m q)
+    → new ≡ old ++ v ∷ [] → ((q : ℕ × ℕ × ℕ) → get same_key n q ≡ (if same_key key q then Some new else get same_key k q)) → AddsAt key v m n
 kept-updated m k n key v old new o others e u = record { kept = λ q. ap (λ (x : Option (List ValueId)). unwrap_or x []) (u q) ∙ by q (same_key key q) refl }
   where
-    by : (q : ℕ × ℕ) (b : Bool) → same_key key q ≡ b → unwrap_or (if b then Some new else get same_key k q) [] ≡ (if b then kept_at m key ++ v ∷ [] else kept_at m q)
+    by : (q : ℕ × ℕ × ℕ) (b : Bool) → same_key key q ≡ b → unwrap_or (if b then Some new else get same_key k q) [] ≡ (if b then kept_at m key ++ v ∷ [] else kept_at m q)
     by q true t = e ∙ ap (λ (x : List ValueId). x ++ v ∷ []) o
     by q false t = others q t
 
 -- ---- nothing is kept before the first result
 
-pub keeps-none : {S : Type 0} (parts : List (Option Part)) (m : HashMap (ℕ × ℕ) (List ValueId) S) → ((k : ℕ × ℕ) → get same_key m k ≡ None) → KeepsFirsts parts [] m
+pub keeps-none : {S : Type 0} (parts : List (Option Part)) (m : HashMap (ℕ × ℕ × ℕ) (List ValueId) S) → ((k : ℕ × ℕ × ℕ) → get same_key m k ≡ None) → KeepsFirsts parts [] m
 keeps-none parts m h = record {
   within = λ k. subst (AreValues (length parts)) (sym (ap (λ (o : Option (List ValueId)). unwrap_or o []) (h k))) tt;
   first = λ p. ap (λ (o : Option (List ValueId)). first_result parts (unwrap_or o []) p) (h (key_of p));

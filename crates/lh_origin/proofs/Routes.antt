@@ -42,7 +42,7 @@ use Rattle.lh_emission.specs.Ways.{whole}
 use Rattle.lh_emission.proofs.Reaching as Reaching
 use Rattle.lh_origin.specs.declared.origin.Origin.{Origin}
 use Rattle.lh_origin.specs.declared.origin.RouteStep.{RouteStep}
-use Rattle.lh_origin.specs.Firsts.{is_the_part, first_result, kept_for, AreValues, step_texts, texts_along, IsRouteTo}
+use Rattle.lh_origin.specs.Firsts.{is_the_part, first_result, key_of, kept_for, AreValues, step_texts, texts_along, IsRouteTo}
 use Rattle.lh_origin.specs.Origins.{step_text, route_text, AreStepsOf, IsOrigin}
 use Rattle.lh_origin.proofs.WaysBack.{giving-within}
 use Rattle.lh_origin.proofs.Keeping.{results-values, first-some}
@@ -552,7 +552,7 @@ module _ (f : Naming) (o : Origin) (is : IsOrigin f o) (name : UnitName) (p : Pa
   route-some v route e r = at (way_to o.flat.now f name is.names is.below is.steps v.0) refl
     where
       is_first : (v.0 < length o.parts.now.parts.items) × (part_at o.parts.now.parts.items v.0 ≡ Some p)
-      is_first = first-some (length o.parts.now.parts.items) o.parts.now.parts.items (kept_for o.firsts p) p v (is.firsts.within (p.arg, p.lo)) e
+      is_first = first-some (length o.parts.now.parts.items) o.parts.now.parts.items (kept_for o.firsts p) p v (is.firsts.within (key_of p)) e
 
       is_in : v.0 < o.flat.now.values
       is_in = subst (λ n. v.0 < n) is.table.long is_first.0

@@ -1,4 +1,4 @@
--- The first results of steps to each part, by argument and lowest bit; and the steps that lead to a value.
+-- The first results of steps to each part, by argument, lowest bit and extent; and the steps that lead to a value.
 use Rattle.std.specs.Prelude.{◌≡◌, ℕ, ◌<◌, List, [], ◌∷◌, ◌++◌, length, Bool, false, ◌&&◌, nat_eq, if◌then◌else◌, unwrap_or, Option, Some, None}
 use Rattle.std.specs.HashMap.{HashMap, get}
 use Rattle.lh_types.specs.Types.{TypeTree}
@@ -6,6 +6,7 @@ use Rattle.lh_types.specs.declared.op.Op.{Op}
 use Rattle.lh_unit.specs.Within.{Each}
 use Rattle.lh_unit.specs.declared.inst.ValueId.{ValueId}
 use Rattle.lh_term.specs.Same.{same_part}
+use Rattle.lh_term.specs.Parts.{extent_of}
 use Rattle.lh_term.specs.declared.part.Part.{Part}
 use Rattle.lh_parts.specs.Steps.{step_at, part_at}
 use Rattle.lh_parts.specs.Resolving.{StepsLeadAlong}
@@ -24,17 +25,18 @@ abbrev pub first_result : List (Option Part) → List ValueId → Part → Optio
 first_result parts [] p = None
 first_result parts (v ∷ more) p = if is_the_part p (part_at parts v.0) then Some v else first_result parts more p
 
-abbrev pub same_key : ℕ × ℕ → ℕ × ℕ → Bool
-same_key x y = nat_eq x.0 y.0 && nat_eq x.1 y.1
+abbrev pub same_key : ℕ × ℕ × ℕ → ℕ × ℕ × ℕ → Bool
+same_key x y = (nat_eq x.0 y.0 && nat_eq x.1 y.1) && nat_eq x.2 y.2
 
--- what is kept at an argument and a lowest bit
-abbrev pub kept_at : {S : Type 0} → HashMap (ℕ × ℕ) (List ValueId) S → ℕ × ℕ → List ValueId
+-- what is kept at a key
+abbrev pub kept_at : {S : Type 0} → HashMap (ℕ × ℕ × ℕ) (List ValueId) S → ℕ × ℕ × ℕ → List ValueId
 kept_at firsts k = unwrap_or (get same_key firsts k) []
 
-abbrev pub key_of : Part → ℕ × ℕ
-key_of p = (p.arg, p.lo)
+-- argument, lowest bit and extent
+abbrev pub key_of : Part → ℕ × ℕ × ℕ
+key_of p = (p.arg, p.lo, extent_of p.ty)
 
-abbrev pub kept_for : {S : Type 0} → HashMap (ℕ × ℕ) (List ValueId) S → Part → List ValueId
+abbrev pub kept_for : {S : Type 0} → HashMap (ℕ × ℕ × ℕ) (List ValueId) S → Part → List ValueId
 kept_for firsts p = kept_at firsts (key_of p)
 
 -- these are values
@@ -42,20 +44,20 @@ abbrev pub AreValues : ℕ → List ValueId → Type 0
 AreValues n vs = Each (λ (v : ValueId). v.0 < n) vs
 
 -- what is kept are values, and the first one of each part is the first of these results
-pub record KeepsFirsts {S : Type 0} (parts : List (Option Part)) (results : List ValueId) (firsts : HashMap (ℕ × ℕ) (List ValueId) S) : Type 0 where
-  pub within : (k : ℕ × ℕ) → AreValues (length parts) (kept_at firsts k)
+pub record KeepsFirsts {S : Type 0} (parts : List (Option Part)) (results : List ValueId) (firsts : HashMap (ℕ × ℕ × ℕ) (List ValueId) S) : Type 0 where
+  pub within : (k : ℕ × ℕ × ℕ) → AreValues (length parts) (kept_at firsts k)
   pub first : (p : Part) → first_result parts (kept_for firsts p) p ≡ first_result parts results p
 
 -- one more value at a key
-pub record AddsAt {S : Type 0} (key : ℕ × ℕ) (v : ValueId) (old new : HashMap (ℕ × ℕ) (List ValueId) S) : Type 0 where
-  pub kept : (k : ℕ × ℕ) → kept_at new k ≡ (if same_key key k then kept_at old key ++ v ∷ [] else kept_at old k)
+pub record AddsAt {S : Type 0} (key : ℕ × ℕ × ℕ) (v : ValueId) (old new : HashMap (ℕ × ℕ × ℕ) (List ValueId) S) : Type 0 where
+  pub kept : (k : ℕ × ℕ × ℕ) → kept_at new k ≡ (if same_key key k then kept_at old key ++ v ∷ [] else kept_at old k)
 
 -- what is kept are values
-abbrev pub KeepValues : {S : Type 0} → ℕ → HashMap (ℕ × ℕ) (List ValueId) S → Type 0
-KeepValues n firsts = (k : ℕ × ℕ) → AreValues n (kept_at firsts k)
+abbrev pub KeepValues : {S : Type 0} → ℕ → HashMap (ℕ × ℕ × ℕ) (List ValueId) S → Type 0
+KeepValues n firsts = (k : ℕ × ℕ × ℕ) → AreValues n (kept_at firsts k)
 
 -- one more result is kept
-abbrev pub KeepsOneMore : {S : Type 0} → List (Option Part) → ValueId → (old new : HashMap (ℕ × ℕ) (List ValueId) S) → Type 0
+abbrev pub KeepsOneMore : {S : Type 0} → List (Option Part) → ValueId → (old new : HashMap (ℕ × ℕ × ℕ) (List ValueId) S) → Type 0
 KeepsOneMore parts v old new = (results : List ValueId) → KeepsFirsts parts results old → KeepsFirsts parts (results ++ v ∷ []) new
 
 -- The first results of steps to each part are kept.

@@ -30,8 +30,11 @@ pub struct RouteStep {
 /// Steps in order.
 pub type Route = ListOf<RouteStep>;
 
-/// The first results of steps to each part, by argument and lowest bit.
-type Firsts = HashMap<(u32, u32), ValueIdList>;
+/// The first results of steps to each part, by argument, lowest bit and extent: few parts have one key.
+type Firsts = HashMap<Key, ValueIdList>;
+
+/// An argument, a lowest bit and an extent.
+type Key = (u32, u32, u32);
 
 /// A flat text with its parts.
 #[derive(Drop)]
@@ -178,12 +181,12 @@ fn take(
     if first_of(parts, kept_for(firsts, part), part).is_some() {
         return Ok(());
     }
-    add(alloc, firsts, (part.arg, part.lo), value)?;
+    add(alloc, firsts, key_of(part), value)?;
     Ok(())
 }
 
-/// Adds a value to those that are kept at an argument and a lowest bit.
-fn add(alloc: Global, firsts: &mut Firsts, key: (u32, u32), value: ValueId) -> Result<(), NoMemory>
+/// Adds a value to those that are kept at a key.
+fn add(alloc: Global, firsts: &mut Firsts, key: Key, value: ValueId) -> Result<(), NoMemory>
     ensures { OnOk result (spec.AddsAt key value firsts.old firsts.new) }
 {
     let mut values = take_out(alloc, firsts, key);
@@ -192,10 +195,10 @@ fn add(alloc: Global, firsts: &mut Firsts, key: (u32, u32), value: ValueId) -> R
     Ok(())
 }
 
-/// Takes out what is kept at an argument and a lowest bit.
-fn take_out(alloc: Global, firsts: &mut Firsts, key: (u32, u32)) -> ValueIdList
+/// Takes out what is kept at a key.
+fn take_out(alloc: Global, firsts: &mut Firsts, key: Key) -> ValueIdList
     ensures values { result ≡ spec.kept_at firsts.old key }
-    ensures others { (k : ℕ × ℕ) → spec.same_key key k ≡ false → spec.kept_at firsts.new k ≡ spec.kept_at firsts.old k }
+    ensures others { (k : ℕ × ℕ × ℕ) → spec.same_key key k ≡ false → spec.kept_at firsts.new k ≡ spec.kept_at firsts.old k }
 {
     match firsts.remove(&key) {
         Some(values) => values,
@@ -203,11 +206,18 @@ fn take_out(alloc: Global, firsts: &mut Firsts, key: (u32, u32)) -> ValueIdList
     }
 }
 
+/// The key of a part.
+fn key_of(part: &Part) -> Key
+    ensures { result ≡ spec.key_of part.now }
+{
+    (part.arg, part.lo, part.extent())
+}
+
 /// The values that are kept for a part.
 fn kept_for<'m>(firsts: &'m Firsts, part: &Part) -> &'m [ValueId]
     ensures { result.now ≡ spec.kept_for firsts.now part.now }
 {
-    match firsts.get(&(part.arg, part.lo)) {
+    match firsts.get(&key_of(part)) {
         Some(values) => values.as_slice(),
         None => &[],
     }

@@ -1,13 +1,16 @@
-//! What a program hands to `run` and takes from it: the words of its command line, and the code that it ends with.
+//! What a program needs: `run`, with the words of a command line that are handed to it, and the code to end with for its status.
 #![tactic(auto)]
 
-ghost use Rattle.std.specs.Prelude.{◌≡◌, [], map, drop, IfOk, OnErr};
+ghost use Rattle.std.specs.Prelude.{◌≡◌, ◌⊎◌, [], map, drop, IfOk, OnErr};
 ghost use Rattle.std.specs.String.{string_bytes};
 ghost use Rattle.std.specs.Vec.Iter.{into_iter_items};
 ghost use Rattle.std.specs.Process.{exit_status};
-ghost use Rattle.lh_run.specs.StatusLines.{status_code};
+ghost use Rattle.lh_run.specs.Account.{use_of, Gained, BreaksOff};
+ghost use Rattle.lh_run.specs.StatusLines.{status_code, status_line};
 
+use lh_io::stream::Sink;
 use lh_run::status::Status;
+pub use lh_run::top::run;
 use lh_types::list::{ByteList, TextList};
 use lh_types::ty::NoMemory;
 use std::alloc::Global;
@@ -44,6 +47,17 @@ pub fn words_of(alloc: Global, args: io::Result<Args>) -> Result<TextList, NoMem
         Err(error) if error.kind() == ErrorKind::OutOfMemory => Err(NoMemory),
         Err(_) => Ok(TextList::new(alloc)),
     }
+}
+
+/// Tells on the log that there was no memory for `run` to begin with, and answers the code to end with.
+pub fn no_memory<L: Sink>(log: &mut L) -> ExitCode
+    ensures code { exit_status result ≡ status_code Status.OutOfMemory }
+    ensures told { Gained (use_of (L.written log.old) (L.written log.new) (L.faults log.old) (L.faults log.new)) (status_line Status.OutOfMemory) ⊎ BreaksOff (use_of (L.written log.old) (L.written log.new) (L.faults log.old) (L.faults log.new)) (status_line Status.OutOfMemory) }
+{
+    let status = Status::OutOfMemory;
+    // Where the log fails too, nothing is left to tell it by.
+    let _ = status.write_line(log);
+    exit_code(&status)
 }
 
 /// The exit code of the program: the number of its status.

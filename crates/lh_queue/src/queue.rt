@@ -331,14 +331,14 @@ impl Queue {
         }
     }
 
-    /// The wish that was put last into the bucket of this number, where it comes before a wish, and else the bucket's first.
+    /// The wish that is known of the bucket of this number, where it comes before a wish, and else the bucket's first.
     fn near(&self, k: usize, first: usize, w: &Wish) -> usize
         requires order { AreInOrder self.now.held }
         requires keys { KeysDiffer self.now.held }
         requires starts { IsBehind self.now.held w.now first }
         ensures { IsBehind self.now.held w.now result }
     {
-        match self.hints.get(k) {
+        match self.hints.get(k, w.due) {
             Some(key) => { if self.is_near(key, w) { key } else { first } }
             None => first,
         }
@@ -395,9 +395,10 @@ impl Queue {
         requires once { NamesOnce w.bits }
         ensures { IsPut self.old self.new w }
     {
+        let due = w.due;
         let next = self.links[near].next;
         let key = self.links.insert_reserved(Linked { wish: w, next });
         self.links[near].next = Some(key);
-        self.hints.note(k, key);
+        self.hints.note(k, key, due);
     }
 }

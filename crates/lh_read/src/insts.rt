@@ -1,6 +1,6 @@
 //! Instructions, with ids in place of names.
 //!
-//! Each call answers `NoMemory` only for want of memory; the module then says what it said.
+//! Each call answers `NoMemory` as the calls of `ids` do; of the module nothing is said then.
 ghost use Rattle.std.specs.Prelude.{◌<◌, map, IfOk};
 ghost use Rattle.lh_unit.specs.Arena.{unit_count};
 ghost use Rattle.lh_unit.specs.Contents.{pure_text, st_text, drv_text, reg_text, child_text, call_text, phi_text, branch_text, wait_text, ret_text};

@@ -34,7 +34,7 @@ pub enum TextFault {
     /// The line is the 65,537th instruction of its unit.
     #[error("line {0}: unit too large")]
     UnitTooLarge(u32),
-    /// The line defines a name that is defined.
+    /// The line defines a name that is defined already, or a unit `@llhd.assert`.
     #[error("line {0}: duplicate name")]
     DuplicateName(u32),
     /// Memory ran out.
@@ -54,7 +54,7 @@ fn fault_at(number: u32, fault: LineFault) -> TextFault
     }
 }
 
-/// Reads the text of a file into a module, in a time and a memory that grow as its length.
+/// Reads the text of a file, of at most 64 MiB, into a module.
 ///
 /// A file is a list of lines, each ended by byte 10, and each line says at most one item. The answer is the module of
 /// these items, or the first faulty line; `OutOfMemory` says nothing of the text.

@@ -21,6 +21,18 @@ use lh_unit::inst::{Declare, UnitKind};
 use lh_unit::module::Module;
 use std::alloc::Global;
 
+/// How many types a list may have of which the room that no type needs is given back.
+const FEW_TYPES: usize = 4096;
+
+/// Gives back the room that no type of a short list needs. Of a long one it would take a copy, and room that was never touched takes no memory.
+fn fit(types: &mut TyList)
+    ensures { types.new ≡ types.old }
+{
+    if types.len() <= FEW_TYPES {
+        types.shrink();
+    }
+}
+
 /// The declaration of a function.
 fn declare_function(
     alloc: Global,
@@ -31,7 +43,7 @@ fn declare_function(
     ensures { IfOk result (λ d. d ≡ Declare.Func (unit_name_of name.now) params result_type) }
 {
     let name = name.to_unit_name(alloc)?;
-    params.shrink();
+    fit(&mut params);
     Ok(Declare::Func {
         name,
         params,
@@ -49,8 +61,8 @@ fn declare_unit(
     ensures { IfOk result (λ d. d ≡ Declare.Unit (unit_name_of name.now) inputs outputs) }
 {
     let name = name.to_unit_name(alloc)?;
-    inputs.shrink();
-    outputs.shrink();
+    fit(&mut inputs);
+    fit(&mut outputs);
     Ok(Declare::Unit {
         name,
         inputs,

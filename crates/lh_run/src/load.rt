@@ -27,6 +27,8 @@ pub fn load<S: Source>(alloc: Global, src: &mut S) -> Result<Verified, Status>
 {
     let bytes = read_all(alloc, src, SOURCE_LIMIT)?;
     let module = read(alloc, &bytes)?;
+    // The module holds nothing of the text, which may be large.
+    drop(bytes);
     let verified = match verify(alloc, module) {
         Ok(verified) => verified,
         Err(fault) => return Err(refused(fault)),

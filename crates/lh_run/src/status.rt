@@ -23,7 +23,7 @@ pub enum Refusal {
     Syntax(u32),
     /// The line is the 65,537th instruction of its unit.
     UnitTooLarge(u32),
-    /// The line defines a name that is defined already.
+    /// The line defines a name that is defined already, or a unit `@llhd.assert`.
     DuplicateName(u32),
     /// The instruction is the first faulty one, and this is the number of its lowest fault.
     Invalid {

@@ -16,6 +16,10 @@ pub fn number(word: &[u8]) -> Option<u128>
     digits(word)
 }
 
+/// A number below it has room for one digit more, which no division need tell.
+const TENTH: u128 = u128::MAX / 10;
+
+/// The number that these digits say, where it is below 2^128.
 fn digits(text: &[u8]) -> Option<u128>
     ensures { result ≡ small (digits_from 0 text.now) }
 {
@@ -25,7 +29,7 @@ fn digits(text: &[u8]) -> Option<u128>
             return None;
         }
         let d = u128::from(*b - b'0');
-        if n > (u128::MAX - d) / 10 {
+        if n >= TENTH && n > (u128::MAX - d) / 10 {
             return None;
         }
         n = n * 10 + d;

@@ -1,14 +1,18 @@
 -- The calls that find registers, and the shape of rows.
-use Rattle.std.proofs.Common.{◌≡◌, List, [], ◌∷◌, ◌++◌, map, Bool, true, false, not, ◌||◌, Option, Some, None, refl, ap, sym, ◌∙◌, subst, append_assoc}
+use Rattle.std.proofs.Common.{◌≡◌, List, [], ◌∷◌, ◌++◌, map, Bool, true, false, not, ◌||◌, Option, Some, None, Result, Ok, Err, refl, ap, sym, ◌∙◌, subst, append_assoc}
 use Rattle.std.specs.Bool.{if◌then◌else◌}
 use Rattle.std.specs.List.{list_any}
-use Rattle.lh_term.specs.Arena.{Grows}
+use Rattle.lh_term.specs.Tree.{Tree}
+use Rattle.lh_term.specs.Arena.{trees, tree_at, IsIn, Grows}
 use Rattle.lh_term.specs.declared.part.Part.{Part}
 use Rattle.lh_term.specs.declared.term.Node.{Node}
-use Rattle.lh_term.proofs.Swaps.{stands_grown, grows_on}
+use Rattle.lh_term.specs.declared.term.TermId.{TermId}
+use Rattle.lh_term.proofs.Swaps.{tree_grown, in_grown, stands_grown, grows_on}
 use Rattle.lh_edge.specs.Shown.{has_too_many_atoms, is_edge_shown}
 use Rattle.lh_edge.specs.Triggers.{TriggerTree, EdgeRowTree}
-use Rattle.lh_edge.specs.Answers.{AreTriggers, GivesTriggers}
+use Rattle.lh_edge.specs.Answers.{AreTriggers, TriggersOrFault}
+use Rattle.lh_edge.specs.declared.triggers.EdgeFault.{EdgeFault}
+use Rattle.lh_edge.specs.declared.triggers.EdgeFault.TheVariants.{TooManyAtoms, NoEdge, OutOfMemory}
 use Rattle.lh_edge.specs.declared.triggers.EdgeRow.{EdgeRow}
 use Rattle.lh_edge.specs.declared.triggers.Trigger.{Trigger}
 use Rattle.lh_rows.specs.Rows as text
@@ -21,14 +25,16 @@ use Rattle.lh_shape.specs.Reasons.{is_once, waits_for_head, parts_waited, second
 use Rattle.lh_shape.specs.Merging.{merged_drives}
 use Rattle.lh_shape.specs.Shapes.{ShapeText, comb, edge, once, left, edge_row, shaped, unless_left, shape_by_rows}
 use Rattle.lh_shape.specs.ByIds.{head_is_next, parts_on, drive_at, drives_at, DriveFits, DrivesFit, later_drives, reasons_told, once_only}
-use Rattle.lh_shape.specs.Answers.{IsEdgeRow, AreEdgeRows, IsShape, IsTarget, ShowsEdge, AddsRow, EdgeRowOrReason, GivesRows}
+use Rattle.lh_shape.specs.Answers.{IsEdgeRow, AreEdgeRows, IsShape, IsTarget, ShowsEdge, AddsRow, EdgeRowOrReason, Finds, AddsFound, GivesRows}
 use Rattle.lh_shape.specs.declared.reason.Reason.{Reason}
 use Rattle.lh_shape.specs.declared.reason.Reason.TheVariants as reason
 use Rattle.lh_shape.specs.declared.kinds.Shape.{Shape}
 use Rattle.lh_shape.specs.declared.kinds.Shape.TheVariants as kind
+use Rattle.lh_shape.specs.declared.shape.Added.{Added}
 use Rattle.lh_shape.specs.declared.shape.Added.TheVariants as added
+use Rattle.lh_shape.specs.declared.shape.Found.{Found}
 use Rattle.lh_shape.proofs.Alike.{head-alike, parts-alike, drives-are, once-alike, reasons-alike, later-drives, first-append, first-found}
-use Rattle.lh_shape.proofs.Merged.{drive-grown, fits-grown}
+use Rattle.lh_shape.proofs.Merged.{drive-grown, fits-grown, is-grown, is-itself}
 
 -- ---- rows of registers as an arena grows
 
@@ -98,6 +104,32 @@ too_many d = has_too_many_atoms d.cond
 abbrev not_shown : List Part → text.Drive → Bool
 not_shown waited d = not (is_edge_shown waited d.cond)
 
+-- ---- one drive
+
+-- what the analysis of a condition gave
+pub finds : (old new : List Node) (waited : List Part) (c : TermId) (ts : Result (List Trigger) EdgeFault) → Grows old new → IsIn old c → TriggersOrFault new waited (tree_at (trees old) c) ts
+    → Finds new waited (record { cond = c; triggers = ts })
+finds old new waited c ts g i h = record {
+  is_in = in_grown old new g c i;
+  triggers = subst (λ (t : Tree). TriggersOrFault new waited t ts) (sym (tree_grown old new g c i)) h;
+}
+
+-- what was found for the condition of a drive, once it was added
+pub found-added : (ns : List Node) (waited : List Part) (d : DriveRow) (x : text.Drive) (f : Result (List Trigger) EdgeFault) (old : List EdgeRow) (a : Added) (new : List EdgeRow) → IsDrive ns d x
+    → TriggersOrFault ns waited x.cond f → AddsFound d f old a new → EdgeRowOrReason ns waited x old a new
+found-added ns waited d x (Ok ts) old added.Row new h g e =
+    let row : EdgeRow = record { part = d.part; value = d.value; delay = d.delay; triggers = ts } in
+    (record { few = g.few; shown = g.shown }, record { row = row; added = e; is = record { part = h.part; value = h.value; delay = h.delay; triggers = g.triggers } })
+found-added ns waited d x (Ok ts) old added.Hidden new h g e = absurd e
+found-added ns waited d x (Ok ts) old added.TooMany new h g e = absurd e
+found-added ns waited d x (Err NoEdge) old added.Row new h g e = absurd e
+found-added ns waited d x (Err NoEdge) old added.Hidden new h g e = g
+found-added ns waited d x (Err NoEdge) old added.TooMany new h g e = absurd e
+found-added ns waited d x (Err TooManyAtoms) old added.Row new h g e = absurd e
+found-added ns waited d x (Err TooManyAtoms) old added.Hidden new h g e = absurd e
+found-added ns waited d x (Err TooManyAtoms) old added.TooMany new h g e = g
+found-added ns waited d x (Err OutOfMemory) old a new h g e = absurd e
+
 -- ---- the loop
 
 -- the drives before these have few atoms, and rows where all of them are edge-shown
@@ -129,6 +161,13 @@ module _ (old now new : List Node) (waited : List Part) (all : List text.Drive) 
 
   pub row-fits : DriveFits now d
   row-fits = fits-grown old now d h.grows rests.0
+
+  -- the drive was added by what was found for its condition
+  pub found-fits : (f : Found) (a : Added) → Grows now new → Finds new waited f → f.cond ≡ d.cond → AddsFound d f.triggers rows a more → EdgeRowOrReason new waited (drive_at now d) rows a more
+  found-fits f a g k e =
+      let here : TriggersOrFault new waited (tree_at (trees new) d.cond) f.triggers = subst (λ (t : TermId). TriggersOrFault new waited (tree_at (trees new) t) f.triggers) e k.triggers in
+      found-added new waited d (drive_at now d) f.triggers rows a more (is-grown now new d (drive_at now d) g (is-itself now d row-fits))
+      (subst (λ (t : Tree). TriggersOrFault new waited t f.triggers) (tree_grown now new g d.cond row-fits.cond.is_in) here)
 
   same : drive_at now d ≡ drive_at old d
   same = drive-grown old now d h.grows rests.0
@@ -207,15 +246,6 @@ pub registers-hidden : (old now : List Node) (waited : List Part) (all : List te
 registers-hidden old now waited all hidden rows rest e k h =
     let s = seen-all old now waited all hidden rows rest e h in
     two-reasons waited all false true (ap (list_any too_many) (sym s) ∙ h.few) (ap (list_any (not_shown waited)) (sym s) ∙ sym h.hides ∙ k)
-
--- ---- one drive
-
-pub row-added : (ns : List Node) (waited : List Part) (d : DriveRow) (x : text.Drive) (row : EdgeRow) (ts : List Trigger) (old new : List EdgeRow) → IsDrive ns d x → GivesTriggers ns waited x.cond ts
-    → row ≡ record { part = d.part; value = d.value; delay = d.delay; triggers = ts } → new ≡ old ++ row ∷ [] → EdgeRowOrReason ns waited x old added.Row new
-row-added ns waited d x row ts old new h g e a =
-    let plain : EdgeRow = record { part = d.part; value = d.value; delay = d.delay; triggers = ts } in
-    let is : IsEdgeRow ns plain (edge_row waited x) = record { part = h.part; value = h.value; delay = h.delay; triggers = g.triggers } in
-    (record { few = g.few; shown = g.shown }, record { row = row; added = a; is = subst (λ (r : EdgeRow). IsEdgeRow ns r (edge_row waited x)) (sym e) is })
 
 -- ---- the shape
 

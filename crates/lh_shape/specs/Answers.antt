@@ -1,12 +1,15 @@
 -- Shapes by ids, as shapes of terms.
-use Rattle.std.specs.Prelude.{◌≡◌, List, [], ◌∷◌, ◌++◌, Bool, true, false, map, Some, None}
+use Rattle.std.specs.Prelude.{◌≡◌, List, [], ◌∷◌, ◌++◌, Bool, true, false, map, Some, None, Result, Ok, Err}
 use Rattle.lh_term.specs.declared.part.Part.{Part}
 use Rattle.lh_term.specs.declared.term.Node.{Node}
-use Rattle.lh_term.specs.Arena.{StandsForTree}
+use Rattle.lh_term.specs.Arena.{trees, tree_at, IsIn, StandsForTree}
 use Rattle.lh_edge.specs.Shown.{has_too_many_atoms, is_edge_shown}
 use Rattle.lh_edge.specs.Triggers.{EdgeRowTree}
-use Rattle.lh_edge.specs.Answers.{AreTriggers}
+use Rattle.lh_edge.specs.Answers.{AreTriggers, TriggersOrFault}
+use Rattle.lh_edge.specs.declared.triggers.EdgeFault.{EdgeFault}
+use Rattle.lh_edge.specs.declared.triggers.EdgeFault.TheVariants.{TooManyAtoms, NoEdge}
 use Rattle.lh_edge.specs.declared.triggers.EdgeRow.{EdgeRow}
+use Rattle.lh_edge.specs.declared.triggers.Trigger.{Trigger}
 use Rattle.lh_rows.specs.Rows.{Drive}
 use Rattle.lh_region.specs.Stands.{AreDrives}
 use Rattle.lh_region.specs.declared.rows.DriveRow.{DriveRow}
@@ -18,6 +21,7 @@ use Rattle.lh_shape.specs.declared.kinds.Shape.{Shape}
 use Rattle.lh_shape.specs.declared.kinds.Shape.TheVariants as kind
 use Rattle.lh_shape.specs.declared.shape.Added.{Added}
 use Rattle.lh_shape.specs.declared.shape.Added.TheVariants as added
+use Rattle.lh_shape.specs.declared.shape.Found.{Found}
 use Rattle.lh_shape.specs.declared.shape.Registers.{Registers}
 use Rattle.lh_shape.specs.declared.shape.Registers.TheVariants as registers
 
@@ -65,6 +69,18 @@ abbrev pub EdgeRowOrReason : List Node → (waited : List Part) → Drive → (o
 EdgeRowOrReason ns waited d old added.Row new = ShowsEdge waited d × AddsRow ns old (edge_row waited d) new
 EdgeRowOrReason ns waited d old added.Hidden new = (has_too_many_atoms d.cond ≡ false) × (is_edge_shown waited d.cond ≡ false)
 EdgeRowOrReason ns waited d old added.TooMany new = has_too_many_atoms d.cond ≡ true
+
+-- what was found for a condition of the arena is what its analysis gives
+pub record Finds (ns : List Node) (waited : List Part) (f : Found) : Type 0 where
+  pub is_in : IsIn ns f.cond
+  pub triggers : TriggersOrFault ns waited (tree_at (trees ns) f.cond) f.triggers
+
+-- the row of a drive with the triggers that were found was added; or none, for the fault that was found
+abbrev pub AddsFound : DriveRow → Result (List Trigger) EdgeFault → (old : List EdgeRow) → Added → (new : List EdgeRow) → Type 0
+AddsFound d (Ok ts) old added.Row new = new ≡ old ++ record { part = d.part; value = d.value; delay = d.delay; triggers = ts } ∷ []
+AddsFound d (Err NoEdge) old added.Hidden new = Unit {0}
+AddsFound d (Err TooManyAtoms) old added.TooMany new = Unit {0}
+AddsFound d _ old _ new = ⊥
 
 -- no reason holds, and the rows are those of the drives
 pub record GivesRows (ns : List Node) (waited : List Part) (ds : List Drive) (rs : List EdgeRow) : Type 0 where

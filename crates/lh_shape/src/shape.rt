@@ -1,11 +1,13 @@
 //! The shape of a process by its rows.
-ghost use Rattle.std.specs.Prelude.{◌≡◌, false, None, IfOk};
-ghost use Rattle.lh_term.specs.Arena.{Grows};
+ghost use Rattle.std.specs.Prelude.{◌≡◌, false, None, IfOk, IfSome};
+ghost use Rattle.lh_types.specs.Types.{int_type};
+ghost use Rattle.lh_term.specs.Types.{type_of};
+ghost use Rattle.lh_term.specs.Arena.{trees, tree_at, IsIn, Grows};
 ghost use Rattle.lh_rows.specs.Regions.{Regions as RegionsOf};
 ghost use Rattle.lh_region.specs.Stands.{AreRegions};
-ghost use Rattle.lh_shape.specs.Answers.{IsShape, IsTarget, EdgeRowOrReason, AreRegisters};
+ghost use Rattle.lh_shape.specs.Answers.{IsShape, IsTarget, Finds, AddsFound, AreRegisters};
 ghost use Rattle.lh_shape.specs.ByIds as ids;
-ghost use Rattle.lh_shape.specs.ByIds.{drive_at, drives_at, later_drives, DriveFits, DrivesFit, RegionsFit};
+ghost use Rattle.lh_shape.specs.ByIds.{drives_at, later_drives, DrivesFit, RegionsFit};
 ghost use Rattle.lh_shape.specs.Reasons.{first_holding};
 ghost use Rattle.lh_shape.specs.Shapes.{shape_by_rows};
 
@@ -14,9 +16,10 @@ use crate::kinds::Shape;
 use crate::merge::merged;
 use crate::reason::Reason;
 use crate::reasons::{is_once, reason_of};
-use lh_edge::{EdgeFault, EdgeRow, EdgeRowList, TriggerList, edges};
+use lh_edge::{EdgeFault, EdgeRow, EdgeRowList, Trigger, TriggerList, edges};
 use lh_region::{DriveRow, Regions, Rows};
 use lh_term::part::PartList;
+use lh_term::term::TermId;
 use lh_term::terms::Terms;
 use lh_types::ty::NoMemory;
 use std::alloc::Global;
@@ -28,6 +31,13 @@ enum Registers {
     Rows(EdgeRowList),
     /// None, since the process stays.
     Left(Reason),
+}
+
+/// A condition and what the analysis of its edges gave.
+#[derive(Drop)]
+struct Found {
+    cond: TermId,
+    triggers: Result<TriggerList, EdgeFault>,
 }
 
 /// What became of a drive.
@@ -117,6 +127,9 @@ fn later_registers(
 }
 
 /// A row of registers for each drive. Too many atoms of one of them come before a condition that is not edge-shown.
+///
+/// What was found for a drive is kept for the next, since the drives under one `if` have one condition and its analysis walks all
+/// terms.
 fn registers_of(
     alloc: Global,
     terms: &mut Terms,
@@ -128,13 +141,16 @@ fn registers_of(
     ensures kept { Grows terms.old terms.new }
 {
     let mut rows = EdgeRowList::new(alloc);
+    let mut last = None;
     let mut is_hidden = false;
     for drive in drives {
-        match add_registers(alloc, terms, waited, drive, &mut rows)? {
+        let found = found_for(alloc, terms, waited, drive.cond, last);
+        match add_registers(alloc, drive, &found.triggers, &mut rows)? {
             Added::Row => {}
             Added::Hidden => is_hidden = true,
             Added::TooMany => return Ok(Registers::Left(Reason::TooManyAtoms)),
         }
+        last = Some(found);
     }
     if is_hidden {
         return Ok(Registers::Left(Reason::NoEdge));
@@ -142,21 +158,42 @@ fn registers_of(
     Ok(Registers::Rows(rows))
 }
 
-/// Adds the row of a drive, where its condition is edge-shown.
-fn add_registers(
+/// What the analysis of a condition gives: what was found last, where that was for the same condition.
+fn found_for(
     alloc: Global,
     terms: &mut Terms,
     waited: &PartList,
-    drive: &DriveRow,
-    rows: &mut EdgeRowList,
-) -> Result<Added, NoMemory>
-    requires { DriveFits terms.old drive.now }
-    ensures adds { IfOk result (λ added. EdgeRowOrReason terms.new waited.now (drive_at terms.old drive.now) rows.old added rows.new) }
+    cond: TermId,
+    last: Option<Found>,
+) -> Found
+    requires is_in { IsIn terms.old cond }
+    requires bit { type_of (tree_at (trees terms.old) cond) ≡ int_type 1 }
+    requires last { IfSome last (λ found. Finds terms.old waited.now found) }
+    ensures finds { Finds terms.new waited.now result }
+    ensures same { result.cond ≡ cond }
     ensures kept { Grows terms.old terms.new }
 {
-    match edges(alloc, terms, drive.cond, waited) {
+    match last {
+        Some(found) if found.cond.0 == cond.0 => found,
+        _ => Found {
+            cond,
+            triggers: edges(alloc, terms, cond, waited),
+        },
+    }
+}
+
+/// Adds the row of a drive, where triggers were found for its condition.
+fn add_registers(
+    alloc: Global,
+    drive: &DriveRow,
+    found: &Result<TriggerList, EdgeFault>,
+    rows: &mut EdgeRowList,
+) -> Result<Added, NoMemory>
+    ensures { IfOk result (λ added. AddsFound drive.now found.now rows.old added rows.new) }
+{
+    match found {
         Ok(triggers) => {
-            let row = row_of(drive, triggers)?;
+            let row = row_of(alloc, drive, triggers.as_slice())?;
             rows.push(row)?;
             Ok(Added::Row)
         }
@@ -167,14 +204,39 @@ fn add_registers(
 }
 
 /// A drive at the edges of triggers.
-fn row_of(drive: &DriveRow, triggers: TriggerList) -> Result<EdgeRow, NoMemory>
-    ensures { IfOk result (λ row. row ≡ record { part = drive.now.part; value = drive.now.value; delay = drive.now.delay; triggers = triggers }) }
+fn row_of(alloc: Global, drive: &DriveRow, triggers: &[Trigger]) -> Result<EdgeRow, NoMemory>
+    ensures { IfOk result (λ row. row ≡ record { part = drive.now.part; value = drive.now.value; delay = drive.now.delay; triggers = triggers.now }) }
 {
     let part = drive.part.copy()?;
+    let triggers = copy_triggers(alloc, triggers)?;
     Ok(EdgeRow {
         part,
         value: drive.value,
         delay: drive.delay,
         triggers,
+    })
+}
+
+/// Equal triggers.
+fn copy_triggers(alloc: Global, triggers: &[Trigger]) -> Result<TriggerList, NoMemory>
+    ensures { IfOk result (λ list. list ≡ triggers.now) }
+{
+    let mut to = TriggerList::with_room(alloc, triggers.len())?;
+    for trigger in triggers {
+        let trigger = copy_trigger(trigger)?;
+        to.push(trigger)?;
+    }
+    Ok(to)
+}
+
+/// An equal trigger.
+fn copy_trigger(trigger: &Trigger) -> Result<Trigger, NoMemory>
+    ensures { IfOk result (λ copy. copy ≡ trigger.now) }
+{
+    let part = trigger.part.copy()?;
+    Ok(Trigger {
+        rise: trigger.rise,
+        part,
+        gate: trigger.gate,
     })
 }

@@ -5,3 +5,4 @@ pub mod Values
 pub mod Walks
 pub mod Conditions
 pub mod Swaps
+pub mod Salts

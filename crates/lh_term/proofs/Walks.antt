@@ -1,5 +1,5 @@
 -- The walk through the conjuncts of a condition.
-use Rattle.std.proofs.Common.{◌≡◌, ℕ, zero, suc, ◌+◌, ◌*◌, ◌-◌, ◌<◌, ◌≤◌, List, [], ◌∷◌, ◌++◌, length, map, Bool, true, false, not, ◌&&◌, ◌||◌, nat_lt, refl, ap, sym, ◌∙◌, subst, Option, Some, None, arith, append_assoc, length-append, slice_get, set, replicate, inl, inr, ◌⊎◌}
+use Rattle.std.proofs.Common.{◌≡◌, ℕ, zero, suc, ◌+◌, ◌*◌, ◌-◌, ◌<◌, ◌≤◌, List, [], ◌∷◌, ◌++◌, length, map, Bool, true, false, not, ◌&&◌, ◌||◌, cond, nat_eq, nat_lt, refl, ap, sym, ◌∙◌, subst, Option, Some, None, arith, append_assoc, length-append, slice_get, set, replicate, inl, inr, ◌⊎◌}
 use Rattle.std.specs.Bool.{if◌then◌else◌}
 use Rattle.std.specs.List.{list_any}
 use Rattle.std.specs.Cmp.{first_so, second_so}
@@ -157,6 +157,80 @@ unset_falls (true ∷ xs) zero e = cc
 unset_falls (false ∷ xs) zero e = refl
 unset_falls (true ∷ xs) (suc i) e = unset_falls xs i e
 unset_falls (false ∷ xs) (suc i) e = omega (arith, unset_falls xs i e)
+
+-- ---- flags of the numbers that a set has
+
+flags_by : (ℕ → Bool) → ℕ → List Bool
+flags_by f zero = []
+flags_by f (suc n) = f 0 ∷ flags_by (λ k. f (suc k)) n
+
+-- for each number below n whether it is one of these
+pub marks : List ℕ → ℕ → List Bool
+marks ks n = flags_by (λ k. list_any (nat_eq k) ks) n
+
+flags_get : (f : ℕ → Bool) (n i : ℕ) → i < n → slice_get (flags_by f n) i ≡ Some (f i)
+unfolding flags_by
+flags_get f zero i h = absurd (omega arith)
+flags_get f (suc n) zero h = refl
+flags_get f (suc n) (suc i) h = flags_get (λ k. f (suc k)) n i (omega arith)
+
+flags_same : (f g : ℕ → Bool) (n : ℕ) → ((k : ℕ) → g k ≡ f k) → flags_by g n ≡ flags_by f n
+unfolding flags_by
+flags_same f g zero h = refl
+flags_same f g (suc n) h = ap (λ b. b ∷ flags_by (λ k. g (suc k)) n) (h 0) ∙ ap (λ l. f 0 ∷ l) (flags_same (λ k. f (suc k)) (λ k. g (suc k)) n (λ k. h (suc k)))
+
+zero_other : (k : ℕ) → nat_eq 0 (suc k) ≡ false
+zero_other k = grind (arith, common_steps)
+
+other_zero : (x : ℕ) → nat_eq (suc x) 0 ≡ false
+other_zero x = grind (arith, common_steps)
+
+suc_other : (x k : ℕ) → nat_eq (suc x) (suc k) ≡ nat_eq x k
+suc_other x k = grind (arith, common_steps)
+
+flags_set : (f g : ℕ → Bool) (n x : ℕ) → ((k : ℕ) → g k ≡ cond (nat_eq x k) true (f k)) → flags_by g n ≡ set (flags_by f n) x true
+unfolding flags_by
+flags_set f g zero x h = refl
+flags_set f g (suc n) zero h =
+    let same : (k : ℕ) → g (suc k) ≡ f (suc k) = λ k. h (suc k) ∙ ap (λ b. cond b true (f (suc k))) (zero_other k) in
+    ap (λ b. b ∷ flags_by (λ k. g (suc k)) n) (h 0) ∙ ap (λ l. true ∷ l) (flags_same (λ k. f (suc k)) (λ k. g (suc k)) n same)
+flags_set f g (suc n) (suc x) h =
+    let more : (k : ℕ) → g (suc k) ≡ cond (nat_eq x k) true (f (suc k)) = λ k. h (suc k) ∙ ap (λ b. cond b true (f (suc k))) (suc_other x k) in
+    ap (λ b. b ∷ flags_by (λ k. g (suc k)) n) (h 0 ∙ ap (λ b. cond b true (f 0)) (other_zero x)) ∙ ap (λ l. f 0 ∷ l) (flags_set (λ k. f (suc k)) (λ k. g (suc k)) n x more)
+
+flags_none : (n : ℕ) → flags_by (λ k. false) n ≡ replicate n false
+unfolding flags_by
+flags_none zero = refl
+flags_none (suc n) = ap (λ l. false ∷ l) (flags_none n)
+
+pub marks_none : (ks : List ℕ) (n : ℕ) → ks ≡ [] → marks ks n ≡ replicate n false
+unfolding marks
+marks_none ks n e = ap (λ l. marks l n) e ∙ flags_none n
+
+pub was_there : (b c : Bool) → b ≡ not c → b ≡ false → true ≡ c
+was_there b true e f = refl
+was_there b false e f = cc
+
+pub was_not : (b c : Bool) → b ≡ not c → b ≡ true → false ≡ c
+was_not b true e f = cc
+was_not b false e f = refl
+
+pub marks_get : (ks : List ℕ) (n x : ℕ) (b : Bool) → x < n → b ≡ list_any (nat_eq x) ks → slice_get (marks ks n) x ≡ Some b
+unfolding marks
+marks_get ks n x b h e = flags_get (λ k. list_any (nat_eq k) ks) n x h ∙ ap Some (sym e)
+
+pub marks_set : (ks new : List ℕ) (n x : ℕ) → ((k : ℕ) → list_any (nat_eq k) new ≡ cond (nat_eq x k) true (list_any (nat_eq k) ks)) → marks new n ≡ set (marks ks n) x true
+unfolding marks
+marks_set ks new n x h = flags_set (λ k. list_any (nat_eq k) ks) (λ k. list_any (nat_eq k) new) n x h
+
+pub set_again : (xs : List Bool) (i : ℕ) → slice_get xs i ≡ Some true → set xs i true ≡ xs
+set_again [] i e = refl
+set_again (true ∷ xs) zero e = refl
+set_again (false ∷ xs) zero e = cc
+set_again (b ∷ xs) (suc i) e = ap (λ l. b ∷ l) (set_again xs i e)
+
+pub marked_so : (ns : List Node) (t : TermId) (seen new : List Bool) (found s : List TermId) → new ≡ seen → Walk ns t seen found s → Walk ns t new found s
+marked_so ns t seen new found s e w = let P : List Bool → Type 0 = λ f. Walk ns t f found s in subst P (sym e) w
 
 and_both_true : (b c : Bool) → b ≡ true → c ≡ true → (b && c) ≡ true
 and_both_true true c p q = q

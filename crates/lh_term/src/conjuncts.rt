@@ -1,5 +1,5 @@
 //! The conjuncts of a condition.
-ghost use Rattle.std.specs.Prelude.{◌≡◌, ◌<◌, ◌+◌, false, Some, length, replicate, slice_get, IfOk};
+ghost use Rattle.std.specs.Prelude.{◌≡◌, IfOk};
 ghost use Rattle.lh_term.specs.Arena.{trees, tree_at, trees_at, IsIn, AreIn};
 ghost use Rattle.lh_term.specs.Conjuncts.{conjuncts_of};
 ghost use Rattle.lh_term.specs.Found.{FindsJoined};
@@ -8,12 +8,13 @@ use crate::forms::and_operands;
 use crate::term::{Term, TermId, TermList};
 use crate::terms::Terms;
 use lh_types::ty::NoMemory;
+use std::collections::HashSet;
 
 impl Terms {
     /// The conjuncts of a condition in order: those of both operands of `and` on one bit, none of the constant 1, and of any other
     /// term the term itself. One that repeats counts once.
     ///
-    /// It looks at each shared term once.
+    /// It looks at each shared term once, and at no other term of the arena.
     pub fn conjuncts(&self, t: TermId) -> Result<TermList, NoMemory>
         requires { IsIn self.now t }
         ensures within { IfOk result (λ ts. AreIn self.now ts) }
@@ -21,14 +22,14 @@ impl Terms {
     {
         self.are_apart();
         let mut found = TermList::new(self.allocator());
-        let mut seen = self.flags(t)?;
+        let mut seen = HashSet::new(self.allocator());
         let mut open = Vec::new(self.allocator());
         open.push(t)?;
         while let Some(x) = open.pop() {
-            if is_set(&seen, x) {
+            let is_new = seen.insert(x.0)?;
+            if !is_new {
                 continue;
             }
-            seen[x.0] = true;
             if let Some((a, b)) = self.joined(x) {
                 open.push(b)?;
                 open.push(a)?;
@@ -37,15 +38,6 @@ impl Terms {
             }
         }
         Ok(found)
-    }
-
-    /// A flag that is not set for each term up to one.
-    pub(crate) fn flags(&self, t: TermId) -> Result<Vec<bool>, NoMemory>
-        requires { IsIn self.now t }
-        ensures { IfOk result (λ flags. flags.items ≡ replicate (t.0 + 1) false) }
-    {
-        let _len = self.len();
-        Ok(vec![in self.allocator(); false; t.0 + 1]?)
     }
 
     /// `a` and `b` where the term is `and(a, b)` on one bit.
@@ -61,12 +53,4 @@ impl Terms {
             Term::Konst(_) | Term::Past(_) | Term::Now(_) | Term::Choice { .. } => None,
         }
     }
-}
-
-/// Whether the flag of a term is set.
-pub(crate) fn is_set(flags: &[bool], x: TermId) -> bool
-    requires { x.0 < length flags.now }
-    ensures { slice_get flags.now x.0 ≡ Some result }
-{
-    flags[x.0]
 }

@@ -1,8 +1,9 @@
 //! Parts of a unit's arguments.
 ghost use Rattle.std.specs.Prelude.{◌≡◌, IfOk};
+ghost use Rattle.lh_term.specs.Parts.{extent_of};
 
 use lh_types::list::ListOf;
-use lh_types::ty::{NoMemory, Ty};
+use lh_types::ty::{NoMemory, Ty, TyKind};
 
 /// A part of an argument of a unit: the value of type `ty` whose lowest bit is bit `lo` of argument `arg`.
 #[derive(Drop)]
@@ -35,6 +36,18 @@ impl Eq for Part {
 }
 
 impl Part {
+    /// The width of an integer, the length of an array, and else 0. What begins at one bit nests, so few of the parts of one argument
+    /// that begin at a bit have one extent.
+    pub fn extent(&self) -> u32
+        ensures { result ≡ extent_of self.now.ty }
+    {
+        match self.ty.kind() {
+            TyKind::Int(width) => width,
+            TyKind::Array(len, _) => len,
+            _ => 0,
+        }
+    }
+
     /// An equal part.
     pub fn copy(&self) -> Result<Part, NoMemory>
         ensures { IfOk result (λ p. p ≡ self.now) }

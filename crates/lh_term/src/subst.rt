@@ -1,10 +1,9 @@
 //! Terms in place of parts' values.
-ghost use Rattle.std.specs.Prelude.{◌≡◌, ◌<◌, true, Some, length, slice_get, IfOk};
+ghost use Rattle.std.specs.Prelude.{◌≡◌, ◌<◌, true, Some, length, slice_get, IfOk, ◌+◌, false, replicate};
 ghost use Rattle.lh_term.specs.Arena.{trees, tree_at, ids_below, IsIn, StandsForTree, Grows};
 ghost use Rattle.lh_term.specs.Subst.{AreSwaps, PairsIn, pairs_at, swapped, replaced};
 ghost use Rattle.lh_term.specs.Reach.{Reaches, Sets, SetsOperands, MadeFor, OperandsMade};
 
-use crate::conjuncts::is_set;
 use crate::term::{Term, TermId, TermList};
 use crate::terms::Terms;
 use lh_types::list::ListOf;
@@ -73,6 +72,15 @@ impl Terms {
             }
         }
         Ok(flags)
+    }
+
+    /// A flag that is not set for each term up to one.
+    fn flags(&self, t: TermId) -> Result<Vec<bool>, NoMemory>
+        requires { IsIn self.now t }
+        ensures { IfOk result (λ flags. flags.items ≡ replicate (t.0 + 1) false) }
+    {
+        let _len = self.len();
+        Ok(vec![in self.allocator(); false; t.0 + 1]?)
     }
 
     /// Sets the flags of a term's operands, which are before it.
@@ -166,4 +174,12 @@ fn renamed(alloc: Global, xs: &[TermId], made: &[TermId]) -> Result<TermList, No
         left = rest;
     }
     Ok(to)
+}
+
+/// Whether the flag of a term is set.
+fn is_set(flags: &[bool], x: TermId) -> bool
+    requires { x.0 < length flags.now }
+    ensures { slice_get flags.now x.0 ≡ Some result }
+{
+    flags[x.0]
 }

@@ -1,11 +1,10 @@
 //! Terms by the ids of their operands.
 ghost use Rattle.std.specs.Prelude.{◌≡◌, [], ◌∷◌, ◌++◌, length, IfOk, OnOk, OnErr};
 ghost use Rattle.lh_term.specs.SameTerm.{same_ids};
-ghost use Rattle.lh_types.specs.ValueOf.{datum_of};
-ghost use Rattle.lh_term.specs.Fed as fed;
 ghost use Rattle.lh_term.specs.Same as same;
 
 use crate::part::Part;
+use crate::salt::salt_of_value;
 use lh_types::op::Op;
 use lh_types::ty::{NoMemory, Ty};
 use lh_types::val::Val;
@@ -165,14 +164,17 @@ impl Hash for Node {
             Term::Past(p) => {
                 p.arg.hash(state);
                 p.lo.hash(state);
+                p.extent().hash(state);
             }
             Term::Now(p) => {
                 p.lo.hash(state);
                 p.arg.hash(state);
+                p.extent().hash(state);
             }
             Term::Op { op, args } => {
                 op_tag(op).hash(state);
                 op_first(op).hash(state);
+                op_second(op).hash(state);
                 args.as_slice().hash(state);
             }
             Term::Choice { c, f, t } => {
@@ -253,16 +255,4 @@ fn are_one(a: &Op, b: &Op) -> bool
     ensures { result ≡ same.same_op a.now b.now }
 {
     op_tag(a) == op_tag(b) && op_first(a) == op_first(b) && op_second(a) == op_second(b)
-}
-
-/// A number that tells constants apart, mostly.
-fn salt_of_value(v: &Val) -> u128
-    ensures { result ≡ fed.salt_of_value (datum_of v.now) }
-{
-    match v {
-        Val::Int { bits, .. } => *bits,
-        Val::Time(d) => d.fs as u128,
-        Val::Array(vs) => vs.len() as u128,
-        Val::Tuple(vs) => vs.len() as u128,
-    }
 }

@@ -28,7 +28,7 @@ use lh_watch::shows::show;
 use lh_watch::watcher::Watcher;
 use std::alloc::Global;
 
-/// How much text waits at most before it is written, in whole lines: a write costs as much as a short frame.
+/// From how much text on what waits is written, in whole lines: a write costs as much as a short frame.
 const PIECE: usize = 16384;
 
 /// Tells a run: writes its text and shows its frames, and notes whether an assertion has failed.

@@ -2,9 +2,7 @@
 #![tactic(auto)]
 
 use lh_io::adapter::{StdSink, StdSource};
-use lh_program::{exit_code, words_of};
-use lh_run::status::Status;
-use lh_run::top::run;
+use lh_program::{exit_code, no_memory, run, words_of};
 use lh_watch::builtin::{Asserts, Toggles, UntilFail};
 use lh_watch::watcher::Watcher;
 use std::env;
@@ -12,6 +10,7 @@ use std::process::ExitCode;
 
 fn main(rt: HostRuntime) -> ExitCode {
     let alloc = rt.alloc();
+    let mut log = StdSink::new(rt.stderr());
     let mut watchers: Vec<Box<dyn Watcher>> = Vec::new(alloc);
     let (Ok(words), Ok(toggles), Ok(asserts), Ok(until_fail)) = (
         words_of(alloc, env::args(&rt)),
@@ -19,17 +18,16 @@ fn main(rt: HostRuntime) -> ExitCode {
         Box::new(alloc, Asserts::new()),
         Box::new(alloc, UntilFail::new()),
     ) else {
-        return exit_code(&Status::OutOfMemory);
+        return no_memory(&mut log);
     };
     if watchers.push(toggles).is_err()
         || watchers.push(asserts).is_err()
         || watchers.push(until_fail).is_err()
     {
-        return exit_code(&Status::OutOfMemory);
+        return no_memory(&mut log);
     }
     let mut src = StdSource::new(rt.stdin());
     let mut out = StdSink::new(rt.stdout());
-    let mut log = StdSink::new(rt.stderr());
     let status = run(alloc, &words, &mut src, &mut out, &mut log, &mut watchers);
     exit_code(&status)
 }

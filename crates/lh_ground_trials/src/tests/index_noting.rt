@@ -1,21 +1,12 @@
 //! Noting and forgetting, by small tables.
 ghost use Rattle.std.specs.Prelude.{◌≡◌, length, IfOk};
 
+use crate::instants::instant;
 use lh_index::sensing::Index;
 use lh_index::wakes::Wakes;
-use lh_time::Instant;
 use lh_types::ty::NoMemory;
 use std::alloc::Global;
 use std::test::Fail;
-
-/// An instant of physical time.
-fn at(fs: u64) -> Instant {
-    Instant {
-        fs,
-        delta: 0,
-        eps: 0,
-    }
-}
 
 /// Signal 1 of two is sensed by these instances, noted in this order.
 fn noted(alloc: Global, instances: &[u32]) -> Result<Index, NoMemory>
@@ -42,9 +33,9 @@ fn instances_rise(rt: HostRuntime) -> Result<(), Fail> {
 
 /// Instance 3 is to be woken at 5, and before it 8 and 1 at 4.
 fn enter_three(wakes: &mut Wakes) -> Result<(), NoMemory> {
-    wakes.enter(at(5), 3)?;
-    wakes.enter(at(4), 8)?;
-    wakes.enter(at(4), 1)
+    wakes.enter(instant(5, 0), 3)?;
+    wakes.enter(instant(4, 0), 8)?;
+    wakes.enter(instant(4, 0), 1)
 }
 
 #[test]
@@ -52,9 +43,9 @@ fn wakes_come_soonest_first(rt: HostRuntime) -> Result<(), Fail> {
     let mut wakes = Wakes::new(rt.alloc());
     assert_eq!(rt; wakes.soonest(), None);
     enter_three(&mut wakes)?;
-    assert_eq!(rt; wakes.soonest(), Some(at(4)));
-    wakes.leave(at(4), 1);
-    wakes.leave(at(4), 8);
-    assert_eq!(rt; wakes.soonest(), Some(at(5)));
+    assert_eq!(rt; wakes.soonest(), Some(instant(4, 0)));
+    wakes.leave(instant(4, 0), 1);
+    wakes.leave(instant(4, 0), 8);
+    assert_eq!(rt; wakes.soonest(), Some(instant(5, 0)));
     Ok(())
 }

@@ -4,6 +4,7 @@ ghost use Rattle.lh_time.specs.Order.{instant_le};
 ghost use Rattle.lh_queue.specs.Queued.{EachWithin, BitsWithin, NamesOnce, NoneDueBefore};
 ghost use Rattle.lh_ground_trials.specs.declared.tests.queue_order.Row.{Row};
 
+use crate::instants::instant;
 use lh_bits::bits::Bits;
 use lh_bits::writes::BitWrites;
 use lh_queue::queue::{Bucket, Queue};
@@ -28,10 +29,6 @@ const START: Instant = Instant {
     delta: 0,
     eps: 0,
 };
-
-fn instant(fs: u64, delta: u64) -> Instant {
-    Instant { fs, delta, eps: 0 }
-}
 
 fn row_of(instance: u32, due: Instant, bit: u32, value: bool) -> Row {
     Row {

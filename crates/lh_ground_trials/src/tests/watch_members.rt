@@ -2,6 +2,7 @@ ghost use Rattle.std.specs.Prelude.{◌∷◌, []};
 ghost use Rattle.lh_watch.specs.Members.{member};
 ghost use Rattle.lh_watch.specs.Scripted.{scripted};
 
+use crate::instants::instant;
 use lh_time::Instant;
 use lh_types::frame::{Change, ChangeList, Frame, Outcome, OutcomeList};
 use lh_types::list::{ByteList, TextList};
@@ -96,11 +97,7 @@ fn frame(alloc: Global, passed: &[bool]) -> Result<Frame, NoMemory> {
     let changes = one_change(alloc)?;
     let outcomes = outcomes(alloc, passed)?;
     Ok(Frame {
-        at: Instant {
-            fs: 5,
-            delta: 0,
-            eps: 0,
-        },
+        at: instant(5, 0),
         changes,
         outcomes,
     })
@@ -121,7 +118,7 @@ fn three(alloc: Global, b: Scripted, c: Scripted) -> Result<Vec<Box<dyn Watcher>
 }
 
 /// Whether this is what the members report, one after the other.
-fn tell(alloc: Global, ws: &Vec<Box<dyn Watcher>>, want: &[u8]) -> Result<bool, NoMemory> {
+fn is_report_of(alloc: Global, ws: &Vec<Box<dyn Watcher>>, want: &[u8]) -> Result<bool, NoMemory> {
     let mut to = Vec::new(alloc);
     for w in ws {
         w.report(&mut to)?;
@@ -142,7 +139,7 @@ fn answer(
 
 /// The members report this, one after the other.
 fn report(rt: &impl Abort, alloc: Global, ws: &Vec<Box<dyn Watcher>>, want: &[u8]) {
-    assert_eq!(rt; tell(alloc, ws, want), Ok(true));
+    assert_eq!(rt; is_report_of(alloc, ws, want), Ok(true));
 }
 
 #[test]

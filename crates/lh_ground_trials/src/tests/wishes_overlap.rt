@@ -1,6 +1,7 @@
 //! Drives that overlap, worked by hand.
 ghost use Rattle.std.specs.Prelude.{◌≡◌, ◌≤◌, length, IfOk};
 
+use crate::instants::instant;
 use lh_bits::bit_run::BitRun;
 use lh_bits::bits::Bits;
 use lh_bits::writes::BitWrites;
@@ -10,10 +11,6 @@ use lh_wishes::wishes::Wishes;
 use std::alloc::Global;
 use std::process::Abort;
 use std::test::Fail;
-
-fn at(fs: u64, delta: u64) -> Instant {
-    Instant { fs, delta, eps: 0 }
-}
 
 /// Up to eight bits, all the same.
 fn same(alloc: Global, len: u32, bit: bool) -> Result<Bits, NoMemory>
@@ -44,17 +41,17 @@ fn put(
 fn wished(alloc: Global) -> Result<Wishes, NoMemory> {
     let mut wishes = Wishes::new(alloc);
     for (due, bits) in [
-        (at(7, 0), (8, 8, true)),
-        (at(3, 1), (2, 3, false)),
-        (at(7, 0), (14, 4, false)),
-        (at(7, 0), (10, 2, false)),
-        (at(7, 0), (20, 1, true)),
-        (at(7, 0), (6, 2, true)),
-        (at(3, 1), (2, 3, true)),
-        (at(3, 1), (0, 0, true)),
-        (at(5, 0), (0, 4, true)),
-        (at(5, 0), (1, 1, true)),
-        (at(5, 0), (0, 8, false)),
+        (instant(7, 0), (8, 8, true)),
+        (instant(3, 1), (2, 3, false)),
+        (instant(7, 0), (14, 4, false)),
+        (instant(7, 0), (10, 2, false)),
+        (instant(7, 0), (20, 1, true)),
+        (instant(7, 0), (6, 2, true)),
+        (instant(3, 1), (2, 3, true)),
+        (instant(3, 1), (0, 0, true)),
+        (instant(5, 0), (0, 4, true)),
+        (instant(5, 0), (1, 1, true)),
+        (instant(5, 0), (0, 8, false)),
     ] {
         put(alloc, &mut wishes, due, bits)?;
     }
@@ -66,7 +63,7 @@ fn are_grouped(rt: &impl Abort, writes: &[(Instant, BitWrites)]) {
     assert_eq!(rt; writes.len(), 3);
     assert_eq!(rt;
         (writes[0].0, writes[1].0, writes[2].0),
-        (at(3, 1), at(5, 0), at(7, 0))
+        (instant(3, 1), instant(5, 0), instant(7, 0))
     );
     assert_eq!(rt;
         (writes[0].1.len(), writes[1].1.len(), writes[2].1.len()),

@@ -1,4 +1,3 @@
-use Rattle.std.proofs.Common.{refl}
 use Rattle.lh_origin.proofs.Keeping.{takes-none, takes-seen, takes-new}
 use Rattle.lh_origin.proofs.origin.take.Goals as goal
 
@@ -13,4 +12,4 @@ returns-then-is_some c =
 pub returns : goal.returns
 returns c =
     let p = c.in-Some.part.now in
-    takes-new c.args.parts.now.parts.items c.args.value c.args.firsts.now c.add.new.firsts p (p.arg, p.lo) c.in-Some.ensures refl c.requires.is_in c.in_ok-add.ensures
+    takes-new c.args.parts.now.parts.items c.args.value c.args.firsts.now c.add.new.firsts p c.key_of.result c.in-Some.ensures c.key_of.ensures c.requires.is_in c.in_ok-add.ensures

@@ -1,5 +1,6 @@
-use Rattle.std.proofs.Common.{refl}
+use Rattle.std.proofs.Common.{Ok, refl, sym, subst}
 use Rattle.lh_unit.specs.Arena.{unit_text_at}
+use Rattle.lh_copy.specs.Copying.{AddsUnit}
 use Rattle.lh_copy.proofs.Copies.{is-there, can-units, can-undefined, can-values, can-labels, copies-unit}
 use Rattle.lh_copy.proofs.copying.Copying.keep.Goals as goal
 
@@ -18,5 +19,6 @@ keep_unit-requires c =
 
 pub returns-clause-copies : goal.returns-clause-copies
 returns-clause-copies c =
-    let a = c.args.self.now.from.now in let u = c.args.unit.0 in
-    copies-unit c.keep_unit.result a c.args.self.now.to c.keep_unit.new.m u (unit_text_at a u) refl c.keep_unit.ensures
+    let a = c.args.self.now.from.now in let u = c.args.unit.0 in let t = unit_text_at a u in
+    copies-unit (Ok tt) a c.args.self.now.to c.shrink.new.self u t refl
+    (subst (λ m. AddsUnit c.args.self.now.to m u t) (sym c.shrink.ensures) c.in_ok-keep_unit.ensures)

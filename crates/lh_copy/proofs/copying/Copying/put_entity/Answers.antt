@@ -1,3 +1,7 @@
+use Rattle.std.proofs.Common.{Ok, sym, subst}
+use Rattle.lh_unit.specs.Arena.{unit_text_at}
+use Rattle.lh_emission.specs.Entities.{entity_with}
+use Rattle.lh_copy.specs.Copying.{AddsUnit}
 use Rattle.lh_copy.proofs.Copies.{is-there, can-units, can-undefined, can-values, copies-entity}
 use Rattle.lh_copy.proofs.copying.Copying.put_entity.Goals as goal
 
@@ -14,4 +18,7 @@ put_body-requires c =
     }
 
 pub returns-clause-copies : goal.returns-clause-copies
-returns-clause-copies c = copies-entity c.put_body.result c.args.self.now.from.now c.args.self.now.to c.put_body.new.m c.args.unit.0 c.args.body c.put_body.ensures
+returns-clause-copies c =
+    let a = c.args.self.now.from.now in let u = c.args.unit.0 in let t = unit_text_at a u in
+    copies-entity (Ok tt) a c.args.self.now.to c.shrink.new.self u c.args.body
+    (λ ls is. subst (λ m. AddsUnit c.args.self.now.to m u (entity_with t ls)) (sym c.shrink.ensures) (c.in_ok-put_body.ensures ls is))

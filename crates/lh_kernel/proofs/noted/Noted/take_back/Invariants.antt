@@ -1,6 +1,7 @@
-use Rattle.std.proofs.Common.{take}
+use Rattle.std.proofs.Common.{drop}
 use Rattle.lh_kernel.proofs.Entering.{HasTakenBack}
 use Rattle.lh_kernel.proofs.noted.Noted.take_back.Given as goal
 
-abbrev pub invariant-loop-entry : goal.invariant-loop-entry
-invariant-loop-entry l = HasTakenBack (take l.entry-index l.moves) l.fn.self l.self
+-- the moves from the number on are done
+abbrev pub invariant-loop-number : goal.invariant-loop-number
+invariant-loop-number l = HasTakenBack (drop l.number l.moves) l.fn.self l.self

@@ -3,7 +3,7 @@ use Rattle.std.specs.List.{list_any}
 use Rattle.std.proofs.lemmas.Option.{slice_get-get_or, slice_get_within}
 use Rattle.lh_types.specs.declared.part.Range.{Range}
 use Rattle.lh_unit.specs.World.{bit_numbers, bit_differs}
-use Rattle.lh_kernel.proofs.Waking.{RousedTo, sensed_item, read_within, roused_more, roused_not}
+use Rattle.lh_kernel.proofs.Waking.{RousedTo, sensed_item, read_within, roused_there, roused_more, roused_not}
 use Rattle.lh_kernel.proofs.woken.Asleep.rouse.Goals as goal
 use Rattle.lh_kernel.proofs.woken.Asleep.rouse.Goals.{then-differs_with+in_ok-enter, else-differs_with}
 
@@ -42,6 +42,12 @@ differs_with-requires-clause-in_now c =
     let rs = get_or x.probes.now y c.index-self-instance.result in
     read_within x.design.now x.states.now x.probes.now y s rs c.senses-parts.result.now c.args.now.now w (slice_get-get_or x.states.now y _ (slice_get_within x.states.now _ w.state w.is_kept))
     (slice_get-get_or x.probes.now y _ (slice_get_within x.probes.now _ w.probed w.is_probed)) c.senses-parts.ensures c.requires.width
+
+pub loop-instance-preserved-then-has : goal.loop-instance-preserved-then-has
+loop-instance-preserved-then-has c =
+    let x = c.args.self.now in
+    roused_there x.states.now x.probes.now c.args.old.now c.args.now.now c.sensing-instance-items.result.now c.loop-instance.instance-index _ c.args.woken.now
+    c.loop-instance.woken c.loop-instance-test.true refl (c.has.ensures.0 c.if-has.true) c.loop-instance.invariant
 
 pub loop-instance-preserved : goal.loop-instance-preserved
 loop-instance-preserved c =

@@ -1,0 +1,12 @@
+-- The line was written, or its write broke off.
+use Rattle.std.proofs.Common.{ℕ, List, ◌⊎◌, inl, inr, Result, Ok, Err}
+use Rattle.lh_io.specs.declared.stream.Failed.{Failed}
+use Rattle.lh_run.specs.Account.{Use, Gained, BreaksOff, Puts}
+use Rattle.lh_program.proofs.no_memory.Goals as goal
+
+put : (r : Result (Unit {0}) Failed) (u : Use) (t : List ℕ) → Puts r u t → Gained u t ⊎ BreaksOff u t
+put (Ok _) u t p = inl p
+put (Err _) u t p = inr p
+
+pub returns-clause-told : goal.returns-clause-told
+returns-clause-told g c = put c.write_line.result _ _ c.write_line.ensures.puts
