@@ -2,130 +2,52 @@
 //!
 //! | Words | The answer |
 //! |---|---|
-//! | `check` | the canonical text, or the first fault |
-//! | `print` | the same of a text that need only read |
-//! | `same` | whether the text is its own canonical text |
-//! | `line N` | line N of the canonical text, or the first fault |
-//! | `verify` | whether the file is well formed, or the first fault |
-//! | `cut` | how many bytes of the text read when no more are there |
-//! | `simulate ..` | the trace or the waveform, and then the reports, by the words of the command line |
-//! | `lower` | the canonical text of the lowered file, and the report |
+//! | `check`, `lower`, `simulate ..` | what the program writes by these words, and then its log; not that an instance ran away, which the trace says too |
+//! | `run ..` | the code with which the program ends by the words behind it, what it writes, and then its log |
+//! | `verify` | whether the file is well formed, or the first fault, without a name |
+//! | `same` | whether the program writes the text as it is |
 //! | `both simulate ..` | whether the lowered file shows what the file shows, by the same words |
-//! | `watch TOP N A go N ..` | the same in at most N frames, with watchers that say a word at a frame |
+//! | `print` | the canonical text of a text that need only read |
+//! | `line N` | line N of the canonical text |
+//! | `cut` | how many bytes of the text read when no more are there |
 //! | `design TOP` | how many instances, signals and bits there are |
-//! | `senses TOP N` | N steps, with the activations so far and the instances that sense each signal then |
-//! | `definition TOP N` | the first N frames as the definition has them, beside those that the simulation answers |
-use crate::beside::beside_definition;
-use crate::file::{Refusal, load, text_line};
-use crate::lowered::{beside_lowered, lowered};
-use crate::shown::{simulated, watched};
-use crate::stepped::{counted, sensed};
+//! | `definition TOP N` | whether the first N frames are those of the definition; where not, both |
+//! | `senses TOP N` | of the first N frames the instants, the activations so far, and the instances that sense each signal then |
+//! | `watch TOP N A go N ..` | at most N frames with watchers that say a word at a frame; how the run ended, who is left, and the reports |
+//!
+//! Where a text does not read, is not well formed, or has no such top, the answer is what the program says of it.
+use crate::design::{file_of, of_top};
+use crate::program::{Ran, run_by};
 use lh_print::print;
-use lh_read::read;
 use lh_types::text::{put, put_number};
 use lh_types::ty::NoMemory;
 use std::alloc::Global;
 
-/// What the first word asks for.
-#[derive(Clone, Copy)]
-enum Asked {
-    Check,
-    Print,
-    Same,
-    Line,
-    Verify,
-    Cut,
-    Simulate,
-    Lower,
-    Both,
-    Watch,
-    Design,
-    Senses,
-    Definition,
-}
-
-/// The first words.
-const ASKED: [(&str, Asked); 13] = [
-    ("check", Asked::Check),
-    ("print", Asked::Print),
-    ("same", Asked::Same),
-    ("line", Asked::Line),
-    ("verify", Asked::Verify),
-    ("cut", Asked::Cut),
-    ("simulate", Asked::Simulate),
-    ("lower", Asked::Lower),
-    ("both", Asked::Both),
-    ("watch", Asked::Watch),
-    ("design", Asked::Design),
-    ("senses", Asked::Senses),
-    ("definition", Asked::Definition),
-];
+/// The code with which the program ends where an instance ran away.
+const RUNAWAY: u8 = 10;
 
 /// The answer to a text.
 pub fn answer(alloc: Global, how: &[u8], text: &[u8]) -> Result<Vec<u8>, NoMemory> {
-    let Ok(how) = str::from_utf8(how) else {
-        return said(alloc, b"these words are no text\n");
-    };
-    match answer_by(alloc, how, text) {
-        Ok(answer) => Ok(answer),
-        Err(Refusal::Line(line)) => Ok(line),
-        Err(Refusal::OutOfMemory) => Err(NoMemory),
+    match str::from_utf8(how) {
+        Ok(how) => answer_to(alloc, how, text),
+        Err(_) => said(alloc, b"these words are no text\n"),
     }
 }
 
-fn answer_by(alloc: Global, how: &str, text: &[u8]) -> Result<Vec<u8>, Refusal> {
-    let words: Vec<&str> = how.split_whitespace().collect(alloc)?;
-    answer_to(alloc, words.as_slice(), text)
-}
-
-fn answer_to(alloc: Global, words: &[&str], text: &[u8]) -> Result<Vec<u8>, Refusal> {
-    match words {
-        [first, rest @ ..] => match asked_by(*first) {
-            Some(asked) => answer_of(alloc, asked, words, rest, text),
-            None => unknown(alloc),
-        },
-        [] => unknown(alloc),
+fn answer_to(alloc: Global, how: &str, text: &[u8]) -> Result<Vec<u8>, NoMemory> {
+    let (word, rest) = how.split_once(' ').unwrap_or((how, ""));
+    match word {
+        "check" | "lower" | "simulate" => shown(alloc, how, text),
+        "run" => left(alloc, rest, text),
+        "verify" => verified(alloc, text),
+        "same" => compared(alloc, text),
+        "both" => beside_lowered(alloc, rest, text),
+        "print" => printed(alloc, text),
+        "line" => line_of(alloc, number(rest), text),
+        "cut" => cut(alloc, text),
+        "design" | "definition" | "senses" | "watch" => of_top(alloc, word, rest, text),
+        _ => said(alloc, b"there are no such words\n"),
     }
-}
-
-/// What a first word asks for, if anything.
-fn asked_by(word: &str) -> Option<Asked> {
-    for (name, asked) in &ASKED {
-        if *name == word {
-            return Some(*asked);
-        }
-    }
-    None
-}
-
-/// The answer to these words, of which `rest` stand behind the first.
-fn answer_of(
-    alloc: Global,
-    asked: Asked,
-    words: &[&str],
-    rest: &[&str],
-    text: &[u8],
-) -> Result<Vec<u8>, Refusal> {
-    match (asked, rest) {
-        (Asked::Check, []) => checked(alloc, text),
-        (Asked::Print, []) => canonical(alloc, text),
-        (Asked::Same, []) => compared(alloc, text),
-        (Asked::Line, [n]) => line_of(alloc, text, number(*n)),
-        (Asked::Verify, []) => verified(alloc, text),
-        (Asked::Cut, []) => Ok(cut(alloc, text)?),
-        (Asked::Simulate, _) => simulated(alloc, words, text),
-        (Asked::Lower, []) => lowered(alloc, text),
-        (Asked::Both, rest) => beside_lowered(alloc, rest, text),
-        (Asked::Watch, [top, n, rest @ ..]) => watched(alloc, *top, *n, rest, text),
-        (Asked::Design, [top]) => counted(alloc, *top, text),
-        (Asked::Senses, [top, n]) => sensed(alloc, *top, number(*n), text),
-        (Asked::Definition, [top, n]) => beside_definition(alloc, *top, number(*n), text),
-        _ => unknown(alloc),
-    }
-}
-
-fn unknown(alloc: Global) -> Result<Vec<u8>, Refusal> {
-    Ok(said(alloc, b"there are no such words\n")?)
 }
 
 /// The number that a word says, or 1.
@@ -133,69 +55,119 @@ pub fn number(word: &str) -> u32 {
     word.parse::<u32>().unwrap_or(1)
 }
 
-fn said(alloc: Global, line: &[u8]) -> Result<Vec<u8>, NoMemory> {
-    let mut text = Vec::new(alloc);
-    put(&mut text, line)?;
-    Ok(text)
+/// A line by itself.
+pub fn said(alloc: Global, line: &[u8]) -> Result<Vec<u8>, NoMemory> {
+    Ok(Vec::from_slice(alloc, line)?)
 }
 
-/// The canonical text of a well-formed file.
-fn checked(alloc: Global, text: &[u8]) -> Result<Vec<u8>, Refusal> {
-    load(alloc, text)?;
-    canonical(alloc, text)
+/// Whether two are the same.
+fn said_alike(alloc: Global, alike: bool) -> Result<Vec<u8>, NoMemory> {
+    said(alloc, if alike { b"the same\n" } else { b"another\n" })
 }
 
-/// The canonical text of a file that reads. It has to be its own canonical text.
-fn canonical(alloc: Global, text: &[u8]) -> Result<Vec<u8>, Refusal> {
-    let printed = reprinted(alloc, text)?;
-    let again = reprinted(alloc, &printed)?;
-    if again.as_slice() != printed.as_slice() {
-        return Ok(said(alloc, b"the canonical text has another\n")?);
+/// What the program writes, and then its log.
+pub fn shown(alloc: Global, words: &str, text: &[u8]) -> Result<Vec<u8>, NoMemory> {
+    let ran = run_by(alloc, words, text)?;
+    let mut answer = Vec::from_slice(alloc, ran.out.written())?;
+    if ran.code != RUNAWAY {
+        put(&mut answer, ran.log.written())?;
     }
-    Ok(printed)
-}
-
-fn reprinted(alloc: Global, text: &[u8]) -> Result<Vec<u8>, Refusal> {
-    if text.len() > 67_108_864 {
-        return Err(Refusal::OutOfMemory);
-    }
-    match read(alloc, text) {
-        Ok(module) => Ok(print(alloc, &module)?),
-        Err(fault) => Err(text_line(alloc, fault)),
-    }
-}
-
-/// Whether a text is its own canonical text.
-fn compared(alloc: Global, text: &[u8]) -> Result<Vec<u8>, Refusal> {
-    let printed = canonical(alloc, text)?;
-    let same = printed.as_slice() == text;
-    Ok(said(alloc, if same { b"the same\n" } else { b"another\n" })?)
-}
-
-/// A line of the canonical text.
-fn line_of(alloc: Global, text: &[u8], number: u32) -> Result<Vec<u8>, Refusal> {
-    let printed = canonical(alloc, text)?;
-    let mut answer = Vec::new(alloc);
-    put_line_of(&mut answer, &printed, number)?;
     Ok(answer)
 }
 
-fn put_line_of(to: &mut Vec<u8>, text: &[u8], number: u32) -> Result<(), NoMemory> {
-    let mut place: u32 = 1;
-    for line in text.split(|b| *b == b'\n') {
-        if place == number {
-            put(to, line)?;
-            return put(to, b"\n");
-        }
-        place = place.saturating_add(1);
-    }
-    put(to, b"there is no such line\n")
+/// The code with which the program ends, what it writes, and its log.
+fn left(alloc: Global, words: &str, text: &[u8]) -> Result<Vec<u8>, NoMemory> {
+    let ran = run_by(alloc, words, text)?;
+    let mut answer = Vec::new(alloc);
+    put_left(&mut answer, &ran)?;
+    Ok(answer)
+}
+
+fn put_left(to: &mut Vec<u8>, ran: &Ran) -> Result<(), NoMemory> {
+    put(to, b"status ")?;
+    put_number(to, ran.code as u64)?;
+    put(to, b"\n")?;
+    put(to, ran.out.written())?;
+    put(to, b"log\n")?;
+    put(to, ran.log.written())
 }
 
 /// Whether a file is well formed.
-fn verified(alloc: Global, text: &[u8]) -> Result<Vec<u8>, Refusal> {
-    load(alloc, text)?;
-    Ok(said(alloc, b"well formed\n")?)
+fn verified(alloc: Global, text: &[u8]) -> Result<Vec<u8>, NoMemory> {
+    let ran = run_by(alloc, "check", text)?;
+    if ran.code == 0 {
+        return said(alloc, b"well formed\n");
+    }
+    match str::from_utf8(ran.log.written()) {
+        Ok(line) => without_name(alloc, line),
+        Err(_) => said(alloc, b"the log is no text\n"),
+    }
+}
+
+/// A status line, without the name of a fault that stands behind its number.
+fn without_name(alloc: Global, line: &str) -> Result<Vec<u8>, NoMemory> {
+    match line.rsplit_once(' ') {
+        Some((front, _)) if front.starts_with("unit ") => {
+            Ok(format!(in alloc; "{front}\n")?.into_bytes())
+        }
+        _ => said(alloc, line.as_bytes()),
+    }
+}
+
+/// Whether the program writes a text as it is.
+fn compared(alloc: Global, text: &[u8]) -> Result<Vec<u8>, NoMemory> {
+    let ran = run_by(alloc, "check", text)?;
+    said_alike(alloc, ran.out.written() == text)
+}
+
+/// Whether the lowered file shows what the file shows, where that is something.
+fn beside_lowered(alloc: Global, words: &str, text: &[u8]) -> Result<Vec<u8>, NoMemory> {
+    let lowered = run_by(alloc, "lower", text)?;
+    let one = run_by(alloc, words, text)?;
+    let other = run_by(alloc, words, lowered.out.written())?;
+    said_alike(alloc, are_alike(&one, &other))
+}
+
+fn are_alike(one: &Ran, other: &Ran) -> bool {
+    let shown = one.out.written();
+    !shown.is_empty() && shown == other.out.written() && one.log.written() == other.log.written()
+}
+
+/// The canonical text of a text that reads. It has to be its own canonical text.
+fn printed(alloc: Global, text: &[u8]) -> Result<Vec<u8>, NoMemory> {
+    let Some(once) = canonical(alloc, text)? else {
+        return shown(alloc, "check", text);
+    };
+    let Some(twice) = canonical(alloc, &once)? else {
+        return said(alloc, b"the canonical text does not read\n");
+    };
+    if twice.as_slice() != once.as_slice() {
+        return said(alloc, b"the canonical text has another\n");
+    }
+    Ok(once)
+}
+
+/// The canonical text of a text, if it reads.
+fn canonical(alloc: Global, text: &[u8]) -> Result<Option<Vec<u8>>, NoMemory> {
+    match file_of(alloc, text) {
+        Some(module) => Ok(Some(print(alloc, &module)?)),
+        None => Ok(None),
+    }
+}
+
+/// A line of the canonical text.
+fn line_of(alloc: Global, number: u32, text: &[u8]) -> Result<Vec<u8>, NoMemory> {
+    if file_of(alloc, text).is_none() {
+        return shown(alloc, "check", text);
+    }
+    let printed = printed(alloc, text)?;
+    let before = number.saturating_sub(1) as usize;
+    let line = str::from_utf8(&printed)
+        .unwrap_or("")
+        .lines()
+        .nth(before)
+        .unwrap_or("there is no such line");
+    Ok(format!(in alloc; "{line}\n")?.into_bytes())
 }
 
 /// How many bytes of the text read when no more are there.
@@ -203,15 +175,11 @@ fn cut(alloc: Global, text: &[u8]) -> Result<Vec<u8>, NoMemory> {
     let mut answer = Vec::new(alloc);
     for n in 0..text.len() + 1 {
         if let Some(front) = text.get(..n) {
-            if reads(alloc, front) {
+            if file_of(alloc, front).is_some() {
                 put_number(&mut answer, n as u64)?;
                 put(&mut answer, b"\n")?;
             }
         }
     }
     Ok(answer)
-}
-
-fn reads(alloc: Global, text: &[u8]) -> bool {
-    text.len() <= 67_108_864 && read(alloc, text).is_ok()
 }

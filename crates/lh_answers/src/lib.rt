@@ -2,9 +2,8 @@
 #![tactic(auto)]
 
 pub mod answer;
-mod beside;
-mod file;
-mod lowered;
-mod shown;
+mod design;
+mod program;
 mod stepped;
+mod watched;
 mod watchers;

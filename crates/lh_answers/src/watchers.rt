@@ -71,14 +71,15 @@ fn title_of<'a>(title: Title) -> &'a str
 }
 
 /// Watchers by their titles, words and turns: `go`, `done`, `stop`, or `none` of one that finds no memory.
-pub fn speakers(alloc: Global, words: &[&str]) -> Result<Vec<Speaker>, NoMemory> {
-    let mut ws = Vec::new(alloc);
-    for said in words.chunks_exact(3) {
+pub fn speakers(alloc: Global, words: &str) -> Result<Vec<Speaker>, NoMemory> {
+    let words: Vec<&str> = words.split_whitespace().collect(alloc)?;
+    let mut watchers = Vec::new(alloc);
+    for said in words.as_slice().chunks_exact(3) {
         if let [title, word, turn] = said {
-            ws.push(speaker_of(*title, *word, number(*turn)))?;
+            watchers.push(speaker_of(*title, *word, number(*turn)))?;
         }
     }
-    Ok(ws)
+    Ok(watchers)
 }
 
 fn speaker_of(title: &str, word: &str, turn: u32) -> Speaker {
@@ -99,12 +100,4 @@ fn speaker_of(title: &str, word: &str, turn: u32) -> Speaker {
         finds_memory: word != "none",
         seen: 0,
     }
-}
-
-/// What watchers report, one behind the other.
-pub fn put_reports<W: Watcher>(to: &mut Vec<u8>, ws: &[W]) -> Result<(), NoMemory> {
-    for w in ws {
-        w.report(to)?;
-    }
-    Ok(())
 }

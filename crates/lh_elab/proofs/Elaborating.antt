@@ -24,7 +24,7 @@ use Rattle.lh_elab.specs.declared.fault.ElabFault.{ElabFault}
 use Rattle.lh_elab.specs.declared.fault.ElabFault.TheVariants as fault
 use Rattle.lh_elab.specs.declared.build.Building.{Building}
 use Rattle.lh_design.specs.declared.Design as code
-use Rattle.lh_elab.specs.Plans.{AreWide}
+use Rattle.lh_plan.specs.Plans.{AreWide}
 use Rattle.lh_elab.specs.Refusals.{refusal_text, refusal_at, Refuses}
 use Rattle.lh_elab.specs.Builds.{signal_text, instance_text, design_text, room_of, IsStarted}
 use Rattle.lh_design.specs.Filling.{FillFrom, SignalsFill}

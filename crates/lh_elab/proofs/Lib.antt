@@ -4,10 +4,6 @@ pub mod Names
 pub mod Counting
 pub mod Refusing
 pub mod Placed
-pub mod Moving
-pub mod StaticSteps
-pub mod PlanSteps
-pub mod ChildSteps
 pub mod PlanTables
 pub mod Walks
 pub mod Numbering

@@ -40,7 +40,7 @@ use Rattle.lh_sound.proofs.Finding.{some-of}
 use Rattle.lh_sound.proofs.FindingElab.{parts-are-found}
 use Rattle.lh_sound.proofs.FindingStatic.{static-all-fits}
 use Rattle.lh_sound.proofs.FitLaws.{of-unit, unit-is-sound, begins-fit}
-use Rattle.lh_elab.proofs.PlanSteps.{entity-types}
+use Rattle.lh_plan.proofs.PlanSteps.{entity-types}
 
 -- what holds at each instruction of a module without a fault: its unit allows it, and what it names is right
 abbrev LineTold : List ItemText → UnitText → LineText → Type 0

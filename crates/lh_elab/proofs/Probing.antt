@@ -30,15 +30,15 @@ use Rattle.lh_eval.proofs.Holding.{same-held}
 use Rattle.lh_sound.specs.Ranges.{RangesFit, signal_types}
 use Rattle.lh_sound.proofs.FitLaws.{unit-is-sound}
 use Rattle.lh_elab.specs.declared.probes.Probe.{Probe}
-use Rattle.lh_elab.specs.declared.statics.Base.{Base}
-use Rattle.lh_elab.specs.declared.statics.Base.TheVariants as base
-use Rattle.lh_elab.specs.declared.statics.Statics.{Statics}
+use Rattle.lh_plan.specs.declared.statics.Base.{Base}
+use Rattle.lh_plan.specs.declared.statics.Base.TheVariants as base
+use Rattle.lh_plan.specs.declared.statics.Statics.{Statics}
 use Rattle.lh_elab.specs.Answer.{InstanceIs}
-use Rattle.lh_elab.specs.Plans.{AreWide, AreRangesOf}
+use Rattle.lh_plan.specs.Plans.{AreWide, AreRangesOf}
 use Rattle.lh_elab.specs.Probed.{probed_in, probed_by, ProbeLine, probe_by, above, ProbesOf}
-use Rattle.lh_elab.specs.Statics.{by_of, base_lo, moved_slots, StaticsFollow}
-use Rattle.lh_elab.proofs.Moving.{shifted, length-moved, slot-moved, part-moved}
-use Rattle.lh_elab.proofs.PlanSteps.{lines}
+use Rattle.lh_plan.specs.Statics.{by_of, base_lo, moved_slots, StaticsFollow}
+use Rattle.lh_plan.proofs.Moving.{shifted, length-moved, slot-moved, part-moved}
+use Rattle.lh_plan.proofs.PlanSteps.{lines}
 use Rattle.lh_elab.proofs.Ports.{instantiable-there, part-within, static-fits, types-read}
 
 above-part : (args sigs : List Range) (b : Base) (p : Option Range) → option_map (above args sigs) (option_map (λ (r : Range). record { base = b; part = r }) p)

@@ -14,16 +14,16 @@ use Rattle.lh_unit.specs.Within.{Each}
 use Rattle.lh_sound.specs.Ranges.{arg_types}
 use Rattle.lh_formed.proofs.EachItem.{each-split}
 use Rattle.lh_unit.proofs.Lists.{Each-append}
-use Rattle.lh_elab.specs.declared.plan.PlanSignal.{PlanSignal}
-use Rattle.lh_elab.specs.declared.plan.PlanChild.{PlanChild}
-use Rattle.lh_elab.specs.declared.plan.Plan.{Plan}
-use Rattle.lh_elab.specs.declared.plan.Low.{Low}
-use Rattle.lh_elab.specs.declared.statics.Base.{Base}
-use Rattle.lh_elab.specs.declared.statics.Base.TheVariants as base
+use Rattle.lh_plan.specs.declared.plan.PlanSignal.{PlanSignal}
+use Rattle.lh_plan.specs.declared.plan.PlanChild.{PlanChild}
+use Rattle.lh_plan.specs.declared.plan.Plan.{Plan}
+use Rattle.lh_plan.specs.declared.plan.Low.{Low}
+use Rattle.lh_plan.specs.declared.statics.Base.{Base}
+use Rattle.lh_plan.specs.declared.statics.Base.TheVariants as base
 use Rattle.lh_elab.specs.declared.build.Building.{Building}
 use Rattle.lh_elab.specs.declared.build.Pending.{Pending}
-use Rattle.lh_elab.specs.Statics.{base_lo, no_range}
-use Rattle.lh_elab.specs.Plans.{signal_of, child_of, low_at, LowSmall, ChildSmall, SignalFits, AreWide, AreRangesOf, IsPlan}
+use Rattle.lh_plan.specs.Statics.{base_lo, no_range}
+use Rattle.lh_plan.specs.Plans.{signal_of, child_of, low_at, LowSmall, ChildSmall, SignalFits, AreWide, AreRangesOf, IsPlan}
 use Rattle.lh_elab.specs.Builds.{instance_text, signal_text, room_of, ranges_by, kid, kids, kids_in, AreLow, LowsFit, Visits}
 use Rattle.lh_elab.specs.Elaborates.{TextsFill}
 use Rattle.lh_elab.proofs.Walks.{gone, unwound, unwound-append, ReadsArgs, kids-visited, left, left-append, kids-count}

@@ -1,8 +1,6 @@
 pub mod Graph
 pub mod Measures
 pub mod Refusals
-pub mod Statics
-pub mod Plans
 pub mod Builds
 pub mod Elaborates
 pub mod Answer

@@ -1,13 +1,11 @@
 //! The units of a module as a graph: of each unit the bits of its signals, and the units that it instantiates.
 ghost use Rattle.std.specs.Prelude.{◌≡◌, ◌<◌, ◌+◌, ◌++◌, ◌∷◌, [], min, IfOk, OnOk, Some};
-ghost use Rattle.lh_types.specs.Types.{bit_count};
 ghost use Rattle.lh_unit.specs.Arena.{IsArena, unit_count, kind_at};
-ghost use Rattle.lh_unit.specs.Hierarchy.{type_or_void};
 ghost use Rattle.lh_elab.specs.Graph.{no_node, node_after, node_of, IsGraph, max_counted};
 
+use lh_plan::width::width;
 use lh_types::list::ListOf;
-use lh_types::ty::{NoMemory, Ty, TyKind, bits};
-use lh_types::written::WrittenTy;
+use lh_types::ty::NoMemory;
 use lh_unit::inst::{BlockId, Inst, UnitId, UnitKind};
 use lh_unit::module::Module;
 use std::alloc::Global;
@@ -98,24 +96,3 @@ pub fn counted(bits: u32, more: u32) -> u32
 
 /// How many bits the signals of a design have at most.
 pub const MAX_BITS: u32 = 16_777_216;
-
-/// How many bits a signal of a written type has.
-pub fn width(ty: &WrittenTy) -> u32
-    ensures { result ≡ bit_count (type_or_void ty.now) }
-{
-    match ty.get() {
-        Some(ty) => width_of(ty),
-        None => 0,
-    }
-}
-
-/// How many bits a value of a type has, or what a signal of it carries; none has what carries no bits.
-pub fn width_of(ty: &Ty) -> u32
-    ensures { result ≡ bit_count ty.now }
-{
-    match ty.kind() {
-        TyKind::Signal(of) => bits(of),
-        TyKind::Time | TyKind::Void | TyKind::Pointer(_) => 0,
-        _ => bits(ty),
-    }
-}

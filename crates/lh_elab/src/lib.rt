@@ -7,10 +7,8 @@ mod fault;
 mod graph;
 mod measure;
 mod paths;
-mod plan;
 mod probes;
 mod refusal;
-mod statics;
 
 pub use crate::elaborate::elab;
 pub use crate::fault::ElabFault;

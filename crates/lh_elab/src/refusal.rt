@@ -8,9 +8,10 @@ ghost use Rattle.lh_elab.specs.Graph.{max_counted};
 ghost use Rattle.lh_elab.specs.Measures.{fault_of};
 
 use crate::fault::ElabFault;
-use crate::graph::{MAX_BITS, counted, graph, width_of};
+use crate::graph::{MAX_BITS, counted, graph};
 use crate::measure::{MAX_INSTANCES, MAX_NESTING, Measure};
 use lh_descent::{DescentFault, Search};
+use lh_plan::width::width_of;
 use lh_unit::inst::{Arg, UnitId, UnitKind};
 use lh_unit::module::Module;
 use std::alloc::Global;

@@ -13,7 +13,7 @@ use Rattle.lh_unit.specs.declared.inst.ValueId.{ValueId}
 use Rattle.lh_unit.specs.declared.inst.Typed.{Typed}
 use Rattle.lh_unit.proofs.Lists.{Same, same, other, same_or, nat_eq-refl, nat_eq-other, drop-item}
 use Rattle.lh_unit.proofs.ById.{same_value-by_id}
-use Rattle.lh_eval.specs.Holding.{Holds, datum_in, condition_in, data_in, one_datum, two_data, MaybeIn, SameHeld, HoldsSame, HoldsMore, HoldsGiven, HoldsNothing}
+use Rattle.lh_eval.specs.Holding.{Holds, datum_in, condition_in, data_in, one_datum, two_data, three_data, MaybeIn, SameHeld, HoldsSame, HoldsMore, HoldsGiven, HoldsNothing}
 
 -- ---- reading
 
@@ -88,7 +88,7 @@ holds-nothing a u = record {
   each = λ v p. none-at (value_count a u) v.0;
 }
 
--- the values of one operand, and of two
+-- the values of one operand, of two, and of three
 pub data-one : (slots : List (Option Held)) (os : List Typed) (d : Typed) → length os ≡ 1 → data_in slots os ≡ one_datum (datum_in slots (get_or os 0 d).value)
 data-one slots [] d h = absurd (omega (arith, h))
 data-one slots (o ∷ []) d h = refl
@@ -99,6 +99,14 @@ data-two slots [] d e h = absurd (omega (arith, h))
 data-two slots (o ∷ []) d e h = absurd (omega (arith, h))
 data-two slots (o ∷ p ∷ []) d e h = refl
 data-two slots (o ∷ p ∷ q ∷ os) d e h = absurd (omega (arith, h))
+
+pub data-three : (slots : List (Option Held)) (os : List Typed) (d e f : Typed) → length os ≡ 3
+    → data_in slots os ≡ three_data (datum_in slots (get_or os 0 d).value) (datum_in slots (get_or os 1 e).value) (datum_in slots (get_or os 2 f).value)
+data-three slots [] d e f h = absurd (omega (arith, h))
+data-three slots (o ∷ []) d e f h = absurd (omega (arith, h))
+data-three slots (o ∷ p ∷ []) d e f h = absurd (omega (arith, h))
+data-three slots (o ∷ p ∷ q ∷ []) d e f h = refl
+data-three slots (o ∷ p ∷ q ∷ r ∷ os) d e f h = absurd (omega (arith, h))
 
 -- ---- values one by one
 

@@ -8,3 +8,5 @@ pub mod GivesFit
 pub mod BeginSteps
 pub mod Wishing
 pub mod Chosen
+pub mod Integers
+pub mod Fields

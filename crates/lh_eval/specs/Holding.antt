@@ -48,12 +48,15 @@ abbrev pub data_in : List (Option Held) → List Typed → Option (List Datum)
 data_in slots [] = Some []
 data_in slots (o ∷ more) = front (datum_in slots o.value) (data_in slots more)
 
--- the values of one operand, and of two
+-- the values of one operand, of two, and of three
 abbrev pub one_datum : Option Datum → Option (List Datum)
 one_datum a = front a (Some [])
 
 abbrev pub two_data : Option Datum → Option Datum → Option (List Datum)
 two_data a b = front a (front b (Some []))
+
+abbrev pub three_data : Option Datum → Option Datum → Option Datum → Option (List Datum)
+three_data a b c = front a (front b (front c (Some [])))
 
 -- the operand that may be absent has a slot
 abbrev pub MaybeIn : List (Option Held) → Option ValueId → Type 0

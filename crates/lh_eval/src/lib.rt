@@ -8,6 +8,8 @@ pub mod instance;
 pub mod laws;
 pub mod operands;
 pub mod operate;
+mod put;
+mod seen;
 mod types;
 
 pub use lh_wishes::wishes;

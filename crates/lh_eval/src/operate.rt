@@ -1,11 +1,10 @@
 //! What an operation gives: of values a value, of a signal its part.
-ghost use Rattle.std.specs.Prelude.{◌≡◌, ◌+◌, ◌-◌, ◌<◌, ◌^◌, List, [], ◌∷◌, length, map, min, slice_index_or, Some, IfOk, IfSome};
+ghost use Rattle.std.specs.Prelude.{◌≡◌, ◌+◌, ◌<◌, ◌^◌, List, [], ◌∷◌, length, map, Some, IfOk};
 ghost use Rattle.std.specs.Option.{option_map, option_copied};
 ghost use Rattle.lh_types.specs.Types.{IsData, bit_count, signal_type};
 ghost use Rattle.lh_types.specs.Values.{Datum};
 ghost use Rattle.lh_types.specs.ValueOf.{datum_of};
 ghost use Rattle.lh_types.specs.Apply as rows;
-ghost use Rattle.lh_types.specs.Apply.{no_value};
 ghost use Rattle.lh_types.specs.ApplyTypes.{FitsOp};
 ghost use Rattle.lh_unit.specs.Arena.{unit_count, value_count, sizes, naming, unit_text_at};
 ghost use Rattle.lh_unit.specs.Effects as effects;
@@ -17,11 +16,13 @@ ghost use Rattle.lh_unit.specs.declared.inst.Typed.{Typed as Operand};
 ghost use Rattle.lh_eval.specs.HeldOf.{maybe_held};
 ghost use Rattle.lh_unit.specs.Typing.{value_type};
 ghost use Rattle.lh_eval.specs.Holding as holding;
-ghost use Rattle.lh_eval.specs.Holding.{Holds, one_datum, two_data};
+ghost use Rattle.lh_eval.specs.Holding.{Holds, one_datum, two_data, three_data};
 ghost use Rattle.lh_eval.specs.Fitting.{PartFits, OperandsFit};
 
 use crate::held::{Held, Slots};
 use crate::operands::{data_in, datum_in, part_in};
+use crate::put::with_field;
+use crate::seen::{chosen, seen};
 use crate::types::carried_by;
 use lh_ops::apply;
 use lh_types::op::Op;
@@ -58,13 +59,16 @@ pub fn operate(
     }
 }
 
-/// The value of an operation on what its operands hold, where each holds a value. One or two operands take no memory of
-/// their own.
+/// The value of an operation on what its operands hold, where each holds a value. Only an array or a struct takes a list of
+/// them, as its parts.
 fn applied(alloc: Global, op: &Op, slots: &Slots, args: &[Typed]) -> Result<Option<Val>, NoMemory>
     requires args { Each (λ (o : Operand). o.value.0 < length slots.now) args.now }
     requires fit { (ds : List Datum) → holding.data_in slots.now args.now ≡ Some ds → FitsOp op.now ds }
     ensures { IfOk result (λ v. option_map datum_of v ≡ option_map (rows.apply op.now) (holding.data_in slots.now args.now)) }
 {
+    if keeps_operands(op) {
+        return applied_to_all(alloc, op, slots, args);
+    }
     if args.len() == 1 {
         return applied_to_one(alloc, op, datum_in(slots, args[0].value));
     }
@@ -72,7 +76,20 @@ fn applied(alloc: Global, op: &Op, slots: &Slots, args: &[Typed]) -> Result<Opti
         let first = datum_in(slots, args[0].value);
         return applied_to_two(alloc, op, first, datum_in(slots, args[1].value));
     }
+    if args.len() == 3 {
+        let first = datum_in(slots, args[0].value);
+        let second = datum_in(slots, args[1].value);
+        return applied_to_three(alloc, op, first, second, datum_in(slots, args[2].value));
+    }
     applied_to_all(alloc, op, slots, args)
+}
+
+/// Whether the values of the operands are the parts of what the operation gives.
+fn keeps_operands(op: &Op) -> bool {
+    match op {
+        Op::Array | Op::Tuple => true,
+        _ => false,
+    }
 }
 
 fn applied_to_one(alloc: Global, op: &Op, a: Option<&Val>) -> Result<Option<Val>, NoMemory>
@@ -103,39 +120,44 @@ fn applied_to_two(
     let Some(b) = b else {
         return Ok(None);
     };
-    if let Some(element) = chosen(op, a, b) {
-        let value = element.copy()?;
-        return Ok(Some(value));
-    }
-    let a = a.copy()?;
-    let b = b.copy()?;
-    let value = apply(alloc, op, &[a, b])?;
+    let value = of_two(alloc, op, a, b)?;
     Ok(Some(value))
 }
 
-/// The value that an operation gives where it is an element of an array, and that is seen at once: the rest of the array is not copied.
-#[tactic(auto, unfolding(lh_types::specs::Apply::apply))]
-fn chosen<'a>(op: &Op, a: &'a Val, b: &Val) -> Option<&'a Val>
-    ensures { IfSome result (λ v. datum_of v.now ≡ rows.apply op.now (datum_of a.now ∷ datum_of b.now ∷ [])) }
+/// The value of an operation on two values. They are copied only where the operation cannot be told from a look at them.
+fn of_two(alloc: Global, op: &Op, a: &Val, b: &Val) -> Result<Val, NoMemory>
+    requires { FitsOp op.now (datum_of a.now ∷ datum_of b.now ∷ []) }
+    ensures { IfOk result (λ v. datum_of v ≡ rows.apply op.now (datum_of a.now ∷ datum_of b.now ∷ [])) }
 {
-    match (op, a, b) {
-        (Op::Mux, Val::Array(elements), Val::Int { width: _, bits }) => element(
-            elements.as_slice(),
-            *bits,
-        ),
-        _ => None,
+    if let Some(value) = seen(op, a, b) {
+        return Ok(value);
     }
+    if let Some(element) = chosen(op, a, b) {
+        return element.copy();
+    }
+    if let Op::Insf(k) = op {
+        return with_field(a, *k, b);
+    }
+    let a = a.copy()?;
+    let b = b.copy()?;
+    apply(alloc, op, &[a, b])
 }
 
-/// The element that stands at a place, the last one past the end; there is none of no elements.
-fn element(elements: &[Val], at: u128) -> Option<&Val>
-    ensures { IfSome result (λ v. datum_of v.now ≡ slice_index_or (map datum_of elements.now) (min at (length elements.now - 1)) no_value) }
+fn applied_to_three(
+    alloc: Global,
+    op: &Op,
+    a: Option<&Val>,
+    b: Option<&Val>,
+    c: Option<&Val>,
+) -> Result<Option<Val>, NoMemory>
+    requires { (ds : List Datum) → three_data (option_map datum_of (option_copied a)) (option_map datum_of (option_copied b)) (option_map datum_of (option_copied c)) ≡ Some ds → FitsOp op.now ds }
+    ensures { IfOk result (λ v. option_map datum_of v ≡ option_map (rows.apply op.now) (three_data (option_map datum_of (option_copied a.entry)) (option_map datum_of (option_copied b.entry)) (option_map datum_of (option_copied c.entry)))) }
 {
-    if elements.is_empty() {
-        return None;
-    }
-    let last = elements.len() - 1;
-    Some(&elements[at.min(last as u128) as usize])
+    let (Some(a), Some(b), Some(c)) = (a, b, c) else {
+        return Ok(None);
+    };
+    let value = apply(alloc, op, &[a.copy()?, b.copy()?, c.copy()?])?;
+    Ok(Some(value))
 }
 
 fn applied_to_all(

@@ -1,5 +1,5 @@
 -- The values that the `phi` instructions of a block take, and those that a function is called with, by ids.
-use Rattle.std.specs.Prelude.{◌≡◌, List, [], ◌∷◌, Bool, true, false, nat_eq, if◌then◌else◌, Option, Some, None, slice_set, ◌++◌}
+use Rattle.std.specs.Prelude.{◌≡◌, List, [], ◌∷◌, map, Bool, true, false, nat_eq, if◌then◌else◌, Option, Some, None, slice_set, ◌++◌}
 use Rattle.std.specs.Option.{option_and_then, option_map}
 use Rattle.lh_types.specs.Values.{Datum}
 use Rattle.lh_types.specs.ValueOf.{datum_of}
@@ -10,9 +10,10 @@ use Rattle.lh_unit.specs.declared.inst.ValueId.{ValueId}
 use Rattle.lh_unit.specs.declared.inst.BlockId.{BlockId}
 use Rattle.lh_unit.specs.declared.inst.PhiEdge.{PhiEdge}
 use Rattle.lh_unit.specs.declared.inst.Arg.{Arg}
+use Rattle.lh_unit.specs.declared.inst.Typed.{Typed}
 use Rattle.lh_unit.specs.declared.inst.Inst.{Inst}
 use Rattle.lh_unit.specs.declared.inst.Inst.TheVariants as inst
-use Rattle.lh_eval.specs.Holding.{datum_in}
+use Rattle.lh_eval.specs.Holding.{datum_in, data_in}
 use Rattle.lh_exec.specs.declared.machine.Taken.{Taken}
 
 abbrev pub Slots : Type 0
@@ -53,6 +54,15 @@ abbrev pub data_given : List Arg → List Held → Slots → Slots
 data_given [] hs slots = slots
 data_given (a ∷ more) [] slots = slots
 data_given (a ∷ more) (h ∷ hs) slots = data_given more hs (slice_set slots a.value.0 (Some h))
+
+-- with the values of operands held by the arguments of a unit, where each operand holds one
+abbrev pub operands_given : List Arg → List Typed → (from to : Slots) → Option Slots
+operands_given args os from to = option_map (λ ds. data_given args (map datum_held ds) to) (data_in from os)
+
+-- all were there and these slots hold them, or one was not there
+abbrev pub GivesValues : Bool → Slots → Option Slots → Type 0
+GivesValues true slots all = all ≡ Some slots
+GivesValues false slots all = all ≡ None
 
 -- all were there and these are taken, or one was not there
 abbrev pub TakesValues : Bool → List (ValueId × Datum) → Option (List (ValueId × Datum)) → Type 0

@@ -1,13 +1,12 @@
 //! Assertions, calls and returns.
 ghost use Rattle.std.specs.Prelude.{◌≡◌, ◌<◌, ℕ, false, [], ◌∷◌, ◌++◌, length, map, if◌then◌else◌, Option, Some, IfOk, OnOk, IfSome};
 ghost use Rattle.std.specs.Option.{option_map};
-ghost use Rattle.lh_types.specs.ValueOf.{datum_of};
 ghost use Rattle.lh_unit.specs.Activation as act;
 ghost use Rattle.lh_unit.specs.Activation.{Point, asserted, tells, called, opens, entry, returns};
 ghost use Rattle.lh_unit.specs.Arena.{Arena, IsArena, unit_count, value_count, naming, kind_at, unit_name_at, unit_text_at};
 ghost use Rattle.lh_unit.specs.Contents as text;
 ghost use Rattle.lh_unit.specs.Held.{Held as Content};
-ghost use Rattle.lh_unit.specs.Held.{Env, datum_held, data_at, nothing_held, with_args};
+ghost use Rattle.lh_unit.specs.Held.{Env, data_at};
 ghost use Rattle.lh_names.specs.UnitNames.{is_assert};
 ghost use Rattle.lh_unit.specs.Naming.{operand_text, maybe_text};
 ghost use Rattle.lh_unit.specs.Table.{ArgsWithin, HasBlocks};
@@ -16,13 +15,12 @@ ghost use Rattle.lh_unit.specs.declared.inst.Typed.{Typed as Operand};
 ghost use Rattle.lh_eval.specs.HeldOf.{maybe_held};
 ghost use Rattle.lh_eval.specs.Holding.{Holds, MaybeIn};
 ghost use Rattle.lh_exec.specs.Standing.{MachineIs, HasPoint, FrameIs, InstLeads, Does, MaybeFrame, asserted_in, returned_in, back};
-ghost use Rattle.lh_exec.specs.Taking.{data_given};
+ghost use Rattle.lh_exec.specs.Taking.{operands_given, GivesValues};
 
 use crate::machine::{Call, Flow, Machine, UnitFrame};
 use lh_eval::held::{Held, Slots};
-use lh_eval::operands::{data_in, datum_in, test_in};
+use lh_eval::operands::{datum_in, test_in};
 use lh_types::ty::NoMemory;
-use lh_types::val::Val;
 use lh_unit::inst::{Arg, Typed, UnitId, ValueId};
 use lh_unit::module::Module;
 use std::alloc::Global;
@@ -184,41 +182,35 @@ fn called_frame(
     requires args { Each (λ (o : Operand). o.value.0 < length slots.now) args.now }
     ensures { (u : ℕ) (e : Env) → Holds m.now u slots.now e → IfOk result (λ f. MaybeFrame m.now f (called (Some (unit_text_at m.now unit.0)) (data_at e (map (operand_text (naming m.now u)) args.now)))) }
 {
-    match data_in(alloc, slots, args)? {
-        Some(values) => function_frame(alloc, m, unit, values.as_slice()),
-        None => Ok(None),
+    let mut held = Slots::new(alloc, m.values(unit))?;
+    if !hold_operands(m.args(unit), args, slots, &mut held)? {
+        return Ok(None);
     }
+    Ok(first_frame(m, unit, held))
 }
 
-/// The frame in which a function begins that is called with these values.
-fn function_frame(
-    alloc: Global,
-    m: &Module,
-    unit: UnitId,
-    values: &[Val],
-) -> Result<Option<UnitFrame>, NoMemory>
-    requires unit { unit.0 < unit_count m.now }
-    requires blocks { HasBlocks (kind_at m.now unit.0) }
-    ensures { IfOk result (λ f. MaybeFrame m.now f (entry (unit_text_at m.now unit.0) (with_args nothing_held (unit_text_at m.now unit.0).args (map datum_held (map datum_of values.now))))) }
+/// Holds by the arguments of a unit copies of what operands hold; false where one of these holds no value.
+fn hold_operands(
+    args: &[Arg],
+    operands: &[Typed],
+    from: &Slots,
+    to: &mut Slots,
+) -> Result<bool, NoMemory>
+    requires args { ArgsWithin (length to.old) args.now }
+    requires operands { Each (λ (o : Operand). o.value.0 < length from.now) operands.now }
+    ensures { IfOk result (λ there. GivesValues there to.new (operands_given args.now operands.now from.now to.old)) }
 {
-    let mut slots = Slots::new(alloc, m.values(unit))?;
-    hold_data(m.args(unit), values, &mut slots)?;
-    Ok(first_frame(m, unit, slots))
-}
-
-/// Holds copies of values by the arguments of a unit.
-fn hold_data(args: &[Arg], values: &[Val], slots: &mut Slots) -> Result<(), NoMemory>
-    requires { ArgsWithin (length slots.old) args.now }
-    ensures { OnOk result (slots.new ≡ data_given args.now (map datum_held (map datum_of values.now)) slots.old) }
-{
-    for (i, arg) in args.iter().enumerate() {
-        if i >= values.len() {
-            return Ok(());
+    for (i, operand) in operands.iter().enumerate() {
+        let Some(value) = datum_in(from, operand.value) else {
+            return Ok(false);
+        };
+        if i >= args.len() {
+            continue;
         }
-        let value = values[i].copy()?;
-        slots.set(arg.value, Held::Datum(value));
+        let value = value.copy()?;
+        to.set(args[i].value, Held::Datum(value));
     }
-    Ok(())
+    Ok(true)
 }
 
 /// The frame in which a unit begins, in its entry block, where it has one.

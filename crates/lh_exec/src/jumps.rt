@@ -230,7 +230,7 @@ fn parts_in(
     requires { Each (λ (v : Value). v.0 < length slots.now) signals.now }
     ensures { IfOk result (λ parts. parts ≡ standing.parts_in slots.now signals.now) }
 {
-    let mut parts = ListOf::new(alloc);
+    let mut parts = ListOf::with_room(alloc, signals.len())?;
     for signal in signals {
         match part_in(slots, *signal) {
             Some(part) => parts.push(part)?,

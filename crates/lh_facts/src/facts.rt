@@ -1,18 +1,20 @@
 //! What is known of the values of a unit, from the arguments and the instructions that give them.
 ghost use Rattle.std.specs.Prelude.{◌≡◌, ◌<◌, ◌++◌, ◌∷◌, [], List, false, length, replicate, option_map, IfOk, OnOk};
+ghost use Rattle.std.specs.Option.{option_copied};
 ghost use Rattle.lh_unit.specs.Naming.{Naming};
 ghost use Rattle.lh_unit.specs.Table.{ArgsWithin, line_at};
 ghost use Rattle.lh_unit.specs.Typing.{or_else};
 ghost use Rattle.lh_unit.specs.declared.table.Line.{Line};
 ghost use Rattle.lh_unit.specs.Arena.{unit_count, value_count, inst_count, table_at, args_at, naming};
 ghost use Rattle.lh_facts.specs.Facts.{kind_as};
+ghost use Rattle.lh_facts.specs.Given.{type_given};
 ghost use Rattle.lh_facts.specs.Numbers.{Grows};
 ghost use Rattle.lh_facts.specs.FactsOfUnit.{FactsAfter, Marks, FactOfInst, FactOfArg, blank};
 
 use crate::numbers::Types;
-use crate::results::{kind_of, result_kind, result_type};
+use crate::results::{GivenType, kind_of, result_kind, result_type};
 use crate::scope::{Fact, Kind};
-use lh_types::ty::NoMemory;
+use lh_types::ty::{NoMemory, Ty};
 use lh_unit::inst::{Arg, Inst, InstId, UnitId, ValueId};
 use lh_unit::module::Module;
 use std::alloc::Global;
@@ -130,11 +132,18 @@ fn tell(alloc: Global, fact: &mut Fact, inst: &Inst, types: &mut Types) -> Resul
     if fact.defined {
         return Ok(());
     }
-    let ty = result_type(alloc, inst)?;
-    fact.kind = result_kind(inst, ty.as_ref());
+    let given = result_type(alloc, inst)?;
+    let ty = type_of(given.as_ref());
+    fact.kind = result_kind(inst, ty);
     fact.ty = types.number_of(ty)?;
     fact.defined = true;
     Ok(())
+}
+
+fn type_of<'a>(given: Option<&'a GivenType<'a>>) -> Option<&'a Ty>
+    ensures { option_copied result ≡ option_map type_given (option_copied given.entry) }
+{
+    Some(given?.get())
 }
 
 /// Tells the arguments, over what the instructions told; of two that are one value, the first tells.
@@ -181,7 +190,7 @@ fn tell_arg(fact: &mut Fact, seen: bool, arg: &Arg, types: &mut Types) -> Result
         return Ok(());
     }
     fact.kind = either(kind_of(arg.ty.kind()), fact.kind);
-    fact.ty = Some(types.number(arg.ty.copy()?)?);
+    fact.ty = Some(types.number_like(&arg.ty)?);
     fact.defined = true;
     Ok(())
 }

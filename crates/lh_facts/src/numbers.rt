@@ -109,7 +109,12 @@ pub struct Numbered<'a> {
 #[derive(Drop)]
 pub struct Types {
     set: IndexSet<Key>,
+    // By digests, numbers of types that came before. Any number may stand there: its type is compared with the one that is asked for.
+    recent: [u32; RECENT],
 }
+
+// How many numbers are kept: a prime, so that the digests of the types of a module mostly have places of their own.
+const RECENT: usize = 251;
 
 impl Model for Types {
     ghost use Rattle.std.specs.Prelude.{List};
@@ -133,6 +138,7 @@ impl Types {
     {
         Types {
             set: IndexSet::new(alloc),
+            recent: [0; RECENT],
         }
     }
 
@@ -178,14 +184,28 @@ impl Types {
         Ok(number as u32)
     }
 
+    /// The number of an equal type. What came before mostly has it at hand; what is new is copied and added.
+    pub fn number_like(&mut self, ty: &Ty) -> Result<u32, NoMemory>
+        ensures made { IfOk result (λ n. slice_get self.new n ≡ Some ty.now) }
+        ensures grows { OnOk result (Grows self.old self.new) }
+    {
+        let place = (digest(ty) % RECENT as u64) as usize;
+        if let Some(number) = self.checked(self.recent[place], ty) {
+            return Ok(number);
+        }
+        let number = self.number(ty.copy()?)?;
+        self.recent[place] = number;
+        Ok(number)
+    }
+
     /// The number of a type that may be absent.
-    pub fn number_of(&mut self, ty: Option<Ty>) -> Result<Option<u32>, NoMemory>
-        ensures made { IfOk result (λ n. IsNumberOf self.new n ty) }
+    pub fn number_of(&mut self, ty: Option<&Ty>) -> Result<Option<u32>, NoMemory>
+        ensures made { IfOk result (λ n. IsNumberOf self.new n (option_copied ty.entry)) }
         ensures grows { OnOk result (Grows self.old self.new) }
     {
         match ty {
             None => Ok(None),
-            Some(ty) => Ok(Some(self.number(ty)?)),
+            Some(ty) => Ok(Some(self.number_like(ty)?)),
         }
     }
 }

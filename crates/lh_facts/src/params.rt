@@ -40,7 +40,7 @@ fn arg_numbers(alloc: Global, args: &[Arg], types: &mut Types) -> Result<NumberL
 {
     let mut list = NumberList::with_room(alloc, args.len())?;
     for arg in args {
-        let place = types.number(arg.ty.copy()?)?;
+        let place = types.number_like(&arg.ty)?;
         list.push(place)?;
     }
     Ok(list)

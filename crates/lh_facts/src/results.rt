@@ -10,6 +10,7 @@ ghost use Rattle.lh_unit.specs.Typing as spec;
 ghost use Rattle.lh_unit.specs.Typing.{if_made, array_made, tuple_made, pointer_to, signal_of, pointed, carried};
 ghost use Rattle.lh_unit.specs.Kinds as kinds;
 ghost use Rattle.lh_facts.specs.Facts.{kind_as};
+ghost use Rattle.lh_facts.specs.Given.{type_given};
 
 use crate::scope::Kind;
 use lh_types::op::OpClass;
@@ -17,6 +18,37 @@ use lh_types::ty::{NoMemory, Ty, TyFault, TyKind, TyList, carries_data};
 use lh_types::val::Val;
 use lh_unit::inst::{Inst, Typed};
 use std::alloc::Global;
+
+/// The type of what an instruction gives: one that the instruction holds, or one that was made.
+#[derive(Drop)]
+pub enum GivenType<'a> {
+    Held(&'a Ty),
+    Made(Ty),
+}
+
+impl GivenType<'_> {
+    /// The type.
+    pub fn get(&self) -> &Ty
+        ensures { result.now ≡ type_given self.now }
+    {
+        match self {
+            GivenType::Held(ty) => ty,
+            GivenType::Made(ty) => ty,
+        }
+    }
+}
+
+fn held(ty: Option<&Ty>) -> Option<GivenType<'_>>
+    ensures { option_map type_given result ≡ option_copied ty.entry }
+{
+    Some(GivenType::Held(ty?))
+}
+
+fn given<'a>(ty: Option<Ty>) -> Option<GivenType<'a>>
+    ensures { option_map type_given result ≡ ty }
+{
+    Some(GivenType::Made(ty?))
+}
 
 /// The type that was made, if there is such a type.
 fn made(ty: Result<Ty, TyFault>) -> Result<Option<Ty>, NoMemory>
@@ -99,35 +131,34 @@ fn struct_of(alloc: Global, args: &[Typed]) -> Result<Option<Ty>, NoMemory>
 }
 
 /// The type that is written before the first operand.
-fn first_type(args: &[Typed]) -> Result<Option<Ty>, NoMemory>
-    ensures { (f : Naming) → IfOk result (λ o. o ≡ spec.first_type (map (operand_text f) args.now)) }
+fn first_type(args: &[Typed]) -> Option<&Ty>
+    ensures { (f : Naming) → option_copied result ≡ spec.first_type (map (operand_text f) args.now) }
 {
     match args.split_first() {
-        None => Ok(None),
-        Some((first, _)) => written_type(first),
-    }
-}
-
-fn written_type(operand: &Typed) -> Result<Option<Ty>, NoMemory>
-    ensures { IfOk result (λ o. o ≡ operand.now.ty) }
-{
-    match operand.ty.get() {
-        None => Ok(None),
-        Some(ty) => Ok(Some(ty.copy()?)),
+        None => None,
+        Some((first, _)) => first.ty.get(),
     }
 }
 
 /// The type of what the operations of a class give.
-fn class_type(alloc: Global, class: OpClass, args: &[Typed]) -> Result<Option<Ty>, NoMemory>
-    ensures { (f : Naming) → IfOk result (λ o. o ≡ spec.class_type class (map (operand_text f) args.now)) }
+fn class_type(
+    alloc: Global,
+    class: OpClass,
+    args: &[Typed],
+) -> Result<Option<GivenType<'_>>, NoMemory>
+    ensures { (f : Naming) → IfOk result (λ o. option_map type_given o ≡ spec.class_type class (map (operand_text f) args.now)) }
 {
     match class {
-        OpClass::Relation | OpClass::Equality => bit_type(),
-        OpClass::Array => array_type(alloc, args.len(), args),
-        OpClass::Repeat(n) => array_type(alloc, n as usize, args),
-        OpClass::Tuple => struct_of(alloc, args),
-        OpClass::Unary | OpClass::Binary | OpClass::Shift | OpClass::Select => first_type(args),
-        OpClass::TakePart(_) | OpClass::PutPart(_) => first_type(args),
+        OpClass::Relation | OpClass::Equality => Ok(given(bit_type()?)),
+        OpClass::Array => Ok(given(array_type(alloc, args.len(), args)?)),
+        OpClass::Repeat(n) => Ok(given(array_type(alloc, n as usize, args)?)),
+        OpClass::Tuple => Ok(given(struct_of(alloc, args)?)),
+        OpClass::Unary
+        | OpClass::Binary
+        | OpClass::Shift
+        | OpClass::Select
+        | OpClass::TakePart(_)
+        | OpClass::PutPart(_) => Ok(held(first_type(args))),
     }
 }
 
@@ -164,51 +195,32 @@ fn signal_type(alloc: Global, of: &Typed) -> Result<Option<Ty>, NoMemory>
 }
 
 /// What the pointer that is written before an operand points to.
-fn pointed_type(from: &Typed) -> Result<Option<Ty>, NoMemory>
-    ensures { IfOk result (λ o. o ≡ option_and_then pointed from.now.ty) }
+fn pointed_type(from: &Typed) -> Option<&Ty>
+    ensures { option_copied result ≡ option_and_then pointed from.now.ty }
 {
-    match from.ty.get() {
-        None => Ok(None),
-        Some(ty) => match ty.kind() {
-            TyKind::Pointer(to) => Ok(Some(to.copy()?)),
-            _ => Ok(None),
-        },
-    }
+    from.ty.get()?.pointed()
 }
 
 /// What the signal that is written before an operand carries.
-fn carried_type(from: &Typed) -> Result<Option<Ty>, NoMemory>
-    ensures { IfOk result (λ o. o ≡ option_and_then carried from.now.ty) }
+fn carried_type(from: &Typed) -> Option<&Ty>
+    ensures { option_copied result ≡ option_and_then carried from.now.ty }
 {
-    match from.ty.get() {
-        None => Ok(None),
-        Some(ty) => match ty.kind() {
-            TyKind::Signal(of) => Ok(Some(of.copy()?)),
-            _ => Ok(None),
-        },
-    }
-}
-
-/// The type that a line itself writes for what it gives.
-fn own_type(ty: &Ty) -> Result<Option<Ty>, NoMemory>
-    ensures { IfOk result (λ o. o ≡ Some ty.now) }
-{
-    Ok(Some(ty.copy()?))
+    from.ty.get()?.carried()
 }
 
 /// The type of what an instruction gives, where it gives something that has a type.
-pub fn result_type(alloc: Global, inst: &Inst) -> Result<Option<Ty>, NoMemory>
-    ensures { (f : Naming) → IfOk result (λ o. o ≡ spec.result_type (inst_text f inst.now)) }
+pub fn result_type(alloc: Global, inst: &Inst) -> Result<Option<GivenType<'_>>, NoMemory>
+    ensures { (f : Naming) → IfOk result (λ o. option_map type_given o ≡ spec.result_type (inst_text f inst.now)) }
 {
     match inst {
-        Inst::Const(value) => constant_type(&value.value()?),
+        Inst::Const(value) => Ok(given(constant_type(&value.value()?)?)),
         Inst::Pure { op, args } => class_type(alloc, op.class(), args.as_slice()),
-        Inst::Var(of) => pointer_type(alloc, of),
-        Inst::Ld(from) => pointed_type(from),
-        Inst::Sig(of) => signal_type(alloc, of),
-        Inst::Prb(of) => carried_type(of),
-        Inst::Call { result, .. } => own_type(result),
-        Inst::Phi { ty, edges: _ } => own_type(ty),
+        Inst::Var(of) => Ok(given(pointer_type(alloc, of)?)),
+        Inst::Ld(from) => Ok(held(pointed_type(from))),
+        Inst::Sig(of) => Ok(given(signal_type(alloc, of)?)),
+        Inst::Prb(of) => Ok(held(carried_type(of))),
+        Inst::Call { result: ty, .. } => Ok(Some(GivenType::Held(ty))),
+        Inst::Phi { ty, edges: _ } => Ok(Some(GivenType::Held(ty))),
         _ => Ok(None),
     }
 }

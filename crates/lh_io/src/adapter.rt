@@ -1,6 +1,6 @@
-//! Sources and sinks over the readers and writers of std. To whoever is generic in sources and sinks they tell nothing of their bytes,
-//! and count bytes taken and faults. Of a reader or a writer whose bytes are known, what goes through is told all the same: nothing is
-//! lost, repeated or made up, and a failure is no end.
+//! Sources and sinks over the readers and writers of std. To whoever is generic in sources and sinks they tell nothing of their bytes:
+//! a source counts those that it took, and both count faults. Of a reader or a writer whose bytes are known, what goes through is told
+//! all the same: nothing is lost, repeated or made up, and a failure is no end.
 ghost use Rattle.std.specs.Prelude.{◌≡◌, ◌≤◌, ◌<◌, None, IfOk, OnErr, length};
 ghost use Rattle.std.specs.Io.KnownBytes.{ReadConsumes, WriteAppends};
 ghost use Rattle.lh_types.specs.Raised.{raised};

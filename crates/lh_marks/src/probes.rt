@@ -61,7 +61,7 @@ fn by_turns(
 fn marks_of(alloc: Global, turns: &[u32]) -> Result<Vec<bool>, NoMemory>
     ensures { IfOk result (λ marks. marks.items ≡ with_turns turns.now) }
 {
-    let mut marks = Vec::new(alloc);
+    let mut marks = Vec::with_capacity(alloc, turns.len())?;
     for turn in turns {
         marks.push(*turn != 0)?;
     }

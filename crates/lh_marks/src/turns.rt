@@ -65,7 +65,7 @@ fn users_of(alloc: Global, m: &Module, unit: UnitId, insts: u32) -> Result<Users
 {
     let mut users = Users {
         last: vec![in alloc; 0u32; m.values(unit) as usize]?,
-        users: Vec::new(alloc),
+        users: Vec::with_capacity(alloc, insts as usize)?,
         count: 0,
     };
     for i in 0..insts {

@@ -65,13 +65,21 @@ impl Line {
         self.all[self.gone + k]
     }
 
-    /// Puts a bucket at place `k`; the later ones move up. It takes no memory.
+    /// Puts a bucket at place `k`; the later ones move up, or the earlier ones down into the place of one that is gone, whichever
+    /// are fewer. It takes no memory.
     pub fn insert(&mut self, k: usize, bucket: Bucket)
         requires within { k ≤ length self.old.items }
         requires room { 0 < self.old.spare }
         ensures items { self.new.items ≡ insert self.old.items k bucket }
-        ensures spare { self.old.spare ≡ self.new.spare + 1 }
+        ensures spare { self.old.spare ≤ self.new.spare + 1 }
     {
+        if self.gone > 0 && k < self.all.len() - self.gone - k {
+            let free = self.gone - 1;
+            self.all.copy_within(self.gone..self.gone + k, free);
+            self.all[free + k] = bucket;
+            self.gone = free;
+            return;
+        }
         match self.all.insert(self.gone + k, bucket) {
             Ok(()) => {}
             Err(_) => unreachable!(),

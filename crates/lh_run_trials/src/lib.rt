@@ -1,4 +1,4 @@
-//! Trials of the top call: runs in memory, each status, and each call of the source and of the sinks failing in turn.
+//! Trials of the top call: runs in memory in which calls of the source and of the sinks fail.
 #![tactic(auto)]
 
 pub mod running;

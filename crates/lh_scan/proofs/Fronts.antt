@@ -8,7 +8,7 @@ use Rattle.lh_unit.specs.declared.token.Token.{Token}
 use Rattle.lh_unit.proofs.Lexing.{lexemes-tokens}
 use Rattle.lh_lex.specs.Front.{those, begins_word, lexemes_in, HasTokens, IsSettled}
 use Rattle.std.proofs.lemmas.Grind.{common_steps}
-use Rattle.lh_scan.specs.Pieces.{punct_at, word_at, any_word_at, local_at}
+use Rattle.lh_scan.specs.Pieces.{punct_at, word_at, any_word_at, local_at, arrow_at, minus_at}
 use lib.Pointwise.{pointwise}
 
 no_place : (text : List ℕ) (r : Result (List Token) ℕ) → None ≡ fault_place r → (ts : List Lexeme) × (lexemes_of text r ≡ Some ts)
@@ -33,18 +33,20 @@ not_lexed text None e t = absurd cc
 not_lexed text (Some n) e t = sym (lexemes-tokens text ∙ place text n (tokens text) e)
 
 abbrev token_of : Option (Lexeme × ℕ) → Lexeme
-token_of None = arrow
+token_of None = global []
 token_of (Some p) = p.0
 
--- what the first token tells of its first byte b, of whether that is a name byte, % or a mark, and of the name bytes v behind it
-abbrev Tells : ℕ → (name percent mark : Bool) → List ℕ → Lexeme → Type 0
-Tells b name percent mark v (word w) = (w ≡ b ∷ v) × (name ≡ true)
-Tells b name percent mark v (local w) = percent ≡ true
-Tells b name percent mark v (punct c) = (b ≡ c) × (mark ≡ true)
-Tells b name percent mark v _ = Unit {0}
+-- what the first token tells of its first byte b, of whether that is a name byte, %, - or a mark, and of the name bytes v behind it
+abbrev Tells : ℕ → (name percent dash mark : Bool) → List ℕ → Lexeme → Type 0
+Tells b name percent dash mark v (word w) = (w ≡ b ∷ v) × (name ≡ true)
+Tells b name percent dash mark v (local w) = percent ≡ true
+Tells b name percent dash mark v arrow = dash ≡ true
+Tells b name percent dash mark v minus = dash ≡ true
+Tells b name percent dash mark v (punct c) = (b ≡ c) × (mark ≡ true)
+Tells b name percent dash mark v _ = Unit {0}
 
 by_tests : (name at percent dash more mark few : Bool) (b n : ℕ) (v : List ℕ)
-    → Tells b name percent mark v (token_of (if name then Some (word (b ∷ v), n)
+    → Tells b name percent dash mark v (token_of (if name then Some (word (b ∷ v), n)
     else if at then (if few then Some (global v, n) else None)
     else if percent then (if few then Some (local v, n) else None)
     else if dash then (if more then Some (arrow, 1) else Some (minus, 0))
@@ -54,15 +56,15 @@ by_tests false true percent dash more mark true b n v = tt
 by_tests false true percent dash more mark false b n v = tt
 by_tests false false true dash more mark true b n v = refl
 by_tests false false true dash more mark false b n v = tt
-by_tests false false false true true mark few b n v = tt
-by_tests false false false true false mark few b n v = tt
+by_tests false false false true true mark few b n v = refl
+by_tests false false false true false mark few b n v = refl
 by_tests false false false false more true few b n v = (refl, refl)
 by_tests false false false false more false few b n v = tt
 
-told : (b k : ℕ) (bs : List ℕ) (x : Lexeme) → first_lexeme b bs ≡ Some (x, k) → Tells b (is_name_byte b) (nat_eq b 37) (is_punct b) (take (run_len bs) bs) x
+told : (b k : ℕ) (bs : List ℕ) (x : Lexeme) → first_lexeme b bs ≡ Some (x, k) → Tells b (is_name_byte b) (nat_eq b 37) (nat_eq b 45) (is_punct b) (take (run_len bs) bs) x
 unfolding first_lexeme
 told b k bs x e =
-    subst (Tells b (is_name_byte b) (nat_eq b 37) (is_punct b) (take (run_len bs) bs)) (ap token_of e)
+    subst (Tells b (is_name_byte b) (nat_eq b 37) (nat_eq b 45) (is_punct b) (take (run_len bs) bs)) (ap token_of e)
     (by_tests (is_name_byte b) (nat_eq b 64) (nat_eq b 37) (nat_eq b 45) (begins 62 bs) (is_punct b) (fits_name (run_len bs)) b (run_len bs) (take (run_len bs) bs))
 
 no-mark : (mark b k : ℕ) (bs : List ℕ) (x : Lexeme) (us : List Lexeme) → nat_eq b mark ≡ false → first_lexeme b bs ≡ Some (x, k) → None ≡ punct_at mark (x ∷ us)
@@ -94,6 +96,14 @@ no-any b k bs _ us n e = refl
 no-local : (b k : ℕ) (bs : List ℕ) (x : Lexeme) (us : List Lexeme) → nat_eq b 37 ≡ false → first_lexeme b bs ≡ Some (x, k) → None ≡ local_at (x ∷ us)
 no-local b k bs (local w) us n e = let t : nat_eq b 37 ≡ true = told b k bs (local w) e in absurd cc
 no-local b k bs _ us n e = refl
+
+no-arrow : (b k : ℕ) (bs : List ℕ) (x : Lexeme) (us : List Lexeme) → nat_eq b 45 ≡ false → first_lexeme b bs ≡ Some (x, k) → None ≡ arrow_at (x ∷ us)
+no-arrow b k bs arrow us n e = let t : nat_eq b 45 ≡ true = told b k bs arrow e in absurd cc
+no-arrow b k bs _ us n e = refl
+
+no-minus : (b k : ℕ) (bs : List ℕ) (x : Lexeme) (us : List Lexeme) → nat_eq b 45 ≡ false → first_lexeme b bs ≡ Some (x, k) → None ≡ minus_at (x ∷ us)
+no-minus b k bs minus us n e = let t : nat_eq b 45 ≡ true = told b k bs minus e in absurd cc
+no-minus b k bs _ us n e = refl
 
 fronted : {A : Type 0} (f : List Lexeme → Option A) (x : Lexeme) (q : Option (List Lexeme)) (ts : List Lexeme) → ((us : List Lexeme) → None ≡ f (x ∷ us)) → front x q ≡ Some ts → None ≡ f ts
 fronted f x None ts h e = absurd cc
@@ -133,6 +143,15 @@ other-any (b ∷ bs) s h n = begun any_word_at b bs (lexemes_in (b ∷ bs)) s (�
 pub other-local : (text : List ℕ) → IsSettled text → HasTokens text → begins 37 text ≡ false → None ≡ local_at (lexemes_in text)
 other-local [] s h n = refl
 other-local (b ∷ bs) s h n = begun local_at b bs (lexemes_in (b ∷ bs)) s (λ x k us. no-local b k bs x us n) h
+
+-- where - does not stand in front, neither -> nor - does
+pub other-arrow : (text : List ℕ) → IsSettled text → HasTokens text → begins 45 text ≡ false → None ≡ arrow_at (lexemes_in text)
+other-arrow [] s h n = refl
+other-arrow (b ∷ bs) s h n = begun arrow_at b bs (lexemes_in (b ∷ bs)) s (λ x k us. no-arrow b k bs x us n) h
+
+pub other-minus : (text : List ℕ) → IsSettled text → HasTokens text → begins 45 text ≡ false → None ≡ minus_at (lexemes_in text)
+other-minus [] s h n = refl
+other-minus (b ∷ bs) s h n = begun minus_at b bs (lexemes_in (b ∷ bs)) s (λ x k us. no-minus b k bs x us n) h
 
 behind : (t : Lexeme) (text us : List ℕ) (o : Option (List Lexeme)) → lexemes us ≡ o → lexemes text ≡ front t (lexemes us) → HasTokens text → HasTokens us × (lexemes_in text ≡ t ∷ lexemes_in us)
 behind t text us None q l h = let n : lexemes text ≡ None = l ∙ ap (front t) q in absurd cc

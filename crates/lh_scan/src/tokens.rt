@@ -1,6 +1,6 @@
 //! The tokens of a line from the front: what a line is read by.
 ghost use Rattle.std.specs.Prelude.{◌≡◌, None, false, option_map, IfOk, IfSome};
-ghost use Rattle.lh_unit.specs.Lexemes.{lexemes};
+ghost use Rattle.lh_unit.specs.Lexemes.{lexemes, begins};
 ghost use Rattle.lh_unit.specs.Tokens.{lexeme_of as spelled_by, IsSpelling};
 ghost use Rattle.lh_unit.specs.Reads.{is_assert};
 ghost use Rattle.lh_scan.specs.Pieces.{first_at, word_at, any_word_at, local_at, named_in, name_at, unit_name_at, punct_at, arrow_at, minus_at, end_at};
@@ -111,6 +111,16 @@ fn named<'a>(kind: TokenKind, bytes: &'a [u8]) -> Option<NameText<'a>>
     }
 }
 
+/// Whether `-` stands in front, with which `->` and `-` begin. Other tokens are told from both by this byte.
+fn begins_dashed(text: &[u8]) -> bool
+    ensures { result ≡ begins 45 text.now }
+{
+    match text.first() {
+        Some(byte) => *byte == b'-',
+        None => false,
+    }
+}
+
 /// The tokens of a line that are left, in order.
 ///
 /// They are the bytes from the first of them on: a token is found when it is taken, and none is stored.
@@ -160,6 +170,8 @@ impl<'a> Tokens<'a> {
     }
 
     /// The first token, and those behind it. Most are words and names behind `%`, which are asked for first.
+    // Inline, so that a caller goes on where its kind of token is found, and none is put together to be told again.
+    #[inline(always)]
     pub fn first(&self) -> Option<(Lex<'a>, Tokens<'a>)>
         ensures { option_map (λ r. (lexeme_of r.0, r.1)) result ≡ first_at self.now }
     {
@@ -253,6 +265,9 @@ impl<'a> Tokens<'a> {
     pub fn arrow(&self) -> Option<Tokens<'a>>
         ensures { result ≡ arrow_at self.now }
     {
+        if !begins_dashed(self.rest) {
+            return None;
+        }
         match self.first()? {
             (Lex::Arrow, rest) => Some(rest),
             _ => None,
@@ -263,6 +278,9 @@ impl<'a> Tokens<'a> {
     pub fn minus(&self) -> Option<Tokens<'a>>
         ensures { result ≡ minus_at self.now }
     {
+        if !begins_dashed(self.rest) {
+            return None;
+        }
         match self.first()? {
             (Lex::Minus, rest) => Some(rest),
             _ => None,

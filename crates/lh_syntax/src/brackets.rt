@@ -127,7 +127,7 @@ pub fn bracket<'a>(alloc: Global, tokens: &Tokens<'a>) -> Result<InstSyntax<'a>,
 fn fields(alloc: Global, mut operands: &[Operand]) -> Result<Option<TyList>, NoMemory>
     ensures { IfOk result (λ r. r ≡ fields_of operands.entry.now) }
 {
-    let mut fields = TyList::new(alloc);
+    let mut fields = TyList::with_room(alloc, operands.len())?;
     while let [operand, rest @ ..] = operands {
         let Some(ty) = &operand.ty else {
             return Ok(None);

@@ -318,6 +318,8 @@ fn formed<'a>(alloc: Global, form: Form, tokens: &Tokens<'a>) -> InstAt<'a>
 }
 
 /// An instruction that begins with this word, behind it.
+// Inline, so that the instruction is not copied once more on its way to the line.
+#[inline(always)]
 #[tactic(auto, unfolding(crate::specs::Insts::worded_at))]
 pub fn worded<'a>(alloc: Global, word: &[u8], tokens: &Tokens<'a>) -> InstAt<'a>
     ensures { FindsAs inst_of result (worded_at word.now tokens.now) }

@@ -65,7 +65,7 @@ fn one<'a>(alloc: Global, tokens: &Tokens<'a>) -> OperandsAt<'a>
     ensures { ReadsAsFound result (one_at tokens.now) }
 {
     let (a, rest) = typed(alloc, tokens)?;
-    let mut operands = ListOf::new(alloc);
+    let mut operands = ListOf::with_room(alloc, 1)?;
     operands.push(a)?;
     Ok((operands, rest))
 }
@@ -85,7 +85,7 @@ fn two<'a>(alloc: Global, tokens: &Tokens<'a>) -> OperandsAt<'a>
 {
     let (a, rest) = typed(alloc, tokens)?;
     let (b, rest) = next_bare(&rest).ok_or(NotSpelled)?;
-    let mut operands = ListOf::new(alloc);
+    let mut operands = ListOf::with_room(alloc, 2)?;
     operands.push(a)?;
     operands.push(b)?;
     Ok((operands, rest))
@@ -107,7 +107,7 @@ fn shift<'a>(alloc: Global, tokens: &Tokens<'a>) -> OperandsAt<'a>
     let (base, rest) = typed(alloc, tokens)?;
     let (hidden, rest) = next_free(alloc, &rest)?;
     let (amount, rest) = next_free(alloc, &rest)?;
-    let mut operands = ListOf::new(alloc);
+    let mut operands = ListOf::with_room(alloc, 3)?;
     operands.push(base)?;
     operands.push(hidden)?;
     operands.push(amount)?;

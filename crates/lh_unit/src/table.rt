@@ -206,30 +206,35 @@ impl UnitTable {
         self.lines.shrink_to_fit();
     }
 
+    /// What kind of unit it is; none where it is Missing.
     pub fn kind(&self) -> Option<UnitKind>
         ensures { result ≡ self.now.kind }
     {
         self.kind
     }
 
+    /// The arguments in order, inputs before outputs.
     pub fn args(&self) -> &[Arg]
         ensures { result.now ≡ self.now.args }
     {
         self.args.as_slice()
     }
 
+    /// The result type of a function; none for other units.
     pub fn result(&self) -> Option<&Ty>
         ensures { option_copied result ≡ self.now.result }
     {
         self.result.as_ref()
     }
 
+    /// The blocks in file order.
     pub fn blocks(&self) -> &[BlockId]
         ensures { result.now ≡ self.now.blocks }
     {
         self.blocks.as_slice()
     }
 
+    /// The instructions of a block in file order; none where no block of this label stands.
     pub fn insts(&self, block: BlockId) -> &[InstId]
         requires { block.0 < length self.now.bodies }
         ensures { result.now ≡ insts_at self.now block.0 }
@@ -240,6 +245,7 @@ impl UnitTable {
         }
     }
 
+    /// An instruction and its result.
     pub fn line(&self, inst: InstId) -> &Line
         requires { inst.0 < length self.now.lines }
         ensures { result.now ≡ line_at self.now inst.0 }
@@ -247,12 +253,14 @@ impl UnitTable {
         &self.lines[inst.0 as usize]
     }
 
+    /// How many instructions there are.
     pub fn lines(&self) -> usize
         ensures { result ≡ length self.now.lines }
     {
         self.lines.len()
     }
 
+    /// What defines a value.
     pub fn value_def(&self, value: ValueId) -> ValueDef
         requires { value.0 < length self.now.values }
         ensures { IsDefinition self.now value.0 result }
@@ -260,18 +268,21 @@ impl UnitTable {
         self.defs[value.0 as usize]
     }
 
+    /// How many values have a name.
     pub fn values(&self) -> usize
         ensures { result ≡ length self.now.values }
     {
         self.values.len()
     }
 
+    /// How many labels have a name.
     pub fn labels(&self) -> usize
         ensures { result ≡ length self.now.labels }
     {
         self.labels.len()
     }
 
+    /// The name of a value, without its sigil.
     pub fn value_name(&self, value: ValueId) -> &Name
         requires { value.0 < length self.now.values }
         ensures { result.now ≡ slice_index_or self.now.values value.0 [] }
@@ -279,6 +290,7 @@ impl UnitTable {
         self.values.name(value.0 as usize)
     }
 
+    /// The name of a label.
     pub fn block_name(&self, block: BlockId) -> &Name
         requires { block.0 < length self.now.labels }
         ensures { result.now ≡ slice_index_or self.now.labels block.0 [] }

@@ -18,28 +18,19 @@ use lh_unit::inst::{Inst, Typed, UnitKind};
 pub fn in_function(kind: UnitKind) -> bool
     ensures { result ≡ spec.in_function kind }
 {
-    match kind {
-        UnitKind::Func => true,
-        UnitKind::Proc | UnitKind::Entity => false,
-    }
+    matches!(kind, UnitKind::Func)
 }
 
 fn in_process(kind: UnitKind) -> bool
     ensures { result ≡ spec.in_process kind }
 {
-    match kind {
-        UnitKind::Proc => true,
-        UnitKind::Func | UnitKind::Entity => false,
-    }
+    matches!(kind, UnitKind::Proc)
 }
 
 fn in_entity(kind: UnitKind) -> bool
     ensures { result ≡ spec.in_entity kind }
 {
-    match kind {
-        UnitKind::Entity => true,
-        UnitKind::Func | UnitKind::Proc => false,
-    }
+    matches!(kind, UnitKind::Entity)
 }
 
 /// Whether it is an `extf` or `exts` of a signal, as the type that is written says.

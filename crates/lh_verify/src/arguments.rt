@@ -73,10 +73,7 @@ fn has_param(scope: &Scope<'_>, value: ValueId, param: &Arg, number: u32) -> boo
 fn fits_nothing(scope: &Scope<'_>, args: &[Typed]) -> bool
     ensures { result ≡ arguments_fit (text_in scope.now) (map (operand_text (naming_in scope.now)) args.now) [] }
 {
-    match args.split_first() {
-        None => true,
-        Some(_) => false,
-    }
+    args.is_empty()
 }
 
 /// Whether arguments fit the one parameter of `@llhd.assert`.
@@ -87,12 +84,7 @@ fn fits_assert(scope: &Scope<'_>, args: &[Typed]) -> bool
 {
     match args.split_first() {
         None => false,
-        Some((arg, more)) => {
-            if !has_bit(scope, arg.value) {
-                return false;
-            }
-            fits_nothing(scope, more)
-        }
+        Some((arg, more)) => has_bit(scope, arg.value) && fits_nothing(scope, more),
     }
 }
 
@@ -177,11 +169,7 @@ pub fn result_fits(scope: &Scope<'_>, inst: &Inst) -> bool
     ensures { result ≡ spec.result_fits (items_in scope.now) (inst_text (naming_in scope.now) inst.now) }
 {
     match inst {
-        Inst::Call {
-            unit,
-            result,
-            args: _,
-        } => call_result_fits(scope, *unit, result),
+        Inst::Call { unit, result, .. } => call_result_fits(scope, *unit, result),
         _ => true,
     }
 }

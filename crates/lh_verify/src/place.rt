@@ -43,16 +43,8 @@ fn names_wrong_unit(scope: &Scope<'_>, inst: &Inst) -> bool
     ensures { result ≡ spec.names_wrong_unit (items_in scope.now) (inst_text (naming_in scope.now) inst.now) }
 {
     match inst {
-        Inst::Child {
-            unit,
-            inputs: _,
-            outputs: _,
-        } => names_function(scope, *unit),
-        Inst::Call {
-            unit,
-            result: _,
-            args: _,
-        } => !names_function(scope, *unit),
+        Inst::Child { unit, .. } => names_function(scope, *unit),
+        Inst::Call { unit, .. } => !names_function(scope, *unit),
         _ => false,
     }
 }

@@ -51,10 +51,7 @@ fn some_target_is_missing(scope: &Scope<'_>, to: Successors) -> bool
         Successors::Nowhere => false,
         Successors::To(to) => label_is_missing(scope, to),
         Successors::Either(zero, one) => {
-            if label_is_missing(scope, zero) {
-                return true;
-            }
-            label_is_missing(scope, one)
+            label_is_missing(scope, zero) || label_is_missing(scope, one)
         }
     }
 }
@@ -78,16 +75,8 @@ fn names_missing_unit(scope: &Scope<'_>, inst: &Inst) -> bool
     ensures { result ≡ unit_is_missing_in (items_in scope.now) (inst_text (naming_in scope.now) inst.now) }
 {
     match inst {
-        Inst::Child {
-            unit,
-            inputs: _,
-            outputs: _,
-        } => is_missing(scope, *unit),
-        Inst::Call {
-            unit,
-            result: _,
-            args: _,
-        } => is_missing(scope, *unit),
+        Inst::Child { unit, .. } => is_missing(scope, *unit),
+        Inst::Call { unit, .. } => is_missing(scope, *unit),
         _ => false,
     }
 }

@@ -1,5 +1,5 @@
 //! The first faulty instruction of a unit.
-ghost use Rattle.std.specs.Prelude.{◌≡◌, ◌<◌, map, IsSome, IfOk, OnOk};
+ghost use Rattle.std.specs.Prelude.{◌≡◌, ◌<◌, map, None, IsSome, IfOk, OnOk};
 ghost use Rattle.std.specs.List.{list_any};
 ghost use Rattle.lh_unit.specs.Arena.{IsArena, unit_count, kind_at, inst_count, table_at, contents, unit_text_at};
 ghost use Rattle.lh_unit.specs.Within.{Each};
@@ -82,26 +82,50 @@ fn first_in(
     requires wrong { wrong_phis.now ≡ map (wrong_phi_at (table_at scope.now.module.now scope.now.unit.0)) places.now }
     ensures { IfOk result (λ found. FindsFault (items_in scope.now) (text_in scope.now) found) }
 {
-    let lacks = first_lacking(alloc, scope, places, wrong_phis)?;
-    first_at(alloc, scope, places, wrong_phis, lacks)
+    let found = first_at(alloc, scope, places, wrong_phis, None)?;
+    let hidden = are_hidden(alloc, scope, places, wrong_phis, found)?;
+    match first_lacking(alloc, scope, places, hidden)? {
+        None => Ok(found),
+        Some(inst) => first_at(alloc, scope, places, wrong_phis, Some(inst)),
+    }
 }
 
-/// The first instruction with fault 7, where it is asked for.
-fn first_lacking(
+/// Whether paths are not asked for, where it is known which is the first instruction with another fault than 7: where none has one,
+/// no instruction needs to be looked at again.
+fn are_hidden(
     alloc: Global,
     scope: &Scope<'_>,
     places: &[Spot],
     wrong_phis: &[bool],
+    found: Option<InstFault>,
+) -> Result<bool, NoMemory>
+    requires scope { IsScope scope.now }
+    requires within { Each (SpotWithin (inst_count scope.now.module.now scope.now.unit.0)) places.now }
+    requires wrong { wrong_phis.now ≡ map (wrong_phi_at (table_at scope.now.module.now scope.now.unit.0)) places.now }
+    requires found { found ≡ spec.first_at scope.now None places.now }
+    ensures { IfOk result (λ b. b ≡ list_any (spot_hides_paths scope.now) places.now) }
+{
+    match found {
+        None => Ok(false),
+        Some(_) => any_hides_paths(alloc, scope, places, wrong_phis),
+    }
+}
+
+/// The first instruction with fault 7, where it is asked for: `hidden` where some fault hides the paths.
+fn first_lacking(
+    alloc: Global,
+    scope: &Scope<'_>,
+    places: &[Spot],
+    hidden: bool,
 ) -> Result<Option<InstId>, NoMemory>
     requires sound { IsArena scope.now.module.now }
     requires scope { IsScope scope.now }
     requires begun { IsSome (kind_at scope.now.module.now scope.now.unit.0) }
     requires places { places.now ≡ spots_of (table_at scope.now.module.now scope.now.unit.0) }
-    requires within { Each (SpotWithin (inst_count scope.now.module.now scope.now.unit.0)) places.now }
-    requires wrong { wrong_phis.now ≡ map (wrong_phi_at (table_at scope.now.module.now scope.now.unit.0)) places.now }
+    requires hidden { hidden ≡ list_any (spot_hides_paths scope.now) places.now }
     ensures { IfOk result (λ lacks. LacksFirst (items_in scope.now) (text_in scope.now) lacks) }
 {
-    if any_hides_paths(alloc, scope, places, wrong_phis)? {
+    if hidden {
         return Ok(None);
     }
     match defined(alloc, scope.module, scope.unit) {

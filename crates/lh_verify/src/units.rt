@@ -48,8 +48,5 @@ pub fn names_function(scope: &Scope<'_>, unit: UnitId) -> bool
 fn is_function(kind: Option<UnitKind>) -> bool
     ensures { result ≡ is_function_kind kind }
 {
-    match kind {
-        Some(UnitKind::Func) => true,
-        Some(UnitKind::Proc) | Some(UnitKind::Entity) | None => false,
-    }
+    matches!(kind, Some(UnitKind::Func))
 }

@@ -167,12 +167,10 @@ fn fault_of(unit: UnitId, found: Option<InstFault>) -> Option<Fault>
     requires { IsFew found }
     ensures { result ≡ named_fault unit found }
 {
-    match found {
-        Some(found) => Some(Fault {
-            unit,
-            inst: found.inst.0 + 1,
-            number: found.number,
-        }),
-        None => None,
-    }
+    let found = found?;
+    Some(Fault {
+        unit,
+        inst: found.inst.0 + 1,
+        number: found.number,
+    })
 }

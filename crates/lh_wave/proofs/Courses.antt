@@ -1,14 +1,14 @@
 -- A run from one of its points to a later one, and where it broke off.
-use Rattle.std.proofs.Common.{◌≡◌, ℕ, ◌+◌, Bool, true, false, ◌||◌, List, [], ◌∷◌, ◌++◌, length, take, refl, ap, sym, ◌∙◌, append_assoc, subst, Option, Some, None, arith}
+use Rattle.std.proofs.Common.{◌≡◌, ℕ, ◌+◌, ◌≤◌, Bool, true, false, ◌||◌, List, [], ◌∷◌, ◌++◌, length, take, drop, refl, ap, sym, ◌∙◌, append_assoc, subst, Option, Some, None, arith}
 use Rattle.std.specs.List.{list_any}
-use Rattle.std.proofs.lemmas.List.{append-nil, length-append}
-use Rattle.std.proofs.Math.Seq.{take-append-add}
+use Rattle.std.proofs.lemmas.List.{append-nil, length-append, take-append-drop, take-append-le}
+use Rattle.std.proofs.Math.Seq.{take-append-add, take-append_seam}
 use Rattle.std.proofs.lemmas.List.Folds.{list_any-append}
 use Rattle.lh_types.specs.declared.frame.Outcome.{Outcome}
 use Rattle.lh_types.specs.declared.frame.Frame as frames
 use Rattle.lh_types.specs.Values.{Datum}
 use Rattle.lh_types.specs.Pictures.{Picture, picture}
-use Rattle.lh_io.specs.Streams.{Appends}
+use Rattle.lh_io.specs.Streams.{Appends, AppendsProperPrefix}
 use Rattle.lh_unit.specs.Trace.{Frame}
 use Rattle.lh_unit.specs.Frames.{pictures, picture_by}
 use Rattle.lh_watch.specs.Members.{Member}
@@ -44,6 +44,27 @@ behind_piece OutOfMemory a b c p t h k = record {
   count = length p + k.count;
   told = subst (Appends a c) (sym (take-append-add p t k.count)) (told_both a b c p (take k.count t) h k.told);
 }
+
+-- a piece in front was not written whole
+pub in_front_of : (a b : Option (List ℕ)) (p t : List ℕ) → AppendsProperPrefix a b p → AppendsProperPrefix a b (p ++ t)
+in_front_of a b p t h =
+    let few : h.count ≤ length p = omega (arith, h.is_proper) in
+    record {
+      count = h.count;
+      is_proper = omega (arith, length-append p t, h.is_proper);
+      told = subst (Appends a b) (sym (take-append-le h.count p t few)) h.told;
+    }
+
+some_of : (a b : Option (List ℕ)) (p t : List ℕ) → AppendsPrefix a b p → AppendsPrefix a b (p ++ t)
+some_of a b p t h =
+    let front : List ℕ = take h.count p in
+    let rest : List ℕ = drop h.count p in
+    let parts : front ++ (rest ++ t) ≡ p ++ t = sym (append_assoc front rest t) ∙ ap (λ l. l ++ t) (take-append-drop h.count p) in
+    record { count = length front; told = subst (Appends a b) (sym (ap (take (length front)) (sym parts) ∙ take-append_seam front (rest ++ t))) h.told }
+
+pub broken_in_front : (e : WaveFault) (a b : Option (List ℕ)) (p t : List ℕ) → BreaksOff e a b p → BreaksOff e a b (p ++ t)
+broken_in_front WriteFault a b p t h = in_front_of a b p t h
+broken_in_front OutOfMemory a b p t h = some_of a b p t h
 
 -- nothing of a text was written, or all of a piece in front
 pub none_of : (e : WaveFault) (a : Option (List ℕ)) (t : List ℕ) → e ≡ OutOfMemory → BreaksOff e a a t

@@ -12,7 +12,7 @@ use Rattle.lh_design.specs.Texts.{design_text, signal_text}
 use Rattle.lh_wave.specs.HeadText.{signal_line, signal_lines, trace_head, signals_in}
 
 -- the signals from a place on
-abbrev shown_past : Design → ℕ → List ShownSignal
+abbrev pub shown_past : Design → ℕ → List ShownSignal
 shown_past d k = map shown_signal (map signal_text (drop k d.signals.items))
 
 -- what is written, and the lines of the signals from this one on, are all

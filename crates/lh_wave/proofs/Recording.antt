@@ -5,19 +5,16 @@ use Rattle.std.proofs.lemmas.Bool.Decides.{nat_tests}
 use Rattle.std.proofs.lemmas.List.{append-nil, drop_all, drop_more, length-map, get_or-map}
 use Rattle.lh_types.specs.Values.{Datum, int_value}
 use Rattle.lh_types.specs.ValueOf.{datum_of}
-use Rattle.std.specs.List.Sorted.{IsNonDecreasing}
 use Rattle.lh_types.specs.SameValue.{same_datum}
 use Rattle.lh_types.specs.SameValueLaws.{same_datum-refl}
 use Rattle.lh_types.specs.Pictures.{showing_of}
 use Rattle.lh_types.specs.declared.val.Val.{Val}
 use Rattle.lh_types.specs.declared.frame.Change.{Change}
 use Rattle.lh_wave.specs.WaveText.{WaveMoment, value_line, all_lines, differing_lines, time_line, any_differs, changes_at, dump_at, changes_text, dump_text, lasts_from}
-use Rattle.lh_wave.specs.Touched.{IsSameAt}
 use Rattle.lh_wave.specs.Recorded.{changed_values}
-use Rattle.lh_wave.proofs.TouchedLemmas.{DoneBut, DoneBut-end, DoneBut-below, CatchingUp, CatchingUp-end}
 
 -- the values from a place on
-values_drop : (vs : List Val) (i : ℕ) (v : Val) → i < length vs → v ≡ get_or vs i v → drop i (map datum_of vs) ≡ datum_of v ∷ drop (i + 1) (map datum_of vs)
+pub values_drop : (vs : List Val) (i : ℕ) (v : Val) → i < length vs → v ≡ get_or vs i v → drop i (map datum_of vs) ≡ datum_of v ∷ drop (i + 1) (map datum_of vs)
 values_drop vs i v h e =
     let l : i < length (map datum_of vs) = omega (arith, length-map vs datum_of) in
     let at : get_or (map datum_of vs) i (datum_of v) ≡ datum_of v = get_or-map datum_of vs i v (datum_of v) h ∙ ap datum_of (sym e) in
@@ -39,56 +36,26 @@ AllWriting-next start to next vs i v w h e g =
 pub AllWriting-end : (start to : List ℕ) (vs : List Val) (i : ℕ) → AllWriting start to vs i → length vs ≤ i → to ≡ start ++ all_lines 0 (map datum_of vs)
 AllWriting-end start to vs i w h = sym (append-nil to) ∙ ap (λ ds. to ++ all_lines i ds) (sym (values_end vs i h)) ∙ w
 
--- the lines of those that differ
-abbrev pub line_if_differs : ℕ → Datum → Datum → List ℕ
-line_if_differs k w v = cond (same_datum w v) [] (value_line k v)
-
-abbrev pub DifferingWriting : (start to : List ℕ) → (ws vs : List Val) → ℕ → Type 0
-DifferingWriting start to ws vs i = to ++ differing_lines i (drop i (map datum_of ws)) (drop i (map datum_of vs)) ≡ start ++ differing_lines 0 (map datum_of ws) (map datum_of vs)
-
-pub DifferingWriting-next : (start to next : List ℕ) (ws vs : List Val) (i : ℕ) (w v : Val) → DifferingWriting start to ws vs i → i < length ws → w ≡ get_or ws i w → i < length vs → v ≡ get_or vs i v
-    → next ≡ to ++ line_if_differs i (datum_of w) (datum_of v) → DifferingWriting start next ws vs (i + 1)
-DifferingWriting-next start to next ws vs i w v p hw ew hv ev g =
-    let more = differing_lines (i + 1) (drop (i + 1) (map datum_of ws)) (drop (i + 1) (map datum_of vs)) in
-    ap (λ l. l ++ more) g ∙ append_assoc to (line_if_differs i (datum_of w) (datum_of v)) more
-    ∙ ap (λ ds. to ++ differing_lines i ds (datum_of v ∷ drop (i + 1) (map datum_of vs))) (sym (values_drop ws i w hw ew))
-    ∙ ap (λ ds. to ++ differing_lines i (drop i (map datum_of ws)) ds) (sym (values_drop vs i v hv ev)) ∙ p
-
-pub DifferingWriting-end : (start to : List ℕ) (ws vs : List Val) (i : ℕ) → DifferingWriting start to ws vs i → length ws ≡ length vs → length vs ≤ i
-    → to ≡ start ++ differing_lines 0 (map datum_of ws) (map datum_of vs)
-DifferingWriting-end start to ws vs i p level h =
-    let few : length ws ≤ i = omega arith in
-    sym (append-nil to) ∙ ap (λ ds. to ++ differing_lines i ds []) (sym (values_end ws i few)) ∙ ap (λ ds. to ++ differing_lines i (drop i (map datum_of ws)) ds) (sym (values_end vs i h)) ∙ p
-
 or_true : (b : Bool) → true ≡ (b || true)
 or_true true = refl
 or_true false = refl
 
-differs_at : (old now : List Datum) (k : ℕ) (w v : Datum) → k < length old → k < length now → get_or old k w ≡ w → get_or now k v ≡ v → same_datum w v ≡ false → true ≡ any_differs old now
+pub differs_at : (old now : List Datum) (k : ℕ) (w v : Datum) → k < length old → k < length now → get_or old k w ≡ w → get_or now k v ≡ v → same_datum w v ≡ false → true ≡ any_differs old now
 differs_at [] now k w v lw lv ew ev e = absurd (omega arith)
 differs_at (x ∷ old) [] k w v lw lv ew ev e = absurd (omega arith)
 differs_at (x ∷ old) (y ∷ now) zero w v lw lv ew ev e = let d : same_datum x y ≡ false = ap (λ z. same_datum z y) ew ∙ ap (same_datum w) ev ∙ e in ap (λ b. not b || any_differs old now) (sym d)
 differs_at (x ∷ old) (y ∷ now) (suc k) w v lw lv ew ev e = or_true (not (same_datum x y)) ∙ ap (λ b. not (same_datum x y) || b) (differs_at old now k w v (omega arith) (omega arith) ew ev e)
 
--- some value differs
-pub some_differs : (ws vs : List Val) (k : ℕ) (w v : Val) → k < length ws → k < length vs → w ≡ get_or ws k w → v ≡ get_or vs k v → same_datum (datum_of w) (datum_of v) ≡ false
-    → true ≡ any_differs (map datum_of ws) (map datum_of vs)
-some_differs ws vs k w v lw lv ew ev e =
-    let in_old : k < length (map datum_of ws) = omega (arith, length-map ws datum_of) in
-    let in_now : k < length (map datum_of vs) = omega (arith, length-map vs datum_of) in
-    differs_at (map datum_of ws) (map datum_of vs) k (datum_of w) (datum_of v) in_old in_now (get_or-map datum_of ws k w (datum_of w) lw ∙ ap datum_of (sym ew))
-    (get_or-map datum_of vs k v (datum_of v) lv ∙ ap datum_of (sym ev)) e
-
-same_differ : (vs : List Datum) → false ≡ any_differs vs vs
+pub same_differ : (vs : List Datum) → false ≡ any_differs vs vs
 same_differ [] = refl
 same_differ (v ∷ vs) = same_differ vs ∙ ap (λ b. not b || any_differs vs vs) (sym (same_datum-refl v))
 
--- none differs, all that were touched being done
-pub none_differs : (ks : List ℕ) (i : ℕ) (ws vs : List Val) → CatchingUp ks i ws vs → length ws ≡ length vs → length ks ≤ i → false ≡ any_differs (map datum_of ws) (map datum_of vs)
-none_differs ks i ws vs h level past = same_differ (map datum_of vs) ∙ ap (λ l. any_differs l (map datum_of vs)) (sym (CatchingUp-end ks i ws vs h level past))
+-- a signal has the same value in two lists
+abbrev pub IsSameAt : (old now : List Datum) → ℕ → Type 0
+IsSameAt old now k = (v : Datum) → get_or old k v ≡ get_or now k v
 
 -- values that are the same in both lists have no lines
-passed_over : (n : ℕ) (old now : List Datum) (low k : ℕ) → low + n ≡ k → k ≤ length old → k ≤ length now → ((j : ℕ) → low ≤ j → j < k → IsSameAt old now j)
+pub passed_over : (n : ℕ) (old now : List Datum) (low k : ℕ) → low + n ≡ k → k ≤ length old → k ≤ length now → ((j : ℕ) → low ≤ j → j < k → IsSameAt old now j)
     → differing_lines k (drop k old) (drop k now) ≡ differing_lines low (drop low old) (drop low now)
 passed_over zero old now low k e lo ln h = let s : k ≡ low = omega arith in ap (λ m. differing_lines m (drop m old) (drop m now)) s
 passed_over (suc n) old now low k e lo ln h =
@@ -101,45 +68,18 @@ passed_over (suc n) old now low k e lo ln h =
     ∙ ap (λ ds. differing_lines low (d ∷ drop (low + 1) old) ds) (sym (drop_more now low (int_value 0 0) in_now))
     ∙ ap (λ ds. differing_lines low ds (drop low now)) (sym (drop_more old low (int_value 0 0) in_old))
 
-DifferingWriting-over : (start to : List ℕ) (ws vs : List Val) (low k : ℕ) → DifferingWriting start to ws vs low → length ws ≡ length vs → low ≤ k → k ≤ length vs
-    → ((j : ℕ) → low ≤ j → j < k → IsSameAt (map datum_of ws) (map datum_of vs) j) → DifferingWriting start to ws vs k
-DifferingWriting-over start to ws vs low k p level l m h =
-    let in_old : k ≤ length (map datum_of ws) = omega (arith, length-map ws datum_of) in
-    let in_now : k ≤ length (map datum_of vs) = omega (arith, length-map vs datum_of) in
-    ap (λ lines. to ++ lines) (passed_over (k - low) (map datum_of ws) (map datum_of vs) low k (omega arith) in_old in_now h) ∙ p
-
--- the line of the next signal that was touched, if it has one, is written
-pub DifferingWriting-touched : (ks : List ℕ) (i low : ℕ) (start to next : List ℕ) (ws vs : List Val) (w v : Val) → DoneBut ks i low (IsSameAt (map datum_of ws) (map datum_of vs)) → IsNonDecreasing ks
-    → length ws ≡ length vs
-    → low ≤ get_or ks i 0 → get_or ks i 0 < length vs → DifferingWriting start to ws vs low → w ≡ get_or ws (get_or ks i 0) w → v ≡ get_or vs (get_or ks i 0) v
-    → next ≡ to ++ line_if_differs (get_or ks i 0) (datum_of w) (datum_of v)
-    → DifferingWriting start next ws vs (get_or ks i 0 + 1)
-DifferingWriting-touched ks i low start to next ws vs w v h up level l m p ew ev g =
-    let k = get_or ks i 0 in
-    DifferingWriting-next start to next ws vs k w v
-    (DifferingWriting-over start to ws vs low k p level l (omega arith) (λ j a b. DoneBut-below ks i low (IsSameAt (map datum_of ws) (map datum_of vs)) h up j a b)) (omega arith) ew m ev g
-
--- no line is left, all that were touched being done
-pub DifferingWriting-rest : (ks : List ℕ) (i low : ℕ) (start to : List ℕ) (ws vs : List Val) → DoneBut ks i low (IsSameAt (map datum_of ws) (map datum_of vs)) → length ws ≡ length vs → length ks ≤ i
-    → low ≤ length vs
-    → DifferingWriting start to ws vs low → to ≡ start ++ differing_lines 0 (map datum_of ws) (map datum_of vs)
-DifferingWriting-rest ks i low start to ws vs h level past m p =
-    DifferingWriting-end start to ws vs (length vs)
-    (DifferingWriting-over start to ws vs low (length vs) p level m (omega arith) (λ j a b. DoneBut-end ks i low (IsSameAt (map datum_of ws) (map datum_of vs)) h past j a)) level (omega arith)
-
 -- the values after some of the changes
-abbrev pub Changing : (start : List Datum) → (now : List Val) → List Change → ℕ → Type 0
-Changing start now cs i = changed_values (map datum_of now) (map showing_of (drop i cs)) ≡ changed_values start (map showing_of cs)
+abbrev pub Changing : (start now : List Datum) → List Change → ℕ → Type 0
+Changing start now cs i = changed_values now (map showing_of (drop i cs)) ≡ changed_values start (map showing_of cs)
 
-pub Changing-next : (start : List Datum) (now next : List Val) (cs : List Change) (i : ℕ) (c : Change) → Changing start now cs i → i < length cs → c ≡ get_or cs i c
-    → map datum_of next ≡ set (map datum_of now) c.signal (datum_of c.value)
+pub Changing-next : (start now next : List Datum) (cs : List Change) (i : ℕ) (c : Change) → Changing start now cs i → i < length cs → c ≡ get_or cs i c → next ≡ set now c.signal (datum_of c.value)
     → Changing start next cs (i + 1)
 Changing-next start now next cs i c p h e g =
     ap (λ l. changed_values l (map showing_of (drop (i + 1) cs))) g
-    ∙ ap (λ l. changed_values (map datum_of now) (map showing_of l)) (sym (drop_more cs i c h ∙ ap (λ x. x ∷ drop (i + 1) cs) (sym e))) ∙ p
+    ∙ ap (λ l. changed_values now (map showing_of l)) (sym (drop_more cs i c h ∙ ap (λ x. x ∷ drop (i + 1) cs) (sym e))) ∙ p
 
-pub Changing-end : (start : List Datum) (now : List Val) (cs : List Change) (i : ℕ) → Changing start now cs i → length cs ≤ i → map datum_of now ≡ changed_values start (map showing_of cs)
-Changing-end start now cs i p h = ap (λ l. changed_values (map datum_of now) (map showing_of l)) (sym (drop_all i cs h)) ∙ p
+pub Changing-end : (start now : List Datum) (cs : List Change) (i : ℕ) → Changing start now cs i → length cs ≤ i → now ≡ changed_values start (map showing_of cs)
+Changing-end start now cs i p h = ap (λ l. changed_values now (map showing_of l)) (sym (drop_all i cs h)) ∙ p
 
 -- what is left to be written, by whether the first time is written
 abbrev pub left_by : (dumped : Bool) → (written : List Datum) → WaveMoment → List WaveMoment → List ℕ
@@ -193,38 +133,25 @@ pub left_first : {T E : Type 0} (r : Result T E) (dumped : Bool) (written : List
 left_first (Ok x) dumped written m to next d g = g ∙ ap (λ l. to ++ l) (sym (append-nil (dump_at m))) ∙ ap (λ b. to ++ left_by b written m []) (sym d)
 left_first (Err x) dumped written m to next d g = tt
 
-changes_left : (dumped : Bool) (written : List Datum) (m : WaveMoment) (b : Bool) → dumped ≡ true → any_differs written m.values ≡ b
-    → left_by dumped written m [] ≡ cond b (time_line m.fs ++ differing_lines 0 written m.values) []
-changes_left dumped written m b d e = ap (λ t. left_by t written m []) d ∙ append-nil (changes_at written m) ∙ ap (λ t. cond t (time_line m.fs ++ differing_lines 0 written m.values) []) e
+-- no value differs, so there is no line
+none_differ : (k : ℕ) (old now : List Datum) → any_differs old now ≡ false → differing_lines k old now ≡ []
+none_differ k [] now e = refl
+none_differ k (x ∷ old) [] e = refl
+none_differ k (x ∷ old) (y ∷ now) e = by (same_datum x y) refl (none_differ (k + 1) old now)
+  where
+    by : (b : Bool) → same_datum x y ≡ b → (any_differs old now ≡ false → differing_lines (k + 1) old now ≡ []) → differing_lines k (x ∷ old) (y ∷ now) ≡ []
+    by true s h = ap (λ b. cond b [] (value_line k y) ++ differing_lines (k + 1) old now) s ∙ h (ap (λ b. not b || any_differs old now) (sym s) ∙ e)
+    by false s h = absurd (let no : true ≡ false = ap (λ b. not b || any_differs old now) (sym s) ∙ e in cc)
 
-pub left_none : (dumped : Bool) (written : List Datum) (m : WaveMoment) (to : List ℕ) → dumped ≡ true → any_differs written m.values ≡ false → to ≡ to ++ left_by dumped written m []
-left_none dumped written m to d e = sym (append-nil to) ∙ ap (λ l. to ++ l) (sym (changes_left dumped written m false d e))
+changed_lines : (b : Bool) (written : List Datum) (m : WaveMoment) → b ≡ any_differs written m.values → cond b (time_line m.fs) [] ++ differing_lines 0 written m.values ≡ changes_at written m
+changed_lines true written m e = ap (λ t. cond t (time_line m.fs ++ differing_lines 0 written m.values) []) e
+changed_lines false written m e =
+    none_differ 0 written m.values (sym e) ∙ ap (λ t. cond t (time_line m.fs ++ differing_lines 0 written m.values) []) e
 
-pub left_some : {T E : Type 0} (r : Result T E) (dumped : Bool) (written : List Datum) (m : WaveMoment) (to timed next : List ℕ) → dumped ≡ true → any_differs written m.values ≡ true
-    → timed ≡ to ++ time_line m.fs
-    → OnOk r (next ≡ timed ++ differing_lines 0 written m.values) → OnOk r (next ≡ to ++ left_by dumped written m [])
-left_some (Ok x) dumped written m to timed next d e t g =
-    g ∙ ap (λ l. l ++ differing_lines 0 written m.values) t ∙ append_assoc to (time_line m.fs) (differing_lines 0 written m.values) ∙ ap (λ l. to ++ l) (sym (changes_left dumped written m true d e))
-left_some (Err x) dumped written m to timed next d e t g = tt
-
-pub first_text : {T E : Type 0} (r : Result T E) (dumped : Bool) (written : List Datum) (fs : ℕ) (shown present : List Val) (to next : List ℕ) → dumped ≡ false → shown ≡ present
-    → OnOk r (next ≡ to ++ dump_at (record { fs = fs; values = map datum_of shown })) → OnOk r (next ≡ to ++ left_by dumped written (record { fs = fs; values = map datum_of present }) [])
-first_text (Ok x) dumped written fs shown present to next d s g =
-    left_first {T = Bool} {E = Bool} (Ok true) dumped written (record { fs = fs; values = map datum_of present }) to next d
-    (g ∙ ap (λ vs. to ++ dump_at (record { fs = fs; values = map datum_of vs })) s)
-first_text (Err x) dumped written fs shown present to next d s g = tt
-
-pub none_text : (dumped : Bool) (fs : ℕ) (ws written vs present : List Val) (to : List ℕ) → dumped ≡ true → ws ≡ written → vs ≡ present → any_differs (map datum_of ws) (map datum_of vs) ≡ false
-    → to ≡ to ++ left_by dumped (map datum_of written) (record { fs = fs; values = map datum_of present }) []
-none_text dumped fs ws written vs present to d w v e =
-    left_none dumped (map datum_of written) (record { fs = fs; values = map datum_of present }) to d
-    (ap (λ l. any_differs (map datum_of l) (map datum_of present)) (sym w) ∙ ap (λ l. any_differs (map datum_of ws) (map datum_of l)) (sym v) ∙ e)
-
-pub some_text : {T E : Type 0} (r : Result T E) (dumped : Bool) (fs : ℕ) (ws written vs present : List Val) (to timed next : List ℕ) → dumped ≡ true → ws ≡ written → vs ≡ present
-    → any_differs (map datum_of ws) (map datum_of vs) ≡ true → timed ≡ to ++ time_line fs → OnOk r (next ≡ timed ++ differing_lines 0 (map datum_of ws) (map datum_of vs))
-    → OnOk r (next ≡ to ++ left_by dumped (map datum_of written) (record { fs = fs; values = map datum_of present }) [])
-some_text (Ok x) dumped fs ws written vs present to timed next d w v e t g =
-    left_some {T = Bool} {E = Bool} (Ok true) dumped (map datum_of written) (record { fs = fs; values = map datum_of present }) to timed next d
-    (ap (λ l. any_differs (map datum_of l) (map datum_of present)) (sym w) ∙ ap (λ l. any_differs (map datum_of ws) (map datum_of l)) (sym v) ∙ e) t
-    (g ∙ ap (λ l. timed ++ differing_lines 0 (map datum_of l) (map datum_of vs)) w ∙ ap (λ l. timed ++ differing_lines 0 (map datum_of written) (map datum_of l)) v)
-some_text (Err x) dumped fs ws written vs present to timed next d w v e t g = tt
+-- a later time is written, with its lines
+pub left_changed : {T E : Type 0} (r : Result T E) (dumped b : Bool) (written : List Datum) (m : WaveMoment) (to timed next : List ℕ) → dumped ≡ true → b ≡ any_differs written m.values
+    → timed ≡ to ++ cond b (time_line m.fs) [] → OnOk r (next ≡ timed ++ differing_lines 0 written m.values) → OnOk r (next ≡ to ++ left_by dumped written m [])
+left_changed (Ok x) dumped b written m to timed next d e t g =
+    g ∙ ap (λ l. l ++ differing_lines 0 written m.values) t ∙ append_assoc to (cond b (time_line m.fs) []) (differing_lines 0 written m.values)
+    ∙ ap (λ l. to ++ l) (changed_lines b written m e ∙ sym (append-nil (changes_at written m)) ∙ ap (λ f. left_by f written m []) (sym d))
+left_changed (Err x) dumped b written m to timed next d e t g = tt

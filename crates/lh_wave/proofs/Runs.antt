@@ -1,10 +1,10 @@
 -- A whole run: turn after turn, and what stands of it at its end.
-use Rattle.std.proofs.Common.{◌≡◌, ℕ, suc, ◌≤◌, Bool, false, ◌||◌, List, [], ◌++◌, length, refl, ap, sym, ◌∙◌, append_assoc, subst, Option, Some, None, arith}
+use Rattle.std.proofs.Common.{◌≡◌, ℕ, suc, Bool, false, ◌||◌, List, [], ◌++◌, refl, ap, sym, ◌∙◌, append_assoc, subst, Option, Some, None}
 use Rattle.std.specs.List.{list_any, flat_map}
-use Rattle.std.proofs.lemmas.List.{append-nil, length-append, take-append-le}
+use Rattle.std.proofs.lemmas.List.{append-nil}
 use Rattle.lh_time.specs.declared.Instant.{Instant}
 use Rattle.lh_types.specs.Values.{Datum}
-use Rattle.lh_io.specs.Streams.{Appends, AppendsProperPrefix}
+use Rattle.lh_io.specs.Streams.{Appends}
 use Rattle.lh_unit.specs.Arena.{Arena, contents}
 use Rattle.lh_unit.specs.World.{World, next_instant, first_world}
 use Rattle.lh_unit.specs.Trace.{Shown, ShownSignal, Frame, at_bound}
@@ -20,12 +20,12 @@ use Rattle.lh_wave.specs.declared.ending.End.{End}
 use Rattle.lh_wave.specs.declared.run.WaveMode.{WaveMode}
 use Rattle.lh_wave.specs.declared.run.WaveMode.TheVariants as mode
 use Rattle.lh_wave.specs.declared.run.WaveFault.{WaveFault}
-use Rattle.lh_wave.specs.declared.run.WaveFault.TheVariants.{WriteFault, OutOfMemory}
+use Rattle.lh_wave.specs.declared.run.WaveFault.TheVariants.{OutOfMemory}
 use Rattle.lh_wave.specs.ShownRun.{ShownRun, shown_behind, shows_none, end_of, shown_from_first, any_failed, all_reports}
 use Rattle.lh_wave.specs.RunText.{head_in, text_in}
 use Rattle.lh_wave.specs.BrokenOff.{HaveSeen, no_more, BreaksOff}
 use Rattle.lh_wave.specs.Going.{Going, Went, BrokeOff, GoesOn, IsOver, Turned, going, shown_on, values_of_last, IsBehind, scribe_in, text_left}
-use Rattle.lh_wave.proofs.Courses.{went_on, stays_put, broke_on, told_both, behind_piece, all_of}
+use Rattle.lh_wave.proofs.Courses.{went_on, stays_put, broke_on, told_both, behind_piece, broken_in_front, all_of}
 
 -- what a turn comes to from every world that the simulation stands for
 abbrev TurnsTo : Option End → Arena → Design → (s s' : Simulation) → (t t' : Teller) → (ms ms' : List Member) → (wr wr' : Option (List ℕ)) → (rp rp' : List ℕ) → Type 0
@@ -138,24 +138,12 @@ whole : (m : WaveMode) (s : Scribe) (waits : List ℕ) (is : List Shown) (ss : L
 whole m s waits is ss r e z =
     ap (λ (l : List ℕ). head_in m is ss ++ (l ++ text_left s None r.frames r.left r.end)) z ∙ ap (λ (x : Scribe). head_in m is ss ++ text_left x None r.frames r.left r.end) e ∙ parts m is ss r
 
--- a piece in front was not written whole
-in_front_of : (a b : Option (List ℕ)) (p t : List ℕ) → AppendsProperPrefix a b p → AppendsProperPrefix a b (p ++ t)
-in_front_of a b p t h =
-    let few : h.count ≤ length p = omega (arith, h.is_proper) in
-    record {
-      count = h.count;
-      is_proper = omega (arith, length-append p t, h.is_proper);
-      told = subst (Appends a b) (sym (take-append-le h.count p t few)) h.told;
-    }
-
-pub head_broken : (m : WaveMode) (is : List Shown) (ss : List ShownSignal) (r : ShownRun) (head : List ℕ) (f : WaveFault) (a b : Option (List ℕ)) → head ≡ head_in m is ss
-    → AppendsProperPrefix a b head → f ≡ WriteFault
+-- the head was not written whole
+pub head_broken : (m : WaveMode) (is : List Shown) (ss : List ShownSignal) (r : ShownRun) (head : List ℕ) (f : WaveFault) (a b : Option (List ℕ)) → head ≡ head_in m is ss → BreaksOff f a b head
     → BreaksOff f a b (text_in m is ss r)
-head_broken m is ss r head f a b e h o =
-    let one : AppendsProperPrefix a b (head_in m is ss) = subst (AppendsProperPrefix a b) e h in
-    let two : AppendsProperPrefix a b (text_in m is ss r) = subst (AppendsProperPrefix a b) (parts m is ss r)
-    (in_front_of a b (head_in m is ss) (text_left (scribe_in m) None r.frames r.left r.end) one) in
-    subst (λ (x : WaveFault). BreaksOff x a b (text_in m is ss r)) (sym o) two
+head_broken m is ss r head f a b e h =
+    let one : BreaksOff f a b (head_in m is ss) = subst (BreaksOff f a b) e h in
+    subst (BreaksOff f a b) (parts m is ss r) (broken_in_front f a b (head_in m is ss) (text_left (scribe_in m) None r.frames r.left r.end) one)
 
 module _ (m : WaveMode) (is : List Shown) (ss : List ShownSignal) (r : ShownRun) (t : Teller) (ms : List Member) (a b : Option (List ℕ)) (rp head : List ℕ) (sc : t.scribe ≡ scribe_in m)
     (te : t.text.items ≡ [])

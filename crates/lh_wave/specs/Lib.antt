@@ -1,7 +1,7 @@
 pub mod ValueText
 pub mod TraceText
 pub mod WaveText
-pub mod Touched
+pub mod Changed
 pub mod Recorded
 pub mod HeadText
 pub mod EndText

@@ -1,10 +1,10 @@
 -- A waveform while its frames come: what of its text is still to be written.
-use Rattle.std.specs.Prelude.{◌≡◌, ℕ, List, [], ◌∷◌, length, map, slice_set, false, if◌then◌else◌}
+use Rattle.std.specs.Prelude.{ℕ, List, [], ◌∷◌, length, map, slice_set, if◌then◌else◌}
 use Rattle.lh_types.specs.Values.{Datum}
 use Rattle.lh_types.specs.ValueOf.{datum_of}
 use Rattle.lh_types.specs.Pictures.{Showing, Picture}
 use Rattle.lh_wave.specs.declared.waveform.Waveform.{Waveform}
-use Rattle.lh_wave.specs.Touched.{is_touched, IsNoted, IsSameAt}
+use Rattle.lh_wave.specs.Changed.{IsNoted, present_values}
 use Rattle.lh_wave.specs.WaveText.{WaveMoment, lasts_from, dump_text, changes_text}
 
 -- values after some of them changed
@@ -14,7 +14,7 @@ changed_values vs (c ∷ cs) = changed_values (slice_set vs c.signal c.value) cs
 
 -- the values of all signals in the last frame
 abbrev pub values_now : Waveform → List Datum
-values_now w = map datum_of w.present.items
+values_now w = present_values w.changed.values.items w.written.items
 
 -- the moment that is not written yet
 abbrev pub moment_now : Waveform → WaveMoment
@@ -33,8 +33,6 @@ abbrev pub left_text : Waveform → List WaveMoment → List ℕ
 left_text w ms =
     if w.dumped then changes_text (map datum_of w.written.items) (lasts_from (moment_now w) ms) else dump_text (lasts_from (moment_now w) ms)
 
--- The values written last are of the same signals, and a signal that was not touched since has its present value there.
-pub record IsKept (w : Waveform) : Type 0 where
-  pub level : length w.written.items ≡ length w.present.items
-  pub noted : IsNoted w.touched (length w.present.items)
-  pub untouched : (k : ℕ) → is_touched w.touched k ≡ false → IsSameAt (map datum_of w.written.items) (values_now w) k
+-- the new values are of the signals that were written
+abbrev pub IsKept : Waveform → Type 0
+IsKept w = IsNoted w.changed (length w.written.items)

@@ -1,45 +1,106 @@
 //! The heads of the texts of a run.
-ghost use Rattle.std.specs.Prelude.{◌≡◌, ◌≤◌, ◌<◌, ◌++◌, ℕ, IfOk, OnOk, length};
+ghost use Rattle.std.specs.Prelude.{◌≡◌, ◌≤◌, ◌<◌, ◌++◌, ℕ, IfOk, IfErr, OnOk, IsErrOf, length};
 ghost use Rattle.std.specs.List.{flat_map};
+ghost use Rattle.lh_io.specs.Streams.{Rose, Appends};
 ghost use Rattle.lh_unit.specs.Within.{Each};
 ghost use Rattle.lh_unit.specs.Paths.{shown_in, path_at};
 ghost use Rattle.lh_design.specs.Texts.{design_text};
 ghost use Rattle.lh_elab.specs.Answer.{IsDesignOf};
+ghost use Rattle.lh_wave.specs.BrokenOff.{BreaksOff};
 ghost use Rattle.lh_wave.specs.HeadText as head;
 ghost use Rattle.lh_wave.specs.HeadText.{signals_in, waveform_head, scope_text};
 ghost use Rattle.lh_wave.specs.Owned.{parents, owners, AreOwned, variable_at};
 
 use crate::lines::{END_OF_HEAD, TIMESCALE, UPSCOPE, put_scope, put_signal, put_variable};
 use crate::owned::{children_by_parent, numbers_at, signals_by_instance};
+use crate::run::WaveFault;
+use crate::waiting::pass_on;
 use lh_design::{Design, Signal};
 use lh_elab::{label_of, path_of};
+use lh_io::stream::Sink;
+use lh_io::whole::write_all;
 use lh_types::text::put;
 use lh_types::ty::NoMemory;
 use lh_unit::module::Module;
 use std::alloc::Global;
 
-/// The head of a trace of a design: a line for each signal, with its number, its type, the path of its instance and its name.
-pub fn trace_head(alloc: Global, d: &Design, m: &Module) -> Result<Vec<u8>, NoMemory>
+/// Writes the head of a trace of a design, in pieces of whole lines: a line for each signal, with its number, its type, the path of
+/// its instance and its name.
+///
+/// After a fault a prefix of the head was written, a proper one after `WriteFault`.
+pub fn write_trace_head<K: Sink>(
+    alloc: Global,
+    d: &Design,
+    m: &Module,
+    out: &mut K,
+) -> Result<(), WaveFault>
     requires { IsDesignOf m.now d.now }
-    ensures { IfOk result (λ text. text.items ≡ head.trace_head (shown_in (design_text m.now d.now)) (signals_in (design_text m.now d.now))) }
+    ensures told { OnOk result (Appends (K.written out.old) (K.written out.new) (head.trace_head (shown_in (design_text m.now d.now)) (signals_in (design_text m.now d.now)))) }
+    ensures err { IfErr result (λ e. BreaksOff e (K.written out.old) (K.written out.new) (head.trace_head (shown_in (design_text m.now d.now)) (signals_in (design_text m.now d.now)))) }
+    ensures rose { IsErrOf result WaveFault.WriteFault → Rose (K.faults out.old) (K.faults out.new) }
+    ensures never_fall { K.faults out.old ≤ K.faults out.new }
 {
-    let mut to = Vec::new(alloc);
+    let mut waits = Vec::new(alloc);
+    let mut path = Path::of(alloc, d, m, 0)?;
     for (k, signal) in d.signals().iter().enumerate() {
-        let path = path_or_none(alloc, d, m, signal.instance)?;
-        put_signal(&mut to, k as u64, &signal.ty, &path, signal.name.as_bytes())?;
+        path.go_to(alloc, d, m, signal.instance)?;
+        put_signal(
+            &mut waits,
+            k as u64,
+            &signal.ty,
+            &path.text,
+            signal.name.as_bytes(),
+        )?;
+        pass_on(&mut waits, out)?;
     }
-    Ok(to)
+    write_all(out, &waits)?;
+    Ok(())
 }
 
-/// The path of an instance; no bytes where there is no such instance.
-fn path_or_none(alloc: Global, d: &Design, m: &Module, instance: u32) -> Result<Vec<u8>, NoMemory>
-    requires { IsDesignOf m.now d.now }
-    ensures { IfOk result (λ path. path.items ≡ path_at (shown_in (design_text m.now d.now)) instance) }
-{
-    if instance as usize >= d.instances().len() {
-        return Ok(Vec::new(alloc));
+/// The path of an instance, kept from one signal to the next: the signals of an instance mostly stand in a row.
+#[derive(Drop)]
+struct Path {
+    instance: u32,
+    // No bytes where there is no such instance.
+    text: Vec<u8>,
+}
+
+impl Path {
+    /// The path of an instance.
+    fn of(alloc: Global, d: &Design, m: &Module, instance: u32) -> Result<Path, NoMemory>
+        requires { IsDesignOf m.now d.now }
+        ensures at { IfOk result (λ path. path.instance ≡ instance) }
+        ensures text { IfOk result (λ path. path.text.items ≡ path_at (shown_in (design_text m.now d.now)) instance) }
+    {
+        if instance as usize >= d.instances().len() {
+            return Ok(Path {
+                instance,
+                text: Vec::new(alloc),
+            });
+        }
+        let text = path_of(alloc, m, d, instance)?;
+        Ok(Path { instance, text })
     }
-    path_of(alloc, m, d, instance)
+
+    /// Makes it the path of this instance.
+    fn go_to(
+        &mut self,
+        alloc: Global,
+        d: &Design,
+        m: &Module,
+        instance: u32,
+    ) -> Result<(), NoMemory>
+        requires design { IsDesignOf m.now d.now }
+        requires text { self.old.text.items ≡ path_at (shown_in (design_text m.now d.now)) self.old.instance }
+        ensures at { OnOk result (self.new.instance ≡ instance) }
+        ensures text { OnOk result (self.new.text.items ≡ path_at (shown_in (design_text m.now d.now)) instance) }
+    {
+        if self.instance == instance {
+            return Ok(());
+        }
+        *self = Path::of(alloc, d, m, instance)?;
+        Ok(())
+    }
 }
 
 /// The head of a waveform of a design: the unit of time, and all instances with their signals from the top down.

@@ -1,6 +1,7 @@
 //! The texts of a run: its trace, and its waveform as a value change dump.
 #![tactic(auto)]
 
+mod changed;
 pub mod code;
 pub mod ending;
 pub mod head;
@@ -9,8 +10,8 @@ mod owned;
 pub mod run;
 mod scribe;
 mod teller;
-mod touched;
 pub mod trace;
 pub mod value;
+mod waiting;
 pub mod waveform;
 pub mod wire;

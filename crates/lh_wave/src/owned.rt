@@ -32,7 +32,7 @@ pub(crate) fn signals_by_instance(alloc: Global, d: &Design) -> Result<Vec<Vec<u
 fn empty_lists(alloc: Global, count: usize) -> Result<Vec<Vec<usize>>, NoMemory>
     ensures { IfOk result (λ lists. AreOwned lists count []) }
 {
-    let mut lists = Vec::new(alloc);
+    let mut lists = Vec::with_capacity(alloc, count)?;
     for _place in 0..count {
         lists.push(Vec::new(alloc))?;
     }

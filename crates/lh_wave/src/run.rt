@@ -17,7 +17,7 @@ ghost use Rattle.lh_wave.specs.BrokenOff.{HaveSeen, BreaksOff};
 ghost use Rattle.lh_wave.specs.declared.run.WaveFault.TheVariants.{WriteFault, OutOfMemory};
 
 use crate::ending::Ending;
-use crate::head::{trace_head, vcd_head};
+use crate::head::{vcd_head, write_trace_head};
 use crate::teller::Teller;
 use lh_design::Design;
 use lh_io::stream::{Failed, Sink};
@@ -101,8 +101,7 @@ pub fn run_wave<K: Sink, W: Watcher>(
     ensures rose { IsErrOf result WaveFault.WriteFault → Rose (K.faults out.old) (K.faults out.new) }
     ensures never_fall { K.faults out.old ≤ K.faults out.new }
 {
-    let head = head_of(alloc, mode, sim.design(), m)?;
-    write_all(out, &head)?;
+    write_head(alloc, mode, sim.design(), m, out)?;
     let mut teller = Teller::new(alloc, mode);
     let end = teller.show_frames(sim, steps, ws, out, reports)?;
     teller.finish(end, ws, out)?;
@@ -113,14 +112,27 @@ pub fn run_wave<K: Sink, W: Watcher>(
     })
 }
 
-/// The head of the text.
-fn head_of(alloc: Global, mode: WaveMode, d: &Design, m: &Module) -> Result<Vec<u8>, NoMemory>
+/// Writes the head of the text. After a fault a prefix of it was written, a proper one after `WriteFault`.
+fn write_head<K: Sink>(
+    alloc: Global,
+    mode: WaveMode,
+    d: &Design,
+    m: &Module,
+    out: &mut K,
+) -> Result<(), WaveFault>
     requires { IsDesignOf m.now d.now }
-    ensures { IfOk result (λ head. head.items ≡ head_in mode (shown_in (design_text m.now d.now)) (signals_in (design_text m.now d.now))) }
+    ensures told { OnOk result (Appends (K.written out.old) (K.written out.new) (head_in mode (shown_in (design_text m.now d.now)) (signals_in (design_text m.now d.now)))) }
+    ensures err { IfErr result (λ e. BreaksOff e (K.written out.old) (K.written out.new) (head_in mode (shown_in (design_text m.now d.now)) (signals_in (design_text m.now d.now)))) }
+    ensures rose { IsErrOf result WaveFault.WriteFault → Rose (K.faults out.old) (K.faults out.new) }
+    ensures never_fall { K.faults out.old ≤ K.faults out.new }
 {
     match mode {
-        WaveMode::Trace => trace_head(alloc, d, m),
-        WaveMode::Vcd => vcd_head(alloc, d, m),
+        WaveMode::Trace => write_trace_head(alloc, d, m, out),
+        WaveMode::Vcd => {
+            let head = vcd_head(alloc, d, m)?;
+            write_all(out, &head)?;
+            Ok(())
+        }
     }
 }
 

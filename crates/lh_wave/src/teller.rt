@@ -1,8 +1,8 @@
 //! The frames of a run, written to a sink and shown to watchers one after the other.
-ghost use Rattle.std.specs.Prelude.{◌≡◌, ◌||◌, ◌≤◌, ◌++◌, [], ◌∷◌, false, ℕ, suc, List, Option, None, IfOk, IfErr, OnOk, OnErr, IsErrOf, map};
+ghost use Rattle.std.specs.Prelude.{◌≡◌, ◌||◌, ◌≤◌, ◌++◌, [], ◌∷◌, false, ℕ, suc, List, Option, None, IfOk, IfErr, OnOk, IsErrOf, map};
 ghost use Rattle.lh_types.specs.Values.{Datum};
 ghost use Rattle.lh_types.specs.Pictures.{picture};
-ghost use Rattle.lh_io.specs.Streams.{Rose, Appends, AppendsProperPrefix};
+ghost use Rattle.lh_io.specs.Streams.{Rose, Appends};
 ghost use Rattle.lh_unit.specs.Trace as trace;
 ghost use Rattle.lh_unit.specs.Trace.{at_bound};
 ghost use Rattle.lh_unit.specs.World.{World, next_instant};
@@ -12,13 +12,14 @@ ghost use Rattle.lh_watch.specs.Shown.{shown, first_stop};
 ghost use Rattle.lh_kernel.specs.Simulation.{StandsFor};
 ghost use Rattle.lh_wave.specs.BrokenOff.{BreaksOff};
 ghost use Rattle.lh_wave.specs.ShownRun.{ShownRun, end_of, stop_at};
-ghost use Rattle.lh_wave.specs.Going.{scribe_in, text_left, KeepsSignals, IsBehind, IsNext, IsTold, IsPassedOn, Went, BrokeOff, Turned, IsOver, going, shows_one, shown_on, values_of_last};
+ghost use Rattle.lh_wave.specs.Going.{scribe_in, text_left, KeepsSignals, IsBehind, IsNext, IsTold, Went, BrokeOff, Turned, IsOver, going, shows_one, shown_on, values_of_last};
 
 use crate::ending::End;
 use crate::run::{WaveFault, WaveMode};
 use crate::scribe::Scribe;
+use crate::waiting::pass_on;
 use lh_io::count::Count;
-use lh_io::stream::{Failed, Sink};
+use lh_io::stream::Sink;
 use lh_io::whole::write_all;
 use lh_kernel::{Sim, SimStep};
 use lh_types::frame::{Frame, Outcome};
@@ -27,9 +28,6 @@ use lh_watch::builtin::any_failed;
 use lh_watch::shows::show;
 use lh_watch::watcher::Watcher;
 use std::alloc::Global;
-
-/// From how much text on what waits is written, in whole lines: a write costs as much as a short frame.
-const PIECE: usize = 16384;
 
 /// Tells a run: writes its text and shows its frames, and notes whether an assertion has failed.
 #[derive(Drop)]
@@ -190,21 +188,6 @@ impl Teller {
         self.text.clear();
         Ok(())
     }
-}
-
-/// Writes what waits, where it is long.
-fn pass_on<K: Sink>(text: &mut Vec<u8>, out: &mut K) -> Result<(), Failed>
-    ensures told { OnOk result (IsPassedOn text.old.items text.new.items (K.written out.old) (K.written out.new)) }
-    ensures failed { OnErr result (AppendsProperPrefix (K.written out.old) (K.written out.new) text.old.items) }
-    ensures rose { OnErr result (Rose (K.faults out.old) (K.faults out.new)) }
-    ensures never_fall { K.faults out.old ≤ K.faults out.new }
-{
-    if text.len() < PIECE {
-        return Ok(());
-    }
-    write_all(out, text)?;
-    text.clear();
-    Ok(())
 }
 
 /// How a run ends after a frame at which the watcher at a place said stop, if one did.

@@ -1,14 +1,11 @@
 //! The waveform of a run, as its frames come.
-ghost use Rattle.std.specs.Prelude.{◌≡◌, ◌<◌, ◌∷◌, [], ◌++◌, ℕ, List, OnOk, IfOk, true, length, map, slice_set, All, if◌then◌else◌};
-ghost use Rattle.std.specs.List.Sorted.{IsNonDecreasing};
+ghost use Rattle.std.specs.Prelude.{◌≡◌, ◌∷◌, [], ◌++◌, List, OnOk, IfOk, true, map, slice_set, if◌then◌else◌};
 ghost use Rattle.lh_types.specs.ValueOf.{datum_of};
-ghost use Rattle.lh_types.specs.SameValue.{same_datum};
 ghost use Rattle.lh_types.specs.Pictures.{showing_of, picture};
-ghost use Rattle.lh_wave.specs.WaveText.{WaveMoment, value_line, all_lines, differing_lines, any_differs, dump_at, changes_at, waveform_text};
-ghost use Rattle.lh_wave.specs.Touched.{IsSameBut};
+ghost use Rattle.lh_wave.specs.WaveText.{WaveMoment, all_lines, dump_at, time_line, waveform_text};
 ghost use Rattle.lh_wave.specs.Recorded.{IsKept, values_now, moment_now, first_moment, next_moment, left_text, changed_values};
 
-use crate::touched::Touched;
+use crate::changed::Changed;
 use crate::wire::{put_time, put_wire};
 use lh_types::frame::{Change, Frame};
 use lh_types::text::put;
@@ -24,11 +21,9 @@ pub struct Waveform {
     fs: u64,
     // Whether the values of the first time were written.
     dumped: bool,
-    // The values of all signals as they were written last, and as they are now.
+    // The values of all signals as they were written last, and the new values of those that have changed since.
     written: Vec<Val>,
-    present: Vec<Val>,
-    // The signals that have changed since: of all others the two values are the same.
-    touched: Touched,
+    changed: Changed,
 }
 
 impl Waveform {
@@ -38,15 +33,13 @@ impl Waveform {
         ensures values { IfOk result (λ w. values_now w ≡ (first_moment (picture first.now)).values) }
         ensures left { IfOk result (λ w. (ms : List WaveMoment) → left_text w ms ≡ waveform_text (first_moment (picture first.now) ∷ ms)) }
     {
-        let present = values_of(alloc, first.changes.as_slice())?;
         let written = values_of(alloc, first.changes.as_slice())?;
-        let touched = Touched::none(alloc, present.len())?;
+        let changed = Changed::none(alloc, written.len())?;
         Ok(Waveform {
             fs: first.at.fs,
             dumped: false,
             written,
-            present,
-            touched,
+            changed,
         })
     }
 
@@ -77,30 +70,14 @@ impl Waveform {
         ensures dumped { OnOk result (self.new.dumped ≡ true) }
         ensures same { OnOk result (moment_now self.new ≡ moment_now self.old) }
     {
-        self.touched.sort()?;
-        self.put_time_text(to)?;
-        catch_up(&mut self.written, &self.present, self.touched.numbers())?;
-        self.touched.clear();
-        self.dumped = true;
-        Ok(())
-    }
-
-    // Puts the text of the time that is not written yet, the touched signals being in order.
-    fn put_time_text(&self, to: &mut Vec<u8>) -> Result<(), NoMemory>
-        requires kept { IsKept self.now }
-        requires rising { IsNonDecreasing self.now.touched.numbers.items }
-        ensures { OnOk result (to.new.items ≡ to.old.items ++ left_text self.now []) }
-    {
         if !self.dumped {
-            return put_dump(to, self.fs, &self.present);
-        }
-        let (written, now) = (self.written.as_slice(), self.present.as_slice());
-        let touched = self.touched.numbers();
-        if !differ(written, now, touched) {
+            self.changed.move_over(&mut self.written);
+            put_dump(to, self.fs, &self.written)?;
+            self.dumped = true;
             return Ok(());
         }
-        put_time(to, self.fs)?;
-        put_differing(to, written, now, touched)
+        put_time_if(to, self.fs, self.changed.differs(&self.written))?;
+        self.changed.put_over(to, &mut self.written)
     }
 
     // Takes the values that changes show.
@@ -128,11 +105,10 @@ impl Waveform {
         ensures written { OnOk result (self.new.written ≡ self.old.written) }
     {
         let k = c.signal as usize;
-        if k >= self.present.len() {
+        if k >= self.changed.count() {
             return Ok(());
         }
-        self.present[k] = c.value.copy()?;
-        self.touched.add(k)
+        self.changed.set(k, c.value.copy()?)
     }
 }
 
@@ -140,25 +116,12 @@ impl Waveform {
 fn values_of(alloc: Global, changes: &[Change]) -> Result<Vec<Val>, NoMemory>
     ensures { IfOk result (λ vs. map datum_of vs.items ≡ map (λ c. datum_of c.value) changes.now) }
 {
-    let mut values = Vec::new(alloc);
+    let mut values = Vec::with_capacity(alloc, changes.len())?;
     for c in changes {
         let value = c.value.copy()?;
         values.push(value)?;
     }
     Ok(values)
-}
-
-// Writes the present values of the touched signals over those that were written last.
-fn catch_up(written: &mut Vec<Val>, now: &[Val], touched: &[usize]) -> Result<(), NoMemory>
-    requires level { length written.old.items ≡ length now.now }
-    requires within { All (λ (k : ℕ). k < length now.now) touched.now }
-    requires others { IsSameBut touched.now (map datum_of written.old.items) (map datum_of now.now) }
-    ensures { OnOk result (map datum_of written.new.items ≡ map datum_of now.now) }
-{
-    for &k in touched {
-        written[k] = now[k].copy()?;
-    }
-    Ok(())
 }
 
 // Puts the values of the first time.
@@ -181,53 +144,12 @@ fn put_all(to: &mut Vec<u8>, now: &[Val]) -> Result<(), NoMemory>
     Ok(())
 }
 
-// Whether the value of some touched signal differs from the one that was written last.
-fn differ(written: &[Val], now: &[Val], touched: &[usize]) -> bool
-    requires level { length written.now ≡ length now.now }
-    requires within { All (λ (k : ℕ). k < length now.now) touched.now }
-    requires others { IsSameBut touched.now (map datum_of written.now) (map datum_of now.now) }
-    ensures { result ≡ any_differs (map datum_of written.now) (map datum_of now.now) }
+// Puts a time, if some signal has changed at it.
+fn put_time_if(to: &mut Vec<u8>, fs: u64, changed: bool) -> Result<(), NoMemory>
+    ensures { OnOk result (to.new.items ≡ to.old.items ++ (if changed then time_line fs else [])) }
 {
-    for &k in touched {
-        if written[k] != now[k] {
-            return true;
-        }
-    }
-    false
-}
-
-// Puts the lines of the touched signals, in order, that differ from the values that were written last. A number that stands twice
-// is passed over the second time.
-fn put_differing(
-    to: &mut Vec<u8>,
-    written: &[Val],
-    now: &[Val],
-    touched: &[usize],
-) -> Result<(), NoMemory>
-    requires level { length written.now ≡ length now.now }
-    requires within { All (λ (k : ℕ). k < length now.now) touched.now }
-    requires others { IsSameBut touched.now (map datum_of written.now) (map datum_of now.now) }
-    requires rising { IsNonDecreasing touched.now }
-    ensures { OnOk result (to.new.items ≡ to.old.items ++ differing_lines 0 (map datum_of written.now) (map datum_of now.now)) }
-{
-    let mut next = 0;
-    for &k in touched {
-        if k < next {
-            continue;
-        }
-        put_if_differs(to, k as u64, &written[k], &now[k])?;
-        next = k + 1;
-    }
-    Ok(())
-}
-
-// Puts the line of a signal, if its value differs from the one that was written last.
-fn put_if_differs(to: &mut Vec<u8>, signal: u64, written: &Val, now: &Val) -> Result<(), NoMemory>
-    ensures { OnOk result (to.new.items ≡ to.old.items
-        ++ (if same_datum (datum_of written.now) (datum_of now.now) then [] else value_line signal (datum_of now.now))) }
-{
-    if *written == *now {
+    if !changed {
         return Ok(());
     }
-    put_wire(to, signal, now)
+    put_time(to, fs)
 }

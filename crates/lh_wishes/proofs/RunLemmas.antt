@@ -1,6 +1,6 @@
 -- Runs against a bit at an instant, and runs in order.
-use Rattle.std.proofs.Common.{◌≡◌, ℕ, ◌+◌, ◌-◌, ◌<◌, ◌≤◌, zero, suc, List, [], ◌∷◌, ◌++◌, length, take, drop, Bool, true, false, nat_lt, Some, slice_get, get_or, Result, Ok, Err, IfOk, OnOk, refl, ap, sym, ◌∙◌, subst, append_assoc, arith}
-use Rattle.std.proofs.lemmas.List.{append-nil, take_more, take-append-drop, take-take}
+use Rattle.std.proofs.Common.{◌≡◌, ℕ, ◌+◌, ◌-◌, ◌<◌, ◌≤◌, zero, suc, List, [], ◌∷◌, ◌++◌, length, take, drop, set, Bool, true, false, nat_lt, Some, slice_get, get_or, Result, Ok, Err, IfOk, OnOk, refl, ap, sym, ◌∙◌, subst, append_assoc, arith}
+use Rattle.std.proofs.lemmas.List.{append-nil, take_more, drop_more, set_split, take-append-drop, take-take}
 use Rattle.std.proofs.Math.Seq.{take-length, drop-length}
 use Rattle.std.proofs.lemmas.List.Elements.{filter-append}
 use Rattle.std.proofs.lemmas.Bool.Decides.{nat_tests}
@@ -282,6 +282,36 @@ inserted-filled rs ns i r a f e = subst EachFilled (sym e) (filled-append (take 
 -- a run alone
 pub first-wish : (r : WishRun) → runs_wish (r ∷ []) ≡ with_bits [] r.due r.lo r.bits
 first-wish r = inserted [] (r ∷ []) 0 (r.lo + length r.bits) r refl tt tt tt refl
+
+-- a run in place of one other that it covers whole
+pub covered : (rs ns : List WishRun) (i j hi : ℕ) (x r : WishRun) → j ≡ i + 1 → i < length rs → x ≡ get_or rs i x → hi ≡ r.lo + length r.bits → IsInOrder (runs_wish rs)
+    → AllBelow (due_bit r.due r.lo) (runs_wish (take i rs)) → AllFrom (due_bit r.due hi) (runs_wish (drop j rs))
+    → AllFrom (due_bit r.due r.lo) (run_wish x) → AllBelow (due_bit r.due (r.lo + length r.bits)) (run_wish x) → ns ≡ set rs i r → runs_wish ns ≡ with_bits (runs_wish rs) r.due r.lo r.bits
+covered rs ns i j hi x r ji l g n h a b f t e =
+    ap runs_wish (e ∙ set-splits) ∙ runs-append (take i rs) (r ∷ drop j rs)
+    ∙ ap (λ v. runs_wish (take i rs) ++ v)
+    (ap (λ v. v ++ (run_wish r ++ runs_wish (drop j rs))) (sym (below-none (due_bit r.due r.lo) (run_wish x) f))
+    ∙ ap (λ v. below (due_bit r.due r.lo) (run_wish x) ++ (run_wish r ++ (v ++ runs_wish (drop j rs)))) (sym (above-none (due_bit r.due hi) (run_wish x) (subst (λ k. AllBelow (due_bit r.due k) (run_wish x)) (sym n) t))))
+    ∙ sym (spliced (runs_wish (take i rs)) (run_wish x) (runs_wish (drop j rs)) r.due r.lo hi r.bits n (subst IsInOrder whole h) a b)
+    ∙ ap (λ w. with_bits w r.due r.lo r.bits) (sym whole)
+  where
+    set-splits : set rs i r ≡ take i rs ++ r ∷ drop j rs
+    set-splits = let m : suc i ≡ j = omega arith in set_split rs i r l ∙ ap (λ k. take i rs ++ r ∷ drop k rs) m
+
+    splits : rs ≡ take i rs ++ x ∷ drop j rs
+    splits =
+        sym (take-append-drop i rs) ∙ ap (λ (y : List WishRun). take i rs ++ y) (drop_more rs i x l)
+        ∙ ap (λ (y : WishRun). take i rs ++ y ∷ drop (i + 1) rs) (sym g) ∙ ap (λ k. take i rs ++ x ∷ drop k rs) (sym ji)
+
+    whole : runs_wish rs ≡ runs_wish (take i rs) ++ (run_wish x ++ runs_wish (drop j rs))
+    whole = ap runs_wish splits ∙ runs-append (take i rs) (x ∷ drop j rs)
+
+pub covered-alone : (x r : WishRun) → AllFrom (due_bit r.due r.lo) (run_wish x) → AllBelow (due_bit r.due (r.lo + length r.bits)) (run_wish x) → IsInOrder (runs_wish (x ∷ []))
+    → runs_wish (r ∷ []) ≡ with_bits (runs_wish (x ∷ [])) r.due r.lo r.bits
+covered-alone x r f t h = let j : 1 ≡ 0 + 1 = omega arith in covered (x ∷ []) (r ∷ []) 0 1 (r.lo + length r.bits) x r j (omega arith) refl refl h tt tt f t refl
+
+pub covered-filled : (rs ns : List WishRun) (i : ℕ) (r : WishRun) → i < length rs → EachFilled rs → is_filled r.bits ≡ true → ns ≡ set rs i r → EachFilled ns
+covered-filled rs ns i r l a f e = subst EachFilled (sym (e ∙ set_split rs i r l)) (filled-append (take i rs) (r ∷ drop (suc i) rs) (filled-take i rs a) (f, filled-drop (suc i) rs a))
 
 -- a run in place of what it covers
 pub replaced : (rs front pre cut after : List WishRun) (i j hi : ℕ) (r : WishRun) (w : Wish) → i ≤ j → hi ≡ r.lo + length r.bits → IsInOrder (runs_wish rs)

@@ -1,5 +1,5 @@
 //! Runs in order of their instants and of their bits, and what a drive makes of them.
-ghost use Rattle.std.specs.Prelude.{◌≡◌, ◌+◌, ◌<◌, ◌≤◌, ◌^◌, [], ◌∷◌, ◌++◌, length, take, drop, true, IfOk, OnOk};
+ghost use Rattle.std.specs.Prelude.{◌≡◌, ◌+◌, ◌<◌, ◌≤◌, ◌^◌, [], ◌∷◌, ◌++◌, length, take, drop, true, IsTrue, IfOk, OnOk};
 ghost use Rattle.lh_types.specs.Wish.{with_bits, due_bit};
 ghost use Rattle.lh_wishes.specs.Grouped.{is_filled};
 ghost use Rattle.lh_wishes.specs.Runs.{run_wish, runs_wish, runs_in, below, above, AllBelow, AllFrom, EachFilled, AreRuns};
@@ -28,6 +28,9 @@ pub(crate) fn with_more(alloc: Global, runs: RunList, run: WishRun) -> Result<Ru
     match runs {
         RunList::Empty => Ok(RunList::One(run)),
         RunList::One(first) => {
+            if is_covered(&first, &run) {
+                return Ok(RunList::One(run));
+            }
             let runs = alone(alloc, first)?;
             Ok(RunList::Many(with_run(alloc, runs, run)?))
         }
@@ -90,6 +93,15 @@ fn place_from(runs: &[WishRun], from: usize, due: Instant, hi: u32) -> usize
     to
 }
 
+/// Whether nothing of a run is below another one, and nothing of it above.
+fn is_covered(old: &WishRun, run: &WishRun) -> bool
+    requires fits { run.now.lo + length run.now.bits < 2 ^ 32 }
+    ensures from { IsTrue result → AllFrom (due_bit run.now.due run.now.lo) (run_wish old.now) }
+    ensures below { IsTrue result → AllBelow (due_bit run.now.due (run.now.lo + length run.now.bits)) (run_wish old.now) }
+{
+    old.is_from(run.due, run.lo) && old.is_below(run.due, run.lo + run.bits.len())
+}
+
 /// The runs with one more; it replaces what they have for its bits at its instant.
 fn with_run(alloc: Global, mut runs: Vec<WishRun>, run: WishRun) -> Result<Vec<WishRun>, NoMemory>
     requires runs { AreRuns runs.items }
@@ -103,6 +115,11 @@ fn with_run(alloc: Global, mut runs: Vec<WishRun>, run: WishRun) -> Result<Vec<W
     let to = place_from(runs.as_slice(), from, run.due, hi);
     if from == to {
         runs.insert(from, run)?;
+        return Ok(runs);
+    }
+    if to == from + 1 && is_covered(&runs[from], &run) {
+        // One run for another one: none of the others moves.
+        runs[from] = run;
         return Ok(runs);
     }
     let after = runs.split_off(to)?;

@@ -1,4 +1,4 @@
-//! Texts of files that several tests run.
+//! Texts of files that tests run, and what they are to write.
 
 pub const ACCUMULATOR: &[u8] = b"entity @acc_tb () -> () {\n\
 \x20   %zero0 = const i1 0\n\
@@ -85,21 +85,71 @@ entry:\n\
 \x20   ret\n\
 }\n";
 
-pub const BLINK: &[u8] = b"entity @t () -> () {\n\
+pub const ACCUMULATOR_TRACE: &[u8] = b"sig 0 i1 acc_tb.clk\n\
+sig 1 i1 acc_tb.en\n\
+sig 2 i32 acc_tb.x\n\
+sig 3 i32 acc_tb.q\n\
+sig 4 i32 acc_tb.acc_1.d\n\
+@ 0fs 0d 0e\n0 = 0\n1 = 0\n2 = 0\n3 = 0\n4 = 0\n\
+@ 0fs 1d 0e\n\
+@ 1000000fs 0d 0e\n0 = 1\n\
+@ 1000000fs 1d 0e\n\
+@ 2000000fs 0d 0e\n0 = 0\n1 = 1\nassert 4 ok\n\
+@ 2000000fs 1d 0e\n\
+@ 3000000fs 0d 0e\n0 = 1\n\
+@ 3000000fs 1d 0e\n\
+@ 4000000fs 0d 0e\n0 = 0\n2 = 1\nassert 4 ok\n\
+@ 4000000fs 1d 0e\n4 = 1\n\
+end quiet\n";
+
+pub const GOOD: &[u8] =
+    b"entity @t (i1$ %c) -> () {\n    %z = const i8 255\n    %a = sig i8 %z\n}\n";
+
+pub const BAD: &[u8] = b"entity @t (i1$ %c) -> () {\n    !\n}\n";
+
+pub const FAILS: &[u8] = b"proc @p () -> () {\n\
+b:\n\
 \x20   %z = const i1 0\n\
-\x20   %o = const i1 1\n\
-\x20   %d = const time 1ns\n\
-\x20   %a = sig i1 %z\n\
-\x20   drv i1$ %a, %o after %d\n\
+\x20   call void @llhd.assert (i1 %z)\n\
+\x20   halt\n\
 }\n";
 
-pub const RECURSION: &[u8] = b"func @f () void {\n\
-entry:\n\
-\x20   call void @f ()\n\
-\x20   ret\n\
-}\n\
-proc @p () -> () {\n\
-entry:\n\
-\x20   call void @f ()\n\
-\x20   wait %entry\n\
-}\n";
+pub const FAILS_TRACE: &[u8] = b"@ 0fs 0d 0e\nassert 0 failed\nend stop untilfail\n";
+
+/// An inverter, and a process that only waits for a time.
+pub const PROCESSES: &[u8] = b"proc @inv (i1$ %a) -> (i1$ %q) {
+entry:
+    %x = prb i1$ %a
+    %y = not i1 %x
+    %t = const time 0s 1d
+    drv i1$ %q, %y after %t
+    wait %entry, %a
+}
+proc @rest () -> () {
+entry:
+    %t = const time 1ns
+    wait %entry for %t
+}
+";
+
+pub const LOWERED: &[u8] = b"entity @inv (i1$ %a) -> (i1$ %q) {
+    %v0 = prb i1$ %a
+    %v1 = not i1 %v0
+    %v2 = const time 0s 1d
+    drv i1$ %q, %v1 after %v2
+}
+proc @rest () -> () {
+entry:
+    %t = const time 1ns
+    wait %entry for %t
+}
+";
+
+/// Both runs of one link have one change in each frame but the first.
+pub const ONE_LINK: &[u8] = b"units 4 lowered 2 left 1
+original frames 34 changes 33 ok 8 failed 0 quiet
+lowered frames 34 changes 33 ok 8 failed 0 quiet
+";
+
+pub const USAGE: &[u8] =
+    b"usage: llhd check | lower | simulate --top NAME --steps N [--vcd] [--watch TITLE ...] | selftest N\n";

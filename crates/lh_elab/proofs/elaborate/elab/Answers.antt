@@ -7,7 +7,7 @@ use Rattle.lh_sound.specs.Units.{IsPort}
 use Rattle.lh_sound.proofs.FitLaws.{unit-is-sound}
 use Rattle.lh_elab.specs.declared.build.Building.{Building}
 use Rattle.lh_elab.specs.declared.build.Pending.{Pending}
-use Rattle.lh_elab.specs.Plans.{IsPlan}
+use Rattle.lh_plan.specs.Plans.{IsPlan}
 use Rattle.lh_elab.proofs.ByName.{reads}
 use Rattle.lh_elab.proofs.Elaborating.{top-ports, top-fits, starts, ends, built-is, refuses, final}
 use Rattle.lh_elab.proofs.Underway.{Popped, next-fits, few-instances, has-room, children-low, falls, goes-on}

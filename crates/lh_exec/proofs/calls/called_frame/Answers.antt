@@ -1,26 +1,27 @@
-use Rattle.std.proofs.Common.{◌≡◌, ◌∙◌, Option, Some, None, List, map, IfOk, ap, sym, subst}
-use Rattle.std.specs.Option.{option_map}
-use Rattle.lh_types.specs.Values.{Datum}
-use Rattle.lh_types.specs.ValueOf.{datum_of}
-use Rattle.lh_unit.specs.Activation.{called}
-use Rattle.lh_unit.specs.Arena.{naming, unit_text_at}
-use Rattle.lh_unit.specs.Held.{data_at}
-use Rattle.lh_unit.specs.Naming.{operand_text}
-use Rattle.lh_eval.proofs.Holding.{same-held}
-use Rattle.lh_exec.specs.Standing.{MaybeFrame}
+use Rattle.std.proofs.Common.{◌≡◌, ◌∙◌, Option, None, false, true, replicate, ap, sym, subst}
+use Rattle.lh_unit.specs.Arena.{value_count, args_at}
+use Rattle.lh_unit.specs.Held.{Held}
+use Rattle.lh_exec.specs.Taking.{operands_given, GivesValues}
+use Rattle.lh_exec.proofs.CallSteps.{called-frame, called-none}
 use Rattle.lh_exec.proofs.calls.called_frame.Goals as goal
 
-pub returns-in-Some : goal.returns-in-Some
-returns-in-Some c = λ u e d.
+pub returns-then-not-branch : goal.returns-then-not-branch
+returns-then-not-branch c = λ u e d.
     let m = c.args.m.now in
-    let there : Some (map datum_of c.as_slice.result.now) ≡ data_at e (map (operand_text (naming m u)) c.args.args.now) =
-    ap (λ vs. Some (map datum_of vs)) c.as_slice.ensures.value ∙ sym (ap (option_map (λ v. map datum_of v.items)) c.in-Some.is) ∙ c.in_ok-values.ensures
-    ∙ (same-held m u c.args.slots.now e d).values c.args.args.now c.requires.args in
-    subst (λ (x : Option (List Datum)). IfOk c.function_frame.result (λ f. MaybeFrame m f (called (Some (unit_text_at m c.args.unit.0)) x))) there c.function_frame.ensures
+    let b : c.in_ok-hold_operands.field-0 ≡ false = cc in
+    let given = subst (λ b. GivesValues b c.hold_operands.new.to (operands_given c.args-2.result.now c.args.args.now c.args.slots.now c.in_ok-held.held)) b c.in_ok-hold_operands.ensures in
+    let first : c.in_ok-held.held ≡ replicate (value_count m c.args.unit.0) None = c.in_ok-held.ensures ∙ ap (λ k. let none : Option Held = None in replicate k none) c.values.ensures.count in
+    let start = ap (λ l. operands_given l c.args.args.now c.args.slots.now c.in_ok-held.held) c.args-2.ensures.args
+    ∙ ap (operands_given (args_at m c.args.unit.0) c.args.args.now c.args.slots.now) first in
+    called-none m c.args.unit.0 c.values.ensures.sound c.requires.unit u c.args.slots.now e c.args.args.now d c.requires.args (sym start ∙ given)
 
-pub returns-in-None : goal.returns-in-None
-returns-in-None c = λ u e d.
+pub returns : goal.returns
+returns c = λ u e d.
     let m = c.args.m.now in
-    let there : None ≡ data_at e (map (operand_text (naming m u)) c.args.args.now) =
-    sym (ap (option_map (λ v. map datum_of v.items)) c.in-None.is) ∙ c.in_ok-values.ensures ∙ (same-held m u c.args.slots.now e d).values c.args.args.now c.requires.args in
-    subst (λ (x : Option (List Datum)). MaybeFrame m None (called (Some (unit_text_at m c.args.unit.0)) x)) there tt
+    let b : c.in_ok-hold_operands.field-0 ≡ true = cc in
+    let given = subst (λ b. GivesValues b c.hold_operands.new.to (operands_given c.args-2.result.now c.args.args.now c.args.slots.now c.in_ok-held.held)) b c.in_ok-hold_operands.ensures in
+    let first : c.in_ok-held.held ≡ replicate (value_count m c.args.unit.0) None = c.in_ok-held.ensures ∙ ap (λ k. let none : Option Held = None in replicate k none) c.values.ensures.count in
+    let start = ap (λ l. operands_given l c.args.args.now c.args.slots.now c.in_ok-held.held) c.args-2.ensures.args
+    ∙ ap (operands_given (args_at m c.args.unit.0) c.args.args.now c.args.slots.now) first in
+    called-frame m c.args.unit.0 c.values.ensures.sound c.requires.unit u c.args.slots.now e c.args.args.now d c.requires.args c.hold_operands.new.to c.first_frame.result (sym start ∙ given)
+    c.first_frame.ensures

@@ -1,4 +1,3 @@
-use Rattle.std.proofs.Common.{[], Some, length, ap, ◌∙◌}
 use Rattle.lh_facts.proofs.ParamSteps.{numbers-none, numbers-next, numbers-all, long-next, long-none}
 use Rattle.lh_facts.proofs.params.arg_numbers.Goals as goal
 
@@ -14,8 +13,8 @@ loop-arg-preserved c =
     let x = c.arg-item.result in
     record {
       long = long-next c.args.args.now c.loop-arg.list c.push.new.self c.loop-arg.arg-index x c.in_ok-place.place c.loop-arg-test.true c.arg-item.is c.loop-arg.invariant.long c.in_ok-push.ensures.ok;
-      numbers = numbers-next c.loop-arg.types c.number.new.self c.args.args.now c.loop-arg.list c.push.new.self c.loop-arg.arg-index x c.in_ok-place.place c.loop-arg-test.true c.arg-item.is
-          c.loop-arg.invariant.long c.loop-arg.invariant.numbers c.in_ok-place.ensures.grows (c.in_ok-place.ensures.made ∙ ap Some c.in_ok-copy.ensures) c.in_ok-push.ensures.ok;
+      numbers = numbers-next c.loop-arg.types c.number_like.new.self c.args.args.now c.loop-arg.list c.push.new.self c.loop-arg.arg-index x c.in_ok-place.place c.loop-arg-test.true c.arg-item.is
+          c.loop-arg.invariant.long c.loop-arg.invariant.numbers c.in_ok-place.ensures.grows c.in_ok-place.ensures.made c.in_ok-push.ensures.ok;
       grows = λ n t g. c.in_ok-place.ensures.grows n t (c.loop-arg.invariant.grows n t g);
     }
 

@@ -5,8 +5,8 @@ use Rattle.lh_defined.specs.declared.DefinedFault.{DefinedFault}
 use Rattle.lh_verify.proofs.UnitPlaces.{lacks-hidden, lacks-nothing, lacks-at}
 use Rattle.lh_verify.proofs.unit.first_lacking.Goals as goal
 
-pub returns-then-branch : goal.returns-then-branch
-returns-then-branch c = lacks-hidden c.args.scope.now c.requires.sound c.requires.scope.unit c.args.places.now c.requires.places (sym c.in_ok-any_hides_paths.ensures ∙ c.if-branch.true)
+pub returns-then-hidden : goal.returns-then-hidden
+returns-then-hidden c = lacks-hidden c.args.scope.now c.requires.sound c.requires.scope.unit c.args.places.now c.requires.places (sym c.requires.hidden ∙ c.if-hidden.true)
 
 pub returns-in-Ok : goal.returns-in-Ok
 returns-in-Ok c = lacks-nothing c.args.scope.now c.requires.sound c.requires.scope.unit c.in-Ok.ensures
@@ -17,4 +17,4 @@ returns-in-Err-NotDefined c =
     let u = c.args.scope.now.unit.0 in
     let d = subst (λ (e : DefinedFault). DefinedOrFault (Err e) a u) c.in-Err-NotDefined.field-0-is c.in-Err-NotDefined.ensures in
     lacks-at c.args.scope.now c.requires.sound c.requires.scope.unit c.in-Err-NotDefined.inst (value_name_at a u c.in-Err-NotDefined.field-0-1.0) c.args.places.now c.requires.places
-    (sym c.in_ok-any_hides_paths.ensures ∙ c.if-branch.false) d.1
+    (sym c.requires.hidden ∙ c.if-hidden.false) d.1

@@ -1,8 +1,8 @@
-use Rattle.std.proofs.Common.{◌≡◌, ℕ, List, ◌+◌, length, take, drop, ap, sym, ◌∙◌, subst, rules}
+use Rattle.std.proofs.Common.{◌≡◌, ℕ, List, ◌+◌, ◌<◌, length, take, drop, refl, ap, sym, ◌∙◌, subst, rules, arith}
 use Rattle.lh_types.specs.Wish.{due_bit}
 use Rattle.lh_wishes.specs.Runs.{runs_wish, AllBelow, AllFrom, EachFilled}
 use Rattle.lh_wishes.specs.declared.run.WishRun.{WishRun}
-use Rattle.lh_wishes.proofs.RunLemmas.{inserted, inserted-filled, replaced, filled-take, filled-drop, if-ok}
+use Rattle.lh_wishes.proofs.RunLemmas.{inserted, inserted-filled, covered, covered-filled, replaced, filled-take, filled-drop, if-ok}
 use Rattle.lh_wishes.proofs.runs.with_run.Goals as goal
 
 pub returns-then-from-to-clause-wish : goal.returns-then-from-to-clause-wish
@@ -19,6 +19,21 @@ returns-then-from-to-clause-wish c =
 pub returns-then-from-to-clause-filled : goal.returns-then-from-to-clause-filled
 returns-then-from-to-clause-filled c = inserted-filled c.args.runs.items c.insert.new.self.items c.count_below-from.result c.args.run c.requires.runs.filled c.requires.filled
     c.in_ok-insert.ensures.items
+
+pub returns-then-is_covered-clause-wish : goal.returns-then-is_covered-clause-wish
+returns-then-is_covered-clause-wish c =
+    let n : c.args.run.lo + c.len.result ≡ c.args.run.lo + length c.args.run.bits = ap (λ x. c.args.run.lo + x) c.len.ensures in
+    let j : c.place_from-to.result ≡ c.count_below-from.result + 1 = search rules in
+    let l : c.count_below-from.result < length c.args.runs.items = search (rules, arith) in
+    covered c.args.runs.items _ c.count_below-from.result c.place_from-to.result (c.args.run.lo + c.len.result) c.index.result.now c.args.run j l c.index.ensures n c.requires.runs.ordered
+    (subst (λ (x : List WishRun). AllBelow (due_bit c.args.run.due c.args.run.lo) (runs_wish (take c.count_below-from.result x))) c.as_slice.ensures.value c.count_below-from.ensures.below)
+    (subst (λ (x : List WishRun). AllFrom (due_bit c.args.run.due (c.args.run.lo + c.len.result)) (runs_wish (drop c.place_from-to.result x))) c.as_slice-2.ensures.value c.place_from-to.ensures.above)
+    (c.is_covered.ensures.from c.if-is_covered.true) (c.is_covered.ensures.below c.if-is_covered.true) refl
+
+pub returns-then-is_covered-clause-filled : goal.returns-then-is_covered-clause-filled
+returns-then-is_covered-clause-filled c =
+    let l : c.count_below-from.result < length c.args.runs.items = search (rules, arith) in
+    covered-filled c.args.runs.items _ c.count_below-from.result c.args.run l c.requires.runs.filled c.requires.filled refl
 
 pub replace-requires-clause-before : goal.replace-requires-clause-before
 replace-requires-clause-before c =

@@ -1,15 +1,11 @@
-use Rattle.std.proofs.Common.{◌<◌, length, set, map, refl, ap, ◌∙◌, arith}
-use Rattle.std.proofs.lemmas.List.{map-set}
-use Rattle.lh_types.specs.ValueOf.{datum_of}
-use Rattle.lh_wave.proofs.Keeping.{kept_on, always}
+use Rattle.std.proofs.Common.{◌≤◌, length, arith}
+use Rattle.lh_wave.proofs.Keeping.{set_none, set_on}
 use Rattle.lh_wave.proofs.waveform.Waveform.change_value.Goals as goal
 
-pub returns-clause-kept : goal.returns-clause-kept
-returns-clause-kept c =
-    let inside : c.args.c.now.signal < length c.args.self.now.present.items = omega (arith, c.if-k-len.false) in
-    kept_on c.add.result c.args.self.now c.add.new.self _ c.args.c.now.signal c.in_ok-self.field-0 c.requires inside refl c.add.ensures.noted c.add.ensures.added c.add.ensures.kept
+pub returns-then-k-count-clause-values : goal.returns-then-k-count-clause-values
+returns-then-k-count-clause-values c =
+    let past : length c.args.self.now.changed.values.items ≤ c.args.c.now.signal = omega (arith, c.if-k-count.true, c.count.ensures) in
+    set_none _ _ _ _ c.requires.level past
 
 pub returns-clause-values : goal.returns-clause-values
-returns-clause-values c =
-    always c.add.result _ (map-set datum_of c.args.self.now.present.items c.args.c.now.signal c.in_ok-self.field-0
-    ∙ ap (λ n. set (map datum_of c.args.self.now.present.items) c.args.c.now.signal (datum_of n)) c.in_ok-self.ensures)
+returns-clause-values c = set_on c.set.result _ _ _ _ _ _ c.requires.level c.in_ok-copy.ensures c.set.ensures.values

@@ -7,7 +7,7 @@ abbrev pub invariant-loop-c : goal.invariant-loop-c
 invariant-loop-c l =
     record {
       kept : IsKept l.self;
-      changing : Changing (values_now l.fn.self) l.self.present.items l.changes l.c-index;
+      changing : Changing (values_now l.fn.self) (values_now l.self) l.changes l.c-index;
       fs : l.self.fs ≡ l.fn.self.fs;
       dumped : l.self.dumped ≡ l.fn.self.dumped;
       written : l.self.written ≡ l.fn.self.written;

@@ -1,6 +1,6 @@
 use Rattle.std.proofs.Common.{refl, ap}
 use Rattle.lh_wave.proofs.Recording.{values_on}
-use Rattle.lh_wave.proofs.Keeping.{kept_at, same_time_left, later_time_left}
+use Rattle.lh_wave.proofs.Keeping.{same_time_left, later_time_left}
 use Rattle.lh_wave.proofs.waveform.Waveform.take.Goals as goal
 
 pub returns-then-f-self-clause-values : goal.returns-then-f-self-clause-values
@@ -11,9 +11,6 @@ returns-then-f-self-clause-left c =
     same_time_left c.change_values.result c.args.self.now c.change_values.new.self _ _ _ _ c.if-f-self.true c.as_slice.ensures c.change_values.ensures.fs c.change_values.ensures.dumped
     c.change_values.ensures.written
     c.change_values.ensures.values
-
-pub change_values-requires-2 : goal.change_values-requires-2
-change_values-requires-2 c = kept_at _ c.args.f.now.at.fs c.in_ok-write.ensures.kept
 
 pub returns-clause-values : goal.returns-clause-values
 returns-clause-values c = values_on c.change_values-2.result _ _ _ _ _ (ap (λ m. m.values) c.in_ok-write.ensures.same) c.as_slice-2.ensures c.change_values-2.ensures.values

@@ -1,20 +1,20 @@
-use Rattle.std.proofs.Common.{map, refl, ap, ◌∙◌}
+use Rattle.std.proofs.Common.{◌≡◌, true, map, ap, ◌∙◌, arith}
 use Rattle.lh_types.specs.ValueOf.{datum_of}
-use Rattle.lh_wave.proofs.Keeping.{kept_in_order, kept_but_at, kept_behind}
+use Rattle.lh_wave.specs.WaveText.{any_differs}
+use Rattle.lh_wave.specs.Changed.{present_values}
+use Rattle.lh_wave.specs.Recorded.{moment_now}
+use Rattle.lh_wave.proofs.Recording.{left_changed}
+use Rattle.lh_wave.proofs.Keeping.{same_moment, same_moment_on}
 use Rattle.lh_wave.proofs.waveform.Waveform.write.Goals as goal
 
-pub put_time_text-requires-clause-kept : goal.put_time_text-requires-clause-kept
-put_time_text-requires-clause-kept c = kept_in_order c.args.self.now c.sort.new.self c.requires c.sort.ensures.noted c.sort.ensures.same
+pub returns-then-not-self-clause-same : goal.returns-then-not-self-clause-same
+returns-then-not-self-clause-same c = same_moment _ _ _ _ c.move_over.ensures.noted c.move_over.ensures.none c.move_over.ensures.written
 
-pub catch_up-requires-clause-others : goal.catch_up-requires-clause-others
-catch_up-requires-clause-others c =
-    let kept = kept_in_order c.args.self.now c.sort.new.self c.requires c.sort.ensures.noted c.sort.ensures.same in
-    kept_but_at _ _ _ _ kept c.numbers.ensures refl c.deref.ensures.value
+pub returns-clause-text : goal.returns-clause-text
+returns-clause-text c =
+    let later : c.args.self.now.dumped ≡ true = grind (arith, c.if-not-self.false) in
+    left_changed c.put_over.result _ _ (map datum_of c.args.self.now.written.items) (moment_now c.args.self.now) _ _ _ later
+    (c.differs.ensures ∙ ap (λ ws. any_differs (map datum_of ws) (present_values c.args.self.now.changed.values.items ws)) c.deref-2.ensures.value) c.in_ok-put_time_if.ensures c.put_over.ensures.text
 
-pub returns-clause-kept : goal.returns-clause-kept
-returns-clause-kept c =
-    let kept = kept_in_order c.args.self.now c.sort.new.self c.requires c.sort.ensures.noted c.sort.ensures.same in
-    kept_behind _ c.catch_up.new.written _ c.clear.new.self kept (c.in_ok-catch_up.ensures ∙ ap (map datum_of) c.deref.ensures.value) c.clear.ensures.noted
-
-pub returns-clause-written : goal.returns-clause-written
-returns-clause-written c = c.in_ok-catch_up.ensures ∙ ap (map datum_of) c.deref.ensures.value
+pub returns-clause-same : goal.returns-clause-same
+returns-clause-same c = same_moment_on c.put_over.result _ _ _ _ c.put_over.ensures.noted c.put_over.ensures.none c.put_over.ensures.written

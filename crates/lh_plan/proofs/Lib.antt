@@ -1,0 +1,4 @@
+pub mod Moving
+pub mod StaticSteps
+pub mod PlanSteps
+pub mod ChildSteps
