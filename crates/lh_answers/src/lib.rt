@@ -6,4 +6,3 @@ mod design;
 mod program;
 mod stepped;
 mod watched;
-mod watchers;

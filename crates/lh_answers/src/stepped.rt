@@ -16,10 +16,16 @@ use std::alloc::Global;
 pub fn stepped(alloc: Global, m: &Module, design: Design, steps: u32) -> Result<Vec<u8>, NoMemory>
     requires { IsDesignOf m.now design }
 {
-    let mut sim = Sim::new(alloc, m, design)?;
     let mut to = Vec::new(alloc);
-    put_stepped(&mut to, &mut sim, steps)?;
+    put_simulated(&mut to, m, design, steps)?;
     Ok(to)
+}
+
+fn put_simulated(to: &mut Vec<u8>, m: &Module, design: Design, steps: u32) -> Result<(), NoMemory>
+    requires { IsDesignOf m.now design }
+{
+    let mut sim = Sim::new(*to.allocator(), m, design)?;
+    put_stepped(to, &mut sim, steps)
 }
 
 fn put_stepped(to: &mut Vec<u8>, sim: &mut Sim<'_>, steps: u32) -> Result<(), NoMemory> {

@@ -1,14 +1,13 @@
 //! Simulations shown to watchers that say a word at a frame.
-ghost use Rattle.std.specs.Prelude.{◌≡◌};
+ghost use Rattle.std.specs.Prelude.{◌<◌};
 ghost use Rattle.lh_elab.specs.Answer.{IsDesignOf};
 
 use crate::answer::number;
-use crate::program::ROOM;
-use crate::watchers::{Speaker, speakers};
+use crate::program::sink;
 use lh_design::Design;
-use lh_io::memory::MemSink;
 use lh_kernel::Sim;
 use lh_naive::frames::put_named;
+use lh_speakers::speaker::{Speaker, speakers};
 use lh_types::text::put;
 use lh_types::ty::NoMemory;
 use lh_unit::module::Module;
@@ -23,27 +22,39 @@ pub fn watched(alloc: Global, m: &Module, design: Design, words: &str) -> Result
     requires { IsDesignOf m.now design }
 {
     let (steps, words) = words.split_once(' ').unwrap_or((words, ""));
-    let steps = number(steps).max(1);
     let mut watchers = speakers(alloc, words)?;
+    let mut answer = Vec::new(alloc);
+    put_watched(&mut answer, m, design, number(steps).max(1), &mut watchers)?;
+    Ok(answer)
+}
+
+fn put_watched(
+    to: &mut Vec<u8>,
+    m: &Module,
+    design: Design,
+    steps: u32,
+    watchers: &mut Vec<Speaker>,
+) -> Result<(), NoMemory>
+    requires design { IsDesignOf m.now design }
+    requires steps { 0 < steps }
+{
+    let alloc = *to.allocator();
     let mut sim = Sim::new(alloc, m, design)?;
-    let mut out = MemSink::new(alloc, ROOM, ROOM, Vec::new(alloc))?;
+    let mut out = sink(alloc)?;
     let mut reports = Vec::new(alloc);
-    let ending = run_wave(
+    match run_wave(
         alloc,
         &mut sim,
         m,
         steps,
         WaveMode::Trace,
-        &mut watchers,
+        watchers,
         &mut out,
         &mut reports,
-    );
-    let mut answer = Vec::new(alloc);
-    match ending {
-        Ok(ending) => put_shown(&mut answer, out.written(), ending.end, &watchers, &reports)?,
-        Err(fault) => put_fault(&mut answer, fault, &watchers)?,
+    ) {
+        Ok(ending) => put_shown(to, out.written(), ending.end, watchers, &reports),
+        Err(fault) => put_fault(to, fault, watchers),
     }
-    Ok(answer)
 }
 
 fn put_shown(

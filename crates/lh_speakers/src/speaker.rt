@@ -1,9 +1,8 @@
-//! Watchers of a kind that only the trials have.
+//! Watchers that say a word at a frame.
 ghost use Rattle.std.specs.Prelude.{◌≡◌, ◌∷◌, []};
 ghost use Rattle.lh_watch.specs.Members.{member};
-ghost use Rattle.lh_answers.specs.Scripted.{scripted, title_of};
+ghost use Rattle.lh_speakers.specs.Scripted.{scripted, title_of};
 
-use crate::answer::number;
 use lh_time::Instant;
 use lh_types::frame::{Change, Outcome};
 use lh_types::text::{put, put_number};
@@ -70,13 +69,16 @@ fn title_of<'a>(title: Title) -> &'a str
     }
 }
 
-/// Watchers by their titles, words and turns: `go`, `done`, `stop`, or `none` of one that finds no memory.
+/// Watchers by their titles, words and turns, in order: `A go 3` has the title `A` and says go at the third frame. The titles are `A`, `B` and `C`,
+/// the words `go`, `done`, `stop`, and `none` of one that finds no memory then. Each other title counts as `C`, each other word as `go`,
+/// and a turn that is no number as 1.
 pub fn speakers(alloc: Global, words: &str) -> Result<Vec<Speaker>, NoMemory> {
     let words: Vec<&str> = words.split_whitespace().collect(alloc)?;
     let mut watchers = Vec::new(alloc);
     for said in words.as_slice().chunks_exact(3) {
         if let [title, word, turn] = said {
-            watchers.push(speaker_of(*title, *word, number(*turn)))?;
+            let turn = turn.parse::<u32>().unwrap_or(1);
+            watchers.push(speaker_of(*title, *word, turn))?;
         }
     }
     Ok(watchers)

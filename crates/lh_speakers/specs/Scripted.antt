@@ -4,8 +4,8 @@ use Rattle.lh_types.specs.Raised.{raised}
 use Rattle.lh_watch.specs.declared.watcher.Next.{Next}
 use Rattle.lh_watch.specs.declared.watcher.Next.TheVariants.{Go}
 use Rattle.lh_watch.specs.Members.{Rule}
-use Rattle.lh_answers.specs.declared.watchers.Title.{Title}
-use Rattle.lh_answers.specs.declared.watchers.Title.TheVariants.{A, B, C}
+use Rattle.lh_speakers.specs.declared.speaker.Title.{Title}
+use Rattle.lh_speakers.specs.declared.speaker.Title.TheVariants.{A, B, C}
 
 -- the title of each
 abbrev pub title_of : Title → List ℕ
