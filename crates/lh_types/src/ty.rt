@@ -352,6 +352,12 @@ fn boxed(alloc: Global, t: Ty) -> Result<Box<Ty>, NoMemory>
     Ok(Box::new(alloc, t)?)
 }
 
+fn boxed_pair(alloc: Global, pair: [Ty; 2]) -> Result<Box<[Ty; 2]>, NoMemory>
+    ensures { IfOk result (λ b. b.value ≡ pair) }
+{
+    Ok(Box::new(alloc, pair)?)
+}
+
 // The node of the struct of these fields.
 fn struct_node(fields: TyList) -> Result<Node, NoMemory>
     ensures { IfOk result (λ node. type_of_node node ≡ tuple_type (row_of fields)) }
@@ -368,7 +374,7 @@ fn list_node(alloc: Global, fields: Vec<Ty>) -> Result<Node, NoMemory>
     ensures { IfOk result (λ node. type_of_node node ≡ tuple_type (row_of fields.items)) }
 {
     match <[Ty; 2]>::try_from(fields) {
-        Ok(pair) => Ok(Node::Pair(Box::new(alloc, pair)?)),
+        Ok(pair) => Ok(Node::Pair(boxed_pair(alloc, pair)?)),
         Err(mut list) => {
             list.shrink_to_fit();
             Ok(Node::Tuple(Box::new(alloc, TyList { list })?))
@@ -477,57 +483,38 @@ impl Ty {
     pub fn copy(&self) -> Result<Ty, NoMemory>
         ensures { IfOk result (λ t. t ≡ self.now) }
     {
-        match &self.node {
-            Node::Int(n) => Ok(Ty {
-                node: Node::Int(*n),
-            }),
-            Node::Time => Ok(Ty { node: Node::Time }),
-            Node::Void => Ok(Ty { node: Node::Void }),
-            Node::Array(n, of) => {
-                let inner = of.copy()?;
-                let inner = boxed(*Box::allocator(of), inner)?;
-                Ok(Ty {
-                    node: Node::Array(*n, inner),
-                })
-            }
-            Node::Single(field) => {
-                let inner = field.copy()?;
-                let inner = boxed(*Box::allocator(field), inner)?;
-                Ok(Ty {
-                    node: Node::Single(inner),
-                })
-            }
+        let node = match &self.node {
+            Node::Int(n) => Node::Int(*n),
+            Node::Time => Node::Time,
+            Node::Void => Node::Void,
+            Node::Array(n, of) => Node::Array(*n, copied(of)?),
+            Node::Single(field) => Node::Single(copied(field)?),
             Node::Pair(fields) => {
                 let [first, second] = &**fields;
-                let inner = [first.copy()?, second.copy()?];
-                let inner = Box::new(*Box::allocator(fields), inner)?;
-                Ok(Ty {
-                    node: Node::Pair(inner),
-                })
+                let pair = [first.copy()?, second.copy()?];
+                Node::Pair(boxed_pair(*Box::allocator(fields), pair)?)
             }
-            Node::Tuple(fields) => {
-                let inner = fields.copy()?;
-                let inner = Box::new(*Box::allocator(fields), inner)?;
-                Ok(Ty {
-                    node: Node::Tuple(inner),
-                })
-            }
-            Node::Signal(of) => {
-                let inner = of.copy()?;
-                let inner = boxed(*Box::allocator(of), inner)?;
-                Ok(Ty {
-                    node: Node::Signal(inner),
-                })
-            }
-            Node::Pointer(of) => {
-                let inner = of.copy()?;
-                let inner = boxed(*Box::allocator(of), inner)?;
-                Ok(Ty {
-                    node: Node::Pointer(inner),
-                })
-            }
-        }
+            Node::Tuple(fields) => Node::Tuple(copied_list(fields)?),
+            Node::Signal(of) => Node::Signal(copied(of)?),
+            Node::Pointer(of) => Node::Pointer(copied(of)?),
+        };
+        Ok(Ty { node })
     }
+}
+
+#[cycle(copy)]
+fn copied(of: &Box<Ty>) -> Result<Box<Ty>, NoMemory>
+    ensures { IfOk result (λ b. b.value ≡ of.now.value) }
+{
+    boxed(*Box::allocator(of), of.copy()?)
+}
+
+#[cycle(copy)]
+fn copied_list(of: &Box<TyList>) -> Result<Box<TyList>, NoMemory>
+    ensures { IfOk result (λ b. b.value ≡ of.now.value) }
+{
+    let list = of.copy()?;
+    Ok(Box::new(*Box::allocator(of), list)?)
 }
 
 impl TyList {
