@@ -19,7 +19,7 @@ use Rattle.lh_unit.proofs.Texts.{Agree, maybe-same, inst-same}
 use Rattle.lh_emission.specs.Names.{value_name, free_number}
 use Rattle.lh_emission.specs.Emitted.{Source, Emitted, gives, puts, next_name}
 use Rattle.lh_body.specs.Fresh.{IsFresh, PassesOver}
-use Rattle.lh_body.specs.Lines.{most_lines, naming, line_text, values_alone, IsNamedLine, LinesAreEmitted, HasRoom, BeginsWith, AddsArg, arg_names, result_name, NamesGrow, GivesValue, GivesOne, PutsOne}
+use Rattle.lh_body.specs.Lines.{most_lines, naming, line_text, values_alone, IsNamedLine, LinesAreEmitted, HasRoom, BeginsWith, AddsArg, arg_names, result_name, NamesGrow, NamesNext, with_line, GivesValue, GivesOne, PutsOne}
 use Rattle.lh_body.specs.declared.lines.BodyLine.{BodyLine}
 use Rattle.lh_body.specs.declared.lines.EmitFault.{EmitFault}
 use Rattle.lh_body.specs.declared.lines.EmitFault.TheVariants as fault
@@ -187,6 +187,11 @@ module _ (old new : Lines) (i : Inst) (h : HasRoom old) (w : InstWithin (values_
           named = subst (λ (ns : List (List ℕ)). Each (IsNamedLine (length ns)) new.lines) (sym nn) (subst (Each (IsNamedLine (length names2))) (sym nl) named2);
         },
       )
+
+  pub gives-named : (mid : Lines) (v : ValueId) → NamesNext old mid v → new.lines ≡ with_line mid.lines (Some v) i → new.names ≡ mid.names → new.fresh ≡ mid.fresh → GivesValue old i new v
+  gives-named mid v n nl nn nf =
+      gives-one v n.name n.id (nn ∙ n.names) (nl ∙ ap (λ ls. with_line ls (Some v) i) n.lines) n.named (λ args f. ap (λ (x : Fresh). x.next) nf ∙ n.next args f)
+      (λ args f. subst (IsFresh args) (sym nf) (n.fresh args f)) (ap (λ (x : Fresh). x.count) nf ∙ n.count) (rw nf n.near)
 
   pub puts-one : new.names ≡ old.names → new.lines ≡ old.lines ++ record { result = None; inst = i } ∷ [] → new.fresh ≡ old.fresh → PutsOne old i new (Ok tt)
   puts-one nn nl nf =

@@ -6,6 +6,7 @@ use Rattle.lh_unit.specs.Naming.{Naming, value_text, maybe_text, inst_text}
 use Rattle.lh_unit.specs.Within.{Sizes, Each, MaybeWithin, InstWithin}
 use Rattle.lh_unit.specs.declared.inst.ValueId.{ValueId}
 use Rattle.lh_unit.specs.declared.inst.Inst.{Inst}
+use Rattle.lh_emission.specs.Names.{value_name, free_number}
 use Rattle.lh_emission.specs.Emitted.{Source, Emitted, gives, puts, next_name}
 use Rattle.lh_body.specs.Fresh.{IsFresh}
 use Rattle.lh_body.specs.declared.lines.BodyLine.{BodyLine}
@@ -69,6 +70,22 @@ pub record BeginsWith (args : List ArgText) (ls : Lines) : Type 0 where
 -- with one more argument of this name
 abbrev pub AddsArg : List ℕ → Lines → Lines → Type 0
 AddsArg n old new = ((args : List ArgText) (a : ArgText) → a.name ≡ n → BeginsWith args old → BeginsWith (args ++ a ∷ []) new) × HasRoom new
+
+-- The next value has its id and its name; no instruction gives it yet.
+pub record NamesNext (old new : Lines) (v : ValueId) : Type 0 where
+  pub name : List ℕ
+  pub id : v.0 ≡ length old.names
+  pub names : new.names ≡ old.names ++ name ∷ []
+  pub lines : new.lines ≡ old.lines
+  pub named : (args : List ArgText) → IsFresh args old.fresh → name ≡ value_name (free_number args old.fresh.next)
+  pub next : (args : List ArgText) → IsFresh args old.fresh → new.fresh.next ≡ free_number args old.fresh.next + 1
+  pub fresh : (args : List ArgText) → IsFresh args old.fresh → IsFresh args new.fresh
+  pub count : new.fresh.count ≡ old.fresh.count
+  pub near : new.fresh.next ≤ old.fresh.next + old.fresh.count + 1
+
+-- one more line, with this result
+abbrev pub with_line : List BodyLine → Option ValueId → Inst → List BodyLine
+with_line lines v i = lines ++ record { result = v; inst = i } ∷ []
 
 -- names were added, and those that were there keep their ids
 abbrev pub NamesGrow : List (List ℕ) → List (List ℕ) → Type 0

@@ -1,7 +1,7 @@
 //! The instructions of an entity underway, with the names of their values.
 ghost use Rattle.std.specs.Prelude.{◌≡◌, ◌<◌, [], length, IfOk, OnOk};
 ghost use Rattle.lh_unit.specs.Within.{InstWithin};
-ghost use Rattle.lh_body.specs.Lines.{most_lines, values_alone, HasRoom, BeginsWith, AddsArg, GivesValue, GivesOne, PutsOne};
+ghost use Rattle.lh_body.specs.Lines.{most_lines, values_alone, HasRoom, BeginsWith, AddsArg, NamesNext, with_line, GivesValue, GivesOne, PutsOne};
 
 use crate::names::Fresh;
 use lh_names::name::Name;
@@ -47,6 +47,8 @@ pub struct BodyLine {
 pub type BodyLineList = ListOf<BodyLine>;
 
 /// The instructions so far.
+///
+/// An instruction that is not added is dropped by a call: where it goes out of scope, its destructor would be written out in place.
 #[derive(Drop)]
 pub struct Lines {
     fresh: Fresh,
@@ -90,6 +92,7 @@ impl Lines {
         ensures { GivesOne self.old inst self.new result }
     {
         if self.lines.len() == MAX_LINES {
+            drop(inst);
             return Err(EmitFault::EntityTooLarge);
         }
         Ok(self.give_line(inst)?)
@@ -101,14 +104,35 @@ impl Lines {
         requires named { InstWithin (values_alone (length self.old.names)) inst }
         ensures { IfOk result (λ value. GivesValue self.old inst self.new value) }
     {
+        let Ok(value) = self.name_next() else {
+            drop(inst);
+            return Err(NoMemory);
+        };
+        self.add(Some(value), inst)?;
+        Ok(value)
+    }
+
+    // The id of the next value, which gets its name.
+    fn name_next(&mut self) -> Result<ValueId, NoMemory>
+        requires { HasRoom self.old }
+        ensures { IfOk result (λ value. NamesNext self.old self.new value) }
+    {
         let value = next_id(self.names.len())?;
         let name = self.fresh.name()?;
         self.names.push(name)?;
+        Ok(value)
+    }
+
+    fn add(&mut self, value: Option<ValueId>, inst: Inst) -> Result<(), NoMemory>
+        ensures added { OnOk result (self.new.lines ≡ with_line self.old.lines value inst) }
+        ensures names { self.new.names ≡ self.old.names }
+        ensures fresh { self.new.fresh ≡ self.old.fresh }
+    {
         self.lines.push(BodyLine {
-            result: Some(value),
+            result: value,
             inst,
         })?;
-        Ok(value)
+        Ok(())
     }
 
     /// Adds an instruction that gives none.
@@ -119,10 +143,10 @@ impl Lines {
         ensures { PutsOne self.old inst self.new result }
     {
         if self.lines.len() == MAX_LINES {
+            drop(inst);
             return Err(EmitFault::EntityTooLarge);
         }
-        self.lines.push(BodyLine { result: None, inst })?;
-        Ok(())
+        Ok(self.add(None, inst)?)
     }
 }
 

@@ -13,9 +13,3 @@ returns-in_err-give_line c = gives-nothing c.args.self.now c.give_line.new.self 
 
 pub returns : goal.returns
 returns c = c.in_ok-give_line.ensures
-
-pub array_drop-inst-requires : goal.array_drop-inst-requires
-array_drop-inst-requires c = omega arith
-
-pub array_drop-requires : goal.array_drop-requires
-array_drop-requires c = omega arith
