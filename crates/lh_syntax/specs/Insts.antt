@@ -135,6 +135,12 @@ operands_at ts = do
   b ← punct_at 41 r.1
   Some (r.0, b)
 
+-- operands in parentheses behind an arrow
+unfoldable pub outputs_at : List Lexeme → Option (List Operand × List Lexeme)
+outputs_at ts = do
+  a ← arrow_at ts
+  operands_at a
+
 -- behind `inst`
 unfoldable pub child_at : List Lexeme → Option InstText
 child_at ts = do

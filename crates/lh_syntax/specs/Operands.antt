@@ -1,5 +1,5 @@
 -- The operands in front of the tokens, and the other parts of which lists are made.
-use Rattle.std.specs.Prelude.{ℕ, List, [], ◌∷◌, Option, Some, None, codes}
+use Rattle.std.specs.Prelude.{ℕ, List, [], ◌∷◌, ◌++◌, Option, Some, None, codes}
 use Rattle.lh_unit.specs.Lexemes.{Lexeme}
 use Rattle.lh_unit.specs.Spells.{TypedName}
 use Rattle.lh_unit.specs.Typing.{or_else}
@@ -53,6 +53,12 @@ two_at ts = do
   a ← typed_at ts
   b ← next_bare_at a.1
   Some (a.0 ∷ b.0 ∷ [], b.1)
+
+-- these operands and `, ?%a`
+unfoldable pub and_free_at : List Operand → List Lexeme → Option (List Operand × List Lexeme)
+and_free_at os ts = do
+  o ← next_free_at ts
+  Some (os ++ o.0 ∷ [], o.1)
 
 -- `D %b, ?%h, ?%n`
 unfoldable pub shift_at : List Lexeme → Option (List Operand × List Lexeme)

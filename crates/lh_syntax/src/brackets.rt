@@ -46,12 +46,22 @@ fn repeat<'a>(alloc: Global, tokens: &Tokens<'a>) -> Result<InstSyntax<'a>, Scan
     repeated(alloc, len, operand)
 }
 
+/// Whether so many of an operand are an array, where its type is there.
+fn are_array(alloc: Global, len: u32, operand: &Operand) -> Result<bool, NoMemory>
+    ensures { IfOk result (λ b. b ≡ fits_array len operand.now.ty) }
+{
+    match &operand.ty {
+        Some(of) => is_array(alloc, len, of),
+        None => Ok(false),
+    }
+}
+
 /// The array of so many of an operand, where there is its type.
 fn repeated<'a>(alloc: Global, len: u32, operand: Operand<'a>) -> Result<InstSyntax<'a>, ScanFault>
     ensures { FindsAs inst_of result (repeated_of len operand.entry) }
 {
-    let of = operand.ty.as_ref().ok_or(NotSpelled)?;
-    if !is_array(alloc, len, of)? {
+    if !are_array(alloc, len, &operand)? {
+        drop(operand);
         return Err(NotSpelled);
     }
     let mut args = ListOf::new(alloc);
@@ -104,8 +114,8 @@ fn array<'a>(alloc: Global, tokens: &Tokens<'a>) -> Result<InstSyntax<'a>, ScanF
     ensures { FindsAs inst_of result (array_at tokens.now) }
 {
     let (args, rest) = parts(alloc, tokens)?;
-    last_mark(&rest, b']').ok_or(NotSpelled)?;
-    if !are_elements(alloc, args.as_slice())? {
+    if last_mark(&rest, b']').is_none() || !are_elements(alloc, args.as_slice())? {
+        drop(args);
         return Err(NotSpelled);
     }
     let op = Op::Array;
@@ -158,8 +168,8 @@ pub fn tuple<'a>(alloc: Global, tokens: &Tokens<'a>) -> Result<InstSyntax<'a>, S
     ensures { FindsAs inst_of result (tuple_at tokens.now) }
 {
     let (args, rest) = parts(alloc, tokens)?;
-    last_mark(&rest, b'}').ok_or(NotSpelled)?;
-    if !are_fields(alloc, args.as_slice())? {
+    if last_mark(&rest, b'}').is_none() || !are_fields(alloc, args.as_slice())? {
+        drop(args);
         return Err(NotSpelled);
     }
     let op = Op::Tuple;

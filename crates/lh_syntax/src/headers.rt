@@ -122,12 +122,16 @@ fn func<'a>(alloc: Global, name: UnitNameText<'a>, tokens: &Tokens<'a>) -> LineA
     ensures { FindsAs item_of result (func_at (unit_name_of name.entry) tokens.now) }
 {
     let (params, rest) = params(alloc, tokens)?;
-    let (result, rest) = ty(alloc, &rest)?;
-    brace(&rest).ok_or(NotSpelled)?;
-    if !have_values(params.as_slice()) {
-        return Err(NotSpelled);
-    }
-    if !is_result_type(&result) {
+    let (result, rest) = match ty(alloc, &rest) {
+        Ok(read) => read,
+        Err(fault) => {
+            drop(params);
+            return Err(fault);
+        }
+    };
+    if brace(&rest).is_none() || !have_values(params.as_slice()) || !is_result_type(&result) {
+        drop(params);
+        drop(result);
         return Err(NotSpelled);
     }
     Ok(LineSyntax::Func {
@@ -145,11 +149,12 @@ fn ports<'a>(alloc: Global, tokens: &Tokens<'a>) -> Result<Ports<'a>, ScanFault>
     let (inputs, rest) = params(alloc, tokens)?;
     let rest = rest.arrow().ok_or(NotSpelled)?;
     let (outputs, rest) = params(alloc, &rest)?;
-    brace(&rest).ok_or(NotSpelled)?;
-    if !have_signals(inputs.as_slice()) {
-        return Err(NotSpelled);
-    }
-    if !have_signals(outputs.as_slice()) {
+    if brace(&rest).is_none()
+        || !have_signals(inputs.as_slice())
+        || !have_signals(outputs.as_slice())
+    {
+        drop(inputs);
+        drop(outputs);
         return Err(NotSpelled);
     }
     Ok(Ports { inputs, outputs })
@@ -184,11 +189,9 @@ fn declare_func<'a>(
     ensures { FindsAs item_of result (declare_func_at (unit_name_of name.entry) params tokens.now) }
 {
     let (result, rest) = ty(alloc, tokens)?;
-    rest.end().ok_or(NotSpelled)?;
-    if !are_value_types(params.as_slice()) {
-        return Err(NotSpelled);
-    }
-    if !is_result_type(&result) {
+    if rest.end().is_none() || !are_value_types(params.as_slice()) || !is_result_type(&result) {
+        drop(params);
+        drop(result);
         return Err(NotSpelled);
     }
     Ok(LineSyntax::DeclareFunc {
@@ -209,11 +212,9 @@ fn declare_unit<'a>(
     ensures { FindsAs item_of result (declare_unit_at (unit_name_of name.entry) inputs tokens.now) }
 {
     let (outputs, rest) = types(alloc, tokens)?;
-    rest.end().ok_or(NotSpelled)?;
-    if !are_signals(inputs.as_slice()) {
-        return Err(NotSpelled);
-    }
-    if !are_signals(outputs.as_slice()) {
+    if rest.end().is_none() || !are_signals(inputs.as_slice()) || !are_signals(outputs.as_slice()) {
+        drop(inputs);
+        drop(outputs);
         return Err(NotSpelled);
     }
     Ok(LineSyntax::DeclareUnit {

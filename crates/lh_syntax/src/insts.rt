@@ -3,7 +3,7 @@ ghost use Rattle.std.specs.Prelude.{◌≡◌, option_map};
 ghost use Rattle.lh_scan.specs.Found.{ReadsAsFound, FindsAs};
 ghost use Rattle.lh_types.specs.ValueOf.{datum_of};
 ghost use Rattle.lh_syntax.specs.SyntaxOf.{inst_of};
-ghost use Rattle.lh_syntax.specs.Insts.{constant_at, const_at, last_typed_at, last_local_at, var_at, ld_at, sig_at, prb_at, target_at, st_at, after_at, if_after_at, delay_at, drv_at, reg_at, operands_at, child_at, call_at, phi_at, branch_at, br_at, wait_at, halt_at, ret_at, form_at, worded_at, marked_at, inst_at};
+ghost use Rattle.lh_syntax.specs.Insts.{constant_at, const_at, last_typed_at, last_local_at, var_at, ld_at, sig_at, prb_at, target_at, st_at, after_at, if_after_at, delay_at, drv_at, reg_at, operands_at, outputs_at, child_at, call_at, phi_at, branch_at, br_at, wait_at, halt_at, ret_at, form_at, worded_at, marked_at, inst_at};
 
 use crate::brackets::{bracket, tuple};
 use crate::operands::{OperandsAt, maybe, typed};
@@ -165,8 +165,14 @@ fn drv<'a>(alloc: Global, tokens: &Tokens<'a>) -> InstAt<'a>
     ensures { FindsAs inst_of result (drv_at tokens.now) }
 {
     let (to, rest) = target(alloc, tokens)?;
-    let (value, rest) = rest.local().ok_or(NotSpelled)?;
-    let (after, cond) = delay(&rest).ok_or(NotSpelled)?;
+    let Some((value, rest)) = rest.local() else {
+        drop(to);
+        return Err(NotSpelled);
+    };
+    let Some((after, cond)) = delay(&rest) else {
+        drop(to);
+        return Err(NotSpelled);
+    };
     Ok(InstSyntax::Drv {
         to,
         value,
@@ -197,16 +203,34 @@ fn operands<'a>(alloc: Global, tokens: &Tokens<'a>) -> OperandsAt<'a>
     Ok((operands, rest))
 }
 
+/// Operands in parentheses behind an arrow, and what follows them.
+#[tactic(auto, unfolding(crate::specs::Insts::outputs_at))]
+fn outputs<'a>(alloc: Global, tokens: &Tokens<'a>) -> OperandsAt<'a>
+    ensures { ReadsAsFound result (outputs_at tokens.now) }
+{
+    let rest = tokens.arrow().ok_or(NotSpelled)?;
+    operands(alloc, &rest)
+}
+
 /// Behind `inst`.
-#[tactic(auto, unfolding(crate::specs::Insts::child_at))]
+#[tactic(auto, unfolding(crate::specs::Insts::child_at, crate::specs::Insts::outputs_at))]
 fn child<'a>(alloc: Global, tokens: &Tokens<'a>) -> InstAt<'a>
     ensures { FindsAs inst_of result (child_at tokens.now) }
 {
     let (unit, rest) = tokens.unit_name().ok_or(NotSpelled)?;
     let (inputs, rest) = operands(alloc, &rest)?;
-    let rest = rest.arrow().ok_or(NotSpelled)?;
-    let (outputs, rest) = operands(alloc, &rest)?;
-    rest.end().ok_or(NotSpelled)?;
+    let (outputs, rest) = match outputs(alloc, &rest) {
+        Ok(read) => read,
+        Err(fault) => {
+            drop(inputs);
+            return Err(fault);
+        }
+    };
+    if rest.end().is_none() {
+        drop(inputs);
+        drop(outputs);
+        return Err(NotSpelled);
+    }
     Ok(InstSyntax::Child {
         unit,
         inputs,
@@ -222,7 +246,10 @@ fn call<'a>(alloc: Global, tokens: &Tokens<'a>) -> InstAt<'a>
     let (result, rest) = ty(alloc, tokens)?;
     let (unit, rest) = rest.unit_name().ok_or(NotSpelled)?;
     let (args, rest) = operands(alloc, &rest)?;
-    rest.end().ok_or(NotSpelled)?;
+    if rest.end().is_none() {
+        drop(args);
+        return Err(NotSpelled);
+    }
     Ok(InstSyntax::Call { unit, result, args })
 }
 

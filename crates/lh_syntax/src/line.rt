@@ -66,6 +66,7 @@ fn assigned<'a>(alloc: Global, name: NameText<'a>, tokens: &Tokens<'a>) -> LineA
     let rest = tokens.punct(b'=').ok_or(NotSpelled)?;
     let inst = inst(alloc, &rest)?;
     if !gives_value(&inst) {
+        drop(inst);
         return Err(NotSpelled);
     }
     let result = Some(name);
@@ -79,6 +80,7 @@ fn alone<'a>(alloc: Global, word: &[u8], tokens: &Tokens<'a>) -> LineAt<'a>
 {
     let inst = worded(alloc, word, tokens)?;
     if !may_stand_alone(&inst) {
+        drop(inst);
         return Err(NotSpelled);
     }
     let result = None;

@@ -1,7 +1,7 @@
 //! The operands in front of the tokens, and the other parts of which lists are made.
-ghost use Rattle.std.specs.Prelude.{◌≡◌};
+ghost use Rattle.std.specs.Prelude.{◌≡◌, ◌++◌, ◌∷◌, [], IfOk};
 ghost use Rattle.lh_scan.specs.Found.{ReadsAsFound};
-ghost use Rattle.lh_syntax.specs.Operands.{typed_at, bare_at, free_at, one_at, next_bare_at, next_free_at, two_at, shift_at, columns_at, maybe_at, trigger_at, edge_at, param_at};
+ghost use Rattle.lh_syntax.specs.Operands.{typed_at, bare_at, free_at, one_at, next_bare_at, next_free_at, two_at, and_free_at, shift_at, columns_at, maybe_at, trigger_at, edge_at, param_at};
 
 use crate::syntax::{EdgeSyntax, Operand, Param, TriggerSyntax};
 use crate::words::{Columns, find_mode};
@@ -10,6 +10,7 @@ use lh_scan::list::Part;
 use lh_scan::tokens::{NameText, Tokens};
 use lh_scan::types::ty;
 use lh_types::list::ListOf;
+use lh_types::ty::NoMemory;
 use std::alloc::Global;
 
 /// Operands, and what follows them.
@@ -59,15 +60,33 @@ impl<'a> Part<'a> for Operand<'a> {
     ghost shorter = { free_at-shorter };
 }
 
-/// `D %a`, and what follows it.
+/// Operands and one more.
+fn with<'a>(
+    mut operands: ListOf<Operand<'a>>,
+    operand: Operand<'a>,
+) -> Result<ListOf<Operand<'a>>, NoMemory>
+    ensures { IfOk result (λ list. list ≡ operands.entry ++ operand.entry ∷ []) }
+{
+    if operands.push(operand).is_err() {
+        drop(operands);
+        return Err(NoMemory);
+    }
+    Ok(operands)
+}
+
+/// `D %a` in a list with room for so many, and what follows it.
 #[tactic(auto, unfolding(crate::specs::Operands::one_at))]
-fn one<'a>(alloc: Global, tokens: &Tokens<'a>) -> OperandsAt<'a>
+fn first<'a>(alloc: Global, room: usize, tokens: &Tokens<'a>) -> OperandsAt<'a>
     ensures { ReadsAsFound result (one_at tokens.now) }
 {
-    let (a, rest) = typed(alloc, tokens)?;
-    let mut operands = ListOf::with_room(alloc, 1)?;
-    operands.push(a)?;
-    Ok((operands, rest))
+    let operands = ListOf::with_room(alloc, room)?;
+    match typed(alloc, tokens) {
+        Ok((a, rest)) => Ok((with(operands, a)?, rest)),
+        Err(fault) => {
+            drop(operands);
+            Err(fault)
+        }
+    }
 }
 
 /// `, %a`, and what follows it.
@@ -79,16 +98,18 @@ fn next_bare<'a>(tokens: &Tokens<'a>) -> Option<(Operand<'a>, Tokens<'a>)>
 }
 
 /// `D %a, %b`, and what follows it.
-#[tactic(auto, unfolding(crate::specs::Operands::two_at))]
+#[tactic(auto, unfolding(crate::specs::Operands::two_at, crate::specs::Operands::one_at))]
 fn two<'a>(alloc: Global, tokens: &Tokens<'a>) -> OperandsAt<'a>
     ensures { ReadsAsFound result (two_at tokens.now) }
 {
-    let (a, rest) = typed(alloc, tokens)?;
-    let (b, rest) = next_bare(&rest).ok_or(NotSpelled)?;
-    let mut operands = ListOf::with_room(alloc, 2)?;
-    operands.push(a)?;
-    operands.push(b)?;
-    Ok((operands, rest))
+    let (operands, rest) = first(alloc, 2, tokens)?;
+    match next_bare(&rest) {
+        Some((b, rest)) => Ok((with(operands, b)?, rest)),
+        None => {
+            drop(operands);
+            Err(NotSpelled)
+        }
+    }
 }
 
 /// `, ?%a`, and what follows it.
@@ -99,19 +120,28 @@ fn next_free<'a>(alloc: Global, tokens: &Tokens<'a>) -> Result<(Operand<'a>, Tok
     free(alloc, &rest)
 }
 
+/// These operands and `, ?%a`, and what follows it.
+#[tactic(auto, unfolding(crate::specs::Operands::and_free_at))]
+fn and_free<'a>(alloc: Global, operands: ListOf<Operand<'a>>, tokens: &Tokens<'a>) -> OperandsAt<'a>
+    ensures { ReadsAsFound result (and_free_at operands.entry tokens.now) }
+{
+    match next_free(alloc, tokens) {
+        Ok((operand, rest)) => Ok((with(operands, operand)?, rest)),
+        Err(fault) => {
+            drop(operands);
+            Err(fault)
+        }
+    }
+}
+
 /// `D %b, ?%h, ?%n`, and what follows it.
-#[tactic(auto, unfolding(crate::specs::Operands::shift_at))]
+#[tactic(auto, unfolding(crate::specs::Operands::shift_at, crate::specs::Operands::one_at, crate::specs::Operands::and_free_at))]
 fn shift<'a>(alloc: Global, tokens: &Tokens<'a>) -> OperandsAt<'a>
     ensures { ReadsAsFound result (shift_at tokens.now) }
 {
-    let (base, rest) = typed(alloc, tokens)?;
-    let (hidden, rest) = next_free(alloc, &rest)?;
-    let (amount, rest) = next_free(alloc, &rest)?;
-    let mut operands = ListOf::with_room(alloc, 3)?;
-    operands.push(base)?;
-    operands.push(hidden)?;
-    operands.push(amount)?;
-    Ok((operands, rest))
+    let (base, rest) = first(alloc, 3, tokens)?;
+    let (both, rest) = and_free(alloc, base, &rest)?;
+    and_free(alloc, both, &rest)
 }
 
 /// The operands of an operation, and what follows them.
@@ -119,7 +149,7 @@ pub fn columns<'a>(alloc: Global, columns: Columns, tokens: &Tokens<'a>) -> Oper
     ensures { ReadsAsFound result (columns_at columns tokens.now) }
 {
     match columns {
-        Columns::One => one(alloc, tokens),
+        Columns::One => first(alloc, 1, tokens),
         Columns::Two => two(alloc, tokens),
         Columns::Shift => shift(alloc, tokens),
     }
