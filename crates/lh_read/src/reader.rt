@@ -208,9 +208,13 @@ impl Reader {
         ensures order { OnOk result (IsInOrder self.new) }
     {
         let Some(unit) = self.place.block_unit() else {
+            drop(inst);
             return Err(LineFault::Syntax);
         };
-        let value = maybe_id(alloc, &mut self.module, unit, name)?;
+        let Ok(value) = maybe_id(alloc, &mut self.module, unit, name) else {
+            drop(inst);
+            return Err(LineFault::OutOfMemory);
+        };
         let inst = instruction(alloc, &mut self.types, &mut self.module, unit, inst)?;
         self.module.add_inst(unit, value, inst)?;
         self.place = self.place.behind_inst();

@@ -66,9 +66,21 @@ pub fn shape_of_regions(
         let Regions { first, .. } = regions;
         return Ok(Shape::Once(first.drives));
     }
-    match reason_of(alloc, terms, &regions)? {
+    let shape = by_reasons(alloc, terms, &regions);
+    drop(regions);
+    shape
+}
+
+/// The shape of a process that does not run once.
+fn by_reasons(alloc: Global, terms: &mut Terms, regions: &Regions) -> Result<Shape, NoMemory>
+    requires fits { RegionsFit terms.old regions.now }
+    requires later { ids.once_only regions.now.first ≡ false }
+    ensures is { IfOk result (λ shape. (x : RegionsOf) → AreRegions terms.old regions.now x → IsShape terms.new shape (shape_by_rows x)) }
+    ensures kept { Grows terms.old terms.new }
+{
+    match reason_of(alloc, terms, regions)? {
         Some(reason) => Ok(Shape::Left(reason)),
-        None => by_conditions(alloc, terms, &regions),
+        None => by_conditions(alloc, terms, regions),
     }
 }
 

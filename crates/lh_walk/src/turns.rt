@@ -37,9 +37,20 @@ pub fn walk_from(
         rows: Rows::new(alloc),
         sources: EdgeList::new(alloc),
     };
-    walk.treat(alloc, region, terms, at)?;
-    walk.treat_turns(alloc, region, terms, at.block + 1)?;
-    Ok(walk)
+    match walk.treat(alloc, region, terms, at) {
+        Ok(()) => {}
+        Err(fault) => {
+            drop(walk);
+            return Err(fault);
+        }
+    }
+    match walk.treat_turns(alloc, region, terms, at.block + 1) {
+        Ok(()) => Ok(walk),
+        Err(fault) => {
+            drop(walk);
+            Err(fault)
+        }
+    }
 }
 
 impl Walk {

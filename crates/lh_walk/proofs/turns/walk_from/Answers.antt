@@ -1,5 +1,4 @@
 use Rattle.std.proofs.Common.{refl, arith}
-use Rattle.std.proofs.lemmas.Result.{err_from_is_err_and}
 use Rattle.lh_walk.proofs.Through.{fresh, start-can, start-turn, start-within, goes-through, goes-not-first, goes-not-later}
 use Rattle.lh_walk.proofs.turns.walk_from.Goals as goal
 
@@ -10,15 +9,12 @@ treat-requires c =
     (fresh c.args.region.now c.args.places.items (record { places = c.args.places; ahead = c.in_ok-new.field-0; insts = 0; rows = c.new-2.result; sources = c.new-3.result }) c.len.result c.len.ensures
     refl c.in_ok-new.ensures.here c.in_ok-new.ensures.next refl c.new-2.ensures.probes c.new-2.ensures.drives c.new-2.ensures.asserts c.new-2.ensures.ends c.new-3.ensures) c.requires.start
 
-pub returns-in_err-treat-clause-cause : goal.returns-in_err-treat-clause-cause
-returns-in_err-treat-clause-cause c =
-    let p = err_from_is_err_and c.from_residual-in_err-treat.result c.from_residual-in_err-treat.ensures.1 in
-    rw (p.1, p.2)
-    (goes-not-first c.args.terms.now c.args.region.now c.args.places.items c.args.at
+pub returns-in-Err-clause-cause : goal.returns-in-Err-clause-cause
+returns-in-Err-clause-cause c =
+    goes-not-first c.args.terms.now c.args.region.now c.args.places.items c.args.at
     (record { places = c.args.places; ahead = c.in_ok-new.field-0; insts = 0; rows = c.new-2.result; sources = c.new-3.result })
     (fresh c.args.region.now c.args.places.items (record { places = c.args.places; ahead = c.in_ok-new.field-0; insts = 0; rows = c.new-2.result; sources = c.new-3.result }) c.len.result c.len.ensures
-    refl c.in_ok-new.ensures.here c.in_ok-new.ensures.next refl c.new-2.ensures.probes c.new-2.ensures.drives c.new-2.ensures.asserts c.new-2.ensures.ends c.new-3.ensures) c.in_err-treat.field-0.0
-    c.in_err-treat.ensures.cause)
+    refl c.in_ok-new.ensures.here c.in_ok-new.ensures.next refl c.new-2.ensures.probes c.new-2.ensures.drives c.new-2.ensures.asserts c.new-2.ensures.ends c.new-3.ensures) c.in-Err.fault c.in-Err.ensures.cause
 
 pub overflow_add-at : goal.overflow_add-at
 overflow_add-at c = omega (arith, start-within c.args.terms.now c.args.region.now c.args.places.items c.args.at c.requires.start, c.requires.few)
@@ -32,22 +28,20 @@ treat_turns-requires-clause-turn c =
     (record { places = c.args.places; ahead = c.in_ok-new.field-0; insts = 0; rows = c.new-2.result; sources = c.new-3.result })
     (fresh c.args.region.now c.args.places.items (record { places = c.args.places; ahead = c.in_ok-new.field-0; insts = 0; rows = c.new-2.result; sources = c.new-3.result }) c.len.result c.len.ensures
     refl c.in_ok-new.ensures.here c.in_ok-new.ensures.next refl c.new-2.ensures.probes c.new-2.ensures.drives c.new-2.ensures.asserts c.new-2.ensures.ends c.new-3.ensures) c.requires.start
-    c.treat.new.terms c.treat.new.self c.in_ok-treat.ensures.treated
+    c.treat.new.terms c.treat.new.self c.in-Ok.ensures.treated
 
-pub returns-in_err-treat_turns-clause-cause : goal.returns-in_err-treat_turns-clause-cause
-returns-in_err-treat_turns-clause-cause c =
-    let p = err_from_is_err_and c.from_residual-in_err-treat_turns.result c.from_residual-in_err-treat_turns.ensures.1 in
-    rw (p.1, p.2)
-    (goes-not-later c.args.terms.now c.args.region.now c.args.places.items c.args.at
+pub returns-in-Err-treat_turns-clause-cause : goal.returns-in-Err-treat_turns-clause-cause
+returns-in-Err-treat_turns-clause-cause c =
+    goes-not-later c.args.terms.now c.args.region.now c.args.places.items c.args.at
     (record { places = c.args.places; ahead = c.in_ok-new.field-0; insts = 0; rows = c.new-2.result; sources = c.new-3.result })
     (fresh c.args.region.now c.args.places.items (record { places = c.args.places; ahead = c.in_ok-new.field-0; insts = 0; rows = c.new-2.result; sources = c.new-3.result }) c.len.result c.len.ensures
     refl c.in_ok-new.ensures.here c.in_ok-new.ensures.next refl c.new-2.ensures.probes c.new-2.ensures.drives c.new-2.ensures.asserts c.new-2.ensures.ends c.new-3.ensures) c.treat.new.terms
-    c.treat.new.self c.in_ok-treat.ensures.treated c.in_err-treat_turns.field-0.0 c.in_err-treat_turns.ensures.cause)
+    c.treat.new.self c.in-Ok.ensures.treated c.in-Err-treat_turns.fault c.in-Err-treat_turns.ensures.cause
 
-pub returns-clause-through : goal.returns-clause-through
-returns-clause-through c =
+pub returns-in-Ok-treat_turns-clause-through : goal.returns-in-Ok-treat_turns-clause-through
+returns-in-Ok-treat_turns-clause-through c =
     goes-through c.args.terms.now c.args.region.now c.args.places.items c.args.at
     (record { places = c.args.places; ahead = c.in_ok-new.field-0; insts = 0; rows = c.new-2.result; sources = c.new-3.result })
     (fresh c.args.region.now c.args.places.items (record { places = c.args.places; ahead = c.in_ok-new.field-0; insts = 0; rows = c.new-2.result; sources = c.new-3.result }) c.len.result c.len.ensures
     refl c.in_ok-new.ensures.here c.in_ok-new.ensures.next refl c.new-2.ensures.probes c.new-2.ensures.drives c.new-2.ensures.asserts c.new-2.ensures.ends c.new-3.ensures) c.treat.new.terms
-    c.treat.new.self c.in_ok-treat.ensures.treated c.treat_turns.new.terms c.treat_turns.new.self c.in_ok-treat_turns.ensures.passed
+    c.treat.new.self c.in-Ok.ensures.treated c.treat_turns.new.terms c.treat_turns.new.self c.in-Ok-treat_turns.ensures.passed
