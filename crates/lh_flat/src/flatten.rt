@@ -7,7 +7,7 @@ ghost use Rattle.lh_flat.specs.Graph.{IsGraph};
 ghost use Rattle.lh_flat.specs.Marks.{UnitsAreNamed};
 ghost use Rattle.lh_descent.specs.Searches.{IsSettled};
 ghost use Rattle.lh_flat.specs.Measures.{measuring};
-ghost use Rattle.lh_flat.specs.Made.{IsMade};
+ghost use Rattle.lh_flat.specs.Made.{IsMade, top_text};
 ghost use Rattle.lh_flat.specs.Below.{IdsBelow};
 ghost use Rattle.lh_flat.specs.Reads.{Flattens};
 
@@ -103,6 +103,19 @@ fn made(alloc: Global, view: UnitView<'_>) -> Result<Flat, NoMemory>
     ensures { IfOk result (IsMade view.entry.module.now view.entry.unit.0) }
 {
     let args = copied(alloc, view.args())?;
+    match text_of(alloc, view) {
+        Ok(text) => Ok(flat_of(args, text)),
+        Err(fault) => {
+            drop(args);
+            Err(fault)
+        }
+    }
+}
+
+/// The text of a process with its calls replaced.
+fn text_of(alloc: Global, view: UnitView<'_>) -> Result<Text, NoMemory>
+    ensures { IfOk result (λ text. text ≡ top_text view.entry.module.now view.entry.unit.0) }
+{
     let place = CopyPlace {
         at: 0,
         from: 0,
@@ -110,13 +123,29 @@ fn made(alloc: Global, view: UnitView<'_>) -> Result<Flat, NoMemory>
     };
     let copy = UnitCopy::new(alloc, MAX_NESTED, view, &[], place)?;
     let mut text = Text::new(alloc, view.values());
-    text.add_unit(MAX_NESTED, &copy)?;
+    let added = text.add_unit(MAX_NESTED, &copy);
+    drop(copy);
+    match added {
+        Ok(()) => Ok(text),
+        Err(fault) => {
+            drop(text);
+            Err(fault)
+        }
+    }
+}
+
+/// A text with its arguments.
+fn flat_of(args: ArgList, text: Text) -> Flat
+    ensures args { result.args ≡ args }
+    ensures blocks { result.blocks ≡ text.blocks }
+    ensures values { result.values ≡ text.values }
+{
     let Text { blocks, values, .. } = text;
-    Ok(Flat {
+    Flat {
         args,
         blocks,
         values,
-    })
+    }
 }
 
 /// Equal arguments.
