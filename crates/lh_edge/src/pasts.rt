@@ -109,11 +109,7 @@ fn some_past(_terms: &Terms, xs: &[TermId], pasts: &HashSet<usize>) -> bool
 }
 
 /// The conjunction of the conjuncts that have a value before in them.
-pub(crate) fn edge_part(
-    alloc: Global,
-    terms: &mut Terms,
-    cond: TermId,
-) -> Result<TermId, NoMemory>
+pub(crate) fn edge_part(alloc: Global, terms: &mut Terms, cond: TermId) -> Result<TermId, NoMemory>
     requires is_in { IsIn terms.old cond }
     requires bit { type_of (tree_at (trees terms.old) cond) ≡ int_type 1 }
     ensures made { IfOk result (λ e. StandsForTree terms.new e (spec.edge_part (tree_at (trees terms.old) cond))) }
@@ -126,11 +122,7 @@ pub(crate) fn edge_part(
 }
 
 /// The conjunction of those of some conditions that have a value before in them.
-fn conjoined(
-    terms: &mut Terms,
-    xs: &[TermId],
-    pasts: &HashSet<usize>,
-) -> Result<TermId, NoMemory>
+fn conjoined(terms: &mut Terms, xs: &[TermId], pasts: &HashSet<usize>) -> Result<TermId, NoMemory>
     requires are_in { AreIn terms.old xs.now }
     requires bits { AllBits (trees_at terms.old xs.now) }
     requires tells { Tells terms.old spec.contains_past (hash.contains nat_eq pasts.now) xs.now }
