@@ -8,7 +8,7 @@ use Rattle.lh_term.specs.Tree.{Tree, constant, past_of, now_of, operation, choic
 use Rattle.lh_term.specs.SameTree.{same_tree, same_tree-is, same_tree-refl}
 use Rattle.lh_term.specs.Same.{nat_eq-is, nat_eq-refl}
 use Rattle.lh_term.specs.Arena.{tree_at, trees, trees_at, term_tree, ids_below, IsIn, AreIn, Grows}
-use Rattle.lh_term.proofs.Arenas.{lt_of, of_lt, map_push, map_append, get_within}
+use Rattle.lh_term.proofs.Arenas.{lt_of, of_lt, map_push, map_append}
 use Rattle.lh_term.proofs.Swaps.{term_there, tree_grown, in_grown, grows_on}
 use Rattle.lh_edge.specs.Atoms.{is_one_bit, is_connective, subterms, subterms_in, presents, has, atoms_of}
 use Rattle.lh_edge.specs.Reached.{joined_by, is_atom, is_on, GoOn, none_left, PassesOn, AreReached}

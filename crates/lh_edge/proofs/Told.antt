@@ -1,5 +1,5 @@
 -- What is told of terms, from the lowest id upwards.
-use Rattle.std.proofs.Common.{◌≡◌, ℕ, zero, suc, ◌+◌, ◌-◌, ◌<◌, ◌≤◌, ◌⊎◌, inl, inr, Bool, true, false, ◌||◌, nat_eq, if◌then◌else◌, List, [], ◌∷◌, length, drop, get_or, refl, ap, sym, ◌∙◌, subst, arith, Some, slice_get, drop-cons}
+use Rattle.std.proofs.Common.{◌≡◌, ℕ, zero, suc, ◌-◌, ◌<◌, ◌≤◌, inl, inr, Bool, true, false, ◌||◌, nat_eq, if◌then◌else◌, List, [], ◌∷◌, length, drop, get_or, refl, ap, sym, ◌∙◌, subst, arith, drop-cons}
 use Rattle.lh_term.specs.declared.term.TermId.{TermId}
 use Rattle.lh_term.specs.declared.term.Term.{Term}
 use Rattle.lh_term.specs.declared.term.Term.TheVariants.{Op as Applied, Choice}
@@ -8,7 +8,7 @@ use Rattle.lh_term.specs.Reach.{operands_of}
 use Rattle.lh_term.specs.declared.term.Node.{Node}
 use Rattle.lh_term.specs.Tree.{Tree}
 use Rattle.lh_term.specs.Same.{nat_eq-is, nat_eq-refl}
-use Rattle.lh_term.specs.Arena.{tree_at, trees, terms_in}
+use Rattle.lh_term.specs.Arena.{tree_at, trees}
 use Rattle.lh_edge.specs.Reached.{leads_to, is_on, AllPass, GoOn, none_left, Tells, TellsNext}
 use Rattle.lh_edge.specs.declared.reach.Way.{Way}
 use Rattle.lh_edge.proofs.Bools.{or_cases}

@@ -12,9 +12,9 @@ use Rattle.lh_term.specs.declared.term.TermId.{TermId}
 use Rattle.lh_term.specs.declared.term.Term.{Term}
 use Rattle.lh_term.specs.declared.term.Term.TheVariants.{Konst, Past, Now, Op as Applied, Choice}
 use Rattle.lh_term.specs.declared.term.Node.{Node}
-use Rattle.lh_term.specs.Tree.{Tree, constant, tree_row}
+use Rattle.lh_term.specs.Tree.{Tree, tree_row}
 use Rattle.lh_term.specs.Same.{nat_eq-is, nat_eq-refl}
-use Rattle.lh_term.specs.Arena.{tree_at, trees, terms_in, term_tree, ids_below, IsIn, AreIn}
+use Rattle.lh_term.specs.Arena.{tree_at, trees, terms_in, term_tree, ids_below, AreIn}
 use Rattle.lh_term.specs.Reach.{operands_of}
 use Rattle.lh_term.proofs.Arenas.{lt_of, of_lt}
 use Rattle.lh_edge.specs.Atoms.{is_one_bit, is_connective}

@@ -4,7 +4,7 @@ ghost use Rattle.std.specs.List.{list_any};
 ghost use Rattle.std.specs.HashSet as hash;
 ghost use Rattle.lh_term.specs.Tree.{past_of, now_of};
 ghost use Rattle.lh_term.specs.SameTree.{same_tree};
-ghost use Rattle.lh_term.specs.Arena.{trees, tree_at, trees_at, IsIn, AreIn};
+ghost use Rattle.lh_term.specs.Arena.{trees, tree_at, trees_at, IsIn};
 ghost use Rattle.lh_edge.specs.Atoms as spec;
 ghost use Rattle.lh_edge.specs.Steps as step;
 ghost use Rattle.lh_edge.specs.Steps.{AddsShown, AreMarks, HoldsBy, IsKnown, IsSight};

@@ -1,4 +1,4 @@
-use Rattle.std.proofs.Common.{◌≡◌, ◌<◌, ◌≤◌, ◌+◌, length, take, arith}
+use Rattle.std.proofs.Common.{◌<◌, ◌≤◌, length, arith}
 use Rattle.lh_edge.proofs.Found.{id_get, found_turn, finds_all}
 use Rattle.lh_edge.proofs.atoms.found_subterms.Goals as goal
 

@@ -1,4 +1,4 @@
-use Rattle.std.proofs.Common.{◌≡◌, ◌<◌, ◌-◌, nat_eq, length, refl, arith}
+use Rattle.std.proofs.Common.{◌<◌, ◌-◌, nat_eq, length, refl, arith}
 use Rattle.std.specs.HashSet as hash
 use Rattle.lh_edge.specs.Atoms.{contains_past}
 use Rattle.lh_edge.specs.declared.reach.Way.TheVariants.{All}

@@ -1,4 +1,4 @@
-use Rattle.std.proofs.Common.{sym, ◌∙◌, arith}
+use Rattle.std.proofs.Common.{sym, ◌∙◌}
 use Rattle.lh_edge.proofs.Answered.{many, few, shown_is, all_bit, gives}
 use Rattle.lh_edge.proofs.triggers.edges.Goals as goal
 
