@@ -1,18 +1,23 @@
 -- The ids of atoms as they are found.
-use Rattle.std.proofs.Common.{◌≡◌, ℕ, zero, suc, ◌+◌, ◌<◌, ◌≤◌, Bool, true, false, not, ◌||◌, nat_lt, if◌then◌else◌, List, [], ◌∷◌, ◌++◌, length, map, get_or, refl, sym, ap, ◌∙◌, subst, inl, inr, arith, Option, Some, None, slice_get, append_assoc, append-nil, Vec}
+use Rattle.std.proofs.Common.{◌≡◌, ℕ, zero, suc, ◌+◌, ◌<◌, ◌≤◌, Bool, true, false, not, ◌||◌, nat_eq, nat_lt, if◌then◌else◌, List, [], ◌∷◌, ◌++◌, length, map, take, get_or, refl, sym, ap, ◌∙◌, subst, inl, inr, arith, Option, Some, None, slice_get, append_assoc, append-nil, Vec}
 use Rattle.std.specs.Cmp.{first_so, second_so}
 use Rattle.lh_term.specs.declared.part.Part.{Part}
 use Rattle.lh_term.specs.declared.term.TermId.{TermId}
 use Rattle.lh_term.specs.declared.term.Node.{Node}
 use Rattle.lh_term.specs.Tree.{Tree, constant, past_of, now_of, operation, choice_of}
 use Rattle.lh_term.specs.SameTree.{same_tree, same_tree-is, same_tree-refl}
+use Rattle.lh_term.specs.Same.{nat_eq-is, nat_eq-refl}
 use Rattle.lh_term.specs.Arena.{tree_at, trees, trees_at, term_tree, ids_below, IsIn, AreIn, Grows}
-use Rattle.lh_term.proofs.Arenas.{lt_of, of_lt, map_push, map_append, get_within}
+use Rattle.lh_term.proofs.Arenas.{lt_of, of_lt, map_push, map_append}
 use Rattle.lh_term.proofs.Swaps.{term_there, tree_grown, in_grown, grows_on}
 use Rattle.lh_edge.specs.Atoms.{is_one_bit, is_connective, subterms, subterms_in, presents, has, atoms_of}
-use Rattle.lh_edge.specs.Steps.{joined_by, is_atom, ReachesFrom, AreDistinct, AreIdsOf, AreAllIdsOf, FindsThe, found_items, with_missing, with_atom, with_some, present_tree, IsPresent, AddsPresent}
-use Rattle.lh_edge.proofs.Bools.{and_both, or_cases, or_left, or_right, false_is, both_ways, has_append, has_left, has_right, has_self, has_once}
-use Rattle.lh_edge.proofs.Joined.{joins, IsJoined, is_joined, found_in, among_below, among_marked}
+use Rattle.lh_edge.specs.Reached.{joined_by, is_atom, is_on, GoOn, none_left, PassesOn, AreReached}
+use Rattle.lh_edge.specs.declared.reach.Way.TheVariants.{Joined}
+use Rattle.lh_edge.specs.Steps.{AreDistinct, AreIdsOf, AreAllIdsOf, FindsThe, found_items, with_missing, with_atom, with_some, present_tree, IsPresent, AddsPresent}
+use Rattle.lh_edge.proofs.Bools.{and_both, or_cases, or_left, or_right, is_not, not_is, false_is, both_ways, has_append, has_left, has_right, has_self, has_once}
+use Rattle.lh_edge.proofs.Joined.{joins, IsJoined, is_joined, found_in, joined_sound}
+use Rattle.lh_edge.proofs.Walks.{on_push, on_at, on_below, pass_on, pass_own}
+use Rattle.std.proofs.lemmas.List.{take_more}
 use Rattle.lh_edge.proofs.Numbers.{here_or_before}
 
 -- ---- terms with one more
@@ -83,12 +88,13 @@ none_of ns ts = record { are_in = refl; distinct = tt; sound = λ t h. cc }
 
 -- ---- the subterms found so far
 
-pub record FoundSoFar (ns : List Node) (e : TermId) (flags : List Bool) (found : List TermId) (i : ℕ) : Type 0 where
+-- of those terms that are no connective each is found
+pub record FoundSoFar (ns : List Node) (e : TermId) (found done : List TermId) : Type 0 where
   pub of : AreIdsOf ns (subterms (tree_at (trees ns) e)) found
-  pub each : (j : ℕ) → j < i → slice_get flags j ≡ Some true → is_atom (tree_at (trees ns) (record { 0 = j })) ≡ true → has (trees_at ns found) (tree_at (trees ns) (record { 0 = j })) ≡ true
+  pub each : (j : ℕ) → is_on done j ≡ true → is_atom (tree_at (trees ns) (record { 0 = j })) ≡ true → has (trees_at ns found) (tree_at (trees ns) (record { 0 = j })) ≡ true
 
-pub found_start : (ns : List Node) (e : TermId) (flags : List Bool) (found : List TermId) → found ≡ [] → FoundSoFar ns e flags found 0
-found_start ns e flags found m = subst (λ (xs : List TermId). FoundSoFar ns e flags xs 0) (sym m) (record { of = none_of ns (subterms (tree_at (trees ns) e)); each = λ j l. absurd (omega arith) })
+pub found_start : (ns : List Node) (e : TermId) (found : List TermId) → found ≡ [] → FoundSoFar ns e found []
+found_start ns e found m = subst (λ (xs : List TermId). FoundSoFar ns e xs []) (sym m) (record { of = none_of ns (subterms (tree_at (trees ns) e)); each = λ j o. cc })
 
 atom_alone : (t : Tree) → is_atom t ≡ true → subterms t ≡ t ∷ []
 atom_alone (constant d) e = at (is_one_bit (constant d)) e
@@ -109,76 +115,112 @@ atom_alone (choice_of c f t) e = at (is_one_bit f) e
     at true k = cc
     at false k = refl
 
-module _ (ns : List Node) (e : TermId) (flags : List Bool) (found : List TermId) (i : ℕ) (s : FoundSoFar ns e flags found i) where
-  pub found_skip : slice_get flags i ≡ Some false → FoundSoFar ns e flags found (i + 1)
-  found_skip f = record {
-    of = s.of;
-    each = λ j l g a. elim (here_or_before j i l) [
-      | inl p ↦ let c : Some true ≡ Some false = sym g ∙ ap (slice_get flags) p ∙ f in cc
-      | inr p ↦ s.each j p g a
-    ];
-  }
+-- a term that is reached has no subterm but those of the edge part
+subterm_of : (ns : List Node) (e : TermId) (ids : List TermId) → AreReached Joined ns (e ∷ []) ids → (j : ℕ) (t : Tree) → is_on ids j ≡ true → has (subterms (tree_at (trees ns) (record { 0 = j }))) t ≡ true
+    → has (subterms (tree_at (trees ns) e)) t ≡ true
+subterm_of ns e ids r j t o h = at (has (subterms (tree_at (trees ns) e)) t) refl
+  where
+    lacks : ℕ → Bool
+    lacks i = not (has (subterms (tree_at (trees ns) (record { 0 = i }))) t)
 
-  pub found_next : (more : List TermId) → ReachesFrom ns e flags 0 → slice_get flags i ≡ Some true → i < length ns → more ≡ with_atom ns found (record { 0 = i }) → FoundSoFar ns e flags more (i + 1)
-  found_next more r f l m = subst (λ (xs : List TermId). FoundSoFar ns e flags xs (i + 1)) (sym m) (at (is_atom T) refl)
-    where
-      x : TermId
-      x = record { 0 = i }
+    passes : PassesOn Joined ns lacks
+    passes i k is shown n = pass_own lacks (joined_by (trees ns) k) (λ m a. not_is (has (subterms (tree_at (trees ns) (record { 0 = m }))) t) (false_is (has (subterms (tree_at (trees ns) (record { 0 = m }))) t)
+        (λ y. both_ways (has (subterms (tree_at (trees ns) (record { 0 = i }))) t) (joined_sound ns i k shown m t a y) (is_not (has (subterms (tree_at (trees ns) (record { 0 = i }))) t) n))))
 
-      T : Tree
-      T = tree_at (trees ns) x
+    at : (b : Bool) → has (subterms (tree_at (trees ns) e)) t ≡ b → b ≡ true
+    at true q = refl
+    at false q = absurd (both_ways (has (subterms (tree_at (trees ns) (record { 0 = j }))) t) h
+        (is_not (has (subterms (tree_at (trees ns) (record { 0 = j }))) t) (pass_on lacks ids j (r.only lacks passes (not_is (has (subterms (tree_at (trees ns) e)) t) q, tt)) o)))
 
-      at : (b : Bool) → is_atom T ≡ b → FoundSoFar ns e flags (if b then with_missing ns found x else found) (i + 1)
-      at false q = record {
-        of = s.of;
-        each = λ j k g a. elim (here_or_before j i k) [
-          | inl p ↦ absurd (both_ways (is_atom T) (ap (λ n. is_atom (tree_at (trees ns) (record { 0 = n }))) (sym p) ∙ a) q)
-          | inr p ↦ s.each j p g a
-        ];
-      }
-      at true q =
-          let own : has (subterms T) T ≡ true = ap (λ us. has us T) (atom_alone T q) ∙ has_self T [] in
-          record {
-            of = missing_of ns found x (subterms (tree_at (trees ns) e)) s.of l (r.sound i T f own);
-            each = λ j k g a. elim (here_or_before j i k) [
-              | inl p ↦ ap (λ n. has (trees_at ns (with_missing ns found x)) (tree_at (trees ns) (record { 0 = n }))) p ∙ missing_has ns found x
-              | inr p ↦ missing_keeps ns found x (tree_at (trees ns) (record { 0 = j })) (s.each j p g a)
-            ];
-          }
+pub found_next : (ns : List Node) (e : TermId) (found done ids : List TermId) (x : TermId) (more : List TermId) → FoundSoFar ns e found done → AreReached Joined ns (e ∷ []) ids → is_on ids x.0 ≡ true → IsIn ns x
+    → more ≡ with_atom ns found x → FoundSoFar ns e more (done ++ x ∷ [])
+found_next ns e found done ids x more s r o l m = subst (λ (xs : List TermId). FoundSoFar ns e xs (done ++ x ∷ [])) (sym m) (at (is_atom T) refl)
+  where
+    T : Tree
+    T = tree_at (trees ns) x
+
+    same : (j : ℕ) → j ≡ x.0 → tree_at (trees ns) (record { 0 = j }) ≡ T
+    same j p = ap (λ n. tree_at (trees ns) (record { 0 = n })) p
+
+    at : (b : Bool) → is_atom T ≡ b → FoundSoFar ns e (if b then with_missing ns found x else found) (done ++ x ∷ [])
+    at false q = record {
+      of = s.of;
+      each = λ j d a. elim (on_push done x j d) [
+        | inl p ↦ absurd (both_ways (is_atom T) (ap is_atom (sym (same j p)) ∙ a) q)
+        | inr p ↦ s.each j p a
+      ];
+    }
+    at true q =
+        let h : has (subterms T) T ≡ true = ap (λ us. has us T) (atom_alone T q) ∙ has_self T [] in
+        record {
+          of = missing_of ns found x (subterms (tree_at (trees ns) e)) s.of l (subterm_of ns e ids r x.0 T o h);
+          each = λ j d a. elim (on_push done x j d) [
+            | inl p ↦ ap (has (trees_at ns (with_missing ns found x))) (same j p) ∙ missing_has ns found x
+            | inr p ↦ missing_keeps ns found x (tree_at (trees ns) (record { 0 = j })) (s.each j p a)
+          ];
+        }
+
+pub found_turn : (ns : List Node) (e : TermId) (found ids more : List TermId) (n : ℕ) (d : TermId) → AreReached Joined ns (e ∷ []) ids → n < length ids → FoundSoFar ns e found (take n ids)
+    → more ≡ with_atom ns found (get_or ids n d) → FoundSoFar ns e more (take (n + 1) ids)
+found_turn ns e found ids more n d r l s m =
+    subst (λ (xs : List TermId). FoundSoFar ns e more xs) (sym (take_more ids n d l))
+    (found_next ns e found (take n ids) ids (get_or ids n d) more s r (on_at ids n d l) (on_below (length ns) ids (get_or ids n d).0 r.are_in (on_at ids n d l)) m)
+
+or_none : (a : Bool) → (a || false) ≡ true → a ≡ true
+or_none true e = refl
+or_none false e = e
 
 -- each subterm of a term that is reached is found
-module _ (ns : List Node) (e : TermId) (flags : List Bool) (found : List TermId) (r : ReachesFrom ns e flags 0) (w : FoundSoFar ns e flags found (length flags)) (t : Tree) (in_e : IsIn ns e) where
-  below_all : (n j : ℕ) → j < n → slice_get flags j ≡ Some true → has (subterms (tree_at (trees ns) (record { 0 = j }))) t ≡ true → has (trees_at ns found) t ≡ true
-  below_all zero j l f h = absurd (omega arith)
-  below_all (suc n) j l f h = at (is_atom J) refl (λ i m k q. below_all n i (omega arith) k q)
+module _ (ns : List Node) (found ids : List TermId) (t : Tree)
+    (each : (j : ℕ) → is_on ids j ≡ true → is_atom (tree_at (trees ns) (record { 0 = j })) ≡ true → has (trees_at ns found) (tree_at (trees ns) (record { 0 = j })) ≡ true) where
+  all_below : (left : List TermId) → AreIn ns left → ((j : ℕ) → is_on left j ≡ true → is_on ids j ≡ true) → GoOn Joined ns none_left left → (j : ℕ) → is_on left j ≡ true
+      → has (subterms (tree_at (trees ns) (record { 0 = j }))) t ≡ true → has (trees_at ns found) t ≡ true
+  all_below [] i sub g j o h = cc
+  all_below (x ∷ left) i sub g j o h =
+      step (all_below left (second_so (nat_lt x.0 (length ns)) (ids_below (length ns) left) i) (λ m p. sub m (or_right (nat_eq m x.0) (is_on left m) p)) g.1)
     where
-      J : Tree
-      J = tree_at (trees ns) (record { 0 = j })
+      X : Tree
+      X = tree_at (trees ns) x
 
-      within : j < length flags
-      within = get_within flags j true f
+      x_in : x.0 < length ns
+      x_in = lt_of x.0 (length ns) (first_so (nat_lt x.0 (length ns)) (ids_below (length ns) left) i)
 
-      at : (b : Bool) → is_atom J ≡ b → ((i : ℕ) → i < j → slice_get flags i ≡ Some true → has (subterms (tree_at (trees ns) (record { 0 = i }))) t ≡ true → has (trees_at ns found) t ≡ true)
-          → has (trees_at ns found) t ≡ true
-      at true q next =
-          let alone : has (J ∷ []) t ≡ true = ap (λ us. has us t) (sym (atom_alone J q)) ∙ h in
-          elim (or_cases (same_tree J t) false alone) [ inl p ↦ ap (has (trees_at ns found)) (sym (same_tree-is J t p)) ∙ w.each j within f q | inr p ↦ cc ]
-      at false q next =
-          let (k, is) = term_there ns j (omega (arith, within, r.length_is, in_e)) in
-          let c = r.closed j k (omega arith) f is in
-          let no : is_atom (term_tree (trees ns) k) ≡ false = ap is_atom c.0.shown ∙ q in
-          let j_is : subterms (term_tree (trees ns) k) ≡ joins (map (tree_at (trees ns)) (joined_by (trees ns) k)) = subst (λ (b : Bool). IsJoined (trees ns) k b) no (is_joined (trees ns) k) in
-          let g = found_in (trees ns) (joined_by (trees ns) k) t (ap (λ us. has us t) (sym j_is) ∙ ap (λ u. has (subterms u) t) c.0.shown ∙ h) in
-          next g.id.0 (among_below j (joined_by (trees ns) k) g.id.0 c.0.below g.is_one) (among_marked flags (joined_by (trees ns) k) g.id.0 c.1 g.is_one) g.there
+      Rest : Type 0
+      Rest = (m : ℕ) → is_on left m ≡ true → has (subterms (tree_at (trees ns) (record { 0 = m }))) t ≡ true → has (trees_at ns found) t ≡ true
 
-  pub all_found : has (subterms (tree_at (trees ns) e)) t ≡ true → has (trees_at ns found) t ≡ true
-  all_found h = below_all (e.0 + 1) e.0 (omega arith) r.top h
+      at : Rest → (b : Bool) → is_atom X ≡ b → has (subterms X) t ≡ true → has (trees_at ns found) t ≡ true
+      at rest true q k =
+          let alone : has (X ∷ []) t ≡ true = ap (λ us. has us t) (sym (atom_alone X q)) ∙ k in
+          elim (or_cases (same_tree X t) false alone) [
+            | inl p ↦ ap (has (trees_at ns found)) (sym (same_tree-is X t p)) ∙ each x.0 (sub x.0 (or_left (nat_eq x.0 x.0) (is_on left x.0) (nat_eq-refl x.0))) q
+            | inr p ↦ cc
+          ]
+      at rest false q k =
+          let (z, is) = term_there ns x.0 x_in in
+          let s = g.0 z is in
+          let no : is_atom (term_tree (trees ns) z) ≡ false = ap is_atom s.shown ∙ q in
+          let j_is : subterms (term_tree (trees ns) z) ≡ joins (map (tree_at (trees ns)) (joined_by (trees ns) z)) = subst (λ (b : Bool). IsJoined (trees ns) z b) no (is_joined (trees ns) z) in
+          let f = found_in (trees ns) (joined_by (trees ns) z) t (ap (λ us. has us t) (sym j_is) ∙ ap (λ u. has (subterms u) t) s.shown ∙ k) in
+          let on : (is_on left f.id.0 || false) ≡ true = pass_on (λ m. is_on left m || false) (joined_by (trees ns) z) f.id.0 s.on f.is_one in
+          rest f.id.0 (or_none (is_on left f.id.0) on) f.there
 
-pub finds_all : (ns : List Node) (e : TermId) (flags : List Bool) (found : List TermId) (i : ℕ) → IsIn ns e → ReachesFrom ns e flags 0 → i ≡ length flags → length found ≤ 12
-    → FoundSoFar ns e flags found i → AreAllIdsOf ns (subterms (tree_at (trees ns) e)) found
-finds_all ns e flags found i l r n few w =
-    let v : FoundSoFar ns e flags found (length flags) = subst (λ (k : ℕ). FoundSoFar ns e flags found k) n w in
-    record { are = v.of; few = few; whole = λ t h. all_found ns e flags found r v t l h }
+      step : Rest → has (trees_at ns found) t ≡ true
+      step rest = elim (or_cases (nat_eq j x.0) (is_on left j) o) [
+        | inl e ↦ at rest (is_atom X) refl (ap (λ n. has (subterms (tree_at (trees ns) (record { 0 = n }))) t) (sym (nat_eq-is j x.0 e)) ∙ h)
+        | inr r ↦ rest j r h
+      ]
+
+pub take_all : (xs : List TermId) (n : ℕ) → length xs ≤ n → take n xs ≡ xs
+take_all [] zero l = refl
+take_all [] (suc n) l = refl
+take_all (x ∷ xs) zero l = absurd (omega arith)
+take_all (x ∷ xs) (suc n) l = ap (λ r. x ∷ r) (take_all xs n (omega arith))
+
+pub finds_all : (ns : List Node) (e : TermId) (found ids : List TermId) (n : ℕ) → AreReached Joined ns (e ∷ []) ids → length ids ≤ n → length found ≤ 12 → FoundSoFar ns e found (take n ids)
+    → AreAllIdsOf ns (subterms (tree_at (trees ns) e)) found
+finds_all ns e found ids n r z few w =
+    let v : FoundSoFar ns e found ids = subst (λ (xs : List TermId). FoundSoFar ns e found xs) (take_all ids n z) w in
+    record { are = v.of; few = few; whole = λ t h. all_below ns found ids t v.each ids r.are_in (λ j p. p) r.go_on e.0 r.there.0 h }
 
 -- ---- values now are added
 

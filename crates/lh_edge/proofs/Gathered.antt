@@ -1,5 +1,5 @@
 -- The values before that can be in a condition, each with the value now, by ids.
-use Rattle.std.proofs.Common.{◌≡◌, ℕ, zero, suc, ◌+◌, ◌-◌, ◌<◌, ◌≤◌, Bool, true, false, not, ◌&&◌, ◌||◌, nat_lt, if◌then◌else◌, List, [], ◌∷◌, ◌++◌, length, map, take, drop, get_or, refl, sym, ap, ◌∙◌, subst, inl, inr, ◌⊎◌, arith, Option, Some, None, append-nil, slice_get}
+use Rattle.std.proofs.Common.{◌≡◌, ℕ, ◌+◌, ◌-◌, ◌<◌, ◌≤◌, Bool, true, false, not, ◌||◌, nat_eq, nat_lt, if◌then◌else◌, List, [], ◌∷◌, ◌++◌, length, map, take, drop, get_or, refl, sym, ap, ◌∙◌, subst, inl, inr, ◌⊎◌, arith, Option, Some, None, append-nil}
 use Rattle.std.specs.List.{list_any}
 use Rattle.std.specs.Cmp.{first_so, second_so}
 use Rattle.lh_types.specs.Types.{int_type}
@@ -9,20 +9,24 @@ use Rattle.lh_term.specs.declared.term.Term.{Term}
 use Rattle.lh_term.specs.declared.term.Term.TheVariants.{Konst, Past, Now, Op as Applied, Choice}
 use Rattle.lh_term.specs.declared.term.Node.{Node}
 use Rattle.lh_term.specs.Tree.{Tree, constant, past_of, now_of, operation, choice_of, tree_row}
-use Rattle.lh_term.specs.Same.{same_part, same_part-is}
+use Rattle.lh_term.specs.Same.{same_part, same_part-is, nat_eq-is, nat_eq-refl}
 use Rattle.lh_term.specs.SameTree.{same_tree, same_tree-refl}
 use Rattle.lh_term.specs.Make.{bit_of}
-use Rattle.lh_term.specs.Arena.{tree_at, trees, terms_in, term_tree, term_below, ids_below, IsIn, Grows, StandsForTree}
+use Rattle.lh_term.specs.Arena.{tree_at, trees, term_tree, ids_below, IsIn, Grows, StandsForTree}
 use Rattle.lh_term.specs.Subst.{PairsIn, pairs_at, is_first}
-use Rattle.lh_term.specs.Reach.{operands_of, AllSet, Reaches}
-use Rattle.lh_term.proofs.Arenas.{lt_of, trees_grow, tree_below, term_more}
-use Rattle.lh_term.proofs.Swaps.{tree_grown, in_grown, grows_on, pairs_grown, pairs_in_grown, trees_count}
+use Rattle.lh_term.specs.Reach.{operands_of}
+use Rattle.lh_term.proofs.Arenas.{lt_of}
+use Rattle.lh_term.proofs.Swaps.{tree_grown, in_grown, grows_on, pairs_grown, pairs_in_grown, term_there}
 use Rattle.lh_edge.specs.Triggers.{pasts_in, pasts_in_row}
 use Rattle.lh_edge.specs.Steps.{present_tree, IsPresent}
-use Rattle.lh_edge.specs.Gates.{ArePresents, IsPresents, MakesGate, SeesTerm, with_pair, with_present, Gathers, GathersIf}
+use Rattle.lh_edge.specs.Reached.{is_on, GoOn, none_left, AreReached}
+use Rattle.lh_edge.specs.declared.reach.Way.TheVariants.{All}
+use Rattle.lh_edge.specs.Gates.{ArePresents, IsPresents, MakesGate, with_pair, with_present, Gathers}
 use Rattle.lh_edge.proofs.Bools.{or_cases, or_left, or_right}
 use Rattle.lh_edge.proofs.Gate.{first_append, put_pair, put_has, SwapSoFar, swap_first, swap_next, gate_is}
-use Rattle.lh_edge.proofs.Numbers.{here_or_before}
+use Rattle.lh_edge.proofs.Walks.{on_push, on_at, on_below, pass_on}
+use Rattle.lh_edge.proofs.Found.{take_all}
+use Rattle.std.proofs.lemmas.List.{take_more}
 
 -- ---- pairs of ids
 
@@ -40,11 +44,10 @@ presents_append (p ∷ ps) qs h k = (h.0, presents_append ps qs h.1 k)
 
 -- ---- parts in a row of operands
 
-record InRow (ts : List Tree) (xs : List TermId) (q : Part) : Type 0 where
-  id : TermId
-  is_below : (k : ℕ) → ids_below k xs ≡ true → id.0 < k
-  is_set : (flags : List Bool) → AllSet flags xs → slice_get flags id.0 ≡ Some true
-  there : list_any (same_part q) (pasts_in (tree_at ts id)) ≡ true
+pub record InRow (ts : List Tree) (xs : List TermId) (q : Part) : Type 0 where
+  pub id : TermId
+  pub is_one : is_on xs id.0 ≡ true
+  pub there : list_any (same_part q) (pasts_in (tree_at ts id)) ≡ true
 
 any_split : (q : Part) (xs ys : List Part) → list_any (same_part q) (xs ++ ys) ≡ true → (list_any (same_part q) xs ≡ true) ⊎ (list_any (same_part q) ys ≡ true)
 any_split q [] ys h = inr h
@@ -56,81 +59,36 @@ any_split q (x ∷ xs) ys h = elim (or_cases (same_part q x) (list_any (same_par
 in_row : (ts : List Tree) (xs : List TermId) (q : Part) → list_any (same_part q) (pasts_in_row (tree_row (map (tree_at ts) xs))) ≡ true → InRow ts xs q
 in_row ts [] q h = cc
 in_row ts (x ∷ xs) q h = elim (any_split q (pasts_in (tree_at ts x)) (pasts_in_row (tree_row (map (tree_at ts) xs))) h) [
-  | inl k ↦ record { id = x; is_below = λ n b. lt_of x.0 n (first_so (nat_lt x.0 n) (ids_below n xs) b); is_set = λ flags m. m.0; there = k }
-  | inr k ↦ let r = in_row ts xs q k in record { id = r.id; is_below = λ n b. r.is_below n (second_so (nat_lt x.0 n) (ids_below n xs) b); is_set = λ flags m. r.is_set flags m.1; there = r.there }
+  | inl k ↦ record { id = x; is_one = or_left (nat_eq x.0 x.0) (is_on xs x.0) (nat_eq-refl x.0); there = k }
+  | inr k ↦ let r = in_row ts xs q k in record { id = r.id; is_one = or_right (nat_eq r.id.0 x.0) (is_on xs r.id.0) r.is_one; there = r.there }
 ]
 
--- a value before in a term is the term or in a term before it
-pub record PastBelow (ts : List Tree) (i : ℕ) (k : Term) (q : Part) : Type 0 where
-  pub id : ℕ
-  pub lower : id < i
-  pub is_set : (flags : List Bool) → AllSet flags (operands_of k) → slice_get flags id ≡ Some true
-  pub there : list_any (same_part q) (pasts_in (tree_at ts (record { 0 = id }))) ≡ true
-
-past_under : (ts : List Tree) (i : ℕ) (k : Term) (q : Part) → term_below i k ≡ true → list_any (same_part q) (pasts_in (term_tree ts k)) ≡ true → (term_tree ts k ≡ past_of q) ⊎ PastBelow ts i k q
-past_under ts i (Konst v) q b h = cc
-past_under ts i (Now p) q b h = cc
-past_under ts i (Past p) q b h = elim (or_cases (same_part q p) false h) [ inl k ↦ inl (ap past_of (sym (same_part-is q p k))) | inr k ↦ cc ]
-past_under ts i (Applied op args) q b h = let r = in_row ts args q h in inr (record { id = r.id.0; lower = r.is_below i b; is_set = r.is_set; there = r.there })
-past_under ts i (Choice c f t) q b h =
-    let bc : nat_lt c.0 i ≡ true = first_so (nat_lt c.0 i) (nat_lt f.0 i && nat_lt t.0 i) b in
-    let r = second_so (nat_lt c.0 i) (nat_lt f.0 i && nat_lt t.0 i) b in
-    let bf : nat_lt f.0 i ≡ true = first_so (nat_lt f.0 i) (nat_lt t.0 i) r in
-    let bt : nat_lt t.0 i ≡ true = second_so (nat_lt f.0 i) (nat_lt t.0 i) r in
-    elim (any_split q (pasts_in (tree_at ts c)) (pasts_in (tree_at ts f) ++ pasts_in (tree_at ts t)) h) [
-      | inl k ↦ inr (record { id = c.0; lower = lt_of c.0 i bc; is_set = λ flags m. m.0; there = k })
-      | inr k ↦ elim (any_split q (pasts_in (tree_at ts f)) (pasts_in (tree_at ts t)) k) [
-        | inl m ↦ inr (record { id = f.0; lower = lt_of f.0 i bf; is_set = λ flags m. m.1.0; there = m })
-        | inr m ↦ inr (record { id = t.0; lower = lt_of t.0 i bt; is_set = λ flags m. m.1.1.0; there = m })
-      ]
-    ]
+-- a value before in a term is the term or in one of its operands
+pub past_under : (ts : List Tree) (k : Term) (q : Part) → list_any (same_part q) (pasts_in (term_tree ts k)) ≡ true → (term_tree ts k ≡ past_of q) ⊎ InRow ts (operands_of k) q
+past_under ts (Konst v) q h = cc
+past_under ts (Now p) q h = cc
+past_under ts (Past p) q h = elim (or_cases (same_part q p) false h) [ inl k ↦ inl (ap past_of (sym (same_part-is q p k))) | inr k ↦ cc ]
+past_under ts (Applied op args) q h = inr (in_row ts args q h)
+past_under ts (Choice c f t) q h =
+    let e : pasts_in_row (tree_row (map (tree_at ts) (c ∷ f ∷ t ∷ []))) ≡ pasts_in (tree_at ts c) ++ (pasts_in (tree_at ts f) ++ pasts_in (tree_at ts t)) =
+    ap (λ r. pasts_in (tree_at ts c) ++ (pasts_in (tree_at ts f) ++ r)) (append-nil (pasts_in (tree_at ts t))) in
+    inr (in_row ts (c ∷ f ∷ t ∷ []) q (ap (list_any (same_part q)) e ∙ h))
 
 -- ---- the pairs so far
 
-pub record GatheredSoFar (old cur : List Node) (flags : List Bool) (pairs : List (TermId × TermId)) (i : ℕ) : Type 0 where
+pub record GatheredSoFar (old cur : List Node) (done : List TermId) (pairs : List (TermId × TermId)) : Type 0 where
   pub grows : Grows old cur
   pub pairs_in : PairsIn cur pairs
   pub each : ArePresents (pairs_at cur pairs)
-  pub done : (j : ℕ) (q : Part) → j < i → slice_get flags j ≡ Some true → tree_at (trees old) (record { 0 = j }) ≡ past_of q → is_first (pairs_at cur pairs) (past_of q) ≡ true
-  pub seen : (j : ℕ) → j < i → slice_get flags j ≡ Some true → SeesTerm old (record { 0 = j })
+  pub pasts : (j : ℕ) (q : Part) → is_on done j ≡ true → tree_at (trees old) (record { 0 = j }) ≡ past_of q → is_first (pairs_at cur pairs) (past_of q) ≡ true
 
-pub gather_start : (ns : List Node) (flags : List Bool) (pairs : List (TermId × TermId)) → pairs ≡ [] → GatheredSoFar ns ns flags pairs 0
-gather_start ns flags pairs e = subst (λ (ps : List (TermId × TermId)). GatheredSoFar ns ns flags ps 0) (sym e) (record {
+pub gather_start : (ns : List Node) (pairs : List (TermId × TermId)) → pairs ≡ [] → GatheredSoFar ns ns [] pairs
+gather_start ns pairs e = subst (λ (ps : List (TermId × TermId)). GatheredSoFar ns ns [] ps) (sym e) (record {
   grows = ([], sym (append-nil ns));
   pairs_in = tt;
   each = tt;
-  done = λ j q l f. absurd (omega arith);
-  seen = λ j l f. absurd (omega arith);
+  pasts = λ j q o. cc;
 })
-
-get_front : (xs ys : List Term) (i : ℕ) → i < length xs → slice_get (xs ++ ys) i ≡ slice_get xs i
-get_front [] ys i l = absurd (omega arith)
-get_front (x ∷ xs) ys zero l = refl
-get_front (x ∷ xs) ys (suc i) l = get_front xs ys i (omega arith)
-
-terms_append : (xs ys : List Node) → terms_in (xs ++ ys) ≡ terms_in xs ++ terms_in ys
-terms_append [] ys = refl
-terms_append (x ∷ xs) ys = ap (λ r. x.term ∷ r) (terms_append xs ys)
-
-terms_count : (xs : List Node) → length (terms_in xs) ≡ length xs
-terms_count [] = refl
-terms_count (x ∷ xs) = ap suc (terms_count xs)
-
-at_before : (old cur : List Node) → Grows old cur → (i : ℕ) → i < length old → (k : Term) → slice_get (terms_in cur) i ≡ Some k → slice_get (terms_in old) i ≡ Some k
-at_before old cur g i l k e = sym (get_front (terms_in old) (terms_in g.0) i (omega (arith, terms_count old))) ∙ ap (λ xs. slice_get xs i) (sym (terms_append old g.0))
-    ∙ ap (λ ns. slice_get (terms_in ns) i) (sym g.1) ∙ e
-
-seen_before : (old cur : List Node) → Grows old cur → (x : TermId) → IsIn old x → SeesTerm cur x → SeesTerm old x
-seen_before old cur g x h s =
-    let (rest, e) = trees_grow old cur g in
-    let n : length (trees old) ≡ length old = trees_count old in
-    let b : term_below (length (trees old)) s.term ≡ true = term_more x.0 (length (trees old)) (omega arith) s.term s.below in
-    record {
-      term = s.term;
-      at = at_before old cur g x.0 h s.term s.at;
-      shown = sym (tree_below (trees old) rest s.term b) ∙ ap (λ ts. term_tree ts s.term) (sym e) ∙ s.shown ∙ tree_grown old cur g x h;
-      below = s.below;
-    }
 
 present_part : (s t : Tree) → present_tree s ≡ Some t → (p : Part) × (s ≡ past_of p) × (t ≡ now_of p)
 present_part (past_of p) t e = let f : now_of p ≡ t = cc in (p, refl, sym f)
@@ -139,103 +97,104 @@ present_part (now_of p) t e = cc
 present_part (operation op us) t e = cc
 present_part (choice_of a b c) t e = cc
 
-module _ (old cur : List Node) (flags : List Bool) (pairs : List (TermId × TermId)) (i : ℕ) (s : GatheredSoFar old cur flags pairs i) (l : i < length old) where
-  same : tree_at (trees cur) (record { 0 = i }) ≡ tree_at (trees old) (record { 0 = i })
-  same = tree_grown old cur s.grows (record { 0 = i }) l
+module _ (old cur : List Node) (done : List TermId) (pairs : List (TermId × TermId)) (x : TermId) (s : GatheredSoFar old cur done pairs) (l : IsIn old x) where
+  same : tree_at (trees cur) x ≡ tree_at (trees old) x
+  same = tree_grown old cur s.grows x l
 
-  pub gather_next : (new : List Node) (more : List (TermId × TermId)) → Grows cur new → Gathers cur new pairs (record { 0 = i }) more → GatheredSoFar old new flags more (i + 1)
+  pub gather_next : (new : List Node) (more : List (TermId × TermId)) → Grows cur new → Gathers cur new pairs x more → GatheredSoFar old new (done ++ x ∷ []) more
   gather_next new more g h = at h.found h.made h.added
     where
       grown : pairs_at new pairs ≡ pairs_at cur pairs
       grown = pairs_grown cur new g pairs s.pairs_in
 
-      seen_all : (j : ℕ) → j < i + 1 → slice_get flags j ≡ Some true → SeesTerm old (record { 0 = j })
-      seen_all j k o = elim (here_or_before j i k) [
-        | inl p ↦ subst (λ (n : ℕ). SeesTerm old (record { 0 = n })) (sym p) (seen_before old cur s.grows (record { 0 = i }) l h.seen)
-        | inr p ↦ s.seen j p o
-      ]
+      as_past : (j : ℕ) (q : Part) → j ≡ x.0 → tree_at (trees old) (record { 0 = j }) ≡ past_of q → tree_at (trees cur) x ≡ past_of q
+      as_past j q p e = same ∙ ap (λ n. tree_at (trees old) (record { 0 = n })) (sym p) ∙ e
 
-      at : (f : Option TermId) → IsPresent new (tree_at (trees cur) (record { 0 = i })) f → more ≡ with_present pairs (record { 0 = i }) f → GatheredSoFar old new flags more (i + 1)
-      at None is m = subst (λ (ps : List (TermId × TermId)). GatheredSoFar old new flags ps (i + 1)) (sym m) (record {
+      at : (f : Option TermId) → IsPresent new (tree_at (trees cur) x) f → more ≡ with_present pairs x f → GatheredSoFar old new (done ++ x ∷ []) more
+      at None is m = subst (λ (ps : List (TermId × TermId)). GatheredSoFar old new (done ++ x ∷ []) ps) (sym m) (record {
         grows = grows_on old cur new s.grows g;
         pairs_in = pairs_in_grown cur new g pairs s.pairs_in;
         each = subst ArePresents (sym grown) s.each;
-        done = λ j q k o e. elim (here_or_before j i k) [
-          | inl p ↦
-              let e2 : tree_at (trees cur) (record { 0 = i }) ≡ past_of q = same ∙ ap (λ n. tree_at (trees old) (record { 0 = n })) (sym p) ∙ e in
-              let n : None ≡ Some (now_of q) = sym is ∙ ap present_tree e2 in
-              cc
-          | inr p ↦ ap (λ ps. is_first ps (past_of q)) grown ∙ s.done j q p o e
+        pasts = λ j q o e. elim (on_push done x j o) [
+          | inl p ↦ let n : None ≡ Some (now_of q) = sym is ∙ ap present_tree (as_past j q p e) in cc
+          | inr p ↦ ap (λ ps. is_first ps (past_of q)) grown ∙ s.pasts j q p e
         ];
-        seen = seen_all;
       })
       at (Some y) is m =
-          let X = tree_at (trees cur) (record { 0 = i }) in
+          let X = tree_at (trees cur) x in
           let Y = tree_at (trees new) y in
           let (p, e, f) = present_part X Y is.1 in
-          let x_in : IsIn cur (record { 0 = i }) = in_grown old cur s.grows (record { 0 = i }) l in
-          let x_new : tree_at (trees new) (record { 0 = i }) ≡ X = tree_grown cur new g (record { 0 = i }) x_in in
-          let all : pairs_at new (pairs ++ (record { 0 = i }, y) ∷ []) ≡ pairs_at cur pairs ++ (X, Y) ∷ [] =
-          pairs_append new pairs ((record { 0 = i }, y) ∷ []) ∙ (λ j. grown j ++ (x_new j, Y) ∷ [])
+          let x_in : IsIn cur x = in_grown old cur s.grows x l in
+          let x_new : tree_at (trees new) x ≡ X = tree_grown cur new g x x_in in
+          let all : pairs_at new (pairs ++ (x, y) ∷ []) ≡ pairs_at cur pairs ++ (X, Y) ∷ [] =
+          pairs_append new pairs ((x, y) ∷ []) ∙ (λ j. grown j ++ (x_new j, Y) ∷ [])
           in
-          subst (λ (ps : List (TermId × TermId)). GatheredSoFar old new flags ps (i + 1)) (sym m) (record {
+          subst (λ (ps : List (TermId × TermId)). GatheredSoFar old new (done ++ x ∷ []) ps) (sym m) (record {
             grows = grows_on old cur new s.grows g;
-            pairs_in = in_append new pairs ((record { 0 = i }, y) ∷ []) (pairs_in_grown cur new g pairs s.pairs_in) (in_grown cur new g (record { 0 = i }) x_in, is.0, tt);
+            pairs_in = in_append new pairs ((x, y) ∷ []) (pairs_in_grown cur new g pairs s.pairs_in) (in_grown cur new g x x_in, is.0, tt);
             each = subst ArePresents (sym all) (presents_append (pairs_at cur pairs) ((X, Y) ∷ []) s.each ((p, e, f), tt));
-            done = λ j q k o w. elim (here_or_before j i k) [
+            pasts = λ j q o w. elim (on_push done x j o) [
               | inl b ↦
-                  let e2 : X ≡ past_of q = same ∙ ap (λ n. tree_at (trees old) (record { 0 = n })) (sym b) ∙ w in
-                  let t : same_tree X (past_of q) ≡ true = ap (λ u. same_tree u (past_of q)) e2 ∙ same_tree-refl (past_of q) in
+                  let t : same_tree X (past_of q) ≡ true = ap (λ u. same_tree u (past_of q)) (as_past j q b w) ∙ same_tree-refl (past_of q) in
                   ap (λ ps. is_first ps (past_of q)) all ∙ first_append (pairs_at cur pairs) ((X, Y) ∷ []) (past_of q) ∙ or_right _ _ (ap (λ (b : Bool). if b then true else false) t)
-              | inr b ↦ ap (λ ps. is_first ps (past_of q)) all ∙ first_append (pairs_at cur pairs) ((X, Y) ∷ []) (past_of q) ∙ or_left _ _ (s.done j q b o w)
+              | inr b ↦ ap (λ ps. is_first ps (past_of q)) all ∙ first_append (pairs_at cur pairs) ((X, Y) ∷ []) (past_of q) ∙ or_left _ _ (s.pasts j q b w)
             ];
-            seen = seen_all;
           })
 
-  pub gather_skip : (new : List Node) (more : List (TermId × TermId)) → Grows cur new → slice_get flags i ≡ Some false → more ≡ pairs → GatheredSoFar old new flags more (i + 1)
-  gather_skip new more g n m = subst (λ (ps : List (TermId × TermId)). GatheredSoFar old new flags ps (i + 1)) (sym m) (record {
-    grows = grows_on old cur new s.grows g;
-    pairs_in = pairs_in_grown cur new g pairs s.pairs_in;
-    each = subst ArePresents (sym grown) s.each;
-    done = λ j q k o e. elim (here_or_before j i k) [
-      | inl p ↦ absurd (unset j p o)
-      | inr p ↦ ap (λ ps. is_first ps (past_of q)) grown ∙ s.done j q p o e
-    ];
-    seen = λ j k o. elim (here_or_before j i k) [
-      | inl p ↦ absurd (unset j p o)
-      | inr p ↦ s.seen j p o
-    ];
-  })
+or_none : (a : Bool) → (a || false) ≡ true → a ≡ true
+or_none true e = refl
+or_none false e = e
+
+module _ (old cur : List Node) (ids : List TermId) (pairs : List (TermId × TermId)) (s : GatheredSoFar old cur ids pairs) (q : Part) where
+  all_below : (left : List TermId) → ids_below (length old) left ≡ true → ((j : ℕ) → is_on left j ≡ true → is_on ids j ≡ true) → GoOn All old none_left left → (j : ℕ) → is_on left j ≡ true
+      → list_any (same_part q) (pasts_in (tree_at (trees old) (record { 0 = j }))) ≡ true → is_first (pairs_at cur pairs) (past_of q) ≡ true
+  all_below [] i sub g j o h = cc
+  all_below (x ∷ left) i sub g j o h =
+      step (all_below left (second_so (nat_lt x.0 (length old)) (ids_below (length old) left) i) (λ m p. sub m (or_right (nat_eq m x.0) (is_on left m) p)) g.1)
     where
-      grown : pairs_at new pairs ≡ pairs_at cur pairs
-      grown = pairs_grown cur new g pairs s.pairs_in
+      x_in : x.0 < length old
+      x_in = lt_of x.0 (length old) (first_so (nat_lt x.0 (length old)) (ids_below (length old) left) i)
 
-      unset : (j : ℕ) → j ≡ i → slice_get flags j ≡ Some true → ⊥
-      unset j p o = let w : Some false ≡ Some true = sym n ∙ ap (slice_get flags) (sym p) ∙ o in cc
+      Rest : Type 0
+      Rest = (m : ℕ) → is_on left m ≡ true → list_any (same_part q) (pasts_in (tree_at (trees old) (record { 0 = m }))) ≡ true → is_first (pairs_at cur pairs) (past_of q) ≡ true
 
-  pub gather_turn : (new : List Node) (more : List (TermId × TermId)) (f : Bool) → Grows cur new → slice_get flags i ≡ Some f → GathersIf f cur new pairs (record { 0 = i }) more
-      → GatheredSoFar old new flags more (i + 1)
-  gather_turn new more true g e h = gather_next new more g h
-  gather_turn new more false g e h = gather_skip new more g e h
+      here : Rest → list_any (same_part q) (pasts_in (tree_at (trees old) x)) ≡ true → is_first (pairs_at cur pairs) (past_of q) ≡ true
+      here rest k =
+          let (z, is) = term_there old x.0 x_in in
+          let t = g.0 z is in
+          elim (past_under (trees old) z q (ap (λ u. list_any (same_part q) (pasts_in u)) t.shown ∙ k)) [
+            | inl e ↦ s.pasts x.0 q (sub x.0 (or_left (nat_eq x.0 x.0) (is_on left x.0) (nat_eq-refl x.0))) (sym t.shown ∙ e)
+            | inr b ↦
+                let on : (is_on left b.id.0 || false) ≡ true = pass_on (λ m. is_on left m || false) (operands_of z) b.id.0 t.on b.is_one in
+                rest b.id.0 (or_none (is_on left b.id.0) on) b.there
+          ]
 
-module _ (old cur : List Node) (c : TermId) (flags : List Bool) (r : Reaches old c flags) (pairs : List (TermId × TermId)) (n : ℕ) (s : GatheredSoFar old cur flags pairs n) (q : Part) where
-  below_all : (m j : ℕ) → j < m → j < n → slice_get flags j ≡ Some true → list_any (same_part q) (pasts_in (tree_at (trees old) (record { 0 = j }))) ≡ true
-      → is_first (pairs_at cur pairs) (past_of q) ≡ true
-  below_all zero j l k o h = absurd (omega arith)
-  below_all (suc m) j l k o h =
-      let t = s.seen j k o in
-      elim (past_under (trees old) j t.term q t.below (ap (λ u. list_any (same_part q) (pasts_in u)) t.shown ∙ h)) [
-        | inl e ↦ s.done j q k o (sym t.shown ∙ e)
-        | inr b ↦ let low = b.lower in below_all m b.id (omega arith) (omega arith) (b.is_set flags (r.closed j t.term (omega arith) o t.at)) b.there
+      step : Rest → is_first (pairs_at cur pairs) (past_of q) ≡ true
+      step rest = elim (or_cases (nat_eq j x.0) (is_on left j) o) [
+        | inl e ↦ here rest (ap (λ n. list_any (same_part q) (pasts_in (tree_at (trees old) (record { 0 = n })))) (sym (nat_eq-is j x.0 e)) ∙ h)
+        | inr r ↦ rest j r h
       ]
 
-pub gathered_all : (old cur : List Node) (flags : List Bool) (pairs : List (TermId × TermId)) (c : TermId) (n : ℕ) → Reaches old c flags → n ≡ length flags → GatheredSoFar old cur flags pairs n
-    → IsPresents cur (tree_at (trees old) c) pairs
-gathered_all old cur flags pairs c n r e s = record {
-  pairs_in = s.pairs_in;
-  each = s.each;
-  whole = λ q h. below_all old cur c flags r pairs n s q n c.0 (omega (arith, r.length_is)) (omega (arith, r.length_is)) r.top h;
-}
+pub gather_turn : (old cur new : List Node) (ids : List TermId) (pairs more : List (TermId × TermId)) (c : TermId) (n : ℕ) (d : TermId) → AreReached All old (c ∷ []) ids → n < length ids
+    → GatheredSoFar old cur (take n ids) pairs → Grows cur new → Gathers cur new pairs (get_or ids n d) more → GatheredSoFar old new (take (n + 1) ids) more
+gather_turn old cur new ids pairs more c n d r l s g h =
+    subst (λ (xs : List TermId). GatheredSoFar old new xs more) (sym (take_more ids n d l))
+    (gather_next old cur (take n ids) pairs (get_or ids n d) s (on_below (length old) ids (get_or ids n d).0 r.are_in (on_at ids n d l)) new more g h)
+
+-- the next term is in the arena as it has grown
+pub gather_in : (old cur : List Node) (ids : List TermId) (pairs : List (TermId × TermId)) (c : TermId) (n : ℕ) (d : TermId) → AreReached All old (c ∷ []) ids → n < length ids
+    → GatheredSoFar old cur (take n ids) pairs → IsIn cur (get_or ids n d)
+gather_in old cur ids pairs c n d r l s = in_grown old cur s.grows (get_or ids n d) (on_below (length old) ids (get_or ids n d).0 r.are_in (on_at ids n d l))
+
+pub gathered_all : (old cur : List Node) (ids : List TermId) (pairs : List (TermId × TermId)) (c : TermId) (n : ℕ) → AreReached All old (c ∷ []) ids → length ids ≤ n
+    → GatheredSoFar old cur (take n ids) pairs → IsPresents cur (tree_at (trees old) c) pairs
+gathered_all old cur ids pairs c n r z s =
+    let w : GatheredSoFar old cur ids pairs = subst (λ (xs : List TermId). GatheredSoFar old cur xs pairs) (take_all ids n z) s in
+    record {
+      pairs_in = w.pairs_in;
+      each = w.each;
+      whole = λ q h. all_below old cur ids pairs w q ids r.are_in (λ j p. p) r.go_on c.0 r.there.0 h;
+    }
 
 -- ---- the pairs of a gate
 

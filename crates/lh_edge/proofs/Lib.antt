@@ -8,6 +8,8 @@ pub mod Numbers
 pub mod Sights
 pub mod Once
 pub mod Joined
+pub mod Walks
+pub mod Told
 pub mod TermValues
 pub mod Found
 pub mod Ids

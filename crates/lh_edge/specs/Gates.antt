@@ -1,12 +1,11 @@
 -- What the calls that make gates compute on the way.
-use Rattle.std.specs.Prelude.{◌≡◌, Bool, true, false, slice_get, List, [], ◌∷◌, ◌++◌, if◌then◌else◌, Option, Some, None}
+use Rattle.std.specs.Prelude.{◌≡◌, Bool, true, List, [], ◌∷◌, ◌++◌, if◌then◌else◌, Option, Some, None}
 use Rattle.std.specs.List.{list_any}
 use Rattle.lh_types.specs.Types.{int_type}
 use Rattle.lh_term.specs.declared.part.Part.{Part}
 use Rattle.lh_term.specs.declared.term.TermId.{TermId}
-use Rattle.lh_term.specs.declared.term.Term.{Term}
 use Rattle.lh_term.specs.declared.term.Node.{Node}
-use Rattle.lh_term.specs.Arena.{tree_at, trees, terms_in, term_tree, term_below}
+use Rattle.lh_term.specs.Arena.{tree_at, trees}
 use Rattle.lh_term.specs.Tree.{Tree, past_of, now_of}
 use Rattle.lh_term.specs.Same.{same_part}
 use Rattle.lh_term.specs.Subst.{AreSwaps, PairsIn, pairs_at, is_first, swapped}
@@ -35,13 +34,6 @@ pub record MakesGate (ns : List Node) (rise : Bool) (p : Part) (c : Tree) (pairs
   pub swaps : AreSwaps (pairs_at ns pairs)
   pub gate : swapped (pairs_at ns pairs) c ≡ gate_of rise p c
 
--- a term of the arena by the ids of its operands, which are before it
-pub record SeesTerm (ns : List Node) (x : TermId) : Type 0 where
-  pub term : Term
-  pub at : slice_get (terms_in ns) x.0 ≡ Some term
-  pub shown : term_tree (trees ns) term ≡ tree_at (trees ns) x
-  pub below : term_below x.0 term ≡ true
-
 -- the pairs with one more, unless its first is first in another
 abbrev pub with_pair : List Node → List (TermId × TermId) → TermId × TermId → List (TermId × TermId)
 with_pair ns ps p = if is_first (pairs_at ns ps) (tree_at (trees ns) p.0) then ps else ps ++ p ∷ []
@@ -53,12 +45,6 @@ with_present ps x (Some y) = ps ++ (x, y) ∷ []
 
 -- a term was added with the value now of the part whose value before it is, if it is one
 pub record Gathers (old new : List Node) (ps : List (TermId × TermId)) (x : TermId) (more : List (TermId × TermId)) : Type 0 where
-  pub seen : SeesTerm old x
   pub found : Option TermId
   pub made : IsPresent new (tree_at (trees old) x) found
   pub added : more ≡ with_present ps x found
-
--- the same, if the term is to be added; else nothing was added
-abbrev pub GathersIf : Bool → (old new : List Node) → List (TermId × TermId) → TermId → List (TermId × TermId) → Type 0
-GathersIf true old new ps x more = Gathers old new ps x more
-GathersIf false old new ps x more = more ≡ ps

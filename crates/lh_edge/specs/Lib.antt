@@ -3,6 +3,7 @@ pub mod Valuations
 pub mod Shown
 pub mod Triggers
 pub mod Laws
+pub mod Reached
 pub mod Steps
 pub mod Answers
 pub mod Gates

@@ -1,20 +1,19 @@
 -- What the calls compute on the way.
-use Rattle.std.specs.Prelude.{◌≡◌, ℕ, ◌+◌, ◌/◌, ◌%◌, ◌^◌, ◌<◌, ◌≤◌, Bool, true, false, not, ◌&&◌, ◌||◌, nat_eq, bit_and, ◌*◌, if◌then◌else◌, List, [], ◌∷◌, ◌++◌, length, map, slice_get, slice_index_or, slice_set, Option, Some, None}
+use Rattle.std.specs.Prelude.{◌≡◌, ℕ, ◌+◌, ◌/◌, ◌%◌, ◌^◌, ◌<◌, ◌≤◌, Bool, true, false, not, ◌&&◌, ◌||◌, nat_eq, bit_and, ◌*◌, if◌then◌else◌, List, [], ◌∷◌, ◌++◌, length, slice_get, slice_index_or, Option, Some, None}
 use Rattle.std.specs.List.{list_any}
 use Rattle.std.proofs.Common.{Vec}
 use Rattle.std.proofs.Common.{zero, suc}
 use Rattle.lh_term.specs.declared.part.Part.{Part}
 use Rattle.lh_term.specs.declared.term.TermId.{TermId}
-use Rattle.lh_term.specs.declared.term.Term.{Term}
-use Rattle.lh_term.specs.declared.term.Term.TheVariants.{Op as Applied, Choice}
 use Rattle.lh_term.specs.declared.term.Node.{Node}
-use Rattle.lh_term.specs.Tree.{Tree, constant, past_of, now_of, operation, choice_of, tree_row}
+use Rattle.lh_term.specs.Tree.{Tree, past_of, now_of}
 use Rattle.lh_term.specs.SameTree.{same_tree}
-use Rattle.lh_term.specs.Arena.{tree_at, trees, trees_at, terms_in, term_tree, ids_below, IsIn, AreIn}
-use Rattle.lh_edge.specs.Atoms.{contains_past, is_one_bit, is_connective, subterms, has}
+use Rattle.lh_term.specs.Arena.{tree_at, trees, trees_at, IsIn, AreIn}
+use Rattle.lh_edge.specs.Atoms.{contains_past, has}
 use Rattle.lh_edge.specs.Valuations.{differ, holds}
 use Rattle.lh_edge.specs.Shown.{can_show}
 use Rattle.lh_edge.specs.Triggers.{comes_first, with_part}
+use Rattle.lh_edge.specs.Reached.{is_atom, Tells}
 use Rattle.lh_edge.specs.declared.shown.Sight.{Sight}
 
 -- ---- values before
@@ -22,57 +21,6 @@ use Rattle.lh_edge.specs.declared.shown.Sight.{Sight}
 -- each flag tells whether a value before is in the term of its number
 abbrev pub TellPasts : List Node → List Bool → Type 0
 TellPasts ns flags = (i : ℕ) → i < length flags → slice_get flags i ≡ Some (contains_past (tree_at (trees ns) (record { 0 = i })))
-
--- ---- the terms that a term is joined of
-
--- the terms that a connective joins
-abbrev pub joined_by : List Tree → Term → List TermId
-joined_by ts (Applied op args) = if is_connective op (tree_row (map (tree_at ts) args)) then args else []
-joined_by ts (Choice c f t) = if is_one_bit (tree_at ts f) then c ∷ f ∷ t ∷ [] else []
-joined_by ts _ = []
-
--- whether the term is no connective
-abbrev pub is_atom : Tree → Bool
-is_atom (constant v) = not (is_one_bit (constant v))
-is_atom (past_of p) = true
-is_atom (now_of p) = true
-is_atom (operation op ts) = not (is_connective op ts)
-is_atom (choice_of c f t) = not (is_one_bit f)
-
--- the flags with those of some terms set
-abbrev pub marked : List Bool → List TermId → List Bool
-marked flags [] = flags
-marked flags (x ∷ xs) = marked (slice_set flags x.0 true) xs
-
--- the flag of each is set
-abbrev pub AreMarked : List Bool → List TermId → Type 0
-AreMarked flags [] = Unit {0}
-AreMarked flags (x ∷ xs) = (slice_get flags x.0 ≡ Some true) × AreMarked flags xs
-
--- k is the term x, which joins terms before it
-pub record IsTerm (ns : List Node) (x : TermId) (k : Term) : Type 0 where
-  pub shown : term_tree (trees ns) k ≡ tree_at (trees ns) x
-  pub below : ids_below x.0 (joined_by (trees ns) k) ≡ true
-
--- the flags of the terms that x joins were set
-abbrev pub MarksJoined : List Node → TermId → List Bool → List Bool → Type 0
-MarksJoined ns x old new = (k : Term) → slice_get (terms_in ns) x.0 ≡ Some k → IsTerm ns x k × (new ≡ marked old (joined_by (trees ns) k))
-
--- the flag of e is set, and with each from i on those of the terms that it joins; what is joined of a term whose flag is set is of e
-pub record ReachesFrom (ns : List Node) (e : TermId) (flags : List Bool) (i : ℕ) : Type 0 where
-  pub length_is : length flags ≡ e.0 + 1
-  pub top : slice_get flags e.0 ≡ Some true
-  pub closed : (j : ℕ) (k : Term) → i ≤ j → slice_get flags j ≡ Some true → slice_get (terms_in ns) j ≡ Some k → IsTerm ns (record { 0 = j }) k × AreMarked flags (joined_by (trees ns) k)
-  pub sound : (j : ℕ) (t : Tree) → slice_get flags j ≡ Some true → has (subterms (tree_at (trees ns) (record { 0 = j }))) t ≡ true → has (subterms (tree_at (trees ns) e)) t ≡ true
-
--- the ids from i on and below n whose flags are set, in order
-abbrev pub Lists : List Bool → (i n : ℕ) → List TermId → Type 0
-Lists flags i n [] = (j : ℕ) → i ≤ j → j < n → slice_get flags j ≡ Some true → ⊥
-Lists flags i n (x ∷ xs) = (i ≤ x.0) × (x.0 < n) × (slice_get flags x.0 ≡ Some true) × ((j : ℕ) → i ≤ j → j < x.0 → slice_get flags j ≡ Some true → ⊥) × Lists flags (x.0 + 1) n xs
-
--- ids with one more, if its flag is set
-abbrev pub with_set : List Bool → ℕ → List TermId → List TermId
-with_set flags i ids = if slice_index_or flags i false then ids ++ (record { 0 = i }) ∷ [] else ids
 
 -- ---- atoms
 
@@ -183,24 +131,14 @@ pub record AreMarks (table : List Bool) (atoms : List Tree) (parts : List Part) 
   pub each : (k : ℕ) → k < length table → slice_index_or shown k false ≡ list_any (shows_at table atoms k) parts
 
 -- the values of terms by their ids
-abbrev pub values_at : List Bool → List TermId → List Bool
+abbrev pub values_at : (ℕ → Bool) → List TermId → List Bool
 values_at values [] = []
-values_at values (a ∷ more) = slice_index_or values a.0 false ∷ values_at values more
-
--- the value of each term at a valuation
-abbrev pub AreValues : List Node → (Tree → Bool) → List Bool → List TermId → Type 0
-AreValues ns v values [] = Unit {0}
-AreValues ns v values (a ∷ more) = (slice_get values a.0 ≡ Some (holds v (tree_at (trees ns) a))) × AreValues ns v values more
-
--- the values of the terms that x joins
-abbrev pub JoinedValues : List Node → (Tree → Bool) → List Bool → TermId → Type 0
-JoinedValues ns v values x = (k : Term) → slice_get (terms_in ns) x.0 ≡ Some k → AreValues ns v values (joined_by (trees ns) k)
+values_at values (a ∷ more) = values a.0 ∷ values_at values more
 
 -- what the check of all valuations knows of its atoms
-pub record IsKnown (ns : List Node) (atoms : List TermId) (pasts : List Bool) : Type 0 where
+pub record IsKnown (ns : List Node) (atoms : List TermId) (pasts : ℕ → Bool) : Type 0 where
   pub are_in : AreIn ns atoms
-  pub tell : TellPasts ns pasts
-  pub all : length pasts ≡ length ns
+  pub tells : Tells ns contains_past pasts atoms
 
 -- the part of one bit, waited on, whose value before a term is
 abbrev pub showing_of : List Part → Tree → Option Part

@@ -1,13 +1,15 @@
 //! The atoms of a condition: its maximal subterms that are no connective of bits, and for each value of a part before its value now.
-ghost use Rattle.std.specs.Prelude.{◌≡◌, ◌<◌, ◌≤◌, true, false, Some, length, replicate, slice_get, OnOk, IfOk};
+ghost use Rattle.std.specs.Prelude.{◌≡◌, ◌<◌, [], ◌∷◌, length, OnOk, IfOk};
 ghost use Rattle.lh_term.specs.Tree.{tree_row};
-ghost use Rattle.lh_term.specs.Arena.{trees, tree_at, trees_at, ids_below, IsIn, AreIn, StandsForTree, Grows};
+ghost use Rattle.lh_term.specs.Arena.{trees, tree_at, trees_at, IsIn, AreIn, Grows};
 ghost use Rattle.lh_edge.specs.Atoms as spec;
-ghost use Rattle.lh_edge.specs.Gates.{SeesTerm};
-ghost use Rattle.lh_edge.specs.Steps as step;
-ghost use Rattle.lh_edge.specs.Steps.{ReachesFrom, MarksJoined, Lists, with_set, FindsThe, found_items, with_atom, with_missing, IsPresent, AddsPresent};
+ghost use Rattle.lh_edge.specs.Reached as reach;
+ghost use Rattle.lh_edge.specs.Reached.{AreReached};
+ghost use Rattle.lh_edge.specs.Steps.{FindsThe, found_items, with_atom, with_missing, IsPresent, AddsPresent};
+ghost use Rattle.lh_edge.specs.declared.reach.Way.TheVariants as way;
 
 use crate::pasts::put;
+use crate::reach::{Way, reached};
 use lh_term::term::{Term, TermId};
 use lh_term::terms::Terms;
 use lh_types::op::Op;
@@ -56,101 +58,13 @@ pub(crate) fn connects(op: &Op) -> bool
 /// Whether a term is no connective of bits.
 pub(crate) fn is_atom(terms: &Terms, x: TermId) -> bool
     requires { IsIn terms.now x }
-    ensures { result ≡ step.is_atom (tree_at (trees terms.now) x) }
+    ensures { result ≡ reach.is_atom (tree_at (trees terms.now) x) }
 {
     match terms.view(x) {
         Term::Konst(_) => !is_one_bit(terms, x),
         Term::Past(_) | Term::Now(_) => true,
         Term::Op { op, args } => !(connects(op) && are_one_bit(terms, args.as_slice())),
         Term::Choice { f, .. } => !is_one_bit(terms, *f),
-    }
-}
-
-/// Which of the terms up to the edge part it is joined of, by connectives; itself included.
-pub(crate) fn reached(alloc: Global, terms: &Terms, edge: TermId) -> Result<Vec<bool>, NoMemory>
-    requires { IsIn terms.now edge }
-    ensures { IfOk result (λ flags. ReachesFrom terms.now edge flags.items 0) }
-{
-    let _len = terms.len();
-    let mut flags = unset(alloc, edge.0 + 1)?;
-    flags[edge.0] = true;
-    let mut i = edge.0 + 1;
-    while i > 0 {
-        i -= 1;
-        if is_set(&flags, i) {
-            mark_joined(terms, TermId(i), &mut flags);
-        }
-    }
-    Ok(flags)
-}
-
-/// Flags of which none is set.
-pub(crate) fn unset(alloc: Global, len: usize) -> Result<Vec<bool>, NoMemory>
-    ensures { IfOk result (λ flags. flags.items ≡ replicate len false) }
-{
-    Ok(vec![in alloc; false; len]?)
-}
-
-/// Whether a flag is set.
-pub(crate) fn is_set(flags: &[bool], i: usize) -> bool
-    requires { i < length flags.now }
-    ensures { slice_get flags.now i ≡ Some result }
-{
-    flags[i]
-}
-
-/// The terms whose flags are set, in the order of their ids.
-pub(crate) fn set_ids(alloc: Global, flags: &[bool]) -> Result<Vec<TermId>, NoMemory>
-    ensures { IfOk result (λ ids. Lists flags.now 0 (length flags.now) ids.items) }
-{
-    let mut ids = Vec::new(alloc);
-    for i in 0..flags.len() {
-        add_set(flags, i, &mut ids)?;
-    }
-    Ok(ids)
-}
-
-/// Adds a term, if its flag is set.
-fn add_set(flags: &[bool], i: usize, ids: &mut Vec<TermId>) -> Result<(), NoMemory>
-    requires { i < length flags.now }
-    ensures { OnOk result (ids.new.items ≡ with_set flags.now i ids.old.items) }
-{
-    if is_set(flags, i) {
-        return put(ids, TermId(i));
-    }
-    Ok(())
-}
-
-/// Sets the flags of the terms that a connective joins.
-fn mark_joined(terms: &Terms, x: TermId, flags: &mut [bool])
-    requires is_in { IsIn terms.now x }
-    requires within { x.0 < length flags.old }
-    ensures { MarksJoined terms.now x flags.old flags.new }
-{
-    match terms.view(x) {
-        Term::Op { op, args } => {
-            if connects(op) && are_one_bit(terms, args.as_slice()) {
-                mark_all(args.as_slice(), flags);
-            }
-        }
-        Term::Choice { c, f, t } => {
-            if is_one_bit(terms, *f) {
-                mark_all(&[*c, *f, *t], flags);
-            }
-        }
-        Term::Konst(_) | Term::Past(_) | Term::Now(_) => {}
-    }
-}
-
-/// Sets the flags of some terms.
-pub(crate) fn mark_all(xs: &[TermId], flags: &mut [bool])
-    requires { ids_below (length flags.old) xs.now ≡ true }
-    ensures { flags.new ≡ step.marked flags.old xs.now }
-{
-    let mut left = xs;
-    while let [x, rest @ ..] = left {
-        flags[x.0] = true;
-        left = rest;
     }
 }
 
@@ -170,25 +84,22 @@ fn contains(terms: &Terms, xs: &[TermId], x: TermId) -> bool
     false
 }
 
-/// The maximal subterms of the edge part that are no connective, by the flags of what it is joined of; none where they are more
-/// than twelve.
+/// The maximal subterms of the edge part that are no connective, by the terms that it is joined of; none where they are more than
+/// twelve.
 fn found_subterms(
     alloc: Global,
     terms: &Terms,
-    edge: TermId,
-    flags: &[bool],
+    _edge: TermId,
+    joined: &[TermId],
 ) -> Result<Option<Vec<TermId>>, NoMemory>
-    requires is_in { IsIn terms.now edge }
-    requires reached { ReachesFrom terms.now edge flags.now 0 }
-    ensures { IfOk result (λ found. FindsThe terms.now (spec.subterms (tree_at (trees terms.now) edge)) (found_items found)) }
+    requires { AreReached way.Joined terms.now (_edge ∷ []) joined.now }
+    ensures { IfOk result (λ found. FindsThe terms.now (spec.subterms (tree_at (trees terms.now) _edge)) (found_items found)) }
 {
     let mut found = Vec::new(alloc);
-    for i in 0..flags.len() {
-        if is_set(flags, i) {
-            add_atom(terms, TermId(i), &mut found)?;
-            if found.len() > MAX_ATOMS {
-                return Ok(None);
-            }
+    for x in joined {
+        add_atom(terms, *x, &mut found)?;
+        if found.len() > MAX_ATOMS {
+            return Ok(None);
         }
     }
     Ok(Some(found))
@@ -228,8 +139,8 @@ pub(crate) fn atoms_of(
     ensures found { IfOk result (λ found. FindsThe terms.new (spec.atoms_of (tree_at (trees terms.old) edge)) (found_items found)) }
     ensures kept { Grows terms.old terms.new }
 {
-    let flags = reached(alloc, terms, edge)?;
-    let Some(mut atoms) = found_subterms(alloc, terms, edge, &flags)? else {
+    let joined = reached(alloc, terms, &[edge], Way::Joined)?;
+    let Some(mut atoms) = found_subterms(alloc, terms, edge, &joined)? else {
         return Ok(None);
     };
     for k in 0..atoms.len() {
@@ -258,7 +169,6 @@ fn add_present(terms: &mut Terms, k: usize, atoms: &mut Vec<TermId>) -> Result<(
 pub(crate) fn present_of(terms: &mut Terms, x: TermId) -> Result<Option<TermId>, NoMemory>
     requires { IsIn terms.old x }
     ensures made { IfOk result (λ now. IsPresent terms.new (tree_at (trees terms.old) x) now) }
-    ensures seen { SeesTerm terms.old x }
     ensures kept { Grows terms.old terms.new }
 {
     if let Term::Past(part) = terms.view(x) {

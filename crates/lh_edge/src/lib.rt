@@ -3,8 +3,8 @@
 
 mod atoms;
 pub mod laws;
-mod operands;
 pub mod pasts;
+mod reach;
 mod shown;
 mod table;
 pub mod triggers;

@@ -1,9 +1,10 @@
 //! Which terms have a value before in them, and the edge part of a condition.
-ghost use Rattle.std.specs.Prelude.{◌≡◌, ◌≤◌, [], ◌∷◌, ◌++◌, true, length, IfOk, OnOk};
+ghost use Rattle.std.specs.Prelude.{◌≡◌, ◌≤◌, ℕ, [], ◌∷◌, ◌++◌, if◌then◌else◌, nat_eq, length, IfOk, OnOk};
 ghost use Rattle.std.specs.List.{list_any, filter, insert};
+ghost use Rattle.std.specs.HashSet as hash;
 ghost use Rattle.lh_types.specs.Types.{int_type};
 ghost use Rattle.lh_term.specs.Types.{type_of};
-ghost use Rattle.lh_term.specs.Arena.{trees, tree_at, trees_at, ids_below, IsIn, AreIn, StandsForTree, Grows};
+ghost use Rattle.lh_term.specs.Arena.{trees, tree_at, trees_at, IsIn, AreIn, StandsForTree, Grows};
 ghost use Rattle.lh_term.specs.Conjuncts.{conjunction};
 ghost use Rattle.lh_term.specs.Make.{make_operation};
 ghost use Rattle.lh_term.proofs.Sound.{IntTerm};
@@ -11,13 +12,17 @@ ghost use Rattle.lh_types.specs.declared.op.Op.TheVariants as spec_op;
 ghost use Rattle.lh_term.proofs.Conditions.{AllBits};
 ghost use Rattle.lh_edge.specs.Atoms as spec;
 ghost use Rattle.lh_edge.specs.Steps.{TellPasts};
+ghost use Rattle.lh_edge.specs.Reached.{GoOn, none_left, Tells, TellsNext};
+ghost use Rattle.lh_edge.specs.declared.reach.Way.TheVariants as way;
 
+use crate::reach::{Way, reached};
 use lh_term::term::{Term, TermId};
 use lh_term::terms::Terms;
 use lh_types::op::Op;
 use lh_types::ty::NoMemory;
 use lh_types::val::Val;
 use std::alloc::Global;
+use std::collections::HashSet;
 
 /// For each term of an arena, by its id, whether the value that a part had before is in it.
 pub fn past_flags(alloc: Global, terms: &Terms) -> Result<Vec<bool>, NoMemory>
@@ -25,48 +30,77 @@ pub fn past_flags(alloc: Global, terms: &Terms) -> Result<Vec<bool>, NoMemory>
     ensures all { IfOk result (λ flags. length flags.items ≡ length terms.now) }
 {
     let mut flags = Vec::new(alloc);
-    tell_rest(terms, &mut flags)?;
+    let mut pasts = HashSet::new(alloc);
+    for i in 0..terms.len() {
+        let _term = terms.view(TermId(i));
+        let has_past = note_past(terms, TermId(i), &mut pasts)?;
+        put(&mut flags, has_past)?;
+    }
     Ok(flags)
 }
 
-/// Adds the flags of the terms that have none yet.
-pub(crate) fn tell_rest(terms: &Terms, flags: &mut Vec<bool>) -> Result<(), NoMemory>
-    requires tell { TellPasts terms.now flags.old.items }
-    requires some { length flags.old.items ≤ length terms.now }
-    ensures tell { OnOk result (TellPasts terms.now flags.new.items) }
-    ensures all { OnOk result (length flags.new.items ≡ length terms.now) }
+/// The ids of the terms with a value before in them, of all that some terms are made of.
+pub(crate) fn pasts_of(
+    alloc: Global,
+    terms: &Terms,
+    xs: &[TermId],
+) -> Result<HashSet<usize>, NoMemory>
+    requires { AreIn terms.now xs.now }
+    ensures { IfOk result (λ pasts. Tells terms.now spec.contains_past (hash.contains nat_eq pasts) xs.now) }
 {
-    for i in flags.len()..terms.len() {
-        let has_past = contains_past(terms, TermId(i), flags);
-        put(flags, has_past)?;
-    }
-    Ok(())
+    let made = reached(alloc, terms, xs, Way::All)?;
+    pasts_among(alloc, terms, &made)
 }
 
-/// Whether a value before is in a term, by the flags of the terms before it.
-fn contains_past(terms: &Terms, x: TermId, flags: &[bool]) -> bool
+/// The ids of the terms with a value before in them, of some with their operands behind them.
+fn pasts_among(alloc: Global, terms: &Terms, made: &[TermId]) -> Result<HashSet<usize>, NoMemory>
+    requires are_in { AreIn terms.now made.now }
+    requires go_on { GoOn way.All terms.now none_left made.now }
+    ensures { IfOk result (λ pasts. Tells terms.now spec.contains_past (hash.contains nat_eq pasts) made.now) }
+{
+    let mut pasts = HashSet::new(alloc);
+    let mut k = made.len();
+    while k > 0 {
+        k -= 1;
+        note_past(terms, made[k], &mut pasts)?;
+    }
+    Ok(pasts)
+}
+
+/// Notes whether a value before is in a term.
+fn note_past(terms: &Terms, x: TermId, pasts: &mut HashSet<usize>) -> Result<bool, NoMemory>
     requires is_in { IsIn terms.now x }
-    requires before { x.0 ≤ length flags.now }
-    requires tell { TellPasts terms.now flags.now }
+    requires tells { TellsNext way.All terms.now spec.contains_past (hash.contains nat_eq pasts.old) x }
+    ensures past { IfOk result (λ has_past. has_past ≡ spec.contains_past (tree_at (trees terms.now) x)) }
+    ensures told { OnOk result ((q : ℕ) → hash.contains nat_eq pasts.new q ≡ (if nat_eq x.0 q then spec.contains_past (tree_at (trees terms.now) x) else hash.contains nat_eq pasts.old q)) }
+{
+    let has_past = contains_past(terms, x, pasts);
+    tell(pasts, x, has_past)?;
+    Ok(has_past)
+}
+
+/// Whether a value before is in a term, by what is told of its operands.
+fn contains_past(terms: &Terms, x: TermId, pasts: &HashSet<usize>) -> bool
+    requires is_in { IsIn terms.now x }
+    requires tells { TellsNext way.All terms.now spec.contains_past (hash.contains nat_eq pasts.now) x }
     ensures { result ≡ spec.contains_past (tree_at (trees terms.now) x) }
 {
     match terms.view(x) {
         Term::Konst(_) | Term::Now(_) => false,
         Term::Past(_) => true,
-        Term::Op { args, .. } => some_past(terms, args.as_slice(), flags),
-        Term::Choice { c, f, t } => some_past(terms, &[*c, *f, *t], flags),
+        Term::Op { args, .. } => some_past(terms, args.as_slice(), pasts),
+        Term::Choice { c, f, t } => some_past(terms, &[*c, *f, *t], pasts),
     }
 }
 
 /// Whether a value before is in one of some terms.
-fn some_past(_terms: &Terms, xs: &[TermId], flags: &[bool]) -> bool
-    requires within { ids_below (length flags.now) xs.now ≡ true }
-    requires tell { TellPasts _terms.now flags.now }
+fn some_past(_terms: &Terms, xs: &[TermId], pasts: &HashSet<usize>) -> bool
+    requires { Tells _terms.now spec.contains_past (hash.contains nat_eq pasts.now) xs.now }
     ensures { result ≡ list_any spec.contains_past (trees_at _terms.now xs.now) }
 {
     let mut left = xs;
     while let [x, rest @ ..] = left {
-        if flags[x.0] {
+        if pasts.contains(&x.0) {
             return true;
         }
         left = rest;
@@ -74,33 +108,31 @@ fn some_past(_terms: &Terms, xs: &[TermId], flags: &[bool]) -> bool
     false
 }
 
-/// The conjunction of the conjuncts that have a value before in them, by the flags of all terms.
-pub(crate) fn edge_part(terms: &mut Terms, cond: TermId, pasts: &[bool]) -> Result<TermId, NoMemory>
+/// The conjunction of the conjuncts that have a value before in them.
+pub(crate) fn edge_part(alloc: Global, terms: &mut Terms, cond: TermId) -> Result<TermId, NoMemory>
     requires is_in { IsIn terms.old cond }
     requires bit { type_of (tree_at (trees terms.old) cond) ≡ int_type 1 }
-    requires tell { TellPasts terms.old pasts.now }
-    requires all { length pasts.now ≡ length terms.old }
     ensures made { IfOk result (λ e. StandsForTree terms.new e (spec.edge_part (tree_at (trees terms.old) cond))) }
     ensures kept { Grows terms.old terms.new }
 {
     let _typed = terms.view(cond);
     let conjuncts = terms.conjuncts(cond)?;
-    conjoined(terms, conjuncts.as_slice(), pasts)
+    let pasts = pasts_of(alloc, terms, conjuncts.as_slice())?;
+    conjoined(terms, conjuncts.as_slice(), &pasts)
 }
 
 /// The conjunction of those of some conditions that have a value before in them.
-fn conjoined(terms: &mut Terms, xs: &[TermId], flags: &[bool]) -> Result<TermId, NoMemory>
+fn conjoined(terms: &mut Terms, xs: &[TermId], pasts: &HashSet<usize>) -> Result<TermId, NoMemory>
     requires are_in { AreIn terms.old xs.now }
     requires bits { AllBits (trees_at terms.old xs.now) }
-    requires within { ids_below (length flags.now) xs.now ≡ true }
-    requires tell { TellPasts terms.old flags.now }
+    requires tells { Tells terms.old spec.contains_past (hash.contains nat_eq pasts.now) xs.now }
     ensures made { IfOk result (λ e. StandsForTree terms.new e (conjunction (filter spec.contains_past (trees_at terms.old xs.now)))) }
     ensures kept { Grows terms.old terms.new }
 {
     let mut all = terms.konst(Val::Int { width: 1, bits: 1 })?;
     let mut left = xs;
     while let [x, rest @ ..] = left {
-        if flags[x.0] {
+        if pasts.contains(&x.0) {
             all = both(terms, all, *x)?;
         }
         left = rest;
@@ -118,6 +150,18 @@ fn both(terms: &mut Terms, x: TermId, y: TermId) -> Result<TermId, NoMemory>
     ensures kept { Grows terms.old terms.new }
 {
     terms.op(&Op::And, &[x, y])
+}
+
+/// Tells of a term whether it is one of those that are noted.
+pub(crate) fn tell(noted: &mut HashSet<usize>, x: TermId, is_one: bool) -> Result<(), NoMemory>
+    ensures { OnOk result ((q : ℕ) → hash.contains nat_eq noted.new q ≡ (if nat_eq x.0 q then is_one else hash.contains nat_eq noted.old q)) }
+{
+    if is_one {
+        noted.insert(x.0)?;
+    } else {
+        noted.remove(&x.0);
+    }
+    Ok(())
 }
 
 /// Adds an item at the end.

@@ -1,19 +1,21 @@
 //! Whether every valuation at which the edge part holds is shown by a part.
-ghost use Rattle.std.specs.Prelude.{◌≡◌, ◌<◌, ◌≤◌, ◌+◌, ◌*◌, ◌^◌, true, false, not, ◌||◌, if◌then◌else◌, length, replicate, slice_index_or, IfOk, OnOk};
+ghost use Rattle.std.specs.Prelude.{◌≡◌, ◌<◌, ◌≤◌, ◌+◌, ◌*◌, ◌^◌, true, false, not, ◌||◌, if◌then◌else◌, nat_eq, length, replicate, slice_index_or, IfOk, OnOk};
 ghost use Rattle.std.specs.List.{list_any};
+ghost use Rattle.std.specs.HashSet as hash;
 ghost use Rattle.lh_term.specs.Tree.{past_of, now_of};
 ghost use Rattle.lh_term.specs.SameTree.{same_tree};
-ghost use Rattle.lh_term.specs.Arena.{trees, tree_at, trees_at, IsIn, AreIn};
+ghost use Rattle.lh_term.specs.Arena.{trees, tree_at, trees_at, IsIn};
+ghost use Rattle.lh_edge.specs.Atoms as spec;
 ghost use Rattle.lh_edge.specs.Steps as step;
 ghost use Rattle.lh_edge.specs.Steps.{AddsShown, AreMarks, HoldsBy, IsKnown, IsSight};
 
-use crate::atoms::unset;
 use crate::table::differ;
 use lh_term::part::Part;
 use lh_term::term::{Term, TermId};
 use lh_term::terms::Terms;
 use lh_types::ty::NoMemory;
 use std::alloc::Global;
+use std::collections::HashSet;
 
 /// What is known of the edge part: at which valuations of its atoms it holds, and in which terms a value before is.
 #[derive(Clone, Copy)]
@@ -21,7 +23,7 @@ pub(crate) struct EdgePart<'a> {
     pub(crate) terms: &'a Terms,
     pub(crate) atoms: &'a [TermId],
     pub(crate) table: &'a [bool],
-    pub(crate) pasts: &'a [bool],
+    pub(crate) pasts: &'a HashSet<usize>,
 }
 
 /// How a part shows valuations by their numbers: the bit of its value before and that of its value now, or 0 where it is no atom; the bits
@@ -39,7 +41,7 @@ impl EdgePart<'_> {
     ///
     /// It looks at each valuation twice for each part.
     pub(crate) fn are_shown(&self, alloc: Global, parts: &[Part]) -> Result<bool, NoMemory>
-        requires known { IsKnown self.now.terms.now self.now.atoms.now self.now.pasts.now }
+        requires known { IsKnown self.now.terms.now self.now.atoms.now (hash.contains nat_eq self.now.pasts.now) }
         requires few { length self.now.atoms.now ≤ 12 }
         ensures { IfOk result (λ all. all ≡ step.shown_from self.now.table.now (trees_at self.now.terms.now self.now.atoms.now) parts.now 0 self.now.table.now) }
     {
@@ -54,7 +56,7 @@ impl EdgePart<'_> {
 
     /// Marks the valuations that a part shows.
     fn add_shown(&self, alloc: Global, part: &Part, shown: &mut [bool]) -> Result<(), NoMemory>
-        requires known { IsKnown self.now.terms.now self.now.atoms.now self.now.pasts.now }
+        requires known { IsKnown self.now.terms.now self.now.atoms.now (hash.contains nat_eq self.now.pasts.now) }
         requires few { length self.now.atoms.now ≤ 12 }
         requires len { length shown.old ≡ length self.now.table.now }
         ensures { OnOk result (AddsShown self.now.table.now (trees_at self.now.terms.now self.now.atoms.now) part.now shown.old shown.new) }
@@ -106,7 +108,7 @@ impl EdgePart<'_> {
 
     /// How a part shows valuations.
     fn sight_of(&self, alloc: Global, part: &Part) -> Result<Sight, NoMemory>
-        requires known { IsKnown self.now.terms.now self.now.atoms.now self.now.pasts.now }
+        requires known { IsKnown self.now.terms.now self.now.atoms.now (hash.contains nat_eq self.now.pasts.now) }
         requires few { length self.now.atoms.now ≤ 12 }
         ensures { IfOk result (IsSight self.now.table.now (trees_at self.now.terms.now self.now.atoms.now) part.now) }
     {
@@ -124,7 +126,7 @@ impl EdgePart<'_> {
 
     /// The bit of a part's value before, or 0.
     fn past_bit(&self, part: &Part) -> usize
-        requires known { IsKnown self.now.terms.now self.now.atoms.now self.now.pasts.now }
+        requires known { IsKnown self.now.terms.now self.now.atoms.now (hash.contains nat_eq self.now.pasts.now) }
         requires few { length self.now.atoms.now ≤ 12 }
         ensures { result ≡ step.bit_of_atom (trees_at self.now.terms.now self.now.atoms.now) (past_of part.now) }
     {
@@ -139,7 +141,7 @@ impl EdgePart<'_> {
 
     /// The bit of a part's value now, or 0.
     fn now_bit(&self, part: &Part) -> usize
-        requires known { IsKnown self.now.terms.now self.now.atoms.now self.now.pasts.now }
+        requires known { IsKnown self.now.terms.now self.now.atoms.now (hash.contains nat_eq self.now.pasts.now) }
         requires few { length self.now.atoms.now ≤ 12 }
         ensures { result ≡ step.bit_of_atom (trees_at self.now.terms.now self.now.atoms.now) (now_of part.now) }
     {
@@ -154,7 +156,7 @@ impl EdgePart<'_> {
 
     /// The bits of the atoms that stay as they are where a part shows.
     fn kept_bits(&self, part: &Part) -> usize
-        requires known { IsKnown self.now.terms.now self.now.atoms.now self.now.pasts.now }
+        requires known { IsKnown self.now.terms.now self.now.atoms.now (hash.contains nat_eq self.now.pasts.now) }
         requires few { length self.now.atoms.now ≤ 12 }
         ensures { result ≡ step.kept_bits (past_of part.now) (trees_at self.now.terms.now self.now.atoms.now) }
     {
@@ -182,12 +184,11 @@ impl EdgePart<'_> {
 
     /// Whether a value before is in an atom, and it is not that of the part.
     fn is_other(&self, part: &Part, atom: TermId) -> bool
-        requires tell { step.TellPasts self.now.terms.now self.now.pasts.now }
-        requires all { length self.now.pasts.now ≡ length self.now.terms.now }
         requires atom_in { IsIn self.now.terms.now atom }
+        requires told { hash.contains nat_eq self.now.pasts.now atom.0 ≡ spec.contains_past (tree_at (trees self.now.terms.now) atom) }
         ensures { result ≡ step.is_other (past_of part.now) (tree_at (trees self.now.terms.now) atom) }
     {
-        self.pasts[atom.0] && !is_past(self.terms, atom, part)
+        self.pasts.contains(&atom.0) && !is_past(self.terms, atom, part)
     }
 }
 
@@ -245,6 +246,13 @@ fn kept_or(is_other: bool, later: usize) -> usize
     ensures { result ≡ (if is_other then 2 * later else 1 + 2 * later) }
 {
     if is_other { 2 * later } else { 1 + 2 * later }
+}
+
+/// Flags of which none is set.
+fn unset(alloc: Global, len: usize) -> Result<Vec<bool>, NoMemory>
+    ensures { IfOk result (λ flags. flags.items ≡ replicate len false) }
+{
+    Ok(vec![in alloc; false; len]?)
 }
 
 /// Flags that are all set.

@@ -1,19 +1,24 @@
 //! At which valuations of its atoms the edge part holds. A valuation is a number, in which bit j is the value of atom j.
-ghost use Rattle.std.specs.Prelude.{◌≡◌, ◌<◌, ◌≤◌, ◌+◌, ◌^◌, [], ◌∷◌, true, false, slice_index_or, if◌then◌else◌, length, slice_get, IfOk};
+ghost use Rattle.std.specs.Prelude.{◌≡◌, [], ◌∷◌, false, if◌then◌else◌, nat_eq, IfOk};
+ghost use Rattle.std.specs.HashSet as hash;
 ghost use Rattle.lh_types.specs.ValueOf.{datum_of};
 ghost use Rattle.lh_term.specs.Make.{is_bit_value};
-ghost use Rattle.lh_term.specs.Arena.{trees, tree_at, trees_at, ids_below, IsIn, AreIn};
+ghost use Rattle.lh_term.specs.Arena.{trees, tree_at, trees_at, IsIn, AreIn};
 ghost use Rattle.lh_edge.specs.Valuations as spec;
-ghost use Rattle.lh_edge.specs.Steps.{numbered, table_from, values_at, JoinedValues, Lists, ReachesFrom};
+ghost use Rattle.lh_edge.specs.Reached.{AreReached, TellsNext};
+ghost use Rattle.lh_edge.specs.Steps.{numbered, table_from, values_at};
+ghost use Rattle.lh_edge.specs.declared.reach.Way.TheVariants as way;
 
-use crate::atoms::{are_one_bit, connects, is_one_bit, unset};
-use crate::pasts::put;
+use crate::atoms::{are_one_bit, connects, is_one_bit};
+use crate::pasts::{put, tell};
+use crate::reach::{Way, reached};
 use lh_term::term::{Term, TermId};
 use lh_term::terms::Terms;
 use lh_types::op::Op;
 use lh_types::ty::NoMemory;
 use lh_types::val::Val;
 use std::alloc::Global;
+use std::collections::HashSet;
 
 /// The value of a term at a valuation of the atoms.
 pub(crate) fn bit_of(terms: &Terms, atoms: &[TermId], x: TermId, valuation: usize) -> bool
@@ -33,67 +38,63 @@ pub(crate) fn bit_of(terms: &Terms, atoms: &[TermId], x: TermId, valuation: usiz
     false
 }
 
-/// At each valuation whether the edge part holds, by the terms that it is joined of, in the order of their ids.
+/// At each valuation whether the edge part holds.
 ///
-/// It looks at these terms alone, once for each valuation.
+/// It looks at the terms alone of which that is joined, once for each valuation.
 pub(crate) fn truth_table(
     alloc: Global,
     terms: &Terms,
     edge: TermId,
-    _flags: &[bool],
-    ids: &[TermId],
     atoms: &[TermId],
     size: usize,
 ) -> Result<Vec<bool>, NoMemory>
     requires is_in { IsIn terms.now edge }
     requires are_in { AreIn terms.now atoms.now }
-    requires reached { ReachesFrom terms.now edge _flags.now 0 }
-    requires listed { Lists _flags.now 0 (length _flags.now) ids.now }
     ensures { IfOk result (λ table. table.items ≡ table_from (trees_at terms.now atoms.now) (tree_at (trees terms.now) edge) 0 size) }
 {
-    let _len = terms.len();
-    let mut values = unset(alloc, edge.0 + 1)?;
+    let joined = reached(alloc, terms, &[edge], Way::Joined)?;
+    let mut values = HashSet::new(alloc);
     let mut table = Vec::new(alloc);
     for valuation in 0..size {
-        let holds = holds_at(terms, edge, _flags, ids, atoms, valuation, &mut values);
+        let holds = holds_at(terms, edge, &joined, atoms, valuation, &mut values)?;
         put(&mut table, holds)?;
     }
     Ok(table)
 }
 
-/// Whether the edge part holds at a valuation. The values of the terms that it is joined of are set on the way.
+/// Whether the edge part holds at a valuation. It is noted which of the terms that it is joined of do, whatever was noted before.
 fn holds_at(
     terms: &Terms,
     edge: TermId,
-    _flags: &[bool],
-    ids: &[TermId],
+    joined: &[TermId],
     atoms: &[TermId],
     valuation: usize,
-    values: &mut [bool],
-) -> bool
-    requires is_in { IsIn terms.now edge }
+    values: &mut HashSet<usize>,
+) -> Result<bool, NoMemory>
     requires are_in { AreIn terms.now atoms.now }
-    requires reached { ReachesFrom terms.now edge _flags.now 0 }
-    requires listed { Lists _flags.now 0 (length _flags.now) ids.now }
-    requires len { length values.old ≡ edge.0 + 1 }
-    ensures holds { result ≡ spec.holds (numbered (trees_at terms.now atoms.now) valuation) (tree_at (trees terms.now) edge) }
-    ensures len { length values.new ≡ length values.old }
+    requires joined { AreReached way.Joined terms.now (edge ∷ []) joined.now }
+    ensures { IfOk result (λ b. b ≡ spec.holds (numbered (trees_at terms.now atoms.now) valuation) (tree_at (trees terms.now) edge)) }
 {
-    let mut left = ids;
-    while let [x, rest @ ..] = left {
-        let value = value_of(terms, *x, atoms, valuation, values);
-        values[x.0] = value;
-        left = rest;
+    let mut k = joined.len();
+    while k > 0 {
+        k -= 1;
+        let value = value_of(terms, joined[k], atoms, valuation, values);
+        tell(values, joined[k], value)?;
     }
-    values[edge.0]
+    Ok(values.contains(&edge.0))
 }
 
 /// The value of a term at a valuation, by the values of what it joins.
-fn value_of(terms: &Terms, x: TermId, atoms: &[TermId], valuation: usize, values: &[bool]) -> bool
+fn value_of(
+    terms: &Terms,
+    x: TermId,
+    atoms: &[TermId],
+    valuation: usize,
+    values: &HashSet<usize>,
+) -> bool
     requires is_in { IsIn terms.now x }
     requires are_in { AreIn terms.now atoms.now }
-    requires before { x.0 ≤ length values.now }
-    requires joined { JoinedValues terms.now (numbered (trees_at terms.now atoms.now) valuation) values.now x }
+    requires tells { TellsNext way.Joined terms.now (spec.holds (numbered (trees_at terms.now atoms.now) valuation)) (hash.contains nat_eq values.now) x }
     ensures { result ≡ spec.holds (numbered (trees_at terms.now atoms.now) valuation) (tree_at (trees terms.now) x) }
 {
     match terms.view(x) {
@@ -133,25 +134,23 @@ fn is_one(v: &Val) -> bool
 }
 
 /// The value of the one term where that of the condition is 0, else of the other.
-fn chosen(c: TermId, f: TermId, t: TermId, values: &[bool]) -> bool
-    requires { ids_below (length values.now) (c ∷ f ∷ t ∷ []) ≡ true }
-    ensures { result ≡ (if slice_index_or values.now c.0 false then slice_index_or values.now t.0 false else slice_index_or values.now f.0 false) }
+fn chosen(c: TermId, f: TermId, t: TermId, values: &HashSet<usize>) -> bool
+    ensures { result ≡ (if hash.contains nat_eq values.now c.0 then hash.contains nat_eq values.now t.0 else hash.contains nat_eq values.now f.0) }
 {
-    if values[c.0] {
-        values[t.0]
+    if values.contains(&c.0) {
+        values.contains(&t.0)
     } else {
-        values[f.0]
+        values.contains(&f.0)
     }
 }
 
 /// What a connective gives for the values of its operands.
-fn connected(op: &Op, args: &[TermId], values: &[bool]) -> bool
-    requires { ids_below (length values.now) args.now ≡ true }
-    ensures { result ≡ spec.connected op.now (values_at values.now args.now) }
+fn connected(op: &Op, args: &[TermId], values: &HashSet<usize>) -> bool
+    ensures { result ≡ spec.connected op.now (values_at (hash.contains nat_eq values.now) args.now) }
 {
     match args {
-        [a] => of_one(op, values[a.0]),
-        [a, b] => of_two(op, values[a.0], values[b.0]),
+        [a] => of_one(op, values.contains(&a.0)),
+        [a, b] => of_two(op, values.contains(&a.0), values.contains(&b.0)),
         _ => false,
     }
 }

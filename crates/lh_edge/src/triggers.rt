@@ -1,5 +1,5 @@
 //! The triggers of an edge-shown condition.
-ghost use Rattle.std.specs.Prelude.{◌≡◌, ◌<◌, ◌≤◌, List, length, IfOk, OnOk};
+ghost use Rattle.std.specs.Prelude.{◌≡◌, ◌≤◌, List, [], ◌∷◌, length, IfOk, OnOk};
 ghost use Rattle.lh_types.specs.Types.{int_type, same_type};
 ghost use Rattle.lh_term.specs.declared.part.Part.{Part as PartRecord};
 ghost use Rattle.lh_term.specs.Types.{type_of};
@@ -8,15 +8,18 @@ ghost use Rattle.lh_term.specs.Arena.{trees, tree_at, trees_at, IsIn, AreIn, Sta
 ghost use Rattle.lh_term.specs.Subst.{PairsIn, pairs_at, is_first as first_in_pair};
 ghost use Rattle.lh_cover.specs.Runs.{IsCover};
 ghost use Rattle.lh_edge.specs.Answers.{TriggersOrFault, AreTriggers, AddsTrigger};
-ghost use Rattle.lh_edge.specs.Gates.{AllBit, IsPresents, MakesGate, Gathers, GathersIf, with_pair};
+ghost use Rattle.lh_edge.specs.Gates.{AllBit, IsPresents, MakesGate, Gathers, with_pair};
 ghost use Rattle.lh_edge.specs.Shown as spec;
 ghost use Rattle.lh_edge.specs.Triggers as tri;
 ghost use Rattle.lh_edge.specs.Triggers.{in_order, with_part};
-ghost use Rattle.lh_edge.specs.Steps.{is_checked, TellPasts, showing_of, with_showing, place_in};
+ghost use Rattle.lh_edge.specs.Atoms.{contains_past};
+ghost use Rattle.lh_edge.specs.Reached.{AreReached};
+ghost use Rattle.lh_edge.specs.declared.reach.Way.TheVariants as way;
+ghost use Rattle.lh_edge.specs.Steps.{is_checked, showing_of, with_showing, place_in};
 
-use crate::atoms::{atoms_of, is_set, present_of, reached, set_ids};
-use crate::operands::made_of;
-use crate::pasts::{edge_part, past_flags, put, put_at, tell_rest};
+use crate::atoms::{atoms_of, present_of};
+use crate::pasts::{edge_part, pasts_of, put, put_at};
+use crate::reach::{Way, reached};
 use crate::shown::EdgePart;
 use crate::table::truth_table;
 use lh_cover::Cover;
@@ -94,15 +97,12 @@ pub fn edges(
     ensures answers { TriggersOrFault terms.new waited.now (tree_at (trees terms.old) cond) result }
     ensures kept { Grows terms.old terms.new }
 {
-    let mut pasts = past_flags(alloc, terms)?;
-    let edge = edge_part(terms, cond, &pasts)?;
+    let edge = edge_part(alloc, terms, cond)?;
     let Some(atoms) = atoms_of(alloc, terms, edge)? else {
         return Err(EdgeFault::TooManyAtoms);
     };
-    let waited = Cover::new(alloc, waited)?;
-    let parts = showing_parts(alloc, terms, &atoms, &waited)?;
-    tell_rest(terms, &mut pasts)?;
-    if !is_edge_shown(alloc, terms, cond, edge, &atoms, &parts, &pasts)? {
+    let parts = showing_parts(alloc, terms, &atoms, waited)?;
+    if !is_edge_shown(alloc, terms, cond, edge, &atoms, &parts)? {
         return Err(EdgeFault::NoEdge);
     }
     Ok(triggers(alloc, terms, cond, &parts)?)
@@ -116,47 +116,53 @@ fn is_edge_shown(
     edge: TermId,
     atoms: &[TermId],
     parts: &[Part],
-    pasts: &[bool],
 ) -> Result<bool, NoMemory>
     requires cond_in { IsIn terms.now cond }
     requires edge_in { IsIn terms.now edge }
     requires are_in { AreIn terms.now atoms.now }
     requires few { length atoms.now ≤ 12 }
-    requires tell { TellPasts terms.now pasts.now }
-    requires all { length pasts.now ≡ length terms.now }
     ensures { IfOk result (λ shown. shown ≡ is_checked (tree_at (trees terms.now) cond) (tree_at (trees terms.now) edge) (trees_at terms.now atoms.now) parts.now) }
 {
-    if !is_set(pasts, cond.0) {
+    if !has_past(alloc, terms, cond)? {
         return Ok(false);
     }
-    let flags = reached(alloc, terms, edge)?;
-    let ids = set_ids(alloc, &flags)?;
+    let pasts = pasts_of(alloc, terms, atoms)?;
     let size = 1 << atoms.len();
-    let table = truth_table(alloc, terms, edge, &flags, &ids, atoms, size)?;
+    let table = truth_table(alloc, terms, edge, atoms, size)?;
     let known = EdgePart {
         terms,
         atoms,
         table: &table,
-        pasts,
+        pasts: &pasts,
     };
     known.are_shown(alloc, parts)
 }
 
-/// The parts that can show, in order of argument, then of lowest bit.
+/// Whether a value before is in a condition.
+fn has_past(alloc: Global, terms: &Terms, cond: TermId) -> Result<bool, NoMemory>
+    requires { IsIn terms.now cond }
+    ensures { IfOk result (λ past. past ≡ contains_past (tree_at (trees terms.now) cond)) }
+{
+    let pasts = pasts_of(alloc, terms, &[cond])?;
+    Ok(pasts.contains(&cond.0))
+}
+
+/// The parts that can show, of those that are waited on, in order of argument, then of lowest bit.
 fn showing_parts(
     alloc: Global,
     terms: &Terms,
     atoms: &[TermId],
-    waited: &Cover,
+    waited: &PartList,
 ) -> Result<Vec<Part>, NoMemory>
     requires { AreIn terms.now atoms.now }
-    ensures { IfOk result (λ parts. (on : List PartRecord) → IsCover waited.now on → parts.items ≡ in_order (spec.showing_parts on (trees_at terms.now atoms.now))) }
+    ensures { IfOk result (λ parts. parts.items ≡ in_order (spec.showing_parts waited.now (trees_at terms.now atoms.now))) }
 {
+    let cover = Cover::new(alloc, waited)?;
     let mut parts = Vec::new(alloc);
     let mut k = atoms.len();
     while k > 0 {
         k -= 1;
-        add_showing(terms, atoms[k], waited, &mut parts)?;
+        add_showing(terms, atoms[k], &cover, &mut parts)?;
     }
     Ok(parts)
 }
@@ -252,29 +258,26 @@ fn presents(
     ensures made { IfOk result (λ pairs. IsPresents terms.new (tree_at (trees terms.old) cond) pairs.items) }
     ensures kept { Grows terms.old terms.new }
 {
-    let flags = made_of(alloc, terms, cond)?;
-    let mut pairs = Vec::new(alloc);
-    for i in 0..flags.len() {
-        gather_if(is_set(&flags, i), terms, TermId(i), &mut pairs)?;
-    }
-    Ok(pairs)
+    let made = reached(alloc, terms, &[cond], Way::All)?;
+    gathered(alloc, terms, cond, &made)
 }
 
-/// Adds a term that the condition is made of with the value now of the part whose value before it is.
-fn gather_if(
-    is_made: bool,
+/// Those among the terms that the condition is made of.
+fn gathered(
+    alloc: Global,
     terms: &mut Terms,
-    x: TermId,
-    pairs: &mut Vec<(TermId, TermId)>,
-) -> Result<(), NoMemory>
-    requires { IsIn terms.old x }
-    ensures added { OnOk result (GathersIf is_made terms.old terms.new pairs.old.items x pairs.new.items) }
+    _cond: TermId,
+    made: &[TermId],
+) -> Result<Vec<(TermId, TermId)>, NoMemory>
+    requires { AreReached way.All terms.old (_cond ∷ []) made.now }
+    ensures made { IfOk result (λ pairs. IsPresents terms.new (tree_at (trees terms.old) _cond) pairs.items) }
     ensures kept { Grows terms.old terms.new }
 {
-    if !is_made {
-        return Ok(());
+    let mut pairs = Vec::new(alloc);
+    for x in made {
+        gather(terms, *x, &mut pairs)?;
     }
-    gather(terms, x, pairs)
+    Ok(pairs)
 }
 
 /// Adds a term with the value now of the part whose value before it is.

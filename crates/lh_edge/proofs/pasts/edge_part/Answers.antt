@@ -4,9 +4,9 @@ use Rattle.lh_edge.proofs.pasts.edge_part.Goals as goal
 
 pub conjoined-requires-clause-bits : goal.conjoined-requires-clause-bits
 conjoined-requires-clause-bits c =
-    edge_bits c.args.terms.now c.args.cond c.in_ok-conjuncts.conjuncts c.as_slice.result.now c.view-typed.ensures.typed c.requires.bit c.in_ok-conjuncts.ensures.conjuncts c.as_slice.ensures
+    edge_bits c.args.terms.now c.args.cond c.in_ok-conjuncts.conjuncts c.as_slice-2.result.now c.view-typed.ensures.typed c.requires.bit c.in_ok-conjuncts.ensures.conjuncts c.as_slice-2.ensures
 
 pub returns-clause-made : goal.returns-clause-made
 returns-clause-made c =
-    if_ok_along c.conjoined.result _ _ _ (edge_is c.args.terms.now c.args.cond c.in_ok-conjuncts.conjuncts c.as_slice.result.now c.in_ok-conjuncts.ensures.conjuncts c.as_slice.ensures)
+    if_ok_along c.conjoined.result _ _ _ (edge_is c.args.terms.now c.args.cond c.in_ok-conjuncts.conjuncts c.as_slice-2.result.now c.in_ok-conjuncts.ensures.conjuncts c.as_slice-2.ensures)
     c.conjoined.ensures.made

@@ -1,21 +1,33 @@
-use Rattle.std.proofs.Common.{◌≡◌, refl, length, arith}
+use Rattle.std.proofs.Common.{◌≡◌, ◌∙◌, ◌<◌, ◌-◌, nat_eq, length, arith}
+use Rattle.std.specs.HashSet as hash
 use Rattle.lh_term.specs.Arena.{trees_at}
+use Rattle.lh_edge.specs.Valuations.{holds}
 use Rattle.lh_edge.specs.Steps.{numbered}
-use Rattle.lh_edge.proofs.TermValues.{joined_values, holding_next, holding_top, set_is}
+use Rattle.lh_edge.specs.declared.reach.Way.TheVariants.{Joined}
+use Rattle.lh_edge.proofs.Found.{id_get}
+use Rattle.lh_edge.proofs.Told.{tells_next, tells_more, tells_one}
 use Rattle.lh_edge.proofs.table.holds_at.Goals as goal
 
-pub value_of-value-requires-clause-joined : goal.value_of-value-requires-clause-joined
-value_of-value-requires-clause-joined c =
-    joined_values c.args.terms.now c.args.edge (numbered (trees_at c.args.terms.now c.args.atoms.now) c.args.valuation) c.args._flags.now c.loop-left.values c.requires.reached c.loop-left.left.now
-    (record { 0 = 0 }) c.loop-left.invariant c.in-len1-up.len_at_least
+pub value_of-value-requires-clause-is_in : goal.value_of-value-requires-clause-is_in
+value_of-value-requires-clause-is_in c =
+    let l : c.loop-k.k - 1 < length c.args.joined.now = omega (arith, c.loop-k-test.true, c.loop-k.invariant.within) in
+    id_get (length c.args.terms.now) c.args.joined.now (c.loop-k.k - 1) (record { 0 = 0 }) l c.requires.joined.are_in
 
-pub loop-left-preserved : goal.loop-left-preserved
-loop-left-preserved c =
-    holding_next c.args.terms.now c.args.edge (numbered (trees_at c.args.terms.now c.args.atoms.now) c.args.valuation) c.args._flags.now c.loop-left.values c.requires.reached c.loop-left.left.now
-    (record { 0 = 0 }) _ c.value_of-value.result c.loop-left.invariant c.in-len1-up.len_at_least c.value_of-value.ensures refl
+pub value_of-value-requires-clause-tells : goal.value_of-value-requires-clause-tells
+value_of-value-requires-clause-tells c =
+    tells_next c.args.terms.now (holds (numbered (trees_at c.args.terms.now c.args.atoms.now) c.args.valuation)) Joined (hash.contains nat_eq c.loop-k.values) c.args.joined.now c.loop-k.k
+    (record { 0 = 0 }) c.requires.joined.go_on c.loop-k-test.true c.loop-k.invariant.within c.loop-k.invariant.told
 
-pub returns-clause-holds : goal.returns-clause-holds
-returns-clause-holds c =
-    let n : length c.loop-left.left.now ≡ 0 = omega (arith, c.in_default.len_below) in
-    set_is c.loop-left.values c.args.edge.0 _ (holding_top c.args.terms.now c.args.edge (numbered (trees_at c.args.terms.now c.args.atoms.now) c.args.valuation) c.args._flags.now c.loop-left.values
-    c.requires.reached c.loop-left.left.now n c.loop-left.invariant)
+pub loop-k-preserved : goal.loop-k-preserved
+loop-k-preserved c = record {
+  within = omega (arith, c.loop-k.invariant.within);
+  told = tells_more c.args.terms.now (holds (numbered (trees_at c.args.terms.now c.args.atoms.now) c.args.valuation)) (hash.contains nat_eq c.loop-k.values) (hash.contains nat_eq c.tell.new.noted)
+      c.args.joined.now c.loop-k.k (record { 0 = 0 }) c.value_of-value.result c.loop-k-test.true c.loop-k.invariant.within c.value_of-value.ensures c.in_ok-tell.ensures c.loop-k.invariant.told;
+}
+
+pub returns : goal.returns
+returns c =
+    let z : c.loop-k.k ≡ 0 = omega (arith, c.loop-k-test.false) in
+    c.contains.ensures
+    ∙ tells_one c.args.terms.now (holds (numbered (trees_at c.args.terms.now c.args.atoms.now) c.args.valuation)) (hash.contains nat_eq c.loop-k.values) c.args.joined.now c.args.edge c.loop-k.k z
+    c.loop-k.invariant.told c.requires.joined.there.0

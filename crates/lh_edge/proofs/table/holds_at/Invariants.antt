@@ -1,11 +1,16 @@
-use Rattle.std.proofs.Common.{length}
+use Rattle.std.proofs.Common.{◌≤◌, nat_eq, drop, length}
+use Rattle.std.specs.HashSet as hash
 use Rattle.lh_term.specs.Arena.{trees_at}
+use Rattle.lh_edge.specs.Valuations.{holds}
+use Rattle.lh_edge.specs.Reached.{Tells}
 use Rattle.lh_edge.specs.Steps.{numbered}
-use Rattle.lh_edge.proofs.TermValues.{Holding}
 use Rattle.lh_edge.proofs.table.holds_at.Given as goal
 
-abbrev pub invariant-loop-left : goal.invariant-loop-left
-invariant-loop-left l = Holding l.terms (numbered (trees_at l.terms l.atoms) l.valuation) l._flags l.values l.left
+abbrev pub invariant-loop-k : goal.invariant-loop-k
+invariant-loop-k l = record {
+  within : l.k ≤ length l.joined;
+  told : Tells l.terms (holds (numbered (trees_at l.terms l.atoms) l.valuation)) (hash.contains nat_eq l.values) (drop l.k l.joined);
+}
 
-abbrev pub decreases-loop-left : goal.decreases-loop-left
-decreases-loop-left l = length l.left
+abbrev pub decreases-loop-k : goal.decreases-loop-k
+decreases-loop-k l = l.k

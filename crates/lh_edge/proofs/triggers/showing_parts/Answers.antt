@@ -11,12 +11,11 @@ add_showing-requires c =
 pub loop-k-preserved : goal.loop-k-preserved
 loop-k-preserved c = record {
   within = omega (arith, c.loop-k.invariant.within);
-  so_far = λ on h.
-      showing_turn on c.args.terms.now c.args.atoms.now c.loop-k.k (record { 0 = 0 }) c.loop-k.parts.items c.add_showing.new.parts.items (omega (arith, c.loop-k-test.true)) c.loop-k.invariant.within
-      (c.loop-k.invariant.so_far on h) (c.in_ok-add_showing.ensures on h);
+  so_far = showing_turn c.args.waited.now c.args.terms.now c.args.atoms.now c.loop-k.k (record { 0 = 0 }) c.loop-k.parts.items c.add_showing.new.parts.items (omega (arith, c.loop-k-test.true)) c.loop-k.invariant.within
+      c.loop-k.invariant.so_far (c.in_ok-add_showing.ensures c.args.waited.now c.in_ok-cover.ensures);
 }
 
 pub returns : goal.returns
-returns c = λ on h.
+returns c =
     let z : c.loop-k.k ≡ 0 = omega (arith, c.loop-k-test.false) in
-    showing_end on c.args.terms.now c.args.atoms.now c.loop-k.k c.loop-k.parts.items z (c.loop-k.invariant.so_far on h)
+    showing_end c.args.waited.now c.args.terms.now c.args.atoms.now c.loop-k.k c.loop-k.parts.items z c.loop-k.invariant.so_far

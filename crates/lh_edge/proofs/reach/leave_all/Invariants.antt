@@ -1,0 +1,9 @@
+use Rattle.std.proofs.Common.{◌≡◌, ◌||◌, ℕ, drop}
+use Rattle.std.specs.Ordering.{nat_cmp}
+use Rattle.std.specs.BTreeSet as sorted
+use Rattle.lh_edge.specs.Reached.{is_on}
+use Rattle.lh_edge.proofs.reach.leave_all.Given as goal
+
+abbrev pub invariant-loop-x : goal.invariant-loop-x
+invariant-loop-x l =
+    (q : ℕ) → (is_on (drop l.x-index l.xs) q || sorted.contains nat_cmp l.left q) ≡ (is_on l.fn.xs q || sorted.contains nat_cmp l.fn.left q)
