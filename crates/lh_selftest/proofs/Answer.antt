@@ -13,7 +13,7 @@ use Rattle.lh_read.specs.Reading.{ModuleOrNoMemory}
 use Rattle.lh_read.specs.declared.TextFault.{TextFault}
 use Rattle.lh_read.specs.declared.TextFault.TheVariants.{Syntax, UnitTooLarge, DuplicateName, OutOfMemory}
 use Rattle.lh_lowered.specs.Lowering.{lowered}
-use Rattle.lh_generator.specs.Summary.{chain_name, max_frames, WentSo, summary}
+use Rattle.lh_generator.specs.Summary.{chain_name, max_frames, WentSo, IsSummaryOf, summary}
 use Rattle.lh_generator.specs.declared.summary.RunSummary.{RunSummary}
 use Rattle.lh_generator.specs.declared.summary.Units.{Units}
 use Rattle.lh_selftest.specs.SelfTest.{HasDesign, IsChain, IsTextOf, IsSelfTest, units_of}
@@ -43,14 +43,15 @@ pub went_so : (a : Arena) (d : ByIds) (n : ℕ) (c : RunSummary) → elab (conte
 unfolding course_on
 went_so a d n c e h = subst (λ (x : Elaborated). WentSo (trace_by max_instructions (contents a) n x) c) (sym e) h
 
-pub is_self_test : (links : ℕ) (file other : List ItemText) (units : Units) (c c' : RunSummary) (text : List ℕ) → IsChain links file → other ≡ lowered file → units ≡ units_of file
-    → WentSo (trace file chain_name max_frames) c → WentSo (trace other chain_name max_frames) c' → text ≡ summary units c c' → IsSelfTest links text
+-- the summary of the runs of a file and of what it is lowered to
+pub is_summary : (file other : List ItemText) (units : Units) (c c' : RunSummary) (text : List ℕ) → other ≡ lowered file → units ≡ units_of file → WentSo (trace file chain_name max_frames) c
+    → WentSo (trace other chain_name max_frames) c' → text ≡ summary units c c' → IsSummaryOf file (lowered file) (units_of file) text
+is_summary file other units c c' text e u w w' s = (c, c', w, subst (λ (x : List ItemText). WentSo (trace x chain_name max_frames) c') e w', s ∙ ap (λ (x : Units). summary x c c') u)
+
+-- is the answer, where the file is that of the chain
+pub is_self_test : (links : ℕ) (file : List ItemText) (text : List ℕ) → IsChain links file → IsSummaryOf file (lowered file) (units_of file) text → IsSelfTest links text
 unfolding IsSelfTest IsTextOf
-is_self_test links file other units c c' text h e u w w' s = (
-  file,
-  subst (λ (t : List ℕ). Reads t file) h.is h.runs.reads,
-  (c, c', w, subst (λ (x : List ItemText). WentSo (trace x chain_name max_frames) c') e w', s ∙ ap (λ (x : Units). summary x c c') u),
-)
+is_self_test links file text h s = (file, subst (λ (t : List ℕ). Reads t file) h.is h.runs.reads, s)
 
 -- the same of a simulation that begins
 pub course_so : (a m : Arena) (d : ByIds) (s : Simulation) (n : ℕ) (c : RunSummary) → m ≡ a → s.arena ≡ m → s.design ≡ d → StandsFor s (first_world (contents m) (design_text m d))
