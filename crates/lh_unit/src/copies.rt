@@ -5,8 +5,9 @@ use crate::inst::{
     BlockId, Declare, Inst, OperandList, PhiEdgeList, RegTriggerList, Typed, TypedList, UnitId,
     ValueId, ValueIdList,
 };
+use lh_names::name::UnitName;
 use lh_types::op::Op;
-use lh_types::ty::{NoMemory, Ty};
+use lh_types::ty::{NoMemory, Ty, TyList};
 use std::alloc::Global;
 
 impl Typed {
@@ -169,30 +170,38 @@ impl Declare {
                 name,
                 params,
                 result,
-            } => {
-                let name = name.copy()?;
-                let params = params.copy()?;
-                let result = result.copy()?;
-                Ok(Declare::Func {
-                    name,
-                    params,
-                    result,
-                })
-            }
+            } => copy_func(name, params, result),
             Declare::Unit {
                 name,
                 inputs,
                 outputs,
-            } => {
-                let name = name.copy()?;
-                let inputs = inputs.copy()?;
-                let outputs = outputs.copy()?;
-                Ok(Declare::Unit {
-                    name,
-                    inputs,
-                    outputs,
-                })
-            }
+            } => copy_unit(name, inputs, outputs),
         }
     }
+}
+
+fn copy_func(name: &UnitName, params: &TyList, ty: &Ty) -> Result<Declare, NoMemory>
+    ensures { IfOk result (λ declare. declare ≡ Declare.Func name.now params.now ty.now) }
+{
+    let name = name.copy()?;
+    let params = params.copy()?;
+    let result = ty.copy()?;
+    Ok(Declare::Func {
+        name,
+        params,
+        result,
+    })
+}
+
+fn copy_unit(name: &UnitName, inputs: &TyList, outputs: &TyList) -> Result<Declare, NoMemory>
+    ensures { IfOk result (λ declare. declare ≡ Declare.Unit name.now inputs.now outputs.now) }
+{
+    let name = name.copy()?;
+    let inputs = inputs.copy()?;
+    let outputs = outputs.copy()?;
+    Ok(Declare::Unit {
+        name,
+        inputs,
+        outputs,
+    })
 }

@@ -1,5 +1,5 @@
 //! One unit of the arena.
-ghost use Rattle.std.specs.Prelude.{◌≡◌, ◌≤◌, ◌<◌, ◌+◌, ◌-◌, ◌^◌, [], ◌∷◌, ◌++◌, length, slice_set, slice_index_or, unwrap_or, vec_len, vec_capacity, IsSome, OnOk, OnErr};
+ghost use Rattle.std.specs.Prelude.{◌≡◌, ◌≤◌, ◌<◌, ◌+◌, ◌-◌, ◌^◌, [], ◌∷◌, ◌++◌, length, slice_set, slice_index_or, unwrap_or, vec_len, vec_capacity, Some, IsSome, OnOk, OnErr};
 ghost use Rattle.std.specs.Option.{option_copied};
 ghost use Rattle.lh_unit.specs.Table.{no_table, entity_block, ResultWithin, HasBlocks, IsDefinition, with_definition, defined_among, line_at, insts_at};
 ghost use Rattle.lh_unit.specs.declared.inst.ValueDef.TheVariants as value_def;
@@ -107,7 +107,7 @@ impl UnitTable {
     {
         match kind {
             UnitKind::Func => {
-                self.result = Some(Ty::void());
+                put_type(&mut self.result, Ty::void());
                 self.kind = Some(kind);
                 Ok(())
             }
@@ -145,7 +145,7 @@ impl UnitTable {
         requires { self.old.kind ≡ Some UnitKind.Func }
         ensures { self.new ≡ with_result self.old ty }
     {
-        self.result = Some(ty);
+        put_type(&mut self.result, ty);
     }
 
     /// Adds a block at the end, with no instructions.
@@ -315,6 +315,13 @@ fn begin_block(
     bodies[0] = Some(ListOf::new(*blocks.allocator()));
     blocks.push_reserved(BlockId(0));
     Ok(())
+}
+
+// On its own, since the drop of what stood there has a case for each kind of type.
+fn put_type(place: &mut Option<Ty>, ty: Ty)
+    ensures { place.new ≡ Some ty }
+{
+    *place = Some(ty);
 }
 
 fn push_arg(args: &mut Vec<Arg>, arg: Arg) -> Result<(), NoMemory>

@@ -1,7 +1,7 @@
-use Rattle.std.proofs.Common.{rules, ◌≡◌, ◌<◌, ◌++◌, ◌∷◌, [], None, is_some, length, refl, sym, ap, ◌∙◌}
+use Rattle.std.proofs.Common.{rules, ◌≡◌, ◌<◌, ◌++◌, ◌∷◌, [], None, is_some, length, refl, sym, ap, subst, ◌∙◌}
 use Rattle.std.specs.Vec.{with_item}
 use Rattle.lh_unit.specs.TableCalls.{begun}
-use Rattle.lh_unit.specs.Arena.{table_at, kind_at}
+use Rattle.lh_unit.specs.Arena.{IsArena, table_at, kind_at}
 use Rattle.lh_unit.specs.ArenaOf.{arena_of}
 use Rattle.lh_unit.specs.declared.inst.Item.TheVariants as item
 use Rattle.lh_unit.proofs.ItemLemmas.{HasContents-begun, defines-begun, defines-missing, kind-told, none-told, IsArena-begins, with_begun, began, unchanged}
@@ -16,12 +16,22 @@ returns-then-is_some c =
       refl,
     )
 
+pub invariant_of-self : goal.invariant_of-self
+invariant_of-self c = subst (λ is. IsArena (record (arena_of c.self.inside) { items = is })) (sym c.reserve.ensures.items) c.self.invariant
+
 pub returns-then-is_err : goal.returns-then-is_err
 returns-then-is_err c =
     let h : c.args.unit.0 < length (arena_of c.self.inside).units = search rules in
     let n : kind_at (arena_of c.self.inside) c.args.unit.0 ≡ None = none-told (arena_of c.self.inside) c.args.unit.0 c.index.result.now h c.index.ensures (ap is_some (sym c.kind.ensures)
     ∙ sym c.is_some.ensures ∙ c.if-is_some.false) in
     rw (← c.self.view_is) (defines-missing (arena_of c.self.inside) c.args.unit c.self.invariant h n, λ i. record (arena_of c.self.inside) { items = c.reserve.ensures.items i })
+
+pub invariant_of-self-then-is_err-2 : goal.invariant_of-self-then-is_err-2
+invariant_of-self-then-is_err-2 c =
+    let h : c.args.unit.0 < length (arena_of c.self.inside).units = search rules in
+    let b : c.begin.new.self ≡ c.index_mut-table.result.now = search rules in
+    subst IsArena (sym (unchanged (arena_of c.self.inside) c.args.unit.0 c.index_mut-table.result.now c.begin.new.self c.reserve.new.self.items h c.index_mut-table.ensures.value b c.reserve.ensures.items))
+    c.self.invariant
 
 pub returns-then-is_err-2 : goal.returns-then-is_err-2
 returns-then-is_err-2 c =
@@ -34,15 +44,15 @@ returns-then-is_err-2 c =
       unchanged (arena_of c.self.inside) c.args.unit.0 c.index_mut-table.result.now c.begin.new.self c.reserve.new.self.items h c.index_mut-table.ensures.value b c.reserve.ensures.items,
     )
 
-began_now : (c : goal.After-put_item) → (record (arena_of c.self.inside) {
-  units = (arena_of record { names = c.self.inside.names; units = with_item c.self.inside.units c.args.unit.0 c.begin.new.self; items = c.put_item.new.items }).units;
-  items = c.put_item.new.items.items;
+began_now : (c : goal.After-push_reserved) → (record (arena_of c.self.inside) {
+  units = (arena_of record { names = c.self.inside.names; units = with_item c.self.inside.units c.args.unit.0 c.begin.new.self; items = c.push_reserved.new.self }).units;
+  items = c.push_reserved.new.self.items;
 }) ≡ with_begun (arena_of c.self.inside) c.args.unit (begun (table_at (arena_of c.self.inside) c.args.unit.0) c.args.kind)
 began_now c =
     let h : c.args.unit.0 < length (arena_of c.self.inside).units = search rules in
     let b : c.begin.new.self ≡ begun c.index_mut-table.result.now c.args.kind = search rules in
-    let p : c.put_item.new.items.items ≡ c.self.inside.items.items ++ item.Unit c.args.unit ∷ [] = search rules in
-    began (arena_of c.self.inside) c.args.unit c.args.kind c.index_mut-table.result.now c.begin.new.self c.put_item.new.items.items h c.index_mut-table.ensures.value b p
+    let p : c.push_reserved.new.self.items ≡ c.self.inside.items.items ++ item.Unit c.args.unit ∷ [] = search rules in
+    began (arena_of c.self.inside) c.args.unit c.args.kind c.index_mut-table.result.now c.begin.new.self c.push_reserved.new.self.items h c.index_mut-table.ensures.value b p
 
 pub invariant_of-self-2 : goal.invariant_of-self-2
 invariant_of-self-2 c =

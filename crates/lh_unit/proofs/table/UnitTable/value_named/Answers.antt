@@ -1,8 +1,9 @@
-use Rattle.std.proofs.Common.{rules, ◌≡◌, ◌<◌, ◌-◌, ◌^◌, ◌++◌, ◌∷◌, [], false, length, refl, sym}
+use Rattle.std.proofs.Common.{rules, ◌≡◌, ◌<◌, ◌-◌, ◌^◌, ◌++◌, ◌∷◌, [], false, length, refl, sym, subst}
 use Rattle.lh_unit.specs.TableOf.{table_of}
 use Rattle.lh_names.specs.Distinct.{has_name}
 use Rattle.lh_unit.specs.declared.inst.ValueDef.TheVariants as value_def
-use Rattle.lh_unit.proofs.Entering.{new-absent}
+use Rattle.lh_unit.specs.Table.{Definitions}
+use Rattle.lh_unit.proofs.Entering.{new-absent, old-kept}
 use Rattle.lh_unit.proofs.Tables.{IsTable-by, IsTable-new_value, Definitions-same, Definitions-new_value}
 use Rattle.lh_names.proofs.NameLists.{inserted}
 use Rattle.lh_unit.proofs.table.UnitTable.value_named.Goals as goal
@@ -17,4 +18,20 @@ invariant_of-self-then-is_new c =
           (IsTable-new_value (table_of c.self.inside) c.args.name (sym absent) room c.self.invariant.0),
       rw f (Definitions-same (record (table_of c.self.inside) { values = c.self.inside.values ++ c.args.name ∷ [] }) _ _ e refl refl
           (Definitions-new_value (table_of c.self.inside) c.self.inside.defs.items c.args.name c.self.invariant.0 c.self.invariant.1)),
+    )
+
+pub invariant_of-self : goal.invariant_of-self
+invariant_of-self c = (c.self.invariant.0, subst (Definitions (table_of c.self.inside)) (sym c.reserve.ensures.items) c.self.invariant.1)
+
+pub invariant_of-self-in_err-i : goal.invariant_of-self-in_err-i
+invariant_of-self-in_err-i c = (
+  IsTable-by _ (table_of c.self.inside) refl c.in_err-i.ensures.err refl refl refl refl refl refl c.self.invariant.0,
+  subst (Definitions _) (sym c.reserve.ensures.items) (Definitions-same (table_of c.self.inside) _ _ c.in_err-i.ensures.err refl refl c.self.invariant.1),
+)
+
+pub invariant_of-self-else-is_new : goal.invariant_of-self-else-is_new
+invariant_of-self-else-is_new c =
+    let e : c.enter.new.self ≡ c.self.inside.values = old-kept _ _ _ _ c.if-is_new.false c.in_ok-i.ensures.added c.in_ok-i.ensures.names in (
+      IsTable-by _ (table_of c.self.inside) refl e refl refl refl refl refl refl c.self.invariant.0,
+      subst (Definitions _) (sym c.reserve.ensures.items) (Definitions-same (table_of c.self.inside) _ _ e refl refl c.self.invariant.1),
     )
