@@ -1,9 +1,19 @@
-use Rattle.std.proofs.Common.{map, ap}
+use Rattle.std.proofs.Common.{◌≡◌, ◌<◌, ◌++◌, List, length, get_or, map, ap, sym, subst, ◌∙◌}
+use Rattle.std.proofs.lemmas.List.{append-nil, at_drop_all}
 use Rattle.lh_unit.specs.Arena.{item_text_at}
-use Rattle.lh_unit.specs.Canon.{canon_lines, item_lines}
+use Rattle.lh_unit.specs.Canon.{canon, canon_lines, item_lines}
+use Rattle.lh_unit.specs.declared.inst.Item.{Item}
 use Rattle.lh_unit.proofs.Lists.{drop-item}
+use Rattle.lh_unit.proofs.Placing.{item-placed}
 use Rattle.lh_print.proofs.Joined.{line_step}
 use Rattle.lh_print.proofs.units.put_items.Goals as goal
+
+pub put_item-requires : goal.put_item-requires
+put_item-requires c =
+    let within : c.loop-item.item-index < length c.args.m.now.items = subst (λ (xs : List Item). c.loop-item.item-index < length xs) c.items-item-items.ensures.items c.loop-item-test.true in
+    let there : c.item-item.result ≡ get_or c.args.m.now.items c.loop-item.item-index c.item-item.result = c.item-item.is
+    ∙ ap (λ xs. get_or xs c.loop-item.item-index c.item-item.result) c.items-item-items.ensures.items in
+    item-placed c.args.m.now c.loop-item.item-index c.item-item.result c.items-item-items.ensures.sound within there
 
 pub loop-item-preserved : goal.loop-item-preserved
 loop-item-preserved c = (
@@ -12,3 +22,7 @@ loop-item-preserved c = (
       c.loop-item.invariant.0,
   c.loop-item.invariant.1,
 )
+
+pub returns : goal.returns
+returns c = sym (append-nil c.loop-item.out.items)
+    ∙ sym (at_drop_all (λ l. c.loop-item.out.items ++ canon (map (item_text_at c.args.m.now) l)) c.items-item-items.result.now c.loop-item.item-index c.loop-item-test.false) ∙ c.loop-item.invariant.0
