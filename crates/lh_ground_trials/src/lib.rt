@@ -1,4 +1,5 @@
-//! Tests of the crates that know no modules: flows, streams, watchers and what waits for an instant.
+//! Tests of what no run of the program shows: instants, buckets of a queue, streams of the system, tokens, words of a command line, codes of many signals,
+//! the text of a self-test, and that what is printed reads again.
 #![tactic(auto)]
 
 pub mod instants;

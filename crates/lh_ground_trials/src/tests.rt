@@ -1,8 +1,10 @@
 //! The tests by crates: the first word of a module is the name of the crate that it tries.
 
-mod flow_routes;
-mod index_noting;
+mod again_printed;
+mod generator_chain;
 mod io_whole;
-mod queue_order;
-mod watch_members;
-mod wishes_overlap;
+mod lex_tokens;
+mod queue_buckets;
+mod time_due;
+mod wave_lines;
+mod words_commands;

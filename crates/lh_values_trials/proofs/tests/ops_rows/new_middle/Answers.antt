@@ -1,6 +1,0 @@
-use Rattle.std.proofs.Common.{arith}
-use Rattle.lh_values_trials.proofs.Fitting.{insf_fits}
-use Rattle.lh_values_trials.proofs.tests.ops_rows.new_middle.Goals as goal
-
-pub gives-requires : goal.gives-requires
-gives-requires c = rw (c.in_ok-elements.ensures, c.byte.ensures) (insf_fits 10 20 30 (omega arith) (omega arith) (omega arith) 7 (omega arith))
