@@ -175,3 +175,11 @@ fn buckets_and_keys(rt: HostRuntime) -> Result<(), Fail> {
     assert!(rt; has(&queue, instant(5, 1), None));
     Ok(())
 }
+
+#[test]
+fn room_for_many_wishes(rt: HostRuntime) -> Result<(), Fail> {
+    let mut queue = Queue::new(rt.alloc());
+    queue.reserve(1_000_000)?;
+    assert!(rt; queue.next_due().is_none());
+    Ok(())
+}
