@@ -206,6 +206,18 @@ def drives_under_an_edge(count):
     yield from ("    br %init", "}")
 
 
+def conditions_at_an_edge(count):
+    """So many signals, each driven at one edge where an enable of its own is 1."""
+    enables = ", ".join(f"i1$ %e{k}" for k in range(count))
+    outputs = ", ".join(f"i32$ %q{k}" for k in range(count))
+    yield from (f"proc @p (i1$ %clk, {enables}, i32$ %d) -> ({outputs}) {{", "init:", "    %c0 = prb i1$ %clk", "    wait %check, %clk", "check:",
+                "    %c1 = prb i1$ %clk", "    %x = neq i1 %c0, %c1", "    %up = and i1 %x, %c1", "    br %up, %init, %event", "event:",
+                "    %t = const time 0s 1d", "    %v = prb i32$ %d")
+    for k in range(count):
+        yield from (f"    %g{k} = prb i1$ %e{k}", f"    drv i32$ %q{k}, %v after %t if %g{k}")
+    yield from ("    br %init", "}")
+
+
 # ---- things that are looked up ------------------------------------------------------------------------------------------
 
 def parts_from_the_lowest_bit(count):
@@ -357,6 +369,8 @@ def all_limits():
         Limit("500 drives at an edge", lambda: drives_under_an_edge(500), EDGE),
         Limit("1,000 drives at an edge", lambda: drives_under_an_edge(1000), EDGE),
         Limit("10,000 drives at an edge", lambda: drives_under_an_edge(10_000), EDGE),
+        Limit("4,000 conditions at an edge", lambda: conditions_at_an_edge(4000), EDGE),
+        Limit("8,000 conditions at an edge", lambda: conditions_at_an_edge(8000), EDGE),
         Limit("20,000 parts from the lowest bit", lambda: parts_from_the_lowest_bit(20_000), COMB),
         Limit("20,000 delays", lambda: delays(20_000), COMB),
         Limit("30,000 arguments named as values", lambda: names_that_are_taken(30_000), COMB),

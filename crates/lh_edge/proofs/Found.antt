@@ -16,7 +16,7 @@ use Rattle.lh_edge.specs.declared.reach.Way.TheVariants.{Joined}
 use Rattle.lh_edge.specs.Steps.{AreDistinct, AreIdsOf, AreAllIdsOf, FindsThe, found_items, with_missing, with_atom, with_some, present_tree, IsPresent, AddsPresent}
 use Rattle.lh_edge.proofs.Bools.{and_both, or_cases, or_left, or_right, is_not, not_is, false_is, both_ways, has_append, has_left, has_right, has_self, has_once}
 use Rattle.lh_edge.proofs.Joined.{joins, IsJoined, is_joined, found_in, joined_sound}
-use Rattle.lh_edge.proofs.Walks.{on_push, on_at, on_below, pass_on, pass_own}
+use Rattle.lh_edge.proofs.Walks.{on_push, on_at, on_below, pass_on, pass_own, is_behind}
 use Rattle.std.proofs.lemmas.List.{take_more}
 use Rattle.lh_edge.proofs.Numbers.{here_or_before}
 
@@ -166,10 +166,6 @@ found_turn ns e found ids more n d r l s m =
     subst (λ (xs : List TermId). FoundSoFar ns e more xs) (sym (take_more ids n d l))
     (found_next ns e found (take n ids) ids (get_or ids n d) more s r (on_at ids n d l) (on_below (length ns) ids (get_or ids n d).0 r.are_in (on_at ids n d l)) m)
 
-or_none : (a : Bool) → (a || false) ≡ true → a ≡ true
-or_none true e = refl
-or_none false e = e
-
 -- each subterm of a term that is reached is found
 module _ (ns : List Node) (found ids : List TermId) (t : Tree)
     (each : (j : ℕ) → is_on ids j ≡ true → is_atom (tree_at (trees ns) (record { 0 = j })) ≡ true → has (trees_at ns found) (tree_at (trees ns) (record { 0 = j })) ≡ true) where
@@ -201,8 +197,7 @@ module _ (ns : List Node) (found ids : List TermId) (t : Tree)
           let no : is_atom (term_tree (trees ns) z) ≡ false = ap is_atom s.shown ∙ q in
           let j_is : subterms (term_tree (trees ns) z) ≡ joins (map (tree_at (trees ns)) (joined_by (trees ns) z)) = subst (λ (b : Bool). IsJoined (trees ns) z b) no (is_joined (trees ns) z) in
           let f = found_in (trees ns) (joined_by (trees ns) z) t (ap (λ us. has us t) (sym j_is) ∙ ap (λ u. has (subterms u) t) s.shown ∙ k) in
-          let on : (is_on left f.id.0 || false) ≡ true = pass_on (λ m. is_on left m || false) (joined_by (trees ns) z) f.id.0 s.on f.is_one in
-          rest f.id.0 (or_none (is_on left f.id.0) on) f.there
+          rest f.id.0 (pass_on (is_on left) (joined_by (trees ns) z) f.id.0 (is_behind Joined ns x left z s) f.is_one) f.there
 
       step : Rest → has (trees_at ns found) t ≡ true
       step rest = elim (or_cases (nat_eq j x.0) (is_on left j) o) [

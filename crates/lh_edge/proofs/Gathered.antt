@@ -24,7 +24,7 @@ use Rattle.lh_edge.specs.declared.reach.Way.TheVariants.{All}
 use Rattle.lh_edge.specs.Gates.{ArePresents, IsPresents, MakesGate, with_pair, with_present, Gathers}
 use Rattle.lh_edge.proofs.Bools.{or_cases, or_left, or_right}
 use Rattle.lh_edge.proofs.Gate.{first_append, put_pair, put_has, SwapSoFar, swap_first, swap_next, gate_is}
-use Rattle.lh_edge.proofs.Walks.{on_push, on_at, on_below, pass_on}
+use Rattle.lh_edge.proofs.Walks.{on_push, on_at, on_below, pass_on, is_behind}
 use Rattle.lh_edge.proofs.Found.{take_all}
 use Rattle.std.proofs.lemmas.List.{take_more}
 
@@ -141,10 +141,6 @@ module _ (old cur : List Node) (done : List TermId) (pairs : List (TermId × Ter
             ];
           })
 
-or_none : (a : Bool) → (a || false) ≡ true → a ≡ true
-or_none true e = refl
-or_none false e = e
-
 module _ (old cur : List Node) (ids : List TermId) (pairs : List (TermId × TermId)) (s : GatheredSoFar old cur ids pairs) (q : Part) where
   all_below : (left : List TermId) → ids_below (length old) left ≡ true → ((j : ℕ) → is_on left j ≡ true → is_on ids j ≡ true) → GoOn All old none_left left → (j : ℕ) → is_on left j ≡ true
       → list_any (same_part q) (pasts_in (tree_at (trees old) (record { 0 = j }))) ≡ true → is_first (pairs_at cur pairs) (past_of q) ≡ true
@@ -164,9 +160,7 @@ module _ (old cur : List Node) (ids : List TermId) (pairs : List (TermId × Term
           let t = g.0 z is in
           elim (past_under (trees old) z q (ap (λ u. list_any (same_part q) (pasts_in u)) t.shown ∙ k)) [
             | inl e ↦ s.pasts x.0 q (sub x.0 (or_left (nat_eq x.0 x.0) (is_on left x.0) (nat_eq-refl x.0))) (sym t.shown ∙ e)
-            | inr b ↦
-                let on : (is_on left b.id.0 || false) ≡ true = pass_on (λ m. is_on left m || false) (operands_of z) b.id.0 t.on b.is_one in
-                rest b.id.0 (or_none (is_on left b.id.0) on) b.there
+            | inr b ↦ rest b.id.0 (pass_on (is_on left) (operands_of z) b.id.0 (is_behind All old x left z t) b.is_one) b.there
           ]
 
       step : Rest → is_first (pairs_at cur pairs) (past_of q) ≡ true

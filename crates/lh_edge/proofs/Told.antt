@@ -1,5 +1,5 @@
 -- What is told of terms, from the lowest id upwards.
-use Rattle.std.proofs.Common.{◌≡◌, ℕ, zero, suc, ◌-◌, ◌<◌, ◌≤◌, inl, inr, Bool, true, false, ◌||◌, nat_eq, if◌then◌else◌, List, [], ◌∷◌, length, drop, get_or, refl, ap, sym, ◌∙◌, subst, arith, drop-cons}
+use Rattle.std.proofs.Common.{◌≡◌, ℕ, zero, suc, ◌-◌, ◌<◌, ◌≤◌, inl, inr, Bool, true, false, nat_eq, if◌then◌else◌, List, [], ◌∷◌, length, drop, get_or, refl, ap, sym, ◌∙◌, subst, arith, drop-cons}
 use Rattle.lh_term.specs.declared.term.TermId.{TermId}
 use Rattle.lh_term.specs.declared.term.Term.{Term}
 use Rattle.lh_term.specs.declared.term.Term.TheVariants.{Op as Applied, Choice}
@@ -12,11 +12,7 @@ use Rattle.lh_term.specs.Arena.{tree_at, trees}
 use Rattle.lh_edge.specs.Reached.{leads_to, is_on, AllPass, GoOn, none_left, Tells, TellsNext}
 use Rattle.lh_edge.specs.declared.reach.Way.{Way}
 use Rattle.lh_edge.proofs.Bools.{or_cases}
-use Rattle.lh_edge.proofs.Walks.{pass_more}
-
-or_none : (a : Bool) → (a || false) ≡ true → a ≡ true
-or_none true e = refl
-or_none false e = e
+use Rattle.lh_edge.proofs.Walks.{is_behind}
 
 at_number : (ts : List Tree) (x : TermId) (i : ℕ) → i ≡ x.0 → tree_at ts (record { 0 = i }) ≡ tree_at ts x
 at_number ts x i e = ap (λ n. tree_at ts (record { 0 = n })) e
@@ -64,9 +60,7 @@ module _ (ns : List Node) (p : Tree → Bool) where
   module _ (way : Way) (f : ℕ → Bool) where
     next_in : (ids : List TermId) (j : ℕ) (d : TermId) → GoOn way ns none_left ids → j < length ids → Tells ns p f (drop (suc j) ids) → TellsNext way ns p f (get_or ids j d)
     next_in [] j d g l t = absurd (omega arith)
-    next_in (x ∷ ids) zero d g l t = λ k at.
-        let o = g.0 k at in
-        tells_those f ids (leads_to way (trees ns) k) t (pass_more (λ i. is_on ids i || false) (is_on ids) (leads_to way (trees ns) k) (λ i e. or_none (is_on ids i) e) o.on)
+    next_in (x ∷ ids) zero d g l t = λ k at. tells_those f ids (leads_to way (trees ns) k) t (is_behind way ns x ids k (g.0 k at))
     next_in (x ∷ ids) (suc j) d g l t = next_in ids j d g.1 (omega arith) t
 
     -- the last of the terms of which nothing is told yet

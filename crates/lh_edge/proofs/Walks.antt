@@ -291,3 +291,12 @@ reached_end way ns xs f ids n s = record {
   go_on = go_on_end way ns f ids n s.go_on;
   only = s.only;
 }
+
+-- ---- those to which a term leads
+
+or_false : (a : Bool) → (a || false) ≡ true → a ≡ true
+or_false true e = refl
+or_false false e = e
+
+pub is_behind : (way : Way) (ns : List Node) (x : TermId) (more : List TermId) (k : Term) → GoesOn way ns none_left x more k → AllPass (is_on more) (leads_to way (trees ns) k)
+is_behind way ns x more k o = pass_more (λ i. is_on more i || false) (is_on more) (leads_to way (trees ns) k) (λ i e. or_false (is_on more i) e) o.on
