@@ -2,7 +2,7 @@
 //!
 //! | Words | The answer |
 //! |---|---|
-//! | `check`, `lower`, `simulate ..` | what the program writes by these words, and then its log; not that an instance ran away, which the trace says too |
+//! | `check`, `lower`, `simulate ..` | what the program writes by these words, and then its log; without the log where an instance ran away, which the trace says too |
 //! | `run ..` | the code with which the program ends by the words behind it, what it writes, and then its log |
 //! | `verify` | whether the file is well formed, or the first fault, without a name |
 //! | `same` | whether the program writes the text as it is |
