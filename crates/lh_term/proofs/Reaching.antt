@@ -1,5 +1,5 @@
 -- A walk over terms: those that are still to be looked at are taken from the last one on.
-use Rattle.std.proofs.Common.{◌≡◌, ℕ, zero, suc, ◌+◌, ◌<◌, ◌≤◌, ◌⊎◌, inl, inr, Bool, true, false, ◌||◌, nat_eq, nat_lt, cond, List, [], ◌∷◌, ◌++◌, length, drop, get_or, Ordering, Less, Equal, Greater, refl, ap, sym, ◌∙◌, subst, arith, Some, slice_get, slice_index_or, Result, Ok, Err, IfOk, OnOk}
+use Rattle.std.proofs.Common.{◌≡◌, ℕ, zero, suc, ◌+◌, ◌<◌, ◌⊎◌, inl, inr, Bool, true, false, ◌||◌, nat_eq, nat_lt, List, [], ◌∷◌, ◌++◌, length, drop, get_or, refl, ap, sym, ◌∙◌, subst, arith, Some, slice_get}
 use Rattle.std.specs.Ordering.{nat_cmp}
 use Rattle.std.specs.List.{list_any}
 use Rattle.std.specs.Cmp.{first_so, second_so}
@@ -8,7 +8,7 @@ use Rattle.std.specs.BTreeSet as sorted
 use Rattle.std.specs.BTreeSet.{BTreeSet}
 use Rattle.std.proofs.lemmas.Bool.{or_cases, or_left, or_right}
 use Rattle.lh_term.specs.Same.{nat_eq-is, nat_eq-refl}
-use Rattle.lh_term.specs.Arena.{tree_at, trees, terms_in, term_tree, ids_below, AreIn}
+use Rattle.lh_term.specs.Arena.{terms_in, ids_below, AreIn}
 use Rattle.lh_term.specs.Reach.{Leads, is_on, AllPass, Leaves, GoesOn, GoOn, none_left, PassesOn, AreReached}
 use Rattle.lh_term.specs.declared.term.TermId.{TermId}
 use Rattle.lh_term.specs.declared.term.Term.{Term}

@@ -1,5 +1,5 @@
 -- Terms in place of parts' values: their types and what they mean, and what stays as an arena grows.
-use Rattle.std.proofs.Common.{◌≡◌, ℕ, zero, suc, ◌+◌, ◌-◌, ◌<◌, ◌≤◌, Result, Ok, Err, IfOk, List, [], ◌∷◌, ◌++◌, length, map, Bool, true, false, ◌&&◌, nat_lt, refl, ap, sym, ◌∙◌, subst, Some, arith, append_assoc, length-append, take, drop, get_or, slice_get, inl, inr, ◌⊎◌, ◌||◌, nat_eq, Option, drop-cons, drop_of_length-le}
+use Rattle.std.proofs.Common.{◌≡◌, ℕ, zero, suc, ◌+◌, ◌-◌, ◌<◌, ◌≤◌, Result, Ok, Err, IfOk, List, [], ◌∷◌, ◌++◌, length, map, Bool, true, false, ◌&&◌, nat_lt, refl, ap, sym, ◌∙◌, subst, Some, arith, append_assoc, length-append, take, drop, get_or, slice_get, inl, inr, nat_eq, Option, drop-cons, drop_of_length-le}
 use Rattle.std.specs.Option.{is_some}
 use Rattle.std.proofs.lemmas.Bool.{or_cases}
 use Rattle.lh_term.specs.Same.{nat_eq-is, nat_eq-refl}
@@ -16,16 +16,16 @@ use Rattle.lh_term.specs.Types.{type_of, types_of, row_result, TakesTypes, Choos
 use Rattle.lh_term.specs.Mean.{Valuation, IsFitting, chosen, mean, means}
 use Rattle.lh_term.specs.SameTree.{same_tree, same_tree-is}
 use Rattle.lh_term.specs.Make.{make_operation, make_choice}
-use Rattle.lh_term.specs.Arena.{tree_at, term_tree, trees_from, terms_in, trees, trees_at, ids_below, term_below, IsIn, AllTyped, StandsForTree, Grows}
+use Rattle.lh_term.specs.Arena.{tree_at, term_tree, trees_from, terms_in, trees, trees_at, ids_below, IsIn, AllTyped, StandsForTree, Grows}
 use Rattle.lh_term.specs.Subst.{pairs_at, replaced, AreSwaps, SecondsTyped, PairsIn, swapped, swapped_row, past_with, now_with}
 use Rattle.lh_term.specs.Reach.{operands_of, is_on, AllPass, AreReached, AllMade, OperandsMade, AreMade, MadeFor}
 use Rattle.lh_term.specs.Laws.{SwapKeeps}
 use Rattle.lh_term.specs.declared.part.Part.{Part}
 use Rattle.lh_term.specs.declared.term.TermId.{TermId}
 use Rattle.lh_term.specs.declared.term.Term.{Term}
-use Rattle.lh_term.specs.declared.term.Term.TheVariants.{Konst, Past, Now, Op as Applied, Choice}
+use Rattle.lh_term.specs.declared.term.Term.TheVariants.{Op as Applied, Choice}
 use Rattle.lh_term.specs.declared.term.Node.{Node}
-use Rattle.lh_term.proofs.Arenas.{lt_of, of_lt, trees_grow, map_append, map_length, get_within, at_below, get_below, push_cases}
+use Rattle.lh_term.proofs.Arenas.{lt_of, of_lt, trees_grow, map_append, map_length, at_below, get_below}
 use Rattle.lh_term.proofs.Sound.{operation_sound, choice_sound}
 use Rattle.lh_term.proofs.Reaching.{on_at, on_below, behind}
 

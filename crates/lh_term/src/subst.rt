@@ -20,7 +20,8 @@ impl Terms {
     /// The term with terms in the places of parts' values, made anew by the equations. The first of each pair is a part's value
     /// before or now and first in no other pair, and the two are of one type.
     ///
-    /// It makes each shared term once. For want of memory the terms made before keep their ids.
+    /// It looks at the terms alone that the term is made of, and makes each once. For want of memory the terms made before keep
+    /// their ids.
     pub fn subst(&mut self, t: TermId, by: &Swap) -> Result<TermId, NoMemory>
         requires is_in { IsIn self.old t }
         requires pairs_in { PairsIn self.old by.now }

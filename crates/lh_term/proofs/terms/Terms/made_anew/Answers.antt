@@ -1,6 +1,6 @@
 use Rattle.std.proofs.Common.{◌≡◌, nat_eq, arith}
 use Rattle.std.specs.HashMap as hash
-use Rattle.lh_term.proofs.Swaps.{turn_in, turn_pairs, turn_swaps, turn_operands, turn_next, turn_last, grows_on}
+use Rattle.lh_term.proofs.Swaps.{turn_in, turn_pairs, turn_swaps, turn_operands, turn_next, turn_last}
 use Rattle.lh_term.proofs.terms.Terms.made_anew.Goals as goal
 
 pub remade-requires-clause-is_in : goal.remade-requires-clause-is_in
