@@ -8,15 +8,15 @@ use Rattle.lh_term.specs.Tree.{Tree, constant, past_of, now_of, operation, choic
 use Rattle.lh_term.specs.SameTree.{same_tree, same_tree-is, same_tree-refl}
 use Rattle.lh_term.specs.Same.{nat_eq-is, nat_eq-refl}
 use Rattle.lh_term.specs.Arena.{tree_at, trees, trees_at, term_tree, ids_below, IsIn, AreIn, Grows}
+use Rattle.lh_term.specs.Reach.{is_on, GoOn, none_left, PassesOn, AreReached}
 use Rattle.lh_term.proofs.Arenas.{lt_of, of_lt, map_push, map_append}
+use Rattle.lh_term.proofs.Reaching.{on_push, on_at, on_below, pass_on, pass_own, is_behind}
 use Rattle.lh_term.proofs.Swaps.{term_there, tree_grown, in_grown, grows_on}
 use Rattle.lh_edge.specs.Atoms.{is_one_bit, is_connective, subterms, subterms_in, presents, has, atoms_of}
-use Rattle.lh_edge.specs.Reached.{joined_by, is_atom, is_on, GoOn, none_left, PassesOn, AreReached}
-use Rattle.lh_edge.specs.declared.reach.Way.TheVariants.{Joined}
+use Rattle.lh_edge.specs.Reached.{joined_by, is_atom}
 use Rattle.lh_edge.specs.Steps.{AreDistinct, AreIdsOf, AreAllIdsOf, FindsThe, found_items, with_missing, with_atom, with_some, present_tree, IsPresent, AddsPresent}
 use Rattle.lh_edge.proofs.Bools.{and_both, or_cases, or_left, or_right, is_not, not_is, false_is, both_ways, has_append, has_left, has_right, has_self, has_once}
 use Rattle.lh_edge.proofs.Joined.{joins, IsJoined, is_joined, found_in, joined_sound}
-use Rattle.lh_edge.proofs.Walks.{on_push, on_at, on_below, pass_on, pass_own, is_behind}
 use Rattle.std.proofs.lemmas.List.{take_more}
 use Rattle.lh_edge.proofs.Numbers.{here_or_before}
 
@@ -116,14 +116,14 @@ atom_alone (choice_of c f t) e = at (is_one_bit f) e
     at false k = refl
 
 -- a term that is reached has no subterm but those of the edge part
-subterm_of : (ns : List Node) (e : TermId) (ids : List TermId) → AreReached Joined ns (e ∷ []) ids → (j : ℕ) (t : Tree) → is_on ids j ≡ true → has (subterms (tree_at (trees ns) (record { 0 = j }))) t ≡ true
+subterm_of : (ns : List Node) (e : TermId) (ids : List TermId) → AreReached (joined_by (trees ns)) ns (e ∷ []) ids → (j : ℕ) (t : Tree) → is_on ids j ≡ true → has (subterms (tree_at (trees ns) (record { 0 = j }))) t ≡ true
     → has (subterms (tree_at (trees ns) e)) t ≡ true
 subterm_of ns e ids r j t o h = at (has (subterms (tree_at (trees ns) e)) t) refl
   where
     lacks : ℕ → Bool
     lacks i = not (has (subterms (tree_at (trees ns) (record { 0 = i }))) t)
 
-    passes : PassesOn Joined ns lacks
+    passes : PassesOn (joined_by (trees ns)) ns lacks
     passes i k is shown n = pass_own lacks (joined_by (trees ns) k) (λ m a. not_is (has (subterms (tree_at (trees ns) (record { 0 = m }))) t) (false_is (has (subterms (tree_at (trees ns) (record { 0 = m }))) t)
         (λ y. both_ways (has (subterms (tree_at (trees ns) (record { 0 = i }))) t) (joined_sound ns i k shown m t a y) (is_not (has (subterms (tree_at (trees ns) (record { 0 = i }))) t) n))))
 
@@ -132,7 +132,7 @@ subterm_of ns e ids r j t o h = at (has (subterms (tree_at (trees ns) e)) t) ref
     at false q = absurd (both_ways (has (subterms (tree_at (trees ns) (record { 0 = j }))) t) h
         (is_not (has (subterms (tree_at (trees ns) (record { 0 = j }))) t) (pass_on lacks ids j (r.only lacks passes (not_is (has (subterms (tree_at (trees ns) e)) t) q, tt)) o)))
 
-pub found_next : (ns : List Node) (e : TermId) (found done ids : List TermId) (x : TermId) (more : List TermId) → FoundSoFar ns e found done → AreReached Joined ns (e ∷ []) ids → is_on ids x.0 ≡ true → IsIn ns x
+pub found_next : (ns : List Node) (e : TermId) (found done ids : List TermId) (x : TermId) (more : List TermId) → FoundSoFar ns e found done → AreReached (joined_by (trees ns)) ns (e ∷ []) ids → is_on ids x.0 ≡ true → IsIn ns x
     → more ≡ with_atom ns found x → FoundSoFar ns e more (done ++ x ∷ [])
 found_next ns e found done ids x more s r o l m = subst (λ (xs : List TermId). FoundSoFar ns e xs (done ++ x ∷ [])) (sym m) (at (is_atom T) refl)
   where
@@ -160,7 +160,7 @@ found_next ns e found done ids x more s r o l m = subst (λ (xs : List TermId). 
           ];
         }
 
-pub found_turn : (ns : List Node) (e : TermId) (found ids more : List TermId) (n : ℕ) (d : TermId) → AreReached Joined ns (e ∷ []) ids → n < length ids → FoundSoFar ns e found (take n ids)
+pub found_turn : (ns : List Node) (e : TermId) (found ids more : List TermId) (n : ℕ) (d : TermId) → AreReached (joined_by (trees ns)) ns (e ∷ []) ids → n < length ids → FoundSoFar ns e found (take n ids)
     → more ≡ with_atom ns found (get_or ids n d) → FoundSoFar ns e more (take (n + 1) ids)
 found_turn ns e found ids more n d r l s m =
     subst (λ (xs : List TermId). FoundSoFar ns e more xs) (sym (take_more ids n d l))
@@ -169,7 +169,7 @@ found_turn ns e found ids more n d r l s m =
 -- each subterm of a term that is reached is found
 module _ (ns : List Node) (found ids : List TermId) (t : Tree)
     (each : (j : ℕ) → is_on ids j ≡ true → is_atom (tree_at (trees ns) (record { 0 = j })) ≡ true → has (trees_at ns found) (tree_at (trees ns) (record { 0 = j })) ≡ true) where
-  all_below : (left : List TermId) → AreIn ns left → ((j : ℕ) → is_on left j ≡ true → is_on ids j ≡ true) → GoOn Joined ns none_left left → (j : ℕ) → is_on left j ≡ true
+  all_below : (left : List TermId) → AreIn ns left → ((j : ℕ) → is_on left j ≡ true → is_on ids j ≡ true) → GoOn (joined_by (trees ns)) ns none_left left → (j : ℕ) → is_on left j ≡ true
       → has (subterms (tree_at (trees ns) (record { 0 = j }))) t ≡ true → has (trees_at ns found) t ≡ true
   all_below [] i sub g j o h = cc
   all_below (x ∷ left) i sub g j o h =
@@ -197,7 +197,7 @@ module _ (ns : List Node) (found ids : List TermId) (t : Tree)
           let no : is_atom (term_tree (trees ns) z) ≡ false = ap is_atom s.shown ∙ q in
           let j_is : subterms (term_tree (trees ns) z) ≡ joins (map (tree_at (trees ns)) (joined_by (trees ns) z)) = subst (λ (b : Bool). IsJoined (trees ns) z b) no (is_joined (trees ns) z) in
           let f = found_in (trees ns) (joined_by (trees ns) z) t (ap (λ us. has us t) (sym j_is) ∙ ap (λ u. has (subterms u) t) s.shown ∙ k) in
-          rest f.id.0 (pass_on (is_on left) (joined_by (trees ns) z) f.id.0 (is_behind Joined ns x left z s) f.is_one) f.there
+          rest f.id.0 (pass_on (is_on left) (joined_by (trees ns) z) f.id.0 (is_behind (joined_by (trees ns)) ns x left z s) f.is_one) f.there
 
       step : Rest → has (trees_at ns found) t ≡ true
       step rest = elim (or_cases (nat_eq j x.0) (is_on left j) o) [
@@ -211,7 +211,7 @@ take_all [] (suc n) l = refl
 take_all (x ∷ xs) zero l = absurd (omega arith)
 take_all (x ∷ xs) (suc n) l = ap (λ r. x ∷ r) (take_all xs n (omega arith))
 
-pub finds_all : (ns : List Node) (e : TermId) (found ids : List TermId) (n : ℕ) → AreReached Joined ns (e ∷ []) ids → length ids ≤ n → length found ≤ 12 → FoundSoFar ns e found (take n ids)
+pub finds_all : (ns : List Node) (e : TermId) (found ids : List TermId) (n : ℕ) → AreReached (joined_by (trees ns)) ns (e ∷ []) ids → length ids ≤ n → length found ≤ 12 → FoundSoFar ns e found (take n ids)
     → AreAllIdsOf ns (subterms (tree_at (trees ns) e)) found
 finds_all ns e found ids n r z few w =
     let v : FoundSoFar ns e found ids = subst (λ (xs : List TermId). FoundSoFar ns e found xs) (take_all ids n z) w in

@@ -14,17 +14,15 @@ use Rattle.lh_term.specs.SameTree.{same_tree, same_tree-refl}
 use Rattle.lh_term.specs.Make.{bit_of}
 use Rattle.lh_term.specs.Arena.{tree_at, trees, term_tree, ids_below, IsIn, Grows, StandsForTree}
 use Rattle.lh_term.specs.Subst.{PairsIn, pairs_at, is_first}
-use Rattle.lh_term.specs.Reach.{operands_of}
+use Rattle.lh_term.specs.Reach.{operands_of, is_on, GoOn, none_left, AreReached}
 use Rattle.lh_term.proofs.Arenas.{lt_of}
+use Rattle.lh_term.proofs.Reaching.{on_push, on_at, on_below, pass_on, is_behind}
 use Rattle.lh_term.proofs.Swaps.{tree_grown, in_grown, grows_on, pairs_grown, pairs_in_grown, term_there}
 use Rattle.lh_edge.specs.Triggers.{pasts_in, pasts_in_row}
 use Rattle.lh_edge.specs.Steps.{present_tree, IsPresent}
-use Rattle.lh_edge.specs.Reached.{is_on, GoOn, none_left, AreReached}
-use Rattle.lh_edge.specs.declared.reach.Way.TheVariants.{All}
 use Rattle.lh_edge.specs.Gates.{ArePresents, IsPresents, MakesGate, with_pair, with_present, Gathers}
 use Rattle.lh_edge.proofs.Bools.{or_cases, or_left, or_right}
 use Rattle.lh_edge.proofs.Gate.{first_append, put_pair, put_has, SwapSoFar, swap_first, swap_next, gate_is}
-use Rattle.lh_edge.proofs.Walks.{on_push, on_at, on_below, pass_on, is_behind}
 use Rattle.lh_edge.proofs.Found.{take_all}
 use Rattle.std.proofs.lemmas.List.{take_more}
 
@@ -142,7 +140,7 @@ module _ (old cur : List Node) (done : List TermId) (pairs : List (TermId × Ter
           })
 
 module _ (old cur : List Node) (ids : List TermId) (pairs : List (TermId × TermId)) (s : GatheredSoFar old cur ids pairs) (q : Part) where
-  all_below : (left : List TermId) → ids_below (length old) left ≡ true → ((j : ℕ) → is_on left j ≡ true → is_on ids j ≡ true) → GoOn All old none_left left → (j : ℕ) → is_on left j ≡ true
+  all_below : (left : List TermId) → ids_below (length old) left ≡ true → ((j : ℕ) → is_on left j ≡ true → is_on ids j ≡ true) → GoOn operands_of old none_left left → (j : ℕ) → is_on left j ≡ true
       → list_any (same_part q) (pasts_in (tree_at (trees old) (record { 0 = j }))) ≡ true → is_first (pairs_at cur pairs) (past_of q) ≡ true
   all_below [] i sub g j o h = cc
   all_below (x ∷ left) i sub g j o h =
@@ -160,7 +158,7 @@ module _ (old cur : List Node) (ids : List TermId) (pairs : List (TermId × Term
           let t = g.0 z is in
           elim (past_under (trees old) z q (ap (λ u. list_any (same_part q) (pasts_in u)) t.shown ∙ k)) [
             | inl e ↦ s.pasts x.0 q (sub x.0 (or_left (nat_eq x.0 x.0) (is_on left x.0) (nat_eq-refl x.0))) (sym t.shown ∙ e)
-            | inr b ↦ rest b.id.0 (pass_on (is_on left) (operands_of z) b.id.0 (is_behind All old x left z t) b.is_one) b.there
+            | inr b ↦ rest b.id.0 (pass_on (is_on left) (operands_of z) b.id.0 (is_behind operands_of old x left z t) b.is_one) b.there
           ]
 
       step : Rest → is_first (pairs_at cur pairs) (past_of q) ≡ true
@@ -169,18 +167,18 @@ module _ (old cur : List Node) (ids : List TermId) (pairs : List (TermId × Term
         | inr r ↦ rest j r h
       ]
 
-pub gather_turn : (old cur new : List Node) (ids : List TermId) (pairs more : List (TermId × TermId)) (c : TermId) (n : ℕ) (d : TermId) → AreReached All old (c ∷ []) ids → n < length ids
+pub gather_turn : (old cur new : List Node) (ids : List TermId) (pairs more : List (TermId × TermId)) (c : TermId) (n : ℕ) (d : TermId) → AreReached operands_of old (c ∷ []) ids → n < length ids
     → GatheredSoFar old cur (take n ids) pairs → Grows cur new → Gathers cur new pairs (get_or ids n d) more → GatheredSoFar old new (take (n + 1) ids) more
 gather_turn old cur new ids pairs more c n d r l s g h =
     subst (λ (xs : List TermId). GatheredSoFar old new xs more) (sym (take_more ids n d l))
     (gather_next old cur (take n ids) pairs (get_or ids n d) s (on_below (length old) ids (get_or ids n d).0 r.are_in (on_at ids n d l)) new more g h)
 
 -- the next term is in the arena as it has grown
-pub gather_in : (old cur : List Node) (ids : List TermId) (pairs : List (TermId × TermId)) (c : TermId) (n : ℕ) (d : TermId) → AreReached All old (c ∷ []) ids → n < length ids
+pub gather_in : (old cur : List Node) (ids : List TermId) (pairs : List (TermId × TermId)) (c : TermId) (n : ℕ) (d : TermId) → AreReached operands_of old (c ∷ []) ids → n < length ids
     → GatheredSoFar old cur (take n ids) pairs → IsIn cur (get_or ids n d)
 gather_in old cur ids pairs c n d r l s = in_grown old cur s.grows (get_or ids n d) (on_below (length old) ids (get_or ids n d).0 r.are_in (on_at ids n d l))
 
-pub gathered_all : (old cur : List Node) (ids : List TermId) (pairs : List (TermId × TermId)) (c : TermId) (n : ℕ) → AreReached All old (c ∷ []) ids → length ids ≤ n
+pub gathered_all : (old cur : List Node) (ids : List TermId) (pairs : List (TermId × TermId)) (c : TermId) (n : ℕ) → AreReached operands_of old (c ∷ []) ids → length ids ≤ n
     → GatheredSoFar old cur (take n ids) pairs → IsPresents cur (tree_at (trees old) c) pairs
 gathered_all old cur ids pairs c n r z s =
     let w : GatheredSoFar old cur ids pairs = subst (λ (xs : List TermId). GatheredSoFar old cur xs pairs) (take_all ids n z) s in

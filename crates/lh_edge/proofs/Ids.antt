@@ -23,7 +23,6 @@ use Rattle.lh_term.proofs.Swaps.{tree_grown, in_grown, grows_on}
 use Rattle.lh_edge.specs.Atoms.{contains_past, some_past, edge_part}
 use Rattle.lh_edge.specs.Valuations.{connected}
 use Rattle.lh_edge.specs.Reached.{Tells, TellsNext}
-use Rattle.lh_edge.specs.declared.reach.Way.TheVariants.{All}
 use Rattle.lh_edge.specs.Steps.{TellPasts, values_at}
 use Rattle.lh_edge.proofs.Bools.{and_both}
 use Rattle.lh_edge.proofs.Numbers.{here_or_before}
@@ -97,7 +96,7 @@ operands_below i (Choice c f t) h =
 
 -- it is told of the operands of the next term
 pub tells_operands : (ns : List Node) (flags : List Bool) (f : ℕ → Bool) (i : ℕ) (k : Term) → slice_get (terms_in ns) i ≡ Some k → term_below i k ≡ true → TellSoFar ns flags f i
-    → TellsNext All ns contains_past f (record { 0 = i })
+    → TellsNext operands_of ns contains_past f (record { 0 = i })
 tells_operands ns flags f i k at b t = λ m is. let e : Some k ≡ Some m = sym at ∙ is in let same : k ≡ m = cc in
     tells_below ns f i t.told (operands_of m) (operands_below i m (ap (term_below i) (sym same) ∙ b))
 

@@ -8,8 +8,9 @@ use Rattle.lh_term.specs.declared.term.Node.{Node}
 use Rattle.lh_term.specs.Tree.{Tree, constant, choice_of, tree_row, operation_on}
 use Rattle.lh_term.specs.Same.{nat_eq-is, nat_eq-refl}
 use Rattle.lh_term.specs.Arena.{tree_at, trees, term_tree}
+use Rattle.lh_term.specs.Reach.{is_on}
 use Rattle.lh_edge.specs.Atoms.{is_one_bit, is_connective, subterms, subterms_in, has}
-use Rattle.lh_edge.specs.Reached.{joined_by, is_atom, is_on}
+use Rattle.lh_edge.specs.Reached.{joined_by, is_atom}
 use Rattle.lh_edge.proofs.Bools.{or_cases, or_left, or_right, has_append, has_left, has_right}
 
 -- ---- the subterms of what is joined

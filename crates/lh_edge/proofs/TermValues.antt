@@ -14,7 +14,6 @@ use Rattle.lh_term.specs.Arena.{tree_at, trees, trees_at, terms_in, term_tree}
 use Rattle.lh_edge.specs.Atoms.{is_one_bit, is_connective}
 use Rattle.lh_edge.specs.Valuations.{connected, holds, bits_of}
 use Rattle.lh_edge.specs.Reached.{joined_by, is_atom, Tells, TellsNext}
-use Rattle.lh_edge.specs.declared.reach.Way.TheVariants.{Joined}
 use Rattle.lh_edge.specs.Steps.{values_at, numbered, table_from}
 use Rattle.lh_edge.proofs.Numbers.{table_push}
 
@@ -72,7 +71,7 @@ module _ (ns : List Node) (v : Tree → Bool) (x : TermId) (k : Term) (shown : t
       sym (atom_holds v (tree_at (trees ns) x) (ap is_atom (sym s) ∙ ap not o))
 
   pub joined_value : (op : Op) (args : List TermId) (values : ℕ → Bool) → k ≡ Applied op args → is_connective op (tree_row (trees_at ns args)) ≡ true → slice_get (terms_in ns) x.0 ≡ Some k
-      → TellsNext Joined ns (holds v) values x
+      → TellsNext (joined_by (trees ns)) ns (holds v) values x
       → connected op (values_at values args) ≡ holds v (tree_at (trees ns) x)
   joined_value op args values e o at j =
       let ts = tree_row (trees_at ns args) in
@@ -86,7 +85,7 @@ module _ (ns : List Node) (v : Tree → Bool) (x : TermId) (k : Term) (shown : t
       let s : choice_of (tree_at (trees ns) c) (tree_at (trees ns) f) (tree_at (trees ns) t) ≡ tree_at (trees ns) x = ap (term_tree (trees ns)) (sym e) ∙ shown in
       sym (atom_holds v (tree_at (trees ns) x) (ap is_atom (sym s) ∙ ap not o))
 
-  pub chosen_value : (c f t : TermId) (values : ℕ → Bool) → k ≡ Choice c f t → is_one_bit (tree_at (trees ns) f) ≡ true → slice_get (terms_in ns) x.0 ≡ Some k → TellsNext Joined ns (holds v) values x
+  pub chosen_value : (c f t : TermId) (values : ℕ → Bool) → k ≡ Choice c f t → is_one_bit (tree_at (trees ns) f) ≡ true → slice_get (terms_in ns) x.0 ≡ Some k → TellsNext (joined_by (trees ns)) ns (holds v) values x
       → (if values c.0 then values t.0 else values f.0) ≡ holds v (tree_at (trees ns) x)
   chosen_value c f t values e o at j =
       let C = tree_at (trees ns) c in

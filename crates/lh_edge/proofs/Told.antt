@@ -4,15 +4,14 @@ use Rattle.lh_term.specs.declared.term.TermId.{TermId}
 use Rattle.lh_term.specs.declared.term.Term.{Term}
 use Rattle.lh_term.specs.declared.term.Term.TheVariants.{Op as Applied, Choice}
 use Rattle.lh_types.specs.declared.op.Op.{Op}
-use Rattle.lh_term.specs.Reach.{operands_of}
+use Rattle.lh_term.specs.Reach.{operands_of, Leads, is_on, AllPass, GoOn, none_left}
 use Rattle.lh_term.specs.declared.term.Node.{Node}
 use Rattle.lh_term.specs.Tree.{Tree}
 use Rattle.lh_term.specs.Same.{nat_eq-is, nat_eq-refl}
 use Rattle.lh_term.specs.Arena.{tree_at, trees}
-use Rattle.lh_edge.specs.Reached.{leads_to, is_on, AllPass, GoOn, none_left, Tells, TellsNext}
-use Rattle.lh_edge.specs.declared.reach.Way.{Way}
+use Rattle.lh_term.proofs.Reaching.{is_behind}
+use Rattle.lh_edge.specs.Reached.{Tells, TellsNext}
 use Rattle.lh_edge.proofs.Bools.{or_cases}
-use Rattle.lh_edge.proofs.Walks.{is_behind}
 
 at_number : (ts : List Tree) (x : TermId) (i : ℕ) → i ≡ x.0 → tree_at ts (record { 0 = i }) ≡ tree_at ts x
 at_number ts x i e = ap (λ n. tree_at ts (record { 0 = n })) e
@@ -57,14 +56,14 @@ module _ (ns : List Node) (p : Tree → Bool) where
   tells_at f (x ∷ xs) zero d l t = t.0
   tells_at f (x ∷ xs) (suc i) d l t = tells_at f xs i d (omega arith) t.1
 
-  module _ (way : Way) (f : ℕ → Bool) where
-    next_in : (ids : List TermId) (j : ℕ) (d : TermId) → GoOn way ns none_left ids → j < length ids → Tells ns p f (drop (suc j) ids) → TellsNext way ns p f (get_or ids j d)
+  module _ (leads : Leads) (f : ℕ → Bool) where
+    next_in : (ids : List TermId) (j : ℕ) (d : TermId) → GoOn leads ns none_left ids → j < length ids → Tells ns p f (drop (suc j) ids) → TellsNext leads ns p f (get_or ids j d)
     next_in [] j d g l t = absurd (omega arith)
-    next_in (x ∷ ids) zero d g l t = λ k at. tells_those f ids (leads_to way (trees ns) k) t (is_behind way ns x ids k (g.0 k at))
+    next_in (x ∷ ids) zero d g l t = λ k at. tells_those f ids (leads k) t (is_behind leads ns x ids k (g.0 k at))
     next_in (x ∷ ids) (suc j) d g l t = next_in ids j d g.1 (omega arith) t
 
     -- the last of the terms of which nothing is told yet
-    pub tells_next : (ids : List TermId) (k : ℕ) (d : TermId) → GoOn way ns none_left ids → 0 < k → k ≤ length ids → Tells ns p f (drop k ids) → TellsNext way ns p f (get_or ids (k - 1) d)
+    pub tells_next : (ids : List TermId) (k : ℕ) (d : TermId) → GoOn leads ns none_left ids → 0 < k → k ≤ length ids → Tells ns p f (drop k ids) → TellsNext leads ns p f (get_or ids (k - 1) d)
     tells_next ids k d g h l t = let e : k ≡ suc (k - 1) = omega arith in next_in ids (k - 1) d g (omega arith) (subst (λ (n : ℕ). Tells ns p f (drop n ids)) e t)
 
   pub tells_more : (f g : ℕ → Bool) (ids : List TermId) (k : ℕ) (d : TermId) (b : Bool) → 0 < k → k ≤ length ids → b ≡ p (tree_at (trees ns) (get_or ids (k - 1) d))

@@ -2,14 +2,14 @@
 ghost use Rattle.std.specs.Prelude.{◌≡◌, ◌<◌, [], ◌∷◌, length, OnOk, IfOk};
 ghost use Rattle.lh_term.specs.Tree.{tree_row};
 ghost use Rattle.lh_term.specs.Arena.{trees, tree_at, trees_at, IsIn, AreIn, Grows};
+ghost use Rattle.lh_term.specs.Reach.{AreReached};
 ghost use Rattle.lh_edge.specs.Atoms as spec;
 ghost use Rattle.lh_edge.specs.Reached as reach;
-ghost use Rattle.lh_edge.specs.Reached.{AreReached};
+ghost use Rattle.lh_edge.specs.Reached.{joined_by};
 ghost use Rattle.lh_edge.specs.Steps.{FindsThe, found_items, with_atom, with_missing, IsPresent, AddsPresent};
-ghost use Rattle.lh_edge.specs.declared.reach.Way.TheVariants as way;
 
 use crate::pasts::put;
-use crate::reach::{Way, reached};
+use crate::reach::joined_of;
 use lh_term::term::{Term, TermId};
 use lh_term::terms::Terms;
 use lh_types::op::Op;
@@ -92,7 +92,7 @@ fn found_subterms(
     _edge: TermId,
     joined: &[TermId],
 ) -> Result<Option<Vec<TermId>>, NoMemory>
-    requires { AreReached way.Joined terms.now (_edge ∷ []) joined.now }
+    requires { AreReached (joined_by (trees terms.now)) terms.now (_edge ∷ []) joined.now }
     ensures { IfOk result (λ found. FindsThe terms.now (spec.subterms (tree_at (trees terms.now) _edge)) (found_items found)) }
 {
     let mut found = Vec::new(alloc);
@@ -139,7 +139,7 @@ pub(crate) fn atoms_of(
     ensures found { IfOk result (λ found. FindsThe terms.new (spec.atoms_of (tree_at (trees terms.old) edge)) (found_items found)) }
     ensures kept { Grows terms.old terms.new }
 {
-    let joined = reached(alloc, terms, &[edge], Way::Joined)?;
+    let joined = joined_of(alloc, terms, &[edge])?;
     let Some(mut atoms) = found_subterms(alloc, terms, edge, &joined)? else {
         return Ok(None);
     };

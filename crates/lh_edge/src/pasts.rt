@@ -6,16 +6,15 @@ ghost use Rattle.lh_types.specs.Types.{int_type};
 ghost use Rattle.lh_term.specs.Types.{type_of};
 ghost use Rattle.lh_term.specs.Arena.{trees, tree_at, trees_at, IsIn, AreIn, StandsForTree, Grows};
 ghost use Rattle.lh_term.specs.Conjuncts.{conjunction};
+ghost use Rattle.lh_term.specs.Reach.{operands_of, GoOn, none_left};
 ghost use Rattle.lh_term.specs.Make.{make_operation};
 ghost use Rattle.lh_term.proofs.Sound.{IntTerm};
 ghost use Rattle.lh_types.specs.declared.op.Op.TheVariants as spec_op;
 ghost use Rattle.lh_term.proofs.Conditions.{AllBits};
 ghost use Rattle.lh_edge.specs.Atoms as spec;
 ghost use Rattle.lh_edge.specs.Steps.{TellPasts};
-ghost use Rattle.lh_edge.specs.Reached.{GoOn, none_left, Tells, TellsNext};
-ghost use Rattle.lh_edge.specs.declared.reach.Way.TheVariants as way;
+ghost use Rattle.lh_edge.specs.Reached.{Tells, TellsNext};
 
-use crate::reach::{Way, reached};
 use lh_term::term::{Term, TermId};
 use lh_term::terms::Terms;
 use lh_types::op::Op;
@@ -48,21 +47,21 @@ pub(crate) fn pasts_of(
     requires { AreIn terms.now xs.now }
     ensures { IfOk result (λ pasts. Tells terms.now spec.contains_past (hash.contains nat_eq pasts) xs.now) }
 {
-    let made = reached(alloc, terms, xs, Way::All)?;
-    pasts_among(alloc, terms, &made)
+    let made_of = terms.made_of(xs)?;
+    pasts_among(alloc, terms, &made_of)
 }
 
 /// The ids of the terms with a value before in them, of some with their operands behind them.
-fn pasts_among(alloc: Global, terms: &Terms, made: &[TermId]) -> Result<HashSet<usize>, NoMemory>
-    requires are_in { AreIn terms.now made.now }
-    requires go_on { GoOn way.All terms.now none_left made.now }
-    ensures { IfOk result (λ pasts. Tells terms.now spec.contains_past (hash.contains nat_eq pasts) made.now) }
+fn pasts_among(alloc: Global, terms: &Terms, made_of: &[TermId]) -> Result<HashSet<usize>, NoMemory>
+    requires are_in { AreIn terms.now made_of.now }
+    requires go_on { GoOn operands_of terms.now none_left made_of.now }
+    ensures { IfOk result (λ pasts. Tells terms.now spec.contains_past (hash.contains nat_eq pasts) made_of.now) }
 {
     let mut pasts = HashSet::new(alloc);
-    let mut k = made.len();
+    let mut k = made_of.len();
     while k > 0 {
         k -= 1;
-        note_past(terms, made[k], &mut pasts)?;
+        note_past(terms, made_of[k], &mut pasts)?;
     }
     Ok(pasts)
 }
@@ -70,7 +69,7 @@ fn pasts_among(alloc: Global, terms: &Terms, made: &[TermId]) -> Result<HashSet<
 /// Notes whether a value before is in a term.
 fn note_past(terms: &Terms, x: TermId, pasts: &mut HashSet<usize>) -> Result<bool, NoMemory>
     requires is_in { IsIn terms.now x }
-    requires tells { TellsNext way.All terms.now spec.contains_past (hash.contains nat_eq pasts.old) x }
+    requires tells { TellsNext operands_of terms.now spec.contains_past (hash.contains nat_eq pasts.old) x }
     ensures past { IfOk result (λ has_past. has_past ≡ spec.contains_past (tree_at (trees terms.now) x)) }
     ensures told { OnOk result ((q : ℕ) → hash.contains nat_eq pasts.new q ≡ (if nat_eq x.0 q then spec.contains_past (tree_at (trees terms.now) x) else hash.contains nat_eq pasts.old q)) }
 {
@@ -82,7 +81,7 @@ fn note_past(terms: &Terms, x: TermId, pasts: &mut HashSet<usize>) -> Result<boo
 /// Whether a value before is in a term, by what is told of its operands.
 fn contains_past(terms: &Terms, x: TermId, pasts: &HashSet<usize>) -> bool
     requires is_in { IsIn terms.now x }
-    requires tells { TellsNext way.All terms.now spec.contains_past (hash.contains nat_eq pasts.now) x }
+    requires tells { TellsNext operands_of terms.now spec.contains_past (hash.contains nat_eq pasts.now) x }
     ensures { result ≡ spec.contains_past (tree_at (trees terms.now) x) }
 {
     match terms.view(x) {

@@ -4,14 +4,14 @@ ghost use Rattle.std.specs.HashSet as hash;
 ghost use Rattle.lh_types.specs.ValueOf.{datum_of};
 ghost use Rattle.lh_term.specs.Make.{is_bit_value};
 ghost use Rattle.lh_term.specs.Arena.{trees, tree_at, trees_at, IsIn, AreIn};
+ghost use Rattle.lh_term.specs.Reach.{AreReached};
 ghost use Rattle.lh_edge.specs.Valuations as spec;
-ghost use Rattle.lh_edge.specs.Reached.{AreReached, TellsNext};
+ghost use Rattle.lh_edge.specs.Reached.{joined_by, TellsNext};
 ghost use Rattle.lh_edge.specs.Steps.{numbered, table_from, values_at};
-ghost use Rattle.lh_edge.specs.declared.reach.Way.TheVariants as way;
 
 use crate::atoms::{are_one_bit, connects, is_one_bit};
 use crate::pasts::{put, tell};
-use crate::reach::{Way, reached};
+use crate::reach::joined_of;
 use lh_term::term::{Term, TermId};
 use lh_term::terms::Terms;
 use lh_types::op::Op;
@@ -52,7 +52,7 @@ pub(crate) fn truth_table(
     requires are_in { AreIn terms.now atoms.now }
     ensures { IfOk result (λ table. table.items ≡ table_from (trees_at terms.now atoms.now) (tree_at (trees terms.now) edge) 0 size) }
 {
-    let joined = reached(alloc, terms, &[edge], Way::Joined)?;
+    let joined = joined_of(alloc, terms, &[edge])?;
     let mut values = HashSet::new(alloc);
     let mut table = Vec::new(alloc);
     for valuation in 0..size {
@@ -72,7 +72,7 @@ fn holds_at(
     values: &mut HashSet<usize>,
 ) -> Result<bool, NoMemory>
     requires are_in { AreIn terms.now atoms.now }
-    requires joined { AreReached way.Joined terms.now (edge ∷ []) joined.now }
+    requires joined { AreReached (joined_by (trees terms.now)) terms.now (edge ∷ []) joined.now }
     ensures { IfOk result (λ b. b ≡ spec.holds (numbered (trees_at terms.now atoms.now) valuation) (tree_at (trees terms.now) edge)) }
 {
     let mut k = joined.len();
@@ -94,7 +94,7 @@ fn value_of(
 ) -> bool
     requires is_in { IsIn terms.now x }
     requires are_in { AreIn terms.now atoms.now }
-    requires tells { TellsNext way.Joined terms.now (spec.holds (numbered (trees_at terms.now atoms.now) valuation)) (hash.contains nat_eq values.now) x }
+    requires tells { TellsNext (joined_by (trees terms.now)) terms.now (spec.holds (numbered (trees_at terms.now atoms.now) valuation)) (hash.contains nat_eq values.now) x }
     ensures { result ≡ spec.holds (numbered (trees_at terms.now atoms.now) valuation) (tree_at (trees terms.now) x) }
 {
     match terms.view(x) {

@@ -5,6 +5,7 @@ ghost use Rattle.lh_term.specs.declared.part.Part.{Part as PartRecord};
 ghost use Rattle.lh_term.specs.Types.{type_of};
 ghost use Rattle.lh_term.specs.Make.{is_bit as is_bit_tree, bit_of};
 ghost use Rattle.lh_term.specs.Arena.{trees, tree_at, trees_at, IsIn, AreIn, StandsForTree, Grows};
+ghost use Rattle.lh_term.specs.Reach.{operands_of, AreReached};
 ghost use Rattle.lh_term.specs.Subst.{PairsIn, pairs_at, is_first as first_in_pair};
 ghost use Rattle.lh_cover.specs.Runs.{IsCover};
 ghost use Rattle.lh_edge.specs.Answers.{TriggersOrFault, AreTriggers, AddsTrigger};
@@ -13,13 +14,10 @@ ghost use Rattle.lh_edge.specs.Shown as spec;
 ghost use Rattle.lh_edge.specs.Triggers as tri;
 ghost use Rattle.lh_edge.specs.Triggers.{in_order, with_part};
 ghost use Rattle.lh_edge.specs.Atoms.{contains_past};
-ghost use Rattle.lh_edge.specs.Reached.{AreReached};
-ghost use Rattle.lh_edge.specs.declared.reach.Way.TheVariants as way;
 ghost use Rattle.lh_edge.specs.Steps.{is_checked, showing_of, with_showing, place_in};
 
 use crate::atoms::{atoms_of, present_of};
 use crate::pasts::{edge_part, pasts_of, put, put_at};
-use crate::reach::{Way, reached};
 use crate::shown::EdgePart;
 use crate::table::truth_table;
 use lh_cover::Cover;
@@ -258,8 +256,8 @@ fn presents(
     ensures made { IfOk result (λ pairs. IsPresents terms.new (tree_at (trees terms.old) cond) pairs.items) }
     ensures kept { Grows terms.old terms.new }
 {
-    let made = reached(alloc, terms, &[cond], Way::All)?;
-    gathered(alloc, terms, cond, &made)
+    let made_of = terms.made_of(&[cond])?;
+    gathered(alloc, terms, cond, &made_of)
 }
 
 /// Those among the terms that the condition is made of.
@@ -267,14 +265,14 @@ fn gathered(
     alloc: Global,
     terms: &mut Terms,
     _cond: TermId,
-    made: &[TermId],
+    made_of: &[TermId],
 ) -> Result<Vec<(TermId, TermId)>, NoMemory>
-    requires { AreReached way.All terms.old (_cond ∷ []) made.now }
+    requires { AreReached operands_of terms.old (_cond ∷ []) made_of.now }
     ensures made { IfOk result (λ pairs. IsPresents terms.new (tree_at (trees terms.old) _cond) pairs.items) }
     ensures kept { Grows terms.old terms.new }
 {
     let mut pairs = Vec::new(alloc);
-    for x in made {
+    for x in made_of {
         gather(terms, *x, &mut pairs)?;
     }
     Ok(pairs)

@@ -16,7 +16,7 @@ use Rattle.lh_term.specs.Types.{IsTyped, AreTyped, type_of}
 use Rattle.lh_term.specs.SameTree.{same_tree, same_tree-is, same_tree-refl}
 use Rattle.lh_term.specs.SameTerm.{same_term, same_term-is, same_term-refl, datum_of-is, same_id}
 use Rattle.lh_term.specs.SameNode.{same_node}
-use Rattle.lh_term.specs.Arena.{tree_at, term_tree, trees_from, terms_in, trees, ids_below, term_below, all_below, StandsOnce, IsTypedNode, IsArena, IsIn, AreIn, trees_at, StandsForTree, OneId, Rising, AllTyped, Grows}
+use Rattle.lh_term.specs.Arena.{tree_at, term_tree, trees_from, terms_in, trees, ids_below, term_below, all_below, StandsOnce, IsTypedNode, IsArena, IsIn, AreIn, trees_at, StandsForTree, OneId, AllTyped, Grows}
 use Rattle.lh_term.specs.declared.part.Part.{Part}
 use Rattle.lh_term.specs.declared.term.TermId.{TermId}
 use Rattle.lh_term.specs.declared.term.Term.{Term}
@@ -448,9 +448,6 @@ apart_at vs ns e a =
     let m = means ns a in
     let l = trees_length ns a in
     one_id_at (trees ns) m.distinct x y (of_lt x.0 (length (trees ns)) (omega arith)) (of_lt y.0 (length (trees ns)) (omega arith)) s)
-
-pub rising_at : (vs ns : List Node) → ns ≡ vs → IsArena ns → Rising vs
-rising_at vs ns e a = let P : List Node → Type 0 = Rising in subst P e (λ i x p. let m = means ns a in m.below i x p)
 
 pub all_typed_at : (vs ns : List Node) → ns ≡ vs → IsArena ns → AllTyped vs
 all_typed_at vs ns e a = let P : List Node → Type 0 = AllTyped in subst P e (id_typed ns a)

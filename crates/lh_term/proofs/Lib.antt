@@ -4,5 +4,7 @@ pub mod Sound
 pub mod Values
 pub mod Walks
 pub mod Conditions
+pub mod Greatest
+pub mod Reaching
 pub mod Swaps
 pub mod Salts

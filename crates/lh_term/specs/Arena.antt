@@ -87,10 +87,6 @@ pub record StandsForTree (ns : List Node) (t : TermId) (x : Tree) : Type 0 where
 abbrev pub OneId : List Node → Type 0
 OneId ns = (x y : TermId) → IsIn ns x → IsIn ns y → tree_at (trees ns) x ≡ tree_at (trees ns) y → x ≡ y
 
--- operands are before their terms
-abbrev pub Rising : List Node → Type 0
-Rising ns = (i : ℕ) (x : Term) → slice_get (terms_in ns) i ≡ Some x → term_below i x ≡ true
-
 -- every term is typed
 abbrev pub AllTyped : List Node → Type 0
 AllTyped ns = (x : TermId) → IsIn ns x → IsTyped (tree_at (trees ns) x)

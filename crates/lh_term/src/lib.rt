@@ -7,6 +7,7 @@ pub mod laws;
 mod make;
 pub mod part;
 mod plain;
+pub mod reach;
 mod salt;
 pub mod subst;
 pub mod term;

@@ -1,14 +1,17 @@
 //! Terms in place of parts' values.
-ghost use Rattle.std.specs.Prelude.{◌≡◌, ◌<◌, true, Some, length, slice_get, IfOk, ◌+◌, false, replicate};
-ghost use Rattle.lh_term.specs.Arena.{trees, tree_at, ids_below, IsIn, StandsForTree, Grows};
+ghost use Rattle.std.specs.Prelude.{◌≡◌, [], ◌∷◌, true, Some, nat_eq, IfOk};
+ghost use Rattle.std.specs.Option.{is_some};
+ghost use Rattle.std.specs.HashMap as hash;
+ghost use Rattle.lh_term.specs.Arena.{trees, tree_at, IsIn, StandsForTree, Grows};
 ghost use Rattle.lh_term.specs.Subst.{AreSwaps, PairsIn, pairs_at, swapped, replaced};
-ghost use Rattle.lh_term.specs.Reach.{Reaches, Sets, SetsOperands, MadeFor, OperandsMade};
+ghost use Rattle.lh_term.specs.Reach.{operands_of, AreReached, AreMade, MadeFor, OperandsMade};
 
 use crate::term::{Term, TermId, TermList};
 use crate::terms::Terms;
 use lh_types::list::ListOf;
 use lh_types::ty::NoMemory;
 use std::alloc::Global;
+use std::collections::HashMap;
 
 /// A list of pairs: a part's value before or now, and the term that takes its place.
 pub type Swap = ListOf<(TermId, TermId)>;
@@ -17,7 +20,8 @@ impl Terms {
     /// The term with terms in the places of parts' values, made anew by the equations. The first of each pair is a part's value
     /// before or now and first in no other pair, and the two are of one type.
     ///
-    /// It makes each shared term once. For want of memory the terms made before keep their ids.
+    /// It looks at the terms alone that the term is made of, and makes each once. For want of memory the terms made before keep
+    /// their ids.
     pub fn subst(&mut self, t: TermId, by: &Swap) -> Result<TermId, NoMemory>
         requires is_in { IsIn self.old t }
         requires pairs_in { PairsIn self.old by.now }
@@ -25,83 +29,45 @@ impl Terms {
         ensures made { IfOk result (λ x. StandsForTree self.new x (swapped (pairs_at self.old by.now) (tree_at (trees self.old) t))) }
         ensures kept { Grows self.old self.new }
     {
-        self.are_rising();
-        let reached = self.reached(t)?;
-        let mut made = Vec::new(self.allocator());
-        for i in 0..t.0 {
-            let is_reached = is_set(&reached, TermId(i));
-            let x = self.remade_if(is_reached, TermId(i), by, &made)?;
-            made.push(x)?;
-        }
-        self.remade(t, by, &made)
+        let made_of = self.made_of(&[t])?;
+        self.made_anew(t, &made_of, by)
     }
 
-    /// The term, made anew if it is reached.
-    fn remade_if(
+    /// The term made anew, by the terms that it is made of.
+    fn made_anew(
         &mut self,
-        is_reached: bool,
+        t: TermId,
+        made_of: &[TermId],
+        by: &Swap,
+    ) -> Result<TermId, NoMemory>
+        requires is_in { IsIn self.old t }
+        requires pairs_in { PairsIn self.old by.now }
+        requires swaps { AreSwaps (pairs_at self.old by.now) }
+        requires made_of { AreReached operands_of self.old (t ∷ []) made_of.now }
+        ensures made { IfOk result (λ x. StandsForTree self.new x (swapped (pairs_at self.old by.now) (tree_at (trees self.old) t))) }
+        ensures kept { Grows self.old self.new }
+    {
+        let mut made = HashMap::new(self.allocator());
+        let mut k = made_of.len();
+        while k > 0 {
+            k -= 1;
+            let x = self.remade(made_of[k], by, &made)?;
+            made.insert(made_of[k].0, x)?;
+        }
+        Ok(made_at(&made, t))
+    }
+
+    /// The term with the terms that were made in place of its operands.
+    fn remade(
+        &mut self,
         x: TermId,
         by: &Swap,
-        made: &[TermId],
+        made: &HashMap<usize, TermId>,
     ) -> Result<TermId, NoMemory>
         requires is_in { IsIn self.old x }
         requires pairs_in { PairsIn self.old by.now }
         requires swaps { AreSwaps (pairs_at self.old by.now) }
-        requires operands { is_reached ≡ true → OperandsMade self.old (pairs_at self.old by.now) x made.now }
-        ensures made { IfOk result (λ y. is_reached ≡ true → StandsForTree self.new y (swapped (pairs_at self.old by.now) (tree_at (trees self.old) x))) }
-        ensures kept { Grows self.old self.new }
-    {
-        if !is_reached {
-            return Ok(x);
-        }
-        self.remade(x, by, made)
-    }
-
-    /// Which of the terms up to one it is made of, itself included.
-    fn reached(&self, t: TermId) -> Result<Vec<bool>, NoMemory>
-        requires { IsIn self.now t }
-        ensures { IfOk result (λ flags. Reaches self.now t flags.items) }
-    {
-        let mut flags = self.flags(t)?;
-        flags[t.0] = true;
-        let mut i = t.0 + 1;
-        while i > 0 {
-            i -= 1;
-            if is_set(&flags, TermId(i)) {
-                self.reach_operands(TermId(i), &mut flags);
-            }
-        }
-        Ok(flags)
-    }
-
-    /// A flag that is not set for each term up to one.
-    fn flags(&self, t: TermId) -> Result<Vec<bool>, NoMemory>
-        requires { IsIn self.now t }
-        ensures { IfOk result (λ flags. flags.items ≡ replicate (t.0 + 1) false) }
-    {
-        let _len = self.len();
-        Ok(vec![in self.allocator(); false; t.0 + 1]?)
-    }
-
-    /// Sets the flags of a term's operands, which are before it.
-    fn reach_operands(&self, x: TermId, flags: &mut [bool])
-        requires is_in { IsIn self.now x }
-        requires within { x.0 < length flags.old }
-        ensures { SetsOperands self.now x flags.old flags.new }
-    {
-        match self.view(x) {
-            Term::Op { args, .. } => reach_all(x, args.as_slice(), flags),
-            Term::Choice { c, f, t } => reach_all(x, &[*c, *f, *t], flags),
-            Term::Konst(_) | Term::Past(_) | Term::Now(_) => {}
-        }
-    }
-
-    /// The term with the terms that were made in place of its operands.
-    fn remade(&mut self, x: TermId, by: &Swap, made: &[TermId]) -> Result<TermId, NoMemory>
-        requires is_in { IsIn self.old x }
-        requires pairs_in { PairsIn self.old by.now }
-        requires swaps { AreSwaps (pairs_at self.old by.now) }
-        requires operands { OperandsMade self.old (pairs_at self.old by.now) x made.now }
+        requires operands { OperandsMade self.old (pairs_at self.old by.now) x (hash.get nat_eq made.now) }
         ensures made { IfOk result (λ y. StandsForTree self.new y (swapped (pairs_at self.old by.now) (tree_at (trees self.old) x))) }
         ensures kept { Grows self.old self.new }
     {
@@ -140,31 +106,25 @@ impl Terms {
     }
 }
 
-/// Sets the flags of terms that are before one.
-fn reach_all(x: TermId, xs: &[TermId], flags: &mut [bool])
-    requires below { ids_below x.0 xs.now ≡ true }
-    requires within { x.0 < length flags.old }
-    ensures { Sets x xs.now flags.old flags.new }
+/// The term that was made for one.
+fn made_at(made: &HashMap<usize, TermId>, x: TermId) -> TermId
+    requires { is_some (hash.get nat_eq made.now x.0) ≡ true }
+    ensures { hash.get nat_eq made.now x.0 ≡ Some result }
 {
-    let mut left = xs;
-    while let [y, rest @ ..] = left {
-        flags[y.0] = true;
-        left = rest;
+    match made.get(&x.0) {
+        Some(y) => *y,
+        None => unreachable!(),
     }
 }
 
-/// The term that was made for one.
-fn made_at(made: &[TermId], x: TermId) -> TermId
-    requires { x.0 < length made.now }
-    ensures { slice_get made.now x.0 ≡ Some result }
-{
-    made[x.0]
-}
-
 /// The terms that were made for these.
-fn renamed(alloc: Global, xs: &[TermId], made: &[TermId]) -> Result<TermList, NoMemory>
-    requires { ids_below (length made.now) xs.now ≡ true }
-    ensures { IfOk result (λ ys. MadeFor made.now xs.now ys) }
+fn renamed(
+    alloc: Global,
+    xs: &[TermId],
+    made: &HashMap<usize, TermId>,
+) -> Result<TermList, NoMemory>
+    requires { AreMade (hash.get nat_eq made.now) xs.now }
+    ensures { IfOk result (λ ys. MadeFor (hash.get nat_eq made.now) xs.now ys) }
 {
     let mut to = TermList::new(alloc);
     let mut left = xs;
@@ -174,12 +134,4 @@ fn renamed(alloc: Global, xs: &[TermId], made: &[TermId]) -> Result<TermList, No
         left = rest;
     }
     Ok(to)
-}
-
-/// Whether the flag of a term is set.
-fn is_set(flags: &[bool], x: TermId) -> bool
-    requires { x.0 < length flags.now }
-    ensures { slice_get flags.now x.0 ≡ Some result }
-{
-    flags[x.0]
 }

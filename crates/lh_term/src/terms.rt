@@ -3,7 +3,7 @@ ghost use Rattle.std.specs.Prelude.{◌≡◌, [], true, Some, length, slice_get
 ghost use Rattle.lh_term.specs.Tree.{tree_row};
 ghost use Rattle.lh_term.specs.Types.{IsTyped, AreTyped, type_of};
 ghost use Rattle.lh_term.specs.SameTree.{same_tree};
-ghost use Rattle.lh_term.specs.Arena.{trees, tree_at, trees_at, terms_in, term_tree, term_below, IsTypedNode, IsIn, AreIn, OneId, Rising, AllTyped, StandsForTree, Grows};
+ghost use Rattle.lh_term.specs.Arena.{trees, tree_at, trees_at, terms_in, term_tree, term_below, IsTypedNode, IsIn, AreIn, OneId, AllTyped, StandsForTree, Grows};
 
 use crate::term::{Node, Term, TermId};
 use indexmap::IndexSet;
@@ -107,13 +107,6 @@ impl Terms {
     /// No two ids of the arena stand for one term; it does nothing.
     pub fn are_apart(&self)
         ensures { OneId self.now }
-    {
-        let _ = &self.nodes;
-    }
-
-    /// Operands are before their terms; it does nothing.
-    pub(crate) fn are_rising(&self)
-        ensures { Rising self.now }
     {
         let _ = &self.nodes;
     }

@@ -1,9 +1,16 @@
-use Rattle.std.proofs.Common.{◌≡◌, ◌<◌, ◌≤◌, length, arith}
+use Rattle.std.proofs.Common.{◌≡◌, ◌<◌, ◌≤◌, List, [], ◌∷◌, length, sym, subst, arith}
+use Rattle.lh_term.specs.declared.term.TermId.{TermId}
 use Rattle.lh_term.specs.Arena.{tree_at, trees}
+use Rattle.lh_term.specs.Reach.{AreReached}
 use Rattle.lh_edge.specs.Atoms.{subterms}
+use Rattle.lh_edge.specs.Reached.{joined_by}
 use Rattle.lh_edge.specs.Steps.{AreAllIdsOf}
 use Rattle.lh_edge.proofs.Found.{too_many, found_of_none, found_of_some, more_than, present_next, the_atoms}
 use Rattle.lh_edge.proofs.atoms.atoms_of.Goals as goal
+
+pub found_subterms-requires : goal.found_subterms-requires
+found_subterms-requires c =
+    subst (λ (ids : List TermId). AreReached (joined_by (trees c.args.terms.now)) c.args.terms.now (c.args.edge ∷ []) ids) (sym c.deref.ensures.value) c.in_ok-joined.ensures
 
 pub returns-in_default-clause-found : goal.returns-in_default-clause-found
 returns-in_default-clause-found c =

@@ -10,5 +10,5 @@ use Rattle.lh_edge.proofs.pasts.pasts_of.Goals as goal
 pub returns : goal.returns
 returns c =
     if_ok c.pasts_among.result (λ pasts t.
-    tells_those c.args.terms.now contains_past (hash.contains nat_eq pasts) c.in_ok-made.made.items c.args.xs.now
-    (subst (λ (ids : List TermId). Tells c.args.terms.now contains_past (hash.contains nat_eq pasts) ids) c.deref.ensures.value t) c.in_ok-made.ensures.there) c.pasts_among.ensures
+    tells_those c.args.terms.now contains_past (hash.contains nat_eq pasts) c.in_ok-made_of.made_of.items c.args.xs.now
+    (subst (λ (ids : List TermId). Tells c.args.terms.now contains_past (hash.contains nat_eq pasts) ids) c.deref.ensures.value t) c.in_ok-made_of.ensures.there) c.pasts_among.ensures

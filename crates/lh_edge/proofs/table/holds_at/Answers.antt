@@ -1,9 +1,9 @@
 use Rattle.std.proofs.Common.{◌≡◌, ◌∙◌, ◌<◌, ◌-◌, nat_eq, length, arith}
 use Rattle.std.specs.HashSet as hash
-use Rattle.lh_term.specs.Arena.{trees_at}
+use Rattle.lh_term.specs.Arena.{trees, trees_at}
 use Rattle.lh_edge.specs.Valuations.{holds}
+use Rattle.lh_edge.specs.Reached.{joined_by}
 use Rattle.lh_edge.specs.Steps.{numbered}
-use Rattle.lh_edge.specs.declared.reach.Way.TheVariants.{Joined}
 use Rattle.lh_edge.proofs.Found.{id_get}
 use Rattle.lh_edge.proofs.Told.{tells_next, tells_more, tells_one}
 use Rattle.lh_edge.proofs.table.holds_at.Goals as goal
@@ -15,7 +15,7 @@ value_of-value-requires-clause-is_in c =
 
 pub value_of-value-requires-clause-tells : goal.value_of-value-requires-clause-tells
 value_of-value-requires-clause-tells c =
-    tells_next c.args.terms.now (holds (numbered (trees_at c.args.terms.now c.args.atoms.now) c.args.valuation)) Joined (hash.contains nat_eq c.loop-k.values) c.args.joined.now c.loop-k.k
+    tells_next c.args.terms.now (holds (numbered (trees_at c.args.terms.now c.args.atoms.now) c.args.valuation)) (joined_by (trees c.args.terms.now)) (hash.contains nat_eq c.loop-k.values) c.args.joined.now c.loop-k.k
     (record { 0 = 0 }) c.requires.joined.go_on c.loop-k-test.true c.loop-k.invariant.within c.loop-k.invariant.told
 
 pub loop-k-preserved : goal.loop-k-preserved

@@ -1,8 +1,8 @@
 use Rattle.std.proofs.Common.{◌≡◌, ◌||◌, ℕ, drop}
 use Rattle.std.specs.Ordering.{nat_cmp}
 use Rattle.std.specs.BTreeSet as sorted
-use Rattle.lh_edge.specs.Reached.{is_on}
-use Rattle.lh_edge.proofs.reach.leave_all.Given as goal
+use Rattle.lh_term.specs.Reach.{is_on}
+use Rattle.lh_term.proofs.reach.leave_all.Given as goal
 
 abbrev pub invariant-loop-x : goal.invariant-loop-x
 invariant-loop-x l =
