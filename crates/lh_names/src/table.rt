@@ -93,6 +93,19 @@ fn open(kept: &mut KeptNames) -> Result<(), NoMemory>
     ensures same { names_of kept.new ≡ names_of kept.old }
     ensures indexed { OnOk result (IsIndexed kept.new) }
 {
+    match kept {
+        KeptNames::Indexed(_) => Ok(()),
+        KeptNames::Listed(_) => reopen(kept),
+    }
+}
+
+// The same, apart from what each name goes through, since it takes a large frame.
+#[inline(never)]
+fn reopen(kept: &mut KeptNames) -> Result<(), NoMemory>
+    requires { AllDistinct (names_of kept.old) }
+    ensures same { names_of kept.new ≡ names_of kept.old }
+    ensures indexed { OnOk result (IsIndexed kept.new) }
+{
     if let KeptNames::Listed(names) = kept {
         let names = indexed(names)?;
         *kept = KeptNames::Indexed(names);
