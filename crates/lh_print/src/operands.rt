@@ -34,6 +34,7 @@ fn put_typed(out: &mut Vec<u8>, view: UnitView<'_>, typed: &Typed) -> Result<(),
 }
 
 /// Writes a text, and then an operand with the type that it has.
+#[inline]
 pub fn put_operand(
     out: &mut Vec<u8>,
     before: &[u8],

@@ -1,0 +1,16 @@
+use Rattle.lh_print.proofs.types.put_int.Goals as goal
+
+pub returns-in-1 : goal.returns-in-1
+returns-in-1 c = rw c.in-1.is c.put.ensures
+
+pub returns-in-8 : goal.returns-in-8
+returns-in-8 c = rw c.in-8.is c.put-in-8.ensures
+
+pub returns-in-16 : goal.returns-in-16
+returns-in-16 c = rw c.in-16.is c.put-in-16.ensures
+
+pub returns-in-32 : goal.returns-in-32
+returns-in-32 c = rw c.in-32.is c.put-in-32.ensures
+
+pub returns-in-64 : goal.returns-in-64
+returns-in-64 c = rw c.in-64.is c.put-in-64.ensures
