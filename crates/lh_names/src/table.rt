@@ -48,6 +48,7 @@ impl NameTable {
     }
 
     /// The number of a name, and whether it is new: a new one comes behind all others. For want of memory the table stays as it was.
+    #[inline(always)]
     pub fn enter(&mut self, name: Name) -> Result<(usize, bool), NoMemory>
         ensures added { IfOk result (λ r. r.1 ≡ not (has_name self.old name)) }
         ensures names { IfOk result (λ r. self.new ≡ insert_key (pointwise nat_eq) self.old name) }
@@ -93,6 +94,19 @@ fn open(kept: &mut KeptNames) -> Result<(), NoMemory>
     ensures same { names_of kept.new ≡ names_of kept.old }
     ensures indexed { OnOk result (IsIndexed kept.new) }
 {
+    match kept {
+        KeptNames::Indexed(_) => Ok(()),
+        KeptNames::Listed(_) => reopen(kept),
+    }
+}
+
+// The same, apart from what each name goes through, since it takes a large frame.
+#[inline(never)]
+fn reopen(kept: &mut KeptNames) -> Result<(), NoMemory>
+    requires { AllDistinct (names_of kept.old) }
+    ensures same { names_of kept.new ≡ names_of kept.old }
+    ensures indexed { OnOk result (IsIndexed kept.new) }
+{
     if let KeptNames::Listed(names) = kept {
         let names = indexed(names)?;
         *kept = KeptNames::Indexed(names);
@@ -100,6 +114,7 @@ fn open(kept: &mut KeptNames) -> Result<(), NoMemory>
     Ok(())
 }
 
+#[inline(always)]
 fn enter(kept: &mut KeptNames, name: Name) -> Result<(usize, bool), NoMemory>
     requires { IsIndexed kept.old }
     ensures added { IfOk result (λ r. r.1 ≡ not (has_name (names_of kept.old) name)) }

@@ -8,6 +8,7 @@ ghost use Rattle.lh_unit.specs.Within.{Each, InstWithin, OperandWithin, TriggerW
 ghost use Rattle.lh_unit.specs.Naming.{operand_text, trigger_text, edge_text, value_text, maybe_text};
 ghost use Rattle.lh_unit.specs.Pieces.{render, percent, keyword, ◌␣◌, ◌⸴◌};
 ghost use Rattle.lh_unit.specs.Canon.{inst_pieces};
+ghost use Rattle.lh_unit.specs.CanonTypes.{const_pieces};
 
 use crate::names::{put_label, put_maybe, put_unit_name, put_value};
 use crate::operands::{
@@ -17,8 +18,17 @@ use crate::types::put_type;
 use crate::values::put_const;
 use lh_types::text::put;
 use lh_types::ty::{NoMemory, Ty};
+use lh_unit::constant::Constant;
 use lh_unit::inst::{BlockId, Inst, PhiEdge, RegTrigger, Typed, UnitId, ValueId};
 use lh_unit::view::UnitView;
+
+/// Writes a constant.
+fn put_constant(out: &mut Vec<u8>, constant: &Constant) -> Result<(), NoMemory>
+    ensures { OnOk result (out.new.items ≡ out.old.items ++ render (const_pieces constant.now)) }
+{
+    let value = constant.value()?;
+    put_const(out, &value)
+}
 
 /// Writes `st V* %p, %v`.
 fn put_store(
@@ -186,7 +196,7 @@ pub fn put_inst(out: &mut Vec<u8>, view: UnitView<'_>, inst: &Inst) -> Result<()
     ensures { OnOk result (out.new.items ≡ out.old.items ++ render (inst_pieces (inst_text_at view.entry.module.now view.entry.unit.0 inst.now))) }
 {
     match inst {
-        Inst::Const(value) => put_const(out, &value.value()?),
+        Inst::Const(value) => put_constant(out, value),
         Inst::Pure { op, args } => put_operation(out, view, *op, args.as_slice()),
         Inst::Var(a) => put_operand(out, b"var ", view, a),
         Inst::Ld(p) => put_operand(out, b"ld ", view, p),

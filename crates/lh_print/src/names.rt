@@ -8,7 +8,7 @@ ghost use Rattle.lh_unit.specs.Within.{MaybeWithin};
 ghost use Rattle.lh_unit.specs.Pieces.{render};
 ghost use Rattle.lh_unit.specs.Canon.{unit_name_pieces, maybe};
 
-use lh_names::name::UnitName;
+use lh_names::name::{Name, UnitName};
 use lh_types::text::put;
 use lh_types::ty::NoMemory;
 use lh_unit::inst::{BlockId, ValueId};
@@ -20,13 +20,21 @@ pub fn put_unit_name(out: &mut Vec<u8>, name: &UnitName) -> Result<(), NoMemory>
 {
     if name.sigil == b'@' {
         put(out, b"@")?;
-        return put(out, name.name.as_bytes());
+        return put_name(out, &name.name);
     }
     put(out, b"%")?;
-    put(out, name.name.as_bytes())
+    put_name(out, &name.name)
+}
+
+// On its own, so that a text before it is put where the caller stands.
+fn put_name(out: &mut Vec<u8>, name: &Name) -> Result<(), NoMemory>
+    ensures { OnOk result (out.new.items ≡ out.old.items ++ name.now) }
+{
+    put(out, name.as_bytes())
 }
 
 /// Writes a text, and then the name of a value.
+#[inline(always)]
 pub fn put_value(
     out: &mut Vec<u8>,
     before: &[u8],
@@ -37,7 +45,7 @@ pub fn put_value(
     ensures { OnOk result (out.new.items ≡ out.old.items ++ (before.now ++ value_name_at view.entry.module.now view.entry.unit.0 value.0)) }
 {
     put(out, before)?;
-    put(out, view.value_name(value).as_bytes())
+    put_name(out, view.value_name(value))
 }
 
 /// Writes a text, and then the name of a label.
@@ -51,7 +59,7 @@ pub fn put_label(
     ensures { OnOk result (out.new.items ≡ out.old.items ++ (before.now ++ label_name_at view.entry.module.now view.entry.unit.0 block.0)) }
 {
     put(out, before)?;
-    put(out, view.block_name(block).as_bytes())
+    put_name(out, view.block_name(block))
 }
 
 /// Writes a word and a value, such as ` if %c`, where there is a value.

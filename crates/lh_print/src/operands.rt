@@ -34,6 +34,7 @@ fn put_typed(out: &mut Vec<u8>, view: UnitView<'_>, typed: &Typed) -> Result<(),
 }
 
 /// Writes a text, and then an operand with the type that it has.
+#[inline]
 pub fn put_operand(
     out: &mut Vec<u8>,
     before: &[u8],
@@ -55,7 +56,7 @@ pub fn put_operands(out: &mut Vec<u8>, view: UnitView<'_>, args: &[Typed]) -> Re
     match args.split_first() {
         None => Ok(()),
         Some((first, rest)) => {
-            put_operand(out, b"", view, first)?;
+            put_typed(out, view, first)?;
             put_operands_behind(out, view, rest)
         }
     }
@@ -207,7 +208,8 @@ fn put_worded(out: &mut Vec<u8>, view: UnitView<'_>, op: Op, args: &[Typed]) -> 
     ensures { OnOk result (out.new.items ≡ out.old.items ++ (spec.op_word op ++ (32 ∷ (render (operands (map (operand_text (naming view.entry.module.now view.entry.unit.0)) args.now)) ++ render (behind_commas (map number (op_numbers op))))))) }
 {
     put(out, op_word(op))?;
-    put_bracketed(out, b" ", view, args, b"")?;
+    put(out, b" ")?;
+    put_operands(out, view, args)?;
     put_numbers_behind(out, op)
 }
 

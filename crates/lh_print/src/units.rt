@@ -7,16 +7,19 @@ ghost use Rattle.lh_unit.specs.Table.{line_at};
 ghost use Rattle.lh_unit.specs.Naming.{maybe_text, line_text, label_text, block_text};
 ghost use Rattle.lh_unit.specs.Within.{Each, MaybeWithin};
 ghost use Rattle.lh_unit.specs.Arena.{value_count, inst_count, naming, sizes, table_at, kind_at, blocks_at, unit_text_at, item_text_at, contents};
-ghost use Rattle.lh_unit.specs.Pieces.{render};
-ghost use Rattle.lh_unit.specs.Canon.{assigned, canon_inst_line, label_lines, block_lines, blocks_lines, header, declaration, item_lines, text_of, canon};
+ghost use Rattle.lh_unit.specs.declared.inst.UnitKind.TheVariants as kind;
+ghost use Rattle.lh_unit.specs.Pieces.{render, keyword, in_parens, ◌␣◌};
+ghost use Rattle.lh_unit.specs.Canon as spec;
+ghost use Rattle.lh_unit.specs.Canon.{unit_name_pieces, ports, assigned, canon_inst_line, label_lines, block_lines, blocks_lines, header, declaration, item_lines, text_of, canon};
 ghost use Rattle.lh_unit.specs.Placed.{IsInstOf, IsLabelled, IsBlockOf, IsItemOf};
 
 use crate::arguments::{put_ports, put_signature};
 use crate::insts::put_inst;
 use crate::names::{put_label, put_unit_name, put_value};
 use crate::types::{put_type, put_types};
+use lh_names::name::UnitName;
 use lh_types::text::put;
-use lh_types::ty::NoMemory;
+use lh_types::ty::{NoMemory, Ty};
 use lh_unit::inst::{BlockId, Declare, InstId, Item, UnitKind, ValueId};
 use lh_unit::module::Module;
 use lh_unit::view::UnitView;
@@ -95,26 +98,32 @@ fn put_blocks(out: &mut Vec<u8>, view: UnitView<'_>, blocks: &[BlockId]) -> Resu
     Ok(())
 }
 
+/// Writes `func @n (V1 %a1, V2 %a2) R {`.
+fn put_func_header(out: &mut Vec<u8>, view: UnitView<'_>) -> Result<(), NoMemory>
+    ensures { let u = unit_text_at view.entry.module.now view.entry.unit.0 in OnOk result (out.new.items ≡ out.old.items ++ render (header kind.Func u.name u.args u.result)) }
+{
+    put(out, b"func ")?;
+    put_unit_name(out, view.name())?;
+    put_signature(out, view)
+}
+
+/// Writes a word, and then `@n (S1 %a1) -> (S2 %a2) {`.
+fn put_ports_header(out: &mut Vec<u8>, word: &[u8], view: UnitView<'_>) -> Result<(), NoMemory>
+    ensures { let u = unit_text_at view.entry.module.now view.entry.unit.0 in OnOk result (out.new.items ≡ out.old.items ++ (word.now ++ render (unit_name_pieces u.name ␣ ports u.args))) }
+{
+    put(out, word)?;
+    put_unit_name(out, view.name())?;
+    put_ports(out, view)
+}
+
 /// Writes the first line of a unit, without its end.
 fn put_header(out: &mut Vec<u8>, view: UnitView<'_>) -> Result<(), NoMemory>
     ensures { let u = unit_text_at view.entry.module.now view.entry.unit.0 in OnOk result (out.new.items ≡ out.old.items ++ render (header u.kind u.name u.args u.result)) }
 {
     match view.kind() {
-        None | Some(UnitKind::Func) => {
-            put(out, b"func ")?;
-            put_unit_name(out, view.name())?;
-            put_signature(out, view)
-        }
-        Some(UnitKind::Proc) => {
-            put(out, b"proc ")?;
-            put_unit_name(out, view.name())?;
-            put_ports(out, view)
-        }
-        Some(UnitKind::Entity) => {
-            put(out, b"entity ")?;
-            put_unit_name(out, view.name())?;
-            put_ports(out, view)
-        }
+        None | Some(UnitKind::Func) => put_func_header(out, view),
+        Some(UnitKind::Proc) => put_ports_header(out, b"proc ", view),
+        Some(UnitKind::Entity) => put_ports_header(out, b"entity ", view),
     }
 }
 
@@ -128,6 +137,17 @@ fn put_unit(out: &mut Vec<u8>, view: UnitView<'_>) -> Result<(), NoMemory>
     put(out, b"}\n")
 }
 
+/// Writes `declare @n (V1, V2)`.
+fn put_declared(out: &mut Vec<u8>, name: &UnitName, params: &[Ty]) -> Result<(), NoMemory>
+    ensures { OnOk result (out.new.items ≡ out.old.items ++ render (keyword "declare" ␣ unit_name_pieces name.now ␣ in_parens (spec.types params.now))) }
+{
+    put(out, b"declare ")?;
+    put_unit_name(out, name)?;
+    put(out, b" (")?;
+    put_types(out, params)?;
+    put(out, b")")
+}
+
 /// Writes a declaration, without the end of its line.
 fn put_declaration(out: &mut Vec<u8>, declare: &Declare) -> Result<(), NoMemory>
     ensures { OnOk result (out.new.items ≡ out.old.items ++ render (declaration declare.now)) }
@@ -138,11 +158,8 @@ fn put_declaration(out: &mut Vec<u8>, declare: &Declare) -> Result<(), NoMemory>
             params,
             result,
         } => {
-            put(out, b"declare ")?;
-            put_unit_name(out, name)?;
-            put(out, b" (")?;
-            put_types(out, params.as_slice())?;
-            put(out, b") ")?;
+            put_declared(out, name, params.as_slice())?;
+            put(out, b" ")?;
             put_type(out, result)
         }
         Declare::Unit {
@@ -150,11 +167,8 @@ fn put_declaration(out: &mut Vec<u8>, declare: &Declare) -> Result<(), NoMemory>
             inputs,
             outputs,
         } => {
-            put(out, b"declare ")?;
-            put_unit_name(out, name)?;
-            put(out, b" (")?;
-            put_types(out, inputs.as_slice())?;
-            put(out, b") -> (")?;
+            put_declared(out, name, inputs.as_slice())?;
+            put(out, b" -> (")?;
             put_types(out, outputs.as_slice())?;
             put(out, b")")
         }

@@ -5,7 +5,20 @@ use crate::ty::NoMemory;
 use itoa::Buffer;
 
 /// Puts these bytes at the end of a text. After `NoMemory` the text is to be let go: nothing is said of it.
+#[inline]
 pub fn put(to: &mut Vec<u8>, bytes: &[u8]) -> Result<(), NoMemory>
+    ensures { OnOk result (to.new.items ≡ to.old.items ++ bytes.now) }
+{
+    if bytes.len() > to.capacity() - to.len() {
+        return put_beyond(to, bytes);
+    }
+    to.extend_from_slice(bytes)?;
+    Ok(())
+}
+
+// The same where there is no room yet; apart, so that a short text that has room is put where the caller stands.
+#[inline(never)]
+fn put_beyond(to: &mut Vec<u8>, bytes: &[u8]) -> Result<(), NoMemory>
     ensures { OnOk result (to.new.items ≡ to.old.items ++ bytes.now) }
 {
     to.extend_from_slice(bytes)?;

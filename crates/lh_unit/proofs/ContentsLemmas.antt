@@ -5,7 +5,6 @@ use Rattle.std.proofs.lemmas.Option.{slice_get_within}
 use Rattle.lh_types.specs.Types.{TypeTree}
 use Rattle.lh_unit.specs.Contents as text
 use Rattle.lh_unit.specs.Contents.{ItemText, UnitText, BlockText, LineText, ArgText, unit_text, declare_text, new_unit, change_last, last_unit, line_at_end, defines_unit}
-use Rattle.lh_names.specs.Names.{same_name}
 use Rattle.lh_unit.specs.Table.{Table, IsTable, HasBlocks, is_block, insts_at, line_at, no_line}
 use Rattle.lh_unit.specs.TableCalls.{with_arg, with_result, with_block, with_line, last_block}
 use Rattle.lh_unit.specs.Naming.{Naming, naming_of, line_text, arg_text, label_text, block_text, kind_text, table_text}

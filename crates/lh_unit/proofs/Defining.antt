@@ -1,16 +1,15 @@
 -- What defines a value: it tells whether the value is defined, and stays the only one as arguments and lines are added.
-use Rattle.std.proofs.Common.{◌≡◌, ℕ, ◌+◌, ◌<◌, zero, suc, Bool, true, false, ◌||◌, nat_eq, List, [], ◌∷◌, ◌++◌, length, get_or, Option, Some, None, slice_get, refl, ap, sym, ◌∙◌, subst, arith, length-append}
+use Rattle.std.proofs.Common.{◌≡◌, ℕ, ◌<◌, zero, suc, Bool, true, false, ◌||◌, nat_eq, List, [], ◌∷◌, ◌++◌, length, get_or, Option, Some, None, slice_get, refl, ap, sym, ◌∙◌, subst, arith, length-append}
 use Rattle.std.specs.Option.{option_map}
 use Rattle.lh_unit.specs.Table.{Table, IsDefinition, is_arg, is_made, is_result, is_defined, result_defined, has_definition, no_line}
 use Rattle.lh_unit.specs.TableCalls.{with_arg, with_line}
-use Rattle.lh_unit.specs.declared.inst.InstId.{InstId}
 use Rattle.lh_unit.specs.declared.inst.ValueId.{ValueId}
 use Rattle.lh_unit.specs.declared.inst.ValueDef.{ValueDef}
 use Rattle.lh_unit.specs.declared.inst.ValueDef.TheVariants as value_def
 use Rattle.lh_unit.specs.declared.inst.Inst.{Inst}
 use Rattle.lh_unit.specs.declared.inst.Arg.{Arg}
 use Rattle.lh_unit.specs.declared.table.Line.{Line}
-use Rattle.lh_unit.proofs.Lists.{nat_eq-refl, nat_eq-other, nat_eq-is, not_true, or_false, or_true, or-assoc, some_inj}
+use Rattle.lh_unit.proofs.Lists.{nat_eq-refl, nat_eq-is, not_true, or_false, or_true, or-assoc, some_inj}
 use Rattle.lh_names.proofs.Lists.{Trichotomy, before, at, past, trichotomy, slice_get-push, slice_get-push_before}
 
 pub is_arg-push : (xs : List Arg) (a : Arg) (k : ℕ) → is_arg (xs ++ a ∷ []) k ≡ (is_arg xs k || nat_eq a.value.0 k)

@@ -1,10 +1,9 @@
 -- What a definition says of the value: its argument or instruction is the one that is found by a search, and gives its type.
-use Rattle.std.proofs.Common.{◌≡◌, ℕ, ◌+◌, ◌<◌, zero, suc, Bool, true, false, ◌||◌, nat_eq, if◌then◌else◌, List, [], ◌∷◌, length, get_or, Option, Some, None, slice_get, refl, ap, sym, ◌∙◌, arith}
+use Rattle.std.proofs.Common.{◌≡◌, ℕ, ◌<◌, zero, suc, Bool, true, false, ◌||◌, nat_eq, if◌then◌else◌, List, [], ◌∷◌, length, get_or, Option, Some, None, slice_get, refl, ap, sym, ◌∙◌, arith}
 use Rattle.std.specs.Option.{option_map, option_and_then}
-use Rattle.lh_types.specs.Types.{TypeTree}
 use Rattle.lh_unit.specs.Contents.{ArgText}
 use Rattle.lh_unit.specs.Typing.{or_else, result_type, value_type, arg_named, inst_giving}
-use Rattle.lh_unit.specs.Table.{Table, IsTable, IsDefinition, is_arg, is_made, is_result, is_defined, line_at, no_line}
+use Rattle.lh_unit.specs.Table.{Table, IsTable, IsDefinition, is_arg, is_made, is_result, line_at, no_line}
 use Rattle.lh_unit.specs.Naming.{inst_text, arg_text}
 use Rattle.lh_unit.specs.Arena.{Arena, IsArena, table_at, args_at, inst_at, naming, unit_text_at, unit_count, value_count, value_name_at}
 use Rattle.lh_unit.specs.ById.{arg_being, inst_making}
@@ -15,7 +14,7 @@ use Rattle.lh_unit.specs.declared.inst.ValueDef.TheVariants as value_def
 use Rattle.lh_unit.specs.declared.inst.Inst.{Inst}
 use Rattle.lh_unit.specs.declared.inst.Arg.{Arg}
 use Rattle.lh_unit.specs.declared.table.Line.{Line}
-use Rattle.lh_unit.proofs.Lists.{nat_eq-refl, nat_eq-is, not_true, or_true, some_inj}
+use Rattle.lh_unit.proofs.Lists.{nat_eq-refl, nat_eq-is, not_true, some_inj}
 use Rattle.lh_unit.proofs.Defining.{or-none}
 use Rattle.lh_unit.proofs.ById.{arg_named-by_id, inst_giving-by_id}
 

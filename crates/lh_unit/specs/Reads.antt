@@ -1,8 +1,7 @@
 -- What a whole text reads as, line by line, and which line is the first faulty one.
-use Rattle.std.specs.Prelude.{◌≡◌, ℕ, ◌+◌, Bool, true, false, ◌||◌, ◌&&◌, nat_eq, List, [], ◌∷◌, ◌++◌, Option, Some, None, ◌⊎◌, if◌then◌else◌, codes}
+use Rattle.std.specs.Prelude.{◌≡◌, ℕ, ◌+◌, Bool, true, false, ◌||◌, nat_eq, List, [], ◌∷◌, ◌++◌, Option, Some, None, ◌⊎◌, if◌then◌else◌}
 use Rattle.lh_types.specs.Types.{TypeTree}
 use Rattle.lh_unit.specs.Contents.{ArgText, LineText, BlockText, UnitText, ItemText, unit_text, declare_text, new_unit, change_last, last_unit, with_block, with_line, line_count, defines_unit, args_define, defines_value, defines_label}
-use Rattle.lh_names.specs.Names.{same_name}
 use Rattle.lh_unit.specs.Lexemes.{Lexeme, lexemes}
 pub use Rattle.lh_names.specs.UnitNames.{is_assert}
 use Rattle.lh_unit.specs.Lines.{lines_of}

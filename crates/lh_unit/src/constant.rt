@@ -1,5 +1,6 @@
 //! Constants of instructions.
 ghost use Rattle.std.specs.Prelude.{◌≡◌, IfOk};
+ghost use Rattle.lh_types.specs.Values.{int_value};
 ghost use Rattle.lh_types.specs.ValueOf.{datum_of};
 
 use lh_types::ty::NoMemory;
@@ -36,14 +37,10 @@ impl Constant {
     pub fn new(alloc: Global, value: Val) -> Result<Constant, NoMemory>
         ensures { IfOk result (λ c. c ≡ datum_of value) }
     {
-        let kept = match value {
-            Val::Int { width, bits } if bits <= u64::MAX as u128 => KeptValue::Short {
-                width,
-                bits: bits as u64,
-            },
-            other => KeptValue::Other(Box::new(alloc, other)?),
-        };
-        Ok(Constant { kept })
+        match value {
+            Val::Int { width, bits } if bits <= u64::MAX as u128 => Ok(short(width, bits as u64)),
+            other => boxed(alloc, other),
+        }
     }
 
     /// Its value.
@@ -63,16 +60,26 @@ impl Constant {
     pub fn copy(&self) -> Result<Constant, NoMemory>
         ensures { IfOk result (λ c. c ≡ self.now) }
     {
-        let kept = match &self.kept {
-            KeptValue::Short { width, bits } => KeptValue::Short {
-                width: *width,
-                bits: *bits,
-            },
-            KeptValue::Other(value) => {
-                let copy = value.copy()?;
-                KeptValue::Other(Box::new(*Box::allocator(value), copy)?)
-            }
-        };
-        Ok(Constant { kept })
+        match &self.kept {
+            KeptValue::Short { width, bits } => Ok(short(*width, *bits)),
+            KeptValue::Other(value) => boxed(*Box::allocator(value), value.copy()?),
+        }
     }
+}
+
+fn short(width: u32, bits: u64) -> Constant
+    ensures { result ≡ int_value width bits }
+{
+    Constant {
+        kept: KeptValue::Short { width, bits },
+    }
+}
+
+fn boxed(alloc: Global, value: Val) -> Result<Constant, NoMemory>
+    ensures { IfOk result (λ c. c ≡ datum_of value) }
+{
+    let value = Box::new(alloc, value)?;
+    Ok(Constant {
+        kept: KeptValue::Other(value),
+    })
 }

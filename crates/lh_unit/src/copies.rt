@@ -1,4 +1,5 @@
-//! Equal copies of instructions and declarations. Each answers `NoMemory` only for want of memory.
+//! Equal copies of instructions and declarations. Each answers `NoMemory` only for want of memory. What has the most forms is copied
+//! last, since its destructor would stand at each early return behind it.
 ghost use Rattle.std.specs.Prelude.{◌≡◌, IfOk};
 
 use crate::inst::{
@@ -108,8 +109,8 @@ fn copy_drv(
 fn copy_reg(to: &Typed, triggers: &RegTriggerList) -> Result<Inst, NoMemory>
     ensures { IfOk result (λ inst. inst ≡ Inst.Reg to.now triggers.now) }
 {
-    let to = to.copy()?;
     let triggers = triggers.copy()?;
+    let to = to.copy()?;
     Ok(Inst::Reg { to, triggers })
 }
 
@@ -128,16 +129,16 @@ fn copy_child(unit: UnitId, inputs: &TypedList, outputs: &TypedList) -> Result<I
 fn copy_call(unit: UnitId, ty: &Ty, args: &TypedList) -> Result<Inst, NoMemory>
     ensures { IfOk result (λ inst. inst ≡ Inst.Call unit ty.now args.now) }
 {
-    let result = ty.copy()?;
     let args = copy_operands(args.allocator(), args.as_slice())?;
+    let result = ty.copy()?;
     Ok(Inst::Call { unit, result, args })
 }
 
 fn copy_phi(ty: &Ty, edges: &PhiEdgeList) -> Result<Inst, NoMemory>
     ensures { IfOk result (λ inst. inst ≡ Inst.Phi ty.now edges.now) }
 {
-    let ty = ty.copy()?;
     let edges = edges.copy()?;
+    let ty = ty.copy()?;
     Ok(Inst::Phi { ty, edges })
 }
 
@@ -183,8 +184,8 @@ impl Declare {
 fn copy_func(name: &UnitName, params: &TyList, ty: &Ty) -> Result<Declare, NoMemory>
     ensures { IfOk result (λ declare. declare ≡ Declare.Func name.now params.now ty.now) }
 {
-    let name = name.copy()?;
     let params = params.copy()?;
+    let name = name.copy()?;
     let result = ty.copy()?;
     Ok(Declare::Func {
         name,
@@ -196,9 +197,9 @@ fn copy_func(name: &UnitName, params: &TyList, ty: &Ty) -> Result<Declare, NoMem
 fn copy_unit(name: &UnitName, inputs: &TyList, outputs: &TyList) -> Result<Declare, NoMemory>
     ensures { IfOk result (λ declare. declare ≡ Declare.Unit name.now inputs.now outputs.now) }
 {
-    let name = name.copy()?;
     let inputs = inputs.copy()?;
     let outputs = outputs.copy()?;
+    let name = name.copy()?;
     Ok(Declare::Unit {
         name,
         inputs,

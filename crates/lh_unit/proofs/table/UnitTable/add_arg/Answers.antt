@@ -3,7 +3,6 @@ use Rattle.lh_unit.specs.Table.{Table, is_defined}
 use Rattle.lh_unit.specs.TableCalls.{with_arg}
 use Rattle.lh_unit.specs.TableOf.{table_of}
 use Rattle.lh_unit.specs.declared.inst.Arg.{Arg}
-use Rattle.lh_unit.specs.declared.inst.ValueDef.TheVariants as value_def
 use Rattle.lh_unit.proofs.Tables.{args-few, definition-told, IsTable-by, IsTable-with_arg, Definitions-same, Definitions-with_arg}
 use Rattle.lh_unit.proofs.table.UnitTable.add_arg.Goals as goal
 
