@@ -2,29 +2,12 @@
 #![tactic(auto, using(crate::proofs::Joined::steps))]
 
 ghost use Rattle.std.specs.Prelude.{◌≡◌, ◌++◌, OnOk};
-ghost use Rattle.lh_types.specs.Types.{int_type, row_of};
+ghost use Rattle.lh_types.specs.Types.{row_of};
 ghost use Rattle.lh_unit.specs.Pieces.{render};
 ghost use Rattle.lh_unit.specs.CanonTypes.{type_pieces, row_pieces, row_behind};
 
 use lh_types::text::{put, put_number};
 use lh_types::ty::{NoMemory, Ty, TyKind};
-
-// The widths that most integers have are words, which need no digits.
-fn put_int(out: &mut Vec<u8>, width: u32) -> Result<(), NoMemory>
-    ensures { OnOk result (out.new.items ≡ out.old.items ++ render (type_pieces (int_type width))) }
-{
-    match width {
-        1 => put(out, b"i1"),
-        8 => put(out, b"i8"),
-        16 => put(out, b"i16"),
-        32 => put(out, b"i32"),
-        64 => put(out, b"i64"),
-        _ => {
-            put(out, b"i")?;
-            put_number(out, u64::from(width))
-        }
-    }
-}
 
 /// Writes a type.
 
@@ -33,7 +16,10 @@ pub fn put_type(out: &mut Vec<u8>, t: &Ty) -> Result<(), NoMemory>
     ensures { OnOk result (out.new.items ≡ out.old.items ++ render (type_pieces t.now)) }
 {
     match t.kind() {
-        TyKind::Int(width) => put_int(out, width),
+        TyKind::Int(width) => {
+            put(out, b"i")?;
+            put_number(out, u64::from(width))
+        }
         TyKind::Time => put(out, b"time"),
         TyKind::Void => put(out, b"void"),
         TyKind::Array(len, of) => {

@@ -28,7 +28,7 @@ pub struct InstId(pub u32);
 pub struct ValueId(pub u32);
 
 /// What defines a value of a unit.
-#[derive(Clone, Copy)]
+#[derive(Clone, Copy, Debug, PartialEq, Eq)]
 pub enum ValueDef {
     /// Nothing: the value is named and has no definition.
     Missing,
@@ -54,7 +54,7 @@ impl ValueDef {
 }
 
 /// The three kinds of units.
-#[derive(Clone, Copy)]
+#[derive(Clone, Copy, Debug, PartialEq, Eq)]
 pub enum UnitKind {
     /// Computes in no time.
     Func,
@@ -81,7 +81,7 @@ pub type OperandList = FewOf<Typed>;
 pub type ValueIdList = ListOf<ValueId>;
 
 /// What a register's trigger looks for.
-#[derive(Clone, Copy)]
+#[derive(Clone, Copy, Debug, PartialEq, Eq)]
 pub enum Mode {
     Rise,
     Fall,
@@ -91,7 +91,7 @@ pub enum Mode {
 }
 
 /// One trigger of a register: the value it stores, and when.
-#[derive(Clone, Copy)]
+#[derive(Clone, Copy, Debug)]
 pub struct RegTrigger {
     pub value: ValueId,
     pub mode: Mode,
@@ -104,7 +104,7 @@ pub struct RegTrigger {
 pub type RegTriggerList = ListOf<RegTrigger>;
 
 /// The value that a `phi` takes where control came from this block.
-#[derive(Clone, Copy)]
+#[derive(Clone, Copy, Debug)]
 pub struct PhiEdge {
     pub value: ValueId,
     pub block: BlockId,

@@ -2,7 +2,7 @@
 use lh_types::list::ListOf;
 
 /// What a token is.
-#[derive(Clone, Copy)]
+#[derive(Clone, Copy, Debug, PartialEq, Eq)]
 pub enum TokenKind {
     /// A run of name bytes.
     Word,
@@ -19,7 +19,7 @@ pub enum TokenKind {
 }
 
 /// A token and its bytes in the line, `from` included and `to` not.
-#[derive(Clone, Copy)]
+#[derive(Clone, Copy, Debug, PartialEq, Eq)]
 pub struct Token {
     pub kind: TokenKind,
     pub from: u32,
