@@ -1,4 +1,4 @@
-use Rattle.std.proofs.Common.{◌≡◌, replicate, refl, ap, ◌∙◌, arith}
+use Rattle.std.proofs.Common.{◌≡◌, replicate, ap, ◌∙◌, arith}
 use Rattle.lh_descent.specs.declared.search.Mark.TheVariants as mark
 use Rattle.lh_descent.proofs.Stepping.{Settled-new}
 use Rattle.lh_descent.proofs.search.Search.new.Goals as goal

@@ -1,4 +1,4 @@
-use Rattle.std.proofs.Common.{◌≡◌, get_or, refl, sym, subst}
+use Rattle.std.proofs.Common.{◌≡◌, get_or, sym, subst}
 use Rattle.lh_descent.specs.declared.search.Mark.TheVariants as mark
 use Rattle.lh_descent.proofs.Stepping.{steps-by}
 use Rattle.lh_descent.proofs.search.Search.step.Goals as goal
