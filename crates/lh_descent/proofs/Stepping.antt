@@ -1,5 +1,5 @@
 -- One step of the search keeps what is known, and brings the search nearer to its end.
-use Rattle.std.proofs.Common.{◌≡◌, ℕ, zero, suc, ◌+◌, ◌-◌, ◌<◌, inl, inr, List, [], ◌∷◌, ◌++◌, length, set, replicate, reverse, sum_by, Option, Some, None, Result, Ok, Err, refl, ap, sym, ◌∙◌, subst, arith}
+use Rattle.std.proofs.Common.{◌≡◌, ℕ, zero, suc, ◌+◌, ◌-◌, ◌<◌, inl, inr, List, [], ◌∷◌, ◌++◌, length, set, replicate, reverse, sum_by, Option, Some, None, Ok, Err, refl, ap, sym, ◌∙◌, subst, arith}
 use Rattle.std.specs.List.{slice_get}
 use Rattle.std.proofs.lemmas.List.{length-set, reverse-append}
 use Rattle.std.proofs.lemmas.List.Sums.{sum_by_push}
@@ -301,9 +301,3 @@ module _ {N M : Type 0} (C : Measuring N M) where
 
   pub Settled-new : (g : List N) (n : ℕ) (s : Search M) → s.marks.items ≡ replicate n mark.New → s.stack.items ≡ [] → length g ≡ n → IsSettled C g s
   Settled-new g n s e k l = record { covered = subst (λ ms. Covered C g ms []) (sym e) (Covered-new C g n l); empty = k }
-
-  -- one step, by the next target and its mark
-  pub steps-by : (g : List N) (f : OpenUnit M) (old new : Search M) (r : Result (Unit {0}) DescentFault) (t : UnitId) (m : Mark M) → Some t ≡ slice_get (targets_at C g f.unit.0) f.next →
-      mark_at old.marks.items t.0 ≡ m → StepsTo C m f t old new r → Steps C g f old new r
-  steps-by g f old new r t m e q s =
-      subst (λ o. StepsBy C o g f old new r) e (subst (λ (x : Mark M). StepsTo C x f t old new r) (sym q) s)
