@@ -5,7 +5,7 @@ use lh_unit::inst::UnitId;
 use thiserror::Error;
 
 /// Why a unit has no measure.
-#[derive(Clone, Copy, Debug, PartialEq, Eq, Error)]
+#[derive(Clone, Copy, Debug, Error)]
 pub enum DescentFault {
     /// A unit that it reaches reaches itself: the target of the first edge, depth first, that leads to an open unit.
     #[error("a unit reaches itself")]

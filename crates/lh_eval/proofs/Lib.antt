@@ -10,3 +10,4 @@ pub mod Wishing
 pub mod Chosen
 pub mod Integers
 pub mod Fields
+mod DataIn

@@ -124,9 +124,9 @@ impl Text {
         }
         let depth = depth - 1;
         let called = self.copy_for(depth, copy, id, function)?;
-        let merge = copy.merge(self.blocks.allocator(), id, &called)?;
         self.enter(&called)?;
         self.add_unit(depth, &called)?;
+        let merge = copy.merge(self.blocks.allocator(), id, &called)?;
         self.merge(merge);
         Ok(())
     }

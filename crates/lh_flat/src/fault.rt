@@ -6,7 +6,7 @@ use lh_unit::inst::UnitId;
 use thiserror::Error;
 
 /// Why a process has no flat text: the first that holds, in this order.
-#[derive(Clone, Copy, Debug, PartialEq, Eq, Error)]
+#[derive(Clone, Copy, Debug, Error)]
 pub enum FlatFault {
     /// The target of the first call, depth first, that names an open function: the one in which it stands, or one in which that is
     /// called.

@@ -58,7 +58,7 @@ pub struct Merge {
 }
 
 /// The value that a `ret` in this block gives.
-#[derive(Clone, Copy, Debug, PartialEq, Eq)]
+#[derive(Clone, Copy)]
 pub struct MergeEdge {
     pub value: ValueId,
     pub block: BlockId,

@@ -7,7 +7,7 @@ use lh_unit::inst::UnitId;
 
 /// What is counted of copies of units: of one with all that is copied into it, or of some beside each other. Each number stands still
 /// at its type's end.
-#[derive(Clone, Copy, Debug)]
+#[derive(Clone, Copy)]
 pub struct Measure {
     /// How many units nest.
     pub depth: u32,
